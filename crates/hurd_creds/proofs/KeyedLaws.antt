@@ -1,0 +1,220 @@
+-- A list of things, each with its name and its value, and the map that it stands for.
+use Rattle.std.proofs.Common.{◌≡◌, ◌⊎◌, inl, inr, ℕ, zero, suc, ◌+◌, ◌<◌, Bool, true, false, cond, List, [], ◌∷◌, ◌++◌, map, length, get_or, take, ◌≤◌, refl, ap, sym, ◌∙◌, arith, add-one}
+use Rattle.std.proofs.lemmas.List.{take_all}
+use Rattle.std.specs.Prelude.{Option, Some, None, slice_set, slice_index_or, filter, not, is_some}
+use Rattle.std.specs.Option.{option_map}
+use Rattle.std.specs.Ordering.{eq_by_cmp}
+use Rattle.std.specs.FinMap as fin
+use Rattle.hurd_creds.specs.Names.{name_cmp, same_name}
+use Rattle.hurd_creds.specs.NameMaps.{keyed, place_by, edit}
+use Rattle.hurd_creds.specs.declared.name.Name.{Name}
+use Rattle.hurd_creds.proofs.NameLaws.{name_total, name_exact, name_tied, equal_if_same, same_map_by, edit_found, edit_absent}
+
+-- the first of a list has the name, or it is looked for in the rest
+no_place : (b : Bool) (o : Option ℕ) → cond b (Some 0) (option_map (λ i. i + 1) o) ≡ None → (b ≡ false) × (o ≡ None)
+no_place true o h = absurd (cc)
+no_place false None h = (refl, refl)
+no_place false (Some i) h = absurd (cc)
+
+a_place : (b : Bool) (o : Option ℕ) (i : ℕ) → cond b (Some 0) (option_map (λ j. j + 1) o) ≡ Some i → ((b ≡ true) × (i ≡ 0)) ⊎ ((b ≡ false) × (j : ℕ) × (o ≡ Some j) × (i ≡ suc j))
+a_place true o i h = inl (refl, cc)
+a_place false None i h = absurd (cc)
+a_place false (Some j) i h = let e : j + 1 ≡ i = cc in inr (refl, j, refl, omega arith)
+
+-- two names that differ: a write at one is seen past the other
+swapped : {A : Type 0} (a b : Bool) (x y z : A) → (a ≡ true → b ≡ true → ⊥) → cond a x (cond b y z) ≡ cond b y (cond a x z)
+swapped true true x y z apart = absurd (apart refl refl)
+swapped true false x y z apart = refl
+swapped false b x y z apart = refl
+
+shadowed : {A : Type 0} (b : Bool) (x y z : A) → cond b x z ≡ cond b x (cond b y z)
+shadowed true x y z = refl
+shadowed false x y z = refl
+
+none_anyway : {A : Type 0} (b : Bool) → ◌≡◌ {A = Option A} None (cond b None None)
+none_anyway true = refl
+none_anyway false = refl
+
+-- a name that ties with two ties them
+ties_both : (q a b : Name) → eq_by_cmp name_cmp q a ≡ true → eq_by_cmp name_cmp q b ≡ true → same_name a b ≡ true
+ties_both q a b h k =
+    let e : q ≡ a = equal_if_same q a (sym (name_tied q a) ∙ h) in
+    rw (← e) (sym (name_tied q b) ∙ k)
+
+true_or_false : (b : Bool) → (b ≡ true) ⊎ (b ≡ false)
+true_or_false true = inl refl
+true_or_false false = inr refl
+
+module _ {X V : Type 0} (key : X → Name) (value : X → V) where
+  abbrev entry_of : X → Name × V
+  entry_of x = (key x, value x)
+
+  -- a scan that has found none before i, and finds the name at i
+  pub place-found : (n : Name) (xs : List X) (i : ℕ) (d : X) → i < length xs → place_by key n (take i xs) ≡ None → same_name n (key (get_or xs i d)) ≡ true → Some i ≡ place_by key n xs
+  place-found n [] i d h none is = absurd (omega arith)
+  place-found n (x ∷ xs) zero d h none is = sym (ap (λ b. cond b (Some 0) (option_map (λ i. i + 1) (place_by key n xs))) is)
+  place-found n (x ∷ xs) (suc i) d h none is =
+      let both = no_place (same_name n (key x)) (place_by key n (take i xs)) none in
+      let rest = place-found n xs i d (omega arith) both.1 is in
+      rw (both.0, ← rest, add-one)
+
+  place-more_suc : (n : Name) (xs : List X) (i : ℕ) (d : X) → i < length xs → place_by key n (take i xs) ≡ None → same_name n (key (get_or xs i d)) ≡ false → place_by key n (take (suc i) xs) ≡ None
+  place-more_suc n [] i d h none is = refl
+  place-more_suc n (x ∷ xs) zero d h none is = rw is
+  place-more_suc n (x ∷ xs) (suc i) d h none is =
+      let both = no_place (same_name n (key x)) (place_by key n (take i xs)) none in
+      let rest = place-more_suc n xs i d (omega arith) both.1 is in
+      rw (both.0, rest)
+
+  -- a scan that has found none before i, and doesn't find the name at i
+  pub place-more : (n : Name) (xs : List X) (i : ℕ) (d : X) → i < length xs → place_by key n (take i xs) ≡ None → same_name n (key (get_or xs i d)) ≡ false → place_by key n (take (i + 1) xs) ≡ None
+  place-more n xs i d below none is = rw add-one (place-more_suc n xs i d below none is)
+
+  -- the same two of a thing x that was read at i
+  pub place-found_read : (n : Name) (xs : List X) (i : ℕ) (x : X) → i < length xs → place_by key n (take i xs) ≡ None → x ≡ slice_index_or xs i x → same_name n (key x) ≡ true → Some i ≡ place_by key n xs
+  place-found_read n xs i x below none read is = place-found n xs i x below none (ap (λ (t : X). same_name n (key t)) (sym read) ∙ is)
+
+  pub place-more_read : (n : Name) (xs : List X) (i : ℕ) (x : X) → i < length xs → place_by key n (take i xs) ≡ None → x ≡ slice_index_or xs i x → same_name n (key x) ≡ false → place_by key n (take (i + 1) xs) ≡ None
+  place-more_read n xs i x below none read is = place-more n xs i x below none (ap (λ (t : X). same_name n (key t)) (sym read) ∙ is)
+
+  -- a scan that has found none in the whole list
+  pub place-none : (n : Name) (xs : List X) (i : ℕ) → length xs ≤ i → place_by key n (take i xs) ≡ None → None ≡ place_by key n xs
+  place-none n xs i past none = sym (rw (take_all i xs past) at none)
+
+  find-no_place : (n : Name) (xs : List X) → place_by key n xs ≡ None → fin.find name_cmp n (map entry_of xs) ≡ None
+  find-no_place n [] h = refl
+  find-no_place n (x ∷ xs) h =
+      let both = no_place (same_name n (key x)) (place_by key n xs) h in
+      rw (name_tied n (key x), both.0) (find-no_place n xs both.1)
+
+  pub get-keyed : (xs : List X) (n : Name) → fin.get (keyed key value xs) n ≡ fin.find name_cmp n (map entry_of xs)
+  unfolding keyed
+  get-keyed xs n = fin.get-from_entries name_total _ n
+
+  -- what is known of the first thing of a name, at index i
+  pub record PlaceIs (n : Name) (xs : List X) (i : ℕ) : Type 0 where
+    pub below : i < length xs
+    pub named : (d : X) → key (get_or xs i d) ≡ n
+    pub finds : (d : X) → fin.get (keyed key value xs) n ≡ Some (value (get_or xs i d))
+
+  record FoundAt (n : Name) (xs : List X) (i : ℕ) : Type 0 where
+    below : i < length xs
+    named : (d : X) → key (get_or xs i d) ≡ n
+    finds : (d : X) → fin.find name_cmp n (map entry_of xs) ≡ Some (value (get_or xs i d))
+
+  found_at : (n : Name) (xs : List X) (i : ℕ) → place_by key n xs ≡ Some i → FoundAt n xs i
+  found_at n [] i h = absurd (cc)
+  found_at n (x ∷ xs) i h = elim (a_place (same_name n (key x)) (place_by key n xs) i h) [
+    | inl (t, e) ↦ rw e (record {
+      below = omega arith;
+      named = λ d. sym (equal_if_same n (key x) t);
+      finds = λ d. rw (name_tied n (key x), t);
+    })
+    | inr (f, j, is, e) ↦
+        let more = found_at n xs j is in
+        rw e (record {
+          below = let b = more.below in omega arith;
+          named = more.named;
+          finds = λ d. rw (name_tied n (key x), f) (more.finds d);
+        })
+  ]
+
+  pub place-is : (n : Name) (xs : List X) (i : ℕ) → place_by key n xs ≡ Some i → PlaceIs n xs i
+  place-is n xs i h =
+      let at = found_at n xs i h in
+      record { below = at.below; named = at.named; finds = λ d. get-keyed xs n ∙ at.finds d }
+
+  -- the value of the first thing of a name, at index i
+  pub get-placed : (n : Name) (xs : List X) (i : ℕ) (d : X) → Some i ≡ place_by key n xs → fin.get (keyed key value xs) n ≡ Some (value (get_or xs i d))
+  get-placed n xs i d at = (place-is n xs i (sym at)).finds d
+
+  -- the value of a thing of the name that was read at its place
+  pub get-found : (n : Name) (xs : List X) (i : ℕ) (x : X) → Some i ≡ place_by key n xs → x ≡ slice_index_or xs i x → fin.get (keyed key value xs) n ≡ Some (value x)
+  get-found n xs i x at is = (place-is n xs i (sym at)).finds x ∙ ap (λ (t : X). Some (value t)) (sym is)
+
+  -- nothing of this name
+  pub get-absent : (n : Name) (xs : List X) → None ≡ place_by key n xs → fin.get (keyed key value xs) n ≡ None
+  get-absent n xs h = get-keyed xs n ∙ find-no_place n xs (sym h)
+
+  -- the same in a scan that finds the name at i, and none before
+  pub get-scanned : (n : Name) (xs : List X) (i : ℕ) (d : X) → i < length xs → place_by key n (take i xs) ≡ None → same_name n (key (get_or xs i d)) ≡ true → fin.get (keyed key value xs) n ≡ Some (value (get_or xs i d))
+  get-scanned n xs i d below none is = get-placed n xs i d (place-found n xs i d below none is)
+
+  -- the same in a scan that reads a thing x at i
+  pub get-scanned_read : (n : Name) (xs : List X) (i : ℕ) (x : X) → i < length xs → place_by key n (take i xs) ≡ None → x ≡ slice_index_or xs i x → same_name n (key x) ≡ true → fin.get (keyed key value xs) n ≡ Some (value x)
+  get-scanned_read n xs i x below none read is = get-found n xs i x (place-found_read n xs i x below none read is) read
+
+  -- the same in a scan that has found none in the whole list
+  pub get-unscanned : (n : Name) (xs : List X) (i : ℕ) → length xs ≤ i → place_by key n (take i xs) ≡ None → fin.get (keyed key value xs) n ≡ None
+  get-unscanned n xs i past none = get-absent n xs (place-none n xs i past none)
+
+  is_some-place_by : (n : Name) (xs : List X) (o : Option ℕ) → o ≡ place_by key n xs → is_some o ≡ is_some (fin.get (keyed key value xs) n)
+  is_some-place_by n xs None h = rw (get-absent n xs h)
+  is_some-place_by n [] (Some i) h = absurd (cc)
+  is_some-place_by n (x ∷ xs) (Some i) h = rw ((place-is n (x ∷ xs) i (sym h)).finds x)
+
+  -- something of this name has a place exactly where the map has a value
+  pub contains-place : (n : Name) (xs : List X) → is_some (place_by key n xs) ≡ is_some (fin.get (keyed key value xs) n)
+  contains-place n xs = is_some-place_by n xs (place_by key n xs) refl
+
+  find-set : (n : Name) (xs : List X) (i : ℕ) (x : X) → place_by key n xs ≡ Some i → key x ≡ n → (q : Name) → fin.find name_cmp q (map entry_of (slice_set xs i x)) ≡ cond (eq_by_cmp name_cmp q n) (Some (value x)) (fin.find name_cmp q (map entry_of xs))
+  find-set n [] i x h is q = absurd (cc)
+  find-set n (t ∷ xs) i x h is q = elim (a_place (same_name n (key t)) (place_by key n xs) i h) [
+    | inl (y, e) ↦ rw (e, is, ← equal_if_same n (key t) y) (shadowed (eq_by_cmp name_cmp q n) (Some (value x)) (Some (value t)) (fin.find name_cmp q (map entry_of xs)))
+    | inr (f, j, at, e) ↦
+        rw (e, find-set n xs j x at is q) (swapped (eq_by_cmp name_cmp q (key t)) (eq_by_cmp name_cmp q n) (Some (value t)) (Some (value x)) (fin.find name_cmp q (map entry_of xs)) (λ a b. let k = ties_both q n (key t) b a in cc))
+  ]
+
+  -- a thing in the place of the first of its name
+  pub keyed-set : (n : Name) (xs : List X) (i : ℕ) (x : X) → place_by key n xs ≡ Some i → key x ≡ n → keyed key value (slice_set xs i x) ≡ fin.insert (keyed key value xs) n (value x)
+  keyed-set n xs i x h is = same_map_by _ _ (λ q.
+      get-keyed (slice_set xs i x) q ∙ find-set n xs i x h is q
+      ∙ sym (fin.get-insert name_total (keyed key value xs) n (value x) q ∙ ap (cond (eq_by_cmp name_cmp q n) (Some (value x))) (get-keyed xs q)))
+
+  -- the same where the thing was changed under its name, in the form that a write through an index gives
+  pub keyed-changed : (n : Name) (xs : List X) (i : ℕ) (old new : X) → Some i ≡ place_by key n xs → old ≡ slice_index_or xs i old → key new ≡ key old → keyed key value (slice_set xs i new) ≡ fin.insert (keyed key value xs) n (value new)
+  keyed-changed n xs i old new at is same = keyed-set n xs i new (sym at) (same ∙ ap key is ∙ (place-is n xs i (sym at)).named old)
+
+  -- and as an edit of the map, where the change of the thing is that of its value
+  pub keyed-edited : (n : Name) (xs : List X) (i : ℕ) (old new : X) (f : V → V) → Some i ≡ place_by key n xs → old ≡ slice_index_or xs i old → key new ≡ key old → value new ≡ f (value old) → keyed key value (slice_set xs i new) ≡ edit n f (keyed key value xs)
+  keyed-edited n xs i old new f at is same changed =
+      keyed-changed n xs i old new at is same ∙ ap (fin.insert (keyed key value xs) n) changed
+      ∙ sym (edit_found (keyed key value xs) n f (value old) (get-found n xs i old at is))
+
+  -- the same of the thing at i as a proof of plain numbers names it, with anything for a default
+  pub keyed-edited_at : (n : Name) (xs : List X) (i : ℕ) (d new : X) (f : V → V) → Some i ≡ place_by key n xs → key new ≡ key (get_or xs i d) → value new ≡ f (value (get_or xs i d)) → keyed key value (slice_set xs i new) ≡ edit n f (keyed key value xs)
+  keyed-edited_at n xs i d new f at same changed =
+      keyed-set n xs i new (sym at) (same ∙ (place-is n xs i (sym at)).named d) ∙ ap (fin.insert (keyed key value xs) n) changed
+      ∙ sym (edit_found (keyed key value xs) n f (value (get_or xs i d)) (get-placed n xs i d at))
+
+  -- where nothing has the name, an edit changes nothing
+  pub edit-absent : (n : Name) (xs : List X) (f : V → V) → None ≡ place_by key n xs → edit n f (keyed key value xs) ≡ keyed key value xs
+  edit-absent n xs f at = edit_absent (keyed key value xs) n f (get-absent n xs at)
+
+  map-append : (xs ys : List X) → map entry_of (xs ++ ys) ≡ map entry_of xs ++ map entry_of ys
+  map-append [] ys = refl
+  map-append (x ∷ xs) ys = ap (λ (r : List (Name × V)). entry_of x ∷ r) (map-append xs ys)
+
+  pub keyed-nothing : keyed key value [] ≡ fin.empty
+  unfolding keyed
+  keyed-nothing = refl
+
+  -- a thing of a new name at the end
+  pub keyed-push : (xs : List X) (x : X) → fin.get (keyed key value xs) (key x) ≡ None → keyed key value (xs ++ x ∷ []) ≡ fin.insert (keyed key value xs) (key x) (value x)
+  unfolding keyed
+  keyed-push xs x none =
+      ap (λ (es : List (Name × V)). fin.from_entries {R = name_cmp} es) (map-append xs (x ∷ []))
+      ∙ fin.from_entries_push name_total name_exact (map entry_of xs) (key x) (value x) (sym (get-keyed xs (key x)) ∙ none)
+
+  find-filter : (n : Name) (xs : List X) (q : Name) → fin.find name_cmp q (map entry_of (filter (λ (x : X). not (same_name n (key x))) xs)) ≡ cond (eq_by_cmp name_cmp q n) None (fin.find name_cmp q (map entry_of xs))
+  find-filter n [] q = none_anyway (eq_by_cmp name_cmp q n)
+  find-filter n (x ∷ xs) q = elim (true_or_false (same_name n (key x))) [
+    | inl y ↦ rw (y, ← equal_if_same n (key x) y, find-filter n xs q) (shadowed (eq_by_cmp name_cmp q n) None (Some (value x)) (fin.find name_cmp q (map entry_of xs)))
+    | inr f ↦ rw (f, find-filter n xs q) (swapped (eq_by_cmp name_cmp q (key x)) (eq_by_cmp name_cmp q n) (Some (value x)) None (fin.find name_cmp q (map entry_of xs)) (λ a b. let k = ties_both q n (key x) b a in cc))
+  ]
+
+  -- all but the things of a name
+  pub keyed-filter : (n : Name) (xs : List X) → keyed key value (filter (λ (x : X). not (same_name n (key x))) xs) ≡ fin.remove (keyed key value xs) n
+  keyed-filter n xs = same_map_by _ _ (λ q.
+      get-keyed (filter (λ (x : X). not (same_name n (key x))) xs) q ∙ find-filter n xs q
+      ∙ sym (fin.get-remove name_total (keyed key value xs) n q ∙ ap (cond (eq_by_cmp name_cmp q n) None) (get-keyed xs q)))

@@ -1,0 +1,4 @@
+pub mod NameLaws
+pub mod MapLaws
+pub mod KeyedLaws
+pub mod IdLaws

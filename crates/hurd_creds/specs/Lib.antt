@@ -1,0 +1,6 @@
+pub mod Errors
+pub mod Bits
+pub mod Access
+pub mod Names
+pub mod NameMaps
+pub mod Memory

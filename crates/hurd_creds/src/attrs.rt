@@ -1,0 +1,58 @@
+//! What is told of a node.
+use crate::mode::Mode;
+use crate::name::NodeName;
+
+/// What a node is.
+#[derive(Clone, Copy, Debug, PartialEq, Eq)]
+pub enum Kind {
+    File,
+    Dir,
+    Link,
+    Fifo,
+    Char,
+}
+
+/// What somebody wants to do with a node. `Exec` on a directory is searching it.
+#[derive(Clone, Copy, Debug, PartialEq, Eq)]
+pub enum Want {
+    Read,
+    Write,
+    Exec,
+}
+
+/// A node's attributes.
+#[derive(Clone, Copy, Debug, PartialEq, Eq)]
+pub struct Attrs {
+    pub kind: Kind,
+    pub owner: u32,
+    pub group: u32,
+    pub mode: Mode,
+    /// How many entries name a file; one for any other node.
+    pub links: u32,
+    /// In bytes.
+    pub size: u64,
+    /// Whether it is a directory without entries.
+    pub empty: bool,
+    /// How many opens read or write a fifo; none on any other node.
+    pub readers: u128,
+    pub writers: u128,
+    /// Whether words of a passive translator are stored.
+    pub passive: bool,
+    /// Whether a translator is active.
+    pub active: bool,
+    /// The parent of a directory that is an entry.
+    pub parent: Option<NodeName>,
+}
+
+/// The attributes that `io_stat` tells.
+#[derive(Clone, Copy, Debug, PartialEq, Eq)]
+pub struct Stat {
+    pub kind: Kind,
+    pub owner: u32,
+    pub group: u32,
+    pub mode: Mode,
+    pub links: u32,
+    pub size: u64,
+    pub passive: bool,
+    pub active: bool,
+}

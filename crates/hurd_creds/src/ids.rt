@@ -1,0 +1,163 @@
+//! User and group ids.
+ghost use Rattle.std.specs.Prelude.{◌≡◌, ◌≢◌, ◌≤◌, ◌<◌, ◌&&◌, ◌↔◌, length, [], IsOk, IsNone, IfOk, IfSome, IfNone};
+ghost use Rattle.std.specs.List.{All, Contains};
+ghost use Rattle.std.specs.Ordering.{nat_cmp};
+ghost use Rattle.std.specs.FinSet as set;
+ghost use Rattle.smallvec.specs.SmallVec.{small_vec_len};
+ghost use Rattle.hurd_creds.specs.Access.{ids_of, most_ids, HasEachOnce, may, owns, is_root, least_uid, holds_uid, holds_gid, has_no_uids, USE_UNK};
+ghost use Rattle.hurd_creds.specs.Memory.{Meets};
+ghost use Rattle.hurd_creds.specs.Bits.{has_bits};
+
+use crate::access;
+use crate::attrs::{Attrs, Want};
+use crate::errno::Errno;
+use crate::mode::Mode;
+use bitflags::Flags;
+use smallvec::SmallVec;
+use std::alloc::{AllocError, Global};
+use std::marker::Model;
+
+/// The most different ids of a sort.
+const MOST_IDS: usize = 32;
+
+/// The user and group ids that a task or a port holds: two sets, either of which may be empty.
+#[derive(Debug, Drop)]
+pub struct Ids {
+    uids: SmallVec<u32, 8>,
+    gids: SmallVec<u32, 8>,
+}
+
+impl Model for Ids {
+    ghost use Rattle.std.specs.FinSet as set;
+    ghost use Rattle.hurd_creds.specs.Access.{IdSets, coded_ids};
+
+    ghost Value = { IdSets };
+
+    ghost coded = { coded_ids };
+
+    ghost view = { λ i. record { uids = set.from_list i.uids.items; gids = set.from_list i.gids.items } };
+}
+
+impl Ids {
+    /// The sets of these ids; repeats and order don't count.
+    ///
+    /// Errors, in order: `EINVAL` where more than 32 different uids or gids are asked for; `ENOMEM`, never for slices of
+    /// at most 8.
+    pub fn new(alloc: Global, uids: &[u32], gids: &[u32]) -> Result<Ids, Errno>
+        ensures sets { Meets (ids_of uids.now gids.now) result }
+        ensures inline { length uids.now ≤ 8 → length gids.now ≤ 8 → result ≢ Err Errno.ENOMEM }
+    {
+        let Some(uids) = each_once(alloc, uids) else {
+            return Err(Errno::EINVAL);
+        };
+        let Some(gids) = each_once(alloc, gids) else {
+            return Err(Errno::EINVAL);
+        };
+        match Ids::holding(alloc, uids.as_slice(), gids.as_slice()) {
+            Ok(ids) => Ok(ids),
+            Err(_) => Err(Errno::ENOMEM),
+        }
+    }
+
+    /// A copy.
+    pub fn copied(&self, alloc: Global) -> Result<Ids, AllocError>
+        ensures { IfOk result (λ ids. ids ≡ self.now) }
+    {
+        Ids::holding(alloc, self.uids.as_slice(), self.gids.as_slice())
+    }
+
+    /// The sets of these ids, which are stored as they stand.
+    fn holding(alloc: Global, uids: &[u32], gids: &[u32]) -> Result<Ids, AllocError>
+        ensures sets { IfOk result (λ ids. ids ≡ record { uids = set.from_list uids.now; gids = set.from_list gids.now }) }
+        ensures inline { length uids.now ≤ 8 → length gids.now ≤ 8 → IsOk result }
+    {
+        let uids = SmallVec::from_slice(alloc, uids)?;
+        let gids = SmallVec::from_slice(alloc, gids)?;
+        Ok(Ids { uids, gids })
+    }
+
+    /// Whether uid 0 is held.
+    pub fn is_root(&self) -> bool
+        ensures { result ≡ is_root self.now }
+    {
+        self.holds_uid(0)
+    }
+
+    /// The least uid, if any is held: the owner of what is made with these ids.
+    pub fn least_uid(&self) -> Option<u32>
+        ensures { result ≡ least_uid self.now }
+    {
+        least(self.uids.as_slice())
+    }
+
+    /// Whether the node's owner or 0 is among the uids (GNU Hurd Reference Manual, Files).
+    pub fn owns(&self, attrs: &Attrs) -> bool
+        ensures { result ≡ owns self.now attrs.now }
+    {
+        self.holds_uid(attrs.owner) || self.is_root()
+    }
+
+    /// Whether these ids may do this with a node of these attributes (GNU Hurd Reference Manual, Files and Users).
+    pub fn may(&self, attrs: &Attrs, want: Want) -> bool
+        ensures { result ≡ may self.now attrs.now want }
+    {
+        if self.is_root() {
+            !access::bars_exec(attrs, want)
+        } else if self.is_unknown_to(attrs) {
+            attrs.mode.contains(access::unknown_bit(want))
+        } else if self.holds_uid(attrs.owner) {
+            attrs.mode.contains(access::owner_bit(want))
+        } else if self.holds_gid(attrs.group) {
+            attrs.mode.contains(access::group_bit(want))
+        } else {
+            attrs.mode.contains(access::others_bit(want))
+        }
+    }
+
+    /// Whether the unknown bits decide: no uid is held, and the node's mode has `USE_UNK`.
+    fn is_unknown_to(&self, attrs: &Attrs) -> bool
+        ensures { result ≡ (has_no_uids self.now && has_bits attrs.now.mode.0 USE_UNK) }
+    {
+        self.uids.is_empty() && attrs.mode.contains(Mode::USE_UNK)
+    }
+
+    /// Whether this uid is held.
+    fn holds_uid(&self, uid: u32) -> bool
+        ensures { result ≡ holds_uid self.now uid }
+    {
+        self.uids.as_slice().contains(&uid)
+    }
+
+    /// Whether this gid is held.
+    fn holds_gid(&self, gid: u32) -> bool
+        ensures { result ≡ holds_gid self.now gid }
+    {
+        self.gids.as_slice().contains(&gid)
+    }
+}
+
+/// The least of these ids, if there is any.
+fn least(ids: &[u32]) -> Option<u32>
+    ensures none { IsNone result ↔ (ids.now ≡ []) }
+    ensures some { IfSome result (λ least. Contains ids.now least × All (λ id. least ≤ id) ids.now) }
+{
+    ids.iter().copied().min()
+}
+
+/// Each of these ids once, or `None` where more than 32 are different.
+fn each_once(alloc: Global, ids: &[u32]) -> Option<SmallVec<u32, MOST_IDS>>
+    ensures found { IfSome result (λ found. HasEachOnce ids.now found.items × (small_vec_len found ≤ most_ids)) }
+    ensures too_many { IfNone result (most_ids < set.len (set.from_list {R = nat_cmp} ids.now)) }
+{
+    let mut found = SmallVec::new(alloc);
+    for &id in ids {
+        if found.as_slice().contains(&id) {
+            continue;
+        }
+        if found.len() == MOST_IDS {
+            return None;
+        }
+        found.push_reserved(id);
+    }
+    Some(found)
+}

@@ -1,0 +1,28 @@
+//! Names, errors, bytes, and who may do what with a node.
+//!
+//! `Ids` are the user and group ids that a task or a port holds, `Attrs` what is told of a node, and
+//! `Ids::may` whether these ids may read, write or search a node of these attributes. `Mode` and
+//! `OpenFlags` are sets of bits. The other crates stand on this one: it also has the names of nodes,
+//! servers and opens, the errors, and the words in which contracts speak of want of memory.
+//!
+//! It isn't a table of users: a task's ids are whatever its maker gave it.
+#![tactic(auto)]
+
+mod access;
+mod attrs;
+mod bytes;
+mod errno;
+mod ids;
+mod mode;
+mod name;
+mod open_flags;
+#[cfg(test)]
+mod tests;
+
+pub use attrs::{Attrs, Kind, Stat, Want};
+pub use bytes::Bytes;
+pub use errno::Errno;
+pub use ids::Ids;
+pub use mode::Mode;
+pub use name::{Name, NodeName, OpenName, ServerName, TaskId};
+pub use open_flags::OpenFlags;
