@@ -1,0 +1,15 @@
+-- How a tree in memory begins.
+use Rattle.std.proofs.Common.{◌≡◌, Bool, true, false, cond, List, ℕ, [], ◌∷◌, refl, codes, is_some}
+use Rattle.std.specs.Prelude.{Some, None}
+use Rattle.hurd_trans_iface.specs.Answers.{same_bytes}
+use Rattle.hurd_trans_iface.specs.Meaning.{begin, new_tmpfs}
+
+only_if : (b : Bool) → is_some (cond b (Some new_tmpfs) None) ≡ true → cond b (Some new_tmpfs) None ≡ Some new_tmpfs
+only_if true h = refl
+only_if false h = absurd (cc)
+
+-- words that make a server make an empty tree
+pub begins_empty : (ws : List (List ℕ)) → is_some (begin ws) ≡ true → begin ws ≡ Some new_tmpfs
+begins_empty [] h = absurd (cc)
+begins_empty (w ∷ []) h = only_if (same_bytes w (codes "/hurd/tmpfs")) h
+begins_empty (w ∷ v ∷ ws) h = absurd (cc)

@@ -1,0 +1,5 @@
+pub mod EntryLaws
+pub mod ByteLaws
+pub mod Beginning
+pub mod TreeLaws
+pub mod StepLaws

@@ -1,0 +1,183 @@
+//! The nodes of a tree.
+ghost use Rattle.std.specs.Prelude.{◌≡◌, ◌≤◌, ◌+◌, ◌-◌, ◌++◌, length, take, drop, replicate, OnOk, OnErr, IfSome};
+ghost use Rattle.std.specs.Option.{option_map};
+ghost use Rattle.hurd_creds.specs.Memory.{Steps};
+ghost use Rattle.hurd_trans_iface.specs.Nodes.{attrs_of, bytes_put};
+ghost use Rattle.hurd_trans_iface.specs.Answers.{made_node};
+ghost use Rattle.hurd_tmpfs.specs.Tree.{node_of};
+ghost use Rattle.hurd_tmpfs.specs.Changes.{written, resized, entered};
+
+use hurd_creds::{Attrs, Bytes, Errno, Kind, Mode, NodeName};
+use hurd_trans_iface::NewNode;
+use std::alloc::{AllocError, Global};
+
+/// The greatest size of a file, in bytes.
+const MOST_BYTES: u64 = 16_777_216;
+
+/// A name in a directory, and the node that it names.
+#[derive(Drop)]
+pub(crate) struct DirEntry {
+    pub(crate) name: Bytes,
+    pub(crate) node: NodeName,
+}
+
+/// What is in a node: the bytes of a file, or the entries of a directory in order of making.
+#[derive(Drop)]
+pub(crate) enum Contents {
+    File(Vec<u8>),
+    Dir(Vec<DirEntry>),
+}
+
+/// A node.
+#[derive(Drop)]
+pub(crate) struct Inode {
+    pub(crate) name: NodeName,
+    pub(crate) owner: u32,
+    pub(crate) group: u32,
+    pub(crate) mode: Mode,
+    pub(crate) links: u32,
+    pub(crate) parent: Option<NodeName>,
+    pub(crate) contents: Contents,
+}
+
+impl Inode {
+    /// The node that is to be made in a directory, if its kind is one that a tree has.
+    pub(crate) fn made(alloc: Global, dir: NodeName, new: NewNode) -> Option<Inode>
+        ensures is { option_map node_of result ≡ made_node dir new }
+        ensures name { IfSome result (λ inode. inode.name ≡ new.name) }
+    {
+        let (contents, parent) = match new.kind {
+            Kind::File => (Contents::File(Vec::new(alloc)), None),
+            Kind::Dir => (Contents::Dir(Vec::new(alloc)), Some(dir)),
+            Kind::Link | Kind::Fifo | Kind::Char => return None,
+        };
+        Some(Inode {
+            name: new.name,
+            owner: new.owner,
+            group: new.group,
+            mode: new.mode,
+            links: 1,
+            parent,
+            contents,
+        })
+    }
+
+    /// The node's attributes.
+    pub(crate) fn attrs(&self) -> Attrs
+        ensures { result ≡ attrs_of (node_of self.now) }
+    {
+        let (kind, size, empty) = match &self.contents {
+            Contents::File(bytes) => (Kind::File, bytes.len() as u64, false),
+            Contents::Dir(entries) => (Kind::Dir, 0, entries.is_empty()),
+        };
+        Attrs {
+            kind,
+            owner: self.owner,
+            group: self.group,
+            mode: self.mode,
+            links: self.links,
+            size,
+            empty,
+            readers: 0,
+            writers: 0,
+            passive: false,
+            active: false,
+            parent: self.parent,
+        }
+    }
+
+    /// Puts bytes into a file.
+    ///
+    /// Errors, in order: `EBADF` a directory, `EFBIG`, `ENOMEM`.
+    pub(crate) fn write(&mut self, at: u64, bytes: &[u8]) -> Result<u64, Errno>
+        ensures steps { let node = node_of self.old in
+            Steps node (written at bytes.now node) result (node_of self.new) }
+        ensures name { self.new.name ≡ self.old.name }
+    {
+        let Contents::File(held) = &mut self.contents else {
+            return Err(Errno::EBADF);
+        };
+        let count = bytes.len() as u64;
+        if at > MOST_BYTES || count > MOST_BYTES - at {
+            return Err(Errno::EFBIG);
+        }
+        match put_bytes(held, at as usize, bytes) {
+            Ok(()) => Ok(count),
+            Err(AllocError) => Err(Errno::ENOMEM),
+        }
+    }
+
+    /// Cuts a file, or grows it by zero bytes.
+    ///
+    /// Errors, in order: `EFBIG`, `EBADF` a directory, `ENOMEM`.
+    pub(crate) fn set_size(&mut self, size: u64) -> Result<(), Errno>
+        ensures steps { let node = node_of self.old in Steps node (resized size node) result (node_of self.new) }
+        ensures name { self.new.name ≡ self.old.name }
+    {
+        if size > MOST_BYTES {
+            return Err(Errno::EFBIG);
+        }
+        let Contents::File(held) = &mut self.contents else {
+            return Err(Errno::EBADF);
+        };
+        match held.resize(size as usize, 0) {
+            Ok(()) => Ok(()),
+            Err(AllocError) => Err(Errno::ENOMEM),
+        }
+    }
+
+    /// Puts an entry last into a directory; a file stays as it is.
+    pub(crate) fn add_entry(&mut self, entry: DirEntry) -> Result<(), AllocError>
+        ensures ok { OnOk result (node_of self.new ≡ entered entry (node_of self.old)) }
+        ensures err { OnErr result (node_of self.new ≡ node_of self.old) }
+        ensures name { self.new.name ≡ self.old.name }
+    {
+        match &mut self.contents {
+            Contents::File(_) => Ok(()),
+            Contents::Dir(entries) => Ok(entries.push(entry)?),
+        }
+    }
+}
+
+/// Puts bytes at a place; a gap becomes zero bytes, and no data changes nothing. All or nothing.
+fn put_bytes(held: &mut Vec<u8>, at: usize, bytes: &[u8]) -> Result<(), AllocError>
+    requires { at + length bytes.now ≤ 16777216 }
+    ensures ok { OnOk result (held.new.items ≡ bytes_put at bytes.now held.old.items) }
+    ensures err { OnErr result (held.new.items ≡ held.old.items) }
+{
+    if bytes.is_empty() {
+        return Ok(());
+    }
+    reach(held, at + bytes.len())?;
+    overlay(held, at, bytes);
+    Ok(())
+}
+
+/// Grows to this length, where it is shorter, by zero bytes. All or nothing.
+fn reach(held: &mut Vec<u8>, end: usize) -> Result<(), AllocError>
+    ensures ok { OnOk result (held.new.items ≡ held.old.items ++ replicate (end - length held.old.items) 0) }
+    ensures err { OnErr result (held.new.items ≡ held.old.items) }
+{
+    if held.len() < end {
+        held.resize(end, 0)?;
+    }
+    Ok(())
+}
+
+/// Puts bytes over those from a place on.
+fn overlay(held: &mut [u8], at: usize, bytes: &[u8])
+    requires { at + length bytes.now ≤ length held.old }
+    ensures { held.new ≡ take at held.old ++ bytes.now ++ drop (at + length bytes.now) held.old }
+{
+    held[at..at + bytes.len()].copy_from_slice(bytes);
+}
+
+/// At most so many bytes from a place on.
+pub(crate) fn part(bytes: &[u8], at: u64, amount: u64) -> &[u8]
+    ensures { result.now ≡ take amount (drop at bytes.now) }
+{
+    let from = at.min(bytes.len() as u64) as usize;
+    let rest = &bytes[from..];
+    let count = amount.min(rest.len() as u64) as usize;
+    &rest[..count]
+}

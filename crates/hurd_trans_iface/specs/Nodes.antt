@@ -1,0 +1,129 @@
+-- Nodes, and edits of finite maps of them.
+use Rattle.std.specs.Prelude.{ℕ, ◌+◌, ◌-◌, Bool, true, false, List, [], ◌∷◌, ◌++◌, length, take, drop, replicate, Option, None}
+use Rattle.std.specs.FinMap as fin
+use Rattle.std.specs.Option.{option_map}
+use Rattle.hurd_creds.specs.NameMaps.{NameMap, edit}
+use Rattle.hurd_creds.specs.declared.name.Name.{Name}
+use Rattle.hurd_creds.specs.declared.mode.Mode.{Mode}
+use Rattle.hurd_creds.specs.declared.attrs.Attrs.{Attrs}
+use Rattle.hurd_creds.specs.declared.attrs.Kind.{Kind}
+use Rattle.hurd_creds.specs.declared.attrs.Kind.TheVariants.{File, Dir, Link, Fifo, Char}
+
+-- a directory has a node under a name
+pub record Entry : Type 0 where
+  pub name : List ℕ
+  pub node : Name
+
+-- what is in a node: the bytes of a file, or the entries of a directory in order of making
+pub data Body : Type 0 where
+  Content : List ℕ → Body
+  Listing : List Entry → Body
+
+-- what a node has beside its body: all attributes that the body doesn't say
+pub record Header : Type 0 where
+  pub kind : Kind
+  pub owner : ℕ
+  pub group : ℕ
+  pub mode : Mode
+  pub links : ℕ
+  pub size : ℕ
+  pub parent : Option Name
+
+pub record Node : Type 0 where
+  pub header : Header
+  pub body : Body
+
+abbrev pub NodeMap : Type 0
+NodeMap = NameMap Node
+
+abbrev pub header_of : NodeMap → Name → Option Header
+header_of m n = option_map (λ x. x.header) (fin.get m n)
+
+abbrev pub body_of : NodeMap → Name → Option Body
+body_of m n = option_map (λ x. x.body) (fin.get m n)
+
+-- a directory without entries
+abbrev pub is_empty_dir : Body → Bool
+is_empty_dir (Listing []) = true
+is_empty_dir (Listing (e ∷ es)) = false
+is_empty_dir (Content bs) = false
+
+-- the attributes of a node with this header, which is an empty directory or isn't
+abbrev pub attrs_with : Header → Bool → Attrs
+attrs_with h empty = record {
+  kind = h.kind;
+  owner = h.owner;
+  group = h.group;
+  mode = h.mode;
+  links = h.links;
+  size = h.size;
+  empty = empty;
+  readers = 0;
+  writers = 0;
+  passive = false;
+  active = false;
+  parent = h.parent;
+}
+
+abbrev pub attrs_of : Node → Attrs
+attrs_of x = attrs_with x.header (is_empty_dir x.body)
+
+abbrev pub is_dir : Kind → Bool
+is_dir Dir = true
+is_dir File = false
+is_dir Link = false
+is_dir Fifo = false
+is_dir Char = false
+
+-- a directory that has no entries yet, below this parent
+abbrev pub new_dir : ℕ → ℕ → Mode → Option Name → Node
+new_dir owner group mode parent =
+    record { header = record { kind = Dir; owner = owner; group = group; mode = mode; links = 1; size = 0; parent = parent }; body = Listing [] }
+
+-- an empty file that one entry names
+abbrev pub new_file : ℕ → ℕ → Mode → Node
+new_file owner group mode =
+    record { header = record { kind = File; owner = owner; group = group; mode = mode; links = 1; size = 0; parent = None }; body = Content [] }
+
+-- the file's bytes with these put at a place; a gap becomes zero bytes, and no data changes nothing
+abbrev pub bytes_put : ℕ → List ℕ → List ℕ → List ℕ
+bytes_put at [] old = old
+bytes_put at (b ∷ bs) old = take at old ++ replicate (at - length old) 0 ++ (b ∷ bs) ++ drop (at + length (b ∷ bs)) old
+
+abbrev pub put_bytes : ℕ → List ℕ → Body → Body
+put_bytes at bs (Content old) = Content (bytes_put at bs old)
+put_bytes at bs (Listing es) = Listing es
+
+-- cut, or grown by zero bytes
+abbrev pub resize : ℕ → Body → Body
+resize size (Content old) = Content (take size old ++ replicate (size - length old) 0)
+resize size (Listing es) = Listing es
+
+-- one more entry, last
+abbrev pub with_entry : List ℕ → Name → Body → Body
+with_entry name n (Listing es) = Listing (es ++ record { name = name; node = n } ∷ [])
+with_entry name n (Content bs) = Content bs
+
+abbrev pub with_size : ℕ → Header → Header
+with_size size h = record { kind = h.kind; owner = h.owner; group = h.group; mode = h.mode; links = h.links; size = size; parent = h.parent }
+
+abbrev pub with_header : (Header → Header) → Node → Node
+with_header f x = record { header = f x.header; body = x.body }
+
+abbrev pub with_body : (Body → Body) → Node → Node
+with_body g x = record { header = x.header; body = g x.body }
+
+-- what a server's call does to its nodes
+pub data Edit : Type 0 where
+  OnHeader : Name → (Header → Header) → Edit
+  OnBody : Name → (Body → Body) → Edit
+  AddNode : Name → Node → Edit
+
+abbrev pub edit_one : Edit → NodeMap → NodeMap
+edit_one (OnHeader n f) m = edit n (with_header f) m
+edit_one (OnBody n g) m = edit n (with_body g) m
+edit_one (AddNode n x) m = fin.insert m n x
+
+abbrev pub edit_all : List Edit → NodeMap → NodeMap
+edit_all [] m = m
+edit_all (e ∷ es) m = edit_all es (edit_one e m)

@@ -1,0 +1,61 @@
+//! A boxed server is a server.
+use crate::names::Names;
+use crate::new_node::NewNode;
+use crate::root::Root;
+use crate::server::Server;
+use hurd_creds::{Attrs, Bytes, Errno, Mode, NodeName, OpenFlags};
+use std::alloc::Global;
+
+impl Server for Box<dyn Server> {
+    ghost meaning = { λ b. (Server-box b).meaning b.value };
+
+    fn begin_root(&mut self, root: NodeName, owner: u32, group: u32, mode: Mode) {
+        (**self).begin_root(root, owner, group, mode)
+    }
+
+    fn root(&self) -> Root {
+        (**self).root()
+    }
+
+    fn attrs(&self, node: NodeName) -> Option<Attrs> {
+        (**self).attrs(node)
+    }
+
+    fn step(&self, dir: NodeName, name: &[u8]) -> Option<NodeName> {
+        (**self).step(dir, name)
+    }
+
+    fn names(&self, alloc: Global, dir: NodeName) -> Result<Names, Errno> {
+        (**self).names(alloc, dir)
+    }
+
+    fn read(&self, alloc: Global, node: NodeName, at: u64, amount: u64) -> Result<Bytes, Errno> {
+        (**self).read(alloc, node, at, amount)
+    }
+
+    fn write(&mut self, node: NodeName, at: u64, bytes: &[u8]) -> Result<u64, Errno> {
+        (**self).write(node, at, bytes)
+    }
+
+    fn set_size(&mut self, node: NodeName, size: u64) -> Result<(), Errno> {
+        (**self).set_size(node, size)
+    }
+
+    fn make(
+        &mut self,
+        alloc: Global,
+        dir: NodeName,
+        name: &[u8],
+        new: NewNode,
+    ) -> Result<(), Errno> {
+        (**self).make(alloc, dir, name, new)
+    }
+
+    fn opened(&mut self, node: NodeName, modes: OpenFlags) {
+        (**self).opened(node, modes)
+    }
+
+    fn closed(&mut self, node: NodeName, modes: OpenFlags) {
+        (**self).closed(node, modes)
+    }
+}

@@ -1,0 +1,76 @@
+//! The trait of servers.
+ghost use Rattle.std.specs.Prelude.{◌≡◌, List, ℕ, None};
+ghost use Rattle.std.specs.Option.{option_map};
+ghost use Rattle.std.specs.FinMap as fin;
+ghost use Rattle.hurd_creds.specs.Memory.{Meets, Steps};
+ghost use Rattle.hurd_trans_iface.specs.Nodes.{attrs_of, body_of};
+ghost use Rattle.hurd_trans_iface.specs.Answers.{entry_of, names_of, read_of};
+ghost use Rattle.hurd_trans_iface.specs.Meaning.{Meaning, root_of, begin_root_after, write_step, set_size_step, make_step, opened_after};
+
+use crate::names::Names;
+use crate::new_node::NewNode;
+use crate::root::Root;
+use hurd_creds::{Attrs, Bytes, Errno, Mode, NodeName, OpenFlags};
+use std::alloc::Global;
+
+/// A server of nodes, as a boxed object that the core owns (GNU Hurd Reference Manual, Translators; `fs.defs`, `io.defs`).
+///
+/// What changes something and may need memory changes nothing where it is refused.
+pub trait Server: Drop {
+    ghost meaning: { Self → Meaning };
+
+    /// Names the root and says its owner, group and mode; once, when the box is attached. Takes no memory.
+    fn begin_root(&mut self, root: NodeName, owner: u32, group: u32, mode: Mode)
+        requires { (meaning self.old).root ≡ None }
+        ensures { meaning self.new ≡ begin_root_after (meaning self.old) root owner group mode };
+
+    /// What the root is, also before it has a name.
+    fn root(&self) -> Root
+        ensures { result ≡ root_of (meaning self.now).kind };
+
+    /// The attributes of a node, if the server has it.
+    fn attrs(&self, node: NodeName) -> Option<Attrs>
+        ensures { result ≡ option_map attrs_of (fin.get (meaning self.now).nodes node) };
+
+    /// The node of this name in a directory.
+    fn step(&self, dir: NodeName, name: &[u8]) -> Option<NodeName>
+        ensures { result ≡ entry_of name.now (body_of (meaning self.now).nodes dir) };
+
+    /// The names in a directory, in order of making, without `.` and `..`.
+    ///
+    /// Errors, in order: `EDIED` no such node, `ENOTDIR`, `ENOMEM`.
+    fn names(&self, alloc: Global, dir: NodeName) -> Result<Names, Errno>
+        ensures { Meets (names_of (body_of (meaning self.now).nodes dir)) result };
+
+    /// At most `amount` bytes of a file from `at` on.
+    ///
+    /// Errors, in order: `EDIED` no such node, `EISDIR`, `ENOMEM`.
+    fn read(&self, alloc: Global, node: NodeName, at: u64, amount: u64) -> Result<Bytes, Errno>
+        ensures { Meets (read_of at amount (body_of (meaning self.now).nodes node)) result };
+
+    /// Puts bytes into a file at `at`, and answers how many; a gap becomes zero bytes, no data grows nothing.
+    ///
+    /// Errors, in order: `EDIED` no such node, `EBADF` a directory, `EFBIG` an end past 16,777,216, `ENOMEM`.
+    fn write(&mut self, node: NodeName, at: u64, bytes: &[u8]) -> Result<u64, Errno>
+        ensures { Steps (meaning self.old) (write_step node at bytes.now (meaning self.old)) result (meaning self.new) };
+
+    /// Cuts a file, or grows it by zero bytes.
+    ///
+    /// Errors, in order: `EDIED` no such node, `EFBIG` a size past 16,777,216, `EBADF` a directory, `ENOMEM`.
+    fn set_size(&mut self, node: NodeName, size: u64) -> Result<(), Errno>
+        ensures { Steps (meaning self.old) (set_size_step node size (meaning self.old)) result (meaning self.new) };
+
+    /// Makes a node in a directory under a name.
+    ///
+    /// Errors, in order: `EDIED` no such directory, `ENOTDIR`, `EEXIST`, `EOPNOTSUPP` a kind that the server doesn't make, `ENOMEM`.
+    fn make(&mut self, alloc: Global, dir: NodeName, name: &[u8], new: NewNode) -> Result<(), Errno>
+        ensures { Steps (meaning self.old) (make_step dir name.now new (meaning self.old)) result (meaning self.new) };
+
+    /// A node was opened with these modes. Takes no memory.
+    fn opened(&mut self, node: NodeName, modes: OpenFlags)
+        ensures { meaning self.new ≡ opened_after (meaning self.old) node modes };
+
+    /// An open of a node with these modes has gone. Takes no memory.
+    fn closed(&mut self, node: NodeName, modes: OpenFlags)
+        ensures { meaning self.new ≡ opened_after (meaning self.old) node modes };
+}
