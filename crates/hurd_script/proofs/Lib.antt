@@ -1,0 +1,5 @@
+pub mod Loops
+pub mod ScriptLemmas
+pub mod UserLemmas
+pub mod WordLemmas
+pub mod UsageLemmas

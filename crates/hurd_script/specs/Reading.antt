@@ -1,0 +1,121 @@
+-- What the functions of the reader say of each other.
+use Rattle.std.specs.Prelude.{refl, map, ◌≡◌, ℕ, ◌==◌, ◌||◌, ◌++◌, Bool, true, not, codes, option_and_then, List, [], ◌∷◌, Option, Some, None, Result, Ok, Err, filter, filter_map, option_map, if◌then◌else◌}
+use Rattle.std.specs.Coded.{Coded, code_by, coded_bool, coded_list, coded_ℕ, coded×}
+use Rattle.std.specs.Borrow.{Bor}
+use Rattle.std.specs.List.{list_any, slice_split}
+use Rattle.hurd_script.specs.Words.{has_bytes, is_bad_word, text_after, text_of}
+use Rattle.hurd_creds.specs.Access.{IdSets, coded_ids}
+use Rattle.hurd_script.specs.Lines.{is_skipped}
+use Rattle.hurd_script.specs.Users.{Declaration, begins_with, declaration_of, declared_ids, has_room_for, names_before}
+use Rattle.hurd_script.specs.Commands.{CommandLine, coded_command, command_of}
+use Rattle.hurd_script.specs.Script.{begun, commands_before, first_bad, users_before}
+use Rattle.hurd_script.specs.declared.fault.ReadFault.{ReadFault}
+use Rattle.hurd_script.specs.declared.fault.ReadFault.TheVariants as fault
+use Rattle.hurd_script.specs.declared.reader.ScriptFault.{ScriptFault}
+use Rattle.hurd_script.specs.declared.reader.ScriptFault.TheVariants as script_fault
+
+-- what was to be read is read, or is bad, or memory was refused
+abbrev pub Reads : {X Y : Type 0} → (X → Y) → Option Y → Result X ReadFault → Type 0
+Reads view wanted (Ok x) = wanted ≡ Some (view x)
+Reads view wanted (Err fault.Memory) = Unit {0}
+Reads view wanted (Err fault.Bad) = wanted ≡ None
+
+-- what a word spells, if it is a good one
+abbrev pub good_text : List ℕ → Option (List ℕ)
+good_text word = if is_bad_word word then None else text_of word
+
+-- the words that pieces of a line spell, if each is a good one
+abbrev pub good_words : List (List ℕ) → Option (List (List ℕ))
+good_words pieces =
+    if list_any is_bad_word (filter has_bytes pieces) then None
+    else Some (filter_map text_of (filter has_bytes pieces))
+
+-- these, and then those
+abbrev pub behind : {X : Type 0} → List X → Option (List X) → Option (List X)
+behind front rest = option_map (λ xs. front ++ xs) rest
+
+-- a part is read, whatever parts follow it: reading all of them is reading the rest, with more in front
+abbrev pub Takes : {X : Type 0} → (List (List ℕ) → Option (List X)) → List ℕ → List X → List X → Type 0
+Takes read part before after = (rest : List (List ℕ)) → behind before (read (part ∷ rest)) ≡ behind after (read rest)
+
+-- a part is bad, whatever parts follow it
+abbrev pub Refuses : {X : Type 0} → (List (List ℕ) → Option (List X)) → List ℕ → Type 0
+Refuses read part = (rest : List (List ℕ)) → read (part ∷ rest) ≡ None
+
+-- a byte of a word is read, behind a backslash or not, whatever bytes follow it
+abbrev pub TakesByte : Bool → ℕ → Bool → List ℕ → List ℕ → Type 0
+TakesByte escaped byte next before after =
+    (rest : List ℕ) → behind before (text_after escaped (byte ∷ rest)) ≡ behind after (text_after next rest)
+
+-- a byte of a word is bad, whatever bytes follow it
+abbrev pub RefusesByte : Bool → ℕ → Type 0
+RefusesByte escaped byte = (rest : List ℕ) → text_after escaped (byte ∷ rest) ≡ None
+
+-- what the lines so far have said
+pub record Standing : Type 0 where
+  pub names : List (List ℕ)
+  pub users : List IdSets
+  pub commands : List CommandLine
+  pub begun : Bool
+
+-- it is stored as the tuple of its fields
+abbrev pub coded_standing : Coded Standing
+coded_standing =
+    code_by ((List (List ℕ) × List IdSets) × (List CommandLine × Bool))
+    (coded× (coded× (coded_list (coded_list coded_ℕ)) (coded_list coded_ids)) (coded× (coded_list coded_command) coded_bool))
+    (λ s. ((s.names, s.users), (s.commands, s.begun)))
+    (λ p. record { names = p.0.0; users = p.0.1; commands = p.1.0; begun = p.1.1 })
+    (λ _. refl)
+
+-- what these lines have said
+abbrev pub standing : List (List ℕ) → Standing
+standing lines =
+    record {
+      names = names_before lines;
+      users = users_before lines;
+      commands = commands_before lines;
+      begun = begun lines;
+    }
+
+-- with a user more, where the ids are good
+abbrev pub with_user : Standing → List ℕ → Option IdSets → Option Standing
+with_user s name None = None
+with_user s name (Some ids) = Some (record s { names = s.names ++ name ∷ []; users = s.users ++ ids ∷ [] })
+
+-- with what a user line declares, unless that is bad
+abbrev pub with_declared : Standing → Option Declaration → Option Standing
+with_declared s None = None
+with_declared s (Some user) =
+    if s.begun || not (has_room_for s.names user.name) then None else with_user s user.name (declared_ids user)
+
+-- with a command more, where there is one
+abbrev pub with_command : Standing → Option CommandLine → Option Standing
+with_command s None = None
+with_command s (Some command) = Some (record s { commands = s.commands ++ command ∷ []; begun = true })
+
+-- with a line of these words, unless it is bad
+abbrev pub with_words : Standing → List ℕ → List (List ℕ) → Option Standing
+with_words s line words =
+    if begins_with (codes "user") words
+    then with_declared s (declaration_of words)
+    else with_command s (command_of s.names line words)
+
+-- what stands after a line, unless that is bad
+abbrev pub with_line : Standing → List ℕ → Option Standing
+with_line s line =
+    if is_skipped line then Some s
+    else option_and_then (with_words s line) (good_words (slice_split (λ b. b == 32) line))
+
+-- the fault of a line
+abbrev pub fault_at : ReadFault → ℕ → ScriptFault
+fault_at fault.Memory line = script_fault.Memory
+fault_at fault.Bad line = script_fault.Bad line
+
+-- what borrowed pieces say
+abbrev pub said : List (Bor (List ℕ)) → List (List ℕ)
+said pieces = map (λ piece. piece.now) pieces
+
+-- the lines are first bad at the one that is told, or memory was refused
+abbrev pub LineFaultOf : List (List ℕ) → ScriptFault → Type 0
+LineFaultOf lines script_fault.Memory = Unit {0}
+LineFaultOf lines (script_fault.Bad line) = first_bad lines ≡ Some line

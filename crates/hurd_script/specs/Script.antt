@@ -1,0 +1,69 @@
+-- What a script says, and where it is bad.
+use Rattle.std.specs.Prelude.{◌≡◌, ℕ, ◌&&◌, ◌||◌, Bool, not, List, [], ◌∷◌, Option, Some, if◌then◌else◌, nat_lt, option_and_then, filter_map, length}
+use Rattle.std.specs.List.{list_any, position_from}
+use Rattle.std.specs.FinSet as set
+use Rattle.hurd_creds.specs.Access.{IdSets}
+use Rattle.hurd_script.specs.Lines.{is_skipped, lines_of, turns}
+use Rattle.hurd_script.specs.Words.{is_bad_word, words_of, written_words}
+use Rattle.hurd_script.specs.Users.{declared, declared_ids, is_bad_user, is_user_line, names_before}
+use Rattle.hurd_script.specs.Commands.{CommandLine, command_at, is_bad_command, is_command_line}
+use Rattle.hurd_script.specs.declared.reader.ScriptFault.{ScriptFault}
+use Rattle.hurd_script.specs.declared.reader.ScriptFault.TheVariants as fault
+
+-- how many bytes a script may have
+abbrev pub most_bytes : ℕ
+most_bytes = 1048576
+
+-- a command came
+abbrev pub begun : List (List ℕ) → Bool
+begun lines = list_any is_command_line lines
+
+-- a user line behind a command, or a bad one
+abbrev pub is_user_fault : List (List ℕ) → List ℕ → Bool
+is_user_fault earlier line = begun earlier || is_bad_user (names_before earlier) (words_of line)
+
+-- whether a line is bad behind these: one with a bad word, a bad user line, or another that is no command
+abbrev pub is_bad_line : List (List ℕ) → List ℕ → Bool
+is_bad_line earlier line =
+    not (is_skipped line)
+    && (list_any is_bad_word (written_words line)
+    || (if is_user_line line
+    then is_user_fault earlier line
+    else is_bad_command (names_before earlier) (words_of line)))
+
+-- the first bad line of these, counted from 1
+abbrev pub first_bad : List (List ℕ) → Option ℕ
+first_bad lines = position_from (λ turn. is_bad_line turn.earlier turn.line) 1 (turns lines)
+
+-- the line at which a script is bad, if it is: 0 for one that is too long, and else its first bad line
+abbrev pub bad : List ℕ → Option ℕ
+bad script = if nat_lt most_bytes (length script) then Some 0 else first_bad (lines_of script)
+
+-- root's ids: user 0 and group 0
+abbrev pub root_ids : IdSets
+root_ids = record { uids = set.from_list (0 ∷ []); gids = set.from_list (0 ∷ []) }
+
+-- the ids of the user that a line declares
+abbrev pub user_at : List ℕ → Option IdSets
+user_at line = option_and_then declared_ids (declared line)
+
+-- the ids of the users that these lines leave, task by task: root, then those declared
+abbrev pub users_before : List (List ℕ) → List IdSets
+users_before lines = root_ids ∷ filter_map user_at lines
+
+-- the ids of a script's users
+abbrev pub users_of : List ℕ → List IdSets
+users_of script = users_before (lines_of script)
+
+-- the commands of these lines, in their order
+abbrev pub commands_before : List (List ℕ) → List CommandLine
+commands_before lines = filter_map command_at (turns lines)
+
+-- the commands of a script
+abbrev pub commands_of : List ℕ → List CommandLine
+commands_of script = commands_before (lines_of script)
+
+-- the script is bad at the line that is told, or memory was refused
+abbrev pub FaultOf : List ℕ → ScriptFault → Type 0
+FaultOf script fault.Memory = Unit {0}
+FaultOf script (fault.Bad line) = bad script ≡ Some line

@@ -1,0 +1,52 @@
+-- The words of a line.
+use Rattle.std.specs.Prelude.{ℕ, ◌==◌, ◌&&◌, ◌||◌, Bool, true, false, not, List, [], ◌∷◌, Option, Some, None, if◌then◌else◌, nat_le, option_map, filter, filter_map, is_none}
+use Rattle.std.specs.List.{list_any, slice_split}
+
+-- not empty
+abbrev pub has_bytes : List ℕ → Bool
+has_bytes [] = false
+has_bytes (b ∷ bs) = true
+
+-- what stands between the spaces of a line, as it is written
+abbrev pub written_words : List ℕ → List (List ℕ)
+written_words line = filter has_bytes (slice_split (λ b. b == 32) line)
+
+-- a byte that no word has: a word is of printable ASCII, 0x21 to 0x7E
+abbrev pub is_hidden : ℕ → Bool
+is_hidden b = not (nat_le 33 b && nat_le b 126)
+
+-- what a byte behind a backslash stands for: `s` a space, `n` a newline, and the backslash itself
+abbrev pub escape_code : ℕ → Option ℕ
+escape_code b = if b == 115 then Some 32 else if b == 110 then Some 10 else if b == 92 then Some 92 else None
+
+-- a byte in front of a text, where there are both
+abbrev pub onto : Option ℕ → Option (List ℕ) → Option (List ℕ)
+onto None text = None
+onto (Some b) text = option_map (λ bs. b ∷ bs) text
+
+-- the text of a word, or of its rest behind a backslash
+unfoldable pub text_after : Bool → List ℕ → Option (List ℕ)
+text_after false [] = Some []
+text_after true [] = None
+text_after false (b ∷ bs) = if b == 92 then text_after true bs else onto (Some b) (text_after false bs)
+text_after true (b ∷ bs) = onto (escape_code b) (text_after false bs)
+
+-- what a word spells, with its escapes resolved, or nothing where a backslash has another use
+abbrev pub text_of : List ℕ → Option (List ℕ)
+text_of word = text_after false word
+
+-- a byte that is not printable ASCII stands in it
+abbrev pub has_hidden_byte : List ℕ → Bool
+has_hidden_byte word = list_any is_hidden word
+
+-- a backslash has another use in it than the three
+abbrev pub has_bad_escape : List ℕ → Bool
+has_bad_escape word = is_none (text_of word)
+
+-- not a word
+abbrev pub is_bad_word : List ℕ → Bool
+is_bad_word word = has_hidden_byte word || has_bad_escape word
+
+-- what the words of a line spell
+abbrev pub words_of : List ℕ → List (List ℕ)
+words_of line = filter_map text_of (written_words line)

@@ -1,0 +1,24 @@
+//! Scripts: who the users are, which commands they give, and what the words of a command ask for.
+//!
+//! A script is lines, each ended by a newline, which the last may lack. `parse_script` reads one: first
+//! come the users, a line `user NAME UIDS GIDS` each, then commands, a line `NAME COMMAND WORD..` each.
+//! Lines that are empty, only spaces or begin with `#` are skipped. Words are of printable ASCII, between
+//! spaces; in a word `\s` is a space, `\n` a newline and `\\` a backslash. `Command::action` says what the
+//! words of a command ask for. The commands are `cat NODE`, `ls NODE` and `put NODE TEXT`.
+//!
+//! It runs no command and knows no node: it isn't a shell.
+#![tactic(auto)]
+
+mod command;
+mod fault;
+mod lines;
+mod reader;
+mod usage;
+mod users;
+mod words;
+
+pub use command::{Action, Command, Verb};
+pub use reader::{Script, ScriptFault, parse_script};
+
+#[cfg(test)]
+mod tests;
