@@ -1,0 +1,20 @@
+-- What a call that may find no memory is shown to do.
+use Rattle.std.proofs.Common.{◌≡◌, Bool, true, false, cond, refl, inl, inr}
+use Rattle.std.specs.Prelude.{Result, Ok, Err}
+use Rattle.hurd_creds.specs.Memory.{Steps, is_no_memory}
+use Rattle.hurd_creds.specs.declared.errno.Errno.{Errno}
+use Rattle.hurd_creds.specs.declared.errno.Errno.TheVariants.{ENOMEM}
+
+module _ {T S : Type 0} (w : Result T Errno × S) (m : S) where
+  same_either : (b : Bool) → m ≡ cond b m m
+  same_either true = refl
+  same_either false = refl
+
+  pub steps-refused : (e : Errno) → w ≡ (Err e, m) → Steps m w (Err e) m
+  steps-refused e is = rw is (record { answered = inl refl; left = same_either (is_no_memory e) })
+
+  pub steps-short : (x : T) (n : S) → w ≡ (Ok x, n) → Steps m w (Err ENOMEM) m
+  steps-short x n is = rw is (record { answered = inr (refl, refl); left = refl })
+
+  pub steps-done : (x : T) (n : S) → w ≡ (Ok x, n) → Steps m w (Ok x) n
+  steps-done x n is = rw is (record { answered = refl; left = refl })

@@ -1,0 +1,95 @@
+-- Tasks, ports and opens as values.
+use Rattle.std.specs.Prelude.{◌≡◌, ℕ, ◌+◌, ◌==◌, ◌&&◌, ◌||◌, Bool, true, false, if◌then◌else◌, List, [], ◌∷◌, Option, Some, None, Result, Ok, Err, slice_get, nat_lt, nat_le, refl}
+use Rattle.std.specs.FinMap as fin
+use Rattle.std.specs.Borrow.{Bor}
+use Rattle.std.specs.Coded.{Coded, code_by, coded×, coded_ℕ, coded_list}
+use Rattle.hurd_creds.specs.declared.name.Name.{Name}
+use Rattle.hurd_creds.specs.declared.errno.Errno.{Errno}
+use Rattle.hurd_creds.specs.declared.errno.Errno.TheVariants.{EBADF, ESRCH}
+use Rattle.hurd_creds.specs.Access.{IdSets, coded_ids}
+use Rattle.hurd_creds.specs.Names.{name_of, coded_name, same_name}
+use Rattle.hurd_creds.specs.NameMaps.{NameMap}
+use Rattle.hurd_ports.specs.declared.table.Opened.{Opened}
+use Rattle.hurd_ports.specs.declared.table.Right.{Right}
+use Rattle.hurd_ports.specs.declared.table.Port.{Port}
+use Rattle.hurd_ports.specs.contracts.table.Port as port
+use Rattle.hurd_ports.specs.contracts.table.Opened as opened
+
+-- a task: its ids, its ports in order of their numbers, the next number, and how many things it has made
+pub record Task : Type 0 where
+  pub ids : IdSets
+  pub ports : List Port
+  pub next : ℕ
+  pub made : ℕ
+
+abbrev pub OpenMap : Type 0
+OpenMap = NameMap Opened
+
+-- what is open, and the tasks in their order
+pub record PortsHalf : Type 0 where
+  pub opens : OpenMap
+  pub tasks : List Task
+
+abbrev pub coded_task : Coded Task
+coded_task =
+    code_by (IdSets × (List Port × (ℕ × ℕ))) (coded× coded_ids (coded× (coded_list port.the_row.coded) (coded× coded_ℕ coded_ℕ)))
+    (λ x. (x.ids, (x.ports, (x.next, x.made)))) (λ p. record { ids = p.0; ports = p.1.0; next = p.1.1.0; made = p.1.1.1 }) (λ _. refl)
+
+abbrev pub coded_half : Coded PortsHalf
+coded_half = code_by (OpenMap × List Task) (coded× (fin.code coded_name opened.the_row.coded) (coded_list coded_task)) (λ h. (h.opens, h.tasks)) (λ p. record { opens = p.0; tasks = p.1 }) (λ _. refl)
+
+-- the right under a number
+abbrev pub right_in : ℕ → List Port → Option Right
+right_in p [] = None
+right_in p (x ∷ xs) = if p == x.number then Some x.right else right_in p xs
+
+abbrev pub or_refuse : {A : Type 0} → Errno → Option A → Result A Errno
+or_refuse e None = Err e
+or_refuse e (Some a) = Ok a
+
+abbrev pub right_at : ℕ → Option Task → Result Right Errno
+right_at p None = Err ESRCH
+right_at p (Some x) = or_refuse EBADF (right_in p x.ports)
+
+-- the right of a task under a number: ESRCH no such task, EBADF no such port
+abbrev pub right_of : PortsHalf → ℕ → ℕ → Result Right Errno
+right_of h t p = right_at p (slice_get h.tasks t)
+
+-- the name of what a task makes after k other things of the same call
+abbrev pub fresh_after : ℕ → ℕ → Task → Name
+fresh_after k t x = name_of t (x.made + k)
+
+-- the next name of a task
+abbrev pub fresh : ℕ → Task → Name
+fresh t x = name_of t x.made
+
+abbrev pub u64_greatest : ℕ
+u64_greatest = 18446744073709551615
+
+-- another port can be numbered, and so many more things named
+abbrev pub has_room : ℕ → Task → Bool
+has_room names x = nat_lt x.next u64_greatest && nat_le (x.made + names) u64_greatest
+
+abbrev pub names_open : Name → Port → Bool
+names_open o p = same_name p.right.open_name o
+
+abbrev pub any : {X : Type 0} → (X → Bool) → List X → Bool
+any p [] = false
+any p (x ∷ xs) = p x || any p xs
+
+-- some right names the open
+unfoldable pub is_held : List Task → Name → Bool
+is_held ts o = any (λ (t : Task). any (names_open o) t.ports) ts
+
+-- nothing is to be taken out: each open is held
+abbrev pub IsSettled : PortsHalf → Type 0
+IsSettled h = (o : Name) (x : Opened) → fin.get h.opens o ≡ Some x → is_held h.tasks o ≡ true
+
+-- no open has the name that the task gives next but k
+abbrev pub IsFresh : ℕ → ℕ → PortsHalf → Type 0
+IsFresh k t h = (x : Task) → slice_get h.tasks t ≡ Some x → fin.get h.opens (fresh_after k t x) ≡ None
+
+-- what is lent
+abbrev pub lent : {A E : Type 0} → Result (Bor A) E → Result A E
+lent (Ok b) = Ok b.now
+lent (Err e) = Err e
