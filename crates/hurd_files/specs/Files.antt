@@ -1,0 +1,35 @@
+-- Files and directories.
+use Rattle.std.specs.Prelude.{ℕ, List, [], ◌∷◌, codes, Result, Ok}
+use Rattle.hurd_creds.specs.declared.name.Name.{Name}
+use Rattle.hurd_creds.specs.declared.errno.Errno.{Errno}
+use Rattle.hurd_creds.specs.declared.errno.Errno.TheVariants.{ENOTDIR}
+use Rattle.hurd_creds.specs.Bits.{READ, WRITE}
+use Rattle.hurd_trans_iface.specs.Nodes.{is_dir}
+use Rattle.hurd_trans_iface.specs.Answers.{set_size_of, set_size_edits, names_of}
+use Rattle.hurd_machine.specs.declared.call.Reply.TheVariants.{Done, Names}
+use Rattle.hurd_machine.specs.World.{World, header_at, body_at}
+use Rattle.hurd_machine.specs.Change.{changes_of}
+use Rattle.hurd_machine.specs.Plan.{Plan, given, first, answered}
+use Rattle.hurd_machine.specs.Handle.{handle_asks}
+
+-- the node of a port that is open to write
+abbrev pub set_size_asks : World → ℕ → ℕ → Result Name Errno
+set_size_asks w t p = first (handle_asks w t p WRITE) (λ a. Ok a.node)
+
+-- file_set_size: cut, or grown by zero bytes
+abbrev pub plan_set_size : World → ℕ → ℕ → ℕ → Plan
+plan_set_size w t p size =
+    answered (set_size_asks w t p) (λ n.
+    answered (set_size_of size (header_at w n)) (λ u.
+    record { reply = Done; changes = changes_of (set_size_edits n size) }))
+
+-- all that reading a directory asks, with its refusals in order
+abbrev pub readdir_asks : World → ℕ → ℕ → Result (List (List ℕ)) Errno
+readdir_asks w t p =
+    first (handle_asks w t p READ) (λ a.
+    given ENOTDIR (is_dir a.kind) (
+    names_of (body_at w a.node)))
+
+-- dir_readdir: `.`, `..`, and the names of the entries in order
+abbrev pub plan_readdir : World → ℕ → ℕ → Plan
+plan_readdir w t p = answered (readdir_asks w t p) (λ names. record { reply = Names (codes "." ∷ codes ".." ∷ names); changes = [] })

@@ -1,0 +1,13 @@
+pub mod Shape
+pub mod Edits
+pub mod Entries
+pub mod Walk
+pub mod Deallocate
+pub mod Lookup
+pub mod Read
+pub mod Write
+pub mod SetSize
+pub mod Readdir
+pub mod Assembled
+pub mod Headline
+pub mod Served

@@ -1,0 +1,5 @@
+pub mod Step
+pub mod Touched
+pub mod Runs
+pub mod Laws
+pub mod Served

@@ -1,0 +1,3 @@
+pub mod WalkLaws
+pub mod AskLaws
+pub mod EndLaws

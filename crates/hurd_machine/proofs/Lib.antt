@@ -1,0 +1,15 @@
+pub mod HalfLaws
+pub mod Views
+pub mod Rights
+pub mod Nodes
+pub mod After
+pub mod Names
+pub mod Frame
+pub mod Coherence
+pub mod Confine
+pub mod Allowed
+pub mod Mirror
+pub mod Settle
+pub mod Asks
+pub mod Made
+pub mod Sizes

@@ -1,0 +1,17 @@
+-- What a port has open.
+use Rattle.std.specs.Prelude.{ℕ, Result, Ok}
+use Rattle.hurd_creds.specs.declared.errno.Errno.{Errno}
+use Rattle.hurd_creds.specs.declared.errno.Errno.TheVariants.{EBADF, EDIED}
+use Rattle.hurd_creds.specs.Bits.{asks}
+use Rattle.hurd_ports.specs.Tables.{right_of}
+use Rattle.hurd_machine.specs.declared.handle.Handle.{Handle}
+use Rattle.hurd_machine.specs.World.{World, ports_of, open_at, header_at}
+use Rattle.hurd_machine.specs.Plan.{on, given, first}
+
+-- a port that is open for something, on a node that is there
+abbrev pub handle_asks : World → ℕ → ℕ → ℕ → Result Handle Errno
+handle_asks w t p mode =
+    first (right_of (ports_of w) t p) (λ r.
+    on EBADF (open_at w r.open_name) (λ o.
+    given EBADF (asks o.modes mode) (
+    on EDIED (header_at w r.node) (λ h. Ok (record { node = r.node; open_name = r.open_name; opened = o; kind = h.kind; size = h.size })))))

@@ -1,0 +1,6 @@
+pub mod World
+pub mod Change
+pub mod Plan
+pub mod Handle
+pub mod Sight
+pub mod Sound

@@ -1,0 +1,172 @@
+-- Whom a set of tasks may act for, which nodes it sees, and which parts of a world.
+use Rattle.std.specs.Prelude.{◌≡◌, ◌≢◌, ◌⊎◌, ◌↔◌, ℕ, ◌+◌, Bool, true, false, List, [], ◌∷◌, Option, Some, None, length}
+use Rattle.std.specs.Option.{option_map}
+use Rattle.hurd_creds.specs.declared.name.Name.{Name}
+use Rattle.hurd_creds.specs.declared.attrs.Kind.TheVariants.{Dir}
+use Rattle.hurd_creds.specs.declared.attrs.Want.{Want}
+use Rattle.hurd_creds.specs.declared.attrs.Want.TheVariants.{Read, Write, Exec}
+use Rattle.hurd_creds.specs.declared.attrs.Attrs.{Attrs}
+use Rattle.hurd_creds.specs.Access.{IdSets, holds_uid, holds_gid, may}
+use Rattle.hurd_creds.specs.Bits.{asks, READ}
+use Rattle.hurd_creds.specs.Names.{same_name}
+use Rattle.hurd_trans_iface.specs.Nodes.{Header, Body, attrs_with, is_empty_dir}
+use Rattle.hurd_trans_iface.specs.Answers.{entry_of}
+use Rattle.hurd_nodes.specs.Shown.{ServerInfo, boot_name}
+use Rattle.hurd_ports.specs.declared.table.Opened.{Opened}
+use Rattle.hurd_ports.specs.declared.table.Right.{Right}
+use Rattle.hurd_ports.specs.declared.table.Port.{Port}
+use Rattle.hurd_ports.specs.Tables.{Task, names_open}
+use Rattle.hurd_machine.specs.World.{World, boot_root, task_at, open_at, header_at, body_at, home_at, server_at}
+
+-- a node's attributes as far as its header says them
+abbrev pub bare : Header → Attrs
+bare h = attrs_with h false
+
+-- the right stands in a table
+abbrev pub HasRight : Right → List Port → Type 0
+HasRight r [] = ⊥
+HasRight r (x ∷ xs) = (x.right ≡ r) ⊎ HasRight r xs
+
+-- a task of S has the right r
+pub record Holds (S : ℕ → Bool) (w : World) (r : Right) : Type 0 where
+  pub task : ℕ
+  pub ours : S task ≡ true
+  pub seat : Task
+  pub is_task : task_at w task ≡ Some seat
+  pub here : HasRight r seat.ports
+
+-- a task of S, or a right of one, holds the uid u
+pub data HasUid (S : ℕ → Bool) (w : World) (u : ℕ) : Type 0 where
+  UidOfTask : (t : ℕ) → S t ≡ true → (x : Task) → task_at w t ≡ Some x → holds_uid x.ids u ≡ true → HasUid S w u
+  UidOfRight : (r : Right) → Holds S w r → holds_uid r.ids u ≡ true → HasUid S w u
+
+-- a task of S, or a right of one, holds the gid g
+pub data HasGid (S : ℕ → Bool) (w : World) (g : ℕ) : Type 0 where
+  GidOfTask : (t : ℕ) → S t ≡ true → (x : Task) → task_at w t ≡ Some x → holds_gid x.ids g ≡ true → HasGid S w g
+  GidOfRight : (r : Right) → Holds S w r → holds_gid r.ids g ≡ true → HasGid S w g
+
+-- ids that S holds, all of them
+pub record Taken (S : ℕ → Bool) (w : World) (ids : IdSets) : Type 0 where
+  pub uids : (u : ℕ) → holds_uid ids u ≡ true → HasUid S w u
+  pub gids : (g : ℕ) → holds_gid ids g ≡ true → HasGid S w g
+
+-- S could do this with a node of this header: it holds the owner or 0, or ids that may
+pub data Could (S : ℕ → Bool) (w : World) (h : Header) (want : Want) : Type 0 where
+  Owns : (u : ℕ) → HasUid S w u → (u ≡ h.owner) ⊎ (u ≡ 0) → Could S w h want
+  Allowed : (ids : IdSets) → Taken S w ids → may ids (bare h) want ≡ true → Could S w h want
+
+-- S holds the uid of a server, or 0
+abbrev pub CouldServe : (ℕ → Bool) → World → ServerInfo → Type 0
+CouldServe S w i = (u : ℕ) × HasUid S w u × ((holds_uid i.ids u ≡ true) ⊎ (u ≡ 0))
+
+-- the nodes that S sees
+pub data Seen (S : ℕ → Bool) (w : World) : Name → Type 0 where
+  -- the boot root
+  Root : {n : Name} → n ≡ boot_root → Seen S w n
+  -- the node of a right
+  Held : {n : Name} (r : Right) → Holds S w r → n ≡ r.node → Seen S w n
+  -- what a seen directory has, where S could search it
+  Child : {n : Name} (d : Name) (h : Header) (name : List ℕ) → Seen S w d → header_at w d ≡ Some h
+      → h.kind ≡ Dir → Could S w h Exec
+      → entry_of name (body_at w d) ≡ Some n → Seen S w n
+  -- the parent of a seen directory
+  Parent : {n : Name} (d : Name) (h : Header) → Seen S w d → header_at w d ≡ Some h → h.parent ≡ Some n → Seen S w n
+  -- the root of the server of a seen node, where S could serve it
+  ServerRoot : {n : Name} (m s : Name) (i : ServerInfo) → Seen S w m → home_at w m ≡ Some s → server_at w s ≡ Some i
+      → CouldServe S w i → n ≡ i.root → Seen S w n
+
+-- S may send a server away: not the boot server, and one whose node S sees and that it could serve
+pub record MaySend (S : ℕ → Bool) (w : World) (s : Name) : Type 0 where
+  pub info : ServerInfo
+  pub is_server : server_at w s ≡ Some info
+  pub other : s ≢ boot_name
+  pub node : Name
+  pub seen : Seen S w node
+  pub serves : home_at w node ≡ Some s
+  pub could : CouldServe S w info
+
+-- the parts of a world
+pub data Part : Type 0 where
+  AttrOf : Name → Part  -- a node's server and attributes, but whether it is empty
+  EmptyOf : Name → Part  -- whether a directory is empty
+  BodyOf : Name → Part  -- a node's bytes or entries
+  OpenOf : Name → Part  -- an open, and how many rights hold it
+  OptionsOf : Name → Part  -- a server
+  UsersOf : Name → Part  -- how many rights there are on a server's nodes
+  TaskOf : ℕ → Part  -- a task
+
+-- why S sees a body
+pub data SeesBody (S : ℕ → Bool) (w : World) (n : Name) (h : Header) : Type 0 where
+  ToRead : Could S w h Read → SeesBody S w n h
+  ToSearch : h.kind ≡ Dir → Could S w h Exec → SeesBody S w n h
+  IsOpen : (r : Right) → Holds S w r → n ≡ r.node → (o : Opened) → open_at w r.open_name ≡ Some o → asks o.modes READ ≡ true
+      → SeesBody S w n h
+
+-- why S sees whether a directory is empty: it sees the entries, or could write the parent
+pub data SeesEmpty (S : ℕ → Bool) (w : World) (n : Name) (h : Header) : Type 0 where
+  ByBody : SeesBody S w n h → SeesEmpty S w n h
+  ByParent : (p : Name) (a : Header) → h.parent ≡ Some p → header_at w p ≡ Some a → Could S w a Write → SeesEmpty S w n h
+
+-- the parts that S sees
+abbrev pub Sees : (ℕ → Bool) → World → Part → Type 0
+Sees S w (AttrOf n) = Seen S w n
+Sees S w (EmptyOf n) = Seen S w n × (h : Header) × (header_at w n ≡ Some h) × (h.kind ≡ Dir) × SeesEmpty S w n h
+Sees S w (BodyOf n) = Seen S w n × (h : Header) × (header_at w n ≡ Some h) × SeesBody S w n h
+Sees S w (OpenOf o) = (r : Right) × Holds S w r × (r.open_name ≡ o)
+Sees S w (OptionsOf s) = (n : Name) × Seen S w n × (home_at w n ≡ Some s)
+Sees S w (UsersOf s) = MaySend S w s
+Sees S w (TaskOf t) = S t ≡ true
+
+-- 1 where the test holds, else 0
+abbrev pub one_if : Bool → ℕ
+one_if true = 1
+one_if false = 0
+
+-- how many ports of a table pass a test
+abbrev pub count_ports : (Port → Bool) → List Port → ℕ
+count_ports p [] = 0
+count_ports p (x ∷ xs) = one_if (p x) + count_ports p xs
+
+-- how many rights of all tasks pass a test
+abbrev pub count_rights : (Port → Bool) → List Task → ℕ
+count_rights p [] = 0
+count_rights p (t ∷ ts) = count_ports p t.ports + count_rights p ts
+
+-- whether a node's server is s
+abbrev pub is_home : Name → Option Name → Bool
+is_home s None = false
+is_home s (Some q) = same_name s q
+
+-- how many rights name the open
+abbrev pub holders : World → Name → ℕ
+holders w o = count_rights (names_open o) w.tasks
+
+-- how many rights there are on nodes of the server
+abbrev pub users : World → Name → ℕ
+users w s = count_rights (λ p. is_home s (home_at w p.right.node)) w.tasks
+
+-- what a part is
+pub data Value : Type 0 where
+  AnAttr : Option Header → Option Name → Value
+  AnEmpty : Option Bool → Value
+  ABody : Option Body → Value
+  AnOpen : Option Opened → ℕ → Value
+  AnOptions : Option ServerInfo → Value
+  AUsers : ℕ → Value
+  ATask : Option Task → Value
+
+-- the value of each part in a world
+abbrev pub part : World → Part → Value
+part w (AttrOf n) = AnAttr (header_at w n) (home_at w n)
+part w (EmptyOf n) = AnEmpty (option_map is_empty_dir (body_at w n))
+part w (BodyOf n) = ABody (body_at w n)
+part w (OpenOf o) = AnOpen (open_at w o) (holders w o)
+part w (OptionsOf s) = AnOptions (server_at w s)
+part w (UsersOf s) = AUsers (users w s)
+part w (TaskOf t) = ATask (task_at w t)
+
+-- two worlds have the same view for S: S sees the same parts in both, and they are equal; and there are as many tasks
+pub record SameView (S : ℕ → Bool) (v w : World) : Type 0 where
+  pub tasks : length w.tasks ≡ length v.tasks
+  pub seen : (p : Part) → Sees S v p ↔ Sees S w p
+  pub parts : (p : Part) → Sees S v p → part w p ≡ part v p

@@ -1,0 +1,134 @@
+//! Nodes and their servers.
+ghost use Rattle.std.specs.Prelude.{◌≡◌, None};
+ghost use Rattle.std.specs.Option.{option_map};
+ghost use Rattle.std.specs.FinMap as fin;
+ghost use Rattle.hurd_creds.specs.Memory.{Meets, Steps};
+ghost use Rattle.hurd_trans_iface.specs.Nodes.{attrs_of, header_of, body_of};
+ghost use Rattle.hurd_trans_iface.specs.Answers.{entry_of, names_of, read_of};
+ghost use Rattle.hurd_nodes.specs.Shown.{shown, half_of, header_in, booted, is_root, half_write, half_set_size, half_make};
+
+use bitflags::Flags;
+use hurd_creds::{Attrs, Bytes, Errno, Mode, Name, NodeName, ServerName, TaskId};
+use hurd_trans_iface::{Names, NewNode, Server};
+use std::alloc::Global;
+use std::marker::Model;
+
+/// The name of the boot server and of its root, which no task makes.
+pub const BOOT_NAME: Name = Name {
+    task: TaskId(4294967295),
+    count: 0,
+};
+
+/// The servers of a world and their nodes: the boot server, which serves every node.
+#[derive(Drop)]
+pub struct Nodes<S = Box<dyn Server>> {
+    boot: S,
+}
+
+impl<S> Model for Nodes<S> {
+    ghost use Rattle.hurd_nodes.specs.Shown.{Held, coded_held};
+
+    ghost Value = { Held S };
+
+    ghost coded = { coded_held S.code };
+
+    ghost view = { λ n. record { boot = n.boot } };
+}
+
+impl<S: Server> Nodes<S> {
+    /// The boot server alone, whose root belongs to uid 0 and gid 0 and has the mode 0o755.
+    pub fn starting_with(boot: S) -> Nodes<S>
+        requires { (S.meaning boot).root ≡ None }
+        ensures { shown S.meaning result ≡ half_of (booted (S.meaning boot)) }
+    {
+        let mut boot = boot;
+        boot.begin_root(BOOT_NAME, 0, 0, Mode::from_bits_retain(0o755));
+        Nodes { boot }
+    }
+
+    /// The attributes of a node, if it is there.
+    pub fn attrs(&self, node: NodeName) -> Option<Attrs>
+        ensures all { result ≡ option_map attrs_of (fin.get (shown S.meaning self.now).nodes node) }
+        ensures header { option_map header_in result ≡ header_of (shown S.meaning self.now).nodes node }
+    {
+        self.boot.attrs(node)
+    }
+
+    /// The server of a node, if the node is there.
+    pub fn home(&self, node: NodeName) -> Option<ServerName>
+        ensures { result ≡ fin.get (shown S.meaning self.now).homes node }
+    {
+        match self.boot.attrs(node) {
+            Some(_) => Some(BOOT_NAME),
+            None => None,
+        }
+    }
+
+    /// Whether a node is the root of its server.
+    pub fn is_root(&self, node: NodeName) -> bool
+        ensures { result ≡ is_root (shown S.meaning self.now) node }
+    {
+        match self.boot.attrs(node) {
+            Some(_) => node == BOOT_NAME,
+            None => false,
+        }
+    }
+
+    /// The node of this name in a directory.
+    pub fn step(&self, dir: NodeName, name: &[u8]) -> Option<NodeName>
+        ensures { result ≡ entry_of name.now (body_of (shown S.meaning self.now).nodes dir) }
+    {
+        self.boot.step(dir, name)
+    }
+
+    /// The names in a directory.
+    ///
+    /// Errors, in order: `EDIED` no such node, `ENOTDIR`, `ENOMEM`.
+    pub fn names(&self, alloc: Global, dir: NodeName) -> Result<Names, Errno>
+        ensures { Meets (names_of (body_of (shown S.meaning self.now).nodes dir)) result }
+    {
+        self.boot.names(alloc, dir)
+    }
+
+    /// At most `amount` bytes of a file from `at` on.
+    ///
+    /// Errors, in order: `EDIED` no such node, `EISDIR`, `ENOMEM`.
+    pub fn read(&self, alloc: Global, node: NodeName, at: u64, amount: u64) -> Result<Bytes, Errno>
+        ensures { Meets (read_of at amount (body_of (shown S.meaning self.now).nodes node)) result }
+    {
+        self.boot.read(alloc, node, at, amount)
+    }
+
+    /// Puts bytes into a file at `at`, and answers how many.
+    ///
+    /// Errors, in order: `EDIED` no such node, `EBADF` a directory, `EFBIG`, `ENOMEM`.
+    pub fn write(&mut self, node: NodeName, at: u64, bytes: &[u8]) -> Result<u64, Errno>
+        ensures { Steps (shown S.meaning self.old) (half_write node at bytes.now (shown S.meaning self.old)) result (shown S.meaning self.new) }
+    {
+        self.boot.write(node, at, bytes)
+    }
+
+    /// Cuts a file, or grows it by zero bytes.
+    ///
+    /// Errors, in order: `EDIED` no such node, `EFBIG`, `EBADF` a directory, `ENOMEM`.
+    pub fn set_size(&mut self, node: NodeName, size: u64) -> Result<(), Errno>
+        ensures { Steps (shown S.meaning self.old) (half_set_size node size (shown S.meaning self.old)) result (shown S.meaning self.new) }
+    {
+        self.boot.set_size(node, size)
+    }
+
+    /// Makes a node in a directory under a name.
+    ///
+    /// Errors, in order: `EDIED` no such directory, `ENOTDIR`, `EEXIST`, `EOPNOTSUPP`, `ENOMEM`.
+    pub fn make(
+        &mut self,
+        alloc: Global,
+        dir: NodeName,
+        name: &[u8],
+        new: NewNode,
+    ) -> Result<(), Errno>
+        ensures { Steps (shown S.meaning self.old) (half_make dir name.now new (shown S.meaning self.old)) result (shown S.meaning self.new) }
+    {
+        self.boot.make(alloc, dir, name, new)
+    }
+}

@@ -1,0 +1,4 @@
+pub mod CallLaws
+pub mod ProgramLaws
+pub mod TextLaws
+pub mod SessionLaws

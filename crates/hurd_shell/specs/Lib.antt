@@ -1,0 +1,5 @@
+pub mod Programs
+pub mod Commands
+pub mod Transcript
+pub mod Progress
+pub mod Session

@@ -1,0 +1,27 @@
+//! Why a session stops.
+use hurd_creds::Errno;
+use std::alloc::AllocError;
+use thiserror::Error;
+
+/// Memory was refused.
+#[derive(Clone, Copy, Debug, PartialEq, Eq)]
+pub(crate) struct NoMemory;
+
+impl From<AllocError> for NoMemory {
+    fn from(_error: AllocError) -> NoMemory {
+        NoMemory
+    }
+}
+
+/// Why a session stops before all its commands are made.
+#[derive(Debug, Drop, Error)]
+pub enum SessionFault {
+    /// The script is bad at this line, counted from 1; at line 0 where it is too long.
+    #[error("hurd: line {line}: bad script")]
+    BadScript { line: u64 },
+    /// The world was refused.
+    #[error("hurd: cannot boot: {}", .0.name())]
+    Boot(Errno),
+    #[error("hurd: out of memory")]
+    Memory,
+}

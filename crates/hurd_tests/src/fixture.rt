@@ -1,0 +1,141 @@
+//! Worlds to make calls in, and rows of calls with what they are to answer.
+ghost use Rattle.std.specs.Prelude.{IfOk};
+ghost use Rattle.hurd_trans_iface.specs.Meaning.{Begins};
+
+use bitflags::Flags;
+use hurd_creds::{Bytes, Errno, Ids, Mode, OpenFlags, TaskId};
+use hurd_tmpfs::Tmpfs;
+use hurd_trans_iface::{Names, Server, Words};
+use hurd_world::{Call, Lookup, Reply, World};
+use std::alloc::{AllocError, Global};
+
+/// A call, as a row of a table writes it.
+#[derive(Drop)]
+pub enum Row<'a> {
+    Lookup(u64, &'a [u8], u16, u32),
+    Read(u64, u64, i64),
+    Write(u64, &'a [u8], i64),
+    SetSize(u64, u64),
+    Readdir(u64),
+    Deallocate(u64),
+}
+
+/// What a call is to answer.
+#[derive(Drop)]
+pub enum Want<'a> {
+    Done,
+    Port(u64),
+    Data(&'a [u8]),
+    Count(u64),
+    Names(&'a [&'a [u8]]),
+    Refused(Errno),
+}
+
+/// The call of a row.
+pub fn call_of(alloc: Global, row: &Row) -> Result<Call, AllocError> {
+    Ok(match row {
+        Row::Lookup(dir, path, flags, mode) => Call::DirLookup {
+            dir: *dir,
+            path: Bytes::copied(alloc, path)?,
+            flags: OpenFlags::from_bits_retain(*flags),
+            mode: Mode::from_bits_retain(*mode),
+        },
+        Row::Read(port, amount, offset) => Call::IoRead {
+            port: *port,
+            amount: *amount,
+            offset: *offset,
+        },
+        Row::Write(port, bytes, offset) => Call::IoWrite {
+            port: *port,
+            bytes: Bytes::copied(alloc, bytes)?,
+            offset: *offset,
+        },
+        Row::SetSize(port, size) => Call::FileSetSize {
+            port: *port,
+            size: *size,
+        },
+        Row::Readdir(port) => Call::DirReaddir { port: *port },
+        Row::Deallocate(port) => Call::PortDeallocate { port: *port },
+    })
+}
+
+fn are_names(names: &Names, want: &[&[u8]]) -> bool {
+    let names = names.as_slice();
+    if names.len() != want.len() {
+        return false;
+    }
+    for (name, want) in names.iter().zip(want.iter()) {
+        if name.as_slice() != *want {
+            return false;
+        }
+    }
+    true
+}
+
+/// Whether a reply is the one that is wanted.
+pub fn is_reply(reply: &Reply, want: &Want) -> bool {
+    match (reply, want) {
+        (Reply::Done, Want::Done) => true,
+        (Reply::Found(Lookup::Done(port)), Want::Port(number)) => *port == *number,
+        (Reply::Data(bytes), Want::Data(data)) => bytes.as_slice() == *data,
+        (Reply::Count(count), Want::Count(number)) => *count == *number,
+        (Reply::Names(names), Want::Names(want)) => are_names(names, want),
+        (Reply::Refused(errno), Want::Refused(wanted)) => *errno == *wanted,
+        _ => false,
+    }
+}
+
+/// A tree in memory, boxed.
+pub fn tree(alloc: Global) -> Result<Box<dyn Server>, Errno>
+    ensures { IfOk result (λ b. Begins (meaning b)) }
+{
+    let words = Words::new(alloc, &[b"/hurd/tmpfs".as_slice()])?;
+    let tmpfs = Tmpfs::new(alloc, &words)?;
+    match Box::new(alloc, tmpfs) {
+        Ok(tree) => Ok(tree),
+        Err(_) => Err(Errno::ENOMEM),
+    }
+}
+
+fn users(alloc: Global) -> Result<Vec<Ids>, Errno> {
+    let mut tasks = Vec::new(alloc);
+    for (uid, gid) in [(0, 0), (1000, 1000), (1001, 1001)] {
+        let ids = Ids::new(alloc, &[uid], &[gid])?;
+        if tasks.push(ids).is_err() {
+            return Err(Errno::ENOMEM);
+        }
+    }
+    Ok(tasks)
+}
+
+fn booted(alloc: Global) -> Result<World, Errno> {
+    let tree = tree(alloc)?;
+    let tasks = users(alloc)?;
+    match World::boot(alloc, tree, tasks) {
+        Ok(world) => Ok(world),
+        Err((errno, _)) => Err(errno),
+    }
+}
+
+/// The world of root, alice and bob (tasks 0, 1, 2) over an empty tree; where memory was refused, a second try.
+pub fn world(alloc: Global) -> Result<World, Errno> {
+    match booted(alloc) {
+        Ok(world) => Ok(world),
+        Err(_) => booted(alloc),
+    }
+}
+
+fn told(alloc: Global, world: &mut World, task: u32, row: &Row) -> Reply {
+    match call_of(alloc, row) {
+        Ok(call) => world.call(alloc, TaskId(task), call),
+        Err(_) => Reply::Refused(Errno::ENOMEM),
+    }
+}
+
+/// Makes a row's call; where memory was refused, once more.
+pub fn made(alloc: Global, world: &mut World, task: u32, row: &Row) -> Reply {
+    match told(alloc, world, task, row) {
+        Reply::Refused(Errno::ENOMEM) => told(alloc, world, task, row),
+        reply => reply,
+    }
+}

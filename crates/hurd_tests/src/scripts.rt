@@ -1,0 +1,121 @@
+//! Scripts with their transcripts.
+use crate::fixture::tree;
+use hurd_shell::{Session, SessionFault, Want};
+use std::alloc::Global;
+use std::test::Fail;
+
+/// A script with its transcript.
+#[derive(Drop)]
+struct Row<'a> {
+    script: &'a [u8],
+    transcript: &'a [u8],
+}
+
+/// How a session ended.
+#[derive(Drop)]
+enum End {
+    Done,
+    Memory,
+}
+
+fn session(alloc: Global, script: &[u8]) -> Result<Session, SessionFault> {
+    match tree(alloc) {
+        Ok(tree) => Session::new(alloc, script, tree),
+        Err(_) => Err(SessionFault::Memory),
+    }
+}
+
+/// Whether three further calls answer as the last.
+fn stays(alloc: Global, session: &mut Session, end: &End) -> bool {
+    for _ in 0..3 {
+        match (session.next(alloc), end) {
+            (Ok(Want::Done), End::Done) => {}
+            (Err(SessionFault::Memory), End::Memory) => {}
+            _ => return false,
+        }
+    }
+    true
+}
+
+/// Goes through a session: its outputs, joined, are the transcript, or, where memory is refused, a prefix of it.
+fn played(alloc: Global, row: &Row) -> Option<End> {
+    let mut session = match session(alloc, row.script) {
+        Ok(session) => session,
+        Err(SessionFault::Memory) => return Some(End::Memory),
+        Err(_) => return None,
+    };
+    let mut left = row.transcript;
+    for _ in 0..1000 {
+        match session.next(alloc) {
+            Ok(Want::Output(part)) => left = left.strip_prefix(part.as_slice())?,
+            Ok(Want::Done) => {
+                let is_end = left.is_empty() && stays(alloc, &mut session, &End::Done);
+                return if is_end { Some(End::Done) } else { None };
+            }
+            Err(_) => {
+                let is_end = stays(alloc, &mut session, &End::Memory);
+                return if is_end { Some(End::Memory) } else { None };
+            }
+        }
+    }
+    None
+}
+
+fn rows<'a>() -> [Row<'a>; 5] {
+    [
+        Row {
+            script: b"user alice 1000 1000\nroot put /motd Welcome\\n\nalice cat /motd\nalice ls /\n",
+            transcript: b"root$ put /motd Welcome\\n\nalice$ cat /motd\nWelcome\nalice$ ls /\nmotd\n",
+        },
+        Row {
+            script: b"user alice 1000 1000\nalice cat\nalice cat -- /motd\nalice ls -z /\nalice put /a\n",
+            transcript: b"alice$ cat\nusage\nalice$ cat -- /motd\nusage\nalice$ ls -z /\nusage\nalice$ put /a\nusage\n",
+        },
+        Row {
+            script: b"# nothing here\n\n   \nuser guest - -\n  guest   cat  /none  \nguest put /a x\nroot put a b\\\\\\sc\nguest cat /a",
+            transcript: b"guest$ cat  /none\nENOENT\nguest$ put /a x\nEACCES\nroot$ put a b\\\\\\sc\nguest$ cat /a\nb\\ c\n",
+        },
+        Row {
+            script: b"root put /a long\nroot put /a s\nroot cat /a\nroot ls /a\nroot cat /\nroot put / x\nroot ls /\n",
+            transcript: b"root$ put /a long\nroot$ put /a s\nroot$ cat /a\ns\nroot$ ls /a\nENOTDIR\nroot$ cat /\nEISDIR\nroot$ put / x\nEISDIR\nroot$ ls /\na\n",
+        },
+        Row {
+            script: b"",
+            transcript: b"",
+        },
+    ]
+}
+
+#[test]
+fn sessions_give_the_transcript(rt: HostRuntime) -> Result<(), Fail> {
+    let mut refused = 0u32;
+    for row in &rows() {
+        for _ in 0..2 {
+            match played(rt.alloc(), row) {
+                Some(End::Done) => {}
+                Some(End::Memory) => refused = refused.saturating_add(1),
+                None => assert!(rt; false, "a session strays from its transcript"),
+            }
+        }
+    }
+    assert!(rt; refused <= 1, "{refused} sessions found no memory");
+    Ok(())
+}
+
+#[test]
+fn bad_scripts_are_refused_at_their_line(rt: HostRuntime) -> Result<(), Fail> {
+    let rows = [
+        (b"carol ls /".as_slice(), 1),
+        (b"root ls /\nroot put /a b\\q\n".as_slice(), 2),
+    ];
+    for (script, wanted) in rows {
+        let mut line = None;
+        for _ in 0..2 {
+            if let Err(SessionFault::BadScript { line: bad }) = session(rt.alloc(), script) {
+                line = Some(bad);
+            }
+        }
+        assert_eq!(rt; line, Some(wanted));
+    }
+    Ok(())
+}

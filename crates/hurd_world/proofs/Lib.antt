@@ -1,0 +1,4 @@
+pub mod CallLaws
+pub mod RunLaws
+pub mod BootLaws
+pub mod FirstWorld

@@ -1,0 +1,56 @@
+-- The first world.
+use Rattle.std.specs.Prelude.{ℕ, ◌+◌, if◌then◌else◌, List, [], ◌∷◌, length, nat_le, Result, Ok, Err}
+use Rattle.std.specs.FinMap as fin
+use Rattle.hurd_creds.specs.declared.errno.Errno.{Errno}
+use Rattle.hurd_creds.specs.declared.errno.Errno.TheVariants.{EINVAL}
+use Rattle.hurd_creds.specs.declared.open_flags.OpenFlags.{OpenFlags}
+use Rattle.hurd_creds.specs.Access.{IdSets}
+use Rattle.hurd_creds.specs.Names.{name_of}
+use Rattle.hurd_trans_iface.specs.Meaning.{Meaning}
+use Rattle.hurd_nodes.specs.Shown.{half_of, booted, boot_name}
+use Rattle.hurd_ports.specs.Tables.{Task, OpenMap, PortsHalf}
+use Rattle.hurd_ports.specs.Steps.{new_open}
+use Rattle.hurd_machine.specs.World.{World, world_from}
+
+-- the most tasks of a world
+abbrev pub most_tasks : ℕ
+most_tasks = 64
+
+-- EINVAL for more tasks than that
+abbrev pub boot_of : List IdSets → Result (Unit {0}) Errno
+boot_of tasks = if nat_le (length tasks) most_tasks then Ok tt else Err EINVAL
+
+-- an open without modes
+abbrev pub closed_open : OpenFlags
+closed_open = record { 0 = 0 }
+
+-- task t with port 1, the root, and port 2, the working directory: both on the boot root, each with an open of its own
+abbrev pub boot_task : ℕ → IdSets → Task
+boot_task t ids = record {
+  ids = ids;
+  ports =
+      record { number = 1; right = record { node = boot_name; ids = ids; open_name = name_of t 0 } }
+      ∷ record { number = 2; right = record { node = boot_name; ids = ids; open_name = name_of t 1 } }
+      ∷ [];
+  next = 3;
+  made = 2;
+}
+
+-- the tasks from number t on
+abbrev pub boot_tasks : ℕ → List IdSets → List Task
+boot_tasks t [] = []
+boot_tasks t (ids ∷ more) = boot_task t ids ∷ boot_tasks (t + 1) more
+
+-- with the two opens of each task from number t on
+abbrev pub boot_opens : ℕ → List IdSets → OpenMap → OpenMap
+boot_opens t [] m = m
+boot_opens t (ids ∷ more) m =
+    boot_opens (t + 1) more (fin.insert (fin.insert m (name_of t 0) (new_open closed_open)) (name_of t 1) (new_open closed_open))
+
+-- the tables of tasks of these ids
+abbrev pub boot_ports : List IdSets → PortsHalf
+boot_ports tasks = record { opens = boot_opens 0 tasks fin.empty; tasks = boot_tasks 0 tasks }
+
+-- the world that a boot server of this meaning and tasks of these ids begin
+abbrev pub first_world : Meaning → List IdSets → World
+first_world m tasks = world_from (half_of (booted m)) (boot_ports tasks)

@@ -1,0 +1,17 @@
+//! The world: calls of tasks, one at a time or in lists.
+//!
+//! `World::boot` begins a world of tasks over a boot server, `World::call` makes one call of a task, `World::run` a list of
+//! calls. Replies and worlds are those of the written machine (`hurd_laws/specs/Step`), and what a set of tasks is told
+//! depends only on what it sees (`docs/ISOLATION.md`).
+//!
+//! It keeps no history and prints nothing: scripts are `hurd_shell`'s.
+#![tactic(auto)]
+
+mod boot;
+mod boxed;
+mod world;
+
+pub use boxed::run_boxed;
+pub use hurd_laws::{changes_touched, isolated, others_unseen, own_from_view, stays_sound};
+pub use hurd_machine::{Call, Lookup, Reply};
+pub use world::{MOST_TASKS, World};
