@@ -43,7 +43,8 @@ pub fn file_set_size<S: Server>(
     size: u64,
 ) -> Result<(), Errno>
     ensures { let w = world_from (shown S.meaning nodes.old) ports.now in
-        Planned false w task.0 (plan_set_size w task.0 port size) (replied (λ u. reply.Done) result) (world_from (shown S.meaning nodes.new) ports.now) }
+        Planned false w task.0 (plan_set_size w task.0 port size) (replied (λ u. reply.Done) result)
+        (world_from (shown S.meaning nodes.new) ports.now) }
 {
     let node = set_size_asked(nodes, ports, task, port)?;
     nodes.set_size(node, size)

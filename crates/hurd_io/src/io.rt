@@ -66,8 +66,8 @@ fn read_asked<S: Server>(
     }
 }
 
-/// Reads at most `amount` bytes, and no more than 65,536, from what a port has open: from `offset` on, or from the cursor, which moves
-/// past them, where that is -1 (`io.defs`).
+/// Reads at most `amount` bytes, and no more than 65,536, from what a port has open: from `offset` on, or from the
+/// cursor, which moves past them, where that is -1 (`io.defs`).
 ///
 /// Errors, in order: `ESRCH` no such task, `EBADF` no such port, or not opened to read, `EDIED` no such node, `EISDIR`,
 /// `EINVAL` an offset below -1, `ENOMEM`.
@@ -81,7 +81,8 @@ pub fn io_read<S: Server>(
     offset: i64,
 ) -> Result<Bytes, Errno>
     ensures { let w = world_from (shown S.meaning nodes.now) ports.old in
-        Planned false w task.0 (plan_read w task.0 port amount offset) (replied Data result) (world_from (shown S.meaning nodes.now) ports.new) }
+        Planned false w task.0 (plan_read w task.0 port amount offset) (replied Data result)
+        (world_from (shown S.meaning nodes.now) ports.new) }
 {
     let out = read_asked(alloc, nodes, ports, task, port, amount, offset)?;
     let place = place::past(out.at, out.bytes.len());
@@ -125,8 +126,9 @@ fn write_asked<S: Server>(
     }
 }
 
-/// Writes bytes to what a port has open, and answers how many: at `offset`, or at the cursor, which moves past them, where that
-/// is -1. A gap becomes zero bytes; no data grows nothing (`io.defs`).
+/// Writes bytes to what a port has open, and answers how many: at `offset`, or at the cursor, which moves past them,
+/// where that is -1. With `APPEND` the cursor is first set to the size. A gap becomes zero bytes; no data grows nothing
+/// (`io.defs`).
 ///
 /// Errors, in order: `ESRCH` no such task, `EBADF` no such port, or not opened to write, `EDIED` no such node, `EINVAL` an
 /// offset below -1, `EFBIG` an end past 16,777,216, `ENOMEM`.
@@ -139,7 +141,8 @@ pub fn io_write<S: Server>(
     offset: i64,
 ) -> Result<u64, Errno>
     ensures { let w = world_from (shown S.meaning nodes.old) ports.old in
-        Planned false w task.0 (plan_write w task.0 port bytes.now offset) (replied Count result) (world_from (shown S.meaning nodes.new) ports.new) }
+        Planned false w task.0 (plan_write w task.0 port bytes.now offset) (replied Count result)
+        (world_from (shown S.meaning nodes.new) ports.new) }
 {
     let to = write_asked(nodes, ports, task, port, offset)?;
     let count = nodes.write(to.node, to.at, bytes)?;

@@ -68,7 +68,8 @@ fn walk_asked<'a, S: Server>(
     path: &'a [u8],
     flags: OpenFlags,
 ) -> Result<(Ids, WalkEnd<'a>), Errno>
-    ensures { MeetsEarly (walk_asks (world_from (shown S.meaning nodes.now) ports.now) task.0 dir path.entry.now flags) (walked_by result) }
+    ensures { let w = world_from (shown S.meaning nodes.now) ports.now in
+        MeetsEarly (walk_asks w task.0 dir path.entry.now flags) (walked_by result) }
 {
     let start = start_asked(alloc, nodes, ports, task, dir)?;
     let names = match path::names_in(alloc, path) {
@@ -84,17 +85,18 @@ fn walk_asked<'a, S: Server>(
     Ok((ids, end))
 }
 
-/// Looks a path up from a directory that a port names, and opens what it comes to, or makes a file there (GNU Hurd Reference
-/// Manual, Files; `fs.defs`).
+/// Looks a path up from a directory that a port names, and opens what it comes to, or makes a file there (GNU Hurd
+/// Reference Manual, Files; `fs.defs`).
 ///
-/// The names are the parts between slashes, but empty ones; a path has at most 1,024 bytes, a name 255. A file that is made
-/// belongs to the least uid, and to its directory's group; it is opened without a test of its mode.
+/// The names are the parts between slashes, but empty ones; a path has at most 1,024 bytes, a name 255. A file that is
+/// made belongs to the least uid, and to its directory's group; it is opened without a test of its mode.
 ///
 /// Errors, in order: `ESRCH` no such task, `EBADF` no such port, `EDIED` no such node, `ENAMETOOLONG`. Then at each name
-/// `EDIED`, `ENOTDIR` no directory, `EACCES` the ids may not search it, `ENOENT` no such entry, and it is not to be made, or `..`
-/// in a removed directory. Then of a node that is there `EEXIST` with `CREATE` and `EXCL`, `EDIED`, `ENOTDIR` a directory is
-/// asked for, `EISDIR` to write a directory, `EACCES`; of one to be made `EACCES` the ids may not write the directory, or have
-/// no uids, `ENOENT` a removed directory. Last `EOVERFLOW`; `ENOMEM` may come at any moment. A refused call changes nothing.
+/// `EDIED`, `ENOTDIR` no directory, `EACCES` the ids may not search it, `ENOENT` no such entry, and it is not to be made,
+/// or `..` in a removed directory. Then of a node that is there `EEXIST` with `CREATE` and `EXCL`, `EDIED`, `ENOTDIR` a
+/// directory is asked for, `EISDIR` to write a directory, `EACCES`; of one to be made `EACCES` the ids may not write the
+/// directory, or have no uids, `ENOENT` a removed directory. Last `EOVERFLOW`; `ENOMEM` may come at any moment. A refused
+/// call changes nothing.
 pub fn dir_lookup<S: Server>(
     alloc: Global,
     nodes: &mut Nodes<S>,

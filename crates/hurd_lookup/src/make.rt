@@ -36,7 +36,8 @@ fn is_removed<S: Server>(nodes: &Nodes<S>, dir: NodeName, attrs: &Attrs) -> bool
 /// directory.
 #[tactic(auto, unfolding(hurd_machine::specs::Plan::on, hurd_machine::specs::Plan::given))]
 fn make_asked<S: Server>(nodes: &Nodes<S>, ids: &Ids, dir: NodeName) -> Result<MakeAt, Errno>
-    ensures { (h : PortsHalf) (name : List ℕ) → makes ids.now dir name result ≡ make_asks (world_from (shown S.meaning nodes.now) h) ids.now dir name }
+    ensures { (h : PortsHalf) (name : List ℕ) → let w = world_from (shown S.meaning nodes.now) h in
+        makes ids.now dir name result ≡ make_asks w ids.now dir name }
 {
     let Some(attrs) = nodes.attrs(dir) else {
         return Err(Errno::EDIED);

@@ -46,7 +46,8 @@ fn open_asked<S: Server>(
     wants_dir: bool,
     node: NodeName,
 ) -> Result<(), Errno>
-    ensures { (h : PortsHalf) → opens ids.now node result ≡ open_asks (world_from (shown S.meaning nodes.now) h) ids.now flags wants_dir node }
+    ensures { (h : PortsHalf) → let w = world_from (shown S.meaning nodes.now) h in
+        opens ids.now node result ≡ open_asks w ids.now flags wants_dir node }
 {
     let Some(attrs) = nodes.attrs(node) else {
         return Err(Errno::EDIED);

@@ -45,7 +45,8 @@ fn step_by<S: Server>(
     attrs: &Attrs,
     name: &[u8],
 ) -> Result<Step, Errno>
-    ensures { (h : PortsHalf) → result ≡ step_by (world_from (shown S.meaning nodes.now) h) dir (header_in attrs.now) name.now }
+    ensures { (h : PortsHalf) → let w = world_from (shown S.meaning nodes.now) h in
+        result ≡ step_by w dir (header_in attrs.now) name.now }
 {
     if name == b".".as_slice() {
         return Ok(Step::There(dir));
@@ -61,7 +62,8 @@ fn step_by<S: Server>(
 
 /// Looks one name up in a node, by a port's ids.
 ///
-/// Errors, in order: `EDIED` no such node, `ENOTDIR`, `EACCES` the ids may not search it, `ENOENT` `..` in a removed directory.
+/// Errors, in order: `EDIED` no such node, `ENOTDIR`, `EACCES` the ids may not search it, `ENOENT` for `..` in a removed
+/// directory.
 #[tactic(auto, unfolding(hurd_machine::specs::Plan::on, hurd_machine::specs::Plan::given))]
 fn step_asked<S: Server>(
     nodes: &Nodes<S>,
@@ -124,7 +126,8 @@ pub(crate) fn walk<'a, S: Server>(
     start: NodeName,
     names: &[&'a [u8]],
 ) -> Result<WalkEnd<'a>, Errno>
-    ensures { (h : PortsHalf) → walked result ≡ walk (world_from (shown S.meaning nodes.now) h) ids.now flags wants_dir start (map (λ name. name.now) names.now) }
+    ensures { (h : PortsHalf) → let w = world_from (shown S.meaning nodes.now) h in
+        walked result ≡ walk w ids.now flags wants_dir start (map (λ name. name.now) names.now) }
 {
     let mut here = start;
     for (i, name) in names.iter().enumerate() {

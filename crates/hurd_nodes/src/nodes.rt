@@ -103,7 +103,8 @@ impl<S: Server> Nodes<S> {
     ///
     /// Errors, in order: `EDIED` no such node, `EBADF` a directory, `EFBIG`, `ENOMEM`.
     pub fn write(&mut self, node: NodeName, at: u64, bytes: &[u8]) -> Result<u64, Errno>
-        ensures { Steps (shown S.meaning self.old) (half_write node at bytes.now (shown S.meaning self.old)) result (shown S.meaning self.new) }
+        ensures { let h = shown S.meaning self.old in
+            Steps h (half_write node at bytes.now h) result (shown S.meaning self.new) }
     {
         self.boot.write(node, at, bytes)
     }
@@ -112,7 +113,8 @@ impl<S: Server> Nodes<S> {
     ///
     /// Errors, in order: `EDIED` no such node, `EFBIG`, `EBADF` a directory, `ENOMEM`.
     pub fn set_size(&mut self, node: NodeName, size: u64) -> Result<(), Errno>
-        ensures { Steps (shown S.meaning self.old) (half_set_size node size (shown S.meaning self.old)) result (shown S.meaning self.new) }
+        ensures { let h = shown S.meaning self.old in
+            Steps h (half_set_size node size h) result (shown S.meaning self.new) }
     {
         self.boot.set_size(node, size)
     }
@@ -127,7 +129,8 @@ impl<S: Server> Nodes<S> {
         name: &[u8],
         new: NewNode,
     ) -> Result<(), Errno>
-        ensures { Steps (shown S.meaning self.old) (half_make dir name.now new (shown S.meaning self.old)) result (shown S.meaning self.new) }
+        ensures { let h = shown S.meaning self.old in
+            Steps h (half_make dir name.now new h) result (shown S.meaning self.new) }
     {
         self.boot.make(alloc, dir, name, new)
     }

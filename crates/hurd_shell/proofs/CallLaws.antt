@@ -1,5 +1,5 @@
 -- A call that was not refused for want of memory is the machine's step.
-use Rattle.std.proofs.Common.{◌≡◌, ◌⊎◌, inl, inr, ℕ, Bool, true, false, cond, Option, Some, None, refl, sym, ◌∙◌, ap, subst}
+use Rattle.std.proofs.Common.{◌≡◌, ◌⊎◌, inl, inr, ℕ, Bool, true, false, cond, Option, Some, None, refl, sym, ◌∙◌, ap}
 use Rattle.std.specs.FinMap as fin
 use Rattle.hurd_creds.specs.declared.errno.Errno.{Errno}
 use Rattle.hurd_creds.specs.declared.errno.Errno.TheVariants.{ENOMEM}
@@ -7,14 +7,14 @@ use Rattle.hurd_creds.specs.declared.name.Name.{Name}
 use Rattle.hurd_creds.specs.Memory.{is_no_memory}
 use Rattle.hurd_creds.proofs.NameLaws.{name_exact, same_map_by}
 use Rattle.hurd_ports.specs.declared.table.Opened.{Opened}
-use Rattle.hurd_ports.specs.Tables.{OpenMap, IsSettled, is_held}
+use Rattle.hurd_ports.specs.Tables.{OpenMap, is_held}
 use Rattle.hurd_machine.specs.declared.call.Call.{Call}
 use Rattle.hurd_machine.specs.declared.call.Reply.{Reply}
 use Rattle.hurd_machine.specs.declared.call.Reply.TheVariants.{Done, Found, Data, Count, Names, Refused}
-use Rattle.hurd_machine.specs.World.{World, ports_of}
+use Rattle.hurd_machine.specs.World.{World}
 use Rattle.hurd_machine.specs.Plan.{Plan, Planned, after_plan, refuse, settle}
 use Rattle.hurd_machine.specs.Sound.{Sound}
-use Rattle.hurd_laws.specs.Step.{plan, reply_of, after}
+use Rattle.hurd_laws.specs.Step.{plan}
 use Rattle.hurd_world.specs.Held.{result_of}
 use Rattle.hurd_shell.specs.Progress.{Made, lacks_memory}
 

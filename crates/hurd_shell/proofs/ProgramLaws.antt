@@ -1,16 +1,15 @@
 -- A program by its calls.
-use Rattle.std.proofs.Common.{◌≡◌, ◌≤◌, inl, inr, ℕ, zero, suc, ◌-◌, ◌<◌, ◌++◌, ◌==◌, true, false, true≢false, negsuc, List, [], ◌∷◌, length, Option, Some, None, Result, Ok, Err, refl, sym, ◌∙◌, ap, ap₂, subst, arith}
+use Rattle.std.proofs.Common.{◌≡◌, ◌≤◌, inl, inr, ℕ, zero, suc, ◌-◌, ◌<◌, ◌++◌, ◌==◌, true, false, true≢false, negsuc, List, [], ◌∷◌, length, Some, None, Result, Ok, Err, refl, sym, ◌∙◌, ap₂, arith}
 use Rattle.std.proofs.lemmas.Bool.Decides.{eqb_tells}
 use Rattle.hurd_creds.specs.declared.errno.Errno.{Errno}
 use Rattle.hurd_machine.specs.declared.call.Call.{Call}
 use Rattle.hurd_machine.specs.declared.call.Call.TheVariants.{PortDeallocate, IoRead}
 use Rattle.hurd_machine.specs.declared.call.Reply.{Reply}
 use Rattle.hurd_machine.specs.World.{World}
-use Rattle.hurd_machine.specs.Sound.{Sound}
 use Rattle.hurd_laws.specs.Step.{reply_of, after}
 use Rattle.hurd_shell.specs.declared.commands.Printed.{Printed}
-use Rattle.hurd_shell.specs.Programs.{Program, ends, calls, Outcome, go, data_of}
-use Rattle.hurd_shell.specs.Commands.{close, cat_from, cat_read, stop}
+use Rattle.hurd_shell.specs.Programs.{Program, ends, calls, go, data_of}
+use Rattle.hurd_shell.specs.Commands.{close, cat_from, cat_read}
 use Rattle.hurd_shell.specs.Progress.{Made, Ran}
 
 pub go-calls : (t : ℕ) (c : Call) (k : Reply → Program) (w : World) → go t (calls c k) w ≡ go t (k (reply_of w t c)) (after w t c)
@@ -30,8 +29,8 @@ pub ran_call : {A : Type 0} (t : ℕ) (c : Call) (read : Reply → A) (k : A →
     → Made t c w read got x → Ran t (k got) x printed y → Ran t (calls c (λ r. k (read r))) w printed y
 ran_call {A} t c read k w x y got printed made ran = record {
   goes = λ s.
-    go-calls t c (λ r. k (read r)) w
-    ∙ (ap₂ (λ (a : A) (v : World). go t (k a) v) (sym (made.reply s)) (sym (made.world s)) ∙ ran.goes (made.sound s));
+      go-calls t c (λ r. k (read r)) w
+      ∙ (ap₂ (λ (a : A) (v : World). go t (k a) v) (sym (made.reply s)) (sym (made.world s)) ∙ ran.goes (made.sound s));
   sound = λ s. ran.sound (made.sound s);
 }
 

@@ -1,5 +1,5 @@
 -- What each command does.
-use Rattle.std.specs.Prelude.{◌≡◌, ℕ, zero, suc, negsuc, ◌==◌, Bool, true, false, not, ◌||◌, ◌&&◌, if◌then◌else◌, List, [], ◌∷◌, ◌++◌, codes, filter, Option, Some, None, Result, Ok, Err}
+use Rattle.std.specs.Prelude.{ℕ, zero, suc, negsuc, ◌==◌, Bool, not, ◌||◌, if◌then◌else◌, List, [], ◌∷◌, ◌++◌, codes, filter, Option, Some, None, Result, Ok, Err}
 use Rattle.hurd_creds.specs.declared.errno.Errno.{Errno}
 use Rattle.hurd_creds.specs.declared.mode.Mode.{Mode}
 use Rattle.hurd_creds.specs.declared.open_flags.OpenFlags.{OpenFlags}
@@ -7,7 +7,6 @@ use Rattle.hurd_trans_iface.specs.Answers.{same_bytes}
 use Rattle.hurd_machine.specs.declared.call.Call.TheVariants.{PortDeallocate, DirLookup, IoRead, IoWrite, FileSetSize, DirReaddir}
 use Rattle.hurd_script.specs.declared.command.Action.{Action}
 use Rattle.hurd_script.specs.declared.command.Action.TheVariants.{Cat, Ls, Put, Usage}
-use Rattle.hurd_shell.specs.declared.commands.Printed.{Printed}
 use Rattle.hurd_shell.specs.Programs.{Program, ends, calls, port_of, data_of, names_of, done_of}
 
 -- the end of a command: its output, and the refusal if a call was refused

@@ -9,7 +9,7 @@ use Rattle.hurd_machine.specs.Sound.{Sound}
 use Rattle.hurd_laws.specs.Step.{reply_of, after}
 use Rattle.hurd_script.specs.Commands.{CommandLine}
 use Rattle.hurd_shell.specs.declared.commands.Printed.{Printed}
-use Rattle.hurd_shell.specs.Programs.{Program, Outcome, go}
+use Rattle.hurd_shell.specs.Programs.{Program, go}
 use Rattle.hurd_shell.specs.Transcript.{outcome_of, part_of}
 
 abbrev pub lacks_memory : Reply → Bool

@@ -1,47 +1,19 @@
 -- A session: a script on its way.
-use Rattle.std.specs.Prelude.{◌≡◌, ◌⊎◌, ℕ, ◌+◌, zero, suc, Bool, true, false, List, [], ◌∷◌, take, length, slice_get, Option, Some, None, Result, Ok, Err, refl}
+use Rattle.std.specs.Prelude.{◌≡◌, ℕ, ◌+◌, Bool, true, false, List, take, length, slice_get, Some, None, Result, Ok, Err, refl}
 use Rattle.std.specs.Coded.{Coded, code_by, coded×, coded_ℕ, coded_bool, coded_list}
-use Rattle.hurd_creds.specs.declared.errno.Errno.{Errno}
 use Rattle.hurd_trans_iface.specs.Meaning.{Meaning}
 use Rattle.hurd_machine.specs.World.{World}
 use Rattle.hurd_machine.specs.Sound.{Sound}
 use Rattle.hurd_script.specs.Commands.{CommandLine}
 use Rattle.hurd_script.specs.Script.{bad, users_of}
-use Rattle.hurd_script.specs.declared.command.Verb.{Verb}
-use Rattle.hurd_script.specs.declared.command.Verb.TheVariants.{Cat, Ls, Put}
 use Rattle.hurd_world.specs.Boot.{boot_of}
 use Rattle.hurd_world.specs.Held.{Both, coded_both, world_of}
+use Rattle.hurd_shell.specs.Codes.{coded_line}
 use Rattle.hurd_shell.specs.Transcript.{parts_of, world_after}
 use Rattle.hurd_shell.specs.declared.session.Want.{Want}
 use Rattle.hurd_shell.specs.declared.session.Want.TheVariants.{Output, Done}
 use Rattle.hurd_shell.specs.declared.fault.SessionFault.{SessionFault}
 use Rattle.hurd_shell.specs.declared.fault.SessionFault.TheVariants.{BadScript, Boot, Memory}
-
--- a verb is stored as a number
-abbrev pub number_of : Verb → ℕ
-number_of Cat = 0
-number_of Ls = 1
-number_of Put = 2
-
-abbrev pub verb_at : ℕ → Verb
-verb_at zero = Cat
-verb_at (suc zero) = Ls
-verb_at (suc (suc n)) = Put
-
-abbrev pub verb_back : (v : Verb) → verb_at (number_of v) ≡ v
-verb_back Cat = refl
-verb_back Ls = refl
-verb_back Put = refl
-
--- a command line is stored as the tuple of its fields
-abbrev pub coded_line : Coded CommandLine
-coded_line =
-    code_by
-        (ℕ × (List ℕ × (Verb × List (List ℕ))))
-        (coded× coded_ℕ (coded× (coded_list coded_ℕ) (coded× (code_by ℕ coded_ℕ number_of verb_at verb_back) (coded_list (coded_list coded_ℕ)))))
-        (λ c. (c.task, (c.header, (c.verb, c.words))))
-        (λ p. record { task = p.0; header = p.1.0; verb = p.1.1.0; words = p.1.1.1 })
-        (λ _. refl)
 
 -- the world, the commands, how many outputs were given, and whether memory was refused
 pub record View (S : Type 0) : Type 0 where
@@ -54,11 +26,11 @@ pub record View (S : Type 0) : Type 0 where
 abbrev pub coded_view : {S : Type 0} → Coded S → Coded (View S)
 coded_view {S} c =
     code_by
-        (Both S × (List CommandLine × (ℕ × Bool)))
-        (coded× (coded_both c) (coded× (coded_list coded_line) (coded× coded_ℕ coded_bool)))
-        (λ s. (s.world, (s.commands, (s.given, s.failed))))
-        (λ p. record { world = p.0; commands = p.1.0; given = p.1.1.0; failed = p.1.1.1 })
-        (λ _. refl)
+    (Both S × (List CommandLine × (ℕ × Bool)))
+    (coded× (coded_both c) (coded× (coded_list coded_line) (coded× coded_ℕ coded_bool)))
+    (λ s. (s.world, (s.commands, (s.given, s.failed))))
+    (λ p. record { world = p.0; commands = p.1.0; given = p.1.1.0; failed = p.1.1.1 })
+    (λ _. refl)
 
 -- the session goes through its commands from the world `first`: unless memory was refused, its world is the one after the
 -- outputs given, and hangs together

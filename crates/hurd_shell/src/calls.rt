@@ -35,8 +35,14 @@ fn lacks_memory(reply: &Reply) -> bool
 }
 
 /// Makes a call of a task.
-fn made<S: Server>(world: &mut World<S>, alloc: Global, task: TaskId, call: Call) -> Result<Reply, NoMemory>
-    ensures { IfOk result (λ reply. Made task.0 call (world_of S.meaning world.old) (λ r. r) reply (world_of S.meaning world.new)) }
+fn made<S: Server>(
+    world: &mut World<S>,
+    alloc: Global,
+    task: TaskId,
+    call: Call,
+) -> Result<Reply, NoMemory>
+    ensures { IfOk result (λ reply. Made task.0 call
+        (world_of S.meaning world.old) (λ r. r) reply (world_of S.meaning world.new)) }
 {
     let reply = world.call(alloc, task, call);
     if lacks_memory(&reply) {
@@ -107,49 +113,100 @@ fn file_mode() -> Mode
 }
 
 /// Gives up a port.
-pub(crate) fn deallocate<S: Server>(world: &mut World<S>, alloc: Global, task: TaskId, port: u64) -> Result<(), NoMemory>
-    ensures { IfOk result (λ u. Made task.0 (Call.PortDeallocate port) (world_of S.meaning world.old) (λ r. tt) u (world_of S.meaning world.new)) }
+pub(crate) fn deallocate<S: Server>(
+    world: &mut World<S>,
+    alloc: Global,
+    task: TaskId,
+    port: u64,
+) -> Result<(), NoMemory>
+    ensures { IfOk result (λ u. Made task.0 (Call.PortDeallocate port)
+        (world_of S.meaning world.old) (λ r. tt) u (world_of S.meaning world.new)) }
 {
     let _reply = made(world, alloc, task, Call::PortDeallocate { port })?;
     Ok(())
 }
 
 /// Opens what a path leads to.
-pub(crate) fn look_up<S: Server>(world: &mut World<S>, alloc: Global, task: TaskId, path: Bytes, flags: OpenFlags) -> Result<Result<u64, Errno>, NoMemory>
-    ensures { IfOk result (λ port. Made task.0 (Call.DirLookup (start_of path) path flags file_mode) (world_of S.meaning world.old) port_of port (world_of S.meaning world.new)) }
+pub(crate) fn look_up<S: Server>(
+    world: &mut World<S>,
+    alloc: Global,
+    task: TaskId,
+    path: Bytes,
+    flags: OpenFlags,
+) -> Result<Result<u64, Errno>, NoMemory>
+    ensures { IfOk result (λ port. Made task.0 (Call.DirLookup (start_of path) path flags file_mode)
+        (world_of S.meaning world.old) port_of port (world_of S.meaning world.new)) }
 {
     let dir = start_of(path.as_slice());
-    let call = Call::DirLookup { dir, path, flags, mode: file_mode() };
+    let call = Call::DirLookup {
+        dir,
+        path,
+        flags,
+        mode: file_mode(),
+    };
     Ok(port_of(made(world, alloc, task, call)?))
 }
 
 /// Reads a file from the cursor on.
-pub(crate) fn read<S: Server>(world: &mut World<S>, alloc: Global, task: TaskId, port: u64) -> Result<Result<Bytes, Errno>, NoMemory>
-    ensures { IfOk result (λ bytes. Made task.0 (Call.IoRead port 65536 (negsuc 0)) (world_of S.meaning world.old) data_of bytes (world_of S.meaning world.new)) }
+pub(crate) fn read<S: Server>(
+    world: &mut World<S>,
+    alloc: Global,
+    task: TaskId,
+    port: u64,
+) -> Result<Result<Bytes, Errno>, NoMemory>
+    ensures { IfOk result (λ bytes. Made task.0 (Call.IoRead port 65536 (negsuc 0))
+        (world_of S.meaning world.old) data_of bytes (world_of S.meaning world.new)) }
 {
-    let call = Call::IoRead { port, amount: READ_AMOUNT, offset: AT_CURSOR };
+    let call = Call::IoRead {
+        port,
+        amount: READ_AMOUNT,
+        offset: AT_CURSOR,
+    };
     Ok(data_of(made(world, alloc, task, call)?))
 }
 
 /// Writes to a file at the cursor.
-pub(crate) fn write<S: Server>(world: &mut World<S>, alloc: Global, task: TaskId, port: u64, bytes: Bytes) -> Result<Result<(), Errno>, NoMemory>
-    ensures { IfOk result (λ done. Made task.0 (Call.IoWrite port bytes (negsuc 0)) (world_of S.meaning world.old) done_of done (world_of S.meaning world.new)) }
+pub(crate) fn write<S: Server>(
+    world: &mut World<S>,
+    alloc: Global,
+    task: TaskId,
+    port: u64,
+    bytes: Bytes,
+) -> Result<Result<(), Errno>, NoMemory>
+    ensures { IfOk result (λ done. Made task.0 (Call.IoWrite port bytes (negsuc 0))
+        (world_of S.meaning world.old) done_of done (world_of S.meaning world.new)) }
 {
-    let call = Call::IoWrite { port, bytes, offset: AT_CURSOR };
+    let call = Call::IoWrite {
+        port,
+        bytes,
+        offset: AT_CURSOR,
+    };
     Ok(done_of(made(world, alloc, task, call)?))
 }
 
 /// Cuts a file to nothing.
-pub(crate) fn cut<S: Server>(world: &mut World<S>, alloc: Global, task: TaskId, port: u64) -> Result<Result<(), Errno>, NoMemory>
-    ensures { IfOk result (λ done. Made task.0 (Call.FileSetSize port 0) (world_of S.meaning world.old) done_of done (world_of S.meaning world.new)) }
+pub(crate) fn cut<S: Server>(
+    world: &mut World<S>,
+    alloc: Global,
+    task: TaskId,
+    port: u64,
+) -> Result<Result<(), Errno>, NoMemory>
+    ensures { IfOk result (λ done. Made task.0 (Call.FileSetSize port 0)
+        (world_of S.meaning world.old) done_of done (world_of S.meaning world.new)) }
 {
     let call = Call::FileSetSize { port, size: 0 };
     Ok(done_of(made(world, alloc, task, call)?))
 }
 
 /// The names in a directory.
-pub(crate) fn names<S: Server>(world: &mut World<S>, alloc: Global, task: TaskId, port: u64) -> Result<Result<Names, Errno>, NoMemory>
-    ensures { IfOk result (λ names. Made task.0 (Call.DirReaddir port) (world_of S.meaning world.old) names_of names (world_of S.meaning world.new)) }
+pub(crate) fn names<S: Server>(
+    world: &mut World<S>,
+    alloc: Global,
+    task: TaskId,
+    port: u64,
+) -> Result<Result<Names, Errno>, NoMemory>
+    ensures { IfOk result (λ names. Made task.0 (Call.DirReaddir port)
+        (world_of S.meaning world.old) names_of names (world_of S.meaning world.new)) }
 {
     let call = Call::DirReaddir { port };
     Ok(names_of(made(world, alloc, task, call)?))

@@ -54,16 +54,29 @@ fn finished(output: Vec<u8>) -> Printed
 }
 
 /// Gives up a port, and ends.
-fn close<S: Server>(world: &mut World<S>, alloc: Global, task: TaskId, port: u64, printed: Printed) -> Result<Printed, NoMemory>
-    ensures { IfOk result (λ p. Ran task.0 (written.close port printed.output printed.refusal) (world_of S.meaning world.old) p (world_of S.meaning world.new)) }
+fn close<S: Server>(
+    world: &mut World<S>,
+    alloc: Global,
+    task: TaskId,
+    port: u64,
+    printed: Printed,
+) -> Result<Printed, NoMemory>
+    ensures { IfOk result (λ p. Ran task.0 (written.close port printed.output printed.refusal)
+        (world_of S.meaning world.old) p (world_of S.meaning world.new)) }
 {
     calls::deallocate(world, alloc, task, port)?;
     Ok(printed)
 }
 
 /// Prints a file from the cursor on.
-fn pour<S: Server>(world: &mut World<S>, alloc: Global, task: TaskId, port: u64) -> Result<Printed, NoMemory>
-    ensures { IfOk result (λ p. Ran task.0 (written.cat_from 16 port []) (world_of S.meaning world.old) p (world_of S.meaning world.new)) }
+fn pour<S: Server>(
+    world: &mut World<S>,
+    alloc: Global,
+    task: TaskId,
+    port: u64,
+) -> Result<Printed, NoMemory>
+    ensures { IfOk result (λ p. Ran task.0 (written.cat_from 16 port [])
+        (world_of S.meaning world.old) p (world_of S.meaning world.new)) }
 {
     let mut output = Vec::new(alloc);
     let mut reads = MOST_READS;
@@ -89,8 +102,14 @@ fn pour<S: Server>(world: &mut World<S>, alloc: Global, task: TaskId, port: u64)
 }
 
 /// `cat NODE`: prints a file.
-fn cat<S: Server>(world: &mut World<S>, alloc: Global, task: TaskId, node: Bytes) -> Result<Printed, NoMemory>
-    ensures { IfOk result (λ p. Ran task.0 (written.cat node) (world_of S.meaning world.old) p (world_of S.meaning world.new)) }
+fn cat<S: Server>(
+    world: &mut World<S>,
+    alloc: Global,
+    task: TaskId,
+    node: Bytes,
+) -> Result<Printed, NoMemory>
+    ensures { IfOk result (λ p. Ran task.0 (written.cat node)
+        (world_of S.meaning world.old) p (world_of S.meaning world.new)) }
 {
     match calls::look_up(world, alloc, task, node, OpenFlags::READ)? {
         Ok(port) => pour(world, alloc, task, port),
@@ -107,7 +126,8 @@ fn is_shown(name: &Bytes) -> bool
 
 /// Prints a name that is shown.
 fn add_line(lines: &mut Vec<u8>, name: &Bytes) -> Result<(), AllocError>
-    ensures { OnOk result ((rest : List (List ℕ)) → lines.new.items ++ written.as_lines (filter written.is_shown rest) ≡ lines.old.items ++ written.as_lines (filter written.is_shown (name.now ∷ rest))) }
+    ensures { OnOk result ((rest : List (List ℕ)) → lines.new.items ++ written.as_lines (filter written.is_shown rest)
+        ≡ lines.old.items ++ written.as_lines (filter written.is_shown (name.now ∷ rest))) }
 {
     if is_shown(name) {
         lines.extend_from_slice(name.as_slice())?;
@@ -128,8 +148,14 @@ fn shown_lines(alloc: Global, names: &[Bytes]) -> Result<Vec<u8>, AllocError>
 }
 
 /// Prints the names in a directory.
-fn list<S: Server>(world: &mut World<S>, alloc: Global, task: TaskId, port: u64) -> Result<Printed, NoMemory>
-    ensures { IfOk result (λ p. Ran task.0 (calls (call.DirReaddir port) (λ r. written.listed port (names_of r))) (world_of S.meaning world.old) p (world_of S.meaning world.new)) }
+fn list<S: Server>(
+    world: &mut World<S>,
+    alloc: Global,
+    task: TaskId,
+    port: u64,
+) -> Result<Printed, NoMemory>
+    ensures { IfOk result (λ p. Ran task.0 (calls (call.DirReaddir port) (λ r. written.listed port (names_of r)))
+        (world_of S.meaning world.old) p (world_of S.meaning world.new)) }
 {
     match calls::names(world, alloc, task, port)? {
         Ok(names) => {
@@ -141,8 +167,14 @@ fn list<S: Server>(world: &mut World<S>, alloc: Global, task: TaskId, port: u64)
 }
 
 /// `ls NODE`: prints the names in a directory.
-fn ls<S: Server>(world: &mut World<S>, alloc: Global, task: TaskId, node: Bytes) -> Result<Printed, NoMemory>
-    ensures { IfOk result (λ p. Ran task.0 (written.ls node) (world_of S.meaning world.old) p (world_of S.meaning world.new)) }
+fn ls<S: Server>(
+    world: &mut World<S>,
+    alloc: Global,
+    task: TaskId,
+    node: Bytes,
+) -> Result<Printed, NoMemory>
+    ensures { IfOk result (λ p. Ran task.0 (written.ls node)
+        (world_of S.meaning world.old) p (world_of S.meaning world.new)) }
 {
     match calls::look_up(world, alloc, task, node, to_list())? {
         Ok(port) => list(world, alloc, task, port),
@@ -165,8 +197,15 @@ fn to_write() -> OpenFlags
 }
 
 /// Writes a file that was cut.
-fn fill<S: Server>(world: &mut World<S>, alloc: Global, task: TaskId, port: u64, text: Bytes) -> Result<Printed, NoMemory>
-    ensures { IfOk result (λ p. Ran task.0 (calls (call.IoWrite port text (negsuc 0)) (λ r. written.ended port (done_of r))) (world_of S.meaning world.old) p (world_of S.meaning world.new)) }
+fn fill<S: Server>(
+    world: &mut World<S>,
+    alloc: Global,
+    task: TaskId,
+    port: u64,
+    text: Bytes,
+) -> Result<Printed, NoMemory>
+    ensures { IfOk result (λ p. Ran task.0 (calls (call.IoWrite port text (negsuc 0)) (λ r. written.ended port (done_of r)))
+        (world_of S.meaning world.old) p (world_of S.meaning world.new)) }
 {
     match calls::write(world, alloc, task, port, text)? {
         Ok(()) => close(world, alloc, task, port, silent(alloc)),
@@ -175,8 +214,15 @@ fn fill<S: Server>(world: &mut World<S>, alloc: Global, task: TaskId, port: u64,
 }
 
 /// Writes a file anew.
-fn write_anew<S: Server>(world: &mut World<S>, alloc: Global, task: TaskId, port: u64, text: Bytes) -> Result<Printed, NoMemory>
-    ensures { IfOk result (λ p. Ran task.0 (calls (call.FileSetSize port 0) (λ r. written.cut port text (done_of r))) (world_of S.meaning world.old) p (world_of S.meaning world.new)) }
+fn write_anew<S: Server>(
+    world: &mut World<S>,
+    alloc: Global,
+    task: TaskId,
+    port: u64,
+    text: Bytes,
+) -> Result<Printed, NoMemory>
+    ensures { IfOk result (λ p. Ran task.0 (calls (call.FileSetSize port 0) (λ r. written.cut port text (done_of r)))
+        (world_of S.meaning world.old) p (world_of S.meaning world.new)) }
 {
     match calls::cut(world, alloc, task, port)? {
         Ok(()) => fill(world, alloc, task, port, text),
@@ -185,8 +231,15 @@ fn write_anew<S: Server>(world: &mut World<S>, alloc: Global, task: TaskId, port
 }
 
 /// `put NODE TEXT`: writes a file, and makes it where it isn't there.
-fn put<S: Server>(world: &mut World<S>, alloc: Global, task: TaskId, node: Bytes, text: Bytes) -> Result<Printed, NoMemory>
-    ensures { IfOk result (λ p. Ran task.0 (written.put node text) (world_of S.meaning world.old) p (world_of S.meaning world.new)) }
+fn put<S: Server>(
+    world: &mut World<S>,
+    alloc: Global,
+    task: TaskId,
+    node: Bytes,
+    text: Bytes,
+) -> Result<Printed, NoMemory>
+    ensures { IfOk result (λ p. Ran task.0 (written.put node text)
+        (world_of S.meaning world.old) p (world_of S.meaning world.new)) }
 {
     match calls::look_up(world, alloc, task, node, to_write())? {
         Ok(port) => write_anew(world, alloc, task, port, text),
@@ -195,8 +248,13 @@ fn put<S: Server>(world: &mut World<S>, alloc: Global, task: TaskId, node: Bytes
 }
 
 /// Makes a command.
-pub(crate) fn run<S: Server>(world: &mut World<S>, alloc: Global, command: &Command) -> Result<Printed, NoMemory>
-    ensures { IfOk result (λ p. Ran command.now.task (written.program_of (action_of command.now)) (world_of S.meaning world.old) p (world_of S.meaning world.new)) }
+pub(crate) fn run<S: Server>(
+    world: &mut World<S>,
+    alloc: Global,
+    command: &Command,
+) -> Result<Printed, NoMemory>
+    ensures { IfOk result (λ p. Ran command.now.task (written.program_of (action_of command.now))
+        (world_of S.meaning world.old) p (world_of S.meaning world.new)) }
 {
     let task = command.task();
     match command.action(alloc)? {

@@ -1,9 +1,9 @@
 //! A session.
-ghost use Rattle.std.specs.Prelude.{◌≡◌, true, false, None, IfOk, IfErr, Err};
+ghost use Rattle.std.specs.Prelude.{◌≡◌, true, false, None, IfOk, IfErr, Ok, Err};
 ghost use Rattle.hurd_trans_iface.specs.Meaning.{Begins};
 ghost use Rattle.hurd_machine.specs.World as machine;
 ghost use Rattle.hurd_script.specs.Script.{bad, users_of, commands_of};
-ghost use Rattle.hurd_world.specs.Boot.{first_world};
+ghost use Rattle.hurd_world.specs.Boot.{boot_of, first_world};
 ghost use Rattle.hurd_shell.specs.Session.{Follows, Tells, NewFault};
 
 use crate::fault::{NoMemory, SessionFault};
@@ -49,10 +49,13 @@ impl<S> Model for Session<S> {
 impl<S: Server> Session<S> {
     /// Reads a script and boots its world over a root server, which some words made. A refused call drops the server.
     ///
-    /// Errors, in order: `BadScript` with the line at which the script is bad, `Boot` with the world's refusal; `Memory` at any point.
+    /// Errors, in order: `BadScript` with the line at which the script is bad, `Boot` with the world's refusal; `Memory` at
+    /// any point.
     pub fn new(alloc: Global, script: &[u8], root: S) -> Result<Session<S>, SessionFault>
         requires { Begins (S.meaning root) }
-        ensures ok { IfOk result (λ s. (bad script.now ≡ None) × Follows S.meaning (first_world (S.meaning root) (users_of script.now)) s × (s.commands ≡ commands_of script.now) × (s.given ≡ 0) × (s.failed ≡ false)) }
+        ensures ok { IfOk result (λ s. (bad script.now ≡ None) × (boot_of (users_of script.now) ≡ Ok tt)
+            × Follows S.meaning (first_world (S.meaning root) (users_of script.now)) s
+            × (s.commands ≡ commands_of script.now) × (s.given ≡ 0) × (s.failed ≡ false)) }
         ensures err { IfErr result (λ e. NewFault script.now e) }
     {
         let Script { users, commands } = match parse_script(alloc, script) {
@@ -76,7 +79,8 @@ impl<S: Server> Session<S> {
     ///
     /// `Memory`, from then on at every call, where memory was refused.
     pub fn next(&mut self, alloc: Global) -> Result<Want, SessionFault>
-        ensures tells { (first : machine.World) → Follows S.meaning first self.old → Tells first self.old result self.new × Follows S.meaning first self.new }
+        ensures tells { (first : machine.World) → Follows S.meaning first self.old
+            → Tells first self.old result self.new × Follows S.meaning first self.new }
         ensures same { self.new.commands ≡ self.old.commands }
         ensures stays { self.old.failed ≡ true → (result ≡ Err SessionFault.Memory) × (self.new ≡ self.old) }
     {

@@ -46,7 +46,8 @@ fn add_refusal(part: &mut Vec<u8>, refusal: Option<Errno>) -> Result<(), AllocEr
 
 /// A command's line, its output, and the name of its refusal.
 fn written(alloc: Global, header: &[u8], printed: &Printed) -> Result<Bytes, AllocError>
-    ensures { IfOk result (λ part. part ≡ header.now ++ (ended_lines printed.now.output ++ refusal_line printed.now.refusal)) }
+    ensures { IfOk result (λ part. part
+        ≡ header.now ++ (ended_lines printed.now.output ++ refusal_line printed.now.refusal)) }
 {
     let mut part = Vec::from_slice(alloc, header)?;
     add_output(&mut part, printed.output.as_slice())?;
@@ -55,8 +56,13 @@ fn written(alloc: Global, header: &[u8], printed: &Printed) -> Result<Bytes, All
 }
 
 /// Makes a command, and gives its part of the transcript.
-pub(crate) fn part_of<S: Server>(world: &mut World<S>, alloc: Global, command: &Command) -> Result<Bytes, NoMemory>
-    ensures { IfOk result (λ part. Told command.now (world_of S.meaning world.old) part (world_of S.meaning world.new)) }
+pub(crate) fn part_of<S: Server>(
+    world: &mut World<S>,
+    alloc: Global,
+    command: &Command,
+) -> Result<Bytes, NoMemory>
+    ensures { IfOk result (λ part. Told command.now
+        (world_of S.meaning world.old) part (world_of S.meaning world.new)) }
 {
     let printed = run(world, alloc, command)?;
     Ok(written(alloc, command.header(), &printed)?)

@@ -9,7 +9,7 @@ returns-in_ok-lines-in-Ok g c =
     let made = rw c.in-Ok.is at c.in_ok-names.ensures in
     IfOk-weaker c.close.result _ _
     (λ p ran. ran_call _ _ names_of (listed c.args.port) _ _ _ _ p made
-        (rw (c.finished.ensures, c.in_ok-lines-in-Ok.ensures, c.as_slice.ensures) at ran))
+    (rw (c.finished.ensures, c.in_ok-lines-in-Ok.ensures, c.as_slice.ensures) at ran))
     c.close.ensures
 
 pub returns-in-Err : goal.returns-in-Err

@@ -14,5 +14,5 @@ returns-in-Ok-clause-tells g c =
     let in_range : inside.given < length inside.commands.items = omega (arith, c.len.ensures) in
     rw (← c.self.view_is)
     (λ first follows.
-        let next = next_part inside.commands.items inside.given _ first _ _ _ in_range c.index-command.ensures (follows.world c.if-self.false) (follows.sound c.if-self.false) c.in-Ok.ensures in
-        ((c.if-self.false, next.0, refl, c.if-self.false), record { world = λ _. next.1; sound = λ _. next.2 }))
+    let next = next_part inside.commands.items inside.given _ first _ _ _ in_range c.index-command.ensures (follows.world c.if-self.false) (follows.sound c.if-self.false) c.in-Ok.ensures in
+    ((c.if-self.false, next.0, refl, c.if-self.false), record { world = λ _. next.1; sound = λ _. next.2 }))

@@ -1,0 +1,33 @@
+//! Runs a script of several users' commands over a tree in memory, and prints its transcript.
+//!
+//! The script is read from standard input, the transcript is printed on standard output. Status 0 where all of it was
+//! printed; status 1 with the one line `hurd: line N: bad script`; status 2 with `hurd: cannot read`, `hurd: cannot write`,
+//! `hurd: out of memory` or `hurd: cannot boot: NAME` as the last line, as far as that can be written.
+#![tactic(auto)]
+
+mod ending;
+mod fault;
+mod print;
+mod read;
+mod run;
+#[cfg(test)]
+mod tests;
+
+use ending::ending;
+use print::print_part;
+use run::run;
+use std::io;
+use std::process::ExitCode;
+
+fn main(rt: HostRuntime) -> ExitCode {
+    let mut reader = rt.reader();
+    let mut writer = io::writer(&rt);
+    match run(rt.alloc(), &mut reader, &mut writer) {
+        Ok(()) => ExitCode::SUCCESS,
+        Err(fault) => {
+            let ending = ending(&fault);
+            let _ = print_part(&mut writer, ending.line.as_str().as_bytes());
+            ExitCode::from(ending.status)
+        }
+    }
+}
