@@ -2,3 +2,4 @@ pub mod NameLaws
 pub mod MapLaws
 pub mod KeyedLaws
 pub mod IdLaws
+pub mod StepLaws

@@ -12,7 +12,8 @@ use Rattle.hurd_machine.specs.declared.call.Reply.TheVariants.{Done, Names}
 use Rattle.hurd_machine.specs.World.{World, world_from, header_at}
 use Rattle.hurd_machine.specs.Change.{changes_of}
 use Rattle.hurd_machine.specs.Plan.{Plan, answered, replied, Planned}
-use Rattle.hurd_machine.proofs.HalfLaws.{first_ok, task_of_handle, apply_all-changes_of, answered-ok, answered-err, planned-along, planned-refused, planned-done, steps-kept}
+use Rattle.hurd_machine.proofs.Asks.{first_ok}
+use Rattle.hurd_machine.proofs.HalfLaws.{task_of_handle, apply_all-changes_of, answered-ok, answered-err, planned-along, planned-refused, planned-done, steps-kept}
 use Rattle.hurd_files.specs.Files.{set_size_asks, plan_set_size, readdir_asks, plan_readdir}
 
 module _ (N : NodesHalf) (H : PortsHalf) (t p : ℕ) where

@@ -13,7 +13,8 @@ use Rattle.hurd_machine.specs.declared.call.Reply.TheVariants.{Data, Count}
 use Rattle.hurd_machine.specs.World.{World, world_from, header_at}
 use Rattle.hurd_machine.specs.Change.{apply_all, changes_of}
 use Rattle.hurd_machine.specs.Plan.{Plan, answered, Planned}
-use Rattle.hurd_machine.proofs.HalfLaws.{first_ok, task_of_handle, apply_all-append, apply_all-changes_of, apply-move_cursor, answered-ok, answered-err, planned-along, planned-refused, planned-done, steps-kept}
+use Rattle.hurd_machine.proofs.Asks.{first_ok}
+use Rattle.hurd_machine.proofs.HalfLaws.{task_of_handle, apply_all-append, apply_all-changes_of, apply-move_cursor, answered-ok, answered-err, planned-along, planned-refused, planned-done, steps-kept}
 use Rattle.hurd_io.specs.Io.{ReadOut, WriteAt, moved, moved_ports, past, read_asks, plan_read, write_asks, write_changes, plan_write}
 
 module _ (N : NodesHalf) (H : PortsHalf) (t : ℕ) (offset : ℤ) where

@@ -25,7 +25,8 @@ use Rattle.hurd_machine.specs.declared.call.Reply.TheVariants.{Found}
 use Rattle.hurd_machine.specs.World.{World, world_from, body_at, home_at}
 use Rattle.hurd_machine.specs.Change.{OpenPort, apply, apply_all}
 use Rattle.hurd_machine.specs.Plan.{Plan, refuse, on, given, first, answered, Planned}
-use Rattle.hurd_machine.proofs.HalfLaws.{on_ok, given_ok, apply-open, apply-make, answered-ok, planned-along, planned-refused, planned-done, steps-kept}
+use Rattle.hurd_machine.proofs.Asks.{on_ok, given_ok}
+use Rattle.hurd_machine.proofs.HalfLaws.{apply-open, apply-make, answered-ok, planned-along, planned-refused, planned-done, steps-kept}
 use Rattle.hurd_lookup.specs.Lookup.{Outcome, Opens, Makes, make_asks, names_taken, new_file_by, lookup_changes, lookup_told}
 use Rattle.hurd_lookup.specs.Ends.{end_plan}
 

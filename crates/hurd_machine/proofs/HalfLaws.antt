@@ -22,24 +22,8 @@ use Rattle.hurd_machine.specs.declared.handle.Handle.{Handle}
 use Rattle.hurd_machine.specs.Handle.{handle_asks}
 use Rattle.hurd_machine.specs.World.{World, world_from, ports_of, task_at}
 use Rattle.hurd_machine.specs.Change.{Change, EditHeader, EditBody, MakeNode, OpenPort, MoveCursor, apply, apply_to, apply_all, changes_of}
+use Rattle.hurd_machine.proofs.Settle.{settle_same}
 use Rattle.hurd_machine.specs.Plan.{Plan, refuse, on, given, first, answered, is_refused, settle, Planned}
-
--- where each open is held, none is taken out
-
-kept_if_held : (m : OpenMap) (held : Name → Bool) → ((q : Name) (x : Opened) → fin.get m q ≡ Some x → held q ≡ true) → fin.retain_keys m held ≡ m
-kept_if_held m held all = same_map_by (fin.retain_keys m held) m (λ q. fin.get-retain_keys m held q (λ x tied. ap held (sym (name_exact q x tied))) ∙ same (fin.get m q) q refl)
-  where
-    same : (o : Option Opened) (q : Name) → fin.get m q ≡ o → cond (held q) (fin.get m q) None ≡ fin.get m q
-    same None q is = rw is (either (held q))
-      where
-        either : (b : Bool) → ◌≡◌ {A = Option Opened} (cond b None None) None
-        either true = refl
-        either false = refl
-    same (Some x) q is = ap (λ (b : Bool). cond b (fin.get m q) None) (all q x is)
-
-pub settle-settled : (w : World) → IsSettled (ports_of w) → settle w ≡ w
-settle-settled w settled =
-    ap (λ (m : OpenMap). let x : World = record { nodes = w.nodes; homes = w.homes; servers = w.servers; opens = m; tasks = w.tasks } in x) (kept_if_held w.opens (is_held w.tasks) settled)
 
 -- the task of a right is there
 
@@ -48,26 +32,9 @@ unfolding first
 task_of_right None p k b h = absurd (cc)
 task_of_right (Some x) p k b h = (x, refl)
 
-pub first_ok : {A B : Type 0} (r : Result A Errno) (k : A → Result B Errno) (b : B) → first r k ≡ Ok b → (a : A) × (r ≡ Ok a) × (k a ≡ Ok b)
-unfolding first
-first_ok (Err e) k b h = absurd (cc)
-first_ok (Ok a) k b h = (a, refl, h)
-
 -- and the task of a handle
 pub task_of_handle : (w : World) (t p mode : ℕ) (a : Handle) → handle_asks w t p mode ≡ Ok a → (x : Task) × (task_at w t ≡ Some x)
 task_of_handle w t p mode a h = task_of_right (task_at w t) p _ a h
-
--- what is there, and what holds, where an answer follows
-
-pub on_ok : {A B : Type 0} (e : Errno) (o : Option A) (k : A → Result B Errno) (b : B) → on e o k ≡ Ok b → (a : A) × (o ≡ Some a) × (k a ≡ Ok b)
-unfolding on
-on_ok e None k b h = absurd (cc)
-on_ok e (Some a) k b h = (a, refl, h)
-
-pub given_ok : {B : Type 0} (e : Errno) (test : Bool) (r : Result B Errno) (b : B) → given e test r ≡ Ok b → (test ≡ true) × (r ≡ Ok b)
-unfolding given
-given_ok e true r b h = (refl, h)
-given_ok e false r b h = absurd (cc)
 
 -- one change after another
 
@@ -144,7 +111,7 @@ planned-along early w x y t P Q r is same h =
 -- an answer, with the changes of the plan
 pub planned-done : (early : Bool) (w x : World) (t : ℕ) (P Q : Plan) (r : Reply) → P ≡ Q → Q.reply ≡ r → apply_all t Q.changes w ≡ x → IsSettled (ports_of x) → Planned early w t P (Ok r) x
 planned-done early w x t P Q r is tells makes settled =
-    (ap (λ (z : Plan). z.reply) is ∙ tells, sym (ap (λ (z : Plan). settle (apply_all t z.changes w)) is ∙ ap settle makes ∙ settle-settled x settled))
+    (ap (λ (z : Plan). z.reply) is ∙ tells, sym (ap (λ (z : Plan). settle (apply_all t z.changes w)) is ∙ ap settle makes ∙ settle_same x settled))
 
 -- a refused call leaves what was there
 

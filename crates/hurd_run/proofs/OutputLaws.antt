@@ -1,5 +1,5 @@
 -- What was printed of a transcript.
-use Rattle.std.proofs.Common.{◌≡◌, ℕ, zero, suc, ◌+◌, ◌<◌, List, [], ◌∷◌, ◌++◌, length, drop, codes, slice_get, Option, Some, sym, ap, subst, arith}
+use Rattle.std.proofs.Common.{◌≡◌, ℕ, ◌+◌, ◌<◌, List, [], ◌∷◌, length, drop, codes, slice_get, Option, Some, sym, ap, subst, arith}
 use Rattle.std.proofs.KnownBytes.{Appends-nil, Appends-trans}
 use Rattle.std.proofs.lemmas.List.{drop_all}
 use Rattle.std.proofs.lemmas.Option.{slice_get_within}
@@ -8,22 +8,14 @@ use Rattle.hurd_machine.specs.World.{World}
 use Rattle.hurd_script.specs.Commands.{CommandLine}
 use Rattle.hurd_trans_iface.specs.Meaning.{Begins, Meaning, new_tmpfs}
 use Rattle.hurd_shell.specs.Transcript.{joined, parts_of}
-use Rattle.hurd_shell.proofs.SessionLaws.{length-parts}
-
-one_more : (k : ℕ) → k + 1 ≡ suc k
-one_more k = omega arith
-
-next_joined : (ps : List (List ℕ)) (k : ℕ) (p : List ℕ) → slice_get ps k ≡ Some p → joined (drop k ps) ≡ p ++ joined (drop (suc k) ps)
-next_joined [] k p here = absurd (cc)
-next_joined (q ∷ ps) zero p here = let same : q ≡ p = cc in ap (λ (x : List ℕ). x ++ joined ps) same
-next_joined (q ∷ ps) (suc k) p here = next_joined ps k p here
+use Rattle.hurd_shell.proofs.SessionLaws.{length-parts, next_joined}
 
 -- a part, and then the rest of the transcript
 pub part_printed : (cs ds : List CommandLine) (first : World) (k n : ℕ) (part bytes : List ℕ) (a b end : Option (List ℕ)) → slice_get (parts_of cs first) k ≡ Some part
     → n ≡ k + 1 → ds ≡ cs → bytes ≡ part → Appends a b bytes → Appends b end (joined (drop n (parts_of ds first))) → Appends a end (joined (drop k (parts_of cs first)))
 part_printed cs ds first k n part bytes a b end here next same whole printed rest =
-    let rest' = rw (next, same, one_more) at rest in
-    let both = Appends-trans a b end part (joined (drop (suc k) (parts_of cs first))) (rw whole at printed) rest' in
+    let rest' = rw (next, same) at rest in
+    let both = Appends-trans a b end part (joined (drop (k + 1) (parts_of cs first))) (rw whole at printed) rest' in
     subst (λ (bs : List ℕ). Appends a end bs) (sym (next_joined (parts_of cs first) k part here)) both
 
 -- all parts were printed

@@ -1,37 +1,18 @@
 -- A call that was not refused for want of memory is the machine's step.
-use Rattle.std.proofs.Common.{◌≡◌, ◌⊎◌, inl, inr, ℕ, Bool, true, false, cond, Option, Some, None, refl, sym, ◌∙◌, ap}
-use Rattle.std.specs.FinMap as fin
+use Rattle.std.proofs.Common.{◌≡◌, ◌⊎◌, inl, inr, ℕ, Bool, true, false, sym, ◌∙◌, ap}
 use Rattle.hurd_creds.specs.declared.errno.Errno.{Errno}
 use Rattle.hurd_creds.specs.declared.errno.Errno.TheVariants.{ENOMEM}
-use Rattle.hurd_creds.specs.declared.name.Name.{Name}
 use Rattle.hurd_creds.specs.Memory.{is_no_memory}
-use Rattle.hurd_creds.proofs.NameLaws.{name_exact, same_map_by}
-use Rattle.hurd_ports.specs.declared.table.Opened.{Opened}
-use Rattle.hurd_ports.specs.Tables.{OpenMap, is_held}
 use Rattle.hurd_machine.specs.declared.call.Call.{Call}
 use Rattle.hurd_machine.specs.declared.call.Reply.{Reply}
 use Rattle.hurd_machine.specs.declared.call.Reply.TheVariants.{Done, Found, Data, Count, Names, Refused}
 use Rattle.hurd_machine.specs.World.{World}
-use Rattle.hurd_machine.specs.Plan.{Plan, Planned, after_plan, refuse, settle}
+use Rattle.hurd_machine.specs.Plan.{Plan, Planned, after_plan, refuse}
 use Rattle.hurd_machine.specs.Sound.{Sound}
+use Rattle.hurd_machine.proofs.Settle.{settle_same}
 use Rattle.hurd_laws.specs.Step.{plan}
 use Rattle.hurd_world.specs.Held.{result_of}
 use Rattle.hurd_shell.specs.Progress.{Made, lacks_memory}
-
-kept : (m : OpenMap) (held : Name → Bool) (q : Name) (o : Option Opened) → fin.get m q ≡ o → ((x : Opened) → fin.get m q ≡ Some x → held q ≡ true) → cond (held q) o None ≡ o
-kept m held q None e all = let none : Option Opened = None in elim (held q) as (λ b. cond b none none ≡ none) [ true ↦ refl | false ↦ refl ]
-kept m held q (Some x) e all = ap (λ (b : Bool). cond b (Some x) None) (all x e)
-
--- where each open is held, none is taken out
-all_kept : (m : OpenMap) (held : Name → Bool) → ((q : Name) (x : Opened) → fin.get m q ≡ Some x → held q ≡ true) → fin.retain_keys m held ≡ m
-all_kept m held all =
-    same_map_by (fin.retain_keys m held) m
-    (λ q. fin.get-retain_keys m held q (λ x e. ap held (sym (name_exact q x e))) ∙ kept m held q (fin.get m q) refl (all q))
-
-pub settle-sound : (w : World) → Sound w → settle w ≡ w
-settle-sound w s =
-    ap (λ (m : OpenMap). let x : World = record { nodes = w.nodes; homes = w.homes; servers = w.servers; opens = m; tasks = w.tasks } in x)
-    (all_kept w.opens (is_held w.tasks) s.settled)
 
 as_planned : (t : ℕ) (c : Call) (w x : World) (r : Reply) → ((plan w t c).reply ≡ r) × (x ≡ after_plan w t (plan w t c)) → (Sound w → Sound x) → Made t c w (λ a. a) r x
 as_planned t c w x r (answered, left) sound = record { reply = λ s. sym answered; world = λ s. left; sound = sound }
@@ -39,7 +20,7 @@ as_planned t c w x r (answered, left) sound = record { reply = λ s. sym answere
 as_refused : (t : ℕ) (c : Call) (w x : World) (e : Errno) → x ≡ w → plan w t c ≡ refuse e → (Sound w → Sound x) → Made t c w (λ a. a) (Refused e) x
 as_refused t c w x e left planned sound = record {
   reply = λ s. sym (ap (λ (p : Plan). p.reply) planned);
-  world = λ s. left ∙ (sym (settle-sound w s) ∙ sym (ap (after_plan w t) planned));
+  world = λ s. left ∙ (sym (settle_same w s.settled) ∙ sym (ap (after_plan w t) planned));
   sound = sound;
 }
 

@@ -4,3 +4,4 @@ pub mod Transcript
 pub mod Progress
 pub mod Codes
 pub mod Session
+pub mod Outputs

@@ -9,8 +9,10 @@
 mod calls;
 mod commands;
 mod fault;
+mod outputs;
 mod session;
 mod transcript;
 
 pub use fault::SessionFault;
+pub use outputs::outputs_are_the_transcript;
 pub use session::{Session, Want};

@@ -6,7 +6,9 @@ use std::alloc::{AllocError, Global};
 use std::test::Fail;
 
 const ROOT: u32 = 0;
+
 const ALICE: u32 = 1;
+
 const BOB: u32 = 2;
 
 /// root's `put /motd Welcome\n`; then alice opens it and reads, and bob does between, where he does.

@@ -9,7 +9,7 @@ use Rattle.hurd_creds.specs.declared.name.Name.{Name}
 use Rattle.hurd_creds.specs.declared.errno.Errno.{Errno}
 use Rattle.hurd_creds.specs.declared.errno.Errno.TheVariants.{EDIED, EEXIST, EOPNOTSUPP}
 use Rattle.hurd_creds.proofs.NameLaws.{edit_found, insert_same}
-use Rattle.hurd_trans_iface.proofs.StepLemmas.{steps-refused}
+use Rattle.hurd_creds.proofs.StepLaws.{steps-refused}
 use Rattle.hurd_trans_iface.specs.declared.new_node.NewNode.{NewNode}
 use Rattle.hurd_trans_iface.specs.Nodes.{Body, Content, Listing, Node, NodeMap, OnHeader, Edit, edit_all, header_of, body_of, with_header, with_body, with_size, put_bytes, resize}
 use Rattle.hurd_trans_iface.specs.Answers.{is_there, entry_in, write_of, write_edits, grows, set_size_of, set_size_edits, make_of, make_edits, made_node, edits_if}
@@ -91,10 +91,10 @@ module _ (m : Meaning) (n : Name) (none : fin.get m.nodes n ≡ None) where
   no_header = ap (option_map (λ (y : Node). y.header)) none
 
   pub write-nowhere : (at : ℕ) (bs : List ℕ) → Steps m (write_step n at bs m) (Err EDIED) m
-  write-nowhere at bs = steps-refused m (write_step n at bs m) EDIED (rw no_header refl)
+  write-nowhere at bs = steps-refused (write_step n at bs m) m EDIED (rw no_header refl)
 
   pub set_size-nowhere : (size : ℕ) → Steps m (set_size_step n size m) (Err EDIED) m
-  set_size-nowhere size = steps-refused m (set_size_step n size m) EDIED (rw no_header refl)
+  set_size-nowhere size = steps-refused (set_size_step n size m) m EDIED (rw no_header refl)
 
 module _ (dir : Name) (name : List ℕ) (new : NewNode) where
   refuses : (b : Option Body) (e : Errno) → name_free name b ≡ Err e → make_of dir name new b ≡ Err e
@@ -109,5 +109,5 @@ module _ (dir : Name) (name : List ℕ) (new : NewNode) where
   -- the directory isn't there, or has the name
   pub make-barred : (m : Meaning) (e : Errno) → name_free name (body_of m.nodes dir) ≡ Err e → Steps m (make_step dir name new m) (Err e) m
   make-barred m e h =
-      steps-refused m (make_step dir name new m) e
+      steps-refused (make_step dir name new m) m e
       (ap (λ (answer : Result (Unit {0}) Errno). (answer, edited (edits_if answer (make_edits dir name new)) m)) (refuses (body_of m.nodes dir) e h))

@@ -1,2 +1,1 @@
-pub mod StepLemmas
 pub mod Beginnings

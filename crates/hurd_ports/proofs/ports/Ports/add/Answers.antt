@@ -4,7 +4,7 @@ use Rattle.hurd_ports.specs.declared.table.Port.{Port}
 use Rattle.hurd_ports.specs.Tables.{Task, PortsHalf}
 use Rattle.hurd_ports.specs.Adding.{names_for}
 use Rattle.hurd_ports.specs.Seats.{half_of}
-use Rattle.hurd_ports.proofs.StepLaws.{steps-refused, steps-short, steps-done}
+use Rattle.hurd_creds.proofs.StepLaws.{steps-refused, steps-short, steps-done}
 use Rattle.hurd_ports.proofs.SeatLaws.{seat-kept}
 use Rattle.hurd_ports.proofs.AddLaws.{Adds, adds, add-refused, add-done, room-is, room-within, room-read}
 use Rattle.hurd_ports.proofs.ports.Ports.add.Goals as goal

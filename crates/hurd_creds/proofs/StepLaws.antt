@@ -1,4 +1,4 @@
--- What a call that may find no memory is shown to do.
+-- The three ways in which a call ends that may need memory: it refuses as it is to; it finds no memory; it answers as it is to.
 use Rattle.std.proofs.Common.{◌≡◌, Bool, true, false, cond, refl, inl, inr}
 use Rattle.std.specs.Prelude.{Result, Ok, Err}
 use Rattle.hurd_creds.specs.Memory.{Steps, is_no_memory}
