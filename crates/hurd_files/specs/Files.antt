@@ -5,12 +5,15 @@ use Rattle.hurd_creds.specs.declared.errno.Errno.{Errno}
 use Rattle.hurd_creds.specs.declared.errno.Errno.TheVariants.{ENOTDIR}
 use Rattle.hurd_creds.specs.Bits.{READ, WRITE}
 use Rattle.hurd_trans_iface.specs.Nodes.{is_dir}
-use Rattle.hurd_trans_iface.specs.Answers.{set_size_of, set_size_edits, names_of}
+use Rattle.hurd_trans_iface.specs.Answers.{names_of}
+use Rattle.hurd_trans_iface.specs.Behaviour.{edits_of, resizing}
 use Rattle.hurd_machine.specs.declared.call.Reply.TheVariants.{Done, Names}
-use Rattle.hurd_machine.specs.World.{World, header_at, body_at}
+use Rattle.hurd_machine.specs.World.{World, asked_at, body_at}
 use Rattle.hurd_machine.specs.Change.{changes_of}
 use Rattle.hurd_machine.specs.Plan.{Plan, given, first, answered}
 use Rattle.hurd_machine.specs.Handle.{handle_asks}
+use Rattle.hurd_machine.specs.Sight.{Part}
+use Rattle.hurd_machine.specs.Touched.{asked_parts, Nothing, OnDid}
 
 -- the node of a port that is open to write
 abbrev pub set_size_asks : World → ℕ → ℕ → Result Name Errno
@@ -19,9 +22,10 @@ set_size_asks w t p = first (handle_asks w t p WRITE) (λ a. Ok a.node)
 -- file_set_size: cut, or grown by zero bytes
 abbrev pub plan_set_size : World → ℕ → ℕ → ℕ → Plan
 plan_set_size w t p size =
-    answered (set_size_asks w t p) (λ n.
-    answered (set_size_of size (header_at w n)) (λ u.
-    record { reply = Done; changes = changes_of (set_size_edits n size) }))
+    answered (set_size_asks w t p) (λ n. answered (asked_at (resizing size) n w) (λ d. record { reply = Done; changes = changes_of (edits_of n (Ok d)) }))
+
+abbrev pub touches_set_size : World → ℕ → ℕ → ℕ → Part → Type 0
+touches_set_size w t p size = asked_parts (set_size_asks w t p) (λ n. asked_parts (asked_at (resizing size) n w) (λ d. OnDid n d))
 
 -- all that reading a directory asks, with its refusals in order
 abbrev pub readdir_asks : World → ℕ → ℕ → Result (List (List ℕ)) Errno
@@ -33,3 +37,6 @@ readdir_asks w t p =
 -- dir_readdir: `.`, `..`, and the names of the entries in order
 abbrev pub plan_readdir : World → ℕ → ℕ → Plan
 plan_readdir w t p = answered (readdir_asks w t p) (λ names. record { reply = Names (codes "." ∷ codes ".." ∷ names); changes = [] })
+
+abbrev pub touches_readdir : World → ℕ → ℕ → Part → Type 0
+touches_readdir w t p = Nothing

@@ -1,9 +1,2 @@
-//! Calls on files and directories.
-//!
-//! `file_set_size` cuts or grows a file, `dir_readdir` tells the names in a directory. What they answer and change is
-//! `plan_set_size` and `plan_readdir` of `specs/Files`.
+//! Stub.
 #![tactic(auto)]
-
-mod files;
-
-pub use files::{dir_readdir, file_set_size};

@@ -1,83 +1,104 @@
 -- Reading and writing.
-use Rattle.std.specs.Prelude.{ℕ, ℤ, pos, negsuc, zero, suc, ◌+◌, not, if◌then◌else◌, min, List, [], ◌∷◌, ◌++◌, length, Result, Ok, Err}
+use Rattle.std.specs.Prelude.{◌≡◌, ◌⊎◌, ℕ, ℤ, pos, negsuc, zero, suc, ◌+◌, not, if◌then◌else◌, min, List, [], ◌∷◌, ◌++◌, length, Result, Ok, Err}
 use Rattle.hurd_creds.specs.declared.name.Name.{Name}
 use Rattle.hurd_creds.specs.declared.errno.Errno.{Errno}
 use Rattle.hurd_creds.specs.declared.errno.Errno.TheVariants.{EINVAL, EISDIR}
 use Rattle.hurd_creds.specs.Bits.{asks, READ, WRITE, APPEND}
 use Rattle.hurd_trans_iface.specs.Nodes.{is_dir}
-use Rattle.hurd_trans_iface.specs.Answers.{read_of, write_of, write_edits}
-use Rattle.hurd_ports.specs.Tables.{PortsHalf}
-use Rattle.hurd_ports.specs.Steps.{move_cursor_step}
+use Rattle.hurd_trans_iface.specs.Behaviour.{Did, Question, edits_of, reading, writing}
+use Rattle.hurd_ports.specs.Steps.{at_cursor}
 use Rattle.hurd_machine.specs.declared.handle.Handle.{Handle}
+use Rattle.hurd_machine.specs.declared.call.Reply.{Reply}
 use Rattle.hurd_machine.specs.declared.call.Reply.TheVariants.{Data, Count}
-pub use Rattle.hurd_io.specs.declared.io.ReadOut.{ReadOut}
-pub use Rattle.hurd_io.specs.declared.io.WriteAt.{WriteAt}
-use Rattle.hurd_machine.specs.World.{World, header_at, body_at}
-use Rattle.hurd_machine.specs.Change.{Change, MoveCursor, changes_of}
+pub use Rattle.hurd_io.specs.declared.io.Offset.{Offset}
+use Rattle.hurd_io.specs.declared.io.Offset.TheVariants.{Place, Cursor}
+pub use Rattle.hurd_io.specs.declared.io.IoAt.{IoAt}
+use Rattle.hurd_machine.specs.World.{World, asked_at}
+use Rattle.hurd_machine.specs.Change.{Change, EditOpen, changes_of}
 use Rattle.hurd_machine.specs.Plan.{Plan, given, first, answered}
 use Rattle.hurd_machine.specs.Handle.{handle_asks}
+use Rattle.hurd_machine.specs.Sight.{Part, OpenOf}
+use Rattle.hurd_machine.specs.Touched.{asked_parts, OnDid}
 
--- where a call begins: at its offset, or, for -1, at the cursor; any other offset below 0 is refused
-abbrev pub place_of : ℤ → ℕ → Result ℕ Errno
-place_of (pos n) cursor = Ok n
-place_of (negsuc zero) cursor = Ok cursor
-place_of (negsuc (suc n)) cursor = Err EINVAL
+-- an offset is a place, or, for -1, the cursor; any other below 0 is refused
+abbrev pub offset_of : ℤ → Result Offset Errno
+offset_of (pos n) = Ok (Place n)
+offset_of (negsuc zero) = Ok Cursor
+offset_of (negsuc (suc n)) = Err EINVAL
 
--- no cursor goes past i64's greatest
+abbrev pub place_of : Offset → ℕ → ℕ
+place_of (Place n) cursor = n
+place_of Cursor cursor = cursor
+
+-- where a call on what a port has open begins, if the cursor stands there
+abbrev pub io_at : Handle → ℕ → Offset → IoAt
+io_at a cursor offset = record { node = a.node; open_name = a.open_name; offset = offset; at = place_of offset cursor }
+
+-- the greatest place: i64's greatest
 abbrev pub i64_greatest : ℕ
 i64_greatest = 9223372036854775807
 
+-- so many bytes on, but not past the greatest place
 abbrev pub past : ℕ → ℕ → ℕ
 past at count = min (at + count) i64_greatest
 
--- with the offset -1 the cursor moves to this place
-abbrev pub moved : ℤ → Name → ℕ → List Change
-moved (pos n) o place = []
-moved (negsuc zero) o place = MoveCursor o place ∷ []
-moved (negsuc (suc n)) o place = []
+-- a call that began at the cursor moves it
+abbrev pub moved : Offset → Name → ℕ → List Change
+moved (Place n) o to = []
+moved Cursor o to = EditOpen o (at_cursor to) ∷ []
 
--- the same of the ports alone
-abbrev pub moved_ports : ℤ → Name → ℕ → PortsHalf → PortsHalf
-moved_ports (pos n) o place h = h
-moved_ports (negsuc zero) o place h = move_cursor_step o place h
-moved_ports (negsuc (suc n)) o place h = h
+-- and so touches the open
+abbrev pub Moves : Offset → Name → Part → Type 0
+Moves (Place n) o p = ⊥
+Moves Cursor o p = p ≡ OpenOf o
+
+-- what the server does to the node, and the cursor past so many bytes
+abbrev pub io_changes : {T : Type 0} → IoAt → Did T → ℕ → List Change
+io_changes a d count = changes_of (edits_of a.node (Ok d)) ++ moved a.offset a.open_name (past a.at count)
+
+-- a read or a write: at the place that is asked for, a question to the server; its answer, and how many bytes that is
+abbrev pub plan_io : {T : Type 0} → World → Result IoAt Errno → (ℕ → Question T) → (T → Reply) → (T → ℕ) → Plan
+plan_io w asks q reply count =
+    answered asks (λ a. answered (asked_at (q a.at) a.node w) (λ d. record { reply = reply d.told; changes = io_changes a d (count d.told) }))
+
+abbrev pub touches_io : {T : Type 0} → World → Result IoAt Errno → (ℕ → Question T) → Part → Type 0
+touches_io w asks q = asked_parts asks (λ a. asked_parts (asked_at (q a.at) a.node w) (λ d p. OnDid a.node d p ⊎ Moves a.offset a.open_name p))
 
 -- the most bytes of one read
 abbrev pub most_read : ℕ
 most_read = 65536
 
--- all that a read asks, with its refusals in order
-abbrev pub read_asks : World → ℕ → ℕ → ℕ → ℤ → Result ReadOut Errno
-read_asks w t p amount offset =
+abbrev pub reads : ℕ → ℕ → Question (List ℕ)
+reads amount at = reading at (min amount most_read)
+
+abbrev pub writes : List ℕ → ℕ → Question ℕ
+writes bytes at = writing at bytes
+
+-- all that a read asks but of the server, with its refusals in order
+abbrev pub read_asks : World → ℕ → ℕ → ℤ → Result IoAt Errno
+read_asks w t p offset =
     first (handle_asks w t p READ) (λ a.
     given EISDIR (not (is_dir a.kind)) (
-    first (place_of offset a.opened.cursor) (λ at.
-    first (read_of at (min amount most_read) (body_at w a.node)) (λ got.
-    Ok (record { open_name = a.open_name; at = at; bytes = got })))))
+    first (offset_of offset) (λ o. Ok (io_at a a.opened.cursor o))))
 
 -- io_read: the bytes
 abbrev pub plan_read : World → ℕ → ℕ → ℕ → ℤ → Plan
-plan_read w t p amount offset =
-    answered (read_asks w t p amount offset) (λ got. record { reply = Data got.bytes; changes = moved offset got.open_name (past got.at (length got.bytes)) })
+plan_read w t p amount offset = plan_io w (read_asks w t p offset) (reads amount) Data length
+
+abbrev pub touches_read : World → ℕ → ℕ → ℕ → ℤ → Part → Type 0
+touches_read w t p amount offset = touches_io w (read_asks w t p offset) (reads amount)
 
 -- the cursor that a write begins at: with APPEND it is first set to the size
 abbrev pub write_cursor : Handle → ℕ
 write_cursor a = if asks a.opened.modes APPEND then a.size else a.opened.cursor
 
 -- all that a write asks but of the server, with its refusals in order
-abbrev pub write_asks : World → ℕ → ℕ → ℤ → Result WriteAt Errno
-write_asks w t p offset =
-    first (handle_asks w t p WRITE) (λ a.
-    first (place_of offset (write_cursor a)) (λ at.
-    Ok (record { open_name = a.open_name; node = a.node; at = at })))
-
--- the file with the bytes put, and the cursor past them
-abbrev pub write_changes : World → WriteAt → List ℕ → ℤ → List Change
-write_changes w a bytes offset = changes_of (write_edits a.node a.at bytes (header_at w a.node)) ++ moved offset a.open_name (past a.at (length bytes))
+abbrev pub write_asks : World → ℕ → ℕ → ℤ → Result IoAt Errno
+write_asks w t p offset = first (handle_asks w t p WRITE) (λ a. first (offset_of offset) (λ o. Ok (io_at a (write_cursor a) o)))
 
 -- io_write: how many bytes were taken
 abbrev pub plan_write : World → ℕ → ℕ → List ℕ → ℤ → Plan
-plan_write w t p bytes offset =
-    answered (write_asks w t p offset) (λ a.
-    answered (write_of a.at (length bytes) (header_at w a.node)) (λ count.
-    record { reply = Count count; changes = write_changes w a bytes offset }))
+plan_write w t p bytes offset = plan_io w (write_asks w t p offset) (writes bytes) Count (λ n. n)
+
+abbrev pub touches_write : World → ℕ → ℕ → List ℕ → ℤ → Part → Type 0
+touches_write w t p bytes offset = touches_io w (write_asks w t p offset) (writes bytes)

@@ -1,12 +1,13 @@
 -- The laws: what a set of tasks is told depends only on what it sees.
-use Rattle.std.specs.Prelude.{◌≡◌, ◌≢◌, ℕ, Bool, true, false, List}
+use Rattle.std.specs.Prelude.{◌≡◌, ◌≢◌, ◌⊎◌, ℕ, Bool, true, false, List, None}
+use Rattle.hurd_creds.specs.declared.errno.Errno.TheVariants.{ENOMEM}
 use Rattle.hurd_machine.specs.declared.call.Call.{Call}
-use Rattle.hurd_machine.specs.World.{World}
+use Rattle.hurd_machine.specs.declared.call.Reply.TheVariants.{Refused}
+use Rattle.hurd_machine.specs.World.{World, open_at}
 use Rattle.hurd_machine.specs.Sight.{Part, AttrOf, EmptyOf, BodyOf, OpenOf, OptionsOf, UsersOf, TaskOf, SameView, part}
 use Rattle.hurd_machine.specs.Sound.{Sound, Below}
-use Rattle.hurd_laws.specs.Step.{reply_of, after}
-use Rattle.hurd_laws.specs.Touched.{touched, IsIn}
-use Rattle.hurd_laws.specs.Runs.{Made, run, calls_of, replies_to, TouchesUnseen, Quiet}
+use Rattle.hurd_laws.specs.Step.{reply_of, after, touches}
+use Rattle.hurd_laws.specs.Runs.{TaskCall, run, calls_of, replies_to, TouchesUnseen, Quiet}
 
 -- a part of something whose name was given before
 abbrev pub IsOld : World → Part → Type 0
@@ -21,7 +22,7 @@ IsOld w (TaskOf t) = Unit {0}
 -- a step changes touched parts, its caller's own task and new things alone
 abbrev pub ChangesTouched : Type 0
 ChangesTouched =
-    (w : World) (t : ℕ) (c : Call) (p : Part) → Sound w → IsOld w p → (IsIn p (touched w t c) → ⊥) → p ≢ TaskOf t
+    (w : World) (t : ℕ) (c : Call) (p : Part) → Sound w → IsOld w p → (touches w t c p → ⊥) → p ≢ TaskOf t
     → part (after w t c) p ≡ part w p
 
 -- after a step of a task outside S that touches no part that S sees, the view is the same
@@ -35,14 +36,18 @@ OwnFromView =
     (S : ℕ → Bool) (v w : World) (t : ℕ) (c : Call) → Sound v → Sound w → S t ≡ true → SameView S v w
     → (reply_of w t c ≡ reply_of v t c) × SameView S (after v t c) (after w t c)
 
--- a sound world stays sound
+-- a sound world stays sound: nothing is left to take out after any call
 abbrev pub StaysSound : Type 0
 StaysSound = (w : World) (t : ℕ) (c : Call) → Sound w → Sound (after w t c)
+
+-- of memory the machine knows nothing: no call is refused for want of it
+abbrev pub NeverWantsMemory : Type 0
+NeverWantsMemory = (w : World) (t : ℕ) (c : Call) → reply_of w t c ≢ Refused ENOMEM
 
 -- two runs from worlds that have the same view for S, in which S makes the same calls and the others touch nothing that S sees:
 -- S is told the same, and sees the same afterwards
 abbrev pub Isolated : Type 0
 Isolated =
-    (S : ℕ → Bool) (v w : World) (ms ns : List Made) → Sound v → Sound w → SameView S v w
+    (S : ℕ → Bool) (v w : World) (ms ns : List TaskCall) → Sound v → Sound w → SameView S v w
     → calls_of S ms ≡ calls_of S ns → Quiet S v ms → Quiet S w ns
     → (replies_to S v ms ≡ replies_to S w ns) × SameView S (run v ms) (run w ns)

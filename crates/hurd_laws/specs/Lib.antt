@@ -1,5 +1,5 @@
 pub mod Step
-pub mod Touched
+pub mod Called
 pub mod Runs
-pub mod Laws
 pub mod Served
+pub mod Laws

@@ -4,26 +4,25 @@ use Rattle.hurd_machine.specs.declared.call.Call.{Call}
 use Rattle.hurd_machine.specs.declared.call.Reply.{Reply}
 use Rattle.hurd_machine.specs.World.{World}
 use Rattle.hurd_machine.specs.Sight.{Sees, Part}
-use Rattle.hurd_laws.specs.Step.{reply_of, after}
-use Rattle.hurd_laws.specs.Touched.{touched, IsIn}
+use Rattle.hurd_laws.specs.Step.{reply_of, after, touches}
 
 -- a call with the task that makes it
-pub record Made : Type 0 where
+pub record TaskCall : Type 0 where
   pub task : ℕ
   pub call : Call
 
 -- the world after these calls, one after another
-abbrev pub run : World → List Made → World
+abbrev pub run : World → List TaskCall → World
 run w [] = w
 run w (m ∷ ms) = run (after w m.task m.call) ms
 
 -- the calls of tasks of S
-abbrev pub calls_of : (ℕ → Bool) → List Made → List Made
+abbrev pub calls_of : (ℕ → Bool) → List TaskCall → List TaskCall
 calls_of S [] = []
 calls_of S (m ∷ ms) = if S m.task then m ∷ calls_of S ms else calls_of S ms
 
 -- what the tasks of S are told
-abbrev pub replies_to : (ℕ → Bool) → World → List Made → List Reply
+abbrev pub replies_to : (ℕ → Bool) → World → List TaskCall → List Reply
 replies_to S w [] = []
 replies_to S w (m ∷ ms) =
     if S m.task then reply_of w m.task m.call ∷ replies_to S (after w m.task m.call) ms
@@ -31,9 +30,9 @@ replies_to S w (m ∷ ms) =
 
 -- a call touches no part that S sees
 abbrev pub TouchesUnseen : (ℕ → Bool) → World → ℕ → Call → Type 0
-TouchesUnseen S w t c = (p : Part) → IsIn p (touched w t c) → Sees S w p → ⊥
+TouchesUnseen S w t c = (p : Part) → touches w t c p → Sees S w p → ⊥
 
 -- each call of another task touches no part that S sees at that moment
-abbrev pub Quiet : (ℕ → Bool) → World → List Made → Type 0
+abbrev pub Quiet : (ℕ → Bool) → World → List TaskCall → Type 0
 Quiet S w [] = Unit {0}
 Quiet S w (m ∷ ms) = (S m.task ≡ false → TouchesUnseen S w m.task m.call) × Quiet S (after w m.task m.call) ms

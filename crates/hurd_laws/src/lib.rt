@@ -1,8 +1,2 @@
-//! The step of a call, runs of calls, and the laws on what a set of tasks can learn.
-//!
-//! The laws stand as public functions that compute nothing: the contract of each is the law, over the definitions alone.
+//! Stub.
 #![tactic(auto)]
-
-mod laws;
-
-pub use laws::{changes_touched, isolated, others_unseen, own_from_view, stays_sound};

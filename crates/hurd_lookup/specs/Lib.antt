@@ -1,3 +1,2 @@
 pub mod Path
 pub mod Lookup
-pub mod Ends

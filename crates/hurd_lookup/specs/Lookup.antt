@@ -1,5 +1,6 @@
 -- One lookup: where the names lead, and what is opened or made there.
-use Rattle.std.specs.Prelude.{ℕ, ◌&&◌, ◌||◌, not, Bool, true, false, if◌then◌else◌, List, [], ◌∷◌, codes, Option, Some, None, Result, Ok, Err}
+use Rattle.std.specs.Prelude.{◌≡◌, ◌⊎◌, ℕ, ◌&&◌, ◌||◌, not, Bool, true, false, is_some, if◌then◌else◌, List, [], ◌∷◌, ◌++◌, codes, Option, Some, None, Result, Ok, Err}
+use Rattle.std.specs.Str.{bytes_eq}
 use Rattle.hurd_creds.specs.declared.name.Name.{Name}
 use Rattle.hurd_creds.specs.declared.mode.Mode.{Mode}
 use Rattle.hurd_creds.specs.declared.open_flags.OpenFlags.{OpenFlags}
@@ -9,79 +10,91 @@ use Rattle.hurd_creds.specs.declared.errno.Errno.{Errno}
 use Rattle.hurd_creds.specs.declared.errno.Errno.TheVariants.{EACCES, EDIED, EEXIST, EISDIR, ENAMETOOLONG, ENOENT, ENOTDIR, EOVERFLOW, ESRCH}
 use Rattle.hurd_creds.specs.Access.{IdSets, may, least_uid}
 use Rattle.hurd_creds.specs.Bits.{asks, known_mode, open_modes, READ, WRITE, EXEC, CREATE, EXCL, DIRECTORY}
-use Rattle.hurd_trans_iface.specs.declared.new_node.NewNode.{NewNode}
 use Rattle.hurd_trans_iface.specs.Nodes.{Header, is_dir, with_entry, new_file}
-use Rattle.hurd_trans_iface.specs.Answers.{entry_of, same_bytes, make_of}
+use Rattle.hurd_trans_iface.specs.Answers.{entry_of}
 use Rattle.hurd_ports.specs.Tables.{Task, right_of, fresh, has_room}
+use Rattle.hurd_ports.specs.Steps.{named}
 use Rattle.hurd_machine.specs.declared.call.Lookup.TheVariants as found
 use Rattle.hurd_machine.specs.declared.call.Reply.TheVariants.{Found}
-use Rattle.hurd_machine.specs.World.{World, ports_of, task_at, header_at, body_at, home_at, is_server_root}
-use Rattle.hurd_machine.specs.Change.{Change, MakeNode, EditBody, OpenPort}
+use Rattle.hurd_machine.specs.World.{World, ports_of, task_at, header_at, body_at, home_at, is_server_root, makes_at}
+use Rattle.hurd_machine.specs.Change.{Change, MakeNode, EditBody, opening}
 use Rattle.hurd_machine.specs.Plan.{Plan, on, given, first, answered}
-use Rattle.hurd_machine.specs.Sight.{bare}
-use Rattle.hurd_lookup.specs.declared.lookup.Start.{Start}
-use Rattle.hurd_lookup.specs.declared.walk.Step.{Step}
-use Rattle.hurd_lookup.specs.declared.walk.Step.TheVariants.{There, Absent}
+use Rattle.hurd_machine.specs.Sight.{Part, EmptyOf, BodyOf, UsersOf, bare}
+use Rattle.hurd_machine.specs.Touched.{asked_parts, OnNode}
+use Rattle.hurd_lookup.specs.declared.request.Request.{Request}
+use Rattle.hurd_lookup.specs.declared.walk.Next.{Next}
+use Rattle.hurd_lookup.specs.declared.walk.Next.TheVariants.{There, Absent}
 use Rattle.hurd_lookup.specs.Path.{names_in, ends_with_slash, is_short}
 
-abbrev pub to_parent : Option Name → Result Step Errno
+-- along the names
+
+abbrev pub to_parent : Option Name → Result Next Errno
 to_parent None = Err ENOENT
 to_parent (Some p) = Ok (There p)
 
 -- `..`: a server's root stays, a removed directory leads nowhere, any other goes to its parent
-abbrev pub step_up : World → Name → Header → Result Step Errno
+abbrev pub step_up : World → Name → Header → Result Next Errno
 step_up w d h = if is_server_root w d then Ok (There d) else to_parent h.parent
 
-abbrev pub or_absent : Option Name → Step
+abbrev pub or_absent : Option Name → Next
 or_absent None = Absent
 or_absent (Some n) = There n
 
 -- where a name leads from a directory: `.` stays, `..` goes up, any other name is an entry's
-abbrev pub step_by : World → Name → Header → List ℕ → Result Step Errno
+abbrev pub step_by : World → Name → Header → List ℕ → Result Next Errno
 step_by w d h name =
-    if same_bytes name (codes ".") then Ok (There d)
-    else if same_bytes name (codes "..") then step_up w d h
+    if bytes_eq name (codes ".") then Ok (There d)
+    else if bytes_eq name (codes "..") then step_up w d h
     else Ok (or_absent (entry_of name (body_at w d)))
 
 -- one name, looked up in a node: that is a directory, which the ids may search
-abbrev pub step_asks : World → IdSets → Name → List ℕ → Result Step Errno
+abbrev pub step_asks : World → IdSets → Name → List ℕ → Result Next Errno
 step_asks w ids d name =
     on EDIED (header_at w d) (λ h.
     given ENOTDIR (is_dir h.kind) (
     given EACCES (may ids (bare h) Exec) (step_by w d h name)))
 
--- what a lookup comes to: a node, or a file to be made in a directory
-pub data Walked : Type 0 where
-  Final : Name → Walked
-  Making : Name → List ℕ → Walked
+-- what the names lead to: a node, or a name in a directory under which a file is to be made
+pub data Place : Type 0 where
+  AtNode : Name → Place
+  AtName : Name → List ℕ → Place
 
 -- at the end of the names: with CREATE and EXCL a node that is there is refused
-abbrev pub arrive : OpenFlags → Name → Result Walked Errno
-arrive flags n = given EEXIST (not (asks flags CREATE && asks flags EXCL)) (Ok (Final n))
+abbrev pub arrive : Request → Name → Result Place Errno
+arrive r n = given EEXIST (not (asks r.flags CREATE && asks r.flags EXCL)) (Ok (AtNode n))
 
 abbrev pub is_last : List (List ℕ) → Bool
 is_last [] = true
 is_last (more ∷ names) = false
 
 -- a name that no entry has: where it is the last and no directory is asked for, CREATE makes a file
-abbrev pub miss : OpenFlags → Bool → Name → List ℕ → Bool → Result Walked Errno
-miss flags dir d name last = given ENOENT (last && (asks flags CREATE && not dir)) (Ok (Making d name))
+abbrev pub miss : Request → Name → List ℕ → Bool → Result Place Errno
+miss r d name last = given ENOENT (last && (asks r.flags CREATE && not r.wants_dir)) (Ok (AtName d name))
 
 -- after one name: on at the node that it led to, or it is missed
-abbrev pub stepped : Step → (Name → Result Walked Errno) → Result Walked Errno → Result Walked Errno
+abbrev pub stepped : Next → (Name → Result Place Errno) → Result Place Errno → Result Place Errno
 stepped (There n) onward missed = onward n
 stepped Absent onward missed = missed
 
--- from a directory along the names; `dir` says whether a directory is asked for
-abbrev pub walk : World → IdSets → OpenFlags → Bool → Name → List (List ℕ) → Result Walked Errno
-walk w ids flags dir d [] = arrive flags d
-walk w ids flags dir d (name ∷ names) =
-    first (step_asks w ids d name) (λ s. stepped s (λ n. walk w ids flags dir n names) (miss flags dir d name (is_last names)))
+-- from a directory along the names
+abbrev pub walk : World → IdSets → Request → Name → List (List ℕ) → Result Place Errno
+walk w ids r d [] = arrive r d
+walk w ids r d (name ∷ names) = first (step_asks w ids d name) (λ s. stepped s (λ n. walk w ids r n names) (miss r d name (is_last names)))
 
--- what is to be opened, or made and opened, by which ids
+-- at their end
+
+-- a file that is to be made: in which directory, under which name, of which server, and whose it is
+pub record MakeAt : Type 0 where
+  pub dir : Name
+  pub name : List ℕ
+  pub server : Name
+  pub owner : ℕ
+  pub group : ℕ
+
+-- what is to be done: a node is opened, or a file is made and opened
 pub data Outcome : Type 0 where
-  Opens : IdSets → Name → Outcome
-  Makes : IdSets → Name → List ℕ → Name → ℕ → ℕ → Outcome  -- directory, name, server, owner, group
+  Opens : Name → Outcome
+  Makes : MakeAt → Outcome
 
 -- the ids may do what the flags ask for
 abbrev pub may_open : IdSets → Header → OpenFlags → Bool
@@ -89,86 +102,82 @@ may_open ids h flags =
     (not (asks flags READ) || may ids (bare h) Read) && ((not (asks flags WRITE) || may ids (bare h) Write) && (not (asks flags EXEC) || may ids (bare h) Exec))
 
 -- opening the last node
-abbrev pub open_asks : World → IdSets → OpenFlags → Bool → Name → Result Outcome Errno
-open_asks w ids flags dir n =
+abbrev pub open_asks : World → IdSets → Request → Name → Result Outcome Errno
+open_asks w ids r n =
     on EDIED (header_at w n) (λ h.
-    given ENOTDIR (not dir || is_dir h.kind) (
-    given EISDIR (not (is_dir h.kind && asks flags WRITE)) (
-    given EACCES (may_open ids h flags) (Ok (Opens ids n)))))
-
-abbrev pub has_parent : Option Name → Bool
-has_parent None = false
-has_parent (Some p) = true
+    given ENOTDIR (not r.wants_dir || is_dir h.kind) (
+    given EISDIR (not (is_dir h.kind && asks r.flags WRITE)) (
+    given EACCES (may_open ids h r.flags) (Ok (Opens n)))))
 
 -- a directory that is removed has no parent, and is no server's root
 abbrev pub is_removed : World → Name → Header → Bool
-is_removed w d h = not (is_server_root w d) && not (has_parent h.parent)
+is_removed w d h = not (is_server_root w d) && not (is_some h.parent)
 
 -- making a file, which belongs to the least uid; it is opened without a test
 abbrev pub make_asks : World → IdSets → Name → List ℕ → Result Outcome Errno
 make_asks w ids d name =
+    first (makes_at w d name File) (λ u.
     on EDIED (header_at w d) (λ h.
     given EACCES (may ids (bare h) Write) (
     on EACCES (least_uid ids) (λ owner.
     given ENOENT (not (is_removed w d h)) (
-    on EDIED (home_at w d) (λ s. Ok (Makes ids d name s owner h.group))))))
+    on EDIED (home_at w d) (λ s. Ok (Makes (record { dir = d; name = name; server = s; owner = owner; group = h.group }))))))))
 
-abbrev pub end_asks : World → IdSets → OpenFlags → Bool → Walked → Result Outcome Errno
-end_asks w ids flags dir (Final n) = open_asks w ids flags dir n
-end_asks w ids flags dir (Making d name) = make_asks w ids d name
+abbrev pub end_asks : World → IdSets → Request → Place → Result Outcome Errno
+end_asks w ids r (AtNode n) = open_asks w ids r n
+end_asks w ids r (AtName d name) = make_asks w ids d name
 
--- how many names are given: an open's, or a node's and its open's
+-- a lookup, whole
+
+-- the names of things that it gives: an open's, or a node's and its open's
 abbrev pub names_taken : Outcome → ℕ
-names_taken (Opens ids n) = 1
-names_taken (Makes ids d name s owner group) = 2
+names_taken (Opens n) = 1
+names_taken (Makes m) = 2
+
+-- what is asked for, by the flags and by the path
+abbrev pub request : List ℕ → OpenFlags → Mode → Request
+request path flags mode = record { flags = flags; mode = mode; wants_dir = asks flags DIRECTORY || ends_with_slash path }
+
+-- what a lookup is to do, and by which ids: those of the port that it begins at
+pub record Looked : Type 0 where
+  pub ids : IdSets
+  pub outcome : Outcome
+
+-- from the node of a port along a path to its end
+abbrev pub found_asks : World → ℕ → ℕ → List ℕ → Request → Result Looked Errno
+found_asks w t p path r =
+    first (right_of (ports_of w) t p) (λ q.
+    on EDIED (header_at w q.node) (λ h.
+    given ENAMETOOLONG (is_short path) (
+    first (walk w q.ids r q.node (names_in path)) (λ place.
+    first (end_asks w q.ids r place) (λ o. Ok (record { ids = q.ids; outcome = o }))))))
 
 -- the task has room for the port and the names
-abbrev pub room_asks : World → ℕ → Outcome → Result (Task × Outcome) Errno
-room_asks w t o = on ESRCH (task_at w t) (λ x. given EOVERFLOW (has_room (names_taken o) x) (Ok (x, o)))
+abbrev pub room_asks : World → ℕ → Outcome → Result Task Errno
+room_asks w t o = on ESRCH (task_at w t) (λ x. given EOVERFLOW (has_room (names_taken o) x) (Ok x))
 
--- a directory is asked for, by the flag or by the path
-abbrev pub wants_dir : OpenFlags → List ℕ → Bool
-wants_dir flags path = asks flags DIRECTORY || ends_with_slash path
+-- all that a lookup asks, with its refusals in order
+abbrev pub lookup_asks : World → ℕ → ℕ → List ℕ → Request → Result (Looked × Task) Errno
+lookup_asks w t p path r = first (found_asks w t p path r) (λ l. first (room_asks w t l.outcome) (λ x. Ok (l, x)))
 
--- where a lookup begins: at the port's node, by the port's ids
-abbrev pub start_asks : World → ℕ → ℕ → Result Start Errno
-start_asks w t p =
-    first (right_of (ports_of w) t p) (λ r.
-    on EDIED (header_at w r.node) (λ h. Ok (record { ids = r.ids; node = r.node })))
+-- a file, empty, as it is made
+abbrev pub making : ℕ → Task → Request → MakeAt → List Change
+making t x r m = MakeNode (fresh t x) m.server (new_file m.owner m.group (known_mode r.mode)) ∷ EditBody m.dir (with_entry m.name (fresh t x)) ∷ []
 
--- where it comes to
-abbrev pub walk_asks : World → ℕ → ℕ → List ℕ → OpenFlags → Result (IdSets × Walked) Errno
-walk_asks w t p path flags =
-    first (start_asks w t p) (λ s.
-    given ENAMETOOLONG (is_short path) (
-    first (walk w s.ids flags (wants_dir flags path) s.node (names_in path)) (λ end. Ok (s.ids, end))))
+-- what is opened, or made and opened
+abbrev pub lookup_changes : ℕ → Task → Request → IdSets → Outcome → List Change
+lookup_changes t x r ids (Opens n) = opening t x n ids (open_modes r.flags)
+lookup_changes t x r ids (Makes m) = making t x r m ++ opening t (named 1 x) (fresh t x) ids (open_modes r.flags)
 
--- all that a lookup asks but of the server, with its refusals in order
-abbrev pub lookup_asks : World → ℕ → ℕ → List ℕ → OpenFlags → Result (Task × Outcome) Errno
-lookup_asks w t p path flags =
-    first (walk_asks w t p path flags) (λ got.
-    first (end_asks w got.0 flags (wants_dir flags path) got.1) (λ o. room_asks w t o))
-
--- the file that is made, as its server is asked for it; it takes the task's next name
-abbrev pub new_file_by : ℕ → Task → Mode → ℕ → ℕ → NewNode
-new_file_by t x mode owner group = record { name = fresh t x; kind = File; owner = owner; group = group; mode = known_mode mode }
-
--- what the directory's server answers to the making: in a world that hangs together it never refuses
-abbrev pub server_answer : World → ℕ → Mode → Task → Outcome → Result (Unit {0}) Errno
-server_answer w t mode x (Opens ids n) = Ok tt
-server_answer w t mode x (Makes ids d name s owner group) = make_of d name (new_file_by t x mode owner group) (body_at w d)
-
--- what is opened or made
-abbrev pub lookup_changes : ℕ → Task → OpenFlags → Mode → Outcome → List Change
-lookup_changes t x flags mode (Opens ids n) = OpenPort n ids (open_modes flags) ∷ []
-lookup_changes t x flags mode (Makes ids d name s owner group) =
-    MakeNode s (new_file owner group (known_mode mode)) ∷ EditBody d (with_entry name (fresh t x)) ∷ OpenPort (fresh t x) ids (open_modes flags) ∷ []
-
--- the port of what is opened or made
-abbrev pub lookup_told : World → ℕ → OpenFlags → Mode → Task → Outcome → Plan
-lookup_told w t flags mode x o =
-    answered (server_answer w t mode x o) (λ u. record { reply = Found (found.Done x.next); changes = lookup_changes t x flags mode o })
+abbrev pub lookup_parts : World → Outcome → Part → Type 0
+lookup_parts w (Opens n) p = OnNode w n p
+lookup_parts w (Makes m) p = (p ≡ UsersOf m.server) ⊎ ((p ≡ BodyOf m.dir) ⊎ (p ≡ EmptyOf m.dir))
 
 -- dir_lookup
 abbrev pub plan_lookup : World → ℕ → ℕ → List ℕ → OpenFlags → Mode → Plan
-plan_lookup w t p path flags mode = answered (lookup_asks w t p path flags) (λ got. lookup_told w t flags mode got.0 got.1)
+plan_lookup w t p path flags mode =
+    let r = request path flags mode in
+    answered (lookup_asks w t p path r) (λ l. record { reply = Found (found.Done l.1.next); changes = lookup_changes t l.1 r l.0.ids l.0.outcome })
+
+abbrev pub touches_lookup : World → ℕ → ℕ → List ℕ → OpenFlags → Mode → Part → Type 0
+touches_lookup w t p path flags mode = asked_parts (lookup_asks w t p path (request path flags mode)) (λ l. lookup_parts w l.0.outcome)

@@ -1,79 +1,84 @@
 -- What a call changes, as data.
-use Rattle.std.specs.Prelude.{◌≡◌, ℕ, List, [], ◌∷◌, Option, Some, None, slice_set}
-use Rattle.std.specs.FinMap.{insert}
+use Rattle.std.specs.Prelude.{◌≡◌, ℕ, List, [], ◌∷◌, ◌++◌}
+use Rattle.std.specs.FinMap.{insert, retain_keys}
 use Rattle.hurd_creds.specs.declared.name.Name.{Name}
 use Rattle.hurd_creds.specs.declared.open_flags.OpenFlags.{OpenFlags}
 use Rattle.hurd_creds.specs.Access.{IdSets}
 use Rattle.hurd_creds.specs.NameMaps.{NameMap, edit}
 use Rattle.hurd_trans_iface.specs.Nodes.{NodeMap, Node, Header, Body, Edit, OnHeader, OnBody, AddNode, with_header, with_body}
-use Rattle.hurd_ports.specs.Tables.{Task, OpenMap, fresh}
-use Rattle.hurd_ports.specs.Steps.{new_open, with_port, one_made, less_port, at_cursor}
-use Rattle.hurd_machine.specs.World.{World, task_at}
+use Rattle.hurd_ports.specs.declared.table.Opened.{Opened}
+use Rattle.hurd_ports.specs.Tables.{Task, OpenMap, fresh, is_held}
+use Rattle.hurd_ports.specs.Steps.{named, edit_task, with_port, without_port, new_open, new_right, at_cursor}
+use Rattle.hurd_machine.specs.World.{World}
 
 pub data Change : Type 0 where
+  -- of a node
   EditHeader : Name → (Header → Header) → Change
   EditBody : Name → (Body → Body) → Change
-  MakeNode : Name → Node → Change  -- a node of this server, under the task's next name
-  OpenPort : Name → IdSets → OpenFlags → Change  -- a port of the task on a node, with a new open
-  DropPort : ℕ → Change  -- a port of the task goes
-  MoveCursor : Name → ℕ → Change
+  MakeNode : Name → Name → Node → Change  -- under the next name of its task, a node of this server
+  -- of ports
+  EditOpen : Name → (Opened → Opened) → Change
+  MakeOpen : Name → Opened → Change  -- under the next name of its task
+  EditTask : ℕ → (Task → Task) → Change
+  -- what nothing names goes
+  Settle : Change
 
--- what each change does to each part of the world, for the calling task t, which stood as x
+-- what each change does to each part of the world
 
-abbrev pub next_nodes : ℕ → Task → Change → NodeMap → NodeMap
-next_nodes t x (EditHeader n f) m = edit n (with_header f) m
-next_nodes t x (EditBody n g) m = edit n (with_body g) m
-next_nodes t x (MakeNode s node) m = insert m (fresh t x) node
-next_nodes t x (OpenPort n ids modes) m = m
-next_nodes t x (DropPort p) m = m
-next_nodes t x (MoveCursor o k) m = m
+abbrev pub next_nodes : Change → NodeMap → NodeMap
+next_nodes (EditHeader n f) m = edit n (with_header f) m
+next_nodes (EditBody n g) m = edit n (with_body g) m
+next_nodes (MakeNode n s node) m = insert m n node
+next_nodes c m = m
 
-abbrev pub next_homes : ℕ → Task → Change → NameMap Name → NameMap Name
-next_homes t x (EditHeader n f) m = m
-next_homes t x (EditBody n g) m = m
-next_homes t x (MakeNode s node) m = insert m (fresh t x) s
-next_homes t x (OpenPort n ids modes) m = m
-next_homes t x (DropPort p) m = m
-next_homes t x (MoveCursor o k) m = m
+abbrev pub next_homes : Change → NameMap Name → NameMap Name
+next_homes (MakeNode n s node) m = insert m n s
+next_homes c m = m
 
-abbrev pub next_opens : ℕ → Task → Change → OpenMap → OpenMap
-next_opens t x (EditHeader n f) m = m
-next_opens t x (EditBody n g) m = m
-next_opens t x (MakeNode s node) m = m
-next_opens t x (OpenPort n ids modes) m = insert m (fresh t x) (new_open modes)
-next_opens t x (DropPort p) m = m
-next_opens t x (MoveCursor o k) m = edit o (at_cursor k) m
+abbrev pub next_opens : Change → OpenMap → OpenMap
+next_opens (EditOpen o f) m = edit o f m
+next_opens (MakeOpen o z) m = insert m o z
+next_opens c m = m
 
-abbrev pub next_task : ℕ → Change → Task → Task
-next_task t (EditHeader n f) x = x
-next_task t (EditBody n g) x = x
-next_task t (MakeNode s node) x = one_made x
-next_task t (OpenPort n ids modes) x = with_port t n ids x
-next_task t (DropPort p) x = less_port p x
-next_task t (MoveCursor o k) x = x
+abbrev pub next_tasks : Change → List Task → List Task
+next_tasks (MakeNode n s node) ts = edit_task n.task.0 (named 1) ts
+next_tasks (MakeOpen o z) ts = edit_task o.task.0 (named 1) ts
+next_tasks (EditTask q f) ts = edit_task q f ts
+next_tasks c ts = ts
 
-abbrev pub apply_to : ℕ → Change → World → Option Task → World
-apply_to t c w None = w
-apply_to t c w (Some x) = record {
-  nodes = next_nodes t x c w.nodes;
-  homes = next_homes t x c w.homes;
+-- the world without what nothing names any more: opens that no right names
+abbrev pub settle : World → World
+settle w = record w { opens = retain_keys w.opens (is_held w.tasks) }
+
+-- the world with one change
+abbrev pub apply : Change → World → World
+apply Settle w = settle w
+apply c w = record {
+  nodes = next_nodes c w.nodes;
+  homes = next_homes c w.homes;
   servers = w.servers;
-  opens = next_opens t x c w.opens;
-  tasks = slice_set w.tasks t (next_task t c x);
+  opens = next_opens c w.opens;
+  tasks = next_tasks c w.tasks;
 }
 
--- the world with one change, made for task t
-abbrev pub apply : ℕ → Change → World → World
-apply t c w = apply_to t c w (task_at w t)
-
 -- the world with these changes, one after another
-abbrev pub apply_all : ℕ → List Change → World → World
-apply_all t [] w = w
-apply_all t (c ∷ cs) w = apply_all t cs (apply t c w)
+abbrev pub apply_all : List Change → World → World
+apply_all [] w = w
+apply_all (c ∷ cs) w = apply_all cs (apply c w)
 
--- what a server does to a node that is there, as a change
+-- what several calls do
+
+-- a server's edits of a node that is there, as changes
 abbrev pub changes_of : List Edit → List Change
 changes_of [] = []
 changes_of (OnHeader n f ∷ es) = EditHeader n f ∷ changes_of es
 changes_of (OnBody n g ∷ es) = EditBody n g ∷ changes_of es
 changes_of (AddNode n x ∷ es) = changes_of es
+
+-- task t, which stands as x, opens a node: a new open, and a port with it
+abbrev pub opening : ℕ → Task → Name → IdSets → OpenFlags → List Change
+opening t x n ids modes = MakeOpen (fresh t x) (new_open modes) ∷ EditTask t (with_port (new_right t n ids x)) ∷ []
+
+-- task t gives up a port
+abbrev pub dropping : ℕ → ℕ → List Change
+dropping t p = EditTask t (without_port p) ∷ Settle ∷ []

@@ -3,4 +3,5 @@ pub mod Change
 pub mod Plan
 pub mod Handle
 pub mod Sight
+pub mod Touched
 pub mod Sound

@@ -1,11 +1,9 @@
 -- Plans: what a call answers, and what it changes.
-use Rattle.std.specs.Prelude.{◌≡◌, ◌⊎◌, ℕ, ◌||◌, not, Bool, true, false, if◌then◌else◌, List, [], ◌∷◌, Option, Some, None, Result, Ok, Err}
-use Rattle.std.specs.FinMap.{retain_keys}
+use Rattle.std.specs.Prelude.{◌≡◌, ◌⊎◌, Bool, true, false, List, [], Option, Some, None, Result, Ok, Err}
 use Rattle.hurd_creds.specs.declared.errno.Errno.{Errno}
 use Rattle.hurd_creds.specs.declared.errno.Errno.TheVariants.{ENOMEM}
 use Rattle.hurd_machine.specs.declared.call.Reply.{Reply}
-use Rattle.hurd_machine.specs.declared.call.Reply.TheVariants.{Done, Found, Data, Count, Names, Refused}
-use Rattle.hurd_ports.specs.Tables.{is_held}
+use Rattle.hurd_machine.specs.declared.call.Reply.TheVariants.{Refused}
 use Rattle.hurd_machine.specs.World.{World}
 use Rattle.hurd_machine.specs.Change.{Change, apply_all}
 
@@ -39,26 +37,22 @@ answered (Ok a) k = k a
 
 abbrev pub is_refused : Reply → Bool
 is_refused (Refused e) = true
-is_refused Done = false
-is_refused (Found l) = false
-is_refused (Data bs) = false
-is_refused (Count n) = false
-is_refused (Names ns) = false
+is_refused _ = false
 
--- the world without what nothing names any more: opens that no right names
-abbrev pub settle : World → World
-settle w = record { nodes = w.nodes; homes = w.homes; servers = w.servers; opens = retain_keys w.opens (is_held w.tasks); tasks = w.tasks }
+-- the world after a plan
+abbrev pub after_plan : World → Plan → World
+after_plan w P = apply_all P.changes w
 
--- the world after a plan of task t
-abbrev pub after_plan : World → ℕ → Plan → World
-after_plan w t P = settle (apply_all t P.changes w)
+-- what a caller is told
+abbrev pub told : {T : Type 0} → (T → Reply) → Result T Errno → Reply
+told f (Ok x) = f x
+told f (Err e) = Refused e
 
-abbrev pub replied : {T : Type 0} → (T → Reply) → Result T Errno → Result Reply Errno
-replied f (Ok x) = Ok (f x)
-replied f (Err e) = Err e
+-- a call that takes no memory: the reply and the new world are those of the plan
+abbrev pub Follows : World → Plan → Reply → World → Type 0
+Follows w P reply x = (reply ≡ P.reply) × (x ≡ after_plan w P)
 
--- the answer and the new world are those of the plan, or memory was refused and nothing is changed; that may come before
--- a refusal of the plan only where `early` says so
-abbrev pub Planned : Bool → World → ℕ → Plan → Result Reply Errno → World → Type 0
-Planned early w t P (Ok r) x = (P.reply ≡ r) × (x ≡ after_plan w t P)
-Planned early w t P (Err e) x = (x ≡ w) × ((P ≡ refuse e) ⊎ ((e ≡ ENOMEM) × ((early || not (is_refused P.reply)) ≡ true)))
+-- a call that may find no memory, where the plan doesn't refuse it; it then changes nothing
+abbrev pub Planned : {T : Type 0} → World → Plan → (T → Reply) → Result T Errno → World → Type 0
+Planned w P f (Ok a) x = Follows w P (f a) x
+Planned w P f (Err e) x = (x ≡ w) × ((P ≡ refuse e) ⊎ ((e ≡ ENOMEM) × (is_refused P.reply ≡ false)))

@@ -14,18 +14,12 @@ use Rattle.hurd_trans_iface.specs.Answers.{entry_of}
 use Rattle.hurd_nodes.specs.Shown.{ServerInfo, boot_name}
 use Rattle.hurd_ports.specs.declared.table.Opened.{Opened}
 use Rattle.hurd_ports.specs.declared.table.Right.{Right}
-use Rattle.hurd_ports.specs.declared.table.Port.{Port}
-use Rattle.hurd_ports.specs.Tables.{Task, names_open}
-use Rattle.hurd_machine.specs.World.{World, boot_root, task_at, open_at, header_at, body_at, home_at, server_at}
+use Rattle.hurd_ports.specs.Tables.{Task, rights_of, names_open}
+use Rattle.hurd_machine.specs.World.{World, IsAmong, boot_root, task_at, open_at, header_at, body_at, home_at, server_at}
 
 -- a node's attributes as far as its header says them
 abbrev pub bare : Header → Attrs
 bare h = attrs_with h false
-
--- the right stands in a table
-abbrev pub HasRight : Right → List Port → Type 0
-HasRight r [] = ⊥
-HasRight r (x ∷ xs) = (x.right ≡ r) ⊎ HasRight r xs
 
 -- a task of S has the right r
 pub record Holds (S : ℕ → Bool) (w : World) (r : Right) : Type 0 where
@@ -33,7 +27,7 @@ pub record Holds (S : ℕ → Bool) (w : World) (r : Right) : Type 0 where
   pub ours : S task ≡ true
   pub seat : Task
   pub is_task : task_at w task ≡ Some seat
-  pub here : HasRight r seat.ports
+  pub here : IsAmong r (rights_of seat)
 
 -- a task of S, or a right of one, holds the uid u
 pub data HasUid (S : ℕ → Bool) (w : World) (u : ℕ) : Type 0 where
@@ -122,20 +116,24 @@ abbrev pub one_if : Bool → ℕ
 one_if true = 1
 one_if false = 0
 
--- how many ports of a table pass a test
-abbrev pub count_ports : (Port → Bool) → List Port → ℕ
-count_ports p [] = 0
-count_ports p (x ∷ xs) = one_if (p x) + count_ports p xs
+-- how many of a list pass a test
+abbrev pub count_list : {X : Type 0} → (X → Bool) → List X → ℕ
+count_list p [] = 0
+count_list p (x ∷ xs) = one_if (p x) + count_list p xs
 
 -- how many rights of all tasks pass a test
-abbrev pub count_rights : (Port → Bool) → List Task → ℕ
+abbrev pub count_rights : (Right → Bool) → List Task → ℕ
 count_rights p [] = 0
-count_rights p (t ∷ ts) = count_ports p t.ports + count_rights p ts
+count_rights p (t ∷ ts) = count_list p (rights_of t) + count_rights p ts
 
 -- whether a node's server is s
 abbrev pub is_home : Name → Option Name → Bool
 is_home s None = false
 is_home s (Some q) = same_name s q
+
+-- whether a right is on a node of the server
+abbrev pub is_on : World → Name → Right → Bool
+is_on w s r = is_home s (home_at w r.node)
 
 -- how many rights name the open
 abbrev pub holders : World → Name → ℕ
@@ -143,7 +141,7 @@ holders w o = count_rights (names_open o) w.tasks
 
 -- how many rights there are on nodes of the server
 abbrev pub users : World → Name → ℕ
-users w s = count_rights (λ p. is_home s (home_at w p.right.node)) w.tasks
+users w s = count_rights (is_on w s) w.tasks
 
 -- what a part is
 pub data Value : Type 0 where

@@ -1,38 +1,25 @@
 -- Worlds that hang together.
-use Rattle.std.specs.Prelude.{◌≡◌, ◌⊎◌, ℕ, ◌<◌, true, List, [], ◌∷◌, length, Some, None}
+use Rattle.std.specs.Prelude.{◌≡◌, ℕ, ◌<◌, true, false, List, [], ◌∷◌, Some, None}
+
 use Rattle.std.specs.FinMap.{get}
 use Rattle.std.specs.FinSet as set
 use Rattle.hurd_creds.specs.declared.name.Name.{Name}
-use Rattle.hurd_creds.specs.declared.attrs.Kind.TheVariants.{File, Dir}
+use Rattle.hurd_creds.specs.declared.attrs.Kind.TheVariants.{Dir}
 use Rattle.hurd_creds.specs.Bits.{asks, WRITE}
-use Rattle.hurd_trans_iface.specs.Nodes.{Node, Entry, Header, Body, Content, Listing}
-use Rattle.hurd_trans_iface.specs.Answers.{entry_in, entry_of}
-use Rattle.hurd_nodes.specs.Shown.{ServerInfo}
+use Rattle.hurd_trans_iface.specs.Nodes.{Node, Entry, Header, Body, Content, Listing, IsShaped, is_dir, header_of, body_of}
+use Rattle.hurd_trans_iface.specs.Answers.{entry_in}
+use Rattle.hurd_trans_iface.specs.Kinds.{behaviour_of}
+use Rattle.hurd_trans_iface.specs.Good.{IsSized}
+use Rattle.hurd_nodes.specs.Shown.{NodeState, ServerInfo, server_of}
 use Rattle.hurd_ports.specs.declared.table.Opened.{Opened}
 use Rattle.hurd_ports.specs.declared.table.Right.{Right}
 use Rattle.hurd_ports.specs.declared.table.Port.{Port}
-use Rattle.hurd_ports.specs.Tables.{Task, IsSettled}
-use Rattle.hurd_machine.specs.World.{World, boot_root, ports_of, task_at, open_at, header_at, body_at, home_at, server_at}
-use Rattle.hurd_machine.specs.Sight.{HasRight}
+use Rattle.hurd_ports.specs.Tables.{Task, rights_of, IsSettled}
+use Rattle.hurd_machine.specs.World.{World, IsAmong, boot_root, nodes_of, ports_of, task_at, open_at, header_at, body_at, server_at, lists_at}
 
 -- the name was given already: its task has made more things than its count. No task makes the boot names.
 abbrev pub Below : World → Name → Type 0
 Below w n = (x : Task) → task_at w n.task.0 ≡ Some x → n.count < x.made
-
--- the port stands in a table
-abbrev pub HasPort : Port → List Port → Type 0
-HasPort p [] = ⊥
-HasPort p (x ∷ xs) = (x ≡ p) ⊎ HasPort p xs
-
--- kind and body go together
-abbrev pub IsShaped : Header → Body → Type 0
-IsShaped h (Content bs) = h.kind ≡ File
-IsShaped h (Listing es) = h.kind ≡ Dir
-
--- a file's size is the length of its bytes, a directory's is 0
-abbrev pub IsSized : Header → Body → Type 0
-IsSized h (Content bs) = h.size ≡ length bs
-IsSized h (Listing es) = h.size ≡ 0
 
 -- no two entries have one name
 abbrev pub AreDistinct : List Entry → Type 0
@@ -44,48 +31,63 @@ abbrev pub HasDistinctNames : Body → Type 0
 HasDistinctNames (Content bs) = Unit {0}
 HasDistinctNames (Listing es) = AreDistinct es
 
--- what holds of every world, also before what nothing names is taken out
-pub record Coherent (w : World) : Type 0 where
-  -- what stands in the world was made: nodes, opens, servers, and what rights, entries and parents name
+-- what stands in the world was made: nodes, opens, servers, and what rights, entries and parents name
+pub record AreGiven (w : World) : Type 0 where
   pub nodes : (n : Name) (x : Node) → get w.nodes n ≡ Some x → Below w n
   pub opens : (o : Name) (x : Opened) → open_at w o ≡ Some x → Below w o
   pub servers : (s : Name) (i : ServerInfo) → server_at w s ≡ Some i → Below w s
-  pub rights : (t : ℕ) (x : Task) (r : Right) → task_at w t ≡ Some x → HasRight r x.ports
-      → Below w r.node × Below w r.open_name
-  pub entries : (d n : Name) (name : List ℕ) → entry_of name (body_at w d) ≡ Some n → Below w n
+  pub rights : (t : ℕ) (x : Task) (r : Right) → task_at w t ≡ Some x → IsAmong r (rights_of x) → Below w r.node × Below w r.open_name
+  pub entries : (d n : Name) → lists_at n (body_at w d) ≡ true → Below w n
   pub parents : (n p : Name) (h : Header) → header_at w n ≡ Some h → h.parent ≡ Some p → Below w p
-  -- each node has a server, which is there; only nodes have one
-  pub homes : (n : Name) (h : Header) → header_at w n ≡ Some h
-      → (s : Name) × (i : ServerInfo) × (home_at w n ≡ Some s) × (server_at w s ≡ Some i)
-  pub housed : (n s : Name) → home_at w n ≡ Some s → (h : Header) × (header_at w n ≡ Some h)
-  -- each server's root is a node of its own
-  pub roots : (s : Name) (i : ServerInfo) → server_at w s ≡ Some i → home_at w i.root ≡ Some s
-  -- a server holds one uid and no gids
-  pub serving : (s : Name) (i : ServerInfo) → server_at w s ≡ Some i
-      → (u : ℕ) × (i.ids ≡ record { uids = set.from_list (u ∷ []); gids = set.from_list [] })
-  -- an entry is of its directory's server; where it names a directory, that has this one as its parent
-  pub kin : (d n : Name) (name : List ℕ) → entry_of name (body_at w d) ≡ Some n → home_at w n ≡ home_at w d
-  pub below : (d n : Name) (name : List ℕ) (h : Header) → entry_of name (body_at w d) ≡ Some n
-      → header_at w n ≡ Some h → h.kind ≡ Dir → h.parent ≡ Some d
-  -- directories have entries, each of its own name, and files have bytes
-  pub shapes : (n : Name) (x : Node) → get w.nodes n ≡ Some x → IsShaped x.header x.body
-  pub distinct : (n : Name) (x : Node) → get w.nodes n ≡ Some x → HasDistinctNames x.body
-  -- port numbers are below the next one
-  pub numbers : (t : ℕ) (x : Task) (p : Port) → task_at w t ≡ Some x → HasPort p x.ports → p.number < x.next
-  -- the open of each right is there
-  pub opened : (t : ℕ) (x : Task) (r : Right) → task_at w t ≡ Some x → HasRight r x.ports
-      → (o : Opened) × (open_at w r.open_name ≡ Some o)
-  -- the rights of an open are on one node
-  pub shared : (t q : ℕ) (x y : Task) (r p : Right) → task_at w t ≡ Some x → HasRight r x.ports
-      → task_at w q ≡ Some y → HasRight p y.ports → r.open_name ≡ p.open_name → r.node ≡ p.node
-  -- what is open to write is a file
-  pub written : (t : ℕ) (x : Task) (r : Right) (o : Opened) (h : Header) → task_at w t ≡ Some x → HasRight r x.ports
-      → open_at w r.open_name ≡ Some o → asks o.modes WRITE ≡ true → header_at w r.node ≡ Some h → h.kind ≡ File
-  -- the boot root stands
-  pub root : (h : Header) × (header_at w boot_root ≡ Some h)
 
--- a world that hangs together, in which sizes are those of the bytes, and from which nothing is to be taken out
+-- nodes and their servers
+pub record AreHoused (h : NodeState) : Type 0 where
+  -- each node has a server, which is there; only nodes have one
+  pub homes : (n : Name) (k : Header) → header_of h.nodes n ≡ Some k → (s : Name) × (i : ServerInfo) × (get h.homes n ≡ Some s) × (get h.servers s ≡ Some i)
+  pub housed : (n s : Name) → get h.homes n ≡ Some s → (k : Header) × (header_of h.nodes n ≡ Some k)
+  -- each server's root is a node of its own
+  pub roots : (s : Name) (i : ServerInfo) → get h.servers s ≡ Some i → get h.homes i.root ≡ Some s
+  -- a server holds one uid and no gids
+  pub serving : (s : Name) (i : ServerInfo) → get h.servers s ≡ Some i
+      → (u : ℕ) × (i.ids ≡ record { uids = set.from_list (u ∷ []); gids = set.from_list [] })
+
+-- directories and what is in them
+pub record IsTree (h : NodeState) : Type 0 where
+  -- an entry is of its directory's server; where it names a directory, that has this one as its parent
+  pub kin : (d n : Name) → lists_at n (body_of h.nodes d) ≡ true → get h.homes n ≡ get h.homes d
+  pub below : (d n : Name) (k : Header) → lists_at n (body_of h.nodes d) ≡ true → header_of h.nodes n ≡ Some k → k.kind ≡ Dir → k.parent ≡ Some d
+  -- directories have entries, each of its own name, and other nodes have bytes
+  pub shapes : (n : Name) (x : Node) → get h.nodes n ≡ Some x → IsShaped x.header x.body
+  pub distinct : (n : Name) (x : Node) → get h.nodes n ≡ Some x → HasDistinctNames x.body
+  -- the boot root stands
+  pub root : (k : Header) × (header_of h.nodes boot_root ≡ Some k)
+
+-- tables of ports, and opens
+pub record AreTables (w : World) : Type 0 where
+  -- port numbers are below the next one
+  pub numbers : (t : ℕ) (x : Task) (p : Port) → task_at w t ≡ Some x → IsAmong p x.ports → p.number < x.next
+  -- the open of each right is there
+  pub opened : (t : ℕ) (x : Task) (r : Right) → task_at w t ≡ Some x → IsAmong r (rights_of x) → (o : Opened) × (open_at w r.open_name ≡ Some o)
+  -- the rights of an open are on one node
+  pub shared : (t q : ℕ) (x y : Task) (r p : Right) → task_at w t ≡ Some x → IsAmong r (rights_of x)
+      → task_at w q ≡ Some y → IsAmong p (rights_of y) → r.open_name ≡ p.open_name → r.node ≡ p.node
+  -- what is open to write is no directory
+  pub written : (t : ℕ) (x : Task) (r : Right) (o : Opened) (k : Header) → task_at w t ≡ Some x → IsAmong r (rights_of x)
+      → open_at w r.open_name ≡ Some o → asks o.modes WRITE ≡ true → header_at w r.node ≡ Some k → is_dir k.kind ≡ false
+
+-- what holds of every world, also between the changes of a call
+pub record Coherent (w : World) : Type 0 where
+  pub given : AreGiven w
+  pub housing : AreHoused (nodes_of w)
+  pub tree : IsTree (nodes_of w)
+  pub tables : AreTables w
+
+-- each node has the size that its server says
+abbrev pub AreSized : NodeState → Type 0
+AreSized h = (n : Name) (x : Node) (i : ServerInfo) → get h.nodes n ≡ Some x → server_of h n ≡ Some i → IsSized (behaviour_of i.kind) i.text x
+
+-- a world that hangs together, in which sizes are right, and from which nothing is to be taken out
 pub record Sound (w : World) : Type 0 where
   pub coherent : Coherent w
-  pub sizes : (n : Name) (x : Node) → get w.nodes n ≡ Some x → IsSized x.header x.body
+  pub sizes : AreSized (nodes_of w)
   pub settled : IsSettled (ports_of w)

@@ -1,13 +1,18 @@
 -- The world as a value, and what is read of it.
-use Rattle.std.specs.Prelude.{◌≡◌, ℕ, Bool, true, false, List, Option, Some, None, slice_get}
+use Rattle.std.specs.Prelude.{◌≡◌, ◌⊎◌, ℕ, Bool, true, false, List, [], ◌∷◌, Option, Some, None, Result, slice_get}
+use Rattle.std.specs.List.{list_any}
 use Rattle.std.specs.Option.{option_map}
 use Rattle.std.specs.FinMap.{get}
 use Rattle.hurd_creds.specs.declared.name.Name.{Name}
+use Rattle.hurd_creds.specs.declared.attrs.Kind.{Kind}
+use Rattle.hurd_creds.specs.declared.errno.Errno.{Errno}
 use Rattle.hurd_creds.specs.NameMaps.{NameMap}
-use Rattle.hurd_trans_iface.specs.Nodes.{NodeMap, Node, Header, Body}
-use Rattle.hurd_nodes.specs.Shown.{NodesHalf, ServerInfo, boot_name, is_root_of}
+use Rattle.hurd_creds.specs.Names.{same_name}
+use Rattle.hurd_trans_iface.specs.Nodes.{NodeMap, Node, Entry, Header, Body, Content, Listing}
+use Rattle.hurd_trans_iface.specs.Behaviour.{Question, Effect}
+use Rattle.hurd_nodes.specs.Shown.{NodeState, ServerInfo, boot_name, is_root, server_of, effect_at, can_make}
 use Rattle.hurd_ports.specs.declared.table.Opened.{Opened}
-use Rattle.hurd_ports.specs.Tables.{PortsHalf, OpenMap, Task}
+use Rattle.hurd_ports.specs.Tables.{PortState, OpenMap, Task}
 
 -- nodes by name, of each node its server, servers, opens, and the tasks in order
 pub record World : Type 0 where
@@ -18,10 +23,13 @@ pub record World : Type 0 where
   pub tasks : List Task
 
 -- the world that nodes and ports make together
-abbrev pub world_from : NodesHalf → PortsHalf → World
+abbrev pub world_from : NodeState → PortState → World
 world_from n p = record { nodes = n.nodes; homes = n.homes; servers = n.servers; opens = p.opens; tasks = p.tasks }
 
-abbrev pub ports_of : World → PortsHalf
+abbrev pub nodes_of : World → NodeState
+nodes_of w = record { nodes = w.nodes; homes = w.homes; servers = w.servers }
+
+abbrev pub ports_of : World → PortState
 ports_of w = record { opens = w.opens; tasks = w.tasks }
 
 -- the root of the tree
@@ -33,6 +41,9 @@ task_at w t = slice_get w.tasks t
 
 abbrev pub open_at : World → Name → Option Opened
 open_at w o = get w.opens o
+
+abbrev pub node_at : World → Name → Option Node
+node_at w n = get w.nodes n
 
 abbrev pub header_at : World → Name → Option Header
 header_at w n = option_map (λ x. x.header) (get w.nodes n)
@@ -47,6 +58,36 @@ home_at w n = get w.homes n
 abbrev pub server_at : World → Name → Option ServerInfo
 server_at w s = get w.servers s
 
+-- what is known of the server of a node
+abbrev pub info_at : World → Name → Option ServerInfo
+info_at w n = server_of (nodes_of w) n
+
 -- whether a node is the root of its server
 abbrev pub is_server_root : World → Name → Bool
-is_server_root w n = is_root_of w.servers n (home_at w n)
+is_server_root w n = is_root (nodes_of w) n
+
+-- what a node's server answers of it, and does to it
+abbrev pub asked_at : {T : Type 0} → Question T → Name → World → Effect T
+asked_at q n w = effect_at q n (nodes_of w)
+
+-- whether a node of a kind may be made in a directory under a name
+abbrev pub makes_at : World → Name → List ℕ → Kind → Result (Unit {0}) Errno
+makes_at w d name kind = can_make d name kind (nodes_of w)
+
+-- whether a body has an entry for a node
+
+abbrev pub is_of : Name → Entry → Bool
+is_of n e = same_name e.node n
+
+abbrev pub lists : Name → Body → Bool
+lists n (Content bs) = false
+lists n (Listing es) = list_any (is_of n) es
+
+abbrev pub lists_at : Name → Option Body → Bool
+lists_at n None = false
+lists_at n (Some b) = lists n b
+
+-- x is one of a list
+abbrev pub IsAmong : {X : Type 0} → X → List X → Type 0
+IsAmong x [] = ⊥
+IsAmong x (y ∷ ys) = (y ≡ x) ⊎ IsAmong x ys

@@ -12,4 +12,4 @@ mod call;
 mod handle;
 
 pub use call::{Call, Lookup, Reply};
-pub use handle::{Handle, handle_of};
+pub use handle::Handle;

@@ -8,15 +8,15 @@ use Rattle.hurd_ports.specs.declared.table.TaskSeat.{TaskSeat}
 use Rattle.hurd_ports.specs.declared.table.Opened.{Opened}
 use Rattle.hurd_ports.specs.declared.table.Port.{Port}
 use Rattle.hurd_ports.specs.declared.opens.OpenSeat.{OpenSeat}
-use Rattle.hurd_ports.specs.Tables.{Task, OpenMap, PortsHalf, is_held}
+use Rattle.hurd_ports.specs.Tables.{Task, OpenMap, PortState, is_held}
 
 -- what a seat stands for
-abbrev pub task_of : TaskSeat → Task
-task_of s = record { ids = s.ids; ports = s.ports.items; next = s.next; made = s.made }
+abbrev pub seat_task : TaskSeat → Task
+seat_task s = record { ids = s.ids; ports = s.ports.items; next = s.next; made = s.made }
 
 -- the tasks of the seats, in their order
 abbrev pub tasks_of : List TaskSeat → List Task
-tasks_of ss = map task_of ss
+tasks_of ss = map seat_task ss
 
 -- the name of an open, and what it is
 abbrev pub open_key : OpenSeat → Name
@@ -30,7 +30,7 @@ abbrev pub opens_of : List OpenSeat → OpenMap
 opens_of os = keyed open_key open_value os
 
 -- both together
-abbrev pub half_of : List OpenSeat → List TaskSeat → PortsHalf
+abbrev pub half_of : List OpenSeat → List TaskSeat → PortState
 half_of os ss = record { opens = opens_of os; tasks = tasks_of ss }
 
 -- the opens but the one of this name, unless some right names it

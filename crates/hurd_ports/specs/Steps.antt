@@ -1,4 +1,4 @@
--- What the calls on tables answer, and leave.
+-- What calls do to tasks, ports and opens.
 use Rattle.std.specs.Prelude.{ℕ, ◌+◌, ◌==◌, if◌then◌else◌, List, [], ◌∷◌, ◌++◌, map, Option, Some, None, Result, Ok, Err, slice_get, slice_set}
 use Rattle.std.specs.FinMap as fin
 use Rattle.hurd_creds.specs.declared.name.Name.{Name}
@@ -10,101 +10,92 @@ use Rattle.hurd_creds.specs.NameMaps.{edit}
 use Rattle.hurd_ports.specs.declared.table.Opened.{Opened}
 use Rattle.hurd_ports.specs.declared.table.Right.{Right}
 use Rattle.hurd_ports.specs.declared.table.Port.{Port}
-use Rattle.hurd_ports.specs.declared.table.MadePort.{MadePort}
-use Rattle.hurd_ports.specs.Tables.{Task, PortsHalf, OpenMap, right_in, fresh, has_room, is_held}
+use Rattle.hurd_ports.specs.Tables.{Task, PortState, OpenMap, right_in, fresh, has_room, is_held}
 
 -- a task that has made nothing, with an empty table
 abbrev pub new_task : ℕ → IdSets → Task
 new_task next ids = record { ids = ids; ports = []; next = next; made = 0 }
 
 -- empty tables for tasks with these ids
-abbrev pub starting_at : List IdSets → ℕ → PortsHalf
+abbrev pub starting_at : List IdSets → ℕ → PortState
 starting_at tasks next = record { opens = fin.empty; tasks = map (new_task next) tasks }
 
--- an open from its beginning
-abbrev pub new_open : OpenFlags → Opened
-new_open modes = record { cursor = 0; modes = modes }
+-- what a task becomes
 
--- the task with one more port, whose open has the next name
-abbrev pub with_port : ℕ → Name → IdSets → Task → Task
-with_port t n ids x = record {
-  ids = x.ids;
-  ports = x.ports ++ record { number = x.next; right = record { node = n; ids = ids; open_name = fresh t x } } ∷ [];
-  next = x.next + 1;
-  made = x.made + 1;
-}
+-- it named so many things more
+abbrev pub named : ℕ → Task → Task
+named k x = record x { made = x.made + k }
 
--- the task after it named one thing
-abbrev pub one_made : Task → Task
-one_made x = record { ids = x.ids; ports = x.ports; next = x.next; made = x.made + 1 }
-
-abbrev pub room_at : ℕ → Option Task → Result (Unit {0}) Errno
-room_at names None = Err ESRCH
-room_at names (Some x) = if has_room names x then Ok tt else Err EOVERFLOW
-
--- whether a port can be numbered and so many things named: ESRCH no such task, EOVERFLOW
-abbrev pub room_of : PortsHalf → ℕ → ℕ → Result (Unit {0}) Errno
-room_of h t names = room_at names (slice_get h.tasks t)
-
-abbrev pub insert_at : PortsHalf → ℕ → Name → IdSets → OpenFlags → Option Task → Result ℕ Errno × PortsHalf
-insert_at h t n ids modes None = (Err ESRCH, h)
-insert_at h t n ids modes (Some x) =
-    if has_room 1 x
-    then (Ok x.next, record { opens = fin.insert h.opens (fresh t x) (new_open modes); tasks = slice_set h.tasks t (with_port t n ids x) })
-    else (Err EOVERFLOW, h)
-
--- a port of the task on the node, with an open of its own
-abbrev pub insert_step : ℕ → Name → IdSets → OpenFlags → PortsHalf → Result ℕ Errno × PortsHalf
-insert_step t n ids modes h = insert_at h t n ids modes (slice_get h.tasks t)
-
-abbrev pub insert_made_at : PortsHalf → ℕ → IdSets → OpenFlags → Option Task → Result MadePort Errno × PortsHalf
-insert_made_at h t ids modes None = (Err ESRCH, h)
-insert_made_at h t ids modes (Some x) =
-    if has_room 2 x
-    then (
-      Ok (record { number = x.next; node = fresh t x }),
-      record { opens = fin.insert h.opens (fresh t (one_made x)) (new_open modes); tasks = slice_set h.tasks t (with_port t (fresh t x) ids (one_made x)) },
-    )
-    else (Err EOVERFLOW, h)
-
--- a port of the task on a node that is to be made, which takes the next name before the open
-abbrev pub insert_made_step : ℕ → IdSets → OpenFlags → PortsHalf → Result MadePort Errno × PortsHalf
-insert_made_step t ids modes h = insert_made_at h t ids modes (slice_get h.tasks t)
+-- one more port, under the next number
+abbrev pub with_port : Right → Task → Task
+with_port r x = record x { ports = x.ports ++ record { number = x.next; right = r } ∷ []; next = x.next + 1 }
 
 -- the ports but the one of this number
 abbrev pub ports_without : ℕ → List Port → List Port
 ports_without p [] = []
 ports_without p (x ∷ xs) = if p == x.number then xs else x ∷ ports_without p xs
 
-abbrev pub less_port : ℕ → Task → Task
-less_port p x = record { ids = x.ids; ports = ports_without p x.ports; next = x.next; made = x.made }
+abbrev pub without_port : ℕ → Task → Task
+without_port p x = record x { ports = ports_without p x.ports }
 
-abbrev pub with_opens : PortsHalf → OpenMap → PortsHalf
-with_opens h m = record { opens = m; tasks = h.tasks }
+abbrev pub edit_at : ℕ → (Task → Task) → List Task → Option Task → List Task
+edit_at q f ts None = ts
+edit_at q f ts (Some x) = slice_set ts q (f x)
 
--- without the opens that no right names
-abbrev pub settle_opens : PortsHalf → PortsHalf
-settle_opens h = with_opens h (fin.retain_keys h.opens (is_held h.tasks))
+-- the tasks with one changed, if it is there
+abbrev pub edit_task : ℕ → (Task → Task) → List Task → List Task
+edit_task q f ts = edit_at q f ts (slice_get ts q)
 
-abbrev pub dropped : PortsHalf → ℕ → ℕ → Task → Option Right → Result (Unit {0}) Errno × PortsHalf
-dropped h t p x None = (Err EBADF, h)
-dropped h t p x (Some r) = (Ok tt, settle_opens (record { opens = h.opens; tasks = slice_set h.tasks t (less_port p x) }))
+-- what becomes of opens
 
-abbrev pub deallocate_at : PortsHalf → ℕ → ℕ → Option Task → Result (Unit {0}) Errno × PortsHalf
-deallocate_at h t p None = (Err ESRCH, h)
-deallocate_at h t p (Some x) = dropped h t p x (right_in p x.ports)
-
--- without this port, and without its open where no other right names that
-abbrev pub deallocate_step : ℕ → ℕ → PortsHalf → Result (Unit {0}) Errno × PortsHalf
-deallocate_step t p h = deallocate_at h t p (slice_get h.tasks t)
+-- an open from its beginning
+abbrev pub new_open : OpenFlags → Opened
+new_open modes = record { cursor = 0; modes = modes }
 
 abbrev pub at_cursor : ℕ → Opened → Opened
-at_cursor k o = record { cursor = k; modes = o.modes }
+at_cursor k o = record o { cursor = k }
+
+-- without the opens that no right names
+abbrev pub settle_opens : PortState → PortState
+settle_opens h = record h { opens = fin.retain_keys h.opens (is_held h.tasks) }
+
+-- what calls on tables answer, and leave
+
+-- the right on a node, with ids, by the open that the task names next
+abbrev pub new_right : ℕ → Name → IdSets → Task → Right
+new_right t n ids x = record { node = n; ids = ids; open_name = fresh t x }
+
+-- with a port of a task on a node, and a new open of its own
+abbrev pub with_new_port : ℕ → Name → IdSets → OpenFlags → Task → PortState → PortState
+with_new_port t n ids modes x h = record {
+  opens = fin.insert h.opens (fresh t x) (new_open modes);
+  tasks = edit_task t (with_port (new_right t n ids x)) (edit_task t (named 1) h.tasks);
+}
+
+abbrev pub insert_at : PortState → ℕ → Name → IdSets → OpenFlags → Option Task → Result ℕ Errno × PortState
+insert_at h t n ids modes None = (Err ESRCH, h)
+insert_at h t n ids modes (Some x) = if has_room 1 x then (Ok x.next, with_new_port t n ids modes x h) else (Err EOVERFLOW, h)
+
+-- a port of the task on the node, with an open of its own
+abbrev pub insert_step : ℕ → Name → IdSets → OpenFlags → PortState → Result ℕ Errno × PortState
+insert_step t n ids modes h = insert_at h t n ids modes (slice_get h.tasks t)
+
+-- the task names one thing
+abbrev pub name_step : ℕ → PortState → PortState
+name_step t h = record h { tasks = edit_task t (named 1) h.tasks }
+
+abbrev pub dropped : PortState → ℕ → ℕ → Option Right → Result (Unit {0}) Errno × PortState
+dropped h t p None = (Err EBADF, h)
+dropped h t p (Some r) = (Ok tt, settle_opens (record h { tasks = edit_task t (without_port p) h.tasks }))
+
+abbrev pub deallocate_at : PortState → ℕ → ℕ → Option Task → Result (Unit {0}) Errno × PortState
+deallocate_at h t p None = (Err ESRCH, h)
+deallocate_at h t p (Some x) = dropped h t p (right_in p x.ports)
+
+-- without this port, and without its open where no other right names that
+abbrev pub deallocate_step : ℕ → ℕ → PortState → Result (Unit {0}) Errno × PortState
+deallocate_step t p h = deallocate_at h t p (slice_get h.tasks t)
 
 -- with the open's cursor moved
-abbrev pub move_cursor_step : Name → ℕ → PortsHalf → PortsHalf
-move_cursor_step o k h = with_opens h (edit o (at_cursor k) h.opens)
-
-abbrev pub ids_at : Option Task → Result IdSets Errno
-ids_at None = Err ESRCH
-ids_at (Some x) = Ok x.ids
+abbrev pub move_cursor_step : Name → ℕ → PortState → PortState
+move_cursor_step o k h = record h { opens = edit o (at_cursor k) h.opens }

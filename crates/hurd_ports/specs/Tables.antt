@@ -1,11 +1,12 @@
 -- Tasks, ports and opens as values.
-use Rattle.std.specs.Prelude.{◌≡◌, ℕ, ◌+◌, ◌==◌, ◌&&◌, ◌||◌, Bool, true, false, if◌then◌else◌, List, [], ◌∷◌, Option, Some, None, Result, Ok, Err, slice_get, nat_lt, nat_le, refl}
+use Rattle.std.specs.Prelude.{◌≡◌, ℕ, ◌+◌, ◌==◌, ◌&&◌, Bool, true, if◌then◌else◌, List, [], ◌∷◌, map, Option, Some, None, Result, Ok, Err, slice_get, nat_lt, nat_le, refl}
+use Rattle.std.specs.List.{list_any}
 use Rattle.std.specs.FinMap as fin
 use Rattle.std.specs.Borrow.{Bor}
-use Rattle.std.specs.Coded.{Coded, code_by, coded×, coded_ℕ, coded_list}
+use Rattle.std.specs.Coded.{Coded, code_by, coded×, coded_ℕ, coded_list, coded_option}
 use Rattle.hurd_creds.specs.declared.name.Name.{Name}
 use Rattle.hurd_creds.specs.declared.errno.Errno.{Errno}
-use Rattle.hurd_creds.specs.declared.errno.Errno.TheVariants.{EBADF, ESRCH}
+use Rattle.hurd_creds.specs.declared.errno.Errno.TheVariants.{EBADF, ESRCH, EOVERFLOW}
 use Rattle.hurd_creds.specs.Access.{IdSets, coded_ids}
 use Rattle.hurd_creds.specs.Names.{name_of, coded_name, same_name}
 use Rattle.hurd_creds.specs.NameMaps.{NameMap}
@@ -26,17 +27,28 @@ abbrev pub OpenMap : Type 0
 OpenMap = NameMap Opened
 
 -- what is open, and the tasks in their order
-pub record PortsHalf : Type 0 where
+pub record PortState : Type 0 where
   pub opens : OpenMap
   pub tasks : List Task
+
+-- beside that, the task for whose next port there is room in memory
+pub record Tables : Type 0 where
+  pub state : PortState
+  pub ready : Option ℕ
 
 abbrev pub coded_task : Coded Task
 coded_task =
     code_by (IdSets × (List Port × (ℕ × ℕ))) (coded× coded_ids (coded× (coded_list port.the_row.coded) (coded× coded_ℕ coded_ℕ)))
     (λ x. (x.ids, (x.ports, (x.next, x.made)))) (λ p. record { ids = p.0; ports = p.1.0; next = p.1.1.0; made = p.1.1.1 }) (λ _. refl)
 
-abbrev pub coded_half : Coded PortsHalf
-coded_half = code_by (OpenMap × List Task) (coded× (fin.code coded_name opened.the_row.coded) (coded_list coded_task)) (λ h. (h.opens, h.tasks)) (λ p. record { opens = p.0; tasks = p.1 }) (λ _. refl)
+abbrev pub coded_tables : Coded Tables
+coded_tables =
+    code_by (OpenMap × (List Task × Option ℕ)) (coded× (fin.code coded_name opened.the_row.coded) (coded× (coded_list coded_task) (coded_option coded_ℕ)))
+    (λ h. (h.state.opens, (h.state.tasks, h.ready))) (λ p. record { state = record { opens = p.0; tasks = p.1.0 }; ready = p.1.1 }) (λ _. refl)
+
+-- all rights of a task
+abbrev pub rights_of : Task → List Right
+rights_of x = map (λ p. p.right) x.ports
 
 -- the right under a number
 abbrev pub right_in : ℕ → List Port → Option Right
@@ -47,17 +59,21 @@ abbrev pub or_refuse : {A : Type 0} → Errno → Option A → Result A Errno
 or_refuse e None = Err e
 or_refuse e (Some a) = Ok a
 
+-- a task: ESRCH where it isn't there
+abbrev pub task_of : PortState → ℕ → Result Task Errno
+task_of h t = or_refuse ESRCH (slice_get h.tasks t)
+
 abbrev pub right_at : ℕ → Option Task → Result Right Errno
 right_at p None = Err ESRCH
 right_at p (Some x) = or_refuse EBADF (right_in p x.ports)
 
 -- the right of a task under a number: ESRCH no such task, EBADF no such port
-abbrev pub right_of : PortsHalf → ℕ → ℕ → Result Right Errno
+abbrev pub right_of : PortState → ℕ → ℕ → Result Right Errno
 right_of h t p = right_at p (slice_get h.tasks t)
 
--- the name of what a task makes after k other things of the same call
-abbrev pub fresh_after : ℕ → ℕ → Task → Name
-fresh_after k t x = name_of t (x.made + k)
+abbrev pub ids_at : Option Task → Result IdSets Errno
+ids_at None = Err ESRCH
+ids_at (Some x) = Ok x.ids
 
 -- the next name of a task
 abbrev pub fresh : ℕ → Task → Name
@@ -70,24 +86,24 @@ u64_greatest = 18446744073709551615
 abbrev pub has_room : ℕ → Task → Bool
 has_room names x = nat_lt x.next u64_greatest && nat_le (x.made + names) u64_greatest
 
-abbrev pub names_open : Name → Port → Bool
-names_open o p = same_name p.right.open_name o
+abbrev pub room_at : ℕ → Option Task → Result (Unit {0}) Errno
+room_at names None = Err ESRCH
+room_at names (Some x) = if has_room names x then Ok tt else Err EOVERFLOW
 
-abbrev pub any : {X : Type 0} → (X → Bool) → List X → Bool
-any p [] = false
-any p (x ∷ xs) = p x || any p xs
+-- whether a port can be numbered and so many things named: ESRCH no such task, EOVERFLOW
+abbrev pub room_of : PortState → ℕ → ℕ → Result (Unit {0}) Errno
+room_of h t names = room_at names (slice_get h.tasks t)
+
+abbrev pub names_open : Name → Right → Bool
+names_open o r = same_name r.open_name o
 
 -- some right names the open
 unfoldable pub is_held : List Task → Name → Bool
-is_held ts o = any (λ (t : Task). any (names_open o) t.ports) ts
+is_held ts o = list_any (λ (x : Task). list_any (names_open o) (rights_of x)) ts
 
 -- nothing is to be taken out: each open is held
-abbrev pub IsSettled : PortsHalf → Type 0
+abbrev pub IsSettled : PortState → Type 0
 IsSettled h = (o : Name) (x : Opened) → fin.get h.opens o ≡ Some x → is_held h.tasks o ≡ true
-
--- no open has the name that the task gives next but k
-abbrev pub IsFresh : ℕ → ℕ → PortsHalf → Type 0
-IsFresh k t h = (x : Task) → slice_get h.tasks t ≡ Some x → fin.get h.opens (fresh_after k t x) ≡ None
 
 -- what is lent
 abbrev pub lent : {A E : Type 0} → Result (Bor A) E → Result A E

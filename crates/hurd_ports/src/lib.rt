@@ -1,16 +1,7 @@
-//! Tasks with their ports, and what is open.
-//!
-//! A task has a table of ports: rights by number. Numbers rise from the one that the table begins with, and none is
-//! used again. Each right names a node and an open; an open has a cursor and modes, and goes with its last right.
-//!
-//! It knows no nodes: a right may name one that is gone. What a right allows is for the calls to say.
+//! Stub.
 #![tactic(auto)]
 
 mod opens;
-mod ports;
 mod table;
-#[cfg(test)]
-mod tests;
 
-pub use ports::Ports;
-pub use table::{MadePort, Opened, Port, Right, TaskSeat};
+pub use table::{Opened, Port, Right};

@@ -1,35 +1,10 @@
-//! What is open, in a list.
-ghost use Rattle.std.specs.Prelude.{◌≡◌, ◌<◌, length, IfSome};
-ghost use Rattle.std.specs.FinMap as fin;
-ghost use Rattle.hurd_creds.specs.NameMaps.{place_by};
-ghost use Rattle.hurd_ports.specs.Seats.{open_key, opens_of};
-
+//! Opens.
 use crate::table::Opened;
 use hurd_creds::OpenName;
 
 /// An open under its name.
-#[derive(Debug, Drop)]
+#[derive(Clone, Copy, Debug)]
 pub struct OpenSeat {
     pub name: OpenName,
     pub opened: Opened,
-}
-
-/// The index of the open of this name.
-pub(crate) fn place(opens: &[OpenSeat], name: OpenName) -> Option<usize>
-    ensures is { result ≡ place_by open_key name opens.now }
-    ensures below { IfSome result (λ i. i < length opens.now) }
-{
-    for (i, seat) in opens.iter().enumerate() {
-        if name == seat.name {
-            return Some(i);
-        }
-    }
-    None
-}
-
-/// Takes out the open of this name.
-pub(crate) fn remove(opens: &mut Vec<OpenSeat>, name: OpenName)
-    ensures { opens_of opens.new.items ≡ fin.remove (opens_of opens.old.items) name }
-{
-    opens.retain(|seat| name != seat.name);
 }

@@ -1,15 +1,15 @@
 -- What is known of each server that words make.
 use Rattle.std.proofs.Common.{◌≡◌, Bool, true, false, cond, List, ℕ, [], ◌∷◌, refl, codes}
 use Rattle.std.specs.Prelude.{Some, None}
-use Rattle.hurd_trans_iface.specs.Answers.{same_bytes}
-use Rattle.hurd_trans_iface.specs.Meaning.{Meaning, begin, new_tmpfs}
+use Rattle.std.specs.Str.{bytes_eq}
+use Rattle.hurd_trans_iface.specs.Meaning.{Meaning, Tmpfs, begin, new_server}
 
-rootless-if : (b : Bool) (m : Meaning) → cond b (Some new_tmpfs) None ≡ Some m → m.root ≡ None
-rootless-if true m h = let e : new_tmpfs ≡ m = cc in rw (← e) refl
+rootless-if : (b : Bool) (m : Meaning) → cond b (Some (new_server Tmpfs [])) None ≡ Some m → m.root ≡ None
+rootless-if true m h = let e : new_server Tmpfs [] ≡ m = cc in rw (← e) refl
 rootless-if false m h = absurd (cc)
 
 -- its root has no name yet
 pub begun-rootless : (ws : List (List ℕ)) (m : Meaning) → begin ws ≡ Some m → m.root ≡ None
 begun-rootless [] m h = absurd (cc)
-begun-rootless (w ∷ []) m h = rootless-if (same_bytes w (codes "/hurd/tmpfs")) m h
+begun-rootless (w ∷ []) m h = rootless-if (bytes_eq w (codes "/hurd/tmpfs")) m h
 begun-rootless (w ∷ v ∷ ws) m h = absurd (cc)

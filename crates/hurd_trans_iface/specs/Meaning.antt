@@ -1,20 +1,17 @@
 -- What a server means.
-use Rattle.std.specs.Prelude.{◌≡◌, ℕ, cond, List, [], ◌∷◌, length, codes, Option, Some, None, Result}
+use Rattle.std.specs.Prelude.{◌≡◌, ℕ, Bool, true, false, cond, List, [], ◌∷◌, codes, Option, Some, None, Result}
+use Rattle.std.specs.Str.{bytes_eq}
 use Rattle.std.specs.FinMap as fin
 use Rattle.hurd_creds.specs.declared.name.Name.{Name}
 use Rattle.hurd_creds.specs.declared.mode.Mode.{Mode}
 use Rattle.hurd_creds.specs.declared.open_flags.OpenFlags.{OpenFlags}
-use Rattle.hurd_creds.specs.declared.attrs.Kind.TheVariants.{Dir}
 use Rattle.hurd_creds.specs.declared.errno.Errno.{Errno}
 use Rattle.hurd_trans_iface.specs.declared.new_node.NewNode.{NewNode}
 use Rattle.hurd_trans_iface.specs.declared.root.Root.{Root}
-use Rattle.hurd_trans_iface.specs.declared.root.Crossing.TheVariants.{Plain}
-use Rattle.hurd_trans_iface.specs.Nodes.{NodeMap, Edit, edit_all, header_of, body_of, new_dir}
-use Rattle.hurd_trans_iface.specs.Answers.{same_bytes, write_of, write_edits, set_size_of, set_size_edits, make_of, make_edits, edits_if}
-
--- the kinds of servers
-pub data ServerKind : Type 0 where
-  Tmpfs : ServerKind
+use Rattle.hurd_trans_iface.specs.Nodes.{Body, Content, Listing, Node, NodeMap, Edit, edit_all, is_dir}
+use Rattle.hurd_trans_iface.specs.Answers.{make_of, make_edits, edits_if}
+use Rattle.hurd_trans_iface.specs.Behaviour.{Behaviour, Question, effect_on, told_of, edits_of}
+pub use Rattle.hurd_trans_iface.specs.Kinds.{ServerKind, Tmpfs, behaviour_of}
 
 -- a server: its kind, its text, the name of its root once that has one, and its own nodes
 pub record Meaning : Type 0 where
@@ -23,15 +20,14 @@ pub record Meaning : Type 0 where
   pub root : Option Name
   pub nodes : NodeMap
 
--- a tree in memory that has no root yet
-abbrev pub new_tmpfs : Meaning
-new_tmpfs = record { kind = Tmpfs; text = []; root = None; nodes = fin.empty }
+-- a server of this kind and text that has no root yet
+abbrev pub new_server : ServerKind → List ℕ → Meaning
+new_server kind text = record { kind = kind; text = text; root = None; nodes = fin.empty }
 
 -- the server that these words make, if any
 abbrev pub begin : List (List ℕ) → Option Meaning
-begin [] = None
-begin (w ∷ []) = cond (same_bytes w (codes "/hurd/tmpfs")) (Some new_tmpfs) None
-begin (w ∷ v ∷ ws) = None
+begin (w ∷ []) = cond (bytes_eq w (codes "/hurd/tmpfs")) (Some (new_server Tmpfs [])) None
+begin _ = None
 
 -- a server that some words made
 abbrev pub Begins : Meaning → Type 0
@@ -39,27 +35,38 @@ Begins m = (ws : List (List ℕ)) × (begin ws ≡ Some m)
 
 -- what the root of a kind of server is
 abbrev pub root_of : ServerKind → Root
-root_of Tmpfs = record { kind = Dir; crossing = Plain }
+root_of k = (behaviour_of k).root
+
+abbrev pub empty_body : Bool → Body
+empty_body true = Listing []
+empty_body false = Content []
+
+-- a root that nothing is in yet
+abbrev pub new_root : Behaviour → List ℕ → ℕ → ℕ → Mode → Node
+new_root b text owner group mode =
+    let body = empty_body (is_dir b.root.kind) in
+    record {
+      header = record { kind = b.root.kind; owner = owner; group = group; mode = mode; links = 1; size = b.size text body; parent = None };
+      body = body;
+    }
 
 -- the server with its root named
 abbrev pub begin_root_after : Meaning → Name → ℕ → ℕ → Mode → Meaning
 begin_root_after m root owner group mode =
-    record { kind = m.kind; text = m.text; root = Some root; nodes = fin.insert m.nodes root (new_dir owner group mode None) }
+    record m { root = Some root; nodes = fin.insert m.nodes root (new_root (behaviour_of m.kind) m.text owner group mode) }
 
 abbrev pub edited : List Edit → Meaning → Meaning
-edited es m = record { kind = m.kind; text = m.text; root = m.root; nodes = edit_all es m.nodes }
+edited es m = record m { nodes = edit_all es m.nodes }
 
 -- the answer of a call, with the server that it leaves
 
-abbrev pub write_step : Name → ℕ → List ℕ → Meaning → Result ℕ Errno × Meaning
-write_step n at bs m =
-    let answer = write_of at (length bs) (header_of m.nodes n) in (answer, edited (edits_if answer (write_edits n at bs (header_of m.nodes n))) m)
-
-abbrev pub set_size_step : Name → ℕ → Meaning → Result (Unit {0}) Errno × Meaning
-set_size_step n size m = let answer = set_size_of size (header_of m.nodes n) in (answer, edited (edits_if answer (set_size_edits n size)) m)
+-- of a question about a node
+abbrev pub step_of : {T : Type 0} → Question T → Name → Meaning → Result T Errno × Meaning
+step_of q n m = let e = effect_on q (behaviour_of m.kind) m.text (fin.get m.nodes n) in (told_of e, edited (edits_of n e) m)
 
 abbrev pub make_step : Name → List ℕ → NewNode → Meaning → Result (Unit {0}) Errno × Meaning
-make_step dir name new m = let answer = make_of dir name new (body_of m.nodes dir) in (answer, edited (edits_if answer (make_edits dir name new)) m)
+make_step dir name new m =
+    let answer = make_of (root_of m.kind) name new.kind (fin.get m.nodes dir) in (answer, edited (edits_if answer (make_edits dir name new)) m)
 
 -- opens of a tree's nodes are not counted
 abbrev pub opened_after : Meaning → Name → OpenFlags → Meaning

@@ -1,5 +1,5 @@
 -- Nodes, and edits of finite maps of them.
-use Rattle.std.specs.Prelude.{ℕ, ◌+◌, ◌-◌, Bool, true, false, List, [], ◌∷◌, ◌++◌, length, take, drop, replicate, Option, None}
+use Rattle.std.specs.Prelude.{◌≡◌, ℕ, ◌+◌, ◌-◌, Bool, true, false, List, [], ◌∷◌, ◌++◌, length, take, drop, replicate, Option, None}
 use Rattle.std.specs.FinMap as fin
 use Rattle.std.specs.Option.{option_map}
 use Rattle.hurd_creds.specs.NameMaps.{NameMap, edit}
@@ -7,7 +7,7 @@ use Rattle.hurd_creds.specs.declared.name.Name.{Name}
 use Rattle.hurd_creds.specs.declared.mode.Mode.{Mode}
 use Rattle.hurd_creds.specs.declared.attrs.Attrs.{Attrs}
 use Rattle.hurd_creds.specs.declared.attrs.Kind.{Kind}
-use Rattle.hurd_creds.specs.declared.attrs.Kind.TheVariants.{File, Dir, Link, Fifo, Char}
+use Rattle.hurd_creds.specs.declared.attrs.Kind.TheVariants.{File, Dir}
 
 -- a directory has a node under a name
 pub record Entry : Type 0 where
@@ -70,10 +70,12 @@ attrs_of x = attrs_with x.header (is_empty_dir x.body)
 
 abbrev pub is_dir : Kind → Bool
 is_dir Dir = true
-is_dir File = false
-is_dir Link = false
-is_dir Fifo = false
-is_dir Char = false
+is_dir _ = false
+
+-- a directory has entries, any other node has bytes
+abbrev pub IsShaped : Header → Body → Type 0
+IsShaped h (Content bs) = is_dir h.kind ≡ false
+IsShaped h (Listing es) = h.kind ≡ Dir
 
 -- a directory that has no entries yet, below this parent
 abbrev pub new_dir : ℕ → ℕ → Mode → Option Name → Node
@@ -90,14 +92,14 @@ abbrev pub bytes_put : ℕ → List ℕ → List ℕ → List ℕ
 bytes_put at [] old = old
 bytes_put at (b ∷ bs) old = take at old ++ replicate (at - length old) 0 ++ (b ∷ bs) ++ drop (at + length (b ∷ bs)) old
 
-abbrev pub put_bytes : ℕ → List ℕ → Body → Body
-put_bytes at bs (Content old) = Content (bytes_put at bs old)
-put_bytes at bs (Listing es) = Listing es
-
 -- cut, or grown by zero bytes
-abbrev pub resize : ℕ → Body → Body
-resize size (Content old) = Content (take size old ++ replicate (size - length old) 0)
-resize size (Listing es) = Listing es
+abbrev pub bytes_resized : ℕ → List ℕ → List ℕ
+bytes_resized size old = take size old ++ replicate (size - length old) 0
+
+-- the bytes changed; entries stay
+abbrev pub on_bytes : (List ℕ → List ℕ) → Body → Body
+on_bytes f (Content old) = Content (f old)
+on_bytes f (Listing es) = Listing es
 
 -- one more entry, last
 abbrev pub with_entry : List ℕ → Name → Body → Body
@@ -105,13 +107,13 @@ with_entry name n (Listing es) = Listing (es ++ record { name = name; node = n }
 with_entry name n (Content bs) = Content bs
 
 abbrev pub with_size : ℕ → Header → Header
-with_size size h = record { kind = h.kind; owner = h.owner; group = h.group; mode = h.mode; links = h.links; size = size; parent = h.parent }
+with_size size h = record h { size = size }
 
 abbrev pub with_header : (Header → Header) → Node → Node
-with_header f x = record { header = f x.header; body = x.body }
+with_header f x = record x { header = f x.header }
 
 abbrev pub with_body : (Body → Body) → Node → Node
-with_body g x = record { header = x.header; body = g x.body }
+with_body g x = record x { body = g x.body }
 
 -- what a server's call does to its nodes
 pub data Edit : Type 0 where

@@ -1,11 +1,12 @@
 //! The trait of servers.
-ghost use Rattle.std.specs.Prelude.{◌≡◌, List, ℕ, None};
+ghost use Rattle.std.specs.Prelude.{◌≡◌, None};
 ghost use Rattle.std.specs.Option.{option_map};
 ghost use Rattle.std.specs.FinMap as fin;
 ghost use Rattle.hurd_creds.specs.Memory.{Meets, Steps};
 ghost use Rattle.hurd_trans_iface.specs.Nodes.{attrs_of, body_of};
-ghost use Rattle.hurd_trans_iface.specs.Answers.{entry_of, names_of, read_of};
-ghost use Rattle.hurd_trans_iface.specs.Meaning.{Meaning, root_of, begin_root_after, write_step, set_size_step, make_step, opened_after};
+ghost use Rattle.hurd_trans_iface.specs.Answers.{entry_of, names_of};
+ghost use Rattle.hurd_trans_iface.specs.Behaviour.{reading, writing, resizing};
+ghost use Rattle.hurd_trans_iface.specs.Meaning.{Meaning, root_of, begin_root_after, step_of, make_step, opened_after};
 
 use crate::names::Names;
 use crate::new_node::NewNode;
@@ -45,24 +46,24 @@ pub trait Server: Drop {
     /// At most `amount` bytes of a file from `at` on.
     ///
     /// Errors, in order: `EDIED` no such node, `EISDIR`, `ENOMEM`.
-    fn read(&self, alloc: Global, node: NodeName, at: u64, amount: u64) -> Result<Bytes, Errno>
-        ensures { Meets (read_of at amount (body_of (meaning self.now).nodes node)) result };
+    fn read(&mut self, alloc: Global, node: NodeName, at: u64, amount: u64) -> Result<Bytes, Errno>
+        ensures { Steps (meaning self.old) (step_of (reading at amount) node (meaning self.old)) result (meaning self.new) };
 
     /// Puts bytes into a file at `at`, and answers how many; a gap becomes zero bytes, no data grows nothing.
     ///
     /// Errors, in order: `EDIED` no such node, `EBADF` a directory, `EFBIG` an end past 16,777,216, `ENOMEM`.
     fn write(&mut self, node: NodeName, at: u64, bytes: &[u8]) -> Result<u64, Errno>
-        ensures { Steps (meaning self.old) (write_step node at bytes.now (meaning self.old)) result (meaning self.new) };
+        ensures { Steps (meaning self.old) (step_of (writing at bytes.now) node (meaning self.old)) result (meaning self.new) };
 
     /// Cuts a file, or grows it by zero bytes.
     ///
     /// Errors, in order: `EDIED` no such node, `EFBIG` a size past 16,777,216, `EBADF` a directory, `ENOMEM`.
     fn set_size(&mut self, node: NodeName, size: u64) -> Result<(), Errno>
-        ensures { Steps (meaning self.old) (set_size_step node size (meaning self.old)) result (meaning self.new) };
+        ensures { Steps (meaning self.old) (step_of (resizing size) node (meaning self.old)) result (meaning self.new) };
 
     /// Makes a node in a directory under a name.
     ///
-    /// Errors, in order: `EDIED` no such directory, `ENOTDIR`, `EEXIST`, `EOPNOTSUPP` a kind that the server doesn't make, `ENOMEM`.
+    /// Errors, in order: `EDIED` no such directory, `ENOTDIR`, `EROFS` the server keeps no tree, `EEXIST`, `EOPNOTSUPP` a kind that the server doesn't make, `ENOMEM`.
     fn make(&mut self, alloc: Global, dir: NodeName, name: &[u8], new: NewNode) -> Result<(), Errno>
         ensures { Steps (meaning self.old) (make_step dir name.now new (meaning self.old)) result (meaning self.new) };
 

@@ -1,0 +1,33 @@
+-- How the parts that a call touches are said.
+use Rattle.std.specs.Prelude.{◌≡◌, ◌⊎◌, Option, Some, None, Result, Ok, Err}
+use Rattle.hurd_creds.specs.declared.name.Name.{Name}
+use Rattle.hurd_creds.specs.declared.errno.Errno.{Errno}
+use Rattle.hurd_trans_iface.specs.Behaviour.{Did}
+use Rattle.hurd_ports.specs.declared.table.Right.{Right}
+use Rattle.hurd_machine.specs.World.{World, home_at}
+use Rattle.hurd_machine.specs.Sight.{Part, AttrOf, BodyOf, OpenOf, UsersOf}
+
+-- the parts that follow from what a call asks; a refused call touches none
+unfoldable pub asked_parts : {A : Type 0} → Result A Errno → (A → Part → Type 0) → Part → Type 0
+asked_parts (Err e) k p = ⊥
+asked_parts (Ok a) k p = k a p
+
+-- no part
+abbrev pub Nothing : Part → Type 0
+Nothing p = ⊥
+
+-- a right on a node comes or goes: the users of its server
+abbrev pub OnNode : World → Name → Part → Type 0
+OnNode w n p = (s : Name) × (home_at w n ≡ Some s) × (p ≡ UsersOf s)
+
+-- a right that stands comes or goes: its open too
+abbrev pub OnRight : World → Right → Part → Type 0
+OnRight w r p = (p ≡ OpenOf r.open_name) ⊎ OnNode w r.node p
+
+abbrev pub Changes : {X : Type 0} → Option X → Type 0
+Changes None = ⊥
+Changes (Some f) = Unit {0}
+
+-- what a server does to a node: its body where bytes change, its attributes where the size does
+abbrev pub OnDid : {T : Type 0} → Name → Did T → Part → Type 0
+OnDid n d p = (Changes d.bytes × (p ≡ BodyOf n)) ⊎ (Changes d.size × (p ≡ AttrOf n))

@@ -1,0 +1,2 @@
+//! Calls on ports and ids alone.
+#![tactic(auto)]

@@ -1,0 +1,88 @@
+-- What a kind of server does: of each call that asks about a node, what it answers and what it makes of that node.
+use Rattle.std.specs.Prelude.{ℕ, List, [], ◌∷◌, Option, Some, None, Result, Ok, Err}
+use Rattle.hurd_creds.specs.declared.name.Name.{Name}
+use Rattle.hurd_creds.specs.declared.errno.Errno.{Errno}
+use Rattle.hurd_creds.specs.declared.errno.Errno.TheVariants.{EDIED}
+use Rattle.hurd_trans_iface.specs.declared.root.Root.{Root}
+use Rattle.hurd_trans_iface.specs.Nodes.{Header, Body, Node, Edit, OnHeader, OnBody, on_bytes, with_size}
+
+-- an answer, and what becomes of the node's bytes and of its size, where they change
+pub record Did (T : Type 0) : Type 0 where
+  pub told : T
+  pub bytes : Option (List ℕ → List ℕ)
+  pub size : Option ℕ
+
+-- such an answer, or a refusal, which changes nothing
+abbrev pub Effect : Type 0 → Type 0
+Effect T = Result (Did T) Errno
+
+-- an answer that changes nothing
+abbrev pub only : {T : Type 0} → T → Effect T
+only t = Ok (record { told = t; bytes = None; size = None })
+
+-- what a kind answers, by its server's text and the node that is asked about
+pub record Behaviour : Type 0 where
+  -- what its root is
+  pub root : Root
+  -- the size of a node, by the text and what is in the node
+  pub size : List ℕ → Body → ℕ
+  -- so many bytes from a place on
+  pub read : List ℕ → Node → ℕ → ℕ → Effect (List ℕ)
+  -- bytes, put at a place: how many are taken
+  pub write : List ℕ → Node → ℕ → List ℕ → Effect ℕ
+  -- the node's bytes cut to a size, or grown to it
+  pub set_size : List ℕ → Node → ℕ → Effect (Unit {0})
+
+-- a call about a node, without the node
+abbrev pub Question : Type 0 → Type 0
+Question T = Behaviour → List ℕ → Node → Effect T
+
+abbrev pub reading : ℕ → ℕ → Question (List ℕ)
+reading at amount b text x = b.read text x at amount
+
+abbrev pub writing : ℕ → List ℕ → Question ℕ
+writing at bs b text x = b.write text x at bs
+
+abbrev pub resizing : ℕ → Question (Unit {0})
+resizing size b text x = b.set_size text x size
+
+-- the answer alone
+abbrev pub told_of : {T : Type 0} → Effect T → Result T Errno
+told_of (Ok d) = Ok d.told
+told_of (Err e) = Err e
+
+-- what it does, as edits of the node
+
+abbrev pub edit_bytes : Name → Option (List ℕ → List ℕ) → List Edit → List Edit
+edit_bytes n None es = es
+edit_bytes n (Some f) es = OnBody n (on_bytes f) ∷ es
+
+abbrev pub edit_size : Name → Option ℕ → List Edit
+edit_size n None = []
+edit_size n (Some k) = OnHeader n (with_size k) ∷ []
+
+abbrev pub edits_of : {T : Type 0} → Name → Effect T → List Edit
+edits_of n (Ok d) = edit_bytes n d.bytes (edit_size n d.size)
+edits_of n (Err e) = []
+
+-- the node that it leaves
+
+abbrev pub bytes_left : Option (List ℕ → List ℕ) → Body → Body
+bytes_left None b = b
+bytes_left (Some f) b = on_bytes f b
+
+abbrev pub size_left : Option ℕ → Header → Header
+size_left None h = h
+size_left (Some k) h = with_size k h
+
+abbrev pub node_left : {T : Type 0} → Did T → Node → Node
+node_left d x = record { header = size_left d.size x.header; body = bytes_left d.bytes x.body }
+
+abbrev pub left_by : {T : Type 0} → Effect T → Node → Node
+left_by (Ok d) x = node_left d x
+left_by (Err e) x = x
+
+-- the effect on a node that may not be there
+abbrev pub effect_on : {T : Type 0} → Question T → Behaviour → List ℕ → Option Node → Effect T
+effect_on q b text None = Err EDIED
+effect_on q b text (Some x) = q b text x

@@ -1,0 +1,40 @@
+-- What the laws need of a kind of server.
+use Rattle.std.specs.Prelude.{◌≡◌, ℕ, true, false, List, [], Ok, Err}
+use Rattle.hurd_creds.specs.declared.name.Name.{Name}
+use Rattle.hurd_creds.specs.declared.errno.Errno.{Errno}
+use Rattle.hurd_creds.specs.Memory.{is_no_memory}
+use Rattle.hurd_trans_iface.specs.Nodes.{Header, Body, Content, Node, IsShaped, with_entry}
+use Rattle.hurd_trans_iface.specs.Answers.{is_tree}
+use Rattle.hurd_trans_iface.specs.Behaviour.{Did, Behaviour, Question, reading, writing, resizing, node_left}
+
+-- a node has the size that its kind of server says
+abbrev pub IsSized : Behaviour → List ℕ → Node → Type 0
+IsSized b text x = x.header.size ≡ b.size text x.body
+
+-- sizes stay right
+abbrev pub KeepsSizes : {T : Type 0} → Behaviour → Question T → Type 0
+KeepsSizes {T} b q =
+    (text : List ℕ) (x : Node) (d : Did T) → IsShaped x.header x.body → IsSized b text x → q b text x ≡ Ok d → IsSized b text (node_left d x)
+
+-- nothing is told of what is in the node, and what it makes of it doesn't depend on that
+abbrev pub IsBlind : {T : Type 0} → Behaviour → Question T → Type 0
+IsBlind b q =
+    (text : List ℕ) (h : Header) (c e : Body)
+    → let x : Node = record { header = h; body = c } in let y : Node = record { header = h; body = e } in q b text y ≡ q b text x
+
+-- no refusal is want of memory: of memory a meaning knows nothing
+abbrev pub IsPlain : {T : Type 0} → Behaviour → Question T → Type 0
+IsPlain b q = (text : List ℕ) (x : Node) (e : Errno) → q b text x ≡ Err e → is_no_memory e ≡ false
+
+pub record GoodBehaviour (b : Behaviour) : Type 0 where
+  pub read_sizes : (at amount : ℕ) → KeepsSizes b (reading at amount)
+  pub write_sizes : (at : ℕ) (bs : List ℕ) → KeepsSizes b (writing at bs)
+  pub set_size_sizes : (size : ℕ) → KeepsSizes b (resizing size)
+  -- an entry changes no size, and in a tree a new file has none
+  pub entered : (text name : List ℕ) (n : Name) (c : Body) → b.size text (with_entry name n c) ≡ b.size text c
+  pub newborn : is_tree b.root ≡ true → (text : List ℕ) → b.size text (Content []) ≡ 0
+  pub write_blind : (at : ℕ) (bs : List ℕ) → IsBlind b (writing at bs)
+  pub set_size_blind : (size : ℕ) → IsBlind b (resizing size)
+  pub read_plain : (at amount : ℕ) → IsPlain b (reading at amount)
+  pub write_plain : (at : ℕ) (bs : List ℕ) → IsPlain b (writing at bs)
+  pub set_size_plain : (size : ℕ) → IsPlain b (resizing size)
