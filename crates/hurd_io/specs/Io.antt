@@ -10,9 +10,9 @@ use Rattle.hurd_ports.specs.Steps.{at_cursor}
 use Rattle.hurd_machine.specs.declared.handle.Handle.{Handle}
 use Rattle.hurd_machine.specs.declared.call.Reply.{Reply}
 use Rattle.hurd_machine.specs.declared.call.Reply.TheVariants.{Data, Count}
-pub use Rattle.hurd_io.specs.declared.io.Offset.{Offset}
-use Rattle.hurd_io.specs.declared.io.Offset.TheVariants.{Place, Cursor}
-pub use Rattle.hurd_io.specs.declared.io.IoAt.{IoAt}
+pub use Rattle.hurd_io.specs.declared.offset.Offset.{Offset}
+use Rattle.hurd_io.specs.declared.offset.Offset.TheVariants.{Place, Cursor}
+pub use Rattle.hurd_io.specs.declared.offset.IoAt.{IoAt}
 use Rattle.hurd_machine.specs.World.{World, asked_at}
 use Rattle.hurd_machine.specs.Change.{Change, EditOpen, changes_of}
 use Rattle.hurd_machine.specs.Plan.{Plan, given, first, answered}

@@ -1,18 +1,108 @@
 //! Reading and writing.
-use hurd_creds::{NodeName, OpenName};
+ghost use Rattle.std.specs.Prelude.{◌≡◌};
+ghost use Rattle.hurd_machine.specs.Plan.{Planned};
+ghost use Rattle.hurd_machine.specs.declared.call.Reply.TheVariants.{Data, Count};
+ghost use Rattle.hurd_core.specs.Core.{world_of};
+ghost use Rattle.hurd_io.specs.Io.{read_asks, plan_read, write_cursor, write_asks, plan_write};
 
-/// Where a call is to begin: at a place, or at the open's cursor.
-#[derive(Clone, Copy, Debug, PartialEq, Eq)]
-pub(crate) enum Offset {
-    Place(u64),
-    Cursor,
+use crate::offset::{IoAt, Offset};
+use hurd_core::Core;
+use hurd_creds::{Bytes, Errno, Kind, OpenFlags, TaskId};
+use hurd_machine::Handle;
+use hurd_trans_iface::Server;
+use std::alloc::Global;
+
+/// The most bytes of one read.
+const MOST_READ: u64 = 65536;
+
+/// Where a read from what a port has open begins.
+///
+/// Errors, in order: `ESRCH`, `EBADF`, `EDIED`, `EISDIR`, `EINVAL` an offset below -1.
+#[tactic(auto, unfolding(hurd_machine::specs::Plan::given, hurd_machine::specs::Plan::first))]
+fn read_asked<S: Server>(
+    core: &Core<S>,
+    task: TaskId,
+    port: u64,
+    offset: i64,
+) -> Result<IoAt, Errno>
+    ensures { result ≡ read_asks (world_of S.meaning core.now) task.0 port offset }
+{
+    let handle = core.handle(task, port, OpenFlags::READ)?;
+    if let Kind::Dir = handle.kind {
+        return Err(Errno::EISDIR);
+    }
+    let offset = Offset::new(offset)?;
+    Ok(IoAt::new(handle, handle.opened.cursor, offset))
 }
 
-/// Where a read or a write begins, and the open whose cursor it may move.
-#[derive(Clone, Copy, Debug)]
-pub(crate) struct IoAt {
-    pub(crate) node: NodeName,
-    pub(crate) open_name: OpenName,
-    pub(crate) offset: Offset,
-    pub(crate) at: u64,
+/// Reads at most `amount` bytes, and no more than 65,536, from what a port has open: from `offset` on, or from the
+/// cursor, which moves past them, where that is -1 (`io.defs`).
+///
+/// Errors, in order: `ESRCH` no such task, `EBADF` no such port, or not opened to read, `EDIED` no such node, `EISDIR`,
+/// `EINVAL` an offset below -1, `ENOMEM`.
+pub fn io_read<S: Server>(
+    core: &mut Core<S>,
+    alloc: Global,
+    task: TaskId,
+    port: u64,
+    amount: u64,
+    offset: i64,
+) -> Result<Bytes, Errno>
+    ensures { let w = world_of S.meaning core.old in
+        Planned w (plan_read w task.0 port amount offset) Data result (world_of S.meaning core.new) }
+{
+    let from = read_asked(core, task, port, offset)?;
+    let bytes = core.read(alloc, from.node, from.at, amount.min(MOST_READ))?;
+    from.advance(core, bytes.len() as u64);
+    Ok(bytes)
+}
+
+/// The cursor that a write begins at: with `APPEND` it is first set to the size.
+fn write_cursor(handle: Handle) -> u64
+    ensures { result ≡ write_cursor handle }
+{
+    if handle.opened.modes.asks(OpenFlags::APPEND) {
+        handle.size
+    } else {
+        handle.opened.cursor
+    }
+}
+
+/// Where a write to what a port has open begins.
+///
+/// Errors, in order: `ESRCH`, `EBADF`, `EDIED`, `EINVAL` an offset below -1.
+#[tactic(auto, unfolding(hurd_machine::specs::Plan::first))]
+fn write_asked<S: Server>(
+    core: &Core<S>,
+    task: TaskId,
+    port: u64,
+    offset: i64,
+) -> Result<IoAt, Errno>
+    ensures { result ≡ write_asks (world_of S.meaning core.now) task.0 port offset }
+{
+    let handle = core.handle(task, port, OpenFlags::WRITE)?;
+    let offset = Offset::new(offset)?;
+    Ok(IoAt::new(handle, write_cursor(handle), offset))
+}
+
+/// Writes bytes to what a port has open, and answers how many: at `offset`, or at the cursor, which moves past them,
+/// where that is -1. With `APPEND` the cursor is first set to the size. A gap becomes zero bytes; no data grows nothing
+/// (`io.defs`).
+///
+/// Errors, in order: `ESRCH` no such task, `EBADF` no such port, or not opened to write, `EDIED` no such node, `EINVAL` an
+/// offset below -1, `EFBIG` an end past 16,777,216, `ENOMEM`.
+pub fn io_write<S: Server>(
+    core: &mut Core<S>,
+    task: TaskId,
+    port: u64,
+    bytes: &[u8],
+    offset: i64,
+) -> Result<u64, Errno>
+    ensures { let w = world_of S.meaning core.old in
+        Planned w (plan_write w task.0 port bytes.now offset) Count result (world_of S.meaning core.new) }
+{
+    let to = write_asked(core, task, port, offset)?;
+    let count = core.write(to.node, to.at, bytes)?;
+    to.advance(core, count);
+    Ok(count)
 }

@@ -7,20 +7,20 @@ use Rattle.hurd_creds.specs.declared.open_flags.OpenFlags.{OpenFlags}
 use Rattle.hurd_creds.specs.declared.attrs.Kind.TheVariants.{File}
 use Rattle.hurd_creds.specs.declared.attrs.Want.TheVariants.{Read, Write, Exec}
 use Rattle.hurd_creds.specs.declared.errno.Errno.{Errno}
-use Rattle.hurd_creds.specs.declared.errno.Errno.TheVariants.{EACCES, EDIED, EEXIST, EISDIR, ENAMETOOLONG, ENOENT, ENOTDIR, EOVERFLOW, ESRCH}
+use Rattle.hurd_creds.specs.declared.errno.Errno.TheVariants.{EACCES, EDIED, EEXIST, EISDIR, ENAMETOOLONG, ENOENT, ENOTDIR}
 use Rattle.hurd_creds.specs.Access.{IdSets, may, least_uid}
 use Rattle.hurd_creds.specs.Bits.{asks, known_mode, open_modes, READ, WRITE, EXEC, CREATE, EXCL, DIRECTORY}
-use Rattle.hurd_trans_iface.specs.Nodes.{Header, is_dir, with_entry, new_file}
+use Rattle.hurd_trans_iface.specs.Nodes.{Header, is_dir}
 use Rattle.hurd_trans_iface.specs.Answers.{entry_of}
-use Rattle.hurd_ports.specs.Tables.{Task, right_of, fresh, has_room}
-use Rattle.hurd_ports.specs.Steps.{named}
+use Rattle.hurd_ports.specs.Tables.{Task, right_of}
 use Rattle.hurd_machine.specs.declared.call.Lookup.TheVariants as found
 use Rattle.hurd_machine.specs.declared.call.Reply.TheVariants.{Found}
-use Rattle.hurd_machine.specs.World.{World, ports_of, task_at, header_at, body_at, home_at, is_server_root, makes_at}
-use Rattle.hurd_machine.specs.Change.{Change, MakeNode, EditBody, opening}
+use Rattle.hurd_machine.specs.World.{World, ports_of, header_at, body_at, home_at, is_server_root, makes_at}
+use Rattle.hurd_machine.specs.Change.{Change, opening}
 use Rattle.hurd_machine.specs.Plan.{Plan, on, given, first, answered}
 use Rattle.hurd_machine.specs.Sight.{Part, EmptyOf, BodyOf, UsersOf, bare}
 use Rattle.hurd_machine.specs.Touched.{asked_parts, OnNode}
+use Rattle.hurd_core.specs.Core.{NewFile, room_asks, making_open}
 use Rattle.hurd_lookup.specs.declared.request.Request.{Request}
 use Rattle.hurd_lookup.specs.declared.walk.Next.{Next}
 use Rattle.hurd_lookup.specs.declared.walk.Next.TheVariants.{There, Absent}
@@ -83,18 +83,10 @@ walk w ids r d (name ∷ names) = first (step_asks w ids d name) (λ s. stepped 
 
 -- at their end
 
--- a file that is to be made: in which directory, under which name, of which server, and whose it is
-pub record MakeAt : Type 0 where
-  pub dir : Name
-  pub name : List ℕ
-  pub server : Name
-  pub owner : ℕ
-  pub group : ℕ
-
--- what is to be done: a node is opened, or a file is made and opened
+-- what is to be done: a node is opened, or a file is made by a server, and opened
 pub data Outcome : Type 0 where
   Opens : Name → Outcome
-  Makes : MakeAt → Outcome
+  Makes : Name → NewFile → Outcome
 
 -- the ids may do what the flags ask for
 abbrev pub may_open : IdSets → Header → OpenFlags → Bool
@@ -113,26 +105,27 @@ open_asks w ids r n =
 abbrev pub is_removed : World → Name → Header → Bool
 is_removed w d h = not (is_server_root w d) && not (is_some h.parent)
 
--- making a file, which belongs to the least uid; it is opened without a test
-abbrev pub make_asks : World → IdSets → Name → List ℕ → Result Outcome Errno
-make_asks w ids d name =
+-- making a file, which belongs to the least uid, and to its directory's group; it is opened without a test
+abbrev pub make_asks : World → IdSets → Request → Name → List ℕ → Result Outcome Errno
+make_asks w ids r d name =
     first (makes_at w d name File) (λ u.
     on EDIED (header_at w d) (λ h.
     given EACCES (may ids (bare h) Write) (
     on EACCES (least_uid ids) (λ owner.
     given ENOENT (not (is_removed w d h)) (
-    on EDIED (home_at w d) (λ s. Ok (Makes (record { dir = d; name = name; server = s; owner = owner; group = h.group }))))))))
+    on EDIED (home_at w d) (λ s.
+    Ok (Makes s (record { dir = d; name = name; owner = owner; group = h.group; mode = known_mode r.mode }))))))))
 
 abbrev pub end_asks : World → IdSets → Request → Place → Result Outcome Errno
 end_asks w ids r (AtNode n) = open_asks w ids r n
-end_asks w ids r (AtName d name) = make_asks w ids d name
+end_asks w ids r (AtName d name) = make_asks w ids r d name
 
 -- a lookup, whole
 
--- the names of things that it gives: an open's, or a node's and its open's
+-- how many things it names: an open, or a node and its open
 abbrev pub names_taken : Outcome → ℕ
 names_taken (Opens n) = 1
-names_taken (Makes m) = 2
+names_taken (Makes s f) = 2
 
 -- what is asked for, by the flags and by the path
 abbrev pub request : List ℕ → OpenFlags → Mode → Request
@@ -152,32 +145,25 @@ found_asks w t p path r =
     first (walk w q.ids r q.node (names_in path)) (λ place.
     first (end_asks w q.ids r place) (λ o. Ok (record { ids = q.ids; outcome = o }))))))
 
--- the task has room for the port and the names
-abbrev pub room_asks : World → ℕ → Outcome → Result Task Errno
-room_asks w t o = on ESRCH (task_at w t) (λ x. given EOVERFLOW (has_room (names_taken o) x) (Ok x))
-
 -- all that a lookup asks, with its refusals in order
 abbrev pub lookup_asks : World → ℕ → ℕ → List ℕ → Request → Result (Looked × Task) Errno
-lookup_asks w t p path r = first (found_asks w t p path r) (λ l. first (room_asks w t l.outcome) (λ x. Ok (l, x)))
-
--- a file, empty, as it is made
-abbrev pub making : ℕ → Task → Request → MakeAt → List Change
-making t x r m = MakeNode (fresh t x) m.server (new_file m.owner m.group (known_mode r.mode)) ∷ EditBody m.dir (with_entry m.name (fresh t x)) ∷ []
+lookup_asks w t p path r = first (found_asks w t p path r) (λ l. first (room_asks w t (names_taken l.outcome)) (λ x. Ok (l, x)))
 
 -- what is opened, or made and opened
-abbrev pub lookup_changes : ℕ → Task → Request → IdSets → Outcome → List Change
-lookup_changes t x r ids (Opens n) = opening t x n ids (open_modes r.flags)
-lookup_changes t x r ids (Makes m) = making t x r m ++ opening t (named 1 x) (fresh t x) ids (open_modes r.flags)
+abbrev pub lookup_changes : ℕ → Task → IdSets → OpenFlags → Outcome → List Change
+lookup_changes t x ids modes (Opens n) = opening t x n ids modes
+lookup_changes t x ids modes (Makes s f) = making_open t f ids modes (x, s)
 
+-- the users of the server of what is opened; what is made also changes its directory
 abbrev pub lookup_parts : World → Outcome → Part → Type 0
 lookup_parts w (Opens n) p = OnNode w n p
-lookup_parts w (Makes m) p = (p ≡ UsersOf m.server) ⊎ ((p ≡ BodyOf m.dir) ⊎ (p ≡ EmptyOf m.dir))
+lookup_parts w (Makes s f) p = (p ≡ UsersOf s) ⊎ ((p ≡ BodyOf f.dir) ⊎ (p ≡ EmptyOf f.dir))
 
 -- dir_lookup
 abbrev pub plan_lookup : World → ℕ → ℕ → List ℕ → OpenFlags → Mode → Plan
 plan_lookup w t p path flags mode =
     let r = request path flags mode in
-    answered (lookup_asks w t p path r) (λ l. record { reply = Found (found.Done l.1.next); changes = lookup_changes t l.1 r l.0.ids l.0.outcome })
+    answered (lookup_asks w t p path r) (λ l. record { reply = Found (found.Done l.1.next); changes = lookup_changes t l.1 l.0.ids (open_modes flags) l.0.outcome })
 
 abbrev pub touches_lookup : World → ℕ → ℕ → List ℕ → OpenFlags → Mode → Part → Type 0
 touches_lookup w t p path flags mode = asked_parts (lookup_asks w t p path (request path flags mode)) (λ l. lookup_parts w l.0.outcome)

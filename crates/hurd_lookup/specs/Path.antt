@@ -32,6 +32,9 @@ most_name = 255
 abbrev pub is_short_name : List ℕ → Bool
 is_short_name name = nat_le (length name) most_name
 
+abbrev pub has_short_names : List ℕ → Bool
+has_short_names path = list_all is_short_name (names_in path)
+
 -- neither the path nor any of its names is too long
 abbrev pub is_short : List ℕ → Bool
-is_short path = nat_le (length path) most_path && list_all is_short_name (names_in path)
+is_short path = nat_le (length path) most_path && has_short_names path

@@ -1,4 +1,8 @@
 //! What a lookup asks for.
+ghost use Rattle.std.specs.Prelude.{◌≡◌};
+ghost use Rattle.hurd_lookup.specs.Lookup.{request};
+
+use crate::path;
 use hurd_creds::{Mode, OpenFlags};
 
 /// How what is found is to be opened, or made.
@@ -8,4 +12,17 @@ pub(crate) struct Request {
     pub(crate) mode: Mode,
     /// Whether a directory is asked for, by the flag or by the path.
     pub(crate) wants_dir: bool,
+}
+
+impl Request {
+    /// What is asked for by a path, flags and a mode.
+    pub(crate) fn new(path: &[u8], flags: OpenFlags, mode: Mode) -> Request
+        ensures { result ≡ request path.now flags mode }
+    {
+        Request {
+            flags,
+            mode,
+            wants_dir: flags.asks(OpenFlags::DIRECTORY) || path::ends_with_slash(path),
+        }
+    }
 }

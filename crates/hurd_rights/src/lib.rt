@@ -1,2 +1,8 @@
 //! Calls on ports and ids alone.
+//!
+//! `port_deallocate` gives up a port. What it answers and changes is `plan_deallocate` of `specs/Deallocate`.
 #![tactic(auto)]
+
+mod deallocate;
+
+pub use deallocate::*;

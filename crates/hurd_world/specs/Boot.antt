@@ -7,8 +7,8 @@ use Rattle.hurd_creds.specs.declared.open_flags.OpenFlags.{OpenFlags}
 use Rattle.hurd_creds.specs.Access.{IdSets}
 use Rattle.hurd_creds.specs.Names.{name_of}
 use Rattle.hurd_trans_iface.specs.Meaning.{Meaning}
-use Rattle.hurd_nodes.specs.Shown.{half_of, booted, boot_name}
-use Rattle.hurd_ports.specs.Tables.{Task, OpenMap, PortsHalf}
+use Rattle.hurd_nodes.specs.Shown.{state_of, booted, boot_name}
+use Rattle.hurd_ports.specs.Tables.{Task, OpenMap, PortState}
 use Rattle.hurd_ports.specs.Steps.{new_open}
 use Rattle.hurd_machine.specs.World.{World, world_from}
 
@@ -48,9 +48,9 @@ boot_opens t (ids ∷ more) m =
     boot_opens (t + 1) more (fin.insert (fin.insert m (name_of t 0) (new_open closed_open)) (name_of t 1) (new_open closed_open))
 
 -- the tables of tasks of these ids
-abbrev pub boot_ports : List IdSets → PortsHalf
+abbrev pub boot_ports : List IdSets → PortState
 boot_ports tasks = record { opens = boot_opens 0 tasks fin.empty; tasks = boot_tasks 0 tasks }
 
 -- the world that a boot server of this meaning and tasks of these ids begin
 abbrev pub first_world : Meaning → List IdSets → World
-first_world m tasks = world_from (half_of (booted m)) (boot_ports tasks)
+first_world m tasks = world_from (state_of (booted m)) (boot_ports tasks)

@@ -3,13 +3,13 @@ use Rattle.std.specs.Prelude.{ℕ, Result, Ok, Err, slice_get}
 use Rattle.hurd_creds.specs.declared.errno.Errno.{Errno}
 use Rattle.hurd_creds.specs.Access.{IdSets}
 use Rattle.hurd_nodes.specs.Shown.{boot_name}
-use Rattle.hurd_ports.specs.Tables.{PortsHalf}
-use Rattle.hurd_ports.specs.Steps.{ids_at, insert_step}
+use Rattle.hurd_ports.specs.Tables.{PortState, ids_at}
+use Rattle.hurd_ports.specs.Steps.{insert_step}
 use Rattle.hurd_world.specs.Boot.{closed_open}
 
 -- a port more of task t on the boot root, with the task's ids and no modes
-abbrev pub with_boot_port : ℕ → PortsHalf → PortsHalf
+abbrev pub with_boot_port : ℕ → PortState → PortState
 with_boot_port t h = of_ids (ids_at (slice_get h.tasks t)) where
-  of_ids : Result IdSets Errno → PortsHalf
+  of_ids : Result IdSets Errno → PortState
   of_ids (Ok ids) = (insert_step t boot_name ids closed_open h).1
   of_ids (Err e) = h

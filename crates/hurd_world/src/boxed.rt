@@ -2,7 +2,7 @@
 ghost use Rattle.std.specs.Prelude.{◌≡◌, IfOk, IfErr, map};
 ghost use Rattle.hurd_machine.specs.Sound.{Sound};
 ghost use Rattle.hurd_laws.specs.Served.{Served, IsolatedRun};
-ghost use Rattle.hurd_world.specs.Held.{world_of, told, made_by};
+ghost use Rattle.hurd_world.specs.Held.{world_of, made_by};
 
 use crate::world::World;
 use hurd_creds::{Errno, TaskId};
@@ -18,9 +18,9 @@ pub fn run_boxed(
     calls: Vec<(TaskId, Call)>,
 ) -> Result<Vec<Reply>, (Errno, Vec<(TaskId, Call)>)>
     ensures exact { let w = world_of (λ b. meaning b) world.old in let x = world_of (λ b. meaning b) world.new in
-        IfOk result (λ replies. Served w (map made_by calls.items) (map told replies.items) x) }
+        IfOk result (λ replies. Served w (map made_by calls.items) replies.items x) }
     ensures isolated { let w = world_of (λ b. meaning b) world.old in let x = world_of (λ b. meaning b) world.new in
-        IfOk result (λ replies. Sound w → IsolatedRun w (map made_by calls.items) (map told replies.items) x) }
+        IfOk result (λ replies. Sound w → IsolatedRun w (map made_by calls.items) replies.items x) }
     ensures sound { Sound (world_of (λ b. meaning b) world.old) → Sound (world_of (λ b. meaning b) world.new) }
     ensures err { IfErr result (λ e. (e ≡ (Errno.ENOMEM, calls)) × (world.new ≡ world.old)) }
 {

@@ -1,28 +1,21 @@
 //! The world, and the calls of its tasks.
-ghost use Rattle.std.specs.Prelude.{◌≡◌, ◌⊎◌, true, false, IfOk, IfErr, IsOk, map, Ok, Err};
+ghost use Rattle.std.specs.Prelude.{◌≡◌, ◌⊎◌, IfOk, IfErr, IsOk, map, Ok, Err};
 ghost use Rattle.hurd_trans_iface.specs.Meaning.{Begins};
-ghost use Rattle.hurd_nodes.specs.Shown.{NodesHalf};
-ghost use Rattle.hurd_ports.specs.Tables.{IsSettled};
-ghost use Rattle.hurd_machine.specs.World.{world_from};
-ghost use Rattle.hurd_machine.specs.Plan.{Planned, replied};
 ghost use Rattle.hurd_machine.specs.Sound.{Sound};
-ghost use Rattle.hurd_machine.specs.declared.call.Reply.TheVariants.{Done};
-ghost use Rattle.hurd_lookup.specs.Lookup.{plan_lookup};
-ghost use Rattle.hurd_io.specs.Io.{plan_read, plan_write};
-ghost use Rattle.hurd_files.specs.Files.{plan_set_size, plan_readdir};
-ghost use Rattle.hurd_laws.specs.Step.{plan, plan_deallocate};
+ghost use Rattle.hurd_laws.specs.Called.{Called};
 ghost use Rattle.hurd_laws.specs.Served.{Served, IsolatedRun};
-ghost use Rattle.hurd_world.specs.Held.{world_of, result_of, lists_names, told, made_by};
+ghost use Rattle.hurd_world.specs.Held.{world_of, made_by};
 ghost use Rattle.hurd_world.specs.Boot.{boot_of, first_world};
 
 use crate::boot::first_ports;
-use hurd_creds::{Bytes, Errno, Ids, Mode, OpenFlags, TaskId};
+use hurd_core::Core;
+use hurd_creds::{Errno, Ids, TaskId};
 use hurd_files::{dir_readdir, file_set_size};
 use hurd_io::{io_read, io_write};
 use hurd_lookup::dir_lookup;
 use hurd_machine::{Call, Reply};
 use hurd_nodes::Nodes;
-use hurd_ports::Ports;
+use hurd_rights::port_deallocate;
 use hurd_trans_iface::Server;
 use std::alloc::{AllocError, Global};
 use std::marker::Model;
@@ -30,34 +23,20 @@ use std::marker::Model;
 /// The most tasks of a world.
 pub const MOST_TASKS: usize = 64;
 
-/// Tasks with their ports over a tree of nodes (GNU Hurd Reference Manual). Some right names each open that is there.
+/// Tasks with their ports over a tree of nodes (GNU Hurd Reference Manual).
 #[derive(Drop)]
 pub struct World<S = Box<dyn Server>> {
-    nodes: Nodes<S>,
-    ports: Ports,
+    core: Core<S>,
 }
 
 impl<S> Model for World<S> {
-    ghost use Rattle.hurd_ports.specs.Tables.{IsSettled};
-    ghost use Rattle.hurd_world.specs.Held.{Both, coded_both};
+    ghost use Rattle.hurd_core.specs.Core.{Whole, coded_whole};
 
-    ghost Value = { Both S };
+    ghost Value = { Whole S };
 
-    ghost coded = { coded_both S.code };
+    ghost coded = { coded_whole S.code };
 
-    ghost view = { λ w. record { nodes = w.nodes; ports = w.ports } };
-
-    ghost invariant = { λ w. IsSettled w.ports };
-}
-
-/// Gives up a port of a task, whatever the nodes; its open goes where no other right names it.
-///
-/// Errors, in order: `ESRCH` no such task, `EBADF` no such port.
-fn port_deallocate(ports: &mut Ports, task: TaskId, port: u64) -> Result<(), Errno>
-    ensures { (nodes : NodesHalf) → let w = world_from nodes ports.old in
-        Planned false w task.0 (plan_deallocate w task.0 port) (replied (λ u. Done) result) (world_from nodes ports.new) }
-{
-    ports.deallocate(task, port)
+    ghost view = { λ w. w.core };
 }
 
 impl<S: Server> World<S> {
@@ -78,8 +57,7 @@ impl<S: Server> World<S> {
         }
         match first_ports(alloc, tasks) {
             Ok(ports) => Ok(World {
-                nodes: Nodes::starting_with(root),
-                ports,
+                core: Core::new(Nodes::starting_with(root), ports),
             }),
             Err(errno) => Err((errno, root)),
         }
@@ -87,20 +65,43 @@ impl<S: Server> World<S> {
 
     /// Makes one call of a task. A refused call changes nothing.
     ///
-    /// Errors: `ESRCH` where there is no such task, then those of the call, in its order.
+    /// Errors: `ESRCH` where there is no such task, then those of the call, in its order. `ENOMEM` where a call that takes
+    /// memory isn't refused, and finds none.
     pub fn call(&mut self, alloc: Global, task: TaskId, call: Call) -> Reply
-        ensures answer { let w = world_of S.meaning self.old in
-            Planned (lists_names call) w task.0 (plan w task.0 call) (result_of result) (world_of S.meaning self.new) }
-        ensures settled { IsSettled self.old.ports }
+        ensures answer { Called (world_of S.meaning self.old) task.0 call result (world_of S.meaning self.new) }
         ensures sound { Sound (world_of S.meaning self.old) → Sound (world_of S.meaning self.new) }
     {
-        self.answer(alloc, task, call)
+        let core = &mut self.core;
+        match call {
+            Call::PortDeallocate { port } => told(port_deallocate(core, task, port), |_| Reply::Done),
+            Call::DirLookup {
+                dir,
+                path,
+                flags,
+                mode,
+            } => {
+                let path = path.as_slice();
+                told(dir_lookup(core, alloc, task, dir, path, flags, mode), Reply::Found)
+            }
+            Call::IoRead {
+                port,
+                amount,
+                offset,
+            } => told(io_read(core, alloc, task, port, amount, offset), Reply::Data),
+            Call::IoWrite {
+                port,
+                bytes,
+                offset,
+            } => told(io_write(core, task, port, bytes.as_slice(), offset), Reply::Count),
+            Call::FileSetSize { port, size } => told(file_set_size(core, task, port, size), |_| Reply::Done),
+            Call::DirReaddir { port } => told(dir_readdir(core, alloc, task, port), Reply::Names),
+        }
     }
 
     /// Makes calls in their order, and gives a reply for each; room for the replies is taken first.
     ///
     /// What a set of tasks is told is what the written machine tells it in any sound world that it sees alike, where the
-    /// calls of the others touch nothing that it sees.
+    /// calls of the others touch nothing that it sees. A call that found no memory counts as not made.
     ///
     /// `ENOMEM`, with the list back and no call made, where there is no room for the replies.
     pub fn run(
@@ -109,9 +110,9 @@ impl<S: Server> World<S> {
         calls: Vec<(TaskId, Call)>,
     ) -> Result<Vec<Reply>, (Errno, Vec<(TaskId, Call)>)>
         ensures exact { let w = world_of S.meaning self.old in let x = world_of S.meaning self.new in
-            IfOk result (λ replies. Served w (map made_by calls.items) (map told replies.items) x) }
+            IfOk result (λ replies. Served w (map made_by calls.items) replies.items x) }
         ensures isolated { let w = world_of S.meaning self.old in let x = world_of S.meaning self.new in
-            IfOk result (λ replies. Sound w → IsolatedRun w (map made_by calls.items) (map told replies.items) x) }
+            IfOk result (λ replies. Sound w → IsolatedRun w (map made_by calls.items) replies.items x) }
         ensures sound { Sound (world_of S.meaning self.old) → Sound (world_of S.meaning self.new) }
         ensures err { IfErr result (λ e. (e ≡ (Errno.ENOMEM, calls)) × (self.new ≡ self.old)) }
     {
@@ -123,134 +124,5 @@ impl<S: Server> World<S> {
             replies.push_reserved(self.call(alloc, task, call));
         }
         Ok(replies)
-    }
-
-    /// Makes one call of a task, by the method of its own.
-    fn answer(&mut self, alloc: Global, task: TaskId, call: Call) -> Reply
-        ensures answer { let w = world_of S.meaning self.old in
-            Planned (lists_names call) w task.0 (plan w task.0 call) (result_of result) (world_of S.meaning self.new) }
-        ensures settled { IsSettled self.old.ports }
-    {
-        match call {
-            Call::PortDeallocate { port } => self.port_deallocate(task, port),
-            Call::DirLookup {
-                dir,
-                path,
-                flags,
-                mode,
-            } => self.dir_lookup(alloc, task, dir, &path, flags, mode),
-            Call::IoRead {
-                port,
-                amount,
-                offset,
-            } => self.io_read(alloc, task, port, amount, offset),
-            Call::IoWrite {
-                port,
-                bytes,
-                offset,
-            } => self.io_write(task, port, &bytes, offset),
-            Call::FileSetSize { port, size } => self.file_set_size(task, port, size),
-            Call::DirReaddir { port } => self.dir_readdir(alloc, task, port),
-        }
-    }
-
-    /// Gives up a port.
-    fn port_deallocate(&mut self, task: TaskId, port: u64) -> Reply
-        ensures answer { let w = world_of S.meaning self.old in
-            Planned false w task.0 (plan_deallocate w task.0 port) (result_of result) (world_of S.meaning self.new) }
-        ensures settled { IsSettled self.old.ports }
-    {
-        match port_deallocate(&mut self.ports, task, port) {
-            Ok(()) => Reply::Done,
-            Err(errno) => Reply::Refused(errno),
-        }
-    }
-
-    /// Looks a path up, and opens what is there.
-    fn dir_lookup(
-        &mut self,
-        alloc: Global,
-        task: TaskId,
-        dir: u64,
-        path: &Bytes,
-        flags: OpenFlags,
-        mode: Mode,
-    ) -> Reply
-        ensures answer { let w = world_of S.meaning self.old in
-            Planned true w task.0 (plan_lookup w task.0 dir path.now flags mode) (result_of result)
-            (world_of S.meaning self.new) }
-        ensures settled { IsSettled self.old.ports }
-    {
-        let path = path.as_slice();
-        match dir_lookup(
-            alloc,
-            &mut self.nodes,
-            &mut self.ports,
-            task,
-            dir,
-            path,
-            flags,
-            mode,
-        ) {
-            Ok(lookup) => Reply::Found(lookup),
-            Err(errno) => Reply::Refused(errno),
-        }
-    }
-
-    /// Reads from what a port has open.
-    fn io_read(&mut self, alloc: Global, task: TaskId, port: u64, amount: u64, offset: i64) -> Reply
-        ensures answer { let w = world_of S.meaning self.old in
-            Planned false w task.0 (plan_read w task.0 port amount offset) (result_of result) (world_of S.meaning self.new) }
-        ensures settled { IsSettled self.old.ports }
-    {
-        match io_read(
-            alloc,
-            &self.nodes,
-            &mut self.ports,
-            task,
-            port,
-            amount,
-            offset,
-        ) {
-            Ok(bytes) => Reply::Data(bytes),
-            Err(errno) => Reply::Refused(errno),
-        }
-    }
-
-    /// Writes to what a port has open.
-    fn io_write(&mut self, task: TaskId, port: u64, bytes: &Bytes, offset: i64) -> Reply
-        ensures answer { let w = world_of S.meaning self.old in
-            Planned false w task.0 (plan_write w task.0 port bytes.now offset) (result_of result) (world_of S.meaning self.new) }
-        ensures settled { IsSettled self.old.ports }
-    {
-        let bytes = bytes.as_slice();
-        match io_write(&mut self.nodes, &mut self.ports, task, port, bytes, offset) {
-            Ok(count) => Reply::Count(count),
-            Err(errno) => Reply::Refused(errno),
-        }
-    }
-
-    /// Cuts or grows the file that a port has open.
-    fn file_set_size(&mut self, task: TaskId, port: u64, size: u64) -> Reply
-        ensures answer { let w = world_of S.meaning self.old in
-            Planned false w task.0 (plan_set_size w task.0 port size) (result_of result) (world_of S.meaning self.new) }
-        ensures settled { IsSettled self.old.ports }
-    {
-        match file_set_size(&mut self.nodes, &self.ports, task, port, size) {
-            Ok(()) => Reply::Done,
-            Err(errno) => Reply::Refused(errno),
-        }
-    }
-
-    /// Tells the names in the directory that a port has open.
-    fn dir_readdir(&mut self, alloc: Global, task: TaskId, port: u64) -> Reply
-        ensures answer { let w = world_of S.meaning self.old in
-            Planned false w task.0 (plan_readdir w task.0 port) (result_of result) (world_of S.meaning self.new) }
-        ensures settled { IsSettled self.old.ports }
-    {
-        match dir_readdir(alloc, &self.nodes, &self.ports, task, port) {
-            Ok(names) => Reply::Names(names),
-            Err(errno) => Reply::Refused(errno),
-        }
     }
 }

@@ -1,0 +1,88 @@
+//! Sizes of files, and names in directories.
+ghost use Rattle.std.specs.Prelude.{◌≡◌, ◌∷◌, codes, IfOk};
+ghost use Rattle.hurd_creds.specs.Memory.{Meets};
+ghost use Rattle.hurd_machine.specs.Plan.{Planned};
+ghost use Rattle.hurd_machine.specs.declared.call.Reply.TheVariants as reply;
+ghost use Rattle.hurd_core.specs.Core.{world_of};
+ghost use Rattle.hurd_files.specs.Files.{set_size_asks, plan_set_size, readdir_asks, plan_readdir};
+
+use hurd_core::Core;
+use hurd_creds::{Bytes, Errno, Kind, NodeName, OpenFlags, TaskId};
+use hurd_trans_iface::{Names, Server};
+use std::alloc::{AllocError, Global};
+
+/// The node of a port that is open to write.
+///
+/// Errors, in order: `ESRCH`, `EBADF`, `EDIED`.
+#[tactic(auto, unfolding(hurd_machine::specs::Plan::first))]
+fn set_size_asked<S: Server>(core: &Core<S>, task: TaskId, port: u64) -> Result<NodeName, Errno>
+    ensures { result ≡ set_size_asks (world_of S.meaning core.now) task.0 port }
+{
+    Ok(core.handle(task, port, OpenFlags::WRITE)?.node)
+}
+
+/// Cuts the file that a port has open to this many bytes, or grows it by zero bytes (`fs.defs`).
+///
+/// Errors, in order: `ESRCH` no such task, `EBADF` no such port, or not opened to write, `EDIED` no such node, `EFBIG` a
+/// size past 16,777,216, `ENOMEM`.
+pub fn file_set_size<S: Server>(
+    core: &mut Core<S>,
+    task: TaskId,
+    port: u64,
+    size: u64,
+) -> Result<(), Errno>
+    ensures { let w = world_of S.meaning core.old in
+        Planned w (plan_set_size w task.0 port size) (λ u. reply.Done) result (world_of S.meaning core.new) }
+{
+    let node = set_size_asked(core, task, port)?;
+    core.set_size(node, size)
+}
+
+/// The names of the entries of a directory that a port has open to read.
+///
+/// Errors, in order: `ESRCH`, `EBADF`, `EDIED`, `ENOTDIR`, `ENOMEM`.
+#[tactic(auto, unfolding(hurd_machine::specs::Plan::given, hurd_machine::specs::Plan::first))]
+fn readdir_asked<S: Server>(
+    core: &Core<S>,
+    alloc: Global,
+    task: TaskId,
+    port: u64,
+) -> Result<Names, Errno>
+    ensures { Meets (readdir_asks (world_of S.meaning core.now) task.0 port) result }
+{
+    let handle = core.handle(task, port, OpenFlags::READ)?;
+    let Kind::Dir = handle.kind else {
+        return Err(Errno::ENOTDIR);
+    };
+    core.names(alloc, handle.node)
+}
+
+/// These names behind `.` and `..`.
+fn with_dots(alloc: Global, names: &[Bytes]) -> Result<Names, AllocError>
+    ensures { IfOk result (λ all. all ≡ codes "." ∷ codes ".." ∷ names.now) }
+{
+    let mut all = Names::new(alloc);
+    all.push(Bytes::copied(alloc, b".")?)?;
+    all.push(Bytes::copied(alloc, b"..")?)?;
+    for name in names {
+        all.push(Bytes::copied(alloc, name.as_slice())?)?;
+    }
+    Ok(all)
+}
+
+/// The names in the directory that a port has open: `.`, `..`, and those of its entries, in order of making (`fs.defs`).
+///
+/// Errors, in order: `ESRCH` no such task, `EBADF` no such port, or not opened to read, `EDIED` no such node, `ENOTDIR`,
+/// `ENOMEM`.
+pub fn dir_readdir<S: Server>(
+    core: &Core<S>,
+    alloc: Global,
+    task: TaskId,
+    port: u64,
+) -> Result<Names, Errno>
+    ensures { let w = world_of S.meaning core.now in
+        Planned w (plan_readdir w task.0 port) reply.Names result w }
+{
+    let names = readdir_asked(core, alloc, task, port)?;
+    Ok(with_dots(alloc, names.as_slice())?)
+}

@@ -1,0 +1,53 @@
+//! Paths.
+ghost use Rattle.std.specs.Prelude.{◌≡◌, ◌<◌, ◌∷◌, [], length, MatchOption};
+ghost use Rattle.hurd_lookup.specs.Path.{names_in, ends_with_slash, has_short_names, is_short};
+
+/// The greatest lengths of a path and of a name.
+const MOST_PATH: usize = 1024;
+
+const MOST_NAME: usize = 255;
+
+/// The first name of a path, and what follows it; none where the path has no name.
+pub(crate) fn first_name(path: &[u8]) -> Option<(&[u8], &[u8])>
+    ensures { MatchOption result (names_in path.now ≡ [])
+        (λ parts. (names_in path.now ≡ parts.0.now ∷ names_in parts.1.now) × (length parts.1.now < length path.now)) }
+{
+    let start = path.iter().position(|byte| *byte != b'/')?;
+    let path = &path[start..];
+    let end = match path.iter().position(|byte| *byte == b'/') {
+        Some(end) => end,
+        None => path.len(),
+    };
+    Some((&path[..end], &path[end..]))
+}
+
+/// Whether the path ends with a slash, and so asks for a directory.
+pub(crate) fn ends_with_slash(path: &[u8]) -> bool
+    ensures { result ≡ ends_with_slash path.now }
+{
+    match path.last() {
+        Some(byte) => *byte == b'/',
+        None => false,
+    }
+}
+
+/// Whether neither a path nor any of its names is too long.
+pub(crate) fn is_short(path: &[u8]) -> bool
+    ensures { result ≡ is_short path.now }
+{
+    path.len() <= MOST_PATH && has_short_names(path)
+}
+
+/// Whether none of the names of a path is too long.
+fn has_short_names(path: &[u8]) -> bool
+    ensures { result ≡ has_short_names path.now }
+{
+    let mut rest = path;
+    while let Some((name, after)) = first_name(rest) {
+        if name.len() > MOST_NAME {
+            return false;
+        }
+        rest = after;
+    }
+    true
+}
