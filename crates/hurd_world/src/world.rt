@@ -73,28 +73,34 @@ impl<S: Server> World<S> {
     {
         let core = &mut self.core;
         match call {
-            Call::PortDeallocate { port } => told(port_deallocate(core, task, port), |_| Reply::Done),
+            Call::PortDeallocate { port } => {
+                port_deallocate(core, task, port).map_or_else(Reply::Refused, |()| Reply::Done)
+            }
             Call::DirLookup {
                 dir,
                 path,
                 flags,
                 mode,
-            } => {
-                let path = path.as_slice();
-                told(dir_lookup(core, alloc, task, dir, path, flags, mode), Reply::Found)
-            }
+            } => dir_lookup(core, alloc, task, dir, path.as_slice(), flags, mode)
+                .map_or_else(Reply::Refused, Reply::Found),
             Call::IoRead {
                 port,
                 amount,
                 offset,
-            } => told(io_read(core, alloc, task, port, amount, offset), Reply::Data),
+            } => io_read(core, alloc, task, port, amount, offset)
+                .map_or_else(Reply::Refused, Reply::Data),
             Call::IoWrite {
                 port,
                 bytes,
                 offset,
-            } => told(io_write(core, task, port, bytes.as_slice(), offset), Reply::Count),
-            Call::FileSetSize { port, size } => told(file_set_size(core, task, port, size), |_| Reply::Done),
-            Call::DirReaddir { port } => told(dir_readdir(core, alloc, task, port), Reply::Names),
+            } => io_write(core, task, port, bytes.as_slice(), offset)
+                .map_or_else(Reply::Refused, Reply::Count),
+            Call::FileSetSize { port, size } => {
+                file_set_size(core, task, port, size).map_or_else(Reply::Refused, |()| Reply::Done)
+            }
+            Call::DirReaddir { port } => {
+                dir_readdir(core, alloc, task, port).map_or_else(Reply::Refused, Reply::Names)
+            }
         }
     }
 
