@@ -1,5 +1,5 @@
 -- Paths.
-use Rattle.std.specs.Prelude.{ℕ, ◌-◌, ◌==◌, ◌&&◌, not, Bool, true, false, List, [], ◌∷◌, Option, Some, None, length, filter, nat_le, slice_get}
+use Rattle.std.specs.Prelude.{ℕ, ◌-◌, ◌==◌, ◌&&◌, not, Bool, true, false, cond, List, [], ◌∷◌, Option, Some, None, length, filter, nat_le, slice_get}
 use Rattle.std.specs.List.{list_all, slice_split}
 
 -- the byte between names
@@ -10,9 +10,17 @@ abbrev pub is_nil : List ℕ → Bool
 is_nil [] = true
 is_nil (b ∷ bs) = false
 
+abbrev pub is_slash_byte : ℕ → Bool
+is_slash_byte b = b == slash
+
 -- the names of a path: the parts between slashes, but empty ones
 abbrev pub names_in : List ℕ → List (List ℕ)
-names_in path = filter (λ part. not (is_nil part)) (slice_split (λ b. b == slash) path)
+names_in path = filter (λ part. not (is_nil part)) (slice_split is_slash_byte path)
+
+-- a path without the slashes that it begins with
+abbrev pub from_name : List ℕ → List ℕ
+from_name [] = []
+from_name (b ∷ bs) = cond (is_slash_byte b) (from_name bs) (b ∷ bs)
 
 abbrev pub is_slash : Option ℕ → Bool
 is_slash None = false

@@ -1,24 +1,51 @@
 //! Paths.
 ghost use Rattle.std.specs.Prelude.{◌≡◌, ◌<◌, ◌∷◌, [], length, MatchOption};
-ghost use Rattle.hurd_lookup.specs.Path.{names_in, ends_with_slash, has_short_names, is_short};
+ghost use Rattle.std.specs.List.{position, position_or_len};
+ghost use Rattle.hurd_lookup.specs.Path.{names_in, is_slash_byte, from_name, ends_with_slash, has_short_names, is_short};
 
 /// The greatest lengths of a path and of a name.
 const MOST_PATH: usize = 1024;
 
 const MOST_NAME: usize = 255;
 
+/// Where a path's first slash is, if it has one.
+fn slash_in(path: &[u8]) -> Option<usize>
+    ensures { result ≡ position is_slash_byte path.now }
+{
+    path.iter().position(|byte| *byte == b'/')
+}
+
+/// Where a path's first slash is, or its length where it has none.
+fn first_slash(path: &[u8]) -> usize
+    ensures { result ≡ position_or_len is_slash_byte path.now }
+{
+    match slash_in(path) {
+        Some(slash) => slash,
+        None => path.len(),
+    }
+}
+
+/// A path from its first name on.
+fn from_name(path: &[u8]) -> &[u8]
+    ensures { result.now ≡ from_name path.entry.now }
+{
+    let mut rest = path;
+    while let [b'/', after @ ..] = rest {
+        rest = after;
+    }
+    rest
+}
+
 /// The first name of a path, and what follows it; none where the path has no name.
 pub(crate) fn first_name(path: &[u8]) -> Option<(&[u8], &[u8])>
-    ensures { MatchOption result (names_in path.now ≡ [])
-        (λ parts. (names_in path.now ≡ parts.0.now ∷ names_in parts.1.now) × (length parts.1.now < length path.now)) }
+    ensures { MatchOption result (names_in path.entry.now ≡ [])
+        (λ parts. (names_in path.entry.now ≡ parts.0.now ∷ names_in parts.1.now) × (length parts.1.now < length path.entry.now)) }
 {
-    let start = path.iter().position(|byte| *byte != b'/')?;
-    let path = &path[start..];
-    let end = match path.iter().position(|byte| *byte == b'/') {
-        Some(end) => end,
-        None => path.len(),
-    };
-    Some((&path[..end], &path[end..]))
+    let path = from_name(path);
+    if path.is_empty() {
+        return None;
+    }
+    Some(path.split_at(first_slash(path)))
 }
 
 /// Whether the path ends with a slash, and so asks for a directory.
