@@ -1,0 +1,4 @@
+pub mod Tasks
+pub mod Nodes
+pub mod Holders
+pub mod Coherence
