@@ -78,9 +78,9 @@ module _ (S : ℕ → Bool) (v x : World) (coherent : Coherent x) (i : Inside S 
     power = elim i.power [
       | inl all ↦ inl all
       | inr less ↦ inr (record {
-          tasks = λ q z ours at. less.tasks q z ours (at_tasks y x.tasks e q z at);
-          rights = λ r h. less.rights r (record { task = h.task; ours = h.ours; seat = h.seat; is_task = at_tasks y x.tasks e h.task h.seat h.is_task; here = h.here });
-        })
+        tasks = λ q z ours at. less.tasks q z ours (at_tasks y x.tasks e q z at);
+        rights = λ r h. less.rights r (record { task = h.task; ours = h.ours; seat = h.seat; is_task = at_tasks y x.tasks e h.task h.seat h.is_task; here = h.here });
+      })
     ];
   }
 

@@ -23,7 +23,7 @@ use Rattle.hurd_machine.proofs.Coherence.{header_old, entry_old, home_old, entry
 pub seen_old : {S : ℕ → Bool} {w : World} → Coherent w → (n : Name) → Seen S w n → Below w n
 seen_old {S} {w} c n (Root e) = let root = c.tree.root in subst (Below w) (sym e) (header_old c boot_root root.0 root.1)
 seen_old {S} {w} c n (Held r h e) = subst (Below w) (sym e) (c.given.rights h.task h.seat r h.is_task h.here).0
-seen_old {S} {w} c n (Child d h name s eh k could en) = c.given.entries d n (entry_lists name n (body_at w d) en)
+seen_old {S} {w} c n (Child d h name s eh k could en) = c.given.entries d n (entry_lists name (body_at w d) n en)
 seen_old c n (Parent d h s eh ep) = c.given.parents d n h eh ep
 seen_old {S} {w} c n (ServerRoot m s i sm em es could e) = subst (Below w) (sym e) (home_old c i.root s (c.housing.roots s i es))
 
@@ -129,7 +129,7 @@ module _ {S : ℕ → Bool} {v x : World} (coherent : Coherent v) (i : Inside S 
   child_inside d n h name eh k c (inl sd) (inl e) =
       let l = header_before d h eh sd in
       inl (Child d l.0 name sd l.1 (sym l.2.kind ∙ k) (l.2.could Exec (could_back h Exec c)) e)
-  child_inside d n h name eh k c (inr new) (inl e) = absurd (new.1 (entry_old coherent d n (entry_lists name n (body_at v d) e)))
+  child_inside d n h name eh k c (inr new) (inl e) = absurd (new.1 (entry_old coherent d n (entry_lists name (body_at v d) n e)))
 
   parent_inside : (d n : Name) (h : Header) → header_at x d ≡ Some h → h.parent ≡ Some n → SeenOrNew S v d → HeaderInside S v d h → SeenOrNew S v n
   parent_inside d n h eh ep ok (inr new) = new.1 n ep

@@ -2,3 +2,9 @@ pub mod Tasks
 pub mod Nodes
 pub mod Holders
 pub mod Coherence
+pub mod Views
+pub mod Asks
+pub mod Confine
+pub mod Allowed
+pub mod Mirror
+pub mod Several
