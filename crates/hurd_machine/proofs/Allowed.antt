@@ -1,12 +1,12 @@
 -- The changes that a task of S may make: each keeps a world inside what S saw.
-use Rattle.std.proofs.Common.{◌≡◌, ◌≢◌, ◌⊎◌, ℕ, ◌+◌, ◌<◌, ◌≤◌, Bool, true, List, [], ◌∷◌, Option, Some, None, sym, refl, ◌∙◌, ap, subst, inl, inr, arith}
+use Rattle.std.proofs.Common.{◌≡◌, ◌≢◌, ◌⊎◌, ℕ, ◌<◌, ◌≤◌, Bool, true, List, [], Option, Some, None, sym, refl, ◌∙◌, ap, subst, inl, inr, arith}
 use Rattle.std.specs.Option.{option_map}
 use Rattle.std.specs.FinMap.{get, insert}
 use Rattle.hurd_creds.specs.declared.name.Name.{Name}
 use Rattle.hurd_creds.specs.Bits.{asks, READ}
 use Rattle.hurd_creds.specs.NameMaps.{edit}
 use Rattle.hurd_creds.proofs.NameLaws.{same_or_apart, get_here, get_apart, edit_here, edit_apart}
-use Rattle.hurd_trans_iface.specs.Nodes.{Node, Header, Body, Content, Listing, with_header, with_body}
+use Rattle.hurd_trans_iface.specs.Nodes.{Header, Body, Content, Listing, with_header, with_body}
 use Rattle.hurd_trans_iface.specs.Answers.{entry_in, entry_of}
 use Rattle.hurd_ports.specs.declared.table.Opened.{Opened}
 use Rattle.hurd_ports.specs.declared.table.Right.{Right}

@@ -8,7 +8,7 @@ use Rattle.hurd_creds.specs.declared.errno.Errno.TheVariants.{EBADF, EDIED, ENOM
 use Rattle.hurd_creds.specs.Bits.{asks, READ}
 use Rattle.hurd_creds.specs.Memory.{is_no_memory}
 use Rattle.hurd_trans_iface.specs.Nodes.{Node, Header, Body}
-use Rattle.hurd_trans_iface.specs.Behaviour.{Did, Effect, Behaviour, Question, effect_on}
+use Rattle.hurd_trans_iface.specs.Behaviour.{Question}
 use Rattle.hurd_trans_iface.specs.Kinds.{ServerKind, behaviour_of}
 use Rattle.hurd_trans_iface.specs.Good.{IsBlind, IsPlain as IsPlainAnswer}
 use Rattle.hurd_nodes.specs.Shown.{ServerInfo, info_in, asked_of}

@@ -8,3 +8,5 @@ pub mod Confine
 pub mod Allowed
 pub mod Mirror
 pub mod Several
+pub mod Rights
+pub mod Permits

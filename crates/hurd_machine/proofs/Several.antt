@@ -1,13 +1,13 @@
 -- Changes one after another, settling among them: they show the same in worlds that agree.
-use Rattle.std.proofs.Common.{◌≡◌, ◌⊎◌, ℕ, ◌+◌, Bool, true, false, List, [], ◌∷◌, Option, Some, None, length, sym, refl, ◌∙◌, ap, ap₂, subst, inl, inr, arith}
+use Rattle.std.proofs.Common.{◌≡◌, ℕ, Bool, true, false, List, [], ◌∷◌, Option, Some, None, length, sym, refl, ◌∙◌, ap, ap₂, subst, inl, inr, arith}
 use Rattle.hurd_creds.specs.declared.name.Name.{Name}
 use Rattle.hurd_creds.proofs.NameLaws.{same_name-apart}
 use Rattle.hurd_trans_iface.specs.Nodes.{Node}
 use Rattle.hurd_ports.specs.declared.table.Right.{Right}
 use Rattle.hurd_ports.specs.Tables.{Task, rights_of, names_open, is_held}
 use Rattle.hurd_ports.specs.Steps.{named}
-use Rattle.hurd_machine.specs.World.{World, IsAmong, task_at, home_at}
-use Rattle.hurd_machine.specs.Sight.{Part, AttrOf, EmptyOf, BodyOf, OpenOf, OptionsOf, UsersOf, TaskOf, Sees, part, count_list, count_rights, holders, AnAttr, AnEmpty, ABody, AnOpen}
+use Rattle.hurd_machine.specs.World.{World, home_at}
+use Rattle.hurd_machine.specs.Sight.{Part, AttrOf, EmptyOf, BodyOf, OpenOf, Sees, part, count_list, count_rights, holders, AnAttr, AnEmpty, ABody, AnOpen}
 use Rattle.hurd_machine.specs.Change.{Change, MakeNode, MakeOpen, EditTask, Settle, settle, apply, apply_all}
 use Rattle.hurd_machine.specs.Sound.{Below, Coherent}
 use Rattle.hurd_machine.proofs.Views.{Agree, Agree-sym, Agree-trans, same_tasks}
