@@ -19,6 +19,7 @@ use Rattle.hurd_machine.specs.Sound.{Coherent}
 use Rattle.hurd_machine.proofs.Nodes.{header_in, body_in, header-with_header, header-with_body, body-with_header, body-with_body, edit_reads, edit_keeps, edited_from, ByEmptiness}
 use Rattle.hurd_machine.proofs.Tasks.{edit_cases}
 use Rattle.hurd_machine.proofs.Coherence.{HasNoEntries, IsNext, next_apart, was, Proper}
+use Rattle.hurd_machine.proofs.Frame.{IsExact}
 use Rattle.hurd_machine.proofs.Confine.{NewTo, SeenOrNew, Less, Less-refl, Less-trans, RightInside, TakesLess, Inside}
 
 -- a right that a task of S may get, but for its ids: where its open is to read, S sees the body
@@ -45,11 +46,6 @@ May S v x (EditOpen o f) = (z : Opened) → asks (f z).modes READ ≡ true → a
 May S v x (MakeOpen o z) = S o.task.0 ≡ true
 May S v x (EditTask q f) = (S q ≡ true) × ((a : Task) → task_at x q ≡ Some a → OwnMay S v x a (f a) × (HasUid S v 0 ⊎ OwnTaken S v a (f a)))
 May S v x Settle = Unit {0}
-
--- all changes but settling
-abbrev pub IsExact : Change → Type 0
-IsExact Settle = ⊥
-IsExact c = Unit {0}
 
 module _ (S : ℕ → Bool) (v x : World) (coherent : Coherent x) (i : Inside S v x) where
   -- the next name of a task of S is new

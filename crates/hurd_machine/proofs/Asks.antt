@@ -1,5 +1,5 @@
 -- What a call asks: the same in worlds that answer the same, what an answer shows, and that no answer is want of memory.
-use Rattle.std.proofs.Common.{◌≡◌, ◌≢◌, ℕ, ◌==◌, Bool, true, false, List, [], ◌∷◌, map, Option, Some, None, inl, inr, refl, sym, ◌∙◌, ap, ap₂, subst, true≢false}
+use Rattle.std.proofs.Common.{◌≡◌, ◌≢◌, ℕ, Bool, true, false, Option, Some, None, refl, sym, ◌∙◌, ap, ap₂, subst, true≢false}
 use Rattle.std.specs.Prelude.{Result, Ok, Err}
 use Rattle.std.specs.FinMap.{get}
 use Rattle.hurd_creds.specs.declared.name.Name.{Name}
@@ -13,7 +13,6 @@ use Rattle.hurd_trans_iface.specs.Kinds.{ServerKind, behaviour_of}
 use Rattle.hurd_trans_iface.specs.Good.{IsBlind, IsPlain as IsPlainAnswer}
 use Rattle.hurd_nodes.specs.Shown.{ServerInfo, info_in, asked_of}
 use Rattle.hurd_ports.specs.declared.table.Right.{Right}
-use Rattle.hurd_ports.specs.declared.table.Port.{Port}
 use Rattle.hurd_ports.specs.Tables.{Task, rights_of, or_refuse, right_in, right_at, right_of}
 use Rattle.hurd_machine.specs.declared.call.Reply.{Reply}
 use Rattle.hurd_machine.specs.declared.call.Reply.TheVariants.{Refused}
@@ -23,6 +22,7 @@ use Rattle.hurd_machine.specs.declared.handle.Handle.{Handle}
 use Rattle.hurd_machine.specs.Handle.{handle_asks}
 use Rattle.hurd_machine.specs.Sight.{Holds, Held, Seen, IsOpen, BodyOf, Sees}
 use Rattle.hurd_machine.proofs.Nodes.{header_in, body_in}
+use Rattle.hurd_machine.proofs.Rights.{right_among}
 use Rattle.hurd_machine.proofs.Views.{Agree, same_tasks, header_same, body_same, home_same, server_same, open_same}
 
 -- asked of two worlds, y of the second
@@ -117,14 +117,6 @@ module _ {S : ℕ → Bool} {v w : World} (a : Agree S v w) (t : ℕ) (ours : S 
   pub right_same : (q : ℕ) → right_of (ports_of w) t q ≡ right_of (ports_of v) t q
   right_same q = ap (right_at q) (same_tasks a t ours)
 
-right_named : (q : ℕ) (ps : List Port) (r : Right) → right_in q ps ≡ Some r → IsAmong r (map (λ (p : Port). p.right) ps)
-right_named q [] r = λ h. absurd (cc)
-right_named q (x ∷ ps) r = go (q == x.number) refl (right_named q ps r)
-  where
-    go : (b : Bool) → (q == x.number) ≡ b → (right_in q ps ≡ Some r → IsAmong r (map (λ (p : Port). p.right) ps)) → right_in q (x ∷ ps) ≡ Some r → IsAmong r (map (λ (p : Port). p.right) (x ∷ ps))
-    go true e ih h = let k : Some x.right ≡ Some r = rw e at h in inl cc
-    go false e ih h = inr (ih (rw e at h))
-
 -- the task whose right it is, under that number
 pub record HasRight (w : World) (t q : ℕ) (r : Right) : Type 0 where
   pub seat : Task
@@ -132,9 +124,9 @@ pub record HasRight (w : World) (t q : ℕ) (r : Right) : Type 0 where
   pub under : right_in q seat.ports ≡ Some r
   pub here : IsAmong r (rights_of seat)
 
-right_under : (q : ℕ) (o : Option Right) (r : Right) → or_refuse EBADF o ≡ Ok r → o ≡ Some r
-right_under q None r h = absurd (cc)
-right_under q (Some k) r h = cc
+was_there : (o : Option Right) (r : Right) → or_refuse EBADF o ≡ Ok r → o ≡ Some r
+was_there None r h = absurd (cc)
+was_there (Some k) r h = cc
 
 pub has_right : (w : World) (t q : ℕ) (r : Right) → right_of (ports_of w) t q ≡ Ok r → HasRight w t q r
 has_right w t q r h = go (task_at w t) refl h
@@ -142,8 +134,8 @@ has_right w t q r h = go (task_at w t) refl h
     go : (o : Option Task) → task_at w t ≡ o → right_at q o ≡ Ok r → HasRight w t q r
     go None e k = absurd (cc)
     go (Some x) e k =
-        let u : right_in q x.ports ≡ Some r = right_under q (right_in q x.ports) r k in
-        record { seat = x; is_task = e; under = u; here = right_named q x.ports r u }
+        let u : right_in q x.ports ≡ Some r = was_there (right_in q x.ports) r k in
+        record { seat = x; is_task = e; under = u; here = right_among q x.ports r u }
 
 pub holds_right : {S : ℕ → Bool} {v : World} (t : ℕ) → S t ≡ true → (q : ℕ) (r : Right) → right_of (ports_of v) t q ≡ Ok r → Holds S v r
 holds_right {S} {v} t ours q r is = let h = has_right v t q r is in record { task = t; ours = ours; seat = h.seat; is_task = h.is_task; here = h.here }

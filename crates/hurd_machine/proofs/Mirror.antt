@@ -1,9 +1,8 @@
 -- The same change of a task of S in two worlds that are alike for S: they are alike afterwards.
-use Rattle.std.proofs.Common.{◌≡◌, ℕ, Bool, true, Some, length, slice_get, sym, refl, ◌∙◌, ap, ap₂, subst, inl, inr, arith}
+use Rattle.std.proofs.Common.{◌≡◌, ℕ, Bool, true, Some, length, sym, refl, ◌∙◌, ap, ap₂, inl, arith}
 use Rattle.std.specs.Option.{option_map}
-use Rattle.std.specs.FinMap.{get, insert}
+use Rattle.std.specs.FinMap.{get}
 use Rattle.hurd_creds.specs.declared.name.Name.{Name}
-use Rattle.hurd_creds.proofs.NameLaws.{get_apart}
 use Rattle.hurd_trans_iface.specs.Nodes.{with_header, with_body, is_empty_dir}
 use Rattle.hurd_ports.specs.declared.table.Right.{Right}
 use Rattle.hurd_ports.specs.Tables.{Task, rights_of, names_open}
@@ -14,31 +13,16 @@ use Rattle.hurd_machine.specs.Sight.{AnAttr, AnEmpty, ABody, AnOpen, AnOptions, 
 use Rattle.hurd_machine.specs.Change.{Change, EditHeader, EditBody, MakeNode, EditOpen, MakeOpen, EditTask, Settle, apply}
 use Rattle.hurd_machine.specs.Sound.{Coherent}
 use Rattle.hurd_machine.proofs.Nodes.{header_in, body_in, empty_in, header-with_header, header-with_body, body-with_header, body-with_body, edit_alike, insert_alike, ByEmptiness, edit_empty_alike}
-use Rattle.hurd_machine.proofs.Tasks.{edit_here, edit_same, edit_cases, count_edit, count_named, count_alike, list_alike}
-use Rattle.hurd_machine.proofs.Coherence.{IsNext, next_apart, Proper}
+use Rattle.hurd_machine.proofs.Tasks.{edit_here, edit_same, count_edit, count_named, list_alike}
+use Rattle.hurd_machine.proofs.Coherence.{next_not, Proper}
+use Rattle.hurd_machine.proofs.Frame.{IsExact, users_named}
 use Rattle.hurd_machine.proofs.Confine.{SeenOrNew, Known, RightInside, Inside}
-use Rattle.hurd_machine.proofs.Allowed.{IsExact, May}
+use Rattle.hurd_machine.proofs.Allowed.{May}
 
 -- x and y are alike in all that S saw in v or makes
 pub record Mirror (S : ℕ → Bool) (v x y : World) : Type 0 where
   pub tasks : length y.tasks ≡ length x.tasks
   pub parts : (p : Part) → Known S v p → part y p ≡ part x p
-
--- a node made under a next name has no rights on it: each server has as many users
-made_users : (w : World) → Coherent w → (n s : Name) → IsNext w n → (y : World) → y.homes ≡ insert w.homes n s → y.tasks ≡ edit_task n.task.0 (named 1) w.tasks → (q : Name) → users y q ≡ users w q
-made_users w c n s next y homes tasks q =
-    ap (count_rights (is_on y q)) tasks
-    ∙ count_alike (is_on y q) (is_on w q) (edit_task n.task.0 (named 1) w.tasks) same
-    ∙ count_named (is_on w q) n.task.0 1 w.tasks next.seat next.is_task
-  where
-    home : (t : ℕ) (x : Task) (r : Right) → task_at w t ≡ Some x → IsAmong r (rights_of x) → is_on y q r ≡ is_on w q r
-    home t x r at h = ap (is_home q) (ap (λ m. get m r.node) homes ∙ get_apart w.homes n s r.node (next_apart w n r.node next (c.given.rights t x r at h).0))
-
-    same : (t : ℕ) (x : Task) (r : Right) → slice_get (edit_task n.task.0 (named 1) w.tasks) t ≡ Some x → IsAmong r (rights_of x) → is_on y q r ≡ is_on w q r
-    same t x r at h = elim (edit_cases n.task.0 (named 1) w.tasks next.seat next.is_task t x at) [
-      | inl k ↦ home n.task.0 next.seat r next.is_task (subst (λ (z : Task). IsAmong r (rights_of z)) k.1 h)
-      | inr old ↦ home t x r old h
-    ]
 
 module _ (x y : World) where
   header_alike : (c : Change) → IsExact c → (n : Name) → header_at y n ≡ header_at x n → header_at (apply c y) n ≡ header_at (apply c x) n
@@ -130,7 +114,8 @@ module _ (S : ℕ → Bool) (v x y : World) (before : Inside S v x) (cx : Cohere
       (λ r i. same_side s r (after.held r (record { task = q; ours = m.0; seat = f px.1; is_task = edit_here q f x.tasks px.1 px.2; here = i })))
       e
   users_alike (MakeNode n q node) ex px py m after s e =
-      made_users y cy n q py.0 (apply (MakeNode n q node) y) refl refl s ∙ e ∙ sym (made_users x cx n q px.0 (apply (MakeNode n q node) x) refl refl s)
+      users_named y (apply (MakeNode n q node) y) cy n py.0 1 n q (next_not y n py.0) refl refl s ∙ e
+      ∙ sym (users_named x (apply (MakeNode n q node) x) cx n px.0 1 n q (next_not x n px.0) refl refl s)
   users_alike (MakeOpen n z) ex px py m after s e =
       count_named (is_on y s) n.task.0 1 y.tasks py.seat py.is_task ∙ e ∙ sym (count_named (is_on x s) n.task.0 1 x.tasks px.seat px.is_task)
   users_alike Settle ex px py m after s e = absurd ex

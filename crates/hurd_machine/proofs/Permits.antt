@@ -21,8 +21,9 @@ use Rattle.hurd_machine.specs.World.{World, task_at, header_at}
 use Rattle.hurd_machine.specs.Sight.{HasUid, Taken, Could, Owns, Allowed, SeesBody}
 use Rattle.hurd_machine.specs.Change.{Change, EditBody, EditOpen, MakeOpen, Settle, apply, apply_all, changes_of, opening, dropping}
 use Rattle.hurd_machine.proofs.Rights.{port_rights, without_rights}
+use Rattle.hurd_machine.proofs.Frame.{IsExact}
 use Rattle.hurd_machine.proofs.Confine.{NewTo, SeenOrNew, Less}
-use Rattle.hurd_machine.proofs.Allowed.{RightMay, IsExact, May}
+use Rattle.hurd_machine.proofs.Allowed.{RightMay, May}
 use Rattle.hurd_machine.proofs.Several.{AllMay}
 
 -- one list of changes after another

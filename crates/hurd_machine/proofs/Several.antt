@@ -15,8 +15,9 @@ use Rattle.hurd_machine.proofs.Nodes.{header_in, body_in, empty_in}
 use Rattle.hurd_machine.proofs.Tasks.{edit_length, count_alike}
 use Rattle.hurd_machine.proofs.Holders.{held_by_right, held_stays}
 use Rattle.hurd_machine.proofs.Coherence.{home_old, no_node, no_open, Proper, AllProper, coherent_one}
+use Rattle.hurd_machine.proofs.Frame.{IsExact}
 use Rattle.hurd_machine.proofs.Confine.{NewTo, NewPart, Inside, Inside-refl, sees_inside}
-use Rattle.hurd_machine.proofs.Allowed.{May, IsExact, inside_one}
+use Rattle.hurd_machine.proofs.Allowed.{May, inside_one}
 use Rattle.hurd_machine.proofs.Mirror.{Mirror, part_same}
 
 -- each change may be made in the world that the ones before it leave; once a world settled, what S saw is of that world

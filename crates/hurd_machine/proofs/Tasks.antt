@@ -56,6 +56,13 @@ edit_at-apart q f ts (Some x) p a = set_apart ts q (f x) p a
 pub edit_apart : (q : ℕ) (f : Task → Task) (ts : List Task) (p : ℕ) → (p ≡ q → ⊥) → slice_get (edit_task q f ts) p ≡ slice_get ts p
 edit_apart q f ts p a = edit_at-apart q f ts (slice_get ts q) p a
 
+-- a task that is there stays, or is the changed one
+pub edit_still : (q : ℕ) (f : Task → Task) (ts : List Task) (p : ℕ) (x : Task) → slice_get ts p ≡ Some x → (slice_get (edit_task q f ts) p ≡ Some (f x)) ⊎ (slice_get (edit_task q f ts) p ≡ Some x)
+edit_still q f ts p x at = elim (one_or_other p q) [
+  | inl e ↦ inl (rw e (edit_here q f ts x (rw e at at)))
+  | inr a ↦ inr (edit_apart q f ts p a ∙ at)
+]
+
 -- the same change of the same task
 pub edit_same : (q : ℕ) (f : Task → Task) (ts us : List Task) (p : ℕ) → slice_get us p ≡ slice_get ts p → slice_get (edit_task q f us) p ≡ slice_get (edit_task q f ts) p
 edit_same q f ts us p e = elim (one_or_other p q) [
