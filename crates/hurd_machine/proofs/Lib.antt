@@ -5,3 +5,4 @@ pub mod Coherence
 pub mod Rights
 pub mod Settle
 pub mod Frame
+pub mod Sizes
