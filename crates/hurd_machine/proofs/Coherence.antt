@@ -1,5 +1,5 @@
 -- Changes that keep a coherent world so.
-use Rattle.std.proofs.Common.{true, false, ◌≡◌, ◌≢◌, ◌⊎◌, ℕ, ◌+◌, ◌<◌, ◌≤◌, ◌||◌, cond, Bool, List, [], ◌∷◌, Option, Some, None, sym, refl, ◌∙◌, ap, subst, inl, inr, arith}
+use Rattle.std.proofs.Common.{true, false, ◌≡◌, ◌≢◌, ◌⊎◌, ℕ, ◌+◌, ◌<◌, ◌≤◌, ◌||◌, cond, Bool, List, [], ◌∷◌, ◌++◌, Option, Some, None, sym, refl, ◌∙◌, ap, subst, inl, inr, arith}
 use Rattle.std.specs.List.{list_any}
 use Rattle.std.specs.Option.{option_map}
 use Rattle.std.specs.Str.{bytes_eq}
@@ -585,3 +585,13 @@ coherent_one Settle w c p = reopened w (settle w).opens c (opens_left w c)
 pub coherent_all : (cs : List Change) (w : World) → Coherent w → AllProper w cs → Coherent (apply_all cs w)
 coherent_all [] w c p = c
 coherent_all (x ∷ cs) w c p = let next : Coherent (apply x w) = coherent_one x w c p.0 in coherent_all cs (apply x w) next (p.1 next)
+
+-- changes, and then others
+
+pub apply_all-append : (cs ds : List Change) (w : World) → apply_all (cs ++ ds) w ≡ apply_all ds (apply_all cs w)
+apply_all-append [] ds w = refl
+apply_all-append (c ∷ cs) ds w = apply_all-append cs ds (apply c w)
+
+pub proper_append : (cs ds : List Change) (w : World) → Coherent w → AllProper w cs → (Coherent (apply_all cs w) → AllProper (apply_all cs w) ds) → AllProper w (cs ++ ds)
+proper_append [] ds w c first then = then c
+proper_append (x ∷ cs) ds w c first then = (first.0, λ d. proper_append cs ds (apply x w) d (first.1 d) then)

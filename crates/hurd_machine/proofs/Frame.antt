@@ -1,5 +1,5 @@
 -- What changes leave as it was.
-use Rattle.std.proofs.Common.{◌≡◌, ◌≢◌, ◌⊎◌, ℕ, false, List, [], ◌∷◌, Option, Some, None, slice_get, sym, refl, ◌∙◌, ap, ap₂, subst, inl, inr, arith}
+use Rattle.std.proofs.Common.{◌≡◌, ◌≢◌, ◌⊎◌, ℕ, false, List, [], ◌∷◌, ◌++◌, Option, Some, None, slice_get, sym, refl, ◌∙◌, ap, ap₂, subst, inl, inr, arith}
 use Rattle.std.specs.Option.{option_map}
 use Rattle.std.specs.FinMap.{get, insert}
 use Rattle.hurd_creds.specs.declared.name.Name.{Name}
@@ -39,6 +39,10 @@ Within T w Settle = Unit {0}
 abbrev pub AllWithin : (Part → Type 0) → World → List Change → Type 0
 AllWithin T w [] = Unit {0}
 AllWithin T w (c ∷ cs) = Within T w c × AllWithin T (apply c w) cs
+
+pub within_append : (T : Part → Type 0) (cs ds : List Change) (w : World) → AllWithin T w cs → AllWithin T (apply_all cs w) ds → AllWithin T w (cs ++ ds)
+within_append T [] ds w first then = then
+within_append T (c ∷ cs) ds w first then = (first.0, within_append T cs ds (apply c w) first.1 then)
 
 -- a part whose name was not given
 abbrev pub IsUnnamed : World → Part → Type 0

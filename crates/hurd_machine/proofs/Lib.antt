@@ -13,3 +13,4 @@ pub mod Mirror
 pub mod Several
 pub mod Permits
 pub mod CallLaws
+pub mod Sizes

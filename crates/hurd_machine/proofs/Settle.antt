@@ -15,7 +15,7 @@ use Rattle.hurd_machine.specs.Sound.{Coherent}
 use Rattle.hurd_machine.proofs.Nodes.{edited_from}
 use Rattle.hurd_machine.proofs.Tasks.{edit_here as task_here}
 use Rattle.hurd_machine.proofs.Holders.{held_counted, held_stays, none_stays, left_over, held_by_right, KeepsRights, held_still}
-use Rattle.hurd_machine.proofs.Coherence.{coherent_one, was}
+use Rattle.hurd_machine.proofs.Coherence.{apply_all-append, coherent_one, was}
 use Rattle.hurd_machine.proofs.Rights.{port_keeps, port_has}
 
 pub settle_coherent : (w : World) → Coherent w → Coherent (settle w)
@@ -83,10 +83,6 @@ rests_one (EditBody n g) w q settled = settled
 pub rests_quiet : (cs : List Change) (w : World) → AreQuiet cs → Rests w cs
 rests_quiet [] w q settled = settled
 rests_quiet (c ∷ cs) w q settled = rests_quiet cs (apply c w) q.1 (rests_one c w q.0 settled)
-
-pub apply_all-append : (cs ds : List Change) (w : World) → apply_all (cs ++ ds) w ≡ apply_all ds (apply_all cs w)
-apply_all-append [] ds w = refl
-apply_all-append (c ∷ cs) ds w = apply_all-append cs ds (apply c w)
 
 pub rests_append : (cs ds : List Change) (w : World) → Rests w cs → Rests (apply_all cs w) ds → Rests w (cs ++ ds)
 rests_append cs ds w first then settled = subst (λ x. IsSettled (ports_of x)) (sym (apply_all-append cs ds w)) (then (first settled))
