@@ -1,22 +1,25 @@
 -- What a call asks: the same in worlds that answer the same, what an answer shows, and that no answer is want of memory.
-use Rattle.std.proofs.Common.{◌≡◌, ◌≢◌, ℕ, Bool, true, false, Option, Some, None, refl, sym, ◌∙◌, ap, ap₂, subst, true≢false}
-use Rattle.std.specs.Prelude.{Result, Ok, Err}
+use Rattle.std.proofs.Common.{List, ◌≡◌, ◌≢◌, ℕ, Bool, true, false, Option, Some, None, refl, sym, ◌∙◌, ap, ap₂, subst, true≢false}
+use Rattle.std.specs.Prelude.{if◌then◌else◌, not, is_some, Result, Ok, Err}
 use Rattle.std.specs.FinMap.{get}
 use Rattle.hurd_creds.specs.declared.name.Name.{Name}
 use Rattle.hurd_creds.specs.declared.errno.Errno.{Errno}
-use Rattle.hurd_creds.specs.declared.errno.Errno.TheVariants.{EBADF, EDIED, ENOMEM, ESRCH}
+use Rattle.hurd_creds.specs.declared.errno.Errno.TheVariants.{EBADF, EDIED, EEXIST, ENOMEM, ENOTDIR, EOPNOTSUPP, EROFS, ESRCH}
+use Rattle.hurd_creds.specs.declared.attrs.Kind.{Kind}
 use Rattle.hurd_creds.specs.Bits.{asks, READ}
 use Rattle.hurd_creds.specs.Memory.{is_no_memory}
-use Rattle.hurd_trans_iface.specs.Nodes.{Node, Header, Body}
+use Rattle.hurd_trans_iface.specs.Nodes.{Node, Header, Body, is_dir}
+use Rattle.hurd_trans_iface.specs.Answers.{entry_of, is_tree, is_made}
+use Rattle.hurd_trans_iface.specs.Meaning.{root_of}
 use Rattle.hurd_trans_iface.specs.Behaviour.{Question}
 use Rattle.hurd_trans_iface.specs.Kinds.{ServerKind, behaviour_of}
 use Rattle.hurd_trans_iface.specs.Good.{IsBlind, IsPlain as IsPlainAnswer}
-use Rattle.hurd_nodes.specs.Shown.{ServerInfo, info_in, asked_of}
+use Rattle.hurd_nodes.specs.Shown.{ServerInfo, info_in, asked_of, is_root_at, is_root_of, made_by}
 use Rattle.hurd_ports.specs.declared.table.Right.{Right}
 use Rattle.hurd_ports.specs.Tables.{Task, rights_of, or_refuse, right_in, right_at, right_of}
 use Rattle.hurd_machine.specs.declared.call.Reply.{Reply}
 use Rattle.hurd_machine.specs.declared.call.Reply.TheVariants.{Refused}
-use Rattle.hurd_machine.specs.World.{World, IsAmong, ports_of, task_at, open_at, header_at, home_at, info_at, asked_at}
+use Rattle.hurd_machine.specs.World.{World, IsAmong, ports_of, task_at, open_at, header_at, home_at, info_at, is_server_root, asked_at, makes_at}
 use Rattle.hurd_machine.specs.Plan.{Plan, refuse, is_refused, on, given, first, answered}
 use Rattle.hurd_machine.specs.declared.handle.Handle.{Handle}
 use Rattle.hurd_machine.specs.Handle.{handle_asks}
@@ -230,9 +233,24 @@ module _ {S : ℕ → Bool} {v w : World} (a : Agree S v w) (n : Name) where
       go None e h = ap (info_in w.servers) (h ∙ e) ∙ ap (info_in v.servers) (sym e)
       go (Some s) e h = ap (info_in w.servers) (h ∙ e) ∙ server_same a n s seen e ∙ ap (info_in v.servers) (sym e)
 
+  -- and whether it is a server's root
+  pub is_root_same : Seen S v n → is_server_root w n ≡ is_server_root v n
+  is_root_same seen = go (home_at v n) refl (home_same a n seen)
+    where
+      go : (o : Option Name) → home_at v n ≡ o → home_at w n ≡ home_at v n → is_server_root w n ≡ is_server_root v n
+      go None e h = ap (is_root_of w.servers n) (h ∙ e) ∙ ap (is_root_of v.servers n) (sym e)
+      go (Some s) e h = ap (is_root_of w.servers n) (h ∙ e) ∙ ap (is_root_at n) (server_same a n s seen e) ∙ ap (is_root_of v.servers n) (sym e)
+
+  seen_node : Sees S v (BodyOf n) → get w.nodes n ≡ get v.nodes n
+  seen_node s = same_node (get v.nodes n) (get w.nodes n) (header_same a n s.0) (body_same a n s)
+
+  -- what may be made in a directory whose entries S sees
+  pub makes_same : (name : List ℕ) (kind : Kind) → Sees S v (BodyOf n) → makes_at w n name kind ≡ makes_at v n name kind
+  makes_same name kind s = ap₂ (made_by name kind) (info_same s.0) (seen_node s)
+
   -- whatever is asked of a node whose body S sees
   pub asked_seen : {T : Type 0} (q : Question T) → Sees S v (BodyOf n) → asked_at q n w ≡ asked_at q n v
-  asked_seen q s = ap₂ (asked_of q) (info_same s.0) (same_node (get v.nodes n) (get w.nodes n) (header_same a n s.0) (body_same a n s))
+  asked_seen q s = ap₂ (asked_of q) (info_same s.0) (seen_node s)
 
   -- what is blind to the body, of any node that S sees
   pub asked_same : {T : Type 0} (q : Question T) → ((k : ServerKind) → IsBlind (behaviour_of k) q) → Seen S v n → asked_at q n w ≡ asked_at q n v
@@ -246,3 +264,19 @@ asked_plain q plain n w = go (info_at w n) (get w.nodes n)
     go None o = err_plain EDIED refl
     go (Some i) None = err_plain EDIED refl
     go (Some i) (Some x) = plain i.kind i.text x
+
+if_plain : {A : Type 0} (b : Bool) (x y : Result A Errno) → IsPlain x → IsPlain y → IsPlain (if b then x else y)
+if_plain true x y px py = px
+if_plain false x y px py = py
+
+pub makes_plain : (w : World) (d : Name) (name : List ℕ) (kind : Kind) → IsPlain (makes_at w d name kind)
+makes_plain w d name kind = go (info_at w d) (get w.nodes d)
+  where
+    go : (i : Option ServerInfo) (o : Option Node) → IsPlain (made_by name kind i o)
+    go None o = err_plain EDIED refl
+    go (Some i) None = err_plain EDIED refl
+    go (Some i) (Some x) =
+        if_plain (not (is_dir x.header.kind)) _ _ (err_plain ENOTDIR refl)
+        (if_plain (not (is_tree (root_of i.kind))) _ _ (err_plain EROFS refl)
+        (if_plain (is_some (entry_of name (Some x.body))) _ _ (err_plain EEXIST refl)
+        (if_plain (is_made kind) _ _ (ok_plain tt) (err_plain EOPNOTSUPP refl))))

@@ -11,7 +11,7 @@ use Rattle.hurd_trans_iface.specs.Behaviour.{Did, Question, edits_of, edit_bytes
 use Rattle.hurd_trans_iface.specs.Good.{IsSized, KeepsSizes, GoodBehaviour}
 use Rattle.hurd_trans_iface.specs.Kinds.{ServerKind, behaviour_of}
 use Rattle.hurd_nodes.specs.Shown.{ServerInfo, info_in, asked_of}
-use Rattle.hurd_machine.specs.World.{World, nodes_of, home_at, server_at, info_at, asked_at}
+use Rattle.hurd_machine.specs.World.{World, nodes_of, server_at, info_at, asked_at}
 use Rattle.hurd_machine.specs.Change.{Change, EditHeader, EditBody, MakeNode, Settle, apply, apply_all, changes_of}
 use Rattle.hurd_machine.specs.Sound.{Coherent, AreSized}
 use Rattle.hurd_machine.proofs.Nodes.{edited_from}
