@@ -1,5 +1,5 @@
 -- What a call changes, as data.
-use Rattle.std.specs.Prelude.{◌≡◌, ℕ, List, [], ◌∷◌, ◌++◌}
+use Rattle.std.specs.Prelude.{ℕ, List, [], ◌∷◌}
 use Rattle.std.specs.FinMap.{insert, retain_keys}
 use Rattle.hurd_creds.specs.declared.name.Name.{Name}
 use Rattle.hurd_creds.specs.declared.open_flags.OpenFlags.{OpenFlags}
@@ -8,7 +8,7 @@ use Rattle.hurd_creds.specs.NameMaps.{NameMap, edit}
 use Rattle.hurd_trans_iface.specs.Nodes.{NodeMap, Node, Header, Body, Edit, OnHeader, OnBody, AddNode, with_header, with_body}
 use Rattle.hurd_ports.specs.declared.table.Opened.{Opened}
 use Rattle.hurd_ports.specs.Tables.{Task, OpenMap, fresh, is_held}
-use Rattle.hurd_ports.specs.Steps.{named, edit_task, with_port, without_port, new_open, new_right, at_cursor}
+use Rattle.hurd_ports.specs.Steps.{named, edit_task, with_port, without_port, new_open, new_right}
 use Rattle.hurd_machine.specs.World.{World}
 
 pub data Change : Type 0 where

@@ -1,6 +1,5 @@
 -- Worlds that hang together.
 use Rattle.std.specs.Prelude.{◌≡◌, ℕ, ◌<◌, true, false, List, [], ◌∷◌, Some, None}
-
 use Rattle.std.specs.FinMap.{get}
 use Rattle.std.specs.FinSet as set
 use Rattle.hurd_creds.specs.declared.name.Name.{Name}

@@ -1,0 +1,597 @@
+-- Changes that keep a coherent world so.
+use Rattle.std.proofs.Common.{true, false, ◌≡◌, ◌≢◌, ◌⊎◌, ℕ, ◌+◌, ◌<◌, ◌≤◌, ◌||◌, cond, Bool, List, [], ◌∷◌, ◌++◌, Option, Some, None, sym, refl, ◌∙◌, ap, subst, inl, inr, arith}
+use Rattle.std.specs.List.{list_any}
+use Rattle.std.specs.Option.{option_map}
+use Rattle.std.specs.Str.{bytes_eq}
+use Rattle.std.specs.FinMap.{get, insert}
+use Rattle.hurd_creds.specs.declared.name.Name.{Name}
+use Rattle.hurd_creds.specs.declared.attrs.Kind.TheVariants.{Dir}
+use Rattle.hurd_creds.specs.Bits.{asks, WRITE}
+use Rattle.hurd_creds.specs.NameMaps.{NameMap, edit}
+use Rattle.hurd_creds.proofs.NameLaws.{same_name-itself, same_or_apart, get_here, get_apart, edit_here, edit_apart}
+use Rattle.hurd_trans_iface.specs.Nodes.{NodeMap, Node, Entry, Header, Body, Content, Listing, IsShaped, is_dir, with_header, with_body}
+use Rattle.hurd_trans_iface.specs.Answers.{entry_in, entry_of}
+use Rattle.hurd_nodes.specs.Shown.{ServerInfo}
+use Rattle.hurd_ports.specs.declared.table.Opened.{Opened}
+use Rattle.hurd_ports.specs.declared.table.Right.{Right}
+use Rattle.hurd_ports.specs.declared.table.Port.{Port}
+use Rattle.hurd_ports.specs.Tables.{Task, OpenMap, rights_of}
+use Rattle.hurd_ports.specs.Steps.{named, edit_task}
+use Rattle.hurd_machine.specs.World.{World, IsAmong, boot_root, nodes_of, task_at, open_at, header_at, body_at, home_at, server_at, is_of, lists, lists_at}
+use Rattle.hurd_machine.specs.Change.{Change, EditHeader, EditBody, MakeNode, EditOpen, MakeOpen, EditTask, Settle, settle, apply, apply_all}
+use Rattle.hurd_machine.specs.Sound.{Below, AreDistinct, HasDistinctNames, AreGiven, AreHoused, IsTree, AreTables, Coherent}
+use Rattle.hurd_machine.proofs.Nodes.{header_in, body_in, edited_from, node_of_header}
+use Rattle.hurd_machine.proofs.Tasks.{edit_cases, edit_here as task_here, below_edit}
+use Rattle.hurd_machine.proofs.Holders.{held_by_right, held_stays, left_over}
+
+-- what a change must have to keep a world coherent
+
+-- the next name of its task
+pub record IsNext (w : World) (n : Name) : Type 0 where
+  pub seat : Task
+  pub is_task : task_at w n.task.0 ≡ Some seat
+  pub next : n.count ≡ seat.made
+
+-- an entry that a directory d may have
+pub record IsEntry (w : World) (d n : Name) : Type 0 where
+  pub made : Below w n
+  pub kin : home_at w n ≡ home_at w d
+  pub below : (h : Header) → header_at w n ≡ Some h → h.kind ≡ Dir → h.parent ≡ Some d
+
+-- a body c that may stand at d in place of b
+pub record GoodBody (w : World) (d : Name) (b c : Body) : Type 0 where
+  pub shape : (h : Header) → IsShaped h b → IsShaped h c
+  pub distinct : HasDistinctNames b → HasDistinctNames c
+  pub entries : (n : Name) → lists n c ≡ true → IsEntry w d n
+
+abbrev pub HasNoEntries : Body → Type 0
+HasNoEntries (Content bs) = Unit {0}
+HasNoEntries (Listing es) = es ≡ []
+
+-- a node that a server may make
+pub record GoodNode (w : World) (s : Name) (node : Node) : Type 0 where
+  pub info : ServerInfo
+  pub is_server : server_at w s ≡ Some info
+  pub shape : IsShaped node.header node.body
+  pub empty : HasNoEntries node.body
+  pub parent : (p : Name) → node.header.parent ≡ Some p → Below w p
+
+-- a right that a task may get: what it names was made, its open is there and on one node with it, and what is open to write is no directory
+pub record FineRight (w : World) (r : Right) : Type 0 where
+  pub node : Below w r.node
+  pub open_name : Below w r.open_name
+  pub opened : (o : Opened) × (open_at w r.open_name ≡ Some o)
+  pub shared : (t : ℕ) (x : Task) (p : Right) → task_at w t ≡ Some x → IsAmong p (rights_of x) → p.open_name ≡ r.open_name → p.node ≡ r.node
+  pub written : (o : Opened) (h : Header) → open_at w r.open_name ≡ Some o → asks o.modes WRITE ≡ true → header_at w r.node ≡ Some h → is_dir h.kind ≡ false
+
+abbrev pub IsNew : Option Right → Right → Type 0
+IsNew None r = ⊥
+IsNew (Some q) r = q ≡ r
+
+abbrev pub FineNew : World → Option Right → Type 0
+FineNew w None = Unit {0}
+FineNew w (Some r) = FineRight w r
+
+-- a task z in place of x: with at most one new right, which is fine
+pub record Table (w : World) (x z : Task) : Type 0 where
+  pub new : Option Right
+  pub fine : FineNew w new
+  pub rights : (r : Right) → IsAmong r (rights_of z) → IsAmong r (rights_of x) ⊎ IsNew new r
+  pub numbers : (p : Port) → IsAmong p z.ports → p.number < z.next
+
+-- a change that keeps a coherent world so
+abbrev pub Proper : World → Change → Type 0
+Proper w (EditHeader n f) = (h : Header) → ((f h).kind ≡ h.kind) × ((f h).parent ≡ h.parent)
+Proper w (EditBody n g) = (b : Body) → body_at w n ≡ Some b → GoodBody w n b (g b)
+Proper w (MakeNode n s node) = IsNext w n × GoodNode w s node
+Proper w (EditOpen o f) = (z : Opened) → asks (f z).modes WRITE ≡ true → asks z.modes WRITE ≡ true
+Proper w (MakeOpen o z) = IsNext w o
+Proper w (EditTask q f) = ((x : Task) → x.made ≤ (f x).made) × (x : Task) × (task_at w q ≡ Some x) × Table w x (f x)
+Proper w Settle = Unit {0}
+
+-- each change is proper in the world that the ones before it leave
+abbrev pub AllProper : World → List Change → Type 0
+AllProper w [] = Unit {0}
+AllProper w (c ∷ cs) = Proper w c × (Coherent (apply c w) → AllProper (apply c w) cs)
+
+-- what stands has a name that was given
+
+pub header_old : {w : World} → Coherent w → (n : Name) (h : Header) → header_at w n ≡ Some h → Below w n
+header_old {w} c n h e = let x = node_of_header (get w.nodes n) h e in c.given.nodes n x.0 x.1
+
+-- what has entries stands
+pub lister : (o : Option Node) (n : Name) → lists_at n (body_in o) ≡ true → (x : Node) × (o ≡ Some x) × (lists n x.body ≡ true)
+lister None n h = absurd (cc)
+lister (Some x) n h = (x, refl, h)
+
+pub entry_old : {w : World} → Coherent w → (d n : Name) → lists_at n (body_at w d) ≡ true → Below w d
+entry_old {w} c d n e = let x = lister (get w.nodes d) n e in c.given.nodes d x.0 x.1
+
+pub home_old : {w : World} → Coherent w → (n s : Name) → home_at w n ≡ Some s → Below w n
+home_old c n s e = let h = c.housing.housed n s e in header_old c n h.0 h.1
+
+pub right_old : {w : World} → Coherent w → (t : ℕ) (x : Task) (r : Right) → task_at w t ≡ Some x → IsAmong r (rights_of x) → Below w r.node × Below w r.open_name
+right_old c t x r at i = c.given.rights t x r at i
+
+-- what is found under a name is an entry
+
+either : (a b : Bool) → (a ≡ true) ⊎ (b ≡ true) → (a || b) ≡ true
+either true b h = refl
+either false b (inl e) = absurd (cc)
+either false b (inr e) = e
+
+entry_in_lists : (name : List ℕ) (es : List Entry) (n : Name) → entry_in name es ≡ Some n → list_any (is_of n) es ≡ true
+entry_in_lists name [] n = λ h. absurd (cc)
+entry_in_lists name (e ∷ es) n = go (bytes_eq e.name name) refl (entry_in_lists name es n)
+  where
+    go : (b : Bool) → bytes_eq e.name name ≡ b → (entry_in name es ≡ Some n → list_any (is_of n) es ≡ true) → entry_in name (e ∷ es) ≡ Some n → list_any (is_of n) (e ∷ es) ≡ true
+    go true k ih h =
+        let same : Some e.node ≡ Some n = ap (λ b. cond b (Some e.node) (entry_in name es)) (sym k) ∙ h in
+        let here : e.node ≡ n = cc in
+        either (is_of n e) (list_any (is_of n) es) (inl (subst (λ z. is_of z e ≡ true) here (same_name-itself e.node)))
+    go false k ih h = either (is_of n e) (list_any (is_of n) es) (inr (ih (ap (λ b. cond b (Some e.node) (entry_in name es)) (sym k) ∙ h)))
+
+pub entry_lists : (name : List ℕ) (o : Option Body) (n : Name) → entry_of name o ≡ Some n → lists_at n o ≡ true
+entry_lists name None n h = absurd (cc)
+entry_lists name (Some (Content bs)) n h = absurd (cc)
+entry_lists name (Some (Listing es)) n h = entry_in_lists name es n h
+
+-- what was not given is nowhere
+
+pub next_not : (w : World) (n : Name) → IsNext w n → Below w n → ⊥
+next_not w n i b = let low : n.count < i.seat.made = b i.seat i.is_task in let e = i.next in absurd (omega arith)
+
+pub next_apart : (w : World) (n m : Name) → IsNext w n → Below w m → m ≢ n
+next_apart w n m i b e = next_not w n i (subst (Below w) e b)
+
+pub no_node : {w : World} → Coherent w → (n : Name) → (Below w n → ⊥) → get w.nodes n ≡ None
+no_node {w} c n new = go (get w.nodes n) refl
+  where
+    go : (o : Option Node) → get w.nodes n ≡ o → o ≡ None
+    go None e = refl
+    go (Some x) e = absurd (new (c.given.nodes n x e))
+
+pub no_open : {w : World} → Coherent w → (o : Name) → (Below w o → ⊥) → open_at w o ≡ None
+no_open {w} c o new = go (open_at w o) refl
+  where
+    go : (z : Option Opened) → open_at w o ≡ z → z ≡ None
+    go None e = refl
+    go (Some x) e = absurd (new (c.given.opens o x e))
+
+-- what a map with one thing more has: the new thing, or what was there
+pub was : {X : Type 0} (m : NameMap X) (k n : Name) (x z : X) → get (insert m k x) n ≡ Some z → ((n ≡ k) × (x ≡ z)) ⊎ ((n ≢ k) × (get m n ≡ Some z))
+was m k n x z e = elim (same_or_apart n k) [
+  | inl a ↦ let here : get (insert m k x) n ≡ Some x = rw a (get_here m k x) in inl (a, cc)
+  | inr a ↦ inr (a, sym (get_apart m k x n a) ∙ e)
+]
+
+-- with nodes reworked: each stands where one stood, below the same parent, of its shape, and with entries that may be
+
+abbrev with_nodes : NodeMap → World → World
+with_nodes m w = record { nodes = m; homes = w.homes; servers = w.servers; opens = w.opens; tasks = w.tasks }
+
+-- the node x at n comes from one that stands there
+record From (w : World) (n : Name) (x : Node) : Type 0 where
+  node : Node
+  is : get w.nodes n ≡ Some node
+  kind : x.header.kind ≡ node.header.kind
+  parent : x.header.parent ≡ node.header.parent
+  shape : IsShaped node.header node.body → IsShaped x.header x.body
+  distinct : HasDistinctNames node.body → HasDistinctNames x.body
+  entries : (p : Name) → lists p x.body ≡ true → IsEntry w n p
+
+record Reworked (w : World) (m : NodeMap) : Type 0 where
+  from : (n : Name) (x : Node) → get m n ≡ Some x → From w n x
+  still : (n : Name) (y : Node) → get w.nodes n ≡ Some y → (x : Node) × (get m n ≡ Some x)
+
+module _ (w : World) (m : NodeMap) (c : Coherent w) (r : Reworked w m) where
+  -- a header is of a node that stood
+  header_from : (n : Name) (h : Header) → header_in (get m n) ≡ Some h → (k : Header) × (header_at w n ≡ Some k) × (h.kind ≡ k.kind) × (h.parent ≡ k.parent)
+  header_from n h e =
+      let x = node_of_header (get m n) h e in
+      let y = r.from n x.0 x.1 in
+      (y.node.header, ap header_in y.is, ap (λ (z : Header). z.kind) (sym x.2) ∙ y.kind, ap (λ (z : Header). z.parent) (sym x.2) ∙ y.parent)
+
+  entry_from : (d n : Name) → lists_at n (body_in (get m d)) ≡ true → IsEntry w d n
+  entry_from d n e = let x = lister (get m d) n e in (r.from d x.0 x.1).entries n x.2
+
+  header_still : (n : Name) (k : Header) → header_at w n ≡ Some k → (h : Header) × (header_in (get m n) ≡ Some h)
+  header_still n k e =
+      let y = node_of_header (get w.nodes n) k e in
+      let x = r.still n y.0 y.1 in
+      (x.0.header, ap header_in x.1)
+
+  reworked_given : AreGiven (with_nodes m w)
+  reworked_given = record {
+    nodes = λ n x e. let y = r.from n x e in c.given.nodes n y.node y.is;
+    opens = c.given.opens;
+    servers = c.given.servers;
+    rights = c.given.rights;
+    entries = λ d n e. (entry_from d n e).made;
+    parents = λ n p h e ep. let k = header_from n h e in c.given.parents n p k.0 k.1 (sym k.3 ∙ ep);
+  }
+
+  reworked_housing : AreHoused (nodes_of (with_nodes m w))
+  reworked_housing = record {
+    homes = λ n h e. let k = header_from n h e in c.housing.homes n k.0 k.1;
+    housed = λ n q e. let h = c.housing.housed n q e in header_still n h.0 h.1;
+    roots = c.housing.roots;
+    serving = c.housing.serving;
+  }
+
+  reworked_tree : IsTree (nodes_of (with_nodes m w))
+  reworked_tree = record {
+    kin = λ d n e. (entry_from d n e).kin;
+    below = λ d n h e eh is. let k = header_from n h eh in k.3 ∙ (entry_from d n e).below k.0 k.1 (sym k.2 ∙ is);
+    shapes = λ n x e. let y = r.from n x e in y.shape (c.tree.shapes n y.node y.is);
+    distinct = λ n x e. let y = r.from n x e in y.distinct (c.tree.distinct n y.node y.is);
+    root = header_still boot_root c.tree.root.0 c.tree.root.1;
+  }
+
+  reworked_tables : AreTables (with_nodes m w)
+  reworked_tables = record {
+    numbers = c.tables.numbers;
+    opened = c.tables.opened;
+    shared = c.tables.shared;
+    written = λ t u q o h at has eo modes eh.
+        let k = header_from q.node h eh in ap is_dir k.2 ∙ c.tables.written t u q o k.0 at has eo modes k.1;
+  }
+
+  reworked : Coherent (with_nodes m w)
+  reworked = record { given = reworked_given; housing = reworked_housing; tree = reworked_tree; tables = reworked_tables }
+
+shaped_by_kind : (h k : Header) (b : Body) → k.kind ≡ h.kind → IsShaped h b → IsShaped k b
+shaped_by_kind h k (Content bs) e s = ap is_dir e ∙ s
+shaped_by_kind h k (Listing es) e s = e ∙ s
+
+module _ (w : World) (c : Coherent w) (n : Name) where
+  -- an entry of a body that stands
+  entry_is : (y : Node) → get w.nodes n ≡ Some y → (p : Name) → lists p y.body ≡ true → IsEntry w n p
+  entry_is y is p e =
+      let e' : lists_at p (body_at w n) ≡ true = ap (λ o. lists_at p (body_in o)) is ∙ e in
+      record { made = c.given.entries n p e'; kin = c.tree.kin n p e'; below = λ h eh. c.tree.below n p h e' eh }
+
+  unchanged : (x : Node) → get w.nodes n ≡ Some x → From w n x
+  unchanged x e = record { node = x; is = e; kind = refl; parent = refl; shape = λ shaped. shaped; distinct = λ names. names; entries = entry_is x e }
+
+  with_header_from : (f : Header → Header) → Proper w (EditHeader n f) → (y : Node) → get w.nodes n ≡ Some y → From w n (with_header f y)
+  with_header_from f p y is = record {
+    node = y;
+    is = is;
+    kind = (p y.header).0;
+    parent = (p y.header).1;
+    shape = shaped_by_kind y.header (f y.header) y.body (p y.header).0;
+    distinct = λ names. names;
+    entries = entry_is y is;
+  }
+
+  with_body_from : (g : Body → Body) → Proper w (EditBody n g) → (y : Node) → get w.nodes n ≡ Some y → From w n (with_body g y)
+  with_body_from g p y is =
+      let l = p y.body (ap body_in is) in
+      record { node = y; is = is; kind = refl; parent = refl; shape = l.shape y.header; distinct = l.distinct; entries = l.entries }
+
+-- an edit at one node, which may be
+edited : (w : World) → Coherent w → (k : Name) (f : Node → Node) → ((y : Node) → get w.nodes k ≡ Some y → From w k (f y)) → Reworked w (edit k f w.nodes)
+edited w c k f may = record { from = from; still = still }
+  where
+    from : (n : Name) (x : Node) → get (edit k f w.nodes) n ≡ Some x → From w n x
+    from n x e = elim (same_or_apart n k) [
+      | inl a ↦
+          let l = edited_from f (get w.nodes k) x (sym (edit_here w.nodes k f) ∙ rw a at e) in
+          subst (λ z. From w z x) (sym a) (subst (From w k) l.2 (may l.0 l.1))
+      | inr a ↦ unchanged w c n x (sym (edit_apart w.nodes k f n a) ∙ e)
+    ]
+
+    still : (n : Name) (y : Node) → get w.nodes n ≡ Some y → (x : Node) × (get (edit k f w.nodes) n ≡ Some x)
+    still n y e = elim (same_or_apart n k) [
+      | inl a ↦ (f y, rw a (edit_here w.nodes k f ∙ ap (option_map f) (rw a at e)))
+      | inr a ↦ (y, edit_apart w.nodes k f n a ∙ e)
+    ]
+
+-- with one task changed
+module _ (w : World) (c : Coherent w) (q : ℕ) (f : Task → Task) (up : (x : Task) → x.made ≤ (f x).made) (x : Task) (is : task_at w q ≡ Some x) (g : Table w x (f x)) where
+  abbrev retabled : World
+  retabled = record { nodes = w.nodes; homes = w.homes; servers = w.servers; opens = w.opens; tasks = edit_task q f w.tasks }
+
+  raised : (n : Name) → Below w n → Below retabled n
+  raised n b = below_edit w retabled q f up refl n b
+
+  -- a right of some task
+  record Of (r : Right) : Type 0 where
+    task : ℕ
+    seat : Task
+    at : task_at w task ≡ Some seat
+    has : IsAmong r (rights_of seat)
+
+  -- a right afterwards was there, or is the new one
+  right_now : (p : ℕ) (z : Task) (r : Right) → task_at retabled p ≡ Some z → IsAmong r (rights_of z) → Of r ⊎ IsNew g.new r
+  right_now p z r e h = elim (edit_cases q f w.tasks x is p z e) [
+    | inl k ↦ elim (g.rights r (subst (λ (u : Task). IsAmong r (rights_of u)) k.1 h)) [
+      | inl old ↦ inl (record { task = q; seat = x; at = is; has = old })
+      | inr new ↦ inr new
+    ]
+    | inr old ↦ inl (record { task = p; seat = z; at = old; has = h })
+  ]
+
+  new_fine : (o : Option Right) → FineNew w o → (r : Right) → IsNew o r → FineRight w r
+  new_fine None fine r n = absurd n
+  new_fine (Some k) fine r n = subst (FineRight w) n fine
+
+  new_one : (o : Option Right) (r p : Right) → IsNew o r → IsNew o p → r ≡ p
+  new_one None r p a b = absurd a
+  new_one (Some k) r p a b = sym a ∙ b
+
+  one_node : (r p : Right) → Of r ⊎ IsNew g.new r → Of p ⊎ IsNew g.new p → r.open_name ≡ p.open_name → r.node ≡ p.node
+  one_node r p (inl a) (inl b) e = c.tables.shared a.task b.task a.seat b.seat r p a.at a.has b.at b.has e
+  one_node r p (inl a) (inr b) e = (new_fine g.new g.fine p b).shared a.task a.seat r a.at a.has e
+  one_node r p (inr a) (inl b) e = sym ((new_fine g.new g.fine r a).shared b.task b.seat p b.at b.has (sym e))
+  one_node r p (inr a) (inr b) e = ap (λ (k : Right). k.node) (new_one g.new r p a b)
+
+  task_given : AreGiven retabled
+  task_given = record {
+    nodes = λ n y e. raised n (c.given.nodes n y e);
+    opens = λ o y e. raised o (c.given.opens o y e);
+    servers = λ s i e. raised s (c.given.servers s i e);
+    rights = λ p z r e h. elim (right_now p z r e h) [
+      | inl old ↦ let b = c.given.rights old.task old.seat r old.at old.has in (raised r.node b.0, raised r.open_name b.1)
+      | inr new ↦ let k = new_fine g.new g.fine r new in (raised r.node k.node, raised r.open_name k.open_name)
+    ];
+    entries = λ d n e. raised n (c.given.entries d n e);
+    parents = λ n p h e ep. raised p (c.given.parents n p h e ep);
+  }
+
+  task_tables : AreTables retabled
+  task_tables = record {
+    numbers = λ p z k e h. elim (edit_cases q f w.tasks x is p z e) [
+      | inl a ↦ subst (λ (u : Task). k.number < u.next) (sym a.1) (g.numbers k (subst (λ (u : Task). IsAmong k u.ports) a.1 h))
+      | inr old ↦ c.tables.numbers p z k old h
+    ];
+    opened = λ p z r e h. elim (right_now p z r e h) [
+      | inl old ↦ c.tables.opened old.task old.seat r old.at old.has
+      | inr new ↦ (new_fine g.new g.fine r new).opened
+    ];
+    shared = λ p k z u r s e h e' h' same. one_node r s (right_now p z r e h) (right_now k u s e' h') same;
+    written = λ p z r o k e h eo modes ek. elim (right_now p z r e h) [
+      | inl old ↦ c.tables.written old.task old.seat r o k old.at old.has eo modes ek
+      | inr new ↦ (new_fine g.new g.fine r new).written o k eo modes ek
+    ];
+  }
+
+  task_coherent : Coherent retabled
+  task_coherent = record { given = task_given; housing = c.housing; tree = c.tree; tables = task_tables }
+
+-- with opens changed or made
+
+abbrev with_opens : OpenMap → World → World
+with_opens m w = record { nodes = w.nodes; homes = w.homes; servers = w.servers; opens = m; tasks = w.tasks }
+
+-- an open of m was named, and with WRITE it stood open to write in w; those of rights are there
+record Reopened (w : World) (m : OpenMap) : Type 0 where
+  made : (o : Name) (z : Opened) → get m o ≡ Some z → Below w o
+  writes : (t : ℕ) (x : Task) (r : Right) (z : Opened) → task_at w t ≡ Some x → IsAmong r (rights_of x) → get m r.open_name ≡ Some z → asks z.modes WRITE ≡ true
+      → (y : Opened) × (open_at w r.open_name ≡ Some y) × (asks y.modes WRITE ≡ true)
+  still : (t : ℕ) (x : Task) (r : Right) (z : Opened) → task_at w t ≡ Some x → IsAmong r (rights_of x) → open_at w r.open_name ≡ Some z → (y : Opened) × (get m r.open_name ≡ Some y)
+
+reopened : (w : World) (m : OpenMap) → Coherent w → Reopened w m → Coherent (with_opens m w)
+reopened w m c r = record {
+  given = record {
+    nodes = c.given.nodes;
+    opens = r.made;
+    servers = c.given.servers;
+    rights = c.given.rights;
+    entries = c.given.entries;
+    parents = c.given.parents;
+  };
+  housing = c.housing;
+  tree = c.tree;
+  tables = record {
+    numbers = c.tables.numbers;
+    opened = λ t x q at i. let o = c.tables.opened t x q at i in r.still t x q o.0 at i o.1;
+    shared = c.tables.shared;
+    written = λ t x q o h at i eo modes eh. let y = r.writes t x q o at i eo modes in c.tables.written t x q y.0 h at i y.1 y.2 eh;
+  };
+}
+
+open_edited : (w : World) → Coherent w → (k : Name) (f : Opened → Opened) → Proper w (EditOpen k f) → Reopened w (edit k f w.opens)
+open_edited w c k f p = record {
+  made = λ o z e. elim (from o z e) [ inl l ↦ subst (Below w) (sym l.0) (c.given.opens k l.1 l.2) | inr h ↦ c.given.opens o z h ];
+  writes = λ t x r z at i e modes. elim (from r.open_name z e) [
+    | inl l ↦ (l.1, ap (open_at w) l.0 ∙ l.2, p l.1 (ap (λ (u : Opened). asks u.modes WRITE) l.3 ∙ modes))
+    | inr h ↦ (z, h, modes)
+  ];
+  still = λ t x r z at i e. elim (same_or_apart r.open_name k) [
+    | inl a ↦ (f z, rw a (edit_here w.opens k f ∙ ap (option_map f) (rw a at e)))
+    | inr a ↦ (z, edit_apart w.opens k f r.open_name a ∙ e)
+  ];
+}
+  where
+    from : (o : Name) (z : Opened) → get (edit k f w.opens) o ≡ Some z → ((o ≡ k) × (y : Opened) × (open_at w k ≡ Some y) × (f y ≡ z)) ⊎ (open_at w o ≡ Some z)
+    from o z e = elim (same_or_apart o k) [
+      | inl a ↦ let l = edited_from f (get w.opens k) z (sym (edit_here w.opens k f) ∙ rw a at e) in inl (a, l.0, l.1, l.2)
+      | inr a ↦ inr (sym (edit_apart w.opens k f o a) ∙ e)
+    ]
+
+open_made : (w : World) → Coherent w → (k : Name) (z : Opened) → Below w k → ((t : ℕ) (x : Task) (r : Right) → task_at w t ≡ Some x → IsAmong r (rights_of x) → r.open_name ≢ k) → Reopened w (insert w.opens k z)
+open_made w c k z b unnamed = record {
+  made = λ o y e. elim (was w.opens k o z y e) [ inl l ↦ subst (Below w) (sym l.0) b | inr l ↦ c.given.opens o y l.1 ];
+  writes = λ t x r y at i e modes. (y, sym (get_apart w.opens k z r.open_name (unnamed t x r at i)) ∙ e, modes);
+  still = λ t x r y at i e. (y, get_apart w.opens k z r.open_name (unnamed t x r at i) ∙ e);
+}
+
+opens_left : (w : World) → Coherent w → Reopened w (settle w).opens
+opens_left w c = record {
+  made = λ o z e. c.given.opens o z (left_over w o z e).0;
+  writes = λ t x r z at i e modes. (z, (left_over w r.open_name z e).0, modes);
+  still = λ t x r z at i e. (z, held_stays w r.open_name (held_by_right w.tasks t x r at i) ∙ e);
+}
+
+-- with a node made, under a name that was given and that nothing stands under
+
+no_entry : (n : Name) (b : Body) → HasNoEntries b → lists n b ≡ false
+no_entry n (Content bs) h = refl
+no_entry n (Listing es) h = ap (list_any (is_of n)) h
+
+no_names : (b : Body) → HasNoEntries b → HasDistinctNames b
+no_names (Content bs) none = tt
+no_names (Listing es) none = subst AreDistinct (sym none) tt
+
+module _ (w : World) (c : Coherent w) (n s : Name) (node : Node) (b : Below w n) (absent : get w.nodes n ≡ None)
+    (unnamed : (t : ℕ) (x : Task) (r : Right) → task_at w t ≡ Some x → IsAmong r (rights_of x) → r.node ≢ n) (p : GoodNode w s node) where
+  abbrev made_world : World
+  made_world = record { nodes = insert w.nodes n node; homes = insert w.homes n s; servers = w.servers; opens = w.opens; tasks = w.tasks }
+
+  -- no node had the name, so none had a server
+  unhoused : (q : Name) → home_at w n ≡ Some q → ⊥
+  unhoused q e =
+      let h = c.housing.housed n q e in
+      let x = node_of_header (get w.nodes n) h.0 h.1 in
+      cc (x.1)
+
+  housed_apart : (m q : Name) → home_at w m ≡ Some q → m ≢ n
+  housed_apart m q e a = unhoused q (sym (ap (home_at w) a) ∙ e)
+
+  home_kept : (m q : Name) → home_at w m ≡ Some q → home_at made_world m ≡ Some q
+  home_kept m q e = get_apart w.homes n s m (housed_apart m q e) ∙ e
+
+  node_was : (m : Name) (x : Node) → get made_world.nodes m ≡ Some x → ((m ≡ n) × (node ≡ x)) ⊎ ((m ≢ n) × (get w.nodes m ≡ Some x))
+  node_was m x e = was w.nodes n m node x e
+
+  -- a header is that of the new node, or was there
+  header_was : (m : Name) (h : Header) → header_at made_world m ≡ Some h → ((m ≡ n) × (node.header ≡ h)) ⊎ (header_at w m ≡ Some h)
+  header_was m h e =
+      let x = node_of_header (get made_world.nodes m) h e in
+      elim (node_was m x.0 x.1) [
+        | inl k ↦ inl (k.0, ap (λ (z : Node). z.header) k.1 ∙ x.2)
+        | inr k ↦ inr (ap header_in k.1 ∙ ap Some x.2)
+      ]
+
+  -- an entry was there before, and names another node
+  lists_was : (d m : Name) → lists_at m (body_at made_world d) ≡ true → (d ≢ n) × (lists_at m (body_at w d) ≡ true)
+  lists_was d m e = elim (same_or_apart d n) [
+    | inl a ↦
+        let none : lists_at m (body_at made_world d) ≡ false = rw a (ap (λ o. lists_at m (body_in o)) (get_here w.nodes n node) ∙ no_entry m node.body p.empty) in
+        let bad : false ≡ true = sym none ∙ e in
+        absurd (cc)
+    | inr a ↦ (a, sym (ap (λ o. lists_at m (body_in o)) (get_apart w.nodes n node d a)) ∙ e)
+  ]
+
+  entry_apart : (d m : Name) → lists_at m (body_at w d) ≡ true → m ≢ n
+  entry_apart d m l =
+      let x = lister (get w.nodes d) m l in
+      let h = c.housing.homes d x.0.header (ap header_in x.1) in
+      housed_apart m h.0 (c.tree.kin d m l ∙ h.2)
+
+  made_given : AreGiven made_world
+  made_given = record {
+    nodes = λ m x e. elim (node_was m x e) [ inl k ↦ subst (Below w) (sym k.0) b | inr k ↦ c.given.nodes m x k.1 ];
+    opens = c.given.opens;
+    servers = c.given.servers;
+    rights = c.given.rights;
+    entries = λ d m e. c.given.entries d m (lists_was d m e).1;
+    parents = λ m q h e ep. elim (header_was m h e) [
+      | inl k ↦ p.parent q (ap (λ (z : Header). z.parent) k.1 ∙ ep)
+      | inr k ↦ c.given.parents m q h k ep
+    ];
+  }
+
+  made_housing : AreHoused (nodes_of made_world)
+  made_housing = record {
+    homes = λ m h e. elim (header_was m h e) [
+      | inl k ↦ (s, p.info, rw (k.0) (get_here w.homes n s), p.is_server)
+      | inr k ↦ let i = c.housing.homes m h k in (i.0, i.1, home_kept m i.0 i.2, i.3)
+    ];
+    housed = λ m q e. elim (was w.homes n m s q e) [
+      | inl k ↦ (node.header, rw (k.0) (ap header_in (get_here w.nodes n node)))
+      | inr k ↦ let h = c.housing.housed m q k.1 in (h.0, ap header_in (get_apart w.nodes n node m k.0) ∙ h.1)
+    ];
+    roots = λ q i e. home_kept i.root q (c.housing.roots q i e);
+    serving = c.housing.serving;
+  }
+
+  made_tree : IsTree (nodes_of made_world)
+  made_tree = record {
+    kin = λ d m e. let l = lists_was d m e in get_apart w.homes n s m (entry_apart d m l.1) ∙ c.tree.kin d m l.1 ∙ sym (get_apart w.homes n s d l.0);
+    below = λ d m h e eh k. let l = lists_was d m e in c.tree.below d m h l.1 (sym (ap header_in (get_apart w.nodes n node m (entry_apart d m l.1))) ∙ eh) k;
+    shapes = λ m x e. elim (node_was m x e) [ inl k ↦ subst (λ (z : Node). IsShaped z.header z.body) k.1 p.shape | inr k ↦ c.tree.shapes m x k.1 ];
+    distinct = λ m x e. elim (node_was m x e) [ inl k ↦ subst (λ (z : Node). HasDistinctNames z.body) k.1 (no_names node.body p.empty) | inr k ↦ c.tree.distinct m x k.1 ];
+    root =
+        let x = node_of_header (get w.nodes boot_root) c.tree.root.0 c.tree.root.1 in
+        let apart : boot_root ≢ n = λ a. let gone : get w.nodes boot_root ≡ None = rw a absent in cc (x.1) in
+        (c.tree.root.0, ap header_in (get_apart w.nodes n node boot_root apart) ∙ c.tree.root.1);
+  }
+
+  made_tables : AreTables made_world
+  made_tables = record {
+    numbers = c.tables.numbers;
+    opened = c.tables.opened;
+    shared = c.tables.shared;
+    written = λ t x r o h at has eo modes eh. c.tables.written t x r o h at has eo modes (sym (ap header_in (get_apart w.nodes n node r.node (unnamed t x r at has))) ∙ eh);
+  }
+
+  made_coherent : Coherent made_world
+  made_coherent = record { given = made_given; housing = made_housing; tree = made_tree; tables = made_tables }
+
+-- with a task that named things
+module _ (w : World) (c : Coherent w) (n : Name) (next : IsNext w n) (k : ℕ) where
+  abbrev pub named_world : World
+  named_world = record { nodes = w.nodes; homes = w.homes; servers = w.servers; opens = w.opens; tasks = edit_task n.task.0 (named k) w.tasks }
+
+  pub named_coherent : Coherent named_world
+  named_coherent = task_coherent w c n.task.0 (named k) (λ x. omega arith) next.seat next.is_task (record { new = None; fine = tt; rights = λ r h. inl h; numbers = λ p h. c.tables.numbers n.task.0 next.seat p next.is_task h })
+
+  pub named_still : (m : Name) → Below w m → Below named_world m
+  named_still m b = below_edit w named_world n.task.0 (named k) (λ x. omega arith) refl m b
+
+  -- a name of that task is given
+  pub named_below : (m : Name) → m.task.0 ≡ n.task.0 → m.count < n.count + k → Below named_world m
+  named_below m e low x at =
+      let here : task_at named_world n.task.0 ≡ Some (named k next.seat) = task_here n.task.0 (named k) w.tasks next.seat next.is_task in
+      let same : named k next.seat ≡ x = cc (here, at, e) in
+      let made : next.seat.made + k ≡ x.made = ap (λ (z : Task). z.made) same in
+      let was' = next.next in
+      omega arith
+
+  -- the rights are those that there were
+  pub named_right : (t : ℕ) (x : Task) (r : Right) → task_at named_world t ≡ Some x → IsAmong r (rights_of x) → (y : Task) × (task_at w t ≡ Some y) × IsAmong r (rights_of y)
+  named_right t x r at h = elim (edit_cases n.task.0 (named k) w.tasks next.seat next.is_task t x at) [
+    | inl e ↦ (next.seat, ap (task_at w) e.0 ∙ next.is_task, subst (λ (z : Task). IsAmong r (rights_of z)) e.1 h)
+    | inr e ↦ (x, e, h)
+  ]
+
+  -- what was not given is no open's or node's of a right
+  pub unopened : (m : Name) → (Below w m → ⊥) → (t : ℕ) (x : Task) (r : Right) → task_at named_world t ≡ Some x → IsAmong r (rights_of x) → r.open_name ≢ m
+  unopened m new t x r at h e = let y = named_right t x r at h in new (subst (Below w) e (c.given.rights t y.0 r y.1 y.2).1)
+
+  pub unnoded : (m : Name) → (Below w m → ⊥) → (t : ℕ) (x : Task) (r : Right) → task_at named_world t ≡ Some x → IsAmong r (rights_of x) → r.node ≢ m
+  unnoded m new t x r at h e = let y = named_right t x r at h in new (subst (Below w) e (c.given.rights t y.0 r y.1 y.2).0)
+
+-- what changes keep
+
+pub coherent_one : (c : Change) (w : World) → Coherent w → Proper w c → Coherent (apply c w)
+coherent_one (EditHeader n f) w s p = reworked w (edit n (with_header f) w.nodes) s (edited w s n (with_header f) (with_header_from w s n f p))
+coherent_one (EditBody n g) w s p = reworked w (edit n (with_body g) w.nodes) s (edited w s n (with_body g) (with_body_from w s n g p))
+coherent_one (MakeNode n s node) w c p =
+    let new : Below w n → ⊥ = next_not w n p.0 in
+    let good = p.1 in
+    made_coherent (named_world w c n p.0 1) (named_coherent w c n p.0 1) n s node (named_below w c n p.0 1 n refl (omega arith)) (no_node c n new) (unnoded w c n p.0 1 n new)
+    (record { info = good.info; is_server = good.is_server; shape = good.shape; empty = good.empty; parent = λ q e. named_still w c n p.0 1 q (good.parent q e) })
+coherent_one (EditOpen o f) w s p = reopened w (edit o f w.opens) s (open_edited w s o f p)
+coherent_one (MakeOpen o z) w c p =
+    reopened (named_world w c o p 1) (insert w.opens o z) (named_coherent w c o p 1)
+    (open_made (named_world w c o p 1) (named_coherent w c o p 1) o z (named_below w c o p 1 o refl (omega arith)) (unopened w c o p 1 o (next_not w o p)))
+coherent_one (EditTask q f) w s p = task_coherent w s q f p.0 p.1 p.2 p.3
+coherent_one Settle w c p = reopened w (settle w).opens c (opens_left w c)
+
+pub coherent_all : (cs : List Change) (w : World) → Coherent w → AllProper w cs → Coherent (apply_all cs w)
+coherent_all [] w c p = c
+coherent_all (x ∷ cs) w c p = let next : Coherent (apply x w) = coherent_one x w c p.0 in coherent_all cs (apply x w) next (p.1 next)
+
+-- changes, and then others
+
+pub apply_all-append : (cs ds : List Change) (w : World) → apply_all (cs ++ ds) w ≡ apply_all ds (apply_all cs w)
+apply_all-append [] ds w = refl
+apply_all-append (c ∷ cs) ds w = apply_all-append cs ds (apply c w)
+
+pub proper_append : (cs ds : List Change) (w : World) → Coherent w → AllProper w cs → (Coherent (apply_all cs w) → AllProper (apply_all cs w) ds) → AllProper w (cs ++ ds)
+proper_append [] ds w c first then = then c
+proper_append (x ∷ cs) ds w c first then = (first.0, λ d. proper_append cs ds (apply x w) d (first.1 d) then)

@@ -1,0 +1,177 @@
+-- What changes leave as it was.
+use Rattle.std.proofs.Common.{◌≡◌, ◌≢◌, ◌⊎◌, ℕ, false, List, [], ◌∷◌, ◌++◌, Option, Some, None, slice_get, sym, refl, ◌∙◌, ap, ap₂, subst, inl, inr, arith}
+use Rattle.std.specs.Option.{option_map}
+use Rattle.std.specs.FinMap.{get, insert}
+use Rattle.hurd_creds.specs.declared.name.Name.{Name}
+use Rattle.hurd_creds.proofs.NameLaws.{same_name-apart, get_apart, edit_apart as edit_other}
+use Rattle.hurd_trans_iface.specs.Nodes.{with_header, with_body, is_empty_dir}
+use Rattle.hurd_ports.specs.declared.table.Right.{Right}
+use Rattle.hurd_ports.specs.Tables.{Task, rights_of, names_open, IsSettled}
+use Rattle.hurd_ports.specs.Steps.{named, edit_task}
+use Rattle.hurd_machine.specs.World.{World, IsAmong, ports_of, task_at, open_at, header_at, body_at, home_at}
+use Rattle.hurd_machine.specs.Sight.{Part, AttrOf, EmptyOf, BodyOf, OpenOf, OptionsOf, UsersOf, TaskOf, part, count_list, count_rights, is_home, is_on, holders, users, AnAttr, AnEmpty, ABody, AnOpen, AnOptions, AUsers, ATask}
+use Rattle.hurd_machine.specs.Change.{Change, EditHeader, EditBody, MakeNode, EditOpen, MakeOpen, EditTask, Settle, settle, apply, apply_all}
+use Rattle.hurd_machine.specs.Sound.{Below, Coherent, Sound}
+use Rattle.hurd_machine.proofs.Nodes.{header_in, body_in, empty_in, header-with_body, body-with_header, edit_keeps, KeepsEmptiness, empty-kept}
+use Rattle.hurd_machine.proofs.Tasks.{edit_apart, count_edit, count_named, count_alike}
+use Rattle.hurd_machine.proofs.Coherence.{IsNext, next_not, unnoded, Proper, AllProper, coherent_one}
+use Rattle.hurd_machine.proofs.Settle.{settle_part}
+
+-- of a task z in place of x, as many rights name each open, and are on each server's nodes, but for those of T
+pub record Moved (T : Part → Type 0) (w : World) (x z : Task) : Type 0 where
+  pub opens : (o : Name) → (T (OpenOf o) → ⊥) → count_list (names_open o) (rights_of z) ≡ count_list (names_open o) (rights_of x)
+  pub users : (s : Name) → (T (UsersOf s) → ⊥) → count_list (is_on w s) (rights_of z) ≡ count_list (is_on w s) (rights_of x)
+
+-- what a right that comes or goes touches is among T
+abbrev pub Covers : (Part → Type 0) → World → Right → Type 0
+Covers T w r = T (OpenOf r.open_name) × ((s : Name) → home_at w r.node ≡ Some s → T (UsersOf s))
+
+-- a change that writes the parts T alone
+abbrev pub Within : (Part → Type 0) → World → Change → Type 0
+Within T w (EditHeader n f) = T (AttrOf n)
+Within T w (EditBody n g) = T (BodyOf n) × (T (EmptyOf n) ⊎ KeepsEmptiness g)
+Within T w (MakeNode n s node) = T (TaskOf n.task.0) × T (AttrOf n) × T (EmptyOf n) × T (BodyOf n)
+Within T w (EditOpen o f) = T (OpenOf o)
+Within T w (MakeOpen o z) = T (TaskOf o.task.0) × T (OpenOf o)
+Within T w (EditTask q f) = T (TaskOf q) × ((x : Task) → task_at w q ≡ Some x → Moved T w x (f x))
+Within T w Settle = Unit {0}
+
+abbrev pub AllWithin : (Part → Type 0) → World → List Change → Type 0
+AllWithin T w [] = Unit {0}
+AllWithin T w (c ∷ cs) = Within T w c × AllWithin T (apply c w) cs
+
+pub within_append : (T : Part → Type 0) (cs ds : List Change) (w : World) → AllWithin T w cs → AllWithin T (apply_all cs w) ds → AllWithin T w (cs ++ ds)
+within_append T [] ds w first then = then
+within_append T (c ∷ cs) ds w first then = (first.0, within_append T cs ds (apply c w) first.1 then)
+
+-- a part whose name was not given
+abbrev pub IsUnnamed : World → Part → Type 0
+IsUnnamed w (AttrOf n) = Below w n → ⊥
+IsUnnamed w (EmptyOf n) = Below w n → ⊥
+IsUnnamed w (BodyOf n) = Below w n → ⊥
+IsUnnamed w (OpenOf o) = Below w o → ⊥
+IsUnnamed w (OptionsOf s) = Below w s → ⊥
+IsUnnamed w (UsersOf s) = Below w s → ⊥
+IsUnnamed w (TaskOf t) = ⊥
+
+-- what a call of task t may write: what it touches, the task itself, and what is new
+abbrev pub Full : World → ℕ → (Part → Type 0) → Part → Type 0
+Full w t T p = T p ⊎ ((p ≡ TaskOf t) ⊎ IsUnnamed w p)
+
+-- all changes but settling
+abbrev pub IsExact : Change → Type 0
+IsExact Settle = ⊥
+IsExact c = Unit {0}
+
+not_home : (s : Name) (o : Option Name) → (o ≡ Some s → ⊥) → is_home s o ≡ false
+not_home s None h = refl
+not_home s (Some q) h = same_name-apart s q (λ e. h (ap Some (sym e)))
+
+pub not_on : (w : World) (s : Name) (r : Right) (T : Part → Type 0) → Covers T w r → (T (UsersOf s) → ⊥) → is_on w s r ≡ false
+not_on w s r T i h = not_home s (home_at w r.node) (λ e. h (i.1 s e))
+
+pub not_named : (w : World) (o : Name) (r : Right) (T : Part → Type 0) → Covers T w r → (T (OpenOf o) → ⊥) → names_open o r ≡ false
+not_named w o r T i h = same_name-apart r.open_name o (λ e. h (subst (λ z. T (OpenOf z)) e i.0))
+
+-- where a task named a thing and a node got a server under a name that was not given, each server has as many users
+pub users_named : (w y : World) (c : Coherent w) (n : Name) (next : IsNext w n) (k : ℕ) (m s : Name) → (Below w m → ⊥) → y.homes ≡ insert w.homes m s → y.tasks ≡ edit_task n.task.0 (named k) w.tasks → (q : Name) → users y q ≡ users w q
+users_named w y c n next k m s new homes tasks q =
+    ap (count_rights (is_on y q)) tasks
+    ∙ count_alike (is_on y q) (is_on w q) (edit_task n.task.0 (named k) w.tasks) same
+    ∙ count_named (is_on w q) n.task.0 k w.tasks next.seat next.is_task
+  where
+    same : (t : ℕ) (x : Task) (r : Right) → slice_get (edit_task n.task.0 (named k) w.tasks) t ≡ Some x → IsAmong r (rights_of x) → is_on y q r ≡ is_on w q r
+    same t x r at i = ap (is_home q) (ap (λ h. get h r.node) homes ∙ get_apart w.homes m s r.node (unnoded w c n next k m new t x r at i))
+
+module _ (w : World) (coherent : Coherent w) (T : Part → Type 0) where
+  avoids : (p q : Part) → T q → (T p → ⊥) → p ≢ q
+  avoids p q i h e = h (subst T (sym e) i)
+
+  header_kept : (c : Change) (n : Name) → Within T w c → (T (AttrOf n) → ⊥) → header_at (apply c w) n ≡ header_at w n
+  header_kept (EditHeader k f) n i h = ap header_in (edit_other w.nodes k (with_header f) n (λ e. avoids (AttrOf n) (AttrOf k) i h (ap AttrOf e)))
+  header_kept (EditBody k g) n i h = edit_keeps header_in (with_body g) (header-with_body g) w.nodes k n
+  header_kept (MakeNode k s node) n i h = ap header_in (get_apart w.nodes k node n (λ e. avoids (AttrOf n) (AttrOf k) i.1 h (ap AttrOf e)))
+  header_kept c n i h = refl
+
+  home_kept : (c : Change) (n : Name) → Within T w c → (T (AttrOf n) → ⊥) → home_at (apply c w) n ≡ home_at w n
+  home_kept (MakeNode k s node) n i h = get_apart w.homes k s n (λ e. avoids (AttrOf n) (AttrOf k) i.1 h (ap AttrOf e))
+  home_kept c n i h = refl
+
+  body_kept : (c : Change) (n : Name) → Within T w c → (T (BodyOf n) → ⊥) → body_at (apply c w) n ≡ body_at w n
+  body_kept (EditHeader k f) n i h = edit_keeps body_in (with_header f) (body-with_header f) w.nodes k n
+  body_kept (EditBody k g) n i h = ap body_in (edit_other w.nodes k (with_body g) n (λ e. avoids (BodyOf n) (BodyOf k) i.0 h (ap BodyOf e)))
+  body_kept (MakeNode k s node) n i h = ap body_in (get_apart w.nodes k node n (λ e. avoids (BodyOf n) (BodyOf k) i.3 h (ap BodyOf e)))
+  body_kept c n i h = refl
+
+  empty_kept : (c : Change) (n : Name) → Within T w c → (T (EmptyOf n) → ⊥) → option_map is_empty_dir (body_at (apply c w) n) ≡ option_map is_empty_dir (body_at w n)
+  empty_kept (EditHeader k f) n i h = edit_keeps empty_in (with_header f) (λ o. ap (option_map is_empty_dir) (body-with_header f o)) w.nodes k n
+  empty_kept (EditBody k g) n i h = elim i.1 [
+    | inl e ↦ ap empty_in (edit_other w.nodes k (with_body g) n (λ k. avoids (EmptyOf n) _ e h (ap EmptyOf k)))
+    | inr keeps ↦ edit_keeps empty_in (with_body g) (empty-kept g keeps) w.nodes k n
+  ]
+  empty_kept (MakeNode k s node) n i h = ap empty_in (get_apart w.nodes k node n (λ e. avoids (EmptyOf n) (EmptyOf k) i.2 h (ap EmptyOf e)))
+  empty_kept c n i h = refl
+
+  open_kept : (c : Change) → IsExact c → (o : Name) → Within T w c → (T (OpenOf o) → ⊥) → open_at (apply c w) o ≡ open_at w o
+  open_kept (EditOpen k f) ex o i h = edit_other w.opens k f o (λ e. avoids (OpenOf o) (OpenOf k) i h (ap OpenOf e))
+  open_kept (MakeOpen k z) ex o i h = get_apart w.opens k z o (λ e. avoids (OpenOf o) (OpenOf k) i.1 h (ap OpenOf e))
+  open_kept Settle ex o i h = absurd ex
+  open_kept c ex o i h = refl
+
+  server_kept : (c : Change) → (apply c w).servers ≡ w.servers
+  server_kept Settle = refl
+  server_kept c = refl
+
+  pub holders_kept : (c : Change) → Proper w c → (o : Name) → Within T w c → (T (OpenOf o) → ⊥) → holders (apply c w) o ≡ holders w o
+  holders_kept (EditTask q f) p o i h =
+      let e = count_edit (names_open o) q f w.tasks p.1 p.2 in
+      let m = (i.1 p.1 p.2).opens o h in
+      omega arith
+  holders_kept (MakeNode n s node) p o i h = count_named (names_open o) n.task.0 1 w.tasks p.0.seat p.0.is_task
+  holders_kept (MakeOpen n z) p o i h = count_named (names_open o) n.task.0 1 w.tasks p.seat p.is_task
+  holders_kept c p o i h = refl
+
+  users_kept : (c : Change) → Proper w c → (s : Name) → Within T w c → (T (UsersOf s) → ⊥) → users (apply c w) s ≡ users w s
+  users_kept (EditTask q f) p s i h =
+      let e = count_edit (is_on w s) q f w.tasks p.1 p.2 in
+      let m = (i.1 p.1 p.2).users s h in
+      omega arith
+  users_kept (MakeNode n q node) p s i h = users_named w (apply (MakeNode n q node) w) coherent n p.0 1 n q (next_not w n p.0) refl refl s
+  users_kept (MakeOpen n z) p s i h = count_named (is_on w s) n.task.0 1 w.tasks p.seat p.is_task
+  users_kept c p s i h = refl
+
+  task_kept : (c : Change) (q : ℕ) → Within T w c → (T (TaskOf q) → ⊥) → task_at (apply c w) q ≡ task_at w q
+  task_kept (EditTask k f) q i h = edit_apart k f w.tasks q (λ e. avoids (TaskOf q) (TaskOf k) i.0 h (ap TaskOf e))
+  task_kept (MakeNode n s node) q i h = edit_apart n.task.0 (named 1) w.tasks q (λ e. avoids (TaskOf q) (TaskOf n.task.0) i.0 h (ap TaskOf e))
+  task_kept (MakeOpen n z) q i h = edit_apart n.task.0 (named 1) w.tasks q (λ e. avoids (TaskOf q) (TaskOf n.task.0) i.0 h (ap TaskOf e))
+  task_kept c q i h = refl
+
+-- what a change doesn't write stays
+pub frame : (T : Part → Type 0) (w : World) → Coherent w → (c : Change) → IsExact c → Proper w c → (p : Part) → Within T w c → (T p → ⊥) → part (apply c w) p ≡ part w p
+frame T w coherent c ex pr (AttrOf n) i h = ap₂ AnAttr (header_kept w coherent T c n i h) (home_kept w coherent T c n i h)
+frame T w coherent c ex pr (EmptyOf n) i h = ap AnEmpty (empty_kept w coherent T c n i h)
+frame T w coherent c ex pr (BodyOf n) i h = ap ABody (body_kept w coherent T c n i h)
+frame T w coherent c ex pr (OpenOf o) i h = ap₂ AnOpen (open_kept w coherent T c ex o i h) (holders_kept w coherent T c pr o i h)
+frame T w coherent c ex pr (OptionsOf s) i h = ap (λ m. AnOptions (get m s)) (server_kept w coherent T c)
+frame T w coherent c ex pr (UsersOf s) i h = ap AUsers (users_kept w coherent T c pr s i h)
+frame T w coherent c ex pr (TaskOf q) i h = ap ATask (task_kept w coherent T c q i h)
+
+-- changes one after another, settling among them: what they don't write, and what a settled world has, stays as that has it
+pub frame_from : (T : Part → Type 0) (p : Part) → (T p → ⊥) → (w : World) → IsSettled (ports_of w) → (cs : List Change) (x : World) → Coherent x → AllProper x cs → AllWithin T x cs
+    → part x p ≡ part w p → part (apply_all cs x) p ≡ part w p
+frame_from T p out w settled [] x c pr i e = e
+frame_from T p out w settled (Settle ∷ cs) x c pr i e =
+    let next : Coherent (settle x) = coherent_one Settle x c pr.0 in
+    frame_from T p out w settled cs (settle x) next (pr.1 next) i.1 (settle_part w x settled p e)
+frame_from T p out w settled (k ∷ cs) x c pr i e =
+    let next : Coherent (apply k x) = coherent_one k x c pr.0 in
+    frame_from T p out w settled cs (apply k x) next (pr.1 next) i.1 (frame T x c k tt pr.0 p i.0 out ∙ e)
+
+pub frame_all : (T : Part → Type 0) (p : Part) → (T p → ⊥) → (w : World) → Coherent w → IsSettled (ports_of w) → (cs : List Change) → AllProper w cs → AllWithin T w cs → part (apply_all cs w) p ≡ part w p
+frame_all T p out w c settled cs pr i = frame_from T p out w settled cs w c pr i refl
+
+-- what a call of task t doesn't touch, and what was there before, stays
+pub untouched : (T : Part → Type 0) (w : World) (t : ℕ) (cs : List Change) (p : Part) → Sound w → AllProper w cs → AllWithin (Full w t T) w cs
+    → (T p → ⊥) → p ≢ TaskOf t → (IsUnnamed w p → ⊥) → part (apply_all cs w) p ≡ part w p
+untouched T w t cs p s pr i out other old =
+    frame_all (Full w t T) p (λ k. elim k [ inl h ↦ out h | inr h ↦ elim h [ inl e ↦ other e | inr new ↦ old new ] ]) w s.coherent s.settled cs pr i

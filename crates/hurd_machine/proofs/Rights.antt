@@ -1,0 +1,122 @@
+-- Tables of ports: which rights they have after each change of a task, and how many pass a test.
+use Rattle.std.proofs.Common.{◌≡◌, ◌⊎◌, ℕ, ◌+◌, ◌<◌, ◌==◌, Bool, true, false, List, [], ◌∷◌, ◌++◌, map, Some, None, sym, refl, ◌∙◌, ap, subst, inl, inr, arith}
+use Rattle.hurd_ports.specs.declared.table.Right.{Right}
+use Rattle.hurd_ports.specs.declared.table.Port.{Port}
+use Rattle.hurd_ports.specs.Tables.{Task, rights_of, right_in}
+use Rattle.hurd_ports.specs.Steps.{named, with_port, without_port, ports_without}
+use Rattle.hurd_machine.specs.World.{World, IsAmong, task_at}
+use Rattle.hurd_machine.specs.Sight.{one_if, count_list}
+use Rattle.hurd_machine.specs.Sound.{Coherent}
+use Rattle.hurd_machine.proofs.Tasks.{among_left, among_right, among_cases, among_map, among_mapped, count_append}
+use Rattle.hurd_machine.proofs.Coherence.{FineRight, Table}
+
+abbrev pub right_of_port : Port → Right
+right_of_port p = p.right
+
+-- the right under a number is one of the table
+pub right_among : (p : ℕ) (ps : List Port) (r : Right) → right_in p ps ≡ Some r → IsAmong r (map right_of_port ps)
+right_among p [] r = λ h. absurd (cc)
+right_among p (x ∷ ps) r = go (p == x.number) refl (right_among p ps r)
+  where
+    go : (b : Bool) → (p == x.number) ≡ b → (right_in p ps ≡ Some r → IsAmong r (map right_of_port ps)) → right_in p (x ∷ ps) ≡ Some r → IsAmong r (map right_of_port (x ∷ ps))
+    go true e ih h = let k : Some x.right ≡ Some r = rw e at h in inl cc
+    go false e ih h = inr (ih (rw e at h))
+
+-- a task that named things
+
+pub named_table : (w : World) → Coherent w → (t k : ℕ) (x : Task) → task_at w t ≡ Some x → Table w x (named k x)
+named_table w c t k x is = record { new = None; fine = tt; rights = λ r h. inl h; numbers = λ p h. c.tables.numbers t x p is h }
+
+-- a port goes
+
+among_without : (p : ℕ) (ps : List Port) (q : Port) → IsAmong q (ports_without p ps) → IsAmong q ps
+among_without p [] q = λ h. h
+among_without p (x ∷ ps) q = go (p == x.number) refl (among_without p ps q)
+  where
+    go : (b : Bool) → (p == x.number) ≡ b → (IsAmong q (ports_without p ps) → IsAmong q ps) → IsAmong q (ports_without p (x ∷ ps)) → IsAmong q (x ∷ ps)
+    go true e ih h = inr (rw e at h)
+    go false e ih h = elim (rw e at h) [ inl k ↦ inl k | inr k ↦ inr (ih k) ]
+
+pub without_rights : (p : ℕ) (x : Task) (r : Right) → IsAmong r (rights_of (without_port p x)) → IsAmong r (rights_of x)
+without_rights p x r h =
+    let q = among_map right_of_port r (ports_without p x.ports) h in
+    let old = among_mapped right_of_port q.0 x.ports (among_without p x.ports q.0 q.1) in
+    subst (λ z. IsAmong z (map right_of_port x.ports)) q.2 old
+
+pub without_table : (w : World) → Coherent w → (t p : ℕ) (x : Task) → task_at w t ≡ Some x → Table w x (without_port p x)
+without_table w c t p x is = record {
+  new = None;
+  fine = tt;
+  rights = λ r h. inl (without_rights p x r h);
+  numbers = λ q h. c.tables.numbers t x q is (among_without p x.ports q h);
+}
+
+-- one right fewer of those that pass the test, if the one that goes does
+count_without : (T : Right → Bool) (p : ℕ) (ps : List Port) (r : Right) → right_in p ps ≡ Some r → count_list T (map right_of_port ps) ≡ one_if (T r) + count_list T (map right_of_port (ports_without p ps))
+count_without T p [] r = λ h. absurd (cc)
+count_without T p (x ∷ ps) r = go (p == x.number) refl (count_without T p ps r)
+  where
+    go : (b : Bool) → (p == x.number) ≡ b → (right_in p ps ≡ Some r → count_list T (map right_of_port ps) ≡ one_if (T r) + count_list T (map right_of_port (ports_without p ps)))
+        → right_in p (x ∷ ps) ≡ Some r → count_list T (map right_of_port (x ∷ ps)) ≡ one_if (T r) + count_list T (map right_of_port (ports_without p (x ∷ ps)))
+    go true e ih h = let k : Some x.right ≡ Some r = rw e at h in let same : x.right ≡ r = cc in rw (e, same) refl
+    go false e ih h = let rest = ih (rw e at h) in rw e (omega (arith, rest))
+
+pub without_counts : (T : Right → Bool) (p : ℕ) (x : Task) (r : Right) → right_in p x.ports ≡ Some r → T r ≡ false → count_list T (rights_of (without_port p x)) ≡ count_list T (rights_of x)
+without_counts T p x r is out = let all = count_without T p x.ports r is in let none = ap one_if out in omega arith
+
+-- a port comes
+
+push_rights : (ps : List Port) (q : Port) → map right_of_port (ps ++ q ∷ []) ≡ map right_of_port ps ++ q.right ∷ []
+push_rights [] q = refl
+push_rights (x ∷ ps) q = ap (λ (rs : List Right). x.right ∷ rs) (push_rights ps q)
+
+pub port_rights : (r : Right) (x : Task) (q : Right) → IsAmong q (rights_of (with_port r x)) → IsAmong q (rights_of x) ⊎ (r ≡ q)
+port_rights r x q h =
+    elim (among_cases q (map right_of_port x.ports) (r ∷ []) (subst (λ (rs : List Right). IsAmong q rs) (push_rights x.ports (record { number = x.next; right = r })) h)) [
+      | inl old ↦ inl old
+      | inr new ↦ elim new [ inl e ↦ inr e | inr out ↦ absurd out ]
+    ]
+
+-- the rights that it had it has
+pub port_keeps : (r : Right) (x : Task) (q : Right) → IsAmong q (rights_of x) → IsAmong q (rights_of (with_port r x))
+port_keeps r x q h =
+    subst (λ (rs : List Right). IsAmong q rs) (sym (push_rights x.ports (record { number = x.next; right = r }))) (among_left q (map right_of_port x.ports) (r ∷ []) h)
+
+-- and the new one
+pub port_has : (r : Right) (x : Task) → IsAmong r (rights_of (with_port r x))
+port_has r x =
+    subst (λ (rs : List Right). IsAmong r rs) (sym (push_rights x.ports (record { number = x.next; right = r }))) (among_right r (map right_of_port x.ports) (r ∷ []) (inl refl))
+
+pub port_counts : (T : Right → Bool) (r : Right) (x : Task) → T r ≡ false → count_list T (rights_of (with_port r x)) ≡ count_list T (rights_of x)
+port_counts T r x out =
+    let all : count_list T (rights_of (with_port r x)) ≡ count_list T (map right_of_port x.ports ++ r ∷ []) = ap (count_list T) (push_rights x.ports (record { number = x.next; right = r })) in
+    let more = count_append T (map right_of_port x.ports) (r ∷ []) in
+    let none = ap one_if out in
+    omega arith
+
+push_numbers : (ps : List Port) (n : ℕ) (r : Right) (q : Port) → ((k : Port) → IsAmong k ps → k.number < n) → IsAmong q (ps ++ record { number = n; right = r } ∷ []) → q.number < n + 1
+push_numbers ps n r q old h = elim (among_cases q ps (record { number = n; right = r } ∷ []) h) [
+  | inl k ↦ let low : q.number < n = old q k in omega arith
+  | inr k ↦ elim k [ inl e ↦ let same : n ≡ q.number = ap (λ (z : Port). z.number) e in omega arith | inr out ↦ absurd out ]
+]
+
+pub port_table : (w : World) → Coherent w → (t : ℕ) (r : Right) (x : Task) → task_at w t ≡ Some x → FineRight w r → Table w x (with_port r x)
+port_table w c t r x is fine = record {
+  new = Some r;
+  fine = fine;
+  rights = port_rights r x;
+  numbers = λ q h. push_numbers x.ports x.next r q (λ k i. c.tables.numbers t x k is i) h;
+}
+
+-- a right like one that some task has is fine
+pub like_fine : (w : World) → Coherent w → (t : ℕ) (x : Task) (q r : Right) → task_at w t ≡ Some x → IsAmong q (rights_of x) → r.node ≡ q.node → r.open_name ≡ q.open_name → FineRight w r
+like_fine w c t x q r is here en eo =
+    let m = c.given.rights t x q is here in
+    let o = c.tables.opened t x q is here in
+    record {
+      node = rw en (m.0);
+      open_name = rw eo (m.1);
+      opened = (o.0, rw eo (o.1));
+      shared = λ u y p at has e. c.tables.shared u t y x p q at has is here (e ∙ eo) ∙ sym en;
+      written = λ z h ez modes eh. c.tables.written t x q z h is here (rw eo at ez) modes (rw en at eh);
+    }

@@ -1,0 +1,156 @@
+-- One task changed: what stands at each place, how many rights pass a test, and names that stay given.
+use Rattle.std.proofs.Common.{◌≡◌, ◌⊎◌, ℕ, zero, suc, ◌+◌, ◌<◌, ◌≤◌, Bool, List, [], ◌∷◌, ◌++◌, map, length, Option, Some, None, slice_get, slice_set, sym, refl, ◌∙◌, ap, inl, inr, arith}
+use Rattle.std.proofs.lemmas.List.{length-set}
+use Rattle.hurd_creds.specs.declared.name.Name.{Name}
+use Rattle.hurd_ports.specs.declared.table.Right.{Right}
+use Rattle.hurd_ports.specs.Tables.{Task, rights_of}
+use Rattle.hurd_ports.specs.Steps.{named, edit_at, edit_task}
+use Rattle.hurd_machine.specs.World.{World, IsAmong, task_at}
+use Rattle.hurd_machine.specs.Sight.{count_list, count_rights}
+use Rattle.hurd_machine.specs.Sound.{Below}
+
+-- places in a list
+
+one_or_other : (q i : ℕ) → (q ≡ i) ⊎ (q ≡ i → ⊥)
+one_or_other zero zero = inl refl
+one_or_other zero (suc i) = inr (λ e. omega arith)
+one_or_other (suc q) zero = inr (λ e. omega arith)
+one_or_other (suc q) (suc i) = elim (one_or_other q i) [
+  | inl e ↦ inl (ap suc e)
+  | inr apart ↦ inr (λ e. apart (omega arith))
+]
+
+set_here : {A : Type 0} (xs : List A) (i : ℕ) (x y : A) → slice_get xs i ≡ Some x → slice_get (slice_set xs i y) i ≡ Some y
+set_here [] i x y h = absurd (cc)
+set_here (z ∷ xs) zero x y h = refl
+set_here (z ∷ xs) (suc i) x y h = set_here xs i x y h
+
+set_apart : {A : Type 0} (xs : List A) (i : ℕ) (y : A) (q : ℕ) → (q ≡ i → ⊥) → slice_get (slice_set xs i y) q ≡ slice_get xs q
+set_apart [] i y q apart = refl
+set_apart (z ∷ xs) zero y zero apart = absurd (apart refl)
+set_apart (z ∷ xs) zero y (suc q) apart = refl
+set_apart (z ∷ xs) (suc i) y zero apart = refl
+set_apart (z ∷ xs) (suc i) y (suc q) apart = set_apart xs i y q (λ e. apart (ap suc e))
+
+set_cases : {A : Type 0} (xs : List A) (i : ℕ) (x y : A) (q : ℕ) (z : A) → slice_get xs i ≡ Some x → slice_get (slice_set xs i y) q ≡ Some z → ((q ≡ i) × (z ≡ y)) ⊎ (slice_get xs q ≡ Some z)
+set_cases xs i x y q z at is = elim (one_or_other q i) [
+  | inl e ↦ inl (e, let here = set_here xs i x y at in let there : slice_get (slice_set xs i y) i ≡ Some z = ap (slice_get (slice_set xs i y)) (sym e) ∙ is in cc)
+  | inr apart ↦ inr (sym (set_apart xs i y q apart) ∙ is)
+]
+
+-- where the task is there
+pub edit_is : (q : ℕ) (f : Task → Task) (ts : List Task) (x : Task) → slice_get ts q ≡ Some x → edit_task q f ts ≡ slice_set ts q (f x)
+edit_is q f ts x e = ap (edit_at q f ts) e
+
+-- a task afterwards is the changed one, or was there
+pub edit_cases : (q : ℕ) (f : Task → Task) (ts : List Task) (x : Task) → slice_get ts q ≡ Some x → (p : ℕ) (z : Task) → slice_get (edit_task q f ts) p ≡ Some z → ((p ≡ q) × (z ≡ f x)) ⊎ (slice_get ts p ≡ Some z)
+edit_cases q f ts x at p z e = set_cases ts q x (f x) p z at (sym (ap (λ l. slice_get l p) (edit_is q f ts x at)) ∙ e)
+
+pub edit_here : (q : ℕ) (f : Task → Task) (ts : List Task) (x : Task) → slice_get ts q ≡ Some x → slice_get (edit_task q f ts) q ≡ Some (f x)
+edit_here q f ts x at = ap (λ l. slice_get l q) (edit_is q f ts x at) ∙ set_here ts q x (f x) at
+
+edit_at-apart : (q : ℕ) (f : Task → Task) (ts : List Task) (o : Option Task) (p : ℕ) → (p ≡ q → ⊥) → slice_get (edit_at q f ts o) p ≡ slice_get ts p
+edit_at-apart q f ts None p a = refl
+edit_at-apart q f ts (Some x) p a = set_apart ts q (f x) p a
+
+pub edit_apart : (q : ℕ) (f : Task → Task) (ts : List Task) (p : ℕ) → (p ≡ q → ⊥) → slice_get (edit_task q f ts) p ≡ slice_get ts p
+edit_apart q f ts p a = edit_at-apart q f ts (slice_get ts q) p a
+
+-- a task that is there stays, or is the changed one
+pub edit_still : (q : ℕ) (f : Task → Task) (ts : List Task) (p : ℕ) (x : Task) → slice_get ts p ≡ Some x → (slice_get (edit_task q f ts) p ≡ Some (f x)) ⊎ (slice_get (edit_task q f ts) p ≡ Some x)
+edit_still q f ts p x at = elim (one_or_other p q) [
+  | inl e ↦ inl (rw e (edit_here q f ts x (rw e at at)))
+  | inr a ↦ inr (edit_apart q f ts p a ∙ at)
+]
+
+-- the same change of the same task
+pub edit_same : (q : ℕ) (f : Task → Task) (ts us : List Task) (p : ℕ) → slice_get us p ≡ slice_get ts p → slice_get (edit_task q f us) p ≡ slice_get (edit_task q f ts) p
+edit_same q f ts us p e = elim (one_or_other p q) [
+  | inl i ↦ here (slice_get ts q) refl (sym (ap (slice_get us) i) ∙ e ∙ ap (slice_get ts) i) i
+  | inr a ↦ edit_apart q f us p a ∙ e ∙ sym (edit_apart q f ts p a)
+]
+  where
+    here : (o : Option Task) → slice_get ts q ≡ o → slice_get us q ≡ slice_get ts q → p ≡ q → slice_get (edit_task q f us) p ≡ slice_get (edit_task q f ts) p
+    here None k h i = ap (λ z. slice_get (edit_at q f us z) p) (h ∙ k) ∙ e ∙ sym (ap (λ z. slice_get (edit_at q f ts z) p) k)
+    here (Some x) k h i = rw i (edit_here q f us x (h ∙ k) ∙ sym (edit_here q f ts x k))
+
+edit_at-length : (q : ℕ) (f : Task → Task) (ts : List Task) (o : Option Task) → length (edit_at q f ts o) ≡ length ts
+edit_at-length q f ts None = refl
+edit_at-length q f ts (Some x) = length-set ts q (f x)
+
+pub edit_length : (q : ℕ) (f : Task → Task) (ts : List Task) → length (edit_task q f ts) ≡ length ts
+edit_length q f ts = edit_at-length q f ts (slice_get ts q)
+
+-- names stay given
+pub below_edit : (w y : World) (q : ℕ) (f : Task → Task) → ((x : Task) → x.made ≤ (f x).made) → y.tasks ≡ edit_task q f w.tasks → (n : Name) → Below w n → Below y n
+below_edit w y q f up tasks n b u at = go (slice_get w.tasks q) refl
+  where
+    at' : slice_get (edit_task q f w.tasks) n.task.0 ≡ Some u
+    at' = ap (λ ts. slice_get ts n.task.0) (sym tasks) ∙ at
+
+    go : (o : Option Task) → slice_get w.tasks q ≡ o → n.count < u.made
+    go None e = b u (sym (ap (λ z. slice_get (edit_at q f w.tasks z) n.task.0) e) ∙ at')
+    go (Some x) e = elim (edit_cases q f w.tasks x e n.task.0 u at') [
+      | inl k ↦
+          let low : n.count < x.made = b x (ap (task_at w) k.0 ∙ e) in
+          let more : x.made ≤ (f x).made = up x in
+          let same : u.made ≡ (f x).made = ap (λ (v : Task). v.made) k.1 in
+          omega arith
+      | inr h ↦ b u h
+    ]
+
+-- counts
+
+-- with the table of one task put in place of another
+pub count-set : (T : Right → Bool) (ts : List Task) (q : ℕ) (x y : Task) → slice_get ts q ≡ Some x → count_rights T (slice_set ts q y) + count_list T (rights_of x) ≡ count_rights T ts + count_list T (rights_of y)
+count-set T [] q x y h = absurd (cc)
+count-set T (z ∷ ts) zero x y h = let e : z ≡ x = cc in rw e (omega arith)
+count-set T (z ∷ ts) (suc q) x y h = omega (arith, count-set T ts q x y h)
+
+-- the rights of all tasks afterwards, and those of the changed task before, are as many as all before and that task's afterwards
+pub count_edit : (T : Right → Bool) (q : ℕ) (f : Task → Task) (ts : List Task) (x : Task) → slice_get ts q ≡ Some x → count_rights T (edit_task q f ts) + count_list T (rights_of x) ≡ count_rights T ts + count_list T (rights_of (f x))
+count_edit T q f ts x at = ap (λ l. count_rights T l + count_list T (rights_of x)) (edit_is q f ts x at) ∙ count-set T ts q x (f x) at
+
+-- where no right is gained or lost
+pub count_named : (T : Right → Bool) (q k : ℕ) (ts : List Task) (x : Task) → slice_get ts q ≡ Some x → count_rights T (edit_task q (named k) ts) ≡ count_rights T ts
+count_named T q k ts x at = let e = count_edit T q (named k) ts x at in omega arith
+
+pub count_append : {X : Type 0} (T : X → Bool) (rs ss : List X) → count_list T (rs ++ ss) ≡ count_list T rs + count_list T ss
+count_append T [] ss = omega arith
+count_append T (r ∷ rs) ss = omega (arith, count_append T rs ss)
+
+-- two tests that say the same of each right count alike
+
+pub list_alike : {X : Type 0} (T U : X → Bool) (xs : List X) → ((x : X) → IsAmong x xs → T x ≡ U x) → count_list T xs ≡ count_list U xs
+list_alike T U [] h = refl
+list_alike T U (x ∷ xs) h = rw (h x (inl refl), list_alike T U xs (λ y i. h y (inr i))) refl
+
+pub count_alike : (T U : Right → Bool) (ts : List Task) → ((t : ℕ) (x : Task) (r : Right) → slice_get ts t ≡ Some x → IsAmong r (rights_of x) → T r ≡ U r) → count_rights T ts ≡ count_rights U ts
+count_alike T U [] h = refl
+count_alike T U (x ∷ ts) h = rw (list_alike T U (rights_of x) (λ r i. h zero x r refl i), count_alike T U ts (λ t y r at i. h (suc t) y r at i)) refl
+
+-- members of lists
+
+pub among_left : {X : Type 0} (x : X) (xs ys : List X) → IsAmong x xs → IsAmong x (xs ++ ys)
+among_left x [] ys h = absurd h
+among_left x (y ∷ xs) ys (inl e) = inl e
+among_left x (y ∷ xs) ys (inr h) = inr (among_left x xs ys h)
+
+pub among_right : {X : Type 0} (x : X) (xs ys : List X) → IsAmong x ys → IsAmong x (xs ++ ys)
+among_right x [] ys h = h
+among_right x (y ∷ xs) ys h = inr (among_right x xs ys h)
+
+pub among_cases : {X : Type 0} (x : X) (xs ys : List X) → IsAmong x (xs ++ ys) → IsAmong x xs ⊎ IsAmong x ys
+among_cases x [] ys h = inr h
+among_cases x (y ∷ xs) ys (inl e) = inl (inl e)
+among_cases x (y ∷ xs) ys (inr h) = elim (among_cases x xs ys h) [ inl k ↦ inl (inr k) | inr k ↦ inr k ]
+
+pub among_map : {X Y : Type 0} (f : X → Y) (y : Y) (xs : List X) → IsAmong y (map f xs) → (x : X) × IsAmong x xs × (f x ≡ y)
+among_map f y [] h = absurd h
+among_map f y (x ∷ xs) (inl e) = (x, inl refl, e)
+among_map f y (x ∷ xs) (inr h) = let l = among_map f y xs h in (l.0, inr l.1, l.2)
+
+pub among_mapped : {X Y : Type 0} (f : X → Y) (x : X) (xs : List X) → IsAmong x xs → IsAmong (f x) (map f xs)
+among_mapped f x [] h = absurd h
+among_mapped f x (y ∷ xs) (inl e) = inl (ap f e)
+among_mapped f x (y ∷ xs) (inr h) = inr (among_mapped f x xs h)
