@@ -6,3 +6,7 @@ pub mod Rights
 pub mod Settle
 pub mod Frame
 pub mod Sizes
+pub mod Opens
+pub mod Edits
+pub mod Makes
+pub mod Stays
