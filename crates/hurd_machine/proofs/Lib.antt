@@ -14,3 +14,7 @@ pub mod Several
 pub mod Permits
 pub mod CallLaws
 pub mod Sizes
+pub mod Opens
+pub mod Edits
+pub mod Makes
+pub mod Stays

@@ -106,8 +106,8 @@ module _ (w : World) (n : Name) where
       ]
 
 -- the answer to a question that keeps sizes
-pub sized_answer : {R : Type 0} (q : Question R) → ((k : ServerKind) → KeepsSizes (behaviour_of k) q) → (w : World) → Coherent w → (n : Name) (d : Did R) → asked_at q n w ≡ Ok d → KeepsSized w (changes_of (edits_of n (Ok d)))
-sized_answer q keeps w c n d told sized = sized_left w n d.bytes d.size fit sized
+pub did_sized : {R : Type 0} (q : Question R) → ((k : ServerKind) → KeepsSizes (behaviour_of k) q) → (w : World) → Coherent w → (n : Name) (d : Did R) → asked_at q n w ≡ Ok d → KeepsSized w (changes_of (edits_of n (Ok d)))
+did_sized q keeps w c n d told sized = sized_left w n d.bytes d.size fit sized
   where
     fit : (x : Node) → get w.nodes n ≡ Some x → IsFit (info_at w n) (left_of d.bytes d.size x)
     fit x is i known = keeps i.kind i.text x d (c.tree.shapes n x is) (sized n x i is known) (sym (ap₂ (asked_of q) known is) ∙ told)

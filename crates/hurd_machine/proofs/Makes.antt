@@ -1,0 +1,211 @@
+-- A node made in a directory, with its entry there, as a piece of any call.
+use Rattle.std.proofs.Common.{◌≡◌, ◌≢◌, ◌⊎◌, ◌∙◌, ℕ, Bool, true, false, not, ◌&&◌, ◌||◌, cond, is_some, if◌then◌else◌, List, [], ◌∷◌, ◌++◌, Option, Some, None, nat_eq, sym, refl, ap, ap₂, subst, inl, inr, arith}
+use Rattle.std.specs.Prelude.{Result, Ok, Err}
+use Rattle.std.proofs.lemmas.Bool.Decides.{nat_tests}
+use Rattle.std.specs.List.{list_any}
+use Rattle.std.specs.Str.{bytes_eq}
+use Rattle.std.specs.FinMap.{get}
+use Rattle.hurd_creds.specs.declared.name.Name.{Name}
+use Rattle.hurd_creds.specs.declared.mode.Mode.{Mode}
+use Rattle.hurd_creds.specs.declared.attrs.Kind.{Kind}
+use Rattle.hurd_creds.specs.declared.attrs.Kind.TheVariants.{Dir}
+use Rattle.hurd_creds.specs.declared.errno.Errno.{Errno}
+use Rattle.hurd_creds.specs.declared.errno.Errno.TheVariants.{EEXIST, ENOTDIR, EROFS, EOPNOTSUPP}
+use Rattle.hurd_creds.proofs.NameLaws.{equal_if_same, get_here, get_apart}
+use Rattle.hurd_trans_iface.specs.Nodes.{Node, Entry, Header, Body, Content, Listing, IsShaped, is_dir, with_body, with_entry, new_file}
+use Rattle.hurd_trans_iface.specs.Answers.{entry_in, entry_of, is_tree, is_made}
+use Rattle.hurd_trans_iface.specs.Good.{IsSized, GoodBehaviour}
+use Rattle.hurd_trans_iface.specs.Kinds.{ServerKind, behaviour_of}
+use Rattle.hurd_trans_iface.specs.Meaning.{root_of}
+use Rattle.hurd_nodes.specs.Shown.{ServerInfo, made_by}
+use Rattle.hurd_ports.specs.Tables.{Task}
+use Rattle.hurd_ports.specs.Steps.{named}
+use Rattle.hurd_machine.specs.World.{World, task_at, header_at, body_at, home_at, server_at, info_at, makes_at, is_of, lists, lists_at}
+use Rattle.hurd_machine.specs.Sight.{Part, AttrOf, EmptyOf, BodyOf, TaskOf}
+use Rattle.hurd_machine.specs.Change.{Change, EditBody, MakeNode, apply, apply_all}
+use Rattle.hurd_machine.specs.Sound.{Below, AreDistinct, HasDistinctNames, Coherent}
+use Rattle.hurd_machine.proofs.Nodes.{header_in, body_in, header-with_body, edit_keeps}
+use Rattle.hurd_machine.proofs.Tasks.{edit_here}
+use Rattle.hurd_machine.proofs.Coherence.{IsNext, IsEntry, GoodNode, HasNoEntries, Proper, AllProper, home_old, next_apart, named_below}
+use Rattle.hurd_machine.proofs.Settle.{Rests, rests_quiet}
+use Rattle.hurd_machine.proofs.Frame.{AllWithin}
+use Rattle.hurd_machine.proofs.Sizes.{KeepsSized, sized_made, sized_entry}
+
+-- a directory with one entry more
+
+entry_shape : (name : List ℕ) (n : Name) (b : Body) (h : Header) → IsShaped h b → IsShaped h (with_entry name n b)
+entry_shape name n (Listing es) h s = s
+entry_shape name n (Content bs) h s = s
+
+either_true : (a b : Bool) → (a || b) ≡ true → (a ≡ true) ⊎ (b ≡ true)
+either_true true b h = inl refl
+either_true false b h = inr h
+
+added_lists : (name : List ℕ) (n m : Name) (es : List Entry) → list_any (is_of m) (es ++ record { name = name; node = n } ∷ []) ≡ true → (list_any (is_of m) es ≡ true) ⊎ (n ≡ m)
+added_lists name n m [] h = elim (either_true (is_of m (record { name = name; node = n })) false h) [ inl k ↦ inr (equal_if_same n m k) | inr k ↦ absurd (cc) ]
+added_lists name n m (e ∷ es) h = elim (either_true (is_of m e) (list_any (is_of m) (es ++ record { name = name; node = n } ∷ [])) h) [
+  | inl k ↦ inl (rw k refl)
+  | inr k ↦ elim (added_lists name n m es k) [ inl old ↦ inl (or_second (is_of m e) (list_any (is_of m) es) old) | inr new ↦ inr new ]
+]
+  where
+    or_second : (a b : Bool) → b ≡ true → (a || b) ≡ true
+    or_second true b k = refl
+    or_second false b k = k
+
+-- an entry afterwards was there, or is the new one
+pub entry_lists_cases : (name : List ℕ) (n m : Name) (b : Body) → lists m (with_entry name n b) ≡ true → (lists m b ≡ true) ⊎ (n ≡ m)
+entry_lists_cases name n m (Content bs) h = inl h
+entry_lists_cases name n m (Listing es) h = added_lists name n m es h
+
+-- names stay distinct where the new one wasn't there
+
+bytes_eq-turned : (a b : List ℕ) → bytes_eq a b ≡ bytes_eq b a
+bytes_eq-turned [] [] = refl
+bytes_eq-turned [] (y ∷ b) = refl
+bytes_eq-turned (x ∷ a) [] = refl
+bytes_eq-turned (x ∷ a) (y ∷ b) = ap₂ (λ p q. p && q) (turned x y) (bytes_eq-turned a b)
+  where
+    turned : (m n : ℕ) → nat_eq m n ≡ nat_eq n m
+    turned m n = grind (arith, nat_tests)
+
+none_added : (name other : List ℕ) (n : Name) (es : List Entry) → bytes_eq name other ≡ false → entry_in other es ≡ None → entry_in other (es ++ record { name = name; node = n } ∷ []) ≡ None
+none_added name other n [] apart = λ none. ap (λ b. cond b (Some n) None) apart
+none_added name other n (e ∷ es) apart = go (bytes_eq e.name other) (none_added name other n es apart)
+  where
+    go : (b : Bool) → (entry_in other es ≡ None → entry_in other (es ++ record { name = name; node = n } ∷ []) ≡ None)
+        → cond b (Some e.node) (entry_in other es) ≡ None → cond b (Some e.node) (entry_in other (es ++ record { name = name; node = n } ∷ [])) ≡ None
+    go true ih h = absurd (cc)
+    go false ih h = ih h
+
+-- a name that isn't there is no entry's
+not_first : (name : List ℕ) (e : Entry) (es : List Entry) → entry_in name (e ∷ es) ≡ None → (bytes_eq e.name name ≡ false) × (entry_in name es ≡ None)
+not_first name e es = go (bytes_eq e.name name)
+  where
+    go : (b : Bool) → cond b (Some e.node) (entry_in name es) ≡ None → (b ≡ false) × (entry_in name es ≡ None)
+    go true h = absurd (cc)
+    go false h = (refl, h)
+
+distinct_added : (name : List ℕ) (n : Name) (es : List Entry) → entry_in name es ≡ None → AreDistinct es → AreDistinct (es ++ record { name = name; node = n } ∷ [])
+distinct_added name n [] none names = (refl, tt)
+distinct_added name n (e ∷ es) none names =
+    let l = not_first name e es none in
+    (none_added name e.name n es (bytes_eq-turned name e.name ∙ l.0) names.0, distinct_added name n es l.1 names.1)
+
+entry_names : (name : List ℕ) (n : Name) (b : Body) → entry_of name (Some b) ≡ None → HasDistinctNames b → HasDistinctNames (with_entry name n b)
+entry_names name n (Content bs) none names = tt
+entry_names name n (Listing es) none names = distinct_added name n es none names
+
+-- where a node may be made: a directory of a tree that has no such entry
+
+pub record MayMake (w : World) (d : Name) (name : List ℕ) (kind : Kind) : Type 0 where
+  pub info : ServerInfo
+  pub is_info : info_at w d ≡ Some info
+  pub node : Node
+  pub is_node : get w.nodes d ≡ Some node
+  pub dir : is_dir node.header.kind ≡ true
+  pub tree : is_tree (root_of info.kind) ≡ true
+  pub absent : entry_of name (body_at w d) ≡ None
+  pub kinds : is_made kind ≡ true
+
+may_steps : (dir tree : Bool) (o : Option Name) (made : Bool) (u : Unit {0})
+    → ◌≡◌ {A = Result (Unit {0}) Errno} (if not dir then Err ENOTDIR else if not tree then Err EROFS else if is_some o then Err EEXIST else if made then Ok tt else Err EOPNOTSUPP) (Ok u)
+    → (dir ≡ true) × (tree ≡ true) × (o ≡ None) × (made ≡ true)
+may_steps false tree o made u h = absurd (cc)
+may_steps true false o made u h = absurd (cc)
+may_steps true true (Some n) made u h = absurd (cc)
+may_steps true true None false u h = absurd (cc)
+may_steps true true None true u h = (refl, refl, refl, refl)
+
+pub may_make : (w : World) (d : Name) (name : List ℕ) (kind : Kind) (u : Unit {0}) → makes_at w d name kind ≡ Ok u → MayMake w d name kind
+may_make w d name kind u = go (info_at w d) (get w.nodes d) refl refl
+  where
+    go : (o : Option ServerInfo) (x : Option Node) → info_at w d ≡ o → get w.nodes d ≡ x → made_by name kind o x ≡ Ok u → MayMake w d name kind
+    go None x is_info is_node h = absurd (cc)
+    go (Some i) None is_info is_node h = absurd (cc)
+    go (Some i) (Some x) is_info is_node h =
+        let l = may_steps (is_dir x.header.kind) (is_tree (root_of i.kind)) (entry_of name (Some x.body)) (is_made kind) u h in
+        record { info = i; is_info = is_info; node = x; is_node = is_node; dir = l.0; tree = l.1; absent = ap (λ o. entry_of name (body_in o)) is_node ∙ l.2; kinds = l.3 }
+
+-- a node that may be made in a directory
+pub record NewIn (w : World) (d : Name) (node : Node) : Type 0 where
+  pub shape : IsShaped node.header node.body
+  pub empty : HasNoEntries node.body
+  pub parent : (p : Name) → node.header.parent ≡ Some p → Below w p
+  pub below : node.header.kind ≡ Dir → node.header.parent ≡ Some d
+
+pub file_in : (w : World) (d : Name) (owner group : ℕ) (mode : Mode) → NewIn w d (new_file owner group mode)
+file_in w d owner group mode = record { shape = refl; empty = tt; parent = λ p e. absurd (cc); below = λ e. absurd (cc) }
+
+-- in a tree it has the size that its server says
+pub file_sized : ((k : ServerKind) → GoodBehaviour (behaviour_of k)) → (i : ServerInfo) → is_tree (root_of i.kind) ≡ true → (owner group : ℕ) (mode : Mode) → IsSized (behaviour_of i.kind) i.text (new_file owner group mode)
+file_sized good i tree owner group mode = sym ((good i.kind).newborn tree i.text)
+
+-- the node, and its entry
+abbrev pub entered : Name → Name → Node → Name → List ℕ → List Change
+entered n s node d name = MakeNode n s node ∷ EditBody d (with_entry name n) ∷ []
+
+module _ (w : World) (n s : Name) (node : Node) (d : Name) (name : List ℕ) where
+  abbrev made : World
+  made = apply (MakeNode n s node) w
+
+  abbrev left : World
+  left = apply_all (entered n s node d name) w
+
+  pub entered_within : (T : Part → Type 0) → T (TaskOf n.task.0) → T (AttrOf n) → T (EmptyOf n) → T (BodyOf n) → T (BodyOf d) → T (EmptyOf d) → AllWithin T w (entered n s node d name)
+  entered_within T task attr empty body dir_body dir_empty = ((task, attr, empty, body), ((dir_body, inl dir_empty), tt))
+
+  pub entered_rests : Rests w (entered n s node d name)
+  entered_rests = rests_quiet (entered n s node d name) w (tt, (tt, tt))
+
+  pub entered_sized : ((k : ServerKind) → GoodBehaviour (behaviour_of k)) → ((i : ServerInfo) → server_at w s ≡ Some i → IsSized (behaviour_of i.kind) i.text node) → KeepsSized w (entered n s node d name)
+  entered_sized good fit sized = sized_entry good made d name n (sized_made w n s node fit sized)
+
+  -- what is read of the new node afterwards
+  pub entered_home : home_at left n ≡ Some s
+  entered_home = get_here w.homes n s
+
+  pub entered_header : header_at left n ≡ Some node.header
+  entered_header = edit_keeps header_in (with_body (with_entry name n)) (header-with_body (with_entry name n)) made.nodes d n ∙ ap header_in (get_here w.nodes n node)
+
+  pub entered_task : (x : Task) → task_at w n.task.0 ≡ Some x → task_at left n.task.0 ≡ Some (named 1 x)
+  entered_task x is = edit_here n.task.0 (named 1) w.tasks x is
+
+  module _ (c : Coherent w) (next : IsNext w n) where
+    pub entered_below : Below left n
+    entered_below = named_below w c n next 1 n refl (omega arith)
+
+    pub entered_proper : home_at w d ≡ Some s → entry_of name (body_at w d) ≡ None → NewIn w d node → AllProper w (entered n s node d name)
+    entered_proper home absent new = ((next, good), λ one. (entry_proper one, λ two. tt))
+      where
+        apart : d ≢ n
+        apart = next_apart w n d next (home_old c d s home)
+
+        good : GoodNode w s node
+        good =
+            let there = c.housing.housed d s home in
+            let i = c.housing.homes d there.0 there.1 in
+            let same : i.0 ≡ s = cc (i.2, home) in
+            record { info = i.1; is_server = subst (λ q. server_at w q ≡ Some i.1) same i.3; shape = new.shape; empty = new.empty; parent = new.parent }
+
+        new_entry : IsEntry made d n
+        new_entry = record {
+          made = named_below w c n next 1 n refl (omega arith);
+          kin = get_here w.homes n s ∙ sym home ∙ sym (get_apart w.homes n s d apart);
+          below = λ h eh dir.
+              let same : node.header ≡ h = cc (ap header_in (get_here w.nodes n node), eh) in
+              ap (λ (k : Header). k.parent) (sym same) ∙ new.below (ap (λ (k : Header). k.kind) same ∙ dir);
+        }
+
+        entry_proper : Coherent made → Proper made (EditBody d (with_entry name n))
+        entry_proper one b is =
+            let was : body_at w d ≡ Some b = sym (ap body_in (get_apart w.nodes n node d apart)) ∙ is in
+            record {
+              shape = λ h. entry_shape name n b h;
+              distinct = entry_names name n b (ap (entry_of name) (sym was) ∙ absent);
+              entries = λ m e. elim (entry_lists_cases name n m b e) [
+                | inl old ↦
+                    let there : lists_at m (body_at made d) ≡ true = ap (lists_at m) is ∙ old in
+                    record { made = one.given.entries d m there; kin = one.tree.kin d m there; below = λ h eh. one.tree.below d m h there eh }
+                | inr same ↦ subst (IsEntry made d) same new_entry
+              ];
+            }

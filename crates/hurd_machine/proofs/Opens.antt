@@ -1,0 +1,136 @@
+-- A port on a node with a new open, and a port that goes: as pieces of any call.
+use Rattle.std.proofs.Common.{◌≡◌, ℕ, ◌<◌, ◌≤◌, true, false, [], ◌∷◌, Some, sym, refl, ◌∙◌, ap, inl, inr, arith}
+use Rattle.std.specs.FinMap.{get, insert}
+use Rattle.hurd_creds.specs.declared.name.Name.{Name}
+use Rattle.hurd_creds.specs.declared.open_flags.OpenFlags.{OpenFlags}
+use Rattle.hurd_creds.specs.Access.{IdSets}
+use Rattle.hurd_creds.specs.Bits.{asks, WRITE}
+use Rattle.hurd_creds.proofs.NameLaws.{get_here}
+use Rattle.hurd_trans_iface.specs.Nodes.{Header, is_dir}
+use Rattle.hurd_ports.specs.declared.table.Opened.{Opened}
+use Rattle.hurd_ports.specs.declared.table.Right.{Right}
+use Rattle.hurd_ports.specs.Tables.{Task, names_open, right_in, fresh}
+use Rattle.hurd_ports.specs.Steps.{named, without_port, new_open, new_right, at_cursor}
+use Rattle.hurd_machine.specs.World.{World, task_at, header_at}
+use Rattle.hurd_machine.specs.Sight.{Part, OpenOf, UsersOf, TaskOf, is_on}
+use Rattle.hurd_machine.specs.Touched.{OnNode, OnRight}
+use Rattle.hurd_machine.specs.Change.{EditTask, MakeOpen, EditOpen, apply, opening, dropping}
+use Rattle.hurd_machine.specs.Sound.{Below, Coherent}
+use Rattle.hurd_machine.proofs.Tasks.{edit_here}
+use Rattle.hurd_machine.proofs.Coherence.{IsNext, FineRight, AllProper, named_below, named_still, unopened}
+use Rattle.hurd_machine.proofs.Rights.{port_counts, port_table, without_counts, without_table}
+use Rattle.hurd_machine.proofs.Settle.{Rests, rests_settle, rests_quiet}
+use Rattle.hurd_machine.proofs.Frame.{Covers, AllWithin, Full, not_on, not_named}
+use Rattle.hurd_machine.proofs.Sizes.{KeepsSized, sized_ports}
+
+-- what a call of task t may write anyway: its own task, and what has a name that it has still to give
+
+pub own_task : (w : World) (t : ℕ) (T : Part → Type 0) → Full w t T (TaskOf t)
+own_task w t T = inr (inl refl)
+
+-- a name that the task, which stands as x, has still to give
+pub still_new : (w : World) (n : Name) (x : Task) → task_at w n.task.0 ≡ Some x → x.made ≤ n.count → Below w n → ⊥
+still_new w n x is up b = let low : n.count < x.made = b x is in absurd (omega arith)
+
+pub fresh_new : (w : World) (t : ℕ) (x : Task) → task_at w t ≡ Some x → Below w (fresh t x) → ⊥
+fresh_new w t x is = still_new w (fresh t x) x is (omega arith)
+
+pub later_new : (w : World) (t k : ℕ) (x : Task) → task_at w t ≡ Some x → Below w (fresh t (named k x)) → ⊥
+later_new w t k x is = still_new w (fresh t (named k x)) x is (omega arith)
+
+pub fresh_next : (w : World) (t : ℕ) (x : Task) → task_at w t ≡ Some x → IsNext w (fresh t x)
+fresh_next w t x is = record { seat = x; is_task = is; next = refl }
+
+-- parts that are said of a right
+pub covers : (T : Part → Type 0) (w : World) (r : Right) → ((p : Part) → OnRight w r p → T p) → Covers T w r
+covers T w r f = (f (OpenOf r.open_name) (inl refl), λ s e. f (UsersOf s) (inr (s, e, refl)))
+
+-- a port with a new open
+
+module _ (w : World) (t : ℕ) (x : Task) (is : task_at w t ≡ Some x) (n : Name) (ids : IdSets) (modes : OpenFlags) where
+  abbrev new_one : Right
+  new_one = new_right t n ids x
+
+  abbrev opened : World
+  opened = apply (MakeOpen (fresh t x) (new_open modes)) w
+
+  here : task_at opened t ≡ Some (named 1 x)
+  here = edit_here t (named 1) w.tasks x is
+
+  there : get (insert w.opens (fresh t x) (new_open modes)) (fresh t x) ≡ Some (new_open modes)
+  there = get_here w.opens (fresh t x) (new_open modes)
+
+  pub opens_within : (T : Part → Type 0) → T (TaskOf t) → T (OpenOf (fresh t x)) → ((p : Part) → OnNode w n p → T p) → AllWithin T w (opening t x n ids modes)
+  opens_within T task open_part users =
+      let cover : Covers T opened new_one = (open_part, λ s e. users (UsersOf s) (s, e, refl)) in (
+        (task, open_part),
+        (
+          (
+            task,
+            λ z at. record {
+              opens = λ o out. port_counts (names_open o) new_one z (not_named opened o new_one T cover out);
+              users = λ s out. port_counts (is_on opened s) new_one z (not_on opened s new_one T cover out);
+            },
+          ),
+          tt,
+        ),
+      )
+
+  pub opens_proper : Coherent w → Below w n → (asks modes WRITE ≡ true → (h : Header) → header_at w n ≡ Some h → is_dir h.kind ≡ false) → AllProper w (opening t x n ids modes)
+  opens_proper c made writes = (fresh_next w t x is, λ d. ((λ z. omega arith, named 1 x, here, port_table opened d t new_one (named 1 x) here fine), λ e. tt))
+    where
+      next : IsNext w (fresh t x)
+      next = fresh_next w t x is
+
+      fine : FineRight opened new_one
+      fine = record {
+        node = named_still w c (fresh t x) next 1 n made;
+        open_name = named_below w c (fresh t x) next 1 (fresh t x) refl (omega arith);
+        opened = (new_open modes, there);
+        shared = λ q u k at has e. absurd (unopened w c (fresh t x) next 1 (fresh t x) (fresh_new w t x is) q u k at has e);
+        written = λ z h e asked eh. let same : new_open modes ≡ z = cc (there, e) in writes (ap (λ (k : Opened). asks k.modes WRITE) same ∙ asked) h eh;
+      }
+
+pub opens_sized : (w : World) (t : ℕ) (x : Task) (n : Name) (ids : IdSets) (modes : OpenFlags) → KeepsSized w (opening t x n ids modes)
+opens_sized w t x n ids modes = sized_ports (opening t x n ids modes) w (tt, (tt, tt))
+
+-- a port goes
+
+pub drops_within : (T : Part → Type 0) (w : World) (t p : ℕ) (x : Task) (r : Right) → task_at w t ≡ Some x → right_in p x.ports ≡ Some r → T (TaskOf t) → ((q : Part) → OnRight w r q → T q) → AllWithin T w (dropping t p)
+drops_within T w t p x r is under task parts = (
+  (
+    task,
+    λ z at.
+        let same : x ≡ z = cc (is, at) in
+        let now : right_in p z.ports ≡ Some r = ap (λ (y : Task). right_in p y.ports) (sym same) ∙ under in
+        let cover : Covers T w r = covers T w r parts in
+        record {
+          opens = λ o out. without_counts (names_open o) p z r now (not_named w o r T cover out);
+          users = λ s out. without_counts (is_on w s) p z r now (not_on w s r T cover out);
+        },
+  ),
+  (tt, tt),
+)
+
+pub drops_proper : (w : World) → Coherent w → (t p : ℕ) (x : Task) → task_at w t ≡ Some x → AllProper w (dropping t p)
+drops_proper w c t p x is = ((λ z. omega arith, x, is, without_table w c t p x is), λ d. (tt, λ e. tt))
+
+pub drops_rests : (w : World) (t p : ℕ) → Rests w (dropping t p)
+drops_rests w t p = rests_settle (EditTask t (without_port p) ∷ []) w
+
+pub drops_sized : (w : World) (t p : ℕ) → KeepsSized w (dropping t p)
+drops_sized w t p = sized_ports (dropping t p) w (tt, (tt, tt))
+
+-- a cursor moves
+
+pub cursor_within : (T : Part → Type 0) (w : World) (o : Name) (k : ℕ) → T (OpenOf o) → AllWithin T w (EditOpen o (at_cursor k) ∷ [])
+cursor_within T w o k part = (part, tt)
+
+pub cursor_proper : (w : World) (o : Name) (k : ℕ) → AllProper w (EditOpen o (at_cursor k) ∷ [])
+cursor_proper w o k = (λ z h. h, λ c. tt)
+
+pub cursor_rests : (w : World) (o : Name) (k : ℕ) → Rests w (EditOpen o (at_cursor k) ∷ [])
+cursor_rests w o k = rests_quiet (EditOpen o (at_cursor k) ∷ []) w (tt, tt)
+
+pub cursor_sized : (w : World) (o : Name) (k : ℕ) → KeepsSized w (EditOpen o (at_cursor k) ∷ [])
+cursor_sized w o k = sized_ports (EditOpen o (at_cursor k) ∷ []) w (tt, tt)
