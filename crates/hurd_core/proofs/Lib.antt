@@ -1,0 +1,2 @@
+pub mod CoreLaws
+pub mod MakingLaws

@@ -1,0 +1,160 @@
+-- A file made and opened, half by half, is the machine's making.
+use Rattle.std.proofs.Common.{◌≡◌, ◌∙◌, inl, inr, ℕ, ◌+◌, Bool, true, false, cond, List, Option, Some, None, refl, sym, ap, subst, slice_get, nat_lt, nat_le, arith}
+use Rattle.std.specs.Prelude.{Result, Ok, Err, is_ok, ◌&&◌, if◌then◌else◌}
+use Rattle.std.specs.Option.{option_map}
+use Rattle.std.specs.FinMap.{get}
+use Rattle.std.proofs.lemmas.Bool.Decides.{nat_tests}
+use Rattle.hurd_creds.specs.declared.name.Name.{Name}
+use Rattle.hurd_creds.specs.declared.attrs.Kind.TheVariants.{File}
+use Rattle.hurd_creds.specs.declared.errno.Errno.{Errno}
+use Rattle.hurd_creds.specs.declared.errno.Errno.TheVariants.{EDIED, ENOMEM, EOVERFLOW, ESRCH}
+use Rattle.hurd_creds.specs.declared.open_flags.OpenFlags.{OpenFlags}
+use Rattle.hurd_creds.specs.Access.{IdSets}
+use Rattle.hurd_creds.specs.NameMaps.{NameMap}
+use Rattle.hurd_creds.specs.Memory.{Meets, Steps, is_no_memory}
+use Rattle.hurd_trans_iface.specs.declared.new_node.NewNode.{NewNode}
+use Rattle.hurd_nodes.specs.Shown.{NodeState, ServerInfo, info_in, can_make, made_by, make_at, on_ok, with_home, with_made}
+use Rattle.hurd_ports.specs.Tables.{PortState, Task, or_refuse, fresh, has_room, room_at, room_of, u64_greatest}
+use Rattle.hurd_ports.specs.Steps.{named, insert_step, name_step, with_new_port}
+use Rattle.hurd_ports.proofs.TaskLaws.{edit-here}
+use Rattle.hurd_machine.specs.World.{World, world_from, home_at, makes_at}
+use Rattle.hurd_machine.specs.Change.{apply_all, opening}
+use Rattle.hurd_machine.specs.Plan.{on, given, first}
+use Rattle.hurd_core.specs.Core.{Does, NewFile, room_asks, making_asks, making, making_open}
+use Rattle.hurd_core.proofs.CoreLaws.{Room, IsRefused, HasRoom, room, insert-had}
+
+-- the file as its server is asked for it
+abbrev pub asked_file : NewFile → Name → NewNode
+asked_file f n = record { name = n; kind = File; owner = f.owner; group = f.group; mode = f.mode }
+
+-- where a node may be made in a directory, that has a server
+home_by : (h : NodeState) (d : Name) (name : List ℕ) (o : Option Name) → get h.homes d ≡ o → made_by name File (info_in h.servers o) (get h.nodes d) ≡ Ok tt → (s : Name) × (get h.homes d ≡ Some s)
+home_by h d name None at e = absurd (cc)
+home_by h d name (Some s) at e = (s, at)
+
+-- of room for two names one is left when one is given
+less : (next made : ℕ) → (nat_lt next u64_greatest && nat_le (made + 2) u64_greatest) ≡ true → (nat_lt next u64_greatest && nat_le ((made + 1) + 1) u64_greatest) ≡ true
+less next made h = let e : (made + 1) + 1 ≡ made + 2 = omega arith in rw e h
+
+module _ (N : NodeState) (H : PortState) (t : ℕ) (f : NewFile) where
+  abbrev w : World
+  w = world_from N H
+
+  pub making-home : can_make f.dir f.name File N ≡ Ok tt → (s : Name) × (get N.homes f.dir ≡ Some s)
+  making-home e = home_by N f.dir f.name (get N.homes f.dir) refl e
+
+  asks_more : Result Task Errno → Result (Task × Name) Errno
+  asks_more r = first r (λ x. first (makes_at w f.dir f.name File) (λ u. on EDIED (home_at w f.dir) (λ s. Ok (x, s))))
+
+  asks_home : Task → Result (Unit {0}) Errno → Option Name → Result (Task × Name) Errno
+  asks_home x r o = first r (λ u. on EDIED o (λ s. Ok (x, s)))
+
+  pub no-room : (e : Errno) → room_of H t 2 ≡ Err e → making_asks w t f ≡ Err e
+  unfolding first asks_more
+  no-room e h = elim (room N H t 2) [
+    | IsRefused k told asks ↦ let same : k ≡ e = cc in ap asks_more asks ∙ ap Err same
+    | HasRoom x at free told asks ↦ absurd (cc)
+  ]
+
+  pub not-made : (e : Errno) → room_of H t 2 ≡ Ok tt → can_make f.dir f.name File N ≡ Err e → making_asks w t f ≡ Err e
+  unfolding first asks_more asks_home
+  not-made e h m = elim (room N H t 2) [
+    | IsRefused k told asks ↦ absurd (cc)
+    | HasRoom x at free told asks ↦ ap asks_more asks ∙ ap (λ r. asks_home x r (home_at w f.dir)) m
+  ]
+
+  -- a task that makes the file, and the server
+  pub record Makes : Type 0 where
+    pub task : Task
+    pub there : slice_get H.tasks t ≡ Some task
+    pub free : has_room 2 task ≡ true
+    pub server : Name
+    pub home : get N.homes f.dir ≡ Some server
+    pub asks : making_asks w t f ≡ Ok (task, server)
+
+  pub makes : room_of H t 2 ≡ Ok tt → can_make f.dir f.name File N ≡ Ok tt → Makes
+  unfolding first on asks_more asks_home
+  makes h m =
+      let s = making-home m in
+      elim (room N H t 2) [
+        | IsRefused k told asks ↦ absurd (cc)
+        | HasRoom x at free told asks ↦ record {
+            task = x;
+            there = at;
+            free = free;
+            server = s.0;
+            home = s.1;
+            asks = ap asks_more asks ∙ ap (λ r. asks_home x r (home_at w f.dir)) m ∙ ap (asks_home x (Ok tt)) s.1;
+          }
+      ]
+
+  -- the task, once it has given the node's name
+  abbrev pub after_name : PortState
+  after_name = name_step t H
+
+  pub named_there : (x : Task) → slice_get H.tasks t ≡ Some x → slice_get after_name.tasks t ≡ Some (named 1 x)
+  named_there x at = edit-here t (named 1) H.tasks ∙ ap (option_map (named 1)) at
+
+  -- with room for two names there is still room for one when one is given
+  pub room-left : (x : Task) → slice_get H.tasks t ≡ Some x → has_room 2 x ≡ true → room_of after_name t 1 ≡ Ok tt
+  room-left x at h =
+      let free : has_room 1 (named 1 x) ≡ true = less x.next x.made h in
+      ap (room_at 1) (named_there x at) ∙ ap told_room free
+    where
+      told_room : Bool → Result (Unit {0}) Errno
+      told_room b = if b then Ok tt else Err EOVERFLOW
+
+  -- the halves after the making and the opening are the world after both
+  module _ (ids : IdSets) (modes : OpenFlags) (m : Makes) where
+    abbrev n : Name
+    n = fresh t m.task
+
+    made-nodes : (M : NodeState) → M ≡ with_made f.dir f.name (asked_file f n) N → world_from M after_name ≡ apply_all (making t m.task m.server f) w
+    made-nodes M e = ap (λ (z : NodeState). world_from z after_name) e ∙ ap (λ (o : Option Name). world_from (record (with_made f.dir f.name (asked_file f n) N) { homes = with_home n o N.homes }) after_name) m.home
+
+    pub made-opened : (M : NodeState) (K : PortState) (k : ℕ) → M ≡ with_made f.dir f.name (asked_file f n) N → insert_step t n ids modes after_name ≡ (Ok k, K)
+        → Does w (making_asks w t f) (making_open t f ids modes) (λ a. a.0.next) (Ok k) (world_from M K)
+    made-opened M K k e inserted =
+        let free : has_room 1 (named 1 m.task) ≡ true = less m.task.next m.task.made m.free in
+        let is = sym inserted ∙ insert-had M after_name t n ids modes (named 1 m.task) (named_there m.task m.there) free in
+        let number : Ok k ≡ Ok m.task.next = ap (λ (z : Result ℕ Errno × PortState). z.0) is in
+        let ports : K ≡ with_new_port t n ids modes (named 1 m.task) after_name = ap (λ (z : Result ℕ Errno × PortState). z.1) is in
+        ((m.task, m.server), m.asks, cc number, ap (world_from M) ports ∙ ap (apply_all (opening t (named 1 m.task) n ids modes)) (made-nodes M e))
+
+  -- a making that finds no memory changes nothing
+  pub lacks-memory : Makes → (e : Errno) (y : World) → y ≡ w → e ≡ ENOMEM → (ids : IdSets) (modes : OpenFlags) → Does w (making_asks w t f) (making_open t f ids modes) (λ a. a.0.next) (Err e) y
+  lacks-memory m e y same lacks ids modes = (same, inr (lacks, ap is_ok m.asks))
+
+  -- nothing but memory is refused where the task is there
+  pub reserve-lacks : (x : Task) (e : Errno) → slice_get H.tasks t ≡ Some x → Meets (or_refuse ESRCH (option_map (λ (y : Task). tt {0}) (slice_get H.tasks t))) (Err e) → e ≡ ENOMEM
+  reserve-lacks x e at (inl is) = let there : Ok (tt {0}) ≡ Err e = sym (ap (λ (o : Option Task). or_refuse ESRCH (option_map (λ (y : Task). tt {0}) o)) at) ∙ is in absurd (cc)
+  reserve-lacks x e at (inr lacks) = lacks.0
+
+  -- and where the server lets the file be made
+  pub make-lacks : (name : Name) (new : NewNode) (e : Errno) (M : NodeState) → can_make f.dir f.name File N ≡ Ok tt → new ≡ asked_file f name → Steps N (make_at f.dir f.name new N) (Err e) M → (e ≡ ENOMEM) × (M ≡ N)
+  make-lacks name new e M m asked s = go (subst (λ (z : NewNode). Steps N (make_at f.dir f.name z N) (Err e) M) asked s)
+    where
+      go : Steps N (make_at f.dir f.name (asked_file f name) N) (Err e) M → (e ≡ ENOMEM) × (M ≡ N)
+      go steps = elim steps.answered [
+        | inl is ↦ absurd (cc (m, is))
+        | inr lacks ↦ (lacks.0, steps.left ∙ rw lacks.0 refl)
+      ]
+
+  pub make-done : (new : NewNode) (M : NodeState) → can_make f.dir f.name new.kind N ≡ Ok tt → Steps N (make_at f.dir f.name new N) (Ok tt) M → M ≡ with_made f.dir f.name new N
+  make-done new M m s = s.left ∙ ap (λ (a : Result (Unit {0}) Errno). on_ok a N (with_made f.dir f.name new N)) m
+
+  -- all of it: the name that is next, the node made under it, the name given, and the port put in
+  pub file-made : (ids : IdSets) (modes : OpenFlags) (G L K : PortState) (M : NodeState) (name : Name) (new : NewNode) (k : ℕ) → room_of H t 2 ≡ Ok tt → can_make f.dir f.name File N ≡ Ok tt → G ≡ H
+      → Some name ≡ option_map (fresh t) (slice_get G.tasks t) → new ≡ asked_file f name → Steps N (make_at f.dir f.name new N) (Ok tt) M → L ≡ name_step t G → insert_step t name ids modes L ≡ (Ok k, K)
+      → Does w (making_asks w t f) (making_open t f ids modes) (λ a. a.0.next) (Ok k) (world_from M K)
+  file-made ids modes G L K M name new k h may kept next asked steps gave inserted =
+      let m = makes h may in
+      let is : Some name ≡ Some (fresh t m.task) = next ∙ ap (λ (z : PortState). option_map (fresh t) (slice_get z.tasks t)) kept ∙ ap (option_map (fresh t)) m.there in
+      let same : name ≡ fresh t m.task = cc in
+      let wanted : new ≡ asked_file f (fresh t m.task) = asked ∙ ap (asked_file f) same in
+      let made : M ≡ with_made f.dir f.name (asked_file f (fresh t m.task)) N =
+      make-done (asked_file f (fresh t m.task)) M may (subst (λ (z : NewNode). Steps N (make_at f.dir f.name z N) (Ok tt) M) wanted steps) in
+      let ports : L ≡ after_name = gave ∙ ap (name_step t) kept in
+      let put : insert_step t (fresh t m.task) ids modes after_name ≡ (Ok k, K) =
+      ap (λ (n : Name). insert_step t n ids modes after_name) (sym same) ∙ ap (insert_step t name ids modes) (sym ports) ∙ inserted in
+      made-opened ids modes m M K k made put

@@ -1,0 +1,9 @@
+-- The ports with a port more are the world with it.
+use Rattle.hurd_nodes.specs.Shown.{shown}
+use Rattle.hurd_core.proofs.CoreLaws.{open-does}
+use Rattle.hurd_core.proofs.core.Core.open.Goals as goal
+
+pub returns : goal.returns
+returns g c =
+    rw (← c.self.view_is)
+    (open-does (shown g.S.Server.meaning c.self.inside.nodes) c.self.inside.ports.state c.args.task.0 c.args.node c.args.ids c.args.modes c.insert.result c.insert.new.self.state c.insert.ensures.answer)
