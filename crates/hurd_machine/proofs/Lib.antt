@@ -9,4 +9,3 @@ pub mod Sizes
 pub mod Opens
 pub mod Edits
 pub mod Makes
-pub mod Stays

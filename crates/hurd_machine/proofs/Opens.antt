@@ -29,14 +29,14 @@ pub own_task : (w : World) (t : ℕ) (T : Part → Type 0) → Full w t T (TaskO
 own_task w t T = inr (inl refl)
 
 -- a name that the task, which stands as x, has still to give
-pub still_unnamed : (w : World) (n : Name) (x : Task) → task_at w n.task.0 ≡ Some x → x.made ≤ n.count → Below w n → ⊥
-still_unnamed w n x is up b = let low : n.count < x.made = b x is in absurd (omega arith)
+pub still_new : (w : World) (n : Name) (x : Task) → task_at w n.task.0 ≡ Some x → x.made ≤ n.count → Below w n → ⊥
+still_new w n x is up b = let low : n.count < x.made = b x is in absurd (omega arith)
 
-pub fresh_unnamed : (w : World) (t : ℕ) (x : Task) → task_at w t ≡ Some x → Below w (fresh t x) → ⊥
-fresh_unnamed w t x is = still_unnamed w (fresh t x) x is (omega arith)
+pub fresh_new : (w : World) (t : ℕ) (x : Task) → task_at w t ≡ Some x → Below w (fresh t x) → ⊥
+fresh_new w t x is = still_new w (fresh t x) x is (omega arith)
 
-pub later_unnamed : (w : World) (t k : ℕ) (x : Task) → task_at w t ≡ Some x → Below w (fresh t (named k x)) → ⊥
-later_unnamed w t k x is = still_unnamed w (fresh t (named k x)) x is (omega arith)
+pub later_new : (w : World) (t k : ℕ) (x : Task) → task_at w t ≡ Some x → Below w (fresh t (named k x)) → ⊥
+later_new w t k x is = still_new w (fresh t (named k x)) x is (omega arith)
 
 pub fresh_next : (w : World) (t : ℕ) (x : Task) → task_at w t ≡ Some x → IsNext w (fresh t x)
 fresh_next w t x is = record { seat = x; is_task = is; next = refl }
@@ -87,7 +87,7 @@ module _ (w : World) (t : ℕ) (x : Task) (is : task_at w t ≡ Some x) (n : Nam
         node = named_still w c (fresh t x) next 1 n made;
         open_name = named_below w c (fresh t x) next 1 (fresh t x) refl (omega arith);
         opened = (new_open modes, there);
-        shared = λ q u k at has e. absurd (unopened w c (fresh t x) next 1 (fresh t x) (fresh_unnamed w t x is) q u k at has e);
+        shared = λ q u k at has e. absurd (unopened w c (fresh t x) next 1 (fresh t x) (fresh_new w t x is) q u k at has e);
         written = λ z h e asked eh. let same : new_open modes ≡ z = cc (there, e) in writes (ap (λ (k : Opened). asks k.modes WRITE) same ∙ asked) h eh;
       }
 
@@ -96,8 +96,8 @@ opens_sized w t x n ids modes = sized_ports (opening t x n ids modes) w (tt, (tt
 
 -- a port goes
 
-pub dropping_within : (T : Part → Type 0) (w : World) (t p : ℕ) (x : Task) (r : Right) → task_at w t ≡ Some x → right_in p x.ports ≡ Some r → T (TaskOf t) → ((q : Part) → OnRight w r q → T q) → AllWithin T w (dropping t p)
-dropping_within T w t p x r is under task parts = (
+pub drops_within : (T : Part → Type 0) (w : World) (t p : ℕ) (x : Task) (r : Right) → task_at w t ≡ Some x → right_in p x.ports ≡ Some r → T (TaskOf t) → ((q : Part) → OnRight w r q → T q) → AllWithin T w (dropping t p)
+drops_within T w t p x r is under task parts = (
   (
     task,
     λ z at.
@@ -112,14 +112,14 @@ dropping_within T w t p x r is under task parts = (
   (tt, tt),
 )
 
-pub dropping_proper : (w : World) → Coherent w → (t p : ℕ) (x : Task) → task_at w t ≡ Some x → AllProper w (dropping t p)
-dropping_proper w c t p x is = ((λ z. omega arith, x, is, without_table w c t p x is), λ d. (tt, λ e. tt))
+pub drops_proper : (w : World) → Coherent w → (t p : ℕ) (x : Task) → task_at w t ≡ Some x → AllProper w (dropping t p)
+drops_proper w c t p x is = ((λ z. omega arith, x, is, without_table w c t p x is), λ d. (tt, λ e. tt))
 
-pub dropping_rests : (w : World) (t p : ℕ) → Rests w (dropping t p)
-dropping_rests w t p = rests_settle (EditTask t (without_port p) ∷ []) w
+pub drops_rests : (w : World) (t p : ℕ) → Rests w (dropping t p)
+drops_rests w t p = rests_settle (EditTask t (without_port p) ∷ []) w
 
-pub dropping_sized : (w : World) (t p : ℕ) → KeepsSized w (dropping t p)
-dropping_sized w t p = sized_ports (dropping t p) w (tt, (tt, tt))
+pub drops_sized : (w : World) (t p : ℕ) → KeepsSized w (dropping t p)
+drops_sized w t p = sized_ports (dropping t p) w (tt, (tt, tt))
 
 -- a cursor moves
 
