@@ -1,14 +1,16 @@
 -- The tables as they stand in the code.
-use Rattle.std.specs.Prelude.{ℕ, ◌+◌, ◌==◌, List, [], ◌∷◌, map, cond, if◌then◌else◌, Option, Some, None}
+use Rattle.std.specs.Prelude.{◌<◌, List, map, if◌then◌else◌, Option, Some, None, IsSomeAnd, slice_get, vec_len, vec_capacity}
 use Rattle.std.specs.Option.{option_map}
+use Rattle.std.specs.Global.{Vec}
 use Rattle.std.specs.FinMap as fin
 use Rattle.hurd_creds.specs.declared.name.Name.{Name}
+use Rattle.hurd_creds.specs.declared.name.TaskId.{TaskId}
 use Rattle.hurd_creds.specs.NameMaps.{keyed}
 use Rattle.hurd_ports.specs.declared.table.TaskSeat.{TaskSeat}
 use Rattle.hurd_ports.specs.declared.table.Opened.{Opened}
-use Rattle.hurd_ports.specs.declared.table.Port.{Port}
 use Rattle.hurd_ports.specs.declared.opens.OpenSeat.{OpenSeat}
-use Rattle.hurd_ports.specs.Tables.{Task, OpenMap, PortState, is_held}
+use Rattle.hurd_ports.specs.Tables.{Task, OpenMap, PortState, Tables, is_held}
+use Rattle.hurd_ports.specs.Sound.{IsSound}
 
 -- what a seat stands for
 abbrev pub seat_task : TaskSeat → Task
@@ -29,15 +31,28 @@ open_value s = s.opened
 abbrev pub opens_of : List OpenSeat → OpenMap
 opens_of os = keyed open_key open_value os
 
--- both together
-abbrev pub half_of : List OpenSeat → List TaskSeat → PortState
-half_of os ss = record { opens = opens_of os; tasks = tasks_of ss }
+-- opens and tasks together
+abbrev pub state_of : List OpenSeat → List TaskSeat → PortState
+state_of os ss = record { opens = opens_of os; tasks = tasks_of ss }
+
+-- and the task that is ready
+abbrev pub tables_of : List OpenSeat → List TaskSeat → Option TaskId → Tables
+tables_of os ss ready = record { state = state_of os ss; ready = option_map (λ t. t.0) ready }
+
+-- there is room in memory for one more
+abbrev pub HasSpare : {A : Type 0} → Vec A → Type 0
+HasSpare v = vec_len v < vec_capacity v
+
+-- for the task that is ready, there is room for an open and for a port
+abbrev pub IsReady : Vec OpenSeat → List TaskSeat → Option TaskId → Type 0
+IsReady opens ss None = Unit {0}
+IsReady opens ss (Some t) = HasSpare opens × IsSomeAnd (slice_get ss t.0) (λ s. HasSpare s.ports)
+
+-- what holds of the tables in the code at any time
+pub record IsKept (opens : Vec OpenSeat) (seats : Vec TaskSeat) (ready : Option TaskId) : Type 0 where
+  pub sound : IsSound (state_of opens.items seats.items)
+  pub spare : IsReady opens seats.items ready
 
 -- the opens but the one of this name, unless some right names it
 abbrev pub settled_at : List Task → Name → OpenMap → OpenMap
 settled_at ts n m = if is_held ts n then m else fin.remove m n
-
--- the index of the first port of a number, if any has it
-abbrev pub place_of : ℕ → List Port → Option ℕ
-place_of p [] = None
-place_of p (x ∷ xs) = cond (p == x.number) (Some 0) (option_map (λ i. i + 1) (place_of p xs))

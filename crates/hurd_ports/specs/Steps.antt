@@ -10,7 +10,7 @@ use Rattle.hurd_creds.specs.NameMaps.{edit}
 use Rattle.hurd_ports.specs.declared.table.Opened.{Opened}
 use Rattle.hurd_ports.specs.declared.table.Right.{Right}
 use Rattle.hurd_ports.specs.declared.table.Port.{Port}
-use Rattle.hurd_ports.specs.Tables.{Task, PortState, OpenMap, right_in, fresh, has_room, is_held}
+use Rattle.hurd_ports.specs.Tables.{Task, PortState, right_in, fresh, has_room, is_held}
 
 -- a task that has made nothing, with an empty table
 abbrev pub new_task : ℕ → IdSets → Task

@@ -1,0 +1,98 @@
+-- Which opens are held, after a change of one task.
+use Rattle.std.proofs.Common.{◌≡◌, ◌≢◌, ◌⊎◌, inl, inr, ℕ, zero, suc, ◌==◌, List, [], ◌∷◌, ◌++◌, Bool, true, false, if◌then◌else◌, map, refl, ap, sym, ◌∙◌}
+use Rattle.std.proofs.lemmas.List.{map_push}
+use Rattle.std.proofs.lemmas.List.Folds.{list_any-append, list_any_at}
+use Rattle.std.proofs.lemmas.Option.{slice_get_within, get_or_from_slice_get}
+use Rattle.std.specs.Prelude.{Some, slice_get, slice_set, ◌||◌}
+use Rattle.std.specs.List.{list_any}
+use Rattle.hurd_creds.specs.declared.name.Name.{Name}
+use Rattle.hurd_creds.proofs.NameLaws.{same_name-itself, same_name-apart}
+use Rattle.hurd_ports.specs.declared.table.Port.{Port}
+use Rattle.hurd_ports.specs.declared.table.Right.{Right}
+use Rattle.hurd_ports.specs.Tables.{Task, names_open, rights_of, right_in, is_held}
+use Rattle.hurd_ports.specs.Steps.{ports_without, without_port}
+use Rattle.hurd_ports.proofs.TaskLaws.{set-here}
+
+or_first : (a b : Bool) → a ≡ true → (a || b) ≡ true
+or_first true b h = refl
+or_first false b h = absurd (cc)
+
+or_second : (a b : Bool) → b ≡ true → (a || b) ≡ true
+or_second true b h = refl
+or_second false b h = h
+
+one_true : (a b : Bool) → (a || b) ≡ true → (a ≡ true) ⊎ (b ≡ true)
+one_true true b h = inl refl
+one_true false b h = inr h
+
+module _ {X : Type 0} (f : X → Bool) where
+  pub any-at : (xs : List X) (i : ℕ) (x : X) → slice_get xs i ≡ Some x → f x ≡ true → list_any f xs ≡ true
+  any-at xs i x at is = list_any_at f xs i x (slice_get_within xs i x at) (ap f (get_or_from_slice_get xs i x x at) ∙ is)
+
+  pub any-set : (xs : List X) (i : ℕ) (x y : X) → slice_get xs i ≡ Some x → f y ≡ f x → list_any f (slice_set xs i y) ≡ list_any f xs
+  any-set [] i x y at e = refl
+  any-set (z ∷ xs) zero x y at e = let k : x ≡ z = cc in ap (λ b. b || list_any f xs) (e ∙ ap f k)
+  any-set (z ∷ xs) (suc i) x y at e = ap (λ b. f z || b) (any-set xs i x y at e)
+
+  -- what held of some still does where the changed one passes if it did
+  pub any-grows : (xs : List X) (i : ℕ) (x y : X) → slice_get xs i ≡ Some x → (f x ≡ true → f y ≡ true) → list_any f xs ≡ true → list_any f (slice_set xs i y) ≡ true
+  any-grows [] i x y at grows h = h
+  any-grows (z ∷ xs) zero x y at grows h =
+      let e : z ≡ x = cc in
+      elim (one_true (f z) (list_any f xs) h) [ inl t ↦ or_first (f y) (list_any f xs) (grows (ap f (sym e) ∙ t)) | inr t ↦ or_second (f y) (list_any f xs) t ]
+  any-grows (z ∷ xs) (suc i) x y at grows h = elim (one_true (f z) (list_any f xs) h) [
+    | inl t ↦ or_first (f z) (list_any f (slice_set xs i y)) t
+    | inr t ↦ or_second (f z) (list_any f (slice_set xs i y)) (any-grows xs i x y at grows t)
+  ]
+
+  pub any-map : {Y : Type 0} (g : Y → X) (ys : List Y) → list_any f (map g ys) ≡ list_any (λ y. f (g y)) ys
+  any-map g [] = refl
+  any-map g (y ∷ ys) = ap (λ b. f (g y) || b) (any-map g ys)
+
+-- whether a right of the task names the open
+abbrev pub holds : Name → Task → Bool
+holds n z = list_any (names_open n) (rights_of z)
+
+-- of a task with one more port at the end
+module _ (x y : Task) (p : Port) (more : y.ports ≡ x.ports ++ p ∷ []) (n : Name) where
+  holds-more : holds n y ≡ (list_any (names_open n) (rights_of x) || list_any (names_open n) (p.right ∷ []))
+  holds-more =
+      ap (λ (ps : List Port). list_any (names_open n) (map (λ (z : Port). z.right) ps)) more
+      ∙ ap (list_any (names_open n)) (map_push (λ (z : Port). z.right) x.ports p) ∙ list_any-append (names_open n) (rights_of x) (p.right ∷ [])
+
+  -- what was held stays held
+  pub held-push : (ts : List Task) (t : ℕ) → slice_get ts t ≡ Some x → is_held ts n ≡ true → is_held (slice_set ts t y) n ≡ true
+  unfolding is_held
+  held-push ts t at h = any-grows (holds n) ts t x y at (λ e. holds-more ∙ or_first (holds n x) (list_any (names_open n) (p.right ∷ [])) e) h
+
+  -- and the open of the new port is held
+  pub held-here : (ts : List Task) (t : ℕ) → slice_get ts t ≡ Some x → n ≡ p.right.open_name → is_held (slice_set ts t y) n ≡ true
+  unfolding is_held
+  held-here ts t at is =
+      let named : names_open n p.right ≡ true = rw is (same_name-itself p.right.open_name) in
+      any-at (holds n) (slice_set ts t y) t y (set-here ts t x y at) (holds-more ∙ or_second (holds n x) (list_any (names_open n) (p.right ∷ [])) (or_first (names_open n p.right) false named))
+
+-- a task that keeps its ports holds what it held
+pub held-kept : (ts : List Task) (t : ℕ) (x y : Task) (n : Name) → slice_get ts t ≡ Some x → y.ports ≡ x.ports → is_held (slice_set ts t y) n ≡ is_held ts n
+unfolding is_held
+held-kept ts t x y n at same = any-set (holds n) ts t x y at (ap (λ (ps : List Port). list_any (names_open n) (map (λ (z : Port). z.right) ps)) same)
+
+-- without one port the others name what they named
+any-without : (q : Name) (p : ℕ) (ps : List Port) (r : Right) → right_in p ps ≡ Some r → q ≢ r.open_name
+    → list_any (names_open q) (map (λ (z : Port). z.right) (ports_without p ps)) ≡ list_any (names_open q) (map (λ (z : Port). z.right) ps)
+any-without q p [] r h apart = absurd (cc)
+any-without q p (x ∷ ps) r h apart = go (p == x.number) (any-without q p ps r) h
+  where
+    go : (b : Bool) → (right_in p ps ≡ Some r → q ≢ r.open_name → list_any (names_open q) (map (λ (z : Port). z.right) (ports_without p ps)) ≡ list_any (names_open q) (map (λ (z : Port). z.right) ps))
+        → (if b then Some x.right else right_in p ps) ≡ Some r
+        → list_any (names_open q) (map (λ (z : Port). z.right) (if b then ps else x ∷ ports_without p ps)) ≡ (names_open q x.right || list_any (names_open q) (map (λ (z : Port). z.right) ps))
+    go true rest h =
+        let same : x.right ≡ r = cc in
+        let other : names_open q x.right ≡ false = same_name-apart x.right.open_name q (λ e. apart (sym e ∙ ap (λ (z : Right). z.open_name) same)) in
+        rw other refl
+    go false rest h = ap (λ b. names_open q x.right || b) (rest h apart)
+
+-- without a port all but its open are held as they were
+pub held-without : (ts : List Task) (t p : ℕ) (x : Task) (r : Right) (q : Name) → slice_get ts t ≡ Some x → right_in p x.ports ≡ Some r → q ≢ r.open_name → is_held (slice_set ts t (without_port p x)) q ≡ is_held ts q
+unfolding is_held
+held-without ts t p x r q at is apart = any-set (holds q) ts t x (without_port p x) at (any-without q p x.ports r is apart)

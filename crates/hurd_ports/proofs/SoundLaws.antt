@@ -1,0 +1,172 @@
+-- Each change keeps the tables sound.
+use Rattle.std.proofs.Common.{◌≡◌, inl, inr, ℕ, ◌+◌, ◌≤◌, ◌==◌, List, [], ◌∷◌, ◌++◌, Bool, true, false, cond, if◌then◌else◌, refl, ap, sym, subst, ◌∙◌, arith}
+use Rattle.std.specs.Prelude.{Option, Some, None, Err, slice_get, slice_set}
+use Rattle.std.specs.Option.{option_map}
+use Rattle.std.specs.FinMap as fin
+use Rattle.hurd_creds.specs.declared.name.Name.{Name}
+use Rattle.hurd_creds.specs.declared.open_flags.OpenFlags.{OpenFlags}
+use Rattle.hurd_creds.specs.Access.{IdSets}
+use Rattle.hurd_creds.specs.Names.{name_cmp}
+use Rattle.hurd_creds.proofs.NameLaws.{name_exact, same_or_apart, get_apart, edit_here, edit_apart}
+use Rattle.hurd_creds.specs.NameMaps.{edit}
+use Rattle.hurd_ports.specs.declared.table.Opened.{Opened}
+use Rattle.hurd_ports.specs.declared.table.Port.{Port}
+use Rattle.hurd_ports.specs.declared.table.Right.{Right}
+use Rattle.hurd_ports.specs.Tables.{Task, PortState, OpenMap, is_held, fresh, right_in, right_of}
+use Rattle.hurd_ports.specs.Steps.{new_task, starting_at, named, new_open, new_right, with_port, with_new_port, without_port, ports_without, settle_opens, at_cursor, move_cursor_step, name_step}
+use Rattle.hurd_ports.specs.Sound.{IsSound, IsGiven, NumbersRise}
+use Rattle.hurd_creds.specs.declared.errno.Errno.TheVariants.{EBADF}
+use Rattle.hurd_ports.proofs.PlaceLaws.{apart_test}
+use Rattle.hurd_ports.proofs.TaskLaws.{set-here, set-apart, set-cases, one_or_other, map-origin, edit-found, edit-edit}
+use Rattle.hurd_ports.proofs.HeldLaws.{held-push, held-here, held-kept}
+
+-- numbers
+
+rise_to : (low n : ℕ) (ps : List Port) → NumbersRise low n ps → low ≤ n
+rise_to low n [] h = h
+rise_to low n (x ∷ ps) h = let a = h.0 in let b = rise_to (x.number + 1) n ps h.1 in omega arith
+
+rise_from : (low lower n : ℕ) (ps : List Port) → lower ≤ low → NumbersRise low n ps → NumbersRise lower n ps
+rise_from low lower n [] le h = omega arith
+rise_from low lower n (x ∷ ps) le h = let a = h.0 in (omega arith, h.1)
+
+-- no port has the next number
+next_absent : (low n : ℕ) (ps : List Port) → NumbersRise low n ps → right_in n ps ≡ None
+next_absent low n [] h = refl
+next_absent low n (x ∷ ps) h =
+    let b = rise_to (x.number + 1) n ps h.1 in
+    rw (apart_test n x.number (λ e. omega arith)) (next_absent (x.number + 1) n ps h.1)
+
+rise-push : (low n : ℕ) (ps : List Port) (p : Port) → p.number ≡ n → NumbersRise low n ps → NumbersRise low (n + 1) (ps ++ p ∷ [])
+rise-push low n [] p e h = (omega arith, omega arith)
+rise-push low n (x ∷ ps) p e h = (h.0, rise-push (x.number + 1) n ps p e h.1)
+
+rise-without : (low n q : ℕ) (ps : List Port) → NumbersRise low n ps → NumbersRise low n (ports_without q ps)
+rise-without low n q [] h = h
+rise-without low n q (x ∷ ps) h = go (q == x.number) (rise-without (x.number + 1) n q ps h.1)
+  where
+    go : (b : Bool) → NumbersRise (x.number + 1) n (ports_without q ps) → NumbersRise low n (if b then ps else x ∷ ports_without q ps)
+    go true rest = rise_from (x.number + 1) low n ps (let a = h.0 in omega arith) h.1
+    go false rest = (h.0, rest)
+
+-- tables of tasks that have no ports
+pub sound-starting : (ids : List IdSets) (next : ℕ) → IsSound (starting_at ids next)
+sound-starting ids next = record {
+  settled = λ n o h. absurd (empty_has n o h);
+  given = λ n o h. absurd (empty_has n o h);
+  numbered = λ t x h. let from = map-origin (new_task next) ids t x h in subst (λ (z : Task). NumbersRise 0 z.next z.ports) from.2 (omega arith);
+}
+  where
+    empty_has : (n : Name) (o : Opened) → fin.get {R = name_cmp} fin.empty n ≡ Some o → ⊥
+    empty_has n o h = let none = fin.get-empty {X = Opened} name_cmp n in absurd (cc)
+
+-- a name that a task has given stays given where the task made no fewer things
+given-set : (ts : List Task) (t : ℕ) (x y : Task) (n : Name) → slice_get ts t ≡ Some x → x.made ≤ y.made → IsGiven ts n → IsGiven (slice_set ts t y) n
+given-set ts t x y n at le h = elim (one_or_other n.task.0 t) [
+  | inl e ↦
+      let here : slice_get (slice_set ts t y) n.task.0 ≡ Some y = ap (slice_get (slice_set ts t y)) e ∙ set-here ts t x y at in
+      let was : slice_get ts n.task.0 ≡ Some x = ap (slice_get ts) e ∙ at in
+      let below = rw was at h in
+      rw here (omega arith)
+  | inr apart ↦ rw (set-apart ts t y n.task.0 apart) h
+]
+
+numbers-set : (ts : List Task) (t : ℕ) (x y : Task) → slice_get ts t ≡ Some x → ((q : ℕ) (z : Task) → slice_get ts q ≡ Some z → NumbersRise 0 z.next z.ports) → NumbersRise 0 y.next y.ports
+    → (q : ℕ) (z : Task) → slice_get (slice_set ts t y) q ≡ Some z → NumbersRise 0 z.next z.ports
+numbers-set ts t x y at rises here q z is = elim (set-cases ts t x y q z at is) [
+  | inl both ↦ subst (λ (w : Task). NumbersRise 0 w.next w.ports) (sym both.1) here
+  | inr there ↦ rises q z there
+]
+
+-- a task that is there
+
+module _ (h : PortState) (t : ℕ) (x : Task) (sound : IsSound h) (at : slice_get h.tasks t ≡ Some x) where
+  -- no open has its next name
+  pub free-name : fin.get h.opens (fresh t x) ≡ None
+  free-name = go (fin.get h.opens (fresh t x)) refl
+    where
+      go : (o : Option Opened) → fin.get h.opens (fresh t x) ≡ o → o ≡ None
+      go None e = refl
+      go (Some w) e = let below = rw at at (sound.given (fresh t x) w e) in absurd (omega arith)
+
+  -- nor has any of its ports its next number
+  pub number-new : right_of h t x.next ≡ Err EBADF
+  number-new = rw (at, next_absent 0 x.next x.ports (sound.numbered t x at)) refl
+
+  -- it may name one thing
+  pub sound-named : IsSound (name_step t h)
+  sound-named = rw (edit-found t (named 1) h.tasks x at) kept
+    where
+      kept : IsSound (record h { tasks = slice_set h.tasks t (named 1 x) })
+      kept = record {
+        settled = λ q w is. held-kept h.tasks t x (named 1 x) q at refl ∙ sound.settled q w is;
+        given = λ q w is. given-set h.tasks t x (named 1 x) q at (omega arith) (sound.given q w is);
+        numbered = numbers-set h.tasks t x (named 1 x) at sound.numbered (sound.numbered t x at);
+      }
+
+  -- or have one more port, with an open of its own
+  pub sound-inserted : (n : Name) (ids : IdSets) (modes : OpenFlags) → IsSound (with_new_port t n ids modes x h)
+  sound-inserted n ids modes = rw (edit-edit t (with_port right) (named 1) h.tasks x at) added
+    where
+      right : Right
+      right = new_right t n ids x
+
+      port : Port
+      port = record { number = x.next; right = right }
+
+      y : Task
+      y = with_port right (named 1 x)
+
+      added : IsSound (record { opens = fin.insert h.opens (fresh t x) (new_open modes); tasks = slice_set h.tasks t y })
+      added = record {
+        settled = λ q w is. elim (same_or_apart q (fresh t x)) [
+          | inl e ↦ held-here x y port refl q h.tasks t at e
+          | inr apart ↦ held-push x y port refl q h.tasks t at (sound.settled q w (sym (get_apart h.opens (fresh t x) (new_open modes) q apart) ∙ is))
+        ];
+        given = λ q w is. elim (same_or_apart q (fresh t x)) [
+          | inl e ↦ rw (e, set-here h.tasks t x y at) (omega arith)
+          | inr apart ↦ given-set h.tasks t x y q at (omega arith) (sound.given q w (sym (get_apart h.opens (fresh t x) (new_open modes) q apart) ∙ is))
+        ];
+        numbered = numbers-set h.tasks t x y at sound.numbered (rise-push 0 x.next x.ports port refl (sound.numbered t x at));
+      }
+
+-- what is open under a name once the opens that no right names are out
+pub get-held : (m : OpenMap) (ts : List Task) (q : Name) → fin.get (fin.retain_keys m (is_held ts)) q ≡ cond (is_held ts q) (fin.get m q) None
+get-held m ts q = fin.get-retain_keys m (is_held ts) q (λ x e. ap (is_held ts) (sym (name_exact q x e)))
+
+-- an edit makes no open
+edit_had : (m : OpenMap) (n : Name) (f : Opened → Opened) (q : Name) (w : Opened) → fin.get (edit n f m) q ≡ Some w → (v : Opened) × (fin.get m q ≡ Some v)
+edit_had m n f q w is = elim (same_or_apart q n) [
+  | inl e ↦
+      let same : fin.get m q ≡ fin.get m n = ap (fin.get m) e in
+      let edited : fin.get (edit n f m) q ≡ fin.get (edit n f m) n = ap (fin.get (edit n f m)) e in
+      let had = here (fin.get m n) (sym (edit_here m n f) ∙ sym edited ∙ is) in
+      (had.0, same ∙ had.1)
+  | inr apart ↦ (w, sym (edit_apart m n f q apart) ∙ is)
+]
+  where
+    here : (o : Option Opened) → option_map f o ≡ Some w → (v : Opened) × (o ≡ Some v)
+    here None e = absurd (cc)
+    here (Some v) e = (v, refl)
+
+pub sound-cursor : (h : PortState) (n : Name) (k : ℕ) → IsSound h → IsSound (move_cursor_step n k h)
+sound-cursor h n k sound = record {
+  settled = λ q w is. let v = edit_had h.opens n (at_cursor k) q w is in sound.settled q v.0 v.1;
+  given = λ q w is. let v = edit_had h.opens n (at_cursor k) q w is in sound.given q v.0 v.1;
+  numbered = sound.numbered;
+}
+
+-- without the opens that no right names all that is left is held
+pub sound-settled : (h : PortState) (t p : ℕ) (x : Task) → IsSound h → slice_get h.tasks t ≡ Some x → IsSound (settle_opens (record h { tasks = slice_set h.tasks t (without_port p x) }))
+sound-settled h t p x sound at = record {
+  settled = λ q w is. (kept q w is).0;
+  given = λ q w is. given-set h.tasks t x (without_port p x) q at (omega arith) (sound.given q w (kept q w is).1);
+  numbered = numbers-set h.tasks t x (without_port p x) at sound.numbered (rise-without 0 x.next p x.ports (sound.numbered t x at));
+}
+  where
+    both : (b : Bool) (o : Option Opened) (w : Opened) → cond b o None ≡ Some w → (b ≡ true) × (o ≡ Some w)
+    both true o w h = (refl, h)
+    both false o w h = absurd (cc)
+
+    kept : (q : Name) (w : Opened) → fin.get (fin.retain_keys h.opens (is_held (slice_set h.tasks t (without_port p x)))) q ≡ Some w → (is_held (slice_set h.tasks t (without_port p x)) q ≡ true) × (fin.get h.opens q ≡ Some w)
+    kept q w is = both _ _ w (sym (get-held h.opens (slice_set h.tasks t (without_port p x)) q) ∙ is)

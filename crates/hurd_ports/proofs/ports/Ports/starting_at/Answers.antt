@@ -1,0 +1,35 @@
+use Rattle.std.proofs.Common.{◌≡◌, List, [], ap, arith}
+use Rattle.std.proofs.lemmas.Grind.{common_steps}
+use Rattle.std.proofs.lemmas.List.{nil_from_length}
+use Rattle.std.specs.Vec.Iter.{into_iter_items}
+use Rattle.std.specs.Prelude.{None}
+use Rattle.hurd_ports.specs.Tables.{Task, PortState, Tables}
+use Rattle.hurd_ports.specs.Steps.{starting_at}
+use Rattle.hurd_ports.specs.Seats.{state_of}
+use Rattle.hurd_ports.specs.declared.table.Port.{Port}
+use Rattle.hurd_ports.proofs.SeatLaws.{started, seat-pushed}
+use Rattle.hurd_ports.proofs.SoundLaws.{sound-starting}
+use Rattle.hurd_ports.proofs.ports.Ports.starting_at.Goals as goal
+
+pub loop-ids-preserved : goal.loop-ids-preserved
+loop-ids-preserved c = record {
+  can = tt;
+  ends = tt;
+  all = grind (arith, common_steps);
+  seats =
+      let empty = ap (λ (ps : List Port). let x : Task = record { ids = c.in-Some.ids; ports = ps; next = c.args.next; made = 0 } in x) c.new.ensures.items in
+      rw (c.push_reserved.ensures.items) (seat-pushed c.loop-ids.seats.items _ c.loop-ids.yielded c.in-Some.ids c.args.next c.loop-ids.invariant.seats empty);
+  room = omega (arith, c.in-Some.ensures.steps.1);
+}
+
+-- what the seats and no opens stand for
+begun : (c : goal.After-new-2) → state_of c.new-2.result.items c.loop-ids.seats.items ≡ starting_at c.args.tasks.items c.args.next
+begun c =
+    let end : into_iter_items c.loop-ids.ids-iterator ≡ [] = nil_from_length _ (omega (arith, c.in-None.ensures.steps.0, c.loop-ids.ids-iterator.rest.ok.0)) in
+    started c.new-2.result.items c.loop-ids.seats.items c.args.tasks.items c.loop-ids.yielded _ c.args.next c.new-2.ensures.items c.loop-ids.invariant.seats c.loop-ids.invariant.all end
+
+pub returns : goal.returns
+returns c = ap (λ (h : PortState). let p : Tables = record { state = h; ready = None } in p) (begun c)
+
+pub invariant_of-result : goal.invariant_of-result
+invariant_of-result c = record { sound = rw (begun c) (sound-starting c.args.tasks.items c.args.next); spare = tt }

@@ -1,0 +1,245 @@
+//! The tables of all tasks, and the opens.
+ghost use Rattle.std.specs.Prelude.{◌≡◌, ◌<◌, length, slice_get, IfOk, IsSomeAnd};
+ghost use Rattle.std.specs.Option.{option_map};
+ghost use Rattle.std.specs.FinMap as fin;
+ghost use Rattle.hurd_creds.specs.Memory.{Meets, Steps};
+ghost use Rattle.hurd_creds.specs.declared.errno.Errno.{Errno};
+ghost use Rattle.hurd_ports.specs.Tables.{IsSettled, fresh, ids_at, is_held, lent, or_refuse, right_of, room_of};
+ghost use Rattle.hurd_ports.specs.Steps as step;
+ghost use Rattle.hurd_ports.specs.Seats.{opens_of, settled_at, tasks_of};
+
+use crate::opens::{self, OpenSeat};
+use crate::table::{Opened, Right, TaskSeat};
+use hurd_creds::{Errno, Ids, Name, NodeName, OpenFlags, OpenName, TaskId};
+use std::alloc::{AllocError, Global};
+use std::marker::Model;
+
+/// The ports of all tasks, and what is open (GNU Hurd Reference Manual, Ports).
+#[derive(Drop)]
+pub struct Ports {
+    opens: Vec<OpenSeat>,
+    tasks: Vec<TaskSeat>,
+    /// The task for whose next port and open there is room in memory.
+    ready: Option<TaskId>,
+}
+
+impl Model for Ports {
+    ghost use Rattle.hurd_ports.specs.Tables.{Tables, coded_tables};
+
+    ghost Value = { Tables };
+
+    ghost coded = { coded_tables };
+
+    ghost use Rattle.hurd_ports.specs.Seats.{tables_of, IsKept};
+
+    ghost view = { λ p. tables_of p.opens.items p.tasks.items p.ready };
+
+    ghost invariant = { λ p. IsKept p.opens p.tasks p.ready };
+}
+
+/// Whether some right names the open.
+fn is_held(tasks: &[TaskSeat], name: OpenName) -> bool
+    ensures { result ≡ is_held (tasks_of tasks.now) name }
+{
+    tasks.iter().any(|seat| seat.holds(name))
+}
+
+/// Takes out the open of this name, if no right names it.
+fn settle(opens: &mut Vec<OpenSeat>, tasks: &[TaskSeat], name: OpenName)
+    ensures { opens_of opens.new.items ≡ settled_at (tasks_of tasks.now) name (opens_of opens.old.items) }
+{
+    if !is_held(tasks, name) {
+        opens::remove(opens, name);
+    }
+}
+
+impl Ports {
+    /// Empty tables for tasks with these ids, whose next number is `next`.
+    pub fn starting_at(alloc: Global, tasks: Vec<Ids>, next: u64) -> Result<Ports, AllocError>
+        ensures { IfOk result (λ p. p ≡ record { state = step.starting_at tasks.items next; ready = None }) }
+    {
+        let mut seats = Vec::with_capacity(alloc, tasks.len())?;
+        for ids in tasks {
+            seats.push_reserved(TaskSeat {
+                ids,
+                ports: Vec::new(alloc),
+                next,
+                made: 0,
+            });
+        }
+        Ok(Ports {
+            opens: Vec::new(alloc),
+            tasks: seats,
+            ready: None,
+        })
+    }
+
+    /// How many tasks there are.
+    pub fn task_count(&self) -> usize
+        ensures { result ≡ length self.now.state.tasks }
+    {
+        self.tasks.len()
+    }
+
+    /// The ids of a task. `ESRCH`: no such task.
+    pub fn ids(&self, task: TaskId) -> Result<&Ids, Errno>
+        ensures { lent result ≡ ids_at (slice_get self.now.state.tasks task.0) }
+    {
+        match self.tasks.get(task.0 as usize) {
+            Some(seat) => Ok(&seat.ids),
+            None => Err(Errno::ESRCH),
+        }
+    }
+
+    /// The right of a task under a number.
+    ///
+    /// Errors, in order: `ESRCH` no such task, `EBADF` no such port.
+    pub fn right(&self, task: TaskId, port: u64) -> Result<&Right, Errno>
+        ensures { lent result ≡ right_of self.now.state task.0 port }
+    {
+        let Some(seat) = self.tasks.get(task.0 as usize) else {
+            return Err(Errno::ESRCH);
+        };
+        match seat.find(port) {
+            Some(right) => Ok(right),
+            None => Err(Errno::EBADF),
+        }
+    }
+
+    /// What an open is, if it is there.
+    pub fn opened(&self, name: OpenName) -> Option<Opened>
+        ensures { result ≡ fin.get self.now.state.opens name }
+    {
+        match opens::place(&self.opens, name) {
+            Some(i) => Some(self.opens[i].opened),
+            None => None,
+        }
+    }
+
+    /// Whether a task can have one more port, and name so many more things.
+    ///
+    /// Errors, in order: `ESRCH` no such task, `EOVERFLOW`.
+    pub fn room(&self, task: TaskId, names: u64) -> Result<(), Errno>
+        ensures room { result ≡ room_of self.now.state task.0 names }
+        ensures settled { IsSettled self.now.state }
+    {
+        let Some(seat) = self.tasks.get(task.0 as usize) else {
+            return Err(Errno::ESRCH);
+        };
+        if seat.has_room(names) {
+            Ok(())
+        } else {
+            Err(Errno::EOVERFLOW)
+        }
+    }
+
+    /// The next name of a task, if the task is there.
+    pub fn next_name(&self, task: TaskId) -> Option<Name>
+        ensures { result ≡ option_map (fresh task.0) (slice_get self.now.state.tasks task.0) }
+    {
+        match self.tasks.get(task.0 as usize) {
+            Some(seat) => Some(seat.next_name(task)),
+            None => None,
+        }
+    }
+
+    /// Takes the next name of a task, which it has then given. Takes no memory, and keeps what is reserved.
+    pub fn take_name(&mut self, task: TaskId) -> Name
+        requires { IsSomeAnd (slice_get self.old.state.tasks task.0) (λ x. x.made < u64.MAX) }
+        ensures name { Some result ≡ option_map (fresh task.0) (slice_get self.old.state.tasks task.0) }
+        ensures named { self.new.state ≡ step.name_step task.0 self.old.state }
+        ensures ready { self.new.ready ≡ self.old.ready }
+    {
+        self.tasks[task.0 as usize].take_name(task)
+    }
+
+    /// Takes the memory for the task's next port and its open. It lasts until any port is filled or given up, or memory
+    /// is reserved anew.
+    ///
+    /// Errors, in order: `ESRCH` no such task, `ENOMEM`.
+    pub fn reserve(&mut self, task: TaskId) -> Result<(), Errno>
+        ensures answer { Meets (or_refuse Errno.ESRCH (option_map (λ _. tt) (slice_get self.old.state.tasks task.0))) result }
+        ensures ready { IfOk result (λ _. self.new.ready ≡ Some task.0) }
+        ensures kept { self.new.state ≡ self.old.state }
+    {
+        if task.0 as usize >= self.tasks.len() {
+            return Err(Errno::ESRCH);
+        }
+        self.ready = None;
+        let Ok(()) = self.opens.reserve(1) else {
+            return Err(Errno::ENOMEM);
+        };
+        let Ok(()) = self.tasks[task.0 as usize].ports.reserve(1) else {
+            return Err(Errno::ENOMEM);
+        };
+        self.ready = Some(task);
+        Ok(())
+    }
+
+    /// A port of the task on the node, with an open of its own, in the memory that was reserved; answers its number,
+    /// the task's next. Takes no memory.
+    pub fn fill(&mut self, task: TaskId, node: NodeName, ids: Ids, modes: OpenFlags) -> u64
+        requires ready { self.old.ready ≡ Some task.0 }
+        requires room { room_of self.old.state task.0 1 ≡ Ok tt }
+        ensures answer { step.insert_step task.0 node ids modes self.old.state ≡ (Ok result, self.new.state) }
+        ensures new { right_of self.old.state task.0 result ≡ Err Errno.EBADF }
+        ensures settled { IsSettled self.new.state }
+    {
+        let seat = &mut self.tasks[task.0 as usize];
+        let name = seat.take_name(task);
+        let number = seat.add(Right {
+            node,
+            ids,
+            open_name: name,
+        });
+        self.opens.push_reserved(OpenSeat {
+            name,
+            opened: Opened { cursor: 0, modes },
+        });
+        self.ready = None;
+        number
+    }
+
+    /// A port of the task on the node, with an open of its own; answers its number, the task's next.
+    ///
+    /// Errors, in order: `ESRCH` no such task, `EOVERFLOW`, `ENOMEM`. A refused call changes no port.
+    pub fn insert(
+        &mut self,
+        task: TaskId,
+        node: NodeName,
+        ids: Ids,
+        modes: OpenFlags,
+    ) -> Result<u64, Errno>
+        ensures answer { Steps self.old.state (step.insert_step task.0 node ids modes self.old.state) result self.new.state }
+        ensures new { IfOk result (λ number. right_of self.old.state task.0 number ≡ Err Errno.EBADF) }
+        ensures settled { IsSettled self.new.state }
+    {
+        self.room(task, 1)?;
+        self.reserve(task)?;
+        Ok(self.fill(task, node, ids, modes))
+    }
+
+    /// Gives up a port; its open goes where no other right names it. Takes no memory.
+    ///
+    /// Errors, in order: `ESRCH` no such task, `EBADF` no such port.
+    pub fn deallocate(&mut self, task: TaskId, port: u64) -> Result<(), Errno>
+        ensures answer { (result, self.new.state) ≡ step.deallocate_step task.0 port self.old.state }
+        ensures settled { IsSettled self.new.state }
+    {
+        let open_name = self.right(task, port)?.open_name;
+        self.ready = None;
+        self.tasks[task.0 as usize].remove(port);
+        settle(&mut self.opens, &self.tasks, open_name);
+        Ok(())
+    }
+
+    /// Moves the cursor of an open; where it isn't there, nothing changes. Takes no memory.
+    pub fn move_cursor(&mut self, name: OpenName, cursor: u64)
+        ensures moved { self.new.state ≡ step.move_cursor_step name cursor self.old.state }
+        ensures settled { IsSettled self.new.state }
+    {
+        if let Some(i) = opens::place(&self.opens, name) {
+            self.opens[i].opened.cursor = cursor;
+        }
+    }
+}
