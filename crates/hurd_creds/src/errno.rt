@@ -2,6 +2,8 @@
 ghost use Rattle.std.specs.Prelude.{◌≡◌};
 ghost use Rattle.hurd_creds.specs.Errors.{number_of, name_of};
 
+use std::alloc::AllocError;
+
 /// Why a call was refused. The numbers are this project's own.
 #[derive(Clone, Copy, Debug, PartialEq, Eq)]
 pub enum Errno {
@@ -94,5 +96,16 @@ impl Errno {
             Errno::ESRCH => "ESRCH",
             Errno::EOVERFLOW => "EOVERFLOW",
         }
+    }
+}
+
+/// Want of memory is `ENOMEM`.
+impl From<AllocError> for Errno {
+    ghost use Rattle.hurd_creds.specs.declared.errno.Errno.TheVariants.{ENOMEM};
+
+    ghost from_gives = { λ _ errno. errno ≡ ENOMEM };
+
+    fn from(_: AllocError) -> Errno {
+        Errno::ENOMEM
     }
 }

@@ -53,10 +53,7 @@ impl Ids {
         let Some(gids) = each_once(alloc, gids) else {
             return Err(Errno::EINVAL);
         };
-        match Ids::holding(alloc, uids.as_slice(), gids.as_slice()) {
-            Ok(ids) => Ok(ids),
-            Err(_) => Err(Errno::ENOMEM),
-        }
+        Ok(Ids::holding(alloc, uids.as_slice(), gids.as_slice())?)
     }
 
     /// A copy.

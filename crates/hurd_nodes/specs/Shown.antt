@@ -1,5 +1,5 @@
 -- What the core shows of its servers: flat maps of nodes and servers.
-use Rattle.std.specs.Prelude.{ℕ, Bool, true, false, List, [], ◌∷◌, Option, Some, None, Result, Ok, Err, refl}
+use Rattle.std.specs.Prelude.{ℕ, Bool, false, List, [], ◌∷◌, Option, Some, None, Result, Ok, Err, refl}
 use Rattle.std.specs.FinMap as fin
 use Rattle.std.specs.FinSet as set
 use Rattle.std.specs.Coded.{Coded, code_by}
@@ -13,7 +13,6 @@ use Rattle.hurd_creds.specs.Access.{IdSets}
 use Rattle.hurd_creds.specs.Names.{name_of, same_name}
 use Rattle.hurd_creds.specs.NameMaps.{NameMap, map_values}
 use Rattle.hurd_trans_iface.specs.declared.new_node.NewNode.{NewNode}
-use Rattle.hurd_trans_iface.specs.declared.root.Root.{Root}
 use Rattle.hurd_trans_iface.specs.Nodes.{NodeMap, Node, Header, Edit, edit_all}
 use Rattle.hurd_trans_iface.specs.Answers.{is_tree, make_of, make_edits}
 use Rattle.hurd_trans_iface.specs.Behaviour.{Question, Effect, effect_on, told_of, edits_of}

@@ -1,1 +1,5 @@
 pub mod Beginnings
+pub mod Lengths
+pub mod Goodness
+pub mod TmpfsGood
+pub mod Goods

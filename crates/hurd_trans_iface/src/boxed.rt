@@ -29,7 +29,13 @@ impl Server for Box<dyn Server> {
         (**self).names(alloc, dir)
     }
 
-    fn read(&mut self, alloc: Global, node: NodeName, at: u64, amount: u64) -> Result<Bytes, Errno> {
+    fn read(
+        &mut self,
+        alloc: Global,
+        node: NodeName,
+        at: u64,
+        amount: u64,
+    ) -> Result<Bytes, Errno> {
         (**self).read(alloc, node, at, amount)
     }
 

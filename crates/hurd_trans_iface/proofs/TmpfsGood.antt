@@ -1,0 +1,60 @@
+-- A tree in memory is good.
+use Rattle.std.proofs.Common.{◌≡◌, ℕ, ◌+◌, Bool, true, false, List, [], ◌∷◌, length, nat_lt, if◌then◌else◌, refl, sym, ap, ◌∙◌, true≢false}
+use Rattle.std.specs.Prelude.{Some, None}
+use Rattle.hurd_creds.specs.declared.name.Name.{Name}
+use Rattle.hurd_trans_iface.specs.Nodes.{Header, Body, Content, Listing, is_dir, bytes_put, bytes_resized, with_entry}
+use Rattle.hurd_trans_iface.specs.Behaviour.{Did}
+use Rattle.hurd_trans_iface.specs.Good.{GoodBehaviour}
+use Rattle.hurd_trans_iface.specs.TmpfsKind.{tmpfs, most_bytes, read_bytes, put_into, write_file, cut_file}
+use Rattle.hurd_trans_iface.proofs.Lengths.{put_grows, put_stays, length-resized}
+use Rattle.hurd_trans_iface.proofs.Goodness.{KeepsSize, IsFine, fine_done, fine_refused, fine_if}
+
+module _ (text : List ℕ) where
+  abbrev Keeps : {T : Type 0} → Header → Body → Did T → Type 0
+  Keeps h b d = KeepsSize tmpfs text (record { header = h; body = b }) d
+
+  reads_well : (at amount : ℕ) (h : Header) (b : Body) → IsFine (Keeps h b) (read_bytes at amount b)
+  reads_well at amount h (Content bs) = λ shaped sized. sized
+  reads_well at amount h (Listing es) = refl
+
+  put_well : (h : Header) (b : Body) (at : ℕ) (bs : List ℕ) → is_dir h.kind ≡ false → Keeps h b (put_into h.size at bs)
+  put_well h b at [] file = λ shaped sized. sized
+  put_well h (Listing es) at (c ∷ cs) file = λ shaped sized. absurd (true≢false (sym (ap is_dir shaped) ∙ file))
+  put_well h (Content old) at (c ∷ cs) file = λ shaped sized. go (nat_lt h.size (at + length (c ∷ cs))) refl shaped sized
+    where
+      go : (grows : Bool) → nat_lt h.size (at + length (c ∷ cs)) ≡ grows
+          → Keeps h (Content old) (record { told = length (c ∷ cs); bytes = Some (bytes_put at (c ∷ cs)); size = if grows then Some (at + length (c ∷ cs)) else None })
+      go true e = λ shaped sized. sym (put_grows at c cs old (rw sized at e))
+      go false e = λ shaped sized. sized ∙ sym (put_stays at c cs old (rw sized at e))
+
+  writes_well : (h : Header) (b : Body) (at : ℕ) (bs : List ℕ) → IsFine (Keeps h b) (write_file h at bs)
+  writes_well h b at bs =
+      fine_if (Keeps h b) (is_dir h.kind) _ _ (λ dir. refl) (λ file.
+      fine_if (Keeps h b) (nat_lt most_bytes (at + length bs)) _ _ (λ long. refl) (λ short. put_well h b at bs file))
+
+  cut_well : (h : Header) (b : Body) (size : ℕ) → is_dir h.kind ≡ false → Keeps {T = Unit {0}} h b (record { told = tt; bytes = Some (bytes_resized size); size = Some size })
+  cut_well h (Content old) size file = λ shaped sized. sym (length-resized size old)
+  cut_well h (Listing es) size file = λ shaped sized. absurd (true≢false (sym (ap is_dir shaped) ∙ file))
+
+  resizes_well : (h : Header) (b : Body) (size : ℕ) → IsFine (Keeps h b) (cut_file h size)
+  resizes_well h b size =
+      fine_if (Keeps h b) (nat_lt most_bytes size) _ _ (λ long. refl) (λ short.
+      fine_if (Keeps h b) (is_dir h.kind) _ _ (λ dir. refl) (λ file. cut_well h b size file))
+
+entry_sizes : (text name : List ℕ) (n : Name) (c : Body) → tmpfs.size text (with_entry name n c) ≡ tmpfs.size text c
+entry_sizes text name n (Content bs) = refl
+entry_sizes text name n (Listing es) = refl
+
+pub tmpfs_good : GoodBehaviour tmpfs
+tmpfs_good = record {
+  read_sizes = λ at amount text x d shaped sized is. fine_done (Keeps text x.header x.body) _ d (reads_well text at amount x.header x.body) is shaped sized;
+  write_sizes = λ at bs text x d shaped sized is. fine_done (Keeps text x.header x.body) _ d (writes_well text x.header x.body at bs) is shaped sized;
+  set_size_sizes = λ size text x d shaped sized is. fine_done (Keeps text x.header x.body) _ d (resizes_well text x.header x.body size) is shaped sized;
+  entered = entry_sizes;
+  newborn = λ is text. refl;
+  write_blind = λ at bs text h c e. refl;
+  set_size_blind = λ size text h c e. refl;
+  read_plain = λ at amount text x e. fine_refused (Keeps text x.header x.body) _ e (reads_well text at amount x.header x.body);
+  write_plain = λ at bs text x e. fine_refused (Keeps text x.header x.body) _ e (writes_well text x.header x.body at bs);
+  set_size_plain = λ size text x e. fine_refused (Keeps text x.header x.body) _ e (resizes_well text x.header x.body size);
+}
