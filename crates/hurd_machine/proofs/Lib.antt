@@ -5,6 +5,14 @@ pub mod Coherence
 pub mod Rights
 pub mod Settle
 pub mod Frame
+pub mod Views
+pub mod Asks
+pub mod Confine
+pub mod Allowed
+pub mod Mirror
+pub mod Several
+pub mod Permits
+pub mod CallLaws
 pub mod Sizes
 pub mod Opens
 pub mod Edits

@@ -121,7 +121,7 @@ count_append T (r ∷ rs) ss = omega (arith, count_append T rs ss)
 
 -- two tests that say the same of each right count alike
 
-list_alike : {X : Type 0} (T U : X → Bool) (xs : List X) → ((x : X) → IsAmong x xs → T x ≡ U x) → count_list T xs ≡ count_list U xs
+pub list_alike : {X : Type 0} (T U : X → Bool) (xs : List X) → ((x : X) → IsAmong x xs → T x ≡ U x) → count_list T xs ≡ count_list U xs
 list_alike T U [] h = refl
 list_alike T U (x ∷ xs) h = rw (h x (inl refl), list_alike T U xs (λ y i. h y (inr i))) refl
 

@@ -1,0 +1,258 @@
+-- The changes that a task of S may make: each keeps a world inside what S saw.
+use Rattle.std.proofs.Common.{◌≡◌, ◌≢◌, ◌⊎◌, ℕ, ◌<◌, ◌≤◌, Bool, true, List, [], Option, Some, None, sym, refl, ◌∙◌, ap, subst, inl, inr, arith}
+use Rattle.std.specs.Option.{option_map}
+use Rattle.std.specs.FinMap.{get, insert}
+use Rattle.hurd_creds.specs.declared.name.Name.{Name}
+use Rattle.hurd_creds.specs.Bits.{asks, READ}
+use Rattle.hurd_creds.specs.NameMaps.{edit}
+use Rattle.hurd_creds.proofs.NameLaws.{same_or_apart, get_here, get_apart, edit_here, edit_apart}
+use Rattle.hurd_trans_iface.specs.Nodes.{Header, Body, Content, Listing, with_header, with_body}
+use Rattle.hurd_trans_iface.specs.Answers.{entry_in, entry_of}
+use Rattle.hurd_ports.specs.declared.table.Opened.{Opened}
+use Rattle.hurd_ports.specs.declared.table.Right.{Right}
+use Rattle.hurd_ports.specs.Tables.{Task, rights_of}
+use Rattle.hurd_ports.specs.Steps.{named, edit_task}
+use Rattle.hurd_machine.specs.World.{World, IsAmong, task_at, open_at, header_at, body_at, home_at}
+use Rattle.hurd_machine.specs.Sight.{Holds, HasUid, Taken, SeesBody, OptionsOf, Sees}
+use Rattle.hurd_machine.specs.Change.{Change, EditHeader, EditBody, MakeNode, EditOpen, MakeOpen, EditTask, Settle, apply}
+use Rattle.hurd_machine.specs.Sound.{Coherent}
+use Rattle.hurd_machine.proofs.Nodes.{header_in, body_in, header-with_header, header-with_body, body-with_header, body-with_body, edit_reads, edit_keeps, edited_from, ByEmptiness}
+use Rattle.hurd_machine.proofs.Tasks.{edit_cases}
+use Rattle.hurd_machine.proofs.Coherence.{HasNoEntries, IsNext, next_apart, was, Proper}
+use Rattle.hurd_machine.proofs.Frame.{IsExact}
+use Rattle.hurd_machine.proofs.Confine.{NewTo, SeenOrNew, Less, Less-refl, Less-trans, RightInside, TakesLess, Inside}
+
+-- a right that a task of S may get, but for its ids: where its open is to read, S sees the body
+pub record RightMay (S : ℕ → Bool) (v x : World) (r : Right) : Type 0 where
+  pub inside : RightInside S v r
+  pub reads : (o : Opened) → open_at x r.open_name ≡ Some o → asks o.modes READ ≡ true → (h : Header) → header_at v r.node ≡ Some h → SeesBody S v r.node h
+
+-- the rights of a task z of S in place of a
+abbrev pub OwnMay : (ℕ → Bool) → World → World → Task → Task → Type 0
+OwnMay S v x a z = (r : Right) → IsAmong r (rights_of z) → IsAmong r (rights_of a) ⊎ RightMay S v x r
+
+-- the ids of it, and of its rights
+pub record OwnTaken (S : ℕ → Bool) (v : World) (a z : Task) : Type 0 where
+  pub ids : (z.ids ≡ a.ids) ⊎ Taken S v z.ids
+  pub rights : (r : Right) → IsAmong r (rights_of z) → IsAmong r (rights_of a) ⊎ Taken S v r.ids
+
+-- what S saw, its ids among it, is of the world v before the call; what stands is of the world x, in which the change is made
+abbrev pub May : (ℕ → Bool) → World → World → Change → Type 0
+May S v x (EditHeader n f) = (h : Header) → Less S v (f h) h
+May S v x (EditBody n g) =
+    ByEmptiness g × ((b : Body) (name : List ℕ) (m : Name) → body_at x n ≡ Some b → entry_of name (Some (g b)) ≡ Some m → (entry_of name (Some b) ≡ Some m) ⊎ SeenOrNew S v m)
+May S v x (MakeNode n s node) = (S n.task.0 ≡ true) × Sees S v (OptionsOf s) × ((p : Name) → node.header.parent ≡ Some p → SeenOrNew S v p)
+May S v x (EditOpen o f) = (z : Opened) → asks (f z).modes READ ≡ true → asks z.modes READ ≡ true
+May S v x (MakeOpen o z) = S o.task.0 ≡ true
+May S v x (EditTask q f) = (S q ≡ true) × ((a : Task) → task_at x q ≡ Some a → OwnMay S v x a (f a) × (HasUid S v 0 ⊎ OwnTaken S v a (f a)))
+May S v x Settle = Unit {0}
+
+module _ (S : ℕ → Bool) (v x : World) (coherent : Coherent x) (i : Inside S v x) where
+  -- the next name of a task of S is new
+  next_new : (n : Name) → IsNext x n → S n.task.0 ≡ true → NewTo S v n
+  next_new n next ours = (
+    ours,
+    λ b.
+        let u = i.made n.task.0 next.seat next.is_task in
+        let low : n.count < u.0.made = b u.0 u.1 in
+        let more : u.0.made ≤ next.seat.made = u.2 in
+        let e = next.next in
+        absurd (omega arith),
+  )
+
+  -- each task of y was in x, and what it has more S may have
+  record Stepped (y : World) : Type 0 where
+    back : (q : ℕ) (z : Task) → task_at y q ≡ Some z → (u : Task) × (task_at x q ≡ Some u) × (u.made ≤ z.made) × (S q ≡ true → OwnMay S v x u z)
+    power : HasUid S v 0 ⊎ TakesLess S v y
+
+  at_tasks : (y : World) (ts : List Task) → y.tasks ≡ ts → (q : ℕ) (z : Task) → task_at y q ≡ Some z → task_at (record x { tasks = ts }) q ≡ Some z
+  at_tasks y ts e q z at = ap (λ (us : List Task). task_at (record x { tasks = us }) q) (sym e) ∙ at
+
+  stepped_same : (y : World) → y.tasks ≡ x.tasks → Stepped y
+  stepped_same y e = record {
+    back = λ q z at. (z, at_tasks y x.tasks e q z at, omega arith, λ ours r h. inl h);
+    power = elim i.power [
+      | inl all ↦ inl all
+      | inr less ↦ inr (record {
+        tasks = λ q z ours at. less.tasks q z ours (at_tasks y x.tasks e q z at);
+        rights = λ r h. less.rights r (record { task = h.task; ours = h.ours; seat = h.seat; is_task = at_tasks y x.tasks e h.task h.seat h.is_task; here = h.here });
+      })
+    ];
+  }
+
+  module _ (y : World) (q : ℕ) (f : Task → Task) (a : Task) (is : task_at x q ≡ Some a) (tasks : y.tasks ≡ edit_task q f x.tasks) where
+    cases : (p : ℕ) (z : Task) → task_at y p ≡ Some z → ((p ≡ q) × (z ≡ f a)) ⊎ (task_at x p ≡ Some z)
+    cases p z at = edit_cases q f x.tasks a is p z (at_tasks y (edit_task q f x.tasks) tasks p z at)
+
+    less_edit : OwnTaken S v a (f a) → TakesLess S v x → TakesLess S v y
+    less_edit own less = record {
+      tasks = λ p z ours at. elim (cases p z at) [
+        | inl k ↦
+            let mine : S q ≡ true = ap S (sym k.0) ∙ ours in
+            elim own.ids [
+              | inl e ↦ subst (Taken S v) (sym (ap (λ (t : Task). t.ids) k.1 ∙ e)) (less.tasks q a mine is)
+              | inr t ↦ subst (Taken S v) (ap (λ (t : Task). t.ids) (sym k.1)) t
+            ]
+        | inr old ↦ less.tasks p z ours old
+      ];
+      rights = λ r h. elim (cases h.task h.seat h.is_task) [
+        | inl k ↦
+            let mine : S q ≡ true = ap S (sym k.0) ∙ h.ours in
+            elim (own.rights r (subst (λ (t : Task). IsAmong r (rights_of t)) k.1 h.here)) [
+              | inl old ↦ less.rights r (record { task = q; ours = mine; seat = a; is_task = is; here = old })
+              | inr t ↦ t
+            ]
+        | inr old ↦ less.rights r (record { task = h.task; ours = h.ours; seat = h.seat; is_task = old; here = h.here })
+      ];
+    }
+
+    stepped_edit : a.made ≤ (f a).made → OwnMay S v x a (f a) → HasUid S v 0 ⊎ OwnTaken S v a (f a) → Stepped y
+    stepped_edit up own taken = record {
+      back = λ p z at. elim (cases p z at) [
+        | inl k ↦ (a, ap (task_at x) k.0 ∙ is, subst (λ (t : Task). a.made ≤ t.made) (sym k.1) up, λ ours. subst (OwnMay S v x a) (sym k.1) own)
+        | inr old ↦ (z, old, omega arith, λ ours r h. inl h)
+      ];
+      power = elim i.power [
+        | inl all ↦ inl all
+        | inr less ↦ elim taken [ inl all ↦ inl all | inr t ↦ inr (less_edit t less) ]
+      ];
+    }
+
+  -- a task that named things has the rights that it had
+  stepped_named : (y : World) (n : Name) → IsNext x n → y.tasks ≡ edit_task n.task.0 (named 1) x.tasks → Stepped y
+  stepped_named y n next e =
+      stepped_edit y n.task.0 (named 1) next.seat next.is_task e (omega arith) (λ r h. inl h) (inr (record { ids = inl refl; rights = λ r h. inl h }))
+
+  stepped : (c : Change) → IsExact c → Proper x c → May S v x c → Stepped (apply c x)
+  stepped (MakeNode n s node) ex p m = stepped_named (apply (MakeNode n s node) x) n p.0 refl
+  stepped (MakeOpen o z) ex p m = stepped_named (apply (MakeOpen o z) x) o p refl
+  stepped (EditTask q f) ex p m = let o = m.1 p.1 p.2 in stepped_edit (apply (EditTask q f) x) q f p.1 p.2 refl (p.0 p.1) o.0 o.1
+  stepped Settle ex p m = absurd ex
+  stepped c ex p m = stepped_same (apply c x) refl
+
+  -- a right that S holds afterwards it held, or it is one that it may get
+  holder : (y : World) → Stepped y → (r : Right) → Holds S y r → Holds S x r ⊎ RightMay S v x r
+  holder y st r h =
+      let b = st.back h.task h.seat h.is_task in
+      elim (b.3 h.ours r h.here) [
+        | inl old ↦ inl (record { task = h.task; ours = h.ours; seat = b.0; is_task = b.1; here = old })
+        | inr new ↦ inr new
+      ]
+
+  -- where things were named, it held it
+  named_holder : (y : World) (n : Name) → IsNext x n → y.tasks ≡ edit_task n.task.0 (named 1) x.tasks → (r : Right) → Holds S y r → Holds S x r
+  named_holder y n next e r h = elim (cases y n.task.0 (named 1) next.seat next.is_task e h.task h.seat h.is_task) [
+    | inl k ↦ record { task = h.task; ours = h.ours; seat = next.seat; is_task = ap (task_at x) k.0 ∙ next.is_task; here = subst (λ (t : Task). IsAmong r (rights_of t)) k.1 h.here }
+    | inr old ↦ record { task = h.task; ours = h.ours; seat = h.seat; is_task = old; here = h.here }
+  ]
+
+  -- a right that is held afterwards and open to read shows its body
+  reads_by : (y : World) → Stepped y → (r : Right) (o : Opened) → Holds S y r → (z : Opened) × (open_at x r.open_name ≡ Some z) × (asks o.modes READ ≡ true → asks z.modes READ ≡ true)
+      → asks o.modes READ ≡ true → (h : Header) → header_at v r.node ≡ Some h → SeesBody S v r.node h
+  reads_by y st r o held l modes = elim (holder y st r held) [
+    | inl old ↦ i.reads r l.0 old l.1 (l.2 modes)
+    | inr new ↦ new.reads l.0 l.1 (l.2 modes)
+  ]
+
+  open_before : (k : Name) (f : Opened → Opened) → ((z : Opened) → asks (f z).modes READ ≡ true → asks z.modes READ ≡ true) → (q : Name) (o : Opened) → get (edit k f x.opens) q ≡ Some o
+      → (z : Opened) × (open_at x q ≡ Some z) × (asks o.modes READ ≡ true → asks z.modes READ ≡ true)
+  open_before k f m q o e = elim (same_or_apart q k) [
+    | inl s ↦
+        let l = edited_from f (get x.opens k) o (sym (edit_here x.opens k f) ∙ rw s at e) in
+        (l.0, rw s l.1, λ modes. m l.0 (ap (λ (u : Opened). asks u.modes READ) l.2 ∙ modes))
+    | inr b ↦ (o, sym (edit_apart x.opens k f q b) ∙ e, λ modes. modes)
+  ]
+
+  abbrev Reads : World → Type 0
+  Reads y = (r : Right) (o : Opened) → Holds S y r → open_at y r.open_name ≡ Some o → asks o.modes READ ≡ true → (h : Header) → header_at v r.node ≡ Some h → SeesBody S v r.node h
+
+  reads_next : (c : Change) → IsExact c → Proper x c → May S v x c → Stepped (apply c x) → Reads (apply c x)
+  reads_next (EditOpen k f) ex p m st r o held e modes = reads_by (apply (EditOpen k f) x) st r o held (open_before k f m r.open_name o e) modes
+  reads_next (MakeOpen k z) ex p m st r o held e modes =
+      let old : Holds S x r = named_holder (apply (MakeOpen k z) x) k p refl r held in
+      let apart : r.open_name ≢ k = next_apart x k r.open_name p (coherent.given.rights old.task old.seat r old.is_task old.here).1 in
+      i.reads r o old (sym (get_apart x.opens k z r.open_name apart) ∙ e) modes
+  reads_next Settle ex p m st r o held e modes = absurd ex
+  reads_next c ex p m st r o held e modes = reads_by (apply c x) st r o held (o, e, λ k. k) modes
+
+  -- a header afterwards is one that stood there, with less, or a new node's
+  abbrev Headers : World → Type 0
+  Headers y = (n : Name) (h : Header) → header_at y n ≡ Some h → ((k : Header) × (header_at x n ≡ Some k) × Less S v h k) ⊎ (NewTo S v n × ((p : Name) → h.parent ≡ Some p → SeenOrNew S v p))
+
+  headers_next : (c : Change) → IsExact c → Proper x c → May S v x c → Headers (apply c x)
+  headers_next (EditHeader k f) ex p m n h e = elim (same_or_apart n k) [
+    | inl s ↦
+        let l = edited_from f (header_at x k) h (sym (edit_reads header_in (option_map f) (with_header f) (header-with_header f) x.nodes k) ∙ rw s at e) in
+        inl (l.0, rw s l.1, subst (λ (z : Header). Less S v z l.0) l.2 (m l.0))
+    | inr a ↦ inl (h, sym (ap header_in (edit_apart x.nodes k (with_header f) n a)) ∙ e, Less-refl S v h)
+  ]
+  headers_next (EditBody k g) ex p m n h e = inl (h, sym (edit_keeps header_in (with_body g) (header-with_body g) x.nodes k n) ∙ e, Less-refl S v h)
+  headers_next (MakeNode a s node) ex p m n h e = elim (same_or_apart n a) [
+    | inl k ↦
+        let here : header_in (get (insert x.nodes a node) n) ≡ Some node.header = rw k (ap header_in (get_here x.nodes a node)) in
+        let same : node.header ≡ h = cc in
+        inr (subst (NewTo S v) (sym k) (next_new a p.0 m.0), λ q eq. m.2 q (ap (λ (z : Header). z.parent) same ∙ eq))
+    | inr k ↦ inl (h, sym (ap header_in (get_apart x.nodes a node n k)) ∙ e, Less-refl S v h)
+  ]
+  headers_next Settle ex p m n h e = absurd ex
+  headers_next c ex p m n h e = inl (h, e, Less-refl S v h)
+
+  abbrev Entries : World → Type 0
+  Entries y = (d n : Name) (name : List ℕ) → entry_of name (body_at y d) ≡ Some n → (entry_of name (body_at x d) ≡ Some n) ⊎ SeenOrNew S v n
+
+  no_entry : (b : Body) → HasNoEntries b → (name : List ℕ) (m : Name) → entry_of name (Some b) ≡ Some m → ⊥
+  no_entry (Content bs) none name m e = cc
+  no_entry (Listing es) none name m e = let gone : entry_in name [] ≡ Some m = ap (entry_in name) (sym none) ∙ e in cc
+
+  entries_next : (c : Change) → IsExact c → Proper x c → May S v x c → Entries (apply c x)
+  entries_next (EditHeader k f) ex p m d n name e = inl (sym (ap (entry_of name) (edit_keeps body_in (with_header f) (body-with_header f) x.nodes k d)) ∙ e)
+  entries_next (EditBody k g) ex p m d n name e = elim (same_or_apart d k) [
+    | inl s ↦ edited (body_at x k) refl (sym (ap (entry_of name) (edit_reads body_in (option_map g) (with_body g) (body-with_body g) x.nodes k)) ∙ rw s at e) s
+    | inr a ↦ inl (sym (ap (entry_of name) (ap body_in (edit_apart x.nodes k (with_body g) d a))) ∙ e)
+  ]
+    where
+      edited : (o : Option Body) → body_at x k ≡ o → entry_of name (option_map g (body_at x k)) ≡ Some n → d ≡ k → (entry_of name (body_at x d) ≡ Some n) ⊎ SeenOrNew S v n
+      edited None eo h s = let none : entry_of name None ≡ Some n = rw eo at h in absurd (cc)
+      edited (Some b) eo h s =
+          let there : entry_of name (Some (g b)) ≡ Some n = rw eo at h in
+          elim (m.1 b name n eo there) [ inl l ↦ inl (rw (s, eo) l) | inr known ↦ inr known ]
+  entries_next (MakeNode a s node) ex p m d n name e = elim (same_or_apart d a) [
+    | inl k ↦ absurd (no_entry node.body p.1.empty name n (sym (ap (entry_of name) (ap body_in (get_here x.nodes a node))) ∙ rw k at e))
+    | inr k ↦ inl (sym (ap (entry_of name) (ap body_in (get_apart x.nodes a node d k))) ∙ e)
+  ]
+  entries_next Settle ex p m d n name e = absurd ex
+  entries_next c ex p m d n name e = inl e
+
+  homes_next : (c : Change) → IsExact c → Proper x c → May S v x c → (n s : Name) → home_at (apply c x) n ≡ Some s → (home_at x n ≡ Some s) ⊎ Sees S v (OptionsOf s)
+  homes_next (MakeNode a q node) ex p m n s e = elim (was x.homes a n q s e) [ inl k ↦ inr (subst (λ z. Sees S v (OptionsOf z)) k.1 m.1) | inr k ↦ inl k.1 ]
+  homes_next Settle ex p m n s e = absurd ex
+  homes_next c ex p m n s e = inl e
+
+  servers_next : (c : Change) → (apply c x).servers ≡ v.servers
+  servers_next Settle = i.servers
+  servers_next c = i.servers
+
+  pub inside_one : (c : Change) → IsExact c → Proper x c → May S v x c → Inside S v (apply c x)
+  inside_one c ex p m =
+      let st = stepped c ex p m in
+      record {
+        servers = servers_next c;
+        made = λ q z at.
+            let b = st.back q z at in
+            let u = i.made q b.0 b.1 in
+            let low : u.0.made ≤ b.0.made = u.2 in
+            let up : b.0.made ≤ z.made = b.2 in
+            (u.0, u.1, omega arith);
+        power = st.power;
+        held = λ r h. elim (holder (apply c x) st r h) [ inl old ↦ i.held r old | inr new ↦ new.inside ];
+        reads = reads_next c ex p m st;
+        headers = λ n h e. elim (headers_next c ex p m n h e) [
+          | inl l ↦ elim (i.headers n l.0 l.1) [
+            | inl k ↦ inl (k.0, k.1, Less-trans h l.0 k.0 l.2 k.2)
+            | inr new ↦ inr (new.0, λ q eq. new.1 q (sym l.2.parent ∙ eq))
+          ]
+          | inr new ↦ inr new
+        ];
+        entries = λ d n name e. elim (entries_next c ex p m d n name e) [ inl k ↦ i.entries d n name k | inr known ↦ inr known ];
+        homes = λ n s e. elim (homes_next c ex p m n s e) [ inl k ↦ i.homes n s k | inr known ↦ inr known ];
+      }

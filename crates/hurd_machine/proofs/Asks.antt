@@ -1,0 +1,282 @@
+-- What a call asks: the same in worlds that answer the same, what an answer shows, and that no answer is want of memory.
+use Rattle.std.proofs.Common.{List, ◌≡◌, ◌≢◌, ℕ, Bool, true, false, Option, Some, None, refl, sym, ◌∙◌, ap, ap₂, subst, true≢false}
+use Rattle.std.specs.Prelude.{if◌then◌else◌, not, is_some, Result, Ok, Err}
+use Rattle.std.specs.FinMap.{get}
+use Rattle.hurd_creds.specs.declared.name.Name.{Name}
+use Rattle.hurd_creds.specs.declared.errno.Errno.{Errno}
+use Rattle.hurd_creds.specs.declared.errno.Errno.TheVariants.{EBADF, EDIED, EEXIST, ENOMEM, ENOTDIR, EOPNOTSUPP, EROFS, ESRCH}
+use Rattle.hurd_creds.specs.declared.attrs.Kind.{Kind}
+use Rattle.hurd_creds.specs.Bits.{asks, READ}
+use Rattle.hurd_creds.specs.Memory.{is_no_memory}
+use Rattle.hurd_trans_iface.specs.Nodes.{Node, Header, Body, is_dir}
+use Rattle.hurd_trans_iface.specs.Answers.{entry_of, is_tree, is_made}
+use Rattle.hurd_trans_iface.specs.Meaning.{root_of}
+use Rattle.hurd_trans_iface.specs.Behaviour.{Question}
+use Rattle.hurd_trans_iface.specs.Kinds.{ServerKind, behaviour_of}
+use Rattle.hurd_trans_iface.specs.Good.{IsBlind, IsPlain as IsPlainAnswer}
+use Rattle.hurd_nodes.specs.Shown.{ServerInfo, info_in, asked_of, is_root_at, is_root_of, made_by}
+use Rattle.hurd_ports.specs.declared.table.Right.{Right}
+use Rattle.hurd_ports.specs.Tables.{Task, rights_of, or_refuse, right_in, right_at, right_of}
+use Rattle.hurd_machine.specs.declared.call.Reply.{Reply}
+use Rattle.hurd_machine.specs.declared.call.Reply.TheVariants.{Refused}
+use Rattle.hurd_machine.specs.World.{World, IsAmong, ports_of, task_at, open_at, header_at, home_at, info_at, is_server_root, asked_at, makes_at}
+use Rattle.hurd_machine.specs.Plan.{Plan, refuse, is_refused, on, given, first, answered}
+use Rattle.hurd_machine.specs.declared.handle.Handle.{Handle}
+use Rattle.hurd_machine.specs.Handle.{handle_asks}
+use Rattle.hurd_machine.specs.Sight.{Holds, Held, Seen, IsOpen, BodyOf, Sees}
+use Rattle.hurd_machine.proofs.Nodes.{header_in, body_in}
+use Rattle.hurd_machine.proofs.Rights.{right_among}
+use Rattle.hurd_machine.proofs.Views.{Agree, same_tasks, header_same, body_same, home_same, server_same, open_same}
+
+-- asked of two worlds, y of the second
+
+pub on_same : {A B : Type 0} (e : Errno) (x y : Option A) (j k : A → Result B Errno) → y ≡ x → ((a : A) → x ≡ Some a → k a ≡ j a) → on e y k ≡ on e x j
+unfolding on
+on_same e None y j k h s = rw h refl
+on_same e (Some a) y j k h s = rw h (s a refl)
+
+pub given_same : {B : Type 0} (e : Errno) (b c : Bool) (p q : Result B Errno) → c ≡ b → (b ≡ true → q ≡ p) → given e c q ≡ given e b p
+unfolding given
+given_same e true c p q h s = rw h (s refl)
+given_same e false c p q h s = rw h refl
+
+pub first_same : {A B : Type 0} (x y : Result A Errno) (j k : A → Result B Errno) → y ≡ x → ((a : A) → x ≡ Ok a → k a ≡ j a) → first y k ≡ first x j
+unfolding first
+first_same (Err e) y j k h s = rw h refl
+first_same (Ok a) y j k h s = rw h (s a refl)
+
+pub answered_same : {A : Type 0} (x y : Result A Errno) (j k : A → Plan) → y ≡ x → ((a : A) → x ≡ Ok a → k a ≡ j a) → answered y k ≡ answered x j
+unfolding answered
+answered_same (Err e) y j k h s = rw h refl
+answered_same (Ok a) y j k h s = rw h (s a refl)
+
+-- what it takes to be answered
+
+pub on_ok : {A B : Type 0} (e : Errno) (x : Option A) (k : A → Result B Errno) (b : B) → on e x k ≡ Ok b → (a : A) × (x ≡ Some a) × (k a ≡ Ok b)
+unfolding on
+on_ok e None k b h = absurd (cc)
+on_ok e (Some a) k b h = (a, refl, h)
+
+pub given_ok : {B : Type 0} (e : Errno) (c : Bool) (k : Result B Errno) (b : B) → given e c k ≡ Ok b → (c ≡ true) × (k ≡ Ok b)
+unfolding given
+given_ok e true k b h = (refl, h)
+given_ok e false k b h = absurd (cc)
+
+pub first_ok : {A B : Type 0} (x : Result A Errno) (k : A → Result B Errno) (b : B) → first x k ≡ Ok b → (a : A) × (x ≡ Ok a) × (k a ≡ Ok b)
+unfolding first
+first_ok (Err e) k b h = absurd (cc)
+first_ok (Ok a) k b h = (a, refl, h)
+
+-- what holds of refusals and of what follows from answers holds of the plan
+pub answered_all : {A : Type 0} (P : Plan → Type 0) → ((e : Errno) → P (refuse e)) → (x : Result A Errno) (k : A → Plan) → ((a : A) → x ≡ Ok a → P (k a)) → P (answered x k)
+unfolding answered
+answered_all P refused (Err e) k h = refused e
+answered_all P refused (Ok a) k h = h a refl
+
+-- a refusal, if it is one, is not for want of memory
+abbrev pub IsPlain : {A : Type 0} → Result A Errno → Type 0
+IsPlain r = (e : Errno) → r ≡ Err e → is_no_memory e ≡ false
+
+pub ok_plain : {A : Type 0} (a : A) → IsPlain (Ok a)
+ok_plain a e h = absurd (cc)
+
+pub err_plain : {A : Type 0} (e : Errno) → is_no_memory e ≡ false → IsPlain {A = A} (Err e)
+err_plain e out d h = let same : e ≡ d = cc in ap is_no_memory (sym same) ∙ out
+
+pub on_plain : {A B : Type 0} (e : Errno) (x : Option A) (k : A → Result B Errno) → is_no_memory e ≡ false → ((a : A) → x ≡ Some a → IsPlain (k a)) → IsPlain (on e x k)
+unfolding on
+on_plain e None k out h = err_plain e out
+on_plain e (Some a) k out h = h a refl
+
+pub given_plain : {B : Type 0} (e : Errno) (c : Bool) (k : Result B Errno) → is_no_memory e ≡ false → (c ≡ true → IsPlain k) → IsPlain (given e c k)
+unfolding given
+given_plain e true k out h = h refl
+given_plain e false k out h = err_plain e out
+
+pub first_plain : {A B : Type 0} (x : Result A Errno) (k : A → Result B Errno) → IsPlain x → ((a : A) → x ≡ Ok a → IsPlain (k a)) → IsPlain (first x k)
+unfolding first
+first_plain (Err e) k out h = err_plain e (out e refl)
+first_plain (Ok a) k out h = h a refl
+
+-- a reply that is no want of memory
+abbrev pub IsPlainReply : Reply → Type 0
+IsPlainReply r = r ≢ Refused ENOMEM
+
+pub refused_plain : (e : Errno) → is_no_memory e ≡ false → IsPlainReply (Refused e)
+refused_plain e out h = let same : e ≡ ENOMEM = cc in true≢false (ap is_no_memory (sym same) ∙ out)
+
+-- what is no refusal is none for want of memory
+pub done_plain : (r : Reply) → is_refused r ≡ false → IsPlainReply r
+done_plain r out h = true≢false (ap is_refused (sym h) ∙ out)
+
+pub answered_plain : {A : Type 0} (x : Result A Errno) (k : A → Plan) → IsPlain x → ((a : A) → x ≡ Ok a → IsPlainReply (k a).reply) → IsPlainReply (answered x k).reply
+unfolding answered
+answered_plain (Err e) k out h = refused_plain e (out e refl)
+answered_plain (Ok a) k out h = h a refl
+
+-- a right of the caller's
+
+module _ {S : ℕ → Bool} {v w : World} (a : Agree S v w) (t : ℕ) (ours : S t ≡ true) where
+  pub right_same : (q : ℕ) → right_of (ports_of w) t q ≡ right_of (ports_of v) t q
+  right_same q = ap (right_at q) (same_tasks a t ours)
+
+-- the task whose right it is, under that number
+pub record HasRight (w : World) (t q : ℕ) (r : Right) : Type 0 where
+  pub seat : Task
+  pub is_task : task_at w t ≡ Some seat
+  pub under : right_in q seat.ports ≡ Some r
+  pub here : IsAmong r (rights_of seat)
+
+was_there : (o : Option Right) (r : Right) → or_refuse EBADF o ≡ Ok r → o ≡ Some r
+was_there None r h = absurd (cc)
+was_there (Some k) r h = cc
+
+pub has_right : (w : World) (t q : ℕ) (r : Right) → right_of (ports_of w) t q ≡ Ok r → HasRight w t q r
+has_right w t q r h = go (task_at w t) refl h
+  where
+    go : (o : Option Task) → task_at w t ≡ o → right_at q o ≡ Ok r → HasRight w t q r
+    go None e k = absurd (cc)
+    go (Some x) e k =
+        let u : right_in q x.ports ≡ Some r = was_there (right_in q x.ports) r k in
+        record { seat = x; is_task = e; under = u; here = right_among q x.ports r u }
+
+pub holds_right : {S : ℕ → Bool} {v : World} (t : ℕ) → S t ≡ true → (q : ℕ) (r : Right) → right_of (ports_of v) t q ≡ Ok r → Holds S v r
+holds_right {S} {v} t ours q r is = let h = has_right v t q r is in record { task = t; ours = ours; seat = h.seat; is_task = h.is_task; here = h.here }
+
+pub right_plain : (w : World) (t q : ℕ) → IsPlain (right_of (ports_of w) t q)
+right_plain w t q = go (task_at w t)
+  where
+    under : (o : Option Right) → IsPlain (or_refuse EBADF o)
+    under None = err_plain EBADF refl
+    under (Some r) = ok_plain r
+
+    go : (o : Option Task) → IsPlain (right_at q o)
+    go None = err_plain ESRCH refl
+    go (Some x) = under (right_in q x.ports)
+
+-- what a port has open
+
+pub record Handled (w : World) (t q mode : ℕ) (a : Handle) : Type 0 where
+  pub right : Right
+  pub is_right : right_of (ports_of w) t q ≡ Ok right
+  pub node : a.node ≡ right.node
+  pub open_name : a.open_name ≡ right.open_name
+  pub opened : open_at w right.open_name ≡ Some a.opened
+  pub modes : asks a.opened.modes mode ≡ true
+  pub header : Header
+  pub is_header : header_at w right.node ≡ Some header
+  pub kind : a.kind ≡ header.kind
+  pub size : a.size ≡ header.size
+
+pub handled : (w : World) (t q mode : ℕ) (a : Handle) → handle_asks w t q mode ≡ Ok a → Handled w t q mode a
+handled w t q mode a h =
+    let r = first_ok _ _ a h in
+    let o = on_ok EBADF (open_at w r.0.open_name) _ a r.2 in
+    let m = given_ok EBADF (asks o.0.modes mode) _ a o.2 in
+    let x = on_ok EDIED (header_at w r.0.node) _ a m.1 in
+    let is : record { node = r.0.node; open_name = r.0.open_name; opened = o.0; kind = x.0.kind; size = x.0.size } ≡ a = cc in
+    subst (Handled w t q mode) is
+    (record { right = r.0; is_right = r.1; node = refl; open_name = refl; opened = o.1; modes = m.0; header = x.0; is_header = x.1; kind = refl; size = refl })
+
+module _ {S : ℕ → Bool} {v w : World} (a : Agree S v w) (t : ℕ) (ours : S t ≡ true) where
+  pub handle_same : (q mode : ℕ) → handle_asks w t q mode ≡ handle_asks v t q mode
+  handle_same q mode =
+      first_same _ _ _ _ (right_same a t ours q) (λ r is.
+      let held : Holds S v r = holds_right t ours q r is in
+      on_same _ _ _ _ _ (open_same a r held) (λ o eo. given_same _ _ _ _ _ refl (λ m.
+      on_same _ _ _ _ _ (header_same a r.node (Held r held refl)) (λ h eh. refl))))
+
+module _ {S : ℕ → Bool} {v : World} (t : ℕ) (ours : S t ≡ true) where
+  -- S sees a node that it has open
+  pub handle_seen : (q mode : ℕ) (a : Handle) → handle_asks v t q mode ≡ Ok a → Seen S v a.node
+  handle_seen q mode a is = let h = handled v t q mode a is in Held h.right (holds_right t ours q h.right h.is_right) h.node
+
+  -- and its body, where it has it open to read
+  pub handle_read : (q : ℕ) (a : Handle) → handle_asks v t q READ ≡ Ok a → Sees S v (BodyOf a.node)
+  handle_read q a is =
+      let h = handled v t q READ a is in
+      let held : Holds S v h.right = holds_right t ours q h.right h.is_right in
+      (Held h.right held h.node, h.header, ap (header_at v) h.node ∙ h.is_header, IsOpen h.right held h.node a.opened h.opened h.modes)
+
+pub handle_plain : (w : World) (t q mode : ℕ) → IsPlain (handle_asks w t q mode)
+handle_plain w t q mode =
+    first_plain _ _ (right_plain w t q) (λ r is. on_plain _ _ _ refl (λ o eo. given_plain _ _ _ refl (λ m. on_plain _ _ _ refl (λ h eh. ok_plain _))))
+
+-- what a server answers, and does
+
+-- a node of the same header and the same body
+same_node : (o p : Option Node) → header_in p ≡ header_in o → body_in p ≡ body_in o → p ≡ o
+same_node None None h b = refl
+same_node None (Some y) h b = absurd (cc)
+same_node (Some x) None h b = absurd (cc)
+same_node (Some x) (Some y) h b =
+    let header : y.header ≡ x.header = cc in
+    let body : y.body ≡ x.body = cc in
+    ap₂ (λ (h : Header) (b : Body). let z : Node = record { header = h; body = b } in Some z) header body
+
+-- what is blind to the body answers the same of nodes of the same header
+blind_same : {T : Type 0} (q : Question T) → ((k : ServerKind) → IsBlind (behaviour_of k) q) → (i : Option ServerInfo) (o p : Option Node) → header_in p ≡ header_in o → asked_of q i p ≡ asked_of q i o
+blind_same q blind None o p h = refl
+blind_same q blind (Some i) None None h = refl
+blind_same q blind (Some i) None (Some y) h = absurd (cc)
+blind_same q blind (Some i) (Some x) None h = absurd (cc)
+blind_same q blind (Some i) (Some x) (Some y) h =
+    let header : y.header ≡ x.header = cc in
+    ap (λ (k : Header). q (behaviour_of i.kind) i.text (record { header = k; body = y.body })) header ∙ blind i.kind i.text x.header x.body y.body
+
+module _ {S : ℕ → Bool} {v w : World} (a : Agree S v w) (n : Name) where
+  -- of a node that S sees it knows which kind of server it has, and with which text
+  pub info_same : Seen S v n → info_at w n ≡ info_at v n
+  info_same seen = go (home_at v n) refl (home_same a n seen)
+    where
+      go : (o : Option Name) → home_at v n ≡ o → home_at w n ≡ home_at v n → info_at w n ≡ info_at v n
+      go None e h = ap (info_in w.servers) (h ∙ e) ∙ ap (info_in v.servers) (sym e)
+      go (Some s) e h = ap (info_in w.servers) (h ∙ e) ∙ server_same a n s seen e ∙ ap (info_in v.servers) (sym e)
+
+  -- and whether it is a server's root
+  pub is_root_same : Seen S v n → is_server_root w n ≡ is_server_root v n
+  is_root_same seen = go (home_at v n) refl (home_same a n seen)
+    where
+      go : (o : Option Name) → home_at v n ≡ o → home_at w n ≡ home_at v n → is_server_root w n ≡ is_server_root v n
+      go None e h = ap (is_root_of w.servers n) (h ∙ e) ∙ ap (is_root_of v.servers n) (sym e)
+      go (Some s) e h = ap (is_root_of w.servers n) (h ∙ e) ∙ ap (is_root_at n) (server_same a n s seen e) ∙ ap (is_root_of v.servers n) (sym e)
+
+  seen_node : Sees S v (BodyOf n) → get w.nodes n ≡ get v.nodes n
+  seen_node s = same_node (get v.nodes n) (get w.nodes n) (header_same a n s.0) (body_same a n s)
+
+  -- what may be made in a directory whose entries S sees
+  pub makes_same : (name : List ℕ) (kind : Kind) → Sees S v (BodyOf n) → makes_at w n name kind ≡ makes_at v n name kind
+  makes_same name kind s = ap₂ (made_by name kind) (info_same s.0) (seen_node s)
+
+  -- whatever is asked of a node whose body S sees
+  pub asked_seen : {T : Type 0} (q : Question T) → Sees S v (BodyOf n) → asked_at q n w ≡ asked_at q n v
+  asked_seen q s = ap₂ (asked_of q) (info_same s.0) (seen_node s)
+
+  -- what is blind to the body, of any node that S sees
+  pub asked_same : {T : Type 0} (q : Question T) → ((k : ServerKind) → IsBlind (behaviour_of k) q) → Seen S v n → asked_at q n w ≡ asked_at q n v
+  asked_same q blind s =
+      ap (λ i. asked_of q i (get w.nodes n)) (info_same s) ∙ blind_same q blind (info_at v n) (get v.nodes n) (get w.nodes n) (header_same a n s)
+
+pub asked_plain : {T : Type 0} (q : Question T) → ((k : ServerKind) → IsPlainAnswer (behaviour_of k) q) → (n : Name) (w : World) → IsPlain (asked_at q n w)
+asked_plain q plain n w = go (info_at w n) (get w.nodes n)
+  where
+    go : (i : Option ServerInfo) (o : Option Node) → IsPlain (asked_of q i o)
+    go None o = err_plain EDIED refl
+    go (Some i) None = err_plain EDIED refl
+    go (Some i) (Some x) = plain i.kind i.text x
+
+if_plain : {A : Type 0} (b : Bool) (x y : Result A Errno) → IsPlain x → IsPlain y → IsPlain (if b then x else y)
+if_plain true x y px py = px
+if_plain false x y px py = py
+
+pub makes_plain : (w : World) (d : Name) (name : List ℕ) (kind : Kind) → IsPlain (makes_at w d name kind)
+makes_plain w d name kind = go (info_at w d) (get w.nodes d)
+  where
+    go : (i : Option ServerInfo) (o : Option Node) → IsPlain (made_by name kind i o)
+    go None o = err_plain EDIED refl
+    go (Some i) None = err_plain EDIED refl
+    go (Some i) (Some x) =
+        if_plain (not (is_dir x.header.kind)) _ _ (err_plain ENOTDIR refl)
+        (if_plain (not (is_tree (root_of i.kind))) _ _ (err_plain EROFS refl)
+        (if_plain (is_some (entry_of name (Some x.body))) _ _ (err_plain EEXIST refl)
+        (if_plain (is_made kind) _ _ (ok_plain tt) (err_plain EOPNOTSUPP refl))))

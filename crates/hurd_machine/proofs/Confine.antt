@@ -1,0 +1,197 @@
+-- What S sees in a world that stays inside what it saw: parts that it saw, and new things of its own tasks.
+use Rattle.std.proofs.Common.{◌≡◌, ◌⊎◌, ℕ, ◌≤◌, Bool, true, List, Some, sym, refl, ◌∙◌, ap, subst, inl, inr, arith}
+use Rattle.std.specs.FinMap.{get}
+use Rattle.hurd_creds.specs.declared.name.Name.{Name}
+use Rattle.hurd_creds.specs.declared.attrs.Kind.TheVariants.{Dir}
+use Rattle.hurd_creds.specs.declared.attrs.Want.{Want}
+use Rattle.hurd_creds.specs.declared.attrs.Want.TheVariants.{Read, Write, Exec}
+use Rattle.hurd_creds.specs.Bits.{asks, READ}
+use Rattle.hurd_trans_iface.specs.Nodes.{Header}
+use Rattle.hurd_trans_iface.specs.Answers.{entry_of}
+use Rattle.hurd_nodes.specs.Shown.{ServerInfo}
+use Rattle.hurd_ports.specs.declared.table.Opened.{Opened}
+use Rattle.hurd_ports.specs.declared.table.Right.{Right}
+use Rattle.hurd_ports.specs.Tables.{Task}
+use Rattle.hurd_machine.specs.World.{World, boot_root, task_at, open_at, header_at, body_at, home_at, server_at}
+use Rattle.hurd_machine.specs.Sight.{Holds, HasUid, UidOfTask, UidOfRight, HasGid, GidOfTask, GidOfRight, Taken, Could, Owns, Allowed, CouldServe}
+use Rattle.hurd_machine.specs.Sight.{Seen, Root, Held, Child, Parent, ServerRoot, SeesBody, ToRead, ToSearch, IsOpen, SeesEmpty, ByBody, ByParent}
+use Rattle.hurd_machine.specs.Sight.{Part, AttrOf, EmptyOf, BodyOf, OpenOf, OptionsOf, UsersOf, TaskOf, Sees}
+use Rattle.hurd_machine.specs.Sound.{Below, Coherent}
+use Rattle.hurd_machine.proofs.Coherence.{header_old, entry_old, home_old, entry_lists}
+
+-- what is seen has a name that was given
+pub seen_old : {S : ℕ → Bool} {w : World} → Coherent w → (n : Name) → Seen S w n → Below w n
+seen_old {S} {w} c n (Root e) = let root = c.tree.root in subst (Below w) (sym e) (header_old c boot_root root.0 root.1)
+seen_old {S} {w} c n (Held r h e) = subst (Below w) (sym e) (c.given.rights h.task h.seat r h.is_task h.here).0
+seen_old {S} {w} c n (Child d h name s eh k could en) = c.given.entries d n (entry_lists name (body_at w d) n en)
+seen_old c n (Parent d h s eh ep) = c.given.parents d n h eh ep
+seen_old {S} {w} c n (ServerRoot m s i sm em es could e) = subst (Below w) (sym e) (home_old c i.root s (c.housing.roots s i es))
+
+-- a name that a task of S had not given yet
+abbrev pub NewTo : (ℕ → Bool) → World → Name → Type 0
+NewTo S v n = (S n.task.0 ≡ true) × (Below v n → ⊥)
+
+-- the servers are those that there were
+abbrev pub NewPart : (ℕ → Bool) → World → Part → Type 0
+NewPart S v (AttrOf n) = NewTo S v n
+NewPart S v (EmptyOf n) = NewTo S v n
+NewPart S v (BodyOf n) = NewTo S v n
+NewPart S v (OpenOf o) = NewTo S v o
+NewPart S v p = ⊥
+
+-- a node that S saw, or a new one of its own; and a part likewise
+abbrev pub SeenOrNew : (ℕ → Bool) → World → Name → Type 0
+SeenOrNew S v n = Seen S v n ⊎ NewTo S v n
+
+abbrev pub Known : (ℕ → Bool) → World → Part → Type 0
+Known S v p = Sees S v p ⊎ NewPart S v p
+
+-- a header that opens nothing that another kept shut
+pub record Less (S : ℕ → Bool) (v : World) (h before : Header) : Type 0 where
+  pub kind : h.kind ≡ before.kind
+  pub parent : h.parent ≡ before.parent
+  pub could : (want : Want) → Could S v h want → Could S v before want
+
+pub Less-refl : (S : ℕ → Bool) (v : World) (h : Header) → Less S v h h
+Less-refl S v h = record { kind = refl; parent = refl; could = λ want c. c }
+
+pub Less-trans : {S : ℕ → Bool} {v : World} (h k l : Header) → Less S v h k → Less S v k l → Less S v h l
+Less-trans h k l a b = record { kind = a.kind ∙ b.kind; parent = a.parent ∙ b.parent; could = λ want c. b.could want (a.could want c) }
+
+-- a header of x at a node: one that stood there in v, with less; or a new node's, below a parent that S saw or made
+abbrev pub HeaderInside : (ℕ → Bool) → World → Name → Header → Type 0
+HeaderInside S v n h = ((before : Header) × (header_at v n ≡ Some before) × Less S v h before) ⊎ (NewTo S v n × ((p : Name) → h.parent ≡ Some p → SeenOrNew S v p))
+
+-- a right that S may hold, but for its ids: on a node that it saw or made, and an open that it had or made
+pub record RightInside (S : ℕ → Bool) (v : World) (r : Right) : Type 0 where
+  pub node : SeenOrNew S v r.node
+  pub opened : Known S v (OpenOf r.open_name)
+
+-- all ids that S holds in x it held in v
+pub record TakesLess (S : ℕ → Bool) (v x : World) : Type 0 where
+  pub tasks : (q : ℕ) (y : Task) → S q ≡ true → task_at x q ≡ Some y → Taken S v y.ids
+  pub rights : (r : Right) → Holds S x r → Taken S v r.ids
+
+-- the world x holds nothing for S beyond what S saw in v
+pub record Inside (S : ℕ → Bool) (v x : World) : Type 0 where
+  pub servers : x.servers ≡ v.servers
+  pub made : (q : ℕ) (y : Task) → task_at x q ≡ Some y → (z : Task) × (task_at v q ≡ Some z) × (z.made ≤ y.made)
+  -- S held uid 0, and so could do all, or has no more ids
+  pub power : HasUid S v 0 ⊎ TakesLess S v x
+  pub held : (r : Right) → Holds S x r → RightInside S v r
+  pub reads : (r : Right) (o : Opened) → Holds S x r → open_at x r.open_name ≡ Some o → asks o.modes READ ≡ true → (h : Header) → header_at v r.node ≡ Some h → SeesBody S v r.node h
+  pub headers : (n : Name) (h : Header) → header_at x n ≡ Some h → HeaderInside S v n h
+  pub entries : (d n : Name) (name : List ℕ) → entry_of name (body_at x d) ≡ Some n → (entry_of name (body_at v d) ≡ Some n) ⊎ SeenOrNew S v n
+  pub homes : (n s : Name) → home_at x n ≡ Some s → (home_at v n ≡ Some s) ⊎ Sees S v (OptionsOf s)
+
+pub Inside-refl : (S : ℕ → Bool) (v : World) → Inside S v v
+Inside-refl S v = record {
+  servers = refl;
+  made = λ q y e. (y, e, omega arith);
+  power = inr (record {
+    tasks = λ q y ours e. record { uids = λ u h. UidOfTask q ours y e h; gids = λ g h. GidOfTask q ours y e h };
+    rights = λ r h. record { uids = λ u k. UidOfRight r h k; gids = λ g k. GidOfRight r h k };
+  });
+  held = λ r h. record { node = inl (Held r h refl); opened = inl (r, h, refl) };
+  reads = λ r o h e modes k is. IsOpen r h refl o e modes;
+  headers = λ n h e. inl (h, e, Less-refl S v h);
+  entries = λ d n name e. inl e;
+  homes = λ n s e. inl e;
+}
+
+module _ {S : ℕ → Bool} {v x : World} (less : TakesLess S v x) where
+  uid_back : (u : ℕ) → HasUid S x u → HasUid S v u
+  uid_back u (UidOfTask t ours y is h) = (less.tasks t y ours is).uids u h
+  uid_back u (UidOfRight r h has) = (less.rights r h).uids u has
+
+  gid_back : (g : ℕ) → HasGid S x g → HasGid S v g
+  gid_back g (GidOfTask t ours y is h) = (less.tasks t y ours is).gids g h
+  gid_back g (GidOfRight r h has) = (less.rights r h).gids g has
+
+  could_less : (h : Header) (want : Want) → Could S x h want → Could S v h want
+  could_less h want (Owns u has is) = Owns u (uid_back u has) is
+  could_less h want (Allowed ids taken may) =
+      Allowed ids (record { uids = λ u k. uid_back u (taken.uids u k); gids = λ g k. gid_back g (taken.gids g k) }) may
+
+module _ {S : ℕ → Bool} {v x : World} (coherent : Coherent v) (i : Inside S v x) where
+  could_back : (h : Header) (want : Want) → Could S x h want → Could S v h want
+  could_back h want c = elim i.power [ inl all ↦ Owns 0 all (inr refl) | inr less ↦ could_less less h want c ]
+
+  serve_back : (info : ServerInfo) → CouldServe S x info → CouldServe S v info
+  serve_back info c = elim i.power [ inl all ↦ (0, all, inr refl) | inr less ↦ (c.0, uid_back less c.0 c.1, c.2) ]
+
+  -- the header that a node which S saw had
+  header_before : (n : Name) (h : Header) → header_at x n ≡ Some h → Seen S v n → (before : Header) × (header_at v n ≡ Some before) × Less S v h before
+  header_before n h e s = elim (i.headers n h e) [ inl l ↦ l | inr new ↦ absurd (new.0.1 (seen_old coherent n s)) ]
+
+  child_inside : (d n : Name) (h : Header) (name : List ℕ) → header_at x d ≡ Some h → h.kind ≡ Dir → Could S x h Exec → SeenOrNew S v d → (entry_of name (body_at v d) ≡ Some n) ⊎ SeenOrNew S v n → SeenOrNew S v n
+  child_inside d n h name eh k c ok (inr r) = r
+  child_inside d n h name eh k c (inl sd) (inl e) =
+      let l = header_before d h eh sd in
+      inl (Child d l.0 name sd l.1 (sym l.2.kind ∙ k) (l.2.could Exec (could_back h Exec c)) e)
+  child_inside d n h name eh k c (inr new) (inl e) = absurd (new.1 (entry_old coherent d n (entry_lists name (body_at v d) n e)))
+
+  parent_inside : (d n : Name) (h : Header) → header_at x d ≡ Some h → h.parent ≡ Some n → SeenOrNew S v d → HeaderInside S v d h → SeenOrNew S v n
+  parent_inside d n h eh ep ok (inr new) = new.1 n ep
+  parent_inside d n h eh ep (inl sd) (inl l) = inl (Parent d l.0 sd l.1 (sym l.2.parent ∙ ep))
+  parent_inside d n h eh ep (inr new) (inl l) = absurd (new.1 (header_old coherent d l.0 l.1))
+
+  server_inside : (n s : Name) → SeenOrNew S v n → (home_at v n ≡ Some s) ⊎ Sees S v (OptionsOf s) → Sees S v (OptionsOf s)
+  server_inside n s ok (inr sees) = sees
+  server_inside n s (inl sn) (inl e) = (n, sn, e)
+  server_inside n s (inr new) (inl e) = absurd (new.1 (home_old coherent n s e))
+
+  server_back : (s : Name) (info : ServerInfo) → server_at x s ≡ Some info → server_at v s ≡ Some info
+  server_back s info e = sym (ap (λ m. get m s) i.servers) ∙ e
+
+  -- what is seen was seen, or is new
+  pub seen_inside : (n : Name) → Seen S x n → SeenOrNew S v n
+  seen_inside n (Root e) = inl (Root e)
+  seen_inside n (Held r h e) = subst (SeenOrNew S v) (sym e) (i.held r h).node
+  seen_inside n (Child d h name s eh k c en) = child_inside d n h name eh k c (seen_inside d s) (i.entries d n name en)
+  seen_inside n (Parent d h s eh ep) = parent_inside d n h eh ep (seen_inside d s) (i.headers d h eh)
+  seen_inside n (ServerRoot m s info sm em es c e) =
+      let seat = server_inside m s (seen_inside m sm) (i.homes m s em) in
+      inl (ServerRoot seat.0 s info seat.1 seat.2 (server_back s info es) (serve_back info c) e)
+
+  body_inside : (n : Name) (h before : Header) → header_at v n ≡ Some before → Less S v h before → SeesBody S x n h → SeesBody S v n before
+  body_inside n h before is less (ToRead c) = ToRead (less.could Read (could_back h Read c))
+  body_inside n h before is less (ToSearch k c) = ToSearch (sym less.kind ∙ k) (less.could Exec (could_back h Exec c))
+  body_inside n h before is less (IsOpen r held e o at modes) =
+      subst (λ z. SeesBody S v z before) (sym e) (i.reads r o held at modes before (subst (λ z. header_at v z ≡ Some before) e is))
+
+  empty_inside : (n : Name) (h before : Header) → Seen S v n → header_at v n ≡ Some before → Less S v h before → SeesEmpty S x n h → SeesEmpty S v n before
+  empty_inside n h before s is less (ByBody b) = ByBody (body_inside n h before is less b)
+  empty_inside n h before s is less (ByParent p a ep ea c) =
+      let ep' : before.parent ≡ Some p = sym less.parent ∙ ep in
+      let l = header_before p a ea (Parent n before s is ep') in
+      ByParent p l.0 ep' l.1 (l.2.could Write (could_back a Write c))
+
+  -- a part that is seen was seen, or is new
+  pub sees_inside : (p : Part) → Sees S x p → Known S v p
+  sees_inside (AttrOf n) s = seen_inside n s
+  sees_inside (EmptyOf n) s = elim (seen_inside n s.0) [
+    | inl sn ↦ let l = header_before n s.1 s.2 sn in inl (sn, l.0, l.1, sym l.2.kind ∙ s.3, empty_inside n s.1 l.0 sn l.1 l.2 s.4)
+    | inr new ↦ inr new
+  ]
+  sees_inside (BodyOf n) s = elim (seen_inside n s.0) [
+    | inl sn ↦ let l = header_before n s.1 s.2 sn in inl (sn, l.0, l.1, body_inside n s.1 l.0 l.1 l.2 s.3)
+    | inr new ↦ inr new
+  ]
+  sees_inside (OpenOf o) s = elim (i.held s.0 s.1).opened [
+    | inl q ↦ inl (q.0, q.1, q.2 ∙ s.2)
+    | inr new ↦ inr (subst (NewTo S v) s.2 new)
+  ]
+  sees_inside (OptionsOf q) s = inl (server_inside s.0 q (seen_inside s.0 s.1) (i.homes s.0 q s.2))
+  sees_inside (UsersOf q) s =
+      let seat = server_inside s.node q (seen_inside s.node s.seen) (i.homes s.node q s.serves) in
+      inl (record {
+        info = s.info;
+        is_server = server_back q s.info s.is_server;
+        other = s.other;
+        node = seat.0;
+        seen = seat.1;
+        serves = seat.2;
+        could = serve_back s.info s.could;
+      })
+  sees_inside (TaskOf t) s = inl s

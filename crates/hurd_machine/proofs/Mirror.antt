@@ -1,0 +1,149 @@
+-- The same change of a task of S in two worlds that are alike for S: they are alike afterwards.
+use Rattle.std.proofs.Common.{◌≡◌, ℕ, Bool, true, Some, length, sym, refl, ◌∙◌, ap, ap₂, inl, arith}
+use Rattle.std.specs.Option.{option_map}
+use Rattle.std.specs.FinMap.{get}
+use Rattle.hurd_creds.specs.declared.name.Name.{Name}
+use Rattle.hurd_trans_iface.specs.Nodes.{with_header, with_body, is_empty_dir}
+use Rattle.hurd_ports.specs.declared.table.Right.{Right}
+use Rattle.hurd_ports.specs.Tables.{Task, rights_of, names_open}
+use Rattle.hurd_ports.specs.Steps.{named, edit_task}
+use Rattle.hurd_machine.specs.World.{World, IsAmong, task_at, open_at, header_at, body_at, home_at, server_at}
+use Rattle.hurd_machine.specs.Sight.{Part, AttrOf, EmptyOf, BodyOf, OpenOf, OptionsOf, UsersOf, TaskOf, part, count_rights, is_home, holders, is_on, users}
+use Rattle.hurd_machine.specs.Sight.{AnAttr, AnEmpty, ABody, AnOpen, AnOptions, AUsers, ATask}
+use Rattle.hurd_machine.specs.Change.{Change, EditHeader, EditBody, MakeNode, EditOpen, MakeOpen, EditTask, Settle, apply}
+use Rattle.hurd_machine.specs.Sound.{Coherent}
+use Rattle.hurd_machine.proofs.Nodes.{header_in, body_in, empty_in, header-with_header, header-with_body, body-with_header, body-with_body, edit_alike, insert_alike, ByEmptiness, edit_empty_alike}
+use Rattle.hurd_machine.proofs.Tasks.{edit_here, edit_same, count_edit, count_named, list_alike}
+use Rattle.hurd_machine.proofs.Coherence.{next_not, Proper}
+use Rattle.hurd_machine.proofs.Frame.{IsExact, users_named}
+use Rattle.hurd_machine.proofs.Confine.{SeenOrNew, Known, RightInside, Inside}
+use Rattle.hurd_machine.proofs.Allowed.{May}
+
+-- x and y are alike in all that S saw in v or makes
+pub record Mirror (S : ℕ → Bool) (v x y : World) : Type 0 where
+  pub tasks : length y.tasks ≡ length x.tasks
+  pub parts : (p : Part) → Known S v p → part y p ≡ part x p
+
+module _ (x y : World) where
+  header_alike : (c : Change) → IsExact c → (n : Name) → header_at y n ≡ header_at x n → header_at (apply c y) n ≡ header_at (apply c x) n
+  header_alike (EditHeader k f) ex n h = edit_alike header_in (option_map f) (with_header f) (header-with_header f) x.nodes y.nodes k n h
+  header_alike (EditBody k g) ex n h = edit_alike header_in (λ z. z) (with_body g) (header-with_body g) x.nodes y.nodes k n h
+  header_alike (MakeNode k s node) ex n h = insert_alike header_in x.nodes y.nodes k n node h
+  header_alike Settle ex n h = absurd ex
+  header_alike c ex n h = h
+
+  home_alike : (c : Change) → IsExact c → (n : Name) → home_at y n ≡ home_at x n → home_at (apply c y) n ≡ home_at (apply c x) n
+  home_alike (MakeNode k s node) ex n o = insert_alike (λ z. z) x.homes y.homes k n s o
+  home_alike Settle ex n o = absurd ex
+  home_alike c ex n o = o
+
+  body_alike : (c : Change) → IsExact c → (n : Name) → body_at y n ≡ body_at x n → body_at (apply c y) n ≡ body_at (apply c x) n
+  body_alike (EditHeader k f) ex n h = edit_alike body_in (λ z. z) (with_header f) (body-with_header f) x.nodes y.nodes k n h
+  body_alike (EditBody k g) ex n h = edit_alike body_in (option_map g) (with_body g) (body-with_body g) x.nodes y.nodes k n h
+  body_alike (MakeNode k s node) ex n h = insert_alike body_in x.nodes y.nodes k n node h
+  body_alike Settle ex n h = absurd ex
+  body_alike c ex n h = h
+
+  server_alike : (c : Change) → (s : Name) → server_at y s ≡ server_at x s → server_at (apply c y) s ≡ server_at (apply c x) s
+  server_alike Settle s h = h
+  server_alike c s h = h
+
+  -- a change of a body whose emptiness afterwards is settled by that before
+  abbrev EmptinessSettled : Change → Type 0
+  EmptinessSettled (EditBody k g) = ByEmptiness g
+  EmptinessSettled c = Unit {0}
+
+  empty_alike : (c : Change) → IsExact c → EmptinessSettled c → (n : Name) → empty_in (get y.nodes n) ≡ empty_in (get x.nodes n)
+      → option_map is_empty_dir (body_at (apply c y) n) ≡ option_map is_empty_dir (body_at (apply c x) n)
+  empty_alike (EditHeader k f) ex by n h = edit_alike empty_in (λ z. z) (with_header f) (λ z. ap (option_map is_empty_dir) (body-with_header f z)) x.nodes y.nodes k n h
+  empty_alike (EditBody k g) ex by n h = edit_empty_alike g by x.nodes y.nodes k n h
+  empty_alike (MakeNode k s node) ex by n h = insert_alike empty_in x.nodes y.nodes k n node h
+  empty_alike Settle ex by n h = absurd ex
+  empty_alike c ex by n h = h
+
+  open_alike : (c : Change) → IsExact c → (o : Name) → open_at y o ≡ open_at x o → open_at (apply c y) o ≡ open_at (apply c x) o
+  open_alike (EditOpen k f) ex o h = edit_alike (λ z. z) (option_map f) f (λ z. refl) x.opens y.opens k o h
+  open_alike (MakeOpen k z) ex o h = insert_alike (λ u. u) x.opens y.opens k o z h
+  open_alike Settle ex o h = absurd ex
+  open_alike c ex o h = h
+
+  task_alike : (c : Change) → IsExact c → (q : ℕ) → task_at y q ≡ task_at x q → task_at (apply c y) q ≡ task_at (apply c x) q
+  task_alike (EditTask k f) ex q h = edit_same k f x.tasks y.tasks q h
+  task_alike (MakeNode n s node) ex q h = edit_same n.task.0 (named 1) x.tasks y.tasks q h
+  task_alike (MakeOpen o z) ex q h = edit_same o.task.0 (named 1) x.tasks y.tasks q h
+  task_alike Settle ex q h = absurd ex
+  task_alike c ex q h = h
+
+module _ (S : ℕ → Bool) (v x y : World) (before : Inside S v x) (cx : Coherent x) (cy : Coherent y) (alike : Mirror S v x y) where
+  home_same : (n : Name) → SeenOrNew S v n → home_at y n ≡ home_at x n
+  home_same n known = let e = alike.parts (AttrOf n) known in cc
+
+  -- a right that S may hold is on a node of the same server in both
+  same_side : (s : Name) (r : Right) → RightInside S v r → is_on y s r ≡ is_on x s r
+  same_side s r i = ap (is_home s) (home_same r.node i.node)
+
+  -- counts of the rights of a task that S has, in both
+  counts_own : (q : ℕ) (f : Task → Task) (T U : Right → Bool) (a b : Task) → S q ≡ true → task_at x q ≡ Some a → task_at y q ≡ Some b
+      → ((r : Right) → IsAmong r (rights_of a) → U r ≡ T r) → ((r : Right) → IsAmong r (rights_of (f a)) → U r ≡ T r)
+      → count_rights U y.tasks ≡ count_rights T x.tasks → count_rights U (edit_task q f y.tasks) ≡ count_rights T (edit_task q f x.tasks)
+  counts_own q f T U a b ours isx isy was now e =
+      let task : task_at y q ≡ task_at x q = let s = alike.parts (TaskOf q) (inl ours) in cc in
+      let ex = count_edit T q f x.tasks a isx in
+      let ey = count_edit U q f y.tasks a (task ∙ isx) in
+      let one = list_alike U T (rights_of a) was in
+      let two = list_alike U T (rights_of (f a)) now in
+      omega arith
+
+  emptiness : (c : Change) → May S v x c → EmptinessSettled x y c
+  emptiness (EditBody n g) m = m.0
+  emptiness c m = tt
+
+  holders_alike : (c : Change) → IsExact c → Proper x c → Proper y c → May S v x c → (o : Name) → holders y o ≡ holders x o → holders (apply c y) o ≡ holders (apply c x) o
+  holders_alike (EditTask q f) ex px py m o e = counts_own q f (names_open o) (names_open o) px.1 py.1 m.0 px.2 py.2 (λ r i. refl) (λ r i. refl) e
+  holders_alike (MakeNode n s node) ex px py m o e =
+      count_named (names_open o) n.task.0 1 y.tasks py.0.seat py.0.is_task ∙ e ∙ sym (count_named (names_open o) n.task.0 1 x.tasks px.0.seat px.0.is_task)
+  holders_alike (MakeOpen n z) ex px py m o e =
+      count_named (names_open o) n.task.0 1 y.tasks py.seat py.is_task ∙ e ∙ sym (count_named (names_open o) n.task.0 1 x.tasks px.seat px.is_task)
+  holders_alike Settle ex px py m o e = absurd ex
+  holders_alike c ex px py m o e = e
+
+  users_alike : (c : Change) → IsExact c → Proper x c → Proper y c → May S v x c → Inside S v (apply c x) → (s : Name) → users y s ≡ users x s → users (apply c y) s ≡ users (apply c x) s
+  users_alike (EditTask q f) ex px py m after s e =
+      counts_own q f (is_on x s) (is_on y s) px.1 py.1 m.0 px.2 py.2
+      (λ r i. same_side s r (before.held r (record { task = q; ours = m.0; seat = px.1; is_task = px.2; here = i })))
+      (λ r i. same_side s r (after.held r (record { task = q; ours = m.0; seat = f px.1; is_task = edit_here q f x.tasks px.1 px.2; here = i })))
+      e
+  users_alike (MakeNode n q node) ex px py m after s e =
+      users_named y (apply (MakeNode n q node) y) cy n py.0 1 n q (next_not y n py.0) refl refl s ∙ e
+      ∙ sym (users_named x (apply (MakeNode n q node) x) cx n px.0 1 n q (next_not x n px.0) refl refl s)
+  users_alike (MakeOpen n z) ex px py m after s e =
+      count_named (is_on y s) n.task.0 1 y.tasks py.seat py.is_task ∙ e ∙ sym (count_named (is_on x s) n.task.0 1 x.tasks px.seat px.is_task)
+  users_alike Settle ex px py m after s e = absurd ex
+  users_alike c ex px py m after s e = e
+
+  module _ (c : Change) (ex : IsExact c) (px : Proper x c) (py : Proper y c) (m : May S v x c) (after : Inside S v (apply c x)) where
+    -- each part that S knows is alike afterwards
+    pub part_same : (p : Part) → Known S v p → part (apply c y) p ≡ part (apply c x) p
+    part_same (AttrOf n) known =
+        let e = alike.parts (AttrOf n) known in
+        let h : header_at y n ≡ header_at x n = cc in
+        ap₂ AnAttr (header_alike x y c ex n h) (home_alike x y c ex n (home_same n known))
+    part_same (EmptyOf n) known =
+        let e = alike.parts (EmptyOf n) known in
+        let h : empty_in (get y.nodes n) ≡ empty_in (get x.nodes n) = cc in
+        ap AnEmpty (empty_alike x y c ex (emptiness c m) n h)
+    part_same (BodyOf n) known =
+        let e = alike.parts (BodyOf n) known in
+        let h : body_at y n ≡ body_at x n = cc in
+        ap ABody (body_alike x y c ex n h)
+    part_same (OpenOf o) known =
+        let e = alike.parts (OpenOf o) known in
+        let h : open_at y o ≡ open_at x o = cc in
+        let k : holders y o ≡ holders x o = cc in
+        ap₂ AnOpen (open_alike x y c ex o h) (holders_alike c ex px py m o k)
+    part_same (OptionsOf s) known =
+        let e = alike.parts (OptionsOf s) known in
+        let h : server_at y s ≡ server_at x s = cc in
+        ap AnOptions (server_alike x y c s h)
+    part_same (UsersOf s) known = let e = alike.parts (UsersOf s) known in let h : users y s ≡ users x s = cc in ap AUsers (users_alike c ex px py m after s h)
+    part_same (TaskOf q) known = let e = alike.parts (TaskOf q) known in let h : task_at y q ≡ task_at x q = cc in ap ATask (task_alike x y c ex q h)

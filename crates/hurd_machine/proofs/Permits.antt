@@ -1,0 +1,158 @@
+-- Pieces of plans, and why a task of S may make them.
+use Rattle.std.proofs.Common.{◌≡◌, ◌⊎◌, ℕ, ◌<◌, ◌≤◌, Bool, true, false, cond, List, [], ◌∷◌, ◌++◌, Option, Some, None, refl, sym, ◌∙◌, ap, subst, inl, inr, arith}
+use Rattle.std.specs.Prelude.{Ok}
+use Rattle.std.specs.Str.{bytes_eq}
+use Rattle.std.specs.FinMap.{get, insert}
+use Rattle.hurd_creds.specs.declared.name.Name.{Name}
+use Rattle.hurd_creds.specs.declared.open_flags.OpenFlags.{OpenFlags}
+use Rattle.hurd_creds.specs.declared.attrs.Want.{Want}
+use Rattle.hurd_creds.specs.Access.{IdSets}
+use Rattle.hurd_creds.specs.Bits.{asks, READ}
+use Rattle.hurd_creds.specs.Names.{name_of}
+use Rattle.hurd_creds.proofs.NameLaws.{get_here}
+use Rattle.hurd_trans_iface.specs.Nodes.{Entry, Header, Body, Content, Listing, is_empty_dir, on_bytes, with_entry, with_size}
+use Rattle.hurd_trans_iface.specs.Answers.{entry_in, entry_of}
+use Rattle.hurd_trans_iface.specs.Behaviour.{Did, edit_bytes, edit_size, edits_of}
+use Rattle.hurd_ports.specs.declared.table.Opened.{Opened}
+use Rattle.hurd_ports.specs.declared.table.Right.{Right}
+use Rattle.hurd_ports.specs.Tables.{Task, fresh}
+use Rattle.hurd_ports.specs.Steps.{new_open, new_right, at_cursor}
+use Rattle.hurd_machine.specs.World.{World, task_at, header_at}
+use Rattle.hurd_machine.specs.Sight.{HasUid, Taken, Could, Owns, Allowed, SeesBody}
+use Rattle.hurd_machine.specs.Change.{Change, EditBody, EditOpen, MakeOpen, Settle, apply, apply_all, changes_of, opening, dropping}
+use Rattle.hurd_machine.proofs.Rights.{port_rights, without_rights}
+use Rattle.hurd_machine.proofs.Frame.{IsExact}
+use Rattle.hurd_machine.proofs.Confine.{NewTo, SeenOrNew, Less}
+use Rattle.hurd_machine.proofs.Allowed.{RightMay, May}
+use Rattle.hurd_machine.proofs.Several.{AllMay}
+
+-- one list of changes after another
+
+abbrev pub AllExact : List Change → Type 0
+AllExact [] = Unit {0}
+AllExact (c ∷ cs) = IsExact c × AllExact cs
+
+pub may_append : (S : ℕ → Bool) (v : World) (cs ds : List Change) (x : World) → AllExact cs → AllMay S v x cs → AllMay S v (apply_all cs x) ds → AllMay S v x (cs ++ ds)
+may_append S v [] ds x ex m n = n
+may_append S v (Settle ∷ cs) ds x ex m n = absurd ex.0
+may_append S v (c ∷ cs) ds x ex m n = (m.0, may_append S v cs ds (apply c x) ex.1 m.1 n)
+
+-- names that a task has still to give
+
+pub later_new : (S : ℕ → Bool) (v : World) (t : ℕ) (x : Task) (k : ℕ) → S t ≡ true → task_at v t ≡ Some x → x.made ≤ k → NewTo S v (name_of t k)
+later_new S v t x k ours is up = (ours, λ b. let low : k < x.made = b x is in absurd (omega arith))
+
+-- a node is opened, of which S sees the body where it is opened to read
+pub opens_may : (S : ℕ → Bool) (v w : World) (t : ℕ) (x : Task) (n : Name) (ids : IdSets) (modes : OpenFlags) → S t ≡ true → NewTo S v (fresh t x) → SeenOrNew S v n → HasUid S v 0 ⊎ Taken S v ids
+    → (asks modes READ ≡ true → (h : Header) → header_at v n ≡ Some h → SeesBody S v n h) → AllMay S v w (opening t x n ids modes)
+opens_may S v w t x n ids modes ours new seen power reads = (
+  ours,
+  (
+    (
+      ours,
+      λ a at. (
+        λ r h. elim (port_rights right a r h) [ inl old ↦ inl old | inr e ↦ inr (subst (RightMay S v opened) e may) ],
+        elim power [
+          | inl all ↦ inl all
+          | inr taken ↦ inr (record {
+            ids = inl refl;
+            rights = λ r h. elim (port_rights right a r h) [ inl old ↦ inl old | inr e ↦ inr (subst (λ (q : Right). Taken S v q.ids) e taken) ];
+          })
+        ],
+      ),
+    ),
+    tt,
+  ),
+)
+  where
+    right : Right
+    right = new_right t n ids x
+
+    opened : World
+    opened = apply (MakeOpen (fresh t x) (new_open modes)) w
+
+    may : RightMay S v opened right
+    may = record {
+      inside = record { node = seen; opened = inr new };
+      reads = λ o e asked h eh.
+          let here : get (insert w.opens (fresh t x) (new_open modes)) (fresh t x) ≡ Some (new_open modes) = get_here w.opens (fresh t x) (new_open modes) in
+          let same : new_open modes ≡ o = cc in
+          reads (ap (λ (z : Opened). asks z.modes READ) same ∙ asked) h eh;
+    }
+
+-- to let go of a port shows nothing
+pub dropping_may : (S : ℕ → Bool) (v x : World) (t p : ℕ) → S t ≡ true → AllMay S v x (dropping t p)
+dropping_may S v x t p ours = ((ours, λ a at. (λ r h. inl (without_rights p a r h), inr (record { ids = inl refl; rights = λ r h. inl (without_rights p a r h) }))), tt)
+
+-- nor does a cursor
+pub cursor_may : (S : ℕ → Bool) (v x : World) (o : Name) (k : ℕ) → AllMay S v x (EditOpen o (at_cursor k) ∷ [])
+cursor_may S v x o k = (λ z h. h, tt)
+
+-- a server's edits of a node's bytes and size: they add no entry, empty no directory and open nothing
+
+bytes_may : (S : ℕ → Bool) (v x : World) (n : Name) (f : List ℕ → List ℕ) → May S v x (EditBody n (on_bytes f))
+bytes_may S v x n f = (λ b c e. emptiness c ∙ e ∙ sym (emptiness b), λ b name m is e. inl (sym (entries name b) ∙ e))
+  where
+    emptiness : (b : Body) → is_empty_dir (on_bytes f b) ≡ is_empty_dir b
+    emptiness (Content bs) = refl
+    emptiness (Listing es) = refl
+
+    entries : (name : List ℕ) (b : Body) → entry_of name (Some (on_bytes f b)) ≡ entry_of name (Some b)
+    entries name (Content bs) = refl
+    entries name (Listing es) = refl
+
+size_may : (S : ℕ → Bool) (v : World) (k : ℕ) (h : Header) → Less S v (with_size k h) h
+size_may S v k h = record { kind = refl; parent = refl; could = could }
+  where
+    could : (want : Want) → Could S v (with_size k h) want → Could S v h want
+    could want (Owns u has is) = Owns u has is
+    could want (Allowed ids taken may) = Allowed ids taken may
+
+edits_may : (S : ℕ → Bool) (v x : World) (n : Name) (bytes : Option (List ℕ → List ℕ)) (size : Option ℕ) → AllMay S v x (changes_of (edit_bytes n bytes (edit_size n size)))
+edits_may S v x n None None = tt
+edits_may S v x n None (Some k) = (size_may S v k, tt)
+edits_may S v x n (Some f) None = (bytes_may S v x n f, tt)
+edits_may S v x n (Some f) (Some k) = (bytes_may S v x n f, (size_may S v k, tt))
+
+edits_exact : (n : Name) (bytes : Option (List ℕ → List ℕ)) (size : Option ℕ) → AllExact (changes_of (edit_bytes n bytes (edit_size n size)))
+edits_exact n None None = tt
+edits_exact n None (Some k) = (tt, tt)
+edits_exact n (Some f) None = (tt, tt)
+edits_exact n (Some f) (Some k) = (tt, (tt, tt))
+
+pub did_may : {T : Type 0} (S : ℕ → Bool) (v x : World) (n : Name) (d : Did T) → AllMay S v x (changes_of (edits_of n (Ok d)))
+did_may S v x n d = edits_may S v x n d.bytes d.size
+
+pub did_exact : {T : Type 0} (n : Name) (d : Did T) → AllExact (changes_of (edits_of n (Ok d)))
+did_exact n d = edits_exact n d.bytes d.size
+
+-- a directory with one entry more, for a node that S saw or made
+
+filled : (name : List ℕ) (n : Name) (b : Body) → is_empty_dir (with_entry name n b) ≡ false
+filled name n (Content bs) = refl
+filled name n (Listing []) = refl
+filled name n (Listing (e ∷ es)) = refl
+
+entry_added : (name other : List ℕ) (n m : Name) (es : List Entry) → entry_in other (es ++ record { name = name; node = n } ∷ []) ≡ Some m → (entry_in other es ≡ Some m) ⊎ (n ≡ m)
+entry_added name other n m [] = go (bytes_eq name other)
+  where
+    go : (b : Bool) → cond b (Some n) None ≡ Some m → (None ≡ Some m) ⊎ (n ≡ m)
+    go true h = inr cc
+    go false h = inl h
+entry_added name other n m (e ∷ es) = go (bytes_eq e.name other) (entry_added name other n m es)
+  where
+    go : (b : Bool) → (entry_in other (es ++ record { name = name; node = n } ∷ []) ≡ Some m → (entry_in other es ≡ Some m) ⊎ (n ≡ m))
+        → cond b (Some e.node) (entry_in other (es ++ record { name = name; node = n } ∷ [])) ≡ Some m → (cond b (Some e.node) (entry_in other es) ≡ Some m) ⊎ (n ≡ m)
+    go true ih h = inl h
+    go false ih h = ih h
+
+-- an entry afterwards was there, or is the new one
+entry_of_added : (name other : List ℕ) (n m : Name) (b : Body) → entry_of other (Some (with_entry name n b)) ≡ Some m → (entry_of other (Some b) ≡ Some m) ⊎ (n ≡ m)
+entry_of_added name other n m (Content bs) h = inl h
+entry_of_added name other n m (Listing es) h = entry_added name other n m es h
+
+pub entry_may : (S : ℕ → Bool) (v x : World) (d : Name) (name : List ℕ) (n : Name) → SeenOrNew S v n → May S v x (EditBody d (with_entry name n))
+entry_may S v x d name n known = (
+  λ b c e. filled name n c ∙ sym (filled name n b),
+  λ b other m is e. elim (entry_of_added name other n m b e) [ inl old ↦ inl old | inr same ↦ inr (subst (SeenOrNew S v) same known) ],
+)
