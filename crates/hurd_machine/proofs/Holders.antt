@@ -10,6 +10,7 @@ use Rattle.hurd_ports.specs.declared.table.Opened.{Opened}
 use Rattle.hurd_ports.specs.declared.table.Right.{Right}
 use Rattle.hurd_ports.specs.Tables.{Task, rights_of, names_open, is_held}
 use Rattle.hurd_ports.specs.Steps.{edit_task}
+use Rattle.hurd_ports.proofs.HeldLaws.{any-at}
 use Rattle.hurd_machine.specs.World.{World, IsAmong, open_at}
 use Rattle.hurd_machine.specs.Sight.{one_if, count_list, count_rights}
 use Rattle.hurd_machine.specs.Change.{settle}
@@ -44,11 +45,6 @@ any_among T x [] i h = absurd i
 any_among T x (y ∷ xs) (inl e) h = rw (e, h) refl
 any_among T x (y ∷ xs) (inr i) h = or_right (T y) (list_any T xs) (any_among T x xs i h)
 
-any_at : {X : Type 0} (T : X → Bool) (xs : List X) (q : ℕ) (x : X) → slice_get xs q ≡ Some x → T x ≡ true → list_any T xs ≡ true
-any_at T [] q x at h = absurd (cc)
-any_at T (y ∷ xs) zero x at h = let e : y ≡ x = cc in rw (e, h) refl
-any_at T (y ∷ xs) (suc q) x at h = or_right (T y) (list_any T xs) (any_at T xs q x at h)
-
 -- an open is held by some right of some task
 
 pub record Held (ts : List Task) (o : Name) : Type 0 where
@@ -77,7 +73,7 @@ held_of ts o h =
 pub is_held_by : (ts : List Task) (o : Name) → Held ts o → is_held ts o ≡ true
 unfolding is_held
 is_held_by ts o h =
-    any_at (λ (z : Task). list_any (names_open o) (rights_of z)) ts h.task h.seat h.is_task (any_among (names_open o) h.right (rights_of h.seat) h.here h.names)
+    any-at (λ (z : Task). list_any (names_open o) (rights_of z)) ts h.task h.seat h.is_task (any_among (names_open o) h.right (rights_of h.seat) h.here h.names)
 
 -- a task function that takes no right away
 abbrev pub KeepsRights : (Task → Task) → Type 0
