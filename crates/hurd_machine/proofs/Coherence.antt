@@ -1,5 +1,6 @@
 -- Changes that keep a coherent world so.
-use Rattle.std.proofs.Common.{true, false, ◌≡◌, ◌≢◌, ◌⊎◌, ℕ, ◌+◌, ◌<◌, ◌≤◌, ◌||◌, cond, Bool, List, [], ◌∷◌, ◌++◌, Option, Some, None, sym, refl, ◌∙◌, ap, subst, inl, inr, arith}
+use Rattle.std.proofs.Common.{true, false, ◌≡◌, ◌≢◌, ◌⊎◌, ℕ, ◌+◌, ◌<◌, ◌≤◌, cond, Bool, List, [], ◌∷◌, ◌++◌, Option, Some, None, sym, refl, ◌∙◌, ap, subst, inl, inr, arith}
+use Rattle.std.proofs.lemmas.Bool.{or_left, or_right}
 use Rattle.std.specs.List.{list_any}
 use Rattle.std.specs.Option.{option_map}
 use Rattle.std.specs.Str.{bytes_eq}
@@ -115,11 +116,6 @@ right_old c t x r at i = c.given.rights t x r at i
 
 -- what is found under a name is an entry
 
-either : (a b : Bool) → (a ≡ true) ⊎ (b ≡ true) → (a || b) ≡ true
-either true b h = refl
-either false b (inl e) = absurd (cc)
-either false b (inr e) = e
-
 entry_in_lists : (name : List ℕ) (es : List Entry) (n : Name) → entry_in name es ≡ Some n → list_any (is_of n) es ≡ true
 entry_in_lists name [] n = λ h. absurd (cc)
 entry_in_lists name (e ∷ es) n = go (bytes_eq e.name name) refl (entry_in_lists name es n)
@@ -128,8 +124,8 @@ entry_in_lists name (e ∷ es) n = go (bytes_eq e.name name) refl (entry_in_list
     go true k ih h =
         let same : Some e.node ≡ Some n = ap (λ b. cond b (Some e.node) (entry_in name es)) (sym k) ∙ h in
         let here : e.node ≡ n = cc in
-        either (is_of n e) (list_any (is_of n) es) (inl (subst (λ z. is_of z e ≡ true) here (same_name-itself e.node)))
-    go false k ih h = either (is_of n e) (list_any (is_of n) es) (inr (ih (ap (λ b. cond b (Some e.node) (entry_in name es)) (sym k) ∙ h)))
+        or_left (is_of n e) (list_any (is_of n) es) (subst (λ z. is_of z e ≡ true) here (same_name-itself e.node))
+    go false k ih h = or_right (is_of n e) (list_any (is_of n) es) (ih (ap (λ b. cond b (Some e.node) (entry_in name es)) (sym k) ∙ h))
 
 pub entry_lists : (name : List ℕ) (o : Option Body) (n : Name) → entry_of name o ≡ Some n → lists_at n o ≡ true
 entry_lists name None n h = absurd (cc)

@@ -8,12 +8,13 @@ use Rattle.hurd_trans_iface.specs.Nodes.{with_header, with_body, is_empty_dir}
 use Rattle.hurd_ports.specs.declared.table.Right.{Right}
 use Rattle.hurd_ports.specs.Tables.{Task, rights_of, names_open, IsSettled}
 use Rattle.hurd_ports.specs.Steps.{named, edit_task}
+use Rattle.hurd_ports.proofs.TaskLaws.{edit-apart}
 use Rattle.hurd_machine.specs.World.{World, IsAmong, ports_of, task_at, open_at, header_at, body_at, home_at}
 use Rattle.hurd_machine.specs.Sight.{Part, AttrOf, EmptyOf, BodyOf, OpenOf, OptionsOf, UsersOf, TaskOf, part, count_list, count_rights, is_home, is_on, holders, users, AnAttr, AnEmpty, ABody, AnOpen, AnOptions, AUsers, ATask}
 use Rattle.hurd_machine.specs.Change.{Change, EditHeader, EditBody, MakeNode, EditOpen, MakeOpen, EditTask, Settle, settle, apply, apply_all}
 use Rattle.hurd_machine.specs.Sound.{Below, Coherent, Sound}
 use Rattle.hurd_machine.proofs.Nodes.{header_in, body_in, empty_in, header-with_body, body-with_header, edit_keeps, KeepsEmptiness, empty-kept}
-use Rattle.hurd_machine.proofs.Tasks.{edit_apart, count_edit, count_named, count_alike}
+use Rattle.hurd_machine.proofs.Tasks.{count_edit, count_named, count_alike}
 use Rattle.hurd_machine.proofs.Coherence.{IsNext, next_not, unnoded, Proper, AllProper, coherent_one}
 use Rattle.hurd_machine.proofs.Settle.{settle_part}
 
@@ -141,9 +142,9 @@ module _ (w : World) (coherent : Coherent w) (T : Part → Type 0) where
   users_kept c p s i h = refl
 
   task_kept : (c : Change) (q : ℕ) → Within T w c → (T (TaskOf q) → ⊥) → task_at (apply c w) q ≡ task_at w q
-  task_kept (EditTask k f) q i h = edit_apart k f w.tasks q (λ e. avoids (TaskOf q) (TaskOf k) i.0 h (ap TaskOf e))
-  task_kept (MakeNode n s node) q i h = edit_apart n.task.0 (named 1) w.tasks q (λ e. avoids (TaskOf q) (TaskOf n.task.0) i.0 h (ap TaskOf e))
-  task_kept (MakeOpen n z) q i h = edit_apart n.task.0 (named 1) w.tasks q (λ e. avoids (TaskOf q) (TaskOf n.task.0) i.0 h (ap TaskOf e))
+  task_kept (EditTask k f) q i h = edit-apart k f w.tasks q (λ e. avoids (TaskOf q) (TaskOf k) i.0 h (ap TaskOf e))
+  task_kept (MakeNode n s node) q i h = edit-apart n.task.0 (named 1) w.tasks q (λ e. avoids (TaskOf q) (TaskOf n.task.0) i.0 h (ap TaskOf e))
+  task_kept (MakeOpen n z) q i h = edit-apart n.task.0 (named 1) w.tasks q (λ e. avoids (TaskOf q) (TaskOf n.task.0) i.0 h (ap TaskOf e))
   task_kept c q i h = refl
 
 -- what a change doesn't write stays

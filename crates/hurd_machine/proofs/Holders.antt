@@ -1,5 +1,6 @@
 -- Which opens are held, and which are left once a world is settled.
-use Rattle.std.proofs.Common.{◌≡◌, ◌⊎◌, ℕ, zero, suc, ◌+◌, ◌||◌, Bool, true, false, cond, List, [], ◌∷◌, Option, Some, None, slice_get, nat_lt, sym, refl, ◌∙◌, ap, inl, inr, arith}
+use Rattle.std.proofs.Common.{◌≡◌, ℕ, zero, suc, ◌+◌, ◌||◌, Bool, true, false, cond, List, [], ◌∷◌, Option, Some, None, slice_get, nat_lt, sym, refl, ◌∙◌, ap, inl, inr, arith}
+use Rattle.std.proofs.lemmas.Bool.{or_cases, or_right}
 use Rattle.std.proofs.lemmas.Bool.Decides.{nat_tests}
 use Rattle.std.specs.List.{list_any}
 use Rattle.std.specs.FinMap.{get-retain_keys}
@@ -9,6 +10,7 @@ use Rattle.hurd_ports.specs.declared.table.Opened.{Opened}
 use Rattle.hurd_ports.specs.declared.table.Right.{Right}
 use Rattle.hurd_ports.specs.Tables.{Task, rights_of, names_open, is_held}
 use Rattle.hurd_ports.specs.Steps.{edit_task}
+use Rattle.hurd_ports.proofs.HeldLaws.{any-at}
 use Rattle.hurd_machine.specs.World.{World, IsAmong, open_at}
 use Rattle.hurd_machine.specs.Sight.{one_if, count_list, count_rights}
 use Rattle.hurd_machine.specs.Change.{settle}
@@ -38,19 +40,10 @@ held_counted ts o = tasks_counted (names_open o) ts
 
 -- whether some element passes a test
 
-or_true : (a b : Bool) → b ≡ true → (a || b) ≡ true
-or_true true b h = refl
-or_true false b h = h
-
 pub any_among : {X : Type 0} (T : X → Bool) (x : X) (xs : List X) → IsAmong x xs → T x ≡ true → list_any T xs ≡ true
 any_among T x [] i h = absurd i
 any_among T x (y ∷ xs) (inl e) h = rw (e, h) refl
-any_among T x (y ∷ xs) (inr i) h = or_true (T y) (list_any T xs) (any_among T x xs i h)
-
-any_at : {X : Type 0} (T : X → Bool) (xs : List X) (q : ℕ) (x : X) → slice_get xs q ≡ Some x → T x ≡ true → list_any T xs ≡ true
-any_at T [] q x at h = absurd (cc)
-any_at T (y ∷ xs) zero x at h = let e : y ≡ x = cc in rw (e, h) refl
-any_at T (y ∷ xs) (suc q) x at h = or_true (T y) (list_any T xs) (any_at T xs q x at h)
+any_among T x (y ∷ xs) (inr i) h = or_right (T y) (list_any T xs) (any_among T x xs i h)
 
 -- an open is held by some right of some task
 
@@ -62,17 +55,13 @@ pub record Held (ts : List Task) (o : Name) : Type 0 where
   pub here : IsAmong right (rights_of seat)
   pub names : names_open o right ≡ true
 
-true_cases : (a b : Bool) → (a || b) ≡ true → (a ≡ true) ⊎ (b ≡ true)
-true_cases true b h = inl refl
-true_cases false b h = inr h
-
 any_of : {X : Type 0} (T : X → Bool) (xs : List X) → list_any T xs ≡ true → (x : X) × IsAmong x xs × (T x ≡ true)
 any_of T [] h = absurd (cc)
-any_of T (x ∷ xs) h = elim (true_cases (T x) (list_any T xs) h) [ inl k ↦ (x, inl refl, k) | inr k ↦ let l = any_of T xs k in (l.0, inr l.1, l.2) ]
+any_of T (x ∷ xs) h = elim (or_cases (T x) (list_any T xs) h) [ inl k ↦ (x, inl refl, k) | inr k ↦ let l = any_of T xs k in (l.0, inr l.1, l.2) ]
 
 any_place : {X : Type 0} (T : X → Bool) (xs : List X) → list_any T xs ≡ true → (q : ℕ) × (x : X) × (slice_get xs q ≡ Some x) × (T x ≡ true)
 any_place T [] h = absurd (cc)
-any_place T (x ∷ xs) h = elim (true_cases (T x) (list_any T xs) h) [ inl k ↦ (zero, x, refl, k) | inr k ↦ let l = any_place T xs k in (suc l.0, l.1, l.2, l.3) ]
+any_place T (x ∷ xs) h = elim (or_cases (T x) (list_any T xs) h) [ inl k ↦ (zero, x, refl, k) | inr k ↦ let l = any_place T xs k in (suc l.0, l.1, l.2, l.3) ]
 
 pub held_of : (ts : List Task) (o : Name) → is_held ts o ≡ true → Held ts o
 unfolding is_held
@@ -84,7 +73,7 @@ held_of ts o h =
 pub is_held_by : (ts : List Task) (o : Name) → Held ts o → is_held ts o ≡ true
 unfolding is_held
 is_held_by ts o h =
-    any_at (λ (z : Task). list_any (names_open o) (rights_of z)) ts h.task h.seat h.is_task (any_among (names_open o) h.right (rights_of h.seat) h.here h.names)
+    any-at (λ (z : Task). list_any (names_open o) (rights_of z)) ts h.task h.seat h.is_task (any_among (names_open o) h.right (rights_of h.seat) h.here h.names)
 
 -- a task function that takes no right away
 abbrev pub KeepsRights : (Task → Task) → Type 0

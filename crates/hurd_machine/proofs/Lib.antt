@@ -17,4 +17,3 @@ pub mod Sizes
 pub mod Opens
 pub mod Edits
 pub mod Makes
-pub mod Stays

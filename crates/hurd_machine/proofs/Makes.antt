@@ -1,7 +1,9 @@
 -- A node made in a directory, with its entry there, as a piece of any call.
 use Rattle.std.proofs.Common.{◌≡◌, ◌≢◌, ◌⊎◌, ◌∙◌, ℕ, Bool, true, false, not, ◌&&◌, ◌||◌, cond, is_some, if◌then◌else◌, List, [], ◌∷◌, ◌++◌, Option, Some, None, nat_eq, sym, refl, ap, ap₂, subst, inl, inr, arith}
 use Rattle.std.specs.Prelude.{Result, Ok, Err}
+use Rattle.std.proofs.lemmas.Bool.{or_cases}
 use Rattle.std.proofs.lemmas.Bool.Decides.{nat_tests}
+use Rattle.std.proofs.lemmas.List.Folds.{list_any-append}
 use Rattle.std.specs.List.{list_any}
 use Rattle.std.specs.Str.{bytes_eq}
 use Rattle.std.specs.FinMap.{get}
@@ -37,20 +39,12 @@ entry_shape : (name : List ℕ) (n : Name) (b : Body) (h : Header) → IsShaped 
 entry_shape name n (Listing es) h s = s
 entry_shape name n (Content bs) h s = s
 
-either_true : (a b : Bool) → (a || b) ≡ true → (a ≡ true) ⊎ (b ≡ true)
-either_true true b h = inl refl
-either_true false b h = inr h
-
 added_lists : (name : List ℕ) (n m : Name) (es : List Entry) → list_any (is_of m) (es ++ record { name = name; node = n } ∷ []) ≡ true → (list_any (is_of m) es ≡ true) ⊎ (n ≡ m)
-added_lists name n m [] h = elim (either_true (is_of m (record { name = name; node = n })) false h) [ inl k ↦ inr (equal_if_same n m k) | inr k ↦ absurd (cc) ]
-added_lists name n m (e ∷ es) h = elim (either_true (is_of m e) (list_any (is_of m) (es ++ record { name = name; node = n } ∷ [])) h) [
-  | inl k ↦ inl (rw k refl)
-  | inr k ↦ elim (added_lists name n m es k) [ inl old ↦ inl (or_second (is_of m e) (list_any (is_of m) es) old) | inr new ↦ inr new ]
-]
-  where
-    or_second : (a b : Bool) → b ≡ true → (a || b) ≡ true
-    or_second true b k = refl
-    or_second false b k = k
+added_lists name n m es h =
+    elim (or_cases (list_any (is_of m) es) (is_of m (record { name = name; node = n }) || false) (sym (list_any-append (is_of m) es (record { name = name; node = n } ∷ [])) ∙ h)) [
+      | inl old ↦ inl old
+      | inr last ↦ elim (or_cases (is_of m (record { name = name; node = n })) false last) [ inl k ↦ inr (equal_if_same n m k) | inr k ↦ absurd (cc) ]
+    ]
 
 -- an entry afterwards was there, or is the new one
 pub entry_lists_cases : (name : List ℕ) (n m : Name) (b : Body) → lists m (with_entry name n b) ≡ true → (lists m b ≡ true) ⊎ (n ≡ m)

@@ -1,5 +1,5 @@
 -- Tables of ports: which rights they have after each change of a task, and how many pass a test.
-use Rattle.std.proofs.Common.{◌≡◌, ◌⊎◌, ℕ, ◌+◌, ◌<◌, ◌==◌, Bool, true, false, List, [], ◌∷◌, ◌++◌, map, Some, None, sym, refl, ◌∙◌, ap, subst, inl, inr, arith}
+use Rattle.std.proofs.Common.{◌≡◌, ◌⊎◌, ℕ, ◌+◌, ◌<◌, ◌==◌, Bool, true, false, List, [], ◌∷◌, ◌++◌, map, Some, None, sym, refl, ap, subst, inl, inr, arith}
 use Rattle.hurd_ports.specs.declared.table.Right.{Right}
 use Rattle.hurd_ports.specs.declared.table.Port.{Port}
 use Rattle.hurd_ports.specs.Tables.{Task, rights_of, right_in}
@@ -107,16 +107,3 @@ port_table w c t r x is fine = record {
   rights = port_rights r x;
   numbers = λ q h. push_numbers x.ports x.next r q (λ k i. c.tables.numbers t x k is i) h;
 }
-
--- a right like one that some task has is fine
-pub like_fine : (w : World) → Coherent w → (t : ℕ) (x : Task) (q r : Right) → task_at w t ≡ Some x → IsAmong q (rights_of x) → r.node ≡ q.node → r.open_name ≡ q.open_name → FineRight w r
-like_fine w c t x q r is here en eo =
-    let m = c.given.rights t x q is here in
-    let o = c.tables.opened t x q is here in
-    record {
-      node = rw en (m.0);
-      open_name = rw eo (m.1);
-      opened = (o.0, rw eo (o.1));
-      shared = λ u y p at has e. c.tables.shared u t y x p q at has is here (e ∙ eo) ∙ sym en;
-      written = λ z h ez modes eh. c.tables.written t x q z h is here (rw eo at ez) modes (rw en at eh);
-    }

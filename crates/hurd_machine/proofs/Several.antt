@@ -6,13 +6,14 @@ use Rattle.hurd_trans_iface.specs.Nodes.{Node}
 use Rattle.hurd_ports.specs.declared.table.Right.{Right}
 use Rattle.hurd_ports.specs.Tables.{Task, rights_of, names_open, is_held}
 use Rattle.hurd_ports.specs.Steps.{named}
+use Rattle.hurd_ports.proofs.TaskLaws.{edit-length}
 use Rattle.hurd_machine.specs.World.{World, home_at}
 use Rattle.hurd_machine.specs.Sight.{Part, AttrOf, EmptyOf, BodyOf, OpenOf, Sees, part, count_list, count_rights, holders, AnAttr, AnEmpty, ABody, AnOpen}
 use Rattle.hurd_machine.specs.Change.{Change, MakeNode, MakeOpen, EditTask, Settle, settle, apply, apply_all}
 use Rattle.hurd_machine.specs.Sound.{Below, Coherent}
 use Rattle.hurd_machine.proofs.Views.{Agree, Agree-sym, Agree-trans, same_tasks}
 use Rattle.hurd_machine.proofs.Nodes.{header_in, body_in, empty_in}
-use Rattle.hurd_machine.proofs.Tasks.{edit_length, count_alike}
+use Rattle.hurd_machine.proofs.Tasks.{count_alike}
 use Rattle.hurd_machine.proofs.Holders.{held_by_right, held_stays}
 use Rattle.hurd_machine.proofs.Coherence.{home_old, no_node, no_open, Proper, AllProper, coherent_one}
 use Rattle.hurd_machine.proofs.Frame.{IsExact}
@@ -28,9 +29,9 @@ AllMay S v x (c ∷ cs) = May S v x c × AllMay S v (apply c x) cs
 
 -- no change makes a task or takes one out
 pub length_one : (c : Change) (w : World) → length (apply c w).tasks ≡ length w.tasks
-length_one (EditTask q f) w = edit_length q f w.tasks
-length_one (MakeNode n s node) w = edit_length n.task.0 (named 1) w.tasks
-length_one (MakeOpen o z) w = edit_length o.task.0 (named 1) w.tasks
+length_one (EditTask q f) w = edit-length q f w.tasks
+length_one (MakeNode n s node) w = edit-length n.task.0 (named 1) w.tasks
+length_one (MakeOpen o z) w = edit-length o.task.0 (named 1) w.tasks
 length_one Settle w = refl
 length_one c w = refl
 

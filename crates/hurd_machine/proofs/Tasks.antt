@@ -1,85 +1,35 @@
 -- One task changed: what stands at each place, how many rights pass a test, and names that stay given.
-use Rattle.std.proofs.Common.{◌≡◌, ◌⊎◌, ℕ, zero, suc, ◌+◌, ◌<◌, ◌≤◌, Bool, List, [], ◌∷◌, ◌++◌, map, length, Option, Some, None, slice_get, slice_set, sym, refl, ◌∙◌, ap, inl, inr, arith}
-use Rattle.std.proofs.lemmas.List.{length-set}
+use Rattle.std.proofs.Common.{◌≡◌, ◌⊎◌, ℕ, zero, suc, ◌+◌, ◌<◌, ◌≤◌, Bool, List, [], ◌∷◌, ◌++◌, map, Option, Some, None, slice_get, slice_set, sym, refl, ◌∙◌, ap, inl, inr, arith}
+use Rattle.std.specs.Option.{option_map}
 use Rattle.hurd_creds.specs.declared.name.Name.{Name}
 use Rattle.hurd_ports.specs.declared.table.Right.{Right}
 use Rattle.hurd_ports.specs.Tables.{Task, rights_of}
 use Rattle.hurd_ports.specs.Steps.{named, edit_at, edit_task}
+use Rattle.hurd_ports.proofs.TaskLaws.{one_or_other, set-cases, edit-found, edit-here, edit-apart}
 use Rattle.hurd_machine.specs.World.{World, IsAmong, task_at}
 use Rattle.hurd_machine.specs.Sight.{count_list, count_rights}
 use Rattle.hurd_machine.specs.Sound.{Below}
 
--- places in a list
-
-one_or_other : (q i : ℕ) → (q ≡ i) ⊎ (q ≡ i → ⊥)
-one_or_other zero zero = inl refl
-one_or_other zero (suc i) = inr (λ e. omega arith)
-one_or_other (suc q) zero = inr (λ e. omega arith)
-one_or_other (suc q) (suc i) = elim (one_or_other q i) [
-  | inl e ↦ inl (ap suc e)
-  | inr apart ↦ inr (λ e. apart (omega arith))
-]
-
-set_here : {A : Type 0} (xs : List A) (i : ℕ) (x y : A) → slice_get xs i ≡ Some x → slice_get (slice_set xs i y) i ≡ Some y
-set_here [] i x y h = absurd (cc)
-set_here (z ∷ xs) zero x y h = refl
-set_here (z ∷ xs) (suc i) x y h = set_here xs i x y h
-
-set_apart : {A : Type 0} (xs : List A) (i : ℕ) (y : A) (q : ℕ) → (q ≡ i → ⊥) → slice_get (slice_set xs i y) q ≡ slice_get xs q
-set_apart [] i y q apart = refl
-set_apart (z ∷ xs) zero y zero apart = absurd (apart refl)
-set_apart (z ∷ xs) zero y (suc q) apart = refl
-set_apart (z ∷ xs) (suc i) y zero apart = refl
-set_apart (z ∷ xs) (suc i) y (suc q) apart = set_apart xs i y q (λ e. apart (ap suc e))
-
-set_cases : {A : Type 0} (xs : List A) (i : ℕ) (x y : A) (q : ℕ) (z : A) → slice_get xs i ≡ Some x → slice_get (slice_set xs i y) q ≡ Some z → ((q ≡ i) × (z ≡ y)) ⊎ (slice_get xs q ≡ Some z)
-set_cases xs i x y q z at is = elim (one_or_other q i) [
-  | inl e ↦ inl (e, let here = set_here xs i x y at in let there : slice_get (slice_set xs i y) i ≡ Some z = ap (slice_get (slice_set xs i y)) (sym e) ∙ is in cc)
-  | inr apart ↦ inr (sym (set_apart xs i y q apart) ∙ is)
-]
-
--- where the task is there
-pub edit_is : (q : ℕ) (f : Task → Task) (ts : List Task) (x : Task) → slice_get ts q ≡ Some x → edit_task q f ts ≡ slice_set ts q (f x)
-edit_is q f ts x e = ap (edit_at q f ts) e
-
 -- a task afterwards is the changed one, or was there
 pub edit_cases : (q : ℕ) (f : Task → Task) (ts : List Task) (x : Task) → slice_get ts q ≡ Some x → (p : ℕ) (z : Task) → slice_get (edit_task q f ts) p ≡ Some z → ((p ≡ q) × (z ≡ f x)) ⊎ (slice_get ts p ≡ Some z)
-edit_cases q f ts x at p z e = set_cases ts q x (f x) p z at (sym (ap (λ l. slice_get l p) (edit_is q f ts x at)) ∙ e)
+edit_cases q f ts x at p z e = set-cases ts q x (f x) p z at (sym (ap (λ l. slice_get l p) (edit-found q f ts x at)) ∙ e)
 
 pub edit_here : (q : ℕ) (f : Task → Task) (ts : List Task) (x : Task) → slice_get ts q ≡ Some x → slice_get (edit_task q f ts) q ≡ Some (f x)
-edit_here q f ts x at = ap (λ l. slice_get l q) (edit_is q f ts x at) ∙ set_here ts q x (f x) at
-
-edit_at-apart : (q : ℕ) (f : Task → Task) (ts : List Task) (o : Option Task) (p : ℕ) → (p ≡ q → ⊥) → slice_get (edit_at q f ts o) p ≡ slice_get ts p
-edit_at-apart q f ts None p a = refl
-edit_at-apart q f ts (Some x) p a = set_apart ts q (f x) p a
-
-pub edit_apart : (q : ℕ) (f : Task → Task) (ts : List Task) (p : ℕ) → (p ≡ q → ⊥) → slice_get (edit_task q f ts) p ≡ slice_get ts p
-edit_apart q f ts p a = edit_at-apart q f ts (slice_get ts q) p a
+edit_here q f ts x at = edit-here q f ts ∙ ap (option_map f) at
 
 -- a task that is there stays, or is the changed one
 pub edit_still : (q : ℕ) (f : Task → Task) (ts : List Task) (p : ℕ) (x : Task) → slice_get ts p ≡ Some x → (slice_get (edit_task q f ts) p ≡ Some (f x)) ⊎ (slice_get (edit_task q f ts) p ≡ Some x)
 edit_still q f ts p x at = elim (one_or_other p q) [
   | inl e ↦ inl (rw e (edit_here q f ts x (rw e at at)))
-  | inr a ↦ inr (edit_apart q f ts p a ∙ at)
+  | inr a ↦ inr (edit-apart q f ts p a ∙ at)
 ]
 
 -- the same change of the same task
 pub edit_same : (q : ℕ) (f : Task → Task) (ts us : List Task) (p : ℕ) → slice_get us p ≡ slice_get ts p → slice_get (edit_task q f us) p ≡ slice_get (edit_task q f ts) p
 edit_same q f ts us p e = elim (one_or_other p q) [
-  | inl i ↦ here (slice_get ts q) refl (sym (ap (slice_get us) i) ∙ e ∙ ap (slice_get ts) i) i
-  | inr a ↦ edit_apart q f us p a ∙ e ∙ sym (edit_apart q f ts p a)
+  | inl i ↦ rw i (edit-here q f us ∙ ap (option_map f) (rw i at e) ∙ sym (edit-here q f ts))
+  | inr a ↦ edit-apart q f us p a ∙ e ∙ sym (edit-apart q f ts p a)
 ]
-  where
-    here : (o : Option Task) → slice_get ts q ≡ o → slice_get us q ≡ slice_get ts q → p ≡ q → slice_get (edit_task q f us) p ≡ slice_get (edit_task q f ts) p
-    here None k h i = ap (λ z. slice_get (edit_at q f us z) p) (h ∙ k) ∙ e ∙ sym (ap (λ z. slice_get (edit_at q f ts z) p) k)
-    here (Some x) k h i = rw i (edit_here q f us x (h ∙ k) ∙ sym (edit_here q f ts x k))
-
-edit_at-length : (q : ℕ) (f : Task → Task) (ts : List Task) (o : Option Task) → length (edit_at q f ts o) ≡ length ts
-edit_at-length q f ts None = refl
-edit_at-length q f ts (Some x) = length-set ts q (f x)
-
-pub edit_length : (q : ℕ) (f : Task → Task) (ts : List Task) → length (edit_task q f ts) ≡ length ts
-edit_length q f ts = edit_at-length q f ts (slice_get ts q)
 
 -- names stay given
 pub below_edit : (w y : World) (q : ℕ) (f : Task → Task) → ((x : Task) → x.made ≤ (f x).made) → y.tasks ≡ edit_task q f w.tasks → (n : Name) → Below w n → Below y n
@@ -109,7 +59,7 @@ count-set T (z ∷ ts) (suc q) x y h = omega (arith, count-set T ts q x y h)
 
 -- the rights of all tasks afterwards, and those of the changed task before, are as many as all before and that task's afterwards
 pub count_edit : (T : Right → Bool) (q : ℕ) (f : Task → Task) (ts : List Task) (x : Task) → slice_get ts q ≡ Some x → count_rights T (edit_task q f ts) + count_list T (rights_of x) ≡ count_rights T ts + count_list T (rights_of (f x))
-count_edit T q f ts x at = ap (λ l. count_rights T l + count_list T (rights_of x)) (edit_is q f ts x at) ∙ count-set T ts q x (f x) at
+count_edit T q f ts x at = ap (λ l. count_rights T l + count_list T (rights_of x)) (edit-found q f ts x at) ∙ count-set T ts q x (f x) at
 
 -- where no right is gained or lost
 pub count_named : (T : Right → Bool) (q k : ℕ) (ts : List Task) (x : Task) → slice_get ts q ≡ Some x → count_rights T (edit_task q (named k) ts) ≡ count_rights T ts
