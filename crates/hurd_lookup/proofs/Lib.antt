@@ -1,1 +1,5 @@
+pub mod WalkLaws
+pub mod EndLaws
+pub mod OutcomeLaws
+pub mod LookupLaws
 pub mod PathLaws

@@ -1,0 +1,2 @@
+pub mod SetSizeLaws
+pub mod ReaddirLaws

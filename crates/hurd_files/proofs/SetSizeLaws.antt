@@ -1,0 +1,41 @@
+-- file_set_size: it asks of a node that the caller has open to write, and is told nothing of its body.
+use Rattle.std.proofs.Common.{◌≡◌, ℕ, refl, subst, inl}
+use Rattle.std.specs.Prelude.{Ok}
+use Rattle.hurd_creds.specs.declared.name.Name.{Name}
+use Rattle.hurd_creds.specs.Bits.{WRITE}
+use Rattle.hurd_trans_iface.specs.Behaviour.{resizing}
+use Rattle.hurd_trans_iface.proofs.Goods.{good}
+use Rattle.hurd_machine.specs.declared.handle.Handle.{Handle}
+use Rattle.hurd_machine.specs.declared.call.Reply.TheVariants.{Done}
+use Rattle.hurd_machine.specs.World.{World, asked_at}
+use Rattle.hurd_machine.specs.Handle.{handle_asks}
+use Rattle.hurd_machine.specs.Sight.{Seen}
+use Rattle.hurd_machine.specs.Touched.{OnDid}
+use Rattle.hurd_machine.proofs.Frame.{Full}
+use Rattle.hurd_machine.proofs.Sizes.{did_sized}
+use Rattle.hurd_machine.proofs.Permits.{did_may}
+use Rattle.hurd_machine.proofs.Edits.{did_within, did_proper, did_rests}
+use Rattle.hurd_machine.proofs.Asks.{first_same, answered_same, first_ok, first_plain, ok_plain, answered_plain, done_plain, handle_same, handle_seen, handle_plain, asked_same, asked_plain}
+use Rattle.hurd_machine.proofs.CallLaws.{CallLaws, answered_within, answered_proper, answered_sized, answered_rests, answered_may}
+use Rattle.hurd_files.specs.Files.{set_size_asks, plan_set_size, touches_set_size}
+
+-- the port whose node is resized
+resized_by : (w : World) (t p : ℕ) (n : Name) → set_size_asks w t p ≡ Ok n → (h : Handle) × (handle_asks w t p WRITE ≡ Ok h) × (h.node ≡ n)
+resized_by w t p n is = let h = first_ok _ _ n is in (h.0, h.1, cc (h.2))
+
+pub set_size_laws : (t p size : ℕ) → CallLaws t (λ w. plan_set_size w t p size) (λ w. touches_set_size w t p size)
+set_size_laws t p size = record {
+  fits = λ w c. answered_within w t (set_size_asks w t p) _ _ (λ n is. answered_within w t (asked_at (resizing size) n w) _ _ (λ d told.
+      did_within (Full w t (OnDid n d)) w n d (λ q on. inl on)));
+  proper = λ w c. answered_proper w _ _ (λ n is. answered_proper w _ _ (λ d told. did_proper w c n d));
+  sized = λ w s. answered_sized w _ _ s.sizes (λ n is. answered_sized w _ _ s.sizes (λ d told.
+      did_sized (resizing size) (λ k. (good k).set_size_sizes size) w s.coherent n d told s.sizes));
+  rests = λ w s. answered_rests w _ _ s.settled (λ n is. answered_rests w _ _ s.settled (λ d told. did_rests w n d s.settled));
+  may = λ S v c ours. answered_may v _ _ S v (λ n is. answered_may v _ _ S v (λ d told. did_may S v v n d));
+  same = λ S v w c a ours. answered_same _ _ _ _ (first_same _ _ _ _ (handle_same a t ours p WRITE) (λ h is. refl)) (λ n is.
+      let h = resized_by v t p n is in
+      let seen : Seen S v n = subst (Seen S v) h.2 (handle_seen t ours p WRITE h.0 h.1) in
+      answered_same _ _ _ _ (asked_same a n (resizing size) (λ k. (good k).set_size_blind size) seen) (λ d told. refl));
+  plain = λ w. answered_plain _ _ (first_plain _ _ (handle_plain w t p WRITE) (λ h is. ok_plain _)) (λ n is.
+      answered_plain _ _ (asked_plain (resizing size) (λ k. (good k).set_size_plain size) n w) (λ d told. done_plain Done refl));
+}

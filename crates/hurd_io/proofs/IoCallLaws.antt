@@ -1,0 +1,101 @@
+-- Reads and writes: what the laws need of them, by what is asked first and the question to the server.
+use Rattle.std.proofs.Common.{◌≡◌, ◌⊎◌, ℕ, ℤ, pos, negsuc, zero, suc, Bool, true, false, List, refl, inl, inr}
+use Rattle.std.specs.Prelude.{Result, Ok}
+use Rattle.hurd_creds.specs.declared.name.Name.{Name}
+use Rattle.hurd_creds.specs.declared.errno.Errno.{Errno}
+use Rattle.hurd_trans_iface.specs.Behaviour.{Did, Question, edits_of}
+use Rattle.hurd_trans_iface.specs.Kinds.{ServerKind, behaviour_of}
+use Rattle.hurd_trans_iface.specs.Good.{KeepsSizes, IsPlain as IsPlainAnswer}
+use Rattle.hurd_machine.specs.declared.call.Reply.{Reply}
+use Rattle.hurd_machine.specs.World.{World, asked_at}
+use Rattle.hurd_machine.specs.Change.{Change, apply_all, changes_of}
+use Rattle.hurd_machine.specs.Plan.{is_refused}
+use Rattle.hurd_machine.specs.Sight.{Part}
+use Rattle.hurd_machine.specs.Touched.{OnDid}
+use Rattle.hurd_machine.proofs.Views.{Agree}
+use Rattle.hurd_machine.proofs.Frame.{AllWithin, Full, within_append}
+use Rattle.hurd_machine.proofs.Coherence.{AllProper, proper_append}
+use Rattle.hurd_machine.proofs.Settle.{Rests, rests_append}
+use Rattle.hurd_machine.proofs.Sizes.{KeepsSized, did_sized, sized_append}
+use Rattle.hurd_machine.proofs.Several.{AllMay}
+use Rattle.hurd_machine.proofs.Permits.{cursor_may, did_may, did_exact, may_append}
+use Rattle.hurd_machine.proofs.Opens.{cursor_within, cursor_proper, cursor_rests, cursor_sized}
+use Rattle.hurd_machine.proofs.Edits.{did_within, did_proper, did_rests}
+use Rattle.hurd_machine.proofs.Asks.{IsPlain, ok_plain, err_plain, asked_plain, answered_same, answered_plain, done_plain}
+use Rattle.hurd_machine.proofs.CallLaws.{CallLaws, answered_within, answered_proper, answered_sized, answered_rests, answered_may}
+use Rattle.hurd_io.specs.declared.io.Offset.{Offset}
+use Rattle.hurd_io.specs.declared.io.Offset.TheVariants.{Place, Cursor}
+use Rattle.hurd_io.specs.declared.io.IoAt.{IoAt}
+use Rattle.hurd_io.specs.Io.{offset_of, past, moved, Moves, plan_io, touches_io}
+
+pub offset_plain : (offset : ℤ) → IsPlain (offset_of offset)
+offset_plain (pos n) = ok_plain _
+offset_plain (negsuc zero) = ok_plain _
+offset_plain (negsuc (suc n)) = err_plain _ refl
+
+-- a cursor that moves, or doesn't
+
+moved_within : (T : Part → Type 0) (w : World) (offset : Offset) (o : Name) (k : ℕ) → ((p : Part) → Moves offset o p → T p) → AllWithin T w (moved offset o k)
+moved_within T w (Place n) o k parts = tt
+moved_within T w Cursor o k parts = cursor_within T w o k (parts _ refl)
+
+moved_proper : (w : World) (offset : Offset) (o : Name) (k : ℕ) → AllProper w (moved offset o k)
+moved_proper w (Place n) o k = tt
+moved_proper w Cursor o k = cursor_proper w o k
+
+moved_sized : (w : World) (offset : Offset) (o : Name) (k : ℕ) → KeepsSized w (moved offset o k)
+moved_sized w (Place n) o k sized = sized
+moved_sized w Cursor o k sized = cursor_sized w o k sized
+
+moved_rests : (w : World) (offset : Offset) (o : Name) (k : ℕ) → Rests w (moved offset o k)
+moved_rests w (Place n) o k settled = settled
+moved_rests w Cursor o k settled = cursor_rests w o k settled
+
+moved_may : (S : ℕ → Bool) (v x : World) (offset : Offset) (o : Name) (k : ℕ) → AllMay S v x (moved offset o k)
+moved_may S v x (Place n) o k = tt
+moved_may S v x Cursor o k = cursor_may S v x o k
+
+-- of a call of task t that asks this first and then the server a question
+pub record IoLaws {T : Type 0} (t : ℕ) (asks : World → Result IoAt Errno) (q : ℕ → Question T) (reply : T → Reply) : Type 0 where
+  -- what is asked first, and what the server answers, is the same in worlds that agree for a set with the task
+  pub asks_same : (S : ℕ → Bool) (v w : World) → Agree S v w → S t ≡ true → asks w ≡ asks v
+  pub told_same : (S : ℕ → Bool) (v w : World) → Agree S v w → S t ≡ true → (a : IoAt) → asks v ≡ Ok a → asked_at (q a.at) a.node w ≡ asked_at (q a.at) a.node v
+  -- no refusal is want of memory
+  pub asks_plain : (w : World) → IsPlain (asks w)
+  pub told_plain : (at : ℕ) (k : ServerKind) → IsPlainAnswer (behaviour_of k) (q at)
+  pub reply_plain : (x : T) → is_refused (reply x) ≡ false
+  -- and sizes stay right
+  pub sizes : (at : ℕ) (k : ServerKind) → KeepsSizes (behaviour_of k) (q at)
+
+module _ {T : Type 0} (t : ℕ) (asks : World → Result IoAt Errno) (q : ℕ → Question T) (reply : T → Reply) (count : T → ℕ) (l : IoLaws t asks q reply) where
+  -- what the server does to the node, and then the cursor
+  abbrev edits : IoAt → Did T → List Change
+  edits a d = changes_of (edits_of a.node (Ok d))
+
+  abbrev moves : IoAt → Did T → List Change
+  moves a d = moved a.offset a.open_name (past a.at (count d.told))
+
+  abbrev between : World → IoAt → Did T → World
+  between w a d = apply_all (edits a d) w
+
+  abbrev parts : IoAt → Did T → Part → Type 0
+  parts a d p = OnDid a.node d p ⊎ Moves a.offset a.open_name p
+
+  pub io_laws : CallLaws t (λ w. plan_io w (asks w) q reply count) (λ w. touches_io w (asks w) q)
+  io_laws = record {
+    fits = λ w c. answered_within w t (asks w) _ _ (λ a is. answered_within w t (asked_at (q a.at) a.node w) _ (λ d p. parts a d p) (λ d told.
+        within_append (Full w t (parts a d)) (edits a d) (moves a d) w (did_within (Full w t (parts a d)) w a.node d (λ p on. inl (inl on)))
+        (moved_within (Full w t (parts a d)) (between w a d) a.offset a.open_name _ (λ p on. inl (inr on)))));
+    proper = λ w c. answered_proper w _ _ (λ a is. answered_proper w _ _ (λ d told.
+        proper_append (edits a d) (moves a d) w c (did_proper w c a.node d) (λ n. moved_proper (between w a d) a.offset a.open_name _)));
+    sized = λ w s. answered_sized w _ _ s.sizes (λ a is. answered_sized w _ _ s.sizes (λ d told.
+        sized_append (edits a d) (moves a d) w (did_sized (q a.at) (l.sizes a.at) w s.coherent a.node d told)
+        (moved_sized (between w a d) a.offset a.open_name _) s.sizes));
+    rests = λ w s. answered_rests w _ _ s.settled (λ a is. answered_rests w _ _ s.settled (λ d told.
+        rests_append (edits a d) (moves a d) w (did_rests w a.node d) (moved_rests (between w a d) a.offset a.open_name _) s.settled));
+    may = λ S v c ours. answered_may v _ _ S v (λ a is. answered_may v _ _ S v (λ d told.
+        may_append S v (edits a d) (moves a d) v (did_exact a.node d) (did_may S v v a.node d) (moved_may S v (between v a d) a.offset a.open_name _)));
+    same = λ S v w c a ours. answered_same _ _ _ _ (l.asks_same S v w a ours) (λ x is. answered_same _ _ _ _ (l.told_same S v w a ours x is) (λ d told. refl));
+    plain = λ w. answered_plain _ _ (l.asks_plain w) (λ a is.
+        answered_plain _ _ (asked_plain (q a.at) (l.told_plain a.at) a.node w) (λ d told. done_plain _ (l.reply_plain d.told)));
+  }

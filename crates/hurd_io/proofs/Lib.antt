@@ -1,0 +1,3 @@
+pub mod IoCallLaws
+pub mod ReadLaws
+pub mod WriteLaws
