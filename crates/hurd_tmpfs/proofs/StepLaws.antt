@@ -1,113 +1,92 @@
 -- What a call does to one node is what it does to the tree.
-use Rattle.std.proofs.Common.{◌≡◌, ℕ, ◌+◌, Bool, true, false, cond, if◌then◌else◌, List, [], ◌∷◌, length, nat_lt, refl, ap, sym, ◌∙◌, subst}
+use Rattle.std.proofs.Common.{◌≡◌, ℕ, Bool, true, false, if◌then◌else◌, not, List, refl, ap, sym, ◌∙◌, subst, is_some}
 use Rattle.std.specs.Prelude.{Option, Some, None, Result, Ok, Err}
-use Rattle.std.specs.Option.{option_map}
 use Rattle.std.specs.FinMap as fin
-use Rattle.hurd_creds.specs.Memory.{Steps, lacks_memory}
+use Rattle.hurd_creds.specs.Memory.{Steps}
 use Rattle.hurd_creds.specs.NameMaps.{edit}
 use Rattle.hurd_creds.specs.declared.name.Name.{Name}
+use Rattle.hurd_creds.specs.declared.attrs.Kind.{Kind}
+use Rattle.hurd_creds.specs.declared.attrs.Kind.TheVariants.{File}
 use Rattle.hurd_creds.specs.declared.errno.Errno.{Errno}
-use Rattle.hurd_creds.specs.declared.errno.Errno.TheVariants.{EDIED, EEXIST, EOPNOTSUPP}
+use Rattle.hurd_creds.specs.declared.errno.Errno.TheVariants.{EDIED, ENOTDIR, EEXIST, EROFS, EOPNOTSUPP}
 use Rattle.hurd_creds.proofs.NameLaws.{edit_found, insert_same}
-use Rattle.hurd_creds.proofs.StepLaws.{steps-refused}
+use Rattle.hurd_creds.proofs.StepLaws.{steps-refused, steps-inside}
 use Rattle.hurd_trans_iface.specs.declared.new_node.NewNode.{NewNode}
-use Rattle.hurd_trans_iface.specs.Nodes.{Body, Content, Listing, Node, NodeMap, OnHeader, Edit, edit_all, header_of, body_of, with_header, with_body, with_size, put_bytes, resize}
-use Rattle.hurd_trans_iface.specs.Answers.{is_there, entry_in, write_of, write_edits, grows, set_size_of, set_size_edits, make_of, make_edits, made_node, edits_if}
-use Rattle.hurd_trans_iface.specs.Meaning.{Meaning, edited, write_step, set_size_step, make_step}
-use Rattle.hurd_tmpfs.specs.Changes.{changed_if, with_bytes, written, resized, name_free}
+use Rattle.hurd_trans_iface.specs.declared.root.Root.{Root}
+use Rattle.hurd_trans_iface.specs.Nodes.{Node, NodeMap, is_dir, edit_all, with_header, with_body, with_size, on_bytes}
+use Rattle.hurd_trans_iface.specs.Answers.{is_tree, is_made, entry_of, make_of, make_edits, edits_if}
+use Rattle.hurd_trans_iface.specs.Behaviour.{Effect, Question, effect_on, told_of, edit_bytes, edit_size, edits_of, size_left, bytes_left, left_by}
+use Rattle.hurd_trans_iface.specs.Meaning.{Meaning, behaviour_of, root_of, edited, step_of, make_step}
+use Rattle.hurd_tmpfs.specs.Changes.{served}
 use Rattle.hurd_tmpfs.proofs.TreeLaws.{edit-inserted}
 
+-- the server with other nodes
+abbrev with_nodes : Meaning → NodeMap → Meaning
+with_nodes m ns = record m { nodes = ns }
+
 -- the server with another node in the place of a name
-abbrev pub with_node : Meaning → Name → Node → Meaning
-with_node m n x = record { kind = m.kind; text = m.text; root = m.root; nodes = fin.insert m.nodes n x }
-
-abbrev pub with_nodes : Meaning → NodeMap → Meaning
-with_nodes m ns = record { kind = m.kind; text = m.text; root = m.root; nodes = ns }
-
-cond-inside : {A B : Type 0} (k : A → B) (b : Bool) (x y : A) → k (cond b x y) ≡ cond b (k x) (k y)
-cond-inside k true x y = refl
-cond-inside k false x y = refl
-
--- a step of a part of a state is one of the state
-pub steps-inside : {T A B : Type 0} (k : A → B) (before after : A) (part : Result T Errno × A) (whole : Result T Errno × B) (got : Result T Errno) → whole ≡ (part.0, k part.1) → Steps before part got after → Steps (k before) whole got (k after)
-steps-inside k before after part whole got is s =
-    rw is (record { answered = s.answered; left = ap k s.left ∙ cond-inside k (lacks_memory got) before part.1 })
+abbrev with_node : Meaning → Name → Node → Meaning
+with_node m n x = with_nodes m (fin.insert m.nodes n x)
 
 module _ (m : Meaning) (n : Name) (x : Node) (at_n : fin.get m.nodes n ≡ Some x) where
   with_same : with_node m n x ≡ m
   with_same = ap (with_nodes m) (insert_same m.nodes n x at_n)
 
-  header_at : header_of m.nodes n ≡ Some x.header
-  header_at = ap (option_map (λ (y : Node). y.header)) at_n
+  -- what is done to the node, as edits of the server
+  edits-here : {T : Type 0} (e : Effect T) → edited (edits_of n e) m ≡ with_node m n (left_by e x)
+  edits-here (Err f) = sym with_same
+  edits-here (Ok d) = ap (with_nodes m) (go d.bytes d.size)
+    where
+      go : (b : Option (List ℕ → List ℕ)) (s : Option ℕ)
+          → edit_all (edit_bytes n b (edit_size n s)) m.nodes ≡ fin.insert m.nodes n (record { header = size_left s x.header; body = bytes_left b x.body })
+      go None None = sym (insert_same m.nodes n x at_n)
+      go (Some f) None = edit_found m.nodes n (with_body (on_bytes f)) x at_n
+      go None (Some s) = edit_found m.nodes n (with_header (with_size s)) x at_n
+      go (Some f) (Some s) =
+          ap (edit n (with_header (with_size s))) (edit_found m.nodes n (with_body (on_bytes f)) x at_n)
+          ∙ edit-inserted m.nodes n (with_body (on_bytes f) x) (with_header (with_size s))
 
-  grow-if : (b : Bool) (end : ℕ) (y : Node) → edit_all (if b then OnHeader n (with_size end) ∷ [] else []) (fin.insert m.nodes n y) ≡ fin.insert m.nodes n (if b then with_header (with_size end) y else y)
-  grow-if true end y = edit-inserted m.nodes n y (with_header (with_size end))
-  grow-if false end y = refl
+  module _ {T : Type 0} (q : Question T) (got : Result T Errno) where
+    abbrev effect : Effect T
+    effect = q (behaviour_of m.kind) m.text x
 
-  write-edits : (at : ℕ) (bs : List ℕ) → edit_all (write_edits n at bs (Some x.header)) m.nodes ≡ fin.insert m.nodes n (with_bytes at bs x)
-  write-edits at [] = sym (insert_same m.nodes n x at_n)
-  write-edits at (b ∷ bs) =
-      let end : ℕ = at + length (b ∷ bs) in
-      let y : Node = with_body (put_bytes at (b ∷ bs)) x in
-      ap (edit_all (grows n end (Some x.header))) (edit_found m.nodes n (with_body (put_bytes at (b ∷ bs))) x at_n)
-      ∙ grow-if (nat_lt x.header.size end) end y
+    step-here : step_of q n m ≡ (told_of effect, with_node m n (left_by effect x))
+    step-here =
+        ap (λ (o : Option Node). let e = effect_on q (behaviour_of m.kind) m.text o in (told_of e, edited (edits_of n e) m)) at_n
+        ∙ ap (λ (s : Meaning). (told_of effect, s)) (edits-here effect)
 
-  edited-if : {T : Type 0} (answer : Result T Errno) (es : List Edit) (y : Node) → edit_all es m.nodes ≡ fin.insert m.nodes n y → edited (edits_if answer es) m ≡ with_node m n (changed_if answer y x)
-  edited-if (Ok t) es y is = ap (with_nodes m) is
-  edited-if (Err e) es y is = sym with_same
+    -- a step of the node is one of the server
+    pub step-node : (y : Node) (ns : NodeMap) → Steps x (served effect x) got y → ns ≡ fin.insert m.nodes n y → Steps m (step_of q n m) got (with_nodes m ns)
+    step-node y ns s new =
+        let inside = steps-inside (with_node m n) x y (served effect x) (step_of q n m) got step-here s in
+        rw new (subst (λ (t : Meaning). Steps t (step_of q n m) got (with_node m n y)) with_same inside)
 
-  write-here : (at : ℕ) (bs : List ℕ) → write_step n at bs m ≡ ((written at bs x).0, with_node m n (written at bs x).1)
-  write-here at bs =
-      rw header_at (ap (λ (t : Meaning). (write_of at (length bs) (Some x.header), t)) (edited-if (write_of at (length bs) (Some x.header)) (write_edits n at bs (Some x.header)) (with_bytes at bs x) (write-edits at bs)))
-
-  set_size-edits : (size : ℕ) → edit_all (set_size_edits n size) m.nodes ≡ fin.insert m.nodes n (with_header (with_size size) (with_body (resize size) x))
-  set_size-edits size =
-      ap (edit n (with_header (with_size size))) (edit_found m.nodes n (with_body (resize size)) x at_n)
-      ∙ edit-inserted m.nodes n (with_body (resize size) x) (with_header (with_size size))
-
-  set_size-here : (size : ℕ) → set_size_step n size m ≡ ((resized size x).0, with_node m n (resized size x).1)
-  set_size-here size =
-      rw header_at (ap (λ (t : Meaning). (set_size_of size (Some x.header), t)) (edited-if (set_size_of size (Some x.header)) (set_size_edits n size) (with_header (with_size size) (with_body (resize size) x)) (set_size-edits size)))
-
-  -- a step of the node is one of the server
-  lifted : {T : Type 0} (y : Node) (part : Result T Errno × Node) (whole : Result T Errno × Meaning) (got : Result T Errno) (ns : NodeMap) → whole ≡ (part.0, with_node m n part.1) → Steps x part got y → ns ≡ fin.insert m.nodes n y → Steps m whole got (with_nodes m ns)
-  lifted y part whole got ns is s new =
-      let inside = steps-inside (with_node m n) x y part whole got is s in
-      let here = subst (λ (t : Meaning). Steps t whole got (with_node m n y)) with_same inside in
-      rw new here
-
-  pub steps-write : (at : ℕ) (bs : List ℕ) (y : Node) (got : Result ℕ Errno) (ns : NodeMap) → Steps x (written at bs x) got y → ns ≡ fin.insert m.nodes n y → Steps m (write_step n at bs m) got (with_nodes m ns)
-  steps-write at bs y got ns s new = lifted y (written at bs x) (write_step n at bs m) got ns (write-here at bs) s new
-
-  pub steps-set_size : (size : ℕ) (y : Node) (got : Result (Unit {0}) Errno) (ns : NodeMap) → Steps x (resized size x) got y → ns ≡ fin.insert m.nodes n y → Steps m (set_size_step n size m) got (with_nodes m ns)
-  steps-set_size size y got ns s new = lifted y (resized size x) (set_size_step n size m) got ns (set_size-here size) s new
-
-abbrev done : Result (Unit {0}) Errno
-done = Ok tt
+    -- a step that leaves the node as it was leaves the server
+    pub step-kept : Steps x (served effect x) got x → Steps m (step_of q n m) got m
+    step-kept s = step-node x m.nodes s (sym (insert_same m.nodes n x at_n))
 
 -- no such node
-module _ (m : Meaning) (n : Name) (none : fin.get m.nodes n ≡ None) where
-  no_header : header_of m.nodes n ≡ None
-  no_header = ap (option_map (λ (y : Node). y.header)) none
+pub step-nowhere : {T : Type 0} (q : Question T) (m : Meaning) (n : Name) → fin.get m.nodes n ≡ None → Steps m (step_of q n m) (Err EDIED) m
+step-nowhere q m n none = steps-refused (step_of q n m) m EDIED (rw none refl)
 
-  pub write-nowhere : (at : ℕ) (bs : List ℕ) → Steps m (write_step n at bs m) (Err EDIED) m
-  write-nowhere at bs = steps-refused (write_step n at bs m) m EDIED (rw no_header refl)
+-- making
 
-  pub set_size-nowhere : (size : ℕ) → Steps m (set_size_step n size m) (Err EDIED) m
-  set_size-nowhere size = steps-refused (set_size_step n size m) m EDIED (rw no_header refl)
+-- the tests of a directory that is there
+abbrev tested : Bool → Bool → Bool → Bool → Result (Unit {0}) Errno
+tested dir keeps taken fits = if not dir then Err ENOTDIR else if not keeps then Err EROFS else if taken then Err EEXIST else if fits then Ok tt else Err EOPNOTSUPP
 
-module _ (dir : Name) (name : List ℕ) (new : NewNode) where
-  refuses : (b : Option Body) (e : Errno) → name_free name b ≡ Err e → make_of dir name new b ≡ Err e
-  refuses None e h = h
-  refuses (Some (Content bs)) e h = h
-  refuses (Some (Listing es)) e h = go (is_there (entry_in name es)) (is_there (made_node dir new)) h
-    where
-      go : (there fit : Bool) → (if there then Err EEXIST else done) ≡ Err e → (if there then Err EEXIST else if fit then done else Err EOPNOTSUPP) ≡ Err e
-      go true fit k = k
-      go false fit k = absurd (cc)
+barred : (dir keeps taken fits : Bool) (e : Errno) → tested dir keeps taken true ≡ Err e → tested dir keeps taken fits ≡ Err e
+barred false keeps taken fits e h = h
+barred true false taken fits e h = h
+barred true true true fits e h = h
+barred true true false fits e h = absurd (cc)
 
-  -- the directory isn't there, or has the name
-  pub make-barred : (m : Meaning) (e : Errno) → name_free name (body_of m.nodes dir) ≡ Err e → Steps m (make_step dir name new m) (Err e) m
-  make-barred m e h =
-      steps-refused (make_step dir name new m) m e
-      (ap (λ (answer : Result (Unit {0}) Errno). (answer, edited (edits_if answer (make_edits dir name new)) m)) (refuses (body_of m.nodes dir) e h))
+-- where not even a file can be made, nothing can
+make_of-barred : (root : Root) (name : List ℕ) (kind : Kind) (o : Option Node) (e : Errno) → make_of root name File o ≡ Err e → make_of root name kind o ≡ Err e
+make_of-barred root name kind None e h = h
+make_of-barred root name kind (Some d) e h = barred (is_dir d.header.kind) (is_tree root) (is_some (entry_of name (Some d.body))) (is_made kind) e h
+
+pub make-barred : (dir : Name) (name : List ℕ) (new : NewNode) (m : Meaning) (e : Errno) → make_of (root_of m.kind) name File (fin.get m.nodes dir) ≡ Err e → Steps m (make_step dir name new m) (Err e) m
+make-barred dir name new m e h =
+    steps-refused (make_step dir name new m) m e
+    (ap (λ (answer : Result (Unit {0}) Errno). (answer, edited (edits_if answer (make_edits dir name new)) m)) (make_of-barred (root_of m.kind) name new.kind (fin.get m.nodes dir) e h))

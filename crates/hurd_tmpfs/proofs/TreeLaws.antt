@@ -10,8 +10,9 @@ use Rattle.hurd_creds.specs.NameMaps.{place_by}
 use Rattle.hurd_creds.proofs.KeyedLaws.{keyed-changed, get-found, get-absent}
 use Rattle.hurd_tmpfs.specs.declared.inode.Inode.{Inode}
 use Rattle.hurd_creds.specs.declared.errno.Errno.TheVariants.{EDIED}
-use Rattle.hurd_trans_iface.specs.Nodes.{Node, body_of}
-use Rattle.hurd_tmpfs.specs.Changes.{name_free}
+use Rattle.hurd_creds.specs.declared.attrs.Kind.{Kind}
+use Rattle.hurd_trans_iface.specs.declared.root.Root.{Root}
+use Rattle.hurd_trans_iface.specs.Answers.{make_of}
 use Rattle.hurd_tmpfs.specs.Tree.{key_of, node_of, nodes_of}
 
 -- a value put in where another one is edited
@@ -52,9 +53,8 @@ pub no_nodes : (is : List Inode) (n : Name) → length is ≡ 0 → fin.get (nod
 no_nodes [] n none = get-absent key_of node_of n [] refl
 no_nodes (i ∷ is) n none = absurd (omega arith)
 
--- where a name is free in a directory there are nodes
-pub free_somewhere : (is : List Inode) (dir : Name) (name : List ℕ) (x : Unit {0}) → name_free name (body_of (nodes_of is) dir) ≡ Ok x → length is ≡ 0 → ⊥
-free_somewhere is dir name x free none =
-    let nobody : body_of (nodes_of is) dir ≡ None = ap (option_map (λ (y : Node). y.body)) (no_nodes is dir none) in
-    let died : Err EDIED ≡ Ok x = ap (name_free name) (sym nobody) ∙ free in
+-- where a node can be made there are nodes
+pub made_somewhere : (is : List Inode) (root : Root) (name : List ℕ) (kind : Kind) (dir : Name) (x : Unit {0}) → make_of root name kind (fin.get (nodes_of is) dir) ≡ Ok x → length is ≡ 0 → ⊥
+made_somewhere is root name kind dir x made none =
+    let died : Err EDIED ≡ Ok x = ap (make_of root name kind) (sym (no_nodes is dir none)) ∙ made in
     cc

@@ -5,7 +5,8 @@ ghost use Rattle.hurd_creds.specs.Memory.{Steps};
 ghost use Rattle.hurd_trans_iface.specs.Nodes.{attrs_of, bytes_put};
 ghost use Rattle.hurd_trans_iface.specs.Answers.{made_node};
 ghost use Rattle.hurd_tmpfs.specs.Tree.{node_of};
-ghost use Rattle.hurd_tmpfs.specs.Changes.{written, resized, entered};
+ghost use Rattle.hurd_trans_iface.specs.TmpfsKind.{read_bytes, write_file, cut_file};
+ghost use Rattle.hurd_tmpfs.specs.Changes.{served, entered};
 
 use hurd_creds::{Attrs, Bytes, Errno, Kind, Mode, NodeName};
 use hurd_trans_iface::NewNode;
@@ -86,12 +87,25 @@ impl Inode {
         }
     }
 
+    /// At most so many bytes of a file from a place on.
+    ///
+    /// Errors, in order: `EISDIR`, `ENOMEM`.
+    pub(crate) fn read(&self, alloc: Global, at: u64, amount: u64) -> Result<Bytes, Errno>
+        ensures { let node = node_of self.now in
+            Steps node (served (read_bytes at amount node.body) node) result node }
+    {
+        match &self.contents {
+            Contents::File(bytes) => Ok(Bytes::copied(alloc, part(bytes, at, amount))?),
+            Contents::Dir(_) => Err(Errno::EISDIR),
+        }
+    }
+
     /// Puts bytes into a file.
     ///
     /// Errors, in order: `EBADF` a directory, `EFBIG`, `ENOMEM`.
     pub(crate) fn write(&mut self, at: u64, bytes: &[u8]) -> Result<u64, Errno>
         ensures steps { let node = node_of self.old in
-            Steps node (written at bytes.now node) result (node_of self.new) }
+            Steps node (served (write_file node.header at bytes.now) node) result (node_of self.new) }
         ensures name { self.new.name ≡ self.old.name }
     {
         let Contents::File(held) = &mut self.contents else {
@@ -101,17 +115,16 @@ impl Inode {
         if at > MOST_BYTES || count > MOST_BYTES - at {
             return Err(Errno::EFBIG);
         }
-        match put_bytes(held, at as usize, bytes) {
-            Ok(()) => Ok(count),
-            Err(AllocError) => Err(Errno::ENOMEM),
-        }
+        put_bytes(held, at as usize, bytes)?;
+        Ok(count)
     }
 
     /// Cuts a file, or grows it by zero bytes.
     ///
     /// Errors, in order: `EFBIG`, `EBADF` a directory, `ENOMEM`.
     pub(crate) fn set_size(&mut self, size: u64) -> Result<(), Errno>
-        ensures steps { let node = node_of self.old in Steps node (resized size node) result (node_of self.new) }
+        ensures steps { let node = node_of self.old in
+            Steps node (served (cut_file node.header size) node) result (node_of self.new) }
         ensures name { self.new.name ≡ self.old.name }
     {
         if size > MOST_BYTES {
@@ -120,10 +133,7 @@ impl Inode {
         let Contents::File(held) = &mut self.contents else {
             return Err(Errno::EBADF);
         };
-        match held.resize(size as usize, 0) {
-            Ok(()) => Ok(()),
-            Err(AllocError) => Err(Errno::ENOMEM),
-        }
+        Ok(held.resize(size as usize, 0)?)
     }
 
     /// Puts an entry last into a directory; a file stays as it is.
@@ -173,7 +183,7 @@ fn overlay(held: &mut [u8], at: usize, bytes: &[u8])
 }
 
 /// At most so many bytes from a place on.
-pub(crate) fn part(bytes: &[u8], at: u64, amount: u64) -> &[u8]
+fn part(bytes: &[u8], at: u64, amount: u64) -> &[u8]
     ensures { result.now ≡ take amount (drop at bytes.now) }
 {
     let from = at.min(bytes.len() as u64) as usize;

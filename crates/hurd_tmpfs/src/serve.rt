@@ -1,17 +1,18 @@
 //! How a tree in memory begins, and serves its nodes.
 ghost use Rattle.std.specs.Prelude.{◌≡◌, Some, IfOk, IfErr, MatchOption, is_some};
-ghost use Rattle.hurd_trans_iface.specs.Nodes.{body_of};
+ghost use Rattle.std.specs.FinMap as fin;
+ghost use Rattle.hurd_trans_iface.specs.Answers.{make_of};
+ghost use Rattle.hurd_trans_iface.specs.TmpfsKind.{tmpfs};
 ghost use Rattle.hurd_trans_iface.specs.Meaning.{begin};
 ghost use Rattle.hurd_tmpfs.specs.Tree.{tree, nodes_of};
-ghost use Rattle.hurd_tmpfs.specs.Changes.{name_free};
 
 use crate::changes::{add, put};
-use crate::inode::{Contents, DirEntry, Inode, part};
+use crate::inode::{Contents, DirEntry, Inode};
 use crate::search::{entry_named, find, names_in, place};
 use crate::tmpfs::Tmpfs;
 use hurd_creds::{Attrs, Bytes, Errno, Kind, Mode, NodeName, OpenFlags};
 use hurd_trans_iface::{Crossing, Names, NewNode, Root, Server, Words};
-use std::alloc::{AllocError, Global};
+use std::alloc::Global;
 
 impl Tmpfs {
     /// The tree that these words make: `/hurd/tmpfs` alone. It is empty, and has no root until one is named.
@@ -25,21 +26,18 @@ impl Tmpfs {
         if !is_tmpfs(words) {
             return Err(Errno::EINVAL);
         }
-        match Vec::with_capacity(alloc, 1) {
-            Ok(nodes) => Ok(Tmpfs {
-                alloc,
-                root: None,
-                nodes,
-            }),
-            Err(AllocError) => Err(Errno::ENOMEM),
-        }
+        Ok(Tmpfs {
+            alloc,
+            root: None,
+            nodes: Vec::with_capacity(alloc, 1)?,
+        })
     }
 
-    /// Whether a directory has no entry of this name.
+    /// Whether a file may be made in a directory under a name.
     ///
     /// Errors, in order: `EDIED` no such directory, `ENOTDIR`, `EEXIST`.
-    fn has_no(&self, dir: NodeName, name: &[u8]) -> Result<(), Errno>
-        ensures { result ≡ name_free name.now (body_of (nodes_of self.now.nodes.items) dir) }
+    fn may_make(&self, dir: NodeName, name: &[u8]) -> Result<(), Errno>
+        ensures { result ≡ make_of tmpfs.root name.now Kind.File (fin.get (nodes_of self.now.nodes.items) dir) }
     {
         let Some(inode) = find(&self.nodes, dir) else {
             return Err(Errno::EDIED);
@@ -99,22 +97,19 @@ impl Server for Tmpfs {
         let Contents::Dir(entries) = &inode.contents else {
             return Err(Errno::ENOTDIR);
         };
-        match names_in(alloc, entries) {
-            Ok(names) => Ok(names),
-            Err(AllocError) => Err(Errno::ENOMEM),
-        }
+        Ok(names_in(alloc, entries)?)
     }
 
-    fn read(&self, alloc: Global, node: NodeName, at: u64, amount: u64) -> Result<Bytes, Errno> {
-        let Some(inode) = find(&self.nodes, node) else {
-            return Err(Errno::EDIED);
-        };
-        let Contents::File(bytes) = &inode.contents else {
-            return Err(Errno::EISDIR);
-        };
-        match Bytes::copied(alloc, part(bytes, at, amount)) {
-            Ok(bytes) => Ok(bytes),
-            Err(AllocError) => Err(Errno::ENOMEM),
+    fn read(
+        &mut self,
+        alloc: Global,
+        node: NodeName,
+        at: u64,
+        amount: u64,
+    ) -> Result<Bytes, Errno> {
+        match find(&self.nodes, node) {
+            Some(inode) => inode.read(alloc, at, amount),
+            None => Err(Errno::EDIED),
         }
     }
 
@@ -139,23 +134,15 @@ impl Server for Tmpfs {
         name: &[u8],
         new: NewNode,
     ) -> Result<(), Errno> {
-        if let Err(errno) = self.has_no(dir, name) {
-            return Err(errno);
-        }
+        self.may_make(dir, name)?;
         let Some(inode) = Inode::made(alloc, dir, new) else {
             return Err(Errno::EOPNOTSUPP);
         };
-        let Ok(name) = Bytes::copied(alloc, name) else {
-            return Err(Errno::ENOMEM);
-        };
         let entry = DirEntry {
-            name,
+            name: Bytes::copied(alloc, name)?,
             node: new.name,
         };
-        match add(&mut self.nodes, dir, entry, inode) {
-            Ok(()) => Ok(()),
-            Err(AllocError) => Err(Errno::ENOMEM),
-        }
+        Ok(add(&mut self.nodes, dir, entry, inode)?)
     }
 
     fn opened(&mut self, _node: NodeName, _modes: OpenFlags) {}

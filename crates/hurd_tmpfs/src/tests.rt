@@ -142,20 +142,29 @@ fn files_are_written_cut_and_grown(rt: HostRuntime) -> Result<(), Errno> {
 }
 
 #[test]
-fn refused_memory_changes_nothing(rt: HostRuntime) -> Result<(), Errno> {
+fn ample_memory_is_enough_at_the_first_try(rt: HostRuntime) -> Result<(), Errno> {
     let alloc = rt.alloc();
     let mut tree = small_tree(alloc)?;
-    let new = new_node(3, Kind::File);
-    if tree.make(alloc, name(2), b"g", new) == Err(Errno::ENOMEM) {
-        assert_eq!(rt; tree.step(name(2), b"g"), None);
-        assert_eq!(rt; tree.attrs(name(3)), None);
-        tree.make(alloc, name(2), b"g", new)?;
+    for count in 3..43 {
+        let (node, entry) = (name(count), [count as u8]);
+        assert_eq!(rt;
+            tree.make(alloc, name(2), &entry, new_node(count, Kind::File)),
+            Ok(()),
+            "make {count}"
+        );
+        assert_eq!(rt; tree.write(node, count, b"x"), Ok(1), "write {count}");
+        assert_eq!(rt; tree.set_size(node, 2 * count), Ok(()), "set_size {count}");
+        assert_eq!(rt;
+            tree.read(alloc, node, count, 1)?.as_slice(),
+            b"x".as_slice(),
+            "read {count}"
+        );
+        assert_eq!(rt;
+            tree.attrs(node).map(|attrs| attrs.size),
+            Some(2 * count),
+            "attrs {count}"
+        );
     }
-    assert_eq!(rt; tree.step(name(2), b"g"), Some(name(3)));
-    if tree.write(name(3), 2, b"x") == Err(Errno::ENOMEM) {
-        assert_eq!(rt; tree.attrs(name(3)).map(|attrs| attrs.size), Some(0));
-        tree.write(name(3), 2, b"x")?;
-    }
-    assert_eq!(rt; tree.attrs(name(3)).map(|attrs| attrs.size), Some(3));
+    assert_eq!(rt; tree.names(alloc, name(2))?.as_slice().len(), 40);
     Ok(())
 }

@@ -1,6 +1,7 @@
 use Rattle.hurd_creds.proofs.KeyedLaws.{get-found, get-absent, keyed-changed}
+use Rattle.hurd_trans_iface.specs.Behaviour.{writing}
 use Rattle.hurd_tmpfs.specs.Tree.{key_of, node_of, tree}
-use Rattle.hurd_tmpfs.proofs.StepLaws.{steps-write, write-nowhere}
+use Rattle.hurd_tmpfs.proofs.StepLaws.{step-node, step-nowhere}
 use Rattle.hurd_tmpfs.proofs.serve.TmpfsServer.write.Goals as goal
 
 pub returns-in-Some : goal.returns-in-Some
@@ -9,10 +10,9 @@ returns-in-Some c =
     let is = c.index_mut.ensures.value in
     let found = get-found key_of node_of c.args.node c.args.self.now.nodes.items c.in-Some.i c.index_mut.result.now there is in
     let changed = keyed-changed key_of node_of c.args.node c.args.self.now.nodes.items c.in-Some.i c.index_mut.result.now c.write.new.self there is c.write.ensures.name in
-    steps-write (tree c.args.self.now) c.args.node (node_of c.index_mut.result.now) found c.args.at c.args.bytes.now (node_of c.write.new.self) c.write.result _ c.write.ensures.steps changed
+    step-node (tree c.args.self.now) c.args.node (node_of c.index_mut.result.now) found (writing c.args.at c.args.bytes.now) c.write.result (node_of c.write.new.self) _ c.write.ensures.steps changed
 
 pub returns-in-None : goal.returns-in-None
 returns-in-None c =
-    write-nowhere (tree c.args.self.now) c.args.node
+    step-nowhere (writing c.args.at c.args.bytes.now) (tree c.args.self.now) c.args.node
     (get-absent key_of node_of c.args.node c.args.self.now.nodes.items (rw c.deref.ensures.value at c.in-None.ensures.is))
-    c.args.at c.args.bytes.now
