@@ -11,6 +11,8 @@
 mod opens;
 mod ports;
 mod table;
+#[cfg(test)]
+mod tests;
 
 pub use ports::Ports;
 pub use table::{Opened, Port, Right, TaskSeat};

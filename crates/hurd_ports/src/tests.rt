@@ -1,0 +1,190 @@
+//! Numbers of ports as tasks see them, reservations, and opens as they come and go.
+use super::*;
+use hurd_creds::{Errno, Ids, Name, OpenFlags, TaskId};
+use std::alloc::Global;
+use std::test::Fail;
+
+/// A call on a table, of a task by its number.
+#[derive(Clone, Copy, Debug)]
+enum Call {
+    Insert(u32),
+    /// One name taken, and a port filled into what was reserved before.
+    Make(u32),
+    Right(u32, u64),
+    Deallocate(u32, u64),
+}
+
+const ROOT: Name = Name {
+    task: TaskId(0),
+    count: 0,
+};
+
+/// A port on a node of a new name.
+fn make(ports: &mut Ports, alloc: Global, task: TaskId) -> Result<u64, Errno> {
+    ports.room(task, 2)?;
+    ports.reserve(task)?;
+    let ids = Ids::new(alloc, &[1000], &[1000])?;
+    let node = ports.take_name(task);
+    Ok(ports.fill(task, node, ids, OpenFlags::READ))
+}
+
+/// The number that a call answers with, or that it was made with.
+fn number(ports: &mut Ports, alloc: Global, call: Call) -> Result<u64, Errno> {
+    match call {
+        Call::Insert(task) => ports.insert(
+            TaskId(task),
+            ROOT,
+            Ids::new(alloc, &[1000], &[1000])?,
+            OpenFlags::READ,
+        ),
+        Call::Make(task) => make(ports, alloc, TaskId(task)),
+        Call::Right(task, port) => {
+            ports.right(TaskId(task), port)?;
+            Ok(port)
+        }
+        Call::Deallocate(task, port) => {
+            ports.deallocate(TaskId(task), port)?;
+            Ok(port)
+        }
+    }
+}
+
+/// Tables of two tasks.
+fn two_tasks(alloc: Global, next: u64) -> Result<Ports, Fail> {
+    let mut tasks = Vec::new(alloc);
+    tasks.push(Ids::new(alloc, &[1000], &[1000])?)?;
+    tasks.push(Ids::new(alloc, &[], &[])?)?;
+    Ok(Ports::starting_at(alloc, tasks, next)?)
+}
+
+#[test]
+fn numbers_rise_for_each_task_alone(rt: HostRuntime) -> Result<(), Fail> {
+    let rows = [
+        (
+            3,
+            [
+                (Call::Insert(0), Ok(3)),
+                (Call::Insert(0), Ok(4)),
+                (Call::Make(1), Ok(3)),
+                (Call::Insert(1), Ok(4)),
+            ],
+        ),
+        (
+            3,
+            [
+                (Call::Insert(0), Ok(3)),
+                (Call::Deallocate(0, 3), Ok(3)),
+                (Call::Right(0, 3), Err(Errno::EBADF)),
+                (Call::Insert(0), Ok(4)),
+            ],
+        ),
+        (
+            3,
+            [
+                (Call::Insert(0), Ok(3)),
+                (Call::Right(0, 3), Ok(3)),
+                (Call::Right(1, 3), Err(Errno::EBADF)),
+                (Call::Deallocate(1, 3), Err(Errno::EBADF)),
+            ],
+        ),
+        (
+            3,
+            [
+                (Call::Insert(2), Err(Errno::ESRCH)),
+                (Call::Make(2), Err(Errno::ESRCH)),
+                (Call::Right(2, 3), Err(Errno::ESRCH)),
+                (Call::Deallocate(2, 3), Err(Errno::ESRCH)),
+            ],
+        ),
+        (
+            18446744073709551614,
+            [
+                (Call::Insert(0), Ok(18446744073709551614)),
+                (Call::Insert(0), Err(Errno::EOVERFLOW)),
+                (Call::Make(0), Err(Errno::EOVERFLOW)),
+                (Call::Insert(1), Ok(18446744073709551614)),
+            ],
+        ),
+    ];
+    for (next, calls) in rows {
+        let mut ports = two_tasks(rt.alloc(), next)?;
+        for (call, answer) in calls {
+            assert_eq!(rt;
+                number(&mut ports, rt.alloc(), call),
+                answer,
+                "{call:?} from {next}"
+            );
+        }
+    }
+    Ok(())
+}
+
+#[test]
+fn what_is_reserved_and_not_filled_changes_nothing(rt: HostRuntime) -> Result<(), Fail> {
+    let mut ports = two_tasks(rt.alloc(), 3)?;
+    let port = number(&mut ports, rt.alloc(), Call::Insert(1))?;
+    let next = ports.next_name(TaskId(1));
+    assert_eq!(rt;
+        next,
+        Some(Name {
+            task: TaskId(1),
+            count: 1
+        })
+    );
+    assert_eq!(rt; ports.reserve(TaskId(0)), Ok(()));
+    assert_eq!(rt; ports.reserve(TaskId(1)), Ok(()));
+    assert_eq!(rt; ports.reserve(TaskId(2)), Err(Errno::ESRCH));
+    assert_eq!(rt; ports.next_name(TaskId(1)), next);
+    assert_eq!(rt;
+        number(&mut ports, rt.alloc(), Call::Right(1, port + 1)),
+        Err(Errno::EBADF)
+    );
+    assert_eq!(rt; number(&mut ports, rt.alloc(), Call::Make(1)), Ok(port + 1));
+    assert_eq!(rt;
+        ports.right(TaskId(1), port + 1)?.node,
+        Name {
+            task: TaskId(1),
+            count: 1
+        }
+    );
+    assert_eq!(rt;
+        ports.next_name(TaskId(1)),
+        Some(Name {
+            task: TaskId(1),
+            count: 3
+        })
+    );
+    assert_eq!(rt; ports.next_name(TaskId(2)), None);
+    Ok(())
+}
+
+#[test]
+fn an_open_goes_with_its_right(rt: HostRuntime) -> Result<(), Fail> {
+    let mut ports = two_tasks(rt.alloc(), 3)?;
+    assert_eq!(rt; ports.task_count(), 2);
+    assert!(rt; !ports.ids(TaskId(0))?.is_root());
+    assert_eq!(rt; ports.room(TaskId(1), 18446744073709551615), Ok(()));
+    let port = number(&mut ports, rt.alloc(), Call::Insert(1))?;
+    assert_eq!(rt;
+        ports.room(TaskId(1), 18446744073709551615),
+        Err(Errno::EOVERFLOW)
+    );
+    let name = ports.right(TaskId(1), port)?.open_name;
+    for cursor in [0, 5, 18446744073709551615] {
+        ports.move_cursor(name, cursor);
+        assert_eq!(rt;
+            ports.opened(name),
+            Some(Opened {
+                cursor,
+                modes: OpenFlags::READ
+            })
+        );
+    }
+    ports.deallocate(TaskId(1), port)?;
+    assert_eq!(rt; ports.opened(name), None);
+    assert_eq!(rt;
+        number(&mut ports, rt.alloc(), Call::Insert(1)),
+        Ok(port + 1)
+    );
+    Ok(())
+}
