@@ -3,3 +3,4 @@ pub mod Touched
 pub mod Runs
 pub mod Laws
 pub mod Served
+pub mod Called

@@ -2,3 +2,4 @@ pub mod CallLaws
 pub mod RunLaws
 pub mod BootLaws
 pub mod FirstWorld
+pub mod CalledLaws

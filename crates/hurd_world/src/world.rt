@@ -11,6 +11,7 @@ ghost use Rattle.hurd_lookup.specs.Lookup.{plan_lookup};
 ghost use Rattle.hurd_io.specs.Io.{plan_read, plan_write};
 ghost use Rattle.hurd_files.specs.Files.{plan_set_size, plan_readdir};
 ghost use Rattle.hurd_laws.specs.Step.{plan, plan_deallocate};
+ghost use Rattle.hurd_laws.specs.Called.{Called};
 ghost use Rattle.hurd_laws.specs.Served.{Served, IsolatedRun};
 ghost use Rattle.hurd_world.specs.Held.{world_of, result_of, lists_names, told, made_by};
 ghost use Rattle.hurd_world.specs.Boot.{boot_of, first_world};
@@ -89,7 +90,8 @@ impl<S: Server> World<S> {
     ///
     /// Errors: `ESRCH` where there is no such task, then those of the call, in its order.
     pub fn call(&mut self, alloc: Global, task: TaskId, call: Call) -> Reply
-        ensures answer { let w = world_of S.meaning self.old in
+        ensures answer { Called (world_of S.meaning self.old) task.0 call result (world_of S.meaning self.new) }
+        ensures planned { let w = world_of S.meaning self.old in
             Planned (lists_names call) w task.0 (plan w task.0 call) (result_of result) (world_of S.meaning self.new) }
         ensures settled { IsSettled self.old.ports }
         ensures sound { Sound (world_of S.meaning self.old) → Sound (world_of S.meaning self.new) }

@@ -10,7 +10,7 @@ pub loop-task-preserved : goal.loop-task-preserved
 loop-task-preserved g c =
     let before = world_of g.S.Server.meaning c.loop-task.self in
     let after = world_of g.S.Server.meaning c.call.new.self in
-    let answered = planned_answered (lists_names c.in-Some.call) before after c.in-Some.task.0 c.in-Some.call (result_of c.call.result) c.call.ensures.settled c.call.ensures.answer in
+    let answered = planned_answered (lists_names c.in-Some.call) before after c.in-Some.task.0 c.in-Some.call (result_of c.call.result) c.call.ensures.settled c.call.ensures.planned in
     record {
       can = tt;
       ends = tt;
