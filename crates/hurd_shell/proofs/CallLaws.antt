@@ -1,40 +1,28 @@
--- A call that was not refused for want of memory is the machine's step.
-use Rattle.std.proofs.Common.{◌≡◌, ◌⊎◌, inl, inr, ℕ, Bool, true, false, sym, ◌∙◌, ap}
+-- What a call that may be refused memory told.
+use Rattle.std.proofs.Common.{◌≡◌, ◌∙◌, inl, inr, ℕ, true, false, true≢false, sym, refl, ap, subst}
 use Rattle.hurd_creds.specs.declared.errno.Errno.{Errno}
 use Rattle.hurd_creds.specs.declared.errno.Errno.TheVariants.{ENOMEM}
 use Rattle.hurd_creds.specs.Memory.{is_no_memory}
 use Rattle.hurd_machine.specs.declared.call.Call.{Call}
 use Rattle.hurd_machine.specs.declared.call.Reply.{Reply}
-use Rattle.hurd_machine.specs.declared.call.Reply.TheVariants.{Done, Found, Data, Count, Names, Refused}
+use Rattle.hurd_machine.specs.declared.call.Reply.TheVariants.{Refused}
 use Rattle.hurd_machine.specs.World.{World}
-use Rattle.hurd_machine.specs.Plan.{Plan, Planned, after_plan, refuse}
-use Rattle.hurd_machine.specs.Sound.{Sound}
-use Rattle.hurd_machine.proofs.Settle.{settle_same}
-use Rattle.hurd_laws.specs.Step.{plan}
-use Rattle.hurd_world.specs.Held.{result_of}
-use Rattle.hurd_shell.specs.Progress.{Made, lacks_memory}
+use Rattle.hurd_laws.specs.Called.{Called}
+use Rattle.hurd_shell.specs.Progress.{Stepped, lacks_memory}
 
-as_planned : (t : ℕ) (c : Call) (w x : World) (r : Reply) → ((plan w t c).reply ≡ r) × (x ≡ after_plan w t (plan w t c)) → (Sound w → Sound x) → Made t c w (λ a. a) r x
-as_planned t c w x r (answered, left) sound = record { reply = λ s. sym answered; world = λ s. left; sound = sound }
+-- any other reply is the step's
+pub stepped : (w : World) (t : ℕ) (c : Call) (r : Reply) (x : World) → lacks_memory r ≡ false → Called w t c r x → Stepped w t c r x
+stepped w t c r x known (inl step) = record { step = step }
+stepped w t c r x known (inr lacks) = absurd (true≢false (sym (ap lacks_memory lacks.told) ∙ known))
 
-as_refused : (t : ℕ) (c : Call) (w x : World) (e : Errno) → x ≡ w → plan w t c ≡ refuse e → (Sound w → Sound x) → Made t c w (λ a. a) (Refused e) x
-as_refused t c w x e left planned sound = record {
-  reply = λ s. sym (ap (λ (p : Plan). p.reply) planned);
-  world = λ s. left ∙ (sym (settle_same w s.settled) ∙ sym (ap (after_plan w t) planned));
-  sound = sound;
-}
+no_memory : (e : Errno) → is_no_memory e ≡ true → e ≡ ENOMEM
+no_memory ENOMEM short = refl
+no_memory _ short = absurd (true≢false (sym short))
 
-no_memory : (e : Errno) → e ≡ ENOMEM → is_no_memory e ≡ false → ⊥
-no_memory e same known = let clash : true ≡ false = sym (ap is_no_memory same) ∙ known in cc
+wanted : (r : Reply) → lacks_memory r ≡ true → r ≡ Refused ENOMEM
+wanted (Refused e) short = ap Refused (no_memory e short)
+wanted _ short = absurd (true≢false (sym short))
 
-refused_for : (rest : Type 0) (t : ℕ) (c : Call) (w x : World) (e : Errno) → is_no_memory e ≡ false → x ≡ w → (plan w t c ≡ refuse e) ⊎ ((e ≡ ENOMEM) × rest) → (Sound w → Sound x) → Made t c w (λ a. a) (Refused e) x
-refused_for rest t c w x e known left (inl planned) sound = as_refused t c w x e left planned sound
-refused_for rest t c w x e known left (inr wanting) sound = absurd (no_memory e wanting.0 known)
-
-pub made_from : (early : Bool) (t : ℕ) (c : Call) (w x : World) (r : Reply) → Planned early w t (plan w t c) (result_of r) x → lacks_memory r ≡ false → (Sound w → Sound x) → Made t c w (λ a. a) r x
-made_from early t c w x Done p known sound = as_planned t c w x Done p sound
-made_from early t c w x (Found l) p known sound = as_planned t c w x (Found l) p sound
-made_from early t c w x (Data bs) p known sound = as_planned t c w x (Data bs) p sound
-made_from early t c w x (Count n) p known sound = as_planned t c w x (Count n) p sound
-made_from early t c w x (Names ns) p known sound = as_planned t c w x (Names ns) p sound
-made_from early t c w x (Refused e) p known sound = refused_for _ t c w x e known p.0 p.1 sound
+-- want of memory is the refusal that names it
+pub lacking : (w : World) (t : ℕ) (c : Call) (r : Reply) (x : World) → lacks_memory r ≡ true → Called w t c r x → Called w t c (Refused ENOMEM) x
+lacking w t c r x short told = subst (λ (q : Reply). Called w t c q x) (wanted r short) told
