@@ -91,9 +91,6 @@ impl<S: Server> World<S> {
     /// Errors: `ESRCH` where there is no such task, then those of the call, in its order.
     pub fn call(&mut self, alloc: Global, task: TaskId, call: Call) -> Reply
         ensures answer { Called (world_of S.meaning self.old) task.0 call result (world_of S.meaning self.new) }
-        ensures planned { let w = world_of S.meaning self.old in
-            Planned (lists_names call) w task.0 (plan w task.0 call) (result_of result) (world_of S.meaning self.new) }
-        ensures settled { IsSettled self.old.ports }
         ensures sound { Sound (world_of S.meaning self.old) → Sound (world_of S.meaning self.new) }
     {
         self.answer(alloc, task, call)
@@ -122,7 +119,7 @@ impl<S: Server> World<S> {
             Err(AllocError) => return Err((Errno::ENOMEM, calls)),
         };
         for (task, call) in calls {
-            replies.push_reserved(self.call(alloc, task, call));
+            replies.push_reserved(self.answer(alloc, task, call));
         }
         Ok(replies)
     }

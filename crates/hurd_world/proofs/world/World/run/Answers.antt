@@ -9,15 +9,15 @@ use Rattle.hurd_world.proofs.world.World.run.Goals as goal
 pub loop-task-preserved : goal.loop-task-preserved
 loop-task-preserved g c =
     let before = world_of g.S.Server.meaning c.loop-task.self in
-    let after = world_of g.S.Server.meaning c.call.new.self in
-    let answered = planned_answered (lists_names c.in-Some.call) before after c.in-Some.task.0 c.in-Some.call (result_of c.call.result) c.call.ensures.settled c.call.ensures.planned in
+    let after = world_of g.S.Server.meaning c.answer.new.self in
+    let answered = planned_answered (lists_names c.in-Some.call) before after c.in-Some.task.0 c.in-Some.call (result_of c.answer.result) c.answer.ensures.settled c.answer.ensures.answer in
     record {
       can = tt;
       ends = tt;
       room = omega (arith, c.in-Some.ensures.steps.1);
       served = λ more x h.
           serve_next (world_of g.S.Server.meaning c.args.self.now) before after x (map made_by c.args.calls.items) (c.in-Some.task, c.in-Some.call) (into_iter_items c.loop-task.task-iterator) (into_iter_items c.next.new.self)
-          c.call.result c.loop-task.replies.items c.push_reserved.new.self.items more c.in-Some.ensures.steps.0 c.push_reserved.ensures.items answered c.loop-task.invariant.served h;
+          c.answer.result c.loop-task.replies.items c.push_reserved.new.self.items more c.in-Some.ensures.steps.0 c.push_reserved.ensures.items answered c.loop-task.invariant.served h;
     }
 
 pub returns-clause-exact : goal.returns-clause-exact
