@@ -1,4 +1,3 @@
-pub mod CallLaws
 pub mod ProgramLaws
 pub mod CommandLaws
 pub mod SoundLaws

@@ -11,8 +11,6 @@ use Rattle.hurd_script.specs.declared.command.Action.TheVariants.{Cat, Ls, Put, 
 use Rattle.hurd_shell.specs.declared.calls.TheConstants.{AT_CURSOR, DIRECTORY_PORT, FILE_MODE, READ_AMOUNT, ROOT_PORT}
 use Rattle.hurd_shell.specs.declared.commands.TheConstants.{MOST_READS}
 use Rattle.hurd_shell.specs.declared.commands.Printed.{Printed}
-use Rattle.hurd_shell.specs.declared.commands.Work.{Work}
-use Rattle.hurd_shell.specs.declared.commands.Work.TheVariants as work
 use Rattle.hurd_shell.specs.Programs.{Prog, gives, tried, bind, made, port_of, data_of, names_of, done_of, unread}
 
 -- a path that begins with a slash starts at the root, any other at the working directory
@@ -88,9 +86,3 @@ program_of (Cat node) = with_open node to_read cat
 program_of (Ls node) = with_open node to_list ls
 program_of (Put node text) = with_open node to_write (put text)
 program_of Usage = gives (Ok (prints (codes "usage" ++ 10 ∷ [])))
-
--- the program of what the code does with an open node
-abbrev pub work_of : Work → ℕ → Prog Printed
-work_of work.Cat = cat
-work_of work.Ls = ls
-work_of (work.Put text) = put text

@@ -1,24 +1,21 @@
 -- What the code does of a program.
-use Rattle.std.specs.Prelude.{◌≡◌, ℕ, Bool, false, List, Result, Ok, Err}
+use Rattle.std.specs.Prelude.{◌≡◌, ℕ, List, Result, Ok, Err}
 use Rattle.hurd_creds.specs.declared.errno.Errno.{Errno}
-use Rattle.hurd_creds.specs.Memory.{is_no_memory}
 use Rattle.hurd_trans_iface.specs.Meaning.{Meaning}
 use Rattle.hurd_machine.specs.declared.call.Call.{Call}
 use Rattle.hurd_machine.specs.declared.call.Reply.{Reply}
-use Rattle.hurd_machine.specs.declared.call.Reply.TheVariants as reply
 use Rattle.hurd_machine.specs.World.{World}
 use Rattle.hurd_laws.specs.Step.{step}
 use Rattle.hurd_script.specs.Commands.{CommandLine}
 use Rattle.hurd_world.specs.Held.{Both, world_of}
+use Rattle.hurd_shell.specs.declared.commands.Printed.{Printed}
+use Rattle.hurd_shell.specs.declared.commands.Work.{Work}
+use Rattle.hurd_shell.specs.declared.commands.Work.TheVariants.{Cat, Ls, Put}
 use Rattle.hurd_shell.specs.declared.fault.Stop.{Stop}
 use Rattle.hurd_shell.specs.declared.fault.Stop.TheVariants.{Refused, Memory}
 use Rattle.hurd_shell.specs.Programs.{Prog, gives, go}
+use Rattle.hurd_shell.specs.Commands.{cat, ls, put}
 use Rattle.hurd_shell.specs.Transcript.{end_of, part_of}
-
--- want of memory
-abbrev pub lacks_memory : Reply → Bool
-lacks_memory (reply.Refused e) = is_no_memory e
-lacks_memory _ = false
 
 -- a call of task t made a step
 pub record Stepped (w : World) (t : ℕ) (c : Call) (r : Reply) (x : World) : Type 0 where
@@ -46,6 +43,12 @@ pub record Does {A : Type 0} (t : ℕ) (p : Prog A) (w : World) (r : Result A St
 -- the same of the worlds that the code holds
 abbrev pub Ran : {S A : Type 0} → (S → Meaning) → ℕ → Prog A → Both S → Result A Stop → Both S → Type 0
 Ran f t p old r new = Does t p (world_of f old) r (world_of f new)
+
+-- the program of what the code does with an open node
+abbrev pub work_of : Work → ℕ → Prog Printed
+work_of Cat = cat
+work_of Ls = ls
+work_of (Put text) = put text
 
 -- a command was made, and this is its part of the transcript
 pub record Told (c : CommandLine) (w : World) (bytes : List ℕ) (x : World) : Type 0 where

@@ -5,7 +5,7 @@ ghost use Rattle.hurd_laws.specs.Called.{Called};
 ghost use Rattle.hurd_world.specs.Held.{world_of};
 ghost use Rattle.hurd_shell.specs.Programs.{made, data_of, done_of, names_of, port_of, unread};
 ghost use Rattle.hurd_shell.specs.Commands.{file_mode, open_node, start_of};
-ghost use Rattle.hurd_shell.specs.Progress.{Ran, Stepped, lacks_memory, stopped};
+ghost use Rattle.hurd_shell.specs.Progress.{Ran, Stepped, stopped};
 
 use crate::fault::{NoMemory, Stop};
 use hurd_creds::{Bytes, Errno, Mode, OpenFlags, TaskId};
@@ -28,16 +28,6 @@ const DIRECTORY_PORT: u64 = 2;
 /// The mode of a file that a command makes.
 const FILE_MODE: u32 = 0o644;
 
-/// Whether a call was refused for want of memory.
-fn lacks_memory(reply: &Reply) -> bool
-    ensures { result ≡ lacks_memory reply.now }
-{
-    match reply {
-        Reply::Refused(Errno::ENOMEM) => true,
-        _ => false,
-    }
-}
-
 /// Makes a call of a task.
 fn made<S: Server>(
     world: &mut World<S>,
@@ -49,11 +39,10 @@ fn made<S: Server>(
     ensures err { IfErr result (λ e.
         Called (world_of S.meaning world.old) task.0 call (Reply.Refused Errno.ENOMEM) (world_of S.meaning world.new)) }
 {
-    let reply = world.call(alloc, task, call);
-    if lacks_memory(&reply) {
-        return Err(NoMemory);
+    match world.call(alloc, task, call) {
+        Reply::Refused(Errno::ENOMEM) => Err(NoMemory),
+        reply => Ok(reply),
     }
-    Ok(reply)
 }
 
 /// The port that a lookup found.

@@ -2,7 +2,7 @@
 ghost use Rattle.std.specs.Prelude.{◌≡◌, ◌++◌, ◌∷◌, List, ℕ, IfOk, OnOk, filter};
 ghost use Rattle.hurd_script.specs.Actions.{action_of};
 ghost use Rattle.hurd_shell.specs.Commands as written;
-ghost use Rattle.hurd_shell.specs.Progress.{Ran};
+ghost use Rattle.hurd_shell.specs.Progress.{Ran, work_of};
 
 use crate::calls;
 use crate::fault::Stop;
@@ -139,7 +139,7 @@ fn work_on<S: Server>(
     port: u64,
     work: Work,
 ) -> Result<Printed, Stop>
-    ensures { Ran S.meaning task.0 (written.work_of work port) world.old result world.new }
+    ensures { Ran S.meaning task.0 (work_of work port) world.old result world.new }
 {
     match work {
         Work::Cat => cat(world, alloc, task, port),
@@ -157,7 +157,7 @@ fn with_open<S: Server>(
     flags: OpenFlags,
     work: Work,
 ) -> Result<Printed, Stop>
-    ensures { Ran S.meaning task.0 (written.with_open path flags (written.work_of work)) world.old result world.new }
+    ensures { Ran S.meaning task.0 (written.with_open path flags (work_of work)) world.old result world.new }
 {
     let port = calls::open(world, alloc, task, path, flags)?;
     let done = work_on(world, alloc, task, port, work);
