@@ -1,5 +1,5 @@
 -- The reads of cat, and a command's part of the transcript.
-use Rattle.std.proofs.Common.{◌≡◌, ◌≤◌, ◌<◌, inl, inr, ℕ, zero, suc, ◌-◌, ◌++◌, ◌==◌, true, false, true≢false, List, [], ◌∷◌, length, Some, Result, Ok, Err, refl, sym, ◌∙◌, ap, arith}
+use Rattle.std.proofs.Common.{◌≡◌, ◌≤◌, ◌<◌, inl, inr, ℕ, zero, suc, ◌-◌, ◌++◌, ◌==◌, true, false, true≢false, List, [], ◌∷◌, length, Some, Result, Ok, Err, sym, ◌∙◌, ap, arith}
 use Rattle.std.proofs.lemmas.Bool.Decides.{eqb_tells}
 use Rattle.hurd_creds.specs.declared.errno.Errno.{Errno}
 use Rattle.hurd_machine.specs.declared.call.Call.TheVariants.{IoRead}

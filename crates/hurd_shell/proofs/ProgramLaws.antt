@@ -1,5 +1,5 @@
 -- Programs, one behind another.
-use Rattle.std.proofs.Common.{◌≡◌, ℕ, Result, Ok, Err, refl, sym, ◌∙◌, ap}
+use Rattle.std.proofs.Common.{◌≡◌, ℕ, Result, Ok, Err, refl, ◌∙◌, ap}
 use Rattle.std.specs.Result.{IsErr, IsErrAnd}
 use Rattle.hurd_creds.specs.declared.errno.Errno.{Errno}
 use Rattle.hurd_machine.specs.declared.call.Call.{Call}
