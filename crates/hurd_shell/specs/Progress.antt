@@ -17,7 +17,7 @@ use Rattle.hurd_shell.specs.Programs.{Prog, gives, go}
 use Rattle.hurd_shell.specs.Commands.{cat, ls, put}
 use Rattle.hurd_shell.specs.Transcript.{end_of, part_of}
 
--- a call of task t made a step
+-- a call of task t was told the machine's reply, and left its world
 pub record Stepped (w : World) (t : ℕ) (c : Call) (r : Reply) (x : World) : Type 0 where
   pub step : (r, x) ≡ step w t c
 
