@@ -1,5 +1,6 @@
-pub mod CallLaws
 pub mod ProgramLaws
+pub mod CommandLaws
+pub mod SoundLaws
 pub mod TextLaws
 pub mod SessionLaws
 pub mod OutputLaws

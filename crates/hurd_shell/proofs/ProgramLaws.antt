@@ -1,80 +1,96 @@
--- A program by its calls.
-use Rattle.std.proofs.Common.{◌≡◌, ◌≤◌, inl, inr, ℕ, zero, suc, ◌-◌, ◌<◌, ◌++◌, ◌==◌, true, false, true≢false, negsuc, List, [], ◌∷◌, length, Some, None, Result, Ok, Err, refl, sym, ◌∙◌, ap₂, arith}
-use Rattle.std.proofs.lemmas.Bool.Decides.{eqb_tells}
+-- Programs, one behind another.
+use Rattle.std.proofs.Common.{◌≡◌, ℕ, Result, Ok, Err, refl, ◌∙◌, ap}
+use Rattle.std.specs.Result.{IsErr, IsErrAnd}
 use Rattle.hurd_creds.specs.declared.errno.Errno.{Errno}
 use Rattle.hurd_machine.specs.declared.call.Call.{Call}
-use Rattle.hurd_machine.specs.declared.call.Call.TheVariants.{PortDeallocate, IoRead}
+use Rattle.hurd_machine.specs.declared.call.Call.TheVariants.{PortDeallocate}
 use Rattle.hurd_machine.specs.declared.call.Reply.{Reply}
 use Rattle.hurd_machine.specs.World.{World}
 use Rattle.hurd_laws.specs.Step.{reply_of, after}
 use Rattle.hurd_shell.specs.declared.commands.Printed.{Printed}
-use Rattle.hurd_shell.specs.Programs.{Program, ends, calls, go, data_of}
-use Rattle.hurd_shell.specs.Commands.{close, cat_from, cat_read}
-use Rattle.hurd_shell.specs.Progress.{Made, Ran}
+use Rattle.hurd_shell.specs.declared.fault.Stop.{Stop}
+use Rattle.hurd_shell.specs.declared.fault.Stop.TheVariants.{Refused, Memory}
+use Rattle.hurd_shell.specs.Programs.{Prog, gives, calls, tried, bind, on_ok, made, go, End, unread}
+use Rattle.hurd_shell.specs.Commands.{closing}
+use Rattle.hurd_shell.specs.Progress.{Stepped, Leads, Ends, Does, stopped}
 
-pub go-calls : (t : ℕ) (c : Call) (k : Reply → Program) (w : World) → go t (calls c k) w ≡ go t (k (reply_of w t c)) (after w t c)
+pub leads_refl : {A : Type 0} (t : ℕ) (p : Prog A) (w : World) → Leads t p w p w
+leads_refl t p w = record { goes = refl }
+
+pub leads_trans : {A : Type 0} {t : ℕ} {p q s : Prog A} {w x y : World} → Leads t p w q x → Leads t q x s y → Leads t p w s y
+leads_trans a b = record { goes = a.goes ∙ b.goes }
+
+-- the end of a program that is at its end
+pub go-gives : {A : Type 0} (t : ℕ) (r : Result A Errno) (w : World) → go t (gives r) w ≡ record { world = w; result = r }
 unfolding go
-go-calls t c k w = refl
+go-gives t r w = refl
 
-pub go-ends : (t : ℕ) (p : Printed) (w : World) → go t (ends p) w ≡ record { world = w; printed = p }
-unfolding go
-go-ends t p w = refl
+-- what is behind a program goes on where that program ends
+tried_goes : {A B : Type 0} (t : ℕ) (k : Result A Errno → Prog B) (p : Prog A) (w : World) → go t (tried p k) w ≡ go t (k (go t p w).result) (go t p w).world
+unfolding go tried
+tried_goes t k (gives r) w = refl
+tried_goes t k (calls c j) w = tried_goes t k (j (reply_of w t c)) (after w t c)
 
--- a program that ends has run
-pub ran_end : (t : ℕ) (p : Printed) (w : World) → Ran t (ends p) w p w
-ran_end t p w = record { goes = λ s. go-ends t p w; sound = λ s. s }
-
--- a call, and then the rest of the program
-pub ran_call : {A : Type 0} (t : ℕ) (c : Call) (read : Reply → A) (k : A → Program) (w x y : World) (got : A) (printed : Printed)
-    → Made t c w read got x → Ran t (k got) x printed y → Ran t (calls c (λ r. k (read r))) w printed y
-ran_call {A} t c read k w x y got printed made ran = record {
-  goes = λ s.
-      go-calls t c (λ r. k (read r)) w
-      ∙ (ap₂ (λ (a : A) (v : World). go t (k a) v) (sym (made.reply s)) (sym (made.world s)) ∙ ran.goes (made.sound s));
-  sound = λ s. ran.sound (made.sound s);
+-- the first of two programs ends, and the other goes on
+pub tried_ends : {A B : Type 0} {t : ℕ} {p : Prog A} {r : Result A Errno} {w x : World} (k : Result A Errno → Prog B) → Leads t p w (gives r) x → Leads t (tried p k) w (k r) x
+tried_ends {A} {B} {t} {p} {r} {w} {x} k a = record {
+  goes = tried_goes t k p w ∙ ap (λ (z : End A). go t (k z.result) z.world) (a.goes ∙ go-gives t r x);
 }
 
--- a call whose reply nobody reads, and then the end
-pub ran_close : (t p : ℕ) (printed : Printed) (w x : World) (u : Unit {0}) → Made t (PortDeallocate p) w (λ r. tt) u x → Ran t (close p printed.output printed.refusal) w printed x
-ran_close t p printed w x u made = ran_call t (PortDeallocate p) (λ r. tt) (λ v. ends printed) w x x u printed made (ran_end t printed x)
+ends_behind : {A : Type 0} (t : ℕ) (p q : Prog A) (w x y : World) (r : Result A Stop) → Leads t p w q x → Ends t q x r y → Ends t p w r y
+ends_behind t p q w x y (Ok a) l d = leads_trans l d
+ends_behind t p q w x y (Err (Refused e)) l d = leads_trans l d
+ends_behind t p q w x y (Err Memory) l d = tt
 
-cat-more : (reads p : ℕ) (output : List ℕ) → cat_from (suc reads) p output ≡ calls (IoRead p 65536 (negsuc 0)) (λ r. cat_read p output (cat_from reads p) (data_of r))
-unfolding cat_from
-cat-more reads p output = refl
+-- a program that comes to another does what that does
+pub leads_does : {A : Type 0} {t : ℕ} {p q : Prog A} {w x y : World} {r : Result A Stop} → Leads t p w q x → Does t q x r y → Does t p w r y
+leads_does l d = record { ends = ends_behind _ _ _ _ _ _ _ l d.ends }
 
-cat-last : (p : ℕ) (output : List ℕ) → cat_from zero p output ≡ close p output None
-unfolding cat_from
-cat-last p output = refl
+-- a program that is at its end
+pub does_gives : {A : Type 0} (t : ℕ) (a : A) (w : World) → Does t (gives (Ok a)) w (Ok a) w
+does_gives t a w = record { ends = leads_refl t (gives (Ok a)) w }
 
-sub_one : (n : ℕ) → suc n - 1 ≡ n
-sub_one n = omega arith
+-- along `?`: the first program is made, and the rest of the code makes the rest
+pub does_ok : {A B : Type 0} {t : ℕ} {p : Prog A} {a : A} {r : Result B Stop} {w x y : World} (k : A → Prog B) → Does t p w (Ok a) x → Does t (k a) x r y → Does t (bind p k) w r y
+unfolding bind
+does_ok k d e = leads_does (tried_ends (on_ok k) d.ends) e
 
--- one read, and then the rest of the command
-read_step : (reads t p : ℕ) (output : List ℕ) (w x y : World) (got : Result (List ℕ) Errno) (printed : Printed) → 0 < reads → Made t (IoRead p 65536 (negsuc 0)) w data_of got x
-    → Ran t (cat_read p output (cat_from (reads - 1) p) got) x printed y → Ran t (cat_from reads p output) w printed y
-read_step zero t p output w x y got printed some made ran = absurd (omega arith)
-read_step (suc reads) t p output w x y got printed some made ran =
-    rw (cat-more reads p output)
-    (ran_call t (IoRead p 65536 (negsuc 0)) data_of (cat_read p output (cat_from reads p)) w x y got printed made
-    (rw sub_one at ran))
+err_ends : {A B : Type 0} (t : ℕ) (p : Prog A) (k : A → Prog B) (s : Stop) (w x : World) → Does {A = A} t p w (Err s) x → Ends {A = B} t (bind p k) w (Err s) x
+unfolding bind
+err_ends t p k (Refused e) w x d = tried_ends (on_ok k) d.ends
+err_ends t p k Memory w x d = tt
 
-not_none : (b : ℕ) (bs : List ℕ) → (length (b ∷ bs) == 0) ≡ false
-not_none b bs = elim (eqb_tells (suc (length bs)) 0) [ inl (e, same) ↦ absurd (omega arith) | inr (e, apart) ↦ e ]
+-- out by `?`: the first program is refused, and so is the whole
+pub does_err : {A B : Type 0} {t : ℕ} {p : Prog A} {s : Stop} {r : Result B Stop} {w x : World} (k : A → Prog B) → IsErr r × IsErrAnd r (λ e. e ≡ s) → Does t p w (Err s) x → Does t (bind p k) w r x
+does_err {r = Ok b} k gone d = absurd gone.1
+does_err {r = Err e} k gone d = record { ends = rw gone.1 (err_ends _ _ k _ _ _ d) }
 
-pub cat_goes : (reads t p : ℕ) (output bytes next : List ℕ) (w x y : World) (printed : Printed) → 0 < reads → Made t (IoRead p 65536 (negsuc 0)) w data_of (Ok bytes) x
-    → false ≡ (length bytes == 0) → next ≡ output ++ bytes → Ran t (cat_from (reads - 1) p next) x printed y → Ran t (cat_from reads p output) w printed y
-cat_goes reads t p output [] next w x y printed some made full same ran = absurd (true≢false (sym full))
-cat_goes reads t p output (b ∷ bs) next w x y printed some made full same ran = read_step reads t p output w x y (Ok (b ∷ bs)) printed some made (rw same at ran)
+by_reply : {A : Type 0} (t : ℕ) (c : Call) (read : Reply → Result A Errno) (w : World) (got : Result A Errno) → read (reply_of w t c) ≡ got → Does t (made c read) w (stopped got) (after w t c)
+unfolding go made
+by_reply t c read w (Ok a) same = record { ends = record { goes = ap (λ r. go t (gives r) (after w t c)) same } }
+by_reply t c read w (Err e) same = record { ends = record { goes = ap (λ r. go t (gives r) (after w t c)) same } }
 
-pub cat_ends : (reads t p : ℕ) (output bytes : List ℕ) (w x y : World) (printed : Printed) → 0 < reads → Made t (IoRead p 65536 (negsuc 0)) w data_of (Ok bytes) x
-    → true ≡ (length bytes == 0) → Ran t (close p output None) x printed y → Ran t (cat_from reads p output) w printed y
-cat_ends reads t p output [] w x y printed some made none ran = read_step reads t p output w x y (Ok []) printed some made ran
-cat_ends reads t p output (b ∷ bs) w x y printed some made none ran = absurd (true≢false (none ∙ not_none b bs))
+-- one call
+pub made_does : {A : Type 0} {t : ℕ} {w x : World} {got : Result A Stop} (c : Call) (read : Reply → Result A Errno) (r : Reply)
+    → Stepped w t c r x → got ≡ stopped (read r) → Does t (made c read) w got x
+made_does {A} {t} {w} c read r s same =
+    let told : r ≡ reply_of w t c = ap (λ z. z.0) s.step in
+    let left = ap (λ z. z.1) s.step in
+    rw (same, told, left) (by_reply t c read w (read (reply_of w t c)) refl)
 
-pub cat_fails : (reads t p : ℕ) (output : List ℕ) (e : Errno) (w x y : World) (printed : Printed) → 0 < reads → Made t (IoRead p 65536 (negsuc 0)) w data_of (Err e) x
-    → Ran t (close p output (Some e)) x printed y → Ran t (cat_from reads p output) w printed y
-cat_fails reads t p output e w x y printed some made ran = read_step reads t p output w x y (Err e) printed some made ran
+lost_ends : {A : Type 0} (t : ℕ) (p : Prog A) (w x : World) (r : Result A Stop) → IsErr r × IsErrAnd r (λ e. e ≡ Memory) → Ends t p w r x
+lost_ends t p w x (Ok a) gone = absurd gone.1
+lost_ends t p w x (Err e) gone = rw gone.1 tt
 
-pub cat_stops : (reads t p : ℕ) (output : List ℕ) (w y : World) (printed : Printed) → reads ≤ 0 → Ran t (close p output None) w printed y → Ran t (cat_from reads p output) w printed y
-cat_stops zero t p output w y printed none ran = rw (cat-last p output) ran
-cat_stops (suc reads) t p output w y printed none ran = absurd (omega arith)
+-- memory was refused
+pub does_lost : {A : Type 0} {t : ℕ} {p : Prog A} {w x : World} {r : Result A Stop} → IsErr r × IsErrAnd r (λ e. e ≡ Memory) → Does t p w r x
+does_lost gone = record { ends = lost_ends _ _ _ _ _ gone }
+
+closes : {t : ℕ} {x y : World} (p : Prog Printed) (w : World) (port : ℕ) (u : Unit {0}) (r : Result Printed Stop) → Ends t p w r x → Does t (made (PortDeallocate port) unread) x (Ok u) y → Ends t (closing port p) w r y
+closes p w port u (Ok a) d e = leads_trans (tried_ends _ d) (does_ok {r = Ok a} (λ v. gives (Ok a)) e (does_gives _ a _)).ends
+closes p w port u (Err (Refused s)) d e = leads_trans (tried_ends _ d) (does_ok {r = Err (Refused s)} (λ v. gives (Err s)) e (record { ends = leads_refl _ _ _ })).ends
+closes p w port u (Err Memory) d e = tt
+
+-- a program was made, and its port is given up
+pub does_close : {t : ℕ} {p : Prog Printed} {r : Result Printed Stop} {w x y : World} (port : ℕ) (u : Unit {0}) → Does t p w r x → Does t (made (PortDeallocate port) unread) x (Ok u) y → Does t (closing port p) w r y
+does_close port u d e = record { ends = closes _ _ port u _ d.ends e }

@@ -1,97 +1,88 @@
 -- What each command does.
-use Rattle.std.specs.Prelude.{ℕ, zero, suc, negsuc, ◌==◌, Bool, not, ◌||◌, if◌then◌else◌, List, [], ◌∷◌, ◌++◌, codes, filter, Option, Some, None, Result, Ok, Err}
+use Rattle.std.specs.Prelude.{ℕ, zero, suc, ◌==◌, Bool, not, ◌||◌, if◌then◌else◌, List, [], ◌∷◌, ◌++◌, bytes_eq, codes, filter, Some, None, Result, Ok, Err}
+use Rattle.std.specs.Int.RustNames.{bit_or}
 use Rattle.hurd_creds.specs.declared.errno.Errno.{Errno}
 use Rattle.hurd_creds.specs.declared.mode.Mode.{Mode}
 use Rattle.hurd_creds.specs.declared.open_flags.OpenFlags.{OpenFlags}
-use Rattle.hurd_trans_iface.specs.Answers.{same_bytes}
+use Rattle.hurd_creds.specs.Bits.{READ, WRITE, CREATE, DIRECTORY}
 use Rattle.hurd_machine.specs.declared.call.Call.TheVariants.{PortDeallocate, DirLookup, IoRead, IoWrite, FileSetSize, DirReaddir}
 use Rattle.hurd_script.specs.declared.command.Action.{Action}
 use Rattle.hurd_script.specs.declared.command.Action.TheVariants.{Cat, Ls, Put, Usage}
-use Rattle.hurd_shell.specs.Programs.{Program, ends, calls, port_of, data_of, names_of, done_of}
+use Rattle.hurd_shell.specs.declared.calls.TheConstants.{AT_CURSOR, DIRECTORY_PORT, FILE_MODE, READ_AMOUNT, ROOT_PORT}
+use Rattle.hurd_shell.specs.declared.commands.TheConstants.{MOST_READS}
+use Rattle.hurd_shell.specs.declared.commands.Printed.{Printed}
+use Rattle.hurd_shell.specs.Programs.{Prog, gives, tried, bind, made, port_of, data_of, names_of, done_of, unread}
 
--- the end of a command: its output, and the refusal if a call was refused
-abbrev pub stop : List ℕ → Option Errno → Program
-stop output refusal = ends (record { output = output; refusal = refusal })
-
--- the port is given up before the end
-abbrev pub close : ℕ → List ℕ → Option Errno → Program
-close p output refusal = calls (PortDeallocate p) (λ r. stop output refusal)
-
--- a path that begins with a slash starts at port 1, the root; any other at port 2, the working directory
+-- a path that begins with a slash starts at the root, any other at the working directory
 abbrev pub start_of : List ℕ → ℕ
-start_of [] = 2
-start_of (b ∷ bs) = if b == 47 then 1 else 2
+start_of [] = DIRECTORY_PORT
+start_of (b ∷ bs) = if b == 47 then ROOT_PORT else DIRECTORY_PORT
 
--- files that a command makes have the mode 0o644
+-- the mode of files that a command makes
 abbrev pub file_mode : Mode
-file_mode = record { 0 = 420 }
+file_mode = record { 0 = FILE_MODE }
 
-abbrev pub with_port : (ℕ → Program) → Result ℕ Errno → Program
-with_port k (Ok p) = k p
-with_port k (Err e) = stop [] (Some e)
+-- opening what a path leads to
+abbrev pub open_node : List ℕ → OpenFlags → Prog ℕ
+open_node path flags = made (DirLookup (start_of path) path flags file_mode) port_of
 
--- opening a node, and going on with its port
-abbrev pub open_node : List ℕ → OpenFlags → (ℕ → Program) → Program
-open_node node flags k = calls (DirLookup (start_of node) node flags file_mode) (λ r. with_port k (port_of r))
+-- a program, and behind its end the port is given up
+abbrev pub closing : ℕ → Prog Printed → Prog Printed
+closing p q = tried q (λ r. bind (made (PortDeallocate p) unread) (λ u. gives r))
 
--- READ; READ and DIRECTORY; WRITE and CREATE
+-- a node is opened, worked on, and given up
+abbrev pub with_open : List ℕ → OpenFlags → (ℕ → Prog Printed) → Prog Printed
+with_open path flags k = bind (open_node path flags) (λ p. closing p (k p))
 
-abbrev pub to_read : OpenFlags
-to_read = record { 0 = 1 }
+-- this output, and no refusal
+abbrev pub prints : List ℕ → Printed
+prints output = record { output = output; refusal = None }
 
-abbrev pub to_list : OpenFlags
-to_list = record { 0 = 257 }
-
-abbrev pub to_write : OpenFlags
-to_write = record { 0 = 18 }
-
--- what a read gave: an end, a refusal, or bytes behind which there may be more
-abbrev pub cat_read : ℕ → List ℕ → (List ℕ → Program) → Result (List ℕ) Errno → Program
-cat_read p output more (Err e) = close p output (Some e)
-cat_read p output more (Ok []) = close p output None
-cat_read p output more (Ok (b ∷ bs)) = more (output ++ b ∷ bs)
+-- what a read gave: a refusal, the end, or bytes behind which there may be more
+abbrev pub cat_read : List ℕ → (List ℕ → Prog Printed) → Result (List ℕ) Errno → Prog Printed
+cat_read output more (Err e) = gives (Ok (record { output = output; refusal = Some e }))
+cat_read output more (Ok []) = gives (Ok (prints output))
+cat_read output more (Ok (b ∷ bs)) = more (output ++ b ∷ bs)
 
 -- with so many reads left, a file's bytes from the cursor on, behind those that were read
-unfoldable pub cat_from : ℕ → ℕ → List ℕ → Program
-cat_from zero p output = close p output None
-cat_from (suc reads) p output = calls (IoRead p 65536 (negsuc 0)) (λ r. cat_read p output (cat_from reads p) (data_of r))
+unfoldable pub cat_from : ℕ → ℕ → List ℕ → Prog Printed
+cat_from zero p output = gives (Ok (prints output))
+cat_from (suc reads) p output = tried (made (IoRead p READ_AMOUNT AT_CURSOR) data_of) (cat_read output (cat_from reads p))
 
--- cat NODE: reads of 65,536 bytes until there are none, one is refused, or 16 were made
-abbrev pub cat : List ℕ → Program
-cat node = open_node node to_read (λ p. cat_from 16 p [])
+-- cat: reads until one gives no bytes, one is refused, or no more may be made
+abbrev pub cat : ℕ → Prog Printed
+cat p = cat_from MOST_READS p []
 
 -- neither `.` nor `..`
 abbrev pub is_shown : List ℕ → Bool
-is_shown name = not (same_bytes name (codes ".") || same_bytes name (codes ".."))
+is_shown name = not (bytes_eq name (codes ".") || bytes_eq name (codes ".."))
 
 -- the names, one a line
 abbrev pub as_lines : List (List ℕ) → List ℕ
 as_lines [] = []
 as_lines (name ∷ names) = name ++ 10 ∷ as_lines names
 
-abbrev pub listed : ℕ → Result (List (List ℕ)) Errno → Program
-listed p (Ok names) = close p (as_lines (filter is_shown names)) None
-listed p (Err e) = close p [] (Some e)
+-- ls: the names in a directory but `.` and `..`
+abbrev pub ls : ℕ → Prog Printed
+ls p = bind (made (DirReaddir p) names_of) (λ names. gives (Ok (prints (as_lines (filter is_shown names)))))
 
--- ls NODE: the names in a directory but `.` and `..`
-abbrev pub ls : List ℕ → Program
-ls node = open_node node to_list (λ p. calls (DirReaddir p) (λ r. listed p (names_of r)))
+-- put: the file is cut to nothing, and the text written
+abbrev pub put : List ℕ → ℕ → Prog Printed
+put text p = bind (made (FileSetSize p 0) done_of) (λ u. bind (made (IoWrite p text AT_CURSOR) done_of) (λ v. gives (Ok (prints []))))
 
-abbrev pub ended : ℕ → Result (Unit {0}) Errno → Program
-ended p (Ok u) = close p [] None
-ended p (Err e) = close p [] (Some e)
+abbrev pub to_read : OpenFlags
+to_read = record { 0 = READ }
 
-abbrev pub cut : ℕ → List ℕ → Result (Unit {0}) Errno → Program
-cut p text (Ok u) = calls (IoWrite p text (negsuc 0)) (λ r. ended p (done_of r))
-cut p text (Err e) = close p [] (Some e)
+abbrev pub to_list : OpenFlags
+to_list = record { 0 = bit_or READ DIRECTORY }
 
--- put NODE TEXT: the file is cut to nothing, and the text written; it is made where it isn't there
-abbrev pub put : List ℕ → List ℕ → Program
-put node text = open_node node to_write (λ p. calls (FileSetSize p 0) (λ r. cut p text (done_of r)))
+-- the file is made where it isn't there
+abbrev pub to_write : OpenFlags
+to_write = record { 0 = bit_or WRITE CREATE }
 
 -- the program of what a command asks for
-abbrev pub program_of : Action → Program
-program_of (Cat node) = cat node
-program_of (Ls node) = ls node
-program_of (Put node text) = put node text
-program_of Usage = stop (codes "usage" ++ 10 ∷ []) None
+abbrev pub program_of : Action → Prog Printed
+program_of (Cat node) = with_open node to_read cat
+program_of (Ls node) = with_open node to_list ls
+program_of (Put node text) = with_open node to_write (put text)
+program_of Usage = gives (Ok (prints (codes "usage" ++ 10 ∷ [])))

@@ -2,6 +2,5 @@ pub mod Programs
 pub mod Commands
 pub mod Transcript
 pub mod Progress
-pub mod Codes
 pub mod Session
 pub mod Outputs

@@ -8,53 +8,63 @@ use Rattle.hurd_machine.specs.declared.call.Reply.TheVariants.{Done, Found, Data
 use Rattle.hurd_machine.specs.declared.call.Lookup.TheVariants as found
 use Rattle.hurd_machine.specs.World.{World}
 use Rattle.hurd_laws.specs.Step.{reply_of, after}
-use Rattle.hurd_shell.specs.declared.commands.Printed.{Printed}
 
--- a command of one task: it ends, or makes a call and goes on with the reply
-pub data Program : Type 0 where
-  ends : Printed → Program
-  calls : Call → (Reply → Program) → Program
+-- what a task does: it gives a result or a refusal, or makes a call and goes on with the reply
+pub data Prog (A : Type 0) : Type 0 where
+  gives : Result A Errno → Prog A
+  calls : Call → (Reply → Prog A) → Prog A
 
--- a world, and what was printed on the way to it
-pub record Outcome : Type 0 where
+-- one program, and then what comes of its end
+unfoldable pub tried : {A B : Type 0} → Prog A → (Result A Errno → Prog B) → Prog B
+tried (gives r) k = k r
+tried (calls c j) k = calls c (λ r. tried (j r) k)
+
+-- a refusal is the end
+abbrev pub on_ok : {A B : Type 0} → (A → Prog B) → Result A Errno → Prog B
+on_ok k (Ok a) = k a
+on_ok k (Err e) = gives (Err e)
+
+-- one program, and then another, unless the first is refused
+unfoldable pub bind : {A B : Type 0} → Prog A → (A → Prog B) → Prog B
+bind p k = tried p (on_ok k)
+
+-- one call, and what is read of its reply
+unfoldable pub made : {A : Type 0} → Call → (Reply → Result A Errno) → Prog A
+made c read = calls c (λ r. gives (read r))
+
+-- the end of a program: the world, and what it gives
+pub record End (A : Type 0) : Type 0 where
   pub world : World
-  pub printed : Printed
+  pub result : Result A Errno
 
 -- what comes of a program of task t
-unfoldable pub go : ℕ → Program → World → Outcome
-go t (ends p) w = record { world = w; printed = p }
+unfoldable pub go : {A : Type 0} → ℕ → Prog A → World → End A
+go t (gives r) w = record { world = w; result = r }
 go t (calls c k) w = go t (k (reply_of w t c)) (after w t c)
 
--- replies, as what a command makes of them; a reply of another sort can't come, and would be EIO
+-- what a command reads of a reply; a reply of another sort can't come, and would be EIO
 
 abbrev pub port_of : Reply → Result ℕ Errno
 port_of (Found (found.Done p)) = Ok p
 port_of (Refused e) = Err e
-port_of Done = Err EIO
-port_of (Data bs) = Err EIO
-port_of (Count n) = Err EIO
-port_of (Names ns) = Err EIO
+port_of _ = Err EIO
 
 abbrev pub data_of : Reply → Result (List ℕ) Errno
-data_of (Data bs) = Ok bs
+data_of (Data bytes) = Ok bytes
 data_of (Refused e) = Err e
-data_of Done = Err EIO
-data_of (Found l) = Err EIO
-data_of (Count n) = Err EIO
-data_of (Names ns) = Err EIO
+data_of _ = Err EIO
 
 abbrev pub names_of : Reply → Result (List (List ℕ)) Errno
-names_of (Names ns) = Ok ns
+names_of (Names names) = Ok names
 names_of (Refused e) = Err e
-names_of Done = Err EIO
-names_of (Found l) = Err EIO
-names_of (Data bs) = Err EIO
-names_of (Count n) = Err EIO
+names_of _ = Err EIO
 
 abbrev pub done_of : Reply → Result (Unit {0}) Errno
 done_of Done = Ok tt
 done_of (Count n) = Ok tt
 done_of (Refused e) = Err e
-done_of (Found l) = Err EIO
-done_of (Data bs) = Err EIO
-done_of (Names ns) = Err EIO
+done_of _ = Err EIO
+
+-- a reply that nobody reads
+abbrev pub unread : Reply → Result (Unit {0}) Errno
+unread r = Ok tt

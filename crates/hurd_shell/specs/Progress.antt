@@ -1,34 +1,56 @@
--- What the code does of a program. All is said of worlds that hang together, which stay so.
-use Rattle.std.specs.Prelude.{◌≡◌, ℕ, Bool, false, List}
-use Rattle.hurd_creds.specs.Memory.{is_no_memory}
+-- What the code does of a program.
+use Rattle.std.specs.Prelude.{◌≡◌, ℕ, List, Result, Ok, Err}
+use Rattle.hurd_creds.specs.declared.errno.Errno.{Errno}
+use Rattle.hurd_trans_iface.specs.Meaning.{Meaning}
 use Rattle.hurd_machine.specs.declared.call.Call.{Call}
 use Rattle.hurd_machine.specs.declared.call.Reply.{Reply}
-use Rattle.hurd_machine.specs.declared.call.Reply.TheVariants.{Refused}
 use Rattle.hurd_machine.specs.World.{World}
-use Rattle.hurd_machine.specs.Sound.{Sound}
-use Rattle.hurd_laws.specs.Step.{reply_of, after}
+use Rattle.hurd_laws.specs.Step.{step}
 use Rattle.hurd_script.specs.Commands.{CommandLine}
+use Rattle.hurd_world.specs.Held.{Both, world_of}
 use Rattle.hurd_shell.specs.declared.commands.Printed.{Printed}
-use Rattle.hurd_shell.specs.Programs.{Program, go}
-use Rattle.hurd_shell.specs.Transcript.{outcome_of, part_of}
+use Rattle.hurd_shell.specs.declared.commands.Work.{Work}
+use Rattle.hurd_shell.specs.declared.commands.Work.TheVariants.{Cat, Ls, Put}
+use Rattle.hurd_shell.specs.declared.fault.Stop.{Stop}
+use Rattle.hurd_shell.specs.declared.fault.Stop.TheVariants.{Refused, Memory}
+use Rattle.hurd_shell.specs.Programs.{Prog, gives, go}
+use Rattle.hurd_shell.specs.Commands.{cat, ls, put}
+use Rattle.hurd_shell.specs.Transcript.{end_of, part_of}
 
-abbrev pub lacks_memory : Reply → Bool
-lacks_memory (Refused e) = is_no_memory e
-lacks_memory _ = false
+-- a call of task t was told the machine's reply, and left its world
+pub record Stepped (w : World) (t : ℕ) (c : Call) (r : Reply) (x : World) : Type 0 where
+  pub step : (r, x) ≡ step w t c
 
--- task t made a call; `got` is what is read of the reply
-pub record Made {A : Type 0} (t : ℕ) (c : Call) (w : World) (read : Reply → A) (got : A) (x : World) : Type 0 where
-  pub reply : Sound w → got ≡ read (reply_of w t c)
-  pub world : Sound w → x ≡ after w t c
-  pub sound : Sound w → Sound x
+-- what was read of a reply, as the code has it
+abbrev pub stopped : {A : Type 0} → Result A Errno → Result A Stop
+stopped (Ok a) = Ok a
+stopped (Err e) = Err (Refused e)
 
--- task t made all of a program
-pub record Ran (t : ℕ) (p : Program) (w : World) (printed : Printed) (x : World) : Type 0 where
-  pub goes : Sound w → go t p w ≡ record { world = x; printed = printed }
-  pub sound : Sound w → Sound x
+-- task t comes, by calls, from the program p in w to the program q in x
+pub record Leads {A : Type 0} (t : ℕ) (p : Prog A) (w : World) (q : Prog A) (x : World) : Type 0 where
+  pub goes : go t p w ≡ go t q x
+
+-- where a program of task t ends: with what the code has, unless memory was refused
+abbrev pub Ends : {A : Type 0} → ℕ → Prog A → World → Result A Stop → World → Type 0
+Ends t p w (Ok a) x = Leads t p w (gives (Ok a)) x
+Ends t p w (Err (Refused e)) x = Leads t p w (gives (Err e)) x
+Ends t p w (Err Memory) x = Unit {0}
+
+-- task t made all of the program p, from w on, and the code has its end
+pub record Does {A : Type 0} (t : ℕ) (p : Prog A) (w : World) (r : Result A Stop) (x : World) : Type 0 where
+  pub ends : Ends t p w r x
+
+-- the same of the worlds that the code holds
+abbrev pub Ran : {S A : Type 0} → (S → Meaning) → ℕ → Prog A → Both S → Result A Stop → Both S → Type 0
+Ran f t p old r new = Does t p (world_of f old) r (world_of f new)
+
+-- the program of what the code does with an open node
+abbrev pub work_of : Work → ℕ → Prog Printed
+work_of Cat = cat
+work_of Ls = ls
+work_of (Put text) = put text
 
 -- a command was made, and this is its part of the transcript
 pub record Told (c : CommandLine) (w : World) (bytes : List ℕ) (x : World) : Type 0 where
-  pub part : Sound w → bytes ≡ part_of c w
-  pub world : Sound w → x ≡ (outcome_of c w).world
-  pub sound : Sound w → Sound x
+  pub part : bytes ≡ part_of c w
+  pub world : x ≡ (end_of c w).world

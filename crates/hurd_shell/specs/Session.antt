@@ -1,14 +1,14 @@
 -- A session: a script on its way.
-use Rattle.std.specs.Prelude.{◌≡◌, ℕ, ◌+◌, Bool, true, false, List, take, length, slice_get, Some, None, Result, Ok, Err, refl}
+use Rattle.std.specs.Prelude.{◌≡◌, ℕ, ◌+◌, Bool, true, false, List, take, length, slice_get, Some, None, Result, Ok, Err, IsOk, refl}
 use Rattle.std.specs.Coded.{Coded, code_by, coded×, coded_ℕ, coded_bool, coded_list}
 use Rattle.hurd_trans_iface.specs.Meaning.{Meaning}
 use Rattle.hurd_machine.specs.World.{World}
 use Rattle.hurd_machine.specs.Sound.{Sound}
-use Rattle.hurd_script.specs.Commands.{CommandLine}
+use Rattle.hurd_script.specs.Commands.{CommandLine, coded_command}
+use Rattle.hurd_creds.specs.Access.{IdSets}
 use Rattle.hurd_script.specs.Script.{bad, users_of}
 use Rattle.hurd_world.specs.Boot.{boot_of}
 use Rattle.hurd_world.specs.Held.{Both, coded_both, world_of}
-use Rattle.hurd_shell.specs.Codes.{coded_line}
 use Rattle.hurd_shell.specs.Transcript.{parts_of, world_after}
 use Rattle.hurd_shell.specs.declared.session.Want.{Want}
 use Rattle.hurd_shell.specs.declared.session.Want.TheVariants.{Output, Done}
@@ -27,7 +27,7 @@ abbrev pub coded_view : {S : Type 0} → Coded S → Coded (View S)
 coded_view {S} c =
     code_by
     (Both S × (List CommandLine × (ℕ × Bool)))
-    (coded× (coded_both c) (coded× (coded_list coded_line) (coded× coded_ℕ coded_bool)))
+    (coded× (coded_both c) (coded× (coded_list coded_command) (coded× coded_ℕ coded_bool)))
     (λ s. (s.world, (s.commands, (s.given, s.failed))))
     (λ p. record { world = p.0; commands = p.1.0; given = p.1.1.0; failed = p.1.1.1 })
     (λ _. refl)
@@ -45,7 +45,13 @@ Tells first old (Ok (Output bytes)) new =
 Tells first old (Ok Done) new = (old.failed ≡ false) × (old.given ≡ length (parts_of old.commands first)) × (new ≡ old)
 Tells first old (Err e) new = (e ≡ Memory) × (new.given ≡ old.given) × (new.failed ≡ true)
 
--- why a session was not begun: the script is bad at the line that is told, or it is good and its world is refused, or memory was refused
+-- why no session was begun over these users: their world is refused, or it isn't and memory was refused
+abbrev pub BeginFault : List IdSets → SessionFault → Type 0
+BeginFault users (BadScript line) = ⊥
+BeginFault users (Boot e) = boot_of users ≡ Err e
+BeginFault users Memory = IsOk (boot_of users)
+
+-- why no session was begun: the script is bad at the line that is told, or it is good and its world is refused, or memory was refused
 abbrev pub NewFault : List ℕ → SessionFault → Type 0
 NewFault script (BadScript line) = bad script ≡ Some line
 NewFault script (Boot e) = (bad script ≡ None) × (boot_of (users_of script) ≡ Err e)

@@ -1,5 +1,5 @@
 -- What a transcript says.
-use Rattle.std.specs.Prelude.{ℕ, ◌==◌, if◌then◌else◌, List, [], ◌∷◌, ◌++◌, Option, Some, None}
+use Rattle.std.specs.Prelude.{ℕ, ◌==◌, if◌then◌else◌, List, [], ◌∷◌, ◌++◌, Option, Some, None, Result, Ok, Err}
 use Rattle.hurd_creds.specs.Errors.{name_of}
 use Rattle.hurd_creds.specs.declared.errno.Errno.{Errno}
 use Rattle.hurd_trans_iface.specs.Meaning.{Meaning}
@@ -8,7 +8,8 @@ use Rattle.hurd_script.specs.Commands.{CommandLine}
 use Rattle.hurd_script.specs.Actions.{action_of}
 use Rattle.hurd_script.specs.Script.{users_of, commands_of}
 use Rattle.hurd_world.specs.Boot.{first_world}
-use Rattle.hurd_shell.specs.Programs.{Outcome, go}
+use Rattle.hurd_shell.specs.declared.commands.Printed.{Printed}
+use Rattle.hurd_shell.specs.Programs.{End, go}
 use Rattle.hurd_shell.specs.Commands.{program_of}
 
 -- output that isn't empty ends with a newline
@@ -21,23 +22,28 @@ abbrev pub refusal_line : Option Errno → List ℕ
 refusal_line None = []
 refusal_line (Some e) = name_of e ++ 10 ∷ []
 
--- what comes of a command
-abbrev pub outcome_of : CommandLine → World → Outcome
-outcome_of c w = go c.task (program_of (action_of c)) w
+-- what a command prints: its output, and the name of the error if a call was refused
+abbrev pub lines_of : Result Printed Errno → List ℕ
+lines_of (Ok printed) = ended_lines printed.output ++ refusal_line printed.refusal
+lines_of (Err e) = refusal_line (Some e)
 
--- a command's part of the transcript: its line, its output, and the name of the error if a call was refused
+-- the end of a command
+abbrev pub end_of : CommandLine → World → End Printed
+end_of c w = go c.task (program_of (action_of c)) w
+
+-- a command's part of the transcript: its line, and what it prints
 abbrev pub part_of : CommandLine → World → List ℕ
-part_of c w = let printed = (outcome_of c w).printed in c.header ++ (ended_lines printed.output ++ refusal_line printed.refusal)
+part_of c w = c.header ++ lines_of (end_of c w).result
 
 -- the parts of commands, one after another
 unfoldable pub parts_of : List CommandLine → World → List (List ℕ)
 parts_of [] w = []
-parts_of (c ∷ cs) w = part_of c w ∷ parts_of cs (outcome_of c w).world
+parts_of (c ∷ cs) w = part_of c w ∷ parts_of cs (end_of c w).world
 
 -- the world after commands
 unfoldable pub world_after : List CommandLine → World → World
 world_after [] w = w
-world_after (c ∷ cs) w = world_after cs (outcome_of c w).world
+world_after (c ∷ cs) w = world_after cs (end_of c w).world
 
 abbrev pub joined : List (List ℕ) → List ℕ
 joined [] = []

@@ -1,14 +1,11 @@
 //! The commands.
-ghost use Rattle.std.specs.Prelude.{◌≡◌, ◌++◌, ◌∷◌, [], List, ℕ, Some, None, IfOk, OnOk, filter, negsuc};
-ghost use Rattle.hurd_machine.specs.declared.call.Call.TheVariants as call;
+ghost use Rattle.std.specs.Prelude.{◌≡◌, ◌++◌, ◌∷◌, List, ℕ, IfOk, OnOk, filter};
 ghost use Rattle.hurd_script.specs.Actions.{action_of};
-ghost use Rattle.hurd_world.specs.Held.{world_of};
-ghost use Rattle.hurd_shell.specs.Programs.{calls, done_of, names_of};
 ghost use Rattle.hurd_shell.specs.Commands as written;
-ghost use Rattle.hurd_shell.specs.Progress.{Ran};
+ghost use Rattle.hurd_shell.specs.Progress.{Ran, work_of};
 
 use crate::calls;
-use crate::fault::NoMemory;
+use crate::fault::Stop;
 use bitflags::Flags;
 use hurd_creds::{Bytes, Errno, OpenFlags, TaskId};
 use hurd_script::{Action, Command};
@@ -26,26 +23,17 @@ pub(crate) struct Printed {
     pub(crate) refusal: Option<Errno>,
 }
 
-/// Nothing but a refusal.
-fn refused(alloc: Global, errno: Errno) -> Printed
-    ensures { result ≡ record { output = []; refusal = Some errno } }
-{
-    Printed {
-        output: Bytes::new(Vec::new(alloc)),
-        refusal: Some(errno),
-    }
+/// What a command does with its open node.
+#[derive(Debug, Drop)]
+pub(crate) enum Work {
+    Cat,
+    Ls,
+    Put(Bytes),
 }
 
-/// Nothing.
-fn silent(alloc: Global) -> Printed
-    ensures { result ≡ record { output = []; refusal = None } }
-{
-    finished(Vec::new(alloc))
-}
-
-/// No more than this output.
-fn finished(output: Vec<u8>) -> Printed
-    ensures { result ≡ record { output = output.items; refusal = None } }
+/// This output, and no refusal.
+fn prints(output: Vec<u8>) -> Printed
+    ensures { result ≡ written.prints output.items }
 {
     Printed {
         output: Bytes::new(output),
@@ -53,68 +41,36 @@ fn finished(output: Vec<u8>) -> Printed
     }
 }
 
-/// Gives up a port, and ends.
-fn close<S: Server>(
+/// `cat`: prints a file.
+fn cat<S: Server>(
     world: &mut World<S>,
     alloc: Global,
     task: TaskId,
     port: u64,
-    printed: Printed,
-) -> Result<Printed, NoMemory>
-    ensures { IfOk result (λ p. Ran task.0 (written.close port printed.output printed.refusal)
-        (world_of S.meaning world.old) p (world_of S.meaning world.new)) }
-{
-    calls::deallocate(world, alloc, task, port)?;
-    Ok(printed)
-}
-
-/// Prints a file from the cursor on.
-fn pour<S: Server>(
-    world: &mut World<S>,
-    alloc: Global,
-    task: TaskId,
-    port: u64,
-) -> Result<Printed, NoMemory>
-    ensures { IfOk result (λ p. Ran task.0 (written.cat_from 16 port [])
-        (world_of S.meaning world.old) p (world_of S.meaning world.new)) }
+) -> Result<Printed, Stop>
+    ensures { Ran S.meaning task.0 (written.cat port) world.old result world.new }
 {
     let mut output = Vec::new(alloc);
     let mut reads = MOST_READS;
     while reads > 0 {
         reads -= 1;
-        match calls::read(world, alloc, task, port)? {
+        match calls::read(world, alloc, task, port) {
             Ok(bytes) => {
                 if bytes.is_empty() {
-                    return close(world, alloc, task, port, finished(output));
+                    return Ok(prints(output));
                 }
                 output.extend_from_slice(bytes.as_slice())?;
             }
-            Err(errno) => {
-                let printed = Printed {
+            Err(Stop::Refused(errno)) => {
+                return Ok(Printed {
                     output: Bytes::new(output),
                     refusal: Some(errno),
-                };
-                return close(world, alloc, task, port, printed);
+                });
             }
+            Err(Stop::Memory) => return Err(Stop::Memory),
         }
     }
-    close(world, alloc, task, port, finished(output))
-}
-
-/// `cat NODE`: prints a file.
-fn cat<S: Server>(
-    world: &mut World<S>,
-    alloc: Global,
-    task: TaskId,
-    node: Bytes,
-) -> Result<Printed, NoMemory>
-    ensures { IfOk result (λ p. Ran task.0 (written.cat node)
-        (world_of S.meaning world.old) p (world_of S.meaning world.new)) }
-{
-    match calls::look_up(world, alloc, task, node, OpenFlags::READ)? {
-        Ok(port) => pour(world, alloc, task, port),
-        Err(errno) => Ok(refused(alloc, errno)),
-    }
+    Ok(prints(output))
 }
 
 /// Whether `ls` prints a name: neither `.` nor `..`.
@@ -147,39 +103,66 @@ fn shown_lines(alloc: Global, names: &[Bytes]) -> Result<Vec<u8>, AllocError>
     Ok(lines)
 }
 
-/// Prints the names in a directory.
-fn list<S: Server>(
-    world: &mut World<S>,
-    alloc: Global,
-    task: TaskId,
-    port: u64,
-) -> Result<Printed, NoMemory>
-    ensures { IfOk result (λ p. Ran task.0 (calls (call.DirReaddir port) (λ r. written.listed port (names_of r)))
-        (world_of S.meaning world.old) p (world_of S.meaning world.new)) }
-{
-    match calls::names(world, alloc, task, port)? {
-        Ok(names) => {
-            let lines = shown_lines(alloc, names.as_slice())?;
-            close(world, alloc, task, port, finished(lines))
-        }
-        Err(errno) => close(world, alloc, task, port, refused(alloc, errno)),
-    }
-}
-
-/// `ls NODE`: prints the names in a directory.
+/// `ls`: prints the names in a directory.
 fn ls<S: Server>(
     world: &mut World<S>,
     alloc: Global,
     task: TaskId,
-    node: Bytes,
-) -> Result<Printed, NoMemory>
-    ensures { IfOk result (λ p. Ran task.0 (written.ls node)
-        (world_of S.meaning world.old) p (world_of S.meaning world.new)) }
+    port: u64,
+) -> Result<Printed, Stop>
+    ensures { Ran S.meaning task.0 (written.ls port) world.old result world.new }
 {
-    match calls::look_up(world, alloc, task, node, to_list())? {
-        Ok(port) => list(world, alloc, task, port),
-        Err(errno) => Ok(refused(alloc, errno)),
+    let names = calls::names(world, alloc, task, port)?;
+    Ok(prints(shown_lines(alloc, names.as_slice())?))
+}
+
+/// `put`: writes a file anew.
+fn put<S: Server>(
+    world: &mut World<S>,
+    alloc: Global,
+    task: TaskId,
+    port: u64,
+    text: Bytes,
+) -> Result<Printed, Stop>
+    ensures { Ran S.meaning task.0 (written.put text port) world.old result world.new }
+{
+    calls::cut(world, alloc, task, port)?;
+    calls::write(world, alloc, task, port, text)?;
+    Ok(prints(Vec::new(alloc)))
+}
+
+/// Does a command's work with its open node.
+fn work_on<S: Server>(
+    world: &mut World<S>,
+    alloc: Global,
+    task: TaskId,
+    port: u64,
+    work: Work,
+) -> Result<Printed, Stop>
+    ensures { Ran S.meaning task.0 (work_of work port) world.old result world.new }
+{
+    match work {
+        Work::Cat => cat(world, alloc, task, port),
+        Work::Ls => ls(world, alloc, task, port),
+        Work::Put(text) => put(world, alloc, task, port, text),
     }
+}
+
+/// Opens a node, does a command's work with it, and gives it up.
+fn with_open<S: Server>(
+    world: &mut World<S>,
+    alloc: Global,
+    task: TaskId,
+    path: Bytes,
+    flags: OpenFlags,
+    work: Work,
+) -> Result<Printed, Stop>
+    ensures { Ran S.meaning task.0 (written.with_open path flags (work_of work)) world.old result world.new }
+{
+    let port = calls::open(world, alloc, task, path, flags)?;
+    let done = work_on(world, alloc, task, port, work);
+    calls::deallocate(world, alloc, task, port)?;
+    done
 }
 
 /// The flags of a directory's opening.
@@ -196,71 +179,21 @@ fn to_write() -> OpenFlags
     OpenFlags::WRITE.union(OpenFlags::CREATE)
 }
 
-/// Writes a file that was cut.
-fn fill<S: Server>(
-    world: &mut World<S>,
-    alloc: Global,
-    task: TaskId,
-    port: u64,
-    text: Bytes,
-) -> Result<Printed, NoMemory>
-    ensures { IfOk result (λ p. Ran task.0 (calls (call.IoWrite port text (negsuc 0)) (λ r. written.ended port (done_of r)))
-        (world_of S.meaning world.old) p (world_of S.meaning world.new)) }
-{
-    match calls::write(world, alloc, task, port, text)? {
-        Ok(()) => close(world, alloc, task, port, silent(alloc)),
-        Err(errno) => close(world, alloc, task, port, refused(alloc, errno)),
-    }
-}
-
-/// Writes a file anew.
-fn write_anew<S: Server>(
-    world: &mut World<S>,
-    alloc: Global,
-    task: TaskId,
-    port: u64,
-    text: Bytes,
-) -> Result<Printed, NoMemory>
-    ensures { IfOk result (λ p. Ran task.0 (calls (call.FileSetSize port 0) (λ r. written.cut port text (done_of r)))
-        (world_of S.meaning world.old) p (world_of S.meaning world.new)) }
-{
-    match calls::cut(world, alloc, task, port)? {
-        Ok(()) => fill(world, alloc, task, port, text),
-        Err(errno) => close(world, alloc, task, port, refused(alloc, errno)),
-    }
-}
-
-/// `put NODE TEXT`: writes a file, and makes it where it isn't there.
-fn put<S: Server>(
-    world: &mut World<S>,
-    alloc: Global,
-    task: TaskId,
-    node: Bytes,
-    text: Bytes,
-) -> Result<Printed, NoMemory>
-    ensures { IfOk result (λ p. Ran task.0 (written.put node text)
-        (world_of S.meaning world.old) p (world_of S.meaning world.new)) }
-{
-    match calls::look_up(world, alloc, task, node, to_write())? {
-        Ok(port) => write_anew(world, alloc, task, port, text),
-        Err(errno) => Ok(refused(alloc, errno)),
-    }
-}
-
 /// Makes a command.
 pub(crate) fn run<S: Server>(
     world: &mut World<S>,
     alloc: Global,
     command: &Command,
-) -> Result<Printed, NoMemory>
-    ensures { IfOk result (λ p. Ran command.now.task (written.program_of (action_of command.now))
-        (world_of S.meaning world.old) p (world_of S.meaning world.new)) }
+) -> Result<Printed, Stop>
+    ensures { Ran S.meaning command.now.task (written.program_of (action_of command.now)) world.old result world.new }
 {
     let task = command.task();
     match command.action(alloc)? {
-        Action::Cat { node } => cat(world, alloc, task, node),
-        Action::Ls { node } => ls(world, alloc, task, node),
-        Action::Put { node, text } => put(world, alloc, task, node, text),
-        Action::Usage => Ok(finished(Vec::from_slice(alloc, b"usage\n")?)),
+        Action::Cat { node } => with_open(world, alloc, task, node, OpenFlags::READ, Work::Cat),
+        Action::Ls { node } => with_open(world, alloc, task, node, to_list(), Work::Ls),
+        Action::Put { node, text } => {
+            with_open(world, alloc, task, node, to_write(), Work::Put(text))
+        }
+        Action::Usage => Ok(prints(Vec::from_slice(alloc, b"usage\n")?)),
     }
 }

@@ -1,4 +1,4 @@
-//! Why a session stops.
+//! Why a command or a session stops.
 use hurd_creds::Errno;
 use std::alloc::AllocError;
 use thiserror::Error;
@@ -10,6 +10,36 @@ pub(crate) struct NoMemory;
 impl From<AllocError> for NoMemory {
     fn from(_error: AllocError) -> NoMemory {
         NoMemory
+    }
+}
+
+/// Why a command stops.
+#[derive(Clone, Copy, Debug, PartialEq, Eq)]
+pub(crate) enum Stop {
+    /// A call was refused.
+    Refused(Errno),
+    Memory,
+}
+
+impl From<AllocError> for Stop {
+    ghost use Rattle.std.specs.Prelude.{◌≡◌};
+    ghost use Rattle.hurd_shell.specs.declared.fault.Stop.TheVariants.{Memory};
+
+    ghost from_gives = { λ _ e. e ≡ Memory };
+
+    fn from(_error: AllocError) -> Stop {
+        Stop::Memory
+    }
+}
+
+impl From<NoMemory> for Stop {
+    ghost use Rattle.std.specs.Prelude.{◌≡◌};
+    ghost use Rattle.hurd_shell.specs.declared.fault.Stop.TheVariants.{Memory};
+
+    ghost from_gives = { λ _ e. e ≡ Memory };
+
+    fn from(_error: NoMemory) -> Stop {
+        Stop::Memory
     }
 }
 

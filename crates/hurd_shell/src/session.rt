@@ -4,7 +4,7 @@ ghost use Rattle.hurd_trans_iface.specs.Meaning.{Begins};
 ghost use Rattle.hurd_machine.specs.World as machine;
 ghost use Rattle.hurd_script.specs.Script.{bad, users_of, commands_of};
 ghost use Rattle.hurd_world.specs.Boot.{boot_of, first_world};
-ghost use Rattle.hurd_shell.specs.Session.{Follows, Tells, NewFault};
+ghost use Rattle.hurd_shell.specs.Session.{Follows, Tells, BeginFault, NewFault};
 
 use crate::fault::{NoMemory, SessionFault};
 use crate::transcript::part_of;
@@ -58,11 +58,24 @@ impl<S: Server> Session<S> {
             × (s.commands ≡ commands_of script.now) × (s.given ≡ 0) × (s.failed ≡ false)) }
         ensures err { IfErr result (λ e. NewFault script.now e) }
     {
-        let Script { users, commands } = match parse_script(alloc, script) {
-            Ok(script) => script,
-            Err(ScriptFault::Bad { line }) => return Err(SessionFault::BadScript { line }),
-            Err(ScriptFault::Memory) => return Err(SessionFault::Memory),
-        };
+        match parse_script(alloc, script) {
+            Ok(script) => Session::begin(alloc, script, root),
+            Err(ScriptFault::Bad { line }) => Err(SessionFault::BadScript { line }),
+            Err(ScriptFault::Memory) => Err(SessionFault::Memory),
+        }
+    }
+
+    /// Boots the world of a script that was read.
+    ///
+    /// Errors, in order: `Boot` with the world's refusal, `Memory`.
+    fn begin(alloc: Global, script: Script, root: S) -> Result<Session<S>, SessionFault>
+        requires { Begins (S.meaning root) }
+        ensures ok { IfOk result (λ s. (boot_of script.users.items ≡ Ok tt)
+            × Follows S.meaning (first_world (S.meaning root) script.users.items) s
+            × (s.commands ≡ script.commands.items) × (s.given ≡ 0) × (s.failed ≡ false)) }
+        ensures err { IfErr result (λ e. BeginFault script.users.items e) }
+    {
+        let Script { users, commands } = script;
         match World::boot(alloc, root, users) {
             Ok(world) => Ok(Session {
                 world,

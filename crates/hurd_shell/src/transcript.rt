@@ -4,8 +4,8 @@ ghost use Rattle.hurd_world.specs.Held.{world_of};
 ghost use Rattle.hurd_shell.specs.Transcript.{ended_lines, refusal_line};
 ghost use Rattle.hurd_shell.specs.Progress.{Told};
 
-use crate::commands::{Printed, run};
-use crate::fault::NoMemory;
+use crate::commands::run;
+use crate::fault::{NoMemory, Stop};
 use hurd_creds::{Bytes, Errno};
 use hurd_script::Command;
 use hurd_trans_iface::Server;
@@ -45,13 +45,17 @@ fn add_refusal(part: &mut Vec<u8>, refusal: Option<Errno>) -> Result<(), AllocEr
 }
 
 /// A command's line, its output, and the name of its refusal.
-fn written(alloc: Global, header: &[u8], printed: &Printed) -> Result<Bytes, AllocError>
-    ensures { IfOk result (λ part. part
-        ≡ header.now ++ (ended_lines printed.now.output ++ refusal_line printed.now.refusal)) }
+fn written(
+    alloc: Global,
+    header: &[u8],
+    output: &[u8],
+    refusal: Option<Errno>,
+) -> Result<Bytes, AllocError>
+    ensures { IfOk result (λ part. part ≡ header.now ++ (ended_lines output.now ++ refusal_line refusal)) }
 {
     let mut part = Vec::from_slice(alloc, header)?;
-    add_output(&mut part, printed.output.as_slice())?;
-    add_refusal(&mut part, printed.refusal)?;
+    add_output(&mut part, output)?;
+    add_refusal(&mut part, refusal)?;
     Ok(Bytes::new(part))
 }
 
@@ -64,6 +68,10 @@ pub(crate) fn part_of<S: Server>(
     ensures { IfOk result (λ part. Told command.now
         (world_of S.meaning world.old) part (world_of S.meaning world.new)) }
 {
-    let printed = run(world, alloc, command)?;
-    Ok(written(alloc, command.header(), &printed)?)
+    let header = command.header();
+    match run(world, alloc, command) {
+        Ok(printed) => Ok(written(alloc, header, printed.output.as_slice(), printed.refusal)?),
+        Err(Stop::Refused(errno)) => Ok(written(alloc, header, b"", Some(errno))?),
+        Err(Stop::Memory) => Err(NoMemory),
+    }
 }

@@ -1,25 +1,23 @@
 //! The first ports of tasks.
 ghost use Rattle.std.specs.Prelude.{◌≡◌, ◌≤◌, length, IfOk, IfErr, Ok};
-ghost use Rattle.hurd_ports.specs.Steps.{room_of};
+ghost use Rattle.hurd_ports.specs.Tables.{room_of};
 ghost use Rattle.hurd_world.specs.Boot.{boot_ports, most_tasks};
 ghost use Rattle.hurd_world.specs.BootPort.{with_boot_port};
 
 use hurd_creds::{Errno, Ids, OpenFlags, TaskId};
 use hurd_nodes::BOOT_NAME;
 use hurd_ports::Ports;
-use std::alloc::{AllocError, Global};
+use std::alloc::Global;
 
 /// The tables of tasks of these ids: each has the boot root as port 1, its root, and as port 2, its working directory.
 ///
 /// `ENOMEM`.
 pub(crate) fn first_ports(alloc: Global, tasks: Vec<Ids>) -> Result<Ports, Errno>
     requires { length tasks.items ≤ most_tasks }
-    ensures ok { IfOk result (λ ports. ports ≡ boot_ports tasks.items) }
+    ensures ok { IfOk result (λ ports. ports.state ≡ boot_ports tasks.items) }
     ensures err { IfErr result (λ e. e ≡ Errno.ENOMEM) }
 {
-    let Ok(mut ports) = Ports::starting_at(alloc, tasks, 1) else {
-        return Err(Errno::ENOMEM);
-    };
+    let mut ports = Ports::starting_at(alloc, tasks, 1)?;
     for task in 0..ports.task_count() as u32 {
         add_boot_port(alloc, &mut ports, TaskId(task))?;
         add_boot_port(alloc, &mut ports, TaskId(task))?;
@@ -29,14 +27,11 @@ pub(crate) fn first_ports(alloc: Global, tasks: Vec<Ids>) -> Result<Ports, Errno
 
 /// Gives a task one port more on the boot root, with the task's ids and no modes. `ENOMEM`.
 fn add_boot_port(alloc: Global, ports: &mut Ports, task: TaskId) -> Result<(), Errno>
-    requires { room_of ports.old task.0 1 ≡ Ok tt }
-    ensures ok { IfOk result (λ u. ports.new ≡ with_boot_port task.0 ports.old) }
+    requires { room_of ports.old.state task.0 1 ≡ Ok tt }
+    ensures ok { IfOk result (λ u. ports.new.state ≡ with_boot_port task.0 ports.old.state) }
     ensures err { IfErr result (λ e. e ≡ Errno.ENOMEM) }
 {
-    let ids = match ports.ids(task)?.copied(alloc) {
-        Ok(ids) => ids,
-        Err(AllocError) => return Err(Errno::ENOMEM),
-    };
+    let ids = ports.ids(task)?.copied(alloc)?;
     ports.insert(task, BOOT_NAME, ids, OpenFlags::from_bits_truncate(0))?;
     Ok(())
 }

@@ -1,16 +1,23 @@
-use Rattle.std.proofs.Common.{[]}
-use Rattle.std.proofs.lemmas.Result.{IfOk-weaker}
-use Rattle.hurd_shell.specs.Programs.{port_of}
-use Rattle.hurd_shell.specs.Commands.{cat_from, with_port}
-use Rattle.hurd_shell.proofs.ProgramLaws.{ran_call, ran_end}
+use Rattle.std.proofs.Common.{◌≡◌, ◌++◌, arith}
+use Rattle.hurd_shell.proofs.CommandLaws.{cat_none, cat_some, cat_err, cat_over}
+use Rattle.hurd_shell.proofs.ProgramLaws.{leads_does, leads_trans, does_gives}
 use Rattle.hurd_shell.proofs.commands.cat.Goals as goal
 
-pub returns-in-Ok : goal.returns-in-Ok
-returns-in-Ok g c =
-    let made = rw c.in-Ok.is at c.in_ok-port.ensures in
-    IfOk-weaker c.pour.result _ _ (λ p ran. ran_call _ _ port_of (with_port (λ q. cat_from 16 q [])) _ _ _ _ p made ran) c.pour.ensures
+pub returns-then-is_empty : goal.returns-then-is_empty
+returns-then-is_empty g c =
+    rw c.prints.ensures
+    (leads_does (leads_trans c.loop-reads.invariant (cat_none _ _ _ _ c.loop-reads-test.true c.in-Ok.ensures.ends c.if-is_empty.ensures)) (does_gives _ _ _))
 
-pub returns-in-Err : goal.returns-in-Err
-returns-in-Err g c =
-    let made = rw c.in-Err.is at c.in_ok-port.ensures in
-    rw c.refused.ensures (ran_call _ _ port_of (with_port (λ q. cat_from 16 q [])) _ _ _ _ _ made (ran_end _ _ _))
+pub loop-reads-preserved : goal.loop-reads-preserved
+loop-reads-preserved g c =
+    let same : c.extend_from_slice.new.self.items ≡ c.loop-reads.output.items ++ c.in-Ok.bytes = grind arith in
+    leads_trans c.loop-reads.invariant (cat_some _ _ _ _ _ c.loop-reads-test.true c.in-Ok.ensures.ends c.if-is_empty.ensures same)
+
+pub returns-in-Err-Refused : goal.returns-in-Err-Refused
+returns-in-Err-Refused g c =
+    let refused = rw c.in-Err-Refused.field-0-is at c.in-Err-Refused.ensures in
+    rw (c.in-Err-Refused.errno-is, c.new.ensures)
+    (leads_does (leads_trans c.loop-reads.invariant (cat_err _ _ _ _ c.loop-reads-test.true refused.ends)) (does_gives _ _ _))
+
+pub returns : goal.returns
+returns g c = rw c.prints-2.ensures (leads_does (leads_trans c.loop-reads.invariant (cat_over _ _ _ c.loop-reads-test.false)) (does_gives _ _ _))

@@ -6,5 +6,5 @@ use Rattle.hurd_world.proofs.boot.first_ports.Given as goal
 abbrev pub invariant-loop-task : goal.invariant-loop-task
 invariant-loop-task l = record {
   count : l.task-end ≡ length l.fn.tasks.items;
-  begun : Begun l.fn.tasks.items l.task l.ports;
+  begun : Begun l.fn.tasks.items l.task l.ports.state;
 }

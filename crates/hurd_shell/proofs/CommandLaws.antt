@@ -1,0 +1,60 @@
+-- The reads of cat, and a command's part of the transcript.
+use Rattle.std.proofs.Common.{◌≡◌, ◌≤◌, ◌<◌, inl, inr, ℕ, zero, suc, ◌-◌, ◌++◌, ◌==◌, true, false, true≢false, List, [], ◌∷◌, length, Some, Result, Ok, Err, sym, ◌∙◌, ap, arith}
+use Rattle.std.proofs.lemmas.Bool.Decides.{eqb_tells}
+use Rattle.hurd_creds.specs.declared.errno.Errno.{Errno}
+use Rattle.hurd_machine.specs.declared.call.Call.TheVariants.{IoRead}
+use Rattle.hurd_machine.specs.World.{World}
+use Rattle.hurd_shell.specs.declared.calls.TheConstants.{AT_CURSOR, READ_AMOUNT}
+use Rattle.hurd_shell.specs.declared.commands.Printed.{Printed}
+use Rattle.hurd_script.specs.Actions.{action_of}
+use Rattle.hurd_script.specs.Commands.{CommandLine}
+use Rattle.hurd_shell.specs.Programs.{Prog, End, gives, made, data_of}
+use Rattle.hurd_shell.specs.Commands.{cat_from, cat_read, prints, program_of}
+use Rattle.hurd_shell.specs.Transcript.{end_of, lines_of}
+use Rattle.hurd_shell.specs.Progress.{Leads, Told}
+use Rattle.hurd_shell.proofs.ProgramLaws.{go-gives, leads_refl, tried_ends}
+
+sub_one : (n : ℕ) → suc n - 1 ≡ n
+sub_one n = omega arith
+
+-- a read
+abbrev pub reading : ℕ → Prog (List ℕ)
+reading p = made (IoRead p READ_AMOUNT AT_CURSOR) data_of
+
+cat_turn : {t : ℕ} {w x : World} (reads p : ℕ) (output : List ℕ) (r : Result (List ℕ) Errno) → 0 < reads → Leads t (reading p) w (gives r) x
+    → Leads t (cat_from reads p output) w (cat_read output (cat_from (reads - 1) p) r) x
+unfolding cat_from
+cat_turn zero p output r some l = absurd (omega arith)
+cat_turn (suc reads) p output r some l = rw sub_one (tried_ends (cat_read output (cat_from reads p)) l)
+
+-- no more reads
+pub cat_over : {t : ℕ} {w : World} (reads p : ℕ) (output : List ℕ) → reads ≤ 0 → Leads t (cat_from reads p output) w (gives (Ok (prints output))) w
+unfolding cat_from
+cat_over zero p output none = leads_refl _ _ _
+cat_over (suc reads) p output none = absurd (omega arith)
+
+not_none : (b : ℕ) (bs : List ℕ) → (length (b ∷ bs) == 0) ≡ false
+not_none b bs = elim (eqb_tells (suc (length bs)) 0) [ inl (e, same) ↦ absurd (omega arith) | inr (e, apart) ↦ e ]
+
+-- a read at the end
+pub cat_none : {t : ℕ} {w x : World} (reads p : ℕ) (output bytes : List ℕ) → 0 < reads → Leads t (reading p) w (gives (Ok bytes)) x → true ≡ (length bytes == 0)
+    → Leads t (cat_from reads p output) w (gives (Ok (prints output))) x
+cat_none reads p output [] some l none = cat_turn reads p output (Ok []) some l
+cat_none reads p output (b ∷ bs) some l none = absurd (true≢false (none ∙ not_none b bs))
+
+-- a read of some bytes
+pub cat_some : {t : ℕ} {w x : World} (reads p : ℕ) (output bytes next : List ℕ) → 0 < reads → Leads t (reading p) w (gives (Ok bytes)) x → false ≡ (length bytes == 0)
+    → next ≡ output ++ bytes → Leads t (cat_from reads p output) w (cat_from (reads - 1) p next) x
+cat_some reads p output [] next some l full same = absurd (true≢false (sym full))
+cat_some reads p output (b ∷ bs) next some l full same = rw same (cat_turn reads p output (Ok (b ∷ bs)) some l)
+
+-- a refused read
+pub cat_err : {t : ℕ} {w x : World} (reads p : ℕ) (output : List ℕ) (e : Errno) → 0 < reads → Leads t (reading p) w (gives (Err e)) x
+    → Leads t (cat_from reads p output) w (gives (Ok (record { output = output; refusal = Some e }))) x
+cat_err reads p output e some l = cat_turn reads p output (Err e) some l
+
+-- what a command that was made prints is its part of the transcript
+pub told : (c : CommandLine) (r : Result Printed Errno) (bytes : List ℕ) (w x : World) → bytes ≡ c.header ++ lines_of r → Leads c.task (program_of (action_of c)) w (gives r) x → Told c w bytes x
+told c r bytes w x same l =
+    let end : end_of c w ≡ record { world = x; result = r } = l.goes ∙ go-gives c.task r x in
+    record { part = same ∙ ap (λ (e : End Printed). c.header ++ lines_of e.result) (sym end); world = ap (λ (e : End Printed). e.world) (sym end) }
