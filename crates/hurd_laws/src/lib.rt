@@ -1,2 +1,10 @@
-//! Stub.
+//! The step of a call, runs of calls, and the laws on what a set of tasks can learn.
+//!
+//! The laws stand as public functions that compute nothing: the contract of each is the law, over the definitions alone.
 #![tactic(auto)]
+
+mod laws;
+
+pub use laws::{
+    changes_touched, isolated, never_wants_memory, others_unseen, own_from_view, stays_sound,
+};

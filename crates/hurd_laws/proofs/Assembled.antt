@@ -1,0 +1,50 @@
+-- The laws of one step, from those of each call: each call has a line.
+use Rattle.std.proofs.Common.{ℕ}
+use Rattle.hurd_machine.specs.declared.call.Call.{Call}
+use Rattle.hurd_machine.specs.declared.call.Call.TheVariants.{PortDeallocate, DirLookup, IoRead, IoWrite, FileSetSize, DirReaddir}
+use Rattle.hurd_machine.specs.World.{World}
+use Rattle.hurd_machine.specs.Sight.{Part, AttrOf, EmptyOf, BodyOf, OpenOf, OptionsOf, UsersOf, TaskOf}
+use Rattle.hurd_machine.proofs.Frame.{IsUnnamed}
+use Rattle.hurd_machine.proofs.CallLaws.{CallLaws}
+use Rattle.hurd_machine.proofs.CallLaws as call
+use Rattle.hurd_rights.proofs.DeallocateLaws.{deallocate_laws}
+use Rattle.hurd_lookup.proofs.LookupLaws.{lookup_laws}
+use Rattle.hurd_io.proofs.ReadLaws.{read_laws}
+use Rattle.hurd_io.proofs.WriteLaws.{write_laws}
+use Rattle.hurd_files.proofs.SetSizeLaws.{set_size_laws}
+use Rattle.hurd_files.proofs.ReaddirLaws.{readdir_laws}
+use Rattle.hurd_laws.specs.Step.{plan, touches}
+use Rattle.hurd_laws.specs.Laws.{IsOld, ChangesTouched, OthersUnseen, OwnFromView, StaysSound, NeverWantsMemory}
+
+laws_of : (t : ℕ) (c : Call) → CallLaws t (λ w. plan w t c) (λ w. touches w t c)
+laws_of t (PortDeallocate p) = deallocate_laws t p
+laws_of t (DirLookup p path flags mode) = lookup_laws t p path flags mode
+laws_of t (IoRead p amount offset) = read_laws t p amount offset
+laws_of t (IoWrite p bytes offset) = write_laws t p bytes offset
+laws_of t (FileSetSize p size) = set_size_laws t p size
+laws_of t (DirReaddir p) = readdir_laws t p
+
+-- what has a name that was given is not new
+old_named : (w : World) (p : Part) → IsOld w p → IsUnnamed w p → ⊥
+old_named w (AttrOf n) old new = new old
+old_named w (EmptyOf n) old new = new old
+old_named w (BodyOf n) old new = new old
+old_named w (OpenOf o) old new = new old
+old_named w (OptionsOf s) old new = new old
+old_named w (UsersOf s) old new = new old
+old_named w (TaskOf t) old new = new
+
+pub changes_touched : ChangesTouched
+changes_touched w t c p s old out other = call.changes_touched t _ _ (laws_of t c) w p s (old_named w p old) out other
+
+pub others_unseen : OthersUnseen
+others_unseen S w t c s out quiet = call.others_unseen t _ _ (laws_of t c) S w s out quiet
+
+pub own_from_view : OwnFromView
+own_from_view S v w t c sv sw ours view = call.own_from_view t _ _ (laws_of t c) S v w sv sw ours view
+
+pub stays_sound : StaysSound
+stays_sound w t c s = call.stays_sound t _ _ (laws_of t c) w s
+
+pub never_wants_memory : NeverWantsMemory
+never_wants_memory w t c = (laws_of t c).plain w

@@ -1,0 +1,3 @@
+pub mod Assembled
+pub mod Headline
+pub mod Served

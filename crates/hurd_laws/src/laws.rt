@@ -1,0 +1,33 @@
+//! The laws.
+ghost use Rattle.hurd_laws.specs.Laws.{ChangesTouched, Isolated, NeverWantsMemory, OthersUnseen, OwnFromView, StaysSound};
+
+/// A step changes touched parts, its caller's own task and new things alone.
+pub fn changes_touched()
+    ensures { ChangesTouched }
+{}
+
+/// After a step of a task outside a set that touches no part that the set sees, the set's view is the same.
+pub fn others_unseen()
+    ensures { OthersUnseen }
+{}
+
+/// For a step of a task of the set, the reply and the view afterwards depend on the view before alone.
+pub fn own_from_view()
+    ensures { OwnFromView }
+{}
+
+/// A sound world stays sound: nothing is left to take out after any call.
+pub fn stays_sound()
+    ensures { StaysSound }
+{}
+
+/// No call is refused for want of memory by the written machine.
+pub fn never_wants_memory()
+    ensures { NeverWantsMemory }
+{}
+
+/// Where a set of tasks makes the same calls in two runs, from worlds that look the same to it, and the others touch
+/// nothing that it sees, it is told the same, and sees the same afterwards.
+pub fn isolated()
+    ensures { Isolated }
+{}
