@@ -1,2 +1,3 @@
 pub mod CoreLaws
 pub mod MakingLaws
+pub mod PlanLaws

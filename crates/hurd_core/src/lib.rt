@@ -6,8 +6,8 @@
 //! It decides nothing: what may be asked and changed is in the plan of each call.
 #![tactic(auto)]
 
-mod core;
 mod file;
+mod the_core;
 
-pub use core::Core;
 pub use file::FileToMake;
+pub use the_core::Core;

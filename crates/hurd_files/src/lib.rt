@@ -6,4 +6,4 @@
 
 mod files;
 
-pub use files::*;
+pub use files::{dir_readdir, file_set_size};

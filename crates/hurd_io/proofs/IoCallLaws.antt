@@ -23,9 +23,9 @@ use Rattle.hurd_machine.proofs.Opens.{cursor_within, cursor_proper, cursor_rests
 use Rattle.hurd_machine.proofs.Edits.{did_within, did_proper, did_rests}
 use Rattle.hurd_machine.proofs.Asks.{IsPlain, ok_plain, err_plain, asked_plain, answered_same, answered_plain, done_plain}
 use Rattle.hurd_machine.proofs.CallLaws.{CallLaws, answered_within, answered_proper, answered_sized, answered_rests, answered_may}
-use Rattle.hurd_io.specs.declared.io.Offset.{Offset}
-use Rattle.hurd_io.specs.declared.io.Offset.TheVariants.{Place, Cursor}
-use Rattle.hurd_io.specs.declared.io.IoAt.{IoAt}
+use Rattle.hurd_io.specs.declared.offset.Offset.{Offset}
+use Rattle.hurd_io.specs.declared.offset.Offset.TheVariants.{Place, Cursor}
+use Rattle.hurd_io.specs.declared.offset.IoAt.{IoAt}
 use Rattle.hurd_io.specs.Io.{offset_of, past, moved, Moves, plan_io, touches_io}
 
 pub offset_plain : (offset : ℤ) → IsPlain (offset_of offset)

@@ -1,3 +1,4 @@
 pub mod IoCallLaws
 pub mod ReadLaws
 pub mod WriteLaws
+pub mod RowLaws

@@ -10,7 +10,7 @@ use Rattle.hurd_machine.specs.Handle.{handle_asks}
 use Rattle.hurd_machine.specs.Sight.{BodyOf, Sees}
 use Rattle.hurd_machine.proofs.Asks.{first_same, first_ok, given_ok, first_plain, given_plain, ok_plain, handle_same, handle_read, handle_plain, asked_seen}
 use Rattle.hurd_machine.proofs.CallLaws.{CallLaws}
-use Rattle.hurd_io.specs.declared.io.IoAt.{IoAt}
+use Rattle.hurd_io.specs.declared.offset.IoAt.{IoAt}
 use Rattle.hurd_io.specs.Io.{most_read, read_asks, reads, plan_read, touches_read}
 use Rattle.hurd_io.proofs.IoCallLaws.{offset_plain, io_laws}
 

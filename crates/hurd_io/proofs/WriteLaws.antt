@@ -10,7 +10,7 @@ use Rattle.hurd_machine.specs.Handle.{handle_asks}
 use Rattle.hurd_machine.specs.Sight.{Seen}
 use Rattle.hurd_machine.proofs.Asks.{first_same, first_ok, first_plain, ok_plain, handle_same, handle_seen, handle_plain, asked_same}
 use Rattle.hurd_machine.proofs.CallLaws.{CallLaws}
-use Rattle.hurd_io.specs.declared.io.IoAt.{IoAt}
+use Rattle.hurd_io.specs.declared.offset.IoAt.{IoAt}
 use Rattle.hurd_io.specs.Io.{write_asks, writes, plan_write, touches_write}
 use Rattle.hurd_io.proofs.IoCallLaws.{offset_plain, io_laws}
 

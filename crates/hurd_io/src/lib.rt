@@ -7,4 +7,4 @@
 mod io;
 mod offset;
 
-pub use io::*;
+pub use io::{io_read, io_write};

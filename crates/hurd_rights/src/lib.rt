@@ -5,4 +5,4 @@
 
 mod deallocate;
 
-pub use deallocate::*;
+pub use deallocate::port_deallocate;

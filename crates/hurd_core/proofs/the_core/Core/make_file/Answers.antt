@@ -5,7 +5,7 @@ use Rattle.hurd_nodes.specs.Shown.{shown}
 use Rattle.hurd_machine.specs.World.{world_from}
 use Rattle.hurd_core.specs.File.{file_of}
 use Rattle.hurd_core.proofs.MakingLaws.{no-room, not-made, makes, room-left, reserve-lacks, make-lacks, lacks-memory, file-made}
-use Rattle.hurd_core.proofs.core.Core.make_file.Goals as goal
+use Rattle.hurd_core.proofs.the_core.Core.make_file.Goals as goal
 
 pub returns-in_err-room : goal.returns-in_err-room
 returns-in_err-room g c =

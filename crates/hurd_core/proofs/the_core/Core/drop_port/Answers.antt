@@ -1,7 +1,7 @@
 -- The ports without the port are the world without it.
 use Rattle.hurd_nodes.specs.Shown.{shown}
 use Rattle.hurd_core.proofs.CoreLaws.{drop-follows}
-use Rattle.hurd_core.proofs.core.Core.drop_port.Goals as goal
+use Rattle.hurd_core.proofs.the_core.Core.drop_port.Goals as goal
 
 pub returns : goal.returns
 returns g c =

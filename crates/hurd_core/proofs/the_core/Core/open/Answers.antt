@@ -1,7 +1,7 @@
 -- The ports with a port more are the world with it.
 use Rattle.hurd_nodes.specs.Shown.{shown}
 use Rattle.hurd_core.proofs.CoreLaws.{open-does}
-use Rattle.hurd_core.proofs.core.Core.open.Goals as goal
+use Rattle.hurd_core.proofs.the_core.Core.open.Goals as goal
 
 pub returns : goal.returns
 returns g c =
