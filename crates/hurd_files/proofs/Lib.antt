@@ -1,2 +1,1 @@
-pub mod SetSizeLaws
-pub mod ReaddirLaws
+pub mod FilesLaws

@@ -4,6 +4,4 @@
 //! answer and change is `plan_set_size` and `plan_readdir` of `specs/Files`.
 #![tactic(auto)]
 
-mod files;
-
-pub use files::{dir_readdir, file_set_size};
+pub mod files;

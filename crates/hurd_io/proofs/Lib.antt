@@ -1,4 +1,2 @@
-pub mod IoCallLaws
-pub mod ReadLaws
-pub mod WriteLaws
+pub mod IoLaws
 pub mod RowLaws

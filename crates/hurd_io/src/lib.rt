@@ -4,7 +4,5 @@
 //! cursor. What they answer and change is `plan_read` and `plan_write` of `specs/Io`.
 #![tactic(auto)]
 
-mod io;
+pub mod io;
 mod offset;
-
-pub use io::{io_read, io_write};

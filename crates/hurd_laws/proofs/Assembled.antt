@@ -7,12 +7,10 @@ use Rattle.hurd_machine.specs.Sight.{Part, AttrOf, EmptyOf, BodyOf, OpenOf, Opti
 use Rattle.hurd_machine.proofs.Frame.{IsUnnamed}
 use Rattle.hurd_machine.proofs.CallLaws.{CallLaws}
 use Rattle.hurd_machine.proofs.CallLaws as call
-use Rattle.hurd_rights.proofs.DeallocateLaws.{deallocate_laws}
+use Rattle.hurd_rights.proofs.RightsLaws.{deallocate_laws}
 use Rattle.hurd_lookup.proofs.LookupLaws.{lookup_laws}
-use Rattle.hurd_io.proofs.ReadLaws.{read_laws}
-use Rattle.hurd_io.proofs.WriteLaws.{write_laws}
-use Rattle.hurd_files.proofs.SetSizeLaws.{set_size_laws}
-use Rattle.hurd_files.proofs.ReaddirLaws.{readdir_laws}
+use Rattle.hurd_io.proofs.IoLaws.{read_laws, write_laws}
+use Rattle.hurd_files.proofs.FilesLaws.{set_size_laws, readdir_laws}
 use Rattle.hurd_laws.specs.Step.{plan, touches}
 use Rattle.hurd_laws.specs.Laws.{IsOld, ChangesTouched, OthersUnseen, OwnFromView, StaysSound, NeverWantsMemory}
 

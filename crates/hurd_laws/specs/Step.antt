@@ -6,7 +6,7 @@ use Rattle.hurd_machine.specs.declared.call.Reply.{Reply}
 use Rattle.hurd_machine.specs.World.{World}
 use Rattle.hurd_machine.specs.Plan.{Plan, after_plan}
 use Rattle.hurd_machine.specs.Sight.{Part}
-use Rattle.hurd_rights.specs.Deallocate.{plan_deallocate, touches_deallocate}
+use Rattle.hurd_rights.specs.Rights.{plan_deallocate, touches_deallocate}
 use Rattle.hurd_lookup.specs.Lookup.{plan_lookup, touches_lookup}
 use Rattle.hurd_io.specs.Io.{plan_read, touches_read, plan_write, touches_write}
 use Rattle.hurd_files.specs.Files.{plan_set_size, touches_set_size, plan_readdir, touches_readdir}

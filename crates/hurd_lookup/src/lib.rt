@@ -8,9 +8,7 @@
 #![tactic(auto)]
 
 mod end;
-mod lookup;
+pub mod lookup;
 mod path;
 mod request;
 mod walk;
-
-pub use lookup::dir_lookup;

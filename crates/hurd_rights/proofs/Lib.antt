@@ -1,1 +1,1 @@
-pub mod DeallocateLaws
+pub mod RightsLaws

@@ -1,1 +1,1 @@
-pub mod Deallocate
+pub mod Rights

@@ -1,8 +1,6 @@
 //! Calls on ports and ids alone.
 //!
-//! `port_deallocate` gives up a port. What it answers and changes is `plan_deallocate` of `specs/Deallocate`.
+//! `port_deallocate` gives up a port. What it answers and changes is `plan_deallocate` of `specs/Rights`.
 #![tactic(auto)]
 
-mod deallocate;
-
-pub use deallocate::port_deallocate;
+pub mod rights;

@@ -10,12 +10,12 @@ ghost use Rattle.hurd_world.specs.Boot.{boot_of, first_world};
 use crate::boot::first_ports;
 use hurd_core::Core;
 use hurd_creds::{Errno, Ids, TaskId};
-use hurd_files::{dir_readdir, file_set_size};
-use hurd_io::{io_read, io_write};
-use hurd_lookup::dir_lookup;
+use hurd_files::files;
+use hurd_io::io;
+use hurd_lookup::lookup;
 use hurd_machine::{Call, Reply};
 use hurd_nodes::Nodes;
-use hurd_rights::port_deallocate;
+use hurd_rights::rights;
 use hurd_trans_iface::Server;
 use std::alloc::{AllocError, Global};
 use std::marker::Model;
@@ -74,32 +74,32 @@ impl<S: Server> World<S> {
         let core = &mut self.core;
         match call {
             Call::PortDeallocate { port } => {
-                port_deallocate(core, task, port).map_or_else(Reply::Refused, |()| Reply::Done)
+                rights::port_deallocate(core, task, port).map_or_else(Reply::Refused, |()| Reply::Done)
             }
             Call::DirLookup {
                 dir,
                 path,
                 flags,
                 mode,
-            } => dir_lookup(core, alloc, task, dir, path.as_slice(), flags, mode)
+            } => lookup::dir_lookup(core, alloc, task, dir, path.as_slice(), flags, mode)
                 .map_or_else(Reply::Refused, Reply::Found),
             Call::IoRead {
                 port,
                 amount,
                 offset,
-            } => io_read(core, alloc, task, port, amount, offset)
+            } => io::io_read(core, alloc, task, port, amount, offset)
                 .map_or_else(Reply::Refused, Reply::Data),
             Call::IoWrite {
                 port,
                 bytes,
                 offset,
-            } => io_write(core, task, port, bytes.as_slice(), offset)
+            } => io::io_write(core, task, port, bytes.as_slice(), offset)
                 .map_or_else(Reply::Refused, Reply::Count),
             Call::FileSetSize { port, size } => {
-                file_set_size(core, task, port, size).map_or_else(Reply::Refused, |()| Reply::Done)
+                files::file_set_size(core, task, port, size).map_or_else(Reply::Refused, |()| Reply::Done)
             }
             Call::DirReaddir { port } => {
-                dir_readdir(core, alloc, task, port).map_or_else(Reply::Refused, Reply::Names)
+                files::dir_readdir(core, alloc, task, port).map_or_else(Reply::Refused, Reply::Names)
             }
         }
     }

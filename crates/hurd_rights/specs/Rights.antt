@@ -1,4 +1,4 @@
--- Giving up a port.
+-- Rights and ids: giving up a port.
 use Rattle.std.specs.Prelude.{ℕ}
 use Rattle.hurd_machine.specs.declared.call.Reply.TheVariants.{Done}
 use Rattle.hurd_ports.specs.Tables.{right_of}

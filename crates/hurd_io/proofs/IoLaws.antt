@@ -1,6 +1,6 @@
--- Reads and writes: what the laws need of them, by what is asked first and the question to the server.
-use Rattle.std.proofs.Common.{◌≡◌, ◌⊎◌, ℕ, ℤ, pos, negsuc, zero, suc, Bool, true, false, List, refl, inl, inr}
-use Rattle.std.specs.Prelude.{Result, Ok}
+-- The laws of reading and writing.
+use Rattle.std.proofs.Common.{◌≡◌, ◌⊎◌, ℕ, ℤ, pos, negsuc, zero, suc, Bool, true, false, List, refl, inl, inr, subst, min}
+use Rattle.std.specs.Prelude.{Result, Ok, length}
 use Rattle.hurd_creds.specs.declared.name.Name.{Name}
 use Rattle.hurd_creds.specs.declared.errno.Errno.{Errno}
 use Rattle.hurd_trans_iface.specs.Behaviour.{Did, Question, edits_of}
@@ -10,7 +10,7 @@ use Rattle.hurd_machine.specs.declared.call.Reply.{Reply}
 use Rattle.hurd_machine.specs.World.{World, asked_at}
 use Rattle.hurd_machine.specs.Change.{Change, apply_all, changes_of}
 use Rattle.hurd_machine.specs.Plan.{is_refused}
-use Rattle.hurd_machine.specs.Sight.{Part}
+use Rattle.hurd_machine.specs.Sight.{Part, BodyOf, Sees, Seen}
 use Rattle.hurd_machine.specs.Touched.{OnDid}
 use Rattle.hurd_machine.proofs.Views.{Agree}
 use Rattle.hurd_machine.proofs.Frame.{AllWithin, Full, within_append}
@@ -21,12 +21,19 @@ use Rattle.hurd_machine.proofs.Several.{AllMay}
 use Rattle.hurd_machine.proofs.Permits.{cursor_may, did_may, did_exact, may_append}
 use Rattle.hurd_machine.proofs.Opens.{cursor_within, cursor_proper, cursor_rests, cursor_sized}
 use Rattle.hurd_machine.proofs.Edits.{did_within, did_proper, did_rests}
-use Rattle.hurd_machine.proofs.Asks.{IsPlain, ok_plain, err_plain, asked_plain, answered_same, answered_plain, done_plain}
+use Rattle.hurd_machine.proofs.Asks.{IsPlain, ok_plain, err_plain, asked_plain, answered_same, answered_plain, done_plain, first_same, first_ok, given_ok, first_plain, given_plain, handle_same, handle_read, handle_plain, asked_seen, handle_seen, asked_same}
 use Rattle.hurd_machine.proofs.CallLaws.{CallLaws, answered_within, answered_proper, answered_sized, answered_rests, answered_may}
 use Rattle.hurd_io.specs.declared.offset.Offset.{Offset}
 use Rattle.hurd_io.specs.declared.offset.Offset.TheVariants.{Place, Cursor}
 use Rattle.hurd_io.specs.declared.offset.IoAt.{IoAt}
-use Rattle.hurd_io.specs.Io.{offset_of, past, moved, Moves, plan_io, touches_io}
+use Rattle.hurd_io.specs.Io.{offset_of, past, moved, Moves, plan_io, touches_io, most_read, read_asks, reads, plan_read, touches_read, write_asks, writes, plan_write, touches_write}
+use Rattle.hurd_creds.specs.Bits.{READ, WRITE}
+use Rattle.hurd_trans_iface.proofs.Goods.{good}
+use Rattle.hurd_machine.specs.declared.handle.Handle.{Handle}
+use Rattle.hurd_machine.specs.declared.call.Reply.TheVariants.{Data, Count}
+use Rattle.hurd_machine.specs.Handle.{handle_asks}
+
+-- Reads and writes: what the laws need of them, by what is asked first and the question to the server.
 
 pub offset_plain : (offset : ℤ) → IsPlain (offset_of offset)
 offset_plain (pos n) = ok_plain _
@@ -99,3 +106,46 @@ module _ {T : Type 0} (t : ℕ) (asks : World → Result IoAt Errno) (q : ℕ �
     plain = λ w. answered_plain _ _ (l.asks_plain w) (λ a is.
         answered_plain _ _ (asked_plain (q a.at) (l.told_plain a.at) a.node w) (λ d told. done_plain _ (l.reply_plain d.told)));
   }
+
+-- io_read: it asks of a node that the caller has open to read, whose body it sees.
+
+-- the port that is read by
+read_by : (w : World) (t p : ℕ) (offset : ℤ) (a : IoAt) → read_asks w t p offset ≡ Ok a → (h : Handle) × (handle_asks w t p READ ≡ Ok h) × (h.node ≡ a.node)
+read_by w t p offset a is =
+    let h = first_ok _ _ a is in
+    let file = given_ok _ _ _ a h.2 in
+    let place = first_ok _ _ a file.1 in
+    (h.0, h.1, cc (place.2))
+
+pub read_laws : (t p amount : ℕ) (offset : ℤ) → CallLaws t (λ w. plan_read w t p amount offset) (λ w. touches_read w t p amount offset)
+read_laws t p amount offset = io_laws t (λ w. read_asks w t p offset) (reads amount) Data length (record {
+  asks_same = λ S v w a ours. first_same _ _ _ _ (handle_same a t ours p READ) (λ h is. refl);
+  told_same = λ S v w a ours x is.
+      let h = read_by v t p offset x is in
+      asked_seen a x.node (reads amount x.at) (subst (λ n. Sees S v (BodyOf n)) h.2 (handle_read t ours p h.0 h.1));
+  asks_plain = λ w. first_plain _ _ (handle_plain w t p READ) (λ h is. given_plain _ _ _ refl (λ file. first_plain _ _ (offset_plain offset) (λ o e. ok_plain _)));
+  told_plain = λ at k. (good k).read_plain at (min amount most_read);
+  reply_plain = λ bytes. refl;
+  sizes = λ at k. (good k).read_sizes at (min amount most_read);
+})
+
+-- io_write: it asks of a node that the caller has open to write, and is told nothing of its body.
+
+-- the port that is written by
+written_by : (w : World) (t p : ℕ) (offset : ℤ) (a : IoAt) → write_asks w t p offset ≡ Ok a → (h : Handle) × (handle_asks w t p WRITE ≡ Ok h) × (h.node ≡ a.node)
+written_by w t p offset a is =
+    let h = first_ok _ _ a is in
+    let place = first_ok _ _ a h.2 in
+    (h.0, h.1, cc (place.2))
+
+pub write_laws : (t p : ℕ) (bytes : List ℕ) (offset : ℤ) → CallLaws t (λ w. plan_write w t p bytes offset) (λ w. touches_write w t p bytes offset)
+write_laws t p bytes offset = io_laws t (λ w. write_asks w t p offset) (writes bytes) Count (λ n. n) (record {
+  asks_same = λ S v w a ours. first_same _ _ _ _ (handle_same a t ours p WRITE) (λ h is. refl);
+  told_same = λ S v w a ours x is.
+      let h = written_by v t p offset x is in
+      asked_same a x.node (writes bytes x.at) (λ k. (good k).write_blind x.at bytes) (subst (Seen S v) h.2 (handle_seen t ours p WRITE h.0 h.1));
+  asks_plain = λ w. first_plain _ _ (handle_plain w t p WRITE) (λ h is. first_plain _ _ (offset_plain offset) (λ o e. ok_plain _));
+  told_plain = λ at k. (good k).write_plain at bytes;
+  reply_plain = λ taken. refl;
+  sizes = λ at k. (good k).write_sizes at bytes;
+})

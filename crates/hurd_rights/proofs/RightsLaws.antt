@@ -9,7 +9,7 @@ use Rattle.hurd_machine.proofs.Asks.{right_same, answered_same, has_right, right
 use Rattle.hurd_machine.proofs.Opens.{own_task, drops_within, drops_proper, drops_sized, drops_rests}
 use Rattle.hurd_machine.proofs.Permits.{dropping_may}
 use Rattle.hurd_machine.proofs.CallLaws.{CallLaws, answered_within, answered_proper, answered_sized, answered_rests, answered_may}
-use Rattle.hurd_rights.specs.Deallocate.{plan_deallocate, touches_deallocate}
+use Rattle.hurd_rights.specs.Rights.{plan_deallocate, touches_deallocate}
 
 pub deallocate_laws : (t p : ℕ) → CallLaws t (λ w. plan_deallocate w t p) (λ w. touches_deallocate w t p)
 deallocate_laws t p = record {

@@ -1,8 +1,8 @@
-//! Giving up a port.
+//! Rights: giving up a port.
 ghost use Rattle.hurd_machine.specs.Plan.{Follows, told};
 ghost use Rattle.hurd_machine.specs.declared.call.Reply.TheVariants.{Done};
 ghost use Rattle.hurd_core.specs.Core.{world_of};
-ghost use Rattle.hurd_rights.specs.Deallocate.{plan_deallocate};
+ghost use Rattle.hurd_rights.specs.Rights.{plan_deallocate};
 
 use hurd_core::Core;
 use hurd_creds::{Errno, TaskId};
