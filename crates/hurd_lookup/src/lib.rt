@@ -13,4 +13,4 @@ mod path;
 mod request;
 mod walk;
 
-pub use lookup::*;
+pub use lookup::dir_lookup;
