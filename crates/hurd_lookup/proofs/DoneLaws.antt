@@ -1,6 +1,6 @@
 -- A lookup that is refused, finds no memory, or is done, as its plan has it.
-use Rattle.std.proofs.Common.{◌≡◌, ◌∙◌, ◌⊎◌, inl, inr, ℕ, Bool, true, false, List, Option, Some, None, refl, ap, sym, subst}
-use Rattle.std.specs.Prelude.{Result, Ok, Err, is_ok}
+use Rattle.std.proofs.Common.{◌≡◌, ◌∙◌, inl, inr, ℕ, List, Option, refl, ap, subst}
+use Rattle.std.specs.Prelude.{Result, Ok, Err}
 use Rattle.hurd_creds.specs.declared.mode.Mode.{Mode}
 use Rattle.hurd_creds.specs.declared.name.Name.{Name}
 use Rattle.hurd_creds.specs.declared.attrs.Kind.TheVariants.{File}
@@ -18,10 +18,10 @@ use Rattle.hurd_machine.specs.Change.{Change, apply_all, opening}
 use Rattle.hurd_machine.specs.Plan.{Plan, Planned, Follows, refuse, is_refused, on, first, answered}
 use Rattle.hurd_machine.proofs.Asks.{on_ok, given_ok, first_ok}
 use Rattle.hurd_core.specs.Core.{Does, NewFile, room_asks, making_asks, making_open}
-use Rattle.hurd_core.proofs.CoreLaws.{Room, IsRefused, HasRoom, room}
+use Rattle.hurd_core.proofs.CoreLaws.{IsRefused, HasRoom, room}
 use Rattle.hurd_lookup.specs.declared.request.Request.{Request}
 use Rattle.hurd_lookup.specs.Path.{names_in, is_short}
-use Rattle.hurd_lookup.specs.Lookup.{Looked, Outcome, Opens, Makes, walk, end_asks, names_taken, request, found_asks, lookup_changes, plan_lookup}
+use Rattle.hurd_lookup.specs.Lookup.{Looked, Opens, Makes, walk, end_asks, names_taken, request, found_asks, lookup_changes, plan_lookup}
 use Rattle.hurd_lookup.proofs.EndLaws.{Leads, ended}
 
 -- a method that does what a plan says, where it is not refused

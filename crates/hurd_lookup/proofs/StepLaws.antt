@@ -1,5 +1,5 @@
 -- One name of a walk, at the beginning of the path that is left.
-use Rattle.std.proofs.Common.{◌≡◌, ◌∙◌, ◌<◌, ℕ, Bool, true, false, not, List, [], ◌∷◌, Option, Some, None, length, refl, ap, sym}
+use Rattle.std.proofs.Common.{◌≡◌, ◌∙◌, ◌<◌, ℕ, Bool, true, false, not, List, [], ◌∷◌, Option, Some, None, length, ap, sym}
 use Rattle.std.specs.Prelude.{Result, Ok, Err, MatchOption, is_some}
 use Rattle.std.specs.Borrow.{Bor}
 use Rattle.hurd_creds.specs.declared.name.Name.{Name}

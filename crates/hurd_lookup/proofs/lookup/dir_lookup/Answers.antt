@@ -1,10 +1,8 @@
 -- Refused where the plan is, short of memory where it isn't, and else done.
-use Rattle.std.proofs.Common.{refl, sym, inl, ap}
+use Rattle.std.proofs.Common.{refl, sym, inl}
 use Rattle.std.proofs.lemmas.Result.{err_from_is_err_and}
 use Rattle.hurd_nodes.specs.Shown.{shown}
-use Rattle.hurd_core.specs.Core.{world_of}
 use Rattle.hurd_core.specs.File.{file_of}
-use Rattle.hurd_lookup.specs.Ends.{looked_of}
 use Rattle.hurd_lookup.proofs.DoneLaws.{unfound, full, lacks, opened, unopened, made, unmade}
 use Rattle.hurd_lookup.proofs.lookup.dir_lookup.Goals as goal
 
