@@ -3,3 +3,5 @@ pub mod EndLaws
 pub mod OutcomeLaws
 pub mod LookupLaws
 pub mod PathLaws
+pub mod StepLaws
+pub mod DoneLaws

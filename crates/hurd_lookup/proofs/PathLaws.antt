@@ -1,5 +1,5 @@
 -- The names of a path, one after another.
-use Rattle.std.proofs.Common.{◌≡◌, ◌∙◌, ◌⊎◌, inl, inr,  ◌<◌, ◌≤◌, ℕ, zero, suc, ◌+◌, ◌==◌, not, Bool, true, false, cond, List, [], ◌∷◌, length, take, drop, length-drop, filter, nat_lt, Option, Some, None, sym, refl, ap, ap₂, arith}
+use Rattle.std.proofs.Common.{◌≡◌, ◌∙◌, ◌⊎◌, inl, inr, ◌<◌, ◌≤◌, ℕ, suc, ◌+◌, not, Bool, true, false, cond, List, [], ◌∷◌, length, take, drop, length-drop, filter, nat_lt, Some, None, sym, refl, ap, arith}
 use Rattle.std.specs.List.{position, position_or_len, slice_split, onto_first}
 use Rattle.std.proofs.lemmas.List.Sums.{prefix_len-le-length}
 use Rattle.std.proofs.lemmas.Bool.Decides.{nat_tests}

@@ -1,5 +1,5 @@
 -- The first slash, or the end.
-use Rattle.std.proofs.Common.{sym, ◌∙◌}
+use Rattle.std.proofs.Common.{sym}
 use Rattle.hurd_lookup.proofs.PathLaws.{position_some, position_none}
 use Rattle.hurd_lookup.proofs.path.first_slash.Goals as goal
 
