@@ -1,0 +1,1 @@
+use Rattle.hurd_world.proofs.world.World.run.Goals as goal
