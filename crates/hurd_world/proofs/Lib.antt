@@ -1,5 +1,4 @@
 pub mod BootLaws
 pub mod FirstPorts
 pub mod FirstWorld
-pub mod CallLaws
 pub mod RunLaws

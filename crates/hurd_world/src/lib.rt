@@ -12,6 +12,8 @@ mod boxed;
 mod world;
 
 pub use boxed::run_boxed;
-pub use hurd_laws::{changes_touched, isolated, never_wants_memory, others_unseen, own_from_view, stays_sound};
+pub use hurd_laws::{
+    changes_touched, isolated, never_wants_memory, others_unseen, own_from_view, stays_sound,
+};
 pub use hurd_machine::{Call, Lookup, Reply};
 pub use world::{MOST_TASKS, World};

@@ -74,32 +74,52 @@ impl<S: Server> World<S> {
         let core = &mut self.core;
         match call {
             Call::PortDeallocate { port } => {
-                rights::port_deallocate(core, task, port).map_or_else(Reply::Refused, |()| Reply::Done)
+                rights::port_deallocate(core, task, port).map_or_else(
+                    Reply::Refused,
+                    |()| Reply::Done,
+                )
             }
             Call::DirLookup {
                 dir,
                 path,
                 flags,
                 mode,
-            } => lookup::dir_lookup(core, alloc, task, dir, path.as_slice(), flags, mode)
-                .map_or_else(Reply::Refused, Reply::Found),
+            } => lookup::dir_lookup(
+                core,
+                alloc,
+                task,
+                dir,
+                path.as_slice(),
+                flags,
+                mode,
+            ).map_or_else(Reply::Refused, Reply::Found),
             Call::IoRead {
                 port,
                 amount,
                 offset,
-            } => io::io_read(core, alloc, task, port, amount, offset)
-                .map_or_else(Reply::Refused, Reply::Data),
+            } => io::io_read(core, alloc, task, port, amount, offset).map_or_else(
+                Reply::Refused,
+                Reply::Data,
+            ),
             Call::IoWrite {
                 port,
                 bytes,
                 offset,
-            } => io::io_write(core, task, port, bytes.as_slice(), offset)
-                .map_or_else(Reply::Refused, Reply::Count),
+            } => io::io_write(core, task, port, bytes.as_slice(), offset).map_or_else(
+                Reply::Refused,
+                Reply::Count,
+            ),
             Call::FileSetSize { port, size } => {
-                files::file_set_size(core, task, port, size).map_or_else(Reply::Refused, |()| Reply::Done)
+                files::file_set_size(core, task, port, size).map_or_else(
+                    Reply::Refused,
+                    |()| Reply::Done,
+                )
             }
             Call::DirReaddir { port } => {
-                files::dir_readdir(core, alloc, task, port).map_or_else(Reply::Refused, Reply::Names)
+                files::dir_readdir(core, alloc, task, port).map_or_else(
+                    Reply::Refused,
+                    Reply::Names,
+                )
             }
         }
     }
