@@ -117,11 +117,29 @@ fn booted(alloc: Global) -> Result<World, Errno> {
     }
 }
 
-/// The world of root, alice and bob (tasks 0, 1, 2) over an empty tree; where memory was refused, a second try.
-pub fn world(alloc: Global) -> Result<World, Errno> {
+/// Whether memory may be refused.
+#[derive(Clone, Copy, PartialEq, Eq)]
+pub enum Memory {
+    /// At no request.
+    Ample,
+    /// At one more request.
+    RefusedOnce,
+}
+
+impl Memory {
+    /// Whether this refusal may be; from now on none may.
+    pub fn may_refuse(&mut self) -> bool {
+        let may = *self == Memory::RefusedOnce;
+        *self = Memory::Ample;
+        may
+    }
+}
+
+/// The world of root, alice and bob (tasks 0, 1, 2) over an empty tree; where memory was refused and may be, a second try.
+pub fn world(alloc: Global, memory: &mut Memory) -> Result<World, Errno> {
     match booted(alloc) {
-        Ok(world) => Ok(world),
-        Err(_) => booted(alloc),
+        Err(Errno::ENOMEM) if memory.may_refuse() => booted(alloc),
+        booted => booted,
     }
 }
 
@@ -132,10 +150,10 @@ fn told(alloc: Global, world: &mut World, task: u32, row: &Row) -> Reply {
     }
 }
 
-/// Makes a row's call; where memory was refused, once more.
-pub fn made(alloc: Global, world: &mut World, task: u32, row: &Row) -> Reply {
+/// Makes a row's call; where memory was refused and may be, once more.
+pub fn made(alloc: Global, world: &mut World, task: u32, row: &Row, memory: &mut Memory) -> Reply {
     match told(alloc, world, task, row) {
-        Reply::Refused(Errno::ENOMEM) => told(alloc, world, task, row),
+        Reply::Refused(Errno::ENOMEM) if memory.may_refuse() => told(alloc, world, task, row),
         reply => reply,
     }
 }
