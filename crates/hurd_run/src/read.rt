@@ -1,5 +1,5 @@
 //! Reading a script.
-ghost use Rattle.std.specs.Prelude.{◌≡◌, ◌+◌, ◌<◌, ◌≤◌, ◌++◌, ℕ, List, true, false, IfOk, IfErr, IfSome, OnOk, length, take};
+ghost use Rattle.std.specs.Prelude.{◌≡◌, ◌+◌, ◌<◌, ◌≤◌, ◌++◌, ◌⊎◌, ℕ, List, true, false, IfOk, IfErr, IfSome, OnOk, length, take};
 ghost use Rattle.std.specs.Io.KnownBytes.{Consumes, IsAtEnd};
 ghost use Rattle.hurd_run.specs.Faults.{IsReadFault};
 
@@ -50,6 +50,7 @@ impl<R: Read> Input<R> {
             × (length bytes ≤ length buffer.old) × (goes_on ≡ false → IsAtEnd (R.remaining self.new.reader))) }
         ensures counted { OnOk result ((self.new.reads_left + 1 ≡ self.old.reads_left) × (self.new.failed ≡ self.old.failed)) }
         ensures err { IfErr result (λ fault. IsReadFault self.new fault) }
+        ensures failed { IfErr result (λ fault. fault ≡ Fault.Read → (self.new.failed ≡ true) ⊎ (self.old.reads_left ≡ 0)) }
     {
         if self.reads_left == 0 {
             return Err(Fault::Read);
