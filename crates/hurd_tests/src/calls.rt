@@ -202,8 +202,7 @@ fn check(rt: &impl Abort, alloc: Global, lines: &[Line], memory: &mut Memory) ->
     Ok(())
 }
 
-fn check_all(rt: &impl Abort, alloc: Global, memory: Memory) -> Result<(), Fail> {
-    let mut memory = memory;
+fn check_all(rt: &impl Abort, alloc: Global, mut memory: Memory) -> Result<(), Fail> {
     check(rt, alloc, &lookups(), &mut memory)?;
     check(rt, alloc, &sizes(), &mut memory)?;
     check(rt, alloc, &bounds(&[b'/'; 1025], &[b'z'; 256]), &mut memory)
@@ -211,10 +210,10 @@ fn check_all(rt: &impl Abort, alloc: Global, memory: Memory) -> Result<(), Fail>
 
 #[test]
 fn calls_with_ample_memory(rt: HostRuntime) -> Result<(), Fail> {
-    check_all(&rt, rt.alloc(), Memory::Ample)
+    check_all(&rt, rt.alloc(), Memory::ample())
 }
 
 #[test]
 fn refused_memory_in_calls(rt: HostRuntime) -> Result<(), Fail> {
-    check_all(&rt, rt.alloc(), Memory::RefusedOnce)
+    check_all(&rt, rt.alloc(), Memory::refused_once(rt.alloc()))
 }

@@ -69,8 +69,7 @@ fn ample_run(alloc: Global, with_bob: bool, memory: &mut Memory) -> Result<Vec<R
 }
 
 /// alice is told the same whatever bob reads.
-fn check(rt: &impl Abort, alloc: Global, memory: Memory) -> Result<(), Fail> {
-    let mut memory = memory;
+fn check(rt: &impl Abort, alloc: Global, mut memory: Memory) -> Result<(), Fail> {
     for (with_bob, count) in [(true, 8), (false, 6)] {
         let replies = ample_run(alloc, with_bob, &mut memory)?;
         assert_eq!(rt; replies.len(), count);
@@ -83,10 +82,10 @@ fn check(rt: &impl Abort, alloc: Global, memory: Memory) -> Result<(), Fail> {
 
 #[test]
 fn isolation_with_ample_memory(rt: HostRuntime) -> Result<(), Fail> {
-    check(&rt, rt.alloc(), Memory::Ample)
+    check(&rt, rt.alloc(), Memory::ample())
 }
 
 #[test]
 fn refused_memory_in_isolation(rt: HostRuntime) -> Result<(), Fail> {
-    check(&rt, rt.alloc(), Memory::RefusedOnce)
+    check(&rt, rt.alloc(), Memory::refused_once(rt.alloc()))
 }

@@ -93,8 +93,7 @@ fn bad_scripts<'a>() -> [(&'a [u8], u64); 2] {
 }
 
 /// Goes through each script twice where memory is refused once on the way, and else once.
-fn check(rt: &impl Abort, alloc: Global, memory: Memory) -> Result<(), Fail> {
-    let mut memory = memory;
+fn check(rt: &impl Abort, alloc: Global, mut memory: Memory) -> Result<(), Fail> {
     for row in &rows() {
         let mut end = played(alloc, row);
         if matches!(end, Some(End::Memory)) && memory.may_refuse() {
@@ -117,10 +116,10 @@ fn check(rt: &impl Abort, alloc: Global, memory: Memory) -> Result<(), Fail> {
 
 #[test]
 fn scripts_with_ample_memory(rt: HostRuntime) -> Result<(), Fail> {
-    check(&rt, rt.alloc(), Memory::Ample)
+    check(&rt, rt.alloc(), Memory::ample())
 }
 
 #[test]
 fn refused_memory_in_scripts(rt: HostRuntime) -> Result<(), Fail> {
-    check(&rt, rt.alloc(), Memory::RefusedOnce)
+    check(&rt, rt.alloc(), Memory::refused_once(rt.alloc()))
 }
