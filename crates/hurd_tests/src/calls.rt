@@ -1,7 +1,8 @@
 //! Rows of calls.
-use crate::fixture::{Memory, Row, Want, is_reply, made, world};
-use hurd_creds::Errno;
-use std::alloc::Global;
+use crate::fixture::{Memory, Row, Want, call_of, is_reply, made, world};
+use hurd_creds::{Errno, TaskId};
+use hurd_world::Call;
+use std::alloc::{AllocError, Global};
 use std::process::Abort;
 use std::test::Fail;
 
@@ -216,4 +217,44 @@ fn calls_with_ample_memory(rt: HostRuntime) -> Result<(), Fail> {
 #[test]
 fn refused_memory_in_calls(rt: HostRuntime) -> Result<(), Fail> {
     check_all(&rt, rt.alloc(), Memory::refused_once(rt.alloc()))
+}
+
+/// A row's call, with the bytes of its own copied once more where memory was refused and may be.
+fn call_with(alloc: Global, row: &Row, memory: &mut Memory) -> Result<Call, AllocError> {
+    match call_of(alloc, row) {
+        Err(_) if memory.may_refuse() => call_of(alloc, row),
+        call => call,
+    }
+}
+
+/// Makes the calls of a table one after another in a new world: a lookup that is refused is so at the first try.
+fn check_refusals(
+    rt: &impl Abort,
+    alloc: Global,
+    lines: &[Line],
+    memory: &mut Memory,
+) -> Result<(), Fail> {
+    let mut world = world(alloc, memory)?;
+    for (task, row, want) in lines {
+        let reply = if let (Row::Lookup(..), Want::Refused(_)) = (row, want) {
+            let call = call_with(alloc, row, memory)?;
+            world.call(alloc, TaskId(*task), call)
+        } else {
+            made(alloc, &mut world, *task, row, memory)
+        };
+        assert!(rt; is_reply(&reply, want), "{reply:?}");
+    }
+    Ok(())
+}
+
+#[test]
+fn refused_lookups_answer_the_same(rt: HostRuntime) -> Result<(), Fail> {
+    let mut memory = Memory::refused_once(rt.alloc());
+    check_refusals(&rt, rt.alloc(), &lookups(), &mut memory)?;
+    check_refusals(
+        &rt,
+        rt.alloc(),
+        &bounds(&[b'/'; 1025], &[b'z'; 256]),
+        &mut memory,
+    )
 }
