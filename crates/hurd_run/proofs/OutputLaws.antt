@@ -1,31 +1,32 @@
--- What was printed of a transcript.
-use Rattle.std.proofs.Common.{◌≡◌, ℕ, ◌+◌, ◌<◌, List, [], ◌∷◌, length, drop, codes, slice_get, Option, Some, sym, ap, subst, arith}
-use Rattle.std.proofs.KnownBytes.{Appends-nil, Appends-trans}
-use Rattle.std.proofs.lemmas.List.{drop_all}
-use Rattle.std.proofs.lemmas.Option.{slice_get_within}
-use Rattle.std.specs.Io.KnownBytes.{Appends}
-use Rattle.hurd_machine.specs.World.{World}
-use Rattle.hurd_script.specs.Commands.{CommandLine}
-use Rattle.hurd_trans_iface.specs.Meaning.{Begins, Meaning, new_tmpfs}
-use Rattle.hurd_shell.specs.Transcript.{joined, parts_of}
-use Rattle.hurd_shell.proofs.SessionLaws.{length-parts, next_joined}
+-- What was printed.
+use Rattle.std.proofs.Common.{◌≡◌, ℕ, ◌-◌, List, [], ◌∷◌, ◌++◌, length, take, drop, Option, sym, ◌∙◌, ap, subst, append_assoc, append-nil, take-append-drop}
+use Rattle.std.proofs.lemmas.List.{take_rest}
+use Rattle.std.proofs.KnownBytes.{Appends-trans, Appends-kept}
+use Rattle.std.specs.Io.KnownBytes.{Appends, Keeps}
+use Rattle.hurd_shell.specs.Transcript.{joined}
+use Rattle.hurd_run.specs.Faults.{AppendsFront, IsFront}
 
--- a part, and then the rest of the transcript
-pub part_printed : (cs ds : List CommandLine) (first : World) (k n : ℕ) (part bytes : List ℕ) (a b end : Option (List ℕ)) → slice_get (parts_of cs first) k ≡ Some part
-    → n ≡ k + 1 → ds ≡ cs → bytes ≡ part → Appends a b bytes → Appends b end (joined (drop n (parts_of ds first))) → Appends a end (joined (drop k (parts_of cs first)))
-part_printed cs ds first k n part bytes a b end here next same whole printed rest =
-    let rest' = rw (next, same) at rest in
-    let both = Appends-trans a b end part (joined (drop (k + 1) (parts_of cs first))) (rw whole at printed) rest' in
-    subst (λ (bs : List ℕ). Appends a end bs) (sym (next_joined (parts_of cs first) k part here)) both
+-- so many bytes of the rest were printed behind a front
+pub front_grows : (all front rest : List ℕ) (n : ℕ) → all ≡ front ++ rest → all ≡ (front ++ take n rest) ++ take (length rest - n) (drop n rest)
+front_grows all front rest n split =
+    split ∙ (ap (λ bs. front ++ bs) (sym (take-append-drop n rest)) ∙ (sym (append_assoc front (take n rest) (drop n rest)) ∙ ap (λ bs. (front ++ take n rest) ++ bs) (sym (take_rest rest n))))
 
--- all parts were printed
-pub none_left : (cs : List CommandLine) (first : World) (k : ℕ) (a : Option (List ℕ)) → k ≡ length (parts_of cs first) → Appends a a (joined (drop k (parts_of cs first)))
-none_left cs first k a all = rw (all, drop_all (length (parts_of cs first)) (parts_of cs first) (omega arith)) (Appends-nil a)
+-- a front was printed, and then nothing
+pub front_stays : (a b c : Option (List ℕ)) (all front rest : List ℕ) → all ≡ front ++ rest → Appends a b front → Keeps b c → AppendsFront a c all
+front_stays a b c all front rest split printed kept = (front, (rest, split), Appends-kept a b c front printed kept)
 
--- a part was left
-pub one_left : (cs : List CommandLine) (first : World) (k : ℕ) (part : List ℕ) → slice_get (parts_of cs first) k ≡ Some part → k < length cs
-one_left cs first k part here = rw length-parts at (slice_get_within (parts_of cs first) k part here)
+-- all was printed once nothing is left
+pub all_printed : (a b : Option (List ℕ)) (all front rest : List ℕ) → all ≡ front ++ rest → rest ≡ [] → Appends a b front → Appends a b all
+all_printed a b all front rest split none printed = subst (λ bs. Appends a b bs) (sym (split ∙ (ap (λ bs. front ++ bs) none ∙ append-nil front))) printed
 
--- words make an empty tree
-pub begins_tree : (m : Meaning) → m ≡ new_tmpfs → Begins m
-begins_tree m same = (codes "/hurd/tmpfs" ∷ [], ap (λ (x : Meaning). Some x) (sym same))
+-- a front of what follows a front is a front of all
+pub front_follows : (a b c : Option (List ℕ)) (all front more : List ℕ) → IsFront (front ++ more) all → Appends a b front → AppendsFront b c more → AppendsFront a c all
+front_follows a b c all front more (rest, split) printed (few, (left, cut), next) =
+    let whole : all ≡ (front ++ few) ++ (left ++ rest) =
+    split ∙ (ap (λ bs. (front ++ bs) ++ rest) cut ∙ (ap (λ bs. bs ++ rest) (sym (append_assoc front few left)) ∙ append_assoc (front ++ few) left rest)) in
+    (front ++ few, (left ++ rest, whole), Appends-trans a b c front few printed next)
+
+-- parts, and one more
+pub joined-push : (parts : List (List ℕ)) (part : List ℕ) → joined (parts ++ part ∷ []) ≡ joined parts ++ part
+joined-push [] part = append-nil part
+joined-push (p ∷ ps) part = ap (λ bs. p ++ bs) (joined-push ps part) ∙ sym (append_assoc p (joined ps) part)

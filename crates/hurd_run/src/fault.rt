@@ -1,25 +1,37 @@
 //! Why the program ends before its script does.
+ghost use Rattle.std.specs.Prelude.{◌≡◌};
+
 use hurd_shell::SessionFault;
-use thiserror::Error;
+use std::alloc::AllocError;
 
 /// Why the program ends before its script does.
-#[derive(Debug, Drop, Error)]
+#[derive(Debug, Drop)]
 pub enum Fault {
-    #[error("hurd: cannot read")]
+    /// The script can't be read.
     Read,
-    #[error("hurd: cannot write")]
+    /// The transcript can't be written.
     Write,
-    #[error("{0}")]
+    /// The session was not begun, or can't go on.
     Session(SessionFault),
 }
 
 impl From<SessionFault> for Fault {
-    ghost use Rattle.std.specs.Prelude.{◌≡◌};
     ghost use Rattle.hurd_run.specs.declared.fault.Fault.TheVariants.{Session};
 
     ghost from_gives = { λ session fault. fault ≡ Session session };
 
     fn from(session: SessionFault) -> Fault {
         Fault::Session(session)
+    }
+}
+
+impl From<AllocError> for Fault {
+    ghost use Rattle.hurd_run.specs.declared.fault.Fault.TheVariants.{Session};
+    ghost use Rattle.hurd_shell.specs.declared.fault.SessionFault.TheVariants.{Memory};
+
+    ghost from_gives = { λ _ fault. fault ≡ Session Memory };
+
+    fn from(_error: AllocError) -> Fault {
+        Fault::Session(SessionFault::Memory)
     }
 }

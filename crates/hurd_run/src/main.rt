@@ -13,21 +13,14 @@ mod run;
 #[cfg(test)]
 mod tests;
 
-use ending::ending;
-use print::print_part;
-use run::run;
+use print::Output;
+use read::Input;
+use run::program;
 use std::io;
 use std::process::ExitCode;
 
 fn main(rt: HostRuntime) -> ExitCode {
-    let mut reader = rt.reader();
-    let mut writer = io::writer(&rt);
-    match run(rt.alloc(), &mut reader, &mut writer) {
-        Ok(()) => ExitCode::SUCCESS,
-        Err(fault) => {
-            let ending = ending(&fault);
-            let _ = print_part(&mut writer, ending.line.as_str().as_bytes());
-            ExitCode::from(ending.status)
-        }
-    }
+    let mut input = Input::new(rt.reader());
+    let mut output = Output::new(io::writer(&rt));
+    ExitCode::from(program(rt.alloc(), &mut input, &mut output))
 }

@@ -1,11 +1,10 @@
 //! Reading a script.
-ghost use Rattle.std.specs.Prelude.{◌≡◌, ◌<◌, ◌≤◌, ◌++◌, ◌⊎◌, ℕ, List, false, IfOk, IfErr, IfSome, length, take};
+ghost use Rattle.std.specs.Prelude.{◌≡◌, ◌+◌, ◌<◌, ◌≤◌, ◌++◌, ◌⊎◌, ℕ, List, true, false, IfOk, IfErr, IfSome, OnOk, length, take};
 ghost use Rattle.std.specs.Io.KnownBytes.{Consumes, IsAtEnd};
 ghost use Rattle.hurd_run.specs.Faults.{IsReadFault};
 
 use crate::fault::Fault;
 use hurd_creds::Bytes;
-use hurd_shell::SessionFault;
 use std::alloc::Global;
 use std::io::{ErrorKind, Read};
 
@@ -18,52 +17,78 @@ const MOST_BYTES: usize = 1_048_577;
 /// How many bytes one read asks for.
 const READ_BYTES: usize = 4096;
 
-/// Makes one read, and adds what it gives to a script; tells whether there may be more.
-fn read_more<R: Read>(
-    reader: &mut R,
-    buffer: &mut [u8],
-    script: &mut Vec<u8>,
-) -> Result<bool, Fault>
-    requires { 0 < length buffer.old }
-    ensures ok { IfOk result (λ goes_on. (bytes : List ℕ)
-        × Consumes (R.remaining reader.old) (R.remaining reader.new) bytes × (script.new.items ≡ script.old.items ++ bytes)
-        × (length bytes ≤ length buffer.old) × (goes_on ≡ false → IsAtEnd (R.remaining reader.new))) }
-    ensures err { IfErr result (λ fault. IsReadFault fault) }
-{
-    match reader.read(buffer) {
-        Ok(count) => {
-            let Ok(()) = script.extend_from_slice(&buffer[..count]) else {
-                return Err(Fault::Session(SessionFault::Memory));
-            };
-            Ok(count > 0)
+/// A reader of which a limited number of reads is made.
+#[derive(Drop)]
+pub struct Input<R> {
+    /// The reader.
+    pub reader: R,
+    /// How many reads may still be made.
+    pub reads_left: u32,
+    /// Whether a read failed.
+    pub failed: bool,
+}
+
+impl<R: Read> Input<R> {
+    /// This reader, of which 2,097,152 reads may be made.
+    pub fn new(reader: R) -> Input<R>
+        ensures { result ≡ record { reader = reader; reads_left = 2097152; failed = false } }
+    {
+        Input {
+            reader,
+            reads_left: MOST_READS,
+            failed: false,
         }
-        Err(error) => {
-            if error.kind() == ErrorKind::Interrupted {
-                Ok(true)
-            } else {
+    }
+
+    /// Makes one read, and adds what it gives to a script; tells whether there may be more. An interrupted read gives nothing.
+    ///
+    /// `Read` where the read fails, or none may be made; else `Memory`.
+    fn read_more(&mut self, buffer: &mut [u8], script: &mut Vec<u8>) -> Result<bool, Fault>
+        requires { 0 < length buffer.old }
+        ensures ok { IfOk result (λ goes_on. (bytes : List ℕ)
+            × Consumes (R.remaining self.old.reader) (R.remaining self.new.reader) bytes × (script.new.items ≡ script.old.items ++ bytes)
+            × (length bytes ≤ length buffer.old) × (goes_on ≡ false → IsAtEnd (R.remaining self.new.reader))) }
+        ensures counted { OnOk result ((self.new.reads_left + 1 ≡ self.old.reads_left) × (self.new.failed ≡ self.old.failed)) }
+        ensures err { IfErr result (λ fault. IsReadFault self.new fault) }
+        ensures failed { IfErr result (λ fault. fault ≡ Fault.Read → (self.new.failed ≡ true) ⊎ (self.old.reads_left ≡ 0)) }
+    {
+        if self.reads_left == 0 {
+            return Err(Fault::Read);
+        }
+        self.reads_left -= 1;
+        match self.reader.read(buffer) {
+            Ok(count) => {
+                script.extend_from_slice(&buffer[..count])?;
+                Ok(count > 0)
+            }
+            Err(error) => {
+                if error.kind() == ErrorKind::Interrupted {
+                    return Ok(true);
+                }
+                self.failed = true;
                 Err(Fault::Read)
             }
         }
     }
 }
 
-/// Reads a script: what a reader has left, or the first 1,048,577 bytes of it, which no script may have.
+/// Reads a script: what a reader has left, or the first 1,048,577 bytes of it, which no script may have, and no byte more.
 ///
 /// An interrupted read is made again. `Read` where a read fails, or where 2,097,152 reads don't reach the end; else `Memory`.
-pub fn read_script<R: Read>(alloc: Global, reader: &mut R) -> Result<Bytes, Fault>
-    ensures ok { IfOk result (λ script. IfSome (R.remaining reader.old) (λ bytes. script ≡ take 1048577 bytes)) }
-    ensures err { IfErr result (λ fault. IsReadFault fault) }
+pub fn read_script<R: Read>(alloc: Global, input: &mut Input<R>) -> Result<Bytes, Fault>
+    ensures ok { IfOk result (λ script. IfSome (R.remaining input.old.reader) (λ bytes. script ≡ take 1048577 bytes)) }
+    ensures consumed { IfOk result (λ script. Consumes (R.remaining input.old.reader) (R.remaining input.new.reader) script) }
+    ensures err { IfErr result (λ fault. IsReadFault input.new fault) }
 {
     let mut script = Vec::new(alloc);
     let mut buffer = [0; READ_BYTES];
-    for _ in 0..MOST_READS {
+    loop {
         let wanted = READ_BYTES.min(MOST_BYTES - script.len());
-        if !read_more(reader, &mut buffer[..wanted], &mut script)? {
+        if !input.read_more(&mut buffer[..wanted], &mut script)? {
             return Ok(Bytes::new(script));
         }
         if script.len() >= MOST_BYTES {
             return Ok(Bytes::new(script));
         }
     }
-    Err(Fault::Read)
 }

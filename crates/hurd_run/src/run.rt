@@ -1,37 +1,38 @@
 //! A script from its reading to its transcript.
-ghost use Rattle.std.specs.Prelude.{◌≡◌, None, IfOk, IfErr, IfSome, OnOk, drop};
+ghost use Rattle.std.specs.Prelude.{◌≡◌, ◌≢◌, ℕ, List, true, Err, IfOk, IfErr, OnOk};
 ghost use Rattle.std.specs.Io.KnownBytes.{Appends};
 ghost use Rattle.hurd_machine.specs.World as machine;
-ghost use Rattle.hurd_script.specs.Script.{bad};
-ghost use Rattle.hurd_tmpfs.specs.Tree.{tree};
 ghost use Rattle.hurd_trans_iface.specs.Meaning.{new_tmpfs};
+ghost use Rattle.hurd_tmpfs.specs.Tree.{tree};
 ghost use Rattle.hurd_shell.specs.Session.{Follows};
-ghost use Rattle.hurd_run.specs.Faults.{EndsWith, IsPrintFault};
-ghost use Rattle.hurd_shell.specs.Transcript.{joined, out, parts_of};
+ghost use Rattle.hurd_shell.specs.Transcript.{joined, parts_of};
+ghost use Rattle.hurd_run.specs.Faults.{AppendsFront, Blames, Exits, IsPrintFault, Prints, Ran};
 
+use crate::ending::ending;
 use crate::fault::Fault;
-use crate::print::print_part;
-use crate::read::read_script;
-use hurd_shell::{Session, SessionFault, Want};
+use crate::print::Output;
+use crate::read::{Input, read_script};
+use hurd_shell::{Session, SessionFault, Want, outputs_are_the_transcript};
 use hurd_tmpfs::Tmpfs;
 use hurd_trans_iface::{Server, Words};
 use std::alloc::Global;
 use std::io::{Read, Write};
 
-/// Prints the parts that a session has left.
-fn print_rest<S: Server, W: Write>(
+/// Prints the outputs of a session that was just begun.
+fn print_all<S: Server, W: Write>(
     alloc: Global,
     session: &mut Session<S>,
-    writer: &mut W,
+    output: &mut Output<W>,
 ) -> Result<(), Fault>
-    requires { (first : machine.World) × Follows S.meaning first session.old }
+    requires { (first : machine.World) × Follows S.meaning first session.old × (session.old.given ≡ 0) }
     ensures ok { OnOk result ((first : machine.World) → Follows S.meaning first session.old
-        → Appends (W.contents writer.old) (W.contents writer.new)
-        (joined (drop session.old.given (parts_of session.old.commands first)))) }
-    ensures err { IfErr result (λ fault. IsPrintFault fault) }
+        → Appends (W.contents output.old.writer) (W.contents output.new.writer) (joined (parts_of session.old.commands first))) }
+    ensures err { IfErr result (λ fault. IsPrintFault output.new fault × ((first : machine.World) → Follows S.meaning first session.old
+        → AppendsFront (W.contents output.old.writer) (W.contents output.new.writer) (joined (parts_of session.old.commands first)))) }
 {
+    outputs_are_the_transcript::<S>();
     while let Want::Output(part) = session.next(alloc)? {
-        print_part(writer, part.as_slice())?;
+        output.print(part.as_slice())?;
     }
     Ok(())
 }
@@ -41,15 +42,16 @@ fn transcribe<S: Server, W: Write>(
     alloc: Global,
     script: &[u8],
     root: S,
-    writer: &mut W,
+    output: &mut Output<W>,
 ) -> Result<(), Fault>
     requires { S.meaning root ≡ new_tmpfs }
-    ensures ok { OnOk result ((bad script.now ≡ None)
-        × Appends (W.contents writer.old) (W.contents writer.new) (out script.now new_tmpfs)) }
-    ensures err { IfErr result (λ fault. EndsWith script.now (W.contents writer.old) (W.contents writer.new) fault) }
+    ensures prints { (printed : List ℕ) × Appends (W.contents output.old.writer) (W.contents output.new.writer) printed
+        × Prints script.now result printed }
+    ensures read { result ≢ Err Fault.Read }
+    ensures write { result ≡ Err Fault.Write → output.new.failed ≡ true }
 {
     let mut session = Session::new(alloc, script, root)?;
-    print_rest(alloc, &mut session, writer)
+    print_all(alloc, &mut session, output)
 }
 
 /// An empty tree.
@@ -68,22 +70,38 @@ fn new_tree(alloc: Global) -> Result<Tmpfs, Fault>
 
 /// Reads a script, and prints its transcript, begun over an empty tree in memory.
 ///
-/// Of a reader and a writer that hold known bytes: where all goes well, what is printed is the written transcript of what
-/// was read. For a bad script nothing is printed.
+/// Where all goes well, what is printed is the written transcript of what was read; after a fault some front of it, and
+/// nothing for a bad script or where no session was begun.
 ///
 /// `Read` where the script can't be read, `BadScript` with its first bad line, `Boot` with the world's refusal, `Write`
 /// where a part can't be written; `Memory` at any point.
-pub fn run<R: Read, W: Write>(alloc: Global, reader: &mut R, writer: &mut W) -> Result<(), Fault>
-    ensures ok { OnOk result (IfSome (R.remaining reader.old) (λ script. (bad script ≡ None)
-        × Appends (W.contents writer.old) (W.contents writer.new) (out script new_tmpfs))) }
-    ensures err { IfErr result (λ fault. IfSome (R.remaining reader.old) (λ script.
-        EndsWith script (W.contents writer.old) (W.contents writer.new) fault)) }
+pub fn run<R: Read, W: Write>(
+    alloc: Global,
+    input: &mut Input<R>,
+    output: &mut Output<W>,
+) -> Result<(), Fault>
+    ensures ran { Ran (R.remaining input.old.reader) (W.contents output.old.writer) (W.contents output.new.writer) result }
+    ensures blames { Blames input.new output.new result }
 {
-    let script = read_script(alloc, reader)?;
+    let script = read_script(alloc, input)?;
     let tree = new_tree(alloc)?;
     let Ok(root) = Box::new(alloc, tree) else {
         return Err(Fault::Session(SessionFault::Memory));
     };
     let root: Box<dyn Server> = root;
-    transcribe(alloc, script.as_slice(), root, writer)
+    transcribe(alloc, script.as_slice(), root, output)
+}
+
+/// The whole program: runs a script, and after a fault prints the fault's line; answers the exit status.
+pub fn program<R: Read, W: Write>(alloc: Global, input: &mut Input<R>, output: &mut Output<W>) -> u8
+    ensures { Exits R.remaining W.contents input.old input.new output.old output.new result }
+{
+    match run(alloc, input, output) {
+        Ok(()) => 0,
+        Err(fault) => {
+            let exit = ending(&fault);
+            let _ = output.print(exit.line.as_str().as_bytes());
+            exit.status
+        }
+    }
 }

@@ -2,6 +2,9 @@
 use Rattle.std.proofs.Common.{ℕ, ◌≡◌, ◌<◌, ◌+◌, ◌++◌, ◌∷◌, ◌&&◌, ◌||◌, Err, [], if◌then◌else◌, List, Option, Some, None, Bool, true, false, not, refl, sym, ◌∙◌, ap, append_assoc, append-nil, codes, drop, filter_map, get_or, is_none, is_some, length, option_and_then, option_map, option_to_list, take}
 use Rattle.std.specs.List.{cons_option, list_any, position_from}
 use Rattle.std.proofs.lemmas.List.{at_drop_more, take_more}
+use Rattle.std.proofs.lemmas.List.Elements.{filter_map-append}
+use Rattle.std.proofs.lemmas.List.Folds.{list_any-append}
+use Rattle.std.proofs.Math.Bool.{or-false, or-true}
 use Rattle.hurd_creds.specs.Access.{IdSets}
 use Rattle.hurd_script.specs.Lines.{Turn, is_skipped, turns, turns_after}
 use Rattle.hurd_script.specs.Words.{is_bad_word, words_of, written_words}
@@ -14,33 +17,15 @@ use Rattle.hurd_script.specs.declared.fault.ReadFault.{ReadFault}
 use Rattle.hurd_script.specs.declared.fault.ReadFault.TheVariants as read_fault
 
 -- one thing more at the end of a list
-cons_to_list : {Y : Type 0} (o : Option Y) (ys zs : List Y) → cons_option o (ys ++ zs) ≡ cons_option o ys ++ zs
-cons_to_list None ys zs = refl
-cons_to_list (Some y) ys zs = refl
-
 filter_map-one : {Y : Type 0} (o : Option Y) → cons_option o [] ≡ option_to_list o
 filter_map-one None = refl
 filter_map-one (Some y) = refl
 
 filter_map-push : {X Y : Type 0} (h : X → Option Y) (xs : List X) (x : X) → filter_map h (xs ++ x ∷ []) ≡ filter_map h xs ++ option_to_list (h x)
-filter_map-push h [] x = filter_map-one (h x)
-filter_map-push {X} {Y} h (w ∷ xs) x = ap (λ (ys : List Y). cons_option (h w) ys) (filter_map-push h xs x) ∙ cons_to_list (h w) (filter_map h xs) (option_to_list (h x))
-
-or_false : (a : Bool) → (a || false) ≡ a
-or_false true = refl
-or_false false = refl
-
-or_true : (a : Bool) → (a || true) ≡ true
-or_true true = refl
-or_true false = refl
-
-or_assoc : (a b c : Bool) → (a || (b || c)) ≡ ((a || b) || c)
-or_assoc true b c = refl
-or_assoc false b c = refl
+filter_map-push h xs x = rw filter_map-one at (filter_map-append h xs (x ∷ []))
 
 list_any-push : {X : Type 0} (p : X → Bool) (xs : List X) (x : X) → list_any p (xs ++ x ∷ []) ≡ (list_any p xs || p x)
-list_any-push p [] x = or_false (p x)
-list_any-push p (w ∷ xs) x = ap (λ (b : Bool). p w || b) (list_any-push p xs x) ∙ or_assoc (p w) (list_any p xs) (p x)
+list_any-push p xs x = rw or-false at (list_any-append p xs (x ∷ []))
 
 abbrev turn_of : List (List ℕ) → List ℕ → Turn
 turn_of earlier line = record { earlier = earlier; line = line }
@@ -66,7 +51,7 @@ standing-push lines line =
     rw (n, u, c, b) refl
 
 with_nothing : (s : Standing) → with_parts s None None None false ≡ s
-with_nothing s = rw (append-nil s.names, append-nil s.users, append-nil s.commands, or_false s.begun) refl
+with_nothing s = rw (append-nil s.names, append-nil s.users, append-nil s.commands, or-false s.begun) refl
 
 -- a user line
 user_cases : (s : Standing) (name : List ℕ) (begun room : Bool) (ids : Option IdSets)
@@ -74,12 +59,12 @@ user_cases : (s : Standing) (name : List ℕ) (begun room : Bool) (ids : Option 
 user_cases s name true room ids = refl
 user_cases s name false false ids = refl
 user_cases s name false true None = refl
-user_cases s name false true (Some i) = rw (append-nil s.commands, or_false s.begun) refl
+user_cases s name false true (Some i) = rw (append-nil s.commands, or-false s.begun) refl
 
 with_declared-is : (s : Standing) (d : Option Declaration)
     → with_declared s d ≡ (if s.begun || not (may_declare_some s.names d) then None
     else Some (with_parts s (option_map (λ user. user.name) d) (option_and_then declared_ids d) None false))
-with_declared-is s None = rw (or_true s.begun) refl
+with_declared-is s None = rw (or-true s.begun) refl
 with_declared-is s (Some user) = user_cases s user.name s.begun (has_room_for s.names user.name) (declared_ids user)
 
 -- a command line
@@ -91,13 +76,13 @@ command_cases (Some t) (Some v) header words = refl
 
 command-is : (names : List (List ℕ)) (line : List ℕ) (words : List (List ℕ)) → is_bad_command names words ≡ is_none (command_of names line words)
 command-is names line [] = refl
-command-is names line (name ∷ []) = or_true (is_none (task_of names name))
+command-is names line (name ∷ []) = or-true (is_none (task_of names name))
 command-is names line (name ∷ verb ∷ words) = command_cases (task_of names name) (verb_of verb) (header_of name line) words
 
 with_command-is : (s : Standing) (command : Option CommandLine)
     → with_command s command ≡ (if is_none command then None else Some (with_parts s None None command true))
 with_command-is s None = refl
-with_command-is s (Some command) = rw (append-nil s.names, append-nil s.users, or_true s.begun) refl
+with_command-is s (Some command) = rw (append-nil s.names, append-nil s.users, or-true s.begun) refl
 
 decided : {P : Type 0} (b : Bool) → (b ≡ true → P) → (b ≡ false → P) → P
 decided true holds fails = holds refl

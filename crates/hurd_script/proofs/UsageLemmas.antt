@@ -1,8 +1,9 @@
 -- What clap makes of words that are no flags.
-use Rattle.std.proofs.Common.{ℕ, ◌≡◌, ◌≢◌, ◌&&◌, ◌||◌, ◌∷◌, [], List, Some, None, Bool, true, false, refl, sym, ◌∙◌, ap, codes, nat_eq, subst}
+use Rattle.std.proofs.Common.{ℕ, ◌≡◌, ◌≢◌, ◌∷◌, [], List, Some, None, true, false, refl, sym, ◌∙◌, ap, codes, nat_eq, subst}
 use Rattle.std.specs.List.{list_any}
 use Rattle.std.specs.Str.{bytes_eq}
-use Rattle.std.proofs.lemmas.Bool.{eqb-true}
+use Rattle.std.proofs.lemmas.Bool.{eqb-true, or_parts}
+use Rattle.std.proofs.Math.Bool.{and-true}
 use Rattle.clap.specs.Words.{App, Row, fault_of, first_of, matches_of}
 use Rattle.clap.specs.Lexer.{long_of, short_of}
 use Rattle.clap.proofs.OnLiterals.{clap_on_literals}
@@ -16,33 +17,22 @@ pub data IsPlain : List ℕ → Type 0 where
   hyphen : IsPlain (45 ∷ [])
   other : (b : ℕ) (bs : List ℕ) → nat_eq b 45 ≡ false → IsPlain (b ∷ bs)
 
-first_fails : (a : Bool) → (a && true) ≡ false → a ≡ false
-first_fails true h = h
-first_fails false h = refl
-
 is_plain : (word : List ℕ) → is_flag_word word ≡ false → IsPlain word
 is_plain [] h = nothing
 is_plain (b ∷ []) h = elim (nat_eq b 45) as (λ is. nat_eq b 45 ≡ is → IsPlain (b ∷ [])) [
   | true ↦ λ e. subst (λ (x : ℕ). IsPlain (x ∷ [])) (sym (eqb-true b 45 e)) hyphen
   | false ↦ λ e. other b [] e
 ] refl
-is_plain (b ∷ c ∷ cs) h = other b (c ∷ cs) (first_fails (nat_eq b 45) h)
+is_plain (b ∷ c ∷ cs) h = other b (c ∷ cs) (rw and-true at h)
 
--- to clap it is no flag either
-plain-long : (word : List ℕ) → IsPlain word → long_of word ≡ None
-plain-long _ nothing = refl
-plain-long _ hyphen = refl
-plain-long _ (other b bs e) = rw e refl
+-- to clap it is no flag either: no end of flags, no long one, no short one
+abbrev IsNoFlag : List ℕ → Type 0
+IsNoFlag word = (bytes_eq word (45 ∷ 45 ∷ []) ≡ false) × (long_of word ≡ None) × (short_of word ≡ None)
 
-plain-short : (word : List ℕ) → IsPlain word → short_of word ≡ None
-plain-short _ nothing = refl
-plain-short _ hyphen = refl
-plain-short _ (other b bs e) = rw e refl
-
-plain-escape : (word : List ℕ) → IsPlain word → bytes_eq word (45 ∷ 45 ∷ []) ≡ false
-plain-escape _ nothing = refl
-plain-escape _ hyphen = refl
-plain-escape _ (other b bs e) = rw e refl
+no_flag : (word : List ℕ) → IsPlain word → IsNoFlag word
+no_flag _ nothing = (refl, refl, refl)
+no_flag _ hyphen = (refl, refl, refl)
+no_flag _ (other b bs e) = rw e (refl, refl, refl)
 
 -- `NODE`: no word, one, two or more
 node_none : (name : List ℕ) → fault_of (node_app name) [] ≡ MissingRequiredArgument ∷ []
@@ -52,29 +42,21 @@ node_none name = refl
 node_one : (name w : List ℕ) → IsPlain w → fault_of (node_app name) (w ∷ []) ≡ []
 unfolding clap_on_literals
 node_one name w p =
-    let l = plain-long w p in
-    let s = plain-short w p in
-    let d = plain-escape w p in
-    rw (d, l, s) refl
+    let first = no_flag w p in
+    rw (first.0, first.1, first.2) refl
 
 node_value : (name w : List ℕ) → IsPlain w → first_of (codes "node") (matches_of (node_app name) (w ∷ [])) ≡ Some w
 unfolding clap_on_literals
 node_value name w p =
-    let l = plain-long w p in
-    let s = plain-short w p in
-    let d = plain-escape w p in
-    rw (d, l, s) refl
+    let first = no_flag w p in
+    rw (first.0, first.1, first.2) refl
 
 node_more : (name w v : List ℕ) (rest : List (List ℕ)) → IsPlain w → IsPlain v → fault_of (node_app name) (w ∷ v ∷ rest) ≡ UnknownArgument ∷ []
 unfolding clap_on_literals
 node_more name w v rest p q =
-    let l = plain-long w p in
-    let s = plain-short w p in
-    let d = plain-escape w p in
-    let l' = plain-long v q in
-    let s' = plain-short v q in
-    let d' = plain-escape v q in
-    rw (d, l, s, d', l', s') refl
+    let first = no_flag w p in
+    let second = no_flag v q in
+    rw (first.0, first.1, first.2, second.0, second.1, second.2) refl
 
 -- `NODE TEXT`: no word, one, two, three or more
 text_none : (name : List ℕ) → fault_of (text_app name) [] ≡ MissingRequiredArgument ∷ []
@@ -84,68 +66,40 @@ text_none name = refl
 text_one : (name w : List ℕ) → IsPlain w → fault_of (text_app name) (w ∷ []) ≡ MissingRequiredArgument ∷ []
 unfolding clap_on_literals
 text_one name w p =
-    let l = plain-long w p in
-    let s = plain-short w p in
-    let d = plain-escape w p in
-    rw (d, l, s) refl
+    let first = no_flag w p in
+    rw (first.0, first.1, first.2) refl
 
 text_two : (name w v : List ℕ) → IsPlain w → IsPlain v → fault_of (text_app name) (w ∷ v ∷ []) ≡ []
 unfolding clap_on_literals
 text_two name w v p q =
-    let l = plain-long w p in
-    let s = plain-short w p in
-    let d = plain-escape w p in
-    let l' = plain-long v q in
-    let s' = plain-short v q in
-    let d' = plain-escape v q in
-    rw (d, l, s, d', l', s') refl
+    let first = no_flag w p in
+    let second = no_flag v q in
+    rw (first.0, first.1, first.2, second.0, second.1, second.2) refl
 
 text_node : (name w v : List ℕ) → IsPlain w → IsPlain v → first_of (codes "node") (matches_of (text_app name) (w ∷ v ∷ [])) ≡ Some w
 unfolding clap_on_literals
 text_node name w v p q =
-    let l = plain-long w p in
-    let s = plain-short w p in
-    let d = plain-escape w p in
-    let l' = plain-long v q in
-    let s' = plain-short v q in
-    let d' = plain-escape v q in
-    rw (d, l, s, d', l', s') refl
+    let first = no_flag w p in
+    let second = no_flag v q in
+    rw (first.0, first.1, first.2, second.0, second.1, second.2) refl
 
 text_value : (name w v : List ℕ) → IsPlain w → IsPlain v → first_of (codes "text") (matches_of (text_app name) (w ∷ v ∷ [])) ≡ Some v
 unfolding clap_on_literals
 text_value name w v p q =
-    let l = plain-long w p in
-    let s = plain-short w p in
-    let d = plain-escape w p in
-    let l' = plain-long v q in
-    let s' = plain-short v q in
-    let d' = plain-escape v q in
-    rw (d, l, s, d', l', s') refl
+    let first = no_flag w p in
+    let second = no_flag v q in
+    rw (first.0, first.1, first.2, second.0, second.1, second.2) refl
 
 text_more : (name w v u : List ℕ) (rest : List (List ℕ)) → IsPlain w → IsPlain v → IsPlain u → fault_of (text_app name) (w ∷ v ∷ u ∷ rest) ≡ UnknownArgument ∷ []
 unfolding clap_on_literals
 text_more name w v u rest p q r =
-    let l = plain-long w p in
-    let s = plain-short w p in
-    let d = plain-escape w p in
-    let l' = plain-long v q in
-    let s' = plain-short v q in
-    let d' = plain-escape v q in
-    let l'' = plain-long u r in
-    let s'' = plain-short u r in
-    let d'' = plain-escape u r in
-    rw (d, l, s, d', l', s', d'', l'', s'') refl
-
-neither : (a b : Bool) → (a || b) ≡ false → (a ≡ false) × (b ≡ false)
-neither true b h = absurd (cc)
-neither false b h = (refl, h)
-
-pub both_hold : (a b : Bool) → (a && b) ≡ true → (a ≡ true) × (b ≡ true)
-both_hold true b h = (refl, h)
-both_hold false b h = absurd (cc)
+    let first = no_flag w p in
+    let second = no_flag v q in
+    let third = no_flag u r in
+    rw (first.0, first.1, first.2, second.0, second.1, second.2, third.0, third.1, third.2) refl
 
 one_flag : (w : List ℕ) (ws : List (List ℕ)) → list_any is_flag_word (w ∷ ws) ≡ false → IsPlain w × (list_any is_flag_word ws ≡ false)
-one_flag w ws h = let p = neither (is_flag_word w) (list_any is_flag_word ws) h in (is_plain w p.0, p.1)
+one_flag w ws h = let p = or_parts (is_flag_word w) (list_any is_flag_word ws) h in (is_plain w p.0, p.1)
 
 -- what clap reads where it finds no fault, and where it does
 node_found : (name : List ℕ) (ws : List (List ℕ)) → list_any is_flag_word ws ≡ false → fault_of (node_app name) ws ≡ []

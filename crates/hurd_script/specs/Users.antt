@@ -1,12 +1,12 @@
 -- The users that a script declares.
-use Rattle.std.specs.Prelude.{ℕ, ◌==◌, ◌&&◌, ◌||◌, Bool, false, not, List, [], ◌∷◌, Option, Some, None, if◌then◌else◌, nat_le, nat_lt, is_some, option_map, filter_map, bytes_eq, codes, length}
+use Rattle.std.specs.Prelude.{ℕ, ◌^◌, ◌==◌, ◌&&◌, ◌||◌, Bool, false, not, List, [], ◌∷◌, Option, Some, None, if◌then◌else◌, nat_le, nat_lt, is_some, option_map, filter_map, bytes_eq, codes, length}
 use Rattle.std.specs.List.{list_all, slice_split, position_from}
 use Rattle.std.specs.Char.{is_ascii_digit, is_ascii_lowercase}
 use Rattle.std.specs.Result.{result_ok}
 use Rattle.std.specs.Str.Parse.{digits_value}
 use Rattle.hurd_creds.specs.Access.{IdSets, ids_of}
 use Rattle.hurd_script.specs.Lines.{is_skipped}
-use Rattle.hurd_script.specs.Words.{has_bytes, words_of}
+use Rattle.hurd_script.specs.Words.{has_bytes, onto, words_of}
 
 -- the first word is this one
 abbrev pub begins_with : List ℕ → List (List ℕ) → Bool
@@ -48,17 +48,12 @@ is_taken names name = is_some (task_of names name) || bytes_eq name (codes "user
 -- decimal digits of a value below 2 to the 32nd, without a sign; zeros may lead
 abbrev pub number_of : List ℕ → Option ℕ
 number_of digits =
-    if has_bytes digits && (list_all is_ascii_digit digits && nat_lt (digits_value 10 digits) 4294967296) then Some (digits_value 10 digits) else None
-
--- a number in front of numbers, where there are both
-abbrev pub joined : Option ℕ → Option (List ℕ) → Option (List ℕ)
-joined None numbers = None
-joined (Some n) numbers = option_map (λ ns. n ∷ ns) numbers
+    if has_bytes digits && (list_all is_ascii_digit digits && nat_lt (digits_value 10 digits) (2 ^ 32)) then Some (digits_value 10 digits) else None
 
 -- the numbers of these words, if each is one
 unfoldable pub numbers_of : List (List ℕ) → Option (List ℕ)
 numbers_of [] = Some []
-numbers_of (word ∷ words) = joined (number_of word) (numbers_of words)
+numbers_of (word ∷ words) = onto (number_of word) (numbers_of words)
 
 -- numbers joined by commas, or `-` for none
 abbrev pub listed : List ℕ → Option (List ℕ)
@@ -66,9 +61,8 @@ listed word = if bytes_eq word (codes "-") then Some [] else numbers_of (slice_s
 
 -- the ids of two lists, where both are lists and neither has more than 32 different numbers
 abbrev pub ids_from : Option (List ℕ) → Option (List ℕ) → Option IdSets
-ids_from None gids = None
-ids_from (Some uids) None = None
 ids_from (Some uids) (Some gids) = result_ok (ids_of uids gids)
+ids_from _ _ = None
 
 -- the ids of a user
 abbrev pub declared_ids : Declaration → Option IdSets

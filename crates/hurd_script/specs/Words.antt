@@ -19,10 +19,10 @@ is_hidden b = not (nat_le 33 b && nat_le b 126)
 abbrev pub escape_code : ℕ → Option ℕ
 escape_code b = if b == 115 then Some 32 else if b == 110 then Some 10 else if b == 92 then Some 92 else None
 
--- a byte in front of a text, where there are both
+-- a number in front of numbers, as a byte of a text, where there are both
 abbrev pub onto : Option ℕ → Option (List ℕ) → Option (List ℕ)
-onto None text = None
-onto (Some b) text = option_map (λ bs. b ∷ bs) text
+onto (Some n) numbers = option_map (λ ns. n ∷ ns) numbers
+onto None _ = None
 
 -- the text of a word, or of its rest behind a backslash
 unfoldable pub text_after : Bool → List ℕ → Option (List ℕ)

@@ -1,6 +1,9 @@
 //! Rows of calls.
-use crate::fixture::{Row, Want, is_reply, made, world};
-use hurd_creds::Errno;
+use crate::fixture::{Memory, Row, Want, call_of, is_reply, made, world};
+use hurd_creds::{Errno, TaskId};
+use hurd_world::Call;
+use std::alloc::{AllocError, Global};
+use std::process::Abort;
 use std::test::Fail;
 
 const ROOT: u32 = 0;
@@ -21,8 +24,11 @@ const EXCL: u16 = 32;
 
 const DIRECTORY: u16 = 256;
 
-/// root's `put /motd Welcome\n`, whose port is 3.
-fn motd<'a>() -> [(u32, Row<'a>, Want<'a>); 4] {
+/// A call of a task, and what it is to answer.
+type Line<'a> = (u32, Row<'a>, Want<'a>);
+
+/// root's `put /motd Welcome\n`, whose port is 3, and then lookups of it and calls on what they open.
+fn lookups<'a>() -> [Line<'a>; 34] {
     [
         (
             ROOT,
@@ -32,17 +38,6 @@ fn motd<'a>() -> [(u32, Row<'a>, Want<'a>); 4] {
         (ROOT, Row::SetSize(3, 0), Want::Done),
         (ROOT, Row::Write(3, b"Welcome\n", -1), Want::Count(8)),
         (ROOT, Row::Deallocate(3), Want::Done),
-    ]
-}
-
-#[test]
-fn looks_up_and_opens(rt: HostRuntime) -> Result<(), Fail> {
-    let mut world = world(rt.alloc())?;
-    for (task, row, want) in &motd() {
-        let reply = made(rt.alloc(), &mut world, *task, row);
-        assert!(rt; is_reply(&reply, want), "{reply:?}");
-    }
-    let rows = [
         (ALICE, Row::Lookup(1, b"motd", READ, 0), Want::Port(3)),
         (ALICE, Row::Lookup(3, b"", READ, 0), Want::Port(4)),
         (
@@ -125,18 +120,12 @@ fn looks_up_and_opens(rt: HostRuntime) -> Result<(), Fail> {
         (ALICE, Row::Deallocate(6), Want::Done),
         (ALICE, Row::Deallocate(6), Want::Refused(Errno::EBADF)),
         (BOB, Row::Lookup(1, b"motd", READ, 0), Want::Port(3)),
-    ];
-    for (task, row, want) in &rows {
-        let reply = made(rt.alloc(), &mut world, *task, row);
-        assert!(rt; is_reply(&reply, want), "{reply:?}");
-    }
-    Ok(())
+    ]
 }
 
-#[test]
-fn writes_and_sizes(rt: HostRuntime) -> Result<(), Fail> {
-    let mut world = world(rt.alloc())?;
-    let rows = [
+/// Writes and sizes up to the greatest.
+fn sizes<'a>() -> [Line<'a>; 17] {
+    [
         (
             ROOT,
             Row::Lookup(1, b"big", READ + WRITE + CREATE, 0o644),
@@ -174,24 +163,16 @@ fn writes_and_sizes(rt: HostRuntime) -> Result<(), Fail> {
         (ROOT, Row::Read(4, 1, -1), Want::Data(b"")),
         (ROOT, Row::Read(4, 100, 6), Want::Data(b"yz")),
         (ROOT, Row::Read(3, 100, -1), Want::Data(b"yz")),
-    ];
-    for (task, row, want) in &rows {
-        let reply = made(rt.alloc(), &mut world, *task, row);
-        assert!(rt; is_reply(&reply, want), "{reply:?}");
-    }
-    Ok(())
+    ]
 }
 
-#[test]
-fn bounds_paths_and_names(rt: HostRuntime) -> Result<(), Fail> {
-    let mut world = world(rt.alloc())?;
-    let slashes = [b'/'; 1025];
-    let letters = [b'z'; 256];
-    let rows = [
+/// Paths and names up to the longest, of 1,025 slashes and of 256 letters.
+fn bounds<'a>(slashes: &'a [u8; 1025], letters: &'a [u8; 256]) -> [Line<'a>; 5] {
+    [
         (ALICE, Row::Lookup(1, &slashes[..1024], 0, 0), Want::Port(3)),
         (
             ALICE,
-            Row::Lookup(1, &slashes, 0, 0),
+            Row::Lookup(1, slashes.as_slice(), 0, 0),
             Want::Refused(Errno::ENAMETOOLONG),
         ),
         (
@@ -201,18 +182,79 @@ fn bounds_paths_and_names(rt: HostRuntime) -> Result<(), Fail> {
         ),
         (
             ALICE,
-            Row::Lookup(1, &letters, 0, 0),
+            Row::Lookup(1, letters.as_slice(), 0, 0),
             Want::Refused(Errno::ENAMETOOLONG),
         ),
         (
             ALICE,
-            Row::Lookup(9, &letters, 0, 0),
+            Row::Lookup(9, letters.as_slice(), 0, 0),
             Want::Refused(Errno::EBADF),
         ),
-    ];
-    for (task, row, want) in &rows {
-        let reply = made(rt.alloc(), &mut world, *task, row);
+    ]
+}
+
+/// Makes the calls of a table one after another in a new world.
+fn check(rt: &impl Abort, alloc: Global, lines: &[Line], memory: &mut Memory) -> Result<(), Fail> {
+    let mut world = world(alloc, memory)?;
+    for (task, row, want) in lines {
+        let reply = made(alloc, &mut world, *task, row, memory);
         assert!(rt; is_reply(&reply, want), "{reply:?}");
     }
     Ok(())
+}
+
+fn check_all(rt: &impl Abort, alloc: Global, mut memory: Memory) -> Result<(), Fail> {
+    check(rt, alloc, &lookups(), &mut memory)?;
+    check(rt, alloc, &sizes(), &mut memory)?;
+    check(rt, alloc, &bounds(&[b'/'; 1025], &[b'z'; 256]), &mut memory)
+}
+
+#[test]
+fn calls_with_ample_memory(rt: HostRuntime) -> Result<(), Fail> {
+    check_all(&rt, rt.alloc(), Memory::ample())
+}
+
+#[test]
+fn refused_memory_in_calls(rt: HostRuntime) -> Result<(), Fail> {
+    check_all(&rt, rt.alloc(), Memory::refused_once(rt.alloc()))
+}
+
+/// A row's call, with the bytes of its own copied once more where memory was refused and may be.
+fn call_with(alloc: Global, row: &Row, memory: &mut Memory) -> Result<Call, AllocError> {
+    match call_of(alloc, row) {
+        Err(_) if memory.may_refuse() => call_of(alloc, row),
+        call => call,
+    }
+}
+
+/// Makes the calls of a table one after another in a new world: a lookup that is refused is so at the first try.
+fn check_refusals(
+    rt: &impl Abort,
+    alloc: Global,
+    lines: &[Line],
+    memory: &mut Memory,
+) -> Result<(), Fail> {
+    let mut world = world(alloc, memory)?;
+    for (task, row, want) in lines {
+        let reply = if let (Row::Lookup(..), Want::Refused(_)) = (row, want) {
+            let call = call_with(alloc, row, memory)?;
+            world.call(alloc, TaskId(*task), call)
+        } else {
+            made(alloc, &mut world, *task, row, memory)
+        };
+        assert!(rt; is_reply(&reply, want), "{reply:?}");
+    }
+    Ok(())
+}
+
+#[test]
+fn refused_lookups_answer_the_same(rt: HostRuntime) -> Result<(), Fail> {
+    let mut memory = Memory::refused_once(rt.alloc());
+    check_refusals(&rt, rt.alloc(), &lookups(), &mut memory)?;
+    check_refusals(
+        &rt,
+        rt.alloc(),
+        &bounds(&[b'/'; 1025], &[b'z'; 256]),
+        &mut memory,
+    )
 }

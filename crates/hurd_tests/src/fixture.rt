@@ -117,11 +117,36 @@ fn booted(alloc: Global) -> Result<World, Errno> {
     }
 }
 
-/// The world of root, alice and bob (tasks 0, 1, 2) over an empty tree; where memory was refused, a second try.
-pub fn world(alloc: Global) -> Result<World, Errno> {
+/// Whether a request for memory may be refused: as long as there is a reserve, which is freed at the refusal.
+#[derive(Drop)]
+pub struct Memory {
+    reserve: Option<Vec<u8>>,
+}
+
+impl Memory {
+    /// No request may be refused.
+    pub fn ample() -> Memory {
+        Memory { reserve: None }
+    }
+
+    /// One request may be refused; where the one for the reserve is, no other.
+    pub fn refused_once(alloc: Global) -> Memory {
+        Memory {
+            reserve: Vec::from_slice(alloc, b"reserve").ok(),
+        }
+    }
+
+    /// Whether this refusal may be; from now on none may.
+    pub fn may_refuse(&mut self) -> bool {
+        self.reserve.take().is_some()
+    }
+}
+
+/// The world of root, alice and bob (tasks 0, 1, 2) over an empty tree; where memory was refused and may be, a second try.
+pub fn world(alloc: Global, memory: &mut Memory) -> Result<World, Errno> {
     match booted(alloc) {
-        Ok(world) => Ok(world),
-        Err(_) => booted(alloc),
+        Err(Errno::ENOMEM) if memory.may_refuse() => booted(alloc),
+        booted => booted,
     }
 }
 
@@ -132,10 +157,10 @@ fn told(alloc: Global, world: &mut World, task: u32, row: &Row) -> Reply {
     }
 }
 
-/// Makes a row's call; where memory was refused, once more.
-pub fn made(alloc: Global, world: &mut World, task: u32, row: &Row) -> Reply {
+/// Makes a row's call; where memory was refused and may be, once more.
+pub fn made(alloc: Global, world: &mut World, task: u32, row: &Row, memory: &mut Memory) -> Reply {
     match told(alloc, world, task, row) {
-        Reply::Refused(Errno::ENOMEM) => told(alloc, world, task, row),
+        Reply::Refused(Errno::ENOMEM) if memory.may_refuse() => told(alloc, world, task, row),
         reply => reply,
     }
 }

@@ -1,8 +1,9 @@
 //! Two runs that look the same to alice.
-use crate::fixture::{Row, Want, call_of, is_reply, world};
+use crate::fixture::{Memory, Row, Want, call_of, is_reply, world};
 use hurd_creds::{Errno, TaskId};
 use hurd_world::{Call, Reply, World};
 use std::alloc::{AllocError, Global};
+use std::process::Abort;
 use std::test::Fail;
 
 const ROOT: u32 = 0;
@@ -55,25 +56,36 @@ fn is_ample(replies: &[Reply]) -> bool {
     true
 }
 
-/// The replies of a run in which no call was refused memory; where one was, those of a second run.
-fn ample_run(alloc: Global, with_bob: bool) -> Result<Vec<Reply>, Errno> {
-    let mut first = world(alloc)?;
-    if let Ok(replies) = run(alloc, &mut first, with_bob) {
-        if is_ample(&replies) {
-            return Ok(replies);
-        }
+/// The replies of a run in which no call was refused memory; where one was and that may be, those of a second run.
+fn ample_run(alloc: Global, with_bob: bool, memory: &mut Memory) -> Result<Vec<Reply>, Errno> {
+    let mut first = world(alloc, memory)?;
+    match run(alloc, &mut first, with_bob) {
+        Ok(replies) if is_ample(&replies) => return Ok(replies),
+        Ok(_) | Err(Errno::ENOMEM) if memory.may_refuse() => {}
+        other => return other,
     }
-    let mut second = world(alloc)?;
+    let mut second = world(alloc, memory)?;
     run(alloc, &mut second, with_bob)
 }
 
-#[test]
-fn alice_is_told_the_same_whatever_bob_reads(rt: HostRuntime) -> Result<(), Fail> {
+/// alice is told the same whatever bob reads.
+fn check(rt: &impl Abort, alloc: Global, mut memory: Memory) -> Result<(), Fail> {
     for (with_bob, count) in [(true, 8), (false, 6)] {
-        let replies = ample_run(rt.alloc(), with_bob)?;
+        let replies = ample_run(alloc, with_bob, &mut memory)?;
         assert_eq!(rt; replies.len(), count);
+        assert!(rt; is_ample(&replies));
         assert!(rt; is_reply(&replies[4], &Want::Port(3)));
         assert!(rt; is_reply(&replies[count - 1], &Want::Data(b"Welcome\n")));
     }
     Ok(())
+}
+
+#[test]
+fn isolation_with_ample_memory(rt: HostRuntime) -> Result<(), Fail> {
+    check(&rt, rt.alloc(), Memory::ample())
+}
+
+#[test]
+fn refused_memory_in_isolation(rt: HostRuntime) -> Result<(), Fail> {
+    check(&rt, rt.alloc(), Memory::refused_once(rt.alloc()))
 }

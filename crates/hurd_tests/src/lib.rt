@@ -1,7 +1,8 @@
 //! Tests that cross crates: rows of calls on a world of boxed servers, and scripts with their transcripts.
 //!
-//! The tests are also run with each allocation refused in turn (`./test`): a call that answers `ENOMEM` is made again,
-//! and must then answer as its row says.
+//! Each table is gone through twice: with ample memory, where no call may answer `ENOMEM`, and by a test whose name begins
+//! with `refused_`, which `tests/refuse-each` runs with each request for memory refused in turn: there one call may answer
+//! `ENOMEM`, is made again, and must then answer as its row says.
 #![tactic(auto)]
 
 #[cfg(test)]

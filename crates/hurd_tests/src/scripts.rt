@@ -1,7 +1,8 @@
 //! Scripts with their transcripts.
-use crate::fixture::tree;
+use crate::fixture::{Memory, tree};
 use hurd_shell::{Session, SessionFault, Want};
 use std::alloc::Global;
+use std::process::Abort;
 use std::test::Fail;
 
 /// A script with its transcript.
@@ -86,36 +87,39 @@ fn rows<'a>() -> [Row<'a>; 5] {
     ]
 }
 
-#[test]
-fn sessions_give_the_transcript(rt: HostRuntime) -> Result<(), Fail> {
-    let mut refused = 0u32;
+/// The first bad lines of bad scripts.
+fn bad_scripts<'a>() -> [(&'a [u8], u64); 2] {
+    [(b"carol ls /", 1), (b"root ls /\nroot put /a b\\q\n", 2)]
+}
+
+/// Goes through each script twice where memory is refused once on the way, and else once.
+fn check(rt: &impl Abort, alloc: Global, mut memory: Memory) -> Result<(), Fail> {
     for row in &rows() {
-        for _ in 0..2 {
-            match played(rt.alloc(), row) {
-                Some(End::Done) => {}
-                Some(End::Memory) => refused = refused.saturating_add(1),
-                None => assert!(rt; false, "a session strays from its transcript"),
-            }
+        let mut end = played(alloc, row);
+        if matches!(end, Some(End::Memory)) && memory.may_refuse() {
+            end = played(alloc, row);
+        }
+        assert!(rt; matches!(end, Some(End::Done)));
+    }
+    for (script, wanted) in bad_scripts() {
+        let mut refused = session(alloc, script);
+        if matches!(refused, Err(SessionFault::Memory)) && memory.may_refuse() {
+            refused = session(alloc, script);
+        }
+        match refused {
+            Err(SessionFault::BadScript { line }) => assert_eq!(rt; line, wanted),
+            _ => assert!(rt; false, "a bad script is not refused"),
         }
     }
-    assert!(rt; refused <= 1, "{refused} sessions found no memory");
     Ok(())
 }
 
 #[test]
-fn bad_scripts_are_refused_at_their_line(rt: HostRuntime) -> Result<(), Fail> {
-    let rows = [
-        (b"carol ls /".as_slice(), 1),
-        (b"root ls /\nroot put /a b\\q\n".as_slice(), 2),
-    ];
-    for (script, wanted) in rows {
-        let mut line = None;
-        for _ in 0..2 {
-            if let Err(SessionFault::BadScript { line: bad }) = session(rt.alloc(), script) {
-                line = Some(bad);
-            }
-        }
-        assert_eq!(rt; line, Some(wanted));
-    }
-    Ok(())
+fn scripts_with_ample_memory(rt: HostRuntime) -> Result<(), Fail> {
+    check(&rt, rt.alloc(), Memory::ample())
+}
+
+#[test]
+fn refused_memory_in_scripts(rt: HostRuntime) -> Result<(), Fail> {
+    check(&rt, rt.alloc(), Memory::refused_once(rt.alloc()))
 }

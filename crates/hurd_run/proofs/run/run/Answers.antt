@@ -1,16 +1,21 @@
-use Rattle.std.proofs.lemmas.Result.{IfErr-weaker, IfOk-weaker}
-use Rattle.hurd_trans_iface.specs.Meaning.{new_tmpfs}
-use Rattle.hurd_run.proofs.ScriptLaws.{ended_whole, printed_whole}
+use Rattle.std.proofs.lemmas.Result.{err_from_is_err_and}
+use Rattle.hurd_run.proofs.ScriptLaws.{ran_out, ran_whole, unread}
 use Rattle.hurd_run.proofs.run.run.Goals as goal
 
-pub returns-clause-ok : goal.returns-clause-ok
-returns-clause-ok g c =
-    IfOk-weaker c.transcribe.result _ _
-    (λ u printed. printed_whole _ _ new_tmpfs _ _ c.in_ok-script.ensures.ok (rw c.as_slice.ensures at printed))
-    c.transcribe.ensures.ok
+pub returns-in_err-script-clause-ran : goal.returns-in_err-script-clause-ran
+returns-in_err-script-clause-ran g c =
+    let p = err_from_is_err_and c.from_residual.result c.from_residual.ensures.1 in
+    rw (p.1, p.2) (unread c.read_script.new.input _ _ _ c.in_err-script.ensures.err)
 
-pub returns-clause-err : goal.returns-clause-err
-returns-clause-err g c =
-    IfErr-weaker c.transcribe.result _ _
-    (λ fault end. ended_whole _ _ _ _ fault c.in_ok-script.ensures.ok (rw c.as_slice.ensures at end))
-    c.transcribe.ensures.err
+pub returns-in_err-tree-clause-ran : goal.returns-in_err-tree-clause-ran
+returns-in_err-tree-clause-ran g c =
+    let p = err_from_is_err_and c.from_residual-in_err-tree.result c.from_residual-in_err-tree.ensures.1 in
+    rw (p.1, p.2, c.in_err-tree.ensures.err) (ran_out _ _)
+
+pub returns-in_default-clause-ran : goal.returns-in_default-clause-ran
+returns-in_default-clause-ran g c = ran_out _ _
+
+pub returns-clause-ran : goal.returns-clause-ran
+returns-clause-ran g c =
+    let (printed, appends, prints) = c.transcribe.ensures.prints in
+    ran_whole _ _ _ _ _ printed c.in_ok-script.ensures.ok appends (rw c.as_slice.ensures at prints)

@@ -1,4 +1,4 @@
-use Rattle.hurd_run.proofs.OutputLaws.{begins_tree}
+use Rattle.hurd_run.proofs.SessionLaws.{begins_tree}
 use Rattle.hurd_run.proofs.run.transcribe.Goals as goal
 
 pub new-requires : goal.new-requires

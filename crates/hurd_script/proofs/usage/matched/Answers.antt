@@ -1,5 +1,5 @@
-use Rattle.hurd_script.proofs.UsageLemmas.{both_hold}
+use Rattle.std.proofs.lemmas.Bool.{and_parts}
 use Rattle.hurd_script.proofs.usage.matched.Goals as goal
 
 pub returns-in-Ok : goal.returns-in-Ok
-returns-in-Ok c = (c.in-Ok.ensures.kinds c.requires, (c.in-Ok.ensures.matches (both_hold _ _ c.requires).0).0)
+returns-in-Ok c = (c.in-Ok.ensures.kinds c.requires, (c.in-Ok.ensures.matches (and_parts _ _ c.requires).0).0)

@@ -1,17 +1,18 @@
-use Rattle.std.proofs.Common.{◌≡◌, ℕ, ◌-◌, List, length, drop, Option}
+use Rattle.std.proofs.Common.{◌≡◌, ℕ, ◌-◌, List, length}
 use Rattle.std.specs.Io.KnownBytes.{Appends}
 use Rattle.hurd_machine.specs.World as machine
+use Rattle.hurd_shell.specs.Outputs.{Gave}
 use Rattle.hurd_shell.specs.Session.{Follows}
-use Rattle.hurd_shell.specs.Transcript.{joined, parts_of}
-use Rattle.hurd_run.proofs.run.print_rest.Given as goal
+use Rattle.hurd_shell.specs.Transcript.{joined}
+use Rattle.hurd_run.proofs.run.print_all.Given as goal
 
 abbrev pub invariant-loop-part : goal.invariant-loop-part
 invariant-loop-part g l = record {
   same : l.session.commands ≡ l.fn.session.commands;
   goes : (first : machine.World) → Follows g.S.Server.meaning first l.fn.session
       → Follows g.S.Server.meaning first l.session
-      × ((end : Option (List ℕ)) → Appends (g.W.Write.contents l.writer) end (joined (drop l.session.given (parts_of l.session.commands first)))
-      → Appends (g.W.Write.contents l.fn.writer) end (joined (drop l.fn.session.given (parts_of l.fn.session.commands first))));
+      × ((outputs : List (List ℕ)) × Gave first l.fn.session outputs l.session
+      × Appends (g.W.Write.contents l.fn.output.writer) (g.W.Write.contents l.output.writer) (joined outputs));
 }
 
 abbrev pub decreases-loop-part : goal.decreases-loop-part
