@@ -7,7 +7,7 @@ use Rattle.hurd_machine.specs.declared.call.Reply.{Reply}
 use Rattle.hurd_machine.specs.World.{World}
 use Rattle.hurd_laws.specs.Step.{step}
 use Rattle.hurd_script.specs.Commands.{CommandLine}
-use Rattle.hurd_world.specs.Held.{Both, world_of}
+use Rattle.hurd_world.specs.Held.{Whole, world_of}
 use Rattle.hurd_shell.specs.declared.commands.Printed.{Printed}
 use Rattle.hurd_shell.specs.declared.commands.Work.{Work}
 use Rattle.hurd_shell.specs.declared.commands.Work.TheVariants.{Cat, Ls, Put}
@@ -41,7 +41,7 @@ pub record Does {A : Type 0} (t : ℕ) (p : Prog A) (w : World) (r : Result A St
   pub ends : Ends t p w r x
 
 -- the same of the worlds that the code holds
-abbrev pub Ran : {S A : Type 0} → (S → Meaning) → ℕ → Prog A → Both S → Result A Stop → Both S → Type 0
+abbrev pub Ran : {S A : Type 0} → (S → Meaning) → ℕ → Prog A → Whole S → Result A Stop → Whole S → Type 0
 Ran f t p old r new = Does t p (world_of f old) r (world_of f new)
 
 -- the program of what the code does with an open node

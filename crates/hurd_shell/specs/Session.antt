@@ -8,7 +8,7 @@ use Rattle.hurd_script.specs.Commands.{CommandLine, coded_command}
 use Rattle.hurd_creds.specs.Access.{IdSets}
 use Rattle.hurd_script.specs.Script.{bad, users_of}
 use Rattle.hurd_world.specs.Boot.{boot_of}
-use Rattle.hurd_world.specs.Held.{Both, coded_both, world_of}
+use Rattle.hurd_world.specs.Held.{Whole, coded_whole, world_of}
 use Rattle.hurd_shell.specs.Transcript.{parts_of, world_after}
 use Rattle.hurd_shell.specs.declared.session.Want.{Want}
 use Rattle.hurd_shell.specs.declared.session.Want.TheVariants.{Output, Done}
@@ -17,7 +17,7 @@ use Rattle.hurd_shell.specs.declared.fault.SessionFault.TheVariants.{BadScript, 
 
 -- the world, the commands, how many outputs were given, and whether memory was refused
 pub record View (S : Type 0) : Type 0 where
-  pub world : Both S
+  pub world : Whole S
   pub commands : List CommandLine
   pub given : ℕ
   pub failed : Bool
@@ -26,8 +26,8 @@ pub record View (S : Type 0) : Type 0 where
 abbrev pub coded_view : {S : Type 0} → Coded S → Coded (View S)
 coded_view {S} c =
     code_by
-    (Both S × (List CommandLine × (ℕ × Bool)))
-    (coded× (coded_both c) (coded× (coded_list coded_command) (coded× coded_ℕ coded_bool)))
+    (Whole S × (List CommandLine × (ℕ × Bool)))
+    (coded× (coded_whole c) (coded× (coded_list coded_command) (coded× coded_ℕ coded_bool)))
     (λ s. (s.world, (s.commands, (s.given, s.failed))))
     (λ p. record { world = p.0; commands = p.1.0; given = p.1.1.0; failed = p.1.1.1 })
     (λ _. refl)

@@ -1,7 +1,7 @@
 //! Calls that a command makes, and what it reads of their replies.
 ghost use Rattle.std.specs.Prelude.{◌≡◌, IfOk, IfErr, Ok};
 ghost use Rattle.hurd_creds.specs.declared.open_flags.OpenFlags.{OpenFlags};
-ghost use Rattle.hurd_laws.specs.Called.{Called};
+ghost use Rattle.hurd_laws.specs.Called.{Lacks};
 ghost use Rattle.hurd_world.specs.Held.{world_of};
 ghost use Rattle.hurd_shell.specs.Programs.{made, data_of, done_of, names_of, port_of, unread};
 ghost use Rattle.hurd_shell.specs.Commands.{file_mode, open_node, start_of};
@@ -37,7 +37,7 @@ fn made<S: Server>(
 ) -> Result<Reply, NoMemory>
     ensures ok { IfOk result (λ reply. Stepped (world_of S.meaning world.old) task.0 call reply (world_of S.meaning world.new)) }
     ensures err { IfErr result (λ e.
-        Called (world_of S.meaning world.old) task.0 call (Reply.Refused Errno.ENOMEM) (world_of S.meaning world.new)) }
+        Lacks (world_of S.meaning world.old) task.0 call (Reply.Refused Errno.ENOMEM) (world_of S.meaning world.new)) }
 {
     match world.call(alloc, task, call) {
         Reply::Refused(Errno::ENOMEM) => Err(NoMemory),
