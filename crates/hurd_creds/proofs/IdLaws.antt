@@ -1,7 +1,7 @@
 -- What the sets of listed ids hold, how many they are, and which is the least.
 use Rattle.std.proofs.Common.{◌≡◌, ◌==◌, ◌||◌, ◌⊎◌, inl, inr, ℕ, zero, suc, ◌+◌, ◌≤◌, ◌<◌, Bool, true, false, cond, List, [], ◌∷◌, ◌++◌, length, refl, sym, ap, ◌∙◌, arith, min, nat_eq, length-append, append_assoc, append-nil, take, drop, slice_index_or}
 use Rattle.std.proofs.lemmas.List.{take_more, take-append-drop}
-use Rattle.std.proofs.lemmas.Bool.{cases_lt}
+use Rattle.std.proofs.lemmas.Bool.{cases_lt, or_right, or_cases}
 use Rattle.std.proofs.Math.Nat.{min-le_left, min-le_right}
 use Rattle.std.specs.Prelude.{Option, Some, None, IsNone, IfSome}
 use Rattle.std.specs.List.{All, Contains, list_any, fold}
@@ -26,14 +26,6 @@ ties q = ap is_eq (tied_itself nat_cmp_total q)
 
 equal_if_tied : (a b : ℕ) → eq_by_cmp nat_cmp a b ≡ true → a ≡ b
 equal_if_tied a b h = nat_cmp-IsAntisymmetric a b ((Equal-is (nat_cmp a b)).0 h)
-
-or_true : (a b : Bool) → b ≡ true → (a || b) ≡ true
-or_true true b h = refl
-or_true false b h = h
-
-one_of : (a b : Bool) → (a || b) ≡ true → (a ≡ true) ⊎ (b ≡ true)
-one_of true b h = inl refl
-one_of false b h = inr h
 
 -- a set that holds something isn't empty
 len-held : (s : IdSet) (u : ℕ) → set.contains s u ≡ true → (set.len s == 0) ≡ false
@@ -66,7 +58,7 @@ fold-min_is x (y ∷ ys) = elim (fold-min_is (min x y) ys) [
     | inl is_x ↦ inl (e ∙ is_x)
     | inr is_y ↦ inr (ap (λ q. eq_by_cmp nat_cmp q y || is_listed q ys) (e ∙ is_y) ∙ ap (λ b. b || is_listed y ys) (ties y))
   ]
-  | inr h ↦ inr (or_true (eq_by_cmp nat_cmp (fold min (min x y) ys) y) _ h)
+  | inr h ↦ inr (or_right (eq_by_cmp nat_cmp (fold min (min x y) ys) y) _ h)
 ]
 
 fold-min_le : (x : ℕ) (xs : List ℕ) → fold min x xs ≤ x
@@ -75,7 +67,7 @@ fold-min_le x (y ∷ ys) = omega (arith, fold-min_le (min x y) ys, min-le_left x
 
 fold-min_below : (x : ℕ) (xs : List ℕ) (q : ℕ) → is_listed q xs ≡ true → fold min x xs ≤ q
 fold-min_below x [] q h = absurd (cc)
-fold-min_below x (y ∷ ys) q h = elim (one_of (eq_by_cmp nat_cmp q y) (is_listed q ys) h) [
+fold-min_below x (y ∷ ys) q h = elim (or_cases (eq_by_cmp nat_cmp q y) (is_listed q ys) h) [
   | inl t ↦ let e = equal_if_tied q y t in omega (arith, fold-min_le (min x y) ys, min-le_right x y)
   | inr t ↦ fold-min_below (min x y) ys q t
 ]
@@ -86,10 +78,10 @@ least-is (x ∷ xs) m h below =
     let r : ℕ = fold min x xs in
     let among : is_listed r (x ∷ xs) ≡ true = elim (fold-min_is x xs) [
       | inl e ↦ ap (λ q. eq_by_cmp nat_cmp q x || is_listed q xs) e ∙ ap (λ b. b || is_listed x xs) (ties x)
-      | inr t ↦ or_true (eq_by_cmp nat_cmp r x) _ t
+      | inr t ↦ or_right (eq_by_cmp nat_cmp r x) _ t
     ] in
     let above : m ≤ r = below r among in
-    let under : r ≤ m = elim (one_of (eq_by_cmp nat_cmp m x) (is_listed m xs) h) [
+    let under : r ≤ m = elim (or_cases (eq_by_cmp nat_cmp m x) (is_listed m xs) h) [
       | inl t ↦ let e = equal_if_tied m x t in omega (arith, fold-min_le x xs)
       | inr t ↦ fold-min_below x xs m t
     ] in

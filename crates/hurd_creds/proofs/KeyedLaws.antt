@@ -1,5 +1,6 @@
 -- A list of things, each with its name and its value, and the map that it stands for.
 use Rattle.std.proofs.Common.{◌≡◌, ◌⊎◌, inl, inr, ℕ, zero, suc, ◌+◌, ◌<◌, Bool, true, false, cond, List, [], ◌∷◌, ◌++◌, map, length, get_or, take, ◌≤◌, refl, ap, sym, ◌∙◌, arith, add-one}
+use Rattle.std.proofs.lemmas.Bool.{cases_Bool}
 use Rattle.std.proofs.lemmas.List.{take_all}
 use Rattle.std.specs.Prelude.{Option, Some, None, slice_set, slice_index_or, filter, not, is_some}
 use Rattle.std.specs.Option.{option_map}
@@ -40,10 +41,6 @@ ties_both : (q a b : Name) → eq_by_cmp name_cmp q a ≡ true → eq_by_cmp nam
 ties_both q a b h k =
     let e : q ≡ a = equal_if_same q a (sym (name_tied q a) ∙ h) in
     rw (← e) (sym (name_tied q b) ∙ k)
-
-true_or_false : (b : Bool) → (b ≡ true) ⊎ (b ≡ false)
-true_or_false true = inl refl
-true_or_false false = inr refl
 
 module _ {X V : Type 0} (key : X → Name) (value : X → V) where
   abbrev entry_of : X → Name × V
@@ -208,7 +205,7 @@ module _ {X V : Type 0} (key : X → Name) (value : X → V) where
 
   find-filter : (n : Name) (xs : List X) (q : Name) → fin.find name_cmp q (map entry_of (filter (λ (x : X). not (same_name n (key x))) xs)) ≡ cond (eq_by_cmp name_cmp q n) None (fin.find name_cmp q (map entry_of xs))
   find-filter n [] q = none_anyway (eq_by_cmp name_cmp q n)
-  find-filter n (x ∷ xs) q = elim (true_or_false (same_name n (key x))) [
+  find-filter n (x ∷ xs) q = elim (cases_Bool (same_name n (key x))) [
     | inl y ↦ rw (y, ← equal_if_same n (key x) y, find-filter n xs q) (shadowed (eq_by_cmp name_cmp q n) None (Some (value x)) (fin.find name_cmp q (map entry_of xs)))
     | inr f ↦ rw (f, find-filter n xs q) (swapped (eq_by_cmp name_cmp q (key x)) (eq_by_cmp name_cmp q n) (Some (value x)) None (fin.find name_cmp q (map entry_of xs)) (λ a b. let k = ties_both q n (key x) b a in cc))
   ]
