@@ -4,7 +4,7 @@ use Rattle.std.proofs.lemmas.Option.{slice_get_within}
 use Rattle.hurd_machine.specs.World.{World}
 use Rattle.hurd_script.specs.Script.{bad}
 use Rattle.hurd_script.specs.Commands.{CommandLine}
-use Rattle.hurd_trans_iface.specs.Meaning.{Begins, Meaning, new_tmpfs}
+use Rattle.hurd_trans_iface.specs.Meaning.{Begins, Meaning}
 use Rattle.hurd_shell.specs.Outputs.{Gave}
 use Rattle.hurd_shell.specs.Session.{NewFault, Tells, View}
 use Rattle.hurd_shell.specs.Transcript.{out, parts_of}
@@ -15,7 +15,7 @@ use Rattle.hurd_shell.specs.declared.fault.SessionFault.TheVariants.{BadScript, 
 use Rattle.hurd_run.specs.declared.fault.Fault.{Fault}
 use Rattle.hurd_run.specs.declared.fault.Fault.TheVariants.{Session}
 use Rattle.hurd_run.specs.declared.print.Output as printer
-use Rattle.hurd_run.specs.Faults.{IsFront, IsPrintFault, Prints}
+use Rattle.hurd_run.specs.Faults.{IsFront, IsPrintFault, Prints, new_tmpfs}
 
 -- a session that gave some outputs gives one more
 pub gave_more : {S : Type 0} (first : World) (s x y : View S) (outputs : List (List ℕ)) (bytes : List ℕ) → Gave first s outputs x → Tells first x (Ok (Output bytes)) y

@@ -3,7 +3,7 @@ use Rattle.std.specs.Prelude.{◌≡◌, ◌⊎◌, ℕ, true, List, [], ◌++�
 use Rattle.std.specs.Io.KnownBytes.{Appends}
 use Rattle.hurd_creds.specs.Errors.{name_of}
 use Rattle.hurd_script.specs.Script.{bad, users_of}
-use Rattle.hurd_trans_iface.specs.Meaning.{new_tmpfs}
+use Rattle.hurd_trans_iface.specs.Meaning.{Meaning, Tmpfs, new_server}
 use Rattle.hurd_world.specs.Boot.{boot_of}
 use Rattle.hurd_shell.specs.Transcript.{out}
 use Rattle.hurd_shell.specs.declared.fault.SessionFault.TheVariants.{BadScript, Boot, Memory}
@@ -11,6 +11,10 @@ use Rattle.hurd_run.specs.declared.fault.Fault.{Fault}
 use Rattle.hurd_run.specs.declared.fault.Fault.TheVariants.{Read, Write, Session}
 use Rattle.hurd_run.specs.declared.print.Output.{Output}
 use Rattle.hurd_run.specs.declared.read.Input.{Input}
+
+-- the server that every script begins over: a tree in memory that has no root yet
+abbrev pub new_tmpfs : Meaning
+new_tmpfs = new_server Tmpfs []
 
 -- the exit status: 0 where all was printed, 1 for a bad script, 2 for all else
 abbrev pub status_of : Result (Unit {0}) Fault → ℕ

@@ -2,11 +2,10 @@
 ghost use Rattle.std.specs.Prelude.{◌≡◌, ◌≢◌, ℕ, List, true, Err, IfOk, IfErr, OnOk};
 ghost use Rattle.std.specs.Io.KnownBytes.{Appends};
 ghost use Rattle.hurd_machine.specs.World as machine;
-ghost use Rattle.hurd_trans_iface.specs.Meaning.{new_tmpfs};
 ghost use Rattle.hurd_tmpfs.specs.Tree.{tree};
 ghost use Rattle.hurd_shell.specs.Session.{Follows};
 ghost use Rattle.hurd_shell.specs.Transcript.{joined, parts_of};
-ghost use Rattle.hurd_run.specs.Faults.{AppendsFront, Blames, Exits, IsPrintFault, Prints, Ran};
+ghost use Rattle.hurd_run.specs.Faults.{AppendsFront, Blames, Exits, IsPrintFault, Prints, Ran, new_tmpfs};
 
 use crate::ending::ending;
 use crate::fault::Fault;
