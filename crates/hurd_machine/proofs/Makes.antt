@@ -101,10 +101,10 @@ pub record MayMake (w : World) (d : Name) (name : List ℕ) (kind : Kind) : Type
   pub absent : entry_of name (body_at w d) ≡ None
   pub kinds : is_made kind ≡ true
 
-may_steps : (dir tree : Bool) (o : Option Name) (made : Bool) (u : Unit {0})
-    → ◌≡◌ {A = Result (Unit {0}) Errno} (if not dir then Err ENOTDIR else if not tree then Err EROFS else if is_some o then Err EEXIST else if made then Ok tt else Err EOPNOTSUPP) (Ok u)
-    → (dir ≡ true) × (tree ≡ true) × (o ≡ None) × (made ≡ true)
-may_steps false tree o made u h = absurd (cc)
+may_steps : (dir grows : Bool) (o : Option Name) (made : Bool) (u : Unit {0})
+    → ◌≡◌ {A = Result (Unit {0}) Errno} (if not dir then Err ENOTDIR else if not grows then Err EROFS else if is_some o then Err EEXIST else if made then Ok tt else Err EOPNOTSUPP) (Ok u)
+    → (dir ≡ true) × (grows ≡ true) × (o ≡ None) × (made ≡ true)
+may_steps false grows o made u h = absurd (cc)
 may_steps true false o made u h = absurd (cc)
 may_steps true true (Some n) made u h = absurd (cc)
 may_steps true true None false u h = absurd (cc)
