@@ -1,6 +1,7 @@
 use crate::{Attrs, Errno, Ids, Kind, Mode, OpenFlags, Want};
 use bitflags::Flags;
 use std::alloc::AllocError;
+use std::process::Abort;
 
 fn node(kind: Kind, owner: u32, group: u32, mode: u32) -> Attrs {
     Attrs {
@@ -90,50 +91,104 @@ fn at_most_32_ids_of_a_sort(rt: HostRuntime) -> Result<(), AllocError> {
     Ok(())
 }
 
-#[test]
-fn who_may(rt: HostRuntime) -> Result<(), Errno> {
-    let alloc = rt.alloc();
-    let root = Ids::new(alloc, &[0], &[])?;
-    let owner = Ids::new(alloc, &[1000], &[100])?;
-    let member = Ids::new(alloc, &[2000], &[100])?;
-    let other = Ids::new(alloc, &[2000], &[200])?;
-    let unknown = Ids::new(alloc, &[], &[])?;
-    let unknown_member = Ids::new(alloc, &[], &[100])?;
-    let table = [
-        // uid 0 may do all but execute a file that nobody may execute
-        (&root, Kind::File, 0o000, Want::Write, true),
-        (&root, Kind::File, 0o666, Want::Exec, false),
-        (&root, Kind::File, 0o130666, Want::Exec, false),
-        (&root, Kind::File, 0o001, Want::Exec, true),
-        (&root, Kind::Dir, 0o000, Want::Exec, true),
-        // the owner's bits decide, though others may more
-        (&owner, Kind::File, 0o077, Want::Read, false),
-        (&owner, Kind::File, 0o200, Want::Write, true),
-        (&owner, Kind::File, 0o200, Want::Read, false),
-        // the group's bits decide, though others may more
-        (&member, Kind::File, 0o707, Want::Write, false),
-        (&member, Kind::File, 0o070, Want::Exec, true),
-        (&other, Kind::File, 0o770, Want::Read, false),
-        (&other, Kind::File, 0o004, Want::Read, true),
-        // with no uid the unknown bits decide where the mode says so
-        (&unknown, Kind::File, 0o100777, Want::Read, false),
-        (&unknown, Kind::File, 0o140000, Want::Read, true),
-        (&unknown, Kind::File, 0o120000, Want::Write, true),
-        (&unknown, Kind::File, 0o110000, Want::Exec, true),
-        (&unknown, Kind::File, 0o070000, Want::Read, false),
-        (&unknown, Kind::File, 0o000004, Want::Read, true),
-        (&unknown_member, Kind::File, 0o100070, Want::Read, false),
-        (&unknown_member, Kind::File, 0o000070, Want::Read, true),
-        // and not where a uid is held
-        (&other, Kind::File, 0o170000, Want::Read, false),
-    ];
-    for (ids, kind, mode, want, allowed) in table {
+/// Whether these ids may do each of these with a node of uid 1000 and gid 100.
+fn may_each(rt: &impl Abort, ids: &Ids, rows: &[(Kind, u32, Want, bool)]) {
+    for &(kind, mode, want, allowed) in rows {
         assert_eq!(rt;
             ids.may(&node(kind, 1000, 100, mode), want),
             allowed,
             "{want:?} at {mode:o}"
         );
     }
+}
+
+#[test]
+fn uid_0_may_all_but_execute_what_nobody_may(rt: HostRuntime) -> Result<(), Errno> {
+    let root = Ids::new(rt.alloc(), &[0], &[])?;
+    may_each(
+        &rt,
+        &root,
+        &[
+            (Kind::File, 0o000, Want::Write, true),
+            (Kind::File, 0o666, Want::Exec, false),
+            (Kind::File, 0o130666, Want::Exec, false),
+            (Kind::File, 0o001, Want::Exec, true),
+            (Kind::Dir, 0o000, Want::Exec, true),
+        ],
+    );
+    Ok(())
+}
+
+#[test]
+fn the_owners_bits_decide_though_others_may_more(rt: HostRuntime) -> Result<(), Errno> {
+    let owner = Ids::new(rt.alloc(), &[1000], &[100])?;
+    may_each(
+        &rt,
+        &owner,
+        &[
+            (Kind::File, 0o077, Want::Read, false),
+            (Kind::File, 0o200, Want::Write, true),
+            (Kind::File, 0o200, Want::Read, false),
+        ],
+    );
+    Ok(())
+}
+
+#[test]
+fn the_groups_bits_decide_though_others_may_more(rt: HostRuntime) -> Result<(), Errno> {
+    let member = Ids::new(rt.alloc(), &[2000], &[100])?;
+    may_each(
+        &rt,
+        &member,
+        &[
+            (Kind::File, 0o707, Want::Write, false),
+            (Kind::File, 0o070, Want::Exec, true),
+        ],
+    );
+    Ok(())
+}
+
+#[test]
+fn the_others_bits_decide_for_all_who_hold_a_uid(rt: HostRuntime) -> Result<(), Errno> {
+    let other = Ids::new(rt.alloc(), &[2000], &[200])?;
+    may_each(
+        &rt,
+        &other,
+        &[
+            (Kind::File, 0o770, Want::Read, false),
+            (Kind::File, 0o004, Want::Read, true),
+            (Kind::File, 0o170000, Want::Read, false),
+        ],
+    );
+    Ok(())
+}
+
+#[test]
+fn with_no_uid_the_unknown_bits_decide_where_the_mode_says_so(
+    rt: HostRuntime,
+) -> Result<(), Errno> {
+    let unknown = Ids::new(rt.alloc(), &[], &[])?;
+    may_each(
+        &rt,
+        &unknown,
+        &[
+            (Kind::File, 0o100777, Want::Read, false),
+            (Kind::File, 0o140000, Want::Read, true),
+            (Kind::File, 0o120000, Want::Write, true),
+            (Kind::File, 0o110000, Want::Exec, true),
+            (Kind::File, 0o070000, Want::Read, false),
+            (Kind::File, 0o000004, Want::Read, true),
+        ],
+    );
+    let unknown_member = Ids::new(rt.alloc(), &[], &[100])?;
+    may_each(
+        &rt,
+        &unknown_member,
+        &[
+            (Kind::File, 0o100070, Want::Read, false),
+            (Kind::File, 0o000070, Want::Read, true),
+        ],
+    );
     Ok(())
 }
 
