@@ -79,13 +79,13 @@ module _ (N : NodeState) (H : PortState) (t : ℕ) (f : NewFile) where
       elim (room N H t 2) [
         | IsRefused k told asks ↦ absurd (cc)
         | HasRoom x at free told asks ↦ record {
-            task = x;
-            there = at;
-            free = free;
-            server = s.0;
-            home = s.1;
-            asks = ap asks_more asks ∙ ap (λ r. asks_home x r (home_at w f.dir)) m ∙ ap (asks_home x (Ok tt)) s.1;
-          }
+          task = x;
+          there = at;
+          free = free;
+          server = s.0;
+          home = s.1;
+          asks = ap asks_more asks ∙ ap (λ r. asks_home x r (home_at w f.dir)) m ∙ ap (asks_home x (Ok tt)) s.1;
+        }
       ]
 
   -- the task, once it has given the node's name

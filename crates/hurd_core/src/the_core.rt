@@ -18,7 +18,9 @@ ghost use Rattle.hurd_core.specs.Core.{Does, making_asks, making_open, room_asks
 ghost use Rattle.hurd_core.specs.File.{file_of};
 
 use crate::file::FileToMake;
-use hurd_creds::{Attrs, Bytes, Errno, Ids, Kind, NodeName, OpenFlags, OpenName, ServerName, TaskId};
+use hurd_creds::{
+    Attrs, Bytes, Errno, Ids, Kind, NodeName, OpenFlags, OpenName, ServerName, TaskId,
+};
 use hurd_machine::Handle;
 use hurd_nodes::Nodes;
 use hurd_ports::{Ports, Right};
@@ -183,7 +185,8 @@ impl<S: Server> Core<S> {
         let Some(name) = self.ports.next_name(task) else {
             return Err(Errno::ESRCH);
         };
-        self.nodes.make(alloc, file.dir, file.name, file.node(name))?;
+        self.nodes
+            .make(alloc, file.dir, file.name, file.node(name))?;
         self.ports.take_name(task);
         Ok(self.ports.fill(task, name, ids, modes))
     }
