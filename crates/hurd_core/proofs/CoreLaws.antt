@@ -1,39 +1,84 @@
 -- What becomes of one half of the world is what the machine's changes make of all of it.
-use Rattle.std.proofs.Common.{◌≡◌, ◌∙◌, ◌⊎◌, inl, inr, ℕ, ◌+◌, Bool, true, false, cond, List, Option, Some, None, refl, sym, ap, subst, slice_get, nat_lt, nat_le, arith}
-use Rattle.std.specs.Prelude.{Result, Ok, Err, is_ok, ◌&&◌, if◌then◌else◌}
+use Rattle.std.proofs.Common.{◌≡◌, ◌∙◌, inl, inr, ℕ, Bool, true, false, cond, List, [], ◌∷◌, ◌++◌, Option, Some, None, refl, sym, ap, subst, slice_get, true≢false}
+use Rattle.std.specs.Prelude.{Result, Ok, Err, is_ok, if◌then◌else◌}
+use Rattle.std.specs.FinMap.{retain_keys}
 use Rattle.hurd_creds.specs.declared.name.Name.{Name}
+use Rattle.hurd_creds.specs.declared.mode.Mode.{Mode}
 use Rattle.hurd_creds.specs.declared.errno.Errno.{Errno}
-use Rattle.hurd_creds.specs.declared.errno.Errno.TheVariants.{EBADF, ENOMEM, EOVERFLOW, ESRCH}
+use Rattle.hurd_creds.specs.declared.errno.Errno.TheVariants.{EBADF, EOVERFLOW, ESRCH}
 use Rattle.hurd_creds.specs.declared.open_flags.OpenFlags.{OpenFlags}
 use Rattle.hurd_creds.specs.Access.{IdSets}
-use Rattle.hurd_creds.specs.Memory.{Meets, Steps, is_no_memory}
-use Rattle.hurd_nodes.specs.Shown.{NodeState}
+use Rattle.hurd_creds.specs.Memory.{Steps, is_no_memory}
+use Rattle.hurd_trans_iface.specs.Nodes.{with_attrs}
+use Rattle.hurd_trans_iface.specs.Answers.{set_attrs_edits, edits_if}
+use Rattle.hurd_nodes.specs.Shown.{NodeState, with_edits, can_set_attrs, set_attrs_at}
 use Rattle.hurd_ports.specs.declared.table.Right.{Right}
-use Rattle.hurd_ports.specs.Tables.{PortState, Task, or_refuse, right_in, right_at, right_of, has_room, room_at, room_of}
-use Rattle.hurd_ports.specs.Steps.{with_new_port, deallocate_at, deallocate_step, dropped, insert_at, insert_step}
+use Rattle.hurd_nodes.specs.Settle as kept
+use Rattle.hurd_nodes.specs.Held as named_from
+use Rattle.hurd_nodes.specs.Held.{less_one}
+use Rattle.hurd_ports.specs.Tables.{PortState, Task, is_held, is_named, right_of, has_room, room_at, room_of}
+use Rattle.hurd_ports.specs.Steps.{named, new_right, with_new_port, deallocate_at, deallocate_step, dropped, edit_task, without_port, insert_at, insert_step}
 use Rattle.hurd_machine.specs.declared.call.Reply.TheVariants.{Done}
-use Rattle.hurd_machine.specs.World.{World, world_from, task_at}
-use Rattle.hurd_machine.specs.Change.{apply_all, dropping, opening}
-use Rattle.hurd_machine.specs.Plan.{Follows, Plan, answered, told, on, given, first}
-use Rattle.hurd_core.specs.Core.{Does, room_asks}
+use Rattle.hurd_machine.specs.World.{World, world_from}
+use Rattle.hurd_machine.specs.Change.{EditHeader, apply_all, dropping, opening}
+use Rattle.hurd_machine.specs.Plan.{Plan, Follows, answered, told, on, given}
+use Rattle.hurd_machine.proofs.Asks.{HasRight, has_right}
+use Rattle.hurd_machine.proofs.Holders.{named_by_right}
+use Rattle.hurd_machine.proofs.Tasks.{edit_here as task_here}
+use Rattle.hurd_core.specs.Core.{Does, HoldsRights, room_asks}
+use Rattle.hurd_core.proofs.HoldLaws.{held_named, holds_named, holds_opened, holds_dropped, settle_alike}
+
+-- owner, group and mode of a node set
+module _ (N : NodeState) (H : PortState) where
+  pub attrs-follow : (n : Name) (owner group : ℕ) (mode : Mode) (r : Result (Unit {0}) Errno) (M : NodeState) → (r, M) ≡ set_attrs_at n owner group mode N
+      → Follows (world_from N H) (answered (can_set_attrs n N) (λ u. record { reply = Done; changes = EditHeader n (with_attrs owner group mode) ∷ [] })) (told (λ u. Done) r) (world_from M H)
+  unfolding answered
+  attrs-follow n owner group mode r M e = by (can_set_attrs n N) e
+    where
+      by : (a : Result (Unit {0}) Errno) → ◌≡◌ {A = Result (Unit {0}) Errno × NodeState} (r, M) (a, with_edits (edits_if a (set_attrs_edits n owner group mode)) N)
+          → Follows (world_from N H) (answered a (λ u. record { reply = Done; changes = EditHeader n (with_attrs owner group mode) ∷ [] })) (told (λ u. Done) r) (world_from M H)
+      by (Err f) h = (ap (λ (z : Result (Unit {0}) Errno × NodeState). told (λ u. Done) z.0) h, ap (λ (z : Result (Unit {0}) Errno × NodeState). world_from z.1 H) h)
+      by (Ok u) h = (ap (λ (z : Result (Unit {0}) Errno × NodeState). told (λ u. Done) z.0) h, ap (λ (z : Result (Unit {0}) Errno × NodeState). world_from z.1 H) h)
 
 module _ (N : NodeState) (H : PortState) (t : ℕ) where
   abbrev w : World
   w = world_from N H
 
   -- a port given up
-  pub drop-follows : (p : ℕ) (r : Result (Unit {0}) Errno) (K : PortState) → (r, K) ≡ deallocate_step t p H
-      → Follows w (answered (right_of H t p) (λ q. record { reply = Done; changes = dropping t p })) (told (λ u. Done) r) (world_from N K)
-  unfolding answered
-  drop-follows p r K e = at (slice_get H.tasks t) e
-    where
-      leave : (o : Option Right) → (r, K) ≡ dropped H t p o → Follows w (answered (or_refuse EBADF o) (λ q. record { reply = Done; changes = dropping t p })) (told (λ u. Done) r) (world_from N K)
-      leave None h = (ap (λ (z : Result (Unit {0}) Errno × PortState). told (λ u. Done) z.0) h, ap (λ (z : Result (Unit {0}) Errno × PortState). world_from N z.1) h)
-      leave (Some q) h = (ap (λ (z : Result (Unit {0}) Errno × PortState). told (λ u. Done) z.0) h, ap (λ (z : Result (Unit {0}) Errno × PortState). world_from N z.1) h)
 
-      at : (o : Option Task) → (r, K) ≡ deallocate_at H t p o → Follows w (answered (right_at p o) (λ q. record { reply = Done; changes = dropping t p })) (told (λ u. Done) r) (world_from N K)
-      at None h = (ap (λ (z : Result (Unit {0}) Errno × PortState). told (λ u. Done) z.0) h, ap (λ (z : Result (Unit {0}) Errno × PortState). world_from N z.1) h)
-      at (Some x) h = leave (right_in p x.ports) h
+  abbrev drops : ℕ → Plan
+  drops p = answered (right_of H t p) (λ q. record { reply = Done; changes = dropping t p })
+
+  pub drop-refused : (p : ℕ) (e : Errno) → right_of H t p ≡ Err e → Follows w (drops p) (told (λ (u : Unit {0}). Done) (Err e)) w
+  unfolding answered
+  drop-refused p e is = rw is (refl, refl)
+
+  module _ (p : ℕ) (q : Right) (is : right_of H t p ≡ Ok q) where
+    has : HasRight w t p q
+    has = has_right w t p q is
+
+    abbrev fewer : PortState
+    fewer = record { opens = retain_keys H.opens (is_held (edit_task t (without_port p) H.tasks)); tasks = edit_task t (without_port p) H.tasks }
+
+    deallocated : deallocate_step t p H ≡ (Ok tt, fewer)
+    deallocated = ap (deallocate_at H t p) has.is_task ∙ ap (dropped H t p) has.under
+
+    pub drop-never : (e : Errno) (K : PortState) → (Err e, K) ≡ deallocate_step t p H → ⊥
+    drop-never e K answer = true≢false (sym (ap (λ (z : Result (Unit {0}) Errno × PortState). is_ok z.0) (answer ∙ deallocated)))
+
+    left : (r : Result (Unit {0}) Errno) (K : PortState) → (r, K) ≡ deallocate_step t p H → K ≡ fewer
+    left r K answer = ap (λ (z : Result (Unit {0}) Errno × PortState). z.1) (answer ∙ deallocated)
+
+    module _ (hs : List Name) (same : HoldsRights hs H.tasks) (r : Result (Unit {0}) Errno) (K : PortState) (answer : (r, K) ≡ deallocate_step t p H) where
+      pub drop-holds : HoldsRights (less_one q.node hs) K.tasks
+      drop-holds = subst (λ (z : PortState). HoldsRights (less_one q.node hs) z.tasks) (sym (left r K answer))
+          (holds_dropped hs H.tasks same t p has.seat q has.is_task has.under (named_by_right H.tasks t has.seat q has.is_task has.here))
+
+      pub drop-follows : (M : NodeState) → M ≡ kept.settle (named_from.is_held (less_one q.node hs)) N → Follows w (drops p) Done (world_from M K)
+      unfolding answered
+      drop-follows M after =
+          let settled : M ≡ kept.settle (is_named K.tasks) N = after ∙ settle_alike _ _ (held_named (less_one q.node hs) K.tasks drop-holds) N in
+          rw (is, settled, left r K answer) (refl, refl)
 
   -- the room of a task, asked of its tables and of the world: it has room, or both refuse alike
 
@@ -58,6 +103,19 @@ module _ (N : NodeState) (H : PortState) (t : ℕ) where
 
   pub room : (k : ℕ) → Room k
   room k = room_by k (slice_get H.tasks t) refl
+
+  -- a task without room is refused as the world refuses it, and one with room asks it
+  pub room-refused : (k : ℕ) (e : Errno) → room_of H t k ≡ Err e → room_asks w t k ≡ Err e
+  room-refused k e is = elim (room k) [
+    | IsRefused f full asks ↦ let same : f ≡ e = cc in asks ∙ ap Err same
+    | HasRoom x at full free asks ↦ absurd (cc)
+  ]
+
+  pub room-had : (k : ℕ) (u : Unit {0}) → room_of H t k ≡ Ok u → (x : Task) × (slice_get H.tasks t ≡ Some x) × (room_asks w t k ≡ Ok x)
+  room-had k u is = elim (room k) [
+    | IsRefused f full asks ↦ absurd (cc)
+    | HasRoom x at full free asks ↦ (x, at, asks)
+  ]
 
   -- a port opened
 
@@ -109,4 +167,28 @@ module _ (N : NodeState) (H : PortState) (t : ℕ) where
     open-does r K s = elim (room 1) [
       | IsRefused e full asks ↦ steps_refused e r K asks (subst (λ (z : Result ℕ Errno × PortState). Steps H z r K) (insert_by (slice_get H.tasks t) refl e full) s)
       | HasRoom x at e free asks ↦ steps_had x (new_ports x) r K asks (opened-world x at) (subst (λ (z : Result ℕ Errno × PortState). Steps H z r K) (insert-had x at e) s)
+    ]
+
+    opened_holds : (hs : List Name) → HoldsRights hs H.tasks → (x : Task) → slice_get H.tasks t ≡ Some x → HoldsRights (hs ++ n ∷ []) (new_ports x).tasks
+    opened_holds hs same x at =
+        holds_opened hs (edit_task t (named 1) H.tasks) (holds_named hs H.tasks same t 1 x at) t (named 1 x) (new_right t n ids x) (task_here t (named 1) H.tasks x at)
+
+    -- the node of the new port is held once more
+    pub open-holds : (hs : List Name) → HoldsRights hs H.tasks → (k : ℕ) (K : PortState) → Steps H (insert_step t n ids modes H) (Ok k) K → HoldsRights (hs ++ n ∷ []) K.tasks
+    open-holds hs same k K s = elim (room 1) [
+      | IsRefused e full asks ↦
+          let refused : Steps H (Err e, H) (Ok k) K = subst (λ (z : Result ℕ Errno × PortState). Steps H z (Ok k) K) (insert_by (slice_get H.tasks t) refl e full) s in
+          absurd (cc (refused.answered))
+      | HasRoom x at e free asks ↦
+          let had : Steps H (Ok x.next, new_ports x) (Ok k) K = subst (λ (z : Result ℕ Errno × PortState). Steps H z (Ok k) K) (insert-had x at e) s in
+          subst (λ (z : PortState). HoldsRights (hs ++ n ∷ []) z.tasks) (sym had.left) (opened_holds hs same x at)
+    ]
+
+    pub fill-holds : (hs : List Name) → HoldsRights hs H.tasks → (k : ℕ) (K : PortState) → insert_step t n ids modes H ≡ (Ok k, K) → HoldsRights (hs ++ n ∷ []) K.tasks
+    fill-holds hs same k K is = elim (room 1) [
+      | IsRefused e full asks ↦
+          let no : ◌≡◌ {A = Result ℕ Errno × PortState} (Err e, H) (Ok k, K) = sym (insert_by (slice_get H.tasks t) refl e full) ∙ is in
+          absurd (true≢false (sym (ap (λ (z : Result ℕ Errno × PortState). is_ok z.0) no)))
+      | HasRoom x at e free asks ↦
+          subst (λ (z : PortState). HoldsRights (hs ++ n ∷ []) z.tasks) (ap (λ (z : Result ℕ Errno × PortState). z.1) (sym (insert-had x at e) ∙ is)) (opened_holds hs same x at)
     ]

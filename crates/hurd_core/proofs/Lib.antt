@@ -1,3 +1,9 @@
+pub mod HoldLaws
 pub mod CoreLaws
 pub mod MakingLaws
+pub mod NamelessLaws
+pub mod DirLaws
+pub mod DirPieces
 pub mod PlanLaws
+pub mod UnlinkLaws
+pub mod RenameLaws

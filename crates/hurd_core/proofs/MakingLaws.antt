@@ -1,47 +1,44 @@
--- A file made and opened, half by half, is the machine's making.
-use Rattle.std.proofs.Common.{◌≡◌, ◌∙◌, inl, inr, ℕ, ◌+◌, Bool, true, false, cond, List, Option, Some, None, refl, sym, ap, subst, slice_get, nat_lt, nat_le, arith}
+-- A node made, and a file opened with it, half by half, is the machine's making.
+use Rattle.std.proofs.Common.{◌≡◌, ◌∙◌, inl, inr, ℕ, ◌+◌, Bool, true, List, [], ◌∷◌, Option, Some, None, refl, sym, ap, ap₂, subst, slice_get, nat_lt, nat_le, arith}
 use Rattle.std.specs.Prelude.{Result, Ok, Err, is_ok, ◌&&◌, if◌then◌else◌}
 use Rattle.std.specs.Option.{option_map}
 use Rattle.std.specs.FinMap.{get}
-use Rattle.std.proofs.lemmas.Bool.Decides.{nat_tests}
 use Rattle.hurd_creds.specs.declared.name.Name.{Name}
+use Rattle.hurd_creds.specs.declared.attrs.Kind.{Kind}
 use Rattle.hurd_creds.specs.declared.attrs.Kind.TheVariants.{File}
 use Rattle.hurd_creds.specs.declared.errno.Errno.{Errno}
 use Rattle.hurd_creds.specs.declared.errno.Errno.TheVariants.{EDIED, ENOMEM, EOVERFLOW, ESRCH}
 use Rattle.hurd_creds.specs.declared.open_flags.OpenFlags.{OpenFlags}
 use Rattle.hurd_creds.specs.Access.{IdSets}
-use Rattle.hurd_creds.specs.NameMaps.{NameMap}
-use Rattle.hurd_creds.specs.Memory.{Meets, Steps, is_no_memory}
+use Rattle.hurd_creds.specs.Memory.{Meets, Steps}
 use Rattle.hurd_trans_iface.specs.declared.new_node.NewNode.{NewNode}
-use Rattle.hurd_nodes.specs.Shown.{NodeState, ServerInfo, info_in, can_make, made_by, make_at, on_ok, with_home, with_made}
+use Rattle.hurd_trans_iface.specs.Nodes.{Node, edit_all, with_entry, new_file}
+use Rattle.hurd_trans_iface.specs.Answers.{added, made_node}
+use Rattle.hurd_nodes.specs.Shown.{NodeState, info_in, can_make, made_by, make_at, on_ok, with_home, with_made}
 use Rattle.hurd_ports.specs.Tables.{PortState, Task, or_refuse, fresh, has_room, room_at, room_of, u64_greatest}
 use Rattle.hurd_ports.specs.Steps.{named, insert_step, name_step, with_new_port}
 use Rattle.hurd_ports.proofs.TaskLaws.{edit-here}
 use Rattle.hurd_machine.specs.World.{World, world_from, home_at, makes_at}
-use Rattle.hurd_machine.specs.Change.{apply_all, opening}
-use Rattle.hurd_machine.specs.Plan.{on, given, first}
-use Rattle.hurd_core.specs.Core.{Does, NewFile, room_asks, making_asks, making, making_open}
-use Rattle.hurd_core.proofs.CoreLaws.{Room, IsRefused, HasRoom, room, insert-had}
-
--- the file as its server is asked for it
-abbrev pub asked_file : NewFile → Name → NewNode
-asked_file f n = record { name = n; kind = File; owner = f.owner; group = f.group; mode = f.mode }
+use Rattle.hurd_machine.specs.Change.{EditBody, MakeNode, apply_all, opening}
+use Rattle.hurd_machine.specs.Plan.{on, first}
+use Rattle.hurd_core.specs.Core.{Does, NewNodeAt, asked_node, making_asks, making_open}
+use Rattle.hurd_core.proofs.CoreLaws.{IsRefused, HasRoom, room, insert-had}
 
 -- where a node may be made in a directory, that has a server
-home_by : (h : NodeState) (d : Name) (name : List ℕ) (o : Option Name) → get h.homes d ≡ o → made_by name File (info_in h.servers o) (get h.nodes d) ≡ Ok tt → (s : Name) × (get h.homes d ≡ Some s)
-home_by h d name None at e = absurd (cc)
-home_by h d name (Some s) at e = (s, at)
+home_by : (h : NodeState) (d : Name) (name : List ℕ) (kind : Kind) (o : Option Name) → get h.homes d ≡ o → made_by name kind (info_in h.servers o) (get h.nodes d) ≡ Ok tt → (s : Name) × (get h.homes d ≡ Some s)
+home_by h d name kind None at e = absurd (cc)
+home_by h d name kind (Some s) at e = (s, at)
 
 -- of room for two names one is left when one is given
-less : (next made : ℕ) → (nat_lt next u64_greatest && nat_le (made + 2) u64_greatest) ≡ true → (nat_lt next u64_greatest && nat_le ((made + 1) + 1) u64_greatest) ≡ true
+pub less : (next made : ℕ) → (nat_lt next u64_greatest && nat_le (made + 2) u64_greatest) ≡ true → (nat_lt next u64_greatest && nat_le ((made + 1) + 1) u64_greatest) ≡ true
 less next made h = let e : (made + 1) + 1 ≡ made + 2 = omega arith in rw e h
 
-module _ (N : NodeState) (H : PortState) (t : ℕ) (f : NewFile) where
+module _ (N : NodeState) (H : PortState) (t : ℕ) (f : NewNodeAt) where
   abbrev w : World
   w = world_from N H
 
-  pub making-home : can_make f.dir f.name File N ≡ Ok tt → (s : Name) × (get N.homes f.dir ≡ Some s)
-  making-home e = home_by N f.dir f.name (get N.homes f.dir) refl e
+  pub making-home : (kind : Kind) → can_make f.dir f.name kind N ≡ Ok tt → (s : Name) × (get N.homes f.dir ≡ Some s)
+  making-home kind e = home_by N f.dir f.name kind (get N.homes f.dir) refl e
 
   asks_more : Result Task Errno → Result (Task × Name) Errno
   asks_more r = first r (λ x. first (makes_at w f.dir f.name File) (λ u. on EDIED (home_at w f.dir) (λ s. Ok (x, s))))
@@ -75,7 +72,7 @@ module _ (N : NodeState) (H : PortState) (t : ℕ) (f : NewFile) where
   pub makes : room_of H t 2 ≡ Ok tt → can_make f.dir f.name File N ≡ Ok tt → Makes
   unfolding first on asks_more asks_home
   makes h m =
-      let s = making-home m in
+      let s = making-home File m in
       elim (room N H t 2) [
         | IsRefused k told asks ↦ absurd (cc)
         | HasRoom x at free told asks ↦ record {
@@ -95,6 +92,17 @@ module _ (N : NodeState) (H : PortState) (t : ℕ) (f : NewFile) where
   pub named_there : (x : Task) → slice_get H.tasks t ≡ Some x → slice_get after_name.tasks t ≡ Some (named 1 x)
   named_there x at = edit-here t (named 1) H.tasks ∙ ap (option_map (named 1)) at
 
+  -- the halves after the making are the world after it
+  module _ (kind : Kind) (n s : Name) (home : get N.homes f.dir ≡ Some s) (node : Node) (is : made_node f.dir (asked_node kind f n) ≡ Some node) where
+    abbrev made : Option Node → Option Name → NodeState
+    made x o = record N { nodes = edit_all (added f.dir f.name n x) N.nodes; homes = with_home n o N.homes }
+
+    pub made-nodes : (M : NodeState) → M ≡ with_made f.dir f.name (asked_node kind f n) N → n.task.0 ≡ t → world_from M after_name ≡ apply_all (MakeNode n s node ∷ EditBody f.dir (with_entry f.name n) ∷ []) w
+    made-nodes M e own =
+        ap (λ (z : NodeState). world_from z after_name) e
+        ∙ ap₂ (λ (x : Option Node) (o : Option Name). world_from (made x o) after_name) is home
+        ∙ ap (λ (q : ℕ). world_from (made (Some node) (Some s)) (name_step q H)) (sym own)
+
   -- with room for two names there is still room for one when one is given
   pub room-left : (x : Task) → slice_get H.tasks t ≡ Some x → has_room 2 x ≡ true → room_of after_name t 1 ≡ Ok tt
   room-left x at h =
@@ -109,17 +117,14 @@ module _ (N : NodeState) (H : PortState) (t : ℕ) (f : NewFile) where
     abbrev n : Name
     n = fresh t m.task
 
-    made-nodes : (M : NodeState) → M ≡ with_made f.dir f.name (asked_file f n) N → world_from M after_name ≡ apply_all (making t m.task m.server f) w
-    made-nodes M e = ap (λ (z : NodeState). world_from z after_name) e ∙ ap (λ (o : Option Name). world_from (record (with_made f.dir f.name (asked_file f n) N) { homes = with_home n o N.homes }) after_name) m.home
-
-    pub made-opened : (M : NodeState) (K : PortState) (k : ℕ) → M ≡ with_made f.dir f.name (asked_file f n) N → insert_step t n ids modes after_name ≡ (Ok k, K)
+    pub made-opened : (M : NodeState) (K : PortState) (k : ℕ) → M ≡ with_made f.dir f.name (asked_node File f n) N → insert_step t n ids modes after_name ≡ (Ok k, K)
         → Does w (making_asks w t f) (making_open t f ids modes) (λ a. a.0.next) (Ok k) (world_from M K)
     made-opened M K k e inserted =
         let free : has_room 1 (named 1 m.task) ≡ true = less m.task.next m.task.made m.free in
         let is = sym inserted ∙ insert-had M after_name t n ids modes (named 1 m.task) (named_there m.task m.there) free in
         let number : Ok k ≡ Ok m.task.next = ap (λ (z : Result ℕ Errno × PortState). z.0) is in
         let ports : K ≡ with_new_port t n ids modes (named 1 m.task) after_name = ap (λ (z : Result ℕ Errno × PortState). z.1) is in
-        ((m.task, m.server), m.asks, cc number, ap (world_from M) ports ∙ ap (apply_all (opening t (named 1 m.task) n ids modes)) (made-nodes M e))
+        ((m.task, m.server), m.asks, cc number, ap (world_from M) ports ∙ ap (apply_all (opening t (named 1 m.task) n ids modes)) (made-nodes File n m.server m.home (new_file f.owner f.group f.mode) refl M e refl))
 
   -- a making that finds no memory changes nothing
   pub lacks-memory : Makes → (e : Errno) (y : World) → y ≡ w → e ≡ ENOMEM → (ids : IdSets) (modes : OpenFlags) → Does w (making_asks w t f) (making_open t f ids modes) (λ a. a.0.next) (Err e) y
@@ -130,11 +135,11 @@ module _ (N : NodeState) (H : PortState) (t : ℕ) (f : NewFile) where
   reserve-lacks x e at (inl is) = let there : Ok (tt {0}) ≡ Err e = sym (ap (λ (o : Option Task). or_refuse ESRCH (option_map (λ (y : Task). tt {0}) o)) at) ∙ is in absurd (cc)
   reserve-lacks x e at (inr lacks) = lacks.0
 
-  -- and where the server lets the file be made
-  pub make-lacks : (name : Name) (new : NewNode) (e : Errno) (M : NodeState) → can_make f.dir f.name File N ≡ Ok tt → new ≡ asked_file f name → Steps N (make_at f.dir f.name new N) (Err e) M → (e ≡ ENOMEM) × (M ≡ N)
-  make-lacks name new e M m asked s = go (subst (λ (z : NewNode). Steps N (make_at f.dir f.name z N) (Err e) M) asked s)
+  -- and where the server lets the node be made
+  pub make-lacks : (kind : Kind) (name : Name) (new : NewNode) (e : Errno) (M : NodeState) → can_make f.dir f.name kind N ≡ Ok tt → new ≡ asked_node kind f name → Steps N (make_at f.dir f.name new N) (Err e) M → (e ≡ ENOMEM) × (M ≡ N)
+  make-lacks kind name new e M m asked s = go (subst (λ (z : NewNode). Steps N (make_at f.dir f.name z N) (Err e) M) asked s)
     where
-      go : Steps N (make_at f.dir f.name (asked_file f name) N) (Err e) M → (e ≡ ENOMEM) × (M ≡ N)
+      go : Steps N (make_at f.dir f.name (asked_node kind f name) N) (Err e) M → (e ≡ ENOMEM) × (M ≡ N)
       go steps = elim steps.answered [
         | inl is ↦ absurd (cc (m, is))
         | inr lacks ↦ (lacks.0, steps.left ∙ rw lacks.0 refl)
@@ -145,15 +150,15 @@ module _ (N : NodeState) (H : PortState) (t : ℕ) (f : NewFile) where
 
   -- all of it: the name that is next, the node made under it, the name given, and the port put in
   pub file-made : (ids : IdSets) (modes : OpenFlags) (G L K : PortState) (M : NodeState) (name : Name) (new : NewNode) (k : ℕ) → room_of H t 2 ≡ Ok tt → can_make f.dir f.name File N ≡ Ok tt → G ≡ H
-      → Some name ≡ option_map (fresh t) (slice_get G.tasks t) → new ≡ asked_file f name → Steps N (make_at f.dir f.name new N) (Ok tt) M → L ≡ name_step t G → insert_step t name ids modes L ≡ (Ok k, K)
+      → Some name ≡ option_map (fresh t) (slice_get G.tasks t) → new ≡ asked_node File f name → Steps N (make_at f.dir f.name new N) (Ok tt) M → L ≡ name_step t G → insert_step t name ids modes L ≡ (Ok k, K)
       → Does w (making_asks w t f) (making_open t f ids modes) (λ a. a.0.next) (Ok k) (world_from M K)
   file-made ids modes G L K M name new k h may kept next asked steps gave inserted =
       let m = makes h may in
       let is : Some name ≡ Some (fresh t m.task) = next ∙ ap (λ (z : PortState). option_map (fresh t) (slice_get z.tasks t)) kept ∙ ap (option_map (fresh t)) m.there in
       let same : name ≡ fresh t m.task = cc in
-      let wanted : new ≡ asked_file f (fresh t m.task) = asked ∙ ap (asked_file f) same in
-      let made : M ≡ with_made f.dir f.name (asked_file f (fresh t m.task)) N =
-      make-done (asked_file f (fresh t m.task)) M may (subst (λ (z : NewNode). Steps N (make_at f.dir f.name z N) (Ok tt) M) wanted steps) in
+      let wanted : new ≡ asked_node File f (fresh t m.task) = asked ∙ ap (asked_node File f) same in
+      let made : M ≡ with_made f.dir f.name (asked_node File f (fresh t m.task)) N =
+      make-done (asked_node File f (fresh t m.task)) M may (subst (λ (z : NewNode). Steps N (make_at f.dir f.name z N) (Ok tt) M) wanted steps) in
       let ports : L ≡ after_name = gave ∙ ap (name_step t) kept in
       let put : insert_step t (fresh t m.task) ids modes after_name ≡ (Ok k, K) =
       ap (λ (n : Name). insert_step t n ids modes after_name) (sym same) ∙ ap (insert_step t name ids modes) (sym ports) ∙ inserted in

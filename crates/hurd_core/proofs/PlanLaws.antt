@@ -1,13 +1,14 @@
 -- When a row's answer, and the world that it leaves, are those of its plan.
-use Rattle.std.proofs.Common.{◌≡◌, ◌∙◌, inl, inr, false, true, true≢false, List, sym, refl, ap, subst}
+use Rattle.std.proofs.Common.{◌≡◌, ◌∙◌, inl, inr, false, true≢false, List, sym, refl, ap, subst}
 use Rattle.std.specs.Prelude.{Result, Ok, Err, IsOk}
 use Rattle.hurd_creds.specs.declared.errno.Errno.{Errno}
 use Rattle.hurd_creds.specs.declared.errno.Errno.TheVariants.{ENOMEM}
 use Rattle.hurd_creds.specs.Memory.{Meets}
 use Rattle.hurd_machine.specs.declared.call.Reply.{Reply}
+use Rattle.hurd_machine.specs.declared.call.Reply.TheVariants.{Refused}
 use Rattle.hurd_machine.specs.World.{World}
 use Rattle.hurd_machine.specs.Change.{Change, apply_all}
-use Rattle.hurd_machine.specs.Plan.{Plan, Planned, after_plan, answered, is_refused}
+use Rattle.hurd_machine.specs.Plan.{Plan, Planned, Follows, after_plan, answered, looks, is_refused, told}
 use Rattle.hurd_core.specs.Core.{Does}
 
 module _ {A T : Type 0} (w : World) (asks : Result A Errno) (k : A → Plan) (f : T → Reply) where
@@ -47,3 +48,27 @@ does-planned {A} {T} w asks changes answer k f (Err e) y same free d = subst (λ
 pub planned-then : {A T : Type 0} (w : World) (asks : Result A Errno) (k : A → Plan) (f : T → Reply) (a : A) (r : Result T Errno) (y : World) → asks ≡ Ok a → Planned w (k a) f r y → Planned w (answered asks k) f r y
 unfolding answered
 planned-then {A} w asks k f a r y is h = subst (λ (q : Result A Errno). Planned w (answered q k) f r y) (sym is) h
+
+-- of a call that takes no memory
+
+module _ {A : Type 0} (w : World) (asks : Result A Errno) (k : A → Plan) where
+  -- what is asked is refused
+  pub follows-refused : (e : Errno) → asks ≡ Err e → Follows w (answered asks k) (Refused e) w
+  unfolding answered
+  follows-refused e is = subst (λ (q : Result A Errno). Follows w (answered q k) (Refused e) w) (sym is) (refl, refl)
+
+  -- the plan that follows from an answer is the plan, and the other way round
+  module _ (a : A) (r : Reply) (y : World) (is : asks ≡ Ok a) where
+    pub follows-then : Follows w (k a) r y → Follows w (answered asks k) r y
+    unfolding answered
+    follows-then h = subst (λ (q : Result A Errno). Follows w (answered q k) r y) (sym is) h
+
+    pub follows-from : Follows w (answered asks k) r y → Follows w (k a) r y
+    unfolding answered
+    follows-from h = subst (λ (q : Result A Errno). Follows w (answered q k) r y) is h
+
+-- a call that changes nothing answers what follows from the answers
+pub looked-follows : {A : Type 0} (w : World) (asks : Result A Errno) (reply : A → Reply) (r : Reply) → r ≡ told reply asks → Follows w (looks asks reply) r w
+unfolding answered
+looked-follows w (Ok a) reply r is = (is, refl)
+looked-follows w (Err e) reply r is = (is, refl)

@@ -1,21 +1,27 @@
 -- The core that the code holds, the world that it stands for, and what its methods owe.
-use Rattle.std.specs.Prelude.{◌≡◌, ◌⊎◌, ℕ, List, [], ◌∷◌, ◌++◌, Result, Ok, Err, IsOk, refl}
+use Rattle.std.specs.Prelude.{◌≡◌, ◌⊎◌, ℕ, List, [], ◌∷◌, ◌++◌, Some, Result, Ok, Err, IsOk, refl}
 use Rattle.std.specs.Coded.{Coded, code_by, coded×}
 use Rattle.hurd_creds.specs.declared.name.Name.{Name}
 use Rattle.hurd_creds.specs.declared.mode.Mode.{Mode}
 use Rattle.hurd_creds.specs.declared.open_flags.OpenFlags.{OpenFlags}
-use Rattle.hurd_creds.specs.declared.attrs.Kind.TheVariants.{File}
+use Rattle.hurd_creds.specs.declared.attrs.Kind.{Kind}
+use Rattle.hurd_creds.specs.declared.attrs.Kind.TheVariants.{File, Dir}
 use Rattle.hurd_creds.specs.declared.errno.Errno.{Errno}
 use Rattle.hurd_creds.specs.declared.errno.Errno.TheVariants.{EDIED, ENOMEM, EOVERFLOW, ESRCH}
 use Rattle.hurd_creds.specs.Access.{IdSets}
-use Rattle.hurd_trans_iface.specs.Nodes.{with_entry, new_file}
+use Rattle.hurd_trans_iface.specs.Nodes.{Node, with_entry, new_file, nameless_file, new_dir}
+use Rattle.hurd_trans_iface.specs.declared.new_node.NewNode.{NewNode}
+use Rattle.hurd_creds.specs.Names.{same_name}
 use Rattle.hurd_trans_iface.specs.Meaning.{Meaning}
-use Rattle.hurd_nodes.specs.Shown.{Held, coded_held, shown}
-use Rattle.hurd_ports.specs.Tables.{Task, Tables, coded_tables, fresh, has_room}
+use Rattle.hurd_nodes.specs.Held.{Held, coded_held}
+use Rattle.hurd_nodes.specs.Shown.{shown, unlink_edits_at, can_make_nameless, rename_edits_at}
+use Rattle.hurd_ports.specs.Tables.{Task, Tables, coded_tables, fresh, can_name, has_room, names_node}
 use Rattle.hurd_ports.specs.Steps.{named}
-use Rattle.hurd_machine.specs.World.{World, world_from, task_at, home_at, makes_at}
-use Rattle.hurd_machine.specs.Change.{Change, MakeNode, EditBody, opening, apply_all}
+use Rattle.hurd_machine.specs.World.{World, world_from, nodes_of, task_at, home_at, makes_at}
+use Rattle.hurd_machine.specs.Change.{Change, MakeNode, EditBody, Settle, opening, apply_all, changes_of}
 use Rattle.hurd_machine.specs.Plan.{on, given, first}
+use Rattle.hurd_machine.specs.Sight.{count_list, count_rights}
+use Rattle.hurd_core.specs.declared.to_make.NamelessToMake.{NamelessToMake}
 
 -- servers with their nodes, and tables of ports
 pub record Whole (S : Type 0) : Type 0 where
@@ -24,6 +30,10 @@ pub record Whole (S : Type 0) : Type 0 where
 
 abbrev pub coded_whole : {S : Type 0} → Coded S → Coded (Whole S)
 coded_whole {S} c = code_by (Held S × Tables) (coded× (coded_held c) coded_tables) (λ h. (h.nodes, h.ports)) (λ p. record { nodes = p.0; ports = p.1 }) (λ _. refl)
+
+-- a node is held once for each right on it
+abbrev pub HoldsRights : List Name → List Task → Type 0
+HoldsRights holds tasks = (n : Name) → count_list (λ m. same_name n m) holds ≡ count_rights (names_node n) tasks
 
 -- the world that these stand for, where each server means this
 abbrev pub world_of : {S : Type 0} → (S → Meaning) → Whole S → World
@@ -39,25 +49,74 @@ Does w asks changes answer (Err e) y = (y ≡ w) × ((asks ≡ Err e) ⊎ ((e �
 abbrev pub room_asks : World → ℕ → ℕ → Result Task Errno
 room_asks w t names = on ESRCH (task_at w t) (λ x. given EOVERFLOW (has_room names x) (Ok x))
 
--- a file that is to be made: in which directory, under which name, and whose it is
-pub record NewFile : Type 0 where
+-- a task that can name so many things more: ESRCH, EOVERFLOW
+abbrev pub naming_asks : World → ℕ → ℕ → Result Task Errno
+naming_asks w t names = on ESRCH (task_at w t) (λ x. given EOVERFLOW (can_name names x) (Ok x))
+
+-- a node that is to be made: in which directory, under which name, and whose it is
+pub record NewNodeAt : Type 0 where
   pub dir : Name
   pub name : List ℕ
   pub owner : ℕ
   pub group : ℕ
   pub mode : Mode
 
--- the task that makes a file, and the server of its directory, which lets it be made
-abbrev pub making_asks : World → ℕ → NewFile → Result (Task × Name) Errno
+-- the node as its server is asked for it, under this name
+abbrev pub asked_node : Kind → NewNodeAt → Name → NewNode
+asked_node kind f n = record { name = n; kind = kind; owner = f.owner; group = f.group; mode = f.mode }
+
+-- task t, which stands as x, makes a node of this server
+abbrev pub making : ℕ → Task → Name → NewNodeAt → Node → List Change
+making t x s f node = MakeNode (fresh t x) s node ∷ EditBody f.dir (with_entry f.name (fresh t x)) ∷ []
+
+-- the task that makes a file and opens it, and the server of its directory, which lets it be made
+abbrev pub making_asks : World → ℕ → NewNodeAt → Result (Task × Name) Errno
 making_asks w t f =
     first (room_asks w t 2) (λ x.
     first (makes_at w f.dir f.name File) (λ u.
     on EDIED (home_at w f.dir) (λ s. Ok (x, s))))
 
--- task t, which stands as x, makes a file of this server
-abbrev pub making : ℕ → Task → Name → NewFile → List Change
-making t x s f = MakeNode (fresh t x) s (new_file f.owner f.group f.mode) ∷ EditBody f.dir (with_entry f.name (fresh t x)) ∷ []
+abbrev pub making_open : ℕ → NewNodeAt → IdSets → OpenFlags → Task × Name → List Change
+making_open t f ids modes a = making t a.0 a.1 f (new_file f.owner f.group f.mode) ++ opening t (named 1 a.0) (fresh t a.0) ids modes
 
--- and opens it
-abbrev pub making_open : ℕ → NewFile → IdSets → OpenFlags → Task × Name → List Change
-making_open t f ids modes a = making t a.0 a.1 f ++ opening t (named 1 a.0) (fresh t a.0) ids modes
+-- the task that makes a directory, which needs a name and no port, and the server of the directory above it, which lets it be made
+abbrev pub making_dir_asks : World → ℕ → NewNodeAt → Result (Task × Name) Errno
+making_dir_asks w t f =
+    first (makes_at w f.dir f.name Dir) (λ u.
+    first (naming_asks w t 1) (λ x.
+    on EDIED (home_at w f.dir) (λ s. Ok (x, s))))
+
+abbrev pub making_dir : ℕ → NewNodeAt → Task × Name → List Change
+making_dir t f a = making t a.0 a.1 f (new_dir f.owner f.group f.mode (Some f.dir))
+
+-- an entry taken out of a directory: its server changes nodes of its own, and what nothing names then goes
+abbrev pub unlinking : World → Name → List ℕ → List Change
+unlinking w d name = changes_of (unlink_edits_at d name (nodes_of w)) ++ Settle ∷ []
+
+-- a file that no entry names, as its server is asked for it under this name
+abbrev pub asked_nameless : NamelessToMake → Name → NewNode
+asked_nameless f n = record { name = n; kind = File; owner = f.owner; group = f.group; mode = f.mode }
+
+-- whether one may be made, of the server of a node that is there
+abbrev pub nameless_asks : World → Name → Result (Unit {0}) Errno
+nameless_asks w d = can_make_nameless d File (nodes_of w)
+
+-- the task that makes it and opens it, and that server
+abbrev pub making_nameless_asks : World → ℕ → Name → Result (Task × Name) Errno
+making_nameless_asks w t d =
+    first (room_asks w t 2) (λ x.
+    first (nameless_asks w d) (λ u.
+    on EDIED (home_at w d) (λ s. Ok (x, s))))
+
+-- whether something is answered, whatever it is
+abbrev pub asked_only : {A : Type 0} → Result A Errno → Result (Unit {0}) Errno
+asked_only (Ok a) = Ok tt
+asked_only (Err e) = Err e
+
+-- the file made, and opened
+abbrev pub making_nameless : ℕ → NamelessToMake → IdSets → OpenFlags → Task × Name → List Change
+making_nameless t f ids modes a = MakeNode (fresh t a.0) a.1 (nameless_file f.owner f.group f.mode) ∷ opening t (named 1 a.0) (fresh t a.0) ids modes
+
+-- what a server does where an entry goes to another of its directories, and that what nothing keeps then goes
+abbrev pub renaming : World → Name → List ℕ → Name → List ℕ → List Change
+renaming w d name e new = changes_of (rename_edits_at d name e new (nodes_of w)) ++ Settle ∷ []

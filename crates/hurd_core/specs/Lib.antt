@@ -1,2 +1,3 @@
 pub mod Core
-pub mod File
+pub mod ToMake
+pub mod PortNode

@@ -6,8 +6,10 @@
 //! It decides nothing: what may be asked and changed is in the plan of each call.
 #![tactic(auto)]
 
-mod file;
+mod port_node;
 mod the_core;
+mod to_make;
 
-pub use file::FileToMake;
+pub use port_node::PortNode;
 pub use the_core::Core;
+pub use to_make::{NamelessToMake, NodeToMake};

@@ -1,25 +1,27 @@
 //! The core.
-ghost use Rattle.std.specs.Prelude.{◌≡◌, Ok};
+ghost use Rattle.std.specs.Prelude.{◌≡◌, [], ◌∷◌, Ok, IfOk};
 ghost use Rattle.std.specs.Option.{option_map};
 ghost use Rattle.std.specs.FinMap as fin;
 ghost use Rattle.hurd_creds.specs.Memory.{Meets};
-ghost use Rattle.hurd_trans_iface.specs.Nodes.{attrs_of};
+ghost use Rattle.hurd_trans_iface.specs.Nodes.{attrs_of, linked, with_attrs, with_entry};
 ghost use Rattle.hurd_trans_iface.specs.Answers.{entry_of, names_of};
 ghost use Rattle.hurd_trans_iface.specs.Behaviour.{edits_of, reading, writing, resizing};
-ghost use Rattle.hurd_nodes.specs.Shown.{shown, header_in};
+ghost use Rattle.hurd_nodes.specs.Shown.{are_kin, shown, header_in, tree_by};
 ghost use Rattle.hurd_ports.specs.Tables.{lent, right_of, room_of};
 ghost use Rattle.hurd_ports.specs.Steps.{at_cursor};
-ghost use Rattle.hurd_machine.specs.World.{world_from, ports_of, asked_at, body_at, header_at, home_at, is_server_root, makes_at};
-ghost use Rattle.hurd_machine.specs.Change.{EditOpen, apply, changes_of, dropping, opening};
+ghost use Rattle.hurd_machine.specs.World.{world_from, ports_of, asked_at, body_at, header_at, home_at, info_at, is_removed, is_server_root, links_at, makes_at, renames_at, sets_attrs_at, unlinks_at};
+ghost use Rattle.hurd_machine.specs.Change.{EditBody, EditHeader, EditOpen, apply, changes_of, dropping, opening};
 ghost use Rattle.hurd_machine.specs.Plan.{Follows, answered, told};
-ghost use Rattle.hurd_machine.specs.Handle.{handle_asks};
+ghost use Rattle.hurd_machine.specs.Handle.{port_asks, handle_asks};
 ghost use Rattle.hurd_machine.specs.declared.call.Reply.TheVariants.{Done};
-ghost use Rattle.hurd_core.specs.Core.{Does, making_asks, making_open, room_asks, world_of};
-ghost use Rattle.hurd_core.specs.File.{file_of};
+ghost use Rattle.hurd_core.specs.Core.{Does, HoldsRights, making_asks, making_dir, making_dir_asks, making_open, room_asks, unlinking, world_of, asked_only, making_nameless, making_nameless_asks, renaming};
+ghost use Rattle.hurd_core.specs.ToMake.{new_node_of};
+ghost use Rattle.hurd_core.specs.PortNode.{IsTold, named};
 
-use crate::file::FileToMake;
+use crate::port_node::PortNode;
+use crate::to_make::{NamelessToMake, NodeToMake};
 use hurd_creds::{
-    Attrs, Bytes, Errno, Ids, Kind, NodeName, OpenFlags, OpenName, ServerName, TaskId,
+    Attrs, Bytes, Errno, Ids, Kind, Mode, NodeName, OpenFlags, OpenName, ServerName, TaskId,
 };
 use hurd_machine::Handle;
 use hurd_nodes::Nodes;
@@ -28,7 +30,7 @@ use hurd_trans_iface::{Names, NewNode, Server};
 use std::alloc::Global;
 use std::marker::Model;
 
-/// Servers with their nodes, and the ports of tasks.
+/// Servers with their nodes, and the ports of tasks. A node is held once for each right on it.
 #[derive(Drop)]
 pub struct Core<S = Box<dyn Server>> {
     nodes: Nodes<S>,
@@ -36,18 +38,21 @@ pub struct Core<S = Box<dyn Server>> {
 }
 
 impl<S> Model for Core<S> {
-    ghost use Rattle.hurd_core.specs.Core.{Whole, coded_whole};
+    ghost use Rattle.hurd_core.specs.Core.{Whole, coded_whole, HoldsRights};
 
     ghost Value = { Whole S };
 
     ghost coded = { coded_whole S.code };
 
     ghost view = { λ c. record { nodes = c.nodes; ports = c.ports } };
+
+    ghost invariant = { λ c. HoldsRights c.nodes.holds c.ports.state.tasks };
 }
 
 impl<S: Server> Core<S> {
-    /// These nodes, and these ports.
+    /// These nodes, and these ports; each node is held once for each right on it.
     pub fn new(nodes: Nodes<S>, ports: Ports) -> Core<S>
+        requires { HoldsRights nodes.holds ports.state.tasks }
         ensures { world_of S.meaning result ≡ world_from (shown S.meaning nodes) ports.state }
     {
         Core { nodes, ports }
@@ -62,6 +67,21 @@ impl<S: Server> Core<S> {
         ensures { lent result ≡ right_of (ports_of (world_of S.meaning self.now)) task.0 port }
     {
         self.ports.right(task, port)
+    }
+
+    /// The right of a task under a number, with the attributes of its node.
+    ///
+    /// Errors, in order: `ESRCH` no such task, `EBADF` no such port, `EDIED` no such node.
+    #[tactic(auto, unfolding(hurd_machine::specs::Plan::on, hurd_machine::specs::Plan::first))]
+    pub fn port_node(&self, task: TaskId, port: u64) -> Result<PortNode, Errno>
+        ensures is { named result ≡ port_asks (world_of S.meaning self.now) task.0 port }
+        ensures told { IfOk result IsTold }
+    {
+        let right = self.ports.right(task, port)?;
+        let Some(attrs) = self.nodes.attrs(right.node) else {
+            return Err(Errno::EDIED);
+        };
+        Ok(PortNode { right, attrs })
     }
 
     /// What a port has open, if that was opened for this.
@@ -121,6 +141,27 @@ impl<S: Server> Core<S> {
         self.nodes.is_root(node)
     }
 
+    /// Whether the server of a node keeps a tree.
+    pub fn keeps_tree(&self, node: NodeName) -> bool
+        ensures { result ≡ tree_by (info_at (world_of S.meaning self.now) node) }
+    {
+        self.nodes.keeps_tree(node)
+    }
+
+    /// Whether a directory of these attributes is removed: it has no parent, and is no server's root.
+    pub fn is_removed(&self, dir: NodeName, attrs: &Attrs) -> bool
+        ensures { result ≡ is_removed (world_of S.meaning self.now) dir (header_in attrs.now) }
+    {
+        !self.is_root(dir) && attrs.parent.is_none()
+    }
+
+    /// Whether two nodes are of one server.
+    pub fn are_kin(&self, node: NodeName, other: NodeName) -> bool
+        ensures { let w = world_of S.meaning self.now in result ≡ are_kin (home_at w node) (home_at w other) }
+    {
+        self.nodes.are_kin(node, other)
+    }
+
     /// The node of this name in a directory.
     pub fn step(&self, dir: NodeName, name: &[u8]) -> Option<NodeName>
         ensures { result ≡ entry_of name.now (body_at (world_of S.meaning self.now) dir) }
@@ -146,6 +187,35 @@ impl<S: Server> Core<S> {
         self.nodes.can_make(dir, name, kind)
     }
 
+    /// Whether a task can make a file that no entry names, and open it.
+    ///
+    /// Errors, in order: `ESRCH` no such task, `EOVERFLOW`, `EDIED` no such node, `EROFS` its server keeps no tree.
+    pub fn can_make_nameless(&self, task: TaskId, file: &NamelessToMake) -> Result<(), Errno>
+        ensures { result ≡ asked_only (making_nameless_asks (world_of S.meaning self.now) task.0 file.now.dir) }
+    {
+        self.ports.room(task, 2)?;
+        self.nodes.can_make_nameless(file.dir, Kind::File)
+    }
+
+    /// Whether a file may get another name in a directory.
+    ///
+    /// Errors, in order: `EDIED` no such directory, `ENOTDIR`, `EROFS` its server keeps no tree, `EDIED` no such node, `EXDEV` one of another server, `EISDIR`, `EEXIST`,
+    /// `EOVERFLOW` it has 4,294,967,295 links.
+    pub fn can_link(&self, dir: NodeName, name: &[u8], node: NodeName) -> Result<(), Errno>
+        ensures { result ≡ links_at (world_of S.meaning self.now) dir name.now node }
+    {
+        self.nodes.can_link(dir, name, node)
+    }
+
+    /// Whether the owner, the group and the mode of a node may be set.
+    ///
+    /// Errors, in order: `EDIED` no such node, `EOPNOTSUPP` its server keeps no tree.
+    pub fn can_set_attrs(&self, node: NodeName) -> Result<(), Errno>
+        ensures { result ≡ sets_attrs_at (world_of S.meaning self.now) node }
+    {
+        self.nodes.can_set_attrs(node)
+    }
+
     // What a call changes.
 
     /// Opens a node: a port of the task with these ids and an open of its own, under the task's next number.
@@ -161,7 +231,11 @@ impl<S: Server> Core<S> {
         ensures { let w = world_of S.meaning self.old in
             Does w (room_asks w task.0 1) (λ x. opening task.0 x node ids modes) (λ x. x.next) result (world_of S.meaning self.new) }
     {
-        self.ports.insert(task, node, ids, modes)
+        self.ports.room(task, 1)?;
+        self.nodes.reserve_hold()?;
+        let port = self.ports.insert(task, node, ids, modes)?;
+        self.nodes.hold(node);
+        Ok(port)
     }
 
     /// Makes a file in a directory, and opens it as `open` does.
@@ -171,27 +245,77 @@ impl<S: Server> Core<S> {
         &mut self,
         alloc: Global,
         task: TaskId,
-        file: FileToMake,
+        file: NodeToMake,
         ids: Ids,
         modes: OpenFlags,
     ) -> Result<u64, Errno>
         ensures { let w = world_of S.meaning self.old in
-            Does w (making_asks w task.0 (file_of file.entry)) (making_open task.0 (file_of file.entry) ids modes) (λ a. a.0.next)
+            Does w (making_asks w task.0 (new_node_of file.entry)) (making_open task.0 (new_node_of file.entry) ids modes) (λ a. a.0.next)
             result (world_of S.meaning self.new) }
     {
         self.ports.room(task, 2)?;
         self.nodes.can_make(file.dir, file.name, Kind::File)?;
         self.ports.reserve(task)?;
+        self.nodes.reserve_hold()?;
         let Some(name) = self.ports.next_name(task) else {
             return Err(Errno::ESRCH);
         };
         self.nodes
-            .make(alloc, file.dir, file.name, file.node(name))?;
+            .make(alloc, file.dir, file.name, file.node(Kind::File, name))?;
         self.ports.take_name(task);
-        Ok(self.ports.fill(task, name, ids, modes))
+        let port = self.ports.fill(task, name, ids, modes);
+        self.nodes.hold(name);
+        Ok(port)
     }
 
-    /// Gives up a port; its open goes where no other right names it. Takes no memory.
+    /// Makes a file that no entry names, of the server of a node, and opens it as `open` does.
+    ///
+    /// Errors, in order: `ESRCH` no such task, `EOVERFLOW`, `EDIED` no such node, `EROFS` its server keeps no tree, `ENOMEM`.
+    pub fn make_nameless(
+        &mut self,
+        task: TaskId,
+        file: NamelessToMake,
+        ids: Ids,
+        modes: OpenFlags,
+    ) -> Result<u64, Errno>
+        ensures { let w = world_of S.meaning self.old in
+            Does w (making_nameless_asks w task.0 file.dir) (making_nameless task.0 file ids modes) (λ a. a.0.next)
+            result (world_of S.meaning self.new) }
+    {
+        self.ports.room(task, 2)?;
+        self.nodes.can_make_nameless(file.dir, Kind::File)?;
+        self.ports.reserve(task)?;
+        self.nodes.reserve_hold()?;
+        let Some(name) = self.ports.next_name(task) else {
+            return Err(Errno::ESRCH);
+        };
+        self.nodes.make_nameless(file.dir, file.node(name))?;
+        self.ports.take_name(task);
+        let port = self.ports.fill(task, name, ids, modes);
+        self.nodes.hold(name);
+        Ok(port)
+    }
+
+    /// Makes a directory in a directory.
+    ///
+    /// Errors, in order: those of `can_make`, `ESRCH` no such task, `EOVERFLOW`, `ENOMEM`.
+    pub fn make_dir(&mut self, alloc: Global, task: TaskId, dir: NodeToMake) -> Result<(), Errno>
+        ensures { let w = world_of S.meaning self.old in
+            Does w (making_dir_asks w task.0 (new_node_of dir.entry)) (making_dir task.0 (new_node_of dir.entry)) (λ a. tt)
+            result (world_of S.meaning self.new) }
+    {
+        self.nodes.can_make(dir.dir, dir.name, Kind::Dir)?;
+        self.ports.naming(task, 1)?;
+        let Some(name) = self.ports.next_name(task) else {
+            return Err(Errno::ESRCH);
+        };
+        self.nodes
+            .make(alloc, dir.dir, dir.name, dir.node(Kind::Dir, name))?;
+        self.ports.take_name(task);
+        Ok(())
+    }
+
+    /// Gives up a port. Its open goes where no other right names it, and its node where nothing else keeps it. Takes no memory.
     ///
     /// Errors, in order: `ESRCH` no such task, `EBADF` no such port.
     pub fn drop_port(&mut self, task: TaskId, port: u64) -> Result<(), Errno>
@@ -199,7 +323,10 @@ impl<S: Server> Core<S> {
             Follows w (answered (right_of (ports_of w) task.0 port) (λ r. record { reply = Done; changes = dropping task.0 port }))
             (told (λ u. Done) result) (world_of S.meaning self.new) }
     {
-        self.ports.deallocate(task, port)
+        let node = self.ports.right(task, port)?.node;
+        self.ports.deallocate(task, port)?;
+        self.nodes.release(node);
+        Ok(())
     }
 
     /// Moves the cursor of an open, if it is there. Takes no memory.
@@ -240,5 +367,77 @@ impl<S: Server> Core<S> {
             (world_of S.meaning self.new) }
     {
         self.nodes.set_size(node, size)
+    }
+
+    /// Gives a file another name in a directory.
+    ///
+    /// Errors, in order: those of `can_link`, `ENOMEM`.
+    pub fn link(
+        &mut self,
+        alloc: Global,
+        dir: NodeName,
+        name: &[u8],
+        node: NodeName,
+    ) -> Result<(), Errno>
+        ensures { let w = world_of S.meaning self.old in
+            Does w (links_at w dir name.now node) (λ u. EditBody dir (with_entry name.now node) ∷ EditHeader node linked ∷ []) (λ u. tt) result
+            (world_of S.meaning self.new) }
+    {
+        self.nodes.link(alloc, dir, name, node)
+    }
+
+    /// Takes an entry out of a directory: of what it names, a directory loses its parent, and any other node a link. What nothing
+    /// keeps any more goes. Takes no memory.
+    ///
+    /// Errors, in order: `EDIED` no such directory, `ENOTDIR`, `EROFS` its server keeps no tree, `ENOENT`.
+    pub fn unlink(&mut self, dir: NodeName, name: &[u8]) -> Result<(), Errno>
+        ensures { let w = world_of S.meaning self.old in
+            Follows w (answered (unlinks_at w dir name.now) (λ u. record { reply = Done; changes = unlinking w dir name.now }))
+            (told (λ u. Done) result) (world_of S.meaning self.new) }
+    {
+        self.ports.opens_are_held();
+        self.nodes.unlink(dir, name)?;
+        self.nodes.settle();
+        Ok(())
+    }
+
+    /// Takes an entry out of a directory and puts it last into another one, or the same, under a new name: in the place of
+    /// the entry of that name, where there is one. What nothing keeps any more goes.
+    ///
+    /// Errors, in order: `EDIED` no such directory, `ENOTDIR`, `EROFS` its server keeps no tree, `EXDEV` the two are of
+    /// different servers, `EDIED` no such directory `to`, `ENOTDIR`, `ENOENT`, `ENOMEM`.
+    pub fn rename(
+        &mut self,
+        alloc: Global,
+        dir: NodeName,
+        name: &[u8],
+        to: NodeName,
+        new: &[u8],
+    ) -> Result<(), Errno>
+        ensures { let w = world_of S.meaning self.old in
+            Does w (renames_at w dir name.now to) (λ u. renaming w dir name.now to new.now) (λ u. tt) result
+            (world_of S.meaning self.new) }
+    {
+        self.ports.opens_are_held();
+        self.nodes.rename(alloc, dir, name, to, new)?;
+        self.nodes.settle();
+        Ok(())
+    }
+
+    /// Sets the owner, the group and the mode of a node. Takes no memory.
+    ///
+    /// Errors, in order: those of `can_set_attrs`.
+    pub fn set_attrs(
+        &mut self,
+        node: NodeName,
+        owner: u32,
+        group: u32,
+        mode: Mode,
+    ) -> Result<(), Errno>
+        ensures { let w = world_of S.meaning self.old in
+            Follows w (answered (sets_attrs_at w node) (λ u. record { reply = Done; changes = EditHeader node (with_attrs owner group mode) ∷ [] }))
+            (told (λ u. Done) result) (world_of S.meaning self.new) }
+    {
+        self.nodes.set_attrs(node, owner, group, mode)
     }
 }

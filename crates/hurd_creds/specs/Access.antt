@@ -1,14 +1,16 @@
 -- Who may do what with a node.
-use Rattle.std.specs.Prelude.{◌≡◌, ℕ, ◌==◌, ◌&&◌, ◌||◌, not, Bool, false, if◌then◌else◌, List, [], ◌∷◌, Option, Some, None, Result, Ok, Err, nat_le, min, fold, length, refl}
+use Rattle.std.specs.Prelude.{◌≡◌, ℕ, ◌==◌, ◌&&◌, ◌||◌, not, Bool, true, false, if◌then◌else◌, List, [], ◌∷◌, Option, Some, None, Result, Ok, Err, nat_le, min, fold, length, refl}
 use Rattle.std.specs.Ordering.{nat_cmp}
 use Rattle.std.specs.FinSet as set
 use Rattle.std.specs.Coded.{Coded, code_by, coded×, coded_ℕ}
-use Rattle.hurd_creds.specs.Bits.{has_bits}
+use Rattle.std.specs.Int.RustNames.{bit_or}
+use Rattle.hurd_creds.specs.Bits.{has_bits, READ, WRITE, EXEC}
 use Rattle.hurd_creds.specs.declared.attrs.Attrs.{Attrs}
 use Rattle.hurd_creds.specs.declared.attrs.Kind.{Kind}
 use Rattle.hurd_creds.specs.declared.attrs.Kind.TheVariants.{File}
 use Rattle.hurd_creds.specs.declared.attrs.Want.{Want}
 use Rattle.hurd_creds.specs.declared.attrs.Want.TheVariants.{Read, Write, Exec}
+use Rattle.hurd_creds.specs.declared.open_flags.OpenFlags.{OpenFlags}
 use Rattle.hurd_creds.specs.declared.errno.Errno.{Errno}
 use Rattle.hurd_creds.specs.declared.errno.Errno.TheVariants.{EINVAL}
 
@@ -112,3 +114,17 @@ may ids a want =
 -- the owner or uid 0 is held
 abbrev pub owns : IdSets → Attrs → Bool
 owns ids a = holds_uid ids a.owner || is_root ids
+
+-- these ids may give a node of these attributes to this owner and group: uid 0 may; the owner may keep it, with its present
+-- group or one of its own
+abbrev pub may_give : IdSets → Attrs → ℕ → ℕ → Bool
+may_give ids a owner group = is_root ids || ((holds_uid ids a.owner && owner == a.owner) && (group == a.group || holds_gid ids group))
+
+-- the bits of a flag where the test holds, else none
+abbrev pub flag_if : ℕ → Bool → ℕ
+flag_if flag true = flag
+flag_if flag false = 0
+
+-- those of READ, WRITE and EXEC that these ids may
+abbrev pub access_of : IdSets → Attrs → OpenFlags
+access_of ids a = record { 0 = bit_or (bit_or (flag_if READ (may ids a Read)) (flag_if WRITE (may ids a Write))) (flag_if EXEC (may ids a Exec)) }

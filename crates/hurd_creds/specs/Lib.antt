@@ -4,3 +4,4 @@ pub mod Access
 pub mod Names
 pub mod NameMaps
 pub mod Memory
+pub mod Stats

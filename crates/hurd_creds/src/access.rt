@@ -1,9 +1,11 @@
-//! The bits of a mode that decide, by whose they are.
+//! The bits of a mode that decide, by whose they are; and flags for what is allowed.
 ghost use Rattle.std.specs.Prelude.{◌≡◌};
-ghost use Rattle.hurd_creds.specs.Access.{owner_bit, group_bit, others_bit, unknown_bit, bars_exec};
+ghost use Rattle.hurd_creds.specs.Access.{owner_bit, group_bit, others_bit, unknown_bit, bars_exec, flag_if};
 
 use crate::attrs::{Attrs, Kind, Want};
 use crate::mode::Mode;
+use crate::open_flags::OpenFlags;
+use bitflags::Flags;
 
 /// The owner's bit.
 pub(crate) fn owner_bit(want: Want) -> Mode
@@ -57,4 +59,11 @@ pub(crate) fn bars_exec(attrs: &Attrs, want: Want) -> bool
         (Kind::File, Want::Exec) => !attrs.mode.has_exec(),
         _ => false,
     }
+}
+
+/// This flag where the test holds, else none.
+pub(crate) fn flag_if(flag: OpenFlags, test: bool) -> OpenFlags
+    ensures { result.0 ≡ flag_if flag.0 test }
+{
+    if test { flag } else { OpenFlags::empty() }
 }

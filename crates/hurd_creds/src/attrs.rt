@@ -1,4 +1,7 @@
 //! What is told of a node.
+ghost use Rattle.std.specs.Prelude.{◌≡◌};
+ghost use Rattle.hurd_creds.specs.Stats.{stat_of};
+
 use crate::mode::Mode;
 use crate::name::NodeName;
 
@@ -55,4 +58,22 @@ pub struct Stat {
     pub size: u64,
     pub passive: bool,
     pub active: bool,
+}
+
+impl Attrs {
+    /// What `io_stat` tells of these attributes.
+    pub fn stat(&self) -> Stat
+        ensures { result ≡ stat_of self.now }
+    {
+        Stat {
+            kind: self.kind,
+            owner: self.owner,
+            group: self.group,
+            mode: self.mode,
+            links: self.links,
+            size: self.size,
+            passive: self.passive,
+            active: self.active,
+        }
+    }
 }

@@ -4,14 +4,15 @@ ghost use Rattle.std.specs.List.{All, Contains};
 ghost use Rattle.std.specs.Ordering.{nat_cmp};
 ghost use Rattle.std.specs.FinSet as set;
 ghost use Rattle.smallvec.specs.SmallVec.{small_vec_len};
-ghost use Rattle.hurd_creds.specs.Access.{ids_of, most_ids, HasEachOnce, may, owns, is_root, least_uid, holds_uid, holds_gid, has_no_uids, USE_UNK};
+ghost use Rattle.hurd_creds.specs.Access.{ids_of, most_ids, HasEachOnce, may, owns, is_root, least_uid, holds_uid, holds_gid, has_no_uids, may_give, access_of, USE_UNK};
 ghost use Rattle.hurd_creds.specs.Memory.{Meets};
 ghost use Rattle.hurd_creds.specs.Bits.{has_bits};
 
-use crate::access;
+use crate::access::{self, flag_if};
 use crate::attrs::{Attrs, Want};
 use crate::errno::Errno;
 use crate::mode::Mode;
+use crate::open_flags::OpenFlags;
 use bitflags::Flags;
 use smallvec::SmallVec;
 use std::alloc::{AllocError, Global};
@@ -109,6 +110,25 @@ impl Ids {
         } else {
             attrs.mode.contains(access::others_bit(want))
         }
+    }
+
+    /// Those of `READ`, `WRITE` and `EXEC` that these ids may, of a node of these attributes.
+    pub fn access(&self, attrs: &Attrs) -> OpenFlags
+        ensures { result ≡ access_of self.now attrs.now }
+    {
+        let read = flag_if(OpenFlags::READ, self.may(attrs, Want::Read));
+        let write = flag_if(OpenFlags::WRITE, self.may(attrs, Want::Write));
+        let exec = flag_if(OpenFlags::EXEC, self.may(attrs, Want::Exec));
+        read.union(write).union(exec)
+    }
+
+    /// Whether these ids may give a node of these attributes to an owner and a group: uid 0 may; the node's owner may keep
+    /// it, with its present group or one of the gids.
+    pub fn may_give(&self, attrs: &Attrs, owner: u32, group: u32) -> bool
+        ensures { result ≡ may_give self.now attrs.now owner group }
+    {
+        let keeps = self.holds_uid(attrs.owner) && owner == attrs.owner;
+        self.is_root() || keeps && (group == attrs.group || self.holds_gid(group))
     }
 
     /// Whether the unknown bits decide: no uid is held, and the node's mode has `USE_UNK`.

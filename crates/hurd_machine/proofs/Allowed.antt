@@ -13,14 +13,14 @@ use Rattle.hurd_ports.specs.declared.table.Right.{Right}
 use Rattle.hurd_ports.specs.Tables.{Task, rights_of}
 use Rattle.hurd_ports.specs.Steps.{named, edit_task}
 use Rattle.hurd_machine.specs.World.{World, IsAmong, task_at, open_at, header_at, body_at, home_at}
-use Rattle.hurd_machine.specs.Sight.{Holds, HasUid, Taken, SeesBody, OptionsOf, Sees}
+use Rattle.hurd_machine.specs.Sight.{Holds, HasUid, Taken, SeesBody, BodyOf, OptionsOf, Sees}
 use Rattle.hurd_machine.specs.Change.{Change, EditHeader, EditBody, MakeNode, EditOpen, MakeOpen, EditTask, Settle, apply}
 use Rattle.hurd_machine.specs.Sound.{Coherent}
 use Rattle.hurd_machine.proofs.Nodes.{header_in, body_in, header-with_header, header-with_body, body-with_header, body-with_body, edit_reads, edit_keeps, edited_from, ByEmptiness}
 use Rattle.hurd_machine.proofs.Tasks.{edit_cases}
 use Rattle.hurd_machine.proofs.Coherence.{HasNoEntries, IsNext, next_apart, was, Proper}
 use Rattle.hurd_machine.proofs.Frame.{IsExact}
-use Rattle.hurd_machine.proofs.Confine.{NewTo, SeenOrNew, Less, Less-refl, Less-trans, RightInside, TakesLess, Inside}
+use Rattle.hurd_machine.proofs.Confine.{NewTo, SeenOrNew, Known, Less, Less-refl, Less-trans, RightInside, TakesLess, Inside}
 
 -- a right that a task of S may get, but for its ids: where its open is to read, S sees the body
 pub record RightMay (S : ℕ → Bool) (v x : World) (r : Right) : Type 0 where
@@ -38,9 +38,9 @@ pub record OwnTaken (S : ℕ → Bool) (v : World) (a z : Task) : Type 0 where
 
 -- what S saw, its ids among it, is of the world v before the call; what stands is of the world x, in which the change is made
 abbrev pub May : (ℕ → Bool) → World → World → Change → Type 0
-May S v x (EditHeader n f) = (h : Header) → Less S v (f h) h
+May S v x (EditHeader n f) = (h : Header) → header_at x n ≡ Some h → Less S v n (f h) h
 May S v x (EditBody n g) =
-    ByEmptiness g × ((b : Body) (name : List ℕ) (m : Name) → body_at x n ≡ Some b → entry_of name (Some (g b)) ≡ Some m → (entry_of name (Some b) ≡ Some m) ⊎ SeenOrNew S v m)
+    (ByEmptiness g ⊎ Known S v (BodyOf n)) × ((b : Body) (name : List ℕ) (m : Name) → body_at x n ≡ Some b → entry_of name (Some (g b)) ≡ Some m → (entry_of name (Some b) ≡ Some m) ⊎ SeenOrNew S v m)
 May S v x (MakeNode n s node) = (S n.task.0 ≡ true) × Sees S v (OptionsOf s) × ((p : Name) → node.header.parent ≡ Some p → SeenOrNew S v p)
 May S v x (EditOpen o f) = (z : Opened) → asks (f z).modes READ ≡ true → asks z.modes READ ≡ true
 May S v x (MakeOpen o z) = S o.task.0 ≡ true
@@ -177,25 +177,25 @@ module _ (S : ℕ → Bool) (v x : World) (coherent : Coherent x) (i : Inside S 
 
   -- a header afterwards is one that stood there, with less, or a new node's
   abbrev Headers : World → Type 0
-  Headers y = (n : Name) (h : Header) → header_at y n ≡ Some h → ((k : Header) × (header_at x n ≡ Some k) × Less S v h k) ⊎ (NewTo S v n × ((p : Name) → h.parent ≡ Some p → SeenOrNew S v p))
+  Headers y = (n : Name) (h : Header) → header_at y n ≡ Some h → ((k : Header) × (header_at x n ≡ Some k) × Less S v n h k) ⊎ (NewTo S v n × ((p : Name) → h.parent ≡ Some p → SeenOrNew S v p))
 
   headers_next : (c : Change) → IsExact c → Proper x c → May S v x c → Headers (apply c x)
   headers_next (EditHeader k f) ex p m n h e = elim (same_or_apart n k) [
     | inl s ↦
         let l = edited_from f (header_at x k) h (sym (edit_reads header_in (option_map f) (with_header f) (header-with_header f) x.nodes k) ∙ rw s at e) in
-        inl (l.0, rw s l.1, subst (λ (z : Header). Less S v z l.0) l.2 (m l.0))
-    | inr a ↦ inl (h, sym (ap header_in (edit_apart x.nodes k (with_header f) n a)) ∙ e, Less-refl S v h)
+        inl (l.0, rw s l.1, subst (λ (z : Header). Less S v n z l.0) l.2 (rw s (m l.0 l.1)))
+    | inr a ↦ inl (h, sym (ap header_in (edit_apart x.nodes k (with_header f) n a)) ∙ e, Less-refl S v n h)
   ]
-  headers_next (EditBody k g) ex p m n h e = inl (h, sym (edit_keeps header_in (with_body g) (header-with_body g) x.nodes k n) ∙ e, Less-refl S v h)
+  headers_next (EditBody k g) ex p m n h e = inl (h, sym (edit_keeps header_in (with_body g) (header-with_body g) x.nodes k n) ∙ e, Less-refl S v n h)
   headers_next (MakeNode a s node) ex p m n h e = elim (same_or_apart n a) [
     | inl k ↦
         let here : header_in (get (insert x.nodes a node) n) ≡ Some node.header = rw k (ap header_in (get_here x.nodes a node)) in
         let same : node.header ≡ h = cc in
         inr (subst (NewTo S v) (sym k) (next_new a p.0 m.0), λ q eq. m.2 q (ap (λ (z : Header). z.parent) same ∙ eq))
-    | inr k ↦ inl (h, sym (ap header_in (get_apart x.nodes a node n k)) ∙ e, Less-refl S v h)
+    | inr k ↦ inl (h, sym (ap header_in (get_apart x.nodes a node n k)) ∙ e, Less-refl S v n h)
   ]
   headers_next Settle ex p m n h e = absurd ex
-  headers_next c ex p m n h e = inl (h, e, Less-refl S v h)
+  headers_next c ex p m n h e = inl (h, e, Less-refl S v n h)
 
   abbrev Entries : World → Type 0
   Entries y = (d n : Name) (name : List ℕ) → entry_of name (body_at y d) ≡ Some n → (entry_of name (body_at x d) ≡ Some n) ⊎ SeenOrNew S v n
@@ -248,8 +248,8 @@ module _ (S : ℕ → Bool) (v x : World) (coherent : Coherent x) (i : Inside S 
         reads = reads_next c ex p m st;
         headers = λ n h e. elim (headers_next c ex p m n h e) [
           | inl l ↦ elim (i.headers n l.0 l.1) [
-            | inl k ↦ inl (k.0, k.1, Less-trans h l.0 k.0 l.2 k.2)
-            | inr new ↦ inr (new.0, λ q eq. new.1 q (sym l.2.parent ∙ eq))
+            | inl k ↦ inl (k.0, k.1, Less-trans n h l.0 k.0 l.2 k.2)
+            | inr new ↦ inr (new.0, λ q eq. elim (l.2.parent q eq) [ inl e ↦ new.1 q e | inr known ↦ known.0 ])
           ]
           | inr new ↦ inr new
         ];

@@ -1,28 +1,28 @@
 -- What a call asks: the same in worlds that answer the same, what an answer shows, and that no answer is want of memory.
 use Rattle.std.proofs.Common.{List, ◌≡◌, ◌≢◌, ℕ, Bool, true, false, Option, Some, None, refl, sym, ◌∙◌, ap, ap₂, subst, true≢false}
-use Rattle.std.specs.Prelude.{if◌then◌else◌, not, is_some, Result, Ok, Err}
+use Rattle.std.specs.Prelude.{if◌then◌else◌, not, is_some, nat_lt, Result, Ok, Err}
 use Rattle.std.specs.FinMap.{get}
 use Rattle.hurd_creds.specs.declared.name.Name.{Name}
 use Rattle.hurd_creds.specs.declared.errno.Errno.{Errno}
-use Rattle.hurd_creds.specs.declared.errno.Errno.TheVariants.{EBADF, EDIED, EEXIST, ENOMEM, ENOTDIR, EOPNOTSUPP, EROFS, ESRCH}
+use Rattle.hurd_creds.specs.declared.errno.Errno.TheVariants.{EBADF, EDIED, EEXIST, EISDIR, ENOMEM, ENOTDIR, EOPNOTSUPP, EOVERFLOW, EROFS, ESRCH, EXDEV}
 use Rattle.hurd_creds.specs.declared.attrs.Kind.{Kind}
 use Rattle.hurd_creds.specs.Bits.{asks, READ}
 use Rattle.hurd_creds.specs.Memory.{is_no_memory}
 use Rattle.hurd_trans_iface.specs.Nodes.{Node, Header, Body, is_dir}
-use Rattle.hurd_trans_iface.specs.Answers.{entry_of, is_tree, is_made}
+use Rattle.hurd_trans_iface.specs.Answers.{entry_of, is_tree, is_made, link_in, most_links}
 use Rattle.hurd_trans_iface.specs.Meaning.{root_of}
 use Rattle.hurd_trans_iface.specs.Behaviour.{Question}
 use Rattle.hurd_trans_iface.specs.Kinds.{ServerKind, behaviour_of}
 use Rattle.hurd_trans_iface.specs.Good.{IsBlind, IsPlain as IsPlainAnswer}
-use Rattle.hurd_nodes.specs.Shown.{ServerInfo, info_in, asked_of, is_root_at, is_root_of, made_by}
+use Rattle.hurd_nodes.specs.Shown.{ServerInfo, info_in, asked_of, is_root_at, is_root_of, made_by, are_kin, link_by, set_attrs_by}
 use Rattle.hurd_ports.specs.declared.table.Right.{Right}
 use Rattle.hurd_ports.specs.Tables.{Task, rights_of, or_refuse, right_in, right_at, right_of}
 use Rattle.hurd_machine.specs.declared.call.Reply.{Reply}
 use Rattle.hurd_machine.specs.declared.call.Reply.TheVariants.{Refused}
-use Rattle.hurd_machine.specs.World.{World, IsAmong, ports_of, task_at, open_at, header_at, home_at, info_at, is_server_root, asked_at, makes_at}
+use Rattle.hurd_machine.specs.World.{World, IsAmong, ports_of, task_at, open_at, header_at, home_at, info_at, is_server_root, asked_at, makes_at, links_at, sets_attrs_at}
 use Rattle.hurd_machine.specs.Plan.{Plan, refuse, is_refused, on, given, first, answered}
 use Rattle.hurd_machine.specs.declared.handle.Handle.{Handle}
-use Rattle.hurd_machine.specs.Handle.{handle_asks}
+use Rattle.hurd_machine.specs.Handle.{Named, port_asks, handle_asks}
 use Rattle.hurd_machine.specs.Sight.{Holds, Held, Seen, IsOpen, BodyOf, Sees}
 use Rattle.hurd_machine.proofs.Nodes.{header_in, body_in}
 use Rattle.hurd_machine.proofs.Rights.{right_among}
@@ -154,6 +154,32 @@ right_plain w t q = go (task_at w t)
     go None = err_plain ESRCH refl
     go (Some x) = under (right_in q x.ports)
 
+-- a port on a node that is there
+
+pub record IsNamed (w : World) (t q : ℕ) (n : Named) : Type 0 where
+  pub is_right : right_of (ports_of w) t q ≡ Ok n.right
+  pub is_header : header_at w n.right.node ≡ Some n.header
+
+pub is_named : (w : World) (t q : ℕ) (n : Named) → port_asks w t q ≡ Ok n → IsNamed w t q n
+is_named w t q n h =
+    let r = first_ok _ _ n h in
+    let x = on_ok EDIED (header_at w r.0.node) _ n r.2 in
+    let is : record { right = r.0; header = x.0 } ≡ n = cc in
+    subst (IsNamed w t q) is (record { is_right = r.1; is_header = x.1 })
+
+module _ {S : ℕ → Bool} {v w : World} (a : Agree S v w) (t : ℕ) (ours : S t ≡ true) where
+  pub port_same : (q : ℕ) → port_asks w t q ≡ port_asks v t q
+  port_same q =
+      first_same _ _ _ _ (right_same a t ours q) (λ r is.
+      on_same _ _ _ _ _ (header_same a r.node (Held r (holds_right t ours q r is) refl)) (λ h eh. refl))
+
+-- S sees a node that it has a port on
+pub port_seen : {S : ℕ → Bool} {v : World} (t : ℕ) → S t ≡ true → (q : ℕ) (n : Named) → port_asks v t q ≡ Ok n → Seen S v n.right.node
+port_seen {S} {v} t ours q n is = Held n.right (holds_right t ours q n.right (is_named v t q n is).is_right) refl
+
+pub port_plain : (w : World) (t q : ℕ) → IsPlain (port_asks w t q)
+port_plain w t q = first_plain _ _ (right_plain w t q) (λ r is. on_plain _ _ _ refl (λ h eh. ok_plain _))
+
 -- what a port has open
 
 pub record Handled (w : World) (t q mode : ℕ) (a : Handle) : Type 0 where
@@ -224,6 +250,14 @@ blind_same q blind (Some i) (Some x) (Some y) h =
     let header : y.header ≡ x.header = cc in
     ap (λ (k : Header). q (behaviour_of i.kind) i.text (record { header = k; body = y.body })) header ∙ blind i.kind i.text x.header x.body y.body
 
+-- whether attributes may be set is the same of nodes that are there alike
+there_same : (i : Option ServerInfo) (o p : Option Node) → header_in p ≡ header_in o → set_attrs_by i p ≡ set_attrs_by i o
+there_same None o p h = refl
+there_same (Some i) None None h = refl
+there_same (Some i) None (Some y) h = absurd (cc)
+there_same (Some i) (Some x) None h = absurd (cc)
+there_same (Some i) (Some x) (Some y) h = refl
+
 module _ {S : ℕ → Bool} {v w : World} (a : Agree S v w) (n : Name) where
   -- of a node that S sees it knows which kind of server it has, and with which text
   pub info_same : Seen S v n → info_at w n ≡ info_at v n
@@ -241,12 +275,17 @@ module _ {S : ℕ → Bool} {v w : World} (a : Agree S v w) (n : Name) where
       go None e h = ap (is_root_of w.servers n) (h ∙ e) ∙ ap (is_root_of v.servers n) (sym e)
       go (Some s) e h = ap (is_root_of w.servers n) (h ∙ e) ∙ ap (is_root_at n) (server_same a n s seen e) ∙ ap (is_root_of v.servers n) (sym e)
 
-  seen_node : Sees S v (BodyOf n) → get w.nodes n ≡ get v.nodes n
+  -- and of one whose body it sees, the whole node
+  pub seen_node : Sees S v (BodyOf n) → get w.nodes n ≡ get v.nodes n
   seen_node s = same_node (get v.nodes n) (get w.nodes n) (header_same a n s.0) (body_same a n s)
 
   -- what may be made in a directory whose entries S sees
   pub makes_same : (name : List ℕ) (kind : Kind) → Sees S v (BodyOf n) → makes_at w n name kind ≡ makes_at v n name kind
   makes_same name kind s = ap₂ (made_by name kind) (info_same s.0) (seen_node s)
+
+  -- whether attributes of a node that S sees may be set
+  pub sets_attrs_same : Seen S v n → sets_attrs_at w n ≡ sets_attrs_at v n
+  sets_attrs_same seen = ap (λ i. set_attrs_by i (get w.nodes n)) (info_same seen) ∙ there_same (info_at v n) (get v.nodes n) (get w.nodes n) (header_same a n seen)
 
   -- whatever is asked of a node whose body S sees
   pub asked_seen : {T : Type 0} (q : Question T) → Sees S v (BodyOf n) → asked_at q n w ≡ asked_at q n v
@@ -256,6 +295,25 @@ module _ {S : ℕ → Bool} {v w : World} (a : Agree S v w) (n : Name) where
   pub asked_same : {T : Type 0} (q : Question T) → ((k : ServerKind) → IsBlind (behaviour_of k) q) → Seen S v n → asked_at q n w ≡ asked_at q n v
   asked_same q blind s =
       ap (λ i. asked_of q i (get w.nodes n)) (info_same s) ∙ blind_same q blind (info_at v n) (get v.nodes n) (get w.nodes n) (header_same a n s)
+
+-- whether a node may get another name is the same of nodes of one header
+file_same : (name : List ℕ) (kin : Bool) (i : Option ServerInfo) (d o p : Option Node) → header_in p ≡ header_in o → link_by name kin i d p ≡ link_by name kin i d o
+file_same name kin None d o p h = refl
+file_same name kin (Some i) None o p h = refl
+file_same name kin (Some i) (Some d) None None h = refl
+file_same name kin (Some i) (Some d) None (Some y) h = absurd (cc)
+file_same name kin (Some i) (Some d) (Some x) None h = absurd (cc)
+file_same name kin (Some i) (Some d) (Some x) (Some y) h =
+    let header : y.header ≡ x.header = cc in
+    ap (λ (k : Header). link_by name kin (Some i) (Some d) (Some (record { header = k; body = y.body }))) header
+
+module _ {S : ℕ → Bool} {v w : World} (a : Agree S v w) (d n : Name) where
+  -- whether a file that S sees may get another name in a directory whose entries S sees
+  pub links_same : (name : List ℕ) → Sees S v (BodyOf d) → Seen S v n → links_at w d name n ≡ links_at v d name n
+  links_same name s seen =
+      ap₂ (λ h k. link_by name (are_kin h k) (info_at w d) (get w.nodes d) (get w.nodes n)) (home_same a d s.0) (home_same a n seen)
+      ∙ ap₂ (λ i x. link_by name (are_kin (home_at v d) (home_at v n)) i x (get w.nodes n)) (info_same a d s.0) (seen_node a d s)
+      ∙ file_same name (are_kin (home_at v d) (home_at v n)) (info_at v d) (get v.nodes d) (get v.nodes n) (get w.nodes n) (header_same a n seen)
 
 pub asked_plain : {T : Type 0} (q : Question T) → ((k : ServerKind) → IsPlainAnswer (behaviour_of k) q) → (n : Name) (w : World) → IsPlain (asked_at q n w)
 asked_plain q plain n w = go (info_at w n) (get w.nodes n)
@@ -280,3 +338,28 @@ makes_plain w d name kind = go (info_at w d) (get w.nodes d)
         (if_plain (not (is_tree (root_of i.kind))) _ _ (err_plain EROFS refl)
         (if_plain (is_some (entry_of name (Some x.body))) _ _ (err_plain EEXIST refl)
         (if_plain (is_made kind) _ _ (ok_plain tt) (err_plain EOPNOTSUPP refl))))
+
+pub sets_attrs_plain : (w : World) (n : Name) → IsPlain (sets_attrs_at w n)
+sets_attrs_plain w n = go (info_at w n) (get w.nodes n)
+  where
+    go : (i : Option ServerInfo) (o : Option Node) → IsPlain (set_attrs_by i o)
+    go None o = err_plain EDIED refl
+    go (Some i) None = err_plain EDIED refl
+    go (Some i) (Some x) = if_plain (is_tree (root_of i.kind)) _ _ (ok_plain tt) (err_plain EOPNOTSUPP refl)
+
+pub links_plain : (w : World) (d : Name) (name : List ℕ) (n : Name) → IsPlain (links_at w d name n)
+links_plain w d name n = go (are_kin (home_at w d) (home_at w n)) (info_at w d) (get w.nodes d) (get w.nodes n)
+  where
+    in_tree : (kin : Bool) (d : Node) (o : Option Node) → IsPlain (link_in name kin d o)
+    in_tree kin d None = err_plain EDIED refl
+    in_tree kin d (Some x) =
+        if_plain (not kin) _ _ (err_plain EXDEV refl)
+        (if_plain (is_dir x.header.kind) _ _ (err_plain EISDIR refl)
+        (if_plain (is_some (entry_of name (Some d.body))) _ _ (err_plain EEXIST refl)
+        (if_plain (nat_lt x.header.links most_links) _ _ (ok_plain tt) (err_plain EOVERFLOW refl))))
+
+    go : (kin : Bool) (i : Option ServerInfo) (d o : Option Node) → IsPlain (link_by name kin i d o)
+    go kin None d o = err_plain EDIED refl
+    go kin (Some i) None o = err_plain EDIED refl
+    go kin (Some i) (Some d) o =
+        if_plain (not (is_dir d.header.kind)) _ _ (err_plain ENOTDIR refl) (if_plain (not (is_tree (root_of i.kind))) _ _ (err_plain EROFS refl) (in_tree kin d o))

@@ -1,31 +1,32 @@
 -- What is shown of a call, and the laws of one step that follow from it.
-use Rattle.std.proofs.Common.{◌≡◌, ◌≢◌, ℕ, Bool, true, false, List, [], ◌∷◌, length, Some, refl, sym, ◌∙◌, ap, subst, true≢false}
+use Rattle.std.proofs.Common.{◌≡◌, ◌≢◌, ℕ, Bool, true, false, List, [], ◌∷◌, Some, refl, sym, ◌∙◌, ap, subst, inl, inr, true≢false}
 use Rattle.std.specs.Prelude.{Result, Ok, Err}
 use Rattle.std.specs.FinMap.{get}
 use Rattle.hurd_creds.specs.declared.name.Name.{Name}
 use Rattle.hurd_creds.specs.declared.errno.Errno.{Errno}
-use Rattle.hurd_ports.specs.Tables.{IsSettled}
 use Rattle.hurd_machine.specs.World.{World, nodes_of, ports_of}
 use Rattle.hurd_machine.specs.Change.{Change, apply, apply_all}
-use Rattle.hurd_machine.specs.Plan.{Plan, answered, after_plan}
+use Rattle.hurd_machine.specs.declared.call.Reply.{Reply}
+use Rattle.hurd_machine.specs.Plan.{Plan, answered, looks, is_refused, after_plan}
 use Rattle.hurd_machine.specs.Sight.{Part, AttrOf, EmptyOf, BodyOf, OpenOf, OptionsOf, UsersOf, TaskOf, Sees, part, SameView}
-use Rattle.hurd_machine.specs.Sound.{Below, Coherent, AreSized, Sound}
-use Rattle.hurd_machine.specs.Touched.{asked_parts}
+use Rattle.hurd_machine.specs.Sound.{Below, Coherent, AreSized, Linked, AtRest, Sound}
+use Rattle.hurd_machine.specs.Touched.{asked_parts, Nothing}
 use Rattle.hurd_machine.proofs.Coherence.{AllProper, coherent_all}
-use Rattle.hurd_machine.proofs.Frame.{IsUnnamed, Full, AllWithin, untouched}
-use Rattle.hurd_machine.proofs.Views.{Agree, view_of, agree_of}
-use Rattle.hurd_machine.proofs.Asks.{IsPlainReply, answered_all}
+use Rattle.hurd_machine.proofs.Frame.{IsUnnamed, Full, AllWithin, AsBefore, untouched, unseen_from}
+use Rattle.hurd_machine.proofs.Views.{Agree, Agree-refl, view_of, agree_of}
+use Rattle.hurd_machine.proofs.Asks.{IsPlainReply, answered_all, IsPlain, answered_plain, answered_same, done_plain}
 use Rattle.hurd_machine.proofs.Confine.{seen_old}
-use Rattle.hurd_machine.proofs.Several.{AllMay, length_one, agree_after}
+use Rattle.hurd_machine.proofs.Several.{AllMay, agree_after}
 
 -- of a call of task t, which plans this and touches these parts
 pub record CallLaws (t : ℕ) (plan : World → Plan) (touches : World → Part → Type 0) : Type 0 where
   -- it writes what it touches, its own task and what is new
   pub fits : (w : World) → Coherent w → AllWithin (Full w t (touches w)) w (plan w).changes
-  -- it leaves a world that hangs together, in which sizes are right, and from which nothing is to be taken out
-  pub proper : (w : World) → Coherent w → AllProper w (plan w).changes
+  -- it leaves a world that hangs together, whose nodes are linked, in which sizes are right, and from which nothing is to be taken out
+  pub proper : (w : World) → Sound w → AllProper w (plan w).changes
+  pub linked : (w : World) → Sound w → Linked (nodes_of (after_plan w (plan w)))
   pub sized : (w : World) → Sound w → AreSized (nodes_of (after_plan w (plan w)))
-  pub rests : (w : World) → Sound w → IsSettled (ports_of (after_plan w (plan w)))
+  pub rests : (w : World) → Sound w → AtRest (after_plan w (plan w))
   -- a task of S may make its changes, and plans the same in worlds that agree
   pub may : (S : ℕ → Bool) (v : World) → Coherent v → S t ≡ true → AllMay S v v (plan v).changes
   pub same : (S : ℕ → Bool) (v w : World) → Coherent v → Agree S v w → S t ≡ true → plan w ≡ plan v
@@ -44,14 +45,32 @@ module _ {A : Type 0} (w : World) (x : Result A Errno) (k : A → Plan) where
   pub answered_proper : ((a : A) → x ≡ Ok a → AllProper w (k a).changes) → AllProper w (answered x k).changes
   answered_proper h = answered_all (λ (P : Plan). AllProper w P.changes) (λ e. tt) x k h
 
+  pub answered_linked : Linked (nodes_of w) → ((a : A) → x ≡ Ok a → Linked (nodes_of (after_plan w (k a)))) → Linked (nodes_of (after_plan w (answered x k)))
+  answered_linked l h = answered_all (λ P. Linked (nodes_of (after_plan w P))) (λ e. l) x k h
+
   pub answered_sized : AreSized (nodes_of w) → ((a : A) → x ≡ Ok a → AreSized (nodes_of (after_plan w (k a)))) → AreSized (nodes_of (after_plan w (answered x k)))
   answered_sized fit h = answered_all (λ P. AreSized (nodes_of (after_plan w P))) (λ e. fit) x k h
 
-  pub answered_rests : IsSettled (ports_of w) → ((a : A) → x ≡ Ok a → IsSettled (ports_of (after_plan w (k a)))) → IsSettled (ports_of (after_plan w (answered x k)))
-  answered_rests settled h = answered_all (λ P. IsSettled (ports_of (after_plan w P))) (λ e. settled) x k h
+  pub answered_rests : AtRest w → ((a : A) → x ≡ Ok a → AtRest (after_plan w (k a))) → AtRest (after_plan w (answered x k))
+  answered_rests settled h = answered_all (λ P. AtRest (after_plan w P)) (λ e. settled) x k h
 
   pub answered_may : (S : ℕ → Bool) (v : World) → ((a : A) → x ≡ Ok a → AllMay S v w (k a).changes) → AllMay S v w (answered x k).changes
   answered_may S v h = answered_all (λ (P : Plan). AllMay S v w P.changes) (λ e. tt) x k h
+
+-- of a call that changes nothing it is enough that it asks the same in worlds that agree, and isn't refused for want
+-- of memory
+pub looking_laws : {A : Type 0} (t : ℕ) (asks : World → Result A Errno) (reply : A → Reply) → ((S : ℕ → Bool) (v w : World) → Agree S v w → S t ≡ true → asks w ≡ asks v) → ((w : World) → IsPlain (asks w))
+    → ((a : A) → is_refused (reply a) ≡ false) → CallLaws t (λ w. looks (asks w) reply) (λ w. Nothing)
+looking_laws t asks reply same plain told = record {
+  fits = λ w c. answered_all (λ (P : Plan). AllWithin (Full w t Nothing) w P.changes) (λ e. tt) (asks w) _ (λ a is. tt);
+  proper = λ w c. answered_proper w _ _ (λ a is. tt);
+  sized = λ w s. answered_sized w _ _ s.sizes (λ a is. s.sizes);
+  linked = λ w s. answered_linked w _ _ s.linked (λ a is. s.linked);
+  rests = λ w s. answered_rests w _ _ s.settled (λ a is. s.settled);
+  may = λ S v c ours. answered_may v _ _ S v (λ a is. tt);
+  same = λ S v w c a ours. answered_same _ _ _ _ (same S v w a ours) (λ b is. refl);
+  plain = λ w. answered_plain _ _ (plain w) (λ a is. done_plain (reply a) (told a));
+}
 
 -- what is seen has a name that was given
 
@@ -71,37 +90,34 @@ sees_named S w c (OptionsOf s) sees new = new (server_named w c sees.0 s sees.2)
 sees_named S w c (UsersOf s) sees new = new (c.given.servers s sees.info sees.is_server)
 sees_named S w c (TaskOf t) sees new = new
 
-length_all : (cs : List Change) (w : World) → length (apply_all cs w).tasks ≡ length w.tasks
-length_all [] w = refl
-length_all (c ∷ cs) w = length_all cs (apply c w) ∙ length_one c w
-
 -- the laws of one step
 module _ (t : ℕ) (plan : World → Plan) (touches : World → Part → Type 0) (l : CallLaws t plan touches) where
   abbrev after : World → World
   after w = after_plan w (plan w)
 
-  -- a part that it doesn't touch, that is not new and not its own task, stays
-  pub changes_touched : (w : World) (p : Part) → Sound w → (IsUnnamed w p → ⊥) → (touches w p → ⊥) → p ≢ TaskOf t → part (after w) p ≡ part w p
-  changes_touched w p s old out other = untouched (touches w) w t (plan w).changes p s (l.proper w s.coherent) (l.fits w s.coherent) out other old
+  -- a part that it doesn't touch, that is not new and not its own task, stays, or its thing goes
+  pub changes_touched : (w : World) (p : Part) → Sound w → (IsUnnamed w p → ⊥) → (touches w p → ⊥) → p ≢ TaskOf t → AsBefore w (after w) p
+  changes_touched w p s old out other = untouched (touches w) w t (plan w).changes p s (l.proper w s) (l.fits w s.coherent) out other old
 
   -- where it touches nothing that S sees, and S is without its task, S sees the same
   pub others_unseen : (S : ℕ → Bool) (w : World) → Sound w → S t ≡ false → ((p : Part) → touches w p → Sees S w p → ⊥) → SameView S w (after w)
-  others_unseen S w s out quiet = view_of (record {
-    tasks = length_all (plan w).changes w;
-    parts = λ p sees.
-        changes_touched w p s (sees_named S w s.coherent p sees) (λ touched. quiet p touched sees)
-        (λ e. true≢false (sym (subst (Sees S w) e sees) ∙ out));
-  })
+  others_unseen S w s out quiet = view_of (unseen_from S (Full w t (touches w)) w hidden (plan w).changes w s.coherent (l.proper w s) (l.fits w s.coherent) (Agree-refl S w))
+    where
+      hidden : (p : Part) → Sees S w p → Full w t (touches w) p → ⊥
+      hidden p sees full = elim full [
+        | inl touched ↦ quiet p touched sees
+        | inr own ↦ elim own [ inl e ↦ true≢false (sym (subst (Sees S w) e sees) ∙ out) | inr new ↦ sees_named S w s.coherent p sees new ]
+      ]
 
   -- where S has its task, the reply and the view afterwards depend on the view before alone
   pub own_from_view : (S : ℕ → Bool) (v w : World) → Sound v → Sound w → S t ≡ true → SameView S v w → ((plan w).reply ≡ (plan v).reply) × SameView S (after v) (after w)
   own_from_view S v w sv sw ours view =
       let a : Agree S v w = agree_of view in
       let same : plan w ≡ plan v = l.same S v w sv.coherent a ours in
-      let proper : AllProper w (plan v).changes = subst (λ (P : Plan). AllProper w P.changes) same (l.proper w sw.coherent) in
+      let proper : AllProper w (plan v).changes = subst (λ (P : Plan). AllProper w P.changes) same (l.proper w sw) in
       let left : Agree S (after v) (after_plan w (plan v)) =
-      agree_after S v w (plan v).changes sv.coherent sw.coherent a (l.proper v sv.coherent) proper (l.may S v sv.coherent ours) in
+      agree_after S v w (plan v).changes sv.coherent sw.coherent a (l.proper v sv) proper (l.may S v sv.coherent ours) in
       (ap (λ (P : Plan). P.reply) same, view_of (subst (λ P. Agree S (after v) (after_plan w P)) (sym same) left))
 
   pub stays_sound : (w : World) → Sound w → Sound (after w)
-  stays_sound w s = record { coherent = coherent_all (plan w).changes w s.coherent (l.proper w s.coherent); sizes = l.sized w s; settled = l.rests w s }
+  stays_sound w s = record { coherent = coherent_all (plan w).changes w s.coherent (l.proper w s); linked = l.linked w s; sizes = l.sized w s; settled = l.rests w s }

@@ -1,5 +1,5 @@
 -- Changes that keep a coherent world so.
-use Rattle.std.proofs.Common.{true, false, ◌≡◌, ◌≢◌, ◌⊎◌, ℕ, ◌+◌, ◌<◌, ◌≤◌, cond, Bool, List, [], ◌∷◌, ◌++◌, Option, Some, None, sym, refl, ◌∙◌, ap, subst, inl, inr, arith}
+use Rattle.std.proofs.Common.{true, false, ◌≡◌, ◌≢◌, ◌⊎◌, ℕ, ◌+◌, ◌<◌, ◌≤◌, cond, is_some, nat_lt, if◌then◌else◌, Bool, List, [], ◌∷◌, ◌++◌, Option, Some, None, sym, refl, ◌∙◌, ap, subst, inl, inr, arith}
 use Rattle.std.proofs.lemmas.Bool.{or_left, or_right}
 use Rattle.std.specs.List.{list_any}
 use Rattle.std.specs.Option.{option_map}
@@ -12,18 +12,22 @@ use Rattle.hurd_creds.specs.NameMaps.{NameMap, edit}
 use Rattle.hurd_creds.proofs.NameLaws.{same_name-itself, same_or_apart, get_here, get_apart, edit_here, edit_apart}
 use Rattle.hurd_trans_iface.specs.Nodes.{NodeMap, Node, Entry, Header, Body, Content, Listing, IsShaped, is_dir, with_header, with_body}
 use Rattle.hurd_trans_iface.specs.Answers.{entry_in, entry_of}
-use Rattle.hurd_nodes.specs.Shown.{ServerInfo}
+use Rattle.hurd_trans_iface.proofs.Goods.{trees}
+use Rattle.hurd_nodes.specs.Shown.{ServerInfo, info_in, is_root_of, tree_by}
+use Rattle.hurd_nodes.specs.Settle.{is_entered, is_entered_at}
 use Rattle.hurd_ports.specs.declared.table.Opened.{Opened}
 use Rattle.hurd_ports.specs.declared.table.Right.{Right}
 use Rattle.hurd_ports.specs.declared.table.Port.{Port}
 use Rattle.hurd_ports.specs.Tables.{Task, OpenMap, rights_of}
 use Rattle.hurd_ports.specs.Steps.{named, edit_task}
-use Rattle.hurd_machine.specs.World.{World, IsAmong, boot_root, nodes_of, task_at, open_at, header_at, body_at, home_at, server_at, is_of, lists, lists_at}
-use Rattle.hurd_machine.specs.Change.{Change, EditHeader, EditBody, MakeNode, EditOpen, MakeOpen, EditTask, Settle, settle, apply, apply_all}
-use Rattle.hurd_machine.specs.Sound.{Below, AreDistinct, HasDistinctNames, AreGiven, AreHoused, IsTree, AreTables, Coherent}
-use Rattle.hurd_machine.proofs.Nodes.{header_in, body_in, edited_from, node_of_header}
+use Rattle.hurd_machine.specs.World.{World, IsAmong, boot_root, nodes_of, task_at, open_at, header_at, body_at, home_at, server_at, info_at, is_of, lists, lists_at}
+use Rattle.hurd_machine.specs.Change.{Change, EditHeader, EditBody, MakeNode, EditOpen, MakeOpen, EditTask, Settle, stays, settle, apply, apply_all}
+use Rattle.hurd_machine.specs.Sound.{Below, AreDistinct, HasDistinctNames, AreGiven, AreHoused, IsTree, AreTables, Coherent, LeadsUp, AtRoot, Above, Linked}
+use Rattle.hurd_machine.proofs.Nodes.{header_in, body_in, body-with_header, edit_keeps, edited_from, node_of_header}
+use Rattle.hurd_machine.proofs.Listed.{entered_by}
 use Rattle.hurd_machine.proofs.Tasks.{edit_cases, edit_here as task_here, below_edit}
 use Rattle.hurd_machine.proofs.Holders.{held_by_right, held_stays, left_over}
+use Rattle.hurd_machine.proofs.Stays.{stays_root, stays_as_root, stays_entered, node_still, home_still, root_still, node_left, home_left, header_left, lists_left, no_home_left}
 
 -- what a change must have to keep a world coherent
 
@@ -80,15 +84,23 @@ pub record Table (w : World) (x z : Task) : Type 0 where
   pub rights : (r : Right) → IsAmong r (rights_of z) → IsAmong r (rights_of x) ⊎ IsNew new r
   pub numbers : (p : Port) → IsAmong p z.ports → p.number < z.next
 
+-- nothing has the node as an entry
+abbrev pub IsUnlisted : NodeMap → Name → Type 0
+IsUnlisted m n = (d : Name) → lists_at n (body_in (get m d)) ≡ true → ⊥
+
+-- a node keeps its parent; or it is no entry just now, and its new parent was made
+abbrev pub MayMove : World → NodeMap → Name → Option Name → Option Name → Type 0
+MayMove w m n new old = (new ≡ old) ⊎ (IsUnlisted m n × ((p : Name) → new ≡ Some p → Below w p))
+
 -- a change that keeps a coherent world so
 abbrev pub Proper : World → Change → Type 0
-Proper w (EditHeader n f) = (h : Header) → ((f h).kind ≡ h.kind) × ((f h).parent ≡ h.parent)
+Proper w (EditHeader n f) = (h : Header) → header_at w n ≡ Some h → ((f h).kind ≡ h.kind) × MayMove w w.nodes n (f h).parent h.parent
 Proper w (EditBody n g) = (b : Body) → body_at w n ≡ Some b → GoodBody w n b (g b)
 Proper w (MakeNode n s node) = IsNext w n × GoodNode w s node
 Proper w (EditOpen o f) = (z : Opened) → asks (f z).modes WRITE ≡ true → asks z.modes WRITE ≡ true
 Proper w (MakeOpen o z) = IsNext w o
 Proper w (EditTask q f) = ((x : Task) → x.made ≤ (f x).made) × (x : Task) × (task_at w q ≡ Some x) × Table w x (f x)
-Proper w Settle = Unit {0}
+Proper w Settle = Linked (nodes_of w)
 
 -- each change is proper in the world that the ones before it leave
 abbrev pub AllProper : World → List Change → Type 0
@@ -147,6 +159,13 @@ no_node {w} c n new = go (get w.nodes n) refl
     go None e = refl
     go (Some x) e = absurd (new (c.given.nodes n x e))
 
+pub no_home : {w : World} → Coherent w → (n : Name) → (Below w n → ⊥) → home_at w n ≡ None
+no_home {w} c n new = go (home_at w n) refl
+  where
+    go : (o : Option Name) → home_at w n ≡ o → o ≡ None
+    go None e = refl
+    go (Some s) e = absurd (new (home_old c n s e))
+
 pub no_open : {w : World} → Coherent w → (o : Name) → (Below w o → ⊥) → open_at w o ≡ None
 no_open {w} c o new = go (open_at w o) refl
   where
@@ -166,27 +185,27 @@ was m k n x z e = elim (same_or_apart n k) [
 abbrev with_nodes : NodeMap → World → World
 with_nodes m w = record { nodes = m; homes = w.homes; servers = w.servers; opens = w.opens; tasks = w.tasks }
 
--- the node x at n comes from one that stands there
-record From (w : World) (n : Name) (x : Node) : Type 0 where
+-- the node x at n, of the map m, comes from one that stands there
+record From (w : World) (m : NodeMap) (n : Name) (x : Node) : Type 0 where
   node : Node
   is : get w.nodes n ≡ Some node
   kind : x.header.kind ≡ node.header.kind
-  parent : x.header.parent ≡ node.header.parent
+  parent : MayMove w m n x.header.parent node.header.parent
   shape : IsShaped node.header node.body → IsShaped x.header x.body
   distinct : HasDistinctNames node.body → HasDistinctNames x.body
   entries : (p : Name) → lists p x.body ≡ true → IsEntry w n p
 
 record Reworked (w : World) (m : NodeMap) : Type 0 where
-  from : (n : Name) (x : Node) → get m n ≡ Some x → From w n x
+  from : (n : Name) (x : Node) → get m n ≡ Some x → From w m n x
   still : (n : Name) (y : Node) → get w.nodes n ≡ Some y → (x : Node) × (get m n ≡ Some x)
 
 module _ (w : World) (m : NodeMap) (c : Coherent w) (r : Reworked w m) where
   -- a header is of a node that stood
-  header_from : (n : Name) (h : Header) → header_in (get m n) ≡ Some h → (k : Header) × (header_at w n ≡ Some k) × (h.kind ≡ k.kind) × (h.parent ≡ k.parent)
+  header_from : (n : Name) (h : Header) → header_in (get m n) ≡ Some h → (k : Header) × (header_at w n ≡ Some k) × (h.kind ≡ k.kind) × MayMove w m n h.parent k.parent
   header_from n h e =
       let x = node_of_header (get m n) h e in
       let y = r.from n x.0 x.1 in
-      (y.node.header, ap header_in y.is, ap (λ (z : Header). z.kind) (sym x.2) ∙ y.kind, ap (λ (z : Header). z.parent) (sym x.2) ∙ y.parent)
+      (y.node.header, ap header_in y.is, ap (λ (z : Header). z.kind) (sym x.2) ∙ y.kind, subst (λ (z : Header). MayMove w m n z.parent y.node.header.parent) x.2 y.parent)
 
   entry_from : (d n : Name) → lists_at n (body_in (get m d)) ≡ true → IsEntry w d n
   entry_from d n e = let x = lister (get m d) n e in (r.from d x.0 x.1).entries n x.2
@@ -204,7 +223,7 @@ module _ (w : World) (m : NodeMap) (c : Coherent w) (r : Reworked w m) where
     servers = c.given.servers;
     rights = c.given.rights;
     entries = λ d n e. (entry_from d n e).made;
-    parents = λ n p h e ep. let k = header_from n h e in c.given.parents n p k.0 k.1 (sym k.3 ∙ ep);
+    parents = λ n p h e ep. let k = header_from n h e in elim k.3 [ inl same ↦ c.given.parents n p k.0 k.1 (sym same ∙ ep) | inr new ↦ new.1 p ep ];
   }
 
   reworked_housing : AreHoused (nodes_of (with_nodes m w))
@@ -218,10 +237,13 @@ module _ (w : World) (m : NodeMap) (c : Coherent w) (r : Reworked w m) where
   reworked_tree : IsTree (nodes_of (with_nodes m w))
   reworked_tree = record {
     kin = λ d n e. (entry_from d n e).kin;
-    below = λ d n h e eh is. let k = header_from n h eh in k.3 ∙ (entry_from d n e).below k.0 k.1 (sym k.2 ∙ is);
+    below = λ d n h e eh is.
+        let k = header_from n h eh in
+        elim k.3 [ inl same ↦ same ∙ (entry_from d n e).below k.0 k.1 (sym k.2 ∙ is) | inr new ↦ absurd (new.0 d e) ];
     shapes = λ n x e. let y = r.from n x e in y.shape (c.tree.shapes n y.node y.is);
     distinct = λ n x e. let y = r.from n x e in y.distinct (c.tree.distinct n y.node y.is);
     root = header_still boot_root c.tree.root.0 c.tree.root.1;
+    boot = c.tree.boot;
   }
 
   reworked_tables : AreTables (with_nodes m w)
@@ -247,35 +269,40 @@ module _ (w : World) (c : Coherent w) (n : Name) where
       let e' : lists_at p (body_at w n) ≡ true = ap (λ o. lists_at p (body_in o)) is ∙ e in
       record { made = c.given.entries n p e'; kin = c.tree.kin n p e'; below = λ h eh. c.tree.below n p h e' eh }
 
-  unchanged : (x : Node) → get w.nodes n ≡ Some x → From w n x
-  unchanged x e = record { node = x; is = e; kind = refl; parent = refl; shape = λ shaped. shaped; distinct = λ names. names; entries = entry_is x e }
+  unchanged : (m : NodeMap) (x : Node) → get w.nodes n ≡ Some x → From w m n x
+  unchanged m x e = record { node = x; is = e; kind = refl; parent = inl refl; shape = λ shaped. shaped; distinct = λ names. names; entries = entry_is x e }
 
-  with_header_from : (f : Header → Header) → Proper w (EditHeader n f) → (y : Node) → get w.nodes n ≡ Some y → From w n (with_header f y)
-  with_header_from f p y is = record {
-    node = y;
-    is = is;
-    kind = (p y.header).0;
-    parent = (p y.header).1;
-    shape = shaped_by_kind y.header (f y.header) y.body (p y.header).0;
-    distinct = λ names. names;
-    entries = entry_is y is;
-  }
+  with_header_from : (f : Header → Header) → Proper w (EditHeader n f) → (y : Node) → get w.nodes n ≡ Some y → From w (edit n (with_header f) w.nodes) n (with_header f y)
+  with_header_from f p y is =
+      let l = p y.header (ap header_in is) in
+      record {
+        node = y;
+        is = is;
+        kind = l.0;
+        parent = elim l.1 [
+          | inl same ↦ inl same
+          | inr new ↦ inr (λ d e. new.0 d (sym (ap (lists_at n) (edit_keeps body_in (with_header f) (body-with_header f) w.nodes n d)) ∙ e), new.1)
+        ];
+        shape = shaped_by_kind y.header (f y.header) y.body l.0;
+        distinct = λ names. names;
+        entries = entry_is y is;
+      }
 
-  with_body_from : (g : Body → Body) → Proper w (EditBody n g) → (y : Node) → get w.nodes n ≡ Some y → From w n (with_body g y)
+  with_body_from : (g : Body → Body) → Proper w (EditBody n g) → (y : Node) → get w.nodes n ≡ Some y → From w (edit n (with_body g) w.nodes) n (with_body g y)
   with_body_from g p y is =
       let l = p y.body (ap body_in is) in
-      record { node = y; is = is; kind = refl; parent = refl; shape = l.shape y.header; distinct = l.distinct; entries = l.entries }
+      record { node = y; is = is; kind = refl; parent = inl refl; shape = l.shape y.header; distinct = l.distinct; entries = l.entries }
 
 -- an edit at one node, which may be
-edited : (w : World) → Coherent w → (k : Name) (f : Node → Node) → ((y : Node) → get w.nodes k ≡ Some y → From w k (f y)) → Reworked w (edit k f w.nodes)
+edited : (w : World) → Coherent w → (k : Name) (f : Node → Node) → ((y : Node) → get w.nodes k ≡ Some y → From w (edit k f w.nodes) k (f y)) → Reworked w (edit k f w.nodes)
 edited w c k f may = record { from = from; still = still }
   where
-    from : (n : Name) (x : Node) → get (edit k f w.nodes) n ≡ Some x → From w n x
+    from : (n : Name) (x : Node) → get (edit k f w.nodes) n ≡ Some x → From w (edit k f w.nodes) n x
     from n x e = elim (same_or_apart n k) [
       | inl a ↦
           let l = edited_from f (get w.nodes k) x (sym (edit_here w.nodes k f) ∙ rw a at e) in
-          subst (λ z. From w z x) (sym a) (subst (From w k) l.2 (may l.0 l.1))
-      | inr a ↦ unchanged w c n x (sym (edit_apart w.nodes k f n a) ∙ e)
+          subst (λ z. From w (edit k f w.nodes) z x) (sym a) (subst (From w (edit k f w.nodes) k) l.2 (may l.0 l.1))
+      | inr a ↦ unchanged w c n (edit k f w.nodes) x (sym (edit_apart w.nodes k f n a) ∙ e)
     ]
 
     still : (n : Name) (y : Node) → get w.nodes n ≡ Some y → (x : Node) × (get (edit k f w.nodes) n ≡ Some x)
@@ -414,12 +441,88 @@ open_made w c k z b unnamed = record {
   still = λ t x r y at i e. (y, get_apart w.opens k z r.open_name (unnamed t x r at i) ∙ e);
 }
 
-opens_left : (w : World) → Coherent w → Reopened w (settle w).opens
-opens_left w c = record {
-  made = λ o z e. c.given.opens o z (left_over w o z e).0;
-  writes = λ t x r z at i e modes. (z, (left_over w r.open_name z e).0, modes);
-  still = λ t x r z at i e. (z, held_stays w r.open_name (held_by_right w.tasks t x r at i) ∙ e);
-}
+-- what has a root stays at it, and what an entry names stays
+
+pub root_stays : (w : World) → Coherent w → (s : Name) (i : ServerInfo) → server_at w s ≡ Some i → stays w i.root ≡ true
+root_stays w c s i e = stays_root w s i e (c.housing.roots s i e)
+
+pub boot_stays : (w : World) → Coherent w → stays w boot_root ≡ true
+boot_stays w c = stays_as_root w boot_root c.tree.boot
+
+-- a node that is there has a server
+pub header_info : (w : World) → Coherent w → (n : Name) (h : Header) → header_at w n ≡ Some h → (i : ServerInfo) × (info_at w n ≡ Some i)
+header_info w c n h e = let s = c.housing.homes n h e in (s.1, ap (info_in w.servers) s.2 ∙ s.3)
+
+pub header_stays : (w : World) → Coherent w → (n : Name) (h : Header) → header_at w n ≡ Some h → is_entered h ≡ true → stays w n ≡ true
+header_stays w c n h e is =
+    let i = header_info w c n h e in
+    let x = node_of_header (get w.nodes n) h e in
+    stays_entered w n i.0 i.1 (ap is_entered_at x.1 ∙ ap is_entered x.2 ∙ is)
+
+-- what an entry names has a link or a parent
+pub entry_entered : (w : World) → Coherent w → Linked (nodes_of w) → (d n : Name) (h : Header) → lists_at n (body_at w d) ≡ true → header_at w n ≡ Some h → is_entered h ≡ true
+entry_entered w c l d n h e eh =
+    let i = header_info w c n h eh in
+    entered_by (nodes_of w) d n h e (l.nodes n h eh) (ap tree_by i.1 ∙ trees i.0.kind) (λ dir. c.tree.below d n h e eh dir)
+
+pub entry_stays : (w : World) → Coherent w → Linked (nodes_of w) → (d n : Name) (h : Header) → lists_at n (body_at w d) ≡ true → header_at w n ≡ Some h → stays w n ≡ true
+entry_stays w c l d n h e eh = header_stays w c n h eh (entry_entered w c l d n h e eh)
+
+-- a directory with entries stays: it is a root, or has a parent
+pub leads_stays : (w : World) → Coherent w → Linked (nodes_of w) → (d : Name) → LeadsUp (nodes_of w) d → stays w d ≡ true
+leads_stays w c l d (AtRoot is) = stays_as_root w d is
+leads_stays w c l d (Above p k is up rest) =
+    let dir = ((l.nodes d k is).up p up).0 in
+    header_stays w c d k is (ap (λ b. if b then is_some k.parent else nat_lt 0 k.links) (ap is_dir dir) ∙ ap is_some up)
+
+-- whether an entry is of a node or not, it has a server after settling if it had one
+pub entry_homed : (w : World) → Linked (nodes_of w) → Coherent w → (d n : Name) → lists_at n (body_at w d) ≡ true → home_at (settle w) n ≡ home_at w n
+entry_homed w l c d n e = go (home_at w n) refl
+  where
+    go : (o : Option Name) → home_at w n ≡ o → home_at (settle w) n ≡ home_at w n
+    go None k = no_home_left w n k ∙ sym k
+    go (Some s) k = let h = c.housing.housed n s k in home_still w n (entry_stays w c l d n h.0 e h.1)
+
+-- with what doesn't stay taken out
+module _ (w : World) (c : Coherent w) (l : Linked (nodes_of w)) where
+  settled_given : AreGiven (settle w)
+  settled_given = record {
+    nodes = λ n x e. c.given.nodes n x (node_left w n x e).0;
+    opens = λ o z e. c.given.opens o z (left_over w o z e).0;
+    servers = c.given.servers;
+    rights = c.given.rights;
+    entries = λ d n e. c.given.entries d n (lists_left w d n e).0;
+    parents = λ n p h e ep. c.given.parents n p h (header_left w n h e).0 ep;
+  }
+
+  settled_housing : AreHoused (nodes_of (settle w))
+  settled_housing = record {
+    homes = λ n h e. let k = header_left w n h e in let i = c.housing.homes n h k.0 in (i.0, i.1, home_still w n k.1 ∙ i.2, i.3);
+    housed = λ n s e. let k = home_left w n s e in let h = c.housing.housed n s k.0 in (h.0, ap header_in (node_still w n k.1) ∙ h.1);
+    roots = λ s i e. home_still w i.root (root_stays w c s i e) ∙ c.housing.roots s i e;
+    serving = c.housing.serving;
+  }
+
+  settled_tree : IsTree (nodes_of (settle w))
+  settled_tree = record {
+    kin = λ d n e. let k = lists_left w d n e in entry_homed w l c d n k.0 ∙ c.tree.kin d n k.0 ∙ sym (home_still w d k.1);
+    below = λ d n h e eh is. c.tree.below d n h (lists_left w d n e).0 (header_left w n h eh).0 is;
+    shapes = λ n x e. c.tree.shapes n x (node_left w n x e).0;
+    distinct = λ n x e. c.tree.distinct n x (node_left w n x e).0;
+    root = (c.tree.root.0, ap header_in (node_still w boot_root (boot_stays w c)) ∙ c.tree.root.1);
+    boot = root_still w boot_root (boot_stays w c) ∙ c.tree.boot;
+  }
+
+  settled_tables : AreTables (settle w)
+  settled_tables = record {
+    numbers = c.tables.numbers;
+    opened = λ t x r at i. let o = c.tables.opened t x r at i in (o.0, held_stays w r.open_name (held_by_right w.tasks t x r at i) ∙ o.1);
+    shared = c.tables.shared;
+    written = λ t x r o h at i eo modes eh. c.tables.written t x r o h at i (left_over w r.open_name o eo).0 modes (header_left w r.node h eh).0;
+  }
+
+  pub settle_coherent : Coherent (settle w)
+  settle_coherent = record { given = settled_given; housing = settled_housing; tree = settled_tree; tables = settled_tables }
 
 -- with a node made, under a name that was given and that nothing stands under
 
@@ -514,6 +617,10 @@ module _ (w : World) (c : Coherent w) (n s : Name) (node : Node) (b : Below w n)
         let x = node_of_header (get w.nodes boot_root) c.tree.root.0 c.tree.root.1 in
         let apart : boot_root ≢ n = λ a. let gone : get w.nodes boot_root ≡ None = rw a absent in cc (x.1) in
         (c.tree.root.0, ap header_in (get_apart w.nodes n node boot_root apart) ∙ c.tree.root.1);
+    boot =
+        let x = node_of_header (get w.nodes boot_root) c.tree.root.0 c.tree.root.1 in
+        let apart : boot_root ≢ n = λ a. let gone : get w.nodes boot_root ≡ None = rw a absent in cc (x.1) in
+        ap (is_root_of w.servers boot_root) (get_apart w.homes n s boot_root apart) ∙ c.tree.boot;
   }
 
   made_tables : AreTables made_world
@@ -576,7 +683,7 @@ coherent_one (MakeOpen o z) w c p =
     reopened (named_world w c o p 1) (insert w.opens o z) (named_coherent w c o p 1)
     (open_made (named_world w c o p 1) (named_coherent w c o p 1) o z (named_below w c o p 1 o refl (omega arith)) (unopened w c o p 1 o (next_not w o p)))
 coherent_one (EditTask q f) w s p = task_coherent w s q f p.0 p.1 p.2 p.3
-coherent_one Settle w c p = reopened w (settle w).opens c (opens_left w c)
+coherent_one Settle w c p = settle_coherent w c p
 
 pub coherent_all : (cs : List Change) (w : World) → Coherent w → AllProper w cs → Coherent (apply_all cs w)
 coherent_all [] w c p = c
@@ -589,5 +696,5 @@ apply_all-append [] ds w = refl
 apply_all-append (c ∷ cs) ds w = apply_all-append cs ds (apply c w)
 
 pub proper_append : (cs ds : List Change) (w : World) → Coherent w → AllProper w cs → (Coherent (apply_all cs w) → AllProper (apply_all cs w) ds) → AllProper w (cs ++ ds)
-proper_append [] ds w c first then = then c
-proper_append (x ∷ cs) ds w c first then = (first.0, λ d. proper_append cs ds (apply x w) d (first.1 d) then)
+proper_append [] ds w c first onward = onward c
+proper_append (x ∷ cs) ds w c first onward = (first.0, λ d. proper_append cs ds (apply x w) d (first.1 d) onward)

@@ -46,21 +46,25 @@ SeenOrNew S v n = Seen S v n ⊎ NewTo S v n
 abbrev pub Known : (ℕ → Bool) → World → Part → Type 0
 Known S v p = Sees S v p ⊎ NewPart S v p
 
--- a header that opens nothing that another kept shut
-pub record Less (S : ℕ → Bool) (v : World) (h before : Header) : Type 0 where
+-- a header of a node that opens nothing that another kept shut; a new parent is one that S saw or made, and with it S knew whether the node is empty
+pub record Less (S : ℕ → Bool) (v : World) (n : Name) (h before : Header) : Type 0 where
   pub kind : h.kind ≡ before.kind
-  pub parent : h.parent ≡ before.parent
+  pub parent : (p : Name) → h.parent ≡ Some p → (before.parent ≡ Some p) ⊎ (SeenOrNew S v p × Known S v (EmptyOf n))
   pub could : (want : Want) → Could S v h want → Could S v before want
 
-pub Less-refl : (S : ℕ → Bool) (v : World) (h : Header) → Less S v h h
-Less-refl S v h = record { kind = refl; parent = refl; could = λ want c. c }
+pub Less-refl : (S : ℕ → Bool) (v : World) (n : Name) (h : Header) → Less S v n h h
+Less-refl S v n h = record { kind = refl; parent = λ p e. inl e; could = λ want c. c }
 
-pub Less-trans : {S : ℕ → Bool} {v : World} (h k l : Header) → Less S v h k → Less S v k l → Less S v h l
-Less-trans h k l a b = record { kind = a.kind ∙ b.kind; parent = a.parent ∙ b.parent; could = λ want c. b.could want (a.could want c) }
+pub Less-trans : {S : ℕ → Bool} {v : World} (n : Name) (h k l : Header) → Less S v n h k → Less S v n k l → Less S v n h l
+Less-trans n h k l a b = record {
+  kind = a.kind ∙ b.kind;
+  parent = λ p e. elim (a.parent p e) [ inl i ↦ b.parent p i | inr new ↦ inr new ];
+  could = λ want c. b.could want (a.could want c);
+}
 
 -- a header of x at a node: one that stood there in v, with less; or a new node's, below a parent that S saw or made
 abbrev pub HeaderInside : (ℕ → Bool) → World → Name → Header → Type 0
-HeaderInside S v n h = ((before : Header) × (header_at v n ≡ Some before) × Less S v h before) ⊎ (NewTo S v n × ((p : Name) → h.parent ≡ Some p → SeenOrNew S v p))
+HeaderInside S v n h = ((before : Header) × (header_at v n ≡ Some before) × Less S v n h before) ⊎ (NewTo S v n × ((p : Name) → h.parent ≡ Some p → SeenOrNew S v p))
 
 -- a right that S may hold, but for its ids: on a node that it saw or made, and an open that it had or made
 pub record RightInside (S : ℕ → Bool) (v : World) (r : Right) : Type 0 where
@@ -94,7 +98,7 @@ Inside-refl S v = record {
   });
   held = λ r h. record { node = inl (Held r h refl); opened = inl (r, h, refl) };
   reads = λ r o h e modes k is. IsOpen r h refl o e modes;
-  headers = λ n h e. inl (h, e, Less-refl S v h);
+  headers = λ n h e. inl (h, e, Less-refl S v n h);
   entries = λ d n name e. inl e;
   homes = λ n s e. inl e;
 }
@@ -121,7 +125,7 @@ module _ {S : ℕ → Bool} {v x : World} (coherent : Coherent v) (i : Inside S 
   serve_back info c = elim i.power [ inl all ↦ (0, all, inr refl) | inr less ↦ (c.0, uid_back less c.0 c.1, c.2) ]
 
   -- the header that a node which S saw had
-  header_before : (n : Name) (h : Header) → header_at x n ≡ Some h → Seen S v n → (before : Header) × (header_at v n ≡ Some before) × Less S v h before
+  header_before : (n : Name) (h : Header) → header_at x n ≡ Some h → Seen S v n → (before : Header) × (header_at v n ≡ Some before) × Less S v n h before
   header_before n h e s = elim (i.headers n h e) [ inl l ↦ l | inr new ↦ absurd (new.0.1 (seen_old coherent n s)) ]
 
   child_inside : (d n : Name) (h : Header) (name : List ℕ) → header_at x d ≡ Some h → h.kind ≡ Dir → Could S x h Exec → SeenOrNew S v d → (entry_of name (body_at v d) ≡ Some n) ⊎ SeenOrNew S v n → SeenOrNew S v n
@@ -133,7 +137,7 @@ module _ {S : ℕ → Bool} {v x : World} (coherent : Coherent v) (i : Inside S 
 
   parent_inside : (d n : Name) (h : Header) → header_at x d ≡ Some h → h.parent ≡ Some n → SeenOrNew S v d → HeaderInside S v d h → SeenOrNew S v n
   parent_inside d n h eh ep ok (inr new) = new.1 n ep
-  parent_inside d n h eh ep (inl sd) (inl l) = inl (Parent d l.0 sd l.1 (sym l.2.parent ∙ ep))
+  parent_inside d n h eh ep (inl sd) (inl l) = elim (l.2.parent n ep) [ inl e ↦ inl (Parent d l.0 sd l.1 e) | inr new ↦ new.0 ]
   parent_inside d n h eh ep (inr new) (inl l) = absurd (new.1 (header_old coherent d l.0 l.1))
 
   server_inside : (n s : Name) → SeenOrNew S v n → (home_at v n ≡ Some s) ⊎ Sees S v (OptionsOf s) → Sees S v (OptionsOf s)
@@ -154,24 +158,26 @@ module _ {S : ℕ → Bool} {v x : World} (coherent : Coherent v) (i : Inside S 
       let seat = server_inside m s (seen_inside m sm) (i.homes m s em) in
       inl (ServerRoot seat.0 s info seat.1 seat.2 (server_back s info es) (serve_back info c) e)
 
-  body_inside : (n : Name) (h before : Header) → header_at v n ≡ Some before → Less S v h before → SeesBody S x n h → SeesBody S v n before
+  body_inside : (n : Name) (h before : Header) → header_at v n ≡ Some before → Less S v n h before → SeesBody S x n h → SeesBody S v n before
   body_inside n h before is less (ToRead c) = ToRead (less.could Read (could_back h Read c))
   body_inside n h before is less (ToSearch k c) = ToSearch (sym less.kind ∙ k) (less.could Exec (could_back h Exec c))
   body_inside n h before is less (IsOpen r held e o at modes) =
       subst (λ z. SeesBody S v z before) (sym e) (i.reads r o held at modes before (subst (λ z. header_at v z ≡ Some before) e is))
 
-  empty_inside : (n : Name) (h before : Header) → Seen S v n → header_at v n ≡ Some before → Less S v h before → SeesEmpty S x n h → SeesEmpty S v n before
-  empty_inside n h before s is less (ByBody b) = ByBody (body_inside n h before is less b)
-  empty_inside n h before s is less (ByParent p a ep ea c) =
-      let ep' : before.parent ≡ Some p = sym less.parent ∙ ep in
-      let l = header_before p a ea (Parent n before s is ep') in
-      ByParent p l.0 ep' l.1 (l.2.could Write (could_back a Write c))
+  empty_inside : (n : Name) (h before : Header) → Seen S v n → header_at v n ≡ Some before → Less S v n h before → SeesEmpty S x n h → SeesEmpty S v n before ⊎ Known S v (EmptyOf n)
+  empty_inside n h before s is less (ByBody b) = inl (ByBody (body_inside n h before is less b))
+  empty_inside n h before s is less (ByParent p a ep ea c) = elim (less.parent p ep) [
+    | inl e ↦ let l = header_before p a ea (Parent n before s is e) in inl (ByParent p l.0 e l.1 (l.2.could Write (could_back a Write c)))
+    | inr new ↦ inr new.1
+  ]
 
   -- a part that is seen was seen, or is new
   pub sees_inside : (p : Part) → Sees S x p → Known S v p
   sees_inside (AttrOf n) s = seen_inside n s
   sees_inside (EmptyOf n) s = elim (seen_inside n s.0) [
-    | inl sn ↦ let l = header_before n s.1 s.2 sn in inl (sn, l.0, l.1, sym l.2.kind ∙ s.3, empty_inside n s.1 l.0 sn l.1 l.2 s.4)
+    | inl sn ↦
+        let l = header_before n s.1 s.2 sn in
+        elim (empty_inside n s.1 l.0 sn l.1 l.2 s.4) [ inl sees ↦ inl (sn, l.0, l.1, sym l.2.kind ∙ s.3, sees) | inr known ↦ known ]
     | inr new ↦ inr new
   ]
   sees_inside (BodyOf n) s = elim (seen_inside n s.0) [

@@ -8,11 +8,12 @@ use Rattle.hurd_machine.specs.World.{World, body_at, lists, lists_at}
 use Rattle.hurd_machine.specs.Sight.{Part, AttrOf, BodyOf}
 use Rattle.hurd_machine.specs.Touched.{Changes, OnDid}
 use Rattle.hurd_machine.specs.Change.{Change, EditBody, changes_of}
-use Rattle.hurd_machine.specs.Sound.{HasDistinctNames, Coherent}
+use Rattle.hurd_machine.specs.Sound.{HasDistinctNames, Coherent, times_in}
 use Rattle.hurd_machine.proofs.Nodes.{KeepsEmptiness}
 use Rattle.hurd_machine.proofs.Coherence.{Proper, AllProper}
 use Rattle.hurd_machine.proofs.Settle.{Rests, AreQuiet, rests_quiet}
 use Rattle.hurd_machine.proofs.Frame.{AllWithin}
+use Rattle.hurd_machine.proofs.Links.{KeepsLinked, AreSteady, linked_steady}
 
 module _ (f : List ℕ → List ℕ) where
   bytes_emptiness : KeepsEmptiness (on_bytes f)
@@ -22,6 +23,10 @@ module _ (f : List ℕ → List ℕ) where
   bytes_lists : (n : Name) (b : Body) → lists n (on_bytes f b) ≡ lists n b
   bytes_lists n (Content bs) = refl
   bytes_lists n (Listing es) = refl
+
+  bytes_times : (b : Body) (n : Name) → times_in n (on_bytes f b) ≡ times_in n b
+  bytes_times (Content bs) n = refl
+  bytes_times (Listing es) n = refl
 
   bytes_shape : (h : Header) (b : Body) → IsShaped h b → IsShaped h (on_bytes f b)
   bytes_shape h (Content bs) s = s
@@ -52,15 +57,21 @@ left_within T w n (Some f) (Some k) body attr = ((body tt, inr (bytes_emptiness 
 
 left_proper : (w : World) → Coherent w → (n : Name) (bytes : Option (List ℕ → List ℕ)) (size : Option ℕ) → AllProper w (left_changes n bytes size)
 left_proper w c n None None = tt
-left_proper w c n None (Some k) = (λ h. (refl, refl), λ d. tt)
+left_proper w c n None (Some k) = (λ h is. (refl, inl refl), λ d. tt)
 left_proper w c n (Some f) None = (bytes_proper f w c n, λ d. tt)
-left_proper w c n (Some f) (Some k) = (bytes_proper f w c n, λ d. (λ h. (refl, refl), λ e. tt))
+left_proper w c n (Some f) (Some k) = (bytes_proper f w c n, λ d. (λ h is. (refl, inl refl), λ e. tt))
 
-left_quiet : (n : Name) (bytes : Option (List ℕ → List ℕ)) (size : Option ℕ) → AreQuiet (left_changes n bytes size)
-left_quiet n None None = tt
-left_quiet n None (Some k) = (tt, tt)
-left_quiet n (Some f) None = (tt, tt)
-left_quiet n (Some f) (Some k) = (tt, (tt, tt))
+left_quiet : (w : World) (n : Name) (bytes : Option (List ℕ → List ℕ)) (size : Option ℕ) → AreQuiet w (left_changes n bytes size)
+left_quiet w n None None = tt
+left_quiet w n None (Some k) = (λ h e. e, tt)
+left_quiet w n (Some f) None = (tt, tt)
+left_quiet w n (Some f) (Some k) = (tt, (λ h e. e, tt))
+
+left_steady : (n : Name) (bytes : Option (List ℕ → List ℕ)) (size : Option ℕ) → AreSteady (left_changes n bytes size)
+left_steady n None None = tt
+left_steady n None (Some k) = (λ h. (refl, refl, refl), tt)
+left_steady n (Some f) None = (bytes_times f, tt)
+left_steady n (Some f) (Some k) = (bytes_times f, (λ h. (refl, refl, refl), tt))
 
 pub did_within : {R : Type 0} (T : Part → Type 0) (w : World) (n : Name) (d : Did R) → ((p : Part) → OnDid n d p → T p) → AllWithin T w (changes_of (edits_of n (Ok d)))
 did_within T w n d parts = left_within T w n d.bytes d.size (λ b. parts (BodyOf n) (inl (b, refl))) (λ s. parts (AttrOf n) (inr (s, refl)))
@@ -69,4 +80,7 @@ pub did_proper : {R : Type 0} (w : World) → Coherent w → (n : Name) (d : Did
 did_proper w c n d = left_proper w c n d.bytes d.size
 
 pub did_rests : {R : Type 0} (w : World) (n : Name) (d : Did R) → Rests w (changes_of (edits_of n (Ok d)))
-did_rests w n d = rests_quiet (changes_of (edits_of n (Ok d))) w (left_quiet n d.bytes d.size)
+did_rests w n d = rests_quiet (changes_of (edits_of n (Ok d))) w (left_quiet w n d.bytes d.size)
+
+pub did_linked : {R : Type 0} (w : World) (n : Name) (d : Did R) → KeepsLinked w (changes_of (edits_of n (Ok d)))
+did_linked w n d = linked_steady (changes_of (edits_of n (Ok d))) w (left_steady n d.bytes d.size)

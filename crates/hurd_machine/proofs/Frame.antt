@@ -1,22 +1,23 @@
 -- What changes leave as it was.
-use Rattle.std.proofs.Common.{◌≡◌, ◌≢◌, ◌⊎◌, ℕ, false, List, [], ◌∷◌, ◌++◌, Option, Some, None, slice_get, sym, refl, ◌∙◌, ap, ap₂, subst, inl, inr, arith}
+use Rattle.std.proofs.Common.{◌≡◌, ◌≢◌, ◌⊎◌, ℕ, Bool, false, List, [], ◌∷◌, ◌++◌, Option, Some, None, slice_get, length, sym, refl, ◌∙◌, ap, ap₂, subst, inl, inr, arith}
 use Rattle.std.specs.Option.{option_map}
 use Rattle.std.specs.FinMap.{get, insert}
 use Rattle.hurd_creds.specs.declared.name.Name.{Name}
 use Rattle.hurd_creds.proofs.NameLaws.{same_name-apart, get_apart, edit_apart as edit_other}
 use Rattle.hurd_trans_iface.specs.Nodes.{with_header, with_body, is_empty_dir}
 use Rattle.hurd_ports.specs.declared.table.Right.{Right}
-use Rattle.hurd_ports.specs.Tables.{Task, rights_of, names_open, IsSettled}
+use Rattle.hurd_ports.specs.Tables.{Task, rights_of, names_open}
 use Rattle.hurd_ports.specs.Steps.{named, edit_task}
-use Rattle.hurd_ports.proofs.TaskLaws.{edit-apart}
-use Rattle.hurd_machine.specs.World.{World, IsAmong, ports_of, task_at, open_at, header_at, body_at, home_at}
-use Rattle.hurd_machine.specs.Sight.{Part, AttrOf, EmptyOf, BodyOf, OpenOf, OptionsOf, UsersOf, TaskOf, part, count_list, count_rights, is_home, is_on, holders, users, AnAttr, AnEmpty, ABody, AnOpen, AnOptions, AUsers, ATask}
+use Rattle.hurd_ports.proofs.TaskLaws.{edit-apart, edit-length}
+use Rattle.hurd_machine.specs.World.{World, IsAmong, task_at, open_at, header_at, body_at, home_at}
+use Rattle.hurd_machine.specs.Sight.{Part, AttrOf, EmptyOf, BodyOf, OpenOf, OptionsOf, UsersOf, TaskOf, Sees, part, IsGone, count_list, count_rights, is_home, is_on, holders, users, AnAttr, AnEmpty, ABody, AnOpen, AnOptions, AUsers, ATask}
 use Rattle.hurd_machine.specs.Change.{Change, EditHeader, EditBody, MakeNode, EditOpen, MakeOpen, EditTask, Settle, settle, apply, apply_all}
-use Rattle.hurd_machine.specs.Sound.{Below, Coherent, Sound}
+use Rattle.hurd_machine.specs.Sound.{Below, Coherent, AtRest, Sound}
 use Rattle.hurd_machine.proofs.Nodes.{header_in, body_in, empty_in, header-with_body, body-with_header, edit_keeps, KeepsEmptiness, empty-kept}
 use Rattle.hurd_machine.proofs.Tasks.{count_edit, count_named, count_alike}
 use Rattle.hurd_machine.proofs.Coherence.{IsNext, next_not, unnoded, Proper, AllProper, coherent_one}
-use Rattle.hurd_machine.proofs.Settle.{settle_part}
+use Rattle.hurd_machine.proofs.Views.{Agree, Agree-trans}
+use Rattle.hurd_machine.proofs.Settle.{settle_part, settle_gone, settle_agrees}
 
 -- of a task z in place of x, as many rights name each open, and are on each server's nodes, but for those of T
 pub record Moved (T : Part → Type 0) (w : World) (x z : Task) : Type 0 where
@@ -88,30 +89,34 @@ module _ (w : World) (coherent : Coherent w) (T : Part → Type 0) where
   avoids : (p q : Part) → T q → (T p → ⊥) → p ≢ q
   avoids p q i h e = h (subst T (sym e) i)
 
-  header_kept : (c : Change) (n : Name) → Within T w c → (T (AttrOf n) → ⊥) → header_at (apply c w) n ≡ header_at w n
-  header_kept (EditHeader k f) n i h = ap header_in (edit_other w.nodes k (with_header f) n (λ e. avoids (AttrOf n) (AttrOf k) i h (ap AttrOf e)))
-  header_kept (EditBody k g) n i h = edit_keeps header_in (with_body g) (header-with_body g) w.nodes k n
-  header_kept (MakeNode k s node) n i h = ap header_in (get_apart w.nodes k node n (λ e. avoids (AttrOf n) (AttrOf k) i.1 h (ap AttrOf e)))
-  header_kept c n i h = refl
+  header_kept : (c : Change) → IsExact c → (n : Name) → Within T w c → (T (AttrOf n) → ⊥) → header_at (apply c w) n ≡ header_at w n
+  header_kept (EditHeader k f) ex n i h = ap header_in (edit_other w.nodes k (with_header f) n (λ e. avoids (AttrOf n) (AttrOf k) i h (ap AttrOf e)))
+  header_kept (EditBody k g) ex n i h = edit_keeps header_in (with_body g) (header-with_body g) w.nodes k n
+  header_kept (MakeNode k s node) ex n i h = ap header_in (get_apart w.nodes k node n (λ e. avoids (AttrOf n) (AttrOf k) i.1 h (ap AttrOf e)))
+  header_kept Settle ex n i h = absurd ex
+  header_kept c ex n i h = refl
 
-  home_kept : (c : Change) (n : Name) → Within T w c → (T (AttrOf n) → ⊥) → home_at (apply c w) n ≡ home_at w n
-  home_kept (MakeNode k s node) n i h = get_apart w.homes k s n (λ e. avoids (AttrOf n) (AttrOf k) i.1 h (ap AttrOf e))
-  home_kept c n i h = refl
+  home_kept : (c : Change) → IsExact c → (n : Name) → Within T w c → (T (AttrOf n) → ⊥) → home_at (apply c w) n ≡ home_at w n
+  home_kept (MakeNode k s node) ex n i h = get_apart w.homes k s n (λ e. avoids (AttrOf n) (AttrOf k) i.1 h (ap AttrOf e))
+  home_kept Settle ex n i h = absurd ex
+  home_kept c ex n i h = refl
 
-  body_kept : (c : Change) (n : Name) → Within T w c → (T (BodyOf n) → ⊥) → body_at (apply c w) n ≡ body_at w n
-  body_kept (EditHeader k f) n i h = edit_keeps body_in (with_header f) (body-with_header f) w.nodes k n
-  body_kept (EditBody k g) n i h = ap body_in (edit_other w.nodes k (with_body g) n (λ e. avoids (BodyOf n) (BodyOf k) i.0 h (ap BodyOf e)))
-  body_kept (MakeNode k s node) n i h = ap body_in (get_apart w.nodes k node n (λ e. avoids (BodyOf n) (BodyOf k) i.3 h (ap BodyOf e)))
-  body_kept c n i h = refl
+  body_kept : (c : Change) → IsExact c → (n : Name) → Within T w c → (T (BodyOf n) → ⊥) → body_at (apply c w) n ≡ body_at w n
+  body_kept (EditHeader k f) ex n i h = edit_keeps body_in (with_header f) (body-with_header f) w.nodes k n
+  body_kept (EditBody k g) ex n i h = ap body_in (edit_other w.nodes k (with_body g) n (λ e. avoids (BodyOf n) (BodyOf k) i.0 h (ap BodyOf e)))
+  body_kept (MakeNode k s node) ex n i h = ap body_in (get_apart w.nodes k node n (λ e. avoids (BodyOf n) (BodyOf k) i.3 h (ap BodyOf e)))
+  body_kept Settle ex n i h = absurd ex
+  body_kept c ex n i h = refl
 
-  empty_kept : (c : Change) (n : Name) → Within T w c → (T (EmptyOf n) → ⊥) → option_map is_empty_dir (body_at (apply c w) n) ≡ option_map is_empty_dir (body_at w n)
-  empty_kept (EditHeader k f) n i h = edit_keeps empty_in (with_header f) (λ o. ap (option_map is_empty_dir) (body-with_header f o)) w.nodes k n
-  empty_kept (EditBody k g) n i h = elim i.1 [
+  empty_kept : (c : Change) → IsExact c → (n : Name) → Within T w c → (T (EmptyOf n) → ⊥) → option_map is_empty_dir (body_at (apply c w) n) ≡ option_map is_empty_dir (body_at w n)
+  empty_kept (EditHeader k f) ex n i h = edit_keeps empty_in (with_header f) (λ o. ap (option_map is_empty_dir) (body-with_header f o)) w.nodes k n
+  empty_kept (EditBody k g) ex n i h = elim i.1 [
     | inl e ↦ ap empty_in (edit_other w.nodes k (with_body g) n (λ k. avoids (EmptyOf n) _ e h (ap EmptyOf k)))
     | inr keeps ↦ edit_keeps empty_in (with_body g) (empty-kept g keeps) w.nodes k n
   ]
-  empty_kept (MakeNode k s node) n i h = ap empty_in (get_apart w.nodes k node n (λ e. avoids (EmptyOf n) (EmptyOf k) i.2 h (ap EmptyOf e)))
-  empty_kept c n i h = refl
+  empty_kept (MakeNode k s node) ex n i h = ap empty_in (get_apart w.nodes k node n (λ e. avoids (EmptyOf n) (EmptyOf k) i.2 h (ap EmptyOf e)))
+  empty_kept Settle ex n i h = absurd ex
+  empty_kept c ex n i h = refl
 
   open_kept : (c : Change) → IsExact c → (o : Name) → Within T w c → (T (OpenOf o) → ⊥) → open_at (apply c w) o ≡ open_at w o
   open_kept (EditOpen k f) ex o i h = edit_other w.opens k f o (λ e. avoids (OpenOf o) (OpenOf k) i h (ap OpenOf e))
@@ -123,23 +128,25 @@ module _ (w : World) (coherent : Coherent w) (T : Part → Type 0) where
   server_kept Settle = refl
   server_kept c = refl
 
-  pub holders_kept : (c : Change) → Proper w c → (o : Name) → Within T w c → (T (OpenOf o) → ⊥) → holders (apply c w) o ≡ holders w o
-  holders_kept (EditTask q f) p o i h =
+  pub holders_kept : (c : Change) → IsExact c → Proper w c → (o : Name) → Within T w c → (T (OpenOf o) → ⊥) → holders (apply c w) o ≡ holders w o
+  holders_kept (EditTask q f) ex p o i h =
       let e = count_edit (names_open o) q f w.tasks p.1 p.2 in
       let m = (i.1 p.1 p.2).opens o h in
       omega arith
-  holders_kept (MakeNode n s node) p o i h = count_named (names_open o) n.task.0 1 w.tasks p.0.seat p.0.is_task
-  holders_kept (MakeOpen n z) p o i h = count_named (names_open o) n.task.0 1 w.tasks p.seat p.is_task
-  holders_kept c p o i h = refl
+  holders_kept (MakeNode n s node) ex p o i h = count_named (names_open o) n.task.0 1 w.tasks p.0.seat p.0.is_task
+  holders_kept (MakeOpen n z) ex p o i h = count_named (names_open o) n.task.0 1 w.tasks p.seat p.is_task
+  holders_kept Settle ex p o i h = absurd ex
+  holders_kept c ex p o i h = refl
 
-  users_kept : (c : Change) → Proper w c → (s : Name) → Within T w c → (T (UsersOf s) → ⊥) → users (apply c w) s ≡ users w s
-  users_kept (EditTask q f) p s i h =
+  users_kept : (c : Change) → IsExact c → Proper w c → (s : Name) → Within T w c → (T (UsersOf s) → ⊥) → users (apply c w) s ≡ users w s
+  users_kept (EditTask q f) ex p s i h =
       let e = count_edit (is_on w s) q f w.tasks p.1 p.2 in
       let m = (i.1 p.1 p.2).users s h in
       omega arith
-  users_kept (MakeNode n q node) p s i h = users_named w (apply (MakeNode n q node) w) coherent n p.0 1 n q (next_not w n p.0) refl refl s
-  users_kept (MakeOpen n z) p s i h = count_named (is_on w s) n.task.0 1 w.tasks p.seat p.is_task
-  users_kept c p s i h = refl
+  users_kept (MakeNode n q node) ex p s i h = users_named w (apply (MakeNode n q node) w) coherent n p.0 1 n q (next_not w n p.0) refl refl s
+  users_kept (MakeOpen n z) ex p s i h = count_named (is_on w s) n.task.0 1 w.tasks p.seat p.is_task
+  users_kept Settle ex p s i h = absurd ex
+  users_kept c ex p s i h = refl
 
   task_kept : (c : Change) (q : ℕ) → Within T w c → (T (TaskOf q) → ⊥) → task_at (apply c w) q ≡ task_at w q
   task_kept (EditTask k f) q i h = edit-apart k f w.tasks q (λ e. avoids (TaskOf q) (TaskOf k) i.0 h (ap TaskOf e))
@@ -149,30 +156,64 @@ module _ (w : World) (coherent : Coherent w) (T : Part → Type 0) where
 
 -- what a change doesn't write stays
 pub frame : (T : Part → Type 0) (w : World) → Coherent w → (c : Change) → IsExact c → Proper w c → (p : Part) → Within T w c → (T p → ⊥) → part (apply c w) p ≡ part w p
-frame T w coherent c ex pr (AttrOf n) i h = ap₂ AnAttr (header_kept w coherent T c n i h) (home_kept w coherent T c n i h)
-frame T w coherent c ex pr (EmptyOf n) i h = ap AnEmpty (empty_kept w coherent T c n i h)
-frame T w coherent c ex pr (BodyOf n) i h = ap ABody (body_kept w coherent T c n i h)
-frame T w coherent c ex pr (OpenOf o) i h = ap₂ AnOpen (open_kept w coherent T c ex o i h) (holders_kept w coherent T c pr o i h)
+frame T w coherent c ex pr (AttrOf n) i h = ap₂ AnAttr (header_kept w coherent T c ex n i h) (home_kept w coherent T c ex n i h)
+frame T w coherent c ex pr (EmptyOf n) i h = ap AnEmpty (empty_kept w coherent T c ex n i h)
+frame T w coherent c ex pr (BodyOf n) i h = ap ABody (body_kept w coherent T c ex n i h)
+frame T w coherent c ex pr (OpenOf o) i h = ap₂ AnOpen (open_kept w coherent T c ex o i h) (holders_kept w coherent T c ex pr o i h)
 frame T w coherent c ex pr (OptionsOf s) i h = ap (λ m. AnOptions (get m s)) (server_kept w coherent T c)
-frame T w coherent c ex pr (UsersOf s) i h = ap AUsers (users_kept w coherent T c pr s i h)
+frame T w coherent c ex pr (UsersOf s) i h = ap AUsers (users_kept w coherent T c ex pr s i h)
 frame T w coherent c ex pr (TaskOf q) i h = ap ATask (task_kept w coherent T c q i h)
 
--- changes one after another, settling among them: what they don't write, and what a settled world has, stays as that has it
-pub frame_from : (T : Part → Type 0) (p : Part) → (T p → ⊥) → (w : World) → IsSettled (ports_of w) → (cs : List Change) (x : World) → Coherent x → AllProper x cs → AllWithin T x cs
-    → part x p ≡ part w p → part (apply_all cs x) p ≡ part w p
-frame_from T p out w settled [] x c pr i e = e
-frame_from T p out w settled (Settle ∷ cs) x c pr i e =
+-- what is gone is not made anew by a change that doesn't write it
+pub gone_kept : (x y : World) (p : Part) → part y p ≡ part x p → IsGone x p → IsGone y p
+gone_kept x y (AttrOf n) e gone = e ∙ gone
+gone_kept x y (EmptyOf n) e gone = e ∙ gone
+gone_kept x y (BodyOf n) e gone = e ∙ gone
+gone_kept x y (OpenOf o) e gone = absurd gone
+gone_kept x y (OptionsOf s) e gone = absurd gone
+gone_kept x y (UsersOf s) e gone = absurd gone
+gone_kept x y (TaskOf t) e gone = absurd gone
+
+-- as in the settled world w, or gone
+abbrev pub AsBefore : World → World → Part → Type 0
+AsBefore w x p = (part x p ≡ part w p) ⊎ IsGone x p
+
+-- changes one after another, settling among them: what they don't write, and what a settled world has, stays as that has it, or goes
+pub frame_from : (T : Part → Type 0) (p : Part) → (T p → ⊥) → (w : World) → AtRest w → (cs : List Change) (x : World) → Coherent x → AllProper x cs → AllWithin T x cs
+    → AsBefore w x p → AsBefore w (apply_all cs x) p
+frame_from T p out w rest [] x c pr i e = e
+frame_from T p out w rest (Settle ∷ cs) x c pr i e =
     let next : Coherent (settle x) = coherent_one Settle x c pr.0 in
-    frame_from T p out w settled cs (settle x) next (pr.1 next) i.1 (settle_part w x settled p e)
-frame_from T p out w settled (k ∷ cs) x c pr i e =
+    frame_from T p out w rest cs (settle x) next (pr.1 next) i.1 (elim e [ inl same ↦ settle_part w x rest c p same | inr gone ↦ inr (settle_gone x p gone) ])
+frame_from T p out w rest (k ∷ cs) x c pr i e =
     let next : Coherent (apply k x) = coherent_one k x c pr.0 in
-    frame_from T p out w settled cs (apply k x) next (pr.1 next) i.1 (frame T x c k tt pr.0 p i.0 out ∙ e)
+    let kept : part (apply k x) p ≡ part x p = frame T x c k tt pr.0 p i.0 out in
+    frame_from T p out w rest cs (apply k x) next (pr.1 next) i.1 (elim e [ inl same ↦ inl (kept ∙ same) | inr gone ↦ inr (gone_kept x (apply k x) p kept gone) ])
 
-pub frame_all : (T : Part → Type 0) (p : Part) → (T p → ⊥) → (w : World) → Coherent w → IsSettled (ports_of w) → (cs : List Change) → AllProper w cs → AllWithin T w cs → part (apply_all cs w) p ≡ part w p
-frame_all T p out w c settled cs pr i = frame_from T p out w settled cs w c pr i refl
-
--- what a call of task t doesn't touch, and what was there before, stays
+-- what a call of task t doesn't touch, and what was there before, stays or goes
 pub untouched : (T : Part → Type 0) (w : World) (t : ℕ) (cs : List Change) (p : Part) → Sound w → AllProper w cs → AllWithin (Full w t T) w cs
-    → (T p → ⊥) → p ≢ TaskOf t → (IsUnnamed w p → ⊥) → part (apply_all cs w) p ≡ part w p
+    → (T p → ⊥) → p ≢ TaskOf t → (IsUnnamed w p → ⊥) → AsBefore w (apply_all cs w) p
 untouched T w t cs p s pr i out other old =
-    frame_all (Full w t T) p (λ k. elim k [ inl h ↦ out h | inr h ↦ elim h [ inl e ↦ other e | inr new ↦ old new ] ]) w s.coherent s.settled cs pr i
+    frame_from (Full w t T) p (λ k. elim k [ inl h ↦ out h | inr h ↦ elim h [ inl e ↦ other e | inr new ↦ old new ] ]) w s.settled cs w s.coherent pr i (inl refl)
+
+-- no change makes a task or takes one out
+pub length_one : (c : Change) (w : World) → length (apply c w).tasks ≡ length w.tasks
+length_one (EditTask q f) w = edit-length q f w.tasks
+length_one (MakeNode n s node) w = edit-length n.task.0 (named 1) w.tasks
+length_one (MakeOpen o z) w = edit-length o.task.0 (named 1) w.tasks
+length_one Settle w = refl
+length_one c w = refl
+
+-- changes that write nothing that S sees: S sees the same after them
+pub unseen_from : (S : ℕ → Bool) (T : Part → Type 0) (w : World) → ((p : Part) → Sees S w p → T p → ⊥) → (cs : List Change) (x : World) → Coherent x → AllProper x cs → AllWithin T x cs
+    → Agree S w x → Agree S w (apply_all cs x)
+unseen_from S T w out [] x c pr i a = a
+unseen_from S T w out (Settle ∷ cs) x c pr i a =
+    let next : Coherent (settle x) = coherent_one Settle x c pr.0 in
+    unseen_from S T w out cs (settle x) next (pr.1 next) i.1 (Agree-trans a (settle_agrees S x c pr.0))
+unseen_from S T w out (k ∷ cs) x c pr i a =
+    let next : Coherent (apply k x) = coherent_one k x c pr.0 in
+    unseen_from S T w out cs (apply k x) next (pr.1 next) i.1 (record {
+      tasks = length_one k x ∙ a.tasks;
+      parts = λ p sees. frame T x c k tt pr.0 p i.0 (out p sees) ∙ a.parts p sees;
+    })

@@ -1,37 +1,44 @@
 -- A node made in a directory, with its entry there, as a piece of any call.
-use Rattle.std.proofs.Common.{◌≡◌, ◌≢◌, ◌⊎◌, ◌∙◌, ℕ, Bool, true, false, not, ◌&&◌, ◌||◌, cond, is_some, if◌then◌else◌, List, [], ◌∷◌, ◌++◌, Option, Some, None, nat_eq, sym, refl, ap, ap₂, subst, inl, inr, arith}
+use Rattle.std.proofs.Common.{◌≡◌, ◌≢◌, ◌⊎◌, ◌∙◌, ℕ, ◌+◌, Bool, true, false, not, ◌&&◌, ◌||◌, cond, is_some, if◌then◌else◌, List, [], ◌∷◌, ◌++◌, Option, Some, None, nat_eq, sym, refl, ap, ap₂, subst, inl, inr, true≢false, arith}
 use Rattle.std.specs.Prelude.{Result, Ok, Err}
 use Rattle.std.proofs.lemmas.Bool.{or_cases}
 use Rattle.std.proofs.lemmas.Bool.Decides.{nat_tests}
 use Rattle.std.proofs.lemmas.List.Folds.{list_any-append}
 use Rattle.std.specs.List.{list_any}
+use Rattle.std.specs.Option.{option_map}
 use Rattle.std.specs.Str.{bytes_eq}
 use Rattle.std.specs.FinMap.{get}
 use Rattle.hurd_creds.specs.declared.name.Name.{Name}
-use Rattle.hurd_creds.specs.declared.mode.Mode.{Mode}
 use Rattle.hurd_creds.specs.declared.attrs.Kind.{Kind}
-use Rattle.hurd_creds.specs.declared.attrs.Kind.TheVariants.{Dir}
+use Rattle.hurd_creds.specs.declared.attrs.Kind.TheVariants.{File, Dir, Link, Fifo, Char}
 use Rattle.hurd_creds.specs.declared.errno.Errno.{Errno}
 use Rattle.hurd_creds.specs.declared.errno.Errno.TheVariants.{EEXIST, ENOTDIR, EROFS, EOPNOTSUPP}
 use Rattle.hurd_creds.proofs.NameLaws.{equal_if_same, get_here, get_apart}
-use Rattle.hurd_trans_iface.specs.Nodes.{Node, Entry, Header, Body, Content, Listing, IsShaped, is_dir, with_body, with_entry, new_file}
-use Rattle.hurd_trans_iface.specs.Answers.{entry_in, entry_of, is_tree, is_made}
+use Rattle.hurd_trans_iface.specs.declared.new_node.NewNode.{NewNode}
+use Rattle.hurd_trans_iface.specs.Nodes.{Node, Entry, Header, Body, Content, Listing, IsShaped, is_dir, with_body, with_entry, new_file, new_dir}
+use Rattle.hurd_trans_iface.specs.Answers.{entry_in, entry_of, is_tree, is_made, made_node, node_of_kind}
 use Rattle.hurd_trans_iface.specs.Good.{IsSized, GoodBehaviour}
 use Rattle.hurd_trans_iface.specs.Kinds.{ServerKind, behaviour_of}
 use Rattle.hurd_trans_iface.specs.Meaning.{root_of}
-use Rattle.hurd_nodes.specs.Shown.{ServerInfo, made_by}
+use Rattle.hurd_nodes.specs.Shown.{ServerInfo, made_by, is_root_at, is_root_of}
+use Rattle.hurd_nodes.specs.Settle.{is_entered}
 use Rattle.hurd_ports.specs.Tables.{Task}
 use Rattle.hurd_ports.specs.Steps.{named}
-use Rattle.hurd_machine.specs.World.{World, task_at, header_at, body_at, home_at, server_at, info_at, makes_at, is_of, lists, lists_at}
-use Rattle.hurd_machine.specs.Sight.{Part, AttrOf, EmptyOf, BodyOf, TaskOf}
+use Rattle.hurd_machine.specs.World.{World, task_at, header_at, body_at, home_at, server_at, info_at, makes_at, is_of, lists, lists_at, nodes_of, is_server_root}
+use Rattle.hurd_machine.specs.Sight.{Part, AttrOf, EmptyOf, BodyOf, OptionsOf, TaskOf, Sees}
 use Rattle.hurd_machine.specs.Change.{Change, EditBody, MakeNode, apply, apply_all}
-use Rattle.hurd_machine.specs.Sound.{Below, AreDistinct, HasDistinctNames, Coherent}
-use Rattle.hurd_machine.proofs.Nodes.{header_in, body_in, header-with_body, edit_keeps}
+use Rattle.hurd_machine.specs.Sound.{Below, AreDistinct, HasDistinctNames, Coherent, times_in, times_listed, LeadsUp, Hangs}
+use Rattle.hurd_machine.proofs.Nodes.{header_in, body_in, header-with_body, body-with_body, edit_keeps, edit_reads}
 use Rattle.hurd_machine.proofs.Tasks.{edit_here}
-use Rattle.hurd_machine.proofs.Coherence.{IsNext, IsEntry, GoodNode, HasNoEntries, Proper, AllProper, home_old, next_apart, named_below}
+use Rattle.hurd_machine.proofs.Coherence.{IsNext, IsEntry, GoodNode, HasNoEntries, Proper, AllProper, home_old, no_node, no_home, next_not, next_apart, named_below}
 use Rattle.hurd_machine.proofs.Settle.{Rests, rests_quiet}
 use Rattle.hurd_machine.proofs.Frame.{AllWithin}
+use Rattle.hurd_machine.proofs.Confine.{NewTo, SeenOrNew}
+use Rattle.hurd_machine.proofs.Several.{AllMay}
+use Rattle.hurd_machine.proofs.Permits.{entry_may}
 use Rattle.hurd_machine.proofs.Sizes.{KeepsSized, sized_made, sized_entry}
+use Rattle.hurd_machine.proofs.Listed.{times_edited}
+use Rattle.hurd_machine.proofs.Links.{IsHung, HangsIn, Loosens, KeepsLinked, loosened, loose_any, tied, leads_grown, named_grown, times_new, times_entered, lists_entered, listing_of, relisted_entry}
 
 -- a directory with one entry more
 
@@ -89,6 +96,19 @@ entry_names : (name : List ℕ) (n : Name) (b : Body) → entry_of name (Some b)
 entry_names name n (Content bs) none names = tt
 entry_names name n (Listing es) none names = distinct_added name n es none names
 
+-- an entry may be added for a node that may be in the directory
+pub entry_proper : (w : World) → Coherent w → (d : Name) (name : List ℕ) (n : Name) → entry_of name (body_at w d) ≡ None → IsEntry w d n → Proper w (EditBody d (with_entry name n))
+entry_proper w c d name n absent new b is = record {
+  shape = λ h. entry_shape name n b h;
+  distinct = entry_names name n b (ap (entry_of name) (sym is) ∙ absent);
+  entries = λ m e. elim (entry_lists_cases name n m b e) [
+    | inl old ↦
+        let there : lists_at m (body_at w d) ≡ true = ap (lists_at m) is ∙ old in
+        record { made = c.given.entries d m there; kin = c.tree.kin d m there; below = λ h eh. c.tree.below d m h there eh }
+    | inr same ↦ subst (IsEntry w d) same new
+  ];
+}
+
 -- where a node may be made: a directory of a tree that has no such entry
 
 pub record MayMake (w : World) (d : Name) (name : List ℕ) (kind : Kind) : Type 0 where
@@ -127,12 +147,40 @@ pub record NewIn (w : World) (d : Name) (node : Node) : Type 0 where
   pub parent : (p : Name) → node.header.parent ≡ Some p → Below w p
   pub below : node.header.kind ≡ Dir → node.header.parent ≡ Some d
 
-pub file_in : (w : World) (d : Name) (owner group : ℕ) (mode : Mode) → NewIn w d (new_file owner group mode)
-file_in w d owner group mode = record { shape = refl; empty = tt; parent = λ p e. absurd (cc); below = λ e. absurd (cc) }
+-- what a tree makes in a directory
+module _ (d : Name) (new : NewNode) (x : Node) (is : made_node d new ≡ Some x) where
+  -- its parent, if it has one, is that directory
+  pub made_parent : (p : Name) → x.header.parent ≡ Some p → p ≡ d
+  made_parent p = by new.kind is
+    where
+      by : (kind : Kind) → node_of_kind d new kind ≡ Some x → x.header.parent ≡ Some p → p ≡ d
+      by File made e = let same : new_file new.owner new.group new.mode ≡ x = cc in let none : None ≡ Some p = rw (← same) at e in absurd (cc)
+      by Dir made e = let same : new_dir new.owner new.group new.mode (Some d) ≡ x = cc in let here : Some d ≡ Some p = rw (← same) at e in cc
+      by Link made e = absurd (cc)
+      by Fifo made e = absurd (cc)
+      by Char made e = absurd (cc)
 
--- in a tree it has the size that its server says
-pub file_sized : ((k : ServerKind) → GoodBehaviour (behaviour_of k)) → (i : ServerInfo) → is_tree (root_of i.kind) ≡ true → (owner group : ℕ) (mode : Mode) → IsSized (behaviour_of i.kind) i.text (new_file owner group mode)
-file_sized good i tree owner group mode = sym ((good i.kind).newborn tree i.text)
+  -- it may be made where that directory's name was given
+  pub made_in : (w : World) → Below w d → NewIn w d x
+  made_in w below = by new.kind is
+    where
+      parent : (p : Name) → x.header.parent ≡ Some p → Below w p
+      parent p e = subst (Below w) (sym (made_parent p e)) below
+
+      by : (kind : Kind) → node_of_kind d new kind ≡ Some x → NewIn w d x
+      by File made =
+          let same : new_file new.owner new.group new.mode ≡ x = cc in
+          subst (NewIn w d) same (record { shape = refl; empty = tt; parent = rw (← same) at parent; below = λ e. absurd (cc) })
+      by Dir made =
+          let same : new_dir new.owner new.group new.mode (Some d) ≡ x = cc in
+          subst (NewIn w d) same (record { shape = refl; empty = refl; parent = rw (← same) at parent; below = λ e. refl })
+      by Link made = absurd (cc)
+      by Fifo made = absurd (cc)
+      by Char made = absurd (cc)
+
+  -- and it has the size that its server says
+  pub made_fit : ((k : ServerKind) → GoodBehaviour (behaviour_of k)) → (i : ServerInfo) → is_tree (root_of i.kind) ≡ true → IsSized (behaviour_of i.kind) i.text x
+  made_fit good i tree = (good i.kind).newborn tree i.text d new x is
 
 -- the node, and its entry
 abbrev pub entered : Name → Name → Node → Name → List ℕ → List Change
@@ -148,11 +196,15 @@ module _ (w : World) (n s : Name) (node : Node) (d : Name) (name : List ℕ) whe
   pub entered_within : (T : Part → Type 0) → T (TaskOf n.task.0) → T (AttrOf n) → T (EmptyOf n) → T (BodyOf n) → T (BodyOf d) → T (EmptyOf d) → AllWithin T w (entered n s node d name)
   entered_within T task attr empty body dir_body dir_empty = ((task, attr, empty, body), ((dir_body, inl dir_empty), tt))
 
-  pub entered_rests : Rests w (entered n s node d name)
-  entered_rests = rests_quiet (entered n s node d name) w (tt, (tt, tt))
+  pub entered_rests : is_entered node.header ≡ true → (i : ServerInfo) → server_at w s ≡ Some i → Rests w (entered n s node d name)
+  entered_rests is i there = rests_quiet (entered n s node d name) w ((is, i, there), (tt, tt))
 
   pub entered_sized : ((k : ServerKind) → GoodBehaviour (behaviour_of k)) → ((i : ServerInfo) → server_at w s ≡ Some i → IsSized (behaviour_of i.kind) i.text node) → KeepsSized w (entered n s node d name)
   entered_sized good fit sized = sized_entry good made d name n (sized_made w n s node fit sized)
+
+  -- a task of S may make it where S saw the server, and the parent that it has
+  pub entered_may : (S : ℕ → Bool) (v : World) → S n.task.0 ≡ true → NewTo S v n → Sees S v (OptionsOf s) → ((p : Name) → node.header.parent ≡ Some p → SeenOrNew S v p) → AllMay S v w (entered n s node d name)
+  entered_may S v ours new served parent = ((ours, served, parent), (entry_may S v made d name n (inr new), tt))
 
   -- what is read of the new node afterwards
   pub entered_home : home_at left n ≡ Some s
@@ -169,7 +221,7 @@ module _ (w : World) (n s : Name) (node : Node) (d : Name) (name : List ℕ) whe
     entered_below = named_below w c n next 1 n refl (omega arith)
 
     pub entered_proper : home_at w d ≡ Some s → entry_of name (body_at w d) ≡ None → NewIn w d node → AllProper w (entered n s node d name)
-    entered_proper home absent new = ((next, good), λ one. (entry_proper one, λ two. tt))
+    entered_proper home absent new = ((next, good), λ one. (entry_proper made one d name n still new_entry, λ two. tt))
       where
         apart : d ≢ n
         apart = next_apart w n d next (home_old c d s home)
@@ -190,16 +242,65 @@ module _ (w : World) (n s : Name) (node : Node) (d : Name) (name : List ℕ) whe
               ap (λ (k : Header). k.parent) (sym same) ∙ new.below (ap (λ (k : Header). k.kind) same ∙ dir);
         }
 
-        entry_proper : Coherent made → Proper made (EditBody d (with_entry name n))
-        entry_proper one b is =
-            let was : body_at w d ≡ Some b = sym (ap body_in (get_apart w.nodes n node d apart)) ∙ is in
-            record {
-              shape = λ h. entry_shape name n b h;
-              distinct = entry_names name n b (ap (entry_of name) (sym was) ∙ absent);
-              entries = λ m e. elim (entry_lists_cases name n m b e) [
-                | inl old ↦
-                    let there : lists_at m (body_at made d) ≡ true = ap (lists_at m) is ∙ old in
-                    record { made = one.given.entries d m there; kin = one.tree.kin d m there; below = λ h eh. one.tree.below d m h there eh }
-                | inr same ↦ subst (IsEntry made d) same new_entry
-              ];
-            }
+        still : entry_of name (body_at made d) ≡ None
+        still = ap (entry_of name) (ap body_in (get_apart w.nodes n node d apart)) ∙ absent
+
+    -- it hangs in the directory, which leads up
+    module _ {kind : Kind} (m : MayMake w d name kind) (up : LeadsUp (nodes_of w) d) (empty : HasNoEntries node.body) (hangs : HangsIn d node) where
+      abbrev IsLoose : Name → Type 0
+      IsLoose k = k ≡ n
+
+      new : Below w n → ⊥
+      new = next_not w n next
+
+      listing : (es : List Entry) × (m.node.body ≡ Listing es)
+      listing = listing_of m.node.header m.node.body (c.tree.shapes d m.node m.is_node) m.dir
+
+      dir_there : get made.nodes d ≡ Some m.node
+      dir_there = get_apart w.nodes n node d (next_apart w n d next (c.given.nodes d m.node m.is_node)) ∙ m.is_node
+
+      made_loose : Loosens IsLoose w (MakeNode n s node)
+      made_loose = (refl, no_node c n new, no_home c n new, empty)
+
+      entry_loose : Loosens IsLoose made (EditBody d (with_entry name n))
+      entry_loose b is = relisted_entry (nodes_of made) d name n b (leads_grown IsLoose w n s node made_loose d up)
+
+      -- by its one entry
+      listed : lists_at n (body_at left d) ≡ true
+      listed =
+          ap (lists_at n) (edit_reads body_in (option_map (with_entry name n)) (with_body (with_entry name n)) (body-with_body (with_entry name n)) made.nodes d)
+          ∙ ap (λ o. lists_at n (option_map (with_entry name n) (body_in o))) dir_there
+          ∙ ap (λ b. lists n (with_entry name n b)) listing.1 ∙ lists_entered name n listing.0
+
+      named_once : times_listed left.nodes n ≡ 1
+      named_once =
+          let now = times_edited made.nodes d n (with_entry name n) m.node dir_there in
+          let before = named_grown IsLoose w n s node made_loose n in
+          let none = times_new w c n new in
+          let one : times_in n (with_entry name n m.node.body) ≡ times_in n m.node.body + 1 = rw (listing.1) (times_entered name n listing.0) in
+          omega arith
+
+      one_link : (b : Bool) (t : ℕ) → t ≡ 1 → 1 ≡ cond b 1 t
+      one_link true t e = refl
+      one_link false t e = sym e
+
+      -- no server has a root that was never given
+      no_root : is_server_root left n ≡ true → ⊥
+      no_root is = go (server_at w s) refl (sym (ap (is_root_of w.servers n) entered_home) ∙ is)
+        where
+          go : (o : Option ServerInfo) → server_at w s ≡ o → is_root_at n o ≡ true → ⊥
+          go None e h = true≢false (sym h)
+          go (Some i) e h = new (subst (Below w) (sym (equal_if_same n i.root h)) (home_old c i.root s (c.housing.roots s i e)))
+
+      hung : IsHung (nodes_of left) n
+      hung k e =
+          let same : node.header ≡ k = cc (entered_header, e) in
+          subst (Hangs (nodes_of left) n) same (record {
+            up = λ p ep. let u = hangs.up p ep in (u.0, subst (λ q. lists_at n (body_at left q) ≡ true) (sym u.1) listed);
+            top = λ is. absurd (no_root is);
+            once = λ dir. omega (arith, named_once);
+            links = λ tree. hangs.links ∙ one_link (is_dir node.header.kind) (times_listed left.nodes n) named_once;
+          })
+
+      pub entered_linked : KeepsLinked w (entered n s node d name)
+      entered_linked l = tied (nodes_of left) n (loosened IsLoose (entered n s node d name) w (made_loose, (entry_loose, tt)) (loose_any IsLoose (nodes_of w) l)) hung

@@ -1,8 +1,9 @@
 -- The same change of a task of S in two worlds that are alike for S: they are alike afterwards.
-use Rattle.std.proofs.Common.{◌≡◌, ℕ, Bool, true, Some, length, sym, refl, ◌∙◌, ap, ap₂, inl, arith}
+use Rattle.std.proofs.Common.{◌≡◌, ◌⊎◌, ℕ, Bool, true, Some, length, sym, refl, ◌∙◌, ap, ap₂, inl, inr, arith}
 use Rattle.std.specs.Option.{option_map}
 use Rattle.std.specs.FinMap.{get}
 use Rattle.hurd_creds.specs.declared.name.Name.{Name}
+use Rattle.hurd_creds.proofs.NameLaws.{same_or_apart, edit_apart}
 use Rattle.hurd_trans_iface.specs.Nodes.{with_header, with_body, is_empty_dir}
 use Rattle.hurd_ports.specs.declared.table.Right.{Right}
 use Rattle.hurd_ports.specs.Tables.{Task, rights_of, names_open}
@@ -48,15 +49,21 @@ module _ (x y : World) where
   server_alike Settle s h = h
   server_alike c s h = h
 
-  -- a change of a body whose emptiness afterwards is settled by that before
+  -- a change of a body that is alike, or whose emptiness afterwards is settled by that before
   abbrev EmptinessSettled : Change → Type 0
-  EmptinessSettled (EditBody k g) = ByEmptiness g
+  EmptinessSettled (EditBody k g) = ByEmptiness g ⊎ (body_at y k ≡ body_at x k)
   EmptinessSettled c = Unit {0}
 
   empty_alike : (c : Change) → IsExact c → EmptinessSettled c → (n : Name) → empty_in (get y.nodes n) ≡ empty_in (get x.nodes n)
       → option_map is_empty_dir (body_at (apply c y) n) ≡ option_map is_empty_dir (body_at (apply c x) n)
   empty_alike (EditHeader k f) ex by n h = edit_alike empty_in (λ z. z) (with_header f) (λ z. ap (option_map is_empty_dir) (body-with_header f z)) x.nodes y.nodes k n h
-  empty_alike (EditBody k g) ex by n h = edit_empty_alike g by x.nodes y.nodes k n h
+  empty_alike (EditBody k g) ex by n h = elim by [
+    | inl empties ↦ edit_empty_alike g empties x.nodes y.nodes k n h
+    | inr same ↦ elim (same_or_apart n k) [
+      | inl e ↦ ap (option_map is_empty_dir) (rw e (body_alike (EditBody k g) tt k same))
+      | inr a ↦ ap empty_in (edit_apart y.nodes k (with_body g) n a) ∙ h ∙ sym (ap empty_in (edit_apart x.nodes k (with_body g) n a))
+    ]
+  ]
   empty_alike (MakeNode k s node) ex by n h = insert_alike empty_in x.nodes y.nodes k n node h
   empty_alike Settle ex by n h = absurd ex
   empty_alike c ex by n h = h
@@ -95,7 +102,7 @@ module _ (S : ℕ → Bool) (v x y : World) (before : Inside S v x) (cx : Cohere
       omega arith
 
   emptiness : (c : Change) → May S v x c → EmptinessSettled x y c
-  emptiness (EditBody n g) m = m.0
+  emptiness (EditBody n g) m = elim m.0 [ inl by ↦ inl by | inr known ↦ inr (let e = alike.parts (BodyOf n) known in cc) ]
   emptiness c m = tt
 
   holders_alike : (c : Change) → IsExact c → Proper x c → Proper y c → May S v x c → (o : Name) → holders y o ≡ holders x o → holders (apply c y) o ≡ holders (apply c x) o

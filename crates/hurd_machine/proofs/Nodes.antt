@@ -42,6 +42,20 @@ pub node_of_header : (o : Option Node) (h : Header) → header_in o ≡ Some h �
 node_of_header None h e = absurd (cc)
 node_of_header (Some x) h e = (x, refl, cc)
 
+-- where no header, body or emptiness is, nothing stands
+
+pub no_header : (o : Option Node) → header_in o ≡ None → o ≡ None
+no_header None h = refl
+no_header (Some x) h = absurd (cc)
+
+pub no_body : (o : Option Node) → body_in o ≡ None → o ≡ None
+no_body None h = refl
+no_body (Some x) h = absurd (cc)
+
+pub no_emptiness : (o : Option Node) → empty_in o ≡ None → o ≡ None
+no_emptiness None h = refl
+no_emptiness (Some x) h = absurd (cc)
+
 -- what a projection reads after an edit by f, which does `act` to it
 module _ {X P : Type 0} (project : Option X → P) (act : P → P) (f : X → X) (acts : (o : Option X) → project (option_map f o) ≡ act (project o)) where
   pub edit_reads : (m : NameMap X) (k : Name) → project (get (edit k f m) k) ≡ act (project (get m k))

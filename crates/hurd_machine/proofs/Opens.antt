@@ -11,17 +11,18 @@ use Rattle.hurd_ports.specs.declared.table.Opened.{Opened}
 use Rattle.hurd_ports.specs.declared.table.Right.{Right}
 use Rattle.hurd_ports.specs.Tables.{Task, names_open, right_in, fresh}
 use Rattle.hurd_ports.specs.Steps.{named, without_port, new_open, new_right, at_cursor}
-use Rattle.hurd_machine.specs.World.{World, task_at, header_at}
+use Rattle.hurd_machine.specs.World.{World, nodes_of, task_at, header_at}
 use Rattle.hurd_machine.specs.Sight.{Part, OpenOf, UsersOf, TaskOf, is_on}
 use Rattle.hurd_machine.specs.Touched.{OnNode, OnRight}
 use Rattle.hurd_machine.specs.Change.{EditTask, MakeOpen, EditOpen, apply, opening, dropping}
-use Rattle.hurd_machine.specs.Sound.{Below, Coherent}
+use Rattle.hurd_machine.specs.Sound.{Below, Coherent, Linked}
 use Rattle.hurd_machine.proofs.Tasks.{edit_here}
-use Rattle.hurd_machine.proofs.Coherence.{IsNext, FineRight, AllProper, named_below, named_still, unopened}
+use Rattle.hurd_machine.proofs.Coherence.{IsNext, FineRight, AllProper, named_below, named_still, unopened, coherent_one}
 use Rattle.hurd_machine.proofs.Rights.{port_counts, port_table, without_counts, without_table}
 use Rattle.hurd_machine.proofs.Settle.{Rests, rests_settle, rests_quiet}
 use Rattle.hurd_machine.proofs.Frame.{Covers, AllWithin, Full, not_on, not_named}
-use Rattle.hurd_machine.proofs.Sizes.{KeepsSized, sized_ports}
+use Rattle.hurd_machine.proofs.Sizes.{KeepsSized, sized_ports, sized_settle}
+use Rattle.hurd_machine.proofs.Links.{KeepsLinked, linked_steady, linked_settle}
 
 -- what a call of task t may write anyway: its own task, and what has a name that it has still to give
 
@@ -94,6 +95,9 @@ module _ (w : World) (t : ℕ) (x : Task) (is : task_at w t ≡ Some x) (n : Nam
 pub opens_sized : (w : World) (t : ℕ) (x : Task) (n : Name) (ids : IdSets) (modes : OpenFlags) → KeepsSized w (opening t x n ids modes)
 opens_sized w t x n ids modes = sized_ports (opening t x n ids modes) w (tt, (tt, tt))
 
+pub opens_linked : (w : World) (t : ℕ) (x : Task) (n : Name) (ids : IdSets) (modes : OpenFlags) → KeepsLinked w (opening t x n ids modes)
+opens_linked w t x n ids modes = linked_steady (opening t x n ids modes) w (tt, (tt, tt))
+
 -- a port goes
 
 pub drops_within : (T : Part → Type 0) (w : World) (t p : ℕ) (x : Task) (r : Right) → task_at w t ≡ Some x → right_in p x.ports ≡ Some r → T (TaskOf t) → ((q : Part) → OnRight w r q → T q) → AllWithin T w (dropping t p)
@@ -112,14 +116,20 @@ drops_within T w t p x r is under task parts = (
   (tt, tt),
 )
 
-pub drops_proper : (w : World) → Coherent w → (t p : ℕ) (x : Task) → task_at w t ≡ Some x → AllProper w (dropping t p)
-drops_proper w c t p x is = ((λ z. omega arith, x, is, without_table w c t p x is), λ d. (tt, λ e. tt))
+pub drops_proper : (w : World) → Coherent w → Linked (nodes_of w) → (t p : ℕ) (x : Task) → task_at w t ≡ Some x → AllProper w (dropping t p)
+drops_proper w c l t p x is = ((λ z. omega arith, x, is, without_table w c t p x is), λ d. (l, λ e. tt))
 
 pub drops_rests : (w : World) (t p : ℕ) → Rests w (dropping t p)
 drops_rests w t p = rests_settle (EditTask t (without_port p) ∷ []) w
 
 pub drops_sized : (w : World) (t p : ℕ) → KeepsSized w (dropping t p)
-drops_sized w t p = sized_ports (dropping t p) w (tt, (tt, tt))
+drops_sized w t p sized = sized_settle (apply (EditTask t (without_port p)) w) sized
+
+pub drops_linked : (w : World) → Coherent w → (t p : ℕ) (x : Task) → task_at w t ≡ Some x → KeepsLinked w (dropping t p)
+drops_linked w c t p x is l = linked_settle given (coherent_one (EditTask t (without_port p)) w c (drops_proper w c l t p x is).0) l
+  where
+    given : World
+    given = apply (EditTask t (without_port p)) w
 
 -- a cursor moves
 
@@ -134,3 +144,6 @@ cursor_rests w o k = rests_quiet (EditOpen o (at_cursor k) ∷ []) w (tt, tt)
 
 pub cursor_sized : (w : World) (o : Name) (k : ℕ) → KeepsSized w (EditOpen o (at_cursor k) ∷ [])
 cursor_sized w o k = sized_ports (EditOpen o (at_cursor k) ∷ []) w (tt, tt)
+
+pub cursor_linked : (w : World) (o : Name) (k : ℕ) → KeepsLinked w (EditOpen o (at_cursor k) ∷ [])
+cursor_linked w o k = linked_steady (EditOpen o (at_cursor k) ∷ []) w (tt, tt)

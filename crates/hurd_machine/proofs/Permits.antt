@@ -91,7 +91,7 @@ cursor_may S v x o k = (λ z h. h, tt)
 -- a server's edits of a node's bytes and size: they add no entry, empty no directory and open nothing
 
 bytes_may : (S : ℕ → Bool) (v x : World) (n : Name) (f : List ℕ → List ℕ) → May S v x (EditBody n (on_bytes f))
-bytes_may S v x n f = (λ b c e. emptiness c ∙ e ∙ sym (emptiness b), λ b name m is e. inl (sym (entries name b) ∙ e))
+bytes_may S v x n f = (inl (λ b c e. emptiness c ∙ e ∙ sym (emptiness b)), λ b name m is e. inl (sym (entries name b) ∙ e))
   where
     emptiness : (b : Body) → is_empty_dir (on_bytes f b) ≡ is_empty_dir b
     emptiness (Content bs) = refl
@@ -101,8 +101,8 @@ bytes_may S v x n f = (λ b c e. emptiness c ∙ e ∙ sym (emptiness b), λ b n
     entries name (Content bs) = refl
     entries name (Listing es) = refl
 
-size_may : (S : ℕ → Bool) (v : World) (k : ℕ) (h : Header) → Less S v (with_size k h) h
-size_may S v k h = record { kind = refl; parent = refl; could = could }
+size_may : (S : ℕ → Bool) (v : World) (n : Name) (k : ℕ) (h : Header) → Less S v n (with_size k h) h
+size_may S v n k h = record { kind = refl; parent = λ p e. inl e; could = could }
   where
     could : (want : Want) → Could S v (with_size k h) want → Could S v h want
     could want (Owns u has is) = Owns u has is
@@ -110,9 +110,9 @@ size_may S v k h = record { kind = refl; parent = refl; could = could }
 
 edits_may : (S : ℕ → Bool) (v x : World) (n : Name) (bytes : Option (List ℕ → List ℕ)) (size : Option ℕ) → AllMay S v x (changes_of (edit_bytes n bytes (edit_size n size)))
 edits_may S v x n None None = tt
-edits_may S v x n None (Some k) = (size_may S v k, tt)
+edits_may S v x n None (Some k) = (λ h at. size_may S v n k h, tt)
 edits_may S v x n (Some f) None = (bytes_may S v x n f, tt)
-edits_may S v x n (Some f) (Some k) = (bytes_may S v x n f, (size_may S v k, tt))
+edits_may S v x n (Some f) (Some k) = (bytes_may S v x n f, (λ h at. size_may S v n k h, tt))
 
 edits_exact : (n : Name) (bytes : Option (List ℕ → List ℕ)) (size : Option ℕ) → AllExact (changes_of (edit_bytes n bytes (edit_size n size)))
 edits_exact n None None = tt
@@ -153,6 +153,6 @@ entry_of_added name other n m (Listing es) h = entry_added name other n m es h
 
 pub entry_may : (S : ℕ → Bool) (v x : World) (d : Name) (name : List ℕ) (n : Name) → SeenOrNew S v n → May S v x (EditBody d (with_entry name n))
 entry_may S v x d name n known = (
-  λ b c e. filled name n c ∙ sym (filled name n b),
+  inl (λ b c e. filled name n c ∙ sym (filled name n b)),
   λ b other m is e. elim (entry_of_added name other n m b e) [ inl old ↦ inl old | inr same ↦ inr (subst (SeenOrNew S v) same known) ],
 )

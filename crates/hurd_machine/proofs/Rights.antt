@@ -61,6 +61,9 @@ count_without T p (x ∷ ps) r = go (p == x.number) refl (count_without T p ps r
     go true e ih h = let k : Some x.right ≡ Some r = rw e at h in let same : x.right ≡ r = cc in rw (e, same) refl
     go false e ih h = let rest = ih (rw e at h) in rw e (omega (arith, rest))
 
+pub count_dropped : (T : Right → Bool) (p : ℕ) (x : Task) (r : Right) → right_in p x.ports ≡ Some r → count_list T (rights_of x) ≡ one_if (T r) + count_list T (rights_of (without_port p x))
+count_dropped T p x r is = count_without T p x.ports r is
+
 pub without_counts : (T : Right → Bool) (p : ℕ) (x : Task) (r : Right) → right_in p x.ports ≡ Some r → T r ≡ false → count_list T (rights_of (without_port p x)) ≡ count_list T (rights_of x)
 without_counts T p x r is out = let all = count_without T p x.ports r is in let none = ap one_if out in omega arith
 
@@ -86,6 +89,12 @@ port_keeps r x q h =
 pub port_has : (r : Right) (x : Task) → IsAmong r (rights_of (with_port r x))
 port_has r x =
     subst (λ (rs : List Right). IsAmong r rs) (sym (push_rights x.ports (record { number = x.next; right = r }))) (among_right r (map right_of_port x.ports) (r ∷ []) (inl refl))
+
+pub port_counted : (T : Right → Bool) (r : Right) (x : Task) → count_list T (rights_of (with_port r x)) ≡ count_list T (rights_of x) + one_if (T r)
+port_counted T r x =
+    let all : count_list T (rights_of (with_port r x)) ≡ count_list T (map right_of_port x.ports ++ r ∷ []) = ap (count_list T) (push_rights x.ports (record { number = x.next; right = r })) in
+    let more = count_append T (map right_of_port x.ports) (r ∷ []) in
+    omega arith
 
 pub port_counts : (T : Right → Bool) (r : Right) (x : Task) → T r ≡ false → count_list T (rights_of (with_port r x)) ≡ count_list T (rights_of x)
 port_counts T r x out =

@@ -1,5 +1,5 @@
 -- Changes one after another, settling among them: they show the same in worlds that agree.
-use Rattle.std.proofs.Common.{◌≡◌, ℕ, Bool, true, false, List, [], ◌∷◌, Option, Some, None, length, sym, refl, ◌∙◌, ap, ap₂, subst, inl, inr, arith}
+use Rattle.std.proofs.Common.{◌≡◌, ℕ, Bool, true, false, List, [], ◌∷◌, Option, length, sym, refl, ◌∙◌, ap, ap₂, subst, inl, inr, arith}
 use Rattle.hurd_creds.specs.declared.name.Name.{Name}
 use Rattle.hurd_creds.proofs.NameLaws.{same_name-apart}
 use Rattle.hurd_trans_iface.specs.Nodes.{Node}
@@ -7,16 +7,17 @@ use Rattle.hurd_ports.specs.declared.table.Right.{Right}
 use Rattle.hurd_ports.specs.Tables.{Task, rights_of, names_open, is_held}
 use Rattle.hurd_ports.specs.Steps.{named}
 use Rattle.hurd_ports.proofs.TaskLaws.{edit-length}
-use Rattle.hurd_machine.specs.World.{World, home_at}
+use Rattle.hurd_machine.specs.World.{World, nodes_of, home_at}
 use Rattle.hurd_machine.specs.Sight.{Part, AttrOf, EmptyOf, BodyOf, OpenOf, Sees, part, count_list, count_rights, holders, AnAttr, AnEmpty, ABody, AnOpen}
 use Rattle.hurd_machine.specs.Change.{Change, MakeNode, MakeOpen, EditTask, Settle, settle, apply, apply_all}
-use Rattle.hurd_machine.specs.Sound.{Below, Coherent}
+use Rattle.hurd_machine.specs.Sound.{Below, Coherent, Linked}
 use Rattle.hurd_machine.proofs.Views.{Agree, Agree-sym, Agree-trans, same_tasks}
 use Rattle.hurd_machine.proofs.Nodes.{header_in, body_in, empty_in}
 use Rattle.hurd_machine.proofs.Tasks.{count_alike}
+use Rattle.hurd_machine.proofs.Coherence.{home_old, no_node, no_open, Proper, AllProper, coherent_one, no_home}
+use Rattle.hurd_machine.proofs.Frame.{IsExact, length_one}
+use Rattle.hurd_machine.proofs.Settle.{settle_agrees}
 use Rattle.hurd_machine.proofs.Holders.{held_by_right, held_stays}
-use Rattle.hurd_machine.proofs.Coherence.{home_old, no_node, no_open, Proper, AllProper, coherent_one}
-use Rattle.hurd_machine.proofs.Frame.{IsExact}
 use Rattle.hurd_machine.proofs.Confine.{NewTo, NewPart, Inside, Inside-refl, sees_inside}
 use Rattle.hurd_machine.proofs.Allowed.{May, inside_one}
 use Rattle.hurd_machine.proofs.Mirror.{Mirror, part_same}
@@ -27,35 +28,10 @@ AllMay S v x [] = Unit {0}
 AllMay S v x (Settle ∷ cs) = AllMay S (settle x) (settle x) cs
 AllMay S v x (c ∷ cs) = May S v x c × AllMay S v (apply c x) cs
 
--- no change makes a task or takes one out
-pub length_one : (c : Change) (w : World) → length (apply c w).tasks ≡ length w.tasks
-length_one (EditTask q f) w = edit-length q f w.tasks
-length_one (MakeNode n s node) w = edit-length n.task.0 (named 1) w.tasks
-length_one (MakeOpen o z) w = edit-length o.task.0 (named 1) w.tasks
-length_one Settle w = refl
-length_one c w = refl
-
--- what S holds is held, and stays
-pub settle_agrees : (S : ℕ → Bool) (w : World) → Agree S w (settle w)
-settle_agrees S w = record { tasks = refl; parts = same }
-  where
-    same : (p : Part) → Sees S w p → part (settle w) p ≡ part w p
-    same (OpenOf o) s =
-        let held : is_held w.tasks o ≡ true = subst (λ z. is_held w.tasks z ≡ true) s.2 (held_by_right w.tasks s.1.task s.1.seat s.0 s.1.is_task s.1.here) in
-        ap (λ v. AnOpen v (holders w o)) (held_stays w o held)
-    same p s = refl
-
 -- what is new to S in one of two worlds that agree is new in the other, and there in neither
 
 new_there : {S : ℕ → Bool} {v w : World} → Agree S v w → (n : Name) → NewTo S v n → Below w n → ⊥
 new_there a n new b = new.1 (λ x e. b x (same_tasks a n.task.0 new.0 ∙ e))
-
-no_home : (w : World) → Coherent w → (n : Name) → (Below w n → ⊥) → home_at w n ≡ None
-no_home w c n new = go (home_at w n) refl
-  where
-    go : (o : Option Name) → home_at w n ≡ o → o ≡ None
-    go None e = refl
-    go (Some s) e = absurd (new (home_old c n s e))
 
 none_counted : (ts : List Task) → count_rights (λ r. false) ts ≡ 0
 none_counted [] = refl
@@ -73,7 +49,7 @@ no_holders w c o new =
 new_same : {S : ℕ → Bool} {v w : World} → Coherent v → Coherent w → Agree S v w → (p : Part) → NewPart S v p → part w p ≡ part v p
 new_same {S} {v} {w} cv cw a (AttrOf n) new =
     let out = new_there a n new in
-    ap₂ (λ (o : Option Node) (k : Option Name). AnAttr (header_in o) k) (no_node cw n out ∙ sym (no_node cv n new.1)) (no_home w cw n out ∙ sym (no_home v cv n new.1))
+    ap₂ (λ (o : Option Node) (k : Option Name). AnAttr (header_in o) k) (no_node cw n out ∙ sym (no_node cv n new.1)) (no_home cw n out ∙ sym (no_home cv n new.1))
 new_same cv cw a (EmptyOf n) new = ap (λ (o : Option Node). AnEmpty (empty_in o)) (no_node cw n (new_there a n new) ∙ sym (no_node cv n new.1))
 new_same cv cw a (BodyOf n) new = ap (λ (o : Option Node). ABody (body_in o)) (no_node cw n (new_there a n new) ∙ sym (no_node cv n new.1))
 new_same {S} {v} {w} cv cw a (OpenOf o) new =
@@ -111,18 +87,18 @@ module _ (S : ℕ → Bool) where
         };
       }
 
-  both_settled : (v x y : World) → Both v x y → Both (settle x) (settle x) (settle y)
-  both_settled v x y b =
-      let nx : Coherent (settle x) = coherent_one Settle x b.one tt in
-      let ny : Coherent (settle y) = coherent_one Settle y b.two tt in
+  both_settled : (v x y : World) → Both v x y → Linked (nodes_of x) → Linked (nodes_of y) → Both (settle x) (settle x) (settle y)
+  both_settled v x y b lx ly =
+      let nx : Coherent (settle x) = coherent_one Settle x b.one lx in
+      let ny : Coherent (settle y) = coherent_one Settle y b.two ly in
       let a : Agree S x y = alike_agree S v x y b.start b.inside b.alike in
-      let s : Agree S (settle x) (settle y) = Agree-trans (Agree-sym (settle_agrees S x)) (Agree-trans a (settle_agrees S y)) in
+      let s : Agree S (settle x) (settle y) = Agree-trans (Agree-sym (settle_agrees S x b.one lx)) (Agree-trans a (settle_agrees S y b.two ly)) in
       record { start = nx; one = nx; two = ny; inside = Inside-refl S (settle x); alike = mirror_start S (settle x) (settle y) nx ny s }
 
   both_all : (cs : List Change) (v x y : World) → Both v x y → AllProper x cs → AllProper y cs → AllMay S v x cs → Agree S (apply_all cs x) (apply_all cs y)
   both_all [] v x y b px py m = alike_agree S v x y b.start b.inside b.alike
   both_all (Settle ∷ cs) v x y b px py m =
-      let next : Both (settle x) (settle x) (settle y) = both_settled v x y b in
+      let next : Both (settle x) (settle x) (settle y) = both_settled v x y b px.0 py.0 in
       both_all cs (settle x) (settle x) (settle y) next (px.1 next.one) (py.1 next.two) m
   both_all (c ∷ cs) v x y b px py m =
       let next : Both v (apply c x) (apply c y) = both_one v x y b c tt px.0 py.0 m.0 in

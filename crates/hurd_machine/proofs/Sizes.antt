@@ -6,7 +6,7 @@ use Rattle.std.specs.FinMap.{get}
 use Rattle.hurd_creds.specs.declared.name.Name.{Name}
 use Rattle.hurd_creds.specs.NameMaps.{edit}
 use Rattle.hurd_creds.proofs.NameLaws.{same_or_apart, get_here, get_apart, edit_here, edit_apart}
-use Rattle.hurd_trans_iface.specs.Nodes.{Node, with_header, with_body, on_bytes, with_size, with_entry}
+use Rattle.hurd_trans_iface.specs.Nodes.{Node, Header, Body, with_header, with_body, on_bytes, with_size, with_entry, without_entry}
 use Rattle.hurd_trans_iface.specs.Behaviour.{Did, Question, edits_of, edit_bytes, edit_size, bytes_left, size_left}
 use Rattle.hurd_trans_iface.specs.Good.{IsSized, KeepsSizes, GoodBehaviour}
 use Rattle.hurd_trans_iface.specs.Kinds.{ServerKind, behaviour_of}
@@ -14,6 +14,7 @@ use Rattle.hurd_nodes.specs.Shown.{ServerInfo, info_in, asked_of}
 use Rattle.hurd_machine.specs.World.{World, nodes_of, server_at, info_at, asked_at}
 use Rattle.hurd_machine.specs.Change.{Change, EditHeader, EditBody, MakeNode, Settle, apply, apply_all, changes_of}
 use Rattle.hurd_machine.specs.Sound.{Coherent, AreSized}
+use Rattle.hurd_machine.proofs.Stays.{node_left, home_still}
 use Rattle.hurd_machine.proofs.Nodes.{edited_from}
 use Rattle.hurd_machine.proofs.Coherence.{was, apply_all-append}
 
@@ -34,6 +35,7 @@ abbrev pub IsOfPorts : Change → Type 0
 IsOfPorts (EditHeader n f) = ⊥
 IsOfPorts (EditBody n g) = ⊥
 IsOfPorts (MakeNode n s node) = ⊥
+IsOfPorts Settle = ⊥
 IsOfPorts c = Unit {0}
 
 abbrev pub AreOfPorts : List Change → Type 0
@@ -44,7 +46,7 @@ ports_one : (c : Change) (w : World) → IsOfPorts c → nodes_of (apply c w) �
 ports_one (EditHeader n f) w p = absurd p
 ports_one (EditBody n g) w p = absurd p
 ports_one (MakeNode n s node) w p = absurd p
-ports_one Settle w p = refl
+ports_one Settle w p = absurd p
 ports_one c w p = refl
 
 -- they leave all that is known of nodes
@@ -54,6 +56,12 @@ nodes-ports (c ∷ cs) w p = nodes-ports cs (apply c w) p.1 ∙ ports_one c w p.
 
 pub sized_ports : (cs : List Change) (w : World) → AreOfPorts cs → KeepsSized w cs
 sized_ports cs w p sized = subst AreSized (sym (nodes-ports cs w p)) sized
+
+-- what is left once a world is settled has the size that it had
+pub sized_settle : (w : World) → KeepsSized w (Settle ∷ [])
+sized_settle w sized n x i e ei =
+    let l = node_left w n x e in
+    sized n x i l.0 (sym (ap (info_in w.servers) (home_still w n l.1)) ∙ ei)
 
 -- what a server makes of a node
 
@@ -112,6 +120,16 @@ did_sized q keeps w c n d told sized = sized_left w n d.bytes d.size fit sized
     fit : (x : Node) → get w.nodes n ≡ Some x → IsFit (info_at w n) (left_of d.bytes d.size x)
     fit x is i known = keeps i.kind i.text x d (c.tree.shapes n x is) (sized n x i is known) (sym (ap₂ (asked_of q) known is) ∙ told)
 
+-- a header changed, but not its size
+pub sized_header : (w : World) (n : Name) (f : Header → Header) → ((h : Header) → (f h).size ≡ h.size) → KeepsSized w (EditHeader n f ∷ [])
+sized_header w n f keeps sized m z i e ei = elim (same_or_apart m n) [
+  | inl a ↦
+      let l = edited_from (with_header f) (get w.nodes n) z (sym (edit_here w.nodes n (with_header f)) ∙ rw a at e) in
+      let old : IsSized (behaviour_of i.kind) i.text l.0 = sized n l.0 i l.1 (rw a at ei) in
+      subst (IsSized (behaviour_of i.kind) i.text) l.2 (keeps l.0.header ∙ old)
+  | inr a ↦ sized m z i (sym (edit_apart w.nodes n (with_header f) m a) ∙ e) ei
+]
+
 -- a node made, and an entry for it
 
 pub sized_made : (w : World) (n s : Name) (node : Node) → IsFit (server_at w s) node → KeepsSized w (MakeNode n s node ∷ [])
@@ -122,11 +140,18 @@ sized_made w n s node fit sized m z i e ei = elim (was w.nodes n m node z e) [
   | inr k ↦ sized m z i k.1 (sym (ap (info_in w.servers) (get_apart w.homes n s m k.0)) ∙ ei)
 ]
 
-pub sized_entry : ((k : ServerKind) → GoodBehaviour (behaviour_of k)) → (w : World) (d : Name) (name : List ℕ) (n : Name) → KeepsSized w (EditBody d (with_entry name n) ∷ [])
-sized_entry good w d name n sized m z i e ei = elim (same_or_apart m d) [
+-- a body changed, but not its size
+sized_body : (w : World) (d : Name) (g : Body → Body) → ((k : ServerKind) (text : List ℕ) (b : Body) → (behaviour_of k).size text (g b) ≡ (behaviour_of k).size text b) → KeepsSized w (EditBody d g ∷ [])
+sized_body w d g keeps sized m z i e ei = elim (same_or_apart m d) [
   | inl a ↦
-      let l = edited_from (with_body (with_entry name n)) (get w.nodes d) z (sym (edit_here w.nodes d (with_body (with_entry name n))) ∙ rw a at e) in
+      let l = edited_from (with_body g) (get w.nodes d) z (sym (edit_here w.nodes d (with_body g)) ∙ rw a at e) in
       let old : IsSized (behaviour_of i.kind) i.text l.0 = sized d l.0 i l.1 (rw a at ei) in
-      subst (IsSized (behaviour_of i.kind) i.text) l.2 (old ∙ sym ((good i.kind).entered i.text name n l.0.body))
-  | inr a ↦ sized m z i (sym (edit_apart w.nodes d (with_body (with_entry name n)) m a) ∙ e) ei
+      subst (IsSized (behaviour_of i.kind) i.text) l.2 (old ∙ sym (keeps i.kind i.text l.0.body))
+  | inr a ↦ sized m z i (sym (edit_apart w.nodes d (with_body g) m a) ∙ e) ei
 ]
+
+pub sized_entry : ((k : ServerKind) → GoodBehaviour (behaviour_of k)) → (w : World) (d : Name) (name : List ℕ) (n : Name) → KeepsSized w (EditBody d (with_entry name n) ∷ [])
+sized_entry good w d name n = sized_body w d (with_entry name n) (λ k text b. (good k).entered text name n b)
+
+pub sized_removed : ((k : ServerKind) → GoodBehaviour (behaviour_of k)) → (w : World) (d : Name) (name : List ℕ) → KeepsSized w (EditBody d (without_entry name) ∷ [])
+sized_removed good w d name = sized_body w d (without_entry name) (λ k text b. (good k).removed text name b)

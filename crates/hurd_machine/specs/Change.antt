@@ -1,5 +1,5 @@
 -- What a call changes, as data.
-use Rattle.std.specs.Prelude.{ℕ, List, [], ◌∷◌}
+use Rattle.std.specs.Prelude.{ℕ, Bool, List, [], ◌∷◌}
 use Rattle.std.specs.FinMap.{insert, retain_keys}
 use Rattle.hurd_creds.specs.declared.name.Name.{Name}
 use Rattle.hurd_creds.specs.declared.open_flags.OpenFlags.{OpenFlags}
@@ -7,9 +7,10 @@ use Rattle.hurd_creds.specs.Access.{IdSets}
 use Rattle.hurd_creds.specs.NameMaps.{NameMap, edit}
 use Rattle.hurd_trans_iface.specs.Nodes.{NodeMap, Node, Header, Body, Edit, OnHeader, OnBody, AddNode, with_header, with_body}
 use Rattle.hurd_ports.specs.declared.table.Opened.{Opened}
-use Rattle.hurd_ports.specs.Tables.{Task, OpenMap, fresh, is_held}
+use Rattle.hurd_nodes.specs.Settle as kept
+use Rattle.hurd_ports.specs.Tables.{Task, OpenMap, fresh, is_held, is_named}
 use Rattle.hurd_ports.specs.Steps.{named, edit_task, with_port, without_port, new_open, new_right}
-use Rattle.hurd_machine.specs.World.{World}
+use Rattle.hurd_machine.specs.World.{World, world_from, nodes_of}
 
 pub data Change : Type 0 where
   -- of a node
@@ -46,9 +47,13 @@ next_tasks (MakeOpen o z) ts = edit_task o.task.0 (named 1) ts
 next_tasks (EditTask q f) ts = edit_task q f ts
 next_tasks c ts = ts
 
--- the world without what nothing names any more: opens that no right names
+-- a node stays while it is its server's root, an entry names it, or a right is on it
+abbrev pub stays : World → Name → Bool
+stays w n = kept.stays (is_named w.tasks) (nodes_of w) n
+
+-- the world without what nothing names any more: nodes that don't stay, and opens that no right names
 abbrev pub settle : World → World
-settle w = record w { opens = retain_keys w.opens (is_held w.tasks) }
+settle w = world_from (kept.settle (is_named w.tasks) (nodes_of w)) (record { opens = retain_keys w.opens (is_held w.tasks); tasks = w.tasks })
 
 -- the world with one change
 abbrev pub apply : Change → World → World

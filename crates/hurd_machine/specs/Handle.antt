@@ -1,12 +1,25 @@
--- What a port has open.
+-- What a port names, and what it has open.
 use Rattle.std.specs.Prelude.{ℕ, Result, Ok}
 use Rattle.hurd_creds.specs.declared.errno.Errno.{Errno}
 use Rattle.hurd_creds.specs.declared.errno.Errno.TheVariants.{EBADF, EDIED}
 use Rattle.hurd_creds.specs.Bits.{asks}
+use Rattle.hurd_trans_iface.specs.Nodes.{Header}
+use Rattle.hurd_ports.specs.declared.table.Right.{Right}
 use Rattle.hurd_ports.specs.Tables.{right_of}
 use Rattle.hurd_machine.specs.declared.handle.Handle.{Handle}
 use Rattle.hurd_machine.specs.World.{World, ports_of, open_at, header_at}
 use Rattle.hurd_machine.specs.Plan.{on, given, first}
+
+-- a right, with the header of its node
+pub record Named : Type 0 where
+  pub right : Right
+  pub header : Header
+
+-- a port on a node that is there
+abbrev pub port_asks : World → ℕ → ℕ → Result Named Errno
+port_asks w t p =
+    first (right_of (ports_of w) t p) (λ r.
+    on EDIED (header_at w r.node) (λ h. Ok (record { right = r; header = h })))
 
 -- a port that is open for something, on a node that is there
 abbrev pub handle_asks : World → ℕ → ℕ → ℕ → Result Handle Errno

@@ -35,6 +35,10 @@ unfoldable pub answered : {A : Type 0} → Result A Errno → (A → Plan) → P
 answered (Err e) k = refuse e
 answered (Ok a) k = k a
 
+-- a plan that changes nothing: a reply follows from the answers
+abbrev pub looks : {A : Type 0} → Result A Errno → (A → Reply) → Plan
+looks asks reply = answered asks (λ a. record { reply = reply a; changes = [] })
+
 abbrev pub is_refused : Reply → Bool
 is_refused (Refused e) = true
 is_refused _ = false

@@ -163,6 +163,13 @@ part w (OptionsOf s) = AnOptions (server_at w s)
 part w (UsersOf s) = AUsers (users w s)
 part w (TaskOf t) = ATask (task_at w t)
 
+-- what the part is of is gone: it shows nothing
+abbrev pub IsGone : World → Part → Type 0
+IsGone w (AttrOf n) = part w (AttrOf n) ≡ AnAttr None None
+IsGone w (EmptyOf n) = part w (EmptyOf n) ≡ AnEmpty None
+IsGone w (BodyOf n) = part w (BodyOf n) ≡ ABody None
+IsGone w p = ⊥
+
 -- two worlds have the same view for S: S sees the same parts in both, and they are equal; and there are as many tasks
 pub record SameView (S : ℕ → Bool) (v w : World) : Type 0 where
   pub tasks : length w.tasks ≡ length v.tasks

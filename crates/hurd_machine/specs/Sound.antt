@@ -1,20 +1,23 @@
 -- Worlds that hang together.
-use Rattle.std.specs.Prelude.{◌≡◌, ℕ, ◌<◌, true, false, List, [], ◌∷◌, Some, None}
-use Rattle.std.specs.FinMap.{get}
+use Rattle.std.specs.Prelude.{◌≡◌, ℕ, ◌<◌, ◌≤◌, true, false, List, [], ◌∷◌, Some, None, cond}
+use Rattle.std.specs.FinMap.{get, values}
+use Rattle.std.specs.List.{sum_by}
 use Rattle.std.specs.FinSet as set
 use Rattle.hurd_creds.specs.declared.name.Name.{Name}
 use Rattle.hurd_creds.specs.declared.attrs.Kind.TheVariants.{Dir}
 use Rattle.hurd_creds.specs.Bits.{asks, WRITE}
-use Rattle.hurd_trans_iface.specs.Nodes.{Node, Entry, Header, Body, Content, Listing, IsShaped, is_dir, header_of, body_of}
+use Rattle.hurd_trans_iface.specs.Nodes.{NodeMap, Node, Entry, Header, Body, Content, Listing, IsShaped, is_dir, header_of, body_of}
 use Rattle.hurd_trans_iface.specs.Answers.{entry_in}
 use Rattle.hurd_trans_iface.specs.Kinds.{behaviour_of}
 use Rattle.hurd_trans_iface.specs.Good.{IsSized}
-use Rattle.hurd_nodes.specs.Shown.{NodeState, ServerInfo, server_of}
+use Rattle.hurd_nodes.specs.Shown.{NodeState, ServerInfo, is_root, server_of, tree_by}
 use Rattle.hurd_ports.specs.declared.table.Opened.{Opened}
 use Rattle.hurd_ports.specs.declared.table.Right.{Right}
 use Rattle.hurd_ports.specs.declared.table.Port.{Port}
 use Rattle.hurd_ports.specs.Tables.{Task, rights_of, IsSettled}
-use Rattle.hurd_machine.specs.World.{World, IsAmong, boot_root, nodes_of, ports_of, task_at, open_at, header_at, body_at, server_at, lists_at}
+use Rattle.hurd_machine.specs.Change.{stays}
+use Rattle.hurd_machine.specs.World.{World, IsAmong, boot_root, nodes_of, ports_of, task_at, open_at, header_at, body_at, server_at, lists_at, is_of}
+use Rattle.hurd_machine.specs.Sight.{count_list}
 
 -- the name was given already: its task has made more things than its count. No task makes the boot names.
 abbrev pub Below : World → Name → Type 0
@@ -58,8 +61,9 @@ pub record IsTree (h : NodeState) : Type 0 where
   -- directories have entries, each of its own name, and other nodes have bytes
   pub shapes : (n : Name) (x : Node) → get h.nodes n ≡ Some x → IsShaped x.header x.body
   pub distinct : (n : Name) (x : Node) → get h.nodes n ≡ Some x → HasDistinctNames x.body
-  -- the boot root stands
+  -- the boot root stands, and is the root of the boot server
   pub root : (k : Header) × (header_of h.nodes boot_root ≡ Some k)
+  pub boot : is_root h boot_root ≡ true
 
 -- tables of ports, and opens
 pub record AreTables (w : World) : Type 0 where
@@ -85,8 +89,45 @@ pub record Coherent (w : World) : Type 0 where
 abbrev pub AreSized : NodeState → Type 0
 AreSized h = (n : Name) (x : Node) (i : ServerInfo) → get h.nodes n ≡ Some x → server_of h n ≡ Some i → IsSized (behaviour_of i.kind) i.text x
 
--- a world that hangs together, in which sizes are right, and from which nothing is to be taken out
+-- how many entries of a body name a node
+abbrev pub times_in : Name → Body → ℕ
+times_in n (Content bs) = 0
+times_in n (Listing es) = count_list (is_of n) es
+
+-- how many entries of all directories name a node
+unfoldable pub times_listed : NodeMap → Name → ℕ
+times_listed m n = sum_by (λ (x : Node). times_in n x.body) (values m)
+
+-- from a node one comes to its server's root, going up from parent to parent
+pub data LeadsUp (h : NodeState) : Name → Type 0 where
+  AtRoot : {n : Name} → is_root h n ≡ true → LeadsUp h n
+  Above : {n : Name} (p : Name) (k : Header) → header_of h.nodes n ≡ Some k → k.parent ≡ Some p → LeadsUp h p → LeadsUp h n
+
+-- how a node with this header hangs in its server's tree
+pub record Hangs (h : NodeState) (n : Name) (k : Header) : Type 0 where
+  -- what has a parent is a directory, and an entry of that one
+  pub up : (p : Name) → k.parent ≡ Some p → (k.kind ≡ Dir) × (lists_at n (body_of h.nodes p) ≡ true)
+  -- a server's root has none
+  pub top : is_root h n ≡ true → k.parent ≡ None
+  -- a directory is no more than one entry
+  pub once : k.kind ≡ Dir → times_listed h.nodes n ≤ 1
+  -- where a server keeps a tree, a file has a link for each entry that names it, and a directory has one
+  pub links : tree_by (server_of h n) ≡ true → k.links ≡ cond (is_dir k.kind) 1 (times_listed h.nodes n)
+
+-- what holds of nodes and entries at the end of each call; between the changes of a call it need not
+pub record Linked (h : NodeState) : Type 0 where
+  pub nodes : (n : Name) (k : Header) → header_of h.nodes n ≡ Some k → Hangs h n k
+  -- from a directory that has entries the parents lead to its server's root: a removed one has none
+  pub rooted : (d n : Name) → lists_at n (body_of h.nodes d) ≡ true → LeadsUp h d
+
+-- nothing is to be taken out: each node stays, and each open is held
+pub record AtRest (w : World) : Type 0 where
+  pub nodes : (n : Name) (x : Node) → get w.nodes n ≡ Some x → stays w n ≡ true
+  pub opens : IsSettled (ports_of w)
+
+-- a world that hangs together, whose nodes are linked as a tree is, in which sizes are right, and from which nothing is to be taken out
 pub record Sound (w : World) : Type 0 where
   pub coherent : Coherent w
+  pub linked : Linked (nodes_of w)
   pub sizes : AreSized (nodes_of w)
-  pub settled : IsSettled (ports_of w)
+  pub settled : AtRest w

@@ -1,5 +1,5 @@
 -- The world as a value, and what is read of it.
-use Rattle.std.specs.Prelude.{◌≡◌, ◌⊎◌, ℕ, Bool, false, List, [], ◌∷◌, Option, Some, None, Result, slice_get}
+use Rattle.std.specs.Prelude.{◌≡◌, ◌⊎◌, ◌&&◌, not, is_some, ℕ, Bool, false, List, [], ◌∷◌, Option, Some, None, Result, slice_get}
 use Rattle.std.specs.List.{list_any}
 use Rattle.std.specs.Option.{option_map}
 use Rattle.std.specs.FinMap.{get}
@@ -10,7 +10,7 @@ use Rattle.hurd_creds.specs.NameMaps.{NameMap}
 use Rattle.hurd_creds.specs.Names.{same_name}
 use Rattle.hurd_trans_iface.specs.Nodes.{NodeMap, Node, Entry, Header, Body, Content, Listing}
 use Rattle.hurd_trans_iface.specs.Behaviour.{Question, Effect}
-use Rattle.hurd_nodes.specs.Shown.{NodeState, ServerInfo, boot_name, is_root, server_of, effect_at, can_make}
+use Rattle.hurd_nodes.specs.Shown.{NodeState, ServerInfo, boot_name, is_root, server_of, effect_at, can_make, can_link, can_unlink, can_rename, can_set_attrs}
 use Rattle.hurd_ports.specs.declared.table.Opened.{Opened}
 use Rattle.hurd_ports.specs.Tables.{PortState, OpenMap, Task}
 
@@ -66,6 +66,10 @@ info_at w n = server_of (nodes_of w) n
 abbrev pub is_server_root : World → Name → Bool
 is_server_root w n = is_root (nodes_of w) n
 
+-- a directory that is removed has no parent, and is no server's root
+abbrev pub is_removed : World → Name → Header → Bool
+is_removed w d h = not (is_server_root w d) && not (is_some h.parent)
+
 -- what a node's server answers of it, and does to it
 abbrev pub asked_at : {T : Type 0} → Question T → Name → World → Effect T
 asked_at q n w = effect_at q n (nodes_of w)
@@ -73,6 +77,22 @@ asked_at q n w = effect_at q n (nodes_of w)
 -- whether a node of a kind may be made in a directory under a name
 abbrev pub makes_at : World → Name → List ℕ → Kind → Result (Unit {0}) Errno
 makes_at w d name kind = can_make d name kind (nodes_of w)
+
+-- whether a file may get another name in a directory
+abbrev pub links_at : World → Name → List ℕ → Name → Result (Unit {0}) Errno
+links_at w d name n = can_link d name n (nodes_of w)
+
+-- whether the entry of a name may be taken out of a directory
+abbrev pub unlinks_at : World → Name → List ℕ → Result (Unit {0}) Errno
+unlinks_at w d name = can_unlink d name (nodes_of w)
+
+-- whether the entry of a name may go from a directory to another
+abbrev pub renames_at : World → Name → List ℕ → Name → Result (Unit {0}) Errno
+renames_at w d name e = can_rename d name e (nodes_of w)
+
+-- whether owner, group and mode of a node may be set
+abbrev pub sets_attrs_at : World → Name → Result (Unit {0}) Errno
+sets_attrs_at w n = can_set_attrs n (nodes_of w)
 
 -- whether a body has an entry for a node
 

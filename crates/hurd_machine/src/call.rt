@@ -1,5 +1,5 @@
 //! Calls and replies.
-use hurd_creds::{Bytes, Errno, Mode, OpenFlags};
+use hurd_creds::{Bytes, Errno, Mode, OpenFlags, Stat};
 use hurd_trans_iface::Names;
 
 /// A call, as a task makes it. Ports are numbers of the task's own table (`fs.defs`, `io.defs`; GNU Hurd Reference Manual).
@@ -28,14 +28,68 @@ pub enum Call {
         bytes: Bytes,
         offset: i64,
     },
+    /// Tells the attributes of the port's node.
+    IoStat {
+        port: u64,
+    },
     /// Cuts a file, or grows it by zero bytes.
     FileSetSize {
         port: u64,
         size: u64,
     },
+    /// Sets the mode of the port's node.
+    FileChmod {
+        port: u64,
+        mode: Mode,
+    },
+    /// Gives the port's node to an owner and a group.
+    FileChown {
+        port: u64,
+        owner: u32,
+        group: u32,
+    },
+    /// Tells which of `READ`, `WRITE` and `EXEC` the port's ids may.
+    FileCheckAccess {
+        port: u64,
+    },
     /// Tells the names in a directory.
     DirReaddir {
         port: u64,
+    },
+    /// Makes a directory under a name.
+    DirMkdir {
+        dir: u64,
+        name: Bytes,
+        mode: Mode,
+    },
+    /// Makes a file without a name, and opens it.
+    DirMkfile {
+        dir: u64,
+        flags: OpenFlags,
+        mode: Mode,
+    },
+    /// Removes an empty directory.
+    DirRmdir {
+        dir: u64,
+        name: Bytes,
+    },
+    /// Takes the name of a file away.
+    DirUnlink {
+        dir: u64,
+        name: Bytes,
+    },
+    /// Gives a file another name.
+    DirLink {
+        dir: u64,
+        name: Bytes,
+        file: u64,
+    },
+    /// Moves an entry to another name, in this directory or another.
+    DirRename {
+        dir: u64,
+        name: Bytes,
+        to: u64,
+        new: Bytes,
     },
 }
 
@@ -51,8 +105,11 @@ pub enum Lookup {
 pub enum Reply {
     Done,
     Found(Lookup),
+    Port(u64),
     Data(Bytes),
     Count(u64),
     Names(Names),
+    Stat(Stat),
+    Modes(OpenFlags),
     Refused(Errno),
 }

@@ -1,1 +1,12 @@
+pub mod HoldLaws
+pub mod SeatLaws
 pub mod ShownLaws
+pub mod StepLaws
+pub mod EditLaws
+pub mod MakeLaws
+pub mod NamelessLaws
+pub mod TakeLaws
+pub mod SettleLaws
+pub mod StayLaws
+pub mod BootLaws
+pub mod HideLaws

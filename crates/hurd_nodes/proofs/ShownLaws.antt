@@ -1,160 +1,248 @@
--- What is shown of the boot server, and after a change of it.
-use Rattle.std.proofs.Common.{◌≡◌, ℕ, Bool, true, false, List, if◌then◌else◌, not, sym, refl, ◌∙◌, ap, is_some}
-use Rattle.std.specs.Prelude.{Option, Some, None, Result, Ok, Err}
+-- What is shown of boxes, and after a server changed its own nodes.
+use Rattle.std.proofs.Common.{◌≡◌, ◌≢◌, inl, inr, Bool, true, false, if◌then◌else◌, List, [], ◌∷◌, sym, refl, ◌∙◌, ap, ap₂}
+use Rattle.std.specs.Prelude.{Option, Some, None}
 use Rattle.std.specs.Option.{option_map}
 use Rattle.std.specs.FinMap as fin
 use Rattle.hurd_creds.specs.declared.name.Name.{Name}
 use Rattle.hurd_creds.specs.declared.attrs.Attrs.{Attrs}
-use Rattle.hurd_creds.specs.declared.attrs.Kind.{Kind}
-use Rattle.hurd_creds.specs.declared.attrs.Kind.TheVariants.{File, Dir, Link, Fifo, Char}
-use Rattle.hurd_creds.specs.declared.errno.Errno.{Errno}
-use Rattle.hurd_creds.specs.declared.errno.Errno.TheVariants.{EEXIST, ENOTDIR, EROFS, EOPNOTSUPP}
-use Rattle.hurd_creds.specs.Names.{same_name, name_cmp}
+use Rattle.hurd_creds.specs.Names.{name_cmp, same_name}
 use Rattle.hurd_creds.specs.NameMaps.{NameMap, edit}
-use Rattle.hurd_creds.specs.Memory.{Steps}
-use Rattle.hurd_creds.proofs.NameLaws.{get_here}
-use Rattle.hurd_creds.proofs.MapLaws.{get-map_values, map_values-insert, map_values-edit_kept}
-use Rattle.hurd_creds.proofs.StepLaws.{steps-inside}
-use Rattle.hurd_trans_iface.specs.declared.new_node.NewNode.{NewNode}
-use Rattle.hurd_trans_iface.specs.declared.root.Root.{Root}
-use Rattle.hurd_trans_iface.specs.Nodes.{NodeMap, Node, edit_all, is_dir, attrs_of, with_header, with_body, with_size, with_entry, on_bytes}
-use Rattle.hurd_trans_iface.specs.Answers.{is_tree, is_made, entry_of, make_of, make_edits, made_node, node_of_kind, edits_if, added}
-use Rattle.hurd_trans_iface.specs.Behaviour.{Effect, Question, effect_on, told_of, edit_bytes, edit_size, edits_of}
-use Rattle.hurd_trans_iface.specs.Meaning.{Meaning, behaviour_of, root_of, edited, step_of, make_step}
-use Rattle.hurd_nodes.specs.Shown.{NodeState, ServerInfo, header_in, boot_name, boot_info, homes_of, state_of, with_edits, with_home, with_made, on_ok, is_root_at, is_root_of, info_in, asked_of, effect_at, asked_step, made_by, can_make, make_at}
+use Rattle.hurd_creds.proofs.NameLaws.{get_here, get_apart, remove_here, remove_apart, edit_here, edit_apart, insert_same, insert-insert, same_map_by, same_or_apart, same_name-itself, equal_if_same, apart_if_not_same, tied-itself, tied-apart}
+use Rattle.hurd_creds.proofs.MapLaws.{get-map_values, map_values-insert}
+use Rattle.hurd_trans_iface.specs.Nodes.{NodeMap, Node, Edit, OnHeader, OnBody, AddNode, attrs_of, body_of, node_of_edit, edit_one, edit_all, with_header, with_body}
+use Rattle.hurd_trans_iface.specs.Meaning.{Meaning, edited}
+use Rattle.hurd_nodes.specs.Held.{Seated, box_at, box_by, with_box}
+use Rattle.hurd_nodes.specs.Shown.{NodeState, ServerInfo, header_in, set_at, picked, pick_values, node_in, nodes_of, info_in, info_of, is_root, is_root_at, is_root_of, server_of, servers_of, flat, are_kin, own_edits, with_edits}
 
--- the boot server's name, at any node
-abbrev boot_home : Node → Name
-boot_home x = boot_name
+-- maps of what is picked
 
--- the home of a node is the boot server, if the node is there
-get-homes_of : (m : NodeMap) (n : Name) → fin.get (homes_of m) n ≡ option_map boot_home (fin.get m n)
-get-homes_of m n = get-map_values boot_home m n
+-- what is picked at a name, from what stands there
+abbrev pick_at : {A B : Type 0} → (Name → A → Option B) → Name → Option A → Option B
+pick_at F q None = None
+pick_at F q (Some a) = F q a
 
-home_by : (o : Option Node) (a : Option Attrs) → a ≡ option_map attrs_of o → option_map boot_home o ≡ option_map (λ (x : Attrs). boot_name) a
-home_by None a is = rw is refl
-home_by (Some x) a is = rw is refl
+module _ {A B : Type 0} (F : Name → A → Option B) where
+  set_here : (n : Name) (o : Option B) (m : NameMap B) → fin.get (set_at n o m) n ≡ o
+  set_here n None m = remove_here m n
+  set_here n (Some x) m = get_here m n x
 
--- a node has a home where it has attributes
-pub home-told : (m : NodeMap) (n : Name) (a : Option Attrs) → a ≡ option_map attrs_of (fin.get m n) → fin.get (homes_of m) n ≡ option_map (λ (x : Attrs). boot_name) a
-home-told m n a is = get-homes_of m n ∙ home_by (fin.get m n) a is
+  set_apart : (n q : Name) (o : Option B) (m : NameMap B) → q ≢ n → fin.get (set_at n o m) q ≡ fin.get m q
+  set_apart n q None m apart = remove_apart m n q apart
+  set_apart n q (Some x) m apart = get_apart m n x q apart
 
--- the boot server is found by its name
-get-boot : (i : ServerInfo) → fin.get (fin.insert {R = name_cmp} fin.empty boot_name i) boot_name ≡ Some i
-get-boot i = get_here {X = ServerInfo} fin.empty boot_name i
+  get-picked : (es : List (Name × A)) (q : Name) → fin.get (picked F es) q ≡ pick_at F q (fin.find name_cmp q es)
+  get-picked [] q = fin.get-empty name_cmp q
+  get-picked (e ∷ es) q = elim (same_or_apart q e.0) [
+    | inl here ↦ rw (here, tied-itself e.0) (set_here e.0 (F e.0 e.1) (picked F es))
+    | inr apart ↦ rw (tied-apart q e.0 apart) (set_apart e.0 q (F e.0 e.1) (picked F es) apart ∙ get-picked es q)
+  ]
 
--- of a node that is there: it is the boot server's root where it has that name
-pub is_root-there : (m : NodeMap) (i : ServerInfo) (n : Name) (a : Attrs) → Some a ≡ option_map attrs_of (fin.get m n) → is_root_of (fin.insert fin.empty boot_name i) n (fin.get (homes_of m) n) ≡ same_name n i.root
-is_root-there m i n a is = ap (is_root_of (fin.insert fin.empty boot_name i) n) (home-told m n (Some a) is) ∙ ap (is_root_at n) (get-boot i)
+  get-pick_values : (m : NameMap A) (q : Name) → fin.get (pick_values F m) q ≡ pick_at F q (fin.get m q)
+  unfolding pick_values
+  get-pick_values m q = get-picked (fin.entries m) q ∙ ap (pick_at F q) (sym (fin.get-entries m q))
 
--- a node that is gone is no root
-pub is_root-gone : (m : NodeMap) (servers : NameMap ServerInfo) (n : Name) → None ≡ option_map attrs_of (fin.get m n) → is_root_of servers n (fin.get (homes_of m) n) ≡ false
-is_root-gone m servers n is = ap (is_root_of servers n) (home-told m n None is)
+-- the node that is shown: its server has it
+pub get-nodes : (homes : NameMap Name) (seats : NameMap (Seated Meaning)) (q : Name) → fin.get (nodes_of homes seats) q ≡ node_in q (box_by seats (fin.get homes q))
+unfolding nodes_of
+get-nodes homes seats q = get-pick_values _ homes q ∙ by (fin.get homes q)
+  where
+    by : (o : Option Name) → pick_at (λ n s. node_in n (box_at seats s)) q o ≡ node_in q (box_by seats o)
+    by None = refl
+    by (Some s) = refl
+
+-- what is known of a server that is shown
+pub get-servers : (seats : NameMap (Seated Meaning)) (s : Name) → fin.get (servers_of seats) s ≡ option_map info_of (fin.get seats s)
+unfolding servers_of
+get-servers seats s = get-map_values info_of seats s
+
+-- one box that serves a node
+
+module _ (homes : NameMap Name) (seats : NameMap (Seated Meaning)) (n : Name) where
+  abbrev served : Option Meaning
+  served = box_by seats (fin.get homes n)
+
+  -- where this box serves the node, the node that is shown is the box's
+  pub node-told : (m : Meaning) → Some m ≡ served → fin.get (nodes_of homes seats) n ≡ fin.get m.nodes n
+  node-told m box = get-nodes homes seats n ∙ ap (node_in n) (sym box)
+
+  pub node-untold : None ≡ served → fin.get (nodes_of homes seats) n ≡ None
+  node-untold box = get-nodes homes seats n ∙ ap (node_in n) (sym box)
+
+  pub body-told : (m : Meaning) → Some m ≡ served → body_of (nodes_of homes seats) n ≡ body_of m.nodes n
+  body-told m box = ap (option_map (λ (x : Node). x.body)) (node-told m box)
+
+  pub body-untold : None ≡ served → body_of (nodes_of homes seats) n ≡ None
+  body-untold box = ap (option_map (λ (x : Node). x.body)) (node-untold box)
+
+  -- its attributes
+  pub attrs-told : (m : Meaning) (a : Option Attrs) → Some m ≡ served → a ≡ option_map attrs_of (fin.get m.nodes n) → a ≡ option_map attrs_of (fin.get (nodes_of homes seats) n)
+  attrs-told m a box is = is ∙ sym (ap (option_map attrs_of) (node-told m box))
+
+  pub attrs-untold : None ≡ served → None ≡ option_map attrs_of (fin.get (nodes_of homes seats) n)
+  attrs-untold box = sym (ap (option_map attrs_of) (node-untold box))
+
+  info_by : (o : Option Name) (m : Meaning) → Some m ≡ box_by seats o → (i : ServerInfo) × (info_in (servers_of seats) o ≡ Some i) × (i.kind ≡ m.kind) × (i.text ≡ m.text)
+  info_by None m box = absurd (cc)
+  info_by (Some s) m box = go (fin.get seats s) refl box
+    where
+      go : (o : Option (Seated Meaning)) → fin.get seats s ≡ o → Some m ≡ option_map (λ (e : Seated Meaning). e.server) o → (i : ServerInfo) × (fin.get (servers_of seats) s ≡ Some i) × (i.kind ≡ m.kind) × (i.text ≡ m.text)
+      go None is h = absurd (cc)
+      go (Some e) is h = let same : e.server ≡ m = cc in (info_of e, get-servers seats s ∙ ap (option_map info_of) is, ap (λ (x : Meaning). x.kind) same, ap (λ (x : Meaning). x.text) same)
+
+  -- what is known of its server
+  pub server-told : (m : Meaning) → Some m ≡ served → (i : ServerInfo) × (server_of (flat homes seats) n ≡ Some i) × (i.kind ≡ m.kind) × (i.text ≡ m.text)
+  server-told m box = info_by (fin.get homes n) m box
+
+  uninfo_by : (o : Option Name) → None ≡ box_by seats o → info_in (servers_of seats) o ≡ None
+  uninfo_by None box = refl
+  uninfo_by (Some s) box = go (fin.get seats s) refl box
+    where
+      go : (o : Option (Seated Meaning)) → fin.get seats s ≡ o → None ≡ option_map (λ (e : Seated Meaning). e.server) o → fin.get (servers_of seats) s ≡ None
+      go None is h = get-servers seats s ∙ ap (option_map info_of) is
+      go (Some e) is h = absurd (cc)
+
+  pub server-untold : None ≡ served → server_of (flat homes seats) n ≡ None
+  server-untold box = uninfo_by (fin.get homes n) box
 
 -- the header among a node's attributes
 pub header_in-attrs_of : (o : Option Node) → option_map header_in (option_map attrs_of o) ≡ option_map (λ (x : Node). x.header) o
 header_in-attrs_of None = refl
 header_in-attrs_of (Some x) = refl
 
--- questions about a node
-
-homes-sized : (n : Name) (o : Option ℕ) (m : NodeMap) → homes_of (edit_all (edit_size n o) m) ≡ homes_of m
-homes-sized n None m = refl
-homes-sized n (Some k) m = map_values-edit_kept boot_home n (with_header (with_size k)) (λ x. refl) m
-
--- what a server does to a node moves none
-homes-edited : {T : Type 0} (n : Name) (e : Effect T) (m : NodeMap) → homes_of (edit_all (edits_of n e) m) ≡ homes_of m
-homes-edited n (Err e) m = refl
-homes-edited n (Ok d) m = go d.bytes
+-- the root of its server
+pub root-told : (h : NodeState) (n : Name) (i : ServerInfo) → server_of h n ≡ Some i → is_root h n ≡ same_name n i.root
+root-told h n i is = by (fin.get h.homes n) is
   where
-    go : (o : Option (List ℕ → List ℕ)) → homes_of (edit_all (edit_bytes n o (edit_size n d.size)) m) ≡ homes_of m
-    go None = homes-sized n d.size m
-    go (Some f) = homes-sized n d.size (edit n (with_body (on_bytes f)) m) ∙ map_values-edit_kept boot_home n (with_body (on_bytes f)) (λ x. refl) m
+    by : (o : Option Name) → info_in h.servers o ≡ Some i → is_root_of h.servers n o ≡ same_name n i.root
+    by None e = absurd (cc)
+    by (Some s) e = ap (is_root_at n) e
 
--- what is shown answers as the boot server does
-effect-shown : {T : Type 0} (q : Question T) (n : Name) (m : Meaning) → effect_at q n (state_of m) ≡ effect_on q (behaviour_of m.kind) m.text (fin.get m.nodes n)
-effect-shown q n m = ap (λ (o : Option Name). asked_of q (info_in (state_of m).servers o) (fin.get m.nodes n)) (get-homes_of m.nodes n) ∙ go (fin.get m.nodes n)
+pub root-untold : (h : NodeState) (n : Name) → server_of h n ≡ None → is_root h n ≡ Rattle.std.specs.Prelude.false
+root-untold h n is = by (fin.get h.homes n) is
   where
-    go : (o : Option Node) → asked_of q (info_in (state_of m).servers (option_map boot_home o)) o ≡ effect_on q (behaviour_of m.kind) m.text o
-    go None = refl
-    go (Some x) = ap (λ (i : Option ServerInfo). asked_of q i (Some x)) (get-boot (boot_info m))
+    by : (o : Option Name) → info_in h.servers o ≡ None → is_root_of h.servers n o ≡ Rattle.std.specs.Prelude.false
+    by None e = refl
+    by (Some s) e = ap (is_root_at n) e
 
--- each question about a node, of the boot server and of what is shown
-pub step-shown : {T : Type 0} (q : Question T) (n : Name) (m m' : Meaning) (got : Result T Errno) → Steps m (step_of q n m) got m' → Steps (state_of m) (asked_step q n (state_of m)) got (state_of m')
-step-shown {T} q n m m' got steps =
-    let e = effect_on q (behaviour_of m.kind) m.text (fin.get m.nodes n) in
-    let edits = ap (λ (homes : NameMap Name). let h : NodeState = record (state_of (edited (edits_of n e) m)) { homes = homes } in h) (sym (homes-edited n e m.nodes)) in
-    steps-inside state_of m m' (step_of q n m) (asked_step q n (state_of m)) got
-    (ap (λ (f : Effect T). (told_of f, with_edits (edits_of n f) (state_of m))) (effect-shown q n m) ∙ ap (λ (h : NodeState). (told_of e, h)) edits)
-    steps
+-- edits by a server of its own nodes
 
--- making
+-- the seat after these edits by its server
+abbrev pub edited_seat : List Edit → Seated Meaning → Seated Meaning
+edited_seat es e = with_box e (edited es e.server)
 
--- what is shown says as the boot server does whether a node can be made
-can_make-shown : (dir : Name) (name : List ℕ) (kind : Kind) (m : Meaning) → can_make dir name kind (state_of m) ≡ make_of (root_of m.kind) name kind (fin.get m.nodes dir)
-can_make-shown dir name kind m = ap (λ (o : Option Name). made_by name kind (info_in (state_of m).servers o) (fin.get m.nodes dir)) (get-homes_of m.nodes dir) ∙ go (fin.get m.nodes dir)
-  where
-    go : (o : Option Node) → made_by name kind (info_in (state_of m).servers (option_map boot_home o)) o ≡ make_of (root_of m.kind) name kind o
-    go None = refl
-    go (Some x) = ap (λ (i : Option ServerInfo). made_by name kind i (Some x)) (get-boot (boot_info m))
+-- each of these is of a node of this server
+abbrev pub AreOwn : Name → NameMap Name → List Edit → Type 0
+AreOwn s homes [] = Unit {0}
+AreOwn s homes (e ∷ es) = (fin.get homes (node_of_edit e) ≡ Some s) × AreOwn s homes es
 
--- the four tests of a directory that is there, of what its attributes tell and the server says
-abbrev pub tested : Bool → Bool → Bool → Bool → Result (Unit {0}) Errno
-tested dir keeps taken fits = if not dir then Err ENOTDIR else if not keeps then Err EROFS else if taken then Err EEXIST else if fits then Ok tt else Err EOPNOTSUPP
+pub own-all : (s : Name) (homes : NameMap Name) (es : List Edit) → AreOwn s homes es → own_edits (Some s) homes es ≡ es
+own-all s homes [] own = refl
+own-all s homes (e ∷ es) own =
+    let kin : are_kin (Some s) (fin.get homes (node_of_edit e)) ≡ true = ap (are_kin (Some s)) own.0 ∙ same_name-itself s in
+    rw kin (ap (λ (xs : List Edit). e ∷ xs) (own-all s homes es own.1))
 
-last_test : (dir keeps taken fits : Bool) (u : Unit {0}) → tested dir keeps taken fits ≡ Ok u → fits ≡ true
-last_test false keeps taken fits u h = absurd (cc)
-last_test true false taken fits u h = absurd (cc)
-last_test true true true fits u h = absurd (cc)
-last_test true true false false u h = absurd (cc)
-last_test true true false true u h = refl
+-- kin of a node of a server is of that server
+pub kin-home : (o p : Option Name) (s : Name) → o ≡ Some s → are_kin o p ≡ true → p ≡ Some s
+kin-home None p s here kin = absurd (cc)
+kin-home (Some q) None s here kin = absurd (cc)
+kin-home (Some q) (Some r) s here kin = let same : q ≡ s = cc in ap Some (sym (equal_if_same q r kin) ∙ same)
 
-module _ (dir : Name) (name : List ℕ) (new : NewNode) where
-  -- where a node can be made, there are a directory and what is to be made
-  record CanMake (o : Option Node) : Type 0 where
-    home : option_map boot_home o ≡ Some boot_name
-    node : Node
-    made : made_node dir new ≡ Some node
+module _ (homes : NameMap Name) (s : Name) where
+  module _ (seats : NameMap (Seated Meaning)) (e f : Seated Meaning) (is : fin.get seats s ≡ Some e) where
+    -- a server that has the same under a name shows the same there
+    node-kept : (q : Name) (o : Option Name) → fin.get f.server.nodes q ≡ fin.get e.server.nodes q → node_in q (box_by (fin.insert seats s f) o) ≡ node_in q (box_by seats o)
+    node-kept q None same = refl
+    node-kept q (Some p) same = elim (same_or_apart p s) [
+      | inl here ↦ rw (here, get_here seats s f, is) same
+      | inr apart ↦ rw (get_apart seats s f p apart) refl
+    ]
 
-  fitting : (kind : Kind) → is_made kind ≡ true → (x : Node) × (node_of_kind dir new kind ≡ Some x)
-  fitting File h = (_, refl)
-  fitting Dir h = (_, refl)
-  fitting Link h = absurd (cc)
-  fitting Fifo h = absurd (cc)
-  fitting Char h = absurd (cc)
+    -- its own node is shown as it has it
+    node-own : (q : Name) → fin.get homes q ≡ Some s → fin.get (nodes_of homes (fin.insert seats s f)) q ≡ fin.get f.server.nodes q
+    node-own q home = get-nodes homes (fin.insert seats s f) q ∙ rw (home, get_here seats s f) refl
 
-  making : (root : Root) (o : Option Node) (u : Unit {0}) → make_of root name new.kind o ≡ Ok u → CanMake o
-  making root None u h = absurd (cc)
-  making root (Some d) u h =
-      let fits = fitting new.kind (last_test (is_dir d.header.kind) (is_tree root) (is_some (entry_of name (Some d.body))) (is_made new.kind) u h) in
-      record { home = refl; node = fits.0; made = fits.1 }
+    node-was : (q : Name) → fin.get homes q ≡ Some s → fin.get e.server.nodes q ≡ fin.get (nodes_of homes seats) q
+    node-was q home = sym (get-nodes homes seats q ∙ rw (home, is) refl)
 
-  homes-added : (o : Option Node) (x : Node) (m : NodeMap) → o ≡ Some x → fin.get (homes_of m) dir ≡ Some boot_name → with_home new.name (fin.get (homes_of m) dir) (homes_of m) ≡ homes_of (edit_all (added dir name new.name o) m)
-  homes-added o x m is home =
-      ap (λ (p : Option Name). with_home new.name p (homes_of m)) home
-      ∙ sym (ap (λ (p : Option Node). homes_of (edit_all (added dir name new.name p) m)) is
-      ∙ map_values-edit_kept boot_home dir (with_body (with_entry name new.name)) (λ y. refl) (fin.insert m new.name x)
-      ∙ map_values-insert boot_home m new.name x)
+    node-other : (q : Name) → fin.get f.server.nodes q ≡ fin.get e.server.nodes q → fin.get (nodes_of homes (fin.insert seats s f)) q ≡ fin.get (nodes_of homes seats) q
+    node-other q same = get-nodes homes (fin.insert seats s f) q ∙ node-kept q (fin.get homes q) same ∙ sym (get-nodes homes seats q)
 
-  state-made : (m : Meaning) (r : Result (Unit {0}) Errno) → make_of (root_of m.kind) name new.kind (fin.get m.nodes dir) ≡ r → on_ok r (state_of m) (with_made dir name new (state_of m)) ≡ state_of (edited (edits_if r (make_edits dir name new)) m)
-  state-made m (Err e) is = refl
-  state-made m (Ok u) is =
-      let can = making (root_of m.kind) (fin.get m.nodes dir) u is in
-      ap (λ (homes : NameMap Name). let h : NodeState = record (with_made dir name new (state_of m)) { homes = homes } in h)
-      (homes-added (made_node dir new) can.node m.nodes can.made (get-homes_of m.nodes dir ∙ can.home))
+    nodes-edited : (n : Name) (F : Node → Node) → fin.get homes n ≡ Some s → f.server.nodes ≡ edit n F e.server.nodes → nodes_of homes (fin.insert seats s f) ≡ edit n F (nodes_of homes seats)
+    nodes-edited n F home same = same_map_by _ _ (λ q. elim (same_or_apart q n) [
+      | inl here ↦
+          rw here
+          (node-own n home ∙ ap (λ (m : NodeMap). fin.get m n) same ∙ edit_here e.server.nodes n F
+          ∙ ap (option_map F) (node-was n home) ∙ sym (edit_here (nodes_of homes seats) n F))
+      | inr apart ↦
+          node-other q (ap (λ (m : NodeMap). fin.get m q) same ∙ edit_apart e.server.nodes n F q apart)
+          ∙ sym (edit_apart (nodes_of homes seats) n F q apart)
+    ])
 
-  pub make-shown : (m m' : Meaning) (got : Result (Unit {0}) Errno) → Steps m (make_step dir name new m) got m' → Steps (state_of m) (make_at dir name new (state_of m)) got (state_of m')
-  make-shown m m' got steps =
-      let answer = make_of (root_of m.kind) name new.kind (fin.get m.nodes dir) in
-      steps-inside state_of m m' (make_step dir name new m) (make_at dir name new (state_of m)) got
-      (ap (λ (a : Result (Unit {0}) Errno). (a, on_ok a (state_of m) (with_made dir name new (state_of m)))) (can_make-shown dir name new.kind m) ∙ ap (λ (h : NodeState). (answer, h)) (state-made m answer refl))
-      steps
+    nodes-added : (n : Name) (x : Node) → fin.get homes n ≡ Some s → f.server.nodes ≡ fin.insert e.server.nodes n x → nodes_of homes (fin.insert seats s f) ≡ fin.insert (nodes_of homes seats) n x
+    nodes-added n x home same = same_map_by _ _ (λ q. elim (same_or_apart q n) [
+      | inl here ↦
+          rw here (node-own n home ∙ ap (λ (m : NodeMap). fin.get m n) same ∙ get_here e.server.nodes n x ∙ sym (get_here (nodes_of homes seats) n x))
+      | inr apart ↦
+          node-other q (ap (λ (m : NodeMap). fin.get m q) same ∙ get_apart e.server.nodes n x q apart)
+          ∙ sym (get_apart (nodes_of homes seats) n x q apart)
+    ])
 
--- what a test of the boot server's answers says of what is shown
-module _ (dir : Name) (name : List ℕ) (kind : Kind) (m : Meaning) where
-  make_of-told : (root : Root) (o : Option Node) (a : Attrs) → Some a ≡ option_map attrs_of o → make_of root name kind o ≡ tested (is_dir a.kind) (is_tree root) (is_some (entry_of name (option_map (λ (x : Node). x.body) o))) (is_made kind)
-  make_of-told root None a is = absurd (cc)
-  make_of-told root (Some x) a is = let same : a ≡ attrs_of x = cc in rw same refl
+    -- a node of another server is not shown of this one
+    unseen : (q : Name) (o : Option Name) → are_kin (Some s) o ≡ false → node_in q (box_by (fin.insert seats s f) o) ≡ node_in q (box_by seats o)
+    unseen q None other = refl
+    unseen q (Some p) other = rw (get_apart seats s f p (λ same. apart_if_not_same s p other (sym same))) refl
 
-  pub can_make-told : (a : Attrs) → Some a ≡ option_map attrs_of (fin.get m.nodes dir) → can_make dir name kind (state_of m) ≡ tested (is_dir a.kind) (is_tree (root_of m.kind)) (is_some (entry_of name (option_map (λ (x : Node). x.body) (fin.get m.nodes dir)))) (is_made kind)
-  can_make-told a is = can_make-shown dir name kind m ∙ make_of-told (root_of m.kind) (fin.get m.nodes dir) a is
+    nodes-foreign : (n : Name) → are_kin (Some s) (fin.get homes n) ≡ false → ((q : Name) → q ≢ n → fin.get f.server.nodes q ≡ fin.get e.server.nodes q)
+        → nodes_of homes (fin.insert seats s f) ≡ nodes_of homes seats
+    nodes-foreign n other same = same_map_by _ _ (λ q. elim (same_or_apart q n) [
+      | inl here ↦ rw here (get-nodes homes (fin.insert seats s f) n ∙ unseen n (fin.get homes n) other ∙ sym (get-nodes homes seats n))
+      | inr apart ↦ node-other q (same q apart)
+    ])
+
+  module _ (seats : NameMap (Seated Meaning)) (e : Seated Meaning) (is : fin.get seats s ≡ Some e) where
+    -- one edit, of a node of the server's own
+    nodes-own_one : (i : Edit) → fin.get homes (node_of_edit i) ≡ Some s → nodes_of homes (fin.insert seats s (edited_seat (i ∷ []) e)) ≡ edit_one i (nodes_of homes seats)
+    nodes-own_one (OnHeader n f) home = nodes-edited seats e (edited_seat (OnHeader n f ∷ []) e) is n (with_header f) home refl
+    nodes-own_one (OnBody n g) home = nodes-edited seats e (edited_seat (OnBody n g ∷ []) e) is n (with_body g) home refl
+    nodes-own_one (AddNode n x) home = nodes-added seats e (edited_seat (AddNode n x ∷ []) e) is n x home refl
+
+    -- or of another node
+    edit_one-apart : (i : Edit) (m : NodeMap) (q : Name) → q ≢ node_of_edit i → fin.get (edit_one i m) q ≡ fin.get m q
+    edit_one-apart (OnHeader n f) m q apart = edit_apart m n (with_header f) q apart
+    edit_one-apart (OnBody n g) m q apart = edit_apart m n (with_body g) q apart
+    edit_one-apart (AddNode n x) m q apart = get_apart m n x q apart
+
+    nodes-one : (i : Edit) (es : List Edit) (kin : Bool) → are_kin (Some s) (fin.get homes (node_of_edit i)) ≡ kin
+        → edit_all es (nodes_of homes (fin.insert seats s (edited_seat (i ∷ []) e))) ≡ edit_all (if kin then i ∷ es else es) (nodes_of homes seats)
+    nodes-one i es true is_kin = ap (edit_all es) (nodes-own_one i (kin-home (Some s) (fin.get homes (node_of_edit i)) s refl is_kin))
+    nodes-one i es false is_kin =
+        ap (edit_all es) (nodes-foreign seats e (edited_seat (i ∷ []) e) is (node_of_edit i) is_kin (λ q apart. edit_one-apart i e.server.nodes q apart))
+
+  -- all of them, one after another
+  nodes-all : (es : List Edit) (seats : NameMap (Seated Meaning)) (e : Seated Meaning) → fin.get seats s ≡ Some e
+      → nodes_of homes (fin.insert seats s (edited_seat es e)) ≡ edit_all (own_edits (Some s) homes es) (nodes_of homes seats)
+  nodes-all [] seats e is = ap (nodes_of homes) (insert_same seats s e is)
+  nodes-all (i ∷ es) seats e is =
+      let one = edited_seat (i ∷ []) e in
+      ap (nodes_of homes) (sym (insert-insert seats s one (edited_seat es one)))
+      ∙ nodes-all es (fin.insert seats s one) one (get_here seats s one)
+      ∙ nodes-one seats e is i (own_edits (Some s) homes es) (are_kin (Some s) (fin.get homes (node_of_edit i))) refl
+
+-- servers are known as before, where one keeps its kind and text
+pub servers-kept : (seats : NameMap (Seated Meaning)) (s : Name) (e f : Seated Meaning) → fin.get seats s ≡ Some e → info_of f ≡ info_of e → servers_of (fin.insert seats s f) ≡ servers_of seats
+unfolding servers_of
+servers-kept seats s e f is same =
+    map_values-insert info_of seats s f ∙ ap (fin.insert (servers_of seats) s) same
+    ∙ insert_same (servers_of seats) s (info_of e) (get-servers seats s ∙ ap (option_map info_of) is)
+
+-- what a server does is done to its own nodes among those that are shown
+pub flat-own : (es : List Edit) (homes : NameMap Name) (seats : NameMap (Seated Meaning)) (s : Name) (e : Seated Meaning) → fin.get seats s ≡ Some e
+    → flat homes (fin.insert seats s (edited_seat es e)) ≡ with_edits (own_edits (Some s) homes es) (flat homes seats)
+flat-own es homes seats s e is =
+    ap₂ (λ (nodes : NodeMap) (servers : NameMap ServerInfo). let h : NodeState = record { nodes = nodes; homes = homes; servers = servers } in h)
+    (nodes-all homes s es seats e is) (servers-kept seats s e (edited_seat es e) is refl)
+
+-- where all that it does is done to its own nodes, nothing is left out
+pub flat-edited : (es : List Edit) (homes : NameMap Name) (seats : NameMap (Seated Meaning)) (s : Name) (e : Seated Meaning) → fin.get seats s ≡ Some e → AreOwn s homes es
+    → flat homes (fin.insert seats s (edited_seat es e)) ≡ with_edits es (flat homes seats)
+flat-edited es homes seats s e is own = flat-own es homes seats s e is ∙ ap (λ (xs : List Edit). with_edits xs (flat homes seats)) (own-all s homes es own)

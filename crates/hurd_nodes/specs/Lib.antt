@@ -1,1 +1,4 @@
+pub mod Held
 pub mod Shown
+pub mod Settle
+pub mod Lends

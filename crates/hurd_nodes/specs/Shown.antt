@@ -1,8 +1,7 @@
 -- What the core shows of its servers: flat maps of nodes and servers.
-use Rattle.std.specs.Prelude.{ℕ, Bool, false, List, [], ◌∷◌, Option, Some, None, Result, Ok, Err, refl}
+use Rattle.std.specs.Prelude.{◌≡◌, ℕ, Bool, true, false, if◌then◌else◌, is_some, List, [], ◌∷◌, Option, Some, None, Result, Ok, Err}
 use Rattle.std.specs.FinMap as fin
 use Rattle.std.specs.FinSet as set
-use Rattle.std.specs.Coded.{Coded, code_by}
 use Rattle.hurd_creds.specs.declared.name.Name.{Name}
 use Rattle.hurd_creds.specs.declared.attrs.Attrs.{Attrs}
 use Rattle.hurd_creds.specs.declared.attrs.Kind.{Kind}
@@ -11,12 +10,14 @@ use Rattle.hurd_creds.specs.declared.errno.Errno.{Errno}
 use Rattle.hurd_creds.specs.declared.errno.Errno.TheVariants.{EDIED}
 use Rattle.hurd_creds.specs.Access.{IdSets}
 use Rattle.hurd_creds.specs.Names.{name_of, same_name}
-use Rattle.hurd_creds.specs.NameMaps.{NameMap, map_values}
+use Rattle.hurd_creds.specs.NameMaps.{NameMap, edit, map_values}
 use Rattle.hurd_trans_iface.specs.declared.new_node.NewNode.{NewNode}
-use Rattle.hurd_trans_iface.specs.Nodes.{NodeMap, Node, Header, Edit, edit_all}
-use Rattle.hurd_trans_iface.specs.Answers.{is_tree, make_of, make_edits}
+use Rattle.hurd_trans_iface.specs.declared.root.Root.{Root}
+use Rattle.hurd_trans_iface.specs.Nodes.{NodeMap, Node, Header, Edit, node_of_edit, body_of, edit_all}
+use Rattle.hurd_trans_iface.specs.Answers.{entry_of, is_tree, make_of, make_edits, nameless_of, nameless_edits, link_of, link_edits, unlink_of, unlink_edits, rename_of, rename_edits, set_attrs_of, set_attrs_edits, edits_if}
 use Rattle.hurd_trans_iface.specs.Behaviour.{Question, Effect, effect_on, told_of, edits_of}
-use Rattle.hurd_trans_iface.specs.Meaning.{Meaning, ServerKind, behaviour_of, root_of, begin_root_after}
+use Rattle.hurd_trans_iface.specs.Meaning.{Meaning, ServerKind, behaviour_of, root_of, begin_root_after, forget_after}
+use Rattle.hurd_nodes.specs.Held.{Held, Seated, mean, box_at, with_box}
 
 -- the fixed name of the boot server and of its root, which no task makes
 abbrev pub boot_name : Name
@@ -33,13 +34,6 @@ pub record ServerInfo : Type 0 where
   pub root : Name
   pub ids : IdSets
 
--- the boot server, as the core holds it
-pub record Held (S : Type 0) : Type 0 where
-  pub boot : S
-
-abbrev pub coded_held : {S : Type 0} → Coded S → Coded (Held S)
-coded_held {S} c = code_by S c (λ h. h.boot) (λ s. record { boot = s }) (λ _. refl)
-
 -- nodes by name; of each node its server; and the servers
 pub record NodeState : Type 0 where
   pub nodes : NodeMap
@@ -50,20 +44,56 @@ pub record NodeState : Type 0 where
 abbrev pub header_in : Attrs → Header
 header_in a = record { kind = a.kind; owner = a.owner; group = a.group; mode = a.mode; links = a.links; size = a.size; parent = a.parent }
 
--- the boot server serves every node
-abbrev pub homes_of : NodeMap → NameMap Name
-homes_of m = map_values (λ (x : Node). boot_name) m
+-- a map by names with a function at each name and value, where that gives a value
+
+abbrev pub set_at : {X : Type 0} → Name → Option X → NameMap X → NameMap X
+set_at n None m = fin.remove m n
+set_at n (Some x) m = fin.insert m n x
+
+abbrev pub picked : {A B : Type 0} → (Name → A → Option B) → List (Name × A) → NameMap B
+picked F [] = fin.empty
+picked F (e ∷ es) = set_at e.0 (F e.0 e.1) (picked F es)
+
+unfoldable pub pick_values : {A B : Type 0} → (Name → A → Option B) → NameMap A → NameMap B
+pick_values F m = picked F (fin.entries m)
+
+-- what a server has under a name, if the server is there
+abbrev pub node_in : Name → Option Meaning → Option Node
+node_in n None = None
+node_in n (Some m) = fin.get m.nodes n
+
+-- of the nodes that have a home, those that their servers have
+unfoldable pub nodes_of : NameMap Name → NameMap (Seated Meaning) → NodeMap
+nodes_of homes seats = pick_values (λ n s. node_in n (box_at seats s)) homes
+
+abbrev pub info_of : Seated Meaning → ServerInfo
+info_of e = record { kind = e.server.kind; text = e.server.text; root = e.root; ids = e.ids }
+
+unfoldable pub servers_of : NameMap (Seated Meaning) → NameMap ServerInfo
+servers_of seats = map_values info_of seats
+
+abbrev pub flat : NameMap Name → NameMap (Seated Meaning) → NodeState
+flat homes seats = record { nodes = nodes_of homes seats; homes = homes; servers = servers_of seats }
+
+-- what the core shows, where each box means this: what has no home isn't shown
+abbrev pub shown : {S : Type 0} → (S → Meaning) → Held S → NodeState
+shown f h = flat h.homes (mean f h.seats)
+
+-- a box has no node beside those whose home it is: all that it has is shown
+abbrev pub HideNothing : {S : Type 0} → (S → Meaning) → Held S → Type 0
+HideNothing f h = (s n : Name) (e : Seated Meaning) → fin.get (mean f h.seats) s ≡ Some e → is_some (fin.get e.server.nodes n) ≡ true → fin.get h.homes n ≡ Some s
+
+-- the boxes, where the one that serves a node has forgotten it
+abbrev pub forgotten : Name → Option Name → NameMap (Seated Meaning) → NameMap (Seated Meaning)
+forgotten n None seats = seats
+forgotten n (Some s) seats = edit s (λ e. with_box e (forget_after e.server n)) seats
 
 abbrev pub boot_info : Meaning → ServerInfo
 boot_info m = record { kind = m.kind; text = m.text; root = boot_name; ids = boot_ids }
 
--- the boot server alone, as flat maps
+-- the boot server alone, which serves every node
 abbrev pub state_of : Meaning → NodeState
-state_of m = record { nodes = m.nodes; homes = homes_of m.nodes; servers = fin.insert fin.empty boot_name (boot_info m) }
-
--- what the core shows, where each server means this
-abbrev pub shown : {S : Type 0} → (S → Meaning) → Held S → NodeState
-shown f h = state_of (f h.boot)
+state_of m = record { nodes = m.nodes; homes = map_values (λ (x : Node). boot_name) m.nodes; servers = fin.insert fin.empty boot_name (boot_info m) }
 
 abbrev pub is_root_at : Name → Option ServerInfo → Bool
 is_root_at n None = false
@@ -128,6 +158,89 @@ on_ok (Err e) before after = before
 
 abbrev pub make_at : Name → List ℕ → NewNode → NodeState → Result (Unit {0}) Errno × NodeState
 make_at dir name new h = let answer = can_make dir name new.kind h in (answer, on_ok answer h (with_made dir name new h))
+
+-- whether a node of this kind may be made that no entry names, by the server, with this root, of a node that may not be there
+abbrev pub nameless_in : Root → Kind → Option Node → Result (Unit {0}) Errno
+nameless_in root kind None = Err EDIED
+nameless_in root kind (Some d) = nameless_of root kind
+
+abbrev pub nameless_by : Kind → Option ServerInfo → Option Node → Result (Unit {0}) Errno
+nameless_by kind None d = Err EDIED
+nameless_by kind (Some i) d = nameless_in (root_of i.kind) kind d
+
+-- whether the server of a node that is there may make a node of this kind that no entry names
+abbrev pub can_make_nameless : Name → Kind → NodeState → Result (Unit {0}) Errno
+can_make_nameless dir kind h = nameless_by kind (server_of h dir) (fin.get h.nodes dir)
+
+-- with a file that no entry names, of the server of a node
+abbrev pub with_nameless : Name → NewNode → NodeState → NodeState
+with_nameless dir new h = record h { nodes = edit_all (nameless_edits new) h.nodes; homes = with_home new.name (fin.get h.homes dir) h.homes }
+
+abbrev pub make_nameless_at : Name → NewNode → NodeState → Result (Unit {0}) Errno × NodeState
+make_nameless_at dir new h = let answer = can_make_nameless dir new.kind h in (answer, on_ok answer h (with_nameless dir new h))
+
+-- whether two nodes are of one server
+abbrev pub are_kin : Option Name → Option Name → Bool
+are_kin (Some s) (Some q) = same_name s q
+are_kin _ _ = false
+
+-- of the edits that a server makes, those of its own nodes: others of what it may have are not shown
+abbrev pub own_edits : Option Name → NameMap Name → List Edit → List Edit
+own_edits s homes [] = []
+own_edits s homes (e ∷ es) = if are_kin s (fin.get homes (node_of_edit e)) then e ∷ own_edits s homes es else own_edits s homes es
+
+abbrev pub link_by : List ℕ → Bool → Option ServerInfo → Option Node → Option Node → Result (Unit {0}) Errno
+link_by name kin None d x = Err EDIED
+link_by name kin (Some i) d x = link_of (root_of i.kind) name kin d x
+
+-- whether a file may get another name in a directory
+abbrev pub can_link : Name → List ℕ → Name → NodeState → Result (Unit {0}) Errno
+can_link dir name n h = link_by name (are_kin (fin.get h.homes dir) (fin.get h.homes n)) (server_of h dir) (fin.get h.nodes dir) (fin.get h.nodes n)
+
+abbrev pub link_at : Name → List ℕ → Name → NodeState → Result (Unit {0}) Errno × NodeState
+link_at dir name n h = let answer = can_link dir name n h in (answer, with_edits (edits_if answer (link_edits dir name n)) h)
+
+abbrev pub unlink_by : List ℕ → Option ServerInfo → Option Node → Result (Unit {0}) Errno
+unlink_by name None d = Err EDIED
+unlink_by name (Some i) d = unlink_of (root_of i.kind) name d
+
+-- whether the entry of a name may be taken out of a directory
+abbrev pub can_unlink : Name → List ℕ → NodeState → Result (Unit {0}) Errno
+can_unlink dir name h = unlink_by name (server_of h dir) (fin.get h.nodes dir)
+
+-- what is done to nodes where the entry goes: what it names loses a link, if it is of the directory's server
+abbrev pub unlink_edits_at : Name → List ℕ → NodeState → List Edit
+unlink_edits_at dir name h = own_edits (fin.get h.homes dir) h.homes (unlink_edits dir name (entry_of name (body_of h.nodes dir)))
+
+abbrev pub unlink_at : Name → List ℕ → NodeState → Result (Unit {0}) Errno × NodeState
+unlink_at dir name h = let answer = can_unlink dir name h in (answer, with_edits (edits_if answer (unlink_edits_at dir name h)) h)
+
+abbrev pub rename_by : List ℕ → Bool → Option ServerInfo → Option Node → Option Node → Result (Unit {0}) Errno
+rename_by name kin None d t = Err EDIED
+rename_by name kin (Some i) d t = rename_of (root_of i.kind) name kin d t
+
+-- whether the entry of a name may go from a directory to another
+abbrev pub can_rename : Name → List ℕ → Name → NodeState → Result (Unit {0}) Errno
+can_rename dir name to h = rename_by name (are_kin (fin.get h.homes dir) (fin.get h.homes to)) (server_of h dir) (fin.get h.nodes dir) (fin.get h.nodes to)
+
+-- what is done to nodes where it goes
+abbrev pub rename_edits_at : Name → List ℕ → Name → List ℕ → NodeState → List Edit
+rename_edits_at dir name to new h =
+    own_edits (fin.get h.homes dir) h.homes (rename_edits dir name to new (entry_of name (body_of h.nodes dir)) (entry_of new (body_of h.nodes to)))
+
+abbrev pub rename_at : Name → List ℕ → Name → List ℕ → NodeState → Result (Unit {0}) Errno × NodeState
+rename_at dir name to new h = let answer = can_rename dir name to h in (answer, with_edits (edits_if answer (rename_edits_at dir name to new h)) h)
+
+abbrev pub set_attrs_by : Option ServerInfo → Option Node → Result (Unit {0}) Errno
+set_attrs_by None x = Err EDIED
+set_attrs_by (Some i) x = set_attrs_of (root_of i.kind) x
+
+-- whether owner, group and mode of a node may be set
+abbrev pub can_set_attrs : Name → NodeState → Result (Unit {0}) Errno
+can_set_attrs n h = set_attrs_by (server_of h n) (fin.get h.nodes n)
+
+abbrev pub set_attrs_at : Name → ℕ → ℕ → Mode → NodeState → Result (Unit {0}) Errno × NodeState
+set_attrs_at n owner group mode h = let answer = can_set_attrs n h in (answer, with_edits (edits_if answer (set_attrs_edits n owner group mode)) h)
 
 -- the mode of the boot root: 0o755
 abbrev pub boot_mode : Mode

@@ -1,17 +1,25 @@
 //! Nodes and their servers.
-ghost use Rattle.std.specs.Prelude.{◌≡◌, None};
+ghost use Rattle.std.specs.Prelude.{◌≡◌, true, false, not, is_some, [], ◌∷◌, ◌++◌, replicate, Option, None, option_copied, IfOk, IfErr, IfSome, OnOk, OnErr};
 ghost use Rattle.std.specs.Option.{option_map};
+ghost use Rattle.std.specs.List.{list_any};
 ghost use Rattle.std.specs.FinMap as fin;
 ghost use Rattle.hurd_creds.specs.Memory.{Meets, Steps};
-ghost use Rattle.hurd_trans_iface.specs.Nodes.{attrs_of, header_of, body_of, is_dir};
-ghost use Rattle.hurd_trans_iface.specs.Answers.{entry_of, names_of, is_tree, is_made};
+ghost use Rattle.hurd_trans_iface.specs.Nodes.{Node, attrs_of, header_of, body_of, is_dir};
+ghost use Rattle.hurd_trans_iface.specs.Answers.{entry_of, names_of, is_tree, is_file, is_made, make_of, link_of, rename_of, set_attrs_of};
 ghost use Rattle.hurd_trans_iface.specs.Behaviour.{reading, writing, resizing};
-ghost use Rattle.hurd_nodes.specs.Shown.{shown, state_of, header_in, booted, is_root, asked_step, can_make, make_at};
+ghost use Rattle.hurd_nodes.specs.Shown.{boot_name, server_of, shown, state_of, header_in, booted, is_root, asked_step, can_make, make_at, are_kin, can_link, link_at, can_set_attrs, set_attrs_at, tree_by, HideNothing, forgotten, unlink_at, can_rename, rename_at, make_nameless_at, nameless_in, can_make_nameless};
+ghost use Rattle.hurd_trans_iface.specs.Meaning.{Begins, root_of};
+ghost use Rattle.hurd_nodes.specs.Held.{box_by, holds_of, homes_of, is_held, less_one, mean, with_holds, with_seats};
+ghost use Rattle.hurd_nodes.specs.Settle.{is_entered, is_entered_at, out_node, settle, stays};
 
+use crate::search::{
+    home_of, is_held, place_of_server, put_home, remove_hold, remove_home, repeated,
+};
+use crate::seat::{Home, Seat};
 use bitflags::Flags;
-use hurd_creds::{Attrs, Bytes, Errno, Kind, Mode, Name, NodeName, ServerName, TaskId};
+use hurd_creds::{Attrs, Bytes, Errno, Ids, Kind, Mode, Name, NodeName, ServerName, TaskId};
 use hurd_trans_iface::{Crossing, Names, NewNode, Root, Server};
-use std::alloc::Global;
+use std::alloc::{AllocError, Global};
 use std::marker::Model;
 
 /// The name of the boot server and of its root, which no task makes.
@@ -20,31 +28,91 @@ pub const BOOT_NAME: Name = Name {
     count: 0,
 };
 
-/// The servers of a world and their nodes: the boot server, which serves every node.
+/// The servers of a world, their nodes, and which of these are named from outside.
 #[derive(Drop)]
 pub struct Nodes<S = Box<dyn Server>> {
-    boot: S,
+    homes: Vec<Home>,
+    /// The boot server's first.
+    seats: Vec<Seat<S>>,
+    /// A node's name once for each time that it is named from outside.
+    holds: Vec<NodeName>,
 }
 
 impl<S> Model for Nodes<S> {
-    ghost use Rattle.hurd_nodes.specs.Shown.{Held, coded_held};
+    ghost use Rattle.hurd_nodes.specs.Held.{Held, coded_held, held_of, has_room};
 
     ghost Value = { Held S };
 
     ghost coded = { coded_held S.code };
 
-    ghost view = { λ n. record { boot = n.boot } };
+    ghost view = { λ n. held_of n.homes.items n.seats.items n.holds.items (has_room n.holds) };
 }
 
 impl<S: Server> Nodes<S> {
-    /// The boot server alone, whose root belongs to uid 0 and gid 0 and has the mode 0o755.
-    pub fn starting_with(boot: S) -> Nodes<S>
-        requires { (S.meaning boot).root ≡ None }
-        ensures { shown S.meaning result ≡ state_of (booted (S.meaning boot)) }
+    ghost use Rattle.std.specs.Borrow.{sem};
+    ghost use Rattle.std.specs.Option.{option_copied_mut};
+    ghost use Rattle.hurd_nodes.specs.Lends.{lends_server};
+
+    /// The boot server alone, whose root belongs to uid 0 and gid 0, has the mode 0o755, and is named from outside so many times.
+    ///
+    /// `ENOMEM`, with the box back.
+    pub fn starting_with(alloc: Global, boot: S, times: usize) -> Result<Nodes<S>, (Errno, S)>
+        requires { Begins (S.meaning boot) }
+        ensures shown { IfOk result (λ n. shown S.meaning n ≡ state_of (booted (S.meaning boot))) }
+        ensures holds { IfOk result (λ n. n.holds ≡ replicate times boot_name) }
+        ensures hidden { IfOk result (λ n. HideNothing S.meaning n) }
+        ensures err { IfErr result (λ e. e ≡ (Errno.ENOMEM, boot)) }
     {
-        let mut boot = boot;
-        boot.begin_root(BOOT_NAME, 0, 0, Mode::from_bits_retain(0o755));
-        Nodes { boot }
+        let Ok(ids) = Ids::new(alloc, &[0], &[]) else {
+            return Err((Errno::ENOMEM, boot));
+        };
+        let Ok(mut homes) = Vec::with_capacity(alloc, 1) else {
+            return Err((Errno::ENOMEM, boot));
+        };
+        let Ok(mut seats) = Vec::with_capacity(alloc, 1) else {
+            return Err((Errno::ENOMEM, boot));
+        };
+        let Ok(holds) = repeated(alloc, BOOT_NAME, times) else {
+            return Err((Errno::ENOMEM, boot));
+        };
+        let mut server = boot;
+        server.begin_root(BOOT_NAME, 0, 0, Mode::from_bits_retain(0o755));
+        homes.push_reserved(Home {
+            node: BOOT_NAME,
+            server: BOOT_NAME,
+        });
+        seats.push_reserved(Seat {
+            name: BOOT_NAME,
+            root: BOOT_NAME,
+            ids,
+            server,
+        });
+        Ok(Nodes {
+            homes,
+            seats,
+            holds,
+        })
+    }
+
+    /// The box that serves a node.
+    fn server_of(&self, node: NodeName) -> Option<&S>
+        ensures { option_map S.meaning (option_copied result) ≡ box_by (mean S.meaning self.now.seats) (fin.get self.now.homes node) }
+    {
+        match place_of_server(&self.homes, &self.seats, node) {
+            Some(i) => Some(&self.seats[i].server),
+            None => None,
+        }
+    }
+
+    /// The box that serves a node, to be changed.
+    fn server_of_mut(&mut self, node: NodeName) -> Option<&mut S>
+        ensures* lends { sem 𝓛 (lends_server S.row self.entry node result) }
+        ensures there { option_map S.meaning (option_copied_mut result) ≡ box_by (mean S.meaning self.old.seats) (fin.get self.old.homes node) }
+    {
+        match place_of_server(&self.homes, &self.seats, node) {
+            Some(i) => Some(&mut self.seats[i].server),
+            None => None,
+        }
     }
 
     /// The attributes of a node, if it is there.
@@ -52,25 +120,25 @@ impl<S: Server> Nodes<S> {
         ensures all { result ≡ option_map attrs_of (fin.get (shown S.meaning self.now).nodes node) }
         ensures header { option_map header_in result ≡ header_of (shown S.meaning self.now).nodes node }
     {
-        self.boot.attrs(node)
+        match self.server_of(node) {
+            Some(server) => server.attrs(node),
+            None => None,
+        }
     }
 
-    /// The server of a node, if the node is there.
+    /// The server of a node, if it has one.
     pub fn home(&self, node: NodeName) -> Option<ServerName>
         ensures { result ≡ fin.get (shown S.meaning self.now).homes node }
     {
-        match self.boot.attrs(node) {
-            Some(_) => Some(BOOT_NAME),
-            None => None,
-        }
+        home_of(&self.homes, node)
     }
 
     /// Whether a node is the root of its server.
     pub fn is_root(&self, node: NodeName) -> bool
         ensures { result ≡ is_root (shown S.meaning self.now) node }
     {
-        match self.boot.attrs(node) {
-            Some(_) => node == BOOT_NAME,
+        match place_of_server(&self.homes, &self.seats, node) {
+            Some(i) => node == self.seats[i].root,
             None => false,
         }
     }
@@ -79,7 +147,10 @@ impl<S: Server> Nodes<S> {
     pub fn step(&self, dir: NodeName, name: &[u8]) -> Option<NodeName>
         ensures { result ≡ entry_of name.now (body_of (shown S.meaning self.now).nodes dir) }
     {
-        self.boot.step(dir, name)
+        match self.server_of(dir) {
+            Some(server) => server.step(dir, name),
+            None => None,
+        }
     }
 
     /// The names in a directory.
@@ -88,7 +159,10 @@ impl<S: Server> Nodes<S> {
     pub fn names(&self, alloc: Global, dir: NodeName) -> Result<Names, Errno>
         ensures { Meets (names_of (body_of (shown S.meaning self.now).nodes dir)) result }
     {
-        self.boot.names(alloc, dir)
+        match self.server_of(dir) {
+            Some(server) => server.names(alloc, dir),
+            None => Err(Errno::EDIED),
+        }
     }
 
     /// Whether a node of this kind may be made in a directory under a name. Takes no memory.
@@ -97,22 +171,82 @@ impl<S: Server> Nodes<S> {
     pub fn can_make(&self, dir: NodeName, name: &[u8], kind: Kind) -> Result<(), Errno>
         ensures { result ≡ can_make dir name.now kind (shown S.meaning self.now) }
     {
-        let Some(attrs) = self.boot.attrs(dir) else {
-            return Err(Errno::EDIED);
-        };
-        if !is_dir(attrs.kind) {
-            return Err(Errno::ENOTDIR);
+        match self.server_of(dir) {
+            Some(server) => can_make_in(server, dir, name, kind),
+            None => Err(Errno::EDIED),
         }
-        if !is_tree(self.boot.root()) {
-            return Err(Errno::EROFS);
+    }
+
+    /// Whether a node of this kind may be made that no entry names, of the server of a node that is there. Takes no memory.
+    ///
+    /// Errors, in order: `EDIED` no such node, `EROFS` its server keeps no tree, `EOPNOTSUPP` any other kind than a file.
+    pub fn can_make_nameless(&self, dir: NodeName, kind: Kind) -> Result<(), Errno>
+        ensures { result ≡ can_make_nameless dir kind (shown S.meaning self.now) }
+    {
+        match self.server_of(dir) {
+            Some(server) => can_make_nameless_in(server, dir, kind),
+            None => Err(Errno::EDIED),
         }
-        if self.boot.step(dir, name).is_some() {
-            return Err(Errno::EEXIST);
+    }
+
+    /// Whether a file may get another name in a directory. Takes no memory.
+    ///
+    /// Errors, in order: `EDIED` no such directory, `ENOTDIR`, `EROFS` its server keeps no tree, `EDIED` no such node, `EXDEV` one of another server, `EISDIR`, `EEXIST`,
+    /// `EOVERFLOW` it has 4,294,967,295 links.
+    pub fn can_link(&self, dir: NodeName, name: &[u8], node: NodeName) -> Result<(), Errno>
+        ensures { result ≡ can_link dir name.now node (shown S.meaning self.now) }
+    {
+        match self.server_of(dir) {
+            Some(server) => {
+                can_link_in(server, dir, name, self.are_kin(dir, node), self.attrs(node))
+            }
+            None => Err(Errno::EDIED),
         }
-        if !is_made(kind) {
-            return Err(Errno::EOPNOTSUPP);
+    }
+
+    /// Whether the owner, the group and the mode of a node may be set. Takes no memory.
+    ///
+    /// Errors, in order: `EDIED` no such node, `EOPNOTSUPP` its server keeps no tree.
+    pub fn can_set_attrs(&self, node: NodeName) -> Result<(), Errno>
+        ensures { result ≡ can_set_attrs node (shown S.meaning self.now) }
+    {
+        match self.server_of(node) {
+            Some(server) => can_set_attrs_in(server, node),
+            None => Err(Errno::EDIED),
         }
-        Ok(())
+    }
+
+    /// Whether a node has a server, and that keeps a tree.
+    pub fn keeps_tree(&self, node: NodeName) -> bool
+        ensures { result ≡ tree_by (server_of (shown S.meaning self.now) node) }
+    {
+        match self.server_of(node) {
+            Some(server) => is_tree(server.root()),
+            None => false,
+        }
+    }
+
+    /// Whether the entry of a name may go from a directory to another. Takes no memory.
+    ///
+    /// Errors, in order: `EDIED` no such directory, `ENOTDIR`, `EROFS` its server keeps no tree, `EXDEV` the two are of different servers, `EDIED` no such directory
+    /// `to`, `ENOTDIR`, `ENOENT`.
+    fn can_rename(&self, dir: NodeName, name: &[u8], to: NodeName) -> Result<(), Errno>
+        ensures { result ≡ can_rename dir name.now to (shown S.meaning self.now) }
+    {
+        match self.server_of(dir) {
+            Some(server) => can_rename_in(server, dir, name, self.are_kin(dir, to), to),
+            None => Err(Errno::EDIED),
+        }
+    }
+
+    /// Whether two nodes are of one server.
+    pub fn are_kin(&self, node: NodeName, other: NodeName) -> bool
+        ensures { result ≡ are_kin (fin.get self.now.homes node) (fin.get self.now.homes other) }
+    {
+        match (home_of(&self.homes, node), home_of(&self.homes, other)) {
+            (Some(server), Some(kin)) => server == kin,
+            _ => false,
+        }
     }
 
     /// At most `amount` bytes of a node from `at` on.
@@ -125,33 +259,48 @@ impl<S: Server> Nodes<S> {
         at: u64,
         amount: u64,
     ) -> Result<Bytes, Errno>
-        ensures { let h = shown S.meaning self.old in
+        ensures shown { let h = shown S.meaning self.old in
             Steps h (asked_step (reading at amount) node h) result (shown S.meaning self.new) }
+        ensures holds { holds_of self.new ≡ holds_of self.old }
+        ensures hidden { HideNothing S.meaning self.old → HideNothing S.meaning self.new }
     {
-        self.boot.read(alloc, node, at, amount)
+        match self.server_of_mut(node) {
+            Some(server) => server.read(alloc, node, at, amount),
+            None => Err(Errno::EDIED),
+        }
     }
 
     /// Puts bytes into a node at `at`, and answers how many.
     ///
     /// Errors, in order: `EDIED` no such node, the server's own refusals, `ENOMEM`.
     pub fn write(&mut self, node: NodeName, at: u64, bytes: &[u8]) -> Result<u64, Errno>
-        ensures { let h = shown S.meaning self.old in
+        ensures shown { let h = shown S.meaning self.old in
             Steps h (asked_step (writing at bytes.now) node h) result (shown S.meaning self.new) }
+        ensures holds { holds_of self.new ≡ holds_of self.old }
+        ensures hidden { HideNothing S.meaning self.old → HideNothing S.meaning self.new }
     {
-        self.boot.write(node, at, bytes)
+        match self.server_of_mut(node) {
+            Some(server) => server.write(node, at, bytes),
+            None => Err(Errno::EDIED),
+        }
     }
 
     /// Cuts a node's bytes, or grows them by zero bytes.
     ///
     /// Errors, in order: `EDIED` no such node, the server's own refusals, `ENOMEM`.
     pub fn set_size(&mut self, node: NodeName, size: u64) -> Result<(), Errno>
-        ensures { let h = shown S.meaning self.old in
+        ensures shown { let h = shown S.meaning self.old in
             Steps h (asked_step (resizing size) node h) result (shown S.meaning self.new) }
+        ensures holds { holds_of self.new ≡ holds_of self.old }
+        ensures hidden { HideNothing S.meaning self.old → HideNothing S.meaning self.new }
     {
-        self.boot.set_size(node, size)
+        match self.server_of_mut(node) {
+            Some(server) => server.set_size(node, size),
+            None => Err(Errno::EDIED),
+        }
     }
 
-    /// Makes a node in a directory under a name.
+    /// Makes a node in a directory under a name, of the directory's server.
     ///
     /// Errors, in order: those of `can_make`, `ENOMEM`.
     pub fn make(
@@ -161,10 +310,373 @@ impl<S: Server> Nodes<S> {
         name: &[u8],
         new: NewNode,
     ) -> Result<(), Errno>
-        ensures { let h = shown S.meaning self.old in
+        ensures shown { let h = shown S.meaning self.old in
             Steps h (make_at dir name.now new h) result (shown S.meaning self.new) }
+        ensures holds { holds_of self.new ≡ holds_of self.old }
+        ensures hidden { fin.get self.old.homes new.name ≡ None → HideNothing S.meaning self.old → HideNothing S.meaning self.new }
     {
-        self.boot.make(alloc, dir, name, new)
+        let Some(i) = place_of_server(&self.homes, &self.seats, dir) else {
+            return Err(Errno::EDIED);
+        };
+        can_make_in(&self.seats[i].server, dir, name, new.kind)?;
+        self.homes.reserve(1)?;
+        let home = Home {
+            node: new.name,
+            server: self.seats[i].name,
+        };
+        self.seats[i].server.make(alloc, dir, name, new)?;
+        put_home(&mut self.homes, home);
+        Ok(())
+    }
+
+    /// Makes a file that no entry names, of the server of a node that is there.
+    ///
+    /// Errors, in order: `EDIED` no such node, `EROFS` its server keeps no tree, `EOPNOTSUPP` any other kind than a file, `ENOMEM`.
+    pub fn make_nameless(&mut self, dir: NodeName, new: NewNode) -> Result<(), Errno>
+        ensures shown { let h = shown S.meaning self.old in
+            Steps h (make_nameless_at dir new h) result (shown S.meaning self.new) }
+        ensures holds { holds_of self.new ≡ holds_of self.old }
+        ensures hidden { fin.get self.old.homes new.name ≡ None → HideNothing S.meaning self.old → HideNothing S.meaning self.new }
+    {
+        let Some(i) = place_of_server(&self.homes, &self.seats, dir) else {
+            return Err(Errno::EDIED);
+        };
+        can_make_nameless_in(&self.seats[i].server, dir, new.kind)?;
+        self.homes.reserve(1)?;
+        let home = Home {
+            node: new.name,
+            server: self.seats[i].name,
+        };
+        self.seats[i].server.make_nameless(new)?;
+        put_home(&mut self.homes, home);
+        Ok(())
+    }
+
+    /// Gives a file another name in a directory.
+    ///
+    /// Errors, in order: those of `can_link`, `ENOMEM`.
+    pub fn link(
+        &mut self,
+        alloc: Global,
+        dir: NodeName,
+        name: &[u8],
+        node: NodeName,
+    ) -> Result<(), Errno>
+        ensures shown { let h = shown S.meaning self.old in
+            Steps h (link_at dir name.now node h) result (shown S.meaning self.new) }
+        ensures holds { holds_of self.new ≡ holds_of self.old }
+        ensures hidden { HideNothing S.meaning self.old → HideNothing S.meaning self.new }
+    {
+        self.can_link(dir, name, node)?;
+        match self.server_of_mut(dir) {
+            Some(server) => server.link(alloc, dir, name, node),
+            None => Err(Errno::EDIED),
+        }
+    }
+
+    /// Takes the first entry of a name out of a directory: of what it names, a directory loses its parent, and any other node a link. Whether that is a directory, and
+    /// whether it is empty, is for who asks. Takes no memory.
+    ///
+    /// Errors, in order: `EDIED` no such directory, `ENOTDIR`, `EROFS` its server keeps no tree, `ENOENT`.
+    pub fn unlink(&mut self, dir: NodeName, name: &[u8]) -> Result<(), Errno>
+        ensures shown { (result, shown S.meaning self.new) ≡ unlink_at dir name.now (shown S.meaning self.old) }
+        ensures holds { holds_of self.new ≡ holds_of self.old }
+        ensures hidden { HideNothing S.meaning self.old → HideNothing S.meaning self.new }
+    {
+        match self.server_of_mut(dir) {
+            Some(server) => server.unlink(dir, name),
+            None => Err(Errno::EDIED),
+        }
+    }
+
+    /// Takes the first entry `name` out of a directory and puts it last into another one, or the same, as `new`: in the place of the entry of that name, where there is
+    /// one, whose node loses it as by `unlink`. A directory gets its new parent. Where both entries name one node nothing changes. What the two nodes are is for who asks.
+    ///
+    /// Errors, in order: `EDIED` no such directory, `ENOTDIR`, `EROFS` its server keeps no tree, `EXDEV` the two are of different servers, `EDIED` no such directory
+    /// `to`, `ENOTDIR`, `ENOENT`, `ENOMEM`.
+    pub fn rename(
+        &mut self,
+        alloc: Global,
+        dir: NodeName,
+        name: &[u8],
+        to: NodeName,
+        new: &[u8],
+    ) -> Result<(), Errno>
+        ensures shown { let h = shown S.meaning self.old in
+            Steps h (rename_at dir name.now to new.now h) result (shown S.meaning self.new) }
+        ensures holds { holds_of self.new ≡ holds_of self.old }
+        ensures hidden { HideNothing S.meaning self.old → HideNothing S.meaning self.new }
+    {
+        self.can_rename(dir, name, to)?;
+        match self.server_of_mut(dir) {
+            Some(server) => server.rename(alloc, dir, name, to, new),
+            None => Err(Errno::EDIED),
+        }
+    }
+
+    /// Sets the owner, the group and the mode of a node. Takes no memory.
+    ///
+    /// Errors, in order: those of `can_set_attrs`.
+    pub fn set_attrs(
+        &mut self,
+        node: NodeName,
+        owner: u32,
+        group: u32,
+        mode: Mode,
+    ) -> Result<(), Errno>
+        ensures shown { (result, shown S.meaning self.new) ≡ set_attrs_at node owner group mode (shown S.meaning self.old) }
+        ensures holds { holds_of self.new ≡ holds_of self.old }
+        ensures hidden { HideNothing S.meaning self.old → HideNothing S.meaning self.new }
+    {
+        match self.server_of_mut(node) {
+            Some(server) => server.set_attrs(node, owner, group, mode),
+            None => Err(Errno::EDIED),
+        }
+    }
+
+    /// Takes room in memory for one more hold. `ENOMEM`: nothing is changed.
+    pub fn reserve_hold(&mut self) -> Result<(), AllocError>
+        ensures ok { OnOk result (self.new ≡ with_holds self.old self.old.holds true) }
+        ensures err { OnErr result (self.new ≡ self.old) }
+    {
+        self.holds.reserve(1)
+    }
+
+    /// A node is named from outside once more. There is room for that. Takes no memory.
+    pub fn hold(&mut self, node: NodeName)
+        requires { self.old.ready ≡ true }
+        ensures { self.new ≡ with_holds self.old (self.old.holds ++ node ∷ []) self.new.ready }
+    {
+        self.holds.push_reserved(node);
+    }
+
+    /// A node is named from outside once less; what nothing keeps any more goes. Takes no memory.
+    pub fn release(&mut self, node: NodeName)
+        ensures shown { shown S.meaning self.new ≡ settle (is_held (less_one node self.old.holds)) (shown S.meaning self.old) }
+        ensures holds { self.new.holds ≡ less_one node self.old.holds }
+        ensures hidden { HideNothing S.meaning self.old → HideNothing S.meaning self.new }
+    {
+        remove_hold(&mut self.holds, node);
+        self.settle();
+    }
+
+    /// What nothing keeps any more goes, and its boxes forget it. Takes no memory.
+    pub fn settle(&mut self)
+        ensures shown { shown S.meaning self.new ≡ settle (is_held self.old.holds) (shown S.meaning self.old) }
+        ensures holds { holds_of self.new ≡ holds_of self.old }
+        ensures hidden { HideNothing S.meaning self.old → HideNothing S.meaning self.new }
+    {
+        while let Some(node) = self.unkept(&self.homes) {
+            self.take_node(node);
+        }
+    }
+
+    /// The first of these nodes that doesn't stay.
+    fn unkept(&self, homes: &[Home]) -> Option<NodeName>
+        ensures found { IfSome result (λ n. (stays (is_held self.now.holds) (shown S.meaning self.now) n ≡ false)
+            × (is_some (fin.get (homes_of homes.now) n) ≡ true)) }
+        ensures none { result ≡ None → list_any (λ x. not (stays (is_held self.now.holds) (shown S.meaning self.now) x.node)) homes.now ≡ false }
+    {
+        for home in homes {
+            if !self.stays(home.node) {
+                return Some(home.node);
+            }
+        }
+        None
+    }
+
+    /// Whether a node stays: its server is there, and it is that server's root, an entry names it, or it is named from outside.
+    fn stays(&self, node: NodeName) -> bool
+        ensures { result ≡ stays (is_held self.now.holds) (shown S.meaning self.now) node }
+    {
+        let Some(i) = place_of_server(&self.homes, &self.seats, node) else {
+            return false;
+        };
+        if node == self.seats[i].root {
+            return true;
+        }
+        if self.is_entered(node) {
+            return true;
+        }
+        is_held(&self.holds, node)
+    }
+
+    /// Whether an entry names a node: a directory has a parent, or another node a link.
+    fn is_entered(&self, node: NodeName) -> bool
+        ensures { result ≡ is_entered_at (fin.get (shown S.meaning self.now).nodes node) }
+    {
+        match self.attrs(node) {
+            Some(attrs) => is_entered(&attrs),
+            None => false,
+        }
+    }
+
+    /// Takes a node out, and has its box forget it.
+    fn take_node(&mut self, node: NodeName)
+        ensures shown { shown S.meaning self.new ≡ out_node node (shown S.meaning self.old) }
+        ensures boxes { mean S.meaning self.new.seats ≡ forgotten node (fin.get self.old.homes node) (mean S.meaning self.old.seats) }
+        ensures homes { self.new.homes ≡ fin.remove self.old.homes node }
+        ensures holds { holds_of self.new ≡ holds_of self.old }
+    {
+        self.forget(node);
+        remove_home(&mut self.homes, node);
+    }
+
+    /// Lets the box of a node's server forget it. The node's home stays for now.
+    fn forget(&mut self, node: NodeName)
+        ensures boxes { mean S.meaning self.new.seats ≡ forgotten node (fin.get self.old.homes node) (mean S.meaning self.old.seats) }
+        ensures others { with_seats self.new self.old.seats ≡ self.old }
+    {
+        match self.server_of_mut(node) {
+            Some(server) => server.forget(node),
+            None => (),
+        }
+    }
+}
+
+/// Whether a node of this kind may be made in a directory of a server under a name.
+///
+/// Errors, in order: `EDIED` no such directory, `ENOTDIR`, `EROFS` the server keeps no tree, `EEXIST`, `EOPNOTSUPP` a kind that trees don't have.
+fn can_make_in<S: Server>(server: &S, dir: NodeName, name: &[u8], kind: Kind) -> Result<(), Errno>
+    ensures { let m = S.meaning server.now in result ≡ make_of (root_of m.kind) name.now kind (fin.get m.nodes dir) }
+{
+    let Some(attrs) = server.attrs(dir) else {
+        return Err(Errno::EDIED);
+    };
+    if !is_dir(attrs.kind) {
+        return Err(Errno::ENOTDIR);
+    }
+    if !is_tree(server.root()) {
+        return Err(Errno::EROFS);
+    }
+    if server.step(dir, name).is_some() {
+        return Err(Errno::EEXIST);
+    }
+    if !is_made(kind) {
+        return Err(Errno::EOPNOTSUPP);
+    }
+    Ok(())
+}
+
+/// Whether the server of a node may make one of this kind that no entry names.
+///
+/// Errors, in order: `EDIED` no such node, `EROFS` the server keeps no tree, `EOPNOTSUPP` any other kind than a file.
+fn can_make_nameless_in<S: Server>(server: &S, dir: NodeName, kind: Kind) -> Result<(), Errno>
+    ensures { let m = S.meaning server.now in result ≡ nameless_in (root_of m.kind) kind (fin.get m.nodes dir) }
+{
+    if server.attrs(dir).is_none() {
+        return Err(Errno::EDIED);
+    }
+    if !is_tree(server.root()) {
+        return Err(Errno::EROFS);
+    }
+    if !is_file(kind) {
+        return Err(Errno::EOPNOTSUPP);
+    }
+    Ok(())
+}
+
+/// Whether a file of these attributes may get another name in a directory of a server; `kin`: it is of that server.
+///
+/// Errors, in order: `EDIED` no such directory, `ENOTDIR`, `EROFS` the server keeps no tree, `EDIED` no such file, `EXDEV`, `EISDIR`, `EEXIST`, `EOVERFLOW`.
+fn can_link_in<S: Server>(
+    server: &S,
+    dir: NodeName,
+    name: &[u8],
+    kin: bool,
+    file: Option<Attrs>,
+) -> Result<(), Errno>
+    ensures { (x : Option Node) → file ≡ option_map attrs_of x
+        → (let m = S.meaning server.now in result ≡ link_of (root_of m.kind) name.now kin (fin.get m.nodes dir) x) }
+{
+    let Some(attrs) = server.attrs(dir) else {
+        return Err(Errno::EDIED);
+    };
+    if !is_dir(attrs.kind) {
+        return Err(Errno::ENOTDIR);
+    }
+    if !is_tree(server.root()) {
+        return Err(Errno::EROFS);
+    }
+    let Some(file) = file else {
+        return Err(Errno::EDIED);
+    };
+    if !kin {
+        return Err(Errno::EXDEV);
+    }
+    if is_dir(file.kind) {
+        return Err(Errno::EISDIR);
+    }
+    if server.step(dir, name).is_some() {
+        return Err(Errno::EEXIST);
+    }
+    if file.links < u32::MAX {
+        Ok(())
+    } else {
+        Err(Errno::EOVERFLOW)
+    }
+}
+
+/// Whether the entry of a name may go from a directory of a server to another; `kin`: that is of the same server.
+///
+/// Errors, in order: `EDIED` no such directory, `ENOTDIR`, `EROFS` the server keeps no tree, `EXDEV`, `EDIED` no such directory `to`, `ENOTDIR`, `ENOENT`.
+fn can_rename_in<S: Server>(
+    server: &S,
+    dir: NodeName,
+    name: &[u8],
+    kin: bool,
+    to: NodeName,
+) -> Result<(), Errno>
+    ensures { let m = S.meaning server.now in result ≡ rename_of (root_of m.kind) name.now kin (fin.get m.nodes dir) (fin.get m.nodes to) }
+{
+    let Some(attrs) = server.attrs(dir) else {
+        return Err(Errno::EDIED);
+    };
+    if !is_dir(attrs.kind) {
+        return Err(Errno::ENOTDIR);
+    }
+    if !is_tree(server.root()) {
+        return Err(Errno::EROFS);
+    }
+    if !kin {
+        return Err(Errno::EXDEV);
+    }
+    let Some(other) = server.attrs(to) else {
+        return Err(Errno::EDIED);
+    };
+    if !is_dir(other.kind) {
+        return Err(Errno::ENOTDIR);
+    }
+    if server.step(dir, name).is_some() {
+        Ok(())
+    } else {
+        Err(Errno::ENOENT)
+    }
+}
+
+/// Whether the owner, the group and the mode of a node of a server may be set.
+///
+/// Errors, in order: `EDIED` no such node, `EOPNOTSUPP` the server keeps no tree.
+fn can_set_attrs_in<S: Server>(server: &S, node: NodeName) -> Result<(), Errno>
+    ensures { let m = S.meaning server.now in result ≡ set_attrs_of (root_of m.kind) (fin.get m.nodes node) }
+{
+    if server.attrs(node).is_none() {
+        return Err(Errno::EDIED);
+    }
+    if !is_tree(server.root()) {
+        return Err(Errno::EOPNOTSUPP);
+    }
+    Ok(())
+}
+
+/// Whether an entry names a node of these attributes.
+fn is_entered(attrs: &Attrs) -> bool
+    ensures { result ≡ is_entered (header_in attrs.now) }
+{
+    if is_dir(attrs.kind) {
+        attrs.parent.is_some()
+    } else {
+        attrs.links > 0
     }
 }
 
@@ -184,6 +696,16 @@ fn is_tree(root: Root) -> bool
 {
     match root.crossing {
         Crossing::Plain => is_dir(root.kind),
+    }
+}
+
+/// Whether a node of this kind is a file.
+fn is_file(kind: Kind) -> bool
+    ensures { result ≡ is_file kind }
+{
+    match kind {
+        Kind::File => true,
+        Kind::Dir | Kind::Link | Kind::Fifo | Kind::Char => false,
     }
 }
 

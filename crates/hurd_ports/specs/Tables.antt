@@ -82,9 +82,21 @@ fresh t x = name_of t x.made
 abbrev pub u64_greatest : ℕ
 u64_greatest = 18446744073709551615
 
+-- so many more things can be named
+abbrev pub can_name : ℕ → Task → Bool
+can_name names x = nat_le (x.made + names) u64_greatest
+
 -- another port can be numbered, and so many more things named
 abbrev pub has_room : ℕ → Task → Bool
-has_room names x = nat_lt x.next u64_greatest && nat_le (x.made + names) u64_greatest
+has_room names x = nat_lt x.next u64_greatest && can_name names x
+
+abbrev pub naming_at : ℕ → Option Task → Result (Unit {0}) Errno
+naming_at names None = Err ESRCH
+naming_at names (Some x) = if can_name names x then Ok tt else Err EOVERFLOW
+
+-- whether so many things can be named: ESRCH no such task, EOVERFLOW
+abbrev pub naming_of : PortState → ℕ → ℕ → Result (Unit {0}) Errno
+naming_of h t names = naming_at names (slice_get h.tasks t)
 
 abbrev pub room_at : ℕ → Option Task → Result (Unit {0}) Errno
 room_at names None = Err ESRCH
@@ -100,6 +112,13 @@ names_open o r = same_name r.open_name o
 -- some right names the open
 unfoldable pub is_held : List Task → Name → Bool
 is_held ts o = list_any (λ (x : Task). list_any (names_open o) (rights_of x)) ts
+
+abbrev pub names_node : Name → Right → Bool
+names_node n r = same_name r.node n
+
+-- some right is on the node
+unfoldable pub is_named : List Task → Name → Bool
+is_named ts n = list_any (λ (x : Task). list_any (names_node n) (rights_of x)) ts
 
 -- nothing is to be taken out: each open is held
 abbrev pub IsSettled : PortState → Type 0

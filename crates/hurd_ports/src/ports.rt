@@ -4,7 +4,7 @@ ghost use Rattle.std.specs.Option.{option_map};
 ghost use Rattle.std.specs.FinMap as fin;
 ghost use Rattle.hurd_creds.specs.Memory.{Meets, Steps};
 ghost use Rattle.hurd_creds.specs.declared.errno.Errno.{Errno};
-ghost use Rattle.hurd_ports.specs.Tables.{IsSettled, fresh, ids_at, is_held, lent, or_refuse, right_of, room_of};
+ghost use Rattle.hurd_ports.specs.Tables.{IsSettled, fresh, ids_at, is_held, lent, naming_of, or_refuse, right_of, room_of};
 ghost use Rattle.hurd_ports.specs.Steps as step;
 ghost use Rattle.hurd_ports.specs.Seats.{opens_of, settled_at, tasks_of};
 
@@ -116,6 +116,13 @@ impl Ports {
         }
     }
 
+    /// Each open is held by a right.
+    pub fn opens_are_held(&self)
+        ensures { IsSettled self.now.state }
+    {
+        let _ = &self.opens;
+    }
+
     /// Whether a task can have one more port, and name so many more things.
     ///
     /// Errors, in order: `ESRCH` no such task, `EOVERFLOW`.
@@ -127,6 +134,22 @@ impl Ports {
             return Err(Errno::ESRCH);
         };
         if seat.has_room(names) {
+            Ok(())
+        } else {
+            Err(Errno::EOVERFLOW)
+        }
+    }
+
+    /// Whether a task can name so many more things.
+    ///
+    /// Errors, in order: `ESRCH` no such task, `EOVERFLOW`.
+    pub fn naming(&self, task: TaskId, names: u64) -> Result<(), Errno>
+        ensures { result ≡ naming_of self.now.state task.0 names }
+    {
+        let Some(seat) = self.tasks.get(task.0 as usize) else {
+            return Err(Errno::ESRCH);
+        };
+        if seat.can_name(names) {
             Ok(())
         } else {
             Err(Errno::EOVERFLOW)

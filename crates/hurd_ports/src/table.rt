@@ -1,7 +1,7 @@
 //! Rights, opens, and the tables of tasks.
 ghost use Rattle.std.specs.Prelude.{◌≡◌, ◌==◌, ◌+◌, ◌<◌, length, IfSome, option_copied};
 ghost use Rattle.std.specs.List.{list_any, position};
-ghost use Rattle.hurd_ports.specs.Tables.{fresh, has_room, names_open, right_in, rights_of};
+ghost use Rattle.hurd_ports.specs.Tables.{can_name, fresh, has_room, names_open, right_in, rights_of};
 ghost use Rattle.hurd_ports.specs.Steps.{named, with_port, without_port};
 ghost use Rattle.hurd_ports.specs.Seats.{HasSpare, seat_task};
 
@@ -39,11 +39,18 @@ pub struct TaskSeat {
 }
 
 impl TaskSeat {
+    /// Whether so many more things can be named.
+    pub(crate) fn can_name(&self, names: u64) -> bool
+        ensures { result ≡ can_name names (seat_task self.now) }
+    {
+        names <= u64::MAX - self.made
+    }
+
     /// Whether another port can be numbered, and so many more things named.
     pub(crate) fn has_room(&self, names: u64) -> bool
         ensures { result ≡ has_room names (seat_task self.now) }
     {
-        self.next < u64::MAX && names <= u64::MAX - self.made
+        self.next < u64::MAX && self.can_name(names)
     }
 
     /// The task's next name.

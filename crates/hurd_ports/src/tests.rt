@@ -185,3 +185,19 @@ fn an_open_goes_with_its_right(rt: HostRuntime) -> Result<(), Fail> {
     assert_eq!(rt; number(&mut ports, rt.alloc(), Call::Insert(1)), Ok(4));
     Ok(())
 }
+
+#[test]
+fn names_need_no_number(rt: HostRuntime) -> Result<(), Fail> {
+    let mut ports = two_tasks(rt.alloc(), 18446744073709551615)?;
+    assert_eq!(rt; ports.room(TaskId(0), 1), Err(Errno::EOVERFLOW));
+    assert_eq!(rt; ports.naming(TaskId(0), 18446744073709551615), Ok(()));
+    assert_eq!(rt; ports.naming(TaskId(2), 1), Err(Errno::ESRCH));
+    ports.naming(TaskId(0), 1)?;
+    ports.take_name(TaskId(0));
+    assert_eq!(rt; ports.naming(TaskId(0), 18446744073709551614), Ok(()));
+    assert_eq!(rt;
+        ports.naming(TaskId(0), 18446744073709551615),
+        Err(Errno::EOVERFLOW)
+    );
+    Ok(())
+}

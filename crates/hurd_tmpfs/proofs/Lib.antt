@@ -3,3 +3,4 @@ pub mod ByteLaws
 pub mod Beginning
 pub mod TreeLaws
 pub mod StepLaws
+pub mod RenameLaws

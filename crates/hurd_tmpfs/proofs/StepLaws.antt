@@ -5,6 +5,7 @@ use Rattle.std.specs.FinMap as fin
 use Rattle.hurd_creds.specs.Memory.{Steps}
 use Rattle.hurd_creds.specs.NameMaps.{edit}
 use Rattle.hurd_creds.specs.declared.name.Name.{Name}
+use Rattle.hurd_creds.specs.declared.mode.Mode.{Mode}
 use Rattle.hurd_creds.specs.declared.attrs.Kind.{Kind}
 use Rattle.hurd_creds.specs.declared.attrs.Kind.TheVariants.{File}
 use Rattle.hurd_creds.specs.declared.errno.Errno.{Errno}
@@ -13,10 +14,10 @@ use Rattle.hurd_creds.proofs.NameLaws.{edit_found, insert_same}
 use Rattle.hurd_creds.proofs.StepLaws.{steps-refused, steps-inside}
 use Rattle.hurd_trans_iface.specs.declared.new_node.NewNode.{NewNode}
 use Rattle.hurd_trans_iface.specs.declared.root.Root.{Root}
-use Rattle.hurd_trans_iface.specs.Nodes.{Node, NodeMap, is_dir, edit_all, with_header, with_body, with_size, on_bytes}
-use Rattle.hurd_trans_iface.specs.Answers.{is_tree, is_made, entry_of, make_of, make_edits, edits_if}
+use Rattle.hurd_trans_iface.specs.Nodes.{Node, NodeMap, is_dir, edit_all, with_attrs, with_header, with_body, with_size, on_bytes}
+use Rattle.hurd_trans_iface.specs.Answers.{is_tree, is_made, entry_of, make_of, make_edits, set_attrs_of, set_attrs_edits, edits_if}
 use Rattle.hurd_trans_iface.specs.Behaviour.{Effect, Question, effect_on, told_of, edit_bytes, edit_size, edits_of, size_left, bytes_left, left_by}
-use Rattle.hurd_trans_iface.specs.Meaning.{Meaning, behaviour_of, root_of, edited, step_of, make_step}
+use Rattle.hurd_trans_iface.specs.Meaning.{Meaning, behaviour_of, root_of, edited, step_of, make_step, set_attrs_step}
 use Rattle.hurd_tmpfs.specs.Changes.{served}
 use Rattle.hurd_tmpfs.proofs.TreeLaws.{edit-inserted}
 
@@ -68,6 +69,22 @@ module _ (m : Meaning) (n : Name) (x : Node) (at_n : fin.get m.nodes n ≡ Some 
 -- no such node
 pub step-nowhere : {T : Type 0} (q : Question T) (m : Meaning) (n : Name) → fin.get m.nodes n ≡ None → Steps m (step_of q n m) (Err EDIED) m
 step-nowhere q m n none = steps-refused (step_of q n m) m EDIED (rw none refl)
+
+-- owner, group and mode
+
+module _ (m : Meaning) (n : Name) (owner group : ℕ) (mode : Mode) where
+  abbrev answered_by : Result (Unit {0}) Errno → Result (Unit {0}) Errno × Meaning
+  answered_by answer = (answer, edited (edits_if answer (set_attrs_edits n owner group mode)) m)
+
+  -- in a tree a node that is there gets what is given
+  pub attrs-set : (x : Node) (ns : NodeMap) → is_tree (root_of m.kind) ≡ true → fin.get m.nodes n ≡ Some x → ns ≡ edit n (with_header (with_attrs owner group mode)) m.nodes → (Ok tt, with_nodes m ns) ≡ set_attrs_step n owner group mode m
+  attrs-set x ns keeps is new =
+      ap (λ (z : NodeMap). let s : Result (Unit {0}) Errno × Meaning = (Ok tt, with_nodes m z) in s) new
+      ∙ sym (ap answered_by (ap (set_attrs_of (root_of m.kind)) is ∙ ap (λ (b : Bool). if b then Ok tt else Err EOPNOTSUPP) keeps))
+
+  -- no such node
+  pub attrs-nowhere : fin.get m.nodes n ≡ None → (Err EDIED, m) ≡ set_attrs_step n owner group mode m
+  attrs-nowhere none = sym (ap answered_by (ap (set_attrs_of (root_of m.kind)) none))
 
 -- making
 

@@ -1,18 +1,18 @@
 -- The nodes of a list and changes of it.
-use Rattle.std.proofs.Common.{◌≡◌, ◌≢◌, ◌⊎◌, inl, inr, ℕ, List, [], ◌∷◌, length, refl, ap, sym, ◌∙◌, arith}
-use Rattle.std.specs.Prelude.{Some, None, Ok, Err, slice_set, slice_index_or}
+use Rattle.std.proofs.Common.{◌≡◌, ◌≢◌, ◌⊎◌, inl, inr, ℕ, ◌<◌, List, ap, sym, ◌∙◌}
+use Rattle.std.specs.Prelude.{Option, Some, None, IfSome, slice_set, slice_index_or}
 use Rattle.std.specs.FinMap as fin
 use Rattle.hurd_creds.specs.NameMaps.{NameMap, edit}
 use Rattle.hurd_creds.specs.declared.name.Name.{Name}
 use Rattle.hurd_creds.proofs.NameLaws.{same_map_by, same_or_apart, get_here, get_apart, edit_here, edit_apart, edit_found, insert_same, insert-insert}
 use Rattle.std.specs.Option.{option_map}
 use Rattle.hurd_creds.specs.NameMaps.{place_by}
-use Rattle.hurd_creds.proofs.KeyedLaws.{keyed-changed, get-found, get-absent}
+use Rattle.hurd_creds.proofs.KeyedLaws.{keyed-changed, get-found}
 use Rattle.hurd_tmpfs.specs.declared.inode.Inode.{Inode}
-use Rattle.hurd_creds.specs.declared.errno.Errno.TheVariants.{EDIED}
-use Rattle.hurd_creds.specs.declared.attrs.Kind.{Kind}
-use Rattle.hurd_trans_iface.specs.declared.root.Root.{Root}
-use Rattle.hurd_trans_iface.specs.Answers.{make_of}
+use Rattle.hurd_trans_iface.specs.Nodes.{Node, NodeMap}
+use Rattle.hurd_trans_iface.specs.Answers.{most_links}
+use Rattle.hurd_tmpfs.specs.Changes.{entered}
+use Rattle.hurd_tmpfs.specs.declared.inode.DirEntry.{DirEntry}
 use Rattle.hurd_tmpfs.specs.Tree.{key_of, node_of, nodes_of}
 
 -- a value put in where another one is edited
@@ -48,13 +48,17 @@ nodes-kept n is i old new at found same kept =
     ∙ ap (fin.insert (nodes_of is) n) kept
     ∙ insert_same (nodes_of is) n (node_of old) (get-found key_of node_of n is i old at found)
 
--- a list without nodes has none of any name
-pub no_nodes : (is : List Inode) (n : Name) → length is ≡ 0 → fin.get (nodes_of is) n ≡ None
-no_nodes [] n none = get-absent key_of node_of n [] refl
-no_nodes (i ∷ is) n none = absurd (omega arith)
+-- a node with an entry more has as many links
+module _ (m : NodeMap) (d n : Name) (e : DirEntry) where
+  abbrev HasRoom : Option Node → Type 0
+  HasRoom o = IfSome o (λ (x : Node). x.header.links < most_links)
 
--- where a node can be made there are nodes
-pub made_somewhere : (is : List Inode) (root : Root) (name : List ℕ) (kind : Kind) (dir : Name) (x : Unit {0}) → make_of root name kind (fin.get (nodes_of is) dir) ≡ Ok x → length is ≡ 0 → ⊥
-made_somewhere is root name kind dir x made none =
-    let died : Err EDIED ≡ Ok x = ap (make_of root name kind) (sym (no_nodes is dir none)) ∙ made in
-    cc
+  entered-links : (o : Option Node) → HasRoom o → HasRoom (option_map (entered e) o)
+  entered-links None h = h
+  entered-links (Some x) h = h
+
+  pub links-kept : HasRoom (fin.get m n) → HasRoom (fin.get (edit d (entered e) m) n)
+  links-kept h = elim (same_or_apart n d) [
+    | inl same ↦ rw (same, edit_here m d (entered e)) (entered-links (fin.get m d) (rw same at h))
+    | inr apart ↦ rw (edit_apart m d (entered e) n apart) h
+  ]

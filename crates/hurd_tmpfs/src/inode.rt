@@ -1,13 +1,14 @@
 //! The nodes of a tree.
-ghost use Rattle.std.specs.Prelude.{◌≡◌, ◌≤◌, ◌+◌, ◌-◌, ◌++◌, length, take, drop, replicate, OnOk, OnErr, IfSome};
+ghost use Rattle.std.specs.Prelude.{◌≡◌, ◌<◌, ◌≤◌, ◌+◌, ◌-◌, ◌++◌, map, length, take, drop, replicate, OnOk, OnErr, IfSome};
 ghost use Rattle.std.specs.Option.{option_map};
 ghost use Rattle.hurd_creds.specs.Memory.{Steps};
-ghost use Rattle.hurd_trans_iface.specs.Nodes.{attrs_of, bytes_put};
+ghost use Rattle.hurd_trans_iface.specs.Nodes.{attrs_of, bytes_put, linked, unlinked, moved_to, less_entry, with_attrs, with_body, with_header, without_entry};
 ghost use Rattle.hurd_trans_iface.specs.Answers.{made_node};
-ghost use Rattle.hurd_tmpfs.specs.Tree.{node_of};
+ghost use Rattle.hurd_tmpfs.specs.Tree.{node_of, entry_of};
 ghost use Rattle.hurd_trans_iface.specs.TmpfsKind.{read_bytes, write_file, cut_file};
 ghost use Rattle.hurd_tmpfs.specs.Changes.{served, entered};
 
+use crate::search::entry_place;
 use hurd_creds::{Attrs, Bytes, Errno, Kind, Mode, NodeName};
 use hurd_trans_iface::NewNode;
 use std::alloc::{AllocError, Global};
@@ -136,6 +137,58 @@ impl Inode {
         Ok(held.resize(size as usize, 0)?)
     }
 
+    /// Sets owner, group and mode.
+    pub(crate) fn set_attrs(&mut self, owner: u32, group: u32, mode: Mode)
+        ensures is { node_of self.new ≡ with_header (with_attrs owner group mode) (node_of self.old) }
+        ensures name { self.new.name ≡ self.old.name }
+    {
+        self.owner = owner;
+        self.group = group;
+        self.mode = mode;
+    }
+
+    /// Counts one link more.
+    pub(crate) fn gain_link(&mut self)
+        requires { self.old.links < 4294967295 }
+        ensures is { node_of self.new ≡ with_header linked (node_of self.old) }
+        ensures name { self.new.name ≡ self.old.name }
+    {
+        self.links += 1;
+    }
+
+    /// Counts one entry less that names the node: a directory loses its parent, a file a link, if it has one.
+    pub(crate) fn lose_link(&mut self)
+        ensures is { node_of self.new ≡ with_header unlinked (node_of self.old) }
+        ensures name { self.new.name ≡ self.old.name }
+    {
+        match &self.contents {
+            Contents::File(_) => self.links = self.links.saturating_sub(1),
+            Contents::Dir(_) => self.parent = None,
+        }
+    }
+
+    /// Comes below a directory: a directory gets it as its parent, a file stays as it is.
+    pub(crate) fn move_to(&mut self, dir: NodeName)
+        ensures is { node_of self.new ≡ with_header (moved_to dir) (node_of self.old) }
+        ensures name { self.new.name ≡ self.old.name }
+    {
+        match &self.contents {
+            Contents::File(_) => {}
+            Contents::Dir(_) => self.parent = Some(dir),
+        }
+    }
+
+    /// Takes the first entry of a name out of a directory; a file stays as it is.
+    pub(crate) fn remove_entry(&mut self, name: &[u8])
+        ensures is { node_of self.new ≡ with_body (without_entry name.now) (node_of self.old) }
+        ensures name { self.new.name ≡ self.old.name }
+    {
+        match &mut self.contents {
+            Contents::File(_) => {}
+            Contents::Dir(entries) => remove_first(entries, name),
+        }
+    }
+
     /// Puts an entry last into a directory; a file stays as it is.
     pub(crate) fn add_entry(&mut self, entry: DirEntry) -> Result<(), AllocError>
         ensures ok { OnOk result (node_of self.new ≡ entered entry (node_of self.old)) }
@@ -146,6 +199,15 @@ impl Inode {
             Contents::File(_) => Ok(()),
             Contents::Dir(entries) => Ok(entries.push(entry)?),
         }
+    }
+}
+
+/// Takes out the first entry of a name.
+fn remove_first(entries: &mut Vec<DirEntry>, name: &[u8])
+    ensures { map entry_of entries.new.items ≡ less_entry name.now (map entry_of entries.old.items) }
+{
+    if let Some(i) = entry_place(entries, name) {
+        entries.remove(i);
     }
 }
 

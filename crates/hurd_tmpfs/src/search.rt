@@ -4,6 +4,7 @@ ghost use Rattle.std.specs.Option.{option_map};
 ghost use Rattle.std.specs.FinMap as fin;
 ghost use Rattle.hurd_creds.specs.NameMaps.{place_by};
 ghost use Rattle.hurd_trans_iface.specs.Answers.{entry_in};
+ghost use Rattle.hurd_tmpfs.specs.Changes.{entry_at};
 ghost use Rattle.hurd_tmpfs.specs.Tree.{key_of, node_of, nodes_of, entry_of};
 
 use crate::inode::{DirEntry, Inode};
@@ -34,16 +35,27 @@ pub(crate) fn find(nodes: &[Inode], name: NodeName) -> Option<&Inode>
     }
 }
 
+/// The index of the first entry of a name.
+pub(crate) fn entry_place(entries: &[DirEntry], name: &[u8]) -> Option<usize>
+    ensures is { result ≡ entry_at name.now entries.now }
+    ensures below { IfSome result (λ i. i < length entries.now) }
+{
+    for (i, entry) in entries.iter().enumerate() {
+        if entry.name.as_slice() == name {
+            return Some(i);
+        }
+    }
+    None
+}
+
 /// The node of the first entry of a name.
 pub(crate) fn entry_named(entries: &[DirEntry], name: &[u8]) -> Option<NodeName>
     ensures { result ≡ entry_in name.now (map entry_of entries.now) }
 {
-    for entry in entries {
-        if entry.name.as_slice() == name {
-            return Some(entry.node);
-        }
+    match entry_place(entries, name) {
+        Some(i) => Some(entries[i].node),
+        None => None,
     }
-    None
 }
 
 /// The names of entries, in order.

@@ -1,12 +1,13 @@
 //! How a tree in memory begins, and serves its nodes.
-ghost use Rattle.std.specs.Prelude.{◌≡◌, Some, IfOk, IfErr, MatchOption, is_some};
+ghost use Rattle.std.specs.Prelude.{◌≡◌, true, Some, IfOk, IfErr, MatchOption, is_some};
 ghost use Rattle.std.specs.FinMap as fin;
-ghost use Rattle.hurd_trans_iface.specs.Answers.{make_of};
+ghost use Rattle.hurd_trans_iface.specs.Answers.{link_of, make_of};
 ghost use Rattle.hurd_trans_iface.specs.TmpfsKind.{tmpfs};
 ghost use Rattle.hurd_trans_iface.specs.Meaning.{begin};
+ghost use Rattle.hurd_tmpfs.specs.Changes.{both_in, named_in};
 ghost use Rattle.hurd_tmpfs.specs.Tree.{tree, nodes_of};
 
-use crate::changes::{add, put};
+use crate::changes::{Renaming, add, add_nameless, link, put, remove, rename, unlink};
 use crate::inode::{Contents, DirEntry, Inode};
 use crate::search::{entry_named, find, names_in, place};
 use crate::tmpfs::Tmpfs;
@@ -48,6 +49,83 @@ impl Tmpfs {
         match entry_named(entries, name) {
             Some(_) => Err(Errno::EEXIST),
             None => Ok(()),
+        }
+    }
+
+    /// The node that the first entry of a name in a directory names.
+    ///
+    /// Errors, in order: `EDIED` no such directory, `ENOTDIR`, `ENOENT`.
+    fn named(&self, dir: NodeName, name: &[u8]) -> Result<NodeName, Errno>
+        ensures { result ≡ named_in name.now (fin.get (nodes_of self.now.nodes.items) dir) }
+    {
+        let Some(inode) = find(&self.nodes, dir) else {
+            return Err(Errno::EDIED);
+        };
+        let Contents::Dir(entries) = &inode.contents else {
+            return Err(Errno::ENOTDIR);
+        };
+        match entry_named(entries, name) {
+            Some(node) => Ok(node),
+            None => Err(Errno::ENOENT),
+        }
+    }
+
+    /// The node that `name` names in a directory, and what `new` names in another one, if anything.
+    ///
+    /// Errors, in order: `EDIED` no such directory, `ENOTDIR`, `EDIED` no such directory `to`, `ENOTDIR`, `ENOENT`.
+    fn both_named(
+        &self,
+        dir: NodeName,
+        name: &[u8],
+        to: NodeName,
+        new: &[u8],
+    ) -> Result<(NodeName, Option<NodeName>), Errno>
+        ensures { let nodes = nodes_of self.now.nodes.items in result ≡ both_in name.now new.now (fin.get nodes dir) (fin.get nodes to) }
+    {
+        let Some(inode) = find(&self.nodes, dir) else {
+            return Err(Errno::EDIED);
+        };
+        let Contents::Dir(entries) = &inode.contents else {
+            return Err(Errno::ENOTDIR);
+        };
+        let Some(other) = find(&self.nodes, to) else {
+            return Err(Errno::EDIED);
+        };
+        let Contents::Dir(others) = &other.contents else {
+            return Err(Errno::ENOTDIR);
+        };
+        match entry_named(entries, name) {
+            Some(node) => Ok((node, entry_named(others, new))),
+            None => Err(Errno::ENOENT),
+        }
+    }
+
+    /// Whether a file may get another name in a directory.
+    ///
+    /// Errors, in order: `EDIED` no such directory, `ENOTDIR`, `EDIED` no such node, `EISDIR`, `EEXIST`, `EOVERFLOW`.
+    fn may_link(&self, dir: NodeName, name: &[u8], node: NodeName) -> Result<(), Errno>
+        ensures { let nodes = nodes_of self.now.nodes.items in
+            result ≡ link_of tmpfs.root name.now true (fin.get nodes dir) (fin.get nodes node) }
+    {
+        let Some(inode) = find(&self.nodes, dir) else {
+            return Err(Errno::EDIED);
+        };
+        let Contents::Dir(entries) = &inode.contents else {
+            return Err(Errno::ENOTDIR);
+        };
+        let Some(file) = find(&self.nodes, node) else {
+            return Err(Errno::EDIED);
+        };
+        let Contents::File(_) = &file.contents else {
+            return Err(Errno::EISDIR);
+        };
+        if entry_named(entries, name).is_some() {
+            return Err(Errno::EEXIST);
+        }
+        if file.links < u32::MAX {
+            Ok(())
+        } else {
+            Err(Errno::EOVERFLOW)
         }
     }
 }
@@ -143,6 +221,86 @@ impl Server for Tmpfs {
             node: new.name,
         };
         Ok(add(&mut self.nodes, dir, entry, inode)?)
+    }
+
+    fn make_nameless(&mut self, new: NewNode) -> Result<(), Errno> {
+        let Kind::File = new.kind else {
+            return Err(Errno::EOPNOTSUPP);
+        };
+        let inode = Inode {
+            name: new.name,
+            owner: new.owner,
+            group: new.group,
+            mode: new.mode,
+            links: 0,
+            parent: None,
+            contents: Contents::File(Vec::new(self.alloc)),
+        };
+        Ok(add_nameless(&mut self.nodes, inode)?)
+    }
+
+    fn link(
+        &mut self,
+        alloc: Global,
+        dir: NodeName,
+        name: &[u8],
+        node: NodeName,
+    ) -> Result<(), Errno> {
+        self.may_link(dir, name, node)?;
+        let entry = DirEntry {
+            name: Bytes::copied(alloc, name)?,
+            node,
+        };
+        Ok(link(&mut self.nodes, dir, entry)?)
+    }
+
+    fn unlink(&mut self, dir: NodeName, name: &[u8]) -> Result<(), Errno> {
+        let node = self.named(dir, name)?;
+        unlink(&mut self.nodes, dir, name, node);
+        Ok(())
+    }
+
+    fn rename(
+        &mut self,
+        alloc: Global,
+        dir: NodeName,
+        name: &[u8],
+        to: NodeName,
+        new: &[u8],
+    ) -> Result<(), Errno> {
+        let (node, replaced) = self.both_named(dir, name, to, new)?;
+        if replaced == Some(node) {
+            return Ok(());
+        }
+        let moving = Renaming {
+            dir,
+            name,
+            node,
+            to,
+            new,
+            replaced,
+        };
+        Ok(rename(&mut self.nodes, alloc, &moving)?)
+    }
+
+    fn set_attrs(
+        &mut self,
+        node: NodeName,
+        owner: u32,
+        group: u32,
+        mode: Mode,
+    ) -> Result<(), Errno> {
+        match place(&self.nodes, node) {
+            Some(i) => {
+                self.nodes[i].set_attrs(owner, group, mode);
+                Ok(())
+            }
+            None => Err(Errno::EDIED),
+        }
+    }
+
+    fn forget(&mut self, node: NodeName) {
+        remove(&mut self.nodes, node);
     }
 
     fn opened(&mut self, _node: NodeName, _modes: OpenFlags) {}

@@ -82,6 +82,32 @@ fn nodes_are_made_in_directories(rt: HostRuntime) -> Result<(), Errno> {
 }
 
 #[test]
+fn files_are_made_that_no_entry_names(rt: HostRuntime) -> Result<(), Errno> {
+    let alloc = rt.alloc();
+    let mut tree = small_tree(alloc)?;
+    let table = [
+        (Kind::Dir, Err(Errno::EOPNOTSUPP)),
+        (Kind::Link, Err(Errno::EOPNOTSUPP)),
+        (Kind::File, Ok(())),
+    ];
+    for (i, (kind, want)) in table.iter().enumerate() {
+        let new = new_node(3 + i as u64, *kind);
+        assert_eq!(rt; tree.make_nameless(new), *want, "row {i}");
+    }
+    assert_eq!(rt; tree.attrs(name(3)), None);
+    let left = tree.attrs(name(5));
+    assert_eq!(rt;
+        left.map(|attrs| (attrs.links, attrs.size, attrs.owner, attrs.group)),
+        Some((0, 0, 1000, 100))
+    );
+    assert_eq!(rt; tree.names(alloc, name(0))?.as_slice().len(), 2);
+    assert_eq!(rt; tree.write(name(5), 0, b"hi"), Ok(2));
+    assert_eq!(rt; tree.link(alloc, name(0), b"n", name(5)), Ok(()));
+    assert_eq!(rt; tree.attrs(name(5)).map(|attrs| attrs.links), Some(1));
+    Ok(())
+}
+
+#[test]
 fn files_are_written_cut_and_grown(rt: HostRuntime) -> Result<(), Errno> {
     let alloc = rt.alloc();
     let mut tree = small_tree(alloc)?;
@@ -142,6 +168,131 @@ fn files_are_written_cut_and_grown(rt: HostRuntime) -> Result<(), Errno> {
 }
 
 #[test]
+fn files_get_more_names(rt: HostRuntime) -> Result<(), Errno> {
+    let alloc = rt.alloc();
+    let mut tree = small_tree(alloc)?;
+    let table = [
+        (9, b"g".as_slice(), 1, Err(Errno::EDIED)),
+        (1, b"g".as_slice(), 9, Err(Errno::ENOTDIR)),
+        (0, b"f".as_slice(), 9, Err(Errno::EDIED)),
+        (0, b"f".as_slice(), 2, Err(Errno::EISDIR)),
+        (0, b"f".as_slice(), 1, Err(Errno::EEXIST)),
+        (2, b"g".as_slice(), 1, Ok(())),
+        (2, b"g".as_slice(), 1, Err(Errno::EEXIST)),
+        (0, b"h".as_slice(), 1, Ok(())),
+    ];
+    for (i, (dir, entry, node, want)) in table.iter().enumerate() {
+        assert_eq!(rt;
+            tree.link(alloc, name(*dir), entry, name(*node)),
+            *want,
+            "row {i}"
+        );
+    }
+    assert_eq!(rt; tree.step(name(2), b"g"), Some(name(1)));
+    assert_eq!(rt; tree.step(name(0), b"h"), Some(name(1)));
+    assert_eq!(rt; tree.attrs(name(1)).map(|attrs| attrs.links), Some(3));
+    assert_eq!(rt; tree.attrs(name(2)).map(|attrs| attrs.links), Some(1));
+    Ok(())
+}
+
+#[test]
+fn entries_are_taken_out(rt: HostRuntime) -> Result<(), Errno> {
+    let alloc = rt.alloc();
+    let mut tree = small_tree(alloc)?;
+    tree.link(alloc, name(2), b"g", name(1))?;
+    tree.make(alloc, name(2), b"e", new_node(3, Kind::Dir))?;
+    let table = [
+        (9, b"f".as_slice(), Err(Errno::EDIED)),
+        (1, b"f".as_slice(), Err(Errno::ENOTDIR)),
+        (0, b"g".as_slice(), Err(Errno::ENOENT)),
+        (0, b"f".as_slice(), Ok(())),
+        (0, b"f".as_slice(), Err(Errno::ENOENT)),
+        (2, b"g".as_slice(), Ok(())),
+        (2, b"e".as_slice(), Ok(())),
+        (0, b"d".as_slice(), Ok(())),
+    ];
+    for (i, (dir, entry, want)) in table.iter().enumerate() {
+        assert_eq!(rt; tree.unlink(name(*dir), entry), *want, "row {i}");
+    }
+    assert_eq!(rt; tree.names(alloc, name(0))?.as_slice().len(), 0);
+    assert_eq!(rt; tree.attrs(name(1)).map(|attrs| attrs.links), Some(0));
+    for dir in [2, 3] {
+        let left = tree.attrs(name(dir));
+        assert_eq!(rt;
+            left.map(|attrs| (attrs.links, attrs.parent)),
+            Some((1, None)),
+            "node {dir}"
+        );
+    }
+    Ok(())
+}
+
+#[test]
+fn entries_get_other_names_and_directories(rt: HostRuntime) -> Result<(), Errno> {
+    let alloc = rt.alloc();
+    let mut tree = small_tree(alloc)?;
+    tree.make(alloc, name(0), b"e", new_node(3, Kind::Dir))?;
+    tree.link(alloc, name(2), b"g", name(1))?;
+    let table = [
+        (9, b"f".as_slice(), 0, b"x".as_slice(), Err(Errno::EDIED)),
+        (1, b"f".as_slice(), 9, b"x".as_slice(), Err(Errno::ENOTDIR)),
+        (0, b"x".as_slice(), 9, b"x".as_slice(), Err(Errno::EDIED)),
+        (0, b"x".as_slice(), 1, b"x".as_slice(), Err(Errno::ENOTDIR)),
+        (0, b"x".as_slice(), 2, b"g".as_slice(), Err(Errno::ENOENT)),
+        (0, b"f".as_slice(), 2, b"g".as_slice(), Ok(())),
+        (0, b"d".as_slice(), 0, b"d".as_slice(), Ok(())),
+        (0, b"e".as_slice(), 2, b"h".as_slice(), Ok(())),
+        (2, b"g".as_slice(), 2, b"h".as_slice(), Ok(())),
+        (0, b"f".as_slice(), 0, b"x".as_slice(), Ok(())),
+    ];
+    for (i, (dir, entry, to, new, want)) in table.iter().enumerate() {
+        assert_eq!(rt;
+            tree.rename(alloc, name(*dir), entry, name(*to), new),
+            *want,
+            "row {i}"
+        );
+    }
+    let names = tree.names(alloc, name(0))?;
+    assert_eq!(rt; names.as_slice().len(), 2);
+    assert_eq!(rt; names.as_slice()[0].as_slice(), b"d".as_slice());
+    assert_eq!(rt; names.as_slice()[1].as_slice(), b"x".as_slice());
+    assert_eq!(rt; tree.step(name(0), b"x"), Some(name(1)));
+    assert_eq!(rt; tree.names(alloc, name(2))?.as_slice().len(), 1);
+    assert_eq!(rt; tree.step(name(2), b"h"), Some(name(1)));
+    assert_eq!(rt; tree.attrs(name(1)).map(|attrs| attrs.links), Some(2));
+    assert_eq!(rt; tree.attrs(name(3)).and_then(|attrs| attrs.parent), None);
+    tree.make(alloc, name(0), b"e", new_node(4, Kind::Dir))?;
+    assert_eq!(rt; tree.rename(alloc, name(0), b"e", name(2), b"h"), Ok(()));
+    let moved = tree.attrs(name(4));
+    assert_eq!(rt; moved.and_then(|attrs| attrs.parent), Some(name(2)));
+    assert_eq!(rt; tree.attrs(name(1)).map(|attrs| attrs.links), Some(1));
+    Ok(())
+}
+
+#[test]
+fn owner_group_and_mode_are_set(rt: HostRuntime) -> Result<(), Errno> {
+    let alloc = rt.alloc();
+    let mut tree = small_tree(alloc)?;
+    let mode = Mode::OWNER_WRITE;
+    assert_eq!(rt; tree.set_attrs(name(9), 1, 2, mode), Err(Errno::EDIED));
+    for node in [1, 2] {
+        assert_eq!(rt;
+            tree.set_attrs(name(node), 1, 2, mode),
+            Ok(()),
+            "node {node}"
+        );
+        let left = tree.attrs(name(node));
+        assert_eq!(rt;
+            left.map(|attrs| (attrs.owner, attrs.group, attrs.mode)),
+            Some((1, 2, mode)),
+            "node {node}"
+        );
+    }
+    assert_eq!(rt; tree.attrs(name(0)).map(|attrs| attrs.owner), Some(0));
+    Ok(())
+}
+
+#[test]
 fn ample_memory_is_enough_at_the_first_try(rt: HostRuntime) -> Result<(), Errno> {
     let alloc = rt.alloc();
     let mut tree = small_tree(alloc)?;
@@ -166,5 +317,21 @@ fn ample_memory_is_enough_at_the_first_try(rt: HostRuntime) -> Result<(), Errno>
         );
     }
     assert_eq!(rt; tree.names(alloc, name(2))?.as_slice().len(), 40);
+    Ok(())
+}
+
+#[test]
+fn a_node_that_is_forgotten_is_gone_and_its_entry_stays(rt: HostRuntime) -> Result<(), Errno> {
+    let alloc = rt.alloc();
+    let mut tree = small_tree(alloc)?;
+    tree.forget(name(9));
+    assert_eq!(rt; tree.attrs(name(1)).is_some(), true);
+    tree.forget(name(1));
+    assert_eq!(rt; tree.attrs(name(1)), None);
+    assert_eq!(rt; tree.write(name(1), 0, b"x"), Err(Errno::EDIED));
+    assert_eq!(rt; tree.step(name(0), b"f"), Some(name(1)));
+    assert_eq!(rt; tree.attrs(name(2)).is_some(), true);
+    tree.make(alloc, name(2), b"f", new_node(3, Kind::File))?;
+    assert_eq!(rt; tree.attrs(name(3)).map(|attrs| attrs.size), Some(0));
     Ok(())
 }

@@ -11,6 +11,6 @@ pub struct Tmpfs {
     pub(crate) alloc: Global,
     pub(crate) root: Option<NodeName>,
     pub(crate) nodes: Vec<Inode>,
-    /// Until the root has a name there are no nodes, and there is room for it.
-    ghost room: { root ≡ None → (vec_len nodes ≡ 0) × (0 < vec_capacity nodes) },
+    /// Until the root has a name there is room for it.
+    ghost room: { root ≡ None → vec_len nodes < vec_capacity nodes },
 }

@@ -1,10 +1,14 @@
 -- A tree in memory is good.
-use Rattle.std.proofs.Common.{◌≡◌, ℕ, ◌+◌, Bool, true, false, List, [], ◌∷◌, length, nat_lt, if◌then◌else◌, refl, sym, ap, ◌∙◌, true≢false}
+use Rattle.std.proofs.Common.{◌≡◌, ℕ, ◌+◌, Bool, true, false, List, [], ◌∷◌, length, nat_lt, if◌then◌else◌, refl, sym, ap, ◌∙◌, subst, true≢false}
 use Rattle.std.specs.Prelude.{Some, None}
 use Rattle.hurd_creds.specs.declared.name.Name.{Name}
-use Rattle.hurd_trans_iface.specs.Nodes.{Header, Body, Content, Listing, is_dir, bytes_put, bytes_resized, with_entry}
+use Rattle.hurd_creds.specs.declared.attrs.Kind.{Kind}
+use Rattle.hurd_creds.specs.declared.attrs.Kind.TheVariants.{File, Dir, Link, Fifo, Char}
+use Rattle.hurd_trans_iface.specs.declared.new_node.NewNode.{NewNode}
+use Rattle.hurd_trans_iface.specs.Nodes.{Header, Body, Content, Listing, Node, is_dir, bytes_put, bytes_resized, with_entry, without_entry, new_file, new_dir}
+use Rattle.hurd_trans_iface.specs.Answers.{node_of_kind}
 use Rattle.hurd_trans_iface.specs.Behaviour.{Did}
-use Rattle.hurd_trans_iface.specs.Good.{GoodBehaviour}
+use Rattle.hurd_trans_iface.specs.Good.{GoodBehaviour, IsSized}
 use Rattle.hurd_trans_iface.specs.TmpfsKind.{tmpfs, most_bytes, read_bytes, put_into, write_file, cut_file}
 use Rattle.hurd_trans_iface.proofs.Lengths.{put_grows, put_stays, length-resized}
 use Rattle.hurd_trans_iface.proofs.Goodness.{KeepsSize, IsFine, fine_done, fine_refused, fine_if}
@@ -45,13 +49,26 @@ entry_sizes : (text name : List ℕ) (n : Name) (c : Body) → tmpfs.size text (
 entry_sizes text name n (Content bs) = refl
 entry_sizes text name n (Listing es) = refl
 
+removed_sizes : (text name : List ℕ) (c : Body) → tmpfs.size text (without_entry name c) ≡ tmpfs.size text c
+removed_sizes text name (Content bs) = refl
+removed_sizes text name (Listing es) = refl
+
+-- a file begins without bytes, and a directory has no size
+made_sizes : (text : List ℕ) (dir : Name) (new : NewNode) (x : Node) (kind : Kind) → node_of_kind dir new kind ≡ Some x → IsSized tmpfs text x
+made_sizes text dir new x File is = let same : new_file new.owner new.group new.mode ≡ x = cc in subst (IsSized tmpfs text) same refl
+made_sizes text dir new x Dir is = let same : new_dir new.owner new.group new.mode (Some dir) ≡ x = cc in subst (IsSized tmpfs text) same refl
+made_sizes text dir new x Link is = absurd (cc)
+made_sizes text dir new x Fifo is = absurd (cc)
+made_sizes text dir new x Char is = absurd (cc)
+
 pub tmpfs_good : GoodBehaviour tmpfs
 tmpfs_good = record {
   read_sizes = λ at amount text x d shaped sized is. fine_done (Keeps text x.header x.body) _ d (reads_well text at amount x.header x.body) is shaped sized;
   write_sizes = λ at bs text x d shaped sized is. fine_done (Keeps text x.header x.body) _ d (writes_well text x.header x.body at bs) is shaped sized;
   set_size_sizes = λ size text x d shaped sized is. fine_done (Keeps text x.header x.body) _ d (resizes_well text x.header x.body size) is shaped sized;
   entered = entry_sizes;
-  newborn = λ is text. refl;
+  removed = removed_sizes;
+  newborn = λ is text dir new x. made_sizes text dir new x new.kind;
   write_blind = λ at bs text h c e. refl;
   set_size_blind = λ size text h c e. refl;
   read_plain = λ at amount text x e. fine_refused (Keeps text x.header x.body) _ e (reads_well text at amount x.header x.body);

@@ -1,16 +1,18 @@
 -- Entries of directories, and what is made in them.
-use Rattle.std.specs.Prelude.{ℕ, not, Bool, true, false, cond, is_some, if◌then◌else◌, List, [], ◌∷◌, map, Option, Some, None, Result, Ok, Err}
+use Rattle.std.specs.Prelude.{ℕ, nat_lt, not, Bool, true, false, cond, is_some, if◌then◌else◌, List, [], ◌∷◌, ◌++◌, map, Option, Some, None, Result, Ok, Err}
 use Rattle.std.specs.Str.{bytes_eq}
 use Rattle.hurd_creds.specs.declared.name.Name.{Name}
+use Rattle.hurd_creds.specs.Names.{same_name}
+use Rattle.hurd_creds.specs.declared.mode.Mode.{Mode}
 use Rattle.hurd_creds.specs.declared.attrs.Kind.{Kind}
 use Rattle.hurd_creds.specs.declared.attrs.Kind.TheVariants.{File, Dir}
 use Rattle.hurd_creds.specs.declared.errno.Errno.{Errno}
-use Rattle.hurd_creds.specs.declared.errno.Errno.TheVariants.{EEXIST, ENOTDIR, EROFS, EOPNOTSUPP, EDIED}
+use Rattle.hurd_creds.specs.declared.errno.Errno.TheVariants.{EEXIST, ENOENT, EXDEV, ENOTDIR, EISDIR, EROFS, EOPNOTSUPP, EDIED, EOVERFLOW}
 use Rattle.hurd_trans_iface.specs.declared.new_node.NewNode.{NewNode}
 use Rattle.hurd_trans_iface.specs.declared.root.Root.{Root}
 use Rattle.hurd_trans_iface.specs.declared.root.Crossing.{Crossing}
 use Rattle.hurd_trans_iface.specs.declared.root.Crossing.TheVariants.{Plain}
-use Rattle.hurd_trans_iface.specs.Nodes.{Entry, Body, Content, Listing, Node, Edit, OnBody, AddNode, is_dir, with_entry, new_file, new_dir}
+use Rattle.hurd_trans_iface.specs.Nodes.{Entry, Body, Content, Listing, Node, Edit, OnHeader, OnBody, AddNode, is_dir, linked, unlinked, moved_to, with_attrs, with_entry, without_entry, new_file, nameless_file, new_dir}
 
 -- the node of the first entry of this name
 abbrev pub entry_in : List ℕ → List Entry → Option Name
@@ -63,6 +65,88 @@ added dir name n (Some x) = AddNode n x ∷ OnBody dir (with_entry name n) ∷ [
 -- the new node, and its entry
 abbrev pub make_edits : Name → List ℕ → NewNode → List Edit
 make_edits dir name new = added dir name new.name (made_node dir new)
+
+-- whether a node of this kind is a file
+abbrev pub is_file : Kind → Bool
+is_file File = true
+is_file _ = false
+
+-- whether a node of this kind may be made that no entry names, by a server with this root
+abbrev pub nameless_of : Root → Kind → Result (Unit {0}) Errno
+nameless_of root kind = if not (is_tree root) then Err EROFS else if is_file kind then Ok tt else Err EOPNOTSUPP
+
+-- the file
+abbrev pub nameless_edits : NewNode → List Edit
+nameless_edits new = AddNode new.name (nameless_file new.owner new.group new.mode) ∷ []
+
+-- the greatest number of links of a file
+abbrev pub most_links : ℕ
+most_links = 4294967295
+
+-- whether a node may get a name in this directory of a tree; `kin`: the two are of one server
+abbrev pub link_in : List ℕ → Bool → Node → Option Node → Result (Unit {0}) Errno
+link_in name kin d None = Err EDIED
+link_in name kin d (Some x) =
+    if not kin then Err EXDEV else if is_dir x.header.kind then Err EISDIR else if is_some (entry_of name (Some d.body)) then Err EEXIST
+    else if nat_lt x.header.links most_links then Ok tt else Err EOVERFLOW
+
+-- whether a node may get a name in a directory, where the directory's server has this root
+abbrev pub link_of : Root → List ℕ → Bool → Option Node → Option Node → Result (Unit {0}) Errno
+link_of root name kin None x = Err EDIED
+link_of root name kin (Some d) x = if not (is_dir d.header.kind) then Err ENOTDIR else if not (is_tree root) then Err EROFS else link_in name kin d x
+
+-- the entry, and the file with one link more
+abbrev pub link_edits : Name → List ℕ → Name → List Edit
+link_edits dir name n = OnBody dir (with_entry name n) ∷ OnHeader n linked ∷ []
+
+-- whether the entry of a name may be taken out of a directory, where the directory's server has this root; of what it
+-- names nothing is asked
+abbrev pub unlink_of : Root → List ℕ → Option Node → Result (Unit {0}) Errno
+unlink_of root name None = Err EDIED
+unlink_of root name (Some d) =
+    if not (is_dir d.header.kind) then Err ENOTDIR else if not (is_tree root) then Err EROFS
+    else if is_some (entry_of name (Some d.body)) then Ok tt else Err ENOENT
+
+-- the first entry of a name goes, which names this node, if any
+abbrev pub unlink_edits : Name → List ℕ → Option Name → List Edit
+unlink_edits dir name None = []
+unlink_edits dir name (Some n) = OnBody dir (without_entry name) ∷ OnHeader n unlinked ∷ []
+
+-- whether an entry of this directory may go to another one, which may not be there
+abbrev pub rename_to : List ℕ → Node → Option Node → Result (Unit {0}) Errno
+rename_to name d None = Err EDIED
+rename_to name d (Some t) = if not (is_dir t.header.kind) then Err ENOTDIR else if is_some (entry_of name (Some d.body)) then Ok tt else Err ENOENT
+
+-- whether the entry of a name may go from a directory to another, where the first one's server has this root; `kin`: the
+-- two are of one server
+abbrev pub rename_of : Root → List ℕ → Bool → Option Node → Option Node → Result (Unit {0}) Errno
+rename_of root name kin None t = Err EDIED
+rename_of root name kin (Some d) t =
+    if not (is_dir d.header.kind) then Err ENOTDIR else if not (is_tree root) then Err EROFS
+    else if kin then rename_to name d t else Err EXDEV
+
+-- the entry of a node goes, so does what the new name named, and the entry under the new name comes last
+abbrev pub move_edits : Name → List ℕ → Name → List ℕ → Name → Option Name → List Edit
+move_edits dir name to new n m =
+    OnBody dir (without_entry name) ∷ (unlink_edits to new m ++ OnBody to (with_entry new n) ∷ OnHeader n (moved_to to) ∷ [])
+
+-- whether what a name names, if anything, is this node
+abbrev pub is_one : Name → Option Name → Bool
+is_one n None = false
+is_one n (Some m) = same_name n m
+
+-- from what `name` names to what `new` names; where the two are one node nothing changes
+abbrev pub rename_edits : Name → List ℕ → Name → List ℕ → Option Name → Option Name → List Edit
+rename_edits dir name to new None m = []
+rename_edits dir name to new (Some n) m = if is_one n m then [] else move_edits dir name to new n m
+
+-- whether owner, group and mode of a node may be set, where its server has this root: in trees they may
+abbrev pub set_attrs_of : Root → Option Node → Result (Unit {0}) Errno
+set_attrs_of root None = Err EDIED
+set_attrs_of root (Some x) = if is_tree root then Ok tt else Err EOPNOTSUPP
+
+abbrev pub set_attrs_edits : Name → ℕ → ℕ → Mode → List Edit
+set_attrs_edits n owner group mode = OnHeader n (with_attrs owner group mode) ∷ []
 
 -- the edits of a call that isn't refused
 abbrev pub edits_if : {T : Type 0} → Result T Errno → List Edit → List Edit

@@ -1,10 +1,11 @@
 -- What the laws need of a kind of server.
-use Rattle.std.specs.Prelude.{◌≡◌, ℕ, true, false, List, [], Ok, Err}
+use Rattle.std.specs.Prelude.{◌≡◌, ℕ, true, false, List, Some, Ok, Err}
 use Rattle.hurd_creds.specs.declared.name.Name.{Name}
 use Rattle.hurd_creds.specs.declared.errno.Errno.{Errno}
 use Rattle.hurd_creds.specs.Memory.{is_no_memory}
-use Rattle.hurd_trans_iface.specs.Nodes.{Header, Body, Content, Node, IsShaped, with_entry}
-use Rattle.hurd_trans_iface.specs.Answers.{is_tree}
+use Rattle.hurd_trans_iface.specs.declared.new_node.NewNode.{NewNode}
+use Rattle.hurd_trans_iface.specs.Nodes.{Header, Body, Node, IsShaped, with_entry, without_entry}
+use Rattle.hurd_trans_iface.specs.Answers.{is_tree, made_node}
 use Rattle.hurd_trans_iface.specs.Behaviour.{Did, Behaviour, Question, reading, writing, resizing, node_left}
 
 -- a node has the size that its kind of server says
@@ -30,9 +31,10 @@ pub record GoodBehaviour (b : Behaviour) : Type 0 where
   pub read_sizes : (at amount : ℕ) → KeepsSizes b (reading at amount)
   pub write_sizes : (at : ℕ) (bs : List ℕ) → KeepsSizes b (writing at bs)
   pub set_size_sizes : (size : ℕ) → KeepsSizes b (resizing size)
-  -- an entry changes no size, and in a tree a new file has none
+  -- an entry more or less changes no size, and what is made in a tree has its size
   pub entered : (text name : List ℕ) (n : Name) (c : Body) → b.size text (with_entry name n c) ≡ b.size text c
-  pub newborn : is_tree b.root ≡ true → (text : List ℕ) → b.size text (Content []) ≡ 0
+  pub removed : (text name : List ℕ) (c : Body) → b.size text (without_entry name c) ≡ b.size text c
+  pub newborn : is_tree b.root ≡ true → (text : List ℕ) (dir : Name) (new : NewNode) (x : Node) → made_node dir new ≡ Some x → IsSized b text x
   pub write_blind : (at : ℕ) (bs : List ℕ) → IsBlind b (writing at bs)
   pub set_size_blind : (size : ℕ) → IsBlind b (resizing size)
   pub read_plain : (at amount : ℕ) → IsPlain b (reading at amount)

@@ -8,8 +8,8 @@ use Rattle.hurd_creds.specs.declared.open_flags.OpenFlags.{OpenFlags}
 use Rattle.hurd_creds.specs.declared.errno.Errno.{Errno}
 use Rattle.hurd_trans_iface.specs.declared.new_node.NewNode.{NewNode}
 use Rattle.hurd_trans_iface.specs.declared.root.Root.{Root}
-use Rattle.hurd_trans_iface.specs.Nodes.{Body, Content, Listing, Node, NodeMap, Edit, edit_all, is_dir}
-use Rattle.hurd_trans_iface.specs.Answers.{make_of, make_edits, edits_if}
+use Rattle.hurd_trans_iface.specs.Nodes.{Body, Content, Listing, Node, NodeMap, Edit, body_of, edit_all, is_dir}
+use Rattle.hurd_trans_iface.specs.Answers.{entry_of, make_of, make_edits, nameless_of, nameless_edits, link_of, link_edits, unlink_of, unlink_edits, rename_of, rename_edits, set_attrs_of, set_attrs_edits, edits_if}
 use Rattle.hurd_trans_iface.specs.Behaviour.{Behaviour, Question, effect_on, told_of, edits_of}
 pub use Rattle.hurd_trans_iface.specs.Kinds.{ServerKind, Tmpfs, behaviour_of}
 
@@ -67,6 +67,35 @@ step_of q n m = let e = effect_on q (behaviour_of m.kind) m.text (fin.get m.node
 abbrev pub make_step : Name → List ℕ → NewNode → Meaning → Result (Unit {0}) Errno × Meaning
 make_step dir name new m =
     let answer = make_of (root_of m.kind) name new.kind (fin.get m.nodes dir) in (answer, edited (edits_if answer (make_edits dir name new)) m)
+
+-- a file that no entry names
+abbrev pub make_nameless_step : NewNode → Meaning → Result (Unit {0}) Errno × Meaning
+make_nameless_step new m = let answer = nameless_of (root_of m.kind) new.kind in (answer, edited (edits_if answer (nameless_edits new)) m)
+
+-- another name for a file, which is one of the server's own
+abbrev pub link_step : Name → List ℕ → Name → Meaning → Result (Unit {0}) Errno × Meaning
+link_step dir name n m =
+    let answer = link_of (root_of m.kind) name true (fin.get m.nodes dir) (fin.get m.nodes n) in (answer, edited (edits_if answer (link_edits dir name n)) m)
+
+-- the entry of a name goes, and what it names has one entry less that names it
+abbrev pub unlink_step : Name → List ℕ → Meaning → Result (Unit {0}) Errno × Meaning
+unlink_step dir name m =
+    let answer = unlink_of (root_of m.kind) name (fin.get m.nodes dir) in (answer, edited (edits_if answer (unlink_edits dir name (entry_of name (body_of m.nodes dir)))) m)
+
+-- an entry goes from a directory to another, or gets another name
+abbrev pub rename_step : Name → List ℕ → Name → List ℕ → Meaning → Result (Unit {0}) Errno × Meaning
+rename_step dir name to new m =
+    let answer = rename_of (root_of m.kind) name true (fin.get m.nodes dir) (fin.get m.nodes to) in
+    (answer, edited (edits_if answer (rename_edits dir name to new (entry_of name (body_of m.nodes dir)) (entry_of new (body_of m.nodes to)))) m)
+
+-- owner, group and mode of a node
+abbrev pub set_attrs_step : Name → ℕ → ℕ → Mode → Meaning → Result (Unit {0}) Errno × Meaning
+set_attrs_step n owner group mode m =
+    let answer = set_attrs_of (root_of m.kind) (fin.get m.nodes n) in (answer, edited (edits_if answer (set_attrs_edits n owner group mode)) m)
+
+-- the server without a node; entries that name it stay
+abbrev pub forget_after : Meaning → Name → Meaning
+forget_after m n = record m { nodes = fin.remove m.nodes n }
 
 -- opens of a tree's nodes are not counted
 abbrev pub opened_after : Meaning → Name → OpenFlags → Meaning

@@ -1,5 +1,6 @@
 -- Nodes, and edits of finite maps of them.
-use Rattle.std.specs.Prelude.{◌≡◌, ℕ, ◌+◌, ◌-◌, Bool, true, false, List, [], ◌∷◌, ◌++◌, length, take, drop, replicate, Option, None}
+use Rattle.std.specs.Prelude.{◌≡◌, ℕ, ◌+◌, ◌-◌, Bool, true, false, if◌then◌else◌, List, [], ◌∷◌, ◌++◌, length, take, drop, replicate, Option, Some, None}
+use Rattle.std.specs.Str.{bytes_eq}
 use Rattle.std.specs.FinMap as fin
 use Rattle.std.specs.Option.{option_map}
 use Rattle.hurd_creds.specs.NameMaps.{NameMap, edit}
@@ -106,11 +107,44 @@ abbrev pub with_entry : List ℕ → Name → Body → Body
 with_entry name n (Listing es) = Listing (es ++ record { name = name; node = n } ∷ [])
 with_entry name n (Content bs) = Content bs
 
+-- the entries without the first of a name
+abbrev pub less_entry : List ℕ → List Entry → List Entry
+less_entry name [] = []
+less_entry name (e ∷ es) = if bytes_eq e.name name then es else e ∷ less_entry name es
+
+-- without the first entry of a name
+abbrev pub without_entry : List ℕ → Body → Body
+without_entry name (Listing es) = Listing (less_entry name es)
+without_entry name (Content bs) = Content bs
+
 abbrev pub with_size : ℕ → Header → Header
 with_size size h = record h { size = size }
 
+-- whose the node is, and what may be done with it
+abbrev pub with_attrs : ℕ → ℕ → Mode → Header → Header
+with_attrs owner group mode h = record h { owner = owner; group = group; mode = mode }
+
+-- one entry more names the file
+abbrev pub linked : Header → Header
+linked h = record h { links = h.links + 1 }
+
+-- one entry less names the node: a directory loses its parent, any other node a link, if it has one
+abbrev pub unlinked : Header → Header
+unlinked h = record h {
+  links = if is_dir h.kind then h.links else h.links - 1;
+  parent = if is_dir h.kind then None else h.parent;
+}
+
+-- below this directory, which a directory has as its parent; any other node has none
+abbrev pub moved_to : Name → Header → Header
+moved_to dir h = record h { parent = if is_dir h.kind then Some dir else h.parent }
+
 abbrev pub with_header : (Header → Header) → Node → Node
 with_header f x = record x { header = f x.header }
+
+-- an empty file that no entry names: one that has lost its only one
+abbrev pub nameless_file : ℕ → ℕ → Mode → Node
+nameless_file owner group mode = with_header unlinked (new_file owner group mode)
 
 abbrev pub with_body : (Body → Body) → Node → Node
 with_body g x = record x { body = g x.body }
@@ -120,6 +154,12 @@ pub data Edit : Type 0 where
   OnHeader : Name → (Header → Header) → Edit
   OnBody : Name → (Body → Body) → Edit
   AddNode : Name → Node → Edit
+
+-- the node that it is done to
+abbrev pub node_of_edit : Edit → Name
+node_of_edit (OnHeader n f) = n
+node_of_edit (OnBody n g) = n
+node_of_edit (AddNode n x) = n
 
 abbrev pub edit_one : Edit → NodeMap → NodeMap
 edit_one (OnHeader n f) m = edit n (with_header f) m

@@ -57,6 +57,49 @@ impl Server for Box<dyn Server> {
         (**self).make(alloc, dir, name, new)
     }
 
+    fn make_nameless(&mut self, new: NewNode) -> Result<(), Errno> {
+        (**self).make_nameless(new)
+    }
+
+    fn link(
+        &mut self,
+        alloc: Global,
+        dir: NodeName,
+        name: &[u8],
+        node: NodeName,
+    ) -> Result<(), Errno> {
+        (**self).link(alloc, dir, name, node)
+    }
+
+    fn unlink(&mut self, dir: NodeName, name: &[u8]) -> Result<(), Errno> {
+        (**self).unlink(dir, name)
+    }
+
+    fn rename(
+        &mut self,
+        alloc: Global,
+        dir: NodeName,
+        name: &[u8],
+        to: NodeName,
+        new: &[u8],
+    ) -> Result<(), Errno> {
+        (**self).rename(alloc, dir, name, to, new)
+    }
+
+    fn set_attrs(
+        &mut self,
+        node: NodeName,
+        owner: u32,
+        group: u32,
+        mode: Mode,
+    ) -> Result<(), Errno> {
+        (**self).set_attrs(node, owner, group, mode)
+    }
+
+    fn forget(&mut self, node: NodeName) {
+        (**self).forget(node)
+    }
+
     fn opened(&mut self, node: NodeName, modes: OpenFlags) {
         (**self).opened(node, modes)
     }

@@ -6,7 +6,7 @@ ghost use Rattle.hurd_creds.specs.Memory.{Meets, Steps};
 ghost use Rattle.hurd_trans_iface.specs.Nodes.{attrs_of, body_of};
 ghost use Rattle.hurd_trans_iface.specs.Answers.{entry_of, names_of};
 ghost use Rattle.hurd_trans_iface.specs.Behaviour.{reading, writing, resizing};
-ghost use Rattle.hurd_trans_iface.specs.Meaning.{Meaning, root_of, begin_root_after, step_of, make_step, opened_after};
+ghost use Rattle.hurd_trans_iface.specs.Meaning.{Meaning, root_of, begin_root_after, step_of, make_step, make_nameless_step, link_step, unlink_step, rename_step, set_attrs_step, opened_after, forget_after};
 
 use crate::names::Names;
 use crate::new_node::NewNode;
@@ -66,6 +66,56 @@ pub trait Server: Drop {
     /// Errors, in order: `EDIED` no such directory, `ENOTDIR`, `EROFS` the server keeps no tree, `EEXIST`, `EOPNOTSUPP` a kind that the server doesn't make, `ENOMEM`.
     fn make(&mut self, alloc: Global, dir: NodeName, name: &[u8], new: NewNode) -> Result<(), Errno>
         ensures { Steps (meaning self.old) (make_step dir name.now new (meaning self.old)) result (meaning self.new) };
+
+    /// Makes a file that no entry names: it has no links.
+    ///
+    /// Errors, in order: `EROFS` the server keeps no tree, `EOPNOTSUPP` any other kind than a file, `ENOMEM`.
+    fn make_nameless(&mut self, new: NewNode) -> Result<(), Errno>
+        ensures { Steps (meaning self.old) (make_nameless_step new (meaning self.old)) result (meaning self.new) };
+
+    /// Gives a file another name in a directory.
+    ///
+    /// Errors, in order: `EDIED` no such directory, `ENOTDIR`, `EROFS` the server keeps no tree, `EDIED` no such node, `EISDIR` it is a directory, `EEXIST`, `EOVERFLOW`
+    /// it has 4,294,967,295 links, `ENOMEM`.
+    fn link(
+        &mut self,
+        alloc: Global,
+        dir: NodeName,
+        name: &[u8],
+        node: NodeName,
+    ) -> Result<(), Errno>
+        ensures { Steps (meaning self.old) (link_step dir name.now node (meaning self.old)) result (meaning self.new) };
+
+    /// Takes the first entry of a name out of a directory: of what it names, a directory loses its parent, and any other node a link. Whether that is a directory, and
+    /// whether it is empty, is for who asks. Takes no memory.
+    ///
+    /// Errors, in order: `EDIED` no such directory, `ENOTDIR`, `EROFS` the server keeps no tree, `ENOENT`.
+    fn unlink(&mut self, dir: NodeName, name: &[u8]) -> Result<(), Errno>
+        ensures { (result, meaning self.new) ≡ unlink_step dir name.now (meaning self.old) };
+
+    /// Takes the first entry `name` out of a directory and puts it last into another one, or the same, as `new`: in the place of the entry of that name, where there is
+    /// one, whose node loses it as by `unlink`. A directory gets its new parent. Where both entries name one node nothing changes. What the two nodes are is for who asks.
+    ///
+    /// Errors, in order: `EDIED` no such directory, `ENOTDIR`, `EROFS` the server keeps no tree, `EDIED` no such directory `to`, `ENOTDIR`, `ENOENT`, `ENOMEM`.
+    fn rename(
+        &mut self,
+        alloc: Global,
+        dir: NodeName,
+        name: &[u8],
+        to: NodeName,
+        new: &[u8],
+    ) -> Result<(), Errno>
+        ensures { Steps (meaning self.old) (rename_step dir name.now to new.now (meaning self.old)) result (meaning self.new) };
+
+    /// Sets the owner, the group and the mode of a node. Takes no memory.
+    ///
+    /// Errors, in order: `EDIED` no such node, `EOPNOTSUPP` the server keeps no tree.
+    fn set_attrs(&mut self, node: NodeName, owner: u32, group: u32, mode: Mode) -> Result<(), Errno>
+        ensures { (result, meaning self.new) ≡ set_attrs_step node owner group mode (meaning self.old) };
+
+    /// Lets a node go that nothing keeps any more, if the server has it; what entries name it stays. Takes no memory.
+    fn forget(&mut self, node: NodeName)
+        ensures { meaning self.new ≡ forget_after (meaning self.old) node };
 
     /// A node was opened with these modes. Takes no memory.
     fn opened(&mut self, node: NodeName, modes: OpenFlags)

@@ -1,0 +1,96 @@
+-- A directory made by the core, as a piece of any call: what it asks, and what its changes keep.
+use Rattle.std.proofs.Common.{◌≡◌, ℕ, Bool, true, Some, refl, sym, subst, inl, inr, arith}
+use Rattle.std.specs.Prelude.{Ok}
+use Rattle.hurd_creds.specs.declared.name.Name.{Name}
+use Rattle.hurd_creds.specs.declared.attrs.Kind.TheVariants.{Dir}
+use Rattle.hurd_creds.specs.declared.errno.Errno.TheVariants.{EDIED, EOVERFLOW, ESRCH}
+use Rattle.hurd_trans_iface.specs.Nodes.{Node, new_dir}
+use Rattle.hurd_trans_iface.specs.Good.{GoodBehaviour}
+use Rattle.hurd_trans_iface.specs.Kinds.{ServerKind, behaviour_of}
+use Rattle.hurd_ports.specs.Tables.{Task, fresh, can_name}
+use Rattle.hurd_machine.specs.World.{World, nodes_of, task_at, home_at, server_at, makes_at}
+use Rattle.hurd_machine.specs.Sight.{Part, EmptyOf, BodyOf, Seen, Sees}
+use Rattle.hurd_machine.specs.Sound.{Coherent, LeadsUp}
+use Rattle.hurd_machine.proofs.Coherence.{AllProper, home_old}
+use Rattle.hurd_machine.proofs.Settle.{Rests}
+use Rattle.hurd_machine.proofs.Frame.{AllWithin, Full}
+use Rattle.hurd_machine.proofs.Sizes.{KeepsSized}
+use Rattle.hurd_machine.proofs.Links.{KeepsLinked, dir_hangs}
+use Rattle.hurd_machine.proofs.Views.{Agree, same_tasks, home_same}
+use Rattle.hurd_machine.proofs.Asks.{IsPlain, first_ok, given_ok, on_ok, first_same, on_same, makes_same, ok_plain, first_plain, given_plain, on_plain, makes_plain}
+use Rattle.hurd_machine.proofs.Confine.{NewTo, SeenOrNew}
+use Rattle.hurd_machine.proofs.Several.{AllMay}
+use Rattle.hurd_machine.proofs.Permits.{later_new}
+use Rattle.hurd_machine.proofs.Opens.{own_task, fresh_new, fresh_next}
+use Rattle.hurd_machine.proofs.Makes.{MayMake, may_make, entered_within, entered_proper, entered_rests, entered_sized, entered_linked, entered_may, made_parent, made_in, made_fit}
+use Rattle.hurd_core.specs.Core.{NewNodeAt, asked_node, naming_asks, making_dir_asks, making_dir}
+
+module _ (t : ℕ) (f : NewNodeAt) where
+  abbrev node : Node
+  node = new_dir f.owner f.group f.mode (Some f.dir)
+
+  -- the task that makes it, the server, and that it may be made
+  pub record AsksDir (w : World) (a : Task × Name) : Type 0 where
+    pub is_task : task_at w t ≡ Some a.0
+    pub home : home_at w f.dir ≡ Some a.1
+    pub may : MayMake w f.dir f.name Dir
+
+  pub asks_dir : (w : World) (a : Task × Name) → making_dir_asks w t f ≡ Ok a → AsksDir w a
+  asks_dir w a is =
+      let u = first_ok (makes_at w f.dir f.name Dir) _ a is in
+      let x = first_ok (naming_asks w t 1) _ a u.2 in
+      let s = on_ok EDIED (home_at w f.dir) _ a x.2 in
+      let k = on_ok ESRCH (task_at w t) _ x.0 x.1 in
+      let room = given_ok EOVERFLOW (can_name 1 k.0) _ x.0 k.2 in
+      let both : (k.0, s.0) ≡ a = cc (room.1, s.2) in
+      subst (AsksDir w) both (record { is_task = k.1; home = s.1; may = may_make w f.dir f.name Dir u.0 u.1 })
+
+  module _ (w : World) (a : Task × Name) (m : AsksDir w a) where
+    abbrev n : Name
+    n = fresh t a.0
+
+    pub dir_within : (T : Part → Type 0) → T (BodyOf f.dir) → T (EmptyOf f.dir) → AllWithin (Full w t T) w (making_dir t f a)
+    dir_within T body empty =
+        let new = fresh_new w t a.0 m.is_task in
+        entered_within w n a.1 node f.dir f.name (Full w t T) (own_task w t T) (inr (inr new)) (inr (inr new)) (inr (inr new)) (inl body) (inl empty)
+
+    pub dir_proper : Coherent w → AllProper w (making_dir t f a)
+    dir_proper c =
+        entered_proper w n a.1 node f.dir f.name c (fresh_next w t a.0 m.is_task) m.home m.may.absent
+        (made_in f.dir (asked_node Dir f n) node refl w (home_old c f.dir a.1 m.home))
+
+    pub dir_rests : Rests w (making_dir t f a)
+    dir_rests =
+        let is_server : server_at w a.1 ≡ Some m.may.info = rw m.home at m.may.is_info in
+        entered_rests w n a.1 node f.dir f.name refl m.may.info is_server
+
+    -- it hangs in the directory above, which isn't removed
+    pub dir_linked : Coherent w → LeadsUp (nodes_of w) f.dir → KeepsLinked w (making_dir t f a)
+    dir_linked c up =
+        entered_linked w n a.1 node f.dir f.name c (fresh_next w t a.0 m.is_task) m.may up refl (dir_hangs f.dir f.owner f.group f.mode)
+
+    pub dir_sized : ((k : ServerKind) → GoodBehaviour (behaviour_of k)) → KeepsSized w (making_dir t f a)
+    dir_sized good =
+        let is_server : server_at w a.1 ≡ Some m.may.info = rw m.home at m.may.is_info in
+        entered_sized w n a.1 node f.dir f.name good (λ i e.
+        let same : m.may.info ≡ i = cc (is_server, e) in rw (← same) (made_fit f.dir (asked_node Dir f n) node refl good m.may.info m.may.tree))
+
+    -- a task of S may make it in a directory that S sees
+    pub dir_may : (S : ℕ → Bool) → S t ≡ true → Seen S w f.dir → AllMay S w w (making_dir t f a)
+    dir_may S ours seen =
+        let new : NewTo S w n = later_new S w t a.0 a.0.made ours m.is_task (omega arith) in
+        entered_may w n a.1 node f.dir f.name S w ours new (f.dir, seen, m.home) (λ p e.
+        subst (SeenOrNew S w) (sym (made_parent f.dir (asked_node Dir f n) node refl p e)) (inl seen))
+
+  -- where S sees the entries of the directory above, all that is asked is the same
+  pub making_dir_same : {S : ℕ → Bool} {v w : World} → Agree S v w → S t ≡ true → Sees S v (BodyOf f.dir) → making_dir_asks w t f ≡ making_dir_asks v t f
+  making_dir_same a ours sees =
+      first_same _ _ _ _ (makes_same a f.dir f.name Dir sees) (λ u may.
+      first_same _ _ _ _ (on_same _ _ _ _ _ (same_tasks a t ours) (λ x e. refl)) (λ x room.
+      on_same _ _ _ _ _ (home_same a f.dir sees.0) (λ s e. refl)))
+
+  pub making_dir_plain : (w : World) → IsPlain (making_dir_asks w t f)
+  making_dir_plain w =
+      first_plain _ _ (makes_plain w f.dir f.name Dir) (λ u may.
+      first_plain _ _ (on_plain _ _ _ refl (λ x e. given_plain _ _ _ refl (λ room. ok_plain _))) (λ x room.
+      on_plain _ _ _ refl (λ s e. ok_plain _)))

@@ -1,0 +1,90 @@
+-- What is held of nodes agrees with the rights of tasks: one hold for each right.
+use Rattle.std.proofs.Common.{◌≡◌, ◌∙◌, ℕ, ◌+◌, Bool, true, false, List, [], ◌∷◌, ◌++◌, Option, Some, None, slice_get, nat_lt, sym, refl, ap, ap₂, subst, inl, inr, arith}
+use Rattle.std.specs.Prelude.{if◌then◌else◌}
+use Rattle.std.specs.List.{list_any}
+use Rattle.std.specs.FinMap.{get, retain_keys}
+use Rattle.hurd_creds.specs.declared.name.Name.{Name}
+use Rattle.hurd_creds.specs.Names.{same_name}
+use Rattle.hurd_creds.specs.NameMaps.{NameMap}
+use Rattle.hurd_creds.proofs.NameLaws.{same_name-itself, same_name-apart, same_or_apart, equal_if_same, same_map_by}
+use Rattle.hurd_trans_iface.specs.Nodes.{NodeMap}
+use Rattle.hurd_nodes.specs.Held.{is_held, less_one}
+use Rattle.hurd_nodes.specs.Shown.{NodeState, server_of, ServerInfo}
+use Rattle.hurd_nodes.specs.Settle.{stays, stays_with, settle}
+use Rattle.hurd_ports.specs.declared.table.Right.{Right}
+use Rattle.hurd_ports.specs.Tables.{Task, rights_of, right_in, names_node, is_named}
+use Rattle.hurd_ports.specs.Steps.{named, edit_at, edit_task, with_port, without_port}
+use Rattle.hurd_machine.specs.Sight.{one_if, count_list, count_rights}
+use Rattle.hurd_machine.proofs.Tasks.{count_edit, count_named, count_append}
+use Rattle.hurd_machine.proofs.Holders.{list_counted, named_counted}
+use Rattle.hurd_machine.proofs.Retained.{retain_alike}
+use Rattle.hurd_machine.proofs.Rights.{port_counted, count_dropped}
+use Rattle.hurd_core.specs.Core.{HoldsRights}
+
+-- to be the node of a right, read both ways
+pub one_turned : (n m : Name) → one_if (same_name n m) ≡ one_if (same_name m n)
+one_turned n m = elim (same_or_apart n m) [
+  | inl e ↦ rw e refl
+  | inr a ↦ ap one_if (same_name-apart n m a) ∙ sym (ap one_if (same_name-apart m n (λ e. a (sym e))))
+]
+
+-- what is held is what some right is on
+pub held_named : (hs : List Name) (ts : List Task) → HoldsRights hs ts → (n : Name) → is_held hs n ≡ is_named ts n
+held_named hs ts same n = list_counted (λ m. same_name n m) hs ∙ ap (λ k. nat_lt 0 k) (same n) ∙ sym (named_counted ts n)
+
+-- a port comes, and with it a hold
+pub holds_opened : (hs : List Name) (ts : List Task) → HoldsRights hs ts → (t : ℕ) (x : Task) (r : Right) → slice_get ts t ≡ Some x → HoldsRights (hs ++ r.node ∷ []) (edit_task t (with_port r) ts)
+holds_opened hs ts same t x r at n =
+    let tasks = count_edit (names_node n) t (with_port r) ts x at in
+    let table = port_counted (names_node n) r x in
+    let list = count_append (λ m. same_name n m) hs (r.node ∷ []) in
+    let old = same n in
+    let one = one_turned n r.node in
+    omega arith
+
+-- naming things is no hold
+pub holds_named : (hs : List Name) (ts : List Task) → HoldsRights hs ts → (t k : ℕ) (x : Task) → slice_get ts t ≡ Some x → HoldsRights hs (edit_task t (named k) ts)
+holds_named hs ts same t k x at n = same n ∙ sym (count_named (names_node n) t k ts x at)
+
+-- nor where there is no such task
+pub holds_given : (hs : List Name) (ts : List Task) → HoldsRights hs ts → (t k : ℕ) → HoldsRights hs (edit_task t (named k) ts)
+holds_given hs ts same t k = go (slice_get ts t) refl
+  where
+    go : (o : Option Task) → slice_get ts t ≡ o → HoldsRights hs (edit_task t (named k) ts)
+    go (Some x) at = holds_named hs ts same t k x at
+    go None at = subst (HoldsRights hs) (sym (ap (edit_at t (named k) ts) at)) same
+
+-- one hold less
+counted_less : (n m : Name) (hs : List Name) → is_held hs n ≡ true → count_list (λ k. same_name m k) (less_one n hs) + one_if (same_name m n) ≡ count_list (λ k. same_name m k) hs
+counted_less n m [] h = absurd (cc)
+counted_less n m (k ∷ hs) h = go (same_name n k) refl (counted_less n m hs)
+  where
+    go : (b : Bool) → same_name n k ≡ b → (is_held hs n ≡ true → count_list (λ k. same_name m k) (less_one n hs) + one_if (same_name m n) ≡ count_list (λ k. same_name m k) hs)
+        → count_list (λ k. same_name m k) (less_one n (k ∷ hs)) + one_if (same_name m n) ≡ count_list (λ k. same_name m k) (k ∷ hs)
+    go true e ih = let same : n ≡ k = equal_if_same n k e in rw (e, same) (omega arith)
+    go false e ih = let rest = ih (sym (ap (λ b. list_any (λ z. same_name n z) hs) e) ∙ rw e at h) in rw e (omega (arith, rest))
+
+-- a port goes, and with it a hold
+pub holds_dropped : (hs : List Name) (ts : List Task) → HoldsRights hs ts → (t p : ℕ) (x : Task) (r : Right) → slice_get ts t ≡ Some x → right_in p x.ports ≡ Some r
+    → is_named ts r.node ≡ true → HoldsRights (less_one r.node hs) (edit_task t (without_port p) ts)
+holds_dropped hs ts same t p x r at under on n =
+    let tasks = count_edit (names_node n) t (without_port p) ts x at in
+    let table = count_dropped (names_node n) p x r under in
+    let list = counted_less r.node n hs (held_named hs ts same r.node ∙ on) in
+    let old = same n in
+    let one = one_turned n r.node in
+    omega arith
+
+-- worlds of nodes settle alike where the same is held
+
+stays_alike : (f g : Name → Bool) → ((n : Name) → f n ≡ g n) → (h : NodeState) (n : Name) → stays f h n ≡ stays g h n
+stays_alike f g same h n = go (server_of h n)
+  where
+    go : (o : Option ServerInfo) → stays_with f h n o ≡ stays_with g h n o
+    go None = refl
+    go (Some i) = rw (same n) refl
+
+pub settle_alike : (f g : Name → Bool) → ((n : Name) → f n ≡ g n) → (h : NodeState) → settle f h ≡ settle g h
+settle_alike f g same h =
+    ap₂ (λ (m : NodeMap) (k : NameMap Name). let x : NodeState = record { nodes = m; homes = k; servers = h.servers } in x)
+    (retain_alike h.nodes (stays f h) (stays g h) (stays_alike f g same h)) (retain_alike h.homes (stays f h) (stays g h) (stays_alike f g same h))

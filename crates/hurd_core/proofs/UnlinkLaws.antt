@@ -1,0 +1,69 @@
+-- An entry taken out of a directory by the core is what the machine's changes make of the world.
+use Rattle.std.proofs.Common.{◌≡◌, ◌∙◌, Bool, true, false, List, [], ◌∷◌, Option, Some, None, ℕ, refl, sym, ap, ap₂}
+use Rattle.std.specs.Prelude.{Result, Ok, Err, if◌then◌else◌}
+use Rattle.hurd_creds.specs.declared.name.Name.{Name}
+use Rattle.hurd_creds.specs.declared.errno.Errno.{Errno}
+use Rattle.std.specs.FinMap.{get}
+use Rattle.hurd_trans_iface.specs.Nodes.{body_of, OnBody, OnHeader, unlinked, without_entry}
+use Rattle.hurd_trans_iface.specs.Answers.{entry_of, unlink_edits, edits_if}
+use Rattle.hurd_nodes.specs.Held as named_from
+use Rattle.hurd_nodes.specs.Settle as kept
+use Rattle.hurd_nodes.specs.Shown.{NodeState, are_kin, own_edits, with_edits, can_unlink, unlink_edits_at, unlink_at}
+use Rattle.hurd_ports.specs.Tables.{PortState, OpenMap, IsSettled, is_held, is_named}
+use Rattle.hurd_machine.specs.declared.call.Reply.TheVariants.{Done}
+use Rattle.hurd_machine.specs.World.{World, world_from}
+use Rattle.hurd_machine.specs.Change.{Settle, apply_all, changes_of, settle}
+use Rattle.hurd_machine.specs.Plan.{Plan, Follows, answered, told}
+use Rattle.hurd_machine.proofs.Coherence.{apply_all-append}
+use Rattle.hurd_machine.proofs.Retained.{retain_all}
+use Rattle.hurd_core.specs.Core.{HoldsRights, unlinking}
+use Rattle.hurd_core.proofs.HoldLaws.{held_named, settle_alike}
+
+module _ (N : NodeState) (H : PortState) (d : Name) (name : List ℕ) where
+  abbrev w : World
+  w = world_from N H
+
+  abbrev unlinks : Plan
+  unlinks = answered (can_unlink d name N) (λ u. record { reply = Done; changes = unlinking w d name })
+
+  -- the edits of nodes, as changes of the world
+  edited : (s : Option Name) (o : Option Name) → let es = own_edits s N.homes (unlink_edits d name o) in world_from (with_edits es N) H ≡ apply_all (changes_of es) w
+  edited s None = refl
+  edited s (Some n) = go (are_kin s (get N.homes d)) (are_kin s (get N.homes n))
+    where
+      go : (a b : Bool)
+          → let es = if a then OnBody d (without_entry name) ∷ (if b then OnHeader n unlinked ∷ [] else []) else (if b then OnHeader n unlinked ∷ [] else []) in
+          world_from (with_edits es N) H ≡ apply_all (changes_of es) w
+      go true true = refl
+      go true false = refl
+      go false true = refl
+      go false false = refl
+
+  -- refused, nothing changes
+  pub unlink-refused : (e : Errno) (M : NodeState) → (Err e, M) ≡ unlink_at d name N → Follows w unlinks (told (λ (u : Unit {0}). Done) (Err e)) (world_from M H)
+  unfolding answered
+  unlink-refused e M is = by (can_unlink d name N) is
+    where
+      by : (a : Result (Unit {0}) Errno) → ◌≡◌ {A = Result (Unit {0}) Errno × NodeState} (Err e, M) (a, with_edits (edits_if a (unlink_edits_at d name N)) N)
+          → Follows w (answered a (λ u. record { reply = Done; changes = unlinking w d name })) (told (λ (u : Unit {0}). Done) (Err e)) (world_from M H)
+      by (Ok u) h = let no : Err e ≡ Ok u = ap (λ (z : Result (Unit {0}) Errno × NodeState). z.0) h in absurd (cc (no))
+      by (Err f) h = (ap (λ (z : Result (Unit {0}) Errno × NodeState). told (λ (u : Unit {0}). Done) z.0) h, ap (λ (z : Result (Unit {0}) Errno × NodeState). world_from z.1 H) h)
+
+  -- with each open held, the world settles as its nodes do
+  pub settled_world : (hs : List Name) → HoldsRights hs H.tasks → IsSettled H → (M : NodeState) → world_from (kept.settle (named_from.is_held hs) M) H ≡ settle (world_from M H)
+  settled_world hs same held M =
+      ap₂ (λ (K : NodeState) (m : OpenMap). world_from K (record { opens = m; tasks = H.tasks }))
+      (settle_alike (named_from.is_held hs) (is_named H.tasks) (held_named hs H.tasks same) M) (sym (retain_all H.opens (is_held H.tasks) held))
+
+  pub unlink-follows : (hs : List Name) → HoldsRights hs H.tasks → IsSettled H → (u : Unit {0}) (M L : NodeState) → (Ok u, M) ≡ unlink_at d name N → L ≡ kept.settle (named_from.is_held hs) M
+      → Follows w unlinks Done (world_from L H)
+  unfolding answered
+  unlink-follows hs same held u M L is left = by (can_unlink d name N) is
+    where
+      by : (a : Result (Unit {0}) Errno) → ◌≡◌ {A = Result (Unit {0}) Errno × NodeState} (Ok u, M) (a, with_edits (edits_if a (unlink_edits_at d name N)) N)
+          → Follows w (answered a (λ u. record { reply = Done; changes = unlinking w d name })) Done (world_from L H)
+      by (Err f) h = let no : Ok u ≡ Err f = ap (λ (z : Result (Unit {0}) Errno × NodeState). z.0) h in absurd (cc (no))
+      by (Ok k) h =
+          let edits = unlink_edits_at d name N in
+          let shown : world_from M H ≡ apply_all (changes_of edits) w = ap (λ (z : Result (Unit {0}) Errno × NodeState). world_from z.1 H) h ∙ edited (get N.homes d) (entry_of name (body_of N.nodes d)) in
+          (refl, ap (λ (K : NodeState). world_from K H) left ∙ settled_world hs same held M ∙ ap settle shown ∙ sym (apply_all-append (changes_of edits) (Settle ∷ []) w))

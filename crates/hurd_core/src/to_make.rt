@@ -1,0 +1,62 @@
+//! Nodes that are to be made.
+ghost use Rattle.std.specs.Prelude.{◌≡◌};
+ghost use Rattle.hurd_core.specs.Core.{asked_nameless, asked_node};
+ghost use Rattle.hurd_core.specs.ToMake.{new_node_of};
+
+use hurd_creds::{Kind, Mode, NodeName};
+use hurd_trans_iface::NewNode;
+
+/// A node that is to be made: in which directory, under which name, and whose it is.
+#[derive(Clone, Copy, Debug)]
+pub struct NodeToMake<'a> {
+    pub dir: NodeName,
+    pub name: &'a [u8],
+    pub owner: u32,
+    pub group: u32,
+    pub mode: Mode,
+}
+
+impl NodeToMake<'_> {
+    /// The node as its server is asked for it, under this name of the node.
+    pub(crate) fn node(&self, kind: Kind, name: NodeName) -> NewNode
+        ensures { result ≡ asked_node kind (new_node_of self.now) name }
+    {
+        NewNode {
+            name,
+            kind,
+            owner: self.owner,
+            group: self.group,
+            mode: self.mode,
+        }
+    }
+}
+
+/// A file that no entry is to name: of which node's server it is to be, and whose it is.
+#[derive(Clone, Copy, Debug)]
+pub struct NamelessToMake {
+    pub dir: NodeName,
+    pub owner: u32,
+    pub group: u32,
+    pub mode: Mode,
+}
+
+impl NamelessToMake {
+    /// The file as its server is asked for it, under this name of the node.
+    pub(crate) fn node(&self, name: NodeName) -> NewNode
+        ensures { result ≡ asked_nameless self.now name }
+    {
+        let NamelessToMake {
+            owner,
+            group,
+            mode,
+            ..
+        } = *self;
+        NewNode {
+            name,
+            kind: Kind::File,
+            owner,
+            group,
+            mode,
+        }
+    }
+}

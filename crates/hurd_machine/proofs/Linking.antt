@@ -1,0 +1,133 @@
+-- Another name for a file, as a piece of any call.
+use Rattle.std.proofs.Common.{◌≡◌, ℕ, Bool, true, false, not, is_some, if◌then◌else◌, nat_lt, List, [], ◌∷◌, Option, Some, None, refl, sym, ap, ◌∙◌, ◌+◌, inl, true≢false, arith}
+use Rattle.std.specs.Prelude.{Result, Ok, Err}
+use Rattle.std.proofs.lemmas.Bool.Decides.{nat_tests}
+use Rattle.std.specs.FinMap.{get}
+use Rattle.hurd_creds.specs.declared.name.Name.{Name}
+use Rattle.hurd_creds.specs.declared.attrs.Want.{Want}
+use Rattle.hurd_creds.specs.declared.errno.Errno.{Errno}
+use Rattle.hurd_creds.specs.declared.errno.Errno.TheVariants.{EEXIST, EISDIR, ENOTDIR, EOVERFLOW, EROFS, EXDEV}
+use Rattle.hurd_creds.proofs.NameLaws.{equal_if_same}
+use Rattle.hurd_trans_iface.specs.Nodes.{Node, Header, is_dir, linked, with_entry}
+use Rattle.hurd_trans_iface.specs.Answers.{entry_of, is_tree, link_in, most_links}
+use Rattle.hurd_trans_iface.specs.Good.{GoodBehaviour}
+use Rattle.hurd_trans_iface.specs.Kinds.{ServerKind, behaviour_of}
+use Rattle.hurd_trans_iface.specs.Meaning.{root_of}
+use Rattle.hurd_nodes.specs.Shown.{ServerInfo, are_kin, link_by}
+use Rattle.hurd_machine.specs.World.{World, body_at, home_at, info_at, links_at}
+use Rattle.hurd_machine.specs.Sight.{Part, AttrOf, EmptyOf, BodyOf, Seen, Could, Owns, Allowed}
+use Rattle.hurd_machine.specs.Change.{Change, EditBody, EditHeader, apply}
+use Rattle.hurd_machine.specs.Sound.{Coherent}
+use Rattle.hurd_machine.proofs.Nodes.{header_in, body_in}
+use Rattle.hurd_machine.proofs.Coherence.{IsEntry, AllProper}
+use Rattle.hurd_machine.proofs.Settle.{Rests, KeepsEntered, rests_quiet}
+use Rattle.hurd_machine.proofs.Frame.{AllWithin}
+use Rattle.hurd_machine.proofs.Sizes.{KeepsSized, sized_append, sized_entry, sized_header}
+use Rattle.hurd_machine.proofs.Confine.{Less}
+use Rattle.hurd_machine.proofs.Several.{AllMay}
+use Rattle.hurd_machine.proofs.Permits.{entry_may}
+use Rattle.hurd_machine.proofs.Makes.{entry_proper}
+
+-- where a file may get another name: in a directory of a tree that has no such entry, of the file's own server
+pub record MayLink (w : World) (d : Name) (name : List ℕ) (n : Name) : Type 0 where
+  pub node : Node
+  pub is_node : get w.nodes d ≡ Some node
+  pub dir : is_dir node.header.kind ≡ true
+  pub file : Node
+  pub is_file : get w.nodes n ≡ Some file
+  pub no_dir : is_dir file.header.kind ≡ false
+  pub kin : home_at w n ≡ home_at w d
+  pub absent : entry_of name (body_at w d) ≡ None
+
+pub kin_are : (s q : Option Name) → are_kin s q ≡ true → q ≡ s
+kin_are None q h = absurd (cc)
+kin_are (Some s) None h = absurd (cc)
+kin_are (Some s) (Some q) h = ap Some (sym (equal_if_same s q h))
+
+first_tests : (dir grows : Bool) (r : Result (Unit {0}) Errno) (u : Unit {0}) → (if not dir then Err ENOTDIR else if not grows then Err EROFS else r) ≡ Ok u → (dir ≡ true) × (r ≡ Ok u)
+first_tests false grows r u h = absurd (cc)
+first_tests true false r u h = absurd (cc)
+first_tests true true r u h = (refl, h)
+
+last_tests : (kin dir : Bool) (o : Option Name) (free : Bool) (u : Unit {0})
+    → ◌≡◌ {A = Result (Unit {0}) Errno} (if not kin then Err EXDEV else if dir then Err EISDIR else if is_some o then Err EEXIST else if free then Ok tt else Err EOVERFLOW) (Ok u)
+    → (kin ≡ true) × (dir ≡ false) × (o ≡ None)
+last_tests false dir o free u h = absurd (cc)
+last_tests true true o free u h = absurd (cc)
+last_tests true false (Some n) free u h = absurd (cc)
+last_tests true false None free u h = (refl, refl, refl)
+
+pub may_link : (w : World) (d : Name) (name : List ℕ) (n : Name) (u : Unit {0}) → links_at w d name n ≡ Ok u → MayLink w d name n
+may_link w d name n u = go (info_at w d) (get w.nodes d) (get w.nodes n) refl refl
+  where
+    kin : Bool
+    kin = are_kin (home_at w d) (home_at w n)
+
+    go : (i : Option ServerInfo) (o p : Option Node) → get w.nodes d ≡ o → get w.nodes n ≡ p → link_by name kin i o p ≡ Ok u → MayLink w d name n
+    go None o p at_d at_n h = absurd (cc)
+    go (Some i) None p at_d at_n h = absurd (cc)
+    go (Some i) (Some x) None at_d at_n h = let l = first_tests (is_dir x.header.kind) (is_tree (root_of i.kind)) (link_in name kin x None) u h in absurd (cc (l.1))
+    go (Some i) (Some x) (Some y) at_d at_n h =
+        let l = first_tests (is_dir x.header.kind) (is_tree (root_of i.kind)) (link_in name kin x (Some y)) u h in
+        let k = last_tests kin (is_dir y.header.kind) (entry_of name (Some x.body)) (nat_lt y.header.links most_links) u l.1 in
+        record {
+          node = x;
+          is_node = at_d;
+          dir = l.0;
+          file = y;
+          is_file = at_n;
+          no_dir = k.1;
+          kin = kin_are (home_at w d) (home_at w n) k.0;
+          absent = ap (λ o. entry_of name (body_in o)) at_d ∙ k.2;
+        }
+
+-- what has a link more is entered if it was
+linked_entered : KeepsEntered linked
+linked_entered h = go (is_dir h.kind)
+  where
+    go : (b : Bool) → (if b then is_some h.parent else nat_lt 0 h.links) ≡ true → (if b then is_some h.parent else nat_lt 0 (h.links + 1)) ≡ true
+    go true e = e
+    go false e = grind (arith, nat_tests)
+
+module _ (d : Name) (name : List ℕ) (n : Name) where
+  abbrev added : List Change
+  added = EditBody d (with_entry name n) ∷ []
+
+  abbrev counted : List Change
+  counted = EditHeader n linked ∷ []
+
+  abbrev linking : List Change
+  linking = EditBody d (with_entry name n) ∷ EditHeader n linked ∷ []
+
+  pub link_within : (T : Part → Type 0) (w : World) → T (BodyOf d) → T (EmptyOf d) → T (AttrOf n) → AllWithin T w linking
+  link_within T w body empty attr = ((body, inl empty), (attr, tt))
+
+  pub link_rests : (w : World) → Rests w linking
+  link_rests w = rests_quiet linking w (tt, (linked_entered, tt))
+
+  pub link_sized : ((k : ServerKind) → GoodBehaviour (behaviour_of k)) → (w : World) → KeepsSized w linking
+  link_sized good w = sized_append added counted w (sized_entry good w d name n) (sized_header (apply (EditBody d (with_entry name n)) w) n linked (λ h. refl))
+
+  pub link_proper : (w : World) → Coherent w → MayLink w d name n → AllProper w linking
+  link_proper w c m = (entry_proper w c d name n m.absent new_entry, λ one. (λ h is. (refl, inl refl), λ two. tt))
+    where
+      new_entry : IsEntry w d n
+      new_entry = record {
+        made = c.given.nodes n m.file m.is_file;
+        kin = m.kin;
+        below = λ h eh dir.
+            let same : m.file.header ≡ h = cc (ap header_in m.is_file, eh) in
+            absurd (true≢false (sym (ap is_dir dir) ∙ ap (λ (k : Header). is_dir k.kind) (sym same) ∙ m.no_dir));
+      }
+
+  -- a link more shows nothing
+  linked_less : (S : ℕ → Bool) (v : World) (h : Header) → Less S v n (linked h) h
+  linked_less S v h = record { kind = refl; parent = λ p e. inl e; could = could }
+    where
+      could : (want : Want) → Could S v (linked h) want → Could S v h want
+      could want (Owns u has is) = Owns u has is
+      could want (Allowed ids taken may) = Allowed ids taken may
+
+  -- a task of S may name a node that S saw
+  pub link_may : (S : ℕ → Bool) (v x : World) → Seen S v n → AllMay S v x linking
+  link_may S v x seen = (entry_may S v x d name n (inl seen), (λ h at. linked_less S v h, tt))

@@ -1,0 +1,161 @@
+-- A file that no entry names, made and opened, as a piece of any call: it stays, since the new right names it.
+use Rattle.std.proofs.Common.{◌≡◌, ◌∙◌, ℕ, ◌+◌, Bool, true, false, cond, List, [], ◌∷◌, Some, None, sym, refl, ap, subst, inl, inr, arith}
+use Rattle.hurd_creds.specs.declared.name.Name.{Name}
+use Rattle.hurd_creds.specs.declared.open_flags.OpenFlags.{OpenFlags}
+use Rattle.hurd_creds.specs.Access.{IdSets}
+use Rattle.hurd_creds.proofs.NameLaws.{get_here, get_apart}
+use Rattle.hurd_trans_iface.specs.Nodes.{Node, IsShaped, is_dir}
+use Rattle.hurd_trans_iface.specs.Good.{IsSized}
+use Rattle.hurd_trans_iface.specs.Kinds.{behaviour_of}
+use Rattle.hurd_nodes.specs.Shown.{ServerInfo, info_in}
+use Rattle.hurd_nodes.specs.Settle.{is_entered_at}
+use Rattle.hurd_ports.specs.declared.table.Right.{Right}
+use Rattle.hurd_ports.specs.Tables.{Task, fresh, is_held, is_named}
+use Rattle.hurd_ports.specs.Steps.{named, with_port, new_open, new_right, edit_task}
+use Rattle.hurd_machine.specs.World.{World, nodes_of, task_at, header_at, home_at, server_at}
+use Rattle.hurd_machine.specs.Sight.{Part, OptionsOf, UsersOf, TaskOf, Sees, Taken}
+use Rattle.hurd_machine.specs.Change.{Change, MakeNode, stays, apply, apply_all, opening}
+use Rattle.hurd_machine.specs.Sound.{Below, Coherent, times_listed, Hangs}
+use Rattle.hurd_machine.proofs.Nodes.{header_in}
+use Rattle.hurd_machine.proofs.Tasks.{edit_here}
+use Rattle.hurd_machine.proofs.Holders.{held_by_right, held_still, named_still}
+use Rattle.hurd_machine.proofs.Stays.{kept_more, stays_named}
+use Rattle.hurd_machine.proofs.Rights.{port_keeps, port_has}
+use Rattle.hurd_machine.proofs.Coherence.{IsNext, HasNoEntries, AllProper, was, header_old, no_node, no_home, next_not, named_below}
+use Rattle.hurd_machine.proofs.Settle.{Rests}
+use Rattle.hurd_machine.proofs.Frame.{AllWithin, Full}
+use Rattle.hurd_machine.proofs.Sizes.{KeepsSized, sized_append, sized_made}
+use Rattle.hurd_machine.proofs.Links.{IsHung, Loosens, KeepsLinked, linked_append, loosened, loose_any, tied, named_grown, times_new}
+use Rattle.hurd_machine.proofs.Confine.{NewTo}
+use Rattle.hurd_machine.proofs.Several.{AllMay}
+use Rattle.hurd_machine.proofs.Permits as permits
+use Rattle.hurd_machine.proofs.Permits.{opens_may}
+use Rattle.hurd_machine.proofs.Opens.{own_task, fresh_new, fresh_next, later_new, opens_within, opens_proper, opens_sized, opens_linked}
+
+-- a node that is no directory, has no parent and no links
+pub record IsNameless (node : Node) : Type 0 where
+  pub shape : IsShaped node.header node.body
+  pub empty : HasNoEntries node.body
+  pub file : is_dir node.header.kind ≡ false
+  pub alone : node.header.parent ≡ None
+  pub links : node.header.links ≡ 0
+
+-- task t makes it, of this server, and opens it
+abbrev pub nameless : ℕ → Task → Name → Node → IdSets → OpenFlags → List Change
+nameless t x s node ids modes = MakeNode (fresh t x) s node ∷ opening t (named 1 x) (fresh t x) ids modes
+
+module _ (w : World) (t : ℕ) (x : Task) (is : task_at w t ≡ Some x) (s : Name) (i : ServerInfo) (server : server_at w s ≡ Some i) (node : Node) (lone : IsNameless node) (ids : IdSets) (modes : OpenFlags) where
+  abbrev n : Name
+  n = fresh t x
+
+  abbrev made : World
+  made = apply (MakeNode n s node) w
+
+  abbrev file_opened : List Change
+  file_opened = opening t (named 1 x) n ids modes
+
+  abbrev left : World
+  left = apply_all (nameless t x s node ids modes) w
+
+  seat : task_at made t ≡ Some (named 1 x)
+  seat = edit_here t (named 1) w.tasks x is
+
+  home : home_at made n ≡ Some s
+  home = get_here w.homes n s
+
+  header : header_at made n ≡ Some node.header
+  header = ap header_in (get_here w.nodes n node)
+
+  pub nameless_within : (T : Part → Type 0) → T (UsersOf s) → AllWithin (Full w t T) w (nameless t x s node ids modes)
+  nameless_within T users =
+      let new = fresh_new w t x is in
+      let own : Full w t T (TaskOf t) = own_task w t T in (
+        (own, inr (inr new), inr (inr new), inr (inr new)),
+        opens_within made t (named 1 x) seat n ids modes (Full w t T) own (inr (inr (later_new w t 1 x is))) (λ p on. let same : on.0 ≡ s = cc (on.1, home) in inl (rw (on.2, same) users)),
+      )
+
+  pub nameless_proper : Coherent w → AllProper w (nameless t x s node ids modes)
+  nameless_proper c = (
+    (next, record { info = i; is_server = server; shape = lone.shape; empty = lone.empty; parent = λ p e. absurd (cc (lone.alone, e)) }),
+    λ d. opens_proper made t (named 1 x) seat n ids modes d (named_below w c n next 1 n refl (omega arith)) (λ writes h e.
+        let same : node.header ≡ h = cc (header, e) in rw (← same) lone.file),
+  )
+    where
+      next : IsNext w n
+      next = fresh_next w t x is
+
+  -- no entry names it, and it has no link
+  abbrev IsLoose : Name → Type 0
+  IsLoose k = k ≡ n
+
+  made_linked : Coherent w → KeepsLinked w (MakeNode n s node ∷ [])
+  made_linked c l = tied (nodes_of made) n (loosened IsLoose (MakeNode n s node ∷ []) w (loose, tt) (loose_any IsLoose (nodes_of w) l)) hung
+    where
+      new : Below w n → ⊥
+      new = next_not w n (fresh_next w t x is)
+
+      loose : Loosens IsLoose w (MakeNode n s node)
+      loose = (refl, no_node c n new, no_home c n new, lone.empty)
+
+      unnamed : times_listed made.nodes n ≡ 0
+      unnamed = named_grown IsLoose w n s node loose n ∙ times_new w c n new
+
+      hung : IsHung (nodes_of made) n
+      hung k e =
+          let same : node.header ≡ k = cc (header, e) in
+          subst (Hangs (nodes_of made) n) same (record {
+            up = λ p ep. absurd (cc (lone.alone, ep));
+            top = λ root. lone.alone;
+            once = λ dir. omega (arith, unnamed);
+            links = λ tree. lone.links ∙ sym unnamed ∙ ap (λ b. cond b 1 (times_listed made.nodes n)) (sym lone.file);
+          })
+
+  pub nameless_linked : Coherent w → KeepsLinked w (nameless t x s node ids modes)
+  nameless_linked c = linked_append (MakeNode n s node ∷ []) file_opened w (made_linked c) (opens_linked made t (named 1 x) n ids modes)
+
+  pub nameless_sized : IsSized (behaviour_of i.kind) i.text node → KeepsSized w (nameless t x s node ids modes)
+  nameless_sized fit =
+      sized_append (MakeNode n s node ∷ []) file_opened w (sized_made w n s node (λ j e. let same : i ≡ j = cc (server, e) in rw (← same) fit))
+      (opens_sized made t (named 1 x) n ids modes)
+
+  -- the new right names the file, and holds the new open
+  abbrev right : Right
+  right = new_right t n ids (named 1 x)
+
+  now : task_at left t ≡ Some (with_port right (named 1 (named 1 x)))
+  now = edit_here t (with_port right) (edit_task t (named 1) made.tasks) (named 1 (named 1 x)) (edit_here t (named 1) made.tasks (named 1 x) seat)
+
+  named_yet : (m : Name) → is_named w.tasks m ≡ true → is_named left.tasks m ≡ true
+  named_yet m h =
+      named_still t (with_port right) (edit_task t (named 1) made.tasks) m (port_keeps right)
+      (named_still t (named 1) made.tasks m (λ y q k. k) (named_still t (named 1) w.tasks m (λ y q k. k) h))
+
+  held_yet : (o : Name) → is_held w.tasks o ≡ true → is_held left.tasks o ≡ true
+  held_yet o h =
+      held_still t (with_port right) (edit_task t (named 1) made.tasks) o (port_keeps right)
+      (held_still t (named 1) made.tasks o (λ y q k. k) (held_still t (named 1) w.tasks o (λ y q k. k) h))
+
+  file_stays : stays left n ≡ true
+  file_stays = stays_named left t (with_port right (named 1 (named 1 x))) right i now (port_has right (named 1 (named 1 x))) (ap (info_in w.servers) home ∙ server)
+
+  pub nameless_rests : Rests w (nameless t x s node ids modes)
+  nameless_rests rest = record {
+    nodes = λ m y e. elim (was w.nodes n m node y e) [
+      | inl new ↦ subst (λ k. stays left k ≡ true) (sym new.0) file_stays
+      | inr old ↦
+          kept_more (is_named w.tasks) (is_named left.tasks) (nodes_of w) (nodes_of left) m (ap (info_in w.servers) (get_apart w.homes n s m old.0))
+          (λ k. ap is_entered_at (get_apart w.nodes n node m old.0) ∙ k) (named_yet m) (rest.nodes m y old.1)
+    ];
+    opens = λ o z e. elim (was w.opens right.open_name o (new_open modes) z e) [
+      | inl new ↦ subst (λ k. is_held left.tasks k ≡ true) (sym new.0) (held_by_right left.tasks t (with_port right (named 1 (named 1 x))) right now (port_has right (named 1 (named 1 x))))
+      | inr old ↦ held_yet o (rest.opens o z old.1)
+    ];
+  }
+
+  -- a task of S may make it where S saw the server, and open it by ids that S holds
+  pub nameless_may : (S : ℕ → Bool) → Coherent w → S t ≡ true → Taken S w ids → Sees S w (OptionsOf s) → AllMay S w w (nameless t x s node ids modes)
+  nameless_may S c ours taken served =
+      let new : NewTo S w n = permits.later_new S w t x x.made ours is (omega arith) in (
+        (ours, served, λ p e. absurd (cc (lone.alone, e))),
+        opens_may S w made t (named 1 x) n ids modes ours (permits.later_new S w t x (x.made + 1) ours is (omega arith)) (inr new) (inr taken) (λ read h e. absurd (new.1 (header_old c n h e))),
+      )

@@ -1,0 +1,237 @@
+-- An entry goes to another directory, or gets another name, as a piece of any call: what it takes, and what it keeps.
+use Rattle.std.proofs.Common.{◌≡◌, ◌≢◌, ◌⊎◌, ◌∙◌, ℕ, ◌+◌, ◌≤◌, Bool, true, false, cond, if◌then◌else◌, List, [], ◌∷◌, Option, Some, None, sym, refl, ap, subst, inl, inr, arith}
+use Rattle.std.specs.Option.{option_map}
+use Rattle.std.specs.Str.{bytes_eq}
+use Rattle.std.specs.FinMap.{get}
+use Rattle.hurd_creds.specs.declared.name.Name.{Name}
+use Rattle.hurd_creds.specs.declared.attrs.Kind.TheVariants.{Dir}
+use Rattle.hurd_creds.specs.declared.attrs.Want.{Want}
+use Rattle.hurd_creds.proofs.NameLaws.{same_or_apart, edit_apart}
+use Rattle.hurd_trans_iface.specs.Nodes.{Node, Entry, Header, Body, Content, Listing, is_dir, moved_to, with_header, with_body, with_entry, less_entry, without_entry}
+use Rattle.hurd_trans_iface.specs.Answers.{entry_in, entry_of}
+use Rattle.hurd_trans_iface.specs.Good.{GoodBehaviour}
+use Rattle.hurd_trans_iface.specs.Kinds.{ServerKind, behaviour_of}
+use Rattle.hurd_machine.specs.World.{World, nodes_of, header_at, body_at, home_at, lists_at}
+use Rattle.hurd_machine.specs.Sight.{Part, AttrOf, EmptyOf, BodyOf, Seen, Sees, Could, Owns, Allowed}
+use Rattle.hurd_machine.specs.Change.{Change, EditHeader, EditBody, Settle, apply, apply_all}
+use Rattle.hurd_machine.specs.Sound.{Below, AreDistinct, HasDistinctNames, Coherent, Linked, LeadsUp}
+use Rattle.hurd_machine.proofs.Nodes.{header_in, body_in, edit_keeps, edit_reads, header-with_header, header-with_body, body-with_header, body-with_body}
+use Rattle.hurd_machine.proofs.Listed.{dir_kind}
+use Rattle.hurd_machine.proofs.Coherence.{IsEntry, MayMove, Proper, AllProper, coherent_all, entry_lists, header_old, entry_old}
+use Rattle.hurd_machine.proofs.Settle.{Rests, rests_settle}
+use Rattle.hurd_machine.proofs.Frame.{AllWithin}
+use Rattle.hurd_machine.proofs.Sizes.{KeepsSized, sized_append, sized_header, sized_entry, sized_removed, sized_settle}
+use Rattle.hurd_machine.proofs.Confine.{SeenOrNew, Known, Less}
+use Rattle.hurd_machine.proofs.Several.{AllMay}
+use Rattle.hurd_machine.proofs.Permits.{entry_may}
+use Rattle.hurd_machine.proofs.Makes.{entry_proper}
+use Rattle.hurd_machine.proofs.Links.{KeepsLinked, linked_settle}
+use Rattle.hurd_machine.proofs.Removals.{same_exact, none_before, entry_of_before, lists_before, times_taken, times_others, cut_proper, cut_unlisted}
+use Rattle.hurd_machine.proofs.Moves.{LeadsAround, Gets, TakesOne, node_of_body, moved_linked}
+
+-- a body without an entry has no entry more
+pub none_without : (name other : List ℕ) (o : Option Body) → entry_of other o ≡ None → entry_of other (option_map (without_entry name) o) ≡ None
+none_without name other None h = h
+none_without name other (Some (Content bs)) h = h
+none_without name other (Some (Listing es)) h = none_before name other es h
+
+-- the entry of a name is gone once it is taken out, and another's is still there
+
+none_after : (name : List ℕ) (es : List Entry) → AreDistinct es → entry_in name (less_entry name es) ≡ None
+none_after name [] d = refl
+none_after name (e ∷ es) d = go (bytes_eq e.name name) refl (none_after name es d.1)
+  where
+    go : (a : Bool) → bytes_eq e.name name ≡ a → entry_in name (less_entry name es) ≡ None → entry_in name (if a then es else e ∷ less_entry name es) ≡ None
+    go true ea ih = subst (λ z. entry_in z es ≡ None) (same_exact e.name name ea) d.0
+    go false ea ih = rw ea ih
+
+pub taken_none : (name : List ℕ) (o : Option Body) → ((b : Body) → o ≡ Some b → HasDistinctNames b) → entry_of name (option_map (without_entry name) o) ≡ None
+taken_none name None d = refl
+taken_none name (Some (Content bs)) d = refl
+taken_none name (Some (Listing es)) d = none_after name es (d (Listing es) refl)
+
+other_after : (name new : List ℕ) (n m : Name) → n ≢ m → (es : List Entry) → entry_in name es ≡ Some n → entry_in new es ≡ Some m → entry_in name (less_entry new es) ≡ Some n
+other_after name new n m apart [] = λ h k. absurd (cc (h))
+other_after name new n m apart (e ∷ es) = go (bytes_eq e.name new) (bytes_eq e.name name) refl (other_after name new n m apart es)
+  where
+    go : (a b : Bool) → bytes_eq e.name name ≡ b → (entry_in name es ≡ Some n → entry_in new es ≡ Some m → entry_in name (less_entry new es) ≡ Some n)
+        → cond b (Some e.node) (entry_in name es) ≡ Some n → cond a (Some e.node) (entry_in new es) ≡ Some m → entry_in name (if a then es else e ∷ less_entry new es) ≡ Some n
+    go true true eb ih h k = let same : n ≡ m = cc (h, k) in absurd (apart same)
+    go true false eb ih h k = h
+    go false true eb ih h k = rw eb h
+    go false false eb ih h k = rw eb (ih h k)
+
+pub taken_other : (name new : List ℕ) (n m : Name) → n ≢ m → (o : Option Body) → entry_of name o ≡ Some n → entry_of new o ≡ Some m → entry_of name (option_map (without_entry new) o) ≡ Some n
+taken_other name new n m apart None h k = h
+taken_other name new n m apart (Some (Content bs)) h k = h
+taken_other name new n m apart (Some (Listing es)) h k = other_after name new n m apart es h k
+
+-- an entry of d, for the node n, may go to the directory e under a new name: e is of the same server, leads up around n if that is a directory, and has no such entry
+pub record MayGo (w : World) (d : Name) (name : List ℕ) (n e : Name) (new : List ℕ) : Type 0 where
+  pub dir : Node
+  pub is_dir : get w.nodes d ≡ Some dir
+  pub entry : entry_of name (Some dir.body) ≡ Some n
+  pub header : Header
+  pub is_header : header_at w n ≡ Some header
+  pub target : Node
+  pub is_target : get w.nodes e ≡ Some target
+  pub entries : List Entry
+  pub listing : target.body ≡ Listing entries
+  pub kin : home_at w d ≡ home_at w e
+  pub absent : entry_of new (body_at w e) ≡ None
+  pub up : LeadsUp (nodes_of w) e
+  pub around : header.kind ≡ Dir → LeadsAround (nodes_of w) n e
+
+entry_node : (name : List ℕ) (n : Name) (o : Option Node) → entry_of name (body_in o) ≡ Some n → (x : Node) × (o ≡ Some x) × (entry_of name (Some x.body) ≡ Some n)
+entry_node name n None h = absurd (cc)
+entry_node name n (Some x) h = (x, refl, h)
+
+-- from what is read of the two directories
+pub may_go : (w : World) (d : Name) (name : List ℕ) (n e : Name) (new : List ℕ) (k : Header) (es : List Entry) → entry_of name (body_at w d) ≡ Some n → header_at w n ≡ Some k → body_at w e ≡ Some (Listing es)
+    → home_at w d ≡ home_at w e → entry_of new (body_at w e) ≡ None → LeadsUp (nodes_of w) e → (k.kind ≡ Dir → LeadsAround (nodes_of w) n e) → MayGo w d name n e new
+may_go w d name n e new k es entry is body kin absent up around =
+    let x = entry_node name n (get w.nodes d) entry in
+    let y = node_of_body (get w.nodes e) (Listing es) body in
+    record {
+      dir = x.0;
+      is_dir = x.1;
+      entry = x.2;
+      header = k;
+      is_header = is;
+      target = y.0;
+      is_target = y.1;
+      entries = es;
+      listing = y.2;
+      kin = kin;
+      absent = absent;
+      up = up;
+      around = around;
+    }
+
+module _ (d : Name) (name : List ℕ) (n e : Name) (new : List ℕ) where
+  abbrev pub going : List Change
+  going = EditBody d (without_entry name) ∷ EditHeader n (moved_to e) ∷ EditBody e (with_entry new n) ∷ []
+
+  abbrev pub gone : List Change
+  gone = EditBody d (without_entry name) ∷ EditHeader n (moved_to e) ∷ EditBody e (with_entry new n) ∷ Settle ∷ []
+
+  pub gone_within : (T : Part → Type 0) (w : World) → T (BodyOf d) → T (EmptyOf d) → T (AttrOf n) → T (BodyOf e) → T (EmptyOf e) → AllWithin T w gone
+  gone_within T w body empty attr to to_empty = ((body, inl empty), (attr, ((to, inl to_empty), (tt, tt))))
+
+  pub gone_rests : (w : World) → Rests w gone
+  gone_rests w = rests_settle going w
+
+  pub gone_sized : ((k : ServerKind) → GoodBehaviour (behaviour_of k)) → (w : World) → KeepsSized w gone
+  gone_sized good w =
+      let cut : World = apply (EditBody d (without_entry name)) w in
+      let turned : World = apply (EditHeader n (moved_to e)) cut in
+      sized_append (EditBody d (without_entry name) ∷ []) (EditHeader n (moved_to e) ∷ EditBody e (with_entry new n) ∷ Settle ∷ []) w (sized_removed good w d name)
+      (sized_append (EditHeader n (moved_to e) ∷ []) (EditBody e (with_entry new n) ∷ Settle ∷ []) cut (sized_header cut n (moved_to e) (λ h. refl))
+      (sized_append (EditBody e (with_entry new n) ∷ []) (Settle ∷ []) turned (sized_entry good turned e new n) (sized_settle (apply (EditBody e (with_entry new n)) turned))))
+
+  -- a task of S may move what S sees to a directory that S sees, out of one whose entries S sees; of a directory S knows whether it is empty
+  pub gone_may : (S : ℕ → Bool) (v x : World) → Sees S v (BodyOf d) → ((b : Body) → body_at x d ≡ Some b → HasDistinctNames b) → Seen S v n → Seen S v e
+      → ((h : Header) → header_at x n ≡ Some h → is_dir h.kind ≡ true → Sees S v (EmptyOf n)) → AllMay S v x gone
+  gone_may S v x body distinct seen to known = (
+    (inr (inl body), λ b other m is h. inl (entry_of_before name other m b (distinct b is) h)),
+    ((λ h at. turned_less h (λ dir. known h (sym (edit_keeps header_in (with_body (without_entry name)) (header-with_body (without_entry name)) x.nodes d n) ∙ at) dir)), (entry_may S v turned e new n (inl seen), tt)),
+  )
+    where
+      turned : World
+      turned = apply (EditHeader n (moved_to e)) (apply (EditBody d (without_entry name)) x)
+
+      turned_less : (h : Header) → (is_dir h.kind ≡ true → Sees S v (EmptyOf n)) → Less S v n (moved_to e h) h
+      turned_less h empty = record { kind = refl; parent = λ p is. by (is_dir h.kind) refl p is; could = could }
+        where
+          by : (b : Bool) → is_dir h.kind ≡ b → (p : Name) → (if b then Some e else h.parent) ≡ Some p → (h.parent ≡ Some p) ⊎ (SeenOrNew S v p × Known S v (EmptyOf n))
+          by true eb p is = let same : e ≡ p = cc in inr (inl (subst (Seen S v) same to), inl (empty eb))
+          by false eb p is = inl is
+
+          could : (want : Want) → Could S v (moved_to e h) want → Could S v h want
+          could want (Owns u has is) = Owns u has is
+          could want (Allowed ids taken may) = Allowed ids taken may
+
+  module _ (w : World) (c : Coherent w) (m : MayGo w d name n e new) where
+    abbrev cut : World
+    cut = apply (EditBody d (without_entry name)) w
+
+    abbrev turned : World
+    turned = apply (EditHeader n (moved_to e)) cut
+
+    abbrev pub arrived : World
+    arrived = apply (EditBody e (with_entry new n)) turned
+
+    here : lists_at n (body_at w d) ≡ true
+    here = entry_lists name (body_at w d) n (ap (λ (o : Option Node). entry_of name (body_in o)) m.is_dir ∙ m.entry)
+
+    header_cut : header_at cut n ≡ Some m.header
+    header_cut = edit_keeps header_in (with_body (without_entry name)) (header-with_body (without_entry name)) w.nodes d n ∙ m.is_header
+
+    header_turned : header_at turned n ≡ Some (moved_to e m.header)
+    header_turned = edit_reads header_in (option_map (moved_to e)) (with_header (moved_to e)) (header-with_header (moved_to e)) cut.nodes n ∙ ap (option_map (moved_to e)) header_cut
+
+    -- a directory gets its new parent while it is no entry
+    may_turn : Linked (nodes_of w) → (b : Bool) → is_dir m.header.kind ≡ b → MayMove cut cut.nodes n (if b then Some e else m.header.parent) m.header.parent
+    may_turn l false dir = inl refl
+    may_turn l true dir =
+        let once = (l.nodes n m.header m.is_header).once (dir_kind m.header.kind dir) in
+        inr (cut_unlisted w d name n m.dir m.is_dir m.entry once, λ p is. let same : e ≡ p = cc in subst (Below cut) same (c.given.nodes e m.target m.is_target))
+
+    turn_proper : Linked (nodes_of w) → Proper cut (EditHeader n (moved_to e))
+    turn_proper l h is =
+        let same : m.header ≡ h = cc (header_cut, is) in
+        subst (λ (k : Header). ((moved_to e k).kind ≡ k.kind) × MayMove cut cut.nodes n (moved_to e k).parent k.parent) same (refl, may_turn l (is_dir m.header.kind) refl)
+
+    absent_still : entry_of new (body_at turned e) ≡ None
+    absent_still =
+        ap (entry_of new) (edit_keeps body_in (with_header (moved_to e)) (body-with_header (moved_to e)) cut.nodes n e)
+        ∙ elim (same_or_apart e d) [
+          | inl same ↦
+              rw same (ap (entry_of new) (edit_reads body_in (option_map (without_entry name)) (with_body (without_entry name)) (body-with_body (without_entry name)) w.nodes d))
+              ∙ none_without name new (body_at w e) m.absent
+          | inr apart ↦ ap (λ o. entry_of new (body_in o)) (edit_apart w.nodes d (with_body (without_entry name)) e apart) ∙ m.absent
+        ]
+
+    new_entry : IsEntry turned e n
+    new_entry = record {
+      made = header_old c n m.header m.is_header;
+      kin = c.tree.kin d n here ∙ m.kin;
+      below = λ h is dir.
+          let same : moved_to e m.header ≡ h = cc (header_turned, is) in
+          let kind : m.header.kind ≡ Dir = ap (λ (k : Header). k.kind) same ∙ dir in
+          ap (λ (k : Header). k.parent) (sym same) ∙ ap (λ k. if is_dir k then Some e else m.header.parent) kind;
+    }
+
+    going_proper : Linked (nodes_of w) → AllProper w going
+    going_proper l = (cut_proper w c d name, λ one. (turn_proper l, λ two. (entry_proper turned two e new n absent_still new_entry, λ three. tt)))
+
+    -- the directory that it leaves has entries, and one less
+    taken_once : TakesOne n m.dir.body (without_entry name m.dir.body)
+    taken_once = record {
+      others = λ k apart. times_others name n k m.dir.body apart m.entry;
+      one = times_taken name n m.dir.body m.entry;
+      fewer = λ k h. lists_before name k m.dir.body h;
+      listing = listed m.dir.body m.entry;
+    }
+      where
+        listed : (b : Body) → entry_of name (Some b) ≡ Some n → (es : List Entry) × (without_entry name b ≡ Listing es)
+        listed (Content bs) h = absurd (cc)
+        listed (Listing es) h = (less_entry name es, refl)
+
+    gets : Gets w d e n m.header (moved_to e m.header)
+    gets = record { kind = refl; links = refl; below = λ dir. c.tree.below d n m.header here m.is_header dir; how = by (is_dir m.header.kind) refl }
+      where
+        by : (b : Bool) → is_dir m.header.kind ≡ b
+            → ((is_dir m.header.kind ≡ false) × ((if b then Some e else m.header.parent) ≡ m.header.parent)) ⊎ ((m.header.kind ≡ Dir) × ((if b then Some e else m.header.parent) ≡ Some e) × LeadsAround (nodes_of w) n e)
+        by true dir = let kind = dir_kind m.header.kind dir in inr (kind, refl, m.around kind)
+        by false file = inl (file, refl)
+
+    arrived_linked : Linked (nodes_of w) → Linked (nodes_of arrived)
+    arrived_linked l =
+        moved_linked w d e n (without_entry name) (moved_to e) new m.dir m.target m.header m.is_dir m.is_target m.is_header taken_once gets m.up m.entries m.listing l
+
+    pub gone_proper : Linked (nodes_of w) → AllProper w gone
+    gone_proper l = (cut_proper w c d name, λ one. (turn_proper l, λ two. (entry_proper turned two e new n absent_still new_entry, λ three. (arrived_linked l, λ four. tt))))
+
+    pub gone_linked : KeepsLinked w gone
+    gone_linked l = linked_settle arrived (coherent_all going w c (going_proper l)) (arrived_linked l)

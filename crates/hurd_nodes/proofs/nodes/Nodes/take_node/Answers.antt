@@ -1,0 +1,17 @@
+use Rattle.std.proofs.Common.{◌≡◌, ap, ap₂, ◌∙◌}
+use Rattle.std.specs.FinMap as fin
+use Rattle.hurd_nodes.specs.Held.{Held, homes_of, mean, seats_of}
+use Rattle.hurd_nodes.specs.Shown.{flat, forgotten}
+use Rattle.hurd_nodes.proofs.TakeLaws.{flat-taken}
+use Rattle.hurd_nodes.proofs.nodes.Nodes.take_node.Goals as goal
+
+pub returns-clause-shown : goal.returns-clause-shown
+returns-clause-shown g c =
+    let f = g.S.Server.meaning in
+    let n = c.args.node in
+    let old = c.args.self.now in
+    let homes : homes_of c.remove_home.new.homes.items ≡ fin.remove old.homes n =
+    c.remove_home.ensures ∙ ap (λ (t : Held _). fin.remove t.homes n) c.self.view_is ∙ ap (λ (t : Held _). fin.remove t.homes n) c.forget.ensures.others in
+    let boxes : mean f (seats_of c.self.inside.seats.items) ≡ forgotten n (fin.get old.homes n) (mean f old.seats) =
+    ap (λ (t : Held _). mean f t.seats) c.self.view_is ∙ c.forget.ensures.boxes in
+    ap₂ flat homes boxes ∙ flat-taken old.homes (mean f old.seats) n

@@ -1,0 +1,128 @@
+-- What the core holds: which server serves each node, the servers as boxes, and the nodes that are named from outside.
+use Rattle.std.specs.Prelude.{Bool, List, [], ◌∷◌, if◌then◌else◌, Option, Some, None, ℕ, nat_lt, vec_len, vec_capacity, refl}
+use Rattle.std.specs.Option.{option_map}
+use Rattle.std.specs.Global.{Vec}
+use Rattle.std.specs.List.{list_any}
+use Rattle.std.specs.FinMap as fin
+use Rattle.std.specs.Coded.{Coded, code_by, coded×, coded_list, coded_bool}
+use Rattle.hurd_creds.specs.declared.name.Name.{Name}
+use Rattle.hurd_creds.specs.Access.{IdSets, coded_ids}
+use Rattle.hurd_creds.specs.Names.{coded_name, same_name}
+use Rattle.hurd_creds.specs.NameMaps.{NameMap, keyed, map_values, place_by}
+use Rattle.hurd_nodes.specs.declared.seat.Seat.{Seat}
+use Rattle.hurd_nodes.specs.declared.seat.Home.{Home}
+
+-- a server in its place: its box, the name of its root, and its ids
+pub record Seated (S : Type 0) : Type 0 where
+  pub server : S
+  pub root : Name
+  pub ids : IdSets
+
+-- of each node its server; the servers; a node's name once for each time that it is named from outside; and whether
+-- there is room in memory for one such naming more
+pub record Held (S : Type 0) : Type 0 where
+  pub homes : NameMap Name
+  pub seats : NameMap (Seated S)
+  pub holds : List Name
+  pub ready : Bool
+
+abbrev pub coded_seated : {S : Type 0} → Coded S → Coded (Seated S)
+coded_seated {S} c =
+    code_by (S × (Name × IdSets)) (coded× c (coded× coded_name coded_ids)) (λ e. (e.server, (e.root, e.ids)))
+    (λ p. record { server = p.0; root = p.1.0; ids = p.1.1 }) (λ _. refl)
+
+abbrev pub coded_held : {S : Type 0} → Coded S → Coded (Held S)
+coded_held {S} c =
+    code_by (NameMap Name × (NameMap (Seated S) × (List Name × Bool)))
+    (coded× (fin.code coded_name coded_name) (coded× (fin.code coded_name (coded_seated c)) (coded× (coded_list coded_name) coded_bool)))
+    (λ h. (h.homes, (h.seats, (h.holds, h.ready)))) (λ p. record { homes = p.0; seats = p.1.0; holds = p.1.1.0; ready = p.1.1.1 }) (λ _. refl)
+
+-- the lists of the code as maps
+
+abbrev pub home_key : Home → Name
+home_key h = h.node
+
+abbrev pub home_value : Home → Name
+home_value h = h.server
+
+unfoldable pub homes_of : List Home → NameMap Name
+homes_of hs = keyed home_key home_value hs
+
+abbrev pub seat_key : {S : Type 0} → Seat S → Name
+seat_key s = s.name
+
+abbrev pub seat_value : {S : Type 0} → Seat S → Seated S
+seat_value s = record { server = s.server; root = s.root; ids = s.ids }
+
+unfoldable pub seats_of : {S : Type 0} → List (Seat S) → NameMap (Seated S)
+seats_of ss = keyed seat_key seat_value ss
+
+-- whether a vector has room for one item more
+abbrev pub has_room : Vec Name → Bool
+has_room v = nat_lt (vec_len v) (vec_capacity v)
+
+abbrev pub held_of : {S : Type 0} → List Home → List (Seat S) → List Name → Bool → Held S
+held_of homes seats holds ready = record { homes = homes_of homes; seats = seats_of seats; holds = holds; ready = ready }
+
+-- each box as what it means
+
+abbrev pub mean_seat : {A B : Type 0} → (A → B) → Seated A → Seated B
+mean_seat f e = record { server = f e.server; root = e.root; ids = e.ids }
+
+unfoldable pub mean : {A B : Type 0} → (A → B) → NameMap (Seated A) → NameMap (Seated B)
+mean f seats = map_values (mean_seat f) seats
+
+-- the box of a name
+abbrev pub box_at : {S : Type 0} → NameMap (Seated S) → Name → Option S
+box_at seats s = option_map (λ e. e.server) (fin.get seats s)
+
+-- the box of a node's server
+abbrev pub box_by : {S : Type 0} → NameMap (Seated S) → Option Name → Option S
+box_by seats None = None
+box_by seats (Some s) = box_at seats s
+
+-- the place of a node's server
+abbrev pub place_in : {S : Type 0} → List (Seat S) → Option Name → Option ℕ
+place_in ss None = None
+place_in ss (Some s) = place_by seat_key s ss
+
+-- a box in the place of another
+
+abbrev pub with_box : {S : Type 0} → Seated S → S → Seated S
+with_box e s = record e { server = s }
+
+abbrev pub put_box : {S : Type 0} → NameMap (Seated S) → Name → S → Option (Seated S) → NameMap (Seated S)
+put_box seats n s None = seats
+put_box seats n s (Some e) = fin.insert seats n (with_box e s)
+
+abbrev pub put_by : {S : Type 0} → NameMap (Seated S) → Option Name → S → NameMap (Seated S)
+put_by seats None w = seats
+put_by seats (Some s) w = put_box seats s w (fin.get seats s)
+
+abbrev pub with_seats : {S : Type 0} → Held S → NameMap (Seated S) → Held S
+with_seats h seats = record h { seats = seats }
+
+-- with this box in the place of the one that serves a node
+abbrev pub with_server_of : {S : Type 0} → Held S → Name → S → Held S
+with_server_of h n w = with_seats h (put_by h.seats (fin.get h.homes n) w)
+
+abbrev pub without_home : {S : Type 0} → Held S → Name → Held S
+without_home h n = record h { homes = fin.remove h.homes n }
+
+-- namings from outside
+
+abbrev pub with_holds : {S : Type 0} → Held S → List Name → Bool → Held S
+with_holds h holds ready = record h { holds = holds; ready = ready }
+
+-- whether a node is named from outside
+abbrev pub is_held : List Name → Name → Bool
+is_held holds n = list_any (λ m. same_name n m) holds
+
+-- without one naming of a node
+abbrev pub less_one : Name → List Name → List Name
+less_one n [] = []
+less_one n (m ∷ ms) = if same_name n m then ms else m ∷ less_one n ms
+
+-- the namings, and whether there is room for one more
+abbrev pub holds_of : {S : Type 0} → Held S → List Name × Bool
+holds_of h = (h.holds, h.ready)
