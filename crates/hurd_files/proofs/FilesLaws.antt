@@ -10,17 +10,16 @@ use Rattle.hurd_machine.specs.declared.call.Reply.TheVariants.{Done}
 use Rattle.hurd_machine.specs.World.{World, asked_at}
 use Rattle.hurd_machine.specs.Handle.{handle_asks}
 use Rattle.hurd_machine.specs.Sight.{Seen}
-use Rattle.hurd_machine.specs.Touched.{OnDid, Nothing}
-use Rattle.hurd_machine.proofs.Frame.{Full, AllWithin}
+use Rattle.hurd_machine.specs.Touched.{OnDid}
+use Rattle.hurd_machine.proofs.Frame.{Full}
 use Rattle.hurd_machine.proofs.Sizes.{did_sized}
 use Rattle.hurd_machine.proofs.Permits.{did_may}
-use Rattle.hurd_machine.proofs.Edits.{did_within, did_proper, did_rests}
-use Rattle.hurd_machine.proofs.Asks.{first_same, answered_same, first_ok, first_plain, ok_plain, answered_plain, done_plain, handle_same, handle_seen, handle_plain, asked_same, asked_plain, IsPlain, answered_all, given_same, given_plain, err_plain, handle_read}
-use Rattle.hurd_machine.proofs.CallLaws.{CallLaws, answered_within, answered_proper, answered_sized, answered_rests, answered_may}
+use Rattle.hurd_machine.proofs.Edits.{did_within, did_proper, did_rests, did_linked}
+use Rattle.hurd_machine.proofs.Asks.{first_same, answered_same, first_ok, first_plain, ok_plain, answered_plain, done_plain, handle_same, handle_seen, handle_plain, asked_same, asked_plain, port_same, port_plain, IsPlain, given_same, given_plain, err_plain, handle_read, answered_all}
+use Rattle.hurd_machine.proofs.CallLaws.{CallLaws, looking_laws, answered_within, answered_proper, answered_sized, answered_rests, answered_may, answered_linked}
 use Rattle.hurd_files.specs.Files.{set_size_asks, plan_set_size, touches_set_size, readdir_asks, plan_readdir, touches_readdir}
 use Rattle.hurd_trans_iface.specs.Nodes.{Body, Content, Listing}
 use Rattle.hurd_trans_iface.specs.Answers.{names_of}
-use Rattle.hurd_machine.specs.Plan.{Plan}
 use Rattle.hurd_machine.proofs.Views.{body_same}
 
 -- file_set_size: it asks of a node that the caller has open to write, and is told nothing of its body.
@@ -33,7 +32,8 @@ pub set_size_laws : (t p size : ℕ) → CallLaws t (λ w. plan_set_size w t p s
 set_size_laws t p size = record {
   fits = λ w c. answered_within w t (set_size_asks w t p) _ _ (λ n is. answered_within w t (asked_at (resizing size) n w) _ _ (λ d told.
       did_within (Full w t (OnDid n d)) w n d (λ q on. inl on)));
-  proper = λ w c. answered_proper w _ _ (λ n is. answered_proper w _ _ (λ d told. did_proper w c n d));
+  proper = λ w s. answered_proper w _ _ (λ n is. answered_proper w _ _ (λ d told. did_proper w s.coherent n d));
+  linked = λ w s. answered_linked w _ _ s.linked (λ n is. answered_linked w _ _ s.linked (λ d told. did_linked w n d s.linked));
   sized = λ w s. answered_sized w _ _ s.sizes (λ n is. answered_sized w _ _ s.sizes (λ d told.
       did_sized (resizing size) (λ k. (good k).set_size_sizes size) w s.coherent n d told s.sizes));
   rests = λ w s. answered_rests w _ _ s.settled (λ n is. answered_rests w _ _ s.settled (λ d told. did_rests w n d s.settled));
@@ -54,13 +54,8 @@ names_plain (Some (Content bs)) = err_plain _ refl
 names_plain (Some (Listing es)) = ok_plain _
 
 pub readdir_laws : (t p : ℕ) → CallLaws t (λ w. plan_readdir w t p) (λ w. touches_readdir w t p)
-readdir_laws t p = record {
-  fits = λ w c. answered_all (λ (P : Plan). AllWithin (Full w t Nothing) w P.changes) (λ e. tt) (readdir_asks w t p) _ (λ names is. tt);
-  proper = λ w c. answered_proper w _ _ (λ names is. tt);
-  sized = λ w s. answered_sized w _ _ s.sizes (λ names is. s.sizes);
-  rests = λ w s. answered_rests w _ _ s.settled (λ names is. s.settled);
-  may = λ S v c ours. answered_may v _ _ S v (λ names is. tt);
-  same = λ S v w c a ours. answered_same _ _ _ _ (first_same _ _ _ _ (handle_same a t ours p READ) (λ h is. given_same _ _ _ _ _ refl (λ dir.
-      ap names_of (body_same a h.node (handle_read t ours p h is))))) (λ names is. refl);
-  plain = λ w. answered_plain _ _ (first_plain _ _ (handle_plain w t p READ) (λ h is. given_plain _ _ _ refl (λ dir. names_plain _))) (λ names is. done_plain _ refl);
-}
+readdir_laws t p = looking_laws t (λ w. readdir_asks w t p) _
+    (λ S v w a ours. first_same _ _ _ _ (handle_same a t ours p READ) (λ h is. given_same _ _ _ _ _ refl (λ dir.
+    ap names_of (body_same a h.node (handle_read t ours p h is)))))
+    (λ w. first_plain _ _ (handle_plain w t p READ) (λ h is. given_plain _ _ _ refl (λ dir. names_plain _)))
+    (λ names. refl)

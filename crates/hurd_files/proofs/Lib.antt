@@ -1,1 +1,2 @@
 pub mod FilesLaws
+pub mod AccessLaws

@@ -1,5 +1,5 @@
 -- Files and directories.
-use Rattle.std.specs.Prelude.{ℕ, List, [], ◌∷◌, codes, Result, Ok}
+use Rattle.std.specs.Prelude.{ℕ, List, ◌∷◌, codes, Result, Ok}
 use Rattle.hurd_creds.specs.declared.name.Name.{Name}
 use Rattle.hurd_creds.specs.declared.errno.Errno.{Errno}
 use Rattle.hurd_creds.specs.declared.errno.Errno.TheVariants.{ENOTDIR}
@@ -10,7 +10,7 @@ use Rattle.hurd_trans_iface.specs.Behaviour.{edits_of, resizing}
 use Rattle.hurd_machine.specs.declared.call.Reply.TheVariants.{Done, Names}
 use Rattle.hurd_machine.specs.World.{World, asked_at, body_at}
 use Rattle.hurd_machine.specs.Change.{changes_of}
-use Rattle.hurd_machine.specs.Plan.{Plan, given, first, answered}
+use Rattle.hurd_machine.specs.Plan.{Plan, given, first, answered, looks}
 use Rattle.hurd_machine.specs.Handle.{handle_asks}
 use Rattle.hurd_machine.specs.Sight.{Part}
 use Rattle.hurd_machine.specs.Touched.{asked_parts, Nothing, OnDid}
@@ -36,7 +36,7 @@ readdir_asks w t p =
 
 -- dir_readdir: `.`, `..`, and the names of the entries in order
 abbrev pub plan_readdir : World → ℕ → ℕ → Plan
-plan_readdir w t p = answered (readdir_asks w t p) (λ names. record { reply = Names (codes "." ∷ codes ".." ∷ names); changes = [] })
+plan_readdir w t p = looks (readdir_asks w t p) (λ names. Names (codes "." ∷ codes ".." ∷ names))
 
 abbrev pub touches_readdir : World → ℕ → ℕ → Part → Type 0
 touches_readdir w t p = Nothing

@@ -58,16 +58,12 @@ fn readdir_asked<S: Server>(
 }
 
 /// These names behind `.` and `..`.
-fn with_dots(alloc: Global, names: &[Bytes]) -> Result<Names, AllocError>
-    ensures { IfOk result (λ all. all ≡ codes "." ∷ codes ".." ∷ names.now) }
+fn with_dots(alloc: Global, mut names: Names) -> Result<Names, AllocError>
+    ensures { IfOk result (λ all. all ≡ codes "." ∷ codes ".." ∷ names) }
 {
-    let mut all = Names::new(alloc);
-    all.push(Bytes::copied(alloc, b".")?)?;
-    all.push(Bytes::copied(alloc, b"..")?)?;
-    for name in names {
-        all.push(Bytes::copied(alloc, name.as_slice())?)?;
-    }
-    Ok(all)
+    names.push_front(Bytes::copied(alloc, b"..")?)?;
+    names.push_front(Bytes::copied(alloc, b".")?)?;
+    Ok(names)
 }
 
 /// The names in the directory that a port has open: `.`, `..`, and those of its entries, in order of making (`fs.defs`).
@@ -84,5 +80,5 @@ pub fn dir_readdir<S: Server>(
         Planned w (plan_readdir w task.0 port) reply.Names result w }
 {
     let names = readdir_asked(core, alloc, task, port)?;
-    Ok(with_dots(alloc, names.as_slice())?)
+    Ok(with_dots(alloc, names)?)
 }

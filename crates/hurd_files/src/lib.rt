@@ -1,7 +1,9 @@
-//! Sizes of files, and names in directories.
+//! Files and directories: sizes, names, owners, modes, and what ids may.
 //!
-//! `file_set_size` cuts or grows a file that a port has open, `dir_readdir` tells the names in a directory. What they
-//! answer and change is `plan_set_size` and `plan_readdir` of `specs/Files`.
+//! `file_set_size` cuts or grows a file that a port has open, `dir_readdir` tells the names in a directory; what they
+//! answer and change is in `specs/Files`. `file_check_access` tells what a port's ids may, `file_chmod` sets the mode of a
+//! node and `file_chown` its owner and group, as `specs/Access` says.
 #![tactic(auto)]
 
+pub mod access;
 pub mod files;

@@ -1,4 +1,4 @@
--- The laws of reading and writing.
+-- The laws of reading and writing, and of what is told of a node.
 use Rattle.std.proofs.Common.{◌≡◌, ◌⊎◌, ℕ, ℤ, pos, negsuc, zero, suc, Bool, true, false, List, refl, inl, inr, subst, min}
 use Rattle.std.specs.Prelude.{Result, Ok, length}
 use Rattle.hurd_creds.specs.declared.name.Name.{Name}
@@ -17,21 +17,22 @@ use Rattle.hurd_machine.proofs.Frame.{AllWithin, Full, within_append}
 use Rattle.hurd_machine.proofs.Coherence.{AllProper, proper_append}
 use Rattle.hurd_machine.proofs.Settle.{Rests, rests_append}
 use Rattle.hurd_machine.proofs.Sizes.{KeepsSized, did_sized, sized_append}
+use Rattle.hurd_machine.proofs.Links.{KeepsLinked, linked_append}
 use Rattle.hurd_machine.proofs.Several.{AllMay}
 use Rattle.hurd_machine.proofs.Permits.{cursor_may, did_may, did_exact, may_append}
-use Rattle.hurd_machine.proofs.Opens.{cursor_within, cursor_proper, cursor_rests, cursor_sized}
-use Rattle.hurd_machine.proofs.Edits.{did_within, did_proper, did_rests}
-use Rattle.hurd_machine.proofs.Asks.{IsPlain, ok_plain, err_plain, asked_plain, answered_same, answered_plain, done_plain, first_same, first_ok, given_ok, first_plain, given_plain, handle_same, handle_read, handle_plain, asked_seen, handle_seen, asked_same}
-use Rattle.hurd_machine.proofs.CallLaws.{CallLaws, answered_within, answered_proper, answered_sized, answered_rests, answered_may}
+use Rattle.hurd_machine.proofs.Opens.{cursor_within, cursor_proper, cursor_rests, cursor_sized, cursor_linked}
+use Rattle.hurd_machine.proofs.Edits.{did_within, did_proper, did_rests, did_linked}
+use Rattle.hurd_machine.proofs.Asks.{IsPlain, ok_plain, err_plain, asked_plain, answered_same, answered_plain, done_plain, first_same, first_ok, given_ok, first_plain, given_plain, handle_same, handle_read, handle_plain, asked_seen, handle_seen, asked_same, port_same, port_plain}
+use Rattle.hurd_machine.proofs.CallLaws.{CallLaws, looking_laws, answered_within, answered_proper, answered_sized, answered_rests, answered_may, answered_linked}
 use Rattle.hurd_io.specs.declared.offset.Offset.{Offset}
 use Rattle.hurd_io.specs.declared.offset.Offset.TheVariants.{Place, Cursor}
 use Rattle.hurd_io.specs.declared.offset.IoAt.{IoAt}
-use Rattle.hurd_io.specs.Io.{offset_of, past, moved, Moves, plan_io, touches_io, most_read, read_asks, reads, plan_read, touches_read, write_asks, writes, plan_write, touches_write}
+use Rattle.hurd_io.specs.Io.{offset_of, past, moved, Moves, plan_io, touches_io, most_read, read_asks, reads, plan_read, touches_read, write_asks, writes, plan_write, touches_write, told_stat, plan_stat, touches_stat}
 use Rattle.hurd_creds.specs.Bits.{READ, WRITE}
 use Rattle.hurd_trans_iface.proofs.Goods.{good}
 use Rattle.hurd_machine.specs.declared.handle.Handle.{Handle}
 use Rattle.hurd_machine.specs.declared.call.Reply.TheVariants.{Data, Count}
-use Rattle.hurd_machine.specs.Handle.{handle_asks}
+use Rattle.hurd_machine.specs.Handle.{port_asks, handle_asks}
 
 -- Reads and writes: what the laws need of them, by what is asked first and the question to the server.
 
@@ -49,6 +50,10 @@ moved_within T w Cursor o k parts = cursor_within T w o k (parts _ refl)
 moved_proper : (w : World) (offset : Offset) (o : Name) (k : ℕ) → AllProper w (moved offset o k)
 moved_proper w (Place n) o k = tt
 moved_proper w Cursor o k = cursor_proper w o k
+
+moved_linked : (w : World) (offset : Offset) (o : Name) (k : ℕ) → KeepsLinked w (moved offset o k)
+moved_linked w (Place n) o k linked = linked
+moved_linked w Cursor o k linked = cursor_linked w o k linked
 
 moved_sized : (w : World) (offset : Offset) (o : Name) (k : ℕ) → KeepsSized w (moved offset o k)
 moved_sized w (Place n) o k sized = sized
@@ -93,8 +98,10 @@ module _ {T : Type 0} (t : ℕ) (asks : World → Result IoAt Errno) (q : ℕ �
     fits = λ w c. answered_within w t (asks w) _ _ (λ a is. answered_within w t (asked_at (q a.at) a.node w) _ (λ d p. parts a d p) (λ d told.
         within_append (Full w t (parts a d)) (edits a d) (moves a d) w (did_within (Full w t (parts a d)) w a.node d (λ p on. inl (inl on)))
         (moved_within (Full w t (parts a d)) (between w a d) a.offset a.open_name _ (λ p on. inl (inr on)))));
-    proper = λ w c. answered_proper w _ _ (λ a is. answered_proper w _ _ (λ d told.
-        proper_append (edits a d) (moves a d) w c (did_proper w c a.node d) (λ n. moved_proper (between w a d) a.offset a.open_name _)));
+    proper = λ w s. answered_proper w _ _ (λ a is. answered_proper w _ _ (λ d told.
+        proper_append (edits a d) (moves a d) w s.coherent (did_proper w s.coherent a.node d) (λ n. moved_proper (between w a d) a.offset a.open_name _)));
+    linked = λ w s. answered_linked w _ _ s.linked (λ a is. answered_linked w _ _ s.linked (λ d told.
+        linked_append (edits a d) (moves a d) w (did_linked w a.node d) (moved_linked (between w a d) a.offset a.open_name _) s.linked));
     sized = λ w s. answered_sized w _ _ s.sizes (λ a is. answered_sized w _ _ s.sizes (λ d told.
         sized_append (edits a d) (moves a d) w (did_sized (q a.at) (l.sizes a.at) w s.coherent a.node d told)
         (moved_sized (between w a d) a.offset a.open_name _) s.sizes));
@@ -149,3 +156,8 @@ write_laws t p bytes offset = io_laws t (λ w. write_asks w t p offset) (writes 
   reply_plain = λ taken. refl;
   sizes = λ at k. (good k).write_sizes at bytes;
 })
+
+-- io_stat: it asks for a node that the caller has a port on, and so sees.
+
+pub stat_laws : (t p : ℕ) → CallLaws t (λ w. plan_stat w t p) (λ w. touches_stat w t p)
+stat_laws t p = looking_laws t (λ w. port_asks w t p) told_stat (λ S v w a ours. port_same a t ours p) (λ w. port_plain w t p) (λ n. refl)

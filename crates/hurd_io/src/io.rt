@@ -1,13 +1,13 @@
-//! Reading and writing.
+//! Reading, writing, and what is told of a node.
 ghost use Rattle.std.specs.Prelude.{◌≡◌};
-ghost use Rattle.hurd_machine.specs.Plan.{Planned};
-ghost use Rattle.hurd_machine.specs.declared.call.Reply.TheVariants.{Data, Count};
+ghost use Rattle.hurd_machine.specs.Plan.{Planned, Follows, told};
+ghost use Rattle.hurd_machine.specs.declared.call.Reply.TheVariants as reply;
 ghost use Rattle.hurd_core.specs.Core.{world_of};
-ghost use Rattle.hurd_io.specs.Io.{read_asks, plan_read, write_cursor, write_asks, plan_write};
+ghost use Rattle.hurd_io.specs.Io.{read_asks, plan_read, write_cursor, write_asks, plan_write, plan_stat};
 
 use crate::offset::{IoAt, Offset};
 use hurd_core::Core;
-use hurd_creds::{Bytes, Errno, Kind, OpenFlags, TaskId};
+use hurd_creds::{Bytes, Errno, Kind, OpenFlags, Stat, TaskId};
 use hurd_machine::Handle;
 use hurd_trans_iface::Server;
 use std::alloc::Global;
@@ -49,7 +49,7 @@ pub fn io_read<S: Server>(
     offset: i64,
 ) -> Result<Bytes, Errno>
     ensures { let w = world_of S.meaning core.old in
-        Planned w (plan_read w task.0 port amount offset) Data result (world_of S.meaning core.new) }
+        Planned w (plan_read w task.0 port amount offset) reply.Data result (world_of S.meaning core.new) }
 {
     let from = read_asked(core, task, port, offset)?;
     let bytes = core.read(alloc, from.node, from.at, amount.min(MOST_READ))?;
@@ -99,10 +99,19 @@ pub fn io_write<S: Server>(
     offset: i64,
 ) -> Result<u64, Errno>
     ensures { let w = world_of S.meaning core.old in
-        Planned w (plan_write w task.0 port bytes.now offset) Count result (world_of S.meaning core.new) }
+        Planned w (plan_write w task.0 port bytes.now offset) reply.Count result (world_of S.meaning core.new) }
 {
     let to = write_asked(core, task, port, offset)?;
     let count = core.write(to.node, to.at, bytes)?;
     to.advance(core, count);
     Ok(count)
+}
+
+/// The attributes of the node of a port, whatever the port has it open for (`io.defs`). Takes no memory.
+///
+/// Errors, in order: `ESRCH` no such task, `EBADF` no such port, `EDIED` no such node.
+pub fn io_stat<S: Server>(core: &Core<S>, task: TaskId, port: u64) -> Result<Stat, Errno>
+    ensures { let w = world_of S.meaning core.now in Follows w (plan_stat w task.0 port) (told reply.Stat result) w }
+{
+    Ok(core.port_node(task, port)?.attrs.stat())
 }

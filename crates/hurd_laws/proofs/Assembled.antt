@@ -1,26 +1,42 @@
 -- The laws of one step, from those of each call: each call has a line.
-use Rattle.std.proofs.Common.{ℕ}
+use Rattle.std.proofs.Common.{ℕ, sym}
 use Rattle.hurd_machine.specs.declared.call.Call.{Call}
-use Rattle.hurd_machine.specs.declared.call.Call.TheVariants.{PortDeallocate, DirLookup, IoRead, IoWrite, FileSetSize, DirReaddir}
+use Rattle.hurd_machine.specs.declared.call.Call.TheVariants.{PortDeallocate, DirLookup, IoRead, IoWrite, IoStat, FileSetSize, FileChmod, FileChown, FileCheckAccess, DirReaddir, DirMkdir, DirRmdir, DirUnlink, DirLink, DirMkfile, DirRename}
 use Rattle.hurd_machine.specs.World.{World}
 use Rattle.hurd_machine.specs.Sight.{Part, AttrOf, EmptyOf, BodyOf, OpenOf, OptionsOf, UsersOf, TaskOf}
-use Rattle.hurd_machine.proofs.Frame.{IsUnnamed}
+use Rattle.hurd_machine.proofs.Frame.{IsUnnamed, gone_kept}
 use Rattle.hurd_machine.proofs.CallLaws.{CallLaws}
 use Rattle.hurd_machine.proofs.CallLaws as call
 use Rattle.hurd_rights.proofs.RightsLaws.{deallocate_laws}
 use Rattle.hurd_lookup.proofs.LookupLaws.{lookup_laws}
-use Rattle.hurd_io.proofs.IoLaws.{read_laws, write_laws}
+use Rattle.hurd_io.proofs.IoLaws.{read_laws, write_laws, stat_laws}
 use Rattle.hurd_files.proofs.FilesLaws.{set_size_laws, readdir_laws}
-use Rattle.hurd_laws.specs.Step.{plan, touches}
-use Rattle.hurd_laws.specs.Laws.{IsOld, ChangesTouched, OthersUnseen, OwnFromView, StaysSound, NeverWantsMemory}
+use Rattle.hurd_files.proofs.AccessLaws.{chmod_laws, chown_laws, check_access_laws}
+use Rattle.hurd_dirs.proofs.MakeLaws.{mkdir_laws}
+use Rattle.hurd_dirs.proofs.FileLaws.{mkfile_laws}
+use Rattle.hurd_dirs.proofs.RemoveLaws.{rmdir_laws, unlink_laws}
+use Rattle.hurd_dirs.proofs.LinkLaws.{link_laws}
+use Rattle.hurd_dirs.proofs.RenameLaws.{rename_laws}
+use Rattle.hurd_laws.specs.Step.{plan, touches, after}
+use Rattle.hurd_laws.specs.Laws.{IsOld, ChangesTouched, GoneUnseen, OthersUnseen, OwnFromView, StaysSound, NeverWantsMemory}
 
 laws_of : (t : ℕ) (c : Call) → CallLaws t (λ w. plan w t c) (λ w. touches w t c)
 laws_of t (PortDeallocate p) = deallocate_laws t p
 laws_of t (DirLookup p path flags mode) = lookup_laws t p path flags mode
 laws_of t (IoRead p amount offset) = read_laws t p amount offset
 laws_of t (IoWrite p bytes offset) = write_laws t p bytes offset
+laws_of t (IoStat p) = stat_laws t p
 laws_of t (FileSetSize p size) = set_size_laws t p size
+laws_of t (FileChmod p mode) = chmod_laws t p mode
+laws_of t (FileChown p owner group) = chown_laws t p owner group
+laws_of t (FileCheckAccess p) = check_access_laws t p
 laws_of t (DirReaddir p) = readdir_laws t p
+laws_of t (DirMkdir p name mode) = mkdir_laws t p name mode
+laws_of t (DirMkfile p flags mode) = mkfile_laws t p flags mode
+laws_of t (DirRmdir p name) = rmdir_laws t p name
+laws_of t (DirUnlink p name) = unlink_laws t p name
+laws_of t (DirLink p name q) = link_laws t p name q
+laws_of t (DirRename p name q new) = rename_laws t p q name new
 
 -- what has a name that was given is not new
 old_named : (w : World) (p : Part) → IsOld w p → IsUnnamed w p → ⊥
@@ -37,6 +53,9 @@ changes_touched w t c p s old out other = call.changes_touched t _ _ (laws_of t 
 
 pub others_unseen : OthersUnseen
 others_unseen S w t c s out quiet = call.others_unseen t _ _ (laws_of t c) S w s out quiet
+
+pub gone_unseen : GoneUnseen
+gone_unseen S w t c p s out quiet sees gone = gone_kept (after w t c) w p (sym ((others_unseen S w t c s out quiet).parts p sees)) gone
 
 pub own_from_view : OwnFromView
 own_from_view S v w t c sv sw ours view = call.own_from_view t _ _ (laws_of t c) S v w sv sw ours view

@@ -4,7 +4,7 @@ use Rattle.hurd_creds.specs.declared.errno.Errno.TheVariants.{ENOMEM}
 use Rattle.hurd_machine.specs.declared.call.Call.{Call}
 use Rattle.hurd_machine.specs.declared.call.Reply.TheVariants.{Refused}
 use Rattle.hurd_machine.specs.World.{World, open_at}
-use Rattle.hurd_machine.specs.Sight.{Part, AttrOf, EmptyOf, BodyOf, OpenOf, OptionsOf, UsersOf, TaskOf, SameView, part}
+use Rattle.hurd_machine.specs.Sight.{Part, AttrOf, EmptyOf, BodyOf, OpenOf, OptionsOf, UsersOf, TaskOf, Sees, SameView, IsGone, part}
 use Rattle.hurd_machine.specs.Sound.{Sound, Below}
 use Rattle.hurd_laws.specs.Step.{reply_of, after, touches}
 use Rattle.hurd_laws.specs.Runs.{TaskCall, run, calls_of, replies_to, TouchesUnseen, Quiet}
@@ -19,11 +19,17 @@ IsOld w (OptionsOf s) = Below w s
 IsOld w (UsersOf s) = Below w s
 IsOld w (TaskOf t) = Unit {0}
 
--- a step changes touched parts, its caller's own task and new things alone
+-- a step changes touched parts, its caller's own task and new things alone; what of the others doesn't stay as it was is gone
 abbrev pub ChangesTouched : Type 0
 ChangesTouched =
     (w : World) (t : ℕ) (c : Call) (p : Part) → Sound w → IsOld w p → (touches w t c p → ⊥) → p ≢ TaskOf t
-    → part (after w t c) p ≡ part w p
+    → (part (after w t c) p ≡ part w p) ⊎ IsGone (after w t c) p
+
+-- what goes in a step of a task outside S is nothing that S saw, unless it saw a touched part
+abbrev pub GoneUnseen : Type 0
+GoneUnseen =
+    (S : ℕ → Bool) (w : World) (t : ℕ) (c : Call) (p : Part) → Sound w → S t ≡ false → TouchesUnseen S w t c → Sees S w p
+    → IsGone (after w t c) p → IsGone w p
 
 -- after a step of a task outside S that touches no part that S sees, the view is the same
 abbrev pub OthersUnseen : Type 0

@@ -1,15 +1,21 @@
 -- One step of the machine: a call of a task. Each call has a line in each of the three definitions by cases.
 use Rattle.std.specs.Prelude.{ℕ, Bool, true, false}
 use Rattle.hurd_machine.specs.declared.call.Call.{Call}
-use Rattle.hurd_machine.specs.declared.call.Call.TheVariants.{PortDeallocate, DirLookup, IoRead, IoWrite, FileSetSize, DirReaddir}
+use Rattle.hurd_machine.specs.declared.call.Call.TheVariants.{PortDeallocate, DirLookup, IoRead, IoWrite, IoStat, FileSetSize, FileChmod, FileChown, FileCheckAccess, DirReaddir, DirMkdir, DirRmdir, DirUnlink, DirLink, DirMkfile, DirRename}
 use Rattle.hurd_machine.specs.declared.call.Reply.{Reply}
 use Rattle.hurd_machine.specs.World.{World}
 use Rattle.hurd_machine.specs.Plan.{Plan, after_plan}
 use Rattle.hurd_machine.specs.Sight.{Part}
 use Rattle.hurd_rights.specs.Rights.{plan_deallocate, touches_deallocate}
 use Rattle.hurd_lookup.specs.Lookup.{plan_lookup, touches_lookup}
-use Rattle.hurd_io.specs.Io.{plan_read, touches_read, plan_write, touches_write}
+use Rattle.hurd_io.specs.Io.{plan_read, touches_read, plan_write, touches_write, plan_stat, touches_stat}
 use Rattle.hurd_files.specs.Files.{plan_set_size, touches_set_size, plan_readdir, touches_readdir}
+use Rattle.hurd_files.specs.Access.{plan_chmod, touches_chmod, plan_chown, touches_chown, plan_check_access, touches_check_access}
+use Rattle.hurd_dirs.specs.Make.{plan_mkdir, touches_mkdir}
+use Rattle.hurd_dirs.specs.File.{plan_mkfile, touches_mkfile}
+use Rattle.hurd_dirs.specs.Remove.{plan_rmdir, touches_rmdir, plan_unlink, touches_unlink}
+use Rattle.hurd_dirs.specs.Link.{plan_link, touches_link}
+use Rattle.hurd_dirs.specs.Rename.{plan_rename, touches_rename}
 
 -- what a call of task t answers and changes; ESRCH where there is no such task
 abbrev pub plan : World → ℕ → Call → Plan
@@ -17,8 +23,18 @@ plan w t (PortDeallocate p) = plan_deallocate w t p
 plan w t (DirLookup p path flags mode) = plan_lookup w t p path flags mode
 plan w t (IoRead p amount offset) = plan_read w t p amount offset
 plan w t (IoWrite p bytes offset) = plan_write w t p bytes offset
+plan w t (IoStat p) = plan_stat w t p
 plan w t (FileSetSize p size) = plan_set_size w t p size
+plan w t (FileChmod p mode) = plan_chmod w t p mode
+plan w t (FileChown p owner group) = plan_chown w t p owner group
+plan w t (FileCheckAccess p) = plan_check_access w t p
 plan w t (DirReaddir p) = plan_readdir w t p
+plan w t (DirMkdir p name mode) = plan_mkdir w t p name mode
+plan w t (DirMkfile p flags mode) = plan_mkfile w t p flags mode
+plan w t (DirRmdir p name) = plan_rmdir w t p name
+plan w t (DirUnlink p name) = plan_unlink w t p name
+plan w t (DirLink p name q) = plan_link w t p name q
+plan w t (DirRename p name q new) = plan_rename w t p name q new
 
 -- the parts of the world that it touches, beside the caller's own task; a refused call touches none
 abbrev pub touches : World → ℕ → Call → Part → Type 0
@@ -26,12 +42,28 @@ touches w t (PortDeallocate p) = touches_deallocate w t p
 touches w t (DirLookup p path flags mode) = touches_lookup w t p path flags mode
 touches w t (IoRead p amount offset) = touches_read w t p amount offset
 touches w t (IoWrite p bytes offset) = touches_write w t p bytes offset
+touches w t (IoStat p) = touches_stat w t p
 touches w t (FileSetSize p size) = touches_set_size w t p size
+touches w t (FileChmod p mode) = touches_chmod w t p mode
+touches w t (FileChown p owner group) = touches_chown w t p owner group
+touches w t (FileCheckAccess p) = touches_check_access w t p
 touches w t (DirReaddir p) = touches_readdir w t p
+touches w t (DirMkdir p name mode) = touches_mkdir w t p name mode
+touches w t (DirMkfile p flags mode) = touches_mkfile w t p flags mode
+touches w t (DirRmdir p name) = touches_rmdir w t p name
+touches w t (DirUnlink p name) = touches_unlink w t p name
+touches w t (DirLink p name q) = touches_link w t p name q
+touches w t (DirRename p name q new) = touches_rename w t p name q new
 
 -- whether it takes memory, and so may find none
 abbrev pub takes_memory : Call → Bool
 takes_memory (PortDeallocate p) = false
+takes_memory (IoStat p) = false
+takes_memory (FileChmod p mode) = false
+takes_memory (FileChown p owner group) = false
+takes_memory (FileCheckAccess p) = false
+takes_memory (DirRmdir p name) = false
+takes_memory (DirUnlink p name) = false
 takes_memory _ = true
 
 abbrev pub reply_of : World → ℕ → Call → Reply

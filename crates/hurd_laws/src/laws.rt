@@ -1,9 +1,14 @@
 //! The laws.
-ghost use Rattle.hurd_laws.specs.Laws.{ChangesTouched, Isolated, NeverWantsMemory, OthersUnseen, OwnFromView, StaysSound};
+ghost use Rattle.hurd_laws.specs.Laws.{ChangesTouched, GoneUnseen, Isolated, NeverWantsMemory, OthersUnseen, OwnFromView, StaysSound};
 
-/// A step changes touched parts, its caller's own task and new things alone.
+/// A step changes touched parts, its caller's own task and new things alone; what of the others doesn't stay is gone.
 pub fn changes_touched()
     ensures { ChangesTouched }
+{}
+
+/// What goes in a step of a task outside a set is nothing that the set saw, unless it saw a touched part.
+pub fn gone_unseen()
+    ensures { GoneUnseen }
 {}
 
 /// After a step of a task outside a set that touches no part that the set sees, the set's view is the same.

@@ -6,5 +6,6 @@
 mod laws;
 
 pub use laws::{
-    changes_touched, isolated, never_wants_memory, others_unseen, own_from_view, stays_sound,
+    changes_touched, gone_unseen, isolated, never_wants_memory, others_unseen, own_from_view,
+    stays_sound,
 };

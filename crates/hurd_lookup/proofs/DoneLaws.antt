@@ -17,7 +17,7 @@ use Rattle.hurd_machine.specs.World.{World, world_from, ports_of, header_at, hom
 use Rattle.hurd_machine.specs.Change.{Change, apply_all, opening}
 use Rattle.hurd_machine.specs.Plan.{Plan, Planned, Follows, refuse, is_refused, on, first, answered}
 use Rattle.hurd_machine.proofs.Asks.{on_ok, given_ok, first_ok}
-use Rattle.hurd_core.specs.Core.{Does, NewFile, room_asks, making_asks, making_open}
+use Rattle.hurd_core.specs.Core.{Does, NewNodeAt, room_asks, making_asks, making_open}
 use Rattle.hurd_core.proofs.CoreLaws.{IsRefused, HasRoom, room}
 use Rattle.hurd_lookup.specs.declared.request.Request.{Request}
 use Rattle.hurd_lookup.specs.Path.{names_in, is_short}
@@ -113,7 +113,7 @@ module _ (N : NodeState) (H : PortState) (t p : ℕ) (path : List ℕ) (flags : 
 
   -- a file is made, and opened
 
-  module _ (ids : IdSets) (s : Name) (f : NewFile) (is : found_asks w t p path r ≡ Ok (record { ids = ids; outcome = Makes s f })) (h : room_of H t 2 ≡ Ok tt) where
+  module _ (ids : IdSets) (s : Name) (f : NewNodeAt) (is : found_asks w t p path r ≡ Ok (record { ids = ids; outcome = Makes s f })) (h : room_of H t 2 ≡ Ok tt) where
     abbrev makes : Task × Name → List Change
     makes a = making_open t f ids (open_modes flags) a
 

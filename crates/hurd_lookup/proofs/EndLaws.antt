@@ -10,12 +10,12 @@ use Rattle.hurd_creds.specs.declared.errno.Errno.TheVariants.{EACCES, EDIED, EEX
 use Rattle.hurd_creds.specs.Access.{IdSets, may, least_uid}
 use Rattle.hurd_creds.specs.Bits.{asks, known_mode, WRITE}
 use Rattle.hurd_trans_iface.specs.Nodes.{Node, Header, Body, is_dir}
-use Rattle.hurd_machine.specs.World.{World, header_at, home_at, info_at, makes_at}
+use Rattle.hurd_machine.specs.World.{World, header_at, home_at, info_at, makes_at, is_removed}
 use Rattle.hurd_machine.specs.Sight.{bare, BodyOf, Sees}
 use Rattle.hurd_machine.proofs.Views.{Agree, header_same, body_same, home_same}
 use Rattle.hurd_machine.proofs.Asks.{on_same, given_same, first_same, on_ok, given_ok, first_ok, IsPlain, ok_plain, err_plain, on_plain, given_plain, first_plain, info_same}
 use Rattle.hurd_lookup.specs.declared.request.Request.{Request}
-use Rattle.hurd_lookup.specs.Lookup.{Place, AtNode, AtName, Outcome, Opens, Makes, may_open, is_removed, end_asks}
+use Rattle.hurd_lookup.specs.Lookup.{Place, AtNode, AtName, Outcome, Opens, Makes, may_open, end_asks}
 use Rattle.hurd_lookup.proofs.WalkLaws.{PlaceSeen, root_same}
 
 -- whether a file may be made in a directory
@@ -73,10 +73,12 @@ abbrev pub place_of : Outcome → Place
 place_of (Opens n) = AtNode n
 place_of (Makes s f) = AtName f.dir f.name
 
--- a node that is opened stands, and may be opened; a file that is made is of its directory's server, which lets it be made
+-- a node that is opened stands, and may be opened; a file that is made is of its directory's server, which lets it be made, and the directory isn't removed
 abbrev pub Leads : World → IdSets → Request → Outcome → Type 0
 Leads w ids r (Opens n) = (h : Header) × (header_at w n ≡ Some h) × (may_open ids h r.flags ≡ true) × (not (is_dir h.kind && asks r.flags WRITE) ≡ true)
-Leads w ids r (Makes s f) = (u : Unit {0}) × (makes_at w f.dir f.name File ≡ Ok u) × (home_at w f.dir ≡ Some s)
+Leads w ids r (Makes s f) =
+    (u : Unit {0}) × (makes_at w f.dir f.name File ≡ Ok u) × (home_at w f.dir ≡ Some s)
+    × (h : Header) × (header_at w f.dir ≡ Some h) × (not (is_removed w f.dir h) ≡ true)
 
 pub ended : (w : World) (ids : IdSets) (r : Request) (place : Place) (o : Outcome) → end_asks w ids r place ≡ Ok o → (place_of o ≡ place) × Leads w ids r o
 ended w ids r (AtNode n) o is =
@@ -94,4 +96,4 @@ ended w ids r (AtName d name) o is =
     let g = given_ok ENOENT (not (is_removed w d h.0)) _ o l.2 in
     let s = on_ok EDIED (home_at w d) _ o g.1 in
     let same : Makes s.0 (record { dir = d; name = name; owner = l.0; group = h.0.group; mode = known_mode r.mode }) ≡ o = cc (s.2) in
-    rw (← same) (refl, (u.0, u.1, s.1))
+    rw (← same) (refl, (u.0, u.1, s.1, h.0, h.1, g.0))

@@ -11,14 +11,14 @@ use Rattle.hurd_machine.specs.World.{World, ports_of, task_at, header_at}
 use Rattle.hurd_machine.specs.Sight.{Holds, UidOfRight, GidOfRight, Taken, Seen, Held}
 use Rattle.hurd_machine.proofs.Views.{Agree, same_tasks, header_same}
 use Rattle.hurd_machine.proofs.Asks.{on_same, given_same, first_same, answered_same, on_ok, given_ok, first_ok, IsPlain, ok_plain, on_plain, given_plain, first_plain, answered_plain, done_plain, right_same, right_plain, holds_right}
-use Rattle.hurd_machine.proofs.CallLaws.{CallLaws, answered_within, answered_proper, answered_sized, answered_rests, answered_may}
+use Rattle.hurd_machine.proofs.CallLaws.{CallLaws, answered_within, answered_proper, answered_linked, answered_sized, answered_rests, answered_may}
 use Rattle.hurd_core.specs.Core.{room_asks}
 use Rattle.hurd_lookup.specs.declared.request.Request.{Request}
 use Rattle.hurd_lookup.specs.Path.{names_in, is_short}
 use Rattle.hurd_lookup.specs.Lookup.{Looked, walk, end_asks, names_taken, request, found_asks, lookup_asks, plan_lookup, touches_lookup}
 use Rattle.hurd_lookup.proofs.WalkLaws.{PlaceSeen, walk_seen, walk_same, walk_plain}
 use Rattle.hurd_lookup.proofs.EndLaws.{place_of, Leads, end_same, end_plain, ended}
-use Rattle.hurd_lookup.proofs.OutcomeLaws.{outcome_within, outcome_proper, outcome_rests, outcome_sized, outcome_may}
+use Rattle.hurd_lookup.proofs.OutcomeLaws.{outcome_within, outcome_proper, outcome_linked, outcome_rests, outcome_sized, outcome_may}
 
 module _ (t p : ℕ) (path : List ℕ) (flags : OpenFlags) (mode : Mode) where
   abbrev r : Request
@@ -89,9 +89,11 @@ module _ (t p : ℕ) (path : List ℕ) (flags : OpenFlags) (mode : Mode) where
   pub lookup_laws : CallLaws t (λ w. plan_lookup w t p path flags mode) (λ w. touches_lookup w t p path flags mode)
   lookup_laws = record {
     fits = λ w c. answered_within w t (asked w) _ _ (λ got is. let k = answer w got is in outcome_within w t got.1 k.is_task got.0.ids r got.0.outcome);
-    proper = λ w c. answered_proper w (asked w) _ (λ got is. let k = answer w got is in outcome_proper w t got.1 k.is_task got.0.ids r c got.0.outcome k.leads);
+    proper = λ w s. answered_proper w (asked w) _ (λ got is. let k = answer w got is in outcome_proper w t got.1 k.is_task got.0.ids r s.coherent got.0.outcome k.leads);
+    linked = λ w s. answered_linked w (asked w) _ s.linked (λ got is.
+        let k = answer w got is in outcome_linked w t got.1 k.is_task got.0.ids r s.coherent s.linked got.0.outcome k.leads s.linked);
     sized = λ w s. answered_sized w (asked w) _ s.sizes (λ got is. let k = answer w got is in outcome_sized w t got.1 k.is_task got.0.ids r got.0.outcome k.leads s.sizes);
-    rests = λ w s. answered_rests w (asked w) _ s.settled (λ got is. let k = answer w got is in outcome_rests w t got.1 k.is_task got.0.ids r got.0.outcome s.settled);
+    rests = λ w s. answered_rests w (asked w) _ s.settled (λ got is. let k = answer w got is in outcome_rests w t got.1 k.is_task got.0.ids r got.0.outcome k.leads s.settled);
     may = λ S v c ours. answered_may v (asked v) _ S v (λ got is.
         let k = answer v got is in
         outcome_may v t got.1 k.is_task got.0.ids r S c ours (answer_taken S v ours got k) got.0.outcome (answer_seen S v ours got k) k.leads);

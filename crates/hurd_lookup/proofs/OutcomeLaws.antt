@@ -11,21 +11,22 @@ use Rattle.hurd_trans_iface.specs.Nodes.{Node, Header, is_dir, new_file}
 use Rattle.hurd_trans_iface.proofs.Goods.{good}
 use Rattle.hurd_ports.specs.Tables.{Task, fresh}
 use Rattle.hurd_ports.specs.Steps.{named}
-use Rattle.hurd_machine.specs.World.{World, task_at, header_at, server_at}
-use Rattle.hurd_machine.specs.Change.{Change, MakeNode, apply, apply_all, opening}
+use Rattle.hurd_machine.specs.World.{World, task_at, header_at, server_at, nodes_of}
+use Rattle.hurd_machine.specs.Change.{Change, apply_all, opening, MakeNode, apply}
 use Rattle.hurd_machine.specs.Sight.{Part, TaskOf, bare, Taken, Allowed, ToRead}
-use Rattle.hurd_machine.specs.Sound.{Coherent}
-use Rattle.hurd_machine.proofs.Coherence.{AllProper, header_old, proper_append}
+use Rattle.hurd_machine.specs.Sound.{Coherent, Linked}
+use Rattle.hurd_machine.proofs.Coherence.{AllProper, header_old, home_old, proper_append}
 use Rattle.hurd_machine.proofs.Settle.{Rests, rests_append, rests_opening}
 use Rattle.hurd_machine.proofs.Frame.{AllWithin, Full, within_append}
 use Rattle.hurd_machine.proofs.Sizes.{KeepsSized, sized_append}
+use Rattle.hurd_machine.proofs.Links.{KeepsLinked, linked_append, leads_unless, file_hangs}
 use Rattle.hurd_machine.proofs.Confine.{NewTo}
 use Rattle.hurd_machine.proofs.Several.{AllMay}
-use Rattle.hurd_machine.proofs.Permits.{may_append, later_new, opens_may, entry_may}
+use Rattle.hurd_machine.proofs.Permits.{may_append, later_new, opens_may}
 use Rattle.hurd_machine.proofs.Opens as fragments
-use Rattle.hurd_machine.proofs.Opens.{own_task, fresh_new, fresh_next, opens_within, opens_proper, opens_sized}
-use Rattle.hurd_machine.proofs.Makes.{MayMake, may_make, entered_within, entered_proper, entered_rests, entered_sized, entered_home, entered_header, entered_task, entered_below, file_in, file_sized}
-use Rattle.hurd_core.specs.Core.{NewFile, making}
+use Rattle.hurd_machine.proofs.Opens.{own_task, fresh_new, fresh_next, opens_within, opens_proper, opens_sized, opens_linked}
+use Rattle.hurd_machine.proofs.Makes.{MayMake, may_make, entered_within, entered_proper, entered_rests, entered_sized, entered_may, entered_home, entered_header, entered_task, entered_below, made_in, made_fit, entered_linked}
+use Rattle.hurd_core.specs.Core.{NewNodeAt, asked_node, making}
 use Rattle.hurd_lookup.specs.declared.request.Request.{Request}
 use Rattle.hurd_lookup.specs.Lookup.{Outcome, Opens, Makes, may_open, lookup_changes, lookup_parts}
 use Rattle.hurd_lookup.proofs.WalkLaws.{PlaceSeen}
@@ -72,12 +73,12 @@ module _ (w : World) (t : ℕ) (x : Task) (is : task_at w t ≡ Some x) (ids : I
   file_opened = opening t (named 1 x) n ids modes
 
   -- a file that is made
-  module _ (s : Name) (f : NewFile) where
+  module _ (s : Name) (f : NewNodeAt) where
     abbrev file : Node
     file = new_file f.owner f.group f.mode
 
     abbrev made : List Change
-    made = making t x s f
+    made = making t x s f file
 
     abbrev left : World
     left = apply_all made w
@@ -106,13 +107,24 @@ module _ (w : World) (t : ℕ) (x : Task) (is : task_at w t ≡ Some x) (ids : I
   outcome_proper c (Makes s f) l =
       let m : MayMake w f.dir f.name File = may_make w f.dir f.name File l.0 l.1 in
       proper_append (made s f) file_opened w c
-      (entered_proper w n s (file s f) f.dir f.name c (fresh_next w t x is) l.2 m.absent (file_in w f.dir f.owner f.group f.mode))
+      (entered_proper w n s (file s f) f.dir f.name c (fresh_next w t x is) l.2 m.absent (made_in f.dir (asked_node File f n) (file s f) refl w (home_old c f.dir s l.2)))
       (λ d. opens_proper (left s f) t (named 1 x) (seat s f) n ids modes d (entered_below w n s (file s f) f.dir f.name c (fresh_next w t x is))
       (λ writes h e. let same : (file s f).header ≡ h = cc (header s f, e) in rw (← same) refl))
 
-  pub outcome_rests : (o : Outcome) → Rests w (changes o)
-  outcome_rests (Opens m) = rests_opening w t x is m ids modes
-  outcome_rests (Makes s f) = rests_append (made s f) file_opened w (entered_rests w n s (file s f) f.dir f.name) (rests_opening (left s f) t (named 1 x) (seat s f) n ids modes)
+  pub outcome_rests : (o : Outcome) → Leads w ids r o → Rests w (changes o)
+  outcome_rests (Opens m) l = rests_opening w t x is m ids modes
+  outcome_rests (Makes s f) l =
+      let m : MayMake w f.dir f.name File = may_make w f.dir f.name File l.0 l.1 in
+      let is_server : server_at w s ≡ Some m.info = rw l.2 at m.is_info in
+      rests_append (made s f) file_opened w (entered_rests w n s (file s f) f.dir f.name refl m.info is_server) (rests_opening (left s f) t (named 1 x) (seat s f) n ids modes)
+
+  pub outcome_linked : Coherent w → Linked (nodes_of w) → (o : Outcome) → Leads w ids r o → KeepsLinked w (changes o)
+  outcome_linked c l (Opens m) k = opens_linked w t x m ids modes
+  outcome_linked c l (Makes s f) k =
+      let m : MayMake w f.dir f.name File = may_make w f.dir f.name File k.0 k.1 in
+      linked_append (made s f) file_opened w
+      (entered_linked w n s (file s f) f.dir f.name c (fresh_next w t x is) m (leads_unless w l f.dir k.3 k.4 k.5) tt (file_hangs f.dir f.owner f.group f.mode))
+      (opens_linked (left s f) t (named 1 x) n ids modes)
 
   pub outcome_sized : (o : Outcome) → Leads w ids r o → KeepsSized w (changes o)
   outcome_sized (Opens m) l = opens_sized w t x m ids modes
@@ -120,7 +132,7 @@ module _ (w : World) (t : ℕ) (x : Task) (is : task_at w t ≡ Some x) (ids : I
       let m : MayMake w f.dir f.name File = may_make w f.dir f.name File l.0 l.1 in
       let is_server : server_at w s ≡ Some m.info = rw l.2 at m.is_info in
       sized_append (made s f) file_opened w
-      (entered_sized w n s (file s f) f.dir f.name good (λ i e. let same : m.info ≡ i = cc (is_server, e) in rw (← same) (file_sized good m.info m.tree f.owner f.group f.mode)))
+      (entered_sized w n s (file s f) f.dir f.name good (λ i e. let same : m.info ≡ i = cc (is_server, e) in rw (← same) (made_fit f.dir (asked_node File f n) (file s f) refl good m.info m.tree)))
       (opens_sized (left s f) t (named 1 x) n ids modes)
 
   pub outcome_may : (S : ℕ → Bool) → Coherent w → S t ≡ true → Taken S w ids → (o : Outcome) → PlaceSeen S w (place_of o) → Leads w ids r o → AllMay S w w (changes o)
@@ -131,5 +143,5 @@ module _ (w : World) (t : ℕ) (x : Task) (is : task_at w t ≡ Some x) (ids : I
   outcome_may S c ours taken (Makes s f) seen l =
       let new : NewTo S w n = later_new S w t x x.made ours is (omega arith) in
       may_append S w (made s f) file_opened w (tt, (tt, tt))
-      ((ours, (f.dir, seen.0, l.2), λ p e. absurd (cc)), (entry_may S w (apply (MakeNode n s (file s f)) w) f.dir f.name n (inr new), tt))
+      (entered_may w n s (file s f) f.dir f.name S w ours new (f.dir, seen.0, l.2) (λ p e. absurd (cc)))
       (opens_may S w (left s f) t (named 1 x) n ids modes ours (later_new S w t x (x.made + 1) ours is (omega arith)) (inr new) (inr taken) (λ read h e. absurd (new.1 (header_old c n h e))))

@@ -1,7 +1,7 @@
 -- What the code's own answers stand for.
 use Rattle.std.specs.Prelude.{Result, Ok, Err}
 use Rattle.hurd_creds.specs.declared.errno.Errno.{Errno}
-use Rattle.hurd_core.specs.File.{file_of}
+use Rattle.hurd_core.specs.ToMake.{new_node_of}
 use Rattle.hurd_lookup.specs.declared.walk.Place as code
 use Rattle.hurd_lookup.specs.declared.walk.Place.TheVariants as place
 use Rattle.hurd_lookup.specs.declared.end.Outcome as end
@@ -15,7 +15,7 @@ place_of (place.AtName d name) = AtName d name.now
 
 abbrev pub outcome_of : end.Outcome → Outcome
 outcome_of (outcome.Opens n) = Opens n
-outcome_of (outcome.Makes s f) = Makes s (file_of f)
+outcome_of (outcome.Makes s f) = Makes s (new_node_of f)
 
 abbrev pub looked_of : FoundAt → Looked
 looked_of l = record { ids = l.ids.now; outcome = outcome_of l.outcome }

@@ -15,12 +15,12 @@ use Rattle.hurd_trans_iface.specs.Answers.{entry_of}
 use Rattle.hurd_ports.specs.Tables.{Task, right_of}
 use Rattle.hurd_machine.specs.declared.call.Lookup.TheVariants as found
 use Rattle.hurd_machine.specs.declared.call.Reply.TheVariants.{Found}
-use Rattle.hurd_machine.specs.World.{World, ports_of, header_at, body_at, home_at, is_server_root, makes_at}
+use Rattle.hurd_machine.specs.World.{World, ports_of, header_at, body_at, home_at, is_removed, is_server_root, makes_at}
 use Rattle.hurd_machine.specs.Change.{Change, opening}
 use Rattle.hurd_machine.specs.Plan.{Plan, on, given, first, answered}
 use Rattle.hurd_machine.specs.Sight.{Part, EmptyOf, BodyOf, UsersOf, bare}
 use Rattle.hurd_machine.specs.Touched.{asked_parts, OnNode}
-use Rattle.hurd_core.specs.Core.{NewFile, room_asks, making_open}
+use Rattle.hurd_core.specs.Core.{NewNodeAt, room_asks, making_open}
 use Rattle.hurd_lookup.specs.declared.request.Request.{Request}
 use Rattle.hurd_lookup.specs.declared.walk.Next.{Next}
 use Rattle.hurd_lookup.specs.declared.walk.Next.TheVariants.{There, Absent}
@@ -86,7 +86,7 @@ walk w ids r d (name ∷ names) = first (step_asks w ids d name) (λ s. stepped 
 -- what is to be done: a node is opened, or a file is made by a server, and opened
 pub data Outcome : Type 0 where
   Opens : Name → Outcome
-  Makes : Name → NewFile → Outcome
+  Makes : Name → NewNodeAt → Outcome
 
 -- the ids may do what the flags ask for
 abbrev pub may_open : IdSets → Header → OpenFlags → Bool
@@ -100,10 +100,6 @@ open_asks w ids r n =
     given ENOTDIR (not r.wants_dir || is_dir h.kind) (
     given EISDIR (not (is_dir h.kind && asks r.flags WRITE)) (
     given EACCES (may_open ids h r.flags) (Ok (Opens n)))))
-
--- a directory that is removed has no parent, and is no server's root
-abbrev pub is_removed : World → Name → Header → Bool
-is_removed w d h = not (is_server_root w d) && not (is_some h.parent)
 
 -- making a file, which belongs to the least uid, and to its directory's group; it is opened without a test
 abbrev pub make_asks : World → IdSets → Request → Name → List ℕ → Result Outcome Errno

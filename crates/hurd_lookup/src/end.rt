@@ -1,14 +1,14 @@
 //! What is to be done at the end of the names.
-ghost use Rattle.std.specs.Prelude.{◌≡◌, ◌&&◌, not, is_some};
+ghost use Rattle.std.specs.Prelude.{◌≡◌};
 ghost use Rattle.hurd_nodes.specs.Shown.{header_in};
 ghost use Rattle.hurd_trans_iface.specs.Nodes.{is_dir};
 ghost use Rattle.hurd_core.specs.Core.{world_of};
-ghost use Rattle.hurd_lookup.specs.Lookup.{may_open, is_removed, open_asks, make_asks, end_asks, names_taken};
+ghost use Rattle.hurd_lookup.specs.Lookup.{may_open, open_asks, make_asks, end_asks, names_taken};
 ghost use Rattle.hurd_lookup.specs.Ends.{place_of, outcome_of, ended};
 
 use crate::request::Request;
 use crate::walk::Place;
-use hurd_core::{Core, FileToMake};
+use hurd_core::{Core, NodeToMake};
 use hurd_creds::{Attrs, Errno, Ids, Kind, NodeName, OpenFlags, ServerName, Want};
 use hurd_trans_iface::Server;
 
@@ -16,7 +16,7 @@ use hurd_trans_iface::Server;
 #[derive(Clone, Copy, Debug)]
 pub(crate) enum Outcome<'a> {
     Opens(NodeName),
-    Makes(ServerName, FileToMake<'a>),
+    Makes(ServerName, NodeToMake<'a>),
 }
 
 impl Outcome<'_> {
@@ -78,13 +78,6 @@ fn open_asked<'a, S: Server>(
     Ok(Outcome::Opens(node))
 }
 
-/// Whether a directory is removed: it has no parent, and is no server's root.
-fn is_removed<S: Server>(core: &Core<S>, dir: NodeName, attrs: &Attrs) -> bool
-    ensures { result ≡ is_removed (world_of S.meaning core.now) dir (header_in attrs.now) }
-{
-    !core.is_root(dir) && attrs.parent.is_none()
-}
-
 /// Whether these ids may make a file in a directory under a name, and whose it is then: the least uid's.
 ///
 /// Errors, in order: those of `Core::can_make`, `EACCES` the ids may not write the directory, or have no uids, `ENOENT` a
@@ -109,13 +102,13 @@ fn make_asked<'a, S: Server>(
     let Some(owner) = ids.least_uid() else {
         return Err(Errno::EACCES);
     };
-    if is_removed(core, dir, &attrs) {
+    if core.is_removed(dir, &attrs) {
         return Err(Errno::ENOENT);
     }
     let Some(server) = core.home(dir) else {
         return Err(Errno::EDIED);
     };
-    let file = FileToMake {
+    let file = NodeToMake {
         dir,
         name,
         owner,

@@ -1,5 +1,5 @@
 -- What the first tables have.
-use Rattle.std.proofs.Common.{◌≡◌, ◌⊎◌, inl, inr, ℕ, zero, suc, ◌+◌, ◌<◌, true, List, [], ◌∷◌, length, refl, ap, sym, subst, ◌∙◌, arith}
+use Rattle.std.proofs.Common.{◌≡◌, ◌⊎◌, inl, inr, ℕ, zero, suc, ◌+◌, ◌*◌, ◌<◌, true, List, [], ◌∷◌, length, replicate, refl, ap, sym, subst, ◌∙◌, arith}
 use Rattle.std.specs.Prelude.{Some, slice_get}
 use Rattle.std.proofs.Math.Bool.{or-true}
 use Rattle.std.specs.List.{list_any}
@@ -8,16 +8,19 @@ use Rattle.std.proofs.lemmas.List.Folds.{list_any_at}
 use Rattle.std.proofs.lemmas.Option.{slice_get_within, get_or_from_slice_get}
 use Rattle.hurd_creds.specs.declared.name.Name.{Name}
 use Rattle.hurd_creds.specs.Access.{IdSets}
-use Rattle.hurd_creds.specs.Names.{name_of, name_cmp}
+use Rattle.hurd_creds.specs.Names.{name_of, name_cmp, same_name}
 use Rattle.hurd_creds.specs.NameMaps.{NameMap}
 use Rattle.hurd_creds.proofs.NameLaws.{same_name-itself, same_or_apart, get_here, get_apart}
 use Rattle.hurd_nodes.specs.Shown.{boot_name}
 use Rattle.hurd_ports.specs.declared.table.Opened.{Opened}
 use Rattle.hurd_ports.specs.declared.table.Right.{Right}
 use Rattle.hurd_ports.specs.declared.table.Port.{Port}
-use Rattle.hurd_ports.specs.Tables.{OpenMap, Task, IsSettled, is_held, names_open, rights_of}
+use Rattle.hurd_ports.specs.Tables.{OpenMap, Task, IsSettled, is_held, names_open, names_node, rights_of}
 use Rattle.hurd_ports.specs.Steps.{new_open}
 use Rattle.hurd_machine.specs.World.{IsAmong}
+use Rattle.hurd_machine.specs.Sight.{one_if, count_list, count_rights}
+use Rattle.hurd_core.specs.Core.{HoldsRights}
+use Rattle.hurd_core.proofs.HoldLaws.{one_turned}
 use Rattle.hurd_world.specs.Boot.{boot_task, boot_tasks, boot_opens, boot_ports, closed_open}
 
 -- maps with a value put in
@@ -133,3 +136,16 @@ boot_settled tasks q x h =
     let holds = λ (y : Task). list_any (names_open q) (rights_of y) in
     list_any_at holds (boot_tasks 0 tasks) one.0 task (slice_get_within (boot_tasks 0 tasks) one.0 task seat.1)
     (ap holds (get_or_from_slice_get (boot_tasks 0 tasks) one.0 task task seat.1) ∙ task_holds (0 + one.0) seat.0 q one.2)
+
+-- the boot root is held twice for each task
+
+boot_counts : (k : ℕ) (tasks : List IdSets) (n : Name) → count_list (λ m. same_name n m) (replicate (2 * length tasks) boot_name) ≡ count_rights (names_node n) (boot_tasks k tasks)
+boot_counts k [] n = refl
+boot_counts k (ids ∷ tasks) n =
+    let two : 2 * length (ids ∷ tasks) ≡ suc (suc (2 * length tasks)) = omega arith in
+    let rest = boot_counts (k + 1) tasks n in
+    let one : one_if (same_name n boot_name) ≡ one_if (same_name boot_name n) = one_turned n boot_name in
+    ap (λ (j : ℕ). count_list (λ m. same_name n m) (replicate j boot_name)) two ∙ omega (arith, rest, one)
+
+pub boot_holds : (tasks : List IdSets) → HoldsRights (replicate (2 * length tasks) boot_name) (boot_ports tasks).tasks
+boot_holds tasks n = boot_counts 0 tasks n

@@ -1,5 +1,5 @@
 -- The first world is sound, whatever the kind of the boot server.
-use Rattle.std.proofs.Common.{◌≡◌, inl, inr, codes, ℕ, ◌+◌, ◌<◌, Bool, true, false, true≢false, List, [], ◌∷◌, length, refl, ap, sym, subst, zero-add, ◌∙◌, arith}
+use Rattle.std.proofs.Common.{◌≡◌, inl, inr, codes, ℕ, ◌+◌, ◌<◌, Bool, true, false, true≢false, if◌then◌else◌, List, [], ◌∷◌, length, refl, ap, sym, subst, zero-add, ◌∙◌, arith}
 use Rattle.std.specs.Prelude.{Option, Some, None, cond}
 use Rattle.std.specs.Option.{option_map}
 use Rattle.std.specs.Str.{bytes_eq}
@@ -13,14 +13,18 @@ use Rattle.hurd_creds.specs.Names.{name_of}
 use Rattle.hurd_creds.proofs.NameLaws.{get_here}
 use Rattle.hurd_creds.proofs.MapLaws.{get-map_values}
 use Rattle.hurd_trans_iface.specs.Nodes.{Node, Header, IsShaped, is_dir, header_of, body_of}
+use Rattle.hurd_trans_iface.specs.declared.root.Root.{Root}
+use Rattle.hurd_trans_iface.specs.Answers.{is_plain, is_tree}
 use Rattle.hurd_trans_iface.specs.Good.{IsSized}
 use Rattle.hurd_trans_iface.specs.Meaning.{Meaning, Begins, ServerKind, Tmpfs, begin, behaviour_of, empty_body, new_root, new_server, root_of}
-use Rattle.hurd_nodes.specs.Shown.{NodeState, ServerInfo, boot_name, boot_mode, boot_info, booted, info_in, server_of, state_of}
+use Rattle.hurd_nodes.specs.Shown.{NodeState, ServerInfo, boot_name, boot_mode, boot_info, booted, info_in, server_of, state_of, tree_by}
 use Rattle.hurd_ports.specs.declared.table.Opened.{Opened}
 use Rattle.hurd_ports.specs.declared.table.Right.{Right}
 use Rattle.hurd_ports.specs.Tables.{Task, rights_of}
 use Rattle.hurd_machine.specs.World.{World, IsAmong, lists, lists_at, task_at}
-use Rattle.hurd_machine.specs.Sound.{Sound, Below, HasDistinctNames, AreGiven, AreHoused, IsTree, AreTables, AreSized}
+use Rattle.hurd_machine.specs.Sound.{Sound, Below, HasDistinctNames, AreGiven, AreHoused, IsTree, AreTables, Hangs, Linked, AreSized, AtRest, times_in, times_listed}
+use Rattle.hurd_machine.proofs.Stays.{root_is_root, stays_root}
+use Rattle.hurd_machine.proofs.Sums.{total_none}
 use Rattle.hurd_world.specs.Boot.{first_world}
 use Rattle.hurd_world.proofs.FirstPorts.{OfTask, boot_seat, boot_right, boot_number, boot_open, boot_settled, closed, only, opens_there}
 
@@ -51,6 +55,10 @@ empty_shaped _ h e = rw e refl
 empty_distinct : (b : Bool) → HasDistinctNames (empty_body b)
 empty_distinct true = tt
 empty_distinct false = tt
+
+empty_times : (b : Bool) (n : Name) → times_in n (empty_body b) ≡ 0
+empty_times true n = refl
+empty_times false n = refl
 
 empty_lists : (b : Bool) (n : Name) → lists n (empty_body b) ≡ false
 empty_lists true n = refl
@@ -110,6 +118,36 @@ module _ (kind : ServerKind) (text : List ℕ) where
     shapes = λ n x is. rw (node_only n x is).1 (empty_shaped (root_of kind).kind root.header refl);
     distinct = λ n x is. rw (node_only n x is).1 (empty_distinct (is_dir (root_of kind).kind));
     root = (root.header, root_header);
+    boot = root_is_root state boot_name info root_server root_home;
+  }
+
+  -- nothing names the root
+  root_unnamed : times_listed state.nodes boot_name ≡ 0
+  unfolding times_listed
+  root_unnamed = total_none (λ (x : Node). times_in boot_name x.body) state.nodes (λ n x is. rw (node_only n x is).1 (empty_times (is_dir (root_of kind).kind) boot_name))
+
+  -- where it keeps a tree, the root is a directory
+  root_links : (r : Root) (t : ℕ) → is_tree r ≡ true → 1 ≡ cond (is_dir r.kind) 1 t
+  root_links r t = go (is_dir r.kind)
+    where
+      go : (b : Bool) → (if b then is_plain r.crossing else false) ≡ true → 1 ≡ cond b 1 t
+      go true h = refl
+      go false h = absurd (true≢false (sym h))
+
+  hangs : Hangs state boot_name root.header
+  hangs = record {
+    up = λ p up. absurd (cc);
+    top = λ is. refl;
+    once = λ dir. omega (arith, root_unnamed);
+    links = λ tree.
+        let served : server_of state boot_name ≡ Some info = ap (info_in state.servers) root_home ∙ root_server in
+        root_links (root_of kind) (times_listed state.nodes boot_name) (sym (ap tree_by served) ∙ tree);
+  }
+
+  linked : Linked state
+  linked = record {
+    nodes = λ n k is. let e = header_only n k is in rw (e.0, e.1) hangs;
+    rooted = λ d n is. absurd (no_entry d n is);
   }
 
   sized : AreSized state
@@ -159,8 +197,15 @@ module _ (kind : ServerKind) (text : List ℕ) where
       written = λ t x r o k at has is asked there. absurd (true≢false (sym asked ∙ ap (λ (y : Opened). asks y.modes WRITE) (boot_open tasks r.open_name o is).3));
     }
 
+    -- the one node is its server's root, and so stays
+    rest : AtRest w
+    rest = record {
+      nodes = λ n x is. rw ((node_only n x is).0) (stays_root w boot_name info root_server root_home);
+      opens = boot_settled tasks;
+    }
+
     sound : Sound w
-    sound = record { coherent = record { given = given; housing = housed; tree = tree; tables = tables }; sizes = sized; settled = boot_settled tasks }
+    sound = record { coherent = record { given = given; housing = housed; tree = tree; tables = tables }; linked = linked; sizes = sized; settled = rest }
 
 pub first_sound : (m : Meaning) (tasks : List IdSets) → Begins m → Sound (first_world m tasks)
 first_sound m tasks b = let new = begun_new m b in rw new.2 (sound new.0 new.1 tasks)

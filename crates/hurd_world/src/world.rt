@@ -10,7 +10,8 @@ ghost use Rattle.hurd_world.specs.Boot.{boot_of, first_world};
 use crate::boot::first_ports;
 use hurd_core::Core;
 use hurd_creds::{Errno, Ids, TaskId};
-use hurd_files::files;
+use hurd_dirs::{file, link, make, remove, rename};
+use hurd_files::{access, files};
 use hurd_io::io;
 use hurd_lookup::lookup;
 use hurd_machine::{Call, Reply};
@@ -55,12 +56,15 @@ impl<S: Server> World<S> {
         if tasks.len() > MOST_TASKS {
             return Err((Errno::EINVAL, root));
         }
-        match first_ports(alloc, tasks) {
-            Ok(ports) => Ok(World {
-                core: Core::new(Nodes::starting_with(root), ports),
-            }),
-            Err(errno) => Err((errno, root)),
-        }
+        let rights = 2 * tasks.len();
+        let ports = match first_ports(alloc, tasks) {
+            Ok(ports) => ports,
+            Err(errno) => return Err((errno, root)),
+        };
+        let nodes = Nodes::starting_with(alloc, root, rights)?;
+        Ok(World {
+            core: Core::new(nodes, ports),
+        })
     }
 
     /// Makes one call of a task. A refused call changes nothing.
@@ -70,6 +74,13 @@ impl<S: Server> World<S> {
     pub fn call(&mut self, alloc: Global, task: TaskId, call: Call) -> Reply
         ensures answer { Called (world_of S.meaning self.old) task.0 call result (world_of S.meaning self.new) }
         ensures sound { Sound (world_of S.meaning self.old) → Sound (world_of S.meaning self.new) }
+    {
+        self.dispatch(alloc, task, call)
+    }
+
+    /// Hands one call of a task to its row.
+    fn dispatch(&mut self, alloc: Global, task: TaskId, call: Call) -> Reply
+        ensures { Called (world_of S.meaning self.old) task.0 call result (world_of S.meaning self.new) }
     {
         let core = &mut self.core;
         match call {
@@ -109,10 +120,31 @@ impl<S: Server> World<S> {
                 Reply::Refused,
                 Reply::Count,
             ),
+            Call::IoStat { port } => {
+                io::io_stat(core, task, port).map_or_else(Reply::Refused, Reply::Stat)
+            }
             Call::FileSetSize { port, size } => {
                 files::file_set_size(core, task, port, size).map_or_else(
                     Reply::Refused,
                     |()| Reply::Done,
+                )
+            }
+            Call::FileChmod { port, mode } => {
+                access::file_chmod(core, task, port, mode).map_or_else(
+                    Reply::Refused,
+                    |()| Reply::Done,
+                )
+            }
+            Call::FileChown { port, owner, group } => {
+                access::file_chown(core, task, port, owner, group).map_or_else(
+                    Reply::Refused,
+                    |()| Reply::Done,
+                )
+            }
+            Call::FileCheckAccess { port } => {
+                access::file_check_access(core, task, port).map_or_else(
+                    Reply::Refused,
+                    Reply::Modes,
                 )
             }
             Call::DirReaddir { port } => {
@@ -121,6 +153,46 @@ impl<S: Server> World<S> {
                     Reply::Names,
                 )
             }
+            Call::DirMkdir { dir, name, mode } => make::dir_mkdir(
+                core,
+                alloc,
+                task,
+                dir,
+                name.as_slice(),
+                mode,
+            ).map_or_else(Reply::Refused, |()| Reply::Done),
+            Call::DirMkfile { dir, flags, mode } => file::dir_mkfile(
+                core, alloc, task, dir, flags, mode,
+            ).map_or_else(Reply::Refused, Reply::Port),
+            Call::DirRmdir { dir, name } => remove::dir_rmdir(
+                core,
+                task,
+                dir,
+                name.as_slice(),
+            ).map_or_else(Reply::Refused, |()| Reply::Done),
+            Call::DirUnlink { dir, name } => remove::dir_unlink(
+                core,
+                task,
+                dir,
+                name.as_slice(),
+            ).map_or_else(Reply::Refused, |()| Reply::Done),
+            Call::DirLink { dir, name, file } => link::dir_link(
+                core,
+                alloc,
+                task,
+                dir,
+                name.as_slice(),
+                file,
+            ).map_or_else(Reply::Refused, |()| Reply::Done),
+            Call::DirRename { dir, name, to, new } => rename::dir_rename(
+                core,
+                alloc,
+                task,
+                dir,
+                name.as_slice(),
+                to,
+                new.as_slice(),
+            ).map_or_else(Reply::Refused, |()| Reply::Done),
         }
     }
 

@@ -1,5 +1,5 @@
 -- The names behind the dots; nothing changes.
-use Rattle.std.proofs.Common.{sym, refl, ap, ◌∙◌}
+use Rattle.std.proofs.Common.{refl, ap}
 use Rattle.std.proofs.lemmas.Result.{err_from_is_err_and}
 use Rattle.hurd_machine.specs.declared.call.Reply.TheVariants as reply
 use Rattle.hurd_core.specs.Core.{world_of}
@@ -22,5 +22,4 @@ returns-in_err-with_dots g c =
 pub returns : goal.returns
 returns g c =
     let w = world_of g.S.Server.meaning c.args.core.now in
-    let told = rw c.as_slice.ensures at c.in_ok-with_dots.ensures in
-    asked-done w (readdir_asks w c.args.task.0 c.args.port) _ (λ ns. reply.Names ns) c.in_ok-names.names c.in_ok-with_dots.field-0 w c.in_ok-names.ensures (ap (λ ns. reply.Names ns) told) refl
+    asked-done w (readdir_asks w c.args.task.0 c.args.port) _ (λ ns. reply.Names ns) c.in_ok-names.names c.in_ok-with_dots.field-0 w c.in_ok-names.ensures (ap (λ ns. reply.Names ns) c.in_ok-with_dots.ensures) refl

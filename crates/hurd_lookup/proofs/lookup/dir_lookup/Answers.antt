@@ -2,7 +2,7 @@
 use Rattle.std.proofs.Common.{refl, sym, inl}
 use Rattle.std.proofs.lemmas.Result.{err_from_is_err_and}
 use Rattle.hurd_nodes.specs.Shown.{shown}
-use Rattle.hurd_core.specs.File.{file_of}
+use Rattle.hurd_core.specs.ToMake.{new_node_of}
 use Rattle.hurd_lookup.proofs.DoneLaws.{unfound, full, lacks, opened, unopened, made, unmade}
 use Rattle.hurd_lookup.proofs.lookup.dir_lookup.Goals as goal
 
@@ -42,7 +42,7 @@ returns-in_err-port-in-Makes g c =
     let found = rw (c.new-request.ensures, c.in-Makes.is) at c.in_ok-ids.ensures in
     let room = rw (c.names.ensures, c.in-Makes.is) at c.in_ok-room.ensures in
     rw (p.1, p.2)
-    (unmade (shown g.S.Server.meaning c.args.core.now.nodes) c.args.core.now.ports.state c.args.task.0 c.args.dir c.args.path.now c.args.flags c.args.mode _ c.in-Makes.field-0 (file_of c.in-Makes.file) (sym found) (sym room) _ _ c.in_err-port-in-Makes.ensures)
+    (unmade (shown g.S.Server.meaning c.args.core.now.nodes) c.args.core.now.ports.state c.args.task.0 c.args.dir c.args.path.now c.args.flags c.args.mode _ c.in-Makes.field-0 (new_node_of c.in-Makes.file) (sym found) (sym room) _ _ c.in_err-port-in-Makes.ensures)
 
 pub returns-in_ok-port-in-Opens : goal.returns-in_ok-port-in-Opens
 returns-in_ok-port-in-Opens g c =
@@ -56,4 +56,4 @@ returns-in_ok-port-in-Makes g c =
     let found = rw (c.new-request.ensures, c.in-Makes.is) at c.in_ok-ids.ensures in
     let room = rw (c.names.ensures, c.in-Makes.is) at c.in_ok-room.ensures in
     let does = rw (c.open_modes-modes.ensures, c.in_ok-ids-2.ensures) at c.in_ok-port-in-Makes.ensures in
-    made (shown g.S.Server.meaning c.args.core.now.nodes) c.args.core.now.ports.state c.args.task.0 c.args.dir c.args.path.now c.args.flags c.args.mode _ c.in-Makes.field-0 (file_of c.in-Makes.file) (sym found) (sym room) _ _ does
+    made (shown g.S.Server.meaning c.args.core.now.nodes) c.args.core.now.ports.state c.args.task.0 c.args.dir c.args.path.now c.args.flags c.args.mode _ c.in-Makes.field-0 (new_node_of c.in-Makes.file) (sym found) (sym room) _ _ does

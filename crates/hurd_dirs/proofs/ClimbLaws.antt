@@ -1,0 +1,101 @@
+-- Whether a directory is another, or below it.
+use Rattle.std.proofs.Common.{◌≡◌, ◌⊎◌, ◌∙◌, ℕ, zero, suc, ◌+◌, ◌-◌, ◌<◌, ◌≤◌, ◌||◌, Bool, true, false, true≢false, Option, Some, None, sym, refl, ap, inl, inr, arith}
+use Rattle.hurd_creds.specs.declared.name.Name.{Name}
+use Rattle.hurd_creds.specs.Names.{same_name}
+use Rattle.hurd_creds.proofs.NameLaws.{apart_if_not_same}
+use Rattle.hurd_trans_iface.specs.Nodes.{Header}
+use Rattle.hurd_machine.specs.World.{World, nodes_of, header_at}
+use Rattle.hurd_machine.specs.Sight.{Seen, Parent}
+use Rattle.hurd_machine.specs.Sound.{LeadsUp, AtRoot, Above}
+use Rattle.hurd_machine.proofs.Views.{Agree, header_same}
+use Rattle.hurd_machine.proofs.Moves.{LeadsAround, RootApart, AboveApart}
+use Rattle.hurd_dirs.specs.Rename.{parent_in, above, met_within, is_inside}
+
+neither : (a b : Bool) → (a || b) ≡ false → (a ≡ false) × (b ≡ false)
+neither true b h = absurd (true≢false h)
+neither false b h = (refl, h)
+
+-- it is the same in worlds that agree: all above a seen directory is seen
+
+module _ {S : ℕ → Bool} {v w : World} (a : Agree S v w) (n : Name) where
+  met_same : (k : ℕ) (d : Name) → Seen S v d → met_within k w n d ≡ met_within k v n d
+  unfolding met_within
+  met_same zero d seen = refl
+  met_same (suc k) d seen =
+      ap (λ o. same_name d n || above (met_within k w n) (parent_in o)) (header_same a d seen) ∙ ap (λ b. same_name d n || b) (by_header (header_at v d) refl (λ p h is up. met_same k p (Parent d h seen is up)))
+    where
+      by_parent : (o : Option Name) → ((p : Name) → o ≡ Some p → met_within k w n p ≡ met_within k v n p) → above (met_within k w n) o ≡ above (met_within k v n) o
+      by_parent None ih = refl
+      by_parent (Some p) ih = ih p refl
+
+      by_header : (o : Option Header) → header_at v d ≡ o → ((p : Name) (h : Header) → header_at v d ≡ Some h → h.parent ≡ Some p → met_within k w n p ≡ met_within k v n p)
+          → above (met_within k w n) (parent_in o) ≡ above (met_within k v n) (parent_in o)
+      by_header None is ih = refl
+      by_header (Some h) is ih = by_parent h.parent (λ p up. ih p h is up)
+
+  pub inside_same : (d : Name) → Seen S v d → is_inside w n d ≡ is_inside v n d
+  unfolding is_inside
+  inside_same d seen = met_same 18446744073709551615 d seen
+
+-- from a directory that isn't below n, the parents lead up around n
+
+around : (w : World) (n : Name) (k : ℕ) (d : Name) → met_within k w n d ≡ false → LeadsUp (nodes_of w) d → LeadsAround (nodes_of w) n d
+unfolding met_within
+around w n zero d out up = absurd (true≢false out)
+around w n (suc k) d out (AtRoot is) = let l = neither (same_name d n) _ out in RootApart (apart_if_not_same d n l.0) is
+around w n (suc k) d out (Above p h is up rest) =
+    let l = neither (same_name d n) _ out in
+    AboveApart p h (apart_if_not_same d n l.0) is up (around w n k p (sym (ap (above (met_within k w n)) (ap parent_in is ∙ up)) ∙ l.1) rest)
+
+pub inside_around : (w : World) (n d : Name) → is_inside w n d ≡ false → LeadsUp (nodes_of w) d → LeadsAround (nodes_of w) n d
+unfolding is_inside
+inside_around w n d out up = around w n 18446744073709551615 d out up
+
+-- nothing is below n that wasn't, where each node keeps its parent or loses it
+
+module _ (w x : World) (fewer : (d : Name) → (parent_in (header_at x d) ≡ parent_in (header_at w d)) ⊎ (parent_in (header_at x d) ≡ None)) (n : Name) where
+  met_fewer : (k : ℕ) (d : Name) → met_within k w n d ≡ false → met_within k x n d ≡ false
+  unfolding met_within
+  met_fewer zero d out = out
+  met_fewer (suc k) d out =
+      let l = neither (same_name d n) _ out in
+      ap (λ b. b || above (met_within k x n) (parent_in (header_at x d))) l.0
+      ∙ elim (fewer d) [
+        | inl same ↦ ap (above (met_within k x n)) same ∙ by_parent (parent_in (header_at w d)) (λ p. met_fewer k p) l.1
+        | inr none ↦ ap (above (met_within k x n)) none
+      ]
+    where
+      by_parent : (o : Option Name) → ((p : Name) → met_within k w n p ≡ false → met_within k x n p ≡ false) → above (met_within k w n) o ≡ false → above (met_within k x n) o ≡ false
+      by_parent None ih h = refl
+      by_parent (Some p) ih h = ih p h
+
+  pub inside_fewer : (d : Name) → is_inside w n d ≡ false → is_inside x n d ≡ false
+  unfolding is_inside
+  inside_fewer d out = met_fewer 18446744073709551615 d out
+
+-- one step more, of so many
+
+module _ (w : World) (n : Name) where
+  met_next : (k : ℕ) (d : Name) → met_within (suc k) w n d ≡ (same_name d n || above (met_within k w n) (parent_in (header_at w d)))
+  unfolding met_within
+  met_next k d = refl
+
+  pub climb_step : (top i : ℕ) (d : Name) → i < top → met_within (top - i) w n d ≡ (same_name d n || above (met_within (top - (i + 1)) w n) (parent_in (header_at w d)))
+  climb_step top i d low = let e : top - i ≡ suc (top - (i + 1)) = omega arith in ap (λ k. met_within k w n d) e ∙ met_next (top - (i + 1)) d
+
+  pub climb_begin : (d : Name) → met_within 18446744073709551615 w n d ≡ is_inside w n d
+  unfolding is_inside
+  climb_begin d = refl
+
+  met_none : (d : Name) → met_within zero w n d ≡ true
+  unfolding met_within
+  met_none d = refl
+
+  pub climb_end : (top i : ℕ) (d : Name) → top ≤ i → met_within (top - i) w n d ≡ true
+  climb_end top i d high = let e : top - i ≡ 0 = omega arith in ap (λ k. met_within k w n d) e ∙ met_none d
+
+  pub climb_found : (top i : ℕ) (d : Name) → i < top → same_name d n ≡ true → met_within (top - i) w n d ≡ true
+  climb_found top i d low same = climb_step top i d low ∙ ap (λ b. b || above (met_within (top - (i + 1)) w n) (parent_in (header_at w d))) same
+
+  pub climb_on : (top i : ℕ) (d : Name) (o : Option Name) → i < top → same_name d n ≡ false → parent_in (header_at w d) ≡ o → met_within (top - i) w n d ≡ above (met_within (top - (i + 1)) w n) o
+  climb_on top i d o low apart up = climb_step top i d low ∙ ap (λ b. b || above (met_within (top - (i + 1)) w n) (parent_in (header_at w d))) apart ∙ ap (above (met_within (top - (i + 1)) w n)) up

@@ -1,0 +1,9 @@
+pub mod EntryLaws
+pub mod BothLaws
+pub mod MakeLaws
+pub mod LinkLaws
+pub mod ClimbLaws
+pub mod OrderLaws
+pub mod RenameLaws
+pub mod RemoveLaws
+pub mod FileLaws

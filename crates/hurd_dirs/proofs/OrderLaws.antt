@@ -1,0 +1,132 @@
+-- Edits of nodes in another order: the server's own order of a rename, and the plan's, leave one world.
+use Rattle.std.proofs.Common.{◌≡◌, ◌≢◌, ◌∙◌, ℕ, not, Bool, true, false, if◌then◌else◌, is_some, List, [], ◌∷◌, ◌++◌, Option, Some, None, refl, sym, ap, subst, inl, inr}
+use Rattle.std.specs.Prelude.{Result, Ok, Err}
+use Rattle.std.specs.Option.{option_map}
+use Rattle.std.specs.Str.{bytes_eq}
+use Rattle.std.specs.FinMap.{get}
+use Rattle.hurd_creds.specs.declared.name.Name.{Name}
+use Rattle.hurd_creds.specs.declared.errno.Errno.{Errno}
+use Rattle.hurd_creds.specs.declared.errno.Errno.TheVariants.{ENOENT, ENOTDIR, EROFS, EXDEV}
+use Rattle.hurd_creds.specs.NameMaps.{NameMap, edit}
+use Rattle.hurd_creds.proofs.NameLaws.{same_map_by, same_or_apart, edit_here, edit_apart}
+use Rattle.hurd_trans_iface.specs.Nodes.{NodeMap, Node, Entry, Header, Body, Content, Listing, Edit, is_dir, less_entry, without_entry, with_entry, moved_to, unlinked, with_header, with_body, node_of_edit}
+use Rattle.hurd_trans_iface.specs.Answers.{entry_of, is_tree, move_edits, is_one, rename_edits}
+use Rattle.hurd_trans_iface.specs.Meaning.{root_of}
+use Rattle.hurd_nodes.specs.Shown.{ServerInfo, are_kin, own_edits, tree_by, rename_by}
+use Rattle.hurd_machine.specs.World.{World, header_at, body_at, home_at, info_at, renames_at}
+use Rattle.hurd_machine.specs.Change.{Change, EditHeader, EditBody, Settle, settle, apply, apply_all, changes_of}
+use Rattle.hurd_machine.proofs.Nodes.{header_in, body_in}
+use Rattle.hurd_machine.proofs.Removals.{same_exact}
+use Rattle.hurd_machine.proofs.Renames.{gone}
+use Rattle.hurd_core.specs.Core.{renaming}
+
+edit_at : {X : Type 0} (m : NameMap X) (a : Name) (f : X → X) (q : Name) → q ≡ a → get (edit a f m) q ≡ option_map f (get m q)
+edit_at m a f q e = subst (λ z. get (edit a f m) z ≡ option_map f (get m z)) (sym e) (edit_here m a f)
+
+-- edits that do the same in either order to one thing do so to a map
+edits_turned : {X : Type 0} (m : NameMap X) (a b : Name) (f g : X → X) → ((x : X) → f (g x) ≡ g (f x)) → edit a f (edit b g m) ≡ edit b g (edit a f m)
+edits_turned {X} m a b f g turned = same_map_by _ _ (λ q. elim (same_or_apart q a) [
+  | inl qa ↦ elim (same_or_apart q b) [
+    | inl qb ↦
+        edit_at (edit b g m) a f q qa ∙ ap (option_map f) (edit_at m b g q qb) ∙ both (get m q)
+        ∙ sym (ap (option_map g) (edit_at m a f q qa)) ∙ sym (edit_at (edit a f m) b g q qb)
+    | inr nb ↦ edit_at (edit b g m) a f q qa ∙ ap (option_map f) (edit_apart m b g q nb) ∙ sym (edit_at m a f q qa) ∙ sym (edit_apart (edit a f m) b g q nb)
+  ]
+  | inr na ↦ elim (same_or_apart q b) [
+    | inl qb ↦ edit_apart (edit b g m) a f q na ∙ edit_at m b g q qb ∙ sym (ap (option_map g) (edit_apart m a f q na)) ∙ sym (edit_at (edit a f m) b g q qb)
+    | inr nb ↦ edit_apart (edit b g m) a f q na ∙ edit_apart m b g q nb ∙ sym (edit_apart m a f q na) ∙ sym (edit_apart (edit a f m) b g q nb)
+  ]
+])
+  where
+    both : (o : Option X) → option_map f (option_map g o) ≡ option_map g (option_map f o)
+    both None = refl
+    both (Some x) = ap Some (turned x)
+
+-- two entries go in either order
+
+less_turned : (a b : List ℕ) (es : List Entry) → less_entry a (less_entry b es) ≡ less_entry b (less_entry a es)
+less_turned a b [] = refl
+less_turned a b (e ∷ es) = go (bytes_eq e.name a) (bytes_eq e.name b) refl refl (less_turned a b es)
+  where
+    go : (x y : Bool) → bytes_eq e.name a ≡ x → bytes_eq e.name b ≡ y → less_entry a (less_entry b es) ≡ less_entry b (less_entry a es)
+        → less_entry a (if y then es else e ∷ less_entry b es) ≡ less_entry b (if x then es else e ∷ less_entry a es)
+    go true true ea eb ih = ap (λ z. less_entry z es) (sym (same_exact e.name a ea) ∙ same_exact e.name b eb)
+    go true false ea eb ih = rw ea refl
+    go false true ea eb ih = rw eb refl
+    go false false ea eb ih = rw (ea, eb) (ap (λ z. e ∷ z) ih)
+
+without_turned : (a b : List ℕ) (x : Node) → with_body (without_entry a) (with_body (without_entry b) x) ≡ with_body (without_entry b) (with_body (without_entry a) x)
+without_turned a b x = ap (λ (c : Body). let y : Node = record { header = x.header; body = c } in y) (by x.body)
+  where
+    by : (c : Body) → without_entry a (without_entry b c) ≡ without_entry b (without_entry a c)
+    by (Content bs) = refl
+    by (Listing es) = ap Listing (less_turned a b es)
+
+head_turned : (m : NodeMap) (a b : Name) (f : Header → Header) (g : Body → Body) → edit a (with_header f) (edit b (with_body g) m) ≡ edit b (with_body g) (edit a (with_header f) m)
+head_turned m a b f g = edits_turned m a b (with_header f) (with_body g) (λ x. refl)
+
+-- where all nodes are of one server, it makes all edits
+
+abbrev AllKin : Option Name → NameMap Name → List Edit → Type 0
+AllKin s homes [] = Unit {0}
+AllKin s homes (e ∷ es) = (are_kin s (get homes (node_of_edit e)) ≡ true) × AllKin s homes es
+
+all_own : (s : Option Name) (homes : NameMap Name) (es : List Edit) → AllKin s homes es → own_edits s homes es ≡ es
+all_own s homes [] kin = refl
+all_own s homes (e ∷ es) kin = ap (λ b. if b then e ∷ own_edits s homes es else own_edits s homes es) kin.0 ∙ ap (λ z. e ∷ z) (all_own s homes es kin.1)
+
+module _ (w : World) (d : Name) (name : List ℕ) (n e : Name) (new : List ℕ) where
+  abbrev with_nodes : NodeMap → World
+  with_nodes m = record { nodes = m; homes = w.homes; servers = w.servers; opens = w.opens; tasks = w.tasks }
+
+  module _ (entry : entry_of name (body_at w d) ≡ Some n) (own : are_kin (home_at w d) (home_at w d) ≡ true) (to : are_kin (home_at w d) (home_at w e) ≡ true) (node : are_kin (home_at w d) (home_at w n) ≡ true) where
+    -- nothing stands under the new name
+    pub goes-alone : entry_of new (body_at w e) ≡ None → apply_all (renaming w d name e new) w ≡ apply_all (gone d name n e new) w
+    goes-alone none =
+        ap (λ z. apply_all (changes_of z ++ Settle ∷ []) w)
+        (ap (λ o. own_edits (home_at w d) w.homes (rename_edits d name e new o (entry_of new (body_at w e)))) entry
+        ∙ ap (λ o. own_edits (home_at w d) w.homes (rename_edits d name e new (Some n) o)) none
+        ∙ all_own (home_at w d) w.homes (move_edits d name e new n None) (own, (to, (node, tt))))
+        ∙ ap (λ m. settle (with_nodes m)) (head_turned (edit d (with_body (without_entry name)) w.nodes) n e (moved_to e) (with_entry new n))
+
+    -- another node does
+    pub goes-over : (m : Name) → entry_of new (body_at w e) ≡ Some m → is_one n (Some m) ≡ false → are_kin (home_at w d) (home_at w m) ≡ true
+        → apply_all (renaming w d name e new) w ≡ apply_all (EditBody e (without_entry new) ∷ EditHeader m unlinked ∷ gone d name n e new) w
+    goes-over m some other kin =
+        let base : NodeMap = w.nodes in
+        let taken : NodeMap = edit e (with_body (without_entry new)) base in
+        ap (λ z. apply_all (changes_of z ++ Settle ∷ []) w)
+        (ap (λ o. own_edits (home_at w d) w.homes (rename_edits d name e new o (entry_of new (body_at w e)))) entry
+        ∙ ap (λ o. own_edits (home_at w d) w.homes (rename_edits d name e new (Some n) o)) some
+        ∙ ap (λ b. own_edits (home_at w d) w.homes (if b then [] else move_edits d name e new n (Some m))) other
+        ∙ all_own (home_at w d) w.homes (move_edits d name e new n (Some m)) (own, (to, (kin, (to, (node, tt))))))
+        ∙ ap (λ k. settle (with_nodes k))
+        (head_turned (edit m (with_header unlinked) (edit e (with_body (without_entry new)) (edit d (with_body (without_entry name)) base))) n e (moved_to e) (with_entry new n)
+        ∙ ap (λ k. edit e (with_body (with_entry new n)) (edit n (with_header (moved_to e)) k))
+        (ap (edit m (with_header unlinked)) (edits_turned base e d (with_body (without_entry new)) (with_body (without_entry name)) (without_turned new name))
+        ∙ head_turned taken m d unlinked (without_entry name)))
+
+-- a server lets an entry that is there go between two directories of its tree
+pub may_rename : (w : World) (d : Name) (name : List ℕ) (n e : Name) (h k : Header) → header_at w d ≡ Some h → is_dir h.kind ≡ true → tree_by (info_at w d) ≡ true → are_kin (home_at w d) (home_at w e) ≡ true
+    → header_at w e ≡ Some k → is_dir k.kind ≡ true → entry_of name (body_at w d) ≡ Some n → renames_at w d name e ≡ Ok tt
+may_rename w d name n e h k at dir tree kin to to_dir is =
+    ap (λ b. rename_by name b (info_at w d) (get w.nodes d) (get w.nodes e)) kin ∙ go (info_at w d) (get w.nodes d) (get w.nodes e) at tree to is
+  where
+    last : (a : Bool) (o : Option Name) → a ≡ true → o ≡ Some n → (if not a then Err ENOTDIR else if is_some o then Ok tt else Err ENOENT) ≡ Ok (tt {0})
+    last true o ea eo = ap (λ z. if is_some z then Ok tt else Err ENOENT) eo
+    last false o ea eo = absurd (cc)
+
+    begins : (a b : Bool) (r : Result (Unit {0}) Errno) → a ≡ true → b ≡ true → r ≡ Ok tt → (if not a then Err ENOTDIR else if not b then Err EROFS else r) ≡ Ok (tt {0})
+    begins true true r ea eb er = er
+    begins false b r ea eb er = absurd (cc)
+    begins true false r ea eb er = absurd (cc)
+
+    go : (i : Option ServerInfo) (o p : Option Node) → header_in o ≡ Some h → tree_by i ≡ true → header_in p ≡ Some k → entry_of name (body_in o) ≡ Some n → rename_by name true i o p ≡ Ok tt
+    go None o p eh et ek en = absurd (cc)
+    go (Some i) None p eh et ek en = absurd (cc)
+    go (Some i) (Some x) None eh et ek en = absurd (cc)
+    go (Some i) (Some x) (Some y) eh et ek en =
+        let one : x.header ≡ h = cc (eh) in
+        let two : y.header ≡ k = cc (ek) in
+        begins (is_dir x.header.kind) (is_tree (root_of i.kind)) _ (ap (λ (z : Header). is_dir z.kind) one ∙ dir) et
+        (last (is_dir y.header.kind) (entry_of name (Some x.body)) (ap (λ (z : Header). is_dir z.kind) two ∙ to_dir) en)

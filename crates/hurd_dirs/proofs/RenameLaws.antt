@@ -1,0 +1,592 @@
+-- The laws of renames.
+use Rattle.std.proofs.Common.{◌≡◌, ◌≢◌, ◌⊎◌, ◌∙◌, ℕ, ◌&&◌, ◌||◌, not, Bool, true, false, true≢false, if◌then◌else◌, List, [], ◌∷◌, ◌++◌, Option, Some, None, refl, sym, subst, inl, inr, ap, ap₂}
+use Rattle.std.specs.Prelude.{Result, Ok, Err}
+use Rattle.std.specs.Option.{option_map}
+use Rattle.std.specs.FinMap.{get}
+use Rattle.std.proofs.lemmas.Bool.{and_parts}
+use Rattle.hurd_creds.specs.declared.name.Name.{Name}
+use Rattle.hurd_creds.specs.declared.attrs.Kind.TheVariants.{Dir}
+use Rattle.hurd_creds.specs.declared.attrs.Want.TheVariants.{Write, Exec}
+use Rattle.hurd_creds.specs.declared.errno.Errno.{Errno}
+use Rattle.hurd_creds.specs.declared.errno.Errno.TheVariants.{EACCES, EDIED, EINVAL, EISDIR, ENOENT, ENOTDIR, ENOTEMPTY, EROFS, EXDEV}
+use Rattle.hurd_creds.specs.Access.{may}
+use Rattle.hurd_creds.specs.Names.{same_name}
+use Rattle.hurd_creds.proofs.NameLaws.{same_or_apart, apart_if_not_same, same_name-apart, edit_apart}
+use Rattle.hurd_trans_iface.specs.Nodes.{Node, Entry, Header, Body, Content, Listing, is_dir, is_empty_dir, less_entry, unlinked, with_header, with_body, without_entry}
+use Rattle.hurd_trans_iface.specs.Answers.{entry_of}
+use Rattle.hurd_trans_iface.proofs.Goods.{good}
+use Rattle.hurd_nodes.specs.Shown.{are_kin, tree_by, info_in}
+use Rattle.hurd_machine.specs.declared.call.Reply.TheVariants.{Done}
+use Rattle.hurd_machine.specs.World.{World, nodes_of, header_at, body_at, home_at, info_at, is_removed, lists_at, renames_at}
+use Rattle.hurd_machine.specs.Plan.{Plan, Planned}
+use Rattle.hurd_machine.specs.Handle.{Named}
+use Rattle.hurd_machine.specs.Change.{Change, EditHeader, EditBody, apply, apply_all}
+use Rattle.hurd_machine.specs.Sight.{Part, AttrOf, EmptyOf, BodyOf, Seen, Child, Sees, Could, Allowed, ToSearch, ByParent, bare, AnEmpty}
+use Rattle.hurd_machine.specs.Sound.{HasDistinctNames, Coherent, Linked, LeadsUp}
+use Rattle.hurd_machine.proofs.Nodes.{header_in, body_in, node_of_header, edit_keeps, edit_reads, header-with_header, header-with_body, body-with_header, body-with_body}
+use Rattle.hurd_machine.proofs.Views.{Agree, header_same, home_same, body_same}
+use Rattle.hurd_machine.proofs.Coherence.{AllProper, coherent_all, proper_append, entry_lists}
+use Rattle.hurd_machine.proofs.Settle.{Rests, rests_settle}
+use Rattle.hurd_machine.proofs.Frame.{AllWithin, Full}
+use Rattle.hurd_machine.proofs.Sizes.{KeepsSized, sized_append, sized_header, sized_removed}
+use Rattle.hurd_machine.proofs.Several.{AllMay}
+use Rattle.hurd_machine.proofs.Links.{KeepsLinked, linked_append, leads_unless, listing_of}
+use Rattle.hurd_machine.proofs.Linking.{kin_are}
+use Rattle.hurd_machine.proofs.Removals.{MayRemove, unlinking, unlinked_less, distinct_at, entry_of_before, names_without, unlinking_proper, left_linked}
+use Rattle.hurd_machine.proofs.Moves.{LeadsAround}
+use Rattle.hurd_machine.proofs.Renames.{MayGo, may_go, gone, going, taken_none, taken_other, gone_within, gone_rests, gone_sized, gone_may, gone_proper, gone_linked}
+use Rattle.hurd_machine.proofs.Asks.{IsPlain, IsNamed, info_same, is_root_same, on_ok, given_ok, first_ok, on_same, given_same, first_same, on_plain, given_plain, first_plain, ok_plain, answered_same, answered_plain, done_plain}
+use Rattle.hurd_machine.proofs.CallLaws.{CallLaws, answered_within, answered_proper, answered_linked, answered_sized, answered_rests, answered_may}
+use Rattle.hurd_core.specs.Core as core
+use Rattle.hurd_core.specs.Core.{Does}
+use Rattle.hurd_core.proofs.PlanLaws.{asked-done, asked-lacks}
+use Rattle.hurd_dirs.specs.declared.rename.Renaming.{Renaming}
+use Rattle.hurd_dirs.specs.Entry.{name_asks, may_change, may_take}
+use Rattle.hurd_dirs.specs.Link.{both_asks}
+use Rattle.hurd_dirs.specs.Remove.{is_empty_at}
+use Rattle.hurd_dirs.specs.Rename.{parent_in, is_inside, trees_ask, leaves_asks, gives_way, old_asks, rename_asks, is_there, moves, renames, plan_rename, touches_rename}
+use Rattle.hurd_dirs.proofs.EntryLaws.{dir_kind, name_plain, right_taken, named_seen}
+use Rattle.hurd_dirs.proofs.BothLaws.{AreNamed, are_named, both_same, both_plain}
+use Rattle.hurd_dirs.proofs.RemoveLaws.{kin_itself}
+use Rattle.hurd_dirs.proofs.OrderLaws.{goes-alone, goes-over, may_rename}
+use Rattle.hurd_dirs.proofs.ClimbLaws.{inside_same, inside_around, inside_fewer}
+
+-- what an answer shows
+
+-- two directories of one tree that may be searched and written
+record AreTrees (w : World) (a b : Named) : Type 0 where
+  from_dir : a.header.kind ≡ Dir
+  to_dir : b.header.kind ≡ Dir
+  from_tree : tree_by (info_at w a.right.node) ≡ true
+  to_tree : tree_by (info_at w b.right.node) ≡ true
+  kin : home_at w a.right.node ≡ home_at w b.right.node
+  from_search : may a.right.ids (bare a.header) Exec ≡ true
+  from_write : may a.right.ids (bare a.header) Write ≡ true
+  to_search : may b.right.ids (bare b.header) Exec ≡ true
+  to_write : may b.right.ids (bare b.header) Write ≡ true
+
+are_trees : (w : World) (a b : Named) (u : Unit {0}) → trees_ask w a b ≡ Ok u → AreTrees w a b
+are_trees w a b u is =
+    let d = given_ok ENOTDIR (is_dir a.header.kind && is_dir b.header.kind) _ u is in
+    let t = given_ok EROFS (tree_by (info_at w a.right.node) && tree_by (info_at w b.right.node)) _ u d.1 in
+    let k = given_ok EXDEV (are_kin (home_at w a.right.node) (home_at w b.right.node)) _ u t.1 in
+    let m = given_ok EACCES (may_change a && may_change b) _ u k.1 in
+    let dirs = and_parts _ _ d.0 in
+    let trees = and_parts _ _ t.0 in
+    let both = and_parts _ _ m.0 in
+    let from = and_parts _ _ both.0 in
+    let to = and_parts _ _ both.1 in
+    record {
+      from_dir = dir_kind a.header.kind dirs.0;
+      to_dir = dir_kind b.header.kind dirs.1;
+      from_tree = trees.0;
+      to_tree = trees.1;
+      kin = sym (kin_are (home_at w a.right.node) (home_at w b.right.node) k.0);
+      from_search = from.0;
+      from_write = from.1;
+      to_search = to.0;
+      to_write = to.1;
+    }
+
+-- what goes, to a directory that isn't removed, and isn't below it
+record Leaves (w : World) (name : List ℕ) (a b : Named) (l : Name × Header) : Type 0 where
+  here : not (is_removed w b.right.node b.header) ≡ true
+  entry : entry_of name (body_at w a.right.node) ≡ Some l.0
+  is_header : header_at w l.0 ≡ Some l.1
+  kin : are_kin (home_at w a.right.node) (home_at w l.0) ≡ true
+  out : not (is_dir l.1.kind && is_inside w l.0 b.right.node) ≡ true
+
+leaves : (w : World) (name : List ℕ) (a b : Named) (l : Name × Header) → leaves_asks w name a b ≡ Ok l → Leaves w name a b l
+leaves w name a b l is =
+    let h = given_ok ENOENT (not (is_removed w b.right.node b.header)) _ l is in
+    let e = on_ok ENOENT (entry_of name (body_at w a.right.node)) _ l h.1 in
+    let k = on_ok EDIED (header_at w e.0) _ l e.2 in
+    let s = given_ok EDIED (are_kin (home_at w a.right.node) (home_at w e.0)) _ l k.2 in
+    let t = given_ok EACCES (may_take a.right.ids a.header k.0) _ l s.1 in
+    let i = given_ok EINVAL (not (is_dir k.0.kind && is_inside w e.0 b.right.node)) _ l t.1 in
+    let same : (e.0, k.0) ≡ l = cc (i.1) in
+    rw (← same) (record { here = h.0; entry = e.1; is_header = k.1; kin = s.0; out = i.0 })
+
+-- what gives way: if it is a directory, it has no entries
+record Way (w : World) (d m : Name) : Type 0 where
+  header : Header
+  is_header : header_at w m ≡ Some header
+  kin : are_kin (home_at w d) (home_at w m) ≡ true
+  empty : (not (is_dir header.kind) || is_empty_at (body_at w m)) ≡ true
+
+way : (w : World) (b : Named) (k : Header) (m : Name) (u : Unit {0}) → gives_way w b k m ≡ Ok u → Way w b.right.node m
+way w b k m u is =
+    let j = on_ok EDIED (header_at w m) _ u is in
+    let s = given_ok EDIED (are_kin (home_at w b.right.node) (home_at w m)) _ u j.2 in
+    let t = given_ok EACCES (may_take b.right.ids b.header j.0) _ u s.1 in
+    let o = given_ok ENOTDIR (not (is_dir k.kind) || is_dir j.0.kind) _ u t.1 in
+    let i = given_ok EISDIR (is_dir k.kind || not (is_dir j.0.kind)) _ u o.1 in
+    let e = given_ok ENOTEMPTY (not (is_dir j.0.kind) || is_empty_at (body_at w m)) _ u i.1 in
+    record { header = j.0; is_header = j.1; kin = s.0; empty = e.0 }
+
+record Asked (w : World) (t p q : ℕ) (name new : List ℕ) (a b : Named) (l : Name × Header) : Type 0 where
+  named : AreNamed w t p q (a, b)
+  trees : AreTrees w a b
+  leaving : Leaves w name a b l
+  old : old_asks w b l (entry_of new (body_at w b.right.node)) ≡ Ok tt
+
+abbrev renaming : World → List ℕ → Named → Named → Name × Header → Renaming
+renaming w new a b l = record { from = a.right.node; to = b.right.node; node = l.0; old = entry_of new (body_at w b.right.node) }
+
+-- what holds of all that is answered
+asked_all : (w : World) (t p q : ℕ) (name new : List ℕ) (P : Renaming → Type 0) → ((a b : Named) (l : Name × Header) → Asked w t p q name new a b l → P (renaming w new a b l)) → (r : Renaming) → rename_asks w t p name q new ≡ Ok r → P r
+asked_all w t p q name new P each r is =
+    let a = first_ok (both_asks w t p q) _ r is in
+    let u = first_ok (name_asks name) _ r a.2 in
+    let v = first_ok (name_asks new) _ r u.2 in
+    let d = first_ok (trees_ask w a.0.0 a.0.1) _ r v.2 in
+    let l = first_ok (leaves_asks w name a.0.0 a.0.1) _ r d.2 in
+    let o = first_ok (old_asks w a.0.1 l.0 (entry_of new (body_at w a.0.1.right.node))) _ r l.2 in
+    let same : renaming w new a.0.0 a.0.1 l.0 ≡ r = cc (o.2) in
+    subst P same (each a.0.0 a.0.1 l.0 (record { named = are_named w t p q a.0 a.1; trees = are_trees w a.0.0 a.0.1 d.0 d.1; leaving = leaves w name a.0.0 a.0.1 l.0 l.1; old = o.1 }))
+
+-- what holds of each list of changes that it may make
+by_old : (w : World) (b : Named) (l : Name × Header) (r : Renaming) (name new : List ℕ) (P : List Change → Type 0) → r.node ≡ l.0 → old_asks w b l r.old ≡ Ok tt → P [] → (r.old ≡ None → P (moves name new r))
+    → ((m : Name) → r.old ≡ Some m → m ≢ r.node → Way w b.right.node m → P (EditBody r.to (without_entry new) ∷ EditHeader m unlinked ∷ moves name new r)) → P (renames name new r r.old)
+by_old w b l r name new P node asks nothing none some = go r.old refl
+  where
+    by : (m : Name) → r.old ≡ Some m → (s : Bool) → same_name m r.node ≡ s → P (if s then [] else EditBody r.to (without_entry new) ∷ EditHeader m unlinked ∷ moves name new r)
+    by m e true es = nothing
+    by m e false es =
+        let other : same_name m l.0 ≡ false = ap (same_name m) (sym node) ∙ es in
+        let gives : gives_way w b l.1 m ≡ Ok tt = ap (λ s. if s then Ok tt else gives_way w b l.1 m) (sym other) ∙ ap (old_asks w b l) (sym e) ∙ asks in
+        some m e (apart_if_not_same m r.node es) (way w b l.1 m tt gives)
+
+    go : (o : Option Name) → r.old ≡ o → P (renames name new r o)
+    go None e = none e
+    go (Some m) e = by m e (same_name m r.node) refl
+
+-- what gives way is unlinked first, and nothing else of the world goes with it
+
+none_listed : (m : Name) (o : Option Body) → is_empty_at o ≡ true → lists_at m o ≡ false
+none_listed m None h = refl
+none_listed m (Some (Content bs)) h = refl
+none_listed m (Some (Listing [])) h = refl
+none_listed m (Some (Listing (e ∷ es))) h = absurd (true≢false (sym h))
+
+empty_dir : (k : Header) (o : Option Body) → (not (is_dir k.kind) || is_empty_at o) ≡ true → k.kind ≡ Dir → (m : Name) → lists_at m o ≡ false
+empty_dir k o h dir m = none_listed m o (ap (λ kind. not (is_dir kind) || is_empty_at o) (sym dir) ∙ h)
+
+module _ (w : World) (e : Name) (new : List ℕ) (m : Name) where
+  abbrev unlinked_world : World
+  unlinked_world = apply_all (unlinking e new m) w
+
+  abbrev cut_world : World
+  cut_world = apply (EditBody e (without_entry new)) w
+
+  left_header : (n : Name) → n ≢ m → header_at unlinked_world n ≡ header_at w n
+  left_header n apart =
+      ap header_in (edit_apart cut_world.nodes m (with_header unlinked) n apart)
+      ∙ edit_keeps header_in (with_body (without_entry new)) (header-with_body (without_entry new)) w.nodes e n
+
+  left_here : body_at unlinked_world e ≡ option_map (without_entry new) (body_at w e)
+  left_here =
+      edit_keeps body_in (with_header unlinked) (body-with_header unlinked) cut_world.nodes m e
+      ∙ edit_reads body_in (option_map (without_entry new)) (with_body (without_entry new)) (body-with_body (without_entry new)) w.nodes e
+
+  left_apart : (d : Name) → d ≢ e → body_at unlinked_world d ≡ body_at w d
+  left_apart d apart =
+      edit_keeps body_in (with_header unlinked) (body-with_header unlinked) cut_world.nodes m d ∙ ap body_in (edit_apart w.nodes e (with_body (without_entry new)) d apart)
+
+  -- each node keeps its parent, or loses it
+  left_parent : (d : Name) → (parent_in (header_at unlinked_world d) ≡ parent_in (header_at w d)) ⊎ (parent_in (header_at unlinked_world d) ≡ None)
+  left_parent d = elim (same_or_apart d m) [
+    | inl same ↦ by (header_at w m) refl same
+    | inr apart ↦ inl (ap parent_in (left_header d apart))
+  ]
+    where
+      read : header_at unlinked_world m ≡ option_map unlinked (header_at w m)
+      read =
+          edit_reads header_in (option_map unlinked) (with_header unlinked) (header-with_header unlinked) cut_world.nodes m
+          ∙ ap (option_map unlinked) (edit_keeps header_in (with_body (without_entry new)) (header-with_body (without_entry new)) w.nodes e m)
+
+      lost : (h : Header) (b : Bool) → is_dir h.kind ≡ b → ((unlinked h).parent ≡ h.parent) ⊎ ((unlinked h).parent ≡ None)
+      lost h true dir = inr (ap (λ z. if z then None else h.parent) dir)
+      lost h false dir = inl (ap (λ z. if z then None else h.parent) dir)
+
+      by : (o : Option Header) → header_at w m ≡ o → d ≡ m → (parent_in (header_at unlinked_world d) ≡ parent_in (header_at w d)) ⊎ (parent_in (header_at unlinked_world d) ≡ None)
+      by None is same = inr (rw same (ap parent_in (read ∙ ap (option_map unlinked) is)))
+      by (Some h) is same =
+          elim (lost h (is_dir h.kind) refl) [
+            | inl keeps ↦ inl (rw same (ap parent_in (read ∙ ap (option_map unlinked) is) ∙ keeps ∙ sym (ap parent_in is)))
+            | inr none ↦ inr (rw same (ap parent_in (read ∙ ap (option_map unlinked) is) ∙ none))
+          ]
+
+  -- bodies have distinct names
+  left_distinct : ((d : Name) (b : Body) → body_at w d ≡ Some b → HasDistinctNames b) → (d : Name) (b : Body) → body_at unlinked_world d ≡ Some b → HasDistinctNames b
+  left_distinct distinct d b is = elim (same_or_apart d e) [
+    | inl same ↦ by (body_at w e) refl (sym left_here ∙ rw same at is)
+    | inr apart ↦ distinct d b (sym (left_apart d apart) ∙ is)
+  ]
+    where
+      by : (o : Option Body) → body_at w e ≡ o → option_map (without_entry new) (body_at w e) ≡ Some b → HasDistinctNames b
+      by None at h = let none : None ≡ Some b = ap (option_map (without_entry new)) (sym at) ∙ h in absurd (cc)
+      by (Some c) at h =
+          let same : without_entry new c ≡ b = cc (ap (option_map (without_entry new)) (sym at) ∙ h) in
+          subst HasDistinctNames same (names_without new c (distinct e c at))
+
+-- in a world in which it is asked
+module _ (w : World) (t p q : ℕ) (name new : List ℕ) (a b : Named) (l : Name × Header) (f : Asked w t p q name new a b l) where
+  abbrev d : Name
+  d = a.right.node
+
+  abbrev e : Name
+  e = b.right.node
+
+  abbrev n : Name
+  n = l.0
+
+  abbrev k : Header
+  k = l.1
+
+  listed : lists_at n (body_at w d) ≡ true
+  listed = entry_lists name (body_at w d) n f.leaving.entry
+
+  not_inside : k.kind ≡ Dir → is_inside w n e ≡ false
+  not_inside dir = by (is_inside w n e) (ap (λ kind. not (is_dir kind && is_inside w n e)) (sym dir) ∙ f.leaving.out)
+    where
+      by : (z : Bool) → not z ≡ true → z ≡ false
+      by true h = sym h
+      by false h = refl
+
+  module _ (c : Coherent w) (linked : Linked (nodes_of w)) where
+    target : (es : List Entry) × (body_at w e ≡ Some (Listing es))
+    target =
+        let x = node_of_header (get w.nodes e) b.header f.named.other.is_header in
+        let dir : is_dir x.0.header.kind ≡ true = ap (λ (h : Header). is_dir h.kind) x.2 ∙ ap is_dir f.trees.to_dir in
+        let z = listing_of x.0.header x.0.body (c.tree.shapes e x.0 x.1) dir in
+        (z.0, ap body_in x.1 ∙ ap (λ y. Some y) z.1)
+
+    leads : LeadsUp (nodes_of w) e
+    leads = leads_unless w linked e b.header f.named.other.is_header f.leaving.here
+
+    -- where nothing stands under the new name
+    goes : entry_of new (body_at w e) ≡ None → MayGo w d name n e new
+    goes absent = let z = target in may_go w d name n e new k z.0 f.leaving.entry f.leaving.is_header z.1 f.trees.kin absent leads (λ dir. inside_around w n e (not_inside dir) leads)
+
+    -- where something does that gives way
+    module _ (m : Name) (old : entry_of new (body_at w e) ≡ Some m) (other : m ≢ n) (gives : Way w e m) where
+      old_listed : lists_at m (body_at w e) ≡ true
+      old_listed = entry_lists new (body_at w e) m old
+
+      removes : MayRemove w e new m
+      removes =
+          let x = node_of_header (get w.nodes e) b.header f.named.other.is_header in
+          record {
+            dir = x.0;
+            is_dir = x.1;
+            entry = sym (ap (λ o. entry_of new (body_in o)) x.1) ∙ old;
+            header = gives.header;
+            is_header = gives.is_header;
+            tree = ap (λ o. tree_by (info_in w.servers o)) (c.tree.kin e m old_listed) ∙ f.trees.to_tree;
+            empty = empty_dir gives.header (body_at w m) gives.empty;
+          }
+
+      abbrev left : World
+      left = unlinked_world w e new m
+
+      left_coherent : Coherent left
+      left_coherent = coherent_all (unlinking e new m) w c (unlinking_proper e new m w c removes linked)
+
+      left_links : Linked (nodes_of left)
+      left_links = left_linked e new m w c removes linked
+
+      -- the directory itself isn't what gives way: it has an entry
+      apart : e ≢ m
+      apart same =
+          let one : gives.header ≡ b.header = cc (gives.is_header, f.named.other.is_header, same) in
+          let none : lists_at m (body_at w m) ≡ false = empty_dir gives.header (body_at w m) gives.empty (ap (λ (h : Header). h.kind) one ∙ f.trees.to_dir) m in
+          true≢false (sym old_listed ∙ rw same none)
+
+      left_leads : LeadsUp (nodes_of left) e
+      left_leads = leads_unless left left_links e b.header (left_header w e new m e apart ∙ f.named.other.is_header) f.leaving.here
+
+      left_entry : entry_of name (body_at left d) ≡ Some n
+      left_entry = elim (same_or_apart d e) [
+        | inl same ↦ rw same (ap (entry_of name) (left_here w e new m) ∙ taken_other name new n m (λ z. other (sym z)) (body_at w e) (rw same at f.leaving.entry) old)
+        | inr out ↦ ap (entry_of name) (left_apart w e new m d out) ∙ f.leaving.entry
+      ]
+
+      left_goes : MayGo left d name n e new
+      left_goes =
+          let z = target in
+          may_go left d name n e new k (less_entry new z.0) left_entry (left_header w e new m n (λ same. other (sym same)) ∙ f.leaving.is_header)
+          (left_here w e new m ∙ ap (option_map (without_entry new)) z.1) f.trees.kin
+          (ap (entry_of new) (left_here w e new m) ∙ taken_none new (body_at w e) (distinct_at w c e)) left_leads
+          (λ dir. inside_around left n e (inside_fewer w left (left_parent w e new m) n e (not_inside dir)) left_leads)
+
+-- what S sees of it
+
+module _ {S : ℕ → Bool} {v : World} (t : ℕ) (ours : S t ≡ true) (p : ℕ) (a : Named) (is : IsNamed v t p a) (dir : a.header.kind ≡ Dir) where
+  -- the entries of a directory that the port's ids may search, and what they name
+  searched : may a.right.ids (bare a.header) Exec ≡ true → Sees S v (BodyOf a.right.node)
+  searched search =
+      let could : Could S v a.header Exec = Allowed a.right.ids (right_taken t ours p a.right is.is_right) search in
+      (named_seen t ours p a is, a.header, is.is_header, ToSearch dir could)
+
+  child_seen : may a.right.ids (bare a.header) Exec ≡ true → (name : List ℕ) (n : Name) → entry_of name (body_at v a.right.node) ≡ Some n → Seen S v n
+  child_seen search name n entry =
+      let could : Could S v a.header Exec = Allowed a.right.ids (right_taken t ours p a.right is.is_right) search in
+      Child a.right.node a.header name (named_seen t ours p a is) is.is_header dir could entry
+
+  -- whether a directory there is empty, where they may write
+  child_empty : Coherent v → may a.right.ids (bare a.header) Exec ≡ true → may a.right.ids (bare a.header) Write ≡ true → (name : List ℕ) (n : Name) (k : Header) → entry_of name (body_at v a.right.node) ≡ Some n
+      → header_at v n ≡ Some k → k.kind ≡ Dir → Sees S v (EmptyOf n)
+  child_empty c search write name n k entry at kind =
+      let could : Could S v a.header Write = Allowed a.right.ids (right_taken t ours p a.right is.is_right) write in
+      let above : k.parent ≡ Some a.right.node = c.tree.below a.right.node n k (entry_lists name (body_at v a.right.node) n entry) at kind in
+      (child_seen search name n entry, k, at, kind, ByParent a.right.node a.header above is.is_header could)
+
+-- all that it asks is the same in worlds that agree
+
+module _ {S : ℕ → Bool} {v w : World} (agree : Agree S v w) (c : Coherent v) (t : ℕ) (ours : S t ≡ true) (p q : ℕ) (a b : Named) (named : AreNamed v t p q (a, b)) where
+  from_seen : Seen S v a.right.node
+  from_seen = named_seen t ours p a named.one
+
+  to_seen : Seen S v b.right.node
+  to_seen = named_seen t ours q b named.other
+
+  trees_same : trees_ask w a b ≡ trees_ask v a b
+  trees_same =
+      given_same _ _ _ _ _ refl (λ dirs.
+      given_same _ _ _ _ _ (ap₂ (λ x y. tree_by x && tree_by y) (info_same agree a.right.node from_seen) (info_same agree b.right.node to_seen)) (λ trees.
+      given_same _ _ _ _ _ (ap₂ are_kin (home_same agree a.right.node from_seen) (home_same agree b.right.node to_seen)) (λ kin. refl)))
+
+  module _ (trees : AreTrees v a b) (name new : List ℕ) where
+    from_sees : Sees S v (BodyOf a.right.node)
+    from_sees = searched t ours p a named.one trees.from_dir trees.from_search
+
+    to_sees : Sees S v (BodyOf b.right.node)
+    to_sees = searched t ours q b named.other trees.to_dir trees.to_search
+
+    leaves_same : leaves_asks w name a b ≡ leaves_asks v name a b
+    leaves_same =
+        given_same _ (not (is_removed v b.right.node b.header)) (not (is_removed w b.right.node b.header)) _ _ (rw (is_root_same agree b.right.node to_seen) refl) (λ here.
+        on_same _ _ _ _ _ (ap (entry_of name) (body_same agree a.right.node from_sees)) (λ n entry.
+        on_same _ _ _ _ _ (header_same agree n (child_seen t ours p a named.one trees.from_dir trees.from_search name n entry)) (λ k at.
+        given_same _ _ _ _ _ (ap₂ are_kin (home_same agree a.right.node from_seen) (home_same agree n (child_seen t ours p a named.one trees.from_dir trees.from_search name n entry))) (λ kin.
+        given_same _ _ _ _ _ refl (λ take.
+        given_same _ _ _ _ _ (ap (λ z. not (is_dir k.kind && z)) (inside_same agree n b.right.node to_seen)) (λ out. refl))))))
+
+    empty_same : (m : Name) (j : Header) → entry_of new (body_at v b.right.node) ≡ Some m → header_at v m ≡ Some j → (not (is_dir j.kind) || is_empty_at (body_at w m)) ≡ (not (is_dir j.kind) || is_empty_at (body_at v m))
+    empty_same m j entry at = by (is_dir j.kind) refl
+      where
+        emptied : (o r : Option Body) → option_map is_empty_dir r ≡ option_map is_empty_dir o → is_empty_at r ≡ is_empty_at o
+        emptied None None h = refl
+        emptied None (Some y) h = absurd (cc)
+        emptied (Some x) None h = absurd (cc)
+        emptied (Some x) (Some y) h = cc
+
+        by : (z : Bool) → is_dir j.kind ≡ z → (not z || is_empty_at (body_at w m)) ≡ (not z || is_empty_at (body_at v m))
+        by false dir = refl
+        by true dir =
+            let sees : Sees S v (EmptyOf m) = child_empty t ours q b named.other trees.to_dir c trees.to_search trees.to_write new m j entry at (dir_kind j.kind dir) in
+            let same : AnEmpty (option_map is_empty_dir (body_at w m)) ≡ AnEmpty (option_map is_empty_dir (body_at v m)) = agree.parts (EmptyOf m) sees in
+            emptied (body_at v m) (body_at w m) cc
+
+    way_same : (k : Header) (m : Name) → entry_of new (body_at v b.right.node) ≡ Some m → gives_way w b k m ≡ gives_way v b k m
+    way_same k m entry =
+        on_same _ _ _ _ _ (header_same agree m (child_seen t ours q b named.other trees.to_dir trees.to_search new m entry)) (λ j at.
+        given_same _ _ _ _ _ (ap₂ are_kin (home_same agree b.right.node to_seen) (home_same agree m (child_seen t ours q b named.other trees.to_dir trees.to_search new m entry))) (λ kin.
+        given_same _ _ _ _ _ refl (λ take.
+        given_same _ _ _ _ _ refl (λ over.
+        given_same _ _ _ _ _ refl (λ under.
+        given_same _ _ _ _ _ (empty_same m j entry at) (λ empty. refl))))))
+
+    old_same : (l : Name × Header) → old_asks w b l (entry_of new (body_at w b.right.node)) ≡ old_asks v b l (entry_of new (body_at v b.right.node))
+    old_same l = ap (λ o. old_asks w b l (entry_of new o)) (body_same agree b.right.node to_sees) ∙ by (entry_of new (body_at v b.right.node)) refl
+      where
+        by : (o : Option Name) → entry_of new (body_at v b.right.node) ≡ o → old_asks w b l o ≡ old_asks v b l o
+        by None e = refl
+        by (Some m) e = ap (λ r. if same_name m l.0 then Ok tt else r) (way_same l.1 m e)
+
+module _ (t p q : ℕ) (name new : List ℕ) where
+  rename_same : {S : ℕ → Bool} {v w : World} → Agree S v w → Coherent v → S t ≡ true → rename_asks w t p name q new ≡ rename_asks v t p name q new
+  rename_same {S} {v} {w} agree c ours =
+      first_same _ _ _ _ (both_same agree t ours p q) (λ a is.
+      let named = are_named v t p q a is in
+      first_same _ _ _ _ refl (λ u good.
+      first_same _ _ _ _ refl (λ u' good'.
+      first_same _ _ _ _ (trees_same agree c t ours p q a.0 a.1 named) (λ d trees.
+      let found = are_trees v a.0 a.1 d trees in
+      first_same _ _ _ _ (leaves_same agree c t ours p q a.0 a.1 named found name new) (λ l leaving.
+      first_same _ _ _ _ (old_same agree c t ours p q a.0 a.1 named found name new l) (λ o old.
+      ap (λ body. let r : Renaming = record { from = a.0.right.node; to = a.1.right.node; node = l.0; old = entry_of new body } in Ok r)
+      (body_same agree a.1.right.node (to_sees agree c t ours p q a.0 a.1 named found name new))))))))
+
+  way_plain : (w : World) (b : Named) (k : Header) (m : Name) → IsPlain (gives_way w b k m)
+  way_plain w b k m =
+      on_plain _ _ _ refl (λ j at. given_plain _ _ _ refl (λ kin.
+      given_plain _ _ _ refl (λ take. given_plain _ _ _ refl (λ over. given_plain _ _ _ refl (λ under. given_plain _ _ _ refl (λ empty. ok_plain tt))))))
+
+  old_plain : (w : World) (b : Named) (l : Name × Header) (o : Option Name) → IsPlain (old_asks w b l o)
+  old_plain w b l None = ok_plain tt
+  old_plain w b l (Some m) = by (same_name m l.0)
+    where
+      by : (s : Bool) → IsPlain (if s then Ok tt else gives_way w b l.1 m)
+      by true = ok_plain tt
+      by false = way_plain w b l.1 m
+
+  rename_plain : (w : World) → IsPlain (rename_asks w t p name q new)
+  rename_plain w =
+      first_plain _ _ (both_plain w t p q) (λ a is.
+      first_plain _ _ (name_plain name) (λ u good.
+      first_plain _ _ (name_plain new) (λ u' good'.
+      first_plain _ _ (given_plain _ _ _ refl (λ dirs. given_plain _ _ _ refl (λ trees. given_plain _ _ _ refl (λ kin. given_plain _ _ _ refl (λ can. ok_plain tt))))) (λ d trees.
+      first_plain _ _ (given_plain _ _ _ refl (λ here. on_plain _ _ _ refl (λ n entry. on_plain _ _ _ refl (λ k at. given_plain _ _ _ refl (λ kin. given_plain _ _ _ refl (λ take. given_plain _ _ _ refl (λ out. ok_plain _))))))) (λ l leaving.
+      first_plain _ _ (old_plain w a.1 l _) (λ o old. ok_plain _))))))
+
+  abbrev touched : Renaming → Part → Type 0
+  touched r x = ((x ≡ BodyOf r.from) ⊎ (x ≡ EmptyOf r.from)) ⊎ (((x ≡ BodyOf r.to) ⊎ (x ≡ EmptyOf r.to)) ⊎ ((x ≡ AttrOf r.node) ⊎ ((m : Name) × (r.old ≡ Some m) × (x ≡ AttrOf m))))
+
+  rename_within : (w : World) (r : Renaming) → rename_asks w t p name q new ≡ Ok r → AllWithin (Full w t (touched r)) w (renames name new r r.old)
+  rename_within w = asked_all w t p q name new (λ r. AllWithin (Full w t (touched r)) w (renames name new r r.old)) each
+    where
+      each : (a b : Named) (l : Name × Header) → Asked w t p q name new a b l → let r : Renaming = renaming w new a b l in AllWithin (Full w t (touched r)) w (renames name new r r.old)
+      each a b l f =
+          let r : Renaming = renaming w new a b l in
+          let T : Part → Type 0 = Full w t (touched r) in
+          let body : T (BodyOf r.to) = inl (inr (inl (inl refl))) in
+          let empty : T (EmptyOf r.to) = inl (inr (inl (inr refl))) in
+          let moved = gone_within r.from name r.node r.to new T in
+          by_old w b l r name new (AllWithin T w) refl f.old tt
+          (λ none. moved w (inl (inl (inl refl))) (inl (inl (inr refl))) (inl (inr (inr (inl refl)))) body empty)
+          (λ m old other gives. ((body, inl empty), (inl (inr (inr (inr (m, old, refl)))), moved (unlinked_world w r.to new m) (inl (inl (inl refl))) (inl (inl (inr refl))) (inl (inr (inr (inl refl)))) body empty)))
+
+  rename_proper : (w : World) → Coherent w → Linked (nodes_of w) → (r : Renaming) → rename_asks w t p name q new ≡ Ok r → AllProper w (renames name new r r.old)
+  rename_proper w c linked = asked_all w t p q name new (λ r. AllProper w (renames name new r r.old)) each
+    where
+      each : (a b : Named) (l : Name × Header) → Asked w t p q name new a b l → let r : Renaming = renaming w new a b l in AllProper w (renames name new r r.old)
+      each a b l f =
+          let r : Renaming = renaming w new a b l in
+          by_old w b l r name new (AllProper w) refl f.old tt
+          (λ none. gone_proper r.from name r.node r.to new w c (goes w t p q name new a b l f c linked none) linked)
+          (λ m old other gives.
+          proper_append (unlinking r.to new m) (gone r.from name r.node r.to new) w c (unlinking_proper r.to new m w c (removes w t p q name new a b l f c linked m old other gives) linked)
+          (λ next. gone_proper r.from name r.node r.to new (unlinked_world w r.to new m) next (left_goes w t p q name new a b l f c linked m old other gives) (left_links w t p q name new a b l f c linked m old other gives)))
+
+  rename_linked : (w : World) → Coherent w → Linked (nodes_of w) → (r : Renaming) → rename_asks w t p name q new ≡ Ok r → Linked (nodes_of (apply_all (renames name new r r.old) w))
+  rename_linked w c linked = asked_all w t p q name new (λ r. Linked (nodes_of (apply_all (renames name new r r.old) w))) each
+    where
+      each : (a b : Named) (l : Name × Header) → Asked w t p q name new a b l → let r : Renaming = renaming w new a b l in Linked (nodes_of (apply_all (renames name new r r.old) w))
+      each a b l f =
+          let r : Renaming = renaming w new a b l in
+          by_old w b l r name new (λ cs. Linked (nodes_of (apply_all cs w))) refl f.old linked
+          (λ none. gone_linked r.from name r.node r.to new w c (goes w t p q name new a b l f c linked none) linked)
+          (λ m old other gives.
+          gone_linked r.from name r.node r.to new (unlinked_world w r.to new m) (left_coherent w t p q name new a b l f c linked m old other gives)
+          (left_goes w t p q name new a b l f c linked m old other gives) (left_links w t p q name new a b l f c linked m old other gives))
+
+  rename_sized : (w : World) (r : Renaming) → rename_asks w t p name q new ≡ Ok r → KeepsSized w (renames name new r r.old)
+  rename_sized w = asked_all w t p q name new (λ r. KeepsSized w (renames name new r r.old)) each
+    where
+      each : (a b : Named) (l : Name × Header) → Asked w t p q name new a b l → let r : Renaming = renaming w new a b l in KeepsSized w (renames name new r r.old)
+      each a b l f =
+          let r : Renaming = renaming w new a b l in
+          let onward : List Change = gone r.from name r.node r.to new in
+          by_old w b l r name new (KeepsSized w) refl f.old (λ fit. fit) (λ none. gone_sized r.from name r.node r.to new good w)
+          (λ m old other gives.
+          let cut : World = apply (EditBody r.to (without_entry new)) w in
+          sized_append (EditBody r.to (without_entry new) ∷ []) (EditHeader m unlinked ∷ onward) w (sized_removed good w r.to new)
+          (sized_append (EditHeader m unlinked ∷ []) onward cut (sized_header cut m unlinked (λ h. refl)) (gone_sized r.from name r.node r.to new good (unlinked_world w r.to new m))))
+
+  rename_rests : (w : World) (r : Renaming) → rename_asks w t p name q new ≡ Ok r → Rests w (renames name new r r.old)
+  rename_rests w = asked_all w t p q name new (λ r. Rests w (renames name new r r.old)) each
+    where
+      each : (a b : Named) (l : Name × Header) → Asked w t p q name new a b l → let r : Renaming = renaming w new a b l in Rests w (renames name new r r.old)
+      each a b l f =
+          let r : Renaming = renaming w new a b l in
+          by_old w b l r name new (Rests w) refl f.old (λ rest. rest) (λ none. gone_rests r.from name r.node r.to new w)
+          (λ m old other gives. rests_settle (EditBody r.to (without_entry new) ∷ EditHeader m unlinked ∷ going r.from name r.node r.to new) w)
+
+  rename_may : (S : ℕ → Bool) (v : World) → Coherent v → S t ≡ true → (r : Renaming) → rename_asks v t p name q new ≡ Ok r → AllMay S v v (renames name new r r.old)
+  rename_may S v c ours = asked_all v t p q name new (λ r. AllMay S v v (renames name new r r.old)) each
+    where
+      each : (a b : Named) (l : Name × Header) → Asked v t p q name new a b l → let r : Renaming = renaming v new a b l in AllMay S v v (renames name new r r.old)
+      each a b l f =
+          let r : Renaming = renaming v new a b l in
+          let from : Sees S v (BodyOf r.from) = searched t ours p a f.named.one f.trees.from_dir f.trees.from_search in
+          let to : Sees S v (BodyOf r.to) = searched t ours q b f.named.other f.trees.to_dir f.trees.to_search in
+          let seen : Seen S v r.node = child_seen t ours p a f.named.one f.trees.from_dir f.trees.from_search name r.node f.leaving.entry in
+          by_old v b l r name new (AllMay S v v) refl f.old tt
+          (λ none. gone_may r.from name r.node r.to new S v v from (distinct_at v c r.from) seen to.0 (known a b l f))
+          (λ m old other gives. (
+            (inr (inl to), λ y z n is e. inl (entry_of_before new z n y (distinct_at v c r.to y is) e)),
+            (
+              (λ h at. unlinked_less r.to new m S v h),
+              gone_may r.from name r.node r.to new S v (unlinked_world v r.to new m) from (left_distinct v r.to new m (distinct_at v c) r.from) seen to.0
+                  (λ h at dir. known a b l f h (sym (left_header v r.to new m r.node (λ same. other (sym same))) ∙ at) dir),
+            ),
+          ))
+        where
+          known : (a b : Named) (l : Name × Header) → Asked v t p q name new a b l → (h : Header) → header_at v l.0 ≡ Some h → is_dir h.kind ≡ true → Sees S v (EmptyOf l.0)
+          known a b l f h at dir = child_empty t ours p a f.named.one f.trees.from_dir c f.trees.from_search f.trees.from_write name l.0 h f.leaving.entry at (dir_kind h.kind dir)
+
+  pub rename_laws : CallLaws t (λ w. plan_rename w t p name q new) (λ w. touches_rename w t p name q new)
+  rename_laws = record {
+    fits = λ w c. answered_within w t (rename_asks w t p name q new) _ _ (λ r is. rename_within w r is);
+    proper = λ w s. answered_proper w _ _ (λ r is. rename_proper w s.coherent s.linked r is);
+    linked = λ w s. answered_linked w _ _ s.linked (λ r is. rename_linked w s.coherent s.linked r is);
+    sized = λ w s. answered_sized w _ _ s.sizes (λ r is. rename_sized w r is s.sizes);
+    rests = λ w s. answered_rests w _ _ s.settled (λ r is. rename_rests w r is s.settled);
+    may = λ S v c ours. answered_may v _ _ S v (λ r is. rename_may S v c ours r is);
+    same = λ S v w c a ours. answered_same _ _ _ _ (rename_same a c ours) (λ r is. refl);
+    plain = λ w. answered_plain _ _ (rename_plain w) (λ r is. done_plain Done refl);
+  }
+
+  -- the core does what is asked
+
+  abbrev IsDone : World → Renaming → Type 0
+  IsDone w r = (renames_at w r.from name r.to ≡ Ok tt) × (apply_all (core.renaming w r.from name r.to new) w ≡ apply_all (renames name new r r.old) w)
+
+  module _ (w : World) (a b : Named) (l : Name × Header) (f : Asked w t p q name new a b l) where
+    abbrev r : Renaming
+    r = renaming w new a b l
+
+    own : are_kin (home_at w r.from) (home_at w r.from) ≡ true
+    own = kin_itself (home_at w r.from) (home_at w r.node) f.leaving.kin
+
+    to : are_kin (home_at w r.from) (home_at w r.to) ≡ true
+    to = sym (ap (are_kin (home_at w r.from)) f.trees.kin) ∙ own
+
+    by_entry : (o : Option Name) → r.old ≡ o → is_there r.node o ≡ false → apply_all (core.renaming w r.from name r.to new) w ≡ apply_all (renames name new r o) w
+    by_entry None none other = goes-alone w r.from name r.node r.to new f.leaving.entry own to f.leaving.kin none
+    by_entry (Some m) some other =
+        let gives : gives_way w b l.1 m ≡ Ok tt = ap (λ s. if s then Ok tt else gives_way w b l.1 m) (sym other) ∙ ap (old_asks w b l) (sym some) ∙ f.old in
+        let kin : are_kin (home_at w r.from) (home_at w m) ≡ true = ap (λ z. are_kin z (home_at w m)) f.trees.kin ∙ (way w b l.1 m tt gives).kin in
+        goes-over w r.from name r.node r.to new f.leaving.entry own to f.leaving.kin m some (same_name-apart r.node m (λ e. apart_if_not_same m r.node other (sym e))) kin
+        ∙ ap (λ s. apply_all (if s then [] else EditBody r.to (without_entry new) ∷ EditHeader m unlinked ∷ moves name new r) w) (sym other)
+
+    done_as_asked : is_there r.node r.old ≡ false → IsDone w r
+    done_as_asked other = (
+      may_rename w r.from name r.node r.to a.header b.header f.named.one.is_header (ap is_dir f.trees.from_dir) f.trees.from_tree to f.named.other.is_header (ap is_dir f.trees.to_dir) f.leaving.entry,
+      by_entry r.old refl other,
+    )
+
+  is_done : (w : World) (r : Renaming) → rename_asks w t p name q new ≡ Ok r → is_there r.node r.old ≡ false → IsDone w r
+  is_done w = asked_all w t p q name new (λ r. is_there r.node r.old ≡ false → IsDone w r) (done_as_asked w)
+
+  module _ (w : World) (r : Renaming) (is : rename_asks w t p name q new ≡ Ok r) where
+    abbrev done : Renaming → Plan
+    done r = record { reply = Done; changes = renames name new r r.old }
+
+    -- the node itself stands under the new name
+    pub rename-stays : is_there r.node r.old ≡ true → Planned w (plan_rename w t p name q new) (λ (u : Unit {0}). Done) (Ok tt) w
+    rename-stays there = asked-done w (rename_asks w t p name q new) done (λ (u : Unit {0}). Done) r tt w is refl (go r.old there)
+      where
+        go : (o : Option Name) → is_there r.node o ≡ true → w ≡ apply_all (renames name new r o) w
+        go None h = absurd (cc)
+        go (Some m) h = ap (λ s. apply_all (if s then [] else EditBody r.to (without_entry new) ∷ EditHeader m unlinked ∷ moves name new r) w) (sym h)
+
+    pub rename-goes : is_there r.node r.old ≡ false → (x : Result (Unit {0}) Errno) (y : World) → Does w (renames_at w r.from name r.to) (λ u. core.renaming w r.from name r.to new) (λ u. tt {0}) x y
+        → Planned w (plan_rename w t p name q new) (λ (u : Unit {0}). Done) x y
+    rename-goes other (Ok u) y d = asked-done w (rename_asks w t p name q new) done (λ (u : Unit {0}). Done) r u y is refl (d.3 ∙ (is_done w r is other).1)
+    rename-goes other (Err e) y d = elim d.1 [
+      | inl refused ↦ let allowed = (is_done w r is other).0 in absurd (cc (refused, allowed))
+      | inr lacks ↦ asked-lacks w (rename_asks w t p name q new) done (λ (u : Unit {0}). Done) r e y is refl d.0 lacks.0
+    ]

@@ -1,0 +1,53 @@
+-- A second name for a file.
+use Rattle.std.specs.Prelude.{◌≡◌, ◌⊎◌, ℕ, List, [], ◌∷◌, Result, Ok, Err}
+use Rattle.hurd_creds.specs.declared.errno.Errno.{Errno}
+use Rattle.hurd_creds.specs.declared.errno.Errno.TheVariants.{EDIED}
+use Rattle.hurd_trans_iface.specs.Nodes.{linked, with_entry}
+use Rattle.hurd_ports.specs.Tables.{right_of}
+use Rattle.hurd_machine.specs.declared.call.Reply.TheVariants.{Done}
+use Rattle.hurd_machine.specs.World.{World, ports_of, header_at, links_at}
+use Rattle.hurd_machine.specs.Change.{EditBody, EditHeader}
+use Rattle.hurd_machine.specs.Plan.{Plan, on, first, answered}
+use Rattle.hurd_machine.specs.Handle.{Named}
+use Rattle.hurd_machine.specs.Sight.{Part, AttrOf, EmptyOf, BodyOf}
+use Rattle.hurd_machine.specs.Touched.{asked_parts}
+use Rattle.hurd_core.specs.PortNode.{named_of}
+use Rattle.hurd_core.specs.declared.port_node.PortNode.{PortNode}
+use Rattle.hurd_dirs.specs.declared.link.FileToName.{FileToName}
+use Rattle.hurd_dirs.specs.Entry.{name_asks, dir_asks}
+
+-- two ports: both are asked for before the nodes of either
+abbrev pub both_asks : World → ℕ → ℕ → ℕ → Result (Named × Named) Errno
+both_asks w t p q =
+    first (right_of (ports_of w) t p) (λ r.
+    first (right_of (ports_of w) t q) (λ s.
+    on EDIED (header_at w r.node) (λ h.
+    on EDIED (header_at w s.node) (λ k. Ok (record { right = r; header = h }, record { right = s; header = k })))))
+
+-- the code's two ports are those asked for
+abbrev pub both_named : Result (PortNode × PortNode) Errno → Result (Named × Named) Errno
+both_named (Ok p) = Ok (named_of p.0, named_of p.1)
+both_named (Err e) = Err e
+
+-- which file gets a name in which directory
+abbrev pub link_asks : World → ℕ → ℕ → List ℕ → ℕ → Result FileToName Errno
+link_asks w t p name q =
+    first (both_asks w t p q) (λ a.
+    first (name_asks name) (λ u.
+    first (dir_asks w a.0) (λ v. Ok (record { dir = a.0.right.node; file = a.1.right.node }))))
+
+-- it has an entry more, and a link more
+abbrev pub link : World → List ℕ → FileToName → Plan
+link w name n =
+    answered (links_at w n.dir name n.file) (λ u. record { reply = Done; changes = EditBody n.dir (with_entry name n.file) ∷ EditHeader n.file linked ∷ [] })
+
+-- dir_link: another name for a file, in a directory of its server
+abbrev pub plan_link : World → ℕ → ℕ → List ℕ → ℕ → Plan
+plan_link w t p name q = answered (link_asks w t p name q) (λ n. link w name n)
+
+-- a name for a file touches the entries of the directory, that it isn't empty, and how many links the file has
+abbrev pub OnName : FileToName → Part → Type 0
+OnName n a = (a ≡ BodyOf n.dir) ⊎ ((a ≡ EmptyOf n.dir) ⊎ (a ≡ AttrOf n.file))
+
+abbrev pub touches_link : World → ℕ → ℕ → List ℕ → ℕ → Part → Type 0
+touches_link w t p name q = asked_parts (link_asks w t p name q) (λ n. asked_parts (links_at w n.dir name n.file) (λ u. OnName n))

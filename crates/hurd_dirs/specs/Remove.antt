@@ -1,0 +1,80 @@
+-- Taking entries out of directories.
+use Rattle.std.specs.Prelude.{◌≡◌, ◌⊎◌, ℕ, not, Bool, false, List, [], ◌∷◌, Option, Some, None, Result, Ok, Err}
+use Rattle.hurd_creds.specs.declared.name.Name.{Name}
+use Rattle.hurd_creds.specs.declared.errno.Errno.{Errno}
+use Rattle.hurd_creds.specs.declared.errno.Errno.TheVariants.{EACCES, EDIED, EISDIR, ENOENT, ENOTDIR, ENOTEMPTY}
+use Rattle.hurd_trans_iface.specs.Nodes.{Header, Body, is_dir, is_empty_dir, unlinked, without_entry}
+use Rattle.hurd_trans_iface.specs.Answers.{entry_of}
+use Rattle.hurd_nodes.specs.Shown.{are_kin, header_in}
+use Rattle.hurd_machine.specs.declared.call.Reply.TheVariants.{Done}
+use Rattle.hurd_machine.specs.World.{World, header_at, body_at, home_at}
+use Rattle.hurd_machine.specs.Change.{EditBody, EditHeader, Settle}
+use Rattle.hurd_machine.specs.Plan.{Plan, on, given, first, answered}
+use Rattle.hurd_machine.specs.Sight.{Part, AttrOf, EmptyOf, BodyOf}
+use Rattle.hurd_machine.specs.Touched.{asked_parts}
+use Rattle.hurd_dirs.specs.declared.remove.EntryNode.{EntryNode}
+use Rattle.hurd_dirs.specs.Entry.{entry_asks, may_take}
+
+-- an entry: its directory, and the node that it names, with that one's header
+pub record Entered : Type 0 where
+  pub dir : Name
+  pub node : Name
+  pub header : Header
+
+-- the same as the code has it
+abbrev pub entered_of : EntryNode → Entered
+entered_of x = record { dir = x.dir; node = x.node; header = header_in x.attrs }
+
+abbrev pub entered : Result EntryNode Errno → Result Entered Errno
+entered (Ok x) = Ok (entered_of x)
+entered (Err e) = Err e
+
+-- whether this is a directory without entries
+abbrev pub is_empty_at : Option Body → Bool
+is_empty_at None = false
+is_empty_at (Some b) = is_empty_dir b
+
+-- the first entry of a name, which names a node of the directory's server
+abbrev pub found_asks : World → Name → List ℕ → Result Entered Errno
+found_asks w d name =
+    on ENOENT (entry_of name (body_at w d)) (λ n.
+    on EDIED (header_at w n) (λ h.
+    given EDIED (are_kin (home_at w d) (home_at w n)) (Ok (record { dir = d; node = n; header = h }))))
+
+-- an entry that a port's ids may take out of its directory
+abbrev pub taking_asks : World → ℕ → ℕ → List ℕ → Result Entered Errno
+taking_asks w t p name =
+    first (entry_asks w t p name) (λ a.
+    first (found_asks w a.right.node name) (λ x.
+    given EACCES (may_take a.right.ids a.header x.header) (Ok x)))
+
+-- the entry goes; what it named has one link less, or no parent; and what nothing names then goes
+abbrev pub removing : List ℕ → Entered → Plan
+removing name x = record { reply = Done; changes = EditBody x.dir (without_entry name) ∷ EditHeader x.node unlinked ∷ Settle ∷ [] }
+
+-- the entries of the directory, whether it is empty, and the links or the parent of what is removed
+abbrev pub OnEntry : Entered → Part → Type 0
+OnEntry x q = (q ≡ BodyOf x.dir) ⊎ ((q ≡ EmptyOf x.dir) ⊎ (q ≡ AttrOf x.node))
+
+-- dir_unlink: an entry of anything but a directory
+abbrev pub unlink_asks : World → ℕ → ℕ → List ℕ → Result Entered Errno
+unlink_asks w t p name = first (taking_asks w t p name) (λ x. given EISDIR (not (is_dir x.header.kind)) (Ok x))
+
+abbrev pub plan_unlink : World → ℕ → ℕ → List ℕ → Plan
+plan_unlink w t p name = answered (unlink_asks w t p name) (removing name)
+
+abbrev pub touches_unlink : World → ℕ → ℕ → List ℕ → Part → Type 0
+touches_unlink w t p name = asked_parts (unlink_asks w t p name) OnEntry
+
+-- dir_rmdir: an entry of a directory that has no entries itself
+abbrev pub rmdir_asks : World → ℕ → ℕ → List ℕ → Result Entered Errno
+rmdir_asks w t p name =
+    first (taking_asks w t p name) (λ x.
+    given ENOTDIR (is_dir x.header.kind) (
+    given ENOTEMPTY (is_empty_at (body_at w x.node)) (Ok x)))
+
+abbrev pub plan_rmdir : World → ℕ → ℕ → List ℕ → Plan
+plan_rmdir w t p name = answered (rmdir_asks w t p name) (removing name)
+
+abbrev pub touches_rmdir : World → ℕ → ℕ → List ℕ → Part → Type 0
+touches_rmdir w t p name = asked_parts (rmdir_asks w t p name) OnEntry
