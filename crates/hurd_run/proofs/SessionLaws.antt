@@ -1,13 +1,16 @@
 -- What a session gave so far.
+use Rattle.std.specs.Prelude.{Option, Result, OnOk, IfErr}
+use Rattle.std.specs.Io.KnownBytes.{Appends}
 use Rattle.std.proofs.Common.{◌≡◌, ◌<◌, length, slice_get, inl, inr, ℕ, List, [], ◌∷◌, ◌++◌, Some, None, Ok, Err, codes, refl, sym, ap}
 use Rattle.std.proofs.lemmas.Option.{slice_get_within}
 use Rattle.hurd_machine.specs.World.{World}
-use Rattle.hurd_script.specs.Script.{bad}
+use Rattle.hurd_script.specs.Script.{bad, commands_of, users_of}
 use Rattle.hurd_script.specs.Commands.{CommandLine}
 use Rattle.hurd_trans_iface.specs.Meaning.{Begins, Meaning}
 use Rattle.hurd_shell.specs.Outputs.{Gave}
 use Rattle.hurd_shell.specs.Session.{NewFault, Tells, View}
-use Rattle.hurd_shell.specs.Transcript.{out, parts_of}
+use Rattle.hurd_shell.specs.Transcript.{joined, out, parts_of}
+use Rattle.hurd_world.specs.Boot.{first_world}
 use Rattle.hurd_shell.proofs.SessionLaws.{length-parts}
 use Rattle.hurd_shell.specs.declared.session.Want.TheVariants.{Output}
 use Rattle.hurd_shell.specs.declared.fault.SessionFault.{SessionFault}
@@ -15,7 +18,7 @@ use Rattle.hurd_shell.specs.declared.fault.SessionFault.TheVariants.{BadScript, 
 use Rattle.hurd_run.specs.declared.fault.Fault.{Fault}
 use Rattle.hurd_run.specs.declared.fault.Fault.TheVariants.{Session}
 use Rattle.hurd_run.specs.declared.print.Output as printer
-use Rattle.hurd_run.specs.Faults.{IsFront, IsPrintFault, Prints, new_tmpfs}
+use Rattle.hurd_run.specs.Faults.{AppendsFront, IsFront, IsPrintFault, Prints, new_tmpfs}
 
 -- a session that gave some outputs gives one more
 pub gave_more : {S : Type 0} (first : World) (s x y : View S) (outputs : List (List ℕ)) (bytes : List ℕ) → Gave first s outputs x → Tells first x (Ok (Output bytes)) y
@@ -42,3 +45,14 @@ not_finished output script printed fault (inr memory) good front = rw memory (in
 -- a part was left
 pub one_left : (cs : List CommandLine) (first : World) (k : ℕ) (part : List ℕ) → slice_get (parts_of cs first) k ≡ Some part → k < length cs
 one_left cs first k part here = rw length-parts at (slice_get_within (parts_of cs first) k part here)
+
+-- a session that was begun by a good script prints its transcript, or a front of it
+pub printed : {W : Type 0} (output : printer.Output W) (before after : Option (List ℕ)) (script : List ℕ) (Begun : World → Type 0) (cs : List CommandLine) (r : Result (Unit {0}) Fault)
+    → bad script ≡ None → cs ≡ commands_of script → Begun (first_world new_tmpfs (users_of script)) → OnOk r ((w : World) → Begun w → Appends before after (joined (parts_of cs w)))
+    → IfErr r (λ fault. IsPrintFault output fault × ((w : World) → Begun w → AppendsFront before after (joined (parts_of cs w))))
+    → (x : List ℕ) × Appends before after x × Prints script r x
+printed output before after script Begun cs (Ok u) good same begun ok err =
+    (out script new_tmpfs, rw same at (ok (first_world new_tmpfs (users_of script)) begun), (good, refl))
+printed output before after script Begun cs (Err fault) good same begun ok err =
+    let front = rw same at (err.1 (first_world new_tmpfs (users_of script)) begun) in
+    (front.0, front.2, not_finished output script front.0 fault err.0 good front.1)

@@ -1,15 +1,17 @@
--- What clap makes of words that are no flags.
-use Rattle.std.proofs.Common.{ℕ, ◌≡◌, ◌≢◌, ◌∷◌, [], List, Some, None, true, false, refl, sym, ◌∙◌, ap, codes, nat_eq, subst}
+-- What clap makes of the words of a command that takes no flag.
+use Rattle.std.proofs.Common.{Bor, option_copied, option_map, ℕ, ◌≡◌, ◌≢◌, ◌∷◌, [], List, Option, Some, None, true, false, refl, sym, ◌∙◌, ap, codes, nat_eq, subst}
 use Rattle.std.specs.List.{list_any}
+use Rattle.std.specs.Option.{option_zip}
 use Rattle.std.specs.Str.{bytes_eq}
 use Rattle.std.proofs.lemmas.Bool.{eqb-true, or_parts}
 use Rattle.std.proofs.Math.Bool.{and-true}
-use Rattle.clap.specs.Words.{App, Row, fault_of, first_of, matches_of}
+use Rattle.clap.specs.Words.{App, Kinds, Row, Text, fault_of, first_of, matches_of}
 use Rattle.clap.specs.Lexer.{long_of, short_of}
 use Rattle.clap.proofs.OnLiterals.{clap_on_literals}
+use Rattle.clap.specs.declared.error.kind.ErrorKind.{ErrorKind}
 use Rattle.clap.specs.declared.error.kind.ErrorKind.TheVariants.{MissingRequiredArgument, UnknownArgument}
-use Rattle.hurd_script.specs.Actions.{is_flag_word}
-use Rattle.hurd_script.specs.Usage.{both, lone, node_app, pair_of, text_app}
+use Rattle.hurd_script.specs.Actions.{flags_of, is_flag_word, operands_of}
+use Rattle.hurd_script.specs.Usage.{Answer, HasNode, HasPair, HasTriple, both, lone, node_app, pair_app, three, triple_app}
 
 -- a word that is no flag
 pub data IsPlain : List ℕ → Type 0 where
@@ -17,7 +19,7 @@ pub data IsPlain : List ℕ → Type 0 where
   hyphen : IsPlain (45 ∷ [])
   other : (b : ℕ) (bs : List ℕ) → nat_eq b 45 ≡ false → IsPlain (b ∷ bs)
 
-is_plain : (word : List ℕ) → is_flag_word word ≡ false → IsPlain word
+pub is_plain : (word : List ℕ) → is_flag_word word ≡ false → IsPlain word
 is_plain [] h = nothing
 is_plain (b ∷ []) h = elim (nat_eq b 45) as (λ is. nat_eq b 45 ≡ is → IsPlain (b ∷ [])) [
   | true ↦ λ e. subst (λ (x : ℕ). IsPlain (x ∷ [])) (sym (eqb-true b 45 e)) hyphen
@@ -26,132 +28,211 @@ is_plain (b ∷ []) h = elim (nat_eq b 45) as (λ is. nat_eq b 45 ≡ is → IsP
 is_plain (b ∷ c ∷ cs) h = other b (c ∷ cs) (rw and-true at h)
 
 -- to clap it is no flag either: no end of flags, no long one, no short one
-abbrev IsNoFlag : List ℕ → Type 0
+abbrev pub IsNoFlag : List ℕ → Type 0
 IsNoFlag word = (bytes_eq word (45 ∷ 45 ∷ []) ≡ false) × (long_of word ≡ None) × (short_of word ≡ None)
 
-no_flag : (word : List ℕ) → IsPlain word → IsNoFlag word
+pub no_flag : (word : List ℕ) → IsPlain word → IsNoFlag word
 no_flag _ nothing = (refl, refl, refl)
 no_flag _ hyphen = (refl, refl, refl)
 no_flag _ (other b bs e) = rw e (refl, refl, refl)
 
+-- words without flags are operands
+flagless : (ws : List Text) → list_any is_flag_word ws ≡ false → (flags_of ws ≡ []) × (operands_of ws ≡ ws)
+flagless [] h = (refl, refl)
+flagless (w ∷ ws) h =
+    let p = or_parts (is_flag_word w) (list_any is_flag_word ws) h in
+    let rest = flagless ws p.1 in
+    rw p.0 (rest.0, ap (λ (x : List Text). w ∷ x) rest.1)
+
+-- words with a flag have it among their flags
+flagged : (ws : List Text) → list_any is_flag_word ws ≡ true → (f : Text) × ((fs : List Text) × (flags_of ws ≡ f ∷ fs))
+flagged [] h = absurd (cc)
+flagged (w ∷ ws) h = elim (is_flag_word w) as (λ is. is_flag_word w ≡ is → (f : Text) × ((fs : List Text) × (flags_of (w ∷ ws) ≡ f ∷ fs))) [
+  | true ↦ λ e. (w, (flags_of ws, rw e refl))
+  | false ↦ λ e. let t : list_any is_flag_word ws ≡ true = (rw e at h) in let r = flagged ws t in (r.0, (r.1.0, rw e r.1.1))
+] refl
+
+-- what a command without flags takes
+pub takes_no_flag : {X : Type 0} (read : List Text → List Text → Option X) (ws : List Text) → ((f : Text) (fs ws : List Text) → read (f ∷ fs) ws ≡ None)
+    → list_any is_flag_word ws ≡ true → None ≡ read (flags_of ws) (operands_of ws)
+takes_no_flag read ws none h =
+    let r = flagged ws h in
+    sym (ap (λ (x : List Text). read x (operands_of ws)) r.1.1 ∙ none r.0 r.1.0 (operands_of ws))
+
+takes_operands : {X : Type 0} (read : List Text → List Text → Option X) (ws : List Text) → list_any is_flag_word ws ≡ false
+    → read [] ws ≡ read (flags_of ws) (operands_of ws)
+takes_operands read ws h = let r = flagless ws h in rw (r.0, r.1) refl
+
+-- the first of words that are no flags
+first_plain : (w : Text) (ws : List Text) → list_any is_flag_word (w ∷ ws) ≡ false → IsPlain w × (list_any is_flag_word ws ≡ false)
+first_plain w ws h = let p = or_parts (is_flag_word w) (list_any is_flag_word ws) h in (is_plain w p.0, p.1)
+
+-- kinds of fault
+pub faulty : {ks : Kinds} {k : ErrorKind} → ks ≡ k ∷ [] → ks ≢ []
+faulty {ks} {k} f e = let clash : k ∷ [] ≡ [] = sym f ∙ e in absurd (cc)
+
 -- `NODE`: no word, one, two or more
-node_none : (name : List ℕ) → fault_of (node_app name) [] ≡ MissingRequiredArgument ∷ []
+node_none : (name : Text) → fault_of (node_app name) [] ≡ MissingRequiredArgument ∷ []
 unfolding clap_on_literals
 node_none name = refl
 
-node_one : (name w : List ℕ) → IsPlain w → fault_of (node_app name) (w ∷ []) ≡ []
+node_one : (name w : Text) → IsPlain w → Answer (node_app name) (w ∷ []) HasNode (Some w)
 unfolding clap_on_literals
 node_one name w p =
     let first = no_flag w p in
-    rw (first.0, first.1, first.2) refl
+    rw (first.0, first.1, first.2) (refl, refl)
 
-node_value : (name w : List ℕ) → IsPlain w → first_of (codes "node") (matches_of (node_app name) (w ∷ [])) ≡ Some w
-unfolding clap_on_literals
-node_value name w p =
-    let first = no_flag w p in
-    rw (first.0, first.1, first.2) refl
-
-node_more : (name w v : List ℕ) (rest : List (List ℕ)) → IsPlain w → IsPlain v → fault_of (node_app name) (w ∷ v ∷ rest) ≡ UnknownArgument ∷ []
+node_more : (name w v : Text) (rest : List Text) → IsPlain w → IsPlain v → fault_of (node_app name) (w ∷ v ∷ rest) ≡ UnknownArgument ∷ []
 unfolding clap_on_literals
 node_more name w v rest p q =
     let first = no_flag w p in
     let second = no_flag v q in
     rw (first.0, first.1, first.2, second.0, second.1, second.2) refl
 
--- `NODE TEXT`: no word, one, two, three or more
-text_none : (name : List ℕ) → fault_of (text_app name) [] ≡ MissingRequiredArgument ∷ []
-unfolding clap_on_literals
-text_none name = refl
+node_plain : (name : Text) (ws : List Text) → list_any is_flag_word ws ≡ false → Answer (node_app name) ws HasNode (lone [] ws)
+node_plain name [] h = faulty (node_none name)
+node_plain name (w ∷ []) h = node_one name w (first_plain w [] h).0
+node_plain name (w ∷ v ∷ rest) h =
+    let p = first_plain w (v ∷ rest) h in
+    faulty (node_more name w v rest p.0 (first_plain v rest p.1).0)
 
-text_one : (name w : List ℕ) → IsPlain w → fault_of (text_app name) (w ∷ []) ≡ MissingRequiredArgument ∷ []
+-- two words: none, one, two, three or more
+pair_none : (name : Text) → fault_of (pair_app name) [] ≡ MissingRequiredArgument ∷ []
 unfolding clap_on_literals
-text_one name w p =
+pair_none name = refl
+
+pair_one : (name w : Text) → IsPlain w → fault_of (pair_app name) (w ∷ []) ≡ MissingRequiredArgument ∷ []
+unfolding clap_on_literals
+pair_one name w p =
     let first = no_flag w p in
     rw (first.0, first.1, first.2) refl
 
-text_two : (name w v : List ℕ) → IsPlain w → IsPlain v → fault_of (text_app name) (w ∷ v ∷ []) ≡ []
+pair_two : (name w v : Text) → IsPlain w → IsPlain v → Answer (pair_app name) (w ∷ v ∷ []) HasPair (Some (w, v))
 unfolding clap_on_literals
-text_two name w v p q =
+pair_two name w v p q =
     let first = no_flag w p in
     let second = no_flag v q in
-    rw (first.0, first.1, first.2, second.0, second.1, second.2) refl
+    rw (first.0, first.1, first.2, second.0, second.1, second.2) (refl, (refl, refl))
 
-text_node : (name w v : List ℕ) → IsPlain w → IsPlain v → first_of (codes "node") (matches_of (text_app name) (w ∷ v ∷ [])) ≡ Some w
+pair_more : (name w v u : Text) (rest : List Text) → IsPlain w → IsPlain v → IsPlain u → fault_of (pair_app name) (w ∷ v ∷ u ∷ rest) ≡ UnknownArgument ∷ []
 unfolding clap_on_literals
-text_node name w v p q =
-    let first = no_flag w p in
-    let second = no_flag v q in
-    rw (first.0, first.1, first.2, second.0, second.1, second.2) refl
-
-text_value : (name w v : List ℕ) → IsPlain w → IsPlain v → first_of (codes "text") (matches_of (text_app name) (w ∷ v ∷ [])) ≡ Some v
-unfolding clap_on_literals
-text_value name w v p q =
-    let first = no_flag w p in
-    let second = no_flag v q in
-    rw (first.0, first.1, first.2, second.0, second.1, second.2) refl
-
-text_more : (name w v u : List ℕ) (rest : List (List ℕ)) → IsPlain w → IsPlain v → IsPlain u → fault_of (text_app name) (w ∷ v ∷ u ∷ rest) ≡ UnknownArgument ∷ []
-unfolding clap_on_literals
-text_more name w v u rest p q r =
+pair_more name w v u rest p q r =
     let first = no_flag w p in
     let second = no_flag v q in
     let third = no_flag u r in
     rw (first.0, first.1, first.2, second.0, second.1, second.2, third.0, third.1, third.2) refl
 
-one_flag : (w : List ℕ) (ws : List (List ℕ)) → list_any is_flag_word (w ∷ ws) ≡ false → IsPlain w × (list_any is_flag_word ws ≡ false)
-one_flag w ws h = let p = or_parts (is_flag_word w) (list_any is_flag_word ws) h in (is_plain w p.0, p.1)
+pair_plain : (name : Text) (ws : List Text) → list_any is_flag_word ws ≡ false → Answer (pair_app name) ws HasPair (both [] ws)
+pair_plain name [] h = faulty (pair_none name)
+pair_plain name (w ∷ []) h = faulty (pair_one name w (first_plain w [] h).0)
+pair_plain name (w ∷ v ∷ []) h =
+    let p = first_plain w (v ∷ []) h in
+    pair_two name w v p.0 (first_plain v [] p.1).0
+pair_plain name (w ∷ v ∷ u ∷ rest) h =
+    let p = first_plain w (v ∷ u ∷ rest) h in
+    let q = first_plain v (u ∷ rest) p.1 in
+    faulty (pair_more name w v u rest p.0 q.0 (first_plain u rest q.1).0)
 
--- what clap reads where it finds no fault, and where it does
-node_found : (name : List ℕ) (ws : List (List ℕ)) → list_any is_flag_word ws ≡ false → fault_of (node_app name) ws ≡ []
-    → first_of (codes "node") (matches_of (node_app name) ws) ≡ lone ws
-node_found name [] h e = let k : MissingRequiredArgument ∷ [] ≡ [] = sym (node_none name) ∙ e in absurd (cc)
-node_found name (w ∷ []) h e = node_value name w (one_flag w [] h).0
-node_found name (w ∷ v ∷ rest) h e =
-    let p = one_flag w (v ∷ rest) h in
-    let k : UnknownArgument ∷ [] ≡ [] = sym (node_more name w v rest p.0 (one_flag v rest p.1).0) ∙ e in
-    absurd (cc)
+-- three words: none, one, two, three, four or more
+triple_none : (name : Text) → fault_of (triple_app name) [] ≡ MissingRequiredArgument ∷ []
+unfolding clap_on_literals
+triple_none name = refl
 
-node_refused : (name : List ℕ) (ws : List (List ℕ)) → list_any is_flag_word ws ≡ false → fault_of (node_app name) ws ≢ [] → lone ws ≡ None
-node_refused name [] h e = refl
-node_refused name (w ∷ []) h e = absurd (e (node_one name w (one_flag w [] h).0))
-node_refused name (w ∷ v ∷ rest) h e = refl
+triple_one : (name w : Text) → IsPlain w → fault_of (triple_app name) (w ∷ []) ≡ MissingRequiredArgument ∷ []
+unfolding clap_on_literals
+triple_one name w p =
+    let first = no_flag w p in
+    rw (first.0, first.1, first.2) refl
 
-text_found : (name : List ℕ) (ws : List (List ℕ)) → list_any is_flag_word ws ≡ false → fault_of (text_app name) ws ≡ []
-    → pair_of (first_of (codes "node") (matches_of (text_app name) ws)) (first_of (codes "text") (matches_of (text_app name) ws)) ≡ both ws
-text_found name [] h e = let k : MissingRequiredArgument ∷ [] ≡ [] = sym (text_none name) ∙ e in absurd (cc)
-text_found name (w ∷ []) h e = let k : MissingRequiredArgument ∷ [] ≡ [] = sym (text_one name w (one_flag w [] h).0) ∙ e in absurd (cc)
-text_found name (w ∷ v ∷ []) h e =
-    let p = one_flag w (v ∷ []) h in
-    let q = (one_flag v [] p.1).0 in
-    rw (text_node name w v p.0 q, text_value name w v p.0 q) refl
-text_found name (w ∷ v ∷ u ∷ rest) h e =
-    let p = one_flag w (v ∷ u ∷ rest) h in
-    let q = one_flag v (u ∷ rest) p.1 in
-    let k : UnknownArgument ∷ [] ≡ [] = sym (text_more name w v u rest p.0 q.0 (one_flag u rest q.1).0) ∙ e in
-    absurd (cc)
+triple_two : (name w v : Text) → IsPlain w → IsPlain v → fault_of (triple_app name) (w ∷ v ∷ []) ≡ MissingRequiredArgument ∷ []
+unfolding clap_on_literals
+triple_two name w v p q =
+    let first = no_flag w p in
+    let second = no_flag v q in
+    rw (first.0, first.1, first.2, second.0, second.1, second.2) refl
 
-text_refused : (name : List ℕ) (ws : List (List ℕ)) → list_any is_flag_word ws ≡ false → fault_of (text_app name) ws ≢ [] → both ws ≡ None
-text_refused name [] h e = refl
-text_refused name (w ∷ []) h e = refl
-text_refused name (w ∷ v ∷ []) h e = let p = one_flag w (v ∷ []) h in absurd (e (text_two name w v p.0 (one_flag v [] p.1).0))
-text_refused name (w ∷ v ∷ u ∷ rest) h e = refl
+triple_three : (name w v u : Text) → IsPlain w → IsPlain v → IsPlain u → Answer (triple_app name) (w ∷ v ∷ u ∷ []) HasTriple (Some (w, (v, u)))
+unfolding clap_on_literals
+triple_three name w v u p q r =
+    let first = no_flag w p in
+    let second = no_flag v q in
+    let third = no_flag u r in
+    rw (first.0, first.1, first.2, second.0, second.1, second.2, third.0, third.1, third.2) (refl, ((refl, refl), refl))
 
--- the same of a command that was built as it should be
-pub node_read : (name : List ℕ) (app : App) (ws : List (List ℕ)) (rows : List Row) → app ≡ node_app name → list_any is_flag_word ws ≡ false
-    → fault_of app ws ≡ [] → rows ≡ matches_of app ws → first_of (codes "node") rows ≡ lone ws
-node_read name app ws rows a h e r =
-    ap (first_of (codes "node")) (r ∙ ap (λ (x : App). matches_of x ws) a) ∙ node_found name ws h (ap (λ (x : App). fault_of x ws) (sym a) ∙ e)
+triple_more : (name w v u t : Text) (rest : List Text) → IsPlain w → IsPlain v → IsPlain u → IsPlain t
+    → fault_of (triple_app name) (w ∷ v ∷ u ∷ t ∷ rest) ≡ UnknownArgument ∷ []
+unfolding clap_on_literals
+triple_more name w v u t rest p q r s =
+    let first = no_flag w p in
+    let second = no_flag v q in
+    let third = no_flag u r in
+    let fourth = no_flag t s in
+    rw (first.0, first.1, first.2, second.0, second.1, second.2, third.0, third.1, third.2, fourth.0, fourth.1, fourth.2) refl
 
-pub node_unread : (name : List ℕ) (app : App) (ws : List (List ℕ)) → app ≡ node_app name → list_any is_flag_word ws ≡ false
-    → fault_of app ws ≢ [] → None ≡ lone ws
-node_unread name app ws a h e = sym (node_refused name ws h (λ k. e (ap (λ (x : App). fault_of x ws) a ∙ k)))
+triple_plain : (name : Text) (ws : List Text) → list_any is_flag_word ws ≡ false → Answer (triple_app name) ws HasTriple (three [] ws)
+triple_plain name [] h = faulty (triple_none name)
+triple_plain name (w ∷ []) h = faulty (triple_one name w (first_plain w [] h).0)
+triple_plain name (w ∷ v ∷ []) h =
+    let p = first_plain w (v ∷ []) h in
+    faulty (triple_two name w v p.0 (first_plain v [] p.1).0)
+triple_plain name (w ∷ v ∷ u ∷ []) h =
+    let p = first_plain w (v ∷ u ∷ []) h in
+    let q = first_plain v (u ∷ []) p.1 in
+    triple_three name w v u p.0 q.0 (first_plain u [] q.1).0
+triple_plain name (w ∷ v ∷ u ∷ t ∷ rest) h =
+    let p = first_plain w (v ∷ u ∷ t ∷ rest) h in
+    let q = first_plain v (u ∷ t ∷ rest) p.1 in
+    let r = first_plain u (t ∷ rest) q.1 in
+    faulty (triple_more name w v u t rest p.0 q.0 r.0 (first_plain t rest r.1).0)
 
-pub text_read : (name : List ℕ) (app : App) (ws : List (List ℕ)) (rows : List Row) → app ≡ text_app name → list_any is_flag_word ws ≡ false
-    → fault_of app ws ≡ [] → rows ≡ matches_of app ws → pair_of (first_of (codes "node") rows) (first_of (codes "text") rows) ≡ both ws
-text_read name app ws rows a h e r =
-    ap (λ (x : List Row). pair_of (first_of (codes "node") x) (first_of (codes "text") x)) (r ∙ ap (λ (x : App). matches_of x ws) a)
-    ∙ text_found name ws h (ap (λ (x : App). fault_of x ws) (sym a) ∙ e)
+-- the same of what is read of flags and operands
+pub node_answer : (name : Text) (ws : List Text) → list_any is_flag_word ws ≡ false → Answer (node_app name) ws HasNode (lone (flags_of ws) (operands_of ws))
+node_answer name ws h = subst (Answer (node_app name) ws HasNode) (takes_operands lone ws h) (node_plain name ws h)
 
-pub text_unread : (name : List ℕ) (app : App) (ws : List (List ℕ)) → app ≡ text_app name → list_any is_flag_word ws ≡ false
-    → fault_of app ws ≢ [] → None ≡ both ws
-text_unread name app ws a h e = sym (text_refused name ws h (λ k. e (ap (λ (x : App). fault_of x ws) a ∙ k)))
+pub pair_answer : (name : Text) (ws : List Text) → list_any is_flag_word ws ≡ false → Answer (pair_app name) ws HasPair (both (flags_of ws) (operands_of ws))
+pair_answer name ws h = subst (Answer (pair_app name) ws HasPair) (takes_operands both ws h) (pair_plain name ws h)
+
+pub triple_answer : (name : Text) (ws : List Text) → list_any is_flag_word ws ≡ false → Answer (triple_app name) ws HasTriple (three (flags_of ws) (operands_of ws))
+triple_answer name ws h = subst (Answer (triple_app name) ws HasTriple) (takes_operands three ws h) (triple_plain name ws h)
+
+-- what the matches of a command hold, where it was built as it should be
+pub read : {X : Type 0} (app wanted : App) (ws : List Text) (rows : List Row) (Has : List Row → X → Type 0) (o : Option X) → app ≡ wanted → Answer wanted ws Has o
+    → fault_of app ws ≡ [] → rows ≡ matches_of app ws → (x : X) × ((o ≡ Some x) × Has rows x)
+read app wanted ws rows Has None e a f r = absurd (a (ap (λ (x : App). fault_of x ws) (sym e) ∙ f))
+read app wanted ws rows Has (Some x) e a f r =
+    (x, (refl, subst (λ (rs : List Row). Has rs x) (sym (r ∙ ap (λ (y : App). matches_of y ws) e)) a.1))
+
+pub unread : {X : Type 0} (app wanted : App) (ws : List Text) (Has : List Row → X → Type 0) (o : Option X) → app ≡ wanted → Answer wanted ws Has o
+    → fault_of app ws ≢ [] → None ≡ o
+unread app wanted ws Has None e a f = refl
+unread app wanted ws Has (Some x) e a f = absurd (f (ap (λ (y : App). fault_of y ws) e ∙ a.0))
+
+-- borrowed texts, and what they say
+abbrev Slot : Type 0
+Slot = Option (Bor Text)
+
+zip_said : (a b : Slot) → option_map (λ p. (p.0.now, p.1.now)) (option_zip a b) ≡ option_zip (option_copied a) (option_copied b)
+zip_said None b = refl
+zip_said (Some x) None = refl
+zip_said (Some x) (Some y) = refl
+
+zip_three_said : (a b c : Slot) → option_map (λ t. (t.0.now, (t.1.0.now, t.1.1.now))) (option_zip a (option_zip b c))
+    ≡ option_zip (option_copied a) (option_zip (option_copied b) (option_copied c))
+zip_three_said None b c = refl
+zip_three_said (Some x) None c = refl
+zip_three_said (Some x) (Some y) None = refl
+zip_three_said (Some x) (Some y) (Some z) = refl
+
+pub pair_value : (a b : Slot) (pair : Option (Bor Text × Bor Text)) (rows : List Row) (x : Text × Text) (o : Option (Text × Text)) → pair ≡ option_zip a b
+    → option_copied a ≡ first_of (codes "first") rows → option_copied b ≡ first_of (codes "second") rows → (o ≡ Some x) × HasPair rows x
+    → option_map (λ p. (p.0.now, p.1.now)) pair ≡ o
+pair_value a b pair rows x o e f s h =
+    ap (option_map (λ p. (p.0.now, p.1.now))) e ∙ (zip_said a b ∙ rw (f, s, h.1.0, h.1.1, h.0) refl)
+
+pub triple_value : (a b c : Slot) (rest : Option (Bor Text × Bor Text)) (triple : Option (Bor Text × (Bor Text × Bor Text))) (rows : List Row)
+    (x : Text × (Text × Text)) (o : Option (Text × (Text × Text))) → rest ≡ option_zip b c → triple ≡ option_zip a rest
+    → option_copied a ≡ first_of (codes "first") rows → option_copied b ≡ first_of (codes "second") rows → option_copied c ≡ first_of (codes "third") rows
+    → (o ≡ Some x) × HasTriple rows x → option_map (λ t. (t.0.now, (t.1.0.now, t.1.1.now))) triple ≡ o
+triple_value a b c rest triple rows x o d e f s t h =
+    ap (option_map (λ t. (t.0.now, (t.1.0.now, t.1.1.now)))) (e ∙ ap (option_zip a) d)
+    ∙ (zip_three_said a b c ∙ rw (f, s, t, h.1.0.0, h.1.0.1, h.1.1, h.0) refl)

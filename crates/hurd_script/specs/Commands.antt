@@ -6,7 +6,7 @@ use Rattle.hurd_script.specs.Words.{words_of}
 use Rattle.hurd_script.specs.Users.{is_user_line, names_before, task_of}
 use Rattle.hurd_script.specs.contracts.command.Verb as verb
 use Rattle.hurd_script.specs.declared.command.Verb.{Verb}
-use Rattle.hurd_script.specs.declared.command.Verb.TheVariants.{Cat, Ls, Put}
+use Rattle.hurd_script.specs.declared.command.Verb.TheVariants.{Cat, Ls, Put, Mkdir, Rm, Rmdir, Ln, Mv, Chmod, Chown}
 
 -- a command: who makes it, what a transcript writes before its output, what it is called, and the words behind that
 pub record CommandLine : Type 0 where
@@ -34,6 +34,13 @@ verb_of word =
     if bytes_eq word (codes "cat") then Some Cat
     else if bytes_eq word (codes "ls") then Some Ls
     else if bytes_eq word (codes "put") then Some Put
+    else if bytes_eq word (codes "mkdir") then Some Mkdir
+    else if bytes_eq word (codes "rm") then Some Rm
+    else if bytes_eq word (codes "rmdir") then Some Rmdir
+    else if bytes_eq word (codes "ln") then Some Ln
+    else if bytes_eq word (codes "mv") then Some Mv
+    else if bytes_eq word (codes "chmod") then Some Chmod
+    else if bytes_eq word (codes "chown") then Some Chown
     else None
 
 -- the line without the spaces that it begins with

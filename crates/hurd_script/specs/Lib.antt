@@ -1,7 +1,9 @@
 pub mod Lines
 pub mod Words
+pub mod Numbers
 pub mod Users
 pub mod Commands
+pub mod Places
 pub mod Actions
 pub mod Script
 pub mod Usage

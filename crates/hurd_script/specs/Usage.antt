@@ -1,40 +1,86 @@
--- What clap is told of the commands, and what it makes of words without flags.
-use Rattle.std.specs.Prelude.{◌≡◌, ℕ, true, List, [], ◌∷◌, Option, Some, None, codes}
-use Rattle.clap.specs.Words.{App, Row, Rule, fault_of, matches_of, new_app, new_rule, with_rule}
+-- What clap is told of the commands, and what it makes of their words.
+use Rattle.std.specs.Prelude.{◌≡◌, ◌≢◌, ◌&&◌, ℕ, Bool, true, false, not, List, [], ◌∷◌, Option, Some, None, bytes_eq, codes, if◌then◌else◌}
+use Rattle.clap.specs.Words.{App, Row, Rule, Text, fault_of, first_of, matches_of, new_app, new_rule, one_of, with_rule}
 use Rattle.clap.specs.Simple.{on_top}
-use Rattle.clap.specs.declared.builder.ArgAction.TheVariants.{Set}
+use Rattle.clap.specs.declared.builder.ArgAction.TheVariants.{Set, SetTrue}
+use Rattle.hurd_script.specs.Actions.{is_flag_word}
 
 -- a command without clap's own flags, whose words begin behind its name
-abbrev pub bare_app : List ℕ → App
+abbrev pub bare_app : Text → App
 bare_app name = on_top (λ top. record top { no_binary_name = true; disable_help_flag = true; disable_version_flag = true }) (new_app name)
 
 -- a word that has to be there
-abbrev pub operand : List ℕ → Rule
+abbrev pub operand : Text → Rule
 operand id = record (new_rule id) { action = Some Set; required = true }
 
--- a command that takes one node
-abbrev pub node_app : List ℕ → App
+-- a flag of one letter
+abbrev pub letter_flag : Text → ℕ → Rule
+letter_flag id letter = record (new_rule id) { short = Some letter; action = Some SetTrue }
+
+-- a command that takes one word, a node
+abbrev pub node_app : Text → App
 node_app name = with_rule (bare_app name) (operand (codes "node"))
 
--- a command that takes a node and a text
-abbrev pub text_app : List ℕ → App
-text_app name = with_rule (node_app name) (operand (codes "text"))
+-- a command that takes a node, and the flag `-d`
+abbrev pub list_app : Text → App
+list_app name = with_rule (node_app name) (letter_flag (codes "itself") 100)
+
+-- a command that takes two words
+abbrev pub pair_app : Text → App
+pair_app name = with_rule (with_rule (bare_app name) (operand (codes "first"))) (operand (codes "second"))
+
+-- a command that takes three words
+abbrev pub triple_app : Text → App
+triple_app name = with_rule (pair_app name) (operand (codes "third"))
 
 -- clap finds no fault with these words, and reads them as these rows
-abbrev pub ReadsAs : App → List (List ℕ) → List Row → Type 0
+abbrev pub ReadsAs : App → List Text → List Row → Type 0
 ReadsAs app words rows = (fault_of app words ≡ []) × (rows ≡ matches_of app words)
 
--- the only one of these
-abbrev pub lone : {X : Type 0} → List X → Option X
-lone (x ∷ []) = Some x
-lone _ = None
+-- a flag, and not `-d`
+abbrev pub is_other_flag : Text → Bool
+is_other_flag word = is_flag_word word && not (bytes_eq word (codes "-d"))
 
--- the only two of these
-abbrev pub both : {X : Type 0} → List X → Option (X × X)
-both (x ∷ y ∷ []) = Some (x, y)
-both _ = None
+-- no flag and one word
+abbrev pub lone : List Text → List Text → Option Text
+lone [] (x ∷ []) = Some x
+lone _ _ = None
 
--- both, where both are there
-abbrev pub pair_of : {X : Type 0} → Option X → Option X → Option (X × X)
-pair_of (Some x) (Some y) = Some (x, y)
-pair_of _ _ = None
+-- no flag and two words
+abbrev pub both : List Text → List Text → Option (Text × Text)
+both [] (x ∷ y ∷ []) = Some (x, y)
+both _ _ = None
+
+-- no flag and three words
+abbrev pub three : List Text → List Text → Option (Text × (Text × Text))
+three [] (x ∷ y ∷ z ∷ []) = Some (x, (y, z))
+three _ _ = None
+
+-- one word, and whether the flag `-d` is there
+abbrev pub listed : List Text → List Text → Option (Text × Bool)
+listed [] (x ∷ []) = Some (x, false)
+listed (flag ∷ []) (x ∷ []) = if bytes_eq flag (codes "-d") then Some (x, true) else None
+listed _ _ = None
+
+-- what clap makes of words that are read as a value, or as none: it finds no fault and has that value, or it finds one
+abbrev pub Answer : {X : Type 0} → App → List Text → (List Row → X → Type 0) → Option X → Type 0
+Answer app words Has None = fault_of app words ≢ []
+Answer app words Has (Some x) = (fault_of app words ≡ []) × Has (matches_of app words) x
+
+-- the values of the operands
+abbrev pub HasNode : List Row → Text → Type 0
+HasNode rows node = first_of (codes "node") rows ≡ Some node
+
+abbrev pub HasPair : List Row → Text × Text → Type 0
+HasPair rows pair = (first_of (codes "first") rows ≡ Some pair.0) × (first_of (codes "second") rows ≡ Some pair.1)
+
+abbrev pub HasTriple : List Row → Text × (Text × Text) → Type 0
+HasTriple rows triple = HasPair rows (triple.0, triple.1.0) × (first_of (codes "third") rows ≡ Some triple.1.1)
+
+-- what a flag's row has
+abbrev pub flag_text : Bool → Text
+flag_text true = codes "true"
+flag_text false = codes "false"
+
+abbrev pub HasListed : List Row → Text × Bool → Type 0
+HasListed rows listed = HasNode rows listed.0 × (one_of (codes "itself") rows ≡ Some (flag_text listed.1))

@@ -1,12 +1,12 @@
 -- The users that a script declares.
-use Rattle.std.specs.Prelude.{ℕ, ◌^◌, ◌==◌, ◌&&◌, ◌||◌, Bool, false, not, List, [], ◌∷◌, Option, Some, None, if◌then◌else◌, nat_le, nat_lt, is_some, option_map, filter_map, bytes_eq, codes, length}
+use Rattle.std.specs.Prelude.{ℕ, ◌==◌, ◌&&◌, ◌||◌, Bool, false, not, List, [], ◌∷◌, Option, Some, None, if◌then◌else◌, nat_le, nat_lt, is_some, option_map, filter_map, bytes_eq, codes, length}
 use Rattle.std.specs.List.{list_all, slice_split, position_from}
 use Rattle.std.specs.Char.{is_ascii_digit, is_ascii_lowercase}
 use Rattle.std.specs.Result.{result_ok}
-use Rattle.std.specs.Str.Parse.{digits_value}
 use Rattle.hurd_creds.specs.Access.{IdSets, ids_of}
 use Rattle.hurd_script.specs.Lines.{is_skipped}
-use Rattle.hurd_script.specs.Words.{has_bytes, onto, words_of}
+use Rattle.hurd_script.specs.Words.{onto, words_of}
+use Rattle.hurd_script.specs.Numbers.{number_of}
 
 -- the first word is this one
 abbrev pub begins_with : List ℕ → List (List ℕ) → Bool
@@ -44,11 +44,6 @@ task_of names name = position_from (λ n. bytes_eq n name) 0 names
 -- a name that somebody has already, or the word `user`
 abbrev pub is_taken : List (List ℕ) → List ℕ → Bool
 is_taken names name = is_some (task_of names name) || bytes_eq name (codes "user")
-
--- decimal digits of a value below 2 to the 32nd, without a sign; zeros may lead
-abbrev pub number_of : List ℕ → Option ℕ
-number_of digits =
-    if has_bytes digits && (list_all is_ascii_digit digits && nat_lt (digits_value 10 digits) (2 ^ 32)) then Some (digits_value 10 digits) else None
 
 -- the numbers of these words, if each is one
 unfoldable pub numbers_of : List (List ℕ) → Option (List ℕ)

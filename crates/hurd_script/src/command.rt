@@ -1,11 +1,11 @@
 //! Commands and what they ask for.
-ghost use Rattle.std.specs.Prelude.{◌≡◌, IfOk, false, map, string_bytes};
-ghost use Rattle.std.specs.List.{list_any};
-ghost use Rattle.hurd_script.specs.Actions.{action_of, is_flag_word, plain_action};
+ghost use Rattle.std.specs.Prelude.{◌≡◌, IfOk, map, string_bytes};
+ghost use Rattle.hurd_script.specs.Actions.{action_of};
 ghost use Rattle.hurd_script.specs.Commands.{CommandLine, verb_of};
 
-use crate::usage::{has_flag, node_and_text_of, node_of};
-use hurd_creds::{Bytes, TaskId};
+use crate::actions;
+use crate::places::Place;
+use hurd_creds::{Bytes, Mode, TaskId};
 use std::alloc::{AllocError, Global};
 use std::marker::Model;
 
@@ -15,6 +15,13 @@ pub enum Verb {
     Cat,
     Ls,
     Put,
+    Mkdir,
+    Rm,
+    Rmdir,
+    Ln,
+    Mv,
+    Chmod,
+    Chown,
 }
 
 /// A command with its words.
@@ -22,7 +29,17 @@ pub enum Verb {
 pub enum Action {
     Cat { node: Bytes },
     Ls { node: Bytes },
+    /// `ls -d`: the node itself is shown, whatever kind it is of.
+    Stat { node: Bytes },
     Put { node: Bytes, text: Bytes },
+    Mkdir { place: Place },
+    Rm { place: Place },
+    Rmdir { place: Place },
+    /// A new entry for a file.
+    Ln { file: Bytes, new: Place },
+    Mv { old: Place, new: Place },
+    Chmod { mode: Mode, node: Bytes },
+    Chown { owner: u32, group: u32, node: Bytes },
     /// The words are none that the command takes.
     Usage,
 }
@@ -76,53 +93,29 @@ impl Command {
 
     /// What the words ask for, read with clap.
     ///
-    /// A word that begins with `-`, other than `-` itself, is a flag; no command takes one, so any is
-    /// `Usage`. `cat` and `ls` take one node, `put` a node and a text. An error is want of memory.
+    /// A word that begins with `-`, other than `-` itself, is a flag, and may stand anywhere among the words. `ls`
+    /// takes the flag `-d`, once at most, and no other command takes one. `cat`, `ls`, `mkdir`, `rm` and `rmdir` take one
+    /// node, `put` a node and a text, `ln` and `mv` two nodes, `chmod` a mode and a node, `chown` an owner, a group and a
+    /// node. A mode is one to six octal digits
+    /// of known bits, an owner or a group a decimal number below 2 to the 32nd; zeros may lead, and no sign. Any
+    /// other words are `Usage`. An error is want of memory.
     pub fn action(&self, alloc: Global) -> Result<Action, AllocError>
         ensures { IfOk result (λ action. action ≡ action_of self.now) }
     {
         let words = self.words.as_slice();
-        if has_flag(words) {
-            return Ok(Action::Usage);
+        match self.verb {
+            Verb::Cat => actions::cat(alloc, words),
+            Verb::Ls => actions::ls(alloc, words),
+            Verb::Put => actions::put(alloc, words),
+            Verb::Mkdir => actions::mkdir(alloc, words),
+            Verb::Rm => actions::rm(alloc, words),
+            Verb::Rmdir => actions::rmdir(alloc, words),
+            Verb::Ln => actions::ln(alloc, words),
+            Verb::Mv => actions::mv(alloc, words),
+            Verb::Chmod => actions::chmod(alloc, words),
+            Verb::Chown => actions::chown(alloc, words),
         }
-        plain_action(alloc, self.verb, words)
     }
-}
-
-/// The bytes of a text.
-fn bytes_of(alloc: Global, text: &str) -> Result<Bytes, AllocError>
-    ensures { IfOk result (λ bytes. bytes ≡ text.now) }
-{
-    Bytes::copied(alloc, text.as_bytes())
-}
-
-/// What words without flags ask for.
-fn plain_action(alloc: Global, verb: Verb, words: &[String]) -> Result<Action, AllocError>
-    requires { list_any is_flag_word (map string_bytes words.now) ≡ false }
-    ensures { IfOk result (λ action. action ≡ plain_action verb (map string_bytes words.now)) }
-{
-    let action = match verb {
-        Verb::Cat => match node_of(alloc, "cat", words)? {
-            Some(node) => Action::Cat {
-                node: bytes_of(alloc, node)?,
-            },
-            None => Action::Usage,
-        },
-        Verb::Ls => match node_of(alloc, "ls", words)? {
-            Some(node) => Action::Ls {
-                node: bytes_of(alloc, node)?,
-            },
-            None => Action::Usage,
-        },
-        Verb::Put => match node_and_text_of(alloc, "put", words)? {
-            Some((node, text)) => Action::Put {
-                node: bytes_of(alloc, node)?,
-                text: bytes_of(alloc, text)?,
-            },
-            None => Action::Usage,
-        },
-    };
-    Ok(action)
 }
 
 /// The command of a name.
@@ -135,6 +128,20 @@ pub fn verb_of(word: &str) -> Option<Verb>
         Some(Verb::Ls)
     } else if word == "put" {
         Some(Verb::Put)
+    } else if word == "mkdir" {
+        Some(Verb::Mkdir)
+    } else if word == "rm" {
+        Some(Verb::Rm)
+    } else if word == "rmdir" {
+        Some(Verb::Rmdir)
+    } else if word == "ln" {
+        Some(Verb::Ln)
+    } else if word == "mv" {
+        Some(Verb::Mv)
+    } else if word == "chmod" {
+        Some(Verb::Chmod)
+    } else if word == "chown" {
+        Some(Verb::Chown)
     } else {
         None
     }

@@ -4,20 +4,25 @@
 //! come the users, a line `user NAME UIDS GIDS` each, then commands, a line `NAME COMMAND WORD..` each.
 //! Lines that are empty, only spaces or begin with `#` are skipped. Words are of printable ASCII, between
 //! spaces; in a word `\s` is a space, `\n` a newline and `\\` a backslash. `Command::action` says what the
-//! words of a command ask for. The commands are `cat NODE`, `ls NODE` and `put NODE TEXT`.
+//! words of a command ask for. The commands are `cat NODE`, `ls [-d] NODE`, `put NODE TEXT`, `mkdir NODE`,
+//! `rm NODE`, `rmdir NODE`, `ln FILE NEW`, `mv OLD NEW`, `chmod MODE NODE` and `chown OWNER GROUP NODE`.
 //!
 //! It runs no command and knows no node: it isn't a shell.
 #![tactic(auto)]
 
+mod actions;
 mod command;
 mod fault;
 mod lines;
+mod numbers;
+mod places;
 mod reader;
 mod usage;
 mod users;
 mod words;
 
 pub use command::{Action, Command, Verb};
+pub use places::Place;
 pub use reader::{Script, ScriptFault, parse_script};
 
 #[cfg(test)]

@@ -1,5 +1,7 @@
-use crate::{Action, ScriptFault, parse_script};
+use crate::{Action, Place, ScriptFault, parse_script};
+use bitflags::Flags;
 use std::alloc::{AllocError, Global};
+use std::process::Abort;
 
 /// The line at which a script is bad.
 fn bad_line(alloc: Global, script: &[u8]) -> Result<Option<u64>, ScriptFault> {
@@ -12,7 +14,7 @@ fn bad_line(alloc: Global, script: &[u8]) -> Result<Option<u64>, ScriptFault> {
 
 #[test]
 fn scripts_are_bad_at_their_first_bad_line(rt: HostRuntime) -> Result<(), ScriptFault> {
-    let table: [(&[u8], Option<u64>); 41] = [
+    let table: [(&[u8], Option<u64>); 43] = [
         (b"", None),
         (b"root ls /", None),
         (b"root ls /\n\n# \x07\xff\\q\n   \n", None),
@@ -25,6 +27,8 @@ fn scripts_are_bad_at_their_first_bad_line(rt: HostRuntime) -> Result<(), Script
         (b"alice ls /\nuser alice 1 1", Some(1)),
         (b"root", Some(1)),
         (b"root frob /", Some(1)),
+        (b"root chmod", None),
+        (b"root mkdirs a", Some(1)),
         (b"root ls /\n# one\n\nroot CAT /", Some(4)),
         (b" # no comment", Some(1)),
         // A byte that is none of a line.
@@ -120,6 +124,30 @@ fn asked(alloc: Global, action: &Action) -> Result<String, AllocError> {
             text.push_str("ls|")?;
             push_bytes(&mut text, node.as_slice())?;
         }
+        Action::Stat { node } => {
+            text.push_str("stat|")?;
+            push_bytes(&mut text, node.as_slice())?;
+        }
+        Action::Mkdir { place } => push_place(&mut text, "mkdir", place)?,
+        Action::Rm { place } => push_place(&mut text, "rm", place)?,
+        Action::Rmdir { place } => push_place(&mut text, "rmdir", place)?,
+        Action::Ln { file, new } => {
+            text.push_str("ln|")?;
+            push_bytes(&mut text, file.as_slice())?;
+            push_place(&mut text, "", new)?;
+        }
+        Action::Mv { old, new } => {
+            push_place(&mut text, "mv", old)?;
+            push_place(&mut text, "", new)?;
+        }
+        Action::Chmod { mode, node } => {
+            text.push_str(format!(in alloc; "chmod|{:o}|", mode.bits())?.as_str())?;
+            push_bytes(&mut text, node.as_slice())?;
+        }
+        Action::Chown { owner, group, node } => {
+            text.push_str(format!(in alloc; "chown|{owner}|{group}|")?.as_str())?;
+            push_bytes(&mut text, node.as_slice())?;
+        }
         Action::Put {
             node,
             text: content,
@@ -134,9 +162,33 @@ fn asked(alloc: Global, action: &Action) -> Result<String, AllocError> {
     Ok(text)
 }
 
+/// A directory and a name in it, with a bar before each.
+fn push_place(text: &mut String, command: &str, place: &Place) -> Result<(), AllocError> {
+    text.push_str(command)?;
+    text.push_str("|")?;
+    push_bytes(text, place.directory.as_slice())?;
+    text.push_str("|")?;
+    push_bytes(text, place.name.as_slice())
+}
+
 fn push_bytes(text: &mut String, bytes: &[u8]) -> Result<(), AllocError> {
     for byte in bytes {
         text.push(char::from(*byte))?;
+    }
+    Ok(())
+}
+
+/// Each line is a command, and asks for this.
+fn check(rt: &impl Abort, alloc: Global, table: &[(&str, &str)]) -> Result<(), ScriptFault> {
+    for (line, wanted) in table {
+        let script = parse_script(alloc, line.as_bytes())?;
+        let mut count = 0u32;
+        for command in &script.commands {
+            let action = command.action(alloc)?;
+            assert_eq!(rt; asked(alloc, &action)?.as_str(), *wanted, "{line}");
+            count = count.wrapping_add(1);
+        }
+        assert_eq!(rt; count, 1);
     }
     Ok(())
 }
@@ -159,17 +211,115 @@ fn words_ask_for_this(rt: HostRuntime) -> Result<(), ScriptFault> {
         ("root put /a b c", "usage"),
         ("root put /a -b", "usage"),
     ];
-    for (line, wanted) in table {
-        let script = parse_script(rt.alloc(), line.as_bytes())?;
-        let mut count = 0u32;
-        for command in &script.commands {
-            let action = command.action(rt.alloc())?;
-            assert_eq!(rt; asked(rt.alloc(), &action)?.as_str(), wanted, "{line}");
-            count = count.wrapping_add(1);
-        }
-        assert_eq!(rt; count, 1);
-    }
-    Ok(())
+    check(&rt, rt.alloc(), &table)
+}
+
+#[test]
+fn ls_takes_a_flag(rt: HostRuntime) -> Result<(), ScriptFault> {
+    let table = [
+        ("root ls -d x", "stat|x"),
+        ("root ls x -d", "stat|x"),
+        ("root ls -d -", "stat|-"),
+        ("root ls -", "ls|-"),
+        ("root ls -d", "usage"),
+        ("root ls -d x y", "usage"),
+        ("root ls x -d y", "usage"),
+        ("root ls -d -d x", "usage"),
+        ("root ls -d x -d", "usage"),
+        ("root ls x -d -d", "usage"),
+        ("root ls -dd x", "usage"),
+        ("root ls --d x", "usage"),
+        ("root ls -d=x y", "usage"),
+        ("root ls -dx", "usage"),
+        ("root ls -- x", "usage"),
+        ("root ls -d -- x", "usage"),
+        ("root ls -d -h x", "usage"),
+        ("root ls -D x", "usage"),
+        ("root cat -d x", "usage"),
+    ];
+    check(&rt, rt.alloc(), &table)
+}
+
+#[test]
+fn entries_have_a_directory_and_a_name(rt: HostRuntime) -> Result<(), ScriptFault> {
+    let table = [
+        ("root mkdir a", "mkdir||a"),
+        ("root mkdir /x", "mkdir|/|x"),
+        ("root mkdir /a/b", "mkdir|/a/|b"),
+        ("root mkdir a//b//", "mkdir|a//|b"),
+        ("root mkdir a/..", "mkdir|a/|.."),
+        ("root mkdir /", "mkdir||"),
+        ("root mkdir ///", "mkdir||"),
+        ("root mkdir", "usage"),
+        ("root mkdir a b", "usage"),
+        ("root mkdir -p a", "usage"),
+        ("root rm /a/b/", "rm|/a/|b"),
+        ("root rm -f a", "usage"),
+        ("root rm a b", "usage"),
+        ("root rmdir a/b", "rmdir|a/|b"),
+        ("root rmdir -- a", "usage"),
+        ("root ln /a /b/c", "ln|/a|/b/|c"),
+        ("root ln a/ b/", "ln|a/||b"),
+        ("root ln a", "usage"),
+        ("root ln -s a b", "usage"),
+        ("root mv a/b /c", "mv|a/|b|/|c"),
+        ("root mv - -", "mv||-||-"),
+        ("root mv a b c", "usage"),
+        ("root mv a -T b", "usage"),
+    ];
+    check(&rt, rt.alloc(), &table)
+}
+
+#[test]
+fn modes_are_octal(rt: HostRuntime) -> Result<(), ScriptFault> {
+    let table = [
+        ("root chmod 644 x", "chmod|644|x"),
+        ("root chmod 0 x", "chmod|0|x"),
+        ("root chmod 000644 x", "chmod|644|x"),
+        ("root chmod 171777 x", "chmod|171777|x"),
+        ("root chmod 0000644 x", "usage"),
+        ("root chmod 1000000 x", "usage"),
+        ("root chmod 200000 x", "usage"),
+        ("root chmod 2000 x", "usage"),
+        ("root chmod 4755 x", "usage"),
+        ("root chmod 8 x", "usage"),
+        ("root chmod 648 x", "usage"),
+        ("root chmod +644 x", "usage"),
+        ("root chmod -644 x", "usage"),
+        ("root chmod 0x1 x", "usage"),
+        ("root chmod u+r x", "usage"),
+        ("root chmod \\s x", "usage"),
+        ("root chmod - x", "usage"),
+        ("root chmod x 644", "usage"),
+        ("root chmod 644", "usage"),
+        ("root chmod 644 x y", "usage"),
+        ("root chmod -d 644 x", "usage"),
+    ];
+    check(&rt, rt.alloc(), &table)
+}
+
+#[test]
+fn owners_and_groups_are_decimal(rt: HostRuntime) -> Result<(), ScriptFault> {
+    let table = [
+        ("root chown 1 2 x", "chown|1|2|x"),
+        ("root chown 007 0 x", "chown|7|0|x"),
+        (
+            "root chown 4294967295 00000000004294967295 x",
+            "chown|4294967295|4294967295|x",
+        ),
+        ("root chown 4294967296 0 x", "usage"),
+        ("root chown 0 4294967296 x", "usage"),
+        ("root chown +1 0 x", "usage"),
+        ("root chown -1 0 x", "usage"),
+        ("root chown 0 -1 x", "usage"),
+        ("root chown - 0 x", "usage"),
+        ("root chown 0 1, x", "usage"),
+        ("root chown root 0 x", "usage"),
+        ("root chown 1 x", "usage"),
+        ("root chown 1 2 x y", "usage"),
+        ("root chown 1 2 -- x", "usage"),
+    ];
+    check(&rt, rt.alloc(), &table)
 }
 
 #[test]

@@ -1,16 +1,23 @@
 //! The words that commands take, read with clap.
-ghost use Rattle.std.specs.Prelude.{◌≡◌, ◌≢◌, [], IfOk, MatchOption, codes, false, map, option_copied, option_map, string_bytes, true};
+ghost use Rattle.std.specs.Prelude.{◌≡◌, ◌≢◌, ◌⊎◌, [], IfOk, MatchOption, codes, false, map, option_copied, option_map, string_bytes, true};
 ghost use Rattle.std.specs.List.{list_any};
 ghost use Rattle.clap.specs.Words.{app_of, fault_of, found_of, is_simple_and_free, rows_of, rule_of};
-ghost use Rattle.hurd_script.specs.Actions.{is_flag_word};
-ghost use Rattle.hurd_script.specs.Usage.{ReadsAs, bare_app, both, lone, node_app, operand, pair_of, text_app};
+ghost use Rattle.hurd_script.specs.Actions.{flags_of, is_flag_word, operands_of};
+ghost use Rattle.hurd_script.specs.Usage.{ReadsAs, bare_app, both, is_other_flag, letter_flag, list_app, listed, lone, node_app, operand, pair_app, three, triple_app};
 
 use clap::error::ErrorKind;
 use clap::{Arg, ArgAction, ArgMatches, Command};
 use std::alloc::{AllocError, Global};
 
 /// Whether a word begins with `-`, and is not that alone.
-pub fn has_flag(words: &[String]) -> bool
+fn is_flag_word(word: &str) -> bool
+    ensures { result ≡ is_flag_word word.now }
+{
+    let bytes = word.as_bytes();
+    bytes.len() > 1 && bytes[0] == b'-'
+}
+
+fn has_flag(words: &[String]) -> bool
     ensures { result ≡ list_any is_flag_word (map string_bytes words.now) }
 {
     for word in words {
@@ -21,11 +28,22 @@ pub fn has_flag(words: &[String]) -> bool
     false
 }
 
-fn is_flag_word(word: &str) -> bool
-    ensures { result ≡ is_flag_word word.now }
+/// Whether a word is a flag, and not `-d`.
+fn is_other_flag(word: &str) -> bool
+    ensures { result ≡ is_other_flag word.now }
 {
-    let bytes = word.as_bytes();
-    bytes.len() > 1 && bytes[0] == b'-'
+    is_flag_word(word) && word != "-d"
+}
+
+fn has_other_flag(words: &[String]) -> bool
+    ensures { result ≡ list_any is_other_flag (map string_bytes words.now) }
+{
+    for word in words {
+        if is_other_flag(word.as_str()) {
+            return true;
+        }
+    }
+    false
 }
 
 /// A command without flags of clap's own.
@@ -46,18 +64,43 @@ fn operand<'a>(alloc: Global, name: &'a str) -> Arg<'a>
     Arg::new(alloc, name).action(ArgAction::Set).required(true)
 }
 
-/// A command that takes one node.
+/// A flag of one letter.
+fn letter_flag<'a>(alloc: Global, name: &'a str, letter: char) -> Arg<'a>
+    ensures rule { rule_of result ≡ letter_flag name.entry.now letter }
+    ensures local { result.global ≡ false }
+{
+    Arg::new(alloc, name)
+        .short(letter)
+        .action(ArgAction::SetTrue)
+}
+
+/// A command that takes one word, a node.
 fn node_command<'a>(alloc: Global, name: &'a str) -> Result<Command<'a>, AllocError>
     ensures { IfOk result (λ command. app_of command ≡ node_app name.entry.now) }
 {
     bare_command(alloc, name).arg(operand(alloc, "node"))
 }
 
-/// A command that takes a node and a text.
-fn text_command<'a>(alloc: Global, name: &'a str) -> Result<Command<'a>, AllocError>
-    ensures { IfOk result (λ command. app_of command ≡ text_app name.entry.now) }
+/// A command that takes a node, and the flag `-d`.
+fn list_command<'a>(alloc: Global, name: &'a str) -> Result<Command<'a>, AllocError>
+    ensures { IfOk result (λ command. app_of command ≡ list_app name.entry.now) }
 {
-    node_command(alloc, name)?.arg(operand(alloc, "text"))
+    node_command(alloc, name)?.arg(letter_flag(alloc, "itself", 'd'))
+}
+
+/// A command that takes two words.
+fn pair_command<'a>(alloc: Global, name: &'a str) -> Result<Command<'a>, AllocError>
+    ensures { IfOk result (λ command. app_of command ≡ pair_app name.entry.now) }
+{
+    let command = bare_command(alloc, name).arg(operand(alloc, "first"))?;
+    command.arg(operand(alloc, "second"))
+}
+
+/// A command that takes three words.
+fn triple_command<'a>(alloc: Global, name: &'a str) -> Result<Command<'a>, AllocError>
+    ensures { IfOk result (λ command. app_of command ≡ triple_app name.entry.now) }
+{
+    pair_command(alloc, name)?.arg(operand(alloc, "third"))
 }
 
 /// What clap makes of the words, unless it refuses them.
@@ -82,42 +125,81 @@ fn matched<'a>(
     }
 }
 
-/// The one node that the words are.
+/// The one node that the words are, where none is a flag.
 pub fn node_of<'a>(
     alloc: Global,
     name: &'a str,
     words: &'a [String],
 ) -> Result<Option<&'a str>, AllocError>
-    requires { list_any is_flag_word (map string_bytes words.now) ≡ false }
-    ensures { IfOk result (λ node. option_copied node ≡ lone (map string_bytes words.entry.now)) }
+    ensures { let ws = map string_bytes words.entry.now in
+        IfOk result (λ node. option_copied node ≡ lone (flags_of ws) (operands_of ws)) }
 {
+    if has_flag(words) {
+        return Ok(None);
+    }
     match matched(node_command(alloc, name)?, words)? {
         Some(matches) => Ok(matches.get_str("node")),
         None => Ok(None),
     }
 }
 
-/// The node and the text that the words are.
-pub fn node_and_text_of<'a>(
+/// The two words, where none is a flag.
+pub fn pair_of<'a>(
     alloc: Global,
     name: &'a str,
     words: &'a [String],
 ) -> Result<Option<(&'a str, &'a str)>, AllocError>
-    requires { list_any is_flag_word (map string_bytes words.now) ≡ false }
-    ensures { IfOk result (λ pair. option_map (λ p. (p.0.now, p.1.now)) pair ≡ both (map string_bytes words.entry.now)) }
+    ensures { let ws = map string_bytes words.entry.now in
+        IfOk result (λ pair. option_map (λ p. (p.0.now, p.1.now)) pair ≡ both (flags_of ws) (operands_of ws)) }
 {
-    match matched(text_command(alloc, name)?, words)? {
-        Some(matches) => Ok(pair(matches.get_str("node"), matches.get_str("text"))),
+    if has_flag(words) {
+        return Ok(None);
+    }
+    match matched(pair_command(alloc, name)?, words)? {
+        Some(matches) => Ok(matches.get_str("first").zip(matches.get_str("second"))),
         None => Ok(None),
     }
 }
 
-/// Both, where both are there.
-fn pair<'a>(first: Option<&'a str>, second: Option<&'a str>) -> Option<(&'a str, &'a str)>
-    ensures { option_map (λ p. (p.0.now, p.1.now)) result ≡ pair_of (option_copied first.entry) (option_copied second.entry) }
+/// The three words, where none is a flag.
+pub fn triple_of<'a>(
+    alloc: Global,
+    name: &'a str,
+    words: &'a [String],
+) -> Result<Option<(&'a str, (&'a str, &'a str))>, AllocError>
+    ensures { let ws = map string_bytes words.entry.now in
+        IfOk result (λ triple. option_map (λ t. (t.0.now, (t.1.0.now, t.1.1.now))) triple ≡ three (flags_of ws) (operands_of ws)) }
 {
-    match (first, second) {
-        (Some(first), Some(second)) => Some((first, second)),
-        _ => None,
+    if has_flag(words) {
+        return Ok(None);
+    }
+    match matched(triple_command(alloc, name)?, words)? {
+        Some(matches) => {
+            let rest = matches.get_str("second").zip(matches.get_str("third"));
+            Ok(matches.get_str("first").zip(rest))
+        }
+        None => Ok(None),
+    }
+}
+
+/// The one node, and whether the flag `-d` is there, where no other flag is and it is there once at most.
+pub fn listed_of<'a>(
+    alloc: Global,
+    name: &'a str,
+    words: &'a [String],
+) -> Result<Option<(&'a str, bool)>, AllocError>
+    ensures { let ws = map string_bytes words.entry.now in
+        IfOk result (λ node. option_map (λ p. (p.0.now, p.1)) node ≡ listed (flags_of ws) (operands_of ws)) }
+{
+    if has_other_flag(words) {
+        return Ok(None);
+    }
+    let Some(matches) = matched(list_command(alloc, name)?, words)? else {
+        return Ok(None);
+    };
+    let itself = matches.get_flag("itself");
+    match matches.get_str("node") {
+        Some(node) => Ok(Some((node, itself))),
+        None => Ok(None),
     }
 }

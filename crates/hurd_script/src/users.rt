@@ -3,9 +3,10 @@ ghost use Rattle.std.specs.Prelude.{◌≡◌, ◌<◌, ◌==◌, ◌||◌, ◌�
 ghost use Rattle.std.specs.Char.{is_ascii_digit, is_ascii_lowercase};
 ghost use Rattle.std.specs.List.{list_all, slice_split};
 ghost use Rattle.hurd_script.specs.Reading.{Reads, Refuses, Takes};
-ghost use Rattle.hurd_script.specs.Users.{begins_with, begins_with_letter, ids_from, is_taken, is_user_name, listed, number_of, numbers_of, task_of};
+ghost use Rattle.hurd_script.specs.Users.{begins_with, begins_with_letter, ids_from, is_taken, is_user_name, listed, numbers_of, task_of};
 
 use crate::fault::ReadFault;
+use crate::numbers::number;
 use hurd_creds::{Errno, Ids};
 use std::alloc::{AllocError, Global};
 
@@ -35,12 +36,6 @@ fn are_letters_or_digits(bytes: &[u8]) -> bool
         .all(|byte| byte.is_ascii_lowercase() || byte.is_ascii_digit())
 }
 
-fn are_digits(bytes: &[u8]) -> bool
-    ensures { result ≡ list_all is_ascii_digit bytes.now }
-{
-    bytes.iter().all(|byte| byte.is_ascii_digit())
-}
-
 fn begins_with_letter(name: &[u8]) -> bool
     ensures { result ≡ begins_with_letter name.now }
 {
@@ -60,17 +55,6 @@ pub fn is_taken(names: &[String], name: &str) -> bool
     ensures { result ≡ is_taken (map string_bytes names.now) name.now }
 {
     task_of(names, name).is_some() || name == "user"
-}
-
-/// A number below 2 to the 32nd in decimal digits, without a sign.
-fn number(digits: &str) -> Option<u32>
-    ensures { result ≡ number_of digits.now }
-{
-    if are_digits(digits.as_bytes()) {
-        digits.parse::<u32>().ok()
-    } else {
-        None
-    }
 }
 
 /// The parts between commas.

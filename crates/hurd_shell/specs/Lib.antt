@@ -1,4 +1,5 @@
 pub mod Programs
+pub mod Lines
 pub mod Commands
 pub mod Transcript
 pub mod Progress

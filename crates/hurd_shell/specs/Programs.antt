@@ -2,9 +2,10 @@
 use Rattle.std.specs.Prelude.{ℕ, List, Result, Ok, Err}
 use Rattle.hurd_creds.specs.declared.errno.Errno.{Errno}
 use Rattle.hurd_creds.specs.declared.errno.Errno.TheVariants.{EIO}
+use Rattle.hurd_creds.specs.declared.attrs.Stat.{Stat}
 use Rattle.hurd_machine.specs.declared.call.Call.{Call}
 use Rattle.hurd_machine.specs.declared.call.Reply.{Reply}
-use Rattle.hurd_machine.specs.declared.call.Reply.TheVariants.{Done, Found, Data, Count, Names, Refused}
+use Rattle.hurd_machine.specs.declared.call.Reply.TheVariants as reply
 use Rattle.hurd_machine.specs.declared.call.Lookup.TheVariants as found
 use Rattle.hurd_machine.specs.World.{World}
 use Rattle.hurd_laws.specs.Step.{reply_of, after}
@@ -45,24 +46,29 @@ go t (calls c k) w = go t (k (reply_of w t c)) (after w t c)
 -- what a command reads of a reply; a reply of another sort can't come, and would be EIO
 
 abbrev pub port_of : Reply → Result ℕ Errno
-port_of (Found (found.Done p)) = Ok p
-port_of (Refused e) = Err e
+port_of (reply.Found (found.Done p)) = Ok p
+port_of (reply.Refused e) = Err e
 port_of _ = Err EIO
 
 abbrev pub data_of : Reply → Result (List ℕ) Errno
-data_of (Data bytes) = Ok bytes
-data_of (Refused e) = Err e
+data_of (reply.Data bytes) = Ok bytes
+data_of (reply.Refused e) = Err e
 data_of _ = Err EIO
 
 abbrev pub names_of : Reply → Result (List (List ℕ)) Errno
-names_of (Names names) = Ok names
-names_of (Refused e) = Err e
+names_of (reply.Names names) = Ok names
+names_of (reply.Refused e) = Err e
 names_of _ = Err EIO
 
+abbrev pub stat_of : Reply → Result Stat Errno
+stat_of (reply.Stat stat) = Ok stat
+stat_of (reply.Refused e) = Err e
+stat_of _ = Err EIO
+
 abbrev pub done_of : Reply → Result (Unit {0}) Errno
-done_of Done = Ok tt
-done_of (Count n) = Ok tt
-done_of (Refused e) = Err e
+done_of reply.Done = Ok tt
+done_of (reply.Count n) = Ok tt
+done_of (reply.Refused e) = Err e
 done_of _ = Err EIO
 
 -- a reply that nobody reads

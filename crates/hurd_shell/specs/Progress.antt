@@ -3,6 +3,7 @@ use Rattle.std.specs.Prelude.{◌≡◌, ℕ, List, Result, Ok, Err}
 use Rattle.hurd_creds.specs.declared.errno.Errno.{Errno}
 use Rattle.hurd_trans_iface.specs.Meaning.{Meaning}
 use Rattle.hurd_machine.specs.declared.call.Call.{Call}
+use Rattle.hurd_machine.specs.declared.call.Call.TheVariants.{DirMkdir, DirRmdir, DirUnlink, DirLink, DirRename}
 use Rattle.hurd_machine.specs.declared.call.Reply.{Reply}
 use Rattle.hurd_machine.specs.World.{World}
 use Rattle.hurd_laws.specs.Step.{step}
@@ -10,11 +11,13 @@ use Rattle.hurd_script.specs.Commands.{CommandLine}
 use Rattle.hurd_world.specs.Held.{Whole, world_of}
 use Rattle.hurd_shell.specs.declared.commands.Printed.{Printed}
 use Rattle.hurd_shell.specs.declared.commands.Work.{Work}
-use Rattle.hurd_shell.specs.declared.commands.Work.TheVariants.{Cat, Ls, Put}
+use Rattle.hurd_shell.specs.declared.commands.Work.TheVariants.{Cat, Ls, Stat, Put, Chmod, Chown, Ln, Mv}
+use Rattle.hurd_shell.specs.declared.entries.EntryWork.{EntryWork}
+use Rattle.hurd_shell.specs.declared.entries.EntryWork.TheVariants as entry
 use Rattle.hurd_shell.specs.declared.fault.Stop.{Stop}
 use Rattle.hurd_shell.specs.declared.fault.Stop.TheVariants.{Refused, Memory}
-use Rattle.hurd_shell.specs.Programs.{Prog, gives, go}
-use Rattle.hurd_shell.specs.Commands.{cat, ls, put}
+use Rattle.hurd_shell.specs.Programs.{Prog, gives, made, done_of, go}
+use Rattle.hurd_shell.specs.Commands.{directory_mode, silent, cat, ls, stat, put, chmod, chown, ln, mv}
 use Rattle.hurd_shell.specs.Transcript.{end_of, part_of}
 
 -- a call of task t was told the machine's reply, and left its world
@@ -48,7 +51,24 @@ Ran f t p old r new = Does t p (world_of f old) r (world_of f new)
 abbrev pub work_of : Work → ℕ → Prog Printed
 work_of Cat = cat
 work_of Ls = ls
+work_of Stat = stat
 work_of (Put text) = put text
+work_of (Chmod mode) = chmod mode
+work_of (Chown owner group) = chown owner group
+work_of (Ln new) = ln new
+work_of (Mv name new) = λ p. mv new p name
+
+-- the call of what the code does at a name of an open directory
+abbrev pub change_of : EntryWork → ℕ → List ℕ → Prog (Unit {0})
+change_of entry.Mkdir p name = made (DirMkdir p name directory_mode) done_of
+change_of entry.Rm p name = made (DirUnlink p name) done_of
+change_of entry.Rmdir p name = made (DirRmdir p name) done_of
+change_of (entry.Ln file) p name = made (DirLink p name file) done_of
+change_of (entry.Mv q old) p name = made (DirRename q old p name) done_of
+
+-- the program of that
+abbrev pub entry_work_of : EntryWork → ℕ → List ℕ → Prog Printed
+entry_work_of work p name = silent (change_of work p name)
 
 -- a command was made, and this is its part of the transcript
 pub record Told (c : CommandLine) (w : World) (bytes : List ℕ) (x : World) : Type 0 where

@@ -3,12 +3,12 @@ ghost use Rattle.std.specs.Prelude.{◌≡◌, IfOk, IfErr, Ok};
 ghost use Rattle.hurd_creds.specs.declared.open_flags.OpenFlags.{OpenFlags};
 ghost use Rattle.hurd_laws.specs.Called.{Lacks};
 ghost use Rattle.hurd_world.specs.Held.{world_of};
-ghost use Rattle.hurd_shell.specs.Programs.{made, data_of, done_of, names_of, port_of, unread};
-ghost use Rattle.hurd_shell.specs.Commands.{file_mode, open_node, start_of};
+ghost use Rattle.hurd_shell.specs.Programs.{made, data_of, done_of, names_of, port_of, stat_of, unread};
+ghost use Rattle.hurd_shell.specs.Commands.{directory_mode, file_mode, open_node, start_of};
 ghost use Rattle.hurd_shell.specs.Progress.{Ran, Stepped, stopped};
 
 use crate::fault::{NoMemory, Stop};
-use hurd_creds::{Bytes, Errno, Mode, OpenFlags, TaskId};
+use hurd_creds::{Bytes, Errno, Mode, OpenFlags, Stat, TaskId};
 use hurd_trans_iface::{Names, Server};
 use hurd_world::{Call, Lookup, Reply, World};
 use std::alloc::Global;
@@ -27,6 +27,9 @@ const DIRECTORY_PORT: u64 = 2;
 
 /// The mode of a file that a command makes.
 const FILE_MODE: u32 = 0o644;
+
+/// The mode of a directory that a command makes.
+const DIRECTORY_MODE: u32 = 0o755;
 
 /// Makes a call of a task.
 fn made<S: Server>(
@@ -52,9 +55,13 @@ fn port_of(reply: Reply) -> Result<u64, Stop>
     match reply {
         Reply::Found(Lookup::Done(port)) => Ok(port),
         Reply::Refused(errno) => Err(Stop::Refused(errno)),
-        Reply::Done | Reply::Data(_) | Reply::Count(_) | Reply::Names(_) => {
-            Err(Stop::Refused(Errno::EIO))
-        }
+        Reply::Done
+        | Reply::Port(_)
+        | Reply::Data(_)
+        | Reply::Count(_)
+        | Reply::Names(_)
+        | Reply::Stat(_)
+        | Reply::Modes(_) => Err(Stop::Refused(Errno::EIO)),
     }
 }
 
@@ -65,9 +72,13 @@ fn data_of(reply: Reply) -> Result<Bytes, Stop>
     match reply {
         Reply::Data(bytes) => Ok(bytes),
         Reply::Refused(errno) => Err(Stop::Refused(errno)),
-        Reply::Done | Reply::Found(_) | Reply::Count(_) | Reply::Names(_) => {
-            Err(Stop::Refused(Errno::EIO))
-        }
+        Reply::Done
+        | Reply::Found(_)
+        | Reply::Port(_)
+        | Reply::Count(_)
+        | Reply::Names(_)
+        | Reply::Stat(_)
+        | Reply::Modes(_) => Err(Stop::Refused(Errno::EIO)),
     }
 }
 
@@ -78,9 +89,30 @@ fn names_of(reply: Reply) -> Result<Names, Stop>
     match reply {
         Reply::Names(names) => Ok(names),
         Reply::Refused(errno) => Err(Stop::Refused(errno)),
-        Reply::Done | Reply::Found(_) | Reply::Data(_) | Reply::Count(_) => {
-            Err(Stop::Refused(Errno::EIO))
-        }
+        Reply::Done
+        | Reply::Found(_)
+        | Reply::Port(_)
+        | Reply::Data(_)
+        | Reply::Count(_)
+        | Reply::Stat(_)
+        | Reply::Modes(_) => Err(Stop::Refused(Errno::EIO)),
+    }
+}
+
+/// What is told of a node.
+fn stat_of(reply: Reply) -> Result<Stat, Stop>
+    ensures { result ≡ stopped (stat_of reply) }
+{
+    match reply {
+        Reply::Stat(stat) => Ok(stat),
+        Reply::Refused(errno) => Err(Stop::Refused(errno)),
+        Reply::Done
+        | Reply::Found(_)
+        | Reply::Port(_)
+        | Reply::Data(_)
+        | Reply::Count(_)
+        | Reply::Names(_)
+        | Reply::Modes(_) => Err(Stop::Refused(Errno::EIO)),
     }
 }
 
@@ -91,7 +123,12 @@ fn done_of(reply: Reply) -> Result<(), Stop>
     match reply {
         Reply::Done | Reply::Count(_) => Ok(()),
         Reply::Refused(errno) => Err(Stop::Refused(errno)),
-        Reply::Found(_) | Reply::Data(_) | Reply::Names(_) => Err(Stop::Refused(Errno::EIO)),
+        Reply::Found(_)
+        | Reply::Port(_)
+        | Reply::Data(_)
+        | Reply::Names(_)
+        | Reply::Stat(_)
+        | Reply::Modes(_) => Err(Stop::Refused(Errno::EIO)),
     }
 }
 
@@ -110,6 +147,13 @@ fn file_mode() -> Mode
     ensures { result ≡ file_mode }
 {
     Mode::from_bits_truncate(FILE_MODE)
+}
+
+/// The mode of a directory that a command makes.
+fn directory_mode() -> Mode
+    ensures { result ≡ directory_mode }
+{
+    Mode::from_bits_truncate(DIRECTORY_MODE)
 }
 
 /// Gives up a port.
@@ -204,4 +248,123 @@ pub(crate) fn names<S: Server>(
 {
     let call = Call::DirReaddir { port };
     names_of(made(world, alloc, task, call)?)
+}
+
+/// What is told of a node.
+pub(crate) fn stat<S: Server>(
+    world: &mut World<S>,
+    alloc: Global,
+    task: TaskId,
+    port: u64,
+) -> Result<Stat, Stop>
+    ensures { Ran S.meaning task.0 (made (Call.IoStat port) stat_of) world.old result world.new }
+{
+    let call = Call::IoStat { port };
+    stat_of(made(world, alloc, task, call)?)
+}
+
+/// Sets a node's mode.
+pub(crate) fn chmod<S: Server>(
+    world: &mut World<S>,
+    alloc: Global,
+    task: TaskId,
+    port: u64,
+    mode: Mode,
+) -> Result<(), Stop>
+    ensures { Ran S.meaning task.0 (made (Call.FileChmod port mode) done_of) world.old result world.new }
+{
+    let call = Call::FileChmod { port, mode };
+    done_of(made(world, alloc, task, call)?)
+}
+
+/// Gives a node to an owner and a group.
+pub(crate) fn chown<S: Server>(
+    world: &mut World<S>,
+    alloc: Global,
+    task: TaskId,
+    port: u64,
+    owner: u32,
+    group: u32,
+) -> Result<(), Stop>
+    ensures { Ran S.meaning task.0 (made (Call.FileChown port owner group) done_of) world.old result world.new }
+{
+    let call = Call::FileChown { port, owner, group };
+    done_of(made(world, alloc, task, call)?)
+}
+
+/// Makes a directory.
+pub(crate) fn mkdir<S: Server>(
+    world: &mut World<S>,
+    alloc: Global,
+    task: TaskId,
+    dir: u64,
+    name: Bytes,
+) -> Result<(), Stop>
+    ensures { Ran S.meaning task.0 (made (Call.DirMkdir dir name directory_mode) done_of) world.old result world.new }
+{
+    let call = Call::DirMkdir {
+        dir,
+        name,
+        mode: directory_mode(),
+    };
+    done_of(made(world, alloc, task, call)?)
+}
+
+/// Takes the name of a file away.
+pub(crate) fn unlink<S: Server>(
+    world: &mut World<S>,
+    alloc: Global,
+    task: TaskId,
+    dir: u64,
+    name: Bytes,
+) -> Result<(), Stop>
+    ensures { Ran S.meaning task.0 (made (Call.DirUnlink dir name) done_of) world.old result world.new }
+{
+    let call = Call::DirUnlink { dir, name };
+    done_of(made(world, alloc, task, call)?)
+}
+
+/// Removes a directory.
+pub(crate) fn rmdir<S: Server>(
+    world: &mut World<S>,
+    alloc: Global,
+    task: TaskId,
+    dir: u64,
+    name: Bytes,
+) -> Result<(), Stop>
+    ensures { Ran S.meaning task.0 (made (Call.DirRmdir dir name) done_of) world.old result world.new }
+{
+    let call = Call::DirRmdir { dir, name };
+    done_of(made(world, alloc, task, call)?)
+}
+
+/// Gives a file another name.
+pub(crate) fn link<S: Server>(
+    world: &mut World<S>,
+    alloc: Global,
+    task: TaskId,
+    dir: u64,
+    name: Bytes,
+    file: u64,
+) -> Result<(), Stop>
+    ensures { Ran S.meaning task.0 (made (Call.DirLink dir name file) done_of) world.old result world.new }
+{
+    let call = Call::DirLink { dir, name, file };
+    done_of(made(world, alloc, task, call)?)
+}
+
+/// Moves an entry to another name, in this directory or another.
+pub(crate) fn rename<S: Server>(
+    world: &mut World<S>,
+    alloc: Global,
+    task: TaskId,
+    dir: u64,
+    name: Bytes,
+    to: u64,
+    new: Bytes,
+) -> Result<(), Stop>
+    ensures { Ran S.meaning task.0 (made (Call.DirRename dir name to new) done_of) world.old result world.new }
+{
+    let call = Call::DirRename { dir, name, to, new };
+    done_of(made(world, alloc, task, call)?)
 }

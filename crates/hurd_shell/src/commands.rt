@@ -5,10 +5,12 @@ ghost use Rattle.hurd_shell.specs.Commands as written;
 ghost use Rattle.hurd_shell.specs.Progress.{Ran, work_of};
 
 use crate::calls;
+use crate::entries::{EntryWork, in_place, to_enter};
 use crate::fault::Stop;
+use crate::lines::stat_line;
 use bitflags::Flags;
-use hurd_creds::{Bytes, Errno, OpenFlags, TaskId};
-use hurd_script::{Action, Command};
+use hurd_creds::{Bytes, Errno, Mode, OpenFlags, TaskId};
+use hurd_script::{Action, Command, Place};
 use hurd_trans_iface::Server;
 use hurd_world::World;
 use std::alloc::{AllocError, Global};
@@ -28,11 +30,18 @@ pub(crate) struct Printed {
 pub(crate) enum Work {
     Cat,
     Ls,
+    Stat,
     Put(Bytes),
+    Chmod(Mode),
+    Chown(u32, u32),
+    /// The open file gets a name at this place.
+    Ln(Place),
+    /// An entry of the open directory, of this name, is moved to this place.
+    Mv(Bytes, Place),
 }
 
 /// This output, and no refusal.
-fn prints(output: Vec<u8>) -> Printed
+pub(crate) fn prints(output: Vec<u8>) -> Printed
     ensures { result ≡ written.prints output.items }
 {
     Printed {
@@ -116,6 +125,19 @@ fn ls<S: Server>(
     Ok(prints(shown_lines(alloc, names.as_slice())?))
 }
 
+/// `ls -d`: prints what is told of a node.
+fn stat<S: Server>(
+    world: &mut World<S>,
+    alloc: Global,
+    task: TaskId,
+    port: u64,
+) -> Result<Printed, Stop>
+    ensures { Ran S.meaning task.0 (written.stat port) world.old result world.new }
+{
+    let stat = calls::stat(world, alloc, task, port)?;
+    Ok(prints(stat_line(alloc, &stat)?))
+}
+
 /// `put`: writes a file anew.
 fn put<S: Server>(
     world: &mut World<S>,
@@ -128,6 +150,35 @@ fn put<S: Server>(
 {
     calls::cut(world, alloc, task, port)?;
     calls::write(world, alloc, task, port, text)?;
+    Ok(prints(Vec::new(alloc)))
+}
+
+/// `chmod`: sets a node's mode.
+fn chmod<S: Server>(
+    world: &mut World<S>,
+    alloc: Global,
+    task: TaskId,
+    port: u64,
+    mode: Mode,
+) -> Result<Printed, Stop>
+    ensures { Ran S.meaning task.0 (written.chmod mode port) world.old result world.new }
+{
+    calls::chmod(world, alloc, task, port, mode)?;
+    Ok(prints(Vec::new(alloc)))
+}
+
+/// `chown`: gives a node to an owner and a group.
+fn chown<S: Server>(
+    world: &mut World<S>,
+    alloc: Global,
+    task: TaskId,
+    port: u64,
+    owner: u32,
+    group: u32,
+) -> Result<Printed, Stop>
+    ensures { Ran S.meaning task.0 (written.chown owner group port) world.old result world.new }
+{
+    calls::chown(world, alloc, task, port, owner, group)?;
     Ok(prints(Vec::new(alloc)))
 }
 
@@ -144,7 +195,12 @@ fn work_on<S: Server>(
     match work {
         Work::Cat => cat(world, alloc, task, port),
         Work::Ls => ls(world, alloc, task, port),
+        Work::Stat => stat(world, alloc, task, port),
         Work::Put(text) => put(world, alloc, task, port, text),
+        Work::Chmod(mode) => chmod(world, alloc, task, port, mode),
+        Work::Chown(owner, group) => chown(world, alloc, task, port, owner, group),
+        Work::Ln(new) => in_place(world, alloc, task, new, EntryWork::Ln(port)),
+        Work::Mv(name, new) => in_place(world, alloc, task, new, EntryWork::Mv(port, name)),
     }
 }
 
@@ -179,6 +235,13 @@ fn to_write() -> OpenFlags
     OpenFlags::WRITE.union(OpenFlags::CREATE)
 }
 
+/// The flags of the opening of a node that is changed itself.
+fn to_change() -> OpenFlags
+    ensures { result ≡ written.to_change }
+{
+    OpenFlags::NOTRANS.union(OpenFlags::NOLINK)
+}
+
 /// Makes a command.
 pub(crate) fn run<S: Server>(
     world: &mut World<S>,
@@ -191,8 +254,27 @@ pub(crate) fn run<S: Server>(
     match command.action(alloc)? {
         Action::Cat { node } => with_open(world, alloc, task, node, OpenFlags::READ, Work::Cat),
         Action::Ls { node } => with_open(world, alloc, task, node, to_list(), Work::Ls),
+        Action::Stat { node } => with_open(world, alloc, task, node, OpenFlags::NOLINK, Work::Stat),
         Action::Put { node, text } => {
             with_open(world, alloc, task, node, to_write(), Work::Put(text))
+        }
+        Action::Mkdir { place } => in_place(world, alloc, task, place, EntryWork::Mkdir),
+        Action::Rm { place } => in_place(world, alloc, task, place, EntryWork::Rm),
+        Action::Rmdir { place } => in_place(world, alloc, task, place, EntryWork::Rmdir),
+        Action::Ln { file, new } => {
+            with_open(world, alloc, task, file, to_change(), Work::Ln(new))
+        }
+        Action::Mv { old, new } => {
+            let Place { directory, name } = old;
+            let work = Work::Mv(name, new);
+            with_open(world, alloc, task, directory, to_enter(), work)
+        }
+        Action::Chmod { mode, node } => {
+            with_open(world, alloc, task, node, to_change(), Work::Chmod(mode))
+        }
+        Action::Chown { owner, group, node } => {
+            let work = Work::Chown(owner, group);
+            with_open(world, alloc, task, node, to_change(), work)
         }
         Action::Usage => Ok(prints(Vec::from_slice(alloc, b"usage\n")?)),
     }

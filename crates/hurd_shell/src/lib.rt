@@ -8,7 +8,9 @@
 
 mod calls;
 mod commands;
+mod entries;
 mod fault;
+mod lines;
 mod outputs;
 mod session;
 mod transcript;

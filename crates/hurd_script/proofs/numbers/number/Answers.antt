@@ -1,6 +1,6 @@
 use Rattle.std.proofs.Common.{◌∙◌, sym}
-use Rattle.hurd_script.proofs.UserLemmas.{number_read}
-use Rattle.hurd_script.proofs.users.number.Goals as goal
+use Rattle.hurd_script.proofs.NumberLemmas.{number_read}
+use Rattle.hurd_script.proofs.numbers.number.Goals as goal
 
 pub returns-then-are_digits : goal.returns-then-are_digits
 returns-then-are_digits c =

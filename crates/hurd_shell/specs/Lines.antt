@@ -1,0 +1,31 @@
+-- The line that `ls -d` prints.
+use Rattle.std.specs.Prelude.{ℕ, ◌+◌, ◌/◌, ◌%◌, List, [], ◌∷◌, ◌++◌, decimal}
+use Rattle.hurd_creds.specs.declared.attrs.Kind.{Kind}
+use Rattle.hurd_creds.specs.declared.attrs.Kind.TheVariants.{File, Dir, Link, Fifo, Char}
+use Rattle.hurd_creds.specs.declared.attrs.Stat.{Stat}
+
+-- the letter of a kind: `-`, `d`, `l`, `p` and `c`
+abbrev pub kind_letter : Kind → ℕ
+kind_letter File = 45
+kind_letter Dir = 100
+kind_letter Link = 108
+kind_letter Fifo = 112
+kind_letter Char = 99
+
+-- the last octal digit of a number
+abbrev pub octal_digit : ℕ → ℕ
+octal_digit n = 48 + n % 8
+
+-- the last six octal digits of a number; no known bits of a mode are above them
+abbrev pub six_octal_digits : ℕ → List ℕ
+six_octal_digits n =
+    octal_digit (n / 32768) ∷ octal_digit (n / 4096) ∷ octal_digit (n / 512) ∷ octal_digit (n / 64) ∷ octal_digit (n / 8) ∷ octal_digit n ∷ []
+
+-- a number in decimal digits, behind a space
+abbrev pub spaced : ℕ → List ℕ
+spaced n = 32 ∷ decimal n
+
+-- a node's kind and mode, then its links, owner, group and size
+abbrev pub stat_line : Stat → List ℕ
+stat_line s =
+    kind_letter s.kind ∷ (six_octal_digits s.mode.0 ++ (spaced s.links ++ (spaced s.owner ++ (spaced s.group ++ (spaced s.size ++ 10 ∷ [])))))

@@ -1,0 +1,70 @@
+//! The line that `ls -d` prints.
+ghost use Rattle.std.specs.Prelude.{◌≡◌, ◌++◌, IfOk, OnOk};
+ghost use Rattle.hurd_shell.specs.Lines.{kind_letter, octal_digit, six_octal_digits, spaced, stat_line};
+
+use bitflags::Flags;
+use hurd_creds::{Kind, Mode, Stat};
+use itoa::Buffer;
+use std::alloc::{AllocError, Global};
+
+/// The letter of a kind.
+fn kind_letter(kind: Kind) -> u8
+    ensures { result ≡ kind_letter kind }
+{
+    match kind {
+        Kind::File => b'-',
+        Kind::Dir => b'd',
+        Kind::Link => b'l',
+        Kind::Fifo => b'p',
+        Kind::Char => b'c',
+    }
+}
+
+/// The last octal digit of a number.
+fn octal_digit(number: u32) -> u8
+    ensures { result ≡ octal_digit number }
+{
+    b'0' + (number % 8) as u8
+}
+
+/// Prints a mode as six octal digits.
+fn push_mode(line: &mut Vec<u8>, mode: Mode) -> Result<(), AllocError>
+    ensures { OnOk result (line.new.items ≡ line.old.items ++ six_octal_digits mode.0) }
+{
+    let bits = mode.bits();
+    let digits = [
+        octal_digit(bits / 0o100000),
+        octal_digit(bits / 0o10000),
+        octal_digit(bits / 0o1000),
+        octal_digit(bits / 0o100),
+        octal_digit(bits / 0o10),
+        octal_digit(bits),
+    ];
+    line.extend_from_slice(&digits)?;
+    Ok(())
+}
+
+/// Prints a number behind a space.
+fn push_number(line: &mut Vec<u8>, number: u64) -> Result<(), AllocError>
+    ensures { OnOk result (line.new.items ≡ line.old.items ++ spaced number) }
+{
+    let mut buffer = Buffer::new();
+    line.push(b' ')?;
+    line.extend_from_slice(buffer.format(number).as_bytes())?;
+    Ok(())
+}
+
+/// A node's kind and mode, then its links, owner, group and size, and a newline.
+pub(crate) fn stat_line(alloc: Global, stat: &Stat) -> Result<Vec<u8>, AllocError>
+    ensures { IfOk result (λ line. line.items ≡ stat_line stat.now) }
+{
+    let mut line = Vec::new(alloc);
+    line.push(kind_letter(stat.kind))?;
+    push_mode(&mut line, stat.mode)?;
+    push_number(&mut line, u64::from(stat.links))?;
+    push_number(&mut line, u64::from(stat.owner))?;
+    push_number(&mut line, u64::from(stat.group))?;
+    push_number(&mut line, stat.size)?;
+    line.push(b'\n')?;
+    Ok(line)
+}
