@@ -1,6 +1,7 @@
 //! Rows of calls.
-use crate::fixture::{Memory, Row, Want, call_of, is_reply, made, world};
-use hurd_creds::{Errno, TaskId};
+use crate::directories::{directories, entries, files, moves, replaced, sticky};
+use crate::fixture::{Line, Memory, Row, Want, call_of, is_reply, made, world};
+use hurd_creds::{Errno, Kind, TaskId};
 use hurd_world::Call;
 use std::alloc::{AllocError, Global};
 use std::process::Abort;
@@ -12,9 +13,14 @@ const ALICE: u32 = 1;
 
 const BOB: u32 = 2;
 
+/// Holds no uid.
+const NOBODY: u32 = 3;
+
 const READ: u16 = 1;
 
 const WRITE: u16 = 2;
+
+const EXEC: u16 = 4;
 
 const APPEND: u16 = 8;
 
@@ -23,9 +29,6 @@ const CREATE: u16 = 16;
 const EXCL: u16 = 32;
 
 const DIRECTORY: u16 = 256;
-
-/// A call of a task, and what it is to answer.
-type Line<'a> = (u32, Row<'a>, Want<'a>);
 
 /// root's `put /motd Welcome\n`, whose port is 3, and then lookups of it and calls on what they open.
 fn lookups<'a>() -> [Line<'a>; 34] {
@@ -101,7 +104,7 @@ fn lookups<'a>() -> [Line<'a>; 34] {
             Want::Refused(Errno::ENOENT),
         ),
         (
-            3,
+            9,
             Row::Lookup(1, b"motd", READ, 0),
             Want::Refused(Errno::ESRCH),
         ),
@@ -166,8 +169,82 @@ fn sizes<'a>() -> [Line<'a>; 17] {
     ]
 }
 
+/// The mode of notes: 0o651, and those who hold no uid may read.
+const NOTES: u32 = 0o140651;
+
+/// What is told of root's notes, of 3 bytes, and of the root directory, and what each may do with them.
+fn attributes<'a>() -> [Line<'a>; 15] {
+    [
+        (
+            ROOT,
+            Row::Lookup(1, b"/notes", WRITE + CREATE, NOTES),
+            Want::Port(3),
+        ),
+        (ROOT, Row::Write(3, b"abc", -1), Want::Count(3)),
+        (ROOT, Row::Stat(3), Want::Stat(Kind::File, 0, 0, NOTES, 3)),
+        (ROOT, Row::CheckAccess(3), Want::Modes(READ + WRITE + EXEC)),
+        (ALICE, Row::Lookup(1, b"notes", 0, 0), Want::Port(3)),
+        (ALICE, Row::Stat(3), Want::Stat(Kind::File, 0, 0, NOTES, 3)),
+        (ALICE, Row::CheckAccess(3), Want::Modes(EXEC)),
+        (ALICE, Row::Stat(1), Want::Stat(Kind::Dir, 0, 0, 0o755, 0)),
+        (ALICE, Row::CheckAccess(1), Want::Modes(READ + EXEC)),
+        (NOBODY, Row::Lookup(1, b"notes", 0, 0), Want::Port(3)),
+        (NOBODY, Row::CheckAccess(3), Want::Modes(READ)),
+        (NOBODY, Row::CheckAccess(1), Want::Modes(READ + EXEC)),
+        (ALICE, Row::Stat(9), Want::Refused(Errno::EBADF)),
+        (ALICE, Row::CheckAccess(9), Want::Refused(Errno::EBADF)),
+        (9, Row::Stat(1), Want::Refused(Errno::ESRCH)),
+    ]
+}
+
+/// root makes notes, and gives them to alice with a group that isn't hers; she shuts them, and takes them into her own.
+fn owners<'a>() -> [Line<'a>; 24] {
+    [
+        (
+            ROOT,
+            Row::Lookup(1, b"/notes", CREATE, 0o644),
+            Want::Port(3),
+        ),
+        (ALICE, Row::Lookup(1, b"notes", READ, 0), Want::Port(3)),
+        (BOB, Row::Lookup(1, b"notes", READ, 0), Want::Port(3)),
+        (ALICE, Row::Chmod(3, 0o600), Want::Refused(Errno::EPERM)),
+        (ALICE, Row::Chown(3, 1000, 0), Want::Refused(Errno::EPERM)),
+        (ROOT, Row::Chown(3, 1000, 5), Want::Done),
+        (ALICE, Row::CheckAccess(3), Want::Modes(READ + WRITE)),
+        (ALICE, Row::Chmod(3, 0o7200640), Want::Done),
+        (BOB, Row::Stat(3), Want::Stat(Kind::File, 1000, 5, 0o640, 0)),
+        (BOB, Row::CheckAccess(3), Want::Modes(0)),
+        (BOB, Row::Read(3, 1, -1), Want::Data(b"")),
+        (
+            BOB,
+            Row::Lookup(1, b"notes", READ, 0),
+            Want::Refused(Errno::EACCES),
+        ),
+        (BOB, Row::Chmod(3, 0o666), Want::Refused(Errno::EPERM)),
+        (ALICE, Row::Chown(3, 1001, 5), Want::Refused(Errno::EPERM)),
+        (ALICE, Row::Chown(3, 1000, 0), Want::Refused(Errno::EPERM)),
+        (ALICE, Row::Chown(3, 1000, 5), Want::Done),
+        (ALICE, Row::Chown(3, 1000, 1000), Want::Done),
+        (ALICE, Row::Chown(3, 1000, 5), Want::Refused(Errno::EPERM)),
+        (
+            ROOT,
+            Row::Stat(3),
+            Want::Stat(Kind::File, 1000, 1000, 0o640, 0),
+        ),
+        (ALICE, Row::Chmod(1, 0o777), Want::Refused(Errno::EPERM)),
+        (ROOT, Row::Chmod(1, 0o700), Want::Done),
+        (
+            ALICE,
+            Row::Lookup(1, b"notes", READ, 0),
+            Want::Refused(Errno::EACCES),
+        ),
+        (ALICE, Row::Chmod(9, 0), Want::Refused(Errno::EBADF)),
+        (ALICE, Row::Chown(9, 0, 0), Want::Refused(Errno::EBADF)),
+    ]
+}
+
 /// Paths and names up to the longest, of 1,025 slashes and of 256 letters.
-fn bounds<'a>(slashes: &'a [u8; 1025], letters: &'a [u8; 256]) -> [Line<'a>; 5] {
+fn bounds<'a>(slashes: &'a [u8; 1025], letters: &'a [u8; 256]) -> [Line<'a>; 11] {
     [
         (ALICE, Row::Lookup(1, &slashes[..1024], 0, 0), Want::Port(3)),
         (
@@ -190,6 +267,28 @@ fn bounds<'a>(slashes: &'a [u8; 1025], letters: &'a [u8; 256]) -> [Line<'a>; 5] 
             Row::Lookup(9, letters.as_slice(), 0, 0),
             Want::Refused(Errno::EBADF),
         ),
+        (
+            ROOT,
+            Row::Mkdir(1, letters.as_slice(), 0o755),
+            Want::Refused(Errno::ENAMETOOLONG),
+        ),
+        (ROOT, Row::Mkdir(1, &letters[..255], 0o755), Want::Done),
+        (
+            ROOT,
+            Row::Rename(1, &letters[..255], 1, letters.as_slice()),
+            Want::Refused(Errno::ENAMETOOLONG),
+        ),
+        (
+            ROOT,
+            Row::Unlink(1, letters.as_slice()),
+            Want::Refused(Errno::ENAMETOOLONG),
+        ),
+        (
+            ROOT,
+            Row::Unlink(1, &letters[..255]),
+            Want::Refused(Errno::EISDIR),
+        ),
+        (ROOT, Row::Rmdir(1, &letters[..255]), Want::Done),
     ]
 }
 
@@ -206,6 +305,14 @@ fn check(rt: &impl Abort, alloc: Global, lines: &[Line], memory: &mut Memory) ->
 fn check_all(rt: &impl Abort, alloc: Global, mut memory: Memory) -> Result<(), Fail> {
     check(rt, alloc, &lookups(), &mut memory)?;
     check(rt, alloc, &sizes(), &mut memory)?;
+    check(rt, alloc, &attributes(), &mut memory)?;
+    check(rt, alloc, &owners(), &mut memory)?;
+    check(rt, alloc, &directories(), &mut memory)?;
+    check(rt, alloc, &entries(), &mut memory)?;
+    check(rt, alloc, &files(), &mut memory)?;
+    check(rt, alloc, &sticky(), &mut memory)?;
+    check(rt, alloc, &moves(), &mut memory)?;
+    check(rt, alloc, &replaced(), &mut memory)?;
     check(rt, alloc, &bounds(&[b'/'; 1025], &[b'z'; 256]), &mut memory)
 }
 
@@ -227,7 +334,17 @@ fn call_with(alloc: Global, row: &Row, memory: &mut Memory) -> Result<Call, Allo
     }
 }
 
-/// Makes the calls of a table one after another in a new world: a lookup that is refused is so at the first try.
+/// Whether the call of a row must be answered at the first try: a lookup that is refused, and a call that takes no memory.
+fn is_sure(row: &Row, want: &Want) -> bool {
+    match (row, want) {
+        (Row::Lookup(..), Want::Refused(_)) => true,
+        (Row::Deallocate(_) | Row::Stat(_) | Row::CheckAccess(_), _) => true,
+        (Row::Chmod(..) | Row::Chown(..) | Row::Rmdir(..) | Row::Unlink(..), _) => true,
+        _ => false,
+    }
+}
+
+/// Makes the calls of a table one after another in a new world, those that are sure at the first try.
 fn check_refusals(
     rt: &impl Abort,
     alloc: Global,
@@ -236,7 +353,7 @@ fn check_refusals(
 ) -> Result<(), Fail> {
     let mut world = world(alloc, memory)?;
     for (task, row, want) in lines {
-        let reply = if let (Row::Lookup(..), Want::Refused(_)) = (row, want) {
+        let reply = if is_sure(row, want) {
             let call = call_with(alloc, row, memory)?;
             world.call(alloc, TaskId(*task), call)
         } else {
@@ -251,6 +368,11 @@ fn check_refusals(
 fn refused_lookups_answer_the_same(rt: HostRuntime) -> Result<(), Fail> {
     let mut memory = Memory::refused_once(rt.alloc());
     check_refusals(&rt, rt.alloc(), &lookups(), &mut memory)?;
+    check_refusals(&rt, rt.alloc(), &attributes(), &mut memory)?;
+    check_refusals(&rt, rt.alloc(), &owners(), &mut memory)?;
+    check_refusals(&rt, rt.alloc(), &directories(), &mut memory)?;
+    check_refusals(&rt, rt.alloc(), &entries(), &mut memory)?;
+    check_refusals(&rt, rt.alloc(), &sticky(), &mut memory)?;
     check_refusals(
         &rt,
         rt.alloc(),

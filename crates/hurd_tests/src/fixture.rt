@@ -3,7 +3,7 @@ ghost use Rattle.std.specs.Prelude.{IfOk};
 ghost use Rattle.hurd_trans_iface.specs.Meaning.{Begins};
 
 use bitflags::Flags;
-use hurd_creds::{Bytes, Errno, Ids, Mode, OpenFlags, TaskId};
+use hurd_creds::{Bytes, Errno, Ids, Kind, Mode, OpenFlags, Stat, TaskId};
 use hurd_tmpfs::Tmpfs;
 use hurd_trans_iface::{Names, Server, Words};
 use hurd_world::{Call, Lookup, Reply, World};
@@ -16,7 +16,17 @@ pub enum Row<'a> {
     Read(u64, u64, i64),
     Write(u64, &'a [u8], i64),
     SetSize(u64, u64),
+    Stat(u64),
+    Chmod(u64, u32),
+    Chown(u64, u32, u32),
+    CheckAccess(u64),
     Readdir(u64),
+    Mkdir(u64, &'a [u8], u32),
+    Mkfile(u64, u16, u32),
+    Rmdir(u64, &'a [u8]),
+    Unlink(u64, &'a [u8]),
+    Link(u64, &'a [u8], u64),
+    Rename(u64, &'a [u8], u64, &'a [u8]),
     Deallocate(u64),
 }
 
@@ -28,8 +38,16 @@ pub enum Want<'a> {
     Data(&'a [u8]),
     Count(u64),
     Names(&'a [&'a [u8]]),
+    /// A kind, an owner, a group, a mode, and a size; one link and no translator.
+    Stat(Kind, u32, u32, u32, u64),
+    /// Of what is told of a node, its links.
+    Links(u32),
+    Modes(u16),
     Refused(Errno),
 }
+
+/// A call of a task, and what it is to answer.
+pub type Line<'a> = (u32, Row<'a>, Want<'a>);
 
 /// The call of a row.
 pub fn call_of(alloc: Global, row: &Row) -> Result<Call, AllocError> {
@@ -54,7 +72,47 @@ pub fn call_of(alloc: Global, row: &Row) -> Result<Call, AllocError> {
             port: *port,
             size: *size,
         },
+        Row::Stat(port) => Call::IoStat { port: *port },
+        Row::Chmod(port, mode) => Call::FileChmod {
+            port: *port,
+            mode: Mode::from_bits_retain(*mode),
+        },
+        Row::Chown(port, owner, group) => Call::FileChown {
+            port: *port,
+            owner: *owner,
+            group: *group,
+        },
+        Row::CheckAccess(port) => Call::FileCheckAccess { port: *port },
         Row::Readdir(port) => Call::DirReaddir { port: *port },
+        Row::Mkdir(dir, name, mode) => Call::DirMkdir {
+            dir: *dir,
+            name: Bytes::copied(alloc, name)?,
+            mode: Mode::from_bits_retain(*mode),
+        },
+        Row::Mkfile(dir, flags, mode) => Call::DirMkfile {
+            dir: *dir,
+            flags: OpenFlags::from_bits_retain(*flags),
+            mode: Mode::from_bits_retain(*mode),
+        },
+        Row::Rmdir(dir, name) => Call::DirRmdir {
+            dir: *dir,
+            name: Bytes::copied(alloc, name)?,
+        },
+        Row::Unlink(dir, name) => Call::DirUnlink {
+            dir: *dir,
+            name: Bytes::copied(alloc, name)?,
+        },
+        Row::Link(dir, name, file) => Call::DirLink {
+            dir: *dir,
+            name: Bytes::copied(alloc, name)?,
+            file: *file,
+        },
+        Row::Rename(dir, name, to, new) => Call::DirRename {
+            dir: *dir,
+            name: Bytes::copied(alloc, name)?,
+            to: *to,
+            new: Bytes::copied(alloc, new)?,
+        },
         Row::Deallocate(port) => Call::PortDeallocate { port: *port },
     })
 }
@@ -72,14 +130,34 @@ fn are_names(names: &Names, want: &[&[u8]]) -> bool {
     true
 }
 
+/// What is told of a node with one link and no translator.
+fn plain_stat(kind: Kind, owner: u32, group: u32, mode: u32, size: u64) -> Stat {
+    Stat {
+        kind,
+        owner,
+        group,
+        mode: Mode::from_bits_retain(mode),
+        links: 1,
+        size,
+        passive: false,
+        active: false,
+    }
+}
+
 /// Whether a reply is the one that is wanted.
 pub fn is_reply(reply: &Reply, want: &Want) -> bool {
     match (reply, want) {
         (Reply::Done, Want::Done) => true,
-        (Reply::Found(Lookup::Done(port)), Want::Port(number)) => *port == *number,
+        (Reply::Found(Lookup::Done(port)) | Reply::Port(port), Want::Port(number)) => *port
+            == *number,
         (Reply::Data(bytes), Want::Data(data)) => bytes.as_slice() == *data,
         (Reply::Count(count), Want::Count(number)) => *count == *number,
         (Reply::Names(names), Want::Names(want)) => are_names(names, want),
+        (Reply::Stat(stat), Want::Stat(kind, owner, group, mode, size)) => {
+            *stat == plain_stat(*kind, *owner, *group, *mode, *size)
+        }
+        (Reply::Stat(stat), Want::Links(links)) => stat.links == *links,
+        (Reply::Modes(modes), Want::Modes(wanted)) => modes.bits() == *wanted,
         (Reply::Refused(errno), Want::Refused(wanted)) => *errno == *wanted,
         _ => false,
     }
@@ -98,9 +176,10 @@ pub fn tree(alloc: Global) -> Result<Box<dyn Server>, Errno>
 }
 
 fn users(alloc: Global) -> Result<Vec<Ids>, Errno> {
+    let users: [(&[u32], u32); 4] = [(&[0], 0), (&[1000], 1000), (&[1001], 1001), (&[], 0)];
     let mut tasks = Vec::new(alloc);
-    for (uid, gid) in [(0, 0), (1000, 1000), (1001, 1001)] {
-        let ids = Ids::new(alloc, &[uid], &[gid])?;
+    for (uids, gid) in users {
+        let ids = Ids::new(alloc, uids, &[gid])?;
         if tasks.push(ids).is_err() {
             return Err(Errno::ENOMEM);
         }
@@ -142,7 +221,7 @@ impl Memory {
     }
 }
 
-/// The world of root, alice and bob (tasks 0, 1, 2) over an empty tree; where memory was refused and may be, a second try.
+/// The world of root, alice, bob, and nobody with root's group (tasks 0 to 3) over an empty tree; where memory was refused and may be, a second try.
 pub fn world(alloc: Global, memory: &mut Memory) -> Result<World, Errno> {
     match booted(alloc) {
         Err(Errno::ENOMEM) if memory.may_refuse() => booted(alloc),

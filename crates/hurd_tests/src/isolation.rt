@@ -1,6 +1,6 @@
 //! Two runs that look the same to alice.
 use crate::fixture::{Memory, Row, Want, call_of, is_reply, world};
-use hurd_creds::{Errno, TaskId};
+use hurd_creds::{Errno, Kind, TaskId};
 use hurd_world::{Call, Reply, World};
 use std::alloc::{AllocError, Global};
 use std::process::Abort;
@@ -12,17 +12,48 @@ const ALICE: u32 = 1;
 
 const BOB: u32 = 2;
 
-/// root's `put /motd Welcome\n`; then alice opens it and reads, and bob does between, where he does.
-fn rows<'a>() -> [(u32, Row<'a>); 8] {
+/// root's `put /motd Welcome\n`, and a closed directory, which is bob's; alice opens motd, looks for what bob may have hidden,
+/// and reads. Where bob is there, he hides a file and a directory, makes and removes others, and reads motd between.
+fn rows<'a>() -> [(u32, Row<'a>); 24] {
     [
         (ROOT, Row::Lookup(1, b"/motd", 2 + 16, 0o644)),
         (ROOT, Row::SetSize(3, 0)),
         (ROOT, Row::Write(3, b"Welcome\n", -1)),
         (ROOT, Row::Deallocate(3)),
+        (ROOT, Row::Mkdir(1, b"bob", 0o700)),
+        (ROOT, Row::Lookup(1, b"bob", 0, 0)),
+        (ROOT, Row::Chown(4, 1001, 1001)),
+        (BOB, Row::Lookup(1, b"bob", 1, 0)),
+        (BOB, Row::Lookup(3, b"hidden", 2 + 16, 0o666)),
+        (BOB, Row::Write(4, b"secret", -1)),
+        (BOB, Row::Mkdir(3, b"more", 0o777)),
+        (BOB, Row::Mkdir(3, b"none", 0o777)),
+        (BOB, Row::Rmdir(3, b"none")),
         (ALICE, Row::Lookup(1, b"motd", 1, 0)),
+        (ALICE, Row::Lookup(1, b"bob/hidden", 1, 0)),
+        (ALICE, Row::Lookup(1, b"bob/more/x", 1, 0)),
+        (ALICE, Row::Lookup(1, b"bob", 0, 0)),
+        (ALICE, Row::Rmdir(1, b"bob")),
+        (ALICE, Row::Rename(1, b"bob", 1, b"b")),
         (BOB, Row::Lookup(1, b"motd", 1, 0)),
-        (BOB, Row::Read(3, 100, -1)),
+        (BOB, Row::Read(5, 100, -1)),
+        (BOB, Row::Link(3, b"m", 5)),
+        (ALICE, Row::Stat(4)),
         (ALICE, Row::Read(3, 100, -1)),
+    ]
+}
+
+/// What alice is told, in order.
+fn told_to_alice<'a>() -> [Want<'a>; 8] {
+    [
+        Want::Port(3),
+        Want::Refused(Errno::EACCES),
+        Want::Refused(Errno::EACCES),
+        Want::Port(4),
+        Want::Refused(Errno::EACCES),
+        Want::Refused(Errno::EACCES),
+        Want::Stat(Kind::Dir, 1001, 1001, 0o700, 0),
+        Want::Data(b"Welcome\n"),
     ]
 }
 
@@ -68,14 +99,35 @@ fn ample_run(alloc: Global, with_bob: bool, memory: &mut Memory) -> Result<Vec<R
     run(alloc, &mut second, with_bob)
 }
 
-/// alice is told the same whatever bob reads.
+fn is_wanted(reply: Option<&Reply>, want: Option<&Want>) -> bool {
+    match (reply, want) {
+        (Some(reply), Some(want)) => is_reply(reply, want),
+        _ => false,
+    }
+}
+
+/// Whether alice's replies, among those to all calls that were made, are those that she is to be told.
+fn are_told(replies: &[Reply], with_bob: bool) -> bool {
+    let wants = told_to_alice();
+    let mut wants = wants.iter();
+    let mut replies = replies.iter();
+    for (task, _) in &rows() {
+        if with_bob || *task != BOB {
+            let reply = replies.next();
+            if *task == ALICE && !is_wanted(reply, wants.next()) {
+                return false;
+            }
+        }
+    }
+    replies.next().is_none() && wants.next().is_none()
+}
+
+/// alice is told the same whatever bob makes, hides, and reads.
 fn check(rt: &impl Abort, alloc: Global, mut memory: Memory) -> Result<(), Fail> {
-    for (with_bob, count) in [(true, 8), (false, 6)] {
+    for with_bob in [true, false] {
         let replies = ample_run(alloc, with_bob, &mut memory)?;
-        assert_eq!(rt; replies.len(), count);
         assert!(rt; is_ample(&replies));
-        assert!(rt; is_reply(&replies[4], &Want::Port(3)));
-        assert!(rt; is_reply(&replies[count - 1], &Want::Data(b"Welcome\n")));
+        assert!(rt; are_told(&replies, with_bob), "{replies:?}");
     }
     Ok(())
 }

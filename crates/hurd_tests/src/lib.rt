@@ -8,8 +8,12 @@
 #[cfg(test)]
 mod calls;
 #[cfg(test)]
+mod directories;
+#[cfg(test)]
 mod fixture;
 #[cfg(test)]
 mod isolation;
+#[cfg(test)]
+mod nodes;
 #[cfg(test)]
 mod scripts;

@@ -62,7 +62,7 @@ fn played(alloc: Global, row: &Row) -> Option<End> {
     None
 }
 
-fn rows<'a>() -> [Row<'a>; 5] {
+fn rows<'a>() -> [Row<'a>; 8] {
     [
         Row {
             script: b"user alice 1000 1000\nroot put /motd Welcome\\n\nalice cat /motd\nalice ls /\n",
@@ -79,6 +79,20 @@ fn rows<'a>() -> [Row<'a>; 5] {
         Row {
             script: b"root put /a long\nroot put /a s\nroot cat /a\nroot ls /a\nroot cat /\nroot put / x\nroot ls /\n",
             transcript: b"root$ put /a long\nroot$ put /a s\nroot$ cat /a\ns\nroot$ ls /a\nENOTDIR\nroot$ cat /\nEISDIR\nroot$ put / x\nEISDIR\nroot$ ls /\na\n",
+        },
+        // What is hidden of a file, what isn't, and who may give it away.
+        Row {
+            script: b"user alice 1000 1000\nuser bob 1001 1001\nroot put /x one\nroot chown 1001 0 /x\nbob chmod 600 /x\nalice cat /x\nalice ls -d /x\nbob cat /x\nalice chmod 644 /x\nalice chown 1000 1000 /x\nbob chown 1001 1001 /x\nbob chown 1001 5 /x\nbob chown 1000 1001 /x\nalice ls x -d\n",
+            transcript: b"root$ put /x one\nroot$ chown 1001 0 /x\nbob$ chmod 600 /x\nalice$ cat /x\nEACCES\nalice$ ls -d /x\n-000600 1 1001 0 3\nbob$ cat /x\none\nalice$ chmod 644 /x\nEPERM\nalice$ chown 1000 1000 /x\nEPERM\nbob$ chown 1001 1001 /x\nbob$ chown 1001 5 /x\nEPERM\nbob$ chown 1000 1001 /x\nEPERM\nalice$ ls x -d\n-000600 1 1001 1001 3\n",
+        },
+        // Who holds no uid is decided by the unknown bits, where these are in use.
+        Row {
+            script: b"user guest - -\nroot put /f data\\n\nroot chmod 100644 /f\nguest cat /f\nroot chmod 644 /f\nguest cat /f\nroot chmod 140600 /f\nguest cat /f\nguest ls -d /f\n",
+            transcript: b"root$ put /f data\\n\nroot$ chmod 100644 /f\nguest$ cat /f\nEACCES\nroot$ chmod 644 /f\nguest$ cat /f\ndata\nroot$ chmod 140600 /f\nguest$ cat /f\ndata\nguest$ ls -d /f\n-140600 1 0 0 5\n",
+        },
+        Row {
+            script: b"root ls -d /\nroot ls -d /none\nroot ls -d\nroot ls -d -d /\nroot chmod 8 /\nroot chmod 755 /none\nroot chown +1 0 /\nroot chmod 0 /\nroot ls /\nroot ls -d .\n",
+            transcript: b"root$ ls -d /\nd000755 1 0 0 0\nroot$ ls -d /none\nENOENT\nroot$ ls -d\nusage\nroot$ ls -d -d /\nusage\nroot$ chmod 8 /\nusage\nroot$ chmod 755 /none\nENOENT\nroot$ chown +1 0 /\nusage\nroot$ chmod 0 /\nroot$ ls /\nroot$ ls -d .\nd000000 1 0 0 0\n",
         },
         Row {
             script: b"",

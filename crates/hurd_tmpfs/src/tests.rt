@@ -335,3 +335,48 @@ fn a_node_that_is_forgotten_is_gone_and_its_entry_stays(rt: HostRuntime) -> Resu
     assert_eq!(rt; tree.attrs(name(3)).map(|attrs| attrs.size), Some(0));
     Ok(())
 }
+
+#[test]
+fn a_file_has_at_most_4294967295_links(rt: HostRuntime) -> Result<(), Errno> {
+    let alloc = rt.alloc();
+    let mut tree = small_tree(alloc)?;
+    for inode in tree.nodes.iter_mut() {
+        if inode.name == name(1) {
+            inode.links = u32::MAX - 1;
+        }
+    }
+    assert_eq!(rt; tree.link(alloc, name(0), b"g", name(1)), Ok(()));
+    assert_eq!(rt;
+        tree.attrs(name(1)).map(|attrs| attrs.links),
+        Some(u32::MAX)
+    );
+    assert_eq!(rt;
+        tree.link(alloc, name(0), b"h", name(1)),
+        Err(Errno::EOVERFLOW)
+    );
+    assert_eq!(rt; tree.step(name(0), b"h"), None);
+    assert_eq!(rt;
+        tree.attrs(name(1)).map(|attrs| attrs.links),
+        Some(u32::MAX)
+    );
+    Ok(())
+}
+
+#[test]
+fn an_unlinked_file_is_read_until_it_is_forgotten(rt: HostRuntime) -> Result<(), Errno> {
+    let alloc = rt.alloc();
+    let mut tree = small_tree(alloc)?;
+    tree.write(name(1), 0, b"text")?;
+    assert_eq!(rt; tree.nodes.len(), 3);
+    tree.unlink(name(0), b"f")?;
+    assert_eq!(rt; tree.step(name(0), b"f"), None);
+    assert_eq!(rt;
+        tree.read(alloc, name(1), 0, 9)?.as_slice(),
+        b"text".as_slice()
+    );
+    assert_eq!(rt; tree.nodes.len(), 3);
+    tree.forget(name(1));
+    assert_eq!(rt; tree.read(alloc, name(1), 0, 9).err(), Some(Errno::EDIED));
+    assert_eq!(rt; tree.nodes.len(), 2);
+    Ok(())
+}

@@ -1,0 +1,126 @@
+//! What is kept of the nodes of one server, and what boxes and tables then have.
+use crate::fixture::{Memory, tree};
+use bitflags::Flags;
+use hurd_creds::{Errno, Kind, Mode, Name, NodeName, TaskId};
+use hurd_nodes::{BOOT_NAME, Nodes};
+use hurd_trans_iface::NewNode;
+use std::alloc::{AllocError, Global};
+use std::process::Abort;
+
+/// The name of what task 0 made after so many other things.
+fn name(count: u64) -> NodeName {
+    Name {
+        task: TaskId(0),
+        count,
+    }
+}
+
+fn begun_once(alloc: Global) -> Result<Nodes, Errno> {
+    match Nodes::starting_with(alloc, tree(alloc)?, 0) {
+        Ok(nodes) => Ok(nodes),
+        Err((errno, _)) => Err(errno),
+    }
+}
+
+/// The boot server alone; where memory was refused and may be, a second try.
+fn begun(alloc: Global, memory: &mut Memory) -> Result<Nodes, Errno> {
+    match begun_once(alloc) {
+        Err(Errno::ENOMEM) if memory.may_refuse() => begun_once(alloc),
+        nodes => nodes,
+    }
+}
+
+fn make_once(
+    alloc: Global,
+    nodes: &mut Nodes,
+    dir: NodeName,
+    entry: &[u8],
+    count: u64,
+    kind: Kind,
+) -> Result<(), Errno> {
+    let new = NewNode {
+        name: name(count),
+        kind,
+        owner: 1000,
+        group: 100,
+        mode: Mode::from_bits_retain(0o644),
+    };
+    nodes.make(alloc, dir, entry, new)
+}
+
+fn hold_once(nodes: &mut Nodes, node: NodeName) -> Result<(), AllocError> {
+    nodes.reserve_hold()?;
+    nodes.hold(node);
+    Ok(())
+}
+
+/// Names a node from outside; where memory was refused and may be, a second try.
+fn hold(nodes: &mut Nodes, node: NodeName, memory: &mut Memory) -> Result<(), AllocError> {
+    match hold_once(nodes, node) {
+        Err(_) if memory.may_refuse() => hold_once(nodes, node),
+        held => held,
+    }
+}
+
+/// The root, a file `f`, node 1, and a directory `d`, node 2, with a file `g`, node 3.
+fn small_tree(alloc: Global, memory: &mut Memory) -> Result<Nodes, Errno> {
+    let mut nodes = begun(alloc, memory)?;
+    let rows = [
+        (BOOT_NAME, b"f".as_slice(), 1, Kind::File),
+        (BOOT_NAME, b"d".as_slice(), 2, Kind::Dir),
+        (name(2), b"g".as_slice(), 3, Kind::File),
+    ];
+    for (dir, entry, count, kind) in rows.iter() {
+        match make_once(alloc, &mut nodes, *dir, entry, *count, *kind) {
+            Err(Errno::ENOMEM) if memory.may_refuse() => {
+                make_once(alloc, &mut nodes, *dir, entry, *count, *kind)?
+            }
+            made => made?,
+        }
+    }
+    Ok(nodes)
+}
+
+/// Nodes are named from outside so often and let go so often; each that has an entry or is the root is there afterwards,
+/// with its home, and each that was never there isn't.
+fn check_kept(rt: &impl Abort, alloc: Global, memory: &mut Memory) -> Result<(), Errno> {
+    let mut nodes = small_tree(alloc, memory)?;
+    let rows = [
+        (name(1), 0, 1, true),
+        (name(1), 3, 2, true),
+        (name(1), 0, 2, true),
+        (BOOT_NAME, 2, 3, true),
+        (name(2), 1, 1, true),
+        (name(3), 1, 1, true),
+        (name(9), 1, 1, false),
+        (name(9), 0, 1, false),
+    ];
+    for (i, (node, holds, releases, stays)) in rows.iter().enumerate() {
+        for _ in 0..*holds {
+            hold(&mut nodes, *node, memory)?;
+        }
+        for _ in 0..*releases {
+            nodes.release(*node);
+        }
+        assert_eq!(rt; nodes.attrs(*node).is_some(), *stays, "row {i}");
+        assert_eq!(rt; nodes.home(*node).is_some(), *stays, "row {i}");
+    }
+    nodes.settle();
+    assert_eq!(rt; nodes.step(BOOT_NAME, b"f"), Some(name(1)));
+    assert_eq!(rt; nodes.step(name(2), b"g"), Some(name(3)));
+    assert_eq!(rt; nodes.home(name(3)), Some(BOOT_NAME));
+    assert_eq!(rt; nodes.is_root(BOOT_NAME), true);
+    assert_eq!(rt; nodes.is_root(name(1)), false);
+    assert_eq!(rt; nodes.attrs(name(1)).map(|attrs| attrs.links), Some(1));
+    Ok(())
+}
+
+#[test]
+fn what_has_an_entry_stays_when_it_is_let_go(rt: HostRuntime) -> Result<(), Errno> {
+    check_kept(&rt, rt.alloc(), &mut Memory::ample())
+}
+
+#[test]
+fn refused_memory_in_holds(rt: HostRuntime) -> Result<(), Errno> {
+    check_kept(&rt, rt.alloc(), &mut Memory::refused_once(rt.alloc()))
+}
