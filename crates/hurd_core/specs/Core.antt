@@ -76,6 +76,7 @@ making_asks w t f =
     first (makes_at w f.dir f.name File) (λ u.
     on EDIED (home_at w f.dir) (λ s. Ok (x, s))))
 
+-- the file made, with its entry, and opened
 abbrev pub making_open : ℕ → NewNodeAt → IdSets → OpenFlags → Task × Name → List Change
 making_open t f ids modes a = making t a.0 a.1 f (new_file f.owner f.group f.mode) ++ opening t (named 1 a.0) (fresh t a.0) ids modes
 
@@ -86,6 +87,7 @@ making_dir_asks w t f =
     first (naming_asks w t 1) (λ x.
     on EDIED (home_at w f.dir) (λ s. Ok (x, s))))
 
+-- the directory made, with its entry and its parent
 abbrev pub making_dir : ℕ → NewNodeAt → Task × Name → List Change
 making_dir t f a = making t a.0 a.1 f (new_dir f.owner f.group f.mode (Some f.dir))
 

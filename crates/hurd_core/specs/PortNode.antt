@@ -6,6 +6,7 @@ use Rattle.hurd_nodes.specs.Shown.{header_in}
 use Rattle.hurd_machine.specs.Handle.{Named}
 use Rattle.hurd_core.specs.declared.port_node.PortNode.{PortNode}
 
+-- a port's right, with the header that its node's attributes tell
 abbrev pub named_of : PortNode → Named
 named_of p = record { right = p.right.now; header = header_in p.attrs }
 

@@ -77,7 +77,7 @@ abbrev pub leaving : Result (Name × Attrs) Errno → Result (Name × Header) Er
 leaving (Ok x) = Ok (x.0, header_in x.1)
 leaving (Err e) = Err e
 
--- dir_rename: what goes where
+-- what goes where, with all refusals in order
 abbrev pub rename_asks : World → ℕ → ℕ → List ℕ → ℕ → List ℕ → Result Renaming Errno
 rename_asks w t p name q new =
     first (both_asks w t p q) (λ a.
@@ -103,6 +103,7 @@ abbrev pub renames : List ℕ → List ℕ → Renaming → Option Name → List
 renames name new r None = moves name new r
 renames name new r (Some m) = if same_name m r.node then [] else EditBody r.to (without_entry new) ∷ EditHeader m unlinked ∷ moves name new r
 
+-- dir_rename: an entry goes to another name, in this directory or another
 abbrev pub plan_rename : World → ℕ → ℕ → List ℕ → ℕ → List ℕ → Plan
 plan_rename w t p name q new = answered (rename_asks w t p name q new) (λ r. record { reply = Done; changes = renames name new r r.old })
 
