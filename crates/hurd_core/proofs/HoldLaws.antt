@@ -1,21 +1,21 @@
 -- What is held of nodes agrees with the rights of tasks: one hold for each right.
-use Rattle.std.proofs.Common.{◌≡◌, ◌∙◌, ℕ, ◌+◌, Bool, true, false, List, [], ◌∷◌, ◌++◌, Option, Some, None, slice_get, nat_lt, sym, refl, ap, ap₂, subst, inl, inr, arith}
-use Rattle.std.specs.Prelude.{if◌then◌else◌}
+use Rattle.std.proofs.Common.{◌≡◌, ◌∙◌, ℕ, ◌+◌, Bool, true, false, List, [], ◌∷◌, ◌++◌, Option, Some, None, slice_get, nat_lt, length, sym, refl, ap, ap₂, subst, inl, inr, arith}
+use Rattle.std.proofs.lemmas.Bool.Decides.{nat_tests}
+use Rattle.std.proofs.lemmas.Option.{slice_get_cases}
 use Rattle.std.specs.List.{list_any}
-use Rattle.std.specs.FinMap.{get, retain_keys}
 use Rattle.hurd_creds.specs.declared.name.Name.{Name}
 use Rattle.hurd_creds.specs.Names.{same_name}
 use Rattle.hurd_creds.specs.NameMaps.{NameMap}
-use Rattle.hurd_creds.proofs.NameLaws.{same_name-itself, same_name-apart, same_or_apart, equal_if_same, same_map_by}
+use Rattle.hurd_creds.proofs.NameLaws.{same_name-apart, same_or_apart, equal_if_same}
 use Rattle.hurd_trans_iface.specs.Nodes.{NodeMap}
 use Rattle.hurd_nodes.specs.Held.{is_held, less_one}
 use Rattle.hurd_nodes.specs.Shown.{NodeState, server_of, ServerInfo}
 use Rattle.hurd_nodes.specs.Settle.{stays, stays_with, settle}
 use Rattle.hurd_ports.specs.declared.table.Right.{Right}
 use Rattle.hurd_ports.specs.Tables.{Task, rights_of, right_in, names_node, is_named}
-use Rattle.hurd_ports.specs.Steps.{named, edit_at, edit_task, with_port, without_port}
-use Rattle.hurd_machine.specs.Sight.{one_if, count_list, count_rights}
-use Rattle.hurd_machine.proofs.Tasks.{count_edit, count_named, count_append}
+use Rattle.hurd_ports.specs.Steps.{named, edit_at, edit_task, with_port, with_sent, without_port}
+use Rattle.hurd_machine.specs.Sight.{one_if, count_list}
+use Rattle.hurd_machine.proofs.Tasks.{count_edit, count_named, count_append, count_sent}
 use Rattle.hurd_machine.proofs.Holders.{list_counted, named_counted}
 use Rattle.hurd_machine.proofs.Retained.{retain_alike}
 use Rattle.hurd_machine.proofs.Rights.{port_counted, count_dropped}
@@ -41,6 +41,31 @@ holds_opened hs ts same t x r at n =
     let old = same n in
     let one = one_turned n r.node in
     omega arith
+
+-- a right is sent, and with it a hold
+pub holds_sent : (hs : List Name) (ts : List Task) → HoldsRights hs ts → (t : ℕ) (r : Right) → nat_lt t (length ts) ≡ true → HoldsRights (hs ++ r.node ∷ []) (edit_task t (with_sent r) ts)
+holds_sent hs ts same t r there n = elim (slice_get_cases ts t).1 [
+  | inl found ↦
+      let tasks = count_edit (names_node n) t (with_sent r) ts found.0 found.2 in
+      let inbox = count_sent (names_node n) r found.0 in
+      let list = count_append (λ m. same_name n m) hs (r.node ∷ []) in
+      let old = same n in
+      let one = one_turned n r.node in
+      omega arith
+  | inr past ↦ let beyond = past.0 in absurd (grind (arith, nat_tests))
+]
+
+-- a change of a task that keeps its rights is no hold
+pub holds_alike : (hs : List Name) (ts : List Task) → HoldsRights hs ts → (t : ℕ) (f : Task → Task) → ((x : Task) → rights_of (f x) ≡ rights_of x) → HoldsRights hs (edit_task t f ts)
+holds_alike hs ts same t f alike = go (slice_get ts t) refl
+  where
+    go : (o : Option Task) → slice_get ts t ≡ o → HoldsRights hs (edit_task t f ts)
+    go (Some x) at = λ n.
+        let tasks = count_edit (names_node n) t f ts x at in
+        let rights : count_list (names_node n) (rights_of (f x)) ≡ count_list (names_node n) (rights_of x) = ap (count_list (names_node n)) (alike x) in
+        let old = same n in
+        omega arith
+    go None at = subst (HoldsRights hs) (sym (ap (edit_at t f ts) at)) same
 
 -- naming things is no hold
 pub holds_named : (hs : List Name) (ts : List Task) → HoldsRights hs ts → (t k : ℕ) (x : Task) → slice_get ts t ≡ Some x → HoldsRights hs (edit_task t (named k) ts)

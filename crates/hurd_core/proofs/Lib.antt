@@ -1,5 +1,6 @@
 pub mod HoldLaws
 pub mod CoreLaws
+pub mod RightLaws
 pub mod MakingLaws
 pub mod NamelessLaws
 pub mod DirLaws

@@ -1,13 +1,13 @@
 -- An entry that the core has go to another directory is what the machine's changes make of the world.
-use Rattle.std.proofs.Common.{◌≡◌, ◌∙◌, Bool, true, false, cond, List, [], ◌∷◌, ◌++◌, Option, Some, None, ℕ, refl, sym, ap, inl, inr}
+use Rattle.std.proofs.Common.{◌≡◌, ◌∙◌, Bool, true, false, cond, List, [], ◌∷◌, Option, Some, None, ℕ, refl, sym, ap, inl, inr}
 use Rattle.std.specs.Prelude.{Result, Ok, Err, if◌then◌else◌}
 use Rattle.std.specs.FinMap.{get}
 use Rattle.hurd_creds.specs.declared.name.Name.{Name}
 use Rattle.hurd_creds.specs.declared.errno.Errno.{Errno}
 use Rattle.hurd_creds.specs.NameMaps.{NameMap}
 use Rattle.hurd_creds.specs.Memory.{Meets, Steps, is_no_memory}
-use Rattle.hurd_trans_iface.specs.Nodes.{Edit, OnBody, OnHeader, AddNode, body_of, edit_one, node_of_edit}
-use Rattle.hurd_trans_iface.specs.Answers.{entry_of, unlink_edits, move_edits, is_one, rename_edits, edits_if}
+use Rattle.hurd_trans_iface.specs.Nodes.{Edit, OnBody, OnHeader, AddNode, body_of, node_of_edit}
+use Rattle.hurd_trans_iface.specs.Answers.{entry_of, move_edits, is_one, rename_edits, edits_if}
 use Rattle.hurd_nodes.specs.Held as named_from
 use Rattle.hurd_nodes.specs.Settle as kept
 use Rattle.hurd_nodes.specs.Shown.{NodeState, are_kin, own_edits, with_edits, can_rename, rename_edits_at, rename_at}

@@ -1,5 +1,5 @@
 -- The core that the code holds, the world that it stands for, and what its methods owe.
-use Rattle.std.specs.Prelude.{◌≡◌, ◌⊎◌, ℕ, List, [], ◌∷◌, ◌++◌, Some, Result, Ok, Err, IsOk, refl}
+use Rattle.std.specs.Prelude.{◌≡◌, ◌⊎◌, ℕ, List, [], ◌∷◌, ◌++◌, Some, Result, Ok, Err, IsOk, length, nat_lt, refl}
 use Rattle.std.specs.Coded.{Coded, code_by, coded×}
 use Rattle.hurd_creds.specs.declared.name.Name.{Name}
 use Rattle.hurd_creds.specs.declared.mode.Mode.{Mode}
@@ -7,7 +7,7 @@ use Rattle.hurd_creds.specs.declared.open_flags.OpenFlags.{OpenFlags}
 use Rattle.hurd_creds.specs.declared.attrs.Kind.{Kind}
 use Rattle.hurd_creds.specs.declared.attrs.Kind.TheVariants.{File, Dir}
 use Rattle.hurd_creds.specs.declared.errno.Errno.{Errno}
-use Rattle.hurd_creds.specs.declared.errno.Errno.TheVariants.{EDIED, ENOMEM, EOVERFLOW, ESRCH}
+use Rattle.hurd_creds.specs.declared.errno.Errno.TheVariants.{EDIED, ENOMEM, EOVERFLOW, ESRCH, EWOULDBLOCK}
 use Rattle.hurd_creds.specs.Access.{IdSets}
 use Rattle.hurd_trans_iface.specs.Nodes.{Node, with_entry, new_file, nameless_file, new_dir}
 use Rattle.hurd_trans_iface.specs.declared.new_node.NewNode.{NewNode}
@@ -15,9 +15,10 @@ use Rattle.hurd_creds.specs.Names.{same_name}
 use Rattle.hurd_trans_iface.specs.Meaning.{Meaning}
 use Rattle.hurd_nodes.specs.Held.{Held, coded_held}
 use Rattle.hurd_nodes.specs.Shown.{shown, unlink_edits_at, can_make_nameless, rename_edits_at}
-use Rattle.hurd_ports.specs.Tables.{Task, Tables, coded_tables, fresh, can_name, has_room, names_node}
+use Rattle.hurd_ports.specs.Tables.{Task, Tables, coded_tables, fresh, can_name, has_room, first_sent, names_node, right_of}
+use Rattle.hurd_ports.specs.declared.table.Right.{Right}
 use Rattle.hurd_ports.specs.Steps.{named}
-use Rattle.hurd_machine.specs.World.{World, world_from, nodes_of, task_at, home_at, makes_at}
+use Rattle.hurd_machine.specs.World.{World, world_from, nodes_of, ports_of, task_at, home_at, makes_at}
 use Rattle.hurd_machine.specs.Change.{Change, MakeNode, EditBody, Settle, opening, apply_all, changes_of}
 use Rattle.hurd_machine.specs.Plan.{on, given, first}
 use Rattle.hurd_machine.specs.Sight.{count_list, count_rights}
@@ -52,6 +53,17 @@ room_asks w t names = on ESRCH (task_at w t) (λ x. given EOVERFLOW (has_room na
 -- a task that can name so many things more: ESRCH, EOVERFLOW
 abbrev pub naming_asks : World → ℕ → ℕ → Result Task Errno
 naming_asks w t names = on ESRCH (task_at w t) (λ x. given EOVERFLOW (can_name names x) (Ok x))
+
+-- the right that a port sends, to a task that is there: EBADF, ESRCH
+abbrev pub send_asks : World → ℕ → ℕ → ℕ → Result Right Errno
+send_asks w t p q = first (right_of (ports_of w) t p) (λ r. given ESRCH (nat_lt q (length w.tasks)) (Ok r))
+
+-- a task that was sent a right, and can number another port: EWOULDBLOCK, EOVERFLOW
+abbrev pub receive_asks : World → ℕ → Result Task Errno
+receive_asks w t =
+    on ESRCH (task_at w t) (λ x.
+    on EWOULDBLOCK (first_sent x.inbox) (λ r.
+    given EOVERFLOW (has_room 0 x) (Ok x)))
 
 -- a node that is to be made: in which directory, under which name, and whose it is
 pub record NewNodeAt : Type 0 where

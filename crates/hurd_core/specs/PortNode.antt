@@ -14,6 +14,11 @@ abbrev pub named : Result PortNode Errno → Result Named Errno
 named (Ok p) = Ok (named_of p)
 named (Err e) = Err e
 
+-- the code's two ports
+abbrev pub both_named : Result (PortNode × PortNode) Errno → Result (Named × Named) Errno
+both_named (Ok p) = Ok (named_of p.0, named_of p.1)
+both_named (Err e) = Err e
+
 -- the attributes are those of the header, and whether it is an empty directory
 abbrev pub IsTold : PortNode → Type 0
 IsTold p = p.attrs ≡ attrs_with (header_in p.attrs) p.attrs.empty

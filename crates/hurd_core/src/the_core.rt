@@ -7,16 +7,16 @@ ghost use Rattle.hurd_trans_iface.specs.Nodes.{attrs_of, linked, with_attrs, wit
 ghost use Rattle.hurd_trans_iface.specs.Answers.{entry_of, names_of};
 ghost use Rattle.hurd_trans_iface.specs.Behaviour.{edits_of, reading, writing, resizing};
 ghost use Rattle.hurd_nodes.specs.Shown.{are_kin, shown, header_in, tree_by};
-ghost use Rattle.hurd_ports.specs.Tables.{lent, right_of, room_of};
-ghost use Rattle.hurd_ports.specs.Steps.{at_cursor};
-ghost use Rattle.hurd_machine.specs.World.{world_from, ports_of, asked_at, body_at, header_at, home_at, info_at, is_removed, is_server_root, links_at, makes_at, renames_at, sets_attrs_at, unlinks_at};
-ghost use Rattle.hurd_machine.specs.Change.{EditBody, EditHeader, EditOpen, apply, changes_of, dropping, opening};
+ghost use Rattle.hurd_ports.specs.Tables.{ids_at, lent, right_of, room_of, task_of};
+ghost use Rattle.hurd_ports.specs.Steps.{appending, at_cursor, received, with_ids, with_port};
+ghost use Rattle.hurd_machine.specs.World.{world_from, ports_of, asked_at, body_at, header_at, home_at, info_at, is_removed, is_server_root, links_at, makes_at, renames_at, sets_attrs_at, task_at, unlinks_at};
+ghost use Rattle.hurd_machine.specs.Change.{EditBody, EditHeader, EditOpen, EditTask, Send, apply, changes_of, dropping, opening};
 ghost use Rattle.hurd_machine.specs.Plan.{Follows, answered, told};
-ghost use Rattle.hurd_machine.specs.Handle.{port_asks, handle_asks};
+ghost use Rattle.hurd_machine.specs.Handle.{both_asks, port_asks, handle_asks};
 ghost use Rattle.hurd_machine.specs.declared.call.Reply.TheVariants.{Done};
-ghost use Rattle.hurd_core.specs.Core.{Does, HoldsRights, making_asks, making_dir, making_dir_asks, making_open, room_asks, unlinking, world_of, asked_only, making_nameless, making_nameless_asks, renaming};
+ghost use Rattle.hurd_core.specs.Core.{Does, HoldsRights, making_asks, making_dir, making_dir_asks, making_open, receive_asks, room_asks, send_asks, unlinking, world_of, asked_only, making_nameless, making_nameless_asks, renaming};
 ghost use Rattle.hurd_core.specs.ToMake.{new_node_of};
-ghost use Rattle.hurd_core.specs.PortNode.{IsTold, named};
+ghost use Rattle.hurd_core.specs.PortNode.{IsTold, both_named, named};
 
 use crate::port_node::PortNode;
 use crate::to_make::{NamelessToMake, NodeToMake};
@@ -82,6 +82,43 @@ impl<S: Server> Core<S> {
             return Err(Errno::EDIED);
         };
         Ok(PortNode { right, attrs })
+    }
+
+    /// The rights of two ports of a task, with the attributes of their nodes.
+    ///
+    /// Errors, in order: `ESRCH` no such task, `EBADF` no such first port, `EBADF` no such second one, `EDIED` the first one's
+    /// node isn't there, `EDIED` the second one's isn't.
+    #[tactic(auto, unfolding(hurd_machine::specs::Plan::on, hurd_machine::specs::Plan::first))]
+    pub fn port_nodes(
+        &self,
+        task: TaskId,
+        port: u64,
+        other: u64,
+    ) -> Result<(PortNode, PortNode), Errno>
+        ensures is { both_named result ≡ both_asks (world_of S.meaning self.entry.now) task.0 port other }
+        ensures told { IfOk result (λ p. IsTold p.0 × IsTold p.1) }
+    {
+        let right = self.ports.right(task, port)?;
+        let second = self.ports.right(task, other)?;
+        let Some(attrs) = self.nodes.attrs(right.node) else {
+            return Err(Errno::EDIED);
+        };
+        let Some(others) = self.nodes.attrs(second.node) else {
+            return Err(Errno::EDIED);
+        };
+        let first = PortNode { right, attrs };
+        let second = PortNode {
+            right: second,
+            attrs: others,
+        };
+        Ok((first, second))
+    }
+
+    /// The ids of a task. `ESRCH`: no such task.
+    pub fn ids(&self, task: TaskId) -> Result<&Ids, Errno>
+        ensures { lent result ≡ ids_at (task_at (world_of S.meaning self.now) task.0) }
+    {
+        self.ports.ids(task)
     }
 
     /// What a port has open, if that was opened for this.
@@ -327,6 +364,64 @@ impl<S: Server> Core<S> {
         self.ports.deallocate(task, port)?;
         self.nodes.release(node);
         Ok(())
+    }
+
+    /// Gives a task one port more, with this right, whose open is another's too; answers its number, the task's next.
+    ///
+    /// Errors, in order: `ESRCH` no such task, `EOVERFLOW`, `ENOMEM`.
+    pub fn share(&mut self, task: TaskId, right: Right) -> Result<u64, Errno>
+        ensures { let w = world_of S.meaning self.old in
+            Does w (room_asks w task.0 0) (λ x. EditTask task.0 (with_port right) ∷ []) (λ x. x.next) result (world_of S.meaning self.new) }
+    {
+        self.ports.room(task, 0)?;
+        self.nodes.reserve_hold()?;
+        let node = right.node;
+        let port = self.ports.share(task, right)?;
+        self.nodes.hold(node);
+        Ok(port)
+    }
+
+    /// Gives a copy of a port's right to a task, last of those that it was sent.
+    ///
+    /// Errors, in order: `ESRCH` no such task, `EBADF` no such port, `ESRCH` nobody to send it to, `ENOMEM`.
+    pub fn send(&mut self, alloc: Global, task: TaskId, port: u64, to: TaskId) -> Result<(), Errno>
+        ensures { let w = world_of S.meaning self.old in
+            Does w (send_asks w task.0 port to.0) (λ r. Send r to.0 ∷ []) (λ r. tt) result (world_of S.meaning self.new) }
+    {
+        let node = self.ports.right(task, port)?.node;
+        self.ports.has_task(to)?;
+        self.nodes.reserve_hold()?;
+        self.ports.send(alloc, task, port, to)?;
+        self.nodes.hold(node);
+        Ok(())
+    }
+
+    /// Takes the first right that a task was sent, as a port; answers its number, the task's next.
+    ///
+    /// Errors, in order: `ESRCH` no such task, `EWOULDBLOCK` it has no right left that it was sent, `EOVERFLOW`, `ENOMEM`.
+    pub fn receive(&mut self, task: TaskId) -> Result<u64, Errno>
+        ensures { let w = world_of S.meaning self.old in
+            Does w (receive_asks w task.0) (λ x. EditTask task.0 received ∷ []) (λ x. x.next) result (world_of S.meaning self.new) }
+    {
+        self.ports.receive(task)
+    }
+
+    /// Gives a task other ids; those of its rights stay. Takes no memory.
+    ///
+    /// `ESRCH`: no such task.
+    pub fn take_ids(&mut self, task: TaskId, ids: Ids) -> Result<(), Errno>
+        ensures { let w = world_of S.meaning self.old in
+            Follows w (answered (task_of (ports_of w) task.0) (λ x. record { reply = Done; changes = EditTask task.0 (with_ids ids) ∷ [] }))
+            (told (λ u. Done) result) (world_of S.meaning self.new) }
+    {
+        self.ports.take_ids(task, ids)
+    }
+
+    /// Lets an open append, or not, if it is there. Takes no memory.
+    pub fn set_append(&mut self, open_name: OpenName, append: bool)
+        ensures { world_of S.meaning self.new ≡ apply (EditOpen open_name (appending append)) (world_of S.meaning self.old) }
+    {
+        self.ports.set_append(open_name, append)
     }
 
     /// Moves the cursor of an open, if it is there. Takes no memory.

@@ -1,10 +1,10 @@
 -- What the sets of listed ids hold, how many they are, and which is the least.
-use Rattle.std.proofs.Common.{◌≡◌, ◌==◌, ◌||◌, ◌⊎◌, inl, inr, ℕ, zero, suc, ◌+◌, ◌≤◌, ◌<◌, Bool, true, false, cond, List, [], ◌∷◌, ◌++◌, length, refl, sym, ap, ◌∙◌, arith, min, nat_eq, length-append, append_assoc, append-nil, take, drop, slice_index_or}
+use Rattle.std.proofs.Common.{◌≡◌, ◌==◌, ◌||◌, ◌&&◌, ap₂, ◌⊎◌, inl, inr, ℕ, zero, suc, ◌+◌, ◌≤◌, ◌<◌, Bool, true, false, cond, List, [], ◌∷◌, ◌++◌, length, refl, sym, ap, ◌∙◌, arith, min, nat_eq, length-append, append_assoc, append-nil, take, drop, slice_index_or}
 use Rattle.std.proofs.lemmas.List.{take_more, take-append-drop}
 use Rattle.std.proofs.lemmas.Bool.{cases_lt, or_right, or_cases}
 use Rattle.std.proofs.Math.Nat.{min-le_left, min-le_right}
 use Rattle.std.specs.Prelude.{Option, Some, None, IsNone, IfSome}
-use Rattle.std.specs.List.{All, Contains, list_any, fold}
+use Rattle.std.specs.List.{All, Contains, filter, list_all, list_any, fold}
 use Rattle.std.proofs.lemmas.Bool.Decides.{nat_tests}
 use Rattle.std.proofs.lemmas.List.Elements.{All-contains}
 use Rattle.std.proofs.lemmas.Map.Views.{list_any-from_Contains, Contains-from_any}
@@ -12,7 +12,7 @@ use Rattle.std.specs.Ordering.{nat_cmp, eq_by_cmp, is_eq}
 use Rattle.std.specs.Cmp.{nat_cmp_total, tied_itself, eq_by_cmp_equiv, Equal-is}
 use Rattle.std.specs.FinMap.{nat_cmp-IsAntisymmetric}
 use Rattle.std.specs.FinSet as set
-use Rattle.hurd_creds.specs.Access.{IdSet, least_of, most_ids, HasEachOnce}
+use Rattle.hurd_creds.specs.Access.{IdSet, least_of, most_ids, HasEachOnce, is_among}
 
 -- the set of these ids
 abbrev ids : List ℕ → IdSet
@@ -205,3 +205,64 @@ module _ (asked found : List ℕ) (i : ℕ) where
       let whole : take i asked ++ (u ∷ rest) ≡ asked =
       sym (append_assoc (take i asked) (u ∷ []) rest) ∙ ap (λ us. us ++ rest) (sym (take_more asked i 0 below)) ∙ take-append-drop (i + 1) asked in
       rw whole at (too_many (take i asked) found rest u once h full)
+
+-- ids asked for that are held
+
+both_listed : (asked held : List ℕ) (q : ℕ) → is_listed q (filter (is_among held) asked) ≡ (is_listed q asked && is_among held q)
+both_listed [] held q = refl
+both_listed (u ∷ us) held q = go (both_listed us held q) (eq_by_cmp nat_cmp q u) refl (is_among held u) refl
+  where
+    and_false : (b : Bool) → (b && false) ≡ false
+    and_false true = refl
+    and_false false = refl
+
+    go : is_listed q (filter (is_among held) us) ≡ (is_listed q us && is_among held q) → (t : Bool) → eq_by_cmp nat_cmp q u ≡ t → (b : Bool) → is_among held u ≡ b
+        → is_listed q (filter (is_among held) (u ∷ us)) ≡ ((eq_by_cmp nat_cmp q u || is_listed q us) && is_among held q)
+    go rest true et true eb = let same : is_among held q ≡ true = ap (is_among held) (equal_if_tied q u et) ∙ eb in rw (eb, et, same) refl
+    go rest true et false eb = let same : is_among held q ≡ false = ap (is_among held) (equal_if_tied q u et) ∙ eb in rw (eb, et, same) (rest ∙ rw same (and_false (is_listed q us)))
+    go rest false et true eb = rw (eb, et) rest
+    go rest false et false eb = rw (eb, et) rest
+
+-- those that are held are both asked for and held
+pub filter_intersects : (asked held : List ℕ) → set.from_list {R = nat_cmp} (filter (is_among held) asked) ≡ set.intersection (set.from_list {R = nat_cmp} asked) (set.from_list held)
+filter_intersects asked held = set.same_set nat_cmp_total nat_cmp-IsAntisymmetric _ _ (λ q.
+    set.contains-from_list nat_cmp_total (filter (is_among held) asked) q ∙ both_listed asked held q
+    ∙ sym (set.contains-intersection nat_cmp_total (ids asked) (ids held) q ∙ ap₂ (λ a b. a && b) (set.contains-from_list nat_cmp_total asked q) (set.contains-from_list_nat held q)))
+
+-- all are held where the set of them is a subset of those that are
+
+listed_held : (asked held : List ℕ) → list_all (is_among held) asked ≡ true → (q : ℕ) → is_listed q asked ≡ true → is_among held q ≡ true
+listed_held [] held all q h = absurd (cc)
+listed_held (u ∷ us) held all q h =
+    let l = and_parts (is_among held u) (list_all (is_among held) us) all in
+    elim (or_cases (eq_by_cmp nat_cmp q u) (is_listed q us) h) [
+      | inl t ↦ ap (is_among held) (equal_if_tied q u t) ∙ l.0
+      | inr t ↦ listed_held us held l.1 q t
+    ]
+  where
+    and_parts : (a b : Bool) → (a && b) ≡ true → (a ≡ true) × (b ≡ true)
+    and_parts true true e = (refl, refl)
+    and_parts true false e = absurd (cc)
+    and_parts false b e = absurd (cc)
+
+held_all : (asked held : List ℕ) → ((q : ℕ) → is_listed q asked ≡ true → is_among held q ≡ true) → list_all (is_among held) asked ≡ true
+held_all [] held each = refl
+held_all (u ∷ us) held each =
+    rw (each u (ap (λ b. b || is_listed u us) (ties u))) (held_all us held (λ q h. each q (or_right (eq_by_cmp nat_cmp q u) _ h)))
+
+pub all_subset : (asked held : List ℕ) → list_all (is_among held) asked ≡ set.is_subset (set.from_list {R = nat_cmp} asked) (set.from_list held)
+all_subset asked held = same_test (list_all (is_among held) asked) (set.is_subset (ids asked) (ids held)) to from
+  where
+    to : list_all (is_among held) asked ≡ true → set.is_subset (ids asked) (ids held) ≡ true
+    to all = set.contains-is_subset nat_cmp_total (ids asked) (ids held) (λ q h.
+        set.contains-from_list_nat held q ∙ listed_held asked held all q (sym (set.contains-from_list nat_cmp_total asked q) ∙ h))
+
+    from : set.is_subset (ids asked) (ids held) ≡ true → list_all (is_among held) asked ≡ true
+    from sub = held_all asked held (λ q h.
+        sym (set.contains-from_list_nat held q) ∙ set.is_subset-contains nat_cmp_total (ids asked) (ids held) sub q (set.contains-from_list nat_cmp_total asked q ∙ h))
+
+    same_test : (a b : Bool) → (a ≡ true → b ≡ true) → (b ≡ true → a ≡ true) → a ≡ b
+    same_test true true f g = refl
+    same_test true false f g = sym (f refl)
+    same_test false true f g = g refl
+    same_test false false f g = refl

@@ -3,3 +3,5 @@ pub mod MapLaws
 pub mod KeyedLaws
 pub mod IdLaws
 pub mod StepLaws
+pub mod AppendLaws
+pub mod TakeLaws

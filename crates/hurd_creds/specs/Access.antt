@@ -1,5 +1,6 @@
 -- Who may do what with a node.
-use Rattle.std.specs.Prelude.{◌≡◌, ℕ, ◌==◌, ◌&&◌, ◌||◌, not, Bool, true, false, if◌then◌else◌, List, [], ◌∷◌, Option, Some, None, Result, Ok, Err, nat_le, min, fold, length, refl}
+use Rattle.std.specs.Prelude.{◌≡◌, ℕ, ◌==◌, ◌&&◌, ◌||◌, not, Bool, true, false, if◌then◌else◌, List, [], ◌∷◌, Option, Some, None, Result, Ok, Err, nat_eq, nat_le, min, fold, length, refl}
+use Rattle.std.specs.List.{list_any}
 use Rattle.std.specs.Ordering.{nat_cmp}
 use Rattle.std.specs.FinSet as set
 use Rattle.std.specs.Coded.{Coded, code_by, coded×, coded_ℕ}
@@ -119,6 +120,20 @@ owns ids a = holds_uid ids a.owner || is_root ids
 -- group or one of its own
 abbrev pub may_give : IdSets → Attrs → ℕ → ℕ → Bool
 may_give ids a owner group = is_root ids || ((holds_uid ids a.owner && owner == a.owner) && (group == a.group || holds_gid ids group))
+
+-- whether a list of ids has one
+abbrev pub is_among : List ℕ → ℕ → Bool
+is_among held id = list_any (λ y. nat_eq y id) held
+
+-- the ids asked for that are held; with uid 0 held, all that are asked for
+abbrev pub restrict : IdSets → IdSets → IdSets
+restrict ids asked =
+    if is_root ids then asked
+    else record { uids = set.intersection asked.uids ids.uids; gids = set.intersection asked.gids ids.gids }
+
+-- whether a task of some ids may take others for its own: with uid 0 held any, else those that it holds
+abbrev pub may_take : IdSets → IdSets → Bool
+may_take ids asked = is_root ids || (set.is_subset asked.uids ids.uids && set.is_subset asked.gids ids.gids)
 
 -- the bits of a flag where the test holds, else none
 abbrev pub flag_if : ℕ → Bool → ℕ

@@ -1,6 +1,6 @@
 -- Sets of bits.
-use Rattle.std.specs.Prelude.{ℕ, ◌==◌, Bool}
-use Rattle.std.specs.Int.RustNames.{bit_and}
+use Rattle.std.specs.Prelude.{ℕ, ◌==◌, Bool, true, false}
+use Rattle.std.specs.Int.RustNames.{bit_and, bit_or}
 use Rattle.hurd_creds.specs.declared.mode.Mode.{Mode}
 use Rattle.hurd_creds.specs.declared.open_flags.OpenFlags.{OpenFlags}
 
@@ -55,3 +55,8 @@ NOLINK = 128
 
 abbrev pub DIRECTORY : ℕ
 DIRECTORY = 256
+
+-- with APPEND, or without it; the other flags stay
+abbrev pub with_append : Bool → OpenFlags → OpenFlags
+with_append true f = record { 0 = bit_or f.0 APPEND }
+with_append false f = record { 0 = bit_and f.0 503 }

@@ -1,10 +1,10 @@
 //! User and group ids.
 ghost use Rattle.std.specs.Prelude.{◌≡◌, ◌≢◌, ◌≤◌, ◌<◌, ◌&&◌, ◌↔◌, length, [], IsOk, IsNone, IfOk, IfSome, IfNone};
-ghost use Rattle.std.specs.List.{All, Contains};
+ghost use Rattle.std.specs.List.{All, Contains, filter, list_all};
 ghost use Rattle.std.specs.Ordering.{nat_cmp};
 ghost use Rattle.std.specs.FinSet as set;
 ghost use Rattle.smallvec.specs.SmallVec.{small_vec_len};
-ghost use Rattle.hurd_creds.specs.Access.{ids_of, most_ids, HasEachOnce, may, owns, is_root, least_uid, holds_uid, holds_gid, has_no_uids, may_give, access_of, USE_UNK};
+ghost use Rattle.hurd_creds.specs.Access.{ids_of, most_ids, HasEachOnce, may, owns, is_root, least_uid, holds_uid, holds_gid, has_no_uids, may_give, access_of, is_among, restrict, may_take, USE_UNK};
 ghost use Rattle.hurd_creds.specs.Memory.{Meets};
 ghost use Rattle.hurd_creds.specs.Bits.{has_bits};
 
@@ -72,6 +72,30 @@ impl Ids {
         let uids = SmallVec::from_slice(alloc, uids)?;
         let gids = SmallVec::from_slice(alloc, gids)?;
         Ok(Ids { uids, gids })
+    }
+
+    /// Those of the ids asked for that are held; where uid 0 is held, all that are asked for.
+    #[tactic(auto, using(crate::proofs::IdLaws::filter_intersects))]
+    pub fn restrict(&self, alloc: Global, asked: &Ids) -> Result<Ids, AllocError>
+        ensures { IfOk result (λ ids. ids ≡ restrict self.now asked.now) }
+    {
+        if self.is_root() {
+            return asked.copied(alloc);
+        }
+        Ok(Ids {
+            uids: held_of(alloc, asked.uids.as_slice(), self.uids.as_slice())?,
+            gids: held_of(alloc, asked.gids.as_slice(), self.gids.as_slice())?,
+        })
+    }
+
+    /// Whether a task of these ids may take others for its own: with uid 0 any, else those that are held.
+    #[tactic(auto, using(crate::proofs::IdLaws::all_subset))]
+    pub fn may_take(&self, asked: &Ids) -> bool
+        ensures { result ≡ may_take self.now asked.now }
+    {
+        self.is_root()
+            || are_among(asked.uids.as_slice(), self.uids.as_slice())
+                && are_among(asked.gids.as_slice(), self.gids.as_slice())
     }
 
     /// Whether uid 0 is held.
@@ -151,6 +175,26 @@ impl Ids {
     {
         self.gids.as_slice().contains(&gid)
     }
+}
+
+/// Those of the ids asked for that are held.
+fn held_of(alloc: Global, asked: &[u32], held: &[u32]) -> Result<SmallVec<u32, 8>, AllocError>
+    ensures { IfOk result (λ found. found.items ≡ filter (is_among held.now) asked.now) }
+{
+    let mut found = SmallVec::new(alloc);
+    for &id in asked {
+        if held.contains(&id) {
+            found.push(id)?;
+        }
+    }
+    Ok(found)
+}
+
+/// Whether all of the ids asked for are held.
+fn are_among(asked: &[u32], held: &[u32]) -> bool
+    ensures { result ≡ list_all (is_among held.now) asked.now }
+{
+    asked.iter().all(|id| held.contains(id))
 }
 
 /// The least of these ids, if there is any.

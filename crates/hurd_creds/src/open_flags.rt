@@ -1,6 +1,6 @@
 //! Flags of opening.
 ghost use Rattle.std.specs.Prelude.{⊤, ◌≡◌, [], ◌∷◌, codes};
-ghost use Rattle.hurd_creds.specs.Bits.{known_open_flags, open_modes, asks};
+ghost use Rattle.hurd_creds.specs.Bits.{known_open_flags, open_modes, asks, with_append};
 
 use bitflags::{Flag, Flags, bitflag_items};
 
@@ -60,6 +60,17 @@ impl OpenFlags {
     {
         let kept = OpenFlags::READ.0 | OpenFlags::WRITE.0 | OpenFlags::EXEC.0 | OpenFlags::APPEND.0;
         OpenFlags(self.0 & kept)
+    }
+
+    /// These flags with `APPEND`, or without it.
+    pub fn with_append(self, append: bool) -> OpenFlags
+        ensures { result ≡ with_append append self }
+    {
+        if append {
+            OpenFlags(self.0 | OpenFlags::APPEND.0)
+        } else {
+            OpenFlags(self.0 & 503)
+        }
     }
 
     /// Whether this flag is among these.

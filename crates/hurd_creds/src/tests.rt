@@ -91,6 +91,58 @@ fn at_most_32_ids_of_a_sort(rt: HostRuntime) -> Result<(), AllocError> {
     Ok(())
 }
 
+#[test]
+fn ids_that_are_asked_for_are_cut_to_those_that_are_held(rt: HostRuntime) -> Result<(), Errno> {
+    let alloc = rt.alloc();
+    // held, asked for, left
+    let table: [(&[u32], &[u32], &[u32]); 7] = [
+        (&[3, 5], &[5, 3, 5], &[3, 5]),
+        (&[3, 5], &[5, 7], &[5]),
+        (&[3, 5], &[0], &[]),
+        (&[0, 3], &[5, 7], &[5, 7]),
+        (&[0, 3], &[], &[]),
+        (&[], &[3], &[]),
+        (&[3], &[], &[]),
+    ];
+    for (held, asked, left) in table {
+        let wanted = Ids::new(alloc, left, left)?;
+        let got = Ids::new(alloc, held, held)?.restrict(alloc, &Ids::new(alloc, asked, asked)?)?;
+        assert!(rt;
+            got.may_take(&wanted) && wanted.may_take(&got),
+            "{asked:?} asked for, {held:?} held"
+        );
+    }
+    Ok(())
+}
+
+#[test]
+fn a_task_may_take_ids_that_it_holds(rt: HostRuntime) -> Result<(), Errno> {
+    let alloc = rt.alloc();
+    // uids and gids held, uids and gids asked for
+    let table: [(&[u32], &[u32], &[u32], &[u32], bool); 10] = [
+        (&[3, 5], &[7], &[5, 3, 5], &[7], true),
+        (&[3, 5], &[7], &[4], &[7], false),
+        (&[3, 5], &[7], &[3], &[8], false),
+        (&[3], &[7], &[7], &[3], false),
+        (&[3], &[7], &[], &[], true),
+        (&[], &[], &[], &[], true),
+        (&[], &[], &[3], &[], false),
+        (&[], &[0], &[3], &[], false),
+        (&[0], &[], &[3, 5], &[7], true),
+        (&[3], &[7], &[0], &[7], false),
+    ];
+    for (uids, gids, asked_uids, asked_gids, allowed) in table {
+        let held = Ids::new(alloc, uids, gids)?;
+        let asked = Ids::new(alloc, asked_uids, asked_gids)?;
+        assert_eq!(rt;
+            held.may_take(&asked),
+            allowed,
+            "{asked:?} asked for, {held:?} held"
+        );
+    }
+    Ok(())
+}
+
 /// Whether these ids may do each of these with a node of uid 1000 and gid 100.
 fn may_each(rt: &impl Abort, ids: &Ids, rows: &[(Kind, u32, Want, bool)]) {
     for &(kind, mode, want, allowed) in rows {

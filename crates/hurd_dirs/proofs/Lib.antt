@@ -1,5 +1,4 @@
 pub mod EntryLaws
-pub mod BothLaws
 pub mod MakeLaws
 pub mod LinkLaws
 pub mod ClimbLaws

@@ -6,7 +6,7 @@ use Rattle.hurd_trans_iface.proofs.Goods.{good}
 use Rattle.hurd_machine.specs.declared.call.Reply.TheVariants.{Done}
 use Rattle.hurd_machine.specs.World.{World, nodes_of, links_at}
 use Rattle.hurd_machine.specs.Change.{EditBody, EditHeader}
-use Rattle.hurd_machine.specs.Handle.{Named}
+use Rattle.hurd_machine.specs.Handle.{Named, both_asks}
 use Rattle.hurd_machine.specs.Sight.{BodyOf, Seen, Sees}
 use Rattle.hurd_machine.specs.Sound.{Coherent, Linked, LeadsUp}
 use Rattle.hurd_machine.proofs.Nodes.{header_in}
@@ -19,8 +19,8 @@ use Rattle.hurd_machine.proofs.Relinks.{again_linked}
 use Rattle.hurd_machine.proofs.CallLaws.{CallLaws, answered_within, answered_proper, answered_linked, answered_sized, answered_rests, answered_may}
 use Rattle.hurd_dirs.specs.declared.link.FileToName.{FileToName}
 use Rattle.hurd_dirs.specs.Entry.{name_asks, dir_asks}
-use Rattle.hurd_dirs.specs.Link.{OnName, both_asks, link_asks, plan_link, touches_link}
-use Rattle.hurd_dirs.proofs.BothLaws.{AreNamed, are_named, both_same, both_plain}
+use Rattle.hurd_dirs.specs.Link.{OnName, link_asks, plan_link, touches_link}
+use Rattle.hurd_machine.proofs.BothLaws.{AreNamed, are_named, both_same, both_plain}
 use Rattle.hurd_dirs.proofs.EntryLaws.{IsEntryDir, entry_dir, dir_leads, dir_same, dir_plain, name_plain, named_seen, entries_seen}
 
 -- a file has an entry more in a directory that leads up, and a link more

@@ -19,7 +19,7 @@ use Rattle.hurd_nodes.specs.Shown.{are_kin, tree_by, info_in}
 use Rattle.hurd_machine.specs.declared.call.Reply.TheVariants.{Done}
 use Rattle.hurd_machine.specs.World.{World, nodes_of, header_at, body_at, home_at, info_at, is_removed, lists_at, renames_at}
 use Rattle.hurd_machine.specs.Plan.{Plan, Planned}
-use Rattle.hurd_machine.specs.Handle.{Named}
+use Rattle.hurd_machine.specs.Handle.{Named, both_asks}
 use Rattle.hurd_machine.specs.Change.{Change, EditHeader, EditBody, apply, apply_all}
 use Rattle.hurd_machine.specs.Sight.{Part, AttrOf, EmptyOf, BodyOf, Seen, Child, Sees, Could, Allowed, ToSearch, ByParent, bare, AnEmpty}
 use Rattle.hurd_machine.specs.Sound.{HasDistinctNames, Coherent, Linked, LeadsUp}
@@ -42,11 +42,10 @@ use Rattle.hurd_core.specs.Core.{Does}
 use Rattle.hurd_core.proofs.PlanLaws.{asked-done, asked-lacks}
 use Rattle.hurd_dirs.specs.declared.rename.Renaming.{Renaming}
 use Rattle.hurd_dirs.specs.Entry.{name_asks, may_change, may_take}
-use Rattle.hurd_dirs.specs.Link.{both_asks}
 use Rattle.hurd_dirs.specs.Remove.{is_empty_at}
 use Rattle.hurd_dirs.specs.Rename.{parent_in, is_inside, trees_ask, leaves_asks, gives_way, old_asks, rename_asks, is_there, moves, renames, plan_rename, touches_rename}
 use Rattle.hurd_dirs.proofs.EntryLaws.{dir_kind, name_plain, right_taken, named_seen}
-use Rattle.hurd_dirs.proofs.BothLaws.{AreNamed, are_named, both_same, both_plain}
+use Rattle.hurd_machine.proofs.BothLaws.{AreNamed, are_named, both_same, both_plain}
 use Rattle.hurd_dirs.proofs.RemoveLaws.{kin_itself}
 use Rattle.hurd_dirs.proofs.OrderLaws.{goes-alone, goes-over, may_rename}
 use Rattle.hurd_dirs.proofs.ClimbLaws.{inside_same, inside_around, inside_fewer}

@@ -1,33 +1,16 @@
 -- A second name for a file.
-use Rattle.std.specs.Prelude.{◌≡◌, ◌⊎◌, ℕ, List, [], ◌∷◌, Result, Ok, Err}
+use Rattle.std.specs.Prelude.{◌≡◌, ◌⊎◌, ℕ, List, [], ◌∷◌, Result, Ok}
 use Rattle.hurd_creds.specs.declared.errno.Errno.{Errno}
-use Rattle.hurd_creds.specs.declared.errno.Errno.TheVariants.{EDIED}
 use Rattle.hurd_trans_iface.specs.Nodes.{linked, with_entry}
-use Rattle.hurd_ports.specs.Tables.{right_of}
 use Rattle.hurd_machine.specs.declared.call.Reply.TheVariants.{Done}
-use Rattle.hurd_machine.specs.World.{World, ports_of, header_at, links_at}
+use Rattle.hurd_machine.specs.World.{World, links_at}
 use Rattle.hurd_machine.specs.Change.{EditBody, EditHeader}
-use Rattle.hurd_machine.specs.Plan.{Plan, on, first, answered}
-use Rattle.hurd_machine.specs.Handle.{Named}
+use Rattle.hurd_machine.specs.Plan.{Plan, first, answered}
+use Rattle.hurd_machine.specs.Handle.{both_asks}
 use Rattle.hurd_machine.specs.Sight.{Part, AttrOf, EmptyOf, BodyOf}
 use Rattle.hurd_machine.specs.Touched.{asked_parts}
-use Rattle.hurd_core.specs.PortNode.{named_of}
-use Rattle.hurd_core.specs.declared.port_node.PortNode.{PortNode}
 use Rattle.hurd_dirs.specs.declared.link.FileToName.{FileToName}
 use Rattle.hurd_dirs.specs.Entry.{name_asks, dir_asks}
-
--- two ports: both are asked for before the nodes of either
-abbrev pub both_asks : World → ℕ → ℕ → ℕ → Result (Named × Named) Errno
-both_asks w t p q =
-    first (right_of (ports_of w) t p) (λ r.
-    first (right_of (ports_of w) t q) (λ s.
-    on EDIED (header_at w r.node) (λ h.
-    on EDIED (header_at w s.node) (λ k. Ok (record { right = r; header = h }, record { right = s; header = k })))))
-
--- the code's two ports are those asked for
-abbrev pub both_named : Result (PortNode × PortNode) Errno → Result (Named × Named) Errno
-both_named (Ok p) = Ok (named_of p.0, named_of p.1)
-both_named (Err e) = Err e
 
 -- which file gets a name in which directory
 abbrev pub link_asks : World → ℕ → ℕ → List ℕ → ℕ → Result FileToName Errno

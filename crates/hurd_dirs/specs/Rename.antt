@@ -12,12 +12,11 @@ use Rattle.hurd_machine.specs.declared.call.Reply.TheVariants.{Done}
 use Rattle.hurd_machine.specs.World.{World, header_at, body_at, home_at, info_at, is_removed}
 use Rattle.hurd_machine.specs.Change.{Change, EditHeader, EditBody, Settle}
 use Rattle.hurd_machine.specs.Plan.{Plan, on, given, first, answered}
-use Rattle.hurd_machine.specs.Handle.{Named}
+use Rattle.hurd_machine.specs.Handle.{Named, both_asks}
 use Rattle.hurd_machine.specs.Sight.{Part, AttrOf, EmptyOf, BodyOf}
 use Rattle.hurd_machine.specs.Touched.{asked_parts}
 use Rattle.hurd_dirs.specs.declared.rename.Renaming.{Renaming}
 use Rattle.hurd_dirs.specs.Entry.{name_asks, may_change, may_take}
-use Rattle.hurd_dirs.specs.Link.{both_asks}
 use Rattle.hurd_dirs.specs.Remove.{is_empty_at}
 
 -- what a header says is above

@@ -3,7 +3,6 @@
 //! Each has its plan in `specs/`: what it asks, with its refusals in order, and what it changes.
 #![tactic(auto)]
 
-mod both;
 mod entry;
 pub mod file;
 pub mod link;

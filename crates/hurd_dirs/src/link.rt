@@ -5,7 +5,6 @@ ghost use Rattle.hurd_machine.specs.declared.call.Reply.TheVariants as reply;
 ghost use Rattle.hurd_core.specs.Core.{world_of};
 ghost use Rattle.hurd_dirs.specs.Link.{link_asks, plan_link};
 
-use crate::both::both_asked;
 use crate::entry::{dir_asked, name_asked};
 use hurd_core::Core;
 use hurd_creds::{Errno, NodeName, TaskId};
@@ -21,7 +20,7 @@ struct FileToName {
 
 /// The file that is to have a name in a port's directory.
 ///
-/// Errors, in order: those of `both_asked`, of `name_asked`, of `dir_asked`.
+/// Errors, in order: those of `Core::port_nodes`, of `name_asked`, of `dir_asked`.
 #[tactic(auto, unfolding(hurd_machine::specs::Plan::first))]
 fn link_asked<S: Server>(
     core: &Core<S>,
@@ -32,7 +31,7 @@ fn link_asked<S: Server>(
 ) -> Result<FileToName, Errno>
     ensures { result ≡ link_asks (world_of S.meaning core.now) task.0 port name.now file }
 {
-    let (dir, file) = both_asked(core, task, port, file)?;
+    let (dir, file) = core.port_nodes(task, port, file)?;
     name_asked(name)?;
     dir_asked(core, &dir)?;
     Ok(FileToName {

@@ -7,7 +7,6 @@ ghost use Rattle.hurd_core.specs.Core.{world_of};
 ghost use Rattle.hurd_core.specs.PortNode.{named_of};
 ghost use Rattle.hurd_dirs.specs.Rename.{is_inside, trees_ask, leaves_asks, leaving, gives_way, old_asks, rename_asks, is_there, plan_rename};
 
-use crate::both::both_asked;
 use crate::entry::{is_dir, may_change, may_take, name_asked};
 use hurd_core::{Core, PortNode};
 use hurd_creds::{Attrs, Errno, NodeName, TaskId};
@@ -164,7 +163,7 @@ fn old_asked<S: Server>(
 
 /// What a rename is to do.
 ///
-/// Errors, in order: those of `both_asked`, those of `name_asked` of the old name, of the new one, those of `trees_asked`, of
+/// Errors, in order: those of `Core::port_nodes`, those of `name_asked` of the old name, of the new one, those of `trees_asked`, of
 /// `leaves_asked`, of `old_asked`.
 #[tactic(auto, unfolding(hurd_machine::specs::Plan::first))]
 fn rename_asked<S: Server>(
@@ -177,7 +176,7 @@ fn rename_asked<S: Server>(
 ) -> Result<Renaming, Errno>
     ensures { result ≡ rename_asks (world_of S.meaning core.now) task.0 port name.now to new.now }
 {
-    let (from, to) = both_asked(core, task, port, to)?;
+    let (from, to) = core.port_nodes(task, port, to)?;
     name_asked(name)?;
     name_asked(new)?;
     trees_asked(core, &from, &to)?;

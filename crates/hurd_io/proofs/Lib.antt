@@ -1,2 +1,6 @@
 pub mod IoLaws
 pub mod RowLaws
+pub mod OpensLaws
+pub mod PlaceLaws
+pub mod ShareRows
+pub mod SharingLaws

@@ -1,1 +1,3 @@
 pub mod Io
+pub mod Opens
+pub mod Sharing

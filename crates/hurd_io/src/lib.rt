@@ -7,3 +7,5 @@
 
 pub mod io;
 mod offset;
+pub mod opens;
+pub mod sharing;

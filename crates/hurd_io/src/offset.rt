@@ -10,7 +10,7 @@ use hurd_machine::Handle;
 use hurd_trans_iface::Server;
 
 /// The greatest place.
-const MOST_PLACE: u64 = 9223372036854775807;
+pub(crate) const MOST_PLACE: u64 = 9223372036854775807;
 
 /// Where a call is to begin: at a place, or at the open's cursor.
 #[derive(Clone, Copy, Debug, PartialEq, Eq)]

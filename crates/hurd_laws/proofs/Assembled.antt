@@ -1,15 +1,17 @@
 -- The laws of one step, from those of each call: each call has a line.
 use Rattle.std.proofs.Common.{ℕ, sym}
 use Rattle.hurd_machine.specs.declared.call.Call.{Call}
-use Rattle.hurd_machine.specs.declared.call.Call.TheVariants.{PortDeallocate, DirLookup, IoRead, IoWrite, IoStat, FileSetSize, FileChmod, FileChown, FileCheckAccess, DirReaddir, DirMkdir, DirRmdir, DirUnlink, DirLink, DirMkfile, DirRename}
+use Rattle.hurd_machine.specs.declared.call.Call.TheVariants.{PortDeallocate, PortSend, PortReceive, AuthMakeauth, DirLookup, IoRead, IoWrite, IoSeek, IoStat, IoReadable, IoGetOpenmodes, IoSetAllOpenmodes, IoDuplicate, IoReauthenticate, IoRestrictAuth, IoIdentity, FileSetSize, FileChmod, FileChown, FileCheckAccess, DirReaddir, DirMkdir, DirRmdir, DirUnlink, DirLink, DirMkfile, DirRename}
 use Rattle.hurd_machine.specs.World.{World}
 use Rattle.hurd_machine.specs.Sight.{Part, AttrOf, EmptyOf, BodyOf, OpenOf, OptionsOf, UsersOf, TaskOf}
 use Rattle.hurd_machine.proofs.Frame.{IsUnnamed, gone_kept}
 use Rattle.hurd_machine.proofs.CallLaws.{CallLaws}
 use Rattle.hurd_machine.proofs.CallLaws as call
-use Rattle.hurd_rights.proofs.RightsLaws.{deallocate_laws}
+use Rattle.hurd_rights.proofs.RightsLaws.{deallocate_laws, send_laws, receive_laws, makeauth_laws}
 use Rattle.hurd_lookup.proofs.LookupLaws.{lookup_laws}
 use Rattle.hurd_io.proofs.IoLaws.{read_laws, write_laws, stat_laws}
+use Rattle.hurd_io.proofs.OpensLaws.{seek_laws, readable_laws, get_openmodes_laws, set_openmodes_laws}
+use Rattle.hurd_io.proofs.SharingLaws.{duplicate_laws, reauthenticate_laws, restrict_auth_laws, identity_laws}
 use Rattle.hurd_files.proofs.FilesLaws.{set_size_laws, readdir_laws}
 use Rattle.hurd_files.proofs.AccessLaws.{chmod_laws, chown_laws, check_access_laws}
 use Rattle.hurd_dirs.proofs.MakeLaws.{mkdir_laws}
@@ -20,12 +22,23 @@ use Rattle.hurd_dirs.proofs.RenameLaws.{rename_laws}
 use Rattle.hurd_laws.specs.Step.{plan, touches, after}
 use Rattle.hurd_laws.specs.Laws.{IsOld, ChangesTouched, GoneUnseen, OthersUnseen, OwnFromView, StaysSound, NeverWantsMemory}
 
-laws_of : (t : ℕ) (c : Call) → CallLaws t (λ w. plan w t c) (λ w. touches w t c)
+pub laws_of : (t : ℕ) (c : Call) → CallLaws t (λ w. plan w t c) (λ w. touches w t c)
 laws_of t (PortDeallocate p) = deallocate_laws t p
+laws_of t (PortSend p q) = send_laws t p q.0
+laws_of t PortReceive = receive_laws t
+laws_of t (AuthMakeauth ids) = makeauth_laws t ids
 laws_of t (DirLookup p path flags mode) = lookup_laws t p path flags mode
 laws_of t (IoRead p amount offset) = read_laws t p amount offset
 laws_of t (IoWrite p bytes offset) = write_laws t p bytes offset
+laws_of t (IoSeek p offset whence) = seek_laws t p offset whence
 laws_of t (IoStat p) = stat_laws t p
+laws_of t (IoReadable p) = readable_laws t p
+laws_of t (IoGetOpenmodes p) = get_openmodes_laws t p
+laws_of t (IoSetAllOpenmodes p flags) = set_openmodes_laws t p flags
+laws_of t (IoDuplicate p) = duplicate_laws t p
+laws_of t (IoReauthenticate p) = reauthenticate_laws t p
+laws_of t (IoRestrictAuth p ids) = restrict_auth_laws t p ids
+laws_of t (IoIdentity p q) = identity_laws t p q
 laws_of t (FileSetSize p size) = set_size_laws t p size
 laws_of t (FileChmod p mode) = chmod_laws t p mode
 laws_of t (FileChown p owner group) = chown_laws t p owner group

@@ -1,3 +1,4 @@
 pub mod Assembled
 pub mod Headline
+pub mod StaysConfined
 pub mod Served

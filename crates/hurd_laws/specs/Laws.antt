@@ -1,10 +1,12 @@
 -- The laws: what a set of tasks is told depends only on what it sees.
-use Rattle.std.specs.Prelude.{◌≡◌, ◌≢◌, ◌⊎◌, ℕ, Bool, true, false, List, None}
+use Rattle.std.specs.Prelude.{◌≡◌, ◌≢◌, ◌⊎◌, ℕ, ◌≤◌, Bool, true, false, List, Some, None}
 use Rattle.hurd_creds.specs.declared.errno.Errno.TheVariants.{ENOMEM}
+use Rattle.hurd_creds.specs.declared.name.Name.{Name}
+use Rattle.hurd_ports.specs.Tables.{Task}
 use Rattle.hurd_machine.specs.declared.call.Call.{Call}
 use Rattle.hurd_machine.specs.declared.call.Reply.TheVariants.{Refused}
-use Rattle.hurd_machine.specs.World.{World, open_at}
-use Rattle.hurd_machine.specs.Sight.{Part, AttrOf, EmptyOf, BodyOf, OpenOf, OptionsOf, UsersOf, TaskOf, Sees, SameView, IsGone, part}
+use Rattle.hurd_machine.specs.World.{World, task_at}
+use Rattle.hurd_machine.specs.Sight.{Seen, Part, AttrOf, EmptyOf, BodyOf, OpenOf, OptionsOf, UsersOf, TaskOf, Sees, SameView, IsGone, part}
 use Rattle.hurd_machine.specs.Sound.{Sound, Below}
 use Rattle.hurd_laws.specs.Step.{reply_of, after, touches}
 use Rattle.hurd_laws.specs.Runs.{TaskCall, run, calls_of, replies_to, TouchesUnseen, Quiet}
@@ -49,6 +51,26 @@ StaysSound = (w : World) (t : ℕ) (c : Call) → Sound w → Sound (after w t c
 -- of memory the machine knows nothing: no call is refused for want of it
 abbrev pub NeverWantsMemory : Type 0
 NeverWantsMemory = (w : World) (t : ℕ) (c : Call) → reply_of w t c ≢ Refused ENOMEM
+
+-- a name that a task of S has given since the world w
+pub record GivenSince (S : ℕ → Bool) (w : World) (n : Name) : Type 0 where
+  pub ours : S n.task.0 ≡ true
+  pub task : Task
+  pub is_task : task_at w n.task.0 ≡ Some task
+  pub since : task.made ≤ n.count
+
+-- what S sees after a step it saw before, or a task of S made it in that step: where the step is of a task of S, or touches
+-- nothing that S sees
+abbrev pub Confined : Type 0
+Confined =
+    (S : ℕ → Bool) (w : World) (t : ℕ) (c : Call) (n : Name) → Sound w → (S t ≡ true) ⊎ TouchesUnseen S w t c → Seen S (after w t c) n
+    → Seen S w n ⊎ GivenSince S w n
+
+-- what S sees after a run it saw before, or a task of S made it in that run: where the others touch nothing that S sees
+abbrev pub ConfinedRun : Type 0
+ConfinedRun =
+    (S : ℕ → Bool) (w : World) (ms : List TaskCall) (n : Name) → Sound w → Quiet S w ms → Seen S (run w ms) n
+    → Seen S w n ⊎ GivenSince S w n
 
 -- two runs from worlds that have the same view for S, in which S makes the same calls and the others touch nothing that S sees:
 -- S is told the same, and sees the same afterwards

@@ -1,14 +1,16 @@
 -- One step of the machine: a call of a task. Each call has a line in each of the three definitions by cases.
 use Rattle.std.specs.Prelude.{ℕ, Bool, true, false}
 use Rattle.hurd_machine.specs.declared.call.Call.{Call}
-use Rattle.hurd_machine.specs.declared.call.Call.TheVariants.{PortDeallocate, DirLookup, IoRead, IoWrite, IoStat, FileSetSize, FileChmod, FileChown, FileCheckAccess, DirReaddir, DirMkdir, DirRmdir, DirUnlink, DirLink, DirMkfile, DirRename}
+use Rattle.hurd_machine.specs.declared.call.Call.TheVariants.{PortDeallocate, PortSend, PortReceive, AuthMakeauth, DirLookup, IoRead, IoWrite, IoSeek, IoStat, IoReadable, IoGetOpenmodes, IoSetAllOpenmodes, IoDuplicate, IoReauthenticate, IoRestrictAuth, IoIdentity, FileSetSize, FileChmod, FileChown, FileCheckAccess, DirReaddir, DirMkdir, DirRmdir, DirUnlink, DirLink, DirMkfile, DirRename}
 use Rattle.hurd_machine.specs.declared.call.Reply.{Reply}
 use Rattle.hurd_machine.specs.World.{World}
 use Rattle.hurd_machine.specs.Plan.{Plan, after_plan}
 use Rattle.hurd_machine.specs.Sight.{Part}
-use Rattle.hurd_rights.specs.Rights.{plan_deallocate, touches_deallocate}
+use Rattle.hurd_rights.specs.Rights.{plan_deallocate, touches_deallocate, plan_send, touches_send, plan_receive, touches_receive, plan_makeauth, touches_makeauth}
 use Rattle.hurd_lookup.specs.Lookup.{plan_lookup, touches_lookup}
 use Rattle.hurd_io.specs.Io.{plan_read, touches_read, plan_write, touches_write, plan_stat, touches_stat}
+use Rattle.hurd_io.specs.Opens.{plan_seek, touches_seek, plan_readable, touches_readable, plan_get_openmodes, touches_get_openmodes, plan_set_openmodes, touches_set_openmodes}
+use Rattle.hurd_io.specs.Sharing.{plan_duplicate, plan_reauthenticate, plan_restrict_auth, touches_share, plan_identity, touches_identity}
 use Rattle.hurd_files.specs.Files.{plan_set_size, touches_set_size, plan_readdir, touches_readdir}
 use Rattle.hurd_files.specs.Access.{plan_chmod, touches_chmod, plan_chown, touches_chown, plan_check_access, touches_check_access}
 use Rattle.hurd_dirs.specs.Make.{plan_mkdir, touches_mkdir}
@@ -20,10 +22,21 @@ use Rattle.hurd_dirs.specs.Rename.{plan_rename, touches_rename}
 -- what a call of task t answers and changes; ESRCH where there is no such task
 abbrev pub plan : World → ℕ → Call → Plan
 plan w t (PortDeallocate p) = plan_deallocate w t p
+plan w t (PortSend p q) = plan_send w t p q.0
+plan w t PortReceive = plan_receive w t
+plan w t (AuthMakeauth ids) = plan_makeauth w t ids
 plan w t (DirLookup p path flags mode) = plan_lookup w t p path flags mode
 plan w t (IoRead p amount offset) = plan_read w t p amount offset
 plan w t (IoWrite p bytes offset) = plan_write w t p bytes offset
+plan w t (IoSeek p offset whence) = plan_seek w t p offset whence
 plan w t (IoStat p) = plan_stat w t p
+plan w t (IoReadable p) = plan_readable w t p
+plan w t (IoGetOpenmodes p) = plan_get_openmodes w t p
+plan w t (IoSetAllOpenmodes p flags) = plan_set_openmodes w t p flags
+plan w t (IoDuplicate p) = plan_duplicate w t p
+plan w t (IoReauthenticate p) = plan_reauthenticate w t p
+plan w t (IoRestrictAuth p ids) = plan_restrict_auth w t p ids
+plan w t (IoIdentity p q) = plan_identity w t p q
 plan w t (FileSetSize p size) = plan_set_size w t p size
 plan w t (FileChmod p mode) = plan_chmod w t p mode
 plan w t (FileChown p owner group) = plan_chown w t p owner group
@@ -39,10 +52,21 @@ plan w t (DirRename p name q new) = plan_rename w t p name q new
 -- the parts of the world that it touches, beside the caller's own task; a refused call touches none
 abbrev pub touches : World → ℕ → Call → Part → Type 0
 touches w t (PortDeallocate p) = touches_deallocate w t p
+touches w t (PortSend p q) = touches_send w t p q.0
+touches w t PortReceive = touches_receive w t
+touches w t (AuthMakeauth ids) = touches_makeauth w t ids
 touches w t (DirLookup p path flags mode) = touches_lookup w t p path flags mode
 touches w t (IoRead p amount offset) = touches_read w t p amount offset
 touches w t (IoWrite p bytes offset) = touches_write w t p bytes offset
+touches w t (IoSeek p offset whence) = touches_seek w t p offset whence
 touches w t (IoStat p) = touches_stat w t p
+touches w t (IoReadable p) = touches_readable w t p
+touches w t (IoGetOpenmodes p) = touches_get_openmodes w t p
+touches w t (IoSetAllOpenmodes p flags) = touches_set_openmodes w t p flags
+touches w t (IoDuplicate p) = touches_share w t p
+touches w t (IoReauthenticate p) = touches_share w t p
+touches w t (IoRestrictAuth p ids) = touches_share w t p
+touches w t (IoIdentity p q) = touches_identity w t p q
 touches w t (FileSetSize p size) = touches_set_size w t p size
 touches w t (FileChmod p mode) = touches_chmod w t p mode
 touches w t (FileChown p owner group) = touches_chown w t p owner group
@@ -58,7 +82,13 @@ touches w t (DirRename p name q new) = touches_rename w t p name q new
 -- whether it takes memory, and so may find none
 abbrev pub takes_memory : Call → Bool
 takes_memory (PortDeallocate p) = false
+takes_memory (AuthMakeauth ids) = false
+takes_memory (IoSeek p offset whence) = false
 takes_memory (IoStat p) = false
+takes_memory (IoReadable p) = false
+takes_memory (IoGetOpenmodes p) = false
+takes_memory (IoSetAllOpenmodes p flags) = false
+takes_memory (IoIdentity p q) = false
 takes_memory (FileChmod p mode) = false
 takes_memory (FileChown p owner group) = false
 takes_memory (FileCheckAccess p) = false

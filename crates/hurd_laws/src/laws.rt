@@ -1,5 +1,5 @@
 //! The laws.
-ghost use Rattle.hurd_laws.specs.Laws.{ChangesTouched, GoneUnseen, Isolated, NeverWantsMemory, OthersUnseen, OwnFromView, StaysSound};
+ghost use Rattle.hurd_laws.specs.Laws.{ChangesTouched, Confined, ConfinedRun, GoneUnseen, Isolated, NeverWantsMemory, OthersUnseen, OwnFromView, StaysSound};
 
 /// A step changes touched parts, its caller's own task and new things alone; what of the others doesn't stay is gone.
 pub fn changes_touched()
@@ -29,6 +29,16 @@ pub fn stays_sound()
 /// No call is refused for want of memory by the written machine.
 pub fn never_wants_memory()
     ensures { NeverWantsMemory }
+{}
+
+/// What a set of tasks sees after a call it saw before, or a task of the set made it in that call.
+pub fn confined()
+    ensures { Confined }
+{}
+
+/// What a set of tasks sees after a run it saw before, or a task of the set made it in that run.
+pub fn confined_run()
+    ensures { ConfinedRun }
 {}
 
 /// Where a set of tasks makes the same calls in two runs, from worlds that look the same to it, and the others touch

@@ -11,13 +11,13 @@ use Rattle.hurd_trans_iface.specs.Answers.{entry_in, entry_of}
 use Rattle.hurd_ports.specs.declared.table.Opened.{Opened}
 use Rattle.hurd_ports.specs.declared.table.Right.{Right}
 use Rattle.hurd_ports.specs.Tables.{Task, rights_of}
-use Rattle.hurd_ports.specs.Steps.{named, edit_task}
+use Rattle.hurd_ports.specs.Steps.{named, with_sent, edit_task}
 use Rattle.hurd_machine.specs.World.{World, IsAmong, task_at, open_at, header_at, body_at, home_at}
 use Rattle.hurd_machine.specs.Sight.{Holds, HasUid, Taken, SeesBody, BodyOf, OptionsOf, Sees}
-use Rattle.hurd_machine.specs.Change.{Change, EditHeader, EditBody, MakeNode, EditOpen, MakeOpen, EditTask, Settle, apply}
+use Rattle.hurd_machine.specs.Change.{Change, EditHeader, EditBody, MakeNode, EditOpen, MakeOpen, EditTask, Send, Settle, apply}
 use Rattle.hurd_machine.specs.Sound.{Coherent}
 use Rattle.hurd_machine.proofs.Nodes.{header_in, body_in, header-with_header, header-with_body, body-with_header, body-with_body, edit_reads, edit_keeps, edited_from, ByEmptiness}
-use Rattle.hurd_machine.proofs.Tasks.{edit_cases}
+use Rattle.hurd_machine.proofs.Tasks.{edit_cases, sent_cases}
 use Rattle.hurd_machine.proofs.Coherence.{HasNoEntries, IsNext, next_apart, was, Proper}
 use Rattle.hurd_machine.proofs.Frame.{IsExact}
 use Rattle.hurd_machine.proofs.Confine.{NewTo, SeenOrNew, Known, Less, Less-refl, Less-trans, RightInside, TakesLess, Inside}
@@ -45,6 +45,7 @@ May S v x (MakeNode n s node) = (S n.task.0 ≡ true) × Sees S v (OptionsOf s) 
 May S v x (EditOpen o f) = (z : Opened) → asks (f z).modes READ ≡ true → asks z.modes READ ≡ true
 May S v x (MakeOpen o z) = S o.task.0 ≡ true
 May S v x (EditTask q f) = (S q ≡ true) × ((a : Task) → task_at x q ≡ Some a → OwnMay S v x a (f a) × (HasUid S v 0 ⊎ OwnTaken S v a (f a)))
+May S v x (Send r q) = RightMay S v x r × (HasUid S v 0 ⊎ Taken S v r.ids)  -- to any task
 May S v x Settle = Unit {0}
 
 module _ (S : ℕ → Bool) (v x : World) (coherent : Coherent x) (i : Inside S v x) where
@@ -123,10 +124,24 @@ module _ (S : ℕ → Bool) (v x : World) (coherent : Coherent x) (i : Inside S 
   stepped_named y n next e =
       stepped_edit y n.task.0 (named 1) next.seat next.is_task e (omega arith) (λ r h. inl h) (inr (record { ids = inl refl; rights = λ r h. inl h }))
 
+  -- a task that was sent a right
+  sent_taken : (r : Right) (a : Task) → HasUid S v 0 ⊎ Taken S v r.ids → HasUid S v 0 ⊎ OwnTaken S v a (with_sent r a)
+  sent_taken r a (inl all) = inl all
+  sent_taken r a (inr taken) = inr (record {
+    ids = inl refl;
+    rights = λ q h. elim (sent_cases r a q h) [ inl old ↦ inl old | inr e ↦ inr (subst (λ (p : Right). Taken S v p.ids) e taken) ];
+  })
+
+  stepped_sent : (y : World) (r : Right) (q : ℕ) (a : Task) → task_at x q ≡ Some a → y.tasks ≡ edit_task q (with_sent r) x.tasks → RightMay S v x r × (HasUid S v 0 ⊎ Taken S v r.ids) → Stepped y
+  stepped_sent y r q a is e m =
+      stepped_edit y q (with_sent r) a is e (omega arith)
+      (λ p h. elim (sent_cases r a p h) [ inl old ↦ inl old | inr same ↦ inr (subst (RightMay S v x) same m.0) ]) (sent_taken r a m.1)
+
   stepped : (c : Change) → IsExact c → Proper x c → May S v x c → Stepped (apply c x)
   stepped (MakeNode n s node) ex p m = stepped_named (apply (MakeNode n s node) x) n p.0 refl
   stepped (MakeOpen o z) ex p m = stepped_named (apply (MakeOpen o z) x) o p refl
   stepped (EditTask q f) ex p m = let o = m.1 p.1 p.2 in stepped_edit (apply (EditTask q f) x) q f p.1 p.2 refl (p.0 p.1) o.0 o.1
+  stepped (Send r q) ex p m = stepped_sent (apply (Send r q) x) r q p.0 p.1 refl m
   stepped Settle ex p m = absurd ex
   stepped c ex p m = stepped_same (apply c x) refl
 

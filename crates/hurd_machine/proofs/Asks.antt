@@ -16,7 +16,7 @@ use Rattle.hurd_trans_iface.specs.Kinds.{ServerKind, behaviour_of}
 use Rattle.hurd_trans_iface.specs.Good.{IsBlind, IsPlain as IsPlainAnswer}
 use Rattle.hurd_nodes.specs.Shown.{ServerInfo, info_in, asked_of, is_root_at, is_root_of, made_by, are_kin, link_by, set_attrs_by}
 use Rattle.hurd_ports.specs.declared.table.Right.{Right}
-use Rattle.hurd_ports.specs.Tables.{Task, rights_of, or_refuse, right_in, right_at, right_of}
+use Rattle.hurd_ports.specs.Tables.{Task, rights_of, or_refuse, task_of, right_in, right_at, right_of}
 use Rattle.hurd_machine.specs.declared.call.Reply.{Reply}
 use Rattle.hurd_machine.specs.declared.call.Reply.TheVariants.{Refused}
 use Rattle.hurd_machine.specs.World.{World, IsAmong, ports_of, task_at, open_at, header_at, home_at, info_at, is_server_root, asked_at, makes_at, links_at, sets_attrs_at}
@@ -25,7 +25,7 @@ use Rattle.hurd_machine.specs.declared.handle.Handle.{Handle}
 use Rattle.hurd_machine.specs.Handle.{Named, port_asks, handle_asks}
 use Rattle.hurd_machine.specs.Sight.{Holds, Held, Seen, IsOpen, BodyOf, Sees}
 use Rattle.hurd_machine.proofs.Nodes.{header_in, body_in}
-use Rattle.hurd_machine.proofs.Rights.{right_among}
+use Rattle.hurd_machine.proofs.Rights.{right_under}
 use Rattle.hurd_machine.proofs.Views.{Agree, same_tasks, header_same, body_same, home_same, server_same, open_same}
 
 -- asked of two worlds, y of the second
@@ -120,6 +120,24 @@ module _ {S : ℕ → Bool} {v w : World} (a : Agree S v w) (t : ℕ) (ours : S 
   pub right_same : (q : ℕ) → right_of (ports_of w) t q ≡ right_of (ports_of v) t q
   right_same q = ap (right_at q) (same_tasks a t ours)
 
+  -- and the task itself
+  pub task_same : task_of (ports_of w) t ≡ task_of (ports_of v) t
+  task_same = ap (or_refuse ESRCH) (same_tasks a t ours)
+
+pub has_task : (w : World) (t : ℕ) (x : Task) → task_of (ports_of w) t ≡ Ok x → task_at w t ≡ Some x
+has_task w t x h = go (task_at w t) h
+  where
+    go : (o : Option Task) → or_refuse ESRCH o ≡ Ok x → o ≡ Some x
+    go None k = absurd (cc)
+    go (Some y) k = cc
+
+pub task_plain : (w : World) (t : ℕ) → IsPlain (task_of (ports_of w) t)
+task_plain w t = go (task_at w t)
+  where
+    go : (o : Option Task) → IsPlain (or_refuse ESRCH o)
+    go None = err_plain ESRCH refl
+    go (Some x) = ok_plain x
+
 -- the task whose right it is, under that number
 pub record HasRight (w : World) (t q : ℕ) (r : Right) : Type 0 where
   pub seat : Task
@@ -138,7 +156,7 @@ has_right w t q r h = go (task_at w t) refl h
     go None e k = absurd (cc)
     go (Some x) e k =
         let u : right_in q x.ports ≡ Some r = was_there (right_in q x.ports) r k in
-        record { seat = x; is_task = e; under = u; here = right_among q x.ports r u }
+        record { seat = x; is_task = e; under = u; here = right_under q x r u }
 
 pub holds_right : {S : ℕ → Bool} {v : World} (t : ℕ) → S t ≡ true → (q : ℕ) (r : Right) → right_of (ports_of v) t q ≡ Ok r → Holds S v r
 holds_right {S} {v} t ours q r is = let h = has_right v t q r is in record { task = t; ours = ours; seat = h.seat; is_task = h.is_task; here = h.here }

@@ -1,21 +1,23 @@
 -- What is shown of a call, and the laws of one step that follow from it.
-use Rattle.std.proofs.Common.{◌≡◌, ◌≢◌, ℕ, Bool, true, false, List, [], ◌∷◌, Some, refl, sym, ◌∙◌, ap, subst, inl, inr, true≢false}
+use Rattle.std.proofs.Common.{◌≡◌, ◌≢◌, ℕ, Bool, true, false, Some, refl, sym, ◌∙◌, ap, subst, inl, inr, true≢false}
 use Rattle.std.specs.Prelude.{Result, Ok, Err}
 use Rattle.std.specs.FinMap.{get}
 use Rattle.hurd_creds.specs.declared.name.Name.{Name}
 use Rattle.hurd_creds.specs.declared.errno.Errno.{Errno}
-use Rattle.hurd_machine.specs.World.{World, nodes_of, ports_of}
-use Rattle.hurd_machine.specs.Change.{Change, apply, apply_all}
+use Rattle.hurd_ports.specs.Tables.{Task}
+use Rattle.hurd_machine.specs.World.{World, nodes_of, task_at}
 use Rattle.hurd_machine.specs.declared.call.Reply.{Reply}
 use Rattle.hurd_machine.specs.Plan.{Plan, answered, looks, is_refused, after_plan}
-use Rattle.hurd_machine.specs.Sight.{Part, AttrOf, EmptyOf, BodyOf, OpenOf, OptionsOf, UsersOf, TaskOf, Sees, part, SameView}
+use Rattle.hurd_machine.specs.Sight.{Part, AttrOf, EmptyOf, BodyOf, OpenOf, OptionsOf, UsersOf, TaskOf, Seen, Sees, SameView}
 use Rattle.hurd_machine.specs.Sound.{Below, Coherent, AreSized, Linked, AtRest, Sound}
 use Rattle.hurd_machine.specs.Touched.{asked_parts, Nothing}
 use Rattle.hurd_machine.proofs.Coherence.{AllProper, coherent_all}
 use Rattle.hurd_machine.proofs.Frame.{IsUnnamed, Full, AllWithin, AsBefore, untouched, unseen_from}
 use Rattle.hurd_machine.proofs.Views.{Agree, Agree-refl, view_of, agree_of}
 use Rattle.hurd_machine.proofs.Asks.{IsPlainReply, answered_all, IsPlain, answered_plain, answered_same, done_plain}
-use Rattle.hurd_machine.proofs.Confine.{seen_old}
+use Rattle.hurd_machine.proofs.Confine.{SeenOrNew, seen_old}
+use Rattle.hurd_machine.proofs.Confined.{Grown, grown}
+use Rattle.hurd_machine.proofs.Confined as changes
 use Rattle.hurd_machine.proofs.Several.{AllMay, agree_after}
 
 -- of a call of task t, which plans this and touches these parts
@@ -121,3 +123,11 @@ module _ (t : ℕ) (plan : World → Plan) (touches : World → Part → Type 0)
 
   pub stays_sound : (w : World) → Sound w → Sound (after w)
   stays_sound w s = record { coherent = coherent_all (plan w).changes w s.coherent (l.proper w s); linked = l.linked w s; sizes = l.sized w s; settled = l.rests w s }
+
+  -- where S has its task, S sees afterwards what it saw, and what its task made
+  pub confined : (S : ℕ → Bool) (w : World) → Sound w → S t ≡ true → (n : Name) → Seen S (after w) n → SeenOrNew S w n
+  confined S w s ours n seen = changes.confined S w (plan w).changes s.coherent (l.proper w s) (l.may S w s.coherent ours) n seen
+
+  -- no task has named less
+  pub names_grow : (w : World) → Sound w → (q : ℕ) (y : Task) → task_at (after w) q ≡ Some y → Grown w q y
+  names_grow w s q y at = grown (plan w).changes w s.coherent (l.proper w s) q y at

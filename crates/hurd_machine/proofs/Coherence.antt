@@ -19,13 +19,13 @@ use Rattle.hurd_ports.specs.declared.table.Opened.{Opened}
 use Rattle.hurd_ports.specs.declared.table.Right.{Right}
 use Rattle.hurd_ports.specs.declared.table.Port.{Port}
 use Rattle.hurd_ports.specs.Tables.{Task, OpenMap, rights_of}
-use Rattle.hurd_ports.specs.Steps.{named, edit_task}
+use Rattle.hurd_ports.specs.Steps.{named, with_sent, edit_task}
 use Rattle.hurd_machine.specs.World.{World, IsAmong, boot_root, nodes_of, task_at, open_at, header_at, body_at, home_at, server_at, info_at, is_of, lists, lists_at}
-use Rattle.hurd_machine.specs.Change.{Change, EditHeader, EditBody, MakeNode, EditOpen, MakeOpen, EditTask, Settle, stays, settle, apply, apply_all}
+use Rattle.hurd_machine.specs.Change.{Change, EditHeader, EditBody, MakeNode, EditOpen, MakeOpen, EditTask, Send, Settle, stays, settle, apply, apply_all}
 use Rattle.hurd_machine.specs.Sound.{Below, AreDistinct, HasDistinctNames, AreGiven, AreHoused, IsTree, AreTables, Coherent, LeadsUp, AtRoot, Above, Linked}
 use Rattle.hurd_machine.proofs.Nodes.{header_in, body_in, body-with_header, edit_keeps, edited_from, node_of_header}
 use Rattle.hurd_machine.proofs.Listed.{entered_by}
-use Rattle.hurd_machine.proofs.Tasks.{edit_cases, edit_here as task_here, below_edit}
+use Rattle.hurd_machine.proofs.Tasks.{edit_cases, edit_here as task_here, below_edit, sent_cases}
 use Rattle.hurd_machine.proofs.Holders.{held_by_right, held_stays, left_over}
 use Rattle.hurd_machine.proofs.Stays.{stays_root, stays_as_root, stays_entered, node_still, home_still, root_still, node_left, home_left, header_left, lists_left, no_home_left}
 
@@ -100,6 +100,7 @@ Proper w (MakeNode n s node) = IsNext w n × GoodNode w s node
 Proper w (EditOpen o f) = (z : Opened) → asks (f z).modes WRITE ≡ true → asks z.modes WRITE ≡ true
 Proper w (MakeOpen o z) = IsNext w o
 Proper w (EditTask q f) = ((x : Task) → x.made ≤ (f x).made) × (x : Task) × (task_at w q ≡ Some x) × Table w x (f x)
+Proper w (Send r q) = (x : Task) × (task_at w q ≡ Some x) × FineRight w r
 Proper w Settle = Linked (nodes_of w)
 
 -- each change is proper in the world that the ones before it leave
@@ -382,6 +383,10 @@ module _ (w : World) (c : Coherent w) (q : ℕ) (f : Task → Task) (up : (x : T
 
   task_coherent : Coherent retabled
   task_coherent = record { given = task_given; housing = c.housing; tree = c.tree; tables = task_tables }
+
+-- with a right more in an inbox
+sent_table : (w : World) → Coherent w → (q : ℕ) (r : Right) (x : Task) → task_at w q ≡ Some x → FineRight w r → Table w x (with_sent r x)
+sent_table w c q r x is fine = record { new = Some r; fine = fine; rights = sent_cases r x; numbers = λ p h. c.tables.numbers q x p is h }
 
 -- with opens changed or made
 
@@ -683,6 +688,7 @@ coherent_one (MakeOpen o z) w c p =
     reopened (named_world w c o p 1) (insert w.opens o z) (named_coherent w c o p 1)
     (open_made (named_world w c o p 1) (named_coherent w c o p 1) o z (named_below w c o p 1 o refl (omega arith)) (unopened w c o p 1 o (next_not w o p)))
 coherent_one (EditTask q f) w s p = task_coherent w s q f p.0 p.1 p.2 p.3
+coherent_one (Send r q) w s p = task_coherent w s q (with_sent r) (λ x. omega arith) p.0 p.1 (sent_table w s q r p.0 p.1 p.2)
 coherent_one Settle w c p = settle_coherent w c p
 
 pub coherent_all : (cs : List Change) (w : World) → Coherent w → AllProper w cs → Coherent (apply_all cs w)

@@ -7,14 +7,14 @@ use Rattle.hurd_creds.proofs.NameLaws.{same_name-apart, get_apart, edit_apart as
 use Rattle.hurd_trans_iface.specs.Nodes.{with_header, with_body, is_empty_dir}
 use Rattle.hurd_ports.specs.declared.table.Right.{Right}
 use Rattle.hurd_ports.specs.Tables.{Task, rights_of, names_open}
-use Rattle.hurd_ports.specs.Steps.{named, edit_task}
+use Rattle.hurd_ports.specs.Steps.{named, with_sent, edit_task}
 use Rattle.hurd_ports.proofs.TaskLaws.{edit-apart, edit-length}
 use Rattle.hurd_machine.specs.World.{World, IsAmong, task_at, open_at, header_at, body_at, home_at}
-use Rattle.hurd_machine.specs.Sight.{Part, AttrOf, EmptyOf, BodyOf, OpenOf, OptionsOf, UsersOf, TaskOf, Sees, part, IsGone, count_list, count_rights, is_home, is_on, holders, users, AnAttr, AnEmpty, ABody, AnOpen, AnOptions, AUsers, ATask}
-use Rattle.hurd_machine.specs.Change.{Change, EditHeader, EditBody, MakeNode, EditOpen, MakeOpen, EditTask, Settle, settle, apply, apply_all}
+use Rattle.hurd_machine.specs.Sight.{Part, AttrOf, EmptyOf, BodyOf, OpenOf, OptionsOf, UsersOf, TaskOf, Sees, part, IsGone, one_if, count_list, count_rights, is_home, is_on, holders, users, AnAttr, AnEmpty, ABody, AnOpen, AnOptions, AUsers, ATask}
+use Rattle.hurd_machine.specs.Change.{Change, EditHeader, EditBody, MakeNode, EditOpen, MakeOpen, EditTask, Send, Settle, settle, apply, apply_all}
 use Rattle.hurd_machine.specs.Sound.{Below, Coherent, AtRest, Sound}
 use Rattle.hurd_machine.proofs.Nodes.{header_in, body_in, empty_in, header-with_body, body-with_header, edit_keeps, KeepsEmptiness, empty-kept}
-use Rattle.hurd_machine.proofs.Tasks.{count_edit, count_named, count_alike}
+use Rattle.hurd_machine.proofs.Tasks.{count_edit, count_named, count_alike, count_sent}
 use Rattle.hurd_machine.proofs.Coherence.{IsNext, next_not, unnoded, Proper, AllProper, coherent_one}
 use Rattle.hurd_machine.proofs.Views.{Agree, Agree-trans}
 use Rattle.hurd_machine.proofs.Settle.{settle_part, settle_gone, settle_agrees}
@@ -36,6 +36,7 @@ Within T w (MakeNode n s node) = T (TaskOf n.task.0) × T (AttrOf n) × T (Empty
 Within T w (EditOpen o f) = T (OpenOf o)
 Within T w (MakeOpen o z) = T (TaskOf o.task.0) × T (OpenOf o)
 Within T w (EditTask q f) = T (TaskOf q) × ((x : Task) → task_at w q ≡ Some x → Moved T w x (f x))
+Within T w (Send r q) = T (TaskOf q) × Covers T w r
 Within T w Settle = Unit {0}
 
 abbrev pub AllWithin : (Part → Type 0) → World → List Change → Type 0
@@ -133,6 +134,11 @@ module _ (w : World) (coherent : Coherent w) (T : Part → Type 0) where
       let e = count_edit (names_open o) q f w.tasks p.1 p.2 in
       let m = (i.1 p.1 p.2).opens o h in
       omega arith
+  holders_kept (Send r q) ex p o i h =
+      let e = count_edit (names_open o) q (with_sent r) w.tasks p.0 p.1 in
+      let more = count_sent (names_open o) r p.0 in
+      let none = ap one_if (not_named w o r T i.1 h) in
+      omega arith
   holders_kept (MakeNode n s node) ex p o i h = count_named (names_open o) n.task.0 1 w.tasks p.0.seat p.0.is_task
   holders_kept (MakeOpen n z) ex p o i h = count_named (names_open o) n.task.0 1 w.tasks p.seat p.is_task
   holders_kept Settle ex p o i h = absurd ex
@@ -143,6 +149,11 @@ module _ (w : World) (coherent : Coherent w) (T : Part → Type 0) where
       let e = count_edit (is_on w s) q f w.tasks p.1 p.2 in
       let m = (i.1 p.1 p.2).users s h in
       omega arith
+  users_kept (Send r q) ex p s i h =
+      let e = count_edit (is_on w s) q (with_sent r) w.tasks p.0 p.1 in
+      let more = count_sent (is_on w s) r p.0 in
+      let none = ap one_if (not_on w s r T i.1 h) in
+      omega arith
   users_kept (MakeNode n q node) ex p s i h = users_named w (apply (MakeNode n q node) w) coherent n p.0 1 n q (next_not w n p.0) refl refl s
   users_kept (MakeOpen n z) ex p s i h = count_named (is_on w s) n.task.0 1 w.tasks p.seat p.is_task
   users_kept Settle ex p s i h = absurd ex
@@ -150,6 +161,7 @@ module _ (w : World) (coherent : Coherent w) (T : Part → Type 0) where
 
   task_kept : (c : Change) (q : ℕ) → Within T w c → (T (TaskOf q) → ⊥) → task_at (apply c w) q ≡ task_at w q
   task_kept (EditTask k f) q i h = edit-apart k f w.tasks q (λ e. avoids (TaskOf q) (TaskOf k) i.0 h (ap TaskOf e))
+  task_kept (Send r k) q i h = edit-apart k (with_sent r) w.tasks q (λ e. avoids (TaskOf q) (TaskOf k) i.0 h (ap TaskOf e))
   task_kept (MakeNode n s node) q i h = edit-apart n.task.0 (named 1) w.tasks q (λ e. avoids (TaskOf q) (TaskOf n.task.0) i.0 h (ap TaskOf e))
   task_kept (MakeOpen n z) q i h = edit-apart n.task.0 (named 1) w.tasks q (λ e. avoids (TaskOf q) (TaskOf n.task.0) i.0 h (ap TaskOf e))
   task_kept c q i h = refl
@@ -199,6 +211,7 @@ untouched T w t cs p s pr i out other old =
 -- no change makes a task or takes one out
 pub length_one : (c : Change) (w : World) → length (apply c w).tasks ≡ length w.tasks
 length_one (EditTask q f) w = edit-length q f w.tasks
+length_one (Send r q) w = edit-length q (with_sent r) w.tasks
 length_one (MakeNode n s node) w = edit-length n.task.0 (named 1) w.tasks
 length_one (MakeOpen o z) w = edit-length o.task.0 (named 1) w.tasks
 length_one Settle w = refl

@@ -11,10 +11,12 @@ pub mod Views
 pub mod Settle
 pub mod Frame
 pub mod Asks
+pub mod BothLaws
 pub mod Confine
 pub mod Allowed
 pub mod Mirror
 pub mod Several
+pub mod Confined
 pub mod Permits
 pub mod CallLaws
 pub mod Sizes
@@ -22,6 +24,9 @@ pub mod Links
 pub mod Relinks
 pub mod Moves
 pub mod Opens
+pub mod Sharing
+pub mod Sending
+pub mod Taking
 pub mod Edits
 pub mod Attrs
 pub mod Makes

@@ -18,8 +18,8 @@ use Rattle.hurd_machine.specs.Sight.{one_if}
 use Rattle.hurd_machine.specs.Sound.{Below, Coherent, times_in, times_listed, LeadsUp, AtRoot, Above, Hangs, Linked}
 use Rattle.hurd_machine.proofs.Nodes.{header_in, body_in, edited_from, edit_keeps, edit_reads, header-with_header, header-with_body, body-with_header, body-with_body}
 use Rattle.hurd_machine.proofs.Tasks.{count_append}
-use Rattle.hurd_machine.proofs.Listed.{lists_counted, times_edited}
-use Rattle.hurd_machine.proofs.Sums.{of_found, total_insert, total_edit, total_kept, total_none, total_retained}
+use Rattle.hurd_machine.proofs.Listed.{lists_counted}
+use Rattle.hurd_machine.proofs.Sums.{of_found, total_insert, total_kept, total_none, total_retained}
 use Rattle.hurd_machine.proofs.Stays.{stays_as_root, node_still, root_still, info_still, header_left, lists_left}
 use Rattle.hurd_machine.proofs.Coherence.{HasNoEntries, apply_all-append, leads_stays}
 

@@ -7,14 +7,14 @@ use Rattle.hurd_creds.proofs.NameLaws.{same_or_apart, edit_apart}
 use Rattle.hurd_trans_iface.specs.Nodes.{with_header, with_body, is_empty_dir}
 use Rattle.hurd_ports.specs.declared.table.Right.{Right}
 use Rattle.hurd_ports.specs.Tables.{Task, rights_of, names_open}
-use Rattle.hurd_ports.specs.Steps.{named, edit_task}
+use Rattle.hurd_ports.specs.Steps.{named, with_sent, edit_task}
 use Rattle.hurd_machine.specs.World.{World, IsAmong, task_at, open_at, header_at, body_at, home_at, server_at}
-use Rattle.hurd_machine.specs.Sight.{Part, AttrOf, EmptyOf, BodyOf, OpenOf, OptionsOf, UsersOf, TaskOf, part, count_rights, is_home, holders, is_on, users}
+use Rattle.hurd_machine.specs.Sight.{Part, AttrOf, EmptyOf, BodyOf, OpenOf, OptionsOf, UsersOf, TaskOf, part, one_if, count_rights, is_home, holders, is_on, users}
 use Rattle.hurd_machine.specs.Sight.{AnAttr, AnEmpty, ABody, AnOpen, AnOptions, AUsers, ATask}
-use Rattle.hurd_machine.specs.Change.{Change, EditHeader, EditBody, MakeNode, EditOpen, MakeOpen, EditTask, Settle, apply}
+use Rattle.hurd_machine.specs.Change.{Change, EditHeader, EditBody, MakeNode, EditOpen, MakeOpen, EditTask, Send, Settle, apply}
 use Rattle.hurd_machine.specs.Sound.{Coherent}
 use Rattle.hurd_machine.proofs.Nodes.{header_in, body_in, empty_in, header-with_header, header-with_body, body-with_header, body-with_body, edit_alike, insert_alike, ByEmptiness, edit_empty_alike}
-use Rattle.hurd_machine.proofs.Tasks.{edit_here, edit_same, count_edit, count_named, list_alike}
+use Rattle.hurd_machine.proofs.Tasks.{edit_here, edit_same, count_edit, count_named, list_alike, count_sent}
 use Rattle.hurd_machine.proofs.Coherence.{next_not, Proper}
 use Rattle.hurd_machine.proofs.Frame.{IsExact, users_named}
 use Rattle.hurd_machine.proofs.Confine.{SeenOrNew, Known, RightInside, Inside}
@@ -76,6 +76,7 @@ module _ (x y : World) where
 
   task_alike : (c : Change) → IsExact c → (q : ℕ) → task_at y q ≡ task_at x q → task_at (apply c y) q ≡ task_at (apply c x) q
   task_alike (EditTask k f) ex q h = edit_same k f x.tasks y.tasks q h
+  task_alike (Send r k) ex q h = edit_same k (with_sent r) x.tasks y.tasks q h
   task_alike (MakeNode n s node) ex q h = edit_same n.task.0 (named 1) x.tasks y.tasks q h
   task_alike (MakeOpen o z) ex q h = edit_same o.task.0 (named 1) x.tasks y.tasks q h
   task_alike Settle ex q h = absurd ex
@@ -101,12 +102,24 @@ module _ (S : ℕ → Bool) (v x y : World) (before : Inside S v x) (cx : Cohere
       let two = list_alike U T (rights_of (f a)) now in
       omega arith
 
+  -- and of a task that is sent a right, whoever it is
+  counts_sent : (q : ℕ) (r : Right) (T U : Right → Bool) (a b : Task) → task_at x q ≡ Some a → task_at y q ≡ Some b → U r ≡ T r
+      → count_rights U y.tasks ≡ count_rights T x.tasks → count_rights U (edit_task q (with_sent r) y.tasks) ≡ count_rights T (edit_task q (with_sent r) x.tasks)
+  counts_sent q r T U a b isx isy same e =
+      let ex = count_edit T q (with_sent r) x.tasks a isx in
+      let ey = count_edit U q (with_sent r) y.tasks b isy in
+      let sx = count_sent T r a in
+      let sy = count_sent U r b in
+      let one = ap one_if same in
+      omega arith
+
   emptiness : (c : Change) → May S v x c → EmptinessSettled x y c
   emptiness (EditBody n g) m = elim m.0 [ inl by ↦ inl by | inr known ↦ inr (let e = alike.parts (BodyOf n) known in cc) ]
   emptiness c m = tt
 
   holders_alike : (c : Change) → IsExact c → Proper x c → Proper y c → May S v x c → (o : Name) → holders y o ≡ holders x o → holders (apply c y) o ≡ holders (apply c x) o
   holders_alike (EditTask q f) ex px py m o e = counts_own q f (names_open o) (names_open o) px.1 py.1 m.0 px.2 py.2 (λ r i. refl) (λ r i. refl) e
+  holders_alike (Send r q) ex px py m o e = counts_sent q r (names_open o) (names_open o) px.0 py.0 px.1 py.1 refl e
   holders_alike (MakeNode n s node) ex px py m o e =
       count_named (names_open o) n.task.0 1 y.tasks py.0.seat py.0.is_task ∙ e ∙ sym (count_named (names_open o) n.task.0 1 x.tasks px.0.seat px.0.is_task)
   holders_alike (MakeOpen n z) ex px py m o e =
@@ -120,6 +133,7 @@ module _ (S : ℕ → Bool) (v x y : World) (before : Inside S v x) (cx : Cohere
       (λ r i. same_side s r (before.held r (record { task = q; ours = m.0; seat = px.1; is_task = px.2; here = i })))
       (λ r i. same_side s r (after.held r (record { task = q; ours = m.0; seat = f px.1; is_task = edit_here q f x.tasks px.1 px.2; here = i })))
       e
+  users_alike (Send r q) ex px py m after s e = counts_sent q r (is_on x s) (is_on y s) px.0 py.0 px.1 py.1 (same_side s r m.0.inside) e
   users_alike (MakeNode n q node) ex px py m after s e =
       users_named y (apply (MakeNode n q node) y) cy n py.0 1 n q (next_not y n py.0) refl refl s ∙ e
       ∙ sym (users_named x (apply (MakeNode n q node) x) cx n px.0 1 n q (next_not x n px.0) refl refl s)

@@ -1,20 +1,21 @@
 -- A port on a node with a new open, and a port that goes: as pieces of any call.
-use Rattle.std.proofs.Common.{◌≡◌, ℕ, ◌<◌, ◌≤◌, true, false, [], ◌∷◌, Some, sym, refl, ◌∙◌, ap, inl, inr, arith}
+use Rattle.std.proofs.Common.{◌≡◌, ℕ, ◌<◌, ◌≤◌, Bool, true, false, List, [], ◌∷◌, Some, sym, refl, ◌∙◌, ap, inl, inr, arith}
 use Rattle.std.specs.FinMap.{get, insert}
 use Rattle.hurd_creds.specs.declared.name.Name.{Name}
 use Rattle.hurd_creds.specs.declared.open_flags.OpenFlags.{OpenFlags}
 use Rattle.hurd_creds.specs.Access.{IdSets}
 use Rattle.hurd_creds.specs.Bits.{asks, WRITE}
 use Rattle.hurd_creds.proofs.NameLaws.{get_here}
+use Rattle.hurd_creds.proofs.AppendLaws.{append_write}
 use Rattle.hurd_trans_iface.specs.Nodes.{Header, is_dir}
 use Rattle.hurd_ports.specs.declared.table.Opened.{Opened}
 use Rattle.hurd_ports.specs.declared.table.Right.{Right}
 use Rattle.hurd_ports.specs.Tables.{Task, names_open, right_in, fresh}
-use Rattle.hurd_ports.specs.Steps.{named, without_port, new_open, new_right, at_cursor}
+use Rattle.hurd_ports.specs.Steps.{named, without_port, new_open, new_right, at_cursor, appending}
 use Rattle.hurd_machine.specs.World.{World, nodes_of, task_at, header_at}
 use Rattle.hurd_machine.specs.Sight.{Part, OpenOf, UsersOf, TaskOf, is_on}
 use Rattle.hurd_machine.specs.Touched.{OnNode, OnRight}
-use Rattle.hurd_machine.specs.Change.{EditTask, MakeOpen, EditOpen, apply, opening, dropping}
+use Rattle.hurd_machine.specs.Change.{Change, EditTask, MakeOpen, EditOpen, apply, opening, dropping}
 use Rattle.hurd_machine.specs.Sound.{Below, Coherent, Linked}
 use Rattle.hurd_machine.proofs.Tasks.{edit_here}
 use Rattle.hurd_machine.proofs.Coherence.{IsNext, FineRight, AllProper, named_below, named_still, unopened, coherent_one}
@@ -147,3 +148,24 @@ cursor_sized w o k = sized_ports (EditOpen o (at_cursor k) ∷ []) w (tt, tt)
 
 pub cursor_linked : (w : World) (o : Name) (k : ℕ) → KeepsLinked w (EditOpen o (at_cursor k) ∷ [])
 cursor_linked w o k = linked_steady (EditOpen o (at_cursor k) ∷ []) w (tt, tt)
+
+-- an open gets APPEND, or loses it
+
+module _ (o : Name) (append : Bool) where
+  abbrev appends : List Change
+  appends = EditOpen o (appending append) ∷ []
+
+  pub append_within : (T : Part → Type 0) (w : World) → T (OpenOf o) → AllWithin T w appends
+  append_within T w part = (part, tt)
+
+  pub append_proper : (w : World) → AllProper w appends
+  append_proper w = (λ z h. sym (append_write append z.modes) ∙ h, λ c. tt)
+
+  pub append_rests : (w : World) → Rests w appends
+  append_rests w = rests_quiet appends w (tt, tt)
+
+  pub append_sized : (w : World) → KeepsSized w appends
+  append_sized w = sized_ports appends w (tt, tt)
+
+  pub append_linked : (w : World) → KeepsLinked w appends
+  append_linked w = linked_steady appends w (tt, tt)

@@ -10,13 +10,14 @@ use Rattle.hurd_creds.specs.Access.{IdSets}
 use Rattle.hurd_creds.specs.Bits.{asks, READ}
 use Rattle.hurd_creds.specs.Names.{name_of}
 use Rattle.hurd_creds.proofs.NameLaws.{get_here}
+use Rattle.hurd_creds.proofs.AppendLaws.{append_read}
 use Rattle.hurd_trans_iface.specs.Nodes.{Entry, Header, Body, Content, Listing, is_empty_dir, on_bytes, with_entry, with_size}
 use Rattle.hurd_trans_iface.specs.Answers.{entry_in, entry_of}
 use Rattle.hurd_trans_iface.specs.Behaviour.{Did, edit_bytes, edit_size, edits_of}
 use Rattle.hurd_ports.specs.declared.table.Opened.{Opened}
 use Rattle.hurd_ports.specs.declared.table.Right.{Right}
 use Rattle.hurd_ports.specs.Tables.{Task, fresh}
-use Rattle.hurd_ports.specs.Steps.{new_open, new_right, at_cursor}
+use Rattle.hurd_ports.specs.Steps.{new_open, new_right, at_cursor, appending}
 use Rattle.hurd_machine.specs.World.{World, task_at, header_at}
 use Rattle.hurd_machine.specs.Sight.{HasUid, Taken, Could, Owns, Allowed, SeesBody}
 use Rattle.hurd_machine.specs.Change.{Change, EditBody, EditOpen, MakeOpen, Settle, apply, apply_all, changes_of, opening, dropping}
@@ -87,6 +88,10 @@ dropping_may S v x t p ours = ((ours, λ a at. (λ r h. inl (without_rights p a 
 -- nor does a cursor
 pub cursor_may : (S : ℕ → Bool) (v x : World) (o : Name) (k : ℕ) → AllMay S v x (EditOpen o (at_cursor k) ∷ [])
 cursor_may S v x o k = (λ z h. h, tt)
+
+-- nor APPEND
+pub append_may : (S : ℕ → Bool) (v x : World) (o : Name) (append : Bool) → AllMay S v x (EditOpen o (appending append) ∷ [])
+append_may S v x o append = (λ z h. sym (append_read append z.modes) ∙ h, tt)
 
 -- a server's edits of a node's bytes and size: they add no entry, empty no directory and open nothing
 

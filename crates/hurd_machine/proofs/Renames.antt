@@ -1,5 +1,5 @@
 -- An entry goes to another directory, or gets another name, as a piece of any call: what it takes, and what it keeps.
-use Rattle.std.proofs.Common.{◌≡◌, ◌≢◌, ◌⊎◌, ◌∙◌, ℕ, ◌+◌, ◌≤◌, Bool, true, false, cond, if◌then◌else◌, List, [], ◌∷◌, Option, Some, None, sym, refl, ap, subst, inl, inr, arith}
+use Rattle.std.proofs.Common.{◌≡◌, ◌≢◌, ◌⊎◌, ◌∙◌, ℕ, Bool, true, false, cond, if◌then◌else◌, List, [], ◌∷◌, Option, Some, None, sym, refl, ap, subst, inl, inr}
 use Rattle.std.specs.Option.{option_map}
 use Rattle.std.specs.Str.{bytes_eq}
 use Rattle.std.specs.FinMap.{get}
@@ -13,11 +13,11 @@ use Rattle.hurd_trans_iface.specs.Good.{GoodBehaviour}
 use Rattle.hurd_trans_iface.specs.Kinds.{ServerKind, behaviour_of}
 use Rattle.hurd_machine.specs.World.{World, nodes_of, header_at, body_at, home_at, lists_at}
 use Rattle.hurd_machine.specs.Sight.{Part, AttrOf, EmptyOf, BodyOf, Seen, Sees, Could, Owns, Allowed}
-use Rattle.hurd_machine.specs.Change.{Change, EditHeader, EditBody, Settle, apply, apply_all}
+use Rattle.hurd_machine.specs.Change.{Change, EditHeader, EditBody, Settle, apply}
 use Rattle.hurd_machine.specs.Sound.{Below, AreDistinct, HasDistinctNames, Coherent, Linked, LeadsUp}
 use Rattle.hurd_machine.proofs.Nodes.{header_in, body_in, edit_keeps, edit_reads, header-with_header, header-with_body, body-with_header, body-with_body}
 use Rattle.hurd_machine.proofs.Listed.{dir_kind}
-use Rattle.hurd_machine.proofs.Coherence.{IsEntry, MayMove, Proper, AllProper, coherent_all, entry_lists, header_old, entry_old}
+use Rattle.hurd_machine.proofs.Coherence.{IsEntry, MayMove, Proper, AllProper, coherent_all, entry_lists, header_old}
 use Rattle.hurd_machine.proofs.Settle.{Rests, rests_settle}
 use Rattle.hurd_machine.proofs.Frame.{AllWithin}
 use Rattle.hurd_machine.proofs.Sizes.{KeepsSized, sized_append, sized_header, sized_entry, sized_removed, sized_settle}

@@ -1,9 +1,10 @@
 -- Tables of ports: which rights they have after each change of a task, and how many pass a test.
 use Rattle.std.proofs.Common.{◌≡◌, ◌⊎◌, ℕ, ◌+◌, ◌<◌, ◌==◌, Bool, true, false, List, [], ◌∷◌, ◌++◌, map, Some, None, sym, refl, ap, subst, inl, inr, arith}
+use Rattle.hurd_creds.specs.Access.{IdSets}
 use Rattle.hurd_ports.specs.declared.table.Right.{Right}
 use Rattle.hurd_ports.specs.declared.table.Port.{Port}
 use Rattle.hurd_ports.specs.Tables.{Task, rights_of, right_in}
-use Rattle.hurd_ports.specs.Steps.{named, with_port, without_port, ports_without}
+use Rattle.hurd_ports.specs.Steps.{named, with_ids, with_port, without_port, ports_without, received}
 use Rattle.hurd_machine.specs.World.{World, IsAmong, task_at}
 use Rattle.hurd_machine.specs.Sight.{one_if, count_list}
 use Rattle.hurd_machine.specs.Sound.{Coherent}
@@ -14,13 +15,16 @@ abbrev pub right_of_port : Port → Right
 right_of_port p = p.right
 
 -- the right under a number is one of the table
-pub right_among : (p : ℕ) (ps : List Port) (r : Right) → right_in p ps ≡ Some r → IsAmong r (map right_of_port ps)
+right_among : (p : ℕ) (ps : List Port) (r : Right) → right_in p ps ≡ Some r → IsAmong r (map right_of_port ps)
 right_among p [] r = λ h. absurd (cc)
 right_among p (x ∷ ps) r = go (p == x.number) refl (right_among p ps r)
   where
     go : (b : Bool) → (p == x.number) ≡ b → (right_in p ps ≡ Some r → IsAmong r (map right_of_port ps)) → right_in p (x ∷ ps) ≡ Some r → IsAmong r (map right_of_port (x ∷ ps))
     go true e ih h = let k : Some x.right ≡ Some r = rw e at h in inl cc
     go false e ih h = inr (ih (rw e at h))
+
+pub right_under : (p : ℕ) (x : Task) (r : Right) → right_in p x.ports ≡ Some r → IsAmong r (rights_of x)
+right_under p x r is = among_left r (map right_of_port x.ports) x.inbox (right_among p x.ports r is)
 
 -- a task that named things
 
@@ -38,10 +42,13 @@ among_without p (x ∷ ps) q = go (p == x.number) refl (among_without p ps q)
     go false e ih h = elim (rw e at h) [ inl k ↦ inl k | inr k ↦ inr (ih k) ]
 
 pub without_rights : (p : ℕ) (x : Task) (r : Right) → IsAmong r (rights_of (without_port p x)) → IsAmong r (rights_of x)
-without_rights p x r h =
-    let q = among_map right_of_port r (ports_without p x.ports) h in
-    let old = among_mapped right_of_port q.0 x.ports (among_without p x.ports q.0 q.1) in
-    subst (λ z. IsAmong z (map right_of_port x.ports)) q.2 old
+without_rights p x r h = elim (among_cases r (map right_of_port (ports_without p x.ports)) x.inbox h) [
+  | inl k ↦
+      let q = among_map right_of_port r (ports_without p x.ports) k in
+      let old = among_mapped right_of_port q.0 x.ports (among_without p x.ports q.0 q.1) in
+      among_left r (map right_of_port x.ports) x.inbox (subst (λ z. IsAmong z (map right_of_port x.ports)) q.2 old)
+  | inr k ↦ among_right r (map right_of_port x.ports) x.inbox k
+]
 
 pub without_table : (w : World) → Coherent w → (t p : ℕ) (x : Task) → task_at w t ≡ Some x → Table w x (without_port p x)
 without_table w c t p x is = record {
@@ -62,10 +69,14 @@ count_without T p (x ∷ ps) r = go (p == x.number) refl (count_without T p ps r
     go false e ih h = let rest = ih (rw e at h) in rw e (omega (arith, rest))
 
 pub count_dropped : (T : Right → Bool) (p : ℕ) (x : Task) (r : Right) → right_in p x.ports ≡ Some r → count_list T (rights_of x) ≡ one_if (T r) + count_list T (rights_of (without_port p x))
-count_dropped T p x r is = count_without T p x.ports r is
+count_dropped T p x r is =
+    let one = count_without T p x.ports r is in
+    let all = count_append T (map right_of_port x.ports) x.inbox in
+    let left = count_append T (map right_of_port (ports_without p x.ports)) x.inbox in
+    omega arith
 
 pub without_counts : (T : Right → Bool) (p : ℕ) (x : Task) (r : Right) → right_in p x.ports ≡ Some r → T r ≡ false → count_list T (rights_of (without_port p x)) ≡ count_list T (rights_of x)
-without_counts T p x r is out = let all = count_without T p x.ports r is in let none = ap one_if out in omega arith
+without_counts T p x r is out = let all = count_dropped T p x r is in let none = ap one_if out in omega arith
 
 -- a port comes
 
@@ -73,35 +84,46 @@ push_rights : (ps : List Port) (q : Port) → map right_of_port (ps ++ q ∷ [])
 push_rights [] q = refl
 push_rights (x ∷ ps) q = ap (λ (rs : List Right). x.right ∷ rs) (push_rights ps q)
 
+-- the right of a port that comes stands before the inbox
+abbrev port_split : Right → Task → List Right
+port_split r x = (map right_of_port x.ports ++ r ∷ []) ++ x.inbox
+
+port_splits : (r : Right) (x : Task) → rights_of (with_port r x) ≡ port_split r x
+port_splits r x = ap (λ (rs : List Right). rs ++ x.inbox) (push_rights x.ports (record { number = x.next; right = r }))
+
 pub port_rights : (r : Right) (x : Task) (q : Right) → IsAmong q (rights_of (with_port r x)) → IsAmong q (rights_of x) ⊎ (r ≡ q)
 port_rights r x q h =
-    elim (among_cases q (map right_of_port x.ports) (r ∷ []) (subst (λ (rs : List Right). IsAmong q rs) (push_rights x.ports (record { number = x.next; right = r })) h)) [
-      | inl old ↦ inl old
-      | inr new ↦ elim new [ inl e ↦ inr e | inr out ↦ absurd out ]
+    elim (among_cases q (map right_of_port x.ports ++ r ∷ []) x.inbox (subst (λ (rs : List Right). IsAmong q rs) (port_splits r x) h)) [
+      | inl of_ports ↦ elim (among_cases q (map right_of_port x.ports) (r ∷ []) of_ports) [
+        | inl old ↦ inl (among_left q (map right_of_port x.ports) x.inbox old)
+        | inr new ↦ elim new [ inl e ↦ inr e | inr out ↦ absurd out ]
+      ]
+      | inr sent ↦ inl (among_right q (map right_of_port x.ports) x.inbox sent)
     ]
 
 -- the rights that it had it has
 pub port_keeps : (r : Right) (x : Task) (q : Right) → IsAmong q (rights_of x) → IsAmong q (rights_of (with_port r x))
-port_keeps r x q h =
-    subst (λ (rs : List Right). IsAmong q rs) (sym (push_rights x.ports (record { number = x.next; right = r }))) (among_left q (map right_of_port x.ports) (r ∷ []) h)
+port_keeps r x q h = subst (λ (rs : List Right). IsAmong q rs) (sym (port_splits r x)) (elim (among_cases q (map right_of_port x.ports) x.inbox h) [
+  | inl k ↦ among_left q (map right_of_port x.ports ++ r ∷ []) x.inbox (among_left q (map right_of_port x.ports) (r ∷ []) k)
+  | inr k ↦ among_right q (map right_of_port x.ports ++ r ∷ []) x.inbox k
+])
 
 -- and the new one
 pub port_has : (r : Right) (x : Task) → IsAmong r (rights_of (with_port r x))
 port_has r x =
-    subst (λ (rs : List Right). IsAmong r rs) (sym (push_rights x.ports (record { number = x.next; right = r }))) (among_right r (map right_of_port x.ports) (r ∷ []) (inl refl))
+    subst (λ (rs : List Right). IsAmong r rs) (sym (port_splits r x))
+    (among_left r (map right_of_port x.ports ++ r ∷ []) x.inbox (among_right r (map right_of_port x.ports) (r ∷ []) (inl refl)))
 
 pub port_counted : (T : Right → Bool) (r : Right) (x : Task) → count_list T (rights_of (with_port r x)) ≡ count_list T (rights_of x) + one_if (T r)
 port_counted T r x =
-    let all : count_list T (rights_of (with_port r x)) ≡ count_list T (map right_of_port x.ports ++ r ∷ []) = ap (count_list T) (push_rights x.ports (record { number = x.next; right = r })) in
+    let all : count_list T (rights_of (with_port r x)) ≡ count_list T (port_split r x) = ap (count_list T) (port_splits r x) in
     let more = count_append T (map right_of_port x.ports) (r ∷ []) in
+    let now = count_append T (map right_of_port x.ports ++ r ∷ []) x.inbox in
+    let was = count_append T (map right_of_port x.ports) x.inbox in
     omega arith
 
 pub port_counts : (T : Right → Bool) (r : Right) (x : Task) → T r ≡ false → count_list T (rights_of (with_port r x)) ≡ count_list T (rights_of x)
-port_counts T r x out =
-    let all : count_list T (rights_of (with_port r x)) ≡ count_list T (map right_of_port x.ports ++ r ∷ []) = ap (count_list T) (push_rights x.ports (record { number = x.next; right = r })) in
-    let more = count_append T (map right_of_port x.ports) (r ∷ []) in
-    let none = ap one_if out in
-    omega arith
+port_counts T r x out = let all = port_counted T r x in let none = ap one_if out in omega arith
 
 push_numbers : (ps : List Port) (n : ℕ) (r : Right) (q : Port) → ((k : Port) → IsAmong k ps → k.number < n) → IsAmong q (ps ++ record { number = n; right = r } ∷ []) → q.number < n + 1
 push_numbers ps n r q old h = elim (among_cases q ps (record { number = n; right = r } ∷ []) h) [
@@ -116,3 +138,72 @@ port_table w c t r x is fine = record {
   rights = port_rights r x;
   numbers = λ q h. push_numbers x.ports x.next r q (λ k i. c.tables.numbers t x k is i) h;
 }
+
+-- the first of the inbox becomes a port: the same rights
+
+-- the task with another inbox
+abbrev with_inbox : List Right → Task → Task
+with_inbox rs x = record x { inbox = rs }
+
+pub received_rights : (x : Task) (q : Right) → IsAmong q (rights_of (received x)) → IsAmong q (rights_of x)
+received_rights x q = go x.inbox
+  where
+    go : (rs : List Right) → IsAmong q (rights_of (received (with_inbox rs x))) → IsAmong q (rights_of (with_inbox rs x))
+    go [] h = h
+    go (r ∷ rs) h = elim (port_rights r (with_inbox rs x) q h) [
+      | inl old ↦ elim (among_cases q (map right_of_port x.ports) rs old) [
+        | inl k ↦ among_left q (map right_of_port x.ports) (r ∷ rs) k
+        | inr k ↦ among_right q (map right_of_port x.ports) (r ∷ rs) (inr k)
+      ]
+      | inr e ↦ among_right q (map right_of_port x.ports) (r ∷ rs) (inl e)
+    ]
+
+pub received_keeps : (x : Task) (q : Right) → IsAmong q (rights_of x) → IsAmong q (rights_of (received x))
+received_keeps x q = go x.inbox
+  where
+    go : (rs : List Right) → IsAmong q (rights_of (with_inbox rs x)) → IsAmong q (rights_of (received (with_inbox rs x)))
+    go [] h = h
+    go (r ∷ rs) h = elim (among_cases q (map right_of_port x.ports) (r ∷ rs) h) [
+      | inl k ↦ port_keeps r (with_inbox rs x) q (among_left q (map right_of_port x.ports) rs k)
+      | inr k ↦ elim k [
+        | inl e ↦ subst (λ z. IsAmong z (rights_of (with_port r (with_inbox rs x)))) e (port_has r (with_inbox rs x))
+        | inr old ↦ port_keeps r (with_inbox rs x) q (among_right q (map right_of_port x.ports) rs old)
+      ]
+    ]
+
+pub received_counts : (T : Right → Bool) (x : Task) → count_list T (rights_of (received x)) ≡ count_list T (rights_of x)
+received_counts T x = go x.inbox
+  where
+    go : (rs : List Right) → count_list T (rights_of (received (with_inbox rs x))) ≡ count_list T (rights_of (with_inbox rs x))
+    go [] = refl
+    go (r ∷ rs) =
+        let now = port_counted T r (with_inbox rs x) in
+        let left = count_append T (map right_of_port x.ports) rs in
+        let all = count_append T (map right_of_port x.ports) (r ∷ rs) in
+        omega arith
+
+pub received_made : (x : Task) → (received x).made ≡ x.made
+received_made x = go x.inbox
+  where
+    go : (rs : List Right) → (received (with_inbox rs x)).made ≡ x.made
+    go [] = refl
+    go (r ∷ rs) = refl
+
+pub received_ids : (x : Task) → (received x).ids ≡ x.ids
+received_ids x = go x.inbox
+  where
+    go : (rs : List Right) → (received (with_inbox rs x)).ids ≡ x.ids
+    go [] = refl
+    go (r ∷ rs) = refl
+
+pub received_table : (w : World) → Coherent w → (t : ℕ) (x : Task) → task_at w t ≡ Some x → Table w x (received x)
+received_table w c t x is = record { new = None; fine = tt; rights = λ r h. inl (received_rights x r h); numbers = numbers x.inbox }
+  where
+    numbers : (rs : List Right) (q : Port) → IsAmong q (received (with_inbox rs x)).ports → q.number < (received (with_inbox rs x)).next
+    numbers [] q h = c.tables.numbers t x q is h
+    numbers (r ∷ rs) q h = push_numbers x.ports x.next r q (λ k i. c.tables.numbers t x k is i) h
+
+-- other ids: the same ports
+
+pub ids_table : (w : World) → Coherent w → (t : ℕ) (ids : IdSets) (x : Task) → task_at w t ≡ Some x → Table w x (with_ids ids x)
+ids_table w c t ids x is = record { new = None; fine = tt; rights = λ r h. inl h; numbers = λ q h. c.tables.numbers t x q is h }

@@ -13,14 +13,14 @@ use Rattle.hurd_nodes.specs.Settle.{is_entered, is_entered_at}
 use Rattle.hurd_ports.specs.declared.table.Opened.{Opened}
 use Rattle.hurd_ports.specs.declared.table.Right.{Right}
 use Rattle.hurd_ports.specs.Tables.{Task, rights_of, is_held, is_named, IsSettled, fresh}
-use Rattle.hurd_ports.specs.Steps.{named, with_port, new_open, new_right, edit_task}
+use Rattle.hurd_ports.specs.Steps.{named, with_port, with_sent, new_open, new_right, edit_task}
 use Rattle.hurd_machine.specs.World.{World, IsAmong, nodes_of, ports_of, task_at, open_at, header_at, body_at, home_at, server_at, info_at, lists_at}
 use Rattle.hurd_machine.specs.Sight.{Seen, Root, Held, Child, Parent, ServerRoot}
 use Rattle.hurd_machine.specs.Sight.{Part, AttrOf, EmptyOf, BodyOf, OpenOf, OptionsOf, UsersOf, TaskOf, Sees, part, IsGone, is_home, is_on, holders, users, AnAttr, AnEmpty, ABody, AnOpen, AUsers}
-use Rattle.hurd_machine.specs.Change.{Change, EditHeader, EditBody, MakeNode, EditOpen, MakeOpen, EditTask, Settle, stays, settle, apply, apply_all, opening}
+use Rattle.hurd_machine.specs.Change.{Change, EditHeader, EditBody, MakeNode, EditOpen, MakeOpen, EditTask, Send, Settle, stays, settle, apply, apply_all, opening}
 use Rattle.hurd_machine.specs.Sound.{Coherent, Linked, AtRest}
 use Rattle.hurd_machine.proofs.Nodes.{header_in, body_in, empty_in, no_header, no_body, no_emptiness, edit_keeps, edited_from}
-use Rattle.hurd_machine.proofs.Tasks.{count_alike, edit_here as task_here}
+use Rattle.hurd_machine.proofs.Tasks.{count_alike, sent_keeps, edit_here as task_here}
 use Rattle.hurd_machine.proofs.Holders.{held_counted, held_stays, none_stays, left_over, held_by_right, KeepsRights, held_still, named_still}
 use Rattle.hurd_machine.proofs.Stays.{kept_more, stays_entered, stays_named, node_still, home_still, info_still, node_gone, home_gone, node_left, none_left, no_home_left}
 use Rattle.hurd_machine.proofs.Coherence.{apply_all-append, was, entry_lists, root_stays, boot_stays, header_info, entry_stays, leads_stays, entry_homed}
@@ -205,6 +205,8 @@ nodes_rest (MakeOpen o z) w q rest = λ n x e.
     kept_more (is_named w.tasks) (is_named (edit_task o.task.0 (named 1) w.tasks)) (nodes_of w) (nodes_of w) n refl (λ i. i) (named_still o.task.0 (named 1) w.tasks n (λ y r h. h)) (rest n x e)
 nodes_rest (EditTask t f) w q rest = λ n x e.
     kept_more (is_named w.tasks) (is_named (edit_task t f w.tasks)) (nodes_of w) (nodes_of w) n refl (λ i. i) (named_still t f w.tasks n q) (rest n x e)
+nodes_rest (Send r t) w q rest = λ n x e.
+    kept_more (is_named w.tasks) (is_named (edit_task t (with_sent r) w.tasks)) (nodes_of w) (nodes_of w) n refl (λ i. i) (named_still t (with_sent r) w.tasks n (sent_keeps r)) (rest n x e)
 nodes_rest Settle w q rest = absurd q
 
 -- a change that also makes no open
@@ -228,6 +230,7 @@ opens_rest (EditOpen k f) w q settled = λ o z e. elim (same_or_apart o k) [
 ]
 opens_rest (MakeOpen k z) w q settled = absurd q
 opens_rest (EditTask t f) w q settled = λ o z e. held_still t f w.tasks o q (settled o z e)
+opens_rest (Send r t) w q settled = λ o z e. held_still t (with_sent r) w.tasks o (sent_keeps r) (settled o z e)
 opens_rest Settle w q settled = absurd q
 opens_rest (EditHeader n f) w q settled = settled
 opens_rest (EditBody n g) w q settled = settled

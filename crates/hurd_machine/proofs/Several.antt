@@ -1,23 +1,20 @@
 -- Changes one after another, settling among them: they show the same in worlds that agree.
-use Rattle.std.proofs.Common.{◌≡◌, ℕ, Bool, true, false, List, [], ◌∷◌, Option, length, sym, refl, ◌∙◌, ap, ap₂, subst, inl, inr, arith}
+use Rattle.std.proofs.Common.{◌≡◌, ℕ, Bool, false, List, [], ◌∷◌, Option, sym, refl, ◌∙◌, ap, ap₂, subst, inl, inr, arith}
 use Rattle.hurd_creds.specs.declared.name.Name.{Name}
 use Rattle.hurd_creds.proofs.NameLaws.{same_name-apart}
 use Rattle.hurd_trans_iface.specs.Nodes.{Node}
 use Rattle.hurd_ports.specs.declared.table.Right.{Right}
-use Rattle.hurd_ports.specs.Tables.{Task, rights_of, names_open, is_held}
-use Rattle.hurd_ports.specs.Steps.{named}
-use Rattle.hurd_ports.proofs.TaskLaws.{edit-length}
-use Rattle.hurd_machine.specs.World.{World, nodes_of, home_at}
-use Rattle.hurd_machine.specs.Sight.{Part, AttrOf, EmptyOf, BodyOf, OpenOf, Sees, part, count_list, count_rights, holders, AnAttr, AnEmpty, ABody, AnOpen}
-use Rattle.hurd_machine.specs.Change.{Change, MakeNode, MakeOpen, EditTask, Settle, settle, apply, apply_all}
+use Rattle.hurd_ports.specs.Tables.{Task, rights_of, names_open}
+use Rattle.hurd_machine.specs.World.{World, nodes_of}
+use Rattle.hurd_machine.specs.Sight.{Part, AttrOf, EmptyOf, BodyOf, OpenOf, part, count_list, count_rights, holders, AnAttr, AnEmpty, ABody, AnOpen}
+use Rattle.hurd_machine.specs.Change.{Change, Settle, settle, apply, apply_all}
 use Rattle.hurd_machine.specs.Sound.{Below, Coherent, Linked}
 use Rattle.hurd_machine.proofs.Views.{Agree, Agree-sym, Agree-trans, same_tasks}
 use Rattle.hurd_machine.proofs.Nodes.{header_in, body_in, empty_in}
 use Rattle.hurd_machine.proofs.Tasks.{count_alike}
-use Rattle.hurd_machine.proofs.Coherence.{home_old, no_node, no_open, Proper, AllProper, coherent_one, no_home}
+use Rattle.hurd_machine.proofs.Coherence.{no_node, no_open, Proper, AllProper, coherent_one, no_home}
 use Rattle.hurd_machine.proofs.Frame.{IsExact, length_one}
 use Rattle.hurd_machine.proofs.Settle.{settle_agrees}
-use Rattle.hurd_machine.proofs.Holders.{held_by_right, held_stays}
 use Rattle.hurd_machine.proofs.Confine.{NewTo, NewPart, Inside, Inside-refl, sees_inside}
 use Rattle.hurd_machine.proofs.Allowed.{May, inside_one}
 use Rattle.hurd_machine.proofs.Mirror.{Mirror, part_same}

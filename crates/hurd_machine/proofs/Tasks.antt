@@ -1,13 +1,13 @@
 -- One task changed: what stands at each place, how many rights pass a test, and names that stay given.
-use Rattle.std.proofs.Common.{◌≡◌, ◌⊎◌, ℕ, zero, suc, ◌+◌, ◌<◌, ◌≤◌, Bool, List, [], ◌∷◌, ◌++◌, map, Option, Some, None, slice_get, slice_set, sym, refl, ◌∙◌, ap, inl, inr, arith}
+use Rattle.std.proofs.Common.{◌≡◌, ◌⊎◌, ℕ, zero, suc, ◌+◌, ◌<◌, ◌≤◌, Bool, List, [], ◌∷◌, ◌++◌, map, Option, Some, None, slice_get, slice_set, append_assoc, sym, refl, ◌∙◌, ap, subst, inl, inr, arith}
 use Rattle.std.specs.Option.{option_map}
 use Rattle.hurd_creds.specs.declared.name.Name.{Name}
 use Rattle.hurd_ports.specs.declared.table.Right.{Right}
 use Rattle.hurd_ports.specs.Tables.{Task, rights_of}
-use Rattle.hurd_ports.specs.Steps.{named, edit_at, edit_task}
+use Rattle.hurd_ports.specs.Steps.{named, with_sent, edit_at, edit_task}
 use Rattle.hurd_ports.proofs.TaskLaws.{one_or_other, set-cases, edit-found, edit-here, edit-apart}
 use Rattle.hurd_machine.specs.World.{World, IsAmong, task_at}
-use Rattle.hurd_machine.specs.Sight.{count_list, count_rights}
+use Rattle.hurd_machine.specs.Sight.{one_if, count_list, count_rights}
 use Rattle.hurd_machine.specs.Sound.{Below}
 
 -- a task afterwards is the changed one, or was there
@@ -104,3 +104,23 @@ pub among_mapped : {X Y : Type 0} (f : X → Y) (x : X) (xs : List X) → IsAmon
 among_mapped f x [] h = absurd h
 among_mapped f x (y ∷ xs) (inl e) = inl (ap f e)
 among_mapped f x (y ∷ xs) (inr h) = inr (among_mapped f x xs h)
+
+-- a right that is sent comes last
+
+sent_last : (r : Right) (x : Task) → rights_of (with_sent r x) ≡ rights_of x ++ r ∷ []
+sent_last r x = sym (append_assoc (map (λ p. p.right) x.ports) x.inbox (r ∷ []))
+
+pub sent_cases : (r : Right) (x : Task) (q : Right) → IsAmong q (rights_of (with_sent r x)) → IsAmong q (rights_of x) ⊎ (r ≡ q)
+sent_cases r x q h = elim (among_cases q (rights_of x) (r ∷ []) (subst (λ (rs : List Right). IsAmong q rs) (sent_last r x) h)) [
+  | inl old ↦ inl old
+  | inr new ↦ elim new [ inl e ↦ inr e | inr out ↦ absurd out ]
+]
+
+pub sent_keeps : (r : Right) (x : Task) (q : Right) → IsAmong q (rights_of x) → IsAmong q (rights_of (with_sent r x))
+sent_keeps r x q h = subst (λ (rs : List Right). IsAmong q rs) (sym (sent_last r x)) (among_left q (rights_of x) (r ∷ []) h)
+
+pub count_sent : (T : Right → Bool) (r : Right) (x : Task) → count_list T (rights_of (with_sent r x)) ≡ count_list T (rights_of x) + one_if (T r)
+count_sent T r x =
+    let all : count_list T (rights_of (with_sent r x)) ≡ count_list T (rights_of x ++ r ∷ []) = ap (count_list T) (sent_last r x) in
+    let more = count_append T (rights_of x) (r ∷ []) in
+    omega arith

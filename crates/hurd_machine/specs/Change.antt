@@ -7,9 +7,10 @@ use Rattle.hurd_creds.specs.Access.{IdSets}
 use Rattle.hurd_creds.specs.NameMaps.{NameMap, edit}
 use Rattle.hurd_trans_iface.specs.Nodes.{NodeMap, Node, Header, Body, Edit, OnHeader, OnBody, AddNode, with_header, with_body}
 use Rattle.hurd_ports.specs.declared.table.Opened.{Opened}
+use Rattle.hurd_ports.specs.declared.table.Right.{Right}
 use Rattle.hurd_nodes.specs.Settle as kept
 use Rattle.hurd_ports.specs.Tables.{Task, OpenMap, fresh, is_held, is_named}
-use Rattle.hurd_ports.specs.Steps.{named, edit_task, with_port, without_port, new_open, new_right}
+use Rattle.hurd_ports.specs.Steps.{named, edit_task, with_port, without_port, with_sent, new_open, new_right}
 use Rattle.hurd_machine.specs.World.{World, world_from, nodes_of}
 
 pub data Change : Type 0 where
@@ -21,6 +22,7 @@ pub data Change : Type 0 where
   EditOpen : Name → (Opened → Opened) → Change
   MakeOpen : Name → Opened → Change  -- under the next name of its task
   EditTask : ℕ → (Task → Task) → Change
+  Send : Right → ℕ → Change  -- to a task
   -- what nothing names goes
   Settle : Change
 
@@ -45,6 +47,7 @@ abbrev pub next_tasks : Change → List Task → List Task
 next_tasks (MakeNode n s node) ts = edit_task n.task.0 (named 1) ts
 next_tasks (MakeOpen o z) ts = edit_task o.task.0 (named 1) ts
 next_tasks (EditTask q f) ts = edit_task q f ts
+next_tasks (Send r q) ts = edit_task q (with_sent r) ts
 next_tasks c ts = ts
 
 -- a node stays while it is its server's root, an entry names it, or a right is on it

@@ -21,6 +21,18 @@ port_asks w t p =
     first (right_of (ports_of w) t p) (λ r.
     on EDIED (header_at w r.node) (λ h. Ok (record { right = r; header = h })))
 
+-- two ports: both are asked for before the nodes of either
+abbrev pub both_asks : World → ℕ → ℕ → ℕ → Result (Named × Named) Errno
+both_asks w t p q =
+    first (right_of (ports_of w) t p) (λ r.
+    first (right_of (ports_of w) t q) (λ s.
+    on EDIED (header_at w r.node) (λ h.
+    on EDIED (header_at w s.node) (λ k. Ok (record { right = r; header = h }, record { right = s; header = k })))))
+
+-- a port that is open, whatever for
+abbrev pub any_mode : ℕ
+any_mode = 0
+
 -- a port that is open for something, on a node that is there
 abbrev pub handle_asks : World → ℕ → ℕ → ℕ → Result Handle Errno
 handle_asks w t p mode =

@@ -1,6 +1,17 @@
 //! Calls and replies.
-use hurd_creds::{Bytes, Errno, Mode, OpenFlags, Stat};
+use hurd_creds::{Bytes, Errno, Ids, Mode, OpenFlags, Stat, TaskId};
 use hurd_trans_iface::Names;
+
+/// From where a seek counts.
+#[derive(Clone, Copy, Debug, PartialEq, Eq)]
+pub enum Whence {
+    /// From the beginning.
+    Set,
+    /// From the cursor.
+    Current,
+    /// From the end: the size of the node.
+    End,
+}
 
 /// A call, as a task makes it. Ports are numbers of the task's own table (`fs.defs`, `io.defs`; GNU Hurd Reference Manual).
 #[derive(Debug, Drop)]
@@ -8,6 +19,17 @@ pub enum Call {
     /// Gives up a port.
     PortDeallocate {
         port: u64,
+    },
+    /// Gives a copy of a port's right to a task.
+    PortSend {
+        port: u64,
+        to: TaskId,
+    },
+    /// Takes the first right that the task was sent, as a port.
+    PortReceive,
+    /// Gives the task other ids.
+    AuthMakeauth {
+        ids: Ids,
     },
     /// Looks a path up from a directory, and opens what it finds.
     DirLookup {
@@ -28,9 +50,46 @@ pub enum Call {
         bytes: Bytes,
         offset: i64,
     },
+    /// Moves the cursor, and tells where it then stands.
+    IoSeek {
+        port: u64,
+        offset: i64,
+        whence: Whence,
+    },
     /// Tells the attributes of the port's node.
     IoStat {
         port: u64,
+    },
+    /// Tells how many bytes there are from the cursor on.
+    IoReadable {
+        port: u64,
+    },
+    /// Tells what the port's open is for.
+    IoGetOpenmodes {
+        port: u64,
+    },
+    /// Sets `APPEND` of the port's open, or takes it away; the other modes stay.
+    IoSetAllOpenmodes {
+        port: u64,
+        flags: OpenFlags,
+    },
+    /// Makes another port like this one, which shares its open.
+    IoDuplicate {
+        port: u64,
+    },
+    /// Makes another port like this one, with the task's ids.
+    IoReauthenticate {
+        port: u64,
+    },
+    /// Makes another port like this one, with no ids but these.
+    IoRestrictAuth {
+        port: u64,
+        ids: Ids,
+    },
+    /// Tells whether two ports are on one node.
+    IoIdentity {
+        port: u64,
+        other: u64,
     },
     /// Cuts a file, or grows it by zero bytes.
     FileSetSize {
@@ -111,5 +170,6 @@ pub enum Reply {
     Names(Names),
     Stat(Stat),
     Modes(OpenFlags),
+    Same(bool),
     Refused(Errno),
 }

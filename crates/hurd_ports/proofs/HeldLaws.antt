@@ -1,5 +1,5 @@
 -- Which opens are held, after a change of one task.
-use Rattle.std.proofs.Common.{◌≡◌, ◌≢◌, ◌⊎◌, inl, inr, ℕ, zero, suc, ◌==◌, List, [], ◌∷◌, ◌++◌, Bool, true, false, if◌then◌else◌, map, refl, ap, sym, ◌∙◌}
+use Rattle.std.proofs.Common.{◌≡◌, ◌≢◌, ◌⊎◌, inl, inr, ℕ, zero, suc, ◌==◌, List, [], ◌∷◌, ◌++◌, Bool, true, false, if◌then◌else◌, map, refl, ap, ap₂, sym, ◌∙◌}
 use Rattle.std.proofs.lemmas.List.{map_push}
 use Rattle.std.proofs.lemmas.List.Folds.{list_any-append, list_any_at}
 use Rattle.std.proofs.lemmas.Option.{slice_get_within, get_or_from_slice_get}
@@ -13,7 +13,7 @@ use Rattle.hurd_ports.specs.Tables.{Task, names_open, rights_of, right_in, is_he
 use Rattle.hurd_ports.specs.Steps.{ports_without, without_port}
 use Rattle.hurd_ports.proofs.TaskLaws.{set-here}
 
-or_first : (a b : Bool) → a ≡ true → (a || b) ≡ true
+pub or_first : (a b : Bool) → a ≡ true → (a || b) ≡ true
 or_first true b h = refl
 or_first false b h = absurd (cc)
 
@@ -53,29 +53,47 @@ module _ {X : Type 0} (f : X → Bool) where
 abbrev pub holds : Name → Task → Bool
 holds n z = list_any (names_open n) (rights_of z)
 
+-- by its ports, or by what it was sent
+abbrev pub ported : Name → List Port → Bool
+ported n ps = list_any (names_open n) (map (λ (z : Port). z.right) ps)
+
+pub holds_by : (n : Name) (z : Task) → holds n z ≡ (ported n z.ports || list_any (names_open n) z.inbox)
+holds_by n z = list_any-append (names_open n) (map (λ (p : Port). p.right) z.ports) z.inbox
+
 -- of a task with one more port at the end
-module _ (x y : Task) (p : Port) (more : y.ports ≡ x.ports ++ p ∷ []) (n : Name) where
-  holds-more : holds n y ≡ (list_any (names_open n) (rights_of x) || list_any (names_open n) (p.right ∷ []))
+module _ (x y : Task) (p : Port) (more : y.ports ≡ x.ports ++ p ∷ []) (same : y.inbox ≡ x.inbox) (n : Name) where
+  holds-more : holds n y ≡ ((ported n x.ports || (names_open n p.right || false)) || list_any (names_open n) x.inbox)
   holds-more =
-      ap (λ (ps : List Port). list_any (names_open n) (map (λ (z : Port). z.right) ps)) more
-      ∙ ap (list_any (names_open n)) (map_push (λ (z : Port). z.right) x.ports p) ∙ list_any-append (names_open n) (rights_of x) (p.right ∷ [])
+      holds_by n y
+      ∙ ap₂ (λ a b. a || b)
+      (ap (ported n) more ∙ ap (list_any (names_open n)) (map_push (λ (z : Port). z.right) x.ports p) ∙ list_any-append (names_open n) (map (λ (z : Port). z.right) x.ports) (p.right ∷ []))
+      (ap (list_any (names_open n)) same)
+
+  pub keeps : holds n x ≡ true → holds n y ≡ true
+  keeps e = holds-more ∙ go (ported n x.ports) (names_open n p.right || false) (list_any (names_open n) x.inbox) (sym (holds_by n x) ∙ e)
+    where
+      go : (a b c : Bool) → (a || c) ≡ true → ((a || b) || c) ≡ true
+      go true b c e = refl
+      go false b c e = or_second b c e
 
   -- what was held stays held
   pub held-push : (ts : List Task) (t : ℕ) → slice_get ts t ≡ Some x → is_held ts n ≡ true → is_held (slice_set ts t y) n ≡ true
   unfolding is_held
-  held-push ts t at h = any-grows (holds n) ts t x y at (λ e. holds-more ∙ or_first (holds n x) (list_any (names_open n) (p.right ∷ [])) e) h
+  held-push ts t at h = any-grows (holds n) ts t x y at keeps h
 
   -- and the open of the new port is held
   pub held-here : (ts : List Task) (t : ℕ) → slice_get ts t ≡ Some x → n ≡ p.right.open_name → is_held (slice_set ts t y) n ≡ true
   unfolding is_held
   held-here ts t at is =
       let named : names_open n p.right ≡ true = rw is (same_name-itself p.right.open_name) in
-      any-at (holds n) (slice_set ts t y) t y (set-here ts t x y at) (holds-more ∙ or_second (holds n x) (list_any (names_open n) (p.right ∷ [])) (or_first (names_open n p.right) false named))
+      any-at (holds n) (slice_set ts t y) t y (set-here ts t x y at)
+      (holds-more ∙ or_first _ (list_any (names_open n) x.inbox) (or_second (ported n x.ports) _ (or_first (names_open n p.right) false named)))
 
--- a task that keeps its ports holds what it held
-pub held-kept : (ts : List Task) (t : ℕ) (x y : Task) (n : Name) → slice_get ts t ≡ Some x → y.ports ≡ x.ports → is_held (slice_set ts t y) n ≡ is_held ts n
+-- a task that keeps its ports and its inbox holds what it held
+pub held-kept : (ts : List Task) (t : ℕ) (x y : Task) (n : Name) → slice_get ts t ≡ Some x → y.ports ≡ x.ports → y.inbox ≡ x.inbox → is_held (slice_set ts t y) n ≡ is_held ts n
 unfolding is_held
-held-kept ts t x y n at same = any-set (holds n) ts t x y at (ap (λ (ps : List Port). list_any (names_open n) (map (λ (z : Port). z.right) ps)) same)
+held-kept ts t x y n at ports inbox =
+    any-set (holds n) ts t x y at (holds_by n y ∙ ap₂ (λ a b. a || b) (ap (ported n) ports) (ap (list_any (names_open n)) inbox) ∙ sym (holds_by n x))
 
 -- without one port the others name what they named
 any-without : (q : Name) (p : ℕ) (ps : List Port) (r : Right) → right_in p ps ≡ Some r → q ≢ r.open_name
@@ -95,4 +113,6 @@ any-without q p (x ∷ ps) r h apart = go (p == x.number) (any-without q p ps r)
 -- without a port all but its open are held as they were
 pub held-without : (ts : List Task) (t p : ℕ) (x : Task) (r : Right) (q : Name) → slice_get ts t ≡ Some x → right_in p x.ports ≡ Some r → q ≢ r.open_name → is_held (slice_set ts t (without_port p x)) q ≡ is_held ts q
 unfolding is_held
-held-without ts t p x r q at is apart = any-set (holds q) ts t x (without_port p x) at (any-without q p x.ports r is apart)
+held-without ts t p x r q at is apart =
+    any-set (holds q) ts t x (without_port p x) at
+    (holds_by q (without_port p x) ∙ ap (λ b. b || list_any (names_open q) x.inbox) (any-without q p x.ports r is apart) ∙ sym (holds_by q x))

@@ -4,5 +4,6 @@ pub mod PlaceLaws
 pub mod RoomLaws
 pub mod SoundLaws
 pub mod SeatLaws
+pub mod EditLaws
 pub mod FillLaws
 pub mod SettleLaws

@@ -8,16 +8,21 @@ use Rattle.std.specs.Vec.{with_item}
 use Rattle.std.proofs.lemmas.Option.{get_or_from_slice_get, slice_get-map}
 use Rattle.hurd_creds.specs.Access.{IdSets}
 use Rattle.hurd_creds.proofs.KeyedLaws.{keyed-nothing, keyed-edited, edit-absent}
-use Rattle.hurd_creds.specs.NameMaps.{place_by}
+use Rattle.hurd_creds.specs.NameMaps.{edit, place_by}
 use Rattle.hurd_creds.specs.declared.name.Name.{Name}
 use Rattle.hurd_creds.specs.declared.name.TaskId.{TaskId}
 use Rattle.hurd_ports.specs.declared.table.TaskSeat.{TaskSeat}
 use Rattle.hurd_ports.specs.declared.table.Port.{Port}
+use Rattle.hurd_ports.specs.declared.table.Opened.{Opened}
 use Rattle.hurd_ports.specs.declared.opens.OpenSeat.{OpenSeat}
 use Rattle.hurd_ports.specs.Tables.{Task, PortState, OpenMap}
-use Rattle.hurd_ports.specs.Steps.{new_task, starting_at, named, at_cursor, move_cursor_step, name_step}
+use Rattle.hurd_ports.specs.Steps.{new_task, starting_at, named, name_step}
 use Rattle.hurd_ports.specs.Seats.{seat_task, tasks_of, open_key, open_value, opens_of, state_of, HasSpare, IsReady}
 use Rattle.hurd_ports.proofs.TaskLaws.{map-origin, set-here, set-apart, set-same, one_or_other, edit-found}
+
+-- the tables with an open changed, where it is there
+abbrev pub edit_open : Name → (Opened → Opened) → PortState → PortState
+edit_open n f h = record h { opens = edit n f h.opens }
 
 pub same_halves : (m n : OpenMap) (ts us : List Task) → m ≡ n → ts ≡ us → ◌≡◌ {A = PortState} (record { opens = m; tasks = ts }) (record { opens = n; tasks = us })
 same_halves m n ts us opens tasks = rw (opens, tasks) refl
@@ -33,16 +38,16 @@ pub seat-pushed : (ss : List TaskSeat) (x : TaskSeat) (done : List IdSets) (ids 
 seat-pushed ss x done ids next seats is =
     map_push seat_task ss x ∙ ap₂ (λ (ts : List Task) (t : Task). ts ++ t ∷ []) seats is ∙ sym (map_push (new_task next) done ids)
 
--- an open at the place of its name, with another cursor
-pub cursor-set : (n : Name) (k : ℕ) (os : List OpenSeat) (ss : List TaskSeat) (i : ℕ) (x : OpenSeat) → Some i ≡ place_by open_key n os → x ≡ slice_index_or os i x
-    → state_of (slice_set os i (record { name = x.name; opened = at_cursor k x.opened })) ss ≡ move_cursor_step n k (state_of os ss)
-cursor-set n k os ss i x at is =
-    ap (λ (m : OpenMap). let h : PortState = record { opens = m; tasks = tasks_of ss } in h)
-    (keyed-edited open_key open_value n os i x (record { name = x.name; opened = at_cursor k x.opened }) (at_cursor k) at is refl refl)
+-- an open at the place of its name, changed
+module _ (n : Name) (f : Opened → Opened) (os : List OpenSeat) (ss : List TaskSeat) where
+  pub open-set : (i : ℕ) (x : OpenSeat) → Some i ≡ place_by open_key n os → x ≡ slice_index_or os i x
+      → state_of (slice_set os i (record { name = x.name; opened = f x.opened })) ss ≡ edit_open n f (state_of os ss)
+  open-set i x at is =
+      ap (λ (m : OpenMap). let h : PortState = record { opens = m; tasks = tasks_of ss } in h)
+      (keyed-edited open_key open_value n os i x (record { name = x.name; opened = f x.opened }) f at is refl refl)
 
-pub cursor-absent : (n : Name) (k : ℕ) (os : List OpenSeat) (ss : List TaskSeat) → None ≡ place_by open_key n os → state_of os ss ≡ move_cursor_step n k (state_of os ss)
-cursor-absent n k os ss none =
-    ap (λ (m : OpenMap). let h : PortState = record { opens = m; tasks = tasks_of ss } in h) (sym (edit-absent open_key open_value n os (at_cursor k) none))
+  pub open-absent : None ≡ place_by open_key n os → state_of os ss ≡ edit_open n f (state_of os ss)
+  open-absent none = ap (λ (m : OpenMap). let h : PortState = record { opens = m; tasks = tasks_of ss } in h) (sym (edit-absent open_key open_value n os f none))
 
 -- the task of a seat that was looked up
 pub seat-there : (ss : List TaskSeat) (t : ℕ) (s : TaskSeat) → slice_get ss t ≡ Some s → slice_get (tasks_of ss) t ≡ Some (seat_task s)
@@ -69,7 +74,7 @@ seat-found ss t s P there read = go (slice_get (tasks_of ss) t) refl there
 -- where opens and the ports of a seat have other room, nothing else changes
 pub seat-kept : (os news : List OpenSeat) (ss : List TaskSeat) (t : ℕ) (s : TaskSeat) (ports : Vec Port) → slice_get ss t ≡ Some s → ports.items ≡ s.ports.items → news ≡ os → state_of news (slice_set ss t (record s { ports = ports })) ≡ state_of os ss
 seat-kept os news ss t s ports at same kept =
-    let task : seat_task (record s { ports = ports }) ≡ seat_task s = ap (λ (ps : List Port). let x : Task = record { ids = s.ids; ports = ps; next = s.next; made = s.made } in x) same in
+    let task : seat_task (record s { ports = ports }) ≡ seat_task s = ap (λ (ps : List Port). let x : Task = record { ids = s.ids; ports = ps; next = s.next; inbox = s.inbox.items; made = s.made } in x) same in
     same_halves _ _ _ _ (ap opens_of kept) (seat-changed ss t (record s { ports = ports }) (seat_task s) task ∙ set-same (tasks_of ss) t (seat_task s) (seat-there ss t s at))
 
 -- a seat that named one thing

@@ -13,7 +13,7 @@ use Rattle.hurd_ports.specs.declared.table.Opened.{Opened}
 use Rattle.hurd_ports.specs.declared.table.Port.{Port}
 use Rattle.hurd_ports.specs.declared.table.Right.{Right}
 use Rattle.hurd_ports.specs.Tables.{Task, PortState, OpenMap, is_held, fresh, right_in, right_of}
-use Rattle.hurd_ports.specs.Steps.{new_task, starting_at, named, new_open, new_right, with_port, with_new_port, without_port, ports_without, settle_opens, at_cursor, move_cursor_step, name_step}
+use Rattle.hurd_ports.specs.Steps.{new_task, starting_at, named, new_open, new_right, with_port, with_new_port, without_port, ports_without, settle_opens, name_step}
 use Rattle.hurd_ports.specs.Sound.{IsSound, IsGiven, NumbersRise}
 use Rattle.hurd_creds.specs.declared.errno.Errno.TheVariants.{EBADF}
 use Rattle.hurd_ports.proofs.PlaceLaws.{apart_test}
@@ -37,7 +37,7 @@ next_absent low n (x ∷ ps) h =
     let b = rise_to (x.number + 1) n ps h.1 in
     rw (apart_test n x.number (λ e. omega arith)) (next_absent (x.number + 1) n ps h.1)
 
-rise-push : (low n : ℕ) (ps : List Port) (p : Port) → p.number ≡ n → NumbersRise low n ps → NumbersRise low (n + 1) (ps ++ p ∷ [])
+pub rise-push : (low n : ℕ) (ps : List Port) (p : Port) → p.number ≡ n → NumbersRise low n ps → NumbersRise low (n + 1) (ps ++ p ∷ [])
 rise-push low n [] p e h = (omega arith, omega arith)
 rise-push low n (x ∷ ps) p e h = (h.0, rise-push (x.number + 1) n ps p e h.1)
 
@@ -61,7 +61,7 @@ sound-starting ids next = record {
     empty_has n o h = let none = fin.get-empty {X = Opened} name_cmp n in absurd (cc)
 
 -- a name that a task has given stays given where the task made no fewer things
-given-set : (ts : List Task) (t : ℕ) (x y : Task) (n : Name) → slice_get ts t ≡ Some x → x.made ≤ y.made → IsGiven ts n → IsGiven (slice_set ts t y) n
+pub given-set : (ts : List Task) (t : ℕ) (x y : Task) (n : Name) → slice_get ts t ≡ Some x → x.made ≤ y.made → IsGiven ts n → IsGiven (slice_set ts t y) n
 given-set ts t x y n at le h = elim (one_or_other n.task.0 t) [
   | inl e ↦
       let here : slice_get (slice_set ts t y) n.task.0 ≡ Some y = ap (slice_get (slice_set ts t y)) e ∙ set-here ts t x y at in
@@ -71,7 +71,7 @@ given-set ts t x y n at le h = elim (one_or_other n.task.0 t) [
   | inr apart ↦ rw (set-apart ts t y n.task.0 apart) h
 ]
 
-numbers-set : (ts : List Task) (t : ℕ) (x y : Task) → slice_get ts t ≡ Some x → ((q : ℕ) (z : Task) → slice_get ts q ≡ Some z → NumbersRise 0 z.next z.ports) → NumbersRise 0 y.next y.ports
+pub numbers-set : (ts : List Task) (t : ℕ) (x y : Task) → slice_get ts t ≡ Some x → ((q : ℕ) (z : Task) → slice_get ts q ≡ Some z → NumbersRise 0 z.next z.ports) → NumbersRise 0 y.next y.ports
     → (q : ℕ) (z : Task) → slice_get (slice_set ts t y) q ≡ Some z → NumbersRise 0 z.next z.ports
 numbers-set ts t x y at rises here q z is = elim (set-cases ts t x y q z at is) [
   | inl both ↦ subst (λ (w : Task). NumbersRise 0 w.next w.ports) (sym both.1) here
@@ -99,7 +99,7 @@ module _ (h : PortState) (t : ℕ) (x : Task) (sound : IsSound h) (at : slice_ge
     where
       kept : IsSound (record h { tasks = slice_set h.tasks t (named 1 x) })
       kept = record {
-        settled = λ q w is. held-kept h.tasks t x (named 1 x) q at refl ∙ sound.settled q w is;
+        settled = λ q w is. held-kept h.tasks t x (named 1 x) q at refl refl ∙ sound.settled q w is;
         given = λ q w is. given-set h.tasks t x (named 1 x) q at (omega arith) (sound.given q w is);
         numbered = numbers-set h.tasks t x (named 1 x) at sound.numbered (sound.numbered t x at);
       }
@@ -120,8 +120,8 @@ module _ (h : PortState) (t : ℕ) (x : Task) (sound : IsSound h) (at : slice_ge
       added : IsSound (record { opens = fin.insert h.opens (fresh t x) (new_open modes); tasks = slice_set h.tasks t y })
       added = record {
         settled = λ q w is. elim (same_or_apart q (fresh t x)) [
-          | inl e ↦ held-here x y port refl q h.tasks t at e
-          | inr apart ↦ held-push x y port refl q h.tasks t at (sound.settled q w (sym (get_apart h.opens (fresh t x) (new_open modes) q apart) ∙ is))
+          | inl e ↦ held-here x y port refl refl q h.tasks t at e
+          | inr apart ↦ held-push x y port refl refl q h.tasks t at (sound.settled q w (sym (get_apart h.opens (fresh t x) (new_open modes) q apart) ∙ is))
         ];
         given = λ q w is. elim (same_or_apart q (fresh t x)) [
           | inl e ↦ rw (e, set-here h.tasks t x y at) (omega arith)
@@ -149,10 +149,11 @@ edit_had m n f q w is = elim (same_or_apart q n) [
     here None e = absurd (cc)
     here (Some v) e = (v, refl)
 
-pub sound-cursor : (h : PortState) (n : Name) (k : ℕ) → IsSound h → IsSound (move_cursor_step n k h)
-sound-cursor h n k sound = record {
-  settled = λ q w is. let v = edit_had h.opens n (at_cursor k) q w is in sound.settled q v.0 v.1;
-  given = λ q w is. let v = edit_had h.opens n (at_cursor k) q w is in sound.given q v.0 v.1;
+-- the tables are sound where an open is another
+pub sound-open : (h : PortState) (n : Name) (f : Opened → Opened) → IsSound h → IsSound (record h { opens = edit n f h.opens })
+sound-open h n f sound = record {
+  settled = λ q w is. let v = edit_had h.opens n f q w is in sound.settled q v.0 v.1;
+  given = λ q w is. let v = edit_had h.opens n f q w is in sound.given q v.0 v.1;
   numbered = sound.numbered;
 }
 

@@ -1,20 +1,21 @@
 -- What calls do to tasks, ports and opens.
-use Rattle.std.specs.Prelude.{ℕ, ◌+◌, ◌==◌, if◌then◌else◌, List, [], ◌∷◌, ◌++◌, map, Option, Some, None, Result, Ok, Err, slice_get, slice_set}
+use Rattle.std.specs.Prelude.{ℕ, Bool, ◌+◌, ◌==◌, if◌then◌else◌, List, [], ◌∷◌, ◌++◌, map, Option, Some, None, Result, Ok, Err, length, nat_lt, slice_get, slice_set}
 use Rattle.std.specs.FinMap as fin
 use Rattle.hurd_creds.specs.declared.name.Name.{Name}
 use Rattle.hurd_creds.specs.declared.errno.Errno.{Errno}
-use Rattle.hurd_creds.specs.declared.errno.Errno.TheVariants.{EBADF, ESRCH, EOVERFLOW}
+use Rattle.hurd_creds.specs.declared.errno.Errno.TheVariants.{EBADF, EOVERFLOW, ESRCH, EWOULDBLOCK}
 use Rattle.hurd_creds.specs.declared.open_flags.OpenFlags.{OpenFlags}
 use Rattle.hurd_creds.specs.Access.{IdSets}
+use Rattle.hurd_creds.specs.Bits.{with_append}
 use Rattle.hurd_creds.specs.NameMaps.{edit}
 use Rattle.hurd_ports.specs.declared.table.Opened.{Opened}
 use Rattle.hurd_ports.specs.declared.table.Right.{Right}
 use Rattle.hurd_ports.specs.declared.table.Port.{Port}
-use Rattle.hurd_ports.specs.Tables.{Task, PortState, right_in, fresh, has_room, is_held}
+use Rattle.hurd_ports.specs.Tables.{Task, PortState, right_in, right_of, fresh, has_room, is_held}
 
 -- a task that has made nothing, with an empty table
 abbrev pub new_task : ℕ → IdSets → Task
-new_task next ids = record { ids = ids; ports = []; next = next; made = 0 }
+new_task next ids = record { ids = ids; ports = []; next = next; inbox = []; made = 0 }
 
 -- empty tables for tasks with these ids
 abbrev pub starting_at : List IdSets → ℕ → PortState
@@ -38,6 +39,25 @@ ports_without p (x ∷ xs) = if p == x.number then xs else x ∷ ports_without p
 abbrev pub without_port : ℕ → Task → Task
 without_port p x = record x { ports = ports_without p x.ports }
 
+-- with these ids
+abbrev pub with_ids : IdSets → Task → Task
+with_ids ids x = record x { ids = ids }
+
+-- the same right, with these ids
+abbrev pub with_ids_for : IdSets → Right → Right
+with_ids_for ids r = record r { ids = ids }
+
+-- a right more, last in the inbox
+abbrev pub with_sent : Right → Task → Task
+with_sent r x = record x { inbox = x.inbox ++ r ∷ [] }
+
+-- the inbox's first, if there is one, as a port
+abbrev pub received : Task → Task
+received x = taking x.inbox where
+  taking : List Right → Task
+  taking [] = x
+  taking (r ∷ rs) = with_port r (record x { inbox = rs })
+
 abbrev pub edit_at : ℕ → (Task → Task) → List Task → Option Task → List Task
 edit_at q f ts None = ts
 edit_at q f ts (Some x) = slice_set ts q (f x)
@@ -54,6 +74,10 @@ new_open modes = record { cursor = 0; modes = modes }
 
 abbrev pub at_cursor : ℕ → Opened → Opened
 at_cursor k o = record o { cursor = k }
+
+-- an open to append, or not
+abbrev pub appending : Bool → Opened → Opened
+appending append o = record o { modes = with_append append o.modes }
 
 -- without the opens that no right names
 abbrev pub settle_opens : PortState → PortState
@@ -95,6 +119,47 @@ deallocate_at h t p (Some x) = dropped h t p (right_in p x.ports)
 -- without this port, and without its open where no other right names that
 abbrev pub deallocate_step : ℕ → ℕ → PortState → Result (Unit {0}) Errno × PortState
 deallocate_step t p h = deallocate_at h t p (slice_get h.tasks t)
+
+-- a port more of the task, with a right whose open is another's too
+abbrev pub share_at : PortState → ℕ → Right → Option Task → Result ℕ Errno × PortState
+share_at h t r None = (Err ESRCH, h)
+share_at h t r (Some x) = if has_room 0 x then (Ok x.next, record h { tasks = edit_task t (with_port r) h.tasks }) else (Err EOVERFLOW, h)
+
+abbrev pub share_step : ℕ → Right → PortState → Result ℕ Errno × PortState
+share_step t r h = share_at h t r (slice_get h.tasks t)
+
+-- the right, sent to task q if there is one
+abbrev pub sent_to : PortState → ℕ → Result Right Errno → Result (Unit {0}) Errno × PortState
+sent_to h q (Err e) = (Err e, h)
+sent_to h q (Ok r) = if nat_lt q (length h.tasks) then (Ok tt, record h { tasks = edit_task q (with_sent r) h.tasks }) else (Err ESRCH, h)
+
+-- a copy of the task's right under a number, last in the inbox of task q
+abbrev pub send_step : ℕ → ℕ → ℕ → PortState → Result (Unit {0}) Errno × PortState
+send_step t p q h = sent_to h q (right_of h t p)
+
+abbrev pub taken_by : PortState → ℕ → Task → List Right → Result ℕ Errno × PortState
+taken_by h t x [] = (Err EWOULDBLOCK, h)
+taken_by h t x (r ∷ rs) = if has_room 0 x then (Ok x.next, record h { tasks = edit_task t received h.tasks }) else (Err EOVERFLOW, h)
+
+abbrev pub receive_at : PortState → ℕ → Option Task → Result ℕ Errno × PortState
+receive_at h t None = (Err ESRCH, h)
+receive_at h t (Some x) = taken_by h t x x.inbox
+
+-- the first right of the task's inbox, under its next number
+abbrev pub receive_step : ℕ → PortState → Result ℕ Errno × PortState
+receive_step t h = receive_at h t (slice_get h.tasks t)
+
+abbrev pub take_ids_at : PortState → ℕ → IdSets → Option Task → Result (Unit {0}) Errno × PortState
+take_ids_at h t ids None = (Err ESRCH, h)
+take_ids_at h t ids (Some x) = (Ok tt, record h { tasks = edit_task t (with_ids ids) h.tasks })
+
+-- other ids for the task; those of its rights stay
+abbrev pub take_ids_step : ℕ → IdSets → PortState → Result (Unit {0}) Errno × PortState
+take_ids_step t ids h = take_ids_at h t ids (slice_get h.tasks t)
+
+-- with the open's APPEND set, or taken away
+abbrev pub set_append_step : Name → Bool → PortState → PortState
+set_append_step o append h = record h { opens = edit o (appending append) h.opens }
 
 -- with the open's cursor moved
 abbrev pub move_cursor_step : Name → ℕ → PortState → PortState

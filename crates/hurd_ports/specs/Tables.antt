@@ -1,5 +1,5 @@
 -- Tasks, ports and opens as values.
-use Rattle.std.specs.Prelude.{◌≡◌, ℕ, ◌+◌, ◌==◌, ◌&&◌, Bool, true, if◌then◌else◌, List, [], ◌∷◌, map, Option, Some, None, Result, Ok, Err, slice_get, nat_lt, nat_le, refl}
+use Rattle.std.specs.Prelude.{◌≡◌, ℕ, ◌+◌, ◌==◌, ◌&&◌, Bool, true, if◌then◌else◌, List, [], ◌∷◌, ◌++◌, map, Option, Some, None, Result, Ok, Err, slice_get, nat_lt, nat_le, refl}
 use Rattle.std.specs.List.{list_any}
 use Rattle.std.specs.FinMap as fin
 use Rattle.std.specs.Borrow.{Bor}
@@ -14,13 +14,16 @@ use Rattle.hurd_ports.specs.declared.table.Opened.{Opened}
 use Rattle.hurd_ports.specs.declared.table.Right.{Right}
 use Rattle.hurd_ports.specs.declared.table.Port.{Port}
 use Rattle.hurd_ports.specs.contracts.table.Port as port
+use Rattle.hurd_ports.specs.contracts.table.Right as right
 use Rattle.hurd_ports.specs.contracts.table.Opened as opened
 
--- a task: its ids, its ports in order of their numbers, the next number, and how many things it has made
+-- a task: its ids, its ports in order of their numbers, the next number, the rights that it was sent, in their order, and how
+-- many things it has made
 pub record Task : Type 0 where
   pub ids : IdSets
   pub ports : List Port
   pub next : ℕ
+  pub inbox : List Right
   pub made : ℕ
 
 abbrev pub OpenMap : Type 0
@@ -38,17 +41,22 @@ pub record Tables : Type 0 where
 
 abbrev pub coded_task : Coded Task
 coded_task =
-    code_by (IdSets × (List Port × (ℕ × ℕ))) (coded× coded_ids (coded× (coded_list port.the_row.coded) (coded× coded_ℕ coded_ℕ)))
-    (λ x. (x.ids, (x.ports, (x.next, x.made)))) (λ p. record { ids = p.0; ports = p.1.0; next = p.1.1.0; made = p.1.1.1 }) (λ _. refl)
+    code_by (IdSets × (List Port × (ℕ × (List Right × ℕ)))) (coded× coded_ids (coded× (coded_list port.the_row.coded) (coded× coded_ℕ (coded× (coded_list right.the_row.coded) coded_ℕ))))
+    (λ x. (x.ids, (x.ports, (x.next, (x.inbox, x.made))))) (λ p. record { ids = p.0; ports = p.1.0; next = p.1.1.0; inbox = p.1.1.1.0; made = p.1.1.1.1 }) (λ _. refl)
 
 abbrev pub coded_tables : Coded Tables
 coded_tables =
     code_by (OpenMap × (List Task × Option ℕ)) (coded× (fin.code coded_name opened.the_row.coded) (coded× (coded_list coded_task) (coded_option coded_ℕ)))
     (λ h. (h.state.opens, (h.state.tasks, h.ready))) (λ p. record { state = record { opens = p.0; tasks = p.1.0 }; ready = p.1.1 }) (λ _. refl)
 
--- all rights of a task
+-- all rights of a task: those of its ports, and those that it was sent
 abbrev pub rights_of : Task → List Right
-rights_of x = map (λ p. p.right) x.ports
+rights_of x = map (λ p. p.right) x.ports ++ x.inbox
+
+-- the right that was sent first, if there is one
+abbrev pub first_sent : List Right → Option Right
+first_sent [] = None
+first_sent (r ∷ rs) = Some r
 
 -- the right under a number
 abbrev pub right_in : ℕ → List Port → Option Right

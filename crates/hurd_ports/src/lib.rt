@@ -3,6 +3,8 @@
 //! A task has a table of ports: rights by number. Numbers rise from the one that the table begins with, and none is
 //! used again. Each right names a node and an open; an open has a cursor and modes, and goes with its last right.
 //!
+//! A task also has an inbox: rights that it was sent, in their order. It takes the first of them as a port.
+//!
 //! A port is filled into room that was reserved for it, so that nothing is left to fail once its node is made.
 //!
 //! It knows no nodes: a right may name one that is gone. What a right allows is for the calls to say.

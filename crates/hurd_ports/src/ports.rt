@@ -1,5 +1,5 @@
 //! The tables of all tasks, and the opens.
-ghost use Rattle.std.specs.Prelude.{◌≡◌, ◌<◌, length, slice_get, IfOk, IsSomeAnd};
+ghost use Rattle.std.specs.Prelude.{◌≡◌, ◌<◌, Ok, Err, if◌then◌else◌, length, nat_lt, slice_get, IfOk, IsSomeAnd};
 ghost use Rattle.std.specs.Option.{option_map};
 ghost use Rattle.std.specs.FinMap as fin;
 ghost use Rattle.hurd_creds.specs.Memory.{Meets, Steps};
@@ -64,6 +64,7 @@ impl Ports {
                 ids,
                 ports: Vec::new(alloc),
                 next,
+                inbox: Vec::new(alloc),
                 made: 0,
             });
         }
@@ -103,6 +104,17 @@ impl Ports {
         match seat.find(port) {
             Some(right) => Ok(right),
             None => Err(Errno::EBADF),
+        }
+    }
+
+    /// Whether a task is there. `ESRCH`: it isn't.
+    pub fn has_task(&self, task: TaskId) -> Result<(), Errno>
+        ensures { result ≡ (if nat_lt task.0 (length self.now.state.tasks) then Ok tt else Err Errno.ESRCH) }
+    {
+        if (task.0 as usize) < self.tasks.len() {
+            Ok(())
+        } else {
+            Err(Errno::ESRCH)
         }
     }
 
@@ -242,6 +254,74 @@ impl Ports {
         Ok(self.fill(task, node, ids, modes))
     }
 
+    /// A port more of the task, with this right, whose open is another's too; answers its number, the task's next.
+    ///
+    /// Errors, in order: `ESRCH` no such task, `EOVERFLOW`, `ENOMEM`. A refused call changes no port.
+    pub fn share(&mut self, task: TaskId, right: Right) -> Result<u64, Errno>
+        ensures answer { Steps self.old.state (step.share_step task.0 right self.old.state) result self.new.state }
+        ensures settled { IsSettled self.new.state }
+    {
+        let Some(seat) = self.tasks.get(task.0 as usize) else {
+            return Err(Errno::ESRCH);
+        };
+        if !seat.has_room(0) {
+            return Err(Errno::EOVERFLOW);
+        }
+        self.ready = None;
+        self.tasks[task.0 as usize].share(right)
+    }
+
+    /// Gives a copy of a port's right to a task, last in its inbox; a task may send to itself.
+    ///
+    /// Errors, in order: `ESRCH` no such task, `EBADF` no such port, `ESRCH` nobody to send it to, `ENOMEM`. A refused call
+    /// changes no port.
+    pub fn send(&mut self, alloc: Global, task: TaskId, port: u64, to: TaskId) -> Result<(), Errno>
+        ensures answer { Steps self.old.state (step.send_step task.0 port to.0 self.old.state) result self.new.state }
+        ensures settled { IsSettled self.new.state }
+    {
+        let right = self.right(task, port)?;
+        self.has_task(to)?;
+        let Ok(right) = right.copied(alloc) else {
+            return Err(Errno::ENOMEM);
+        };
+        self.tasks[to.0 as usize].accept(right)
+    }
+
+    /// Takes the first right of a task's inbox, as a port; answers its number, the task's next.
+    ///
+    /// Errors, in order: `ESRCH` no such task, `EWOULDBLOCK` its inbox is empty, `EOVERFLOW`, `ENOMEM`. A refused call
+    /// changes no port.
+    pub fn receive(&mut self, task: TaskId) -> Result<u64, Errno>
+        ensures answer { Steps self.old.state (step.receive_step task.0 self.old.state) result self.new.state }
+        ensures settled { IsSettled self.new.state }
+    {
+        let Some(seat) = self.tasks.get(task.0 as usize) else {
+            return Err(Errno::ESRCH);
+        };
+        if seat.inbox.is_empty() {
+            return Err(Errno::EWOULDBLOCK);
+        }
+        if !seat.has_room(0) {
+            return Err(Errno::EOVERFLOW);
+        }
+        self.ready = None;
+        self.tasks[task.0 as usize].receive()
+    }
+
+    /// Gives a task other ids; those of its rights stay. Takes no memory.
+    ///
+    /// `ESRCH`: no such task.
+    pub fn take_ids(&mut self, task: TaskId, ids: Ids) -> Result<(), Errno>
+        ensures answer { (result, self.new.state) ≡ step.take_ids_step task.0 ids self.old.state }
+        ensures settled { IsSettled self.new.state }
+    {
+        if task.0 as usize >= self.tasks.len() {
+            return Err(Errno::ESRCH);
+        }
+        self.tasks[task.0 as usize].take_ids(ids);
+        Ok(())
+    }
+
     /// Gives up a port; its open goes where no other right names it. Takes no memory.
     ///
     /// Errors, in order: `ESRCH` no such task, `EBADF` no such port.
@@ -263,6 +343,17 @@ impl Ports {
     {
         if let Some(i) = opens::place(&self.opens, name) {
             self.opens[i].opened.cursor = cursor;
+        }
+    }
+
+    /// Lets an open append, or not; where it isn't there, nothing changes. Takes no memory.
+    pub fn set_append(&mut self, name: OpenName, append: bool)
+        ensures set { self.new.state ≡ step.set_append_step name append self.old.state }
+        ensures settled { IsSettled self.new.state }
+    {
+        if let Some(i) = opens::place(&self.opens, name) {
+            let opened = &mut self.opens[i].opened;
+            opened.modes = opened.modes.with_append(append);
         }
     }
 }

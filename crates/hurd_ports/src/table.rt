@@ -1,11 +1,13 @@
 //! Rights, opens, and the tables of tasks.
-ghost use Rattle.std.specs.Prelude.{◌≡◌, ◌==◌, ◌+◌, ◌<◌, length, IfSome, option_copied};
+ghost use Rattle.std.specs.Prelude.{◌≡◌, ◌==◌, ◌+◌, ◌<◌, Ok, length, map, IfOk, IfSome, option_copied};
 ghost use Rattle.std.specs.List.{list_any, position};
+ghost use Rattle.hurd_creds.specs.Memory.{Steps};
 ghost use Rattle.hurd_ports.specs.Tables.{can_name, fresh, has_room, names_open, right_in, rights_of};
-ghost use Rattle.hurd_ports.specs.Steps.{named, with_port, without_port};
+ghost use Rattle.hurd_ports.specs.Steps.{named, received, with_ids, with_ids_for, with_port, with_sent, without_port};
 ghost use Rattle.hurd_ports.specs.Seats.{HasSpare, seat_task};
 
-use hurd_creds::{Ids, Name, NodeName, OpenFlags, OpenName, TaskId};
+use hurd_creds::{Errno, Ids, Name, NodeName, OpenFlags, OpenName, TaskId};
+use std::alloc::{AllocError, Global};
 
 /// The right to use a node, with the ids that decide what is allowed, and an open of it (GNU Hurd Reference Manual, Files).
 #[derive(Debug, Drop)]
@@ -13,6 +15,30 @@ pub struct Right {
     pub node: NodeName,
     pub ids: Ids,
     pub open_name: OpenName,
+}
+
+impl Right {
+    /// A copy, which shares the open.
+    pub fn copied(&self, alloc: Global) -> Result<Right, AllocError>
+        ensures { IfOk result (λ right. right ≡ self.now) }
+    {
+        Ok(Right {
+            node: self.node,
+            ids: self.ids.copied(alloc)?,
+            open_name: self.open_name,
+        })
+    }
+
+    /// The same right with other ids.
+    pub fn with_ids(&self, ids: Ids) -> Right
+        ensures { result ≡ with_ids_for ids self.now }
+    {
+        Right {
+            node: self.node,
+            ids,
+            open_name: self.open_name,
+        }
+    }
 }
 
 /// An open: where the next read or write without an offset begins, and what it was opened for.
@@ -29,12 +55,14 @@ pub struct Port {
     pub right: Right,
 }
 
-/// A task: its ids, its ports in order of their numbers, the next number, and how many things it has made.
+/// A task: its ids, its ports in order of their numbers, the next number, the rights that it was sent, and how many things it
+/// has made.
 #[derive(Debug, Drop)]
 pub struct TaskSeat {
     pub ids: Ids,
     pub ports: Vec<Port>,
     pub next: u64,
+    pub inbox: Vec<Right>,
     pub made: u64,
 }
 
@@ -88,6 +116,49 @@ impl TaskSeat {
         number
     }
 
+    /// Adds a port with this right, in memory that it takes; answers its number. `ENOMEM`: no memory, and nothing changes.
+    pub(crate) fn share(&mut self, right: Right) -> Result<u64, Errno>
+        requires { self.old.next < u64.MAX }
+        ensures { Steps (seat_task self.old) (Ok self.old.next, with_port right (seat_task self.old)) result (seat_task self.new) }
+    {
+        let Ok(()) = self.ports.reserve(1) else {
+            return Err(Errno::ENOMEM);
+        };
+        Ok(self.add(right))
+    }
+
+    /// Takes the first right of the inbox as a port; answers its number. `ENOMEM`: no memory, and nothing changes.
+    pub(crate) fn receive(&mut self) -> Result<u64, Errno>
+        requires number { self.old.next < u64.MAX }
+        requires sent { 0 < length self.old.inbox.items }
+        ensures { Steps (seat_task self.old) (Ok self.old.next, received (seat_task self.old)) result (seat_task self.new) }
+    {
+        let Ok(()) = self.ports.reserve(1) else {
+            return Err(Errno::ENOMEM);
+        };
+        let right = self.inbox.remove(0);
+        Ok(self.add(right))
+    }
+
+    /// Puts a right last into the inbox. `ENOMEM`: no memory, and nothing changes.
+    pub(crate) fn accept(&mut self, right: Right) -> Result<(), Errno>
+        ensures answer { Steps (seat_task self.old) (Ok tt, with_sent right (seat_task self.old)) result (seat_task self.new) }
+        ensures ports { self.new.ports ≡ self.old.ports }
+    {
+        let Ok(()) = self.inbox.push(right) else {
+            return Err(Errno::ENOMEM);
+        };
+        Ok(())
+    }
+
+    /// Gives the task other ids; those of its rights stay.
+    pub(crate) fn take_ids(&mut self, ids: Ids)
+        ensures ids { seat_task self.new ≡ with_ids ids (seat_task self.old) }
+        ensures ports { self.new.ports ≡ self.old.ports }
+    {
+        self.ids = ids;
+    }
+
     /// Takes out the port of this number, if it is there.
     pub(crate) fn remove(&mut self, number: u64)
         ensures { seat_task self.new ≡ without_port number (seat_task self.old) }
@@ -108,10 +179,25 @@ impl TaskSeat {
     }
 
     /// Whether some right of the task names the open.
+    #[tactic(auto, using(crate::proofs::HeldLaws::holds_by))]
     pub(crate) fn holds(&self, name: OpenName) -> bool
         ensures { result ≡ list_any (names_open name) (rights_of (seat_task self.now)) }
     {
+        self.has_port_on(name) || self.was_sent(name)
+    }
+
+    /// Whether a port of the task has the open.
+    fn has_port_on(&self, name: OpenName) -> bool
+        ensures { result ≡ list_any (names_open name) (map (λ p. p.right) self.now.ports.items) }
+    {
         self.ports.iter().any(|port| port.right.open_name == name)
+    }
+
+    /// Whether a right that the task was sent names the open.
+    fn was_sent(&self, name: OpenName) -> bool
+        ensures { result ≡ list_any (names_open name) self.now.inbox.items }
+    {
+        self.inbox.iter().any(|right| right.open_name == name)
     }
 }
 

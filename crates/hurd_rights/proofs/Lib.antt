@@ -1,1 +1,2 @@
+pub mod MakeauthLaws
 pub mod RightsLaws

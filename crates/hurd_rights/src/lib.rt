@@ -1,6 +1,7 @@
 //! Calls on ports and ids alone.
 //!
-//! `port_deallocate` gives up a port. What it answers and changes is `plan_deallocate` of `specs/Rights`.
+//! `port_deallocate` gives up a port, `port_send` gives a copy of its right to a task, `port_receive` takes a right that was
+//! sent, and `auth_makeauth` gives a task other ids. What each answers and changes is its plan in `specs/Rights`.
 #![tactic(auto)]
 
 pub mod rights;

@@ -13,7 +13,7 @@ use Rattle.std.proofs.lemmas.Str.Parse.{IsNumeralModel, numerals_by_value, parse
 use Rattle.hurd_creds.specs.declared.mode.Mode.{Mode}
 use Rattle.hurd_creds.specs.Bits.{known_modes}
 use Rattle.hurd_script.specs.Words.{has_bytes}
-use Rattle.hurd_script.specs.Numbers.{is_octal_digit, mode_from, number_of, octal_of}
+use Rattle.hurd_script.specs.Numbers.{decimal_of, is_octal_digit, mode_from, octal_number_of, octal_of}
 
 digits : IsNumeralModel (λ ds. list_all is_ascii_digit ds ≡ true) (digits_value 10)
 digits = numerals_by_value (λ ds. list_all is_ascii_digit ds ≡ true) (search rules)
@@ -29,16 +29,16 @@ not_below : (a b : ℕ) → (a < b → ⊥) → b ≤ a
 not_below a b h = omega arith
 
 -- what `parse` makes of digits
-pub number_read : {E : Type 0} (ds : List ℕ) (r : Result ℕ E) (o : Option ℕ) → list_all is_ascii_digit ds ≡ true → ParsesUnsigned 32 10 ds r → o ≡ result_ok r → o ≡ number_of ds
-number_read {E} ds (Ok n) o d p e =
-    let q = OkIff-at_ok {T = ℕ} {E = E} (Ok n) _ (digits_value 10 ds) n (parse_digits digits {E = E} 32 ds (Ok n) p d) refl in
-    let t : (has_bytes ds && (list_all is_ascii_digit ds && nat_lt (digits_value 10 ds) (2 ^ 32))) ≡ true =
-    and_from _ _ (some_bytes ds q.0.0) (and_from _ _ d (lt-ltb (digits_value 10 ds) (2 ^ 32) q.0.1)) in
+pub number_read : {E : Type 0} (bits : ℕ) (ds : List ℕ) (r : Result ℕ E) (o : Option ℕ) → list_all is_ascii_digit ds ≡ true → ParsesUnsigned bits 10 ds r → o ≡ result_ok r → o ≡ decimal_of bits ds
+number_read {E} bits ds (Ok n) o d p e =
+    let q = OkIff-at_ok {T = ℕ} {E = E} (Ok n) _ (digits_value 10 ds) n (parse_digits digits {E = E} bits ds (Ok n) p d) refl in
+    let t : (has_bytes ds && (list_all is_ascii_digit ds && nat_lt (digits_value 10 ds) (2 ^ bits))) ≡ true =
+    and_from _ _ (some_bytes ds q.0.0) (and_from _ _ d (lt-ltb (digits_value 10 ds) (2 ^ bits) q.0.1)) in
     e ∙ rw t (ap Some q.1)
-number_read {E} [] (Err x) o d p e = e
-number_read {E} (c ∷ cs) (Err x) o d p e =
-    let q = OkIff-at_err {T = ℕ} {E = E} (Err x) _ (digits_value 10 (c ∷ cs)) x (parse_digits digits {E = E} 32 (c ∷ cs) (Err x) p d) refl in
-    let b : nat_lt (digits_value 10 (c ∷ cs)) (2 ^ 32) ≡ false = le-ltb (digits_value 10 (c ∷ cs)) (2 ^ 32) (not_below _ _ (λ l. q (one_or_more c cs, l))) in
+number_read {E} bits [] (Err x) o d p e = e
+number_read {E} bits (c ∷ cs) (Err x) o d p e =
+    let q = OkIff-at_err {T = ℕ} {E = E} (Err x) _ (digits_value 10 (c ∷ cs)) x (parse_digits digits {E = E} bits (c ∷ cs) (Err x) p d) refl in
+    let b : nat_lt (digits_value 10 (c ∷ cs)) (2 ^ bits) ≡ false = le-ltb (digits_value 10 (c ∷ cs)) (2 ^ bits) (not_below _ _ (λ l. q (one_or_more c cs, l))) in
     e ∙ rw (d, b) refl
 
 -- octal digits, as `from_str_radix` has them
@@ -64,6 +64,19 @@ small ds l h = omega (arith, digits_value-lt 8 ds (octal_digits ds h), pow-le-po
 octal_parse : {E : Type 0} (ds : List ℕ) (r : Result ℕ E) → list_all is_octal_digit ds ≡ true → ParsesUnsigned 32 8 ds r
     → OkIff r (IsNumeral 8 ds × (digits_value 8 ds < 2 ^ 32)) (digits_value 8 ds)
 octal_parse ds r h p = subst (λ (l : List ℕ). OkIff r (IsNumeral 8 l × (digits_value 8 l < 2 ^ 32)) (digits_value 8 l)) (unsigned ds h) p
+
+-- what `from_str_radix` makes of octal digits, however many
+pub octal_number_read : {E : Type 0} (ds : List ℕ) (r : Result ℕ E) (o : Option ℕ) → list_all is_octal_digit ds ≡ true → ParsesUnsigned 32 8 ds r → o ≡ result_ok r → o ≡ octal_number_of ds
+octal_number_read {E} ds (Ok n) o d p e =
+    let q = OkIff-at_ok {T = ℕ} {E = E} (Ok n) _ (digits_value 8 ds) n (octal_parse {E = E} ds (Ok n) d p) refl in
+    let t : (has_bytes ds && (list_all is_octal_digit ds && nat_lt (digits_value 8 ds) (2 ^ 32))) ≡ true =
+    and_from _ _ (some_bytes ds q.0.0.0) (and_from _ _ d (lt-ltb (digits_value 8 ds) (2 ^ 32) q.0.1)) in
+    e ∙ rw t (ap Some q.1)
+octal_number_read {E} [] (Err x) o d p e = e
+octal_number_read {E} (c ∷ cs) (Err x) o d p e =
+    let q = OkIff-at_err {T = ℕ} {E = E} (Err x) _ (digits_value 8 (c ∷ cs)) x (octal_parse {E = E} (c ∷ cs) (Err x) d p) refl in
+    let b : nat_lt (digits_value 8 (c ∷ cs)) (2 ^ 32) ≡ false = le-ltb (digits_value 8 (c ∷ cs)) (2 ^ 32) (not_below _ _ (λ l. q ((one_or_more c cs, octal_digits (c ∷ cs) d), l))) in
+    e ∙ rw (d, b) refl
 
 -- what `from_str_radix` makes of octal digits
 pub octal_read : {E : Type 0} (ds : List ℕ) (r : Result ℕ E) (o : Option ℕ) → length ds ≤ 6 → list_all is_octal_digit ds ≡ true → ParsesUnsigned 32 8 ds r

@@ -12,14 +12,14 @@
 
 mod actions;
 mod command;
-mod fault;
-mod lines;
-mod numbers;
+pub mod fault;
+pub mod lines;
+pub mod numbers;
 mod places;
 mod reader;
 mod usage;
-mod users;
-mod words;
+pub mod users;
+pub mod words;
 
 pub use command::{Action, Command, Verb};
 pub use places::Place;

@@ -44,7 +44,7 @@ fn behind_name(line: &[u8]) -> &[u8]
 }
 
 /// The line without the spaces that it begins with.
-fn skip_spaces(line: &[u8]) -> &[u8]
+pub fn skip_spaces(line: &[u8]) -> &[u8]
     ensures { result.now ≡ skip_spaces line.now }
 {
     for (index, byte) in line.iter().enumerate() {
@@ -68,7 +68,7 @@ fn skip_word(line: &[u8]) -> &[u8]
 }
 
 /// The line without the spaces that it ends with.
-fn without_end(line: &[u8]) -> &[u8]
+pub fn without_end(line: &[u8]) -> &[u8]
     ensures { result.now ≡ without_end line.now }
 {
     let mut end = line.len();

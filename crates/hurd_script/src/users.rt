@@ -58,7 +58,7 @@ pub fn is_taken(names: &[String], name: &str) -> bool
 }
 
 /// The parts between commas.
-fn parts<'a>(alloc: Global, word: &'a str) -> Result<Vec<&'a str>, AllocError>
+pub fn parts<'a>(alloc: Global, word: &'a str) -> Result<Vec<&'a str>, AllocError>
     ensures { IfOk result (λ v. map (λ x. x.now) v.items ≡ slice_split (λ b. b == 44) word.entry.now) }
 {
     word.split(',').collect(alloc)

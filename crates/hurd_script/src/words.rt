@@ -58,7 +58,7 @@ fn unescaped(alloc: Global, word: &[u8]) -> Result<String, ReadFault>
     }
 }
 
-fn has_hidden_byte(word: &[u8]) -> bool
+pub fn has_hidden_byte(word: &[u8]) -> bool
     ensures { result ≡ has_hidden_byte word.now }
 {
     word.iter().any(|byte| !(*byte >= 33 && *byte <= 126))
@@ -85,7 +85,7 @@ fn take_byte(text: &mut String, escaped: bool, byte: u8) -> Result<bool, ReadFau
 }
 
 /// What a byte behind a backslash stands for.
-fn escape_code(byte: u8) -> Option<u8>
+pub fn escape_code(byte: u8) -> Option<u8>
     ensures code { result ≡ escape_code byte }
     ensures ascii { IfSome result (λ b. b < 128) }
 {

@@ -61,7 +61,8 @@ fn port_of(reply: Reply) -> Result<u64, Stop>
         | Reply::Count(_)
         | Reply::Names(_)
         | Reply::Stat(_)
-        | Reply::Modes(_) => Err(Stop::Refused(Errno::EIO)),
+        | Reply::Modes(_)
+        | Reply::Same(_) => Err(Stop::Refused(Errno::EIO)),
     }
 }
 
@@ -78,7 +79,8 @@ fn data_of(reply: Reply) -> Result<Bytes, Stop>
         | Reply::Count(_)
         | Reply::Names(_)
         | Reply::Stat(_)
-        | Reply::Modes(_) => Err(Stop::Refused(Errno::EIO)),
+        | Reply::Modes(_)
+        | Reply::Same(_) => Err(Stop::Refused(Errno::EIO)),
     }
 }
 
@@ -95,7 +97,8 @@ fn names_of(reply: Reply) -> Result<Names, Stop>
         | Reply::Data(_)
         | Reply::Count(_)
         | Reply::Stat(_)
-        | Reply::Modes(_) => Err(Stop::Refused(Errno::EIO)),
+        | Reply::Modes(_)
+        | Reply::Same(_) => Err(Stop::Refused(Errno::EIO)),
     }
 }
 
@@ -112,7 +115,8 @@ fn stat_of(reply: Reply) -> Result<Stat, Stop>
         | Reply::Data(_)
         | Reply::Count(_)
         | Reply::Names(_)
-        | Reply::Modes(_) => Err(Stop::Refused(Errno::EIO)),
+        | Reply::Modes(_)
+        | Reply::Same(_) => Err(Stop::Refused(Errno::EIO)),
     }
 }
 
@@ -128,7 +132,8 @@ fn done_of(reply: Reply) -> Result<(), Stop>
         | Reply::Data(_)
         | Reply::Names(_)
         | Reply::Stat(_)
-        | Reply::Modes(_) => Err(Stop::Refused(Errno::EIO)),
+        | Reply::Modes(_)
+        | Reply::Same(_) => Err(Stop::Refused(Errno::EIO)),
     }
 }
 

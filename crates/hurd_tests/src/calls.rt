@@ -1,6 +1,7 @@
 //! Rows of calls.
 use crate::directories::{directories, entries, files, moves, replaced, sticky};
 use crate::fixture::{Line, Memory, Row, Want, call_of, is_reply, made, world};
+use crate::sharing::{ids, opens, sent};
 use hurd_creds::{Errno, Kind, TaskId};
 use hurd_world::Call;
 use std::alloc::{AllocError, Global};
@@ -313,6 +314,9 @@ fn check_all(rt: &impl Abort, alloc: Global, mut memory: Memory) -> Result<(), F
     check(rt, alloc, &sticky(), &mut memory)?;
     check(rt, alloc, &moves(), &mut memory)?;
     check(rt, alloc, &replaced(), &mut memory)?;
+    check(rt, alloc, &sent(), &mut memory)?;
+    check(rt, alloc, &ids(), &mut memory)?;
+    check(rt, alloc, &opens(), &mut memory)?;
     check(rt, alloc, &bounds(&[b'/'; 1025], &[b'z'; 256]), &mut memory)
 }
 
@@ -340,6 +344,8 @@ fn is_sure(row: &Row, want: &Want) -> bool {
         (Row::Lookup(..), Want::Refused(_)) => true,
         (Row::Deallocate(_) | Row::Stat(_) | Row::CheckAccess(_), _) => true,
         (Row::Chmod(..) | Row::Chown(..) | Row::Rmdir(..) | Row::Unlink(..), _) => true,
+        (Row::Makeauth(..) | Row::Seek(..) | Row::Readable(_) | Row::Identity(..), _) => true,
+        (Row::Openmodes(_) | Row::SetOpenmodes(..), _) => true,
         _ => false,
     }
 }
@@ -373,6 +379,9 @@ fn refused_lookups_answer_the_same(rt: HostRuntime) -> Result<(), Fail> {
     check_refusals(&rt, rt.alloc(), &directories(), &mut memory)?;
     check_refusals(&rt, rt.alloc(), &entries(), &mut memory)?;
     check_refusals(&rt, rt.alloc(), &sticky(), &mut memory)?;
+    check_refusals(&rt, rt.alloc(), &sent(), &mut memory)?;
+    check_refusals(&rt, rt.alloc(), &ids(), &mut memory)?;
+    check_refusals(&rt, rt.alloc(), &opens(), &mut memory)?;
     check_refusals(
         &rt,
         rt.alloc(),

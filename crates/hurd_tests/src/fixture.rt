@@ -6,7 +6,7 @@ use bitflags::Flags;
 use hurd_creds::{Bytes, Errno, Ids, Kind, Mode, OpenFlags, Stat, TaskId};
 use hurd_tmpfs::Tmpfs;
 use hurd_trans_iface::{Names, Server, Words};
-use hurd_world::{Call, Lookup, Reply, World};
+use hurd_world::{Call, Lookup, Reply, Whence, World};
 use std::alloc::{AllocError, Global};
 
 /// A call, as a row of a table writes it.
@@ -28,6 +28,18 @@ pub enum Row<'a> {
     Link(u64, &'a [u8], u64),
     Rename(u64, &'a [u8], u64, &'a [u8]),
     Deallocate(u64),
+    Send(u64, u32),
+    Receive,
+    /// Uids and gids.
+    Makeauth(&'a [u32], &'a [u32]),
+    Seek(u64, i64, Whence),
+    Readable(u64),
+    Openmodes(u64),
+    SetOpenmodes(u64, u16),
+    Duplicate(u64),
+    Reauthenticate(u64),
+    Restrict(u64, &'a [u32], &'a [u32]),
+    Identity(u64, u64),
 }
 
 /// What a call is to answer.
@@ -43,11 +55,17 @@ pub enum Want<'a> {
     /// Of what is told of a node, its links.
     Links(u32),
     Modes(u16),
+    Same(bool),
     Refused(Errno),
 }
 
 /// A call of a task, and what it is to answer.
 pub type Line<'a> = (u32, Row<'a>, Want<'a>);
+
+/// These ids, of which there are few.
+fn ids_of(alloc: Global, uids: &[u32], gids: &[u32]) -> Result<Ids, AllocError> {
+    Ids::new(alloc, uids, gids).map_err(|_| AllocError)
+}
 
 /// The call of a row.
 pub fn call_of(alloc: Global, row: &Row) -> Result<Call, AllocError> {
@@ -114,6 +132,35 @@ pub fn call_of(alloc: Global, row: &Row) -> Result<Call, AllocError> {
             new: Bytes::copied(alloc, new)?,
         },
         Row::Deallocate(port) => Call::PortDeallocate { port: *port },
+        Row::Send(port, to) => Call::PortSend {
+            port: *port,
+            to: TaskId(*to),
+        },
+        Row::Receive => Call::PortReceive,
+        Row::Makeauth(uids, gids) => Call::AuthMakeauth {
+            ids: ids_of(alloc, uids, gids)?,
+        },
+        Row::Seek(port, offset, whence) => Call::IoSeek {
+            port: *port,
+            offset: *offset,
+            whence: *whence,
+        },
+        Row::Readable(port) => Call::IoReadable { port: *port },
+        Row::Openmodes(port) => Call::IoGetOpenmodes { port: *port },
+        Row::SetOpenmodes(port, flags) => Call::IoSetAllOpenmodes {
+            port: *port,
+            flags: OpenFlags::from_bits_retain(*flags),
+        },
+        Row::Duplicate(port) => Call::IoDuplicate { port: *port },
+        Row::Reauthenticate(port) => Call::IoReauthenticate { port: *port },
+        Row::Restrict(port, uids, gids) => Call::IoRestrictAuth {
+            port: *port,
+            ids: ids_of(alloc, uids, gids)?,
+        },
+        Row::Identity(port, other) => Call::IoIdentity {
+            port: *port,
+            other: *other,
+        },
     })
 }
 
@@ -158,6 +205,7 @@ pub fn is_reply(reply: &Reply, want: &Want) -> bool {
         }
         (Reply::Stat(stat), Want::Links(links)) => stat.links == *links,
         (Reply::Modes(modes), Want::Modes(wanted)) => modes.bits() == *wanted,
+        (Reply::Same(same), Want::Same(wanted)) => *same == *wanted,
         (Reply::Refused(errno), Want::Refused(wanted)) => *errno == *wanted,
         _ => false,
     }

@@ -1,5 +1,5 @@
 //! Two runs that look the same to alice.
-use crate::fixture::{Memory, Row, Want, call_of, is_reply, world};
+use crate::fixture::{Memory, Row, Want, call_of, is_reply, made, world};
 use hurd_creds::{Errno, Kind, TaskId};
 use hurd_world::{Call, Reply, World};
 use std::alloc::{AllocError, Global};
@@ -140,4 +140,65 @@ fn isolation_with_ample_memory(rt: HostRuntime) -> Result<(), Fail> {
 #[test]
 fn refused_memory_in_isolation(rt: HostRuntime) -> Result<(), Fail> {
     check(&rt, rt.alloc(), Memory::refused_once(rt.alloc()))
+}
+
+/// root's `put /motd Welcome\n`, and bob's home, of which alice sees no entry; alice opens motd.
+fn before<'a>() -> [(u32, Row<'a>, Want<'a>); 9] {
+    [
+        (ROOT, Row::Lookup(1, b"/motd", 2 + 16, 0o644), Want::Port(3)),
+        (ROOT, Row::Write(3, b"Welcome\n", -1), Want::Count(8)),
+        (ROOT, Row::Deallocate(3), Want::Done),
+        (ROOT, Row::Mkdir(1, b"bob", 0o700), Want::Done),
+        (ROOT, Row::Lookup(1, b"bob", 0, 0), Want::Port(4)),
+        (ROOT, Row::Chown(4, 1001, 1001), Want::Done),
+        (BOB, Row::Lookup(1, b"bob", 0, 0), Want::Port(3)),
+        (ALICE, Row::Lookup(1, b"motd", 1, 0), Want::Port(3)),
+        (ALICE, Row::Stat(3), Want::Stat(Kind::File, 0, 0, 0o644, 8)),
+    ]
+}
+
+/// alice opens motd anew.
+fn afterwards<'a>() -> [(u32, Row<'a>, Want<'a>); 3] {
+    [
+        (ALICE, Row::Deallocate(3), Want::Done),
+        (ALICE, Row::Lookup(1, b"motd", 1, 0), Want::Port(4)),
+        (ALICE, Row::Stat(4), Want::Stat(Kind::File, 0, 0, 0o644, 8)),
+    ]
+}
+
+/// A digit, of ten.
+fn digit(number: u16) -> u8 {
+    b'0' + (number % 10) as u8
+}
+
+/// The calls of these rows are answered as they say.
+fn check_rows(rt: &impl Abort, alloc: Global, world: &mut World, rows: &[(u32, Row, Want)]) {
+    for (task, row, want) in rows {
+        let reply = made(alloc, world, *task, row, &mut Memory::ample());
+        assert!(rt; is_reply(&reply, want), "{reply:?}");
+    }
+}
+
+/// bob makes a thousand directories.
+fn make_many(rt: &impl Abort, alloc: Global, world: &mut World) {
+    for number in 0..1000u16 {
+        let name = [digit(number / 100), digit(number / 10), digit(number)];
+        let row = Row::Mkdir(3, &name, 0o777);
+        let reply = made(alloc, world, BOB, &row, &mut Memory::ample());
+        assert!(rt; is_reply(&reply, &Want::Done), "{reply:?}");
+    }
+}
+
+/// alice is told the same, and gets the same numbers, whether or not bob makes a thousand directories.
+#[test]
+fn many_things_of_another(rt: HostRuntime) -> Result<(), Fail> {
+    for with_bob in [true, false] {
+        let mut world = world(rt.alloc(), &mut Memory::ample())?;
+        check_rows(&rt, rt.alloc(), &mut world, &before());
+        if with_bob {
+            make_many(&rt, rt.alloc(), &mut world);
+        }
+        check_rows(&rt, rt.alloc(), &mut world, &afterwards());
+    }
+    Ok(())
 }

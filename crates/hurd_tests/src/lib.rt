@@ -17,3 +17,5 @@ mod isolation;
 mod nodes;
 #[cfg(test)]
 mod scripts;
+#[cfg(test)]
+mod sharing;

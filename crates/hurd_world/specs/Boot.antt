@@ -33,6 +33,7 @@ boot_task t ids = record {
       ∷ record { number = 2; right = record { node = boot_name; ids = ids; open_name = name_of t 1 } }
       ∷ [];
   next = 3;
+  inbox = [];
   made = 2;
 }
 

@@ -12,7 +12,7 @@ use hurd_core::Core;
 use hurd_creds::{Errno, Ids, TaskId};
 use hurd_dirs::{file, link, make, remove, rename};
 use hurd_files::{access, files};
-use hurd_io::io;
+use hurd_io::{io, opens, sharing};
 use hurd_lookup::lookup;
 use hurd_machine::{Call, Reply};
 use hurd_nodes::Nodes;
@@ -90,6 +90,19 @@ impl<S: Server> World<S> {
                     |()| Reply::Done,
                 )
             }
+            Call::PortSend { port, to } => {
+                rights::port_send(core, alloc, task, port, to).map_or_else(
+                    Reply::Refused,
+                    |()| Reply::Done,
+                )
+            }
+            Call::PortReceive => {
+                rights::port_receive(core, task).map_or_else(Reply::Refused, Reply::Port)
+            }
+            Call::AuthMakeauth { ids } => rights::auth_makeauth(core, task, ids).map_or_else(
+                Reply::Refused,
+                |()| Reply::Done,
+            ),
             Call::DirLookup {
                 dir,
                 path,
@@ -120,8 +133,43 @@ impl<S: Server> World<S> {
                 Reply::Refused,
                 Reply::Count,
             ),
+            Call::IoSeek {
+                port,
+                offset,
+                whence,
+            } => opens::io_seek(core, task, port, offset, whence).map_or_else(
+                Reply::Refused,
+                Reply::Count,
+            ),
             Call::IoStat { port } => {
                 io::io_stat(core, task, port).map_or_else(Reply::Refused, Reply::Stat)
+            }
+            Call::IoReadable { port } => {
+                opens::io_readable(core, task, port).map_or_else(Reply::Refused, Reply::Count)
+            }
+            Call::IoGetOpenmodes { port } => {
+                opens::io_get_openmodes(core, task, port).map_or_else(Reply::Refused, Reply::Modes)
+            }
+            Call::IoSetAllOpenmodes { port, flags } => opens::io_set_all_openmodes(
+                core, task, port, flags,
+            ).map_or_else(Reply::Refused, |()| Reply::Done),
+            Call::IoDuplicate { port } => {
+                sharing::io_duplicate(core, alloc, task, port).map_or_else(
+                    Reply::Refused,
+                    Reply::Port,
+                )
+            }
+            Call::IoReauthenticate { port } => sharing::io_reauthenticate(
+                core, alloc, task, port,
+            ).map_or_else(Reply::Refused, Reply::Port),
+            Call::IoRestrictAuth { port, ids } => sharing::io_restrict_auth(
+                core, alloc, task, port, ids,
+            ).map_or_else(Reply::Refused, Reply::Port),
+            Call::IoIdentity { port, other } => {
+                sharing::io_identity(core, task, port, other).map_or_else(
+                    Reply::Refused,
+                    Reply::Same,
+                )
             }
             Call::FileSetSize { port, size } => {
                 files::file_set_size(core, task, port, size).map_or_else(

@@ -1,4 +1,4 @@
-use Rattle.std.proofs.Common.{◌≡◌, List, [], ap, arith}
+use Rattle.std.proofs.Common.{◌≡◌, List, [], ap, ap₂, arith}
 use Rattle.std.proofs.lemmas.Grind.{common_steps}
 use Rattle.std.proofs.lemmas.List.{nil_from_length}
 use Rattle.std.specs.Vec.Iter.{into_iter_items}
@@ -7,6 +7,7 @@ use Rattle.hurd_ports.specs.Tables.{Task, PortState, Tables}
 use Rattle.hurd_ports.specs.Steps.{starting_at}
 use Rattle.hurd_ports.specs.Seats.{state_of}
 use Rattle.hurd_ports.specs.declared.table.Port.{Port}
+use Rattle.hurd_ports.specs.declared.table.Right.{Right}
 use Rattle.hurd_ports.proofs.SeatLaws.{started, seat-pushed}
 use Rattle.hurd_ports.proofs.SoundLaws.{sound-starting}
 use Rattle.hurd_ports.proofs.ports.Ports.starting_at.Goals as goal
@@ -17,7 +18,8 @@ loop-ids-preserved c = record {
   ends = tt;
   all = grind (arith, common_steps);
   seats =
-      let empty = ap (λ (ps : List Port). let x : Task = record { ids = c.in-Some.ids; ports = ps; next = c.args.next; made = 0 } in x) c.new.ensures.items in
+      let empty =
+      ap₂ (λ (ps : List Port) (rs : List Right). let x : Task = record { ids = c.in-Some.ids; ports = ps; next = c.args.next; inbox = rs; made = 0 } in x) c.new.ensures.items c.new-in-loop-ids.ensures.items in
       rw (c.push_reserved.ensures.items) (seat-pushed c.loop-ids.seats.items _ c.loop-ids.yielded c.in-Some.ids c.args.next c.loop-ids.invariant.seats empty);
   room = omega (arith, c.in-Some.ensures.steps.1);
 }

@@ -1,0 +1,67 @@
+-- The laws of cursors, and of what opens are for: they ask for an open of the caller's own, and its node's header.
+use Rattle.std.proofs.Common.{◌≡◌, ℕ, ℤ, pos, negsuc, Bool, true, refl, inl}
+use Rattle.hurd_creds.specs.declared.open_flags.OpenFlags.{OpenFlags}
+use Rattle.hurd_creds.specs.Bits.{READ, APPEND, asks}
+use Rattle.hurd_machine.specs.declared.call.Whence.{Whence}
+use Rattle.hurd_machine.specs.declared.call.Reply.TheVariants.{Count, Done}
+use Rattle.hurd_machine.specs.World.{World}
+use Rattle.hurd_machine.specs.Handle.{any_mode, handle_asks}
+use Rattle.hurd_machine.specs.Sight.{OpenOf}
+use Rattle.hurd_machine.proofs.Views.{Agree}
+use Rattle.hurd_machine.proofs.Frame.{Full}
+use Rattle.hurd_machine.proofs.Opens.{cursor_within, cursor_proper, cursor_linked, cursor_sized, cursor_rests, append_within, append_proper, append_linked, append_sized, append_rests}
+use Rattle.hurd_machine.proofs.Permits.{append_may, cursor_may}
+use Rattle.hurd_machine.proofs.Asks.{IsPlain, ok_plain, err_plain, given_plain, first_plain, first_same, answered_same, answered_plain, done_plain, handle_same, handle_plain}
+use Rattle.hurd_machine.proofs.CallLaws.{CallLaws, looking_laws, answered_within, answered_proper, answered_linked, answered_sized, answered_rests, answered_may}
+use Rattle.hurd_io.specs.Opens.{place_asks, seek_asks, plan_seek, touches_seek, readable_asks, told_readable, plan_readable, touches_readable, told_modes, plan_get_openmodes, touches_get_openmodes, plan_set_openmodes, touches_set_openmodes}
+
+-- io_seek
+
+place_plain : (z : ℤ) → IsPlain (place_asks z)
+place_plain (pos n) = given_plain _ _ _ refl (λ e. ok_plain n)
+place_plain (negsuc n) = err_plain _ refl
+
+module _ (t p : ℕ) (offset : ℤ) (whence : Whence) where
+  seek_same : (S : ℕ → Bool) (v w : World) → Agree S v w → S t ≡ true → seek_asks w t p offset whence ≡ seek_asks v t p offset whence
+  seek_same S v w a ours = first_same _ _ _ _ (handle_same a t ours p any_mode) (λ h is. refl)
+
+  seek_plain : (w : World) → IsPlain (seek_asks w t p offset whence)
+  seek_plain w = first_plain _ _ (handle_plain w t p any_mode) (λ h is. first_plain _ _ (place_plain _) (λ k e. ok_plain _))
+
+  pub seek_laws : CallLaws t (λ w. plan_seek w t p offset whence) (λ w. touches_seek w t p offset whence)
+  seek_laws = record {
+    fits = λ w c. answered_within w t (seek_asks w t p offset whence) _ _ (λ s is. cursor_within (Full w t (λ q. q ≡ OpenOf s.0)) w s.0 s.1 (inl refl));
+    proper = λ w s. answered_proper w _ _ (λ k is. cursor_proper w k.0 k.1);
+    linked = λ w s. answered_linked w _ _ s.linked (λ k is. cursor_linked w k.0 k.1 s.linked);
+    sized = λ w s. answered_sized w _ _ s.sizes (λ k is. cursor_sized w k.0 k.1 s.sizes);
+    rests = λ w s. answered_rests w _ _ s.settled (λ k is. cursor_rests w k.0 k.1 s.settled);
+    may = λ S v c ours. answered_may v _ _ S v (λ k is. cursor_may S v v k.0 k.1);
+    same = λ S v w c a ours. answered_same _ _ _ _ (seek_same S v w a ours) (λ k is. refl);
+    plain = λ w. answered_plain _ _ (seek_plain w) (λ k is. done_plain (Count k.1) refl);
+  }
+
+-- io_readable
+
+pub readable_laws : (t p : ℕ) → CallLaws t (λ w. plan_readable w t p) (λ w. touches_readable w t p)
+readable_laws t p =
+    looking_laws t (λ w. readable_asks w t p) told_readable (λ S v w a ours. first_same _ _ _ _ (handle_same a t ours p READ) (λ h is. refl))
+    (λ w. first_plain _ _ (handle_plain w t p READ) (λ h is. given_plain _ _ _ refl (λ file. ok_plain _))) (λ h. refl)
+
+-- io_get_openmodes
+
+pub get_openmodes_laws : (t p : ℕ) → CallLaws t (λ w. plan_get_openmodes w t p) (λ w. touches_get_openmodes w t p)
+get_openmodes_laws t p = looking_laws t (λ w. handle_asks w t p any_mode) told_modes (λ S v w a ours. handle_same a t ours p any_mode) (λ w. handle_plain w t p any_mode) (λ h. refl)
+
+-- io_set_all_openmodes
+
+pub set_openmodes_laws : (t p : ℕ) (flags : OpenFlags) → CallLaws t (λ w. plan_set_openmodes w t p flags) (λ w. touches_set_openmodes w t p flags)
+set_openmodes_laws t p flags = record {
+  fits = λ w c. answered_within w t (handle_asks w t p any_mode) _ _ (λ a is. append_within a.open_name (asks flags APPEND) (Full w t (λ q. q ≡ OpenOf a.open_name)) w (inl refl));
+  proper = λ w s. answered_proper w _ _ (λ a is. append_proper a.open_name (asks flags APPEND) w);
+  linked = λ w s. answered_linked w _ _ s.linked (λ a is. append_linked a.open_name (asks flags APPEND) w s.linked);
+  sized = λ w s. answered_sized w _ _ s.sizes (λ a is. append_sized a.open_name (asks flags APPEND) w s.sizes);
+  rests = λ w s. answered_rests w _ _ s.settled (λ a is. append_rests a.open_name (asks flags APPEND) w s.settled);
+  may = λ S v c ours. answered_may v _ _ S v (λ a is. append_may S v v a.open_name (asks flags APPEND));
+  same = λ S v w c a ours. answered_same _ _ _ _ (handle_same a t ours p any_mode) (λ b is. refl);
+  plain = λ w. answered_plain _ _ (handle_plain w t p any_mode) (λ a is. done_plain Done refl);
+}

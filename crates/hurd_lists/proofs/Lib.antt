@@ -1,0 +1,4 @@
+pub mod ArgumentLemmas
+pub mod ListLemmas
+pub mod ReplyLemmas
+pub mod WordLemmas

@@ -1,0 +1,26 @@
+-- The lines of a list.
+use Rattle.std.proofs.Common.{◌≡◌, ◌+◌, ◌∷◌, [], ℕ, List, Option, Some, None, Result, Ok, Err, refl, sym, ◌∙◌, ap, option_map}
+use Rattle.hurd_script.specs.Reading.{Reads}
+use Rattle.hurd_script.specs.declared.fault.ReadFault.{ReadFault}
+use Rattle.hurd_script.specs.declared.fault.ReadFault.TheVariants as read_fault
+use Rattle.hurd_lists.specs.Lists.{Parses, Standing, fault_at, or_bad, read_from, with_line}
+
+-- a line that is read, and one that is bad
+pub read_next : (number : ℕ) (s next : Standing) (line : List ℕ) (lines : List (List ℕ)) → with_line s line ≡ Some next
+    → read_from number s (line ∷ lines) ≡ read_from (number + 1) next lines
+unfolding read_from
+read_next number s next line lines e = ap (λ (o : Option Standing). or_bad number (option_map (λ n. read_from (number + 1) n lines) o)) e
+
+read_bad : (number : ℕ) (s : Standing) (line : List ℕ) (lines : List (List ℕ)) → with_line s line ≡ None → read_from number s (line ∷ lines) ≡ Err number
+unfolding read_from
+read_bad number s line lines e = ap (λ (o : Option Standing). or_bad number (option_map (λ n. read_from (number + 1) n lines) o)) e
+
+pub read_ended : (number : ℕ) (s : Standing) → read_from number s [] ≡ Ok s
+unfolding read_from
+read_ended number s = refl
+
+-- what a line that was not read says
+pub line_not_read : (e : ReadFault) (number : ℕ) (s after : Standing) (line : List ℕ) (lines : List (List ℕ)) (wanted : Result Standing ℕ) → read_from number s (line ∷ lines) ≡ wanted
+    → Reads {X = Unit {0}} (λ _. after) (with_line s line) (Err e) → Parses wanted (Err (fault_at e number))
+line_not_read read_fault.Memory number s after line lines wanted same r = tt
+line_not_read read_fault.Bad number s after line lines wanted same r = sym same ∙ read_bad number s line lines r

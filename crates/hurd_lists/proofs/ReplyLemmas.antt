@@ -1,0 +1,42 @@
+-- Bytes and names as they are printed.
+use Rattle.std.proofs.Common.{◌≡◌, ◌<◌, ◌≤◌, ◌+◌, ◌++◌, ◌∷◌, [], ℕ, List, refl, sym, ◌∙◌, ap, append_assoc, append-nil, drop, get_or, length}
+use Rattle.std.proofs.lemmas.List.{at_drop_all, at_drop_more}
+use Rattle.hurd_lists.specs.Replies.{each_shown, shown, shown_byte, shown_names}
+
+more_bytes : (b : ℕ) (bs : List ℕ) → each_shown (b ∷ bs) ≡ shown_byte b ++ each_shown bs
+unfolding each_shown
+more_bytes b bs = refl
+
+more_names : (name : List ℕ) (names : List (List ℕ)) → shown_names (name ∷ names) ≡ (32 ∷ shown name) ++ shown_names names
+unfolding shown_names
+more_names name names = refl
+
+-- the next byte was printed
+pub bytes_next : (front new bytes : List ℕ) (i : ℕ) → i < length bytes → new ≡ front ++ shown_byte (get_or bytes i 0)
+    → new ++ each_shown (drop (i + 1) bytes) ≡ front ++ each_shown (drop i bytes)
+bytes_next front new bytes i h e =
+    ap (λ (n : List ℕ). n ++ each_shown (drop (i + 1) bytes)) e
+    ∙ (append_assoc front (shown_byte (get_or bytes i 0)) (each_shown (drop (i + 1) bytes))
+    ∙ ap (λ (t : List ℕ). front ++ t) (sym (at_drop_more each_shown bytes i 0 h ∙ more_bytes (get_or bytes i 0) (drop (i + 1) bytes))))
+
+no_bytes : each_shown [] ≡ []
+unfolding each_shown
+no_bytes = refl
+
+pub bytes_ended : (front bytes : List ℕ) (i : ℕ) → length bytes ≤ i → front ++ each_shown (drop i bytes) ≡ front
+bytes_ended front bytes i h = ap (λ (t : List ℕ). front ++ t) (at_drop_all each_shown bytes i h ∙ no_bytes) ∙ append-nil front
+
+-- the next name was printed
+pub names_next : (front new : List ℕ) (names : List (List ℕ)) (i : ℕ) (name d : List ℕ) → i < length names → name ≡ get_or names i d → new ≡ front ++ 32 ∷ shown name
+    → new ++ shown_names (drop (i + 1) names) ≡ front ++ shown_names (drop i names)
+names_next front new names i name d h is e =
+    ap (λ (n : List ℕ). n ++ shown_names (drop (i + 1) names)) e
+    ∙ (append_assoc front (32 ∷ shown name) (shown_names (drop (i + 1) names))
+    ∙ ap (λ (t : List ℕ). front ++ t) (sym (at_drop_more shown_names names i d h ∙ (more_names (get_or names i d) (drop (i + 1) names) ∙ ap (λ (n : List ℕ). (32 ∷ shown n) ++ shown_names (drop (i + 1) names)) (sym is)))))
+
+no_names : shown_names [] ≡ []
+unfolding shown_names
+no_names = refl
+
+pub names_ended : (front : List ℕ) (names : List (List ℕ)) (i : ℕ) → length names ≤ i → front ++ shown_names (drop i names) ≡ front
+names_ended front names i h = ap (λ (t : List ℕ). front ++ t) (at_drop_all shown_names names i h ∙ no_names) ∙ append-nil front

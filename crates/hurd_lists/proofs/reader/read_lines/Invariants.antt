@@ -1,0 +1,8 @@
+use Rattle.std.proofs.Common.{◌≡◌, ◌+◌, drop}
+use Rattle.hurd_script.specs.Reading.{said}
+use Rattle.hurd_lists.specs.Lists.{read_from, said_by, unsaid}
+use Rattle.hurd_lists.proofs.reader.read_lines.Given as goal
+
+abbrev pub invariant-loop-index : goal.invariant-loop-index
+invariant-loop-index l =
+    read_from (l.index + 1) (said_by l.list) (drop l.index (said l.lines)) ≡ read_from 1 unsaid (said l.lines)

@@ -1,0 +1,7 @@
+pub mod Words
+pub mod Arguments
+pub mod Verbs
+pub mod Reading
+pub mod Calls
+pub mod Lists
+pub mod Replies

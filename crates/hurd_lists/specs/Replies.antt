@@ -1,0 +1,118 @@
+-- The text of replies.
+use Rattle.std.specs.Prelude.{ℕ, ◌+◌, ◌-◌, ◌/◌, ◌%◌, ◌==◌, ◌&&◌, ◌++◌, Bool, true, false, not, List, [], ◌∷◌, if◌then◌else◌, nat_le, nat_lt, codes, decimal}
+use Rattle.hurd_creds.specs.Bits as bit
+use Rattle.hurd_creds.specs.Errors.{name_of}
+use Rattle.hurd_creds.specs.declared.attrs.Stat.{Stat}
+use Rattle.hurd_creds.specs.declared.open_flags.OpenFlags.{OpenFlags}
+use Rattle.hurd_machine.specs.declared.call.Lookup.TheVariants as Lookup
+use Rattle.hurd_machine.specs.declared.call.Reply.{Reply}
+use Rattle.hurd_machine.specs.declared.call.Reply.TheVariants as reply
+use Rattle.hurd_creds.specs.declared.attrs.Kind.{Kind}
+use Rattle.hurd_creds.specs.declared.attrs.Kind.TheVariants.{File, Dir, Link, Fifo, Char}
+
+-- a hexadecimal digit
+abbrev pub hex_letter : ℕ → ℕ
+hex_letter v = if nat_lt v 10 then 48 + v else 97 + (v - 10)
+
+-- a byte as it is printed: by an escape where no word has it as it is
+abbrev pub shown_byte : ℕ → List ℕ
+shown_byte b =
+    if b == 32 then 92 ∷ 115 ∷ []
+    else if b == 10 then 92 ∷ 110 ∷ []
+    else if b == 92 then 92 ∷ 92 ∷ []
+    else if nat_le 33 b && nat_le b 126 then b ∷ []
+    else 92 ∷ 120 ∷ hex_letter (b / 16) ∷ hex_letter (b % 16) ∷ []
+
+-- bytes one after another, each as it is printed
+unfoldable pub each_shown : List ℕ → List ℕ
+each_shown [] = []
+each_shown (b ∷ bs) = shown_byte b ++ each_shown bs
+
+-- bytes behind `=`
+abbrev pub shown : List ℕ → List ℕ
+shown bytes = 61 ∷ each_shown bytes
+
+-- names, each behind a space
+unfoldable pub shown_names : List (List ℕ) → List ℕ
+shown_names [] = []
+shown_names (name ∷ names) = 32 ∷ shown name ++ shown_names names
+
+-- a number in decimal digits, behind a space
+abbrev pub spaced : ℕ → List ℕ
+spaced n = 32 ∷ decimal n
+
+-- the name of a kind
+abbrev pub kind_name : Kind → List ℕ
+kind_name File = codes "File"
+kind_name Dir = codes "Dir"
+kind_name Link = codes "Link"
+kind_name Fifo = codes "Fifo"
+kind_name Char = codes "Char"
+
+-- the last octal digit of a number
+abbrev pub octal_digit : ℕ → ℕ
+octal_digit n = 48 + n % 8
+
+-- the last octal digit of a number that is not zero
+abbrev pub high_digit : ℕ → List ℕ
+high_digit n = if n == 0 then [] else octal_digit n ∷ []
+
+-- the octal digits of a number below 2 to the 32nd above its last six, as far as it has them
+abbrev pub high_digits : ℕ → List ℕ
+high_digits n =
+    high_digit (n / 1073741824) ++ (high_digit (n / 134217728) ++ (high_digit (n / 16777216) ++ (high_digit (n / 2097152) ++ high_digit (n / 262144))))
+
+-- the last six octal digits of a number
+abbrev pub six_digits : ℕ → List ℕ
+six_digits n =
+    octal_digit (n / 32768) ∷ octal_digit (n / 4096) ∷ octal_digit (n / 512) ∷ octal_digit (n / 64) ∷ octal_digit (n / 8) ∷ octal_digit n ∷ []
+
+-- the name of a flag, if it is there, behind a comma where it is not the first
+abbrev pub flag_text : Bool → Bool → List ℕ → List ℕ
+flag_text first false name = []
+flag_text true true name = name
+flag_text false true name = 44 ∷ name
+
+-- the rows of flags and their names, each behind a comma but for the first that is there, and `-` where none is
+abbrev pub listed_flags : Bool → OpenFlags → List (ℕ × List ℕ) → List ℕ
+listed_flags first f [] = if first then codes "-" else []
+listed_flags first f (row ∷ rows) = flag_text first (bit.asks f row.0) row.1 ++ listed_flags (first && not (bit.asks f row.0)) f rows
+
+-- the names of flags, in the order of the bits
+abbrev pub flags_text : OpenFlags → List ℕ
+flags_text f = listed_flags true f ((bit.READ, codes "READ") ∷ (bit.WRITE, codes "WRITE") ∷ (bit.EXEC, codes "EXEC") ∷ (bit.APPEND, codes "APPEND") ∷ (bit.CREATE, codes "CREATE") ∷ (bit.EXCL, codes "EXCL") ∷ (bit.NOTRANS, codes "NOTRANS") ∷ (bit.NOLINK, codes "NOLINK") ∷ (bit.DIRECTORY, codes "DIRECTORY") ∷ [])
+
+-- a text, where something holds
+abbrev pub text_if : Bool → List ℕ → List ℕ
+text_if true text = text
+text_if false text = []
+
+-- a mode behind a space, as six octal digits, or more where it has them
+unfoldable pub mode_text : ℕ → List ℕ
+mode_text n = 32 ∷ high_digits n ++ six_digits n
+
+-- how many entries name a node, its size and its translators
+unfoldable pub stat_rest : Stat → List ℕ
+stat_rest s = spaced s.links ++ (spaced s.size ++ (text_if s.passive (codes " passive") ++ text_if s.active (codes " active")))
+
+-- attributes
+abbrev pub stat_text : Stat → List ℕ
+stat_text s = codes "Stat " ++ (kind_name s.kind ++ (spaced s.owner ++ (spaced s.group ++ (mode_text s.mode.0 ++ stat_rest s))))
+
+-- a reply
+abbrev pub reply_text : Reply → List ℕ
+reply_text reply.Done = codes "Done"
+reply_text (reply.Found (Lookup.Done port)) = codes "Found Done" ++ spaced port
+reply_text (reply.Port port) = codes "Port" ++ spaced port
+reply_text (reply.Data bytes) = codes "Data " ++ shown bytes
+reply_text (reply.Count count) = codes "Count" ++ spaced count
+reply_text (reply.Names names) = codes "Names" ++ shown_names names
+reply_text (reply.Stat stat) = stat_text stat
+reply_text (reply.Modes flags) = codes "Modes " ++ flags_text flags
+reply_text (reply.Same true) = codes "Same true"
+reply_text (reply.Same false) = codes "Same false"
+reply_text (reply.Refused e) = codes "Refused " ++ name_of e
+
+-- a call's line, and on the next its reply, behind two spaces
+abbrev pub told : List ℕ → Reply → List ℕ
+told line r = line ++ codes "\n  " ++ reply_text r ++ 10 ∷ []

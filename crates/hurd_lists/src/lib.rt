@@ -1,0 +1,23 @@
+//! Lists of calls: which tasks there are, which calls they make, and how replies are printed.
+//!
+//! A list is lines, each ended by a newline, which the last may lack. `parse_calls` reads one: first come the tasks, a line
+//! `task UIDS GIDS` each, in order from task 0, then calls, a line `TASK CALL ARG..` each. Lines that are empty, only spaces
+//! or begin with `#` are skipped. Words are of printable ASCII, between spaces; in a word `\s` is a space, `\n` a newline,
+//! `\\` a backslash and `\xHH` the byte of two hexadecimal digits. `call_of` says which call a name and its arguments make,
+//! and `told` prints a call's line with its reply.
+//!
+//! It makes no call: that is the world's.
+#![tactic(auto)]
+
+mod arguments;
+mod calls;
+mod reader;
+mod replies;
+mod verb;
+mod words;
+
+pub use reader::{CallList, ListFault, ListedCall, parse_calls};
+pub use replies::told;
+
+#[cfg(test)]
+mod tests;

@@ -1,0 +1,169 @@
+//! Reading a list of calls.
+ghost use Rattle.std.specs.Prelude.{◌≡◌, codes};
+ghost use Rattle.hurd_script.specs.Reading.{Reads, said};
+ghost use Rattle.hurd_script.specs.Users.{begins_with};
+ghost use Rattle.hurd_lists.specs.Lists.{Parses, call_from, fault_at, read_from, reading_of, said_by, task_from, unsaid, with_call, with_line, with_task};
+
+use crate::arguments::{ids, task, text};
+use crate::calls::call_of;
+use crate::verb::verb_of;
+use crate::words::words_of;
+use hurd_creds::{Bytes, Ids, TaskId};
+use hurd_machine::Call;
+use hurd_script::fault::ReadFault;
+use hurd_script::lines::{is_skipped, skip_spaces, without_end};
+use hurd_script::words::pieces;
+use std::alloc::{AllocError, Global};
+
+/// How many bytes a list may have.
+const MOST_BYTES: usize = 1_048_576;
+
+/// How many tasks there may be.
+const MOST_TASKS: usize = 64;
+
+/// A call of a list.
+#[derive(Debug, Drop)]
+pub struct ListedCall {
+    /// The task that makes it.
+    pub task: TaskId,
+    pub call: Call,
+    /// Its line, without outer spaces.
+    pub line: Bytes,
+}
+
+/// A list of calls that was read.
+#[derive(Debug, Drop)]
+pub struct CallList {
+    /// The ids of the tasks.
+    pub tasks: Vec<Ids>,
+    pub calls: Vec<ListedCall>,
+}
+
+/// Why a list of calls was not read.
+#[derive(Clone, Copy, Debug, PartialEq, Eq)]
+pub enum ListFault {
+    /// It is bad at this line, counted from 1; at line 0 where it is longer than 1,048,576 bytes.
+    Bad { line: u64 },
+    Memory,
+}
+
+impl From<AllocError> for ListFault {
+    ghost use Rattle.std.specs.Prelude.{◌≡◌};
+    ghost use Rattle.hurd_lists.specs.declared.reader.ListFault.TheVariants.{Memory};
+
+    ghost from_gives = { λ _ e. e ≡ Memory };
+
+    fn from(_error: AllocError) -> ListFault {
+        ListFault::Memory
+    }
+}
+
+impl CallList {
+    /// No task, and no call.
+    fn new(alloc: Global) -> CallList
+        ensures { said_by result ≡ unsaid }
+    {
+        CallList {
+            tasks: Vec::new(alloc),
+            calls: Vec::new(alloc),
+        }
+    }
+
+    /// Reads a task line's words.
+    fn take_task(&mut self, alloc: Global, words: &[Bytes]) -> Result<(), ReadFault>
+        ensures { Reads (λ _. said_by self.new) (with_task (said_by self.old) (task_from words.now)) result }
+    {
+        let [_, uids, gids] = words else {
+            return Err(ReadFault::Bad);
+        };
+        if !self.calls.is_empty() || self.tasks.len() >= MOST_TASKS {
+            return Err(ReadFault::Bad);
+        }
+        let ids = ids(alloc, uids.as_slice(), gids.as_slice())?;
+        self.tasks.push(ids)?;
+        Ok(())
+    }
+
+    /// Reads a call line, of these words.
+    fn take_call(&mut self, alloc: Global, line: &[u8], words: &[Bytes]) -> Result<(), ReadFault>
+        ensures { Reads (λ _. said_by self.new) (with_call (said_by self.old) (call_from line.now words.now)) result }
+    {
+        let [number, name, args @ ..] = words else {
+            return Err(ReadFault::Bad);
+        };
+        let task = task(number.as_slice())?;
+        let Some(verb) = verb_of(text(name.as_slice())?) else {
+            return Err(ReadFault::Bad);
+        };
+        let call = call_of(alloc, verb, args)?;
+        let line = Bytes::copied(alloc, without_end(skip_spaces(line)))?;
+        self.calls.push(ListedCall { task, call, line })?;
+        Ok(())
+    }
+
+    /// Reads a line.
+    fn take_line(&mut self, alloc: Global, line: &[u8]) -> Result<(), ReadFault>
+        ensures { Reads (λ _. said_by self.new) (with_line (said_by self.old) line.now) result }
+    {
+        if is_skipped(line) {
+            return Ok(());
+        }
+        let words = words_of(alloc, line)?;
+        if is_task_line(words.as_slice()) {
+            self.take_task(alloc, words.as_slice())
+        } else {
+            self.take_call(alloc, line, words.as_slice())
+        }
+    }
+}
+
+/// Whether the first word is `task`.
+fn is_task_line(words: &[Bytes]) -> bool
+    ensures { result ≡ begins_with (codes "task") words.now }
+{
+    match words.first() {
+        Some(word) => word.is(b"task"),
+        None => false,
+    }
+}
+
+/// Reads the lines of a list.
+fn read_lines(alloc: Global, lines: &[&[u8]]) -> Result<CallList, ListFault>
+    ensures { Parses (read_from 1 unsaid (said lines.now)) result }
+{
+    let mut list = CallList::new(alloc);
+    for (index, line) in lines.iter().enumerate() {
+        match list.take_line(alloc, line) {
+            Ok(()) => {}
+            Err(fault) => return Err(fault_at(fault, index as u64 + 1)),
+        }
+    }
+    Ok(list)
+}
+
+/// The fault of a line.
+fn fault_at(fault: ReadFault, line: u64) -> ListFault
+    ensures { result ≡ fault_at fault line }
+{
+    match fault {
+        ReadFault::Bad => ListFault::Bad { line },
+        ReadFault::Memory => ListFault::Memory,
+    }
+}
+
+/// Reads a list of calls: the ids of its tasks, and the calls.
+///
+/// Errors: `Bad` at line 0 for a list of more than 1,048,576 bytes; else `Bad` at its first bad line, one with a byte or a
+/// backslash that no word has, a task line of another form, behind a call or one too many, or another line that is no call.
+/// `Memory` where memory is refused.
+///
+/// Limits: 64 tasks, and 32 different uids and gids each.
+pub fn parse_calls(alloc: Global, list: &[u8]) -> Result<CallList, ListFault>
+    ensures { Parses (reading_of list.now) result }
+{
+    if list.len() > MOST_BYTES {
+        return Err(ListFault::Bad { line: 0 });
+    }
+    let lines = pieces(alloc, list, b'\n')?;
+    read_lines(alloc, lines.as_slice())
+}

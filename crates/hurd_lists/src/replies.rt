@@ -1,0 +1,260 @@
+//! The text of replies.
+ghost use Rattle.std.specs.Prelude.{◌≡◌, ◌<◌, ◌++◌, ◌∷◌, [], ◌&&◌, not, if◌then◌else◌, IfOk, OnOk};
+ghost use Rattle.hurd_lists.specs.Replies.{flag_text, flags_text, hex_letter, high_digit, high_digits, kind_name, octal_digit, reply_text, shown, shown_byte, shown_names, six_digits, spaced, mode_text, stat_rest, stat_text, text_if, told};
+
+use bitflags::Flags;
+use hurd_creds::{Bytes, Kind, Mode, OpenFlags, Stat};
+use hurd_machine::{Lookup, Reply};
+use itoa::Buffer;
+use std::alloc::{AllocError, Global};
+
+/// A hexadecimal digit.
+fn hex_digit(value: u8) -> u8
+    requires { value < 16 }
+    ensures { result ≡ hex_letter value }
+{
+    if value < 10 {
+        b'0' + value
+    } else {
+        b'a' + (value - 10)
+    }
+}
+
+/// Prints a byte, by an escape where no word has it as it is.
+fn push_byte(text: &mut Vec<u8>, byte: u8) -> Result<(), AllocError>
+    ensures { OnOk result (text.new.items ≡ text.old.items ++ shown_byte byte) }
+{
+    match byte {
+        b' ' => text.extend_from_slice(b"\\s")?,
+        b'\n' => text.extend_from_slice(b"\\n")?,
+        b'\\' => text.extend_from_slice(b"\\\\")?,
+        33..=126 => text.push(byte)?,
+        _ => { text.extend_from_slice(&[b'\\', b'x', hex_digit(byte / 16), hex_digit(byte % 16)])? }
+    }
+    Ok(())
+}
+
+/// Prints bytes behind `=`.
+fn push_bytes(text: &mut Vec<u8>, bytes: &[u8]) -> Result<(), AllocError>
+    ensures { OnOk result (text.new.items ≡ text.old.items ++ shown bytes.now) }
+{
+    text.push(b'=')?;
+    for byte in bytes {
+        push_byte(text, *byte)?;
+    }
+    Ok(())
+}
+
+/// Prints names, each behind a space.
+fn push_names(text: &mut Vec<u8>, names: &[Bytes]) -> Result<(), AllocError>
+    ensures { OnOk result (text.new.items ≡ text.old.items ++ shown_names names.now) }
+{
+    for name in names {
+        push_spaced(text, name.as_slice())?;
+    }
+    Ok(())
+}
+
+/// Prints bytes behind `=`, behind a space.
+fn push_spaced(text: &mut Vec<u8>, bytes: &[u8]) -> Result<(), AllocError>
+    ensures { OnOk result (text.new.items ≡ text.old.items ++ 32 ∷ shown bytes.now) }
+{
+    text.push(b' ')?;
+    push_bytes(text, bytes)
+}
+
+/// Prints a number behind a space.
+fn push_number(text: &mut Vec<u8>, number: u64) -> Result<(), AllocError>
+    ensures { OnOk result (text.new.items ≡ text.old.items ++ spaced number) }
+{
+    let mut buffer = Buffer::new();
+    text.push(b' ')?;
+    text.extend_from_slice(buffer.format(number).as_bytes())?;
+    Ok(())
+}
+
+/// The name of a kind.
+fn kind_name(kind: Kind) -> &'static str
+    ensures { result.now ≡ kind_name kind }
+{
+    match kind {
+        Kind::File => "File",
+        Kind::Dir => "Dir",
+        Kind::Link => "Link",
+        Kind::Fifo => "Fifo",
+        Kind::Char => "Char",
+    }
+}
+
+/// The last octal digit of a number.
+fn octal_digit(number: u32) -> u8
+    ensures { result ≡ octal_digit number }
+{
+    b'0' + (number % 8) as u8
+}
+
+/// Prints the last octal digit of a number, unless the number is zero.
+fn push_high_digit(text: &mut Vec<u8>, number: u32) -> Result<(), AllocError>
+    ensures { OnOk result (text.new.items ≡ text.old.items ++ high_digit number) }
+{
+    if number != 0 {
+        text.push(octal_digit(number))?;
+    }
+    Ok(())
+}
+
+/// Prints the octal digits of a number above its last six, as far as it has them.
+fn push_high_digits(text: &mut Vec<u8>, number: u32) -> Result<(), AllocError>
+    ensures { OnOk result (text.new.items ≡ text.old.items ++ high_digits number) }
+{
+    push_high_digit(text, number / 0o10000000000)?;
+    push_high_digit(text, number / 0o1000000000)?;
+    push_high_digit(text, number / 0o100000000)?;
+    push_high_digit(text, number / 0o10000000)?;
+    push_high_digit(text, number / 0o1000000)
+}
+
+/// Prints a mode behind a space, as six octal digits, or more where it has them.
+#[tactic(auto, unfolding(crate::specs::Replies::mode_text))]
+fn push_mode(text: &mut Vec<u8>, mode: Mode) -> Result<(), AllocError>
+    ensures { OnOk result (text.new.items ≡ text.old.items ++ mode_text mode.0) }
+{
+    let bits = mode.bits();
+    text.push(b' ')?;
+    push_high_digits(text, bits)?;
+    let digits = [
+        octal_digit(bits / 0o100000),
+        octal_digit(bits / 0o10000),
+        octal_digit(bits / 0o1000),
+        octal_digit(bits / 0o100),
+        octal_digit(bits / 0o10),
+        octal_digit(bits),
+    ];
+    text.extend_from_slice(&digits)?;
+    Ok(())
+}
+
+/// Prints a text, where something holds.
+fn push_if(text: &mut Vec<u8>, holds: bool, words: &str) -> Result<(), AllocError>
+    ensures { OnOk result (text.new.items ≡ text.old.items ++ text_if holds words.now) }
+{
+    if holds {
+        text.extend_from_slice(words.as_bytes())?;
+    }
+    Ok(())
+}
+
+/// Prints how many entries name a node, its size and its translators.
+#[tactic(auto, unfolding(crate::specs::Replies::stat_rest))]
+fn push_rest(text: &mut Vec<u8>, stat: &Stat) -> Result<(), AllocError>
+    ensures { OnOk result (text.new.items ≡ text.old.items ++ stat_rest stat.now) }
+{
+    push_number(text, u64::from(stat.links))?;
+    push_number(text, stat.size)?;
+    push_if(text, stat.passive, " passive")?;
+    push_if(text, stat.active, " active")
+}
+
+/// Prints attributes.
+fn push_stat(text: &mut Vec<u8>, stat: &Stat) -> Result<(), AllocError>
+    ensures { OnOk result (text.new.items ≡ text.old.items ++ stat_text stat.now) }
+{
+    text.extend_from_slice(b"Stat ")?;
+    text.extend_from_slice(kind_name(stat.kind).as_bytes())?;
+    push_number(text, u64::from(stat.owner))?;
+    push_number(text, u64::from(stat.group))?;
+    push_mode(text, stat.mode)?;
+    push_rest(text, stat)
+}
+
+/// Prints a name behind a comma, and only the name where it is the first.
+fn push_name(text: &mut Vec<u8>, first: bool, name: &str) -> Result<(), AllocError>
+    ensures { OnOk result (text.new.items ≡ text.old.items ++ (if first then name.now else 44 ∷ name.now)) }
+{
+    if !first {
+        text.push(b',')?;
+    }
+    text.extend_from_slice(name.as_bytes())?;
+    Ok(())
+}
+
+/// Prints the name of a flag, if it is there, and answers whether none was printed yet.
+fn push_flag(text: &mut Vec<u8>, first: bool, there: bool, name: &str) -> Result<bool, AllocError>
+    ensures { IfOk result (λ none. (none ≡ (first && not there)) × (text.new.items ≡ text.old.items ++ flag_text first there name.now)) }
+{
+    if there {
+        push_name(text, first, name)?;
+        return Ok(false);
+    }
+    Ok(first)
+}
+
+/// Prints the names of flags, joined by commas, or `-` for none.
+fn push_flags(text: &mut Vec<u8>, flags: OpenFlags) -> Result<(), AllocError>
+    ensures { OnOk result (text.new.items ≡ text.old.items ++ flags_text flags) }
+{
+    let first = push_flag(text, true, flags.asks(OpenFlags::READ), "READ")?;
+    let first = push_flag(text, first, flags.asks(OpenFlags::WRITE), "WRITE")?;
+    let first = push_flag(text, first, flags.asks(OpenFlags::EXEC), "EXEC")?;
+    let first = push_flag(text, first, flags.asks(OpenFlags::APPEND), "APPEND")?;
+    let first = push_flag(text, first, flags.asks(OpenFlags::CREATE), "CREATE")?;
+    let first = push_flag(text, first, flags.asks(OpenFlags::EXCL), "EXCL")?;
+    let first = push_flag(text, first, flags.asks(OpenFlags::NOTRANS), "NOTRANS")?;
+    let first = push_flag(text, first, flags.asks(OpenFlags::NOLINK), "NOLINK")?;
+    let first = push_flag(text, first, flags.asks(OpenFlags::DIRECTORY), "DIRECTORY")?;
+    if first {
+        text.push(b'-')?;
+    }
+    Ok(())
+}
+
+/// Prints a reply.
+fn push_reply(text: &mut Vec<u8>, reply: &Reply) -> Result<(), AllocError>
+    ensures { OnOk result (text.new.items ≡ text.old.items ++ reply_text reply.now) }
+{
+    match reply {
+        Reply::Done => text.extend_from_slice(b"Done"),
+        Reply::Found(Lookup::Done(port)) => {
+            text.extend_from_slice(b"Found Done")?;
+            push_number(text, *port)
+        }
+        Reply::Port(port) => {
+            text.extend_from_slice(b"Port")?;
+            push_number(text, *port)
+        }
+        Reply::Data(bytes) => {
+            text.extend_from_slice(b"Data ")?;
+            push_bytes(text, bytes.as_slice())
+        }
+        Reply::Count(count) => {
+            text.extend_from_slice(b"Count")?;
+            push_number(text, *count)
+        }
+        Reply::Names(names) => {
+            text.extend_from_slice(b"Names")?;
+            push_names(text, names.as_slice())
+        }
+        Reply::Stat(stat) => push_stat(text, stat),
+        Reply::Modes(flags) => {
+            text.extend_from_slice(b"Modes ")?;
+            push_flags(text, *flags)
+        }
+        Reply::Same(true) => text.extend_from_slice(b"Same true"),
+        Reply::Same(false) => text.extend_from_slice(b"Same false"),
+        Reply::Refused(errno) => {
+            text.extend_from_slice(b"Refused ")?;
+            text.extend_from_slice(errno.name().as_bytes())
+        }
+    }
+}
+
+/// A call's line, and on the next its reply, behind two spaces.
+pub fn told(alloc: Global, line: &[u8], reply: &Reply) -> Result<Bytes, AllocError>
+    ensures { IfOk result (λ text. text ≡ told line.now reply.now) }
+{
+    let mut text = Vec::from_slice(alloc, line)?;
+    text.extend_from_slice(b"\n  ")?;
+    push_reply(&mut text, reply)?;
+    text.push(b'\n')?;
+    Ok(Bytes::new(text))
+}

@@ -1,0 +1,185 @@
+-- One task that is changed, where its rights still hold what they held.
+use Rattle.std.proofs.Common.{◌≡◌, ℕ, ◌<◌, ◌≤◌, List, [], ◌∷◌, ◌++◌, Bool, true, false, cond, if◌then◌else◌, map, length, refl, ap, sym, subst, ◌∙◌, append_assoc, arith}
+use Rattle.std.proofs.lemmas.List.{length-map, map_push}
+use Rattle.std.proofs.lemmas.Bool.Decides.{nat_tests}
+use Rattle.std.specs.Prelude.{Some, Result, Ok, Err, slice_get, slice_set, slice_index_or, nat_lt, ◌||◌}
+use Rattle.std.proofs.lemmas.Option.{get_or_from_slice_get}
+use Rattle.std.proofs.lemmas.List.Folds.{list_any-append}
+use Rattle.std.specs.List.{list_any}
+use Rattle.hurd_creds.specs.declared.name.Name.{Name}
+use Rattle.hurd_creds.specs.declared.errno.Errno.{Errno}
+use Rattle.hurd_creds.specs.declared.errno.Errno.TheVariants.{ESRCH}
+use Rattle.hurd_creds.specs.Access.{IdSets}
+use Rattle.hurd_creds.specs.Memory.{Steps, lacks_memory}
+use Rattle.hurd_creds.proofs.StepLaws.{steps-inside}
+use Rattle.hurd_ports.specs.declared.table.Right.{Right}
+use Rattle.hurd_ports.specs.declared.table.Port.{Port}
+use Rattle.hurd_ports.specs.declared.table.TaskSeat.{TaskSeat}
+use Rattle.hurd_ports.specs.declared.opens.OpenSeat.{OpenSeat}
+use Rattle.hurd_ports.specs.Tables.{Task, PortState, has_room, is_held, names_open, right_of, rights_of}
+use Rattle.hurd_ports.specs.Steps.{edit_task, received, receive_at, receive_step, sent_to, send_step, share_at, share_step, take_ids_at, take_ids_step, taken_by, with_ids, with_port, with_sent}
+use Rattle.hurd_ports.specs.Sound.{IsSound, NumbersRise}
+use Rattle.hurd_ports.specs.Seats.{seat_task, tasks_of, state_of}
+use Rattle.hurd_ports.proofs.TaskLaws.{set-same, edit-found}
+use Rattle.hurd_ports.proofs.HeldLaws.{any-grows, holds, holds_by, keeps, or_first, ported}
+use Rattle.hurd_ports.proofs.SoundLaws.{given-set, numbers-set, rise-push}
+use Rattle.hurd_ports.proofs.SeatLaws.{same_halves, seat-there, seat-changed}
+
+-- the rights of a task that received are those that it had, in their order
+pub received-rights : (x : Task) → rights_of (received x) ≡ rights_of x
+received-rights x = go x.inbox refl
+  where
+    go : (l : List Right) → x.inbox ≡ l → rights_of (received x) ≡ rights_of x
+    go [] e = rw e refl
+    go (r ∷ rs) e =
+        let old : List Right = map (λ (p : Port). p.right) x.ports in
+        rw e
+        (ap (λ (l : List Right). l ++ rs) (map_push (λ (p : Port). p.right) x.ports (record { number = x.next; right = r })) ∙ append_assoc old (r ∷ []) rs)
+
+-- the tables with this task in its place
+abbrev pub put : PortState → ℕ → Task → PortState
+put h t y = record h { tasks = slice_set h.tasks t y }
+
+-- what a task holds that keeps all that it holds
+pub held-grows : (ts : List Task) (t : ℕ) (x y : Task) (n : Name) → slice_get ts t ≡ Some x → (holds n x ≡ true → holds n y ≡ true) → is_held ts n ≡ true → is_held (slice_set ts t y) n ≡ true
+unfolding is_held
+held-grows ts t x y n at grows h = any-grows (holds n) ts t x y at grows h
+
+module _ (h : PortState) (t : ℕ) (x : Task) (sound : IsSound h) (at : slice_get h.tasks t ≡ Some x) where
+  -- such a task may stand in its place
+  pub sound-put : (y : Task) → ((n : Name) → holds n x ≡ true → holds n y ≡ true) → x.made ≤ y.made → NumbersRise 0 y.next y.ports → IsSound (put h t y)
+  sound-put y grows made rise = record {
+    settled = λ q w is. held-grows h.tasks t x y q at (grows q) (sound.settled q w is);
+    given = λ q w is. given-set h.tasks t x y q at made (sound.given q w is);
+    numbered = numbers-set h.tasks t x y at sound.numbered rise;
+  }
+
+-- a call that may need memory did its step, and left the tables sound
+pub record Edited {T : Type 0} (h k : PortState) (whole : Result T Errno × PortState) (got : Result T Errno) : Type 0 where
+  pub step : Steps h whole got k
+  pub sound : IsSound k
+
+module _ (h : PortState) (t : ℕ) (x : Task) (sound : IsSound h) (at : slice_get h.tasks t ≡ Some x) where
+  put-same : put h t x ≡ h
+  put-same = ap (λ (ts : List Task). record h { tasks = ts }) (set-same h.tasks t x at)
+
+  put-found : {T : Type 0} (v : T) (f : Task → Task) → ◌≡◌ {A = Result T Errno × PortState} (Ok v, record h { tasks = edit_task t f h.tasks }) (Ok v, put h t (f x))
+  put-found {T} v f = ap (λ (ts : List Task). let a : Result T Errno × PortState = (Ok v, record h { tasks = ts }) in a) (edit-found t f h.tasks x at)
+
+  either_sound : (b : Bool) (y : Task) → IsSound (put h t y) → IsSound (put h t (cond b x y))
+  either_sound true y fine = rw put-same sound
+  either_sound false y fine = fine
+
+  -- where the one task did
+  pub edited : {T : Type 0} (y z : Task) (v : T) (whole : Result T Errno × PortState) (got : Result T Errno) → IsSound (put h t y) → whole ≡ (Ok v, put h t y) → Steps x (Ok v, y) got z → Edited h (put h t z) whole got
+  edited y z v whole got fine is s = record {
+    step = rw put-same at (steps-inside (put h t) x z (Ok v, y) whole got is s);
+    sound = rw s.left (either_sound (lacks_memory got) y fine);
+  }
+
+  -- a right that is shared
+  pub sound-shared : (r : Right) → IsSound (put h t (with_port r x))
+  sound-shared r =
+      let p : Port = record { number = x.next; right = r } in
+      sound-put h t x sound at (with_port r x) (λ n. keeps x (with_port r x) p refl refl n) (omega arith) (rise-push 0 x.next x.ports p refl (sound.numbered t x at))
+
+  pub share-done : (r : Right) → has_room 0 x ≡ true → share_step t r h ≡ (Ok x.next, put h t (with_port r x))
+  share-done r room = ap (share_at h t r) at ∙ rw room (put-found x.next (with_port r))
+
+  -- one that is sent
+  pub sound-sent : (r : Right) → IsSound (put h t (with_sent r x))
+  sound-sent r = sound-put h t x sound at (with_sent r x) grows (omega arith) (sound.numbered t x at)
+    where
+      grows : (n : Name) → holds n x ≡ true → holds n (with_sent r x) ≡ true
+      grows n e =
+          holds_by n (with_sent r x) ∙ ap (λ b. ported n x.ports || b) (list_any-append (names_open n) x.inbox (r ∷ []))
+          ∙ wider (ported n x.ports) (list_any (names_open n) x.inbox) (list_any (names_open n) (r ∷ [])) (sym (holds_by n x) ∙ e)
+        where
+          wider : (a b c : Bool) → (a || b) ≡ true → (a || (b || c)) ≡ true
+          wider true b c e = refl
+          wider false b c e = or_first b c e
+
+  pub send-done : (r : Right) → t < length h.tasks → sent_to h t (Ok r) ≡ (Ok tt, put h t (with_sent r x))
+  send-done r below =
+      let there : nat_lt t (length h.tasks) ≡ true = grind (arith, nat_tests) in
+      rw there (put-found tt (with_sent r))
+
+  -- the first of the inbox, as a port
+  pub sound-received : IsSound (put h t (received x))
+  sound-received = sound-put h t x sound at (received x) (λ n e. ap (list_any (names_open n)) (received-rights x) ∙ e) (made x.inbox refl) (rises x.inbox refl)
+    where
+      made : (l : List Right) → x.inbox ≡ l → x.made ≤ (received x).made
+      made [] e = rw e (omega arith)
+      made (r ∷ rs) e = rw e (omega arith)
+
+      rises : (l : List Right) → x.inbox ≡ l → NumbersRise 0 (received x).next (received x).ports
+      rises [] e = rw e (sound.numbered t x at)
+      rises (r ∷ rs) e = rw e (rise-push 0 x.next x.ports (record { number = x.next; right = r }) refl (sound.numbered t x at))
+
+  pub receive-done : 0 < length x.inbox → has_room 0 x ≡ true → receive_step t h ≡ (Ok x.next, put h t (received x))
+  receive-done some room = ap (receive_at h t) at ∙ go x.inbox some
+    where
+      go : (rs : List Right) → 0 < length rs → taken_by h t x rs ≡ (Ok x.next, put h t (received x))
+      go [] e = absurd (omega arith)
+      go (r ∷ rs) e = rw room (put-found x.next received)
+
+  -- other ids
+  pub sound-other_ids : (ids : IdSets) → IsSound (put h t (with_ids ids x))
+  sound-other_ids ids = sound-put h t x sound at (with_ids ids x) (λ n e. e) (omega arith) (sound.numbered t x at)
+
+  pub take_ids-done : (ids : IdSets) → take_ids_step t ids h ≡ (Ok tt, put h t (with_ids ids x))
+  take_ids-done ids = ap (take_ids_at h t ids) at ∙ put-found tt (with_ids ids)
+
+-- a task took ids
+pub record IdsTaken (h k : PortState) (t : ℕ) (ids : IdSets) : Type 0 where
+  pub step : (Ok tt, k) ≡ take_ids_step t ids h
+  pub sound : IsSound k
+
+-- a task is there where the test says so
+pub task-there : (os : List OpenSeat) (ss : List TaskSeat) (t : ℕ) (u : Unit {0}) → ◌≡◌ {A = Result (Unit {0}) Errno} (Ok u) (if nat_lt t (length (state_of os ss).tasks) then Ok tt else Err ESRCH) → t < length ss
+task-there os ss t u is =
+    let below : nat_lt t (length (tasks_of ss)) ≡ true = go (nat_lt t (length (tasks_of ss))) is in
+    let same : length (tasks_of ss) ≡ length ss = length-map ss seat_task in
+    grind (arith, nat_tests)
+  where
+    go : (b : Bool) → ◌≡◌ {A = Result (Unit {0}) Errno} (Ok u) (if b then Ok tt else Err ESRCH) → b ≡ true
+    go true h = refl
+    go false h = absurd (cc)
+
+-- in the code
+module _ (os : List OpenSeat) (ss : List TaskSeat) (t : ℕ) (a s new : TaskSeat) (sound : IsSound (state_of os ss)) (found : slice_get ss t ≡ Some a) (read : s ≡ slice_index_or ss t s) where
+  abbrev pub h : PortState
+  h = state_of os ss
+
+  there : slice_get h.tasks t ≡ Some (seat_task a)
+  there = seat-there ss t a found
+
+  same : s ≡ a
+  same = read ∙ get_or_from_slice_get ss t a s found
+
+  pub put-seat : state_of os (slice_set ss t new) ≡ put h t (seat_task new)
+  put-seat = same_halves _ _ _ _ refl (seat-changed ss t new (seat_task new) refl)
+
+  pub seat-shared : (r : Right) (got : Result ℕ Errno) → has_room 0 (seat_task a) ≡ true → Steps (seat_task s) (Ok s.next, with_port r (seat_task s)) got (seat_task new)
+      → Edited h (state_of os (slice_set ss t new)) (share_step t r h) got
+  seat-shared r got room steps =
+      let did = rw same at steps in
+      rw put-seat (edited h t (seat_task a) sound there (with_port r (seat_task a)) (seat_task new) a.next (share_step t r h) got (sound-shared h t (seat_task a) sound there r) (share-done h t (seat_task a) sound there r room) did)
+
+  pub seat-received : (got : Result ℕ Errno) → 0 < length a.inbox.items → has_room 0 (seat_task a) ≡ true → Steps (seat_task s) (Ok s.next, received (seat_task s)) got (seat_task new)
+      → Edited h (state_of os (slice_set ss t new)) (receive_step t h) got
+  seat-received got some room steps =
+      let did = subst (λ (z : TaskSeat). Steps (seat_task z) (Ok z.next, received (seat_task z)) got (seat_task new)) same steps in
+      rw put-seat (edited h t (seat_task a) sound there (received (seat_task a)) (seat_task new) a.next (receive_step t h) got (sound-received h t (seat_task a) sound there) (receive-done h t (seat_task a) sound there some room) did)
+
+  pub seat-sent : (p q : ℕ) (r : Right) (got : Result (Unit {0}) Errno) → Ok r ≡ right_of h q p → t < length ss → Steps (seat_task s) (Ok tt, with_sent r (seat_task s)) got (seat_task new)
+      → Edited h (state_of os (slice_set ss t new)) (send_step q p t h) got
+  seat-sent p q r got right below steps =
+      let did = rw same at steps in
+      let step : send_step q p t h ≡ (Ok tt, put h t (with_sent r (seat_task a))) = ap (sent_to h t) (sym right) ∙ send-done h t (seat_task a) sound there r (let same : length h.tasks ≡ length ss = length-map ss seat_task in omega arith) in
+      rw put-seat (edited h t (seat_task a) sound there (with_sent r (seat_task a)) (seat_task new) tt (send_step q p t h) got (sound-sent h t (seat_task a) sound there r) step did)
+
+  pub seat-other_ids : (ids : IdSets) → seat_task new ≡ with_ids ids (seat_task s) → IdsTaken h (state_of os (slice_set ss t new)) t ids
+  seat-other_ids ids is =
+      let left : state_of os (slice_set ss t new) ≡ put h t (with_ids ids (seat_task a)) = put-seat ∙ ap (put h t) (is ∙ ap (λ (z : TaskSeat). with_ids ids (seat_task z)) same) in
+      rw left (record { step = sym (take_ids-done h t (seat_task a) sound there ids); sound = sound-other_ids h t (seat_task a) sound there ids })
