@@ -16,8 +16,6 @@ mod ids;
 mod mode;
 mod name;
 mod open_flags;
-#[cfg(test)]
-mod tests;
 
 pub use attrs::{Attrs, Kind, Stat, Want};
 pub use bytes::Bytes;

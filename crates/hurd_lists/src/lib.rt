@@ -18,6 +18,3 @@ mod words;
 
 pub use reader::{CallList, ListFault, ListedCall, parse_calls};
 pub use replies::told;
-
-#[cfg(test)]
-mod tests;

@@ -13,8 +13,6 @@
 mod opens;
 mod ports;
 mod table;
-#[cfg(test)]
-mod tests;
 
 pub use ports::Ports;
 pub use table::{Opened, Port, Right, TaskSeat};

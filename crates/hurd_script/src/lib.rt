@@ -24,6 +24,3 @@ pub mod words;
 pub use command::{Action, Command, Verb};
 pub use places::Place;
 pub use reader::{Script, ScriptFault, parse_script};
-
-#[cfg(test)]
-mod tests;

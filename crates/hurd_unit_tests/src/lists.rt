@@ -1,4 +1,4 @@
-use crate::{ListFault, parse_calls};
+use hurd_lists::{ListFault, parse_calls};
 use std::alloc::Global;
 
 /// The line at which a list is bad.

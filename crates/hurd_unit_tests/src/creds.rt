@@ -1,5 +1,5 @@
-use crate::{Attrs, Errno, Ids, Kind, Mode, OpenFlags, Want};
 use bitflags::Flags;
+use hurd_creds::{Attrs, Errno, Ids, Kind, Mode, OpenFlags, Want};
 use std::alloc::AllocError;
 use std::process::Abort;
 

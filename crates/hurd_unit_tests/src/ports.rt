@@ -1,6 +1,6 @@
 //! Numbers of ports as tasks see them, reservations, rights on their way, and opens as they come and go.
-use super::*;
 use hurd_creds::{Errno, Ids, Name, OpenFlags, TaskId};
+use hurd_ports::{Opened, Ports, Right};
 use std::alloc::Global;
 use std::test::Fail;
 

@@ -1,5 +1,5 @@
-use crate::{Action, Place, ScriptFault, parse_script};
 use bitflags::Flags;
+use hurd_script::{Action, Place, ScriptFault, parse_script};
 use std::alloc::{AllocError, Global};
 use std::process::Abort;
 

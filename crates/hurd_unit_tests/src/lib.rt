@@ -1,0 +1,13 @@
+//! Tests of single crates, through what they give to others: each file has those of the crate of its name.
+//!
+//! They stand here, and not in their crates, so that no crate is proved a second time with its tests.
+#![tactic(auto)]
+
+#[cfg(test)]
+mod creds;
+#[cfg(test)]
+mod lists;
+#[cfg(test)]
+mod ports;
+#[cfg(test)]
+mod script;
