@@ -25,9 +25,13 @@ node_app name = with_rule (bare_app name) (operand (codes "node"))
 abbrev pub list_app : Text → App
 list_app name = with_rule (node_app name) (letter_flag (codes "itself") 100)
 
+-- a command that takes the first of two words
+abbrev pub first_app : Text → App
+first_app name = with_rule (bare_app name) (operand (codes "first"))
+
 -- a command that takes two words
 abbrev pub pair_app : Text → App
-pair_app name = with_rule (with_rule (bare_app name) (operand (codes "first"))) (operand (codes "second"))
+pair_app name = with_rule (first_app name) (operand (codes "second"))
 
 -- a command that takes three words
 abbrev pub triple_app : Text → App

@@ -3,7 +3,7 @@ ghost use Rattle.std.specs.Prelude.{◌≡◌, ◌≢◌, ◌⊎◌, [], IfOk, M
 ghost use Rattle.std.specs.List.{list_any};
 ghost use Rattle.clap.specs.Words.{app_of, fault_of, found_of, is_simple_and_free, rows_of, rule_of};
 ghost use Rattle.hurd_script.specs.Actions.{flags_of, is_flag_word, operands_of};
-ghost use Rattle.hurd_script.specs.Usage.{ReadsAs, bare_app, both, is_other_flag, letter_flag, list_app, listed, lone, node_app, operand, pair_app, three, triple_app};
+ghost use Rattle.hurd_script.specs.Usage.{ReadsAs, bare_app, both, first_app, is_other_flag, letter_flag, list_app, listed, lone, node_app, operand, pair_app, three, triple_app};
 
 use clap::error::ErrorKind;
 use clap::{Arg, ArgAction, ArgMatches, Command};
@@ -81,6 +81,13 @@ fn node_command<'a>(alloc: Global, name: &'a str) -> Result<Command<'a>, AllocEr
     bare_command(alloc, name).arg(operand(alloc, "node"))
 }
 
+/// A command that takes the first of two words.
+fn first_command<'a>(alloc: Global, name: &'a str) -> Result<Command<'a>, AllocError>
+    ensures { IfOk result (λ command. app_of command ≡ first_app name.entry.now) }
+{
+    bare_command(alloc, name).arg(operand(alloc, "first"))
+}
+
 /// A command that takes a node, and the flag `-d`.
 fn list_command<'a>(alloc: Global, name: &'a str) -> Result<Command<'a>, AllocError>
     ensures { IfOk result (λ command. app_of command ≡ list_app name.entry.now) }
@@ -92,8 +99,7 @@ fn list_command<'a>(alloc: Global, name: &'a str) -> Result<Command<'a>, AllocEr
 fn pair_command<'a>(alloc: Global, name: &'a str) -> Result<Command<'a>, AllocError>
     ensures { IfOk result (λ command. app_of command ≡ pair_app name.entry.now) }
 {
-    let command = bare_command(alloc, name).arg(operand(alloc, "first"))?;
-    command.arg(operand(alloc, "second"))
+    first_command(alloc, name)?.arg(operand(alloc, "second"))
 }
 
 /// A command that takes three words.
