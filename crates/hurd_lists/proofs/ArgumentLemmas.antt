@@ -3,9 +3,9 @@ use Rattle.std.proofs.Common.{subst, ◌≡◌, ◌∷◌, [], List, ℕ, Option
 use Rattle.std.specs.Str.{IsUtf8, is_utf8}
 use Rattle.std.proofs.lemmas.Str.{IsUtf8-from_is_utf8, is_utf8-from_IsUtf8}
 use Rattle.std.specs.Prelude.{Err}
-use Rattle.hurd_script.specs.Reading.{Reads}
-use Rattle.hurd_script.specs.declared.fault.ReadFault.{ReadFault}
-use Rattle.hurd_script.specs.declared.fault.ReadFault.TheVariants as fault
+use Rattle.hurd_words.specs.Reading.{Reads}
+use Rattle.hurd_words.specs.declared.fault.ReadFault.{ReadFault}
+use Rattle.hurd_words.specs.declared.fault.ReadFault.TheVariants as fault
 use Rattle.hurd_creds.specs.declared.open_flags.OpenFlags.{OpenFlags}
 use Rattle.hurd_lists.specs.Arguments.{flag_of, flags_from, text_of, with_flags}
 

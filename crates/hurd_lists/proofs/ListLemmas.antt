@@ -1,8 +1,8 @@
 -- The lines of a list.
 use Rattle.std.proofs.Common.{◌≡◌, ◌+◌, ◌∷◌, [], ℕ, List, Option, Some, None, Result, Ok, Err, refl, sym, ◌∙◌, ap, option_map}
-use Rattle.hurd_script.specs.Reading.{Reads}
-use Rattle.hurd_script.specs.declared.fault.ReadFault.{ReadFault}
-use Rattle.hurd_script.specs.declared.fault.ReadFault.TheVariants as read_fault
+use Rattle.hurd_words.specs.Reading.{Reads}
+use Rattle.hurd_words.specs.declared.fault.ReadFault.{ReadFault}
+use Rattle.hurd_words.specs.declared.fault.ReadFault.TheVariants as read_fault
 use Rattle.hurd_lists.specs.Lists.{Parses, Standing, fault_at, or_bad, read_from, with_line}
 
 -- a line that is read, and one that is bad

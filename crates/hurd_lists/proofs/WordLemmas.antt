@@ -2,9 +2,9 @@
 use Rattle.std.proofs.Common.{ℕ, ◌≡◌, ◌≢◌, ◌≤◌, ◌++◌, ◌∷◌, [], List, Option, Some, None, false, refl, sym, ◌∙◌, ap, append-nil, drop, if◌then◌else◌, is_none, length}
 use Rattle.std.proofs.lemmas.List.{at_drop_all}
 use Rattle.std.proofs.lemmas.Bool.{eq-eqb, ne_eqb}
-use Rattle.hurd_script.specs.Reading.{behind}
-use Rattle.hurd_script.specs.Words.{escape_code, has_hidden_byte, onto}
-use Rattle.hurd_script.proofs.Loops.{behind-push}
+use Rattle.hurd_words.specs.Reading.{behind}
+use Rattle.hurd_words.specs.Words.{escape_code, has_hidden_byte, onto}
+use Rattle.hurd_words.proofs.Loops.{behind-push}
 use Rattle.hurd_lists.specs.Words.{bytes_after, bytes_of, good_bytes, hex_byte}
 use Rattle.hurd_lists.specs.declared.words.Escape.{Escape}
 use Rattle.hurd_lists.specs.declared.words.Escape.TheVariants.{Plain, Begun, Hex, Half}

@@ -10,8 +10,8 @@ use Rattle.hurd_creds.specs.Access.{IdSets}
 use Rattle.hurd_creds.specs.Bits as bit
 use Rattle.hurd_machine.specs.declared.call.Whence.{Whence}
 use Rattle.hurd_machine.specs.declared.call.Whence.TheVariants.{Set, Current, End}
-use Rattle.hurd_script.specs.Numbers as script
-use Rattle.hurd_script.specs.Users as users
+use Rattle.hurd_words.specs.Numbers as script
+use Rattle.hurd_words.specs.Users as users
 
 -- a word that is text
 abbrev pub text_of : List ℕ → Option (List ℕ)

@@ -2,11 +2,11 @@
 use Rattle.std.specs.Prelude.{◌≡◌, ℕ, ◌+◌, ◌==◌, ◌||◌, not, List, [], ◌∷◌, ◌++◌, Option, Some, None, Result, Ok, Err, if◌then◌else◌, nat_lt, nat_le, option_and_then, option_map, length, codes}
 use Rattle.std.specs.List.{slice_split}
 use Rattle.hurd_creds.specs.Access.{IdSets}
-use Rattle.hurd_script.specs.Commands.{skip_spaces, without_end}
-use Rattle.hurd_script.specs.Lines.{is_skipped, lines_of}
-use Rattle.hurd_script.specs.Users.{begins_with}
-use Rattle.hurd_script.specs.declared.fault.ReadFault.{ReadFault}
-use Rattle.hurd_script.specs.declared.fault.ReadFault.TheVariants as read_fault
+use Rattle.hurd_words.specs.Lines.{skip_spaces, without_end}
+use Rattle.hurd_words.specs.Lines.{is_skipped, lines_of}
+use Rattle.hurd_words.specs.Users.{begins_with}
+use Rattle.hurd_words.specs.declared.fault.ReadFault.{ReadFault}
+use Rattle.hurd_words.specs.declared.fault.ReadFault.TheVariants as read_fault
 use Rattle.hurd_machine.specs.declared.call.Call.{Call}
 use Rattle.hurd_creds.specs.declared.name.TaskId.{TaskId}
 use Rattle.hurd_lists.specs.Arguments.{ids_of, task_of, text_of}

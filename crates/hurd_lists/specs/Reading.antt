@@ -1,6 +1,6 @@
 -- What the functions of the reader say of each other.
 use Rattle.std.specs.Prelude.{◌≡◌, ℕ, List, ◌∷◌, Option, Some, None}
-use Rattle.hurd_script.specs.Reading.{behind}
+use Rattle.hurd_words.specs.Reading.{behind}
 use Rattle.hurd_lists.specs.Words.{bytes_after}
 use Rattle.hurd_lists.specs.declared.words.Escape.{Escape}
 

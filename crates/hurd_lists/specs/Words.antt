@@ -1,7 +1,7 @@
 -- The words of a line.
 use Rattle.std.specs.Prelude.{ℕ, ◌+◌, ◌-◌, ◌*◌, ◌==◌, ◌&&◌, ◌||◌, Bool, List, [], ◌∷◌, Option, Some, None, if◌then◌else◌, nat_le, filter, filter_map, is_none}
 use Rattle.std.specs.List.{list_any}
-use Rattle.hurd_script.specs.Words.{escape_code, has_bytes, has_hidden_byte, onto, written_words}
+use Rattle.hurd_words.specs.Words.{escape_code, has_bytes, has_hidden_byte, onto, written_words}
 use Rattle.hurd_lists.specs.declared.words.Escape.{Escape}
 use Rattle.hurd_lists.specs.declared.words.Escape.TheVariants.{Plain, Begun, Hex, Half}
 

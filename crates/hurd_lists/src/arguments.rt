@@ -2,15 +2,15 @@
 ghost use Rattle.std.specs.Prelude.{◌≡◌, ◌==◌, option_map};
 ghost use Rattle.std.specs.List.{slice_split};
 ghost use Rattle.std.specs.Int.RustNames.{bit_or};
-ghost use Rattle.hurd_script.specs.Reading.{Reads};
+ghost use Rattle.hurd_words.specs.Reading.{Reads};
 ghost use Rattle.hurd_lists.specs.Arguments.{above_zero, below_zero, bytes_of, flag_of, flags_from, flags_of, ids_of, long_number_of, mode_of, number_of, offset_of, task_of, text_of, whence_named, whence_of, with_flags};
 
 use bitflags::Flags;
 use hurd_creds::{Bytes, Ids, Mode, OpenFlags, TaskId};
 use hurd_machine::Whence;
-use hurd_script::fault::ReadFault;
-use hurd_script::numbers;
-use hurd_script::users::{ids_from, parts};
+use hurd_words::fault::ReadFault;
+use hurd_words::numbers;
+use hurd_words::users::{ids_from, parts};
 use std::alloc::Global;
 
 /// The most that an offset below zero may be away from it.

@@ -1,12 +1,12 @@
 //! Which calls names and arguments make.
-ghost use Rattle.hurd_script.specs.Reading.{Reads};
+ghost use Rattle.hurd_words.specs.Reading.{Reads};
 ghost use Rattle.hurd_lists.specs.Calls.{auth_makeauth, call_of, dir_link, dir_lookup, dir_mkdir, dir_mkfile, dir_rename, dir_rmdir, dir_unlink, entry, file_chmod, file_chown, file_set_size, io_identity, io_read, io_restrict_auth, io_seek, io_set_all_openmodes, io_write, lone, pair, port_receive, port_send};
 
 use crate::arguments::{bytes, flags, ids, long_number, mode, number, offset, task, whence};
 use crate::verb::Verb;
 use hurd_creds::Bytes;
 use hurd_machine::Call;
-use hurd_script::fault::ReadFault;
+use hurd_words::fault::ReadFault;
 use std::alloc::Global;
 
 /// A lone port.

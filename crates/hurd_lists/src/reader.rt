@@ -1,7 +1,7 @@
 //! Reading a list of calls.
 ghost use Rattle.std.specs.Prelude.{◌≡◌, codes};
-ghost use Rattle.hurd_script.specs.Reading.{Reads, said};
-ghost use Rattle.hurd_script.specs.Users.{begins_with};
+ghost use Rattle.hurd_words.specs.Reading.{Reads, said};
+ghost use Rattle.hurd_words.specs.Users.{begins_with};
 ghost use Rattle.hurd_lists.specs.Lists.{Parses, call_from, fault_at, read_from, reading_of, said_by, task_from, unsaid, with_call, with_line, with_task};
 
 use crate::arguments::{ids, task, text};
@@ -10,9 +10,9 @@ use crate::verb::verb_of;
 use crate::words::words_of;
 use hurd_creds::{Bytes, Ids, TaskId};
 use hurd_machine::Call;
-use hurd_script::fault::ReadFault;
-use hurd_script::lines::{is_skipped, skip_spaces, without_end};
-use hurd_script::words::pieces;
+use hurd_words::fault::ReadFault;
+use hurd_words::lines::{is_skipped, skip_spaces, without_end};
+use hurd_words::words::pieces;
 use std::alloc::{AllocError, Global};
 
 /// How many bytes a list may have.

@@ -1,13 +1,13 @@
 //! The words of a line.
 ghost use Rattle.std.specs.Prelude.{◌≡◌, ◌==◌, ◌<◌, ◌⊎◌, IfErr, IfOk, IfSome, OnOk};
 ghost use Rattle.std.specs.List.{slice_split};
-ghost use Rattle.hurd_script.specs.Reading.{Reads, Refuses, Takes};
+ghost use Rattle.hurd_words.specs.Reading.{Reads, Refuses, Takes};
 ghost use Rattle.hurd_lists.specs.Reading.{RefusesByte, TakesByte};
 ghost use Rattle.hurd_lists.specs.Words.{good_bytes, good_words, hex_byte, hex_digit};
 
 use hurd_creds::Bytes;
-use hurd_script::fault::ReadFault;
-use hurd_script::words::{escape_code, has_hidden_byte, pieces};
+use hurd_words::fault::ReadFault;
+use hurd_words::words::{escape_code, has_hidden_byte, pieces};
 use std::alloc::Global;
 
 /// How far an escape of a word has come.

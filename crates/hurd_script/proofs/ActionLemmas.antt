@@ -3,7 +3,7 @@ use Rattle.std.proofs.Common.{ℕ, ◌≡◌, ◌∷◌, [], List, Option, Some,
 use Rattle.std.specs.Option.{option_map_or}
 use Rattle.clap.specs.Words.{Text}
 use Rattle.hurd_script.specs.Actions.{asked, asked_by, chown_action, flags_of, operands_of}
-use Rattle.hurd_script.specs.Numbers.{number_of}
+use Rattle.hurd_words.specs.Numbers.{number_of}
 use Rattle.hurd_script.specs.Usage.{three}
 use Rattle.hurd_script.specs.declared.command.Verb.TheVariants.{Chown}
 use Rattle.hurd_script.specs.declared.command.Action.TheVariants.{Usage}

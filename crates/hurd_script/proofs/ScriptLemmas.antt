@@ -6,15 +6,16 @@ use Rattle.std.proofs.lemmas.List.Elements.{filter_map-append}
 use Rattle.std.proofs.lemmas.List.Folds.{list_any-append}
 use Rattle.std.proofs.Math.Bool.{or-false, or-true}
 use Rattle.hurd_creds.specs.Access.{IdSets}
-use Rattle.hurd_script.specs.Lines.{Turn, is_skipped, turns, turns_after}
-use Rattle.hurd_script.specs.Words.{is_bad_word, words_of, written_words}
-use Rattle.hurd_script.specs.Users.{Declaration, begins_with, declaration_of, declared_ids, declared_name, has_room_for, may_declare_some, task_of}
+use Rattle.hurd_words.specs.Lines.{Turn, is_skipped, turns, turns_after}
+use Rattle.hurd_words.specs.Words.{is_bad_word, words_of, written_words}
+use Rattle.hurd_words.specs.Users.{Declaration, begins_with, declaration_of, declared_ids, declared_name, has_room_for, may_declare_some, task_of}
 use Rattle.hurd_script.specs.Commands.{CommandLine, command_at, command_from, command_of, header_of, is_bad_command, is_command_line, verb_of}
 use Rattle.hurd_script.specs.Script.{first_bad, is_bad_line, user_at}
-use Rattle.hurd_script.specs.Reading.{LineFaultOf, Reads, Standing, fault_at, standing, with_command, with_declared, with_line, with_user}
+use Rattle.hurd_words.specs.Reading.{Reads}
+use Rattle.hurd_script.specs.Reading.{LineFaultOf, Standing, fault_at, standing, with_command, with_declared, with_line, with_user}
 use Rattle.hurd_script.specs.declared.command.Verb.{Verb}
-use Rattle.hurd_script.specs.declared.fault.ReadFault.{ReadFault}
-use Rattle.hurd_script.specs.declared.fault.ReadFault.TheVariants as read_fault
+use Rattle.hurd_words.specs.declared.fault.ReadFault.{ReadFault}
+use Rattle.hurd_words.specs.declared.fault.ReadFault.TheVariants as read_fault
 
 -- one thing more at the end of a list
 filter_map-one : {Y : Type 0} (o : Option Y) → cons_option o [] ≡ option_to_list o

@@ -1,8 +1,8 @@
 -- What the words of a command ask for.
 use Rattle.std.specs.Prelude.{ℕ, ◌==◌, ◌&&◌, Bool, false, not, List, [], ◌∷◌, Option, Some, None, if◌then◌else◌, bytes_eq, codes, filter}
 use Rattle.hurd_creds.specs.declared.mode.Mode.{Mode}
-use Rattle.hurd_script.specs.Words.{has_bytes}
-use Rattle.hurd_script.specs.Numbers.{mode_of, number_of}
+use Rattle.hurd_words.specs.Words.{has_bytes}
+use Rattle.hurd_words.specs.Numbers.{mode_of, number_of}
 use Rattle.hurd_script.specs.Places.{place_of}
 use Rattle.hurd_script.specs.Commands.{CommandLine}
 use Rattle.hurd_script.specs.declared.command.Verb.{Verb}

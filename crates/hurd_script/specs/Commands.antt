@@ -1,9 +1,9 @@
 -- The commands of a script.
-use Rattle.std.specs.Prelude.{refl, ℕ, ◌==◌, ◌&&◌, ◌||◌, Bool, true, false, not, List, [], ◌∷◌, ◌++◌, Option, Some, None, if◌then◌else◌, is_none, reverse, bytes_eq, codes}
+use Rattle.std.specs.Prelude.{refl, ℕ, ◌==◌, ◌&&◌, ◌||◌, Bool, true, false, not, List, [], ◌∷◌, ◌++◌, Option, Some, None, if◌then◌else◌, is_none, bytes_eq, codes}
 use Rattle.std.specs.Coded.{Coded, code_by, coded_list, coded_ℕ, coded×}
-use Rattle.hurd_script.specs.Lines.{is_skipped, Turn}
-use Rattle.hurd_script.specs.Words.{words_of}
-use Rattle.hurd_script.specs.Users.{is_user_line, names_before, task_of}
+use Rattle.hurd_words.specs.Lines.{is_skipped, skip_spaces, skip_word, without_end, Turn}
+use Rattle.hurd_words.specs.Words.{words_of}
+use Rattle.hurd_words.specs.Users.{is_user_line, names_before, task_of}
 use Rattle.hurd_script.specs.contracts.command.Verb as verb
 use Rattle.hurd_script.specs.declared.command.Verb.{Verb}
 use Rattle.hurd_script.specs.declared.command.Verb.TheVariants.{Cat, Ls, Put, Mkdir, Rm, Rmdir, Ln, Mv, Chmod, Chown}
@@ -42,20 +42,6 @@ verb_of word =
     else if bytes_eq word (codes "chmod") then Some Chmod
     else if bytes_eq word (codes "chown") then Some Chown
     else None
-
--- the line without the spaces that it begins with
-abbrev pub skip_spaces : List ℕ → List ℕ
-skip_spaces [] = []
-skip_spaces (b ∷ bs) = if b == 32 then skip_spaces bs else b ∷ bs
-
--- the line from its first space on
-abbrev pub skip_word : List ℕ → List ℕ
-skip_word [] = []
-skip_word (b ∷ bs) = if b == 32 then b ∷ bs else skip_word bs
-
--- the line without the spaces that it ends with
-abbrev pub without_end : List ℕ → List ℕ
-without_end line = reverse (skip_spaces (reverse line))
 
 -- the line behind its first word, as written, without outer spaces
 abbrev pub behind_name : List ℕ → List ℕ

@@ -1,7 +1,3 @@
-pub mod Lines
-pub mod Words
-pub mod Numbers
-pub mod Users
 pub mod Commands
 pub mod Places
 pub mod Actions

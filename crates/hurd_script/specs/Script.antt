@@ -3,9 +3,9 @@ use Rattle.std.specs.Prelude.{◌≡◌, ℕ, ◌&&◌, ◌||◌, Bool, not, Lis
 use Rattle.std.specs.List.{list_any, position_from}
 use Rattle.std.specs.FinSet as set
 use Rattle.hurd_creds.specs.Access.{IdSets}
-use Rattle.hurd_script.specs.Lines.{is_skipped, lines_of, turns}
-use Rattle.hurd_script.specs.Words.{is_bad_word, words_of, written_words}
-use Rattle.hurd_script.specs.Users.{declared, declared_ids, is_bad_user, is_user_line, names_before}
+use Rattle.hurd_words.specs.Lines.{is_skipped, lines_of, turns}
+use Rattle.hurd_words.specs.Words.{is_bad_word, words_of, written_words}
+use Rattle.hurd_words.specs.Users.{declared, declared_ids, is_bad_user, is_user_line, names_before}
 use Rattle.hurd_script.specs.Commands.{CommandLine, command_at, is_bad_command, is_command_line}
 use Rattle.hurd_script.specs.declared.reader.ScriptFault.{ScriptFault}
 use Rattle.hurd_script.specs.declared.reader.ScriptFault.TheVariants as fault

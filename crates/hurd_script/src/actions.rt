@@ -3,10 +3,10 @@ ghost use Rattle.std.specs.Prelude.{◌≡◌, IfOk, map, string_bytes};
 ghost use Rattle.hurd_script.specs.Actions.{asked_by};
 
 use crate::command::{Action, Verb};
-use crate::numbers::{mode, number};
 use crate::places::place_of;
 use crate::usage::{listed_of, node_of, pair_of, triple_of};
 use hurd_creds::Bytes;
+use hurd_words::numbers::{mode, number};
 use std::alloc::{AllocError, Global};
 
 /// The bytes of a text.

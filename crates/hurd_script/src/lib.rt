@@ -12,14 +12,10 @@
 
 mod actions;
 mod command;
-pub mod fault;
-pub mod lines;
-pub mod numbers;
+mod header;
 mod places;
 mod reader;
 mod usage;
-pub mod users;
-pub mod words;
 
 pub use command::{Action, Command, Verb};
 pub use places::Place;

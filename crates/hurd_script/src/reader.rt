@@ -1,17 +1,19 @@
 //! Reading a script.
 ghost use Rattle.std.specs.Prelude.{[], ◌≡◌, ◌⊎◌, ◌<◌, IfErr, IfOk, List, None, OnOk, Some, length, map, string_bytes, ℕ};
-ghost use Rattle.hurd_script.specs.Lines.{is_skipped};
-ghost use Rattle.hurd_script.specs.Reading.{LineFaultOf, Reads, fault_at, said, standing, with_command, with_declared, with_line, with_words};
+ghost use Rattle.hurd_words.specs.Lines.{is_skipped};
+ghost use Rattle.hurd_words.specs.Reading.{Reads, said};
+ghost use Rattle.hurd_script.specs.Reading.{LineFaultOf, fault_at, standing, with_command, with_declared, with_line, with_words};
 ghost use Rattle.hurd_script.specs.Commands.{command_of};
 ghost use Rattle.hurd_script.specs.Script.{FaultOf, bad, commands_of, first_bad, users_of};
-ghost use Rattle.hurd_script.specs.Users.{declaration_of, has_room_for};
+ghost use Rattle.hurd_words.specs.Users.{declaration_of, has_room_for};
 
 use crate::command::{Command, verb_of};
-use crate::fault::ReadFault;
-use crate::lines::{header, is_skipped};
-use crate::users::{ids_from, is_taken, is_user_line, is_user_name, task_of};
-use crate::words::{pieces, words_of};
+use crate::header::header;
 use hurd_creds::{Ids, TaskId};
+use hurd_words::fault::ReadFault;
+use hurd_words::lines::is_skipped;
+use hurd_words::users::{ids_from, is_taken, is_user_line, is_user_name, task_of};
+use hurd_words::words::{pieces, words_of};
 use std::alloc::{AllocError, Global};
 use std::marker::Model;
 

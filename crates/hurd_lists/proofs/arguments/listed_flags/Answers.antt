@@ -1,7 +1,7 @@
 use Rattle.std.proofs.Common.{drop, ◌+◌, ◌∙◌, sym}
 use Rattle.std.proofs.lemmas.Result.{err_from_is_err_and}
-use Rattle.hurd_script.specs.Reading.{said}
-use Rattle.hurd_script.proofs.Loops.{last_piece, next_piece}
+use Rattle.hurd_words.specs.Reading.{said}
+use Rattle.hurd_words.proofs.Loops.{last_piece, next_piece}
 use Rattle.hurd_lists.specs.Arguments.{with_flags}
 use Rattle.hurd_lists.proofs.ArgumentLemmas.{flag_not_read, flag_taken, flags_ended}
 use Rattle.hurd_lists.proofs.arguments.listed_flags.Goals as goal

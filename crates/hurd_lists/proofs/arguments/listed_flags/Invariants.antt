@@ -1,6 +1,6 @@
 use Rattle.std.proofs.Common.{◌≡◌, ◌==◌, drop}
 use Rattle.std.specs.List.{slice_split}
-use Rattle.hurd_script.specs.Reading.{said}
+use Rattle.hurd_words.specs.Reading.{said}
 use Rattle.hurd_lists.specs.Arguments.{flags_from, with_flags}
 use Rattle.hurd_lists.proofs.arguments.listed_flags.Given as goal
 

@@ -1,6 +1,6 @@
 use Rattle.std.proofs.Common.{drop, ◌+◌, ◌∙◌, sym}
-use Rattle.hurd_script.specs.Reading.{said}
-use Rattle.hurd_script.proofs.Loops.{last_piece, next_piece}
+use Rattle.hurd_words.specs.Reading.{said}
+use Rattle.hurd_words.proofs.Loops.{last_piece, next_piece}
 use Rattle.hurd_lists.specs.Lists.{read_from, said_by}
 use Rattle.hurd_lists.proofs.ListLemmas.{line_not_read, read_ended, read_next}
 use Rattle.hurd_lists.proofs.reader.read_lines.Goals as goal

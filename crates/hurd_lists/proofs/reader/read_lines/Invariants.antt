@@ -1,5 +1,5 @@
 use Rattle.std.proofs.Common.{◌≡◌, ◌+◌, drop}
-use Rattle.hurd_script.specs.Reading.{said}
+use Rattle.hurd_words.specs.Reading.{said}
 use Rattle.hurd_lists.specs.Lists.{read_from, said_by, unsaid}
 use Rattle.hurd_lists.proofs.reader.read_lines.Given as goal
 

@@ -1,5 +1,5 @@
 use Rattle.std.proofs.Common.{ap}
-use Rattle.hurd_script.specs.Reading.{behind}
+use Rattle.hurd_words.specs.Reading.{behind}
 use Rattle.hurd_lists.proofs.WordLemmas.{at_high}
 use Rattle.hurd_lists.proofs.words.take_byte.Goals as goal
 

@@ -1,5 +1,5 @@
 use Rattle.std.proofs.Common.{◌≡◌, ◌++◌, ◌∷◌, [], ap, arith}
-use Rattle.hurd_script.specs.Reading.{behind}
+use Rattle.hurd_words.specs.Reading.{behind}
 use Rattle.hurd_lists.proofs.WordLemmas.{at_backslash, plain_taken}
 use Rattle.hurd_lists.proofs.words.take_plain.Goals as goal
 

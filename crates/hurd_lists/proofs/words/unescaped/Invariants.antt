@@ -1,5 +1,5 @@
 use Rattle.std.proofs.Common.{◌≡◌, drop}
-use Rattle.hurd_script.specs.Reading.{behind}
+use Rattle.hurd_words.specs.Reading.{behind}
 use Rattle.hurd_lists.specs.Words.{bytes_after, bytes_of}
 use Rattle.hurd_lists.proofs.words.unescaped.Given as goal
 

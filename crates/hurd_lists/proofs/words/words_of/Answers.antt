@@ -1,8 +1,8 @@
 use Rattle.std.proofs.Common.{drop, ◌+◌, ◌∙◌, ap, inl, inr, sym, Global, Vec}
 use Rattle.hurd_creds.specs.declared.bytes.Bytes.{Bytes}
 use Rattle.std.proofs.lemmas.Result.{err_from_is_err_and}
-use Rattle.hurd_script.specs.Reading.{behind, said}
-use Rattle.hurd_script.proofs.Loops.{is_err, next_piece}
+use Rattle.hurd_words.specs.Reading.{behind, said}
+use Rattle.hurd_words.proofs.Loops.{is_err, next_piece}
 use Rattle.hurd_lists.specs.Words.{good_words}
 use Rattle.hurd_lists.proofs.words.words_of.Goals as goal
 

@@ -1,6 +1,6 @@
 use Rattle.std.proofs.Common.{◌≡◌, ◌==◌, drop}
 use Rattle.std.specs.List.{slice_split}
-use Rattle.hurd_script.specs.Reading.{behind, said}
+use Rattle.hurd_words.specs.Reading.{behind, said}
 use Rattle.hurd_lists.specs.Words.{good_words}
 use Rattle.hurd_lists.proofs.words.words_of.Given as goal
 

@@ -1,6 +1,7 @@
 use Rattle.std.proofs.Common.{◌∙◌, ◌<◌, Err, ap, arith, length, subst, sym, List, ℕ}
-use Rattle.hurd_script.specs.Reading.{Reads, said, with_line}
-use Rattle.hurd_script.proofs.Loops.{length-said, piece_at-said}
+use Rattle.hurd_words.specs.Reading.{Reads, said}
+use Rattle.hurd_script.specs.Reading.{with_line}
+use Rattle.hurd_words.proofs.Loops.{length-said, piece_at-said}
 use Rattle.hurd_script.proofs.ScriptLemmas.{good_line, line_fault}
 use Rattle.hurd_script.proofs.reader.read_lines.Goals as goal
 

@@ -1,6 +1,7 @@
 use Rattle.std.proofs.Common.{◌≡◌, ◌+◌, drop, take}
 use Rattle.hurd_script.specs.Script.{first_bad}
-use Rattle.hurd_script.specs.Reading.{said, standing}
+use Rattle.hurd_words.specs.Reading.{said}
+use Rattle.hurd_script.specs.Reading.{standing}
 use Rattle.hurd_script.proofs.ScriptLemmas.{bad_from}
 use Rattle.hurd_script.proofs.reader.read_lines.Given as goal
 

@@ -1,6 +1,0 @@
-use Rattle.std.proofs.Common.{◌≡◌, drop}
-use Rattle.hurd_script.specs.Commands.{skip_word}
-use Rattle.hurd_script.proofs.lines.skip_word.Given as goal
-
-abbrev pub invariant-loop-index : goal.invariant-loop-index
-invariant-loop-index l = skip_word (drop l.index l.line) ≡ skip_word l.line

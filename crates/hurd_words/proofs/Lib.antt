@@ -1,0 +1,4 @@
+pub mod Loops
+pub mod NumberLemmas
+pub mod UserLemmas
+pub mod WordLemmas

@@ -1,0 +1,5 @@
+pub mod Words
+pub mod Lines
+pub mod Numbers
+pub mod Users
+pub mod Reading
