@@ -1,5 +1,5 @@
 -- A directory made by the core, as a piece of any call: what it asks, and what its changes keep.
-use Rattle.std.proofs.Common.{◌≡◌, ℕ, Bool, true, Some, refl, sym, subst, inl, inr, arith}
+use Rattle.std.proofs.Common.{◌≡◌, ℕ, Bool, true, Some, refl, sym, ap, ◌∙◌, subst, inl, inr, arith}
 use Rattle.std.specs.Prelude.{Ok}
 use Rattle.hurd_creds.specs.declared.name.Name.{Name}
 use Rattle.hurd_creds.specs.declared.attrs.Kind.TheVariants.{Dir}
@@ -8,6 +8,7 @@ use Rattle.hurd_trans_iface.specs.Nodes.{Node, new_dir}
 use Rattle.hurd_trans_iface.specs.Good.{GoodBehaviour}
 use Rattle.hurd_trans_iface.specs.Kinds.{ServerKind, behaviour_of}
 use Rattle.hurd_ports.specs.Tables.{Task, fresh, can_name}
+use Rattle.hurd_nodes.specs.Shown.{tree_by}
 use Rattle.hurd_machine.specs.World.{World, nodes_of, task_at, home_at, server_at, makes_at}
 use Rattle.hurd_machine.specs.Sight.{Part, EmptyOf, BodyOf, Seen, Sees}
 use Rattle.hurd_machine.specs.Sound.{Coherent, LeadsUp}
@@ -56,7 +57,7 @@ module _ (t : ℕ) (f : NewNodeAt) where
 
     pub dir_proper : Coherent w → AllProper w (making_dir t f a)
     dir_proper c =
-        entered_proper w n a.1 node f.dir f.name c (fresh_next w t a.0 m.is_task) m.home m.may.absent
+        entered_proper w n a.1 node f.dir f.name c (fresh_next w t a.0 m.is_task) m.home (ap tree_by m.may.is_info ∙ m.may.tree) m.may.absent
         (made_in f.dir (asked_node Dir f n) node refl w (home_old c f.dir a.1 m.home))
 
     pub dir_rests : Rests w (making_dir t f a)

@@ -9,7 +9,7 @@ ghost use Rattle.hurd_trans_iface.specs.Behaviour.{edits_of, reading, writing, r
 ghost use Rattle.hurd_nodes.specs.Shown.{are_kin, shown, header_in, tree_by};
 ghost use Rattle.hurd_ports.specs.Tables.{ids_at, lent, right_of, room_of, task_of};
 ghost use Rattle.hurd_ports.specs.Steps.{appending, at_cursor, received, with_ids, with_port};
-ghost use Rattle.hurd_machine.specs.World.{world_from, ports_of, asked_at, body_at, header_at, home_at, info_at, is_removed, is_server_root, links_at, makes_at, renames_at, sets_attrs_at, task_at, unlinks_at};
+ghost use Rattle.hurd_machine.specs.World.{world_from, ports_of, asked_at, body_at, header_at, home_at, info_at, is_removed, is_server_root, links_at, makes_at, readable_at, renames_at, sets_attrs_at, stream_at, task_at, unlinks_at};
 ghost use Rattle.hurd_machine.specs.Change.{EditBody, EditHeader, EditOpen, EditTask, Send, apply, changes_of, dropping, opening};
 ghost use Rattle.hurd_machine.specs.Plan.{Follows, answered, told};
 ghost use Rattle.hurd_machine.specs.Handle.{both_asks, port_asks, handle_asks};
@@ -213,6 +213,26 @@ impl<S: Server> Core<S> {
         ensures { Meets (names_of (body_at (world_of S.meaning self.now) dir)) result }
     {
         self.nodes.names(alloc, dir)
+    }
+
+    /// How many bytes there are to read in a node at a place; none where it is gone.
+    pub fn readable(&self, node: NodeName, at: u64) -> u64
+        ensures { result ≡ readable_at (world_of S.meaning self.now) node at }
+    {
+        match self.nodes.readable(node, at) {
+            Some(readable) => readable.count,
+            None => 0,
+        }
+    }
+
+    /// Whether a node is there, and a stream: calls leave the cursors of its opens.
+    pub fn is_stream(&self, node: NodeName) -> bool
+        ensures { result ≡ stream_at (world_of S.meaning self.now) node }
+    {
+        match self.nodes.readable(node, 0) {
+            Some(readable) => readable.is_stream,
+            None => false,
+        }
     }
 
     /// Whether a node of this kind may be made in a directory under a name.

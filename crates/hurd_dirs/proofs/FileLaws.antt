@@ -11,10 +11,9 @@ use Rattle.hurd_creds.specs.declared.errno.Errno.TheVariants.{EACCES, EDIED, ENO
 use Rattle.hurd_creds.specs.Access.{least_uid}
 use Rattle.hurd_creds.specs.Bits.{open_modes}
 use Rattle.hurd_trans_iface.specs.Nodes.{Node, new_file, nameless_file}
-use Rattle.hurd_trans_iface.specs.Answers.{is_tree}
 use Rattle.hurd_trans_iface.specs.Good.{IsSized}
 use Rattle.hurd_trans_iface.specs.Kinds.{behaviour_of}
-use Rattle.hurd_trans_iface.specs.Meaning.{root_of}
+use Rattle.hurd_trans_iface.specs.Meaning.{keeps_tree}
 use Rattle.hurd_trans_iface.proofs.Goods.{good}
 use Rattle.hurd_nodes.specs.Shown.{ServerInfo, info_in, nameless_by}
 use Rattle.hurd_ports.specs.Tables.{Task, has_room}
@@ -39,7 +38,7 @@ use Rattle.hurd_dirs.proofs.EntryLaws.{IsEntryDir, entry_dir, dir_same, dir_plai
 pub record IsTreeServer (w : World) (d : Name) : Type 0 where
   pub info : ServerInfo
   pub is_info : info_at w d ≡ Some info
-  pub tree : is_tree (root_of info.kind) ≡ true
+  pub tree : keeps_tree info.kind ≡ true
 
 tree_server : (w : World) (d : Name) (u : Unit {0}) → nameless_asks w d ≡ Ok u → IsTreeServer w d
 tree_server w d u = go (info_at w d) (get w.nodes d) refl
@@ -51,7 +50,7 @@ tree_server w d u = go (info_at w d) (get w.nodes d) refl
     go : (i : Option ServerInfo) (o : Option Node) → info_at w d ≡ i → nameless_by File i o ≡ Ok u → IsTreeServer w d
     go None o at h = absurd (cc)
     go (Some i) None at h = absurd (cc)
-    go (Some i) (Some x) at h = record { info = i; is_info = at; tree = tested (is_tree (root_of i.kind)) h }
+    go (Some i) (Some x) at h = record { info = i; is_info = at; tree = tested (keeps_tree i.kind) h }
 
 nameless_plain : (w : World) (d : Name) → IsPlain (nameless_asks w d)
 nameless_plain w d = go (info_at w d) (get w.nodes d)
@@ -63,7 +62,7 @@ nameless_plain w d = go (info_at w d) (get w.nodes d)
     go : (i : Option ServerInfo) (o : Option Node) → IsPlain (nameless_by File i o)
     go None o = err_plain EDIED refl
     go (Some i) None = err_plain EDIED refl
-    go (Some i) (Some x) = tested (is_tree (root_of i.kind))
+    go (Some i) (Some x) = tested (keeps_tree i.kind)
 
 -- who makes it, and the server
 record MakesFile (w : World) (t : ℕ) (d : Name) (m : Task × Name) : Type 0 where
@@ -91,7 +90,7 @@ module _ (f : NamelessToMake) where
   file_nameless : IsNameless file
   file_nameless = record { shape = refl; empty = tt; file = refl; alone = refl; links = refl }
 
-  file_fits : (i : ServerInfo) → is_tree (root_of i.kind) ≡ true → IsSized (behaviour_of i.kind) i.text file
+  file_fits : (i : ServerInfo) → keeps_tree i.kind ≡ true → IsSized (behaviour_of i.kind) i.text file
   file_fits i tree = (good i.kind).newborn tree i.text f.dir (record { name = f.dir; kind = File; owner = f.owner; group = f.group; mode = f.mode }) (new_file f.owner f.group f.mode) refl
 
 making_same : {S : ℕ → Bool} {v w : World} → Agree S v w → (t : ℕ) → S t ≡ true → (d : Name) → Sees S v (BodyOf d) → making_nameless_asks w t d ≡ making_nameless_asks v t d

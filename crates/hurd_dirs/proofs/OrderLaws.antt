@@ -1,20 +1,20 @@
 -- Edits of nodes in another order: the server's own order of a rename, and the plan's, leave one world.
-use Rattle.std.proofs.Common.{◌≡◌, ◌≢◌, ◌∙◌, ℕ, not, Bool, true, false, if◌then◌else◌, is_some, List, [], ◌∷◌, ◌++◌, Option, Some, None, refl, sym, ap, subst, inl, inr}
+use Rattle.std.proofs.Common.{◌≡◌, ◌∙◌, ℕ, not, Bool, true, false, if◌then◌else◌, is_some, List, [], ◌∷◌, ◌++◌, Option, Some, None, refl, sym, ap, subst, inl, inr}
 use Rattle.std.specs.Prelude.{Result, Ok, Err}
 use Rattle.std.specs.Option.{option_map}
 use Rattle.std.specs.Str.{bytes_eq}
 use Rattle.std.specs.FinMap.{get}
 use Rattle.hurd_creds.specs.declared.name.Name.{Name}
 use Rattle.hurd_creds.specs.declared.errno.Errno.{Errno}
-use Rattle.hurd_creds.specs.declared.errno.Errno.TheVariants.{ENOENT, ENOTDIR, EROFS, EXDEV}
+use Rattle.hurd_creds.specs.declared.errno.Errno.TheVariants.{ENOENT, ENOTDIR, EROFS}
 use Rattle.hurd_creds.specs.NameMaps.{NameMap, edit}
 use Rattle.hurd_creds.proofs.NameLaws.{same_map_by, same_or_apart, edit_here, edit_apart}
 use Rattle.hurd_trans_iface.specs.Nodes.{NodeMap, Node, Entry, Header, Body, Content, Listing, Edit, is_dir, less_entry, without_entry, with_entry, moved_to, unlinked, with_header, with_body, node_of_edit}
-use Rattle.hurd_trans_iface.specs.Answers.{entry_of, is_tree, move_edits, is_one, rename_edits}
-use Rattle.hurd_trans_iface.specs.Meaning.{root_of}
+use Rattle.hurd_trans_iface.specs.Answers.{entry_of, move_edits, is_one, rename_edits}
+use Rattle.hurd_trans_iface.specs.Meaning.{keeps_tree}
 use Rattle.hurd_nodes.specs.Shown.{ServerInfo, are_kin, own_edits, tree_by, rename_by}
 use Rattle.hurd_machine.specs.World.{World, header_at, body_at, home_at, info_at, renames_at}
-use Rattle.hurd_machine.specs.Change.{Change, EditHeader, EditBody, Settle, settle, apply, apply_all, changes_of}
+use Rattle.hurd_machine.specs.Change.{EditHeader, EditBody, Settle, settle, apply_all, changes_of}
 use Rattle.hurd_machine.proofs.Nodes.{header_in, body_in}
 use Rattle.hurd_machine.proofs.Removals.{same_exact}
 use Rattle.hurd_machine.proofs.Renames.{gone}
@@ -128,5 +128,5 @@ may_rename w d name n e h k at dir tree kin to to_dir is =
     go (Some i) (Some x) (Some y) eh et ek en =
         let one : x.header ≡ h = cc (eh) in
         let two : y.header ≡ k = cc (ek) in
-        begins (is_dir x.header.kind) (is_tree (root_of i.kind)) _ (ap (λ (z : Header). is_dir z.kind) one ∙ dir) et
+        begins (is_dir x.header.kind) (keeps_tree i.kind) _ (ap (λ (z : Header). is_dir z.kind) one ∙ dir) et
         (last (is_dir y.header.kind) (entry_of name (Some x.body)) (ap (λ (z : Header). is_dir z.kind) two ∙ to_dir) en)

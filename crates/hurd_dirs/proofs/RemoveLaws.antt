@@ -10,8 +10,8 @@ use Rattle.hurd_creds.specs.declared.errno.Errno.{Errno}
 use Rattle.hurd_creds.specs.declared.errno.Errno.TheVariants.{EACCES, EDIED, EISDIR, ENOENT, ENOTDIR, EROFS, ENOTEMPTY}
 use Rattle.hurd_creds.proofs.NameLaws.{same_name-itself}
 use Rattle.hurd_trans_iface.specs.Nodes.{Node, Header, Body, Content, Listing, is_dir, is_empty_dir, unlinked, without_entry, OnBody, OnHeader}
-use Rattle.hurd_trans_iface.specs.Answers.{entry_of, is_tree, unlink_edits}
-use Rattle.hurd_trans_iface.specs.Meaning.{root_of}
+use Rattle.hurd_trans_iface.specs.Answers.{entry_of, unlink_edits}
+use Rattle.hurd_trans_iface.specs.Meaning.{keeps_tree}
 use Rattle.hurd_trans_iface.proofs.Goods.{good}
 use Rattle.hurd_nodes.specs.Shown.{ServerInfo, are_kin, info_in, own_edits, tree_by, unlink_by}
 use Rattle.hurd_machine.specs.declared.call.Reply.{Reply}
@@ -98,7 +98,7 @@ unlinks w d name n h at dir tree is = go (info_at w d) (get w.nodes d) at tree i
     go (Some i) None eh et en = absurd (cc)
     go (Some i) (Some y) eh et en =
         let same : y.header ≡ h = cc (eh) in
-        answers (is_dir y.header.kind) (is_tree (root_of i.kind)) (entry_of name (Some y.body)) (ap (λ (k : Header). is_dir k.kind) same ∙ ap is_dir dir) et en
+        answers (is_dir y.header.kind) (keeps_tree i.kind) (entry_of name (Some y.body)) (ap (λ (k : Header). is_dir k.kind) same ∙ ap is_dir dir) et en
 
 pub removing-follows : (w : World) (t p : ℕ) (name : List ℕ) (asks : Result Entered Errno) (x : Entered) (r : Reply) (y : World) → asks ≡ Ok x → IsTaking w t p name x
     → Follows w (answered (unlinks_at w x.dir name) (λ u. record { reply = Done; changes = unlinking w x.dir name })) r y → Follows w (answered asks (removing name)) r y

@@ -1,5 +1,5 @@
 -- The laws of renames.
-use Rattle.std.proofs.Common.{◌≡◌, ◌≢◌, ◌⊎◌, ◌∙◌, ℕ, ◌&&◌, ◌||◌, not, Bool, true, false, true≢false, if◌then◌else◌, List, [], ◌∷◌, ◌++◌, Option, Some, None, refl, sym, subst, inl, inr, ap, ap₂}
+use Rattle.std.proofs.Common.{◌≡◌, ◌≢◌, ◌⊎◌, ◌∙◌, ℕ, ◌&&◌, ◌||◌, not, Bool, true, false, true≢false, if◌then◌else◌, List, [], ◌∷◌, Option, Some, None, refl, sym, subst, inl, inr, ap, ap₂}
 use Rattle.std.specs.Prelude.{Result, Ok, Err}
 use Rattle.std.specs.Option.{option_map}
 use Rattle.std.specs.FinMap.{get}
@@ -12,7 +12,7 @@ use Rattle.hurd_creds.specs.declared.errno.Errno.TheVariants.{EACCES, EDIED, EIN
 use Rattle.hurd_creds.specs.Access.{may}
 use Rattle.hurd_creds.specs.Names.{same_name}
 use Rattle.hurd_creds.proofs.NameLaws.{same_or_apart, apart_if_not_same, same_name-apart, edit_apart}
-use Rattle.hurd_trans_iface.specs.Nodes.{Node, Entry, Header, Body, Content, Listing, is_dir, is_empty_dir, less_entry, unlinked, with_header, with_body, without_entry}
+use Rattle.hurd_trans_iface.specs.Nodes.{Entry, Header, Body, Content, Listing, is_dir, is_empty_dir, less_entry, unlinked, with_header, with_body, without_entry}
 use Rattle.hurd_trans_iface.specs.Answers.{entry_of}
 use Rattle.hurd_trans_iface.proofs.Goods.{good}
 use Rattle.hurd_nodes.specs.Shown.{are_kin, tree_by, info_in}
@@ -30,10 +30,9 @@ use Rattle.hurd_machine.proofs.Settle.{Rests, rests_settle}
 use Rattle.hurd_machine.proofs.Frame.{AllWithin, Full}
 use Rattle.hurd_machine.proofs.Sizes.{KeepsSized, sized_append, sized_header, sized_removed}
 use Rattle.hurd_machine.proofs.Several.{AllMay}
-use Rattle.hurd_machine.proofs.Links.{KeepsLinked, linked_append, leads_unless, listing_of}
+use Rattle.hurd_machine.proofs.Links.{leads_unless, listing_of}
 use Rattle.hurd_machine.proofs.Linking.{kin_are}
 use Rattle.hurd_machine.proofs.Removals.{MayRemove, unlinking, unlinked_less, distinct_at, entry_of_before, names_without, unlinking_proper, left_linked}
-use Rattle.hurd_machine.proofs.Moves.{LeadsAround}
 use Rattle.hurd_machine.proofs.Renames.{MayGo, may_go, gone, going, taken_none, taken_other, gone_within, gone_rests, gone_sized, gone_may, gone_proper, gone_linked}
 use Rattle.hurd_machine.proofs.Asks.{IsPlain, IsNamed, info_same, is_root_same, on_ok, given_ok, first_ok, on_same, given_same, first_same, on_plain, given_plain, first_plain, ok_plain, answered_same, answered_plain, done_plain}
 use Rattle.hurd_machine.proofs.CallLaws.{CallLaws, answered_within, answered_proper, answered_linked, answered_sized, answered_rests, answered_may}

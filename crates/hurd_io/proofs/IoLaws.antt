@@ -1,5 +1,5 @@
 -- The laws of reading and writing, and of what is told of a node.
-use Rattle.std.proofs.Common.{◌≡◌, ◌⊎◌, ℕ, ℤ, pos, negsuc, zero, suc, Bool, true, false, List, refl, inl, inr, subst, min}
+use Rattle.std.proofs.Common.{◌≡◌, ◌⊎◌, ℕ, ℤ, pos, negsuc, zero, suc, Bool, true, false, List, refl, inl, inr, ap, subst, min}
 use Rattle.std.specs.Prelude.{Result, Ok, length}
 use Rattle.hurd_creds.specs.declared.name.Name.{Name}
 use Rattle.hurd_creds.specs.declared.errno.Errno.{Errno}
@@ -7,7 +7,7 @@ use Rattle.hurd_trans_iface.specs.Behaviour.{Did, Question, edits_of}
 use Rattle.hurd_trans_iface.specs.Kinds.{ServerKind, behaviour_of}
 use Rattle.hurd_trans_iface.specs.Good.{KeepsSizes, IsPlain as IsPlainAnswer}
 use Rattle.hurd_machine.specs.declared.call.Reply.{Reply}
-use Rattle.hurd_machine.specs.World.{World, asked_at}
+use Rattle.hurd_machine.specs.World.{World, asked_at, stream_at}
 use Rattle.hurd_machine.specs.Change.{Change, apply_all, changes_of}
 use Rattle.hurd_machine.specs.Plan.{is_refused}
 use Rattle.hurd_machine.specs.Sight.{Part, BodyOf, Sees, Seen}
@@ -22,12 +22,12 @@ use Rattle.hurd_machine.proofs.Several.{AllMay}
 use Rattle.hurd_machine.proofs.Permits.{cursor_may, did_may, did_exact, may_append}
 use Rattle.hurd_machine.proofs.Opens.{cursor_within, cursor_proper, cursor_rests, cursor_sized, cursor_linked}
 use Rattle.hurd_machine.proofs.Edits.{did_within, did_proper, did_rests, did_linked}
-use Rattle.hurd_machine.proofs.Asks.{IsPlain, ok_plain, err_plain, asked_plain, answered_same, answered_plain, done_plain, first_same, first_ok, given_ok, first_plain, given_plain, handle_same, handle_read, handle_plain, asked_seen, handle_seen, asked_same, port_same, port_plain}
+use Rattle.hurd_machine.proofs.Asks.{IsPlain, ok_plain, err_plain, asked_plain, answered_same, answered_plain, done_plain, first_same, first_ok, given_ok, given_same, stream_same, first_plain, given_plain, handle_same, handle_read, handle_plain, asked_seen, handle_seen, asked_same, port_same, port_plain}
 use Rattle.hurd_machine.proofs.CallLaws.{CallLaws, looking_laws, answered_within, answered_proper, answered_sized, answered_rests, answered_may, answered_linked}
 use Rattle.hurd_io.specs.declared.offset.Offset.{Offset}
 use Rattle.hurd_io.specs.declared.offset.Offset.TheVariants.{Place, Cursor}
 use Rattle.hurd_io.specs.declared.offset.IoAt.{IoAt}
-use Rattle.hurd_io.specs.Io.{offset_of, past, moved, Moves, plan_io, touches_io, most_read, read_asks, reads, plan_read, touches_read, write_asks, writes, plan_write, touches_write, told_stat, plan_stat, touches_stat}
+use Rattle.hurd_io.specs.Io.{io_at, offset_of, past, moved, Moves, plan_io, touches_io, most_read, read_asks, reads, plan_read, touches_read, write_asks, write_cursor, writes, plan_write, touches_write, told_stat, plan_stat, touches_stat}
 use Rattle.hurd_creds.specs.Bits.{READ, WRITE}
 use Rattle.hurd_trans_iface.proofs.Goods.{good}
 use Rattle.hurd_machine.specs.declared.handle.Handle.{Handle}
@@ -43,29 +43,40 @@ offset_plain (negsuc (suc n)) = err_plain _ refl
 
 -- a cursor that moves, or doesn't
 
-moved_within : (T : Part → Type 0) (w : World) (offset : Offset) (o : Name) (k : ℕ) → ((p : Part) → Moves offset o p → T p) → AllWithin T w (moved offset o k)
-moved_within T w (Place n) o k parts = tt
-moved_within T w Cursor o k parts = cursor_within T w o k (parts _ refl)
+moved_within : (T : Part → Type 0) (w : World) (offset : Offset) (stream : Bool) (o : Name) (k : ℕ) → ((p : Part) → Moves offset stream o p → T p) → AllWithin T w (moved offset stream o k)
+moved_within T w (Place n) stream o k parts = tt
+moved_within T w Cursor true o k parts = tt
+moved_within T w Cursor false o k parts = cursor_within T w o k (parts _ refl)
 
-moved_proper : (w : World) (offset : Offset) (o : Name) (k : ℕ) → AllProper w (moved offset o k)
-moved_proper w (Place n) o k = tt
-moved_proper w Cursor o k = cursor_proper w o k
+moved_proper : (w : World) (offset : Offset) (stream : Bool) (o : Name) (k : ℕ) → AllProper w (moved offset stream o k)
+moved_proper w (Place n) stream o k = tt
+moved_proper w Cursor true o k = tt
+moved_proper w Cursor false o k = cursor_proper w o k
 
-moved_linked : (w : World) (offset : Offset) (o : Name) (k : ℕ) → KeepsLinked w (moved offset o k)
-moved_linked w (Place n) o k linked = linked
-moved_linked w Cursor o k linked = cursor_linked w o k linked
+moved_linked : (w : World) (offset : Offset) (stream : Bool) (o : Name) (k : ℕ) → KeepsLinked w (moved offset stream o k)
+moved_linked w (Place n) stream o k linked = linked
+moved_linked w Cursor true o k linked = linked
+moved_linked w Cursor false o k linked = cursor_linked w o k linked
 
-moved_sized : (w : World) (offset : Offset) (o : Name) (k : ℕ) → KeepsSized w (moved offset o k)
-moved_sized w (Place n) o k sized = sized
-moved_sized w Cursor o k sized = cursor_sized w o k sized
+moved_sized : (w : World) (offset : Offset) (stream : Bool) (o : Name) (k : ℕ) → KeepsSized w (moved offset stream o k)
+moved_sized w (Place n) stream o k sized = sized
+moved_sized w Cursor true o k sized = sized
+moved_sized w Cursor false o k sized = cursor_sized w o k sized
 
-moved_rests : (w : World) (offset : Offset) (o : Name) (k : ℕ) → Rests w (moved offset o k)
-moved_rests w (Place n) o k settled = settled
-moved_rests w Cursor o k settled = cursor_rests w o k settled
+moved_rests : (w : World) (offset : Offset) (stream : Bool) (o : Name) (k : ℕ) → Rests w (moved offset stream o k)
+moved_rests w (Place n) stream o k settled = settled
+moved_rests w Cursor true o k settled = settled
+moved_rests w Cursor false o k settled = cursor_rests w o k settled
 
-moved_may : (S : ℕ → Bool) (v x : World) (offset : Offset) (o : Name) (k : ℕ) → AllMay S v x (moved offset o k)
-moved_may S v x (Place n) o k = tt
-moved_may S v x Cursor o k = cursor_may S v x o k
+moved_may : (S : ℕ → Bool) (v x : World) (offset : Offset) (stream : Bool) (o : Name) (k : ℕ) → AllMay S v x (moved offset stream o k)
+moved_may S v x (Place n) stream o k = tt
+moved_may S v x Cursor true o k = tt
+moved_may S v x Cursor false o k = cursor_may S v x o k
+
+-- a call on a node that is seen begins alike in worlds that agree: whether that is a stream is seen
+begins_same : {S : ℕ → Bool} {v w : World} → Agree S v w → (h : Handle) → Seen S v h.node → (cursor : ℕ) (o : Offset)
+    → ◌≡◌ {A = Result IoAt Errno} (Ok (io_at h (stream_at w h.node) cursor o)) (Ok (io_at h (stream_at v h.node) cursor o))
+begins_same a h seen cursor o = ap (λ b. Ok (io_at h b cursor o)) (stream_same a h.node seen)
 
 -- of a call of task t that asks this first and then the server a question
 pub record IoLaws {T : Type 0} (t : ℕ) (asks : World → Result IoAt Errno) (q : ℕ → Question T) (reply : T → Reply) : Type 0 where
@@ -85,30 +96,30 @@ module _ {T : Type 0} (t : ℕ) (asks : World → Result IoAt Errno) (q : ℕ �
   edits a d = changes_of (edits_of a.node (Ok d))
 
   abbrev moves : IoAt → Did T → List Change
-  moves a d = moved a.offset a.open_name (past a.at (count d.told))
+  moves a d = moved a.offset a.is_stream a.open_name (past a.at (count d.told))
 
   abbrev between : World → IoAt → Did T → World
   between w a d = apply_all (edits a d) w
 
   abbrev parts : IoAt → Did T → Part → Type 0
-  parts a d p = OnDid a.node d p ⊎ Moves a.offset a.open_name p
+  parts a d p = OnDid a.node d p ⊎ Moves a.offset a.is_stream a.open_name p
 
   pub io_laws : CallLaws t (λ w. plan_io w (asks w) q reply count) (λ w. touches_io w (asks w) q)
   io_laws = record {
     fits = λ w c. answered_within w t (asks w) _ _ (λ a is. answered_within w t (asked_at (q a.at) a.node w) _ (λ d p. parts a d p) (λ d told.
         within_append (Full w t (parts a d)) (edits a d) (moves a d) w (did_within (Full w t (parts a d)) w a.node d (λ p on. inl (inl on)))
-        (moved_within (Full w t (parts a d)) (between w a d) a.offset a.open_name _ (λ p on. inl (inr on)))));
+        (moved_within (Full w t (parts a d)) (between w a d) a.offset a.is_stream a.open_name _ (λ p on. inl (inr on)))));
     proper = λ w s. answered_proper w _ _ (λ a is. answered_proper w _ _ (λ d told.
-        proper_append (edits a d) (moves a d) w s.coherent (did_proper w s.coherent a.node d) (λ n. moved_proper (between w a d) a.offset a.open_name _)));
+        proper_append (edits a d) (moves a d) w s.coherent (did_proper w s.coherent a.node d) (λ n. moved_proper (between w a d) a.offset a.is_stream a.open_name _)));
     linked = λ w s. answered_linked w _ _ s.linked (λ a is. answered_linked w _ _ s.linked (λ d told.
-        linked_append (edits a d) (moves a d) w (did_linked w a.node d) (moved_linked (between w a d) a.offset a.open_name _) s.linked));
+        linked_append (edits a d) (moves a d) w (did_linked w a.node d) (moved_linked (between w a d) a.offset a.is_stream a.open_name _) s.linked));
     sized = λ w s. answered_sized w _ _ s.sizes (λ a is. answered_sized w _ _ s.sizes (λ d told.
         sized_append (edits a d) (moves a d) w (did_sized (q a.at) (l.sizes a.at) w s.coherent a.node d told)
-        (moved_sized (between w a d) a.offset a.open_name _) s.sizes));
+        (moved_sized (between w a d) a.offset a.is_stream a.open_name _) s.sizes));
     rests = λ w s. answered_rests w _ _ s.settled (λ a is. answered_rests w _ _ s.settled (λ d told.
-        rests_append (edits a d) (moves a d) w (did_rests w a.node d) (moved_rests (between w a d) a.offset a.open_name _) s.settled));
+        rests_append (edits a d) (moves a d) w (did_rests w a.node d) (moved_rests (between w a d) a.offset a.is_stream a.open_name _) s.settled));
     may = λ S v c ours. answered_may v _ _ S v (λ a is. answered_may v _ _ S v (λ d told.
-        may_append S v (edits a d) (moves a d) v (did_exact a.node d) (did_may S v v a.node d) (moved_may S v (between v a d) a.offset a.open_name _)));
+        may_append S v (edits a d) (moves a d) v (did_exact a.node d) (did_may S v v a.node d) (moved_may S v (between v a d) a.offset a.is_stream a.open_name _)));
     same = λ S v w c a ours. answered_same _ _ _ _ (l.asks_same S v w a ours) (λ x is. answered_same _ _ _ _ (l.told_same S v w a ours x is) (λ d told. refl));
     plain = λ w. answered_plain _ _ (l.asks_plain w) (λ a is.
         answered_plain _ _ (asked_plain (q a.at) (l.told_plain a.at) a.node w) (λ d told. done_plain _ (l.reply_plain d.told)));
@@ -126,7 +137,8 @@ read_by w t p offset a is =
 
 pub read_laws : (t p amount : ℕ) (offset : ℤ) → CallLaws t (λ w. plan_read w t p amount offset) (λ w. touches_read w t p amount offset)
 read_laws t p amount offset = io_laws t (λ w. read_asks w t p offset) (reads amount) Data length (record {
-  asks_same = λ S v w a ours. first_same _ _ _ _ (handle_same a t ours p READ) (λ h is. refl);
+  asks_same = λ S v w a ours. first_same _ _ _ _ (handle_same a t ours p READ) (λ h is.
+      given_same _ _ _ _ _ refl (λ file. first_same _ _ _ _ refl (λ o e. begins_same a h (handle_seen t ours p READ h is) h.opened.cursor o)));
   told_same = λ S v w a ours x is.
       let h = read_by v t p offset x is in
       asked_seen a x.node (reads amount x.at) (subst (λ n. Sees S v (BodyOf n)) h.2 (handle_read t ours p h.0 h.1));
@@ -147,7 +159,8 @@ written_by w t p offset a is =
 
 pub write_laws : (t p : ℕ) (bytes : List ℕ) (offset : ℤ) → CallLaws t (λ w. plan_write w t p bytes offset) (λ w. touches_write w t p bytes offset)
 write_laws t p bytes offset = io_laws t (λ w. write_asks w t p offset) (writes bytes) Count (λ n. n) (record {
-  asks_same = λ S v w a ours. first_same _ _ _ _ (handle_same a t ours p WRITE) (λ h is. refl);
+  asks_same = λ S v w a ours. first_same _ _ _ _ (handle_same a t ours p WRITE) (λ h is.
+      first_same _ _ _ _ refl (λ o e. begins_same a h (handle_seen t ours p WRITE h is) (write_cursor h) o));
   told_same = λ S v w a ours x is.
       let h = written_by v t p offset x is in
       asked_same a x.node (writes bytes x.at) (λ k. (good k).write_blind x.at bytes) (subst (Seen S v) h.2 (handle_seen t ours p WRITE h.0 h.1));

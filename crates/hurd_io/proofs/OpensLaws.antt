@@ -1,5 +1,6 @@
 -- The laws of cursors, and of what opens are for: they ask for an open of the caller's own, and its node's header.
-use Rattle.std.proofs.Common.{◌≡◌, ℕ, ℤ, pos, negsuc, Bool, true, refl, inl}
+use Rattle.std.proofs.Common.{◌≡◌, ℕ, ℤ, pos, negsuc, Bool, true, refl, ap, inl}
+use Rattle.std.specs.Prelude.{Ok}
 use Rattle.hurd_creds.specs.declared.open_flags.OpenFlags.{OpenFlags}
 use Rattle.hurd_creds.specs.Bits.{READ, APPEND, asks}
 use Rattle.hurd_machine.specs.declared.call.Whence.{Whence}
@@ -11,7 +12,7 @@ use Rattle.hurd_machine.proofs.Views.{Agree}
 use Rattle.hurd_machine.proofs.Frame.{Full}
 use Rattle.hurd_machine.proofs.Opens.{cursor_within, cursor_proper, cursor_linked, cursor_sized, cursor_rests, append_within, append_proper, append_linked, append_sized, append_rests}
 use Rattle.hurd_machine.proofs.Permits.{append_may, cursor_may}
-use Rattle.hurd_machine.proofs.Asks.{IsPlain, ok_plain, err_plain, given_plain, first_plain, first_same, answered_same, answered_plain, done_plain, handle_same, handle_plain}
+use Rattle.hurd_machine.proofs.Asks.{IsPlain, ok_plain, err_plain, given_plain, given_same, first_plain, first_same, handle_read, readable_same, answered_same, answered_plain, done_plain, handle_same, handle_plain}
 use Rattle.hurd_machine.proofs.CallLaws.{CallLaws, looking_laws, answered_within, answered_proper, answered_linked, answered_sized, answered_rests, answered_may}
 use Rattle.hurd_io.specs.Opens.{place_asks, seek_asks, plan_seek, touches_seek, readable_asks, told_readable, plan_readable, touches_readable, told_modes, plan_get_openmodes, touches_get_openmodes, plan_set_openmodes, touches_set_openmodes}
 
@@ -44,7 +45,8 @@ module _ (t p : ℕ) (offset : ℤ) (whence : Whence) where
 
 pub readable_laws : (t p : ℕ) → CallLaws t (λ w. plan_readable w t p) (λ w. touches_readable w t p)
 readable_laws t p =
-    looking_laws t (λ w. readable_asks w t p) told_readable (λ S v w a ours. first_same _ _ _ _ (handle_same a t ours p READ) (λ h is. refl))
+    looking_laws t (λ w. readable_asks w t p) told_readable (λ S v w a ours. first_same _ _ _ _ (handle_same a t ours p READ) (λ h is.
+    given_same _ _ _ _ _ refl (λ file. ap Ok (readable_same a h.node h.opened.cursor (handle_read t ours p h is)))))
     (λ w. first_plain _ _ (handle_plain w t p READ) (λ h is. given_plain _ _ _ refl (λ file. ok_plain _))) (λ h. refl)
 
 -- io_get_openmodes

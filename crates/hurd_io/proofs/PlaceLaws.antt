@@ -1,5 +1,5 @@
 -- The place that a sum is, where it is one.
-use Rattle.std.proofs.Common.{◌≡◌, ℕ, ℤ, pos, negsuc, ◌≤◌, ◌<◌, Bool, true, false, refl, sym, ap, arith, w64, nat_le}
+use Rattle.std.proofs.Common.{◌≡◌, ℕ, ℤ, pos, negsuc, ◌≤◌, ◌<◌, Bool, true, false, refl, ap, arith, w64, nat_le}
 use Rattle.std.specs.Prelude.{Ok, Err}
 use Rattle.std.specs.Int.{FitsUnsigned}
 use Rattle.std.specs.Int.RustNames.{unsigned_abs}

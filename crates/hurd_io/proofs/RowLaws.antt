@@ -1,12 +1,12 @@
 -- Reads and writes do as their plans say.
-use Rattle.std.proofs.Common.{◌≡◌, ◌∙◌, ℕ, ◌++◌, List, sym, refl, ap, subst}
+use Rattle.std.proofs.Common.{◌≡◌, ◌∙◌, ℕ, List, sym, ap, subst}
 use Rattle.std.specs.Prelude.{Result, Ok, Err, false}
 use Rattle.hurd_creds.specs.declared.errno.Errno.{Errno}
 use Rattle.hurd_trans_iface.specs.Behaviour.{Did, Question, edits_of}
 use Rattle.hurd_machine.specs.declared.call.Reply.{Reply}
 use Rattle.hurd_machine.specs.World.{World, asked_at}
 use Rattle.hurd_machine.specs.Change.{Change, apply_all, changes_of}
-use Rattle.hurd_machine.specs.Plan.{Planned, is_refused, answered}
+use Rattle.hurd_machine.specs.Plan.{Planned, is_refused}
 use Rattle.hurd_machine.proofs.Coherence.{apply_all-append}
 use Rattle.hurd_core.specs.Core.{Does}
 use Rattle.hurd_core.proofs.PlanLaws.{asked-refused, asked-done, asked-short, planned-then}
@@ -28,9 +28,9 @@ module _ {T : Type 0} (w : World) (asks : Result IoAt Errno) (q : ℕ → Questi
         (planned-then w asks _ reply a (Err e) w is (asked-short w (asked_at (q a.at) a.node w) _ reply e (λ d. answers d.told) d.1))
 
     -- the server answers, and the cursor moves
-    pub io-done : (x : T) (y z : World) → Does w (asked_at (q a.at) a.node w) did (λ (d : Did T). d.told) (Ok x) y → z ≡ apply_all (moved a.offset a.open_name (past a.at (count x))) y → Planned w (plan_io w asks q reply count) reply (Ok x) z
+    pub io-done : (x : T) (y z : World) → Does w (asked_at (q a.at) a.node w) did (λ (d : Did T). d.told) (Ok x) y → z ≡ apply_all (moved a.offset a.is_stream a.open_name (past a.at (count x))) y → Planned w (plan_io w asks q reply count) reply (Ok x) z
     io-done x y z d moves =
         let left : z ≡ apply_all (io_changes a d.0 (count d.0.told)) w =
-        moves ∙ ap (λ (k : ℕ). apply_all (moved a.offset a.open_name (past a.at k)) y) (ap count d.2) ∙ ap (apply_all (moved a.offset a.open_name (past a.at (count d.0.told)))) d.3
-        ∙ sym (apply_all-append (did d.0) (moved a.offset a.open_name (past a.at (count d.0.told))) w) in
+        moves ∙ ap (λ (k : ℕ). apply_all (moved a.offset a.is_stream a.open_name (past a.at k)) y) (ap count d.2) ∙ ap (apply_all (moved a.offset a.is_stream a.open_name (past a.at (count d.0.told)))) d.3
+        ∙ sym (apply_all-append (did d.0) (moved a.offset a.is_stream a.open_name (past a.at (count d.0.told))) w) in
         planned-then w asks _ reply a (Ok x) z is (asked-done w (asked_at (q a.at) a.node w) _ reply d.0 x z d.1 (ap reply d.2) left)

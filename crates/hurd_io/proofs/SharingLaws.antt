@@ -1,5 +1,5 @@
 -- The laws of ports that share an open: each has ids that the caller holds already; and whether two ports are on one node.
-use Rattle.std.proofs.Common.{◌≡◌, ◌⊎◌, ℕ, Bool, true, Some, refl, sym, ◌∙◌, ap, subst, inl, inr}
+use Rattle.std.proofs.Common.{◌≡◌, ◌⊎◌, ℕ, Bool, true, Some, refl, ◌∙◌, ap, subst, inl, inr}
 use Rattle.std.specs.Prelude.{Ok}
 use Rattle.hurd_creds.specs.declared.errno.Errno.TheVariants.{EOVERFLOW, ESRCH}
 use Rattle.hurd_creds.specs.Access.{IdSets}

@@ -1,5 +1,5 @@
 -- Reading, writing, and what is told of a node.
-use Rattle.std.specs.Prelude.{◌≡◌, ◌⊎◌, ℕ, ℤ, pos, negsuc, zero, suc, ◌+◌, not, if◌then◌else◌, min, List, [], ◌∷◌, ◌++◌, length, Result, Ok, Err}
+use Rattle.std.specs.Prelude.{◌≡◌, ◌⊎◌, Bool, true, false, ℕ, ℤ, pos, negsuc, zero, suc, ◌+◌, not, if◌then◌else◌, min, List, [], ◌∷◌, ◌++◌, length, Result, Ok, Err}
 use Rattle.hurd_creds.specs.declared.name.Name.{Name}
 use Rattle.hurd_creds.specs.declared.errno.Errno.{Errno}
 use Rattle.hurd_creds.specs.declared.errno.Errno.TheVariants.{EINVAL, EISDIR}
@@ -14,7 +14,7 @@ use Rattle.hurd_machine.specs.declared.call.Reply.TheVariants.{Data, Count, Stat
 pub use Rattle.hurd_io.specs.declared.offset.Offset.{Offset}
 use Rattle.hurd_io.specs.declared.offset.Offset.TheVariants.{Place, Cursor}
 pub use Rattle.hurd_io.specs.declared.offset.IoAt.{IoAt}
-use Rattle.hurd_machine.specs.World.{World, asked_at}
+use Rattle.hurd_machine.specs.World.{World, asked_at, stream_at}
 use Rattle.hurd_machine.specs.Change.{Change, EditOpen, changes_of}
 use Rattle.hurd_machine.specs.Plan.{Plan, given, first, answered, looks}
 use Rattle.hurd_machine.specs.Handle.{Named, port_asks, handle_asks}
@@ -31,9 +31,10 @@ abbrev pub place_of : Offset → ℕ → ℕ
 place_of (Place n) cursor = n
 place_of Cursor cursor = cursor
 
--- where a call on what a port has open begins, if the cursor stands there
-abbrev pub io_at : Handle → ℕ → Offset → IoAt
-io_at a cursor offset = record { node = a.node; open_name = a.open_name; offset = offset; at = place_of offset cursor }
+-- where a call on what a port has open begins, if the cursor stands there; `stream`: on a stream
+abbrev pub io_at : Handle → Bool → ℕ → Offset → IoAt
+io_at a stream cursor offset =
+    record { node = a.node; open_name = a.open_name; is_stream = stream; offset = offset; at = place_of offset cursor }
 
 -- the greatest place: i64's greatest
 abbrev pub i64_greatest : ℕ
@@ -43,19 +44,21 @@ i64_greatest = 9223372036854775807
 abbrev pub past : ℕ → ℕ → ℕ
 past at count = min (at + count) i64_greatest
 
--- a call that began at the cursor moves it
-abbrev pub moved : Offset → Name → ℕ → List Change
-moved (Place n) o to = []
-moved Cursor o to = EditOpen o (at_cursor to) ∷ []
+-- a call that began at the cursor moves it, but not on a stream
+abbrev pub moved : Offset → Bool → Name → ℕ → List Change
+moved (Place n) stream o to = []
+moved Cursor true o to = []
+moved Cursor false o to = EditOpen o (at_cursor to) ∷ []
 
 -- and so touches the open
-abbrev pub Moves : Offset → Name → Part → Type 0
-Moves (Place n) o p = ⊥
-Moves Cursor o p = p ≡ OpenOf o
+abbrev pub Moves : Offset → Bool → Name → Part → Type 0
+Moves (Place n) stream o p = ⊥
+Moves Cursor true o p = ⊥
+Moves Cursor false o p = p ≡ OpenOf o
 
 -- what the server does to the node, and the cursor past so many bytes
 abbrev pub io_changes : {T : Type 0} → IoAt → Did T → ℕ → List Change
-io_changes a d count = changes_of (edits_of a.node (Ok d)) ++ moved a.offset a.open_name (past a.at count)
+io_changes a d count = changes_of (edits_of a.node (Ok d)) ++ moved a.offset a.is_stream a.open_name (past a.at count)
 
 -- a read or a write: at the place that is asked for, a question to the server; its answer, and how many bytes that is
 abbrev pub plan_io : {T : Type 0} → World → Result IoAt Errno → (ℕ → Question T) → (T → Reply) → (T → ℕ) → Plan
@@ -63,7 +66,7 @@ plan_io w asks q reply count =
     answered asks (λ a. answered (asked_at (q a.at) a.node w) (λ d. record { reply = reply d.told; changes = io_changes a d (count d.told) }))
 
 abbrev pub touches_io : {T : Type 0} → World → Result IoAt Errno → (ℕ → Question T) → Part → Type 0
-touches_io w asks q = asked_parts asks (λ a. asked_parts (asked_at (q a.at) a.node w) (λ d p. OnDid a.node d p ⊎ Moves a.offset a.open_name p))
+touches_io w asks q = asked_parts asks (λ a. asked_parts (asked_at (q a.at) a.node w) (λ d p. OnDid a.node d p ⊎ Moves a.offset a.is_stream a.open_name p))
 
 -- the most bytes of one read
 abbrev pub most_read : ℕ
@@ -80,7 +83,7 @@ abbrev pub read_asks : World → ℕ → ℕ → ℤ → Result IoAt Errno
 read_asks w t p offset =
     first (handle_asks w t p READ) (λ a.
     given EISDIR (not (is_dir a.kind)) (
-    first (offset_of offset) (λ o. Ok (io_at a a.opened.cursor o))))
+    first (offset_of offset) (λ o. Ok (io_at a (stream_at w a.node) a.opened.cursor o))))
 
 -- io_read: the bytes
 abbrev pub plan_read : World → ℕ → ℕ → ℕ → ℤ → Plan
@@ -95,7 +98,7 @@ write_cursor a = if asks a.opened.modes APPEND then a.size else a.opened.cursor
 
 -- all that a write asks but of the server, with its refusals in order
 abbrev pub write_asks : World → ℕ → ℕ → ℤ → Result IoAt Errno
-write_asks w t p offset = first (handle_asks w t p WRITE) (λ a. first (offset_of offset) (λ o. Ok (io_at a (write_cursor a) o)))
+write_asks w t p offset = first (handle_asks w t p WRITE) (λ a. first (offset_of offset) (λ o. Ok (io_at a (stream_at w a.node) (write_cursor a) o)))
 
 -- io_write: how many bytes were taken
 abbrev pub plan_write : World → ℕ → ℕ → List ℕ → ℤ → Plan

@@ -1,5 +1,5 @@
 -- What an open is: its cursor, and what it is for.
-use Rattle.std.specs.Prelude.{◌≡◌, ℕ, ℤ, pos, negsuc, ◌+ℤ◌, ◌-◌, not, [], ◌∷◌, nat_le, Result, Ok, Err}
+use Rattle.std.specs.Prelude.{◌≡◌, ℕ, ℤ, pos, negsuc, ◌+ℤ◌, not, [], ◌∷◌, nat_le, Result, Ok, Err}
 use Rattle.hurd_creds.specs.declared.name.Name.{Name}
 use Rattle.hurd_creds.specs.declared.open_flags.OpenFlags.{OpenFlags}
 use Rattle.hurd_creds.specs.declared.errno.Errno.{Errno}
@@ -12,7 +12,7 @@ use Rattle.hurd_machine.specs.declared.call.Whence.{Whence}
 use Rattle.hurd_machine.specs.declared.call.Whence.TheVariants.{Set, Current, End}
 use Rattle.hurd_machine.specs.declared.call.Reply.{Reply}
 use Rattle.hurd_machine.specs.declared.call.Reply.TheVariants.{Count, Done, Modes}
-use Rattle.hurd_machine.specs.World.{World}
+use Rattle.hurd_machine.specs.World.{World, readable_at}
 use Rattle.hurd_machine.specs.Change.{EditOpen}
 use Rattle.hurd_machine.specs.Plan.{Plan, given, first, answered, looks}
 use Rattle.hurd_machine.specs.Handle.{any_mode, handle_asks}
@@ -45,13 +45,14 @@ plan_seek w t p offset whence =
 abbrev pub touches_seek : World → ℕ → ℕ → ℤ → Whence → Part → Type 0
 touches_seek w t p offset whence = asked_parts (seek_asks w t p offset whence) (λ s q. q ≡ OpenOf s.0)
 
--- what is open to read, and no directory
-abbrev pub readable_asks : World → ℕ → ℕ → Result Handle Errno
-readable_asks w t p = first (handle_asks w t p READ) (λ a. given EISDIR (not (is_dir a.kind)) (Ok a))
+-- of what is open to read, and no directory: how many bytes its server has to read from the cursor on
+abbrev pub readable_asks : World → ℕ → ℕ → Result ℕ Errno
+readable_asks w t p =
+    first (handle_asks w t p READ) (λ a. given EISDIR (not (is_dir a.kind)) (Ok (readable_at w a.node a.opened.cursor)))
 
--- io_readable: how many bytes there are from the cursor on
-abbrev pub told_readable : Handle → Reply
-told_readable a = Count (a.size - a.opened.cursor)
+-- io_readable: so many
+abbrev pub told_readable : ℕ → Reply
+told_readable n = Count n
 
 abbrev pub plan_readable : World → ℕ → ℕ → Plan
 plan_readable w t p = looks (readable_asks w t p) told_readable

@@ -32,11 +32,13 @@ fn read_asked<S: Server>(
         return Err(Errno::EISDIR);
     }
     let offset = Offset::new(offset)?;
-    Ok(IoAt::new(handle, handle.opened.cursor, offset))
+    let is_stream = core.is_stream(handle.node);
+    Ok(IoAt::new(handle, is_stream, handle.opened.cursor, offset))
 }
 
 /// Reads at most `amount` bytes, and no more than 65,536, from what a port has open: from `offset` on, or from the
-/// cursor, which moves past them, where that is -1 (`io.defs`).
+/// cursor, which moves past them, where that is -1. A stream has no places: its bytes are those that its server gives, and the
+/// cursor stays (`io.defs`).
 ///
 /// Errors, in order: `ESRCH` no such task, `EBADF` no such port, or not opened to read, `EDIED` no such node, `EISDIR`,
 /// `EINVAL` an offset below -1, `ENOMEM`.
@@ -82,12 +84,13 @@ fn write_asked<S: Server>(
 {
     let handle = core.handle(task, port, OpenFlags::WRITE)?;
     let offset = Offset::new(offset)?;
-    Ok(IoAt::new(handle, write_cursor(handle), offset))
+    let is_stream = core.is_stream(handle.node);
+    Ok(IoAt::new(handle, is_stream, write_cursor(handle), offset))
 }
 
 /// Writes bytes to what a port has open, and answers how many: at `offset`, or at the cursor, which moves past them,
-/// where that is -1. With `APPEND` the cursor is first set to the size. A gap becomes zero bytes; no data grows nothing
-/// (`io.defs`).
+/// where that is -1. With `APPEND` the cursor is first set to the size. A gap becomes zero bytes; no data grows nothing.
+/// On a stream the cursor stays (`io.defs`).
 ///
 /// Errors, in order: `ESRCH` no such task, `EBADF` no such port, or not opened to write, `EDIED` no such node, `EINVAL` an
 /// offset below -1, `EFBIG` an end past 16,777,216, `ENOMEM`.

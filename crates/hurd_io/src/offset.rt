@@ -54,31 +54,37 @@ fn past(at: u64, count: u64) -> u64
 pub(crate) struct IoAt {
     pub(crate) node: NodeName,
     pub(crate) open_name: OpenName,
+    pub(crate) is_stream: bool,
     pub(crate) offset: Offset,
     pub(crate) at: u64,
 }
 
 impl IoAt {
     /// Where a call on what a port has open begins, if the cursor stands at `cursor`.
-    pub(crate) fn new(handle: Handle, cursor: u64, offset: Offset) -> IoAt
-        ensures { result ≡ io_at handle cursor offset }
+    pub(crate) fn new(handle: Handle, is_stream: bool, cursor: u64, offset: Offset) -> IoAt
+        ensures { result ≡ io_at handle is_stream cursor offset }
     {
         IoAt {
             node: handle.node,
             open_name: handle.open_name,
+            is_stream,
             offset,
             at: offset.place(cursor),
         }
     }
 
-    /// Moves the cursor past so many bytes, where the call began there.
+    /// Moves the cursor past so many bytes, where the call began there; on a stream it stays.
     pub(crate) fn advance<S: Server>(self, core: &mut Core<S>, count: u64)
         ensures { world_of S.meaning core.new
-            ≡ apply_all (moved self.offset self.open_name (past self.at count)) (world_of S.meaning core.old) }
+            ≡ apply_all (moved self.offset self.is_stream self.open_name (past self.at count)) (world_of S.meaning core.old) }
     {
         match self.offset {
             Offset::Place(_) => {}
-            Offset::Cursor => core.move_cursor(self.open_name, past(self.at, count)),
+            Offset::Cursor => {
+                if !self.is_stream {
+                    core.move_cursor(self.open_name, past(self.at, count));
+                }
+            }
         }
     }
 }

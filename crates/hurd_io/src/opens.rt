@@ -80,28 +80,27 @@ pub fn io_seek<S: Server>(
     Ok(place)
 }
 
-/// What a port has open to read, which is no directory.
+/// How many bytes there are from the cursor on of what a port has open to read, which is no directory.
 ///
 /// Errors, in order: `ESRCH`, `EBADF`, `EDIED`, `EISDIR`.
 #[tactic(auto, unfolding(hurd_machine::specs::Plan::given, hurd_machine::specs::Plan::first))]
-fn readable_asked<S: Server>(core: &Core<S>, task: TaskId, port: u64) -> Result<Handle, Errno>
+fn readable_asked<S: Server>(core: &Core<S>, task: TaskId, port: u64) -> Result<u64, Errno>
     ensures { result ≡ readable_asks (world_of S.meaning core.now) task.0 port }
 {
     let handle = core.handle(task, port, OpenFlags::READ)?;
     if let Kind::Dir = handle.kind {
         return Err(Errno::EISDIR);
     }
-    Ok(handle)
+    Ok(core.readable(handle.node, handle.opened.cursor))
 }
 
-/// How many bytes there are from the cursor on of what a port has open (`io.defs`). Takes no memory.
+/// How many bytes the server has to read from the cursor on of what a port has open (`io.defs`). Takes no memory.
 ///
 /// Errors, in order: `ESRCH` no such task, `EBADF` no such port, or not opened to read, `EDIED` no such node, `EISDIR`.
 pub fn io_readable<S: Server>(core: &Core<S>, task: TaskId, port: u64) -> Result<u64, Errno>
     ensures { let w = world_of S.meaning core.now in Follows w (plan_readable w task.0 port) (told reply.Count result) w }
 {
-    let handle = readable_asked(core, task, port)?;
-    Ok(handle.size.saturating_sub(handle.opened.cursor))
+    readable_asked(core, task, port)
 }
 
 /// What a port has its node open for: those of `READ`, `WRITE`, `EXEC` and `APPEND` (`io.defs`). Takes no memory.

@@ -7,7 +7,7 @@ use Rattle.hurd_machine.specs.declared.call.Reply.{Reply}
 use Rattle.hurd_machine.specs.declared.call.Reply.TheVariants.{Refused}
 use Rattle.hurd_machine.specs.World.{World}
 use Rattle.hurd_machine.specs.Plan.{is_refused}
-use Rattle.hurd_laws.specs.Step.{reply_of, after, takes_memory, step}
+use Rattle.hurd_laws.specs.Step.{reply_of, takes_memory, step}
 
 -- want of memory: of a call that takes some and that the machine doesn't refuse; nothing is changed
 pub record Lacks (w : World) (t : ℕ) (c : Call) (reply : Reply) (x : World) : Type 0 where

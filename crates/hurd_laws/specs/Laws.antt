@@ -1,5 +1,5 @@
 -- The laws: what a set of tasks is told depends only on what it sees.
-use Rattle.std.specs.Prelude.{◌≡◌, ◌≢◌, ◌⊎◌, ℕ, ◌≤◌, Bool, true, false, List, Some, None}
+use Rattle.std.specs.Prelude.{◌≡◌, ◌≢◌, ◌⊎◌, ℕ, ◌≤◌, Bool, true, false, List, Some}
 use Rattle.hurd_creds.specs.declared.errno.Errno.TheVariants.{ENOMEM}
 use Rattle.hurd_creds.specs.declared.name.Name.{Name}
 use Rattle.hurd_ports.specs.Tables.{Task}

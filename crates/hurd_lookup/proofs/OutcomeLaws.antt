@@ -1,5 +1,5 @@
 -- What a lookup does at its end: it opens a node, or makes a file and opens that.
-use Rattle.std.proofs.Common.{◌≡◌, ℕ, ◌+◌, Bool, true, false, not, ◌&&◌, ◌||◌, List, Some, refl, inl, inr, arith}
+use Rattle.std.proofs.Common.{◌≡◌, ℕ, ◌+◌, Bool, true, false, not, ◌&&◌, ◌||◌, List, Some, refl, ap, ◌∙◌, inl, inr, arith}
 use Rattle.std.proofs.lemmas.Nat.{and_assoc}
 use Rattle.hurd_creds.specs.declared.name.Name.{Name}
 use Rattle.hurd_creds.specs.declared.open_flags.OpenFlags.{OpenFlags}
@@ -11,8 +11,9 @@ use Rattle.hurd_trans_iface.specs.Nodes.{Node, Header, is_dir, new_file}
 use Rattle.hurd_trans_iface.proofs.Goods.{good}
 use Rattle.hurd_ports.specs.Tables.{Task, fresh}
 use Rattle.hurd_ports.specs.Steps.{named}
+use Rattle.hurd_nodes.specs.Shown.{tree_by}
 use Rattle.hurd_machine.specs.World.{World, task_at, header_at, server_at, nodes_of}
-use Rattle.hurd_machine.specs.Change.{Change, apply_all, opening, MakeNode, apply}
+use Rattle.hurd_machine.specs.Change.{Change, apply_all, opening}
 use Rattle.hurd_machine.specs.Sight.{Part, TaskOf, bare, Taken, Allowed, ToRead}
 use Rattle.hurd_machine.specs.Sound.{Coherent, Linked}
 use Rattle.hurd_machine.proofs.Coherence.{AllProper, header_old, home_old, proper_append}
@@ -107,7 +108,7 @@ module _ (w : World) (t : ℕ) (x : Task) (is : task_at w t ≡ Some x) (ids : I
   outcome_proper c (Makes s f) l =
       let m : MayMake w f.dir f.name File = may_make w f.dir f.name File l.0 l.1 in
       proper_append (made s f) file_opened w c
-      (entered_proper w n s (file s f) f.dir f.name c (fresh_next w t x is) l.2 m.absent (made_in f.dir (asked_node File f n) (file s f) refl w (home_old c f.dir s l.2)))
+      (entered_proper w n s (file s f) f.dir f.name c (fresh_next w t x is) l.2 (ap tree_by m.is_info ∙ m.tree) m.absent (made_in f.dir (asked_node File f n) (file s f) refl w (home_old c f.dir s l.2)))
       (λ d. opens_proper (left s f) t (named 1 x) (seat s f) n ids modes d (entered_below w n s (file s f) f.dir f.name c (fresh_next w t x is))
       (λ writes h e. let same : (file s f).header ≡ h = cc (header s f, e) in rw (← same) refl))
 

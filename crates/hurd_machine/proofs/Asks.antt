@@ -9,17 +9,17 @@ use Rattle.hurd_creds.specs.declared.attrs.Kind.{Kind}
 use Rattle.hurd_creds.specs.Bits.{asks, READ}
 use Rattle.hurd_creds.specs.Memory.{is_no_memory}
 use Rattle.hurd_trans_iface.specs.Nodes.{Node, Header, Body, is_dir}
-use Rattle.hurd_trans_iface.specs.Answers.{entry_of, is_tree, is_made, link_in, most_links}
-use Rattle.hurd_trans_iface.specs.Meaning.{root_of}
+use Rattle.hurd_trans_iface.specs.Answers.{entry_of, is_made, link_in, most_links}
+use Rattle.hurd_trans_iface.specs.Meaning.{keeps_tree}
 use Rattle.hurd_trans_iface.specs.Behaviour.{Question}
 use Rattle.hurd_trans_iface.specs.Kinds.{ServerKind, behaviour_of}
 use Rattle.hurd_trans_iface.specs.Good.{IsBlind, IsPlain as IsPlainAnswer}
-use Rattle.hurd_nodes.specs.Shown.{ServerInfo, info_in, asked_of, is_root_at, is_root_of, made_by, are_kin, link_by, set_attrs_by}
+use Rattle.hurd_nodes.specs.Shown.{ServerInfo, info_in, asked_of, readable_by, is_root_at, is_root_of, made_by, are_kin, link_by, set_attrs_by}
 use Rattle.hurd_ports.specs.declared.table.Right.{Right}
 use Rattle.hurd_ports.specs.Tables.{Task, rights_of, or_refuse, task_of, right_in, right_at, right_of}
 use Rattle.hurd_machine.specs.declared.call.Reply.{Reply}
 use Rattle.hurd_machine.specs.declared.call.Reply.TheVariants.{Refused}
-use Rattle.hurd_machine.specs.World.{World, IsAmong, ports_of, task_at, open_at, header_at, home_at, info_at, is_server_root, asked_at, makes_at, links_at, sets_attrs_at}
+use Rattle.hurd_machine.specs.World.{World, IsAmong, ports_of, task_at, open_at, header_at, home_at, info_at, is_server_root, asked_at, count_in, readable_at, stream_at, stream_by, makes_at, links_at, sets_attrs_at}
 use Rattle.hurd_machine.specs.Plan.{Plan, refuse, is_refused, on, given, first, answered}
 use Rattle.hurd_machine.specs.declared.handle.Handle.{Handle}
 use Rattle.hurd_machine.specs.Handle.{Named, port_asks, handle_asks}
@@ -276,6 +276,14 @@ there_same (Some i) None (Some y) h = absurd (cc)
 there_same (Some i) (Some x) None h = absurd (cc)
 there_same (Some i) (Some x) (Some y) h = refl
 
+-- and so is whether they are a stream
+stream_there : (i : Option ServerInfo) (o p : Option Node) → header_in p ≡ header_in o → stream_by i p ≡ stream_by i o
+stream_there None o p h = refl
+stream_there (Some i) None None h = refl
+stream_there (Some i) None (Some y) h = absurd (cc)
+stream_there (Some i) (Some x) None h = absurd (cc)
+stream_there (Some i) (Some x) (Some y) h = refl
+
 module _ {S : ℕ → Bool} {v w : World} (a : Agree S v w) (n : Name) where
   -- of a node that S sees it knows which kind of server it has, and with which text
   pub info_same : Seen S v n → info_at w n ≡ info_at v n
@@ -304,6 +312,14 @@ module _ {S : ℕ → Bool} {v w : World} (a : Agree S v w) (n : Name) where
   -- whether attributes of a node that S sees may be set
   pub sets_attrs_same : Seen S v n → sets_attrs_at w n ≡ sets_attrs_at v n
   sets_attrs_same seen = ap (λ i. set_attrs_by i (get w.nodes n)) (info_same seen) ∙ there_same (info_at v n) (get v.nodes n) (get w.nodes n) (header_same a n seen)
+
+  -- whether a node that S sees is a stream
+  pub stream_same : Seen S v n → stream_at w n ≡ stream_at v n
+  stream_same seen = ap (λ i. stream_by i (get w.nodes n)) (info_same seen) ∙ stream_there (info_at v n) (get v.nodes n) (get w.nodes n) (header_same a n seen)
+
+  -- how many bytes there are to read in one whose body it sees
+  pub readable_same : (at : ℕ) → Sees S v (BodyOf n) → readable_at w n at ≡ readable_at v n at
+  readable_same at s = ap₂ (λ i x. count_in (readable_by at i x)) (info_same s.0) (seen_node s)
 
   -- whatever is asked of a node whose body S sees
   pub asked_seen : {T : Type 0} (q : Question T) → Sees S v (BodyOf n) → asked_at q n w ≡ asked_at q n v
@@ -353,7 +369,7 @@ makes_plain w d name kind = go (info_at w d) (get w.nodes d)
     go (Some i) None = err_plain EDIED refl
     go (Some i) (Some x) =
         if_plain (not (is_dir x.header.kind)) _ _ (err_plain ENOTDIR refl)
-        (if_plain (not (is_tree (root_of i.kind))) _ _ (err_plain EROFS refl)
+        (if_plain (not (keeps_tree i.kind)) _ _ (err_plain EROFS refl)
         (if_plain (is_some (entry_of name (Some x.body))) _ _ (err_plain EEXIST refl)
         (if_plain (is_made kind) _ _ (ok_plain tt) (err_plain EOPNOTSUPP refl))))
 
@@ -363,7 +379,7 @@ sets_attrs_plain w n = go (info_at w n) (get w.nodes n)
     go : (i : Option ServerInfo) (o : Option Node) → IsPlain (set_attrs_by i o)
     go None o = err_plain EDIED refl
     go (Some i) None = err_plain EDIED refl
-    go (Some i) (Some x) = if_plain (is_tree (root_of i.kind)) _ _ (ok_plain tt) (err_plain EOPNOTSUPP refl)
+    go (Some i) (Some x) = if_plain (keeps_tree i.kind) _ _ (ok_plain tt) (err_plain EOPNOTSUPP refl)
 
 pub links_plain : (w : World) (d : Name) (name : List ℕ) (n : Name) → IsPlain (links_at w d name n)
 links_plain w d name n = go (are_kin (home_at w d) (home_at w n)) (info_at w d) (get w.nodes d) (get w.nodes n)
@@ -380,4 +396,4 @@ links_plain w d name n = go (are_kin (home_at w d) (home_at w n)) (info_at w d) 
     go kin None d o = err_plain EDIED refl
     go kin (Some i) None o = err_plain EDIED refl
     go kin (Some i) (Some d) o =
-        if_plain (not (is_dir d.header.kind)) _ _ (err_plain ENOTDIR refl) (if_plain (not (is_tree (root_of i.kind))) _ _ (err_plain EROFS refl) (in_tree kin d o))
+        if_plain (not (is_dir d.header.kind)) _ _ (err_plain ENOTDIR refl) (if_plain (not (keeps_tree i.kind)) _ _ (err_plain EROFS refl) (in_tree kin d o))

@@ -12,7 +12,6 @@ use Rattle.hurd_creds.specs.NameMaps.{NameMap, edit}
 use Rattle.hurd_creds.proofs.NameLaws.{same_name-itself, same_or_apart, get_here, get_apart, edit_here, edit_apart}
 use Rattle.hurd_trans_iface.specs.Nodes.{NodeMap, Node, Entry, Header, Body, Content, Listing, IsShaped, is_dir, with_header, with_body}
 use Rattle.hurd_trans_iface.specs.Answers.{entry_in, entry_of}
-use Rattle.hurd_trans_iface.proofs.Goods.{trees}
 use Rattle.hurd_nodes.specs.Shown.{ServerInfo, info_in, is_root_of, tree_by}
 use Rattle.hurd_nodes.specs.Settle.{is_entered, is_entered_at}
 use Rattle.hurd_ports.specs.declared.table.Opened.{Opened}
@@ -37,10 +36,11 @@ pub record IsNext (w : World) (n : Name) : Type 0 where
   pub is_task : task_at w n.task.0 ≡ Some seat
   pub next : n.count ≡ seat.made
 
--- an entry that a directory d may have
+-- an entry that a directory d, of a server that keeps a tree, may have
 pub record IsEntry (w : World) (d n : Name) : Type 0 where
   pub made : Below w n
   pub kin : home_at w n ≡ home_at w d
+  pub tree : tree_by (info_at w d) ≡ true
   pub below : (h : Header) → header_at w n ≡ Some h → h.kind ≡ Dir → h.parent ≡ Some d
 
 -- a body c that may stand at d in place of b
@@ -238,6 +238,7 @@ module _ (w : World) (m : NodeMap) (c : Coherent w) (r : Reworked w m) where
   reworked_tree : IsTree (nodes_of (with_nodes m w))
   reworked_tree = record {
     kin = λ d n e. (entry_from d n e).kin;
+    trees = λ d n e. (entry_from d n e).tree;
     below = λ d n h e eh is.
         let k = header_from n h eh in
         elim k.3 [ inl same ↦ same ∙ (entry_from d n e).below k.0 k.1 (sym k.2 ∙ is) | inr new ↦ absurd (new.0 d e) ];
@@ -268,7 +269,7 @@ module _ (w : World) (c : Coherent w) (n : Name) where
   entry_is : (y : Node) → get w.nodes n ≡ Some y → (p : Name) → lists p y.body ≡ true → IsEntry w n p
   entry_is y is p e =
       let e' : lists_at p (body_at w n) ≡ true = ap (λ o. lists_at p (body_in o)) is ∙ e in
-      record { made = c.given.entries n p e'; kin = c.tree.kin n p e'; below = λ h eh. c.tree.below n p h e' eh }
+      record { made = c.given.entries n p e'; kin = c.tree.kin n p e'; tree = c.tree.trees n p e'; below = λ h eh. c.tree.below n p h e' eh }
 
   unchanged : (m : NodeMap) (x : Node) → get w.nodes n ≡ Some x → From w m n x
   unchanged m x e = record { node = x; is = e; kind = refl; parent = inl refl; shape = λ shaped. shaped; distinct = λ names. names; entries = entry_is x e }
@@ -467,8 +468,8 @@ header_stays w c n h e is =
 -- what an entry names has a link or a parent
 pub entry_entered : (w : World) → Coherent w → Linked (nodes_of w) → (d n : Name) (h : Header) → lists_at n (body_at w d) ≡ true → header_at w n ≡ Some h → is_entered h ≡ true
 entry_entered w c l d n h e eh =
-    let i = header_info w c n h eh in
-    entered_by (nodes_of w) d n h e (l.nodes n h eh) (ap tree_by i.1 ∙ trees i.0.kind) (λ dir. c.tree.below d n h e eh dir)
+    let keeps = ap (λ o. tree_by (info_in w.servers o)) (c.tree.kin d n e) ∙ c.tree.trees d n e in
+    entered_by (nodes_of w) d n h e (l.nodes n h eh) keeps (λ dir. c.tree.below d n h e eh dir)
 
 pub entry_stays : (w : World) → Coherent w → Linked (nodes_of w) → (d n : Name) (h : Header) → lists_at n (body_at w d) ≡ true → header_at w n ≡ Some h → stays w n ≡ true
 entry_stays w c l d n h e eh = header_stays w c n h eh (entry_entered w c l d n h e eh)
@@ -511,6 +512,7 @@ module _ (w : World) (c : Coherent w) (l : Linked (nodes_of w)) where
   settled_tree : IsTree (nodes_of (settle w))
   settled_tree = record {
     kin = λ d n e. let k = lists_left w d n e in entry_homed w l c d n k.0 ∙ c.tree.kin d n k.0 ∙ sym (home_still w d k.1);
+    trees = λ d n e. let k = lists_left w d n e in ap (λ o. tree_by (info_in w.servers o)) (home_still w d k.1) ∙ c.tree.trees d n k.0;
     below = λ d n h e eh is. c.tree.below d n h (lists_left w d n e).0 (header_left w n h eh).0 is;
     shapes = λ n x e. c.tree.shapes n x (node_left w n x e).0;
     distinct = λ n x e. c.tree.distinct n x (node_left w n x e).0;
@@ -615,6 +617,7 @@ module _ (w : World) (c : Coherent w) (n s : Name) (node : Node) (b : Below w n)
   made_tree : IsTree (nodes_of made_world)
   made_tree = record {
     kin = λ d m e. let l = lists_was d m e in get_apart w.homes n s m (entry_apart d m l.1) ∙ c.tree.kin d m l.1 ∙ sym (get_apart w.homes n s d l.0);
+    trees = λ d m e. let l = lists_was d m e in ap (λ o. tree_by (info_in w.servers o)) (get_apart w.homes n s d l.0) ∙ c.tree.trees d m l.1;
     below = λ d m h e eh k. let l = lists_was d m e in c.tree.below d m h l.1 (sym (ap header_in (get_apart w.nodes n node m (entry_apart d m l.1))) ∙ eh) k;
     shapes = λ m x e. elim (node_was m x e) [ inl k ↦ subst (λ (z : Node). IsShaped z.header z.body) k.1 p.shape | inr k ↦ c.tree.shapes m x k.1 ];
     distinct = λ m x e. elim (node_was m x e) [ inl k ↦ subst (λ (z : Node). HasDistinctNames z.body) k.1 (no_names node.body p.empty) | inr k ↦ c.tree.distinct m x k.1 ];

@@ -42,7 +42,7 @@ module _ (f : List ℕ → List ℕ) where
     distinct = bytes_names b;
     entries = λ m e.
         let there : lists_at m (body_at w n) ≡ true = ap (lists_at m) is ∙ sym (bytes_lists m b) ∙ e in
-        record { made = c.given.entries n m there; kin = c.tree.kin n m there; below = λ h eh. c.tree.below n m h there eh };
+        record { made = c.given.entries n m there; kin = c.tree.kin n m there; tree = c.tree.trees n m there; below = λ h eh. c.tree.below n m h there eh };
   }
 
 -- the changes of bytes and size, as they may come

@@ -9,11 +9,11 @@ use Rattle.hurd_creds.specs.declared.errno.Errno.{Errno}
 use Rattle.hurd_creds.specs.declared.errno.Errno.TheVariants.{EEXIST, EISDIR, ENOTDIR, EOVERFLOW, EROFS, EXDEV}
 use Rattle.hurd_creds.proofs.NameLaws.{equal_if_same}
 use Rattle.hurd_trans_iface.specs.Nodes.{Node, Header, is_dir, linked, with_entry}
-use Rattle.hurd_trans_iface.specs.Answers.{entry_of, is_tree, link_in, most_links}
+use Rattle.hurd_trans_iface.specs.Answers.{entry_of, link_in, most_links}
 use Rattle.hurd_trans_iface.specs.Good.{GoodBehaviour}
 use Rattle.hurd_trans_iface.specs.Kinds.{ServerKind, behaviour_of}
-use Rattle.hurd_trans_iface.specs.Meaning.{root_of}
-use Rattle.hurd_nodes.specs.Shown.{ServerInfo, are_kin, link_by}
+use Rattle.hurd_trans_iface.specs.Meaning.{keeps_tree}
+use Rattle.hurd_nodes.specs.Shown.{ServerInfo, are_kin, link_by, tree_by}
 use Rattle.hurd_machine.specs.World.{World, body_at, home_at, info_at, links_at}
 use Rattle.hurd_machine.specs.Sight.{Part, AttrOf, EmptyOf, BodyOf, Seen, Could, Owns, Allowed}
 use Rattle.hurd_machine.specs.Change.{Change, EditBody, EditHeader, apply}
@@ -33,6 +33,7 @@ pub record MayLink (w : World) (d : Name) (name : List ℕ) (n : Name) : Type 0 
   pub node : Node
   pub is_node : get w.nodes d ≡ Some node
   pub dir : is_dir node.header.kind ≡ true
+  pub tree : tree_by (info_at w d) ≡ true
   pub file : Node
   pub is_file : get w.nodes n ≡ Some file
   pub no_dir : is_dir file.header.kind ≡ false
@@ -44,10 +45,10 @@ kin_are None q h = absurd (cc)
 kin_are (Some s) None h = absurd (cc)
 kin_are (Some s) (Some q) h = ap Some (sym (equal_if_same s q h))
 
-first_tests : (dir grows : Bool) (r : Result (Unit {0}) Errno) (u : Unit {0}) → (if not dir then Err ENOTDIR else if not grows then Err EROFS else r) ≡ Ok u → (dir ≡ true) × (r ≡ Ok u)
+first_tests : (dir grows : Bool) (r : Result (Unit {0}) Errno) (u : Unit {0}) → (if not dir then Err ENOTDIR else if not grows then Err EROFS else r) ≡ Ok u → (dir ≡ true) × (grows ≡ true) × (r ≡ Ok u)
 first_tests false grows r u h = absurd (cc)
 first_tests true false r u h = absurd (cc)
-first_tests true true r u h = (refl, h)
+first_tests true true r u h = (refl, refl, h)
 
 last_tests : (kin dir : Bool) (o : Option Name) (free : Bool) (u : Unit {0})
     → ◌≡◌ {A = Result (Unit {0}) Errno} (if not kin then Err EXDEV else if dir then Err EISDIR else if is_some o then Err EEXIST else if free then Ok tt else Err EOVERFLOW) (Ok u)
@@ -58,22 +59,23 @@ last_tests true false (Some n) free u h = absurd (cc)
 last_tests true false None free u h = (refl, refl, refl)
 
 pub may_link : (w : World) (d : Name) (name : List ℕ) (n : Name) (u : Unit {0}) → links_at w d name n ≡ Ok u → MayLink w d name n
-may_link w d name n u = go (info_at w d) (get w.nodes d) (get w.nodes n) refl refl
+may_link w d name n u = go (info_at w d) (get w.nodes d) (get w.nodes n) refl refl refl
   where
     kin : Bool
     kin = are_kin (home_at w d) (home_at w n)
 
-    go : (i : Option ServerInfo) (o p : Option Node) → get w.nodes d ≡ o → get w.nodes n ≡ p → link_by name kin i o p ≡ Ok u → MayLink w d name n
-    go None o p at_d at_n h = absurd (cc)
-    go (Some i) None p at_d at_n h = absurd (cc)
-    go (Some i) (Some x) None at_d at_n h = let l = first_tests (is_dir x.header.kind) (is_tree (root_of i.kind)) (link_in name kin x None) u h in absurd (cc (l.1))
-    go (Some i) (Some x) (Some y) at_d at_n h =
-        let l = first_tests (is_dir x.header.kind) (is_tree (root_of i.kind)) (link_in name kin x (Some y)) u h in
-        let k = last_tests kin (is_dir y.header.kind) (entry_of name (Some x.body)) (nat_lt y.header.links most_links) u l.1 in
+    go : (i : Option ServerInfo) (o p : Option Node) → info_at w d ≡ i → get w.nodes d ≡ o → get w.nodes n ≡ p → link_by name kin i o p ≡ Ok u → MayLink w d name n
+    go None o p is_info at_d at_n h = absurd (cc)
+    go (Some i) None p is_info at_d at_n h = absurd (cc)
+    go (Some i) (Some x) None is_info at_d at_n h = let l = first_tests (is_dir x.header.kind) (keeps_tree i.kind) (link_in name kin x None) u h in absurd (cc (l.2))
+    go (Some i) (Some x) (Some y) is_info at_d at_n h =
+        let l = first_tests (is_dir x.header.kind) (keeps_tree i.kind) (link_in name kin x (Some y)) u h in
+        let k = last_tests kin (is_dir y.header.kind) (entry_of name (Some x.body)) (nat_lt y.header.links most_links) u l.2 in
         record {
           node = x;
           is_node = at_d;
           dir = l.0;
+          tree = ap tree_by is_info ∙ l.1;
           file = y;
           is_file = at_n;
           no_dir = k.1;
@@ -115,6 +117,7 @@ module _ (d : Name) (name : List ℕ) (n : Name) where
       new_entry = record {
         made = c.given.nodes n m.file m.is_file;
         kin = m.kin;
+        tree = m.tree;
         below = λ h eh dir.
             let same : m.file.header ≡ h = cc (ap header_in m.is_file, eh) in
             absurd (true≢false (sym (ap is_dir dir) ∙ ap (λ (k : Header). is_dir k.kind) (sym same) ∙ m.no_dir));

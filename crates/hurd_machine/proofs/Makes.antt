@@ -16,11 +16,11 @@ use Rattle.hurd_creds.specs.declared.errno.Errno.TheVariants.{EEXIST, ENOTDIR, E
 use Rattle.hurd_creds.proofs.NameLaws.{equal_if_same, get_here, get_apart}
 use Rattle.hurd_trans_iface.specs.declared.new_node.NewNode.{NewNode}
 use Rattle.hurd_trans_iface.specs.Nodes.{Node, Entry, Header, Body, Content, Listing, IsShaped, is_dir, with_body, with_entry, new_file, new_dir}
-use Rattle.hurd_trans_iface.specs.Answers.{entry_in, entry_of, is_tree, is_made, made_node, node_of_kind}
+use Rattle.hurd_trans_iface.specs.Answers.{entry_in, entry_of, is_made, made_node, node_of_kind}
 use Rattle.hurd_trans_iface.specs.Good.{IsSized, GoodBehaviour}
 use Rattle.hurd_trans_iface.specs.Kinds.{ServerKind, behaviour_of}
-use Rattle.hurd_trans_iface.specs.Meaning.{root_of}
-use Rattle.hurd_nodes.specs.Shown.{ServerInfo, made_by, is_root_at, is_root_of}
+use Rattle.hurd_trans_iface.specs.Meaning.{keeps_tree}
+use Rattle.hurd_nodes.specs.Shown.{ServerInfo, info_in, made_by, is_root_at, is_root_of, tree_by}
 use Rattle.hurd_nodes.specs.Settle.{is_entered}
 use Rattle.hurd_ports.specs.Tables.{Task}
 use Rattle.hurd_ports.specs.Steps.{named}
@@ -104,7 +104,7 @@ entry_proper w c d name n absent new b is = record {
   entries = λ m e. elim (entry_lists_cases name n m b e) [
     | inl old ↦
         let there : lists_at m (body_at w d) ≡ true = ap (lists_at m) is ∙ old in
-        record { made = c.given.entries d m there; kin = c.tree.kin d m there; below = λ h eh. c.tree.below d m h there eh }
+        record { made = c.given.entries d m there; kin = c.tree.kin d m there; tree = c.tree.trees d m there; below = λ h eh. c.tree.below d m h there eh }
     | inr same ↦ subst (IsEntry w d) same new
   ];
 }
@@ -117,7 +117,7 @@ pub record MayMake (w : World) (d : Name) (name : List ℕ) (kind : Kind) : Type
   pub node : Node
   pub is_node : get w.nodes d ≡ Some node
   pub dir : is_dir node.header.kind ≡ true
-  pub tree : is_tree (root_of info.kind) ≡ true
+  pub tree : keeps_tree info.kind ≡ true
   pub absent : entry_of name (body_at w d) ≡ None
   pub kinds : is_made kind ≡ true
 
@@ -137,7 +137,7 @@ may_make w d name kind u = go (info_at w d) (get w.nodes d) refl refl
     go None x is_info is_node h = absurd (cc)
     go (Some i) None is_info is_node h = absurd (cc)
     go (Some i) (Some x) is_info is_node h =
-        let l = may_steps (is_dir x.header.kind) (is_tree (root_of i.kind)) (entry_of name (Some x.body)) (is_made kind) u h in
+        let l = may_steps (is_dir x.header.kind) (keeps_tree i.kind) (entry_of name (Some x.body)) (is_made kind) u h in
         record { info = i; is_info = is_info; node = x; is_node = is_node; dir = l.0; tree = l.1; absent = ap (λ o. entry_of name (body_in o)) is_node ∙ l.2; kinds = l.3 }
 
 -- a node that may be made in a directory
@@ -179,7 +179,7 @@ module _ (d : Name) (new : NewNode) (x : Node) (is : made_node d new ≡ Some x)
       by Char made = absurd (cc)
 
   -- and it has the size that its server says
-  pub made_fit : ((k : ServerKind) → GoodBehaviour (behaviour_of k)) → (i : ServerInfo) → is_tree (root_of i.kind) ≡ true → IsSized (behaviour_of i.kind) i.text x
+  pub made_fit : ((k : ServerKind) → GoodBehaviour (behaviour_of k)) → (i : ServerInfo) → keeps_tree i.kind ≡ true → IsSized (behaviour_of i.kind) i.text x
   made_fit good i tree = (good i.kind).newborn tree i.text d new x is
 
 -- the node, and its entry
@@ -220,8 +220,8 @@ module _ (w : World) (n s : Name) (node : Node) (d : Name) (name : List ℕ) whe
     pub entered_below : Below left n
     entered_below = named_below w c n next 1 n refl (omega arith)
 
-    pub entered_proper : home_at w d ≡ Some s → entry_of name (body_at w d) ≡ None → NewIn w d node → AllProper w (entered n s node d name)
-    entered_proper home absent new = ((next, good), λ one. (entry_proper made one d name n still new_entry, λ two. tt))
+    pub entered_proper : home_at w d ≡ Some s → tree_by (info_at w d) ≡ true → entry_of name (body_at w d) ≡ None → NewIn w d node → AllProper w (entered n s node d name)
+    entered_proper home keeps absent new = ((next, good), λ one. (entry_proper made one d name n still new_entry, λ two. tt))
       where
         apart : d ≢ n
         apart = next_apart w n d next (home_old c d s home)
@@ -237,6 +237,7 @@ module _ (w : World) (n s : Name) (node : Node) (d : Name) (name : List ℕ) whe
         new_entry = record {
           made = named_below w c n next 1 n refl (omega arith);
           kin = get_here w.homes n s ∙ sym home ∙ sym (get_apart w.homes n s d apart);
+          tree = ap (λ o. tree_by (info_in w.servers o)) (get_apart w.homes n s d apart) ∙ keeps;
           below = λ h eh dir.
               let same : node.header ≡ h = cc (ap header_in (get_here w.nodes n node), eh) in
               ap (λ (k : Header). k.parent) (sym same) ∙ new.below (ap (λ (k : Header). k.kind) same ∙ dir);

@@ -180,7 +180,7 @@ cut_proper w c d name b is = record {
   distinct = names_without name b;
   entries = λ k e.
       let there : lists_at k (body_at w d) ≡ true = ap (lists_at k) is ∙ lists_before name k b e in
-      record { made = c.given.entries d k there; kin = c.tree.kin d k there; below = λ h eh. c.tree.below d k h there eh };
+      record { made = c.given.entries d k there; kin = c.tree.kin d k there; tree = c.tree.trees d k there; below = λ h eh. c.tree.below d k h there eh };
 }
 
 -- what was an entry once is none any more

@@ -11,6 +11,7 @@ use Rattle.hurd_trans_iface.specs.Nodes.{Node, Entry, Header, Body, Content, Lis
 use Rattle.hurd_trans_iface.specs.Answers.{entry_in, entry_of}
 use Rattle.hurd_trans_iface.specs.Good.{GoodBehaviour}
 use Rattle.hurd_trans_iface.specs.Kinds.{ServerKind, behaviour_of}
+use Rattle.hurd_nodes.specs.Shown.{info_in, tree_by}
 use Rattle.hurd_machine.specs.World.{World, nodes_of, header_at, body_at, home_at, lists_at}
 use Rattle.hurd_machine.specs.Sight.{Part, AttrOf, EmptyOf, BodyOf, Seen, Sees, Could, Owns, Allowed}
 use Rattle.hurd_machine.specs.Change.{Change, EditHeader, EditBody, Settle, apply}
@@ -196,6 +197,7 @@ module _ (d : Name) (name : List ℕ) (n e : Name) (new : List ℕ) where
     new_entry = record {
       made = header_old c n m.header m.is_header;
       kin = c.tree.kin d n here ∙ m.kin;
+      tree = ap (λ o. tree_by (info_in w.servers o)) (sym m.kin) ∙ c.tree.trees d n here;
       below = λ h is dir.
           let same : moved_to e m.header ≡ h = cc (header_turned, is) in
           let kind : m.header.kind ≡ Dir = ap (λ (k : Header). k.kind) same ∙ dir in

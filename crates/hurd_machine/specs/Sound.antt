@@ -58,6 +58,8 @@ pub record IsTree (h : NodeState) : Type 0 where
   -- an entry is of its directory's server; where it names a directory, that has this one as its parent
   pub kin : (d n : Name) → lists_at n (body_of h.nodes d) ≡ true → get h.homes n ≡ get h.homes d
   pub below : (d n : Name) (k : Header) → lists_at n (body_of h.nodes d) ≡ true → header_of h.nodes n ≡ Some k → k.kind ≡ Dir → k.parent ≡ Some d
+  -- only directories of servers that keep trees have entries
+  pub trees : (d n : Name) → lists_at n (body_of h.nodes d) ≡ true → tree_by (server_of h d) ≡ true
   -- directories have entries, each of its own name, and other nodes have bytes
   pub shapes : (n : Name) (x : Node) → get h.nodes n ≡ Some x → IsShaped x.header x.body
   pub distinct : (n : Name) (x : Node) → get h.nodes n ≡ Some x → HasDistinctNames x.body

@@ -10,10 +10,9 @@ use Rattle.hurd_creds.specs.NameMaps.{NameMap}
 use Rattle.hurd_creds.specs.Memory.{Steps}
 use Rattle.hurd_creds.proofs.NameLaws.{insert_same}
 use Rattle.hurd_creds.proofs.StepLaws.{steps-inside, steps-refused}
-use Rattle.hurd_trans_iface.specs.declared.root.Root.{Root}
 use Rattle.hurd_trans_iface.specs.Nodes.{Body, Node, Edit, body_of, is_dir}
-use Rattle.hurd_trans_iface.specs.Answers.{entry_of, is_tree, link_in, link_of, link_edits, unlink_of, unlink_edits, rename_of, rename_to, rename_edits, set_attrs_of, set_attrs_edits, edits_if}
-use Rattle.hurd_trans_iface.specs.Meaning.{Meaning, ServerKind, root_of, edited, link_step, rename_step, set_attrs_step, unlink_step}
+use Rattle.hurd_trans_iface.specs.Answers.{entry_of, link_in, link_of, link_edits, unlink_of, unlink_edits, rename_of, rename_to, rename_edits, set_attrs_of, set_attrs_edits, edits_if}
+use Rattle.hurd_trans_iface.specs.Meaning.{Meaning, ServerKind, keeps_tree, edited, link_step, rename_step, set_attrs_step, unlink_step}
 use Rattle.hurd_nodes.specs.Held.{Held, Seated, box_by, mean, with_box, with_server_of}
 use Rattle.hurd_nodes.specs.Shown.{NodeState, ServerInfo, flat, shown, nodes_of, with_edits, are_kin, can_link, can_set_attrs, link_at, link_by, can_unlink, own_edits, unlink_at, unlink_by, unlink_edits_at, can_rename, rename_at, rename_by, rename_edits_at, set_attrs_at, set_attrs_by, server_of, tree_by}
 use Rattle.hurd_nodes.proofs.SeatLaws.{lent}
@@ -74,20 +73,20 @@ module _ {S : Type 0} (f : S → Meaning) (t : Held S) (n : Name) (a w : S) (box
 -- owner, group and mode
 
 module _ (homes : NameMap Name) (seats : NameMap (Seated Meaning)) (n : Name) where
-  pub can_set_attrs-told : (m : Meaning) → Some m ≡ box_by seats (fin.get homes n) → can_set_attrs n (flat homes seats) ≡ set_attrs_of (root_of m.kind) (fin.get m.nodes n)
+  pub can_set_attrs-told : (m : Meaning) → Some m ≡ box_by seats (fin.get homes n) → can_set_attrs n (flat homes seats) ≡ set_attrs_of (keeps_tree m.kind) (fin.get m.nodes n)
   can_set_attrs-told m box =
       let i = server-told homes seats n m box in
-      ap₂ set_attrs_by i.1 (node-told homes seats n m box) ∙ ap (λ (k : ServerKind). set_attrs_of (root_of k) (fin.get m.nodes n)) i.2
+      ap₂ set_attrs_by i.1 (node-told homes seats n m box) ∙ ap (λ (k : ServerKind). set_attrs_of (keeps_tree k) (fin.get m.nodes n)) i.2
 
   pub can_set_attrs-untold : None ≡ box_by seats (fin.get homes n) → can_set_attrs n (flat homes seats) ≡ Err EDIED
   can_set_attrs-untold box = ap (λ (i : Option ServerInfo). set_attrs_by i (fin.get (nodes_of homes seats) n)) (server-untold homes seats n box)
 
   -- whether the server of a node keeps a tree
 
-  pub tree-told : (m : Meaning) → Some m ≡ box_by seats (fin.get homes n) → tree_by (server_of (flat homes seats) n) ≡ is_tree (root_of m.kind)
+  pub tree-told : (m : Meaning) → Some m ≡ box_by seats (fin.get homes n) → tree_by (server_of (flat homes seats) n) ≡ keeps_tree m.kind
   tree-told m box =
       let i = server-told homes seats n m box in
-      ap tree_by i.1 ∙ ap (λ (k : ServerKind). is_tree (root_of k)) i.2
+      ap tree_by i.1 ∙ ap (λ (k : ServerKind). keeps_tree k) i.2
 
   pub tree-untold : None ≡ box_by seats (fin.get homes n) → tree_by (server_of (flat homes seats) n) ≡ false
   tree-untold box = ap tree_by (server-untold homes seats n box)
@@ -102,7 +101,7 @@ module _ {S : Type 0} (f : S → Meaning) (t : Held S) (n : Name) (owner group :
   pub set_attrs-shown : (a w : S) (got : Result (Unit {0}) Errno) → Some (f a) ≡ box_by (mean f t.seats) (fin.get t.homes n)
       → (got, f w) ≡ set_attrs_step n owner group mode (f a) → (got, shown f (with_server_of t n w)) ≡ set_attrs_at n owner group mode (shown f t)
   set_attrs-shown a w got box steps =
-      sure-shown f t n a w box (set_attrs_of (root_of (f a).kind) (fin.get (f a).nodes n)) edits edits (set_attrs_at n owner group mode (shown f t)) got
+      sure-shown f t n a w box (set_attrs_of (keeps_tree (f a).kind) (fin.get (f a).nodes n)) edits edits (set_attrs_at n owner group mode (shown f t)) got
       (λ s home u ok. own-all s t.homes edits (home, tt))
       (ap attrs_set (can_set_attrs-told t.homes (mean f t.seats) n (f a) box))
       steps
@@ -124,20 +123,20 @@ kin-if name kin false keeps d x u h = absurd (cc)
 kin-if name kin true false d x u h = absurd (cc)
 kin-if name kin true true d x u h = kin-in name kin d x u h
 
-kin-of : (root : Root) (name : List ℕ) (kin : Bool) (d x : Option Node) (u : Unit {0}) → link_of root name kin d x ≡ Ok u → kin ≡ true
-kin-of root name kin None x u h = absurd (cc)
-kin-of root name kin (Some d) x u h = kin-if name kin (is_dir d.header.kind) (is_tree root) d x u h
+kin-of : (keeps : Bool) (name : List ℕ) (kin : Bool) (d x : Option Node) (u : Unit {0}) → link_of keeps name kin d x ≡ Ok u → kin ≡ true
+kin-of keeps name kin None x u h = absurd (cc)
+kin-of keeps name kin (Some d) x u h = kin-if name kin (is_dir d.header.kind) keeps d x u h
 
 module _ (homes : NameMap Name) (seats : NameMap (Seated Meaning)) (dir : Name) (name : List ℕ) (n : Name) where
   abbrev kin : Bool
   kin = are_kin (fin.get homes dir) (fin.get homes n)
 
   pub can_link-told : (m : Meaning) → Some m ≡ box_by seats (fin.get homes dir)
-      → can_link dir name n (flat homes seats) ≡ link_of (root_of m.kind) name kin (fin.get m.nodes dir) (fin.get (nodes_of homes seats) n)
+      → can_link dir name n (flat homes seats) ≡ link_of (keeps_tree m.kind) name kin (fin.get m.nodes dir) (fin.get (nodes_of homes seats) n)
   can_link-told m box =
       let i = server-told homes seats dir m box in
       ap₂ (λ (o : Option ServerInfo) (d : Option Node). link_by name kin o d (fin.get (nodes_of homes seats) n)) i.1 (node-told homes seats dir m box)
-      ∙ ap (λ (k : ServerKind). link_of (root_of k) name kin (fin.get m.nodes dir) (fin.get (nodes_of homes seats) n)) i.2
+      ∙ ap (λ (k : ServerKind). link_of (keeps_tree k) name kin (fin.get m.nodes dir) (fin.get (nodes_of homes seats) n)) i.2
 
   pub can_link-untold : None ≡ box_by seats (fin.get homes dir) → can_link dir name n (flat homes seats) ≡ Err EDIED
   can_link-untold box = ap (λ (i : Option ServerInfo). link_by name kin i (fin.get (nodes_of homes seats) dir) (fin.get (nodes_of homes seats) n)) (server-untold homes seats dir box)
@@ -161,12 +160,12 @@ module _ {S : Type 0} (f : S → Meaning) (t : Held S) (dir : Name) (name : List
       let seats = mean f t.seats in
       let l = lent f t dir a w box in
       let told = can_link-told t.homes seats dir name n (f a) box in
-      let related = kin-of (root_of (f a).kind) name (kin t.homes seats dir name n) (fin.get (f a).nodes dir) (fin.get (nodes_of t.homes seats) n) u (sym (can ∙ told)) in
+      let related = kin-of (keeps_tree (f a).kind) name (kin t.homes seats dir name n) (fin.get (f a).nodes dir) (fin.get (nodes_of t.homes seats) n) u (sym (can ∙ told)) in
       let home = kin-home (fin.get t.homes dir) (fin.get t.homes n) l.name l.home related in
       let here : Some (f a) ≡ box_by seats (fin.get t.homes n) = box ∙ ap (box_by seats) (l.home ∙ sym home) in
-      let answer : can_link dir name n (shown f t) ≡ link_of (root_of (f a).kind) name true (fin.get (f a).nodes dir) (fin.get (f a).nodes n) =
-      told ∙ ap₂ (λ (b : Bool) (x : Option Node). link_of (root_of (f a).kind) name b (fin.get (f a).nodes dir) x) related (node-told t.homes seats n (f a) here) in
-      steps-shown f t dir a w box (link_of (root_of (f a).kind) name true (fin.get (f a).nodes dir) (fin.get (f a).nodes n)) (link_edits dir name n) (link_edits dir name n) (link_at dir name n (shown f t)) got
+      let answer : can_link dir name n (shown f t) ≡ link_of (keeps_tree (f a).kind) name true (fin.get (f a).nodes dir) (fin.get (f a).nodes n) =
+      told ∙ ap₂ (λ (b : Bool) (x : Option Node). link_of (keeps_tree (f a).kind) name b (fin.get (f a).nodes dir) x) related (node-told t.homes seats n (f a) here) in
+      steps-shown f t dir a w box (link_of (keeps_tree (f a).kind) name true (fin.get (f a).nodes dir) (fin.get (f a).nodes n)) (link_edits dir name n) (link_edits dir name n) (link_at dir name n (shown f t)) got
       (λ s at v ok. own-all s t.homes (link_edits dir name n) (at, (home ∙ sym l.home ∙ at, tt)))
       (ap linked_if answer)
       steps
@@ -174,10 +173,10 @@ module _ {S : Type 0} (f : S → Meaning) (t : Held S) (dir : Name) (name : List
 -- an entry that goes
 
 module _ (homes : NameMap Name) (seats : NameMap (Seated Meaning)) (dir : Name) (name : List ℕ) where
-  pub can_unlink-told : (m : Meaning) → Some m ≡ box_by seats (fin.get homes dir) → can_unlink dir name (flat homes seats) ≡ unlink_of (root_of m.kind) name (fin.get m.nodes dir)
+  pub can_unlink-told : (m : Meaning) → Some m ≡ box_by seats (fin.get homes dir) → can_unlink dir name (flat homes seats) ≡ unlink_of (keeps_tree m.kind) name (fin.get m.nodes dir)
   can_unlink-told m box =
       let i = server-told homes seats dir m box in
-      ap₂ (unlink_by name) i.1 (node-told homes seats dir m box) ∙ ap (λ (k : ServerKind). unlink_of (root_of k) name (fin.get m.nodes dir)) i.2
+      ap₂ (unlink_by name) i.1 (node-told homes seats dir m box) ∙ ap (λ (k : ServerKind). unlink_of (keeps_tree k) name (fin.get m.nodes dir)) i.2
 
   pub can_unlink-untold : None ≡ box_by seats (fin.get homes dir) → can_unlink dir name (flat homes seats) ≡ Err EDIED
   can_unlink-untold box = ap (λ (i : Option ServerInfo). unlink_by name i (fin.get (nodes_of homes seats) dir)) (server-untold homes seats dir box)
@@ -189,7 +188,7 @@ module _ {S : Type 0} (f : S → Meaning) (t : Held S) (dir : Name) (name : List
   pub unlink-shown : (a w : S) (got : Result (Unit {0}) Errno) → Some (f a) ≡ box_by (mean f t.seats) (fin.get t.homes dir)
       → (got, f w) ≡ unlink_step dir name (f a) → (got, shown f (with_server_of t dir w)) ≡ unlink_at dir name (shown f t)
   unlink-shown a w got box steps =
-      sure-shown f t dir a w box (unlink_of (root_of (f a).kind) name (fin.get (f a).nodes dir)) (unlink_edits dir name (entry_of name (body_of (f a).nodes dir)))
+      sure-shown f t dir a w box (unlink_of (keeps_tree (f a).kind) name (fin.get (f a).nodes dir)) (unlink_edits dir name (entry_of name (body_of (f a).nodes dir)))
       (unlink_edits_at dir name (shown f t)) (unlink_at dir name (shown f t)) got
       (λ s home u ok. ap₂ (λ (o : Option Name) (b : Option Body). own_edits o t.homes (unlink_edits dir name (entry_of name b))) (sym home) (sym (body-told t.homes (mean f t.seats) dir (f a) box)))
       (ap unlinked_if (can_unlink-told t.homes (mean f t.seats) dir name (f a) box))
@@ -208,14 +207,14 @@ moves-if name kin true false d t u h = absurd (cc)
 moves-if name true true true d t u h = refl
 moves-if name false true true d t u h = absurd (cc)
 
-moves-of : (root : Root) (name : List ℕ) (kin : Bool) (d t : Option Node) (u : Unit {0}) → rename_of root name kin d t ≡ Ok u → kin ≡ true
-moves-of root name kin None t u h = absurd (cc)
-moves-of root name kin (Some d) t u h = moves-if name kin (is_dir d.header.kind) (is_tree root) d t u h
+moves-of : (keeps : Bool) (name : List ℕ) (kin : Bool) (d t : Option Node) (u : Unit {0}) → rename_of keeps name kin d t ≡ Ok u → kin ≡ true
+moves-of keeps name kin None t u h = absurd (cc)
+moves-of keeps name kin (Some d) t u h = moves-if name kin (is_dir d.header.kind) keeps d t u h
 
 -- of a directory of another server nothing is asked
-unasked : (root : Root) (name : List ℕ) (d t o : Option Node) → rename_of root name false d t ≡ rename_of root name false d o
-unasked root name None t o = refl
-unasked root name (Some d) t o = refl
+unasked : (keeps : Bool) (name : List ℕ) (d t o : Option Node) → rename_of keeps name false d t ≡ rename_of keeps name false d o
+unasked keeps name None t o = refl
+unasked keeps name (Some d) t o = refl
 
 kin-same : (o p : Option Name) → are_kin o p ≡ true → p ≡ o
 kin-same None p kin = absurd (cc)
@@ -229,16 +228,16 @@ module _ (homes : NameMap Name) (seats : NameMap (Seated Meaning)) (dir : Name) 
   box-near m box is = box ∙ ap (box_by seats) (sym (kin-same (fin.get homes dir) (fin.get homes to) is))
 
   other-told : (m : Meaning) → Some m ≡ box_by seats (fin.get homes dir) → (k : Bool) → near ≡ k
-      → rename_of (root_of m.kind) name k (fin.get m.nodes dir) (fin.get (nodes_of homes seats) to) ≡ rename_of (root_of m.kind) name k (fin.get m.nodes dir) (fin.get m.nodes to)
-  other-told m box true is = ap (rename_of (root_of m.kind) name true (fin.get m.nodes dir)) (node-told homes seats to m (box-near m box is))
-  other-told m box false is = unasked (root_of m.kind) name (fin.get m.nodes dir) (fin.get (nodes_of homes seats) to) (fin.get m.nodes to)
+      → rename_of (keeps_tree m.kind) name k (fin.get m.nodes dir) (fin.get (nodes_of homes seats) to) ≡ rename_of (keeps_tree m.kind) name k (fin.get m.nodes dir) (fin.get m.nodes to)
+  other-told m box true is = ap (rename_of (keeps_tree m.kind) name true (fin.get m.nodes dir)) (node-told homes seats to m (box-near m box is))
+  other-told m box false is = unasked (keeps_tree m.kind) name (fin.get m.nodes dir) (fin.get (nodes_of homes seats) to) (fin.get m.nodes to)
 
   pub can_rename-told : (m : Meaning) → Some m ≡ box_by seats (fin.get homes dir)
-      → can_rename dir name to (flat homes seats) ≡ rename_of (root_of m.kind) name near (fin.get m.nodes dir) (fin.get m.nodes to)
+      → can_rename dir name to (flat homes seats) ≡ rename_of (keeps_tree m.kind) name near (fin.get m.nodes dir) (fin.get m.nodes to)
   can_rename-told m box =
       let i = server-told homes seats dir m box in
       ap₂ (λ (o : Option ServerInfo) (d : Option Node). rename_by name near o d (fin.get (nodes_of homes seats) to)) i.1 (node-told homes seats dir m box)
-      ∙ ap (λ (k : ServerKind). rename_of (root_of k) name near (fin.get m.nodes dir) (fin.get (nodes_of homes seats) to)) i.2
+      ∙ ap (λ (k : ServerKind). rename_of (keeps_tree k) name near (fin.get m.nodes dir) (fin.get (nodes_of homes seats) to)) i.2
       ∙ other-told m box near refl
 
   pub can_rename-untold : None ≡ box_by seats (fin.get homes dir) → can_rename dir name to (flat homes seats) ≡ Err EDIED
@@ -261,13 +260,13 @@ module _ {S : Type 0} (f : S → Meaning) (t : Held S) (dir : Name) (name : List
       let seats = mean f t.seats in
       let m = f a in
       let told = can_rename-told t.homes seats dir name to m box in
-      let related = moves-of (root_of m.kind) name (near t.homes seats dir name to) (fin.get m.nodes dir) (fin.get m.nodes to) u (sym (can ∙ told)) in
+      let related = moves-of (keeps_tree m.kind) name (near t.homes seats dir name to) (fin.get m.nodes dir) (fin.get m.nodes to) u (sym (can ∙ told)) in
       let here = box-near t.homes seats dir name to m box related in
-      let answer = rename_of (root_of m.kind) name true (fin.get m.nodes dir) (fin.get m.nodes to) in
+      let answer = rename_of (keeps_tree m.kind) name true (fin.get m.nodes dir) (fin.get m.nodes to) in
       let edits = λ (d o : Option Body). rename_edits dir name to new (entry_of name d) (entry_of new o) in
       steps-shown f t dir a w box answer (edits (body_of m.nodes dir) (body_of m.nodes to)) (rename_edits_at dir name to new (shown f t)) (rename_at dir name to new (shown f t)) got
       (λ s home v ok.
       ap (λ (o : Option Name). own_edits o t.homes (edits (body_of m.nodes dir) (body_of m.nodes to))) (sym home)
       ∙ ap₂ (λ (d o : Option Body). own_edits (fin.get t.homes dir) t.homes (edits d o)) (sym (body-told t.homes seats dir m box)) (sym (body-told t.homes seats to m here)))
-      (ap renamed_if (told ∙ ap (λ (k : Bool). rename_of (root_of m.kind) name k (fin.get m.nodes dir) (fin.get m.nodes to)) related))
+      (ap renamed_if (told ∙ ap (λ (k : Bool). rename_of (keeps_tree m.kind) name k (fin.get m.nodes dir) (fin.get m.nodes to)) related))
       steps

@@ -12,7 +12,7 @@ use Rattle.hurd_trans_iface.specs.declared.new_node.NewNode.{NewNode}
 use Rattle.hurd_trans_iface.specs.Nodes.{AddNode, Edit, Node, NodeMap, OnBody, OnHeader, edit_all, nameless_file, on_bytes, with_body, with_header, with_size}
 use Rattle.hurd_trans_iface.specs.Answers.{added, edits_if, is_one, make_edits, make_of, made_node, move_edits, nameless_edits, nameless_of, rename_edits, unlink_edits}
 use Rattle.hurd_trans_iface.specs.Behaviour.{Effect, Question, effect_on, edit_bytes, edit_size, edits_of}
-use Rattle.hurd_trans_iface.specs.Meaning.{Meaning, behaviour_of, edited, make_nameless_step, make_step, root_of, step_of}
+use Rattle.hurd_trans_iface.specs.Meaning.{Meaning, behaviour_of, edited, make_nameless_step, make_step, keeps_tree, step_of}
 use Rattle.hurd_nodes.specs.Held.{Held, Seated, box_by, mean, with_box, with_server_of}
 use Rattle.hurd_nodes.specs.Shown.{HideNothing}
 use Rattle.hurd_nodes.proofs.SeatLaws.{lent}
@@ -155,7 +155,7 @@ module _ (dir : Name) (name : List ℕ) (new : NewNode) where
 
   module _ (homes : NameMap Name) (seats : NameMap (Seated Meaning)) (s : Name) (e : Seated Meaning) (is : fin.get seats s ≡ Some e) (m : Meaning) where
     abbrev wanted : Result (Unit {0}) Errno
-    wanted = make_of (root_of e.server.kind) name new.kind (fin.get e.server.nodes dir)
+    wanted = make_of (keeps_tree e.server.kind) name new.kind (fin.get e.server.nodes dir)
 
     made_has : (b : Bool) (r : Result (Unit {0}) Errno) → m ≡ cond b e.server (edited (edits_if r (make_edits dir name new)) e.server) → (q : Name) → q ≢ new.name → has m.nodes q ≡ has e.server.nodes q
     made_has true r left q apart = ap (λ (x : Meaning). has x.nodes q) left
@@ -185,7 +185,7 @@ module _ (new : NewNode) (homes : NameMap Name) (seats : NameMap (Seated Meaning
   -- made, under a name that had no home
   pub hides-nameless : (u : Unit {0}) → Steps e.server (make_nameless_step new e.server) (Ok u) m → fin.get homes new.name ≡ None → TellsAll homes seats → TellsAll (fin.insert homes new.name s) (fin.insert seats s (with_box e m))
   hides-nameless u steps fresh tells =
-      tells-more homes seats tells s e is m new.name fresh (λ q apart there. sym (nameless_has false (nameless_of (root_of e.server.kind) new.kind) steps.left q apart) ∙ there)
+      tells-more homes seats tells s e is m new.name fresh (λ q apart there. sym (nameless_has false (nameless_of (keeps_tree e.server.kind) new.kind) steps.left q apart) ∙ there)
 
   same_nameless : (short : Bool) (r : Result (Unit {0}) Errno) (x : Errno) → r ≡ Err x → m ≡ cond short e.server (edited (edits_if r (nameless_edits new)) e.server) → m ≡ e.server
   same_nameless true r x refused left = left
@@ -195,7 +195,7 @@ module _ (new : NewNode) (homes : NameMap Name) (seats : NameMap (Seated Meaning
   -- not made: the server is as it was
   nameless-kept : (x : Errno) → Steps e.server (make_nameless_step new e.server) (Err x) m → m ≡ e.server
   nameless-kept x steps = elim steps.answered [
-    | inl refused ↦ same_nameless (is_no_memory x) (nameless_of (root_of e.server.kind) new.kind) x refused steps.left
+    | inl refused ↦ same_nameless (is_no_memory x) (nameless_of (keeps_tree e.server.kind) new.kind) x refused steps.left
     | inr short ↦ steps.left ∙ rw short.0 refl
   ]
 

@@ -12,10 +12,9 @@ use Rattle.hurd_creds.specs.Memory.{Steps, is_no_memory}
 use Rattle.hurd_creds.proofs.NameLaws.{insert_same, get_here, get_apart, same_map_by, same_or_apart}
 use Rattle.hurd_creds.proofs.StepLaws.{steps-refused, steps-short}
 use Rattle.hurd_trans_iface.specs.declared.new_node.NewNode.{NewNode}
-use Rattle.hurd_trans_iface.specs.declared.root.Root.{Root}
 use Rattle.hurd_trans_iface.specs.Nodes.{Node, NodeMap, edit_all, is_dir}
-use Rattle.hurd_trans_iface.specs.Answers.{is_tree, is_made, entry_of, make_of, make_edits, made_node, node_of_kind, added, edits_if}
-use Rattle.hurd_trans_iface.specs.Meaning.{Meaning, root_of, edited, make_step}
+use Rattle.hurd_trans_iface.specs.Answers.{is_made, entry_of, make_of, make_edits, made_node, node_of_kind, added, edits_if}
+use Rattle.hurd_trans_iface.specs.Meaning.{Meaning, keeps_tree, edited, make_step}
 use Rattle.hurd_nodes.specs.Held.{Seated, box_by, with_box}
 use Rattle.hurd_nodes.specs.Shown.{NodeState, flat, nodes_of, servers_of, node_in, on_ok, with_home, with_made, can_make, make_at}
 use Rattle.hurd_nodes.proofs.ShownLaws.{AreOwn, flat-edited, get-nodes}
@@ -41,9 +40,9 @@ module _ (dir : Name) (name : List ℕ) (new : NewNode) where
   fitting Char h = absurd (cc)
 
   -- where a node can be made, there is one to be made
-  making : (root : Root) (o : Option Node) (u : Unit {0}) → make_of root name new.kind o ≡ Ok u → (x : Node) × (made_node dir new ≡ Some x)
-  making root None u h = absurd (cc)
-  making root (Some d) u h = fitting new.kind (last_test (is_dir d.header.kind) (is_tree root) (is_some (entry_of name (Some d.body))) (is_made new.kind) u h)
+  making : (keeps : Bool) (o : Option Node) (u : Unit {0}) → make_of keeps name new.kind o ≡ Ok u → (x : Node) × (made_node dir new ≡ Some x)
+  making keeps None u h = absurd (cc)
+  making keeps (Some d) u h = fitting new.kind (last_test (is_dir d.header.kind) keeps (is_some (entry_of name (Some d.body))) (is_made new.kind) u h)
 
   -- where no box serves the directory
   pub make-gone : (homes : NameMap Name) (seats : NameMap (Seated Meaning)) → None ≡ box_by seats (fin.get homes dir) → Steps (flat homes seats) (make_at dir name new (flat homes seats)) (Err EDIED) (flat homes seats)
@@ -56,7 +55,7 @@ module _ (dir : Name) (name : List ℕ) (new : NewNode) where
     before = flat homes seats
 
     abbrev wanted : Result (Unit {0}) Errno
-    wanted = make_of (root_of e.server.kind) name new.kind (fin.get e.server.nodes dir)
+    wanted = make_of (keeps_tree e.server.kind) name new.kind (fin.get e.server.nodes dir)
 
     can_make-is : can_make dir name new.kind before ≡ wanted
     can_make-is = can_make-told homes seats dir name new.kind e.server (box-here homes seats dir s e home is)
@@ -136,7 +135,7 @@ module _ (dir : Name) (name : List ℕ) (new : NewNode) where
         → Steps before (make_at dir name new before) (Ok u) (flat homes_after (fin.insert seats s (with_box e m)))
     make-done m u steps =
         let edits = make_edits dir name new in
-        let x = making (root_of e.server.kind) (fin.get e.server.nodes dir) u steps.answered in
+        let x = making (keeps_tree e.server.kind) (fin.get e.server.nodes dir) u steps.answered in
         let left : m ≡ edited edits e.server = steps.left ∙ ap (λ (r : Result (Unit {0}) Errno). edited (edits_if r edits) e.server) steps.answered in
         rw (make_at-is (Ok u) steps.answered) (record {
           answered = refl;

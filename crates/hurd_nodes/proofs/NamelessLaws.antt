@@ -1,5 +1,5 @@
 -- What is shown after the making of a file that no entry names.
-use Rattle.std.proofs.Common.{◌≡◌, inl, inr, sym, refl, ◌∙◌, ap, ap₂}
+use Rattle.std.proofs.Common.{◌≡◌, inl, inr, Bool, sym, refl, ◌∙◌, ap, ap₂}
 use Rattle.std.specs.Prelude.{Option, Some, None, Result, Ok, Err, []}
 use Rattle.std.specs.FinMap as fin
 use Rattle.hurd_creds.specs.declared.name.Name.{Name}
@@ -11,10 +11,9 @@ use Rattle.hurd_creds.specs.Memory.{Steps}
 use Rattle.hurd_creds.proofs.NameLaws.{get_here}
 use Rattle.hurd_creds.proofs.StepLaws.{steps-refused, steps-short}
 use Rattle.hurd_trans_iface.specs.declared.new_node.NewNode.{NewNode}
-use Rattle.hurd_trans_iface.specs.declared.root.Root.{Root}
 use Rattle.hurd_trans_iface.specs.Nodes.{Node, NodeMap, edit_all, nameless_file}
 use Rattle.hurd_trans_iface.specs.Answers.{edits_if, nameless_edits, nameless_of}
-use Rattle.hurd_trans_iface.specs.Meaning.{Meaning, ServerKind, edited, make_nameless_step, root_of}
+use Rattle.hurd_trans_iface.specs.Meaning.{Meaning, ServerKind, edited, make_nameless_step, keeps_tree}
 use Rattle.hurd_nodes.specs.Held.{Seated, box_by, with_box}
 use Rattle.hurd_nodes.specs.Shown.{NodeState, ServerInfo, can_make_nameless, flat, make_nameless_at, nameless_by, nameless_in, nodes_of, on_ok, with_home, with_nameless}
 use Rattle.hurd_nodes.proofs.MakeLaws.{homes_after, nodes-new, state_with, unmade}
@@ -22,16 +21,16 @@ use Rattle.hurd_nodes.proofs.ShownLaws.{flat-edited, node-told, server-told, ser
 use Rattle.hurd_nodes.proofs.StepLaws.{box-here}
 
 -- what may be made, the server makes
-made-of : (root : Root) (kind : Kind) (o : Option Node) (u : Unit {0}) → nameless_in root kind o ≡ Ok u → nameless_of root kind ≡ Ok u
-made-of root kind None u h = absurd (cc)
-made-of root kind (Some d) u h = h
+made-of : (keeps : Bool) (kind : Kind) (o : Option Node) (u : Unit {0}) → nameless_in keeps kind o ≡ Ok u → nameless_of keeps kind ≡ Ok u
+made-of keeps kind None u h = absurd (cc)
+made-of keeps kind (Some d) u h = h
 
 -- whether one may be made is the server's answer
 module _ (homes : NameMap Name) (seats : NameMap (Seated Meaning)) (dir : Name) (kind : Kind) where
-  pub can_nameless-told : (m : Meaning) → Some m ≡ box_by seats (fin.get homes dir) → can_make_nameless dir kind (flat homes seats) ≡ nameless_in (root_of m.kind) kind (fin.get m.nodes dir)
+  pub can_nameless-told : (m : Meaning) → Some m ≡ box_by seats (fin.get homes dir) → can_make_nameless dir kind (flat homes seats) ≡ nameless_in (keeps_tree m.kind) kind (fin.get m.nodes dir)
   can_nameless-told m box =
       let i = server-told homes seats dir m box in
-      ap₂ (nameless_by kind) i.1 (node-told homes seats dir m box) ∙ ap (λ (k : ServerKind). nameless_in (root_of k) kind (fin.get m.nodes dir)) i.2
+      ap₂ (nameless_by kind) i.1 (node-told homes seats dir m box) ∙ ap (λ (k : ServerKind). nameless_in (keeps_tree k) kind (fin.get m.nodes dir)) i.2
 
   pub can_nameless-untold : None ≡ box_by seats (fin.get homes dir) → can_make_nameless dir kind (flat homes seats) ≡ Err EDIED
   can_nameless-untold box = ap (λ (i : Option ServerInfo). nameless_by kind i (fin.get (nodes_of homes seats) dir)) (server-untold homes seats dir box)
@@ -51,7 +50,7 @@ module _ (dir : Name) (new : NewNode) (homes : NameMap Name) (seats : NameMap (S
 
   module _ (s : Name) (e : Seated Meaning) (home : fin.get homes dir ≡ Some s) (is : fin.get seats s ≡ Some e) where
     abbrev wanted : Result (Unit {0}) Errno
-    wanted = nameless_in (root_of e.server.kind) new.kind (fin.get e.server.nodes dir)
+    wanted = nameless_in (keeps_tree e.server.kind) new.kind (fin.get e.server.nodes dir)
 
     can-is : can_make_nameless dir new.kind before ≡ wanted
     can-is = can_nameless-told homes seats dir new.kind e.server (box-here homes seats dir s e home is)
@@ -69,7 +68,7 @@ module _ (dir : Name) (new : NewNode) (homes : NameMap Name) (seats : NameMap (S
     pub nameless-not : (m : Meaning) (u : Unit {0}) (x : Errno) → wanted ≡ Ok u → Steps e.server (make_nameless_step new e.server) (Err x) m
         → Steps before (make_nameless_at dir new before) (Err x) (flat homes (fin.insert seats s (with_box e m)))
     nameless-not m u x can steps = elim steps.answered [
-      | inl refused ↦ let both : Ok u ≡ Err x = sym (made-of (root_of e.server.kind) new.kind (fin.get e.server.nodes dir) u can) ∙ refused in absurd (cc)
+      | inl refused ↦ let both : Ok u ≡ Err x = sym (made-of (keeps_tree e.server.kind) new.kind (fin.get e.server.nodes dir) u can) ∙ refused in absurd (cc)
       | inr short ↦ rw (unmade dir [] new homes seats s e home is m (steps.left ∙ rw short.0 refl), short.0) (nameless-short u can)
     ]
 

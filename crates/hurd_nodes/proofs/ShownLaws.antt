@@ -1,5 +1,5 @@
 -- What is shown of boxes, and after a server changed its own nodes.
-use Rattle.std.proofs.Common.{◌≡◌, ◌≢◌, inl, inr, Bool, true, false, if◌then◌else◌, List, [], ◌∷◌, sym, refl, ◌∙◌, ap, ap₂}
+use Rattle.std.proofs.Common.{◌≡◌, ◌≢◌, inl, inr, ℕ, Bool, true, false, if◌then◌else◌, List, [], ◌∷◌, sym, refl, ◌∙◌, ap, ap₂}
 use Rattle.std.specs.Prelude.{Option, Some, None}
 use Rattle.std.specs.Option.{option_map}
 use Rattle.std.specs.FinMap as fin
@@ -10,9 +10,9 @@ use Rattle.hurd_creds.specs.NameMaps.{NameMap, edit}
 use Rattle.hurd_creds.proofs.NameLaws.{get_here, get_apart, remove_here, remove_apart, edit_here, edit_apart, insert_same, insert-insert, same_map_by, same_or_apart, same_name-itself, equal_if_same, apart_if_not_same, tied-itself, tied-apart}
 use Rattle.hurd_creds.proofs.MapLaws.{get-map_values, map_values-insert}
 use Rattle.hurd_trans_iface.specs.Nodes.{NodeMap, Node, Edit, OnHeader, OnBody, AddNode, attrs_of, body_of, node_of_edit, edit_one, edit_all, with_header, with_body}
-use Rattle.hurd_trans_iface.specs.Meaning.{Meaning, edited}
+use Rattle.hurd_trans_iface.specs.Meaning.{Meaning, edited, readable_of}
 use Rattle.hurd_nodes.specs.Held.{Seated, box_at, box_by, with_box}
-use Rattle.hurd_nodes.specs.Shown.{NodeState, ServerInfo, header_in, set_at, picked, pick_values, node_in, nodes_of, info_in, info_of, is_root, is_root_at, is_root_of, server_of, servers_of, flat, are_kin, own_edits, with_edits}
+use Rattle.hurd_nodes.specs.Shown.{NodeState, ServerInfo, header_in, set_at, picked, pick_values, node_in, nodes_of, info_in, info_of, is_root, is_root_at, is_root_of, server_of, servers_of, readable_at, readable_by, flat, are_kin, own_edits, with_edits}
 
 -- maps of what is picked
 
@@ -103,6 +103,16 @@ module _ (homes : NameMap Name) (seats : NameMap (Seated Meaning)) (n : Name) wh
 
   pub server-untold : None ≡ served → server_of (flat homes seats) n ≡ None
   server-untold box = uninfo_by (fin.get homes n) box
+
+module _ (homes : NameMap Name) (seats : NameMap (Seated Meaning)) (n : Name) (at : ℕ) where
+  -- what there is to read in it
+  pub readable-told : (m : Meaning) → Some m ≡ box_by seats (fin.get homes n) → readable_at n at (flat homes seats) ≡ readable_of m n at
+  readable-told m box =
+      let i = server-told homes seats n m box in
+      ap₂ (readable_by at) i.1 (node-told homes seats n m box) ∙ rw (i.2, i.3) refl
+
+  pub readable-untold : None ≡ box_by seats (fin.get homes n) → readable_at n at (flat homes seats) ≡ None
+  readable-untold box = ap (λ (i : Option ServerInfo). readable_by at i (fin.get (nodes_of homes seats) n)) (server-untold homes seats n box)
 
 -- the header among a node's attributes
 pub header_in-attrs_of : (o : Option Node) → option_map header_in (option_map attrs_of o) ≡ option_map (λ (x : Node). x.header) o

@@ -13,11 +13,11 @@ use Rattle.hurd_creds.proofs.NameLaws.{insert_same}
 use Rattle.hurd_creds.proofs.StepLaws.{steps-inside, steps-refused}
 use Rattle.hurd_trans_iface.specs.Answers.{make_of}
 use Rattle.hurd_trans_iface.specs.Behaviour.{Effect, Question, effect_on, told_of, edit_bytes, edit_size, edits_of}
-use Rattle.hurd_trans_iface.specs.Meaning.{Meaning, ServerKind, behaviour_of, root_of, edited, step_of}
+use Rattle.hurd_trans_iface.specs.Meaning.{Meaning, ServerKind, behaviour_of, keeps_tree, edited, step_of}
 use Rattle.hurd_nodes.specs.Held.{Held, Seated, box_by, mean, with_box, with_server_of}
 use Rattle.hurd_nodes.specs.Shown.{NodeState, ServerInfo, info_in, info_of, nodes_of, server_of, servers_of, flat, shown, with_edits, asked_of, asked_step, effect_at, made_by, can_make}
 use Rattle.hurd_nodes.proofs.SeatLaws.{lent}
-use Rattle.hurd_nodes.proofs.ShownLaws.{AreOwn, node-told, server-told, server-untold, flat-edited, get-servers, node-untold}
+use Rattle.hurd_nodes.proofs.ShownLaws.{AreOwn, node-told, server-told, server-untold, flat-edited, get-servers}
 
 -- the edits of a question are of its node
 edits-own : {T : Type 0} (s n : Name) (homes : NameMap Name) (e : Effect T) → fin.get homes n ≡ Some s → AreOwn s homes (edits_of n e)
@@ -83,10 +83,10 @@ module _ {S : Type 0} (f : S → Meaning) (t : Held S) (n : Name) where
 
 -- whether a node may be made, as the directory's server says it
 module _ (homes : NameMap Name) (seats : NameMap (Seated Meaning)) (dir : Name) (name : List ℕ) (kind : Kind) where
-  pub can_make-told : (m : Meaning) → Some m ≡ box_by seats (fin.get homes dir) → can_make dir name kind (flat homes seats) ≡ make_of (root_of m.kind) name kind (fin.get m.nodes dir)
+  pub can_make-told : (m : Meaning) → Some m ≡ box_by seats (fin.get homes dir) → can_make dir name kind (flat homes seats) ≡ make_of (keeps_tree m.kind) name kind (fin.get m.nodes dir)
   can_make-told m box =
       let i = server-told homes seats dir m box in
-      ap₂ (made_by name kind) i.1 (node-told homes seats dir m box) ∙ ap (λ (k : ServerKind). make_of (root_of k) name kind (fin.get m.nodes dir)) i.2
+      ap₂ (made_by name kind) i.1 (node-told homes seats dir m box) ∙ ap (λ (k : ServerKind). make_of (keeps_tree k) name kind (fin.get m.nodes dir)) i.2
 
   pub can_make-untold : None ≡ box_by seats (fin.get homes dir) → can_make dir name kind (flat homes seats) ≡ Err EDIED
   can_make-untold box = ap (λ (i : Option ServerInfo). made_by name kind i (fin.get (nodes_of homes seats) dir)) (server-untold homes seats dir box)

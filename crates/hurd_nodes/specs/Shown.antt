@@ -1,5 +1,6 @@
 -- What the core shows of its servers: flat maps of nodes and servers.
 use Rattle.std.specs.Prelude.{◌≡◌, ℕ, Bool, true, false, if◌then◌else◌, is_some, List, [], ◌∷◌, Option, Some, None, Result, Ok, Err}
+use Rattle.std.specs.Option.{option_map}
 use Rattle.std.specs.FinMap as fin
 use Rattle.std.specs.FinSet as set
 use Rattle.hurd_creds.specs.declared.name.Name.{Name}
@@ -12,11 +13,11 @@ use Rattle.hurd_creds.specs.Access.{IdSets}
 use Rattle.hurd_creds.specs.Names.{name_of, same_name}
 use Rattle.hurd_creds.specs.NameMaps.{NameMap, edit, map_values}
 use Rattle.hurd_trans_iface.specs.declared.new_node.NewNode.{NewNode}
-use Rattle.hurd_trans_iface.specs.declared.root.Root.{Root}
+use Rattle.hurd_trans_iface.specs.declared.readable.Readable.{Readable}
 use Rattle.hurd_trans_iface.specs.Nodes.{NodeMap, Node, Header, Edit, node_of_edit, body_of, edit_all}
-use Rattle.hurd_trans_iface.specs.Answers.{entry_of, is_tree, make_of, make_edits, nameless_of, nameless_edits, link_of, link_edits, unlink_of, unlink_edits, rename_of, rename_edits, set_attrs_of, set_attrs_edits, edits_if}
+use Rattle.hurd_trans_iface.specs.Answers.{entry_of, make_of, make_edits, nameless_of, nameless_edits, link_of, link_edits, unlink_of, unlink_edits, rename_of, rename_edits, set_attrs_of, set_attrs_edits, edits_if}
 use Rattle.hurd_trans_iface.specs.Behaviour.{Question, Effect, effect_on, told_of, edits_of}
-use Rattle.hurd_trans_iface.specs.Meaning.{Meaning, ServerKind, behaviour_of, root_of, begin_root_after, forget_after}
+use Rattle.hurd_trans_iface.specs.Meaning.{Meaning, ServerKind, behaviour_of, keeps_tree, begin_root_after, forget_after}
 use Rattle.hurd_nodes.specs.Held.{Held, Seated, mean, box_at, with_box}
 
 -- the fixed name of the boot server and of its root, which no task makes
@@ -123,6 +124,16 @@ asked_of q (Some i) x = effect_on q (behaviour_of i.kind) i.text x
 abbrev pub effect_at : {T : Type 0} → Question T → Name → NodeState → Effect T
 effect_at q n h = asked_of q (server_of h n) (fin.get h.nodes n)
 
+-- how many bytes there are to read in a node at a place, and whether it is a stream, as its server says it
+abbrev pub readable_by : ℕ → Option ServerInfo → Option Node → Option Readable
+readable_by at None x = None
+readable_by at (Some i) x =
+    let b = behaviour_of i.kind in option_map (λ y. record { count = b.readable i.text y at; is_stream = b.stream }) x
+
+-- the same of a node of the maps
+abbrev pub readable_at : Name → ℕ → NodeState → Option Readable
+readable_at n at h = readable_by at (server_of h n) (fin.get h.nodes n)
+
 -- with these edits made to nodes that are there
 abbrev pub with_edits : List Edit → NodeState → NodeState
 with_edits es h = record h { nodes = edit_all es h.nodes }
@@ -133,7 +144,7 @@ asked_step q n h = let e = effect_at q n h in (told_of e, with_edits (edits_of n
 
 abbrev pub made_by : List ℕ → Kind → Option ServerInfo → Option Node → Result (Unit {0}) Errno
 made_by name kind None d = Err EDIED
-made_by name kind (Some i) d = make_of (root_of i.kind) name kind d
+made_by name kind (Some i) d = make_of (keeps_tree i.kind) name kind d
 
 -- whether a node of this kind may be made in a directory under a name
 abbrev pub can_make : Name → List ℕ → Kind → NodeState → Result (Unit {0}) Errno
@@ -141,7 +152,7 @@ can_make dir name kind h = made_by name kind (server_of h dir) (fin.get h.nodes 
 
 abbrev pub tree_by : Option ServerInfo → Bool
 tree_by None = false
-tree_by (Some i) = is_tree (root_of i.kind)
+tree_by (Some i) = keeps_tree i.kind
 
 abbrev pub with_home : Name → Option Name → NameMap Name → NameMap Name
 with_home n None homes = homes
@@ -159,14 +170,15 @@ on_ok (Err e) before after = before
 abbrev pub make_at : Name → List ℕ → NewNode → NodeState → Result (Unit {0}) Errno × NodeState
 make_at dir name new h = let answer = can_make dir name new.kind h in (answer, on_ok answer h (with_made dir name new h))
 
--- whether a node of this kind may be made that no entry names, by the server, with this root, of a node that may not be there
-abbrev pub nameless_in : Root → Kind → Option Node → Result (Unit {0}) Errno
-nameless_in root kind None = Err EDIED
-nameless_in root kind (Some d) = nameless_of root kind
+-- whether a node of this kind may be made that no entry names, by the server, which keeps a tree or doesn't, of a node
+-- that may not be there
+abbrev pub nameless_in : Bool → Kind → Option Node → Result (Unit {0}) Errno
+nameless_in keeps kind None = Err EDIED
+nameless_in keeps kind (Some d) = nameless_of keeps kind
 
 abbrev pub nameless_by : Kind → Option ServerInfo → Option Node → Result (Unit {0}) Errno
 nameless_by kind None d = Err EDIED
-nameless_by kind (Some i) d = nameless_in (root_of i.kind) kind d
+nameless_by kind (Some i) d = nameless_in (keeps_tree i.kind) kind d
 
 -- whether the server of a node that is there may make a node of this kind that no entry names
 abbrev pub can_make_nameless : Name → Kind → NodeState → Result (Unit {0}) Errno
@@ -191,7 +203,7 @@ own_edits s homes (e ∷ es) = if are_kin s (fin.get homes (node_of_edit e)) the
 
 abbrev pub link_by : List ℕ → Bool → Option ServerInfo → Option Node → Option Node → Result (Unit {0}) Errno
 link_by name kin None d x = Err EDIED
-link_by name kin (Some i) d x = link_of (root_of i.kind) name kin d x
+link_by name kin (Some i) d x = link_of (keeps_tree i.kind) name kin d x
 
 -- whether a file may get another name in a directory
 abbrev pub can_link : Name → List ℕ → Name → NodeState → Result (Unit {0}) Errno
@@ -202,7 +214,7 @@ link_at dir name n h = let answer = can_link dir name n h in (answer, with_edits
 
 abbrev pub unlink_by : List ℕ → Option ServerInfo → Option Node → Result (Unit {0}) Errno
 unlink_by name None d = Err EDIED
-unlink_by name (Some i) d = unlink_of (root_of i.kind) name d
+unlink_by name (Some i) d = unlink_of (keeps_tree i.kind) name d
 
 -- whether the entry of a name may be taken out of a directory
 abbrev pub can_unlink : Name → List ℕ → NodeState → Result (Unit {0}) Errno
@@ -217,7 +229,7 @@ unlink_at dir name h = let answer = can_unlink dir name h in (answer, with_edits
 
 abbrev pub rename_by : List ℕ → Bool → Option ServerInfo → Option Node → Option Node → Result (Unit {0}) Errno
 rename_by name kin None d t = Err EDIED
-rename_by name kin (Some i) d t = rename_of (root_of i.kind) name kin d t
+rename_by name kin (Some i) d t = rename_of (keeps_tree i.kind) name kin d t
 
 -- whether the entry of a name may go from a directory to another
 abbrev pub can_rename : Name → List ℕ → Name → NodeState → Result (Unit {0}) Errno
@@ -233,7 +245,7 @@ rename_at dir name to new h = let answer = can_rename dir name to h in (answer, 
 
 abbrev pub set_attrs_by : Option ServerInfo → Option Node → Result (Unit {0}) Errno
 set_attrs_by None x = Err EDIED
-set_attrs_by (Some i) x = set_attrs_of (root_of i.kind) x
+set_attrs_by (Some i) x = set_attrs_of (keeps_tree i.kind) x
 
 -- whether owner, group and mode of a node may be set
 abbrev pub can_set_attrs : Name → NodeState → Result (Unit {0}) Errno

@@ -5,10 +5,10 @@ ghost use Rattle.std.specs.List.{list_any};
 ghost use Rattle.std.specs.FinMap as fin;
 ghost use Rattle.hurd_creds.specs.Memory.{Meets, Steps};
 ghost use Rattle.hurd_trans_iface.specs.Nodes.{Node, attrs_of, header_of, body_of, is_dir};
-ghost use Rattle.hurd_trans_iface.specs.Answers.{entry_of, names_of, is_tree, is_file, is_made, make_of, link_of, rename_of, set_attrs_of};
+ghost use Rattle.hurd_trans_iface.specs.Answers.{entry_of, names_of, is_file, is_made, make_of, link_of, rename_of, set_attrs_of};
 ghost use Rattle.hurd_trans_iface.specs.Behaviour.{reading, writing, resizing};
-ghost use Rattle.hurd_nodes.specs.Shown.{boot_name, server_of, shown, state_of, header_in, booted, is_root, asked_step, can_make, make_at, are_kin, can_link, link_at, can_set_attrs, set_attrs_at, tree_by, HideNothing, forgotten, unlink_at, can_rename, rename_at, make_nameless_at, nameless_in, can_make_nameless};
-ghost use Rattle.hurd_trans_iface.specs.Meaning.{Begins, root_of};
+ghost use Rattle.hurd_nodes.specs.Shown.{boot_name, server_of, shown, state_of, header_in, booted, is_root, asked_step, can_make, make_at, are_kin, can_link, link_at, can_set_attrs, set_attrs_at, readable_at, tree_by, HideNothing, forgotten, unlink_at, can_rename, rename_at, make_nameless_at, nameless_in, can_make_nameless};
+ghost use Rattle.hurd_trans_iface.specs.Meaning.{Begins, keeps_tree};
 ghost use Rattle.hurd_nodes.specs.Held.{box_by, holds_of, homes_of, is_held, less_one, mean, with_holds, with_seats};
 ghost use Rattle.hurd_nodes.specs.Settle.{is_entered, is_entered_at, out_node, settle, stays};
 
@@ -18,7 +18,7 @@ use crate::search::{
 use crate::seat::{Home, Seat};
 use bitflags::Flags;
 use hurd_creds::{Attrs, Bytes, Errno, Ids, Kind, Mode, Name, NodeName, ServerName, TaskId};
-use hurd_trans_iface::{Crossing, Names, NewNode, Root, Server};
+use hurd_trans_iface::{Crossing, Names, NewNode, Readable, Server};
 use std::alloc::{AllocError, Global};
 use std::marker::Model;
 
@@ -221,7 +221,7 @@ impl<S: Server> Nodes<S> {
         ensures { result ≡ tree_by (server_of (shown S.meaning self.now) node) }
     {
         match self.server_of(node) {
-            Some(server) => is_tree(server.root()),
+            Some(server) => has_tree(server),
             None => false,
         }
     }
@@ -246,6 +246,16 @@ impl<S: Server> Nodes<S> {
         match (home_of(&self.homes, node), home_of(&self.homes, other)) {
             (Some(server), Some(kin)) => server == kin,
             _ => false,
+        }
+    }
+
+    /// How many bytes there are to read in a node at a place, and whether it is a stream; if the node is there. Takes no memory.
+    pub fn readable(&self, node: NodeName, at: u64) -> Option<Readable>
+        ensures { result ≡ readable_at node at (shown S.meaning self.now) }
+    {
+        match self.server_of(node) {
+            Some(server) => server.readable(node, at),
+            None => None,
         }
     }
 
@@ -538,7 +548,7 @@ impl<S: Server> Nodes<S> {
 ///
 /// Errors, in order: `EDIED` no such directory, `ENOTDIR`, `EROFS` the server keeps no tree, `EEXIST`, `EOPNOTSUPP` a kind that trees don't have.
 fn can_make_in<S: Server>(server: &S, dir: NodeName, name: &[u8], kind: Kind) -> Result<(), Errno>
-    ensures { let m = S.meaning server.now in result ≡ make_of (root_of m.kind) name.now kind (fin.get m.nodes dir) }
+    ensures { let m = S.meaning server.now in result ≡ make_of (keeps_tree m.kind) name.now kind (fin.get m.nodes dir) }
 {
     let Some(attrs) = server.attrs(dir) else {
         return Err(Errno::EDIED);
@@ -546,7 +556,7 @@ fn can_make_in<S: Server>(server: &S, dir: NodeName, name: &[u8], kind: Kind) ->
     if !is_dir(attrs.kind) {
         return Err(Errno::ENOTDIR);
     }
-    if !is_tree(server.root()) {
+    if !has_tree(server) {
         return Err(Errno::EROFS);
     }
     if server.step(dir, name).is_some() {
@@ -562,12 +572,12 @@ fn can_make_in<S: Server>(server: &S, dir: NodeName, name: &[u8], kind: Kind) ->
 ///
 /// Errors, in order: `EDIED` no such node, `EROFS` the server keeps no tree, `EOPNOTSUPP` any other kind than a file.
 fn can_make_nameless_in<S: Server>(server: &S, dir: NodeName, kind: Kind) -> Result<(), Errno>
-    ensures { let m = S.meaning server.now in result ≡ nameless_in (root_of m.kind) kind (fin.get m.nodes dir) }
+    ensures { let m = S.meaning server.now in result ≡ nameless_in (keeps_tree m.kind) kind (fin.get m.nodes dir) }
 {
     if server.attrs(dir).is_none() {
         return Err(Errno::EDIED);
     }
-    if !is_tree(server.root()) {
+    if !has_tree(server) {
         return Err(Errno::EROFS);
     }
     if !is_file(kind) {
@@ -587,7 +597,7 @@ fn can_link_in<S: Server>(
     file: Option<Attrs>,
 ) -> Result<(), Errno>
     ensures { (x : Option Node) → file ≡ option_map attrs_of x
-        → (let m = S.meaning server.now in result ≡ link_of (root_of m.kind) name.now kin (fin.get m.nodes dir) x) }
+        → (let m = S.meaning server.now in result ≡ link_of (keeps_tree m.kind) name.now kin (fin.get m.nodes dir) x) }
 {
     let Some(attrs) = server.attrs(dir) else {
         return Err(Errno::EDIED);
@@ -595,7 +605,7 @@ fn can_link_in<S: Server>(
     if !is_dir(attrs.kind) {
         return Err(Errno::ENOTDIR);
     }
-    if !is_tree(server.root()) {
+    if !has_tree(server) {
         return Err(Errno::EROFS);
     }
     let Some(file) = file else {
@@ -627,7 +637,7 @@ fn can_rename_in<S: Server>(
     kin: bool,
     to: NodeName,
 ) -> Result<(), Errno>
-    ensures { let m = S.meaning server.now in result ≡ rename_of (root_of m.kind) name.now kin (fin.get m.nodes dir) (fin.get m.nodes to) }
+    ensures { let m = S.meaning server.now in result ≡ rename_of (keeps_tree m.kind) name.now kin (fin.get m.nodes dir) (fin.get m.nodes to) }
 {
     let Some(attrs) = server.attrs(dir) else {
         return Err(Errno::EDIED);
@@ -635,7 +645,7 @@ fn can_rename_in<S: Server>(
     if !is_dir(attrs.kind) {
         return Err(Errno::ENOTDIR);
     }
-    if !is_tree(server.root()) {
+    if !has_tree(server) {
         return Err(Errno::EROFS);
     }
     if !kin {
@@ -658,12 +668,12 @@ fn can_rename_in<S: Server>(
 ///
 /// Errors, in order: `EDIED` no such node, `EOPNOTSUPP` the server keeps no tree.
 fn can_set_attrs_in<S: Server>(server: &S, node: NodeName) -> Result<(), Errno>
-    ensures { let m = S.meaning server.now in result ≡ set_attrs_of (root_of m.kind) (fin.get m.nodes node) }
+    ensures { let m = S.meaning server.now in result ≡ set_attrs_of (keeps_tree m.kind) (fin.get m.nodes node) }
 {
     if server.attrs(node).is_none() {
         return Err(Errno::EDIED);
     }
-    if !is_tree(server.root()) {
+    if !has_tree(server) {
         return Err(Errno::EOPNOTSUPP);
     }
     Ok(())
@@ -690,12 +700,14 @@ fn is_dir(kind: Kind) -> bool
     }
 }
 
-/// Whether a server with this root keeps a tree, in whose directories nodes can be made.
-fn is_tree(root: Root) -> bool
-    ensures { result ≡ is_tree root }
+/// Whether a server keeps a tree, in whose directories nodes can be made.
+fn has_tree<S: Server>(server: &S) -> bool
+    ensures { result ≡ keeps_tree (S.meaning server.now).kind }
 {
+    let root = server.root();
     match root.crossing {
         Crossing::Plain => is_dir(root.kind),
+        Crossing::Link { .. } => false,
     }
 }
 

@@ -1,8 +1,9 @@
 -- How a tree in memory begins.
-use Rattle.std.proofs.Common.{◌≡◌, Bool, true, false, cond, List, ℕ, [], ◌∷◌, refl, codes, is_some}
-use Rattle.std.specs.Prelude.{Some, None}
+use Rattle.std.proofs.Common.{◌≡◌, Bool, true, false, cond, List, ℕ, [], ◌∷◌, refl, ap, is_some}
+use Rattle.std.specs.Prelude.{Option, Some, None}
+use Rattle.std.specs.Option.{option_or}
 use Rattle.std.specs.Str.{bytes_eq}
-use Rattle.hurd_trans_iface.specs.Meaning.{Meaning, Tmpfs, begin, new_server}
+use Rattle.hurd_trans_iface.specs.Meaning.{Meaning, Tmpfs, Hello, Null, Zero, Symlink, behaviour_of, begin, begin_among, begin_as, new_server}
 
 abbrev new_tmpfs : Meaning
 new_tmpfs = new_server Tmpfs []
@@ -11,8 +12,19 @@ only_if : (b : Bool) → is_some (cond b (Some new_tmpfs) None) ≡ true → con
 only_if true h = refl
 only_if false h = absurd (cc)
 
--- words that make a server make an empty tree
-pub begins_empty : (ws : List (List ℕ)) → is_some (begin ws) ≡ true → begin ws ≡ Some (new_server Tmpfs [])
-begins_empty [] h = absurd (cc)
-begins_empty (w ∷ []) h = only_if (bytes_eq w (codes "/hurd/tmpfs")) h
-begins_empty (w ∷ v ∷ ws) h = absurd (cc)
+none_if : (b : Bool) → is_some (let o : Option Meaning = cond b None None in o) ≡ false
+none_if true = refl
+none_if false = refl
+
+-- more words than the program's name make no tree
+others_none : (w v : List ℕ) (ws : List (List ℕ)) → is_some (begin_as Tmpfs (w ∷ v ∷ ws)) ≡ false
+others_none w v ws = none_if (bytes_eq w (behaviour_of Tmpfs).program)
+
+begins_as : (ws : List (List ℕ)) → is_some (begin_as Tmpfs ws) ≡ true → begin_as Tmpfs ws ≡ Some new_tmpfs
+begins_as [] h = absurd (cc)
+begins_as (w ∷ []) h = only_if (bytes_eq w (behaviour_of Tmpfs).program) h
+begins_as (w ∷ v ∷ ws) h = absurd (let n = others_none w v ws in cc)
+
+-- words that make a tree make an empty one
+pub begins_empty : (ws : List (List ℕ)) → is_some (begin_as Tmpfs ws) ≡ true → begin ws ≡ Some (new_server Tmpfs [])
+begins_empty ws h = ap (λ (o : Option Meaning). option_or o (begin_among (Hello ∷ Null ∷ Zero ∷ Symlink ∷ []) ws)) (begins_as ws h)

@@ -12,11 +12,10 @@ use Rattle.hurd_creds.specs.Memory.{Steps}
 use Rattle.hurd_creds.specs.NameMaps.{NameMap, edit}
 use Rattle.hurd_creds.proofs.NameLaws.{edit_here, edit_apart, same_map_by, same_name-itself, same_or_apart}
 use Rattle.hurd_creds.proofs.StepLaws.{steps-refused}
-use Rattle.hurd_trans_iface.specs.declared.root.Root.{Root}
-use Rattle.hurd_trans_iface.specs.Meaning.{Meaning, edited, rename_step, root_of}
+use Rattle.hurd_trans_iface.specs.Meaning.{Meaning, edited, keeps_tree, rename_step}
 use Rattle.hurd_tmpfs.specs.Changes.{both_in, both_or}
 use Rattle.hurd_trans_iface.specs.Nodes.{Body, Content, Listing, Entry, Header, Node, NodeMap, is_dir, body_of, edit_all, less_entry, moved_to, unlinked, with_body, with_entry, with_header, without_entry}
-use Rattle.hurd_trans_iface.specs.Answers.{edits_if, entry_in, entry_of, is_one, is_tree, move_edits, rename_edits, rename_of, unlink_edits}
+use Rattle.hurd_trans_iface.specs.Answers.{edits_if, entry_in, entry_of, is_one, move_edits, rename_edits, rename_of, unlink_edits}
 
 -- two edits in either order
 module _ {X : Type 0} (m : NameMap X) (a b : Name) (f g : X → X) where
@@ -139,7 +138,7 @@ module _ (m : NodeMap) (dir : Name) (name : List ℕ) (to : Name) (new : List �
 
 -- what is refused
 
-module _ (root : Root) (keeps : is_tree root ≡ true) (name new : List ℕ) where
+module _ (keeps : Bool) (kept : keeps ≡ true) (name new : List ℕ) where
   abbrev answer_if : Bool → Bool → Bool → Option Name → Result (Unit {0}) Errno
   answer_if dir tree other p = if not dir then Err ENOTDIR else if not tree then Err EROFS else if not other then Err ENOTDIR else if is_some p then Ok tt else Err ENOENT
 
@@ -157,12 +156,12 @@ module _ (root : Root) (keeps : is_tree root ≡ true) (name new : List ℕ) whe
   gone_if false tree e is h = let same : ENOTDIR ≡ e = cc in ap Err same
   gone_if true tree e is h = let same : EDIED ≡ e = cc in rw is (ap Err same)
 
-  pub both-refused : (d t : Option Node) (e : Errno) → both_in name new d t ≡ Err e → rename_of root name true d t ≡ Err e
+  pub both-refused : (d t : Option Node) (e : Errno) → both_in name new d t ≡ Err e → rename_of keeps name true d t ≡ Err e
   both-refused None t e h = let same : EDIED ≡ e = cc in ap Err same
-  both-refused (Some d) None e h = gone_if (is_dir d.header.kind) (is_tree root) e keeps h
-  both-refused (Some d) (Some t) e h = refused_if (is_dir d.header.kind) (is_tree root) (is_dir t.header.kind) (entry_of name (Some d.body)) (entry_of new (Some t.body)) e keeps h
+  both-refused (Some d) None e h = gone_if (is_dir d.header.kind) keeps e kept h
+  both-refused (Some d) (Some t) e h = refused_if (is_dir d.header.kind) keeps (is_dir t.header.kind) (entry_of name (Some d.body)) (entry_of new (Some t.body)) e kept h
 
-module _ (dir : Name) (name : List ℕ) (to : Name) (new : List ℕ) (m : Meaning) (keeps : is_tree (root_of m.kind) ≡ true) where
+module _ (dir : Name) (name : List ℕ) (to : Name) (new : List ℕ) (m : Meaning) (kept : keeps_tree m.kind ≡ true) where
   abbrev both : Result (Name × Option Name) Errno
   both = both_in name new (fin.get m.nodes dir) (fin.get m.nodes to)
 
@@ -172,4 +171,4 @@ module _ (dir : Name) (name : List ℕ) (to : Name) (new : List ℕ) (m : Meanin
   pub rename-barred : (e : Errno) → both ≡ Err e → Steps m (rename_step dir name to new m) (Err e) m
   rename-barred e refused =
       steps-refused (rename_step dir name to new m) m e
-      (ap (renamed_by (entry_of name (body_of m.nodes dir)) (entry_of new (body_of m.nodes to))) (both-refused (root_of m.kind) keeps name new (fin.get m.nodes dir) (fin.get m.nodes to) e refused))
+      (ap (renamed_by (entry_of name (body_of m.nodes dir)) (entry_of new (body_of m.nodes to))) (both-refused (keeps_tree m.kind) kept name new (fin.get m.nodes dir) (fin.get m.nodes to) e refused))

@@ -13,11 +13,10 @@ use Rattle.hurd_creds.specs.declared.errno.Errno.TheVariants.{EDIED, ENOTDIR, EE
 use Rattle.hurd_creds.proofs.NameLaws.{edit_found, insert_same}
 use Rattle.hurd_creds.proofs.StepLaws.{steps-refused, steps-inside}
 use Rattle.hurd_trans_iface.specs.declared.new_node.NewNode.{NewNode}
-use Rattle.hurd_trans_iface.specs.declared.root.Root.{Root}
 use Rattle.hurd_trans_iface.specs.Nodes.{Node, NodeMap, is_dir, edit_all, with_attrs, with_header, with_body, with_size, on_bytes}
-use Rattle.hurd_trans_iface.specs.Answers.{is_tree, is_made, entry_of, make_of, make_edits, set_attrs_of, set_attrs_edits, edits_if}
+use Rattle.hurd_trans_iface.specs.Answers.{is_made, entry_of, make_of, make_edits, set_attrs_of, set_attrs_edits, edits_if}
 use Rattle.hurd_trans_iface.specs.Behaviour.{Effect, Question, effect_on, told_of, edit_bytes, edit_size, edits_of, size_left, bytes_left, left_by}
-use Rattle.hurd_trans_iface.specs.Meaning.{Meaning, behaviour_of, root_of, edited, step_of, make_step, set_attrs_step}
+use Rattle.hurd_trans_iface.specs.Meaning.{Meaning, behaviour_of, keeps_tree, edited, step_of, make_step, set_attrs_step}
 use Rattle.hurd_tmpfs.specs.Changes.{served}
 use Rattle.hurd_tmpfs.proofs.TreeLaws.{edit-inserted}
 
@@ -77,14 +76,14 @@ module _ (m : Meaning) (n : Name) (owner group : ℕ) (mode : Mode) where
   answered_by answer = (answer, edited (edits_if answer (set_attrs_edits n owner group mode)) m)
 
   -- in a tree a node that is there gets what is given
-  pub attrs-set : (x : Node) (ns : NodeMap) → is_tree (root_of m.kind) ≡ true → fin.get m.nodes n ≡ Some x → ns ≡ edit n (with_header (with_attrs owner group mode)) m.nodes → (Ok tt, with_nodes m ns) ≡ set_attrs_step n owner group mode m
-  attrs-set x ns keeps is new =
+  pub attrs-set : (x : Node) (ns : NodeMap) → keeps_tree m.kind ≡ true → fin.get m.nodes n ≡ Some x → ns ≡ edit n (with_header (with_attrs owner group mode)) m.nodes → (Ok tt, with_nodes m ns) ≡ set_attrs_step n owner group mode m
+  attrs-set x ns kept is new =
       ap (λ (z : NodeMap). let s : Result (Unit {0}) Errno × Meaning = (Ok tt, with_nodes m z) in s) new
-      ∙ sym (ap answered_by (ap (set_attrs_of (root_of m.kind)) is ∙ ap (λ (b : Bool). if b then Ok tt else Err EOPNOTSUPP) keeps))
+      ∙ sym (ap answered_by (ap (set_attrs_of (keeps_tree m.kind)) is ∙ ap (λ (b : Bool). if b then Ok tt else Err EOPNOTSUPP) kept))
 
   -- no such node
   pub attrs-nowhere : fin.get m.nodes n ≡ None → (Err EDIED, m) ≡ set_attrs_step n owner group mode m
-  attrs-nowhere none = sym (ap answered_by (ap (set_attrs_of (root_of m.kind)) none))
+  attrs-nowhere none = sym (ap answered_by (ap (set_attrs_of (keeps_tree m.kind)) none))
 
 -- making
 
@@ -99,11 +98,11 @@ barred true true true fits e h = h
 barred true true false fits e h = absurd (cc)
 
 -- where not even a file can be made, nothing can
-make_of-barred : (root : Root) (name : List ℕ) (kind : Kind) (o : Option Node) (e : Errno) → make_of root name File o ≡ Err e → make_of root name kind o ≡ Err e
-make_of-barred root name kind None e h = h
-make_of-barred root name kind (Some d) e h = barred (is_dir d.header.kind) (is_tree root) (is_some (entry_of name (Some d.body))) (is_made kind) e h
+make_of-barred : (keeps : Bool) (name : List ℕ) (kind : Kind) (o : Option Node) (e : Errno) → make_of keeps name File o ≡ Err e → make_of keeps name kind o ≡ Err e
+make_of-barred keeps name kind None e h = h
+make_of-barred keeps name kind (Some d) e h = barred (is_dir d.header.kind) keeps (is_some (entry_of name (Some d.body))) (is_made kind) e h
 
-pub make-barred : (dir : Name) (name : List ℕ) (new : NewNode) (m : Meaning) (e : Errno) → make_of (root_of m.kind) name File (fin.get m.nodes dir) ≡ Err e → Steps m (make_step dir name new m) (Err e) m
+pub make-barred : (dir : Name) (name : List ℕ) (new : NewNode) (m : Meaning) (e : Errno) → make_of (keeps_tree m.kind) name File (fin.get m.nodes dir) ≡ Err e → Steps m (make_step dir name new m) (Err e) m
 make-barred dir name new m e h =
     steps-refused (make_step dir name new m) m e
-    (ap (λ (answer : Result (Unit {0}) Errno). (answer, edited (edits_if answer (make_edits dir name new)) m)) (make_of-barred (root_of m.kind) name new.kind (fin.get m.nodes dir) e h))
+    (ap (λ (answer : Result (Unit {0}) Errno). (answer, edited (edits_if answer (make_edits dir name new)) m)) (make_of-barred (keeps_tree m.kind) name new.kind (fin.get m.nodes dir) e h))

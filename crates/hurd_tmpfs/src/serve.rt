@@ -2,8 +2,7 @@
 ghost use Rattle.std.specs.Prelude.{◌≡◌, true, Some, IfOk, IfErr, MatchOption, is_some};
 ghost use Rattle.std.specs.FinMap as fin;
 ghost use Rattle.hurd_trans_iface.specs.Answers.{link_of, make_of};
-ghost use Rattle.hurd_trans_iface.specs.TmpfsKind.{tmpfs};
-ghost use Rattle.hurd_trans_iface.specs.Meaning.{begin};
+ghost use Rattle.hurd_trans_iface.specs.Meaning.{Tmpfs as TmpfsKind, begin, begin_as};
 ghost use Rattle.hurd_tmpfs.specs.Changes.{both_in, named_in};
 ghost use Rattle.hurd_tmpfs.specs.Tree.{tree, nodes_of};
 
@@ -12,7 +11,7 @@ use crate::inode::{Contents, DirEntry, Inode};
 use crate::search::{entry_named, find, names_in, place};
 use crate::tmpfs::Tmpfs;
 use hurd_creds::{Attrs, Bytes, Errno, Kind, Mode, NodeName, OpenFlags};
-use hurd_trans_iface::{Crossing, Names, NewNode, Root, Server, Words};
+use hurd_trans_iface::{Crossing, Names, NewNode, Readable, Root, Server, Words};
 use std::alloc::Global;
 
 impl Tmpfs {
@@ -22,7 +21,7 @@ impl Tmpfs {
     pub fn new(alloc: Global, words: &Words) -> Result<Tmpfs, Errno>
         ensures ok { IfOk result (λ t. begin words.now ≡ Some (tree t)) }
         ensures err { IfErr result
-            (λ e. MatchOption (begin words.now) (e ≡ Errno.EINVAL) (λ _. e ≡ Errno.ENOMEM)) }
+            (λ e. MatchOption (begin_as TmpfsKind words.now) (e ≡ Errno.EINVAL) (λ _. e ≡ Errno.ENOMEM)) }
     {
         if !is_tmpfs(words) {
             return Err(Errno::EINVAL);
@@ -38,7 +37,7 @@ impl Tmpfs {
     ///
     /// Errors, in order: `EDIED` no such directory, `ENOTDIR`, `EEXIST`.
     fn may_make(&self, dir: NodeName, name: &[u8]) -> Result<(), Errno>
-        ensures { result ≡ make_of tmpfs.root name.now Kind.File (fin.get (nodes_of self.now.nodes.items) dir) }
+        ensures { result ≡ make_of true name.now Kind.File (fin.get (nodes_of self.now.nodes.items) dir) }
     {
         let Some(inode) = find(&self.nodes, dir) else {
             return Err(Errno::EDIED);
@@ -105,7 +104,7 @@ impl Tmpfs {
     /// Errors, in order: `EDIED` no such directory, `ENOTDIR`, `EDIED` no such node, `EISDIR`, `EEXIST`, `EOVERFLOW`.
     fn may_link(&self, dir: NodeName, name: &[u8], node: NodeName) -> Result<(), Errno>
         ensures { let nodes = nodes_of self.now.nodes.items in
-            result ≡ link_of tmpfs.root name.now true (fin.get nodes dir) (fin.get nodes node) }
+            result ≡ link_of true name.now true (fin.get nodes dir) (fin.get nodes node) }
     {
         let Some(inode) = find(&self.nodes, dir) else {
             return Err(Errno::EDIED);
@@ -203,6 +202,14 @@ impl Server for Tmpfs {
             Some(i) => self.nodes[i].set_size(size),
             None => Err(Errno::EDIED),
         }
+    }
+
+    fn readable(&self, node: NodeName, at: u64) -> Option<Readable> {
+        let attrs = find(&self.nodes, node)?.attrs();
+        Some(Readable {
+            count: attrs.size.saturating_sub(at),
+            is_stream: false,
+        })
     }
 
     fn make(
@@ -306,11 +313,13 @@ impl Server for Tmpfs {
     fn opened(&mut self, _node: NodeName, _modes: OpenFlags) {}
 
     fn closed(&mut self, _node: NodeName, _modes: OpenFlags) {}
+
+    fn goaway(&mut self) {}
 }
 
 /// Whether these words make a tree in memory.
 fn is_tmpfs(words: &Words) -> bool
-    ensures { result ≡ is_some (begin words.now) }
+    ensures { result ≡ is_some (begin_as TmpfsKind words.now) }
 {
     match words.as_slice() {
         [program] => program.as_slice() == b"/hurd/tmpfs".as_slice(),

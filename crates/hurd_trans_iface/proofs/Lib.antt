@@ -2,4 +2,5 @@ pub mod Beginnings
 pub mod Lengths
 pub mod Goodness
 pub mod TmpfsGood
+pub mod LoneGood
 pub mod Goods

@@ -63,6 +63,7 @@ made_sizes text dir new x Char is = absurd (cc)
 
 pub tmpfs_good : GoodBehaviour tmpfs
 tmpfs_good = record {
+  rooted = λ text. refl;
   read_sizes = λ at amount text x d shaped sized is. fine_done (Keeps text x.header x.body) _ d (reads_well text at amount x.header x.body) is shaped sized;
   write_sizes = λ at bs text x d shaped sized is. fine_done (Keeps text x.header x.body) _ d (writes_well text x.header x.body at bs) is shaped sized;
   set_size_sizes = λ size text x d shaped sized is. fine_done (Keeps text x.header x.body) _ d (resizes_well text x.header x.body size) is shaped sized;

@@ -11,7 +11,7 @@ use Rattle.hurd_creds.specs.declared.errno.Errno.TheVariants.{EEXIST, ENOENT, EX
 use Rattle.hurd_trans_iface.specs.declared.new_node.NewNode.{NewNode}
 use Rattle.hurd_trans_iface.specs.declared.root.Root.{Root}
 use Rattle.hurd_trans_iface.specs.declared.root.Crossing.{Crossing}
-use Rattle.hurd_trans_iface.specs.declared.root.Crossing.TheVariants.{Plain}
+use Rattle.hurd_trans_iface.specs.declared.root.Crossing.TheVariants.{Plain, Link}
 use Rattle.hurd_trans_iface.specs.Nodes.{Entry, Body, Content, Listing, Node, Edit, OnHeader, OnBody, AddNode, is_dir, linked, unlinked, moved_to, with_attrs, with_entry, without_entry, new_file, nameless_file, new_dir}
 
 -- the node of the first entry of this name
@@ -31,6 +31,7 @@ names_of None = Err EDIED
 
 abbrev pub is_plain : Crossing → Bool
 is_plain Plain = true
+is_plain (Link absolute) = false
 
 -- a server whose root is a plain directory keeps a tree: nodes can be made in its directories
 abbrev pub is_tree : Root → Bool
@@ -51,11 +52,11 @@ is_made File = true
 is_made Dir = true
 is_made _ = false
 
--- whether a node of this kind may be made in a directory under a name, where the directory's server has this root
-abbrev pub make_of : Root → List ℕ → Kind → Option Node → Result (Unit {0}) Errno
-make_of root name kind None = Err EDIED
-make_of root name kind (Some d) =
-    if not (is_dir d.header.kind) then Err ENOTDIR else if not (is_tree root) then Err EROFS
+-- whether a node of this kind may be made in a directory under a name, where the directory's server keeps a tree or doesn't
+abbrev pub make_of : Bool → List ℕ → Kind → Option Node → Result (Unit {0}) Errno
+make_of keeps name kind None = Err EDIED
+make_of keeps name kind (Some d) =
+    if not (is_dir d.header.kind) then Err ENOTDIR else if not keeps then Err EROFS
     else if is_some (entry_of name (Some d.body)) then Err EEXIST else if is_made kind then Ok tt else Err EOPNOTSUPP
 
 abbrev pub added : Name → List ℕ → Name → Option Node → List Edit
@@ -71,9 +72,9 @@ abbrev pub is_file : Kind → Bool
 is_file File = true
 is_file _ = false
 
--- whether a node of this kind may be made that no entry names, by a server with this root
-abbrev pub nameless_of : Root → Kind → Result (Unit {0}) Errno
-nameless_of root kind = if not (is_tree root) then Err EROFS else if is_file kind then Ok tt else Err EOPNOTSUPP
+-- whether a node of this kind may be made that no entry names, by a server that keeps a tree or doesn't
+abbrev pub nameless_of : Bool → Kind → Result (Unit {0}) Errno
+nameless_of keeps kind = if not keeps then Err EROFS else if is_file kind then Ok tt else Err EOPNOTSUPP
 
 -- the file
 abbrev pub nameless_edits : NewNode → List Edit
@@ -90,21 +91,21 @@ link_in name kin d (Some x) =
     if not kin then Err EXDEV else if is_dir x.header.kind then Err EISDIR else if is_some (entry_of name (Some d.body)) then Err EEXIST
     else if nat_lt x.header.links most_links then Ok tt else Err EOVERFLOW
 
--- whether a node may get a name in a directory, where the directory's server has this root
-abbrev pub link_of : Root → List ℕ → Bool → Option Node → Option Node → Result (Unit {0}) Errno
-link_of root name kin None x = Err EDIED
-link_of root name kin (Some d) x = if not (is_dir d.header.kind) then Err ENOTDIR else if not (is_tree root) then Err EROFS else link_in name kin d x
+-- whether a node may get a name in a directory, where the directory's server keeps a tree or doesn't
+abbrev pub link_of : Bool → List ℕ → Bool → Option Node → Option Node → Result (Unit {0}) Errno
+link_of keeps name kin None x = Err EDIED
+link_of keeps name kin (Some d) x = if not (is_dir d.header.kind) then Err ENOTDIR else if not keeps then Err EROFS else link_in name kin d x
 
 -- the entry, and the file with one link more
 abbrev pub link_edits : Name → List ℕ → Name → List Edit
 link_edits dir name n = OnBody dir (with_entry name n) ∷ OnHeader n linked ∷ []
 
--- whether the entry of a name may be taken out of a directory, where the directory's server has this root; of what it
+-- whether the entry of a name may be taken out of a directory, where its server keeps a tree or doesn't; of what it
 -- names nothing is asked
-abbrev pub unlink_of : Root → List ℕ → Option Node → Result (Unit {0}) Errno
-unlink_of root name None = Err EDIED
-unlink_of root name (Some d) =
-    if not (is_dir d.header.kind) then Err ENOTDIR else if not (is_tree root) then Err EROFS
+abbrev pub unlink_of : Bool → List ℕ → Option Node → Result (Unit {0}) Errno
+unlink_of keeps name None = Err EDIED
+unlink_of keeps name (Some d) =
+    if not (is_dir d.header.kind) then Err ENOTDIR else if not keeps then Err EROFS
     else if is_some (entry_of name (Some d.body)) then Ok tt else Err ENOENT
 
 -- the first entry of a name goes, which names this node, if any
@@ -117,12 +118,12 @@ abbrev pub rename_to : List ℕ → Node → Option Node → Result (Unit {0}) E
 rename_to name d None = Err EDIED
 rename_to name d (Some t) = if not (is_dir t.header.kind) then Err ENOTDIR else if is_some (entry_of name (Some d.body)) then Ok tt else Err ENOENT
 
--- whether the entry of a name may go from a directory to another, where the first one's server has this root; `kin`: the
+-- whether the entry of a name may go from a directory to another, where the first one's server keeps a tree or doesn't; `kin`: the
 -- two are of one server
-abbrev pub rename_of : Root → List ℕ → Bool → Option Node → Option Node → Result (Unit {0}) Errno
-rename_of root name kin None t = Err EDIED
-rename_of root name kin (Some d) t =
-    if not (is_dir d.header.kind) then Err ENOTDIR else if not (is_tree root) then Err EROFS
+abbrev pub rename_of : Bool → List ℕ → Bool → Option Node → Option Node → Result (Unit {0}) Errno
+rename_of keeps name kin None t = Err EDIED
+rename_of keeps name kin (Some d) t =
+    if not (is_dir d.header.kind) then Err ENOTDIR else if not keeps then Err EROFS
     else if kin then rename_to name d t else Err EXDEV
 
 -- the entry of a node goes, so does what the new name named, and the entry under the new name comes last
@@ -140,10 +141,10 @@ abbrev pub rename_edits : Name → List ℕ → Name → List ℕ → Option Nam
 rename_edits dir name to new None m = []
 rename_edits dir name to new (Some n) m = if is_one n m then [] else move_edits dir name to new n m
 
--- whether owner, group and mode of a node may be set, where its server has this root: in trees they may
-abbrev pub set_attrs_of : Root → Option Node → Result (Unit {0}) Errno
-set_attrs_of root None = Err EDIED
-set_attrs_of root (Some x) = if is_tree root then Ok tt else Err EOPNOTSUPP
+-- whether owner, group and mode of a node may be set, where its server keeps a tree or doesn't: in trees they may
+abbrev pub set_attrs_of : Bool → Option Node → Result (Unit {0}) Errno
+set_attrs_of keeps None = Err EDIED
+set_attrs_of keeps (Some x) = if keeps then Ok tt else Err EOPNOTSUPP
 
 abbrev pub set_attrs_edits : Name → ℕ → ℕ → Mode → List Edit
 set_attrs_edits n owner group mode = OnHeader n (with_attrs owner group mode) ∷ []

@@ -1,5 +1,5 @@
 -- What a kind of server does: of each call that asks about a node, what it answers and what it makes of that node.
-use Rattle.std.specs.Prelude.{ℕ, List, [], ◌∷◌, Option, Some, None, Result, Ok, Err}
+use Rattle.std.specs.Prelude.{ℕ, Bool, List, [], ◌∷◌, Option, Some, None, Result, Ok, Err}
 use Rattle.hurd_creds.specs.declared.name.Name.{Name}
 use Rattle.hurd_creds.specs.declared.errno.Errno.{Errno}
 use Rattle.hurd_creds.specs.declared.errno.Errno.TheVariants.{EDIED}
@@ -20,10 +20,18 @@ Effect T = Result (Did T) Errno
 abbrev pub only : {T : Type 0} → T → Effect T
 only t = Ok (record { told = t; bytes = None; size = None })
 
--- what a kind answers, by its server's text and the node that is asked about
+-- what a kind is, and what it answers by its server's text and the node that is asked about
 pub record Behaviour : Type 0 where
-  -- what its root is
-  pub root : Root
+  -- the name of its program
+  pub program : List ℕ
+  -- the text of the server that these words behind the program's name make, if any
+  pub begins : List (List ℕ) → Option (List ℕ)
+  -- what its root is, by the text
+  pub root : List ℕ → Root
+  -- whether it keeps a tree: nodes can be made in its directories
+  pub tree : Bool
+  -- whether it is a stream, which has no places: offsets are ignored, and cursors stay
+  pub stream : Bool
   -- the size of a node, by the text and what is in the node
   pub size : List ℕ → Body → ℕ
   -- so many bytes from a place on
@@ -32,6 +40,8 @@ pub record Behaviour : Type 0 where
   pub write : List ℕ → Node → ℕ → List ℕ → Effect ℕ
   -- the node's bytes cut to a size, or grown to it
   pub set_size : List ℕ → Node → ℕ → Effect (Unit {0})
+  -- how many bytes there are to read at a place
+  pub readable : List ℕ → Node → ℕ → ℕ
 
 -- a call about a node, without the node
 abbrev pub Question : Type 0 → Type 0

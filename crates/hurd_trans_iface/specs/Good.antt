@@ -28,13 +28,15 @@ abbrev pub IsPlain : {T : Type 0} → Behaviour → Question T → Type 0
 IsPlain b q = (text : List ℕ) (x : Node) (e : Errno) → q b text x ≡ Err e → is_no_memory e ≡ false
 
 pub record GoodBehaviour (b : Behaviour) : Type 0 where
+  -- what its root is tells whether it keeps a tree
+  pub rooted : (text : List ℕ) → is_tree (b.root text) ≡ b.tree
   pub read_sizes : (at amount : ℕ) → KeepsSizes b (reading at amount)
   pub write_sizes : (at : ℕ) (bs : List ℕ) → KeepsSizes b (writing at bs)
   pub set_size_sizes : (size : ℕ) → KeepsSizes b (resizing size)
   -- an entry more or less changes no size, and what is made in a tree has its size
   pub entered : (text name : List ℕ) (n : Name) (c : Body) → b.size text (with_entry name n c) ≡ b.size text c
   pub removed : (text name : List ℕ) (c : Body) → b.size text (without_entry name c) ≡ b.size text c
-  pub newborn : is_tree b.root ≡ true → (text : List ℕ) (dir : Name) (new : NewNode) (x : Node) → made_node dir new ≡ Some x → IsSized b text x
+  pub newborn : b.tree ≡ true → (text : List ℕ) (dir : Name) (new : NewNode) (x : Node) → made_node dir new ≡ Some x → IsSized b text x
   pub write_blind : (at : ℕ) (bs : List ℕ) → IsBlind b (writing at bs)
   pub set_size_blind : (size : ℕ) → IsBlind b (resizing size)
   pub read_plain : (at amount : ℕ) → IsPlain b (reading at amount)

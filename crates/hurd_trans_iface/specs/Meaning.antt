@@ -1,6 +1,7 @@
 -- What a server means.
-use Rattle.std.specs.Prelude.{◌≡◌, ℕ, Bool, true, false, cond, List, [], ◌∷◌, codes, Option, Some, None, Result}
+use Rattle.std.specs.Prelude.{◌≡◌, ℕ, Bool, true, false, cond, List, [], ◌∷◌, Option, Some, None, Result}
 use Rattle.std.specs.Str.{bytes_eq}
+use Rattle.std.specs.Option.{option_map, option_or}
 use Rattle.std.specs.FinMap as fin
 use Rattle.hurd_creds.specs.declared.name.Name.{Name}
 use Rattle.hurd_creds.specs.declared.mode.Mode.{Mode}
@@ -11,7 +12,8 @@ use Rattle.hurd_trans_iface.specs.declared.root.Root.{Root}
 use Rattle.hurd_trans_iface.specs.Nodes.{Body, Content, Listing, Node, NodeMap, Edit, body_of, edit_all, is_dir}
 use Rattle.hurd_trans_iface.specs.Answers.{entry_of, make_of, make_edits, nameless_of, nameless_edits, link_of, link_edits, unlink_of, unlink_edits, rename_of, rename_edits, set_attrs_of, set_attrs_edits, edits_if}
 use Rattle.hurd_trans_iface.specs.Behaviour.{Behaviour, Question, effect_on, told_of, edits_of}
-pub use Rattle.hurd_trans_iface.specs.Kinds.{ServerKind, Tmpfs, behaviour_of}
+use Rattle.hurd_trans_iface.specs.declared.readable.Readable.{Readable}
+pub use Rattle.hurd_trans_iface.specs.Kinds.{ServerKind, Tmpfs, Hello, Null, Zero, Symlink, all_kinds, behaviour_of}
 
 -- a server: its kind, its text, the name of its root once that has one, and its own nodes
 pub record Meaning : Type 0 where
@@ -24,18 +26,31 @@ pub record Meaning : Type 0 where
 abbrev pub new_server : ServerKind → List ℕ → Meaning
 new_server kind text = record { kind = kind; text = text; root = None; nodes = fin.empty }
 
+-- the server of this kind that these words make, if any: the first is the name of the kind's program
+abbrev pub begin_as : ServerKind → List (List ℕ) → Option Meaning
+begin_as kind [] = None
+begin_as kind (w ∷ ws) = cond (bytes_eq w (behaviour_of kind).program) (option_map (new_server kind) ((behaviour_of kind).begins ws)) None
+
+-- the server of the first of these kinds that these words make
+abbrev pub begin_among : List ServerKind → List (List ℕ) → Option Meaning
+begin_among [] ws = None
+begin_among (k ∷ ks) ws = option_or (begin_as k ws) (begin_among ks ws)
+
 -- the server that these words make, if any
 abbrev pub begin : List (List ℕ) → Option Meaning
-begin (w ∷ []) = cond (bytes_eq w (codes "/hurd/tmpfs")) (Some (new_server Tmpfs [])) None
-begin _ = None
+begin ws = begin_among all_kinds ws
 
 -- a server that some words made
 abbrev pub Begins : Meaning → Type 0
 Begins m = (ws : List (List ℕ)) × (begin ws ≡ Some m)
 
--- what the root of a kind of server is
-abbrev pub root_of : ServerKind → Root
-root_of k = (behaviour_of k).root
+-- what the root of a server of this kind and text is
+abbrev pub root_of : ServerKind → List ℕ → Root
+root_of k text = (behaviour_of k).root text
+
+-- whether servers of a kind keep trees
+abbrev pub keeps_tree : ServerKind → Bool
+keeps_tree k = (behaviour_of k).tree
 
 abbrev pub empty_body : Bool → Body
 empty_body true = Listing []
@@ -44,9 +59,9 @@ empty_body false = Content []
 -- a root that nothing is in yet
 abbrev pub new_root : Behaviour → List ℕ → ℕ → ℕ → Mode → Node
 new_root b text owner group mode =
-    let body = empty_body (is_dir b.root.kind) in
+    let body = empty_body (is_dir (b.root text).kind) in
     record {
-      header = record { kind = b.root.kind; owner = owner; group = group; mode = mode; links = 1; size = b.size text body; parent = None };
+      header = record { kind = (b.root text).kind; owner = owner; group = group; mode = mode; links = 1; size = b.size text body; parent = None };
       body = body;
     }
 
@@ -66,32 +81,32 @@ step_of q n m = let e = effect_on q (behaviour_of m.kind) m.text (fin.get m.node
 
 abbrev pub make_step : Name → List ℕ → NewNode → Meaning → Result (Unit {0}) Errno × Meaning
 make_step dir name new m =
-    let answer = make_of (root_of m.kind) name new.kind (fin.get m.nodes dir) in (answer, edited (edits_if answer (make_edits dir name new)) m)
+    let answer = make_of (keeps_tree m.kind) name new.kind (fin.get m.nodes dir) in (answer, edited (edits_if answer (make_edits dir name new)) m)
 
 -- a file that no entry names
 abbrev pub make_nameless_step : NewNode → Meaning → Result (Unit {0}) Errno × Meaning
-make_nameless_step new m = let answer = nameless_of (root_of m.kind) new.kind in (answer, edited (edits_if answer (nameless_edits new)) m)
+make_nameless_step new m = let answer = nameless_of (keeps_tree m.kind) new.kind in (answer, edited (edits_if answer (nameless_edits new)) m)
 
 -- another name for a file, which is one of the server's own
 abbrev pub link_step : Name → List ℕ → Name → Meaning → Result (Unit {0}) Errno × Meaning
 link_step dir name n m =
-    let answer = link_of (root_of m.kind) name true (fin.get m.nodes dir) (fin.get m.nodes n) in (answer, edited (edits_if answer (link_edits dir name n)) m)
+    let answer = link_of (keeps_tree m.kind) name true (fin.get m.nodes dir) (fin.get m.nodes n) in (answer, edited (edits_if answer (link_edits dir name n)) m)
 
 -- the entry of a name goes, and what it names has one entry less that names it
 abbrev pub unlink_step : Name → List ℕ → Meaning → Result (Unit {0}) Errno × Meaning
 unlink_step dir name m =
-    let answer = unlink_of (root_of m.kind) name (fin.get m.nodes dir) in (answer, edited (edits_if answer (unlink_edits dir name (entry_of name (body_of m.nodes dir)))) m)
+    let answer = unlink_of (keeps_tree m.kind) name (fin.get m.nodes dir) in (answer, edited (edits_if answer (unlink_edits dir name (entry_of name (body_of m.nodes dir)))) m)
 
 -- an entry goes from a directory to another, or gets another name
 abbrev pub rename_step : Name → List ℕ → Name → List ℕ → Meaning → Result (Unit {0}) Errno × Meaning
 rename_step dir name to new m =
-    let answer = rename_of (root_of m.kind) name true (fin.get m.nodes dir) (fin.get m.nodes to) in
+    let answer = rename_of (keeps_tree m.kind) name true (fin.get m.nodes dir) (fin.get m.nodes to) in
     (answer, edited (edits_if answer (rename_edits dir name to new (entry_of name (body_of m.nodes dir)) (entry_of new (body_of m.nodes to)))) m)
 
 -- owner, group and mode of a node
 abbrev pub set_attrs_step : Name → ℕ → ℕ → Mode → Meaning → Result (Unit {0}) Errno × Meaning
 set_attrs_step n owner group mode m =
-    let answer = set_attrs_of (root_of m.kind) (fin.get m.nodes n) in (answer, edited (edits_if answer (set_attrs_edits n owner group mode)) m)
+    let answer = set_attrs_of (keeps_tree m.kind) (fin.get m.nodes n) in (answer, edited (edits_if answer (set_attrs_edits n owner group mode)) m)
 
 -- the server without a node; entries that name it stay
 abbrev pub forget_after : Meaning → Name → Meaning
@@ -100,3 +115,8 @@ forget_after m n = record m { nodes = fin.remove m.nodes n }
 -- opens of a tree's nodes are not counted
 abbrev pub opened_after : Meaning → Name → OpenFlags → Meaning
 opened_after m n modes = m
+
+-- how many bytes there are to read in a node at a place, and whether it is a stream
+abbrev pub readable_of : Meaning → Name → ℕ → Option Readable
+readable_of m n at =
+    let b = behaviour_of m.kind in option_map (λ x. record { count = b.readable m.text x at; is_stream = b.stream }) (fin.get m.nodes n)

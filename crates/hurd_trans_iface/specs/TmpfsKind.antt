@@ -1,5 +1,5 @@
 -- A tree of files and directories in memory.
-use Rattle.std.specs.Prelude.{ℕ, ◌+◌, if◌then◌else◌, List, [], ◌∷◌, length, take, drop, nat_lt, Some, None, Ok, Err}
+use Rattle.std.specs.Prelude.{ℕ, ◌+◌, ◌-◌, true, false, if◌then◌else◌, List, [], ◌∷◌, length, take, drop, nat_lt, codes, Option, Some, None, Ok, Err}
 use Rattle.hurd_creds.specs.declared.attrs.Kind.TheVariants.{Dir}
 use Rattle.hurd_creds.specs.declared.errno.Errno.TheVariants.{EBADF, EISDIR, EFBIG}
 use Rattle.hurd_trans_iface.specs.declared.root.Crossing.TheVariants.{Plain}
@@ -39,11 +39,21 @@ abbrev pub bytes_in : Body → ℕ
 bytes_in (Content bs) = length bs
 bytes_in (Listing es) = 0
 
+-- an empty text, where there are no more words
+abbrev pub no_text : List (List ℕ) → Option (List ℕ)
+no_text [] = Some []
+no_text (w ∷ ws) = None
+
 abbrev pub tmpfs : Behaviour
 tmpfs = record {
-  root = record { kind = Dir; crossing = Plain };
+  program = codes "/hurd/tmpfs";
+  begins = no_text;
+  root = λ text. record { kind = Dir; crossing = Plain };
+  tree = true;
+  stream = false;
   size = λ text b. bytes_in b;
   read = λ text x at amount. read_bytes at amount x.body;
   write = λ text x at bs. write_file x.header at bs;
   set_size = λ text x size. cut_file x.header size;
+  readable = λ text x at. x.header.size - at;
 }

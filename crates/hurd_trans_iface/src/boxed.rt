@@ -1,6 +1,7 @@
 //! A boxed server is a server.
 use crate::names::Names;
 use crate::new_node::NewNode;
+use crate::readable::Readable;
 use crate::root::Root;
 use crate::server::Server;
 use hurd_creds::{Attrs, Bytes, Errno, Mode, NodeName, OpenFlags};
@@ -45,6 +46,10 @@ impl Server for Box<dyn Server> {
 
     fn set_size(&mut self, node: NodeName, size: u64) -> Result<(), Errno> {
         (**self).set_size(node, size)
+    }
+
+    fn readable(&self, node: NodeName, at: u64) -> Option<Readable> {
+        (**self).readable(node, at)
     }
 
     fn make(
@@ -106,5 +111,9 @@ impl Server for Box<dyn Server> {
 
     fn closed(&mut self, node: NodeName, modes: OpenFlags) {
         (**self).closed(node, modes)
+    }
+
+    fn goaway(&mut self) {
+        (**self).goaway()
     }
 }

@@ -6,10 +6,11 @@ ghost use Rattle.hurd_creds.specs.Memory.{Meets, Steps};
 ghost use Rattle.hurd_trans_iface.specs.Nodes.{attrs_of, body_of};
 ghost use Rattle.hurd_trans_iface.specs.Answers.{entry_of, names_of};
 ghost use Rattle.hurd_trans_iface.specs.Behaviour.{reading, writing, resizing};
-ghost use Rattle.hurd_trans_iface.specs.Meaning.{Meaning, root_of, begin_root_after, step_of, make_step, make_nameless_step, link_step, unlink_step, rename_step, set_attrs_step, opened_after, forget_after};
+ghost use Rattle.hurd_trans_iface.specs.Meaning.{Meaning, root_of, begin_root_after, step_of, make_step, make_nameless_step, link_step, unlink_step, rename_step, set_attrs_step, opened_after, forget_after, readable_of};
 
 use crate::names::Names;
 use crate::new_node::NewNode;
+use crate::readable::Readable;
 use crate::root::Root;
 use hurd_creds::{Attrs, Bytes, Errno, Mode, NodeName, OpenFlags};
 use std::alloc::Global;
@@ -27,7 +28,7 @@ pub trait Server: Drop {
 
     /// What the root is, also before it has a name.
     fn root(&self) -> Root
-        ensures { result ≡ root_of (meaning self.now).kind };
+        ensures { result ≡ root_of (meaning self.now).kind (meaning self.now).text };
 
     /// The attributes of a node, if the server has it.
     fn attrs(&self, node: NodeName) -> Option<Attrs>
@@ -60,6 +61,10 @@ pub trait Server: Drop {
     /// Errors, in order: `EDIED` no such node, `EFBIG` a size past 16,777,216, `EBADF` a directory, `ENOMEM`.
     fn set_size(&mut self, node: NodeName, size: u64) -> Result<(), Errno>
         ensures { Steps (meaning self.old) (step_of (resizing size) node (meaning self.old)) result (meaning self.new) };
+
+    /// How many bytes there are to read at a place, none in a directory, and whether the node is a stream; if the server has it. Takes no memory.
+    fn readable(&self, node: NodeName, at: u64) -> Option<Readable>
+        ensures { result ≡ readable_of (meaning self.now) node at };
 
     /// Makes a node in a directory under a name.
     ///
@@ -124,4 +129,8 @@ pub trait Server: Drop {
     /// An open of a node with these modes has gone. Takes no memory.
     fn closed(&mut self, node: NodeName, modes: OpenFlags)
         ensures { meaning self.new ≡ opened_after (meaning self.old) node modes };
+
+    /// The server is about to be sent away (`fsys_goaway`, `fsys.defs`). Takes no memory.
+    fn goaway(&mut self)
+        ensures { meaning self.new ≡ meaning self.old };
 }

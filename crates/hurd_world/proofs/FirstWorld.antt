@@ -1,8 +1,7 @@
 -- The first world is sound, whatever the kind of the boot server.
-use Rattle.std.proofs.Common.{◌≡◌, inl, inr, codes, ℕ, ◌+◌, ◌<◌, Bool, true, false, true≢false, if◌then◌else◌, List, [], ◌∷◌, length, refl, ap, sym, subst, zero-add, ◌∙◌, arith}
+use Rattle.std.proofs.Common.{◌≡◌, inl, inr, ℕ, ◌+◌, ◌<◌, Bool, true, false, true≢false, if◌then◌else◌, List, length, refl, ap, sym, subst, zero-add, ◌∙◌, arith}
 use Rattle.std.specs.Prelude.{Option, Some, None, cond}
 use Rattle.std.specs.Option.{option_map}
-use Rattle.std.specs.Str.{bytes_eq}
 use Rattle.std.specs.FinMap as fin
 use Rattle.hurd_creds.specs.declared.name.Name.{Name}
 use Rattle.hurd_creds.specs.declared.attrs.Kind.{Kind}
@@ -16,7 +15,9 @@ use Rattle.hurd_trans_iface.specs.Nodes.{Node, Header, IsShaped, is_dir, header_
 use Rattle.hurd_trans_iface.specs.declared.root.Root.{Root}
 use Rattle.hurd_trans_iface.specs.Answers.{is_plain, is_tree}
 use Rattle.hurd_trans_iface.specs.Good.{IsSized}
-use Rattle.hurd_trans_iface.specs.Meaning.{Meaning, Begins, ServerKind, Tmpfs, begin, behaviour_of, empty_body, new_root, new_server, root_of}
+use Rattle.hurd_trans_iface.specs.Meaning.{Meaning, Begins, ServerKind, behaviour_of, empty_body, new_root, new_server, root_of}
+use Rattle.hurd_trans_iface.proofs.Beginnings.{begun-new}
+use Rattle.hurd_trans_iface.proofs.Goods.{tree-told}
 use Rattle.hurd_nodes.specs.Shown.{NodeState, ServerInfo, boot_name, boot_mode, boot_info, booted, info_in, server_of, state_of, tree_by}
 use Rattle.hurd_ports.specs.declared.table.Opened.{Opened}
 use Rattle.hurd_ports.specs.declared.table.Right.{Right}
@@ -27,19 +28,6 @@ use Rattle.hurd_machine.proofs.Stays.{root_is_root, stays_root}
 use Rattle.hurd_machine.proofs.Sums.{total_none}
 use Rattle.hurd_world.specs.Boot.{first_world}
 use Rattle.hurd_world.proofs.FirstPorts.{OfTask, boot_seat, boot_right, boot_number, boot_open, boot_settled, closed, only, opens_there}
-
--- a server that some words made is a new one
-begun_new : (m : Meaning) → Begins m → (kind : ServerKind) × (text : List ℕ) × (m ≡ new_server kind text)
-begun_new m b = go b.0 b.1
-  where
-    by_test : (t : Bool) → cond t (Some (new_server Tmpfs [])) None ≡ Some m → (kind : ServerKind) × (text : List ℕ) × (m ≡ new_server kind text)
-    by_test true h = let e : new_server Tmpfs [] ≡ m = cc in (Tmpfs, [], sym e)
-    by_test false h = absurd (cc)
-
-    go : (ws : List (List ℕ)) → begin ws ≡ Some m → (kind : ServerKind) × (text : List ℕ) × (m ≡ new_server kind text)
-    go [] h = absurd (cc)
-    go (w ∷ []) h = by_test (bytes_eq w (codes "/hurd/tmpfs")) h
-    go (w ∷ v ∷ ws) h = absurd (cc)
 
 -- what a function of what is there comes from
 option_map-origin : {A B : Type 0} (f : A → B) (o : Option A) (y : B) → option_map f o ≡ Some y → (x : A) × (o ≡ Some x) × (f x ≡ y)
@@ -101,7 +89,7 @@ module _ (kind : ServerKind) (text : List ℕ) where
     where
       by_body : (o : Option Node) → fin.get state.nodes d ≡ o → lists_at n (option_map (λ (x : Node). x.body) o) ≡ true → ⊥
       by_body None e h = true≢false (sym h)
-      by_body (Some x) e h = true≢false (sym h ∙ ap (λ (y : Node). lists n y.body) (node_only d x e).1 ∙ empty_lists (is_dir (root_of kind).kind) n)
+      by_body (Some x) e h = true≢false (sym h ∙ ap (λ (y : Node). lists n y.body) (node_only d x e).1 ∙ empty_lists (is_dir (root_of kind text).kind) n)
 
   housed : AreHoused state
   housed = record {
@@ -114,9 +102,10 @@ module _ (kind : ServerKind) (text : List ℕ) where
   tree : IsTree state
   tree = record {
     kin = λ d n is. absurd (no_entry d n is);
+    trees = λ d n is. absurd (no_entry d n is);
     below = λ d n k is there dir. absurd (no_entry d n is);
-    shapes = λ n x is. rw (node_only n x is).1 (empty_shaped (root_of kind).kind root.header refl);
-    distinct = λ n x is. rw (node_only n x is).1 (empty_distinct (is_dir (root_of kind).kind));
+    shapes = λ n x is. rw (node_only n x is).1 (empty_shaped (root_of kind text).kind root.header refl);
+    distinct = λ n x is. rw (node_only n x is).1 (empty_distinct (is_dir (root_of kind text).kind));
     root = (root.header, root_header);
     boot = root_is_root state boot_name info root_server root_home;
   }
@@ -124,7 +113,7 @@ module _ (kind : ServerKind) (text : List ℕ) where
   -- nothing names the root
   root_unnamed : times_listed state.nodes boot_name ≡ 0
   unfolding times_listed
-  root_unnamed = total_none (λ (x : Node). times_in boot_name x.body) state.nodes (λ n x is. rw (node_only n x is).1 (empty_times (is_dir (root_of kind).kind) boot_name))
+  root_unnamed = total_none (λ (x : Node). times_in boot_name x.body) state.nodes (λ n x is. rw (node_only n x is).1 (empty_times (is_dir (root_of kind text).kind) boot_name))
 
   -- where it keeps a tree, the root is a directory
   root_links : (r : Root) (t : ℕ) → is_tree r ≡ true → 1 ≡ cond (is_dir r.kind) 1 t
@@ -141,7 +130,7 @@ module _ (kind : ServerKind) (text : List ℕ) where
     once = λ dir. omega (arith, root_unnamed);
     links = λ tree.
         let served : server_of state boot_name ≡ Some info = ap (info_in state.servers) root_home ∙ root_server in
-        root_links (root_of kind) (times_listed state.nodes boot_name) (sym (ap tree_by served) ∙ tree);
+        root_links (root_of kind text) (times_listed state.nodes boot_name) (tree-told kind text ∙ sym (ap tree_by served) ∙ tree);
   }
 
   linked : Linked state
@@ -208,4 +197,4 @@ module _ (kind : ServerKind) (text : List ℕ) where
     sound = record { coherent = record { given = given; housing = housed; tree = tree; tables = tables }; linked = linked; sizes = sized; settled = rest }
 
 pub first_sound : (m : Meaning) (tasks : List IdSets) → Begins m → Sound (first_world m tasks)
-first_sound m tasks b = let new = begun_new m b in rw new.2 (sound new.0 new.1 tasks)
+first_sound m tasks b = let new = begun-new b.0 m b.1 in rw new.2 (sound new.0 new.1 tasks)

@@ -1,12 +1,13 @@
 -- The first world.
-use Rattle.std.specs.Prelude.{ℕ, ◌+◌, if◌then◌else◌, List, [], ◌∷◌, length, nat_le, Result, Ok, Err}
+use Rattle.std.specs.Prelude.{ℕ, ◌+◌, not, if◌then◌else◌, List, [], ◌∷◌, length, nat_le, Result, Ok, Err}
 use Rattle.std.specs.FinMap as fin
 use Rattle.hurd_creds.specs.declared.errno.Errno.{Errno}
-use Rattle.hurd_creds.specs.declared.errno.Errno.TheVariants.{EINVAL}
+use Rattle.hurd_creds.specs.declared.errno.Errno.TheVariants.{EINVAL, ENOTDIR}
 use Rattle.hurd_creds.specs.declared.open_flags.OpenFlags.{OpenFlags}
 use Rattle.hurd_creds.specs.Access.{IdSets}
 use Rattle.hurd_creds.specs.Names.{name_of}
-use Rattle.hurd_trans_iface.specs.Meaning.{Meaning}
+use Rattle.hurd_trans_iface.specs.Nodes.{is_dir}
+use Rattle.hurd_trans_iface.specs.Meaning.{Meaning, root_of}
 use Rattle.hurd_nodes.specs.Shown.{state_of, booted, boot_name}
 use Rattle.hurd_ports.specs.Tables.{Task, OpenMap, PortState}
 use Rattle.hurd_ports.specs.Steps.{new_open}
@@ -16,9 +17,12 @@ use Rattle.hurd_machine.specs.World.{World, world_from}
 abbrev pub most_tasks : ℕ
 most_tasks = 64
 
--- EINVAL for more tasks than that
-abbrev pub boot_of : List IdSets → Result (Unit {0}) Errno
-boot_of tasks = if nat_le (length tasks) most_tasks then Ok tt else Err EINVAL
+-- whether a boot server of this meaning and tasks of these ids begin a world: ENOTDIR where its root is no directory, EINVAL
+-- for more tasks than that
+abbrev pub boot_of : Meaning → List IdSets → Result (Unit {0}) Errno
+boot_of m tasks =
+    if not (is_dir (root_of m.kind m.text).kind) then Err ENOTDIR
+    else if nat_le (length tasks) most_tasks then Ok tt else Err EINVAL
 
 -- an open without modes
 abbrev pub closed_open : OpenFlags

@@ -9,7 +9,7 @@ ghost use Rattle.hurd_world.specs.Boot.{boot_of, first_world};
 
 use crate::boot::first_ports;
 use hurd_core::Core;
-use hurd_creds::{Errno, Ids, TaskId};
+use hurd_creds::{Errno, Ids, Kind, TaskId};
 use hurd_dirs::{file, link, make, remove, rename};
 use hurd_files::{access, files};
 use hurd_io::{io, opens, sharing};
@@ -44,24 +44,28 @@ impl<S: Server> World<S> {
     /// Begins a world over a boot server, which some words made, for tasks of these ids; each has the boot root as port 1,
     /// its root, and as port 2, its working directory.
     ///
-    /// Errors, in order, each with the box back: `EINVAL` more than 64 tasks, `ENOMEM`.
-    pub fn boot(alloc: Global, root: S, tasks: Vec<Ids>) -> Result<World<S>, (Errno, S)>
-        requires { Begins (S.meaning root) }
-        ensures ok { IfOk result (λ w. (boot_of tasks.items ≡ Ok tt)
-            × (world_of S.meaning w ≡ first_world (S.meaning root) tasks.items)) }
+    /// Errors, in order, each with the box back: `ENOTDIR` the server's root is no directory, `EINVAL` more than 64 tasks,
+    /// `ENOMEM`.
+    pub fn boot(alloc: Global, boot: S, tasks: Vec<Ids>) -> Result<World<S>, (Errno, S)>
+        requires { Begins (S.meaning boot) }
+        ensures ok { IfOk result (λ w. (boot_of (S.meaning boot) tasks.items ≡ Ok tt)
+            × (world_of S.meaning w ≡ first_world (S.meaning boot) tasks.items)) }
         ensures sound { IfOk result (λ w. Sound (world_of S.meaning w)) }
-        ensures err { IfErr result (λ e. (e.1 ≡ root)
-            × ((boot_of tasks.items ≡ Err e.0) ⊎ ((e.0 ≡ Errno.ENOMEM) × IsOk (boot_of tasks.items)))) }
+        ensures err { let asked = boot_of (S.meaning boot) tasks.items in
+            IfErr result (λ e. (e.1 ≡ boot) × ((asked ≡ Err e.0) ⊎ ((e.0 ≡ Errno.ENOMEM) × IsOk asked))) }
     {
+        let Kind::Dir = boot.root().kind else {
+            return Err((Errno::ENOTDIR, boot));
+        };
         if tasks.len() > MOST_TASKS {
-            return Err((Errno::EINVAL, root));
+            return Err((Errno::EINVAL, boot));
         }
         let rights = 2 * tasks.len();
         let ports = match first_ports(alloc, tasks) {
             Ok(ports) => ports,
-            Err(errno) => return Err((errno, root)),
+            Err(errno) => return Err((errno, boot)),
         };
-        let nodes = Nodes::starting_with(alloc, root, rights)?;
+        let nodes = Nodes::starting_with(alloc, boot, rights)?;
         Ok(World {
             core: Core::new(nodes, ports),
         })

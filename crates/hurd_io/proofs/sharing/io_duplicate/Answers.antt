@@ -1,5 +1,5 @@
 -- A copy of the right, with its own ids.
-use Rattle.std.proofs.Common.{sym, ap, ◌∙◌}
+use Rattle.std.proofs.Common.{sym}
 use Rattle.std.proofs.lemmas.Result.{err_from_is_err_and}
 use Rattle.hurd_machine.specs.World.{nodes_of, ports_of}
 use Rattle.hurd_core.specs.Core.{world_of}

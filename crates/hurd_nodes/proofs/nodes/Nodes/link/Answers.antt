@@ -1,7 +1,7 @@
 use Rattle.std.proofs.Common.{true, refl}
 use Rattle.std.specs.FinMap as fin
 use Rattle.hurd_trans_iface.specs.Answers.{link_edits, link_of}
-use Rattle.hurd_trans_iface.specs.Meaning.{root_of}
+use Rattle.hurd_trans_iface.specs.Meaning.{keeps_tree}
 use Rattle.hurd_nodes.proofs.HideLaws.{hides-edited}
 use Rattle.hurd_nodes.proofs.EditLaws.{link-shown, link-gone}
 use Rattle.hurd_nodes.proofs.nodes.Nodes.link.Goals as goal
@@ -18,5 +18,5 @@ returns-in-Some-clause-hidden g c =
     let f = g.S.Server.meaning in
     let m = f c.in-Some.server.now in
     let name = c.args.name.now in
-    let answer = link_of (root_of m.kind) name true (fin.get m.nodes c.args.dir) (fin.get m.nodes c.args.node) in
+    let answer = link_of (keeps_tree m.kind) name true (fin.get m.nodes c.args.dir) (fin.get m.nodes c.args.node) in
     hides-edited f c.args.self.now c.args.dir c.in-Some.server.now c.link.new.self c.in-Some.ensures.there answer (link_edits c.args.dir name c.args.node) refl c.link.result c.link.ensures

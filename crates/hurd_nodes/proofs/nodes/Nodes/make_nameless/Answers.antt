@@ -2,7 +2,7 @@ use Rattle.std.proofs.Common.{◌≡◌, sym, ◌∙◌, ap, List}
 use Rattle.std.proofs.lemmas.Result.{err_from_is_err_and}
 use Rattle.std.specs.Prelude.{Some}
 use Rattle.std.specs.FinMap as fin
-use Rattle.hurd_trans_iface.specs.Meaning.{Meaning, root_of}
+use Rattle.hurd_trans_iface.specs.Meaning.{Meaning, keeps_tree}
 use Rattle.hurd_nodes.specs.Shown.{nameless_in}
 use Rattle.hurd_nodes.specs.Held.{homes_of, mean, mean_seat, seat_value, seats_of}
 use Rattle.hurd_nodes.specs.declared.seat.Home.{Home}
@@ -53,7 +53,7 @@ returns-in_err-make_nameless-clause-shown g c =
     let s = seat-at f ss (fin.get homes c.args.dir) c.in-Some.i x at c.index_mut.ensures.value in
     let t = seat-at f ss (fin.get homes c.args.dir) c.in-Some.i c.index.result.now at c.index.ensures in
     let can =
-    ap (λ (m : Meaning). nameless_in (root_of m.kind) c.args.new.kind (fin.get m.nodes c.args.dir)) (seat-twice f ss (fin.get homes c.args.dir) c.in-Some.i x c.index.result.now s t)
+    ap (λ (m : Meaning). nameless_in (keeps_tree m.kind) c.args.new.kind (fin.get m.nodes c.args.dir)) (seat-twice f ss (fin.get homes c.args.dir) c.in-Some.i x c.index.result.now s t)
     ∙ sym c.in_ok-can_make_nameless_in.ensures in
     let p = err_from_is_err_and c.from_residual-in_err-make_nameless.result c.from_residual-in_err-make_nameless.ensures.1 in
     rw (p.1, p.2, ← c.self.view_is, c.reserve.ensures.items, s.set c.make_nameless.new.self)
@@ -96,7 +96,7 @@ returns-clause-shown g c =
     let s = seat g c in
     let t = seat-at f ss (fin.get homes c.args.dir) c.in-Some.i c.index.result.now at c.index.ensures in
     let can =
-    ap (λ (m : Meaning). nameless_in (root_of m.kind) c.args.new.kind (fin.get m.nodes c.args.dir)) (seat-twice f ss (fin.get homes c.args.dir) c.in-Some.i x c.index.result.now s t)
+    ap (λ (m : Meaning). nameless_in (keeps_tree m.kind) c.args.new.kind (fin.get m.nodes c.args.dir)) (seat-twice f ss (fin.get homes c.args.dir) c.in-Some.i x c.index.result.now s t)
     ∙ sym c.in_ok-can_make_nameless_in.ensures in
     rw (← c.self.view_is, home_put g c, s.set c.make_nameless.new.self)
     (nameless-done c.args.dir c.args.new homes (mean f (seats_of ss)) s.name (mean_seat f (seat_value x)) s.home s.is (f c.make_nameless.new.self) c.in_ok-make_nameless.field-0 can (rw c.in_ok-make_nameless.was at c.make_nameless.ensures))

@@ -2,7 +2,7 @@ use Rattle.std.proofs.Common.{true}
 use Rattle.std.specs.FinMap as fin
 use Rattle.hurd_trans_iface.specs.Nodes.{body_of}
 use Rattle.hurd_trans_iface.specs.Answers.{entry_of, rename_edits, rename_of}
-use Rattle.hurd_trans_iface.specs.Meaning.{root_of}
+use Rattle.hurd_trans_iface.specs.Meaning.{keeps_tree}
 use Rattle.hurd_nodes.proofs.HideLaws.{hides-edited, rename-adds_none}
 use Rattle.hurd_nodes.proofs.EditLaws.{rename-shown, rename-gone}
 use Rattle.hurd_nodes.proofs.nodes.Nodes.rename.Goals as goal
@@ -24,5 +24,5 @@ returns-in-Some-clause-hidden g c =
     let new = c.args.new.now in
     let from = entry_of name (body_of m.nodes dir) in
     let over = entry_of new (body_of m.nodes to) in
-    let answer = rename_of (root_of m.kind) name true (fin.get m.nodes dir) (fin.get m.nodes to) in
+    let answer = rename_of (keeps_tree m.kind) name true (fin.get m.nodes dir) (fin.get m.nodes to) in
     hides-edited f c.args.self.now dir c.in-Some.server.now c.rename.new.self c.in-Some.ensures.there answer (rename_edits dir name to new from over) (rename-adds_none dir name to new from over) c.rename.result c.rename.ensures

@@ -1,6 +1,6 @@
 use Rattle.std.proofs.Common.{◌≡◌, ◌∙◌, ap, ℕ}
 use Rattle.hurd_trans_iface.specs.Meaning.{begin_root_after}
-use Rattle.hurd_trans_iface.proofs.Beginnings.{begun-empty}
+use Rattle.hurd_trans_iface.proofs.Beginnings.{begun-empty, begun-rootless}
 use Rattle.hurd_nodes.specs.Held.{homes_of, seats_of, home_key, home_value, seat_key, seat_value}
 use Rattle.hurd_nodes.specs.Shown.{boot_name, booted}
 use Rattle.hurd_nodes.proofs.BootLaws.{boot-ids, boot-shown, boot-hides, keyed-one}
@@ -9,6 +9,9 @@ use Rattle.hurd_nodes.proofs.nodes.Nodes.starting_with.Given as given
 
 begun : (g : given.Over) (c : goal.After-push_reserved-2 g) → g.S.Server.meaning c.begin_root.new.self ≡ booted (g.S.Server.meaning c.args.boot)
 begun g c = c.begin_root.ensures ∙ ap (λ (b : ℕ). begin_root_after (g.S.Server.meaning c.args.boot) boot_name 0 0 (record { 0 = b })) (c.from_bits_retain.ensures tt)
+
+pub begin_root-requires : goal.begin_root-requires
+begin_root-requires g c = begun-rootless c.requires.0 (g.S.Server.meaning c.args.boot) c.requires.1
 
 pub returns-clause-shown : goal.returns-clause-shown
 unfolding homes_of seats_of

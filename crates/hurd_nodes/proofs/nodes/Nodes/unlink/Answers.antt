@@ -1,7 +1,7 @@
 use Rattle.std.specs.FinMap as fin
 use Rattle.hurd_trans_iface.specs.Nodes.{body_of}
 use Rattle.hurd_trans_iface.specs.Answers.{entry_of, unlink_edits, unlink_of}
-use Rattle.hurd_trans_iface.specs.Meaning.{root_of}
+use Rattle.hurd_trans_iface.specs.Meaning.{keeps_tree}
 use Rattle.hurd_nodes.proofs.HideLaws.{hides-sure, unlink-adds_none}
 use Rattle.hurd_nodes.proofs.EditLaws.{unlink-shown, unlink-gone}
 use Rattle.hurd_nodes.proofs.nodes.Nodes.unlink.Goals as goal
@@ -20,5 +20,5 @@ returns-in-Some-clause-hidden g c =
     let dir = c.args.dir in
     let name = c.args.name.now in
     let entry = entry_of name (body_of m.nodes dir) in
-    let answer = unlink_of (root_of m.kind) name (fin.get m.nodes dir) in
+    let answer = unlink_of (keeps_tree m.kind) name (fin.get m.nodes dir) in
     hides-sure f c.args.self.now dir c.in-Some.server.now c.unlink.new.self c.in-Some.ensures.there answer (unlink_edits dir name entry) (unlink-adds_none dir name entry) c.unlink.result c.unlink.ensures

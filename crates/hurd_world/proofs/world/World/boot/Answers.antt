@@ -7,7 +7,7 @@ use Rattle.hurd_world.proofs.world.World.boot.Goals as goal
 
 pub returns-clause-sound : goal.returns-clause-sound
 returns-clause-sound g c =
-    subst Sound (sym (c.new.ensures ∙ ap₂ world_from c.in_ok-nodes.ensures.shown c.in-Ok.ensures.ok)) (first_sound (g.S.Server.meaning c.args.root) c.args.tasks.items c.requires)
+    subst Sound (sym (c.new.ensures ∙ ap₂ world_from c.in_ok-nodes.ensures.shown c.in-Ok.ensures.ok)) (first_sound (g.S.Server.meaning c.args.boot) c.args.tasks.items c.requires)
 
 pub new-requires : goal.new-requires
 new-requires g c = rw (c.in_ok-nodes.ensures.holds, c.len-rights.ensures, c.args.tasks.ok.0, c.in-Ok.ensures.ok) (boot_holds c.args.tasks.items)

@@ -1,0 +1,96 @@
+-- Servers of one node that nothing changes are good.
+use Rattle.std.proofs.Common.{◌≡◌, ℕ, Bool, true, false, List, nat_lt, if◌then◌else◌, refl, sym, ◌∙◌, true≢false}
+use Rattle.std.specs.Prelude.{Option, None}
+use Rattle.hurd_trans_iface.specs.Nodes.{Body, Header, Node}
+use Rattle.hurd_trans_iface.specs.Answers.{is_tree}
+use Rattle.hurd_trans_iface.specs.Behaviour.{Did, Behaviour, Question, reading, writing, resizing, bytes_left, node_left, size_left}
+use Rattle.hurd_trans_iface.specs.Good.{GoodBehaviour, IsBlind, IsSized, KeepsSizes}
+use Rattle.hurd_trans_iface.specs.TmpfsKind.{most_bytes}
+use Rattle.hurd_trans_iface.specs.HelloKind.{hello}
+use Rattle.hurd_trans_iface.specs.NullKind.{null}
+use Rattle.hurd_trans_iface.specs.ZeroKind.{zeros}
+use Rattle.hurd_trans_iface.specs.SymlinkKind.{symlink}
+use Rattle.hurd_trans_iface.proofs.Goodness.{IsFine, fine_done, fine_refused, fine_if}
+
+-- an answer that leaves the node as it is
+abbrev Leaves : {T : Type 0} → Did T → Type 0
+Leaves d = (d.bytes ≡ None) × (d.size ≡ None)
+
+-- a kind whose answers change nothing, and whose sizes no node says
+record IsStill (b : Behaviour) : Type 0 where
+  rooted : (text : List ℕ) → is_tree (b.root text) ≡ b.tree
+  treeless : b.tree ≡ false
+  sizes : (text : List ℕ) (c e : Body) → b.size text e ≡ b.size text c
+  read : (at amount : ℕ) (text : List ℕ) (x : Node) → IsFine Leaves (b.read text x at amount)
+  write : (at : ℕ) (bs text : List ℕ) (x : Node) → IsFine Leaves (b.write text x at bs)
+  set_size : (size : ℕ) (text : List ℕ) (x : Node) → IsFine Leaves (b.set_size text x size)
+  write_blind : (at : ℕ) (bs : List ℕ) → IsBlind b (writing at bs)
+  set_size_blind : (size : ℕ) → IsBlind b (resizing size)
+
+-- an answer that leaves the node as it is leaves its size right
+still_sized : {T : Type 0} (b : Behaviour) (q : Question T) → ((text : List ℕ) (x : Node) → IsFine Leaves (q b text x)) → KeepsSizes b q
+still_sized b q fine text x d shaped sized is = let l = fine_done Leaves (q b text x) d (fine text x) is in rw (l.0, l.1) sized
+
+good_still : (b : Behaviour) → IsStill b → GoodBehaviour b
+good_still b s = record {
+  rooted = s.rooted;
+  read_sizes = λ at amount. still_sized b (reading at amount) (s.read at amount);
+  write_sizes = λ at bs. still_sized b (writing at bs) (s.write at bs);
+  set_size_sizes = λ size. still_sized b (resizing size) (s.set_size size);
+  entered = λ text name n c. s.sizes text c _;
+  removed = λ text name c. s.sizes text c _;
+  newborn = λ is text dir new x made. absurd (true≢false (sym is ∙ s.treeless));
+  write_blind = s.write_blind;
+  set_size_blind = s.set_size_blind;
+  read_plain = λ at amount text x e is. fine_refused Leaves (b.read text x at amount) e (s.read at amount text x) is;
+  write_plain = λ at bs text x e is. fine_refused Leaves (b.write text x at bs) e (s.write at bs text x) is;
+  set_size_plain = λ size text x e is. fine_refused Leaves (b.set_size text x size) e (s.set_size size text x) is;
+}
+
+pub hello_good : GoodBehaviour hello
+hello_good = good_still hello (record {
+  rooted = λ text. refl;
+  treeless = refl;
+  sizes = λ text c e. refl;
+  read = λ at amount text x. (refl, refl);
+  write = λ at bs text x. refl;
+  set_size = λ size text x. fine_if Leaves (nat_lt most_bytes size) _ _ (λ long. refl) (λ short. refl);
+  write_blind = λ at bs text h c e. refl;
+  set_size_blind = λ size text h c e. refl;
+})
+
+pub null_good : GoodBehaviour null
+null_good = good_still null (record {
+  rooted = λ text. refl;
+  treeless = refl;
+  sizes = λ text c e. refl;
+  read = λ at amount text x. (refl, refl);
+  write = λ at bs text x. (refl, refl);
+  set_size = λ size text x. fine_if Leaves (nat_lt most_bytes size) _ _ (λ long. refl) (λ short. (refl, refl));
+  write_blind = λ at bs text h c e. refl;
+  set_size_blind = λ size text h c e. refl;
+})
+
+pub zeros_good : GoodBehaviour zeros
+zeros_good = good_still zeros (record {
+  rooted = λ text. refl;
+  treeless = refl;
+  sizes = λ text c e. refl;
+  read = λ at amount text x. (refl, refl);
+  write = λ at bs text x. (refl, refl);
+  set_size = λ size text x. fine_if Leaves (nat_lt most_bytes size) _ _ (λ long. refl) (λ short. (refl, refl));
+  write_blind = λ at bs text h c e. refl;
+  set_size_blind = λ size text h c e. refl;
+})
+
+pub symlink_good : GoodBehaviour symlink
+symlink_good = good_still symlink (record {
+  rooted = λ text. refl;
+  treeless = refl;
+  sizes = λ text c e. refl;
+  read = λ at amount text x. (refl, refl);
+  write = λ at bs text x. refl;
+  set_size = λ size text x. fine_if Leaves (nat_lt most_bytes size) _ _ (λ long. refl) (λ short. refl);
+  write_blind = λ at bs text h c e. refl;
+  set_size_blind = λ size text h c e. refl;
+})

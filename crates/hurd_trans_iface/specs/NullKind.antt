@@ -1,0 +1,21 @@
+-- A stream without bytes, which drops what it takes.
+use Rattle.std.specs.Prelude.{true, false, if◌then◌else◌, [], length, nat_lt, codes, Err}
+use Rattle.hurd_creds.specs.declared.attrs.Kind.TheVariants.{Char}
+use Rattle.hurd_creds.specs.declared.errno.Errno.TheVariants.{EFBIG}
+use Rattle.hurd_trans_iface.specs.declared.root.Crossing.TheVariants.{Plain}
+use Rattle.hurd_trans_iface.specs.Behaviour.{Behaviour, only}
+use Rattle.hurd_trans_iface.specs.TmpfsKind.{most_bytes, no_text}
+
+abbrev pub null : Behaviour
+null = record {
+  program = codes "/hurd/null";
+  begins = no_text;
+  root = λ text. record { kind = Char; crossing = Plain };
+  tree = false;
+  stream = true;
+  size = λ text b. 0;
+  read = λ text x at amount. only [];
+  write = λ text x at bs. only (length bs);
+  set_size = λ text x size. if nat_lt most_bytes size then Err EFBIG else only tt;
+  readable = λ text x at. 0;
+}
