@@ -1,0 +1,180 @@
+-- The one node of a server, and what its server answers of it.
+use Rattle.std.proofs.Common.{◌≡◌, ◌⊎◌, inl, inr, ℕ, Bool, true, false, List, refl, ap, sym, ◌∙◌, is_some}
+use Rattle.std.specs.Prelude.{Option, Some, None, Result, Err}
+use Rattle.std.specs.Option.{option_map}
+use Rattle.std.specs.FinMap as fin
+use Rattle.hurd_creds.specs.Memory.{Steps}
+use Rattle.hurd_creds.specs.NameMaps.{NameMap}
+use Rattle.hurd_creds.specs.Names.{name_cmp, same_name}
+use Rattle.hurd_creds.specs.declared.name.Name.{Name}
+use Rattle.hurd_creds.specs.declared.attrs.Kind.{Kind}
+use Rattle.hurd_creds.specs.declared.errno.Errno.{Errno}
+use Rattle.hurd_creds.proofs.NameLaws.{equal_if_same, apart_if_not_same, same_or_apart, same_map_by, get_here, get_apart, remove_here, remove_apart}
+use Rattle.hurd_creds.proofs.StepLaws.{steps-refused}
+use Rattle.hurd_trans_iface.specs.declared.new_node.NewNode.{NewNode}
+use Rattle.hurd_trans_iface.specs.Nodes.{Node, NodeMap, Edit, body_of, is_dir}
+use Rattle.hurd_trans_iface.specs.Answers.{entry_of, names_of, make_of, make_edits, link_of, link_edits, unlink_of, unlink_edits, rename_of, rename_edits, edits_if}
+use Rattle.hurd_trans_iface.specs.Meaning.{Meaning, ServerKind, root_of, keeps_tree, edited, make_step, link_step, unlink_step, rename_step, forget_after}
+use Rattle.hurd_small.specs.declared.presence.LoneNode.{LoneNode}
+use Rattle.hurd_small.specs.declared.presence.Presence.{Presence}
+use Rattle.hurd_small.specs.declared.presence.Presence.TheVariants.{Nameless, There, Forgotten}
+use Rattle.hurd_small.specs.Lone.{node_of, nodes_of, lone_meaning, barred_by}
+
+-- maps of one value, and of none
+
+module _ {X : Type 0} (n : Name) where
+  abbrev one : X → NameMap X
+  one x = fin.insert fin.empty n x
+
+  pub get-one : (x : X) → fin.get (one x) n ≡ Some x
+  get-one x = get_here {X = X} fin.empty n x
+
+  pub get-other : (x : X) (q : Name) → (q ≡ n → ⊥) → fin.get (one x) q ≡ None
+  get-other x q apart = get_apart {X = X} fin.empty n x q apart ∙ fin.get-empty {X = X} name_cmp q
+
+  remove-absent : (m : NameMap X) → fin.get m n ≡ None → fin.remove m n ≡ m
+  remove-absent m none = same_map_by (fin.remove m n) m (λ q. go q (same_or_apart q n))
+    where
+      go : (q : Name) → (q ≡ n) ⊎ (q ≡ n → ⊥) → fin.get (fin.remove m n) q ≡ fin.get m q
+      go q (inl e) = rw e (remove_here m n ∙ sym none)
+      go q (inr apart) = remove_apart m n q apart
+
+  abbrev none : NameMap X
+  none = fin.empty
+
+  remove-one : (x : X) → fin.remove (one x) n ≡ none
+  remove-one x = same_map_by (fin.remove (one x) n) none (λ q. go q (same_or_apart q n))
+    where
+      go : (q : Name) → (q ≡ n) ⊎ (q ≡ n → ⊥) → fin.get (fin.remove (one x) n) q ≡ fin.get none q
+      go q (inl e) = rw e (remove_here (one x) n ∙ sym (fin.get-empty {X = X} name_cmp n))
+      go q (inr apart) = remove_apart (one x) n q apart ∙ get_apart none n x q apart
+
+abbrev no_nodes : NodeMap
+no_nodes = fin.empty
+
+pub find-none : (n : Name) → None ≡ fin.get no_nodes n
+find-none n = sym (fin.get-empty {X = Node} name_cmp n)
+
+-- a refusal changes nothing
+
+abbrev answered_by : Meaning → List Edit → Result (Unit {0}) Errno → Result (Unit {0}) Errno × Meaning
+answered_by m es answer = (answer, edited (edits_if answer es) m)
+
+refused : (m : Meaning) (es : List Edit) (answer : Result (Unit {0}) Errno) (e : Errno) → answer ≡ Err e → answered_by m es answer ≡ (Err e, m)
+refused m es answer e is = ap (answered_by m es) is
+
+-- what is no directory
+
+abbrev IsPlain : Option Node → Type 0
+IsPlain None = Unit {0}
+IsPlain (Some x) = is_dir x.header.kind ≡ false
+
+make-plain : (keeps : Bool) (name : List ℕ) (kind : Kind) (o : Option Node) → IsPlain o → make_of keeps name kind o ≡ Err (barred_by o)
+make-plain keeps name kind None plain = refl
+make-plain keeps name kind (Some d) plain = let p : is_dir d.header.kind ≡ false = plain in rw p refl
+
+link-plain : (keeps : Bool) (name : List ℕ) (kin : Bool) (o x : Option Node) → IsPlain o → link_of keeps name kin o x ≡ Err (barred_by o)
+link-plain keeps name kin None x plain = refl
+link-plain keeps name kin (Some d) x plain = let p : is_dir d.header.kind ≡ false = plain in rw p refl
+
+unlink-plain : (keeps : Bool) (name : List ℕ) (o : Option Node) → IsPlain o → unlink_of keeps name o ≡ Err (barred_by o)
+unlink-plain keeps name None plain = refl
+unlink-plain keeps name (Some d) plain = let p : is_dir d.header.kind ≡ false = plain in rw p refl
+
+rename-plain : (keeps : Bool) (name : List ℕ) (kin : Bool) (o t : Option Node) → IsPlain o → rename_of keeps name kin o t ≡ Err (barred_by o)
+rename-plain keeps name kin None t plain = refl
+rename-plain keeps name kin (Some d) t plain = let p : is_dir d.header.kind ≡ false = plain in rw p refl
+
+module _ (kind : ServerKind) (text : List ℕ) where
+  abbrev at : Presence → Name → Option Node
+  at p n = fin.get (nodes_of kind text p) n
+
+  -- the node is found under its name, and under no other
+
+  pub find-there : (p : Presence) (r : LoneNode) (n : Name) → p ≡ There r → same_name r.name n ≡ true → Some (node_of kind text r) ≡ at p n
+  find-there p r n is same =
+      let e : r.name ≡ n = equal_if_same r.name n same in
+      rw (is, ← e) (sym (get-one r.name (node_of kind text r)))
+
+  pub find-apart : (p : Presence) (r : LoneNode) (n : Name) → p ≡ There r → same_name r.name n ≡ false → None ≡ at p n
+  find-apart p r n is other = rw is (sym (get-other r.name (node_of kind text r) n (λ e. apart_if_not_same r.name n other (sym e))))
+
+  -- whatever is found is the node
+
+  abbrev Found : Presence → Name → Type 0
+  Found p n = (at p n ≡ None) ⊎ ((r : LoneNode) × (at p n ≡ Some (node_of kind text r)))
+
+  found : (p : Presence) (n : Name) → Found p n
+  found Nameless n = inl (fin.get-empty {X = Node} name_cmp n)
+  found (Forgotten name) n = inl (fin.get-empty {X = Node} name_cmp n)
+  found (There r) n = elim (same_or_apart n r.name) [
+    | inl e ↦ inr (r, rw e (get-one r.name (node_of kind text r)))
+    | inr apart ↦ inl (get-other r.name (node_of kind text r) n apart)
+  ]
+
+  -- where it is no directory
+
+  module _ (p : Presence) (n : Name) (plain : is_dir (root_of kind text).kind ≡ false) where
+    abbrev m : Meaning
+    m = lone_meaning kind text p
+
+    is_plain : IsPlain (at p n)
+    is_plain = elim (found p n) [
+      | inl none ↦ rw none tt
+      | inr there ↦ rw there.1 plain
+    ]
+
+    pub names-barred : names_of (body_of (nodes_of kind text p) n) ≡ Err (barred_by (at p n))
+    names-barred = elim (found p n) [
+      | inl none ↦ rw none refl
+      | inr there ↦ rw (there.1, plain) refl
+    ]
+
+    pub step-barred : (name : List ℕ) → None ≡ entry_of name (body_of (nodes_of kind text p) n)
+    step-barred name = elim (found p n) [
+      | inl none ↦ rw none refl
+      | inr there ↦ rw (there.1, plain) refl
+    ]
+
+    module _ (e : Errno) (is : e ≡ barred_by (at p n)) where
+      pub make-barred : (name : List ℕ) (new : NewNode) → Steps m (make_step n name new m) (Err e) m
+      make-barred name new =
+          rw is (steps-refused _ m _ (refused m (make_edits n name new) _ _ (make-plain (keeps_tree kind) name new.kind (at p n) is_plain)))
+
+      pub link-barred : (name : List ℕ) (node : Name) → Steps m (link_step n name node m) (Err e) m
+      link-barred name node =
+          rw is (steps-refused _ m _ (refused m (link_edits n name node) _ _ (link-plain (keeps_tree kind) name true (at p n) (at p node) is_plain)))
+
+      pub unlink-barred : (name : List ℕ) → (Err e, m) ≡ unlink_step n name m
+      unlink-barred name =
+          rw is (sym (refused m (unlink_edits n name (entry_of name (body_of m.nodes n))) _ _ (unlink-plain (keeps_tree kind) name (at p n) is_plain)))
+
+      pub rename-barred : (name : List ℕ) (to : Name) (new : List ℕ) → Steps m (rename_step n name to new m) (Err e) m
+      rename-barred name to new =
+          rw is (steps-refused _ m _ (refused m (rename_edits n name to new (entry_of name (body_of m.nodes n)) (entry_of new (body_of m.nodes to))) _ _
+          (rename-plain (keeps_tree kind) name true (at p n) (at p to) is_plain)))
+
+  -- the node goes when it is forgotten, and not when another one is
+
+  abbrev Finds : Presence → Name → Option LoneNode → Type 0
+  Finds p n o = option_map (node_of kind text) o ≡ at p n
+
+  some_is_none : (o : Option LoneNode) → is_some o ≡ true → option_map (node_of kind text) o ≡ None → ⊥
+  some_is_none None some none = absurd (cc)
+  some_is_none (Some r) some none = absurd (cc)
+
+  none_if_none : (o : Option LoneNode) → is_some o ≡ false → option_map (node_of kind text) o ≡ None
+  none_if_none None none = refl
+  none_if_none (Some r) none = absurd (cc)
+
+  pub forget-there : (p : Presence) (n : Name) (o : Option LoneNode) → Finds p n o → is_some o ≡ true → lone_meaning kind text (Forgotten n) ≡ forget_after (lone_meaning kind text p) n
+  forget-there Nameless n o finds some = absurd (some_is_none o some (finds ∙ fin.get-empty {X = Node} name_cmp n))
+  forget-there (Forgotten name) n o finds some = absurd (some_is_none o some (finds ∙ fin.get-empty {X = Node} name_cmp n))
+  forget-there (There r) n o finds some = elim (same_or_apart n r.name) [
+    | inl e ↦ rw (e, remove-one r.name (node_of kind text r)) refl
+    | inr apart ↦ absurd (some_is_none o some (finds ∙ get-other r.name (node_of kind text r) n apart))
+  ]
+
+  pub forget-absent : (p : Presence) (n : Name) (o : Option LoneNode) → Finds p n o → is_some o ≡ false → lone_meaning kind text p ≡ forget_after (lone_meaning kind text p) n
+  forget-absent p n o finds none =
+      rw (remove-absent n (nodes_of kind text p) (sym finds ∙ none_if_none o none)) refl

@@ -1,0 +1,6 @@
+use Rattle.std.proofs.Common.{sym}
+use Rattle.hurd_small.proofs.Beginnings.{hello-begins}
+use Rattle.hurd_small.proofs.hello.Lone+Greeting.new.Goals as goal
+
+pub returns-clause-begins : goal.returns-clause-begins
+returns-clause-begins c = rw c.in_ok-copied.ensures (hello-begins c.args.words.now _ (sym c.in-Some.ensures))

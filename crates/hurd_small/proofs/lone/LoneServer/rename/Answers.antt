@@ -1,0 +1,9 @@
+use Rattle.hurd_small.proofs.LoneLaws.{rename-barred}
+use Rattle.hurd_small.proofs.lone.LoneServer.rename.Goals as goal
+
+pub returns : goal.returns
+returns g c =
+    let s = c.args.self.now in
+    let kind = g.S.Single.kind in
+    let text = g.S.Single.text s.single in
+    rename-barred kind text s.presence c.args.dir (g.met.S.Single.no_dir text) c.bars.result (c.bars.ensures kind text) c.args._name.now c.args._to c.args._new.now

@@ -1,0 +1,5 @@
+pub mod Lone
+pub mod Hello
+pub mod Null
+pub mod Zero
+pub mod Symlink

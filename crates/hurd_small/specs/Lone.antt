@@ -1,0 +1,67 @@
+-- Servers of one node, which is no directory.
+use Rattle.std.specs.Prelude.{◌≡◌, ℕ, cond, if◌then◌else◌, List, [], ◌∷◌, length, nat_lt, Option, Some, None, Result, Ok, Err}
+use Rattle.std.specs.FinMap as fin
+use Rattle.std.specs.Str.{bytes_eq}
+use Rattle.hurd_creds.specs.Memory.{Meets}
+use Rattle.hurd_creds.specs.declared.name.Name.{Name}
+use Rattle.hurd_creds.specs.declared.errno.Errno.{Errno}
+use Rattle.hurd_creds.specs.declared.errno.Errno.TheVariants.{EDIED, EFBIG, ENOTDIR}
+use Rattle.hurd_trans_iface.specs.Nodes.{Node, NodeMap}
+use Rattle.hurd_trans_iface.specs.Behaviour.{Effect, only, told_of}
+use Rattle.hurd_trans_iface.specs.TmpfsKind.{most_bytes}
+use Rattle.hurd_trans_iface.specs.Meaning.{Meaning, ServerKind, behaviour_of, new_root}
+use Rattle.hurd_small.specs.declared.presence.LoneNode.{LoneNode}
+use Rattle.hurd_small.specs.declared.presence.Presence.{Presence}
+use Rattle.hurd_small.specs.declared.presence.Presence.TheVariants.{Nameless, There, Forgotten}
+
+-- the node of a server of this kind and text
+abbrev pub node_of : ServerKind → List ℕ → LoneNode → Node
+node_of kind text n = new_root (behaviour_of kind) text n.owner n.group n.mode
+
+-- the one node, where it is there
+abbrev pub nodes_of : ServerKind → List ℕ → Presence → NodeMap
+nodes_of kind text Nameless = fin.empty
+nodes_of kind text (There n) = fin.insert fin.empty n.name (node_of kind text n)
+nodes_of kind text (Forgotten name) = fin.empty
+
+-- the node's name, which it keeps when it is forgotten
+abbrev pub root_name : Presence → Option Name
+root_name Nameless = None
+root_name (There n) = Some n.name
+root_name (Forgotten name) = Some name
+
+-- what a server of one node means
+abbrev pub lone_meaning : ServerKind → List ℕ → Presence → Meaning
+lone_meaning kind text p = record { kind = kind; text = text; root = root_name p; nodes = nodes_of kind text p }
+
+-- the text that these words say, if they make a server of this kind
+abbrev pub text_as : ServerKind → List (List ℕ) → Option (List ℕ)
+text_as kind [] = None
+text_as kind (w ∷ ws) = cond (bytes_eq w (behaviour_of kind).program) ((behaviour_of kind).begins ws) None
+
+-- why a node, which may not be there, is no directory
+abbrev pub barred_by : Option Node → Errno
+barred_by None = EDIED
+barred_by (Some x) = ENOTDIR
+
+-- the effect that changes nothing and answers so
+abbrev pub still : {T : Type 0} → Result T Errno → Effect T
+still (Ok t) = only t
+still (Err e) = Err e
+
+-- an effect changes nothing, and this is its answer, or want of memory
+abbrev pub IsGiven : {T : Type 0} → Effect T → Result T Errno → Type 0
+IsGiven e got = (e ≡ still (told_of e)) × Meets (told_of e) got
+
+-- so many bytes where they are taken
+abbrev pub count_if : Result (Unit {0}) Errno → List ℕ → Result ℕ Errno
+count_if (Ok u) bs = Ok (length bs)
+count_if (Err e) bs = Err e
+
+-- an effect changes nothing, and takes all bytes or refuses them
+abbrev pub IsPut : Effect ℕ → List ℕ → Result (Unit {0}) Errno → Type 0
+IsPut e bs taken = e ≡ still (count_if taken bs)
+
+-- an effect changes nothing, and takes a size up to the greatest or refuses it
+abbrev pub IsCut : Effect (Unit {0}) → ℕ → Result (Unit {0}) Errno → Type 0
+IsCut e size taken = e ≡ (if nat_lt most_bytes size then Err EFBIG else still taken)

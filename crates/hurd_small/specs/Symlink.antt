@@ -1,0 +1,9 @@
+-- What a link means.
+use Rattle.hurd_trans_iface.specs.Meaning.{Meaning, Symlink as SymlinkKind}
+use Rattle.hurd_small.specs.declared.lone.Lone.{Lone}
+use Rattle.hurd_small.specs.declared.symlink.Target.{Target}
+use Rattle.hurd_small.specs.Lone.{lone_meaning}
+
+-- a server of this kind and its text
+abbrev pub symlink_meaning : Lone Target → Meaning
+symlink_meaning s = lone_meaning SymlinkKind s.single.path s.presence

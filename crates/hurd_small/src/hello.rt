@@ -1,0 +1,111 @@
+//! A file that gives a text.
+ghost use Rattle.std.specs.Prelude.{◌≡◌, codes, Some, IfOk, IfErr, MatchOption, refl};
+ghost use Rattle.std.specs.Option.{option_map};
+ghost use Rattle.hurd_trans_iface.specs.Meaning.{begin, begin_as, Hello as HelloKind};
+ghost use Rattle.hurd_trans_iface.specs.HelloKind.{behind, hello_text};
+ghost use Rattle.hurd_small.specs.Lone.{text_as};
+ghost use Rattle.hurd_small.specs.Hello.{hello_meaning};
+
+use crate::lone::Lone;
+use crate::presence::Presence;
+use crate::single::Single;
+use crate::text;
+use hurd_creds::{Bytes, Errno, Kind};
+use hurd_trans_iface::{Crossing, Readable, Root, Words};
+use std::alloc::Global;
+
+/// A file that gives a text, and takes nothing (the Hurd's `/hurd/hello`).
+pub type Hello = Lone<Greeting>;
+
+/// The text.
+#[derive(Debug, Drop)]
+pub struct Greeting {
+    pub(crate) text: Bytes,
+}
+
+impl Lone<Greeting> {
+    /// The server that these words make: `/hurd/hello`, alone or with one word `--contents=` and the text behind it.
+    /// It has no root until one is named.
+    ///
+    /// Errors, in order: `EINVAL` other words; `ENOMEM`.
+    pub fn new(alloc: Global, words: &Words) -> Result<Hello, Errno>
+        ensures ok { IfOk result (λ s. begin_as HelloKind words.now ≡ Some (hello_meaning s)) }
+        ensures begins { IfOk result (λ s. begin words.now ≡ Some (hello_meaning s)) }
+        ensures err { IfErr result
+            (λ e. MatchOption (begin_as HelloKind words.now) (e ≡ Errno.EINVAL) (λ _. e ≡ Errno.ENOMEM)) }
+    {
+        let Some(text) = text_in(words) else {
+            return Err(Errno::EINVAL);
+        };
+        Ok(Lone {
+            single: Greeting {
+                text: Bytes::copied(alloc, text)?,
+            },
+            presence: Presence::Nameless,
+        })
+    }
+}
+
+/// The text that these words say, if they make a server.
+fn text_in(words: &Words) -> Option<&[u8]>
+    ensures { option_map (λ text. text.now) result ≡ text_as HelloKind words.now }
+{
+    match words.as_slice() {
+        [program, arguments @ ..] if program.is(b"/hurd/hello") => text_of(arguments),
+        _ => None,
+    }
+}
+
+/// The text where the words behind the program's name are these.
+fn text_of(arguments: &[Bytes]) -> Option<&[u8]>
+    ensures { option_map (λ text. text.now) result ≡ hello_text arguments.now }
+{
+    match arguments {
+        [] => Some(b"Hello, world!\n".as_slice()),
+        [word] => contents_in(word.as_slice()),
+        _ => None,
+    }
+}
+
+/// What stands behind `--contents=` in a word, if it begins so.
+fn contents_in(word: &[u8]) -> Option<&[u8]>
+    ensures { option_map (λ text. text.now) result ≡ behind (codes "--contents=") word.now }
+{
+    word.strip_prefix(b"--contents=".as_slice())
+}
+
+impl Single for Greeting {
+    ghost kind = { HelloKind };
+
+    ghost text = { λ s. s.text };
+
+    ghost no_dir = { λ _. refl };
+
+    ghost no_tree = { refl };
+
+    fn root(&self) -> Root {
+        Root {
+            kind: Kind::File,
+            crossing: Crossing::Plain,
+        }
+    }
+
+    fn size(&self) -> u64 {
+        self.text.len() as u64
+    }
+
+    fn read(&self, alloc: Global, at: u64, amount: u64) -> Result<Bytes, Errno> {
+        text::read(alloc, self.text.as_slice(), at, amount)
+    }
+
+    fn takes(&self) -> Result<(), Errno> {
+        Err(Errno::EOPNOTSUPP)
+    }
+
+    fn readable(&self, at: u64) -> Readable {
+        Readable {
+            count: self.size().saturating_sub(at),
+            is_stream: false,
+        }
+    }
+}

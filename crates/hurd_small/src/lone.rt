@@ -1,0 +1,163 @@
+//! A server of one node.
+ghost use Rattle.hurd_small.specs.Lone.{lone_meaning};
+
+use crate::presence::{LoneNode, Presence};
+use crate::single::Single;
+use hurd_creds::{Attrs, Bytes, Errno, Mode, NodeName, OpenFlags};
+use hurd_trans_iface::{Names, NewNode, Readable, Root, Server};
+use std::alloc::Global;
+
+/// The greatest size that a node may be cut or grown to, in bytes.
+const MOST_BYTES: u64 = 16_777_216;
+
+/// A server of one node, which is no directory, and of which nothing changes but that it gets its name and is forgotten.
+#[derive(Drop)]
+pub struct Lone<S> {
+    pub(crate) single: S,
+    pub(crate) presence: Presence,
+}
+
+impl<S: Single> Server for Lone<S> {
+    ghost meaning = { λ s. lone_meaning S.kind (S.text s.single) s.presence };
+
+    fn begin_root(&mut self, root: NodeName, owner: u32, group: u32, mode: Mode) {
+        self.presence = Presence::There(LoneNode {
+            name: root,
+            owner,
+            group,
+            mode,
+        });
+    }
+
+    fn root(&self) -> Root {
+        self.single.root()
+    }
+
+    fn attrs(&self, node: NodeName) -> Option<Attrs> {
+        let lone = self.presence.find(node)?;
+        Some(Attrs {
+            kind: self.single.root().kind,
+            owner: lone.owner,
+            group: lone.group,
+            mode: lone.mode,
+            links: 1,
+            size: self.single.size(),
+            empty: false,
+            readers: 0,
+            writers: 0,
+            passive: false,
+            active: false,
+            parent: None,
+        })
+    }
+
+    fn step(&self, _dir: NodeName, _name: &[u8]) -> Option<NodeName> {
+        None
+    }
+
+    fn names(&self, _alloc: Global, dir: NodeName) -> Result<Names, Errno> {
+        Err(self.presence.bars(dir))
+    }
+
+    fn read(
+        &mut self,
+        alloc: Global,
+        node: NodeName,
+        at: u64,
+        amount: u64,
+    ) -> Result<Bytes, Errno> {
+        match self.presence.find(node) {
+            Some(_) => self.single.read(alloc, at, amount),
+            None => Err(Errno::EDIED),
+        }
+    }
+
+    fn write(&mut self, node: NodeName, _at: u64, bytes: &[u8]) -> Result<u64, Errno> {
+        if self.presence.find(node).is_none() {
+            return Err(Errno::EDIED);
+        }
+        self.single.takes()?;
+        Ok(bytes.len() as u64)
+    }
+
+    fn set_size(&mut self, node: NodeName, size: u64) -> Result<(), Errno> {
+        if self.presence.find(node).is_none() {
+            return Err(Errno::EDIED);
+        }
+        if size > MOST_BYTES {
+            return Err(Errno::EFBIG);
+        }
+        self.single.takes()
+    }
+
+    fn readable(&self, node: NodeName, at: u64) -> Option<Readable> {
+        match self.presence.find(node) {
+            Some(_) => Some(self.single.readable(at)),
+            None => None,
+        }
+    }
+
+    fn make(
+        &mut self,
+        _alloc: Global,
+        dir: NodeName,
+        _name: &[u8],
+        _new: NewNode,
+    ) -> Result<(), Errno> {
+        Err(self.presence.bars(dir))
+    }
+
+    fn make_nameless(&mut self, _new: NewNode) -> Result<(), Errno> {
+        Err(Errno::EROFS)
+    }
+
+    fn link(
+        &mut self,
+        _alloc: Global,
+        dir: NodeName,
+        _name: &[u8],
+        _node: NodeName,
+    ) -> Result<(), Errno> {
+        Err(self.presence.bars(dir))
+    }
+
+    fn unlink(&mut self, dir: NodeName, _name: &[u8]) -> Result<(), Errno> {
+        Err(self.presence.bars(dir))
+    }
+
+    fn rename(
+        &mut self,
+        _alloc: Global,
+        dir: NodeName,
+        _name: &[u8],
+        _to: NodeName,
+        _new: &[u8],
+    ) -> Result<(), Errno> {
+        Err(self.presence.bars(dir))
+    }
+
+    fn set_attrs(
+        &mut self,
+        node: NodeName,
+        _owner: u32,
+        _group: u32,
+        _mode: Mode,
+    ) -> Result<(), Errno> {
+        match self.presence.find(node) {
+            Some(_) => Err(Errno::EOPNOTSUPP),
+            None => Err(Errno::EDIED),
+        }
+    }
+
+    fn forget(&mut self, node: NodeName) {
+        if self.presence.find(node).is_some() {
+            self.presence = Presence::Forgotten(node);
+        }
+    }
+
+    fn opened(&mut self, _node: NodeName, _modes: OpenFlags) {}
+
+    fn closed(&mut self, _node: NodeName, _modes: OpenFlags) {}
+
+    fn goaway(&mut self) {}
+}

@@ -1,0 +1,73 @@
+//! A stream without bytes.
+ghost use Rattle.std.specs.Prelude.{◌≡◌, [], Some, None, IfOk, IfErr, refl};
+ghost use Rattle.hurd_trans_iface.specs.Meaning.{begin, begin_as, Null as NullKind};
+ghost use Rattle.hurd_small.specs.Null.{null_meaning};
+
+use crate::lone::Lone;
+use crate::presence::Presence;
+use crate::single::Single;
+use hurd_creds::{Bytes, Errno, Kind};
+use hurd_trans_iface::{Crossing, Readable, Root, Words};
+use std::alloc::Global;
+
+/// A stream without bytes, which drops what it takes (the Hurd's `/hurd/null`).
+pub type Null = Lone<Nothing>;
+
+/// No bytes.
+#[derive(Clone, Copy, Debug)]
+pub struct Nothing;
+
+impl Lone<Nothing> {
+    /// The server that these words make: `/hurd/null` alone. It has no root until one is named.
+    ///
+    /// Errors: `EINVAL` other words.
+    pub fn new(_alloc: Global, words: &Words) -> Result<Null, Errno>
+        ensures ok { IfOk result (λ s. begin_as NullKind words.now ≡ Some (null_meaning s)) }
+        ensures begins { IfOk result (λ s. begin words.now ≡ Some (null_meaning s)) }
+        ensures err { IfErr result (λ e. (begin_as NullKind words.now ≡ None) × (e ≡ Errno.EINVAL)) }
+    {
+        match words.as_slice() {
+            [program] if program.is(b"/hurd/null") => Ok(Lone {
+                single: Nothing,
+                presence: Presence::Nameless,
+            }),
+            _ => Err(Errno::EINVAL),
+        }
+    }
+}
+
+impl Single for Nothing {
+    ghost kind = { NullKind };
+
+    ghost text = { λ _. [] };
+
+    ghost no_dir = { λ _. refl };
+
+    ghost no_tree = { refl };
+
+    fn root(&self) -> Root {
+        Root {
+            kind: Kind::Char,
+            crossing: Crossing::Plain,
+        }
+    }
+
+    fn size(&self) -> u64 {
+        0
+    }
+
+    fn read(&self, alloc: Global, _at: u64, _amount: u64) -> Result<Bytes, Errno> {
+        Ok(Bytes::new(Vec::new(alloc)))
+    }
+
+    fn takes(&self) -> Result<(), Errno> {
+        Ok(())
+    }
+
+    fn readable(&self, _at: u64) -> Readable {
+        Readable {
+            count: 0,
+            is_stream: true,
+        }
+    }
+}

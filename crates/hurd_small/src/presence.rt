@@ -1,0 +1,48 @@
+//! The one node of a server, and whether it is there.
+ghost use Rattle.std.specs.Prelude.{◌≡◌, ℕ, List};
+ghost use Rattle.std.specs.Option.{option_map};
+ghost use Rattle.std.specs.FinMap as fin;
+ghost use Rattle.hurd_trans_iface.specs.Meaning.{ServerKind};
+ghost use Rattle.hurd_small.specs.Lone.{barred_by, node_of, nodes_of};
+
+use hurd_creds::{Errno, Mode, NodeName};
+
+/// A node with its name, owner, group and mode.
+#[derive(Clone, Copy, Debug)]
+pub(crate) struct LoneNode {
+    pub(crate) name: NodeName,
+    pub(crate) owner: u32,
+    pub(crate) group: u32,
+    pub(crate) mode: Mode,
+}
+
+/// The one node of a server, from before it has a name till after it is forgotten.
+#[derive(Clone, Copy, Debug)]
+pub(crate) enum Presence {
+    Nameless,
+    There(LoneNode),
+    Forgotten(NodeName),
+}
+
+impl Presence {
+    /// The node of a name, if it is there.
+    pub(crate) fn find(&self, node: NodeName) -> Option<LoneNode>
+        ensures { (kind : ServerKind) (text : List ℕ) → option_map (node_of kind text) result ≡ fin.get (nodes_of kind text self.now) node }
+    {
+        match self {
+            Presence::Nameless => None,
+            Presence::There(lone) => { if lone.name == node { Some(*lone) } else { None } }
+            Presence::Forgotten(_) => None,
+        }
+    }
+
+    /// Why there is no directory of a name: `EDIED` no such node, `ENOTDIR`.
+    pub(crate) fn bars(&self, dir: NodeName) -> Errno
+        ensures { (kind : ServerKind) (text : List ℕ) → result ≡ barred_by (fin.get (nodes_of kind text self.now) dir) }
+    {
+        match self.find(dir) {
+            Some(_) => Errno::ENOTDIR,
+            None => Errno::EDIED,
+        }
+    }
+}

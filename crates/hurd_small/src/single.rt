@@ -1,0 +1,46 @@
+//! What a server of one node says itself.
+ghost use Rattle.std.specs.Prelude.{◌≡◌, ℕ, false, List, []};
+ghost use Rattle.hurd_trans_iface.specs.Nodes.{Content, Node, is_dir};
+ghost use Rattle.hurd_trans_iface.specs.Meaning.{ServerKind, behaviour_of, keeps_tree, root_of};
+ghost use Rattle.hurd_small.specs.Lone.{IsGiven, IsPut, IsCut};
+
+use hurd_creds::{Bytes, Errno};
+use hurd_trans_iface::{Readable, Root};
+use std::alloc::Global;
+
+/// What a server of one node says of it: no call changes that, nor asks it of a node that isn't there.
+pub trait Single: Drop {
+    ghost kind: { ServerKind };
+
+    ghost text: { Self → List ℕ };
+
+    /// What the node is, which is no directory.
+    fn root(&self) -> Root
+        ensures { result ≡ root_of kind (text self.now) };
+
+    /// The node's size, in bytes.
+    fn size(&self) -> u64
+        ensures { result ≡ (behaviour_of kind).size (text self.now) (Content []) };
+
+    /// At most `amount` bytes from `at` on.
+    ///
+    /// Errors: `ENOMEM`.
+    fn read(&self, alloc: Global, at: u64, amount: u64) -> Result<Bytes, Errno>
+        ensures { (x : Node) → IsGiven ((behaviour_of kind).read (text self.now) x at amount) result };
+
+    /// Whether bytes that are written are taken, and dropped; so are sizes up to 16,777,216.
+    ///
+    /// Errors: `EOPNOTSUPP`.
+    fn takes(&self) -> Result<(), Errno>
+        ensures bytes { (x : Node) (at : ℕ) (bs : List ℕ) → IsPut ((behaviour_of kind).write (text self.now) x at bs) bs result }
+        ensures sizes { (x : Node) (size : ℕ) → IsCut ((behaviour_of kind).set_size (text self.now) x size) size result };
+
+    /// How many bytes there are to read at a place, and whether the node is a stream.
+    fn readable(&self, at: u64) -> Readable
+        ensures count { (x : Node) → result.count ≡ (behaviour_of kind).readable (text self.now) x at }
+        ensures stream { result.is_stream ≡ (behaviour_of kind).stream };
+
+    ghost no_dir: { (text : List ℕ) → is_dir (root_of kind text).kind ≡ false };
+
+    ghost no_tree: { keeps_tree kind ≡ false };
+}

@@ -1,0 +1,76 @@
+//! A stream of zero bytes.
+ghost use Rattle.std.specs.Prelude.{◌≡◌, [], Some, None, IfOk, IfErr, refl};
+ghost use Rattle.hurd_trans_iface.specs.Meaning.{begin, begin_as, Zero as ZeroKind};
+ghost use Rattle.hurd_small.specs.Zero.{zero_meaning};
+
+use crate::lone::Lone;
+use crate::presence::Presence;
+use crate::single::Single;
+use hurd_creds::{Bytes, Errno, Kind};
+use hurd_trans_iface::{Crossing, Readable, Root, Words};
+use std::alloc::Global;
+
+/// How many zero bytes there always are: as many as one read gives at most.
+const MOST_ZEROS: u64 = 65_536;
+
+/// A stream of zero bytes without end, which drops what it takes (the Hurd's `/hurd/zero`).
+pub type Zero = Lone<Zeros>;
+
+/// Zero bytes without end.
+#[derive(Clone, Copy, Debug)]
+pub struct Zeros;
+
+impl Lone<Zeros> {
+    /// The server that these words make: `/hurd/zero` alone. It has no root until one is named.
+    ///
+    /// Errors: `EINVAL` other words.
+    pub fn new(_alloc: Global, words: &Words) -> Result<Zero, Errno>
+        ensures ok { IfOk result (λ s. begin_as ZeroKind words.now ≡ Some (zero_meaning s)) }
+        ensures begins { IfOk result (λ s. begin words.now ≡ Some (zero_meaning s)) }
+        ensures err { IfErr result (λ e. (begin_as ZeroKind words.now ≡ None) × (e ≡ Errno.EINVAL)) }
+    {
+        match words.as_slice() {
+            [program] if program.is(b"/hurd/zero") => Ok(Lone {
+                single: Zeros,
+                presence: Presence::Nameless,
+            }),
+            _ => Err(Errno::EINVAL),
+        }
+    }
+}
+
+impl Single for Zeros {
+    ghost kind = { ZeroKind };
+
+    ghost text = { λ _. [] };
+
+    ghost no_dir = { λ _. refl };
+
+    ghost no_tree = { refl };
+
+    fn root(&self) -> Root {
+        Root {
+            kind: Kind::Char,
+            crossing: Crossing::Plain,
+        }
+    }
+
+    fn size(&self) -> u64 {
+        0
+    }
+
+    fn read(&self, alloc: Global, _at: u64, amount: u64) -> Result<Bytes, Errno> {
+        Ok(Bytes::new(vec![in alloc; 0; amount as usize]?))
+    }
+
+    fn takes(&self) -> Result<(), Errno> {
+        Ok(())
+    }
+
+    fn readable(&self, _at: u64) -> Readable {
+        Readable {
+            count: MOST_ZEROS,
+            is_stream: true,
+        }
+    }
+}
