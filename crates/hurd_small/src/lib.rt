@@ -9,8 +9,6 @@ mod null;
 mod presence;
 mod single;
 mod symlink;
-#[cfg(test)]
-mod tests;
 mod text;
 mod zero;
 

@@ -11,3 +11,5 @@ mod lists;
 mod ports;
 #[cfg(test)]
 mod script;
+#[cfg(test)]
+mod small;

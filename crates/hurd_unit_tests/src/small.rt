@@ -1,7 +1,7 @@
 ghost use Rattle.std.specs.Prelude.{◌≡◌, None};
 
-use crate::{Hello, Null, Symlink, Zero};
 use hurd_creds::{Attrs, Bytes, Errno, Kind, Mode, Name, NodeName, TaskId};
+use hurd_small::{Hello, Null, Symlink, Zero};
 use hurd_trans_iface::{Crossing, NewNode, Readable, Root, Server, Words};
 use std::alloc::Global;
 
