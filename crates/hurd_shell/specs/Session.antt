@@ -45,14 +45,14 @@ Tells first old (Ok (Output bytes)) new =
 Tells first old (Ok Done) new = (old.failed ≡ false) × (old.given ≡ length (parts_of old.commands first)) × (new ≡ old)
 Tells first old (Err e) new = (e ≡ Memory) × (new.given ≡ old.given) × (new.failed ≡ true)
 
--- why no session was begun over these users: their world is refused, or it isn't and memory was refused
-abbrev pub BeginFault : List IdSets → SessionFault → Type 0
-BeginFault users (BadScript line) = ⊥
-BeginFault users (Boot e) = boot_of users ≡ Err e
-BeginFault users Memory = IsOk (boot_of users)
+-- why no session was begun over a root server and these users: their world is refused, or it isn't and memory was refused
+abbrev pub BeginFault : Meaning → List IdSets → SessionFault → Type 0
+BeginFault m users (BadScript line) = ⊥
+BeginFault m users (Boot e) = boot_of m users ≡ Err e
+BeginFault m users Memory = IsOk (boot_of m users)
 
 -- why no session was begun: the script is bad at the line that is told, or it is good and its world is refused, or memory was refused
-abbrev pub NewFault : List ℕ → SessionFault → Type 0
-NewFault script (BadScript line) = bad script ≡ Some line
-NewFault script (Boot e) = (bad script ≡ None) × (boot_of (users_of script) ≡ Err e)
-NewFault script Memory = Unit {0}
+abbrev pub NewFault : Meaning → List ℕ → SessionFault → Type 0
+NewFault m script (BadScript line) = bad script ≡ Some line
+NewFault m script (Boot e) = (bad script ≡ None) × (boot_of m (users_of script) ≡ Err e)
+NewFault m script Memory = Unit {0}

@@ -53,10 +53,10 @@ impl<S: Server> Session<S> {
     /// any point.
     pub fn new(alloc: Global, script: &[u8], root: S) -> Result<Session<S>, SessionFault>
         requires { Begins (S.meaning root) }
-        ensures ok { IfOk result (λ s. (bad script.now ≡ None) × (boot_of (users_of script.now) ≡ Ok tt)
+        ensures ok { IfOk result (λ s. (bad script.now ≡ None) × (boot_of (S.meaning root) (users_of script.now) ≡ Ok tt)
             × Follows S.meaning (first_world (S.meaning root) (users_of script.now)) s
             × (s.commands ≡ commands_of script.now) × (s.given ≡ 0) × (s.failed ≡ false)) }
-        ensures err { IfErr result (λ e. NewFault script.now e) }
+        ensures err { IfErr result (λ e. NewFault (S.meaning root) script.now e) }
     {
         match parse_script(alloc, script) {
             Ok(script) => Session::begin(alloc, script, root),
@@ -70,10 +70,10 @@ impl<S: Server> Session<S> {
     /// Errors, in order: `Boot` with the world's refusal, `Memory`.
     fn begin(alloc: Global, script: Script, root: S) -> Result<Session<S>, SessionFault>
         requires { Begins (S.meaning root) }
-        ensures ok { IfOk result (λ s. (boot_of script.users.items ≡ Ok tt)
+        ensures ok { IfOk result (λ s. (boot_of (S.meaning root) script.users.items ≡ Ok tt)
             × Follows S.meaning (first_world (S.meaning root) script.users.items) s
             × (s.commands ≡ script.commands.items) × (s.given ≡ 0) × (s.failed ≡ false)) }
-        ensures err { IfErr result (λ e. BeginFault script.users.items e) }
+        ensures err { IfErr result (λ e. BeginFault (S.meaning root) script.users.items e) }
     {
         let Script { users, commands } = script;
         match World::boot(alloc, root, users) {

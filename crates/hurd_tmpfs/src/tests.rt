@@ -2,7 +2,7 @@ ghost use Rattle.std.specs.Prelude.{◌≡◌};
 
 use crate::Tmpfs;
 use hurd_creds::{Bytes, Errno, Kind, Mode, Name, NodeName, TaskId};
-use hurd_trans_iface::{NewNode, Server, Words};
+use hurd_trans_iface::{NewNode, Readable, Server, Words};
 use std::alloc::Global;
 
 /// The name of what task 0 made after so many other things.
@@ -37,8 +37,9 @@ fn small_tree(alloc: Global) -> Result<Tmpfs, Errno> {
 #[test]
 fn words_that_make_a_tree(rt: HostRuntime) -> Result<(), Errno> {
     let alloc = rt.alloc();
-    let table: [(&[&[u8]], Option<Errno>); 4] = [
+    let table: [(&[&[u8]], Option<Errno>); 5] = [
         (&[b"/hurd/tmpfs".as_slice()], None),
+        (&[b"/hurd/hello".as_slice()], Some(Errno::EINVAL)),
         (&[], Some(Errno::EINVAL)),
         (&[b"/hurd/tmpf".as_slice()], Some(Errno::EINVAL)),
         (
@@ -164,6 +165,31 @@ fn files_are_written_cut_and_grown(rt: HostRuntime) -> Result<(), Errno> {
     assert_eq!(rt; tree.read(alloc, name(1), 4, 2)?.as_slice(), b"".as_slice());
     assert_eq!(rt; tree.read(alloc, name(2), 0, 2).err(), Some(Errno::EISDIR));
     assert_eq!(rt; tree.attrs(name(1)).map(|attrs| attrs.size), Some(4));
+    Ok(())
+}
+
+#[test]
+fn what_there_is_to_read(rt: HostRuntime) -> Result<(), Errno> {
+    let mut tree = small_tree(rt.alloc())?;
+    tree.write(name(1), 0, b"hello")?;
+    let table = [
+        (1, 0, Some(5)),
+        (1, 2, Some(3)),
+        (1, 5, Some(0)),
+        (1, 7, Some(0)),
+        (2, 0, Some(0)),
+        (9, 0, None),
+    ];
+    for (i, (node, at, count)) in table.iter().enumerate() {
+        let want = count.map(|count| Readable {
+            count,
+            is_stream: false,
+        });
+        assert_eq!(rt; tree.readable(name(*node), *at), want, "row {i}");
+    }
+    let before = tree.attrs(name(1));
+    tree.goaway();
+    assert_eq!(rt; tree.attrs(name(1)), before);
     Ok(())
 }
 
