@@ -1,13 +1,22 @@
 //! A list of calls from its reading to the last reply.
-ghost use Rattle.std.specs.Prelude.{◌≡◌, IfOk};
+ghost use Rattle.std.specs.Prelude.{◌≡◌, ◌≢◌, true, Ok, Err, IfOk, IfErr, OnOk};
+ghost use Rattle.std.specs.Io.KnownBytes.{Appends};
+ghost use Rattle.std.specs.List.{concat};
 ghost use Rattle.hurd_trans_iface.specs.Meaning.{Begins};
-ghost use Rattle.hurd_tmpfs.specs.Tree.{tree};
+ghost use Rattle.hurd_tmpfs.specs.Tree.{new_tmpfs};
+ghost use Rattle.hurd_world.specs.Boot.{first_world};
+ghost use Rattle.hurd_world.specs.Held.{world_of};
+ghost use Rattle.hurd_lists.specs.Lists.{reading_of, said_by};
+ghost use Rattle.hurd_terminal.specs.Faults.{AppendsFront, IsPrintFault};
+ghost use Rattle.hurd_terminal.specs.Runs.{Adds, Blames, Exits, Ran};
+ghost use Rattle.hurd_calls.specs.Faults.{NotBegun, NotRead};
+ghost use Rattle.hurd_calls.specs.Lists.{after_call, lists, part_of, parts_of};
 
 use hurd_creds::{Bytes, Errno, Ids};
 use hurd_lists::{CallList, ListFault, ListedCall, parse_calls, told};
 use hurd_terminal::{Fault, Input, Output, finish, read_text};
 use hurd_tmpfs::Tmpfs;
-use hurd_trans_iface::{Server, Words};
+use hurd_trans_iface::Server;
 use hurd_world::{Reply, World};
 use std::alloc::Global;
 use std::io::{Read, Write};
@@ -15,12 +24,12 @@ use std::io::{Read, Write};
 /// What stands behind the number of a bad line.
 const COMPLAINT: &str = ": bad calls\n";
 
-/// Makes a call, and gives what is printed of it.
-fn made<S: Server>(
-    world: &mut World<S>,
-    alloc: Global,
-    listed: ListedCall,
-) -> Result<Bytes, Fault> {
+/// Makes a call, and gives its part of the output. `Memory`.
+fn made<S: Server>(world: &mut World<S>, alloc: Global, listed: ListedCall) -> Result<Bytes, Fault>
+    ensures part { IfOk result (λ part. part ≡ part_of listed (world_of S.meaning world.old)) }
+    ensures world { OnOk result (world_of S.meaning world.new ≡ after_call listed (world_of S.meaning world.old)) }
+    ensures err { IfErr result (λ fault. fault ≡ Fault.Memory) }
+{
     let ListedCall { task, call, line } = listed;
     match world.call(alloc, task, call) {
         Reply::Refused(Errno::ENOMEM) => Err(Fault::Memory),
@@ -34,7 +43,13 @@ fn make_all<S: Server, W: Write>(
     world: &mut World<S>,
     calls: Vec<ListedCall>,
     output: &mut Output<W>,
-) -> Result<(), Fault> {
+) -> Result<(), Fault>
+    ensures ok { OnOk result (Appends (W.contents output.old.writer) (W.contents output.new.writer)
+        (concat (parts_of calls.items (world_of S.meaning world.old)))) }
+    ensures err { IfErr result (λ fault. IsPrintFault output.new fault
+        × AppendsFront (W.contents output.old.writer) (W.contents output.new.writer)
+        (concat (parts_of calls.items (world_of S.meaning world.old)))) }
+{
     for listed in calls {
         let part = made(world, alloc, listed)?;
         output.print(part.as_slice())?;
@@ -43,8 +58,12 @@ fn make_all<S: Server, W: Write>(
 }
 
 /// A world of tasks over a root server.
+///
+/// Errors, in order: `Boot` with the world's refusal, `Memory`.
 fn begun<S: Server>(alloc: Global, root: S, tasks: Vec<Ids>) -> Result<World<S>, Fault>
     requires { Begins (S.meaning root) }
+    ensures ok { IfOk result (λ world. world_of S.meaning world ≡ first_world (S.meaning root) tasks.items) }
+    ensures err { IfErr result (λ fault. NotBegun tasks.items fault) }
 {
     match World::boot(alloc, root, tasks) {
         Ok(world) => Ok(world),
@@ -54,7 +73,12 @@ fn begun<S: Server>(alloc: Global, root: S, tasks: Vec<Ids>) -> Result<World<S>,
 }
 
 /// Reads a list's text.
-fn parsed(alloc: Global, text: &[u8]) -> Result<CallList, Fault> {
+///
+/// Errors: `Bad` with its first bad line, `Memory`.
+fn parsed(alloc: Global, text: &[u8]) -> Result<CallList, Fault>
+    ensures ok { IfOk result (λ list. reading_of text.now ≡ Ok (said_by list)) }
+    ensures err { IfErr result (λ fault. NotRead (reading_of text.now) fault) }
+{
     match parse_calls(alloc, text) {
         Ok(list) => Ok(list),
         Err(ListFault::Bad { line }) => Err(Fault::Bad { line }),
@@ -69,34 +93,33 @@ fn answer<S: Server, W: Write>(
     root: S,
     output: &mut Output<W>,
 ) -> Result<(), Fault>
-    requires { Begins (S.meaning root) }
+    requires { S.meaning root ≡ new_tmpfs }
+    ensures adds { Adds lists text.now (W.contents output.old.writer) (W.contents output.new.writer) result }
+    ensures read { result ≢ Err Fault.Read }
+    ensures write { result ≡ Err Fault.Write → output.new.failed ≡ true }
 {
     let CallList { tasks, calls } = parsed(alloc, text)?;
     let mut world = begun(alloc, root, tasks)?;
     make_all(alloc, &mut world, calls, output)
 }
 
-/// An empty tree.
-fn new_tree(alloc: Global) -> Result<Tmpfs, Fault>
-    ensures { IfOk result (λ t. Begins (tree t)) }
-{
-    let Ok(words) = Words::new(alloc, &[b"/hurd/tmpfs".as_slice()]) else {
-        return Err(Fault::Memory);
-    };
-    match Tmpfs::new(alloc, &words) {
-        Ok(tree) => Ok(tree),
-        Err(_) => Err(Fault::Memory),
-    }
-}
-
 /// Reads a list of calls, makes them over an empty tree in memory, and prints each with its reply.
-fn run<R: Read, W: Write>(
+///
+/// Where all goes well, what is printed is the written output of what was read; after a fault some front of it, and nothing
+/// for a bad list or where no world was begun.
+///
+/// `Read` where the list can't be read, `Bad` with its first bad line, `Boot` with the world's refusal, `Write` where a part
+/// can't be written; `Memory` at any point.
+pub fn run<R: Read, W: Write>(
     alloc: Global,
     input: &mut Input<R>,
     output: &mut Output<W>,
-) -> Result<(), Fault> {
+) -> Result<(), Fault>
+    ensures ran { Ran lists (R.remaining input.old.reader) (W.contents output.old.writer) (W.contents output.new.writer) result }
+    ensures blames { Blames input.new output.new result }
+{
     let text = read_text(alloc, input)?;
-    let tree = new_tree(alloc)?;
+    let tree = Tmpfs::empty(alloc)?;
     let Ok(root) = Box::new(alloc, tree) else {
         return Err(Fault::Memory);
     };
@@ -105,11 +128,9 @@ fn run<R: Read, W: Write>(
 }
 
 /// The whole program: runs a list, and after a fault prints the fault's line; answers the exit status.
-pub fn program<R: Read, W: Write>(
-    alloc: Global,
-    input: &mut Input<R>,
-    output: &mut Output<W>,
-) -> u8 {
+pub fn program<R: Read, W: Write>(alloc: Global, input: &mut Input<R>, output: &mut Output<W>) -> u8
+    ensures { Exits lists R.remaining W.contents input.old input.new output.old output.new result }
+{
     let ended = run(alloc, input, output);
     finish(ended, COMPLAINT, output)
 }

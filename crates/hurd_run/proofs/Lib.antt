@@ -1,4 +1,1 @@
-pub mod InputLaws
-pub mod OutputLaws
-pub mod ScriptLaws
 pub mod SessionLaws

@@ -5,16 +5,11 @@
 //! `hurd: out of memory` or `hurd: cannot boot: NAME` as the last line, as far as that can be written.
 #![tactic(auto)]
 
-mod ending;
-mod fault;
-mod print;
-mod read;
 mod run;
 #[cfg(test)]
 mod tests;
 
-use print::Output;
-use read::Input;
+use hurd_terminal::{Input, Output};
 use run::program;
 use std::io;
 use std::process::ExitCode;

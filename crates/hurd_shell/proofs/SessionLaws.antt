@@ -1,9 +1,10 @@
 -- What a session gives next.
 use Rattle.std.proofs.Common.{◌≡◌, ℕ, zero, suc, ◌+◌, ◌<◌, List, [], ◌∷◌, length, take, drop, ◌++◌, get_or, slice_get, Some, refl, sym, ◌∙◌, ap, subst, arith}
+use Rattle.std.specs.List.{concat}
 use Rattle.hurd_machine.specs.World.{World}
 use Rattle.hurd_machine.specs.Sound.{Sound}
 use Rattle.hurd_script.specs.Commands.{CommandLine}
-use Rattle.hurd_shell.specs.Transcript.{joined, end_of, part_of, parts_of, world_after}
+use Rattle.hurd_shell.specs.Transcript.{end_of, part_of, parts_of, world_after}
 use Rattle.hurd_script.specs.Actions.{action_of}
 use Rattle.hurd_shell.specs.Commands.{program_of}
 use Rattle.hurd_shell.specs.Progress.{Told}
@@ -46,11 +47,11 @@ pub after_none : (w : World) → world_after [] w ≡ w
 unfolding world_after
 after_none w = refl
 
-from_next : (ps : List (List ℕ)) (k : ℕ) (p : List ℕ) → slice_get ps k ≡ Some p → joined (drop k ps) ≡ p ++ joined (drop (suc k) ps)
+from_next : (ps : List (List ℕ)) (k : ℕ) (p : List ℕ) → slice_get ps k ≡ Some p → concat (drop k ps) ≡ p ++ concat (drop (suc k) ps)
 from_next [] k p here = absurd (cc)
-from_next (q ∷ ps) zero p here = let same : q ≡ p = cc in ap (λ (x : List ℕ). x ++ joined ps) same
+from_next (q ∷ ps) zero p here = let same : q ≡ p = cc in ap (λ (x : List ℕ). x ++ concat ps) same
 from_next (q ∷ ps) (suc k) p here = from_next ps k p here
 
 -- the transcript from a part on begins with that part
-pub next_joined : (ps : List (List ℕ)) (k : ℕ) (p : List ℕ) → slice_get ps k ≡ Some p → joined (drop k ps) ≡ p ++ joined (drop (k + 1) ps)
-next_joined ps k p here = from_next ps k p here ∙ ap (λ (n : ℕ). p ++ joined (drop n ps)) (sym (one_more k))
+pub next_joined : (ps : List (List ℕ)) (k : ℕ) (p : List ℕ) → slice_get ps k ≡ Some p → concat (drop k ps) ≡ p ++ concat (drop (k + 1) ps)
+next_joined ps k p here = from_next ps k p here ∙ ap (λ (n : ℕ). p ++ concat (drop n ps)) (sym (one_more k))

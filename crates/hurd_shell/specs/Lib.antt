@@ -4,4 +4,5 @@ pub mod Commands
 pub mod Transcript
 pub mod Progress
 pub mod Session
+pub mod Faults
 pub mod Outputs

@@ -1,5 +1,6 @@
 -- What a transcript says.
 use Rattle.std.specs.Prelude.{ℕ, ◌==◌, if◌then◌else◌, List, [], ◌∷◌, ◌++◌, Option, Some, None, Result, Ok, Err}
+use Rattle.std.specs.List.{concat}
 use Rattle.hurd_creds.specs.Errors.{name_of}
 use Rattle.hurd_creds.specs.declared.errno.Errno.{Errno}
 use Rattle.hurd_trans_iface.specs.Meaning.{Meaning}
@@ -45,14 +46,10 @@ unfoldable pub world_after : List CommandLine → World → World
 world_after [] w = w
 world_after (c ∷ cs) w = world_after cs (end_of c w).world
 
-abbrev pub joined : List (List ℕ) → List ℕ
-joined [] = []
-joined (p ∷ ps) = p ++ joined ps
-
 -- the parts of a script's transcript, begun over a boot server of this meaning
 abbrev pub out_parts : List ℕ → Meaning → List (List ℕ)
 out_parts script m = parts_of (commands_of script) (first_world m (users_of script))
 
--- the transcript
+-- the transcript: the parts, joined
 abbrev pub out : List ℕ → Meaning → List ℕ
-out script m = joined (out_parts script m)
+out script m = concat (out_parts script m)

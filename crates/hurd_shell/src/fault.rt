@@ -1,5 +1,6 @@
 //! Why a command or a session stops.
 use hurd_creds::Errno;
+use hurd_terminal::Fault;
 use std::alloc::AllocError;
 use thiserror::Error;
 
@@ -54,4 +55,19 @@ pub enum SessionFault {
     Boot(Errno),
     #[error("hurd: out of memory")]
     Memory,
+}
+
+impl From<SessionFault> for Fault {
+    ghost use Rattle.std.specs.Prelude.{◌≡◌};
+    ghost use Rattle.hurd_shell.specs.Faults.{fault_of};
+
+    ghost from_gives = { λ session fault. fault ≡ fault_of session };
+
+    fn from(session: SessionFault) -> Fault {
+        match session {
+            SessionFault::BadScript { line } => Fault::Bad { line },
+            SessionFault::Boot(errno) => Fault::Boot(errno),
+            SessionFault::Memory => Fault::Memory,
+        }
+    }
 }

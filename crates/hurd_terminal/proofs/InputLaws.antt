@@ -22,6 +22,6 @@ all_bytes (Some ys) (Some zs) xs n consumed end few =
     let all : ys ≡ xs = consumed ∙ (ap (λ (bs : List ℕ). xs ++ bs) end ∙ append-nil xs) in
     rw all (sym (take_all n xs few))
 
--- what a read adds to a script was consumed with the script
+-- what a read adds to a text was consumed with the text
 pub read_on : (a b c : Option (List ℕ)) (xs ys zs : List ℕ) → Consumes a b xs → Consumes b c ys → zs ≡ xs ++ ys → Consumes a c zs
 read_on a b c xs ys zs before here all = subst (λ (bs : List ℕ). Consumes a c bs) (sym all) (Consumes-trans a b c xs ys before here)

@@ -1,5 +1,6 @@
--- A text that was cut off is bad, as the whole one is.
+-- What a whole run has printed. A text that was cut off is bad, as the whole one is.
 use Rattle.std.proofs.Common.{◌≡◌, ◌⊎◌, inl, inr, ℕ, ◌<◌, Bool, true, false, List, [], length, take, Option, Some, None, Result, Ok, Err, IfSome, refl, sym, ◌∙◌, ap, subst, arith, nat_lt}
+use Rattle.std.specs.Prelude.{OnOk, IfErr}
 use Rattle.std.proofs.lemmas.List.{length-take, take_all}
 use Rattle.std.proofs.lemmas.Bool.{ltb-false, ltb-true}
 use Rattle.std.proofs.KnownBytes.{Appends-nil}
@@ -8,8 +9,8 @@ use Rattle.hurd_terminal.specs.declared.fault.Fault.{Fault}
 use Rattle.hurd_terminal.specs.declared.fault.Fault.TheVariants.{Read, Write, Bad, Boot, Memory}
 use Rattle.hurd_terminal.specs.declared.print.Output.{Output}
 use Rattle.hurd_terminal.specs.declared.read.Input.{Input}
-use Rattle.hurd_terminal.specs.Faults.{IsFront, IsPrintFault, IsReadFault}
-use Rattle.hurd_terminal.specs.Runs.{Prints, Program, Ran}
+use Rattle.hurd_terminal.specs.Faults.{AppendsFront, IsFront, IsPrintFault, IsReadFault, Says, line_of, status_of}
+use Rattle.hurd_terminal.specs.Runs.{Adds, Blames, Exits, Prints, Program, Ran}
 
 -- a text of more than 1,048,576 bytes is bad at line 0
 abbrev pub HasLimit : Program → Type 0
@@ -44,10 +45,10 @@ whole_prints p xs ys ended printed cut prints (inl same) = subst (λ (zs : List 
 whole_prints p xs ys ended printed cut prints (inr long) = long_prints p xs ys ended printed (ap (λ (zs : List ℕ). p.bad zs) cut ∙ long.0) long.1 prints
 
 -- what is printed for the first bytes of a text is printed for the text
-pub ran_whole : (p : Program) → HasLimit p → (held before after : Option (List ℕ)) (ended : Result (Unit {0}) Fault) (ys printed : List ℕ) → IfSome held (λ xs. ys ≡ take 1048577 xs)
-    → Appends before after printed → Prints p ys ended printed → Ran p held before after ended
-ran_whole p limit None before after ended ys printed cut appends prints = record { text = ys; printed = printed; read = tt; prints = prints; appends = appends }
-ran_whole p limit (Some xs) before after ended ys printed cut appends prints =
+pub ran_whole : (p : Program) → HasLimit p → (held before after : Option (List ℕ)) (ended : Result (Unit {0}) Fault) (ys : List ℕ) → IfSome held (λ xs. ys ≡ take 1048577 xs)
+    → Adds p ys before after ended → Ran p held before after ended
+ran_whole p limit None before after ended ys cut (printed, appends, prints) = record { text = ys; printed = printed; read = tt; prints = prints; appends = appends }
+ran_whole p limit (Some xs) before after ended ys cut (printed, appends, prints) =
     record { text = xs; printed = printed; read = refl; prints = whole_prints p xs ys ended printed cut prints (cut_off p limit xs); appends = appends }
 
 known : Option (List ℕ) → List ℕ
@@ -69,7 +70,39 @@ unread p input held before fault (inl failed) = rw failed.0 (record { text = kno
 unread p input held before fault (inr memory) = rw memory (ran_out p held before)
 
 -- a front of the output is printed where a run that was begun can't go on
-pub not_finished : (p : Program) {W : Type 0} (output : Output W) (text printed : List ℕ) (fault : Fault) → IsPrintFault output fault → p.bad text ≡ None
+not_finished : (p : Program) {W : Type 0} (output : Output W) (text printed : List ℕ) (fault : Fault) → IsPrintFault output fault → p.bad text ≡ None
     → IsFront printed (p.out text) → Prints p text (Err fault) printed
 not_finished p output text printed fault (inl failed) good front = rw failed.0 (good, front)
 not_finished p output text printed fault (inr memory) good front = rw memory (inr (good, front))
+
+-- a run that was begun printed the whole output, or a front of it
+pub adds_output : (p : Program) {W : Type 0} (output : Output W) (before after : Option (List ℕ)) (text : List ℕ) (ended : Result (Unit {0}) Fault) → p.bad text ≡ None
+    → OnOk ended (Appends before after (p.out text)) → IfErr ended (λ fault. IsPrintFault output fault × AppendsFront before after (p.out text)) → Adds p text before after ended
+adds_output p output before after text (Ok u) good ok err = (p.out text, ok, (good, refl))
+adds_output p output before after text (Err fault) good ok err = (err.1.0, err.1.2, not_finished p output text err.1.0 fault err.0 good err.1.1)
+
+-- a run that was not begun printed nothing
+pub adds_nothing : (p : Program) (before : Option (List ℕ)) (text : List ℕ) (ended : Result (Unit {0}) Fault) → Prints p text ended [] → Adds p text before before ended
+adds_nothing p before text ended prints = ([], Appends-nil before, prints)
+
+last_line : {W : Type 0} (contents : W → Option (List ℕ)) (output written : Output W) (line : List ℕ) → Says contents output written line
+    → Appends (contents output.writer) (contents written.writer) line ⊎ ((written.failed ≡ true) × AppendsFront (contents output.writer) (contents written.writer) line)
+last_line contents output written line (inl said) = inl said.0
+last_line contents output written line (inr cut) = inr cut
+
+still_failed : {W : Type 0} (contents : W → Option (List ℕ)) (output written : Output W) (line : List ℕ) → Says contents output written line → output.failed ≡ true → written.failed ≡ true
+still_failed contents output written line (inl said) failed = said.1 ∙ failed
+still_failed contents output written line (inr cut) failed = cut.0
+
+-- a run, and then its last line and status, are a whole program
+pub exits : (p : Program) {R W : Type 0} (remaining : R → Option (List ℕ)) (contents : W → Option (List ℕ)) (input read : Input R) (output between written : Output W) (ended : Result (Unit {0}) Fault) (status : ℕ)
+    → Ran p (remaining input.reader) (contents output.writer) (contents between.writer) ended → Blames read between ended → Says contents between written (line_of p.complaint ended) → status ≡ status_of ended
+    → Exits p remaining contents input read output written status
+exits p remaining contents input read output between written ended status ran blames said same = record {
+  ended = ended;
+  between = contents between.writer;
+  ran = ran;
+  line = last_line contents between written (line_of p.complaint ended) said;
+  blames = record { read = blames.read; write = λ is. still_failed contents between written (line_of p.complaint ended) said (blames.write is) };
+  says = same;
+}

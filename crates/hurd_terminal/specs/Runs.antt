@@ -25,6 +25,10 @@ Prints p text (Err (Bad line)) printed = (p.bad text ≡ Some line) × (printed 
 Prints p text (Err (Boot e)) printed = (p.bad text ≡ None) × (p.boot text ≡ Err e) × (printed ≡ [])
 Prints p text (Err Memory) printed = (printed ≡ []) ⊎ ((p.bad text ≡ None) × IsFront printed (p.out text))
 
+-- to the output was added what is printed of that of a text
+abbrev pub Adds : Program → List ℕ → Option (List ℕ) → Option (List ℕ) → Result (Unit {0}) Fault → Type 0
+Adds p text before after ended = (printed : List ℕ) × Appends before after printed × Prints p text ended printed
+
 -- a text, which is what the reader held where that is known, was run: so much of its output was appended
 pub record Ran (p : Program) (held before after : Option (List ℕ)) (ended : Result (Unit {0}) Fault) : Type 0 where
   pub text : List ℕ

@@ -12,6 +12,8 @@ mod ending;
 mod fault;
 mod print;
 mod read;
+#[cfg(test)]
+mod tests;
 
 pub use ending::finish;
 pub use fault::Fault;

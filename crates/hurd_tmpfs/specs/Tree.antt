@@ -5,7 +5,7 @@ use Rattle.hurd_creds.specs.declared.name.Name.{Name}
 use Rattle.hurd_creds.specs.declared.attrs.Kind.{Kind}
 use Rattle.hurd_creds.specs.declared.attrs.Kind.TheVariants as kinds
 use Rattle.hurd_trans_iface.specs.Nodes.{Entry, Body, Content, Listing, Header, Node, NodeMap}
-use Rattle.hurd_trans_iface.specs.Meaning.{Meaning, Tmpfs as TmpfsKind}
+use Rattle.hurd_trans_iface.specs.Meaning.{Meaning, Tmpfs as TmpfsKind, new_server}
 use Rattle.hurd_tmpfs.specs.declared.inode.Inode.{Inode}
 use Rattle.hurd_tmpfs.specs.declared.inode.DirEntry.{DirEntry}
 use Rattle.hurd_tmpfs.specs.declared.inode.Contents.{Contents}
@@ -55,6 +55,10 @@ key_of i = i.name
 -- the nodes of a list, by their names
 abbrev pub nodes_of : List Inode → NodeMap
 nodes_of is = keyed key_of node_of is
+
+-- the meaning of a tree in memory that has no root yet
+abbrev pub new_tmpfs : Meaning
+new_tmpfs = new_server TmpfsKind []
 
 -- what a tree in memory means
 abbrev pub tree : Tmpfs → Meaning

@@ -4,7 +4,7 @@ ghost use Rattle.std.specs.FinMap as fin;
 ghost use Rattle.hurd_trans_iface.specs.Answers.{link_of, make_of};
 ghost use Rattle.hurd_trans_iface.specs.Meaning.{Tmpfs as TmpfsKind, begin, begin_as};
 ghost use Rattle.hurd_tmpfs.specs.Changes.{both_in, named_in};
-ghost use Rattle.hurd_tmpfs.specs.Tree.{tree, nodes_of};
+ghost use Rattle.hurd_tmpfs.specs.Tree.{new_tmpfs, nodes_of, tree};
 
 use crate::changes::{Renaming, add, add_nameless, link, put, remove, rename, unlink};
 use crate::inode::{Contents, DirEntry, Inode};
@@ -12,7 +12,7 @@ use crate::search::{entry_named, find, names_in, place};
 use crate::tmpfs::Tmpfs;
 use hurd_creds::{Attrs, Bytes, Errno, Kind, Mode, NodeName, OpenFlags};
 use hurd_trans_iface::{Crossing, Names, NewNode, Readable, Root, Server, Words};
-use std::alloc::Global;
+use std::alloc::{AllocError, Global};
 
 impl Tmpfs {
     /// The tree that these words make: `/hurd/tmpfs` alone. It is empty, and has no root until one is named.
@@ -26,6 +26,13 @@ impl Tmpfs {
         if !is_tmpfs(words) {
             return Err(Errno::EINVAL);
         }
+        Ok(Tmpfs::empty(alloc)?)
+    }
+
+    /// The tree that the words `/hurd/tmpfs` make.
+    pub fn empty(alloc: Global) -> Result<Tmpfs, AllocError>
+        ensures { IfOk result (λ t. tree t ≡ new_tmpfs) }
+    {
         Ok(Tmpfs {
             alloc,
             root: None,

@@ -2,9 +2,9 @@ use Rattle.std.proofs.Common.{◌≡◌, ◌<◌, inl, [], ◌∷◌, ◌++◌, 
 use Rattle.std.proofs.KnownBytes.{Appends-trans}
 use Rattle.std.proofs.lemmas.Result.{err_from_is_err_and}
 use Rattle.hurd_script.specs.Commands.{CommandLine}
-use Rattle.hurd_shell.specs.Transcript.{joined}
-use Rattle.hurd_run.proofs.OutputLaws.{front_follows, joined-push}
-use Rattle.hurd_run.proofs.SessionLaws.{gave_more, one_left}
+use Rattle.std.specs.List.{concat}
+use Rattle.hurd_terminal.proofs.OutputLaws.{front_follows}
+use Rattle.hurd_run.proofs.SessionLaws.{concat-push, gave_more, one_left}
 use Rattle.hurd_run.proofs.run.print_all.Goals as goal
 
 pub loop-part-smaller : goal.loop-part-smaller
@@ -26,7 +26,7 @@ loop-part-preserved g c = record {
         (
           gave.0 ++ c.in-Output.part ∷ [],
           gave_more first c.args.session.now c.loop-part.session c.next.new.self gave.0 c.in-Output.part gave.1 told.0 c.in_ok-part.ensures.same,
-          rw joined-push (Appends-trans _ _ _ (joined gave.0) c.in-Output.part gave.2 printed),
+          rw concat-push (Appends-trans _ _ _ (concat gave.0) c.in-Output.part gave.2 printed),
         ),
       );
 }
@@ -42,5 +42,5 @@ returns-in_err-print-clause-err g c =
           let told = rw c.in-Output.is at (c.in_ok-part.ensures.tells first followed) in
           let more = gave_more first c.args.session.now c.loop-part.session c.next.new.self gave.0 c.in-Output.part gave.1 told.0 c.in_ok-part.ensures.same in
           let rest = c.outputs_are_the_transcript.ensures.prefix first c.args.session.now c.next.new.self (gave.0 ++ c.in-Output.part ∷ []) c.requires.2 more in
-          front_follows _ _ _ _ (joined gave.0) c.in-Output.part (rest.0, rw joined-push at rest.1) gave.2 (rw c.as_slice.ensures at failed.2),
+          front_follows _ _ _ _ (concat gave.0) c.in-Output.part (rest.0, rw concat-push at rest.1) gave.2 (rw c.as_slice.ensures at failed.2),
     )

@@ -1,0 +1,19 @@
+-- Why no call of a list was made.
+use Rattle.std.specs.Prelude.{◌≡◌, ℕ, List, Result, Err}
+use Rattle.hurd_creds.specs.Access.{IdSets}
+use Rattle.hurd_lists.specs.Lists.{Standing}
+use Rattle.hurd_terminal.specs.declared.fault.Fault.{Fault}
+use Rattle.hurd_terminal.specs.declared.fault.Fault.TheVariants.{Bad, Boot, Memory}
+use Rattle.hurd_world.specs.Boot.{boot_of}
+
+-- why a list was not read: it is bad at the line that is told, or memory was refused
+abbrev pub NotRead : Result Standing ℕ → Fault → Type 0
+NotRead reading (Bad line) = reading ≡ Err line
+NotRead reading Memory = Unit {0}
+NotRead reading _ = ⊥
+
+-- why no world was begun for tasks of these ids: it is refused, or memory was
+abbrev pub NotBegun : List IdSets → Fault → Type 0
+NotBegun tasks (Boot e) = boot_of tasks ≡ Err e
+NotBegun tasks Memory = Unit {0}
+NotBegun tasks _ = ⊥
