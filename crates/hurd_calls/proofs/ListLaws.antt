@@ -10,6 +10,7 @@ use Rattle.hurd_terminal.specs.declared.fault.Fault.{Fault}
 use Rattle.hurd_terminal.specs.declared.fault.Fault.TheVariants.{Read, Write, Bad, Boot, Memory}
 use Rattle.hurd_terminal.specs.declared.print.Output.{Output}
 use Rattle.hurd_terminal.proofs.RunLaws.{HasLimit, adds_output}
+use Rattle.hurd_tmpfs.specs.Tree.{new_tmpfs}
 use Rattle.hurd_world.specs.Boot.{boot_of}
 use Rattle.hurd_calls.specs.Faults.{NotBegun, NotRead}
 use Rattle.hurd_calls.specs.Lists.{bad_line, lists, output_of, said_in}
@@ -27,11 +28,11 @@ not_read list (Boot e) is = absurd is
 not_read list Memory is = inl refl
 
 -- nothing is printed where no world is begun
-pub not_begun : (list : List ℕ) (said : Standing) (fault : Fault) → reading_of list ≡ Ok said → NotBegun said.tasks fault → Prints lists list (Err fault) []
+pub not_begun : (list : List ℕ) (said : Standing) (fault : Fault) → reading_of list ≡ Ok said → NotBegun new_tmpfs said.tasks fault → Prints lists list (Err fault) []
 not_begun list said Read read is = absurd is
 not_begun list said Write read is = absurd is
 not_begun list said (Bad line) read is = absurd is
-not_begun list said (Boot e) read is = (ap bad_line read, ap (λ (r : Result Standing ℕ). boot_of (said_in r).tasks) read ∙ is, refl)
+not_begun list said (Boot e) read is = (ap bad_line read, ap (λ (r : Result Standing ℕ). boot_of new_tmpfs (said_in r).tasks) read ∙ is, refl)
 not_begun list said Memory read is = inl refl
 
 -- the calls of a list that was read print its output, or a front of it

@@ -1,6 +1,7 @@
 -- Why no call of a list was made.
 use Rattle.std.specs.Prelude.{◌≡◌, ℕ, List, Result, Err}
 use Rattle.hurd_creds.specs.Access.{IdSets}
+use Rattle.hurd_trans_iface.specs.Meaning.{Meaning}
 use Rattle.hurd_lists.specs.Lists.{Standing}
 use Rattle.hurd_terminal.specs.declared.fault.Fault.{Fault}
 use Rattle.hurd_terminal.specs.declared.fault.Fault.TheVariants.{Bad, Boot, Memory}
@@ -12,8 +13,8 @@ NotRead reading (Bad line) = reading ≡ Err line
 NotRead reading Memory = Unit {0}
 NotRead reading _ = ⊥
 
--- why no world was begun for tasks of these ids: it is refused, or memory was
-abbrev pub NotBegun : List IdSets → Fault → Type 0
-NotBegun tasks (Boot e) = boot_of tasks ≡ Err e
-NotBegun tasks Memory = Unit {0}
-NotBegun tasks _ = ⊥
+-- why no world was begun over a server of this meaning for tasks of these ids: it is refused, or memory was
+abbrev pub NotBegun : Meaning → List IdSets → Fault → Type 0
+NotBegun m tasks (Boot e) = boot_of m tasks ≡ Err e
+NotBegun m tasks Memory = Unit {0}
+NotBegun m tasks _ = ⊥

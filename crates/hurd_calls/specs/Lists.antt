@@ -42,6 +42,6 @@ abbrev pub lists : Program
 lists = record {
   complaint = codes ": bad calls\n";
   bad = λ list. bad_line (reading_of list);
-  boot = λ list. boot_of (said_in (reading_of list)).tasks;
+  boot = λ list. boot_of new_tmpfs (said_in (reading_of list)).tasks;
   out = λ list. output_of (said_in (reading_of list));
 }

@@ -63,7 +63,7 @@ fn make_all<S: Server, W: Write>(
 fn begun<S: Server>(alloc: Global, root: S, tasks: Vec<Ids>) -> Result<World<S>, Fault>
     requires { Begins (S.meaning root) }
     ensures ok { IfOk result (λ world. world_of S.meaning world ≡ first_world (S.meaning root) tasks.items) }
-    ensures err { IfErr result (λ fault. NotBegun tasks.items fault) }
+    ensures err { IfErr result (λ fault. NotBegun (S.meaning root) tasks.items fault) }
 {
     match World::boot(alloc, root, tasks) {
         Ok(world) => Ok(world),

@@ -41,7 +41,7 @@ gave_more first s x y [] bytes gave told same = (y, rw gave at told, rw gave at 
 gave_more first s x y (b ∷ more) bytes (z, tells, kept, gave) told same = (z, tells, kept, gave_more first z x y more bytes gave told same)
 
 -- nothing is printed where no session is begun
-pub not_begun : (script : List ℕ) (e : SessionFault) → NewFault script e → Prints scripts script (Err (fault_of e)) []
+pub not_begun : (script : List ℕ) (e : SessionFault) → NewFault new_tmpfs script e → Prints scripts script (Err (fault_of e)) []
 not_begun script (BadScript line) fault = (fault, refl)
 not_begun script (Boot e) fault = (fault.0, fault.1, refl)
 not_begun script Memory fault = inl refl

@@ -11,6 +11,6 @@ abbrev pub scripts : Program
 scripts = record {
   complaint = codes ": bad script\n";
   bad = bad;
-  boot = λ script. boot_of (users_of script);
+  boot = λ script. boot_of new_tmpfs (users_of script);
   out = λ script. out script new_tmpfs;
 }
