@@ -14,7 +14,7 @@ use std::process::Abort;
 const TASKS: &str = "task 0 0\ntask 1000 1000\ntask 1001 1001\ntask - 0\n";
 
 /// How often a call is made.
-#[derive(Clone, Copy, Debug, PartialEq, Eq)]
+#[derive(Clone, Copy)]
 pub enum Tries {
     /// Once: it must be answered whatever memory is refused.
     Once,
@@ -106,6 +106,11 @@ fn made_once(
     Ok(world.call(alloc, listed.task, listed.call))
 }
 
+/// Whether memory was refused to a call.
+pub fn wants_memory(reply: &Reply) -> bool {
+    matches!(reply, Reply::Refused(Errno::ENOMEM))
+}
+
 /// Makes a line's call, so often as it may be.
 fn made(
     alloc: Global,
@@ -114,11 +119,12 @@ fn made(
     tries: Tries,
     memory: &mut Memory,
 ) -> Result<Reply, Errno> {
-    match (made_once(alloc, world, line, memory)?, tries) {
-        (Reply::Refused(Errno::ENOMEM), Tries::Twice) if memory.may_refuse() => {
+    let reply = made_once(alloc, world, line, memory)?;
+    match tries {
+        Tries::Twice if wants_memory(&reply) && memory.may_refuse() => {
             made_once(alloc, world, line, memory)
         }
-        (reply, _) => Ok(reply),
+        _ => Ok(reply),
     }
 }
 
