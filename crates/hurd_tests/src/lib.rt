@@ -1,14 +1,16 @@
-//! Tests that cross crates: rows of calls on a world of boxed servers, and scripts with their transcripts.
+//! Tests that cross crates: transcripts of calls on a world of boxed servers, and scripts with theirs.
 //!
-//! Each table is gone through twice: with ample memory, where no call may answer `ENOMEM`, and by a test whose name begins
+//! Each is gone through twice: with ample memory, where no call may answer `ENOMEM`, and by a test whose name begins
 //! with `refused_`, which `tests/refuse-each` runs with each request for memory refused in turn: there one call may answer
-//! `ENOMEM`, is made again, and must then answer as its row says.
+//! `ENOMEM`, is made again, and must then answer as its transcript says. Lookups that are refused and calls that take no
+//! memory must do so at the first try.
+//!
+//! Each of the calls is there at least once. What each is to answer, and when it refuses, stands in the lists of
+//! `tests/calls`, which `tests/built-program` runs.
 #![tactic(auto)]
 
 #[cfg(test)]
 mod calls;
-#[cfg(test)]
-mod directories;
 #[cfg(test)]
 mod fixture;
 #[cfg(test)]
@@ -17,5 +19,3 @@ mod isolation;
 mod nodes;
 #[cfg(test)]
 mod scripts;
-#[cfg(test)]
-mod sharing;

@@ -81,37 +81,91 @@ fn small_tree(alloc: Global, memory: &mut Memory) -> Result<Nodes, Errno> {
     Ok(nodes)
 }
 
-/// Nodes are named from outside so often and let go so often; each that has an entry or is the root is there afterwards,
-/// with its home, and each that was never there isn't.
+/// What is done to a node from outside, and whether it is there then.
+#[derive(Drop)]
+struct Row {
+    node: NodeName,
+    /// How often it is named.
+    holds: u32,
+    /// How often it is let go.
+    releases: u32,
+    stays: bool,
+}
+
+impl Row {
+    fn new(node: NodeName, holds: u32, releases: u32, stays: bool) -> Row {
+        Row {
+            node,
+            holds,
+            releases,
+            stays,
+        }
+    }
+}
+
+/// Names a node so often.
+fn hold_often(
+    nodes: &mut Nodes,
+    node: NodeName,
+    often: u32,
+    memory: &mut Memory,
+) -> Result<(), AllocError> {
+    for _ in 0..often {
+        hold(nodes, node, memory)?;
+    }
+    Ok(())
+}
+
+/// Lets a node go so often.
+fn release_often(nodes: &mut Nodes, node: NodeName, often: u32) {
+    for _ in 0..often {
+        nodes.release(node);
+    }
+}
+
+/// Does to the nodes what the rows say: each that has an entry or is the root is there afterwards, with its home, and each
+/// that was never there isn't.
+fn check_rows(
+    rt: &impl Abort,
+    nodes: &mut Nodes,
+    rows: &[Row],
+    memory: &mut Memory,
+) -> Result<(), AllocError> {
+    for (index, row) in rows.iter().enumerate() {
+        hold_often(nodes, row.node, row.holds, memory)?;
+        release_often(nodes, row.node, row.releases);
+        assert!(rt; nodes.attrs(row.node).is_some() == row.stays, "row {index}");
+        assert!(rt; nodes.home(row.node).is_some() == row.stays, "row {index}");
+    }
+    Ok(())
+}
+
+/// The small tree is whole.
+fn check_whole(rt: &impl Abort, nodes: &Nodes) {
+    assert!(rt; nodes.step(BOOT_NAME, b"f") == Some(name(1)));
+    assert!(rt; nodes.step(name(2), b"g") == Some(name(3)));
+    assert!(rt; nodes.home(name(3)) == Some(BOOT_NAME));
+    assert!(rt; nodes.is_root(BOOT_NAME));
+    assert!(rt; !nodes.is_root(name(1)));
+    assert!(rt; matches!(nodes.attrs(name(1)), Some(attrs) if attrs.links == 1));
+}
+
+/// What has an entry, or is the root, stays when it is let go.
 fn check_kept(rt: &impl Abort, alloc: Global, memory: &mut Memory) -> Result<(), Errno> {
     let mut nodes = small_tree(alloc, memory)?;
     let rows = [
-        (name(1), 0, 1, true),
-        (name(1), 3, 2, true),
-        (name(1), 0, 2, true),
-        (BOOT_NAME, 2, 3, true),
-        (name(2), 1, 1, true),
-        (name(3), 1, 1, true),
-        (name(9), 1, 1, false),
-        (name(9), 0, 1, false),
+        Row::new(name(1), 0, 1, true),
+        Row::new(name(1), 3, 2, true),
+        Row::new(name(1), 0, 2, true),
+        Row::new(BOOT_NAME, 2, 3, true),
+        Row::new(name(2), 1, 1, true),
+        Row::new(name(3), 1, 1, true),
+        Row::new(name(9), 1, 1, false),
+        Row::new(name(9), 0, 1, false),
     ];
-    for (i, (node, holds, releases, stays)) in rows.iter().enumerate() {
-        for _ in 0..*holds {
-            hold(&mut nodes, *node, memory)?;
-        }
-        for _ in 0..*releases {
-            nodes.release(*node);
-        }
-        assert_eq!(rt; nodes.attrs(*node).is_some(), *stays, "row {i}");
-        assert_eq!(rt; nodes.home(*node).is_some(), *stays, "row {i}");
-    }
+    check_rows(rt, &mut nodes, &rows, memory)?;
     nodes.settle();
-    assert_eq!(rt; nodes.step(BOOT_NAME, b"f"), Some(name(1)));
-    assert_eq!(rt; nodes.step(name(2), b"g"), Some(name(3)));
-    assert_eq!(rt; nodes.home(name(3)), Some(BOOT_NAME));
-    assert_eq!(rt; nodes.is_root(BOOT_NAME), true);
-    assert_eq!(rt; nodes.is_root(name(1)), false);
-    assert_eq!(rt; nodes.attrs(name(1)).map(|attrs| attrs.links), Some(1));
+    check_whole(rt, &nodes);
     Ok(())
 }
 

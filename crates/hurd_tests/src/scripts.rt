@@ -13,7 +13,7 @@ struct Row<'a> {
 }
 
 /// How a session ended.
-#[derive(Drop)]
+#[derive(Clone, Copy)]
 enum End {
     Done,
     Memory,
@@ -26,16 +26,23 @@ fn session(alloc: Global, script: &[u8]) -> Result<Session, SessionFault> {
     }
 }
 
-/// Whether three further calls answer as the last.
-fn stays(alloc: Global, session: &mut Session, end: &End) -> bool {
+/// Whether a session is at this end.
+fn is_at(alloc: Global, session: &mut Session, end: End) -> bool {
+    match session.next(alloc) {
+        Ok(Want::Done) => matches!(end, End::Done),
+        Err(SessionFault::Memory) => matches!(end, End::Memory),
+        _ => false,
+    }
+}
+
+/// This end, where three further calls answer so too.
+fn stays(alloc: Global, session: &mut Session, end: End) -> Option<End> {
     for _ in 0..3 {
-        match (session.next(alloc), end) {
-            (Ok(Want::Done), End::Done) => {}
-            (Err(SessionFault::Memory), End::Memory) => {}
-            _ => return false,
+        if !is_at(alloc, session, end) {
+            return None;
         }
     }
-    true
+    Some(end)
 }
 
 /// Goes through a session: its outputs, joined, are the transcript, or, where memory is refused, a prefix of it.
@@ -49,14 +56,9 @@ fn played(alloc: Global, row: &Row) -> Option<End> {
     for _ in 0..1000 {
         match session.next(alloc) {
             Ok(Want::Output(part)) => left = left.strip_prefix(part.as_slice())?,
-            Ok(Want::Done) => {
-                let is_end = left.is_empty() && stays(alloc, &mut session, &End::Done);
-                return if is_end { Some(End::Done) } else { None };
-            }
-            Err(_) => {
-                let is_end = stays(alloc, &mut session, &End::Memory);
-                return if is_end { Some(End::Memory) } else { None };
-            }
+            Ok(Want::Done) if left.is_empty() => return stays(alloc, &mut session, End::Done),
+            Ok(Want::Done) => return None,
+            Err(_) => return stays(alloc, &mut session, End::Memory),
         }
     }
     None
