@@ -25,7 +25,7 @@ Prints p text (Err (Bad line)) printed = (p.bad text ≡ Some line) × (printed 
 Prints p text (Err (Boot e)) printed = (p.bad text ≡ None) × (p.boot text ≡ Err e) × (printed ≡ [])
 Prints p text (Err Memory) printed = (printed ≡ []) ⊎ ((p.bad text ≡ None) × IsFront printed (p.out text))
 
--- to the output was added what is printed of that of a text
+-- what was printed since is what a program prints of a text that ends so
 abbrev pub Adds : Program → List ℕ → Option (List ℕ) → Option (List ℕ) → Result (Unit {0}) Fault → Type 0
 Adds p text before after ended = (printed : List ℕ) × Appends before after printed × Prints p text ended printed
 
