@@ -12,6 +12,7 @@ mod symlink;
 #[cfg(test)]
 mod tests;
 mod text;
+mod words;
 mod zero;
 
 pub use hello::{Greeting, Hello};
