@@ -1,4 +1,4 @@
-//! Words that are a program's name alone.
+//! What words say.
 ghost use Rattle.std.specs.Prelude.{◌≡◌};
 ghost use Rattle.hurd_small.specs.Lone.{is_alone};
 
