@@ -1,5 +1,5 @@
 -- Servers of one node, which is no directory.
-use Rattle.std.specs.Prelude.{◌≡◌, ℕ, cond, if◌then◌else◌, List, [], ◌∷◌, length, nat_lt, Option, Some, None, Result, Ok, Err}
+use Rattle.std.specs.Prelude.{◌≡◌, ℕ, Bool, false, cond, if◌then◌else◌, List, [], ◌∷◌, length, nat_lt, Option, Some, None, Result, Ok, Err}
 use Rattle.std.specs.FinMap as fin
 use Rattle.std.specs.Str.{bytes_eq}
 use Rattle.hurd_creds.specs.Memory.{Meets}
@@ -38,6 +38,11 @@ lone_meaning kind text p = record { kind = kind; text = text; root = root_name p
 abbrev pub text_as : ServerKind → List (List ℕ) → Option (List ℕ)
 text_as kind [] = None
 text_as kind (w ∷ ws) = cond (bytes_eq w (behaviour_of kind).program) ((behaviour_of kind).begins ws) None
+
+-- whether words are a program's name alone
+abbrev pub is_alone : List ℕ → List (List ℕ) → Bool
+is_alone program (w ∷ []) = bytes_eq w program
+is_alone program _ = false
 
 -- why a node, which may not be there, is no directory
 abbrev pub barred_by : Option Node → Errno

@@ -1,5 +1,5 @@
 //! A file that gives a text.
-ghost use Rattle.std.specs.Prelude.{◌≡◌, codes, Some, IfOk, IfErr, MatchOption, refl};
+ghost use Rattle.std.specs.Prelude.{◌≡◌, codes, Some, None, IfOk, IfErr, MatchOption, refl};
 ghost use Rattle.std.specs.Option.{option_map};
 ghost use Rattle.hurd_trans_iface.specs.Meaning.{begin, begin_as, Hello as HelloKind};
 ghost use Rattle.hurd_trans_iface.specs.HelloKind.{behind, hello_text};
@@ -31,6 +31,7 @@ impl Lone<Greeting> {
     pub fn new(alloc: Global, words: &Words) -> Result<Hello, Errno>
         ensures ok { IfOk result (λ s. begin_as HelloKind words.now ≡ Some (hello_meaning s)) }
         ensures begins { IfOk result (λ s. begin words.now ≡ Some (hello_meaning s)) }
+        ensures rootless { IfOk result (λ s. (hello_meaning s).root ≡ None) }
         ensures err { IfErr result
             (λ e. MatchOption (begin_as HelloKind words.now) (e ≡ Errno.EINVAL) (λ _. e ≡ Errno.ENOMEM)) }
     {

@@ -10,6 +10,7 @@ mod presence;
 mod single;
 mod symlink;
 mod text;
+mod words;
 mod zero;
 
 pub use hello::{Greeting, Hello};

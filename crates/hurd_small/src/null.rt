@@ -6,6 +6,7 @@ ghost use Rattle.hurd_small.specs.Null.{null_meaning};
 use crate::lone::Lone;
 use crate::presence::Presence;
 use crate::single::Single;
+use crate::words::is_alone;
 use hurd_creds::{Bytes, Errno, Kind};
 use hurd_trans_iface::{Crossing, Readable, Root, Words};
 use std::alloc::Global;
@@ -24,15 +25,16 @@ impl Lone<Nothing> {
     pub fn new(_alloc: Global, words: &Words) -> Result<Null, Errno>
         ensures ok { IfOk result (λ s. begin_as NullKind words.now ≡ Some (null_meaning s)) }
         ensures begins { IfOk result (λ s. begin words.now ≡ Some (null_meaning s)) }
+        ensures rootless { IfOk result (λ s. (null_meaning s).root ≡ None) }
         ensures err { IfErr result (λ e. (begin_as NullKind words.now ≡ None) × (e ≡ Errno.EINVAL)) }
     {
-        match words.as_slice() {
-            [program] if program.is(b"/hurd/null") => Ok(Lone {
-                single: Nothing,
-                presence: Presence::Nameless,
-            }),
-            _ => Err(Errno::EINVAL),
+        if !is_alone(words, b"/hurd/null") {
+            return Err(Errno::EINVAL);
         }
+        Ok(Lone {
+            single: Nothing,
+            presence: Presence::Nameless,
+        })
     }
 }
 

@@ -8,10 +8,12 @@ use hurd_creds::{Bytes, Errno};
 use hurd_trans_iface::{Readable, Root};
 use std::alloc::Global;
 
-/// What a server of one node says of it: no call changes that, nor asks it of a node that isn't there.
+/// What a server of one node says of it: no call changes that, and nothing is asked where the node isn't there.
 pub trait Single: Drop {
+    // The kind of its server.
     ghost kind: { ServerKind };
 
+    // The text of its server.
     ghost text: { Self → List ℕ };
 
     /// What the node is, which is no directory.
@@ -40,7 +42,9 @@ pub trait Single: Drop {
         ensures count { (x : Node) → result.count ≡ (behaviour_of kind).readable (text self.now) x at }
         ensures stream { result.is_stream ≡ (behaviour_of kind).stream };
 
+    // The node is no directory.
     ghost no_dir: { (text : List ℕ) → is_dir (root_of kind text).kind ≡ false };
 
+    // Nothing is made in it.
     ghost no_tree: { keeps_tree kind ≡ false };
 }

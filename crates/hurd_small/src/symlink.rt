@@ -1,5 +1,5 @@
 //! A link.
-ghost use Rattle.std.specs.Prelude.{◌≡◌, Some, IfOk, IfErr, MatchOption, refl};
+ghost use Rattle.std.specs.Prelude.{◌≡◌, Some, None, IfOk, IfErr, MatchOption, refl};
 ghost use Rattle.std.specs.Option.{option_map};
 ghost use Rattle.hurd_trans_iface.specs.Meaning.{begin, begin_as, Symlink as SymlinkKind};
 ghost use Rattle.hurd_small.specs.Lone.{text_as};
@@ -33,6 +33,7 @@ impl Lone<Target> {
     pub fn new(alloc: Global, words: &Words) -> Result<Symlink, Errno>
         ensures ok { IfOk result (λ s. begin_as SymlinkKind words.now ≡ Some (symlink_meaning s)) }
         ensures begins { IfOk result (λ s. begin words.now ≡ Some (symlink_meaning s)) }
+        ensures rootless { IfOk result (λ s. (symlink_meaning s).root ≡ None) }
         ensures err { IfErr result
             (λ e. MatchOption (begin_as SymlinkKind words.now) (e ≡ Errno.EINVAL) (λ _. e ≡ Errno.ENOMEM)) }
     {

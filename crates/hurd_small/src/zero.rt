@@ -6,6 +6,7 @@ ghost use Rattle.hurd_small.specs.Zero.{zero_meaning};
 use crate::lone::Lone;
 use crate::presence::Presence;
 use crate::single::Single;
+use crate::words::is_alone;
 use hurd_creds::{Bytes, Errno, Kind};
 use hurd_trans_iface::{Crossing, Readable, Root, Words};
 use std::alloc::Global;
@@ -27,15 +28,16 @@ impl Lone<Zeros> {
     pub fn new(_alloc: Global, words: &Words) -> Result<Zero, Errno>
         ensures ok { IfOk result (λ s. begin_as ZeroKind words.now ≡ Some (zero_meaning s)) }
         ensures begins { IfOk result (λ s. begin words.now ≡ Some (zero_meaning s)) }
+        ensures rootless { IfOk result (λ s. (zero_meaning s).root ≡ None) }
         ensures err { IfErr result (λ e. (begin_as ZeroKind words.now ≡ None) × (e ≡ Errno.EINVAL)) }
     {
-        match words.as_slice() {
-            [program] if program.is(b"/hurd/zero") => Ok(Lone {
-                single: Zeros,
-                presence: Presence::Nameless,
-            }),
-            _ => Err(Errno::EINVAL),
+        if !is_alone(words, b"/hurd/zero") {
+            return Err(Errno::EINVAL);
         }
+        Ok(Lone {
+            single: Zeros,
+            presence: Presence::Nameless,
+        })
     }
 }
 

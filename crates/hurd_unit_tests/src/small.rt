@@ -43,88 +43,66 @@ fn symlink(alloc: Global) -> Result<Symlink, Errno> {
     Ok(named(Symlink::new(alloc, &words)?))
 }
 
+/// What a text, nothing, zeros and a link answer to words that are to make them.
+fn answers(alloc: Global, words: &[&[u8]]) -> Result<[Option<Errno>; 4], Errno> {
+    let words = Words::new(alloc, words)?;
+    Ok([
+        Hello::new(alloc, &words).err(),
+        Null::new(alloc, &words).err(),
+        Zero::new(alloc, &words).err(),
+        Symlink::new(alloc, &words).err(),
+    ])
+}
+
 #[test]
 fn words_that_make_servers(rt: HostRuntime) -> Result<(), Errno> {
     let alloc = rt.alloc();
-    // words, and whether they make a file of a text, nothing, zeros, a link
-    let table: [(&[&[u8]], [bool; 4]); 20] = [
-        (&[], [false, false, false, false]),
-        (&[b"".as_slice()], [false, false, false, false]),
-        (&[b"/hurd/tmpfs".as_slice()], [false, false, false, false]),
-        (&[b"/hurd/hello".as_slice()], [true, false, false, false]),
+    let refused = Some(Errno::EINVAL);
+    let table: [(&[&[u8]], [Option<Errno>; 4]); 8] = [
         (
-            &[b"/hurd/hello".as_slice(), b"--contents=hi".as_slice()],
-            [true, false, false, false],
+            &[b"/hurd/hello".as_slice()],
+            [None, refused, refused, refused],
         ),
         (
-            &[b"/hurd/hello".as_slice(), b"--contents=".as_slice()],
-            [true, false, false, false],
+            &[b"/hurd/hello", b"--contents=hi"],
+            [None, refused, refused, refused],
         ),
         (
-            &[b"/hurd/hello".as_slice(), b"--contents".as_slice()],
-            [false, false, false, false],
+            &[b"/hurd/hello", b"--contents="],
+            [None, refused, refused, refused],
         ),
-        (
-            &[b"/hurd/hello".as_slice(), b"hi".as_slice()],
-            [false, false, false, false],
-        ),
-        (
-            &[b"/hurd/hello".as_slice(), b"".as_slice()],
-            [false, false, false, false],
-        ),
-        (
-            &[
-                b"/hurd/hello".as_slice(),
-                b"--contents=a".as_slice(),
-                b"--contents=b".as_slice(),
-            ],
-            [false, false, false, false],
-        ),
-        (&[b"/hurd/hell".as_slice()], [false, false, false, false]),
-        (&[b"/hurd/null".as_slice()], [false, true, false, false]),
-        (
-            &[b"/hurd/null".as_slice(), b"x".as_slice()],
-            [false, false, false, false],
-        ),
-        (&[b"/hurd/zero".as_slice()], [false, false, true, false]),
-        (
-            &[b"/hurd/zero".as_slice(), b"".as_slice()],
-            [false, false, false, false],
-        ),
-        (&[b"/hurd/symlink".as_slice()], [false, false, false, false]),
-        (
-            &[b"/hurd/symlink".as_slice(), b"".as_slice()],
-            [false, false, false, false],
-        ),
-        (
-            &[b"/hurd/symlink".as_slice(), b"f".as_slice()],
-            [false, false, false, true],
-        ),
-        (
-            &[
-                b"/hurd/symlink".as_slice(),
-                b"f".as_slice(),
-                b"g".as_slice(),
-            ],
-            [false, false, false, false],
-        ),
-        (
-            &[b"f".as_slice(), b"/hurd/symlink".as_slice()],
-            [false, false, false, false],
-        ),
+        (&[b"/hurd/null"], [refused, None, refused, refused]),
+        (&[b"/hurd/zero"], [refused, refused, None, refused]),
+        (&[b"/hurd/symlink", b"f"], [refused, refused, refused, None]),
+        (&[b"/hurd/tmpfs"], [refused; 4]),
+        (&[], [refused; 4]),
     ];
-    for (i, (words, makes)) in table.iter().enumerate() {
-        let words = Words::new(alloc, words)?;
-        let answers = [
-            Hello::new(alloc, &words).err(),
-            Null::new(alloc, &words).err(),
-            Zero::new(alloc, &words).err(),
-            Symlink::new(alloc, &words).err(),
-        ];
-        for (answer, made) in answers.iter().zip(makes) {
-            let want = if *made { None } else { Some(Errno::EINVAL) };
-            assert_eq!(rt; *answer, want, "row {i}");
-        }
+    for (i, (words, want)) in table.iter().enumerate() {
+        assert_eq!(rt; answers(alloc, words)?, *want, "row {i}");
+    }
+    Ok(())
+}
+
+#[test]
+fn words_that_make_no_server(rt: HostRuntime) -> Result<(), Errno> {
+    let alloc = rt.alloc();
+    let table: [&[&[u8]]; 12] = [
+        &[b"".as_slice()],
+        &[b"/hurd/hell"],
+        &[b"/hurd/hello", b""],
+        &[b"/hurd/hello", b"hi"],
+        &[b"/hurd/hello", b"--contents"],
+        &[b"/hurd/hello", b"--contents=a", b"--contents=b"],
+        &[b"/hurd/null", b"x"],
+        &[b"/hurd/zero", b""],
+        &[b"/hurd/symlink"],
+        &[b"/hurd/symlink", b""],
+        &[b"/hurd/symlink", b"f", b"g"],
+        &[b"f", b"/hurd/symlink"],
+    ];
+    for (i, words) in table.iter().enumerate() {
+        let want = [Some(Errno::EINVAL); 4];
+        assert_eq!(rt; answers(alloc, words)?, want, "row {i}");
     }
     Ok(())
 }
