@@ -31,7 +31,7 @@ pub begins_tree : (m : Meaning) → m ≡ new_tmpfs → Begins m
 begins_tree m same = (codes "/hurd/tmpfs" ∷ [], ap (λ (x : Meaning). Some x) (sym same))
 
 -- nothing is printed where no session is begun
-pub not_begun : (script : List ℕ) (e : SessionFault) → NewFault script e → Prints script (Err (Session e)) []
+pub not_begun : (script : List ℕ) (e : SessionFault) → NewFault new_tmpfs script e → Prints script (Err (Session e)) []
 not_begun script (BadScript line) fault = (fault, refl)
 not_begun script (Boot e) fault = (fault.0, fault.1, refl)
 not_begun script Memory fault = inl refl

@@ -53,7 +53,7 @@ Prints script (Ok _) printed = (bad script ≡ None) × (printed ≡ out script 
 Prints script (Err Read) printed = printed ≡ []
 Prints script (Err Write) printed = (bad script ≡ None) × IsFront printed (out script new_tmpfs)
 Prints script (Err (Session (BadScript line))) printed = (bad script ≡ Some line) × (printed ≡ [])
-Prints script (Err (Session (Boot e))) printed = (bad script ≡ None) × (boot_of (users_of script) ≡ Err e) × (printed ≡ [])
+Prints script (Err (Session (Boot e))) printed = (bad script ≡ None) × (boot_of new_tmpfs (users_of script) ≡ Err e) × (printed ≡ [])
 Prints script (Err (Session Memory)) printed = (printed ≡ []) ⊎ ((bad script ≡ None) × IsFront printed (out script new_tmpfs))
 
 -- a script, which is what the reader held where that is known, was run: so much of its transcript was appended
