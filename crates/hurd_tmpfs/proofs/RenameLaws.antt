@@ -140,21 +140,21 @@ module _ (m : NodeMap) (dir : Name) (name : List ℕ) (to : Name) (new : List �
 
 module _ (keeps : Bool) (kept : keeps ≡ true) (name new : List ℕ) where
   abbrev answer_if : Bool → Bool → Bool → Option Name → Result (Unit {0}) Errno
-  answer_if dir tree other p = if not dir then Err ENOTDIR else if not tree then Err EROFS else if not other then Err ENOTDIR else if is_some p then Ok tt else Err ENOENT
+  answer_if dir grows other p = if not dir then Err ENOTDIR else if not grows then Err EROFS else if not other then Err ENOTDIR else if is_some p then Ok tt else Err ENOENT
 
   abbrev named_if : Bool → Bool → Option Name → Option Name → Result (Name × Option Name) Errno
   named_if dir other p q = if not dir then Err ENOTDIR else if not other then Err ENOTDIR else both_or ENOENT p q
 
-  refused_if : (dir tree other : Bool) (p q : Option Name) (e : Errno) → tree ≡ true → named_if dir other p q ≡ Err e → answer_if dir tree other p ≡ Err e
-  refused_if false tree other p q e is h = let same : ENOTDIR ≡ e = cc in ap Err same
-  refused_if true tree false p q e is h = let same : ENOTDIR ≡ e = cc in rw is (ap Err same)
-  refused_if true tree true None q e is h = let same : ENOENT ≡ e = cc in rw is (ap Err same)
-  refused_if true tree true (Some k) q e is h = absurd (cc)
+  refused_if : (dir grows other : Bool) (p q : Option Name) (e : Errno) → grows ≡ true → named_if dir other p q ≡ Err e → answer_if dir grows other p ≡ Err e
+  refused_if false grows other p q e is h = let same : ENOTDIR ≡ e = cc in ap Err same
+  refused_if true grows false p q e is h = let same : ENOTDIR ≡ e = cc in rw is (ap Err same)
+  refused_if true grows true None q e is h = let same : ENOENT ≡ e = cc in rw is (ap Err same)
+  refused_if true grows true (Some k) q e is h = absurd (cc)
 
-  gone_if : (dir tree : Bool) (e : Errno) → tree ≡ true → (let r : Result (Name × Option Name) Errno = if not dir then Err ENOTDIR else Err EDIED in r) ≡ Err e
-      → (let a : Result (Unit {0}) Errno = if not dir then Err ENOTDIR else if not tree then Err EROFS else Err EDIED in a) ≡ Err e
-  gone_if false tree e is h = let same : ENOTDIR ≡ e = cc in ap Err same
-  gone_if true tree e is h = let same : EDIED ≡ e = cc in rw is (ap Err same)
+  gone_if : (dir grows : Bool) (e : Errno) → grows ≡ true → (let r : Result (Name × Option Name) Errno = if not dir then Err ENOTDIR else Err EDIED in r) ≡ Err e
+      → (let a : Result (Unit {0}) Errno = if not dir then Err ENOTDIR else if not grows then Err EROFS else Err EDIED in a) ≡ Err e
+  gone_if false grows e is h = let same : ENOTDIR ≡ e = cc in ap Err same
+  gone_if true grows e is h = let same : EDIED ≡ e = cc in rw is (ap Err same)
 
   pub both-refused : (d t : Option Node) (e : Errno) → both_in name new d t ≡ Err e → rename_of keeps name true d t ≡ Err e
   both-refused None t e h = let same : EDIED ≡ e = cc in ap Err same
