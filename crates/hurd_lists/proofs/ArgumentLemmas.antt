@@ -1,5 +1,5 @@
 -- Text and flags.
-use Rattle.std.proofs.Common.{subst, ◌≡◌, ◌∷◌, [], List, ℕ, Option, Some, None, Bool, true, false, refl, sym, ◌∙◌, ap, option_and_then, option_map, bit_or}
+use Rattle.std.proofs.Common.{subst, ◌≡◌, ◌∷◌, [], List, ℕ, Option, Some, None, true, false, refl, sym, ap, option_and_then, option_map, bit_or}
 use Rattle.std.specs.Str.{IsUtf8, is_utf8}
 use Rattle.std.proofs.lemmas.Str.{IsUtf8-from_is_utf8, is_utf8-from_IsUtf8}
 use Rattle.std.specs.Prelude.{Err}

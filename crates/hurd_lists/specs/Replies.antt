@@ -1,12 +1,15 @@
 -- The text of replies.
-use Rattle.std.specs.Prelude.{ℕ, ◌+◌, ◌-◌, ◌/◌, ◌%◌, ◌==◌, ◌&&◌, ◌++◌, Bool, true, false, not, List, [], ◌∷◌, if◌then◌else◌, nat_le, nat_lt, codes, decimal}
+use Rattle.std.specs.Prelude.{ℕ, ◌+◌, ◌-◌, ◌/◌, ◌%◌, ◌==◌, ◌&&◌, ◌++◌, Bool, true, false, not, List, [], ◌∷◌, Option, Some, None, if◌then◌else◌, nat_le, nat_lt, codes, decimal}
 use Rattle.hurd_creds.specs.Bits as bit
 use Rattle.hurd_creds.specs.Errors.{name_of}
 use Rattle.hurd_creds.specs.declared.attrs.Stat.{Stat}
 use Rattle.hurd_creds.specs.declared.open_flags.OpenFlags.{OpenFlags}
-use Rattle.hurd_machine.specs.declared.call.Lookup.TheVariants as Lookup
+use Rattle.hurd_machine.specs.declared.call.Lookup.{Lookup}
+use Rattle.hurd_machine.specs.declared.call.Lookup.TheVariants as lookup
 use Rattle.hurd_machine.specs.declared.call.Reply.{Reply}
 use Rattle.hurd_machine.specs.declared.call.Reply.TheVariants as reply
+use Rattle.hurd_machine.specs.declared.call.RetryKind.{RetryKind}
+use Rattle.hurd_machine.specs.declared.call.RetryKind.TheVariants.{Normal, Reauth, Magical}
 use Rattle.hurd_creds.specs.declared.attrs.Kind.{Kind}
 use Rattle.hurd_creds.specs.declared.attrs.Kind.TheVariants.{File, Dir, Link, Fifo, Char}
 
@@ -99,10 +102,26 @@ stat_rest s = spaced s.links ++ (spaced s.size ++ (text_if s.passive (codes " pa
 abbrev pub stat_text : Stat → List ℕ
 stat_text s = codes "Stat " ++ (kind_name s.kind ++ (spaced s.owner ++ (spaced s.group ++ (mode_text s.mode.0 ++ stat_rest s))))
 
+-- the name of a kind of retry
+abbrev pub retry_name : RetryKind → List ℕ
+retry_name Normal = codes "NORMAL"
+retry_name Reauth = codes "REAUTH"
+retry_name Magical = codes "MAGICAL"
+
+-- a port behind a space, where there is one
+abbrev pub port_text : Option ℕ → List ℕ
+port_text None = []
+port_text (Some port) = spaced port
+
+-- what a lookup found: its port, or a retry's kind, its name and its port
+abbrev pub lookup_text : Lookup → List ℕ
+lookup_text (lookup.Done port) = codes "Done" ++ spaced port
+lookup_text (lookup.Retry kind name port) = codes "Retry " ++ (retry_name kind ++ (32 ∷ shown name ++ port_text port))
+
 -- a reply
 abbrev pub reply_text : Reply → List ℕ
 reply_text reply.Done = codes "Done"
-reply_text (reply.Found (Lookup.Done port)) = codes "Found Done" ++ spaced port
+reply_text (reply.Found found) = codes "Found " ++ lookup_text found
 reply_text (reply.Port port) = codes "Port" ++ spaced port
 reply_text (reply.Data bytes) = codes "Data " ++ shown bytes
 reply_text (reply.Count count) = codes "Count" ++ spaced count

@@ -1,10 +1,10 @@
 //! The text of replies.
 ghost use Rattle.std.specs.Prelude.{◌≡◌, ◌<◌, ◌++◌, ◌∷◌, [], ◌&&◌, not, if◌then◌else◌, IfOk, OnOk};
-ghost use Rattle.hurd_lists.specs.Replies.{flag_text, flags_text, hex_letter, high_digit, high_digits, kind_name, octal_digit, reply_text, shown, shown_byte, shown_names, six_digits, spaced, mode_text, stat_rest, stat_text, text_if, told};
+ghost use Rattle.hurd_lists.specs.Replies.{flag_text, flags_text, hex_letter, high_digit, high_digits, kind_name, lookup_text, octal_digit, port_text, reply_text, retry_name, shown, shown_byte, shown_names, six_digits, spaced, mode_text, stat_rest, stat_text, text_if, told};
 
 use bitflags::Flags;
 use hurd_creds::{Bytes, Kind, Mode, OpenFlags, Stat};
-use hurd_machine::{Lookup, Reply};
+use hurd_machine::{Lookup, Reply, RetryKind};
 use itoa::Buffer;
 use std::alloc::{AllocError, Global};
 
@@ -208,15 +208,54 @@ fn push_flags(text: &mut Vec<u8>, flags: OpenFlags) -> Result<(), AllocError>
     Ok(())
 }
 
+/// The name of a kind of retry.
+fn retry_name(kind: RetryKind) -> &'static str
+    ensures { result.now ≡ retry_name kind }
+{
+    match kind {
+        RetryKind::Normal => "NORMAL",
+        RetryKind::Reauth => "REAUTH",
+        RetryKind::Magical => "MAGICAL",
+    }
+}
+
+/// Prints a port behind a space, where there is one.
+fn push_port(text: &mut Vec<u8>, port: Option<u64>) -> Result<(), AllocError>
+    ensures { OnOk result (text.new.items ≡ text.old.items ++ port_text port) }
+{
+    match port {
+        Some(port) => push_number(text, port),
+        None => Ok(()),
+    }
+}
+
+/// Prints what a lookup found.
+fn push_lookup(text: &mut Vec<u8>, found: &Lookup) -> Result<(), AllocError>
+    ensures { OnOk result (text.new.items ≡ text.old.items ++ lookup_text found.now) }
+{
+    match found {
+        Lookup::Done(port) => {
+            text.extend_from_slice(b"Done")?;
+            push_number(text, *port)
+        }
+        Lookup::Retry { kind, name, port } => {
+            text.extend_from_slice(b"Retry ")?;
+            text.extend_from_slice(retry_name(*kind).as_bytes())?;
+            push_spaced(text, name.as_slice())?;
+            push_port(text, *port)
+        }
+    }
+}
+
 /// Prints a reply.
 fn push_reply(text: &mut Vec<u8>, reply: &Reply) -> Result<(), AllocError>
     ensures { OnOk result (text.new.items ≡ text.old.items ++ reply_text reply.now) }
 {
     match reply {
         Reply::Done => text.extend_from_slice(b"Done"),
-        Reply::Found(Lookup::Done(port)) => {
-            text.extend_from_slice(b"Found Done")?;
-            push_number(text, *port)
+        Reply::Found(found) => {
+            text.extend_from_slice(b"Found ")?;
+            push_lookup(text, found)
         }
         Reply::Port(port) => {
             text.extend_from_slice(b"Port")?;

@@ -152,11 +152,29 @@ pub enum Call {
     },
 }
 
+/// How a lookup goes on (`retry_type` of `fs.defs`; GNU Hurd Reference Manual). There a lookup that is done is a normal
+/// retry with no name; here it is `Lookup::Done`.
+#[derive(Clone, Copy, Debug, PartialEq, Eq)]
+pub enum RetryKind {
+    /// The name is looked up at the port (`FS_RETRY_NORMAL`).
+    Normal,
+    /// The name is looked up at the port that `io_reauthenticate` makes of this one (`FS_RETRY_REAUTH`).
+    Reauth,
+    /// The name is looked up by the task itself, from its root; there is no port (`FS_RETRY_MAGICAL`).
+    Magical,
+}
+
 /// What a lookup found.
 #[derive(Debug, Drop)]
 pub enum Lookup {
     /// The node, opened: a port.
     Done(u64),
+    /// A name that is still to be looked up, and where. The port is the task's own from now on; a `Magical` retry has none.
+    Retry {
+        kind: RetryKind,
+        name: Bytes,
+        port: Option<u64>,
+    },
 }
 
 /// What a call is told.

@@ -1,4 +1,5 @@
 pub mod ProgramLaws
+pub mod LookLaws
 pub mod CommandLaws
 pub mod SoundLaws
 pub mod TextLaws

@@ -10,8 +10,7 @@ use Rattle.hurd_laws.specs.Step.{reply_of, after}
 use Rattle.hurd_shell.specs.declared.commands.Printed.{Printed}
 use Rattle.hurd_shell.specs.declared.fault.Stop.{Stop}
 use Rattle.hurd_shell.specs.declared.fault.Stop.TheVariants.{Refused, Memory}
-use Rattle.hurd_shell.specs.Programs.{Prog, gives, calls, tried, bind, on_ok, made, go, End, unread}
-use Rattle.hurd_shell.specs.Commands.{closing}
+use Rattle.hurd_shell.specs.Programs.{Prog, gives, calls, tried, bind, on_ok, made, closing, go, End, unread}
 use Rattle.hurd_shell.specs.Progress.{Stepped, Leads, Ends, Does, stopped}
 
 pub leads_refl : {A : Type 0} (t : ℕ) (p : Prog A) (w : World) → Leads t p w p w
@@ -26,7 +25,7 @@ unfolding go
 go-gives t r w = refl
 
 -- what is behind a program goes on where that program ends
-tried_goes : {A B : Type 0} (t : ℕ) (k : Result A Errno → Prog B) (p : Prog A) (w : World) → go t (tried p k) w ≡ go t (k (go t p w).result) (go t p w).world
+pub tried_goes : {A B : Type 0} (t : ℕ) (k : Result A Errno → Prog B) (p : Prog A) (w : World) → go t (tried p k) w ≡ go t (k (go t p w).result) (go t p w).world
 unfolding go tried
 tried_goes t k (gives r) w = refl
 tried_goes t k (calls c j) w = tried_goes t k (j (reply_of w t c)) (after w t c)

@@ -1,40 +1,24 @@
 -- What each command does.
-use Rattle.std.specs.Prelude.{ℕ, zero, suc, ◌==◌, Bool, not, ◌||◌, if◌then◌else◌, List, [], ◌∷◌, ◌++◌, bytes_eq, codes, filter, Some, None, Result, Ok, Err}
+use Rattle.std.specs.Prelude.{ℕ, zero, suc, Bool, not, ◌||◌, List, [], ◌∷◌, ◌++◌, bytes_eq, codes, filter, Some, None, Result, Ok, Err}
 use Rattle.std.specs.Int.RustNames.{bit_or}
 use Rattle.hurd_creds.specs.declared.errno.Errno.{Errno}
 use Rattle.hurd_creds.specs.declared.mode.Mode.{Mode}
 use Rattle.hurd_creds.specs.declared.open_flags.OpenFlags.{OpenFlags}
 use Rattle.hurd_creds.specs.Bits.{READ, WRITE, CREATE, NOTRANS, NOLINK, DIRECTORY}
-use Rattle.hurd_machine.specs.declared.call.Call.TheVariants.{PortDeallocate, DirLookup, IoRead, IoWrite, IoStat, FileSetSize, FileChmod, FileChown, DirReaddir, DirMkdir, DirRmdir, DirUnlink, DirLink, DirRename}
+use Rattle.hurd_machine.specs.declared.call.Call.TheVariants.{IoRead, IoWrite, IoStat, FileSetSize, FileChmod, FileChown, DirReaddir, DirMkdir, DirRmdir, DirUnlink, DirLink, DirRename}
 use Rattle.hurd_script.specs.declared.command.Action.{Action}
 use Rattle.hurd_script.specs.declared.command.Action.TheVariants.{Cat, Ls, Stat, Put, Mkdir, Rm, Rmdir, Ln, Mv, Chmod, Chown, Usage}
 use Rattle.hurd_script.specs.declared.places.Place.{Place}
-use Rattle.hurd_shell.specs.declared.calls.TheConstants.{AT_CURSOR, DIRECTORY_MODE, DIRECTORY_PORT, FILE_MODE, READ_AMOUNT, ROOT_PORT}
+use Rattle.hurd_shell.specs.declared.calls.TheConstants.{AT_CURSOR, DIRECTORY_MODE, READ_AMOUNT}
 use Rattle.hurd_shell.specs.declared.commands.TheConstants.{MOST_READS}
 use Rattle.hurd_shell.specs.declared.commands.Printed.{Printed}
-use Rattle.hurd_shell.specs.Programs.{Prog, gives, tried, bind, made, port_of, data_of, names_of, stat_of, done_of, unread}
+use Rattle.hurd_shell.specs.Looking.{open_node}
+use Rattle.hurd_shell.specs.Programs.{Prog, gives, tried, bind, made, closing, data_of, names_of, stat_of, done_of}
 use Rattle.hurd_shell.specs.Lines.{stat_line}
-
--- a path that begins with a slash starts at the root, any other at the working directory
-abbrev pub start_of : List ℕ → ℕ
-start_of [] = DIRECTORY_PORT
-start_of (b ∷ bs) = if b == 47 then ROOT_PORT else DIRECTORY_PORT
-
--- the mode of files that a command makes
-abbrev pub file_mode : Mode
-file_mode = record { 0 = FILE_MODE }
 
 -- the mode of directories that a command makes
 abbrev pub directory_mode : Mode
 directory_mode = record { 0 = DIRECTORY_MODE }
-
--- opening what a path leads to
-abbrev pub open_node : List ℕ → OpenFlags → Prog ℕ
-open_node path flags = made (DirLookup (start_of path) path flags file_mode) port_of
-
--- a program, and behind its end the port is given up
-abbrev pub closing : ℕ → Prog Printed → Prog Printed
-closing p q = tried q (λ r. bind (made (PortDeallocate p) unread) (λ u. gives r))
 
 -- a node is opened, worked on, and given up
 abbrev pub with_open : List ℕ → OpenFlags → (ℕ → Prog Printed) → Prog Printed

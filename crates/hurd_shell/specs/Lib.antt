@@ -1,5 +1,6 @@
 pub mod Programs
 pub mod Lines
+pub mod Looking
 pub mod Commands
 pub mod Transcript
 pub mod Progress

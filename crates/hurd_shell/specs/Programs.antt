@@ -4,9 +4,9 @@ use Rattle.hurd_creds.specs.declared.errno.Errno.{Errno}
 use Rattle.hurd_creds.specs.declared.errno.Errno.TheVariants.{EIO}
 use Rattle.hurd_creds.specs.declared.attrs.Stat.{Stat}
 use Rattle.hurd_machine.specs.declared.call.Call.{Call}
+use Rattle.hurd_machine.specs.declared.call.Call.TheVariants.{PortDeallocate}
 use Rattle.hurd_machine.specs.declared.call.Reply.{Reply}
 use Rattle.hurd_machine.specs.declared.call.Reply.TheVariants as reply
-use Rattle.hurd_machine.specs.declared.call.Lookup.TheVariants as found
 use Rattle.hurd_machine.specs.World.{World}
 use Rattle.hurd_laws.specs.Step.{reply_of, after}
 
@@ -46,7 +46,7 @@ go t (calls c k) w = go t (k (reply_of w t c)) (after w t c)
 -- what a command reads of a reply; a reply of another sort can't come, and would be EIO
 
 abbrev pub port_of : Reply → Result ℕ Errno
-port_of (reply.Found (found.Done p)) = Ok p
+port_of (reply.Port p) = Ok p
 port_of (reply.Refused e) = Err e
 port_of _ = Err EIO
 
@@ -74,3 +74,7 @@ done_of _ = Err EIO
 -- a reply that nobody reads
 abbrev pub unread : Reply → Result (Unit {0}) Errno
 unread r = Ok tt
+
+-- a program, and behind its end the port is given up
+abbrev pub closing : {A : Type 0} → ℕ → Prog A → Prog A
+closing p q = tried q (λ r. bind (made (PortDeallocate p) unread) (λ u. gives r))

@@ -1,5 +1,5 @@
 -- What the code does of a program.
-use Rattle.std.specs.Prelude.{◌≡◌, ℕ, List, Result, Ok, Err}
+use Rattle.std.specs.Prelude.{◌≡◌, ℕ, List, [], ◌∷◌, Result, Ok, Err}
 use Rattle.hurd_creds.specs.declared.errno.Errno.{Errno}
 use Rattle.hurd_trans_iface.specs.Meaning.{Meaning}
 use Rattle.hurd_machine.specs.declared.call.Call.{Call}
@@ -16,7 +16,11 @@ use Rattle.hurd_shell.specs.declared.entries.EntryWork.{EntryWork}
 use Rattle.hurd_shell.specs.declared.entries.EntryWork.TheVariants as entry
 use Rattle.hurd_shell.specs.declared.fault.Stop.{Stop}
 use Rattle.hurd_shell.specs.declared.fault.Stop.TheVariants.{Refused, Memory}
-use Rattle.hurd_shell.specs.Programs.{Prog, gives, made, done_of, go}
+use Rattle.hurd_shell.specs.declared.looking.Outcome.{Outcome}
+use Rattle.hurd_shell.specs.declared.looking.Outcome.TheVariants.{Opened, Onward}
+use Rattle.hurd_shell.specs.declared.looking.Target.{Target}
+use Rattle.hurd_shell.specs.Programs.{Prog, gives, made, closing, done_of, go}
+use Rattle.hurd_shell.specs.Looking.{Opener}
 use Rattle.hurd_shell.specs.Commands.{directory_mode, silent, cat, ls, stat, put, chmod, chown, ln, mv}
 use Rattle.hurd_shell.specs.Transcript.{end_of, part_of}
 
@@ -46,6 +50,34 @@ pub record Does {A : Type 0} (t : ℕ) (p : Prog A) (w : World) (r : Result A St
 -- the same of the worlds that the code holds
 abbrev pub Ran : {S A : Type 0} → (S → Meaning) → ℕ → Prog A → Whole S → Result A Stop → Whole S → Type 0
 Ran f t p old r new = Does t p (world_of f old) r (world_of f new)
+
+-- a program, and behind its end these ports are given up, the last first
+unfoldable pub releasing : List ℕ → Prog ℕ → Prog ℕ
+releasing [] p = p
+releasing (q ∷ qs) p = closing q (releasing qs p)
+
+-- opening a target
+abbrev pub opening : Opener → Target → Prog ℕ
+opening opener target = opener target.dir target.name
+
+-- what is left of an opening after a turn
+abbrev pub opening_on : Opener → Outcome → Prog ℕ
+opening_on opener (Opened p) = gives (Ok p)
+opening_on opener (Onward target) = opening opener target
+
+-- where a program of task t comes to, with ports to give up: to what is left where the code goes on, or to a refusal
+abbrev pub ComesTo : {B : Type 0} → ℕ → Prog ℕ → World → (B → Prog ℕ) → List ℕ → Result B Stop → World → Type 0
+ComesTo t p w left held (Ok b) x = Leads t p w (releasing held (left b)) x
+ComesTo t p w left held (Err (Refused e)) x = Leads t p w (releasing held (gives (Err e))) x
+ComesTo t p w left held (Err Memory) x = Unit {0}
+
+-- task t went on from the program p in w, and holds ports in x
+pub record Comes {B : Type 0} (t : ℕ) (p : Prog ℕ) (w : World) (left : B → Prog ℕ) (held : List ℕ) (r : Result B Stop) (x : World) : Type 0 where
+  pub comes : ComesTo t p w left held r x
+
+-- the same of the worlds that the code holds, where it held ports before
+abbrev pub Went : {S B : Type 0} → (S → Meaning) → ℕ → List ℕ → Prog ℕ → Whole S → (B → Prog ℕ) → List ℕ → Result B Stop → Whole S → Type 0
+Went f t before p old left held r new = Comes t (releasing before p) (world_of f old) left held r (world_of f new)
 
 -- the program of what the code does with an open node
 abbrev pub work_of : Work → ℕ → Prog Printed

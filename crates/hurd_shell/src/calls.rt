@@ -4,13 +4,15 @@ ghost use Rattle.hurd_creds.specs.declared.open_flags.OpenFlags.{OpenFlags};
 ghost use Rattle.hurd_laws.specs.Called.{Lacks};
 ghost use Rattle.hurd_world.specs.Held.{world_of};
 ghost use Rattle.hurd_shell.specs.Programs.{made, data_of, done_of, names_of, port_of, stat_of, unread};
-ghost use Rattle.hurd_shell.specs.Commands.{directory_mode, file_mode, open_node, start_of};
+ghost use Rattle.hurd_shell.specs.Commands.{directory_mode};
+ghost use Rattle.hurd_shell.specs.Looking.{file_mode, looked_of, looking};
 ghost use Rattle.hurd_shell.specs.Progress.{Ran, Stepped, stopped};
 
 use crate::fault::{NoMemory, Stop};
+use crate::looking::{Looked, Retry};
 use hurd_creds::{Bytes, Errno, Mode, OpenFlags, Stat, TaskId};
 use hurd_trans_iface::{Names, Server};
-use hurd_world::{Call, Lookup, Reply, World};
+use hurd_world::{Call, Lookup, Reply, RetryKind, World};
 use std::alloc::Global;
 
 /// How many bytes a read asks for.
@@ -18,12 +20,6 @@ const READ_AMOUNT: u64 = 65_536;
 
 /// The offset that stands for the cursor.
 const AT_CURSOR: i64 = -1;
-
-/// The port of a task's root.
-const ROOT_PORT: u64 = 1;
-
-/// The port of a task's working directory.
-const DIRECTORY_PORT: u64 = 2;
 
 /// The mode of a file that a command makes.
 const FILE_MODE: u32 = 0o644;
@@ -48,15 +44,48 @@ fn made<S: Server>(
     }
 }
 
-/// The port that a lookup found.
+/// A retry, which has a port unless it is magical.
+fn retry_of(kind: RetryKind, name: Bytes, port: Option<u64>) -> Result<Looked, Stop>
+    ensures { result ≡ stopped (looked_of (Reply.Found (Lookup.Retry kind name port))) }
+{
+    match (kind, port) {
+        (RetryKind::Normal, Some(port)) => Ok(Looked::Retried(Retry::Normal { name, port })),
+        (RetryKind::Reauth, Some(port)) => Ok(Looked::Retried(Retry::Reauth { name, port })),
+        (RetryKind::Magical, None) => Ok(Looked::Retried(Retry::Magical { name })),
+        (RetryKind::Normal, None) | (RetryKind::Reauth, None) | (RetryKind::Magical, Some(_)) => {
+            Err(Stop::Refused(Errno::EIO))
+        }
+    }
+}
+
+/// What a lookup was answered.
+fn looked_of(reply: Reply) -> Result<Looked, Stop>
+    ensures { result ≡ stopped (looked_of reply) }
+{
+    match reply {
+        Reply::Found(Lookup::Done(port)) => Ok(Looked::Opened(port)),
+        Reply::Found(Lookup::Retry { kind, name, port }) => retry_of(kind, name, port),
+        Reply::Refused(errno) => Err(Stop::Refused(errno)),
+        Reply::Done
+        | Reply::Port(_)
+        | Reply::Data(_)
+        | Reply::Count(_)
+        | Reply::Names(_)
+        | Reply::Stat(_)
+        | Reply::Modes(_)
+        | Reply::Same(_) => Err(Stop::Refused(Errno::EIO)),
+    }
+}
+
+/// The port that was made of another.
 fn port_of(reply: Reply) -> Result<u64, Stop>
     ensures { result ≡ stopped (port_of reply) }
 {
     match reply {
-        Reply::Found(Lookup::Done(port)) => Ok(port),
+        Reply::Port(port) => Ok(port),
         Reply::Refused(errno) => Err(Stop::Refused(errno)),
         Reply::Done
-        | Reply::Port(_)
+        | Reply::Found(_)
         | Reply::Data(_)
         | Reply::Count(_)
         | Reply::Names(_)
@@ -137,16 +166,6 @@ fn done_of(reply: Reply) -> Result<(), Stop>
     }
 }
 
-/// The port that a path starts at.
-fn start_of(path: &[u8]) -> u64
-    ensures { result ≡ start_of path.now }
-{
-    match path {
-        [b'/', ..] => ROOT_PORT,
-        _ => DIRECTORY_PORT,
-    }
-}
-
 /// The mode of a file that a command makes.
 fn file_mode() -> Mode
     ensures { result ≡ file_mode }
@@ -174,23 +193,36 @@ pub(crate) fn deallocate<S: Server>(
     Ok(())
 }
 
-/// Opens what a path leads to.
-pub(crate) fn open<S: Server>(
+/// Looks a path up, once.
+pub(crate) fn look_up<S: Server>(
     world: &mut World<S>,
     alloc: Global,
     task: TaskId,
+    dir: u64,
     path: Bytes,
     flags: OpenFlags,
-) -> Result<u64, Stop>
-    ensures { Ran S.meaning task.0 (open_node path flags) world.old result world.new }
+) -> Result<Looked, Stop>
+    ensures { Ran S.meaning task.0 (looking flags dir path) world.old result world.new }
 {
-    let dir = start_of(path.as_slice());
     let call = Call::DirLookup {
         dir,
         path,
         flags,
         mode: file_mode(),
     };
+    looked_of(made(world, alloc, task, call)?)
+}
+
+/// Makes another port like this one, with the task's ids.
+pub(crate) fn reauthenticate<S: Server>(
+    world: &mut World<S>,
+    alloc: Global,
+    task: TaskId,
+    port: u64,
+) -> Result<u64, Stop>
+    ensures { Ran S.meaning task.0 (made (Call.IoReauthenticate port) port_of) world.old result world.new }
+{
+    let call = Call::IoReauthenticate { port };
     port_of(made(world, alloc, task, call)?)
 }
 

@@ -8,6 +8,7 @@ use crate::calls;
 use crate::entries::{EntryWork, in_place, to_enter};
 use crate::fault::Stop;
 use crate::lines::stat_line;
+use crate::looking::open;
 use bitflags::Flags;
 use hurd_creds::{Bytes, Errno, Mode, OpenFlags, TaskId};
 use hurd_script::{Action, Command, Place};
@@ -215,7 +216,7 @@ fn with_open<S: Server>(
 ) -> Result<Printed, Stop>
     ensures { Ran S.meaning task.0 (written.with_open path flags (work_of work)) world.old result world.new }
 {
-    let port = calls::open(world, alloc, task, path, flags)?;
+    let port = open(world, alloc, task, path, flags)?;
     let done = work_on(world, alloc, task, port, work);
     calls::deallocate(world, alloc, task, port)?;
     done

@@ -6,6 +6,7 @@ ghost use Rattle.hurd_shell.specs.Progress.{Ran, change_of, entry_work_of};
 use crate::calls;
 use crate::commands::{Printed, prints};
 use crate::fault::Stop;
+use crate::looking::open;
 use hurd_creds::{Bytes, OpenFlags, TaskId};
 use hurd_script::Place;
 use hurd_trans_iface::Server;
@@ -77,7 +78,7 @@ pub(crate) fn in_place<S: Server>(
     ensures { Ran S.meaning task.0 (written.in_place place (entry_work_of work)) world.old result world.new }
 {
     let Place { directory, name } = place;
-    let dir = calls::open(world, alloc, task, directory, to_enter())?;
+    let dir = open(world, alloc, task, directory, to_enter())?;
     let done = work_at(world, alloc, task, dir, name, work);
     calls::deallocate(world, alloc, task, dir)?;
     done

@@ -11,6 +11,7 @@ mod commands;
 mod entries;
 mod fault;
 mod lines;
+mod looking;
 mod outputs;
 mod session;
 mod transcript;

@@ -1,5 +1,7 @@
-use hurd_lists::{ListFault, parse_calls};
-use std::alloc::Global;
+use hurd_creds::Bytes;
+use hurd_lists::{ListFault, parse_calls, told};
+use hurd_machine::{Lookup, Reply, RetryKind};
+use std::alloc::{AllocError, Global};
 
 /// The line at which a list is bad.
 fn bad_line(alloc: Global, list: &[u8]) -> Result<Option<u64>, ListFault> {
@@ -50,6 +52,55 @@ fn lists_are_bad_at_their_first_bad_line(rt: HostRuntime) -> Result<(), ListFaul
     ];
     for (list, line) in table {
         assert_eq!(rt; bad_line(rt.alloc(), list)?, line, "{list:?}");
+    }
+    Ok(())
+}
+
+/// What is printed of a lookup that a retry answers.
+fn retry_text(
+    alloc: Global,
+    kind: RetryKind,
+    name: &[u8],
+    port: Option<u64>,
+) -> Result<Bytes, AllocError> {
+    let name = Bytes::copied(alloc, name)?;
+    told(
+        alloc,
+        b"0 dir_lookup 1 =a/b - 0",
+        &Reply::Found(Lookup::Retry { kind, name, port }),
+    )
+}
+
+#[test]
+fn retries_are_printed_with_their_kinds_names_and_ports(rt: HostRuntime) -> Result<(), AllocError> {
+    let table: [(RetryKind, &[u8], Option<u64>, &[u8]); 5] = [
+        (RetryKind::Normal, b"b", Some(3), b"Found Retry NORMAL =b 3"),
+        (
+            RetryKind::Normal,
+            b"",
+            Some(18446744073709551615),
+            b"Found Retry NORMAL = 18446744073709551615",
+        ),
+        (RetryKind::Reauth, b"", Some(4), b"Found Retry REAUTH = 4"),
+        (
+            RetryKind::Reauth,
+            b"a b\n\\\xe9",
+            Some(4),
+            b"Found Retry REAUTH =a\\sb\\n\\\\\\xe9 4",
+        ),
+        (
+            RetryKind::Magical,
+            b"/a/b",
+            None,
+            b"Found Retry MAGICAL =/a/b",
+        ),
+    ];
+    for (kind, name, port, reply) in table {
+        let mut want = Vec::from_slice(rt.alloc(), b"0 dir_lookup 1 =a/b - 0\n  ")?;
+        want.extend_from_slice(reply)?;
+        want.push(b'\n')?;
+        let text = retry_text(rt.alloc(), kind, name, port)?;
+        assert_eq!(rt; text.as_slice(), want.as_slice());
     }
     Ok(())
 }

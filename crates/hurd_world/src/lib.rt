@@ -16,5 +16,5 @@ pub use hurd_laws::{
     changes_touched, confined, confined_run, gone_unseen, isolated, never_wants_memory,
     others_unseen, own_from_view, stays_sound,
 };
-pub use hurd_machine::{Call, Lookup, Reply, Whence};
+pub use hurd_machine::{Call, Lookup, Reply, RetryKind, Whence};
 pub use world::{MOST_TASKS, World};

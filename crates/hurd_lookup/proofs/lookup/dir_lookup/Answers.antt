@@ -5,6 +5,7 @@ use Rattle.hurd_nodes.specs.Shown.{shown}
 use Rattle.hurd_core.specs.ToMake.{new_node_of}
 use Rattle.hurd_lookup.proofs.DoneLaws.{unfound, full, lacks, opened, unopened, made, unmade}
 use Rattle.hurd_lookup.proofs.lookup.dir_lookup.Goals as goal
+use Rattle.hurd_lookup.proofs.lookup.dir_lookup.Goals.{in-Opens+in_ok-port-in-Opens, in-Makes+in_ok-port-in-Makes}
 
 pub returns-in_err-ids : goal.returns-in_err-ids
 returns-in_err-ids g c =
@@ -44,16 +45,18 @@ returns-in_err-port-in-Makes g c =
     rw (p.1, p.2)
     (unmade (shown g.S.Server.meaning c.args.core.now.nodes) c.args.core.now.ports.state c.args.task.0 c.args.dir c.args.path.now c.args.flags c.args.mode _ c.in-Makes.field-0 (new_node_of c.in-Makes.file) (sym found) (sym room) _ _ c.in_err-port-in-Makes.ensures)
 
-pub returns-in_ok-port-in-Opens : goal.returns-in_ok-port-in-Opens
-returns-in_ok-port-in-Opens g c =
-    let found = rw (c.new-request.ensures, c.in-Opens.is) at c.in_ok-ids.ensures in
-    let room = rw (c.names.ensures, c.in-Opens.is) at c.in_ok-room.ensures in
-    let does = rw (c.open_modes-modes.ensures, c.in_ok-ids-2.ensures) at c.in_ok-port-in-Opens.ensures in
-    opened (shown g.S.Server.meaning c.args.core.now.nodes) c.args.core.now.ports.state c.args.task.0 c.args.dir c.args.path.now c.args.flags c.args.mode _ c.in-Opens.node (sym found) (sym room) _ _ does
-
-pub returns-in_ok-port-in-Makes : goal.returns-in_ok-port-in-Makes
-returns-in_ok-port-in-Makes g c =
-    let found = rw (c.new-request.ensures, c.in-Makes.is) at c.in_ok-ids.ensures in
-    let room = rw (c.names.ensures, c.in-Makes.is) at c.in_ok-room.ensures in
-    let does = rw (c.open_modes-modes.ensures, c.in_ok-ids-2.ensures) at c.in_ok-port-in-Makes.ensures in
-    made (shown g.S.Server.meaning c.args.core.now.nodes) c.args.core.now.ports.state c.args.task.0 c.args.dir c.args.path.now c.args.flags c.args.mode _ c.in-Makes.field-0 (new_node_of c.in-Makes.file) (sym found) (sym room) _ _ does
+pub returns : goal.returns
+returns g c = elim c.match-outcome.branch [
+  | in-Opens+in_ok-port-in-Opens b ↦
+      let found = rw (c.new-request.ensures, b.in-Opens.is) at c.in_ok-ids.ensures in
+      let room = rw (c.names.ensures, b.in-Opens.is) at c.in_ok-room.ensures in
+      let does = rw (c.open_modes-modes.ensures, c.in_ok-ids-2.ensures) at b.in_ok-port-in-Opens.ensures in
+      rw (b.core-is, b.port-is)
+      (opened (shown g.S.Server.meaning c.args.core.now.nodes) c.args.core.now.ports.state c.args.task.0 c.args.dir c.args.path.now c.args.flags c.args.mode _ b.in-Opens.node (sym found) (sym room) _ _ does)
+  | in-Makes+in_ok-port-in-Makes b ↦
+      let found = rw (c.new-request.ensures, b.in-Makes.is) at c.in_ok-ids.ensures in
+      let room = rw (c.names.ensures, b.in-Makes.is) at c.in_ok-room.ensures in
+      let does = rw (c.open_modes-modes.ensures, c.in_ok-ids-2.ensures) at b.in_ok-port-in-Makes.ensures in
+      rw (b.core-is, b.port-is)
+      (made (shown g.S.Server.meaning c.args.core.now.nodes) c.args.core.now.ports.state c.args.task.0 c.args.dir c.args.path.now c.args.flags c.args.mode _ b.in-Makes.field-0 (new_node_of b.in-Makes.file) (sym found) (sym room) _ _ does)
+]

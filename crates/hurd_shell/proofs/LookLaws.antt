@@ -1,0 +1,159 @@
+-- An opening, turn by turn.
+use Rattle.std.proofs.Common.{◌≡◌, ◌≤◌, ◌<◌, ◌-◌, ◌++◌, ℕ, zero, suc, List, [], ◌∷◌, Result, Ok, Err, refl, sym, ◌∙◌, ap, arith}
+use Rattle.std.specs.Result.{IsErr, IsErrAnd}
+use Rattle.hurd_creds.specs.declared.errno.Errno.{Errno}
+use Rattle.hurd_creds.specs.declared.open_flags.OpenFlags.{OpenFlags}
+use Rattle.hurd_machine.specs.declared.call.Call.TheVariants.{IoReauthenticate, PortDeallocate}
+use Rattle.hurd_machine.specs.World.{World}
+use Rattle.hurd_shell.specs.declared.fault.Stop.{Stop}
+use Rattle.hurd_shell.specs.declared.fault.Stop.TheVariants.{Refused, Memory}
+use Rattle.hurd_shell.specs.declared.looking.Looked.{Looked}
+use Rattle.hurd_shell.specs.declared.looking.Outcome.{Outcome}
+use Rattle.hurd_shell.specs.declared.looking.Retry.TheVariants.{Reauth}
+use Rattle.hurd_shell.specs.Programs.{Prog, End, gives, tried, bind, on_ok, made, closing, go, port_of, unread}
+use Rattle.hurd_shell.specs.Looking.{Opener, looking, too_many, followed, arrived, look}
+use Rattle.hurd_shell.specs.Progress.{Leads, Ends, Does, ComesTo, Comes, opening_on, releasing}
+use Rattle.hurd_shell.proofs.ProgramLaws.{leads_refl, leads_trans, tried_goes, tried_ends}
+
+releasing_more : (held : List ℕ) (port : ℕ) (p : Prog ℕ) → releasing (held ++ port ∷ []) p ≡ releasing held (closing port p)
+unfolding releasing
+releasing_more [] port p = refl
+releasing_more (q ∷ held) port p = ap (closing q) (releasing_more held port p)
+
+-- one port more is held: it is given up first
+pub holding : {new : List ℕ} (held : List ℕ) (port : ℕ) (p : Prog ℕ) → new ≡ held ++ port ∷ [] → releasing new p ≡ releasing held (closing port p)
+holding held port p same = rw same (releasing_more held port p)
+
+tried_leads : {A B : Type 0} {t : ℕ} {p q : Prog A} {w x : World} (k : Result A Errno → Prog B) → Leads t p w q x → Leads t (tried p k) w (tried q k) x
+tried_leads {A} {B} {t} {p} {q} {w} {x} k l = record {
+  goes = tried_goes t k p w ∙ (ap (λ (z : End A). go t (k z.result) z.world) l.goes ∙ sym (tried_goes t k q x));
+}
+
+-- a program goes on as it does where ports are given up behind it
+pub held_leads : {t : ℕ} {p q : Prog ℕ} {w x : World} (held : List ℕ) → Leads t p w q x → Leads t (releasing held p) w (releasing held q) x
+unfolding releasing
+held_leads [] l = l
+held_leads (port ∷ held) l = tried_leads _ (held_leads held l)
+
+-- along `?`: the first program is made
+pub held_ok : {A : Type 0} {t : ℕ} {p : Prog A} {a : A} {w x : World} (held : List ℕ) (k : A → Prog ℕ) → Does t p w (Ok a) x → Leads t (releasing held (bind p k)) w (releasing held (k a)) x
+unfolding bind
+held_ok held k d = held_leads held (tried_ends (on_ok k) d.ends)
+
+err_comes : {A B : Type 0} {t : ℕ} {p : Prog A} {w x : World} (held : List ℕ) (k : A → Prog ℕ) (left : B → Prog ℕ) (s : Stop) → Does {A = A} t p w (Err s) x → ComesTo {B = B} t (releasing held (bind p k)) w left held (Err s) x
+unfolding bind
+err_comes held k left (Refused e) d = held_leads held (tried_ends (on_ok k) d.ends)
+err_comes held k left Memory d = tt
+
+-- out by `?`: the first program is refused, and so is the whole
+pub held_err : {A B : Type 0} {t : ℕ} {p : Prog A} {s : Stop} {r : Result B Stop} {w x : World} {left : B → Prog ℕ} (held : List ℕ) (k : A → Prog ℕ)
+    → IsErr r × IsErrAnd r (λ e. e ≡ s) → Does t p w (Err s) x → Comes t (releasing held (bind p k)) w left held r x
+held_err {r = Ok b} held k gone d = absurd gone.1
+held_err {r = Err e} {left = left} held k gone d = record { comes = rw gone.1 (err_comes held k left _ d) }
+
+lost_comes : {B : Type 0} (t : ℕ) (p : Prog ℕ) (w x : World) (left : B → Prog ℕ) (held : List ℕ) (r : Result B Stop) → IsErr r × IsErrAnd r (λ e. e ≡ Memory) → ComesTo t p w left held r x
+lost_comes t p w x left held (Ok b) gone = absurd gone.1
+lost_comes t p w x left held (Err e) gone = rw gone.1 tt
+
+-- memory was refused
+pub comes_lost : {B : Type 0} {t : ℕ} {p : Prog ℕ} {w x : World} {left : B → Prog ℕ} {held : List ℕ} {r : Result B Stop} → IsErr r × IsErrAnd r (λ e. e ≡ Memory) → Comes t p w left held r x
+comes_lost gone = record { comes = lost_comes _ _ _ _ _ _ _ gone }
+
+behind : {B : Type 0} (t : ℕ) (p q : Prog ℕ) (w x y : World) (left : B → Prog ℕ) (held : List ℕ) (r : Result B Stop) → Leads t p w q x → ComesTo t q x left held r y → ComesTo t p w left held r y
+behind t p q w x y left held (Ok b) l d = leads_trans l d
+behind t p q w x y left held (Err (Refused e)) l d = leads_trans l d
+behind t p q w x y left held (Err Memory) l d = tt
+
+-- a program that comes to another goes on as that does
+pub leads_comes : {B : Type 0} {t : ℕ} {p q : Prog ℕ} {w x y : World} {left : B → Prog ℕ} {held : List ℕ} {r : Result B Stop} → Leads t p w q x → Comes t q x left held r y → Comes t p w left held r y
+leads_comes l d = record { comes = behind _ _ _ _ _ _ _ _ _ l d.comes }
+
+passed : {A B : Type 0} (t : ℕ) (p : Prog ℕ) (w x : World) (left : A → Prog ℕ) (next : B → Prog ℕ) (held : List ℕ) (s : Stop) → ComesTo {B = A} t p w left held (Err s) x → ComesTo {B = B} t p w next held (Err s) x
+passed t p w x left next held (Refused e) l = l
+passed t p w x left next held Memory l = tt
+
+-- out by `?`: what was refused inside is refused
+pub comes_err : {A B : Type 0} {t : ℕ} {p : Prog ℕ} {s : Stop} {r : Result B Stop} {w x : World} {left : A → Prog ℕ} {next : B → Prog ℕ} {held : List ℕ}
+    → IsErr r × IsErrAnd r (λ e. e ≡ s) → Comes {B = A} t p w left held (Err s) x → Comes t p w next held r x
+comes_err {r = Ok b} gone d = absurd gone.1
+comes_err {r = Err e} {left = left} {next = next} gone d = record { comes = rw gone.1 (passed _ _ _ _ left next _ _ d.comes) }
+
+-- a turn whose lookup is answered
+pub turn_leads : {t : ℕ} {l : Looked} {w x : World} (left : ℕ) (flags : OpenFlags) (dir : ℕ) (name held : List ℕ) → Does t (looking flags dir name) w (Ok l) x
+    → Leads t (releasing held (look (suc left) flags dir name)) w (releasing held (arrived (followed (look left flags)) l)) x
+unfolding look
+turn_leads left flags dir name held d = held_ok held (arrived (followed (look left flags))) d
+
+-- a turn whose lookup is refused
+pub turn_err : {B : Type 0} {t : ℕ} {s : Stop} {r : Result B Stop} {w x : World} {next : B → Prog ℕ} (left : ℕ) (flags : OpenFlags) (dir : ℕ) (name held : List ℕ)
+    → IsErr r × IsErrAnd r (λ e. e ≡ s) → Does t (looking flags dir name) w (Err s) x → Comes t (releasing held (look (suc left) flags dir name)) w next held r x
+unfolding look
+turn_err left flags dir name held gone d = held_err held (arrived (followed (look left flags))) gone d
+
+-- the last turn, whose lookup is answered
+pub last_leads : {t : ℕ} {l : Looked} {w x : World} (flags : OpenFlags) (dir : ℕ) (name held : List ℕ) → Does t (looking flags dir name) w (Ok l) x
+    → Leads t (releasing held (look zero flags dir name)) w (releasing held (arrived too_many l)) x
+unfolding look
+last_leads flags dir name held d = held_ok held (arrived too_many) d
+
+-- the last turn, whose lookup is refused
+pub last_err : {B : Type 0} {t : ℕ} {s : Stop} {r : Result B Stop} {w x : World} {next : B → Prog ℕ} (flags : OpenFlags) (dir : ℕ) (name held : List ℕ)
+    → IsErr r × IsErrAnd r (λ e. e ≡ s) → Does t (looking flags dir name) w (Err s) x → Comes t (releasing held (look zero flags dir name)) w next held r x
+unfolding look
+last_err flags dir name held gone d = held_err held (arrived too_many) gone d
+
+-- a program is another one
+pub same_comes : {B : Type 0} {t : ℕ} {p : Prog ℕ} {w : World} (left : B → Prog ℕ) (held : List ℕ) (b : B) → releasing held (left b) ≡ p → Comes t p w left held (Ok b) w
+same_comes left held b same = record { comes = rw (← same) (leads_refl _ _ _) }
+
+-- a retry's port was reauthenticated
+pub reauth_leads : {t : ℕ} {w x : World} (opener : Opener) (name held : List ℕ) (port own : ℕ) → Does t (made (IoReauthenticate port) port_of) w (Ok own) x
+    → Leads t (releasing held (followed opener (Reauth name port))) w (releasing ((held ++ port ∷ []) ++ own ∷ []) (opener own name)) x
+reauth_leads opener name held port own d =
+    let more = λ (q : ℕ). closing q (opener q name) in
+    rw (releasing_more (held ++ port ∷ []) own (opener own name), ← releasing_more held port (bind (made (IoReauthenticate port) port_of) more))
+    (held_ok (held ++ port ∷ []) more d)
+
+-- a retry's port was not reauthenticated
+pub reauth_err : {B : Type 0} {t : ℕ} {s : Stop} {r : Result B Stop} {w x : World} {next : B → Prog ℕ} (opener : Opener) (name held : List ℕ) (port : ℕ)
+    → IsErr r × IsErrAnd r (λ e. e ≡ s) → Does t (made (IoReauthenticate port) port_of) w (Err s) x
+    → Comes t (releasing held (followed opener (Reauth name port))) w next (held ++ port ∷ []) r x
+reauth_err opener name held port gone d =
+    let more = λ (q : ℕ). closing q (opener q name) in
+    rw (← releasing_more held port (bind (made (IoReauthenticate port) port_of) more)) (held_err (held ++ port ∷ []) more gone d)
+
+sub_one : (n : ℕ) → suc n - 1 ≡ n
+sub_one n = omega arith
+
+-- a turn, where some are left
+pub turn_left : {t : ℕ} {r : Result Outcome Stop} {w x : World} {held : List ℕ} (before : List ℕ) (left : ℕ) (flags : OpenFlags) (dir : ℕ) (name : List ℕ) → 0 < left
+    → ((n : ℕ) → Comes t (releasing before (look (suc n) flags dir name)) w (opening_on (look n flags)) held r x)
+    → Comes t (releasing before (look left flags dir name)) w (opening_on (look (left - 1) flags)) held r x
+turn_left before zero flags dir name some l = absurd (omega arith)
+turn_left before (suc n) flags dir name some l = rw sub_one (l n)
+
+pub left_none : (left : ℕ) → left ≤ 0 → left ≡ 0
+left_none left none = omega arith
+
+-- the last port is given up
+pub give_last : {t : ℕ} {w x : World} (held : List ℕ) (port : ℕ) (u : Unit {0}) (end : Result ℕ Errno) → Does t (made (PortDeallocate port) unread) w (Ok u) x
+    → Leads t (releasing (held ++ port ∷ []) (gives end)) w (releasing held (gives end)) x
+unfolding bind tried
+give_last held port u end d = rw releasing_more (held_leads held (tried_ends (on_ok (λ v. gives end)) d.ends))
+
+-- no port is left
+pub give_none : {t : ℕ} {w : World} (p : Prog ℕ) → Leads t (releasing [] p) w p w
+unfolding releasing
+give_none p = leads_refl _ _ _
+
+gives_up : (t : ℕ) (p : Prog ℕ) (w x y : World) (held : List ℕ) (r : Result ℕ Stop) → ComesTo t (releasing [] p) w (λ port. gives (Ok port)) held r x
+    → ((end : Result ℕ Errno) → Leads t (releasing held (gives end)) x (gives end) y) → Ends t p w r y
+unfolding releasing
+gives_up t p w x y held (Ok port) l given = leads_trans l (given (Ok port))
+gives_up t p w x y held (Err (Refused e)) l given = leads_trans l (given (Err e))
+gives_up t p w x y held (Err Memory) l given = tt
+
+-- a program was made, and the ports that it holds were given up
+pub does_give_up : {t : ℕ} {p : Prog ℕ} {r : Result ℕ Stop} {w x y : World} (held : List ℕ) → Comes t (releasing [] p) w (λ port. gives (Ok port)) held r x
+    → ((end : Result ℕ Errno) → Leads t (releasing held (gives end)) x (gives end) y) → Does t p w r y
+does_give_up held d given = record { ends = gives_up _ _ _ _ _ held _ d.comes given }
