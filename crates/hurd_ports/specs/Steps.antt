@@ -9,7 +9,10 @@ use Rattle.hurd_creds.specs.Access.{IdSets}
 use Rattle.hurd_creds.specs.Bits.{with_append}
 use Rattle.hurd_creds.specs.NameMaps.{edit}
 use Rattle.hurd_ports.specs.declared.table.Opened.{Opened}
+use Rattle.hurd_ports.specs.declared.parents.Parent.{Parent}
+use Rattle.hurd_ports.specs.declared.table.IoRight.{IoRight}
 use Rattle.hurd_ports.specs.declared.table.Right.{Right}
+use Rattle.hurd_ports.specs.declared.table.Right.TheVariants.{Io}
 use Rattle.hurd_ports.specs.declared.table.Port.{Port}
 use Rattle.hurd_ports.specs.Tables.{Task, PortState, right_in, right_of, fresh, has_room, is_held}
 
@@ -44,7 +47,7 @@ abbrev pub with_ids : IdSets → Task → Task
 with_ids ids x = record x { ids = ids }
 
 -- the same right, with these ids
-abbrev pub with_ids_for : IdSets → Right → Right
+abbrev pub with_ids_for : IdSets → IoRight → IoRight
 with_ids_for ids r = record r { ids = ids }
 
 -- a right more, last in the inbox
@@ -85,24 +88,24 @@ settle_opens h = record h { opens = fin.retain_keys h.opens (is_held h.tasks) }
 
 -- what calls on tables answer, and leave
 
--- the right on a node, with ids, by the open that the task names next
-abbrev pub new_right : ℕ → Name → IdSets → Task → Right
-new_right t n ids x = record { node = n; ids = ids; open_name = fresh t x }
+-- the right to use a node, with ids, by the open that the task names next, come in by these ways
+abbrev pub new_right : ℕ → Name → IdSets → List Parent → Task → Right
+new_right t n ids parents x = Io (record { node = n; ids = ids; open_name = fresh t x; parents = parents })
 
 -- with a port of a task on a node, and a new open of its own
-abbrev pub with_new_port : ℕ → Name → IdSets → OpenFlags → Task → PortState → PortState
-with_new_port t n ids modes x h = record {
+abbrev pub with_new_port : ℕ → Name → IdSets → List Parent → OpenFlags → Task → PortState → PortState
+with_new_port t n ids parents modes x h = record {
   opens = fin.insert h.opens (fresh t x) (new_open modes);
-  tasks = edit_task t (with_port (new_right t n ids x)) (edit_task t (named 1) h.tasks);
+  tasks = edit_task t (with_port (new_right t n ids parents x)) (edit_task t (named 1) h.tasks);
 }
 
-abbrev pub insert_at : PortState → ℕ → Name → IdSets → OpenFlags → Option Task → Result ℕ Errno × PortState
-insert_at h t n ids modes None = (Err ESRCH, h)
-insert_at h t n ids modes (Some x) = if has_room 1 x then (Ok x.next, with_new_port t n ids modes x h) else (Err EOVERFLOW, h)
+abbrev pub insert_at : PortState → ℕ → Name → IdSets → List Parent → OpenFlags → Option Task → Result ℕ Errno × PortState
+insert_at h t n ids parents modes None = (Err ESRCH, h)
+insert_at h t n ids parents modes (Some x) = if has_room 1 x then (Ok x.next, with_new_port t n ids parents modes x h) else (Err EOVERFLOW, h)
 
 -- a port of the task on the node, with an open of its own
-abbrev pub insert_step : ℕ → Name → IdSets → OpenFlags → PortState → Result ℕ Errno × PortState
-insert_step t n ids modes h = insert_at h t n ids modes (slice_get h.tasks t)
+abbrev pub insert_step : ℕ → Name → IdSets → List Parent → OpenFlags → PortState → Result ℕ Errno × PortState
+insert_step t n ids parents modes h = insert_at h t n ids parents modes (slice_get h.tasks t)
 
 -- the task names one thing
 abbrev pub name_step : ℕ → PortState → PortState

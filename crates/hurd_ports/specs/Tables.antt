@@ -1,5 +1,5 @@
 -- Tasks, ports and opens as values.
-use Rattle.std.specs.Prelude.{◌≡◌, ℕ, ◌+◌, ◌==◌, ◌&&◌, Bool, true, if◌then◌else◌, List, [], ◌∷◌, ◌++◌, map, Option, Some, None, Result, Ok, Err, slice_get, nat_lt, nat_le, refl}
+use Rattle.std.specs.Prelude.{◌≡◌, ℕ, ◌+◌, ◌==◌, ◌&&◌, Bool, true, false, if◌then◌else◌, List, [], ◌∷◌, ◌++◌, map, Option, Some, None, Result, Ok, Err, slice_get, nat_lt, nat_le, refl}
 use Rattle.std.specs.List.{list_any}
 use Rattle.std.specs.FinMap as fin
 use Rattle.std.specs.Borrow.{Bor}
@@ -11,7 +11,10 @@ use Rattle.hurd_creds.specs.Access.{IdSets, coded_ids}
 use Rattle.hurd_creds.specs.Names.{name_of, coded_name, same_name}
 use Rattle.hurd_creds.specs.NameMaps.{NameMap}
 use Rattle.hurd_ports.specs.declared.table.Opened.{Opened}
+use Rattle.hurd_ports.specs.declared.parents.Parent.{Parent}
+use Rattle.hurd_ports.specs.declared.table.IoRight.{IoRight}
 use Rattle.hurd_ports.specs.declared.table.Right.{Right}
+use Rattle.hurd_ports.specs.declared.table.Right.TheVariants.{Io, Control}
 use Rattle.hurd_ports.specs.declared.table.Port.{Port}
 use Rattle.hurd_ports.specs.contracts.table.Port as port
 use Rattle.hurd_ports.specs.contracts.table.Right as right
@@ -79,6 +82,18 @@ right_at p (Some x) = or_refuse EBADF (right_in p x.ports)
 abbrev pub right_of : PortState → ℕ → ℕ → Result Right Errno
 right_of h t p = right_at p (slice_get h.tasks t)
 
+abbrev pub io_of : Right → Option IoRight
+io_of (Io r) = Some r
+io_of (Control s) = None
+
+abbrev pub io_right_in : Result Right Errno → Result IoRight Errno
+io_right_in (Err e) = Err e
+io_right_in (Ok r) = or_refuse EBADF (io_of r)
+
+-- the right to use a node of a task under a number: EBADF also where the port controls a server
+abbrev pub io_right_of : PortState → ℕ → ℕ → Result IoRight Errno
+io_right_of h t p = io_right_in (right_of h t p)
+
 abbrev pub ids_at : Option Task → Result IdSets Errno
 ids_at None = Err ESRCH
 ids_at (Some x) = Ok x.ids
@@ -114,17 +129,33 @@ room_at names (Some x) = if has_room names x then Ok tt else Err EOVERFLOW
 abbrev pub room_of : PortState → ℕ → ℕ → Result (Unit {0}) Errno
 room_of h t names = room_at names (slice_get h.tasks t)
 
+-- the open that a right has
+abbrev pub open_of : Right → Option Name
+open_of (Io r) = Some r.open_name
+open_of (Control s) = None
+
 abbrev pub names_open : Name → Right → Bool
-names_open o r = same_name r.open_name o
+names_open o (Io r) = same_name r.open_name o
+names_open o (Control s) = false
 
 -- some right names the open
 unfoldable pub is_held : List Task → Name → Bool
 is_held ts o = list_any (λ (x : Task). list_any (names_open o) (rights_of x)) ts
 
-abbrev pub names_node : Name → Right → Bool
-names_node n r = same_name r.node n
+-- both nodes of each way
+abbrev pub ways_of : List Parent → List Name
+ways_of [] = []
+ways_of (p ∷ ps) = p.at ∷ (p.parent ∷ ways_of ps)
 
--- some right is on the node
+-- the nodes that a right names: that which it is for, and both of each way that it came in by
+abbrev pub nodes_of : Right → List Name
+nodes_of (Io r) = r.node ∷ ways_of r.parents
+nodes_of (Control s) = []
+
+abbrev pub names_node : Name → Right → Bool
+names_node n r = list_any (λ m. same_name m n) (nodes_of r)
+
+-- some right names the node
 unfoldable pub is_named : List Task → Name → Bool
 is_named ts n = list_any (λ (x : Task). list_any (names_node n) (rights_of x)) ts
 

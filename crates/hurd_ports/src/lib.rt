@@ -1,7 +1,8 @@
 //! Tasks with their ports, and what is open.
 //!
 //! A task has a table of ports: rights by number. Numbers rise from the one that the table begins with, and none is
-//! used again. Each right names a node and an open; an open has a cursor and modes, and goes with its last right.
+//! used again. A right is to use a node, and then has an open and the ways that it came in by, or to control a server. An open has a
+//! cursor and modes, and goes with its last right.
 //!
 //! A task also has an inbox: rights that it was sent, in their order. It takes the first of them as a port.
 //!
@@ -11,8 +12,10 @@
 #![tactic(auto)]
 
 mod opens;
+mod parents;
 mod ports;
 mod table;
 
+pub use parents::{Parent, Parents};
 pub use ports::Ports;
-pub use table::{Opened, Port, Right, TaskSeat};
+pub use table::{IoRight, Opened, Port, Right, TaskSeat};

@@ -4,12 +4,13 @@ ghost use Rattle.std.specs.Option.{option_map};
 ghost use Rattle.std.specs.FinMap as fin;
 ghost use Rattle.hurd_creds.specs.Memory.{Meets, Steps};
 ghost use Rattle.hurd_creds.specs.declared.errno.Errno.{Errno};
-ghost use Rattle.hurd_ports.specs.Tables.{IsSettled, fresh, ids_at, is_held, lent, naming_of, or_refuse, right_of, room_of};
+ghost use Rattle.hurd_ports.specs.Tables.{IsSettled, fresh, ids_at, io_right_of, is_held, lent, naming_of, or_refuse, right_of, room_of};
 ghost use Rattle.hurd_ports.specs.Steps as step;
 ghost use Rattle.hurd_ports.specs.Seats.{opens_of, settled_at, tasks_of};
 
 use crate::opens::{self, OpenSeat};
-use crate::table::{Opened, Right, TaskSeat};
+use crate::parents::Parents;
+use crate::table::{IoRight, Opened, Right, TaskSeat};
 use hurd_creds::{Errno, Ids, Name, NodeName, OpenFlags, OpenName, TaskId};
 use std::alloc::{AllocError, Global};
 use std::marker::Model;
@@ -104,6 +105,18 @@ impl Ports {
         match seat.find(port) {
             Some(right) => Ok(right),
             None => Err(Errno::EBADF),
+        }
+    }
+
+    /// The right to use a node of a task under a number.
+    ///
+    /// Errors, in order: `ESRCH` no such task, `EBADF` no such port, or one that controls a server.
+    pub fn io_right(&self, task: TaskId, port: u64) -> Result<&IoRight, Errno>
+        ensures { lent result ≡ io_right_of self.now.state task.0 port }
+    {
+        match self.right(task, port)? {
+            Right::Io(right) => Ok(right),
+            Right::Control(_) => Err(Errno::EBADF),
         }
     }
 
@@ -213,20 +226,28 @@ impl Ports {
 
     /// A port of the task on the node, with an open of its own, in the memory that was reserved; answers its number,
     /// the task's next. Takes no memory.
-    pub fn fill(&mut self, task: TaskId, node: NodeName, ids: Ids, modes: OpenFlags) -> u64
+    pub fn fill(
+        &mut self,
+        task: TaskId,
+        node: NodeName,
+        ids: Ids,
+        parents: Parents,
+        modes: OpenFlags,
+    ) -> u64
         requires ready { self.old.ready ≡ Some task.0 }
         requires room { room_of self.old.state task.0 1 ≡ Ok tt }
-        ensures answer { step.insert_step task.0 node ids modes self.old.state ≡ (Ok result, self.new.state) }
+        ensures answer { step.insert_step task.0 node ids parents modes self.old.state ≡ (Ok result, self.new.state) }
         ensures new { right_of self.old.state task.0 result ≡ Err Errno.EBADF }
         ensures settled { IsSettled self.new.state }
     {
         let seat = &mut self.tasks[task.0 as usize];
         let name = seat.take_name(task);
-        let number = seat.add(Right {
+        let number = seat.add(Right::Io(IoRight {
             node,
             ids,
             open_name: name,
-        });
+            parents,
+        }));
         self.opens.push_reserved(OpenSeat {
             name,
             opened: Opened { cursor: 0, modes },
@@ -243,15 +264,16 @@ impl Ports {
         task: TaskId,
         node: NodeName,
         ids: Ids,
+        parents: Parents,
         modes: OpenFlags,
     ) -> Result<u64, Errno>
-        ensures answer { Steps self.old.state (step.insert_step task.0 node ids modes self.old.state) result self.new.state }
+        ensures answer { Steps self.old.state (step.insert_step task.0 node ids parents modes self.old.state) result self.new.state }
         ensures new { IfOk result (λ number. right_of self.old.state task.0 number ≡ Err Errno.EBADF) }
         ensures settled { IsSettled self.new.state }
     {
         self.room(task, 1)?;
         self.reserve(task)?;
-        Ok(self.fill(task, node, ids, modes))
+        Ok(self.fill(task, node, ids, parents, modes))
     }
 
     /// A port more of the task, with this right, whose open is another's too; answers its number, the task's next.
@@ -329,10 +351,12 @@ impl Ports {
         ensures answer { (result, self.new.state) ≡ step.deallocate_step task.0 port self.old.state }
         ensures settled { IsSettled self.new.state }
     {
-        let open_name = self.right(task, port)?.open_name;
+        let open_name = self.right(task, port)?.open_name();
         self.ready = None;
         self.tasks[task.0 as usize].remove(port);
-        settle(&mut self.opens, &self.tasks, open_name);
+        if let Some(name) = open_name {
+            settle(&mut self.opens, &self.tasks, name);
+        }
         Ok(())
     }
 

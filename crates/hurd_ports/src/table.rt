@@ -2,19 +2,50 @@
 ghost use Rattle.std.specs.Prelude.{◌≡◌, ◌==◌, ◌+◌, ◌<◌, Ok, length, map, IfOk, IfSome, option_copied};
 ghost use Rattle.std.specs.List.{list_any, position};
 ghost use Rattle.hurd_creds.specs.Memory.{Steps};
-ghost use Rattle.hurd_ports.specs.Tables.{can_name, fresh, has_room, names_open, right_in, rights_of};
+ghost use Rattle.hurd_ports.specs.Tables.{can_name, fresh, has_room, names_open, open_of, right_in, rights_of};
 ghost use Rattle.hurd_ports.specs.Steps.{named, received, with_ids, with_ids_for, with_port, with_sent, without_port};
 ghost use Rattle.hurd_ports.specs.Seats.{HasSpare, seat_task};
 
-use hurd_creds::{Errno, Ids, Name, NodeName, OpenFlags, OpenName, TaskId};
+use crate::parents::Parents;
+use hurd_creds::{Errno, Ids, Name, NodeName, OpenFlags, OpenName, ServerName, TaskId};
 use std::alloc::{AllocError, Global};
 
-/// The right to use a node, with the ids that decide what is allowed, and an open of it (GNU Hurd Reference Manual, Files).
+/// The right to use a node, with the ids that decide what is allowed, an open of it, and the ways that it came in by
+/// (GNU Hurd Reference Manual, Files).
 #[derive(Debug, Drop)]
-pub struct Right {
+pub struct IoRight {
     pub node: NodeName,
     pub ids: Ids,
     pub open_name: OpenName,
+    pub parents: Parents,
+}
+
+impl IoRight {
+    /// A copy, which shares the open.
+    pub fn copied(&self, alloc: Global) -> Result<IoRight, AllocError>
+        ensures { IfOk result (λ right. right ≡ self.now) }
+    {
+        self.with_ids(alloc, self.ids.copied(alloc)?)
+    }
+
+    /// The same right with other ids, which shares the open.
+    pub fn with_ids(&self, alloc: Global, ids: Ids) -> Result<IoRight, AllocError>
+        ensures { IfOk result (λ right. right ≡ with_ids_for ids self.now) }
+    {
+        Ok(IoRight {
+            node: self.node,
+            ids,
+            open_name: self.open_name,
+            parents: self.parents.copied(alloc)?,
+        })
+    }
+}
+
+/// A right: to use a node, or to control a server (`hurd/fsys.defs`).
+#[derive(Debug, Drop)]
+pub enum Right {
+    Io(IoRight),
+    Control(ServerName),
 }
 
 impl Right {
@@ -22,21 +53,29 @@ impl Right {
     pub fn copied(&self, alloc: Global) -> Result<Right, AllocError>
         ensures { IfOk result (λ right. right ≡ self.now) }
     {
-        Ok(Right {
-            node: self.node,
-            ids: self.ids.copied(alloc)?,
-            open_name: self.open_name,
-        })
+        match self {
+            Right::Io(right) => Ok(Right::Io(right.copied(alloc)?)),
+            Right::Control(server) => Ok(Right::Control(*server)),
+        }
     }
 
-    /// The same right with other ids.
-    pub fn with_ids(&self, ids: Ids) -> Right
-        ensures { result ≡ with_ids_for ids self.now }
+    /// The open, which a right to use a node has.
+    pub(crate) fn open_name(&self) -> Option<OpenName>
+        ensures { result ≡ open_of self.now }
     {
-        Right {
-            node: self.node,
-            ids,
-            open_name: self.open_name,
+        match self {
+            Right::Io(right) => Some(right.open_name),
+            Right::Control(_) => None,
+        }
+    }
+
+    /// Whether the right has this open.
+    pub(crate) fn names_open(&self, name: OpenName) -> bool
+        ensures { result ≡ names_open name self.now }
+    {
+        match self {
+            Right::Io(right) => right.open_name == name,
+            Right::Control(_) => false,
         }
     }
 }
@@ -190,14 +229,14 @@ impl TaskSeat {
     fn has_port_on(&self, name: OpenName) -> bool
         ensures { result ≡ list_any (names_open name) (map (λ p. p.right) self.now.ports.items) }
     {
-        self.ports.iter().any(|port| port.right.open_name == name)
+        self.ports.iter().any(|port| port.right.names_open(name))
     }
 
     /// Whether a right that the task was sent names the open.
     fn was_sent(&self, name: OpenName) -> bool
         ensures { result ≡ list_any (names_open name) self.now.inbox.items }
     {
-        self.inbox.iter().any(|right| right.open_name == name)
+        self.inbox.iter().any(|right| right.names_open(name))
     }
 }
 
