@@ -8,6 +8,8 @@ use Rattle.hurd_creds.specs.Access.{IdSets}
 use Rattle.hurd_creds.proofs.KeyedLaws.{keyed-push}
 use Rattle.hurd_ports.specs.declared.table.TaskSeat.{TaskSeat}
 use Rattle.hurd_ports.specs.declared.opens.OpenSeat.{OpenSeat}
+use Rattle.hurd_ports.specs.declared.parents.Parent.{Parent}
+use Rattle.hurd_ports.specs.declared.table.Right.TheVariants.{Io}
 use Rattle.hurd_ports.specs.Tables.{Task, PortState, fresh, right_of, room_of}
 use Rattle.hurd_ports.specs.Steps.{named, new_open, new_right, with_port, with_new_port, insert_step}
 use Rattle.hurd_ports.specs.Sound.{IsSound}
@@ -18,24 +20,24 @@ use Rattle.hurd_ports.proofs.SoundLaws.{free-name, number-new, sound-inserted}
 use Rattle.hurd_ports.proofs.SeatLaws.{same_halves, seat-read, seat-changed}
 
 -- a port went in, under a number that no port had
-pub record Inserted (h k : PortState) (t : ℕ) (n : Name) (ids : IdSets) (modes : OpenFlags) (number : ℕ) : Type 0 where
-  pub step : insert_step t n ids modes h ≡ (Ok number, k)
+pub record Inserted (h k : PortState) (t : ℕ) (n : Name) (ids : IdSets) (parents : List Parent) (modes : OpenFlags) (number : ℕ) : Type 0 where
+  pub step : insert_step t n ids parents modes h ≡ (Ok number, k)
   pub sound : IsSound k
   pub new : right_of h t number ≡ Err EBADF
 
-module _ (os : List OpenSeat) (ss : List TaskSeat) (t : ℕ) (n : Name) (ids : IdSets) (modes : OpenFlags) where
+module _ (os : List OpenSeat) (ss : List TaskSeat) (t : ℕ) (n : Name) (ids : IdSets) (parents : List Parent) (modes : OpenFlags) where
   -- the seat that stood as x has the port, and the open is at the end
-  filled_in : (news : List OpenSeat) (new : TaskSeat) (x : Task) → IsSound (state_of os ss) → slice_get (tasks_of ss) t ≡ Some x → seat_task new ≡ with_port (new_right t n ids x) (named 1 x)
-      → news ≡ os ++ record { name = fresh t x; opened = new_open modes } ∷ [] → state_of news (slice_set ss t new) ≡ with_new_port t n ids modes x (state_of os ss)
+  filled_in : (news : List OpenSeat) (new : TaskSeat) (x : Task) → IsSound (state_of os ss) → slice_get (tasks_of ss) t ≡ Some x → seat_task new ≡ with_port (new_right t n ids parents x) (named 1 x)
+      → news ≡ os ++ record { name = fresh t x; opened = new_open modes } ∷ [] → state_of news (slice_set ss t new) ≡ with_new_port t n ids parents modes x (state_of os ss)
   filled_in news new x sound at ported pushed =
       same_halves _ _ _ _
       (ap opens_of pushed ∙ keyed-push open_key open_value os (record { name = fresh t x; opened = new_open modes }) (free-name (state_of os ss) t x sound at))
-      (seat-changed ss t new (with_port (new_right t n ids x) (named 1 x)) ported ∙ sym (edit-edit t (with_port (new_right t n ids x)) (named 1) (tasks_of ss) x at))
+      (seat-changed ss t new (with_port (new_right t n ids parents x) (named 1 x)) ported ∙ sym (edit-edit t (with_port (new_right t n ids parents x)) (named 1) (tasks_of ss) x at))
 
   -- a seat was read, named the open, and was given the port
   pub filled : (news : List OpenSeat) (old mid new : TaskSeat) (name : Name) (number : ℕ) → IsSound (state_of os ss) → room_of (state_of os ss) t 1 ≡ Ok tt → old ≡ slice_index_or ss t old
-      → name ≡ fresh t (seat_task old) → seat_task mid ≡ named 1 (seat_task old) → number ≡ mid.next → seat_task new ≡ with_port (record { node = n; ids = ids; open_name = name }) (seat_task mid)
-      → news ≡ os ++ record { name = name; opened = new_open modes } ∷ [] → Inserted (state_of os ss) (state_of news (slice_set ss t new)) t n ids modes number
+      → name ≡ fresh t (seat_task old) → seat_task mid ≡ named 1 (seat_task old) → number ≡ mid.next → seat_task new ≡ with_port (Io (record { node = n; ids = ids; open_name = name; parents = parents })) (seat_task mid)
+      → news ≡ os ++ record { name = name; opened = new_open modes } ∷ [] → Inserted (state_of os ss) (state_of news (slice_set ss t new)) t n ids parents modes number
   filled news old mid new name number sound room read fresh_is named_is number_is ported pushed =
       let h : PortState = state_of os ss in
       let found = room-is h t 1 room in
@@ -44,11 +46,11 @@ module _ (os : List OpenSeat) (ss : List TaskSeat) (t : ℕ) (n : Name) (ids : I
       let given : name ≡ fresh t x = fresh_is ∙ ap (fresh t) is in
       let grown : seat_task mid ≡ named 1 x = named_is ∙ ap (named 1) is in
       let counted : number ≡ x.next = number_is ∙ ap (λ (y : Task). y.next) grown in
-      let left : seat_task new ≡ with_port (new_right t n ids x) (named 1 x) = ported ∙ ap (with_port (record { node = n; ids = ids; open_name = name })) grown ∙ ap (λ (q : Name). with_port (record { node = n; ids = ids; open_name = q }) (named 1 x)) given in
-      let whole : state_of news (slice_set ss t new) ≡ with_new_port t n ids modes x h =
+      let left : seat_task new ≡ with_port (new_right t n ids parents x) (named 1 x) = ported ∙ ap (with_port (Io (record { node = n; ids = ids; open_name = name; parents = parents }))) grown ∙ ap (λ (q : Name). with_port (Io (record { node = n; ids = ids; open_name = q; parents = parents })) (named 1 x)) given in
+      let whole : state_of news (slice_set ss t new) ≡ with_new_port t n ids parents modes x h =
       filled_in news new x sound found.there left (pushed ∙ ap (λ (q : Name). os ++ record { name = q; opened = new_open modes } ∷ []) given) in
       rw (whole, counted) (record {
-        step = insert-done h t n ids modes x found.there found.room;
-        sound = sound-inserted h t x sound found.there n ids modes;
+        step = insert-done h t n ids parents modes x found.there found.room;
+        sound = sound-inserted h t x sound found.there n ids parents modes;
         new = number-new h t x sound found.there;
       })

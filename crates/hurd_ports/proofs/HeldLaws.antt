@@ -9,7 +9,8 @@ use Rattle.hurd_creds.specs.declared.name.Name.{Name}
 use Rattle.hurd_creds.proofs.NameLaws.{same_name-itself, same_name-apart}
 use Rattle.hurd_ports.specs.declared.table.Port.{Port}
 use Rattle.hurd_ports.specs.declared.table.Right.{Right}
-use Rattle.hurd_ports.specs.Tables.{Task, names_open, rights_of, right_in, is_held}
+use Rattle.hurd_ports.specs.declared.table.Right.TheVariants.{Io, Control}
+use Rattle.hurd_ports.specs.Tables.{Task, names_open, open_of, rights_of, right_in, is_held}
 use Rattle.hurd_ports.specs.Steps.{ports_without, without_port}
 use Rattle.hurd_ports.proofs.TaskLaws.{set-here}
 
@@ -49,6 +50,16 @@ module _ {X : Type 0} (f : X → Bool) where
   any-map g [] = refl
   any-map g (y ∷ ys) = ap (λ b. f (g y) || b) (any-map g ys)
 
+-- a right names its own open
+pub names_own : (n : Name) (r : Right) → open_of r ≡ Some n → names_open n r ≡ true
+names_own n (Io r) e = let is : r.open_name ≡ n = cc in rw is (same_name-itself n)
+names_own n (Control s) e = absurd (cc)
+
+-- and no other
+pub names_no_other : (n : Name) (r : Right) → open_of r ≢ Some n → names_open n r ≡ false
+names_no_other n (Io r) apart = same_name-apart r.open_name n (λ e. apart (ap Some e))
+names_no_other n (Control s) apart = refl
+
 -- whether a right of the task names the open
 abbrev pub holds : Name → Task → Bool
 holds n z = list_any (names_open n) (rights_of z)
@@ -82,10 +93,10 @@ module _ (x y : Task) (p : Port) (more : y.ports ≡ x.ports ++ p ∷ []) (same 
   held-push ts t at h = any-grows (holds n) ts t x y at keeps h
 
   -- and the open of the new port is held
-  pub held-here : (ts : List Task) (t : ℕ) → slice_get ts t ≡ Some x → n ≡ p.right.open_name → is_held (slice_set ts t y) n ≡ true
+  pub held-here : (ts : List Task) (t : ℕ) → slice_get ts t ≡ Some x → open_of p.right ≡ Some n → is_held (slice_set ts t y) n ≡ true
   unfolding is_held
   held-here ts t at is =
-      let named : names_open n p.right ≡ true = rw is (same_name-itself p.right.open_name) in
+      let named : names_open n p.right ≡ true = names_own n p.right is in
       any-at (holds n) (slice_set ts t y) t y (set-here ts t x y at)
       (holds-more ∙ or_first _ (list_any (names_open n) x.inbox) (or_second (ported n x.ports) _ (or_first (names_open n p.right) false named)))
 
@@ -96,22 +107,22 @@ held-kept ts t x y n at ports inbox =
     any-set (holds n) ts t x y at (holds_by n y ∙ ap₂ (λ a b. a || b) (ap (ported n) ports) (ap (list_any (names_open n)) inbox) ∙ sym (holds_by n x))
 
 -- without one port the others name what they named
-any-without : (q : Name) (p : ℕ) (ps : List Port) (r : Right) → right_in p ps ≡ Some r → q ≢ r.open_name
+any-without : (q : Name) (p : ℕ) (ps : List Port) (r : Right) → right_in p ps ≡ Some r → open_of r ≢ Some q
     → list_any (names_open q) (map (λ (z : Port). z.right) (ports_without p ps)) ≡ list_any (names_open q) (map (λ (z : Port). z.right) ps)
 any-without q p [] r h apart = absurd (cc)
 any-without q p (x ∷ ps) r h apart = go (p == x.number) (any-without q p ps r) h
   where
-    go : (b : Bool) → (right_in p ps ≡ Some r → q ≢ r.open_name → list_any (names_open q) (map (λ (z : Port). z.right) (ports_without p ps)) ≡ list_any (names_open q) (map (λ (z : Port). z.right) ps))
+    go : (b : Bool) → (right_in p ps ≡ Some r → open_of r ≢ Some q → list_any (names_open q) (map (λ (z : Port). z.right) (ports_without p ps)) ≡ list_any (names_open q) (map (λ (z : Port). z.right) ps))
         → (if b then Some x.right else right_in p ps) ≡ Some r
         → list_any (names_open q) (map (λ (z : Port). z.right) (if b then ps else x ∷ ports_without p ps)) ≡ (names_open q x.right || list_any (names_open q) (map (λ (z : Port). z.right) ps))
     go true rest h =
         let same : x.right ≡ r = cc in
-        let other : names_open q x.right ≡ false = same_name-apart x.right.open_name q (λ e. apart (sym e ∙ ap (λ (z : Right). z.open_name) same)) in
+        let other : names_open q x.right ≡ false = names_no_other q x.right (λ e. apart (ap open_of (sym same) ∙ e)) in
         rw other refl
     go false rest h = ap (λ b. names_open q x.right || b) (rest h apart)
 
 -- without a port all but its open are held as they were
-pub held-without : (ts : List Task) (t p : ℕ) (x : Task) (r : Right) (q : Name) → slice_get ts t ≡ Some x → right_in p x.ports ≡ Some r → q ≢ r.open_name → is_held (slice_set ts t (without_port p x)) q ≡ is_held ts q
+pub held-without : (ts : List Task) (t p : ℕ) (x : Task) (r : Right) (q : Name) → slice_get ts t ≡ Some x → right_in p x.ports ≡ Some r → open_of r ≢ Some q → is_held (slice_set ts t (without_port p x)) q ≡ is_held ts q
 unfolding is_held
 held-without ts t p x r q at is apart =
     any-set (holds q) ts t x (without_port p x) at

@@ -1,5 +1,5 @@
 -- What it says that a task has room.
-use Rattle.std.proofs.Common.{◌≡◌, ℕ, ◌+◌, ◌<◌, ◌≤◌, Bool, true, false, if◌then◌else◌, refl, ap, ◌∙◌, arith}
+use Rattle.std.proofs.Common.{◌≡◌, List, ℕ, ◌+◌, ◌<◌, ◌≤◌, Bool, true, false, if◌then◌else◌, refl, ap, ◌∙◌, arith}
 use Rattle.std.proofs.lemmas.Bool.Decides.{nat_tests}
 use Rattle.std.specs.Option.{option_map}
 use Rattle.std.specs.Prelude.{Option, Some, None, Result, Ok, Err, IsSomeAnd, slice_get, nat_lt, nat_le, ◌&&◌}
@@ -8,6 +8,7 @@ use Rattle.hurd_creds.specs.declared.errno.Errno.{Errno}
 use Rattle.hurd_creds.specs.declared.errno.Errno.TheVariants.{EOVERFLOW}
 use Rattle.hurd_creds.specs.declared.open_flags.OpenFlags.{OpenFlags}
 use Rattle.hurd_creds.specs.Access.{IdSets}
+use Rattle.hurd_ports.specs.declared.parents.Parent.{Parent}
 use Rattle.hurd_ports.specs.Tables.{Task, PortState, has_room, room_at, room_of, u64_greatest}
 use Rattle.hurd_ports.specs.Steps.{named, name_step, insert_at, insert_step, with_new_port}
 use Rattle.hurd_ports.proofs.TaskLaws.{edit-here}
@@ -74,6 +75,6 @@ room-named h t names is =
     (both_hold (nat_lt x.next u64_greatest) (nat_le (x.made + 1 + names) u64_greatest) (grind (arith, nat_tests)) (grind (arith, nat_tests)))
 
 -- a port goes in where there is room
-pub insert-done : (h : PortState) (t : ℕ) (n : Name) (ids : IdSets) (modes : OpenFlags) (x : Task) → slice_get h.tasks t ≡ Some x → has_room 1 x ≡ true
-    → insert_step t n ids modes h ≡ (Ok x.next, with_new_port t n ids modes x h)
-insert-done h t n ids modes x at room = ap (insert_at h t n ids modes) at ∙ rw room refl
+pub insert-done : (h : PortState) (t : ℕ) (n : Name) (ids : IdSets) (parents : List Parent) (modes : OpenFlags) (x : Task) → slice_get h.tasks t ≡ Some x → has_room 1 x ≡ true
+    → insert_step t n ids parents modes h ≡ (Ok x.next, with_new_port t n ids parents modes x h)
+insert-done h t n ids parents modes x at room = ap (insert_at h t n ids parents modes) at ∙ rw room refl

@@ -10,10 +10,10 @@ use Rattle.hurd_ports.specs.declared.table.Opened.{Opened}
 use Rattle.hurd_ports.specs.declared.table.Right.{Right}
 use Rattle.hurd_ports.specs.declared.table.TaskSeat.{TaskSeat}
 use Rattle.hurd_ports.specs.declared.opens.OpenSeat.{OpenSeat}
-use Rattle.hurd_ports.specs.Tables.{Task, PortState, OpenMap, is_held, right_in, right_at, right_of, or_refuse}
+use Rattle.hurd_ports.specs.Tables.{Task, PortState, OpenMap, is_held, open_of, right_in, right_at, right_of, or_refuse}
 use Rattle.hurd_ports.specs.Steps.{without_port, settle_opens, deallocate_step, dropped, deallocate_at}
 use Rattle.hurd_ports.specs.Sound.{IsSound}
-use Rattle.hurd_ports.specs.Seats.{seat_task, tasks_of, opens_of, state_of, settled_at}
+use Rattle.hurd_ports.specs.Seats.{seat_task, tasks_of, opens_of, state_of, settled_at, settled_by}
 use Rattle.hurd_ports.proofs.TaskLaws.{edit-found}
 use Rattle.hurd_ports.proofs.HeldLaws.{held-without}
 use Rattle.hurd_ports.proofs.SoundLaws.{get-held, sound-settled}
@@ -41,6 +41,19 @@ settled-one m ts n others = go (is_held ts n) refl
       | inr apart ↦ remove_apart m n q apart ∙ apart_from q apart (fin.get m q) refl ∙ sym (get-held m ts q)
     ])
 
+-- the same of an open that may not be there
+settled-maybe : (m : OpenMap) (ts : List Task) (o : Option Name) → ((q : Name) (w : Opened) → fin.get m q ≡ Some w → o ≢ Some q → is_held ts q ≡ true) → settled_by ts o m ≡ fin.retain_keys m (is_held ts)
+settled-maybe m ts (Some n) others = settled-one m ts n (λ q w e apart. others q w e (λ same. apart (cc)))
+settled-maybe m ts None others = same_map_by m _ (λ q. kept q (fin.get m q) refl ∙ sym (get-held m ts q))
+  where
+    kept : (q : Name) (o : Option Opened) → fin.get m q ≡ o → o ≡ cond (is_held ts q) o None
+    kept q None e = both (is_held ts q)
+      where
+        both : (b : Bool) → ◌≡◌ {A = Option Opened} None (cond b None None)
+        both true = refl
+        both false = refl
+    kept q (Some w) e = rw (others q w e (λ same. absurd (cc))) refl
+
 -- where a right is, there are its task and its port
 record Found (h : PortState) (t p : ℕ) (r : Right) : Type 0 where
   task : Task
@@ -65,7 +78,7 @@ pub record Dropped (h k : PortState) (t p : ℕ) : Type 0 where
 
 -- where its seat lost it, and its open was looked at
 pub deallocated : (os news : List OpenSeat) (ss : List TaskSeat) (t p : ℕ) (s new : TaskSeat) (r : Right) → IsSound (state_of os ss) → Ok r ≡ right_of (state_of os ss) t p → s ≡ slice_index_or ss t s
-    → seat_task new ≡ without_port p (seat_task s) → opens_of news ≡ settled_at (tasks_of (slice_set ss t new)) r.open_name (opens_of os) → Dropped (state_of os ss) (state_of news (slice_set ss t new)) t p
+    → seat_task new ≡ without_port p (seat_task s) → opens_of news ≡ settled_by (tasks_of (slice_set ss t new)) (open_of r) (opens_of os) → Dropped (state_of os ss) (state_of news (slice_set ss t new)) t p
 deallocated os news ss t p s new r sound is read less opens =
     let h : PortState = state_of os ss in
     let found = right-is h t p r is in
@@ -73,8 +86,8 @@ deallocated os news ss t p s new r sound is read less opens =
     let left : PortState = record h { tasks = slice_set h.tasks t (without_port p x) } in
     let tasks : tasks_of (slice_set ss t new) ≡ left.tasks = seat-changed ss t new (without_port p x) (less ∙ ap (without_port p) (seat-read ss t s x found.there read).1) in
     let kept : opens_of news ≡ fin.retain_keys h.opens (is_held left.tasks) =
-    opens ∙ ap (λ (ts : List Task). settled_at ts r.open_name h.opens) tasks
-    ∙ settled-one h.opens left.tasks r.open_name (λ q w e apart. held-without h.tasks t p x r q found.there found.right apart ∙ sound.settled q w e) in
+    opens ∙ ap (λ (ts : List Task). settled_by ts (open_of r) h.opens) tasks
+    ∙ settled-maybe h.opens left.tasks (open_of r) (λ q w e apart. held-without h.tasks t p x r q found.there found.right apart ∙ sound.settled q w e) in
     let both : state_of news (slice_set ss t new) ≡ settle_opens left = same_halves _ _ _ _ kept tasks in
     let step : deallocate_step t p h ≡ (Ok tt, settle_opens left) =
     ap (deallocate_at h t p) found.there ∙ ap (dropped h t p) found.right

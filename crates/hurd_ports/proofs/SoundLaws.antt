@@ -9,6 +9,7 @@ use Rattle.hurd_creds.specs.Access.{IdSets}
 use Rattle.hurd_creds.specs.Names.{name_cmp}
 use Rattle.hurd_creds.proofs.NameLaws.{name_exact, same_or_apart, get_apart, edit_here, edit_apart}
 use Rattle.hurd_creds.specs.NameMaps.{edit}
+use Rattle.hurd_ports.specs.declared.parents.Parent.{Parent}
 use Rattle.hurd_ports.specs.declared.table.Opened.{Opened}
 use Rattle.hurd_ports.specs.declared.table.Port.{Port}
 use Rattle.hurd_ports.specs.declared.table.Right.{Right}
@@ -105,11 +106,11 @@ module _ (h : PortState) (t : ℕ) (x : Task) (sound : IsSound h) (at : slice_ge
       }
 
   -- or have one more port, with an open of its own
-  pub sound-inserted : (n : Name) (ids : IdSets) (modes : OpenFlags) → IsSound (with_new_port t n ids modes x h)
-  sound-inserted n ids modes = rw (edit-edit t (with_port right) (named 1) h.tasks x at) added
+  pub sound-inserted : (n : Name) (ids : IdSets) (parents : List Parent) (modes : OpenFlags) → IsSound (with_new_port t n ids parents modes x h)
+  sound-inserted n ids parents modes = rw (edit-edit t (with_port right) (named 1) h.tasks x at) added
     where
       right : Right
-      right = new_right t n ids x
+      right = new_right t n ids parents x
 
       port : Port
       port = record { number = x.next; right = right }
@@ -120,7 +121,7 @@ module _ (h : PortState) (t : ℕ) (x : Task) (sound : IsSound h) (at : slice_ge
       added : IsSound (record { opens = fin.insert h.opens (fresh t x) (new_open modes); tasks = slice_set h.tasks t y })
       added = record {
         settled = λ q w is. elim (same_or_apart q (fresh t x)) [
-          | inl e ↦ held-here x y port refl refl q h.tasks t at e
+          | inl e ↦ held-here x y port refl refl q h.tasks t at (ap Some (sym e))
           | inr apart ↦ held-push x y port refl refl q h.tasks t at (sound.settled q w (sym (get_apart h.opens (fresh t x) (new_open modes) q apart) ∙ is))
         ];
         given = λ q w is. elim (same_or_apart q (fresh t x)) [

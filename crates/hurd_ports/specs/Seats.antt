@@ -56,3 +56,8 @@ pub record IsKept (opens : Vec OpenSeat) (seats : Vec TaskSeat) (ready : Option 
 -- the opens but the one of this name, unless some right names it
 abbrev pub settled_at : List Task → Name → OpenMap → OpenMap
 settled_at ts n m = if is_held ts n then m else fin.remove m n
+
+-- the same of an open that a right may have had
+abbrev pub settled_by : List Task → Option Name → OpenMap → OpenMap
+settled_by ts None m = m
+settled_by ts (Some n) m = settled_at ts n m

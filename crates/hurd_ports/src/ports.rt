@@ -6,7 +6,7 @@ ghost use Rattle.hurd_creds.specs.Memory.{Meets, Steps};
 ghost use Rattle.hurd_creds.specs.declared.errno.Errno.{Errno};
 ghost use Rattle.hurd_ports.specs.Tables.{IsSettled, fresh, ids_at, io_right_of, is_held, lent, naming_of, or_refuse, right_of, room_of};
 ghost use Rattle.hurd_ports.specs.Steps as step;
-ghost use Rattle.hurd_ports.specs.Seats.{opens_of, settled_at, tasks_of};
+ghost use Rattle.hurd_ports.specs.Seats.{opens_of, settled_by, tasks_of};
 
 use crate::opens::{self, OpenSeat};
 use crate::parents::Parents;
@@ -45,12 +45,14 @@ fn is_held(tasks: &[TaskSeat], name: OpenName) -> bool
     tasks.iter().any(|seat| seat.holds(name))
 }
 
-/// Takes out the open of this name, if no right names it.
-fn settle(opens: &mut Vec<OpenSeat>, tasks: &[TaskSeat], name: OpenName)
-    ensures { opens_of opens.new.items ≡ settled_at (tasks_of tasks.now) name (opens_of opens.old.items) }
+/// Takes out the open that a right had, if no right names it any more.
+fn settle(opens: &mut Vec<OpenSeat>, tasks: &[TaskSeat], name: Option<OpenName>)
+    ensures { opens_of opens.new.items ≡ settled_by (tasks_of tasks.now) name (opens_of opens.old.items) }
 {
-    if !is_held(tasks, name) {
-        opens::remove(opens, name);
+    if let Some(name) = name {
+        if !is_held(tasks, name) {
+            opens::remove(opens, name);
+        }
     }
 }
 
@@ -354,9 +356,7 @@ impl Ports {
         let open_name = self.right(task, port)?.open_name();
         self.ready = None;
         self.tasks[task.0 as usize].remove(port);
-        if let Some(name) = open_name {
-            settle(&mut self.opens, &self.tasks, name);
-        }
+        settle(&mut self.opens, &self.tasks, open_name);
         Ok(())
     }
 
