@@ -15,13 +15,15 @@ use Rattle.hurd_trans_iface.specs.Answers.{entry_in, entry_of}
 use Rattle.hurd_nodes.specs.Shown.{ServerInfo, info_in, is_root_of, tree_by}
 use Rattle.hurd_nodes.specs.Settle.{is_entered, is_entered_at}
 use Rattle.hurd_ports.specs.declared.table.Opened.{Opened}
+use Rattle.hurd_ports.specs.declared.table.IoRight.{IoRight}
 use Rattle.hurd_ports.specs.declared.table.Right.{Right}
+use Rattle.hurd_ports.specs.declared.table.Right.TheVariants.{Io, Control}
 use Rattle.hurd_ports.specs.declared.table.Port.{Port}
-use Rattle.hurd_ports.specs.Tables.{Task, OpenMap, rights_of}
+use Rattle.hurd_ports.specs.Tables.{Task, OpenMap, rights_of, nodes_of as nodes_named}
 use Rattle.hurd_ports.specs.Steps.{named, with_sent, edit_task}
 use Rattle.hurd_machine.specs.World.{World, IsAmong, boot_root, nodes_of, task_at, open_at, header_at, body_at, home_at, server_at, info_at, is_of, lists, lists_at}
 use Rattle.hurd_machine.specs.Change.{Change, EditHeader, EditBody, MakeNode, EditOpen, MakeOpen, EditTask, Send, Settle, stays, settle, apply, apply_all}
-use Rattle.hurd_machine.specs.Sound.{Below, AreDistinct, HasDistinctNames, AreGiven, AreHoused, IsTree, AreTables, Coherent, LeadsUp, AtRoot, Above, Linked}
+use Rattle.hurd_machine.specs.Sound.{Below, AreDistinct, HasDistinctNames, IsGivenRight, AreGiven, AreHoused, IsTree, AreTables, Coherent, LeadsUp, AtRoot, Above, Linked}
 use Rattle.hurd_machine.proofs.Nodes.{header_in, body_in, body-with_header, edit_keeps, edited_from, node_of_header}
 use Rattle.hurd_machine.proofs.Listed.{entered_by}
 use Rattle.hurd_machine.proofs.Tasks.{edit_cases, edit_here as task_here, below_edit, sent_cases}
@@ -61,13 +63,28 @@ pub record GoodNode (w : World) (s : Name) (node : Node) : Type 0 where
   pub empty : HasNoEntries node.body
   pub parent : (p : Name) → node.header.parent ≡ Some p → Below w p
 
--- a right that a task may get: what it names was made, its open is there and on one node with it, and what is open to write is no directory
-pub record FineRight (w : World) (r : Right) : Type 0 where
-  pub node : Below w r.node
+-- a right to use a node that a task may get: what it names was made, its open is there and on one node with it, and what is open to write is no directory
+pub record FineIo (w : World) (r : IoRight) : Type 0 where
+  pub nodes : (n : Name) → IsAmong n (nodes_named (Io r)) → Below w n
   pub open_name : Below w r.open_name
   pub opened : (o : Opened) × (open_at w r.open_name ≡ Some o)
-  pub shared : (t : ℕ) (x : Task) (p : Right) → task_at w t ≡ Some x → IsAmong p (rights_of x) → p.open_name ≡ r.open_name → p.node ≡ r.node
+  pub shared : (t : ℕ) (x : Task) (p : IoRight) → task_at w t ≡ Some x → IsAmong (Io p) (rights_of x) → p.open_name ≡ r.open_name → p.node ≡ r.node
   pub written : (o : Opened) (h : Header) → open_at w r.open_name ≡ Some o → asks o.modes WRITE ≡ true → header_at w r.node ≡ Some h → is_dir h.kind ≡ false
+
+-- of either kind
+abbrev pub FineRight : World → Right → Type 0
+FineRight w (Io r) = FineIo w r
+FineRight w (Control s) = Below w s
+
+-- what it names was given
+pub fine_given : (w : World) (r : Right) → FineRight w r → IsGivenRight w r
+fine_given w (Io r) f = (f.nodes, f.open_name)
+fine_given w (Control s) f = f
+
+-- and is wherever the names of this world are
+pub given_raised : (w y : World) → ((n : Name) → Below w n → Below y n) → (r : Right) → IsGivenRight w r → IsGivenRight y r
+given_raised w y up (Io r) g = (λ n i. up n (g.0 n i), up r.open_name g.1)
+given_raised w y up (Control s) g = up s g
 
 abbrev pub IsNew : Option Right → Right → Type 0
 IsNew None r = ⊥
@@ -124,8 +141,8 @@ entry_old {w} c d n e = let x = lister (get w.nodes d) n e in c.given.nodes d x.
 pub home_old : {w : World} → Coherent w → (n s : Name) → home_at w n ≡ Some s → Below w n
 home_old c n s e = let h = c.housing.housed n s e in header_old c n h.0 h.1
 
-pub right_old : {w : World} → Coherent w → (t : ℕ) (x : Task) (r : Right) → task_at w t ≡ Some x → IsAmong r (rights_of x) → Below w r.node × Below w r.open_name
-right_old c t x r at i = c.given.rights t x r at i
+pub right_old : {w : World} → Coherent w → (t : ℕ) (x : Task) (r : IoRight) → task_at w t ≡ Some x → IsAmong (Io r) (rights_of x) → Below w r.node × Below w r.open_name
+right_old c t x r at i = let g = c.given.rights t x (Io r) at i in (g.0 r.node (inl refl), g.1)
 
 -- what is found under a name is an entry
 
@@ -346,11 +363,11 @@ module _ (w : World) (c : Coherent w) (q : ℕ) (f : Task → Task) (up : (x : T
   new_one None r p a b = absurd a
   new_one (Some k) r p a b = sym a ∙ b
 
-  one_node : (r p : Right) → Of r ⊎ IsNew g.new r → Of p ⊎ IsNew g.new p → r.open_name ≡ p.open_name → r.node ≡ p.node
+  one_node : (r p : IoRight) → Of (Io r) ⊎ IsNew g.new (Io r) → Of (Io p) ⊎ IsNew g.new (Io p) → r.open_name ≡ p.open_name → r.node ≡ p.node
   one_node r p (inl a) (inl b) e = c.tables.shared a.task b.task a.seat b.seat r p a.at a.has b.at b.has e
-  one_node r p (inl a) (inr b) e = (new_fine g.new g.fine p b).shared a.task a.seat r a.at a.has e
-  one_node r p (inr a) (inl b) e = sym ((new_fine g.new g.fine r a).shared b.task b.seat p b.at b.has (sym e))
-  one_node r p (inr a) (inr b) e = ap (λ (k : Right). k.node) (new_one g.new r p a b)
+  one_node r p (inl a) (inr b) e = (new_fine g.new g.fine (Io p) b).shared a.task a.seat r a.at a.has e
+  one_node r p (inr a) (inl b) e = sym ((new_fine g.new g.fine (Io r) a).shared b.task b.seat p b.at b.has (sym e))
+  one_node r p (inr a) (inr b) e = let one : Io r ≡ Io p = new_one g.new (Io r) (Io p) a b in let same : r ≡ p = cc in ap (λ (k : IoRight). k.node) same
 
   task_given : AreGiven retabled
   task_given = record {
@@ -358,8 +375,8 @@ module _ (w : World) (c : Coherent w) (q : ℕ) (f : Task → Task) (up : (x : T
     opens = λ o y e. raised o (c.given.opens o y e);
     servers = λ s i e. raised s (c.given.servers s i e);
     rights = λ p z r e h. elim (right_now p z r e h) [
-      | inl old ↦ let b = c.given.rights old.task old.seat r old.at old.has in (raised r.node b.0, raised r.open_name b.1)
-      | inr new ↦ let k = new_fine g.new g.fine r new in (raised r.node k.node, raised r.open_name k.open_name)
+      | inl old ↦ given_raised w retabled raised r (c.given.rights old.task old.seat r old.at old.has)
+      | inr new ↦ given_raised w retabled raised r (fine_given w r (new_fine g.new g.fine r new))
     ];
     entries = λ d n e. raised n (c.given.entries d n e);
     parents = λ n p h e ep. raised p (c.given.parents n p h e ep);
@@ -371,14 +388,14 @@ module _ (w : World) (c : Coherent w) (q : ℕ) (f : Task → Task) (up : (x : T
       | inl a ↦ subst (λ (u : Task). k.number < u.next) (sym a.1) (g.numbers k (subst (λ (u : Task). IsAmong k u.ports) a.1 h))
       | inr old ↦ c.tables.numbers p z k old h
     ];
-    opened = λ p z r e h. elim (right_now p z r e h) [
+    opened = λ p z r e h. elim (right_now p z (Io r) e h) [
       | inl old ↦ c.tables.opened old.task old.seat r old.at old.has
-      | inr new ↦ (new_fine g.new g.fine r new).opened
+      | inr new ↦ (new_fine g.new g.fine (Io r) new).opened
     ];
-    shared = λ p k z u r s e h e' h' same. one_node r s (right_now p z r e h) (right_now k u s e' h') same;
-    written = λ p z r o k e h eo modes ek. elim (right_now p z r e h) [
+    shared = λ p k z u r s e h e' h' same. one_node r s (right_now p z (Io r) e h) (right_now k u (Io s) e' h') same;
+    written = λ p z r o k e h eo modes ek. elim (right_now p z (Io r) e h) [
       | inl old ↦ c.tables.written old.task old.seat r o k old.at old.has eo modes ek
-      | inr new ↦ (new_fine g.new g.fine r new).written o k eo modes ek
+      | inr new ↦ (new_fine g.new g.fine (Io r) new).written o k eo modes ek
     ];
   }
 
@@ -397,9 +414,9 @@ with_opens m w = record { nodes = w.nodes; homes = w.homes; servers = w.servers;
 -- an open of m was named, and with WRITE it stood open to write in w; those of rights are there
 record Reopened (w : World) (m : OpenMap) : Type 0 where
   made : (o : Name) (z : Opened) → get m o ≡ Some z → Below w o
-  writes : (t : ℕ) (x : Task) (r : Right) (z : Opened) → task_at w t ≡ Some x → IsAmong r (rights_of x) → get m r.open_name ≡ Some z → asks z.modes WRITE ≡ true
+  writes : (t : ℕ) (x : Task) (r : IoRight) (z : Opened) → task_at w t ≡ Some x → IsAmong (Io r) (rights_of x) → get m r.open_name ≡ Some z → asks z.modes WRITE ≡ true
       → (y : Opened) × (open_at w r.open_name ≡ Some y) × (asks y.modes WRITE ≡ true)
-  still : (t : ℕ) (x : Task) (r : Right) (z : Opened) → task_at w t ≡ Some x → IsAmong r (rights_of x) → open_at w r.open_name ≡ Some z → (y : Opened) × (get m r.open_name ≡ Some y)
+  still : (t : ℕ) (x : Task) (r : IoRight) (z : Opened) → task_at w t ≡ Some x → IsAmong (Io r) (rights_of x) → open_at w r.open_name ≡ Some z → (y : Opened) × (get m r.open_name ≡ Some y)
 
 reopened : (w : World) (m : OpenMap) → Coherent w → Reopened w m → Coherent (with_opens m w)
 reopened w m c r = record {
@@ -440,7 +457,7 @@ open_edited w c k f p = record {
       | inr a ↦ inr (sym (edit_apart w.opens k f o a) ∙ e)
     ]
 
-open_made : (w : World) → Coherent w → (k : Name) (z : Opened) → Below w k → ((t : ℕ) (x : Task) (r : Right) → task_at w t ≡ Some x → IsAmong r (rights_of x) → r.open_name ≢ k) → Reopened w (insert w.opens k z)
+open_made : (w : World) → Coherent w → (k : Name) (z : Opened) → Below w k → ((t : ℕ) (x : Task) (r : IoRight) → task_at w t ≡ Some x → IsAmong (Io r) (rights_of x) → r.open_name ≢ k) → Reopened w (insert w.opens k z)
 open_made w c k z b unnamed = record {
   made = λ o y e. elim (was w.opens k o z y e) [ inl l ↦ subst (Below w) (sym l.0) b | inr l ↦ c.given.opens o y l.1 ];
   writes = λ t x r y at i e modes. (y, sym (get_apart w.opens k z r.open_name (unnamed t x r at i)) ∙ e, modes);
@@ -542,7 +559,7 @@ no_names (Content bs) none = tt
 no_names (Listing es) none = subst AreDistinct (sym none) tt
 
 module _ (w : World) (c : Coherent w) (n s : Name) (node : Node) (b : Below w n) (absent : get w.nodes n ≡ None)
-    (unnamed : (t : ℕ) (x : Task) (r : Right) → task_at w t ≡ Some x → IsAmong r (rights_of x) → r.node ≢ n) (p : GoodNode w s node) where
+    (unnamed : (t : ℕ) (x : Task) (r : IoRight) → task_at w t ≡ Some x → IsAmong (Io r) (rights_of x) → r.node ≢ n) (p : GoodNode w s node) where
   abbrev made_world : World
   made_world = record { nodes = insert w.nodes n node; homes = insert w.homes n s; servers = w.servers; opens = w.opens; tasks = w.tasks }
 
@@ -670,11 +687,11 @@ module _ (w : World) (c : Coherent w) (n : Name) (next : IsNext w n) (k : ℕ) w
   ]
 
   -- what was not given is no open's or node's of a right
-  pub unopened : (m : Name) → (Below w m → ⊥) → (t : ℕ) (x : Task) (r : Right) → task_at named_world t ≡ Some x → IsAmong r (rights_of x) → r.open_name ≢ m
-  unopened m new t x r at h e = let y = named_right t x r at h in new (subst (Below w) e (c.given.rights t y.0 r y.1 y.2).1)
+  pub unopened : (m : Name) → (Below w m → ⊥) → (t : ℕ) (x : Task) (r : IoRight) → task_at named_world t ≡ Some x → IsAmong (Io r) (rights_of x) → r.open_name ≢ m
+  unopened m new t x r at h e = let y = named_right t x (Io r) at h in new (subst (Below w) e (right_old c t y.0 r y.1 y.2).1)
 
-  pub unnoded : (m : Name) → (Below w m → ⊥) → (t : ℕ) (x : Task) (r : Right) → task_at named_world t ≡ Some x → IsAmong r (rights_of x) → r.node ≢ m
-  unnoded m new t x r at h e = let y = named_right t x r at h in new (subst (Below w) e (c.given.rights t y.0 r y.1 y.2).0)
+  pub unnoded : (m : Name) → (Below w m → ⊥) → (t : ℕ) (x : Task) (r : IoRight) → task_at named_world t ≡ Some x → IsAmong (Io r) (rights_of x) → r.node ≢ m
+  unnoded m new t x r at h e = let y = named_right t x (Io r) at h in new (subst (Below w) e (right_old c t y.0 r y.1 y.2).0)
 
 -- what changes keep
 

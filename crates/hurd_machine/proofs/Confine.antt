@@ -10,19 +10,27 @@ use Rattle.hurd_trans_iface.specs.Nodes.{Header}
 use Rattle.hurd_trans_iface.specs.Answers.{entry_of}
 use Rattle.hurd_nodes.specs.Shown.{ServerInfo}
 use Rattle.hurd_ports.specs.declared.table.Opened.{Opened}
+use Rattle.hurd_ports.specs.declared.table.IoRight.{IoRight}
 use Rattle.hurd_ports.specs.declared.table.Right.{Right}
-use Rattle.hurd_ports.specs.Tables.{Task}
-use Rattle.hurd_machine.specs.World.{World, boot_root, task_at, open_at, header_at, body_at, home_at, server_at}
+use Rattle.hurd_ports.specs.declared.table.Right.TheVariants.{Io, Control}
+use Rattle.hurd_ports.specs.Tables.{Task, nodes_of as nodes_named}
+use Rattle.hurd_machine.specs.World.{World, IsAmong, boot_root, task_at, open_at, header_at, body_at, home_at, server_at}
 use Rattle.hurd_machine.specs.Sight.{Holds, HasUid, UidOfTask, UidOfRight, HasGid, GidOfTask, GidOfRight, Taken, Could, Owns, Allowed, CouldServe}
-use Rattle.hurd_machine.specs.Sight.{Seen, Root, Held, Child, Parent, ServerRoot, SeesBody, ToRead, ToSearch, IsOpen, SeesEmpty, ByBody, ByParent}
+use Rattle.hurd_machine.specs.Sight.{Seen, Root, Held, Way, Controlled, Child, Parent, ServerRoot, Sends, ByControl, ByNode, Knows, OfNode, OfControl, SeesBody, ToRead, ToSearch, IsOpen, SeesEmpty, ByBody, ByParent}
 use Rattle.hurd_machine.specs.Sight.{Part, AttrOf, EmptyOf, BodyOf, OpenOf, OptionsOf, UsersOf, TaskOf, Sees}
 use Rattle.hurd_machine.specs.Sound.{Below, Coherent}
-use Rattle.hurd_machine.proofs.Coherence.{header_old, entry_old, home_old, entry_lists}
+use Rattle.hurd_machine.proofs.Coherence.{header_old, entry_old, home_old, right_old, entry_lists}
+use Rattle.hurd_machine.proofs.Stays.{way_at, way_parent, way_with}
+use Rattle.hurd_machine.proofs.Views.{knows_of}
 
 -- what is seen has a name that was given
 pub seen_old : {S : ℕ → Bool} {w : World} → Coherent w → (n : Name) → Seen S w n → Below w n
 seen_old {S} {w} c n (Root e) = let root = c.tree.root in subst (Below w) (sym e) (header_old c boot_root root.0 root.1)
-seen_old {S} {w} c n (Held r h e) = subst (Below w) (sym e) (c.given.rights h.task h.seat r h.is_task h.here).0
+seen_old {S} {w} c n (Held r h e) = subst (Below w) (sym e) (right_old c h.task h.seat r h.is_task h.here).0
+seen_old {S} {w} c n (Way r p h i e) =
+    let given = (c.given.rights h.task h.seat (Io r) h.is_task h.here).0 in
+    elim e [ inl at ↦ subst (Below w) (sym at) (given p.at (inr (way_at p r.parents i))) | inr up ↦ subst (Below w) (sym up) (given p.parent (inr (way_parent p r.parents i))) ]
+seen_old {S} {w} c n (Controlled s i h es e) = subst (Below w) (sym e) (home_old c i.root s (c.housing.roots s i es))
 seen_old {S} {w} c n (Child d h name s eh k could en) = c.given.entries d n (entry_lists name (body_at w d) n en)
 seen_old c n (Parent d h s eh ep) = c.given.parents d n h eh ep
 seen_old {S} {w} c n (ServerRoot m s i sm em es could e) = subst (Below w) (sym e) (home_old c i.root s (c.housing.roots s i es))
@@ -66,15 +74,43 @@ Less-trans n h k l a b = record {
 abbrev pub HeaderInside : (ℕ → Bool) → World → Name → Header → Type 0
 HeaderInside S v n h = ((before : Header) × (header_at v n ≡ Some before) × Less S v n h before) ⊎ (NewTo S v n × ((p : Name) → h.parent ≡ Some p → SeenOrNew S v p))
 
--- a right that S may hold, but for its ids: on a node that it saw or made, and an open that it had or made
-pub record RightInside (S : ℕ → Bool) (v : World) (r : Right) : Type 0 where
-  pub node : SeenOrNew S v r.node
+-- a right to use a node that S may hold, but for its ids: it names nodes that S saw or made, and an open that it had or made
+pub record IoInside (S : ℕ → Bool) (v : World) (r : IoRight) : Type 0 where
+  pub nodes : (n : Name) → IsAmong n (nodes_named (Io r)) → SeenOrNew S v n
   pub opened : Known S v (OpenOf r.open_name)
+
+-- a server that S controls, or could send away
+abbrev pub Commands : (ℕ → Bool) → World → Name → Type 0
+Commands S v s = Holds S v (Control s) ⊎ ((i : ServerInfo) × (server_at v s ≡ Some i) × Sends S v s i)
+
+-- a right that S may hold, but for its ids
+abbrev pub RightInside : (ℕ → Bool) → World → Right → Type 0
+RightInside S v (Io r) = IoInside S v r
+RightInside S v (Control s) = Commands S v s
+
+-- the nodes that a right of S names are seen
+pub named_seen : (S : ℕ → Bool) (v : World) (r : IoRight) → Holds S v (Io r) → (n : Name) → IsAmong n (nodes_named (Io r)) → Seen S v n
+named_seen S v r h n (inl e) = Held r h (sym e)
+named_seen S v r h n (inr i) = let p = way_with n r.parents i in Way r p.0 h p.1 p.2
+
+-- what S controls it commands, and what it commands it knows and could send away
+pub commands_known : (S : ℕ → Bool) (v : World) (s : Name) → Commands S v s → Knows S v s
+commands_known S v s (inl h) = OfControl h
+commands_known S v s (inr c) = knows_of S v s c.0 c.2
+
+pub commands_send : (S : ℕ → Bool) (v : World) (s : Name) (i : ServerInfo) → server_at v s ≡ Some i → Commands S v s → Sends S v s i
+commands_send S v s i is (inl h) = ByControl h
+commands_send S v s i is (inr c) = let same : c.0 ≡ i = cc (is, c.1) in subst (Sends S v s) same c.2
+
+-- the root of a server that S could send away is seen
+pub sends_root : (S : ℕ → Bool) (v : World) (s : Name) (i : ServerInfo) → server_at v s ≡ Some i → Sends S v s i → Seen S v i.root
+sends_root S v s i is (ByControl h) = Controlled s i h is refl
+sends_root S v s i is (ByNode n sn en could) = ServerRoot n s i sn en is could refl
 
 -- all ids that S holds in x it held in v
 pub record TakesLess (S : ℕ → Bool) (v x : World) : Type 0 where
   pub tasks : (q : ℕ) (y : Task) → S q ≡ true → task_at x q ≡ Some y → Taken S v y.ids
-  pub rights : (r : Right) → Holds S x r → Taken S v r.ids
+  pub rights : (r : IoRight) → Holds S x (Io r) → Taken S v r.ids
 
 -- the world x holds nothing for S beyond what S saw in v
 pub record Inside (S : ℕ → Bool) (v x : World) : Type 0 where
@@ -83,10 +119,14 @@ pub record Inside (S : ℕ → Bool) (v x : World) : Type 0 where
   -- S held uid 0, and so could do all, or has no more ids
   pub power : HasUid S v 0 ⊎ TakesLess S v x
   pub held : (r : Right) → Holds S x r → RightInside S v r
-  pub reads : (r : Right) (o : Opened) → Holds S x r → open_at x r.open_name ≡ Some o → asks o.modes READ ≡ true → (h : Header) → header_at v r.node ≡ Some h → SeesBody S v r.node h
+  pub reads : (r : IoRight) (o : Opened) → Holds S x (Io r) → open_at x r.open_name ≡ Some o → asks o.modes READ ≡ true → (h : Header) → header_at v r.node ≡ Some h → SeesBody S v r.node h
   pub headers : (n : Name) (h : Header) → header_at x n ≡ Some h → HeaderInside S v n h
   pub entries : (d n : Name) (name : List ℕ) → entry_of name (body_at x d) ≡ Some n → (entry_of name (body_at v d) ≡ Some n) ⊎ SeenOrNew S v n
   pub homes : (n s : Name) → home_at x n ≡ Some s → (home_at v n ≡ Some s) ⊎ Sees S v (OptionsOf s)
+
+held_inside : (S : ℕ → Bool) (v : World) (r : Right) → Holds S v r → RightInside S v r
+held_inside S v (Io r) h = record { nodes = λ n i. inl (named_seen S v r h n i); opened = inl (r, h, refl) }
+held_inside S v (Control s) h = inl h
 
 pub Inside-refl : (S : ℕ → Bool) (v : World) → Inside S v v
 Inside-refl S v = record {
@@ -96,7 +136,7 @@ Inside-refl S v = record {
     tasks = λ q y ours e. record { uids = λ u h. UidOfTask q ours y e h; gids = λ g h. GidOfTask q ours y e h };
     rights = λ r h. record { uids = λ u k. UidOfRight r h k; gids = λ g k. GidOfRight r h k };
   });
-  held = λ r h. record { node = inl (Held r h refl); opened = inl (r, h, refl) };
+  held = held_inside S v;
   reads = λ r o h e modes k is. IsOpen r h refl o e modes;
   headers = λ n h e. inl (h, e, Less-refl S v n h);
   entries = λ d n name e. inl e;
@@ -142,21 +182,37 @@ module _ {S : ℕ → Bool} {v x : World} (coherent : Coherent v) (i : Inside S 
 
   server_inside : (n s : Name) → SeenOrNew S v n → (home_at v n ≡ Some s) ⊎ Sees S v (OptionsOf s) → Sees S v (OptionsOf s)
   server_inside n s ok (inr sees) = sees
-  server_inside n s (inl sn) (inl e) = (n, sn, e)
+  server_inside n s (inl sn) (inl e) = OfNode n sn e
   server_inside n s (inr new) (inl e) = absurd (new.1 (home_old coherent n s e))
 
   server_back : (s : Name) (info : ServerInfo) → server_at x s ≡ Some info → server_at v s ≡ Some info
   server_back s info e = sym (ap (λ m. get m s) i.servers) ∙ e
 
+  -- the root of a server that S knows and could serve
+  known_root : (s : Name) (info : ServerInfo) → server_at v s ≡ Some info → CouldServe S v info → Knows S v s → Seen S v info.root
+  known_root s info is could (OfNode n sn en) = ServerRoot n s info sn en is could refl
+  known_root s info is could (OfControl h) = Controlled s info h is refl
+
+  -- S could send it away
+  known_sends : (s : Name) (info : ServerInfo) → CouldServe S v info → Knows S v s → Sends S v s info
+  known_sends s info could (OfNode n sn en) = ByNode n sn en could
+  known_sends s info could (OfControl h) = ByControl h
+
   -- what is seen was seen, or is new
   pub seen_inside : (n : Name) → Seen S x n → SeenOrNew S v n
   seen_inside n (Root e) = inl (Root e)
-  seen_inside n (Held r h e) = subst (SeenOrNew S v) (sym e) (i.held r h).node
+  seen_inside n (Held r h e) = subst (SeenOrNew S v) (sym e) ((i.held (Io r) h).nodes r.node (inl refl))
+  seen_inside n (Way r p h a e) =
+      let known = (i.held (Io r) h).nodes in
+      elim e [ inl at ↦ subst (SeenOrNew S v) (sym at) (known p.at (inr (way_at p r.parents a))) | inr up ↦ subst (SeenOrNew S v) (sym up) (known p.parent (inr (way_parent p r.parents a))) ]
+  seen_inside n (Controlled s info h es e) =
+      let is : server_at v s ≡ Some info = server_back s info es in
+      inl (subst (Seen S v) (sym e) (sends_root S v s info is (commands_send S v s info is (i.held (Control s) h))))
   seen_inside n (Child d h name s eh k c en) = child_inside d n h name eh k c (seen_inside d s) (i.entries d n name en)
   seen_inside n (Parent d h s eh ep) = parent_inside d n h eh ep (seen_inside d s) (i.headers d h eh)
   seen_inside n (ServerRoot m s info sm em es c e) =
-      let seat = server_inside m s (seen_inside m sm) (i.homes m s em) in
-      inl (ServerRoot seat.0 s info seat.1 seat.2 (server_back s info es) (serve_back info c) e)
+      let is : server_at v s ≡ Some info = server_back s info es in
+      inl (subst (Seen S v) (sym e) (known_root s info is (serve_back info c) (server_inside m s (seen_inside m sm) (i.homes m s em))))
 
   body_inside : (n : Name) (h before : Header) → header_at v n ≡ Some before → Less S v n h before → SeesBody S x n h → SeesBody S v n before
   body_inside n h before is less (ToRead c) = ToRead (less.could Read (could_back h Read c))
@@ -171,6 +227,14 @@ module _ {S : ℕ → Bool} {v x : World} (coherent : Coherent v) (i : Inside S 
     | inr new ↦ inr new.1
   ]
 
+  knows_inside : (q : Name) → Knows S x q → Knows S v q
+  knows_inside q (OfNode n sn en) = server_inside n q (seen_inside n sn) (i.homes n q en)
+  knows_inside q (OfControl h) = commands_known S v q (i.held (Control q) h)
+
+  sends_inside : (q : Name) (info : ServerInfo) → server_at v q ≡ Some info → Sends S x q info → Sends S v q info
+  sends_inside q info is (ByControl h) = commands_send S v q info is (i.held (Control q) h)
+  sends_inside q info is (ByNode n sn en could) = known_sends q info (serve_back info could) (server_inside n q (seen_inside n sn) (i.homes n q en))
+
   -- a part that is seen was seen, or is new
   pub sees_inside : (p : Part) → Sees S x p → Known S v p
   sees_inside (AttrOf n) s = seen_inside n s
@@ -184,20 +248,12 @@ module _ {S : ℕ → Bool} {v x : World} (coherent : Coherent v) (i : Inside S 
     | inl sn ↦ let l = header_before n s.1 s.2 sn in inl (sn, l.0, l.1, body_inside n s.1 l.0 l.1 l.2 s.3)
     | inr new ↦ inr new
   ]
-  sees_inside (OpenOf o) s = elim (i.held s.0 s.1).opened [
+  sees_inside (OpenOf o) s = elim (i.held (Io s.0) s.1).opened [
     | inl q ↦ inl (q.0, q.1, q.2 ∙ s.2)
     | inr new ↦ inr (subst (NewTo S v) s.2 new)
   ]
-  sees_inside (OptionsOf q) s = inl (server_inside s.0 q (seen_inside s.0 s.1) (i.homes s.0 q s.2))
+  sees_inside (OptionsOf q) s = inl (knows_inside q s)
   sees_inside (UsersOf q) s =
-      let seat = server_inside s.node q (seen_inside s.node s.seen) (i.homes s.node q s.serves) in
-      inl (record {
-        info = s.info;
-        is_server = server_back q s.info s.is_server;
-        other = s.other;
-        node = seat.0;
-        seen = seat.1;
-        serves = seat.2;
-        could = serve_back s.info s.could;
-      })
+      let is : server_at v q ≡ Some s.info = server_back q s.info s.is_server in
+      inl (record { info = s.info; is_server = is; other = s.other; why = sends_inside q s.info is s.why })
   sees_inside (TaskOf t) s = inl s

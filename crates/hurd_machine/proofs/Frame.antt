@@ -5,7 +5,9 @@ use Rattle.std.specs.FinMap.{get, insert}
 use Rattle.hurd_creds.specs.declared.name.Name.{Name}
 use Rattle.hurd_creds.proofs.NameLaws.{same_name-apart, get_apart, edit_apart as edit_other}
 use Rattle.hurd_trans_iface.specs.Nodes.{with_header, with_body, is_empty_dir}
+use Rattle.hurd_ports.specs.declared.table.IoRight.{IoRight}
 use Rattle.hurd_ports.specs.declared.table.Right.{Right}
+use Rattle.hurd_ports.specs.declared.table.Right.TheVariants.{Io, Control}
 use Rattle.hurd_ports.specs.Tables.{Task, rights_of, names_open}
 use Rattle.hurd_ports.specs.Steps.{named, with_sent, edit_task}
 use Rattle.hurd_ports.proofs.TaskLaws.{edit-apart, edit-length}
@@ -26,7 +28,8 @@ pub record Moved (T : Part → Type 0) (w : World) (x z : Task) : Type 0 where
 
 -- what a right that comes or goes touches is among T
 abbrev pub Covers : (Part → Type 0) → World → Right → Type 0
-Covers T w r = T (OpenOf r.open_name) × ((s : Name) → home_at w r.node ≡ Some s → T (UsersOf s))
+Covers T w (Io r) = T (OpenOf r.open_name) × ((s : Name) → home_at w r.node ≡ Some s → T (UsersOf s))
+Covers T w (Control s) = Unit {0}
 
 -- a change that writes the parts T alone
 abbrev pub Within : (Part → Type 0) → World → Change → Type 0
@@ -71,10 +74,12 @@ not_home s None h = refl
 not_home s (Some q) h = same_name-apart s q (λ e. h (ap Some (sym e)))
 
 pub not_on : (w : World) (s : Name) (r : Right) (T : Part → Type 0) → Covers T w r → (T (UsersOf s) → ⊥) → is_on w s r ≡ false
-not_on w s r T i h = not_home s (home_at w r.node) (λ e. h (i.1 s e))
+not_on w s (Io r) T i h = not_home s (home_at w r.node) (λ e. h (i.1 s e))
+not_on w s (Control q) T i h = refl
 
 pub not_named : (w : World) (o : Name) (r : Right) (T : Part → Type 0) → Covers T w r → (T (OpenOf o) → ⊥) → names_open o r ≡ false
-not_named w o r T i h = same_name-apart r.open_name o (λ e. h (subst (λ z. T (OpenOf z)) e i.0))
+not_named w o (Io r) T i h = same_name-apart r.open_name o (λ e. h (subst (λ z. T (OpenOf z)) e i.0))
+not_named w o (Control q) T i h = refl
 
 -- where a task named a thing and a node got a server under a name that was not given, each server has as many users
 pub users_named : (w y : World) (c : Coherent w) (n : Name) (next : IsNext w n) (k : ℕ) (m s : Name) → (Below w m → ⊥) → y.homes ≡ insert w.homes m s → y.tasks ≡ edit_task n.task.0 (named k) w.tasks → (q : Name) → users y q ≡ users w q
@@ -84,7 +89,8 @@ users_named w y c n next k m s new homes tasks q =
     ∙ count_named (is_on w q) n.task.0 k w.tasks next.seat next.is_task
   where
     same : (t : ℕ) (x : Task) (r : Right) → slice_get (edit_task n.task.0 (named k) w.tasks) t ≡ Some x → IsAmong r (rights_of x) → is_on y q r ≡ is_on w q r
-    same t x r at i = ap (is_home q) (ap (λ h. get h r.node) homes ∙ get_apart w.homes m s r.node (unnoded w c n next k m new t x r at i))
+    same t x (Io r) at i = ap (is_home q) (ap (λ h. get h r.node) homes ∙ get_apart w.homes m s r.node (unnoded w c n next k m new t x r at i))
+    same t x (Control p) at i = refl
 
 module _ (w : World) (coherent : Coherent w) (T : Part → Type 0) where
   avoids : (p q : Part) → T q → (T p → ⊥) → p ≢ q

@@ -5,9 +5,12 @@ use Rattle.std.proofs.lemmas.Bool.Decides.{nat_tests}
 use Rattle.std.specs.List.{list_any}
 use Rattle.hurd_creds.specs.declared.name.Name.{Name}
 use Rattle.hurd_creds.proofs.NameLaws.{same_name-itself}
+use Rattle.hurd_creds.specs.Names.{same_name}
 use Rattle.hurd_ports.specs.declared.table.Opened.{Opened}
+use Rattle.hurd_ports.specs.declared.table.IoRight.{IoRight}
 use Rattle.hurd_ports.specs.declared.table.Right.{Right}
-use Rattle.hurd_ports.specs.Tables.{Task, rights_of, names_open, names_node, is_held, is_named}
+use Rattle.hurd_ports.specs.declared.table.Right.TheVariants.{Io, Control}
+use Rattle.hurd_ports.specs.Tables.{Task, rights_of, names_open, names_node, nodes_of, is_held, is_named}
 use Rattle.hurd_ports.specs.Steps.{edit_task}
 use Rattle.hurd_ports.proofs.HeldLaws.{any-at}
 use Rattle.hurd_machine.specs.World.{World, IsAmong, open_at}
@@ -100,15 +103,16 @@ pub named_still : (q : ℕ) (f : Task → Task) (ts : List Task) (n : Name) → 
 unfolding is_named
 named_still q f ts n keeps h = any_still q f ts (names_node n) keeps h
 
--- the open and the node of a right are held
+-- the open of a right is held, and each node that it names is named
 
-pub held_by_right : (ts : List Task) (t : ℕ) (x : Task) (r : Right) → slice_get ts t ≡ Some x → IsAmong r (rights_of x) → is_held ts r.open_name ≡ true
+pub held_by_right : (ts : List Task) (t : ℕ) (x : Task) (r : IoRight) → slice_get ts t ≡ Some x → IsAmong (Io r) (rights_of x) → is_held ts r.open_name ≡ true
 unfolding is_held
-held_by_right ts t x r at i = is_any (names_open r.open_name) ts (record { task = t; seat = x; is_task = at; right = r; here = i; passes = same_name-itself r.open_name })
+held_by_right ts t x r at i = is_any (names_open r.open_name) ts (record { task = t; seat = x; is_task = at; right = Io r; here = i; passes = same_name-itself r.open_name })
 
-pub named_by_right : (ts : List Task) (t : ℕ) (x : Task) (r : Right) → slice_get ts t ≡ Some x → IsAmong r (rights_of x) → is_named ts r.node ≡ true
+pub named_by_right : (ts : List Task) (t : ℕ) (x : Task) (r : Right) (n : Name) → slice_get ts t ≡ Some x → IsAmong r (rights_of x) → IsAmong n (nodes_of r) → is_named ts n ≡ true
 unfolding is_named
-named_by_right ts t x r at i = is_any (names_node r.node) ts (record { task = t; seat = x; is_task = at; right = r; here = i; passes = same_name-itself r.node })
+named_by_right ts t x r n at i named =
+    is_any (names_node n) ts (record { task = t; seat = x; is_task = at; right = r; here = i; passes = any_among (λ m. same_name m n) n (nodes_of r) named (same_name-itself n) })
 
 -- opens that are left are those that are held
 

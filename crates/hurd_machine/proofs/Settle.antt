@@ -11,18 +11,21 @@ use Rattle.hurd_trans_iface.specs.Nodes.{NodeMap, Node, Header, Body, with_heade
 use Rattle.hurd_nodes.specs.Shown.{ServerInfo, info_in}
 use Rattle.hurd_nodes.specs.Settle.{is_entered, is_entered_at}
 use Rattle.hurd_ports.specs.declared.table.Opened.{Opened}
+use Rattle.hurd_ports.specs.declared.table.IoRight.{IoRight}
 use Rattle.hurd_ports.specs.declared.table.Right.{Right}
-use Rattle.hurd_ports.specs.Tables.{Task, rights_of, is_held, is_named, IsSettled, fresh}
+use Rattle.hurd_ports.specs.declared.table.Right.TheVariants.{Io, Control}
+use Rattle.hurd_ports.specs.declared.parents.Parent.{Parent as Pair}
+use Rattle.hurd_ports.specs.Tables.{Task, rights_of, nodes_of as nodes_named, ways_of, is_held, is_named, IsSettled, fresh}
 use Rattle.hurd_ports.specs.Steps.{named, with_port, with_sent, new_open, new_right, edit_task}
 use Rattle.hurd_machine.specs.World.{World, IsAmong, nodes_of, ports_of, task_at, open_at, header_at, body_at, home_at, server_at, info_at, lists_at}
-use Rattle.hurd_machine.specs.Sight.{Seen, Root, Held, Child, Parent, ServerRoot}
+use Rattle.hurd_machine.specs.Sight.{Holds, Seen, Root, Held, Way, Controlled, Child, Parent, ServerRoot}
 use Rattle.hurd_machine.specs.Sight.{Part, AttrOf, EmptyOf, BodyOf, OpenOf, OptionsOf, UsersOf, TaskOf, Sees, part, IsGone, is_home, is_on, holders, users, AnAttr, AnEmpty, ABody, AnOpen, AUsers}
 use Rattle.hurd_machine.specs.Change.{Change, EditHeader, EditBody, MakeNode, EditOpen, MakeOpen, EditTask, Send, Settle, stays, settle, apply, apply_all, opening}
 use Rattle.hurd_machine.specs.Sound.{Coherent, Linked, AtRest}
 use Rattle.hurd_machine.proofs.Nodes.{header_in, body_in, empty_in, no_header, no_body, no_emptiness, edit_keeps, edited_from}
 use Rattle.hurd_machine.proofs.Tasks.{count_alike, sent_keeps, edit_here as task_here}
 use Rattle.hurd_machine.proofs.Holders.{held_counted, held_stays, none_stays, left_over, held_by_right, KeepsRights, held_still, named_still}
-use Rattle.hurd_machine.proofs.Stays.{kept_more, stays_entered, stays_named, node_still, home_still, info_still, node_gone, home_gone, node_left, none_left, no_home_left}
+use Rattle.hurd_machine.proofs.Stays.{way_at, way_parent, kept_more, stays_entered, stays_named, node_still, home_still, info_still, node_gone, home_gone, node_left, none_left, no_home_left}
 use Rattle.hurd_machine.proofs.Coherence.{apply_all-append, was, entry_lists, root_stays, boot_stays, header_info, entry_stays, leads_stays, entry_homed}
 use Rattle.hurd_machine.proofs.Rights.{port_keeps, port_has}
 use Rattle.hurd_machine.proofs.Views.{Agree}
@@ -40,9 +43,9 @@ settle_settled w = record {
 
 -- the node of a right stays, so servers have as many users
 users_still : (w : World) → Coherent w → (s : Name) → users (settle w) s ≡ users w s
-users_still w c s = count_alike (is_on (settle w) s) (is_on w s) w.tasks (λ t x r at i. ap (is_home s) (homed t x r at i))
+users_still w c s = count_alike (is_on (settle w) s) (is_on w s) w.tasks on
   where
-    homed : (t : ℕ) (x : Task) (r : Right) → task_at w t ≡ Some x → IsAmong r (rights_of x) → home_at (settle w) r.node ≡ home_at w r.node
+    homed : (t : ℕ) (x : Task) (r : IoRight) → task_at w t ≡ Some x → IsAmong (Io r) (rights_of x) → home_at (settle w) r.node ≡ home_at w r.node
     homed t x r at i = go (home_at w r.node) refl
       where
         go : (o : Option Name) → home_at w r.node ≡ o → home_at (settle w) r.node ≡ home_at w r.node
@@ -50,7 +53,11 @@ users_still w c s = count_alike (is_on (settle w) s) (is_on w s) w.tasks (λ t x
         go (Some s) e =
             let h = c.housing.housed r.node s e in
             let info = header_info w c r.node h.0 h.1 in
-            home_still w r.node (stays_named w t x r info.0 at i info.1)
+            home_still w r.node (stays_named w t x (Io r) r.node info.0 at i (inl refl) info.1)
+
+    on : (t : ℕ) (x : Task) (r : Right) → task_at w t ≡ Some x → IsAmong r (rights_of x) → is_on (settle w) s r ≡ is_on w s r
+    on t x (Io r) at i = ap (is_home s) (homed t x r at i)
+    on t x (Control q) at i = refl
 
 -- what S holds is held, what it sees stays
 pub settle_agrees : (S : ℕ → Bool) (w : World) → Coherent w → Linked (nodes_of w) → Agree S w (settle w)
@@ -66,23 +73,28 @@ settle_agrees S w c l = record { tasks = refl; parts = same }
     still : (n : Name) → stays w n ≡ true → (get (settle w).nodes n ≡ get w.nodes n) × (home_at (settle w) n ≡ home_at w n)
     still n h = (node_still w n h, home_still w n h)
 
-    right_still : (t : ℕ) (x : Task) (r : Right) → task_at w t ≡ Some x → IsAmong r (rights_of x) → (get (settle w).nodes r.node ≡ get w.nodes r.node) × (home_at (settle w) r.node ≡ home_at w r.node)
-    right_still t x r at i = go (get w.nodes r.node) refl
+    still_named : (t : ℕ) (x : Task) (r : Right) (n : Name) → task_at w t ≡ Some x → IsAmong r (rights_of x) → IsAmong n (nodes_named r) → (get (settle w).nodes n ≡ get w.nodes n) × (home_at (settle w) n ≡ home_at w n)
+    still_named t x r n at i named = go (get w.nodes n) refl
       where
-        go : (o : Option Node) → get w.nodes r.node ≡ o → (get (settle w).nodes r.node ≡ get w.nodes r.node) × (home_at (settle w) r.node ≡ home_at w r.node)
-        go (Some y) k = let info = header_info w c r.node y.header (ap header_in k) in still r.node (stays_named w t x r info.0 at i info.1)
-        go None k = (none_left w r.node k ∙ sym k, no_home_left w r.node none ∙ sym none)
+        go : (o : Option Node) → get w.nodes n ≡ o → (get (settle w).nodes n ≡ get w.nodes n) × (home_at (settle w) n ≡ home_at w n)
+        go (Some y) k = let info = header_info w c n y.header (ap header_in k) in still n (stays_named w t x r n info.0 at i named info.1)
+        go None k = (none_left w n k ∙ sym k, no_home_left w n none ∙ sym none)
           where
-            no_server : (o : Option Name) → home_at w r.node ≡ o → o ≡ None
+            no_server : (o : Option Name) → home_at w n ≡ o → o ≡ None
             no_server None e = refl
-            no_server (Some s) e = let h = c.housing.housed r.node s e in let gone : header_at w r.node ≡ None = ap header_in k in absurd (cc (h.1))
+            no_server (Some s) e = let h = c.housing.housed n s e in let gone : header_at w n ≡ None = ap header_in k in absurd (cc (h.1))
 
-            none : home_at w r.node ≡ None
-            none = no_server (home_at w r.node) refl
+            none : home_at w n ≡ None
+            none = no_server (home_at w n) refl
+
+    right_still : (r : IoRight) (n m : Name) → Holds S w (Io r) → n ≡ m → IsAmong m (nodes_named (Io r)) → (get (settle w).nodes n ≡ get w.nodes n) × (home_at (settle w) n ≡ home_at w n)
+    right_still r n m h e named = subst (λ z. (get (settle w).nodes z ≡ get w.nodes z) × (home_at (settle w) z ≡ home_at w z)) (sym e) (still_named h.task h.seat (Io r) m h.is_task h.here named)
 
     node : (n : Name) → Seen S w n → (get (settle w).nodes n ≡ get w.nodes n) × (home_at (settle w) n ≡ home_at w n)
     node n (Root e) = still n (subst (λ z. stays w z ≡ true) (sym e) (boot_stays w c))
-    node n (Held r h e) = subst (λ z. (get (settle w).nodes z ≡ get w.nodes z) × (home_at (settle w) z ≡ home_at w z)) (sym e) (right_still h.task h.seat r h.is_task h.here)
+    node n (Held r h e) = right_still r n r.node h e (inl refl)
+    node n (Way r p h i e) = elim e [ inl at ↦ right_still r n p.at h at (inr (way_at p r.parents i)) | inr up ↦ right_still r n p.parent h up (inr (way_parent p r.parents i)) ]
+    node n (Controlled s i h es e) = still n (subst (λ z. stays w z ≡ true) (sym e) (root_stays w c s i es))
     node n (Child d h name s eh k could en) = child_still d n (entry_lists name (body_at w d) n en)
     node n (Parent d h s eh ep) = still n (leads_stays w c l n (l.rooted n d ((l.nodes d h eh).up n ep).1))
     node n (ServerRoot m s i sm em es could e) = still n (subst (λ z. stays w z ≡ true) (sym e) (root_stays w c s i es))
@@ -247,25 +259,29 @@ pub rests_settle : (cs : List Change) (w : World) → Rests w (cs ++ Settle ∷ 
 rests_settle cs w rest = subst AtRest (sym (apply_all-append cs (Settle ∷ []) w)) (settle_settled (apply_all cs w))
 
 -- a new open, which the new right holds
-module _ (w : World) (t : ℕ) (x : Task) (is : task_at w t ≡ Some x) (n : Name) (ids : IdSets) (modes : OpenFlags) where
+module _ (w : World) (t : ℕ) (x : Task) (is : task_at w t ≡ Some x) (n : Name) (ids : IdSets) (parents : List Pair) (modes : OpenFlags) where
   abbrev new_table : Task
-  new_table = with_port (new_right t n ids x) (named 1 x)
+  new_table = with_port (new_right t n ids parents x) (named 1 x)
 
   abbrev new_tasks : List Task
-  new_tasks = edit_task t (with_port (new_right t n ids x)) (edit_task t (named 1) w.tasks)
+  new_tasks = edit_task t (with_port (new_right t n ids parents x)) (edit_task t (named 1) w.tasks)
+
+  -- what the new right is
+  abbrev new_io : IoRight
+  new_io = record { node = n; ids = ids; open_name = fresh t x; parents = parents }
 
   new_seat : slice_get new_tasks t ≡ Some new_table
-  new_seat = task_here t (with_port (new_right t n ids x)) (edit_task t (named 1) w.tasks) (named 1 x) (task_here t (named 1) w.tasks x is)
+  new_seat = task_here t (with_port (new_right t n ids parents x)) (edit_task t (named 1) w.tasks) (named 1 x) (task_here t (named 1) w.tasks x is)
 
   new_held : is_held new_tasks (fresh t x) ≡ true
-  new_held = held_by_right new_tasks t new_table (new_right t n ids x) new_seat (port_has (new_right t n ids x) (named 1 x))
+  new_held = held_by_right new_tasks t new_table new_io new_seat (port_has (new_right t n ids parents x) (named 1 x))
 
   old_held : (o : Name) → is_held w.tasks o ≡ true → is_held new_tasks o ≡ true
-  old_held o h = held_still t (with_port (new_right t n ids x)) (edit_task t (named 1) w.tasks) o (port_keeps (new_right t n ids x)) (held_still t (named 1) w.tasks o (λ y q k. k) h)
+  old_held o h = held_still t (with_port (new_right t n ids parents x)) (edit_task t (named 1) w.tasks) o (port_keeps (new_right t n ids parents x)) (held_still t (named 1) w.tasks o (λ y q k. k) h)
 
-  pub rests_opening : Rests w (opening t x n ids modes)
+  pub rests_opening : Rests w (opening t x n ids parents modes)
   rests_opening rest = record {
-    nodes = nodes_rest (EditTask t (with_port (new_right t n ids x))) (apply (MakeOpen (fresh t x) (new_open modes)) w) (port_keeps (new_right t n ids x))
+    nodes = nodes_rest (EditTask t (with_port (new_right t n ids parents x))) (apply (MakeOpen (fresh t x) (new_open modes)) w) (port_keeps (new_right t n ids parents x))
         (nodes_rest (MakeOpen (fresh t x) (new_open modes)) w tt rest.nodes);
     opens = λ o z e. elim (was w.opens (fresh t x) o (new_open modes) z e) [
       | inl new ↦ subst (λ k. is_held new_tasks k ≡ true) (sym new.0) new_held

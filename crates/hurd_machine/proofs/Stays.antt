@@ -1,5 +1,5 @@
 -- Which nodes stay, and what is read of them once a world is settled.
-use Rattle.std.proofs.Common.{◌≡◌, ◌⊎◌, ℕ, Bool, true, false, Option, Some, None, sym, refl, ◌∙◌, ap, inl, inr}
+use Rattle.std.proofs.Common.{◌≡◌, ◌⊎◌, ℕ, Bool, true, false, List, [], ◌∷◌, Option, Some, None, sym, refl, ◌∙◌, ap, inl, inr}
 use Rattle.std.proofs.lemmas.Bool.{or_cases, or_left, or_right}
 use Rattle.std.specs.FinMap.{get}
 use Rattle.hurd_creds.specs.declared.name.Name.{Name}
@@ -9,8 +9,9 @@ use Rattle.hurd_trans_iface.specs.Nodes.{Node, Header}
 use Rattle.hurd_nodes.specs.Shown.{NodeState, ServerInfo, is_root, is_root_at, is_root_of, info_in, server_of}
 use Rattle.hurd_nodes.specs.Settle.{is_entered, is_entered_at, stays_with}
 use Rattle.hurd_nodes.specs.Settle as kept
+use Rattle.hurd_ports.specs.declared.parents.Parent.{Parent as Pair}
 use Rattle.hurd_ports.specs.declared.table.Right.{Right}
-use Rattle.hurd_ports.specs.Tables.{Task, rights_of, is_named}
+use Rattle.hurd_ports.specs.Tables.{Task, rights_of, nodes_of as nodes_named, ways_of, is_named}
 use Rattle.hurd_machine.specs.World.{World, IsAmong, nodes_of, task_at, header_at, body_at, home_at, server_at, info_at, is_server_root, lists_at}
 use Rattle.hurd_machine.specs.Change.{stays, settle}
 use Rattle.hurd_machine.proofs.Nodes.{header_in, body_in, node_of_header}
@@ -75,12 +76,30 @@ root_why h n = by_home (get h.homes n) refl
 pub stays_as_root : (w : World) (n : Name) → is_server_root w n ≡ true → stays w n ≡ true
 stays_as_root w n is = let r = root_why (nodes_of w) n is in kept_by (is_named w.tasks) (nodes_of w) n (record { info = r.0; is_info = r.1; why = inl r.2 })
 
--- what is entered, or has a right on it, and a server
+-- both nodes of a way are among those of its list
+pub way_at : (p : Pair) (ps : List Pair) → IsAmong p ps → IsAmong p.at (ways_of ps)
+way_at p [] i = absurd i
+way_at p (q ∷ ps) (inl e) = inl (ap (λ (z : Pair). z.at) e)
+way_at p (q ∷ ps) (inr i) = inr (inr (way_at p ps i))
+
+pub way_parent : (p : Pair) (ps : List Pair) → IsAmong p ps → IsAmong p.parent (ways_of ps)
+way_parent p [] i = absurd i
+way_parent p (q ∷ ps) (inl e) = inr (inl (ap (λ (z : Pair). z.parent) e))
+way_parent p (q ∷ ps) (inr i) = inr (inr (way_parent p ps i))
+
+-- and each of those is one of a way
+pub way_with : (n : Name) (ps : List Pair) → IsAmong n (ways_of ps) → (p : Pair) × IsAmong p ps × ((n ≡ p.at) ⊎ (n ≡ p.parent))
+way_with n [] i = absurd i
+way_with n (q ∷ ps) (inl e) = (q, inl refl, inl (sym e))
+way_with n (q ∷ ps) (inr (inl e)) = (q, inl refl, inr (sym e))
+way_with n (q ∷ ps) (inr (inr i)) = let p = way_with n ps i in (p.0, inr p.1, p.2)
+
+-- what is entered, or named by a right, and has a server
 pub stays_entered : (w : World) (n : Name) (i : ServerInfo) → info_at w n ≡ Some i → is_entered_at (get w.nodes n) ≡ true → stays w n ≡ true
 stays_entered w n i is e = kept_by (is_named w.tasks) (nodes_of w) n (record { info = i; is_info = is; why = inr (inl e) })
 
-pub stays_named : (w : World) (t : ℕ) (x : Task) (r : Right) (i : ServerInfo) → task_at w t ≡ Some x → IsAmong r (rights_of x) → info_at w r.node ≡ Some i → stays w r.node ≡ true
-stays_named w t x r i at h is = kept_by (is_named w.tasks) (nodes_of w) r.node (record { info = i; is_info = is; why = inr (inr (named_by_right w.tasks t x r at h)) })
+pub stays_named : (w : World) (t : ℕ) (x : Task) (r : Right) (n : Name) (i : ServerInfo) → task_at w t ≡ Some x → IsAmong r (rights_of x) → IsAmong n (nodes_named r) → info_at w n ≡ Some i → stays w n ≡ true
+stays_named w t x r n i at h named is = kept_by (is_named w.tasks) (nodes_of w) n (record { info = i; is_info = is; why = inr (inr (named_by_right w.tasks t x r n at h named)) })
 
 -- what is left
 

@@ -7,6 +7,7 @@ use Rattle.hurd_creds.specs.Access.{IdSets}
 use Rattle.hurd_creds.specs.NameMaps.{NameMap, edit}
 use Rattle.hurd_trans_iface.specs.Nodes.{NodeMap, Node, Header, Body, Edit, OnHeader, OnBody, AddNode, with_header, with_body}
 use Rattle.hurd_ports.specs.declared.table.Opened.{Opened}
+use Rattle.hurd_ports.specs.declared.parents.Parent.{Parent}
 use Rattle.hurd_ports.specs.declared.table.Right.{Right}
 use Rattle.hurd_nodes.specs.Settle as kept
 use Rattle.hurd_ports.specs.Tables.{Task, OpenMap, fresh, is_held, is_named}
@@ -50,7 +51,7 @@ next_tasks (EditTask q f) ts = edit_task q f ts
 next_tasks (Send r q) ts = edit_task q (with_sent r) ts
 next_tasks c ts = ts
 
--- a node stays while it is its server's root, an entry names it, or a right is on it
+-- a node stays while it is its server's root, an entry names it, or a right names it
 abbrev pub stays : World → Name → Bool
 stays w n = kept.stays (is_named w.tasks) (nodes_of w) n
 
@@ -84,8 +85,8 @@ changes_of (OnBody n g ∷ es) = EditBody n g ∷ changes_of es
 changes_of (AddNode n x ∷ es) = changes_of es
 
 -- task t, which stands as x, opens a node: a new open, and a port with it
-abbrev pub opening : ℕ → Task → Name → IdSets → OpenFlags → List Change
-opening t x n ids modes = MakeOpen (fresh t x) (new_open modes) ∷ EditTask t (with_port (new_right t n ids x)) ∷ []
+abbrev pub opening : ℕ → Task → Name → IdSets → List Parent → OpenFlags → List Change
+opening t x n ids parents modes = MakeOpen (fresh t x) (new_open modes) ∷ EditTask t (with_port (new_right t n ids parents x)) ∷ []
 
 -- task t gives up a port
 abbrev pub dropping : ℕ → ℕ → List Change

@@ -13,7 +13,10 @@ use Rattle.hurd_trans_iface.specs.Nodes.{Header, Body, attrs_with, is_empty_dir}
 use Rattle.hurd_trans_iface.specs.Answers.{entry_of}
 use Rattle.hurd_nodes.specs.Shown.{ServerInfo, boot_name}
 use Rattle.hurd_ports.specs.declared.table.Opened.{Opened}
+use Rattle.hurd_ports.specs.declared.parents.Parent.{Parent as Pair}
+use Rattle.hurd_ports.specs.declared.table.IoRight.{IoRight}
 use Rattle.hurd_ports.specs.declared.table.Right.{Right}
+use Rattle.hurd_ports.specs.declared.table.Right.TheVariants.{Io, Control}
 use Rattle.hurd_ports.specs.Tables.{Task, rights_of, names_open}
 use Rattle.hurd_machine.specs.World.{World, IsAmong, boot_root, task_at, open_at, header_at, body_at, home_at, server_at}
 
@@ -32,12 +35,12 @@ pub record Holds (S : ℕ → Bool) (w : World) (r : Right) : Type 0 where
 -- a task of S, or a right of one, holds the uid u
 pub data HasUid (S : ℕ → Bool) (w : World) (u : ℕ) : Type 0 where
   UidOfTask : (t : ℕ) → S t ≡ true → (x : Task) → task_at w t ≡ Some x → holds_uid x.ids u ≡ true → HasUid S w u
-  UidOfRight : (r : Right) → Holds S w r → holds_uid r.ids u ≡ true → HasUid S w u
+  UidOfRight : (r : IoRight) → Holds S w (Io r) → holds_uid r.ids u ≡ true → HasUid S w u
 
 -- a task of S, or a right of one, holds the gid g
 pub data HasGid (S : ℕ → Bool) (w : World) (g : ℕ) : Type 0 where
   GidOfTask : (t : ℕ) → S t ≡ true → (x : Task) → task_at w t ≡ Some x → holds_gid x.ids g ≡ true → HasGid S w g
-  GidOfRight : (r : Right) → Holds S w r → holds_gid r.ids g ≡ true → HasGid S w g
+  GidOfRight : (r : IoRight) → Holds S w (Io r) → holds_gid r.ids g ≡ true → HasGid S w g
 
 -- ids that S holds, all of them
 pub record Taken (S : ℕ → Bool) (w : World) (ids : IdSets) : Type 0 where
@@ -58,7 +61,11 @@ pub data Seen (S : ℕ → Bool) (w : World) : Name → Type 0 where
   -- the boot root
   Root : {n : Name} → n ≡ boot_root → Seen S w n
   -- the node of a right
-  Held : {n : Name} (r : Right) → Holds S w r → n ≡ r.node → Seen S w n
+  Held : {n : Name} (r : IoRight) → Holds S w (Io r) → n ≡ r.node → Seen S w n
+  -- both nodes of each way that a right came in by
+  Way : {n : Name} (r : IoRight) (p : Pair) → Holds S w (Io r) → IsAmong p r.parents → (n ≡ p.at) ⊎ (n ≡ p.parent) → Seen S w n
+  -- the root of a server that S controls
+  Controlled : {n : Name} (s : Name) (i : ServerInfo) → Holds S w (Control s) → server_at w s ≡ Some i → n ≡ i.root → Seen S w n
   -- what a seen directory has, where S could search it
   Child : {n : Name} (d : Name) (h : Header) (name : List ℕ) → Seen S w d → header_at w d ≡ Some h
       → h.kind ≡ Dir → Could S w h Exec
@@ -69,15 +76,22 @@ pub data Seen (S : ℕ → Bool) (w : World) : Name → Type 0 where
   ServerRoot : {n : Name} (m s : Name) (i : ServerInfo) → Seen S w m → home_at w m ≡ Some s → server_at w s ≡ Some i
       → CouldServe S w i → n ≡ i.root → Seen S w n
 
--- S may send a server away: not the boot server, and one whose node S sees and that it could serve
+-- why S may send a server away: it controls it, or it sees a node of it and could serve it
+pub data Sends (S : ℕ → Bool) (w : World) (s : Name) (i : ServerInfo) : Type 0 where
+  ByControl : Holds S w (Control s) → Sends S w s i
+  ByNode : (n : Name) → Seen S w n → home_at w n ≡ Some s → CouldServe S w i → Sends S w s i
+
+-- S may send a server away, which is not the boot server
 pub record MaySend (S : ℕ → Bool) (w : World) (s : Name) : Type 0 where
   pub info : ServerInfo
   pub is_server : server_at w s ≡ Some info
   pub other : s ≢ boot_name
-  pub node : Name
-  pub seen : Seen S w node
-  pub serves : home_at w node ≡ Some s
-  pub could : CouldServe S w info
+  pub why : Sends S w s info
+
+-- why S knows a server: it sees a node of it, or controls it
+pub data Knows (S : ℕ → Bool) (w : World) (s : Name) : Type 0 where
+  OfNode : (n : Name) → Seen S w n → home_at w n ≡ Some s → Knows S w s
+  OfControl : Holds S w (Control s) → Knows S w s
 
 -- the parts of a world
 pub data Part : Type 0 where
@@ -93,7 +107,7 @@ pub data Part : Type 0 where
 pub data SeesBody (S : ℕ → Bool) (w : World) (n : Name) (h : Header) : Type 0 where
   ToRead : Could S w h Read → SeesBody S w n h
   ToSearch : h.kind ≡ Dir → Could S w h Exec → SeesBody S w n h
-  IsOpen : (r : Right) → Holds S w r → n ≡ r.node → (o : Opened) → open_at w r.open_name ≡ Some o → asks o.modes READ ≡ true
+  IsOpen : (r : IoRight) → Holds S w (Io r) → n ≡ r.node → (o : Opened) → open_at w r.open_name ≡ Some o → asks o.modes READ ≡ true
       → SeesBody S w n h
 
 -- why S sees whether a directory is empty: it sees the entries, or could write the parent
@@ -106,8 +120,8 @@ abbrev pub Sees : (ℕ → Bool) → World → Part → Type 0
 Sees S w (AttrOf n) = Seen S w n
 Sees S w (EmptyOf n) = Seen S w n × (h : Header) × (header_at w n ≡ Some h) × (h.kind ≡ Dir) × SeesEmpty S w n h
 Sees S w (BodyOf n) = Seen S w n × (h : Header) × (header_at w n ≡ Some h) × SeesBody S w n h
-Sees S w (OpenOf o) = (r : Right) × Holds S w r × (r.open_name ≡ o)
-Sees S w (OptionsOf s) = (n : Name) × Seen S w n × (home_at w n ≡ Some s)
+Sees S w (OpenOf o) = (r : IoRight) × Holds S w (Io r) × (r.open_name ≡ o)
+Sees S w (OptionsOf s) = Knows S w s
 Sees S w (UsersOf s) = MaySend S w s
 Sees S w (TaskOf t) = S t ≡ true
 
@@ -133,7 +147,8 @@ is_home s (Some q) = same_name s q
 
 -- whether a right is on a node of the server
 abbrev pub is_on : World → Name → Right → Bool
-is_on w s r = is_home s (home_at w r.node)
+is_on w s (Io r) = is_home s (home_at w r.node)
+is_on w s (Control q) = false
 
 -- how many rights name the open
 abbrev pub holders : World → Name → ℕ

@@ -12,9 +12,11 @@ use Rattle.hurd_trans_iface.specs.Kinds.{behaviour_of}
 use Rattle.hurd_trans_iface.specs.Good.{IsSized}
 use Rattle.hurd_nodes.specs.Shown.{NodeState, ServerInfo, is_root, server_of, tree_by}
 use Rattle.hurd_ports.specs.declared.table.Opened.{Opened}
+use Rattle.hurd_ports.specs.declared.table.IoRight.{IoRight}
 use Rattle.hurd_ports.specs.declared.table.Right.{Right}
+use Rattle.hurd_ports.specs.declared.table.Right.TheVariants.{Io, Control}
 use Rattle.hurd_ports.specs.declared.table.Port.{Port}
-use Rattle.hurd_ports.specs.Tables.{Task, rights_of, IsSettled}
+use Rattle.hurd_ports.specs.Tables.{Task, rights_of, nodes_of as nodes_named, IsSettled}
 use Rattle.hurd_machine.specs.Change.{stays}
 use Rattle.hurd_machine.specs.World.{World, IsAmong, boot_root, nodes_of, ports_of, task_at, open_at, header_at, body_at, server_at, lists_at, is_of}
 use Rattle.hurd_machine.specs.Sight.{count_list}
@@ -33,12 +35,17 @@ abbrev pub HasDistinctNames : Body → Type 0
 HasDistinctNames (Content bs) = Unit {0}
 HasDistinctNames (Listing es) = AreDistinct es
 
+-- what a right names was given: its nodes and its open, or its server
+abbrev pub IsGivenRight : World → Right → Type 0
+IsGivenRight w (Io r) = ((n : Name) → IsAmong n (nodes_named (Io r)) → Below w n) × Below w r.open_name
+IsGivenRight w (Control s) = Below w s
+
 -- what stands in the world was made: nodes, opens, servers, and what rights, entries and parents name
 pub record AreGiven (w : World) : Type 0 where
   pub nodes : (n : Name) (x : Node) → get w.nodes n ≡ Some x → Below w n
   pub opens : (o : Name) (x : Opened) → open_at w o ≡ Some x → Below w o
   pub servers : (s : Name) (i : ServerInfo) → server_at w s ≡ Some i → Below w s
-  pub rights : (t : ℕ) (x : Task) (r : Right) → task_at w t ≡ Some x → IsAmong r (rights_of x) → Below w r.node × Below w r.open_name
+  pub rights : (t : ℕ) (x : Task) (r : Right) → task_at w t ≡ Some x → IsAmong r (rights_of x) → IsGivenRight w r
   pub entries : (d n : Name) → lists_at n (body_at w d) ≡ true → Below w n
   pub parents : (n p : Name) (h : Header) → header_at w n ≡ Some h → h.parent ≡ Some p → Below w p
 
@@ -72,12 +79,12 @@ pub record AreTables (w : World) : Type 0 where
   -- port numbers are below the next one
   pub numbers : (t : ℕ) (x : Task) (p : Port) → task_at w t ≡ Some x → IsAmong p x.ports → p.number < x.next
   -- the open of each right is there
-  pub opened : (t : ℕ) (x : Task) (r : Right) → task_at w t ≡ Some x → IsAmong r (rights_of x) → (o : Opened) × (open_at w r.open_name ≡ Some o)
+  pub opened : (t : ℕ) (x : Task) (r : IoRight) → task_at w t ≡ Some x → IsAmong (Io r) (rights_of x) → (o : Opened) × (open_at w r.open_name ≡ Some o)
   -- the rights of an open are on one node
-  pub shared : (t q : ℕ) (x y : Task) (r p : Right) → task_at w t ≡ Some x → IsAmong r (rights_of x)
-      → task_at w q ≡ Some y → IsAmong p (rights_of y) → r.open_name ≡ p.open_name → r.node ≡ p.node
+  pub shared : (t q : ℕ) (x y : Task) (r p : IoRight) → task_at w t ≡ Some x → IsAmong (Io r) (rights_of x)
+      → task_at w q ≡ Some y → IsAmong (Io p) (rights_of y) → r.open_name ≡ p.open_name → r.node ≡ p.node
   -- what is open to write is no directory
-  pub written : (t : ℕ) (x : Task) (r : Right) (o : Opened) (k : Header) → task_at w t ≡ Some x → IsAmong r (rights_of x)
+  pub written : (t : ℕ) (x : Task) (r : IoRight) (o : Opened) (k : Header) → task_at w t ≡ Some x → IsAmong (Io r) (rights_of x)
       → open_at w r.open_name ≡ Some o → asks o.modes WRITE ≡ true → header_at w r.node ≡ Some k → is_dir k.kind ≡ false
 
 -- what holds of every world, also between the changes of a call

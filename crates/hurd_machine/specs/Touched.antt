@@ -3,7 +3,9 @@ use Rattle.std.specs.Prelude.{◌≡◌, ◌⊎◌, Option, Some, None, Result, 
 use Rattle.hurd_creds.specs.declared.name.Name.{Name}
 use Rattle.hurd_creds.specs.declared.errno.Errno.{Errno}
 use Rattle.hurd_trans_iface.specs.Behaviour.{Did}
+use Rattle.hurd_ports.specs.declared.table.IoRight.{IoRight}
 use Rattle.hurd_ports.specs.declared.table.Right.{Right}
+use Rattle.hurd_ports.specs.declared.table.Right.TheVariants.{Io, Control}
 use Rattle.hurd_machine.specs.World.{World, home_at}
 use Rattle.hurd_machine.specs.Sight.{Part, AttrOf, BodyOf, OpenOf, UsersOf}
 
@@ -22,7 +24,8 @@ OnNode w n p = (s : Name) × (home_at w n ≡ Some s) × (p ≡ UsersOf s)
 
 -- a right that stands comes or goes: its open too
 abbrev pub OnRight : World → Right → Part → Type 0
-OnRight w r p = (p ≡ OpenOf r.open_name) ⊎ OnNode w r.node p
+OnRight w (Io r) p = (p ≡ OpenOf r.open_name) ⊎ OnNode w r.node p
+OnRight w (Control s) p = ⊥
 
 abbrev pub Changes : {X : Type 0} → Option X → Type 0
 Changes None = ⊥

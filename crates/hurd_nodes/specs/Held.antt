@@ -1,10 +1,10 @@
 -- What the core holds: which server serves each node, the servers as boxes, and the nodes that are named from outside.
-use Rattle.std.specs.Prelude.{Bool, List, [], ◌∷◌, if◌then◌else◌, Option, Some, None, ℕ, nat_lt, vec_len, vec_capacity, refl}
+use Rattle.std.specs.Prelude.{Bool, List, [], ◌∷◌, if◌then◌else◌, Option, Some, None, ℕ, ◌-◌, vec_len, vec_capacity, refl}
 use Rattle.std.specs.Option.{option_map}
 use Rattle.std.specs.Global.{Vec}
 use Rattle.std.specs.List.{list_any}
 use Rattle.std.specs.FinMap as fin
-use Rattle.std.specs.Coded.{Coded, code_by, coded×, coded_list, coded_bool}
+use Rattle.std.specs.Coded.{Coded, code_by, coded×, coded_list, coded_ℕ}
 use Rattle.hurd_creds.specs.declared.name.Name.{Name}
 use Rattle.hurd_creds.specs.Access.{IdSets, coded_ids}
 use Rattle.hurd_creds.specs.Names.{coded_name, same_name}
@@ -18,13 +18,13 @@ pub record Seated (S : Type 0) : Type 0 where
   pub root : Name
   pub ids : IdSets
 
--- of each node its server; the servers; a node's name once for each time that it is named from outside; and whether
--- there is room in memory for one such naming more
+-- of each node its server; the servers; a node's name once for each time that it is named from outside; and for how many
+-- such namings more there is room in memory
 pub record Held (S : Type 0) : Type 0 where
   pub homes : NameMap Name
   pub seats : NameMap (Seated S)
   pub holds : List Name
-  pub ready : Bool
+  pub spare : ℕ
 
 abbrev pub coded_seated : {S : Type 0} → Coded S → Coded (Seated S)
 coded_seated {S} c =
@@ -33,9 +33,9 @@ coded_seated {S} c =
 
 abbrev pub coded_held : {S : Type 0} → Coded S → Coded (Held S)
 coded_held {S} c =
-    code_by (NameMap Name × (NameMap (Seated S) × (List Name × Bool)))
-    (coded× (fin.code coded_name coded_name) (coded× (fin.code coded_name (coded_seated c)) (coded× (coded_list coded_name) coded_bool)))
-    (λ h. (h.homes, (h.seats, (h.holds, h.ready)))) (λ p. record { homes = p.0; seats = p.1.0; holds = p.1.1.0; ready = p.1.1.1 }) (λ _. refl)
+    code_by (NameMap Name × (NameMap (Seated S) × (List Name × ℕ)))
+    (coded× (fin.code coded_name coded_name) (coded× (fin.code coded_name (coded_seated c)) (coded× (coded_list coded_name) coded_ℕ)))
+    (λ h. (h.homes, (h.seats, (h.holds, h.spare)))) (λ p. record { homes = p.0; seats = p.1.0; holds = p.1.1.0; spare = p.1.1.1 }) (λ _. refl)
 
 -- the lists of the code as maps
 
@@ -57,12 +57,12 @@ seat_value s = record { server = s.server; root = s.root; ids = s.ids }
 unfoldable pub seats_of : {S : Type 0} → List (Seat S) → NameMap (Seated S)
 seats_of ss = keyed seat_key seat_value ss
 
--- whether a vector has room for one item more
-abbrev pub has_room : Vec Name → Bool
-has_room v = nat_lt (vec_len v) (vec_capacity v)
+-- for how many items more a vector has room
+abbrev pub spare_of : Vec Name → ℕ
+spare_of v = vec_capacity v - vec_len v
 
-abbrev pub held_of : {S : Type 0} → List Home → List (Seat S) → List Name → Bool → Held S
-held_of homes seats holds ready = record { homes = homes_of homes; seats = seats_of seats; holds = holds; ready = ready }
+abbrev pub held_of : {S : Type 0} → List Home → List (Seat S) → List Name → ℕ → Held S
+held_of homes seats holds spare = record { homes = homes_of homes; seats = seats_of seats; holds = holds; spare = spare }
 
 -- each box as what it means
 
@@ -111,8 +111,8 @@ without_home h n = record h { homes = fin.remove h.homes n }
 
 -- namings from outside
 
-abbrev pub with_holds : {S : Type 0} → Held S → List Name → Bool → Held S
-with_holds h holds ready = record h { holds = holds; ready = ready }
+abbrev pub with_holds : {S : Type 0} → Held S → List Name → ℕ → Held S
+with_holds h holds spare = record h { holds = holds; spare = spare }
 
 -- whether a node is named from outside
 abbrev pub is_held : List Name → Name → Bool
@@ -123,6 +123,6 @@ abbrev pub less_one : Name → List Name → List Name
 less_one n [] = []
 less_one n (m ∷ ms) = if same_name n m then ms else m ∷ less_one n ms
 
--- the namings, and whether there is room for one more
-abbrev pub holds_of : {S : Type 0} → Held S → List Name × Bool
-holds_of h = (h.holds, h.ready)
+-- the namings, and for how many more there is room
+abbrev pub holds_of : {S : Type 0} → Held S → List Name × ℕ
+holds_of h = (h.holds, h.spare)

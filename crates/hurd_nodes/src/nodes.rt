@@ -1,5 +1,5 @@
 //! Nodes and their servers.
-ghost use Rattle.std.specs.Prelude.{◌≡◌, true, false, not, is_some, [], ◌∷◌, ◌++◌, replicate, Option, None, option_copied, IfOk, IfErr, IfSome, OnOk, OnErr};
+ghost use Rattle.std.specs.Prelude.{◌≡◌, ◌≤◌, ◌<◌, ◌-◌, true, false, not, is_some, [], ◌∷◌, ◌++◌, replicate, Option, None, option_copied, IfOk, IfErr, IfSome, OnOk, OnErr};
 ghost use Rattle.std.specs.Option.{option_map};
 ghost use Rattle.std.specs.List.{list_any};
 ghost use Rattle.std.specs.FinMap as fin;
@@ -39,13 +39,13 @@ pub struct Nodes<S = Box<dyn Server>> {
 }
 
 impl<S> Model for Nodes<S> {
-    ghost use Rattle.hurd_nodes.specs.Held.{Held, coded_held, held_of, has_room};
+    ghost use Rattle.hurd_nodes.specs.Held.{Held, coded_held, held_of, spare_of};
 
     ghost Value = { Held S };
 
     ghost coded = { coded_held S.code };
 
-    ghost view = { λ n. held_of n.homes.items n.seats.items n.holds.items (has_room n.holds) };
+    ghost view = { λ n. held_of n.homes.items n.seats.items n.holds.items (spare_of n.holds) };
 }
 
 impl<S: Server> Nodes<S> {
@@ -444,30 +444,27 @@ impl<S: Server> Nodes<S> {
         }
     }
 
-    /// Takes room in memory for one more hold. `ENOMEM`: nothing is changed.
-    pub fn reserve_hold(&mut self) -> Result<(), AllocError>
-        ensures ok { OnOk result (self.new ≡ with_holds self.old self.old.holds true) }
+    /// Takes room in memory for so many more holds. `ENOMEM`: nothing is changed.
+    pub fn reserve_holds(&mut self, count: usize) -> Result<(), AllocError>
+        ensures ok { OnOk result ((self.new ≡ with_holds self.old self.old.holds self.new.spare) × (count ≤ self.new.spare)) }
         ensures err { OnErr result (self.new ≡ self.old) }
     {
-        self.holds.reserve(1)
+        self.holds.reserve(count)
     }
 
     /// A node is named from outside once more. There is room for that. Takes no memory.
     pub fn hold(&mut self, node: NodeName)
-        requires { self.old.ready ≡ true }
-        ensures { self.new ≡ with_holds self.old (self.old.holds ++ node ∷ []) self.new.ready }
+        requires { 0 < self.old.spare }
+        ensures { self.new ≡ with_holds self.old (self.old.holds ++ node ∷ []) (self.old.spare - 1) }
     {
         self.holds.push_reserved(node);
     }
 
-    /// A node is named from outside once less; what nothing keeps any more goes. Takes no memory.
+    /// A node is named from outside once less. What nothing keeps any more then goes by `settle`. Takes no memory.
     pub fn release(&mut self, node: NodeName)
-        ensures shown { shown S.meaning self.new ≡ settle (is_held (less_one node self.old.holds)) (shown S.meaning self.old) }
-        ensures holds { self.new.holds ≡ less_one node self.old.holds }
-        ensures hidden { HideNothing S.meaning self.old → HideNothing S.meaning self.new }
+        ensures { self.new ≡ with_holds self.old (less_one node self.old.holds) self.new.spare }
     {
         remove_hold(&mut self.holds, node);
-        self.settle();
     }
 
     /// What nothing keeps any more goes, and its boxes forget it. Takes no memory.

@@ -1,4 +1,4 @@
-use Rattle.std.proofs.Common.{◌≡◌, true, false, sym, ap, ◌∙◌, refl, List, Bool}
+use Rattle.std.proofs.Common.{◌≡◌, true, false, sym, ap, ◌∙◌, refl, List, ℕ}
 use Rattle.std.specs.Prelude.{is_some}
 use Rattle.std.specs.FinMap as fin
 use Rattle.hurd_creds.specs.declared.name.Name.{Name}
@@ -21,7 +21,7 @@ loop-node-preserved g c =
     let held = is_held c.args.self.now.holds in
     let now = shown f c.loop-node.self in
     let n = c.in-Some.node in
-    let gone : stays held now n ≡ false = ap (λ (p : List Name × Bool). stays (is_held p.0) now n) (sym c.loop-node.invariant.0) ∙ c.in-Some.ensures.found.0 in (
+    let gone : stays held now n ≡ false = ap (λ (p : List Name × ℕ). stays (is_held p.0) now n) (sym c.loop-node.invariant.0) ∙ c.in-Some.ensures.found.0 in (
       c.take_node.ensures.holds ∙ c.loop-node.invariant.0,
       ap (settle held) c.take_node.ensures.shown ∙ settle-out held now n gone ∙ c.loop-node.invariant.1,
       λ before. hides-taken f c.loop-node.self c.take_node.new.self n c.take_node.ensures.homes c.take_node.ensures.boxes (c.loop-node.invariant.2 before),
@@ -36,4 +36,4 @@ returns-clause-shown g c =
     let kept = all_homes c.self.inside.homes.items (stays (is_held t.holds) (shown f t)) all in
     let homes = ap (λ (u : Held _). u.homes) c.self.view_is in
     let ends = flat-settled (is_held t.holds) t.homes (Rattle.hurd_nodes.specs.Held.mean f t.seats) (λ n s is. kept n s (ap (λ m. fin.get m n) homes ∙ is)) in
-    sym (ap (λ (p : List Name × Bool). settle (is_held p.0) (shown f t)) (sym c.loop-node.invariant.0) ∙ ends) ∙ c.loop-node.invariant.1
+    sym (ap (λ (p : List Name × ℕ). settle (is_held p.0) (shown f t)) (sym c.loop-node.invariant.0) ∙ ends) ∙ c.loop-node.invariant.1
