@@ -9,7 +9,9 @@ use Rattle.hurd_creds.proofs.NameLaws.{same_or_apart, get_here, get_apart, edit_
 use Rattle.hurd_trans_iface.specs.Nodes.{Header, Body, Content, Listing, with_header, with_body}
 use Rattle.hurd_trans_iface.specs.Answers.{entry_in, entry_of}
 use Rattle.hurd_ports.specs.declared.table.Opened.{Opened}
+use Rattle.hurd_ports.specs.declared.table.IoRight.{IoRight}
 use Rattle.hurd_ports.specs.declared.table.Right.{Right}
+use Rattle.hurd_ports.specs.declared.table.Right.TheVariants.{Io, Control}
 use Rattle.hurd_ports.specs.Tables.{Task, rights_of}
 use Rattle.hurd_ports.specs.Steps.{named, with_sent, edit_task}
 use Rattle.hurd_machine.specs.World.{World, IsAmong, task_at, open_at, header_at, body_at, home_at}
@@ -18,14 +20,28 @@ use Rattle.hurd_machine.specs.Change.{Change, EditHeader, EditBody, MakeNode, Ed
 use Rattle.hurd_machine.specs.Sound.{Coherent}
 use Rattle.hurd_machine.proofs.Nodes.{header_in, body_in, header-with_header, header-with_body, body-with_header, body-with_body, edit_reads, edit_keeps, edited_from, ByEmptiness}
 use Rattle.hurd_machine.proofs.Tasks.{edit_cases, sent_cases}
-use Rattle.hurd_machine.proofs.Coherence.{HasNoEntries, IsNext, next_apart, was, Proper}
+use Rattle.hurd_machine.proofs.Coherence.{right_old, HasNoEntries, IsNext, next_apart, was, Proper}
 use Rattle.hurd_machine.proofs.Frame.{IsExact}
-use Rattle.hurd_machine.proofs.Confine.{NewTo, SeenOrNew, Known, Less, Less-refl, Less-trans, RightInside, TakesLess, Inside}
+use Rattle.hurd_machine.proofs.Confine.{NewTo, SeenOrNew, Known, Less, Less-refl, Less-trans, IoInside, RightInside, Commands, TakesLess, Inside}
 
--- a right that a task of S may get, but for its ids: where its open is to read, S sees the body
-pub record RightMay (S : ℕ → Bool) (v x : World) (r : Right) : Type 0 where
-  pub inside : RightInside S v r
+-- a right to use a node that a task of S may get, but for its ids: where its open is to read, S sees the body
+pub record IoMay (S : ℕ → Bool) (v x : World) (r : IoRight) : Type 0 where
+  pub inside : IoInside S v r
   pub reads : (o : Opened) → open_at x r.open_name ≡ Some o → asks o.modes READ ≡ true → (h : Header) → header_at v r.node ≡ Some h → SeesBody S v r.node h
+
+-- of either kind
+abbrev pub RightMay : (ℕ → Bool) → World → World → Right → Type 0
+RightMay S v x (Io r) = IoMay S v x r
+RightMay S v x (Control s) = Commands S v s
+
+pub may_inside : (S : ℕ → Bool) (v x : World) (r : Right) → RightMay S v x r → RightInside S v r
+may_inside S v x (Io r) m = m.inside
+may_inside S v x (Control s) m = m
+
+-- the ids of a right that S may get
+abbrev pub IdsMay : (ℕ → Bool) → World → Right → Type 0
+IdsMay S v (Io r) = Taken S v r.ids
+IdsMay S v (Control s) = Unit {0}
 
 -- the rights of a task z of S in place of a
 abbrev pub OwnMay : (ℕ → Bool) → World → World → Task → Task → Type 0
@@ -34,7 +50,7 @@ OwnMay S v x a z = (r : Right) → IsAmong r (rights_of z) → IsAmong r (rights
 -- the ids of it, and of its rights
 pub record OwnTaken (S : ℕ → Bool) (v : World) (a z : Task) : Type 0 where
   pub ids : (z.ids ≡ a.ids) ⊎ Taken S v z.ids
-  pub rights : (r : Right) → IsAmong r (rights_of z) → IsAmong r (rights_of a) ⊎ Taken S v r.ids
+  pub rights : (r : Right) → IsAmong r (rights_of z) → IsAmong r (rights_of a) ⊎ IdsMay S v r
 
 -- what S saw, its ids among it, is of the world v before the call; what stands is of the world x, in which the change is made
 abbrev pub May : (ℕ → Bool) → World → World → Change → Type 0
@@ -45,7 +61,7 @@ May S v x (MakeNode n s node) = (S n.task.0 ≡ true) × Sees S v (OptionsOf s) 
 May S v x (EditOpen o f) = (z : Opened) → asks (f z).modes READ ≡ true → asks z.modes READ ≡ true
 May S v x (MakeOpen o z) = S o.task.0 ≡ true
 May S v x (EditTask q f) = (S q ≡ true) × ((a : Task) → task_at x q ≡ Some a → OwnMay S v x a (f a) × (HasUid S v 0 ⊎ OwnTaken S v a (f a)))
-May S v x (Send r q) = RightMay S v x r × (HasUid S v 0 ⊎ Taken S v r.ids)  -- to any task
+May S v x (Send r q) = RightMay S v x r × (HasUid S v 0 ⊎ IdsMay S v r)  -- to any task
 May S v x Settle = Unit {0}
 
 module _ (S : ℕ → Bool) (v x : World) (coherent : Coherent x) (i : Inside S v x) where
@@ -99,7 +115,7 @@ module _ (S : ℕ → Bool) (v x : World) (coherent : Coherent x) (i : Inside S 
       rights = λ r h. elim (cases h.task h.seat h.is_task) [
         | inl k ↦
             let mine : S q ≡ true = ap S (sym k.0) ∙ h.ours in
-            elim (own.rights r (subst (λ (t : Task). IsAmong r (rights_of t)) k.1 h.here)) [
+            elim (own.rights (Io r) (subst (λ (t : Task). IsAmong (Io r) (rights_of t)) k.1 h.here)) [
               | inl old ↦ less.rights r (record { task = q; ours = mine; seat = a; is_task = is; here = old })
               | inr t ↦ t
             ]
@@ -125,14 +141,14 @@ module _ (S : ℕ → Bool) (v x : World) (coherent : Coherent x) (i : Inside S 
       stepped_edit y n.task.0 (named 1) next.seat next.is_task e (omega arith) (λ r h. inl h) (inr (record { ids = inl refl; rights = λ r h. inl h }))
 
   -- a task that was sent a right
-  sent_taken : (r : Right) (a : Task) → HasUid S v 0 ⊎ Taken S v r.ids → HasUid S v 0 ⊎ OwnTaken S v a (with_sent r a)
+  sent_taken : (r : Right) (a : Task) → HasUid S v 0 ⊎ IdsMay S v r → HasUid S v 0 ⊎ OwnTaken S v a (with_sent r a)
   sent_taken r a (inl all) = inl all
   sent_taken r a (inr taken) = inr (record {
     ids = inl refl;
-    rights = λ q h. elim (sent_cases r a q h) [ inl old ↦ inl old | inr e ↦ inr (subst (λ (p : Right). Taken S v p.ids) e taken) ];
+    rights = λ q h. elim (sent_cases r a q h) [ inl old ↦ inl old | inr e ↦ inr (subst (IdsMay S v) e taken) ];
   })
 
-  stepped_sent : (y : World) (r : Right) (q : ℕ) (a : Task) → task_at x q ≡ Some a → y.tasks ≡ edit_task q (with_sent r) x.tasks → RightMay S v x r × (HasUid S v 0 ⊎ Taken S v r.ids) → Stepped y
+  stepped_sent : (y : World) (r : Right) (q : ℕ) (a : Task) → task_at x q ≡ Some a → y.tasks ≡ edit_task q (with_sent r) x.tasks → RightMay S v x r × (HasUid S v 0 ⊎ IdsMay S v r) → Stepped y
   stepped_sent y r q a is e m =
       stepped_edit y q (with_sent r) a is e (omega arith)
       (λ p h. elim (sent_cases r a p h) [ inl old ↦ inl old | inr same ↦ inr (subst (RightMay S v x) same m.0) ]) (sent_taken r a m.1)
@@ -162,9 +178,9 @@ module _ (S : ℕ → Bool) (v x : World) (coherent : Coherent x) (i : Inside S 
   ]
 
   -- a right that is held afterwards and open to read shows its body
-  reads_by : (y : World) → Stepped y → (r : Right) (o : Opened) → Holds S y r → (z : Opened) × (open_at x r.open_name ≡ Some z) × (asks o.modes READ ≡ true → asks z.modes READ ≡ true)
+  reads_by : (y : World) → Stepped y → (r : IoRight) (o : Opened) → Holds S y (Io r) → (z : Opened) × (open_at x r.open_name ≡ Some z) × (asks o.modes READ ≡ true → asks z.modes READ ≡ true)
       → asks o.modes READ ≡ true → (h : Header) → header_at v r.node ≡ Some h → SeesBody S v r.node h
-  reads_by y st r o held l modes = elim (holder y st r held) [
+  reads_by y st r o held l modes = elim (holder y st (Io r) held) [
     | inl old ↦ i.reads r l.0 old l.1 (l.2 modes)
     | inr new ↦ new.reads l.0 l.1 (l.2 modes)
   ]
@@ -179,13 +195,13 @@ module _ (S : ℕ → Bool) (v x : World) (coherent : Coherent x) (i : Inside S 
   ]
 
   abbrev Reads : World → Type 0
-  Reads y = (r : Right) (o : Opened) → Holds S y r → open_at y r.open_name ≡ Some o → asks o.modes READ ≡ true → (h : Header) → header_at v r.node ≡ Some h → SeesBody S v r.node h
+  Reads y = (r : IoRight) (o : Opened) → Holds S y (Io r) → open_at y r.open_name ≡ Some o → asks o.modes READ ≡ true → (h : Header) → header_at v r.node ≡ Some h → SeesBody S v r.node h
 
   reads_next : (c : Change) → IsExact c → Proper x c → May S v x c → Stepped (apply c x) → Reads (apply c x)
   reads_next (EditOpen k f) ex p m st r o held e modes = reads_by (apply (EditOpen k f) x) st r o held (open_before k f m r.open_name o e) modes
   reads_next (MakeOpen k z) ex p m st r o held e modes =
-      let old : Holds S x r = named_holder (apply (MakeOpen k z) x) k p refl r held in
-      let apart : r.open_name ≢ k = next_apart x k r.open_name p (coherent.given.rights old.task old.seat r old.is_task old.here).1 in
+      let old : Holds S x (Io r) = named_holder (apply (MakeOpen k z) x) k p refl (Io r) held in
+      let apart : r.open_name ≢ k = next_apart x k r.open_name p (right_old coherent old.task old.seat r old.is_task old.here).1 in
       i.reads r o old (sym (get_apart x.opens k z r.open_name apart) ∙ e) modes
   reads_next Settle ex p m st r o held e modes = absurd ex
   reads_next c ex p m st r o held e modes = reads_by (apply c x) st r o held (o, e, λ k. k) modes
@@ -259,7 +275,7 @@ module _ (S : ℕ → Bool) (v x : World) (coherent : Coherent x) (i : Inside S 
             let up : b.0.made ≤ z.made = b.2 in
             (u.0, u.1, omega arith);
         power = st.power;
-        held = λ r h. elim (holder (apply c x) st r h) [ inl old ↦ i.held r old | inr new ↦ new.inside ];
+        held = λ r h. elim (holder (apply c x) st r h) [ inl old ↦ i.held r old | inr new ↦ may_inside S v x r new ];
         reads = reads_next c ex p m st;
         headers = λ n h e. elim (headers_next c ex p m n h e) [
           | inl l ↦ elim (i.headers n l.0 l.1) [

@@ -15,8 +15,10 @@ use Rattle.hurd_trans_iface.specs.Behaviour.{Question}
 use Rattle.hurd_trans_iface.specs.Kinds.{ServerKind, behaviour_of}
 use Rattle.hurd_trans_iface.specs.Good.{IsBlind, IsPlain as IsPlainAnswer}
 use Rattle.hurd_nodes.specs.Shown.{ServerInfo, info_in, asked_of, readable_by, is_root_at, is_root_of, made_by, are_kin, link_by, set_attrs_by}
+use Rattle.hurd_ports.specs.declared.table.IoRight.{IoRight}
 use Rattle.hurd_ports.specs.declared.table.Right.{Right}
-use Rattle.hurd_ports.specs.Tables.{Task, rights_of, or_refuse, task_of, right_in, right_at, right_of}
+use Rattle.hurd_ports.specs.declared.table.Right.TheVariants.{Io, Control}
+use Rattle.hurd_ports.specs.Tables.{Task, rights_of, or_refuse, task_of, right_in, right_at, right_of, io_of, io_right_in, io_right_of}
 use Rattle.hurd_machine.specs.declared.call.Reply.{Reply}
 use Rattle.hurd_machine.specs.declared.call.Reply.TheVariants.{Refused}
 use Rattle.hurd_machine.specs.World.{World, IsAmong, ports_of, task_at, open_at, header_at, home_at, info_at, is_server_root, asked_at, count_in, readable_at, stream_at, stream_by, makes_at, links_at, sets_attrs_at}
@@ -120,6 +122,9 @@ module _ {S : ℕ → Bool} {v w : World} (a : Agree S v w) (t : ℕ) (ours : S 
   pub right_same : (q : ℕ) → right_of (ports_of w) t q ≡ right_of (ports_of v) t q
   right_same q = ap (right_at q) (same_tasks a t ours)
 
+  pub io_right_same : (q : ℕ) → io_right_of (ports_of w) t q ≡ io_right_of (ports_of v) t q
+  io_right_same q = ap io_right_in (right_same q)
+
   -- and the task itself
   pub task_same : task_of (ports_of w) t ≡ task_of (ports_of v) t
   task_same = ap (or_refuse ESRCH) (same_tasks a t ours)
@@ -161,6 +166,18 @@ has_right w t q r h = go (task_at w t) refl h
 pub holds_right : {S : ℕ → Bool} {v : World} (t : ℕ) → S t ≡ true → (q : ℕ) (r : Right) → right_of (ports_of v) t q ≡ Ok r → Holds S v r
 holds_right {S} {v} t ours q r is = let h = has_right v t q r is in record { task = t; ours = ours; seat = h.seat; is_task = h.is_task; here = h.here }
 
+-- a right to use a node is a right
+pub io_right_is : (w : World) (t q : ℕ) (r : IoRight) → io_right_of (ports_of w) t q ≡ Ok r → right_of (ports_of w) t q ≡ Ok (Io r)
+io_right_is w t q r h = go (right_of (ports_of w) t q) h
+  where
+    go : (o : Result Right Errno) → io_right_in o ≡ Ok r → o ≡ Ok (Io r)
+    go (Err e) k = absurd (cc)
+    go (Ok (Control s)) k = absurd (cc)
+    go (Ok (Io p)) k = let same : p ≡ r = cc in rw same refl
+
+pub holds_io : {S : ℕ → Bool} {v : World} (t : ℕ) → S t ≡ true → (q : ℕ) (r : IoRight) → io_right_of (ports_of v) t q ≡ Ok r → Holds S v (Io r)
+holds_io {S} {v} t ours q r is = holds_right t ours q (Io r) (io_right_is v t q r is)
+
 pub right_plain : (w : World) (t q : ℕ) → IsPlain (right_of (ports_of w) t q)
 right_plain w t q = go (task_at w t)
   where
@@ -172,10 +189,18 @@ right_plain w t q = go (task_at w t)
     go None = err_plain ESRCH refl
     go (Some x) = under (right_in q x.ports)
 
+pub io_right_plain : (w : World) (t q : ℕ) → IsPlain (io_right_of (ports_of w) t q)
+io_right_plain w t q = go (right_of (ports_of w) t q) (right_plain w t q)
+  where
+    go : (o : Result Right Errno) → IsPlain o → IsPlain (io_right_in o)
+    go (Err e) out = err_plain e (out e refl)
+    go (Ok (Io r)) out = ok_plain r
+    go (Ok (Control s)) out = err_plain EBADF refl
+
 -- a port on a node that is there
 
 pub record IsNamed (w : World) (t q : ℕ) (n : Named) : Type 0 where
-  pub is_right : right_of (ports_of w) t q ≡ Ok n.right
+  pub is_right : right_of (ports_of w) t q ≡ Ok (Io n.right)
   pub is_header : header_at w n.right.node ≡ Some n.header
 
 pub is_named : (w : World) (t q : ℕ) (n : Named) → port_asks w t q ≡ Ok n → IsNamed w t q n
@@ -183,26 +208,26 @@ is_named w t q n h =
     let r = first_ok _ _ n h in
     let x = on_ok EDIED (header_at w r.0.node) _ n r.2 in
     let is : record { right = r.0; header = x.0 } ≡ n = cc in
-    subst (IsNamed w t q) is (record { is_right = r.1; is_header = x.1 })
+    subst (IsNamed w t q) is (record { is_right = io_right_is w t q r.0 r.1; is_header = x.1 })
 
 module _ {S : ℕ → Bool} {v w : World} (a : Agree S v w) (t : ℕ) (ours : S t ≡ true) where
   pub port_same : (q : ℕ) → port_asks w t q ≡ port_asks v t q
   port_same q =
-      first_same _ _ _ _ (right_same a t ours q) (λ r is.
-      on_same _ _ _ _ _ (header_same a r.node (Held r (holds_right t ours q r is) refl)) (λ h eh. refl))
+      first_same _ _ _ _ (io_right_same a t ours q) (λ r is.
+      on_same _ _ _ _ _ (header_same a r.node (Held r (holds_io t ours q r is) refl)) (λ h eh. refl))
 
 -- S sees a node that it has a port on
 pub port_seen : {S : ℕ → Bool} {v : World} (t : ℕ) → S t ≡ true → (q : ℕ) (n : Named) → port_asks v t q ≡ Ok n → Seen S v n.right.node
-port_seen {S} {v} t ours q n is = Held n.right (holds_right t ours q n.right (is_named v t q n is).is_right) refl
+port_seen {S} {v} t ours q n is = Held n.right (holds_right t ours q (Io n.right) (is_named v t q n is).is_right) refl
 
 pub port_plain : (w : World) (t q : ℕ) → IsPlain (port_asks w t q)
-port_plain w t q = first_plain _ _ (right_plain w t q) (λ r is. on_plain _ _ _ refl (λ h eh. ok_plain _))
+port_plain w t q = first_plain _ _ (io_right_plain w t q) (λ r is. on_plain _ _ _ refl (λ h eh. ok_plain _))
 
 -- what a port has open
 
 pub record Handled (w : World) (t q mode : ℕ) (a : Handle) : Type 0 where
-  pub right : Right
-  pub is_right : right_of (ports_of w) t q ≡ Ok right
+  pub right : IoRight
+  pub is_right : right_of (ports_of w) t q ≡ Ok (Io right)
   pub node : a.node ≡ right.node
   pub open_name : a.open_name ≡ right.open_name
   pub opened : open_at w right.open_name ≡ Some a.opened
@@ -220,31 +245,31 @@ handled w t q mode a h =
     let x = on_ok EDIED (header_at w r.0.node) _ a m.1 in
     let is : record { node = r.0.node; open_name = r.0.open_name; opened = o.0; kind = x.0.kind; size = x.0.size } ≡ a = cc in
     subst (Handled w t q mode) is
-    (record { right = r.0; is_right = r.1; node = refl; open_name = refl; opened = o.1; modes = m.0; header = x.0; is_header = x.1; kind = refl; size = refl })
+    (record { right = r.0; is_right = io_right_is w t q r.0 r.1; node = refl; open_name = refl; opened = o.1; modes = m.0; header = x.0; is_header = x.1; kind = refl; size = refl })
 
 module _ {S : ℕ → Bool} {v w : World} (a : Agree S v w) (t : ℕ) (ours : S t ≡ true) where
   pub handle_same : (q mode : ℕ) → handle_asks w t q mode ≡ handle_asks v t q mode
   handle_same q mode =
-      first_same _ _ _ _ (right_same a t ours q) (λ r is.
-      let held : Holds S v r = holds_right t ours q r is in
+      first_same _ _ _ _ (io_right_same a t ours q) (λ r is.
+      let held : Holds S v (Io r) = holds_io t ours q r is in
       on_same _ _ _ _ _ (open_same a r held) (λ o eo. given_same _ _ _ _ _ refl (λ m.
       on_same _ _ _ _ _ (header_same a r.node (Held r held refl)) (λ h eh. refl))))
 
 module _ {S : ℕ → Bool} {v : World} (t : ℕ) (ours : S t ≡ true) where
   -- S sees a node that it has open
   pub handle_seen : (q mode : ℕ) (a : Handle) → handle_asks v t q mode ≡ Ok a → Seen S v a.node
-  handle_seen q mode a is = let h = handled v t q mode a is in Held h.right (holds_right t ours q h.right h.is_right) h.node
+  handle_seen q mode a is = let h = handled v t q mode a is in Held h.right (holds_right t ours q (Io h.right) h.is_right) h.node
 
   -- and its body, where it has it open to read
   pub handle_read : (q : ℕ) (a : Handle) → handle_asks v t q READ ≡ Ok a → Sees S v (BodyOf a.node)
   handle_read q a is =
       let h = handled v t q READ a is in
-      let held : Holds S v h.right = holds_right t ours q h.right h.is_right in
+      let held : Holds S v (Io h.right) = holds_right t ours q (Io h.right) h.is_right in
       (Held h.right held h.node, h.header, ap (header_at v) h.node ∙ h.is_header, IsOpen h.right held h.node a.opened h.opened h.modes)
 
 pub handle_plain : (w : World) (t q mode : ℕ) → IsPlain (handle_asks w t q mode)
 handle_plain w t q mode =
-    first_plain _ _ (right_plain w t q) (λ r is. on_plain _ _ _ refl (λ o eo. given_plain _ _ _ refl (λ m. on_plain _ _ _ refl (λ h eh. ok_plain _))))
+    first_plain _ _ (io_right_plain w t q) (λ r is. on_plain _ _ _ refl (λ o eo. given_plain _ _ _ refl (λ m. on_plain _ _ _ refl (λ h eh. ok_plain _))))
 
 -- what a server answers, and does
 

@@ -4,14 +4,15 @@ use Rattle.std.specs.Prelude.{Result, Ok, Err}
 use Rattle.std.specs.FinMap.{get}
 use Rattle.hurd_creds.specs.declared.name.Name.{Name}
 use Rattle.hurd_creds.specs.declared.errno.Errno.{Errno}
+use Rattle.hurd_ports.specs.declared.table.Right.TheVariants.{Control}
 use Rattle.hurd_ports.specs.Tables.{Task}
 use Rattle.hurd_machine.specs.World.{World, nodes_of, task_at}
 use Rattle.hurd_machine.specs.declared.call.Reply.{Reply}
 use Rattle.hurd_machine.specs.Plan.{Plan, answered, looks, is_refused, after_plan}
-use Rattle.hurd_machine.specs.Sight.{Part, AttrOf, EmptyOf, BodyOf, OpenOf, OptionsOf, UsersOf, TaskOf, Seen, Sees, SameView}
+use Rattle.hurd_machine.specs.Sight.{Part, AttrOf, EmptyOf, BodyOf, OpenOf, OptionsOf, UsersOf, TaskOf, Seen, Sees, Knows, OfNode, OfControl, SameView}
 use Rattle.hurd_machine.specs.Sound.{Below, Coherent, AreSized, Linked, AtRest, Sound}
 use Rattle.hurd_machine.specs.Touched.{asked_parts, Nothing}
-use Rattle.hurd_machine.proofs.Coherence.{AllProper, coherent_all}
+use Rattle.hurd_machine.proofs.Coherence.{AllProper, coherent_all, right_old}
 use Rattle.hurd_machine.proofs.Frame.{IsUnnamed, Full, AllWithin, AsBefore, untouched, unseen_from}
 use Rattle.hurd_machine.proofs.Views.{Agree, Agree-refl, view_of, agree_of}
 use Rattle.hurd_machine.proofs.Asks.{IsPlainReply, answered_all, IsPlain, answered_plain, answered_same, done_plain}
@@ -83,12 +84,16 @@ server_named w c n s e =
     let same : i.0 ≡ s = cc (i.2, e) in
     subst (Below w) same (c.given.servers i.0 i.1 i.3)
 
+known_named : (S : ℕ → Bool) (w : World) → Coherent w → (s : Name) → Knows S w s → Below w s
+known_named S w c s (OfNode n sn en) = server_named w c n s en
+known_named S w c s (OfControl h) = c.given.rights h.task h.seat (Control s) h.is_task h.here
+
 sees_named : (S : ℕ → Bool) (w : World) → Coherent w → (p : Part) → Sees S w p → IsUnnamed w p → ⊥
 sees_named S w c (AttrOf n) sees new = new (seen_old c n sees)
 sees_named S w c (EmptyOf n) sees new = new (seen_old c n sees.0)
 sees_named S w c (BodyOf n) sees new = new (seen_old c n sees.0)
-sees_named S w c (OpenOf o) sees new = new (subst (Below w) sees.2 (c.given.rights sees.1.task sees.1.seat sees.0 sees.1.is_task sees.1.here).1)
-sees_named S w c (OptionsOf s) sees new = new (server_named w c sees.0 s sees.2)
+sees_named S w c (OpenOf o) sees new = new (subst (Below w) sees.2 (right_old c sees.1.task sees.1.seat sees.0 sees.1.is_task sees.1.here).1)
+sees_named S w c (OptionsOf s) sees new = new (known_named S w c s sees)
 sees_named S w c (UsersOf s) sees new = new (c.given.servers s sees.info sees.is_server)
 sees_named S w c (TaskOf t) sees new = new
 

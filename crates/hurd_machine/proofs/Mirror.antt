@@ -5,7 +5,9 @@ use Rattle.std.specs.FinMap.{get}
 use Rattle.hurd_creds.specs.declared.name.Name.{Name}
 use Rattle.hurd_creds.proofs.NameLaws.{same_or_apart, edit_apart}
 use Rattle.hurd_trans_iface.specs.Nodes.{with_header, with_body, is_empty_dir}
+use Rattle.hurd_ports.specs.declared.table.IoRight.{IoRight}
 use Rattle.hurd_ports.specs.declared.table.Right.{Right}
+use Rattle.hurd_ports.specs.declared.table.Right.TheVariants.{Io, Control}
 use Rattle.hurd_ports.specs.Tables.{Task, rights_of, names_open}
 use Rattle.hurd_ports.specs.Steps.{named, with_sent, edit_task}
 use Rattle.hurd_machine.specs.World.{World, IsAmong, task_at, open_at, header_at, body_at, home_at, server_at}
@@ -18,7 +20,7 @@ use Rattle.hurd_machine.proofs.Tasks.{edit_here, edit_same, count_edit, count_na
 use Rattle.hurd_machine.proofs.Coherence.{next_not, Proper}
 use Rattle.hurd_machine.proofs.Frame.{IsExact, users_named}
 use Rattle.hurd_machine.proofs.Confine.{SeenOrNew, Known, RightInside, Inside}
-use Rattle.hurd_machine.proofs.Allowed.{May}
+use Rattle.hurd_machine.proofs.Allowed.{May, may_inside}
 
 -- x and y are alike in all that S saw in v or makes
 pub record Mirror (S : ℕ → Bool) (v x y : World) : Type 0 where
@@ -88,7 +90,8 @@ module _ (S : ℕ → Bool) (v x y : World) (before : Inside S v x) (cx : Cohere
 
   -- a right that S may hold is on a node of the same server in both
   same_side : (s : Name) (r : Right) → RightInside S v r → is_on y s r ≡ is_on x s r
-  same_side s r i = ap (is_home s) (home_same r.node i.node)
+  same_side s (Io r) i = ap (is_home s) (home_same r.node (i.nodes r.node (inl refl)))
+  same_side s (Control q) i = refl
 
   -- counts of the rights of a task that S has, in both
   counts_own : (q : ℕ) (f : Task → Task) (T U : Right → Bool) (a b : Task) → S q ≡ true → task_at x q ≡ Some a → task_at y q ≡ Some b
@@ -133,7 +136,7 @@ module _ (S : ℕ → Bool) (v x y : World) (before : Inside S v x) (cx : Cohere
       (λ r i. same_side s r (before.held r (record { task = q; ours = m.0; seat = px.1; is_task = px.2; here = i })))
       (λ r i. same_side s r (after.held r (record { task = q; ours = m.0; seat = f px.1; is_task = edit_here q f x.tasks px.1 px.2; here = i })))
       e
-  users_alike (Send r q) ex px py m after s e = counts_sent q r (is_on x s) (is_on y s) px.0 py.0 px.1 py.1 (same_side s r m.0.inside) e
+  users_alike (Send r q) ex px py m after s e = counts_sent q r (is_on x s) (is_on y s) px.0 py.0 px.1 py.1 (same_side s r (may_inside S v x r m.0)) e
   users_alike (MakeNode n q node) ex px py m after s e =
       users_named y (apply (MakeNode n q node) y) cy n py.0 1 n q (next_not y n py.0) refl refl s ∙ e
       ∙ sym (users_named x (apply (MakeNode n q node) x) cx n px.0 1 n q (next_not x n px.0) refl refl s)

@@ -9,10 +9,13 @@ use Rattle.hurd_trans_iface.specs.Good.{IsSized}
 use Rattle.hurd_trans_iface.specs.Kinds.{behaviour_of}
 use Rattle.hurd_nodes.specs.Shown.{ServerInfo, info_in}
 use Rattle.hurd_nodes.specs.Settle.{is_entered_at}
+use Rattle.hurd_ports.specs.declared.parents.Parent.{Parent as Pair}
+use Rattle.hurd_ports.specs.declared.table.IoRight.{IoRight}
 use Rattle.hurd_ports.specs.declared.table.Right.{Right}
-use Rattle.hurd_ports.specs.Tables.{Task, fresh, is_held, is_named}
+use Rattle.hurd_ports.specs.declared.table.Right.TheVariants.{Io}
+use Rattle.hurd_ports.specs.Tables.{Task, fresh, ways_of, is_held, is_named}
 use Rattle.hurd_ports.specs.Steps.{named, with_port, new_open, new_right, edit_task}
-use Rattle.hurd_machine.specs.World.{World, nodes_of, task_at, header_at, home_at, server_at}
+use Rattle.hurd_machine.specs.World.{World, IsAmong, nodes_of, task_at, header_at, home_at, server_at}
 use Rattle.hurd_machine.specs.Sight.{Part, OptionsOf, UsersOf, TaskOf, Sees, Taken}
 use Rattle.hurd_machine.specs.Change.{Change, MakeNode, stays, apply, apply_all, opening}
 use Rattle.hurd_machine.specs.Sound.{Below, Coherent, times_listed, Hangs}
@@ -22,11 +25,12 @@ use Rattle.hurd_machine.proofs.Holders.{held_by_right, held_still, named_still}
 use Rattle.hurd_machine.proofs.Stays.{kept_more, stays_named}
 use Rattle.hurd_machine.proofs.Rights.{port_keeps, port_has}
 use Rattle.hurd_machine.proofs.Coherence.{IsNext, HasNoEntries, AllProper, was, header_old, no_node, no_home, next_not, named_below}
+use Rattle.hurd_machine.proofs.Coherence as coherence
 use Rattle.hurd_machine.proofs.Settle.{Rests}
 use Rattle.hurd_machine.proofs.Frame.{AllWithin, Full}
 use Rattle.hurd_machine.proofs.Sizes.{KeepsSized, sized_append, sized_made}
 use Rattle.hurd_machine.proofs.Links.{IsHung, Loosens, KeepsLinked, linked_append, loosened, loose_any, tied, named_grown, times_new}
-use Rattle.hurd_machine.proofs.Confine.{NewTo}
+use Rattle.hurd_machine.proofs.Confine.{NewTo, SeenOrNew}
 use Rattle.hurd_machine.proofs.Several.{AllMay}
 use Rattle.hurd_machine.proofs.Permits as permits
 use Rattle.hurd_machine.proofs.Permits.{opens_may}
@@ -41,10 +45,10 @@ pub record IsNameless (node : Node) : Type 0 where
   pub links : node.header.links ≡ 0
 
 -- task t makes it, of this server, and opens it
-abbrev pub nameless : ℕ → Task → Name → Node → IdSets → OpenFlags → List Change
-nameless t x s node ids modes = MakeNode (fresh t x) s node ∷ opening t (named 1 x) (fresh t x) ids modes
+abbrev pub nameless : ℕ → Task → Name → Node → IdSets → List Pair → OpenFlags → List Change
+nameless t x s node ids parents modes = MakeNode (fresh t x) s node ∷ opening t (named 1 x) (fresh t x) ids parents modes
 
-module _ (w : World) (t : ℕ) (x : Task) (is : task_at w t ≡ Some x) (s : Name) (i : ServerInfo) (server : server_at w s ≡ Some i) (node : Node) (lone : IsNameless node) (ids : IdSets) (modes : OpenFlags) where
+module _ (w : World) (t : ℕ) (x : Task) (is : task_at w t ≡ Some x) (s : Name) (i : ServerInfo) (server : server_at w s ≡ Some i) (node : Node) (lone : IsNameless node) (ids : IdSets) (parents : List Pair) (modes : OpenFlags) where
   abbrev n : Name
   n = fresh t x
 
@@ -52,10 +56,10 @@ module _ (w : World) (t : ℕ) (x : Task) (is : task_at w t ≡ Some x) (s : Nam
   made = apply (MakeNode n s node) w
 
   abbrev file_opened : List Change
-  file_opened = opening t (named 1 x) n ids modes
+  file_opened = opening t (named 1 x) n ids parents modes
 
   abbrev left : World
-  left = apply_all (nameless t x s node ids modes) w
+  left = apply_all (nameless t x s node ids parents modes) w
 
   seat : task_at made t ≡ Some (named 1 x)
   seat = edit_here t (named 1) w.tasks x is
@@ -66,18 +70,18 @@ module _ (w : World) (t : ℕ) (x : Task) (is : task_at w t ≡ Some x) (s : Nam
   header : header_at made n ≡ Some node.header
   header = ap header_in (get_here w.nodes n node)
 
-  pub nameless_within : (T : Part → Type 0) → T (UsersOf s) → AllWithin (Full w t T) w (nameless t x s node ids modes)
+  pub nameless_within : (T : Part → Type 0) → T (UsersOf s) → AllWithin (Full w t T) w (nameless t x s node ids parents modes)
   nameless_within T users =
       let new = fresh_new w t x is in
       let own : Full w t T (TaskOf t) = own_task w t T in (
         (own, inr (inr new), inr (inr new), inr (inr new)),
-        opens_within made t (named 1 x) seat n ids modes (Full w t T) own (inr (inr (later_new w t 1 x is))) (λ p on. let same : on.0 ≡ s = cc (on.1, home) in inl (rw (on.2, same) users)),
+        opens_within made t (named 1 x) seat n ids parents modes (Full w t T) own (inr (inr (later_new w t 1 x is))) (λ p on. let same : on.0 ≡ s = cc (on.1, home) in inl (rw (on.2, same) users)),
       )
 
-  pub nameless_proper : Coherent w → AllProper w (nameless t x s node ids modes)
-  nameless_proper c = (
+  pub nameless_proper : Coherent w → ((m : Name) → IsAmong m (ways_of parents) → Below w m) → AllProper w (nameless t x s node ids parents modes)
+  nameless_proper c up = (
     (next, record { info = i; is_server = server; shape = lone.shape; empty = lone.empty; parent = λ p e. absurd (cc (lone.alone, e)) }),
-    λ d. opens_proper made t (named 1 x) seat n ids modes d (named_below w c n next 1 n refl (omega arith)) (λ writes h e.
+    λ d. opens_proper made t (named 1 x) seat n ids parents modes d (named_below w c n next 1 n refl (omega arith)) (λ m way. coherence.named_still w c n next 1 m (up m way)) (λ writes h e.
         let same : node.header ≡ h = cc (header, e) in rw (← same) lone.file),
   )
     where
@@ -110,17 +114,20 @@ module _ (w : World) (t : ℕ) (x : Task) (is : task_at w t ≡ Some x) (s : Nam
             links = λ tree. lone.links ∙ sym unnamed ∙ ap (λ b. cond b 1 (times_listed made.nodes n)) (sym lone.file);
           })
 
-  pub nameless_linked : Coherent w → KeepsLinked w (nameless t x s node ids modes)
-  nameless_linked c = linked_append (MakeNode n s node ∷ []) file_opened w (made_linked c) (opens_linked made t (named 1 x) n ids modes)
+  pub nameless_linked : Coherent w → KeepsLinked w (nameless t x s node ids parents modes)
+  nameless_linked c = linked_append (MakeNode n s node ∷ []) file_opened w (made_linked c) (opens_linked made t (named 1 x) n ids parents modes)
 
-  pub nameless_sized : IsSized (behaviour_of i.kind) i.text node → KeepsSized w (nameless t x s node ids modes)
+  pub nameless_sized : IsSized (behaviour_of i.kind) i.text node → KeepsSized w (nameless t x s node ids parents modes)
   nameless_sized fit =
       sized_append (MakeNode n s node ∷ []) file_opened w (sized_made w n s node (λ j e. let same : i ≡ j = cc (server, e) in rw (← same) fit))
-      (opens_sized made t (named 1 x) n ids modes)
+      (opens_sized made t (named 1 x) n ids parents modes)
 
   -- the new right names the file, and holds the new open
+  abbrev io : IoRight
+  io = record { node = n; ids = ids; open_name = fresh t (named 1 x); parents = parents }
+
   abbrev right : Right
-  right = new_right t n ids (named 1 x)
+  right = Io io
 
   now : task_at left t ≡ Some (with_port right (named 1 (named 1 x)))
   now = edit_here t (with_port right) (edit_task t (named 1) made.tasks) (named 1 (named 1 x)) (edit_here t (named 1) made.tasks (named 1 x) seat)
@@ -136,9 +143,9 @@ module _ (w : World) (t : ℕ) (x : Task) (is : task_at w t ≡ Some x) (s : Nam
       (held_still t (named 1) made.tasks o (λ y q k. k) (held_still t (named 1) w.tasks o (λ y q k. k) h))
 
   file_stays : stays left n ≡ true
-  file_stays = stays_named left t (with_port right (named 1 (named 1 x))) right i now (port_has right (named 1 (named 1 x))) (ap (info_in w.servers) home ∙ server)
+  file_stays = stays_named left t (with_port right (named 1 (named 1 x))) right n i now (port_has right (named 1 (named 1 x))) (inl refl) (ap (info_in w.servers) home ∙ server)
 
-  pub nameless_rests : Rests w (nameless t x s node ids modes)
+  pub nameless_rests : Rests w (nameless t x s node ids parents modes)
   nameless_rests rest = record {
     nodes = λ m y e. elim (was w.nodes n m node y e) [
       | inl new ↦ subst (λ k. stays left k ≡ true) (sym new.0) file_stays
@@ -146,16 +153,16 @@ module _ (w : World) (t : ℕ) (x : Task) (is : task_at w t ≡ Some x) (s : Nam
           kept_more (is_named w.tasks) (is_named left.tasks) (nodes_of w) (nodes_of left) m (ap (info_in w.servers) (get_apart w.homes n s m old.0))
           (λ k. ap is_entered_at (get_apart w.nodes n node m old.0) ∙ k) (named_yet m) (rest.nodes m y old.1)
     ];
-    opens = λ o z e. elim (was w.opens right.open_name o (new_open modes) z e) [
-      | inl new ↦ subst (λ k. is_held left.tasks k ≡ true) (sym new.0) (held_by_right left.tasks t (with_port right (named 1 (named 1 x))) right now (port_has right (named 1 (named 1 x))))
+    opens = λ o z e. elim (was w.opens io.open_name o (new_open modes) z e) [
+      | inl new ↦ subst (λ k. is_held left.tasks k ≡ true) (sym new.0) (held_by_right left.tasks t (with_port right (named 1 (named 1 x))) io now (port_has right (named 1 (named 1 x))))
       | inr old ↦ held_yet o (rest.opens o z old.1)
     ];
   }
 
   -- a task of S may make it where S saw the server, and open it by ids that S holds
-  pub nameless_may : (S : ℕ → Bool) → Coherent w → S t ≡ true → Taken S w ids → Sees S w (OptionsOf s) → AllMay S w w (nameless t x s node ids modes)
-  nameless_may S c ours taken served =
+  pub nameless_may : (S : ℕ → Bool) → Coherent w → S t ≡ true → Taken S w ids → ((m : Name) → IsAmong m (ways_of parents) → SeenOrNew S w m) → Sees S w (OptionsOf s) → AllMay S w w (nameless t x s node ids parents modes)
+  nameless_may S c ours taken ways served =
       let new : NewTo S w n = permits.later_new S w t x x.made ours is (omega arith) in (
         (ours, served, λ p e. absurd (cc (lone.alone, e))),
-        opens_may S w made t (named 1 x) n ids modes ours (permits.later_new S w t x (x.made + 1) ours is (omega arith)) (inr new) (inr taken) (λ read h e. absurd (new.1 (header_old c n h e))),
+        opens_may S w made t (named 1 x) n ids parents modes ours (permits.later_new S w t x (x.made + 1) ours is (omega arith)) (inr new) ways (inr taken) (λ read h e. absurd (new.1 (header_old c n h e))),
       )

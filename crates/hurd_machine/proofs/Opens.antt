@@ -1,5 +1,5 @@
 -- A port on a node with a new open, and a port that goes: as pieces of any call.
-use Rattle.std.proofs.Common.{◌≡◌, ℕ, ◌<◌, ◌≤◌, Bool, true, false, List, [], ◌∷◌, Some, sym, refl, ◌∙◌, ap, inl, inr, arith}
+use Rattle.std.proofs.Common.{◌≡◌, ℕ, ◌<◌, ◌≤◌, Bool, true, false, List, [], ◌∷◌, Some, sym, refl, subst, ◌∙◌, ap, subst, inl, inr, arith}
 use Rattle.std.specs.FinMap.{get, insert}
 use Rattle.hurd_creds.specs.declared.name.Name.{Name}
 use Rattle.hurd_creds.specs.declared.open_flags.OpenFlags.{OpenFlags}
@@ -9,10 +9,13 @@ use Rattle.hurd_creds.proofs.NameLaws.{get_here}
 use Rattle.hurd_creds.proofs.AppendLaws.{append_write}
 use Rattle.hurd_trans_iface.specs.Nodes.{Header, is_dir}
 use Rattle.hurd_ports.specs.declared.table.Opened.{Opened}
+use Rattle.hurd_ports.specs.declared.parents.Parent.{Parent as Pair}
+use Rattle.hurd_ports.specs.declared.table.IoRight.{IoRight}
 use Rattle.hurd_ports.specs.declared.table.Right.{Right}
-use Rattle.hurd_ports.specs.Tables.{Task, names_open, right_in, fresh}
+use Rattle.hurd_ports.specs.declared.table.Right.TheVariants.{Io, Control}
+use Rattle.hurd_ports.specs.Tables.{Task, names_open, right_in, fresh, ways_of}
 use Rattle.hurd_ports.specs.Steps.{named, without_port, new_open, new_right, at_cursor, appending}
-use Rattle.hurd_machine.specs.World.{World, nodes_of, task_at, header_at}
+use Rattle.hurd_machine.specs.World.{World, IsAmong, nodes_of, task_at, header_at}
 use Rattle.hurd_machine.specs.Sight.{Part, OpenOf, UsersOf, TaskOf, is_on}
 use Rattle.hurd_machine.specs.Touched.{OnNode, OnRight}
 use Rattle.hurd_machine.specs.Change.{Change, EditTask, MakeOpen, EditOpen, apply, opening, dropping}
@@ -45,13 +48,14 @@ fresh_next w t x is = record { seat = x; is_task = is; next = refl }
 
 -- parts that are said of a right
 pub covers : (T : Part → Type 0) (w : World) (r : Right) → ((p : Part) → OnRight w r p → T p) → Covers T w r
-covers T w r f = (f (OpenOf r.open_name) (inl refl), λ s e. f (UsersOf s) (inr (s, e, refl)))
+covers T w (Io r) f = (f (OpenOf r.open_name) (inl refl), λ s e. f (UsersOf s) (inr (s, e, refl)))
+covers T w (Control s) f = tt
 
 -- a port with a new open
 
-module _ (w : World) (t : ℕ) (x : Task) (is : task_at w t ≡ Some x) (n : Name) (ids : IdSets) (modes : OpenFlags) where
+module _ (w : World) (t : ℕ) (x : Task) (is : task_at w t ≡ Some x) (n : Name) (ids : IdSets) (parents : List Pair) (modes : OpenFlags) where
   abbrev new_one : Right
-  new_one = new_right t n ids x
+  new_one = new_right t n ids parents x
 
   abbrev opened : World
   opened = apply (MakeOpen (fresh t x) (new_open modes)) w
@@ -62,7 +66,7 @@ module _ (w : World) (t : ℕ) (x : Task) (is : task_at w t ≡ Some x) (n : Nam
   there : get (insert w.opens (fresh t x) (new_open modes)) (fresh t x) ≡ Some (new_open modes)
   there = get_here w.opens (fresh t x) (new_open modes)
 
-  pub opens_within : (T : Part → Type 0) → T (TaskOf t) → T (OpenOf (fresh t x)) → ((p : Part) → OnNode w n p → T p) → AllWithin T w (opening t x n ids modes)
+  pub opens_within : (T : Part → Type 0) → T (TaskOf t) → T (OpenOf (fresh t x)) → ((p : Part) → OnNode w n p → T p) → AllWithin T w (opening t x n ids parents modes)
   opens_within T task open_part users =
       let cover : Covers T opened new_one = (open_part, λ s e. users (UsersOf s) (s, e, refl)) in (
         (task, open_part),
@@ -78,26 +82,26 @@ module _ (w : World) (t : ℕ) (x : Task) (is : task_at w t ≡ Some x) (n : Nam
         ),
       )
 
-  pub opens_proper : Coherent w → Below w n → (asks modes WRITE ≡ true → (h : Header) → header_at w n ≡ Some h → is_dir h.kind ≡ false) → AllProper w (opening t x n ids modes)
-  opens_proper c made writes = (fresh_next w t x is, λ d. ((λ z. omega arith, named 1 x, here, port_table opened d t new_one (named 1 x) here fine), λ e. tt))
+  pub opens_proper : Coherent w → Below w n → ((m : Name) → IsAmong m (ways_of parents) → Below w m) → (asks modes WRITE ≡ true → (h : Header) → header_at w n ≡ Some h → is_dir h.kind ≡ false) → AllProper w (opening t x n ids parents modes)
+  opens_proper c made up writes = (fresh_next w t x is, λ d. ((λ z. omega arith, named 1 x, here, port_table opened d t new_one (named 1 x) here fine), λ e. tt))
     where
       next : IsNext w (fresh t x)
       next = fresh_next w t x is
 
       fine : FineRight opened new_one
       fine = record {
-        node = named_still w c (fresh t x) next 1 n made;
+        nodes = λ m i. named_still w c (fresh t x) next 1 m (elim i [ inl e ↦ subst (Below w) e made | inr way ↦ up m way ]);
         open_name = named_below w c (fresh t x) next 1 (fresh t x) refl (omega arith);
         opened = (new_open modes, there);
         shared = λ q u k at has e. absurd (unopened w c (fresh t x) next 1 (fresh t x) (fresh_new w t x is) q u k at has e);
         written = λ z h e asked eh. let same : new_open modes ≡ z = cc (there, e) in writes (ap (λ (k : Opened). asks k.modes WRITE) same ∙ asked) h eh;
       }
 
-pub opens_sized : (w : World) (t : ℕ) (x : Task) (n : Name) (ids : IdSets) (modes : OpenFlags) → KeepsSized w (opening t x n ids modes)
-opens_sized w t x n ids modes = sized_ports (opening t x n ids modes) w (tt, (tt, tt))
+pub opens_sized : (w : World) (t : ℕ) (x : Task) (n : Name) (ids : IdSets) (parents : List Pair) (modes : OpenFlags) → KeepsSized w (opening t x n ids parents modes)
+opens_sized w t x n ids parents modes = sized_ports (opening t x n ids parents modes) w (tt, (tt, tt))
 
-pub opens_linked : (w : World) (t : ℕ) (x : Task) (n : Name) (ids : IdSets) (modes : OpenFlags) → KeepsLinked w (opening t x n ids modes)
-opens_linked w t x n ids modes = linked_steady (opening t x n ids modes) w (tt, (tt, tt))
+pub opens_linked : (w : World) (t : ℕ) (x : Task) (n : Name) (ids : IdSets) (parents : List Pair) (modes : OpenFlags) → KeepsLinked w (opening t x n ids parents modes)
+opens_linked w t x n ids parents modes = linked_steady (opening t x n ids parents modes) w (tt, (tt, tt))
 
 -- a port goes
 

@@ -15,16 +15,19 @@ use Rattle.hurd_trans_iface.specs.Nodes.{Entry, Header, Body, Content, Listing, 
 use Rattle.hurd_trans_iface.specs.Answers.{entry_in, entry_of}
 use Rattle.hurd_trans_iface.specs.Behaviour.{Did, edit_bytes, edit_size, edits_of}
 use Rattle.hurd_ports.specs.declared.table.Opened.{Opened}
+use Rattle.hurd_ports.specs.declared.parents.Parent.{Parent as Pair}
+use Rattle.hurd_ports.specs.declared.table.IoRight.{IoRight}
 use Rattle.hurd_ports.specs.declared.table.Right.{Right}
-use Rattle.hurd_ports.specs.Tables.{Task, fresh}
+use Rattle.hurd_ports.specs.declared.table.Right.TheVariants.{Io}
+use Rattle.hurd_ports.specs.Tables.{Task, fresh, ways_of}
 use Rattle.hurd_ports.specs.Steps.{new_open, new_right, at_cursor, appending}
-use Rattle.hurd_machine.specs.World.{World, task_at, header_at}
+use Rattle.hurd_machine.specs.World.{World, IsAmong, task_at, header_at}
 use Rattle.hurd_machine.specs.Sight.{HasUid, Taken, Could, Owns, Allowed, SeesBody}
 use Rattle.hurd_machine.specs.Change.{Change, EditBody, EditOpen, MakeOpen, Settle, apply, apply_all, changes_of, opening, dropping}
 use Rattle.hurd_machine.proofs.Rights.{port_rights, without_rights}
 use Rattle.hurd_machine.proofs.Frame.{IsExact}
 use Rattle.hurd_machine.proofs.Confine.{NewTo, SeenOrNew, Less}
-use Rattle.hurd_machine.proofs.Allowed.{RightMay, May}
+use Rattle.hurd_machine.proofs.Allowed.{RightMay, IdsMay, May}
 use Rattle.hurd_machine.proofs.Several.{AllMay}
 
 -- one list of changes after another
@@ -44,9 +47,9 @@ pub later_new : (S : ℕ → Bool) (v : World) (t : ℕ) (x : Task) (k : ℕ) �
 later_new S v t x k ours is up = (ours, λ b. let low : k < x.made = b x is in absurd (omega arith))
 
 -- a node is opened, of which S sees the body where it is opened to read
-pub opens_may : (S : ℕ → Bool) (v w : World) (t : ℕ) (x : Task) (n : Name) (ids : IdSets) (modes : OpenFlags) → S t ≡ true → NewTo S v (fresh t x) → SeenOrNew S v n → HasUid S v 0 ⊎ Taken S v ids
-    → (asks modes READ ≡ true → (h : Header) → header_at v n ≡ Some h → SeesBody S v n h) → AllMay S v w (opening t x n ids modes)
-opens_may S v w t x n ids modes ours new seen power reads = (
+pub opens_may : (S : ℕ → Bool) (v w : World) (t : ℕ) (x : Task) (n : Name) (ids : IdSets) (parents : List Pair) (modes : OpenFlags) → S t ≡ true → NewTo S v (fresh t x) → SeenOrNew S v n → ((m : Name) → IsAmong m (ways_of parents) → SeenOrNew S v m) → HasUid S v 0 ⊎ Taken S v ids
+    → (asks modes READ ≡ true → (h : Header) → header_at v n ≡ Some h → SeesBody S v n h) → AllMay S v w (opening t x n ids parents modes)
+opens_may S v w t x n ids parents modes ours new seen ways power reads = (
   ours,
   (
     (
@@ -57,7 +60,7 @@ opens_may S v w t x n ids modes ours new seen power reads = (
           | inl all ↦ inl all
           | inr taken ↦ inr (record {
             ids = inl refl;
-            rights = λ r h. elim (port_rights right a r h) [ inl old ↦ inl old | inr e ↦ inr (subst (λ (q : Right). Taken S v q.ids) e taken) ];
+            rights = λ r h. elim (port_rights right a r h) [ inl old ↦ inl old | inr e ↦ inr (subst (IdsMay S v) e taken) ];
           })
         ],
       ),
@@ -66,15 +69,18 @@ opens_may S v w t x n ids modes ours new seen power reads = (
   ),
 )
   where
+    io : IoRight
+    io = record { node = n; ids = ids; open_name = fresh t x; parents = parents }
+
     right : Right
-    right = new_right t n ids x
+    right = Io io
 
     opened : World
     opened = apply (MakeOpen (fresh t x) (new_open modes)) w
 
-    may : RightMay S v opened right
+    may : RightMay S v opened (Io io)
     may = record {
-      inside = record { node = seen; opened = inr new };
+      inside = record { nodes = λ m i. elim i [ inl e ↦ subst (SeenOrNew S v) e seen | inr way ↦ ways m way ]; opened = inr new };
       reads = λ o e asked h eh.
           let here : get (insert w.opens (fresh t x) (new_open modes)) (fresh t x) ≡ Some (new_open modes) = get_here w.opens (fresh t x) (new_open modes) in
           let same : new_open modes ≡ o = cc in

@@ -18,7 +18,7 @@ use Rattle.hurd_machine.proofs.Sizes.{KeepsSized, sized_ports}
 use Rattle.hurd_machine.proofs.Links.{KeepsLinked, linked_steady}
 use Rattle.hurd_machine.proofs.Several.{AllMay}
 use Rattle.hurd_machine.proofs.Opens.{covers}
-use Rattle.hurd_machine.proofs.Sharing.{fine_right, held_may, taken_right}
+use Rattle.hurd_machine.proofs.Sharing.{fine_right, held_may, ids_held}
 
 -- a task of a number below their count is there
 there : (ts : List Task) (q : ℕ) → nat_lt q (length ts) ≡ true → (x : Task) × (slice_get ts q ≡ Some x)
@@ -52,7 +52,7 @@ module _ (r : Right) (q : ℕ) where
   sends_linked w = linked_steady sending w (tt, tt)
 
   pub sends_may : (S : ℕ → Bool) (v : World) → Holds S v r → AllMay S v v sending
-  sends_may S v held = ((held_may S v r held, inr (taken_right S v r held)), tt)
+  sends_may S v held = ((held_may S v r held, inr (ids_held S v r held)), tt)
 
 -- the first of the inbox becomes a port
 

@@ -1,18 +1,20 @@
 -- Changes one after another, settling among them: they show the same in worlds that agree.
-use Rattle.std.proofs.Common.{◌≡◌, ℕ, Bool, false, List, [], ◌∷◌, Option, sym, refl, ◌∙◌, ap, ap₂, subst, inl, inr, arith}
+use Rattle.std.proofs.Common.{Some, ◌≡◌, ℕ, Bool, false, List, [], ◌∷◌, Option, sym, refl, ◌∙◌, ap, ap₂, subst, inl, inr, arith}
 use Rattle.hurd_creds.specs.declared.name.Name.{Name}
 use Rattle.hurd_creds.proofs.NameLaws.{same_name-apart}
 use Rattle.hurd_trans_iface.specs.Nodes.{Node}
+use Rattle.hurd_ports.specs.declared.table.IoRight.{IoRight}
 use Rattle.hurd_ports.specs.declared.table.Right.{Right}
+use Rattle.hurd_ports.specs.declared.table.Right.TheVariants.{Io, Control}
 use Rattle.hurd_ports.specs.Tables.{Task, rights_of, names_open}
-use Rattle.hurd_machine.specs.World.{World, nodes_of}
+use Rattle.hurd_machine.specs.World.{World, IsAmong, nodes_of, task_at}
 use Rattle.hurd_machine.specs.Sight.{Part, AttrOf, EmptyOf, BodyOf, OpenOf, part, count_list, count_rights, holders, AnAttr, AnEmpty, ABody, AnOpen}
 use Rattle.hurd_machine.specs.Change.{Change, Settle, settle, apply, apply_all}
 use Rattle.hurd_machine.specs.Sound.{Below, Coherent, Linked}
 use Rattle.hurd_machine.proofs.Views.{Agree, Agree-sym, Agree-trans, same_tasks}
 use Rattle.hurd_machine.proofs.Nodes.{header_in, body_in, empty_in}
 use Rattle.hurd_machine.proofs.Tasks.{count_alike}
-use Rattle.hurd_machine.proofs.Coherence.{no_node, no_open, Proper, AllProper, coherent_one, no_home}
+use Rattle.hurd_machine.proofs.Coherence.{right_old, no_node, no_open, Proper, AllProper, coherent_one, no_home}
 use Rattle.hurd_machine.proofs.Frame.{IsExact, length_one}
 use Rattle.hurd_machine.proofs.Settle.{settle_agrees}
 use Rattle.hurd_machine.proofs.Confine.{NewTo, NewPart, Inside, Inside-refl, sees_inside}
@@ -40,8 +42,11 @@ none_counted (t ∷ ts) = omega (arith, none (rights_of t), none_counted ts)
 
 no_holders : (w : World) → Coherent w → (o : Name) → (Below w o → ⊥) → holders w o ≡ 0
 no_holders w c o new =
-    count_alike (names_open o) (λ r. false) w.tasks (λ t x r at h. same_name-apart r.open_name o (λ e. new (subst (Below w) e (c.given.rights t x r at h).1)))
-    ∙ none_counted w.tasks
+    count_alike (names_open o) (λ r. false) w.tasks unnamed ∙ none_counted w.tasks
+  where
+    unnamed : (t : ℕ) (x : Task) (r : Right) → task_at w t ≡ Some x → IsAmong r (rights_of x) → names_open o r ≡ false
+    unnamed t x (Io r) at h = same_name-apart r.open_name o (λ e. new (subst (Below w) e (right_old c t x r at h).1))
+    unnamed t x (Control s) at h = refl
 
 new_same : {S : ℕ → Bool} {v w : World} → Coherent v → Coherent w → Agree S v w → (p : Part) → NewPart S v p → part w p ≡ part v p
 new_same {S} {v} {w} cv cw a (AttrOf n) new =
