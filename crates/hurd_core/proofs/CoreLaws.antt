@@ -1,29 +1,29 @@
 -- What becomes of one half of the world is what the machine's changes make of all of it.
-use Rattle.std.proofs.Common.{◌≡◌, ◌∙◌, inl, inr, ℕ, Bool, true, false, cond, List, [], ◌∷◌, ◌++◌, Option, Some, None, refl, sym, ap, subst, slice_get, true≢false}
+use Rattle.std.proofs.Common.{◌≡◌, ◌∙◌, inl, inr, ℕ, Bool, true, false, cond, option_map, List, [], ◌∷◌, ◌++◌, Option, Some, None, refl, sym, ap, subst, slice_get, true≢false}
 use Rattle.std.specs.Prelude.{Result, Ok, Err, is_ok, if◌then◌else◌}
 use Rattle.std.specs.FinMap.{retain_keys}
 use Rattle.hurd_creds.specs.declared.name.Name.{Name}
 use Rattle.hurd_creds.specs.declared.mode.Mode.{Mode}
 use Rattle.hurd_creds.specs.declared.errno.Errno.{Errno}
-use Rattle.hurd_creds.specs.declared.errno.Errno.TheVariants.{EOVERFLOW, ESRCH}
+use Rattle.hurd_creds.specs.declared.errno.Errno.TheVariants.{ENOMEM, EOVERFLOW, ESRCH}
 use Rattle.hurd_creds.specs.declared.open_flags.OpenFlags.{OpenFlags}
 use Rattle.hurd_creds.specs.Access.{IdSets}
-use Rattle.hurd_creds.specs.Memory.{Steps, is_no_memory}
+use Rattle.hurd_creds.specs.Memory.{Meets, Steps, is_no_memory}
 use Rattle.hurd_trans_iface.specs.Nodes.{with_attrs}
 use Rattle.hurd_trans_iface.specs.Answers.{set_attrs_edits, edits_if}
 use Rattle.hurd_nodes.specs.Shown.{NodeState, with_edits, can_set_attrs, set_attrs_at}
+use Rattle.hurd_ports.specs.declared.parents.Parent.{Parent}
 use Rattle.hurd_ports.specs.declared.table.Right.{Right}
 use Rattle.hurd_nodes.specs.Settle as kept
 use Rattle.hurd_nodes.specs.Held as named_from
-use Rattle.hurd_nodes.specs.Held.{less_one}
-use Rattle.hurd_ports.specs.Tables.{PortState, Task, is_held, is_named, right_of, has_room, room_at, room_of}
+use Rattle.hurd_nodes.specs.Held.{less_all}
+use Rattle.hurd_ports.specs.Tables.{PortState, Task, nodes_of, or_refuse, ways_of, is_held, is_named, right_of, has_room, room_at, room_of}
 use Rattle.hurd_ports.specs.Steps.{named, new_right, with_new_port, deallocate_at, deallocate_step, dropped, edit_task, without_port, insert_at, insert_step}
 use Rattle.hurd_machine.specs.declared.call.Reply.TheVariants.{Done}
 use Rattle.hurd_machine.specs.World.{World, world_from}
 use Rattle.hurd_machine.specs.Change.{EditHeader, apply_all, dropping, opening}
 use Rattle.hurd_machine.specs.Plan.{Plan, Follows, answered, told, on, given}
 use Rattle.hurd_machine.proofs.Asks.{HasRight, has_right}
-use Rattle.hurd_machine.proofs.Holders.{named_by_right}
 use Rattle.hurd_machine.proofs.Tasks.{edit_here as task_here}
 use Rattle.hurd_core.specs.Core.{Does, HoldsRights, room_asks}
 use Rattle.hurd_core.proofs.HoldLaws.{held_named, holds_named, holds_opened, holds_dropped, settle_alike}
@@ -70,14 +70,14 @@ module _ (N : NodeState) (H : PortState) (t : ℕ) where
     left r K answer = ap (λ (z : Result (Unit {0}) Errno × PortState). z.1) (answer ∙ deallocated)
 
     module _ (hs : List Name) (same : HoldsRights hs H.tasks) (r : Result (Unit {0}) Errno) (K : PortState) (answer : (r, K) ≡ deallocate_step t p H) where
-      pub drop-holds : HoldsRights (less_one q.node hs) K.tasks
-      drop-holds = subst (λ (z : PortState). HoldsRights (less_one q.node hs) z.tasks) (sym (left r K answer))
-          (holds_dropped hs H.tasks same t p has.seat q has.is_task has.under (named_by_right H.tasks t has.seat q has.is_task has.here))
+      pub drop-holds : HoldsRights (less_all (nodes_of q) hs) K.tasks
+      drop-holds = subst (λ (z : PortState). HoldsRights (less_all (nodes_of q) hs) z.tasks) (sym (left r K answer))
+          (holds_dropped hs H.tasks same t p has.seat q has.is_task has.under)
 
-      pub drop-follows : (M : NodeState) → M ≡ kept.settle (named_from.is_held (less_one q.node hs)) N → Follows w (drops p) Done (world_from M K)
+      pub drop-follows : (M : NodeState) → M ≡ kept.settle (named_from.is_held (less_all (nodes_of q) hs)) N → Follows w (drops p) Done (world_from M K)
       unfolding answered
       drop-follows M after =
-          let settled : M ≡ kept.settle (is_named K.tasks) N = after ∙ settle_alike _ _ (held_named (less_one q.node hs) K.tasks drop-holds) N in
+          let settled : M ≡ kept.settle (is_named K.tasks) N = after ∙ settle_alike _ _ (held_named (less_all (nodes_of q) hs) K.tasks drop-holds) N in
           rw (is, settled, left r K answer) (refl, refl)
 
   -- the room of a task, asked of its tables and of the world: it has room, or both refuse alike
@@ -117,20 +117,25 @@ module _ (N : NodeState) (H : PortState) (t : ℕ) where
     | HasRoom x at full free asks ↦ (x, at, asks)
   ]
 
+  -- nothing but memory is refused where the task is there
+  pub reserve-lacks : (x : Task) (e : Errno) → slice_get H.tasks t ≡ Some x → Meets (or_refuse ESRCH (option_map (λ (y : Task). tt {0}) (slice_get H.tasks t))) (Err e) → e ≡ ENOMEM
+  reserve-lacks x e at (inl is) = let there : Ok (tt {0}) ≡ Err e = sym (ap (λ (o : Option Task). or_refuse ESRCH (option_map (λ (y : Task). tt {0}) o)) at) ∙ is in absurd (cc)
+  reserve-lacks x e at (inr lacks) = lacks.0
+
   -- a port opened
 
-  module _ (n : Name) (ids : IdSets) (modes : OpenFlags) where
+  module _ (n : Name) (ids : IdSets) (parents : List Parent) (modes : OpenFlags) where
     abbrev new_ports : Task → PortState
-    new_ports x = with_new_port t n ids modes x H
+    new_ports x = with_new_port t n ids parents modes x H
 
     abbrev inserted : Task → Bool → Result ℕ Errno × PortState
     inserted x b = if b then (Ok x.next, new_ports x) else (Err EOVERFLOW, H)
 
     -- where the task has room, its port is there
-    pub insert-had : (x : Task) → slice_get H.tasks t ≡ Some x → has_room 1 x ≡ true → insert_step t n ids modes H ≡ (Ok x.next, new_ports x)
-    insert-had x at e = ap (insert_at H t n ids modes) at ∙ ap (inserted x) e
+    pub insert-had : (x : Task) → slice_get H.tasks t ≡ Some x → has_room 1 x ≡ true → insert_step t n ids parents modes H ≡ (Ok x.next, new_ports x)
+    insert-had x at e = ap (insert_at H t n ids parents modes) at ∙ ap (inserted x) e
 
-    insert_by : (o : Option Task) → slice_get H.tasks t ≡ o → (e : Errno) → room_at 1 o ≡ Err e → insert_at H t n ids modes o ≡ (Err e, H)
+    insert_by : (o : Option Task) → slice_get H.tasks t ≡ o → (e : Errno) → room_at 1 o ≡ Err e → insert_at H t n ids parents modes o ≡ (Err e, H)
     insert_by None at e h = let same : ESRCH ≡ e = cc in ap (λ (f : Errno). let z : Result ℕ Errno × PortState = (Err f, H) in z) same
     insert_by (Some x) at e h = go (has_room 1 x) h
       where
@@ -139,56 +144,31 @@ module _ (N : NodeState) (H : PortState) (t : ℕ) where
         go false h = let same : EOVERFLOW ≡ e = cc in ap (λ (f : Errno). let z : Result ℕ Errno × PortState = (Err f, H) in z) same
 
     -- the ports with the port are the world with it
-    pub opened-world : (x : Task) → slice_get H.tasks t ≡ Some x → world_from N (new_ports x) ≡ apply_all (opening t x n ids modes) w
+    pub opened-world : (x : Task) → slice_get H.tasks t ≡ Some x → world_from N (new_ports x) ≡ apply_all (opening t x n ids parents modes) w
     opened-world x at = refl
 
-    steps_had : (x : Task) (X : PortState) (r : Result ℕ Errno) (K : PortState) → room_asks w t 1 ≡ Ok x → world_from N X ≡ apply_all (opening t x n ids modes) w → Steps H (Ok x.next, X) r K
-        → Does w (room_asks w t 1) (λ x. opening t x n ids modes) (λ x. x.next) r (world_from N K)
-    steps_had x X (Ok k) K asks is s = let same : x.next ≡ k = cc (s.answered) in (x, asks, sym same, ap (world_from N) s.left ∙ is)
-    steps_had x X (Err e) K asks is s = elim s.answered [
-      | inl is_err ↦ absurd (cc)
-      | inr lacks ↦ (ap (world_from N) (s.left ∙ rw lacks.0 refl), inr (lacks.0, ap is_ok asks))
-    ]
-
-    steps_refused : (e : Errno) (r : Result ℕ Errno) (K : PortState) → room_asks w t 1 ≡ Err e → Steps H (Err e, H) r K
-        → Does w (room_asks w t 1) (λ x. opening t x n ids modes) (λ x. x.next) r (world_from N K)
-    steps_refused e (Ok k) K asks s = absurd (cc (s.answered))
-    steps_refused e (Err f) K asks s = elim s.answered [
-      | inl is ↦ let same : e ≡ f = cc in (ap (world_from N) (s.left ∙ either (is_no_memory f)), inl (asks ∙ ap Err same))
-      | inr lacks ↦ absurd (cc (lacks.1))
-    ]
-      where
-        either : (b : Bool) → cond b H H ≡ H
-        either true = refl
-        either false = refl
-
-    pub open-does : (r : Result ℕ Errno) (K : PortState) → Steps H (insert_step t n ids modes H) r K
-        → Does w (room_asks w t 1) (λ x. opening t x n ids modes) (λ x. x.next) r (world_from N K)
-    open-does r K s = elim (room 1) [
-      | IsRefused e full asks ↦ steps_refused e r K asks (subst (λ (z : Result ℕ Errno × PortState). Steps H z r K) (insert_by (slice_get H.tasks t) refl e full) s)
-      | HasRoom x at e free asks ↦ steps_had x (new_ports x) r K asks (opened-world x at) (subst (λ (z : Result ℕ Errno × PortState). Steps H z r K) (insert-had x at e) s)
-    ]
-
-    opened_holds : (hs : List Name) → HoldsRights hs H.tasks → (x : Task) → slice_get H.tasks t ≡ Some x → HoldsRights (hs ++ n ∷ []) (new_ports x).tasks
-    opened_holds hs same x at =
-        holds_opened hs (edit_task t (named 1) H.tasks) (holds_named hs H.tasks same t 1 x at) t (named 1 x) (new_right t n ids x) (task_here t (named 1) H.tasks x at)
-
-    -- the node of the new port is held once more
-    pub open-holds : (hs : List Name) → HoldsRights hs H.tasks → (k : ℕ) (K : PortState) → Steps H (insert_step t n ids modes H) (Ok k) K → HoldsRights (hs ++ n ∷ []) K.tasks
-    open-holds hs same k K s = elim (room 1) [
+    pub fill-does : (k : ℕ) (K : PortState) → insert_step t n ids parents modes H ≡ (Ok k, K) → Does w (room_asks w t 1) (λ x. opening t x n ids parents modes) (λ x. x.next) (Ok k) (world_from N K)
+    fill-does k K is = elim (room 1) [
       | IsRefused e full asks ↦
-          let refused : Steps H (Err e, H) (Ok k) K = subst (λ (z : Result ℕ Errno × PortState). Steps H z (Ok k) K) (insert_by (slice_get H.tasks t) refl e full) s in
-          absurd (cc (refused.answered))
+          let no : ◌≡◌ {A = Result ℕ Errno × PortState} (Err e, H) (Ok k, K) = sym (insert_by (slice_get H.tasks t) refl e full) ∙ is in
+          absurd (true≢false (sym (ap (λ (z : Result ℕ Errno × PortState). is_ok z.0) no)))
       | HasRoom x at e free asks ↦
-          let had : Steps H (Ok x.next, new_ports x) (Ok k) K = subst (λ (z : Result ℕ Errno × PortState). Steps H z (Ok k) K) (insert-had x at e) s in
-          subst (λ (z : PortState). HoldsRights (hs ++ n ∷ []) z.tasks) (sym had.left) (opened_holds hs same x at)
+          let had : ◌≡◌ {A = Result ℕ Errno × PortState} (Ok x.next, new_ports x) (Ok k, K) = sym (insert-had x at e) ∙ is in
+          let number : Ok x.next ≡ Ok k = ap (λ (z : Result ℕ Errno × PortState). z.0) had in
+          let same : x.next ≡ k = cc in
+          (x, asks, sym same, ap (λ (z : Result ℕ Errno × PortState). world_from N z.1) (sym had) ∙ opened-world x at)
     ]
 
-    pub fill-holds : (hs : List Name) → HoldsRights hs H.tasks → (k : ℕ) (K : PortState) → insert_step t n ids modes H ≡ (Ok k, K) → HoldsRights (hs ++ n ∷ []) K.tasks
+    opened_holds : (hs : List Name) → HoldsRights hs H.tasks → (x : Task) → slice_get H.tasks t ≡ Some x → HoldsRights (hs ++ n ∷ ways_of parents) (new_ports x).tasks
+    opened_holds hs same x at =
+        holds_opened hs (edit_task t (named 1) H.tasks) (holds_named hs H.tasks same t 1 x at) t (named 1 x) (new_right t n ids parents x) (task_here t (named 1) H.tasks x at)
+
+    -- the nodes of the new port are held once more
+    pub fill-holds : (hs : List Name) → HoldsRights hs H.tasks → (k : ℕ) (K : PortState) → insert_step t n ids parents modes H ≡ (Ok k, K) → HoldsRights (hs ++ n ∷ ways_of parents) K.tasks
     fill-holds hs same k K is = elim (room 1) [
       | IsRefused e full asks ↦
           let no : ◌≡◌ {A = Result ℕ Errno × PortState} (Err e, H) (Ok k, K) = sym (insert_by (slice_get H.tasks t) refl e full) ∙ is in
           absurd (true≢false (sym (ap (λ (z : Result ℕ Errno × PortState). is_ok z.0) no)))
       | HasRoom x at e free asks ↦
-          subst (λ (z : PortState). HoldsRights (hs ++ n ∷ []) z.tasks) (ap (λ (z : Result ℕ Errno × PortState). z.1) (sym (insert-had x at e) ∙ is)) (opened_holds hs same x at)
+          subst (λ (z : PortState). HoldsRights (hs ++ n ∷ ways_of parents) z.tasks) (ap (λ (z : Result ℕ Errno × PortState). z.1) (sym (insert-had x at e) ∙ is)) (opened_holds hs same x at)
     ]

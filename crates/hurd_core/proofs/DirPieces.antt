@@ -10,7 +10,7 @@ use Rattle.hurd_trans_iface.specs.Kinds.{ServerKind, behaviour_of}
 use Rattle.hurd_ports.specs.Tables.{Task, fresh, can_name}
 use Rattle.hurd_nodes.specs.Shown.{tree_by}
 use Rattle.hurd_machine.specs.World.{World, nodes_of, task_at, home_at, server_at, makes_at}
-use Rattle.hurd_machine.specs.Sight.{Part, EmptyOf, BodyOf, Seen, Sees}
+use Rattle.hurd_machine.specs.Sight.{Part, EmptyOf, BodyOf, Seen, Sees, OfNode}
 use Rattle.hurd_machine.specs.Sound.{Coherent, LeadsUp}
 use Rattle.hurd_machine.proofs.Coherence.{AllProper, home_old}
 use Rattle.hurd_machine.proofs.Settle.{Rests}
@@ -80,7 +80,7 @@ module _ (t : ℕ) (f : NewNodeAt) where
     pub dir_may : (S : ℕ → Bool) → S t ≡ true → Seen S w f.dir → AllMay S w w (making_dir t f a)
     dir_may S ours seen =
         let new : NewTo S w n = later_new S w t a.0 a.0.made ours m.is_task (omega arith) in
-        entered_may w n a.1 node f.dir f.name S w ours new (f.dir, seen, m.home) (λ p e.
+        entered_may w n a.1 node f.dir f.name S w ours new (OfNode f.dir seen m.home) (λ p e.
         subst (SeenOrNew S w) (sym (made_parent f.dir (asked_node Dir f n) node refl p e)) (inl seen))
 
   -- where S sees the entries of the directory above, all that is asked is the same

@@ -1,3 +1,4 @@
+pub mod WayLaws
 pub mod HoldLaws
 pub mod CoreLaws
 pub mod RightLaws

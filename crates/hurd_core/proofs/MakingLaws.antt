@@ -15,6 +15,7 @@ use Rattle.hurd_trans_iface.specs.declared.new_node.NewNode.{NewNode}
 use Rattle.hurd_trans_iface.specs.Nodes.{Node, edit_all, with_entry, new_file}
 use Rattle.hurd_trans_iface.specs.Answers.{added, made_node}
 use Rattle.hurd_nodes.specs.Shown.{NodeState, info_in, can_make, made_by, make_at, on_ok, with_home, with_made}
+use Rattle.hurd_ports.specs.declared.parents.Parent.{Parent}
 use Rattle.hurd_ports.specs.Tables.{PortState, Task, or_refuse, fresh, has_room, room_at, room_of, u64_greatest}
 use Rattle.hurd_ports.specs.Steps.{named, insert_step, name_step, with_new_port}
 use Rattle.hurd_ports.proofs.TaskLaws.{edit-here}
@@ -113,29 +114,24 @@ module _ (N : NodeState) (H : PortState) (t : ℕ) (f : NewNodeAt) where
       told_room b = if b then Ok tt else Err EOVERFLOW
 
   -- the halves after the making and the opening are the world after both
-  module _ (ids : IdSets) (modes : OpenFlags) (m : Makes) where
+  module _ (ids : IdSets) (parents : List Parent) (modes : OpenFlags) (m : Makes) where
     abbrev n : Name
     n = fresh t m.task
 
-    pub made-opened : (M : NodeState) (K : PortState) (k : ℕ) → M ≡ with_made f.dir f.name (asked_node File f n) N → insert_step t n ids modes after_name ≡ (Ok k, K)
-        → Does w (making_asks w t f) (making_open t f ids modes) (λ a. a.0.next) (Ok k) (world_from M K)
+    pub made-opened : (M : NodeState) (K : PortState) (k : ℕ) → M ≡ with_made f.dir f.name (asked_node File f n) N → insert_step t n ids parents modes after_name ≡ (Ok k, K)
+        → Does w (making_asks w t f) (making_open t f ids parents modes) (λ a. a.0.next) (Ok k) (world_from M K)
     made-opened M K k e inserted =
         let free : has_room 1 (named 1 m.task) ≡ true = less m.task.next m.task.made m.free in
-        let is = sym inserted ∙ insert-had M after_name t n ids modes (named 1 m.task) (named_there m.task m.there) free in
+        let is = sym inserted ∙ insert-had M after_name t n ids parents modes (named 1 m.task) (named_there m.task m.there) free in
         let number : Ok k ≡ Ok m.task.next = ap (λ (z : Result ℕ Errno × PortState). z.0) is in
-        let ports : K ≡ with_new_port t n ids modes (named 1 m.task) after_name = ap (λ (z : Result ℕ Errno × PortState). z.1) is in
-        ((m.task, m.server), m.asks, cc number, ap (world_from M) ports ∙ ap (apply_all (opening t (named 1 m.task) n ids modes)) (made-nodes File n m.server m.home (new_file f.owner f.group f.mode) refl M e refl))
+        let ports : K ≡ with_new_port t n ids parents modes (named 1 m.task) after_name = ap (λ (z : Result ℕ Errno × PortState). z.1) is in
+        ((m.task, m.server), m.asks, cc number, ap (world_from M) ports ∙ ap (apply_all (opening t (named 1 m.task) n ids parents modes)) (made-nodes File n m.server m.home (new_file f.owner f.group f.mode) refl M e refl))
 
   -- a making that finds no memory changes nothing
-  pub lacks-memory : Makes → (e : Errno) (y : World) → y ≡ w → e ≡ ENOMEM → (ids : IdSets) (modes : OpenFlags) → Does w (making_asks w t f) (making_open t f ids modes) (λ a. a.0.next) (Err e) y
-  lacks-memory m e y same lacks ids modes = (same, inr (lacks, ap is_ok m.asks))
+  pub lacks-memory : Makes → (e : Errno) (y : World) → y ≡ w → e ≡ ENOMEM → (ids : IdSets) (parents : List Parent) (modes : OpenFlags) → Does w (making_asks w t f) (making_open t f ids parents modes) (λ a. a.0.next) (Err e) y
+  lacks-memory m e y same lacks ids parents modes = (same, inr (lacks, ap is_ok m.asks))
 
-  -- nothing but memory is refused where the task is there
-  pub reserve-lacks : (x : Task) (e : Errno) → slice_get H.tasks t ≡ Some x → Meets (or_refuse ESRCH (option_map (λ (y : Task). tt {0}) (slice_get H.tasks t))) (Err e) → e ≡ ENOMEM
-  reserve-lacks x e at (inl is) = let there : Ok (tt {0}) ≡ Err e = sym (ap (λ (o : Option Task). or_refuse ESRCH (option_map (λ (y : Task). tt {0}) o)) at) ∙ is in absurd (cc)
-  reserve-lacks x e at (inr lacks) = lacks.0
-
-  -- and where the server lets the node be made
+  -- nothing but memory is refused where the server lets the node be made
   pub make-lacks : (kind : Kind) (name : Name) (new : NewNode) (e : Errno) (M : NodeState) → can_make f.dir f.name kind N ≡ Ok tt → new ≡ asked_node kind f name → Steps N (make_at f.dir f.name new N) (Err e) M → (e ≡ ENOMEM) × (M ≡ N)
   make-lacks kind name new e M m asked s = go (subst (λ (z : NewNode). Steps N (make_at f.dir f.name z N) (Err e) M) asked s)
     where
@@ -149,10 +145,10 @@ module _ (N : NodeState) (H : PortState) (t : ℕ) (f : NewNodeAt) where
   make-done new M m s = s.left ∙ ap (λ (a : Result (Unit {0}) Errno). on_ok a N (with_made f.dir f.name new N)) m
 
   -- all of it: the name that is next, the node made under it, the name given, and the port put in
-  pub file-made : (ids : IdSets) (modes : OpenFlags) (G L K : PortState) (M : NodeState) (name : Name) (new : NewNode) (k : ℕ) → room_of H t 2 ≡ Ok tt → can_make f.dir f.name File N ≡ Ok tt → G ≡ H
-      → Some name ≡ option_map (fresh t) (slice_get G.tasks t) → new ≡ asked_node File f name → Steps N (make_at f.dir f.name new N) (Ok tt) M → L ≡ name_step t G → insert_step t name ids modes L ≡ (Ok k, K)
-      → Does w (making_asks w t f) (making_open t f ids modes) (λ a. a.0.next) (Ok k) (world_from M K)
-  file-made ids modes G L K M name new k h may kept next asked steps gave inserted =
+  pub file-made : (ids : IdSets) (parents : List Parent) (modes : OpenFlags) (G L K : PortState) (M : NodeState) (name : Name) (new : NewNode) (k : ℕ) → room_of H t 2 ≡ Ok tt → can_make f.dir f.name File N ≡ Ok tt → G ≡ H
+      → Some name ≡ option_map (fresh t) (slice_get G.tasks t) → new ≡ asked_node File f name → Steps N (make_at f.dir f.name new N) (Ok tt) M → L ≡ name_step t G → insert_step t name ids parents modes L ≡ (Ok k, K)
+      → Does w (making_asks w t f) (making_open t f ids parents modes) (λ a. a.0.next) (Ok k) (world_from M K)
+  file-made ids parents modes G L K M name new k h may kept next asked steps gave inserted =
       let m = makes h may in
       let is : Some name ≡ Some (fresh t m.task) = next ∙ ap (λ (z : PortState). option_map (fresh t) (slice_get z.tasks t)) kept ∙ ap (option_map (fresh t)) m.there in
       let same : name ≡ fresh t m.task = cc in
@@ -160,6 +156,6 @@ module _ (N : NodeState) (H : PortState) (t : ℕ) (f : NewNodeAt) where
       let made : M ≡ with_made f.dir f.name (asked_node File f (fresh t m.task)) N =
       make-done (asked_node File f (fresh t m.task)) M may (subst (λ (z : NewNode). Steps N (make_at f.dir f.name z N) (Ok tt) M) wanted steps) in
       let ports : L ≡ after_name = gave ∙ ap (name_step t) kept in
-      let put : insert_step t (fresh t m.task) ids modes after_name ≡ (Ok k, K) =
-      ap (λ (n : Name). insert_step t n ids modes after_name) (sym same) ∙ ap (insert_step t name ids modes) (sym ports) ∙ inserted in
-      made-opened ids modes m M K k made put
+      let put : insert_step t (fresh t m.task) ids parents modes after_name ≡ (Ok k, K) =
+      ap (λ (n : Name). insert_step t n ids parents modes after_name) (sym same) ∙ ap (insert_step t name ids parents modes) (sym ports) ∙ inserted in
+      made-opened ids parents modes m M K k made put

@@ -1,5 +1,5 @@
 -- A file that no entry names made, and opened, half by half, is the machine's making.
-use Rattle.std.proofs.Common.{◌≡◌, ◌∙◌, inl, inr, ℕ, true, [], ◌∷◌, Option, Some, None, refl, sym, ap, subst, slice_get}
+use Rattle.std.proofs.Common.{List, ◌≡◌, ◌∙◌, inl, inr, ℕ, true, [], ◌∷◌, Option, Some, None, refl, sym, ap, subst, slice_get}
 use Rattle.std.specs.Prelude.{Result, Ok, Err, is_ok}
 use Rattle.std.specs.Option.{option_map}
 use Rattle.std.specs.FinMap.{get}
@@ -14,6 +14,7 @@ use Rattle.hurd_trans_iface.specs.declared.new_node.NewNode.{NewNode}
 use Rattle.hurd_trans_iface.specs.Nodes.{edit_all, nameless_file}
 use Rattle.hurd_trans_iface.specs.Answers.{nameless_edits}
 use Rattle.hurd_nodes.specs.Shown.{NodeState, info_in, can_make_nameless, nameless_by, make_nameless_at, on_ok, with_home, with_nameless}
+use Rattle.hurd_ports.specs.declared.parents.Parent.{Parent}
 use Rattle.hurd_ports.specs.Tables.{PortState, Task, fresh, has_room, room_of}
 use Rattle.hurd_ports.specs.Steps.{named, insert_step, name_step, with_new_port}
 use Rattle.hurd_machine.specs.World.{World, world_from, home_at}
@@ -88,8 +89,8 @@ module _ (N : NodeState) (H : PortState) (t : ℕ) (f : NamelessToMake) where
   lone-asked h (Ok u) is = sym (ap asked_only (makes-lone h (sym is)).asks)
 
   -- what finds no memory changes nothing
-  pub lone-lacks : MakesLone → (e : Errno) (y : World) → y ≡ w → e ≡ ENOMEM → (ids : IdSets) (modes : OpenFlags) → Does w (making_nameless_asks w t f.dir) (making_nameless t f ids modes) (λ a. a.0.next) (Err e) y
-  lone-lacks m e y same lacks ids modes = (same, inr (lacks, ap is_ok m.asks))
+  pub lone-lacks : MakesLone → (e : Errno) (y : World) → y ≡ w → e ≡ ENOMEM → (ids : IdSets) (parents : List Parent) (modes : OpenFlags) → Does w (making_nameless_asks w t f.dir) (making_nameless t f ids parents modes) (λ a. a.0.next) (Err e) y
+  lone-lacks m e y same lacks ids parents modes = (same, inr (lacks, ap is_ok m.asks))
 
   -- nothing but memory is refused where the server lets it be made
   pub lone-short : (name : Name) (new : NewNode) (e : Errno) (M : NodeState) → can_make_nameless f.dir File N ≡ Ok tt → new ≡ asked_nameless f name → Steps N (make_nameless_at f.dir new N) (Err e) M → (e ≡ ENOMEM) × (M ≡ N)
@@ -105,7 +106,7 @@ module _ (N : NodeState) (H : PortState) (t : ℕ) (f : NamelessToMake) where
   abbrev after_name : PortState
   after_name = name_step t H
 
-  module _ (ids : IdSets) (modes : OpenFlags) (m : MakesLone) where
+  module _ (ids : IdSets) (parents : List Parent) (modes : OpenFlags) (m : MakesLone) where
     abbrev n : Name
     n = fresh t m.task
 
@@ -115,20 +116,20 @@ module _ (N : NodeState) (H : PortState) (t : ℕ) (f : NamelessToMake) where
     made-lone : (M : NodeState) → M ≡ with_nameless f.dir (asked_nameless f n) N → world_from M after_name ≡ apply_all (MakeNode n m.server (nameless_file f.owner f.group f.mode) ∷ []) w
     made-lone M e = ap (λ (z : NodeState). world_from z after_name) e ∙ ap (λ (o : Option Name). world_from (made o) after_name) m.home
 
-    lone-opened : (M : NodeState) (K : PortState) (k : ℕ) → M ≡ with_nameless f.dir (asked_nameless f n) N → insert_step t n ids modes after_name ≡ (Ok k, K)
-        → Does w (making_nameless_asks w t f.dir) (making_nameless t f ids modes) (λ a. a.0.next) (Ok k) (world_from M K)
+    lone-opened : (M : NodeState) (K : PortState) (k : ℕ) → M ≡ with_nameless f.dir (asked_nameless f n) N → insert_step t n ids parents modes after_name ≡ (Ok k, K)
+        → Does w (making_nameless_asks w t f.dir) (making_nameless t f ids parents modes) (λ a. a.0.next) (Ok k) (world_from M K)
     lone-opened M K k e inserted =
         let free : has_room 1 (named 1 m.task) ≡ true = less m.task.next m.task.made m.free in
-        let is = sym inserted ∙ insert-had M after_name t n ids modes (named 1 m.task) (named_there N H t (unnamed f) m.task m.there) free in
+        let is = sym inserted ∙ insert-had M after_name t n ids parents modes (named 1 m.task) (named_there N H t (unnamed f) m.task m.there) free in
         let number : Ok k ≡ Ok m.task.next = ap (λ (z : Result ℕ Errno × PortState). z.0) is in
-        let ports : K ≡ with_new_port t n ids modes (named 1 m.task) after_name = ap (λ (z : Result ℕ Errno × PortState). z.1) is in
-        ((m.task, m.server), m.asks, cc number, ap (world_from M) ports ∙ ap (apply_all (opening t (named 1 m.task) n ids modes)) (made-lone M e))
+        let ports : K ≡ with_new_port t n ids parents modes (named 1 m.task) after_name = ap (λ (z : Result ℕ Errno × PortState). z.1) is in
+        ((m.task, m.server), m.asks, cc number, ap (world_from M) ports ∙ ap (apply_all (opening t (named 1 m.task) n ids parents modes)) (made-lone M e))
 
   -- all of it: the name that is next, the file made under it, the name given, and the port put in
-  pub lone-made : (ids : IdSets) (modes : OpenFlags) (G L K : PortState) (M : NodeState) (name : Name) (new : NewNode) (k : ℕ) → room_of H t 2 ≡ Ok tt → can_make_nameless f.dir File N ≡ Ok tt → G ≡ H
-      → Some name ≡ option_map (fresh t) (slice_get G.tasks t) → new ≡ asked_nameless f name → Steps N (make_nameless_at f.dir new N) (Ok tt) M → L ≡ name_step t G → insert_step t name ids modes L ≡ (Ok k, K)
-      → Does w (making_nameless_asks w t f.dir) (making_nameless t f ids modes) (λ a. a.0.next) (Ok k) (world_from M K)
-  lone-made ids modes G L K M name new k h may kept next asked steps gave inserted =
+  pub lone-made : (ids : IdSets) (parents : List Parent) (modes : OpenFlags) (G L K : PortState) (M : NodeState) (name : Name) (new : NewNode) (k : ℕ) → room_of H t 2 ≡ Ok tt → can_make_nameless f.dir File N ≡ Ok tt → G ≡ H
+      → Some name ≡ option_map (fresh t) (slice_get G.tasks t) → new ≡ asked_nameless f name → Steps N (make_nameless_at f.dir new N) (Ok tt) M → L ≡ name_step t G → insert_step t name ids parents modes L ≡ (Ok k, K)
+      → Does w (making_nameless_asks w t f.dir) (making_nameless t f ids parents modes) (λ a. a.0.next) (Ok k) (world_from M K)
+  lone-made ids parents modes G L K M name new k h may kept next asked steps gave inserted =
       let m = makes-lone h may in
       let is : Some name ≡ Some (fresh t m.task) = next ∙ ap (λ (z : PortState). option_map (fresh t) (slice_get z.tasks t)) kept ∙ ap (option_map (fresh t)) m.there in
       let same : name ≡ fresh t m.task = cc in
@@ -137,9 +138,9 @@ module _ (N : NodeState) (H : PortState) (t : ℕ) (f : NamelessToMake) where
       let made : M ≡ with_nameless f.dir (asked_nameless f (fresh t m.task)) N =
       left.left ∙ ap (λ (a : Result (Unit {0}) Errno). on_ok a N (with_nameless f.dir (asked_nameless f (fresh t m.task)) N)) may in
       let ports : L ≡ after_name = gave ∙ ap (name_step t) kept in
-      let put : insert_step t (fresh t m.task) ids modes after_name ≡ (Ok k, K) =
-      ap (λ (n : Name). insert_step t n ids modes after_name) (sym same) ∙ ap (insert_step t name ids modes) (sym ports) ∙ inserted in
-      lone-opened ids modes m M K k made put
+      let put : insert_step t (fresh t m.task) ids parents modes after_name ≡ (Ok k, K) =
+      ap (λ (n : Name). insert_step t n ids parents modes after_name) (sym same) ∙ ap (insert_step t name ids parents modes) (sym ports) ∙ inserted in
+      lone-opened ids parents modes m M K k made put
 
 -- what was asked for alone, and its answer
 pub only-refused : {A : Type 0} (x : Result A Errno) (e : Errno) → Err e ≡ asked_only x → x ≡ Err e

@@ -8,7 +8,7 @@ use Rattle.hurd_creds.specs.Access.{IdSets}
 use Rattle.hurd_creds.specs.Memory.{Steps, is_no_memory}
 use Rattle.hurd_nodes.specs.Shown.{NodeState}
 use Rattle.hurd_ports.specs.declared.table.Right.{Right}
-use Rattle.hurd_ports.specs.Tables.{PortState, Task, first_sent, has_room, right_of, task_of, or_refuse}
+use Rattle.hurd_ports.specs.Tables.{PortState, Task, nodes_of, first_sent, has_room, right_of, task_of, or_refuse}
 use Rattle.hurd_ports.specs.Steps.{edit_task, receive_at, receive_step, received, send_step, sent_to, share_at, share_step, take_ids_at, take_ids_step, taken_by, with_ids, with_port, with_sent}
 use Rattle.hurd_ports.proofs.EditLaws.{received-rights}
 use Rattle.hurd_machine.specs.declared.call.Reply.TheVariants.{Done}
@@ -84,10 +84,10 @@ module _ (N : NodeState) (H : PortState) (t : ℕ) where
     ]
 
     -- its node is held once more
-    pub share-holds : (hs : List Name) → HoldsRights hs H.tasks → (k : ℕ) (K : PortState) → Steps H (share_step t r H) (Ok k) K → HoldsRights (hs ++ r.node ∷ []) K.tasks
+    pub share-holds : (hs : List Name) → HoldsRights hs H.tasks → (k : ℕ) (K : PortState) → Steps H (share_step t r H) (Ok k) K → HoldsRights (hs ++ nodes_of r) K.tasks
     share-holds hs same k K s =
         let d = share-does (Ok k) K s in
-        subst (HoldsRights (hs ++ r.node ∷ [])) (sym (ap (λ (z : World). z.tasks) d.3)) (holds_opened hs H.tasks same t d.0 r (asked_there d.0 d.1))
+        subst (HoldsRights (hs ++ nodes_of r)) (sym (ap (λ (z : World). z.tasks) d.3)) (holds_opened hs H.tasks same t d.0 r (asked_there d.0 d.1))
 
   -- a right sent
 
@@ -145,12 +145,12 @@ module _ (N : NodeState) (H : PortState) (t : ℕ) where
           go false h = absurd (cc)
 
       -- its node is held once more
-      pub send-holds : (hs : List Name) → HoldsRights hs H.tasks → (u : Unit {0}) (K : PortState) → Steps H (send_step t p q H) (Ok u) K → HoldsRights (hs ++ r.node ∷ []) K.tasks
+      pub send-holds : (hs : List Name) → HoldsRights hs H.tasks → (u : Unit {0}) (K : PortState) → Steps H (send_step t p q H) (Ok u) K → HoldsRights (hs ++ nodes_of r) K.tasks
       send-holds hs same u K s =
           let d = send-does (Ok u) K s in
           let sent = sends_it d.0 d.1 in
           let tasks : K.tasks ≡ edit_task q (with_sent d.0) H.tasks = ap (λ (z : World). z.tasks) d.3 in
-          subst (HoldsRights (hs ++ r.node ∷ [])) (sym (tasks ∙ ap (λ (a : Right). edit_task q (with_sent a) H.tasks) sent.1)) (holds_sent hs H.tasks same q r sent.0)
+          subst (HoldsRights (hs ++ nodes_of r)) (sym (tasks ∙ ap (λ (a : Right). edit_task q (with_sent a) H.tasks) sent.1)) (holds_sent hs H.tasks same q r sent.0)
 
   -- a right received
 

@@ -15,13 +15,14 @@ use Rattle.hurd_creds.specs.Names.{same_name}
 use Rattle.hurd_trans_iface.specs.Meaning.{Meaning}
 use Rattle.hurd_nodes.specs.Held.{Held, coded_held}
 use Rattle.hurd_nodes.specs.Shown.{shown, unlink_edits_at, can_make_nameless, rename_edits_at}
-use Rattle.hurd_ports.specs.Tables.{Task, Tables, coded_tables, fresh, can_name, has_room, first_sent, names_node, right_of}
+use Rattle.hurd_ports.specs.Tables.{Task, Tables, coded_tables, fresh, can_name, has_room, first_sent, right_of}
+use Rattle.hurd_ports.specs.declared.parents.Parent.{Parent}
 use Rattle.hurd_ports.specs.declared.table.Right.{Right}
 use Rattle.hurd_ports.specs.Steps.{named}
 use Rattle.hurd_machine.specs.World.{World, world_from, nodes_of, ports_of, task_at, home_at, makes_at}
 use Rattle.hurd_machine.specs.Change.{Change, MakeNode, EditBody, Settle, opening, apply_all, changes_of}
 use Rattle.hurd_machine.specs.Plan.{on, given, first}
-use Rattle.hurd_machine.specs.Sight.{count_list, count_rights}
+use Rattle.hurd_machine.specs.Sight.{count_list, naming, weigh_rights}
 use Rattle.hurd_core.specs.declared.to_make.NamelessToMake.{NamelessToMake}
 
 -- servers with their nodes, and tables of ports
@@ -32,9 +33,9 @@ pub record Whole (S : Type 0) : Type 0 where
 abbrev pub coded_whole : {S : Type 0} → Coded S → Coded (Whole S)
 coded_whole {S} c = code_by (Held S × Tables) (coded× (coded_held c) coded_tables) (λ h. (h.nodes, h.ports)) (λ p. record { nodes = p.0; ports = p.1 }) (λ _. refl)
 
--- a node is held once for each right on it
+-- a node is held once for each time that a right names it
 abbrev pub HoldsRights : List Name → List Task → Type 0
-HoldsRights holds tasks = (n : Name) → count_list (λ m. same_name n m) holds ≡ count_rights (names_node n) tasks
+HoldsRights holds tasks = (n : Name) → count_list (λ m. same_name n m) holds ≡ weigh_rights (naming n) tasks
 
 -- the world that these stand for, where each server means this
 abbrev pub world_of : {S : Type 0} → (S → Meaning) → Whole S → World
@@ -89,8 +90,8 @@ making_asks w t f =
     on EDIED (home_at w f.dir) (λ s. Ok (x, s))))
 
 -- the file made, with its entry, and opened
-abbrev pub making_open : ℕ → NewNodeAt → IdSets → OpenFlags → Task × Name → List Change
-making_open t f ids modes a = making t a.0 a.1 f (new_file f.owner f.group f.mode) ++ opening t (named 1 a.0) (fresh t a.0) ids modes
+abbrev pub making_open : ℕ → NewNodeAt → IdSets → List Parent → OpenFlags → Task × Name → List Change
+making_open t f ids parents modes a = making t a.0 a.1 f (new_file f.owner f.group f.mode) ++ opening t (named 1 a.0) (fresh t a.0) ids parents modes
 
 -- the task that makes a directory, which needs a name and no port, and the server of the directory above it, which lets it be made
 abbrev pub making_dir_asks : World → ℕ → NewNodeAt → Result (Task × Name) Errno
@@ -128,8 +129,8 @@ asked_only (Ok a) = Ok tt
 asked_only (Err e) = Err e
 
 -- the file made, and opened
-abbrev pub making_nameless : ℕ → NamelessToMake → IdSets → OpenFlags → Task × Name → List Change
-making_nameless t f ids modes a = MakeNode (fresh t a.0) a.1 (nameless_file f.owner f.group f.mode) ∷ opening t (named 1 a.0) (fresh t a.0) ids modes
+abbrev pub making_nameless : ℕ → NamelessToMake → IdSets → List Parent → OpenFlags → Task × Name → List Change
+making_nameless t f ids parents modes a = MakeNode (fresh t a.0) a.1 (nameless_file f.owner f.group f.mode) ∷ opening t (named 1 a.0) (fresh t a.0) ids parents modes
 
 -- what a server does where an entry goes to another of its directories, and that what nothing keeps then goes
 abbrev pub renaming : World → Name → List ℕ → Name → List ℕ → List Change

@@ -7,7 +7,7 @@ ghost use Rattle.hurd_trans_iface.specs.Nodes.{attrs_of, linked, with_attrs, wit
 ghost use Rattle.hurd_trans_iface.specs.Answers.{entry_of, names_of};
 ghost use Rattle.hurd_trans_iface.specs.Behaviour.{edits_of, reading, writing, resizing};
 ghost use Rattle.hurd_nodes.specs.Shown.{are_kin, shown, header_in, tree_by};
-ghost use Rattle.hurd_ports.specs.Tables.{ids_at, lent, right_of, room_of, task_of};
+ghost use Rattle.hurd_ports.specs.Tables.{ids_at, io_right_of, lent, right_of, room_of, task_of};
 ghost use Rattle.hurd_ports.specs.Steps.{appending, at_cursor, received, with_ids, with_port};
 ghost use Rattle.hurd_machine.specs.World.{world_from, ports_of, asked_at, body_at, header_at, home_at, info_at, is_removed, is_server_root, links_at, makes_at, readable_at, renames_at, sets_attrs_at, stream_at, task_at, unlinks_at};
 ghost use Rattle.hurd_machine.specs.Change.{EditBody, EditHeader, EditOpen, EditTask, Send, apply, changes_of, dropping, opening};
@@ -18,6 +18,7 @@ ghost use Rattle.hurd_core.specs.Core.{Does, HoldsRights, making_asks, making_di
 ghost use Rattle.hurd_core.specs.ToMake.{new_node_of};
 ghost use Rattle.hurd_core.specs.PortNode.{IsTold, both_named, named};
 
+use crate::holds::{hold_right, hold_ways, holds_by, holds_of, release_right};
 use crate::port_node::PortNode;
 use crate::to_make::{NamelessToMake, NodeToMake};
 use hurd_creds::{
@@ -25,12 +26,12 @@ use hurd_creds::{
 };
 use hurd_machine::Handle;
 use hurd_nodes::Nodes;
-use hurd_ports::{Ports, Right};
+use hurd_ports::{IoRight, Parents, Ports, Right};
 use hurd_trans_iface::{Names, NewNode, Server};
 use std::alloc::Global;
 use std::marker::Model;
 
-/// Servers with their nodes, and the ports of tasks. A node is held once for each right on it.
+/// Servers with their nodes, and the ports of tasks. A node is held once for each time that a right names it.
 #[derive(Drop)]
 pub struct Core<S = Box<dyn Server>> {
     nodes: Nodes<S>,
@@ -50,7 +51,7 @@ impl<S> Model for Core<S> {
 }
 
 impl<S: Server> Core<S> {
-    /// These nodes, and these ports; each node is held once for each right on it.
+    /// These nodes, and these ports; each node is held once for each time that a right names it.
     pub fn new(nodes: Nodes<S>, ports: Ports) -> Core<S>
         requires { HoldsRights nodes.holds ports.state.tasks }
         ensures { world_of S.meaning result ≡ world_from (shown S.meaning nodes) ports.state }
@@ -60,13 +61,13 @@ impl<S: Server> Core<S> {
 
     // What a call asks. Nothing of this takes memory but `names`, and nothing changes.
 
-    /// The right of a task under a number.
+    /// The right to use a node of a task under a number.
     ///
-    /// Errors, in order: `ESRCH` no such task, `EBADF` no such port.
-    pub fn right(&self, task: TaskId, port: u64) -> Result<&Right, Errno>
-        ensures { lent result ≡ right_of (ports_of (world_of S.meaning self.now)) task.0 port }
+    /// Errors, in order: `ESRCH` no such task, `EBADF` no such port, or one that controls a server.
+    pub fn io_right(&self, task: TaskId, port: u64) -> Result<&IoRight, Errno>
+        ensures { lent result ≡ io_right_of (ports_of (world_of S.meaning self.now)) task.0 port }
     {
-        self.ports.right(task, port)
+        self.ports.io_right(task, port)
     }
 
     /// The right of a task under a number, with the attributes of its node.
@@ -77,7 +78,7 @@ impl<S: Server> Core<S> {
         ensures is { named result ≡ port_asks (world_of S.meaning self.now) task.0 port }
         ensures told { IfOk result IsTold }
     {
-        let right = self.ports.right(task, port)?;
+        let right = self.ports.io_right(task, port)?;
         let Some(attrs) = self.nodes.attrs(right.node) else {
             return Err(Errno::EDIED);
         };
@@ -98,8 +99,8 @@ impl<S: Server> Core<S> {
         ensures is { both_named result ≡ both_asks (world_of S.meaning self.entry.now) task.0 port other }
         ensures told { IfOk result (λ p. IsTold p.0 × IsTold p.1) }
     {
-        let right = self.ports.right(task, port)?;
-        let second = self.ports.right(task, other)?;
+        let right = self.ports.io_right(task, port)?;
+        let second = self.ports.io_right(task, other)?;
         let Some(attrs) = self.nodes.attrs(right.node) else {
             return Err(Errno::EDIED);
         };
@@ -128,7 +129,7 @@ impl<S: Server> Core<S> {
     pub fn handle(&self, task: TaskId, port: u64, mode: OpenFlags) -> Result<Handle, Errno>
         ensures { result ≡ handle_asks (world_of S.meaning self.now) task.0 port mode.0 }
     {
-        let right = self.ports.right(task, port)?;
+        let right = self.ports.io_right(task, port)?;
         let Some(opened) = self.ports.opened(right.open_name) else {
             return Err(Errno::EBADF);
         };
@@ -283,16 +284,18 @@ impl<S: Server> Core<S> {
         task: TaskId,
         node: NodeName,
         ids: Ids,
+        parents: Parents,
         modes: OpenFlags,
     ) -> Result<u64, Errno>
         ensures { let w = world_of S.meaning self.old in
-            Does w (room_asks w task.0 1) (λ x. opening task.0 x node ids modes) (λ x. x.next) result (world_of S.meaning self.new) }
+            Does w (room_asks w task.0 1) (λ x. opening task.0 x node ids parents modes) (λ x. x.next) result (world_of S.meaning self.new) }
     {
         self.ports.room(task, 1)?;
-        self.nodes.reserve_hold()?;
-        let port = self.ports.insert(task, node, ids, modes)?;
+        self.ports.reserve(task)?;
+        self.nodes.reserve_holds(holds_by(&parents))?;
         self.nodes.hold(node);
-        Ok(port)
+        hold_ways(&mut self.nodes, parents.as_slice());
+        Ok(self.ports.fill(task, node, ids, parents, modes))
     }
 
     /// Makes a file in a directory, and opens it as `open` does.
@@ -304,25 +307,26 @@ impl<S: Server> Core<S> {
         task: TaskId,
         file: NodeToMake,
         ids: Ids,
+        parents: Parents,
         modes: OpenFlags,
     ) -> Result<u64, Errno>
         ensures { let w = world_of S.meaning self.old in
-            Does w (making_asks w task.0 (new_node_of file.entry)) (making_open task.0 (new_node_of file.entry) ids modes) (λ a. a.0.next)
+            Does w (making_asks w task.0 (new_node_of file.entry)) (making_open task.0 (new_node_of file.entry) ids parents modes) (λ a. a.0.next)
             result (world_of S.meaning self.new) }
     {
         self.ports.room(task, 2)?;
         self.nodes.can_make(file.dir, file.name, Kind::File)?;
         self.ports.reserve(task)?;
-        self.nodes.reserve_hold()?;
+        self.nodes.reserve_holds(holds_by(&parents))?;
         let Some(name) = self.ports.next_name(task) else {
             return Err(Errno::ESRCH);
         };
         self.nodes
             .make(alloc, file.dir, file.name, file.node(Kind::File, name))?;
         self.ports.take_name(task);
-        let port = self.ports.fill(task, name, ids, modes);
         self.nodes.hold(name);
-        Ok(port)
+        hold_ways(&mut self.nodes, parents.as_slice());
+        Ok(self.ports.fill(task, name, ids, parents, modes))
     }
 
     /// Makes a file that no entry names, of the server of a node, and opens it as `open` does.
@@ -333,24 +337,25 @@ impl<S: Server> Core<S> {
         task: TaskId,
         file: NamelessToMake,
         ids: Ids,
+        parents: Parents,
         modes: OpenFlags,
     ) -> Result<u64, Errno>
         ensures { let w = world_of S.meaning self.old in
-            Does w (making_nameless_asks w task.0 file.dir) (making_nameless task.0 file ids modes) (λ a. a.0.next)
+            Does w (making_nameless_asks w task.0 file.dir) (making_nameless task.0 file ids parents modes) (λ a. a.0.next)
             result (world_of S.meaning self.new) }
     {
         self.ports.room(task, 2)?;
         self.nodes.can_make_nameless(file.dir, Kind::File)?;
         self.ports.reserve(task)?;
-        self.nodes.reserve_hold()?;
+        self.nodes.reserve_holds(holds_by(&parents))?;
         let Some(name) = self.ports.next_name(task) else {
             return Err(Errno::ESRCH);
         };
         self.nodes.make_nameless(file.dir, file.node(name))?;
         self.ports.take_name(task);
-        let port = self.ports.fill(task, name, ids, modes);
         self.nodes.hold(name);
-        Ok(port)
+        hold_ways(&mut self.nodes, parents.as_slice());
+        Ok(self.ports.fill(task, name, ids, parents, modes))
     }
 
     /// Makes a directory in a directory.
@@ -380,9 +385,9 @@ impl<S: Server> Core<S> {
             Follows w (answered (right_of (ports_of w) task.0 port) (λ r. record { reply = Done; changes = dropping task.0 port }))
             (told (λ u. Done) result) (world_of S.meaning self.new) }
     {
-        let node = self.ports.right(task, port)?.node;
+        release_right(&mut self.nodes, self.ports.right(task, port)?);
         self.ports.deallocate(task, port)?;
-        self.nodes.release(node);
+        self.nodes.settle();
         Ok(())
     }
 
@@ -394,10 +399,9 @@ impl<S: Server> Core<S> {
             Does w (room_asks w task.0 0) (λ x. EditTask task.0 (with_port right) ∷ []) (λ x. x.next) result (world_of S.meaning self.new) }
     {
         self.ports.room(task, 0)?;
-        self.nodes.reserve_hold()?;
-        let node = right.node;
+        self.nodes.reserve_holds(holds_of(&right))?;
         let port = self.ports.share(task, right)?;
-        self.nodes.hold(node);
+        hold_right(&mut self.nodes, self.ports.right(task, port)?);
         Ok(port)
     }
 
@@ -408,11 +412,11 @@ impl<S: Server> Core<S> {
         ensures { let w = world_of S.meaning self.old in
             Does w (send_asks w task.0 port to.0) (λ r. Send r to.0 ∷ []) (λ r. tt) result (world_of S.meaning self.new) }
     {
-        let node = self.ports.right(task, port)?.node;
+        let count = holds_of(self.ports.right(task, port)?);
         self.ports.has_task(to)?;
-        self.nodes.reserve_hold()?;
+        self.nodes.reserve_holds(count)?;
         self.ports.send(alloc, task, port, to)?;
-        self.nodes.hold(node);
+        hold_right(&mut self.nodes, self.ports.right(task, port)?);
         Ok(())
     }
 

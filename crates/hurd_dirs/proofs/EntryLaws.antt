@@ -9,7 +9,8 @@ use Rattle.hurd_creds.specs.declared.errno.Errno.TheVariants.{EACCES, EINVAL, EN
 use Rattle.hurd_creds.specs.Access.{may}
 use Rattle.hurd_trans_iface.specs.Nodes.{is_dir}
 use Rattle.hurd_nodes.specs.Shown.{tree_by}
-use Rattle.hurd_ports.specs.declared.table.Right.{Right}
+use Rattle.hurd_ports.specs.declared.table.IoRight.{IoRight}
+use Rattle.hurd_ports.specs.declared.table.Right.TheVariants.{Io}
 use Rattle.hurd_ports.specs.Tables.{right_of}
 use Rattle.hurd_machine.specs.World.{World, nodes_of, ports_of, header_at, info_at, is_removed}
 use Rattle.hurd_machine.specs.Handle.{Named, port_asks}
@@ -112,14 +113,14 @@ entry_leads w l t p a e = dir_leads w l a e.is_named.is_header e.dir.opened
 
 module _ {S : ℕ → Bool} {v : World} (t : ℕ) (ours : S t ≡ true) (p : ℕ) where
   -- S holds the ids of its rights
-  pub right_taken : (r : Right) → right_of (ports_of v) t p ≡ Ok r → Taken S v r.ids
+  pub right_taken : (r : IoRight) → right_of (ports_of v) t p ≡ Ok (Io r) → Taken S v r.ids
   right_taken r is =
-      let held : Holds S v r = holds_right t ours p r is in
+      let held : Holds S v (Io r) = holds_right t ours p (Io r) is in
       record { uids = λ u h. UidOfRight r held h; gids = λ g h. GidOfRight r held h }
 
   module _ (a : Named) (n : IsNamed v t p a) where
     pub named_seen : Seen S v a.right.node
-    named_seen = Held a.right (holds_right t ours p a.right n.is_right) refl
+    named_seen = Held a.right (holds_right t ours p (Io a.right) n.is_right) refl
 
     -- and sees what is in a directory that they may search
     pub entries_seen : IsEntryDir v a → Sees S v (BodyOf a.right.node)

@@ -33,7 +33,7 @@ mkfile_asks w t p mode =
 
 -- it is made by a task, of a server, and opened with the port's ids and without a test
 abbrev pub making_file : ℕ → OpenFlags → Named × NamelessToMake → Task × Name → Plan
-making_file t flags a m = record { reply = Port m.0.next; changes = making_nameless t a.1 a.0.right.ids (open_modes flags) m }
+making_file t flags a m = record { reply = Port m.0.next; changes = making_nameless t a.1 a.0.right.ids a.0.right.parents (open_modes flags) m }
 
 abbrev pub mkfile : World → ℕ → OpenFlags → Named × NamelessToMake → Plan
 mkfile w t flags a = answered (making_nameless_asks w t a.1.dir) (λ m. making_file t flags a m)

@@ -67,5 +67,6 @@ pub fn dir_mkfile<S: Server>(
     let file = made.file;
     core.can_make_nameless(task, &file)?;
     let ids = made.above.right.ids.copied(alloc)?;
-    core.make_nameless(task, file, ids, flags.open_modes())
+    let parents = made.above.right.parents.copied(alloc)?;
+    core.make_nameless(task, file, ids, parents, flags.open_modes())
 }

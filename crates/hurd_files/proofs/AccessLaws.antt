@@ -7,6 +7,7 @@ use Rattle.hurd_creds.specs.declared.mode.Mode.{Mode}
 use Rattle.hurd_creds.specs.declared.errno.Errno.TheVariants.{EPERM}
 use Rattle.hurd_creds.specs.Access.{IdSets, holds_uid, is_root, owns}
 use Rattle.hurd_creds.specs.Bits.{known_mode}
+use Rattle.hurd_ports.specs.declared.table.Right.TheVariants.{Io}
 use Rattle.hurd_machine.specs.declared.call.Reply.{Reply}
 use Rattle.hurd_machine.specs.declared.call.Reply.TheVariants.{Done}
 use Rattle.hurd_machine.specs.World.{World, sets_attrs_at}
@@ -43,7 +44,7 @@ may_set w t p can n h =
     subst (MaySet w t p can) same (record { is_named = is_named w t p a.0 a.1; sets = s.1; may = g.0 })
 
 -- ids that own a node hold its owner's uid, or 0
-owner_holds : (S : ℕ → Bool) (v : World) (n : Named) → Holds S v n.right → owns n.right.ids (bare n.header) ≡ true → (u : ℕ) × HasUid S v u × ((u ≡ n.header.owner) ⊎ (u ≡ 0))
+owner_holds : (S : ℕ → Bool) (v : World) (n : Named) → Holds S v (Io n.right) → owns n.right.ids (bare n.header) ≡ true → (u : ℕ) × HasUid S v u × ((u ≡ n.header.owner) ⊎ (u ≡ 0))
 owner_holds S v n held h = elim (or_cases (holds_uid n.right.ids n.header.owner) (is_root n.right.ids) h) [
   | inl e ↦ (n.header.owner, UidOfRight n.right held e, inl refl)
   | inr e ↦ (0, UidOfRight n.right held e, inr refl)
@@ -79,7 +80,7 @@ module _ (t p : ℕ) (can : IdSets → Attrs → Bool) (owner group : Named → 
     rests = λ w s. answered_rests w _ _ s.settled (λ n is. attrs_rests n.right.node (owner n) (group n) (mode n) w s.settled);
     may = λ S v c ours. answered_may v _ _ S v (λ n is.
         let m = may_set v t p can n is in
-        let o = owner_holds S v n (holds_right t ours p n.right m.is_named.is_right) (owners n.right.ids (bare n.header) m.may) in
+        let o = owner_holds S v n (holds_right t ours p (Io n.right) m.is_named.is_right) (owners n.right.ids (bare n.header) m.may) in
         attrs_may n.right.node (owner n) (group n) (mode n) S v v n.header m.is_named.is_header o.0 o.1 o.2);
     same = λ S v w c a ours. answered_same _ _ _ _ (setting_same S v w a ours) (λ n is. refl);
     plain = λ w. answered_plain _ _ (setting_plain w) (λ n is. done_plain Done refl);

@@ -4,7 +4,8 @@ use Rattle.std.specs.Prelude.{Result, Ok, Err, IsOk}
 use Rattle.hurd_creds.specs.declared.errno.Errno.{Errno}
 use Rattle.hurd_creds.specs.declared.errno.Errno.TheVariants.{ENOMEM, EOVERFLOW, ESRCH}
 use Rattle.hurd_creds.specs.Access.{IdSets}
-use Rattle.hurd_ports.specs.declared.table.Right.{Right}
+use Rattle.hurd_ports.specs.declared.table.IoRight.{IoRight}
+use Rattle.hurd_ports.specs.declared.table.Right.TheVariants.{Io}
 use Rattle.hurd_ports.specs.Tables.{Task}
 use Rattle.hurd_ports.specs.Steps.{with_ids_for, with_port}
 use Rattle.hurd_machine.specs.declared.call.Reply.TheVariants.{Port}
@@ -18,8 +19,8 @@ use Rattle.hurd_core.proofs.PlanLaws.{asked-refused, asked-lacks, asked-done}
 use Rattle.hurd_io.specs.Sharing.{share_asks, plan_share}
 
 module _ (w : World) (t p : ℕ) (ids : IdSets → IdSets → IdSets) where
-  abbrev sharing : Right × Task → Plan
-  sharing a = record { reply = Port a.1.next; changes = EditTask t (with_port (with_ids_for (ids a.1.ids a.0.ids) a.0)) ∷ [] }
+  abbrev sharing : IoRight × Task → Plan
+  sharing a = record { reply = Port a.1.next; changes = EditTask t (with_port (Io (with_ids_for (ids a.1.ids a.0.ids) a.0))) ∷ [] }
 
   -- there is no such port
   pub share-no_port : (e : Errno) → port_asks w t p ≡ Err e → Planned w (plan_share w t p ids) (λ n. Port n) (Err e) w
@@ -52,11 +53,11 @@ module _ (w : World) (t p : ℕ) (ids : IdSets → IdSets → IdSets) where
         y.1 ∙ ap Some same
 
     -- the core makes a port with this right, which has the ids that the plan says
-    pub share-does : (right : Right) → ((x : Task) → task_at w t ≡ Some x → right ≡ with_ids_for (ids x.ids n.right.ids) n.right) → (r : Result ℕ Errno) (y : World)
-        → Does w (room_asks w t 0) (λ (x : Task). EditTask t (with_port right) ∷ []) (λ x. x.next) r y → Planned w (plan_share w t p ids) (λ k. Port k) r y
+    pub share-does : (right : IoRight) → ((x : Task) → task_at w t ≡ Some x → right ≡ with_ids_for (ids x.ids n.right.ids) n.right) → (r : Result ℕ Errno) (y : World)
+        → Does w (room_asks w t 0) (λ (x : Task). EditTask t (with_port (Io right)) ∷ []) (λ x. x.next) r y → Planned w (plan_share w t p ids) (λ k. Port k) r y
     share-does right same (Ok m) y d =
         asked-done w (share_asks w t p) sharing (λ k. Port k) (n.right, d.0) m y (shared d.0 d.1) (ap (λ k. Port k) d.2)
-        (d.3 ∙ ap (λ (q : Right). apply_all (EditTask t (with_port q) ∷ []) w) (same d.0 (room_task d.0 d.1)))
+        (d.3 ∙ ap (λ (q : IoRight). apply_all (EditTask t (with_port (Io q)) ∷ []) w) (same d.0 (room_task d.0 d.1)))
     share-does right same (Err e) y d = subst (λ (z : World). Planned w (plan_share w t p ids) (λ k. Port k) (Err e) z) (sym d.0) (elim d.1 [
       | inl refused ↦ share-no_room e refused
       | inr lacks ↦ go (room_asks w t 0) refl lacks.0 lacks.1

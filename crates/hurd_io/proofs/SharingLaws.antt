@@ -3,7 +3,8 @@ use Rattle.std.proofs.Common.{◌≡◌, ◌⊎◌, ℕ, Bool, true, Some, refl,
 use Rattle.std.specs.Prelude.{Ok}
 use Rattle.hurd_creds.specs.declared.errno.Errno.TheVariants.{EOVERFLOW, ESRCH}
 use Rattle.hurd_creds.specs.Access.{IdSets}
-use Rattle.hurd_ports.specs.declared.table.Right.{Right}
+use Rattle.hurd_ports.specs.declared.table.IoRight.{IoRight}
+use Rattle.hurd_ports.specs.declared.table.Right.TheVariants.{Io}
 use Rattle.hurd_ports.specs.Tables.{Task, right_of}
 use Rattle.hurd_machine.specs.declared.call.Reply.TheVariants.{Port}
 use Rattle.hurd_machine.specs.World.{World, ports_of, task_at}
@@ -21,11 +22,11 @@ use Rattle.hurd_core.specs.Core.{room_asks}
 use Rattle.hurd_io.specs.Sharing.{share_asks, plan_share, touches_share, ids_of_port, plan_duplicate, ids_of_task, plan_reauthenticate, ids_among, plan_restrict_auth, told_same, plan_identity, touches_identity}
 
 -- what is shared is a right of the task
-record IsShared (w : World) (t p : ℕ) (a : Right × Task) : Type 0 where
-  is_right : right_of (ports_of w) t p ≡ Ok a.0
+record IsShared (w : World) (t p : ℕ) (a : IoRight × Task) : Type 0 where
+  is_right : right_of (ports_of w) t p ≡ Ok (Io a.0)
   is_task : task_at w t ≡ Some a.1
 
-is_shared : (w : World) (t p : ℕ) (a : Right × Task) → share_asks w t p ≡ Ok a → IsShared w t p a
+is_shared : (w : World) (t p : ℕ) (a : IoRight × Task) → share_asks w t p ≡ Ok a → IsShared w t p a
 is_shared w t p a is =
     let n = first_ok (port_asks w t p) _ a is in
     let x = first_ok (room_asks w t 0) _ a n.2 in
@@ -47,33 +48,33 @@ module _ (t p : ℕ) where
       first_plain _ _ (on_plain _ _ _ refl (λ x e. given_plain _ _ _ refl (λ room. ok_plain x))) (λ x e. ok_plain _))
 
   module _ (ids : IdSets → IdSets → IdSets) where
-    abbrev given : Right × Task → IdSets
+    abbrev given : IoRight × Task → IdSets
     given a = ids a.1.ids a.0.ids
 
     -- where the caller holds the ids that the new port gets
-    share_laws : ((S : ℕ → Bool) (v : World) (a : Right × Task) → S t ≡ true → IsShared v t p a → HasUid S v 0 ⊎ Taken S v (given a)) → CallLaws t (λ w. plan_share w t p ids) (λ w. touches_share w t p)
+    share_laws : ((S : ℕ → Bool) (v : World) (a : IoRight × Task) → S t ≡ true → IsShared v t p a → HasUid S v 0 ⊎ Taken S v (given a)) → CallLaws t (λ w. plan_share w t p ids) (λ w. touches_share w t p)
     share_laws power = record {
       fits = λ w c. answered_within w t (share_asks w t p) _ _ (λ a is.
-          shares_within t a.0 (given a) (Full w t (OnRight w a.0)) w (own_task w t (OnRight w a.0)) (λ q on. inl on));
+          shares_within t a.0 (given a) (Full w t (OnRight w (Io a.0))) w (own_task w t (OnRight w (Io a.0))) (λ q on. inl on));
       proper = λ w s. answered_proper w _ _ (λ a is.
-          let h = has_right w t p a.0 (is_shared w t p a is).is_right in shares_proper t a.0 (given a) w s.coherent h.seat h.is_task h.here);
+          let h = has_right w t p (Io a.0) (is_shared w t p a is).is_right in shares_proper t a.0 (given a) w s.coherent h.seat h.is_task h.here);
       linked = λ w s. answered_linked w _ _ s.linked (λ a is. shares_linked t a.0 (given a) w s.linked);
       sized = λ w s. answered_sized w _ _ s.sizes (λ a is. shares_sized t a.0 (given a) w s.sizes);
       rests = λ w s. answered_rests w _ _ s.settled (λ a is. shares_rests t a.0 (given a) w s.settled);
       may = λ S v c ours. answered_may v _ _ S v (λ a is.
-          let h = is_shared v t p a is in shares_may t a.0 (given a) S v ours (holds_right t ours p a.0 h.is_right) (power S v a ours h));
+          let h = is_shared v t p a is in shares_may t a.0 (given a) S v ours (holds_right t ours p (Io a.0) h.is_right) (power S v a ours h));
       same = λ S v w c a ours. answered_same _ _ _ _ (share_same S v w a ours) (λ b is. refl);
       plain = λ w. answered_plain _ _ (share_plain w) (λ a is. done_plain (Port a.1.next) refl);
     }
 
 pub duplicate_laws : (t p : ℕ) → CallLaws t (λ w. plan_duplicate w t p) (λ w. touches_share w t p)
-duplicate_laws t p = share_laws t p ids_of_port (λ S v a ours h. inr (taken_right S v a.0 (holds_right t ours p a.0 h.is_right)))
+duplicate_laws t p = share_laws t p ids_of_port (λ S v a ours h. inr (taken_right S v a.0 (holds_right t ours p (Io a.0) h.is_right)))
 
 pub reauthenticate_laws : (t p : ℕ) → CallLaws t (λ w. plan_reauthenticate w t p) (λ w. touches_share w t p)
 reauthenticate_laws t p = share_laws t p ids_of_task (λ S v a ours h. inr (taken_task S v t a.1 ours h.is_task))
 
 pub restrict_auth_laws : (t p : ℕ) (asked : IdSets) → CallLaws t (λ w. plan_restrict_auth w t p asked) (λ w. touches_share w t p)
-restrict_auth_laws t p asked = share_laws t p (ids_among asked) (λ S v a ours h. taken_restricted S v a.0 asked (holds_right t ours p a.0 h.is_right))
+restrict_auth_laws t p asked = share_laws t p (ids_among asked) (λ S v a ours h. taken_restricted S v a.0 asked (holds_right t ours p (Io a.0) h.is_right))
 
 -- io_identity
 

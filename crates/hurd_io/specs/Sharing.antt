@@ -3,7 +3,8 @@ use Rattle.std.specs.Prelude.{ℕ, [], ◌∷◌, Result, Ok}
 use Rattle.hurd_creds.specs.declared.errno.Errno.{Errno}
 use Rattle.hurd_creds.specs.Access.{IdSets, restrict}
 use Rattle.hurd_creds.specs.Names.{same_name}
-use Rattle.hurd_ports.specs.declared.table.Right.{Right}
+use Rattle.hurd_ports.specs.declared.table.IoRight.{IoRight}
+use Rattle.hurd_ports.specs.declared.table.Right.TheVariants.{Io}
 use Rattle.hurd_ports.specs.Tables.{Task}
 use Rattle.hurd_ports.specs.Steps.{with_ids_for, with_port}
 use Rattle.hurd_machine.specs.declared.call.Reply.{Reply}
@@ -17,7 +18,7 @@ use Rattle.hurd_machine.specs.Touched.{asked_parts, Nothing, OnRight}
 use Rattle.hurd_core.specs.Core.{room_asks}
 
 -- a port on a node that is there, and a task that can number another
-abbrev pub share_asks : World → ℕ → ℕ → Result (Right × Task) Errno
+abbrev pub share_asks : World → ℕ → ℕ → Result (IoRight × Task) Errno
 share_asks w t p = first (port_asks w t p) (λ n. first (room_asks w t 0) (λ x. Ok (n.right, x)))
 
 -- one port more on the node, which shares the open, with the ids that follow from the task's and the port's
@@ -25,12 +26,12 @@ abbrev pub plan_share : World → ℕ → ℕ → (IdSets → IdSets → IdSets)
 plan_share w t p ids =
     answered (share_asks w t p) (λ a. record {
       reply = Port a.1.next;
-      changes = EditTask t (with_port (with_ids_for (ids a.1.ids a.0.ids) a.0)) ∷ [];
+      changes = EditTask t (with_port (Io (with_ids_for (ids a.1.ids a.0.ids) a.0))) ∷ [];
     })
 
 -- a right comes
 abbrev pub touches_share : World → ℕ → ℕ → Part → Type 0
-touches_share w t p = asked_parts (share_asks w t p) (λ a. OnRight w a.0)
+touches_share w t p = asked_parts (share_asks w t p) (λ a. OnRight w (Io a.0))
 
 -- io_duplicate: with the port's ids
 abbrev pub ids_of_port : IdSets → IdSets → IdSets

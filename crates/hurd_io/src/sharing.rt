@@ -6,6 +6,7 @@ ghost use Rattle.hurd_io.specs.Sharing.{plan_duplicate, plan_identity, plan_reau
 
 use hurd_core::Core;
 use hurd_creds::{Errno, Ids, TaskId};
+use hurd_ports::Right;
 use hurd_trans_iface::Server;
 use std::alloc::Global;
 
@@ -24,7 +25,7 @@ pub fn io_duplicate<S: Server>(
     let right = core.port_node(task, port)?.right;
     core.room(task, 0)?;
     let right = right.copied(alloc)?;
-    core.share(task, right)
+    core.share(task, Right::Io(right))
 }
 
 /// Makes another port like this one, with the task's ids; the two share the open (`io.defs`; GNU Hurd Reference Manual,
@@ -43,8 +44,8 @@ pub fn io_reauthenticate<S: Server>(
     let right = core.port_node(task, port)?.right;
     core.room(task, 0)?;
     let ids = core.ids(task)?.copied(alloc)?;
-    let right = right.with_ids(ids);
-    core.share(task, right)
+    let right = right.with_ids(alloc, ids)?;
+    core.share(task, Right::Io(right))
 }
 
 /// Makes another port like this one, with those of the ids asked for that it has; with uid 0 it has all. The two share the
@@ -64,8 +65,8 @@ pub fn io_restrict_auth<S: Server>(
     let right = core.port_node(task, port)?.right;
     core.room(task, 0)?;
     let ids = right.ids.restrict(alloc, &ids)?;
-    let right = right.with_ids(ids);
-    core.share(task, right)
+    let right = right.with_ids(alloc, ids)?;
+    core.share(task, Right::Io(right))
 }
 
 /// Whether two ports are on one node (`io.defs`). Takes no memory.

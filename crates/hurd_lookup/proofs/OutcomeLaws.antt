@@ -9,19 +9,20 @@ use Rattle.hurd_creds.specs.Access.{IdSets, may}
 use Rattle.hurd_creds.specs.Bits.{asks, open_modes, READ, WRITE, EXEC}
 use Rattle.hurd_trans_iface.specs.Nodes.{Node, Header, is_dir, new_file}
 use Rattle.hurd_trans_iface.proofs.Goods.{good}
-use Rattle.hurd_ports.specs.Tables.{Task, fresh}
+use Rattle.hurd_ports.specs.declared.parents.Parent.{Parent}
+use Rattle.hurd_ports.specs.Tables.{Task, fresh, ways_of}
 use Rattle.hurd_ports.specs.Steps.{named}
 use Rattle.hurd_nodes.specs.Shown.{tree_by}
-use Rattle.hurd_machine.specs.World.{World, task_at, header_at, server_at, nodes_of}
+use Rattle.hurd_machine.specs.World.{World, IsAmong, task_at, header_at, server_at, nodes_of}
 use Rattle.hurd_machine.specs.Change.{Change, apply_all, opening}
-use Rattle.hurd_machine.specs.Sight.{Part, TaskOf, bare, Taken, Allowed, ToRead}
-use Rattle.hurd_machine.specs.Sound.{Coherent, Linked}
-use Rattle.hurd_machine.proofs.Coherence.{AllProper, header_old, home_old, proper_append}
+use Rattle.hurd_machine.specs.Sight.{Part, OfNode, TaskOf, bare, Taken, Allowed, ToRead}
+use Rattle.hurd_machine.specs.Sound.{Below, Coherent, Linked}
+use Rattle.hurd_machine.proofs.Coherence.{AllProper, header_old, home_old, named_still, proper_append}
 use Rattle.hurd_machine.proofs.Settle.{Rests, rests_append, rests_opening}
 use Rattle.hurd_machine.proofs.Frame.{AllWithin, Full, within_append}
 use Rattle.hurd_machine.proofs.Sizes.{KeepsSized, sized_append}
 use Rattle.hurd_machine.proofs.Links.{KeepsLinked, linked_append, leads_unless, file_hangs}
-use Rattle.hurd_machine.proofs.Confine.{NewTo}
+use Rattle.hurd_machine.proofs.Confine.{NewTo, SeenOrNew}
 use Rattle.hurd_machine.proofs.Several.{AllMay}
 use Rattle.hurd_machine.proofs.Permits.{may_append, later_new, opens_may}
 use Rattle.hurd_machine.proofs.Opens as fragments
@@ -55,7 +56,7 @@ no_dir true true h k = absurd (cc)
 no_dir false b h k = refl
 no_dir true false h k = absurd (cc)
 
-module _ (w : World) (t : ℕ) (x : Task) (is : task_at w t ≡ Some x) (ids : IdSets) (r : Request) where
+module _ (w : World) (t : ℕ) (x : Task) (is : task_at w t ≡ Some x) (ids : IdSets) (parents : List Parent) (r : Request) where
   abbrev modes : OpenFlags
   modes = open_modes r.flags
 
@@ -63,7 +64,7 @@ module _ (w : World) (t : ℕ) (x : Task) (is : task_at w t ≡ Some x) (ids : I
   n = fresh t x
 
   abbrev changes : Outcome → List Change
-  changes o = lookup_changes t x ids modes o
+  changes o = lookup_changes t x ids parents modes o
 
   -- the parts that it may write
   abbrev Writes : Outcome → Part → Type 0
@@ -71,7 +72,7 @@ module _ (w : World) (t : ℕ) (x : Task) (is : task_at w t ≡ Some x) (ids : I
 
   -- the new file is opened
   abbrev file_opened : List Change
-  file_opened = opening t (named 1 x) n ids modes
+  file_opened = opening t (named 1 x) n ids parents modes
 
   -- a file that is made
   module _ (s : Name) (f : NewNodeAt) where
@@ -91,58 +92,58 @@ module _ (w : World) (t : ℕ) (x : Task) (is : task_at w t ≡ Some x) (ids : I
     header = entered_header w n s file f.dir f.name
 
   pub outcome_within : (o : Outcome) → AllWithin (Full w t (lookup_parts w o)) w (changes o)
-  outcome_within (Opens m) = opens_within w t x is m ids modes (Writes (Opens m)) (own_task w t (lookup_parts w (Opens m))) (inr (inr (fresh_new w t x is))) (λ p on. inl on)
+  outcome_within (Opens m) = opens_within w t x is m ids parents modes (Writes (Opens m)) (own_task w t (lookup_parts w (Opens m))) (inr (inr (fresh_new w t x is))) (λ p on. inl on)
   outcome_within (Makes s f) =
       let new = fresh_new w t x is in
       let own : Writes (Makes s f) (TaskOf t) = own_task w t (lookup_parts w (Makes s f)) in
       within_append (Writes (Makes s f)) (made s f) file_opened w
       (entered_within w n s (file s f) f.dir f.name (Writes (Makes s f)) own (inr (inr new)) (inr (inr new)) (inr (inr new)) (inl (inr (inl refl))) (inl (inr (inr refl))))
-      (opens_within (left s f) t (named 1 x) (seat s f) n ids modes (Writes (Makes s f)) own (inr (inr (fragments.later_new w t 1 x is)))
+      (opens_within (left s f) t (named 1 x) (seat s f) n ids parents modes (Writes (Makes s f)) own (inr (inr (fragments.later_new w t 1 x is)))
       (λ p on. let same : on.0 ≡ s = cc (on.1, entered_home w n s (file s f) f.dir f.name) in inl (inl (rw (on.2, same) refl))))
 
-  pub outcome_proper : Coherent w → (o : Outcome) → Leads w ids r o → AllProper w (changes o)
-  outcome_proper c (Opens m) l =
-      opens_proper w t x is m ids modes c (header_old c m l.0 l.1) (λ writes h e.
+  pub outcome_proper : Coherent w → ((m : Name) → IsAmong m (ways_of parents) → Below w m) → (o : Outcome) → Leads w ids r o → AllProper w (changes o)
+  outcome_proper c up (Opens m) l =
+      opens_proper w t x is m ids parents modes c (header_old c m l.0 l.1) up (λ writes h e.
       let same : l.0 ≡ h = cc (l.1, e) in
       rw (← same) (no_dir (is_dir l.0.kind) (asks r.flags WRITE) l.3 (kept_write r.flags writes)))
-  outcome_proper c (Makes s f) l =
+  outcome_proper c up (Makes s f) l =
       let m : MayMake w f.dir f.name File = may_make w f.dir f.name File l.0 l.1 in
       proper_append (made s f) file_opened w c
       (entered_proper w n s (file s f) f.dir f.name c (fresh_next w t x is) l.2 (ap tree_by m.is_info ∙ m.tree) m.absent (made_in f.dir (asked_node File f n) (file s f) refl w (home_old c f.dir s l.2)))
-      (λ d. opens_proper (left s f) t (named 1 x) (seat s f) n ids modes d (entered_below w n s (file s f) f.dir f.name c (fresh_next w t x is))
+      (λ d. opens_proper (left s f) t (named 1 x) (seat s f) n ids parents modes d (entered_below w n s (file s f) f.dir f.name c (fresh_next w t x is)) (λ k way. named_still w c n (fresh_next w t x is) 1 k (up k way))
       (λ writes h e. let same : (file s f).header ≡ h = cc (header s f, e) in rw (← same) refl))
 
   pub outcome_rests : (o : Outcome) → Leads w ids r o → Rests w (changes o)
-  outcome_rests (Opens m) l = rests_opening w t x is m ids modes
+  outcome_rests (Opens m) l = rests_opening w t x is m ids parents modes
   outcome_rests (Makes s f) l =
       let m : MayMake w f.dir f.name File = may_make w f.dir f.name File l.0 l.1 in
       let is_server : server_at w s ≡ Some m.info = rw l.2 at m.is_info in
-      rests_append (made s f) file_opened w (entered_rests w n s (file s f) f.dir f.name refl m.info is_server) (rests_opening (left s f) t (named 1 x) (seat s f) n ids modes)
+      rests_append (made s f) file_opened w (entered_rests w n s (file s f) f.dir f.name refl m.info is_server) (rests_opening (left s f) t (named 1 x) (seat s f) n ids parents modes)
 
   pub outcome_linked : Coherent w → Linked (nodes_of w) → (o : Outcome) → Leads w ids r o → KeepsLinked w (changes o)
-  outcome_linked c l (Opens m) k = opens_linked w t x m ids modes
+  outcome_linked c l (Opens m) k = opens_linked w t x m ids parents modes
   outcome_linked c l (Makes s f) k =
       let m : MayMake w f.dir f.name File = may_make w f.dir f.name File k.0 k.1 in
       linked_append (made s f) file_opened w
       (entered_linked w n s (file s f) f.dir f.name c (fresh_next w t x is) m (leads_unless w l f.dir k.3 k.4 k.5) tt (file_hangs f.dir f.owner f.group f.mode))
-      (opens_linked (left s f) t (named 1 x) n ids modes)
+      (opens_linked (left s f) t (named 1 x) n ids parents modes)
 
   pub outcome_sized : (o : Outcome) → Leads w ids r o → KeepsSized w (changes o)
-  outcome_sized (Opens m) l = opens_sized w t x m ids modes
+  outcome_sized (Opens m) l = opens_sized w t x m ids parents modes
   outcome_sized (Makes s f) l =
       let m : MayMake w f.dir f.name File = may_make w f.dir f.name File l.0 l.1 in
       let is_server : server_at w s ≡ Some m.info = rw l.2 at m.is_info in
       sized_append (made s f) file_opened w
       (entered_sized w n s (file s f) f.dir f.name good (λ i e. let same : m.info ≡ i = cc (is_server, e) in rw (← same) (made_fit f.dir (asked_node File f n) (file s f) refl good m.info m.tree)))
-      (opens_sized (left s f) t (named 1 x) n ids modes)
+      (opens_sized (left s f) t (named 1 x) n ids parents modes)
 
-  pub outcome_may : (S : ℕ → Bool) → Coherent w → S t ≡ true → Taken S w ids → (o : Outcome) → PlaceSeen S w (place_of o) → Leads w ids r o → AllMay S w w (changes o)
-  outcome_may S c ours taken (Opens m) seen l =
-      opens_may S w w t x m ids modes ours (later_new S w t x x.made ours is (omega arith)) (inl seen) (inr taken) (λ read h e.
+  pub outcome_may : (S : ℕ → Bool) → Coherent w → S t ≡ true → Taken S w ids → ((m : Name) → IsAmong m (ways_of parents) → SeenOrNew S w m) → (o : Outcome) → PlaceSeen S w (place_of o) → Leads w ids r o → AllMay S w w (changes o)
+  outcome_may S c ours taken ways (Opens m) seen l =
+      opens_may S w w t x m ids parents modes ours (later_new S w t x x.made ours is (omega arith)) (inl seen) ways (inr taken) (λ read h e.
       let same : l.0 ≡ h = cc (l.1, e) in
       ToRead (Allowed ids taken (rw (← same) (reads ids l.0 r.flags l.2 (kept_read r.flags read)))))
-  outcome_may S c ours taken (Makes s f) seen l =
+  outcome_may S c ours taken ways (Makes s f) seen l =
       let new : NewTo S w n = later_new S w t x x.made ours is (omega arith) in
       may_append S w (made s f) file_opened w (tt, (tt, tt))
-      (entered_may w n s (file s f) f.dir f.name S w ours new (f.dir, seen.0, l.2) (λ p e. absurd (cc)))
-      (opens_may S w (left s f) t (named 1 x) n ids modes ours (later_new S w t x (x.made + 1) ours is (omega arith)) (inr new) (inr taken) (λ read h e. absurd (new.1 (header_old c n h e))))
+      (entered_may w n s (file s f) f.dir f.name S w ours new (OfNode f.dir seen.0 l.2) (λ p e. absurd (cc)))
+      (opens_may S w (left s f) t (named 1 x) n ids parents modes ours (later_new S w t x (x.made + 1) ours is (omega arith)) (inr new) ways (inr taken) (λ read h e. absurd (new.1 (header_old c n h e))))

@@ -18,7 +18,7 @@ outcome_of (outcome.Opens n) = Opens n
 outcome_of (outcome.Makes s f) = Makes s (new_node_of f)
 
 abbrev pub looked_of : FoundAt → Looked
-looked_of l = record { ids = l.ids.now; outcome = outcome_of l.outcome }
+looked_of l = record { ids = l.ids.now; parents = l.parents.now; outcome = outcome_of l.outcome }
 
 abbrev pub placed : Result code.Place Errno → Result Place Errno
 placed (Ok p) = Ok (place_of p)

@@ -12,7 +12,8 @@ use Rattle.hurd_creds.specs.Access.{IdSets, may, least_uid}
 use Rattle.hurd_creds.specs.Bits.{asks, known_mode, open_modes, READ, WRITE, EXEC, CREATE, EXCL, DIRECTORY}
 use Rattle.hurd_trans_iface.specs.Nodes.{Header, is_dir}
 use Rattle.hurd_trans_iface.specs.Answers.{entry_of}
-use Rattle.hurd_ports.specs.Tables.{Task, right_of}
+use Rattle.hurd_ports.specs.declared.parents.Parent.{Parent}
+use Rattle.hurd_ports.specs.Tables.{Task, io_right_of}
 use Rattle.hurd_machine.specs.declared.call.Lookup.TheVariants as found
 use Rattle.hurd_machine.specs.declared.call.Reply.TheVariants.{Found}
 use Rattle.hurd_machine.specs.World.{World, ports_of, header_at, body_at, home_at, is_removed, is_server_root, makes_at}
@@ -127,28 +128,29 @@ names_taken (Makes s f) = 2
 abbrev pub request : List ℕ → OpenFlags → Mode → Request
 request path flags mode = record { flags = flags; mode = mode; wants_dir = asks flags DIRECTORY || ends_with_slash path }
 
--- what a lookup is to do, and by which ids: those of the port that it begins at
+-- what a lookup is to do, by which ids, and come in by which ways: those of the port that it begins at
 pub record Looked : Type 0 where
   pub ids : IdSets
+  pub parents : List Parent
   pub outcome : Outcome
 
 -- from the node of a port along a path to its end
 abbrev pub found_asks : World → ℕ → ℕ → List ℕ → Request → Result Looked Errno
 found_asks w t p path r =
-    first (right_of (ports_of w) t p) (λ q.
+    first (io_right_of (ports_of w) t p) (λ q.
     on EDIED (header_at w q.node) (λ h.
     given ENAMETOOLONG (is_short path) (
     first (walk w q.ids r q.node (names_in path)) (λ place.
-    first (end_asks w q.ids r place) (λ o. Ok (record { ids = q.ids; outcome = o }))))))
+    first (end_asks w q.ids r place) (λ o. Ok (record { ids = q.ids; parents = q.parents; outcome = o }))))))
 
 -- all that a lookup asks, with its refusals in order
 abbrev pub lookup_asks : World → ℕ → ℕ → List ℕ → Request → Result (Looked × Task) Errno
 lookup_asks w t p path r = first (found_asks w t p path r) (λ l. first (room_asks w t (names_taken l.outcome)) (λ x. Ok (l, x)))
 
 -- what is opened, or made and opened
-abbrev pub lookup_changes : ℕ → Task → IdSets → OpenFlags → Outcome → List Change
-lookup_changes t x ids modes (Opens n) = opening t x n ids modes
-lookup_changes t x ids modes (Makes s f) = making_open t f ids modes (x, s)
+abbrev pub lookup_changes : ℕ → Task → IdSets → List Parent → OpenFlags → Outcome → List Change
+lookup_changes t x ids parents modes (Opens n) = opening t x n ids parents modes
+lookup_changes t x ids parents modes (Makes s f) = making_open t f ids parents modes (x, s)
 
 -- the users of the server of what is opened; what is made also changes its directory
 abbrev pub lookup_parts : World → Outcome → Part → Type 0
@@ -159,7 +161,7 @@ lookup_parts w (Makes s f) p = (p ≡ UsersOf s) ⊎ ((p ≡ BodyOf f.dir) ⊎ (
 abbrev pub plan_lookup : World → ℕ → ℕ → List ℕ → OpenFlags → Mode → Plan
 plan_lookup w t p path flags mode =
     let r = request path flags mode in
-    answered (lookup_asks w t p path r) (λ l. record { reply = Found (found.Done l.1.next); changes = lookup_changes t l.1 l.0.ids (open_modes flags) l.0.outcome })
+    answered (lookup_asks w t p path r) (λ l. record { reply = Found (found.Done l.1.next); changes = lookup_changes t l.1 l.0.ids l.0.parents (open_modes flags) l.0.outcome })
 
 abbrev pub touches_lookup : World → ℕ → ℕ → List ℕ → OpenFlags → Mode → Part → Type 0
 touches_lookup w t p path flags mode = asked_parts (lookup_asks w t p path (request path flags mode)) (λ l. lookup_parts w l.0.outcome)

@@ -13,13 +13,15 @@ use crate::walk::walk;
 use hurd_core::Core;
 use hurd_creds::{Errno, Ids, Mode, OpenFlags, TaskId};
 use hurd_machine::Lookup;
+use hurd_ports::{IoRight, Parents};
 use hurd_trans_iface::Server;
 use std::alloc::Global;
 
-/// What a lookup is to do, and by which ids: those of the port that it begins at.
+/// What a lookup is to do, by which ids, and come in by which ways: those of the port that it begins at.
 #[derive(Clone, Copy, Debug)]
 pub(crate) struct FoundAt<'a, 'p> {
     pub(crate) ids: &'a Ids,
+    pub(crate) parents: &'a Parents,
     pub(crate) outcome: Outcome<'p>,
 }
 
@@ -36,17 +38,21 @@ fn found_asked<'a, 'p, S: Server>(
 ) -> Result<FoundAt<'a, 'p>, Errno>
     ensures { looked result ≡ found_asks (world_of S.meaning core.entry.now) task.0 dir path.entry.now request }
 {
-    let right = core.right(task, dir)?;
+    let right = core.io_right(task, dir)?;
     let Some(_attrs) = core.attrs(right.node) else {
         return Err(Errno::EDIED);
     };
     if !path::is_short(path) {
         return Err(Errno::ENAMETOOLONG);
     }
-    let ids = &right.ids;
+    let IoRight { ids, parents, .. } = right;
     let place = walk(core, ids, request, right.node, path)?;
     let outcome = end_asked(core, ids, request, place)?;
-    Ok(FoundAt { ids, outcome })
+    Ok(FoundAt {
+        ids,
+        parents,
+        outcome,
+    })
 }
 
 /// Looks a path up from a directory that a port names, and opens what it comes to, or makes a file there (GNU Hurd
@@ -74,13 +80,18 @@ pub fn dir_lookup<S: Server>(
         Planned w (plan_lookup w task.0 dir path.now flags mode) Found result (world_of S.meaning core.new) }
 {
     let request = Request::new(path, flags, mode);
-    let FoundAt { ids, outcome } = found_asked(core, task, dir, path, request)?;
+    let FoundAt {
+        ids,
+        parents,
+        outcome,
+    } = found_asked(core, task, dir, path, request)?;
     core.room(task, outcome.names())?;
     let ids = ids.copied(alloc)?;
+    let parents = parents.copied(alloc)?;
     let modes = flags.open_modes();
     let port = match outcome {
-        Outcome::Opens(node) => core.open(task, node, ids, modes)?,
-        Outcome::Makes(_, file) => core.make_file(alloc, task, file, ids, modes)?,
+        Outcome::Opens(node) => core.open(task, node, ids, parents, modes)?,
+        Outcome::Makes(_, file) => core.make_file(alloc, task, file, ids, parents, modes)?,
     };
     Ok(Lookup::Done(port))
 }

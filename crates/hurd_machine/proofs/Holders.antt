@@ -14,7 +14,7 @@ use Rattle.hurd_ports.specs.Tables.{Task, rights_of, names_open, names_node, nod
 use Rattle.hurd_ports.specs.Steps.{edit_task}
 use Rattle.hurd_ports.proofs.HeldLaws.{any-at}
 use Rattle.hurd_machine.specs.World.{World, IsAmong, open_at}
-use Rattle.hurd_machine.specs.Sight.{one_if, count_list, count_rights}
+use Rattle.hurd_machine.specs.Sight.{naming, one_if, weigh_list, weigh_rights, count_list, count_rights}
 use Rattle.hurd_machine.specs.Change.{settle}
 use Rattle.hurd_machine.proofs.Retained.{retained, none_retained, was_retained}
 use Rattle.hurd_machine.proofs.Tasks.{edit_still}
@@ -33,6 +33,15 @@ either_counted : (a b : ℕ) → (nat_lt 0 a || nat_lt 0 b) ≡ nat_lt 0 (a + b)
 either_counted zero b = ap (λ n. nat_lt 0 n) (omega arith)
 either_counted (suc a) b = grind (arith, nat_tests)
 
+-- what passes a test where it weighs anything
+list_weighed : {X : Type 0} (T : X → Bool) (W : X → ℕ) → ((x : X) → T x ≡ nat_lt 0 (W x)) → (xs : List X) → list_any T xs ≡ nat_lt 0 (weigh_list W xs)
+list_weighed T W same [] = refl
+list_weighed T W same (x ∷ xs) = rw (same x, list_weighed T W same xs) (either_counted (W x) (weigh_list W xs))
+
+tasks_weighed : (T : Right → Bool) (W : Right → ℕ) → ((r : Right) → T r ≡ nat_lt 0 (W r)) → (ts : List Task) → list_any (λ (x : Task). list_any T (rights_of x)) ts ≡ nat_lt 0 (weigh_rights W ts)
+tasks_weighed T W same [] = refl
+tasks_weighed T W same (x ∷ ts) = rw (list_weighed T W same (rights_of x), tasks_weighed T W same ts) (either_counted (weigh_list W (rights_of x)) (weigh_rights W ts))
+
 tasks_counted : (T : Right → Bool) (ts : List Task) → list_any (λ (x : Task). list_any T (rights_of x)) ts ≡ nat_lt 0 (count_rights T ts)
 tasks_counted T [] = refl
 tasks_counted T (x ∷ ts) = rw (list_counted T (rights_of x), tasks_counted T ts) (either_counted (count_list T (rights_of x)) (count_rights T ts))
@@ -45,9 +54,9 @@ pub held_counted : (ts : List Task) (o : Name) → is_held ts o ≡ nat_lt 0 (co
 unfolding is_held
 held_counted ts o = tasks_counted (names_open o) ts
 
-pub named_counted : (ts : List Task) (n : Name) → is_named ts n ≡ nat_lt 0 (count_rights (names_node n) ts)
+pub named_counted : (ts : List Task) (n : Name) → is_named ts n ≡ nat_lt 0 (weigh_rights (naming n) ts)
 unfolding is_named
-named_counted ts n = tasks_counted (names_node n) ts
+named_counted ts n = tasks_weighed (names_node n) (naming n) (λ r. list_counted (λ m. same_name n m) (nodes_of r)) ts
 
 -- whether some element passes a test
 
@@ -112,7 +121,7 @@ held_by_right ts t x r at i = is_any (names_open r.open_name) ts (record { task 
 pub named_by_right : (ts : List Task) (t : ℕ) (x : Task) (r : Right) (n : Name) → slice_get ts t ≡ Some x → IsAmong r (rights_of x) → IsAmong n (nodes_of r) → is_named ts n ≡ true
 unfolding is_named
 named_by_right ts t x r n at i named =
-    is_any (names_node n) ts (record { task = t; seat = x; is_task = at; right = r; here = i; passes = any_among (λ m. same_name m n) n (nodes_of r) named (same_name-itself n) })
+    is_any (names_node n) ts (record { task = t; seat = x; is_task = at; right = r; here = i; passes = any_among (λ m. same_name n m) n (nodes_of r) named (same_name-itself n) })
 
 -- opens that are left are those that are held
 

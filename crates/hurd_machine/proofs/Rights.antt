@@ -6,9 +6,9 @@ use Rattle.hurd_ports.specs.declared.table.Port.{Port}
 use Rattle.hurd_ports.specs.Tables.{Task, rights_of, right_in}
 use Rattle.hurd_ports.specs.Steps.{named, with_ids, with_port, without_port, ports_without, received}
 use Rattle.hurd_machine.specs.World.{World, IsAmong, task_at}
-use Rattle.hurd_machine.specs.Sight.{one_if, count_list}
+use Rattle.hurd_machine.specs.Sight.{one_if, weigh_list, count_list}
 use Rattle.hurd_machine.specs.Sound.{Coherent}
-use Rattle.hurd_machine.proofs.Tasks.{among_left, among_right, among_cases, among_map, among_mapped, count_append}
+use Rattle.hurd_machine.proofs.Tasks.{among_left, among_right, among_cases, among_map, among_mapped, weigh_append, count_append}
 use Rattle.hurd_machine.proofs.Coherence.{FineRight, Table}
 
 abbrev pub right_of_port : Port → Right
@@ -58,22 +58,26 @@ without_table w c t p x is = record {
   numbers = λ q h. c.tables.numbers t x q is (among_without p x.ports q h);
 }
 
--- one right fewer of those that pass the test, if the one that goes does
-count_without : (T : Right → Bool) (p : ℕ) (ps : List Port) (r : Right) → right_in p ps ≡ Some r → count_list T (map right_of_port ps) ≡ one_if (T r) + count_list T (map right_of_port (ports_without p ps))
-count_without T p [] r = λ h. absurd (cc)
-count_without T p (x ∷ ps) r = go (p == x.number) refl (count_without T p ps r)
+-- without a port the others weigh what all weigh without it
+weigh_without : (W : Right → ℕ) (p : ℕ) (ps : List Port) (r : Right) → right_in p ps ≡ Some r → weigh_list W (map right_of_port ps) ≡ W r + weigh_list W (map right_of_port (ports_without p ps))
+weigh_without W p [] r = λ h. absurd (cc)
+weigh_without W p (x ∷ ps) r = go (p == x.number) refl (weigh_without W p ps r)
   where
-    go : (b : Bool) → (p == x.number) ≡ b → (right_in p ps ≡ Some r → count_list T (map right_of_port ps) ≡ one_if (T r) + count_list T (map right_of_port (ports_without p ps)))
-        → right_in p (x ∷ ps) ≡ Some r → count_list T (map right_of_port (x ∷ ps)) ≡ one_if (T r) + count_list T (map right_of_port (ports_without p (x ∷ ps)))
+    go : (b : Bool) → (p == x.number) ≡ b → (right_in p ps ≡ Some r → weigh_list W (map right_of_port ps) ≡ W r + weigh_list W (map right_of_port (ports_without p ps)))
+        → right_in p (x ∷ ps) ≡ Some r → weigh_list W (map right_of_port (x ∷ ps)) ≡ W r + weigh_list W (map right_of_port (ports_without p (x ∷ ps)))
     go true e ih h = let k : Some x.right ≡ Some r = rw e at h in let same : x.right ≡ r = cc in rw (e, same) refl
     go false e ih h = let rest = ih (rw e at h) in rw e (omega (arith, rest))
 
-pub count_dropped : (T : Right → Bool) (p : ℕ) (x : Task) (r : Right) → right_in p x.ports ≡ Some r → count_list T (rights_of x) ≡ one_if (T r) + count_list T (rights_of (without_port p x))
-count_dropped T p x r is =
-    let one = count_without T p x.ports r is in
-    let all = count_append T (map right_of_port x.ports) x.inbox in
-    let left = count_append T (map right_of_port (ports_without p x.ports)) x.inbox in
+pub weigh_dropped : (W : Right → ℕ) (p : ℕ) (x : Task) (r : Right) → right_in p x.ports ≡ Some r → weigh_list W (rights_of x) ≡ W r + weigh_list W (rights_of (without_port p x))
+weigh_dropped W p x r is =
+    let one = weigh_without W p x.ports r is in
+    let all = weigh_append W (map right_of_port x.ports) x.inbox in
+    let left = weigh_append W (map right_of_port (ports_without p x.ports)) x.inbox in
     omega arith
+
+-- one right fewer of those that pass the test, if the one that goes does
+pub count_dropped : (T : Right → Bool) (p : ℕ) (x : Task) (r : Right) → right_in p x.ports ≡ Some r → count_list T (rights_of x) ≡ one_if (T r) + count_list T (rights_of (without_port p x))
+count_dropped T p x r is = weigh_dropped (λ q. one_if (T q)) p x r is
 
 pub without_counts : (T : Right → Bool) (p : ℕ) (x : Task) (r : Right) → right_in p x.ports ≡ Some r → T r ≡ false → count_list T (rights_of (without_port p x)) ≡ count_list T (rights_of x)
 without_counts T p x r is out = let all = count_dropped T p x r is in let none = ap one_if out in omega arith
@@ -114,13 +118,16 @@ port_has r x =
     subst (λ (rs : List Right). IsAmong r rs) (sym (port_splits r x))
     (among_left r (map right_of_port x.ports ++ r ∷ []) x.inbox (among_right r (map right_of_port x.ports) (r ∷ []) (inl refl)))
 
-pub port_counted : (T : Right → Bool) (r : Right) (x : Task) → count_list T (rights_of (with_port r x)) ≡ count_list T (rights_of x) + one_if (T r)
-port_counted T r x =
-    let all : count_list T (rights_of (with_port r x)) ≡ count_list T (port_split r x) = ap (count_list T) (port_splits r x) in
-    let more = count_append T (map right_of_port x.ports) (r ∷ []) in
-    let now = count_append T (map right_of_port x.ports ++ r ∷ []) x.inbox in
-    let was = count_append T (map right_of_port x.ports) x.inbox in
+pub port_weighs : (W : Right → ℕ) (r : Right) (x : Task) → weigh_list W (rights_of (with_port r x)) ≡ weigh_list W (rights_of x) + W r
+port_weighs W r x =
+    let all : weigh_list W (rights_of (with_port r x)) ≡ weigh_list W (port_split r x) = ap (weigh_list W) (port_splits r x) in
+    let more = weigh_append W (map right_of_port x.ports) (r ∷ []) in
+    let now = weigh_append W (map right_of_port x.ports ++ r ∷ []) x.inbox in
+    let was = weigh_append W (map right_of_port x.ports) x.inbox in
     omega arith
+
+pub port_counted : (T : Right → Bool) (r : Right) (x : Task) → count_list T (rights_of (with_port r x)) ≡ count_list T (rights_of x) + one_if (T r)
+port_counted T r x = port_weighs (λ q. one_if (T q)) r x
 
 pub port_counts : (T : Right → Bool) (r : Right) (x : Task) → T r ≡ false → count_list T (rights_of (with_port r x)) ≡ count_list T (rights_of x)
 port_counts T r x out = let all = port_counted T r x in let none = ap one_if out in omega arith

@@ -17,7 +17,7 @@ use Rattle.hurd_ports.specs.declared.parents.Parent.{Parent as Pair}
 use Rattle.hurd_ports.specs.declared.table.IoRight.{IoRight}
 use Rattle.hurd_ports.specs.declared.table.Right.{Right}
 use Rattle.hurd_ports.specs.declared.table.Right.TheVariants.{Io, Control}
-use Rattle.hurd_ports.specs.Tables.{Task, rights_of, names_open}
+use Rattle.hurd_ports.specs.Tables.{Task, rights_of, names_open, nodes_of as nodes_named}
 use Rattle.hurd_machine.specs.World.{World, IsAmong, boot_root, task_at, open_at, header_at, body_at, home_at, server_at}
 
 -- a node's attributes as far as its header says them
@@ -130,15 +130,27 @@ abbrev pub one_if : Bool → ℕ
 one_if true = 1
 one_if false = 0
 
+-- the sum of what those of a list weigh
+abbrev pub weigh_list : {X : Type 0} → (X → ℕ) → List X → ℕ
+weigh_list W [] = 0
+weigh_list W (x ∷ xs) = W x + weigh_list W xs
+
+-- of what all rights of all tasks weigh
+abbrev pub weigh_rights : (Right → ℕ) → List Task → ℕ
+weigh_rights W [] = 0
+weigh_rights W (t ∷ ts) = weigh_list W (rights_of t) + weigh_rights W ts
+
 -- how many of a list pass a test
 abbrev pub count_list : {X : Type 0} → (X → Bool) → List X → ℕ
-count_list p [] = 0
-count_list p (x ∷ xs) = one_if (p x) + count_list p xs
+count_list p xs = weigh_list (λ x. one_if (p x)) xs
 
 -- how many rights of all tasks pass a test
 abbrev pub count_rights : (Right → Bool) → List Task → ℕ
-count_rights p [] = 0
-count_rights p (t ∷ ts) = count_list p (rights_of t) + count_rights p ts
+count_rights p ts = weigh_rights (λ r. one_if (p r)) ts
+
+-- how often a right names a node
+abbrev pub naming : Name → Right → ℕ
+naming n r = count_list (λ m. same_name n m) (nodes_named r)
 
 -- whether a node's server is s
 abbrev pub is_home : Name → Option Name → Bool

@@ -123,6 +123,11 @@ abbrev pub less_one : Name → List Name → List Name
 less_one n [] = []
 less_one n (m ∷ ms) = if same_name n m then ms else m ∷ less_one n ms
 
+-- without one naming of each of these
+abbrev pub less_all : List Name → List Name → List Name
+less_all [] ms = ms
+less_all (n ∷ ns) ms = less_all ns (less_one n ms)
+
 -- the namings, and for how many more there is room
 abbrev pub holds_of : {S : Type 0} → Held S → List Name × ℕ
 holds_of h = (h.holds, h.spare)

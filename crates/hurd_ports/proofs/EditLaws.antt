@@ -1,28 +1,29 @@
 -- One task that is changed, where its rights still hold what they held.
-use Rattle.std.proofs.Common.{◌≡◌, ℕ, ◌<◌, ◌≤◌, List, [], ◌∷◌, ◌++◌, Bool, true, false, cond, if◌then◌else◌, map, length, refl, ap, sym, subst, ◌∙◌, append_assoc, arith}
+use Rattle.std.proofs.Common.{◌≡◌, ◌⊎◌, inl, inr, ℕ, ◌<◌, ◌≤◌, List, [], ◌∷◌, ◌++◌, Bool, true, false, cond, if◌then◌else◌, map, length, refl, ap, sym, subst, ◌∙◌, append_assoc, arith}
 use Rattle.std.proofs.lemmas.List.{length-map, map_push}
 use Rattle.std.proofs.lemmas.Bool.Decides.{nat_tests}
-use Rattle.std.specs.Prelude.{Some, Result, Ok, Err, slice_get, slice_set, slice_index_or, nat_lt, ◌||◌}
+use Rattle.std.specs.Prelude.{IfOk, Option, Some, None, Result, Ok, Err, slice_get, slice_set, slice_index_or, nat_lt, ◌||◌}
 use Rattle.std.proofs.lemmas.Option.{get_or_from_slice_get}
 use Rattle.std.proofs.lemmas.List.Folds.{list_any-append}
 use Rattle.std.specs.List.{list_any}
+use Rattle.std.specs.Option.{option_map}
 use Rattle.hurd_creds.specs.declared.name.Name.{Name}
 use Rattle.hurd_creds.specs.declared.errno.Errno.{Errno}
-use Rattle.hurd_creds.specs.declared.errno.Errno.TheVariants.{ESRCH}
+use Rattle.hurd_creds.specs.declared.errno.Errno.TheVariants.{EBADF, EOVERFLOW, ESRCH}
 use Rattle.hurd_creds.specs.Access.{IdSets}
-use Rattle.hurd_creds.specs.Memory.{Steps, lacks_memory}
+use Rattle.hurd_creds.specs.Memory.{Steps, is_no_memory, lacks_memory}
 use Rattle.hurd_creds.proofs.StepLaws.{steps-inside}
 use Rattle.hurd_ports.specs.declared.table.Right.{Right}
 use Rattle.hurd_ports.specs.declared.table.Port.{Port}
 use Rattle.hurd_ports.specs.declared.table.TaskSeat.{TaskSeat}
 use Rattle.hurd_ports.specs.declared.opens.OpenSeat.{OpenSeat}
-use Rattle.hurd_ports.specs.Tables.{Task, PortState, has_room, is_held, names_open, right_of, rights_of}
+use Rattle.hurd_ports.specs.Tables.{Task, PortState, has_room, is_held, names_open, or_refuse, right_at, right_of, rights_of}
 use Rattle.hurd_ports.specs.Steps.{edit_task, received, receive_at, receive_step, sent_to, send_step, share_at, share_step, take_ids_at, take_ids_step, taken_by, with_ids, with_port, with_sent}
 use Rattle.hurd_ports.specs.Sound.{IsSound, NumbersRise}
 use Rattle.hurd_ports.specs.Seats.{seat_task, tasks_of, state_of}
-use Rattle.hurd_ports.proofs.TaskLaws.{set-same, edit-found}
+use Rattle.hurd_ports.proofs.TaskLaws.{one_or_other, set-same, edit-apart, edit-found, edit-here}
 use Rattle.hurd_ports.proofs.HeldLaws.{any-grows, holds, holds_by, keeps, or_first, ported}
-use Rattle.hurd_ports.proofs.SoundLaws.{given-set, numbers-set, rise-push}
+use Rattle.hurd_ports.proofs.SoundLaws.{given-set, next_found, numbers-set, rise-push}
 use Rattle.hurd_ports.proofs.SeatLaws.{same_halves, seat-there, seat-changed}
 
 -- the rights of a task that received are those that it had, in their order
@@ -183,3 +184,56 @@ module _ (os : List OpenSeat) (ss : List TaskSeat) (t : ℕ) (a s new : TaskSeat
   seat-other_ids ids is =
       let left : state_of os (slice_set ss t new) ≡ put h t (with_ids ids (seat_task a)) = put-seat ∙ ap (put h t) (is ∙ ap (λ (z : TaskSeat). with_ids ids (seat_task z)) same) in
       rw left (record { step = sym (take_ids-done h t (seat_task a) sound there ids); sound = sound-other_ids h t (seat_task a) sound there ids })
+
+-- what stands after a step that may find no memory: what stood, or what the step leaves
+left-either : {T : Type 0} (h x k : PortState) (a got : Result T Errno) → Steps h (a, x) got k → (k ≡ h) ⊎ (k ≡ x)
+left-either h x k a (Ok v) s = inr s.left
+left-either h x k a (Err e) s = go (is_no_memory e) s.left
+  where
+    go : (b : Bool) → k ≡ cond b h x → (k ≡ h) ⊎ (k ≡ x)
+    go true l = inl l
+    go false l = inr l
+
+-- a right that was shared stands under its number
+shared-found : (h k : PortState) → IsSound h → (t : ℕ) (r : Right) (n : ℕ) → Steps h (share_step t r h) (Ok n) k → right_of k t n ≡ Ok r
+shared-found h k sound t r n = go (slice_get h.tasks t) refl
+  where
+    roomy : (x : Task) → slice_get h.tasks t ≡ Some x → (b : Bool) → Steps h (if b then (Ok x.next, record h { tasks = edit_task t (with_port r) h.tasks }) else (Err EOVERFLOW, h)) (Ok n) k → right_of k t n ≡ Ok r
+    roomy x at false s = absurd (cc (s.answered))
+    roomy x at true s =
+        let same : x.next ≡ n = cc (s.answered) in
+        let here : slice_get (edit_task t (with_port r) h.tasks) t ≡ Some (with_port r x) = edit-here t (with_port r) h.tasks ∙ ap (option_map (with_port r)) at in
+        rw (s.left, ← same) (ap (right_at x.next) here ∙ ap (or_refuse EBADF) (next_found 0 x.next x.ports r (sound.numbered t x at)))
+
+    go : (o : Option Task) → slice_get h.tasks t ≡ o → Steps h (share_at h t r o) (Ok n) k → right_of k t n ≡ Ok r
+    go None at s = absurd (cc (s.answered))
+    go (Some x) at s = roomy x at (has_room 0 x) s
+
+pub shared-new : (h k : PortState) → IsSound h → (t : ℕ) (r : Right) (got : Result ℕ Errno) → Steps h (share_step t r h) got k → IfOk got (λ n. right_of k t n ≡ Ok r)
+shared-new h k sound t r (Ok n) s = shared-found h k sound t r n s
+shared-new h k sound t r (Err e) s = tt
+
+-- a right that is sent stands where it stood
+pub sent-kept : (h k : PortState) (t p q : ℕ) (got : Result (Unit {0}) Errno) → Steps h (send_step t p q h) got k → right_of k t p ≡ right_of h t p
+sent-kept h k t p q got = go (right_of h t p)
+  where
+    inboxed : (r : Right) (o : Option Task) → right_at p (option_map (with_sent r) o) ≡ right_at p o
+    inboxed r None = refl
+    inboxed r (Some x) = refl
+
+    after : (r : Right) → right_of (record h { tasks = edit_task q (with_sent r) h.tasks }) t p ≡ right_of h t p
+    after r = elim (one_or_other t q) [
+      | inl e ↦ rw e (ap (right_at p) (edit-here q (with_sent r) h.tasks) ∙ inboxed r (slice_get h.tasks q))
+      | inr a ↦ ap (right_at p) (edit-apart q (with_sent r) h.tasks t a)
+    ]
+
+    kept : (x : PortState) (a : Result (Unit {0}) Errno) → right_of x t p ≡ right_of h t p → Steps h (a, x) got k → right_of k t p ≡ right_of h t p
+    kept x a is s = elim (left-either h x k a got s) [ inl e ↦ rw e refl | inr e ↦ rw e is ]
+
+    there : (r : Right) (b : Bool) → Steps h (if b then (Ok tt, record h { tasks = edit_task q (with_sent r) h.tasks }) else (Err ESRCH, h)) got k → right_of k t p ≡ right_of h t p
+    there r true s = kept (record h { tasks = edit_task q (with_sent r) h.tasks }) (Ok tt) (after r) s
+    there r false s = kept h (Err ESRCH) refl s
+
+    go : (o : Result Right Errno) → Steps h (sent_to h q o) got k → right_of k t p ≡ right_of h t p
+    go (Err e) s = kept h (Err e) refl s
+    go (Ok r) s = there r (nat_lt q (length h.tasks)) s

@@ -11,6 +11,9 @@ use Rattle.hurd_ports.specs.declared.table.Port.{Port}
 use Rattle.hurd_ports.specs.Tables.{right_in}
 use Rattle.hurd_ports.specs.Steps.{ports_without}
 
+pub same_test : (a : ℕ) → (a == a) ≡ true
+same_test a = grind (arith, nat_tests)
+
 pub apart_test : (a b : ℕ) → (a ≡ b → ⊥) → (a == b) ≡ false
 apart_test a b h = grind (arith, nat_tests)
 

@@ -17,7 +17,7 @@ use Rattle.hurd_ports.specs.Tables.{Task, PortState, OpenMap, is_held, fresh, ri
 use Rattle.hurd_ports.specs.Steps.{new_task, starting_at, named, new_open, new_right, with_port, with_new_port, without_port, ports_without, settle_opens, name_step}
 use Rattle.hurd_ports.specs.Sound.{IsSound, IsGiven, NumbersRise}
 use Rattle.hurd_creds.specs.declared.errno.Errno.TheVariants.{EBADF}
-use Rattle.hurd_ports.proofs.PlaceLaws.{apart_test}
+use Rattle.hurd_ports.proofs.PlaceLaws.{same_test, apart_test}
 use Rattle.hurd_ports.proofs.TaskLaws.{set-here, set-apart, set-cases, one_or_other, map-origin, edit-found, edit-edit}
 use Rattle.hurd_ports.proofs.HeldLaws.{held-push, held-here, held-kept}
 
@@ -37,6 +37,13 @@ next_absent low n [] h = refl
 next_absent low n (x ∷ ps) h =
     let b = rise_to (x.number + 1) n ps h.1 in
     rw (apart_test n x.number (λ e. omega arith)) (next_absent (x.number + 1) n ps h.1)
+
+-- a port of the next number is found, last of all
+pub next_found : (low n : ℕ) (ps : List Port) (r : Right) → NumbersRise low n ps → right_in n (ps ++ record { number = n; right = r } ∷ []) ≡ Some r
+next_found low n [] r h = rw (same_test n) refl
+next_found low n (x ∷ ps) r h =
+    let b = rise_to (x.number + 1) n ps h.1 in
+    rw (apart_test n x.number (λ e. omega arith)) (next_found (x.number + 1) n ps r h.1)
 
 pub rise-push : (low n : ℕ) (ps : List Port) (p : Port) → p.number ≡ n → NumbersRise low n ps → NumbersRise low (n + 1) (ps ++ p ∷ [])
 rise-push low n [] p e h = (omega arith, omega arith)

@@ -153,7 +153,7 @@ nodes_of (Io r) = r.node ∷ ways_of r.parents
 nodes_of (Control s) = []
 
 abbrev pub names_node : Name → Right → Bool
-names_node n r = list_any (λ m. same_name m n) (nodes_of r)
+names_node n r = list_any (λ m. same_name n m) (nodes_of r)
 
 -- some right names the node
 unfoldable pub is_named : List Task → Name → Bool

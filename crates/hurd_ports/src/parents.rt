@@ -1,5 +1,6 @@
 //! The ways back from a port.
-ghost use Rattle.std.specs.Prelude.{◌≡◌, [], IfOk};
+ghost use Rattle.std.specs.Prelude.{◌≡◌, ◌≤◌, [], length, IfOk};
+ghost use Rattle.hurd_ports.specs.Limits.{most_parents};
 
 use hurd_creds::NodeName;
 use std::alloc::{AllocError, Global};
@@ -12,7 +13,7 @@ pub struct Parent {
     pub parent: NodeName,
 }
 
-/// The ways that a port came in by, the latest first: `..` goes back by them.
+/// The ways that a port came in by, the latest first: `..` goes back by them. At most 64.
 #[derive(Debug, Drop)]
 pub struct Parents {
     ways: Vec<Parent>,
@@ -25,6 +26,11 @@ impl Model for Parents {
     ghost Value = { List Parent };
 
     ghost view = { λ p. p.ways.items };
+
+    ghost use Rattle.std.specs.Prelude.{◌≤◌, length};
+    ghost use Rattle.hurd_ports.specs.Limits.{most_parents};
+
+    ghost invariant = { λ p. length p.ways.items ≤ most_parents };
 }
 
 impl Parents {
@@ -48,7 +54,8 @@ impl Parents {
 
     /// The ways, the latest first.
     pub fn as_slice(&self) -> &[Parent]
-        ensures { result.now ≡ self.now }
+        ensures is { result.now ≡ self.now }
+        ensures limit { length result.now ≤ most_parents }
     {
         self.ways.as_slice()
     }

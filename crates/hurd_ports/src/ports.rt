@@ -283,6 +283,7 @@ impl Ports {
     /// Errors, in order: `ESRCH` no such task, `EOVERFLOW`, `ENOMEM`. A refused call changes no port.
     pub fn share(&mut self, task: TaskId, right: Right) -> Result<u64, Errno>
         ensures answer { Steps self.old.state (step.share_step task.0 right self.old.state) result self.new.state }
+        ensures new { IfOk result (λ number. right_of self.new.state task.0 number ≡ Ok right) }
         ensures settled { IsSettled self.new.state }
     {
         let Some(seat) = self.tasks.get(task.0 as usize) else {
@@ -301,6 +302,7 @@ impl Ports {
     /// changes no port.
     pub fn send(&mut self, alloc: Global, task: TaskId, port: u64, to: TaskId) -> Result<(), Errno>
         ensures answer { Steps self.old.state (step.send_step task.0 port to.0 self.old.state) result self.new.state }
+        ensures port { right_of self.new.state task.0 port ≡ right_of self.old.state task.0 port }
         ensures settled { IsSettled self.new.state }
     {
         let right = self.right(task, port)?;

@@ -9,6 +9,7 @@ use Rattle.hurd_creds.specs.Names.{name_of}
 use Rattle.hurd_trans_iface.specs.Nodes.{is_dir}
 use Rattle.hurd_trans_iface.specs.Meaning.{Meaning, root_of}
 use Rattle.hurd_nodes.specs.Shown.{state_of, booted, boot_name}
+use Rattle.hurd_ports.specs.declared.table.Right.TheVariants.{Io}
 use Rattle.hurd_ports.specs.Tables.{Task, OpenMap, PortState}
 use Rattle.hurd_ports.specs.Steps.{new_open}
 use Rattle.hurd_machine.specs.World.{World, world_from}
@@ -33,8 +34,8 @@ abbrev pub boot_task : ℕ → IdSets → Task
 boot_task t ids = record {
   ids = ids;
   ports =
-      record { number = 1; right = record { node = boot_name; ids = ids; open_name = name_of t 0 } }
-      ∷ record { number = 2; right = record { node = boot_name; ids = ids; open_name = name_of t 1 } }
+      record { number = 1; right = Io (record { node = boot_name; ids = ids; open_name = name_of t 0; parents = [] }) }
+      ∷ record { number = 2; right = Io (record { node = boot_name; ids = ids; open_name = name_of t 1; parents = [] }) }
       ∷ [];
   next = 3;
   inbox = [];

@@ -6,7 +6,7 @@ ghost use Rattle.hurd_world.specs.BootPort.{with_boot_port};
 
 use hurd_creds::{Errno, Ids, OpenFlags, TaskId};
 use hurd_nodes::BOOT_NAME;
-use hurd_ports::Ports;
+use hurd_ports::{Parents, Ports};
 use std::alloc::Global;
 
 /// The tables of tasks of these ids: each has the boot root as port 1, its root, and as port 2, its working directory.
@@ -32,6 +32,6 @@ fn add_boot_port(alloc: Global, ports: &mut Ports, task: TaskId) -> Result<(), E
     ensures err { IfErr result (λ e. e ≡ Errno.ENOMEM) }
 {
     let ids = ports.ids(task)?.copied(alloc)?;
-    ports.insert(task, BOOT_NAME, ids, OpenFlags::from_bits_truncate(0))?;
+    ports.insert(task, BOOT_NAME, ids, Parents::none(alloc), OpenFlags::from_bits_truncate(0))?;
     Ok(())
 }

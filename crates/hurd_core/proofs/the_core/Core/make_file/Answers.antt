@@ -1,5 +1,5 @@
 -- Room, leave, memory, the server's making, the port: each refusal in its place, and then the machine's making.
-use Rattle.std.proofs.Common.{◌≡◌, ◌∙◌, Bool, List, refl, sym, inl, ap, ap₂}
+use Rattle.std.proofs.Common.{◌≡◌, ◌∙◌, ℕ, List, refl, sym, inl, ap, ap₂}
 use Rattle.std.proofs.lemmas.Result.{err_from_is_err_and}
 use Rattle.hurd_creds.specs.declared.attrs.Kind.TheVariants.{File}
 use Rattle.hurd_nodes.specs.Shown.{shown}
@@ -7,8 +7,9 @@ use Rattle.hurd_machine.specs.World.{world_from}
 use Rattle.hurd_core.specs.ToMake.{new_node_of}
 use Rattle.hurd_creds.specs.declared.name.Name.{Name}
 use Rattle.hurd_core.proofs.HoldLaws.{holds_given}
-use Rattle.hurd_core.proofs.CoreLaws.{fill-holds}
-use Rattle.hurd_core.proofs.MakingLaws.{no-room, not-made, makes, room-left, reserve-lacks, make-lacks, lacks-memory, file-made}
+use Rattle.hurd_core.proofs.CoreLaws.{reserve-lacks, fill-holds}
+use Rattle.hurd_core.proofs.WayLaws.{both-held}
+use Rattle.hurd_core.proofs.MakingLaws.{no-room, not-made, makes, room-left, make-lacks, lacks-memory, file-made}
 use Rattle.hurd_core.proofs.the_core.Core.make_file.Goals as goal
 
 pub returns-in_err-room : goal.returns-in_err-room
@@ -32,7 +33,7 @@ returns-in_err-reserve g c =
     let m = makes N H c.args.task.0 f (sym c.in_ok-room.ensures.room) (sym c.in_ok-can_make.ensures) in
     let p = err_from_is_err_and c.from_residual-in_err-reserve.result c.from_residual-in_err-reserve.ensures.1 in
     rw (p.1, p.2, ← c.self.view_is)
-    (lacks-memory N H c.args.task.0 f m _ _ (ap (world_from N) c.in_err-reserve.ensures.kept) (reserve-lacks N H c.args.task.0 f m.task _ m.there c.in_err-reserve.ensures.answer) c.args.ids c.args.modes)
+    (lacks-memory N H c.args.task.0 f m _ _ (ap (world_from N) c.in_err-reserve.ensures.kept) (reserve-lacks N H c.args.task.0 m.task _ m.there c.in_err-reserve.ensures.answer) c.args.ids c.args.parents c.args.modes)
 
 pub returns-in_err-make : goal.returns-in_err-make
 returns-in_err-make g c =
@@ -41,12 +42,12 @@ returns-in_err-make g c =
     let f = new_node_of c.args.file in
     let may = sym c.in_ok-can_make.ensures in
     let m = makes N H c.args.task.0 f (sym c.in_ok-room.ensures.room) may in
-    let l = make-lacks N H c.args.task.0 f File c.in-Some.name c.node.result c.in_err-make.field-0.0 (shown g.S.Server.meaning c.make.new.self) may c.node.ensures (rw c.in_ok-reserve_hold.ensures.ok at c.in_err-make.ensures.shown) in
+    let l = make-lacks N H c.args.task.0 f File c.in-Some.name c.node.result c.in_err-make.field-0.0 (shown g.S.Server.meaning c.make.new.self) may c.node.ensures (rw c.in_ok-reserve_holds.ensures.ok.0 at c.in_err-make.ensures.shown) in
     let p = err_from_is_err_and c.from_residual-in_err-make.result c.from_residual-in_err-make.ensures.1 in
-    rw (p.1, p.2, ← c.self.view_is) (lacks-memory N H c.args.task.0 f m _ _ (ap₂ world_from l.1 c.in_ok-reserve.ensures.kept) l.0 c.args.ids c.args.modes)
+    rw (p.1, p.2, ← c.self.view_is) (lacks-memory N H c.args.task.0 f m _ _ (ap₂ world_from l.1 c.in_ok-reserve.ensures.kept) l.0 c.args.ids c.args.parents c.args.modes)
 
-pub fill-port-requires-clause-room : goal.fill-port-requires-clause-room
-fill-port-requires-clause-room g c =
+pub fill-requires-clause-room : goal.fill-requires-clause-room
+fill-requires-clause-room g c =
     let N = shown g.S.Server.meaning c.self.inside.nodes in
     let H = c.self.inside.ports.state in
     let f = new_node_of c.args.file in
@@ -56,23 +57,25 @@ fill-port-requires-clause-room g c =
 pub returns : goal.returns
 returns g c =
     let N = shown g.S.Server.meaning c.self.inside.nodes in
-    rw (← c.self.view_is, c.hold.ensures)
-    (file-made N c.self.inside.ports.state c.args.task.0 (new_node_of c.args.file) c.args.ids c.args.modes c.reserve.new.self.state c.take_name.new.self.state c.fill-port.new.self.state (shown g.S.Server.meaning c.make.new.self) c.in-Some.name c.node.result c.fill-port.result (sym c.in_ok-room.ensures.room) (sym c.in_ok-can_make.ensures) c.in_ok-reserve.ensures.kept c.in-Some.ensures c.node.ensures (rw c.in_ok-reserve_hold.ensures.ok at c.in_ok-make.ensures.shown) c.take_name.ensures.named c.fill-port.ensures.answer)
+    let kept = both-held c.make.new.self c.hold.new.self c.hold_ways.new.nodes c.in-Some.name c.args.parents c.as_slice.result.now _ _ c.hold.ensures c.hold_ways.ensures c.as_slice.ensures.is in
+    rw (← c.self.view_is, kept)
+    (file-made N c.self.inside.ports.state c.args.task.0 (new_node_of c.args.file) c.args.ids c.args.parents c.args.modes c.reserve.new.self.state c.take_name.new.self.state c.fill.new.self.state (shown g.S.Server.meaning c.make.new.self) c.in-Some.name c.node.result c.fill.result (sym c.in_ok-room.ensures.room) (sym c.in_ok-can_make.ensures) c.in_ok-reserve.ensures.kept c.in-Some.ensures c.node.ensures (rw c.in_ok-reserve_holds.ensures.ok.0 at c.in_ok-make.ensures.shown) c.take_name.ensures.named c.fill.ensures.answer)
 
-pub returns-in_err-reserve_hold : goal.returns-in_err-reserve_hold
-returns-in_err-reserve_hold g c =
+pub returns-in_err-reserve_holds : goal.returns-in_err-reserve_holds
+returns-in_err-reserve_holds g c =
     let N = shown g.S.Server.meaning c.self.inside.nodes in
     let H = c.self.inside.ports.state in
     let f = new_node_of c.args.file in
     let m = makes N H c.args.task.0 f (sym c.in_ok-room.ensures.room) (sym c.in_ok-can_make.ensures) in
-    let p = err_from_is_err_and c.from_residual-in_err-reserve_hold.result c.from_residual-in_err-reserve_hold.ensures.1 in
-    rw (p.1, p.2, ← c.self.view_is, c.in_err-reserve_hold.ensures.err)
-    (lacks-memory N H c.args.task.0 f m _ _ (ap (world_from N) c.in_ok-reserve.ensures.kept) refl c.args.ids c.args.modes)
+    let p = err_from_is_err_and c.from_residual-in_err-reserve_holds.result c.from_residual-in_err-reserve_holds.ensures.1 in
+    rw (p.1, p.2, ← c.self.view_is, c.in_err-reserve_holds.ensures.err)
+    (lacks-memory N H c.args.task.0 f m _ _ (ap (world_from N) c.in_ok-reserve.ensures.kept) refl c.args.ids c.args.parents c.args.modes)
 
 pub invariant_of-self-2 : goal.invariant_of-self-2
 invariant_of-self-2 g c =
     let hs = c.self.inside.nodes.holds in
-    let held : c.make.new.self.holds ≡ hs = ap (λ (z : List Name × Bool). z.0) c.in_ok-make.ensures.holds ∙ ap (λ h. h.holds) c.in_ok-reserve_hold.ensures.ok in
-    rw (c.hold.ensures, held)
-    (fill-holds (shown g.S.Server.meaning c.self.inside.nodes) c.take_name.new.self.state c.args.task.0 c.in-Some.name c.args.ids c.args.modes hs
-    (rw (c.take_name.ensures.named, c.in_ok-reserve.ensures.kept) (holds_given hs c.self.inside.ports.state.tasks c.self.invariant c.args.task.0 1)) c.fill-port.result c.fill-port.new.self.state c.fill-port.ensures.answer)
+    let held : c.make.new.self.holds ≡ hs = ap (λ (z : List Name × ℕ). z.0) c.in_ok-make.ensures.holds ∙ ap (λ h. h.holds) c.in_ok-reserve_holds.ensures.ok.0 in
+    let kept = both-held c.make.new.self c.hold.new.self c.hold_ways.new.nodes c.in-Some.name c.args.parents c.as_slice.result.now _ _ c.hold.ensures c.hold_ways.ensures c.as_slice.ensures.is in
+    rw (kept, held)
+    (fill-holds (shown g.S.Server.meaning c.self.inside.nodes) c.take_name.new.self.state c.args.task.0 c.in-Some.name c.args.ids c.args.parents c.args.modes hs
+    (rw (c.take_name.ensures.named, c.in_ok-reserve.ensures.kept) (holds_given hs c.self.inside.ports.state.tasks c.self.invariant c.args.task.0 1)) c.fill.result c.fill.new.self.state c.fill.ensures.answer)

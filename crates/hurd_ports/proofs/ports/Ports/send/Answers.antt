@@ -6,7 +6,7 @@ use Rattle.hurd_ports.specs.declared.table.Right.{Right}
 use Rattle.hurd_ports.specs.Steps.{send_step}
 use Rattle.hurd_ports.specs.Seats.{state_of}
 use Rattle.hurd_ports.proofs.SeatLaws.{ready-kept}
-use Rattle.hurd_ports.proofs.EditLaws.{Edited, seat-sent, task-there}
+use Rattle.hurd_ports.proofs.EditLaws.{Edited, seat-sent, sent-kept, task-there}
 use Rattle.hurd_ports.proofs.ports.Ports.send.Goals as goal
 
 below : (c : goal.After-self-1) → c.args.to.0 < length c.self.inside.tasks.items
@@ -35,3 +35,6 @@ returns-clause-answer c = rw (← c.self.view_is) (done c).step
 
 pub returns-clause-settled : goal.returns-clause-settled
 returns-clause-settled c = (done c).sound.settled
+
+pub returns-clause-port : goal.returns-clause-port
+returns-clause-port c = rw (← c.self.view_is) (sent-kept (state_of c.self.inside.opens.items c.self.inside.tasks.items) _ c.args.task.0 c.args.port c.args.to.0 c.accept.result (done c).step)

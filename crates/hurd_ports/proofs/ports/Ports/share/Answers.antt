@@ -3,7 +3,7 @@ use Rattle.std.specs.Prelude.{slice_set}
 use Rattle.std.proofs.Common.{length, refl, sym}
 use Rattle.hurd_ports.specs.Steps.{share_step}
 use Rattle.hurd_ports.specs.Seats.{state_of}
-use Rattle.hurd_ports.proofs.EditLaws.{Edited, seat-shared}
+use Rattle.hurd_ports.proofs.EditLaws.{Edited, seat-shared, shared-new}
 use Rattle.hurd_ports.proofs.ports.Ports.share.Goals as goal
 
 done : (c : goal.After-self-2-1)
@@ -23,3 +23,6 @@ returns-clause-answer c = rw (← c.self.view_is) (done c).step
 
 pub returns-clause-settled : goal.returns-clause-settled
 returns-clause-settled c = (done c).sound.settled
+
+pub returns-clause-new : goal.returns-clause-new
+returns-clause-new c = shared-new (state_of c.self.inside.opens.items c.self.inside.tasks.items) _ c.self.invariant.sound c.args.task.0 c.args.right c.share.result (done c).step
