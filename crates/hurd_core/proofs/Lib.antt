@@ -1,3 +1,4 @@
+pub mod PortWays
 pub mod WayLaws
 pub mod HoldLaws
 pub mod CoreLaws

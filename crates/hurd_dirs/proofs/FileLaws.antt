@@ -21,7 +21,7 @@ use Rattle.hurd_machine.specs.declared.call.Reply.TheVariants.{Port}
 use Rattle.hurd_machine.specs.World.{World, task_at, home_at, info_at, server_at}
 use Rattle.hurd_machine.specs.Plan.{Planned}
 use Rattle.hurd_machine.specs.Handle.{Named, port_asks}
-use Rattle.hurd_machine.specs.Sight.{UsersOf, BodyOf, Sees}
+use Rattle.hurd_machine.specs.Sight.{UsersOf, OfNode, BodyOf, Sees}
 use Rattle.hurd_machine.proofs.Views.{Agree, same_tasks, home_same}
 use Rattle.hurd_machine.proofs.Asks.{IsPlain, IsNamed, is_named, port_same, port_seen, port_plain, info_same, seen_node, on_ok, given_ok, first_ok, on_same, first_same, on_plain, given_plain, first_plain, ok_plain, err_plain, answered_same, answered_plain, done_plain}
 use Rattle.hurd_machine.proofs.Nameless.{IsNameless, nameless_within, nameless_proper, nameless_linked, nameless_sized, nameless_rests, nameless_may}
@@ -29,6 +29,7 @@ use Rattle.hurd_machine.proofs.CallLaws.{CallLaws, answered_within, answered_pro
 use Rattle.hurd_core.specs.declared.to_make.NamelessToMake.{NamelessToMake}
 use Rattle.hurd_core.specs.Core.{Does, room_asks, nameless_asks, making_nameless_asks, making_nameless, asked_only}
 use Rattle.hurd_core.proofs.NamelessLaws.{only-refused, only-answered}
+use Rattle.hurd_core.proofs.PortWays.{ways_given, ways_seen}
 use Rattle.hurd_core.proofs.PlanLaws.{asked-refused, asked-lacks, does-planned, planned-then}
 use Rattle.hurd_dirs.specs.Entry.{dir_asks}
 use Rattle.hurd_dirs.specs.File.{file_by, making_file, mkfile, mkfile_asks, plan_mkfile, touches_mkfile}
@@ -139,24 +140,24 @@ module _ (t p : ℕ) (flags : OpenFlags) (mode : Mode) where
   mkfile_laws = record {
     fits = λ w c. answered_within w t (mkfile_asks w t p mode) _ _ (λ a is. answered_within w t (making_nameless_asks w t a.1.dir) _ _ (λ m may.
         let k = makes_file w t a.1.dir m may in
-        nameless_within w t m.0 k.is_task m.1 k.server.info k.is_server (file a.1) (file_nameless a.1) a.0.right.ids modes (λ q. q ≡ UsersOf m.1) refl));
+        nameless_within w t m.0 k.is_task m.1 k.server.info k.is_server (file a.1) (file_nameless a.1) a.0.right.ids a.0.right.parents modes (λ q. q ≡ UsersOf m.1) refl));
     proper = λ w s. answered_proper w _ _ (λ a is. answered_proper w _ _ (λ m may.
         let k = makes_file w t a.1.dir m may in
-        nameless_proper w t m.0 k.is_task m.1 k.server.info k.is_server (file a.1) (file_nameless a.1) a.0.right.ids modes s.coherent));
+        nameless_proper w t m.0 k.is_task m.1 k.server.info k.is_server (file a.1) (file_nameless a.1) a.0.right.ids a.0.right.parents modes s.coherent (ways_given w t p a.0.right (file_made_by w a is).is_port.is_right s.coherent)));
     linked = λ w s. answered_linked w _ _ s.linked (λ a is. answered_linked w _ _ s.linked (λ m may.
         let k = makes_file w t a.1.dir m may in
-        nameless_linked w t m.0 k.is_task m.1 k.server.info k.is_server (file a.1) (file_nameless a.1) a.0.right.ids modes s.coherent s.linked));
+        nameless_linked w t m.0 k.is_task m.1 k.server.info k.is_server (file a.1) (file_nameless a.1) a.0.right.ids a.0.right.parents modes s.coherent s.linked));
     sized = λ w s. answered_sized w _ _ s.sizes (λ a is. answered_sized w _ _ s.sizes (λ m may.
         let k = makes_file w t a.1.dir m may in
-        nameless_sized w t m.0 k.is_task m.1 k.server.info k.is_server (file a.1) (file_nameless a.1) a.0.right.ids modes (file_fits a.1 k.server.info k.server.tree) s.sizes));
+        nameless_sized w t m.0 k.is_task m.1 k.server.info k.is_server (file a.1) (file_nameless a.1) a.0.right.ids a.0.right.parents modes (file_fits a.1 k.server.info k.server.tree) s.sizes));
     rests = λ w s. answered_rests w _ _ s.settled (λ a is. answered_rests w _ _ s.settled (λ m may.
         let k = makes_file w t a.1.dir m may in
-        nameless_rests w t m.0 k.is_task m.1 k.server.info k.is_server (file a.1) (file_nameless a.1) a.0.right.ids modes s.settled));
+        nameless_rests w t m.0 k.is_task m.1 k.server.info k.is_server (file a.1) (file_nameless a.1) a.0.right.ids a.0.right.parents modes s.settled));
     may = λ S v c ours. answered_may v _ _ S v (λ a is. answered_may v _ _ S v (λ m may.
         let k = makes_file v t a.1.dir m may in
         let b = file_made_by v a is in
-        nameless_may v t m.0 k.is_task m.1 k.server.info k.is_server (file a.1) (file_nameless a.1) a.0.right.ids modes S c ours (right_taken t ours p a.0.right b.is_port.is_right)
-        (a.1.dir, (mkfile_seen ours a b).0, k.home)));
+        nameless_may v t m.0 k.is_task m.1 k.server.info k.is_server (file a.1) (file_nameless a.1) a.0.right.ids a.0.right.parents modes S c ours (right_taken t ours p a.0.right b.is_port.is_right)
+        (ways_seen v t p a.0.right b.is_port.is_right S ours) (OfNode a.1.dir (mkfile_seen ours a b).0 k.home)));
     same = λ S v w c a ours. answered_same _ _ _ _ (mkfile_same a ours) (λ b is.
         answered_same _ _ _ _ (making_same a t ours b.1.dir (mkfile_seen ours b (file_made_by v b is))) (λ m may. refl));
     plain = λ w. answered_plain _ _ (mkfile_plain w) (λ a is. answered_plain _ _ (making_plain w t a.1.dir) (λ m may. done_plain (Port m.0.next) refl));
@@ -182,7 +183,7 @@ module _ (w : World) (t p : ℕ) (flags : OpenFlags) (mode : Mode) (a : Named ×
       (asked-lacks {T = ℕ} w asks (making_file t flags a) (λ k. Port k) m.0 e w m.1 refl refl lacks)
 
   -- or is made
-  pub mkfile-made : (r : Result ℕ Errno) (y : World) → Does w asks (making_nameless t a.1 a.0.right.ids (open_modes flags)) (λ m. m.0.next) r y → Planned w (plan_mkfile w t p flags mode) (λ k. Port k) r y
+  pub mkfile-made : (r : Result ℕ Errno) (y : World) → Does w asks (making_nameless t a.1 a.0.right.ids a.0.right.parents (open_modes flags)) (λ m. m.0.next) r y → Planned w (plan_mkfile w t p flags mode) (λ k. Port k) r y
   mkfile-made r y does =
       planned-then w (mkfile_asks w t p mode) (mkfile w t flags) (λ k. Port k) a r y is
-      (does-planned w asks (making_nameless t a.1 a.0.right.ids (open_modes flags)) (λ m. m.0.next) (making_file t flags a) (λ k. Port k) r y (λ m. (refl, refl)) (λ m. refl) does)
+      (does-planned w asks (making_nameless t a.1 a.0.right.ids a.0.right.parents (open_modes flags)) (λ m. m.0.next) (making_file t flags a) (λ k. Port k) r y (λ m. (refl, refl)) (λ m. refl) does)

@@ -10,7 +10,8 @@ use Rattle.hurd_creds.specs.declared.errno.Errno.TheVariants.{EDIED, ENAMETOOLON
 use Rattle.hurd_creds.specs.Access.{IdSets}
 use Rattle.hurd_creds.specs.Bits.{open_modes}
 use Rattle.hurd_nodes.specs.Shown.{NodeState}
-use Rattle.hurd_ports.specs.Tables.{PortState, Task, right_of, room_of}
+use Rattle.hurd_ports.specs.declared.parents.Parent.{Parent}
+use Rattle.hurd_ports.specs.Tables.{PortState, Task, io_right_of, room_of}
 use Rattle.hurd_machine.specs.declared.call.Lookup.TheVariants as found
 use Rattle.hurd_machine.specs.declared.call.Reply.TheVariants.{Found}
 use Rattle.hurd_machine.specs.World.{World, world_from, ports_of, header_at, home_at, makes_at}
@@ -53,7 +54,7 @@ module _ (N : NodeState) (H : PortState) (t p : ℕ) (path : List ℕ) (flags : 
   plan = plan_lookup w t p path flags mode
 
   abbrev told : Looked × Task → Plan
-  told l = record { reply = Found (found.Done l.1.next); changes = lookup_changes t l.1 l.0.ids (open_modes flags) l.0.outcome }
+  told l = record { reply = Found (found.Done l.1.next); changes = lookup_changes t l.1 l.0.ids l.0.parents (open_modes flags) l.0.outcome }
 
   abbrev planned_from : Result Looked Errno → Plan
   planned_from f = answered (first f (λ l. first (room_asks w t (names_taken l.outcome)) (λ x. Ok (l, x)))) told
@@ -68,12 +69,12 @@ module _ (N : NodeState) (H : PortState) (t p : ℕ) (path : List ℕ) (flags : 
   -- what is known of a lookup that is answered
   pub found-leads : (l : Looked) → found_asks w t p path r ≡ Ok l → Leads w l.ids r l.outcome
   found-leads l is =
-      let q = first_ok (right_of (ports_of w) t p) _ l is in
+      let q = first_ok (io_right_of (ports_of w) t p) _ l is in
       let h = on_ok EDIED (header_at w q.0.node) _ l q.2 in
       let g = given_ok ENAMETOOLONG (is_short path) _ l h.2 in
       let e = first_ok (walk w q.0.ids r q.0.node (names_in path)) _ l g.1 in
       let o = first_ok (end_asks w q.0.ids r e.0) _ l e.2 in
-      let same : record { ids = q.0.ids; outcome = o.0 } ≡ l = cc (o.2) in
+      let same : record { ids = q.0.ids; parents = q.0.parents; outcome = o.0 } ≡ l = cc (o.2) in
       subst (λ (l : Looked). Leads w l.ids r l.outcome) same (ended w q.0.ids r e.0 o.0 o.1).1
 
   module _ (l : Looked) (is : found_asks w t p path r ≡ Ok l) where
@@ -95,15 +96,15 @@ module _ (N : NodeState) (H : PortState) (t p : ℕ) (path : List ℕ) (flags : 
       | HasRoom x at free frees asks ↦ (x, asks, planned (Ok x) asks)
     ]
 
-    -- no memory for the ids of what is to be done
+    -- no memory for the ids and the ways of what is to be done
     pub lacks : room_of H t (names_taken l.outcome) ≡ Ok tt → (e : Errno) → e ≡ ENOMEM → Planned w plan Found (Err e) w
     lacks h e is = let x = has_room h in (refl, inr (is, ap (λ (P : Plan). is_refused P.reply) x.2))
 
   -- a node that is there is opened
 
-  module _ (ids : IdSets) (n : Name) (is : found_asks w t p path r ≡ Ok (record { ids = ids; outcome = Opens n })) (h : room_of H t 1 ≡ Ok tt) where
+  module _ (ids : IdSets) (parents : List Parent) (n : Name) (is : found_asks w t p path r ≡ Ok (record { ids = ids; parents = parents; outcome = Opens n })) (h : room_of H t 1 ≡ Ok tt) where
     abbrev opens : Task → List Change
-    opens x = opening t x n ids (open_modes flags)
+    opens x = opening t x n ids parents (open_modes flags)
 
     pub opened : (k : ℕ) (y : World) → Does w (room_asks w t 1) opens (λ x. x.next) (Ok k) y → Follows w plan (Found (found.Done k)) y
     opened k y d = let x = has_room _ is h in does_planned w (room_asks w t 1) opens (λ x. x.next) plan x.0 x.1 x.2 k y d
@@ -113,9 +114,9 @@ module _ (N : NodeState) (H : PortState) (t p : ℕ) (path : List ℕ) (flags : 
 
   -- a file is made, and opened
 
-  module _ (ids : IdSets) (s : Name) (f : NewNodeAt) (is : found_asks w t p path r ≡ Ok (record { ids = ids; outcome = Makes s f })) (h : room_of H t 2 ≡ Ok tt) where
+  module _ (ids : IdSets) (parents : List Parent) (s : Name) (f : NewNodeAt) (is : found_asks w t p path r ≡ Ok (record { ids = ids; parents = parents; outcome = Makes s f })) (h : room_of H t 2 ≡ Ok tt) where
     abbrev makes : Task × Name → List Change
-    makes a = making_open t f ids (open_modes flags) a
+    makes a = making_open t f ids parents (open_modes flags) a
 
     asks_more : Result Task Errno → Result (Task × Name) Errno
     asks_more r = first r (λ x. first (makes_at w f.dir f.name File) (λ u. on EDIED (home_at w f.dir) (λ s. Ok (x, s))))

@@ -1,5 +1,5 @@
 -- The laws of dir_lookup.
-use Rattle.std.proofs.Common.{◌≡◌, ℕ, Bool, true, List, Some, refl, sym, subst, inl, inr}
+use Rattle.std.proofs.Common.{◌≡◌, ℕ, Bool, true, List, Some, refl, sym, subst}
 use Rattle.std.specs.Prelude.{Result, Ok}
 use Rattle.hurd_creds.specs.declared.name.Name.{Name}
 use Rattle.hurd_creds.specs.declared.mode.Mode.{Mode}
@@ -9,13 +9,14 @@ use Rattle.hurd_creds.specs.declared.errno.Errno.TheVariants.{EDIED, ENAMETOOLON
 use Rattle.hurd_ports.specs.declared.parents.Parent.{Parent}
 use Rattle.hurd_ports.specs.declared.table.IoRight.{IoRight}
 use Rattle.hurd_ports.specs.declared.table.Right.TheVariants.{Io}
-use Rattle.hurd_ports.specs.Tables.{Task, right_of, io_right_of, has_room, nodes_of, ways_of}
+use Rattle.hurd_ports.specs.Tables.{Task, right_of, io_right_of, has_room, ways_of}
 use Rattle.hurd_machine.specs.World.{World, IsAmong, ports_of, task_at, header_at}
 use Rattle.hurd_machine.specs.Sight.{Holds, UidOfRight, GidOfRight, Taken, Seen, Held}
 use Rattle.hurd_machine.specs.Sound.{Below, Coherent}
-use Rattle.hurd_machine.proofs.Confine.{SeenOrNew, named_seen}
+use Rattle.hurd_machine.proofs.Confine.{SeenOrNew}
+use Rattle.hurd_core.proofs.PortWays.{ways_given, ways_seen}
 use Rattle.hurd_machine.proofs.Views.{Agree, same_tasks, header_same}
-use Rattle.hurd_machine.proofs.Asks.{on_same, given_same, first_same, answered_same, on_ok, given_ok, first_ok, IsPlain, ok_plain, on_plain, given_plain, first_plain, answered_plain, done_plain, io_right_is, io_right_same, io_right_plain, has_right, holds_io}
+use Rattle.hurd_machine.proofs.Asks.{on_same, given_same, first_same, answered_same, on_ok, given_ok, first_ok, IsPlain, ok_plain, on_plain, given_plain, first_plain, answered_plain, done_plain, io_right_is, io_right_same, io_right_plain, holds_io}
 use Rattle.hurd_machine.proofs.CallLaws.{CallLaws, answered_within, answered_proper, answered_linked, answered_sized, answered_rests, answered_may}
 use Rattle.hurd_core.specs.Core.{room_asks}
 use Rattle.hurd_lookup.specs.declared.request.Request.{Request}
@@ -76,13 +77,11 @@ module _ (t p : ℕ) (path : List ℕ) (flags : OpenFlags) (mode : Mode) where
 
     -- the ways that it came in by are seen
     answer_ways : (got : Looked × Task) → Answered v got → (m : Name) → IsAmong m (ways_of got.0.parents) → SeenOrNew S v m
-    answer_ways got k m way = inl (named_seen S v k.right (holds_io t ours p k.right k.is_right) m (inr (subst (λ (ps : List Parent). IsAmong m (ways_of ps)) (sym k.parents) way)))
+    answer_ways got k m way = ways_seen v t p k.right (io_right_is v t p k.right k.is_right) S ours m (subst (λ (ps : List Parent). IsAmong m (ways_of ps)) (sym k.parents) way)
 
   -- those ways were given
   answer_given : (w : World) → Coherent w → (got : Looked × Task) → Answered w got → (m : Name) → IsAmong m (ways_of got.0.parents) → Below w m
-  answer_given w c got k m way =
-      let h = has_right w t p (Io k.right) (io_right_is w t p k.right k.is_right) in
-      (c.given.rights t h.seat (Io k.right) h.is_task h.here).0 m (inr (subst (λ (ps : List Parent). IsAmong m (ways_of ps)) (sym k.parents) way))
+  answer_given w c got k m way = ways_given w t p k.right (io_right_is w t p k.right k.is_right) c m (subst (λ (ps : List Parent). IsAmong m (ways_of ps)) (sym k.parents) way)
 
   asked_same : (S : ℕ → Bool) (v w : World) → Agree S v w → S t ≡ true → asked w ≡ asked v
   asked_same S v w a ours =

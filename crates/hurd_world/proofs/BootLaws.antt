@@ -44,13 +44,13 @@ next_ids (x ∷ tasks) (suc t) lt = next_ids tasks t (omega arith)
 
 -- a task with one port more on the boot root
 abbrev more : ℕ → Task → Task
-more t x = with_port (new_right t boot_name x.ids x) (named 1 x)
+more t x = with_port (new_right t boot_name x.ids [] x) (named 1 x)
 
 -- one port more
 added_once : (h : PortState) (t : ℕ) (x : Task) → slice_get h.tasks t ≡ Some x → has_room 1 x ≡ true
     → with_boot_port t h ≡ record { opens = fin.insert h.opens (fresh t x) (new_open closed_open); tasks = slice_set h.tasks t (more t x) }
 added_once h t x at room =
-    rw at (ap (λ (o : Option Task). (insert_at h t boot_name x.ids closed_open o).1) at ∙ rw room (ap (λ (ts : List Task). let g : PortState = record { opens = fin.insert h.opens (fresh t x) (new_open closed_open); tasks = ts } in g) (edit-edit t (with_port (new_right t boot_name x.ids x)) (named 1) h.tasks x at)))
+    rw at (ap (λ (o : Option Task). (insert_at h t boot_name x.ids [] closed_open o).1) at ∙ rw room (ap (λ (ts : List Task). let g : PortState = record { opens = fin.insert h.opens (fresh t x) (new_open closed_open); tasks = ts } in g) (edit-edit t (with_port (new_right t boot_name x.ids [] x)) (named 1) h.tasks x at)))
 
 -- both ports of a task that had none
 added_twice : (h : PortState) (t : ℕ) (ids : IdSets) → slice_get h.tasks t ≡ Some (new_task 1 ids)

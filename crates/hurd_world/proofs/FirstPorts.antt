@@ -13,14 +13,15 @@ use Rattle.hurd_creds.specs.NameMaps.{NameMap}
 use Rattle.hurd_creds.proofs.NameLaws.{same_name-itself, same_or_apart, get_here, get_apart}
 use Rattle.hurd_nodes.specs.Shown.{boot_name}
 use Rattle.hurd_ports.specs.declared.table.Opened.{Opened}
+use Rattle.hurd_ports.specs.declared.table.IoRight.{IoRight}
 use Rattle.hurd_ports.specs.declared.table.Right.{Right}
+use Rattle.hurd_ports.specs.declared.table.Right.TheVariants.{Io, Control}
 use Rattle.hurd_ports.specs.declared.table.Port.{Port}
-use Rattle.hurd_ports.specs.Tables.{OpenMap, Task, IsSettled, is_held, names_open, names_node, rights_of}
+use Rattle.hurd_ports.specs.Tables.{OpenMap, Task, IsSettled, is_held, names_open, rights_of}
 use Rattle.hurd_ports.specs.Steps.{new_open}
 use Rattle.hurd_machine.specs.World.{IsAmong}
-use Rattle.hurd_machine.specs.Sight.{one_if, count_list, count_rights}
+use Rattle.hurd_machine.specs.Sight.{naming, count_list, weigh_rights}
 use Rattle.hurd_core.specs.Core.{HoldsRights}
-use Rattle.hurd_core.proofs.HoldLaws.{one_turned}
 use Rattle.hurd_world.specs.Boot.{boot_task, boot_tasks, boot_opens, boot_ports, closed_open}
 
 -- maps with a value put in
@@ -66,12 +67,22 @@ boot_seat_at k (ids ∷ tasks) (suc t) lt =
 abbrev pub OfTask : ℕ → Name → Type 0
 OfTask t q = (q ≡ name_of t 0) ⊎ (q ≡ name_of t 1)
 
--- each right of a task is on the boot root, with one of its opens
-pub boot_right : (t : ℕ) (ids : IdSets) (r : Right) → IsAmong r (rights_of (boot_task t ids)) → (r.node ≡ boot_name) × OfTask t r.open_name
+-- a right on the boot root, which came in by no way, with one of the task's opens
+pub record IsBootRight (t : ℕ) (r : IoRight) : Type 0 where
+  pub node : r.node ≡ boot_name
+  pub open_name : OfTask t r.open_name
+  pub parents : r.parents ≡ []
+
+abbrev pub IsFirst : ℕ → Right → Type 0
+IsFirst t (Io r) = IsBootRight t r
+IsFirst t (Control s) = ⊥
+
+-- each right of a task is one
+pub boot_right : (t : ℕ) (ids : IdSets) (r : Right) → IsAmong r (rights_of (boot_task t ids)) → IsFirst t r
 boot_right t ids r h = elim h [
-  | inl first ↦ (sym (ap (λ (y : Right). y.node) first), inl (sym (ap (λ (y : Right). y.open_name) first)))
+  | inl first ↦ subst (IsFirst t) first (record { node = refl; open_name = inl refl; parents = refl })
   | inr more ↦ elim more [
-    | inl second ↦ (sym (ap (λ (y : Right). y.node) second), inr (sym (ap (λ (y : Right). y.open_name) second)))
+    | inl second ↦ subst (IsFirst t) second (record { node = refl; open_name = inr refl; parents = refl })
     | inr none ↦ absurd none
   ]
 ]
@@ -139,13 +150,12 @@ boot_settled tasks q x h =
 
 -- the boot root is held twice for each task
 
-boot_counts : (k : ℕ) (tasks : List IdSets) (n : Name) → count_list (λ m. same_name n m) (replicate (2 * length tasks) boot_name) ≡ count_rights (names_node n) (boot_tasks k tasks)
+boot_counts : (k : ℕ) (tasks : List IdSets) (n : Name) → count_list (λ m. same_name n m) (replicate (2 * length tasks) boot_name) ≡ weigh_rights (naming n) (boot_tasks k tasks)
 boot_counts k [] n = refl
 boot_counts k (ids ∷ tasks) n =
     let two : 2 * length (ids ∷ tasks) ≡ suc (suc (2 * length tasks)) = omega arith in
     let rest = boot_counts (k + 1) tasks n in
-    let one : one_if (same_name n boot_name) ≡ one_if (same_name boot_name n) = one_turned n boot_name in
-    ap (λ (j : ℕ). count_list (λ m. same_name n m) (replicate j boot_name)) two ∙ omega (arith, rest, one)
+    ap (λ (j : ℕ). count_list (λ m. same_name n m) (replicate j boot_name)) two ∙ omega (arith, rest)
 
 pub boot_holds : (tasks : List IdSets) → HoldsRights (replicate (2 * length tasks) boot_name) (boot_ports tasks).tasks
 boot_holds tasks n = boot_counts 0 tasks n

@@ -20,14 +20,16 @@ use Rattle.hurd_trans_iface.proofs.Beginnings.{begun-new}
 use Rattle.hurd_trans_iface.proofs.Goods.{tree-told}
 use Rattle.hurd_nodes.specs.Shown.{NodeState, ServerInfo, boot_name, boot_mode, boot_info, booted, info_in, server_of, state_of, tree_by}
 use Rattle.hurd_ports.specs.declared.table.Opened.{Opened}
+use Rattle.hurd_ports.specs.declared.parents.Parent.{Parent}
 use Rattle.hurd_ports.specs.declared.table.Right.{Right}
-use Rattle.hurd_ports.specs.Tables.{Task, rights_of}
+use Rattle.hurd_ports.specs.declared.table.Right.TheVariants.{Io, Control}
+use Rattle.hurd_ports.specs.Tables.{Task, rights_of, ways_of}
 use Rattle.hurd_machine.specs.World.{World, IsAmong, lists, lists_at, task_at}
-use Rattle.hurd_machine.specs.Sound.{Sound, Below, HasDistinctNames, AreGiven, AreHoused, IsTree, AreTables, Hangs, Linked, AreSized, AtRest, times_in, times_listed}
+use Rattle.hurd_machine.specs.Sound.{IsGivenRight, Sound, Below, HasDistinctNames, AreGiven, AreHoused, IsTree, AreTables, Hangs, Linked, AreSized, AtRest, times_in, times_listed}
 use Rattle.hurd_machine.proofs.Stays.{root_is_root, stays_root}
 use Rattle.hurd_machine.proofs.Sums.{total_none}
 use Rattle.hurd_world.specs.Boot.{first_world}
-use Rattle.hurd_world.proofs.FirstPorts.{OfTask, boot_seat, boot_right, boot_number, boot_open, boot_settled, closed, only, opens_there}
+use Rattle.hurd_world.proofs.FirstPorts.{IsFirst, OfTask, boot_seat, boot_right, boot_number, boot_open, boot_settled, closed, only, opens_there}
 
 -- what a function of what is there comes from
 option_map-origin : {A B : Type 0} (f : A → B) (o : Option A) (y : B) → option_map f o ≡ Some y → (x : A) × (o ≡ Some x) × (f x ≡ y)
@@ -162,18 +164,23 @@ module _ (kind : ServerKind) (text : List ℕ) where
     named_root : (n : Name) → n ≡ boot_name → Below w n
     named_root n e = subst (Below w) (sym e) (named_two boot_name.task.0 0 (omega arith))
 
-    right_is : (t : ℕ) (x : Task) (r : Right) → task_at w t ≡ Some x → IsAmong r (rights_of x) → (r.node ≡ boot_name) × OfTask t r.open_name × (t < length tasks)
+    right_is : (t : ℕ) (x : Task) (r : Right) → task_at w t ≡ Some x → IsAmong r (rights_of x) → IsFirst t r × (t < length tasks)
     right_is t x r at has =
         let seat = boot_seat 0 tasks t x at in
         let is = boot_right (0 + t) seat.0 r (rw seat.1 at has) in
-        (is.0, rw (zero-add t) at is.1, seat.2)
+        (rw (zero-add t) at is, seat.2)
+
+    -- what it names was given
+    right_given : (t : ℕ) (r : Right) → IsFirst t r → IsGivenRight w r
+    right_given t (Io r) is = (λ n named. elim named [ inl e ↦ named_root n (sym e ∙ is.node) | inr way ↦ absurd (subst (λ (ps : List Parent). IsAmong n (ways_of ps)) is.parents way) ], named_open t r.open_name is.open_name)
+    right_given t (Control s) is = absurd is
 
     given : AreGiven w
     given = record {
       nodes = λ n x is. named_root n (node_only n x is).0;
       opens = λ q x is. let one = boot_open tasks q x is in named_open (0 + one.0) q one.2;
       servers = λ s i is. named_root s (server_only s i is).0;
-      rights = λ t x r at has. let is = right_is t x r at has in (named_root r.node is.0, named_open t r.open_name is.1);
+      rights = λ t x r at has. right_given t r (right_is t x r at has).0;
       entries = λ d n is. absurd (no_entry d n is);
       parents = λ n p k is up. absurd (let none = ap (λ (j : Header). j.parent) (header_only n k is).1 in cc);
     }
@@ -181,8 +188,8 @@ module _ (kind : ServerKind) (text : List ℕ) where
     tables : AreTables w
     tables = record {
       numbers = λ t x p at has. let seat = boot_seat 0 tasks t x at in rw seat.1 (boot_number (0 + t) seat.0 p (rw seat.1 at has));
-      opened = λ t x r at has. let is = right_is t x r at has in (closed, opens_there 0 tasks fin.empty t r.open_name is.2 (rw (← zero-add t) at is.1));
-      shared = λ t q x y r p at has there holds same. (right_is t x r at has).0 ∙ sym (right_is q y p there holds).0;
+      opened = λ t x r at has. let is = right_is t x (Io r) at has in (closed, opens_there 0 tasks fin.empty t r.open_name is.1 (rw (← zero-add t) at is.0.open_name));
+      shared = λ t q x y r p at has there holds same. (right_is t x (Io r) at has).0.node ∙ sym (right_is q y (Io p) there holds).0.node;
       written = λ t x r o k at has is asked there. absurd (true≢false (sym asked ∙ ap (λ (y : Opened). asks y.modes WRITE) (boot_open tasks r.open_name o is).3));
     }
 

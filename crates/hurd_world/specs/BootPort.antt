@@ -1,5 +1,5 @@
 -- One port more on the boot root.
-use Rattle.std.specs.Prelude.{ℕ, Result, Ok, Err, slice_get}
+use Rattle.std.specs.Prelude.{ℕ, [], Result, Ok, Err, slice_get}
 use Rattle.hurd_creds.specs.declared.errno.Errno.{Errno}
 use Rattle.hurd_creds.specs.Access.{IdSets}
 use Rattle.hurd_nodes.specs.Shown.{boot_name}
@@ -11,5 +11,5 @@ use Rattle.hurd_world.specs.Boot.{closed_open}
 abbrev pub with_boot_port : ℕ → PortState → PortState
 with_boot_port t h = of_ids (ids_at (slice_get h.tasks t)) where
   of_ids : Result IdSets Errno → PortState
-  of_ids (Ok ids) = (insert_step t boot_name ids closed_open h).1
+  of_ids (Ok ids) = (insert_step t boot_name ids [] closed_open h).1
   of_ids (Err e) = h

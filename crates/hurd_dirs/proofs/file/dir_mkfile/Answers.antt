@@ -31,8 +31,15 @@ returns-in_err-ids g c =
     let p = err_from_is_err_and c.from_residual-in_err-ids.result c.from_residual-in_err-ids.ensures.1 in
     rw p.1 (mkfile-lacks w c.args.task.0 c.args.port c.args.flags c.args.mode a (sym c.in_ok-made.ensures) _ _ c.in_ok-can_make_nameless.ensures p.2)
 
+pub returns-in_err-parents : goal.returns-in_err-parents
+returns-in_err-parents g c =
+    let w = world_of g.S.Server.meaning c.args.core.now in
+    let a : Named × NamelessToMake = (named_of c.in_ok-made.made.above, c.in_ok-made.made.file) in
+    let p = err_from_is_err_and c.from_residual-in_err-parents.result c.from_residual-in_err-parents.ensures.1 in
+    rw p.1 (mkfile-lacks w c.args.task.0 c.args.port c.args.flags c.args.mode a (sym c.in_ok-made.ensures) _ _ c.in_ok-can_make_nameless.ensures p.2)
+
 pub returns : goal.returns
 returns g c =
     let w = world_of g.S.Server.meaning c.args.core.now in
     let a : Named × NamelessToMake = (named_of c.in_ok-made.made.above, c.in_ok-made.made.file) in
-    mkfile-made w c.args.task.0 c.args.port c.args.flags c.args.mode a (sym c.in_ok-made.ensures) c.make_nameless.result _ (rw (c.open_modes.ensures, c.in_ok-ids.ensures) at c.make_nameless.ensures)
+    mkfile-made w c.args.task.0 c.args.port c.args.flags c.args.mode a (sym c.in_ok-made.ensures) c.make_nameless.result _ (rw (c.open_modes.ensures, c.in_ok-ids.ensures, c.in_ok-parents.ensures) at c.make_nameless.ensures)
