@@ -30,7 +30,14 @@ returns-in_err-ids-2 g c =
     let had = room-had (nodes_of w) (ports_of w) c.args.task.0 0 _ (sym c.in_ok-room.ensures) in
     rw (p.1, p.2) (share-lacks w c.args.task.0 c.args.port (ids_of_task) (named_of c.in_ok-right.field-0) (sym c.in_ok-right.ensures.is) had.0 had.2)
 
+pub returns-in_err-right-2 : goal.returns-in_err-right-2
+returns-in_err-right-2 g c =
+    let w = world_of g.S.Server.meaning c.args.core.now in
+    let p = err_from_is_err_and c.from_residual-in_err-right-2.result c.from_residual-in_err-right-2.ensures.1 in
+    let had = room-had (nodes_of w) (ports_of w) c.args.task.0 0 _ (sym c.in_ok-room.ensures) in
+    rw (p.1, p.2) (share-lacks w c.args.task.0 c.args.port (ids_of_task) (named_of c.in_ok-right.field-0) (sym c.in_ok-right.ensures.is) had.0 had.2)
+
 pub returns : goal.returns
 returns g c =
     let w = world_of g.S.Server.meaning c.args.core.now in
-    share-does w c.args.task.0 c.args.port (ids_of_task) (named_of c.in_ok-right.field-0) (sym c.in_ok-right.ensures.is) _ (λ x at. let same = rw at at c.in_ok-ids.ensures in c.with_ids-right.ensures ∙ ap (λ i. with_ids_for i c.in_ok-right.field-0.right.now) (c.in_ok-ids-2.ensures ∙ cc (same))) _ _ c.share.ensures
+    share-does w c.args.task.0 c.args.port (ids_of_task) (named_of c.in_ok-right.field-0) (sym c.in_ok-right.ensures.is) _ (λ x at. let same = rw at at c.in_ok-ids.ensures in c.in_ok-right-2.ensures ∙ ap (λ i. with_ids_for i c.in_ok-right.field-0.right.now) (c.in_ok-ids-2.ensures ∙ cc (same))) _ _ c.share.ensures
