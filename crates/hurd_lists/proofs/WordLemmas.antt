@@ -1,12 +1,10 @@
--- The bytes of a word, and the words of a line.
-use Rattle.std.proofs.Common.{ℕ, ◌≡◌, ◌≢◌, ◌≤◌, ◌++◌, ◌∷◌, [], List, Option, Some, None, false, refl, sym, ◌∙◌, ap, append-nil, drop, if◌then◌else◌, is_none, length}
-use Rattle.std.proofs.lemmas.List.{at_drop_all}
+-- The bytes of a word.
+use Rattle.std.proofs.Common.{ℕ, ◌≡◌, ◌≢◌, ◌++◌, ◌∷◌, [], List, Option, Some, None, refl, sym, ◌∙◌, ap}
 use Rattle.std.proofs.lemmas.Bool.{eq-eqb, ne_eqb}
 use Rattle.hurd_words.specs.Reading.{behind}
-use Rattle.hurd_words.specs.Words.{escape_code, has_hidden_byte, onto}
+use Rattle.hurd_words.specs.Words.{escape_code, onto}
 use Rattle.hurd_words.proofs.Loops.{behind-push}
-use Rattle.hurd_lists.specs.Words.{bytes_after, bytes_of, good_bytes, hex_byte}
-use Rattle.hurd_lists.specs.declared.words.Escape.{Escape}
+use Rattle.hurd_lists.specs.Words.{bytes_after, hex_byte}
 use Rattle.hurd_lists.specs.declared.words.Escape.TheVariants.{Plain, Begun, Hex, Half}
 
 -- a byte where an escape has come so far
@@ -60,20 +58,9 @@ pub pair_refused : (high b : ℕ) (rest : List ℕ) → None ≡ hex_byte high b
 pair_refused high b rest e = at_low high b rest ∙ onto_refused (hex_byte high b) rest e
 
 -- the end of a word
-ended : (bytes word : List ℕ) (i : ℕ) (escape : Escape) → length word ≤ i → behind bytes (bytes_after escape (drop i word)) ≡ behind bytes (bytes_after escape [])
-ended bytes word i escape h = ap (behind bytes) (at_drop_all (bytes_after escape) word i h)
-
-none_where_none : {X : Type 0} (o : Option X) → (if is_none o then None else o) ≡ o
-none_where_none None = refl
-none_where_none (Some x) = refl
-
-visible : (word : List ℕ) → has_hidden_byte word ≡ false → good_bytes word ≡ bytes_of word
-visible word h = rw h (none_where_none (bytes_of word))
-
-pub word_whole : (word bytes : List ℕ) (i : ℕ) → has_hidden_byte word ≡ false → length word ≤ i → behind bytes (bytes_after Plain (drop i word)) ≡ bytes_of word
-    → good_bytes word ≡ Some bytes
+pub ends_plain : bytes_after Plain [] ≡ Some []
 unfolding bytes_after
-word_whole word bytes i h l e = visible word h ∙ (sym e ∙ (ended bytes word i Plain l ∙ ap Some (append-nil bytes)))
+ends_plain = refl
 
 pub open_begun : bytes_after Begun [] ≡ None
 unfolding bytes_after
@@ -86,7 +73,3 @@ open_hex = refl
 pub open_half : (high : ℕ) → bytes_after (Half high) [] ≡ None
 unfolding bytes_after
 open_half high = refl
-
-pub word_open : (word bytes : List ℕ) (i : ℕ) (escape : Escape) → bytes_after escape [] ≡ None → has_hidden_byte word ≡ false → length word ≤ i → behind bytes (bytes_after escape (drop i word)) ≡ bytes_of word
-    → good_bytes word ≡ None
-word_open word bytes i escape o h l e = visible word h ∙ (sym e ∙ (ended bytes word i escape l ∙ ap (behind bytes) o))

@@ -4,6 +4,7 @@ use Rattle.std.specs.List.{slice_split}
 use Rattle.hurd_creds.specs.Access.{IdSets}
 use Rattle.hurd_words.specs.Lines.{skip_spaces, without_end}
 use Rattle.hurd_words.specs.Lines.{is_skipped, lines_of}
+use Rattle.hurd_words.specs.Reading.{good_words}
 use Rattle.hurd_words.specs.Users.{begins_with}
 use Rattle.hurd_words.specs.declared.fault.ReadFault.{ReadFault}
 use Rattle.hurd_words.specs.declared.fault.ReadFault.TheVariants as read_fault
@@ -13,7 +14,7 @@ use Rattle.hurd_lists.specs.Arguments.{ids_of, task_of, text_of}
 use Rattle.hurd_lists.specs.Calls.{call_of}
 use Rattle.hurd_lists.specs.Reading.{◌>>=◌}
 use Rattle.hurd_lists.specs.Verbs.{verb_of}
-use Rattle.hurd_lists.specs.Words.{good_words}
+use Rattle.hurd_lists.specs.Words.{bytes_of}
 use Rattle.hurd_lists.specs.declared.reader.CallList.{CallList}
 use Rattle.hurd_lists.specs.declared.reader.ListFault.{ListFault}
 use Rattle.hurd_lists.specs.declared.reader.ListFault.TheVariants as fault
@@ -77,7 +78,7 @@ with_words s line words =
 abbrev pub with_line : Standing → List ℕ → Option Standing
 with_line s line =
     if is_skipped line then Some s
-    else option_and_then (with_words s line) (good_words (slice_split (λ b. b == 32) line))
+    else option_and_then (with_words s line) (good_words bytes_of (slice_split (λ b. b == 32) line))
 
 -- what was read, or this line is bad
 abbrev pub or_bad : ℕ → Option (Result Standing ℕ) → Result Standing ℕ

@@ -1,7 +1,6 @@
 -- The words of a line.
-use Rattle.std.specs.Prelude.{ℕ, ◌+◌, ◌-◌, ◌*◌, ◌==◌, ◌&&◌, ◌||◌, Bool, List, [], ◌∷◌, Option, Some, None, if◌then◌else◌, nat_le, filter, filter_map, is_none}
-use Rattle.std.specs.List.{list_any}
-use Rattle.hurd_words.specs.Words.{escape_code, has_bytes, has_hidden_byte, onto, written_words}
+use Rattle.std.specs.Prelude.{ℕ, ◌+◌, ◌-◌, ◌*◌, ◌==◌, ◌&&◌, List, [], ◌∷◌, Option, Some, None, if◌then◌else◌, nat_le}
+use Rattle.hurd_words.specs.Words.{Spelling, escape_code, onto}
 use Rattle.hurd_lists.specs.declared.words.Escape.{Escape}
 use Rattle.hurd_lists.specs.declared.words.Escape.TheVariants.{Plain, Begun, Hex, Half}
 
@@ -34,23 +33,5 @@ bytes_after Hex (b ∷ bs) = bytes_after (Half b) bs
 bytes_after (Half high) (b ∷ bs) = onto (hex_byte high b) (bytes_after Plain bs)
 
 -- what a word spells, with its escapes resolved, or nothing where a backslash has another use
-abbrev pub bytes_of : List ℕ → Option (List ℕ)
+abbrev pub bytes_of : Spelling
 bytes_of word = bytes_after Plain word
-
--- not a word: a byte that is not printable ASCII stands in it, or a backslash has another use
-abbrev pub is_bad_word : List ℕ → Bool
-is_bad_word word = has_hidden_byte word || is_none (bytes_of word)
-
--- what a word spells, if it is a good one
-abbrev pub good_bytes : List ℕ → Option (List ℕ)
-good_bytes word = if is_bad_word word then None else bytes_of word
-
--- the words that pieces of a line spell, if each is a good one
-abbrev pub good_words : List (List ℕ) → Option (List (List ℕ))
-good_words pieces =
-    if list_any is_bad_word (filter has_bytes pieces) then None
-    else Some (filter_map bytes_of (filter has_bytes pieces))
-
--- what the words of a line spell
-abbrev pub words_of : List ℕ → List (List ℕ)
-words_of line = filter_map bytes_of (written_words line)

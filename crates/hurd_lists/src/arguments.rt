@@ -11,6 +11,7 @@ use hurd_machine::Whence;
 use hurd_words::fault::ReadFault;
 use hurd_words::numbers;
 use hurd_words::users::{ids_from, parts};
+use hurd_words::words::is;
 use std::alloc::Global;
 
 /// The most that an offset below zero may be away from it.
@@ -138,11 +139,11 @@ pub fn whence(word: &[u8]) -> Result<Whence, ReadFault>
 fn whence_named(name: &str) -> Option<Whence>
     ensures { result ≡ whence_named name.now }
 {
-    if name == "Set" {
+    if is(name, "Set") {
         Some(Whence::Set)
-    } else if name == "Current" {
+    } else if is(name, "Current") {
         Some(Whence::Current)
-    } else if name == "End" {
+    } else if is(name, "End") {
         Some(Whence::End)
     } else {
         None
@@ -154,7 +155,7 @@ pub fn flags(alloc: Global, word: &[u8]) -> Result<OpenFlags, ReadFault>
     ensures { Reads (λ f. f) (flags_of word.now) result }
 {
     let word = text(word)?;
-    if word == "-" {
+    if is(word, "-") {
         return Ok(OpenFlags::from_bits_truncate(0));
     }
     listed_flags(alloc, word)
@@ -184,23 +185,23 @@ fn with_flag(flags: OpenFlags, name: &str) -> Result<OpenFlags, ReadFault>
 fn flag_of(name: &str) -> Option<OpenFlags>
     ensures { result ≡ flag_of name.now }
 {
-    if name == "READ" {
+    if is(name, "READ") {
         Some(OpenFlags::READ)
-    } else if name == "WRITE" {
+    } else if is(name, "WRITE") {
         Some(OpenFlags::WRITE)
-    } else if name == "EXEC" {
+    } else if is(name, "EXEC") {
         Some(OpenFlags::EXEC)
-    } else if name == "APPEND" {
+    } else if is(name, "APPEND") {
         Some(OpenFlags::APPEND)
-    } else if name == "CREATE" {
+    } else if is(name, "CREATE") {
         Some(OpenFlags::CREATE)
-    } else if name == "EXCL" {
+    } else if is(name, "EXCL") {
         Some(OpenFlags::EXCL)
-    } else if name == "NOTRANS" {
+    } else if is(name, "NOTRANS") {
         Some(OpenFlags::NOTRANS)
-    } else if name == "NOLINK" {
+    } else if is(name, "NOLINK") {
         Some(OpenFlags::NOLINK)
-    } else if name == "DIRECTORY" {
+    } else if is(name, "DIRECTORY") {
         Some(OpenFlags::DIRECTORY)
     } else {
         None

@@ -95,8 +95,8 @@ impl CallList {
         let Some(verb) = verb_of(text(name.as_slice())?) else {
             return Err(ReadFault::Bad);
         };
-        let call = call_of(alloc, verb, args)?;
         let line = Bytes::copied(alloc, without_end(skip_spaces(line)))?;
+        let call = call_of(alloc, verb, args)?;
         self.calls.push(ListedCall { task, call, line })?;
         Ok(())
     }

@@ -1,6 +1,6 @@
 //! The text of replies.
-ghost use Rattle.std.specs.Prelude.{◌≡◌, ◌<◌, ◌++◌, ◌∷◌, [], ◌&&◌, not, if◌then◌else◌, IfOk, OnOk};
-ghost use Rattle.hurd_lists.specs.Replies.{flag_text, flags_text, hex_letter, high_digit, high_digits, kind_name, lookup_text, octal_digit, port_text, reply_text, retry_name, shown, shown_byte, shown_names, six_digits, spaced, mode_text, stat_rest, stat_text, text_if, told};
+ghost use Rattle.std.specs.Prelude.{◌≡◌, ◌<◌, ◌++◌, ◌∷◌, [], if◌then◌else◌, List, ℕ, IfOk, OnOk};
+ghost use Rattle.hurd_lists.specs.Replies.{flags_text, hex_letter, high_digit, high_digits, kind_name, listed_flags, lookup_text, octal_digit, port_text, reply_text, retry_name, shown, shown_byte, shown_names, six_digits, spaced, mode_text, stat_rest, stat_text, text_if, told};
 
 use bitflags::Flags;
 use hurd_creds::{Bytes, Kind, Mode, OpenFlags, Stat};
@@ -178,31 +178,45 @@ fn push_name(text: &mut Vec<u8>, first: bool, name: &str) -> Result<(), AllocErr
     Ok(())
 }
 
-/// Prints the name of a flag, if it is there, and answers whether none was printed yet.
-fn push_flag(text: &mut Vec<u8>, first: bool, there: bool, name: &str) -> Result<bool, AllocError>
-    ensures { IfOk result (λ none. (none ≡ (first && not there)) × (text.new.items ≡ text.old.items ++ flag_text first there name.now)) }
+/// Prints the name of a flag, if it is among these, and answers whether none was printed yet.
+fn push_flag(
+    text: &mut Vec<u8>,
+    first: bool,
+    flags: OpenFlags,
+    flag: OpenFlags,
+    name: &str,
+) -> Result<bool, AllocError>
+    ensures { IfOk result (λ none. (rows : List (ℕ × List ℕ)) → text.new.items ++ listed_flags none flags rows
+        ≡ text.old.items ++ listed_flags first flags ((flag.0, name.now) ∷ rows)) }
 {
-    if there {
-        push_name(text, first, name)?;
-        return Ok(false);
+    if !flags.asks(flag) {
+        return Ok(first);
     }
-    Ok(first)
+    push_name(text, first, name)?;
+    Ok(false)
+}
+
+/// Prints the names of flags, joined by commas, and answers whether there was none.
+fn push_each_flag(text: &mut Vec<u8>, flags: OpenFlags) -> Result<bool, AllocError>
+    ensures { IfOk result (λ none. text.new.items ++ listed_flags none flags [] ≡ text.old.items ++ flags_text flags) }
+{
+    let first = push_flag(text, true, flags, OpenFlags::READ, "READ")?;
+    let first = push_flag(text, first, flags, OpenFlags::WRITE, "WRITE")?;
+    let first = push_flag(text, first, flags, OpenFlags::EXEC, "EXEC")?;
+    let first = push_flag(text, first, flags, OpenFlags::APPEND, "APPEND")?;
+    let first = push_flag(text, first, flags, OpenFlags::CREATE, "CREATE")?;
+    let first = push_flag(text, first, flags, OpenFlags::EXCL, "EXCL")?;
+    let first = push_flag(text, first, flags, OpenFlags::NOTRANS, "NOTRANS")?;
+    let first = push_flag(text, first, flags, OpenFlags::NOLINK, "NOLINK")?;
+    push_flag(text, first, flags, OpenFlags::DIRECTORY, "DIRECTORY")
 }
 
 /// Prints the names of flags, joined by commas, or `-` for none.
 fn push_flags(text: &mut Vec<u8>, flags: OpenFlags) -> Result<(), AllocError>
     ensures { OnOk result (text.new.items ≡ text.old.items ++ flags_text flags) }
 {
-    let first = push_flag(text, true, flags.asks(OpenFlags::READ), "READ")?;
-    let first = push_flag(text, first, flags.asks(OpenFlags::WRITE), "WRITE")?;
-    let first = push_flag(text, first, flags.asks(OpenFlags::EXEC), "EXEC")?;
-    let first = push_flag(text, first, flags.asks(OpenFlags::APPEND), "APPEND")?;
-    let first = push_flag(text, first, flags.asks(OpenFlags::CREATE), "CREATE")?;
-    let first = push_flag(text, first, flags.asks(OpenFlags::EXCL), "EXCL")?;
-    let first = push_flag(text, first, flags.asks(OpenFlags::NOTRANS), "NOTRANS")?;
-    let first = push_flag(text, first, flags.asks(OpenFlags::NOLINK), "NOLINK")?;
-    let first = push_flag(text, first, flags.asks(OpenFlags::DIRECTORY), "DIRECTORY")?;
-    if first {
+    let none = push_each_flag(text, flags)?;
+    if none {
         text.push(b'-')?;
     }
     Ok(())

@@ -2,6 +2,8 @@
 ghost use Rattle.std.specs.Prelude.{◌≡◌};
 ghost use Rattle.hurd_lists.specs.Verbs.{dir_verb, file_verb, io_verb, port_verb, share_verb, verb_of};
 
+use hurd_words::words::is;
+
 /// What a call is named.
 #[derive(Clone, Copy, Debug, PartialEq, Eq)]
 pub enum Verb {
@@ -38,13 +40,13 @@ pub enum Verb {
 fn port_verb(name: &str) -> Option<Verb>
     ensures { result ≡ port_verb name.now }
 {
-    if name == "port_deallocate" {
+    if is(name, "port_deallocate") {
         Some(Verb::PortDeallocate)
-    } else if name == "port_send" {
+    } else if is(name, "port_send") {
         Some(Verb::PortSend)
-    } else if name == "port_receive" {
+    } else if is(name, "port_receive") {
         Some(Verb::PortReceive)
-    } else if name == "auth_makeauth" {
+    } else if is(name, "auth_makeauth") {
         Some(Verb::AuthMakeauth)
     } else {
         None
@@ -55,19 +57,19 @@ fn port_verb(name: &str) -> Option<Verb>
 fn io_verb(name: &str) -> Option<Verb>
     ensures { result ≡ io_verb name.now }
 {
-    if name == "io_read" {
+    if is(name, "io_read") {
         Some(Verb::IoRead)
-    } else if name == "io_write" {
+    } else if is(name, "io_write") {
         Some(Verb::IoWrite)
-    } else if name == "io_seek" {
+    } else if is(name, "io_seek") {
         Some(Verb::IoSeek)
-    } else if name == "io_stat" {
+    } else if is(name, "io_stat") {
         Some(Verb::IoStat)
-    } else if name == "io_readable" {
+    } else if is(name, "io_readable") {
         Some(Verb::IoReadable)
-    } else if name == "io_get_openmodes" {
+    } else if is(name, "io_get_openmodes") {
         Some(Verb::IoGetOpenmodes)
-    } else if name == "io_set_all_openmodes" {
+    } else if is(name, "io_set_all_openmodes") {
         Some(Verb::IoSetAllOpenmodes)
     } else {
         None
@@ -78,13 +80,13 @@ fn io_verb(name: &str) -> Option<Verb>
 fn share_verb(name: &str) -> Option<Verb>
     ensures { result ≡ share_verb name.now }
 {
-    if name == "io_duplicate" {
+    if is(name, "io_duplicate") {
         Some(Verb::IoDuplicate)
-    } else if name == "io_reauthenticate" {
+    } else if is(name, "io_reauthenticate") {
         Some(Verb::IoReauthenticate)
-    } else if name == "io_restrict_auth" {
+    } else if is(name, "io_restrict_auth") {
         Some(Verb::IoRestrictAuth)
-    } else if name == "io_identity" {
+    } else if is(name, "io_identity") {
         Some(Verb::IoIdentity)
     } else {
         None
@@ -95,13 +97,13 @@ fn share_verb(name: &str) -> Option<Verb>
 fn file_verb(name: &str) -> Option<Verb>
     ensures { result ≡ file_verb name.now }
 {
-    if name == "file_chmod" {
+    if is(name, "file_chmod") {
         Some(Verb::FileChmod)
-    } else if name == "file_chown" {
+    } else if is(name, "file_chown") {
         Some(Verb::FileChown)
-    } else if name == "file_set_size" {
+    } else if is(name, "file_set_size") {
         Some(Verb::FileSetSize)
-    } else if name == "file_check_access" {
+    } else if is(name, "file_check_access") {
         Some(Verb::FileCheckAccess)
     } else {
         None
@@ -112,21 +114,21 @@ fn file_verb(name: &str) -> Option<Verb>
 fn dir_verb(name: &str) -> Option<Verb>
     ensures { result ≡ dir_verb name.now }
 {
-    if name == "dir_lookup" {
+    if is(name, "dir_lookup") {
         Some(Verb::DirLookup)
-    } else if name == "dir_readdir" {
+    } else if is(name, "dir_readdir") {
         Some(Verb::DirReaddir)
-    } else if name == "dir_mkdir" {
+    } else if is(name, "dir_mkdir") {
         Some(Verb::DirMkdir)
-    } else if name == "dir_mkfile" {
+    } else if is(name, "dir_mkfile") {
         Some(Verb::DirMkfile)
-    } else if name == "dir_rmdir" {
+    } else if is(name, "dir_rmdir") {
         Some(Verb::DirRmdir)
-    } else if name == "dir_unlink" {
+    } else if is(name, "dir_unlink") {
         Some(Verb::DirUnlink)
-    } else if name == "dir_link" {
+    } else if is(name, "dir_link") {
         Some(Verb::DirLink)
-    } else if name == "dir_rename" {
+    } else if is(name, "dir_rename") {
         Some(Verb::DirRename)
     } else {
         None

@@ -1,9 +1,9 @@
 //! The words of a line.
 ghost use Rattle.std.specs.Prelude.{◌≡◌, ◌==◌, ◌<◌, ◌⊎◌, IfErr, IfOk, IfSome, OnOk};
 ghost use Rattle.std.specs.List.{slice_split};
-ghost use Rattle.hurd_words.specs.Reading.{Reads, Refuses, Takes};
+ghost use Rattle.hurd_words.specs.Reading.{Reads, Refuses, Takes, good_word, good_words};
 ghost use Rattle.hurd_lists.specs.Reading.{RefusesByte, TakesByte};
-ghost use Rattle.hurd_lists.specs.Words.{good_bytes, good_words, hex_byte, hex_digit};
+ghost use Rattle.hurd_lists.specs.Words.{bytes_of, hex_byte, hex_digit};
 
 use hurd_creds::Bytes;
 use hurd_words::fault::ReadFault;
@@ -25,7 +25,7 @@ pub enum Escape {
 
 /// The words of a line, with their escapes resolved.
 pub fn words_of(alloc: Global, line: &[u8]) -> Result<Vec<Bytes>, ReadFault>
-    ensures { Reads (λ v. v.items) (good_words (slice_split (λ b. b == 32) line.now)) result }
+    ensures { Reads (λ v. v.items) (good_words bytes_of (slice_split (λ b. b == 32) line.now)) result }
 {
     let mut words = Vec::new(alloc);
     let parts = pieces(alloc, line, b' ')?;
@@ -37,8 +37,8 @@ pub fn words_of(alloc: Global, line: &[u8]) -> Result<Vec<Bytes>, ReadFault>
 
 /// One piece of a line more: a word, or nothing between two spaces.
 fn add_word(alloc: Global, words: &mut Vec<Bytes>, piece: &[u8]) -> Result<(), ReadFault>
-    ensures ok { OnOk result (Takes good_words piece.now words.old.items words.new.items) }
-    ensures err { IfErr result (λ e. (e ≡ ReadFault.Memory) ⊎ Refuses good_words piece.now) }
+    ensures ok { OnOk result (Takes (good_words bytes_of) piece.now words.old.items words.new.items) }
+    ensures err { IfErr result (λ e. (e ≡ ReadFault.Memory) ⊎ Refuses (good_words bytes_of) piece.now) }
 {
     if piece.is_empty() {
         return Ok(());
@@ -50,7 +50,7 @@ fn add_word(alloc: Global, words: &mut Vec<Bytes>, piece: &[u8]) -> Result<(), R
 
 /// What a word spells.
 fn unescaped(alloc: Global, word: &[u8]) -> Result<Bytes, ReadFault>
-    ensures { Reads (λ b. b) (good_bytes word.now) result }
+    ensures { Reads (λ b. b) (good_word bytes_of word.now) result }
 {
     if has_hidden_byte(word) {
         return Err(ReadFault::Bad);

@@ -7,7 +7,7 @@ use Rattle.std.proofs.lemmas.List.Folds.{list_any-append}
 use Rattle.std.proofs.Math.Bool.{or-false, or-true}
 use Rattle.hurd_creds.specs.Access.{IdSets}
 use Rattle.hurd_words.specs.Lines.{Turn, is_skipped, turns, turns_after}
-use Rattle.hurd_words.specs.Words.{is_bad_word, words_of, written_words}
+use Rattle.hurd_words.specs.Words.{is_bad_word, text_of, words_of, written_words}
 use Rattle.hurd_words.specs.Users.{Declaration, begins_with, declaration_of, declared_ids, declared_name, has_room_for, may_declare_some, task_of}
 use Rattle.hurd_script.specs.Commands.{CommandLine, command_at, command_from, command_of, header_of, is_bad_command, is_command_line, verb_of}
 use Rattle.hurd_script.specs.Script.{first_bad, is_bad_line, user_at}
@@ -98,10 +98,10 @@ at_skipped earlier line h =
     let e : standing (earlier ++ line ∷ []) ≡ standing earlier = standing-push earlier line ∙ rw h (with_nothing (standing earlier)) in
     rw (h, e) refl
 
-at_bad_word : (earlier : List (List ℕ)) (line : List ℕ) → is_skipped line ≡ false → list_any is_bad_word (written_words line) ≡ true → LineIs earlier line
+at_bad_word : (earlier : List (List ℕ)) (line : List ℕ) → is_skipped line ≡ false → list_any (is_bad_word text_of) (written_words line) ≡ true → LineIs earlier line
 at_bad_word earlier line h w = rw (h, w) refl
 
-at_user : (earlier : List (List ℕ)) (line : List ℕ) → is_skipped line ≡ false → list_any is_bad_word (written_words line) ≡ false
+at_user : (earlier : List (List ℕ)) (line : List ℕ) → is_skipped line ≡ false → list_any (is_bad_word text_of) (written_words line) ≡ false
     → begins_with (codes "user") (words_of line) ≡ true → LineIs earlier line
 at_user earlier line h w u =
     let d = declaration_of (words_of line) in
@@ -109,7 +109,7 @@ at_user earlier line h w u =
     standing-push earlier line ∙ rw (h, u) refl in
     rw (h, w, u, e) (with_declared-is (standing earlier) d)
 
-at_command : (earlier : List (List ℕ)) (line : List ℕ) → is_skipped line ≡ false → list_any is_bad_word (written_words line) ≡ false
+at_command : (earlier : List (List ℕ)) (line : List ℕ) → is_skipped line ≡ false → list_any (is_bad_word text_of) (written_words line) ≡ false
     → begins_with (codes "user") (words_of line) ≡ false → LineIs earlier line
 at_command earlier line h w u =
     let command = command_of (standing earlier).names line (words_of line) in
@@ -119,7 +119,7 @@ at_command earlier line h w u =
 pub line-is : (earlier : List (List ℕ)) (line : List ℕ) → LineIs earlier line
 line-is earlier line =
     decided (is_skipped line) (at_skipped earlier line) (λ h.
-    decided (list_any is_bad_word (written_words line)) (at_bad_word earlier line h) (λ w.
+    decided (list_any (is_bad_word text_of) (written_words line)) (at_bad_word earlier line h) (λ w.
     decided (begins_with (codes "user") (words_of line)) (at_user earlier line h w) (at_command earlier line h w)))
 
 some_unless : {X : Type 0} (b : Bool) (x y : X) → (if b then None else Some x) ≡ Some y → (b ≡ false) × (x ≡ y)

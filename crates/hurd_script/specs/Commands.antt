@@ -1,5 +1,5 @@
 -- The commands of a script.
-use Rattle.std.specs.Prelude.{refl, ℕ, ◌==◌, ◌&&◌, ◌||◌, Bool, true, false, not, List, [], ◌∷◌, ◌++◌, Option, Some, None, if◌then◌else◌, is_none, bytes_eq, codes}
+use Rattle.std.specs.Prelude.{refl, ℕ, ◌&&◌, ◌||◌, Bool, true, false, not, List, [], ◌∷◌, ◌++◌, Option, Some, None, if◌then◌else◌, is_none, bytes_eq, codes}
 use Rattle.std.specs.Coded.{Coded, code_by, coded_list, coded_ℕ, coded×}
 use Rattle.hurd_words.specs.Lines.{is_skipped, skip_spaces, skip_word, without_end, Turn}
 use Rattle.hurd_words.specs.Words.{words_of}

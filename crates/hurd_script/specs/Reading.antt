@@ -6,6 +6,7 @@ use Rattle.hurd_creds.specs.Access.{IdSets, coded_ids}
 use Rattle.hurd_words.specs.Lines.{is_skipped}
 use Rattle.hurd_words.specs.Users.{Declaration, begins_with, declaration_of, declared_ids, has_room_for, names_before}
 use Rattle.hurd_words.specs.Reading.{good_words}
+use Rattle.hurd_words.specs.Words.{text_of}
 use Rattle.hurd_words.specs.declared.fault.ReadFault.{ReadFault}
 use Rattle.hurd_words.specs.declared.fault.ReadFault.TheVariants as fault
 use Rattle.hurd_script.specs.Commands.{CommandLine, coded_command, command_of}
@@ -66,7 +67,7 @@ with_words s line words =
 abbrev pub with_line : Standing → List ℕ → Option Standing
 with_line s line =
     if is_skipped line then Some s
-    else option_and_then (with_words s line) (good_words (slice_split (λ b. b == 32) line))
+    else option_and_then (with_words s line) (good_words text_of (slice_split (λ b. b == 32) line))
 
 -- the fault of a line
 abbrev pub fault_at : ReadFault → ℕ → ScriptFault

@@ -4,7 +4,7 @@ use Rattle.std.specs.List.{list_any, position_from}
 use Rattle.std.specs.FinSet as set
 use Rattle.hurd_creds.specs.Access.{IdSets}
 use Rattle.hurd_words.specs.Lines.{is_skipped, lines_of, turns}
-use Rattle.hurd_words.specs.Words.{is_bad_word, words_of, written_words}
+use Rattle.hurd_words.specs.Words.{is_bad_word, text_of, words_of, written_words}
 use Rattle.hurd_words.specs.Users.{declared, declared_ids, is_bad_user, is_user_line, names_before}
 use Rattle.hurd_script.specs.Commands.{CommandLine, command_at, is_bad_command, is_command_line}
 use Rattle.hurd_script.specs.declared.reader.ScriptFault.{ScriptFault}
@@ -26,7 +26,7 @@ is_user_fault earlier line = begun earlier || is_bad_user (names_before earlier)
 abbrev pub is_bad_line : List (List ℕ) → List ℕ → Bool
 is_bad_line earlier line =
     not (is_skipped line)
-    && (list_any is_bad_word (written_words line)
+    && (list_any (is_bad_word text_of) (written_words line)
     || (if is_user_line line
     then is_user_fault earlier line
     else is_bad_command (names_before earlier) (words_of line)))

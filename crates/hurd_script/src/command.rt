@@ -6,6 +6,7 @@ ghost use Rattle.hurd_script.specs.Commands.{CommandLine, verb_of};
 use crate::actions;
 use crate::places::Place;
 use hurd_creds::{Bytes, Mode, TaskId};
+use hurd_words::words::is;
 use std::alloc::{AllocError, Global};
 use std::marker::Model;
 
@@ -122,25 +123,25 @@ impl Command {
 pub fn verb_of(word: &str) -> Option<Verb>
     ensures { result ≡ verb_of word.now }
 {
-    if word == "cat" {
+    if is(word, "cat") {
         Some(Verb::Cat)
-    } else if word == "ls" {
+    } else if is(word, "ls") {
         Some(Verb::Ls)
-    } else if word == "put" {
+    } else if is(word, "put") {
         Some(Verb::Put)
-    } else if word == "mkdir" {
+    } else if is(word, "mkdir") {
         Some(Verb::Mkdir)
-    } else if word == "rm" {
+    } else if is(word, "rm") {
         Some(Verb::Rm)
-    } else if word == "rmdir" {
+    } else if is(word, "rmdir") {
         Some(Verb::Rmdir)
-    } else if word == "ln" {
+    } else if is(word, "ln") {
         Some(Verb::Ln)
-    } else if word == "mv" {
+    } else if is(word, "mv") {
         Some(Verb::Mv)
-    } else if word == "chmod" {
+    } else if is(word, "chmod") {
         Some(Verb::Chmod)
-    } else if word == "chown" {
+    } else if is(word, "chown") {
         Some(Verb::Chown)
     } else {
         None

@@ -2,10 +2,10 @@
 ghost use Rattle.std.specs.Prelude.{[], ◌≡◌, ◌⊎◌, ◌<◌, IfErr, IfOk, List, None, OnOk, Some, length, map, string_bytes, ℕ};
 ghost use Rattle.hurd_words.specs.Lines.{is_skipped};
 ghost use Rattle.hurd_words.specs.Reading.{Reads, said};
-ghost use Rattle.hurd_script.specs.Reading.{LineFaultOf, fault_at, standing, with_command, with_declared, with_line, with_words};
+ghost use Rattle.hurd_script.specs.Reading.{LineFaultOf, fault_at, standing, with_command, with_declared, with_line, with_user, with_words};
 ghost use Rattle.hurd_script.specs.Commands.{command_of};
 ghost use Rattle.hurd_script.specs.Script.{FaultOf, bad, commands_of, first_bad, users_of};
-ghost use Rattle.hurd_words.specs.Users.{declaration_of, has_room_for};
+ghost use Rattle.hurd_words.specs.Users.{Declaration, declaration_of, has_room_for, most_tasks};
 
 use crate::command::{Command, verb_of};
 use crate::header::header;
@@ -101,6 +101,36 @@ impl Reader {
             && self.names.len() < MOST_TASKS
     }
 
+    /// One user more.
+    fn add_user(&mut self, name: String, ids: Ids) -> Result<(), AllocError>
+        requires { length self.old.names < most_tasks }
+        ensures { OnOk result (Some self.new ≡ with_user self.old (string_bytes name) (Some ids)) }
+    {
+        self.names.push(name)?;
+        self.users.push(ids)?;
+        Ok(())
+    }
+
+    /// Declares a user, of ids in these lists.
+    fn declare(
+        &mut self,
+        alloc: Global,
+        name: &str,
+        uids: &str,
+        gids: &str,
+    ) -> Result<(), ReadFault>
+        ensures { let user : Declaration = record { name = name.now; uids = uids.now; gids = gids.now } in
+            Reads (λ _. self.new) (with_declared self.old (Some user)) result }
+    {
+        if self.begun || !self.has_room_for(name) {
+            return Err(ReadFault::Bad);
+        }
+        let name = String::from_str(alloc, name)?;
+        let ids = ids_from(alloc, uids, gids)?;
+        self.add_user(name, ids)?;
+        Ok(())
+    }
+
     /// Reads a user line's words.
     fn take_user(&mut self, alloc: Global, words: &[String]) -> Result<(), ReadFault>
         ensures { Reads (λ _. self.new) (with_declared self.old (declaration_of (map string_bytes words.now))) result }
@@ -108,13 +138,7 @@ impl Reader {
         let [_, name, uids, gids] = words else {
             return Err(ReadFault::Bad);
         };
-        if self.begun || !self.has_room_for(name.as_str()) {
-            return Err(ReadFault::Bad);
-        }
-        let ids = ids_from(alloc, uids.as_str(), gids.as_str())?;
-        self.names.push(name.clone()?)?;
-        self.users.push(ids)?;
-        Ok(())
+        self.declare(alloc, name.as_str(), uids.as_str(), gids.as_str())
     }
 
     /// Reads a command line, of these words.

@@ -4,12 +4,11 @@ use Rattle.std.proofs.lemmas.Bool.Decides.{eqb_tells}
 use Rattle.hurd_creds.specs.declared.errno.Errno.{Errno}
 use Rattle.hurd_machine.specs.declared.call.Call.TheVariants.{IoRead}
 use Rattle.hurd_machine.specs.World.{World}
-use Rattle.hurd_shell.specs.declared.calls.TheConstants.{AT_CURSOR, READ_AMOUNT}
 use Rattle.hurd_shell.specs.declared.commands.Printed.{Printed}
 use Rattle.hurd_script.specs.Actions.{action_of}
 use Rattle.hurd_script.specs.Commands.{CommandLine}
 use Rattle.hurd_shell.specs.Programs.{Prog, End, gives, made, data_of}
-use Rattle.hurd_shell.specs.Commands.{cat_from, cat_read, prints, program_of}
+use Rattle.hurd_shell.specs.Commands.{at_cursor, cat_from, cat_read, prints, program_of, read_amount}
 use Rattle.hurd_shell.specs.Transcript.{end_of, lines_of}
 use Rattle.hurd_shell.specs.Progress.{Leads, Told}
 use Rattle.hurd_shell.proofs.ProgramLaws.{go-gives, leads_refl, tried_ends}
@@ -19,7 +18,7 @@ sub_one n = omega arith
 
 -- a read
 abbrev pub reading : ℕ → Prog (List ℕ)
-reading p = made (IoRead p READ_AMOUNT AT_CURSOR) data_of
+reading p = made (IoRead p read_amount at_cursor) data_of
 
 cat_turn : {t : ℕ} {w x : World} (reads p : ℕ) (output : List ℕ) (r : Result (List ℕ) Errno) → 0 < reads → Leads t (reading p) w (gives r) x
     → Leads t (cat_from reads p output) w (cat_read output (cat_from (reads - 1) p) r) x

@@ -1,5 +1,5 @@
 -- What each command does.
-use Rattle.std.specs.Prelude.{ℕ, zero, suc, Bool, not, ◌||◌, List, [], ◌∷◌, ◌++◌, bytes_eq, codes, filter, Some, None, Result, Ok, Err}
+use Rattle.std.specs.Prelude.{ℕ, ℤ, negsuc, zero, suc, Bool, not, ◌||◌, List, [], ◌∷◌, ◌++◌, bytes_eq, codes, filter, Some, None, Result, Ok, Err}
 use Rattle.std.specs.Int.RustNames.{bit_or}
 use Rattle.hurd_creds.specs.declared.errno.Errno.{Errno}
 use Rattle.hurd_creds.specs.declared.mode.Mode.{Mode}
@@ -9,16 +9,26 @@ use Rattle.hurd_machine.specs.declared.call.Call.TheVariants.{IoRead, IoWrite, I
 use Rattle.hurd_script.specs.declared.command.Action.{Action}
 use Rattle.hurd_script.specs.declared.command.Action.TheVariants.{Cat, Ls, Stat, Put, Mkdir, Rm, Rmdir, Ln, Mv, Chmod, Chown, Usage}
 use Rattle.hurd_script.specs.declared.places.Place.{Place}
-use Rattle.hurd_shell.specs.declared.calls.TheConstants.{AT_CURSOR, DIRECTORY_MODE, READ_AMOUNT}
-use Rattle.hurd_shell.specs.declared.commands.TheConstants.{MOST_READS}
 use Rattle.hurd_shell.specs.declared.commands.Printed.{Printed}
 use Rattle.hurd_shell.specs.Looking.{open_node}
 use Rattle.hurd_shell.specs.Programs.{Prog, gives, tried, bind, made, closing, data_of, names_of, stat_of, done_of}
 use Rattle.hurd_shell.specs.Lines.{stat_line}
 
--- the mode of directories that a command makes
+-- the mode of directories that a command makes: 0o755
 abbrev pub directory_mode : Mode
-directory_mode = record { 0 = DIRECTORY_MODE }
+directory_mode = record { 0 = 493 }
+
+-- the offset that stands for the cursor: -1
+abbrev pub at_cursor : ℤ
+at_cursor = negsuc 0
+
+-- how many bytes a read asks for
+abbrev pub read_amount : ℕ
+read_amount = 65536
+
+-- how many reads are made of a file at most
+abbrev pub most_reads : ℕ
+most_reads = 16
 
 -- a node is opened, worked on, and given up
 abbrev pub with_open : List ℕ → OpenFlags → (ℕ → Prog Printed) → Prog Printed
@@ -41,11 +51,11 @@ cat_read output more (Ok (b ∷ bs)) = more (output ++ b ∷ bs)
 -- with so many reads left, a file's bytes from the cursor on, behind those that were read
 unfoldable pub cat_from : ℕ → ℕ → List ℕ → Prog Printed
 cat_from zero p output = gives (Ok (prints output))
-cat_from (suc reads) p output = tried (made (IoRead p READ_AMOUNT AT_CURSOR) data_of) (cat_read output (cat_from reads p))
+cat_from (suc reads) p output = tried (made (IoRead p read_amount at_cursor) data_of) (cat_read output (cat_from reads p))
 
 -- cat: reads until one gives no bytes, one is refused, or no more may be made
 abbrev pub cat : ℕ → Prog Printed
-cat p = cat_from MOST_READS p []
+cat p = cat_from most_reads p []
 
 -- neither `.` nor `..`
 abbrev pub is_shown : List ℕ → Bool
@@ -62,7 +72,7 @@ ls p = bind (made (DirReaddir p) names_of) (λ names. gives (Ok (prints (as_line
 
 -- put: the file is cut to nothing, and the text written
 abbrev pub put : List ℕ → ℕ → Prog Printed
-put text p = bind (made (FileSetSize p 0) done_of) (λ u. bind (made (IoWrite p text AT_CURSOR) done_of) (λ v. gives (Ok (prints []))))
+put text p = bind (made (FileSetSize p 0) done_of) (λ u. bind (made (IoWrite p text at_cursor) done_of) (λ v. gives (Ok (prints []))))
 
 -- ls -d: what is told of the node itself
 abbrev pub stat : ℕ → Prog Printed

@@ -9,22 +9,32 @@ use Rattle.hurd_machine.specs.declared.call.Lookup.TheVariants as found
 use Rattle.hurd_machine.specs.declared.call.Reply.{Reply}
 use Rattle.hurd_machine.specs.declared.call.Reply.TheVariants as reply
 use Rattle.hurd_machine.specs.declared.call.RetryKind.TheVariants as kind
-use Rattle.hurd_shell.specs.declared.calls.TheConstants.{FILE_MODE}
-use Rattle.hurd_shell.specs.declared.looking.TheConstants.{DIRECTORY_PORT, MOST_RETRIES, ROOT_PORT}
 use Rattle.hurd_shell.specs.declared.looking.Looked.{Looked}
 use Rattle.hurd_shell.specs.declared.looking.Looked.TheVariants.{Opened, Retried}
 use Rattle.hurd_shell.specs.declared.looking.Retry.{Retry}
 use Rattle.hurd_shell.specs.declared.looking.Retry.TheVariants.{Normal, Reauth, Magical}
 use Rattle.hurd_shell.specs.Programs.{Prog, gives, bind, made, closing, port_of}
 
+-- the port of a task's root
+abbrev pub root_port : ℕ
+root_port = 1
+
+-- the port of a task's working directory
+abbrev pub directory_port : ℕ
+directory_port = 2
+
+-- how many retries one opening follows
+abbrev pub most_retries : ℕ
+most_retries = 32
+
 -- a path that begins with a slash starts at the root, any other at the working directory
 abbrev pub start_of : List ℕ → ℕ
-start_of [] = DIRECTORY_PORT
-start_of (b ∷ bs) = if b == 47 then ROOT_PORT else DIRECTORY_PORT
+start_of [] = directory_port
+start_of (b ∷ bs) = if b == 47 then root_port else directory_port
 
--- the mode of files that a command makes
+-- the mode of files that a command makes: 0o644
 abbrev pub file_mode : Mode
-file_mode = record { 0 = FILE_MODE }
+file_mode = record { 0 = 420 }
 
 -- what a lookup is answered: the opened node, or a retry, which has a port unless it is magical
 abbrev pub looked_of : Reply → Result Looked Errno
@@ -47,7 +57,7 @@ Opener = ℕ → List ℕ → Prog ℕ
 abbrev pub followed : Opener → Retry → Prog ℕ
 followed opener (Normal name p) = closing p (opener p name)
 followed opener (Reauth name p) = closing p (bind (made (IoReauthenticate p) port_of) (λ own. closing own (opener own name)))
-followed opener (Magical name) = opener ROOT_PORT name
+followed opener (Magical name) = opener root_port name
 
 -- a retry too many: it is ELOOP, and its port is given up
 abbrev pub too_many : Retry → Prog ℕ
@@ -67,4 +77,4 @@ look (suc left) flags dir name = bind (looking flags dir name) (arrived (followe
 
 -- opening what a path leads to
 abbrev pub open_node : List ℕ → OpenFlags → Prog ℕ
-open_node path flags = look MOST_RETRIES flags (start_of path) path
+open_node path flags = look most_retries flags (start_of path) path

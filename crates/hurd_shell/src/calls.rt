@@ -4,7 +4,7 @@ ghost use Rattle.hurd_creds.specs.declared.open_flags.OpenFlags.{OpenFlags};
 ghost use Rattle.hurd_laws.specs.Called.{Lacks};
 ghost use Rattle.hurd_world.specs.Held.{world_of};
 ghost use Rattle.hurd_shell.specs.Programs.{made, data_of, done_of, names_of, port_of, stat_of, unread};
-ghost use Rattle.hurd_shell.specs.Commands.{directory_mode};
+ghost use Rattle.hurd_shell.specs.Commands.{at_cursor, directory_mode, read_amount};
 ghost use Rattle.hurd_shell.specs.Looking.{file_mode, looked_of, looking};
 ghost use Rattle.hurd_shell.specs.Progress.{Ran, Stepped, stopped};
 
@@ -233,7 +233,7 @@ pub(crate) fn read<S: Server>(
     task: TaskId,
     port: u64,
 ) -> Result<Bytes, Stop>
-    ensures { Ran S.meaning task.0 (made (Call.IoRead port READ_AMOUNT AT_CURSOR) data_of) world.old result world.new }
+    ensures { Ran S.meaning task.0 (made (Call.IoRead port read_amount at_cursor) data_of) world.old result world.new }
 {
     let call = Call::IoRead {
         port,
@@ -251,7 +251,7 @@ pub(crate) fn write<S: Server>(
     port: u64,
     bytes: Bytes,
 ) -> Result<(), Stop>
-    ensures { Ran S.meaning task.0 (made (Call.IoWrite port bytes AT_CURSOR) done_of) world.old result world.new }
+    ensures { Ran S.meaning task.0 (made (Call.IoWrite port bytes at_cursor) done_of) world.old result world.new }
 {
     let call = Call::IoWrite {
         port,

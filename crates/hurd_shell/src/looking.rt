@@ -211,7 +211,7 @@ fn look<S: Server>(
     target: Target,
     held: &mut Vec<u64>,
 ) -> Result<u64, Stop>
-    ensures { Went S.meaning task.0 held.old.items (opening (written.look MOST_RETRIES flags) target) world.old
+    ensures { Went S.meaning task.0 held.old.items (opening (written.look written.most_retries flags) target) world.old
         (λ port. gives (Ok port)) held.new.items result world.new }
 {
     let mut target = target;

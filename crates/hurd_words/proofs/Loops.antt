@@ -34,6 +34,10 @@ pub behind-push : {X : Type 0} (front : List X) (x : X) (o : Option (List X)) �
 behind-push front x None = refl
 behind-push front x (Some xs) = ap Some (sym (append_assoc front (x ∷ []) xs))
 
+pub nothing_in_front : {X : Type 0} (o : Option (List X)) → behind [] o ≡ o
+nothing_in_front None = refl
+nothing_in_front (Some xs) = refl
+
 -- what a refusal says
 pub is_err : {X Y : Type 0} (view : X → Y) (wanted : Option Y) (e : ReadFault) → (e ≡ fault.Memory) ⊎ (wanted ≡ None) → Reads view wanted (Err e)
 is_err view wanted fault.Memory h = tt

@@ -1,10 +1,10 @@
 -- The bytes of a word, and the words of a line.
-use Rattle.std.proofs.Common.{if◌then◌else◌, ℕ, ◌≡◌, ◌≢◌, ◌≤◌, ◌++◌, ◌∷◌, [], List, Option, Some, None, Bool, true, false, refl, sym, ◌∙◌, ap, append-nil, drop, is_none, length}
-use Rattle.std.proofs.lemmas.List.{at_drop_all}
-use Rattle.std.proofs.lemmas.Bool.{eq-eqb, ne_eqb}
-use Rattle.hurd_words.specs.Words.{escape_code, has_hidden_byte, onto, text_after, text_of}
-use Rattle.hurd_words.proofs.Loops.{behind-push}
-use Rattle.hurd_words.specs.Reading.{behind, good_text}
+use Rattle.std.proofs.Common.{if◌then◌else◌, ℕ, ◌≡◌, ◌≢◌, ◌≤◌, ◌<◌, ◌+◌, ◌++◌, ◌∷◌, [], List, Option, Some, None, Bool, true, false, refl, sym, ◌∙◌, ap, append-nil, drop, get_or, is_none, length}
+use Rattle.std.proofs.lemmas.List.{at_drop_all, at_drop_more}
+use Rattle.std.proofs.lemmas.Bool.{eq-eqb, ne_eqb, or_parts}
+use Rattle.hurd_words.specs.Words.{Spelling, escape_code, has_hidden_byte, is_hidden, onto, text_after}
+use Rattle.hurd_words.proofs.Loops.{behind-push, nothing_in_front}
+use Rattle.hurd_words.specs.Reading.{behind, good_word}
 
 -- a byte behind no backslash, and one behind a backslash
 pub at_backslash : (b : ℕ) (bs : List ℕ) → b ≡ 92 → text_after false (b ∷ bs) ≡ text_after true bs
@@ -39,15 +39,57 @@ none_where_none : {X : Type 0} (o : Option X) → (if is_none o then None else o
 none_where_none None = refl
 none_where_none (Some x) = refl
 
-good_text-visible : (word : List ℕ) → has_hidden_byte word ≡ false → good_text word ≡ text_of word
-good_text-visible word h = rw h (none_where_none (text_of word))
+-- a word with no hidden byte is good where it is well spelled
+pub visible : (spelling : Spelling) (word : List ℕ) → has_hidden_byte word ≡ false → good_word spelling word ≡ spelling word
+visible spelling word h = rw h (none_where_none (spelling word))
 
-pub text_whole : (word text : List ℕ) (i : ℕ) → has_hidden_byte word ≡ false → length word ≤ i → behind text (text_after false (drop i word)) ≡ text_of word
-    → good_text word ≡ Some text
-unfolding text_after
-text_whole word text i h l e = good_text-visible word h ∙ (sym e ∙ (text_ended text word i false l ∙ ap Some (append-nil text)))
+pub hidden_word : (spelling : Spelling) (word : List ℕ) → has_hidden_byte word ≡ true → good_word spelling word ≡ None
+hidden_word spelling word h = rw h refl
 
-pub text_open : (word text : List ℕ) (i : ℕ) → has_hidden_byte word ≡ false → length word ≤ i → behind text (text_after true (drop i word)) ≡ text_of word
-    → good_text word ≡ None
+-- the next byte, and those behind it
+pub next_visible : (word : List ℕ) (i : ℕ) → i < length word → has_hidden_byte (drop i word) ≡ false
+    → (is_hidden (get_or word i 0) ≡ false) × (has_hidden_byte (drop (i + 1) word) ≡ false)
+next_visible word i h v = or_parts _ _ (sym (at_drop_more has_hidden_byte word i 0 h) ∙ v)
+
+-- a way to spell by what stands behind a state, as behind a backslash
+module _ {S : Type 0} (after : S → Spelling) where
+  -- nothing was read yet
+  pub word_begun : (state : S) (word bytes : List ℕ) → bytes ≡ [] → behind bytes (after state word) ≡ after state word
+  word_begun state word bytes none = rw none (nothing_in_front (after state word))
+
+  -- a byte was read
+  pub byte_read : (state next : S) (word before new : List ℕ) (i : ℕ) (all : Option (List ℕ)) → i < length word
+      → ((rest : List ℕ) → behind before (after state (get_or word i 0 ∷ rest)) ≡ behind new (after next rest))
+      → behind before (after state (drop i word)) ≡ all → behind new (after next (drop (i + 1) word)) ≡ all
+  byte_read state next word before new i all h step so_far =
+      sym (at_drop_more (λ bs. behind before (after state bs)) word i 0 h ∙ step (drop (i + 1) word)) ∙ so_far
+
+  -- a byte was bad
+  pub byte_refused : (state begin : S) (word before : List ℕ) (i : ℕ) → has_hidden_byte word ≡ false → i < length word
+      → behind before (after state (drop i word)) ≡ after begin word → ((rest : List ℕ) → after state (get_or word i 0 ∷ rest) ≡ None)
+      → good_word (after begin) word ≡ None
+  byte_refused state begin word before i v h so_far none =
+      visible (after begin) word v ∙ (sym so_far ∙ ap (behind before) (at_drop_more (after state) word i 0 h ∙ none (drop (i + 1) word)))
+
+  word_ended : (state : S) (word before : List ℕ) (i : ℕ) → length word ≤ i → behind before (after state (drop i word)) ≡ behind before (after state [])
+  word_ended state word before i h = ap (behind before) (at_drop_all (after state) word i h)
+
+  -- the end of a word
+  pub word_whole : (state begin : S) (word before : List ℕ) (i : ℕ) → after state [] ≡ Some [] → has_hidden_byte word ≡ false → length word ≤ i
+      → behind before (after state (drop i word)) ≡ after begin word → good_word (after begin) word ≡ Some before
+  word_whole state begin word before i end v h so_far =
+      visible (after begin) word v ∙ (sym so_far ∙ (word_ended state word before i h ∙ (ap (behind before) end ∙ ap Some (append-nil before))))
+
+  -- the end of a word, where more should follow
+  pub word_open : (state begin : S) (word before : List ℕ) (i : ℕ) → after state [] ≡ None → has_hidden_byte word ≡ false → length word ≤ i
+      → behind before (after state (drop i word)) ≡ after begin word → good_word (after begin) word ≡ None
+  word_open state begin word before i end v h so_far =
+      visible (after begin) word v ∙ (sym so_far ∙ (word_ended state word before i h ∙ ap (behind before) end))
+
+pub text_whole : text_after false [] ≡ Some []
 unfolding text_after
-text_open word text i h l e = good_text-visible word h ∙ (sym e ∙ text_ended text word i true l)
+text_whole = refl
+
+pub text_open : text_after true [] ≡ None
+unfolding text_after
+text_open = refl

@@ -2,7 +2,7 @@
 use Rattle.std.specs.Prelude.{map, ◌≡◌, ℕ, ◌++◌, Bool, List, ◌∷◌, Option, Some, None, Result, Ok, Err, filter, filter_map, option_map, if◌then◌else◌}
 use Rattle.std.specs.Borrow.{Bor}
 use Rattle.std.specs.List.{list_any}
-use Rattle.hurd_words.specs.Words.{has_bytes, is_bad_word, text_after, text_of}
+use Rattle.hurd_words.specs.Words.{Spelling, has_bytes, is_bad_word, text_after}
 use Rattle.hurd_words.specs.declared.fault.ReadFault.{ReadFault}
 use Rattle.hurd_words.specs.declared.fault.ReadFault.TheVariants as fault
 
@@ -13,14 +13,14 @@ Reads view wanted (Err fault.Memory) = Unit {0}
 Reads view wanted (Err fault.Bad) = wanted ≡ None
 
 -- what a word spells, if it is a good one
-abbrev pub good_text : List ℕ → Option (List ℕ)
-good_text word = if is_bad_word word then None else text_of word
+abbrev pub good_word : Spelling → Spelling
+good_word spelling word = if is_bad_word spelling word then None else spelling word
 
 -- the words that pieces of a line spell, if each is a good one
-abbrev pub good_words : List (List ℕ) → Option (List (List ℕ))
-good_words pieces =
-    if list_any is_bad_word (filter has_bytes pieces) then None
-    else Some (filter_map text_of (filter has_bytes pieces))
+abbrev pub good_words : Spelling → List (List ℕ) → Option (List (List ℕ))
+good_words spelling pieces =
+    if list_any (is_bad_word spelling) (filter has_bytes pieces) then None
+    else Some (filter_map spelling (filter has_bytes pieces))
 
 -- these, and then those
 abbrev pub behind : {X : Type 0} → List X → Option (List X) → Option (List X)

@@ -39,13 +39,13 @@ text_of word = text_after false word
 abbrev pub has_hidden_byte : List ℕ → Bool
 has_hidden_byte word = list_any is_hidden word
 
--- a backslash has another use in it than the three
-abbrev pub has_bad_escape : List ℕ → Bool
-has_bad_escape word = is_none (text_of word)
+-- a way to spell: what a word spells, or nothing where it is badly spelled
+abbrev pub Spelling : Type 0
+Spelling = List ℕ → Option (List ℕ)
 
--- not a word
-abbrev pub is_bad_word : List ℕ → Bool
-is_bad_word word = has_hidden_byte word || has_bad_escape word
+-- not a word: a byte that is not printable ASCII stands in it, or it is badly spelled
+abbrev pub is_bad_word : Spelling → List ℕ → Bool
+is_bad_word spelling word = has_hidden_byte word || is_none (spelling word)
 
 -- what the words of a line spell
 abbrev pub words_of : List ℕ → List (List ℕ)

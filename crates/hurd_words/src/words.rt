@@ -1,11 +1,18 @@
 //! The words of a line.
-ghost use Rattle.std.specs.Prelude.{◌≡◌, ◌==◌, ◌<◌, ◌⊎◌, ◌∷◌, ◌++◌, [], ℕ, List, false, true, None, IfErr, IfOk, IfSome, OnOk, map, string_bytes};
+ghost use Rattle.std.specs.Prelude.{◌≡◌, ◌==◌, bytes_eq, ◌<◌, ◌⊎◌, ◌∷◌, ◌++◌, [], ℕ, List, false, true, None, IfErr, IfOk, IfSome, OnOk, map, string_bytes};
 ghost use Rattle.std.specs.List.{slice_split};
-ghost use Rattle.hurd_words.specs.Reading.{Reads, Refuses, RefusesByte, Takes, TakesByte, behind, good_text, good_words};
-ghost use Rattle.hurd_words.specs.Words.{escape_code, has_hidden_byte, is_hidden, text_after};
+ghost use Rattle.hurd_words.specs.Reading.{Reads, Refuses, RefusesByte, Takes, TakesByte, behind, good_word, good_words};
+ghost use Rattle.hurd_words.specs.Words.{escape_code, has_hidden_byte, is_hidden, text_after, text_of};
 
 use crate::fault::ReadFault;
 use std::alloc::{AllocError, Global};
+
+/// Whether a text is this word.
+pub fn is(text: &str, word: &str) -> bool
+    ensures { result ≡ bytes_eq text.now word.now }
+{
+    text == word
+}
 
 /// The parts between bytes of one kind.
 pub fn pieces<'a>(alloc: Global, bytes: &'a [u8], at: u8) -> Result<Vec<&'a [u8]>, AllocError>
@@ -16,7 +23,7 @@ pub fn pieces<'a>(alloc: Global, bytes: &'a [u8], at: u8) -> Result<Vec<&'a [u8]
 
 /// The words of a line, with their escapes resolved.
 pub fn words_of(alloc: Global, line: &[u8]) -> Result<Vec<String>, ReadFault>
-    ensures { Reads (λ v. map string_bytes v.items) (good_words (slice_split (λ b. b == 32) line.now)) result }
+    ensures { Reads (λ v. map string_bytes v.items) (good_words text_of (slice_split (λ b. b == 32) line.now)) result }
 {
     let mut words = Vec::new(alloc);
     let parts = pieces(alloc, line, b' ')?;
@@ -28,8 +35,8 @@ pub fn words_of(alloc: Global, line: &[u8]) -> Result<Vec<String>, ReadFault>
 
 /// One piece of a line more: a word, or nothing between two spaces.
 fn add_word(alloc: Global, words: &mut Vec<String>, piece: &[u8]) -> Result<(), ReadFault>
-    ensures ok { OnOk result (Takes good_words piece.now (map string_bytes words.old.items) (map string_bytes words.new.items)) }
-    ensures err { IfErr result (λ e. (e ≡ ReadFault.Memory) ⊎ Refuses good_words piece.now) }
+    ensures ok { OnOk result (Takes (good_words text_of) piece.now (map string_bytes words.old.items) (map string_bytes words.new.items)) }
+    ensures err { IfErr result (λ e. (e ≡ ReadFault.Memory) ⊎ Refuses (good_words text_of) piece.now) }
 {
     if piece.is_empty() {
         return Ok(());
@@ -41,7 +48,7 @@ fn add_word(alloc: Global, words: &mut Vec<String>, piece: &[u8]) -> Result<(), 
 
 /// What a word spells.
 fn unescaped(alloc: Global, word: &[u8]) -> Result<String, ReadFault>
-    ensures { Reads string_bytes (good_text word.now) result }
+    ensures { Reads string_bytes (good_word text_of word.now) result }
 {
     if has_hidden_byte(word) {
         return Err(ReadFault::Bad);

@@ -1,4 +1,5 @@
 pub mod BootLaws
 pub mod FirstPorts
 pub mod FirstWorld
+pub mod RowLaws
 pub mod RunLaws

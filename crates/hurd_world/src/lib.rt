@@ -9,6 +9,7 @@
 
 mod boot;
 mod boxed;
+mod replies;
 mod world;
 
 pub use boxed::run_boxed;

@@ -8,6 +8,7 @@ ghost use Rattle.hurd_world.specs.Held.{world_of, made_by};
 ghost use Rattle.hurd_world.specs.Boot.{boot_of, first_world};
 
 use crate::boot::first_ports;
+use crate::replies;
 use hurd_core::Core;
 use hurd_creds::{Errno, Ids, Kind, TaskId};
 use hurd_dirs::{file, link, make, remove, rename};
@@ -88,31 +89,20 @@ impl<S: Server> World<S> {
     {
         let core = &mut self.core;
         match call {
-            Call::PortDeallocate { port } => {
-                rights::port_deallocate(core, task, port).map_or_else(
-                    Reply::Refused,
-                    |()| Reply::Done,
-                )
-            }
-            Call::PortSend { port, to } => {
-                rights::port_send(core, alloc, task, port, to).map_or_else(
-                    Reply::Refused,
-                    |()| Reply::Done,
-                )
-            }
-            Call::PortReceive => {
-                rights::port_receive(core, task).map_or_else(Reply::Refused, Reply::Port)
-            }
-            Call::AuthMakeauth { ids } => rights::auth_makeauth(core, task, ids).map_or_else(
-                Reply::Refused,
-                |()| Reply::Done,
-            ),
+            Call::PortDeallocate { port } => replies::done(rights::port_deallocate(
+                core, task, port,
+            )),
+            Call::PortSend { port, to } => replies::done(rights::port_send(
+                core, alloc, task, port, to,
+            )),
+            Call::PortReceive => replies::port(rights::port_receive(core, task)),
+            Call::AuthMakeauth { ids } => replies::done(rights::auth_makeauth(core, task, ids)),
             Call::DirLookup {
                 dir,
                 path,
                 flags,
                 mode,
-            } => lookup::dir_lookup(
+            } => replies::found(lookup::dir_lookup(
                 core,
                 alloc,
                 task,
@@ -120,131 +110,76 @@ impl<S: Server> World<S> {
                 path.as_slice(),
                 flags,
                 mode,
-            ).map_or_else(Reply::Refused, Reply::Found),
+            )),
             Call::IoRead {
                 port,
                 amount,
                 offset,
-            } => io::io_read(core, alloc, task, port, amount, offset).map_or_else(
-                Reply::Refused,
-                Reply::Data,
-            ),
+            } => replies::data(io::io_read(core, alloc, task, port, amount, offset)),
             Call::IoWrite {
                 port,
                 bytes,
                 offset,
-            } => io::io_write(core, task, port, bytes.as_slice(), offset).map_or_else(
-                Reply::Refused,
-                Reply::Count,
-            ),
+            } => replies::count(io::io_write(core, task, port, bytes.as_slice(), offset)),
             Call::IoSeek {
                 port,
                 offset,
                 whence,
-            } => opens::io_seek(core, task, port, offset, whence).map_or_else(
-                Reply::Refused,
-                Reply::Count,
-            ),
-            Call::IoStat { port } => {
-                io::io_stat(core, task, port).map_or_else(Reply::Refused, Reply::Stat)
+            } => replies::count(opens::io_seek(core, task, port, offset, whence)),
+            Call::IoStat { port } => replies::stat(io::io_stat(core, task, port)),
+            Call::IoReadable { port } => replies::count(opens::io_readable(core, task, port)),
+            Call::IoGetOpenmodes { port } => replies::modes(opens::io_get_openmodes(
+                core, task, port,
+            )),
+            Call::IoSetAllOpenmodes { port, flags } => {
+                replies::done(opens::io_set_all_openmodes(core, task, port, flags))
             }
-            Call::IoReadable { port } => {
-                opens::io_readable(core, task, port).map_or_else(Reply::Refused, Reply::Count)
-            }
-            Call::IoGetOpenmodes { port } => {
-                opens::io_get_openmodes(core, task, port).map_or_else(Reply::Refused, Reply::Modes)
-            }
-            Call::IoSetAllOpenmodes { port, flags } => opens::io_set_all_openmodes(
-                core, task, port, flags,
-            ).map_or_else(Reply::Refused, |()| Reply::Done),
-            Call::IoDuplicate { port } => {
-                sharing::io_duplicate(core, alloc, task, port).map_or_else(
-                    Reply::Refused,
-                    Reply::Port,
-                )
-            }
-            Call::IoReauthenticate { port } => sharing::io_reauthenticate(
+            Call::IoDuplicate { port } => replies::port(sharing::io_duplicate(
                 core, alloc, task, port,
-            ).map_or_else(Reply::Refused, Reply::Port),
-            Call::IoRestrictAuth { port, ids } => sharing::io_restrict_auth(
-                core, alloc, task, port, ids,
-            ).map_or_else(Reply::Refused, Reply::Port),
-            Call::IoIdentity { port, other } => {
-                sharing::io_identity(core, task, port, other).map_or_else(
-                    Reply::Refused,
-                    Reply::Same,
-                )
+            )),
+            Call::IoReauthenticate { port } => {
+                replies::port(sharing::io_reauthenticate(core, alloc, task, port))
             }
-            Call::FileSetSize { port, size } => {
-                files::file_set_size(core, task, port, size).map_or_else(
-                    Reply::Refused,
-                    |()| Reply::Done,
-                )
+            Call::IoRestrictAuth { port, ids } => {
+                replies::port(sharing::io_restrict_auth(core, alloc, task, port, ids))
             }
-            Call::FileChmod { port, mode } => {
-                access::file_chmod(core, task, port, mode).map_or_else(
-                    Reply::Refused,
-                    |()| Reply::Done,
-                )
-            }
+            Call::IoIdentity { port, other } => replies::same(sharing::io_identity(
+                core, task, port, other,
+            )),
+            Call::FileSetSize { port, size } => replies::done(files::file_set_size(
+                core, task, port, size,
+            )),
+            Call::FileChmod { port, mode } => replies::done(access::file_chmod(
+                core, task, port, mode,
+            )),
             Call::FileChown { port, owner, group } => {
-                access::file_chown(core, task, port, owner, group).map_or_else(
-                    Reply::Refused,
-                    |()| Reply::Done,
-                )
+                replies::done(access::file_chown(core, task, port, owner, group))
             }
-            Call::FileCheckAccess { port } => {
-                access::file_check_access(core, task, port).map_or_else(
-                    Reply::Refused,
-                    Reply::Modes,
-                )
+            Call::FileCheckAccess { port } => replies::modes(access::file_check_access(
+                core, task, port,
+            )),
+            Call::DirReaddir { port } => replies::names(files::dir_readdir(
+                core, alloc, task, port,
+            )),
+            Call::DirMkdir { dir, name, mode } => {
+                replies::done(make::dir_mkdir(core, alloc, task, dir, name.as_slice(), mode))
             }
-            Call::DirReaddir { port } => {
-                files::dir_readdir(core, alloc, task, port).map_or_else(
-                    Reply::Refused,
-                    Reply::Names,
-                )
+            Call::DirMkfile { dir, flags, mode } => {
+                replies::port(file::dir_mkfile(core, alloc, task, dir, flags, mode))
             }
-            Call::DirMkdir { dir, name, mode } => make::dir_mkdir(
-                core,
-                alloc,
-                task,
-                dir,
-                name.as_slice(),
-                mode,
-            ).map_or_else(Reply::Refused, |()| Reply::Done),
-            Call::DirMkfile { dir, flags, mode } => file::dir_mkfile(
-                core, alloc, task, dir, flags, mode,
-            ).map_or_else(Reply::Refused, Reply::Port),
-            Call::DirRmdir { dir, name } => remove::dir_rmdir(
-                core,
-                task,
-                dir,
-                name.as_slice(),
-            ).map_or_else(Reply::Refused, |()| Reply::Done),
-            Call::DirUnlink { dir, name } => remove::dir_unlink(
-                core,
-                task,
-                dir,
-                name.as_slice(),
-            ).map_or_else(Reply::Refused, |()| Reply::Done),
-            Call::DirLink { dir, name, file } => link::dir_link(
-                core,
-                alloc,
-                task,
-                dir,
-                name.as_slice(),
-                file,
-            ).map_or_else(Reply::Refused, |()| Reply::Done),
-            Call::DirRename { dir, name, to, new } => rename::dir_rename(
-                core,
-                alloc,
-                task,
-                dir,
-                name.as_slice(),
-                to,
-                new.as_slice(),
-            ).map_or_else(Reply::Refused, |()| Reply::Done),
+            Call::DirRmdir { dir, name } => {
+                replies::done(remove::dir_rmdir(core, task, dir, name.as_slice()))
+            }
+            Call::DirUnlink { dir, name } => {
+                replies::done(remove::dir_unlink(core, task, dir, name.as_slice()))
+            }
+            Call::DirLink { dir, name, file } => {
+                replies::done(link::dir_link(core, alloc, task, dir, name.as_slice(), file))
+            }
+            Call::DirRename { dir, name, to, new } => {
+                let (name, new) = (name.as_slice(), new.as_slice());
+                replies::done(rename::dir_rename(core, alloc, task, dir, name, to, new))
+            }
         }
     }
 
