@@ -10,6 +10,14 @@ mod lists;
 #[cfg(test)]
 mod ports;
 #[cfg(test)]
+mod rows;
+#[cfg(test)]
 mod script;
 #[cfg(test)]
+mod servers;
+#[cfg(test)]
 mod small;
+#[cfg(test)]
+mod terminal;
+#[cfg(test)]
+mod tmpfs;
