@@ -146,20 +146,29 @@ fn alike(alloc: Global, words: &[String], at: usize) -> Result<Ids, Fail> {
     Ok(ids_from(alloc, ids, ids)?)
 }
 
-/// Whether the ids of a row are cut so.
-fn is_cut(alloc: Global, words: &[String]) -> Result<bool, Fail> {
-    let held = alike(alloc, words, 0)?;
+/// What is left of the ids that a row asks for.
+fn cut(alloc: Global, words: &[String]) -> Result<Ids, Fail> {
     let asked = alike(alloc, words, 1)?;
-    let left = alike(alloc, words, 2)?;
-    let got = held.restrict(alloc, &asked)?;
-    Ok(got.may_take(&left) && left.may_take(&got))
+    Ok(alike(alloc, words, 0)?.restrict(alloc, &asked)?)
+}
+
+/// Whether these are the same ids: each may take the other's.
+fn are_same(one: &Ids, other: &Ids) -> bool {
+    one.may_take(other) && other.may_take(one)
+}
+
+/// The ids of a row are cut so.
+fn check_cut(rt: &impl Abort, alloc: Global, row: &str) -> Result<(), Fail> {
+    let words = words(alloc, row)?;
+    let are_same = are_same(&cut(alloc, &words)?, &alike(alloc, &words, 2)?);
+    assert!(rt; are_same, "{row}");
+    Ok(())
 }
 
 #[test]
 fn ids_that_are_asked_for_are_cut_to_those_that_are_held(rt: HostRuntime) -> Result<(), Fail> {
     for row in CUT.lines() {
-        let is_cut = is_cut(rt.alloc(), &words(rt.alloc(), row)?)?;
-        assert!(rt; is_cut, "{row}");
+        check_cut(&rt, rt.alloc(), row)?;
     }
     Ok(())
 }
