@@ -12,8 +12,6 @@ mod ending;
 mod fault;
 mod print;
 mod read;
-#[cfg(test)]
-mod tests;
 
 pub use ending::finish;
 pub use fault::Fault;

@@ -8,8 +8,6 @@ mod changes;
 mod inode;
 mod search;
 mod serve;
-#[cfg(test)]
-mod tests;
 mod tmpfs;
 
 pub use tmpfs::Tmpfs;
