@@ -5,7 +5,7 @@
 use crate::rows::{number, parts, small_number, word, words};
 use bitflags::Flags;
 use hurd_creds::{Errno, Ids, Name, NodeName, OpenFlags, TaskId};
-use hurd_ports::{Opened, Ports, Right};
+use hurd_ports::{IoRight, Opened, Parents, Ports, Right};
 use std::alloc::{AllocError, Global};
 use std::process::Abort;
 use std::test::Fail;
@@ -18,7 +18,7 @@ const ROOT: NodeName = Name {
 /// Puts a port into a table.
 fn insert(ports: &mut Ports, alloc: Global, task: TaskId) -> Result<u64, Errno> {
     let ids = Ids::new(alloc, &[1000], &[1000])?;
-    ports.insert(task, ROOT, ids, OpenFlags::READ)
+    ports.insert(task, ROOT, ids, Parents::none(alloc), OpenFlags::READ)
 }
 
 /// Takes one name, and fills a port into what was reserved before.
@@ -27,7 +27,7 @@ fn make(ports: &mut Ports, alloc: Global, task: TaskId) -> Result<u64, Errno> {
     ports.reserve(task)?;
     let ids = Ids::new(alloc, &[1000], &[1000])?;
     let node = ports.take_name(task);
-    Ok(ports.fill(task, node, ids, OpenFlags::READ))
+    Ok(ports.fill(task, node, ids, Parents::none(alloc), OpenFlags::READ))
 }
 
 /// Puts one more port into a table, with the right of another.
@@ -49,12 +49,15 @@ fn name(words: &[String]) -> Result<NodeName, Errno> {
     })
 }
 
-/// Makes a task's call on a port: `TASK right PORT`, `TASK deallocate PORT`, `TASK share PORT` or `TASK send PORT TASK`.
+/// Makes a task's call on a port: `TASK right PORT`, `TASK io PORT`, `TASK deallocate PORT`, `TASK share PORT` or
+/// `TASK send PORT TASK`.
 /// The number that it answers with, or the port's.
 fn ask_of_port(ports: &mut Ports, alloc: Global, words: &[String]) -> Result<u64, Errno> {
     let (from, verb, port) = (task(words, 0)?, word(words, 1)?, number(words, 2)?);
     if verb == "right" {
         ports.right(from, port)?;
+    } else if verb == "io" {
+        ports.io_right(from, port)?;
     } else if verb == "deallocate" {
         ports.deallocate(from, port)?;
     } else if verb == "share" {
@@ -65,13 +68,16 @@ fn ask_of_port(ports: &mut Ports, alloc: Global, words: &[String]) -> Result<u64
     Ok(port)
 }
 
-/// Makes a task's call: `TASK insert`, `TASK make` or `TASK receive`. The number that it answers with.
+/// Makes a task's call: `TASK insert`, `TASK make`, `TASK receive`, or, of a server's name, `TASK control COUNT`, which puts in a
+/// right to control it. The number that it answers with.
 fn ask_of_task(ports: &mut Ports, alloc: Global, words: &[String]) -> Result<u64, Errno> {
     let (from, verb) = (task(words, 0)?, word(words, 1)?);
     if verb == "insert" {
         insert(ports, alloc, from)
     } else if verb == "make" {
         make(ports, alloc, from)
+    } else if verb == "control" {
+        ports.share(from, Right::Control(name(words)?))
     } else {
         ports.receive(from)
     }
@@ -132,8 +138,19 @@ fn told_opened(alloc: Global, opened: Option<Opened>) -> Result<String, AllocErr
     }
 }
 
-/// The node and the open of a port, and whether it has root's ids.
+/// Of a port to control a server, that server.
 fn told_right(alloc: Global, right: &Right) -> Result<String, AllocError> {
+    match right {
+        Right::Io(right) => told_io_right(alloc, right),
+        Right::Control(server) => format!(in alloc;
+            "control of {}.{}",
+            server.task.0, server.count
+        ),
+    }
+}
+
+/// The node and the open of a port, and whether it has root's ids.
+fn told_io_right(alloc: Global, right: &IoRight) -> Result<String, AllocError> {
     let node = told_name(alloc, right.node)?;
     let open = told_name(alloc, right.open_name)?;
     let root = if right.ids.is_root() { " root" } else { "" };
@@ -160,7 +177,7 @@ fn is_looking(verb: &str) -> bool {
 }
 
 fn is_on_port(verb: &str) -> bool {
-    verb == "right" || verb == "deallocate" || verb == "share" || verb == "send"
+    verb == "right" || verb == "io" || verb == "deallocate" || verb == "share" || verb == "send"
 }
 
 /// The number that a call answers with.
@@ -174,7 +191,7 @@ fn ask_number(ports: &mut Ports, alloc: Global, words: &[String]) -> Result<u64,
 
 /// Whether a call answers a number.
 fn is_numbered(verb: &str) -> bool {
-    is_on_port(verb) || verb == "insert" || verb == "make" || verb == "receive"
+    is_on_port(verb) || verb == "insert" || verb == "make" || verb == "control" || verb == "receive"
 }
 
 /// Makes a call, or asks what changes nothing, as the verb says.
@@ -377,12 +394,10 @@ fn rights_are_shared_sent_and_received(rt: HostRuntime) -> Result<(), Fail> {
 #[test]
 fn the_greatest_number_is_no_ports(rt: HostRuntime) -> Result<(), Fail> {
     let mut ports = two_tasks(rt.alloc(), 18446744073709551615)?;
-    let right = Right {
-        node: ROOT,
-        ids: Ids::new(rt.alloc(), &[1000], &[1000])?,
-        open_name: ROOT,
-    };
-    assert_eq!(rt; ports.share(TaskId(0), right), Err(Errno::EOVERFLOW));
+    assert_eq!(rt;
+        ports.share(TaskId(0), Right::Control(ROOT)),
+        Err(Errno::EOVERFLOW)
+    );
     Ok(())
 }
 
@@ -403,6 +418,34 @@ const WITH_THE_LAST_RIGHT: &str = "0 insert: 3
 #[test]
 fn an_open_goes_with_the_last_right_that_shares_it(rt: HostRuntime) -> Result<(), Fail> {
     check(&rt, rt.alloc(), 3, WITH_THE_LAST_RIGHT)
+}
+
+const CONTROLS: &str = "0 control 7: 3
+0 what 3: control of 0.7
+0 right 3: 3
+0 io 3: EBADF
+0 insert: 4
+0 io 4: 4
+0 io 5: EBADF
+2 io 4: ESRCH
+0 share 3: 5
+0 send 3 1: 3
+1 receive: 3
+1 what 3: control of 0.7
+1 io 3: EBADF
+0 deallocate 3: 3
+0 what 3: EBADF
+0 what 5: control of 0.7
+0 opened 0: 0 1
+0 deallocate 4: 4
+0 opened 0: none
+0 deallocate 5: 5
+1 what 3: control of 0.7
+";
+
+#[test]
+fn a_right_to_control_a_server_has_no_open(rt: HostRuntime) -> Result<(), Fail> {
+    check(&rt, rt.alloc(), 3, CONTROLS)
 }
 
 const IN_ORDER: &str = "0 make: 3
