@@ -62,45 +62,31 @@ fn hold(nodes: &mut Nodes, node: NodeName, memory: &mut Memory) -> Result<(), Al
     }
 }
 
+/// Makes a node in a directory; where memory was refused and may be, a second try.
+fn make(
+    alloc: Global,
+    nodes: &mut Nodes,
+    dir: NodeName,
+    entry: &[u8],
+    count: u64,
+    kind: Kind,
+    memory: &mut Memory,
+) -> Result<(), Errno> {
+    match make_once(alloc, nodes, dir, entry, count, kind) {
+        Err(Errno::ENOMEM) if memory.may_refuse() => {
+            make_once(alloc, nodes, dir, entry, count, kind)
+        }
+        made => made,
+    }
+}
+
 /// The root, a file `f`, node 1, and a directory `d`, node 2, with a file `g`, node 3.
 fn small_tree(alloc: Global, memory: &mut Memory) -> Result<Nodes, Errno> {
     let mut nodes = begun(alloc, memory)?;
-    let rows = [
-        (BOOT_NAME, b"f".as_slice(), 1, Kind::File),
-        (BOOT_NAME, b"d".as_slice(), 2, Kind::Dir),
-        (name(2), b"g".as_slice(), 3, Kind::File),
-    ];
-    for (dir, entry, count, kind) in rows.iter() {
-        match make_once(alloc, &mut nodes, *dir, entry, *count, *kind) {
-            Err(Errno::ENOMEM) if memory.may_refuse() => {
-                make_once(alloc, &mut nodes, *dir, entry, *count, *kind)?
-            }
-            made => made?,
-        }
-    }
+    make(alloc, &mut nodes, BOOT_NAME, b"f", 1, Kind::File, memory)?;
+    make(alloc, &mut nodes, BOOT_NAME, b"d", 2, Kind::Dir, memory)?;
+    make(alloc, &mut nodes, name(2), b"g", 3, Kind::File, memory)?;
     Ok(nodes)
-}
-
-/// What is done to a node from outside, and whether it is there then.
-#[derive(Drop)]
-struct Row {
-    node: NodeName,
-    /// How often it is named.
-    holds: u32,
-    /// How often it is let go.
-    releases: u32,
-    stays: bool,
-}
-
-impl Row {
-    fn new(node: NodeName, holds: u32, releases: u32, stays: bool) -> Row {
-        Row {
-            node,
-            holds,
-            releases,
-            stays,
-        }
-    }
 }
 
 /// Names a node so often.
@@ -123,20 +109,20 @@ fn release_often(nodes: &mut Nodes, node: NodeName, often: u32) {
     }
 }
 
-/// Does to the nodes what the rows say: each that has an entry or is the root is there afterwards, with its home, and each
-/// that was never there isn't.
-fn check_rows(
+/// Names a node from outside and lets it go so often: then it is there or not, with its home.
+fn check_held(
     rt: &impl Abort,
     nodes: &mut Nodes,
-    rows: &[Row],
     memory: &mut Memory,
+    node: NodeName,
+    holds: u32,
+    releases: u32,
+    stays: bool,
 ) -> Result<(), AllocError> {
-    for (index, row) in rows.iter().enumerate() {
-        hold_often(nodes, row.node, row.holds, memory)?;
-        release_often(nodes, row.node, row.releases);
-        assert!(rt; nodes.attrs(row.node).is_some() == row.stays, "row {index}");
-        assert!(rt; nodes.home(row.node).is_some() == row.stays, "row {index}");
-    }
+    hold_often(nodes, node, holds, memory)?;
+    release_often(nodes, node, releases);
+    assert!(rt; nodes.attrs(node).is_some() == stays, "{node:?}");
+    assert!(rt; nodes.home(node).is_some() == stays, "{node:?}");
     Ok(())
 }
 
@@ -150,20 +136,17 @@ fn check_whole(rt: &impl Abort, nodes: &Nodes) {
     assert!(rt; matches!(nodes.attrs(name(1)), Some(attrs) if attrs.links == 1));
 }
 
-/// What has an entry, or is the root, stays when it is let go.
+/// What has an entry, or is the root, stays when it is let go; what was never there isn't then either.
 fn check_kept(rt: &impl Abort, alloc: Global, memory: &mut Memory) -> Result<(), Errno> {
     let mut nodes = small_tree(alloc, memory)?;
-    let rows = [
-        Row::new(name(1), 0, 1, true),
-        Row::new(name(1), 3, 2, true),
-        Row::new(name(1), 0, 2, true),
-        Row::new(BOOT_NAME, 2, 3, true),
-        Row::new(name(2), 1, 1, true),
-        Row::new(name(3), 1, 1, true),
-        Row::new(name(9), 1, 1, false),
-        Row::new(name(9), 0, 1, false),
-    ];
-    check_rows(rt, &mut nodes, &rows, memory)?;
+    check_held(rt, &mut nodes, memory, name(1), 0, 1, true)?;
+    check_held(rt, &mut nodes, memory, name(1), 3, 2, true)?;
+    check_held(rt, &mut nodes, memory, name(1), 0, 2, true)?;
+    check_held(rt, &mut nodes, memory, BOOT_NAME, 2, 3, true)?;
+    check_held(rt, &mut nodes, memory, name(2), 1, 1, true)?;
+    check_held(rt, &mut nodes, memory, name(3), 1, 1, true)?;
+    check_held(rt, &mut nodes, memory, name(9), 1, 1, false)?;
+    check_held(rt, &mut nodes, memory, name(9), 0, 1, false)?;
     nodes.settle();
     check_whole(rt, &nodes);
     Ok(())
