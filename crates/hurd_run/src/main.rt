@@ -6,8 +6,6 @@
 #![tactic(auto)]
 
 mod run;
-#[cfg(test)]
-mod tests;
 
 use hurd_terminal::{Input, Output};
 use run::program;
