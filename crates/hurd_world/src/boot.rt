@@ -32,6 +32,12 @@ fn add_boot_port(alloc: Global, ports: &mut Ports, task: TaskId) -> Result<(), E
     ensures err { IfErr result (λ e. e ≡ Errno.ENOMEM) }
 {
     let ids = ports.ids(task)?.copied(alloc)?;
-    ports.insert(task, BOOT_NAME, ids, Parents::none(alloc), OpenFlags::from_bits_truncate(0))?;
+    ports.insert(
+        task,
+        BOOT_NAME,
+        ids,
+        Parents::none(alloc),
+        OpenFlags::from_bits_truncate(0),
+    )?;
     Ok(())
 }
