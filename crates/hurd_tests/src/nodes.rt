@@ -49,7 +49,7 @@ fn make_once(
 }
 
 fn hold_once(nodes: &mut Nodes, node: NodeName) -> Result<(), AllocError> {
-    nodes.reserve_hold()?;
+    nodes.reserve_holds(1)?;
     nodes.hold(node);
     Ok(())
 }
@@ -102,11 +102,12 @@ fn hold_often(
     Ok(())
 }
 
-/// Lets a node go so often.
+/// Lets a node go so often, and then all that nothing keeps.
 fn release_often(nodes: &mut Nodes, node: NodeName, often: u32) {
     for _ in 0..often {
         nodes.release(node);
     }
+    nodes.settle();
 }
 
 /// Names a node from outside and lets it go so often: then it is there or not, with its home.
