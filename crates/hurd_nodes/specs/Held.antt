@@ -1,5 +1,5 @@
--- What the core holds: which server serves each node, the servers as boxes, and the nodes that are named from outside.
-use Rattle.std.specs.Prelude.{Bool, List, [], ◌∷◌, if◌then◌else◌, Option, Some, None, ℕ, ◌-◌, vec_len, vec_capacity, refl}
+-- What the core holds: which server serves each node, which one is active on it, the servers as boxes, and what is named from outside.
+use Rattle.std.specs.Prelude.{◌≡◌, Bool, false, List, [], ◌∷◌, if◌then◌else◌, Option, Some, None, ℕ, ◌-◌, vec_len, vec_capacity, refl}
 use Rattle.std.specs.Option.{option_map}
 use Rattle.std.specs.Global.{Vec}
 use Rattle.std.specs.List.{list_any}
@@ -9,8 +9,12 @@ use Rattle.hurd_creds.specs.declared.name.Name.{Name}
 use Rattle.hurd_creds.specs.Access.{IdSets, coded_ids}
 use Rattle.hurd_creds.specs.Names.{coded_name, same_name}
 use Rattle.hurd_creds.specs.NameMaps.{NameMap, keyed, map_values, place_by}
+use Rattle.hurd_nodes.specs.Weights.{count_list}
 use Rattle.hurd_nodes.specs.declared.seat.Seat.{Seat}
 use Rattle.hurd_nodes.specs.declared.seat.Home.{Home}
+use Rattle.hurd_nodes.specs.declared.seat.Hold.{Hold}
+use Rattle.hurd_nodes.specs.declared.seat.Hold.TheVariants.{Use, Way, Control}
+use Rattle.hurd_nodes.specs.contracts.seat.Hold as hold
 
 -- a server in its place: its box, the name of its root, and its ids
 pub record Seated (S : Type 0) : Type 0 where
@@ -18,12 +22,13 @@ pub record Seated (S : Type 0) : Type 0 where
   pub root : Name
   pub ids : IdSets
 
--- of each node its server; the servers; a node's name once for each time that it is named from outside; and for how many
--- such namings more there is room in memory
+-- of each node its server; of each node the server that is active on it; the servers; a hold for each time that a node or a
+-- server is named from outside; and for how many holds more there is room in memory
 pub record Held (S : Type 0) : Type 0 where
   pub homes : NameMap Name
+  pub actives : NameMap Name
   pub seats : NameMap (Seated S)
-  pub holds : List Name
+  pub holds : List Hold
   pub spare : ℕ
 
 abbrev pub coded_seated : {S : Type 0} → Coded S → Coded (Seated S)
@@ -33,9 +38,9 @@ coded_seated {S} c =
 
 abbrev pub coded_held : {S : Type 0} → Coded S → Coded (Held S)
 coded_held {S} c =
-    code_by (NameMap Name × (NameMap (Seated S) × (List Name × ℕ)))
-    (coded× (fin.code coded_name coded_name) (coded× (fin.code coded_name (coded_seated c)) (coded× (coded_list coded_name) coded_ℕ)))
-    (λ h. (h.homes, (h.seats, (h.holds, h.spare)))) (λ p. record { homes = p.0; seats = p.1.0; holds = p.1.1.0; spare = p.1.1.1 }) (λ _. refl)
+    code_by (NameMap Name × (NameMap Name × (NameMap (Seated S) × (List Hold × ℕ))))
+    (coded× (fin.code coded_name coded_name) (coded× (fin.code coded_name coded_name) (coded× (fin.code coded_name (coded_seated c)) (coded× (coded_list hold.the_row.coded) coded_ℕ))))
+    (λ h. (h.homes, (h.actives, (h.seats, (h.holds, h.spare))))) (λ p. record { homes = p.0; actives = p.1.0; seats = p.1.1.0; holds = p.1.1.1.0; spare = p.1.1.1.1 }) (λ _. refl)
 
 -- the lists of the code as maps
 
@@ -58,11 +63,22 @@ unfoldable pub seats_of : {S : Type 0} → List (Seat S) → NameMap (Seated S)
 seats_of ss = keyed seat_key seat_value ss
 
 -- for how many items more a vector has room
-abbrev pub spare_of : Vec Name → ℕ
+abbrev pub spare_of : Vec Hold → ℕ
 spare_of v = vec_capacity v - vec_len v
 
-abbrev pub held_of : {S : Type 0} → List Home → List (Seat S) → List Name → ℕ → Held S
-held_of homes seats holds spare = record { homes = homes_of homes; seats = seats_of seats; holds = holds; spare = spare }
+abbrev pub held_of : {S : Type 0} → List Home → List Home → List (Seat S) → List Hold → ℕ → Held S
+held_of homes actives seats holds spare = record { homes = homes_of homes; actives = homes_of actives; seats = seats_of seats; holds = holds; spare = spare }
+
+-- no two of a list have one name
+abbrev pub AreApart : {X : Type 0} → (X → Name) → List X → Type 0
+AreApart key [] = Unit {0}
+AreApart key (x ∷ xs) = (place_by key (key x) xs ≡ None) × AreApart key xs
+
+-- a node has one server and one that is active on it, and a server one seat
+pub record AreTables {S : Type 0} (homes actives : List Home) (seats : List (Seat S)) : Type 0 where
+  pub homes_apart : AreApart home_key homes
+  pub actives_apart : AreApart home_key actives
+  pub seats_apart : AreApart seat_key seats
 
 -- each box as what it means
 
@@ -106,28 +122,61 @@ with_seats h seats = record h { seats = seats }
 abbrev pub with_server_of : {S : Type 0} → Held S → Name → S → Held S
 with_server_of h n w = with_seats h (put_by h.seats (fin.get h.homes n) w)
 
-abbrev pub without_home : {S : Type 0} → Held S → Name → Held S
-without_home h n = record h { homes = fin.remove h.homes n }
-
 -- namings from outside
 
-abbrev pub with_holds : {S : Type 0} → Held S → List Name → ℕ → Held S
+abbrev pub with_holds : {S : Type 0} → Held S → List Hold → ℕ → Held S
 with_holds h holds spare = record h { holds = holds; spare = spare }
 
+-- whether two holds are of one sort and name
+abbrev pub same_hold : Hold → Hold → Bool
+same_hold (Use n) (Use m) = same_name n m
+same_hold (Way n) (Way m) = same_name n m
+same_hold (Control s) (Control q) = same_name s q
+same_hold _ _ = false
+
+-- whether a hold names a node
+abbrev pub names_node : Name → Hold → Bool
+names_node n (Use m) = same_name n m
+names_node n (Way m) = same_name n m
+names_node n (Control s) = false
+
+-- whether it names a server
+abbrev pub names_server : Name → Hold → Bool
+names_server s (Control q) = same_name s q
+names_server s _ = false
+
 -- whether a node is named from outside
-abbrev pub is_held : List Name → Name → Bool
-is_held holds n = list_any (λ m. same_name n m) holds
+abbrev pub is_held : List Hold → Name → Bool
+is_held holds n = list_any (names_node n) holds
 
--- without one naming of a node
-abbrev pub less_one : Name → List Name → List Name
-less_one n [] = []
-less_one n (m ∷ ms) = if same_name n m then ms else m ∷ less_one n ms
+-- whether a server is
+abbrev pub is_controlled : List Hold → Name → Bool
+is_controlled holds s = list_any (names_server s) holds
 
--- without one naming of each of these
-abbrev pub less_all : List Name → List Name → List Name
-less_all [] ms = ms
-less_all (n ∷ ns) ms = less_all ns (less_one n ms)
+-- whether a node's server is s
+abbrev pub is_home : Name → Option Name → Bool
+is_home s None = false
+is_home s (Some q) = same_name s q
 
--- the namings, and for how many more there is room
-abbrev pub holds_of : {S : Type 0} → Held S → List Name × ℕ
+-- whether it is a right to use a node of a server
+abbrev pub is_user : NameMap Name → Name → Hold → Bool
+is_user homes s (Use n) = is_home s (fin.get homes n)
+is_user homes s _ = false
+
+-- how many rights there are to use nodes of a server
+abbrev pub users_in : NameMap Name → Name → List Hold → ℕ
+users_in homes s holds = count_list (is_user homes s) holds
+
+-- without one such hold
+abbrev pub less_one : Hold → List Hold → List Hold
+less_one x [] = []
+less_one x (y ∷ ys) = if same_hold x y then ys else y ∷ less_one x ys
+
+-- without one hold for each of these
+abbrev pub less_all : List Hold → List Hold → List Hold
+less_all [] ys = ys
+less_all (x ∷ xs) ys = less_all xs (less_one x ys)
+
+-- the holds, and for how many more there is room
+abbrev pub holds_of : {S : Type 0} → Held S → List Hold × ℕ
 holds_of h = (h.holds, h.spare)

@@ -1,3 +1,4 @@
+pub mod Weights
 pub mod Held
 pub mod Shown
 pub mod Settle

@@ -1,10 +1,30 @@
 -- What stays, and what is left when all else has gone.
-use Rattle.std.specs.Prelude.{Bool, false, ◌||◌, if◌then◌else◌, is_some, nat_lt, Option, Some, None}
+use Rattle.std.specs.Prelude.{ℕ, zero, suc, ◌+◌, Bool, false, not, ◌||◌, ◌&&◌, if◌then◌else◌, is_some, nat_lt, List, Option, Some, None}
+use Rattle.std.specs.List.{list_any}
 use Rattle.std.specs.FinMap as fin
 use Rattle.hurd_creds.specs.declared.name.Name.{Name}
 use Rattle.hurd_creds.specs.Names.{same_name}
+use Rattle.hurd_creds.specs.NameMaps.{NameMap}
 use Rattle.hurd_trans_iface.specs.Nodes.{Node, Header, is_dir}
-use Rattle.hurd_nodes.specs.Shown.{NodeState, ServerInfo, server_of}
+use Rattle.hurd_nodes.specs.declared.seat.Hold.{Hold}
+use Rattle.hurd_nodes.specs.Held.{is_held, is_controlled, is_home}
+use Rattle.hurd_nodes.specs.Shown.{NodeState, ServerInfo, boot_name}
+
+-- what is named from outside: nodes, and servers
+pub record Outside : Type 0 where
+  pub held : Name → Bool
+  pub controlled : Name → Bool
+
+abbrev pub outside_of : List Hold → Outside
+outside_of holds = record { held = is_held holds; controlled = is_controlled holds }
+
+abbrev pub passes : {X : Type 0} → (Name → X → Bool) → Name → Option X → Bool
+passes test n None = false
+passes test n (Some x) = test n x
+
+-- whether something in a map passes a test
+unfoldable pub any_in : {X : Type 0} → (Name → X → Bool) → NameMap X → Bool
+any_in test m = list_any (λ n. passes test n (fin.get m n)) (fin.keys m)
 
 -- an entry names it: a directory has a parent, any other node a link
 abbrev pub is_entered : Header → Bool
@@ -14,19 +34,40 @@ abbrev pub is_entered_at : Option Node → Bool
 is_entered_at None = false
 is_entered_at (Some x) = is_entered x.header
 
-abbrev pub stays_with : (Name → Bool) → NodeState → Name → Option ServerInfo → Bool
-stays_with held h n None = false
-stays_with held h n (Some i) = same_name n i.root || (is_entered_at (fin.get h.nodes n) || held n)
+-- a server stays: the boot server, one that is controlled, one that is active on a node, and one that has a node named from outside
+abbrev pub server_stays : Outside → NodeState → Name → Bool
+server_stays o h s =
+    same_name s boot_name || (o.controlled s || (any_in (λ n q. same_name s q) h.actives || any_in (λ n q. same_name s q && o.held n) h.homes))
 
--- a node stays while its server is there, and it is that server's root, entered, or held: named from outside
-abbrev pub stays : (Name → Bool) → NodeState → Name → Bool
-stays held h n = stays_with held h n (server_of h n)
+abbrev pub stays_with : Outside → NodeState → Name → Name → Option ServerInfo → Bool
+stays_with o h n s None = false
+stays_with o h n s (Some i) = server_stays o h s && (same_name n i.root || (is_entered_at (fin.get h.nodes n) || o.held n))
 
--- without a node
-abbrev pub out_node : Name → NodeState → NodeState
-out_node n h = record h { nodes = fin.remove h.nodes n; homes = fin.remove h.homes n }
+abbrev pub stays_by : Outside → NodeState → Name → Option Name → Bool
+stays_by o h n None = false
+stays_by o h n (Some s) = stays_with o h n s (fin.get h.servers s)
 
--- without the nodes that don't stay; those that are left then all stay, since no server goes, and a node's own header
--- tells whether it is entered
-abbrev pub settle : (Name → Bool) → NodeState → NodeState
-settle held h = record h { nodes = fin.retain_keys h.nodes (stays held h); homes = fin.retain_keys h.homes (stays held h) }
+-- a node stays while its server does, and it is that server's root, entered, or named from outside
+abbrev pub node_stays : Outside → NodeState → Name → Bool
+node_stays o h n = stays_by o h n (fin.get h.homes n)
+
+-- without all that doesn't stay
+abbrev pub sweep : Outside → NodeState → NodeState
+sweep o h = record {
+  nodes = fin.retain_keys h.nodes (node_stays o h);
+  homes = fin.retain_keys h.homes (node_stays o h);
+  actives = fin.retain_keys h.actives (node_stays o h);
+  servers = fin.retain_keys h.servers (server_stays o h);
+}
+
+abbrev pub sweeps : Outside → ℕ → NodeState → NodeState
+sweeps o zero h = h
+sweeps o (suc k) h = sweeps o k (sweep o h)
+
+-- how many things there are that can go
+abbrev pub size : NodeState → ℕ
+size h = fin.len h.nodes + (fin.len h.homes + (fin.len h.actives + fin.len h.servers))
+
+-- what is left when all has gone that doesn't stay: what goes can take with it what else nothing keeps
+unfoldable pub settle : Outside → NodeState → NodeState
+settle o h = sweeps o (size h) h

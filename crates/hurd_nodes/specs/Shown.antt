@@ -1,5 +1,5 @@
 -- What the core shows of its servers: flat maps of nodes and servers.
-use Rattle.std.specs.Prelude.{◌≡◌, ℕ, Bool, true, false, if◌then◌else◌, is_some, List, [], ◌∷◌, Option, Some, None, Result, Ok, Err}
+use Rattle.std.specs.Prelude.{◌≡◌, ℕ, Bool, true, false, not, if◌then◌else◌, is_some, List, [], ◌∷◌, Option, Some, None, Result, Ok, Err}
 use Rattle.std.specs.Option.{option_map}
 use Rattle.std.specs.FinMap as fin
 use Rattle.std.specs.FinSet as set
@@ -17,8 +17,8 @@ use Rattle.hurd_trans_iface.specs.declared.readable.Readable.{Readable}
 use Rattle.hurd_trans_iface.specs.Nodes.{NodeMap, Node, Header, Edit, node_of_edit, body_of, edit_all}
 use Rattle.hurd_trans_iface.specs.Answers.{entry_of, make_of, make_edits, nameless_of, nameless_edits, link_of, link_edits, unlink_of, unlink_edits, rename_of, rename_edits, set_attrs_of, set_attrs_edits, edits_if}
 use Rattle.hurd_trans_iface.specs.Behaviour.{Question, Effect, effect_on, told_of, edits_of}
-use Rattle.hurd_trans_iface.specs.Meaning.{Meaning, ServerKind, behaviour_of, keeps_tree, begin_root_after, forget_after}
-use Rattle.hurd_nodes.specs.Held.{Held, Seated, mean, box_at, with_box}
+use Rattle.hurd_trans_iface.specs.Meaning.{Meaning, ServerKind, behaviour_of, keeps_tree, begin_root_after, forget_after, new_root}
+use Rattle.hurd_nodes.specs.Held.{Held, Seated, mean, box_at, with_box, is_home}
 
 -- the fixed name of the boot server and of its root, which no task makes
 abbrev pub boot_name : Name
@@ -35,10 +35,11 @@ pub record ServerInfo : Type 0 where
   pub root : Name
   pub ids : IdSets
 
--- nodes by name; of each node its server; and the servers
+-- nodes by name; of each node its server; of each node the server that is active on it; and the servers
 pub record NodeState : Type 0 where
   pub nodes : NodeMap
   pub homes : NameMap Name
+  pub actives : NameMap Name
   pub servers : NameMap ServerInfo
 
 -- the header that attributes tell
@@ -73,12 +74,12 @@ info_of e = record { kind = e.server.kind; text = e.server.text; root = e.root; 
 unfoldable pub servers_of : NameMap (Seated Meaning) → NameMap ServerInfo
 servers_of seats = map_values info_of seats
 
-abbrev pub flat : NameMap Name → NameMap (Seated Meaning) → NodeState
-flat homes seats = record { nodes = nodes_of homes seats; homes = homes; servers = servers_of seats }
+abbrev pub flat : NameMap Name → NameMap Name → NameMap (Seated Meaning) → NodeState
+flat homes actives seats = record { nodes = nodes_of homes seats; homes = homes; actives = actives; servers = servers_of seats }
 
 -- what the core shows, where each box means this: what has no home isn't shown
 abbrev pub shown : {S : Type 0} → (S → Meaning) → Held S → NodeState
-shown f h = flat h.homes (mean f h.seats)
+shown f h = flat h.homes h.actives (mean f h.seats)
 
 -- a box has no node beside those whose home it is: all that it has is shown
 abbrev pub HideNothing : {S : Type 0} → (S → Meaning) → Held S → Type 0
@@ -94,7 +95,7 @@ boot_info m = record { kind = m.kind; text = m.text; root = boot_name; ids = boo
 
 -- the boot server alone, which serves every node
 abbrev pub state_of : Meaning → NodeState
-state_of m = record { nodes = m.nodes; homes = map_values (λ (x : Node). boot_name) m.nodes; servers = fin.insert fin.empty boot_name (boot_info m) }
+state_of m = record { nodes = m.nodes; homes = map_values (λ (x : Node). boot_name) m.nodes; actives = fin.empty; servers = fin.insert fin.empty boot_name (boot_info m) }
 
 abbrev pub is_root_at : Name → Option ServerInfo → Bool
 is_root_at n None = false
@@ -261,3 +262,45 @@ boot_mode = record { 0 = 493 }
 -- the boot server, begun: its root belongs to uid 0 and gid 0
 abbrev pub booted : Meaning → Meaning
 booted m = begin_root_after m boot_name 0 0 boot_mode
+
+-- servers that come and go
+
+-- without a node
+abbrev pub out_node : Name → NodeState → NodeState
+out_node n h = record h { nodes = fin.remove h.nodes n; homes = fin.remove h.homes n; actives = fin.remove h.actives n }
+
+-- the names at which a map doesn't say this
+abbrev pub is_other : Name → NameMap Name → Name → Bool
+is_other s m n = not (is_home s (fin.get m n))
+
+-- without a server, which takes its nodes with it, and leaves its seat
+abbrev pub out_server : Name → NodeState → NodeState
+out_server s h = record {
+  nodes = fin.retain_keys h.nodes (is_other s h.homes);
+  homes = fin.retain_keys h.homes (is_other s h.homes);
+  actives = fin.retain_keys h.actives (is_other s h.actives);
+  servers = fin.remove h.servers s;
+}
+
+-- no server is active on this node any more
+abbrev pub unseated : Name → NodeState → NodeState
+unseated n h = record h { actives = fin.remove h.actives n }
+
+-- with this server, in the place of any of its name, active on a node, and its root
+abbrev pub attached : Name → Name → ServerInfo → Node → NodeState → NodeState
+attached s at i root h =
+    let k = out_server s h in
+    record {
+      nodes = fin.insert k.nodes i.root root;
+      homes = fin.insert k.homes i.root s;
+      actives = fin.insert k.actives at s;
+      servers = fin.insert k.servers s i;
+    }
+
+-- what is known of a server that begins, under the name of its root, with these ids
+abbrev pub begun_info : Meaning → Name → IdSets → ServerInfo
+begun_info m root ids = record { kind = m.kind; text = m.text; root = root; ids = ids }
+
+-- its root, which belongs to these
+abbrev pub begun_root : Meaning → ℕ → ℕ → Mode → Node
+begun_root m owner group mode = new_root (behaviour_of m.kind) m.text owner group mode

@@ -1,0 +1,16 @@
+-- What the things of a list weigh together, and how many of them pass a test.
+use Rattle.std.specs.Prelude.{ℕ, ◌+◌, Bool, true, false, List, [], ◌∷◌}
+
+-- 1 where the test holds, else 0
+abbrev pub one_if : Bool → ℕ
+one_if true = 1
+one_if false = 0
+
+-- the sum of what those of a list weigh
+abbrev pub weigh_list : {X : Type 0} → (X → ℕ) → List X → ℕ
+weigh_list W [] = 0
+weigh_list W (x ∷ xs) = W x + weigh_list W xs
+
+-- how many of a list pass a test
+abbrev pub count_list : {X : Type 0} → (X → Bool) → List X → ℕ
+count_list p xs = weigh_list (λ x. one_if (p x)) xs
