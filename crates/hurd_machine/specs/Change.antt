@@ -10,9 +10,10 @@ use Rattle.hurd_ports.specs.declared.table.Opened.{Opened}
 use Rattle.hurd_ports.specs.declared.parents.Parent.{Parent}
 use Rattle.hurd_ports.specs.declared.table.Right.{Right}
 use Rattle.hurd_nodes.specs.Settle as kept
-use Rattle.hurd_ports.specs.Tables.{Task, OpenMap, fresh, is_held, is_named}
+use Rattle.hurd_nodes.specs.Settle.{Outside}
+use Rattle.hurd_ports.specs.Tables.{Task, OpenMap, fresh, is_held, is_named, is_controlled}
 use Rattle.hurd_ports.specs.Steps.{named, edit_task, with_port, without_port, with_sent, new_open, new_right}
-use Rattle.hurd_machine.specs.World.{World, world_from, nodes_of}
+use Rattle.hurd_machine.specs.World.{World, world_from, nodes_of, ports_of}
 
 pub data Change : Type 0 where
   -- of a node
@@ -51,13 +52,20 @@ next_tasks (EditTask q f) ts = edit_task q f ts
 next_tasks (Send r q) ts = edit_task q (with_sent r) ts
 next_tasks c ts = ts
 
--- a node stays while it is its server's root, an entry names it, or a right names it
-abbrev pub stays : World → Name → Bool
-stays w n = kept.stays (is_named w.tasks) (nodes_of w) n
+-- what rights name
+abbrev pub outside : World → Outside
+outside w = record { held = is_named w.tasks; controlled = is_controlled w.tasks }
 
--- the world without what nothing names any more: nodes that don't stay, and opens that no right names
+-- whether a node stays, and whether a server does
+abbrev pub stays : World → Name → Bool
+stays w n = kept.node_stays (outside w) (nodes_of w) n
+
+abbrev pub server_stays : World → Name → Bool
+server_stays w s = kept.server_stays (outside w) (nodes_of w) s
+
+-- the world without what nothing keeps any more: nodes, servers, and opens that no right names
 abbrev pub settle : World → World
-settle w = world_from (kept.settle (is_named w.tasks) (nodes_of w)) (record { opens = retain_keys w.opens (is_held w.tasks); tasks = w.tasks })
+settle w = world_from (kept.settle (outside w) (nodes_of w)) (record { opens = retain_keys w.opens (is_held w.tasks); tasks = w.tasks })
 
 -- the world with one change
 abbrev pub apply : Change → World → World
@@ -65,6 +73,7 @@ apply Settle w = settle w
 apply c w = record {
   nodes = next_nodes c w.nodes;
   homes = next_homes c w.homes;
+  actives = w.actives;
   servers = w.servers;
   opens = next_opens c w.opens;
   tasks = next_tasks c w.tasks;

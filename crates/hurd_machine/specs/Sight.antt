@@ -11,6 +11,8 @@ use Rattle.hurd_creds.specs.Bits.{asks, READ}
 use Rattle.hurd_creds.specs.Names.{same_name}
 use Rattle.hurd_trans_iface.specs.Nodes.{Header, Body, attrs_with, is_empty_dir}
 use Rattle.hurd_trans_iface.specs.Answers.{entry_of}
+use Rattle.hurd_nodes.specs.Weights.{one_if, weigh_list, count_list}
+use Rattle.hurd_nodes.specs.Held.{is_home}
 use Rattle.hurd_nodes.specs.Shown.{ServerInfo, boot_name}
 use Rattle.hurd_ports.specs.declared.table.Opened.{Opened}
 use Rattle.hurd_ports.specs.declared.parents.Parent.{Parent as Pair}
@@ -18,7 +20,7 @@ use Rattle.hurd_ports.specs.declared.table.IoRight.{IoRight}
 use Rattle.hurd_ports.specs.declared.table.Right.{Right}
 use Rattle.hurd_ports.specs.declared.table.Right.TheVariants.{Io, Control}
 use Rattle.hurd_ports.specs.Tables.{Task, rights_of, names_open, nodes_of as nodes_named}
-use Rattle.hurd_machine.specs.World.{World, IsAmong, boot_root, task_at, open_at, header_at, body_at, home_at, server_at}
+use Rattle.hurd_machine.specs.World.{World, IsAmong, boot_root, task_at, open_at, header_at, body_at, home_at, active_at, server_at}
 
 -- a node's attributes as far as its header says them
 abbrev pub bare : Header → Attrs
@@ -47,6 +49,10 @@ pub record Taken (S : ℕ → Bool) (w : World) (ids : IdSets) : Type 0 where
   pub uids : (u : ℕ) → holds_uid ids u ≡ true → HasUid S w u
   pub gids : (g : ℕ) → holds_gid ids g ≡ true → HasGid S w g
 
+-- S holds the owner of a node of this header, or 0
+abbrev pub OwnsIt : (ℕ → Bool) → World → Header → Type 0
+OwnsIt S w h = (u : ℕ) × HasUid S w u × ((u ≡ h.owner) ⊎ (u ≡ 0))
+
 -- S could do this with a node of this header: it holds the owner or 0, or ids that may
 pub data Could (S : ℕ → Bool) (w : World) (h : Header) (want : Want) : Type 0 where
   Owns : (u : ℕ) → HasUid S w u → (u ≡ h.owner) ⊎ (u ≡ 0) → Could S w h want
@@ -72,14 +78,18 @@ pub data Seen (S : ℕ → Bool) (w : World) : Name → Type 0 where
       → entry_of name (body_at w d) ≡ Some n → Seen S w n
   -- the parent of a seen directory
   Parent : {n : Name} (d : Name) (h : Header) → Seen S w d → header_at w d ≡ Some h → h.parent ≡ Some n → Seen S w n
+  -- the root of the server that is active on a seen node
+  Active : {n : Name} (m s : Name) (i : ServerInfo) → Seen S w m → active_at w m ≡ Some s → server_at w s ≡ Some i → n ≡ i.root → Seen S w n
   -- the root of the server of a seen node, where S could serve it
   ServerRoot : {n : Name} (m s : Name) (i : ServerInfo) → Seen S w m → home_at w m ≡ Some s → server_at w s ≡ Some i
       → CouldServe S w i → n ≡ i.root → Seen S w n
 
--- why S may send a server away: it controls it, or it sees a node of it and could serve it
+-- why S may send a server away: it controls it, it sees a node of it and could serve it, or it sees and owns the node on
+-- which it is active
 pub data Sends (S : ℕ → Bool) (w : World) (s : Name) (i : ServerInfo) : Type 0 where
   ByControl : Holds S w (Control s) → Sends S w s i
   ByNode : (n : Name) → Seen S w n → home_at w n ≡ Some s → CouldServe S w i → Sends S w s i
+  BySeat : (n : Name) (h : Header) → Seen S w n → active_at w n ≡ Some s → header_at w n ≡ Some h → OwnsIt S w h → Sends S w s i
 
 -- S may send a server away, which is not the boot server
 pub record MaySend (S : ℕ → Bool) (w : World) (s : Name) : Type 0 where
@@ -95,7 +105,7 @@ pub data Knows (S : ℕ → Bool) (w : World) (s : Name) : Type 0 where
 
 -- the parts of a world
 pub data Part : Type 0 where
-  AttrOf : Name → Part  -- a node's server and attributes, but whether it is empty
+  AttrOf : Name → Part  -- a node's server, the one active on it, and its attributes, but whether it is empty
   EmptyOf : Name → Part  -- whether a directory is empty
   BodyOf : Name → Part  -- a node's bytes or entries
   OpenOf : Name → Part  -- an open, and how many rights hold it
@@ -125,24 +135,10 @@ Sees S w (OptionsOf s) = Knows S w s
 Sees S w (UsersOf s) = MaySend S w s
 Sees S w (TaskOf t) = S t ≡ true
 
--- 1 where the test holds, else 0
-abbrev pub one_if : Bool → ℕ
-one_if true = 1
-one_if false = 0
-
--- the sum of what those of a list weigh
-abbrev pub weigh_list : {X : Type 0} → (X → ℕ) → List X → ℕ
-weigh_list W [] = 0
-weigh_list W (x ∷ xs) = W x + weigh_list W xs
-
 -- of what all rights of all tasks weigh
 abbrev pub weigh_rights : (Right → ℕ) → List Task → ℕ
 weigh_rights W [] = 0
 weigh_rights W (t ∷ ts) = weigh_list W (rights_of t) + weigh_rights W ts
-
--- how many of a list pass a test
-abbrev pub count_list : {X : Type 0} → (X → Bool) → List X → ℕ
-count_list p xs = weigh_list (λ x. one_if (p x)) xs
 
 -- how many rights of all tasks pass a test
 abbrev pub count_rights : (Right → Bool) → List Task → ℕ
@@ -151,11 +147,6 @@ count_rights p ts = weigh_rights (λ r. one_if (p r)) ts
 -- how often a right names a node
 abbrev pub naming : Name → Right → ℕ
 naming n r = count_list (λ m. same_name n m) (nodes_named r)
-
--- whether a node's server is s
-abbrev pub is_home : Name → Option Name → Bool
-is_home s None = false
-is_home s (Some q) = same_name s q
 
 -- whether a right is on a node of the server
 abbrev pub is_on : World → Name → Right → Bool
@@ -172,7 +163,7 @@ users w s = count_rights (is_on w s) w.tasks
 
 -- what a part is
 pub data Value : Type 0 where
-  AnAttr : Option Header → Option Name → Value
+  AnAttr : Option Header → Option Name → Option Name → Value
   AnEmpty : Option Bool → Value
   ABody : Option Body → Value
   AnOpen : Option Opened → ℕ → Value
@@ -182,7 +173,7 @@ pub data Value : Type 0 where
 
 -- the value of each part in a world
 abbrev pub part : World → Part → Value
-part w (AttrOf n) = AnAttr (header_at w n) (home_at w n)
+part w (AttrOf n) = AnAttr (header_at w n) (home_at w n) (active_at w n)
 part w (EmptyOf n) = AnEmpty (option_map is_empty_dir (body_at w n))
 part w (BodyOf n) = ABody (body_at w n)
 part w (OpenOf o) = AnOpen (open_at w o) (holders w o)
@@ -192,9 +183,10 @@ part w (TaskOf t) = ATask (task_at w t)
 
 -- what the part is of is gone: it shows nothing
 abbrev pub IsGone : World → Part → Type 0
-IsGone w (AttrOf n) = part w (AttrOf n) ≡ AnAttr None None
+IsGone w (AttrOf n) = part w (AttrOf n) ≡ AnAttr None None None
 IsGone w (EmptyOf n) = part w (EmptyOf n) ≡ AnEmpty None
 IsGone w (BodyOf n) = part w (BodyOf n) ≡ ABody None
+IsGone w (OptionsOf s) = part w (OptionsOf s) ≡ AnOptions None
 IsGone w p = ⊥
 
 -- two worlds have the same view for S: S sees the same parts in both, and they are equal; and there are as many tasks

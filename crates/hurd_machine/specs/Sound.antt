@@ -1,5 +1,5 @@
 -- Worlds that hang together.
-use Rattle.std.specs.Prelude.{◌≡◌, ℕ, ◌<◌, ◌≤◌, true, false, List, [], ◌∷◌, Some, None, cond}
+use Rattle.std.specs.Prelude.{◌≡◌, ◌≢◌, ℕ, ◌<◌, ◌≤◌, true, false, List, [], ◌∷◌, Some, None, cond}
 use Rattle.std.specs.FinMap.{get, values}
 use Rattle.std.specs.List.{sum_by}
 use Rattle.std.specs.FinSet as set
@@ -10,16 +10,16 @@ use Rattle.hurd_trans_iface.specs.Nodes.{NodeMap, Node, Entry, Header, Body, Con
 use Rattle.hurd_trans_iface.specs.Answers.{entry_in}
 use Rattle.hurd_trans_iface.specs.Kinds.{behaviour_of}
 use Rattle.hurd_trans_iface.specs.Good.{IsSized}
-use Rattle.hurd_nodes.specs.Shown.{NodeState, ServerInfo, is_root, server_of, tree_by}
+use Rattle.hurd_nodes.specs.Shown.{NodeState, ServerInfo, boot_name, is_root, server_of, tree_by}
 use Rattle.hurd_ports.specs.declared.table.Opened.{Opened}
 use Rattle.hurd_ports.specs.declared.table.IoRight.{IoRight}
 use Rattle.hurd_ports.specs.declared.table.Right.{Right}
 use Rattle.hurd_ports.specs.declared.table.Right.TheVariants.{Io, Control}
 use Rattle.hurd_ports.specs.declared.table.Port.{Port}
 use Rattle.hurd_ports.specs.Tables.{Task, rights_of, nodes_of as nodes_named, IsSettled}
-use Rattle.hurd_machine.specs.Change.{stays}
+use Rattle.hurd_machine.specs.Change.{stays, server_stays}
 use Rattle.hurd_machine.specs.World.{World, IsAmong, boot_root, nodes_of, ports_of, task_at, open_at, header_at, body_at, server_at, lists_at, is_of}
-use Rattle.hurd_machine.specs.Sight.{count_list}
+use Rattle.hurd_nodes.specs.Weights.{count_list}
 
 -- the name was given already: its task has made more things than its count. No task makes the boot names.
 abbrev pub Below : World → Name → Type 0
@@ -60,6 +60,15 @@ pub record AreHoused (h : NodeState) : Type 0 where
   pub serving : (s : Name) (i : ServerInfo) → get h.servers s ≡ Some i
       → (u : ℕ) × (i.ids ≡ record { uids = set.from_list (u ∷ []); gids = set.from_list [] })
 
+-- servers that are active on nodes
+pub record AreSeated (h : NodeState) : Type 0 where
+  -- each is there, and is not the boot server; only nodes have one
+  pub seated : (n s : Name) → get h.actives n ≡ Some s → (s ≢ boot_name) × (i : ServerInfo) × (get h.servers s ≡ Some i)
+  pub seats : (n s : Name) → get h.actives n ≡ Some s → (k : Header) × (header_of h.nodes n ≡ Some k)
+  -- on one node alone, which is none of its own
+  pub alone : (n m s : Name) → get h.actives n ≡ Some s → get h.actives m ≡ Some s → n ≡ m
+  pub elsewhere : (n s : Name) → get h.actives n ≡ Some s → get h.homes n ≡ Some s → ⊥
+
 -- directories and what is in them
 pub record IsTree (h : NodeState) : Type 0 where
   -- an entry is of its directory's server; where it names a directory, that has this one as its parent
@@ -91,6 +100,7 @@ pub record AreTables (w : World) : Type 0 where
 pub record Coherent (w : World) : Type 0 where
   pub given : AreGiven w
   pub housing : AreHoused (nodes_of w)
+  pub seating : AreSeated (nodes_of w)
   pub tree : IsTree (nodes_of w)
   pub tables : AreTables w
 
@@ -129,9 +139,10 @@ pub record Linked (h : NodeState) : Type 0 where
   -- from a directory that has entries the parents lead to its server's root: a removed one has none
   pub rooted : (d n : Name) → lists_at n (body_of h.nodes d) ≡ true → LeadsUp h d
 
--- nothing is to be taken out: each node stays, and each open is held
+-- nothing is to be taken out: each node and each server stays, and each open is held
 pub record AtRest (w : World) : Type 0 where
   pub nodes : (n : Name) (x : Node) → get w.nodes n ≡ Some x → stays w n ≡ true
+  pub servers : (s : Name) (i : ServerInfo) → server_at w s ≡ Some i → server_stays w s ≡ true
   pub opens : IsSettled (ports_of w)
 
 -- a world that hangs together, whose nodes are linked as a tree is, in which sizes are right, and from which nothing is to be taken out

@@ -16,20 +16,21 @@ use Rattle.hurd_nodes.specs.Shown.{NodeState, ServerInfo, boot_name, is_root, se
 use Rattle.hurd_ports.specs.declared.table.Opened.{Opened}
 use Rattle.hurd_ports.specs.Tables.{PortState, OpenMap, Task}
 
--- nodes by name, of each node its server, servers, opens, and the tasks in order
+-- nodes by name, of each node its server, and the server that is active on it; servers, opens, and the tasks in order
 pub record World : Type 0 where
   pub nodes : NodeMap
   pub homes : NameMap Name
+  pub actives : NameMap Name
   pub servers : NameMap ServerInfo
   pub opens : OpenMap
   pub tasks : List Task
 
 -- the world that nodes and ports make together
 abbrev pub world_from : NodeState → PortState → World
-world_from n p = record { nodes = n.nodes; homes = n.homes; servers = n.servers; opens = p.opens; tasks = p.tasks }
+world_from n p = record { nodes = n.nodes; homes = n.homes; actives = n.actives; servers = n.servers; opens = p.opens; tasks = p.tasks }
 
 abbrev pub nodes_of : World → NodeState
-nodes_of w = record { nodes = w.nodes; homes = w.homes; servers = w.servers }
+nodes_of w = record { nodes = w.nodes; homes = w.homes; actives = w.actives; servers = w.servers }
 
 abbrev pub ports_of : World → PortState
 ports_of w = record { opens = w.opens; tasks = w.tasks }
@@ -56,6 +57,10 @@ body_at w n = option_map (λ x. x.body) (get w.nodes n)
 -- the server of a node
 abbrev pub home_at : World → Name → Option Name
 home_at w n = get w.homes n
+
+-- the server that is active on a node
+abbrev pub active_at : World → Name → Option Name
+active_at w n = get w.actives n
 
 abbrev pub server_at : World → Name → Option ServerInfo
 server_at w s = get w.servers s

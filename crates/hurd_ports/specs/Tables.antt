@@ -159,6 +159,15 @@ names_node n r = list_any (λ m. same_name n m) (nodes_of r)
 unfoldable pub is_named : List Task → Name → Bool
 is_named ts n = list_any (λ (x : Task). list_any (names_node n) (rights_of x)) ts
 
+-- whether a right is to control a server
+abbrev pub names_server : Name → Right → Bool
+names_server s (Io r) = false
+names_server s (Control q) = same_name s q
+
+-- some right controls the server
+unfoldable pub is_controlled : List Task → Name → Bool
+is_controlled ts s = list_any (λ (x : Task). list_any (names_server s) (rights_of x)) ts
+
 -- nothing is to be taken out: each open is held
 abbrev pub IsSettled : PortState → Type 0
 IsSettled h = (o : Name) (x : Opened) → fin.get h.opens o ≡ Some x → is_held h.tasks o ≡ true
