@@ -259,15 +259,20 @@ module _ (S : ℕ → Bool) (v x : World) (coherent : Coherent x) (i : Inside S 
   homes_next Settle ex p m n s e = absurd ex
   homes_next c ex p m n s e = inl e
 
-  servers_next : (c : Change) → (apply c x).servers ≡ v.servers
-  servers_next Settle = i.servers
-  servers_next c = i.servers
+  servers_next : (c : Change) → IsExact c → (apply c x).servers ≡ v.servers
+  servers_next Settle ex = absurd ex
+  servers_next c ex = i.servers
+
+  actives_next : (c : Change) → IsExact c → (apply c x).actives ≡ v.actives
+  actives_next Settle ex = absurd ex
+  actives_next c ex = i.actives
 
   pub inside_one : (c : Change) → IsExact c → Proper x c → May S v x c → Inside S v (apply c x)
   inside_one c ex p m =
       let st = stepped c ex p m in
       record {
-        servers = servers_next c;
+        servers = servers_next c ex;
+        actives = actives_next c ex;
         made = λ q z at.
             let b = st.back q z at in
             let u = i.made q b.0 b.1 in

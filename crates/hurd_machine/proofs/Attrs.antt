@@ -35,7 +35,7 @@ module _ (n : Name) (owner group : ℕ) (mode : Mode) where
 
   -- whoever holds the owner's uid, or 0, could do all with the node before
   owned_less : (S : ℕ → Bool) (v : World) (u : ℕ) (h : Header) → HasUid S v u → (u ≡ h.owner) ⊎ (u ≡ 0) → Less S v n (with_attrs owner group mode h) h
-  owned_less S v u h has is = record { kind = refl; parent = λ p e. inl e; could = λ want c. Owns u has is }
+  owned_less S v u h has is = record { kind = refl; parent = λ p e. inl e; could = λ want c. Owns u has is; owns = λ o. (u, has, is) }
 
   pub attrs_may : (S : ℕ → Bool) (v x : World) (h : Header) → header_at x n ≡ Some h → (u : ℕ) → HasUid S v u → (u ≡ h.owner) ⊎ (u ≡ 0) → AllMay S v x set_attrs
   attrs_may S v x h at u has is = (λ k there. let same : h ≡ k = cc (at, there) in subst (λ (z : Header). Less S v n (with_attrs owner group mode z) z) same (owned_less S v u h has is), tt)

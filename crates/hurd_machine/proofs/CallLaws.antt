@@ -9,11 +9,12 @@ use Rattle.hurd_ports.specs.Tables.{Task}
 use Rattle.hurd_machine.specs.World.{World, nodes_of, task_at}
 use Rattle.hurd_machine.specs.declared.call.Reply.{Reply}
 use Rattle.hurd_machine.specs.Plan.{Plan, answered, looks, is_refused, after_plan}
-use Rattle.hurd_machine.specs.Sight.{Part, AttrOf, EmptyOf, BodyOf, OpenOf, OptionsOf, UsersOf, TaskOf, Seen, Sees, Knows, OfNode, OfControl, SameView}
+use Rattle.hurd_machine.specs.Sight.{Part, AttrOf, EmptyOf, BodyOf, OpenOf, OptionsOf, UsersOf, TaskOf, Seen, Sees, Knows, OfNode, OfSeat, OfControl, SameView}
 use Rattle.hurd_machine.specs.Sound.{Below, Coherent, AreSized, Linked, AtRest, Sound}
 use Rattle.hurd_machine.specs.Touched.{asked_parts, Nothing}
 use Rattle.hurd_machine.proofs.Coherence.{AllProper, coherent_all, right_old}
-use Rattle.hurd_machine.proofs.Frame.{IsUnnamed, Full, AllWithin, AsBefore, untouched, unseen_from}
+use Rattle.hurd_machine.proofs.Frame.{IsUnnamed, Full, AllWithin, untouched, unseen_from}
+use Rattle.hurd_machine.proofs.Settle.{AsBefore}
 use Rattle.hurd_machine.proofs.Views.{Agree, Agree-refl, view_of, agree_of}
 use Rattle.hurd_machine.proofs.Asks.{IsPlainReply, answered_all, IsPlain, answered_plain, answered_same, done_plain}
 use Rattle.hurd_machine.proofs.Confine.{SeenOrNew, seen_old}
@@ -86,6 +87,7 @@ server_named w c n s e =
 
 known_named : (S : ℕ → Bool) (w : World) → Coherent w → (s : Name) → Knows S w s → Below w s
 known_named S w c s (OfNode n sn en) = server_named w c n s en
+known_named S w c s (OfSeat n sn en) = let i = c.seating.seated n s en in c.given.servers s i.1 i.2
 known_named S w c s (OfControl h) = c.given.rights h.task h.seat (Control s) h.is_task h.here
 
 sees_named : (S : ℕ → Bool) (w : World) → Coherent w → (p : Part) → Sees S w p → IsUnnamed w p → ⊥

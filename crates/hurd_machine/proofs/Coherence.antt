@@ -12,7 +12,7 @@ use Rattle.hurd_creds.specs.NameMaps.{NameMap, edit}
 use Rattle.hurd_creds.proofs.NameLaws.{same_name-itself, same_or_apart, get_here, get_apart, edit_here, edit_apart}
 use Rattle.hurd_trans_iface.specs.Nodes.{NodeMap, Node, Entry, Header, Body, Content, Listing, IsShaped, is_dir, with_header, with_body}
 use Rattle.hurd_trans_iface.specs.Answers.{entry_in, entry_of}
-use Rattle.hurd_nodes.specs.Shown.{ServerInfo, info_in, is_root_of, tree_by}
+use Rattle.hurd_nodes.specs.Shown.{ServerInfo, boot_name, info_in, is_root_of, tree_by}
 use Rattle.hurd_nodes.specs.Settle.{is_entered, is_entered_at}
 use Rattle.hurd_ports.specs.declared.table.Opened.{Opened}
 use Rattle.hurd_ports.specs.declared.table.IoRight.{IoRight}
@@ -21,14 +21,12 @@ use Rattle.hurd_ports.specs.declared.table.Right.TheVariants.{Io, Control}
 use Rattle.hurd_ports.specs.declared.table.Port.{Port}
 use Rattle.hurd_ports.specs.Tables.{Task, OpenMap, rights_of, nodes_of as nodes_named}
 use Rattle.hurd_ports.specs.Steps.{named, with_sent, edit_task}
-use Rattle.hurd_machine.specs.World.{World, IsAmong, boot_root, nodes_of, task_at, open_at, header_at, body_at, home_at, server_at, info_at, is_of, lists, lists_at}
-use Rattle.hurd_machine.specs.Change.{Change, EditHeader, EditBody, MakeNode, EditOpen, MakeOpen, EditTask, Send, Settle, stays, settle, apply, apply_all}
-use Rattle.hurd_machine.specs.Sound.{Below, AreDistinct, HasDistinctNames, IsGivenRight, AreGiven, AreHoused, IsTree, AreTables, Coherent, LeadsUp, AtRoot, Above, Linked}
+use Rattle.hurd_machine.specs.World.{World, IsAmong, boot_root, nodes_of, task_at, open_at, header_at, body_at, home_at, active_at, server_at, info_at, is_of, lists, lists_at}
+use Rattle.hurd_machine.specs.Change.{Change, EditHeader, EditBody, MakeNode, EditOpen, MakeOpen, EditTask, Send, Settle, outside, stays, server_stays, settle, apply, apply_all}
+use Rattle.hurd_machine.specs.Sound.{Below, AreDistinct, HasDistinctNames, IsGivenRight, AreGiven, AreHoused, AreSeated, IsTree, AreTables, Coherent, LeadsUp, AtRoot, Above, Linked}
 use Rattle.hurd_machine.proofs.Nodes.{header_in, body_in, body-with_header, edit_keeps, edited_from, node_of_header}
-use Rattle.hurd_machine.proofs.Listed.{entered_by}
 use Rattle.hurd_machine.proofs.Tasks.{edit_cases, edit_here as task_here, below_edit, sent_cases}
-use Rattle.hurd_machine.proofs.Holders.{held_by_right, held_stays, left_over}
-use Rattle.hurd_machine.proofs.Stays.{stays_root, stays_as_root, stays_entered, node_still, home_still, root_still, node_left, home_left, header_left, lists_left, no_home_left}
+use Rattle.hurd_machine.proofs.Swept.{settle_sound}
 
 -- what a change must have to keep a world coherent
 
@@ -184,6 +182,13 @@ no_home {w} c n new = go (home_at w n) refl
     go None e = refl
     go (Some s) e = absurd (new (home_old c n s e))
 
+pub no_active : {w : World} → Coherent w → (n : Name) → (Below w n → ⊥) → active_at w n ≡ None
+no_active {w} c n new = go (active_at w n) refl
+  where
+    go : (o : Option Name) → active_at w n ≡ o → o ≡ None
+    go None e = refl
+    go (Some s) e = let h = c.seating.seats n s e in absurd (new (header_old c n h.0 h.1))
+
 pub no_open : {w : World} → Coherent w → (o : Name) → (Below w o → ⊥) → open_at w o ≡ None
 no_open {w} c o new = go (open_at w o) refl
   where
@@ -201,7 +206,7 @@ was m k n x z e = elim (same_or_apart n k) [
 -- with nodes reworked: each stands where one stood, below the same parent, of its shape, and with entries that may be
 
 abbrev with_nodes : NodeMap → World → World
-with_nodes m w = record { nodes = m; homes = w.homes; servers = w.servers; opens = w.opens; tasks = w.tasks }
+with_nodes m w = record w { nodes = m }
 
 -- the node x at n, of the map m, comes from one that stands there
 record From (w : World) (m : NodeMap) (n : Name) (x : Node) : Type 0 where
@@ -252,6 +257,14 @@ module _ (w : World) (m : NodeMap) (c : Coherent w) (r : Reworked w m) where
     serving = c.housing.serving;
   }
 
+  reworked_seating : AreSeated (nodes_of (with_nodes m w))
+  reworked_seating = record {
+    seated = c.seating.seated;
+    seats = λ n s e. let h = c.seating.seats n s e in header_still n h.0 h.1;
+    alone = c.seating.alone;
+    elsewhere = c.seating.elsewhere;
+  }
+
   reworked_tree : IsTree (nodes_of (with_nodes m w))
   reworked_tree = record {
     kin = λ d n e. (entry_from d n e).kin;
@@ -263,6 +276,7 @@ module _ (w : World) (m : NodeMap) (c : Coherent w) (r : Reworked w m) where
     distinct = λ n x e. let y = r.from n x e in y.distinct (c.tree.distinct n y.node y.is);
     root = header_still boot_root c.tree.root.0 c.tree.root.1;
     boot = c.tree.boot;
+    served = c.tree.served;
   }
 
   reworked_tables : AreTables (with_nodes m w)
@@ -275,7 +289,7 @@ module _ (w : World) (m : NodeMap) (c : Coherent w) (r : Reworked w m) where
   }
 
   reworked : Coherent (with_nodes m w)
-  reworked = record { given = reworked_given; housing = reworked_housing; tree = reworked_tree; tables = reworked_tables }
+  reworked = record { given = reworked_given; housing = reworked_housing; seating = reworked_seating; tree = reworked_tree; tables = reworked_tables }
 
 shaped_by_kind : (h k : Header) (b : Body) → k.kind ≡ h.kind → IsShaped h b → IsShaped k b
 shaped_by_kind h k (Content bs) e s = ap is_dir e ∙ s
@@ -333,7 +347,7 @@ edited w c k f may = record { from = from; still = still }
 -- with one task changed
 module _ (w : World) (c : Coherent w) (q : ℕ) (f : Task → Task) (up : (x : Task) → x.made ≤ (f x).made) (x : Task) (is : task_at w q ≡ Some x) (g : Table w x (f x)) where
   abbrev retabled : World
-  retabled = record { nodes = w.nodes; homes = w.homes; servers = w.servers; opens = w.opens; tasks = edit_task q f w.tasks }
+  retabled = record w { tasks = edit_task q f w.tasks }
 
   raised : (n : Name) → Below w n → Below retabled n
   raised n b = below_edit w retabled q f up refl n b
@@ -400,7 +414,7 @@ module _ (w : World) (c : Coherent w) (q : ℕ) (f : Task → Task) (up : (x : T
   }
 
   task_coherent : Coherent retabled
-  task_coherent = record { given = task_given; housing = c.housing; tree = c.tree; tables = task_tables }
+  task_coherent = record { given = task_given; housing = c.housing; seating = c.seating; tree = c.tree; tables = task_tables }
 
 -- with a right more in an inbox
 sent_table : (w : World) → Coherent w → (q : ℕ) (r : Right) (x : Task) → task_at w q ≡ Some x → FineRight w r → Table w x (with_sent r x)
@@ -409,7 +423,7 @@ sent_table w c q r x is fine = record { new = Some r; fine = fine; rights = sent
 -- with opens changed or made
 
 abbrev with_opens : OpenMap → World → World
-with_opens m w = record { nodes = w.nodes; homes = w.homes; servers = w.servers; opens = m; tasks = w.tasks }
+with_opens m w = record w { opens = m }
 
 -- an open of m was named, and with WRITE it stood open to write in w; those of rights are there
 record Reopened (w : World) (m : OpenMap) : Type 0 where
@@ -429,6 +443,7 @@ reopened w m c r = record {
     parents = c.given.parents;
   };
   housing = c.housing;
+  seating = c.seating;
   tree = c.tree;
   tables = record {
     numbers = c.tables.numbers;
@@ -464,90 +479,6 @@ open_made w c k z b unnamed = record {
   still = λ t x r y at i e. (y, get_apart w.opens k z r.open_name (unnamed t x r at i) ∙ e);
 }
 
--- what has a root stays at it, and what an entry names stays
-
-pub root_stays : (w : World) → Coherent w → (s : Name) (i : ServerInfo) → server_at w s ≡ Some i → stays w i.root ≡ true
-root_stays w c s i e = stays_root w s i e (c.housing.roots s i e)
-
-pub boot_stays : (w : World) → Coherent w → stays w boot_root ≡ true
-boot_stays w c = stays_as_root w boot_root c.tree.boot
-
--- a node that is there has a server
-pub header_info : (w : World) → Coherent w → (n : Name) (h : Header) → header_at w n ≡ Some h → (i : ServerInfo) × (info_at w n ≡ Some i)
-header_info w c n h e = let s = c.housing.homes n h e in (s.1, ap (info_in w.servers) s.2 ∙ s.3)
-
-pub header_stays : (w : World) → Coherent w → (n : Name) (h : Header) → header_at w n ≡ Some h → is_entered h ≡ true → stays w n ≡ true
-header_stays w c n h e is =
-    let i = header_info w c n h e in
-    let x = node_of_header (get w.nodes n) h e in
-    stays_entered w n i.0 i.1 (ap is_entered_at x.1 ∙ ap is_entered x.2 ∙ is)
-
--- what an entry names has a link or a parent
-pub entry_entered : (w : World) → Coherent w → Linked (nodes_of w) → (d n : Name) (h : Header) → lists_at n (body_at w d) ≡ true → header_at w n ≡ Some h → is_entered h ≡ true
-entry_entered w c l d n h e eh =
-    let keeps = ap (λ o. tree_by (info_in w.servers o)) (c.tree.kin d n e) ∙ c.tree.trees d n e in
-    entered_by (nodes_of w) d n h e (l.nodes n h eh) keeps (λ dir. c.tree.below d n h e eh dir)
-
-pub entry_stays : (w : World) → Coherent w → Linked (nodes_of w) → (d n : Name) (h : Header) → lists_at n (body_at w d) ≡ true → header_at w n ≡ Some h → stays w n ≡ true
-entry_stays w c l d n h e eh = header_stays w c n h eh (entry_entered w c l d n h e eh)
-
--- a directory with entries stays: it is a root, or has a parent
-pub leads_stays : (w : World) → Coherent w → Linked (nodes_of w) → (d : Name) → LeadsUp (nodes_of w) d → stays w d ≡ true
-leads_stays w c l d (AtRoot is) = stays_as_root w d is
-leads_stays w c l d (Above p k is up rest) =
-    let dir = ((l.nodes d k is).up p up).0 in
-    header_stays w c d k is (ap (λ b. if b then is_some k.parent else nat_lt 0 k.links) (ap is_dir dir) ∙ ap is_some up)
-
--- whether an entry is of a node or not, it has a server after settling if it had one
-pub entry_homed : (w : World) → Linked (nodes_of w) → Coherent w → (d n : Name) → lists_at n (body_at w d) ≡ true → home_at (settle w) n ≡ home_at w n
-entry_homed w l c d n e = go (home_at w n) refl
-  where
-    go : (o : Option Name) → home_at w n ≡ o → home_at (settle w) n ≡ home_at w n
-    go None k = no_home_left w n k ∙ sym k
-    go (Some s) k = let h = c.housing.housed n s k in home_still w n (entry_stays w c l d n h.0 e h.1)
-
--- with what doesn't stay taken out
-module _ (w : World) (c : Coherent w) (l : Linked (nodes_of w)) where
-  settled_given : AreGiven (settle w)
-  settled_given = record {
-    nodes = λ n x e. c.given.nodes n x (node_left w n x e).0;
-    opens = λ o z e. c.given.opens o z (left_over w o z e).0;
-    servers = c.given.servers;
-    rights = c.given.rights;
-    entries = λ d n e. c.given.entries d n (lists_left w d n e).0;
-    parents = λ n p h e ep. c.given.parents n p h (header_left w n h e).0 ep;
-  }
-
-  settled_housing : AreHoused (nodes_of (settle w))
-  settled_housing = record {
-    homes = λ n h e. let k = header_left w n h e in let i = c.housing.homes n h k.0 in (i.0, i.1, home_still w n k.1 ∙ i.2, i.3);
-    housed = λ n s e. let k = home_left w n s e in let h = c.housing.housed n s k.0 in (h.0, ap header_in (node_still w n k.1) ∙ h.1);
-    roots = λ s i e. home_still w i.root (root_stays w c s i e) ∙ c.housing.roots s i e;
-    serving = c.housing.serving;
-  }
-
-  settled_tree : IsTree (nodes_of (settle w))
-  settled_tree = record {
-    kin = λ d n e. let k = lists_left w d n e in entry_homed w l c d n k.0 ∙ c.tree.kin d n k.0 ∙ sym (home_still w d k.1);
-    trees = λ d n e. let k = lists_left w d n e in ap (λ o. tree_by (info_in w.servers o)) (home_still w d k.1) ∙ c.tree.trees d n k.0;
-    below = λ d n h e eh is. c.tree.below d n h (lists_left w d n e).0 (header_left w n h eh).0 is;
-    shapes = λ n x e. c.tree.shapes n x (node_left w n x e).0;
-    distinct = λ n x e. c.tree.distinct n x (node_left w n x e).0;
-    root = (c.tree.root.0, ap header_in (node_still w boot_root (boot_stays w c)) ∙ c.tree.root.1);
-    boot = root_still w boot_root (boot_stays w c) ∙ c.tree.boot;
-  }
-
-  settled_tables : AreTables (settle w)
-  settled_tables = record {
-    numbers = c.tables.numbers;
-    opened = λ t x r at i. let o = c.tables.opened t x r at i in (o.0, held_stays w r.open_name (held_by_right w.tasks t x r at i) ∙ o.1);
-    shared = c.tables.shared;
-    written = λ t x r o h at i eo modes eh. c.tables.written t x r o h at i (left_over w r.open_name o eo).0 modes (header_left w r.node h eh).0;
-  }
-
-  pub settle_coherent : Coherent (settle w)
-  settle_coherent = record { given = settled_given; housing = settled_housing; tree = settled_tree; tables = settled_tables }
-
 -- with a node made, under a name that was given and that nothing stands under
 
 no_entry : (n : Name) (b : Body) → HasNoEntries b → lists n b ≡ false
@@ -561,7 +492,7 @@ no_names (Listing es) none = subst AreDistinct (sym none) tt
 module _ (w : World) (c : Coherent w) (n s : Name) (node : Node) (b : Below w n) (absent : get w.nodes n ≡ None)
     (unnamed : (t : ℕ) (x : Task) (r : IoRight) → task_at w t ≡ Some x → IsAmong (Io r) (rights_of x) → r.node ≢ n) (p : GoodNode w s node) where
   abbrev made_world : World
-  made_world = record { nodes = insert w.nodes n node; homes = insert w.homes n s; servers = w.servers; opens = w.opens; tasks = w.tasks }
+  made_world = record w { nodes = insert w.nodes n node; homes = insert w.homes n s }
 
   -- no node had the name, so none had a server
   unhoused : (q : Name) → home_at w n ≡ Some q → ⊥
@@ -631,6 +562,23 @@ module _ (w : World) (c : Coherent w) (n s : Name) (node : Node) (b : Below w n)
     serving = c.housing.serving;
   }
 
+  made_seating : AreSeated (nodes_of made_world)
+  made_seating = record {
+    seated = c.seating.seated;
+    seats = λ m q e.
+        let h = c.seating.seats m q e in
+        let i = c.housing.homes m h.0 h.1 in
+        (h.0, ap header_in (get_apart w.nodes n node m (housed_apart m i.0 i.2)) ∙ h.1);
+    alone = c.seating.alone;
+    elsewhere = λ m q e f. elim (was w.homes n m s q f) [
+      | inl k ↦
+          let h = c.seating.seats m q e in
+          let i = c.housing.homes m h.0 h.1 in
+          housed_apart m i.0 i.2 k.0
+      | inr k ↦ c.seating.elsewhere m q e k.1
+    ];
+  }
+
   made_tree : IsTree (nodes_of made_world)
   made_tree = record {
     kin = λ d m e. let l = lists_was d m e in get_apart w.homes n s m (entry_apart d m l.1) ∙ c.tree.kin d m l.1 ∙ sym (get_apart w.homes n s d l.0);
@@ -646,6 +594,7 @@ module _ (w : World) (c : Coherent w) (n s : Name) (node : Node) (b : Below w n)
         let x = node_of_header (get w.nodes boot_root) c.tree.root.0 c.tree.root.1 in
         let apart : boot_root ≢ n = λ a. let gone : get w.nodes boot_root ≡ None = rw a absent in cc (x.1) in
         ap (is_root_of w.servers boot_root) (get_apart w.homes n s boot_root apart) ∙ c.tree.boot;
+    served = home_kept boot_root boot_name c.tree.served;
   }
 
   made_tables : AreTables made_world
@@ -657,12 +606,12 @@ module _ (w : World) (c : Coherent w) (n s : Name) (node : Node) (b : Below w n)
   }
 
   made_coherent : Coherent made_world
-  made_coherent = record { given = made_given; housing = made_housing; tree = made_tree; tables = made_tables }
+  made_coherent = record { given = made_given; housing = made_housing; seating = made_seating; tree = made_tree; tables = made_tables }
 
 -- with a task that named things
 module _ (w : World) (c : Coherent w) (n : Name) (next : IsNext w n) (k : ℕ) where
   abbrev pub named_world : World
-  named_world = record { nodes = w.nodes; homes = w.homes; servers = w.servers; opens = w.opens; tasks = edit_task n.task.0 (named k) w.tasks }
+  named_world = record w { tasks = edit_task n.task.0 (named k) w.tasks }
 
   pub named_coherent : Coherent named_world
   named_coherent = task_coherent w c n.task.0 (named k) (λ x. omega arith) next.seat next.is_task (record { new = None; fine = tt; rights = λ r h. inl h; numbers = λ p h. c.tables.numbers n.task.0 next.seat p next.is_task h })
@@ -709,7 +658,7 @@ coherent_one (MakeOpen o z) w c p =
     (open_made (named_world w c o p 1) (named_coherent w c o p 1) o z (named_below w c o p 1 o refl (omega arith)) (unopened w c o p 1 o (next_not w o p)))
 coherent_one (EditTask q f) w s p = task_coherent w s q f p.0 p.1 p.2 p.3
 coherent_one (Send r q) w s p = task_coherent w s q (with_sent r) (λ x. omega arith) p.0 p.1 (sent_table w s q r p.0 p.1 p.2)
-coherent_one Settle w c p = settle_coherent w c p
+coherent_one Settle w c p = (settle_sound w c p).0
 
 pub coherent_all : (cs : List Change) (w : World) → Coherent w → AllProper w cs → Coherent (apply_all cs w)
 coherent_all [] w c p = c

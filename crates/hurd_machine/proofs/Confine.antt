@@ -14,9 +14,9 @@ use Rattle.hurd_ports.specs.declared.table.IoRight.{IoRight}
 use Rattle.hurd_ports.specs.declared.table.Right.{Right}
 use Rattle.hurd_ports.specs.declared.table.Right.TheVariants.{Io, Control}
 use Rattle.hurd_ports.specs.Tables.{Task, nodes_of as nodes_named}
-use Rattle.hurd_machine.specs.World.{World, IsAmong, boot_root, task_at, open_at, header_at, body_at, home_at, server_at}
-use Rattle.hurd_machine.specs.Sight.{Holds, HasUid, UidOfTask, UidOfRight, HasGid, GidOfTask, GidOfRight, Taken, Could, Owns, Allowed, CouldServe}
-use Rattle.hurd_machine.specs.Sight.{Seen, Root, Held, Way, Controlled, Child, Parent, ServerRoot, Sends, ByControl, ByNode, Knows, OfNode, OfControl, SeesBody, ToRead, ToSearch, IsOpen, SeesEmpty, ByBody, ByParent}
+use Rattle.hurd_machine.specs.World.{World, IsAmong, boot_root, task_at, open_at, header_at, body_at, home_at, active_at, server_at}
+use Rattle.hurd_machine.specs.Sight.{Holds, HasUid, UidOfTask, UidOfRight, HasGid, GidOfTask, GidOfRight, Taken, Could, Owns, OwnsIt, Allowed, CouldServe}
+use Rattle.hurd_machine.specs.Sight.{Seen, Root, Held, Way, Controlled, Child, Parent, Active, ServerRoot, Sends, ByControl, ByNode, BySeat, Knows, OfNode, OfSeat, OfControl, SeesBody, ToRead, ToSearch, IsOpen, SeesEmpty, ByBody, ByParent}
 use Rattle.hurd_machine.specs.Sight.{Part, AttrOf, EmptyOf, BodyOf, OpenOf, OptionsOf, UsersOf, TaskOf, Sees}
 use Rattle.hurd_machine.specs.Sound.{Below, Coherent}
 use Rattle.hurd_machine.proofs.Coherence.{header_old, entry_old, home_old, right_old, entry_lists}
@@ -33,6 +33,7 @@ seen_old {S} {w} c n (Way r p h i e) =
 seen_old {S} {w} c n (Controlled s i h es e) = subst (Below w) (sym e) (home_old c i.root s (c.housing.roots s i es))
 seen_old {S} {w} c n (Child d h name s eh k could en) = c.given.entries d n (entry_lists name (body_at w d) n en)
 seen_old c n (Parent d h s eh ep) = c.given.parents d n h eh ep
+seen_old {S} {w} c n (Active m s i sm em es e) = subst (Below w) (sym e) (home_old c i.root s (c.housing.roots s i es))
 seen_old {S} {w} c n (ServerRoot m s i sm em es could e) = subst (Below w) (sym e) (home_old c i.root s (c.housing.roots s i es))
 
 -- a name that a task of S had not given yet
@@ -59,15 +60,17 @@ pub record Less (S : ℕ → Bool) (v : World) (n : Name) (h before : Header) : 
   pub kind : h.kind ≡ before.kind
   pub parent : (p : Name) → h.parent ≡ Some p → (before.parent ≡ Some p) ⊎ (SeenOrNew S v p × Known S v (EmptyOf n))
   pub could : (want : Want) → Could S v h want → Could S v before want
+  pub owns : OwnsIt S v h → OwnsIt S v before
 
 pub Less-refl : (S : ℕ → Bool) (v : World) (n : Name) (h : Header) → Less S v n h h
-Less-refl S v n h = record { kind = refl; parent = λ p e. inl e; could = λ want c. c }
+Less-refl S v n h = record { kind = refl; parent = λ p e. inl e; could = λ want c. c; owns = λ o. o }
 
 pub Less-trans : {S : ℕ → Bool} {v : World} (n : Name) (h k l : Header) → Less S v n h k → Less S v n k l → Less S v n h l
 Less-trans n h k l a b = record {
   kind = a.kind ∙ b.kind;
   parent = λ p e. elim (a.parent p e) [ inl i ↦ b.parent p i | inr new ↦ inr new ];
   could = λ want c. b.could want (a.could want c);
+  owns = λ o. b.owns (a.owns o);
 }
 
 -- a header of x at a node: one that stood there in v, with less; or a new node's, below a parent that S saw or made
@@ -106,6 +109,7 @@ commands_send S v s i is (inr c) = let same : c.0 ≡ i = cc (is, c.1) in subst 
 pub sends_root : (S : ℕ → Bool) (v : World) (s : Name) (i : ServerInfo) → server_at v s ≡ Some i → Sends S v s i → Seen S v i.root
 sends_root S v s i is (ByControl h) = Controlled s i h is refl
 sends_root S v s i is (ByNode n sn en could) = ServerRoot n s i sn en is could refl
+sends_root S v s i is (BySeat n h sn en eh owns) = Active n s i sn en is refl
 
 -- all ids that S holds in x it held in v
 pub record TakesLess (S : ℕ → Bool) (v x : World) : Type 0 where
@@ -115,6 +119,7 @@ pub record TakesLess (S : ℕ → Bool) (v x : World) : Type 0 where
 -- the world x holds nothing for S beyond what S saw in v
 pub record Inside (S : ℕ → Bool) (v x : World) : Type 0 where
   pub servers : x.servers ≡ v.servers
+  pub actives : x.actives ≡ v.actives
   pub made : (q : ℕ) (y : Task) → task_at x q ≡ Some y → (z : Task) × (task_at v q ≡ Some z) × (z.made ≤ y.made)
   -- S held uid 0, and so could do all, or has no more ids
   pub power : HasUid S v 0 ⊎ TakesLess S v x
@@ -131,6 +136,7 @@ held_inside S v (Control s) h = inl h
 pub Inside-refl : (S : ℕ → Bool) (v : World) → Inside S v v
 Inside-refl S v = record {
   servers = refl;
+  actives = refl;
   made = λ q y e. (y, e, omega arith);
   power = inr (record {
     tasks = λ q y ours e. record { uids = λ u h. UidOfTask q ours y e h; gids = λ g h. GidOfTask q ours y e h };
@@ -161,6 +167,9 @@ module _ {S : ℕ → Bool} {v x : World} (coherent : Coherent v) (i : Inside S 
   could_back : (h : Header) (want : Want) → Could S x h want → Could S v h want
   could_back h want c = elim i.power [ inl all ↦ Owns 0 all (inr refl) | inr less ↦ could_less less h want c ]
 
+  owns_back : (h : Header) → OwnsIt S x h → OwnsIt S v h
+  owns_back h o = elim i.power [ inl all ↦ (0, all, inr refl) | inr less ↦ (o.0, uid_back less o.0 o.1, o.2) ]
+
   serve_back : (info : ServerInfo) → CouldServe S x info → CouldServe S v info
   serve_back info c = elim i.power [ inl all ↦ (0, all, inr refl) | inr less ↦ (c.0, uid_back less c.0 c.1, c.2) ]
 
@@ -188,15 +197,25 @@ module _ {S : ℕ → Bool} {v x : World} (coherent : Coherent v) (i : Inside S 
   server_back : (s : Name) (info : ServerInfo) → server_at x s ≡ Some info → server_at v s ≡ Some info
   server_back s info e = sym (ap (λ m. get m s) i.servers) ∙ e
 
+  active_back : (n s : Name) → active_at x n ≡ Some s → active_at v n ≡ Some s
+  active_back n s e = sym (ap (λ m. get m n) i.actives) ∙ e
+
+  -- nothing is active on a node that is new
+  seat_seen : (n s : Name) → active_at v n ≡ Some s → SeenOrNew S v n → Seen S v n
+  seat_seen n s e (inl seen) = seen
+  seat_seen n s e (inr new) = let h = coherent.seating.seats n s e in absurd (new.1 (header_old coherent n h.0 h.1))
+
   -- the root of a server that S knows and could serve
   known_root : (s : Name) (info : ServerInfo) → server_at v s ≡ Some info → CouldServe S v info → Knows S v s → Seen S v info.root
   known_root s info is could (OfNode n sn en) = ServerRoot n s info sn en is could refl
+  known_root s info is could (OfSeat n sn en) = Active n s info sn en is refl
   known_root s info is could (OfControl h) = Controlled s info h is refl
 
   -- S could send it away
-  known_sends : (s : Name) (info : ServerInfo) → CouldServe S v info → Knows S v s → Sends S v s info
-  known_sends s info could (OfNode n sn en) = ByNode n sn en could
-  known_sends s info could (OfControl h) = ByControl h
+  known_sends : (s : Name) (info : ServerInfo) → server_at v s ≡ Some info → CouldServe S v info → Knows S v s → Sends S v s info
+  known_sends s info is could (OfNode n sn en) = ByNode n sn en could
+  known_sends s info is could (OfSeat n sn en) = ByNode info.root (Active n s info sn en is refl) (coherent.housing.roots s info is) could
+  known_sends s info is could (OfControl h) = ByControl h
 
   -- what is seen was seen, or is new
   pub seen_inside : (n : Name) → Seen S x n → SeenOrNew S v n
@@ -210,6 +229,10 @@ module _ {S : ℕ → Bool} {v x : World} (coherent : Coherent v) (i : Inside S 
       inl (subst (Seen S v) (sym e) (sends_root S v s info is (commands_send S v s info is (i.held (Control s) h))))
   seen_inside n (Child d h name s eh k c en) = child_inside d n h name eh k c (seen_inside d s) (i.entries d n name en)
   seen_inside n (Parent d h s eh ep) = parent_inside d n h eh ep (seen_inside d s) (i.headers d h eh)
+  seen_inside n (Active m s info sm em es e) =
+      let is : server_at v s ≡ Some info = server_back s info es in
+      let seat : active_at v m ≡ Some s = active_back m s em in
+      inl (Active m s info (seat_seen m s seat (seen_inside m sm)) seat is e)
   seen_inside n (ServerRoot m s info sm em es c e) =
       let is : server_at v s ≡ Some info = server_back s info es in
       inl (subst (Seen S v) (sym e) (known_root s info is (serve_back info c) (server_inside m s (seen_inside m sm) (i.homes m s em))))
@@ -229,11 +252,18 @@ module _ {S : ℕ → Bool} {v x : World} (coherent : Coherent v) (i : Inside S 
 
   knows_inside : (q : Name) → Knows S x q → Knows S v q
   knows_inside q (OfNode n sn en) = server_inside n q (seen_inside n sn) (i.homes n q en)
+  knows_inside q (OfSeat n sn en) = let seat : active_at v n ≡ Some q = active_back n q en in OfSeat n (seat_seen n q seat (seen_inside n sn)) seat
   knows_inside q (OfControl h) = commands_known S v q (i.held (Control q) h)
 
   sends_inside : (q : Name) (info : ServerInfo) → server_at v q ≡ Some info → Sends S x q info → Sends S v q info
   sends_inside q info is (ByControl h) = commands_send S v q info is (i.held (Control q) h)
-  sends_inside q info is (ByNode n sn en could) = known_sends q info (serve_back info could) (server_inside n q (seen_inside n sn) (i.homes n q en))
+  sends_inside q info is (ByNode n sn en could) = known_sends q info is (serve_back info could) (server_inside n q (seen_inside n sn) (i.homes n q en))
+
+  sends_inside q info is (BySeat n h sn en eh owns) =
+      let seat : active_at v n ≡ Some q = active_back n q en in
+      let seen : Seen S v n = seat_seen n q seat (seen_inside n sn) in
+      let l = header_before n h eh seen in
+      BySeat n l.0 seen seat l.1 (l.2.owns (owns_back h owns))
 
   -- a part that is seen was seen, or is new
   pub sees_inside : (p : Part) → Sees S x p → Known S v p

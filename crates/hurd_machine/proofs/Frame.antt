@@ -12,14 +12,16 @@ use Rattle.hurd_ports.specs.Tables.{Task, rights_of, names_open}
 use Rattle.hurd_ports.specs.Steps.{named, with_sent, edit_task}
 use Rattle.hurd_ports.proofs.TaskLaws.{edit-apart, edit-length}
 use Rattle.hurd_machine.specs.World.{World, IsAmong, task_at, open_at, header_at, body_at, home_at}
-use Rattle.hurd_machine.specs.Sight.{Part, AttrOf, EmptyOf, BodyOf, OpenOf, OptionsOf, UsersOf, TaskOf, Sees, part, IsGone, one_if, count_list, count_rights, is_home, is_on, holders, users, AnAttr, AnEmpty, ABody, AnOpen, AnOptions, AUsers, ATask}
+use Rattle.hurd_nodes.specs.Weights.{one_if, count_list}
+use Rattle.hurd_nodes.specs.Held.{is_home}
+use Rattle.hurd_machine.specs.Sight.{Part, AttrOf, EmptyOf, BodyOf, OpenOf, OptionsOf, UsersOf, TaskOf, Sees, part, IsGone, count_rights, is_on, holders, users, AnAttr, AnEmpty, ABody, AnOpen, AnOptions, AUsers, ATask}
 use Rattle.hurd_machine.specs.Change.{Change, EditHeader, EditBody, MakeNode, EditOpen, MakeOpen, EditTask, Send, Settle, settle, apply, apply_all}
 use Rattle.hurd_machine.specs.Sound.{Below, Coherent, AtRest, Sound}
-use Rattle.hurd_machine.proofs.Nodes.{header_in, body_in, empty_in, header-with_body, body-with_header, edit_keeps, KeepsEmptiness, empty-kept}
+use Rattle.hurd_machine.proofs.Nodes.{attr_same, header_in, body_in, empty_in, header-with_body, body-with_header, edit_keeps, KeepsEmptiness, empty-kept}
 use Rattle.hurd_machine.proofs.Tasks.{count_edit, count_named, count_alike, count_sent}
 use Rattle.hurd_machine.proofs.Coherence.{IsNext, next_not, unnoded, Proper, AllProper, coherent_one}
 use Rattle.hurd_machine.proofs.Views.{Agree, Agree-trans}
-use Rattle.hurd_machine.proofs.Settle.{settle_part, settle_gone, settle_agrees}
+use Rattle.hurd_machine.proofs.Settle.{AsBefore, settle_part, settle_agrees}
 
 -- of a task z in place of x, as many rights name each open, and are on each server's nodes, but for those of T
 pub record Moved (T : Part → Type 0) (w : World) (x z : Task) : Type 0 where
@@ -131,9 +133,13 @@ module _ (w : World) (coherent : Coherent w) (T : Part → Type 0) where
   open_kept Settle ex o i h = absurd ex
   open_kept c ex o i h = refl
 
-  server_kept : (c : Change) → (apply c w).servers ≡ w.servers
-  server_kept Settle = refl
-  server_kept c = refl
+  server_kept : (c : Change) → IsExact c → (apply c w).servers ≡ w.servers
+  server_kept Settle ex = absurd ex
+  server_kept c ex = refl
+
+  actives_kept : (c : Change) → IsExact c → (apply c w).actives ≡ w.actives
+  actives_kept Settle ex = absurd ex
+  actives_kept c ex = refl
 
   pub holders_kept : (c : Change) → IsExact c → Proper w c → (o : Name) → Within T w c → (T (OpenOf o) → ⊥) → holders (apply c w) o ≡ holders w o
   holders_kept (EditTask q f) ex p o i h =
@@ -174,11 +180,11 @@ module _ (w : World) (coherent : Coherent w) (T : Part → Type 0) where
 
 -- what a change doesn't write stays
 pub frame : (T : Part → Type 0) (w : World) → Coherent w → (c : Change) → IsExact c → Proper w c → (p : Part) → Within T w c → (T p → ⊥) → part (apply c w) p ≡ part w p
-frame T w coherent c ex pr (AttrOf n) i h = ap₂ AnAttr (header_kept w coherent T c ex n i h) (home_kept w coherent T c ex n i h)
+frame T w coherent c ex pr (AttrOf n) i h = attr_same (header_kept w coherent T c ex n i h) (home_kept w coherent T c ex n i h) (ap (λ m. get m n) (actives_kept w coherent T c ex))
 frame T w coherent c ex pr (EmptyOf n) i h = ap AnEmpty (empty_kept w coherent T c ex n i h)
 frame T w coherent c ex pr (BodyOf n) i h = ap ABody (body_kept w coherent T c ex n i h)
 frame T w coherent c ex pr (OpenOf o) i h = ap₂ AnOpen (open_kept w coherent T c ex o i h) (holders_kept w coherent T c ex pr o i h)
-frame T w coherent c ex pr (OptionsOf s) i h = ap (λ m. AnOptions (get m s)) (server_kept w coherent T c)
+frame T w coherent c ex pr (OptionsOf s) i h = ap (λ m. AnOptions (get m s)) (server_kept w coherent T c ex)
 frame T w coherent c ex pr (UsersOf s) i h = ap AUsers (users_kept w coherent T c ex pr s i h)
 frame T w coherent c ex pr (TaskOf q) i h = ap ATask (task_kept w coherent T c q i h)
 
@@ -188,13 +194,9 @@ gone_kept x y (AttrOf n) e gone = e ∙ gone
 gone_kept x y (EmptyOf n) e gone = e ∙ gone
 gone_kept x y (BodyOf n) e gone = e ∙ gone
 gone_kept x y (OpenOf o) e gone = absurd gone
-gone_kept x y (OptionsOf s) e gone = absurd gone
+gone_kept x y (OptionsOf s) e gone = e ∙ gone
 gone_kept x y (UsersOf s) e gone = absurd gone
 gone_kept x y (TaskOf t) e gone = absurd gone
-
--- as in the settled world w, or gone
-abbrev pub AsBefore : World → World → Part → Type 0
-AsBefore w x p = (part x p ≡ part w p) ⊎ IsGone x p
 
 -- changes one after another, settling among them: what they don't write, and what a settled world has, stays as that has it, or goes
 pub frame_from : (T : Part → Type 0) (p : Part) → (T p → ⊥) → (w : World) → AtRest w → (cs : List Change) (x : World) → Coherent x → AllProper x cs → AllWithin T x cs
@@ -202,7 +204,7 @@ pub frame_from : (T : Part → Type 0) (p : Part) → (T p → ⊥) → (w : Wor
 frame_from T p out w rest [] x c pr i e = e
 frame_from T p out w rest (Settle ∷ cs) x c pr i e =
     let next : Coherent (settle x) = coherent_one Settle x c pr.0 in
-    frame_from T p out w rest cs (settle x) next (pr.1 next) i.1 (elim e [ inl same ↦ settle_part w x rest c p same | inr gone ↦ inr (settle_gone x p gone) ])
+    frame_from T p out w rest cs (settle x) next (pr.1 next) i.1 (settle_part w rest p x c pr.0 e)
 frame_from T p out w rest (k ∷ cs) x c pr i e =
     let next : Coherent (apply k x) = coherent_one k x c pr.0 in
     let kept : part (apply k x) p ≡ part x p = frame T x c k tt pr.0 p i.0 out in

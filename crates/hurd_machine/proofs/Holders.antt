@@ -3,6 +3,7 @@ use Rattle.std.proofs.Common.{◌≡◌, ℕ, zero, suc, ◌+◌, ◌||◌, Bool
 use Rattle.std.proofs.lemmas.Bool.{or_cases, or_right}
 use Rattle.std.proofs.lemmas.Bool.Decides.{nat_tests}
 use Rattle.std.specs.List.{list_any}
+use Rattle.std.specs.FinMap.{retain_keys}
 use Rattle.hurd_creds.specs.declared.name.Name.{Name}
 use Rattle.hurd_creds.proofs.NameLaws.{same_name-itself}
 use Rattle.hurd_creds.specs.Names.{same_name}
@@ -10,12 +11,12 @@ use Rattle.hurd_ports.specs.declared.table.Opened.{Opened}
 use Rattle.hurd_ports.specs.declared.table.IoRight.{IoRight}
 use Rattle.hurd_ports.specs.declared.table.Right.{Right}
 use Rattle.hurd_ports.specs.declared.table.Right.TheVariants.{Io, Control}
-use Rattle.hurd_ports.specs.Tables.{Task, rights_of, names_open, names_node, nodes_of, is_held, is_named}
+use Rattle.hurd_ports.specs.Tables.{Task, rights_of, names_open, names_node, names_server, nodes_of, is_held, is_named, is_controlled}
 use Rattle.hurd_ports.specs.Steps.{edit_task}
 use Rattle.hurd_ports.proofs.HeldLaws.{any-at}
 use Rattle.hurd_machine.specs.World.{World, IsAmong, open_at}
-use Rattle.hurd_machine.specs.Sight.{naming, one_if, weigh_list, weigh_rights, count_list, count_rights}
-use Rattle.hurd_machine.specs.Change.{settle}
+use Rattle.hurd_nodes.specs.Weights.{one_if, weigh_list, count_list}
+use Rattle.hurd_machine.specs.Sight.{naming, weigh_rights, count_rights}
 use Rattle.hurd_machine.proofs.Retained.{retained, none_retained, was_retained}
 use Rattle.hurd_machine.proofs.Tasks.{edit_still}
 
@@ -112,7 +113,11 @@ pub named_still : (q : ℕ) (f : Task → Task) (ts : List Task) (n : Name) → 
 unfolding is_named
 named_still q f ts n keeps h = any_still q f ts (names_node n) keeps h
 
--- the open of a right is held, and each node that it names is named
+pub controlled_still : (q : ℕ) (f : Task → Task) (ts : List Task) (s : Name) → KeepsRights f → is_controlled ts s ≡ true → is_controlled (edit_task q f ts) s ≡ true
+unfolding is_controlled
+controlled_still q f ts s keeps h = any_still q f ts (names_server s) keeps h
+
+-- the open of a right is held, each node that it names is named, and the server that it is to control is controlled
 
 pub held_by_right : (ts : List Task) (t : ℕ) (x : Task) (r : IoRight) → slice_get ts t ≡ Some x → IsAmong (Io r) (rights_of x) → is_held ts r.open_name ≡ true
 unfolding is_held
@@ -123,14 +128,22 @@ unfolding is_named
 named_by_right ts t x r n at i named =
     is_any (names_node n) ts (record { task = t; seat = x; is_task = at; right = r; here = i; passes = any_among (λ m. same_name n m) n (nodes_of r) named (same_name-itself n) })
 
+pub controlled_by_right : (ts : List Task) (t : ℕ) (x : Task) (s : Name) → slice_get ts t ≡ Some x → IsAmong (Control s) (rights_of x) → is_controlled ts s ≡ true
+unfolding is_controlled
+controlled_by_right ts t x s at i = is_any (names_server s) ts (record { task = t; seat = x; is_task = at; right = Control s; here = i; passes = same_name-itself s })
+
+-- without opens that no right names
+abbrev pub let_go : World → World
+let_go w = record w { opens = retain_keys w.opens (is_held w.tasks) }
+
 -- opens that are left are those that are held
 
-pub held_stays : (w : World) (o : Name) → is_held w.tasks o ≡ true → open_at (settle w) o ≡ open_at w o
+pub held_stays : (w : World) (o : Name) → is_held w.tasks o ≡ true → open_at (let_go w) o ≡ open_at w o
 held_stays w o h = retained w.opens (is_held w.tasks) o h
 
-pub none_stays : (w : World) (o : Name) → open_at w o ≡ None → open_at (settle w) o ≡ None
+pub none_stays : (w : World) (o : Name) → open_at w o ≡ None → open_at (let_go w) o ≡ None
 none_stays w o e = none_retained w.opens (is_held w.tasks) o e
 
 -- an open that is left was there, and is held
-pub left_over : (w : World) (o : Name) (y : Opened) → open_at (settle w) o ≡ Some y → (open_at w o ≡ Some y) × (is_held w.tasks o ≡ true)
+pub left_over : (w : World) (o : Name) (y : Opened) → open_at (let_go w) o ≡ Some y → (open_at w o ≡ Some y) × (is_held w.tasks o ≡ true)
 left_over w o y h = was_retained w.opens (is_held w.tasks) o y h

@@ -5,6 +5,8 @@ pub mod Holders
 pub mod Sums
 pub mod Listed
 pub mod Stays
+pub mod Sweeps
+pub mod Swept
 pub mod Coherence
 pub mod Rights
 pub mod Views

@@ -125,7 +125,7 @@ module _ (d : Name) (name : List ℕ) (n : Name) where
 
   -- a link more shows nothing
   linked_less : (S : ℕ → Bool) (v : World) (h : Header) → Less S v n (linked h) h
-  linked_less S v h = record { kind = refl; parent = λ p e. inl e; could = could }
+  linked_less S v h = record { kind = refl; parent = λ p e. inl e; could = could; owns = λ o. o }
     where
       could : (want : Want) → Could S v (linked h) want → Could S v h want
       could want (Owns u has is) = Owns u has is

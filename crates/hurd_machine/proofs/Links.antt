@@ -14,22 +14,18 @@ use Rattle.hurd_trans_iface.specs.Nodes.{NodeMap, Node, Entry, Header, Body, Con
 use Rattle.hurd_nodes.specs.Shown.{NodeState, is_root, is_root_of, info_in, server_of, tree_by}
 use Rattle.hurd_machine.specs.World.{World, nodes_of, header_at, body_at, home_at, is_server_root, is_of, lists, lists_at}
 use Rattle.hurd_machine.specs.Change.{Change, EditHeader, EditBody, MakeNode, Settle, stays, settle, apply, apply_all}
-use Rattle.hurd_machine.specs.Sight.{one_if}
+use Rattle.hurd_nodes.specs.Weights.{one_if}
 use Rattle.hurd_machine.specs.Sound.{Below, Coherent, times_in, times_listed, LeadsUp, AtRoot, Above, Hangs, Linked}
 use Rattle.hurd_machine.proofs.Nodes.{header_in, body_in, edited_from, edit_keeps, edit_reads, header-with_header, header-with_body, body-with_header, body-with_body}
 use Rattle.hurd_machine.proofs.Tasks.{count_append}
-use Rattle.hurd_machine.proofs.Listed.{lists_counted}
+use Rattle.hurd_machine.proofs.Listed.{lists_counted, none_in}
 use Rattle.hurd_machine.proofs.Sums.{of_found, total_insert, total_kept, total_none, total_retained}
-use Rattle.hurd_machine.proofs.Stays.{stays_as_root, node_still, root_still, info_still, header_left, lists_left}
-use Rattle.hurd_machine.proofs.Coherence.{HasNoEntries, apply_all-append, leads_stays}
+use Rattle.hurd_machine.proofs.Coherence.{HasNoEntries, apply_all-append}
 
 -- how often a body names a node
 
 pub lists_alike : (n : Name) (b c : Body) → times_in n c ≡ times_in n b → lists n c ≡ lists n b
 lists_alike n b c e = lists_counted n c ∙ ap (nat_lt 0) e ∙ sym (lists_counted n b)
-
-none_in : (n : Name) (b : Body) → lists n b ≡ false → times_in n b ≡ 0
-none_in n b h = let e : nat_lt 0 (times_in n b) ≡ false = sym (lists_counted n b) ∙ h in grind (arith, nat_tests)
 
 no_lists : (n : Name) (b : Body) → HasNoEntries b → lists n b ≡ false
 no_lists n (Content bs) e = refl
@@ -404,38 +400,3 @@ dir_hangs d owner group mode = record { up = λ p e. (refl, cc); links = refl }
 -- a directory with one entry more that leads up
 pub relisted_entry : (h : NodeState) (d : Name) (name : List ℕ) (n : Name) (b : Body) → LeadsUp h d → Relisted (λ m. m ≡ n) h d b (with_entry name n b)
 relisted_entry h d name n b up = record { times = λ m out. times_apart name n m out b; fuller = inr up }
-
--- a world that settles: what lists anything stays, so as many entries name each node, and each path up is still there
-module _ (w : World) (c : Coherent w) (l : Linked (nodes_of w)) where
-  lister_still : (p n : Name) → lists_at n (body_at w p) ≡ true → stays w p ≡ true
-  lister_still p n e = leads_stays w c l p (l.rooted p n e)
-
-  times_still : (n : Name) → times_listed (settle w).nodes n ≡ times_listed w.nodes n
-  unfolding times_listed
-  times_still n = total_retained (λ (x : Node). times_in n x.body) w.nodes (stays w) none
-    where
-      none : (d : Name) (x : Node) → stays w d ≡ false → get w.nodes d ≡ Some x → times_in n x.body ≡ 0
-      none d x out is = go (lists n x.body) refl
-        where
-          go : (b : Bool) → lists n x.body ≡ b → times_in n x.body ≡ 0
-          go true e = absurd (true≢false (sym (lister_still d n (ap (λ o. lists_at n (body_in o)) is ∙ e)) ∙ out))
-          go false e = none_in n x.body e
-
-  leads_left : (d : Name) → LeadsUp (nodes_of w) d → LeadsUp (nodes_of (settle w)) d
-  leads_left d (AtRoot is) = AtRoot (root_still w d (stays_as_root w d is) ∙ is)
-  leads_left d (Above p k is up rest) =
-      Above p k (ap header_in (node_still w d (leads_stays w c l d (Above p k is up rest))) ∙ is) up (leads_left p rest)
-
-  pub linked_settle : Linked (nodes_of (settle w))
-  linked_settle = record {
-    nodes = λ n k e.
-        let b = header_left w n k e in
-        let h = l.nodes n k b.0 in
-        record {
-          up = λ p ep. let u = h.up p ep in (u.0, ap (λ o. lists_at n (body_in o)) (node_still w p (lister_still p n u.1)) ∙ u.1);
-          top = λ root. h.top (sym (root_still w n b.1) ∙ root);
-          once = λ dir. subst (λ t. t ≤ 1) (sym (times_still n)) (h.once dir);
-          links = λ tree. h.links (sym (ap tree_by (info_still w n b.1)) ∙ tree) ∙ ap (λ t. cond (is_dir k.kind) 1 t) (sym (times_still n));
-        };
-    rooted = λ d n e. leads_left d (l.rooted d n (lists_left w d n e).0);
-  }

@@ -20,6 +20,9 @@ pub lists_counted : (n : Name) (b : Body) → lists n b ≡ nat_lt 0 (times_in n
 lists_counted n (Content bs) = refl
 lists_counted n (Listing es) = list_counted (is_of n) es
 
+pub none_in : (n : Name) (b : Body) → lists n b ≡ false → times_in n b ≡ 0
+none_in n b h = let e : nat_lt 0 (times_in n b) ≡ false = sym (lists_counted n b) ∙ h in grind (arith, nat_tests)
+
 -- how often a node is named after one edit of a body
 pub times_edited : (m : NodeMap) (d n : Name) (g : Body → Body) (x : Node) → get m d ≡ Some x → times_listed (edit d (with_body g) m) n + times_in n x.body ≡ times_listed m n + times_in n (g x.body)
 unfolding times_listed

@@ -196,8 +196,8 @@ module _ (w : World) (n s : Name) (node : Node) (d : Name) (name : List ℕ) whe
   pub entered_within : (T : Part → Type 0) → T (TaskOf n.task.0) → T (AttrOf n) → T (EmptyOf n) → T (BodyOf n) → T (BodyOf d) → T (EmptyOf d) → AllWithin T w (entered n s node d name)
   entered_within T task attr empty body dir_body dir_empty = ((task, attr, empty, body), ((dir_body, inl dir_empty), tt))
 
-  pub entered_rests : is_entered node.header ≡ true → (i : ServerInfo) → server_at w s ≡ Some i → Rests w (entered n s node d name)
-  entered_rests is i there = rests_quiet (entered n s node d name) w ((is, i, there), (tt, tt))
+  pub entered_rests : is_entered node.header ≡ true → home_at w n ≡ None → (i : ServerInfo) → server_at w s ≡ Some i → Rests w (entered n s node d name)
+  entered_rests is new i there = rests_quiet (entered n s node d name) w ((is, new, i, there), (tt, tt))
 
   pub entered_sized : ((k : ServerKind) → GoodBehaviour (behaviour_of k)) → ((i : ServerInfo) → server_at w s ≡ Some i → IsSized (behaviour_of i.kind) i.text node) → KeepsSized w (entered n s node d name)
   entered_sized good fit sized = sized_entry good made d name n (sized_made w n s node fit sized)

@@ -10,12 +10,14 @@ use Rattle.hurd_ports.specs.declared.table.Right.{Right}
 use Rattle.hurd_ports.specs.declared.table.Right.TheVariants.{Io, Control}
 use Rattle.hurd_ports.specs.Tables.{Task, rights_of, names_open}
 use Rattle.hurd_ports.specs.Steps.{named, with_sent, edit_task}
-use Rattle.hurd_machine.specs.World.{World, IsAmong, task_at, open_at, header_at, body_at, home_at, server_at}
-use Rattle.hurd_machine.specs.Sight.{Part, AttrOf, EmptyOf, BodyOf, OpenOf, OptionsOf, UsersOf, TaskOf, part, one_if, count_rights, is_home, holders, is_on, users}
+use Rattle.hurd_machine.specs.World.{World, IsAmong, task_at, open_at, header_at, body_at, home_at, active_at, server_at}
+use Rattle.hurd_nodes.specs.Weights.{one_if}
+use Rattle.hurd_nodes.specs.Held.{is_home}
+use Rattle.hurd_machine.specs.Sight.{Part, AttrOf, EmptyOf, BodyOf, OpenOf, OptionsOf, UsersOf, TaskOf, part, count_rights, holders, is_on, users}
 use Rattle.hurd_machine.specs.Sight.{AnAttr, AnEmpty, ABody, AnOpen, AnOptions, AUsers, ATask}
 use Rattle.hurd_machine.specs.Change.{Change, EditHeader, EditBody, MakeNode, EditOpen, MakeOpen, EditTask, Send, Settle, apply}
 use Rattle.hurd_machine.specs.Sound.{Coherent}
-use Rattle.hurd_machine.proofs.Nodes.{header_in, body_in, empty_in, header-with_header, header-with_body, body-with_header, body-with_body, edit_alike, insert_alike, ByEmptiness, edit_empty_alike}
+use Rattle.hurd_machine.proofs.Nodes.{attr_same, header_in, body_in, empty_in, header-with_header, header-with_body, body-with_header, body-with_body, edit_alike, insert_alike, ByEmptiness, edit_empty_alike}
 use Rattle.hurd_machine.proofs.Tasks.{edit_here, edit_same, count_edit, count_named, list_alike, count_sent}
 use Rattle.hurd_machine.proofs.Coherence.{next_not, Proper}
 use Rattle.hurd_machine.proofs.Frame.{IsExact, users_named}
@@ -47,9 +49,13 @@ module _ (x y : World) where
   body_alike Settle ex n h = absurd ex
   body_alike c ex n h = h
 
-  server_alike : (c : Change) → (s : Name) → server_at y s ≡ server_at x s → server_at (apply c y) s ≡ server_at (apply c x) s
-  server_alike Settle s h = h
-  server_alike c s h = h
+  server_alike : (c : Change) → IsExact c → (s : Name) → server_at y s ≡ server_at x s → server_at (apply c y) s ≡ server_at (apply c x) s
+  server_alike Settle ex s h = absurd ex
+  server_alike c ex s h = h
+
+  active_alike : (c : Change) → IsExact c → (n : Name) → active_at y n ≡ active_at x n → active_at (apply c y) n ≡ active_at (apply c x) n
+  active_alike Settle ex n h = absurd ex
+  active_alike c ex n h = h
 
   -- a change of a body that is alike, or whose emptiness afterwards is settled by that before
   abbrev EmptinessSettled : Change → Type 0
@@ -151,7 +157,8 @@ module _ (S : ℕ → Bool) (v x y : World) (before : Inside S v x) (cx : Cohere
     part_same (AttrOf n) known =
         let e = alike.parts (AttrOf n) known in
         let h : header_at y n ≡ header_at x n = cc in
-        ap₂ AnAttr (header_alike x y c ex n h) (home_alike x y c ex n (home_same n known))
+        let k : active_at y n ≡ active_at x n = cc in
+        attr_same (header_alike x y c ex n h) (home_alike x y c ex n (home_same n known)) (active_alike x y c ex n k)
     part_same (EmptyOf n) known =
         let e = alike.parts (EmptyOf n) known in
         let h : empty_in (get y.nodes n) ≡ empty_in (get x.nodes n) = cc in
@@ -168,6 +175,6 @@ module _ (S : ℕ → Bool) (v x y : World) (before : Inside S v x) (cx : Cohere
     part_same (OptionsOf s) known =
         let e = alike.parts (OptionsOf s) known in
         let h : server_at y s ≡ server_at x s = cc in
-        ap AnOptions (server_alike x y c s h)
+        ap AnOptions (server_alike x y c ex s h)
     part_same (UsersOf s) known = let e = alike.parts (UsersOf s) known in let h : users y s ≡ users x s = cc in ap AUsers (users_alike c ex px py m after s h)
     part_same (TaskOf q) known = let e = alike.parts (TaskOf q) known in let h : task_at y q ≡ task_at x q = cc in ap ATask (task_alike x y c ex q h)

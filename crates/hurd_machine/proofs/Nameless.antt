@@ -13,16 +13,16 @@ use Rattle.hurd_ports.specs.declared.parents.Parent.{Parent as Pair}
 use Rattle.hurd_ports.specs.declared.table.IoRight.{IoRight}
 use Rattle.hurd_ports.specs.declared.table.Right.{Right}
 use Rattle.hurd_ports.specs.declared.table.Right.TheVariants.{Io}
-use Rattle.hurd_ports.specs.Tables.{Task, fresh, ways_of, is_held, is_named}
+use Rattle.hurd_ports.specs.Tables.{Task, fresh, ways_of, is_held, is_named, is_controlled}
 use Rattle.hurd_ports.specs.Steps.{named, with_port, new_open, new_right, edit_task}
 use Rattle.hurd_machine.specs.World.{World, IsAmong, nodes_of, task_at, header_at, home_at, server_at}
 use Rattle.hurd_machine.specs.Sight.{Part, OptionsOf, UsersOf, TaskOf, Sees, Taken}
-use Rattle.hurd_machine.specs.Change.{Change, MakeNode, stays, apply, apply_all, opening}
+use Rattle.hurd_machine.specs.Change.{Change, MakeNode, outside, stays, server_stays, apply, apply_all, opening}
 use Rattle.hurd_machine.specs.Sound.{Below, Coherent, times_listed, Hangs}
 use Rattle.hurd_machine.proofs.Nodes.{header_in}
 use Rattle.hurd_machine.proofs.Tasks.{edit_here}
-use Rattle.hurd_machine.proofs.Holders.{held_by_right, held_still, named_still}
-use Rattle.hurd_machine.proofs.Stays.{kept_more, stays_named}
+use Rattle.hurd_machine.proofs.Holders.{held_by_right, held_still, named_still, controlled_still}
+use Rattle.hurd_machine.proofs.Stays.{server_more, kept_more, stays_named}
 use Rattle.hurd_machine.proofs.Rights.{port_keeps, port_has}
 use Rattle.hurd_machine.proofs.Coherence.{IsNext, HasNoEntries, AllProper, was, header_old, no_node, no_home, next_not, named_below}
 use Rattle.hurd_machine.proofs.Coherence as coherence
@@ -142,22 +142,38 @@ module _ (w : World) (t : ℕ) (x : Task) (is : task_at w t ≡ Some x) (s : Nam
       held_still t (with_port right) (edit_task t (named 1) made.tasks) o (port_keeps right)
       (held_still t (named 1) made.tasks o (λ y q k. k) (held_still t (named 1) w.tasks o (λ y q k. k) h))
 
-  file_stays : stays left n ≡ true
-  file_stays = stays_named left t (with_port right (named 1 (named 1 x))) right n i now (port_has right (named 1 (named 1 x))) (inl refl) (ap (info_in w.servers) home ∙ server)
+  controlled_yet : (q : Name) → is_controlled w.tasks q ≡ true → is_controlled left.tasks q ≡ true
+  controlled_yet q h =
+      controlled_still t (with_port right) (edit_task t (named 1) made.tasks) q (port_keeps right)
+      (controlled_still t (named 1) made.tasks q (λ y p k. k) (controlled_still t (named 1) w.tasks q (λ y p k. k) h))
 
-  pub nameless_rests : Rests w (nameless t x s node ids parents modes)
-  nameless_rests rest = record {
+  file_stays : stays left n ≡ true
+  file_stays = stays_named left t (with_port right (named 1 (named 1 x))) right n s i now (port_has right (named 1 (named 1 x))) (inl refl) home server
+
+  pub nameless_rests : Coherent w → Rests w (nameless t x s node ids parents modes)
+  nameless_rests c rest = record {
     nodes = λ m y e. elim (was w.nodes n m node y e) [
       | inl new ↦ subst (λ k. stays left k ≡ true) (sym new.0) file_stays
       | inr old ↦
-          kept_more (is_named w.tasks) (is_named left.tasks) (nodes_of w) (nodes_of left) m (ap (info_in w.servers) (get_apart w.homes n s m old.0))
+          kept_more (outside w) (outside left) (nodes_of w) (nodes_of left) m (λ q eh lives. (home_kept m q eh, refl, lives_yet q lives))
           (λ k. ap is_entered_at (get_apart w.nodes n node m old.0) ∙ k) (named_yet m) (rest.nodes m y old.1)
     ];
+    servers = λ q j e. lives_yet q (rest.servers q j e);
     opens = λ o z e. elim (was w.opens io.open_name o (new_open modes) z e) [
       | inl new ↦ subst (λ k. is_held left.tasks k ≡ true) (sym new.0) (held_by_right left.tasks t (with_port right (named 1 (named 1 x))) io now (port_has right (named 1 (named 1 x))))
       | inr old ↦ held_yet o (rest.opens o z old.1)
     ];
   }
+    where
+      none : home_at w n ≡ None
+      none = no_home c n (next_not w n (fresh_next w t x is))
+
+      home_kept : (m q : Name) → home_at w m ≡ Some q → home_at left m ≡ Some q
+      home_kept m q e = get_apart w.homes n s m (λ same. let gone : home_at w m ≡ None = rw same none in cc (e)) ∙ e
+
+      lives_yet : (q : Name) → server_stays w q ≡ true → server_stays left q ≡ true
+      lives_yet q h =
+          server_more (outside w) (outside left) (nodes_of w) (nodes_of left) q (controlled_yet q) (λ m e. e) (λ m e held. (home_kept m q e, named_yet m held)) h
 
   -- a task of S may make it where S saw the server, and open it by ids that S holds
   pub nameless_may : (S : ℕ → Bool) → Coherent w → S t ≡ true → Taken S w ids → ((m : Name) → IsAmong m (ways_of parents) → SeenOrNew S w m) → Sees S w (OptionsOf s) → AllMay S w w (nameless t x s node ids parents modes)

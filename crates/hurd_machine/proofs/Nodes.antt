@@ -6,6 +6,7 @@ use Rattle.hurd_creds.specs.declared.name.Name.{Name}
 use Rattle.hurd_creds.specs.NameMaps.{NameMap, edit}
 use Rattle.hurd_creds.proofs.NameLaws.{same_or_apart, get_here, get_apart, edit_here, edit_apart}
 use Rattle.hurd_trans_iface.specs.Nodes.{Node, Header, Body, with_header, with_body, is_empty_dir}
+use Rattle.hurd_machine.specs.Sight.{AnAttr}
 
 abbrev pub header_in : Option Node → Option Header
 header_in o = option_map (λ x. x.header) o
@@ -103,3 +104,6 @@ KeepsEmptiness g = (b : Body) → is_empty_dir (g b) ≡ is_empty_dir b
 pub empty-kept : (g : Body → Body) → KeepsEmptiness g → (o : Option Node) → empty_in (option_map (with_body g) o) ≡ empty_in o
 empty-kept g keeps None = refl
 empty-kept g keeps (Some x) = ap Some (keeps x.body)
+
+pub attr_same : {h k : Option Header} {s q a b : Option Name} → h ≡ k → s ≡ q → a ≡ b → AnAttr h s a ≡ AnAttr k q b
+attr_same e f g = λ i. AnAttr (e i) (f i) (g i)

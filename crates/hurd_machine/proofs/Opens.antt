@@ -26,7 +26,8 @@ use Rattle.hurd_machine.proofs.Rights.{port_counts, port_table, without_counts, 
 use Rattle.hurd_machine.proofs.Settle.{Rests, rests_settle, rests_quiet}
 use Rattle.hurd_machine.proofs.Frame.{Covers, AllWithin, Full, not_on, not_named}
 use Rattle.hurd_machine.proofs.Sizes.{KeepsSized, sized_ports, sized_settle}
-use Rattle.hurd_machine.proofs.Links.{KeepsLinked, linked_steady, linked_settle}
+use Rattle.hurd_machine.proofs.Links.{KeepsLinked, linked_steady}
+use Rattle.hurd_machine.proofs.Swept.{linked_settle}
 
 -- what a call of task t may write anyway: its own task, and what has a name that it has still to give
 

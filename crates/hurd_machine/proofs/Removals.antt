@@ -17,7 +17,8 @@ use Rattle.hurd_trans_iface.specs.Good.{GoodBehaviour}
 use Rattle.hurd_trans_iface.specs.Kinds.{ServerKind, behaviour_of}
 use Rattle.hurd_nodes.specs.Shown.{tree_by}
 use Rattle.hurd_machine.specs.World.{World, nodes_of, header_at, body_at, info_at, is_of, lists, lists_at}
-use Rattle.hurd_machine.specs.Sight.{Part, AttrOf, EmptyOf, BodyOf, Sees, Could, Owns, Allowed, one_if, count_list}
+use Rattle.hurd_nodes.specs.Weights.{one_if, count_list}
+use Rattle.hurd_machine.specs.Sight.{Part, AttrOf, EmptyOf, BodyOf, Sees, Could, Owns, Allowed}
 use Rattle.hurd_machine.specs.Change.{Change, EditHeader, EditBody, Settle, apply, apply_all}
 use Rattle.hurd_machine.specs.Sound.{AreDistinct, HasDistinctNames, Coherent, Linked, times_in, times_listed}
 use Rattle.hurd_machine.proofs.Nodes.{header_in, body_in, node_of_header, header-with_body, edit_keeps}
@@ -28,7 +29,8 @@ use Rattle.hurd_machine.proofs.Frame.{AllWithin}
 use Rattle.hurd_machine.proofs.Sizes.{KeepsSized, sized_append, sized_header, sized_removed, sized_settle}
 use Rattle.hurd_machine.proofs.Confine.{Less}
 use Rattle.hurd_machine.proofs.Several.{AllMay}
-use Rattle.hurd_machine.proofs.Links.{Relisted, KeepsLinked, linked_settle}
+use Rattle.hurd_machine.proofs.Links.{Relisted, KeepsLinked}
+use Rattle.hurd_machine.proofs.Swept.{linked_settle}
 use Rattle.hurd_machine.proofs.Relinks.{file_linked, dir_linked}
 
 -- a directory with one entry less
@@ -217,7 +219,7 @@ module _ (d : Name) (name : List ℕ) (n : Name) where
 
   -- an entry less shows nothing
   pub unlinked_less : (S : ℕ → Bool) (v : World) (h : Header) → Less S v n (unlinked h) h
-  unlinked_less S v h = record { kind = refl; parent = λ p e. inl (parent_before h p e); could = could }
+  unlinked_less S v h = record { kind = refl; parent = λ p e. inl (parent_before h p e); could = could; owns = λ o. o }
     where
       could : (want : Want) → Could S v (unlinked h) want → Could S v h want
       could want (Owns u has is) = Owns u has is

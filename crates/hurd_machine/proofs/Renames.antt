@@ -26,7 +26,8 @@ use Rattle.hurd_machine.proofs.Confine.{SeenOrNew, Known, Less}
 use Rattle.hurd_machine.proofs.Several.{AllMay}
 use Rattle.hurd_machine.proofs.Permits.{entry_may}
 use Rattle.hurd_machine.proofs.Makes.{entry_proper}
-use Rattle.hurd_machine.proofs.Links.{KeepsLinked, linked_settle}
+use Rattle.hurd_machine.proofs.Links.{KeepsLinked}
+use Rattle.hurd_machine.proofs.Swept.{linked_settle}
 use Rattle.hurd_machine.proofs.Removals.{same_exact, none_before, entry_of_before, lists_before, times_taken, times_others, cut_proper, cut_unlisted}
 use Rattle.hurd_machine.proofs.Moves.{LeadsAround, Gets, TakesOne, node_of_body, moved_linked}
 
@@ -142,7 +143,7 @@ module _ (d : Name) (name : List ℕ) (n e : Name) (new : List ℕ) where
       turned = apply (EditHeader n (moved_to e)) (apply (EditBody d (without_entry name)) x)
 
       turned_less : (h : Header) → (is_dir h.kind ≡ true → Sees S v (EmptyOf n)) → Less S v n (moved_to e h) h
-      turned_less h empty = record { kind = refl; parent = λ p is. by (is_dir h.kind) refl p is; could = could }
+      turned_less h empty = record { kind = refl; parent = λ p is. by (is_dir h.kind) refl p is; could = could; owns = λ o. o }
         where
           by : (b : Bool) → is_dir h.kind ≡ b → (p : Name) → (if b then Some e else h.parent) ≡ Some p → (h.parent ≡ Some p) ⊎ (SeenOrNew S v p × Known S v (EmptyOf n))
           by true eb p is = let same : e ≡ p = cc in inr (inl (subst (Seen S v) same to), inl (empty eb))

@@ -6,7 +6,7 @@ use Rattle.hurd_ports.specs.declared.table.Port.{Port}
 use Rattle.hurd_ports.specs.Tables.{Task, rights_of, right_in}
 use Rattle.hurd_ports.specs.Steps.{named, with_ids, with_port, without_port, ports_without, received}
 use Rattle.hurd_machine.specs.World.{World, IsAmong, task_at}
-use Rattle.hurd_machine.specs.Sight.{one_if, weigh_list, count_list}
+use Rattle.hurd_nodes.specs.Weights.{one_if, weigh_list, count_list}
 use Rattle.hurd_machine.specs.Sound.{Coherent}
 use Rattle.hurd_machine.proofs.Tasks.{among_left, among_right, among_cases, among_map, among_mapped, weigh_append, count_append}
 use Rattle.hurd_machine.proofs.Coherence.{FineRight, Table}

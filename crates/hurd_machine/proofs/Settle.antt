@@ -8,168 +8,253 @@ use Rattle.hurd_creds.specs.Access.{IdSets}
 use Rattle.hurd_creds.specs.NameMaps.{edit}
 use Rattle.hurd_creds.proofs.NameLaws.{same_or_apart, get_here, get_apart, edit_here, edit_apart}
 use Rattle.hurd_trans_iface.specs.Nodes.{NodeMap, Node, Header, Body, with_header, with_body}
-use Rattle.hurd_nodes.specs.Shown.{ServerInfo, info_in}
+use Rattle.hurd_nodes.specs.Shown.{NodeState, ServerInfo}
+use Rattle.hurd_nodes.specs.Settle as kept
+use Rattle.hurd_nodes.proofs.SweepLaws.{settle-is}
 use Rattle.hurd_nodes.specs.Settle.{is_entered, is_entered_at}
 use Rattle.hurd_ports.specs.declared.table.Opened.{Opened}
 use Rattle.hurd_ports.specs.declared.table.IoRight.{IoRight}
 use Rattle.hurd_ports.specs.declared.table.Right.{Right}
 use Rattle.hurd_ports.specs.declared.table.Right.TheVariants.{Io, Control}
 use Rattle.hurd_ports.specs.declared.parents.Parent.{Parent as Pair}
-use Rattle.hurd_ports.specs.Tables.{Task, rights_of, nodes_of as nodes_named, ways_of, is_held, is_named, IsSettled, fresh}
+use Rattle.hurd_ports.specs.Tables.{Task, rights_of, nodes_of as nodes_named, ways_of, is_held, is_named, is_controlled, IsSettled, fresh}
 use Rattle.hurd_ports.specs.Steps.{named, with_port, with_sent, new_open, new_right, edit_task}
-use Rattle.hurd_machine.specs.World.{World, IsAmong, nodes_of, ports_of, task_at, open_at, header_at, body_at, home_at, server_at, info_at, lists_at}
-use Rattle.hurd_machine.specs.Sight.{Holds, Seen, Root, Held, Way, Controlled, Child, Parent, ServerRoot}
-use Rattle.hurd_machine.specs.Sight.{Part, AttrOf, EmptyOf, BodyOf, OpenOf, OptionsOf, UsersOf, TaskOf, Sees, part, IsGone, is_home, is_on, holders, users, AnAttr, AnEmpty, ABody, AnOpen, AUsers}
-use Rattle.hurd_machine.specs.Change.{Change, EditHeader, EditBody, MakeNode, EditOpen, MakeOpen, EditTask, Send, Settle, stays, settle, apply, apply_all, opening}
+use Rattle.hurd_machine.specs.World.{World, IsAmong, world_from, nodes_of, ports_of, task_at, open_at, header_at, body_at, home_at, active_at, server_at}
+use Rattle.hurd_machine.specs.Sight.{Holds, Seen, Root, Held, Way, Controlled, Child, Parent, Active, ServerRoot, Knows, OfNode, OfSeat, OfControl}
+use Rattle.hurd_nodes.specs.Held.{is_home}
+use Rattle.hurd_machine.specs.Sight.{Part, AttrOf, EmptyOf, BodyOf, OpenOf, OptionsOf, UsersOf, TaskOf, Sees, part, IsGone, is_on, holders, users, AnEmpty, ABody, AnOpen, AnOptions, AUsers}
+use Rattle.hurd_machine.specs.Change.{Change, EditHeader, EditBody, MakeNode, EditOpen, MakeOpen, EditTask, Send, Settle, outside, stays, server_stays, settle, apply, apply_all, opening}
 use Rattle.hurd_machine.specs.Sound.{Coherent, Linked, AtRest}
-use Rattle.hurd_machine.proofs.Nodes.{header_in, body_in, empty_in, no_header, no_body, no_emptiness, edit_keeps, edited_from}
+use Rattle.hurd_machine.proofs.Nodes.{attr_same, header_in, body_in, empty_in, no_header, no_body, no_emptiness, edit_keeps, edited_from}
 use Rattle.hurd_machine.proofs.Tasks.{count_alike, sent_keeps, edit_here as task_here}
-use Rattle.hurd_machine.proofs.Holders.{held_counted, held_stays, none_stays, left_over, held_by_right, KeepsRights, held_still, named_still}
-use Rattle.hurd_machine.proofs.Stays.{way_at, way_parent, kept_more, stays_entered, stays_named, node_still, home_still, info_still, node_gone, home_gone, node_left, none_left, no_home_left}
-use Rattle.hurd_machine.proofs.Coherence.{apply_all-append, was, entry_lists, root_stays, boot_stays, header_info, entry_stays, leads_stays, entry_homed}
+use Rattle.hurd_machine.proofs.Holders.{let_go, held_counted, held_stays, none_stays, left_over, held_by_right, KeepsRights, held_still, named_still, controlled_still}
+use Rattle.hurd_machine.proofs.Stays.{sweep, way_at, way_parent, server_more, kept_more, lives_at, lives_active, lives_controlled, stays_entered, stays_named, node_still, home_still, active_still, server_still, node_gone, home_gone, active_gone, server_gone, node_left, server_left, none_left, no_home_left, no_active_left, no_server_left}
+use Rattle.hurd_machine.proofs.Swept.{header_server, root_stays, boot_stays, entry_stays, parent_stays, settle_keeps}
+use Rattle.hurd_machine.proofs.Coherence.{apply_all-append, was, entry_lists}
 use Rattle.hurd_machine.proofs.Rights.{port_keeps, port_has}
-use Rattle.hurd_machine.proofs.Views.{Agree}
+use Rattle.hurd_machine.proofs.Views.{Agree, Agree-refl, Agree-trans}
 
 -- what is left once a world is settled stays
 
+-- the world without nodes and servers that don't stay; its opens are still there
+abbrev swept : World → World
+swept w = world_from (kept.settle (outside w) (nodes_of w)) (ports_of w)
+
+-- a sweep takes nothing more
+swept_whole : (w : World) → kept.sweep (outside w) (nodes_of (swept w)) ≡ nodes_of (swept w)
+swept_whole w = (settle-is (outside w) (nodes_of w)).stays
+
 pub settle_settled : (w : World) → AtRest (settle w)
 settle_settled w = record {
-  nodes = λ n x e.
-      let l = node_left w n x e in
-      kept_more (is_named w.tasks) (is_named w.tasks) (nodes_of w) (nodes_of (settle w)) n (info_still w n l.1)
-      (λ i. ap is_entered_at (node_still w n l.1) ∙ i) (λ o. o) l.1;
-  opens = λ o y h. (left_over w o y h).1;
+  nodes = λ n x e. (node_left (swept w) n x (ap (λ (h : NodeState). get h.nodes n) (swept_whole w) ∙ e)).1;
+  servers = λ s i e. (server_left (swept w) s i (ap (λ (h : NodeState). get h.servers s) (swept_whole w) ∙ e)).1;
+  opens = λ o y h. (left_over (swept w) o y h).1;
 }
 
+-- a node that has a server is there
+home_there : (w : World) → Coherent w → (n s : Name) → home_at w n ≡ Some s → (h : Header) × (header_at w n ≡ Some h)
+home_there w c n s e = c.housing.housed n s e
+
 -- the node of a right stays, so servers have as many users
-users_still : (w : World) → Coherent w → (s : Name) → users (settle w) s ≡ users w s
-users_still w c s = count_alike (is_on (settle w) s) (is_on w s) w.tasks on
+users_still : (w : World) → Coherent w → (s : Name) → users (sweep w) s ≡ users w s
+users_still w c s = count_alike (is_on (sweep w) s) (is_on w s) w.tasks on
   where
-    homed : (t : ℕ) (x : Task) (r : IoRight) → task_at w t ≡ Some x → IsAmong (Io r) (rights_of x) → home_at (settle w) r.node ≡ home_at w r.node
+    homed : (t : ℕ) (x : Task) (r : IoRight) → task_at w t ≡ Some x → IsAmong (Io r) (rights_of x) → home_at (sweep w) r.node ≡ home_at w r.node
     homed t x r at i = go (home_at w r.node) refl
       where
-        go : (o : Option Name) → home_at w r.node ≡ o → home_at (settle w) r.node ≡ home_at w r.node
+        go : (o : Option Name) → home_at w r.node ≡ o → home_at (sweep w) r.node ≡ home_at w r.node
         go None e = no_home_left w r.node e ∙ sym e
-        go (Some s) e =
-            let h = c.housing.housed r.node s e in
-            let info = header_info w c r.node h.0 h.1 in
-            home_still w r.node (stays_named w t x (Io r) r.node info.0 at i (inl refl) info.1)
+        go (Some q) e =
+            let h = home_there w c r.node q e in
+            let k = header_server w c r.node h.0 h.1 in
+            home_still w r.node (stays_named w t x (Io r) r.node k.server k.info at i (inl refl) k.is_home k.is_info)
 
-    on : (t : ℕ) (x : Task) (r : Right) → task_at w t ≡ Some x → IsAmong r (rights_of x) → is_on (settle w) s r ≡ is_on w s r
+    on : (t : ℕ) (x : Task) (r : Right) → task_at w t ≡ Some x → IsAmong r (rights_of x) → is_on (sweep w) s r ≡ is_on w s r
     on t x (Io r) at i = ap (is_home s) (homed t x r at i)
     on t x (Control q) at i = refl
 
--- what S holds is held, what it sees stays
-pub settle_agrees : (S : ℕ → Bool) (w : World) → Coherent w → Linked (nodes_of w) → Agree S w (settle w)
-settle_agrees S w c l = record { tasks = refl; parts = same }
+-- what S sees stays
+module _ (S : ℕ → Bool) (w : World) (c : Coherent w) (l : Linked (nodes_of w)) where
+  named_alive : (r : IoRight) (n m : Name) (h : Header) → Holds S w (Io r) → n ≡ m → IsAmong m (nodes_named (Io r)) → header_at w n ≡ Some h → stays w n ≡ true
+  named_alive r n m h held e named eh =
+      let k = header_server w c n h eh in
+      stays_named w held.task held.seat (Io r) n k.server k.info held.is_task held.here (subst (λ z. IsAmong z (nodes_named (Io r))) (sym e) named) k.is_home k.is_info
+
+  root_alive : (n s : Name) (i : ServerInfo) → server_at w s ≡ Some i → server_stays w s ≡ true → n ≡ i.root → stays w n ≡ true
+  root_alive n s i es lives e = subst (λ z. stays w z ≡ true) (sym e) (root_stays w c s i es lives)
+
+  alive : (n : Name) → Seen S w n → (h : Header) → header_at w n ≡ Some h → stays w n ≡ true
+  alive n (Root e) h eh = subst (λ z. stays w z ≡ true) (sym e) (boot_stays w c)
+  alive n (Held r held e) h eh = named_alive r n r.node h held e (inl refl) eh
+  alive n (Way r p held i e) h eh = elim e [
+    | inl at ↦ named_alive r n p.at h held at (inr (way_at p r.parents i)) eh
+    | inr up ↦ named_alive r n p.parent h held up (inr (way_parent p r.parents i)) eh
+  ]
+  alive n (Controlled s i held es e) h eh = root_alive n s i es (lives_controlled w held.task held.seat s held.is_task held.here) e
+  alive n (Child d k name sd ed dir could en) h eh = entry_stays w c l d n h (entry_lists name (body_at w d) n en) eh (alive d sd k ed)
+  alive n (Parent d k sd ed ep) h eh = parent_stays w c l d n k ed ep (alive d sd k ed)
+  alive n (Active m s i sm em es e) h eh = root_alive n s i es (lives_active w m s em) e
+  alive n (ServerRoot m s i sm em es could e) h eh =
+      let k = home_there w c m s em in
+      root_alive n s i es (lives_at w m s (alive m sm k.0 k.1) em) e
+
+  -- a node that is seen is as it was
+  record Still (n : Name) : Type 0 where
+    node : get (sweep w).nodes n ≡ get w.nodes n
+    home : home_at (sweep w) n ≡ home_at w n
+    active : active_at (sweep w) n ≡ active_at w n
+
+  seen_still : (n : Name) → Seen S w n → Still n
+  seen_still n s = go (get w.nodes n) refl
+    where
+      go : (o : Option Node) → get w.nodes n ≡ o → Still n
+      go (Some x) e = let k : stays w n ≡ true = alive n s x.header (ap header_in e) in record { node = node_still w n k; home = home_still w n k; active = active_still w n k }
+      go None e = record { node = none_left w n e ∙ sym e; home = no_home (home_at w n) refl; active = no_seat (active_at w n) refl }
+        where
+          no_home : (o : Option Name) → home_at w n ≡ o → home_at (sweep w) n ≡ home_at w n
+          no_home None k = no_home_left w n k ∙ sym k
+          no_home (Some q) k = let h = home_there w c n q k in let gone : header_at w n ≡ None = ap header_in e in absurd (cc (h.1))
+
+          no_seat : (o : Option Name) → active_at w n ≡ o → active_at (sweep w) n ≡ active_at w n
+          no_seat None k = no_active_left w n k ∙ sym k
+          no_seat (Some q) k = let h = c.seating.seats n q k in let gone : header_at w n ≡ None = ap header_in e in absurd (cc (h.1))
+
+  known_lives : (s : Name) → Knows S w s → server_stays w s ≡ true
+  known_lives s (OfNode n sn en) = let h = home_there w c n s en in lives_at w n s (alive n sn h.0 h.1) en
+  known_lives s (OfSeat n sn en) = lives_active w n s en
+  known_lives s (OfControl held) = lives_controlled w held.task held.seat s held.is_task held.here
+
+  sweep_agrees : Agree S w (sweep w)
+  sweep_agrees = record { tasks = refl; parts = same }
+    where
+      same : (p : Part) → Sees S w p → part (sweep w) p ≡ part w p
+      same (AttrOf n) s = let k = seen_still n s in attr_same (ap header_in k.node) k.home k.active
+      same (EmptyOf n) s = ap (λ (o : Option Node). AnEmpty (empty_in o)) (seen_still n s.0).node
+      same (BodyOf n) s = ap (λ (o : Option Node). ABody (body_in o)) (seen_still n s.0).node
+      same (OpenOf o) s = refl
+      same (OptionsOf q) s = ap AnOptions (server_still w q (known_lives q s))
+      same (UsersOf q) s = ap AUsers (users_still w c q)
+      same (TaskOf t) s = refl
+
+let_go_agrees : (S : ℕ → Bool) (w : World) → Agree S w (let_go w)
+let_go_agrees S w = record { tasks = refl; parts = same }
   where
-    child_still : (d n : Name) → lists_at n (body_at w d) ≡ true → (get (settle w).nodes n ≡ get w.nodes n) × (home_at (settle w) n ≡ home_at w n)
-    child_still d n e = go (get w.nodes n) refl
-      where
-        go : (o : Option Node) → get w.nodes n ≡ o → (get (settle w).nodes n ≡ get w.nodes n) × (home_at (settle w) n ≡ home_at w n)
-        go None k = (none_left w n k ∙ sym k, entry_homed w l c d n e)
-        go (Some x) k = let h : stays w n ≡ true = entry_stays w c l d n x.header e (ap header_in k) in (node_still w n h, home_still w n h)
-
-    still : (n : Name) → stays w n ≡ true → (get (settle w).nodes n ≡ get w.nodes n) × (home_at (settle w) n ≡ home_at w n)
-    still n h = (node_still w n h, home_still w n h)
-
-    still_named : (t : ℕ) (x : Task) (r : Right) (n : Name) → task_at w t ≡ Some x → IsAmong r (rights_of x) → IsAmong n (nodes_named r) → (get (settle w).nodes n ≡ get w.nodes n) × (home_at (settle w) n ≡ home_at w n)
-    still_named t x r n at i named = go (get w.nodes n) refl
-      where
-        go : (o : Option Node) → get w.nodes n ≡ o → (get (settle w).nodes n ≡ get w.nodes n) × (home_at (settle w) n ≡ home_at w n)
-        go (Some y) k = let info = header_info w c n y.header (ap header_in k) in still n (stays_named w t x r n info.0 at i named info.1)
-        go None k = (none_left w n k ∙ sym k, no_home_left w n none ∙ sym none)
-          where
-            no_server : (o : Option Name) → home_at w n ≡ o → o ≡ None
-            no_server None e = refl
-            no_server (Some s) e = let h = c.housing.housed n s e in let gone : header_at w n ≡ None = ap header_in k in absurd (cc (h.1))
-
-            none : home_at w n ≡ None
-            none = no_server (home_at w n) refl
-
-    right_still : (r : IoRight) (n m : Name) → Holds S w (Io r) → n ≡ m → IsAmong m (nodes_named (Io r)) → (get (settle w).nodes n ≡ get w.nodes n) × (home_at (settle w) n ≡ home_at w n)
-    right_still r n m h e named = subst (λ z. (get (settle w).nodes z ≡ get w.nodes z) × (home_at (settle w) z ≡ home_at w z)) (sym e) (still_named h.task h.seat (Io r) m h.is_task h.here named)
-
-    node : (n : Name) → Seen S w n → (get (settle w).nodes n ≡ get w.nodes n) × (home_at (settle w) n ≡ home_at w n)
-    node n (Root e) = still n (subst (λ z. stays w z ≡ true) (sym e) (boot_stays w c))
-    node n (Held r h e) = right_still r n r.node h e (inl refl)
-    node n (Way r p h i e) = elim e [ inl at ↦ right_still r n p.at h at (inr (way_at p r.parents i)) | inr up ↦ right_still r n p.parent h up (inr (way_parent p r.parents i)) ]
-    node n (Controlled s i h es e) = still n (subst (λ z. stays w z ≡ true) (sym e) (root_stays w c s i es))
-    node n (Child d h name s eh k could en) = child_still d n (entry_lists name (body_at w d) n en)
-    node n (Parent d h s eh ep) = still n (leads_stays w c l n (l.rooted n d ((l.nodes d h eh).up n ep).1))
-    node n (ServerRoot m s i sm em es could e) = still n (subst (λ z. stays w z ≡ true) (sym e) (root_stays w c s i es))
-
-    same : (p : Part) → Sees S w p → part (settle w) p ≡ part w p
-    same (AttrOf n) s = let k = node n s in ap₂ (λ (o : Option Node) h. AnAttr (header_in o) h) k.0 k.1
-    same (EmptyOf n) s = ap (λ (o : Option Node). AnEmpty (empty_in o)) (node n s.0).0
-    same (BodyOf n) s = ap (λ (o : Option Node). ABody (body_in o)) (node n s.0).0
+    same : (p : Part) → Sees S w p → part (let_go w) p ≡ part w p
     same (OpenOf o) s =
         let held : is_held w.tasks o ≡ true = subst (λ z. is_held w.tasks z ≡ true) s.2 (held_by_right w.tasks s.1.task s.1.seat s.0 s.1.is_task s.1.here) in
         ap (λ v. AnOpen v (holders w o)) (held_stays w o held)
+    same (AttrOf n) s = refl
+    same (EmptyOf n) s = refl
+    same (BodyOf n) s = refl
     same (OptionsOf q) s = refl
-    same (UsersOf q) s = ap AUsers (users_still w c q)
+    same (UsersOf q) s = refl
     same (TaskOf t) s = refl
 
--- a part that a settled world has unchanged in another keeps that value where this is settled, or its thing goes
-module _ (w x : World) (rest : AtRest w) (c : Coherent x) where
-  on_stays : (p : Part) (n : Name) → (stays x n ≡ true → part (settle x) p ≡ part x p) → (stays x n ≡ false → IsGone (settle x) p) → part x p ≡ part w p → (part (settle x) p ≡ part w p) ⊎ IsGone (settle x) p
-  on_stays p n still goes e = go (stays x n) refl
+-- who sees a world sees the same once it is settled
+pub settle_agrees : (S : ℕ → Bool) (w : World) → Coherent w → Linked (nodes_of w) → Agree S w (settle w)
+settle_agrees S w c l =
+    settle_keeps (Agree S w) (λ x cx lx a. Agree-trans a (sweep_agrees S x cx lx)) (λ x cx a. Agree-trans a (let_go_agrees S x)) w c l (Agree-refl S w)
+
+-- a part is as in the settled world w, or gone
+abbrev pub AsBefore : World → World → Part → Type 0
+AsBefore w x p = (part x p ≡ part w p) ⊎ IsGone x p
+
+-- a sweep leaves each part, or takes its thing out
+module _ (x : World) (c : Coherent x) where
+  by_node : (p : Part) (n : Name) → (stays x n ≡ true → part (sweep x) p ≡ part x p) → (stays x n ≡ false → IsGone (sweep x) p) → (part (sweep x) p ≡ part x p) ⊎ IsGone (sweep x) p
+  by_node p n still goes = go (stays x n) refl
     where
-      go : (b : Bool) → stays x n ≡ b → (part (settle x) p ≡ part w p) ⊎ IsGone (settle x) p
-      go true k = inl (still k ∙ e)
+      go : (b : Bool) → stays x n ≡ b → (part (sweep x) p ≡ part x p) ⊎ IsGone (sweep x) p
+      go true k = inl (still k)
       go false k = inr (goes k)
 
-  pub settle_part : (p : Part) → part x p ≡ part w p → (part (settle x) p ≡ part w p) ⊎ IsGone (settle x) p
-  settle_part (AttrOf n) e =
-      on_stays (AttrOf n) n (λ k. ap₂ (λ (o : Option Node) h. AnAttr (header_in o) h) (node_still x n k) (home_still x n k))
-      (λ k. ap₂ (λ (o : Option Node) h. AnAttr (header_in o) h) (node_gone x n k) (home_gone x n k)) e
-  settle_part (EmptyOf n) e =
-      on_stays (EmptyOf n) n (λ k. ap (λ (o : Option Node). AnEmpty (empty_in o)) (node_still x n k)) (λ k. ap (λ (o : Option Node). AnEmpty (empty_in o)) (node_gone x n k)) e
-  settle_part (BodyOf n) e =
-      on_stays (BodyOf n) n (λ k. ap (λ (o : Option Node). ABody (body_in o)) (node_still x n k)) (λ k. ap (λ (o : Option Node). ABody (body_in o)) (node_gone x n k)) e
-  settle_part (OpenOf o) e =
+  sweep_part : (p : Part) → (part (sweep x) p ≡ part x p) ⊎ IsGone (sweep x) p
+  sweep_part (AttrOf n) =
+      by_node (AttrOf n) n (λ k. attr_same (ap header_in (node_still x n k)) (home_still x n k) (active_still x n k))
+      (λ k. attr_same (ap header_in (node_gone x n k)) (home_gone x n k) (active_gone x n k))
+  sweep_part (EmptyOf n) =
+      by_node (EmptyOf n) n (λ k. ap (λ (o : Option Node). AnEmpty (empty_in o)) (node_still x n k)) (λ k. ap (λ (o : Option Node). AnEmpty (empty_in o)) (node_gone x n k))
+  sweep_part (BodyOf n) =
+      by_node (BodyOf n) n (λ k. ap (λ (o : Option Node). ABody (body_in o)) (node_still x n k)) (λ k. ap (λ (o : Option Node). ABody (body_in o)) (node_gone x n k))
+  sweep_part (OpenOf o) = inl refl
+  sweep_part (OptionsOf s) = go (server_stays x s) refl
+    where
+      go : (b : Bool) → server_stays x s ≡ b → (part (sweep x) (OptionsOf s) ≡ part x (OptionsOf s)) ⊎ IsGone (sweep x) (OptionsOf s)
+      go true k = inl (ap AnOptions (server_still x s k))
+      go false k = inr (ap AnOptions (server_gone x s k))
+  sweep_part (UsersOf s) = inl (ap AUsers (users_still x c s))
+  sweep_part (TaskOf t) = inl refl
+
+-- what is gone doesn't come back by it
+sweep_gone : (x : World) (p : Part) → IsGone x p → IsGone (sweep x) p
+sweep_gone x (AttrOf n) e =
+    let header : header_in (get x.nodes n) ≡ None = cc in
+    let home : home_at x n ≡ None = cc in
+    let active : active_at x n ≡ None = cc in
+    attr_same (ap header_in (none_left x n (no_header (get x.nodes n) header))) (no_home_left x n home) (no_active_left x n active)
+sweep_gone x (EmptyOf n) e = let empty : empty_in (get x.nodes n) ≡ None = cc in ap (λ (o : Option Node). AnEmpty (empty_in o)) (none_left x n (no_emptiness (get x.nodes n) empty))
+sweep_gone x (BodyOf n) e = let body : body_in (get x.nodes n) ≡ None = cc in ap (λ (o : Option Node). ABody (body_in o)) (none_left x n (no_body (get x.nodes n) body))
+sweep_gone x (OpenOf o) e = absurd e
+sweep_gone x (OptionsOf s) e = let none : server_at x s ≡ None = cc in ap AnOptions (no_server_left x s none)
+sweep_gone x (UsersOf s) e = absurd e
+sweep_gone x (TaskOf t) e = absurd e
+
+-- letting opens go leaves each part but those, and such as a world at rest had
+module _ (w : World) (rest : AtRest w) where
+  let_go_part : (p : Part) (x : World) → part x p ≡ part w p → part (let_go x) p ≡ part w p
+  let_go_part (OpenOf o) x e =
       let opens : open_at x o ≡ open_at w o = cc in
       let counts : holders x o ≡ holders w o = cc in
       let held : is_held x.tasks o ≡ is_held w.tasks o = held_counted x.tasks o ∙ ap (λ n. nat_lt 0 n) counts ∙ sym (held_counted w.tasks o) in
-      inl (ap₂ AnOpen (go (open_at w o) refl opens held) counts)
+      ap₂ AnOpen (go (open_at w o) refl opens held) counts
     where
-      go : (v : Option Opened) → open_at w o ≡ v → open_at x o ≡ open_at w o → is_held x.tasks o ≡ is_held w.tasks o → open_at (settle x) o ≡ open_at w o
+      go : (v : Option Opened) → open_at w o ≡ v → open_at x o ≡ open_at w o → is_held x.tasks o ≡ is_held w.tasks o → open_at (let_go x) o ≡ open_at w o
       go (Some y) is opens held = held_stays x o (held ∙ rest.opens o y is) ∙ opens
       go None is opens held = none_stays x o (opens ∙ is) ∙ sym is
-  settle_part (OptionsOf s) e = inl e
-  settle_part (UsersOf s) e = inl (ap AUsers (users_still x c s) ∙ e)
-  settle_part (TaskOf t) e = inl e
+  let_go_part (AttrOf n) x e = e
+  let_go_part (EmptyOf n) x e = e
+  let_go_part (BodyOf n) x e = e
+  let_go_part (OptionsOf s) x e = e
+  let_go_part (UsersOf s) x e = e
+  let_go_part (TaskOf t) x e = e
 
--- what is gone doesn't come back by it
-pub settle_gone : (x : World) (p : Part) → IsGone x p → IsGone (settle x) p
-settle_gone x (AttrOf n) e =
-    let header : header_in (get x.nodes n) ≡ None = cc in
-    let home : home_at x n ≡ None = cc in
-    ap₂ (λ (o : Option Node) h. AnAttr (header_in o) h) (none_left x n (no_header (get x.nodes n) header)) (no_home_left x n home)
-settle_gone x (EmptyOf n) e = let empty : empty_in (get x.nodes n) ≡ None = cc in ap (λ (o : Option Node). AnEmpty (empty_in o)) (none_left x n (no_emptiness (get x.nodes n) empty))
-settle_gone x (BodyOf n) e = let body : body_in (get x.nodes n) ≡ None = cc in ap (λ (o : Option Node). ABody (body_in o)) (none_left x n (no_body (get x.nodes n) body))
-settle_gone x (OpenOf o) e = absurd e
-settle_gone x (OptionsOf s) e = absurd e
-settle_gone x (UsersOf s) e = absurd e
-settle_gone x (TaskOf t) e = absurd e
+  let_go_gone : (p : Part) (x : World) → IsGone x p → IsGone (let_go x) p
+  let_go_gone (AttrOf n) x e = e
+  let_go_gone (EmptyOf n) x e = e
+  let_go_gone (BodyOf n) x e = e
+  let_go_gone (OpenOf o) x e = absurd e
+  let_go_gone (OptionsOf s) x e = e
+  let_go_gone (UsersOf s) x e = absurd e
+  let_go_gone (TaskOf t) x e = absurd e
+
+  -- a part that a settled world has unchanged in another keeps that value where this is settled, or its thing goes
+  pub settle_part : (p : Part) (x : World) → Coherent x → Linked (nodes_of x) → AsBefore w x p → AsBefore w (settle x) p
+  settle_part p x c l e =
+      settle_keeps (λ y. AsBefore w y p)
+      (λ y cy ly b. elim b [
+        | inl same ↦ elim (sweep_part y cy p) [ inl kept ↦ inl (kept ∙ same) | inr gone ↦ inr gone ]
+        | inr gone ↦ inr (sweep_gone y p gone)
+      ])
+      (λ y cy b. elim b [ inl same ↦ inl (let_go_part p y same) | inr gone ↦ inr (let_go_gone p y gone) ]) x c l e
 
 -- lists of changes that leave a settled world so
 
 abbrev pub Rests : World → List Change → Type 0
 Rests w cs = AtRest w → AtRest (apply_all cs w)
 
--- each node stays
-abbrev pub NodesRest : World → Type 0
-NodesRest w = (n : Name) (x : Node) → get w.nodes n ≡ Some x → stays w n ≡ true
+-- each node and each server stays
+pub record NodesRest (w : World) : Type 0 where
+  pub nodes : (n : Name) (x : Node) → get w.nodes n ≡ Some x → stays w n ≡ true
+  pub servers : (s : Name) (i : ServerInfo) → server_at w s ≡ Some i → server_stays w s ≡ true
 
 -- a header function by which no node loses its last link, or its parent
 abbrev pub KeepsEntered : (Header → Header) → Type 0
 KeepsEntered f = (h : Header) → is_entered h ≡ true → is_entered (f h) ≡ true
 
--- a change that takes no reason to stay away, and makes no node without one
+-- a change that takes no reason to stay away, and makes no node without one, nor under a name that was given
 abbrev pub KeepsNodes : World → Change → Type 0
 KeepsNodes w (EditHeader n f) = KeepsEntered f
-KeepsNodes w (MakeNode n s node) = (is_entered node.header ≡ true) × (i : ServerInfo) × (server_at w s ≡ Some i)
+KeepsNodes w (MakeNode n s node) = (is_entered node.header ≡ true) × (home_at w n ≡ None) × (i : ServerInfo) × (server_at w s ≡ Some i)
 KeepsNodes w (EditTask q f) = KeepsRights f
 KeepsNodes w Settle = ⊥
 KeepsNodes w c = Unit {0}
@@ -195,31 +280,69 @@ entered_body : (g : Body → Body) (o : Option Node) → is_entered_at (option_m
 entered_body g None = refl
 entered_body g (Some x) = refl
 
-pub nodes_rest : (c : Change) (w : World) → KeepsNodes w c → NodesRest w → NodesRest (apply c w)
-nodes_rest (EditHeader k f) w q rest = λ n x e.
+-- tasks that keep their rights
+tasks_more : (t : ℕ) (f : Task → Task) (w : World) (s : Name) → KeepsRights f → server_stays w s ≡ true
+    → kept.server_stays (record { held = is_named (edit_task t f w.tasks); controlled = is_controlled (edit_task t f w.tasks) }) (nodes_of w) s ≡ true
+tasks_more t f w s keeps h =
+    server_more (outside w) (record { held = is_named (edit_task t f w.tasks); controlled = is_controlled (edit_task t f w.tasks) }) (nodes_of w) (nodes_of w) s
+    (controlled_still t f w.tasks s keeps) (λ n e. e) (λ n e held. (e, named_still t f w.tasks n keeps held)) h
+
+-- no server loses its reason to stay
+servers_more : (c : Change) (w : World) → KeepsNodes w c → (s : Name) → server_stays w s ≡ true → server_stays (apply c w) s ≡ true
+servers_more (MakeNode k q node) w keeps s h =
+    server_more (outside w) (outside (apply (MakeNode k q node) w)) (nodes_of w) (nodes_of (apply (MakeNode k q node) w)) s (controlled_still k.task.0 (named 1) w.tasks s (λ y r i. i)) (λ n e. e)
+    (λ n e held. (get_apart w.homes k q n (λ same. let none : home_at w n ≡ None = rw same keeps.1 in cc (e)) ∙ e, named_still k.task.0 (named 1) w.tasks n (λ y r i. i) held)) h
+servers_more (MakeOpen o z) w keeps s h = tasks_more o.task.0 (named 1) w s (λ y r i. i) h
+servers_more (EditTask t f) w keeps s h = tasks_more t f w s keeps h
+servers_more (Send r t) w keeps s h = tasks_more t (with_sent r) w s (sent_keeps r) h
+servers_more (EditHeader n f) w keeps s h = h
+servers_more (EditBody n g) w keeps s h = h
+servers_more (EditOpen o f) w keeps s h = h
+servers_more Settle w keeps s h = absurd keeps
+
+-- what stays where the server does
+same_servers : (c : Change) (w : World) → KeepsNodes w c → (n : Name) → home_at (apply c w) n ≡ home_at w n → (apply c w).servers ≡ w.servers
+    → (s : Name) → home_at w n ≡ Some s → server_stays w s ≡ true → (home_at (apply c w) n ≡ Some s) × (server_at (apply c w) s ≡ server_at w s) × (server_stays (apply c w) s ≡ true)
+same_servers c w keeps n homes servers s eh lives = (homes ∙ eh, ap (λ m. get m s) servers, servers_more c w keeps s lives)
+
+nodes_still : (c : Change) (w : World) → KeepsNodes w c → NodesRest w → (n : Name) (x : Node) → get (apply c w).nodes n ≡ Some x → stays (apply c w) n ≡ true
+nodes_still (EditHeader k f) w q rest n x e =
     let y = stood w.nodes k n (with_header f) x e in
-    kept_more (is_named w.tasks) (is_named w.tasks) (nodes_of w) (nodes_of (apply (EditHeader k f) w)) n refl (entered_edit w.nodes k n f q) (λ o. o) (rest n y.0 y.1)
-nodes_rest (EditBody k g) w q rest = λ n x e.
+    kept_more (outside w) (outside w) (nodes_of w) (nodes_of (apply (EditHeader k f) w)) n (same_servers (EditHeader k f) w q n refl refl) (entered_edit w.nodes k n f q) (λ o. o) (rest.nodes n y.0 y.1)
+nodes_still (EditBody k g) w q rest n x e =
     let y = stood w.nodes k n (with_body g) x e in
-    kept_more (is_named w.tasks) (is_named w.tasks) (nodes_of w) (nodes_of (apply (EditBody k g) w)) n refl
-    (λ i. edit_keeps is_entered_at (with_body g) (entered_body g) w.nodes k n ∙ i) (λ o. o) (rest n y.0 y.1)
-nodes_rest (MakeNode k s node) w q rest = λ n x e. elim (was w.nodes k n node x e) [
+    kept_more (outside w) (outside w) (nodes_of w) (nodes_of (apply (EditBody k g) w)) n (same_servers (EditBody k g) w q n refl refl)
+    (λ i. edit_keeps is_entered_at (with_body g) (entered_body g) w.nodes k n ∙ i) (λ o. o) (rest.nodes n y.0 y.1)
+nodes_still (MakeNode k s node) w q rest n x e = elim (was w.nodes k n node x e) [
   | inl new ↦
-      let here : info_at (apply (MakeNode k s node) w) n ≡ Some q.1 = rw (new.0) (ap (info_in w.servers) (get_here w.homes k s) ∙ q.2) in
-      stays_entered (apply (MakeNode k s node) w) n q.1 here (rw (new.0) (ap is_entered_at (get_here w.nodes k node) ∙ q.0))
+      subst (λ z. stays (apply (MakeNode k s node) w) z ≡ true) (sym new.0)
+      (stays_entered (apply (MakeNode k s node) w) k s q.2 (get_here w.homes k s) q.3 (servers_more (MakeNode k s node) w q s (rest.servers s q.2 q.3)) (ap is_entered_at (get_here w.nodes k node) ∙ q.0))
   | inr old ↦
-      kept_more (is_named w.tasks) (is_named (edit_task k.task.0 (named 1) w.tasks)) (nodes_of w) (nodes_of (apply (MakeNode k s node) w)) n
-      (ap (info_in w.servers) (get_apart w.homes k s n old.0)) (λ i. ap is_entered_at (get_apart w.nodes k node n old.0) ∙ i)
-      (named_still k.task.0 (named 1) w.tasks n (λ y r h. h)) (rest n x old.1)
+      kept_more (outside w) (outside (apply (MakeNode k s node) w)) (nodes_of w) (nodes_of (apply (MakeNode k s node) w)) n
+      (same_servers (MakeNode k s node) w q n (get_apart w.homes k s n old.0) refl) (λ i. ap is_entered_at (get_apart w.nodes k node n old.0) ∙ i)
+      (named_still k.task.0 (named 1) w.tasks n (λ y r h. h)) (rest.nodes n x old.1)
 ]
-nodes_rest (EditOpen o f) w q rest = rest
-nodes_rest (MakeOpen o z) w q rest = λ n x e.
-    kept_more (is_named w.tasks) (is_named (edit_task o.task.0 (named 1) w.tasks)) (nodes_of w) (nodes_of w) n refl (λ i. i) (named_still o.task.0 (named 1) w.tasks n (λ y r h. h)) (rest n x e)
-nodes_rest (EditTask t f) w q rest = λ n x e.
-    kept_more (is_named w.tasks) (is_named (edit_task t f w.tasks)) (nodes_of w) (nodes_of w) n refl (λ i. i) (named_still t f w.tasks n q) (rest n x e)
-nodes_rest (Send r t) w q rest = λ n x e.
-    kept_more (is_named w.tasks) (is_named (edit_task t (with_sent r) w.tasks)) (nodes_of w) (nodes_of w) n refl (λ i. i) (named_still t (with_sent r) w.tasks n (sent_keeps r)) (rest n x e)
-nodes_rest Settle w q rest = absurd q
+nodes_still (EditOpen o f) w q rest n x e = rest.nodes n x e
+nodes_still (MakeOpen o z) w q rest n x e =
+    kept_more (outside w) (outside (apply (MakeOpen o z) w)) (nodes_of w) (nodes_of w) n (same_servers (MakeOpen o z) w q n refl refl) (λ i. i) (named_still o.task.0 (named 1) w.tasks n (λ y r h. h)) (rest.nodes n x e)
+nodes_still (EditTask t f) w q rest n x e =
+    kept_more (outside w) (outside (apply (EditTask t f) w)) (nodes_of w) (nodes_of w) n (same_servers (EditTask t f) w q n refl refl) (λ i. i) (named_still t f w.tasks n q) (rest.nodes n x e)
+nodes_still (Send r t) w q rest n x e =
+    kept_more (outside w) (outside (apply (Send r t) w)) (nodes_of w) (nodes_of w) n (same_servers (Send r t) w q n refl refl) (λ i. i) (named_still t (with_sent r) w.tasks n (sent_keeps r)) (rest.nodes n x e)
+nodes_still Settle w q rest n x e = absurd q
+
+servers_same : (c : Change) (w : World) → KeepsNodes w c → (apply c w).servers ≡ w.servers
+servers_same Settle w q = absurd q
+servers_same c w q = refl
+
+pub nodes_rest : (c : Change) (w : World) → KeepsNodes w c → NodesRest w → NodesRest (apply c w)
+nodes_rest c w q rest = record {
+  nodes = nodes_still c w q rest;
+  servers = λ s i e. servers_more c w q s (rest.servers s i (sym (ap (λ m. get m s) (servers_same c w q)) ∙ e));
+}
+
+pub nodes_of_rest : {w : World} → AtRest w → NodesRest w
+nodes_of_rest rest = record { nodes = rest.nodes; servers = rest.servers }
 
 -- a change that also makes no open
 abbrev pub IsQuiet : World → Change → Type 0
@@ -249,7 +372,9 @@ opens_rest (EditBody n g) w q settled = settled
 
 pub rests_quiet : (cs : List Change) (w : World) → AreQuiet w cs → Rests w cs
 rests_quiet [] w q rest = rest
-rests_quiet (c ∷ cs) w q rest = rests_quiet cs (apply c w) q.1 (record { nodes = nodes_rest c w (quiet_keeps c w q.0) rest.nodes; opens = opens_rest c w q.0 rest.opens })
+rests_quiet (c ∷ cs) w q rest =
+    let n = nodes_rest c w (quiet_keeps c w q.0) (nodes_of_rest rest) in
+    rests_quiet cs (apply c w) q.1 (record { nodes = n.nodes; servers = n.servers; opens = opens_rest c w q.0 rest.opens })
 
 pub rests_append : (cs ds : List Change) (w : World) → Rests w cs → Rests (apply_all cs w) ds → Rests w (cs ++ ds)
 rests_append cs ds w first then rest = subst AtRest (sym (apply_all-append cs ds w)) (then (first rest))
@@ -280,9 +405,12 @@ module _ (w : World) (t : ℕ) (x : Task) (is : task_at w t ≡ Some x) (n : Nam
   old_held o h = held_still t (with_port (new_right t n ids parents x)) (edit_task t (named 1) w.tasks) o (port_keeps (new_right t n ids parents x)) (held_still t (named 1) w.tasks o (λ y q k. k) h)
 
   pub rests_opening : Rests w (opening t x n ids parents modes)
-  rests_opening rest = record {
-    nodes = nodes_rest (EditTask t (with_port (new_right t n ids parents x))) (apply (MakeOpen (fresh t x) (new_open modes)) w) (port_keeps (new_right t n ids parents x))
-        (nodes_rest (MakeOpen (fresh t x) (new_open modes)) w tt rest.nodes);
+  rests_opening rest =
+      let k = nodes_rest (EditTask t (with_port (new_right t n ids parents x))) (apply (MakeOpen (fresh t x) (new_open modes)) w) (port_keeps (new_right t n ids parents x))
+              (nodes_rest (MakeOpen (fresh t x) (new_open modes)) w tt (nodes_of_rest rest)) in
+      record {
+    nodes = k.nodes;
+    servers = k.servers;
     opens = λ o z e. elim (was w.opens (fresh t x) o (new_open modes) z e) [
       | inl new ↦ subst (λ k. is_held new_tasks k ≡ true) (sym new.0) new_held
       | inr old ↦ old_held o (rest.opens o z old.1)

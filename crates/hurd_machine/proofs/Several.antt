@@ -8,13 +8,14 @@ use Rattle.hurd_ports.specs.declared.table.Right.{Right}
 use Rattle.hurd_ports.specs.declared.table.Right.TheVariants.{Io, Control}
 use Rattle.hurd_ports.specs.Tables.{Task, rights_of, names_open}
 use Rattle.hurd_machine.specs.World.{World, IsAmong, nodes_of, task_at}
-use Rattle.hurd_machine.specs.Sight.{Part, AttrOf, EmptyOf, BodyOf, OpenOf, part, count_list, count_rights, holders, AnAttr, AnEmpty, ABody, AnOpen}
+use Rattle.hurd_nodes.specs.Weights.{count_list}
+use Rattle.hurd_machine.specs.Sight.{Part, AttrOf, EmptyOf, BodyOf, OpenOf, part, count_rights, holders, AnAttr, AnEmpty, ABody, AnOpen}
 use Rattle.hurd_machine.specs.Change.{Change, Settle, settle, apply, apply_all}
 use Rattle.hurd_machine.specs.Sound.{Below, Coherent, Linked}
 use Rattle.hurd_machine.proofs.Views.{Agree, Agree-sym, Agree-trans, same_tasks}
-use Rattle.hurd_machine.proofs.Nodes.{header_in, body_in, empty_in}
+use Rattle.hurd_machine.proofs.Nodes.{attr_same, header_in, body_in, empty_in}
 use Rattle.hurd_machine.proofs.Tasks.{count_alike}
-use Rattle.hurd_machine.proofs.Coherence.{right_old, no_node, no_open, Proper, AllProper, coherent_one, no_home}
+use Rattle.hurd_machine.proofs.Coherence.{right_old, no_node, no_open, Proper, AllProper, coherent_one, no_home, no_active}
 use Rattle.hurd_machine.proofs.Frame.{IsExact, length_one}
 use Rattle.hurd_machine.proofs.Settle.{settle_agrees}
 use Rattle.hurd_machine.proofs.Confine.{NewTo, NewPart, Inside, Inside-refl, sees_inside}
@@ -51,7 +52,7 @@ no_holders w c o new =
 new_same : {S : ℕ → Bool} {v w : World} → Coherent v → Coherent w → Agree S v w → (p : Part) → NewPart S v p → part w p ≡ part v p
 new_same {S} {v} {w} cv cw a (AttrOf n) new =
     let out = new_there a n new in
-    ap₂ (λ (o : Option Node) (k : Option Name). AnAttr (header_in o) k) (no_node cw n out ∙ sym (no_node cv n new.1)) (no_home cw n out ∙ sym (no_home cv n new.1))
+    attr_same (ap header_in (no_node cw n out ∙ sym (no_node cv n new.1))) (no_home cw n out ∙ sym (no_home cv n new.1)) (no_active cw n out ∙ sym (no_active cv n new.1))
 new_same cv cw a (EmptyOf n) new = ap (λ (o : Option Node). AnEmpty (empty_in o)) (no_node cw n (new_there a n new) ∙ sym (no_node cv n new.1))
 new_same cv cw a (BodyOf n) new = ap (λ (o : Option Node). ABody (body_in o)) (no_node cw n (new_there a n new) ∙ sym (no_node cv n new.1))
 new_same {S} {v} {w} cv cw a (OpenOf o) new =

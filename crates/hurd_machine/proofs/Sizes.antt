@@ -14,7 +14,8 @@ use Rattle.hurd_nodes.specs.Shown.{ServerInfo, info_in, asked_of}
 use Rattle.hurd_machine.specs.World.{World, nodes_of, server_at, info_at, asked_at}
 use Rattle.hurd_machine.specs.Change.{Change, EditHeader, EditBody, MakeNode, Settle, apply, apply_all, changes_of}
 use Rattle.hurd_machine.specs.Sound.{Coherent, AreSized}
-use Rattle.hurd_machine.proofs.Stays.{node_left, home_still}
+use Rattle.hurd_machine.proofs.Stays.{sweep, node_left, info_still}
+use Rattle.hurd_machine.proofs.Sweeps.{settle_by}
 use Rattle.hurd_machine.proofs.Nodes.{edited_from}
 use Rattle.hurd_machine.proofs.Coherence.{was, apply_all-append}
 
@@ -59,9 +60,10 @@ sized_ports cs w p sized = subst AreSized (sym (nodes-ports cs w p)) sized
 
 -- what is left once a world is settled has the size that it had
 pub sized_settle : (w : World) → KeepsSized w (Settle ∷ [])
-sized_settle w sized n x i e ei =
-    let l = node_left w n x e in
-    sized n x i l.0 (sym (ap (info_in w.servers) (home_still w n l.1)) ∙ ei)
+sized_settle w sized = settle_by (λ x. AreSized (nodes_of x)) each (λ x s. s) w sized
+  where
+    each : (x : World) → AreSized (nodes_of x) → AreSized (nodes_of (sweep x))
+    each x s n y i e ei = let l = node_left x n y e in s n y i l.0 (sym (info_still x n l.1) ∙ ei)
 
 -- what a server makes of a node
 

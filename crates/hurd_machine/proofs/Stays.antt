@@ -1,80 +1,154 @@
--- Which nodes stay, and what is read of them once a world is settled.
-use Rattle.std.proofs.Common.{◌≡◌, ◌⊎◌, ℕ, Bool, true, false, List, [], ◌∷◌, Option, Some, None, sym, refl, ◌∙◌, ap, inl, inr}
+-- Which nodes and servers stay, and what is read of them after a sweep.
+use Rattle.std.proofs.Common.{◌≡◌, ◌⊎◌, ℕ, Bool, true, false, List, [], ◌∷◌, Option, Some, None, sym, refl, ◌∙◌, ap, subst, inl, inr}
 use Rattle.std.proofs.lemmas.Bool.{or_cases, or_left, or_right}
+use Rattle.std.specs.Prelude.{◌&&◌}
 use Rattle.std.specs.FinMap.{get}
 use Rattle.hurd_creds.specs.declared.name.Name.{Name}
-use Rattle.hurd_creds.proofs.NameLaws.{same_name-itself}
+use Rattle.hurd_creds.proofs.NameLaws.{same_name-itself, equal_if_same}
 use Rattle.hurd_creds.specs.Names.{same_name}
 use Rattle.hurd_trans_iface.specs.Nodes.{Node, Header}
-use Rattle.hurd_nodes.specs.Shown.{NodeState, ServerInfo, is_root, is_root_at, is_root_of, info_in, server_of}
-use Rattle.hurd_nodes.specs.Settle.{is_entered, is_entered_at, stays_with}
+use Rattle.hurd_nodes.specs.Shown.{NodeState, ServerInfo, boot_name, is_root, is_root_at, is_root_of, info_in}
+use Rattle.hurd_nodes.specs.Settle.{Outside, any_in, is_entered_at, node_stays, stays_by, stays_with}
+use Rattle.hurd_nodes.proofs.PartLaws.{and_both, and_true, any_in-here, any_in-found}
 use Rattle.hurd_nodes.specs.Settle as kept
 use Rattle.hurd_ports.specs.declared.parents.Parent.{Parent as Pair}
 use Rattle.hurd_ports.specs.declared.table.Right.{Right}
-use Rattle.hurd_ports.specs.Tables.{Task, rights_of, nodes_of as nodes_named, ways_of, is_named}
-use Rattle.hurd_machine.specs.World.{World, IsAmong, nodes_of, task_at, header_at, body_at, home_at, server_at, info_at, is_server_root, lists_at}
-use Rattle.hurd_machine.specs.Change.{stays, settle}
+use Rattle.hurd_ports.specs.declared.table.Right.TheVariants.{Control}
+use Rattle.hurd_ports.specs.Tables.{Task, rights_of, nodes_of as nodes_named, ways_of}
+use Rattle.hurd_machine.specs.World.{World, IsAmong, world_from, nodes_of, ports_of, task_at, header_at, body_at, home_at, active_at, server_at, info_at, is_server_root, lists_at}
+use Rattle.hurd_machine.specs.Change.{outside, stays, server_stays}
 use Rattle.hurd_machine.proofs.Nodes.{header_in, body_in, node_of_header}
-use Rattle.hurd_machine.proofs.Holders.{named_by_right}
+use Rattle.hurd_machine.proofs.Holders.{named_by_right, controlled_by_right}
 use Rattle.hurd_machine.proofs.Retained.{retained, dropped, was_retained, none_retained}
 
 -- the reasons
 
--- its server is there, and it is that server's root, entered, or held
-pub record IsKept (held : Name → Bool) (h : NodeState) (n : Name) : Type 0 where
-  pub info : ServerInfo
-  pub is_info : server_of h n ≡ Some info
-  pub why : (same_name n info.root ≡ true) ⊎ ((is_entered_at (get h.nodes n) ≡ true) ⊎ (held n ≡ true))
+-- a server stays: it is the boot server, controlled, active on a node, or has a node that is held
+pub data Keeps (o : Outside) (h : NodeState) (s : Name) : Type 0 where
+  IsBoot : s ≡ boot_name → Keeps o h s
+  IsControlled : o.controlled s ≡ true → Keeps o h s
+  IsActive : (n : Name) → get h.actives n ≡ Some s → Keeps o h s
+  HasHeld : (n : Name) → get h.homes n ≡ Some s → o.held n ≡ true → Keeps o h s
 
-pub kept_why : (held : Name → Bool) (h : NodeState) (n : Name) → kept.stays held h n ≡ true → IsKept held h n
-kept_why held h n = go (server_of h n) refl
-  where
-    go : (o : Option ServerInfo) → server_of h n ≡ o → stays_with held h n o ≡ true → IsKept held h n
-    go None e is = absurd (cc)
-    go (Some i) e is = record {
-      info = i;
-      is_info = e;
-      why = elim (or_cases (same_name n i.root) _ is) [ inl k ↦ inl k | inr k ↦ inr (or_cases (is_entered_at (get h.nodes n)) (held n) k) ];
-    }
+abbrev names_it : Name → Name → Name → Bool
+names_it s n q = same_name s q
 
-pub kept_by : (held : Name → Bool) (h : NodeState) (n : Name) → IsKept held h n → kept.stays held h n ≡ true
-kept_by held h n k = ap (stays_with held h n) k.is_info ∙ elim k.why [
-  | inl root ↦ or_left (same_name n k.info.root) _ root
-  | inr l ↦ or_right (same_name n k.info.root) _ (elim l [ inl e ↦ or_left (is_entered_at (get h.nodes n)) _ e | inr o ↦ or_right (is_entered_at (get h.nodes n)) _ o ])
+abbrev names_held : Outside → Name → Name → Name → Bool
+names_held o s n q = same_name s q && o.held n
+
+pub server_why : (o : Outside) (h : NodeState) (s : Name) → kept.server_stays o h s ≡ true → Keeps o h s
+server_why o h s is = elim (or_cases (same_name s boot_name) _ is) [
+  | inl boot ↦ IsBoot (equal_if_same s boot_name boot)
+  | inr more ↦ elim (or_cases (o.controlled s) _ more) [
+    | inl c ↦ IsControlled c
+    | inr most ↦ elim (or_cases (any_in (names_it s) h.actives) _ most) [
+      | inl a ↦ let f = any_in-found (names_it s) h.actives a in IsActive f.name (f.is ∙ ap Some (sym (equal_if_same s f.item f.holds)))
+      | inr u ↦
+          let f = any_in-found (names_held o s) h.homes u in
+          let both = and_both (same_name s f.item) (o.held f.name) f.holds in
+          HasHeld f.name (f.is ∙ ap Some (sym (equal_if_same s f.item both.0))) both.1
+    ]
+  ]
 ]
 
--- what is kept here is kept there, where its server is the same and each other reason is one there
-pub kept_more : (f g : Name → Bool) (h k : NodeState) (n : Name)
-    → server_of k n ≡ server_of h n → (is_entered_at (get h.nodes n) ≡ true → is_entered_at (get k.nodes n) ≡ true) → (f n ≡ true → g n ≡ true)
-    → kept.stays f h n ≡ true → kept.stays g k n ≡ true
-kept_more f g h k n server entered held e =
-    let l = kept_why f h n e in
-    kept_by g k n (record {
+pub server_by : (o : Outside) (h : NodeState) (s : Name) → Keeps o h s → kept.server_stays o h s ≡ true
+server_by o h s (IsBoot e) = or_left (same_name s boot_name) _ (rw e (same_name-itself boot_name))
+server_by o h s (IsControlled c) = or_right (same_name s boot_name) _ (or_left (o.controlled s) _ c)
+server_by o h s (IsActive n e) =
+    or_right (same_name s boot_name) _ (or_right (o.controlled s) _ (or_left (any_in (names_it s) h.actives) _ (any_in-here (names_it s) h.actives n s e (same_name-itself s))))
+server_by o h s (HasHeld n e k) =
+    or_right (same_name s boot_name) _ (or_right (o.controlled s) _ (or_right (any_in (names_it s) h.actives) _
+    (any_in-here (names_held o s) h.homes n s e (and_true (same_name s s) (o.held n) (same_name-itself s) k))))
+
+-- a server that stays here stays there, where each reason is one there
+pub server_more : (o p : Outside) (h k : NodeState) (s : Name) → (o.controlled s ≡ true → p.controlled s ≡ true)
+    → ((n : Name) → get h.actives n ≡ Some s → get k.actives n ≡ Some s) → ((n : Name) → get h.homes n ≡ Some s → o.held n ≡ true → (get k.homes n ≡ Some s) × (p.held n ≡ true))
+    → kept.server_stays o h s ≡ true → kept.server_stays p k s ≡ true
+server_more o p h k s controlled active used is = go (server_why o h s is)
+  where
+    go : Keeps o h s → kept.server_stays p k s ≡ true
+    go (IsBoot e) = server_by p k s (IsBoot e)
+    go (IsControlled c) = server_by p k s (IsControlled (controlled c))
+    go (IsActive n e) = server_by p k s (IsActive n (active n e))
+    go (HasHeld n e held) = let u = used n e held in server_by p k s (HasHeld n u.0 u.1)
+
+-- a node stays: its server does, and it is that server's root, entered, or held
+pub record IsKept (o : Outside) (h : NodeState) (n : Name) : Type 0 where
+  pub server : Name
+  pub info : ServerInfo
+  pub is_home : get h.homes n ≡ Some server
+  pub is_info : get h.servers server ≡ Some info
+  pub lives : kept.server_stays o h server ≡ true
+  pub why : (same_name n info.root ≡ true) ⊎ ((is_entered_at (get h.nodes n) ≡ true) ⊎ (o.held n ≡ true))
+
+pub kept_why : (o : Outside) (h : NodeState) (n : Name) → node_stays o h n ≡ true → IsKept o h n
+kept_why o h n = by_home (get h.homes n) refl
+  where
+    by_info : (s : Name) → get h.homes n ≡ Some s → (i : Option ServerInfo) → get h.servers s ≡ i → stays_with o h n s i ≡ true → IsKept o h n
+    by_info s eh None ei is = absurd (cc)
+    by_info s eh (Some i) ei is =
+        let both = and_both (kept.server_stays o h s) _ is in
+        record {
+          server = s;
+          info = i;
+          is_home = eh;
+          is_info = ei;
+          lives = both.0;
+          why = elim (or_cases (same_name n i.root) _ both.1) [ inl k ↦ inl k | inr k ↦ inr (or_cases (is_entered_at (get h.nodes n)) (o.held n) k) ];
+        }
+
+    by_home : (z : Option Name) → get h.homes n ≡ z → stays_by o h n z ≡ true → IsKept o h n
+    by_home None e is = absurd (cc)
+    by_home (Some s) e is = by_info s e (get h.servers s) refl is
+
+pub kept_by : (o : Outside) (h : NodeState) (n : Name) → IsKept o h n → node_stays o h n ≡ true
+kept_by o h n k = ap (stays_by o h n) k.is_home ∙ ap (stays_with o h n k.server) k.is_info ∙ and_true (kept.server_stays o h k.server) _ k.lives (elim k.why [
+  | inl root ↦ or_left (same_name n k.info.root) _ root
+  | inr l ↦ or_right (same_name n k.info.root) _ (elim l [ inl e ↦ or_left (is_entered_at (get h.nodes n)) _ e | inr held ↦ or_right (is_entered_at (get h.nodes n)) _ held ])
+])
+
+-- what is kept here is kept there, where its server is the same and stays, and each other reason is one there
+pub kept_more : (o p : Outside) (h k : NodeState) (n : Name)
+    → ((s : Name) → get h.homes n ≡ Some s → kept.server_stays o h s ≡ true → (get k.homes n ≡ Some s) × (get k.servers s ≡ get h.servers s) × (kept.server_stays p k s ≡ true))
+    → (is_entered_at (get h.nodes n) ≡ true → is_entered_at (get k.nodes n) ≡ true) → (o.held n ≡ true → p.held n ≡ true)
+    → node_stays o h n ≡ true → node_stays p k n ≡ true
+kept_more o p h k n server entered held e =
+    let l = kept_why o h n e in
+    let s = server l.server l.is_home l.lives in
+    kept_by p k n (record {
+      server = l.server;
       info = l.info;
-      is_info = server ∙ l.is_info;
-      why = elim l.why [ inl root ↦ inl root | inr r ↦ inr (elim r [ inl i ↦ inl (entered i) | inr o ↦ inr (held o) ]) ];
+      is_home = s.0;
+      is_info = s.1 ∙ l.is_info;
+      lives = s.2;
+      why = elim l.why [ inl root ↦ inl root | inr r ↦ inr (elim r [ inl i ↦ inl (entered i) | inr z ↦ inr (held z) ]) ];
     })
 
+-- the server of a node that stays does
+pub lives_at : (w : World) (n s : Name) → stays w n ≡ true → home_at w n ≡ Some s → server_stays w s ≡ true
+lives_at w n s is eh =
+    let k = kept_why (outside w) (nodes_of w) n is in
+    let same : k.server ≡ s = cc (k.is_home, eh) in
+    subst (λ (q : Name). server_stays w q ≡ true) same k.lives
+
 -- a server's root, which is a node of its own
-pub stays_root : (w : World) (s : Name) (i : ServerInfo) → server_at w s ≡ Some i → home_at w i.root ≡ Some s → stays w i.root ≡ true
-stays_root w s i es eh = kept_by (is_named w.tasks) (nodes_of w) i.root (record { info = i; is_info = ap (info_in w.servers) eh ∙ es; why = inl (same_name-itself i.root) })
+pub stays_root : (w : World) (s : Name) (i : ServerInfo) → server_at w s ≡ Some i → home_at w i.root ≡ Some s → server_stays w s ≡ true → stays w i.root ≡ true
+stays_root w s i es eh lives = kept_by (outside w) (nodes_of w) i.root (record { server = s; info = i; is_home = eh; is_info = es; lives = lives; why = inl (same_name-itself i.root) })
 
 pub root_is_root : (h : NodeState) (s : Name) (i : ServerInfo) → get h.servers s ≡ Some i → get h.homes i.root ≡ Some s → is_root h i.root ≡ true
 root_is_root h s i es eh = rw (eh, es) (same_name-itself i.root)
 
-root_why : (h : NodeState) (n : Name) → is_root h n ≡ true → (i : ServerInfo) × (server_of h n ≡ Some i) × (same_name n i.root ≡ true)
-root_why h n = by_home (get h.homes n) refl
+root_why : (h : NodeState) (n s : Name) → get h.homes n ≡ Some s → is_root h n ≡ true → (i : ServerInfo) × (get h.servers s ≡ Some i) × (same_name n i.root ≡ true)
+root_why h n s eh is = by_info (get h.servers s) refl (sym (ap (is_root_of h.servers n) eh) ∙ is)
   where
-    by_info : (s : Name) → get h.homes n ≡ Some s → (o : Option ServerInfo) → get h.servers s ≡ o → is_root_at n o ≡ true → (i : ServerInfo) × (server_of h n ≡ Some i) × (same_name n i.root ≡ true)
-    by_info s eh None es is = absurd (cc)
-    by_info s eh (Some i) es is = (i, ap (info_in h.servers) eh ∙ es, is)
+    by_info : (o : Option ServerInfo) → get h.servers s ≡ o → is_root_at n o ≡ true → (i : ServerInfo) × (get h.servers s ≡ Some i) × (same_name n i.root ≡ true)
+    by_info None es is = absurd (cc)
+    by_info (Some i) es is = (i, es, is)
 
-    by_home : (o : Option Name) → get h.homes n ≡ o → is_root_of h.servers n o ≡ true → (i : ServerInfo) × (server_of h n ≡ Some i) × (same_name n i.root ≡ true)
-    by_home None eh is = absurd (cc)
-    by_home (Some s) eh is = by_info s eh (get h.servers s) refl is
-
-pub stays_as_root : (w : World) (n : Name) → is_server_root w n ≡ true → stays w n ≡ true
-stays_as_root w n is = let r = root_why (nodes_of w) n is in kept_by (is_named w.tasks) (nodes_of w) n (record { info = r.0; is_info = r.1; why = inl r.2 })
+pub stays_as_root : (w : World) (n s : Name) → home_at w n ≡ Some s → server_stays w s ≡ true → is_server_root w n ≡ true → stays w n ≡ true
+stays_as_root w n s eh lives is =
+    let r = root_why (nodes_of w) n s eh is in
+    kept_by (outside w) (nodes_of w) n (record { server = s; info = r.0; is_home = eh; is_info = r.1; lives = lives; why = inl r.2 })
 
 -- both nodes of a way are among those of its list
 pub way_at : (p : Pair) (ps : List Pair) → IsAmong p ps → IsAmong p.at (ways_of ps)
@@ -94,57 +168,113 @@ way_with n (q ∷ ps) (inl e) = (q, inl refl, inl (sym e))
 way_with n (q ∷ ps) (inr (inl e)) = (q, inl refl, inr (sym e))
 way_with n (q ∷ ps) (inr (inr i)) = let p = way_with n ps i in (p.0, inr p.1, p.2)
 
--- what is entered, or named by a right, and has a server
-pub stays_entered : (w : World) (n : Name) (i : ServerInfo) → info_at w n ≡ Some i → is_entered_at (get w.nodes n) ≡ true → stays w n ≡ true
-stays_entered w n i is e = kept_by (is_named w.tasks) (nodes_of w) n (record { info = i; is_info = is; why = inr (inl e) })
+-- a node that a right names keeps its server
+pub lives_named : (w : World) (t : ℕ) (x : Task) (r : Right) (n s : Name) → task_at w t ≡ Some x → IsAmong r (rights_of x) → IsAmong n (nodes_named r) → home_at w n ≡ Some s → server_stays w s ≡ true
+lives_named w t x r n s at h named eh = server_by (outside w) (nodes_of w) s (HasHeld n eh (named_by_right w.tasks t x r n at h named))
 
-pub stays_named : (w : World) (t : ℕ) (x : Task) (r : Right) (n : Name) (i : ServerInfo) → task_at w t ≡ Some x → IsAmong r (rights_of x) → IsAmong n (nodes_named r) → info_at w n ≡ Some i → stays w n ≡ true
-stays_named w t x r n i at h named is = kept_by (is_named w.tasks) (nodes_of w) n (record { info = i; is_info = is; why = inr (inr (named_by_right w.tasks t x r n at h named)) })
+-- so does a node that it is active on
+pub lives_active : (w : World) (n s : Name) → active_at w n ≡ Some s → server_stays w s ≡ true
+lives_active w n s e = server_by (outside w) (nodes_of w) s (IsActive n e)
 
--- what is left
+pub lives_controlled : (w : World) (t : ℕ) (x : Task) (s : Name) → task_at w t ≡ Some x → IsAmong (Control s) (rights_of x) → server_stays w s ≡ true
+lives_controlled w t x s at h = server_by (outside w) (nodes_of w) s (IsControlled (controlled_by_right w.tasks t x s at h))
+
+pub lives_boot : (w : World) → server_stays w boot_name ≡ true
+lives_boot w = server_by (outside w) (nodes_of w) boot_name (IsBoot refl)
+
+-- what is entered, and whose server stays
+pub stays_entered : (w : World) (n s : Name) (i : ServerInfo) → home_at w n ≡ Some s → server_at w s ≡ Some i → server_stays w s ≡ true → is_entered_at (get w.nodes n) ≡ true → stays w n ≡ true
+stays_entered w n s i eh es lives e = kept_by (outside w) (nodes_of w) n (record { server = s; info = i; is_home = eh; is_info = es; lives = lives; why = inr (inl e) })
+
+-- what a right names, and has a server
+pub stays_named : (w : World) (t : ℕ) (x : Task) (r : Right) (n s : Name) (i : ServerInfo) → task_at w t ≡ Some x → IsAmong r (rights_of x) → IsAmong n (nodes_named r)
+    → home_at w n ≡ Some s → server_at w s ≡ Some i → stays w n ≡ true
+stays_named w t x r n s i at h named eh es =
+    kept_by (outside w) (nodes_of w) n (record {
+      server = s;
+      info = i;
+      is_home = eh;
+      is_info = es;
+      lives = lives_named w t x r n s at h named eh;
+      why = inr (inr (named_by_right w.tasks t x r n at h named));
+    })
+
+-- the world after one sweep: without what doesn't stay, though with what stayed for the sake of that
+abbrev pub sweep : World → World
+sweep w = world_from (kept.sweep (outside w) (nodes_of w)) (ports_of w)
+
+-- what is left of it
 
 module _ (w : World) (n : Name) where
-  pub node_still : stays w n ≡ true → get (settle w).nodes n ≡ get w.nodes n
+  pub node_still : stays w n ≡ true → get (sweep w).nodes n ≡ get w.nodes n
   node_still h = retained w.nodes (stays w) n h
 
-  pub home_still : stays w n ≡ true → home_at (settle w) n ≡ home_at w n
+  pub home_still : stays w n ≡ true → home_at (sweep w) n ≡ home_at w n
   home_still h = retained w.homes (stays w) n h
 
-  pub root_still : stays w n ≡ true → is_server_root (settle w) n ≡ is_server_root w n
-  root_still h = ap (is_root_of w.servers n) (home_still h)
+  pub active_still : stays w n ≡ true → active_at (sweep w) n ≡ active_at w n
+  active_still h = retained w.actives (stays w) n h
 
-  pub info_still : stays w n ≡ true → info_at (settle w) n ≡ info_at w n
-  info_still h = ap (info_in w.servers) (home_still h)
+  pub server_still : server_stays w n ≡ true → server_at (sweep w) n ≡ server_at w n
+  server_still h = retained w.servers (server_stays w) n h
 
-  pub node_gone : stays w n ≡ false → get (settle w).nodes n ≡ None
+  pub info_still : stays w n ≡ true → info_at (sweep w) n ≡ info_at w n
+  info_still h =
+      let k = kept_why (outside w) (nodes_of w) n h in
+      ap (info_in (sweep w).servers) (home_still h ∙ k.is_home) ∙ retained w.servers (server_stays w) k.server k.lives ∙ sym (ap (info_in w.servers) k.is_home)
+
+  pub root_still : stays w n ≡ true → is_server_root (sweep w) n ≡ is_server_root w n
+  root_still h =
+      let k = kept_why (outside w) (nodes_of w) n h in
+      ap (is_root_of (sweep w).servers n) (home_still h ∙ k.is_home) ∙ ap (is_root_at n) (retained w.servers (server_stays w) k.server k.lives) ∙ sym (ap (is_root_of w.servers n) k.is_home)
+
+  pub node_gone : stays w n ≡ false → get (sweep w).nodes n ≡ None
   node_gone h = dropped w.nodes (stays w) n h
 
-  pub home_gone : stays w n ≡ false → home_at (settle w) n ≡ None
+  pub home_gone : stays w n ≡ false → home_at (sweep w) n ≡ None
   home_gone h = dropped w.homes (stays w) n h
 
-  pub node_left : (x : Node) → get (settle w).nodes n ≡ Some x → (get w.nodes n ≡ Some x) × (stays w n ≡ true)
+  pub active_gone : stays w n ≡ false → active_at (sweep w) n ≡ None
+  active_gone h = dropped w.actives (stays w) n h
+
+  pub server_gone : server_stays w n ≡ false → server_at (sweep w) n ≡ None
+  server_gone h = dropped w.servers (server_stays w) n h
+
+  pub node_left : (x : Node) → get (sweep w).nodes n ≡ Some x → (get w.nodes n ≡ Some x) × (stays w n ≡ true)
   node_left x e = was_retained w.nodes (stays w) n x e
 
-  pub home_left : (s : Name) → home_at (settle w) n ≡ Some s → (home_at w n ≡ Some s) × (stays w n ≡ true)
+  pub home_left : (s : Name) → home_at (sweep w) n ≡ Some s → (home_at w n ≡ Some s) × (stays w n ≡ true)
   home_left s e = was_retained w.homes (stays w) n s e
 
-  pub header_left : (h : Header) → header_at (settle w) n ≡ Some h → (header_at w n ≡ Some h) × (stays w n ≡ true)
+  pub active_left : (s : Name) → active_at (sweep w) n ≡ Some s → (active_at w n ≡ Some s) × (stays w n ≡ true)
+  active_left s e = was_retained w.actives (stays w) n s e
+
+  pub server_left : (i : ServerInfo) → server_at (sweep w) n ≡ Some i → (server_at w n ≡ Some i) × (server_stays w n ≡ true)
+  server_left i e = was_retained w.servers (server_stays w) n i e
+
+  pub header_left : (h : Header) → header_at (sweep w) n ≡ Some h → (header_at w n ≡ Some h) × (stays w n ≡ true)
   header_left h e =
-      let x = node_of_header (get (settle w).nodes n) h e in
+      let x = node_of_header (get (sweep w).nodes n) h e in
       let l = node_left x.0 x.1 in
       (ap header_in l.0 ∙ ap (λ (z : Header). Some z) x.2, l.1)
 
-  pub lists_left : (m : Name) → lists_at m (body_at (settle w) n) ≡ true → (lists_at m (body_at w n) ≡ true) × (stays w n ≡ true)
-  lists_left m e = go (get (settle w).nodes n) refl
+  pub lists_left : (m : Name) → lists_at m (body_at (sweep w) n) ≡ true → (lists_at m (body_at w n) ≡ true) × (stays w n ≡ true)
+  lists_left m e = go (get (sweep w).nodes n) refl
     where
-      go : (o : Option Node) → get (settle w).nodes n ≡ o → (lists_at m (body_at w n) ≡ true) × (stays w n ≡ true)
+      go : (o : Option Node) → get (sweep w).nodes n ≡ o → (lists_at m (body_at w n) ≡ true) × (stays w n ≡ true)
       go None k = let none : false ≡ true = sym (ap (λ o. lists_at m (body_in o)) k) ∙ e in absurd (cc)
       go (Some x) k =
           let l = node_left x k in
           (ap (λ o. lists_at m (body_in o)) l.0 ∙ sym (ap (λ o. lists_at m (body_in o)) k) ∙ e, l.1)
 
-  pub none_left : get w.nodes n ≡ None → get (settle w).nodes n ≡ None
+  pub none_left : get w.nodes n ≡ None → get (sweep w).nodes n ≡ None
   none_left e = none_retained w.nodes (stays w) n e
 
-  pub no_home_left : home_at w n ≡ None → home_at (settle w) n ≡ None
+  pub no_home_left : home_at w n ≡ None → home_at (sweep w) n ≡ None
   no_home_left e = none_retained w.homes (stays w) n e
+
+  pub no_active_left : active_at w n ≡ None → active_at (sweep w) n ≡ None
+  no_active_left e = none_retained w.actives (stays w) n e
+
+  pub no_server_left : server_at w n ≡ None → server_at (sweep w) n ≡ None
+  no_server_left e = none_retained w.servers (server_stays w) n e

@@ -7,7 +7,8 @@ use Rattle.hurd_ports.specs.Tables.{Task, rights_of}
 use Rattle.hurd_ports.specs.Steps.{named, with_sent, edit_at, edit_task}
 use Rattle.hurd_ports.proofs.TaskLaws.{one_or_other, set-cases, edit-found, edit-here, edit-apart}
 use Rattle.hurd_machine.specs.World.{World, IsAmong, task_at}
-use Rattle.hurd_machine.specs.Sight.{one_if, weigh_list, weigh_rights, count_list, count_rights}
+use Rattle.hurd_nodes.specs.Weights.{one_if, weigh_list, count_list}
+use Rattle.hurd_machine.specs.Sight.{weigh_rights, count_rights}
 use Rattle.hurd_machine.specs.Sound.{Below}
 
 -- a task afterwards is the changed one, or was there

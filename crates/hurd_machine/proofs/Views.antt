@@ -11,15 +11,16 @@ use Rattle.hurd_nodes.specs.Shown.{ServerInfo}
 use Rattle.hurd_ports.specs.declared.table.IoRight.{IoRight}
 use Rattle.hurd_ports.specs.declared.table.Right.{Right}
 use Rattle.hurd_ports.specs.declared.table.Right.TheVariants.{Io, Control}
-use Rattle.hurd_machine.specs.World.{World, task_at, open_at, header_at, body_at, home_at, server_at}
-use Rattle.hurd_machine.specs.Sight.{Holds, HasUid, UidOfTask, UidOfRight, HasGid, GidOfTask, GidOfRight, Taken, Could, Owns, Allowed, CouldServe}
-use Rattle.hurd_machine.specs.Sight.{Seen, Root, Held, Way, Controlled, Child, Parent, ServerRoot, Sends, ByControl, ByNode, Knows, OfNode, OfControl, SeesBody, ToRead, ToSearch, IsOpen, SeesEmpty, ByBody, ByParent}
+use Rattle.hurd_machine.specs.World.{World, task_at, open_at, header_at, body_at, home_at, active_at, server_at}
+use Rattle.hurd_machine.specs.Sight.{Holds, HasUid, UidOfTask, UidOfRight, HasGid, GidOfTask, GidOfRight, Taken, Could, Owns, OwnsIt, Allowed, CouldServe}
+use Rattle.hurd_machine.specs.Sight.{Seen, Root, Held, Way, Controlled, Child, Parent, Active, ServerRoot, Sends, ByControl, ByNode, BySeat, Knows, OfNode, OfSeat, OfControl, SeesBody, ToRead, ToSearch, IsOpen, SeesEmpty, ByBody, ByParent}
 use Rattle.hurd_machine.specs.Sight.{Part, AttrOf, EmptyOf, BodyOf, OpenOf, OptionsOf, UsersOf, TaskOf, Sees, part, SameView}
 
 -- a server that S may send away it knows
 pub knows_of : (S : ℕ → Bool) (w : World) (s : Name) (i : ServerInfo) → Sends S w s i → Knows S w s
 knows_of S w s i (ByControl h) = OfControl h
 knows_of S w s i (ByNode n sn en could) = OfNode n sn en
+knows_of S w s i (BySeat n h sn en eh owns) = OfSeat n sn en
 
 -- the parts that S sees in v are the same in w
 pub record Agree (S : ℕ → Bool) (v w : World) : Type 0 where
@@ -53,6 +54,9 @@ module _ {S : ℕ → Bool} (v w : World) (same : SameTasks S v w) where
   Could-kept h want (Owns u has is) = Owns u (HasUid-kept u has) is
   Could-kept h want (Allowed ids taken may) = Allowed ids (Taken-kept ids taken) may
 
+  pub OwnsIt-kept : (h : Header) → OwnsIt S v h → OwnsIt S w h
+  OwnsIt-kept h o = (o.0, HasUid-kept o.0 o.1, o.2)
+
   pub CouldServe-kept : (i : ServerInfo) → CouldServe S v i → CouldServe S w i
   CouldServe-kept i c = (c.0, HasUid-kept c.0 c.1, c.2)
 
@@ -65,6 +69,9 @@ module _ {S : ℕ → Bool} {v w : World} (a : Agree S v w) where
 
   pub home_same : (n : Name) → Seen S v n → home_at w n ≡ home_at v n
   home_same n s = let e = a.parts (AttrOf n) s in cc
+
+  pub active_same : (n : Name) → Seen S v n → active_at w n ≡ active_at v n
+  active_same n s = let e = a.parts (AttrOf n) s in cc
 
   pub body_same : (n : Name) → Sees S v (BodyOf n) → body_at w n ≡ body_at v n
   body_same n s = let e = a.parts (BodyOf n) s in cc
@@ -89,6 +96,7 @@ module _ {S : ℕ → Bool} {v w : World} (a : Agree S v w) where
       Child d h name (Seen-kept d s) (header_same d s ∙ eh) k (Could-kept v w same_tasks h Exec c)
       (ap (entry_of name) (body_same d (s, h, eh, ToSearch k c)) ∙ en)
   Seen-kept n (Parent d h s eh ep) = Parent d h (Seen-kept d s) (header_same d s ∙ eh) ep
+  Seen-kept n (Active m s i sm em es e) = Active m s i (Seen-kept m sm) (active_same m sm ∙ em) (server_known s (OfSeat m sm em) ∙ es) e
   Seen-kept n (ServerRoot m s i sm em es c e) =
       ServerRoot m s i (Seen-kept m sm) (home_same m sm ∙ em) (server_same m s sm em ∙ es) (CouldServe-kept v w same_tasks i c) e
 
@@ -104,11 +112,13 @@ module _ {S : ℕ → Bool} {v w : World} (a : Agree S v w) where
 
   Knows-kept : (s : Name) → Knows S v s → Knows S w s
   Knows-kept s (OfNode n sn en) = OfNode n (Seen-kept n sn) (home_same n sn ∙ en)
+  Knows-kept s (OfSeat n sn en) = OfSeat n (Seen-kept n sn) (active_same n sn ∙ en)
   Knows-kept s (OfControl h) = OfControl (Holds-kept v w same_tasks (Control s) h)
 
   Sends-kept : (s : Name) (i : ServerInfo) → Sends S v s i → Sends S w s i
   Sends-kept s i (ByControl h) = ByControl (Holds-kept v w same_tasks (Control s) h)
   Sends-kept s i (ByNode n sn en could) = ByNode n (Seen-kept n sn) (home_same n sn ∙ en) (CouldServe-kept v w same_tasks i could)
+  Sends-kept s i (BySeat n h sn en eh owns) = BySeat n h (Seen-kept n sn) (active_same n sn ∙ en) (header_same n sn ∙ eh) (OwnsIt-kept v w same_tasks h owns)
 
   pub Sees-kept : (p : Part) → Sees S v p → Sees S w p
   Sees-kept (AttrOf n) s = Seen-kept n s
@@ -140,6 +150,10 @@ module _ {S : ℕ → Bool} {v w : World} (a : Agree S v w) where
       let c' : Could S v h Exec = Could-kept w v back h Exec c in
       Child d h name s' eh' k c' (sym (ap (entry_of name) (body_same d (s', h, eh', ToSearch k c'))) ∙ en)
   Seen-back n (Parent d h s eh ep) = let s' : Seen S v d = Seen-back d s in Parent d h s' (sym (header_same d s') ∙ eh) ep
+  Seen-back n (Active m s i sm em es e) =
+      let sm' : Seen S v m = Seen-back m sm in
+      let em' : active_at v m ≡ Some s = sym (active_same m sm') ∙ em in
+      Active m s i sm' em' (sym (server_known s (OfSeat m sm' em')) ∙ es) e
   Seen-back n (ServerRoot m s i sm em es c e) =
       let sm' : Seen S v m = Seen-back m sm in
       let em' : home_at v m ≡ Some s = sym (home_same m sm') ∙ em in
@@ -159,11 +173,15 @@ module _ {S : ℕ → Bool} {v w : World} (a : Agree S v w) where
 
   Knows-back : (s : Name) → Knows S w s → Knows S v s
   Knows-back s (OfNode n sn en) = let sn' : Seen S v n = Seen-back n sn in OfNode n sn' (sym (home_same n sn') ∙ en)
+  Knows-back s (OfSeat n sn en) = let sn' : Seen S v n = Seen-back n sn in OfSeat n sn' (sym (active_same n sn') ∙ en)
   Knows-back s (OfControl h) = OfControl (Holds-kept w v back (Control s) h)
 
   Sends-back : (s : Name) (i : ServerInfo) → Sends S w s i → Sends S v s i
   Sends-back s i (ByControl h) = ByControl (Holds-kept w v back (Control s) h)
   Sends-back s i (ByNode n sn en could) = let sn' : Seen S v n = Seen-back n sn in ByNode n sn' (sym (home_same n sn') ∙ en) (CouldServe-kept w v back i could)
+  Sends-back s i (BySeat n h sn en eh owns) =
+      let sn' : Seen S v n = Seen-back n sn in
+      BySeat n h sn' (sym (active_same n sn') ∙ en) (sym (header_same n sn') ∙ eh) (OwnsIt-kept w v back h owns)
 
   pub Sees-back : (p : Part) → Sees S w p → Sees S v p
   Sees-back (AttrOf n) s = Seen-back n s

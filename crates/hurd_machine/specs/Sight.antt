@@ -98,9 +98,10 @@ pub record MaySend (S : ℕ → Bool) (w : World) (s : Name) : Type 0 where
   pub other : s ≢ boot_name
   pub why : Sends S w s info
 
--- why S knows a server: it sees a node of it, or controls it
+-- why S knows a server: it sees a node of it or one on which it is active, or controls it
 pub data Knows (S : ℕ → Bool) (w : World) (s : Name) : Type 0 where
   OfNode : (n : Name) → Seen S w n → home_at w n ≡ Some s → Knows S w s
+  OfSeat : (n : Name) → Seen S w n → active_at w n ≡ Some s → Knows S w s
   OfControl : Holds S w (Control s) → Knows S w s
 
 -- the parts of a world

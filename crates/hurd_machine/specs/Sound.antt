@@ -82,6 +82,7 @@ pub record IsTree (h : NodeState) : Type 0 where
   -- the boot root stands, and is the root of the boot server
   pub root : (k : Header) × (header_of h.nodes boot_root ≡ Some k)
   pub boot : is_root h boot_root ≡ true
+  pub served : get h.homes boot_root ≡ Some boot_name
 
 -- tables of ports, and opens
 pub record AreTables (w : World) : Type 0 where
