@@ -14,7 +14,8 @@ use Rattle.hurd_nodes.specs.Settle.{stays, stays_with, settle}
 use Rattle.hurd_ports.specs.declared.table.Right.{Right}
 use Rattle.hurd_ports.specs.Tables.{Task, rights_of, right_in, nodes_of, is_named}
 use Rattle.hurd_ports.specs.Steps.{named, edit_at, edit_task, with_port, with_sent, without_port}
-use Rattle.hurd_machine.specs.Sight.{naming, one_if, weigh_list, weigh_rights, count_list}
+use Rattle.hurd_nodes.specs.Weights.{one_if, weigh_list, count_list}
+use Rattle.hurd_machine.specs.Sight.{naming, weigh_rights}
 use Rattle.hurd_machine.proofs.Tasks.{weigh_edit, weigh_named, weigh_sent, count_append}
 use Rattle.hurd_machine.proofs.Holders.{list_counted, named_counted}
 use Rattle.hurd_machine.proofs.Retained.{retain_alike}

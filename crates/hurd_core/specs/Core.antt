@@ -22,7 +22,8 @@ use Rattle.hurd_ports.specs.Steps.{named}
 use Rattle.hurd_machine.specs.World.{World, world_from, nodes_of, ports_of, task_at, home_at, makes_at}
 use Rattle.hurd_machine.specs.Change.{Change, MakeNode, EditBody, Settle, opening, apply_all, changes_of}
 use Rattle.hurd_machine.specs.Plan.{on, given, first}
-use Rattle.hurd_machine.specs.Sight.{count_list, naming, weigh_rights}
+use Rattle.hurd_nodes.specs.Weights.{count_list}
+use Rattle.hurd_machine.specs.Sight.{naming, weigh_rights}
 use Rattle.hurd_core.specs.declared.to_make.NamelessToMake.{NamelessToMake}
 
 -- servers with their nodes, and tables of ports

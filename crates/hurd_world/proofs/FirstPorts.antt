@@ -20,7 +20,8 @@ use Rattle.hurd_ports.specs.declared.table.Port.{Port}
 use Rattle.hurd_ports.specs.Tables.{OpenMap, Task, IsSettled, is_held, names_open, rights_of}
 use Rattle.hurd_ports.specs.Steps.{new_open}
 use Rattle.hurd_machine.specs.World.{IsAmong}
-use Rattle.hurd_machine.specs.Sight.{naming, count_list, weigh_rights}
+use Rattle.hurd_nodes.specs.Weights.{count_list}
+use Rattle.hurd_machine.specs.Sight.{naming, weigh_rights}
 use Rattle.hurd_core.specs.Core.{HoldsRights}
 use Rattle.hurd_world.specs.Boot.{boot_task, boot_tasks, boot_opens, boot_ports, closed_open}
 
