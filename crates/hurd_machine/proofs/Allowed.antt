@@ -6,23 +6,27 @@ use Rattle.hurd_creds.specs.declared.name.Name.{Name}
 use Rattle.hurd_creds.specs.Bits.{asks, READ}
 use Rattle.hurd_creds.specs.NameMaps.{edit}
 use Rattle.hurd_creds.proofs.NameLaws.{same_or_apart, get_here, get_apart, edit_here, edit_apart}
-use Rattle.hurd_trans_iface.specs.Nodes.{Header, Body, Content, Listing, with_header, with_body}
+use Rattle.hurd_trans_iface.specs.Nodes.{Node, Header, Body, Content, Listing, with_header, with_body}
 use Rattle.hurd_trans_iface.specs.Answers.{entry_in, entry_of}
+use Rattle.hurd_nodes.specs.Shown.{ServerInfo}
 use Rattle.hurd_ports.specs.declared.table.Opened.{Opened}
 use Rattle.hurd_ports.specs.declared.table.IoRight.{IoRight}
 use Rattle.hurd_ports.specs.declared.table.Right.{Right}
 use Rattle.hurd_ports.specs.declared.table.Right.TheVariants.{Io, Control}
 use Rattle.hurd_ports.specs.Tables.{Task, rights_of}
 use Rattle.hurd_ports.specs.Steps.{named, with_sent, edit_task}
-use Rattle.hurd_machine.specs.World.{World, IsAmong, task_at, open_at, header_at, body_at, home_at}
+use Rattle.hurd_machine.specs.World.{World, IsAmong, task_at, open_at, header_at, body_at, home_at, active_at, server_at}
 use Rattle.hurd_machine.specs.Sight.{Holds, HasUid, Taken, SeesBody, BodyOf, OptionsOf, Sees}
-use Rattle.hurd_machine.specs.Change.{Change, EditHeader, EditBody, MakeNode, EditOpen, MakeOpen, EditTask, Send, Settle, apply}
+use Rattle.hurd_machine.specs.Change.{Change, EditHeader, EditBody, MakeNode, EditOpen, MakeOpen, EditTask, Send, Attach, DropServer, Unseat, Settle, apply}
 use Rattle.hurd_machine.specs.Sound.{Coherent}
-use Rattle.hurd_machine.proofs.Nodes.{header_in, body_in, header-with_header, header-with_body, body-with_header, body-with_body, edit_reads, edit_keeps, edited_from, ByEmptiness}
+use Rattle.hurd_machine.proofs.Nodes.{header_in, body_in, header-with_header, header-with_body, body-with_header, body-with_body, edit_reads, edit_keeps, edited_from, node_of_header, ByEmptiness}
 use Rattle.hurd_machine.proofs.Tasks.{edit_cases, sent_cases}
-use Rattle.hurd_machine.proofs.Coherence.{right_old, HasNoEntries, IsNext, next_apart, was, Proper}
+use Rattle.hurd_machine.proofs.Coherence.{right_old, HasNoEntries, IsNext, Comes, next_not, next_apart, was, Proper}
+use Rattle.hurd_machine.proofs.Comes.{attach_is, come_world}
+use Rattle.hurd_machine.proofs.Drop as drop
+use Rattle.hurd_machine.proofs.Unseated.{still_active}
 use Rattle.hurd_machine.proofs.Frame.{IsExact}
-use Rattle.hurd_machine.proofs.Confine.{NewTo, SeenOrNew, Known, Less, Less-refl, Less-trans, IoInside, RightInside, Commands, TakesLess, Inside}
+use Rattle.hurd_machine.proofs.Confine.{NewTo, SeenOrNew, Known, Less, Less-refl, Less-trans, IoInside, RightInside, Commands, TakesLess, ServerInside, Inside}
 
 -- a right to use a node that a task of S may get, but for its ids: where its open is to read, S sees the body
 pub record IoMay (S : ℕ → Bool) (v x : World) (r : IoRight) : Type 0 where
@@ -36,7 +40,7 @@ RightMay S v x (Control s) = Commands S v s
 
 pub may_inside : (S : ℕ → Bool) (v x : World) (r : Right) → RightMay S v x r → RightInside S v r
 may_inside S v x (Io r) m = m.inside
-may_inside S v x (Control s) m = m
+may_inside S v x (Control s) m = inl m
 
 -- the ids of a right that S may get
 abbrev pub IdsMay : (ℕ → Bool) → World → Right → Type 0
@@ -57,25 +61,42 @@ abbrev pub May : (ℕ → Bool) → World → World → Change → Type 0
 May S v x (EditHeader n f) = (h : Header) → header_at x n ≡ Some h → Less S v n (f h) h
 May S v x (EditBody n g) =
     (ByEmptiness g ⊎ Known S v (BodyOf n)) × ((b : Body) (name : List ℕ) (m : Name) → body_at x n ≡ Some b → entry_of name (Some (g b)) ≡ Some m → (entry_of name (Some b) ≡ Some m) ⊎ SeenOrNew S v m)
-May S v x (MakeNode n s node) = (S n.task.0 ≡ true) × Sees S v (OptionsOf s) × ((p : Name) → node.header.parent ≡ Some p → SeenOrNew S v p)
+May S v x (MakeNode n s node) = (S n.task.0 ≡ true) × Known S v (OptionsOf s) × ((p : Name) → node.header.parent ≡ Some p → SeenOrNew S v p)
 May S v x (EditOpen o f) = (z : Opened) → asks (f z).modes READ ≡ true → asks z.modes READ ≡ true
 May S v x (MakeOpen o z) = S o.task.0 ≡ true
 May S v x (EditTask q f) = (S q ≡ true) × ((a : Task) → task_at x q ≡ Some a → OwnMay S v x a (f a) × (HasUid S v 0 ⊎ OwnTaken S v a (f a)))
 May S v x (Send r q) = RightMay S v x r × (HasUid S v 0 ⊎ IdsMay S v r)  -- to any task
+May S v x (Attach s at i node) = S s.task.0 ≡ true
+May S v x (DropServer s) = Unit {0}
+May S v x (Unseat n) = Unit {0}
 May S v x Settle = Unit {0}
 
 module _ (S : ℕ → Bool) (v x : World) (coherent : Coherent x) (i : Inside S v x) where
-  -- the next name of a task of S is new
-  next_new : (n : Name) → IsNext x n → S n.task.0 ≡ true → NewTo S v n
-  next_new n next ours = (
+  -- a name that a task of S has not given in x is new
+  newer : (m : Name) (y : Task) → S m.task.0 ≡ true → task_at x m.task.0 ≡ Some y → y.made ≤ m.count → NewTo S v m
+  newer m y ours is up = (
     ours,
     λ b.
-        let u = i.made n.task.0 next.seat next.is_task in
-        let low : n.count < u.0.made = b u.0 u.1 in
-        let more : u.0.made ≤ next.seat.made = u.2 in
-        let e = next.next in
+        let u = i.made m.task.0 y is in
+        let low : m.count < u.0.made = b u.0 u.1 in
+        let more : u.0.made ≤ y.made = u.2 in
         absurd (omega arith),
   )
+
+  next_new : (n : Name) → IsNext x n → S n.task.0 ≡ true → NewTo S v n
+  next_new n next ours = let e = next.next in newer n next.seat ours next.is_task (omega arith)
+
+  -- so is the one after it
+  root_new : (s at : Name) (j : ServerInfo) (node : Node) → Comes x s at j node → S s.task.0 ≡ true → NewTo S v j.root
+  root_new s at j node p ours =
+      let task = ap (λ t. t.0) p.task in
+      let e = p.next.next in
+      let k = p.count in
+      newer j.root p.next.seat (ap S task ∙ ours) (ap (task_at x) task ∙ p.next.is_task) (omega arith)
+
+  -- the world with the server that comes
+  come_is : (s at : Name) (j : ServerInfo) (node : Node) → Comes x s at j node → apply (Attach s at j node) x ≡ come_world x s at j node
+  come_is s at j node p = attach_is x s at j node coherent (next_not x s p.next)
 
   -- each task of y was in x, and what it has more S may have
   record Stepped (y : World) : Type 0 where
@@ -136,9 +157,9 @@ module _ (S : ℕ → Bool) (v x : World) (coherent : Coherent x) (i : Inside S 
     }
 
   -- a task that named things has the rights that it had
-  stepped_named : (y : World) (n : Name) → IsNext x n → y.tasks ≡ edit_task n.task.0 (named 1) x.tasks → Stepped y
-  stepped_named y n next e =
-      stepped_edit y n.task.0 (named 1) next.seat next.is_task e (omega arith) (λ r h. inl h) (inr (record { ids = inl refl; rights = λ r h. inl h }))
+  stepped_named : (y : World) (n : Name) (k : ℕ) → IsNext x n → y.tasks ≡ edit_task n.task.0 (named k) x.tasks → Stepped y
+  stepped_named y n k next e =
+      stepped_edit y n.task.0 (named k) next.seat next.is_task e (omega arith) (λ r h. inl h) (inr (record { ids = inl refl; rights = λ r h. inl h }))
 
   -- a task that was sent a right
   sent_taken : (r : Right) (a : Task) → HasUid S v 0 ⊎ IdsMay S v r → HasUid S v 0 ⊎ OwnTaken S v a (with_sent r a)
@@ -154,10 +175,11 @@ module _ (S : ℕ → Bool) (v x : World) (coherent : Coherent x) (i : Inside S 
       (λ p h. elim (sent_cases r a p h) [ inl old ↦ inl old | inr same ↦ inr (subst (RightMay S v x) same m.0) ]) (sent_taken r a m.1)
 
   stepped : (c : Change) → IsExact c → Proper x c → May S v x c → Stepped (apply c x)
-  stepped (MakeNode n s node) ex p m = stepped_named (apply (MakeNode n s node) x) n p.0 refl
-  stepped (MakeOpen o z) ex p m = stepped_named (apply (MakeOpen o z) x) o p refl
+  stepped (MakeNode n s node) ex p m = stepped_named (apply (MakeNode n s node) x) n 1 p.0 refl
+  stepped (MakeOpen o z) ex p m = stepped_named (apply (MakeOpen o z) x) o 1 p refl
   stepped (EditTask q f) ex p m = let o = m.1 p.1 p.2 in stepped_edit (apply (EditTask q f) x) q f p.1 p.2 refl (p.0 p.1) o.0 o.1
   stepped (Send r q) ex p m = stepped_sent (apply (Send r q) x) r q p.0 p.1 refl m
+  stepped (Attach s at j node) ex p m = stepped_named (apply (Attach s at j node) x) s 2 p.next refl
   stepped Settle ex p m = absurd ex
   stepped c ex p m = stepped_same (apply c x) refl
 
@@ -225,6 +247,19 @@ module _ (S : ℕ → Bool) (v x : World) (coherent : Coherent x) (i : Inside S 
         inr (subst (NewTo S v) (sym k) (next_new a p.0 m.0), λ q eq. m.2 q (ap (λ (z : Header). z.parent) same ∙ eq))
     | inr k ↦ inl (h, sym (ap header_in (get_apart x.nodes a node n k)) ∙ e, Less-refl S v n h)
   ]
+  headers_next (Attach s at j node) ex p m n h e = elim (was_header s at j node n h (subst (λ (z : World). header_at z n ≡ Some h) (come_is s at j node p) e)) [
+    | inl k ↦ inr (subst (NewTo S v) (sym k.0) (root_new s at j node p m), λ q eq. let none : None ≡ Some q = sym p.parent ∙ ap (λ (z : Header). z.parent) k.1 ∙ eq in absurd (cc))
+    | inr k ↦ inl (h, k, Less-refl S v n h)
+  ]
+    where
+      was_header : (s at : Name) (j : ServerInfo) (node : Node) (n : Name) (h : Header) → header_at (come_world x s at j node) n ≡ Some h → ((n ≡ j.root) × (node.header ≡ h)) ⊎ (header_at x n ≡ Some h)
+      was_header s at j node n h e =
+          let y = node_of_header (get (come_world x s at j node).nodes n) h e in
+          elim (was x.nodes j.root n node y.0 y.1) [
+            | inl k ↦ inl (k.0, ap (λ (z : Node). z.header) k.1 ∙ y.2)
+            | inr k ↦ inr (ap header_in k.1 ∙ ap Some y.2)
+          ]
+  headers_next (DropServer s) ex p m n h e = inl (h, (drop.header_was x s n h e).0, Less-refl S v n h)
   headers_next Settle ex p m n h e = absurd ex
   headers_next c ex p m n h e = inl (h, e, Less-refl S v n h)
 
@@ -251,28 +286,58 @@ module _ (S : ℕ → Bool) (v x : World) (coherent : Coherent x) (i : Inside S 
     | inl k ↦ absurd (no_entry node.body p.1.empty name n (sym (ap (entry_of name) (ap body_in (get_here x.nodes a node))) ∙ rw k at e))
     | inr k ↦ inl (sym (ap (entry_of name) (ap body_in (get_apart x.nodes a node d k))) ∙ e)
   ]
+  entries_next (Attach s at j node) ex p m d n name e =
+      let now : entry_of name (body_at (come_world x s at j node) d) ≡ Some n = subst (λ (z : World). entry_of name (body_at z d) ≡ Some n) (come_is s at j node p) e in
+      elim (same_or_apart d j.root) [
+        | inl k ↦ absurd (no_entry node.body p.empty name n (sym (ap (entry_of name) (ap body_in (get_here x.nodes j.root node))) ∙ rw k at now))
+        | inr k ↦ inl (sym (ap (entry_of name) (ap body_in (get_apart x.nodes j.root node d k))) ∙ now)
+      ]
+  entries_next (DropServer s) ex p m d n name e = inl (entry_was s d n name e)
+    where
+      entry_was : (s d n : Name) (name : List ℕ) → entry_of name (body_at (apply (DropServer s) x) d) ≡ Some n → entry_of name (body_at x d) ≡ Some n
+      entry_was s d n name e = go (get (apply (DropServer s) x).nodes d) refl
+        where
+          go : (o : Option Node) → get (apply (DropServer s) x).nodes d ≡ o → entry_of name (body_at x d) ≡ Some n
+          go None k = let none : None ≡ Some n = sym (ap (λ o. entry_of name (body_in o)) k) ∙ e in absurd (cc)
+          go (Some y) k = ap (λ o. entry_of name (body_in o)) (drop.node_was x s d y k).0 ∙ sym (ap (λ o. entry_of name (body_in o)) k) ∙ e
   entries_next Settle ex p m d n name e = absurd ex
   entries_next c ex p m d n name e = inl e
 
-  homes_next : (c : Change) → IsExact c → Proper x c → May S v x c → (n s : Name) → home_at (apply c x) n ≡ Some s → (home_at x n ≡ Some s) ⊎ Sees S v (OptionsOf s)
-  homes_next (MakeNode a q node) ex p m n s e = elim (was x.homes a n q s e) [ inl k ↦ inr (subst (λ z. Sees S v (OptionsOf z)) k.1 m.1) | inr k ↦ inl k.1 ]
+  homes_next : (c : Change) → IsExact c → Proper x c → May S v x c → (n s : Name) → home_at (apply c x) n ≡ Some s → (home_at x n ≡ Some s) ⊎ Known S v (OptionsOf s)
+  homes_next (MakeNode a q node) ex p m n s e = elim (was x.homes a n q s e) [ inl k ↦ inr (subst (λ z. Known S v (OptionsOf z)) k.1 m.1) | inr k ↦ inl k.1 ]
+  homes_next (Attach q at j node) ex p m n s e = elim (was x.homes j.root n q s (subst (λ (z : World). home_at z n ≡ Some s) (come_is q at j node p) e)) [
+    | inl k ↦ inr (inr (subst (NewTo S v) k.1 (next_new q p.next m)))
+    | inr k ↦ inl k.1
+  ]
+  homes_next (DropServer q) ex p m n s e = inl (drop.home_was x q n s e).0
   homes_next Settle ex p m n s e = absurd ex
   homes_next c ex p m n s e = inl e
 
-  servers_next : (c : Change) → IsExact c → (apply c x).servers ≡ v.servers
-  servers_next Settle ex = absurd ex
-  servers_next c ex = i.servers
+  servers_next : (c : Change) → IsExact c → Proper x c → May S v x c → (s : Name) (k : ServerInfo) → server_at (apply c x) s ≡ Some k → ServerInside S v s k
+  servers_next (Attach q at j node) ex p m s k e = elim (was x.servers q s j k (subst (λ (z : World). server_at z s ≡ Some k) (come_is q at j node p) e)) [
+    | inl a ↦ inr (subst (NewTo S v) (sym a.0) (next_new q p.next m), subst (λ (z : ServerInfo). NewTo S v z.root) a.1 (root_new q at j node p m))
+    | inr a ↦ i.servers s k a.1
+  ]
+  servers_next (DropServer q) ex p m s k e = i.servers s k (drop.server_was x q s k e).0
+  servers_next Settle ex p m s k e = absurd ex
+  servers_next c ex p m s k e = i.servers s k e
 
-  actives_next : (c : Change) → IsExact c → (apply c x).actives ≡ v.actives
-  actives_next Settle ex = absurd ex
-  actives_next c ex = i.actives
+  actives_next : (c : Change) → IsExact c → Proper x c → May S v x c → (n s : Name) → active_at (apply c x) n ≡ Some s → (active_at v n ≡ Some s) ⊎ NewTo S v s
+  actives_next (Attach q at j node) ex p m n s e = elim (was x.actives at n q s (subst (λ (z : World). active_at z n ≡ Some s) (come_is q at j node p) e)) [
+    | inl a ↦ inr (subst (NewTo S v) a.1 (next_new q p.next m))
+    | inr a ↦ i.actives n s a.1
+  ]
+  actives_next (DropServer q) ex p m n s e = i.actives n s (drop.active_was x q n s e).0
+  actives_next (Unseat k) ex p m n s e = i.actives n s (still_active x k n s e)
+  actives_next Settle ex p m n s e = absurd ex
+  actives_next c ex p m n s e = i.actives n s e
 
   pub inside_one : (c : Change) → IsExact c → Proper x c → May S v x c → Inside S v (apply c x)
   inside_one c ex p m =
       let st = stepped c ex p m in
       record {
-        servers = servers_next c ex;
-        actives = actives_next c ex;
+        servers = servers_next c ex p m;
+        actives = actives_next c ex p m;
         made = λ q z at.
             let b = st.back q z at in
             let u = i.made q b.0 b.1 in

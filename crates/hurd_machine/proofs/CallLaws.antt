@@ -12,7 +12,8 @@ use Rattle.hurd_machine.specs.Plan.{Plan, answered, looks, is_refused, after_pla
 use Rattle.hurd_machine.specs.Sight.{Part, AttrOf, EmptyOf, BodyOf, OpenOf, OptionsOf, UsersOf, TaskOf, Seen, Sees, Knows, OfNode, OfSeat, OfControl, SameView}
 use Rattle.hurd_machine.specs.Sound.{Below, Coherent, AreSized, Linked, AtRest, Sound}
 use Rattle.hurd_machine.specs.Touched.{asked_parts, Nothing}
-use Rattle.hurd_machine.proofs.Coherence.{AllProper, coherent_all, right_old}
+use Rattle.hurd_machine.proofs.Coherence.{AllProper, right_old}
+use Rattle.hurd_machine.proofs.Keeping.{coherent_all}
 use Rattle.hurd_machine.proofs.Frame.{IsUnnamed, Full, AllWithin, untouched, unseen_from}
 use Rattle.hurd_machine.proofs.Settle.{AsBefore}
 use Rattle.hurd_machine.proofs.Views.{Agree, Agree-refl, view_of, agree_of}

@@ -5,6 +5,7 @@ use Rattle.std.specs.List.{list_any}
 use Rattle.std.specs.Option.{option_map}
 use Rattle.std.specs.Str.{bytes_eq}
 use Rattle.std.specs.FinMap.{get, insert}
+use Rattle.std.specs.FinSet as set
 use Rattle.hurd_creds.specs.declared.name.Name.{Name}
 use Rattle.hurd_creds.specs.declared.attrs.Kind.TheVariants.{Dir}
 use Rattle.hurd_creds.specs.Bits.{asks, WRITE}
@@ -22,11 +23,10 @@ use Rattle.hurd_ports.specs.declared.table.Port.{Port}
 use Rattle.hurd_ports.specs.Tables.{Task, OpenMap, rights_of, nodes_of as nodes_named}
 use Rattle.hurd_ports.specs.Steps.{named, with_sent, edit_task}
 use Rattle.hurd_machine.specs.World.{World, IsAmong, boot_root, nodes_of, task_at, open_at, header_at, body_at, home_at, active_at, server_at, info_at, is_of, lists, lists_at}
-use Rattle.hurd_machine.specs.Change.{Change, EditHeader, EditBody, MakeNode, EditOpen, MakeOpen, EditTask, Send, Settle, outside, stays, server_stays, settle, apply, apply_all}
+use Rattle.hurd_machine.specs.Change.{Change, EditHeader, EditBody, MakeNode, EditOpen, MakeOpen, EditTask, Send, Attach, DropServer, Unseat, Settle, apply}
 use Rattle.hurd_machine.specs.Sound.{Below, AreDistinct, HasDistinctNames, IsGivenRight, AreGiven, AreHoused, AreSeated, IsTree, AreTables, Coherent, LeadsUp, AtRoot, Above, Linked}
 use Rattle.hurd_machine.proofs.Nodes.{header_in, body_in, body-with_header, edit_keeps, edited_from, node_of_header}
 use Rattle.hurd_machine.proofs.Tasks.{edit_cases, edit_here as task_here, below_edit, sent_cases}
-use Rattle.hurd_machine.proofs.Swept.{settle_sound}
 
 -- what a change must have to keep a world coherent
 
@@ -60,6 +60,18 @@ pub record GoodNode (w : World) (s : Name) (node : Node) : Type 0 where
   pub shape : IsShaped node.header node.body
   pub empty : HasNoEntries node.body
   pub parent : (p : Name) → node.header.parent ≡ Some p → Below w p
+
+-- a server that comes, under the next name of its task, and becomes active on a node: its root has the name after that
+pub record Comes (w : World) (s at : Name) (i : ServerInfo) (node : Node) : Type 0 where
+  pub next : IsNext w s
+  pub task : i.root.task ≡ s.task
+  pub count : i.root.count ≡ s.count + 1
+  pub serving : (u : ℕ) × (i.ids ≡ record { uids = set.from_list (u ∷ []); gids = set.from_list [] })
+  pub shape : IsShaped node.header node.body
+  pub empty : HasNoEntries node.body
+  pub parent : node.header.parent ≡ None
+  pub seat : (h : Header) × (header_at w at ≡ Some h)
+  pub vacant : active_at w at ≡ None
 
 -- a right to use a node that a task may get: what it names was made, its open is there and on one node with it, and what is open to write is no directory
 pub record FineIo (w : World) (r : IoRight) : Type 0 where
@@ -116,6 +128,9 @@ Proper w (EditOpen o f) = (z : Opened) → asks (f z).modes WRITE ≡ true → a
 Proper w (MakeOpen o z) = IsNext w o
 Proper w (EditTask q f) = ((x : Task) → x.made ≤ (f x).made) × (x : Task) × (task_at w q ≡ Some x) × Table w x (f x)
 Proper w (Send r q) = (x : Task) × (task_at w q ≡ Some x) × FineRight w r
+Proper w (Attach s at i node) = Comes w s at i node
+Proper w (DropServer s) = s ≢ boot_name
+Proper w (Unseat n) = Unit {0}
 Proper w Settle = Linked (nodes_of w)
 
 -- each change is proper in the world that the ones before it leave
@@ -209,18 +224,18 @@ abbrev with_nodes : NodeMap → World → World
 with_nodes m w = record w { nodes = m }
 
 -- the node x at n, of the map m, comes from one that stands there
-record From (w : World) (m : NodeMap) (n : Name) (x : Node) : Type 0 where
-  node : Node
-  is : get w.nodes n ≡ Some node
-  kind : x.header.kind ≡ node.header.kind
-  parent : MayMove w m n x.header.parent node.header.parent
-  shape : IsShaped node.header node.body → IsShaped x.header x.body
-  distinct : HasDistinctNames node.body → HasDistinctNames x.body
-  entries : (p : Name) → lists p x.body ≡ true → IsEntry w n p
+pub record From (w : World) (m : NodeMap) (n : Name) (x : Node) : Type 0 where
+  pub node : Node
+  pub is : get w.nodes n ≡ Some node
+  pub kind : x.header.kind ≡ node.header.kind
+  pub parent : MayMove w m n x.header.parent node.header.parent
+  pub shape : IsShaped node.header node.body → IsShaped x.header x.body
+  pub distinct : HasDistinctNames node.body → HasDistinctNames x.body
+  pub entries : (p : Name) → lists p x.body ≡ true → IsEntry w n p
 
-record Reworked (w : World) (m : NodeMap) : Type 0 where
-  from : (n : Name) (x : Node) → get m n ≡ Some x → From w m n x
-  still : (n : Name) (y : Node) → get w.nodes n ≡ Some y → (x : Node) × (get m n ≡ Some x)
+pub record Reworked (w : World) (m : NodeMap) : Type 0 where
+  pub from : (n : Name) (x : Node) → get m n ≡ Some x → From w m n x
+  pub still : (n : Name) (y : Node) → get w.nodes n ≡ Some y → (x : Node) × (get m n ≡ Some x)
 
 module _ (w : World) (m : NodeMap) (c : Coherent w) (r : Reworked w m) where
   -- a header is of a node that stood
@@ -288,7 +303,7 @@ module _ (w : World) (m : NodeMap) (c : Coherent w) (r : Reworked w m) where
         let k = header_from q.node h eh in ap is_dir k.2 ∙ c.tables.written t u q o k.0 at has eo modes k.1;
   }
 
-  reworked : Coherent (with_nodes m w)
+  pub reworked : Coherent (with_nodes m w)
   reworked = record { given = reworked_given; housing = reworked_housing; seating = reworked_seating; tree = reworked_tree; tables = reworked_tables }
 
 shaped_by_kind : (h k : Header) (b : Body) → k.kind ≡ h.kind → IsShaped h b → IsShaped k b
@@ -305,7 +320,7 @@ module _ (w : World) (c : Coherent w) (n : Name) where
   unchanged : (m : NodeMap) (x : Node) → get w.nodes n ≡ Some x → From w m n x
   unchanged m x e = record { node = x; is = e; kind = refl; parent = inl refl; shape = λ shaped. shaped; distinct = λ names. names; entries = entry_is x e }
 
-  with_header_from : (f : Header → Header) → Proper w (EditHeader n f) → (y : Node) → get w.nodes n ≡ Some y → From w (edit n (with_header f) w.nodes) n (with_header f y)
+  pub with_header_from : (f : Header → Header) → Proper w (EditHeader n f) → (y : Node) → get w.nodes n ≡ Some y → From w (edit n (with_header f) w.nodes) n (with_header f y)
   with_header_from f p y is =
       let l = p y.header (ap header_in is) in
       record {
@@ -321,13 +336,13 @@ module _ (w : World) (c : Coherent w) (n : Name) where
         entries = entry_is y is;
       }
 
-  with_body_from : (g : Body → Body) → Proper w (EditBody n g) → (y : Node) → get w.nodes n ≡ Some y → From w (edit n (with_body g) w.nodes) n (with_body g y)
+  pub with_body_from : (g : Body → Body) → Proper w (EditBody n g) → (y : Node) → get w.nodes n ≡ Some y → From w (edit n (with_body g) w.nodes) n (with_body g y)
   with_body_from g p y is =
       let l = p y.body (ap body_in is) in
       record { node = y; is = is; kind = refl; parent = inl refl; shape = l.shape y.header; distinct = l.distinct; entries = l.entries }
 
 -- an edit at one node, which may be
-edited : (w : World) → Coherent w → (k : Name) (f : Node → Node) → ((y : Node) → get w.nodes k ≡ Some y → From w (edit k f w.nodes) k (f y)) → Reworked w (edit k f w.nodes)
+pub edited : (w : World) → Coherent w → (k : Name) (f : Node → Node) → ((y : Node) → get w.nodes k ≡ Some y → From w (edit k f w.nodes) k (f y)) → Reworked w (edit k f w.nodes)
 edited w c k f may = record { from = from; still = still }
   where
     from : (n : Name) (x : Node) → get (edit k f w.nodes) n ≡ Some x → From w (edit k f w.nodes) n x
@@ -413,11 +428,11 @@ module _ (w : World) (c : Coherent w) (q : ℕ) (f : Task → Task) (up : (x : T
     ];
   }
 
-  task_coherent : Coherent retabled
+  pub task_coherent : Coherent retabled
   task_coherent = record { given = task_given; housing = c.housing; seating = c.seating; tree = c.tree; tables = task_tables }
 
 -- with a right more in an inbox
-sent_table : (w : World) → Coherent w → (q : ℕ) (r : Right) (x : Task) → task_at w q ≡ Some x → FineRight w r → Table w x (with_sent r x)
+pub sent_table : (w : World) → Coherent w → (q : ℕ) (r : Right) (x : Task) → task_at w q ≡ Some x → FineRight w r → Table w x (with_sent r x)
 sent_table w c q r x is fine = record { new = Some r; fine = fine; rights = sent_cases r x; numbers = λ p h. c.tables.numbers q x p is h }
 
 -- with opens changed or made
@@ -426,13 +441,13 @@ abbrev with_opens : OpenMap → World → World
 with_opens m w = record w { opens = m }
 
 -- an open of m was named, and with WRITE it stood open to write in w; those of rights are there
-record Reopened (w : World) (m : OpenMap) : Type 0 where
-  made : (o : Name) (z : Opened) → get m o ≡ Some z → Below w o
-  writes : (t : ℕ) (x : Task) (r : IoRight) (z : Opened) → task_at w t ≡ Some x → IsAmong (Io r) (rights_of x) → get m r.open_name ≡ Some z → asks z.modes WRITE ≡ true
+pub record Reopened (w : World) (m : OpenMap) : Type 0 where
+  pub made : (o : Name) (z : Opened) → get m o ≡ Some z → Below w o
+  pub writes : (t : ℕ) (x : Task) (r : IoRight) (z : Opened) → task_at w t ≡ Some x → IsAmong (Io r) (rights_of x) → get m r.open_name ≡ Some z → asks z.modes WRITE ≡ true
       → (y : Opened) × (open_at w r.open_name ≡ Some y) × (asks y.modes WRITE ≡ true)
-  still : (t : ℕ) (x : Task) (r : IoRight) (z : Opened) → task_at w t ≡ Some x → IsAmong (Io r) (rights_of x) → open_at w r.open_name ≡ Some z → (y : Opened) × (get m r.open_name ≡ Some y)
+  pub still : (t : ℕ) (x : Task) (r : IoRight) (z : Opened) → task_at w t ≡ Some x → IsAmong (Io r) (rights_of x) → open_at w r.open_name ≡ Some z → (y : Opened) × (get m r.open_name ≡ Some y)
 
-reopened : (w : World) (m : OpenMap) → Coherent w → Reopened w m → Coherent (with_opens m w)
+pub reopened : (w : World) (m : OpenMap) → Coherent w → Reopened w m → Coherent (with_opens m w)
 reopened w m c r = record {
   given = record {
     nodes = c.given.nodes;
@@ -453,7 +468,7 @@ reopened w m c r = record {
   };
 }
 
-open_edited : (w : World) → Coherent w → (k : Name) (f : Opened → Opened) → Proper w (EditOpen k f) → Reopened w (edit k f w.opens)
+pub open_edited : (w : World) → Coherent w → (k : Name) (f : Opened → Opened) → Proper w (EditOpen k f) → Reopened w (edit k f w.opens)
 open_edited w c k f p = record {
   made = λ o z e. elim (from o z e) [ inl l ↦ subst (Below w) (sym l.0) (c.given.opens k l.1 l.2) | inr h ↦ c.given.opens o z h ];
   writes = λ t x r z at i e modes. elim (from r.open_name z e) [
@@ -472,7 +487,7 @@ open_edited w c k f p = record {
       | inr a ↦ inr (sym (edit_apart w.opens k f o a) ∙ e)
     ]
 
-open_made : (w : World) → Coherent w → (k : Name) (z : Opened) → Below w k → ((t : ℕ) (x : Task) (r : IoRight) → task_at w t ≡ Some x → IsAmong (Io r) (rights_of x) → r.open_name ≢ k) → Reopened w (insert w.opens k z)
+pub open_made : (w : World) → Coherent w → (k : Name) (z : Opened) → Below w k → ((t : ℕ) (x : Task) (r : IoRight) → task_at w t ≡ Some x → IsAmong (Io r) (rights_of x) → r.open_name ≢ k) → Reopened w (insert w.opens k z)
 open_made w c k z b unnamed = record {
   made = λ o y e. elim (was w.opens k o z y e) [ inl l ↦ subst (Below w) (sym l.0) b | inr l ↦ c.given.opens o y l.1 ];
   writes = λ t x r y at i e modes. (y, sym (get_apart w.opens k z r.open_name (unnamed t x r at i)) ∙ e, modes);
@@ -481,11 +496,11 @@ open_made w c k z b unnamed = record {
 
 -- with a node made, under a name that was given and that nothing stands under
 
-no_entry : (n : Name) (b : Body) → HasNoEntries b → lists n b ≡ false
+pub no_entry : (n : Name) (b : Body) → HasNoEntries b → lists n b ≡ false
 no_entry n (Content bs) h = refl
 no_entry n (Listing es) h = ap (list_any (is_of n)) h
 
-no_names : (b : Body) → HasNoEntries b → HasDistinctNames b
+pub no_names : (b : Body) → HasNoEntries b → HasDistinctNames b
 no_names (Content bs) none = tt
 no_names (Listing es) none = subst AreDistinct (sym none) tt
 
@@ -605,7 +620,7 @@ module _ (w : World) (c : Coherent w) (n s : Name) (node : Node) (b : Below w n)
     written = λ t x r o h at has eo modes eh. c.tables.written t x r o h at has eo modes (sym (ap header_in (get_apart w.nodes n node r.node (unnamed t x r at has))) ∙ eh);
   }
 
-  made_coherent : Coherent made_world
+  pub made_coherent : Coherent made_world
   made_coherent = record { given = made_given; housing = made_housing; seating = made_seating; tree = made_tree; tables = made_tables }
 
 -- with a task that named things
@@ -641,35 +656,3 @@ module _ (w : World) (c : Coherent w) (n : Name) (next : IsNext w n) (k : ℕ) w
 
   pub unnoded : (m : Name) → (Below w m → ⊥) → (t : ℕ) (x : Task) (r : IoRight) → task_at named_world t ≡ Some x → IsAmong (Io r) (rights_of x) → r.node ≢ m
   unnoded m new t x r at h e = let y = named_right t x (Io r) at h in new (subst (Below w) e (right_old c t y.0 r y.1 y.2).0)
-
--- what changes keep
-
-pub coherent_one : (c : Change) (w : World) → Coherent w → Proper w c → Coherent (apply c w)
-coherent_one (EditHeader n f) w s p = reworked w (edit n (with_header f) w.nodes) s (edited w s n (with_header f) (with_header_from w s n f p))
-coherent_one (EditBody n g) w s p = reworked w (edit n (with_body g) w.nodes) s (edited w s n (with_body g) (with_body_from w s n g p))
-coherent_one (MakeNode n s node) w c p =
-    let new : Below w n → ⊥ = next_not w n p.0 in
-    let good = p.1 in
-    made_coherent (named_world w c n p.0 1) (named_coherent w c n p.0 1) n s node (named_below w c n p.0 1 n refl (omega arith)) (no_node c n new) (unnoded w c n p.0 1 n new)
-    (record { info = good.info; is_server = good.is_server; shape = good.shape; empty = good.empty; parent = λ q e. named_still w c n p.0 1 q (good.parent q e) })
-coherent_one (EditOpen o f) w s p = reopened w (edit o f w.opens) s (open_edited w s o f p)
-coherent_one (MakeOpen o z) w c p =
-    reopened (named_world w c o p 1) (insert w.opens o z) (named_coherent w c o p 1)
-    (open_made (named_world w c o p 1) (named_coherent w c o p 1) o z (named_below w c o p 1 o refl (omega arith)) (unopened w c o p 1 o (next_not w o p)))
-coherent_one (EditTask q f) w s p = task_coherent w s q f p.0 p.1 p.2 p.3
-coherent_one (Send r q) w s p = task_coherent w s q (with_sent r) (λ x. omega arith) p.0 p.1 (sent_table w s q r p.0 p.1 p.2)
-coherent_one Settle w c p = (settle_sound w c p).0
-
-pub coherent_all : (cs : List Change) (w : World) → Coherent w → AllProper w cs → Coherent (apply_all cs w)
-coherent_all [] w c p = c
-coherent_all (x ∷ cs) w c p = let next : Coherent (apply x w) = coherent_one x w c p.0 in coherent_all cs (apply x w) next (p.1 next)
-
--- changes, and then others
-
-pub apply_all-append : (cs ds : List Change) (w : World) → apply_all (cs ++ ds) w ≡ apply_all ds (apply_all cs w)
-apply_all-append [] ds w = refl
-apply_all-append (c ∷ cs) ds w = apply_all-append cs ds (apply c w)
-
-pub proper_append : (cs ds : List Change) (w : World) → Coherent w → AllProper w cs → (Coherent (apply_all cs w) → AllProper (apply_all cs w) ds) → AllProper w (cs ++ ds)
-proper_append [] ds w c first onward = onward c
-proper_append (x ∷ cs) ds w c first onward = (first.0, λ d. proper_append cs ds (apply x w) d (first.1 d) onward)

@@ -17,7 +17,7 @@ use Rattle.hurd_ports.specs.Tables.{Task, nodes_of as nodes_named}
 use Rattle.hurd_machine.specs.World.{World, IsAmong, boot_root, task_at, open_at, header_at, body_at, home_at, active_at, server_at}
 use Rattle.hurd_machine.specs.Sight.{Holds, HasUid, UidOfTask, UidOfRight, HasGid, GidOfTask, GidOfRight, Taken, Could, Owns, OwnsIt, Allowed, CouldServe}
 use Rattle.hurd_machine.specs.Sight.{Seen, Root, Held, Way, Controlled, Child, Parent, Active, ServerRoot, Sends, ByControl, ByNode, BySeat, Knows, OfNode, OfSeat, OfControl, SeesBody, ToRead, ToSearch, IsOpen, SeesEmpty, ByBody, ByParent}
-use Rattle.hurd_machine.specs.Sight.{Part, AttrOf, EmptyOf, BodyOf, OpenOf, OptionsOf, UsersOf, TaskOf, Sees}
+use Rattle.hurd_machine.specs.Sight.{Part, AttrOf, EmptyOf, BodyOf, OpenOf, OptionsOf, UsersOf, TaskOf, Sees, MaySend}
 use Rattle.hurd_machine.specs.Sound.{Below, Coherent}
 use Rattle.hurd_machine.proofs.Coherence.{header_old, entry_old, home_old, right_old, entry_lists}
 use Rattle.hurd_machine.proofs.Stays.{way_at, way_parent, way_with}
@@ -40,13 +40,14 @@ seen_old {S} {w} c n (ServerRoot m s i sm em es could e) = subst (Below w) (sym 
 abbrev pub NewTo : (ℕ → Bool) → World → Name → Type 0
 NewTo S v n = (S n.task.0 ≡ true) × (Below v n → ⊥)
 
--- the servers are those that there were
 abbrev pub NewPart : (ℕ → Bool) → World → Part → Type 0
 NewPart S v (AttrOf n) = NewTo S v n
 NewPart S v (EmptyOf n) = NewTo S v n
 NewPart S v (BodyOf n) = NewTo S v n
 NewPart S v (OpenOf o) = NewTo S v o
-NewPart S v p = ⊥
+NewPart S v (OptionsOf s) = NewTo S v s
+NewPart S v (UsersOf s) = NewTo S v s
+NewPart S v (TaskOf t) = ⊥
 
 -- a node that S saw, or a new one of its own; and a part likewise
 abbrev pub SeenOrNew : (ℕ → Bool) → World → Name → Type 0
@@ -89,7 +90,7 @@ Commands S v s = Holds S v (Control s) ⊎ ((i : ServerInfo) × (server_at v s �
 -- a right that S may hold, but for its ids
 abbrev pub RightInside : (ℕ → Bool) → World → Right → Type 0
 RightInside S v (Io r) = IoInside S v r
-RightInside S v (Control s) = Commands S v s
+RightInside S v (Control s) = Commands S v s ⊎ NewTo S v s
 
 -- the nodes that a right of S names are seen
 pub named_seen : (S : ℕ → Bool) (v : World) (r : IoRight) → Holds S v (Io r) → (n : Name) → IsAmong n (nodes_named (Io r)) → Seen S v n
@@ -116,10 +117,14 @@ pub record TakesLess (S : ℕ → Bool) (v x : World) : Type 0 where
   pub tasks : (q : ℕ) (y : Task) → S q ≡ true → task_at x q ≡ Some y → Taken S v y.ids
   pub rights : (r : IoRight) → Holds S x (Io r) → Taken S v r.ids
 
+-- a server that was, or a new one of S, with its root
+abbrev pub ServerInside : (ℕ → Bool) → World → Name → ServerInfo → Type 0
+ServerInside S v s i = (server_at v s ≡ Some i) ⊎ (NewTo S v s × NewTo S v i.root)
+
 -- the world x holds nothing for S beyond what S saw in v
 pub record Inside (S : ℕ → Bool) (v x : World) : Type 0 where
-  pub servers : x.servers ≡ v.servers
-  pub actives : x.actives ≡ v.actives
+  pub servers : (s : Name) (i : ServerInfo) → server_at x s ≡ Some i → ServerInside S v s i
+  pub actives : (n s : Name) → active_at x n ≡ Some s → (active_at v n ≡ Some s) ⊎ NewTo S v s
   pub made : (q : ℕ) (y : Task) → task_at x q ≡ Some y → (z : Task) × (task_at v q ≡ Some z) × (z.made ≤ y.made)
   -- S held uid 0, and so could do all, or has no more ids
   pub power : HasUid S v 0 ⊎ TakesLess S v x
@@ -127,16 +132,16 @@ pub record Inside (S : ℕ → Bool) (v x : World) : Type 0 where
   pub reads : (r : IoRight) (o : Opened) → Holds S x (Io r) → open_at x r.open_name ≡ Some o → asks o.modes READ ≡ true → (h : Header) → header_at v r.node ≡ Some h → SeesBody S v r.node h
   pub headers : (n : Name) (h : Header) → header_at x n ≡ Some h → HeaderInside S v n h
   pub entries : (d n : Name) (name : List ℕ) → entry_of name (body_at x d) ≡ Some n → (entry_of name (body_at v d) ≡ Some n) ⊎ SeenOrNew S v n
-  pub homes : (n s : Name) → home_at x n ≡ Some s → (home_at v n ≡ Some s) ⊎ Sees S v (OptionsOf s)
+  pub homes : (n s : Name) → home_at x n ≡ Some s → (home_at v n ≡ Some s) ⊎ Known S v (OptionsOf s)
 
 held_inside : (S : ℕ → Bool) (v : World) (r : Right) → Holds S v r → RightInside S v r
 held_inside S v (Io r) h = record { nodes = λ n i. inl (named_seen S v r h n i); opened = inl (r, h, refl) }
-held_inside S v (Control s) h = inl h
+held_inside S v (Control s) h = inl (inl h)
 
 pub Inside-refl : (S : ℕ → Bool) (v : World) → Inside S v v
 Inside-refl S v = record {
-  servers = refl;
-  actives = refl;
+  servers = λ s i e. inl e;
+  actives = λ n s e. inl e;
   made = λ q y e. (y, e, omega arith);
   power = inr (record {
     tasks = λ q y ours e. record { uids = λ u h. UidOfTask q ours y e h; gids = λ g h. GidOfTask q ours y e h };
@@ -189,21 +194,22 @@ module _ {S : ℕ → Bool} {v x : World} (coherent : Coherent v) (i : Inside S 
   parent_inside d n h eh ep (inl sd) (inl l) = elim (l.2.parent n ep) [ inl e ↦ inl (Parent d l.0 sd l.1 e) | inr new ↦ new.0 ]
   parent_inside d n h eh ep (inr new) (inl l) = absurd (new.1 (header_old coherent d l.0 l.1))
 
-  server_inside : (n s : Name) → SeenOrNew S v n → (home_at v n ≡ Some s) ⊎ Sees S v (OptionsOf s) → Sees S v (OptionsOf s)
-  server_inside n s ok (inr sees) = sees
-  server_inside n s (inl sn) (inl e) = OfNode n sn e
+  -- the server of a node, and the one that is active on it, is known where the node is
+  server_inside : (n s : Name) → SeenOrNew S v n → (home_at v n ≡ Some s) ⊎ Known S v (OptionsOf s) → Known S v (OptionsOf s)
+  server_inside n s ok (inr known) = known
+  server_inside n s (inl sn) (inl e) = inl (OfNode n sn e)
   server_inside n s (inr new) (inl e) = absurd (new.1 (home_old coherent n s e))
 
-  server_back : (s : Name) (info : ServerInfo) → server_at x s ≡ Some info → server_at v s ≡ Some info
-  server_back s info e = sym (ap (λ m. get m s) i.servers) ∙ e
+  seat_inside : (n s : Name) → SeenOrNew S v n → (active_at v n ≡ Some s) ⊎ NewTo S v s → (Seen S v n × (active_at v n ≡ Some s)) ⊎ NewTo S v s
+  seat_inside n s ok (inr new) = inr new
+  seat_inside n s (inl sn) (inl e) = inl (sn, e)
+  seat_inside n s (inr new) (inl e) = let h = coherent.seating.seats n s e in absurd (new.1 (header_old coherent n h.0 h.1))
 
-  active_back : (n s : Name) → active_at x n ≡ Some s → active_at v n ≡ Some s
-  active_back n s e = sym (ap (λ m. get m n) i.actives) ∙ e
-
-  -- nothing is active on a node that is new
-  seat_seen : (n s : Name) → active_at v n ≡ Some s → SeenOrNew S v n → Seen S v n
-  seat_seen n s e (inl seen) = seen
-  seat_seen n s e (inr new) = let h = coherent.seating.seats n s e in absurd (new.1 (header_old coherent n h.0 h.1))
+  -- what is seen by a server: it was seen where the server was known, and is new where that is
+  by_server : (s : Name) (info : ServerInfo) (P Q : Type 0) → P ⊎ NewTo S v s → ServerInside S v s info → (P → server_at v s ≡ Some info → Q) → (NewTo S v s → NewTo S v info.root → Q) → Q
+  by_server s info P Q ok (inr new) old made = made new.0 new.1
+  by_server s info P Q (inl p) (inl e) old made = old p e
+  by_server s info P Q (inr new) (inl e) old made = absurd (new.1 (coherent.given.servers s info e))
 
   -- the root of a server that S knows and could serve
   known_root : (s : Name) (info : ServerInfo) → server_at v s ≡ Some info → CouldServe S v info → Knows S v s → Seen S v info.root
@@ -217,6 +223,10 @@ module _ {S : ℕ → Bool} {v x : World} (coherent : Coherent v) (i : Inside S 
   known_sends s info is could (OfSeat n sn en) = ByNode info.root (Active n s info sn en is refl) (coherent.housing.roots s info is) could
   known_sends s info is could (OfControl h) = ByControl h
 
+  -- a root that is seen or new
+  abbrev is_root : (info : ServerInfo) (n : Name) → n ≡ info.root → SeenOrNew S v info.root → SeenOrNew S v n
+  is_root info n e s = subst (SeenOrNew S v) (sym e) s
+
   -- what is seen was seen, or is new
   pub seen_inside : (n : Name) → Seen S x n → SeenOrNew S v n
   seen_inside n (Root e) = inl (Root e)
@@ -225,17 +235,16 @@ module _ {S : ℕ → Bool} {v x : World} (coherent : Coherent v) (i : Inside S 
       let known = (i.held (Io r) h).nodes in
       elim e [ inl at ↦ subst (SeenOrNew S v) (sym at) (known p.at (inr (way_at p r.parents a))) | inr up ↦ subst (SeenOrNew S v) (sym up) (known p.parent (inr (way_parent p r.parents a))) ]
   seen_inside n (Controlled s info h es e) =
-      let is : server_at v s ≡ Some info = server_back s info es in
-      inl (subst (Seen S v) (sym e) (sends_root S v s info is (commands_send S v s info is (i.held (Control s) h))))
+      by_server s info (Commands S v s) (SeenOrNew S v n) (i.held (Control s) h) (i.servers s info es)
+      (λ k is. is_root info n e (inl (sends_root S v s info is (commands_send S v s info is k)))) (λ new root. is_root info n e (inr root))
   seen_inside n (Child d h name s eh k c en) = child_inside d n h name eh k c (seen_inside d s) (i.entries d n name en)
   seen_inside n (Parent d h s eh ep) = parent_inside d n h eh ep (seen_inside d s) (i.headers d h eh)
   seen_inside n (Active m s info sm em es e) =
-      let is : server_at v s ≡ Some info = server_back s info es in
-      let seat : active_at v m ≡ Some s = active_back m s em in
-      inl (Active m s info (seat_seen m s seat (seen_inside m sm)) seat is e)
+      by_server s info (Seen S v m × (active_at v m ≡ Some s)) (SeenOrNew S v n) (seat_inside m s (seen_inside m sm) (i.actives m s em)) (i.servers s info es)
+      (λ k is. is_root info n e (inl (Active m s info k.0 k.1 is refl))) (λ new root. is_root info n e (inr root))
   seen_inside n (ServerRoot m s info sm em es c e) =
-      let is : server_at v s ≡ Some info = server_back s info es in
-      inl (subst (Seen S v) (sym e) (known_root s info is (serve_back info c) (server_inside m s (seen_inside m sm) (i.homes m s em))))
+      by_server s info (Knows S v s) (SeenOrNew S v n) (server_inside m s (seen_inside m sm) (i.homes m s em)) (i.servers s info es)
+      (λ k is. is_root info n e (inl (known_root s info is (serve_back info c) k))) (λ new root. is_root info n e (inr root))
 
   body_inside : (n : Name) (h before : Header) → header_at v n ≡ Some before → Less S v n h before → SeesBody S x n h → SeesBody S v n before
   body_inside n h before is less (ToRead c) = ToRead (less.could Read (could_back h Read c))
@@ -250,20 +259,22 @@ module _ {S : ℕ → Bool} {v x : World} (coherent : Coherent v) (i : Inside S 
     | inr new ↦ inr new.1
   ]
 
-  knows_inside : (q : Name) → Knows S x q → Knows S v q
+  knows_inside : (q : Name) → Knows S x q → Known S v (OptionsOf q)
   knows_inside q (OfNode n sn en) = server_inside n q (seen_inside n sn) (i.homes n q en)
-  knows_inside q (OfSeat n sn en) = let seat : active_at v n ≡ Some q = active_back n q en in OfSeat n (seat_seen n q seat (seen_inside n sn)) seat
-  knows_inside q (OfControl h) = commands_known S v q (i.held (Control q) h)
+  knows_inside q (OfSeat n sn en) = elim (seat_inside n q (seen_inside n sn) (i.actives n q en)) [ inl k ↦ inl (OfSeat n k.0 k.1) | inr new ↦ inr new ]
+  knows_inside q (OfControl h) = elim (i.held (Control q) h) [ inl k ↦ inl (commands_known S v q k) | inr new ↦ inr new ]
 
-  sends_inside : (q : Name) (info : ServerInfo) → server_at v q ≡ Some info → Sends S x q info → Sends S v q info
-  sends_inside q info is (ByControl h) = commands_send S v q info is (i.held (Control q) h)
-  sends_inside q info is (ByNode n sn en could) = known_sends q info is (serve_back info could) (server_inside n q (seen_inside n sn) (i.homes n q en))
+  sends_inside : (q : Name) (info : ServerInfo) → server_at v q ≡ Some info → Sends S x q info → Sends S v q info ⊎ NewTo S v q
+  sends_inside q info is (ByControl h) = elim (i.held (Control q) h) [ inl k ↦ inl (commands_send S v q info is k) | inr new ↦ inr new ]
+  sends_inside q info is (ByNode n sn en could) = elim (server_inside n q (seen_inside n sn) (i.homes n q en)) [ inl k ↦ inl (known_sends q info is (serve_back info could) k) | inr new ↦ inr new ]
+  sends_inside q info is (BySeat n h sn en eh owns) = elim (seat_inside n q (seen_inside n sn) (i.actives n q en)) [
+    | inl k ↦ let l = header_before n h eh k.0 in inl (BySeat n l.0 k.0 k.1 l.1 (l.2.owns (owns_back h owns)))
+    | inr new ↦ inr new
+  ]
 
-  sends_inside q info is (BySeat n h sn en eh owns) =
-      let seat : active_at v n ≡ Some q = active_back n q en in
-      let seen : Seen S v n = seat_seen n q seat (seen_inside n sn) in
-      let l = header_before n h eh seen in
-      BySeat n l.0 seen seat l.1 (l.2.owns (owns_back h owns))
+  users_inside : (q : Name) (m : MaySend S x q) → ServerInside S v q m.info → Known S v (UsersOf q)
+  users_inside q m (inr new) = inr new.0
+  users_inside q m (inl is) = elim (sends_inside q m.info is m.why) [ inl k ↦ inl (record { info = m.info; is_server = is; other = m.other; why = k }) | inr new ↦ inr new ]
 
   -- a part that is seen was seen, or is new
   pub sees_inside : (p : Part) → Sees S x p → Known S v p
@@ -282,8 +293,6 @@ module _ {S : ℕ → Bool} {v x : World} (coherent : Coherent v) (i : Inside S 
     | inl q ↦ inl (q.0, q.1, q.2 ∙ s.2)
     | inr new ↦ inr (subst (NewTo S v) s.2 new)
   ]
-  sees_inside (OptionsOf q) s = inl (knows_inside q s)
-  sees_inside (UsersOf q) s =
-      let is : server_at v q ≡ Some s.info = server_back q s.info s.is_server in
-      inl (record { info = s.info; is_server = is; other = s.other; why = sends_inside q s.info is s.why })
+  sees_inside (OptionsOf q) s = knows_inside q s
+  sees_inside (UsersOf q) s = users_inside q s (i.servers q s.info s.is_server)
   sees_inside (TaskOf t) s = inl s

@@ -6,10 +6,11 @@ use Rattle.hurd_ports.specs.Tables.{Task}
 use Rattle.hurd_ports.specs.Steps.{named, with_sent, edit_task}
 use Rattle.hurd_machine.specs.World.{World, task_at}
 use Rattle.hurd_machine.specs.Sight.{Seen}
-use Rattle.hurd_machine.specs.Change.{Change, MakeNode, MakeOpen, EditTask, Send, Settle, settle, apply, apply_all}
+use Rattle.hurd_machine.specs.Change.{Change, MakeNode, MakeOpen, EditTask, Send, Attach, Settle, settle, apply, apply_all}
 use Rattle.hurd_machine.specs.Sound.{Below, Coherent}
 use Rattle.hurd_machine.proofs.Tasks.{edit_cases}
-use Rattle.hurd_machine.proofs.Coherence.{Proper, AllProper, coherent_one}
+use Rattle.hurd_machine.proofs.Coherence.{Proper, AllProper}
+use Rattle.hurd_machine.proofs.Keeping.{coherent_one}
 use Rattle.hurd_machine.proofs.Views.{Seen-back}
 use Rattle.hurd_machine.proofs.Settle.{settle_agrees}
 use Rattle.hurd_machine.proofs.Confine.{NewTo, SeenOrNew, Inside, Inside-refl, seen_inside}
@@ -33,6 +34,7 @@ grown_one (MakeNode n s node) w p q y at = edit_grown w n.task.0 (named 1) p.0.s
 grown_one (MakeOpen o z) w p q y at = edit_grown w o.task.0 (named 1) p.seat p.is_task (omega arith) q y at
 grown_one (EditTask t f) w p q y at = edit_grown w t f p.1 p.2 (p.0 p.1) q y at
 grown_one (Send r t) w p q y at = edit_grown w t (with_sent r) p.0 p.1 (omega arith) q y at
+grown_one (Attach s seat i node) w p q y at = edit_grown w s.task.0 (named 2) p.next.seat p.next.is_task (omega arith) q y at
 grown_one c w p q y at = (y, at, omega arith)
 
 pub grown : (cs : List Change) (w : World) → Coherent w → AllProper w cs → (q : ℕ) (y : Task) → task_at (apply_all cs w) q ≡ Some y → Grown w q y

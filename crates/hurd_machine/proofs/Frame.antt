@@ -15,12 +15,16 @@ use Rattle.hurd_machine.specs.World.{World, IsAmong, task_at, open_at, header_at
 use Rattle.hurd_nodes.specs.Weights.{one_if, count_list}
 use Rattle.hurd_nodes.specs.Held.{is_home}
 use Rattle.hurd_machine.specs.Sight.{Part, AttrOf, EmptyOf, BodyOf, OpenOf, OptionsOf, UsersOf, TaskOf, Sees, part, IsGone, count_rights, is_on, holders, users, AnAttr, AnEmpty, ABody, AnOpen, AnOptions, AUsers, ATask}
-use Rattle.hurd_machine.specs.Change.{Change, EditHeader, EditBody, MakeNode, EditOpen, MakeOpen, EditTask, Send, Settle, settle, apply, apply_all}
+use Rattle.hurd_machine.specs.Change.{Change, EditHeader, EditBody, MakeNode, EditOpen, MakeOpen, EditTask, Send, Attach, DropServer, Unseat, Settle, settle, apply, apply_all}
 use Rattle.hurd_machine.specs.Sound.{Below, Coherent, AtRest, Sound}
 use Rattle.hurd_machine.proofs.Nodes.{attr_same, header_in, body_in, empty_in, header-with_body, body-with_header, edit_keeps, KeepsEmptiness, empty-kept}
 use Rattle.hurd_machine.proofs.Tasks.{count_edit, count_named, count_alike, count_sent}
-use Rattle.hurd_machine.proofs.Coherence.{IsNext, next_not, unnoded, Proper, AllProper, coherent_one}
+use Rattle.hurd_machine.proofs.Coherence.{IsNext, next_not, unnoded, Proper, AllProper}
+use Rattle.hurd_machine.proofs.Keeping.{coherent_one}
 use Rattle.hurd_machine.proofs.Views.{Agree, Agree-trans}
+use Rattle.hurd_machine.specs.Touched.{Goes}
+use Rattle.hurd_machine.proofs.Comes.{attach_is}
+use Rattle.hurd_machine.proofs.ServerParts.{not_home, users_named, come_parts, drop_parts, unseated_parts}
 use Rattle.hurd_machine.proofs.Settle.{AsBefore, settle_part, settle_agrees}
 
 -- of a task z in place of x, as many rights name each open, and are on each server's nodes, but for those of T
@@ -42,6 +46,9 @@ Within T w (EditOpen o f) = T (OpenOf o)
 Within T w (MakeOpen o z) = T (TaskOf o.task.0) × T (OpenOf o)
 Within T w (EditTask q f) = T (TaskOf q) × ((x : Task) → task_at w q ≡ Some x → Moved T w x (f x))
 Within T w (Send r q) = T (TaskOf q) × Covers T w r
+Within T w (Attach s at i node) = T (TaskOf s.task.0) × T (AttrOf i.root) × T (EmptyOf i.root) × T (BodyOf i.root) × T (AttrOf at) × T (OptionsOf s)
+Within T w (DropServer s) = (p : Part) → Goes w s p → T p
+Within T w (Unseat n) = T (AttrOf n)
 Within T w Settle = Unit {0}
 
 abbrev pub AllWithin : (Part → Type 0) → World → List Change → Type 0
@@ -71,9 +78,13 @@ abbrev pub IsExact : Change → Type 0
 IsExact Settle = ⊥
 IsExact c = Unit {0}
 
-not_home : (s : Name) (o : Option Name) → (o ≡ Some s → ⊥) → is_home s o ≡ false
-not_home s None h = refl
-not_home s (Some q) h = same_name-apart s q (λ e. h (ap Some (sym e)))
+-- all but settling and those of servers
+abbrev pub IsPlain : Change → Type 0
+IsPlain (Attach s at i node) = ⊥
+IsPlain (DropServer s) = ⊥
+IsPlain (Unseat n) = ⊥
+IsPlain Settle = ⊥
+IsPlain c = Unit {0}
 
 pub not_on : (w : World) (s : Name) (r : Right) (T : Part → Type 0) → Covers T w r → (T (UsersOf s) → ⊥) → is_on w s r ≡ false
 not_on w s (Io r) T i h = not_home s (home_at w r.node) (λ e. h (i.1 s e))
@@ -83,65 +94,75 @@ pub not_named : (w : World) (o : Name) (r : Right) (T : Part → Type 0) → Cov
 not_named w o (Io r) T i h = same_name-apart r.open_name o (λ e. h (subst (λ z. T (OpenOf z)) e i.0))
 not_named w o (Control q) T i h = refl
 
--- where a task named a thing and a node got a server under a name that was not given, each server has as many users
-pub users_named : (w y : World) (c : Coherent w) (n : Name) (next : IsNext w n) (k : ℕ) (m s : Name) → (Below w m → ⊥) → y.homes ≡ insert w.homes m s → y.tasks ≡ edit_task n.task.0 (named k) w.tasks → (q : Name) → users y q ≡ users w q
-users_named w y c n next k m s new homes tasks q =
-    ap (count_rights (is_on y q)) tasks
-    ∙ count_alike (is_on y q) (is_on w q) (edit_task n.task.0 (named k) w.tasks) same
-    ∙ count_named (is_on w q) n.task.0 k w.tasks next.seat next.is_task
-  where
-    same : (t : ℕ) (x : Task) (r : Right) → slice_get (edit_task n.task.0 (named k) w.tasks) t ≡ Some x → IsAmong r (rights_of x) → is_on y q r ≡ is_on w q r
-    same t x (Io r) at i = ap (is_home q) (ap (λ h. get h r.node) homes ∙ get_apart w.homes m s r.node (unnoded w c n next k m new t x r at i))
-    same t x (Control p) at i = refl
-
 module _ (w : World) (coherent : Coherent w) (T : Part → Type 0) where
   avoids : (p q : Part) → T q → (T p → ⊥) → p ≢ q
   avoids p q i h e = h (subst T (sym e) i)
 
-  header_kept : (c : Change) → IsExact c → (n : Name) → Within T w c → (T (AttrOf n) → ⊥) → header_at (apply c w) n ≡ header_at w n
+  header_kept : (c : Change) → IsPlain c → (n : Name) → Within T w c → (T (AttrOf n) → ⊥) → header_at (apply c w) n ≡ header_at w n
   header_kept (EditHeader k f) ex n i h = ap header_in (edit_other w.nodes k (with_header f) n (λ e. avoids (AttrOf n) (AttrOf k) i h (ap AttrOf e)))
   header_kept (EditBody k g) ex n i h = edit_keeps header_in (with_body g) (header-with_body g) w.nodes k n
   header_kept (MakeNode k s node) ex n i h = ap header_in (get_apart w.nodes k node n (λ e. avoids (AttrOf n) (AttrOf k) i.1 h (ap AttrOf e)))
+  header_kept (Attach a b j x) ex n i h = absurd ex
+  header_kept (DropServer a) ex n i h = absurd ex
+  header_kept (Unseat a) ex n i h = absurd ex
   header_kept Settle ex n i h = absurd ex
   header_kept c ex n i h = refl
 
-  home_kept : (c : Change) → IsExact c → (n : Name) → Within T w c → (T (AttrOf n) → ⊥) → home_at (apply c w) n ≡ home_at w n
+  home_kept : (c : Change) → IsPlain c → (n : Name) → Within T w c → (T (AttrOf n) → ⊥) → home_at (apply c w) n ≡ home_at w n
   home_kept (MakeNode k s node) ex n i h = get_apart w.homes k s n (λ e. avoids (AttrOf n) (AttrOf k) i.1 h (ap AttrOf e))
+  home_kept (Attach a b j x) ex n i h = absurd ex
+  home_kept (DropServer a) ex n i h = absurd ex
+  home_kept (Unseat a) ex n i h = absurd ex
   home_kept Settle ex n i h = absurd ex
   home_kept c ex n i h = refl
 
-  body_kept : (c : Change) → IsExact c → (n : Name) → Within T w c → (T (BodyOf n) → ⊥) → body_at (apply c w) n ≡ body_at w n
+  body_kept : (c : Change) → IsPlain c → (n : Name) → Within T w c → (T (BodyOf n) → ⊥) → body_at (apply c w) n ≡ body_at w n
   body_kept (EditHeader k f) ex n i h = edit_keeps body_in (with_header f) (body-with_header f) w.nodes k n
   body_kept (EditBody k g) ex n i h = ap body_in (edit_other w.nodes k (with_body g) n (λ e. avoids (BodyOf n) (BodyOf k) i.0 h (ap BodyOf e)))
   body_kept (MakeNode k s node) ex n i h = ap body_in (get_apart w.nodes k node n (λ e. avoids (BodyOf n) (BodyOf k) i.3 h (ap BodyOf e)))
+  body_kept (Attach a b j x) ex n i h = absurd ex
+  body_kept (DropServer a) ex n i h = absurd ex
+  body_kept (Unseat a) ex n i h = absurd ex
   body_kept Settle ex n i h = absurd ex
   body_kept c ex n i h = refl
 
-  empty_kept : (c : Change) → IsExact c → (n : Name) → Within T w c → (T (EmptyOf n) → ⊥) → option_map is_empty_dir (body_at (apply c w) n) ≡ option_map is_empty_dir (body_at w n)
+  empty_kept : (c : Change) → IsPlain c → (n : Name) → Within T w c → (T (EmptyOf n) → ⊥) → option_map is_empty_dir (body_at (apply c w) n) ≡ option_map is_empty_dir (body_at w n)
   empty_kept (EditHeader k f) ex n i h = edit_keeps empty_in (with_header f) (λ o. ap (option_map is_empty_dir) (body-with_header f o)) w.nodes k n
   empty_kept (EditBody k g) ex n i h = elim i.1 [
     | inl e ↦ ap empty_in (edit_other w.nodes k (with_body g) n (λ k. avoids (EmptyOf n) _ e h (ap EmptyOf k)))
     | inr keeps ↦ edit_keeps empty_in (with_body g) (empty-kept g keeps) w.nodes k n
   ]
   empty_kept (MakeNode k s node) ex n i h = ap empty_in (get_apart w.nodes k node n (λ e. avoids (EmptyOf n) (EmptyOf k) i.2 h (ap EmptyOf e)))
+  empty_kept (Attach a b j x) ex n i h = absurd ex
+  empty_kept (DropServer a) ex n i h = absurd ex
+  empty_kept (Unseat a) ex n i h = absurd ex
   empty_kept Settle ex n i h = absurd ex
   empty_kept c ex n i h = refl
 
-  open_kept : (c : Change) → IsExact c → (o : Name) → Within T w c → (T (OpenOf o) → ⊥) → open_at (apply c w) o ≡ open_at w o
+  open_kept : (c : Change) → IsPlain c → (o : Name) → Within T w c → (T (OpenOf o) → ⊥) → open_at (apply c w) o ≡ open_at w o
   open_kept (EditOpen k f) ex o i h = edit_other w.opens k f o (λ e. avoids (OpenOf o) (OpenOf k) i h (ap OpenOf e))
   open_kept (MakeOpen k z) ex o i h = get_apart w.opens k z o (λ e. avoids (OpenOf o) (OpenOf k) i.1 h (ap OpenOf e))
+  open_kept (Attach a b j x) ex o i h = absurd ex
+  open_kept (DropServer a) ex o i h = absurd ex
+  open_kept (Unseat a) ex o i h = absurd ex
   open_kept Settle ex o i h = absurd ex
   open_kept c ex o i h = refl
 
-  server_kept : (c : Change) → IsExact c → (apply c w).servers ≡ w.servers
+  server_kept : (c : Change) → IsPlain c → (apply c w).servers ≡ w.servers
+  server_kept (Attach a b j x) ex = absurd ex
+  server_kept (DropServer a) ex = absurd ex
+  server_kept (Unseat a) ex = absurd ex
   server_kept Settle ex = absurd ex
   server_kept c ex = refl
 
-  actives_kept : (c : Change) → IsExact c → (apply c w).actives ≡ w.actives
+  actives_kept : (c : Change) → IsPlain c → (apply c w).actives ≡ w.actives
+  actives_kept (Attach a b j x) ex = absurd ex
+  actives_kept (DropServer a) ex = absurd ex
+  actives_kept (Unseat a) ex = absurd ex
   actives_kept Settle ex = absurd ex
   actives_kept c ex = refl
 
-  pub holders_kept : (c : Change) → IsExact c → Proper w c → (o : Name) → Within T w c → (T (OpenOf o) → ⊥) → holders (apply c w) o ≡ holders w o
+  pub holders_kept : (c : Change) → IsPlain c → Proper w c → (o : Name) → Within T w c → (T (OpenOf o) → ⊥) → holders (apply c w) o ≡ holders w o
   holders_kept (EditTask q f) ex p o i h =
       let e = count_edit (names_open o) q f w.tasks p.1 p.2 in
       let m = (i.1 p.1 p.2).opens o h in
@@ -153,10 +174,13 @@ module _ (w : World) (coherent : Coherent w) (T : Part → Type 0) where
       omega arith
   holders_kept (MakeNode n s node) ex p o i h = count_named (names_open o) n.task.0 1 w.tasks p.0.seat p.0.is_task
   holders_kept (MakeOpen n z) ex p o i h = count_named (names_open o) n.task.0 1 w.tasks p.seat p.is_task
+  holders_kept (Attach a b j x) ex p o i h = absurd ex
+  holders_kept (DropServer a) ex p o i h = absurd ex
+  holders_kept (Unseat a) ex p o i h = absurd ex
   holders_kept Settle ex p o i h = absurd ex
   holders_kept c ex p o i h = refl
 
-  users_kept : (c : Change) → IsExact c → Proper w c → (s : Name) → Within T w c → (T (UsersOf s) → ⊥) → users (apply c w) s ≡ users w s
+  users_kept : (c : Change) → IsPlain c → Proper w c → (s : Name) → Within T w c → (T (UsersOf s) → ⊥) → users (apply c w) s ≡ users w s
   users_kept (EditTask q f) ex p s i h =
       let e = count_edit (is_on w s) q f w.tasks p.1 p.2 in
       let m = (i.1 p.1 p.2).users s h in
@@ -168,25 +192,48 @@ module _ (w : World) (coherent : Coherent w) (T : Part → Type 0) where
       omega arith
   users_kept (MakeNode n q node) ex p s i h = users_named w (apply (MakeNode n q node) w) coherent n p.0 1 n q (next_not w n p.0) refl refl s
   users_kept (MakeOpen n z) ex p s i h = count_named (is_on w s) n.task.0 1 w.tasks p.seat p.is_task
+  users_kept (Attach a b j x) ex p s i h = absurd ex
+  users_kept (DropServer a) ex p s i h = absurd ex
+  users_kept (Unseat a) ex p s i h = absurd ex
   users_kept Settle ex p s i h = absurd ex
   users_kept c ex p s i h = refl
 
-  task_kept : (c : Change) (q : ℕ) → Within T w c → (T (TaskOf q) → ⊥) → task_at (apply c w) q ≡ task_at w q
-  task_kept (EditTask k f) q i h = edit-apart k f w.tasks q (λ e. avoids (TaskOf q) (TaskOf k) i.0 h (ap TaskOf e))
-  task_kept (Send r k) q i h = edit-apart k (with_sent r) w.tasks q (λ e. avoids (TaskOf q) (TaskOf k) i.0 h (ap TaskOf e))
-  task_kept (MakeNode n s node) q i h = edit-apart n.task.0 (named 1) w.tasks q (λ e. avoids (TaskOf q) (TaskOf n.task.0) i.0 h (ap TaskOf e))
-  task_kept (MakeOpen n z) q i h = edit-apart n.task.0 (named 1) w.tasks q (λ e. avoids (TaskOf q) (TaskOf n.task.0) i.0 h (ap TaskOf e))
-  task_kept c q i h = refl
+  task_kept : (c : Change) → IsPlain c → (q : ℕ) → Within T w c → (T (TaskOf q) → ⊥) → task_at (apply c w) q ≡ task_at w q
+  task_kept (EditTask k f) ex q i h = edit-apart k f w.tasks q (λ e. avoids (TaskOf q) (TaskOf k) i.0 h (ap TaskOf e))
+  task_kept (Send r k) ex q i h = edit-apart k (with_sent r) w.tasks q (λ e. avoids (TaskOf q) (TaskOf k) i.0 h (ap TaskOf e))
+  task_kept (MakeNode n s node) ex q i h = edit-apart n.task.0 (named 1) w.tasks q (λ e. avoids (TaskOf q) (TaskOf n.task.0) i.0 h (ap TaskOf e))
+  task_kept (MakeOpen n z) ex q i h = edit-apart n.task.0 (named 1) w.tasks q (λ e. avoids (TaskOf q) (TaskOf n.task.0) i.0 h (ap TaskOf e))
+  task_kept (Attach a b j x) ex q i h = absurd ex
+  task_kept (DropServer a) ex q i h = absurd ex
+  task_kept (Unseat a) ex q i h = absurd ex
+  task_kept Settle ex q i h = absurd ex
+  task_kept c ex q i h = refl
+
+  plain_frame : (c : Change) → IsPlain c → Proper w c → (p : Part) → Within T w c → (T p → ⊥) → part (apply c w) p ≡ part w p
+  plain_frame c pl pr (AttrOf n) i h = attr_same (header_kept c pl n i h) (home_kept c pl n i h) (ap (λ m. get m n) (actives_kept c pl))
+  plain_frame c pl pr (EmptyOf n) i h = ap AnEmpty (empty_kept c pl n i h)
+  plain_frame c pl pr (BodyOf n) i h = ap ABody (body_kept c pl n i h)
+  plain_frame c pl pr (OpenOf o) i h = ap₂ AnOpen (open_kept c pl o i h) (holders_kept c pl pr o i h)
+  plain_frame c pl pr (OptionsOf s) i h = ap (λ m. AnOptions (get m s)) (server_kept c pl)
+  plain_frame c pl pr (UsersOf s) i h = ap AUsers (users_kept c pl pr s i h)
+  plain_frame c pl pr (TaskOf q) i h = ap ATask (task_kept c pl q i h)
 
 -- what a change doesn't write stays
 pub frame : (T : Part → Type 0) (w : World) → Coherent w → (c : Change) → IsExact c → Proper w c → (p : Part) → Within T w c → (T p → ⊥) → part (apply c w) p ≡ part w p
-frame T w coherent c ex pr (AttrOf n) i h = attr_same (header_kept w coherent T c ex n i h) (home_kept w coherent T c ex n i h) (ap (λ m. get m n) (actives_kept w coherent T c ex))
-frame T w coherent c ex pr (EmptyOf n) i h = ap AnEmpty (empty_kept w coherent T c ex n i h)
-frame T w coherent c ex pr (BodyOf n) i h = ap ABody (body_kept w coherent T c ex n i h)
-frame T w coherent c ex pr (OpenOf o) i h = ap₂ AnOpen (open_kept w coherent T c ex o i h) (holders_kept w coherent T c ex pr o i h)
-frame T w coherent c ex pr (OptionsOf s) i h = ap (λ m. AnOptions (get m s)) (server_kept w coherent T c ex)
-frame T w coherent c ex pr (UsersOf s) i h = ap AUsers (users_kept w coherent T c ex pr s i h)
-frame T w coherent c ex pr (TaskOf q) i h = ap ATask (task_kept w coherent T c q i h)
+frame T w c (Attach s at i node) ex pr p within out =
+    ap (λ x. part x p) (attach_is w s at i node c (next_not w s pr.next))
+    ∙ come_parts w c s at i node pr p (λ e. out (subst T (sym e) within.0)) (λ e. out (subst T (sym e) within.1)) (λ e. out (subst T (sym e) within.2)) (λ e. out (subst T (sym e) within.3))
+    (λ e. out (subst T (sym e) within.4)) (λ e. out (subst T (sym e) within.5))
+frame T w c (DropServer s) ex pr p within out = drop_parts w s p (λ goes. out (within p goes))
+frame T w c (Unseat n) ex pr p within out = unseated_parts w n p (λ e. out (subst T (sym e) within))
+frame T w c Settle ex pr p within out = absurd ex
+frame T w c (EditHeader n f) ex pr p within out = plain_frame w c T (EditHeader n f) tt pr p within out
+frame T w c (EditBody n g) ex pr p within out = plain_frame w c T (EditBody n g) tt pr p within out
+frame T w c (MakeNode n s node) ex pr p within out = plain_frame w c T (MakeNode n s node) tt pr p within out
+frame T w c (EditOpen o f) ex pr p within out = plain_frame w c T (EditOpen o f) tt pr p within out
+frame T w c (MakeOpen o z) ex pr p within out = plain_frame w c T (MakeOpen o z) tt pr p within out
+frame T w c (EditTask q f) ex pr p within out = plain_frame w c T (EditTask q f) tt pr p within out
+frame T w c (Send r q) ex pr p within out = plain_frame w c T (Send r q) tt pr p within out
 
 -- what is gone is not made anew by a change that doesn't write it
 pub gone_kept : (x y : World) (p : Part) → part y p ≡ part x p → IsGone x p → IsGone y p
@@ -222,6 +269,9 @@ length_one (EditTask q f) w = edit-length q f w.tasks
 length_one (Send r q) w = edit-length q (with_sent r) w.tasks
 length_one (MakeNode n s node) w = edit-length n.task.0 (named 1) w.tasks
 length_one (MakeOpen o z) w = edit-length o.task.0 (named 1) w.tasks
+length_one (Attach s at i node) w = edit-length s.task.0 (named 2) w.tasks
+length_one (DropServer s) w = refl
+length_one (Unseat n) w = refl
 length_one Settle w = refl
 length_one c w = refl
 

@@ -8,6 +8,11 @@ pub mod Stays
 pub mod Sweeps
 pub mod Swept
 pub mod Coherence
+pub mod Drop
+pub mod Comes
+pub mod Unseated
+pub mod Keeping
+pub mod ServerParts
 pub mod Rights
 pub mod Views
 pub mod Settle

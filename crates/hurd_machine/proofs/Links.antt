@@ -13,14 +13,15 @@ use Rattle.hurd_creds.proofs.NameLaws.{same_or_apart, same_name-apart, same_name
 use Rattle.hurd_trans_iface.specs.Nodes.{NodeMap, Node, Entry, Header, Body, Content, Listing, IsShaped, is_dir, header_of, body_of, with_header, with_body, with_entry, new_file, new_dir}
 use Rattle.hurd_nodes.specs.Shown.{NodeState, is_root, is_root_of, info_in, server_of, tree_by}
 use Rattle.hurd_machine.specs.World.{World, nodes_of, header_at, body_at, home_at, is_server_root, is_of, lists, lists_at}
-use Rattle.hurd_machine.specs.Change.{Change, EditHeader, EditBody, MakeNode, Settle, stays, settle, apply, apply_all}
+use Rattle.hurd_machine.specs.Change.{Change, EditHeader, EditBody, MakeNode, Attach, DropServer, Unseat, Settle, apply, apply_all}
 use Rattle.hurd_nodes.specs.Weights.{one_if}
 use Rattle.hurd_machine.specs.Sound.{Below, Coherent, times_in, times_listed, LeadsUp, AtRoot, Above, Hangs, Linked}
 use Rattle.hurd_machine.proofs.Nodes.{header_in, body_in, edited_from, edit_keeps, edit_reads, header-with_header, header-with_body, body-with_header, body-with_body}
 use Rattle.hurd_machine.proofs.Tasks.{count_append}
 use Rattle.hurd_machine.proofs.Listed.{lists_counted, none_in}
 use Rattle.hurd_machine.proofs.Sums.{of_found, total_insert, total_kept, total_none, total_retained}
-use Rattle.hurd_machine.proofs.Coherence.{HasNoEntries, apply_all-append}
+use Rattle.hurd_machine.proofs.Coherence.{HasNoEntries}
+use Rattle.hurd_machine.proofs.Keeping.{apply_all-append}
 
 -- how often a body names a node
 
@@ -123,6 +124,9 @@ abbrev pub Loosens : (Name → Type 0) → World → Change → Type 0
 Loosens loose w (EditHeader n f) = Reheaded loose w n f
 Loosens loose w (EditBody d g) = (b : Body) → body_at w d ≡ Some b → Relisted loose (nodes_of w) d b (g b)
 Loosens loose w (MakeNode n s node) = loose n × (get w.nodes n ≡ None) × (home_at w n ≡ None) × HasNoEntries node.body
+Loosens loose w (Attach s at i node) = ⊥
+Loosens loose w (DropServer s) = ⊥
+Loosens loose w (Unseat n) = ⊥
 Loosens loose w Settle = ⊥
 Loosens loose w c = Unit {0}
 
@@ -310,6 +314,9 @@ loosened_one : (loose : Name → Type 0) (c : Change) (w : World) → Loosens lo
 loosened_one loose (EditHeader n f) w may l = loose_header loose w n f may l
 loosened_one loose (EditBody n g) w may l = loose_body loose w n g may l
 loosened_one loose (MakeNode n s node) w may l = loose_made loose w n s node may l
+loosened_one loose (Attach s at i node) w may l = absurd may
+loosened_one loose (DropServer s) w may l = absurd may
+loosened_one loose (Unseat n) w may l = absurd may
 loosened_one loose Settle w may l = absurd may
 loosened_one loose c w may l = l
 
@@ -340,6 +347,9 @@ abbrev pub IsSteady : Change → Type 0
 IsSteady (EditHeader n f) = (h : Header) → ((f h).kind ≡ h.kind) × ((f h).parent ≡ h.parent) × ((f h).links ≡ h.links)
 IsSteady (EditBody d g) = (b : Body) (n : Name) → times_in n (g b) ≡ times_in n b
 IsSteady (MakeNode n s node) = ⊥
+IsSteady (Attach s at i node) = ⊥
+IsSteady (DropServer s) = ⊥
+IsSteady (Unseat n) = ⊥
 IsSteady Settle = ⊥
 IsSteady c = Unit {0}
 
@@ -351,6 +361,9 @@ steady_one : (c : Change) (w : World) → IsSteady c → Loosens (λ n. ⊥) w c
 steady_one (EditHeader n f) w p = record { kinds = λ h. (p h).0; parents = inl (λ h. (p h).1); links = inr (λ h. (p h).2) }
 steady_one (EditBody d g) w p = λ b is. record { times = λ n out. p b n; fuller = inl (λ n e. sym (lists_alike n b (g b) (p b n)) ∙ e) }
 steady_one (MakeNode n s node) w p = absurd p
+steady_one (Attach s at i node) w p = absurd p
+steady_one (DropServer s) w p = absurd p
+steady_one (Unseat n) w p = absurd p
 steady_one Settle w p = absurd p
 steady_one c w p = tt
 

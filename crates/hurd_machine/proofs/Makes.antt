@@ -204,7 +204,7 @@ module _ (w : World) (n s : Name) (node : Node) (d : Name) (name : List ℕ) whe
 
   -- a task of S may make it where S saw the server, and the parent that it has
   pub entered_may : (S : ℕ → Bool) (v : World) → S n.task.0 ≡ true → NewTo S v n → Sees S v (OptionsOf s) → ((p : Name) → node.header.parent ≡ Some p → SeenOrNew S v p) → AllMay S v w (entered n s node d name)
-  entered_may S v ours new served parent = ((ours, served, parent), (entry_may S v made d name n (inr new), tt))
+  entered_may S v ours new served parent = ((ours, inl served, parent), (entry_may S v made d name n (inr new), tt))
 
   -- what is read of the new node afterwards
   pub entered_home : home_at left n ≡ Some s

@@ -1,5 +1,5 @@
 -- The same change of a task of S in two worlds that are alike for S: they are alike afterwards.
-use Rattle.std.proofs.Common.{◌≡◌, ◌⊎◌, ℕ, Bool, true, Some, length, sym, refl, ◌∙◌, ap, ap₂, inl, inr, arith}
+use Rattle.std.proofs.Common.{◌≡◌, ◌⊎◌, ℕ, Bool, true, Some, length, sym, refl, ◌∙◌, ap, ap₂, subst, inl, inr, arith}
 use Rattle.std.specs.Option.{option_map}
 use Rattle.std.specs.FinMap.{get}
 use Rattle.hurd_creds.specs.declared.name.Name.{Name}
@@ -15,12 +15,14 @@ use Rattle.hurd_nodes.specs.Weights.{one_if}
 use Rattle.hurd_nodes.specs.Held.{is_home}
 use Rattle.hurd_machine.specs.Sight.{Part, AttrOf, EmptyOf, BodyOf, OpenOf, OptionsOf, UsersOf, TaskOf, part, count_rights, holders, is_on, users}
 use Rattle.hurd_machine.specs.Sight.{AnAttr, AnEmpty, ABody, AnOpen, AnOptions, AUsers, ATask}
-use Rattle.hurd_machine.specs.Change.{Change, EditHeader, EditBody, MakeNode, EditOpen, MakeOpen, EditTask, Send, Settle, apply}
+use Rattle.hurd_machine.specs.Change.{Change, EditHeader, EditBody, MakeNode, EditOpen, MakeOpen, EditTask, Send, Attach, DropServer, Unseat, Settle, apply}
 use Rattle.hurd_machine.specs.Sound.{Coherent}
 use Rattle.hurd_machine.proofs.Nodes.{attr_same, header_in, body_in, empty_in, header-with_header, header-with_body, body-with_header, body-with_body, edit_alike, insert_alike, ByEmptiness, edit_empty_alike}
 use Rattle.hurd_machine.proofs.Tasks.{edit_here, edit_same, count_edit, count_named, list_alike, count_sent}
 use Rattle.hurd_machine.proofs.Coherence.{next_not, Proper}
-use Rattle.hurd_machine.proofs.Frame.{IsExact, users_named}
+use Rattle.hurd_machine.proofs.Frame.{IsExact, IsPlain}
+use Rattle.hurd_machine.proofs.Comes.{attach_is}
+use Rattle.hurd_machine.proofs.ServerParts.{users_named, come_alike, drop_alike, unseated_alike}
 use Rattle.hurd_machine.proofs.Confine.{SeenOrNew, Known, RightInside, Inside}
 use Rattle.hurd_machine.proofs.Allowed.{May, may_inside}
 
@@ -30,30 +32,45 @@ pub record Mirror (S : ℕ → Bool) (v x y : World) : Type 0 where
   pub parts : (p : Part) → Known S v p → part y p ≡ part x p
 
 module _ (x y : World) where
-  header_alike : (c : Change) → IsExact c → (n : Name) → header_at y n ≡ header_at x n → header_at (apply c y) n ≡ header_at (apply c x) n
+  header_alike : (c : Change) → IsPlain c → (n : Name) → header_at y n ≡ header_at x n → header_at (apply c y) n ≡ header_at (apply c x) n
   header_alike (EditHeader k f) ex n h = edit_alike header_in (option_map f) (with_header f) (header-with_header f) x.nodes y.nodes k n h
   header_alike (EditBody k g) ex n h = edit_alike header_in (λ z. z) (with_body g) (header-with_body g) x.nodes y.nodes k n h
   header_alike (MakeNode k s node) ex n h = insert_alike header_in x.nodes y.nodes k n node h
+  header_alike (Attach a b j u) ex n h = absurd ex
+  header_alike (DropServer a) ex n h = absurd ex
+  header_alike (Unseat a) ex n h = absurd ex
   header_alike Settle ex n h = absurd ex
   header_alike c ex n h = h
 
-  home_alike : (c : Change) → IsExact c → (n : Name) → home_at y n ≡ home_at x n → home_at (apply c y) n ≡ home_at (apply c x) n
+  home_alike : (c : Change) → IsPlain c → (n : Name) → home_at y n ≡ home_at x n → home_at (apply c y) n ≡ home_at (apply c x) n
   home_alike (MakeNode k s node) ex n o = insert_alike (λ z. z) x.homes y.homes k n s o
+  home_alike (Attach a b j u) ex n o = absurd ex
+  home_alike (DropServer a) ex n o = absurd ex
+  home_alike (Unseat a) ex n o = absurd ex
   home_alike Settle ex n o = absurd ex
   home_alike c ex n o = o
 
-  body_alike : (c : Change) → IsExact c → (n : Name) → body_at y n ≡ body_at x n → body_at (apply c y) n ≡ body_at (apply c x) n
+  body_alike : (c : Change) → IsPlain c → (n : Name) → body_at y n ≡ body_at x n → body_at (apply c y) n ≡ body_at (apply c x) n
   body_alike (EditHeader k f) ex n h = edit_alike body_in (λ z. z) (with_header f) (body-with_header f) x.nodes y.nodes k n h
   body_alike (EditBody k g) ex n h = edit_alike body_in (option_map g) (with_body g) (body-with_body g) x.nodes y.nodes k n h
   body_alike (MakeNode k s node) ex n h = insert_alike body_in x.nodes y.nodes k n node h
+  body_alike (Attach a b j u) ex n h = absurd ex
+  body_alike (DropServer a) ex n h = absurd ex
+  body_alike (Unseat a) ex n h = absurd ex
   body_alike Settle ex n h = absurd ex
   body_alike c ex n h = h
 
-  server_alike : (c : Change) → IsExact c → (s : Name) → server_at y s ≡ server_at x s → server_at (apply c y) s ≡ server_at (apply c x) s
+  server_alike : (c : Change) → IsPlain c → (s : Name) → server_at y s ≡ server_at x s → server_at (apply c y) s ≡ server_at (apply c x) s
+  server_alike (Attach a b j u) ex s h = absurd ex
+  server_alike (DropServer a) ex s h = absurd ex
+  server_alike (Unseat a) ex s h = absurd ex
   server_alike Settle ex s h = absurd ex
   server_alike c ex s h = h
 
-  active_alike : (c : Change) → IsExact c → (n : Name) → active_at y n ≡ active_at x n → active_at (apply c y) n ≡ active_at (apply c x) n
+  active_alike : (c : Change) → IsPlain c → (n : Name) → active_at y n ≡ active_at x n → active_at (apply c y) n ≡ active_at (apply c x) n
+  active_alike (Attach a b j u) ex n h = absurd ex
+  active_alike (DropServer a) ex n h = absurd ex
+  active_alike (Unseat a) ex n h = absurd ex
   active_alike Settle ex n h = absurd ex
   active_alike c ex n h = h
 
@@ -62,7 +79,7 @@ module _ (x y : World) where
   EmptinessSettled (EditBody k g) = ByEmptiness g ⊎ (body_at y k ≡ body_at x k)
   EmptinessSettled c = Unit {0}
 
-  empty_alike : (c : Change) → IsExact c → EmptinessSettled c → (n : Name) → empty_in (get y.nodes n) ≡ empty_in (get x.nodes n)
+  empty_alike : (c : Change) → IsPlain c → EmptinessSettled c → (n : Name) → empty_in (get y.nodes n) ≡ empty_in (get x.nodes n)
       → option_map is_empty_dir (body_at (apply c y) n) ≡ option_map is_empty_dir (body_at (apply c x) n)
   empty_alike (EditHeader k f) ex by n h = edit_alike empty_in (λ z. z) (with_header f) (λ z. ap (option_map is_empty_dir) (body-with_header f z)) x.nodes y.nodes k n h
   empty_alike (EditBody k g) ex by n h = elim by [
@@ -73,20 +90,29 @@ module _ (x y : World) where
     ]
   ]
   empty_alike (MakeNode k s node) ex by n h = insert_alike empty_in x.nodes y.nodes k n node h
+  empty_alike (Attach a b j u) ex by n h = absurd ex
+  empty_alike (DropServer a) ex by n h = absurd ex
+  empty_alike (Unseat a) ex by n h = absurd ex
   empty_alike Settle ex by n h = absurd ex
   empty_alike c ex by n h = h
 
-  open_alike : (c : Change) → IsExact c → (o : Name) → open_at y o ≡ open_at x o → open_at (apply c y) o ≡ open_at (apply c x) o
+  open_alike : (c : Change) → IsPlain c → (o : Name) → open_at y o ≡ open_at x o → open_at (apply c y) o ≡ open_at (apply c x) o
   open_alike (EditOpen k f) ex o h = edit_alike (λ z. z) (option_map f) f (λ z. refl) x.opens y.opens k o h
   open_alike (MakeOpen k z) ex o h = insert_alike (λ u. u) x.opens y.opens k o z h
+  open_alike (Attach a b j u) ex o h = absurd ex
+  open_alike (DropServer a) ex o h = absurd ex
+  open_alike (Unseat a) ex o h = absurd ex
   open_alike Settle ex o h = absurd ex
   open_alike c ex o h = h
 
-  task_alike : (c : Change) → IsExact c → (q : ℕ) → task_at y q ≡ task_at x q → task_at (apply c y) q ≡ task_at (apply c x) q
+  task_alike : (c : Change) → IsPlain c → (q : ℕ) → task_at y q ≡ task_at x q → task_at (apply c y) q ≡ task_at (apply c x) q
   task_alike (EditTask k f) ex q h = edit_same k f x.tasks y.tasks q h
   task_alike (Send r k) ex q h = edit_same k (with_sent r) x.tasks y.tasks q h
   task_alike (MakeNode n s node) ex q h = edit_same n.task.0 (named 1) x.tasks y.tasks q h
   task_alike (MakeOpen o z) ex q h = edit_same o.task.0 (named 1) x.tasks y.tasks q h
+  task_alike (Attach a b j u) ex q h = absurd ex
+  task_alike (DropServer a) ex q h = absurd ex
+  task_alike (Unseat a) ex q h = absurd ex
   task_alike Settle ex q h = absurd ex
   task_alike c ex q h = h
 
@@ -126,17 +152,20 @@ module _ (S : ℕ → Bool) (v x y : World) (before : Inside S v x) (cx : Cohere
   emptiness (EditBody n g) m = elim m.0 [ inl by ↦ inl by | inr known ↦ inr (let e = alike.parts (BodyOf n) known in cc) ]
   emptiness c m = tt
 
-  holders_alike : (c : Change) → IsExact c → Proper x c → Proper y c → May S v x c → (o : Name) → holders y o ≡ holders x o → holders (apply c y) o ≡ holders (apply c x) o
+  holders_alike : (c : Change) → IsPlain c → Proper x c → Proper y c → May S v x c → (o : Name) → holders y o ≡ holders x o → holders (apply c y) o ≡ holders (apply c x) o
   holders_alike (EditTask q f) ex px py m o e = counts_own q f (names_open o) (names_open o) px.1 py.1 m.0 px.2 py.2 (λ r i. refl) (λ r i. refl) e
   holders_alike (Send r q) ex px py m o e = counts_sent q r (names_open o) (names_open o) px.0 py.0 px.1 py.1 refl e
   holders_alike (MakeNode n s node) ex px py m o e =
       count_named (names_open o) n.task.0 1 y.tasks py.0.seat py.0.is_task ∙ e ∙ sym (count_named (names_open o) n.task.0 1 x.tasks px.0.seat px.0.is_task)
   holders_alike (MakeOpen n z) ex px py m o e =
       count_named (names_open o) n.task.0 1 y.tasks py.seat py.is_task ∙ e ∙ sym (count_named (names_open o) n.task.0 1 x.tasks px.seat px.is_task)
+  holders_alike (Attach a b j u) ex px py m o e = absurd ex
+  holders_alike (DropServer a) ex px py m o e = absurd ex
+  holders_alike (Unseat a) ex px py m o e = absurd ex
   holders_alike Settle ex px py m o e = absurd ex
   holders_alike c ex px py m o e = e
 
-  users_alike : (c : Change) → IsExact c → Proper x c → Proper y c → May S v x c → Inside S v (apply c x) → (s : Name) → users y s ≡ users x s → users (apply c y) s ≡ users (apply c x) s
+  users_alike : (c : Change) → IsPlain c → Proper x c → Proper y c → May S v x c → Inside S v (apply c x) → (s : Name) → users y s ≡ users x s → users (apply c y) s ≡ users (apply c x) s
   users_alike (EditTask q f) ex px py m after s e =
       counts_own q f (is_on x s) (is_on y s) px.1 py.1 m.0 px.2 py.2
       (λ r i. same_side s r (before.held r (record { task = q; ours = m.0; seat = px.1; is_task = px.2; here = i })))
@@ -148,33 +177,58 @@ module _ (S : ℕ → Bool) (v x y : World) (before : Inside S v x) (cx : Cohere
       ∙ sym (users_named x (apply (MakeNode n q node) x) cx n px.0 1 n q (next_not x n px.0) refl refl s)
   users_alike (MakeOpen n z) ex px py m after s e =
       count_named (is_on y s) n.task.0 1 y.tasks py.seat py.is_task ∙ e ∙ sym (count_named (is_on x s) n.task.0 1 x.tasks px.seat px.is_task)
+  users_alike (Attach a b j u) ex px py m after s e = absurd ex
+  users_alike (DropServer a) ex px py m after s e = absurd ex
+  users_alike (Unseat a) ex px py m after s e = absurd ex
   users_alike Settle ex px py m after s e = absurd ex
   users_alike c ex px py m after s e = e
 
-  module _ (c : Change) (ex : IsExact c) (px : Proper x c) (py : Proper y c) (m : May S v x c) (after : Inside S v (apply c x)) where
+  module _ (c : Change) (ex : IsPlain c) (px : Proper x c) (py : Proper y c) (m : May S v x c) (after : Inside S v (apply c x)) where
     -- each part that S knows is alike afterwards
-    pub part_same : (p : Part) → Known S v p → part (apply c y) p ≡ part (apply c x) p
-    part_same (AttrOf n) known =
+    plain_same : (p : Part) → Known S v p → part (apply c y) p ≡ part (apply c x) p
+    plain_same (AttrOf n) known =
         let e = alike.parts (AttrOf n) known in
         let h : header_at y n ≡ header_at x n = cc in
         let k : active_at y n ≡ active_at x n = cc in
         attr_same (header_alike x y c ex n h) (home_alike x y c ex n (home_same n known)) (active_alike x y c ex n k)
-    part_same (EmptyOf n) known =
+    plain_same (EmptyOf n) known =
         let e = alike.parts (EmptyOf n) known in
         let h : empty_in (get y.nodes n) ≡ empty_in (get x.nodes n) = cc in
         ap AnEmpty (empty_alike x y c ex (emptiness c m) n h)
-    part_same (BodyOf n) known =
+    plain_same (BodyOf n) known =
         let e = alike.parts (BodyOf n) known in
         let h : body_at y n ≡ body_at x n = cc in
         ap ABody (body_alike x y c ex n h)
-    part_same (OpenOf o) known =
+    plain_same (OpenOf o) known =
         let e = alike.parts (OpenOf o) known in
         let h : open_at y o ≡ open_at x o = cc in
         let k : holders y o ≡ holders x o = cc in
         ap₂ AnOpen (open_alike x y c ex o h) (holders_alike c ex px py m o k)
-    part_same (OptionsOf s) known =
+    plain_same (OptionsOf s) known =
         let e = alike.parts (OptionsOf s) known in
         let h : server_at y s ≡ server_at x s = cc in
         ap AnOptions (server_alike x y c ex s h)
-    part_same (UsersOf s) known = let e = alike.parts (UsersOf s) known in let h : users y s ≡ users x s = cc in ap AUsers (users_alike c ex px py m after s h)
-    part_same (TaskOf q) known = let e = alike.parts (TaskOf q) known in let h : task_at y q ≡ task_at x q = cc in ap ATask (task_alike x y c ex q h)
+    plain_same (UsersOf s) known = let e = alike.parts (UsersOf s) known in let h : users y s ≡ users x s = cc in ap AUsers (users_alike c ex px py m after s h)
+    plain_same (TaskOf q) known = let e = alike.parts (TaskOf q) known in let h : task_at y q ≡ task_at x q = cc in ap ATask (task_alike x y c ex q h)
+
+-- of what S knows of a node's bytes it knows the node
+attr_of : {S : ℕ → Bool} {v : World} (p : Part) (n : Name) → (p ≡ EmptyOf n) ⊎ (p ≡ BodyOf n) → Known S v p → Known S v (AttrOf n)
+attr_of {S} {v} p n (inl e) known = elim (subst (Known S v) e known) [ inl sees ↦ inl sees.0 | inr new ↦ inr new ]
+attr_of {S} {v} p n (inr e) known = elim (subst (Known S v) e known) [ inl sees ↦ inl sees.0 | inr new ↦ inr new ]
+
+module _ (S : ℕ → Bool) (v x y : World) (before : Inside S v x) (cx : Coherent x) (cy : Coherent y) (alike : Mirror S v x y) where
+  -- each part that S knows is alike after a change
+  pub part_same : (c : Change) → IsExact c → Proper x c → Proper y c → May S v x c → Inside S v (apply c x) → (p : Part) → Known S v p → part (apply c y) p ≡ part (apply c x) p
+  part_same (Attach s at i node) ex px py m after p known =
+      ap (λ z. part z p) (attach_is y s at i node cy (next_not y s py.next)) ∙ come_alike x y cx cy s at i node px py p (alike.parts p known)
+      ∙ sym (ap (λ z. part z p) (attach_is x s at i node cx (next_not x s px.next)))
+  part_same (DropServer s) ex px py m after p known = drop_alike x y s p (λ n is. home_same S v x y before cx cy alike n (attr_of p n is known)) (alike.parts p known)
+  part_same (Unseat n) ex px py m after p known = unseated_alike x y n p (alike.parts p known)
+  part_same Settle ex px py m after p known = absurd ex
+  part_same (EditHeader n f) ex px py m after p known = plain_same S v x y before cx cy alike (EditHeader n f) tt px py m after p known
+  part_same (EditBody n g) ex px py m after p known = plain_same S v x y before cx cy alike (EditBody n g) tt px py m after p known
+  part_same (MakeNode n s node) ex px py m after p known = plain_same S v x y before cx cy alike (MakeNode n s node) tt px py m after p known
+  part_same (EditOpen o f) ex px py m after p known = plain_same S v x y before cx cy alike (EditOpen o f) tt px py m after p known
+  part_same (MakeOpen o z) ex px py m after p known = plain_same S v x y before cx cy alike (MakeOpen o z) tt px py m after p known
+  part_same (EditTask q f) ex px py m after p known = plain_same S v x y before cx cy alike (EditTask q f) tt px py m after p known
+  part_same (Send r q) ex px py m after p known = plain_same S v x y before cx cy alike (Send r q) tt px py m after p known

@@ -179,6 +179,6 @@ module _ (w : World) (t : ℕ) (x : Task) (is : task_at w t ≡ Some x) (s : Nam
   pub nameless_may : (S : ℕ → Bool) → Coherent w → S t ≡ true → Taken S w ids → ((m : Name) → IsAmong m (ways_of parents) → SeenOrNew S w m) → Sees S w (OptionsOf s) → AllMay S w w (nameless t x s node ids parents modes)
   nameless_may S c ours taken ways served =
       let new : NewTo S w n = permits.later_new S w t x x.made ours is (omega arith) in (
-        (ours, served, λ p e. absurd (cc (lone.alone, e))),
+        (ours, inl served, λ p e. absurd (cc (lone.alone, e))),
         opens_may S w made t (named 1 x) n ids parents modes ours (permits.later_new S w t x (x.made + 1) ours is (omega arith)) (inr new) ways (inr taken) (λ read h e. absurd (new.1 (header_old c n h e))),
       )

@@ -21,7 +21,8 @@ use Rattle.hurd_machine.specs.Touched.{OnNode, OnRight}
 use Rattle.hurd_machine.specs.Change.{Change, EditTask, MakeOpen, EditOpen, apply, opening, dropping}
 use Rattle.hurd_machine.specs.Sound.{Below, Coherent, Linked}
 use Rattle.hurd_machine.proofs.Tasks.{edit_here}
-use Rattle.hurd_machine.proofs.Coherence.{IsNext, FineRight, AllProper, named_below, named_still, unopened, coherent_one}
+use Rattle.hurd_machine.proofs.Coherence.{IsNext, FineRight, AllProper, named_below, named_still, unopened}
+use Rattle.hurd_machine.proofs.Keeping.{coherent_one}
 use Rattle.hurd_machine.proofs.Rights.{port_counts, port_table, without_counts, without_table}
 use Rattle.hurd_machine.proofs.Settle.{Rests, rests_settle, rests_quiet}
 use Rattle.hurd_machine.proofs.Frame.{Covers, AllWithin, Full, not_on, not_named}

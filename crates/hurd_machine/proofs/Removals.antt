@@ -23,7 +23,8 @@ use Rattle.hurd_machine.specs.Change.{Change, EditHeader, EditBody, Settle, appl
 use Rattle.hurd_machine.specs.Sound.{AreDistinct, HasDistinctNames, Coherent, Linked, times_in, times_listed}
 use Rattle.hurd_machine.proofs.Nodes.{header_in, body_in, node_of_header, header-with_body, edit_keeps}
 use Rattle.hurd_machine.proofs.Listed.{times_edited, times_named, dir_kind}
-use Rattle.hurd_machine.proofs.Coherence.{IsUnlisted, MayMove, Proper, AllProper, coherent_all, entry_lists}
+use Rattle.hurd_machine.proofs.Coherence.{IsUnlisted, MayMove, Proper, AllProper, entry_lists}
+use Rattle.hurd_machine.proofs.Keeping.{coherent_all}
 use Rattle.hurd_machine.proofs.Settle.{Rests, rests_settle}
 use Rattle.hurd_machine.proofs.Frame.{AllWithin}
 use Rattle.hurd_machine.proofs.Sizes.{KeepsSized, sized_append, sized_header, sized_removed, sized_settle}

@@ -18,7 +18,8 @@ use Rattle.hurd_machine.specs.Change.{Change, EditHeader, EditBody, Settle, appl
 use Rattle.hurd_machine.specs.Sound.{Below, AreDistinct, HasDistinctNames, Coherent, Linked, LeadsUp}
 use Rattle.hurd_machine.proofs.Nodes.{header_in, body_in, edit_keeps, edit_reads, header-with_header, header-with_body, body-with_header, body-with_body}
 use Rattle.hurd_machine.proofs.Listed.{dir_kind}
-use Rattle.hurd_machine.proofs.Coherence.{IsEntry, MayMove, Proper, AllProper, coherent_all, entry_lists, header_old}
+use Rattle.hurd_machine.proofs.Coherence.{IsEntry, MayMove, Proper, AllProper, entry_lists, header_old}
+use Rattle.hurd_machine.proofs.Keeping.{coherent_all}
 use Rattle.hurd_machine.proofs.Settle.{Rests, rests_settle}
 use Rattle.hurd_machine.proofs.Frame.{AllWithin}
 use Rattle.hurd_machine.proofs.Sizes.{KeepsSized, sized_append, sized_header, sized_entry, sized_removed, sized_settle}

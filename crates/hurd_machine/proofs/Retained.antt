@@ -6,7 +6,7 @@ use Rattle.hurd_creds.specs.NameMaps.{NameMap}
 use Rattle.hurd_creds.proofs.NameLaws.{name_exact, same_map_by}
 
 module _ {X : Type 0} (m : NameMap X) (f : Name → Bool) (n : Name) where
-  get-retained : get (retain_keys m f) n ≡ cond (f n) (get m n) None
+  pub get-retained : get (retain_keys m f) n ≡ cond (f n) (get m n) None
   get-retained = get-retain_keys m f n (λ q e. ap f (sym (name_exact n q e)))
 
   pub retained : f n ≡ true → get (retain_keys m f) n ≡ get m n

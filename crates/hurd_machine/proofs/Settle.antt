@@ -23,14 +23,15 @@ use Rattle.hurd_machine.specs.World.{World, IsAmong, world_from, nodes_of, ports
 use Rattle.hurd_machine.specs.Sight.{Holds, Seen, Root, Held, Way, Controlled, Child, Parent, Active, ServerRoot, Knows, OfNode, OfSeat, OfControl}
 use Rattle.hurd_nodes.specs.Held.{is_home}
 use Rattle.hurd_machine.specs.Sight.{Part, AttrOf, EmptyOf, BodyOf, OpenOf, OptionsOf, UsersOf, TaskOf, Sees, part, IsGone, is_on, holders, users, AnEmpty, ABody, AnOpen, AnOptions, AUsers}
-use Rattle.hurd_machine.specs.Change.{Change, EditHeader, EditBody, MakeNode, EditOpen, MakeOpen, EditTask, Send, Settle, outside, stays, server_stays, settle, apply, apply_all, opening}
+use Rattle.hurd_machine.specs.Change.{Change, EditHeader, EditBody, MakeNode, EditOpen, MakeOpen, EditTask, Send, Attach, DropServer, Unseat, Settle, outside, stays, server_stays, settle, apply, apply_all, opening}
 use Rattle.hurd_machine.specs.Sound.{Coherent, Linked, AtRest}
 use Rattle.hurd_machine.proofs.Nodes.{attr_same, header_in, body_in, empty_in, no_header, no_body, no_emptiness, edit_keeps, edited_from}
 use Rattle.hurd_machine.proofs.Tasks.{count_alike, sent_keeps, edit_here as task_here}
 use Rattle.hurd_machine.proofs.Holders.{let_go, held_counted, held_stays, none_stays, left_over, held_by_right, KeepsRights, held_still, named_still, controlled_still}
 use Rattle.hurd_machine.proofs.Stays.{sweep, way_at, way_parent, server_more, kept_more, lives_at, lives_active, lives_controlled, stays_entered, stays_named, node_still, home_still, active_still, server_still, node_gone, home_gone, active_gone, server_gone, node_left, server_left, none_left, no_home_left, no_active_left, no_server_left}
 use Rattle.hurd_machine.proofs.Swept.{header_server, root_stays, boot_stays, entry_stays, parent_stays, settle_keeps}
-use Rattle.hurd_machine.proofs.Coherence.{apply_all-append, was, entry_lists}
+use Rattle.hurd_machine.proofs.Coherence.{was, entry_lists}
+use Rattle.hurd_machine.proofs.Keeping.{apply_all-append}
 use Rattle.hurd_machine.proofs.Rights.{port_keeps, port_has}
 use Rattle.hurd_machine.proofs.Views.{Agree, Agree-refl, Agree-trans}
 
@@ -256,6 +257,9 @@ abbrev pub KeepsNodes : World → Change → Type 0
 KeepsNodes w (EditHeader n f) = KeepsEntered f
 KeepsNodes w (MakeNode n s node) = (is_entered node.header ≡ true) × (home_at w n ≡ None) × (i : ServerInfo) × (server_at w s ≡ Some i)
 KeepsNodes w (EditTask q f) = KeepsRights f
+KeepsNodes w (Attach s at i node) = ⊥
+KeepsNodes w (DropServer s) = ⊥
+KeepsNodes w (Unseat n) = ⊥
 KeepsNodes w Settle = ⊥
 KeepsNodes w c = Unit {0}
 
@@ -298,6 +302,9 @@ servers_more (Send r t) w keeps s h = tasks_more t (with_sent r) w s (sent_keeps
 servers_more (EditHeader n f) w keeps s h = h
 servers_more (EditBody n g) w keeps s h = h
 servers_more (EditOpen o f) w keeps s h = h
+servers_more (Attach q at i node) w keeps s h = absurd keeps
+servers_more (DropServer q) w keeps s h = absurd keeps
+servers_more (Unseat n) w keeps s h = absurd keeps
 servers_more Settle w keeps s h = absurd keeps
 
 -- what stays where the server does
@@ -329,9 +336,15 @@ nodes_still (EditTask t f) w q rest n x e =
     kept_more (outside w) (outside (apply (EditTask t f) w)) (nodes_of w) (nodes_of w) n (same_servers (EditTask t f) w q n refl refl) (λ i. i) (named_still t f w.tasks n q) (rest.nodes n x e)
 nodes_still (Send r t) w q rest n x e =
     kept_more (outside w) (outside (apply (Send r t) w)) (nodes_of w) (nodes_of w) n (same_servers (Send r t) w q n refl refl) (λ i. i) (named_still t (with_sent r) w.tasks n (sent_keeps r)) (rest.nodes n x e)
+nodes_still (Attach s at i node) w q rest n x e = absurd q
+nodes_still (DropServer s) w q rest n x e = absurd q
+nodes_still (Unseat k) w q rest n x e = absurd q
 nodes_still Settle w q rest n x e = absurd q
 
 servers_same : (c : Change) (w : World) → KeepsNodes w c → (apply c w).servers ≡ w.servers
+servers_same (Attach s at i node) w q = absurd q
+servers_same (DropServer s) w q = absurd q
+servers_same (Unseat n) w q = absurd q
 servers_same Settle w q = absurd q
 servers_same c w q = refl
 
@@ -366,6 +379,9 @@ opens_rest (EditOpen k f) w q settled = λ o z e. elim (same_or_apart o k) [
 opens_rest (MakeOpen k z) w q settled = absurd q
 opens_rest (EditTask t f) w q settled = λ o z e. held_still t f w.tasks o q (settled o z e)
 opens_rest (Send r t) w q settled = λ o z e. held_still t (with_sent r) w.tasks o (sent_keeps r) (settled o z e)
+opens_rest (Attach s at i node) w q settled = absurd q
+opens_rest (DropServer s) w q settled = absurd q
+opens_rest (Unseat n) w q settled = absurd q
 opens_rest Settle w q settled = absurd q
 opens_rest (EditHeader n f) w q settled = settled
 opens_rest (EditBody n g) w q settled = settled

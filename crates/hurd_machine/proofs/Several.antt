@@ -7,15 +7,18 @@ use Rattle.hurd_ports.specs.declared.table.IoRight.{IoRight}
 use Rattle.hurd_ports.specs.declared.table.Right.{Right}
 use Rattle.hurd_ports.specs.declared.table.Right.TheVariants.{Io, Control}
 use Rattle.hurd_ports.specs.Tables.{Task, rights_of, names_open}
-use Rattle.hurd_machine.specs.World.{World, IsAmong, nodes_of, task_at}
+use Rattle.hurd_machine.specs.World.{World, IsAmong, nodes_of, task_at, home_at}
 use Rattle.hurd_nodes.specs.Weights.{count_list}
-use Rattle.hurd_machine.specs.Sight.{Part, AttrOf, EmptyOf, BodyOf, OpenOf, part, count_rights, holders, AnAttr, AnEmpty, ABody, AnOpen}
+use Rattle.hurd_machine.specs.Sight.{Part, AttrOf, EmptyOf, BodyOf, OpenOf, OptionsOf, UsersOf, TaskOf, part, count_rights, holders, is_on, users, AnEmpty, ABody, AnOpen, AnOptions, AUsers}
 use Rattle.hurd_machine.specs.Change.{Change, Settle, settle, apply, apply_all}
 use Rattle.hurd_machine.specs.Sound.{Below, Coherent, Linked}
 use Rattle.hurd_machine.proofs.Views.{Agree, Agree-sym, Agree-trans, same_tasks}
 use Rattle.hurd_machine.proofs.Nodes.{attr_same, header_in, body_in, empty_in}
 use Rattle.hurd_machine.proofs.Tasks.{count_alike}
-use Rattle.hurd_machine.proofs.Coherence.{right_old, no_node, no_open, Proper, AllProper, coherent_one, no_home, no_active}
+use Rattle.hurd_machine.proofs.ServerParts.{none_counted, not_home}
+use Rattle.hurd_machine.proofs.Comes.{no_server, none_served}
+use Rattle.hurd_machine.proofs.Coherence.{right_old, no_node, no_open, Proper, AllProper, no_home, no_active}
+use Rattle.hurd_machine.proofs.Keeping.{coherent_one}
 use Rattle.hurd_machine.proofs.Frame.{IsExact, length_one}
 use Rattle.hurd_machine.proofs.Settle.{settle_agrees}
 use Rattle.hurd_machine.proofs.Confine.{NewTo, NewPart, Inside, Inside-refl, sees_inside}
@@ -33,14 +36,6 @@ AllMay S v x (c ∷ cs) = May S v x c × AllMay S v (apply c x) cs
 new_there : {S : ℕ → Bool} {v w : World} → Agree S v w → (n : Name) → NewTo S v n → Below w n → ⊥
 new_there a n new b = new.1 (λ x e. b x (same_tasks a n.task.0 new.0 ∙ e))
 
-none_counted : (ts : List Task) → count_rights (λ r. false) ts ≡ 0
-none_counted [] = refl
-none_counted (t ∷ ts) = omega (arith, none (rights_of t), none_counted ts)
-  where
-    none : (rs : List Right) → count_list (λ r. false) rs ≡ 0
-    none [] = refl
-    none (r ∷ rs) = omega (arith, none rs)
-
 no_holders : (w : World) → Coherent w → (o : Name) → (Below w o → ⊥) → holders w o ≡ 0
 no_holders w c o new =
     count_alike (names_open o) (λ r. false) w.tasks unnamed ∙ none_counted w.tasks
@@ -48,6 +43,13 @@ no_holders w c o new =
     unnamed : (t : ℕ) (x : Task) (r : Right) → task_at w t ≡ Some x → IsAmong r (rights_of x) → names_open o r ≡ false
     unnamed t x (Io r) at h = same_name-apart r.open_name o (λ e. new (subst (Below w) e (right_old c t x r at h).1))
     unnamed t x (Control s) at h = refl
+
+no_users : (w : World) → Coherent w → (s : Name) → (Below w s → ⊥) → users w s ≡ 0
+no_users w c s new = count_alike (is_on w s) (λ r. false) w.tasks (λ t x r at i. on r) ∙ none_counted w.tasks
+  where
+    on : (r : Right) → is_on w s r ≡ false
+    on (Io r) = not_home s (home_at w r.node) (λ e. none_served w c s new r.node s e refl)
+    on (Control q) = refl
 
 new_same : {S : ℕ → Bool} {v w : World} → Coherent v → Coherent w → Agree S v w → (p : Part) → NewPart S v p → part w p ≡ part v p
 new_same {S} {v} {w} cv cw a (AttrOf n) new =
@@ -58,7 +60,9 @@ new_same cv cw a (BodyOf n) new = ap (λ (o : Option Node). ABody (body_in o)) (
 new_same {S} {v} {w} cv cw a (OpenOf o) new =
     let out = new_there a o new in
     ap₂ AnOpen (no_open cw o out ∙ sym (no_open cv o new.1)) (no_holders w cw o out ∙ sym (no_holders v cv o new.1))
-new_same cv cw a p new = absurd new
+new_same {S} {v} {w} cv cw a (OptionsOf s) new = ap AnOptions (no_server w cw s (new_there a s new) ∙ sym (no_server v cv s new.1))
+new_same {S} {v} {w} cv cw a (UsersOf s) new = ap AUsers (no_users w cw s (new_there a s new) ∙ sym (no_users v cv s new.1))
+new_same cv cw a (TaskOf t) new = absurd new
 
 mirror_start : (S : ℕ → Bool) (v w : World) → Coherent v → Coherent w → Agree S v w → Mirror S v v w
 mirror_start S v w cv cw a = record { tasks = a.tasks; parts = λ p known. elim known [ inl sees ↦ a.parts p sees | inr new ↦ new_same cv cw a p new ] }

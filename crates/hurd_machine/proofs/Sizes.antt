@@ -12,12 +12,13 @@ use Rattle.hurd_trans_iface.specs.Good.{IsSized, KeepsSizes, GoodBehaviour}
 use Rattle.hurd_trans_iface.specs.Kinds.{ServerKind, behaviour_of}
 use Rattle.hurd_nodes.specs.Shown.{ServerInfo, info_in, asked_of}
 use Rattle.hurd_machine.specs.World.{World, nodes_of, server_at, info_at, asked_at}
-use Rattle.hurd_machine.specs.Change.{Change, EditHeader, EditBody, MakeNode, Settle, apply, apply_all, changes_of}
+use Rattle.hurd_machine.specs.Change.{Change, EditHeader, EditBody, MakeNode, Attach, DropServer, Unseat, Settle, apply, apply_all, changes_of}
 use Rattle.hurd_machine.specs.Sound.{Coherent, AreSized}
 use Rattle.hurd_machine.proofs.Stays.{sweep, node_left, info_still}
 use Rattle.hurd_machine.proofs.Sweeps.{settle_by}
 use Rattle.hurd_machine.proofs.Nodes.{edited_from}
-use Rattle.hurd_machine.proofs.Coherence.{was, apply_all-append}
+use Rattle.hurd_machine.proofs.Coherence.{was}
+use Rattle.hurd_machine.proofs.Keeping.{apply_all-append}
 
 -- a list of changes that keeps sizes right
 abbrev pub KeepsSized : World → List Change → Type 0
@@ -36,6 +37,9 @@ abbrev pub IsOfPorts : Change → Type 0
 IsOfPorts (EditHeader n f) = ⊥
 IsOfPorts (EditBody n g) = ⊥
 IsOfPorts (MakeNode n s node) = ⊥
+IsOfPorts (Attach s at i node) = ⊥
+IsOfPorts (DropServer s) = ⊥
+IsOfPorts (Unseat n) = ⊥
 IsOfPorts Settle = ⊥
 IsOfPorts c = Unit {0}
 
@@ -47,6 +51,9 @@ ports_one : (c : Change) (w : World) → IsOfPorts c → nodes_of (apply c w) �
 ports_one (EditHeader n f) w p = absurd p
 ports_one (EditBody n g) w p = absurd p
 ports_one (MakeNode n s node) w p = absurd p
+ports_one (Attach s at i node) w p = absurd p
+ports_one (DropServer s) w p = absurd p
+ports_one (Unseat n) w p = absurd p
 ports_one Settle w p = absurd p
 ports_one c w p = refl
 

@@ -11,6 +11,7 @@ use Rattle.hurd_ports.specs.declared.parents.Parent.{Parent}
 use Rattle.hurd_ports.specs.declared.table.Right.{Right}
 use Rattle.hurd_nodes.specs.Settle as kept
 use Rattle.hurd_nodes.specs.Settle.{Outside}
+use Rattle.hurd_nodes.specs.Shown.{NodeState, ServerInfo, attached, out_server, unseated}
 use Rattle.hurd_ports.specs.Tables.{Task, OpenMap, fresh, is_held, is_named, is_controlled}
 use Rattle.hurd_ports.specs.Steps.{named, edit_task, with_port, without_port, with_sent, new_open, new_right}
 use Rattle.hurd_machine.specs.World.{World, world_from, nodes_of, ports_of}
@@ -25,10 +26,14 @@ pub data Change : Type 0 where
   MakeOpen : Name → Opened → Change  -- under the next name of its task
   EditTask : ℕ → (Task → Task) → Change
   Send : Right → ℕ → Change  -- to a task
+  -- of servers
+  Attach : Name → Name → ServerInfo → Node → Change  -- a server under the next name of its task, and its root under the one after; active on a node
+  DropServer : Name → Change  -- with its nodes
+  Unseat : Name → Change  -- what is active on a node is so no more
   -- what nothing names goes
   Settle : Change
 
--- what each change does to each part of the world
+-- what each change but those of servers does to each part of the world
 
 abbrev pub next_nodes : Change → NodeMap → NodeMap
 next_nodes (EditHeader n f) m = edit n (with_header f) m
@@ -48,6 +53,7 @@ next_opens c m = m
 abbrev pub next_tasks : Change → List Task → List Task
 next_tasks (MakeNode n s node) ts = edit_task n.task.0 (named 1) ts
 next_tasks (MakeOpen o z) ts = edit_task o.task.0 (named 1) ts
+next_tasks (Attach s at i node) ts = edit_task s.task.0 (named 2) ts
 next_tasks (EditTask q f) ts = edit_task q f ts
 next_tasks (Send r q) ts = edit_task q (with_sent r) ts
 next_tasks c ts = ts
@@ -67,9 +73,16 @@ server_stays w s = kept.server_stays (outside w) (nodes_of w) s
 abbrev pub settle : World → World
 settle w = world_from (kept.settle (outside w) (nodes_of w)) (record { opens = retain_keys w.opens (is_held w.tasks); tasks = w.tasks })
 
+-- the world with other nodes and servers
+abbrev pub with_nodes : NodeState → World → World
+with_nodes h w = world_from h (ports_of w)
+
 -- the world with one change
 abbrev pub apply : Change → World → World
 apply Settle w = settle w
+apply (Attach s at i node) w = world_from (attached s at i node (nodes_of w)) (record { opens = w.opens; tasks = next_tasks (Attach s at i node) w.tasks })
+apply (DropServer s) w = with_nodes (out_server s (nodes_of w)) w
+apply (Unseat n) w = with_nodes (unseated n (nodes_of w)) w
 apply c w = record {
   nodes = next_nodes c w.nodes;
   homes = next_homes c w.homes;

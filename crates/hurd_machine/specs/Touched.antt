@@ -6,8 +6,8 @@ use Rattle.hurd_trans_iface.specs.Behaviour.{Did}
 use Rattle.hurd_ports.specs.declared.table.IoRight.{IoRight}
 use Rattle.hurd_ports.specs.declared.table.Right.{Right}
 use Rattle.hurd_ports.specs.declared.table.Right.TheVariants.{Io, Control}
-use Rattle.hurd_machine.specs.World.{World, home_at}
-use Rattle.hurd_machine.specs.Sight.{Part, AttrOf, BodyOf, OpenOf, UsersOf}
+use Rattle.hurd_machine.specs.World.{World, home_at, active_at}
+use Rattle.hurd_machine.specs.Sight.{Part, AttrOf, EmptyOf, BodyOf, OpenOf, OptionsOf, UsersOf}
 
 -- the parts that follow from what a call asks; a refused call touches none
 unfoldable pub asked_parts : {A : Type 0} → Result A Errno → (A → Part → Type 0) → Part → Type 0
@@ -26,6 +26,15 @@ OnNode w n p = (s : Name) × (home_at w n ≡ Some s) × (p ≡ UsersOf s)
 abbrev pub OnRight : World → Right → Part → Type 0
 OnRight w (Io r) p = (p ≡ OpenOf r.open_name) ⊎ OnNode w r.node p
 OnRight w (Control s) p = ⊥
+
+-- a server goes with its nodes, and leaves its seat
+abbrev pub Goes : World → Name → Part → Type 0
+Goes w s (AttrOf n) = (home_at w n ≡ Some s) ⊎ (active_at w n ≡ Some s)
+Goes w s (EmptyOf n) = home_at w n ≡ Some s
+Goes w s (BodyOf n) = home_at w n ≡ Some s
+Goes w s (OptionsOf q) = q ≡ s
+Goes w s (UsersOf q) = q ≡ s
+Goes w s p = ⊥
 
 abbrev pub Changes : {X : Type 0} → Option X → Type 0
 Changes None = ⊥
