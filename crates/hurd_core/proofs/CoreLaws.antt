@@ -2,6 +2,8 @@
 use Rattle.std.proofs.Common.{◌≡◌, ◌∙◌, inl, inr, ℕ, Bool, true, false, cond, option_map, List, [], ◌∷◌, ◌++◌, Option, Some, None, refl, sym, ap, subst, slice_get, true≢false}
 use Rattle.std.specs.Prelude.{Result, Ok, Err, is_ok, if◌then◌else◌}
 use Rattle.std.specs.FinMap.{retain_keys}
+use Rattle.hurd_nodes.specs.declared.seat.Hold.{Hold}
+use Rattle.hurd_nodes.specs.declared.seat.Hold.TheVariants as hold
 use Rattle.hurd_creds.specs.declared.name.Name.{Name}
 use Rattle.hurd_creds.specs.declared.mode.Mode.{Mode}
 use Rattle.hurd_creds.specs.declared.errno.Errno.{Errno}
@@ -15,9 +17,8 @@ use Rattle.hurd_nodes.specs.Shown.{NodeState, with_edits, can_set_attrs, set_att
 use Rattle.hurd_ports.specs.declared.parents.Parent.{Parent}
 use Rattle.hurd_ports.specs.declared.table.Right.{Right}
 use Rattle.hurd_nodes.specs.Settle as kept
-use Rattle.hurd_nodes.specs.Held as named_from
 use Rattle.hurd_nodes.specs.Held.{less_all}
-use Rattle.hurd_ports.specs.Tables.{PortState, Task, nodes_of, or_refuse, ways_of, is_held, is_named, right_of, has_room, room_at, room_of}
+use Rattle.hurd_ports.specs.Tables.{PortState, Task, or_refuse, is_held, is_named, is_controlled, right_of, has_room, room_at, room_of}
 use Rattle.hurd_ports.specs.Steps.{named, new_right, with_new_port, deallocate_at, deallocate_step, dropped, edit_task, without_port, insert_at, insert_step}
 use Rattle.hurd_machine.specs.declared.call.Reply.TheVariants.{Done}
 use Rattle.hurd_machine.specs.World.{World, world_from}
@@ -25,8 +26,8 @@ use Rattle.hurd_machine.specs.Change.{EditHeader, apply_all, dropping, opening}
 use Rattle.hurd_machine.specs.Plan.{Plan, Follows, answered, told, on, given}
 use Rattle.hurd_machine.proofs.Asks.{HasRight, has_right}
 use Rattle.hurd_machine.proofs.Tasks.{edit_here as task_here}
-use Rattle.hurd_core.specs.Core.{Does, HoldsRights, room_asks}
-use Rattle.hurd_core.proofs.HoldLaws.{held_named, holds_named, holds_opened, holds_dropped, settle_alike}
+use Rattle.hurd_core.specs.Core.{Does, HoldsRights, holds_of, holds_of_ways, room_asks}
+use Rattle.hurd_core.proofs.HoldLaws.{outside_named, holds_named, holds_opened, holds_dropped}
 
 -- owner, group and mode of a node set
 module _ (N : NodeState) (H : PortState) where
@@ -69,15 +70,15 @@ module _ (N : NodeState) (H : PortState) (t : ℕ) where
     left : (r : Result (Unit {0}) Errno) (K : PortState) → (r, K) ≡ deallocate_step t p H → K ≡ fewer
     left r K answer = ap (λ (z : Result (Unit {0}) Errno × PortState). z.1) (answer ∙ deallocated)
 
-    module _ (hs : List Name) (same : HoldsRights hs H.tasks) (r : Result (Unit {0}) Errno) (K : PortState) (answer : (r, K) ≡ deallocate_step t p H) where
-      pub drop-holds : HoldsRights (less_all (nodes_of q) hs) K.tasks
-      drop-holds = subst (λ (z : PortState). HoldsRights (less_all (nodes_of q) hs) z.tasks) (sym (left r K answer))
+    module _ (hs : List Hold) (same : HoldsRights hs H.tasks) (r : Result (Unit {0}) Errno) (K : PortState) (answer : (r, K) ≡ deallocate_step t p H) where
+      pub drop-holds : HoldsRights (less_all (holds_of q) hs) K.tasks
+      drop-holds = subst (λ (z : PortState). HoldsRights (less_all (holds_of q) hs) z.tasks) (sym (left r K answer))
           (holds_dropped hs H.tasks same t p has.seat q has.is_task has.under)
 
-      pub drop-follows : (M : NodeState) → M ≡ kept.settle (named_from.is_held (less_all (nodes_of q) hs)) N → Follows w (drops p) Done (world_from M K)
+      pub drop-follows : (M : NodeState) → M ≡ kept.settle (kept.outside_of (less_all (holds_of q) hs)) N → Follows w (drops p) Done (world_from M K)
       unfolding answered
       drop-follows M after =
-          let settled : M ≡ kept.settle (is_named K.tasks) N = after ∙ settle_alike _ _ (held_named (less_all (nodes_of q) hs) K.tasks drop-holds) N in
+          let settled : M ≡ kept.settle (record { held = is_named K.tasks; controlled = is_controlled K.tasks }) N = after ∙ ap (λ o. kept.settle o N) (outside_named (less_all (holds_of q) hs) K.tasks drop-holds) in
           rw (is, settled, left r K answer) (refl, refl)
 
   -- the room of a task, asked of its tables and of the world: it has room, or both refuse alike
@@ -159,16 +160,16 @@ module _ (N : NodeState) (H : PortState) (t : ℕ) where
           (x, asks, sym same, ap (λ (z : Result ℕ Errno × PortState). world_from N z.1) (sym had) ∙ opened-world x at)
     ]
 
-    opened_holds : (hs : List Name) → HoldsRights hs H.tasks → (x : Task) → slice_get H.tasks t ≡ Some x → HoldsRights (hs ++ n ∷ ways_of parents) (new_ports x).tasks
+    opened_holds : (hs : List Hold) → HoldsRights hs H.tasks → (x : Task) → slice_get H.tasks t ≡ Some x → HoldsRights (hs ++ hold.Use n ∷ holds_of_ways parents) (new_ports x).tasks
     opened_holds hs same x at =
         holds_opened hs (edit_task t (named 1) H.tasks) (holds_named hs H.tasks same t 1 x at) t (named 1 x) (new_right t n ids parents x) (task_here t (named 1) H.tasks x at)
 
     -- the nodes of the new port are held once more
-    pub fill-holds : (hs : List Name) → HoldsRights hs H.tasks → (k : ℕ) (K : PortState) → insert_step t n ids parents modes H ≡ (Ok k, K) → HoldsRights (hs ++ n ∷ ways_of parents) K.tasks
+    pub fill-holds : (hs : List Hold) → HoldsRights hs H.tasks → (k : ℕ) (K : PortState) → insert_step t n ids parents modes H ≡ (Ok k, K) → HoldsRights (hs ++ hold.Use n ∷ holds_of_ways parents) K.tasks
     fill-holds hs same k K is = elim (room 1) [
       | IsRefused e full asks ↦
           let no : ◌≡◌ {A = Result ℕ Errno × PortState} (Err e, H) (Ok k, K) = sym (insert_by (slice_get H.tasks t) refl e full) ∙ is in
           absurd (true≢false (sym (ap (λ (z : Result ℕ Errno × PortState). is_ok z.0) no)))
       | HasRoom x at e free asks ↦
-          subst (λ (z : PortState). HoldsRights (hs ++ n ∷ ways_of parents) z.tasks) (ap (λ (z : Result ℕ Errno × PortState). z.1) (sym (insert-had x at e) ∙ is)) (opened_holds hs same x at)
+          subst (λ (z : PortState). HoldsRights (hs ++ hold.Use n ∷ holds_of_ways parents) z.tasks) (ap (λ (z : Result ℕ Errno × PortState). z.1) (sym (insert-had x at e) ∙ is)) (opened_holds hs same x at)
     ]

@@ -12,7 +12,7 @@ use Rattle.hurd_nodes.specs.Shown.{tree_by}
 use Rattle.hurd_machine.specs.World.{World, nodes_of, task_at, home_at, server_at, makes_at}
 use Rattle.hurd_machine.specs.Sight.{Part, EmptyOf, BodyOf, Seen, Sees, OfNode}
 use Rattle.hurd_machine.specs.Sound.{Coherent, LeadsUp}
-use Rattle.hurd_machine.proofs.Coherence.{AllProper, home_old}
+use Rattle.hurd_machine.proofs.Coherence.{AllProper, home_old, next_not, no_home}
 use Rattle.hurd_machine.proofs.Settle.{Rests}
 use Rattle.hurd_machine.proofs.Frame.{AllWithin, Full}
 use Rattle.hurd_machine.proofs.Sizes.{KeepsSized}
@@ -60,10 +60,10 @@ module _ (t : ℕ) (f : NewNodeAt) where
         entered_proper w n a.1 node f.dir f.name c (fresh_next w t a.0 m.is_task) m.home (ap tree_by m.may.is_info ∙ m.may.tree) m.may.absent
         (made_in f.dir (asked_node Dir f n) node refl w (home_old c f.dir a.1 m.home))
 
-    pub dir_rests : Rests w (making_dir t f a)
-    dir_rests =
+    pub dir_rests : Coherent w → Rests w (making_dir t f a)
+    dir_rests c =
         let is_server : server_at w a.1 ≡ Some m.may.info = rw m.home at m.may.is_info in
-        entered_rests w n a.1 node f.dir f.name refl m.may.info is_server
+        entered_rests w n a.1 node f.dir f.name refl (no_home c n (next_not w n (fresh_next w t a.0 m.is_task))) m.may.info is_server
 
     -- it hangs in the directory above, which isn't removed
     pub dir_linked : Coherent w → LeadsUp (nodes_of w) f.dir → KeepsLinked w (making_dir t f a)

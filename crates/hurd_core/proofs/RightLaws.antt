@@ -1,6 +1,7 @@
 -- Rights that are shared, sent and received, and other ids for a task: what the ports do is what the world's changes do.
 use Rattle.std.proofs.Common.{◌≡◌, ◌∙◌, inl, inr, ℕ, Bool, true, false, cond, List, [], ◌∷◌, ◌++◌, Option, Some, None, length, slice_get, refl, sym, ap, subst}
 use Rattle.std.specs.Prelude.{Result, Ok, Err, is_ok, nat_lt, if◌then◌else◌}
+use Rattle.hurd_nodes.specs.declared.seat.Hold.{Hold}
 use Rattle.hurd_creds.specs.declared.name.Name.{Name}
 use Rattle.hurd_creds.specs.declared.errno.Errno.{Errno}
 use Rattle.hurd_creds.specs.declared.errno.Errno.TheVariants.{EOVERFLOW, ESRCH, EWOULDBLOCK}
@@ -8,14 +9,14 @@ use Rattle.hurd_creds.specs.Access.{IdSets}
 use Rattle.hurd_creds.specs.Memory.{Steps, is_no_memory}
 use Rattle.hurd_nodes.specs.Shown.{NodeState}
 use Rattle.hurd_ports.specs.declared.table.Right.{Right}
-use Rattle.hurd_ports.specs.Tables.{PortState, Task, nodes_of, first_sent, has_room, right_of, task_of, or_refuse}
+use Rattle.hurd_ports.specs.Tables.{PortState, Task, first_sent, has_room, right_of, task_of, or_refuse}
 use Rattle.hurd_ports.specs.Steps.{edit_task, receive_at, receive_step, received, send_step, sent_to, share_at, share_step, take_ids_at, take_ids_step, taken_by, with_ids, with_port, with_sent}
 use Rattle.hurd_ports.proofs.EditLaws.{received-rights}
 use Rattle.hurd_machine.specs.declared.call.Reply.TheVariants.{Done}
 use Rattle.hurd_machine.specs.World.{World, world_from}
 use Rattle.hurd_machine.specs.Change.{Change, EditTask, Send, apply_all}
 use Rattle.hurd_machine.specs.Plan.{Plan, Follows, answered, told, on, given, first}
-use Rattle.hurd_core.specs.Core.{Does, HoldsRights, receive_asks, room_asks, send_asks}
+use Rattle.hurd_core.specs.Core.{Does, HoldsRights, holds_of, receive_asks, room_asks, send_asks}
 use Rattle.hurd_core.proofs.HoldLaws.{holds_alike, holds_opened, holds_sent}
 use Rattle.hurd_core.proofs.CoreLaws.{IsRefused, HasRoom, room}
 
@@ -84,10 +85,10 @@ module _ (N : NodeState) (H : PortState) (t : ℕ) where
     ]
 
     -- its node is held once more
-    pub share-holds : (hs : List Name) → HoldsRights hs H.tasks → (k : ℕ) (K : PortState) → Steps H (share_step t r H) (Ok k) K → HoldsRights (hs ++ nodes_of r) K.tasks
+    pub share-holds : (hs : List Hold) → HoldsRights hs H.tasks → (k : ℕ) (K : PortState) → Steps H (share_step t r H) (Ok k) K → HoldsRights (hs ++ holds_of r) K.tasks
     share-holds hs same k K s =
         let d = share-does (Ok k) K s in
-        subst (HoldsRights (hs ++ nodes_of r)) (sym (ap (λ (z : World). z.tasks) d.3)) (holds_opened hs H.tasks same t d.0 r (asked_there d.0 d.1))
+        subst (HoldsRights (hs ++ holds_of r)) (sym (ap (λ (z : World). z.tasks) d.3)) (holds_opened hs H.tasks same t d.0 r (asked_there d.0 d.1))
 
   -- a right sent
 
@@ -145,12 +146,12 @@ module _ (N : NodeState) (H : PortState) (t : ℕ) where
           go false h = absurd (cc)
 
       -- its node is held once more
-      pub send-holds : (hs : List Name) → HoldsRights hs H.tasks → (u : Unit {0}) (K : PortState) → Steps H (send_step t p q H) (Ok u) K → HoldsRights (hs ++ nodes_of r) K.tasks
+      pub send-holds : (hs : List Hold) → HoldsRights hs H.tasks → (u : Unit {0}) (K : PortState) → Steps H (send_step t p q H) (Ok u) K → HoldsRights (hs ++ holds_of r) K.tasks
       send-holds hs same u K s =
           let d = send-does (Ok u) K s in
           let sent = sends_it d.0 d.1 in
           let tasks : K.tasks ≡ edit_task q (with_sent d.0) H.tasks = ap (λ (z : World). z.tasks) d.3 in
-          subst (HoldsRights (hs ++ nodes_of r)) (sym (tasks ∙ ap (λ (a : Right). edit_task q (with_sent a) H.tasks) sent.1)) (holds_sent hs H.tasks same q r sent.0)
+          subst (HoldsRights (hs ++ holds_of r)) (sym (tasks ∙ ap (λ (a : Right). edit_task q (with_sent a) H.tasks) sent.1)) (holds_sent hs H.tasks same q r sent.0)
 
   -- a right received
 
@@ -177,7 +178,7 @@ module _ (N : NodeState) (H : PortState) (t : ℕ) where
   receive-does got K s = alike-does N H (receive_asks w t) receiving (λ x. x.next) (receive_step t H) (receive_by (slice_get H.tasks t)) got K s
 
   -- what is held stays as it is
-  pub receive-holds : (hs : List Name) → HoldsRights hs H.tasks → (got : Result ℕ Errno) (K : PortState) → Steps H (receive_step t H) got K → HoldsRights hs K.tasks
+  pub receive-holds : (hs : List Hold) → HoldsRights hs H.tasks → (got : Result ℕ Errno) (K : PortState) → Steps H (receive_step t H) got K → HoldsRights hs K.tasks
   receive-holds hs same (Ok k) K s =
       let d = receive-does (Ok k) K s in
       subst (HoldsRights hs) (sym (ap (λ (z : World). z.tasks) d.3)) (holds_alike hs H.tasks same t received received-rights)
@@ -202,7 +203,7 @@ module _ (N : NodeState) (H : PortState) (t : ℕ) where
         go None e = (ap (λ (z : Result (Unit {0}) Errno × PortState). told (λ u. Done) z.0) e, ap world_left e)
         go (Some x) e = (ap (λ (z : Result (Unit {0}) Errno × PortState). told (λ u. Done) z.0) e, ap world_left e)
 
-    pub take_ids-holds : (hs : List Name) → HoldsRights hs H.tasks → (got : Result (Unit {0}) Errno) (K : PortState) → (got, K) ≡ take_ids_step t ids H → HoldsRights hs K.tasks
+    pub take_ids-holds : (hs : List Hold) → HoldsRights hs H.tasks → (got : Result (Unit {0}) Errno) (K : PortState) → (got, K) ≡ take_ids_step t ids H → HoldsRights hs K.tasks
     take_ids-holds hs same got K = go (slice_get H.tasks t)
       where
         tasks_left : Result (Unit {0}) Errno × PortState → List Task

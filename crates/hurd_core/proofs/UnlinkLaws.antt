@@ -1,23 +1,23 @@
 -- An entry taken out of a directory by the core is what the machine's changes make of the world.
 use Rattle.std.proofs.Common.{◌≡◌, ◌∙◌, Bool, true, false, List, [], ◌∷◌, Option, Some, None, ℕ, refl, sym, ap, ap₂}
 use Rattle.std.specs.Prelude.{Result, Ok, Err, if◌then◌else◌}
+use Rattle.hurd_nodes.specs.declared.seat.Hold.{Hold}
 use Rattle.hurd_creds.specs.declared.name.Name.{Name}
 use Rattle.hurd_creds.specs.declared.errno.Errno.{Errno}
 use Rattle.std.specs.FinMap.{get}
 use Rattle.hurd_trans_iface.specs.Nodes.{body_of, OnBody, OnHeader, unlinked, without_entry}
 use Rattle.hurd_trans_iface.specs.Answers.{entry_of, unlink_edits, edits_if}
-use Rattle.hurd_nodes.specs.Held as named_from
 use Rattle.hurd_nodes.specs.Settle as kept
 use Rattle.hurd_nodes.specs.Shown.{NodeState, are_kin, own_edits, with_edits, can_unlink, unlink_edits_at, unlink_at}
-use Rattle.hurd_ports.specs.Tables.{PortState, OpenMap, IsSettled, is_held, is_named}
+use Rattle.hurd_ports.specs.Tables.{PortState, OpenMap, IsSettled, is_held}
 use Rattle.hurd_machine.specs.declared.call.Reply.TheVariants.{Done}
 use Rattle.hurd_machine.specs.World.{World, world_from}
 use Rattle.hurd_machine.specs.Change.{Settle, apply_all, changes_of, settle}
 use Rattle.hurd_machine.specs.Plan.{Plan, Follows, answered, told}
-use Rattle.hurd_machine.proofs.Coherence.{apply_all-append}
+use Rattle.hurd_machine.proofs.Keeping.{apply_all-append}
 use Rattle.hurd_machine.proofs.Retained.{retain_all}
 use Rattle.hurd_core.specs.Core.{HoldsRights, unlinking}
-use Rattle.hurd_core.proofs.HoldLaws.{held_named, settle_alike}
+use Rattle.hurd_core.proofs.HoldLaws.{outside_named}
 
 module _ (N : NodeState) (H : PortState) (d : Name) (name : List ℕ) where
   abbrev w : World
@@ -50,12 +50,12 @@ module _ (N : NodeState) (H : PortState) (d : Name) (name : List ℕ) where
       by (Err f) h = (ap (λ (z : Result (Unit {0}) Errno × NodeState). told (λ (u : Unit {0}). Done) z.0) h, ap (λ (z : Result (Unit {0}) Errno × NodeState). world_from z.1 H) h)
 
   -- with each open held, the world settles as its nodes do
-  pub settled_world : (hs : List Name) → HoldsRights hs H.tasks → IsSettled H → (M : NodeState) → world_from (kept.settle (named_from.is_held hs) M) H ≡ settle (world_from M H)
+  pub settled_world : (hs : List Hold) → HoldsRights hs H.tasks → IsSettled H → (M : NodeState) → world_from (kept.settle (kept.outside_of hs) M) H ≡ settle (world_from M H)
   settled_world hs same held M =
       ap₂ (λ (K : NodeState) (m : OpenMap). world_from K (record { opens = m; tasks = H.tasks }))
-      (settle_alike (named_from.is_held hs) (is_named H.tasks) (held_named hs H.tasks same) M) (sym (retain_all H.opens (is_held H.tasks) held))
+      (ap (λ o. kept.settle o M) (outside_named hs H.tasks same)) (sym (retain_all H.opens (is_held H.tasks) held))
 
-  pub unlink-follows : (hs : List Name) → HoldsRights hs H.tasks → IsSettled H → (u : Unit {0}) (M L : NodeState) → (Ok u, M) ≡ unlink_at d name N → L ≡ kept.settle (named_from.is_held hs) M
+  pub unlink-follows : (hs : List Hold) → HoldsRights hs H.tasks → IsSettled H → (u : Unit {0}) (M L : NodeState) → (Ok u, M) ≡ unlink_at d name N → L ≡ kept.settle (kept.outside_of hs) M
       → Follows w unlinks Done (world_from L H)
   unfolding answered
   unlink-follows hs same held u M L is left = by (can_unlink d name N) is

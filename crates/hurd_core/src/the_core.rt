@@ -18,7 +18,7 @@ ghost use Rattle.hurd_core.specs.Core.{Does, HoldsRights, making_asks, making_di
 ghost use Rattle.hurd_core.specs.ToMake.{new_node_of};
 ghost use Rattle.hurd_core.specs.PortNode.{IsTold, both_named, named};
 
-use crate::holds::{hold_right, hold_ways, holds_by, holds_of, release_right};
+use crate::holds::{hold_io, hold_right, holds_by, holds_of, release_right};
 use crate::port_node::PortNode;
 use crate::to_make::{NamelessToMake, NodeToMake};
 use hurd_creds::{
@@ -31,7 +31,7 @@ use hurd_trans_iface::{Names, NewNode, Server};
 use std::alloc::Global;
 use std::marker::Model;
 
-/// Servers with their nodes, and the ports of tasks. A node is held once for each time that a right names it.
+/// Servers with their nodes, and the ports of tasks. What rights name is held, once for each time.
 #[derive(Drop)]
 pub struct Core<S = Box<dyn Server>> {
     nodes: Nodes<S>,
@@ -51,7 +51,7 @@ impl<S> Model for Core<S> {
 }
 
 impl<S: Server> Core<S> {
-    /// These nodes, and these ports; each node is held once for each time that a right names it.
+    /// These nodes, and these ports; what rights name is held, once for each time.
     pub fn new(nodes: Nodes<S>, ports: Ports) -> Core<S>
         requires { HoldsRights nodes.holds ports.state.tasks }
         ensures { world_of S.meaning result ≡ world_from (shown S.meaning nodes) ports.state }
@@ -72,7 +72,7 @@ impl<S: Server> Core<S> {
 
     /// The right of a task under a number, with the attributes of its node.
     ///
-    /// Errors, in order: `ESRCH` no such task, `EBADF` no such port, `EDIED` no such node.
+    /// Errors, in order: `ESRCH` no such task, `EBADF` no such port, or one that controls a server, `EDIED` no such node.
     #[tactic(auto, unfolding(hurd_machine::specs::Plan::on, hurd_machine::specs::Plan::first))]
     pub fn port_node(&self, task: TaskId, port: u64) -> Result<PortNode, Errno>
         ensures is { named result ≡ port_asks (world_of S.meaning self.now) task.0 port }
@@ -87,8 +87,8 @@ impl<S: Server> Core<S> {
 
     /// The rights of two ports of a task, with the attributes of their nodes.
     ///
-    /// Errors, in order: `ESRCH` no such task, `EBADF` no such first port, `EBADF` no such second one, `EDIED` the first one's
-    /// node isn't there, `EDIED` the second one's isn't.
+    /// Errors, in order: `ESRCH` no such task, `EBADF` no such first port, or one that controls a server, `EBADF` no such second
+    /// one, or one that controls a server, `EDIED` the first one's node isn't there, `EDIED` the second one's isn't.
     #[tactic(auto, unfolding(hurd_machine::specs::Plan::on, hurd_machine::specs::Plan::first))]
     pub fn port_nodes(
         &self,
@@ -124,7 +124,8 @@ impl<S: Server> Core<S> {
 
     /// What a port has open, if that was opened for this.
     ///
-    /// Errors, in order: `ESRCH` no such task, `EBADF` no such port, or not opened for this, `EDIED` no such node.
+    /// Errors, in order: `ESRCH` no such task, `EBADF` no such port, one that controls a server, or one not opened for this,
+    /// `EDIED` no such node.
     #[tactic(auto, unfolding(hurd_machine::specs::Plan::on, hurd_machine::specs::Plan::given, hurd_machine::specs::Plan::first))]
     pub fn handle(&self, task: TaskId, port: u64, mode: OpenFlags) -> Result<Handle, Errno>
         ensures { result ≡ handle_asks (world_of S.meaning self.now) task.0 port mode.0 }
@@ -293,8 +294,7 @@ impl<S: Server> Core<S> {
         self.ports.room(task, 1)?;
         self.ports.reserve(task)?;
         self.nodes.reserve_holds(holds_by(&parents))?;
-        self.nodes.hold(node);
-        hold_ways(&mut self.nodes, parents.as_slice());
+        hold_io(&mut self.nodes, node, &parents);
         Ok(self.ports.fill(task, node, ids, parents, modes))
     }
 
@@ -324,8 +324,7 @@ impl<S: Server> Core<S> {
         self.nodes
             .make(alloc, file.dir, file.name, file.node(Kind::File, name))?;
         self.ports.take_name(task);
-        self.nodes.hold(name);
-        hold_ways(&mut self.nodes, parents.as_slice());
+        hold_io(&mut self.nodes, name, &parents);
         Ok(self.ports.fill(task, name, ids, parents, modes))
     }
 
@@ -353,8 +352,7 @@ impl<S: Server> Core<S> {
         };
         self.nodes.make_nameless(file.dir, file.node(name))?;
         self.ports.take_name(task);
-        self.nodes.hold(name);
-        hold_ways(&mut self.nodes, parents.as_slice());
+        hold_io(&mut self.nodes, name, &parents);
         Ok(self.ports.fill(task, name, ids, parents, modes))
     }
 

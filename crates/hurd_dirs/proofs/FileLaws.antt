@@ -152,7 +152,7 @@ module _ (t p : ℕ) (flags : OpenFlags) (mode : Mode) where
         nameless_sized w t m.0 k.is_task m.1 k.server.info k.is_server (file a.1) (file_nameless a.1) a.0.right.ids a.0.right.parents modes (file_fits a.1 k.server.info k.server.tree) s.sizes));
     rests = λ w s. answered_rests w _ _ s.settled (λ a is. answered_rests w _ _ s.settled (λ m may.
         let k = makes_file w t a.1.dir m may in
-        nameless_rests w t m.0 k.is_task m.1 k.server.info k.is_server (file a.1) (file_nameless a.1) a.0.right.ids a.0.right.parents modes s.settled));
+        nameless_rests w t m.0 k.is_task m.1 k.server.info k.is_server (file a.1) (file_nameless a.1) a.0.right.ids a.0.right.parents modes s.coherent s.settled));
     may = λ S v c ours. answered_may v _ _ S v (λ a is. answered_may v _ _ S v (λ m may.
         let k = makes_file v t a.1.dir m may in
         let b = file_made_by v a is in

@@ -77,7 +77,7 @@ all_own s homes (e ∷ es) kin = ap (λ b. if b then e ∷ own_edits s homes es 
 
 module _ (w : World) (d : Name) (name : List ℕ) (n e : Name) (new : List ℕ) where
   abbrev with_nodes : NodeMap → World
-  with_nodes m = record { nodes = m; homes = w.homes; servers = w.servers; opens = w.opens; tasks = w.tasks }
+  with_nodes m = record w { nodes = m }
 
   module _ (entry : entry_of name (body_at w d) ≡ Some n) (own : are_kin (home_at w d) (home_at w d) ≡ true) (to : are_kin (home_at w d) (home_at w e) ≡ true) (node : are_kin (home_at w d) (home_at w n) ≡ true) where
     -- nothing stands under the new name

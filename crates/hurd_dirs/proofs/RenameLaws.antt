@@ -25,7 +25,8 @@ use Rattle.hurd_machine.specs.Sight.{Part, AttrOf, EmptyOf, BodyOf, Seen, Child,
 use Rattle.hurd_machine.specs.Sound.{HasDistinctNames, Coherent, Linked, LeadsUp}
 use Rattle.hurd_machine.proofs.Nodes.{header_in, body_in, node_of_header, edit_keeps, edit_reads, header-with_header, header-with_body, body-with_header, body-with_body}
 use Rattle.hurd_machine.proofs.Views.{Agree, header_same, home_same, body_same}
-use Rattle.hurd_machine.proofs.Coherence.{AllProper, coherent_all, proper_append, entry_lists}
+use Rattle.hurd_machine.proofs.Coherence.{AllProper, entry_lists}
+use Rattle.hurd_machine.proofs.Keeping.{coherent_all, proper_append}
 use Rattle.hurd_machine.proofs.Settle.{Rests, rests_settle}
 use Rattle.hurd_machine.proofs.Frame.{AllWithin, Full}
 use Rattle.hurd_machine.proofs.Sizes.{KeepsSized, sized_append, sized_header, sized_removed}

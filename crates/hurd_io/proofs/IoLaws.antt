@@ -14,7 +14,8 @@ use Rattle.hurd_machine.specs.Sight.{Part, BodyOf, Sees, Seen}
 use Rattle.hurd_machine.specs.Touched.{OnDid}
 use Rattle.hurd_machine.proofs.Views.{Agree}
 use Rattle.hurd_machine.proofs.Frame.{AllWithin, Full, within_append}
-use Rattle.hurd_machine.proofs.Coherence.{AllProper, proper_append}
+use Rattle.hurd_machine.proofs.Coherence.{AllProper}
+use Rattle.hurd_machine.proofs.Keeping.{proper_append}
 use Rattle.hurd_machine.proofs.Settle.{Rests, rests_append}
 use Rattle.hurd_machine.proofs.Sizes.{KeepsSized, did_sized, sized_append}
 use Rattle.hurd_machine.proofs.Links.{KeepsLinked, linked_append}

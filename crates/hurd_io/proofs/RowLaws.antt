@@ -7,7 +7,7 @@ use Rattle.hurd_machine.specs.declared.call.Reply.{Reply}
 use Rattle.hurd_machine.specs.World.{World, asked_at}
 use Rattle.hurd_machine.specs.Change.{Change, apply_all, changes_of}
 use Rattle.hurd_machine.specs.Plan.{Planned, is_refused}
-use Rattle.hurd_machine.proofs.Coherence.{apply_all-append}
+use Rattle.hurd_machine.proofs.Keeping.{apply_all-append}
 use Rattle.hurd_core.specs.Core.{Does}
 use Rattle.hurd_core.proofs.PlanLaws.{asked-refused, asked-done, asked-short, planned-then}
 use Rattle.hurd_io.specs.Io.{IoAt, past, moved, io_changes, plan_io}

@@ -108,7 +108,7 @@ module _ (t p : ℕ) (path : List ℕ) (flags : OpenFlags) (mode : Mode) where
     linked = λ w s. answered_linked w (asked w) _ s.linked (λ got is.
         let k = answer w got is in outcome_linked w t got.1 k.is_task got.0.ids got.0.parents r s.coherent s.linked got.0.outcome k.leads s.linked);
     sized = λ w s. answered_sized w (asked w) _ s.sizes (λ got is. let k = answer w got is in outcome_sized w t got.1 k.is_task got.0.ids got.0.parents r got.0.outcome k.leads s.sizes);
-    rests = λ w s. answered_rests w (asked w) _ s.settled (λ got is. let k = answer w got is in outcome_rests w t got.1 k.is_task got.0.ids got.0.parents r got.0.outcome k.leads s.settled);
+    rests = λ w s. answered_rests w (asked w) _ s.settled (λ got is. let k = answer w got is in outcome_rests w t got.1 k.is_task got.0.ids got.0.parents r s.coherent got.0.outcome k.leads s.settled);
     may = λ S v c ours. answered_may v (asked v) _ S v (λ got is.
         let k = answer v got is in
         outcome_may v t got.1 k.is_task got.0.ids got.0.parents r S c ours (answer_taken S v ours got k) (answer_ways S v ours got k) got.0.outcome (answer_seen S v ours got k) k.leads);

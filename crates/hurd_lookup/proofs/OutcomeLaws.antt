@@ -17,7 +17,8 @@ use Rattle.hurd_machine.specs.World.{World, IsAmong, task_at, header_at, server_
 use Rattle.hurd_machine.specs.Change.{Change, apply_all, opening}
 use Rattle.hurd_machine.specs.Sight.{Part, OfNode, TaskOf, bare, Taken, Allowed, ToRead}
 use Rattle.hurd_machine.specs.Sound.{Below, Coherent, Linked}
-use Rattle.hurd_machine.proofs.Coherence.{AllProper, header_old, home_old, named_still, proper_append}
+use Rattle.hurd_machine.proofs.Coherence.{AllProper, header_old, home_old, named_still, next_not, no_home}
+use Rattle.hurd_machine.proofs.Keeping.{proper_append}
 use Rattle.hurd_machine.proofs.Settle.{Rests, rests_append, rests_opening}
 use Rattle.hurd_machine.proofs.Frame.{AllWithin, Full, within_append}
 use Rattle.hurd_machine.proofs.Sizes.{KeepsSized, sized_append}
@@ -113,12 +114,12 @@ module _ (w : World) (t : ℕ) (x : Task) (is : task_at w t ≡ Some x) (ids : I
       (λ d. opens_proper (left s f) t (named 1 x) (seat s f) n ids parents modes d (entered_below w n s (file s f) f.dir f.name c (fresh_next w t x is)) (λ k way. named_still w c n (fresh_next w t x is) 1 k (up k way))
       (λ writes h e. let same : (file s f).header ≡ h = cc (header s f, e) in rw (← same) refl))
 
-  pub outcome_rests : (o : Outcome) → Leads w ids r o → Rests w (changes o)
-  outcome_rests (Opens m) l = rests_opening w t x is m ids parents modes
-  outcome_rests (Makes s f) l =
+  pub outcome_rests : Coherent w → (o : Outcome) → Leads w ids r o → Rests w (changes o)
+  outcome_rests c (Opens m) l = rests_opening w t x is m ids parents modes
+  outcome_rests c (Makes s f) l =
       let m : MayMake w f.dir f.name File = may_make w f.dir f.name File l.0 l.1 in
       let is_server : server_at w s ≡ Some m.info = rw l.2 at m.is_info in
-      rests_append (made s f) file_opened w (entered_rests w n s (file s f) f.dir f.name refl m.info is_server) (rests_opening (left s f) t (named 1 x) (seat s f) n ids parents modes)
+      rests_append (made s f) file_opened w (entered_rests w n s (file s f) f.dir f.name refl (no_home c n (next_not w n (fresh_next w t x is))) m.info is_server) (rests_opening (left s f) t (named 1 x) (seat s f) n ids parents modes)
 
   pub outcome_linked : Coherent w → Linked (nodes_of w) → (o : Outcome) → Leads w ids r o → KeepsLinked w (changes o)
   outcome_linked c l (Opens m) k = opens_linked w t x m ids parents modes

@@ -39,7 +39,7 @@ list_weighed : {X : Type 0} (T : X → Bool) (W : X → ℕ) → ((x : X) → T 
 list_weighed T W same [] = refl
 list_weighed T W same (x ∷ xs) = rw (same x, list_weighed T W same xs) (either_counted (W x) (weigh_list W xs))
 
-tasks_weighed : (T : Right → Bool) (W : Right → ℕ) → ((r : Right) → T r ≡ nat_lt 0 (W r)) → (ts : List Task) → list_any (λ (x : Task). list_any T (rights_of x)) ts ≡ nat_lt 0 (weigh_rights W ts)
+pub tasks_weighed : (T : Right → Bool) (W : Right → ℕ) → ((r : Right) → T r ≡ nat_lt 0 (W r)) → (ts : List Task) → list_any (λ (x : Task). list_any T (rights_of x)) ts ≡ nat_lt 0 (weigh_rights W ts)
 tasks_weighed T W same [] = refl
 tasks_weighed T W same (x ∷ ts) = rw (list_weighed T W same (rights_of x), tasks_weighed T W same ts) (either_counted (weigh_list W (rights_of x)) (weigh_rights W ts))
 

@@ -20,9 +20,11 @@ use Rattle.hurd_ports.specs.declared.table.Port.{Port}
 use Rattle.hurd_ports.specs.Tables.{OpenMap, Task, IsSettled, is_held, names_open, rights_of}
 use Rattle.hurd_ports.specs.Steps.{new_open}
 use Rattle.hurd_machine.specs.World.{IsAmong}
-use Rattle.hurd_nodes.specs.Weights.{count_list}
-use Rattle.hurd_machine.specs.Sight.{naming, weigh_rights}
-use Rattle.hurd_core.specs.Core.{HoldsRights}
+use Rattle.hurd_nodes.specs.Weights.{weigh_list}
+use Rattle.hurd_nodes.specs.declared.seat.Hold.{Hold}
+use Rattle.hurd_nodes.specs.declared.seat.Hold.TheVariants as hold
+use Rattle.hurd_machine.specs.Sight.{weigh_rights}
+use Rattle.hurd_core.specs.Core.{HoldsRights, weight_of}
 use Rattle.hurd_world.specs.Boot.{boot_task, boot_tasks, boot_opens, boot_ports, closed_open}
 
 -- maps with a value put in
@@ -151,12 +153,12 @@ boot_settled tasks q x h =
 
 -- the boot root is held twice for each task
 
-boot_counts : (k : ℕ) (tasks : List IdSets) (n : Name) → count_list (λ m. same_name n m) (replicate (2 * length tasks) boot_name) ≡ weigh_rights (naming n) (boot_tasks k tasks)
-boot_counts k [] n = refl
-boot_counts k (ids ∷ tasks) n =
+boot_weighs : (W : Hold → ℕ) (k : ℕ) (tasks : List IdSets) → weigh_list W (replicate (2 * length tasks) (hold.Use boot_name)) ≡ weigh_rights (weight_of W) (boot_tasks k tasks)
+boot_weighs W k [] = refl
+boot_weighs W k (ids ∷ tasks) =
     let two : 2 * length (ids ∷ tasks) ≡ suc (suc (2 * length tasks)) = omega arith in
-    let rest = boot_counts (k + 1) tasks n in
-    ap (λ (j : ℕ). count_list (λ m. same_name n m) (replicate j boot_name)) two ∙ omega (arith, rest)
+    let rest = boot_weighs W (k + 1) tasks in
+    ap (λ (j : ℕ). weigh_list W (replicate j (hold.Use boot_name))) two ∙ omega (arith, rest)
 
-pub boot_holds : (tasks : List IdSets) → HoldsRights (replicate (2 * length tasks) boot_name) (boot_ports tasks).tasks
-boot_holds tasks n = boot_counts 0 tasks n
+pub boot_holds : (tasks : List IdSets) → HoldsRights (replicate (2 * length tasks) (hold.Use boot_name)) (boot_ports tasks).tasks
+boot_holds tasks W = boot_weighs W 0 tasks

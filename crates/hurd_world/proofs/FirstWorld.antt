@@ -8,7 +8,7 @@ use Rattle.hurd_creds.specs.declared.attrs.Kind.{Kind}
 use Rattle.hurd_creds.specs.declared.attrs.Kind.TheVariants.{Dir}
 use Rattle.hurd_creds.specs.Access.{IdSets}
 use Rattle.hurd_creds.specs.Bits.{asks, WRITE}
-use Rattle.hurd_creds.specs.Names.{name_of}
+use Rattle.hurd_creds.specs.Names.{name_of, name_cmp}
 use Rattle.hurd_creds.proofs.NameLaws.{get_here}
 use Rattle.hurd_creds.proofs.MapLaws.{get-map_values}
 use Rattle.hurd_trans_iface.specs.Nodes.{Node, Header, IsShaped, is_dir, header_of, body_of}
@@ -25,8 +25,8 @@ use Rattle.hurd_ports.specs.declared.table.Right.{Right}
 use Rattle.hurd_ports.specs.declared.table.Right.TheVariants.{Io, Control}
 use Rattle.hurd_ports.specs.Tables.{Task, rights_of, ways_of}
 use Rattle.hurd_machine.specs.World.{World, IsAmong, lists, lists_at, task_at}
-use Rattle.hurd_machine.specs.Sound.{IsGivenRight, Sound, Below, HasDistinctNames, AreGiven, AreHoused, IsTree, AreTables, Hangs, Linked, AreSized, AtRest, times_in, times_listed}
-use Rattle.hurd_machine.proofs.Stays.{root_is_root, stays_root}
+use Rattle.hurd_machine.specs.Sound.{IsGivenRight, Sound, Below, HasDistinctNames, AreGiven, AreHoused, AreSeated, IsTree, AreTables, Hangs, Linked, AreSized, AtRest, times_in, times_listed}
+use Rattle.hurd_machine.proofs.Stays.{root_is_root, stays_root, lives_boot}
 use Rattle.hurd_machine.proofs.Sums.{total_none}
 use Rattle.hurd_world.specs.Boot.{first_world}
 use Rattle.hurd_world.proofs.FirstPorts.{IsFirst, OfTask, boot_seat, boot_right, boot_number, boot_open, boot_settled, closed, only, opens_there}
@@ -101,6 +101,17 @@ module _ (kind : ServerKind) (text : List ℕ) where
     serving = λ s i is. (0, ap (λ (j : ServerInfo). j.ids) (server_only s i is).1);
   }
 
+  no_active : (n s : Name) → fin.get state.actives n ≡ Some s → ⊥
+  no_active n s is = let none : None ≡ Some s = sym (fin.get-empty name_cmp n) ∙ is in cc
+
+  seated : AreSeated state
+  seated = record {
+    seated = λ n s is. absurd (no_active n s is);
+    seats = λ n s is. absurd (no_active n s is);
+    alone = λ n m s is there. absurd (no_active n s is);
+    elsewhere = λ n s is at. no_active n s is;
+  }
+
   tree : IsTree state
   tree = record {
     kin = λ d n is. absurd (no_entry d n is);
@@ -110,6 +121,7 @@ module _ (kind : ServerKind) (text : List ℕ) where
     distinct = λ n x is. rw (node_only n x is).1 (empty_distinct (is_dir (root_of kind text).kind));
     root = (root.header, root_header);
     boot = root_is_root state boot_name info root_server root_home;
+    served = root_home;
   }
 
   -- nothing names the root
@@ -193,15 +205,16 @@ module _ (kind : ServerKind) (text : List ℕ) where
       written = λ t x r o k at has is asked there. absurd (true≢false (sym asked ∙ ap (λ (y : Opened). asks y.modes WRITE) (boot_open tasks r.open_name o is).3));
     }
 
-    -- the one node is its server's root, and so stays
+    -- the boot server stays, and with it the one node, which is its root
     rest : AtRest w
     rest = record {
-      nodes = λ n x is. rw ((node_only n x is).0) (stays_root w boot_name info root_server root_home);
+      nodes = λ n x is. rw ((node_only n x is).0) (stays_root w boot_name info root_server root_home (lives_boot w));
+      servers = λ s i is. rw ((server_only s i is).0) (lives_boot w);
       opens = boot_settled tasks;
     }
 
     sound : Sound w
-    sound = record { coherent = record { given = given; housing = housed; tree = tree; tables = tables }; linked = linked; sizes = sized; settled = rest }
+    sound = record { coherent = record { given = given; housing = housed; seating = seated; tree = tree; tables = tables }; linked = linked; sizes = sized; settled = rest }
 
 pub first_sound : (m : Meaning) (tasks : List IdSets) → Begins m → Sound (first_world m tasks)
 first_sound m tasks b = let new = begun-new b.0 m b.1 in rw new.2 (sound new.0 new.1 tasks)

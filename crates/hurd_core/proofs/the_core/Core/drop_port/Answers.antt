@@ -1,5 +1,6 @@
 -- The ports without the port, and the nodes that are still held, are the world without it.
 use Rattle.std.proofs.Common.{ℕ, List, sym, ap}
+use Rattle.hurd_nodes.specs.declared.seat.Hold.{Hold}
 use Rattle.hurd_creds.specs.declared.name.Name.{Name}
 use Rattle.std.proofs.lemmas.Result.{err_from_is_err_and}
 use Rattle.hurd_nodes.specs.Shown.{shown}
@@ -22,5 +23,5 @@ returns g c =
 
 pub invariant_of-self-2 : goal.invariant_of-self-2
 invariant_of-self-2 g c =
-    rw (ap (λ (p : List Name × ℕ). p.0) c.settle.ensures.holds, c.release_right.ensures)
+    rw (ap (λ (p : List Hold × ℕ). p.0) c.settle.ensures.holds, c.release_right.ensures)
     (drop-holds (shown g.S.Server.meaning c.self.inside.nodes) c.self.inside.ports.state c.args.task.0 c.args.port c.in_ok-right.field-0.now (sym c.in_ok-right.ensures) c.self.inside.nodes.holds c.self.invariant _ c.deallocate.new.self.state c.in_ok-deallocate.ensures.answer)

@@ -1,6 +1,7 @@
 -- Leave, a name, the server's making: each refusal in its place, and then the machine's making.
 use Rattle.std.proofs.Common.{ℕ, Bool, List, refl, sym, inl, ap}
 use Rattle.std.proofs.lemmas.Result.{err_from_is_err_and}
+use Rattle.hurd_nodes.specs.declared.seat.Hold.{Hold}
 use Rattle.hurd_nodes.specs.Shown.{shown}
 use Rattle.hurd_core.specs.ToMake.{new_node_of}
 use Rattle.hurd_creds.specs.declared.name.Name.{Name}
@@ -36,4 +37,4 @@ returns g c =
 
 pub invariant_of-self-2 : goal.invariant_of-self-2
 invariant_of-self-2 g c =
-    rw (ap (λ (z : List Name × ℕ). z.0) c.in_ok-make.ensures.holds, c.take_name.ensures.named) (holds_given c.self.inside.nodes.holds c.self.inside.ports.state.tasks c.self.invariant c.args.task.0 1)
+    rw (ap (λ (z : List Hold × ℕ). z.0) c.in_ok-make.ensures.holds, c.take_name.ensures.named) (holds_given c.self.inside.nodes.holds c.self.inside.ports.state.tasks c.self.invariant c.args.task.0 1)

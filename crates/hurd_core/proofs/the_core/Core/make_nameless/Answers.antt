@@ -1,12 +1,12 @@
 -- Room, leave, memory, the server's making, the port: each refusal in its place, and then the machine's making.
 use Rattle.std.proofs.Common.{◌≡◌, ◌∙◌, ℕ, List, refl, sym, inl, ap, ap₂}
 use Rattle.std.proofs.lemmas.Result.{err_from_is_err_and}
+use Rattle.hurd_nodes.specs.declared.seat.Hold.{Hold}
 use Rattle.hurd_nodes.specs.Shown.{shown}
 use Rattle.hurd_machine.specs.World.{world_from}
 use Rattle.hurd_creds.specs.declared.name.Name.{Name}
 use Rattle.hurd_core.proofs.HoldLaws.{holds_given}
 use Rattle.hurd_core.proofs.CoreLaws.{reserve-lacks, fill-holds}
-use Rattle.hurd_core.proofs.WayLaws.{both-held}
 use Rattle.hurd_core.proofs.MakingLaws.{room-left}
 use Rattle.hurd_core.proofs.NamelessLaws.{unnamed, lone-full, lone-refused, makes-lone, lone-short, lone-lacks, lone-made}
 use Rattle.hurd_core.proofs.the_core.Core.make_nameless.Goals as goal
@@ -56,7 +56,7 @@ fill-requires-clause-room g c =
 pub returns : goal.returns
 returns g c =
     let N = shown g.S.Server.meaning c.self.inside.nodes in
-    let kept = both-held c.make_nameless.new.self c.hold.new.self c.hold_ways.new.nodes c.in-Some.name c.args.parents c.as_slice.result.now _ _ c.hold.ensures c.hold_ways.ensures c.as_slice.ensures.is in
+    let kept = c.hold_io.ensures in
     rw (← c.self.view_is, kept)
     (lone-made N c.self.inside.ports.state c.args.task.0 c.args.file c.args.ids c.args.parents c.args.modes c.reserve.new.self.state c.take_name.new.self.state c.fill.new.self.state (shown g.S.Server.meaning c.make_nameless.new.self) c.in-Some.name c.node.result c.fill.result (sym c.in_ok-room.ensures.room) (sym c.in_ok-can_make_nameless.ensures) c.in_ok-reserve.ensures.kept c.in-Some.ensures c.node.ensures (rw c.in_ok-reserve_holds.ensures.ok.0 at c.in_ok-make_nameless.ensures.shown) c.take_name.ensures.named c.fill.ensures.answer)
 
@@ -73,8 +73,8 @@ returns-in_err-reserve_holds g c =
 pub invariant_of-self-2 : goal.invariant_of-self-2
 invariant_of-self-2 g c =
     let hs = c.self.inside.nodes.holds in
-    let held : c.make_nameless.new.self.holds ≡ hs = ap (λ (z : List Name × ℕ). z.0) c.in_ok-make_nameless.ensures.holds ∙ ap (λ h. h.holds) c.in_ok-reserve_holds.ensures.ok.0 in
-    let kept = both-held c.make_nameless.new.self c.hold.new.self c.hold_ways.new.nodes c.in-Some.name c.args.parents c.as_slice.result.now _ _ c.hold.ensures c.hold_ways.ensures c.as_slice.ensures.is in
+    let held : c.make_nameless.new.self.holds ≡ hs = ap (λ (z : List Hold × ℕ). z.0) c.in_ok-make_nameless.ensures.holds ∙ ap (λ h. h.holds) c.in_ok-reserve_holds.ensures.ok.0 in
+    let kept = c.hold_io.ensures in
     rw (kept, held)
     (fill-holds (shown g.S.Server.meaning c.self.inside.nodes) c.take_name.new.self.state c.args.task.0 c.in-Some.name c.args.ids c.args.parents c.args.modes hs
     (rw (c.take_name.ensures.named, c.in_ok-reserve.ensures.kept) (holds_given hs c.self.inside.ports.state.tasks c.self.invariant c.args.task.0 1)) c.fill.result c.fill.new.self.state c.fill.ensures.answer)

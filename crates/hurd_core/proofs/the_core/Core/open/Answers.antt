@@ -5,7 +5,6 @@ use Rattle.std.proofs.lemmas.Result.{err_from_is_err_and}
 use Rattle.hurd_nodes.specs.Shown.{shown}
 use Rattle.hurd_machine.specs.World.{world_from}
 use Rattle.hurd_core.proofs.CoreLaws.{room-refused, room-had, reserve-lacks, fill-does, fill-holds}
-use Rattle.hurd_core.proofs.WayLaws.{both-held}
 use Rattle.hurd_core.proofs.the_core.Core.open.Goals as goal
 
 pub returns-in_err-room : goal.returns-in_err-room
@@ -31,12 +30,12 @@ returns-in_err-reserve_holds g c =
 
 pub returns : goal.returns
 returns g c =
-    let held = both-held c.reserve_holds.new.self c.hold.new.self c.hold_ways.new.nodes c.args.node c.args.parents c.as_slice.result.now _ _ c.hold.ensures c.hold_ways.ensures c.as_slice.ensures.is in
+    let held = c.hold_io.ensures in
     rw (← c.self.view_is, held, c.in_ok-reserve_holds.ensures.ok.0, ← c.in_ok-reserve.ensures.kept)
     (fill-does (shown g.S.Server.meaning c.self.inside.nodes) c.reserve.new.self.state c.args.task.0 c.args.node c.args.ids c.args.parents c.args.modes c.fill.result c.fill.new.self.state c.fill.ensures.answer)
 
 pub invariant_of-self-2 : goal.invariant_of-self-2
 invariant_of-self-2 g c =
-    let held = both-held c.reserve_holds.new.self c.hold.new.self c.hold_ways.new.nodes c.args.node c.args.parents c.as_slice.result.now _ _ c.hold.ensures c.hold_ways.ensures c.as_slice.ensures.is in
+    let held = c.hold_io.ensures in
     rw (held, c.in_ok-reserve_holds.ensures.ok.0)
     (fill-holds (shown g.S.Server.meaning c.self.inside.nodes) c.reserve.new.self.state c.args.task.0 c.args.node c.args.ids c.args.parents c.args.modes c.self.inside.nodes.holds (rw c.in_ok-reserve.ensures.kept c.self.invariant) c.fill.result c.fill.new.self.state c.fill.ensures.answer)

@@ -1,6 +1,7 @@
 -- The nodes with the entry elsewhere, and what is left of them, are the world with it.
 use Rattle.std.proofs.Common.{ℕ, Bool, List, sym, subst}
 use Rattle.std.proofs.lemmas.Result.{err_from_is_err_and}
+use Rattle.hurd_nodes.specs.declared.seat.Hold.{Hold}
 use Rattle.hurd_creds.specs.declared.name.Name.{Name}
 use Rattle.hurd_nodes.specs.Shown.{shown}
 use Rattle.hurd_core.specs.Core.{HoldsRights}
@@ -16,7 +17,7 @@ returns-in_err-rename g c =
 pub returns : goal.returns
 returns g c =
     let held : HoldsRights c.rename.new.self.holds c.self.inside.ports.state.tasks =
-    subst (λ (h : List Name × ℕ). HoldsRights h.0 c.self.inside.ports.state.tasks) (sym c.in_ok-rename.ensures.holds) c.self.invariant in
+    subst (λ (h : List Hold × ℕ). HoldsRights h.0 c.self.inside.ports.state.tasks) (sym c.in_ok-rename.ensures.holds) c.self.invariant in
     rw (← c.self.view_is)
     (rename-done (shown g.S.Server.meaning c.self.inside.nodes) c.self.inside.ports.state c.args.dir c.args.name.now c.args.to c.args.new.now c.rename.new.self.holds held c.opens_are_held.ensures
     c.in_ok-rename.field-0 (shown g.S.Server.meaning c.rename.new.self) (shown g.S.Server.meaning c.settle.new.self) c.in_ok-rename.ensures.shown c.settle.ensures.shown)

@@ -1,6 +1,7 @@
 -- The nodes without the entry, and what is left of them, are the world without it.
 use Rattle.std.proofs.Common.{ℕ, Bool, List, sym, subst}
 use Rattle.std.proofs.lemmas.Result.{err_from_is_err_and}
+use Rattle.hurd_nodes.specs.declared.seat.Hold.{Hold}
 use Rattle.hurd_creds.specs.declared.name.Name.{Name}
 use Rattle.hurd_nodes.specs.Shown.{shown}
 use Rattle.hurd_core.specs.Core.{HoldsRights}
@@ -15,7 +16,7 @@ returns-in_err-unlink g c =
 pub returns : goal.returns
 returns g c =
     let held : HoldsRights c.unlink.new.self.holds c.self.inside.ports.state.tasks =
-    subst (λ (h : List Name × ℕ). HoldsRights h.0 c.self.inside.ports.state.tasks) (sym c.in_ok-unlink.ensures.holds) c.self.invariant in
+    subst (λ (h : List Hold × ℕ). HoldsRights h.0 c.self.inside.ports.state.tasks) (sym c.in_ok-unlink.ensures.holds) c.self.invariant in
     rw (← c.self.view_is)
     (unlink-follows (shown g.S.Server.meaning c.self.inside.nodes) c.self.inside.ports.state c.args.dir c.args.name.now c.unlink.new.self.holds held c.opens_are_held.ensures
     c.in_ok-unlink.field-0 (shown g.S.Server.meaning c.unlink.new.self) (shown g.S.Server.meaning c.settle.new.self) c.in_ok-unlink.ensures.shown c.settle.ensures.shown)
