@@ -41,3 +41,4 @@ pub mod Nameless
 pub mod Linking
 pub mod Removals
 pub mod Renames
+pub mod Servers
