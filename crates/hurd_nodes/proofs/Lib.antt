@@ -6,6 +6,7 @@ pub mod EditLaws
 pub mod MakeLaws
 pub mod NamelessLaws
 pub mod TakeLaws
+pub mod PartLaws
 pub mod SettleLaws
 pub mod StayLaws
 pub mod BootLaws
