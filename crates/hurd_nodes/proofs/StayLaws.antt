@@ -14,9 +14,10 @@ use Rattle.hurd_trans_iface.specs.Nodes.{Node, attrs_of}
 use Rattle.hurd_trans_iface.specs.Meaning.{Meaning}
 use Rattle.hurd_nodes.specs.declared.seat.Home.{Home}
 use Rattle.hurd_nodes.specs.declared.seat.Seat.{Seat}
-use Rattle.hurd_nodes.specs.Held.{AreApart, Seated, box_by, home_key, home_value, homes_of, mean, mean_seat, seat_key, seat_value, seats_of}
+use Rattle.hurd_nodes.specs.Held.{AreApart, Seated, box_by, home_key, home_value, homes_of, mean, mean_seat, place_in, seat_key, seat_value, seats_of}
 use Rattle.hurd_nodes.specs.Shown.{NodeState, ServerInfo, flat, header_in, info_in, info_of, node_in, server_of, servers_of}
 use Rattle.hurd_nodes.specs.Settle.{Outside, any_in, is_entered, is_entered_at, node_stays, server_stays, stays_by, stays_with, sweep}
+use Rattle.hurd_nodes.proofs.SeatLaws.{SeatAt, seat-at}
 use Rattle.hurd_nodes.proofs.ShownLaws.{get-nodes, get-servers, seen}
 use Rattle.hurd_nodes.proofs.SettleLaws.{sweep-none}
 use Rattle.hurd_nodes.proofs.TableLaws.{place-there, place-there_read}
@@ -109,8 +110,7 @@ entered-untold (Some x) is = absurd (cc)
 pub info-seated : (homes : NameMap Name) (seats : NameMap (Seated Meaning)) (n s : Name) (e : Seated Meaning) → fin.get homes n ≡ Some s → fin.get seats s ≡ Some e → server_of (seen homes seats) n ≡ Some (info_of e)
 info-seated homes seats n s e home is = ap (info_in (servers_of seats)) home ∙ get-servers seats s ∙ ap (option_map info_of) is
 
--- a node whose server is there, and one whose server isn't
-
+-- a node whose server isn't there
 pub stays-none : (o : Outside) (h : NodeState) (n : Name) → server_of h n ≡ None → false ≡ node_stays o h n
 stays-none o h n is = sym (by (fin.get h.homes n) is)
   where
@@ -118,21 +118,35 @@ stays-none o h n is = sym (by (fin.get h.homes n) is)
     by None none = refl
     by (Some s) none = ap (stays_with o h n s) none
 
-module _ (o : Outside) (h : NodeState) (n s : Name) (i : ServerInfo) (home : fin.get h.homes n ≡ Some s) (is : fin.get h.servers s ≡ Some i) where
-  stays-is : node_stays o h n ≡ (server_stays o h s && (same_name n i.root || (is_entered_at (fin.get h.nodes n) || o.held n)))
-  stays-is = ap (stays_by o h n) home ∙ ap (stays_with o h n s) is
+-- a node whose server is found in its seat
+module _ {S : Type 0} (f : S → Meaning) (homes actives : NameMap Name) (ss : List (Seat S)) (o : Outside) (n : Name) (i : ℕ) (x : Seat S)
+    (at : Some i ≡ place_in ss (fin.get homes n)) (read : x ≡ slice_index_or ss i x) where
+  abbrev told : NodeState
+  told = flat homes actives (mean f (seats_of ss))
 
-  pub stays-unserved : server_stays o h s ≡ false → false ≡ node_stays o h n
+  seat : SeatAt f ss (fin.get homes n) i x
+  seat = seat-at f ss (fin.get homes n) i x at read
+
+  abbrev tests : Bool → Bool → Bool
+  tests serves root = serves && (root || (is_entered_at (fin.get told.nodes n) || o.held n))
+
+  stays-is : node_stays o told n ≡ tests (server_stays o told x.name) (same_name n x.root)
+  stays-is =
+      ap (stays_by o told n) seat.home
+      ∙ ap (stays_with o told n seat.name) (get-servers (mean f (seats_of ss)) seat.name ∙ ap (option_map info_of) seat.is)
+      ∙ ap (λ (s : Name). tests (server_stays o told s) (same_name n x.root)) (sym seat.named)
+
+  pub stays-unserved : server_stays o told x.name ≡ false → false ≡ node_stays o told n
   stays-unserved serves = sym (stays-is ∙ rw serves refl)
 
-  module _ (serves : server_stays o h s ≡ true) where
-    pub stays-root : same_name n i.root ≡ true → true ≡ node_stays o h n
+  module _ (serves : server_stays o told x.name ≡ true) where
+    pub stays-root : same_name n x.root ≡ true → true ≡ node_stays o told n
     stays-root root = sym (stays-is ∙ rw (serves, root) refl)
 
-    pub stays-entered : same_name n i.root ≡ false → is_entered_at (fin.get h.nodes n) ≡ true → true ≡ node_stays o h n
+    pub stays-entered : same_name n x.root ≡ false → is_entered_at (fin.get told.nodes n) ≡ true → true ≡ node_stays o told n
     stays-entered root entered = sym (stays-is ∙ rw (serves, root, entered) refl)
 
-    pub stays-held : same_name n i.root ≡ false → is_entered_at (fin.get h.nodes n) ≡ false → o.held n ≡ node_stays o h n
+    pub stays-held : same_name n x.root ≡ false → is_entered_at (fin.get told.nodes n) ≡ false → o.held n ≡ node_stays o told n
     stays-held root entered = sym (stays-is ∙ rw (serves, root, entered) refl)
 
 -- four tests, one after another

@@ -631,10 +631,11 @@ impl<S: Server> Nodes<S> {
         let Some(i) = place_of_server(&self.homes, &self.seats, node) else {
             return false;
         };
-        if !self.server_stays(self.seats[i].name) {
+        let seat = &self.seats[i];
+        if !self.server_stays(seat.name) {
             return false;
         }
-        if node == self.seats[i].root {
+        if node == seat.root {
             return true;
         }
         if self.is_entered(node) {
