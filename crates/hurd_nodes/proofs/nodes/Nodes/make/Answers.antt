@@ -64,7 +64,7 @@ returns-in_err-make-clause-hidden g c =
     let x = c.index_mut.result.now in
     let e = mean_seat f (seat_value x) in
     let s = seat-at f ss (fin.get homes c.args.dir) c.in-Some.i x at c.index_mut.ensures.value in
-    let same = make-kept c.args.dir c.args.name.now c.args.new homes seats s.name e s.home s.is (f c.make.new.self) c.in_err-make.field-0.0 (rw c.in_err-make.was at c.make.ensures) in
+    let same = make-kept c.args.dir c.args.name.now c.args.new homes (homes_of c.self.inside.actives.items) seats s.name e s.home s.is (f c.make.new.self) c.in_err-make.field-0.0 (rw c.in_err-make.was at c.make.ensures) in
     rw (← c.self.view_is, c.reserve.ensures.items, s.set c.make.new.self)
     (λ fresh hides. hides-unmade c.args.dir c.args.name.now c.args.new homes seats s.name e s.is (f c.make.new.self) same hides)
 
@@ -100,8 +100,8 @@ returns-clause-hidden g c =
 
 -- no two rows are of one name
 
-pub invariant_of-self : goal.invariant_of-self
-invariant_of-self g c = record {
+pub invariant_of-self-2 : goal.invariant_of-self-2
+invariant_of-self-2 g c = record {
   homes_apart = c.put_home.ensures.apart (rw c.reserve.ensures.items c.self.invariant.homes_apart);
   actives_apart = c.self.invariant.actives_apart;
   seats_apart = apart-set seat_key c.self.inside.seats.items c.in-Some.i c.index_mut.result.now (record c.index_mut.result.now { server = c.make.new.self }) c.index_mut.ensures.value refl c.self.invariant.seats_apart;

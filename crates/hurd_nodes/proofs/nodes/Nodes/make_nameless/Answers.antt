@@ -111,8 +111,8 @@ returns-clause-hidden g c =
 
 -- no two rows are of one name
 
-pub invariant_of-self : goal.invariant_of-self
-invariant_of-self g c = record {
+pub invariant_of-self-2 : goal.invariant_of-self-2
+invariant_of-self-2 g c = record {
   homes_apart = c.put_home.ensures.apart (rw c.reserve.ensures.items c.self.invariant.homes_apart);
   actives_apart = c.self.invariant.actives_apart;
   seats_apart = apart-set seat_key c.self.inside.seats.items c.in-Some.i c.index_mut.result.now (record c.index_mut.result.now { server = c.make_nameless.new.self }) c.index_mut.ensures.value refl c.self.invariant.seats_apart;
