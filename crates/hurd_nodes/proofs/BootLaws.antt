@@ -79,9 +79,9 @@ module _ (m : Meaning) (bare : m.nodes ≡ fin.empty) where
   homes-shown : homes ≡ map_values (λ (x : Node). boot_name) (booted m).nodes
   homes-shown = sym (ap (map_values (λ (x : Node). boot_name)) nodes-begun ∙ one-mapped (λ (x : Node). boot_name) boot_name root)
 
-  flat-boot : flat homes seats ≡ state_of (booted m)
+  flat-boot : flat homes fin.empty seats ≡ state_of (booted m)
   unfolding servers_of
-  flat-boot i = record { nodes = nodes-shown i; homes = homes-shown i; servers = one-mapped info_of boot_name seat i }
+  flat-boot i = record { nodes = nodes-shown i; homes = homes-shown i; actives = fin.empty; servers = one-mapped info_of boot_name seat i }
 
   module _ {S : Type 0} (f : S → Meaning) (w : S) (ids : IdSets) (begun : f w ≡ booted m) (same : ids ≡ boot_ids) where
     abbrev boxes : NameMap (Seated S)
@@ -94,8 +94,8 @@ module _ (m : Meaning) (bare : m.nodes ≡ fin.empty) where
         ∙ ap₂ (λ (x : Meaning) (i : IdSets). fin.insert {R = name_cmp} fin.empty boot_name (let e : Seated Meaning = record { server = x; root = boot_name; ids = i } in e)) begun same
 
     -- the boot server alone
-    pub boot-shown : flat homes (mean f boxes) ≡ state_of (booted m)
-    boot-shown = ap (flat homes) mean-boxes ∙ flat-boot
+    pub boot-shown : flat homes fin.empty (mean f boxes) ≡ state_of (booted m)
+    boot-shown = ap (flat homes fin.empty) mean-boxes ∙ flat-boot
 
     root_at : (n : Name) (o : Option Node) → fin.get (booted m).nodes n ≡ o → is_some o ≡ true → n ≡ boot_name
     root_at n None is there = absurd (true≢false (sym there))

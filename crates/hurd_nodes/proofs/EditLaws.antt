@@ -16,26 +16,26 @@ use Rattle.hurd_trans_iface.specs.Meaning.{Meaning, ServerKind, keeps_tree, edit
 use Rattle.hurd_nodes.specs.Held.{Held, Seated, box_by, mean, with_box, with_server_of}
 use Rattle.hurd_nodes.specs.Shown.{NodeState, ServerInfo, flat, shown, nodes_of, with_edits, are_kin, can_link, can_set_attrs, link_at, link_by, can_unlink, own_edits, unlink_at, unlink_by, unlink_edits_at, can_rename, rename_at, rename_by, rename_edits_at, set_attrs_at, set_attrs_by, server_of, tree_by}
 use Rattle.hurd_nodes.proofs.SeatLaws.{lent}
-use Rattle.hurd_nodes.proofs.ShownLaws.{body-told, flat-own, kin-home, node-told, own-all, server-told, server-untold}
+use Rattle.hurd_nodes.proofs.ShownLaws.{body-told, flat-own, kin-home, node-told, own-all, seen, server-told, server-untold}
 
 -- an answer, and the edits of one that isn't refused
 abbrev pub answered : {S : Type 0} → (List Edit → S → S) → List Edit → S → Result (Unit {0}) Errno → Result (Unit {0}) Errno × S
 answered make es h a = (a, make (edits_if a es) h)
 
-module _ (homes : NameMap Name) (seats : NameMap (Seated Meaning)) (s : Name) (e : Seated Meaning) (is : fin.get seats s ≡ Some e) where
+module _ (homes actives : NameMap Name) (seats : NameMap (Seated Meaning)) (s : Name) (e : Seated Meaning) (is : fin.get seats s ≡ Some e) where
   abbrev after : Meaning → NodeState
-  after m = flat homes (fin.insert seats s (with_box e m))
+  after m = flat homes actives (fin.insert seats s (with_box e m))
 
-  pub after-same : after e.server ≡ flat homes seats
-  after-same = ap (flat homes) (insert_same seats s e is)
+  pub after-same : after e.server ≡ flat homes actives seats
+  after-same = ap (flat homes actives) (insert_same seats s e is)
 
   -- what the server answers and does is answered, and done to its own nodes, by what is shown
   pub answered-shown : (a : Result (Unit {0}) Errno) (es gs : List Edit) → ((u : Unit {0}) → a ≡ Ok u → own_edits (Some s) homes es ≡ gs)
-      → answered with_edits gs (flat homes seats) a ≡ (a, after (edited (edits_if a es) e.server))
+      → answered with_edits gs (flat homes actives seats) a ≡ (a, after (edited (edits_if a es) e.server))
   answered-shown (Err x) es gs own = ap (λ (h : NodeState). let z : Result (Unit {0}) Errno × NodeState = (Err x, h) in z) (sym after-same)
   answered-shown (Ok u) es gs own =
       ap (λ (h : NodeState). let z : Result (Unit {0}) Errno × NodeState = (Ok u, h) in z)
-      (sym (flat-own es homes seats s e is ∙ ap (λ (xs : List Edit). with_edits xs (flat homes seats)) (own u refl)))
+      (sym (flat-own es homes actives seats s e is ∙ ap (λ (xs : List Edit). with_edits xs (flat homes actives seats)) (own u refl)))
 
 -- a box that serves a node, and was lent
 module _ {S : Type 0} (f : S → Meaning) (t : Held S) (n : Name) (a w : S) (box : Some (f a) ≡ box_by (mean f t.seats) (fin.get t.homes n)) where
@@ -48,11 +48,11 @@ module _ {S : Type 0} (f : S → Meaning) (t : Held S) (n : Name) (a w : S) (box
   steps-shown answer es gs wanted got own is steps =
       let l = lent f t n a w box in
       let seats = mean f t.seats in
-      let left = after t.homes seats l.name l.seat l.is in
+      let left = after t.homes t.actives seats l.name l.seat l.is in
       rw l.after
-      (subst (λ (h : NodeState). Steps h wanted got (left (f w))) (after-same t.homes seats l.name l.seat l.is)
+      (subst (λ (h : NodeState). Steps h wanted got (left (f w))) (after-same t.homes t.actives seats l.name l.seat l.is)
       (steps-inside left l.seat.server (f w) (answered edited es l.seat.server answer) wanted got
-      (is ∙ answered-shown t.homes seats l.name l.seat l.is answer es gs (own l.name l.home))
+      (is ∙ answered-shown t.homes t.actives seats l.name l.seat l.is answer es gs (own l.name l.home))
       (rw l.was steps)))
 
   -- and one that wants none
@@ -64,31 +64,31 @@ module _ {S : Type 0} (f : S → Meaning) (t : Held S) (n : Name) (a w : S) (box
   sure-shown answer es gs wanted got own is steps =
       let l = lent f t n a w box in
       let seats = mean f t.seats in
-      let left = after t.homes seats l.name l.seat l.is in
+      let left = after t.homes t.actives seats l.name l.seat l.is in
       let told : (got, f w) ≡ answered edited es l.seat.server answer = rw l.was steps in
       ap (λ (h : NodeState). let z : Result (Unit {0}) Errno × NodeState = (got, h) in z) l.after
       ∙ ap (λ (z : Result (Unit {0}) Errno × Meaning). let y : Result (Unit {0}) Errno × NodeState = (z.0, left z.1) in y) told
-      ∙ sym (is ∙ answered-shown t.homes seats l.name l.seat l.is answer es gs (own l.name l.home))
+      ∙ sym (is ∙ answered-shown t.homes t.actives seats l.name l.seat l.is answer es gs (own l.name l.home))
 
 -- owner, group and mode
 
 module _ (homes : NameMap Name) (seats : NameMap (Seated Meaning)) (n : Name) where
-  pub can_set_attrs-told : (m : Meaning) → Some m ≡ box_by seats (fin.get homes n) → can_set_attrs n (flat homes seats) ≡ set_attrs_of (keeps_tree m.kind) (fin.get m.nodes n)
+  pub can_set_attrs-told : (m : Meaning) → Some m ≡ box_by seats (fin.get homes n) → can_set_attrs n (seen homes seats) ≡ set_attrs_of (keeps_tree m.kind) (fin.get m.nodes n)
   can_set_attrs-told m box =
       let i = server-told homes seats n m box in
       ap₂ set_attrs_by i.1 (node-told homes seats n m box) ∙ ap (λ (k : ServerKind). set_attrs_of (keeps_tree k) (fin.get m.nodes n)) i.2
 
-  pub can_set_attrs-untold : None ≡ box_by seats (fin.get homes n) → can_set_attrs n (flat homes seats) ≡ Err EDIED
+  pub can_set_attrs-untold : None ≡ box_by seats (fin.get homes n) → can_set_attrs n (seen homes seats) ≡ Err EDIED
   can_set_attrs-untold box = ap (λ (i : Option ServerInfo). set_attrs_by i (fin.get (nodes_of homes seats) n)) (server-untold homes seats n box)
 
   -- whether the server of a node keeps a tree
 
-  pub tree-told : (m : Meaning) → Some m ≡ box_by seats (fin.get homes n) → tree_by (server_of (flat homes seats) n) ≡ keeps_tree m.kind
+  pub tree-told : (m : Meaning) → Some m ≡ box_by seats (fin.get homes n) → tree_by (server_of (seen homes seats) n) ≡ keeps_tree m.kind
   tree-told m box =
       let i = server-told homes seats n m box in
       ap tree_by i.1 ∙ ap (λ (k : ServerKind). keeps_tree k) i.2
 
-  pub tree-untold : None ≡ box_by seats (fin.get homes n) → tree_by (server_of (flat homes seats) n) ≡ false
+  pub tree-untold : None ≡ box_by seats (fin.get homes n) → tree_by (server_of (seen homes seats) n) ≡ false
   tree-untold box = ap tree_by (server-untold homes seats n box)
 
 module _ {S : Type 0} (f : S → Meaning) (t : Held S) (n : Name) (owner group : ℕ) (mode : Mode) where
@@ -132,13 +132,13 @@ module _ (homes : NameMap Name) (seats : NameMap (Seated Meaning)) (dir : Name) 
   kin = are_kin (fin.get homes dir) (fin.get homes n)
 
   pub can_link-told : (m : Meaning) → Some m ≡ box_by seats (fin.get homes dir)
-      → can_link dir name n (flat homes seats) ≡ link_of (keeps_tree m.kind) name kin (fin.get m.nodes dir) (fin.get (nodes_of homes seats) n)
+      → can_link dir name n (seen homes seats) ≡ link_of (keeps_tree m.kind) name kin (fin.get m.nodes dir) (fin.get (nodes_of homes seats) n)
   can_link-told m box =
       let i = server-told homes seats dir m box in
       ap₂ (λ (o : Option ServerInfo) (d : Option Node). link_by name kin o d (fin.get (nodes_of homes seats) n)) i.1 (node-told homes seats dir m box)
       ∙ ap (λ (k : ServerKind). link_of (keeps_tree k) name kin (fin.get m.nodes dir) (fin.get (nodes_of homes seats) n)) i.2
 
-  pub can_link-untold : None ≡ box_by seats (fin.get homes dir) → can_link dir name n (flat homes seats) ≡ Err EDIED
+  pub can_link-untold : None ≡ box_by seats (fin.get homes dir) → can_link dir name n (seen homes seats) ≡ Err EDIED
   can_link-untold box = ap (λ (i : Option ServerInfo). link_by name kin i (fin.get (nodes_of homes seats) dir) (fin.get (nodes_of homes seats) n)) (server-untold homes seats dir box)
 
 module _ {S : Type 0} (f : S → Meaning) (t : Held S) (dir : Name) (name : List ℕ) (n : Name) where
@@ -173,12 +173,12 @@ module _ {S : Type 0} (f : S → Meaning) (t : Held S) (dir : Name) (name : List
 -- an entry that goes
 
 module _ (homes : NameMap Name) (seats : NameMap (Seated Meaning)) (dir : Name) (name : List ℕ) where
-  pub can_unlink-told : (m : Meaning) → Some m ≡ box_by seats (fin.get homes dir) → can_unlink dir name (flat homes seats) ≡ unlink_of (keeps_tree m.kind) name (fin.get m.nodes dir)
+  pub can_unlink-told : (m : Meaning) → Some m ≡ box_by seats (fin.get homes dir) → can_unlink dir name (seen homes seats) ≡ unlink_of (keeps_tree m.kind) name (fin.get m.nodes dir)
   can_unlink-told m box =
       let i = server-told homes seats dir m box in
       ap₂ (unlink_by name) i.1 (node-told homes seats dir m box) ∙ ap (λ (k : ServerKind). unlink_of (keeps_tree k) name (fin.get m.nodes dir)) i.2
 
-  pub can_unlink-untold : None ≡ box_by seats (fin.get homes dir) → can_unlink dir name (flat homes seats) ≡ Err EDIED
+  pub can_unlink-untold : None ≡ box_by seats (fin.get homes dir) → can_unlink dir name (seen homes seats) ≡ Err EDIED
   can_unlink-untold box = ap (λ (i : Option ServerInfo). unlink_by name i (fin.get (nodes_of homes seats) dir)) (server-untold homes seats dir box)
 
 module _ {S : Type 0} (f : S → Meaning) (t : Held S) (dir : Name) (name : List ℕ) where
@@ -233,14 +233,14 @@ module _ (homes : NameMap Name) (seats : NameMap (Seated Meaning)) (dir : Name) 
   other-told m box false is = unasked (keeps_tree m.kind) name (fin.get m.nodes dir) (fin.get (nodes_of homes seats) to) (fin.get m.nodes to)
 
   pub can_rename-told : (m : Meaning) → Some m ≡ box_by seats (fin.get homes dir)
-      → can_rename dir name to (flat homes seats) ≡ rename_of (keeps_tree m.kind) name near (fin.get m.nodes dir) (fin.get m.nodes to)
+      → can_rename dir name to (seen homes seats) ≡ rename_of (keeps_tree m.kind) name near (fin.get m.nodes dir) (fin.get m.nodes to)
   can_rename-told m box =
       let i = server-told homes seats dir m box in
       ap₂ (λ (o : Option ServerInfo) (d : Option Node). rename_by name near o d (fin.get (nodes_of homes seats) to)) i.1 (node-told homes seats dir m box)
       ∙ ap (λ (k : ServerKind). rename_of (keeps_tree k) name near (fin.get m.nodes dir) (fin.get (nodes_of homes seats) to)) i.2
       ∙ other-told m box near refl
 
-  pub can_rename-untold : None ≡ box_by seats (fin.get homes dir) → can_rename dir name to (flat homes seats) ≡ Err EDIED
+  pub can_rename-untold : None ≡ box_by seats (fin.get homes dir) → can_rename dir name to (seen homes seats) ≡ Err EDIED
   can_rename-untold box = ap (λ (i : Option ServerInfo). rename_by name near i (fin.get (nodes_of homes seats) dir) (fin.get (nodes_of homes seats) to)) (server-untold homes seats dir box)
 
 module _ {S : Type 0} (f : S → Meaning) (t : Held S) (dir : Name) (name : List ℕ) (to : Name) (new : List ℕ) where

@@ -1,35 +1,41 @@
--- Lists of holds with one less.
-use Rattle.std.proofs.Common.{◌≡◌, ◌⊎◌, inl, inr, ℕ, suc, ◌+◌, Bool, true, false, cond, List, [], ◌∷◌, refl, ap, arith}
-use Rattle.std.specs.Prelude.{Option, Some, None}
-use Rattle.std.specs.List.{remove}
-use Rattle.std.specs.Option.{option_map}
-use Rattle.hurd_creds.specs.declared.name.Name.{Name}
-use Rattle.hurd_creds.specs.Names.{same_name}
-use Rattle.hurd_creds.specs.NameMaps.{place_by}
-use Rattle.hurd_nodes.specs.Held.{less_one}
+-- Lists of holds: with one less, and how many of them there are.
+use Rattle.std.proofs.Common.{◌≡◌, ℕ, zero, suc, ◌+◌, ◌<◌, Bool, true, false, ◌||◌, List, [], ◌∷◌, take, length, get_or, refl, sym, ap, arith, add-one}
+use Rattle.std.specs.List.{list_any, remove}
+use Rattle.hurd_nodes.specs.declared.seat.Hold.{Hold}
+use Rattle.hurd_nodes.specs.Held.{less_one, same_hold}
+use Rattle.hurd_nodes.specs.Weights.{count_list, one_if, weigh_list}
 
-no_place : (b : Bool) (o : Option ℕ) → cond b (Some 0) (option_map (λ i. i + 1) o) ≡ None → (b ≡ false) × (o ≡ None)
-no_place true o h = absurd (cc)
-no_place false None h = (refl, refl)
-no_place false (Some i) h = absurd (cc)
+or_false : (a b : Bool) → (a || b) ≡ false → (a ≡ false) × (b ≡ false)
+or_false true b h = absurd (cc)
+or_false false b h = (refl, h)
 
-a_place : (b : Bool) (o : Option ℕ) (i : ℕ) → cond b (Some 0) (option_map (λ j. j + 1) o) ≡ Some i → ((b ≡ true) × (i ≡ 0)) ⊎ ((b ≡ false) × (j : ℕ) × (o ≡ Some j) × (i ≡ suc j))
-a_place true o i h = inl (refl, cc)
-a_place false None i h = absurd (cc)
-a_place false (Some j) i h = let e : j + 1 ≡ i = cc in inr (refl, j, refl, omega arith)
-
-module _ (n : Name) where
-  -- the first of them, at its place
-  pub less-placed : (ms : List Name) (i : ℕ) → place_by (λ m. m) n ms ≡ Some i → remove ms i ≡ less_one n ms
-  less-placed [] i h = absurd (cc)
-  less-placed (m ∷ ms) i h = elim (a_place (same_name n m) (place_by (λ m. m) n ms) i h) [
-    | inl (t, e) ↦ rw (t, e) refl
-    | inr (f, j, is, e) ↦ rw (f, e) (ap (λ (ns : List Name). m ∷ ns) (less-placed ms j is))
-  ]
-
+module _ (x : Hold) where
   -- where there is none, none is taken
-  pub less-absent : (ms : List Name) → place_by (λ m. m) n ms ≡ None → less_one n ms ≡ ms
-  less-absent [] h = refl
-  less-absent (m ∷ ms) h =
-      let both = no_place (same_name n m) (place_by (λ m. m) n ms) h in
-      rw both.0 (ap (λ (ns : List Name). m ∷ ns) (less-absent ms both.1))
+  pub less-absent : (ys : List Hold) → list_any (same_hold x) ys ≡ false → less_one x ys ≡ ys
+  less-absent [] none = refl
+  less-absent (y ∷ ys) none =
+      let both = or_false (same_hold x y) (list_any (same_hold x) ys) none in
+      rw both.0 (ap (λ (zs : List Hold). y ∷ zs) (less-absent ys both.1))
+
+  -- the first of them, at its place
+  pub less-placed : (ys : List Hold) (i : ℕ) (d : Hold) → i < length ys → list_any (same_hold x) (take i ys) ≡ false → same_hold x (get_or ys i d) ≡ true → remove ys i ≡ less_one x ys
+  less-placed [] i d below none is = absurd (omega arith)
+  less-placed (y ∷ ys) zero d below none is = rw is refl
+  less-placed (y ∷ ys) (suc i) d below none is =
+      let both = or_false (same_hold x y) (list_any (same_hold x) (take i ys)) none in
+      rw both.0 (ap (λ (zs : List Hold). y ∷ zs) (less-placed ys i d (omega arith) both.1 is))
+
+-- sums over a list, as a loop finds them
+
+module _ {X : Type 0} (W : X → ℕ) where
+  weigh-suc : (xs : List X) (i : ℕ) (d : X) → i < length xs → weigh_list W (take (suc i) xs) ≡ weigh_list W (take i xs) + W (get_or xs i d)
+  weigh-suc [] i d below = absurd (omega arith)
+  weigh-suc (x ∷ xs) zero d below = omega arith
+  weigh-suc (x ∷ xs) (suc i) d below = let rest = weigh-suc xs i d (omega arith) in omega arith
+
+  -- with one more
+  pub weigh-more : (xs : List X) (i : ℕ) (d : X) → i < length xs → weigh_list W (take (i + 1) xs) ≡ weigh_list W (take i xs) + W (get_or xs i d)
+  weigh-more xs i d below = rw add-one (weigh-suc xs i d below)
+
+pub count-more : {X : Type 0} (p : X → Bool) (xs : List X) (i : ℕ) (d : X) (b : Bool) → i < length xs → b ≡ p (get_or xs i d) → count_list p (take (i + 1) xs) ≡ count_list p (take i xs) + one_if b
+count-more p xs i d b below is = rw is (weigh-more (λ x. one_if (p x)) xs i d below)

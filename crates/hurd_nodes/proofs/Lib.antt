@@ -5,8 +5,12 @@ pub mod StepLaws
 pub mod EditLaws
 pub mod MakeLaws
 pub mod NamelessLaws
-pub mod TakeLaws
+pub mod TableLaws
+pub mod PartLaws
 pub mod SettleLaws
+pub mod AnyLaws
+pub mod TakeLaws
+pub mod AttachLaws
 pub mod StayLaws
 pub mod BootLaws
 pub mod HideLaws

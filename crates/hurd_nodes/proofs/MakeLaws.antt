@@ -45,14 +45,14 @@ module _ (dir : Name) (name : List ℕ) (new : NewNode) where
   making keeps (Some d) u h = fitting new.kind (last_test (is_dir d.header.kind) keeps (is_some (entry_of name (Some d.body))) (is_made new.kind) u h)
 
   -- where no box serves the directory
-  pub make-gone : (homes : NameMap Name) (seats : NameMap (Seated Meaning)) → None ≡ box_by seats (fin.get homes dir) → Steps (flat homes seats) (make_at dir name new (flat homes seats)) (Err EDIED) (flat homes seats)
-  make-gone homes seats box =
-      let h = flat homes seats in
+  pub make-gone : (homes actives : NameMap Name) (seats : NameMap (Seated Meaning)) → None ≡ box_by seats (fin.get homes dir) → (let h = flat homes actives seats in Steps h (make_at dir name new h) (Err EDIED) h)
+  make-gone homes actives seats box =
+      let h = flat homes actives seats in
       steps-refused (make_at dir name new h) h EDIED (ap (λ (a : Result (Unit {0}) Errno). (a, on_ok a h (with_made dir name new h))) (can_make-untold homes seats dir name new.kind box))
 
-  module _ (homes : NameMap Name) (seats : NameMap (Seated Meaning)) (s : Name) (e : Seated Meaning) (home : fin.get homes dir ≡ Some s) (is : fin.get seats s ≡ Some e) where
+  module _ (homes actives : NameMap Name) (seats : NameMap (Seated Meaning)) (s : Name) (e : Seated Meaning) (home : fin.get homes dir ≡ Some s) (is : fin.get seats s ≡ Some e) where
     abbrev before : NodeState
-    before = flat homes seats
+    before = flat homes actives seats
 
     abbrev wanted : Result (Unit {0}) Errno
     wanted = make_of (keeps_tree e.server.kind) name new.kind (fin.get e.server.nodes dir)
@@ -75,8 +75,8 @@ module _ (dir : Name) (name : List ℕ) (new : NewNode) where
     either true x = refl
     either false x = refl
 
-    pub unmade : (m : Meaning) → m ≡ e.server → flat homes (fin.insert seats s (with_box e m)) ≡ before
-    unmade m same = ap (λ (x : Meaning). flat homes (fin.insert seats s (with_box e x))) same ∙ ap (flat homes) (insert_same seats s e is)
+    pub unmade : (m : Meaning) → m ≡ e.server → flat homes actives (fin.insert seats s (with_box e m)) ≡ before
+    unmade m same = ap (λ (x : Meaning). flat homes actives (fin.insert seats s (with_box e x))) same ∙ ap (flat homes actives) (insert_same seats s e is)
 
     kept : (b : Bool) (m : Meaning) (r : Result (Unit {0}) Errno) (x : Errno) → r ≡ Err x → m ≡ cond b e.server (edited (edits_if r (make_edits dir name new)) e.server) → m ≡ e.server
     kept true m r x refused left = left
@@ -94,7 +94,7 @@ module _ (dir : Name) (name : List ℕ) (new : NewNode) where
     ]
 
     pub make-not : (m : Meaning) (x : Errno) → Steps e.server (make_step dir name new e.server) (Err x) m
-        → Steps before (make_at dir name new before) (Err x) (flat homes (fin.insert seats s (with_box e m)))
+        → Steps before (make_at dir name new before) (Err x) (flat homes actives (fin.insert seats s (with_box e m)))
     make-not m x steps = rw (unmade m (make-kept m x steps)) (elim steps.answered [
       | inl refused ↦ make-refused x refused
       | inr short ↦ let can = answered wanted short.1 in rw short.0 (make-short can.0 can.1)
@@ -129,10 +129,10 @@ module _ (dir : Name) (name : List ℕ) (new : NewNode) where
     nodes-made (Some y) x there = ap (edit_all (Rattle.std.specs.Prelude.drop 1 (added dir name new.name (Some y)))) (nodes-new y)
 
     abbrev pub state_with : NodeMap → NameMap Name → NodeState
-    state_with nodes table = record { nodes = nodes; homes = table; servers = servers_of seats }
+    state_with nodes table = record { nodes = nodes; homes = table; actives = actives; servers = servers_of seats }
 
     pub make-done : (m : Meaning) (u : Unit {0}) → Steps e.server (make_step dir name new e.server) (Ok u) m
-        → Steps before (make_at dir name new before) (Ok u) (flat homes_after (fin.insert seats s (with_box e m)))
+        → Steps before (make_at dir name new before) (Ok u) (flat homes_after actives (fin.insert seats s (with_box e m)))
     make-done m u steps =
         let edits = make_edits dir name new in
         let x = making (keeps_tree e.server.kind) (fin.get e.server.nodes dir) u steps.answered in
@@ -140,8 +140,8 @@ module _ (dir : Name) (name : List ℕ) (new : NewNode) where
         rw (make_at-is (Ok u) steps.answered) (record {
           answered = refl;
           left =
-              ap (λ (y : Meaning). flat homes_after (fin.insert seats s (with_box e y))) left
-              ∙ flat-edited edits homes_after seats s e is (own (made_node dir new))
+              ap (λ (y : Meaning). flat homes_after actives (fin.insert seats s (with_box e y))) left
+              ∙ flat-edited edits homes_after actives seats s e is (own (made_node dir new))
               ∙ ap (λ (nodes : NodeMap). state_with nodes homes_after) (nodes-made (made_node dir new) x.0 x.1)
               ∙ sym (ap (λ (o : Option Name). state_with (edit_all edits (nodes_of homes seats)) (with_home new.name o homes)) home);
         })

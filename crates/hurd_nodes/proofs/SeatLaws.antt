@@ -57,7 +57,7 @@ pub record Lent {S : Type 0} (f : S → Meaning) (t : Held S) (n : Name) (a w : 
   pub is : fin.get (mean f t.seats) name ≡ Some seat
   pub was : seat.server ≡ f a
   pub put : mean f (with_server_of t n w).seats ≡ fin.insert (mean f t.seats) name (with_box seat (f w))
-  pub after : shown f (with_server_of t n w) ≡ flat t.homes (fin.insert (mean f t.seats) name (with_box seat (f w)))
+  pub after : shown f (with_server_of t n w) ≡ flat t.homes t.actives (fin.insert (mean f t.seats) name (with_box seat (f w)))
 
 module _ {S : Type 0} (f : S → Meaning) (t : Held S) (n : Name) (a w : S) where
   lent_in : (s : Name) → fin.get t.homes n ≡ Some s → (o : Option (Seated S)) → fin.get t.seats s ≡ o → Some (f a) ≡ box_at (mean f t.seats) s → Lent f t n a w
@@ -68,7 +68,7 @@ module _ {S : Type 0} (f : S → Meaning) (t : Held S) (n : Name) (a w : S) wher
       ap (λ (o : Option Name). mean f (put_by t.seats o w)) home
       ∙ ap (λ (o : Option (Seated S)). mean f (put_box t.seats s w o)) is
       ∙ mean-put f t.seats s e w in
-      record { name = s; home = home; seat = mean_seat f e; is = mean-at f t.seats s e is; was = cc; put = put; after = ap (flat t.homes) put }
+      record { name = s; home = home; seat = mean_seat f e; is = mean-at f t.seats s e is; was = cc; put = put; after = ap (flat t.homes t.actives) put }
 
   lent_by : (o : Option Name) → fin.get t.homes n ≡ o → Some (f a) ≡ box_by (mean f t.seats) o → Lent f t n a w
   lent_by None home there = absurd (cc)

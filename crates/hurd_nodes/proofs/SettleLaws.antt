@@ -1,149 +1,299 @@
--- No take-out makes another node stay, and none makes one go that stays: so what is left in the end is one, in whatever
--- order nodes go.
-use Rattle.std.proofs.Common.{◌≡◌, ◌≢◌, inl, inr, ℕ, ◌-◌, ◌<◌, Bool, true, false, cond, ◌||◌, List, [], ◌∷◌, true≢false, refl, sym, ap, ap₂, ◌∙◌, arith}
-use Rattle.std.specs.Prelude.{Option, Some, None, is_some}
+-- No take-out makes another thing stay; so what is left in the end is the same in every order.
+use Rattle.std.proofs.Common.{◌≡◌, ◌≢◌, ◌⊎◌, inl, inr, ℕ, zero, suc, ◌+◌, ◌<◌, ◌≤◌, arith, Bool, true, false, ◌||◌, ◌&&◌, refl, sym, ap, ◌∙◌, true≢false}
+use Rattle.std.specs.Prelude.{Option, Some, None, not, is_some}
 use Rattle.std.specs.FinMap as fin
 use Rattle.hurd_creds.specs.declared.name.Name.{Name}
-use Rattle.hurd_creds.specs.Names.{name_cmp, same_name}
+use Rattle.hurd_creds.specs.Names.{same_name}
 use Rattle.hurd_creds.specs.NameMaps.{NameMap}
-use Rattle.hurd_creds.proofs.NameLaws.{name_exact, name_total, same_map_by, same_or_apart, remove_here, remove_apart}
-use Rattle.hurd_trans_iface.specs.Nodes.{Node, NodeMap}
-use Rattle.hurd_nodes.specs.Shown.{NodeState, ServerInfo, info_in, server_of}
-use Rattle.hurd_nodes.specs.Settle.{out_node, settle, stays, stays_with, is_entered_at}
+use Rattle.hurd_creds.proofs.NameLaws.{equal_if_same, remove_here, remove_apart}
+use Rattle.hurd_trans_iface.specs.Nodes.{Node}
+use Rattle.hurd_nodes.specs.Held.{is_home}
+use Rattle.hurd_nodes.specs.Shown.{NodeState, ServerInfo, boot_name, is_other, out_node, out_server}
+use Rattle.hurd_nodes.specs.Settle.{Outside, any_in, server_stays, is_entered_at, node_stays, stays_by, stays_with, size, sweep, sweeps, settle}
+use Rattle.hurd_nodes.specs.Parts.{IsWithin, IsPart, IsSettlement, TakesOut}
+use Rattle.hurd_nodes.proofs.PartLaws.{or_left, or_right, or_mono, and_mono, and_both, any_in-here, any_in-mono, within-both, within-len, within-or, kept-is, kept-here, kept-within, kept-all, removed-within}
 
-module _ {X : Type 0} (m : NameMap X) (p : Name → Bool) where
-  pub get-kept : (n : Name) → fin.get (fin.retain_keys m p) n ≡ cond (p n) (fin.get m n) None
-  get-kept n = fin.get-retain_keys m p n (λ x tied. ap p (sym (name_exact n x tied)))
+-- parts
 
-  kept_at : (b : Bool) (o : Option X) → ((x : X) → o ≡ Some x → b ≡ true) → cond b o None ≡ o
-  kept_at true o all = refl
-  kept_at false None all = refl
-  kept_at false (Some x) all = absurd (true≢false (sym (all x refl)))
+pub part-itself : (h : NodeState) → IsPart h h
+part-itself h = record { nodes = λ n x is. is; homes = λ n x is. is; actives = λ n x is. is; servers = λ n x is. is }
 
-  -- where all pass, all are kept
-  pub kept-all : ((n : Name) (x : X) → fin.get m n ≡ Some x → p n ≡ true) → fin.retain_keys m p ≡ m
-  kept-all all = same_map_by _ _ (λ n. get-kept n ∙ kept_at (p n) (fin.get m n) (all n))
+pub part-through : (a b c : NodeState) → IsPart a b → IsPart b c → IsPart a c
+part-through a b c f g = record {
+  nodes = λ n x is. g.nodes n x (f.nodes n x is);
+  homes = λ n x is. g.homes n x (f.homes n x is);
+  actives = λ n x is. g.actives n x (f.actives n x is);
+  servers = λ n x is. g.servers n x (f.servers n x is);
+}
 
--- what is kept of a map without a name that isn't kept
-kept-less : {X : Type 0} (m : NameMap X) (p q : Name → Bool) (n : Name) → p n ≡ false → ((k : Name) → k ≢ n → q k ≡ p k) → fin.retain_keys (fin.remove m n) q ≡ fin.retain_keys m p
-kept-less {X} m p q n gone alike = same_map_by _ _ (λ k. elim (same_or_apart k n) [
-  | inl here ↦
-      rw here
-      (get-kept (fin.remove m n) q n ∙ ap (λ (o : Option X). cond (q n) o None) (remove_here m n) ∙ either (q n)
-      ∙ sym (get-kept m p n ∙ ap (λ (b : Bool). cond b (fin.get m n) None) gone))
-  | inr apart ↦
-      get-kept (fin.remove m n) q k ∙ ap₂ (λ (b : Bool) (o : Option X). cond b o None) (alike k apart) (remove_apart m n k apart) ∙ sym (get-kept m p k)
-])
-  where
-    either : (b : Bool) → ◌≡◌ {A = Option X} (cond b None None) None
-    either true = refl
-    either false = refl
+same_state : (a b : NodeState) → a.nodes ≡ b.nodes → a.homes ≡ b.homes → a.actives ≡ b.actives → a.servers ≡ b.servers → a ≡ b
+same_state a b nodes homes actives servers i = record { nodes = nodes i; homes = homes i; actives = actives i; servers = servers i }
 
-module _ (held : Name → Bool) where
-  module _ (h : NodeState) (n : Name) where
-    -- another node stays as before
-    pub stays-other : (q : Name) → q ≢ n → stays held (out_node n h) q ≡ stays held h q
-    stays-other q apart =
-        ap (λ (o : Option Name). stays_with held (out_node n h) q (info_in h.servers o)) (remove_apart h.homes n q apart)
-        ∙ by (server_of h q)
-      where
-        by : (o : Option ServerInfo) → stays_with held (out_node n h) q o ≡ stays_with held h q o
-        by None = refl
-        by (Some i) = ap (λ (x : Option Node). same_name q i.root || (is_entered_at x || held q)) (remove_apart h.nodes n q apart)
+-- two that are parts of each other are one
+pub part-both : (a b : NodeState) → IsPart a b → IsPart b a → a ≡ b
+part-both a b f g =
+    same_state a b (within-both a.nodes b.nodes f.nodes g.nodes) (within-both a.homes b.homes f.homes g.homes)
+    (within-both a.actives b.actives f.actives g.actives) (within-both a.servers b.servers f.servers g.servers)
 
-    -- a node that doesn't stay may go first
-    pub settle-out : stays held h n ≡ false → settle held (out_node n h) ≡ settle held h
-    settle-out gone =
-        ap₂ (λ (nodes : NodeMap) (homes : NameMap Name). let k : NodeState = record { nodes = nodes; homes = homes; servers = h.servers } in k)
-        (kept-less h.nodes (stays held h) (stays held (out_node n h)) n gone stays-other)
-        (kept-less h.homes (stays held h) (stays held (out_node n h)) n gone stays-other)
-
-  -- nodes that are taken out, one after another
-  abbrev pub out_nodes : List Name → NodeState → NodeState
-  out_nodes [] h = h
-  out_nodes (n ∷ ns) h = out_nodes ns (out_node n h)
-
-  -- none of which stays when it goes
-  abbrev pub NoneStays : List Name → NodeState → Type 0
-  NoneStays [] h = Unit {0}
-  NoneStays (n ∷ ns) h = (stays held h n ≡ false) × NoneStays ns (out_node n h)
-
-  -- when nothing more goes, what is left is the settled state, in whatever order they went
-  pub any-order : (ns : List Name) (h : NodeState) → NoneStays ns h → settle held (out_nodes ns h) ≡ out_nodes ns h → out_nodes ns h ≡ settle held h
-  any-order [] h none end = sym end
-  any-order (n ∷ ns) h none end = any-order ns (out_node n h) none.1 end ∙ settle-out h n none.0
-
-  -- where all stay, nothing goes
-  pub settle-all : (h : NodeState) → ((n : Name) (x : Node) → fin.get h.nodes n ≡ Some x → stays held h n ≡ true) → ((n s : Name) → fin.get h.homes n ≡ Some s → stays held h n ≡ true) → settle held h ≡ h
-  settle-all h nodes homes =
-      ap₂ (λ (ns : NodeMap) (hs : NameMap Name). let k : NodeState = record { nodes = ns; homes = hs; servers = h.servers } in k)
-      (kept-all h.nodes (stays held h) nodes) (kept-all h.homes (stays held h) homes)
-
-  -- what stays is left, and stays then
-  stays-left : (h : NodeState) (n : Name) → stays held h n ≡ true → stays held (settle held h) n ≡ true
-  stays-left h n stay =
-      ap (λ (o : Option Name). stays_with held (settle held h) n (info_in h.servers o)) (get-kept h.homes (stays held h) n ∙ ap (λ (b : Bool). cond b (fin.get h.homes n) None) stay)
-      ∙ by (server_of h n) ∙ stay
-    where
-      by : (o : Option ServerInfo) → stays_with held (settle held h) n o ≡ stays_with held h n o
-      by None = refl
-      by (Some i) =
-          ap (λ (x : Option Node). same_name n i.root || (is_entered_at x || held n))
-          (get-kept h.nodes (stays held h) n ∙ ap (λ (b : Bool). cond b (fin.get h.nodes n) None) stay)
-
-  kept-stays : {X : Type 0} (h : NodeState) (m : NameMap X) (n : Name) (x : X) → fin.get (fin.retain_keys m (stays held h)) n ≡ Some x → stays held (settle held h) n ≡ true
-  kept-stays h m n x is = stays-left h n (passes (stays held h n) (fin.get m n) x (sym (get-kept m (stays held h) n) ∙ is))
-    where
-      passes : {Y : Type 0} (b : Bool) (o : Option Y) (y : Y) → cond b o None ≡ Some y → b ≡ true
-      passes true o y e = refl
-      passes false o y e = absurd (cc)
-
-  -- nothing more goes from a settled state
-  pub settle-rests : (h : NodeState) → settle held (settle held h) ≡ settle held h
-  settle-rests h = settle-all (settle held h) (kept-stays h h.nodes) (kept-stays h h.homes)
-
-  -- where all but one node stay, that one alone goes, if it doesn't stay
-  pub settle-one : (h : NodeState) (n : Name) → ((q : Name) → q ≢ n → is_some (fin.get h.nodes q) || is_some (fin.get h.homes q) ≡ true → stays held h q ≡ true)
-      → settle held h ≡ cond (stays held h n) h (out_node n h)
-  settle-one h n others = go (stays held h n) refl
-    where
-      either : (q : Name) → (stays held h n ≡ true) → (is_some (fin.get h.nodes q) || is_some (fin.get h.homes q)) ≡ true → stays held h q ≡ true
-      either q stay there = elim (same_or_apart q n) [
-        | inl here ↦ ap (stays held h) here ∙ stay
-        | inr apart ↦ others q apart there
+-- a part is the whole, or smaller
+pub part-or : (a b : NodeState) → IsPart a b → (a ≡ b) ⊎ (size a < size b)
+part-or a b part =
+    let ns = within-len a.nodes b.nodes part.nodes in
+    let hs = within-len a.homes b.homes part.homes in
+    let ats = within-len a.actives b.actives part.actives in
+    let ss = within-len a.servers b.servers part.servers in
+    elim (within-or a.nodes b.nodes part.nodes) [
+      | inr less ↦ inr (omega arith)
+      | inl nodes ↦ elim (within-or a.homes b.homes part.homes) [
+        | inr less ↦ inr (omega arith)
+        | inl homes ↦ elim (within-or a.actives b.actives part.actives) [
+          | inr less ↦ inr (omega arith)
+          | inl actives ↦ elim (within-or a.servers b.servers part.servers) [
+            | inr less ↦ inr (omega arith)
+            | inl servers ↦ inl (same_state a b nodes homes actives servers)
+          ]
+        ]
       ]
+    ]
 
-      other : {X : Type 0} (m : NameMap X) (q : Name) (x : X) → fin.get (fin.remove m n) q ≡ Some x → (q ≢ n) × (fin.get m q ≡ Some x)
-      other m q x is = elim (same_or_apart q n) [
-        | inl here ↦ absurd (let none : None ≡ Some x = sym (remove_here m n) ∙ ap (fin.get (fin.remove m n)) (sym here) ∙ is in cc)
-        | inr apart ↦ (apart, sym (remove_apart m n q apart) ∙ is)
-      ]
+-- what stays in a part stays in the whole
 
-      has_node : (q : Name) (x : Node) → fin.get h.nodes q ≡ Some x → (is_some (fin.get h.nodes q) || is_some (fin.get h.homes q)) ≡ true
-      has_node q x is = rw is refl
+module _ (o : Outside) (a b : NodeState) (part : IsPart a b) where
+  pub server-mono : (s : Name) → server_stays o a s ≡ true → server_stays o b s ≡ true
+  server-mono s h =
+      let seated = λ (n q : Name). same_name s q in
+      let named = λ (n q : Name). same_name s q && o.held n in
+      or_mono (same_name s boot_name) _ (same_name s boot_name) _ (λ x. x)
+      (λ x. or_mono (o.controlled s) _ (o.controlled s) _ (λ y. y)
+      (λ y. or_mono (any_in seated a.actives) (any_in named a.homes) (any_in seated b.actives) (any_in named b.homes)
+      (λ z. any_in-mono seated seated a.actives b.actives part.actives (λ n q w. w) z)
+      (λ z. any_in-mono named named a.homes b.homes part.homes (λ n q w. w) z) y) x) h
 
-      has_home : (q s : Name) → fin.get h.homes q ≡ Some s → (is_some (fin.get h.nodes q) || is_some (fin.get h.homes q)) ≡ true
-      has_home q s is = rw is (both (is_some (fin.get h.nodes q)))
-        where
-          both : (b : Bool) → (b || true) ≡ true
-          both true = refl
-          both false = refl
+  entered-mono : (n : Name) (u : Option Node) → fin.get a.nodes n ≡ u → is_entered_at u ≡ true → is_entered_at (fin.get b.nodes n) ≡ true
+  entered-mono n None is h = absurd (true≢false (sym h))
+  entered-mono n (Some x) is h = rw (part.nodes n x is) h
 
-      go : (b : Bool) → stays held h n ≡ b → settle held h ≡ cond b h (out_node n h)
-      go true stay = settle-all h (λ q x is. either q stay (has_node q x is)) (λ q s is. either q stay (has_home q s is))
-      go false gone =
-          sym (settle-out h n gone)
-          ∙ settle-all (out_node n h)
-          (λ q x is. let o = other h.nodes q x is in stays-other h n q o.0 ∙ others q o.0 (has_node q x o.1))
-          (λ q s is. let o = other h.homes q s is in stays-other h n q o.0 ∙ others q o.0 (has_home q s o.1))
+  with-mono : (n s : Name) (u : Option ServerInfo) → fin.get a.servers s ≡ u → stays_with o a n s u ≡ true → stays_with o b n s (fin.get b.servers s) ≡ true
+  with-mono n s None is h = absurd (true≢false (sym h))
+  with-mono n s (Some i) is h =
+      rw (part.servers s i is)
+      (and_mono (server_stays o a s) _ (server_stays o b s) _ (server-mono s)
+      (λ x. or_mono (same_name n i.root) _ (same_name n i.root) _ (λ y. y)
+      (λ y. or_mono (is_entered_at (fin.get a.nodes n)) (o.held n) (is_entered_at (fin.get b.nodes n)) (o.held n) (entered-mono n (fin.get a.nodes n) refl) (λ z. z) y) x) h)
 
--- a map without what stands there has one entry less
-no_length : {X : Type 0} (m : NameMap X) (n : Name) → is_some (fin.get m n) ≡ true → fin.len m ≢ 0
-no_length m n there e = true≢false (sym there ∙ ap (λ (t : NameMap _). is_some (fin.get t n)) (fin.empty_of_len m e) ∙ ap is_some (fin.get-empty name_cmp n))
+  by-mono : (n : Name) (u : Option Name) → fin.get a.homes n ≡ u → stays_by o a n u ≡ true → stays_by o b n (fin.get b.homes n) ≡ true
+  by-mono n None is h = absurd (true≢false (sym h))
+  by-mono n (Some s) is h = rw (part.homes n s is) (with-mono n s (fin.get a.servers s) refl h)
 
-len_here : (b : Bool) (k l : ℕ) → b ≡ true → l ≡ cond b (k - 1) k → k ≢ 0 → l < k
-len_here true k l t is apart = omega arith
-len_here false k l t is apart = absurd (cc)
+  pub node-mono : (n : Name) → node_stays o a n ≡ true → node_stays o b n ≡ true
+  node-mono n h = by-mono n (fin.get a.homes n) refl h
 
-pub fewer : {X : Type 0} (m : NameMap X) (n : Name) → is_some (fin.get m n) ≡ true → fin.len (fin.remove m n) < fin.len m
-fewer m n there = len_here (fin.contains_key m n) (fin.len m) (fin.len (fin.remove m n)) there (fin.len-remove name_total m n) (no_length m n there)
+  sweep-within : {X : Type 0} (p q : Name → Bool) → ((n : Name) → p n ≡ true → q n ≡ true) → (m k : NameMap X) → IsWithin m k → IsWithin (fin.retain_keys m p) (fin.retain_keys k q)
+  sweep-within p q follows m k within n x is =
+      let both = kept-is m p n x is in
+      kept-here k q n x (follows n both.0) (within n x both.1)
+
+  -- no take-out makes another thing stay
+  pub sweep-mono : IsPart (sweep o a) (sweep o b)
+  sweep-mono = record {
+    nodes = sweep-within (node_stays o a) (node_stays o b) node-mono a.nodes b.nodes part.nodes;
+    homes = sweep-within (node_stays o a) (node_stays o b) node-mono a.homes b.homes part.homes;
+    actives = sweep-within (node_stays o a) (node_stays o b) node-mono a.actives b.actives part.actives;
+    servers = sweep-within (server_stays o a) (server_stays o b) server-mono a.servers b.servers part.servers;
+  }
+
+-- what goes
+
+module _ (o : Outside) (h : NodeState) where
+  pub sweep-part : IsPart (sweep o h) h
+  sweep-part = record {
+    nodes = kept-within h.nodes (node_stays o h);
+    homes = kept-within h.homes (node_stays o h);
+    actives = kept-within h.actives (node_stays o h);
+    servers = kept-within h.servers (server_stays o h);
+  }
+
+  left_apart : {X : Type 0} (p : Name → Bool) (n : Name) → p n ≡ false → (m : NameMap X) → IsWithin (fin.retain_keys m p) (fin.remove m n)
+  left_apart p n gone m q x is = let both = kept-is m p q x is in remove_apart m n q (λ e. true≢false (sym both.0 ∙ ap p e ∙ gone)) ∙ both.1
+
+  -- a node that doesn't stay can be taken out
+  pub out_node-part : (n : Name) → node_stays o h n ≡ false → IsPart (sweep o h) (out_node n h)
+  out_node-part n gone = record {
+    nodes = left_apart (node_stays o h) n gone h.nodes;
+    homes = left_apart (node_stays o h) n gone h.homes;
+    actives = left_apart (node_stays o h) n gone h.actives;
+    servers = kept-within h.servers (server_stays o h);
+  }
+
+  with-serves : (n s : Name) (u : Option ServerInfo) → stays_with o h n s u ≡ true → server_stays o h s ≡ true
+  with-serves n s None k = absurd (true≢false (sym k))
+  with-serves n s (Some i) k = (and_both (server_stays o h s) _ k).0
+
+  -- the server of a node that stays does
+  by-serves : (n s : Name) (u : Option Name) → u ≡ Some s → stays_by o h n u ≡ true → server_stays o h s ≡ true
+  by-serves n s None is k = absurd (cc)
+  by-serves n s (Some p) is k = let same : p ≡ s = cc in rw (← same) (with-serves n p (fin.get h.servers p) k)
+
+  pub node-serves : (n s : Name) → fin.get h.homes n ≡ Some s → node_stays o h n ≡ true → server_stays o h s ≡ true
+  node-serves n s home k = by-serves n s (fin.get h.homes n) home k
+
+  -- a server that is active on a node stays
+  pub active-serves : (n s : Name) → fin.get h.actives n ≡ Some s → server_stays o h s ≡ true
+  active-serves n s is =
+      or_right (same_name s boot_name) _ (or_right (o.controlled s) _ (or_left _ _
+      (any_in-here (λ (n q : Name). same_name s q) h.actives n s is (Rattle.hurd_creds.proofs.NameLaws.same_name-itself s))))
+
+  other_server : (s : Name) → server_stays o h s ≡ false → (u : Option Name) → ((p : Name) → u ≡ Some p → server_stays o h p ≡ true) → not (is_home s u) ≡ true
+  other_server s gone None serves = refl
+  other_server s gone (Some p) serves = by (same_name s p) refl
+    where
+      by : (b : Bool) → same_name s p ≡ b → not b ≡ true
+      by true same = absurd (true≢false (sym (serves p refl) ∙ ap (server_stays o h) (sym (equal_if_same s p same)) ∙ gone))
+      by false same = refl
+
+  module _ (s : Name) (gone : server_stays o h s ≡ false) where
+    other_home : (n : Name) → node_stays o h n ≡ true → is_other s h.homes n ≡ true
+    other_home n k = other_server s gone (fin.get h.homes n) (λ p is. node-serves n p is k)
+
+    other_active : (n : Name) → is_other s h.actives n ≡ true
+    other_active n = other_server s gone (fin.get h.actives n) (active-serves n)
+
+    -- so can a server, with its nodes
+    pub out_server-part : IsPart (sweep o h) (out_server s h)
+    out_server-part = record {
+      nodes = λ q x is. let both = kept-is h.nodes (node_stays o h) q x is in kept-here h.nodes (is_other s h.homes) q x (other_home q both.0) both.1;
+      homes = λ q x is. let both = kept-is h.homes (node_stays o h) q x is in kept-here h.homes (is_other s h.homes) q x (other_home q both.0) both.1;
+      actives = λ q x is. kept-here h.actives (is_other s h.actives) q x (other_active q) (kept-within h.actives (node_stays o h) q x is);
+      servers = left_apart (server_stays o h) s gone h.servers;
+    }
+
+  pub out_node-less : (n : Name) → IsPart (out_node n h) h
+  out_node-less n = record { nodes = removed-within h.nodes n; homes = removed-within h.homes n; actives = removed-within h.actives n; servers = λ q x is. is }
+
+  pub out_server-less : (s : Name) → IsPart (out_server s h) h
+  out_server-less s = record {
+    nodes = kept-within h.nodes (is_other s h.homes);
+    homes = kept-within h.homes (is_other s h.homes);
+    actives = kept-within h.actives (is_other s h.actives);
+    servers = removed-within h.servers s;
+  }
+
+  takes : (k : NodeState) → IsPart k h → IsPart (sweep o h) k → k ≢ h → TakesOut o h k
+  takes k less kept other = record {
+    less = less;
+    kept = kept;
+    fewer = elim (part-or k h less) [
+      | inl same ↦ absurd (other same)
+      | inr fewer ↦ fewer
+    ];
+  }
+
+  not_there : {X : Type 0} (m : NameMap X) (n : Name) → is_some (fin.get m n) ≡ true → fin.remove m n ≢ m
+  not_there m n there same = true≢false (sym there ∙ ap (λ (k : NameMap _). is_some (fin.get k n)) (sym same) ∙ ap is_some (remove_here m n))
+
+  pub takes-home : (n : Name) → node_stays o h n ≡ false → is_some (fin.get h.homes n) ≡ true → TakesOut o h (out_node n h)
+  takes-home n gone there = takes (out_node n h) (out_node-less n) (out_node-part n gone) (λ same. not_there h.homes n there (ap (λ (k : NodeState). k.homes) same))
+
+  pub takes-active : (n : Name) → node_stays o h n ≡ false → is_some (fin.get h.actives n) ≡ true → TakesOut o h (out_node n h)
+  takes-active n gone there = takes (out_node n h) (out_node-less n) (out_node-part n gone) (λ same. not_there h.actives n there (ap (λ (k : NodeState). k.actives) same))
+
+  pub takes-server : (s : Name) → server_stays o h s ≡ false → is_some (fin.get h.servers s) ≡ true → TakesOut o h (out_server s h)
+  takes-server s gone there = takes (out_server s h) (out_server-less s) (out_server-part s gone) (λ same. not_there h.servers s there (ap (λ (k : NodeState). k.servers) same))
+
+-- where all stay, a sweep takes nothing
+pub sweep-none : (o : Outside) (h : NodeState) → ((n : Name) (x : Node) → fin.get h.nodes n ≡ Some x → node_stays o h n ≡ true)
+    → ((n s : Name) → fin.get h.homes n ≡ Some s → node_stays o h n ≡ true) → ((n s : Name) → fin.get h.actives n ≡ Some s → node_stays o h n ≡ true)
+    → ((s : Name) (i : ServerInfo) → fin.get h.servers s ≡ Some i → server_stays o h s ≡ true) → sweep o h ≡ h
+sweep-none o h nodes homes actives servers =
+    same_state (sweep o h) h (kept-all h.nodes (node_stays o h) nodes) (kept-all h.homes (node_stays o h) homes)
+    (kept-all h.actives (node_stays o h) actives) (kept-all h.servers (server_stays o h) servers)
+
+-- where a sweep takes nothing, all stay
+module _ (o : Outside) (h : NodeState) (rests : sweep o h ≡ h) where
+  kept_passes : {X : Type 0} (m : NameMap X) (p : Name → Bool) → fin.retain_keys m p ≡ m → (n : Name) (x : X) → fin.get m n ≡ Some x → p n ≡ true
+  kept_passes m p same n x is = (kept-is m p n x (ap (λ (k : NameMap _). fin.get k n) same ∙ is)).0
+
+  pub rests-node : (n : Name) (x : Node) → fin.get h.nodes n ≡ Some x → node_stays o h n ≡ true
+  rests-node = kept_passes h.nodes (node_stays o h) (ap (λ (k : NodeState). k.nodes) rests)
+
+  pub rests-home : (n s : Name) → fin.get h.homes n ≡ Some s → node_stays o h n ≡ true
+  rests-home = kept_passes h.homes (node_stays o h) (ap (λ (k : NodeState). k.homes) rests)
+
+  pub rests-active : (n s : Name) → fin.get h.actives n ≡ Some s → node_stays o h n ≡ true
+  rests-active = kept_passes h.actives (node_stays o h) (ap (λ (k : NodeState). k.actives) rests)
+
+  pub rests-server : (s : Name) (i : ServerInfo) → fin.get h.servers s ≡ Some i → server_stays o h s ≡ true
+  rests-server = kept_passes h.servers (server_stays o h) (ap (λ (k : NodeState). k.servers) rests)
+
+-- on the way: nothing was taken out that is left in the end
+pub record IsOnTheWay (o : Outside) (start now : NodeState) : Type 0 where
+  pub part : IsPart now start
+  pub most : (q : NodeState) → IsPart q start → sweep o q ≡ q → IsPart q now
+
+pub way-start : (o : Outside) (h : NodeState) → IsOnTheWay o h h
+way-start o h = record { part = part-itself h; most = λ q part stays. part }
+
+-- one more take-out of what doesn't stay
+pub way-less : (o : Outside) (start now next : NodeState) → IsPart next now → IsPart (sweep o now) next → IsOnTheWay o start now → IsOnTheWay o start next
+way-less o start now next less kept way = record {
+  part = part-through next now start less way.part;
+  most = λ q part stays. part-through q (sweep o now) next (rw stays at (sweep-mono o q now (way.most q part stays))) kept;
+}
+
+pub way-taken : (o : Outside) (start now next : NodeState) → TakesOut o now next → IsOnTheWay o start now → IsOnTheWay o start next
+way-taken o start now next taken way = way-less o start now next taken.less taken.kept way
+
+-- and the end, where nothing more goes
+pub way-end : (o : Outside) (start now : NodeState) → sweep o now ≡ now → IsOnTheWay o start now → IsSettlement o start now
+way-end o start now stays way = record { part = way.part; stays = stays; most = way.most }
+
+-- what is left is one thing, in whatever order things go
+pub settled-one : (o : Outside) (h r q : NodeState) → IsSettlement o h r → IsSettlement o h q → r ≡ q
+settled-one o h r q a b = part-both r q (b.most r a.part a.stays) (a.most q b.part b.stays)
+
+-- as many sweeps as there are things are enough
+module _ (o : Outside) where
+  sweeps-same : (k : ℕ) (h : NodeState) → sweep o h ≡ h → sweeps o k h ≡ h
+  sweeps-same zero h same = refl
+  sweeps-same (suc k) h same = ap (sweeps o k) same ∙ sweeps-same k h same
+
+  sweeps-end : (k : ℕ) (h : NodeState) → size h ≤ k → sweep o (sweeps o k h) ≡ sweeps o k h
+  sweeps-end zero h enough = elim (part-or (sweep o h) h (sweep-part o h)) [
+    | inl same ↦ same
+    | inr less ↦ absurd (omega arith)
+  ]
+  sweeps-end (suc k) h enough = elim (part-or (sweep o h) h (sweep-part o h)) [
+    | inl same ↦ let e = sweeps-same (suc k) h same in ap (sweep o) e ∙ same ∙ sym e
+    | inr less ↦ sweeps-end k (sweep o h) (omega arith)
+  ]
+
+  sweeps-way : (start : NodeState) (k : ℕ) (h : NodeState) → IsOnTheWay o start h → IsOnTheWay o start (sweeps o k h)
+  sweeps-way start zero h way = way
+  sweeps-way start (suc k) h way = sweeps-way start k (sweep o h) (way-less o start h (sweep o h) (sweep-part o h) (part-itself (sweep o h)) way)
+
+-- sweeping until nothing more goes gives what is left: the greatest part in which all stay
+pub settle-is : (o : Outside) (h : NodeState) → IsSettlement o h (settle o h)
+unfolding settle
+settle-is o h = way-end o h (sweeps o (size h) h) (sweeps-end o (size h) h (omega arith)) (sweeps-way o h (size h) h (way-start o h))
+
+-- and so does every other way
+pub settled : (o : Outside) (h r : NodeState) → IsSettlement o h r → r ≡ settle o h
+settled o h r is = settled-one o h r (settle o h) is (settle-is o h)
+
+-- where all stay, nothing goes
+pub settle-rests : (o : Outside) (h : NodeState) → sweep o h ≡ h → settle o h ≡ h
+settle-rests o h stays = sym (settled o h h (record { part = part-itself h; stays = stays; most = λ q part all. part }))
+
+-- settled once is settled
+pub settle-twice : (o : Outside) (h : NodeState) → settle o (settle o h) ≡ settle o h
+settle-twice o h = settle-rests o (settle o h) (settle-is o h).stays
+
+-- what is taken out first, of what doesn't stay, changes nothing of the end
+pub settle-taken : (o : Outside) (h k : NodeState) → IsPart k h → IsPart (sweep o h) k → settle o k ≡ settle o h
+settle-taken o h k less kept =
+    let i = settle-is o k in
+    settled o h (settle o k) (record {
+      part = part-through (settle o k) k h i.part less;
+      stays = i.stays;
+      most = λ q part stays. i.most q (part-through q (sweep o h) k (rw stays at (sweep-mono o q h part)) kept) stays;
+    })

@@ -55,6 +55,10 @@ pub get-servers : (seats : NameMap (Seated Meaning)) (s : Name) → fin.get (ser
 unfolding servers_of
 get-servers seats s = get-map_values info_of seats s
 
+-- what is told of nodes and servers doesn't depend on which server is active where
+abbrev pub seen : NameMap Name → NameMap (Seated Meaning) → NodeState
+seen homes seats = flat homes fin.empty seats
+
 -- one box that serves a node
 
 module _ (homes : NameMap Name) (seats : NameMap (Seated Meaning)) (n : Name) where
@@ -90,7 +94,7 @@ module _ (homes : NameMap Name) (seats : NameMap (Seated Meaning)) (n : Name) wh
       go (Some e) is h = let same : e.server ≡ m = cc in (info_of e, get-servers seats s ∙ ap (option_map info_of) is, ap (λ (x : Meaning). x.kind) same, ap (λ (x : Meaning). x.text) same)
 
   -- what is known of its server
-  pub server-told : (m : Meaning) → Some m ≡ served → (i : ServerInfo) × (server_of (flat homes seats) n ≡ Some i) × (i.kind ≡ m.kind) × (i.text ≡ m.text)
+  pub server-told : (m : Meaning) → Some m ≡ served → (i : ServerInfo) × (server_of (seen homes seats) n ≡ Some i) × (i.kind ≡ m.kind) × (i.text ≡ m.text)
   server-told m box = info_by (fin.get homes n) m box
 
   uninfo_by : (o : Option Name) → None ≡ box_by seats o → info_in (servers_of seats) o ≡ None
@@ -101,17 +105,17 @@ module _ (homes : NameMap Name) (seats : NameMap (Seated Meaning)) (n : Name) wh
       go None is h = get-servers seats s ∙ ap (option_map info_of) is
       go (Some e) is h = absurd (cc)
 
-  pub server-untold : None ≡ served → server_of (flat homes seats) n ≡ None
+  pub server-untold : None ≡ served → server_of (seen homes seats) n ≡ None
   server-untold box = uninfo_by (fin.get homes n) box
 
 module _ (homes : NameMap Name) (seats : NameMap (Seated Meaning)) (n : Name) (at : ℕ) where
   -- what there is to read in it
-  pub readable-told : (m : Meaning) → Some m ≡ box_by seats (fin.get homes n) → readable_at n at (flat homes seats) ≡ readable_of m n at
+  pub readable-told : (m : Meaning) → Some m ≡ box_by seats (fin.get homes n) → readable_at n at (seen homes seats) ≡ readable_of m n at
   readable-told m box =
       let i = server-told homes seats n m box in
       ap₂ (readable_by at) i.1 (node-told homes seats n m box) ∙ rw (i.2, i.3) refl
 
-  pub readable-untold : None ≡ box_by seats (fin.get homes n) → readable_at n at (flat homes seats) ≡ None
+  pub readable-untold : None ≡ box_by seats (fin.get homes n) → readable_at n at (seen homes seats) ≡ None
   readable-untold box = ap (λ (i : Option ServerInfo). readable_by at i (fin.get (nodes_of homes seats) n)) (server-untold homes seats n box)
 
 -- the header among a node's attributes
@@ -246,13 +250,13 @@ servers-kept seats s e f is same =
     ∙ insert_same (servers_of seats) s (info_of e) (get-servers seats s ∙ ap (option_map info_of) is)
 
 -- what a server does is done to its own nodes among those that are shown
-pub flat-own : (es : List Edit) (homes : NameMap Name) (seats : NameMap (Seated Meaning)) (s : Name) (e : Seated Meaning) → fin.get seats s ≡ Some e
-    → flat homes (fin.insert seats s (edited_seat es e)) ≡ with_edits (own_edits (Some s) homes es) (flat homes seats)
-flat-own es homes seats s e is =
-    ap₂ (λ (nodes : NodeMap) (servers : NameMap ServerInfo). let h : NodeState = record { nodes = nodes; homes = homes; servers = servers } in h)
+pub flat-own : (es : List Edit) (homes actives : NameMap Name) (seats : NameMap (Seated Meaning)) (s : Name) (e : Seated Meaning) → fin.get seats s ≡ Some e
+    → flat homes actives (fin.insert seats s (edited_seat es e)) ≡ with_edits (own_edits (Some s) homes es) (flat homes actives seats)
+flat-own es homes actives seats s e is =
+    ap₂ (λ (nodes : NodeMap) (servers : NameMap ServerInfo). let h : NodeState = record { nodes = nodes; homes = homes; actives = actives; servers = servers } in h)
     (nodes-all homes s es seats e is) (servers-kept seats s e (edited_seat es e) is refl)
 
 -- where all that it does is done to its own nodes, nothing is left out
-pub flat-edited : (es : List Edit) (homes : NameMap Name) (seats : NameMap (Seated Meaning)) (s : Name) (e : Seated Meaning) → fin.get seats s ≡ Some e → AreOwn s homes es
-    → flat homes (fin.insert seats s (edited_seat es e)) ≡ with_edits es (flat homes seats)
-flat-edited es homes seats s e is own = flat-own es homes seats s e is ∙ ap (λ (xs : List Edit). with_edits xs (flat homes seats)) (own-all s homes es own)
+pub flat-edited : (es : List Edit) (homes actives : NameMap Name) (seats : NameMap (Seated Meaning)) (s : Name) (e : Seated Meaning) → fin.get seats s ≡ Some e → AreOwn s homes es
+    → flat homes actives (fin.insert seats s (edited_seat es e)) ≡ with_edits es (flat homes actives seats)
+flat-edited es homes actives seats s e is own = flat-own es homes actives seats s e is ∙ ap (λ (xs : List Edit). with_edits xs (flat homes actives seats)) (own-all s homes es own)

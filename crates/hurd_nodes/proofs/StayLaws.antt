@@ -1,84 +1,101 @@
 -- What stays, as it is found in the tables.
-use Rattle.std.proofs.Common.{◌≡◌, ◌≢◌, ◌⊎◌, inl, inr, ℕ, zero, suc, ◌+◌, ◌<◌, Bool, true, false, cond, ◌||◌, List, [], ◌∷◌, map, length, get_or, true≢false, refl, sym, ap, ◌∙◌, arith}
-use Rattle.std.specs.Prelude.{Option, Some, None, is_some, not}
+use Rattle.std.proofs.Common.{◌≡◌, ℕ, ◌<◌, Bool, true, false, ◌||◌, ◌&&◌, List, length, get_or, refl, sym, ap, ◌∙◌}
+use Rattle.std.specs.Prelude.{Option, Some, None, is_some, not, slice_index_or}
 use Rattle.std.specs.Option.{option_map}
 use Rattle.std.specs.List.{list_any}
 use Rattle.std.specs.FinMap as fin
 use Rattle.hurd_creds.specs.declared.name.Name.{Name}
 use Rattle.hurd_creds.specs.declared.attrs.Attrs.{Attrs}
-use Rattle.hurd_creds.specs.Names.{name_cmp, same_name}
+use Rattle.hurd_creds.specs.Names.{same_name}
 use Rattle.hurd_creds.specs.NameMaps.{NameMap, keyed, place_by}
-use Rattle.hurd_creds.proofs.NameLaws.{same_name-itself, same_or_apart, tied-itself, tied-apart}
-use Rattle.hurd_creds.proofs.KeyedLaws.{get-keyed, contains-place}
+use Rattle.hurd_creds.proofs.KeyedLaws.{contains-place, get-absent, get-found}
+use Rattle.hurd_creds.proofs.MapLaws.{get-map_values}
 use Rattle.hurd_trans_iface.specs.Nodes.{Node, attrs_of}
 use Rattle.hurd_trans_iface.specs.Meaning.{Meaning}
 use Rattle.hurd_nodes.specs.declared.seat.Home.{Home}
-use Rattle.hurd_nodes.specs.Held.{Seated, box_by, home_key, home_value, homes_of}
+use Rattle.hurd_nodes.specs.declared.seat.Seat.{Seat}
+use Rattle.hurd_nodes.specs.Held.{AreApart, Seated, box_by, home_key, home_value, homes_of, mean, mean_seat, place_in, seat_key, seat_value, seats_of}
 use Rattle.hurd_nodes.specs.Shown.{NodeState, ServerInfo, flat, header_in, info_in, info_of, node_in, server_of, servers_of}
-use Rattle.hurd_nodes.specs.Settle.{is_entered, is_entered_at, settle, stays, stays_with}
-use Rattle.hurd_nodes.proofs.ShownLaws.{get-nodes, get-servers}
-use Rattle.hurd_nodes.proofs.SettleLaws.{settle-all}
+use Rattle.hurd_nodes.specs.Settle.{Outside, any_in, is_entered, is_entered_at, node_stays, server_stays, stays_by, stays_with, sweep}
+use Rattle.hurd_nodes.proofs.SeatLaws.{SeatAt, seat-at}
+use Rattle.hurd_nodes.proofs.ShownLaws.{get-nodes, get-servers, seen}
+use Rattle.hurd_nodes.proofs.SettleLaws.{sweep-none}
+use Rattle.hurd_nodes.proofs.TableLaws.{place-there, place-there_read}
+use Rattle.hurd_nodes.proofs.AnyLaws.{all-listed, any-keyed}
 
-or_cases : (a b : Bool) → (a || b) ≡ true → (a ≡ true) ⊎ (b ≡ true)
-or_cases true b h = inl refl
-or_cases false b h = inr h
-
-or_left : (a b : Bool) → a ≡ true → (a || b) ≡ true
-or_left a b h = rw h refl
-
-or_right : (a b : Bool) → b ≡ true → (a || b) ≡ true
-or_right true b h = refl
-or_right false b h = h
-
--- what has a value in the map of a list is in the list
-module _ {X V : Type 0} (key : X → Name) (value : X → V) where
-  get-first : (x : X) (xs : List X) → fin.get (keyed key value (x ∷ xs)) (key x) ≡ Some (value x)
-  get-first x xs = get-keyed key value (x ∷ xs) (key x) ∙ ap (λ (b : Bool). cond b (Some (value x)) (fin.find name_cmp (key x) (map (λ y. (key y, value y)) xs))) (tied-itself (key x))
-
-  get-rest : (x : X) (xs : List X) (n : Name) → n ≢ key x → fin.get (keyed key value (x ∷ xs)) n ≡ fin.get (keyed key value xs) n
-  get-rest x xs n apart =
-      get-keyed key value (x ∷ xs) n ∙ ap (λ (b : Bool). cond b (Some (value x)) (fin.find name_cmp n (map (λ y. (key y, value y)) xs))) (tied-apart n (key x) apart)
-      ∙ sym (get-keyed key value xs n)
-
-  pub listed : (p : Name → Bool) (xs : List X) (n : Name) (v : V) → fin.get (keyed key value xs) n ≡ Some v → p n ≡ true → list_any (λ x. p (key x)) xs ≡ true
-  listed p [] n v is h = let c : None ≡ Some v = sym (get-keyed key value [] n) ∙ is in absurd (cc)
-  listed p (x ∷ xs) n v is h = elim (same_or_apart n (key x)) [
-    | inl here ↦ or_left (p (key x)) _ (ap p (sym here) ∙ h)
-    | inr apart ↦ or_right (p (key x)) _ (listed p xs n v (sym (get-rest x xs n apart) ∙ is) h)
-  ]
-
--- a home on the list has a place in the table
-place_some : (b : Bool) (o : Option ℕ) → is_some o ≡ true → is_some (cond b (Some 0) (option_map (λ i. i + 1) o)) ≡ true
-place_some true o h = refl
-place_some false None h = absurd (cc)
-place_some false (Some i) h = refl
-
-place-there : (hs : List Home) (i : ℕ) (d : Home) → i < length hs → is_some (place_by home_key (get_or hs i d).node hs) ≡ true
-place-there [] i d below = absurd (omega arith)
-place-there (x ∷ hs) zero d below = rw (same_name-itself x.node) refl
-place-there (x ∷ hs) (suc i) d below = place_some (same_name (get_or hs i d).node x.node) (place_by home_key (get_or hs i d).node hs) (place-there hs i d (omega arith))
+-- what is on a list stands in its map
 
 pub home-there : (hs : List Home) (i : ℕ) (d : Home) → i < length hs → is_some (fin.get (homes_of hs) (get_or hs i d).node) ≡ true
 unfolding homes_of
-home-there hs i d below = sym (contains-place home_key home_value (get_or hs i d).node hs) ∙ place-there hs i d below
+home-there hs i d below = sym (contains-place home_key home_value (get_or hs i d).node hs) ∙ place-there home_key hs i d below
 
-not_false : (b : Bool) → (not b ≡ true → ⊥) → b ≡ true
-not_false true h = refl
-not_false false h = absurd (h refl)
+pub seat-there : {S : Type 0} (ss : List (Seat S)) (i : ℕ) (x : Seat S) → i < length ss → x ≡ slice_index_or ss i x → is_some (fin.get (seats_of ss) x.name) ≡ true
+unfolding seats_of
+seat-there ss i x below read = sym (contains-place seat_key seat_value x.name ss) ∙ place-there_read seat_key ss i x below read
 
--- where each home on the list passes, each in the table does
-pub all_homes : (hs : List Home) (p : Name → Bool) → list_any (λ (x : Home). not (p x.node)) hs ≡ false → (n s : Name) → fin.get (homes_of hs) n ≡ Some s → p n ≡ true
+-- a test of a list of homes is one of their map
+pub home-told : (p : Name → Name → Bool) (hs : List Home) → AreApart home_key hs → list_any (λ (x : Home). p x.node x.server) hs ≡ any_in p (homes_of hs)
 unfolding homes_of
-all_homes hs p none n s is = not_false (p n) (λ h. true≢false (sym (listed home_key home_value (λ (q : Name). not (p q)) hs n s is h) ∙ none))
+home-told p hs apart = any-keyed home_key home_value p hs apart
+
+some_back : {A B : Type 0} (f : A → B) (o : Option A) (y : B) → option_map f o ≡ Some y → (x : A) × (o ≡ Some x) × (f x ≡ y)
+some_back f None y h = absurd (cc)
+some_back f (Some x) y h = (x, refl, cc)
+
+some_map : {A B : Type 0} (f : A → B) (o : Option A) → is_some (option_map f o) ≡ is_some o
+some_map f None = refl
+some_map f (Some x) = refl
+
+-- servers, by their seats
+module _ {S : Type 0} (f : S → Meaning) (seats : NameMap (Seated S)) (s : Name) where
+  pub info-is : fin.get (servers_of (mean f seats)) s ≡ option_map info_of (option_map (mean_seat f) (fin.get seats s))
+  unfolding mean
+  info-is = get-servers (mean f seats) s ∙ ap (option_map info_of) (get-map_values (mean_seat f) seats s)
+
+  pub server-there : is_some (fin.get seats s) ≡ true → is_some (fin.get (servers_of (mean f seats)) s) ≡ true
+  server-there there = ap (λ (o : Option ServerInfo). is_some o) info-is ∙ some_map info_of (option_map (mean_seat f) (fin.get seats s)) ∙ some_map (mean_seat f) (fin.get seats s) ∙ there
+
+  seat-of : (i : ServerInfo) → fin.get (servers_of (mean f seats)) s ≡ Some i → (e : Seated S) × (fin.get seats s ≡ Some e)
+  seat-of i is =
+      let a = some_back info_of (option_map (mean_seat f) (fin.get seats s)) i (sym info-is ∙ is) in
+      let b = some_back (mean_seat f) (fin.get seats s) a.0 a.1 in
+      (b.0, b.1)
+
+-- a server that is found by its place, or not found
+module _ {S : Type 0} (f : S → Meaning) (ss : List (Seat S)) (s : Name) where
+  pub info-found : (i : ℕ) (x : Seat S) → Some i ≡ place_by seat_key s ss → x ≡ slice_index_or ss i x → fin.get (servers_of (mean f (seats_of ss))) s ≡ Some (info_of (mean_seat f (seat_value x)))
+  unfolding seats_of
+  info-found i x at read = info-is f (seats_of ss) s ∙ ap (λ (o : Option (Seated S)). option_map info_of (option_map (mean_seat f) o)) (get-found seat_key seat_value s ss i x at read)
+
+  pub info-absent : None ≡ place_by seat_key s ss → fin.get (servers_of (mean f (seats_of ss))) s ≡ None
+  unfolding seats_of
+  info-absent at = info-is f (seats_of ss) s ∙ ap (λ (o : Option (Seated S)). option_map info_of (option_map (mean_seat f) o)) (get-absent seat_key seat_value s ss at)
+
+-- where each on the lists stays, nothing goes
 
 node_home : (seats : NameMap (Seated Meaning)) (n : Name) (o : Option Name) (x : Node) → node_in n (box_by seats o) ≡ Some x → (s : Name) × (o ≡ Some s)
 node_home seats n None x h = absurd (cc)
 node_home seats n (Some s) x h = (s, refl)
 
--- where all nodes that have a home stay, nothing goes
-pub flat-settled : (held : Name → Bool) (homes : NameMap Name) (seats : NameMap (Seated Meaning)) → ((n s : Name) → fin.get homes n ≡ Some s → stays held (flat homes seats) n ≡ true) → settle held (flat homes seats) ≡ flat homes seats
-flat-settled held homes seats all =
-    settle-all held (flat homes seats) (λ n x is. let at = node_home seats n (fin.get homes n) x (sym (get-nodes homes seats n) ∙ is) in all n at.0 at.1) all
+all_homes : (hs : List Home) (p : Name → Bool) → list_any (λ (x : Home). not (p x.node)) hs ≡ false → (n s : Name) → fin.get (homes_of hs) n ≡ Some s → p n ≡ true
+unfolding homes_of
+all_homes hs p none n s is = all-listed home_key home_value p hs none n s is
+
+all_seats : {S : Type 0} (f : S → Meaning) (ss : List (Seat S)) (p : Name → Bool) → list_any (λ (x : Seat S). not (p x.name)) ss ≡ false
+    → (s : Name) (i : ServerInfo) → fin.get (servers_of (mean f (seats_of ss))) s ≡ Some i → p s ≡ true
+unfolding seats_of
+all_seats f ss p none s i is = let e = seat-of f (seats_of ss) s i is in all-listed seat_key seat_value p ss none s e.0 e.1
+
+pub all-kept : {S : Type 0} (f : S → Meaning) (homes actives : List Home) (ss : List (Seat S)) (o : Outside) → (let h = flat (homes_of homes) (homes_of actives) (mean f (seats_of ss)) in
+    list_any (λ (x : Home). not (node_stays o h x.node)) homes ≡ false → list_any (λ (x : Home). not (node_stays o h x.node)) actives ≡ false
+    → list_any (λ (x : Seat S). not (server_stays o h x.name)) ss ≡ false → sweep o h ≡ h)
+all-kept f homes actives ss o no_home no_active no_server =
+    let seats = mean f (seats_of ss) in
+    let h = flat (homes_of homes) (homes_of actives) seats in
+    let kept = all_homes homes (node_stays o h) no_home in
+    sweep-none o h
+    (λ n x is. let at = node_home seats n (fin.get (homes_of homes) n) x (sym (get-nodes (homes_of homes) seats n) ∙ is) in kept n at.0 at.1)
+    kept (all_homes actives (node_stays o h) no_active) (all_seats f ss (server_stays o h) no_server)
 
 -- a node's attributes tell whether an entry names it
 pub entered-told : (o : Option Node) (a : Attrs) → Some a ≡ option_map attrs_of o → is_entered (header_in a) ≡ is_entered_at o
@@ -89,21 +106,59 @@ pub entered-untold : (o : Option Node) → None ≡ option_map attrs_of o → fa
 entered-untold None is = refl
 entered-untold (Some x) is = absurd (cc)
 
--- a node whose server is there, and one whose server isn't
+-- what is known of a node's server
+pub info-seated : (homes : NameMap Name) (seats : NameMap (Seated Meaning)) (n s : Name) (e : Seated Meaning) → fin.get homes n ≡ Some s → fin.get seats s ≡ Some e → server_of (seen homes seats) n ≡ Some (info_of e)
+info-seated homes seats n s e home is = ap (info_in (servers_of seats)) home ∙ get-servers seats s ∙ ap (option_map info_of) is
 
-module _ (homes : NameMap Name) (seats : NameMap (Seated Meaning)) (n : Name) where
-  pub info-seated : (s : Name) (e : Seated Meaning) → fin.get homes n ≡ Some s → fin.get seats s ≡ Some e → server_of (flat homes seats) n ≡ Some (info_of e)
-  info-seated s e home is = ap (info_in (servers_of seats)) home ∙ get-servers seats s ∙ ap (option_map info_of) is
+-- a node whose server isn't there
+pub stays-none : (o : Outside) (h : NodeState) (n : Name) → server_of h n ≡ None → false ≡ node_stays o h n
+stays-none o h n is = sym (by (fin.get h.homes n) is)
+  where
+    by : (u : Option Name) → info_in h.servers u ≡ None → stays_by o h n u ≡ false
+    by None none = refl
+    by (Some s) none = ap (stays_with o h n s) none
 
-module _ (held : Name → Bool) (h : NodeState) (n : Name) where
-  pub stays-root : (i : ServerInfo) → server_of h n ≡ Some i → same_name n i.root ≡ true → true ≡ stays held h n
-  stays-root i is root = sym (ap (stays_with held h n) is ∙ rw root refl)
+-- a node whose server is found in its seat
+module _ {S : Type 0} (f : S → Meaning) (homes actives : NameMap Name) (ss : List (Seat S)) (o : Outside) (n : Name) (i : ℕ) (x : Seat S)
+    (at : Some i ≡ place_in ss (fin.get homes n)) (read : x ≡ slice_index_or ss i x) where
+  abbrev told : NodeState
+  told = flat homes actives (mean f (seats_of ss))
 
-  pub stays-entered : (i : ServerInfo) → server_of h n ≡ Some i → same_name n i.root ≡ false → is_entered_at (fin.get h.nodes n) ≡ true → true ≡ stays held h n
-  stays-entered i is root entered = sym (ap (stays_with held h n) is ∙ rw (root, entered) refl)
+  seat : SeatAt f ss (fin.get homes n) i x
+  seat = seat-at f ss (fin.get homes n) i x at read
 
-  pub stays-held : (i : ServerInfo) → server_of h n ≡ Some i → same_name n i.root ≡ false → is_entered_at (fin.get h.nodes n) ≡ false → held n ≡ stays held h n
-  stays-held i is root entered = sym (ap (stays_with held h n) is ∙ rw (root, entered) refl)
+  abbrev tests : Bool → Bool → Bool
+  tests serves root = serves && (root || (is_entered_at (fin.get told.nodes n) || o.held n))
 
-  pub stays-none : server_of h n ≡ None → false ≡ stays held h n
-  stays-none is = sym (ap (stays_with held h n) is)
+  stays-is : node_stays o told n ≡ tests (server_stays o told x.name) (same_name n x.root)
+  stays-is =
+      ap (stays_by o told n) seat.home
+      ∙ ap (stays_with o told n seat.name) (get-servers (mean f (seats_of ss)) seat.name ∙ ap (option_map info_of) seat.is)
+      ∙ ap (λ (s : Name). tests (server_stays o told s) (same_name n x.root)) (sym seat.named)
+
+  pub stays-unserved : server_stays o told x.name ≡ false → false ≡ node_stays o told n
+  stays-unserved serves = sym (stays-is ∙ rw serves refl)
+
+  module _ (serves : server_stays o told x.name ≡ true) where
+    pub stays-root : same_name n x.root ≡ true → true ≡ node_stays o told n
+    stays-root root = sym (stays-is ∙ rw (serves, root) refl)
+
+    pub stays-entered : same_name n x.root ≡ false → is_entered_at (fin.get told.nodes n) ≡ true → true ≡ node_stays o told n
+    stays-entered root entered = sym (stays-is ∙ rw (serves, root, entered) refl)
+
+    pub stays-held : same_name n x.root ≡ false → is_entered_at (fin.get told.nodes n) ≡ false → o.held n ≡ node_stays o told n
+    stays-held root entered = sym (stays-is ∙ rw (serves, root, entered) refl)
+
+-- four tests, one after another
+module _ (a b c d : Bool) where
+  pub or-1 : a ≡ true → true ≡ (a || (b || (c || d)))
+  or-1 h = rw h refl
+
+  pub or-2 : a ≡ false → b ≡ true → true ≡ (a || (b || (c || d)))
+  or-2 h k = rw (h, k) refl
+
+  pub or-3 : a ≡ false → b ≡ false → c ≡ true → true ≡ (a || (b || (c || d)))
+  or-3 h k l = rw (h, k, l) refl
+
+  pub or-4 : a ≡ false → b ≡ false → c ≡ false → d ≡ (a || (b || (c || d)))
+  or-4 h k l = rw (h, k, l) refl

@@ -17,7 +17,7 @@ use Rattle.hurd_trans_iface.specs.Meaning.{Meaning, ServerKind, behaviour_of, ke
 use Rattle.hurd_nodes.specs.Held.{Held, Seated, box_by, mean, with_box, with_server_of}
 use Rattle.hurd_nodes.specs.Shown.{NodeState, ServerInfo, info_in, info_of, nodes_of, server_of, servers_of, flat, shown, with_edits, asked_of, asked_step, effect_at, made_by, can_make}
 use Rattle.hurd_nodes.proofs.SeatLaws.{lent}
-use Rattle.hurd_nodes.proofs.ShownLaws.{AreOwn, node-told, server-told, server-untold, flat-edited, get-servers}
+use Rattle.hurd_nodes.proofs.ShownLaws.{AreOwn, node-told, server-told, server-untold, flat-edited, get-servers, seen}
 
 -- the edits of a question are of its node
 edits-own : {T : Type 0} (s n : Name) (homes : NameMap Name) (e : Effect T) → fin.get homes n ≡ Some s → AreOwn s homes (edits_of n e)
@@ -33,35 +33,39 @@ edits-own s n homes (Ok d) home = go d.bytes
     go (Some f) = (home, sized d.size)
 
 module _ (homes : NameMap Name) (seats : NameMap (Seated Meaning)) (n s : Name) (e : Seated Meaning) (home : fin.get homes n ≡ Some s) (is : fin.get seats s ≡ Some e) where
-  -- with what the server means in the end
-  abbrev after : Meaning → NodeState
-  after m = flat homes (fin.insert seats s (with_box e m))
-
-  pub after-same : after e.server ≡ flat homes seats
-  after-same = ap (flat homes) (insert_same seats s e is)
-
   -- the box that serves the node
   pub box-here : Some e.server ≡ box_by seats (fin.get homes n)
   box-here = sym (ap (box_by seats) home ∙ ap (option_map (λ (x : Seated Meaning). x.server)) is)
 
-  info-here : server_of (flat homes seats) n ≡ Some (info_of e)
+  info-here : server_of (seen homes seats) n ≡ Some (info_of e)
   info-here = ap (info_in (servers_of seats)) home ∙ get-servers seats s ∙ ap (option_map info_of) is
 
   module _ {T : Type 0} (q : Question T) where
     abbrev effect : Effect T
     effect = effect_on q (behaviour_of e.server.kind) e.server.text (fin.get e.server.nodes n)
 
-    effect-shown : effect_at q n (flat homes seats) ≡ effect
+    effect-shown : effect_at q n (seen homes seats) ≡ effect
     effect-shown = ap₂ (asked_of q) info-here (node-told homes seats n e.server box-here)
 
-    -- a question about a node, of its server and of what is shown
-    step-flat : (m : Meaning) (got : Result T Errno) → Steps e.server (step_of q n e.server) got m → Steps (flat homes seats) (asked_step q n (flat homes seats)) got (after m)
-    step-flat m got steps =
-        let whole : asked_step q n (flat homes seats) ≡ (told_of effect, after (edited (edits_of n effect) e.server)) =
-        ap (λ (x : Effect T). (told_of x, with_edits (edits_of n x) (flat homes seats))) effect-shown
-        ∙ ap (λ (h : NodeState). (told_of effect, h)) (sym (flat-edited (edits_of n effect) homes seats s e is (edits-own s n homes effect home))) in
-        subst (λ (h : NodeState). Steps h (asked_step q n (flat homes seats)) got (after m)) after-same
-        (steps-inside after e.server m (step_of q n e.server) (asked_step q n (flat homes seats)) got whole steps)
+    module _ (actives : NameMap Name) where
+      abbrev before : NodeState
+      before = flat homes actives seats
+
+      -- with what the server means in the end
+      abbrev after : Meaning → NodeState
+      after m = flat homes actives (fin.insert seats s (with_box e m))
+
+      after-same : after e.server ≡ before
+      after-same = ap (flat homes actives) (insert_same seats s e is)
+
+      -- a question about a node, of its server and of what is shown
+      step-flat : (m : Meaning) (got : Result T Errno) → Steps e.server (step_of q n e.server) got m → Steps before (asked_step q n before) got (after m)
+      step-flat m got steps =
+          let whole : asked_step q n before ≡ (told_of effect, after (edited (edits_of n effect) e.server)) =
+          ap (λ (x : Effect T). (told_of x, with_edits (edits_of n x) before)) effect-shown
+          ∙ ap (λ (h : NodeState). (told_of effect, h)) (sym (flat-edited (edits_of n effect) homes actives seats s e is (edits-own s n homes effect home))) in
+          subst (λ (h : NodeState). Steps h (asked_step q n before) got (after m)) after-same
+          (steps-inside after e.server m (step_of q n e.server) (asked_step q n before) got whole steps)
 
 module _ {S : Type 0} (f : S → Meaning) (t : Held S) (n : Name) where
   abbrev served : Option Meaning
@@ -73,7 +77,7 @@ module _ {S : Type 0} (f : S → Meaning) (t : Held S) (n : Name) where
         → Steps (shown f t) (asked_step q n (shown f t)) got (shown f (with_server_of t n w))
     step-shown a w got box steps =
         let l = lent f t n a w box in
-        rw l.after (step-flat t.homes (mean f t.seats) n l.name l.seat l.home l.is q (f w) got (rw l.was steps))
+        rw l.after (step-flat t.homes (mean f t.seats) n l.name l.seat l.home l.is q t.actives (f w) got (rw l.was steps))
 
     -- no box serves the node
     pub step-gone : None ≡ served → Steps (shown f t) (asked_step q n (shown f t)) (Err EDIED) (shown f t)
@@ -83,10 +87,10 @@ module _ {S : Type 0} (f : S → Meaning) (t : Held S) (n : Name) where
 
 -- whether a node may be made, as the directory's server says it
 module _ (homes : NameMap Name) (seats : NameMap (Seated Meaning)) (dir : Name) (name : List ℕ) (kind : Kind) where
-  pub can_make-told : (m : Meaning) → Some m ≡ box_by seats (fin.get homes dir) → can_make dir name kind (flat homes seats) ≡ make_of (keeps_tree m.kind) name kind (fin.get m.nodes dir)
+  pub can_make-told : (m : Meaning) → Some m ≡ box_by seats (fin.get homes dir) → can_make dir name kind (seen homes seats) ≡ make_of (keeps_tree m.kind) name kind (fin.get m.nodes dir)
   can_make-told m box =
       let i = server-told homes seats dir m box in
       ap₂ (made_by name kind) i.1 (node-told homes seats dir m box) ∙ ap (λ (k : ServerKind). make_of (keeps_tree k) name kind (fin.get m.nodes dir)) i.2
 
-  pub can_make-untold : None ≡ box_by seats (fin.get homes dir) → can_make dir name kind (flat homes seats) ≡ Err EDIED
+  pub can_make-untold : None ≡ box_by seats (fin.get homes dir) → can_make dir name kind (seen homes seats) ≡ Err EDIED
   can_make-untold box = ap (λ (i : Option ServerInfo). made_by name kind i (fin.get (nodes_of homes seats) dir)) (server-untold homes seats dir box)

@@ -10,8 +10,7 @@ use Rattle.hurd_creds.proofs.MapLaws.{map_values-edit_kept}
 use Rattle.hurd_trans_iface.specs.Nodes.{NodeMap, Node}
 use Rattle.hurd_trans_iface.specs.Meaning.{Meaning, forget_after}
 use Rattle.hurd_nodes.specs.Held.{Held, Seated, mean, box_by, with_box, with_server_of}
-use Rattle.hurd_nodes.specs.Shown.{HideNothing, NodeState, ServerInfo, flat, nodes_of, servers_of, info_of, node_in, forgotten}
-use Rattle.hurd_nodes.specs.Settle.{out_node}
+use Rattle.hurd_nodes.specs.Shown.{HideNothing, NodeState, ServerInfo, flat, nodes_of, out_node, servers_of, info_of, node_in, forgotten}
 use Rattle.hurd_nodes.proofs.SeatLaws.{lent}
 use Rattle.hurd_nodes.proofs.ShownLaws.{get-nodes}
 
@@ -79,9 +78,9 @@ module _ (homes : NameMap Name) (seats : NameMap (Seated Meaning)) (n : Name) wh
   servers-same (Some s) = map_values-edit_kept info_of s (forget n) (λ e. refl) seats
 
   -- without a node's home, once its box has forgotten it
-  pub flat-taken : flat (fin.remove homes n) (forgotten n (fin.get homes n) seats) ≡ out_node n (flat homes seats)
-  flat-taken =
-      ap₂ (λ (nodes : NodeMap) (servers : NameMap ServerInfo). let h : NodeState = record { nodes = nodes; homes = fin.remove homes n; servers = servers } in h)
+  pub flat-taken : (actives : NameMap Name) → flat (fin.remove homes n) (fin.remove actives n) (forgotten n (fin.get homes n) seats) ≡ out_node n (flat homes actives seats)
+  flat-taken actives =
+      ap₂ (λ (nodes : NodeMap) (servers : NameMap ServerInfo). let h : NodeState = record { nodes = nodes; homes = fin.remove homes n; actives = fin.remove actives n; servers = servers } in h)
       nodes-taken (servers-same (fin.get homes n))
 
 -- boxes hide nothing after a node was taken out, where they hid nothing before

@@ -2,4 +2,5 @@ pub mod Weights
 pub mod Held
 pub mod Shown
 pub mod Settle
+pub mod Parts
 pub mod Lends

@@ -273,14 +273,26 @@ out_node n h = record h { nodes = fin.remove h.nodes n; homes = fin.remove h.hom
 abbrev pub is_other : Name → NameMap Name → Name → Bool
 is_other s m n = not (is_home s (fin.get m n))
 
+-- the names at which it says something else
+abbrev pub without_value : Name → NameMap Name → NameMap Name
+without_value s m = fin.retain_keys m (is_other s m)
+
 -- without a server, which takes its nodes with it, and leaves its seat
 abbrev pub out_server : Name → NodeState → NodeState
 out_server s h = record {
   nodes = fin.retain_keys h.nodes (is_other s h.homes);
-  homes = fin.retain_keys h.homes (is_other s h.homes);
-  actives = fin.retain_keys h.actives (is_other s h.actives);
+  homes = without_value s h.homes;
+  actives = without_value s h.actives;
   servers = fin.remove h.servers s;
 }
+
+-- without a server, its box and its nodes
+abbrev pub without_server : {S : Type 0} → Held S → Name → Held S
+without_server h s = record h { homes = without_value s h.homes; actives = without_value s h.actives; seats = fin.remove h.seats s }
+
+-- without the one that is active on a node
+abbrev pub without_active : {S : Type 0} → Held S → Name → Held S
+without_active h n = record h { actives = fin.remove h.actives n }
 
 -- no server is active on this node any more
 abbrev pub unseated : Name → NodeState → NodeState

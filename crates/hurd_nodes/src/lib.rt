@@ -1,10 +1,16 @@
 //! The servers that the core owns, and the nodes that they serve.
 //!
-//! `Nodes` holds servers as boxes, with a table that says which serves each node, and passes on what is asked of nodes. Its
-//! contracts show servers and nodes as flat finite maps by name; nobody above this crate speaks of boxes.
+//! `Nodes` holds servers as boxes, with one table that says which serves each node and one that says which is active on it,
+//! and passes on what is asked of nodes. Its contracts show servers and nodes as flat finite maps by name; nobody above this
+//! crate speaks of boxes.
 //!
-//! It knows which nodes are named from outside, once for each naming (`hold`, `release`). A node that nothing keeps any
-//! more, no root, entry or naming, goes in the call that let it go, and its box forgets it.
+//! Servers come and go: `attach` seats one on a node, under a root of its own, and `detach` takes it out with its nodes and
+//! its box. `unseat` leaves a server where it is, but no longer active on a node.
+//!
+//! It knows what is named from outside, once for each naming (`hold`, `release`): nodes by rights to use them, nodes by ways
+//! that rights came in by, servers by rights to control them. A server that nothing keeps any more, no naming, seat or node
+//! of its own that is named, goes by `settle`, and so does a node that no root, entry or naming keeps, or whose server went;
+//! then its box forgets it. What is left is the greatest part in which all stay, in whatever order things go.
 //!
 //! It doesn't decide who may ask: that is for the calls.
 #![tactic(auto)]
@@ -14,3 +20,4 @@ mod search;
 mod seat;
 
 pub use nodes::{BOOT_NAME, Nodes};
+pub use seat::{Hold, Place};

@@ -7,15 +7,17 @@ ghost use Rattle.hurd_creds.specs.Memory.{Meets, Steps};
 ghost use Rattle.hurd_trans_iface.specs.Nodes.{Node, attrs_of, header_of, body_of, is_dir};
 ghost use Rattle.hurd_trans_iface.specs.Answers.{entry_of, names_of, is_file, is_made, make_of, link_of, rename_of, set_attrs_of};
 ghost use Rattle.hurd_trans_iface.specs.Behaviour.{reading, writing, resizing};
-ghost use Rattle.hurd_nodes.specs.Shown.{boot_name, server_of, shown, state_of, header_in, booted, is_root, asked_step, can_make, make_at, are_kin, can_link, link_at, can_set_attrs, set_attrs_at, readable_at, tree_by, HideNothing, forgotten, unlink_at, can_rename, rename_at, make_nameless_at, nameless_in, can_make_nameless};
+ghost use Rattle.hurd_nodes.specs.Shown.{ServerInfo, attached, begun_info, begun_root, boot_name, out_node, out_server, without_active, without_server, server_of, shown, state_of, header_in, booted, is_root, asked_step, can_make, make_at, are_kin, can_link, link_at, can_set_attrs, set_attrs_at, readable_at, tree_by, HideNothing, forgotten, unlink_at, can_rename, rename_at, make_nameless_at, nameless_in, can_make_nameless};
 ghost use Rattle.hurd_trans_iface.specs.Meaning.{Begins, keeps_tree};
-ghost use Rattle.hurd_nodes.specs.Held.{box_by, holds_of, homes_of, is_held, less_one, mean, with_holds, with_seats};
-ghost use Rattle.hurd_nodes.specs.Settle.{is_entered, is_entered_at, out_node, settle, stays};
+ghost use Rattle.hurd_nodes.specs.Held.{box_by, holds_of, homes_of, less_one, mean, seats_of, users_in, with_holds, with_seats};
+ghost use Rattle.hurd_nodes.specs.Settle.{is_entered, is_entered_at, node_stays, outside_of, server_stays, settle, sweep};
+ghost use Rattle.hurd_nodes.specs.Parts.{TakesOut};
 
 use crate::search::{
-    home_of, is_held, place_of_server, put_home, remove_hold, remove_home, repeated,
+    has_held, home_of, is_active, is_controlled, is_held, place_of_seat, place_of_server, put_home,
+    remove_hold, remove_home, remove_homes_of, remove_seat, repeated, reserve_rows, users_among,
 };
-use crate::seat::{Home, Seat};
+use crate::seat::{Hold, Home, Place, Seat};
 use bitflags::Flags;
 use hurd_creds::{Attrs, Bytes, Errno, Ids, Kind, Mode, Name, NodeName, ServerName, TaskId};
 use hurd_trans_iface::{Crossing, Names, NewNode, Readable, Server};
@@ -31,21 +33,25 @@ pub const BOOT_NAME: Name = Name {
 /// The servers of a world, their nodes, and which of these are named from outside.
 #[derive(Drop)]
 pub struct Nodes<S = Box<dyn Server>> {
+    /// Which server serves each node.
     homes: Vec<Home>,
-    /// The boot server's first.
+    /// Which server is active on a node.
+    actives: Vec<Home>,
     seats: Vec<Seat<S>>,
-    /// A node's name once for each time that it is named from outside.
-    holds: Vec<NodeName>,
+    /// One for each time that a node or a server is named from outside.
+    holds: Vec<Hold>,
 }
 
 impl<S> Model for Nodes<S> {
-    ghost use Rattle.hurd_nodes.specs.Held.{Held, coded_held, held_of, spare_of};
+    ghost use Rattle.hurd_nodes.specs.Held.{AreTables, Held, coded_held, held_of, spare_of};
 
     ghost Value = { Held S };
 
     ghost coded = { coded_held S.code };
 
-    ghost view = { λ n. held_of n.homes.items n.seats.items n.holds.items (spare_of n.holds) };
+    ghost view = { λ n. held_of n.homes.items n.actives.items n.seats.items n.holds.items (spare_of n.holds) };
+
+    ghost invariant = { λ n. AreTables n.homes.items n.actives.items n.seats.items };
 }
 
 impl<S: Server> Nodes<S> {
@@ -59,7 +65,7 @@ impl<S: Server> Nodes<S> {
     pub fn starting_with(alloc: Global, boot: S, times: usize) -> Result<Nodes<S>, (Errno, S)>
         requires { Begins (S.meaning boot) }
         ensures shown { IfOk result (λ n. shown S.meaning n ≡ state_of (booted (S.meaning boot))) }
-        ensures holds { IfOk result (λ n. n.holds ≡ replicate times boot_name) }
+        ensures holds { IfOk result (λ n. n.holds ≡ replicate times (Hold.Use boot_name)) }
         ensures hidden { IfOk result (λ n. HideNothing S.meaning n) }
         ensures err { IfErr result (λ e. e ≡ (Errno.ENOMEM, boot)) }
     {
@@ -72,7 +78,7 @@ impl<S: Server> Nodes<S> {
         let Ok(mut seats) = Vec::with_capacity(alloc, 1) else {
             return Err((Errno::ENOMEM, boot));
         };
-        let Ok(holds) = repeated(alloc, BOOT_NAME, times) else {
+        let Ok(holds) = repeated(alloc, Hold::Use(BOOT_NAME), times) else {
             return Err((Errno::ENOMEM, boot));
         };
         let mut server = boot;
@@ -89,6 +95,7 @@ impl<S: Server> Nodes<S> {
         });
         Ok(Nodes {
             homes,
+            actives: Vec::new(alloc),
             seats,
             holds,
         })
@@ -131,6 +138,40 @@ impl<S: Server> Nodes<S> {
         ensures { result ≡ fin.get (shown S.meaning self.now).homes node }
     {
         home_of(&self.homes, node)
+    }
+
+    /// The server that is active on a node, if one is.
+    pub fn active(&self, node: NodeName) -> Option<ServerName>
+        ensures { result ≡ fin.get (shown S.meaning self.now).actives node }
+    {
+        home_of(&self.actives, node)
+    }
+
+    /// The root of a server, if the server is there.
+    pub fn root_of(&self, server: ServerName) -> Option<NodeName>
+        ensures { result ≡ option_map (λ (i : ServerInfo). i.root) (fin.get (shown S.meaning self.now).servers server) }
+    {
+        match place_of_seat(&self.seats, server) {
+            Some(i) => Some(self.seats[i].root),
+            None => None,
+        }
+    }
+
+    /// The ids of a server, if the server is there.
+    pub fn ids_of(&self, server: ServerName) -> Option<&Ids>
+        ensures { option_copied result ≡ option_map (λ (i : ServerInfo). i.ids) (fin.get (shown S.meaning self.now).servers server) }
+    {
+        match place_of_seat(&self.seats, server) {
+            Some(i) => Some(&self.seats[i].ids),
+            None => None,
+        }
+    }
+
+    /// How many rights there are to use nodes of a server.
+    pub fn users(&self, server: ServerName) -> usize
+        ensures { result ≡ users_in (shown S.meaning self.now).homes server self.now.holds }
+    {
+        users_among(&self.homes, &self.holds, server)
     }
 
     /// Whether a node is the root of its server.
@@ -452,60 +493,171 @@ impl<S: Server> Nodes<S> {
         self.holds.reserve(count)
     }
 
-    /// A node is named from outside once more. There is room for that. Takes no memory.
-    pub fn hold(&mut self, node: NodeName)
+    /// A node or a server is named from outside once more. There is room for that. Takes no memory.
+    pub fn hold(&mut self, hold: Hold)
         requires { 0 < self.old.spare }
-        ensures { self.new ≡ with_holds self.old (self.old.holds ++ node ∷ []) (self.old.spare - 1) }
+        ensures { self.new ≡ with_holds self.old (self.old.holds ++ hold ∷ []) (self.old.spare - 1) }
     {
-        self.holds.push_reserved(node);
+        self.holds.push_reserved(hold);
     }
 
-    /// A node is named from outside once less. What nothing keeps any more then goes by `settle`. Takes no memory.
-    pub fn release(&mut self, node: NodeName)
-        ensures { self.new ≡ with_holds self.old (less_one node self.old.holds) self.new.spare }
+    /// A node or a server is named from outside once less. What nothing keeps any more then goes by `settle`. Takes no memory.
+    pub fn release(&mut self, hold: Hold)
+        ensures { self.new ≡ with_holds self.old (less_one hold self.old.holds) self.new.spare }
     {
-        remove_hold(&mut self.holds, node);
+        remove_hold(&mut self.holds, hold);
     }
 
-    /// What nothing keeps any more goes, and its boxes forget it. Takes no memory.
-    pub fn settle(&mut self)
-        ensures shown { shown S.meaning self.new ≡ settle (is_held self.old.holds) (shown S.meaning self.old) }
+    /// A new server takes its place: active on a node, with a root of its own, which may be a node that is there. A server of its name that was there goes first, as
+    /// by `detach`, and one that was active on the node is so no more.
+    ///
+    /// `ENOMEM`, with the box back: nothing is changed.
+    pub fn attach(&mut self, place: Place, ids: Ids, server: S) -> Result<(), (Errno, S)>
+        requires { Begins (S.meaning server) }
+        ensures shown { OnOk result (shown S.meaning self.new ≡ attached place.name place.seat (begun_info (S.meaning server) place.root ids)
+            (begun_root (S.meaning server) place.owner place.group place.mode) (shown S.meaning self.old)) }
+        ensures holds { holds_of self.new ≡ holds_of self.old }
+        ensures hidden { fin.get self.old.homes place.root ≡ None → HideNothing S.meaning self.old → HideNothing S.meaning self.new }
+        ensures kept { OnErr result (self.new ≡ self.old) }
+        ensures err { IfErr result (λ e. e ≡ (Errno.ENOMEM, server)) }
+    {
+        if reserve_rows(&mut self.homes, &mut self.actives, &mut self.seats).is_err() {
+            return Err((Errno::ENOMEM, server));
+        }
+        remove_homes_of(&mut self.homes, place.name);
+        remove_homes_of(&mut self.actives, place.name);
+        remove_seat(&mut self.seats, place.name);
+        let mut server = server;
+        server.begin_root(place.root, place.owner, place.group, place.mode);
+        let served = Home {
+            node: place.root,
+            server: place.name,
+        };
+        let seated = Home {
+            node: place.seat,
+            server: place.name,
+        };
+        put_home(&mut self.homes, served);
+        put_home(&mut self.actives, seated);
+        self.seats.push_reserved(Seat {
+            name: place.name,
+            root: place.root,
+            ids,
+            server,
+        });
+        Ok(())
+    }
+
+    /// Takes a server out, with its nodes and its box; it is active nowhere any more. What nothing else keeps then goes by `settle`. Takes no memory.
+    pub fn detach(&mut self, server: ServerName)
+        ensures shown { shown S.meaning self.new ≡ out_server server (shown S.meaning self.old) }
         ensures holds { holds_of self.new ≡ holds_of self.old }
         ensures hidden { HideNothing S.meaning self.old → HideNothing S.meaning self.new }
     {
-        while let Some(node) = self.unkept(&self.homes) {
-            self.take_node(node);
-        }
+        self.take_server(server);
     }
 
-    /// The first of these nodes that doesn't stay.
-    fn unkept(&self, homes: &[Home]) -> Option<NodeName>
-        ensures found { IfSome result (λ n. (stays (is_held self.now.holds) (shown S.meaning self.now) n ≡ false)
-            × (is_some (fin.get (homes_of homes.now) n) ≡ true)) }
-        ensures none { result ≡ None → list_any (λ x. not (stays (is_held self.now.holds) (shown S.meaning self.now) x.node)) homes.now ≡ false }
+    /// No server is active on a node any more. Takes no memory.
+    pub fn unseat(&mut self, node: NodeName)
+        ensures { self.new ≡ without_active self.old node }
     {
-        for home in homes {
-            if !self.stays(home.node) {
-                return Some(home.node);
+        remove_home(&mut self.actives, node);
+    }
+
+    /// What nothing keeps any more goes: servers with their boxes, and nodes, which their boxes forget. Takes no memory.
+    pub fn settle(&mut self)
+        ensures shown { shown S.meaning self.new ≡ settle (outside_of self.old.holds) (shown S.meaning self.old) }
+        ensures holds { holds_of self.new ≡ holds_of self.old }
+        ensures hidden { HideNothing S.meaning self.old → HideNothing S.meaning self.new }
+    {
+        while self.take_one() {}
+    }
+
+    /// Takes out one node or server that doesn't stay; false where all stay.
+    fn take_one(&mut self) -> bool
+        ensures taken { result ≡ true → TakesOut (outside_of self.old.holds) (shown S.meaning self.old) (shown S.meaning self.new) }
+        ensures end { result ≡ false → sweep (outside_of self.old.holds) (shown S.meaning self.old) ≡ shown S.meaning self.old }
+        ensures same { result ≡ false → self.new ≡ self.old }
+        ensures holds { holds_of self.new ≡ holds_of self.old }
+        ensures hidden { HideNothing S.meaning self.old → HideNothing S.meaning self.new }
+    {
+        if let Some(node) = self.unkept_node(&self.homes) {
+            self.take_node(node);
+            return true;
+        }
+        if let Some(node) = self.unkept_node(&self.actives) {
+            self.take_node(node);
+            return true;
+        }
+        if let Some(server) = self.unkept_server(&self.seats) {
+            self.take_server(server);
+            return true;
+        }
+        false
+    }
+
+    /// The first node of these rows that doesn't stay.
+    fn unkept_node(&self, rows: &[Home]) -> Option<NodeName>
+        ensures found { IfSome result (λ n. (node_stays (outside_of self.now.holds) (shown S.meaning self.now) n ≡ false)
+            × (is_some (fin.get (homes_of rows.now) n) ≡ true)) }
+        ensures none { result ≡ None → list_any (λ x. not (node_stays (outside_of self.now.holds) (shown S.meaning self.now) x.node)) rows.now ≡ false }
+    {
+        for row in rows {
+            if !self.node_stays(row.node) {
+                return Some(row.node);
             }
         }
         None
     }
 
-    /// Whether a node stays: its server is there, and it is that server's root, an entry names it, or it is named from outside.
-    fn stays(&self, node: NodeName) -> bool
-        ensures { result ≡ stays (is_held self.now.holds) (shown S.meaning self.now) node }
+    /// The first server of these seats that doesn't stay.
+    fn unkept_server(&self, seats: &[Seat<S>]) -> Option<ServerName>
+        ensures found { IfSome result (λ s. (server_stays (outside_of self.now.holds) (shown S.meaning self.now) s ≡ false)
+            × (is_some (fin.get (seats_of seats.now) s) ≡ true)) }
+        ensures none { result ≡ None → list_any (λ x. not (server_stays (outside_of self.now.holds) (shown S.meaning self.now) x.name)) seats.now ≡ false }
+    {
+        for seat in seats {
+            if !self.server_stays(seat.name) {
+                return Some(seat.name);
+            }
+        }
+        None
+    }
+
+    /// Whether a node stays: its server does, and it is that server's root, an entry names it, or it is named from outside.
+    fn node_stays(&self, node: NodeName) -> bool
+        ensures { result ≡ node_stays (outside_of self.now.holds) (shown S.meaning self.now) node }
     {
         let Some(i) = place_of_server(&self.homes, &self.seats, node) else {
             return false;
         };
-        if node == self.seats[i].root {
+        let seat = &self.seats[i];
+        if !self.server_stays(seat.name) {
+            return false;
+        }
+        if node == seat.root {
             return true;
         }
         if self.is_entered(node) {
             return true;
         }
         is_held(&self.holds, node)
+    }
+
+    /// Whether a server stays: the boot server, one that is controlled, one that is active on a node, and one that has a node named from outside.
+    fn server_stays(&self, server: ServerName) -> bool
+        ensures { result ≡ server_stays (outside_of self.now.holds) (shown S.meaning self.now) server }
+    {
+        if server == BOOT_NAME {
+            return true;
+        }
+        if is_controlled(&self.holds, server) {
+            return true;
+        }
+        if is_active(&self.actives, server) {
+            return true;
+        }
+        has_held(&self.homes, &self.holds, server)
     }
 
     /// Whether an entry names a node: a directory has a parent, or another node a link.
@@ -527,6 +679,16 @@ impl<S: Server> Nodes<S> {
     {
         self.forget(node);
         remove_home(&mut self.homes, node);
+        remove_home(&mut self.actives, node);
+    }
+
+    /// Takes a server out, with its nodes, wherever it is active, and its box.
+    fn take_server(&mut self, server: ServerName)
+        ensures { self.new ≡ without_server self.old server }
+    {
+        remove_homes_of(&mut self.homes, server);
+        remove_homes_of(&mut self.actives, server);
+        remove_seat(&mut self.seats, server);
     }
 
     /// Lets the box of a node's server forget it. The node's home stays for now.

@@ -1,10 +1,13 @@
 //! Homes, seats and holds by name.
-ghost use Rattle.std.specs.Prelude.{◌≡◌, ◌<◌, length, replicate, IfOk, IfSome, vec_len, vec_capacity};
+ghost use Rattle.std.specs.Prelude.{◌≡◌, ◌<◌, ◌≤◌, ◌&&◌, length, replicate, IfOk, IfSome, MatchOption, vec_len, vec_capacity};
+ghost use Rattle.std.specs.List.{list_any, remove};
 ghost use Rattle.std.specs.FinMap as fin;
+ghost use Rattle.hurd_creds.specs.Names.{same_name};
 ghost use Rattle.hurd_creds.specs.NameMaps.{place_by};
-ghost use Rattle.hurd_nodes.specs.Held.{home_key, homes_of, is_held, less_one, place_in, seat_key};
+ghost use Rattle.hurd_nodes.specs.Held.{AreApart, home_key, homes_of, is_controlled, is_held, is_user, less_one, names_node, names_server, place_in, same_hold, seat_key, seats_of, users_in};
+ghost use Rattle.hurd_nodes.specs.Shown.{without_value};
 
-use crate::seat::{Home, Seat};
+use crate::seat::{Hold, Home, Seat};
 use hurd_creds::{NodeName, ServerName};
 use std::alloc::{AllocError, Global};
 
@@ -32,7 +35,7 @@ pub(crate) fn home_of(homes: &[Home], node: NodeName) -> Option<ServerName>
 }
 
 /// The index of the seat of a server.
-fn place_of_seat<S>(seats: &[Seat<S>], name: ServerName) -> Option<usize>
+pub(crate) fn place_of_seat<S>(seats: &[Seat<S>], name: ServerName) -> Option<usize>
     ensures is { result ≡ place_by seat_key name seats.now }
     ensures below { IfSome result (λ i. i < length seats.now) }
 {
@@ -58,7 +61,8 @@ pub(crate) fn place_of_server<S>(homes: &[Home], seats: &[Seat<S>], node: NodeNa
 /// Gives a node a home, in the place of the one that it has. There is room for one more.
 pub(crate) fn put_home(homes: &mut Vec<Home>, home: Home)
     requires { vec_len homes.old < vec_capacity homes.old }
-    ensures { homes_of homes.new.items ≡ fin.insert (homes_of homes.old.items) home.node home.server }
+    ensures is { homes_of homes.new.items ≡ fin.insert (homes_of homes.old.items) home.node home.server }
+    ensures apart { AreApart home_key homes.old.items → AreApart home_key homes.new.items }
 {
     match place_of_home(homes, home.node) {
         Some(i) => homes[i] = home,
@@ -68,49 +72,180 @@ pub(crate) fn put_home(homes: &mut Vec<Home>, home: Home)
 
 /// Takes out the home of a node.
 pub(crate) fn remove_home(homes: &mut Vec<Home>, node: NodeName)
-    ensures { homes_of homes.new.items ≡ fin.remove (homes_of homes.old.items) node }
+    ensures is { homes_of homes.new.items ≡ fin.remove (homes_of homes.old.items) node }
+    ensures apart { AreApart home_key homes.old.items → AreApart home_key homes.new.items }
 {
     homes.retain(|home| node != home.node);
 }
 
-/// Whether a node is held.
-pub(crate) fn is_held(holds: &[NodeName], node: NodeName) -> bool
-    ensures { result ≡ is_held holds.now node }
+/// Takes out the homes that are of this server.
+pub(crate) fn remove_homes_of(homes: &mut Vec<Home>, server: ServerName)
+    requires { AreApart home_key homes.old.items }
+    ensures is { homes_of homes.new.items ≡ without_value server (homes_of homes.old.items) }
+    ensures apart { AreApart home_key homes.new.items }
+    ensures len { vec_len homes.new ≤ vec_len homes.old }
+    ensures capacity { vec_capacity homes.new ≡ vec_capacity homes.old }
 {
-    holds.iter().any(|held| node == *held)
+    homes.retain(|home| server != home.server);
 }
 
-/// The index of the first hold of a node.
-fn place_of_hold(holds: &[NodeName], node: NodeName) -> Option<usize>
-    ensures is { result ≡ place_by (λ n. n) node holds.now }
+/// Takes out the seat of a server, with its box.
+pub(crate) fn remove_seat<S: Drop>(seats: &mut Vec<Seat<S>>, name: ServerName)
+    ensures is { seats_of seats.new.items ≡ fin.remove (seats_of seats.old.items) name }
+    ensures apart { AreApart seat_key seats.old.items → AreApart seat_key seats.new.items }
+    ensures len { vec_len seats.new ≤ vec_len seats.old }
+    ensures capacity { vec_capacity seats.new ≡ vec_capacity seats.old }
+{
+    seats.retain(|seat| name != seat.name);
+}
+
+/// Takes room for a row more in each table. `ENOMEM`: the rows are as they were.
+pub(crate) fn reserve_rows<S>(
+    homes: &mut Vec<Home>,
+    actives: &mut Vec<Home>,
+    seats: &mut Vec<Seat<S>>,
+) -> Result<(), AllocError>
+    ensures homes { homes.new.items ≡ homes.old.items }
+    ensures actives { actives.new.items ≡ actives.old.items }
+    ensures seats { seats.new.items ≡ seats.old.items }
+    ensures room { IfOk result (λ u. (vec_len homes.new < vec_capacity homes.new) × (vec_len actives.new < vec_capacity actives.new) × (vec_len seats.new < vec_capacity seats.new)) }
+{
+    homes.reserve(1)?;
+    actives.reserve(1)?;
+    seats.reserve(1)
+}
+
+/// Whether a server is active on a node.
+pub(crate) fn is_active(actives: &[Home], server: ServerName) -> bool
+    ensures { result ≡ list_any (λ x. same_name server x.server) actives.now }
+{
+    actives.iter().any(|active| server == active.server)
+}
+
+/// Whether a server has a node that is named from outside.
+pub(crate) fn has_held(homes: &[Home], holds: &[Hold], server: ServerName) -> bool
+    ensures { result ≡ list_any (λ x. same_name server x.server && is_held holds.now x.node) homes.now }
+{
+    for home in homes {
+        if server == home.server && is_held(holds, home.node) {
+            return true;
+        }
+    }
+    false
+}
+
+/// Whether a hold names a node.
+fn names_node(hold: Hold, node: NodeName) -> bool
+    ensures { result ≡ names_node node hold }
+{
+    match hold {
+        Hold::Use(named) => node == named,
+        Hold::Way(named) => node == named,
+        Hold::Control(_) => false,
+    }
+}
+
+/// Whether a hold names a server.
+fn names_server(hold: Hold, server: ServerName) -> bool
+    ensures { result ≡ names_server server hold }
+{
+    match hold {
+        Hold::Use(_) => false,
+        Hold::Way(_) => false,
+        Hold::Control(named) => server == named,
+    }
+}
+
+/// Whether a node is named from outside.
+pub(crate) fn is_held(holds: &[Hold], node: NodeName) -> bool
+    ensures { result ≡ is_held holds.now node }
+{
+    for hold in holds {
+        if names_node(*hold, node) {
+            return true;
+        }
+    }
+    false
+}
+
+/// Whether a server is named from outside.
+pub(crate) fn is_controlled(holds: &[Hold], server: ServerName) -> bool
+    ensures { result ≡ is_controlled holds.now server }
+{
+    for hold in holds {
+        if names_server(*hold, server) {
+            return true;
+        }
+    }
+    false
+}
+
+/// Whether two holds are of one sort and name.
+fn same_hold(hold: Hold, other: Hold) -> bool
+    ensures { result ≡ same_hold hold other }
+{
+    match (hold, other) {
+        (Hold::Use(node), Hold::Use(named)) => node == named,
+        (Hold::Way(node), Hold::Way(named)) => node == named,
+        (Hold::Control(server), Hold::Control(named)) => server == named,
+        _ => false,
+    }
+}
+
+/// The index of the first such hold.
+fn place_of_hold(holds: &[Hold], hold: Hold) -> Option<usize>
+    ensures is { MatchOption result (less_one hold holds.now ≡ holds.now) (λ i. remove holds.now i ≡ less_one hold holds.now) }
     ensures below { IfSome result (λ i. i < length holds.now) }
 {
     for (i, held) in holds.iter().enumerate() {
-        if node == *held {
+        if same_hold(hold, *held) {
             return Some(i);
         }
     }
     None
 }
 
-/// Takes out one hold of a node.
-pub(crate) fn remove_hold(holds: &mut Vec<NodeName>, node: NodeName)
-    ensures { holds.new.items ≡ less_one node holds.old.items }
+/// Takes out one such hold.
+pub(crate) fn remove_hold(holds: &mut Vec<Hold>, hold: Hold)
+    ensures { holds.new.items ≡ less_one hold holds.old.items }
 {
-    if let Some(i) = place_of_hold(holds, node) {
+    if let Some(i) = place_of_hold(holds, hold) {
         holds.remove(i);
     }
 }
 
-/// A node's name, so many times.
-pub(crate) fn repeated(
-    alloc: Global,
-    node: NodeName,
-    times: usize,
-) -> Result<Vec<NodeName>, AllocError>
-    ensures { IfOk result (λ names. names.items ≡ replicate times node) }
+/// A hold, so many times.
+pub(crate) fn repeated(alloc: Global, hold: Hold, times: usize) -> Result<Vec<Hold>, AllocError>
+    ensures { IfOk result (λ holds. holds.items ≡ replicate times hold) }
 {
-    let mut names = Vec::new(alloc);
-    names.resize(times, node)?;
-    Ok(names)
+    let mut holds = Vec::new(alloc);
+    holds.resize(times, hold)?;
+    Ok(holds)
+}
+
+/// Whether this is a right to use a node of a server.
+fn is_user(homes: &[Home], hold: Hold, server: ServerName) -> bool
+    ensures { result ≡ is_user (homes_of homes.now) server hold }
+{
+    match hold {
+        Hold::Use(node) => match home_of(homes, node) {
+            Some(home) => server == home,
+            None => false,
+        },
+        Hold::Way(_) => false,
+        Hold::Control(_) => false,
+    }
+}
+
+/// How many of these holds are rights to use nodes of a server.
+pub(crate) fn users_among(homes: &[Home], holds: &[Hold], server: ServerName) -> usize
+    ensures { result ≡ users_in (homes_of homes.now) server holds.now }
+{
+    let mut count = 0;
+    for hold in holds {
+        if is_user(homes, *hold, server) {
+            count += 1;
+        }
+    }
+    count
 }

@@ -1,7 +1,7 @@
-//! The rows of the tables: homes of nodes, and seats of servers.
-use hurd_creds::{Ids, NodeName, ServerName};
+//! The rows of the tables, homes of nodes and seats of servers, and what is named from outside.
+use hurd_creds::{Ids, Mode, NodeName, ServerName};
 
-/// A node has a server.
+/// A node has a server: the one that serves it, or the one that is active on it.
 #[derive(Clone, Copy, Debug, PartialEq, Eq)]
 pub(crate) struct Home {
     pub(crate) node: NodeName,
@@ -15,4 +15,23 @@ pub(crate) struct Seat<S> {
     pub(crate) root: NodeName,
     pub(crate) ids: Ids,
     pub(crate) server: S,
+}
+
+/// What is named from outside: a node by a right to use it, a node by a way that a right came in by, a server by a right to control it.
+#[derive(Clone, Copy, Debug, PartialEq, Eq)]
+pub enum Hold {
+    Use(NodeName),
+    Way(NodeName),
+    Control(ServerName),
+}
+
+/// Where a server is to stand: its name, the node on which it is active, and its root with owner, group and mode.
+#[derive(Clone, Copy, Debug, PartialEq, Eq)]
+pub struct Place {
+    pub name: ServerName,
+    pub seat: NodeName,
+    pub root: NodeName,
+    pub owner: u32,
+    pub group: u32,
+    pub mode: Mode,
 }

@@ -1,10 +1,12 @@
-use Rattle.std.proofs.Common.{sym, ◌∙◌}
-use Rattle.hurd_creds.specs.declared.name.Name.{Name}
-use Rattle.hurd_creds.proofs.KeyedLaws.{place-found, place-more}
+use Rattle.std.proofs.Common.{◌≤◌, length, arith, sym, ◌∙◌}
+use Rattle.std.proofs.lemmas.List.{take_all}
+use Rattle.hurd_nodes.proofs.HoldLaws.{less-placed, less-absent}
 use Rattle.hurd_nodes.proofs.search.place_of_hold.Goals as goal
 
-pub returns-then-eq-clause-is : goal.returns-then-eq-clause-is
-returns-then-eq-clause-is c = place-found (λ (n : Name). n) (λ (n : Name). n) _ _ _ _ c.loop-i-test.true c.loop-i.invariant (sym c.eq.ensures ∙ c.if-eq.true)
+pub returns-then-same_hold-clause-is : goal.returns-then-same_hold-clause-is
+returns-then-same_hold-clause-is c = less-placed c.args.hold c.args.holds.now c.loop-i.i _ c.loop-i-test.true c.loop-i.invariant (sym c.same_hold.ensures ∙ c.if-same_hold.true)
 
-pub loop-i-preserved : goal.loop-i-preserved
-loop-i-preserved c = place-more (λ (n : Name). n) (λ (n : Name). n) _ _ _ _ c.loop-i-test.true c.loop-i.invariant (sym c.eq.ensures ∙ c.if-eq.false)
+pub returns-clause-is : goal.returns-clause-is
+returns-clause-is c =
+    let past : length c.args.holds.now ≤ c.loop-i.i = omega (arith, c.loop-i-test.false) in
+    less-absent c.args.hold c.args.holds.now (rw (take_all c.loop-i.i c.args.holds.now past) at c.loop-i.invariant)

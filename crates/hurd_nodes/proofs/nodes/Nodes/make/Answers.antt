@@ -1,9 +1,10 @@
-use Rattle.std.proofs.Common.{◌≡◌, sym, ◌∙◌, ap, List}
+use Rattle.std.proofs.Common.{◌≡◌, sym, refl, ◌∙◌, ap, List}
 use Rattle.std.proofs.lemmas.Result.{err_from_is_err_and}
 use Rattle.std.specs.Prelude.{Some}
 use Rattle.std.specs.FinMap as fin
-use Rattle.hurd_nodes.specs.Held.{homes_of, mean, mean_seat, seat_value, seats_of}
+use Rattle.hurd_nodes.specs.Held.{AreApart, homes_of, mean, mean_seat, seat_key, seat_value, seats_of}
 use Rattle.hurd_nodes.specs.declared.seat.Home.{Home}
+use Rattle.hurd_nodes.proofs.TableLaws.{apart-set}
 use Rattle.hurd_nodes.proofs.SeatLaws.{SeatAt, seat-at, some_same, unplaced}
 use Rattle.hurd_nodes.proofs.MakeLaws.{make-gone, make-refused, make-short, make-not, make-kept, make-done}
 use Rattle.hurd_nodes.proofs.HideLaws.{hides-made, hides-unmade}
@@ -15,7 +16,7 @@ returns-in_default-clause-shown g c =
     let f = g.S.Server.meaning in
     let at = rw (c.deref.ensures.value, c.deref-2.ensures.value) at c.in_default.ensures.is in
     let homes = homes_of c.self.inside.homes.items in
-    rw (← c.self.view_is) (make-gone c.args.dir c.args.name.now c.args.new homes (mean f (seats_of c.self.inside.seats.items)) (unplaced f c.self.inside.seats.items (fin.get homes c.args.dir) at))
+    rw (← c.self.view_is) (make-gone c.args.dir c.args.name.now c.args.new homes (homes_of c.self.inside.actives.items) (mean f (seats_of c.self.inside.seats.items)) (unplaced f c.self.inside.seats.items (fin.get homes c.args.dir) at))
 
 pub returns-in_err-can_make_in-clause-shown : goal.returns-in_err-can_make_in-clause-shown
 returns-in_err-can_make_in-clause-shown g c =
@@ -27,7 +28,7 @@ returns-in_err-can_make_in-clause-shown g c =
     let s = seat-at f ss (fin.get homes c.args.dir) c.in-Some.i x at c.index.ensures in
     let p = err_from_is_err_and c.from_residual.result c.from_residual.ensures.1 in
     rw (p.1, p.2, ← c.self.view_is)
-    (make-refused c.args.dir c.args.name.now c.args.new homes (mean f (seats_of ss)) s.name (mean_seat f (seat_value x)) s.home s.is c.in_err-can_make_in.field-0.0 (sym c.in_err-can_make_in.ensures))
+    (make-refused c.args.dir c.args.name.now c.args.new homes (homes_of c.self.inside.actives.items) (mean f (seats_of ss)) s.name (mean_seat f (seat_value x)) s.home s.is c.in_err-can_make_in.field-0.0 (sym c.in_err-can_make_in.ensures))
 
 pub returns-in_err-reserve-clause-shown : goal.returns-in_err-reserve-clause-shown
 returns-in_err-reserve-clause-shown g c =
@@ -39,7 +40,7 @@ returns-in_err-reserve-clause-shown g c =
     let s = seat-at f ss (fin.get homes c.args.dir) c.in-Some.i x at c.index.ensures in
     let p = err_from_is_err_and c.from_residual-in_err-reserve.result c.from_residual-in_err-reserve.ensures.1 in
     rw (p.1, p.2, ← c.self.view_is, c.reserve.ensures.items)
-    (make-short c.args.dir c.args.name.now c.args.new homes (mean f (seats_of ss)) s.name (mean_seat f (seat_value x)) s.home s.is c.in_ok-can_make_in.field-0 (sym c.in_ok-can_make_in.ensures))
+    (make-short c.args.dir c.args.name.now c.args.new homes (homes_of c.self.inside.actives.items) (mean f (seats_of ss)) s.name (mean_seat f (seat_value x)) s.home s.is c.in_ok-can_make_in.field-0 (sym c.in_ok-can_make_in.ensures))
 
 pub returns-in_err-make-clause-shown : goal.returns-in_err-make-clause-shown
 returns-in_err-make-clause-shown g c =
@@ -51,7 +52,7 @@ returns-in_err-make-clause-shown g c =
     let s = seat-at f ss (fin.get homes c.args.dir) c.in-Some.i x at c.index_mut.ensures.value in
     let p = err_from_is_err_and c.from_residual-in_err-make.result c.from_residual-in_err-make.ensures.1 in
     rw (p.1, p.2, ← c.self.view_is, c.reserve.ensures.items, s.set c.make.new.self)
-    (make-not c.args.dir c.args.name.now c.args.new homes (mean f (seats_of ss)) s.name (mean_seat f (seat_value x)) s.home s.is (f c.make.new.self) c.in_err-make.field-0.0 (rw c.in_err-make.was at c.make.ensures))
+    (make-not c.args.dir c.args.name.now c.args.new homes (homes_of c.self.inside.actives.items) (mean f (seats_of ss)) s.name (mean_seat f (seat_value x)) s.home s.is (f c.make.new.self) c.in_err-make.field-0.0 (rw c.in_err-make.was at c.make.ensures))
 
 pub returns-in_err-make-clause-hidden : goal.returns-in_err-make-clause-hidden
 returns-in_err-make-clause-hidden g c =
@@ -63,7 +64,7 @@ returns-in_err-make-clause-hidden g c =
     let x = c.index_mut.result.now in
     let e = mean_seat f (seat_value x) in
     let s = seat-at f ss (fin.get homes c.args.dir) c.in-Some.i x at c.index_mut.ensures.value in
-    let same = make-kept c.args.dir c.args.name.now c.args.new homes seats s.name e s.home s.is (f c.make.new.self) c.in_err-make.field-0.0 (rw c.in_err-make.was at c.make.ensures) in
+    let same = make-kept c.args.dir c.args.name.now c.args.new homes (homes_of c.self.inside.actives.items) seats s.name e s.home s.is (f c.make.new.self) c.in_err-make.field-0.0 (rw c.in_err-make.was at c.make.ensures) in
     rw (← c.self.view_is, c.reserve.ensures.items, s.set c.make.new.self)
     (λ fresh hides. hides-unmade c.args.dir c.args.name.now c.args.new homes seats s.name e s.is (f c.make.new.self) same hides)
 
@@ -81,14 +82,14 @@ home_put g c =
     let q = seat-at g.S.Server.meaning c.self.inside.seats.items (fin.get homes c.args.dir) c.in-Some.i c.index-2.result.now at c.index-2.ensures in
     let one : Some q.name ≡ Some (seat g c).name = sym q.home ∙ (seat g c).home in
     let named : c.index-2.result.now.name ≡ (seat g c).name = q.named ∙ some_same one in
-    c.put_home.ensures ∙ ap (λ (hs : List Home). fin.insert (homes_of hs) c.args.new.name c.index-2.result.now.name) c.reserve.ensures.items ∙ ap (fin.insert homes c.args.new.name) named
+    c.put_home.ensures.is ∙ ap (λ (hs : List Home). fin.insert (homes_of hs) c.args.new.name c.index-2.result.now.name) c.reserve.ensures.items ∙ ap (fin.insert homes c.args.new.name) named
 
 pub returns-clause-shown : goal.returns-clause-shown
 returns-clause-shown g c =
     let f = g.S.Server.meaning in
     let s = seat g c in
     rw (← c.self.view_is, home_put g c, s.set c.make.new.self)
-    (make-done c.args.dir c.args.name.now c.args.new (homes_of c.self.inside.homes.items) (mean f (seats_of c.self.inside.seats.items)) s.name (mean_seat f (seat_value c.index_mut.result.now)) s.home s.is (f c.make.new.self) c.in_ok-make.field-0 (rw c.in_ok-make.was at c.make.ensures))
+    (make-done c.args.dir c.args.name.now c.args.new (homes_of c.self.inside.homes.items) (homes_of c.self.inside.actives.items) (mean f (seats_of c.self.inside.seats.items)) s.name (mean_seat f (seat_value c.index_mut.result.now)) s.home s.is (f c.make.new.self) c.in_ok-make.field-0 (rw c.in_ok-make.was at c.make.ensures))
 
 pub returns-clause-hidden : goal.returns-clause-hidden
 returns-clause-hidden g c =
@@ -96,3 +97,19 @@ returns-clause-hidden g c =
     let s = seat g c in
     rw (← c.self.view_is, home_put g c, s.set c.make.new.self)
     (λ fresh hides. hides-made c.args.dir c.args.name.now c.args.new (homes_of c.self.inside.homes.items) (mean f (seats_of c.self.inside.seats.items)) s.name (mean_seat f (seat_value c.index_mut.result.now)) s.is (f c.make.new.self) c.in_ok-make.field-0 (rw c.in_ok-make.was at c.make.ensures) fresh hides)
+
+-- no two rows are of one name
+
+pub invariant_of-self-2 : goal.invariant_of-self-2
+invariant_of-self-2 g c = record {
+  homes_apart = c.put_home.ensures.apart (rw c.reserve.ensures.items c.self.invariant.homes_apart);
+  actives_apart = c.self.invariant.actives_apart;
+  seats_apart = apart-set seat_key c.self.inside.seats.items c.in-Some.i c.index_mut.result.now (record c.index_mut.result.now { server = c.make.new.self }) c.index_mut.ensures.value refl c.self.invariant.seats_apart;
+}
+
+pub invariant_of-self-in_err-make : goal.invariant_of-self-in_err-make
+invariant_of-self-in_err-make g c = record {
+  homes_apart = rw c.reserve.ensures.items c.self.invariant.homes_apart;
+  actives_apart = c.self.invariant.actives_apart;
+  seats_apart = apart-set seat_key c.self.inside.seats.items c.in-Some.i c.index_mut.result.now (record c.index_mut.result.now { server = c.make.new.self }) c.index_mut.ensures.value refl c.self.invariant.seats_apart;
+}

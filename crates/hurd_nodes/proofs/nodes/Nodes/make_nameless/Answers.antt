@@ -1,11 +1,12 @@
-use Rattle.std.proofs.Common.{◌≡◌, sym, ◌∙◌, ap, List}
+use Rattle.std.proofs.Common.{◌≡◌, sym, refl, ◌∙◌, ap, List}
 use Rattle.std.proofs.lemmas.Result.{err_from_is_err_and}
 use Rattle.std.specs.Prelude.{Some}
 use Rattle.std.specs.FinMap as fin
 use Rattle.hurd_trans_iface.specs.Meaning.{Meaning, keeps_tree}
 use Rattle.hurd_nodes.specs.Shown.{nameless_in}
-use Rattle.hurd_nodes.specs.Held.{homes_of, mean, mean_seat, seat_value, seats_of}
+use Rattle.hurd_nodes.specs.Held.{AreApart, homes_of, mean, mean_seat, seat_key, seat_value, seats_of}
 use Rattle.hurd_nodes.specs.declared.seat.Home.{Home}
+use Rattle.hurd_nodes.proofs.TableLaws.{apart-set}
 use Rattle.hurd_nodes.proofs.SeatLaws.{SeatAt, seat-at, seat-twice, some_same, unplaced}
 use Rattle.hurd_nodes.proofs.NamelessLaws.{nameless-gone, nameless-refused, nameless-short, nameless-not, nameless-done}
 use Rattle.hurd_nodes.proofs.HideLaws.{hides-nameless, hides-not_nameless}
@@ -17,7 +18,7 @@ returns-in_default-clause-shown g c =
     let f = g.S.Server.meaning in
     let at = rw (c.deref.ensures.value, c.deref-2.ensures.value) at c.in_default.ensures.is in
     let homes = homes_of c.self.inside.homes.items in
-    rw (← c.self.view_is) (nameless-gone c.args.dir c.args.new homes (mean f (seats_of c.self.inside.seats.items)) (unplaced f c.self.inside.seats.items (fin.get homes c.args.dir) at))
+    rw (← c.self.view_is) (nameless-gone c.args.dir c.args.new homes (homes_of c.self.inside.actives.items) (mean f (seats_of c.self.inside.seats.items)) (unplaced f c.self.inside.seats.items (fin.get homes c.args.dir) at))
 
 pub returns-in_err-can_make_nameless_in-clause-shown : goal.returns-in_err-can_make_nameless_in-clause-shown
 returns-in_err-can_make_nameless_in-clause-shown g c =
@@ -29,7 +30,7 @@ returns-in_err-can_make_nameless_in-clause-shown g c =
     let s = seat-at f ss (fin.get homes c.args.dir) c.in-Some.i x at c.index.ensures in
     let p = err_from_is_err_and c.from_residual.result c.from_residual.ensures.1 in
     rw (p.1, p.2, ← c.self.view_is)
-    (nameless-refused c.args.dir c.args.new homes (mean f (seats_of ss)) s.name (mean_seat f (seat_value x)) s.home s.is c.in_err-can_make_nameless_in.field-0.0 (sym c.in_err-can_make_nameless_in.ensures))
+    (nameless-refused c.args.dir c.args.new homes (homes_of c.self.inside.actives.items) (mean f (seats_of ss)) s.name (mean_seat f (seat_value x)) s.home s.is c.in_err-can_make_nameless_in.field-0.0 (sym c.in_err-can_make_nameless_in.ensures))
 
 pub returns-in_err-reserve-clause-shown : goal.returns-in_err-reserve-clause-shown
 returns-in_err-reserve-clause-shown g c =
@@ -41,7 +42,7 @@ returns-in_err-reserve-clause-shown g c =
     let s = seat-at f ss (fin.get homes c.args.dir) c.in-Some.i x at c.index.ensures in
     let p = err_from_is_err_and c.from_residual-in_err-reserve.result c.from_residual-in_err-reserve.ensures.1 in
     rw (p.1, p.2, ← c.self.view_is, c.reserve.ensures.items)
-    (nameless-short c.args.dir c.args.new homes (mean f (seats_of ss)) s.name (mean_seat f (seat_value x)) s.home s.is c.in_ok-can_make_nameless_in.field-0 (sym c.in_ok-can_make_nameless_in.ensures))
+    (nameless-short c.args.dir c.args.new homes (homes_of c.self.inside.actives.items) (mean f (seats_of ss)) s.name (mean_seat f (seat_value x)) s.home s.is c.in_ok-can_make_nameless_in.field-0 (sym c.in_ok-can_make_nameless_in.ensures))
 
 pub returns-in_err-make_nameless-clause-shown : goal.returns-in_err-make_nameless-clause-shown
 returns-in_err-make_nameless-clause-shown g c =
@@ -57,7 +58,7 @@ returns-in_err-make_nameless-clause-shown g c =
     ∙ sym c.in_ok-can_make_nameless_in.ensures in
     let p = err_from_is_err_and c.from_residual-in_err-make_nameless.result c.from_residual-in_err-make_nameless.ensures.1 in
     rw (p.1, p.2, ← c.self.view_is, c.reserve.ensures.items, s.set c.make_nameless.new.self)
-    (nameless-not c.args.dir c.args.new homes (mean f (seats_of ss)) s.name (mean_seat f (seat_value x)) s.home s.is (f c.make_nameless.new.self) c.in_ok-can_make_nameless_in.field-0 c.in_err-make_nameless.field-0.0 can (rw c.in_err-make_nameless.was at c.make_nameless.ensures))
+    (nameless-not c.args.dir c.args.new homes (homes_of c.self.inside.actives.items) (mean f (seats_of ss)) s.name (mean_seat f (seat_value x)) s.home s.is (f c.make_nameless.new.self) c.in_ok-can_make_nameless_in.field-0 c.in_err-make_nameless.field-0.0 can (rw c.in_err-make_nameless.was at c.make_nameless.ensures))
 
 pub returns-in_err-make_nameless-clause-hidden : goal.returns-in_err-make_nameless-clause-hidden
 returns-in_err-make_nameless-clause-hidden g c =
@@ -84,7 +85,7 @@ home_put g c =
     let q = seat-at g.S.Server.meaning c.self.inside.seats.items (fin.get homes c.args.dir) c.in-Some.i c.index-2.result.now at c.index-2.ensures in
     let one : Some q.name ≡ Some (seat g c).name = sym q.home ∙ (seat g c).home in
     let named : c.index-2.result.now.name ≡ (seat g c).name = q.named ∙ some_same one in
-    c.put_home.ensures ∙ ap (λ (hs : List Home). fin.insert (homes_of hs) c.args.new.name c.index-2.result.now.name) c.reserve.ensures.items ∙ ap (fin.insert homes c.args.new.name) named
+    c.put_home.ensures.is ∙ ap (λ (hs : List Home). fin.insert (homes_of hs) c.args.new.name c.index-2.result.now.name) c.reserve.ensures.items ∙ ap (fin.insert homes c.args.new.name) named
 
 pub returns-clause-shown : goal.returns-clause-shown
 returns-clause-shown g c =
@@ -99,7 +100,7 @@ returns-clause-shown g c =
     ap (λ (m : Meaning). nameless_in (keeps_tree m.kind) c.args.new.kind (fin.get m.nodes c.args.dir)) (seat-twice f ss (fin.get homes c.args.dir) c.in-Some.i x c.index.result.now s t)
     ∙ sym c.in_ok-can_make_nameless_in.ensures in
     rw (← c.self.view_is, home_put g c, s.set c.make_nameless.new.self)
-    (nameless-done c.args.dir c.args.new homes (mean f (seats_of ss)) s.name (mean_seat f (seat_value x)) s.home s.is (f c.make_nameless.new.self) c.in_ok-make_nameless.field-0 can (rw c.in_ok-make_nameless.was at c.make_nameless.ensures))
+    (nameless-done c.args.dir c.args.new homes (homes_of c.self.inside.actives.items) (mean f (seats_of ss)) s.name (mean_seat f (seat_value x)) s.home s.is (f c.make_nameless.new.self) c.in_ok-make_nameless.field-0 can (rw c.in_ok-make_nameless.was at c.make_nameless.ensures))
 
 pub returns-clause-hidden : goal.returns-clause-hidden
 returns-clause-hidden g c =
@@ -107,3 +108,19 @@ returns-clause-hidden g c =
     let s = seat g c in
     rw (← c.self.view_is, home_put g c, s.set c.make_nameless.new.self)
     (λ fresh hides. hides-nameless c.args.new (homes_of c.self.inside.homes.items) (mean f (seats_of c.self.inside.seats.items)) s.name (mean_seat f (seat_value c.index_mut.result.now)) s.is (f c.make_nameless.new.self) c.in_ok-make_nameless.field-0 (rw c.in_ok-make_nameless.was at c.make_nameless.ensures) fresh hides)
+
+-- no two rows are of one name
+
+pub invariant_of-self-2 : goal.invariant_of-self-2
+invariant_of-self-2 g c = record {
+  homes_apart = c.put_home.ensures.apart (rw c.reserve.ensures.items c.self.invariant.homes_apart);
+  actives_apart = c.self.invariant.actives_apart;
+  seats_apart = apart-set seat_key c.self.inside.seats.items c.in-Some.i c.index_mut.result.now (record c.index_mut.result.now { server = c.make_nameless.new.self }) c.index_mut.ensures.value refl c.self.invariant.seats_apart;
+}
+
+pub invariant_of-self-in_err-make_nameless : goal.invariant_of-self-in_err-make_nameless
+invariant_of-self-in_err-make_nameless g c = record {
+  homes_apart = rw c.reserve.ensures.items c.self.invariant.homes_apart;
+  actives_apart = c.self.invariant.actives_apart;
+  seats_apart = apart-set seat_key c.self.inside.seats.items c.in-Some.i c.index_mut.result.now (record c.index_mut.result.now { server = c.make_nameless.new.self }) c.index_mut.ensures.value refl c.self.invariant.seats_apart;
+}

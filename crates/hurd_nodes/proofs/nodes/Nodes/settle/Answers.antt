@@ -1,39 +1,33 @@
-use Rattle.std.proofs.Common.{◌≡◌, true, false, sym, ap, ◌∙◌, refl, List, ℕ}
-use Rattle.std.specs.Prelude.{is_some}
-use Rattle.std.specs.FinMap as fin
-use Rattle.hurd_creds.specs.declared.name.Name.{Name}
-use Rattle.hurd_nodes.specs.Held.{Held, homes_of, is_held}
+use Rattle.std.proofs.Common.{◌≡◌, ◌∙◌, ap, List, ℕ, true}
+use Rattle.hurd_nodes.specs.declared.seat.Hold.{Hold}
+use Rattle.hurd_nodes.specs.Held.{Held, holds_of}
 use Rattle.hurd_nodes.specs.Shown.{shown}
-use Rattle.hurd_nodes.specs.Settle.{settle, stays}
-use Rattle.hurd_nodes.proofs.SettleLaws.{settle-out, fewer}
-use Rattle.hurd_nodes.proofs.StayLaws.{all_homes, flat-settled}
-use Rattle.hurd_nodes.proofs.TakeLaws.{hides-taken}
+use Rattle.hurd_nodes.specs.Settle.{Outside, outside_of}
+use Rattle.hurd_nodes.proofs.SettleLaws.{way-taken, way-end, settled}
 use Rattle.hurd_nodes.proofs.nodes.Nodes.settle.Goals as goal
 
-pub loop-node-smaller : goal.loop-node-smaller
-loop-node-smaller g c =
-    let there : is_some (fin.get (homes_of c.self.inside.homes.items) c.in-Some.node) ≡ true = rw c.deref.ensures.value at c.in-Some.ensures.found.1 in
-    rw c.take_node.ensures.homes (fewer c.loop-node.self.homes c.in-Some.node (sym (ap (λ (t : Held _). is_some (fin.get t.homes c.in-Some.node)) c.self.view_is) ∙ there))
+-- the same holds name the same from outside
+same_outside : {S : Type 0} (t u : Held S) → holds_of t ≡ holds_of u → outside_of t.holds ≡ outside_of u.holds
+same_outside t u same = ap (λ (p : List Hold × ℕ). outside_of p.0) same
 
-pub loop-node-preserved : goal.loop-node-preserved
-loop-node-preserved g c =
+pub loop-smaller : goal.loop-smaller
+loop-smaller g c = (c.take_one.ensures.taken c.loop-test.true).fewer
+
+pub loop-preserved : goal.loop-preserved
+loop-preserved g c =
     let f = g.S.Server.meaning in
-    let held = is_held c.args.self.now.holds in
-    let now = shown f c.loop-node.self in
-    let n = c.in-Some.node in
-    let gone : stays held now n ≡ false = ap (λ (p : List Name × ℕ). stays (is_held p.0) now n) (sym c.loop-node.invariant.0) ∙ c.in-Some.ensures.found.0 in (
-      c.take_node.ensures.holds ∙ c.loop-node.invariant.0,
-      ap (settle held) c.take_node.ensures.shown ∙ settle-out held now n gone ∙ c.loop-node.invariant.1,
-      λ before. hides-taken f c.loop-node.self c.take_node.new.self n c.take_node.ensures.homes c.take_node.ensures.boxes (c.loop-node.invariant.2 before),
+    let outside = same_outside c.loop.self c.args.self.now c.loop.invariant.0 in
+    let taken = rw outside at (c.take_one.ensures.taken c.loop-test.true) in (
+      c.take_one.ensures.holds ∙ c.loop.invariant.0,
+      way-taken (outside_of c.args.self.now.holds) (shown f c.args.self.now) (shown f c.loop.self) (shown f c.take_one.new.self) taken c.loop.invariant.1,
+      λ before. c.take_one.ensures.hidden (c.loop.invariant.2 before),
     )
 
 pub returns-clause-shown : goal.returns-clause-shown
 returns-clause-shown g c =
     let f = g.S.Server.meaning in
-    let held = is_held c.args.self.now.holds in
-    let t = c.loop-node.self in
-    let all = rw c.deref.ensures.value at (c.in_default.ensures.none refl) in
-    let kept = all_homes c.self.inside.homes.items (stays (is_held t.holds) (shown f t)) all in
-    let homes = ap (λ (u : Held _). u.homes) c.self.view_is in
-    let ends = flat-settled (is_held t.holds) t.homes (Rattle.hurd_nodes.specs.Held.mean f t.seats) (λ n s is. kept n s (ap (λ m. fin.get m n) homes ∙ is)) in
-    sym (ap (λ (p : List Name × ℕ). settle (is_held p.0) (shown f t)) (sym c.loop-node.invariant.0) ∙ ends) ∙ c.loop-node.invariant.1
+    let outside = same_outside c.loop.self c.args.self.now c.loop.invariant.0 in
+    let o = outside_of c.args.self.now.holds in
+    let rests = rw outside at (c.take_one.ensures.end c.loop-test.false) in
+    rw (c.take_one.ensures.same c.loop-test.false)
+    (settled o (shown f c.args.self.now) (shown f c.loop.self) (way-end o (shown f c.args.self.now) (shown f c.loop.self) rests c.loop.invariant.1))

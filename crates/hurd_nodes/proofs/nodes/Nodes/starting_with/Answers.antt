@@ -1,4 +1,5 @@
 use Rattle.std.proofs.Common.{◌≡◌, ◌∙◌, ap, ℕ}
+use Rattle.hurd_creds.proofs.KeyedLaws.{keyed-nothing}
 use Rattle.hurd_trans_iface.specs.Meaning.{begin_root_after}
 use Rattle.hurd_trans_iface.proofs.Beginnings.{begun-empty, begun-rootless}
 use Rattle.hurd_nodes.specs.Held.{homes_of, seats_of, home_key, home_value, seat_key, seat_value}
@@ -7,7 +8,7 @@ use Rattle.hurd_nodes.proofs.BootLaws.{boot-ids, boot-shown, boot-hides, keyed-o
 use Rattle.hurd_nodes.proofs.nodes.Nodes.starting_with.Goals as goal
 use Rattle.hurd_nodes.proofs.nodes.Nodes.starting_with.Given as given
 
-begun : (g : given.Over) (c : goal.After-push_reserved-2 g) → g.S.Server.meaning c.begin_root.new.self ≡ booted (g.S.Server.meaning c.args.boot)
+begun : (g : given.Over) (c : goal.After-new-2 g) → g.S.Server.meaning c.begin_root.new.self ≡ booted (g.S.Server.meaning c.args.boot)
 begun g c = c.begin_root.ensures ∙ ap (λ (b : ℕ). begin_root_after (g.S.Server.meaning c.args.boot) boot_name 0 0 (record { 0 = b })) (c.from_bits_retain.ensures tt)
 
 pub begin_root-requires : goal.begin_root-requires
@@ -17,8 +18,8 @@ pub returns-clause-shown : goal.returns-clause-shown
 unfolding homes_of seats_of
 returns-clause-shown g c =
     let f = g.S.Server.meaning in
-    rw (c.push_reserved.ensures.items, c.push_reserved-2.ensures.items, c.in-Ok-with_capacity.ensures.items, c.in-Ok-with_capacity-2.ensures.items)
-    (rw (keyed-one home_key home_value _, keyed-one seat_key seat_value _)
+    rw (c.push_reserved.ensures.items, c.push_reserved-2.ensures.items, c.in-Ok-with_capacity.ensures.items, c.in-Ok-with_capacity-2.ensures.items, c.new-2.ensures.items)
+    (rw (keyed-one home_key home_value _, keyed-one seat_key seat_value _, keyed-nothing home_key home_value)
     (boot-shown (f c.args.boot) (begun-empty c.requires.0 (f c.args.boot) c.requires.1) f c.begin_root.new.self c.in-Ok.ids (begun g c) (boot-ids c.in-Ok.ids c.in-Ok.ensures.sets)))
 
 pub returns-clause-hidden : goal.returns-clause-hidden

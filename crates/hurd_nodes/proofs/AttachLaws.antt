@@ -1,0 +1,195 @@
+-- What is shown after a server took its place, or went.
+use Rattle.std.proofs.Common.{◌≡◌, ◌≢◌, inl, inr, ℕ, Bool, true, false, cond, List, [], ◌∷◌, ◌++◌, refl, sym, ap, ap₂, ◌∙◌, true≢false}
+use Rattle.std.specs.Prelude.{Option, Some, None, is_some, not, filter}
+use Rattle.std.specs.Option.{option_map}
+use Rattle.std.specs.FinMap as fin
+use Rattle.hurd_creds.specs.declared.name.Name.{Name}
+use Rattle.hurd_creds.specs.declared.mode.Mode.{Mode}
+use Rattle.hurd_creds.specs.Names.{same_name, name_cmp}
+use Rattle.hurd_creds.specs.NameMaps.{NameMap, place_by}
+use Rattle.hurd_creds.proofs.NameLaws.{same_map_by, same_or_apart, same_name-itself, same_name-apart, get_here, get_apart, remove_here, remove_apart}
+use Rattle.hurd_creds.proofs.KeyedLaws.{contains-place, keyed-push}
+use Rattle.hurd_creds.proofs.MapLaws.{map_values-insert, map_values-remove}
+use Rattle.hurd_trans_iface.specs.Nodes.{NodeMap, Node}
+use Rattle.hurd_trans_iface.specs.Meaning.{Meaning, begin_root_after}
+use Rattle.hurd_nodes.specs.declared.seat.Home.{Home}
+use Rattle.hurd_nodes.specs.declared.seat.Seat.{Seat}
+use Rattle.hurd_nodes.specs.Held.{AreApart, Held, Seated, box_by, home_key, home_value, homes_of, is_home, mean, mean_seat, seat_key, seat_value, seats_of}
+use Rattle.hurd_nodes.specs.Shown.{HideNothing, NodeState, ServerInfo, attached, begun_info, begun_root, flat, info_of, is_other, node_in, nodes_of, out_server, servers_of, shown, without_server, without_value}
+use Rattle.hurd_nodes.proofs.ShownLaws.{get-nodes}
+use Rattle.hurd_nodes.proofs.PartLaws.{get-kept, kept-is, kept-here, removed-is}
+use Rattle.hurd_nodes.proofs.TableLaws.{apart-push}
+use Rattle.hurd_nodes.proofs.AnyLaws.{get-filter, kept_if}
+
+-- rows of other servers
+
+kept_value : (s : Name) (o : Option Name) → kept_if (λ q. not (same_name s q)) o ≡ cond (not (is_home s o)) o None
+kept_value s None = refl
+kept_value s (Some q) = refl
+
+pub homes-filter : (s : Name) (hs : List Home) → AreApart home_key hs → homes_of (filter (λ (x : Home). not (same_name s x.server)) hs) ≡ without_value s (homes_of hs)
+unfolding homes_of
+homes-filter s hs apart = same_map_by _ _ (λ n.
+    get-filter home_key home_value (λ q. not (same_name s q)) hs apart n ∙ kept_value s (fin.get (homes_of hs) n)
+    ∙ sym (get-kept (homes_of hs) (is_other s (homes_of hs)) n))
+
+-- a seat more, of a server that has left
+
+module _ {S : Type 0} (before ss : List (Seat S)) (x : Seat S) (out : seats_of ss ≡ fin.remove (seats_of before) x.name) where
+  seat_gone : fin.get (seats_of ss) x.name ≡ None
+  seat_gone = ap (λ (m : NameMap (Seated S)). fin.get m x.name) out ∙ remove_here (seats_of before) x.name
+
+  pub seat-pushed : seats_of (ss ++ x ∷ []) ≡ fin.insert (fin.remove (seats_of before) x.name) x.name (seat_value x)
+  unfolding seats_of
+  seat-pushed = keyed-push seat_key seat_value ss x seat_gone ∙ ap (λ (m : NameMap (Seated S)). fin.insert m x.name (seat_value x)) out
+
+  none_if : (o : Option ℕ) → is_some o ≡ false → o ≡ None
+  none_if None h = refl
+  none_if (Some i) h = absurd (cc)
+
+  pub seat-apart : AreApart seat_key ss → AreApart seat_key (ss ++ x ∷ [])
+  unfolding seats_of
+  seat-apart apart = apart-push seat_key ss x (none_if (place_by seat_key x.name ss) (contains-place seat_key seat_value x.name ss ∙ ap (λ (o : Option (Seated S)). is_some o) seat_gone)) apart
+
+-- without a server
+
+module _ (homes : NameMap Name) (seats : NameMap (Seated Meaning)) (s : Name) where
+  left_at : (q : Name) (o : Option Name) → node_in q (box_by (fin.remove seats s) (cond (not (is_home s o)) o None)) ≡ cond (not (is_home s o)) (node_in q (box_by seats o)) None
+  left_at q None = refl
+  left_at q (Some p) = elim (same_or_apart p s) [
+    | inl here ↦ rw (here, same_name-itself s) refl
+    | inr apart ↦ rw (same_name-apart s p (λ e. apart (sym e)), remove_apart seats s p apart) refl
+  ]
+
+  nodes-left : nodes_of (without_value s homes) (fin.remove seats s) ≡ fin.retain_keys (nodes_of homes seats) (is_other s homes)
+  nodes-left = same_map_by _ _ (λ q.
+      get-nodes (without_value s homes) (fin.remove seats s) q ∙ ap (λ (o : Option Name). node_in q (box_by (fin.remove seats s) o)) (get-kept homes (is_other s homes) q)
+      ∙ left_at q (fin.get homes q)
+      ∙ sym (get-kept (nodes_of homes seats) (is_other s homes) q ∙ ap (λ (o : Option Node). cond (is_other s homes q) o None) (get-nodes homes seats q)))
+
+  servers-left : servers_of (fin.remove seats s) ≡ fin.remove (servers_of seats) s
+  unfolding servers_of
+  servers-left = map_values-remove info_of seats s
+
+mean-less : {S : Type 0} (f : S → Meaning) (seats : NameMap (Seated S)) (s : Name) → mean f (fin.remove seats s) ≡ fin.remove (mean f seats) s
+unfolding mean
+mean-less f seats s = map_values-remove (mean_seat f) seats s
+
+pub taken-server : {S : Type 0} (f : S → Meaning) (t : Held S) (s : Name) → shown f (without_server t s) ≡ out_server s (shown f t)
+taken-server f t s =
+    ap (flat (without_value s t.homes) (without_value s t.actives)) (mean-less f t.seats s)
+    ∙ ap₂ (λ (ns : NodeMap) (ss : NameMap ServerInfo). let h : NodeState = record { nodes = ns; homes = without_value s t.homes; actives = without_value s t.actives; servers = ss } in h)
+    (nodes-left t.homes (mean f t.seats) s) (servers-left t.homes (mean f t.seats) s)
+
+-- another server's nodes keep their home
+other_value : (s p : Name) (homes : NameMap Name) (q : Name) → p ≢ s → fin.get homes q ≡ Some p → fin.get (without_value s homes) q ≡ Some p
+other_value s p homes q apart is = kept-here homes (is_other s homes) q p (ap (λ (o : Option Name). not (is_home s o)) is ∙ ap not (same_name-apart s p (λ e. apart (sym e)))) is
+
+-- its boxes hide nothing more
+pub hides-left : {S : Type 0} (f : S → Meaning) (t : Held S) (s : Name) → HideNothing f t → HideNothing f (without_server t s)
+hides-left f t s hides p q e is there =
+    let r = removed-is (mean f t.seats) s p e (ap (λ (m : NameMap (Seated Meaning)). fin.get m p) (sym (mean-less f t.seats s)) ∙ is) in
+    other_value s p t.homes q r.0 (hides p q e r.1 there)
+
+-- with a server, of which nothing is there yet, and its root
+
+module _ (homes actives : NameMap Name) (seats : NameMap (Seated Meaning)) (s at root : Name) (x : Node) (e : Seated Meaning) (one : e.server.nodes ≡ fin.insert fin.empty root x)
+    (homeless : (q : Name) → fin.get homes q ≢ Some s) where
+  abbrev seats_after : NameMap (Seated Meaning)
+  seats_after = fin.insert seats s e
+
+  root_here : fin.get (nodes_of (fin.insert homes root s) seats_after) root ≡ Some x
+  root_here =
+      get-nodes (fin.insert homes root s) seats_after root ∙ ap (λ (o : Option Name). node_in root (box_by seats_after o)) (get_here homes root s)
+      ∙ ap (λ (o : Option (Seated Meaning)). node_in root (option_map (λ (y : Seated Meaning). y.server) o)) (get_here seats s e)
+      ∙ ap (λ (m : NodeMap). fin.get m root) one ∙ get_here {X = Node} fin.empty root x
+
+  other_at : (q : Name) (o : Option Name) → fin.get homes q ≡ o → node_in q (box_by seats_after o) ≡ node_in q (box_by seats o)
+  other_at q None is = refl
+  other_at q (Some p) is = rw (get_apart seats s e p (λ same. homeless q (is ∙ ap Some same))) refl
+
+  nodes-attached : nodes_of (fin.insert homes root s) seats_after ≡ fin.insert (nodes_of homes seats) root x
+  nodes-attached = same_map_by _ _ (λ q. elim (same_or_apart q root) [
+    | inl here ↦ rw here (root_here ∙ sym (get_here (nodes_of homes seats) root x))
+    | inr apart ↦
+        get-nodes (fin.insert homes root s) seats_after q ∙ ap (λ (o : Option Name). node_in q (box_by seats_after o)) (get_apart homes root s q apart)
+        ∙ other_at q (fin.get homes q) refl
+        ∙ sym (get_apart (nodes_of homes seats) root x q apart ∙ get-nodes homes seats q)
+  ])
+
+  servers-attached : servers_of seats_after ≡ fin.insert (servers_of seats) s (info_of e)
+  unfolding servers_of
+  servers-attached = map_values-insert info_of seats s e
+
+  abbrev with_rows : NodeMap → NameMap ServerInfo → NodeState
+  with_rows ns ss = record { nodes = ns; homes = fin.insert homes root s; actives = fin.insert actives at s; servers = ss }
+
+  flat-attached : flat (fin.insert homes root s) (fin.insert actives at s) seats_after ≡ with_rows (fin.insert (nodes_of homes seats) root x) (fin.insert (servers_of seats) s (info_of e))
+  flat-attached = ap₂ with_rows nodes-attached servers-attached
+
+  alone : (q : Name) → is_some (fin.get e.server.nodes q) ≡ true → q ≡ root
+  alone q there = elim (same_or_apart q root) [
+    | inl here ↦ here
+    | inr apart ↦
+        absurd (true≢false (sym there ∙ ap (λ (m : NodeMap). is_some (fin.get m q)) one
+        ∙ ap (λ (o : Option Node). is_some o) (get_apart {X = Node} fin.empty root x q apart ∙ fin.get-empty name_cmp q)))
+  ]
+
+  some_same : {A : Type 0} {a b : A} → Some a ≡ Some b → a ≡ b
+  some_same h = cc
+
+  -- its box has its root alone, which no other has
+  tells-attached : fin.get homes root ≡ None → ((p q : Name) (y : Seated Meaning) → fin.get seats p ≡ Some y → is_some (fin.get y.server.nodes q) ≡ true → fin.get homes q ≡ Some p)
+      → (p q : Name) (y : Seated Meaning) → fin.get seats_after p ≡ Some y → is_some (fin.get y.server.nodes q) ≡ true → fin.get (fin.insert homes root s) q ≡ Some p
+  tells-attached fresh tells p q y is there = elim (same_or_apart p s) [
+    | inl here ↦
+        let same : e ≡ y = some_same (sym (get_here seats s e) ∙ ap (fin.get seats_after) (sym here) ∙ is) in
+        let at_root = alone q (ap (λ (z : Seated Meaning). is_some (fin.get z.server.nodes q)) same ∙ there) in
+        ap (fin.get (fin.insert homes root s)) at_root ∙ get_here homes root s ∙ ap Some (sym here)
+    | inr other ↦
+        let home = tells p q y (sym (get_apart seats s e p other) ∙ is) there in
+        get_apart homes root s q (λ here. let none : None ≡ Some p = sym fresh ∙ ap (fin.get homes) (sym here) ∙ home in absurd (cc)) ∙ home
+  ]
+
+-- of the server that takes the place of one of its name
+
+no_home : (s : Name) (homes : NameMap Name) (q : Name) → fin.get (without_value s homes) q ≢ Some s
+no_home s homes q is =
+    let both = kept-is homes (is_other s homes) q s is in
+    true≢false (sym both.0 ∙ ap (λ (o : Option Name). not (is_home s o)) both.1 ∙ ap not (same_name-itself s))
+
+none_left : (s : Name) (homes : NameMap Name) (q : Name) → fin.get homes q ≡ None → fin.get (without_value s homes) q ≡ None
+none_left s homes q is = get-kept homes (is_other s homes) q ∙ rw is refl
+
+module _ {S : Type 0} (f : S → Meaning) (t : Held S) (s at : Name) (e : Seated S) (m : Meaning) (owner group : ℕ) (mode : Mode)
+    (bare : m.nodes ≡ fin.empty) (begun : f e.server ≡ begin_root_after m e.root owner group mode) where
+  abbrev left : Held S
+  left = without_server t s
+
+  one_node : (f e.server).nodes ≡ fin.insert fin.empty e.root (begun_root m owner group mode)
+  one_node = ap (λ (y : Meaning). y.nodes) begun ∙ ap (λ (ns : NodeMap). fin.insert ns e.root (begun_root m owner group mode)) bare
+
+  info_is : info_of (mean_seat f e) ≡ begun_info m e.root e.ids
+  info_is = ap (λ (y : Meaning). begun_info y e.root e.ids) begun
+
+  mean-more : mean f (fin.insert left.seats s e) ≡ fin.insert (mean f left.seats) s (mean_seat f e)
+  unfolding mean
+  mean-more = map_values-insert (mean_seat f) left.seats s e
+
+  pub attached-shown : flat (fin.insert left.homes e.root s) (fin.insert left.actives at s) (mean f (fin.insert left.seats s e))
+      ≡ attached s at (begun_info m e.root e.ids) (begun_root m owner group mode) (shown f t)
+  attached-shown =
+      ap (flat (fin.insert left.homes e.root s) (fin.insert left.actives at s)) mean-more
+      ∙ flat-attached left.homes left.actives (mean f left.seats) s at e.root (begun_root m owner group mode) (mean_seat f e) one_node (no_home s t.homes)
+      ∙ ap₂ (λ (h : NodeState) (i : ServerInfo). let k : NodeState = record { nodes = fin.insert h.nodes e.root (begun_root m owner group mode); homes = fin.insert h.homes e.root s; actives = fin.insert h.actives at s; servers = fin.insert h.servers s i } in k)
+      (taken-server f t s) info_is
+
+  pub attached-hides : fin.get t.homes e.root ≡ None → HideNothing f t
+      → (p q : Name) (y : Seated Meaning) → fin.get (mean f (fin.insert left.seats s e)) p ≡ Some y → is_some (fin.get y.server.nodes q) ≡ true → fin.get (fin.insert left.homes e.root s) q ≡ Some p
+  attached-hides fresh hides p q y is there =
+      tells-attached left.homes left.actives (mean f left.seats) s at e.root (begun_root m owner group mode) (mean_seat f e) one_node (no_home s t.homes)
+      (none_left s t.homes e.root fresh) (hides-left f t s hides) p q y (ap (λ (k : NameMap (Seated Meaning)). fin.get k p) (sym mean-more) ∙ is) there
+
+-- the same tables show the same
+pub flat-same : {S : Type 0} (f : S → Meaning) {h k at bt : NameMap Name} {s t : NameMap (Seated S)} → h ≡ k → at ≡ bt → s ≡ t → flat h at (mean f s) ≡ flat k bt (mean f t)
+flat-same f homes actives seats i = flat (homes i) (actives i) (mean f (seats i))

@@ -1,0 +1,7 @@
+use Rattle.std.proofs.Common.{ap}
+use Rattle.hurd_nodes.specs.Held.{Held}
+use Rattle.hurd_nodes.specs.Shown.{without_server}
+use Rattle.hurd_nodes.proofs.nodes.Nodes.take_server.Goals as goal
+
+pub returns : goal.returns
+returns g c = rw (c.remove_homes_of.ensures.is, c.remove_homes_of-2.ensures.is, c.remove_seat.ensures.is) (ap (λ (t : Held _). without_server t c.args.server) c.self.view_is)
