@@ -17,9 +17,9 @@ use Rattle.hurd_nodes.proofs.TableLaws.{none-filter}
 use Rattle.hurd_nodes.proofs.PartLaws.{or_cases, or_left, or_right, same_bool, any_in-here, any_in-found}
 
 -- what passes
-abbrev pub kept_if : {V : Type 0} → (V → Bool) → Option V → Option V
-kept_if p None = None
-kept_if p (Some v) = cond (p v) (Some v) None
+abbrev pub kept_if : {V : Type 0} → (Name → V → Bool) → Name → Option V → Option V
+kept_if p n None = None
+kept_if p n (Some v) = cond (p n v) (Some v) None
 
 not_false : (b : Bool) → (not b ≡ true → ⊥) → b ≡ true
 not_false true h = refl
@@ -96,18 +96,18 @@ module _ {X V : Type 0} (key : X → Name) (value : X → V) where
   none_kept : (p : X → Bool) (n : Name) (xs : List X) → place_by key n xs ≡ None → fin.get (keyed key value (filter p xs)) n ≡ None
   none_kept p n xs none = get-absent key value n (filter p xs) (sym (none-filter key p n xs none))
 
-  -- those that pass a test of their values
-  pub get-filter : (p : V → Bool) (xs : List X) → AreApart key xs → (n : Name) → fin.get (keyed key value (filter (λ x. p (value x)) xs)) n ≡ kept_if p (fin.get (keyed key value xs) n)
-  get-filter p [] apart n = get-keyed key value [] n ∙ sym (ap (kept_if p) (get-keyed key value [] n))
-  get-filter p (x ∷ xs) apart n = by (p (value x)) refl (get-filter p xs apart.1 n)
+  -- those that pass a test
+  pub get-filter : (p : Name → V → Bool) (xs : List X) → AreApart key xs → (n : Name) → fin.get (keyed key value (filter (λ x. p (key x) (value x)) xs)) n ≡ kept_if p n (fin.get (keyed key value xs) n)
+  get-filter p [] apart n = get-keyed key value [] n ∙ sym (ap (kept_if p n) (get-keyed key value [] n))
+  get-filter p (x ∷ xs) apart n = by (p (key x) (value x)) refl (get-filter p xs apart.1 n)
     where
-      by : (b : Bool) → p (value x) ≡ b → fin.get (keyed key value (filter (λ x. p (value x)) xs)) n ≡ kept_if p (fin.get (keyed key value xs) n)
-          → fin.get (keyed key value (cond b (x ∷ filter (λ x. p (value x)) xs) (filter (λ x. p (value x)) xs))) n ≡ kept_if p (fin.get (keyed key value (x ∷ xs)) n)
+      by : (b : Bool) → p (key x) (value x) ≡ b → fin.get (keyed key value (filter (λ x. p (key x) (value x)) xs)) n ≡ kept_if p n (fin.get (keyed key value xs) n)
+          → fin.get (keyed key value (cond b (x ∷ filter (λ x. p (key x) (value x)) xs) (filter (λ x. p (key x) (value x)) xs))) n ≡ kept_if p n (fin.get (keyed key value (x ∷ xs)) n)
       by true is rest = elim (same_or_apart n (key x)) [
-        | inl here ↦ rw (here, get-first x (filter (λ x. p (value x)) xs), get-first x xs, is) refl
-        | inr apart ↦ get-rest x (filter (λ x. p (value x)) xs) n apart ∙ rest ∙ sym (ap (kept_if p) (get-rest x xs n apart))
+        | inl here ↦ rw (here, get-first x (filter (λ x. p (key x) (value x)) xs), get-first x xs, is) refl
+        | inr apart ↦ get-rest x (filter (λ x. p (key x) (value x)) xs) n apart ∙ rest ∙ sym (ap (kept_if p n) (get-rest x xs n apart))
       ]
       by false is rest = elim (same_or_apart n (key x)) [
-        | inl here ↦ rw (here, none_kept (λ x. p (value x)) (key x) xs apart.0, get-first x xs, is) refl
-        | inr apart ↦ rest ∙ sym (ap (kept_if p) (get-rest x xs n apart))
+        | inl here ↦ rw (here, none_kept (λ x. p (key x) (value x)) (key x) xs apart.0, get-first x xs, is) refl
+        | inr apart ↦ rest ∙ sym (ap (kept_if p n) (get-rest x xs n apart))
       ]

@@ -1,5 +1,5 @@
 -- What is shown after a server took its place, or went.
-use Rattle.std.proofs.Common.{◌≡◌, ◌≢◌, inl, inr, ℕ, Bool, true, false, cond, List, [], ◌∷◌, ◌++◌, refl, sym, ap, ap₂, ◌∙◌, true≢false}
+use Rattle.std.proofs.Common.{◌≡◌, ◌≢◌, ◌&&◌, inl, inr, ℕ, Bool, true, false, cond, List, [], ◌∷◌, ◌++◌, refl, sym, ap, ap₂, ◌∙◌, true≢false}
 use Rattle.std.specs.Prelude.{Option, Some, None, is_some, not, filter}
 use Rattle.std.specs.Option.{option_map}
 use Rattle.std.specs.FinMap as fin
@@ -15,7 +15,7 @@ use Rattle.hurd_trans_iface.specs.Meaning.{Meaning, begin_root_after}
 use Rattle.hurd_nodes.specs.declared.seat.Home.{Home}
 use Rattle.hurd_nodes.specs.declared.seat.Seat.{Seat}
 use Rattle.hurd_nodes.specs.Held.{AreApart, Held, Seated, box_by, home_key, home_value, homes_of, is_home, mean, mean_seat, seat_key, seat_value, seats_of}
-use Rattle.hurd_nodes.specs.Shown.{HideNothing, NodeState, ServerInfo, attached, begun_info, begun_root, flat, info_of, is_other, node_in, nodes_of, out_server, servers_of, shown, without_server, without_value}
+use Rattle.hurd_nodes.specs.Shown.{HideNothing, NodeState, ServerInfo, attached, begun_info, begun_root, flat, info_of, is_other, is_other_seat, without_seats, node_in, nodes_of, out_server, servers_of, shown, without_server, without_value}
 use Rattle.hurd_nodes.proofs.ShownLaws.{get-nodes}
 use Rattle.hurd_nodes.proofs.PartLaws.{get-kept, kept-is, kept-here, removed-is}
 use Rattle.hurd_nodes.proofs.TableLaws.{apart-push}
@@ -23,15 +23,30 @@ use Rattle.hurd_nodes.proofs.AnyLaws.{get-filter, kept_if}
 
 -- rows of other servers
 
-kept_value : (s : Name) (o : Option Name) → kept_if (λ q. not (same_name s q)) o ≡ cond (not (is_home s o)) o None
-kept_value s None = refl
-kept_value s (Some q) = refl
+kept_value : (s n : Name) (o : Option Name) → kept_if (λ m q. not (same_name s q)) n o ≡ cond (not (is_home s o)) o None
+kept_value s n None = refl
+kept_value s n (Some q) = refl
+
+kept_seat : (s : Name) (homes : NameMap Name) (n : Name) (o : Option Name) → kept_if (λ m q. is_other s homes m && not (same_name s q)) n o ≡ cond (is_other s homes n && not (is_home s o)) o None
+kept_seat s homes n (Some q) = refl
+kept_seat s homes n None = go (is_other s homes n && true)
+  where
+    go : (b : Bool) → ◌≡◌ {A = Option Name} None (cond b None None)
+    go true = refl
+    go false = refl
 
 pub homes-filter : (s : Name) (hs : List Home) → AreApart home_key hs → homes_of (filter (λ (x : Home). not (same_name s x.server)) hs) ≡ without_value s (homes_of hs)
 unfolding homes_of
 homes-filter s hs apart = same_map_by _ _ (λ n.
-    get-filter home_key home_value (λ q. not (same_name s q)) hs apart n ∙ kept_value s (fin.get (homes_of hs) n)
+    get-filter home_key home_value (λ m q. not (same_name s q)) hs apart n ∙ kept_value s n (fin.get (homes_of hs) n)
     ∙ sym (get-kept (homes_of hs) (is_other s (homes_of hs)) n))
+
+pub seats-filter : (s : Name) (homes : NameMap Name) (hs : List Home) → AreApart home_key hs
+    → homes_of (filter (λ (x : Home). is_other s homes x.node && not (same_name s x.server)) hs) ≡ without_seats s homes (homes_of hs)
+unfolding homes_of
+seats-filter s homes hs apart = same_map_by _ _ (λ n.
+    get-filter home_key home_value (λ m q. is_other s homes m && not (same_name s q)) hs apart n ∙ kept_seat s homes n (fin.get (homes_of hs) n)
+    ∙ sym (get-kept (homes_of hs) (is_other_seat s homes (homes_of hs)) n))
 
 -- a seat more, of a server that has left
 
@@ -77,8 +92,8 @@ mean-less f seats s = map_values-remove (mean_seat f) seats s
 
 pub taken-server : {S : Type 0} (f : S → Meaning) (t : Held S) (s : Name) → shown f (without_server t s) ≡ out_server s (shown f t)
 taken-server f t s =
-    ap (flat (without_value s t.homes) (without_value s t.actives)) (mean-less f t.seats s)
-    ∙ ap₂ (λ (ns : NodeMap) (ss : NameMap ServerInfo). let h : NodeState = record { nodes = ns; homes = without_value s t.homes; actives = without_value s t.actives; servers = ss } in h)
+    ap (flat (without_value s t.homes) (without_seats s t.homes t.actives)) (mean-less f t.seats s)
+    ∙ ap₂ (λ (ns : NodeMap) (ss : NameMap ServerInfo). let h : NodeState = record { nodes = ns; homes = without_value s t.homes; actives = without_seats s t.homes t.actives; servers = ss } in h)
     (nodes-left t.homes (mean f t.seats) s) (servers-left t.homes (mean f t.seats) s)
 
 -- another server's nodes keep their home

@@ -8,10 +8,10 @@ use Rattle.hurd_creds.specs.NameMaps.{NameMap}
 use Rattle.hurd_creds.proofs.NameLaws.{equal_if_same, remove_here, remove_apart}
 use Rattle.hurd_trans_iface.specs.Nodes.{Node}
 use Rattle.hurd_nodes.specs.Held.{is_home}
-use Rattle.hurd_nodes.specs.Shown.{NodeState, ServerInfo, boot_name, is_other, out_node, out_server}
+use Rattle.hurd_nodes.specs.Shown.{NodeState, ServerInfo, boot_name, is_other, is_other_seat, out_node, out_server}
 use Rattle.hurd_nodes.specs.Settle.{Outside, any_in, server_stays, is_entered_at, node_stays, stays_by, stays_with, size, sweep, sweeps, settle}
 use Rattle.hurd_nodes.specs.Parts.{IsWithin, IsPart, IsSettlement, TakesOut}
-use Rattle.hurd_nodes.proofs.PartLaws.{or_left, or_right, or_mono, and_mono, and_both, any_in-here, any_in-mono, within-both, within-len, within-or, kept-is, kept-here, kept-within, kept-all, removed-within}
+use Rattle.hurd_nodes.proofs.PartLaws.{and_true, or_left, or_right, or_mono, and_mono, and_both, any_in-here, any_in-mono, within-both, within-len, within-or, kept-is, kept-here, kept-within, kept-all, removed-within}
 
 -- parts
 
@@ -163,7 +163,9 @@ module _ (o : Outside) (h : NodeState) where
     out_server-part = record {
       nodes = λ q x is. let both = kept-is h.nodes (node_stays o h) q x is in kept-here h.nodes (is_other s h.homes) q x (other_home q both.0) both.1;
       homes = λ q x is. let both = kept-is h.homes (node_stays o h) q x is in kept-here h.homes (is_other s h.homes) q x (other_home q both.0) both.1;
-      actives = λ q x is. kept-here h.actives (is_other s h.actives) q x (other_active q) (kept-within h.actives (node_stays o h) q x is);
+      actives = λ q x is.
+          let both = kept-is h.actives (node_stays o h) q x is in
+          kept-here h.actives (is_other_seat s h.homes h.actives) q x (and_true (is_other s h.homes q) (is_other s h.actives q) (other_home q both.0) (other_active q)) both.1;
       servers = left_apart (server_stays o h) s gone h.servers;
     }
 
@@ -174,7 +176,7 @@ module _ (o : Outside) (h : NodeState) where
   out_server-less s = record {
     nodes = kept-within h.nodes (is_other s h.homes);
     homes = kept-within h.homes (is_other s h.homes);
-    actives = kept-within h.actives (is_other s h.actives);
+    actives = kept-within h.actives (is_other_seat s h.homes h.actives);
     servers = removed-within h.servers s;
   }
 

@@ -1,5 +1,5 @@
 -- What the core shows of its servers: flat maps of nodes and servers.
-use Rattle.std.specs.Prelude.{◌≡◌, ℕ, Bool, true, false, not, if◌then◌else◌, is_some, List, [], ◌∷◌, Option, Some, None, Result, Ok, Err}
+use Rattle.std.specs.Prelude.{◌≡◌, ℕ, Bool, true, false, not, ◌&&◌, if◌then◌else◌, is_some, List, [], ◌∷◌, Option, Some, None, Result, Ok, Err}
 use Rattle.std.specs.Option.{option_map}
 use Rattle.std.specs.FinMap as fin
 use Rattle.std.specs.FinSet as set
@@ -277,18 +277,26 @@ is_other s m n = not (is_home s (fin.get m n))
 abbrev pub without_value : Name → NameMap Name → NameMap Name
 without_value s m = fin.retain_keys m (is_other s m)
 
+-- the names of nodes that are not of a server, and on which it isn't active
+abbrev pub is_other_seat : Name → NameMap Name → NameMap Name → Name → Bool
+is_other_seat s homes actives n = is_other s homes n && is_other s actives n
+
+-- what is active on those
+abbrev pub without_seats : Name → NameMap Name → NameMap Name → NameMap Name
+without_seats s homes actives = fin.retain_keys actives (is_other_seat s homes actives)
+
 -- without a server, which takes its nodes with it, and leaves its seat
 abbrev pub out_server : Name → NodeState → NodeState
 out_server s h = record {
   nodes = fin.retain_keys h.nodes (is_other s h.homes);
   homes = without_value s h.homes;
-  actives = without_value s h.actives;
+  actives = without_seats s h.homes h.actives;
   servers = fin.remove h.servers s;
 }
 
 -- without a server, its box and its nodes
 abbrev pub without_server : {S : Type 0} → Held S → Name → Held S
-without_server h s = record h { homes = without_value s h.homes; actives = without_value s h.actives; seats = fin.remove h.seats s }
+without_server h s = record h { homes = without_value s h.homes; actives = without_seats s h.homes h.actives; seats = fin.remove h.seats s }
 
 -- without the one that is active on a node
 abbrev pub without_active : {S : Type 0} → Held S → Name → Held S

@@ -15,7 +15,7 @@ ghost use Rattle.hurd_nodes.specs.Parts.{TakesOut};
 
 use crate::search::{
     has_held, home_of, is_active, is_controlled, is_held, place_of_seat, place_of_server, put_home,
-    remove_hold, remove_home, remove_homes_of, remove_seat, repeated, reserve_rows, users_among,
+    remove_hold, remove_home, remove_homes_of, remove_seat, remove_seats_of, repeated, reserve_rows, users_among,
 };
 use crate::seat::{Hold, Home, Place, Seat};
 use bitflags::Flags;
@@ -524,8 +524,8 @@ impl<S: Server> Nodes<S> {
         if reserve_rows(&mut self.homes, &mut self.actives, &mut self.seats).is_err() {
             return Err((Errno::ENOMEM, server));
         }
+        remove_seats_of(&mut self.actives, &self.homes, place.name);
         remove_homes_of(&mut self.homes, place.name);
-        remove_homes_of(&mut self.actives, place.name);
         remove_seat(&mut self.seats, place.name);
         let mut server = server;
         server.begin_root(place.root, place.owner, place.group, place.mode);
@@ -686,8 +686,8 @@ impl<S: Server> Nodes<S> {
     fn take_server(&mut self, server: ServerName)
         ensures { self.new ≡ without_server self.old server }
     {
+        remove_seats_of(&mut self.actives, &self.homes, server);
         remove_homes_of(&mut self.homes, server);
-        remove_homes_of(&mut self.actives, server);
         remove_seat(&mut self.seats, server);
     }
 

@@ -4,8 +4,8 @@ ghost use Rattle.std.specs.List.{list_any, remove};
 ghost use Rattle.std.specs.FinMap as fin;
 ghost use Rattle.hurd_creds.specs.Names.{same_name};
 ghost use Rattle.hurd_creds.specs.NameMaps.{place_by};
-ghost use Rattle.hurd_nodes.specs.Held.{AreApart, home_key, homes_of, is_controlled, is_held, is_user, less_one, names_node, names_server, place_in, same_hold, seat_key, seats_of, users_in};
-ghost use Rattle.hurd_nodes.specs.Shown.{without_value};
+ghost use Rattle.hurd_nodes.specs.Held.{AreApart, home_key, homes_of, is_controlled, is_held, is_user, less_one, names_node, names_server, place_in, same_hold, seat_key, seats_of, users_in, is_home};
+ghost use Rattle.hurd_nodes.specs.Shown.{without_seats, without_value};
 
 use crate::seat::{Hold, Home, Seat};
 use hurd_creds::{NodeName, ServerName};
@@ -87,6 +87,29 @@ pub(crate) fn remove_homes_of(homes: &mut Vec<Home>, server: ServerName)
     ensures capacity { vec_capacity homes.new ≡ vec_capacity homes.old }
 {
     homes.retain(|home| server != home.server);
+}
+
+/// Whether a node is of a server.
+fn is_served(homes: &[Home], node: NodeName, server: ServerName) -> bool
+    ensures { result ≡ is_home server (fin.get (homes_of homes.now) node) }
+{
+    match home_of(homes, node) {
+        Some(home) => server == home,
+        None => false,
+    }
+}
+
+/// Takes out what is active on nodes of this server, and this server where it is active.
+pub(crate) fn remove_seats_of(actives: &mut Vec<Home>, homes: &[Home], server: ServerName)
+    requires { AreApart home_key actives.old.items }
+    ensures is { homes_of actives.new.items ≡ without_seats server (homes_of homes.now) (homes_of actives.old.items) }
+    ensures apart { AreApart home_key actives.new.items }
+    ensures len { vec_len actives.new ≤ vec_len actives.old }
+    ensures capacity { vec_capacity actives.new ≡ vec_capacity actives.old }
+{
+    actives.retain(|active| {
+        !is_served(homes, active.node, server) && server != active.server
+    });
 }
 
 /// Takes out the seat of a server, with its box.

@@ -1,4 +1,4 @@
-use Rattle.std.proofs.Common.{◌≡◌, List, ap, ◌∙◌}
+use Rattle.std.proofs.Common.{◌≡◌, List, ap, ap₂, ◌∙◌}
 use Rattle.std.specs.FinMap as fin
 use Rattle.hurd_trans_iface.proofs.Beginnings.{begun-empty, begun-rootless}
 use Rattle.hurd_creds.specs.declared.name.Name.{Name}
@@ -6,7 +6,7 @@ use Rattle.hurd_creds.specs.NameMaps.{NameMap}
 use Rattle.hurd_nodes.specs.declared.seat.Home.{Home}
 use Rattle.hurd_nodes.specs.declared.seat.Seat.{Seat}
 use Rattle.hurd_nodes.specs.Held.{Held, Seated, held_of, homes_of, seat_value, seats_of, spare_of}
-use Rattle.hurd_nodes.specs.Shown.{attached, begun_info, begun_root, shown, without_value}
+use Rattle.hurd_nodes.specs.Shown.{attached, begun_info, begun_root, shown, without_seats, without_value}
 use Rattle.hurd_nodes.proofs.AttachLaws.{flat-same, attached-shown, attached-hides, seat-pushed, seat-apart}
 use Rattle.hurd_nodes.proofs.nodes.Nodes.attach.Given as given
 use Rattle.hurd_nodes.proofs.nodes.Nodes.attach.Goals as goal
@@ -26,7 +26,7 @@ invariant_of-self-2 g c =
     let seats = c.remove_seat.ensures.apart (rw c.reserve_rows.ensures.seats c.self.invariant.seats_apart) in
     record {
       homes_apart = c.put_home.ensures.apart c.remove_homes_of.ensures.apart;
-      actives_apart = c.put_home-2.ensures.apart c.remove_homes_of-2.ensures.apart;
+      actives_apart = c.put_home-2.ensures.apart c.remove_seats_of.ensures.apart;
       seats_apart = rw c.push_reserved.ensures.items (seat-apart c.reserve_rows.new.seats.items c.remove_seat.new.seats.items (new g c) c.remove_seat.ensures.is seats);
     }
 
@@ -42,10 +42,11 @@ housed g c =
     c.put_home.ensures.is ∙ ap (λ (m : NameMap Name). fin.insert m c.args.place.root c.args.place.name) c.remove_homes_of.ensures.is
     ∙ ap (λ (hs : List Home). fin.insert (without_value c.args.place.name (homes_of hs)) c.args.place.root c.args.place.name) c.reserve_rows.ensures.homes
 
-seated : (g : given.Over) (c : goal.After-push_reserved g) → homes_of c.put_home-2.new.homes.items ≡ fin.insert (without_value c.args.place.name (homes_of c.self.inside.actives.items)) c.args.place.seat c.args.place.name
+seated : (g : given.Over) (c : goal.After-push_reserved g) → homes_of c.put_home-2.new.homes.items
+    ≡ fin.insert (without_seats c.args.place.name (homes_of c.self.inside.homes.items) (homes_of c.self.inside.actives.items)) c.args.place.seat c.args.place.name
 seated g c =
-    c.put_home-2.ensures.is ∙ ap (λ (m : NameMap Name). fin.insert m c.args.place.seat c.args.place.name) c.remove_homes_of-2.ensures.is
-    ∙ ap (λ (hs : List Home). fin.insert (without_value c.args.place.name (homes_of hs)) c.args.place.seat c.args.place.name) c.reserve_rows.ensures.actives
+    c.put_home-2.ensures.is ∙ ap (λ (m : NameMap Name). fin.insert m c.args.place.seat c.args.place.name) c.remove_seats_of.ensures.is
+    ∙ ap₂ (λ (hs rows : List Home). fin.insert (without_seats c.args.place.name (homes_of hs) (homes_of rows)) c.args.place.seat c.args.place.name) (c.deref.ensures.value ∙ c.reserve_rows.ensures.homes) c.reserve_rows.ensures.actives
 
 abbrev old : (g : given.Over) (c : goal.After-push_reserved g) → Held g.row.S.Denot
 old g c = held_of c.self.inside.homes.items c.self.inside.actives.items c.self.inside.seats.items c.self.inside.holds.items (spare_of c.self.inside.holds)
