@@ -5,7 +5,7 @@ use Rattle.hurd_creds.specs.declared.name.Name.{Name}
 use Rattle.hurd_creds.specs.NameMaps.{NameMap}
 use Rattle.hurd_nodes.specs.declared.seat.Home.{Home}
 use Rattle.hurd_nodes.specs.declared.seat.Seat.{Seat}
-use Rattle.hurd_nodes.specs.Held.{Held, Seated, held_of, homes_of, seat_value, seats_of, spare_of}
+use Rattle.hurd_nodes.specs.Held.{Held, held_of, homes_of, seat_value, seats_of, spare_of}
 use Rattle.hurd_nodes.specs.Shown.{attached, begun_info, begun_root, shown, without_value}
 use Rattle.hurd_nodes.proofs.AttachLaws.{flat-same, attached-shown, attached-hides, seat-pushed, seat-apart}
 use Rattle.hurd_nodes.proofs.nodes.Nodes.attach.Given as given
