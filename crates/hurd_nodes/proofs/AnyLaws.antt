@@ -1,5 +1,5 @@
 -- Whether something in a list passes a test, and in the map that it stands for.
-use Rattle.std.proofs.Common.{◌≡◌, ◌≢◌, inl, inr, Bool, true, false, cond, ◌||◌, List, [], ◌∷◌, map, refl, sym, ap, ◌∙◌, true≢false}
+use Rattle.std.proofs.Common.{◌≡◌, ◌≢◌, inl, inr, Bool, true, false, cond, List, [], ◌∷◌, map, refl, sym, ap, ◌∙◌, true≢false}
 use Rattle.std.specs.Prelude.{Option, Some, None, filter, not}
 use Rattle.std.specs.Option.{option_map}
 use Rattle.std.specs.List.{list_any}

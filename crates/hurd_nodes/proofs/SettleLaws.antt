@@ -1,5 +1,5 @@
 -- No take-out makes another thing stay; so what is left in the end is the same in every order.
-use Rattle.std.proofs.Common.{◌≡◌, ◌≢◌, ◌⊎◌, inl, inr, ℕ, zero, suc, ◌+◌, ◌<◌, ◌≤◌, arith, Bool, true, false, ◌||◌, ◌&&◌, refl, sym, ap, ◌∙◌, true≢false}
+use Rattle.std.proofs.Common.{◌≡◌, ◌≢◌, ◌⊎◌, inl, inr, ℕ, zero, suc, ◌<◌, ◌≤◌, arith, Bool, true, false, ◌&&◌, refl, sym, ap, ◌∙◌, true≢false}
 use Rattle.std.specs.Prelude.{Option, Some, None, not, is_some}
 use Rattle.std.specs.FinMap as fin
 use Rattle.hurd_creds.specs.declared.name.Name.{Name}

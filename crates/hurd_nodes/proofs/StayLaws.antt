@@ -7,7 +7,7 @@ use Rattle.std.specs.FinMap as fin
 use Rattle.hurd_creds.specs.declared.name.Name.{Name}
 use Rattle.hurd_creds.specs.declared.attrs.Attrs.{Attrs}
 use Rattle.hurd_creds.specs.Names.{same_name}
-use Rattle.hurd_creds.specs.NameMaps.{NameMap, keyed, place_by}
+use Rattle.hurd_creds.specs.NameMaps.{NameMap, place_by}
 use Rattle.hurd_creds.proofs.KeyedLaws.{contains-place, get-absent, get-found}
 use Rattle.hurd_creds.proofs.MapLaws.{get-map_values}
 use Rattle.hurd_trans_iface.specs.Nodes.{Node, attrs_of}

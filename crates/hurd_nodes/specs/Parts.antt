@@ -1,5 +1,5 @@
 -- Parts of what is shown, and the greatest in which all stay.
-use Rattle.std.specs.Prelude.{◌≡◌, ◌<◌, Option, Some}
+use Rattle.std.specs.Prelude.{◌≡◌, ◌<◌, Some}
 use Rattle.std.specs.FinMap as fin
 use Rattle.hurd_creds.specs.declared.name.Name.{Name}
 use Rattle.hurd_creds.specs.NameMaps.{NameMap}

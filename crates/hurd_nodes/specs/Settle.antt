@@ -1,5 +1,5 @@
 -- What stays, and what is left when all else has gone.
-use Rattle.std.specs.Prelude.{ℕ, zero, suc, ◌+◌, Bool, false, not, ◌||◌, ◌&&◌, if◌then◌else◌, is_some, nat_lt, List, Option, Some, None}
+use Rattle.std.specs.Prelude.{ℕ, zero, suc, ◌+◌, Bool, false, ◌||◌, ◌&&◌, if◌then◌else◌, is_some, nat_lt, List, Option, Some, None}
 use Rattle.std.specs.List.{list_any}
 use Rattle.std.specs.FinMap as fin
 use Rattle.hurd_creds.specs.declared.name.Name.{Name}
@@ -7,7 +7,7 @@ use Rattle.hurd_creds.specs.Names.{same_name}
 use Rattle.hurd_creds.specs.NameMaps.{NameMap}
 use Rattle.hurd_trans_iface.specs.Nodes.{Node, Header, is_dir}
 use Rattle.hurd_nodes.specs.declared.seat.Hold.{Hold}
-use Rattle.hurd_nodes.specs.Held.{is_held, is_controlled, is_home}
+use Rattle.hurd_nodes.specs.Held.{is_held, is_controlled}
 use Rattle.hurd_nodes.specs.Shown.{NodeState, ServerInfo, boot_name}
 
 -- what is named from outside: nodes, and servers

@@ -1,6 +1,5 @@
 use Rattle.std.proofs.Common.{◌≡◌, ℕ, ◌+◌, ◌≤◌, true, false, arith, sym, ◌∙◌}
 use Rattle.hurd_nodes.specs.Held.{homes_of, is_user}
-use Rattle.hurd_nodes.specs.Weights.{one_if}
 use Rattle.hurd_nodes.proofs.HoldLaws.{count-more}
 use Rattle.hurd_nodes.proofs.search.users_among.Goals as goal
 use Rattle.hurd_nodes.proofs.search.users_among.Goals.{then-is_user, else-is_user}

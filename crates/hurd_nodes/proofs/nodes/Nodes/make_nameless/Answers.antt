@@ -4,7 +4,7 @@ use Rattle.std.specs.Prelude.{Some}
 use Rattle.std.specs.FinMap as fin
 use Rattle.hurd_trans_iface.specs.Meaning.{Meaning, keeps_tree}
 use Rattle.hurd_nodes.specs.Shown.{nameless_in}
-use Rattle.hurd_nodes.specs.Held.{AreApart, homes_of, mean, mean_seat, seat_key, seat_value, seats_of}
+use Rattle.hurd_nodes.specs.Held.{homes_of, mean, mean_seat, seat_key, seat_value, seats_of}
 use Rattle.hurd_nodes.specs.declared.seat.Home.{Home}
 use Rattle.hurd_nodes.proofs.TableLaws.{apart-set}
 use Rattle.hurd_nodes.proofs.SeatLaws.{SeatAt, seat-at, seat-twice, some_same, unplaced}

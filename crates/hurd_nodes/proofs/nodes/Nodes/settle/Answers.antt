@@ -1,8 +1,8 @@
-use Rattle.std.proofs.Common.{◌≡◌, ◌∙◌, ap, List, ℕ, true}
+use Rattle.std.proofs.Common.{◌≡◌, ◌∙◌, ap, List, ℕ}
 use Rattle.hurd_nodes.specs.declared.seat.Hold.{Hold}
 use Rattle.hurd_nodes.specs.Held.{Held, holds_of}
 use Rattle.hurd_nodes.specs.Shown.{shown}
-use Rattle.hurd_nodes.specs.Settle.{Outside, outside_of}
+use Rattle.hurd_nodes.specs.Settle.{outside_of}
 use Rattle.hurd_nodes.proofs.SettleLaws.{way-taken, way-end, settled}
 use Rattle.hurd_nodes.proofs.nodes.Nodes.settle.Goals as goal
 

@@ -1,7 +1,6 @@
-use Rattle.std.proofs.Common.{◌≡◌, true, refl, ap, sym, ◌∙◌}
+use Rattle.std.proofs.Common.{◌≡◌, true, refl}
 use Rattle.std.specs.Prelude.{is_some}
 use Rattle.std.specs.FinMap as fin
-use Rattle.hurd_nodes.specs.Held.{Held}
 use Rattle.hurd_nodes.specs.Shown.{shown}
 use Rattle.hurd_nodes.specs.Settle.{outside_of}
 use Rattle.hurd_nodes.proofs.SettleLaws.{takes-home, takes-active, takes-server}
@@ -44,8 +43,8 @@ returns-in-Some-unkept_server-clause-taken g c =
     let found = c.in-Some-unkept_server.ensures.found in
     let there : is_some (fin.get c.args.self.now.seats s) ≡ true = rw (← c.self.view_is) (rw c.deref-3.ensures.value at found.1) in
     λ yes.
-        rw (c.take_server.ensures, taken-server f c.args.self.now s)
-        (takes-server (outside_of c.args.self.now.holds) (shown f c.args.self.now) s found.0 (server-there f c.args.self.now.seats s there))
+    rw (c.take_server.ensures, taken-server f c.args.self.now s)
+    (takes-server (outside_of c.args.self.now.holds) (shown f c.args.self.now) s found.0 (server-there f c.args.self.now.seats s there))
 
 pub returns-in-Some-unkept_server-clause-hidden : goal.returns-in-Some-unkept_server-clause-hidden
 returns-in-Some-unkept_server-clause-hidden g c = rw c.take_server.ensures (hides-left g.S.Server.meaning c.args.self.now c.in-Some-unkept_server.server)
