@@ -41,7 +41,7 @@ module _ (w : World) (s : Name) where
 
   pub active_was : (n q : Name) → active_at dropped n ≡ Some q → (active_at w n ≡ Some q) × (is_other s w.homes n ≡ true) × (is_other s w.actives n ≡ true)
   active_was n q e =
-      let l = was_retained w.actives (is_other_seat s (nodes_of w)) n q e in
+      let l = was_retained w.actives (is_other_seat s w.homes w.actives) n q e in
       let both = and_both (is_other s w.homes n) (is_other s w.actives n) l.1 in
       (l.0, both.0, both.1)
 
@@ -76,7 +76,7 @@ module _ (w : World) (s : Name) where
   home_yet n h = retained w.homes (is_other s w.homes) n h
 
   pub active_yet : (n : Name) → is_other s w.homes n ≡ true → is_other s w.actives n ≡ true → active_at dropped n ≡ active_at w n
-  active_yet n h k = retained w.actives (is_other_seat s (nodes_of w)) n (and_true (is_other s w.homes n) (is_other s w.actives n) h k)
+  active_yet n h k = retained w.actives (is_other_seat s w.homes w.actives) n (and_true (is_other s w.homes n) (is_other s w.actives n) h k)
 
   pub server_yet : (q : Name) → q ≢ s → server_at dropped q ≡ server_at w q
   server_yet q apart = remove_apart w.servers s q apart

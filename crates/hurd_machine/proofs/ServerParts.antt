@@ -108,7 +108,7 @@ module _ (w : World) (s : Name) where
   home_after n = get-retained w.homes (is_other s w.homes) n
 
   active_after : (n : Name) → active_at dropped n ≡ cond (other_at n && not (is_home s (active_at w n))) (active_at w n) None
-  active_after n = get-retained w.actives (is_other_seat s (nodes_of w)) n
+  active_after n = get-retained w.actives (is_other_seat s w.homes w.actives) n
 
   server_apart : (q : Name) → q ≢ s → server_at dropped q ≡ server_at w q
   server_apart q apart = remove_apart w.servers s q apart

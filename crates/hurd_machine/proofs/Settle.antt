@@ -10,7 +10,7 @@ use Rattle.hurd_creds.proofs.NameLaws.{same_or_apart, get_here, get_apart, edit_
 use Rattle.hurd_trans_iface.specs.Nodes.{NodeMap, Node, Header, Body, with_header, with_body}
 use Rattle.hurd_nodes.specs.Shown.{NodeState, ServerInfo}
 use Rattle.hurd_nodes.specs.Settle as kept
-use Rattle.hurd_nodes.proofs.SweepLaws.{settle-is}
+use Rattle.hurd_nodes.proofs.SettleLaws.{settle-is}
 use Rattle.hurd_nodes.specs.Settle.{is_entered, is_entered_at}
 use Rattle.hurd_ports.specs.declared.table.Opened.{Opened}
 use Rattle.hurd_ports.specs.declared.table.IoRight.{IoRight}
