@@ -16,6 +16,7 @@ use Rattle.hurd_nodes.specs.declared.seat.Home.{Home}
 use Rattle.hurd_nodes.specs.declared.seat.Seat.{Seat}
 use Rattle.hurd_nodes.specs.Held.{AreApart, Held, Seated, box_by, home_key, home_value, homes_of, is_home, mean, mean_seat, seat_key, seat_value, seats_of}
 use Rattle.hurd_nodes.specs.Shown.{HideNothing, NodeState, ServerInfo, attached, begun_info, begun_root, flat, info_of, is_other, node_in, nodes_of, out_server, servers_of, shown, without_server, without_value}
+use Rattle.hurd_nodes.proofs.SeatLaws.{some_same}
 use Rattle.hurd_nodes.proofs.ShownLaws.{get-nodes}
 use Rattle.hurd_nodes.proofs.PartLaws.{get-kept, kept-is, kept-here, removed-is}
 use Rattle.hurd_nodes.proofs.TableLaws.{apart-push}
@@ -134,9 +135,6 @@ module _ (homes actives : NameMap Name) (seats : NameMap (Seated Meaning)) (s at
         absurd (true≢false (sym there ∙ ap (λ (m : NodeMap). is_some (fin.get m q)) one
         ∙ ap (λ (o : Option Node). is_some o) (get_apart {X = Node} fin.empty root x q apart ∙ fin.get-empty name_cmp q)))
   ]
-
-  some_same : {A : Type 0} {a b : A} → Some a ≡ Some b → a ≡ b
-  some_same h = cc
 
   -- its box has its root alone, which no other has
   tells-attached : fin.get homes root ≡ None → ((p q : Name) (y : Seated Meaning) → fin.get seats p ≡ Some y → is_some (fin.get y.server.nodes q) ≡ true → fin.get homes q ≡ Some p)
