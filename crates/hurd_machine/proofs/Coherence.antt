@@ -71,7 +71,6 @@ pub record Comes (w : World) (s at : Name) (i : ServerInfo) (node : Node) : Type
   pub empty : HasNoEntries node.body
   pub parent : node.header.parent ≡ None
   pub seat : (h : Header) × (header_at w at ≡ Some h)
-  pub vacant : active_at w at ≡ None
 
 -- a right to use a node that a task may get: what it names was made, its open is there and on one node with it, and what is open to write is no directory
 pub record FineIo (w : World) (r : IoRight) : Type 0 where

@@ -13,6 +13,7 @@ use Rattle.hurd_creds.proofs.KeyedLaws.{get-keyed, get-absent}
 use Rattle.hurd_creds.proofs.MapLaws.{get-map_values}
 use Rattle.hurd_nodes.specs.Held.{AreApart}
 use Rattle.hurd_nodes.specs.Settle.{any_in}
+use Rattle.hurd_nodes.proofs.SeatLaws.{some_same}
 use Rattle.hurd_nodes.proofs.TableLaws.{none-filter}
 use Rattle.hurd_nodes.proofs.PartLaws.{or_cases, or_left, or_right, same_bool, any_in-here, any_in-found}
 
@@ -55,15 +56,12 @@ module _ {X V : Type 0} (key : X → Name) (value : X → V) where
         }
   ]
 
-  some_here : {A : Type 0} {a b : A} → Some a ≡ Some b → a ≡ b
-  some_here h = cc
-
   -- what the map has stands in the list
   pub listed : (p : Name → V → Bool) (xs : List X) (n : Name) (v : V) → fin.get (keyed key value xs) n ≡ Some v → p n v ≡ true → list_any (λ x. p (key x) (value x)) xs ≡ true
   listed p [] n v is h = let c : None ≡ Some v = sym (get-keyed key value [] n) ∙ is in absurd (cc)
   listed p (x ∷ xs) n v is h = elim (same_or_apart n (key x)) [
     | inl here ↦
-        let same : value x ≡ v = some_here (sym (get-first x xs) ∙ ap (fin.get (keyed key value (x ∷ xs))) (sym here) ∙ is) in
+        let same : value x ≡ v = some_same (sym (get-first x xs) ∙ ap (fin.get (keyed key value (x ∷ xs))) (sym here) ∙ is) in
         or_left (p (key x) (value x)) _ (rw (← here, same) h)
     | inr apart ↦ or_right (p (key x) (value x)) _ (listed p xs n v (sym (get-rest x xs n apart) ∙ is) h)
   ]

@@ -150,9 +150,6 @@ module _ (homes actives : NameMap Name) (seats : NameMap (Seated Meaning)) (s at
         ∙ ap (λ (o : Option Node). is_some o) (get_apart {X = Node} fin.empty root x q apart ∙ fin.get-empty name_cmp q)))
   ]
 
-  some_same : {A : Type 0} {a b : A} → Some a ≡ Some b → a ≡ b
-  some_same h = cc
-
   -- its box has its root alone, which no other has
   tells-attached : fin.get homes root ≡ None → ((p q : Name) (y : Seated Meaning) → fin.get seats p ≡ Some y → is_some (fin.get y.server.nodes q) ≡ true → fin.get homes q ≡ Some p)
       → (p q : Name) (y : Seated Meaning) → fin.get seats_after p ≡ Some y → is_some (fin.get y.server.nodes q) ≡ true → fin.get (fin.insert homes root s) q ≡ Some p
