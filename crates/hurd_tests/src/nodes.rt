@@ -2,7 +2,7 @@
 use crate::fixture::{Memory, tree};
 use bitflags::Flags;
 use hurd_creds::{Errno, Kind, Mode, Name, NodeName, TaskId};
-use hurd_nodes::{BOOT_NAME, Nodes};
+use hurd_nodes::{BOOT_NAME, Hold, Nodes};
 use hurd_trans_iface::NewNode;
 use std::alloc::{AllocError, Global};
 use std::process::Abort;
@@ -50,7 +50,7 @@ fn make_once(
 
 fn hold_once(nodes: &mut Nodes, node: NodeName) -> Result<(), AllocError> {
     nodes.reserve_holds(1)?;
-    nodes.hold(node);
+    nodes.hold(Hold::Use(node));
     Ok(())
 }
 
@@ -105,7 +105,7 @@ fn hold_often(
 /// Lets a node go so often, and then all that nothing keeps.
 fn release_often(nodes: &mut Nodes, node: NodeName, often: u32) {
     for _ in 0..often {
-        nodes.release(node);
+        nodes.release(Hold::Use(node));
     }
     nodes.settle();
 }
