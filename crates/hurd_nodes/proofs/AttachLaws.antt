@@ -17,6 +17,7 @@ use Rattle.hurd_nodes.specs.declared.seat.Seat.{Seat}
 use Rattle.hurd_nodes.specs.Held.{AreApart, Held, Seated, box_by, home_key, home_value, homes_of, is_home, mean, mean_seat, seat_key, seat_value, seats_of}
 use Rattle.hurd_nodes.specs.Shown.{HideNothing, NodeState, ServerInfo, attached, begun_info, begun_root, flat, info_of, is_other, is_other_seat, without_seats, node_in, nodes_of, out_server, servers_of, shown, without_server, without_value}
 use Rattle.hurd_nodes.proofs.ShownLaws.{get-nodes}
+use Rattle.hurd_nodes.proofs.SeatLaws.{some_same}
 use Rattle.hurd_nodes.proofs.PartLaws.{get-kept, kept-is, kept-here, removed-is}
 use Rattle.hurd_nodes.proofs.TableLaws.{apart-push}
 use Rattle.hurd_nodes.proofs.AnyLaws.{get-filter, kept_if}
