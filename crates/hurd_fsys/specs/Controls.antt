@@ -6,7 +6,7 @@ use Rattle.hurd_creds.specs.declared.errno.Errno.TheVariants.{EDIED}
 use Rattle.hurd_nodes.specs.Shown.{ServerInfo}
 use Rattle.hurd_machine.specs.World.{World, ports_of, server_at}
 use Rattle.hurd_machine.specs.Plan.{on, first}
-use Rattle.hurd_core.specs.PortNode.{control_of}
+use Rattle.hurd_core.specs.Control.{control_of}
 
 -- a server that a port controls, with what is known of it
 pub record Controlled : Type 0 where

@@ -9,7 +9,6 @@ use Rattle.hurd_creds.specs.Names.{same_name}
 use Rattle.hurd_creds.specs.TransBits.{asks_goaway, FORCE}
 use Rattle.hurd_nodes.specs.Shown.{boot_name}
 use Rattle.hurd_ports.specs.declared.table.Right.TheVariants.{Control}
-use Rattle.hurd_ports.specs.Tables.{Task}
 use Rattle.hurd_ports.specs.Steps.{with_port}
 use Rattle.hurd_machine.specs.declared.call.Reply.TheVariants.{Done, Port}
 use Rattle.hurd_machine.specs.World.{World, active_at}
@@ -41,20 +40,19 @@ plan_goaway w t c flags = answered (goaway_asks w t c flags) (λ s. record { rep
 abbrev pub touches_goaway : World → ℕ → ℕ → GoawayFlags → Part → Type 0
 touches_goaway w t c flags = asked_parts (goaway_asks w t c flags) (λ s. Goes w s)
 
--- file_get_translator_cntl: the server that is active on a node that the port's ids own: EBADF, EDIED, EPERM, ENXIO, EOVERFLOW
-abbrev pub cntl_asks : World → ℕ → ℕ → Result (Name × Task) Errno
-cntl_asks w t p =
+-- file_get_translator_cntl: the server that is active on a node that the port's ids own: EBADF, EDIED, EPERM, ENXIO
+abbrev pub seated_asks : World → ℕ → ℕ → Result Name Errno
+seated_asks w t p =
     first (port_asks w t p) (λ n.
     given EPERM (owns n.right.ids (bare n.header)) (
-    on ENXIO (active_at w n.right.node) (λ s.
-    first (room_asks w t 0) (λ x. Ok (s, x)))))
+    on ENXIO (active_at w n.right.node) (λ s. Ok s)))
 
 -- a port to control it
 abbrev pub controlling : ℕ → Name → List Change
 controlling t s = EditTask t (with_port (Control s)) ∷ []
 
 abbrev pub plan_cntl : World → ℕ → ℕ → Plan
-plan_cntl w t p = answered (cntl_asks w t p) (λ a. record { reply = Port a.1.next; changes = controlling t a.0 })
+plan_cntl w t p = answered (seated_asks w t p) (λ s. answered (room_asks w t 0) (λ x. record { reply = Port x.next; changes = controlling t s }))
 
 abbrev pub touches_cntl : World → ℕ → ℕ → Part → Type 0
 touches_cntl w t p = Nothing

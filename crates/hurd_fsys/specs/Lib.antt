@@ -1,3 +1,2 @@
 pub mod Controls
 pub mod Fsys
-pub mod Setting

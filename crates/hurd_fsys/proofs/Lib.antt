@@ -1,0 +1,2 @@
+pub mod ControlLaws
+pub mod FsysLaws
