@@ -1,5 +1,5 @@
 -- An entry taken out of a directory by the core is what the machine's changes make of the world.
-use Rattle.std.proofs.Common.{◌≡◌, ◌∙◌, Bool, true, false, List, [], ◌∷◌, Option, Some, None, ℕ, refl, sym, ap, ap₂}
+use Rattle.std.proofs.Common.{◌≡◌, ◌∙◌, Bool, true, false, List, [], ◌∷◌, Option, Some, None, ℕ, refl, sym, ap}
 use Rattle.std.specs.Prelude.{Result, Ok, Err, if◌then◌else◌}
 use Rattle.hurd_nodes.specs.declared.seat.Hold.{Hold}
 use Rattle.hurd_creds.specs.declared.name.Name.{Name}
@@ -9,7 +9,7 @@ use Rattle.hurd_trans_iface.specs.Nodes.{body_of, OnBody, OnHeader, unlinked, wi
 use Rattle.hurd_trans_iface.specs.Answers.{entry_of, unlink_edits, edits_if}
 use Rattle.hurd_nodes.specs.Settle as kept
 use Rattle.hurd_nodes.specs.Shown.{NodeState, are_kin, own_edits, with_edits, can_unlink, unlink_edits_at, unlink_at}
-use Rattle.hurd_ports.specs.Tables.{PortState, OpenMap, IsSettled, is_held}
+use Rattle.hurd_ports.specs.Tables.{PortState, IsSettled}
 use Rattle.hurd_machine.specs.declared.call.Reply.TheVariants.{Done}
 use Rattle.hurd_machine.specs.World.{World, world_from}
 use Rattle.hurd_machine.specs.Change.{Settle, apply_all, changes_of, settle}

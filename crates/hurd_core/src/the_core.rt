@@ -1,11 +1,12 @@
 //! The core.
-ghost use Rattle.std.specs.Prelude.{◌≡◌, [], ◌∷◌, Ok, IfOk, option_copied};
+ghost use Rattle.std.specs.Prelude.{◌≡◌, [], ◌∷◌, Ok, IfErr, IfOk, option_copied};
 ghost use Rattle.std.specs.Option.{option_map};
 ghost use Rattle.std.specs.FinMap as fin;
 ghost use Rattle.hurd_creds.specs.Memory.{Meets};
 ghost use Rattle.hurd_trans_iface.specs.Nodes.{attrs_of, linked, with_attrs, with_entry};
 ghost use Rattle.hurd_trans_iface.specs.Answers.{entry_of, names_of};
 ghost use Rattle.hurd_trans_iface.specs.Behaviour.{edits_of, reading, writing, resizing};
+ghost use Rattle.hurd_trans_iface.specs.Meaning.{Begins};
 ghost use Rattle.hurd_nodes.specs.Shown.{ServerInfo, are_kin, shown, header_in, tree_by};
 ghost use Rattle.hurd_ports.specs.Tables.{ids_at, io_right_of, lent, right_of, room_of, task_of};
 ghost use Rattle.hurd_ports.specs.Steps.{appending, at_cursor, received, with_ids, with_port};
@@ -15,14 +16,14 @@ ghost use Rattle.hurd_machine.specs.Change.{DropServer, EditBody, EditHeader, Ed
 ghost use Rattle.hurd_machine.specs.Plan.{Follows, answered, told};
 ghost use Rattle.hurd_machine.specs.Handle.{both_asks, port_asks, handle_asks};
 ghost use Rattle.hurd_machine.specs.declared.call.Reply.TheVariants.{Done};
-ghost use Rattle.hurd_core.specs.Core.{Does, HoldsRights, making_asks, making_dir, making_dir_asks, making_open, receive_asks, room_asks, send_asks, unlinking, world_of, asked_only, making_nameless, making_nameless_asks, renaming};
+ghost use Rattle.hurd_core.specs.Core.{Does, HoldsRights, attaching, naming_asks, without_box, making_asks, making_dir, making_dir_asks, making_open, receive_asks, room_asks, send_asks, unlinking, world_of, asked_only, making_nameless, making_nameless_asks, renaming};
 ghost use Rattle.hurd_core.specs.Control.{control_of};
 ghost use Rattle.hurd_core.specs.ToMake.{new_node_of};
 ghost use Rattle.hurd_core.specs.PortNode.{IsTold, both_named, named};
 
 use crate::holds::{hold_io, hold_right, holds_by, holds_of, release_right};
 use crate::port_node::PortNode;
-use crate::to_make::{NamelessToMake, NodeToMake};
+use crate::to_make::{NamelessToMake, NodeToMake, ServerToMake};
 use hurd_creds::{
     Attrs, Bytes, Errno, Ids, Kind, Mode, NodeName, OpenFlags, OpenName, ServerName, TaskId,
 };
@@ -579,6 +580,37 @@ impl<S: Server> Core<S> {
     {
         self.ports.opens_are_held();
         self.nodes.rename(alloc, dir, name, to, new)?;
+        self.nodes.settle();
+        Ok(())
+    }
+
+    /// Seats a new server on a node, after another has left for it, if one is to: the task gives it its next name, and its root
+    /// the one after. What nothing keeps any more goes.
+    ///
+    /// Errors, in order, with the box back: `ESRCH` no such task, `EOVERFLOW`, `ENOMEM`.
+    pub fn attach(
+        &mut self,
+        task: TaskId,
+        place: ServerToMake,
+        ids: Ids,
+        server: S,
+    ) -> Result<(), (Errno, S)>
+        requires { Begins (S.meaning server) }
+        ensures does { let w = world_of S.meaning self.old in
+            Does w (naming_asks w task.0 2) (attaching task.0 place ids (S.meaning server)) (λ x. tt) (without_box result) (world_of S.meaning self.new) }
+        ensures back { IfErr result (λ e. e.1 ≡ server) }
+    {
+        if let Err(refused) = self.ports.naming(task, 2) {
+            return Err((refused, server));
+        }
+        let Some(name) = self.ports.next_name(task) else {
+            return Err((Errno::ESRCH, server));
+        };
+        self.nodes
+            .attach(place.place(name), ids, place.instead, server)?;
+        self.ports.take_name(task);
+        self.ports.take_name(task);
+        self.ports.opens_are_held();
         self.nodes.settle();
         Ok(())
     }

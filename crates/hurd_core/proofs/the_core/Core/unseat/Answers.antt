@@ -1,11 +1,8 @@
 -- The nodes without what is active on this one, and what is left of them, are the world without it.
-use Rattle.std.proofs.Common.{◌≡◌, List, ap, ◌∙◌}
-use Rattle.hurd_nodes.specs.declared.seat.Hold.{Hold}
+use Rattle.std.proofs.Common.{◌≡◌, ap, ◌∙◌}
 use Rattle.hurd_nodes.specs.Held.{Held}
-use Rattle.hurd_nodes.specs.Settle as kept
 use Rattle.hurd_nodes.specs.Shown.{NodeState, unseated, shown}
 use Rattle.hurd_machine.specs.World.{world_from}
-use Rattle.hurd_core.specs.Core.{HoldsRights}
 use Rattle.hurd_core.proofs.HoldLaws.{settled_world}
 use Rattle.hurd_core.proofs.the_core.Core.unseat.Goals as goal
 
