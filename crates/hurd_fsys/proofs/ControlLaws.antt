@@ -11,7 +11,10 @@ use Rattle.hurd_ports.specs.Tables.{Task, right_of, names_open}
 use Rattle.hurd_ports.specs.Steps.{with_port}
 use Rattle.hurd_machine.specs.World.{World, ports_of, task_at, server_at}
 use Rattle.hurd_machine.specs.Change.{Change, EditTask}
-use Rattle.hurd_machine.specs.Sight.{Part, TaskOf, Holds, Knows, OfControl, Sends, is_on, HasUid}
+use Rattle.std.proofs.lemmas.Bool.{or_cases}
+use Rattle.hurd_creds.specs.Access.{holds_uid, is_root, owns}
+use Rattle.hurd_machine.specs.Handle.{Named}
+use Rattle.hurd_machine.specs.Sight.{Part, TaskOf, Holds, Knows, OfControl, OwnsIt, UidOfRight, bare, is_on}
 use Rattle.hurd_machine.specs.Sound.{Below, Coherent}
 use Rattle.hurd_machine.proofs.Asks.{IsPlain, right_same, right_plain, holds_right, first_ok, on_ok, first_same, on_same, first_plain, on_plain, ok_plain, err_plain}
 use Rattle.hurd_machine.proofs.Views.{Agree, server_known}
@@ -67,6 +70,13 @@ controlled_same {S} {v} {w} a t ours c =
 
 pub controlled_plain : (w : World) (t c : ℕ) → IsPlain (control_asks w t c)
 controlled_plain w t c = first_plain _ _ (control_plain w t c) (λ s is. on_plain _ _ _ refl (λ i there. ok_plain _))
+
+-- ids that own a node hold its owner's uid, or 0
+pub owner_holds : (S : ℕ → Bool) (v : World) (n : Named) → Holds S v (Io n.right) → owns n.right.ids (bare n.header) ≡ true → OwnsIt S v n.header
+owner_holds S v n held h = elim (or_cases (holds_uid n.right.ids n.header.owner) (is_root n.right.ids) h) [
+  | inl e ↦ (n.header.owner, UidOfRight n.right held e, inl refl)
+  | inr e ↦ (0, UidOfRight n.right held e, inr refl)
+]
 
 -- a port more, to control a server
 

@@ -30,7 +30,7 @@ use Rattle.hurd_machine.proofs.Confine.{Commands}
 use Rattle.hurd_core.specs.Core.{room_asks}
 use Rattle.hurd_fsys.specs.Controls.{Controlled, control_asks}
 use Rattle.hurd_fsys.specs.Fsys.{may_go, goaway_asks, plan_goaway, touches_goaway, seated_asks, plan_cntl, touches_cntl}
-use Rattle.hurd_fsys.proofs.ControlLaws.{IsControlled, is_controlled, controlled_same, controlled_plain, controls_within, controls_proper, controls_rests, controls_sized, controls_linked, controls_may}
+use Rattle.hurd_fsys.proofs.ControlLaws.{IsControlled, is_controlled, controlled_same, controlled_plain, controls_within, controls_proper, controls_rests, controls_sized, controls_linked, controls_may, owner_holds}
 
 -- fsys_goaway
 
@@ -124,14 +124,7 @@ module _ (t p : ℕ) where
   room_plain : (w : World) → IsPlain (room_asks w t 0)
   room_plain w = on_plain _ _ _ refl (λ x k. given_plain _ _ _ refl (λ room. ok_plain _))
 
-  -- ids that own a node hold its owner's uid, or 0
-  owner_holds : (S : ℕ → Bool) (v : World) (n : Named) → Holds S v (Io n.right) → owns n.right.ids (bare n.header) ≡ true → OwnsIt S v n.header
-  owner_holds S v n held h = elim (or_cases (holds_uid n.right.ids n.header.owner) (is_root n.right.ids) h) [
-    | inl e ↦ (n.header.owner, UidOfRight n.right held e, inl refl)
-    | inr e ↦ (0, UidOfRight n.right held e, inr refl)
-  ]
-
-  -- so a task of S may control it
+  -- a task of S may control it
   commanded : (S : ℕ → Bool) (v : World) → Coherent v → S t ≡ true → (s : Name) → Seated v s → Commands S v s
   commanded S v c ours s k =
       let i = c.seating.seated k.named.right.node s k.active in
