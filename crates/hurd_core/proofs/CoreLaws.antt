@@ -1,5 +1,5 @@
 -- What becomes of one half of the world is what the machine's changes make of all of it.
-use Rattle.std.proofs.Common.{◌≡◌, ◌∙◌, inl, inr, ℕ, Bool, true, false, cond, option_map, List, [], ◌∷◌, ◌++◌, Option, Some, None, refl, sym, ap, subst, slice_get, true≢false}
+use Rattle.std.proofs.Common.{◌≡◌, ◌∙◌, inl, inr, ℕ, Bool, true, false, option_map, List, [], ◌∷◌, ◌++◌, Option, Some, None, refl, sym, ap, subst, slice_get, true≢false}
 use Rattle.std.specs.Prelude.{Result, Ok, Err, is_ok, if◌then◌else◌}
 use Rattle.std.specs.FinMap.{retain_keys}
 use Rattle.hurd_nodes.specs.declared.seat.Hold.{Hold}
@@ -10,7 +10,7 @@ use Rattle.hurd_creds.specs.declared.errno.Errno.{Errno}
 use Rattle.hurd_creds.specs.declared.errno.Errno.TheVariants.{ENOMEM, EOVERFLOW, ESRCH}
 use Rattle.hurd_creds.specs.declared.open_flags.OpenFlags.{OpenFlags}
 use Rattle.hurd_creds.specs.Access.{IdSets}
-use Rattle.hurd_creds.specs.Memory.{Meets, Steps, is_no_memory}
+use Rattle.hurd_creds.specs.Memory.{Meets}
 use Rattle.hurd_trans_iface.specs.Nodes.{with_attrs}
 use Rattle.hurd_trans_iface.specs.Answers.{set_attrs_edits, edits_if}
 use Rattle.hurd_nodes.specs.Shown.{NodeState, with_edits, can_set_attrs, set_attrs_at}
@@ -18,7 +18,7 @@ use Rattle.hurd_ports.specs.declared.parents.Parent.{Parent}
 use Rattle.hurd_ports.specs.declared.table.Right.{Right}
 use Rattle.hurd_nodes.specs.Settle as kept
 use Rattle.hurd_nodes.specs.Held.{less_all}
-use Rattle.hurd_ports.specs.Tables.{PortState, Task, or_refuse, is_held, is_named, is_controlled, right_of, has_room, room_at, room_of}
+use Rattle.hurd_ports.specs.Tables.{PortState, Task, can_name, naming_at, naming_of, or_refuse, is_held, is_named, is_controlled, right_of, has_room, room_at, room_of}
 use Rattle.hurd_ports.specs.Steps.{named, new_right, with_new_port, deallocate_at, deallocate_step, dropped, edit_task, without_port, insert_at, insert_step}
 use Rattle.hurd_machine.specs.declared.call.Reply.TheVariants.{Done}
 use Rattle.hurd_machine.specs.World.{World, world_from}
@@ -26,7 +26,7 @@ use Rattle.hurd_machine.specs.Change.{EditHeader, apply_all, dropping, opening}
 use Rattle.hurd_machine.specs.Plan.{Plan, Follows, answered, told, on, given}
 use Rattle.hurd_machine.proofs.Asks.{HasRight, has_right}
 use Rattle.hurd_machine.proofs.Tasks.{edit_here as task_here}
-use Rattle.hurd_core.specs.Core.{Does, HoldsRights, holds_of, holds_of_ways, room_asks}
+use Rattle.hurd_core.specs.Core.{Does, HoldsRights, holds_of, holds_of_ways, naming_asks, room_asks}
 use Rattle.hurd_core.proofs.HoldLaws.{outside_named, holds_named, holds_opened, holds_dropped}
 
 -- owner, group and mode of a node set
@@ -117,6 +117,35 @@ module _ (N : NodeState) (H : PortState) (t : ℕ) where
     | IsRefused f full asks ↦ absurd (cc)
     | HasRoom x at full free asks ↦ (x, at, asks)
   ]
+
+  -- so is one that is to name things
+
+  abbrev asked_names : ℕ → Option Task → Result Task Errno
+  asked_names k o = on ESRCH o (λ x. given EOVERFLOW (can_name k x) (Ok x))
+
+  names_full : (k : ℕ) (e : Errno) (o : Option Task) → naming_at k o ≡ Err e → asked_names k o ≡ Err e
+  unfolding on given
+  names_full k e None h = cc
+  names_full k e (Some x) h = go (can_name k x) h
+    where
+      go : (b : Bool) → told_room b ≡ Err e → given EOVERFLOW b (Ok x) ≡ Err e
+      go true h = absurd (cc)
+      go false h = cc
+
+  pub naming-refused : (k : ℕ) (e : Errno) → naming_of H t k ≡ Err e → naming_asks w t k ≡ Err e
+  naming-refused k e is = names_full k e (slice_get H.tasks t) is
+
+  names_free : (k : ℕ) (u : Unit {0}) (o : Option Task) → slice_get H.tasks t ≡ o → naming_at k o ≡ Ok u → (x : Task) × (slice_get H.tasks t ≡ Some x) × (can_name k x ≡ true) × (asked_names k o ≡ Ok x)
+  unfolding on given
+  names_free k u None at h = absurd (cc)
+  names_free k u (Some x) at h = let free = go (can_name k x) h in (x, at, free, ap (λ (b : Bool). given EOVERFLOW b (Ok x)) free)
+    where
+      go : (b : Bool) → told_room b ≡ Ok u → b ≡ true
+      go true h = refl
+      go false h = absurd (cc)
+
+  pub naming-had : (k : ℕ) (u : Unit {0}) → naming_of H t k ≡ Ok u → (x : Task) × (slice_get H.tasks t ≡ Some x) × (can_name k x ≡ true) × (naming_asks w t k ≡ Ok x)
+  naming-had k u is = names_free k u (slice_get H.tasks t) refl is
 
   -- nothing but memory is refused where the task is there
   pub reserve-lacks : (x : Task) (e : Errno) → slice_get H.tasks t ≡ Some x → Meets (or_refuse ESRCH (option_map (λ (y : Task). tt {0}) (slice_get H.tasks t))) (Err e) → e ≡ ENOMEM

@@ -1,21 +1,22 @@
 -- A directory made, half by half, is the machine's making.
-use Rattle.std.proofs.Common.{◌≡◌, ◌∙◌, inr, ℕ, Bool, true, false, Option, Some, None, refl, ap, subst, slice_get}
-use Rattle.std.specs.Prelude.{Result, Ok, Err, is_ok, if◌then◌else◌}
+use Rattle.std.proofs.Common.{◌≡◌, ◌∙◌, inr, ℕ, Option, Some, refl, ap, subst, slice_get}
+use Rattle.std.specs.Prelude.{Result, Ok, Err, is_ok}
 use Rattle.std.specs.Option.{option_map}
 use Rattle.std.specs.FinMap.{get}
 use Rattle.hurd_creds.specs.declared.name.Name.{Name}
 use Rattle.hurd_creds.specs.declared.attrs.Kind.TheVariants.{Dir}
 use Rattle.hurd_creds.specs.declared.errno.Errno.{Errno}
-use Rattle.hurd_creds.specs.declared.errno.Errno.TheVariants.{EDIED, EOVERFLOW, ESRCH}
+use Rattle.hurd_creds.specs.declared.errno.Errno.TheVariants.{EDIED}
 use Rattle.hurd_creds.specs.Memory.{Steps}
 use Rattle.hurd_trans_iface.specs.declared.new_node.NewNode.{NewNode}
 use Rattle.hurd_trans_iface.specs.Nodes.{new_dir}
 use Rattle.hurd_nodes.specs.Shown.{NodeState, can_make, make_at, with_made}
-use Rattle.hurd_ports.specs.Tables.{PortState, Task, fresh, can_name, naming_at, naming_of}
+use Rattle.hurd_ports.specs.Tables.{PortState, Task, fresh, naming_of}
 use Rattle.hurd_ports.specs.Steps.{name_step}
 use Rattle.hurd_machine.specs.World.{World, world_from, home_at}
-use Rattle.hurd_machine.specs.Plan.{on, given, first}
+use Rattle.hurd_machine.specs.Plan.{on, first}
 use Rattle.hurd_core.specs.Core.{Does, NewNodeAt, asked_node, naming_asks, making_dir_asks, making_dir}
+use Rattle.hurd_core.proofs.CoreLaws.{naming-refused, naming-had}
 use Rattle.hurd_core.proofs.MakingLaws.{making-home, make-lacks, make-done, made-nodes}
 
 module _ (N : NodeState) (H : PortState) (t : ℕ) (f : NewNodeAt) where
@@ -29,28 +30,13 @@ module _ (N : NodeState) (H : PortState) (t : ℕ) (f : NewNodeAt) where
   asks_home : Result Task Errno → Option Name → Result (Task × Name) Errno
   asks_home r o = first r (λ x. on EDIED o (λ s. Ok (x, s)))
 
-  asked : Option Task → Result Task Errno
-  asked o = on ESRCH o (λ x. given EOVERFLOW (can_name 1 x) (Ok x))
-
-  told : Bool → Result (Unit {0}) Errno
-  told b = if b then Ok tt else Err EOVERFLOW
-
   pub dir-refused : (e : Errno) → can_make f.dir f.name Dir N ≡ Err e → making_dir_asks w t f ≡ Err e
   unfolding first asks_name
   dir-refused e h = ap asks_name h
 
-  full : (e : Errno) (o : Option Task) → naming_at 1 o ≡ Err e → asked o ≡ Err e
-  unfolding on given asked told
-  full e None h = cc
-  full e (Some x) h = go (can_name 1 x) h
-    where
-      go : (b : Bool) → told b ≡ Err e → given EOVERFLOW b (Ok x) ≡ Err e
-      go true h = absurd (cc)
-      go false h = cc
-
   pub dir-unnamed : (e : Errno) → can_make f.dir f.name Dir N ≡ Ok tt → naming_of H t 1 ≡ Err e → making_dir_asks w t f ≡ Err e
-  unfolding first asks_name asks_home asked
-  dir-unnamed e may h = ap asks_name may ∙ ap (λ r. asks_home r (home_at w f.dir)) (full e (slice_get H.tasks t) h)
+  unfolding first asks_name asks_home
+  dir-unnamed e may h = ap asks_name may ∙ ap (λ r. asks_home r (home_at w f.dir)) (naming-refused N H t 1 e h)
 
   -- a task that makes the directory, and the server
   pub record MakesDir : Type 0 where
@@ -60,26 +46,17 @@ module _ (N : NodeState) (H : PortState) (t : ℕ) (f : NewNodeAt) where
     pub home : get N.homes f.dir ≡ Some server
     pub asks : making_dir_asks w t f ≡ Ok (task, server)
 
-  named : (o : Option Task) → slice_get H.tasks t ≡ o → naming_at 1 o ≡ Ok tt → (x : Task) × (slice_get H.tasks t ≡ Some x) × (asked o ≡ Ok x)
-  unfolding on given asked told
-  named None at h = absurd (cc)
-  named (Some x) at h = (x, at, go (can_name 1 x) h)
-    where
-      go : (b : Bool) → told b ≡ Ok tt → given EOVERFLOW b (Ok x) ≡ Ok x
-      go true h = refl
-      go false h = absurd (cc)
-
   pub makes-dir : can_make f.dir f.name Dir N ≡ Ok tt → naming_of H t 1 ≡ Ok tt → MakesDir
-  unfolding first on asks_name asks_home asked
+  unfolding first on asks_name asks_home
   makes-dir may h =
-      let x = named (slice_get H.tasks t) refl h in
+      let x = naming-had N H t 1 tt h in
       let s = making-home N H t f Dir may in
       record {
         task = x.0;
         there = x.1;
         server = s.0;
         home = s.1;
-        asks = ap asks_name may ∙ ap (λ r. asks_home r (home_at w f.dir)) x.2 ∙ ap (asks_home (Ok x.0)) s.1;
+        asks = ap asks_name may ∙ ap (λ r. asks_home r (home_at w f.dir)) x.3 ∙ ap (asks_home (Ok x.0)) s.1;
       }
 
   module _ (may : can_make f.dir f.name Dir N ≡ Ok tt) (h : naming_of H t 1 ≡ Ok tt) (name : Name) (new : NewNode) (is : new ≡ asked_node Dir f name) where

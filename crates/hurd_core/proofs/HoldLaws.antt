@@ -1,5 +1,5 @@
 -- What is held agrees with the rights of tasks: the holds are those that they take.
-use Rattle.std.proofs.Common.{◌≡◌, ◌≤◌, ◌∙◌, ℕ, ◌+◌, ◌||◌, Bool, true, false, List, [], ◌∷◌, ◌++◌, Option, Some, None, slice_get, nat_lt, length, sym, refl, ap, subst, inl, inr, arith}
+use Rattle.std.proofs.Common.{◌≡◌, ◌≤◌, ◌∙◌, ℕ, ◌+◌, ◌||◌, Bool, true, false, List, [], ◌∷◌, ◌++◌, Option, Some, None, slice_get, nat_lt, length, sym, refl, ap, ap₂, subst, inl, inr, arith}
 use Rattle.std.proofs.lemmas.Bool.Decides.{nat_tests}
 use Rattle.std.proofs.lemmas.Option.{slice_get_cases}
 use Rattle.std.specs.List.{list_any}
@@ -11,15 +11,20 @@ use Rattle.hurd_nodes.specs.declared.seat.Hold.TheVariants as hold
 use Rattle.hurd_nodes.specs.Held as held
 use Rattle.hurd_nodes.specs.Held.{is_held, less_all, less_one, same_hold}
 use Rattle.hurd_nodes.specs.Weights.{one_if, weigh_list, count_list}
+use Rattle.hurd_nodes.specs.Settle as kept
 use Rattle.hurd_nodes.specs.Settle.{outside_of}
+use Rattle.hurd_nodes.specs.Shown.{NodeState}
 use Rattle.hurd_ports.specs.declared.parents.Parent.{Parent}
 use Rattle.hurd_ports.specs.declared.table.Right.{Right}
 use Rattle.hurd_ports.specs.declared.table.Right.TheVariants.{Io, Control}
-use Rattle.hurd_ports.specs.Tables.{Task, rights_of, right_in, ways_of, names_node, names_server, is_named, is_controlled}
+use Rattle.hurd_ports.specs.Tables.{IsSettled, OpenMap, PortState, Task, is_held as open_held, rights_of, right_in, ways_of, names_node, names_server, is_named, is_controlled}
 use Rattle.hurd_ports.specs.Steps.{named, edit_at, edit_task, with_port, with_sent, without_port}
-use Rattle.hurd_machine.specs.Sight.{weigh_rights}
+use Rattle.hurd_machine.specs.World.{world_from}
+use Rattle.hurd_machine.specs.Change.{settle}
+use Rattle.hurd_machine.specs.Sight.{weigh_rights, is_on, users}
 use Rattle.hurd_machine.proofs.Tasks.{weigh_edit, weigh_named, weigh_sent, weigh_append}
 use Rattle.hurd_machine.proofs.Holders.{list_counted, tasks_weighed}
+use Rattle.hurd_machine.proofs.Retained.{retain_all}
 use Rattle.hurd_machine.proofs.Rights.{port_weighs, weigh_dropped}
 use Rattle.hurd_core.specs.Core.{HoldsRights, holds_of, holds_of_ways, weight_of}
 
@@ -62,6 +67,28 @@ module _ (hs : List Hold) (ts : List Task) (same : HoldsRights hs ts) where
   -- the holds tell the same of what is named from outside as the rights
   pub outside_named : outside_of hs ≡ record { held = is_named ts; controlled = is_controlled ts }
   outside_named = λ i. record { held = λ n. node_held n i; controlled = λ s. server_held s i }
+
+-- with each open held, the world settles as its nodes do
+pub settled_world : (H : PortState) (hs : List Hold) → HoldsRights hs H.tasks → IsSettled H → (M : NodeState) → world_from (kept.settle (kept.outside_of hs) M) H ≡ settle (world_from M H)
+settled_world H hs same whole M =
+    ap₂ (λ (K : NodeState) (m : OpenMap). world_from K (record { opens = m; tasks = H.tasks }))
+    (ap (λ o. kept.settle o M) (outside_named hs H.tasks same)) (sym (retain_all H.opens (open_held H.tasks) whole))
+
+-- the rights to use nodes of a server are its users
+module _ (N : NodeState) (H : PortState) (s : Name) where
+  abbrev is_use : Hold → ℕ
+  is_use h = one_if (held.is_user N.homes s h)
+
+  ways_use : (ps : List Parent) → weigh_list is_use (holds_of_ways ps) ≡ 0
+  ways_use [] = refl
+  ways_use (p ∷ ps) = let rest = ways_use ps in omega (arith, rest)
+
+  right_uses : (r : Right) → weight_of is_use r ≡ one_if (is_on (world_from N H) s r)
+  right_uses (Io r) = let none = ways_use r.parents in omega (arith, none)
+  right_uses (Control q) = refl
+
+  pub users_held : (hs : List Hold) → HoldsRights hs H.tasks → held.users_in N.homes s hs ≡ users (world_from N H) s
+  users_held hs same = same is_use ∙ (λ i. weigh_rights (λ r. right_uses r i) H.tasks)
 
 -- a port comes, and with it its holds
 pub holds_opened : (hs : List Hold) (ts : List Task) → HoldsRights hs ts → (t : ℕ) (x : Task) (r : Right) → slice_get ts t ≡ Some x → HoldsRights (hs ++ holds_of r) (edit_task t (with_port r) ts)

@@ -10,3 +10,4 @@ pub mod DirPieces
 pub mod PlanLaws
 pub mod UnlinkLaws
 pub mod RenameLaws
+pub mod ServerLaws

@@ -7,16 +7,16 @@ use Rattle.hurd_creds.specs.declared.name.Name.{Name}
 use Rattle.hurd_creds.specs.declared.attrs.Kind.{Kind}
 use Rattle.hurd_creds.specs.declared.attrs.Kind.TheVariants.{File}
 use Rattle.hurd_creds.specs.declared.errno.Errno.{Errno}
-use Rattle.hurd_creds.specs.declared.errno.Errno.TheVariants.{EDIED, ENOMEM, EOVERFLOW, ESRCH}
+use Rattle.hurd_creds.specs.declared.errno.Errno.TheVariants.{EDIED, ENOMEM, EOVERFLOW}
 use Rattle.hurd_creds.specs.declared.open_flags.OpenFlags.{OpenFlags}
 use Rattle.hurd_creds.specs.Access.{IdSets}
-use Rattle.hurd_creds.specs.Memory.{Meets, Steps}
+use Rattle.hurd_creds.specs.Memory.{Steps}
 use Rattle.hurd_trans_iface.specs.declared.new_node.NewNode.{NewNode}
 use Rattle.hurd_trans_iface.specs.Nodes.{Node, edit_all, with_entry, new_file}
 use Rattle.hurd_trans_iface.specs.Answers.{added, made_node}
 use Rattle.hurd_nodes.specs.Shown.{NodeState, info_in, can_make, made_by, make_at, on_ok, with_home, with_made}
 use Rattle.hurd_ports.specs.declared.parents.Parent.{Parent}
-use Rattle.hurd_ports.specs.Tables.{PortState, Task, or_refuse, fresh, has_room, room_at, room_of, u64_greatest}
+use Rattle.hurd_ports.specs.Tables.{PortState, Task, fresh, has_room, room_at, room_of, u64_greatest}
 use Rattle.hurd_ports.specs.Steps.{named, insert_step, name_step, with_new_port}
 use Rattle.hurd_ports.proofs.TaskLaws.{edit-here}
 use Rattle.hurd_machine.specs.World.{World, world_from, home_at, makes_at}

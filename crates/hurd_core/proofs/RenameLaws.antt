@@ -16,7 +16,7 @@ use Rattle.hurd_machine.specs.World.{World, world_from, renames_at}
 use Rattle.hurd_machine.specs.Change.{Settle, apply_all, changes_of, settle}
 use Rattle.hurd_machine.proofs.Keeping.{apply_all-append}
 use Rattle.hurd_core.specs.Core.{Does, HoldsRights, renaming}
-use Rattle.hurd_core.proofs.UnlinkLaws.{settled_world}
+use Rattle.hurd_core.proofs.HoldLaws.{settled_world}
 
 -- edits of nodes that are there, and no node made
 abbrev AreEdits : List Edit → Type 0
@@ -77,4 +77,4 @@ module _ (N : NodeState) (H : PortState) (d : Name) (name : List ℕ) (e : Name)
   rename-done hs same held u M L s left =
       let are : AreEdits edits = own_are (get N.homes d) N.homes _ (renames_are d name e new (entry_of name (body_of N.nodes d)) (entry_of new (body_of N.nodes e))) in
       let shown : world_from M H ≡ apply_all (changes_of edits) w = ap (λ K. world_from K H) (s.left ∙ ap (λ r. with_edits (edits_if r edits) N) s.answered) ∙ edited H edits N are in
-      (u, s.answered, refl, ap (λ K. world_from K H) left ∙ settled_world N H d name hs same held M ∙ ap settle shown ∙ sym (apply_all-append (changes_of edits) (Settle ∷ []) w))
+      (u, s.answered, refl, ap (λ K. world_from K H) left ∙ settled_world H hs same held M ∙ ap settle shown ∙ sym (apply_all-append (changes_of edits) (Settle ∷ []) w))

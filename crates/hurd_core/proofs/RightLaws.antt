@@ -2,7 +2,6 @@
 use Rattle.std.proofs.Common.{◌≡◌, ◌∙◌, inl, inr, ℕ, Bool, true, false, cond, List, [], ◌∷◌, ◌++◌, Option, Some, None, length, slice_get, refl, sym, ap, subst}
 use Rattle.std.specs.Prelude.{Result, Ok, Err, is_ok, nat_lt, if◌then◌else◌}
 use Rattle.hurd_nodes.specs.declared.seat.Hold.{Hold}
-use Rattle.hurd_creds.specs.declared.name.Name.{Name}
 use Rattle.hurd_creds.specs.declared.errno.Errno.{Errno}
 use Rattle.hurd_creds.specs.declared.errno.Errno.TheVariants.{EOVERFLOW, ESRCH, EWOULDBLOCK}
 use Rattle.hurd_creds.specs.Access.{IdSets}

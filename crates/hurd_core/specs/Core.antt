@@ -1,5 +1,5 @@
 -- The core that the code holds, the world that it stands for, and what its methods owe.
-use Rattle.std.specs.Prelude.{◌≡◌, ◌⊎◌, ℕ, List, [], ◌∷◌, ◌++◌, Some, Result, Ok, Err, IsOk, length, nat_lt, refl}
+use Rattle.std.specs.Prelude.{◌≡◌, ◌⊎◌, ℕ, ◌+◌, List, [], ◌∷◌, ◌++◌, Option, Some, None, Result, Ok, Err, IsOk, length, nat_lt, refl}
 use Rattle.std.specs.Coded.{Coded, code_by, coded×}
 use Rattle.hurd_creds.specs.declared.name.Name.{Name}
 use Rattle.hurd_creds.specs.declared.mode.Mode.{Mode}
@@ -15,18 +15,20 @@ use Rattle.hurd_trans_iface.specs.Meaning.{Meaning}
 use Rattle.hurd_nodes.specs.Held.{Held, coded_held}
 use Rattle.hurd_nodes.specs.declared.seat.Hold.{Hold}
 use Rattle.hurd_nodes.specs.declared.seat.Hold.TheVariants as hold
-use Rattle.hurd_nodes.specs.Shown.{shown, unlink_edits_at, can_make_nameless, rename_edits_at}
+use Rattle.hurd_nodes.specs.declared.seat.Place.{Place}
+use Rattle.hurd_nodes.specs.Shown.{begun_info, begun_root, shown, unlink_edits_at, can_make_nameless, rename_edits_at}
 use Rattle.hurd_ports.specs.Tables.{Task, Tables, coded_tables, fresh, can_name, has_room, first_sent, right_of}
 use Rattle.hurd_ports.specs.declared.parents.Parent.{Parent}
 use Rattle.hurd_ports.specs.declared.table.Right.{Right}
 use Rattle.hurd_ports.specs.declared.table.Right.TheVariants.{Io, Control}
 use Rattle.hurd_ports.specs.Steps.{named}
 use Rattle.hurd_machine.specs.World.{World, world_from, nodes_of, ports_of, task_at, home_at, makes_at}
-use Rattle.hurd_machine.specs.Change.{Change, MakeNode, EditBody, Settle, opening, apply_all, changes_of}
+use Rattle.hurd_machine.specs.Change.{Attach, Change, DropServer, MakeNode, EditBody, Settle, opening, apply_all, changes_of}
 use Rattle.hurd_machine.specs.Plan.{on, given, first}
 use Rattle.hurd_nodes.specs.Weights.{weigh_list}
 use Rattle.hurd_machine.specs.Sight.{weigh_rights}
 use Rattle.hurd_core.specs.declared.to_make.NamelessToMake.{NamelessToMake}
+use Rattle.hurd_core.specs.declared.to_make.ServerToMake.{ServerToMake}
 
 -- servers with their nodes, and tables of ports
 pub record Whole (S : Type 0) : Type 0 where
@@ -152,3 +154,22 @@ making_nameless t f ids parents modes a = MakeNode (fresh t a.0) a.1 (nameless_f
 -- what a server does where an entry goes to another of its directories, and that what nothing keeps then goes
 abbrev pub renaming : World → Name → List ℕ → Name → List ℕ → List Change
 renaming w d name e new = changes_of (rename_edits_at d name e new (nodes_of w)) ++ Settle ∷ []
+
+-- where a server is to stand under a name: its root has the name after it
+abbrev pub placed : ServerToMake → Name → Place
+placed p n = record { name = n; seat = p.seat; root = record n { count = n.count + 1 }; owner = p.owner; group = p.group; mode = p.mode }
+
+-- the server that leaves for another, if one does
+abbrev pub leaving : Option Name → List Change
+leaving None = []
+leaving (Some q) = DropServer q ∷ []
+
+-- task t, which stands as x, seats a server that means m: it gives the server a name, and then its root; what nothing keeps then goes
+abbrev pub attaching : ℕ → ServerToMake → IdSets → Meaning → Task → List Change
+attaching t p ids m x =
+    leaving p.instead ++ Attach (fresh t x) p.seat (begun_info m (fresh t (named 1 x)) ids) (begun_root m p.owner p.group p.mode) ∷ Settle ∷ []
+
+-- the answer, where what comes back with a refusal is left out
+abbrev pub without_box : {S T : Type 0} → Result T (Errno × S) → Result T Errno
+without_box (Ok x) = Ok x
+without_box (Err e) = Err e.0

@@ -1,3 +1,4 @@
 pub mod Core
+pub mod Control
 pub mod ToMake
 pub mod PortNode

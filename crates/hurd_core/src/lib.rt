@@ -13,4 +13,4 @@ mod to_make;
 
 pub use port_node::PortNode;
 pub use the_core::Core;
-pub use to_make::{NamelessToMake, NodeToMake};
+pub use to_make::{NamelessToMake, NodeToMake, ServerToMake};

@@ -1,26 +1,29 @@
 //! The core.
-ghost use Rattle.std.specs.Prelude.{◌≡◌, [], ◌∷◌, Ok, IfOk};
+ghost use Rattle.std.specs.Prelude.{◌≡◌, [], ◌∷◌, Ok, IfErr, IfOk, option_copied};
 ghost use Rattle.std.specs.Option.{option_map};
 ghost use Rattle.std.specs.FinMap as fin;
 ghost use Rattle.hurd_creds.specs.Memory.{Meets};
 ghost use Rattle.hurd_trans_iface.specs.Nodes.{attrs_of, linked, with_attrs, with_entry};
 ghost use Rattle.hurd_trans_iface.specs.Answers.{entry_of, names_of};
 ghost use Rattle.hurd_trans_iface.specs.Behaviour.{edits_of, reading, writing, resizing};
-ghost use Rattle.hurd_nodes.specs.Shown.{are_kin, shown, header_in, tree_by};
+ghost use Rattle.hurd_trans_iface.specs.Meaning.{Begins};
+ghost use Rattle.hurd_nodes.specs.Shown.{ServerInfo, are_kin, shown, header_in, tree_by};
 ghost use Rattle.hurd_ports.specs.Tables.{ids_at, io_right_of, lent, right_of, room_of, task_of};
 ghost use Rattle.hurd_ports.specs.Steps.{appending, at_cursor, received, with_ids, with_port};
-ghost use Rattle.hurd_machine.specs.World.{world_from, ports_of, asked_at, body_at, header_at, home_at, info_at, is_removed, is_server_root, links_at, makes_at, readable_at, renames_at, sets_attrs_at, stream_at, task_at, unlinks_at};
-ghost use Rattle.hurd_machine.specs.Change.{EditBody, EditHeader, EditOpen, EditTask, Send, apply, changes_of, dropping, opening};
+ghost use Rattle.hurd_machine.specs.World.{world_from, ports_of, active_at, asked_at, body_at, header_at, home_at, info_at, is_removed, is_server_root, links_at, makes_at, readable_at, renames_at, server_at, sets_attrs_at, stream_at, task_at, unlinks_at};
+ghost use Rattle.hurd_machine.specs.Sight.{users};
+ghost use Rattle.hurd_machine.specs.Change.{DropServer, EditBody, EditHeader, EditOpen, EditTask, Send, Settle, Unseat, apply, apply_all, changes_of, dropping, opening};
 ghost use Rattle.hurd_machine.specs.Plan.{Follows, answered, told};
 ghost use Rattle.hurd_machine.specs.Handle.{both_asks, port_asks, handle_asks};
 ghost use Rattle.hurd_machine.specs.declared.call.Reply.TheVariants.{Done};
-ghost use Rattle.hurd_core.specs.Core.{Does, HoldsRights, making_asks, making_dir, making_dir_asks, making_open, receive_asks, room_asks, send_asks, unlinking, world_of, asked_only, making_nameless, making_nameless_asks, renaming};
+ghost use Rattle.hurd_core.specs.Core.{Does, HoldsRights, attaching, naming_asks, without_box, making_asks, making_dir, making_dir_asks, making_open, receive_asks, room_asks, send_asks, unlinking, world_of, asked_only, making_nameless, making_nameless_asks, renaming};
+ghost use Rattle.hurd_core.specs.Control.{control_of};
 ghost use Rattle.hurd_core.specs.ToMake.{new_node_of};
 ghost use Rattle.hurd_core.specs.PortNode.{IsTold, both_named, named};
 
 use crate::holds::{hold_io, hold_right, holds_by, holds_of, release_right};
 use crate::port_node::PortNode;
-use crate::to_make::{NamelessToMake, NodeToMake};
+use crate::to_make::{NamelessToMake, NodeToMake, ServerToMake};
 use hurd_creds::{
     Attrs, Bytes, Errno, Ids, Kind, Mode, NodeName, OpenFlags, OpenName, ServerName, TaskId,
 };
@@ -68,6 +71,18 @@ impl<S: Server> Core<S> {
         ensures { lent result ≡ io_right_of (ports_of (world_of S.meaning self.now)) task.0 port }
     {
         self.ports.io_right(task, port)
+    }
+
+    /// The server that a port of a task controls.
+    ///
+    /// Errors, in order: `ESRCH` no such task, `EBADF` no such port, or one to use a node.
+    pub fn control(&self, task: TaskId, port: u64) -> Result<ServerName, Errno>
+        ensures { result ≡ control_of (ports_of (world_of S.meaning self.now)) task.0 port }
+    {
+        match self.ports.right(task, port)? {
+            Right::Control(server) => Ok(*server),
+            Right::Io(_) => Err(Errno::EBADF),
+        }
     }
 
     /// The right of a task under a number, with the attributes of its node.
@@ -171,6 +186,34 @@ impl<S: Server> Core<S> {
         ensures { result ≡ home_at (world_of S.meaning self.now) node }
     {
         self.nodes.home(node)
+    }
+
+    /// The server that is active on a node, if one is.
+    pub fn active(&self, node: NodeName) -> Option<ServerName>
+        ensures { result ≡ active_at (world_of S.meaning self.now) node }
+    {
+        self.nodes.active(node)
+    }
+
+    /// The root of a server, if the server is there.
+    pub fn root_of(&self, server: ServerName) -> Option<NodeName>
+        ensures { result ≡ option_map (λ (i : ServerInfo). i.root) (server_at (world_of S.meaning self.now) server) }
+    {
+        self.nodes.root_of(server)
+    }
+
+    /// The ids of a server, if the server is there.
+    pub fn server_ids(&self, server: ServerName) -> Option<&Ids>
+        ensures { option_copied result ≡ option_map (λ (i : ServerInfo). i.ids) (server_at (world_of S.meaning self.now) server) }
+    {
+        self.nodes.ids_of(server)
+    }
+
+    /// How many rights there are to use nodes of a server.
+    pub fn users(&self, server: ServerName) -> usize
+        ensures { result ≡ users (world_of S.meaning self.now) server }
+    {
+        self.nodes.users(server)
     }
 
     /// Whether a node is the root of its server.
@@ -539,6 +582,55 @@ impl<S: Server> Core<S> {
         self.nodes.rename(alloc, dir, name, to, new)?;
         self.nodes.settle();
         Ok(())
+    }
+
+    /// Seats a new server on a node, after another has left for it, if one is to: the task gives it its next name, and its root
+    /// the one after. What nothing keeps any more goes.
+    ///
+    /// Errors, in order, with the box back: `ESRCH` no such task, `EOVERFLOW`, `ENOMEM`.
+    pub fn attach(
+        &mut self,
+        task: TaskId,
+        place: ServerToMake,
+        ids: Ids,
+        server: S,
+    ) -> Result<(), (Errno, S)>
+        requires { Begins (S.meaning server) }
+        ensures does { let w = world_of S.meaning self.old in
+            Does w (naming_asks w task.0 2) (attaching task.0 place ids (S.meaning server)) (λ x. tt) (without_box result) (world_of S.meaning self.new) }
+        ensures back { IfErr result (λ e. e.1 ≡ server) }
+    {
+        if let Err(refused) = self.ports.naming(task, 2) {
+            return Err((refused, server));
+        }
+        let Some(name) = self.ports.next_name(task) else {
+            return Err((Errno::ESRCH, server));
+        };
+        self.nodes
+            .attach(place.place(name), ids, place.instead, server)?;
+        self.ports.take_name(task);
+        self.ports.take_name(task);
+        self.ports.opens_are_held();
+        self.nodes.settle();
+        Ok(())
+    }
+
+    /// Takes a server out with its nodes, wherever it is active. What nothing keeps any more goes. Takes no memory.
+    pub fn send_away(&mut self, server: ServerName)
+        ensures { world_of S.meaning self.new ≡ apply_all (DropServer server ∷ Settle ∷ []) (world_of S.meaning self.old) }
+    {
+        self.ports.opens_are_held();
+        self.nodes.detach(server);
+        self.nodes.settle();
+    }
+
+    /// No server is active on a node any more. What nothing keeps any more goes. Takes no memory.
+    pub fn unseat(&mut self, node: NodeName)
+        ensures { world_of S.meaning self.new ≡ apply_all (Unseat node ∷ Settle ∷ []) (world_of S.meaning self.old) }
+    {
+        self.ports.opens_are_held();
+        self.nodes.unseat(node);
+        self.nodes.settle();
     }
 
     /// Sets the owner, the group and the mode of a node. Takes no memory.

@@ -1,9 +1,10 @@
-//! Nodes that are to be made.
-ghost use Rattle.std.specs.Prelude.{◌≡◌};
-ghost use Rattle.hurd_core.specs.Core.{asked_nameless, asked_node};
+//! Nodes and servers that are to be made.
+ghost use Rattle.std.specs.Prelude.{◌≡◌, ◌<◌};
+ghost use Rattle.hurd_core.specs.Core.{asked_nameless, asked_node, placed};
 ghost use Rattle.hurd_core.specs.ToMake.{new_node_of};
 
-use hurd_creds::{Kind, Mode, NodeName};
+use hurd_creds::{Kind, Mode, Name, NodeName, ServerName};
+use hurd_nodes::Place;
 use hurd_trans_iface::NewNode;
 
 /// A node that is to be made: in which directory, under which name, and whose it is.
@@ -54,6 +55,43 @@ impl NamelessToMake {
         NewNode {
             name,
             kind: Kind::File,
+            owner,
+            group,
+            mode,
+        }
+    }
+}
+
+/// A server that is to be made: on which node it is to be active, whose its root is, and which server leaves for it.
+#[derive(Clone, Copy, Debug)]
+pub struct ServerToMake {
+    pub seat: NodeName,
+    pub owner: u32,
+    pub group: u32,
+    pub mode: Mode,
+    pub instead: Option<ServerName>,
+}
+
+impl ServerToMake {
+    /// Where it is to stand under this name: its root has the name after it.
+    pub(crate) fn place(&self, name: Name) -> Place
+        requires { name.count < u64.MAX }
+        ensures { result ≡ placed self.now name }
+    {
+        let ServerToMake {
+            seat,
+            owner,
+            group,
+            mode,
+            ..
+        } = *self;
+        Place {
+            name,
+            seat,
+            root: Name {
+                task: name.task,
+                count: name.count + 1,
+            },
             owner,
             group,
             mode,

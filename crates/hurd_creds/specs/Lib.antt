@@ -1,5 +1,6 @@
 pub mod Errors
 pub mod Bits
+pub mod TransBits
 pub mod Access
 pub mod Names
 pub mod NameMaps

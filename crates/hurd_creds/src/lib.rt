@@ -16,6 +16,7 @@ mod ids;
 mod mode;
 mod name;
 mod open_flags;
+mod trans_flags;
 
 pub use attrs::{Attrs, Kind, Stat, Want};
 pub use bytes::Bytes;
@@ -24,3 +25,4 @@ pub use ids::Ids;
 pub use mode::Mode;
 pub use name::{Name, NodeName, OpenName, ServerName, TaskId};
 pub use open_flags::OpenFlags;
+pub use trans_flags::{GoawayFlags, TransFlags};

@@ -42,3 +42,4 @@ pub mod Linking
 pub mod Removals
 pub mod Renames
 pub mod Servers
+pub mod Going

@@ -15,7 +15,7 @@ use Rattle.hurd_trans_iface.specs.Meaning.{Meaning, begin_root_after}
 use Rattle.hurd_nodes.specs.declared.seat.Home.{Home}
 use Rattle.hurd_nodes.specs.declared.seat.Seat.{Seat}
 use Rattle.hurd_nodes.specs.Held.{AreApart, Held, Seated, box_by, home_key, home_value, homes_of, is_home, mean, mean_seat, seat_key, seat_value, seats_of}
-use Rattle.hurd_nodes.specs.Shown.{HideNothing, NodeState, ServerInfo, attached, begun_info, begun_root, flat, info_of, is_other, is_other_seat, without_seats, node_in, nodes_of, out_server, servers_of, shown, without_server, without_value}
+use Rattle.hurd_nodes.specs.Shown.{HideNothing, NodeState, ServerInfo, attached, begun_info, begun_root, flat, info_of, is_other, is_other_seat, less_old, without_old, without_seats, node_in, nodes_of, out_server, servers_of, shown, without_server, without_value}
 use Rattle.hurd_nodes.proofs.ShownLaws.{get-nodes}
 use Rattle.hurd_nodes.proofs.SeatLaws.{some_same}
 use Rattle.hurd_nodes.proofs.PartLaws.{get-kept, kept-is, kept-here, removed-is}
@@ -107,6 +107,23 @@ hides-left f t s hides p q e is there =
     let r = removed-is (mean f t.seats) s p e (ap (λ (m : NameMap (Seated Meaning)). fin.get m p) (sym (mean-less f t.seats s)) ∙ is) in
     other_value s p t.homes q r.0 (hides p q e r.1 there)
 
+none_left : (s : Name) (homes : NameMap Name) (q : Name) → fin.get homes q ≡ None → fin.get (without_value s homes) q ≡ None
+none_left s homes q is = get-kept homes (is_other s homes) q ∙ rw is refl
+
+-- without the server that leaves, if one does
+module _ {S : Type 0} (f : S → Meaning) (t : Held S) where
+  pub taken-old : (o : Option Name) → shown f (less_old t o) ≡ without_old o (shown f t)
+  taken-old None = refl
+  taken-old (Some q) = taken-server f t q
+
+  pub hides-old : (o : Option Name) → HideNothing f t → HideNothing f (less_old t o)
+  hides-old None hides = hides
+  hides-old (Some q) hides = hides-left f t q hides
+
+  pub none-old : (o : Option Name) (n : Name) → fin.get t.homes n ≡ None → fin.get (less_old t o).homes n ≡ None
+  none-old None n is = is
+  none-old (Some q) n is = none_left q t.homes n is
+
 -- with a server, of which nothing is there yet, and its root
 
 module _ (homes actives : NameMap Name) (seats : NameMap (Seated Meaning)) (s at root : Name) (x : Node) (e : Seated Meaning) (one : e.server.nodes ≡ fin.insert fin.empty root x)
@@ -170,9 +187,6 @@ no_home : (s : Name) (homes : NameMap Name) (q : Name) → fin.get (without_valu
 no_home s homes q is =
     let both = kept-is homes (is_other s homes) q s is in
     true≢false (sym both.0 ∙ ap (λ (o : Option Name). not (is_home s o)) both.1 ∙ ap not (same_name-itself s))
-
-none_left : (s : Name) (homes : NameMap Name) (q : Name) → fin.get homes q ≡ None → fin.get (without_value s homes) q ≡ None
-none_left s homes q is = get-kept homes (is_other s homes) q ∙ rw is refl
 
 module _ {S : Type 0} (f : S → Meaning) (t : Held S) (s at : Name) (e : Seated S) (m : Meaning) (owner group : ℕ) (mode : Mode)
     (bare : m.nodes ≡ fin.empty) (begun : f e.server ≡ begin_root_after m e.root owner group mode) where

@@ -1,5 +1,5 @@
 -- What the core holds: which server serves each node, which one is active on it, the servers as boxes, and what is named from outside.
-use Rattle.std.specs.Prelude.{◌≡◌, Bool, false, List, [], ◌∷◌, if◌then◌else◌, Option, Some, None, ℕ, ◌-◌, vec_len, vec_capacity, refl}
+use Rattle.std.specs.Prelude.{◌≡◌, ◌≤◌, Bool, false, List, [], ◌∷◌, if◌then◌else◌, Option, Some, None, ℕ, ◌-◌, vec_len, vec_capacity, refl}
 use Rattle.std.specs.Option.{option_map}
 use Rattle.std.specs.Global.{Vec}
 use Rattle.std.specs.List.{list_any}
@@ -65,6 +65,10 @@ seats_of ss = keyed seat_key seat_value ss
 -- for how many items more a vector has room
 abbrev pub spare_of : Vec Hold → ℕ
 spare_of v = vec_capacity v - vec_len v
+
+-- no more rows than before, in the same memory
+abbrev pub Shrinks : {X : Type 0} → Vec X → Vec X → Type 0
+Shrinks old new = (vec_len new ≤ vec_len old) × (vec_capacity new ≡ vec_capacity old)
 
 abbrev pub held_of : {S : Type 0} → List Home → List Home → List (Seat S) → List Hold → ℕ → Held S
 held_of homes actives seats holds spare = record { homes = homes_of homes; actives = homes_of actives; seats = seats_of seats; holds = holds; spare = spare }

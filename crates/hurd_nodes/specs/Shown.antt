@@ -294,9 +294,19 @@ out_server s h = record {
   servers = fin.remove h.servers s;
 }
 
+-- without the server that leaves, if one does
+abbrev pub without_old : Option Name → NodeState → NodeState
+without_old None h = h
+without_old (Some q) h = out_server q h
+
 -- without a server, its box and its nodes
 abbrev pub without_server : {S : Type 0} → Held S → Name → Held S
 without_server h s = record h { homes = without_value s h.homes; actives = without_seats s h.homes h.actives; seats = fin.remove h.seats s }
+
+-- without the server that leaves, if one does
+abbrev pub less_old : {S : Type 0} → Held S → Option Name → Held S
+less_old h None = h
+less_old h (Some q) = without_server h q
 
 -- without the one that is active on a node
 abbrev pub without_active : {S : Type 0} → Held S → Name → Held S

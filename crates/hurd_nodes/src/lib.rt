@@ -4,8 +4,8 @@
 //! and passes on what is asked of nodes. Its contracts show servers and nodes as flat finite maps by name; nobody above this
 //! crate speaks of boxes.
 //!
-//! Servers come and go: `attach` seats one on a node, under a root of its own, and `detach` takes it out with its nodes and
-//! its box. `unseat` leaves a server where it is, but no longer active on a node.
+//! Servers come and go: `attach` seats one on a node, under a root of its own, after another has left for it, if one is to;
+//! `detach` takes one out with its nodes and its box. `unseat` leaves a server where it is, but no longer active on a node.
 //!
 //! It knows what is named from outside, once for each naming (`hold`, `release`): nodes by rights to use them, nodes by ways
 //! that rights came in by, servers by rights to control them. A server that nothing keeps any more, no naming, seat or node

@@ -7,7 +7,7 @@ ghost use Rattle.hurd_creds.specs.Memory.{Meets, Steps};
 ghost use Rattle.hurd_trans_iface.specs.Nodes.{Node, attrs_of, header_of, body_of, is_dir};
 ghost use Rattle.hurd_trans_iface.specs.Answers.{entry_of, names_of, is_file, is_made, make_of, link_of, rename_of, set_attrs_of};
 ghost use Rattle.hurd_trans_iface.specs.Behaviour.{reading, writing, resizing};
-ghost use Rattle.hurd_nodes.specs.Shown.{ServerInfo, attached, begun_info, begun_root, boot_name, out_node, out_server, without_active, without_server, server_of, shown, state_of, header_in, booted, is_root, asked_step, can_make, make_at, are_kin, can_link, link_at, can_set_attrs, set_attrs_at, readable_at, tree_by, HideNothing, forgotten, unlink_at, can_rename, rename_at, make_nameless_at, nameless_in, can_make_nameless};
+ghost use Rattle.hurd_nodes.specs.Shown.{ServerInfo, attached, begun_info, begun_root, boot_name, out_node, out_server, without_active, without_old, without_server, server_of, shown, state_of, header_in, booted, is_root, asked_step, can_make, make_at, are_kin, can_link, link_at, can_set_attrs, set_attrs_at, readable_at, tree_by, HideNothing, forgotten, unlink_at, can_rename, rename_at, make_nameless_at, nameless_in, can_make_nameless};
 ghost use Rattle.hurd_trans_iface.specs.Meaning.{Begins, keeps_tree};
 ghost use Rattle.hurd_nodes.specs.Held.{box_by, holds_of, homes_of, less_one, mean, seats_of, users_in, with_holds, with_seats};
 ghost use Rattle.hurd_nodes.specs.Settle.{is_entered, is_entered_at, node_stays, outside_of, server_stays, settle, sweep};
@@ -15,7 +15,7 @@ ghost use Rattle.hurd_nodes.specs.Parts.{TakesOut};
 
 use crate::search::{
     has_held, home_of, is_active, is_controlled, is_held, place_of_seat, place_of_server, put_home,
-    remove_hold, remove_home, remove_homes_of, remove_seat, remove_seats_of, repeated, reserve_rows, users_among,
+    remove_hold, remove_home, remove_old, remove_server, repeated, reserve_rows, users_among,
 };
 use crate::seat::{Hold, Home, Place, Seat};
 use bitflags::Flags;
@@ -508,14 +508,20 @@ impl<S: Server> Nodes<S> {
         remove_hold(&mut self.holds, hold);
     }
 
-    /// A new server takes its place: active on a node, with a root of its own, which may be a node that is there. A server of its name that was there goes first, as
-    /// by `detach`, and one that was active on the node is so no more.
+    /// A new server takes its place: active on a node, with a root of its own, which may be a node that is there. The server that leaves for it goes first, as by
+    /// `detach`, and so does one of its own name; one that was active on the node is so no more.
     ///
     /// `ENOMEM`, with the box back: nothing is changed.
-    pub fn attach(&mut self, place: Place, ids: Ids, server: S) -> Result<(), (Errno, S)>
+    pub fn attach(
+        &mut self,
+        place: Place,
+        ids: Ids,
+        instead: Option<ServerName>,
+        server: S,
+    ) -> Result<(), (Errno, S)>
         requires { Begins (S.meaning server) }
         ensures shown { OnOk result (shown S.meaning self.new ≡ attached place.name place.seat (begun_info (S.meaning server) place.root ids)
-            (begun_root (S.meaning server) place.owner place.group place.mode) (shown S.meaning self.old)) }
+            (begun_root (S.meaning server) place.owner place.group place.mode) (without_old instead (shown S.meaning self.old))) }
         ensures holds { holds_of self.new ≡ holds_of self.old }
         ensures hidden { fin.get self.old.homes place.root ≡ None → HideNothing S.meaning self.old → HideNothing S.meaning self.new }
         ensures kept { OnErr result (self.new ≡ self.old) }
@@ -524,9 +530,13 @@ impl<S: Server> Nodes<S> {
         if reserve_rows(&mut self.homes, &mut self.actives, &mut self.seats).is_err() {
             return Err((Errno::ENOMEM, server));
         }
-        remove_seats_of(&mut self.actives, &self.homes, place.name);
-        remove_homes_of(&mut self.homes, place.name);
-        remove_seat(&mut self.seats, place.name);
+        remove_old(&mut self.homes, &mut self.actives, &mut self.seats, instead);
+        remove_server(
+            &mut self.homes,
+            &mut self.actives,
+            &mut self.seats,
+            place.name,
+        );
         let mut server = server;
         server.begin_root(place.root, place.owner, place.group, place.mode);
         let served = Home {
@@ -686,9 +696,7 @@ impl<S: Server> Nodes<S> {
     fn take_server(&mut self, server: ServerName)
         ensures { self.new ≡ without_server self.old server }
     {
-        remove_seats_of(&mut self.actives, &self.homes, server);
-        remove_homes_of(&mut self.homes, server);
-        remove_seat(&mut self.seats, server);
+        remove_server(&mut self.homes, &mut self.actives, &mut self.seats, server);
     }
 
     /// Lets the box of a node's server forget it. The node's home stays for now.

@@ -1,11 +1,11 @@
 //! Homes, seats and holds by name.
-ghost use Rattle.std.specs.Prelude.{◌≡◌, ◌<◌, ◌≤◌, ◌&&◌, length, replicate, IfOk, IfSome, MatchOption, vec_len, vec_capacity};
+ghost use Rattle.std.specs.Prelude.{◌≡◌, ◌<◌, ◌≤◌, ◌&&◌, ℕ, List, length, replicate, IfOk, IfSome, MatchOption, vec_len, vec_capacity};
 ghost use Rattle.std.specs.List.{list_any, remove};
 ghost use Rattle.std.specs.FinMap as fin;
 ghost use Rattle.hurd_creds.specs.Names.{same_name};
 ghost use Rattle.hurd_creds.specs.NameMaps.{place_by};
-ghost use Rattle.hurd_nodes.specs.Held.{AreApart, home_key, homes_of, is_controlled, is_held, is_user, less_one, names_node, names_server, place_in, same_hold, seat_key, seats_of, users_in, is_home};
-ghost use Rattle.hurd_nodes.specs.Shown.{without_seats, without_value};
+ghost use Rattle.hurd_nodes.specs.Held.{AreApart, AreTables, Shrinks, held_of, home_key, homes_of, is_controlled, is_held, is_user, less_one, names_node, names_server, place_in, same_hold, seat_key, seats_of, users_in, is_home};
+ghost use Rattle.hurd_nodes.specs.Shown.{less_old, without_seats, without_server, without_value};
 
 use crate::seat::{Hold, Home, Seat};
 use hurd_creds::{NodeName, ServerName};
@@ -107,9 +107,7 @@ pub(crate) fn remove_seats_of(actives: &mut Vec<Home>, homes: &[Home], server: S
     ensures len { vec_len actives.new ≤ vec_len actives.old }
     ensures capacity { vec_capacity actives.new ≡ vec_capacity actives.old }
 {
-    actives.retain(|active| {
-        !is_served(homes, active.node, server) && server != active.server
-    });
+    actives.retain(|active| { !is_served(homes, active.node, server) && server != active.server });
 }
 
 /// Takes out the seat of a server, with its box.
@@ -120,6 +118,42 @@ pub(crate) fn remove_seat<S: Drop>(seats: &mut Vec<Seat<S>>, name: ServerName)
     ensures capacity { vec_capacity seats.new ≡ vec_capacity seats.old }
 {
     seats.retain(|seat| name != seat.name);
+}
+
+/// Takes out a server: its nodes with what is active on them, wherever it is active itself, and its seat with its box.
+pub(crate) fn remove_server<S: Drop>(
+    homes: &mut Vec<Home>,
+    actives: &mut Vec<Home>,
+    seats: &mut Vec<Seat<S>>,
+    server: ServerName,
+)
+    requires { AreTables homes.old.items actives.old.items seats.old.items }
+    ensures is { (holds : List _) (spare : ℕ) → held_of homes.new.items actives.new.items seats.new.items holds spare
+        ≡ without_server (held_of homes.old.items actives.old.items seats.old.items holds spare) server }
+    ensures tables { AreTables homes.new.items actives.new.items seats.new.items }
+    ensures room { Shrinks homes.old homes.new × Shrinks actives.old actives.new × Shrinks seats.old seats.new }
+{
+    remove_seats_of(actives, homes, server);
+    remove_homes_of(homes, server);
+    remove_seat(seats, server);
+}
+
+/// Takes out the server that leaves, if one does.
+pub(crate) fn remove_old<S: Drop>(
+    homes: &mut Vec<Home>,
+    actives: &mut Vec<Home>,
+    seats: &mut Vec<Seat<S>>,
+    old: Option<ServerName>,
+)
+    requires { AreTables homes.old.items actives.old.items seats.old.items }
+    ensures is { (holds : List _) (spare : ℕ) → held_of homes.new.items actives.new.items seats.new.items holds spare
+        ≡ less_old (held_of homes.old.items actives.old.items seats.old.items holds spare) old }
+    ensures tables { AreTables homes.new.items actives.new.items seats.new.items }
+    ensures room { Shrinks homes.old homes.new × Shrinks actives.old actives.new × Shrinks seats.old seats.new }
+{
+    if let Some(server) = old {
+        remove_server(homes, actives, seats, server);
+    }
 }
 
 /// Takes room for a row more in each table. `ENOMEM`: the rows are as they were.

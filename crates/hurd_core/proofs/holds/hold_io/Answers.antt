@@ -1,4 +1,3 @@
-use Rattle.std.proofs.Common.{arith}
 use Rattle.hurd_core.proofs.WayLaws.{both-held}
 use Rattle.hurd_core.proofs.holds.hold_io.Goals as goal
 

@@ -1,7 +1,6 @@
 -- The ports without the port, and the nodes that are still held, are the world without it.
 use Rattle.std.proofs.Common.{ℕ, List, sym, ap}
 use Rattle.hurd_nodes.specs.declared.seat.Hold.{Hold}
-use Rattle.hurd_creds.specs.declared.name.Name.{Name}
 use Rattle.std.proofs.lemmas.Result.{err_from_is_err_and}
 use Rattle.hurd_nodes.specs.Shown.{shown}
 use Rattle.hurd_core.proofs.CoreLaws.{drop-refused, drop-never, drop-holds, drop-follows}

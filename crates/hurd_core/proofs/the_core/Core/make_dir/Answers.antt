@@ -1,10 +1,9 @@
 -- Leave, a name, the server's making: each refusal in its place, and then the machine's making.
-use Rattle.std.proofs.Common.{ℕ, Bool, List, refl, sym, inl, ap}
+use Rattle.std.proofs.Common.{ℕ, List, refl, sym, inl, ap}
 use Rattle.std.proofs.lemmas.Result.{err_from_is_err_and}
 use Rattle.hurd_nodes.specs.declared.seat.Hold.{Hold}
 use Rattle.hurd_nodes.specs.Shown.{shown}
 use Rattle.hurd_core.specs.ToMake.{new_node_of}
-use Rattle.hurd_creds.specs.declared.name.Name.{Name}
 use Rattle.hurd_core.proofs.HoldLaws.{holds_given}
 use Rattle.hurd_core.proofs.DirLaws.{dir-refused, dir-unnamed, dir-lacks, dir-made}
 use Rattle.hurd_core.proofs.the_core.Core.make_dir.Goals as goal

@@ -6,7 +6,6 @@ use Rattle.hurd_creds.specs.declared.attrs.Kind.TheVariants.{File}
 use Rattle.hurd_nodes.specs.Shown.{shown}
 use Rattle.hurd_machine.specs.World.{world_from}
 use Rattle.hurd_core.specs.ToMake.{new_node_of}
-use Rattle.hurd_creds.specs.declared.name.Name.{Name}
 use Rattle.hurd_core.proofs.HoldLaws.{holds_given}
 use Rattle.hurd_core.proofs.CoreLaws.{reserve-lacks, fill-holds}
 use Rattle.hurd_core.proofs.MakingLaws.{no-room, not-made, makes, room-left, make-lacks, lacks-memory, file-made}

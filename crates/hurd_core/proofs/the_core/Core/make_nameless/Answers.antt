@@ -4,7 +4,6 @@ use Rattle.std.proofs.lemmas.Result.{err_from_is_err_and}
 use Rattle.hurd_nodes.specs.declared.seat.Hold.{Hold}
 use Rattle.hurd_nodes.specs.Shown.{shown}
 use Rattle.hurd_machine.specs.World.{world_from}
-use Rattle.hurd_creds.specs.declared.name.Name.{Name}
 use Rattle.hurd_core.proofs.HoldLaws.{holds_given}
 use Rattle.hurd_core.proofs.CoreLaws.{reserve-lacks, fill-holds}
 use Rattle.hurd_core.proofs.MakingLaws.{room-left}

@@ -1,5 +1,5 @@
 -- The ports with a port more, whose nodes are held once more, are the world with it.
-use Rattle.std.proofs.Common.{refl, sym, inl, inr, ap, subst}
+use Rattle.std.proofs.Common.{refl, sym, inl, inr, ap}
 use Rattle.std.specs.Prelude.{is_ok}
 use Rattle.std.proofs.lemmas.Result.{err_from_is_err_and}
 use Rattle.hurd_nodes.specs.Shown.{shown}

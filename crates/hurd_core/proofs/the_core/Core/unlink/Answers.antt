@@ -1,8 +1,7 @@
 -- The nodes without the entry, and what is left of them, are the world without it.
-use Rattle.std.proofs.Common.{ℕ, Bool, List, sym, subst}
+use Rattle.std.proofs.Common.{ℕ, List, sym, subst}
 use Rattle.std.proofs.lemmas.Result.{err_from_is_err_and}
 use Rattle.hurd_nodes.specs.declared.seat.Hold.{Hold}
-use Rattle.hurd_creds.specs.declared.name.Name.{Name}
 use Rattle.hurd_nodes.specs.Shown.{shown}
 use Rattle.hurd_core.specs.Core.{HoldsRights}
 use Rattle.hurd_core.proofs.UnlinkLaws.{unlink-refused, unlink-follows}

@@ -1,0 +1,21 @@
+-- The server that a port controls.
+use Rattle.std.specs.Prelude.{ℕ, Option, Some, None, Result, Ok, Err}
+use Rattle.hurd_creds.specs.declared.name.Name.{Name}
+use Rattle.hurd_creds.specs.declared.errno.Errno.{Errno}
+use Rattle.hurd_creds.specs.declared.errno.Errno.TheVariants.{EBADF}
+use Rattle.hurd_ports.specs.declared.table.Right.{Right}
+use Rattle.hurd_ports.specs.declared.table.Right.TheVariants.{Io, Control}
+use Rattle.hurd_ports.specs.Tables.{PortState, or_refuse, right_of}
+
+-- the server that a right controls
+abbrev pub server_in : Right → Option Name
+server_in (Io r) = None
+server_in (Control s) = Some s
+
+abbrev pub control_in : Result Right Errno → Result Name Errno
+control_in (Err e) = Err e
+control_in (Ok r) = or_refuse EBADF (server_in r)
+
+-- the server that a task controls by the right under a number: EBADF also where the port is one to use a node
+abbrev pub control_of : PortState → ℕ → ℕ → Result Name Errno
+control_of h t p = control_in (right_of h t p)

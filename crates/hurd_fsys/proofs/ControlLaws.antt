@@ -1,0 +1,125 @@
+-- Ports that control servers: what an answer shows, and that it is the same in worlds that agree; and a port more to control one.
+use Rattle.std.proofs.Common.{◌≡◌, ◌⊎◌, ◌∙◌, ℕ, Bool, true, List, [], ◌∷◌, Option, Some, None, refl, sym, ap, subst, inl, inr, arith}
+use Rattle.std.specs.Prelude.{Result, Ok, Err}
+use Rattle.hurd_creds.specs.declared.name.Name.{Name}
+use Rattle.hurd_creds.specs.declared.errno.Errno.{Errno}
+use Rattle.hurd_creds.specs.declared.errno.Errno.TheVariants.{EBADF, EDIED}
+use Rattle.hurd_nodes.specs.Shown.{ServerInfo}
+use Rattle.hurd_ports.specs.declared.table.Right.{Right}
+use Rattle.hurd_ports.specs.declared.table.Right.TheVariants.{Io, Control}
+use Rattle.hurd_ports.specs.Tables.{Task, right_of, names_open}
+use Rattle.hurd_ports.specs.Steps.{with_port}
+use Rattle.hurd_machine.specs.World.{World, ports_of, task_at, server_at}
+use Rattle.hurd_machine.specs.Change.{Change, EditTask}
+use Rattle.std.proofs.lemmas.Bool.{or_cases}
+use Rattle.hurd_creds.specs.Access.{holds_uid, is_root, owns}
+use Rattle.hurd_machine.specs.Handle.{Named}
+use Rattle.hurd_machine.specs.Sight.{Part, TaskOf, Holds, Knows, OfControl, OwnsIt, UidOfRight, bare, is_on}
+use Rattle.hurd_machine.specs.Sound.{Below, Coherent}
+use Rattle.hurd_machine.proofs.Asks.{IsPlain, right_same, right_plain, holds_right, first_ok, on_ok, first_same, on_same, first_plain, on_plain, ok_plain, err_plain}
+use Rattle.hurd_machine.proofs.Views.{Agree, server_known}
+use Rattle.hurd_machine.proofs.Coherence.{AllProper}
+use Rattle.hurd_machine.proofs.Rights.{port_rights, port_keeps, port_counts, port_table}
+use Rattle.hurd_machine.proofs.Settle.{Rests, rests_quiet}
+use Rattle.hurd_machine.proofs.Frame.{AllWithin, not_on, not_named}
+use Rattle.hurd_machine.proofs.Sizes.{KeepsSized, sized_ports}
+use Rattle.hurd_machine.proofs.Links.{KeepsLinked, linked_steady}
+use Rattle.hurd_machine.proofs.Allowed.{RightMay, IdsMay}
+use Rattle.hurd_machine.proofs.Confine.{Commands}
+use Rattle.hurd_machine.proofs.Several.{AllMay}
+use Rattle.hurd_core.specs.Control.{control_in, control_of}
+use Rattle.hurd_fsys.specs.Controls.{Controlled, control_asks}
+use Rattle.hurd_fsys.specs.Fsys.{controlling}
+
+-- a port that controls is one with that right
+pub control_is : (w : World) (t c : ℕ) (s : Name) → control_of (ports_of w) t c ≡ Ok s → right_of (ports_of w) t c ≡ Ok (Control s)
+control_is w t c s h = go (right_of (ports_of w) t c) h
+  where
+    go : (o : Result Right Errno) → control_in o ≡ Ok s → o ≡ Ok (Control s)
+    go (Err e) k = absurd (cc)
+    go (Ok (Io r)) k = absurd (cc)
+    go (Ok (Control q)) k = let same : q ≡ s = cc in ap (λ (z : Name). Ok (Control z)) same
+
+pub control_same : {S : ℕ → Bool} {v w : World} → Agree S v w → (t : ℕ) → S t ≡ true → (c : ℕ) → control_of (ports_of w) t c ≡ control_of (ports_of v) t c
+control_same a t ours c = ap control_in (right_same a t ours c)
+
+pub control_plain : (w : World) (t c : ℕ) → IsPlain (control_of (ports_of w) t c)
+control_plain w t c = go (right_of (ports_of w) t c) (right_plain w t c)
+  where
+    go : (o : Result Right Errno) → IsPlain o → IsPlain (control_in o)
+    go (Err e) p = err_plain e (p e refl)
+    go (Ok (Io r)) p = err_plain EBADF refl
+    go (Ok (Control q)) p = ok_plain q
+
+-- a server that a port controls
+pub record IsControlled (w : World) (t c : ℕ) (k : Controlled) : Type 0 where
+  pub is_right : right_of (ports_of w) t c ≡ Ok (Control k.server)
+  pub is_server : server_at w k.server ≡ Some k.info
+
+pub is_controlled : (w : World) (t c : ℕ) (k : Controlled) → control_asks w t c ≡ Ok k → IsControlled w t c k
+is_controlled w t c k is =
+    let s = first_ok (control_of (ports_of w) t c) _ k is in
+    let i = on_ok EDIED (server_at w s.0) _ k s.2 in
+    let same : record { server = s.0; info = i.0 } ≡ k = cc (i.2) in
+    subst (IsControlled w t c) same (record { is_right = control_is w t c s.0 s.1; is_server = i.1 })
+
+pub controlled_same : {S : ℕ → Bool} {v w : World} → Agree S v w → (t : ℕ) → S t ≡ true → (c : ℕ) → control_asks w t c ≡ control_asks v t c
+controlled_same {S} {v} {w} a t ours c =
+    first_same _ _ _ _ (control_same a t ours c) (λ s is.
+    on_same _ _ _ _ _ (server_known a s (OfControl (holds_right t ours c (Control s) (control_is v t c s is)))) (λ i there. refl))
+
+pub controlled_plain : (w : World) (t c : ℕ) → IsPlain (control_asks w t c)
+controlled_plain w t c = first_plain _ _ (control_plain w t c) (λ s is. on_plain _ _ _ refl (λ i there. ok_plain _))
+
+-- ids that own a node hold its owner's uid, or 0
+pub owner_holds : (S : ℕ → Bool) (v : World) (n : Named) → Holds S v (Io n.right) → owns n.right.ids (bare n.header) ≡ true → OwnsIt S v n.header
+owner_holds S v n held h = elim (or_cases (holds_uid n.right.ids n.header.owner) (is_root n.right.ids) h) [
+  | inl e ↦ (n.header.owner, UidOfRight n.right held e, inl refl)
+  | inr e ↦ (0, UidOfRight n.right held e, inr refl)
+]
+
+-- a port more, to control a server
+
+module _ (t : ℕ) (s : Name) where
+  abbrev new : Right
+  new = Control s
+
+  pub controls_within : (T : Part → Type 0) (w : World) → T (TaskOf t) → AllWithin T w (controlling t s)
+  controls_within T w task = (
+    (
+      task,
+      λ x is. record {
+        opens = λ o out. port_counts (names_open o) new x (not_named w o new T tt out);
+        users = λ q out. port_counts (is_on w q) new x (not_on w q new T tt out);
+      },
+    ),
+    tt,
+  )
+
+  pub controls_proper : (w : World) → Coherent w → (x : Task) → task_at w t ≡ Some x → Below w s → AllProper w (controlling t s)
+  controls_proper w c x is given = ((λ z. omega arith, x, is, port_table w c t new x is given), λ d. tt)
+
+  pub controls_rests : (w : World) → Rests w (controlling t s)
+  controls_rests w = rests_quiet (controlling t s) w (port_keeps new, tt)
+
+  pub controls_sized : (w : World) → KeepsSized w (controlling t s)
+  controls_sized w = sized_ports (controlling t s) w (tt, tt)
+
+  pub controls_linked : (w : World) → KeepsLinked w (controlling t s)
+  controls_linked w = linked_steady (controlling t s) w (tt, tt)
+
+  -- a task of S may control what S commands
+  pub controls_may : (S : ℕ → Bool) (v : World) → S t ≡ true → Commands S v s → AllMay S v v (controlling t s)
+  controls_may S v ours commands = (
+    (
+      ours,
+      λ a at. (
+        λ q h. elim (port_rights new a q h) [ inl old ↦ inl old | inr e ↦ inr (subst (RightMay S v v) e commands) ],
+        inr (record {
+          ids = inl refl;
+          rights = λ q h. elim (port_rights new a q h) [ inl old ↦ inl old | inr e ↦ inr (subst (IdsMay S v) e tt) ];
+        }),
+      ),
+    ),
+    tt,
+  )

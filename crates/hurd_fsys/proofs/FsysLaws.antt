@@ -1,0 +1,148 @@
+-- The laws of sending servers away, and of getting control of them.
+use Rattle.std.proofs.Common.{◌≡◌, ◌≢◌, ◌⊎◌, ◌∙◌, ◌||◌, ◌&&◌, ◌==◌, not, ℕ, Bool, true, false, true≢false, Some, refl, sym, ap, subst, inl, inr}
+use Rattle.std.proofs.lemmas.Bool.{or_cases}
+use Rattle.std.specs.Prelude.{Ok}
+use Rattle.hurd_creds.specs.declared.name.Name.{Name}
+use Rattle.hurd_creds.specs.declared.trans_flags.GoawayFlags.{GoawayFlags}
+use Rattle.hurd_creds.specs.declared.errno.Errno.TheVariants.{EBUSY, ENXIO, EOVERFLOW, EPERM, ESRCH}
+use Rattle.hurd_creds.specs.Access.{holds_uid, is_root, owns}
+use Rattle.hurd_creds.specs.Names.{same_name}
+use Rattle.hurd_creds.specs.TransBits.{asks_goaway, FORCE}
+use Rattle.hurd_creds.proofs.NameLaws.{same_name-itself}
+use Rattle.hurd_nodes.specs.Shown.{boot_name}
+use Rattle.hurd_nodes.proofs.PartLaws.{and_both}
+use Rattle.hurd_ports.specs.declared.table.Right.TheVariants.{Io, Control}
+use Rattle.hurd_ports.specs.Tables.{Task, has_room}
+use Rattle.hurd_machine.specs.declared.call.Reply.TheVariants.{Done, Port}
+use Rattle.hurd_machine.specs.World.{World, ports_of, task_at, active_at, server_at}
+use Rattle.hurd_machine.specs.Plan.{Plan}
+use Rattle.hurd_machine.specs.Handle.{Named, port_asks}
+use Rattle.hurd_machine.specs.Sight.{Part, UsersOf, Holds, HasUid, UidOfRight, Held, OwnsIt, Sends, ByControl, BySeat, MaySend, bare, users}
+use Rattle.hurd_machine.specs.Sound.{Below, Coherent}
+use Rattle.hurd_machine.specs.Touched.{Goes, Nothing}
+use Rattle.hurd_machine.proofs.Views.{Agree, same_tasks, active_same}
+use Rattle.hurd_machine.proofs.Frame.{Full, AllWithin}
+use Rattle.hurd_machine.proofs.Opens.{own_task}
+use Rattle.hurd_machine.proofs.Going.{goes_within, goes_proper, goes_linked, goes_sized, goes_rests, goes_may}
+use Rattle.hurd_machine.proofs.Asks.{IsPlain, IsNamed, is_named, port_same, port_seen, port_plain, holds_right, first_ok, given_ok, on_ok, first_same, given_same, on_same, first_plain, given_plain, on_plain, ok_plain, answered_all, answered_same, answered_plain, done_plain}
+use Rattle.hurd_machine.proofs.CallLaws.{CallLaws, answered_within, answered_proper, answered_linked, answered_sized, answered_rests, answered_may}
+use Rattle.hurd_machine.proofs.Confine.{Commands}
+use Rattle.hurd_core.specs.Core.{room_asks}
+use Rattle.hurd_fsys.specs.Controls.{Controlled, control_asks}
+use Rattle.hurd_fsys.specs.Fsys.{may_go, goaway_asks, plan_goaway, touches_goaway, seated_asks, plan_cntl, touches_cntl}
+use Rattle.hurd_fsys.proofs.ControlLaws.{IsControlled, is_controlled, controlled_same, controlled_plain, controls_within, controls_proper, controls_rests, controls_sized, controls_linked, controls_may, owner_holds}
+
+-- fsys_goaway
+
+module _ (t c : ℕ) (flags : GoawayFlags) where
+  abbrev force : Bool
+  force = asks_goaway flags FORCE
+
+  -- the server that goes isn't the boot server
+  record Goer (w : World) (s : Name) : Type 0 where
+    other : s ≢ boot_name
+
+  goer : (w : World) (s : Name) → goaway_asks w t c flags ≡ Ok s → Goer w s
+  goer w s is =
+      let k = first_ok (control_asks w t c) _ s is in
+      let g = given_ok EBUSY (may_go w k.0.server force) _ s k.2 in
+      let same : k.0.server ≡ s = cc (g.1) in
+      let both = and_both (not (same_name k.0.server boot_name)) (force || (users w k.0.server == 0)) g.0 in
+      record { other = λ e. true≢false (sym both.0 ∙ ap (λ (z : Name). not (same_name k.0.server z)) (sym (same ∙ e)) ∙ ap not (same_name-itself k.0.server)) }
+
+  -- whether it may go is the same for who controls it
+  may_go_same : {S : ℕ → Bool} {v w : World} → Agree S v w → (k : Controlled) → IsControlled v t c k → S t ≡ true → may_go w k.server force ≡ may_go v k.server force
+  may_go_same {S} {v} {w} a k is ours = by (same_name k.server boot_name) refl
+    where
+      same_users : k.server ≢ boot_name → users w k.server ≡ users v k.server
+      same_users other =
+          let e = a.parts (UsersOf k.server) (record { info = k.info; is_server = is.is_server; other = other; why = ByControl (holds_right t ours c (Control k.server) is.is_right) }) in cc
+
+      by : (b : Bool) → same_name k.server boot_name ≡ b → may_go w k.server force ≡ may_go v k.server force
+      by true e = ap (λ z. not z && (force || (users w k.server == 0))) e ∙ sym (ap (λ z. not z && (force || (users v k.server == 0))) e)
+      by false e =
+          let other : k.server ≢ boot_name = λ same. true≢false (sym (ap (λ (z : Name). same_name k.server z) (sym same) ∙ same_name-itself k.server) ∙ e) in
+          ap (λ n. not (same_name k.server boot_name) && (force || (n == 0))) (same_users other)
+
+  goaway_same : (S : ℕ → Bool) (v w : World) → Agree S v w → S t ≡ true → goaway_asks w t c flags ≡ goaway_asks v t c flags
+  goaway_same S v w a ours =
+      first_same _ _ _ _ (controlled_same a t ours c) (λ k is.
+      given_same _ _ _ _ _ (may_go_same a k (is_controlled v t c k is) ours) (λ e. refl))
+
+  goaway_plain : (w : World) → IsPlain (goaway_asks w t c flags)
+  goaway_plain w = first_plain _ _ (controlled_plain w t c) (λ k is. given_plain _ _ _ refl (λ e. ok_plain _))
+
+  pub goaway_laws : CallLaws t (λ w. plan_goaway w t c flags) (λ w. touches_goaway w t c flags)
+  goaway_laws = record {
+    fits = λ w c'. answered_within w t (goaway_asks w t c flags) _ _ (λ s is. goes_within w c' s (goer w s is).other (Full w t (Goes w s)) (λ p g. inl g));
+    proper = λ w s. answered_proper w _ _ (λ q is. goes_proper w s.coherent q (goer w q is).other s.linked);
+    linked = λ w s. answered_linked w _ _ s.linked (λ q is. goes_linked w s.coherent q (goer w q is).other s.linked);
+    sized = λ w s. answered_sized w _ _ s.sizes (λ q is. goes_sized w s.coherent q (goer w q is).other s.sizes);
+    rests = λ w s. answered_rests w _ _ s.settled (λ q is. goes_rests w s.coherent q (goer w q is).other s.settled);
+    may = λ S v c' ours. answered_may v _ _ S v (λ q is. goes_may v c' q (goer v q is).other S v);
+    same = λ S v w c' a ours. answered_same _ _ _ _ (goaway_same S v w a ours) (λ q is. refl);
+    plain = λ w. answered_plain _ _ (goaway_plain w) (λ q is. done_plain Done refl);
+  }
+
+-- file_get_translator_cntl
+
+module _ (t p : ℕ) where
+  -- what is controlled is active on a node that the port's ids own
+  record Seated (w : World) (s : Name) : Type 0 where
+    named : Named
+    is_named : IsNamed w t p named
+    owned : owns named.right.ids (bare named.header) ≡ true
+    active : active_at w named.right.node ≡ Some s
+
+  seated : (w : World) (s : Name) → seated_asks w t p ≡ Ok s → Seated w s
+  seated w s is =
+      let n = first_ok (port_asks w t p) _ s is in
+      let g = given_ok EPERM _ _ s n.2 in
+      let q = on_ok ENXIO (active_at w n.0.right.node) _ s g.1 in
+      let same : q.0 ≡ s = cc (q.2) in
+      subst (Seated w) same (record { named = n.0; is_named = is_named w t p n.0 n.1; owned = g.0; active = q.1 })
+
+  roomy : (w : World) (x : Task) → room_asks w t 0 ≡ Ok x → task_at w t ≡ Some x
+  roomy w x is =
+      let y = on_ok ESRCH (task_at w t) _ x is in
+      let r = given_ok EOVERFLOW (has_room 0 y.0) _ x y.2 in
+      let same : y.0 ≡ x = cc (r.1) in
+      y.1 ∙ ap Some same
+
+  seated_same : (S : ℕ → Bool) (v w : World) → Agree S v w → S t ≡ true → seated_asks w t p ≡ seated_asks v t p
+  seated_same S v w a ours =
+      first_same _ _ _ _ (port_same a t ours p) (λ n is.
+      given_same _ _ _ _ _ refl (λ e.
+      on_same _ _ _ _ _ (active_same a n.right.node (port_seen t ours p n is)) (λ s at. refl)))
+
+  room_same : (S : ℕ → Bool) (v w : World) → Agree S v w → S t ≡ true → room_asks w t 0 ≡ room_asks v t 0
+  room_same S v w a ours = on_same _ _ _ _ _ (same_tasks a t ours) (λ x k. refl)
+
+  seated_plain : (w : World) → IsPlain (seated_asks w t p)
+  seated_plain w = first_plain _ _ (port_plain w t p) (λ n is. given_plain _ _ _ refl (λ e. on_plain _ _ _ refl (λ s at. ok_plain _)))
+
+  room_plain : (w : World) → IsPlain (room_asks w t 0)
+  room_plain w = on_plain _ _ _ refl (λ x k. given_plain _ _ _ refl (λ room. ok_plain _))
+
+  -- a task of S may control it
+  commanded : (S : ℕ → Bool) (v : World) → Coherent v → S t ≡ true → (s : Name) → Seated v s → Commands S v s
+  commanded S v c ours s k =
+      let i = c.seating.seated k.named.right.node s k.active in
+      let held = holds_right t ours p (Io k.named.right) k.is_named.is_right in
+      inr (i.1, i.2, BySeat k.named.right.node k.named.header (Held k.named.right held refl) k.active k.is_named.is_header (owner_holds S v k.named held k.owned))
+
+  pub cntl_laws : CallLaws t (λ w. plan_cntl w t p) (λ w. touches_cntl w t p)
+  cntl_laws = record {
+    fits = λ w c. answered_all (λ (P : Plan). AllWithin (Full w t Nothing) w P.changes) (λ e. tt) (seated_asks w t p) _ (λ s is.
+        answered_all (λ (P : Plan). AllWithin (Full w t Nothing) w P.changes) (λ e. tt) (room_asks w t 0) _ (λ x at. controls_within t s (Full w t Nothing) w (own_task w t Nothing)));
+    proper = λ w s. answered_proper w _ _ (λ q is. answered_proper w _ _ (λ x at.
+        let k = seated w q is in
+        let i = s.coherent.seating.seated k.named.right.node q k.active in
+        controls_proper t q w s.coherent x (roomy w x at) (s.coherent.given.servers q i.1 i.2)));
+    linked = λ w s. answered_linked w _ _ s.linked (λ q is. answered_linked w _ _ s.linked (λ x at. controls_linked t q w s.linked));
+    sized = λ w s. answered_sized w _ _ s.sizes (λ q is. answered_sized w _ _ s.sizes (λ x at. controls_sized t q w s.sizes));
+    rests = λ w s. answered_rests w _ _ s.settled (λ q is. answered_rests w _ _ s.settled (λ x at. controls_rests t q w s.settled));
+    may = λ S v c ours. answered_may v _ _ S v (λ q is. answered_may v _ _ S v (λ x at. controls_may t q S v ours (commanded S v c ours q (seated v q is))));
+    same = λ S v w c a ours. answered_same _ _ _ _ (seated_same S v w a ours) (λ q is. answered_same _ _ _ _ (room_same S v w a ours) (λ x at. refl));
+    plain = λ w. answered_plain _ _ (seated_plain w) (λ q is. answered_plain _ _ (room_plain w) (λ x at. done_plain (Port x.next) refl));
+  }

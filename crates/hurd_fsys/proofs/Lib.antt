@@ -1,0 +1,4 @@
+pub mod ControlLaws
+pub mod FsysLaws
+pub mod BegunLaws
+pub mod SettingLaws

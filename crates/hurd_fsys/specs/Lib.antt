@@ -1,0 +1,3 @@
+pub mod Controls
+pub mod Fsys
+pub mod Setting

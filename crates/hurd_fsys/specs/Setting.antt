@@ -1,0 +1,121 @@
+-- Setting a translator: who may, what goes for it, and what it is given.
+use Rattle.std.specs.Prelude.{◌≡◌, ◌⊎◌, ◌==◌, ◌||◌, ◌&&◌, not, is_some, ℕ, Bool, true, false, if◌then◌else◌, List, [], ◌∷◌, Option, Some, None, Result, Ok, Err}
+use Rattle.std.specs.FinSet as set
+use Rattle.std.specs.Int.RustNames.{bit_and, bit_or}
+use Rattle.hurd_creds.specs.declared.name.Name.{Name}
+use Rattle.hurd_creds.specs.declared.mode.Mode.{Mode}
+use Rattle.hurd_creds.specs.declared.attrs.Kind.{Kind}
+use Rattle.hurd_creds.specs.declared.errno.Errno.{Errno}
+use Rattle.hurd_creds.specs.declared.errno.Errno.TheVariants.{EBUSY, EINVAL, EOPNOTSUPP, EPERM}
+use Rattle.hurd_creds.specs.declared.trans_flags.TransFlags.{TransFlags}
+use Rattle.hurd_creds.specs.declared.trans_flags.GoawayFlags.{GoawayFlags}
+use Rattle.hurd_creds.specs.Access.{IdSets, owns}
+use Rattle.hurd_creds.specs.TransBits.{asks_goaway, asks_trans, SET, EXCL, ORPHAN, FORCE}
+use Rattle.hurd_trans_iface.specs.Nodes.{is_dir}
+use Rattle.hurd_trans_iface.specs.Meaning.{Meaning, root_of}
+use Rattle.hurd_nodes.specs.Shown.{tree_by}
+use Rattle.hurd_machine.specs.declared.call.Reply.TheVariants.{Done}
+use Rattle.hurd_machine.specs.World.{World, active_at, info_at, is_server_root}
+use Rattle.hurd_machine.specs.Change.{Change, DropServer, Unseat, Settle}
+use Rattle.hurd_machine.specs.Plan.{Plan, given, first, answered}
+use Rattle.hurd_machine.specs.Handle.{Named, port_asks}
+use Rattle.hurd_machine.specs.Sight.{Part, AttrOf, bare, users}
+use Rattle.hurd_machine.specs.Touched.{asked_parts, Nothing, Goes}
+use Rattle.hurd_core.specs.declared.to_make.ServerToMake.{ServerToMake}
+use Rattle.hurd_core.specs.Core.{attaching, naming_asks}
+
+-- what is asked for: flags of the passive half and of the active one, and of how the old server goes
+pub record Wanted : Type 0 where
+  pub passive : TransFlags
+  pub active : TransFlags
+  pub goaway : GoawayFlags
+
+abbrev pub sets_nothing : Wanted → Bool
+sets_nothing f = not (asks_trans f.passive SET) && not (asks_trans f.active SET)
+
+-- a port on a node that its ids own, and a box only where an active translator is to be set: EBADF, EDIED, EPERM, EINVAL
+abbrev pub setter_asks : World → ℕ → ℕ → Wanted → Bool → Result Named Errno
+setter_asks w t p f brings =
+    first (port_asks w t p) (λ n.
+    given EPERM (owns n.right.ids (bare n.header)) (
+    given EINVAL (not brings || asks_trans f.active SET) (Ok n)))
+
+-- a node that a server may sit on: of a server that keeps a tree, and not its root
+abbrev pub may_seat : World → Name → Bool
+may_seat w n = tree_by (info_at w n) && not (is_server_root w n)
+
+-- whether what is active on a node may be replaced: not where the half is to be a new one, nor while it has users, unless it becomes an orphan, or is forced
+abbrev pub may_replace : World → Wanted → Option Name → Bool
+may_replace w f None = true
+may_replace w f (Some q) = not (asks_trans f.active EXCL) && (asks_trans f.active ORPHAN || (asks_goaway f.goaway FORCE || (users w q == 0)))
+
+-- what is active on the node, and may be replaced: EOPNOTSUPP, EBUSY. (Words are stored by no server yet.)
+abbrev pub seat_asks : World → Wanted → Name → Result (Option Name) Errno
+seat_asks w f n =
+    given EOPNOTSUPP (may_seat w n && not (asks_trans f.passive SET)) (
+    given EBUSY (may_replace w f (active_at w n)) (Ok (active_at w n)))
+
+-- the server that goes: the old one, unless it becomes an orphan
+abbrev pub leaver : Wanted → Option Name → Option Name
+leaver f old = if asks_trans f.active ORPHAN then None else old
+
+-- where no server comes, the old one goes, or loses its seat
+abbrev pub emptying : Wanted → Name → Option Name → List Change
+emptying f n None = []
+emptying f n (Some q) = if asks_trans f.active ORPHAN then Unseat n ∷ Settle ∷ [] else DropServer q ∷ Settle ∷ []
+
+-- a server runs with the uid of the node's owner, and no gids
+abbrev pub server_ids : ℕ → IdSets
+server_ids owner = record { uids = set.from_list (owner ∷ []); gids = set.from_list [] }
+
+-- a class of a mode that may read may search too
+abbrev pub with_search : ℕ → ℕ → ℕ → ℕ
+with_search read search m = if bit_and m read == read then bit_or m search else m
+
+-- the mode of a server's root is that of the node under it; in a directory each class that may read may search: owner, group, others, and who is unknown
+abbrev pub root_mode : Kind → Mode → Mode
+root_mode kind mode = if is_dir kind then record { 0 = with_search 256 64 (with_search 32 8 (with_search 4 1 (with_search 16384 4096 mode.0))) } else mode
+
+-- the kind of the root of a server that means this
+abbrev pub root_kind : Meaning → Kind
+root_kind m = (root_of m.kind m.text).kind
+
+-- where a server comes: on the node, its root like that; for it another goes
+abbrev pub seat_for : Named → Meaning → Option Name → ServerToMake
+seat_for n m instead = record { seat = n.right.node; owner = n.header.owner; group = n.header.group; mode = root_mode (root_kind m) n.header.mode; instead = instead }
+
+-- what is set where something is: with a box, which means this, or without one
+abbrev pub seating : World → ℕ → Named → Wanted → Option Meaning → Option Name → Plan
+seating w t n f None old = record { reply = Done; changes = emptying f n.right.node old }
+seating w t n f (Some m) old = answered (naming_asks w t 2) (λ x. record { reply = Done; changes = attaching t (seat_for n m (leaver f old)) (server_ids n.header.owner) m x })
+
+-- with neither half to be set, nothing is
+abbrev pub setting_where : Bool → World → ℕ → Wanted → Option Meaning → Named → Plan
+setting_where true w t f box n = record { reply = Done; changes = [] }
+setting_where false w t f box n = answered (seat_asks w f n.right.node) (seating w t n f box)
+
+abbrev pub setting : World → ℕ → Wanted → Option Meaning → Named → Plan
+setting w t f box n = setting_where (sets_nothing f) w t f box n
+
+-- file_set_translator
+abbrev pub plan_set_translator : World → ℕ → ℕ → Wanted → Option Meaning → Plan
+plan_set_translator w t p f box = answered (setter_asks w t p f (is_some box)) (setting w t f box)
+
+-- a server that goes, if one does
+abbrev pub GoesFor : World → Option Name → Part → Type 0
+GoesFor w None p = ⊥
+GoesFor w (Some q) p = Goes w q p
+
+-- the node's attributes, and what goes
+abbrev pub seat_parts : World → Wanted → Name → Option Name → Part → Type 0
+seat_parts w f n old p = (p ≡ AttrOf n) ⊎ GoesFor w (leaver f old) p
+
+abbrev pub parts_where : Bool → World → Wanted → Name → Part → Type 0
+parts_where true w f n = Nothing
+parts_where false w f n = asked_parts (seat_asks w f n) (seat_parts w f n)
+
+abbrev pub setting_parts : World → Wanted → Named → Part → Type 0
+setting_parts w f n = parts_where (sets_nothing f) w f n.right.node
+
+abbrev pub touches_set_translator : World → ℕ → ℕ → Wanted → Bool → Part → Type 0
+touches_set_translator w t p f brings = asked_parts (setter_asks w t p f brings) (setting_parts w f)

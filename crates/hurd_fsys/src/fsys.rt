@@ -1,0 +1,88 @@
+//! Sending servers away, and getting control of them (`fsys.defs`, `fs.defs`).
+ghost use Rattle.std.specs.Prelude.{◌≡◌};
+ghost use Rattle.hurd_machine.specs.Plan.{Follows, Planned, told};
+ghost use Rattle.hurd_machine.specs.declared.call.Reply.TheVariants.{Done, Port};
+ghost use Rattle.hurd_core.specs.Core.{world_of};
+ghost use Rattle.hurd_fsys.specs.Fsys.{goaway_asks, plan_cntl, plan_goaway, seated_asks};
+
+use hurd_core::Core;
+use hurd_creds::{Errno, GoawayFlags, ServerName, TaskId};
+use hurd_nodes::BOOT_NAME;
+use hurd_ports::Right;
+use hurd_trans_iface::Server;
+
+/// Sends the server away that a port controls, with its nodes. Takes no memory.
+///
+/// Errors, in order: `ESRCH` no such task, `EBADF` no such port, or one to use a node, `EDIED` the server is gone, `EBUSY` the boot
+/// server, or one that has users, without `FORCE`.
+pub fn fsys_goaway<S: Server>(
+    core: &mut Core<S>,
+    task: TaskId,
+    control: u64,
+    flags: GoawayFlags,
+) -> Result<(), Errno>
+    ensures { let w = world_of S.meaning core.old in
+        Follows w (plan_goaway w task.0 control flags) (told (λ u. Done) result) (world_of S.meaning core.new) }
+{
+    let server = who_may_go(core, task, control, flags)?;
+    core.send_away(server);
+    Ok(())
+}
+
+/// The server that a port controls, if it may be sent away.
+///
+/// Errors, in order: those of `fsys_goaway`.
+#[tactic(auto, unfolding(hurd_machine::specs::Plan::on, hurd_machine::specs::Plan::given, hurd_machine::specs::Plan::first))]
+fn who_may_go<S: Server>(
+    core: &Core<S>,
+    task: TaskId,
+    control: u64,
+    flags: GoawayFlags,
+) -> Result<ServerName, Errno>
+    ensures { result ≡ goaway_asks (world_of S.meaning core.now) task.0 control flags }
+{
+    let server = core.control(task, control)?;
+    if core.root_of(server).is_none() {
+        return Err(Errno::EDIED);
+    }
+    if server == BOOT_NAME {
+        return Err(Errno::EBUSY);
+    }
+    if flags.asks(GoawayFlags::FORCE) {
+        return Ok(server);
+    }
+    if core.users(server) > 0 {
+        return Err(Errno::EBUSY);
+    }
+    Ok(server)
+}
+
+/// A port that controls the server which is active on a port's node, for who owns that node.
+///
+/// Errors, in order: `ESRCH` no such task, `EBADF` no such port, or one that controls a server, `EDIED` no such node, `EPERM` the
+/// port's ids don't own it, `ENXIO` no server is active on it, `EOVERFLOW`, `ENOMEM`.
+pub fn file_get_translator_cntl<S: Server>(
+    core: &mut Core<S>,
+    task: TaskId,
+    port: u64,
+) -> Result<u64, Errno>
+    ensures { let w = world_of S.meaning core.old in
+        Planned w (plan_cntl w task.0 port) Port result (world_of S.meaning core.new) }
+{
+    let server = seated(core, task, port)?;
+    core.share(task, Right::Control(server))
+}
+
+/// The server that is active on a port's node, which the port's ids own.
+///
+/// Errors, in order: those of `file_get_translator_cntl` but the last two.
+#[tactic(auto, unfolding(hurd_machine::specs::Plan::on, hurd_machine::specs::Plan::given, hurd_machine::specs::Plan::first))]
+fn seated<S: Server>(core: &Core<S>, task: TaskId, port: u64) -> Result<ServerName, Errno>
+    ensures { result ≡ seated_asks (world_of S.meaning core.now) task.0 port }
+{
+    let found = core.port_node(task, port)?;
+    if !found.right.ids.owns(&found.attrs) {
+        return Err(Errno::EPERM);
+    }
+    core.active(found.right.node).ok_or(Errno::ENXIO)
+}
