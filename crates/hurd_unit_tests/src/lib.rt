@@ -1,24 +1,13 @@
-//! Tests of single crates, through what they give to others: each file has those of the crate of its name. What is asked and
-//! what is answered stands in rows of text: `rows` reads them, and `servers` has a server asked by them.
+//! Tests of what no list of calls and no script reaches yet: servers that no call puts behind a node, rights to control one, ports
+//! numbered up to the greatest, retries, and errors that no call answers.
 //!
-//! They stand here, and not in their crates, so that no crate is proved a second time with its tests.
+//! They stand here, and not in their crates, so that no crate is proved a second time with its tests. Answers are compared as they are
+//! printed, several in one text, since each comparison of its own is dear to prove.
 #![tactic(auto)]
 
 #[cfg(test)]
-mod creds;
-#[cfg(test)]
-mod lists;
+mod errors;
 #[cfg(test)]
 mod ports;
 #[cfg(test)]
-mod rows;
-#[cfg(test)]
-mod script;
-#[cfg(test)]
 mod servers;
-#[cfg(test)]
-mod small;
-#[cfg(test)]
-mod terminal;
-#[cfg(test)]
-mod tmpfs;

@@ -1,224 +1,225 @@
-//! Servers as rows ask them: a row names a node by how many others were named before it.
+//! Servers of one node, through the trait: no call puts one behind a node yet.
 ghost use Rattle.std.specs.Prelude.{◌≡◌, None};
 
-use crate::rows::{bytes, number, parts, push_bytes, small_number, word, words};
 use bitflags::Flags;
-use hurd_creds::{Attrs, Errno, Kind, Mode, Name, NodeName, TaskId};
-use hurd_trans_iface::{NewNode, Server};
-use hurd_words::numbers::octal_number;
+use hurd_creds::{Errno, Kind, Mode, Name, NodeName, TaskId};
+use hurd_small::{Hello, Null, Symlink, Zero};
+use hurd_trans_iface::{Crossing, NewNode, Server, Words};
+use hurd_words::words::pieces;
 use std::alloc::{AllocError, Global};
 use std::process::Abort;
 use std::test::Fail;
 
-/// The name of what task 0 made after so many other things.
-pub fn name(count: u64) -> NodeName {
-    Name {
-        task: TaskId(0),
-        count,
-    }
+const ROOT: NodeName = Name {
+    task: TaskId(0),
+    count: 0,
+};
+
+const NOWHERE: NodeName = Name {
+    task: TaskId(0),
+    count: 9,
+};
+
+const FILE: NewNode = NewNode {
+    name: NOWHERE,
+    kind: Kind::File,
+    owner: 1000,
+    group: 100,
+    mode: Mode::OWNER_READ,
+};
+
+/// The words that are to make a server, each with a bar behind it.
+fn named_words(alloc: Global, text: &str) -> Result<Words, Errno> {
+    let mut words = pieces(alloc, text.as_bytes(), b'|')?;
+    words.pop();
+    Words::new(alloc, &words)
 }
 
-/// The server with its root named: node 0.
-pub fn rooted<S: Server>(mut server: S, owner: u32, group: u32, mode: Mode) -> S
+/// The server with its root named.
+fn named<S: Server>(mut server: S) -> S
     requires { (S.meaning server).root ≡ None }
 {
-    server.begin_root(name(0), owner, group, mode);
+    server.begin_root(ROOT, 1000, 100, Mode::OWNER_READ);
     server
 }
 
-/// A node of this kind.
-pub fn new_node(count: u64, kind: Kind) -> NewNode {
-    NewNode {
-        name: name(count),
-        kind,
-        owner: 1000,
-        group: 100,
-        mode: Mode::OWNER_READ,
-    }
+fn hello(alloc: Global, words: &str) -> Result<Hello, Errno> {
+    Ok(named(Hello::new(alloc, &named_words(alloc, words)?)?))
 }
 
-/// The node at a place of a question.
-fn node(words: &[String], at: usize) -> Result<NodeName, Errno> {
-    Ok(name(number(words, at)?))
+fn null(alloc: Global, words: &str) -> Result<Null, Errno> {
+    Ok(named(Null::new(alloc, &named_words(alloc, words)?)?))
 }
 
-/// The new node whose kind and name are at two places.
-fn new_node_at(words: &[String], kind_at: usize, name_at: usize) -> Result<NewNode, Errno> {
-    let kind = word(words, kind_at)?;
-    let count = number(words, name_at)?;
-    if kind == "File" {
-        Ok(new_node(count, Kind::File))
-    } else if kind == "Dir" {
-        Ok(new_node(count, Kind::Dir))
-    } else if kind == "Link" {
-        Ok(new_node(count, Kind::Link))
-    } else {
-        Err(Errno::EINVAL)
-    }
+fn zero(alloc: Global, words: &str) -> Result<Zero, Errno> {
+    Ok(named(Zero::new(alloc, &named_words(alloc, words)?)?))
 }
 
-/// The mode at a place, in octal digits.
-fn mode(words: &[String], at: usize) -> Result<Mode, Errno> {
-    match octal_number(word(words, at)?) {
-        Some(bits) => Ok(Mode::from_bits_truncate(bits)),
-        None => Err(Errno::EINVAL),
-    }
+fn symlink(alloc: Global, words: &str) -> Result<Symlink, Errno> {
+    Ok(named(Symlink::new(alloc, &named_words(alloc, words)?)?))
 }
 
-/// Does what makes or takes names: `make DIR =NAME KIND NODE`, `nameless KIND NODE`, `link DIR =NAME NODE`,
-/// `unlink DIR =NAME`, `rename DIR =NAME DIR =NAME`.
-fn change_entries<S: Server>(alloc: Global, server: &mut S, words: &[String]) -> Result<(), Errno> {
-    let verb = word(words, 0)?;
-    if verb == "nameless" {
-        return server.make_nameless(new_node_at(words, 1, 2)?);
-    }
-    let (dir, entry) = (node(words, 1)?, bytes(words, 2)?);
-    if verb == "make" {
-        server.make(alloc, dir, entry, new_node_at(words, 3, 4)?)
-    } else if verb == "link" {
-        server.link(alloc, dir, entry, node(words, 3)?)
-    } else if verb == "unlink" {
-        server.unlink(dir, entry)
-    } else if verb == "rename" {
-        server.rename(alloc, dir, entry, node(words, 3)?, bytes(words, 4)?)
-    } else {
-        Err(Errno::EINVAL)
-    }
+/// Words, each with a bar behind it, and whether they make a text, nothing, zeros, a link.
+const MADE: &str = "/hurd/hello|: 1 0 0 0
+/hurd/hello|--contents=hi|: 1 0 0 0
+/hurd/hello|--contents=|: 1 0 0 0
+/hurd/null|: 0 1 0 0
+/hurd/zero|: 0 0 1 0
+/hurd/symlink|f|: 0 0 0 1
+/hurd/tmpfs|: 0 0 0 0
+: 0 0 0 0
+|: 0 0 0 0
+/hurd/hell|: 0 0 0 0
+/hurd/hello||: 0 0 0 0
+/hurd/hello|hi|: 0 0 0 0
+/hurd/hello|--contents|: 0 0 0 0
+/hurd/hello|--contents=a|--contents=b|: 0 0 0 0
+/hurd/null|x|: 0 0 0 0
+/hurd/zero||: 0 0 0 0
+/hurd/symlink|: 0 0 0 0
+/hurd/symlink||: 0 0 0 0
+/hurd/symlink|f|g|: 0 0 0 0
+f|/hurd/symlink|: 0 0 0 0
+";
+
+/// The row of these words.
+fn made(alloc: Global, words: &str) -> Result<String, AllocError> {
+    format!(in alloc;
+        "{words}: {} {} {} {}",
+        hello(alloc, words).is_ok() as u8,
+        null(alloc, words).is_ok() as u8,
+        zero(alloc, words).is_ok() as u8,
+        symlink(alloc, words).is_ok() as u8
+    )
 }
 
-/// Does what changes something: `set_size NODE SIZE`, `set_attrs NODE OWNER GROUP MODE`, `forget NODE`, `goaway`, or what
-/// makes or takes names.
-fn change<S: Server>(alloc: Global, server: &mut S, words: &[String]) -> Result<(), Errno> {
-    let verb = word(words, 0)?;
-    if verb == "set_size" {
-        server.set_size(node(words, 1)?, number(words, 2)?)
-    } else if verb == "set_attrs" {
-        let (owner, group) = (small_number(words, 2)?, small_number(words, 3)?);
-        server.set_attrs(node(words, 1)?, owner, group, mode(words, 4)?)
-    } else if verb == "forget" {
-        server.forget(node(words, 1)?);
-        Ok(())
-    } else if verb == "goaway" {
-        server.goaway();
-        Ok(())
-    } else {
-        change_entries(alloc, server, words)
-    }
-}
-
-/// Bytes as they stand in an answer.
-fn told_bytes(alloc: Global, bytes: &[u8]) -> Result<String, AllocError> {
-    let mut answer = String::from_str(alloc, "=")?;
-    push_bytes(&mut answer, bytes)?;
-    Ok(answer)
-}
-
-/// The names in a directory, in order.
-fn told_names<S: Server>(alloc: Global, server: &S, dir: NodeName) -> Result<String, Errno> {
-    let mut answer = String::from_str(alloc, "names")?;
-    let names = server.names(alloc, dir)?;
-    for name in names.as_slice() {
-        answer.push_str(" =")?;
-        push_bytes(&mut answer, name.as_slice())?;
-    }
-    Ok(answer)
-}
-
-fn told_node(alloc: Global, node: Option<NodeName>) -> Result<String, AllocError> {
-    match node {
-        Some(node) => format!(in alloc; "{}", node.count),
-        None => String::from_str(alloc, "none"),
-    }
-}
-
-/// How many bytes there are to read at a place, and whether of a stream.
-fn told_readable<S: Server>(
-    alloc: Global,
-    server: &S,
-    node: NodeName,
-    at: u64,
-) -> Result<String, AllocError> {
-    match server.readable(node, at) {
-        Some(readable) if readable.is_stream => format!(in alloc; "{} stream", readable.count),
-        Some(readable) => format!(in alloc; "{}", readable.count),
-        None => String::from_str(alloc, "none"),
-    }
-}
-
-/// Adds a word where something is so.
-fn push_if(answer: &mut String, is_so: bool, word: &str) -> Result<(), AllocError> {
-    if is_so {
-        answer.push_str(word)?;
+#[test]
+fn words_make_servers(rt: HostRuntime) -> Result<(), AllocError> {
+    for row in MADE.lines() {
+        let words = row.split(": ").next().unwrap_or(row);
+        assert_eq!(rt; made(rt.alloc(), words)?.as_str(), row);
     }
     Ok(())
 }
 
-/// Kind, owner, group, mode, links and size, and what else is so.
-fn told_attrs(alloc: Global, attrs: Option<Attrs>) -> Result<String, AllocError> {
-    let Some(attrs) = attrs else {
-        return String::from_str(alloc, "none");
-    };
-    let (kind, owner, group, mode) = (attrs.kind, attrs.owner, attrs.group, attrs.mode.bits());
-    let (links, size) = (attrs.links, attrs.size);
-    let mut answer = format!(in alloc; "{kind:?} {owner} {group} {mode:o} {links} {size}")?;
-    push_if(&mut answer, attrs.empty, " empty")?;
-    push_if(&mut answer, attrs.readers > 0, " readers")?;
-    push_if(&mut answer, attrs.writers > 0, " writers")?;
-    push_if(&mut answer, attrs.passive, " passive")?;
-    push_if(&mut answer, attrs.active, " active")?;
-    if let Some(parent) = attrs.parent {
-        answer.push_str(format!(in alloc; " in {}", parent.count)?.as_str())?;
-    }
-    Ok(answer)
+/// What a server tells of its root, reads at two places, and takes.
+fn told<S: Server>(alloc: Global, server: &mut S) -> Result<String, AllocError> {
+    format!(in alloc;
+        "{:?}\n{:?}\n{:?} {:?} {:?}\n{:?} {:?} {:?}\n{:?} {:?}\n",
+        server.root(),
+        server.attrs(ROOT),
+        server.read(alloc, ROOT, 2, 3),
+        server.readable(ROOT, 2),
+        server.write(ROOT, 2, b"hi"),
+        server.read(alloc, ROOT, u64::MAX, 3),
+        server.readable(ROOT, u64::MAX),
+        server.write(ROOT, u64::MAX, b"hi"),
+        server.set_size(ROOT, 16_777_216),
+        server.make_nameless(FILE)
+    )
 }
 
-/// Asks what changes nothing: `names DIR`, `step DIR =NAME`, `readable NODE AT`, `attrs NODE`.
-fn look<S: Server>(alloc: Global, server: &S, words: &[String]) -> Result<String, Errno> {
-    let (verb, node) = (word(words, 0)?, node(words, 1)?);
-    if verb == "names" {
-        told_names(alloc, server, node)
-    } else if verb == "step" {
-        Ok(told_node(alloc, server.step(node, bytes(words, 2)?))?)
-    } else if verb == "readable" {
-        Ok(told_readable(alloc, server, node, number(words, 2)?)?)
-    } else {
-        Ok(told_attrs(alloc, server.attrs(node))?)
-    }
+/// What a node answers to calls on directories and trees, and to a size past the greatest.
+fn refused<S: Server>(alloc: Global, server: &mut S, node: NodeName) -> Result<String, AllocError> {
+    format!(in alloc;
+        "{:?} {:?} {:?} {:?} {:?} {:?} {:?} {:?}\n",
+        server.names(alloc, node).err(),
+        server.make(alloc, node, b"f", FILE),
+        server.link(alloc, node, b"f", node),
+        server.unlink(node, b"f"),
+        server.rename(alloc, node, b"f", node, b"g"),
+        server.set_attrs(node, 0, 0, Mode::OWNER_WRITE),
+        server.set_size(node, 16_777_217),
+        server.step(node, b"f")
+    )
 }
 
-/// Asks a server: `read NODE AT AMOUNT`, `write NODE AT =BYTES`, what changes nothing, or what changes something.
-fn ask<S: Server>(alloc: Global, server: &mut S, words: &[String]) -> Result<String, Errno> {
-    let verb = word(words, 0)?;
-    if verb == "read" {
-        let (at, amount) = (number(words, 2)?, number(words, 3)?);
-        let bytes = server.read(alloc, node(words, 1)?, at, amount)?;
-        Ok(told_bytes(alloc, bytes.as_slice())?)
-    } else if verb == "write" {
-        let count = server.write(node(words, 1)?, number(words, 2)?, bytes(words, 3)?)?;
-        Ok(format!(in alloc; "{count}")?)
-    } else if verb == "names" || verb == "step" || verb == "readable" || verb == "attrs" {
-        look(alloc, server, words)
-    } else {
-        change(alloc, server, words)?;
-        Ok(String::from_str(alloc, "done")?)
-    }
-}
+/// The root is no directory.
+const REFUSED: &str =
+    "Some(ENOTDIR) Err(ENOTDIR) Err(ENOTDIR) Err(ENOTDIR) Err(ENOTDIR) Err(EOPNOTSUPP) Err(EFBIG) None\n";
 
-/// A server answers each row of a table as it says, one after another.
-pub fn check<S: Server>(
+/// A node that a server hasn't.
+const GONE: &str =
+    "Some(EDIED) Err(EDIED) Err(EDIED) Err(EDIED) Err(EDIED) Err(EDIED) Err(EDIED) None\n";
+
+/// A server tells this, refuses the rest, and has its root until it is to forget it.
+fn check<S: Server>(
     rt: &impl Abort,
     alloc: Global,
-    server: &mut S,
-    table: &str,
-) -> Result<(), Fail> {
-    for row in table.lines() {
-        let (question, wanted) = parts(row)?;
-        let words = words(alloc, question)?;
-        let answer = match ask(alloc, server, &words) {
-            Ok(answer) => answer,
-            Err(error) => String::from_str(alloc, error.name())?,
-        };
-        assert_eq!(rt; answer.as_str(), wanted, "{row}");
-    }
+    mut server: S,
+    wanted: &str,
+) -> Result<(), AllocError> {
+    assert_eq!(rt; told(alloc, &mut server)?.as_str(), wanted);
+    assert_eq!(rt; refused(alloc, &mut server, NOWHERE)?.as_str(), GONE);
+    server.goaway();
+    assert_eq!(rt; refused(alloc, &mut server, ROOT)?.as_str(), REFUSED);
+    server.forget(ROOT);
+    assert_eq!(rt; refused(alloc, &mut server, ROOT)?.as_str(), GONE);
+    Ok(())
+}
+
+/// Of the text that is given where no other is: `llo` behind its second byte.
+const HELLO: &str = "Root { kind: File, crossing: Plain }
+Some(Attrs { kind: File, owner: 1000, group: 100, mode: Mode(256), links: 1, size: 14, empty: false, readers: 0, writers: 0, passive: false, active: false, parent: None })
+Ok(Bytes { items: [108, 108, 111] }) Some(Readable { count: 12, is_stream: false }) Err(EOPNOTSUPP)
+Ok(Bytes { items: [] }) Some(Readable { count: 0, is_stream: false }) Err(EOPNOTSUPP)
+Err(EOPNOTSUPP) Err(EROFS)
+";
+
+/// Of the text `--contents=`: `con` behind its second byte.
+const FLAG: &str = "Root { kind: File, crossing: Plain }
+Some(Attrs { kind: File, owner: 1000, group: 100, mode: Mode(256), links: 1, size: 11, empty: false, readers: 0, writers: 0, passive: false, active: false, parent: None })
+Ok(Bytes { items: [99, 111, 110] }) Some(Readable { count: 9, is_stream: false }) Err(EOPNOTSUPP)
+Ok(Bytes { items: [] }) Some(Readable { count: 0, is_stream: false }) Err(EOPNOTSUPP)
+Err(EOPNOTSUPP) Err(EROFS)
+";
+
+/// Of a link to `d/f`: `f` behind its second byte.
+const LINK: &str = "Root { kind: Link, crossing: Link { absolute: false } }
+Some(Attrs { kind: Link, owner: 1000, group: 100, mode: Mode(256), links: 1, size: 3, empty: false, readers: 0, writers: 0, passive: false, active: false, parent: None })
+Ok(Bytes { items: [102] }) Some(Readable { count: 1, is_stream: false }) Err(EOPNOTSUPP)
+Ok(Bytes { items: [] }) Some(Readable { count: 0, is_stream: false }) Err(EOPNOTSUPP)
+Err(EOPNOTSUPP) Err(EROFS)
+";
+
+/// Of nothing.
+const NULL: &str = "Root { kind: Char, crossing: Plain }
+Some(Attrs { kind: Char, owner: 1000, group: 100, mode: Mode(256), links: 1, size: 0, empty: false, readers: 0, writers: 0, passive: false, active: false, parent: None })
+Ok(Bytes { items: [] }) Some(Readable { count: 0, is_stream: true }) Ok(2)
+Ok(Bytes { items: [] }) Some(Readable { count: 0, is_stream: true }) Ok(2)
+Ok(()) Err(EROFS)
+";
+
+/// Of zeros.
+const ZERO: &str = "Root { kind: Char, crossing: Plain }
+Some(Attrs { kind: Char, owner: 1000, group: 100, mode: Mode(256), links: 1, size: 0, empty: false, readers: 0, writers: 0, passive: false, active: false, parent: None })
+Ok(Bytes { items: [0, 0, 0] }) Some(Readable { count: 65536, is_stream: true }) Ok(2)
+Ok(Bytes { items: [0, 0, 0] }) Some(Readable { count: 65536, is_stream: true }) Ok(2)
+Ok(()) Err(EROFS)
+";
+
+#[test]
+fn servers_tell_this(rt: HostRuntime) -> Result<(), Fail> {
+    let alloc = rt.alloc();
+    let flag = "/hurd/hello|--contents=--contents=|";
+    check(&rt, alloc, hello(alloc, "/hurd/hello|")?, HELLO)?;
+    check(&rt, alloc, hello(alloc, flag)?, FLAG)?;
+    check(&rt, alloc, symlink(alloc, "/hurd/symlink|d/f|")?, LINK)?;
+    check(&rt, alloc, null(alloc, "/hurd/null|")?, NULL)?;
+    Ok(check(&rt, alloc, zero(alloc, "/hurd/zero|")?, ZERO)?)
+}
+
+#[test]
+fn links_are_absolute_or_not_and_have_a_longest(rt: HostRuntime) -> Result<(), Fail> {
+    let alloc = rt.alloc();
+    let absolute = Crossing::Link { absolute: true };
+    assert_eq!(rt;
+        symlink(alloc, "/hurd/symlink|/|")?.root().crossing,
+        absolute
+    );
+    let longest = format!(in alloc; "/hurd/symlink|{:01024}|", 0)?;
+    assert!(rt; symlink(alloc, longest.as_str()).is_ok());
+    let too_long = format!(in alloc; "/hurd/symlink|{:01025}|", 0)?;
+    assert!(rt; symlink(alloc, too_long.as_str()).is_err());
     Ok(())
 }
