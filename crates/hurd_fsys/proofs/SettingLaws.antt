@@ -105,9 +105,10 @@ module _ (w : World) (c : Coherent w) (t : ℕ) (n : Named) (there : header_at w
   comings_within T (Some q) is_old seat parts =
       let new = fresh_new w t x is in
       let later = later_new w t 1 x is in
-      let e = is_old q refl in
-      (λ p goes. inl (parts p goes),
-      comes_within (apply (DropServer q) w) (left q e) s n.right.node info node (after q e) begins (Full w t T) (own_task w t T) (inr (inr later)) (inr (inr later)) (inr (inr later)) (inl seat) (inr (inr new)))
+      let e = is_old q refl in (
+        λ p goes. inl (parts p goes),
+        comes_within (apply (DropServer q) w) (left q e) s n.right.node info node (after q e) begins (Full w t T) (own_task w t T) (inr (inr later)) (inr (inr later)) (inr (inr later)) (inl seat) (inr (inr new)),
+      )
 
   pub comings_proper : Linked (nodes_of w) → (old : Option Name) → IsOld old → AllProper w (comings old)
   comings_proper l None is_old = comes_proper w c s n.right.node info node newcomer begins l

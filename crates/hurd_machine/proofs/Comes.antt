@@ -68,7 +68,7 @@ attach_is w s at i node c new =
     let nodes = retain_all w.nodes (is_other s w.homes) (λ n x e. home_other w c s new n) in
     let homes = retain_all w.homes (is_other s w.homes) (λ n q e. home_other w c s new n) in
     let actives = retain_all w.actives (is_other_seat s w.homes w.actives) (λ n q e.
-            and_true (is_other s w.homes n) (is_other s w.actives n) (home_other w c s new n) (all_other w c s new (active_at w n) (none_active w c s new n))) in
+    and_true (is_other s w.homes n) (is_other s w.actives n) (home_other w c s new n) (all_other w c s new (active_at w n) (none_active w c s new n))) in
     let servers = remove_none w c s new in
     λ k. record {
       nodes = insert (nodes k) i.root node;

@@ -423,12 +423,12 @@ module _ (w : World) (t : ℕ) (x : Task) (is : task_at w t ≡ Some x) (n : Nam
   pub rests_opening : Rests w (opening t x n ids parents modes)
   rests_opening rest =
       let k = nodes_rest (EditTask t (with_port (new_right t n ids parents x))) (apply (MakeOpen (fresh t x) (new_open modes)) w) (port_keeps (new_right t n ids parents x))
-              (nodes_rest (MakeOpen (fresh t x) (new_open modes)) w tt (nodes_of_rest rest)) in
+      (nodes_rest (MakeOpen (fresh t x) (new_open modes)) w tt (nodes_of_rest rest)) in
       record {
-    nodes = k.nodes;
-    servers = k.servers;
-    opens = λ o z e. elim (was w.opens (fresh t x) o (new_open modes) z e) [
-      | inl new ↦ subst (λ k. is_held new_tasks k ≡ true) (sym new.0) new_held
-      | inr old ↦ old_held o (rest.opens o z old.1)
-    ];
-  }
+        nodes = k.nodes;
+        servers = k.servers;
+        opens = λ o z e. elim (was w.opens (fresh t x) o (new_open modes) z e) [
+          | inl new ↦ subst (λ k. is_held new_tasks k ≡ true) (sym new.0) new_held
+          | inr old ↦ old_held o (rest.opens o z old.1)
+        ];
+      }
