@@ -1,5 +1,5 @@
 //! Tests of what no list of calls and no script reaches yet: servers that no call puts behind a node, rights to control one, ports
-//! numbered up to the greatest, retries, and errors that no call answers.
+//! numbered up to the greatest, and errors that no call answers.
 //!
 //! They stand here, and not in their crates, so that no crate is proved a second time with its tests. Answers are compared as they are
 //! printed, several in one text, since each comparison of its own is dear to prove.
