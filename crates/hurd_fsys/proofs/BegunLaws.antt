@@ -1,5 +1,5 @@
 -- The root of a server that begins: its shape, its size, and how it hangs.
-use Rattle.std.proofs.Common.{◌≡◌, ◌∙◌, ℕ, Bool, true, false, true≢false, if◌then◌else◌, List, refl, sym}
+use Rattle.std.proofs.Common.{◌≡◌, ◌∙◌, ℕ, Bool, true, false, true≢false, if◌then◌else◌, refl, sym}
 use Rattle.hurd_creds.specs.declared.name.Name.{Name}
 use Rattle.hurd_creds.specs.declared.mode.Mode.{Mode}
 use Rattle.hurd_creds.specs.declared.attrs.Kind.{Kind}
@@ -8,7 +8,7 @@ use Rattle.hurd_creds.specs.Access.{IdSets}
 use Rattle.hurd_trans_iface.specs.Nodes.{Header, IsShaped, is_dir}
 use Rattle.hurd_trans_iface.specs.declared.root.Root.{Root}
 use Rattle.hurd_trans_iface.specs.Answers.{is_plain, is_tree}
-use Rattle.hurd_trans_iface.specs.Meaning.{Meaning, empty_body, keeps_tree, root_of}
+use Rattle.hurd_trans_iface.specs.Meaning.{Meaning, empty_body, root_of}
 use Rattle.hurd_trans_iface.proofs.Goods.{tree-told}
 use Rattle.hurd_nodes.specs.Shown.{begun_info, begun_root}
 use Rattle.hurd_machine.proofs.Coherence.{HasNoEntries}

@@ -1,20 +1,17 @@
 -- Ports that control servers: what an answer shows, and that it is the same in worlds that agree; and a port more to control one.
-use Rattle.std.proofs.Common.{◌≡◌, ◌⊎◌, ◌∙◌, ℕ, Bool, true, List, [], ◌∷◌, Option, Some, None, refl, sym, ap, subst, inl, inr, arith}
+use Rattle.std.proofs.Common.{◌≡◌, ℕ, Bool, true, Some, refl, ap, subst, inl, inr, arith}
 use Rattle.std.specs.Prelude.{Result, Ok, Err}
 use Rattle.hurd_creds.specs.declared.name.Name.{Name}
 use Rattle.hurd_creds.specs.declared.errno.Errno.{Errno}
 use Rattle.hurd_creds.specs.declared.errno.Errno.TheVariants.{EBADF, EDIED}
-use Rattle.hurd_nodes.specs.Shown.{ServerInfo}
 use Rattle.hurd_ports.specs.declared.table.Right.{Right}
 use Rattle.hurd_ports.specs.declared.table.Right.TheVariants.{Io, Control}
 use Rattle.hurd_ports.specs.Tables.{Task, right_of, names_open}
-use Rattle.hurd_ports.specs.Steps.{with_port}
 use Rattle.hurd_machine.specs.World.{World, ports_of, task_at, server_at}
-use Rattle.hurd_machine.specs.Change.{Change, EditTask}
 use Rattle.std.proofs.lemmas.Bool.{or_cases}
 use Rattle.hurd_creds.specs.Access.{holds_uid, is_root, owns}
 use Rattle.hurd_machine.specs.Handle.{Named}
-use Rattle.hurd_machine.specs.Sight.{Part, TaskOf, Holds, Knows, OfControl, OwnsIt, UidOfRight, bare, is_on}
+use Rattle.hurd_machine.specs.Sight.{Part, TaskOf, Holds, OfControl, OwnsIt, UidOfRight, bare, is_on}
 use Rattle.hurd_machine.specs.Sound.{Below, Coherent}
 use Rattle.hurd_machine.proofs.Asks.{IsPlain, right_same, right_plain, holds_right, first_ok, on_ok, first_same, on_same, first_plain, on_plain, ok_plain, err_plain}
 use Rattle.hurd_machine.proofs.Views.{Agree, server_known}

@@ -1,11 +1,10 @@
 -- The laws of sending servers away, and of getting control of them.
-use Rattle.std.proofs.Common.{◌≡◌, ◌≢◌, ◌⊎◌, ◌∙◌, ◌||◌, ◌&&◌, ◌==◌, not, ℕ, Bool, true, false, true≢false, Some, refl, sym, ap, subst, inl, inr}
-use Rattle.std.proofs.lemmas.Bool.{or_cases}
+use Rattle.std.proofs.Common.{◌≡◌, ◌≢◌, ◌∙◌, ◌||◌, ◌&&◌, ◌==◌, not, ℕ, Bool, true, false, true≢false, Some, refl, sym, ap, subst, inl, inr}
 use Rattle.std.specs.Prelude.{Ok}
 use Rattle.hurd_creds.specs.declared.name.Name.{Name}
 use Rattle.hurd_creds.specs.declared.trans_flags.GoawayFlags.{GoawayFlags}
 use Rattle.hurd_creds.specs.declared.errno.Errno.TheVariants.{EBUSY, ENXIO, EOVERFLOW, EPERM, ESRCH}
-use Rattle.hurd_creds.specs.Access.{holds_uid, is_root, owns}
+use Rattle.hurd_creds.specs.Access.{owns}
 use Rattle.hurd_creds.specs.Names.{same_name}
 use Rattle.hurd_creds.specs.TransBits.{asks_goaway, FORCE}
 use Rattle.hurd_creds.proofs.NameLaws.{same_name-itself}
@@ -14,11 +13,11 @@ use Rattle.hurd_nodes.proofs.PartLaws.{and_both}
 use Rattle.hurd_ports.specs.declared.table.Right.TheVariants.{Io, Control}
 use Rattle.hurd_ports.specs.Tables.{Task, has_room}
 use Rattle.hurd_machine.specs.declared.call.Reply.TheVariants.{Done, Port}
-use Rattle.hurd_machine.specs.World.{World, ports_of, task_at, active_at, server_at}
+use Rattle.hurd_machine.specs.World.{World, task_at, active_at}
 use Rattle.hurd_machine.specs.Plan.{Plan}
 use Rattle.hurd_machine.specs.Handle.{Named, port_asks}
-use Rattle.hurd_machine.specs.Sight.{Part, UsersOf, Holds, HasUid, UidOfRight, Held, OwnsIt, Sends, ByControl, BySeat, MaySend, bare, users}
-use Rattle.hurd_machine.specs.Sound.{Below, Coherent}
+use Rattle.hurd_machine.specs.Sight.{UsersOf, Held, ByControl, BySeat, bare, users}
+use Rattle.hurd_machine.specs.Sound.{Coherent}
 use Rattle.hurd_machine.specs.Touched.{Goes, Nothing}
 use Rattle.hurd_machine.proofs.Views.{Agree, same_tasks, active_same}
 use Rattle.hurd_machine.proofs.Frame.{Full, AllWithin}

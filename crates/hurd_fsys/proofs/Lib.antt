@@ -2,3 +2,4 @@ pub mod ControlLaws
 pub mod FsysLaws
 pub mod BegunLaws
 pub mod SettingLaws
+pub mod SeatingLaws

@@ -1,11 +1,9 @@
 -- The laws of setting a translator.
-use Rattle.std.proofs.Common.{◌≡◌, ◌≢◌, ◌⊎◌, ◌∙◌, ◌||◌, ◌&&◌, ◌==◌, not, ℕ, ◌+◌, Bool, true, false, if◌then◌else◌, List, [], ◌∷◌, ◌++◌, Option, Some, None, refl, sym, ap, ap₂, subst, inl, inr, arith}
-use Rattle.std.specs.Prelude.{Result, Ok, Err, is_some}
-use Rattle.std.proofs.lemmas.Bool.{or_cases}
+use Rattle.std.proofs.Common.{◌≡◌, ◌≢◌, ◌⊎◌, ◌∙◌, ◌||◌, ◌&&◌, ◌==◌, not, ℕ, Bool, true, false, if◌then◌else◌, List, [], ◌∷◌, Option, Some, None, refl, sym, ap, ap₂, subst, inl, inr}
+use Rattle.std.specs.Prelude.{Ok, is_some}
 use Rattle.hurd_creds.specs.declared.name.Name.{Name}
-use Rattle.hurd_creds.specs.declared.errno.Errno.{Errno}
 use Rattle.hurd_creds.specs.declared.errno.Errno.TheVariants.{EBUSY, EINVAL, EOPNOTSUPP, EOVERFLOW, EPERM, ESRCH}
-use Rattle.hurd_creds.specs.Access.{IdSets, holds_uid, is_root, owns}
+use Rattle.hurd_creds.specs.Access.{IdSets, owns}
 use Rattle.hurd_creds.specs.TransBits.{asks_goaway, asks_trans, SET, EXCL, ORPHAN, FORCE}
 use Rattle.hurd_trans_iface.specs.Nodes.{Node}
 use Rattle.hurd_trans_iface.specs.Meaning.{Meaning}
@@ -16,26 +14,27 @@ use Rattle.hurd_ports.specs.declared.table.Right.TheVariants.{Io}
 use Rattle.hurd_ports.specs.Tables.{Task, fresh, can_name}
 use Rattle.hurd_ports.specs.Steps.{named}
 use Rattle.hurd_machine.specs.declared.call.Reply.TheVariants.{Done}
-use Rattle.hurd_machine.specs.World.{World, nodes_of, task_at, header_at, home_at, active_at, info_at, is_server_root, server_at}
+use Rattle.hurd_machine.specs.World.{World, nodes_of, task_at, header_at, home_at, active_at}
 use Rattle.hurd_machine.specs.Change.{Change, Attach, DropServer, Unseat, Settle, apply, apply_all}
-use Rattle.hurd_machine.specs.Plan.{Plan, answered, after_plan}
+use Rattle.hurd_machine.specs.Plan.{Plan}
 use Rattle.hurd_machine.specs.Handle.{Named, port_asks}
-use Rattle.hurd_machine.specs.Sight.{Part, AttrOf, UsersOf, Holds, HasUid, UidOfRight, Held, Seen, OwnsIt, BySeat, bare, users}
-use Rattle.hurd_machine.specs.Sound.{Below, Coherent, AreSized, Linked, AtRest, Sound}
-use Rattle.hurd_machine.specs.Touched.{asked_parts, Nothing, Goes}
+use Rattle.hurd_machine.specs.Sight.{Part, AttrOf, UsersOf, Holds, Held, Seen, BySeat, bare, users}
+use Rattle.hurd_machine.specs.Sound.{Coherent, AreSized, Linked, AtRest}
+use Rattle.hurd_machine.specs.Touched.{Goes}
 use Rattle.hurd_machine.proofs.Views.{Agree, same_tasks, active_same}
 use Rattle.hurd_machine.proofs.Coherence.{Comes, AllProper}
-use Rattle.hurd_machine.proofs.Drop.{drop_coherent, drop_linked, home_apart}
+use Rattle.hurd_machine.proofs.Drop.{drop_coherent, drop_linked}
 use Rattle.hurd_machine.proofs.Servers.{sized_drop}
 use Rattle.hurd_machine.proofs.Frame.{Full, AllWithin}
 use Rattle.hurd_machine.proofs.Settle.{rests_settle}
 use Rattle.hurd_machine.proofs.Opens.{own_task, fresh_new, fresh_next, later_new}
 use Rattle.hurd_machine.proofs.Several.{AllMay}
-use Rattle.hurd_machine.proofs.Going.{Begun, goes_within, goes_proper, goes_linked, goes_sized, goes_rests, goes_may, unseats_within, unseats_proper, unseats_linked, unseats_sized, unseats_rests, unseats_may, comes_within, comes_proper, comes_linked, comes_sized, comes_rests, comes_may, comes_after}
-use Rattle.hurd_machine.proofs.Asks.{IsPlain, IsPlainReply, IsNamed, is_named, info_same, is_root_same, port_same, port_seen, port_plain, holds_right, first_ok, given_ok, on_ok, first_same, given_same, on_same, first_plain, given_plain, on_plain, ok_plain, answered_all, answered_same, answered_plain, done_plain}
-use Rattle.hurd_machine.proofs.CallLaws.{CallLaws, answered_within, answered_proper, answered_linked, answered_sized, answered_rests, answered_may}
-use Rattle.hurd_core.specs.Core.{attaching, leaving, naming_asks}
-use Rattle.hurd_fsys.specs.Setting.{Wanted, sets_nothing, setter_asks, may_seat, may_replace, seat_asks, leaver, emptying, server_ids, seat_for, seating, setting_where, plan_set_translator, GoesFor, seat_parts, parts_where, touches_set_translator, root_mode, root_kind}
+use Rattle.hurd_machine.proofs.Going.{Begun, goes_within, goes_proper, goes_linked, goes_sized, goes_rests, goes_may, unseats_within, unseats_proper, unseats_linked, unseats_sized, unseats_rests, unseats_may, comes_within, comes_proper, comes_linked, comes_sized, comes_after}
+use Rattle.hurd_machine.proofs.Asks.{IsPlain, IsPlainReply, IsNamed, is_named, info_same, is_root_same, port_same, port_plain, holds_right, first_ok, given_ok, on_ok, first_same, given_same, on_same, first_plain, given_plain, on_plain, ok_plain, answered_all, answered_same, answered_plain, done_plain}
+use Rattle.hurd_machine.proofs.CallLaws.{CallLaws, answered_within}
+use Rattle.hurd_core.specs.Core.{attaching, naming_asks}
+use Rattle.hurd_fsys.specs.declared.setting.Wanted.{Wanted}
+use Rattle.hurd_fsys.specs.Setting.{sets_nothing, setter_asks, may_replace, seat_asks, leaver, emptying, server_ids, seat_for, seating, setting_where, plan_set_translator, GoesFor, seat_parts, parts_where, touches_set_translator, root_mode, root_kind}
 use Rattle.hurd_fsys.proofs.ControlLaws.{owner_holds}
 use Rattle.hurd_fsys.proofs.BegunLaws.{begun_shaped, begun_bare, begun}
 

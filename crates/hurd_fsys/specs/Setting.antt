@@ -1,5 +1,5 @@
 -- Setting a translator: who may, what goes for it, and what it is given.
-use Rattle.std.specs.Prelude.{◌≡◌, ◌⊎◌, ◌==◌, ◌||◌, ◌&&◌, not, is_some, ℕ, Bool, true, false, if◌then◌else◌, List, [], ◌∷◌, Option, Some, None, Result, Ok, Err}
+use Rattle.std.specs.Prelude.{◌≡◌, ◌⊎◌, ◌==◌, ◌||◌, ◌&&◌, not, is_some, ℕ, Bool, true, false, if◌then◌else◌, List, [], ◌∷◌, Option, Some, None, Result, Ok}
 use Rattle.std.specs.FinSet as set
 use Rattle.std.specs.Int.RustNames.{bit_and, bit_or}
 use Rattle.hurd_creds.specs.declared.name.Name.{Name}
@@ -7,8 +7,6 @@ use Rattle.hurd_creds.specs.declared.mode.Mode.{Mode}
 use Rattle.hurd_creds.specs.declared.attrs.Kind.{Kind}
 use Rattle.hurd_creds.specs.declared.errno.Errno.{Errno}
 use Rattle.hurd_creds.specs.declared.errno.Errno.TheVariants.{EBUSY, EINVAL, EOPNOTSUPP, EPERM}
-use Rattle.hurd_creds.specs.declared.trans_flags.TransFlags.{TransFlags}
-use Rattle.hurd_creds.specs.declared.trans_flags.GoawayFlags.{GoawayFlags}
 use Rattle.hurd_creds.specs.Access.{IdSets, owns}
 use Rattle.hurd_creds.specs.TransBits.{asks_goaway, asks_trans, SET, EXCL, ORPHAN, FORCE}
 use Rattle.hurd_trans_iface.specs.Nodes.{is_dir}
@@ -22,14 +20,10 @@ use Rattle.hurd_machine.specs.Handle.{Named, port_asks}
 use Rattle.hurd_machine.specs.Sight.{Part, AttrOf, bare, users}
 use Rattle.hurd_machine.specs.Touched.{asked_parts, Nothing, Goes}
 use Rattle.hurd_core.specs.declared.to_make.ServerToMake.{ServerToMake}
+use Rattle.hurd_fsys.specs.declared.setting.Wanted.{Wanted}
 use Rattle.hurd_core.specs.Core.{attaching, naming_asks}
 
--- what is asked for: flags of the passive half and of the active one, and of how the old server goes
-pub record Wanted : Type 0 where
-  pub passive : TransFlags
-  pub active : TransFlags
-  pub goaway : GoawayFlags
-
+-- whether neither half is to be set
 abbrev pub sets_nothing : Wanted → Bool
 sets_nothing f = not (asks_trans f.passive SET) && not (asks_trans f.active SET)
 

@@ -1,5 +1,5 @@
 -- What is active on the node, as a port.
-use Rattle.std.proofs.Common.{refl, sym, ◌∷◌, []}
+use Rattle.std.proofs.Common.{refl, sym}
 use Rattle.std.proofs.lemmas.Result.{err_from_is_err_and}
 use Rattle.hurd_ports.specs.Tables.{Task}
 use Rattle.hurd_machine.specs.declared.call.Reply.TheVariants.{Port}
