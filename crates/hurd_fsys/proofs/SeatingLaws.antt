@@ -12,14 +12,14 @@ use Rattle.hurd_creds.specs.Access.{IdSets, ids_of, most_ids}
 use Rattle.hurd_creds.specs.Memory.{Meets}
 use Rattle.hurd_trans_iface.specs.Meaning.{Meaning}
 use Rattle.hurd_machine.specs.declared.call.Reply.{Reply}
-use Rattle.hurd_machine.specs.declared.call.Reply.TheVariants.{Done}
+use Rattle.hurd_machine.specs.declared.call.Reply.TheVariants.{Done, Refused}
 use Rattle.hurd_machine.specs.World.{World}
 use Rattle.hurd_machine.specs.Change.{apply_all}
-use Rattle.hurd_machine.specs.Plan.{Planned, answered}
+use Rattle.hurd_machine.specs.Plan.{Follows, Planned, answered, told}
 use Rattle.hurd_machine.specs.Handle.{Named}
 use Rattle.hurd_core.specs.Core.{Does, attaching, naming_asks}
 use Rattle.hurd_creds.proofs.IdLaws.{len-listed}
-use Rattle.hurd_core.proofs.PlanLaws.{asked-refused, does-planned, planned-then}
+use Rattle.hurd_core.proofs.PlanLaws.{asked-refused, does-planned, follows-refused, follows-then, planned-then}
 use Rattle.hurd_fsys.specs.declared.setting.Wanted.{Wanted}
 use Rattle.hurd_fsys.specs.Setting.{emptying, leaver, plan_set_translator, seat_asks, seat_for, seating, server_ids, sets_nothing, setter_asks, setting, setting_where}
 
@@ -56,6 +56,12 @@ module _ {S : Type 0} (mean : S → Meaning) (w : World) (t p : ℕ) (f : Wanted
   abbrev IsPlanned : Result (Unit {0}) Errno → World → Type 0
   IsPlanned r y = Planned w (plan_set_translator w t p f box) tells r y
 
+  abbrev IsFollowed : Result (Unit {0}) Errno → World → Type 0
+  IsFollowed r y = Follows w (plan_set_translator w t p f box) (told tells r) y
+
+  pub refused_freely : (e : Errno) → Err e ≡ setter_asks w t p f b → IsFollowed (Err e) w
+  refused_freely e is = follows-refused w (setter_asks w t p f (is_some box)) (setting w t f box) e (asked_by (Err e) is)
+
   pub set_refused : (e : Errno) → Err e ≡ setter_asks w t p f b → IsPlanned (Err e) w
   set_refused e is = asked-refused w (setter_asks w t p f (is_some box)) (setting w t f box) tells e (asked_by (Err e) is)
 
@@ -74,6 +80,12 @@ module _ {S : Type 0} (mean : S → Meaning) (w : World) (t p : ℕ) (f : Wanted
 
       pub set_kept : (e : Errno) → Err e ≡ seat_asks w f n.right.node → IsPlanned (Err e) w
       set_kept e at = then_seat (Err e) w (asked-refused w (seat_asks w f n.right.node) (seating w t n f box) tells e (sym at))
+
+      pub kept_freely : (e : Errno) → Err e ≡ seat_asks w f n.right.node → IsFollowed (Err e) w
+      kept_freely e at =
+          follows-then w (setter_asks w t p f (is_some box)) (setting w t f box) n (Refused e) w (asked_by (Ok n) is)
+          (subst (λ (b : Bool). Follows w (setting_where b w t f box n) (Refused e) w) half
+          (follows-refused w (seat_asks w f n.right.node) (seating w t n f box) e (sym at)))
 
       module _ (old : Option Name) (at : Ok old ≡ seat_asks w f n.right.node) where
         then_old : (r : Result (Unit {0}) Errno) (y : World) → Planned w (seating w t n f box old) tells r y → IsPlanned r y

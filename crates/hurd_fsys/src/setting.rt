@@ -1,9 +1,9 @@
 //! Setting a translator (`fs.defs`).
-ghost use Rattle.std.specs.Prelude.{◌≡◌, IfErr, IfSome, OnOk};
+ghost use Rattle.std.specs.Prelude.{◌≡◌, IfErr, IfSome, IsNone};
 ghost use Rattle.std.specs.Option.{option_map};
 ghost use Rattle.hurd_trans_iface.specs.Meaning.{Begins};
 ghost use Rattle.hurd_machine.specs.Change.{apply_all};
-ghost use Rattle.hurd_machine.specs.Plan.{Planned};
+ghost use Rattle.hurd_machine.specs.Plan.{Follows, Planned, told};
 ghost use Rattle.hurd_machine.specs.declared.call.Reply.TheVariants.{Done};
 ghost use Rattle.hurd_core.specs.Core.{Does, attaching, naming_asks, without_box, world_of};
 ghost use Rattle.hurd_core.specs.PortNode.{named};
@@ -51,7 +51,7 @@ impl Wanted {
 /// Errors, in order, with the box back: `ESRCH` no such task, `EBADF` no such port, or one that controls a server, `EDIED` no such node,
 /// `EPERM` the port's ids don't own it, `EINVAL` a box without active `SET`; with neither `SET` nothing is done; `EOPNOTSUPP` a server's
 /// root, a node of a server that keeps no tree, or passive `SET`, `EBUSY` an old server with active `EXCL`, or with users, without `ORPHAN`
-/// and `FORCE`, `EOVERFLOW`, `ENOMEM`.
+/// and `FORCE`, `EOVERFLOW`, `ENOMEM`. Without a box it takes no memory.
 pub fn file_set_translator<S: Server>(
     core: &mut Core<S>,
     alloc: Global,
@@ -63,6 +63,8 @@ pub fn file_set_translator<S: Server>(
     requires { IfSome server (λ s. Begins (S.meaning s)) }
     ensures planned { let w = world_of S.meaning core.old in
         Planned w (plan_set_translator w task.0 port wanted (option_map S.meaning server)) (λ u. Done) (without_box result) (world_of S.meaning core.new) }
+    ensures free { let w = world_of S.meaning core.old in
+        IsNone server → Follows w (plan_set_translator w task.0 port wanted (option_map S.meaning server)) (told (λ u. Done) (without_box result)) (world_of S.meaning core.new) }
     ensures back { IfErr result (λ e. e.1 ≡ server) }
 {
     let (node, attrs) = match setter(core, task, port, wanted, server.is_some()) {
