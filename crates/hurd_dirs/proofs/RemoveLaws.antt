@@ -14,7 +14,7 @@ use Rattle.hurd_trans_iface.specs.Answers.{entry_of, unlink_edits}
 use Rattle.hurd_trans_iface.specs.Meaning.{keeps_tree}
 use Rattle.hurd_trans_iface.proofs.Goods.{good}
 use Rattle.hurd_nodes.specs.Shown.{ServerInfo, are_kin, info_in, own_edits, tree_by, unlink_by}
-use Rattle.hurd_machine.specs.declared.call.Reply.{Reply}
+use Rattle.hurd_machine.specs.Calls.{Reply}
 use Rattle.hurd_machine.specs.declared.call.Reply.TheVariants.{Done}
 use Rattle.hurd_machine.specs.World.{World, header_at, body_at, home_at, info_at, unlinks_at, lists_at}
 use Rattle.hurd_machine.specs.Change.{Change, EditBody, EditHeader, Settle, changes_of}

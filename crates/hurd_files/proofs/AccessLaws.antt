@@ -8,7 +8,7 @@ use Rattle.hurd_creds.specs.declared.errno.Errno.TheVariants.{EPERM}
 use Rattle.hurd_creds.specs.Access.{IdSets, holds_uid, is_root, owns}
 use Rattle.hurd_creds.specs.Bits.{known_mode}
 use Rattle.hurd_ports.specs.declared.table.Right.TheVariants.{Io}
-use Rattle.hurd_machine.specs.declared.call.Reply.{Reply}
+use Rattle.hurd_machine.specs.Calls.{Reply}
 use Rattle.hurd_machine.specs.declared.call.Reply.TheVariants.{Done}
 use Rattle.hurd_machine.specs.World.{World, sets_attrs_at}
 use Rattle.hurd_machine.specs.Plan.{Follows, answered}

@@ -7,7 +7,7 @@ use Rattle.hurd_creds.specs.declared.errno.Errno.TheVariants.{EPERM}
 use Rattle.hurd_creds.specs.Bits.{known_mode}
 use Rattle.hurd_creds.specs.Access.{IdSets, access_of, owns, may_give}
 use Rattle.hurd_trans_iface.specs.Nodes.{with_attrs}
-use Rattle.hurd_machine.specs.declared.call.Reply.{Reply}
+use Rattle.hurd_machine.specs.Calls.{Reply}
 use Rattle.hurd_machine.specs.declared.call.Reply.TheVariants.{Done, Modes}
 use Rattle.hurd_machine.specs.World.{World, sets_attrs_at}
 use Rattle.hurd_machine.specs.Change.{EditHeader}

@@ -11,7 +11,7 @@ use Rattle.hurd_creds.specs.declared.name.Name.{Name}
 use Rattle.hurd_creds.specs.Access.{IdSets, ids_of, most_ids}
 use Rattle.hurd_creds.specs.Memory.{Meets}
 use Rattle.hurd_trans_iface.specs.Meaning.{Meaning}
-use Rattle.hurd_machine.specs.declared.call.Reply.{Reply}
+use Rattle.hurd_machine.specs.Calls.{Reply}
 use Rattle.hurd_machine.specs.declared.call.Reply.TheVariants.{Done, Refused}
 use Rattle.hurd_machine.specs.World.{World}
 use Rattle.hurd_machine.specs.Change.{apply_all}

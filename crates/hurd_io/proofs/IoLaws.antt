@@ -6,7 +6,7 @@ use Rattle.hurd_creds.specs.declared.errno.Errno.{Errno}
 use Rattle.hurd_trans_iface.specs.Behaviour.{Did, Question, edits_of}
 use Rattle.hurd_trans_iface.specs.Kinds.{ServerKind, behaviour_of}
 use Rattle.hurd_trans_iface.specs.Good.{KeepsSizes, IsPlain as IsPlainAnswer}
-use Rattle.hurd_machine.specs.declared.call.Reply.{Reply}
+use Rattle.hurd_machine.specs.Calls.{Reply}
 use Rattle.hurd_machine.specs.World.{World, asked_at, stream_at}
 use Rattle.hurd_machine.specs.Change.{Change, apply_all, changes_of}
 use Rattle.hurd_machine.specs.Plan.{is_refused}

@@ -3,7 +3,7 @@ use Rattle.std.proofs.Common.{◌≡◌, ◌∙◌, ℕ, List, sym, ap, subst}
 use Rattle.std.specs.Prelude.{Result, Ok, Err, false}
 use Rattle.hurd_creds.specs.declared.errno.Errno.{Errno}
 use Rattle.hurd_trans_iface.specs.Behaviour.{Did, Question, edits_of}
-use Rattle.hurd_machine.specs.declared.call.Reply.{Reply}
+use Rattle.hurd_machine.specs.Calls.{Reply}
 use Rattle.hurd_machine.specs.World.{World, asked_at}
 use Rattle.hurd_machine.specs.Change.{Change, apply_all, changes_of}
 use Rattle.hurd_machine.specs.Plan.{Planned, is_refused}

@@ -9,7 +9,7 @@ use Rattle.hurd_trans_iface.specs.Nodes.{is_dir}
 use Rattle.hurd_trans_iface.specs.Behaviour.{Did, Question, edits_of, reading, writing}
 use Rattle.hurd_ports.specs.Steps.{at_cursor}
 use Rattle.hurd_machine.specs.declared.handle.Handle.{Handle}
-use Rattle.hurd_machine.specs.declared.call.Reply.{Reply}
+use Rattle.hurd_machine.specs.Calls.{Reply}
 use Rattle.hurd_machine.specs.declared.call.Reply.TheVariants.{Data, Count, Stat}
 pub use Rattle.hurd_io.specs.declared.offset.Offset.{Offset}
 use Rattle.hurd_io.specs.declared.offset.Offset.TheVariants.{Place, Cursor}

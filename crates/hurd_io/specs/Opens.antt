@@ -10,7 +10,7 @@ use Rattle.hurd_ports.specs.Steps.{appending, at_cursor}
 use Rattle.hurd_machine.specs.declared.handle.Handle.{Handle}
 use Rattle.hurd_machine.specs.declared.call.Whence.{Whence}
 use Rattle.hurd_machine.specs.declared.call.Whence.TheVariants.{Set, Current, End}
-use Rattle.hurd_machine.specs.declared.call.Reply.{Reply}
+use Rattle.hurd_machine.specs.Calls.{Reply}
 use Rattle.hurd_machine.specs.declared.call.Reply.TheVariants.{Count, Done, Modes}
 use Rattle.hurd_machine.specs.World.{World, readable_at}
 use Rattle.hurd_machine.specs.Change.{EditOpen}

@@ -3,8 +3,8 @@ use Rattle.std.proofs.Common.{◌≡◌, ◌∙◌, ◌&&◌, if◌then◌else�
 use Rattle.hurd_creds.specs.Memory.{is_no_memory}
 use Rattle.hurd_creds.specs.declared.errno.Errno.{Errno}
 use Rattle.hurd_creds.specs.declared.errno.Errno.TheVariants.{ENOMEM}
-use Rattle.hurd_machine.specs.declared.call.Call.{Call}
-use Rattle.hurd_machine.specs.declared.call.Reply.{Reply}
+use Rattle.hurd_machine.specs.Calls.{Call}
+use Rattle.hurd_machine.specs.Calls.{Reply}
 use Rattle.hurd_machine.specs.declared.call.Reply.TheVariants.{Refused}
 use Rattle.hurd_machine.specs.World.{World}
 use Rattle.hurd_machine.specs.Sight.{SameView}

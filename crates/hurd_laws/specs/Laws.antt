@@ -3,7 +3,7 @@ use Rattle.std.specs.Prelude.{◌≡◌, ◌≢◌, ◌⊎◌, ℕ, ◌≤◌, B
 use Rattle.hurd_creds.specs.declared.errno.Errno.TheVariants.{ENOMEM}
 use Rattle.hurd_creds.specs.declared.name.Name.{Name}
 use Rattle.hurd_ports.specs.Tables.{Task}
-use Rattle.hurd_machine.specs.declared.call.Call.{Call}
+use Rattle.hurd_machine.specs.Calls.{Call}
 use Rattle.hurd_machine.specs.declared.call.Reply.TheVariants.{Refused}
 use Rattle.hurd_machine.specs.World.{World, task_at}
 use Rattle.hurd_machine.specs.Sight.{Seen, Part, AttrOf, EmptyOf, BodyOf, OpenOf, OptionsOf, UsersOf, TaskOf, Sees, SameView, IsGone, part}

@@ -1,6 +1,6 @@
 -- Which calls names and arguments make.
 use Rattle.std.specs.Prelude.{ℕ, List, [], ◌∷◌, Option, Some, None, option_map}
-use Rattle.hurd_machine.specs.declared.call.Call.{Call}
+use Rattle.hurd_machine.specs.Calls.{Call}
 use Rattle.hurd_machine.specs.declared.call.Call.TheVariants as call
 use Rattle.hurd_lists.specs.Arguments.{bytes_of, flags_of, ids_of, long_number_of, mode_of, number_of, offset_of, task_of, whence_of}
 use Rattle.hurd_lists.specs.Reading.{◌>>=◌}

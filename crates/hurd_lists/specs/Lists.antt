@@ -8,7 +8,7 @@ use Rattle.hurd_words.specs.Reading.{good_words}
 use Rattle.hurd_words.specs.Users.{begins_with}
 use Rattle.hurd_words.specs.declared.fault.ReadFault.{ReadFault}
 use Rattle.hurd_words.specs.declared.fault.ReadFault.TheVariants as read_fault
-use Rattle.hurd_machine.specs.declared.call.Call.{Call}
+use Rattle.hurd_machine.specs.Calls.{Call}
 use Rattle.hurd_creds.specs.declared.name.TaskId.{TaskId}
 use Rattle.hurd_lists.specs.Arguments.{ids_of, task_of, text_of}
 use Rattle.hurd_lists.specs.Calls.{call_of}

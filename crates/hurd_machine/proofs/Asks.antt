@@ -19,8 +19,8 @@ use Rattle.hurd_ports.specs.declared.table.IoRight.{IoRight}
 use Rattle.hurd_ports.specs.declared.table.Right.{Right}
 use Rattle.hurd_ports.specs.declared.table.Right.TheVariants.{Io, Control}
 use Rattle.hurd_ports.specs.Tables.{Task, rights_of, or_refuse, task_of, right_in, right_at, right_of, io_of, io_right_in, io_right_of}
-use Rattle.hurd_machine.specs.declared.call.Reply.{Reply}
-use Rattle.hurd_machine.specs.declared.call.Reply.TheVariants.{Refused}
+use Rattle.hurd_machine.specs.Calls.{Reply, lacks_memory}
+use Rattle.hurd_machine.specs.declared.call.Reply.TheVariants.{Refused, Back}
 use Rattle.hurd_machine.specs.World.{World, IsAmong, ports_of, task_at, open_at, header_at, home_at, info_at, is_server_root, asked_at, count_in, readable_at, stream_at, stream_by, makes_at, links_at, sets_attrs_at}
 use Rattle.hurd_machine.specs.Plan.{Plan, refuse, is_refused, on, given, first, answered}
 use Rattle.hurd_machine.specs.declared.handle.Handle.{Handle}
@@ -102,14 +102,16 @@ first_plain (Ok a) k out h = h a refl
 
 -- a reply that is no want of memory
 abbrev pub IsPlainReply : Reply → Type 0
-IsPlainReply r = r ≢ Refused ENOMEM
+IsPlainReply r = lacks_memory r ≡ false
 
 pub refused_plain : (e : Errno) → is_no_memory e ≡ false → IsPlainReply (Refused e)
-refused_plain e out h = let same : e ≡ ENOMEM = cc in true≢false (ap is_no_memory (sym same) ∙ out)
+refused_plain e out = out
 
 -- what is no refusal is none for want of memory
 pub done_plain : (r : Reply) → is_refused r ≡ false → IsPlainReply r
-done_plain r out h = true≢false (ap is_refused (sym h) ∙ out)
+done_plain (Refused e) out = absurd (true≢false out)
+done_plain (Back e m) out = absurd (true≢false out)
+done_plain _ out = refl
 
 pub answered_plain : {A : Type 0} (x : Result A Errno) (k : A → Plan) → IsPlain x → ((a : A) → x ≡ Ok a → IsPlainReply (k a).reply) → IsPlainReply (answered x k).reply
 unfolding answered

@@ -1,5 +1,5 @@
 -- What is shown of a call, and the laws of one step that follow from it.
-use Rattle.std.proofs.Common.{◌≡◌, ◌≢◌, ℕ, Bool, true, false, Some, refl, sym, ◌∙◌, ap, subst, inl, inr, true≢false}
+use Rattle.std.proofs.Common.{◌≡◌, ◌≢◌, ℕ, Bool, true, false, Option, Some, None, refl, sym, ◌∙◌, ap, subst, inl, inr, true≢false}
 use Rattle.std.specs.Prelude.{Result, Ok, Err}
 use Rattle.std.specs.FinMap.{get}
 use Rattle.hurd_creds.specs.declared.name.Name.{Name}
@@ -7,8 +7,10 @@ use Rattle.hurd_creds.specs.declared.errno.Errno.{Errno}
 use Rattle.hurd_ports.specs.declared.table.Right.TheVariants.{Control}
 use Rattle.hurd_ports.specs.Tables.{Task}
 use Rattle.hurd_machine.specs.World.{World, nodes_of, task_at}
-use Rattle.hurd_machine.specs.declared.call.Reply.{Reply}
-use Rattle.hurd_machine.specs.Plan.{Plan, answered, looks, is_refused, after_plan}
+use Rattle.hurd_machine.specs.Calls.{Reply}
+use Rattle.hurd_machine.specs.declared.call.Reply.TheVariants.{Done, Found, Port, Data, Count, Names, Stat, Modes, Same, Refused, Back}
+use Rattle.hurd_machine.specs.Plan.{Plan, answered, looks, is_refused, after_plan, handing_back, returning}
+use Rattle.hurd_trans_iface.specs.Meaning.{Meaning}
 use Rattle.hurd_machine.specs.Sight.{Part, AttrOf, EmptyOf, BodyOf, OpenOf, OptionsOf, UsersOf, TaskOf, Seen, Sees, Knows, OfNode, OfSeat, OfControl, SameView}
 use Rattle.hurd_machine.specs.Sound.{Below, Coherent, AreSized, Linked, AtRest, Sound}
 use Rattle.hurd_machine.specs.Touched.{asked_parts, Nothing}
@@ -75,6 +77,34 @@ looking_laws t asks reply same plain told = record {
   may = λ S v c ours. answered_may v _ _ S v (λ a is. tt);
   same = λ S v w c a ours. answered_same _ _ _ _ (same S v w a ours) (λ b is. refl);
   plain = λ w. answered_plain _ _ (plain w) (λ a is. done_plain (reply a) (told a));
+}
+
+-- a call that brings a box plans the same changes, and another reply only where it is refused
+
+handed_plain : (m : Meaning) (r : Reply) → IsPlainReply r → IsPlainReply (handing_back m r)
+handed_plain m (Refused e) out = out
+handed_plain m Done out = out
+handed_plain m (Found found) out = out
+handed_plain m (Port p) out = out
+handed_plain m (Data bytes) out = out
+handed_plain m (Count count) out = out
+handed_plain m (Names names) out = out
+handed_plain m (Stat stat) out = out
+handed_plain m (Modes flags) out = out
+handed_plain m (Same same) out = out
+handed_plain m (Back e n) out = out
+
+pub returning_laws : (t : ℕ) (plan : World → Plan) (touches : World → Part → Type 0) (box : Option Meaning) → CallLaws t plan touches → CallLaws t (λ w. returning box (plan w)) touches
+returning_laws t plan touches None l = l
+returning_laws t plan touches (Some m) l = record {
+  fits = l.fits;
+  proper = l.proper;
+  linked = l.linked;
+  sized = l.sized;
+  rests = l.rests;
+  may = l.may;
+  same = λ S v w c a ours. ap (returning (Some m)) (l.same S v w c a ours);
+  plain = λ w. handed_plain m (plan w).reply (l.plain w);
 }
 
 -- what is seen has a name that was given

@@ -1,4 +1,5 @@
 pub mod World
+pub mod Calls
 pub mod Change
 pub mod Plan
 pub mod Handle

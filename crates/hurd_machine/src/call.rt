@@ -1,6 +1,6 @@
 //! Calls and replies.
-use hurd_creds::{Bytes, Errno, Ids, Mode, OpenFlags, Stat, TaskId};
-use hurd_trans_iface::Names;
+use hurd_creds::{Bytes, Errno, GoawayFlags, Ids, Mode, OpenFlags, Stat, TaskId, TransFlags};
+use hurd_trans_iface::{Names, Server, Words};
 
 /// From where a seek counts.
 #[derive(Clone, Copy, Debug, PartialEq, Eq)]
@@ -13,9 +13,18 @@ pub enum Whence {
     End,
 }
 
-/// A call, as a task makes it. Ports are numbers of the task's own table (`fs.defs`, `io.defs`; GNU Hurd Reference Manual).
-#[derive(Debug, Drop)]
-pub enum Call {
+/// What is asked for where a translator is set: flags of the passive half and of the active one, and of how an old server goes.
+#[derive(Clone, Copy, Debug, PartialEq, Eq)]
+pub struct Setting {
+    pub passive: TransFlags,
+    pub active: TransFlags,
+    pub goaway: GoawayFlags,
+}
+
+/// A call, as a task makes it. Ports are numbers of the task's own table (`fs.defs`, `fsys.defs`, `io.defs`; GNU Hurd Reference
+/// Manual). A server that a call brings is a box.
+#[derive(Drop)]
+pub enum Call<S = Box<dyn Server>> {
     /// Gives up a port.
     PortDeallocate {
         port: u64,
@@ -111,6 +120,28 @@ pub enum Call {
     FileCheckAccess {
         port: u64,
     },
+    /// Sets the translator of the port's node: the words of a passive one, and the server of an active one.
+    FileSetTranslator {
+        port: u64,
+        setting: Setting,
+        words: Words,
+        server: Option<S>,
+    },
+    /// Makes a port that controls the server which is active on the port's node.
+    FileGetTranslatorCntl {
+        port: u64,
+    },
+    /// Opens the root of the server that a port controls.
+    FsysGetroot {
+        control: u64,
+        dir: u64,
+        flags: OpenFlags,
+    },
+    /// Sends the server away that a port controls.
+    FsysGoaway {
+        control: u64,
+        flags: GoawayFlags,
+    },
     /// Tells the names in a directory.
     DirReaddir {
         port: u64,
@@ -178,8 +209,8 @@ pub enum Lookup {
 }
 
 /// What a call is told.
-#[derive(Debug, Drop)]
-pub enum Reply {
+#[derive(Drop)]
+pub enum Reply<S = Box<dyn Server>> {
     Done,
     Found(Lookup),
     Port(u64),
@@ -190,4 +221,6 @@ pub enum Reply {
     Modes(OpenFlags),
     Same(bool),
     Refused(Errno),
+    /// Of a call that brought a server, which comes back.
+    Back(Errno, S),
 }

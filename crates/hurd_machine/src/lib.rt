@@ -11,5 +11,5 @@
 mod call;
 mod handle;
 
-pub use call::{Call, Lookup, Reply, RetryKind, Whence};
+pub use call::{Call, Lookup, Reply, RetryKind, Setting, Whence};
 pub use handle::Handle;

@@ -8,7 +8,7 @@ use Rattle.hurd_ports.specs.Tables.{Task, ids_at, or_refuse, task_of}
 use Rattle.hurd_machine.specs.World.{World, ports_of, task_at}
 use Rattle.hurd_machine.specs.Plan.{Follows, answered, first, given}
 use Rattle.hurd_machine.specs.Change.{EditTask}
-use Rattle.hurd_machine.specs.declared.call.Reply.{Reply}
+use Rattle.hurd_machine.specs.Calls.{Reply}
 use Rattle.hurd_machine.specs.declared.call.Reply.TheVariants.{Done}
 use Rattle.hurd_ports.specs.Steps.{with_ids}
 use Rattle.hurd_rights.specs.Rights.{makeauth_asks, plan_makeauth}

@@ -6,7 +6,7 @@ use Rattle.hurd_creds.specs.declared.mode.Mode.{Mode}
 use Rattle.hurd_creds.specs.declared.open_flags.OpenFlags.{OpenFlags}
 use Rattle.hurd_machine.specs.declared.call.Call.TheVariants.{DirLookup, IoReauthenticate}
 use Rattle.hurd_machine.specs.declared.call.Lookup.TheVariants as found
-use Rattle.hurd_machine.specs.declared.call.Reply.{Reply}
+use Rattle.hurd_machine.specs.Calls.{Reply}
 use Rattle.hurd_machine.specs.declared.call.Reply.TheVariants as reply
 use Rattle.hurd_machine.specs.declared.call.RetryKind.TheVariants as kind
 use Rattle.hurd_shell.specs.declared.looking.Looked.{Looked}

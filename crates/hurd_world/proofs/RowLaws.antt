@@ -1,8 +1,8 @@
 -- What a row answers is what its call owes.
 use Rattle.std.proofs.Common.{◌≡◌, inl, inr, ℕ, true, Result, Ok, Err, refl, ap, sym, ◌∙◌}
 use Rattle.hurd_creds.specs.declared.errno.Errno.{Errno}
-use Rattle.hurd_machine.specs.declared.call.Call.{Call}
-use Rattle.hurd_machine.specs.declared.call.Reply.{Reply}
+use Rattle.hurd_machine.specs.Calls.{Call}
+use Rattle.hurd_machine.specs.Calls.{Reply}
 use Rattle.hurd_machine.specs.declared.call.Reply.TheVariants.{Refused}
 use Rattle.hurd_machine.specs.World.{World}
 use Rattle.hurd_machine.specs.Plan.{Plan, Follows, Planned, after_plan, told}

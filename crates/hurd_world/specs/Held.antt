@@ -1,6 +1,6 @@
 -- The world that the code holds, and how its calls and replies are read.
 use Rattle.hurd_creds.specs.declared.name.TaskId.{TaskId}
-use Rattle.hurd_machine.specs.declared.call.Call.{Call}
+use Rattle.hurd_machine.specs.Calls.{Call}
 use Rattle.hurd_laws.specs.Runs.{TaskCall}
 pub use Rattle.hurd_core.specs.Core.{Whole, coded_whole, world_of}
 
