@@ -12,7 +12,7 @@ use Rattle.hurd_machine.specs.Change.{Change, apply_all, changes_of}
 use Rattle.hurd_machine.specs.Plan.{is_refused}
 use Rattle.hurd_machine.specs.Sight.{Part, BodyOf, Sees, Seen}
 use Rattle.hurd_machine.specs.Touched.{OnDid}
-use Rattle.hurd_machine.proofs.Views.{Agree}
+use Rattle.hurd_machine.proofs.Views.{Agree, active_same}
 use Rattle.hurd_machine.proofs.Frame.{AllWithin, Full, within_append}
 use Rattle.hurd_machine.proofs.Coherence.{AllProper}
 use Rattle.hurd_machine.proofs.Keeping.{proper_append}
@@ -23,16 +23,16 @@ use Rattle.hurd_machine.proofs.Several.{AllMay}
 use Rattle.hurd_machine.proofs.Permits.{cursor_may, did_may, did_exact, may_append}
 use Rattle.hurd_machine.proofs.Opens.{cursor_within, cursor_proper, cursor_rests, cursor_sized, cursor_linked}
 use Rattle.hurd_machine.proofs.Edits.{did_within, did_proper, did_rests, did_linked}
-use Rattle.hurd_machine.proofs.Asks.{IsPlain, ok_plain, err_plain, asked_plain, answered_same, answered_plain, done_plain, first_same, first_ok, given_ok, given_same, stream_same, first_plain, given_plain, handle_same, handle_read, handle_plain, asked_seen, handle_seen, asked_same, port_same, port_plain}
+use Rattle.hurd_machine.proofs.Asks.{IsPlain, ok_plain, err_plain, asked_plain, answered_same, answered_plain, done_plain, first_same, first_ok, given_ok, given_same, stream_same, first_plain, given_plain, handle_same, handle_read, handle_plain, asked_seen, handle_seen, asked_same, port_same, port_plain, port_seen}
 use Rattle.hurd_machine.proofs.CallLaws.{CallLaws, looking_laws, answered_within, answered_proper, answered_sized, answered_rests, answered_may, answered_linked}
 use Rattle.hurd_io.specs.declared.offset.Offset.{Offset}
 use Rattle.hurd_io.specs.declared.offset.Offset.TheVariants.{Place, Cursor}
 use Rattle.hurd_io.specs.declared.offset.IoAt.{IoAt}
-use Rattle.hurd_io.specs.Io.{io_at, offset_of, past, moved, Moves, plan_io, touches_io, most_read, read_asks, reads, plan_read, touches_read, write_asks, write_cursor, writes, plan_write, touches_write, told_stat, plan_stat, touches_stat}
+use Rattle.hurd_io.specs.Io.{io_at, offset_of, past, moved, Moves, plan_io, touches_io, most_read, read_asks, reads, plan_read, touches_read, write_asks, write_cursor, writes, plan_write, touches_write, stat_asks, plan_stat, touches_stat}
 use Rattle.hurd_creds.specs.Bits.{READ, WRITE}
 use Rattle.hurd_trans_iface.proofs.Goods.{good}
 use Rattle.hurd_machine.specs.declared.handle.Handle.{Handle}
-use Rattle.hurd_machine.specs.declared.call.Reply.TheVariants.{Data, Count}
+use Rattle.hurd_machine.specs.declared.call.Reply.TheVariants.{Data, Count, Stat}
 use Rattle.hurd_machine.specs.Handle.{port_asks, handle_asks}
 
 -- Reads and writes: what the laws need of them, by what is asked first and the question to the server.
@@ -174,4 +174,6 @@ write_laws t p bytes offset = io_laws t (λ w. write_asks w t p offset) (writes 
 -- io_stat: it asks for a node that the caller has a port on, and so sees.
 
 pub stat_laws : (t p : ℕ) → CallLaws t (λ w. plan_stat w t p) (λ w. touches_stat w t p)
-stat_laws t p = looking_laws t (λ w. port_asks w t p) told_stat (λ S v w a ours. port_same a t ours p) (λ w. port_plain w t p) (λ n. refl)
+stat_laws t p = looking_laws t (λ w. stat_asks w t p) (λ s. Stat s)
+    (λ S v w a ours. first_same _ _ _ _ (port_same a t ours p) (λ n is. rw (active_same a n.right.node (port_seen t ours p n is)) refl))
+    (λ w. first_plain _ _ (port_plain w t p) (λ n is. ok_plain _)) (λ s. refl)

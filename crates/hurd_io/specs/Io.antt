@@ -1,20 +1,22 @@
 -- Reading, writing, and what is told of a node.
-use Rattle.std.specs.Prelude.{◌≡◌, ◌⊎◌, Bool, true, false, ℕ, ℤ, pos, negsuc, zero, suc, ◌+◌, not, if◌then◌else◌, min, List, [], ◌∷◌, ◌++◌, length, Result, Ok, Err}
+use Rattle.std.specs.Prelude.{◌≡◌, ◌⊎◌, Bool, true, false, ℕ, ℤ, pos, negsuc, zero, suc, ◌+◌, not, is_some, if◌then◌else◌, min, List, [], ◌∷◌, ◌++◌, length, Result, Ok, Err}
 use Rattle.hurd_creds.specs.declared.name.Name.{Name}
 use Rattle.hurd_creds.specs.declared.errno.Errno.{Errno}
 use Rattle.hurd_creds.specs.declared.errno.Errno.TheVariants.{EINVAL, EISDIR}
 use Rattle.hurd_creds.specs.Bits.{asks, READ, WRITE, APPEND}
 use Rattle.hurd_creds.specs.Stats.{stat_of}
+use Rattle.hurd_creds.specs.declared.attrs.Stat.{Stat}
 use Rattle.hurd_trans_iface.specs.Nodes.{is_dir}
 use Rattle.hurd_trans_iface.specs.Behaviour.{Did, Question, edits_of, reading, writing}
 use Rattle.hurd_ports.specs.Steps.{at_cursor}
 use Rattle.hurd_machine.specs.declared.handle.Handle.{Handle}
 use Rattle.hurd_machine.specs.Calls.{Reply}
-use Rattle.hurd_machine.specs.declared.call.Reply.TheVariants.{Data, Count, Stat}
+use Rattle.hurd_machine.specs.declared.call.Reply.TheVariants.{Data, Count}
+use Rattle.hurd_machine.specs.declared.call.Reply.TheVariants as reply
 pub use Rattle.hurd_io.specs.declared.offset.Offset.{Offset}
 use Rattle.hurd_io.specs.declared.offset.Offset.TheVariants.{Place, Cursor}
 pub use Rattle.hurd_io.specs.declared.offset.IoAt.{IoAt}
-use Rattle.hurd_machine.specs.World.{World, asked_at, stream_at}
+use Rattle.hurd_machine.specs.World.{World, active_at, asked_at, stream_at}
 use Rattle.hurd_machine.specs.Change.{Change, EditOpen, changes_of}
 use Rattle.hurd_machine.specs.Plan.{Plan, given, first, answered, looks}
 use Rattle.hurd_machine.specs.Handle.{Named, port_asks, handle_asks}
@@ -107,12 +109,17 @@ plan_write w t p bytes offset = plan_io w (write_asks w t p offset) (writes byte
 abbrev pub touches_write : World → ℕ → ℕ → List ℕ → ℤ → Part → Type 0
 touches_write w t p bytes offset = touches_io w (write_asks w t p offset) (writes bytes)
 
--- io_stat: the attributes of a port's node, whatever its open is for
-abbrev pub told_stat : Named → Reply
-told_stat n = Stat (stat_of (bare n.header))
+-- what is told of a port's node: its attributes, and whether a server is active on it
+abbrev pub stat_at : World → Named → Stat
+stat_at w n = let s = stat_of (bare n.header) in record s { active = is_some (active_at w n.right.node) }
 
+-- the node of a port, whatever its open is for
+abbrev pub stat_asks : World → ℕ → ℕ → Result Stat Errno
+stat_asks w t p = first (port_asks w t p) (λ n. Ok (stat_at w n))
+
+-- io_stat
 abbrev pub plan_stat : World → ℕ → ℕ → Plan
-plan_stat w t p = looks (port_asks w t p) told_stat
+plan_stat w t p = looks (stat_asks w t p) (λ s. reply.Stat s)
 
 abbrev pub touches_stat : World → ℕ → ℕ → Part → Type 0
 touches_stat w t p = Nothing
