@@ -87,6 +87,13 @@ module _ (homes : NameMap Name) (seats : NameMap (Seated Meaning)) (s : Name) wh
   unfolding servers_of
   servers-left = map_values-remove info_of seats s
 
+-- what was changed under a name and is then taken out leaves no trace
+pub removed-put : {X : Type 0} (m : NameMap X) (n : Name) (x : X) → fin.remove (fin.insert m n x) n ≡ fin.remove m n
+removed-put m n x = same_map_by _ _ (λ q. elim (same_or_apart q n) [
+  | inl here ↦ rw here (remove_here (fin.insert m n x) n ∙ sym (remove_here m n))
+  | inr apart ↦ remove_apart (fin.insert m n x) n q apart ∙ get_apart m n x q apart ∙ sym (remove_apart m n q apart)
+])
+
 mean-less : {S : Type 0} (f : S → Meaning) (seats : NameMap (Seated S)) (s : Name) → mean f (fin.remove seats s) ≡ fin.remove (mean f seats) s
 unfolding mean
 mean-less f seats s = map_values-remove (mean_seat f) seats s

@@ -2,8 +2,22 @@
 use Rattle.std.proofs.Common.{◌≡◌, ℕ, zero, suc, ◌+◌, ◌<◌, Bool, true, false, ◌||◌, List, [], ◌∷◌, take, length, get_or, refl, ap, arith, add-one}
 use Rattle.std.specs.List.{list_any, remove}
 use Rattle.hurd_nodes.specs.declared.seat.Hold.{Hold}
+use Rattle.hurd_nodes.specs.declared.seat.Hold.TheVariants.{Use, Way, Control}
+use Rattle.hurd_nodes.specs.contracts.seat.HoldPartialEq.TheImpl as hold_eq
 use Rattle.hurd_nodes.specs.Held.{less_one, same_hold}
 use Rattle.hurd_nodes.specs.Weights.{count_list, one_if, weigh_list}
+
+-- the comparison of holds is of their sorts and names
+pub same_by_eq : (x y : Hold) → hold_eq.ghosts.eq x y ≡ same_hold x y
+same_by_eq (Use n) (Use m) = refl
+same_by_eq (Use n) (Way m) = refl
+same_by_eq (Use n) (Control m) = refl
+same_by_eq (Way n) (Use m) = refl
+same_by_eq (Way n) (Way m) = refl
+same_by_eq (Way n) (Control m) = refl
+same_by_eq (Control n) (Use m) = refl
+same_by_eq (Control n) (Way m) = refl
+same_by_eq (Control n) (Control m) = refl
 
 or_false : (a b : Bool) → (a || b) ≡ false → (a ≡ false) × (b ≡ false)
 or_false true b h = absurd (cc)

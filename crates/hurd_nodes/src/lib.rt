@@ -5,7 +5,8 @@
 //! crate speaks of boxes.
 //!
 //! Servers come and go: `attach` seats one on a node, under a root of its own, after another has left for it, if one is to;
-//! `detach` takes one out with its nodes and its box. `unseat` leaves a server where it is, but no longer active on a node.
+//! `detach` sends one away: its box is told, and goes with its nodes. `unseat` leaves a server where it is, but no longer
+//! active on a node.
 //!
 //! It knows what is named from outside, once for each naming (`hold`, `release`): nodes by rights to use them, nodes by ways
 //! that rights came in by, servers by rights to control them. A server that nothing keeps any more, no naming, seat or node
@@ -15,9 +16,13 @@
 //! It doesn't decide who may ask: that is for the calls.
 #![tactic(auto)]
 
+mod asking;
+mod changes;
 mod nodes;
 mod search;
 mod seat;
+mod servers;
+mod settle;
 
 pub use nodes::{BOOT_NAME, Nodes};
 pub use seat::{Hold, Place};

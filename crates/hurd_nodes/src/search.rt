@@ -4,11 +4,12 @@ ghost use Rattle.std.specs.List.{list_any, remove};
 ghost use Rattle.std.specs.FinMap as fin;
 ghost use Rattle.hurd_creds.specs.Names.{same_name};
 ghost use Rattle.hurd_creds.specs.NameMaps.{place_by};
-ghost use Rattle.hurd_nodes.specs.Held.{AreApart, AreTables, Shrinks, held_of, home_key, homes_of, is_controlled, is_held, is_user, less_one, names_node, names_server, place_in, same_hold, seat_key, seats_of, users_in, is_home};
+ghost use Rattle.hurd_nodes.specs.Held.{AreApart, AreTables, Shrinks, held_of, home_key, homes_of, is_controlled, is_held, is_user, less_one, names_node, names_server, place_in, seat_key, seats_of, users_in, is_home};
 ghost use Rattle.hurd_nodes.specs.Shown.{less_old, without_seats, without_server, without_value};
 
 use crate::seat::{Hold, Home, Seat};
 use hurd_creds::{NodeName, ServerName};
+use hurd_trans_iface::Server;
 use std::alloc::{AllocError, Global};
 
 /// The index of the home of a node.
@@ -138,8 +139,37 @@ pub(crate) fn remove_server<S: Drop>(
     remove_seat(seats, server);
 }
 
-/// Takes out the server that leaves, if one does.
-pub(crate) fn remove_old<S: Drop>(
+/// Tells the box of a server, if it is there, that it is sent away.
+fn tell_away<S: Server>(seats: &mut Vec<Seat<S>>, server: ServerName)
+    ensures others { fin.remove (seats_of seats.new.items) server ≡ fin.remove (seats_of seats.old.items) server }
+    ensures apart { AreApart seat_key seats.old.items → AreApart seat_key seats.new.items }
+    ensures len { vec_len seats.new ≡ vec_len seats.old }
+    ensures capacity { vec_capacity seats.new ≡ vec_capacity seats.old }
+{
+    if let Some(i) = place_of_seat(seats, server) {
+        seats[i].server.goaway();
+    }
+}
+
+/// Sends a server away: its box is told, and then it is taken out as by `remove_server`.
+pub(crate) fn send_away<S: Server>(
+    homes: &mut Vec<Home>,
+    actives: &mut Vec<Home>,
+    seats: &mut Vec<Seat<S>>,
+    server: ServerName,
+)
+    requires { AreTables homes.old.items actives.old.items seats.old.items }
+    ensures is { (holds : List _) (spare : ℕ) → held_of homes.new.items actives.new.items seats.new.items holds spare
+        ≡ without_server (held_of homes.old.items actives.old.items seats.old.items holds spare) server }
+    ensures tables { AreTables homes.new.items actives.new.items seats.new.items }
+    ensures room { Shrinks homes.old homes.new × Shrinks actives.old actives.new × Shrinks seats.old seats.new }
+{
+    tell_away(seats, server);
+    remove_server(homes, actives, seats, server);
+}
+
+/// Sends the server away that leaves, if one does.
+pub(crate) fn remove_old<S: Server>(
     homes: &mut Vec<Home>,
     actives: &mut Vec<Home>,
     seats: &mut Vec<Seat<S>>,
@@ -152,7 +182,7 @@ pub(crate) fn remove_old<S: Drop>(
     ensures room { Shrinks homes.old homes.new × Shrinks actives.old actives.new × Shrinks seats.old seats.new }
 {
     if let Some(server) = old {
-        remove_server(homes, actives, seats, server);
+        send_away(homes, actives, seats, server);
     }
 }
 
@@ -237,25 +267,13 @@ pub(crate) fn is_controlled(holds: &[Hold], server: ServerName) -> bool
     false
 }
 
-/// Whether two holds are of one sort and name.
-fn same_hold(hold: Hold, other: Hold) -> bool
-    ensures { result ≡ same_hold hold other }
-{
-    match (hold, other) {
-        (Hold::Use(node), Hold::Use(named)) => node == named,
-        (Hold::Way(node), Hold::Way(named)) => node == named,
-        (Hold::Control(server), Hold::Control(named)) => server == named,
-        _ => false,
-    }
-}
-
 /// The index of the first such hold.
 fn place_of_hold(holds: &[Hold], hold: Hold) -> Option<usize>
     ensures is { MatchOption result (less_one hold holds.now ≡ holds.now) (λ i. remove holds.now i ≡ less_one hold holds.now) }
     ensures below { IfSome result (λ i. i < length holds.now) }
 {
     for (i, held) in holds.iter().enumerate() {
-        if same_hold(hold, *held) {
+        if hold == *held {
             return Some(i);
         }
     }
@@ -285,10 +303,7 @@ fn is_user(homes: &[Home], hold: Hold, server: ServerName) -> bool
     ensures { result ≡ is_user (homes_of homes.now) server hold }
 {
     match hold {
-        Hold::Use(node) => match home_of(homes, node) {
-            Some(home) => server == home,
-            None => false,
-        },
+        Hold::Use(node) => is_served(homes, node, server),
         Hold::Way(_) => false,
         Hold::Control(_) => false,
     }

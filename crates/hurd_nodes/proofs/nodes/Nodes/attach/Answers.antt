@@ -36,28 +36,28 @@ tables_left g c =
     ∙ rw (c.reserve_rows.ensures.homes, c.reserve_rows.ensures.actives, c.reserve_rows.ensures.seats) refl
 
 tables_less : (g : given.Over) (c : goal.After-push_reserved g)
-    → held_of c.remove_server.new.homes.items c.remove_server.new.actives.items c.remove_server.new.seats.items c.self.inside.holds.items (spare_of c.self.inside.holds) ≡ without_server (left g c) c.args.place.name
+    → held_of c.send_away.new.homes.items c.send_away.new.actives.items c.send_away.new.seats.items c.self.inside.holds.items (spare_of c.self.inside.holds) ≡ without_server (left g c) c.args.place.name
 tables_less g c =
-    c.remove_server.ensures.is c.self.inside.holds.items (spare_of c.self.inside.holds) ∙ ap (λ (t : Held g.row.S.Denot). without_server t c.args.place.name) (tables_left g c)
+    c.send_away.ensures.is c.self.inside.holds.items (spare_of c.self.inside.holds) ∙ ap (λ (t : Held g.row.S.Denot). without_server t c.args.place.name) (tables_left g c)
 
 -- what was taken out of the seats
-out : (g : given.Over) (c : goal.After-push_reserved g) → seats_of c.remove_server.new.seats.items ≡ fin.remove (seats_of c.remove_old.new.seats.items) c.args.place.name
-out g c = ap (λ (t : Held g.row.S.Denot). t.seats) (c.remove_server.ensures.is [] 0)
+out : (g : given.Over) (c : goal.After-push_reserved g) → seats_of c.send_away.new.seats.items ≡ fin.remove (seats_of c.remove_old.new.seats.items) c.args.place.name
+out g c = ap (λ (t : Held g.row.S.Denot). t.seats) (c.send_away.ensures.is [] 0)
 
 pub invariant_of-self-2 : goal.invariant_of-self-2
 invariant_of-self-2 g c =
-    let tables = c.remove_server.ensures.tables in
+    let tables = c.send_away.ensures.tables in
     record {
       homes_apart = c.put_home.ensures.apart tables.homes_apart;
       actives_apart = c.put_home-2.ensures.apart tables.actives_apart;
-      seats_apart = rw c.push_reserved.ensures.items (seat-apart c.remove_old.new.seats.items c.remove_server.new.seats.items (new g c) (out g c) tables.seats_apart);
+      seats_apart = rw c.push_reserved.ensures.items (seat-apart c.remove_old.new.seats.items c.send_away.new.seats.items (new g c) (out g c) tables.seats_apart);
     }
 
 -- the tables with it
 
 pushed : (g : given.Over) (c : goal.After-push_reserved g) → seats_of c.push_reserved.new.self.items ≡ fin.insert (fin.remove (left g c).seats c.args.place.name) c.args.place.name (seat_value (new g c))
 pushed g c =
-    ap seats_of c.push_reserved.ensures.items ∙ seat-pushed c.remove_old.new.seats.items c.remove_server.new.seats.items (new g c) (out g c)
+    ap seats_of c.push_reserved.ensures.items ∙ seat-pushed c.remove_old.new.seats.items c.send_away.new.seats.items (new g c) (out g c)
     ∙ ap (λ (t : Held g.row.S.Denot). fin.insert (fin.remove t.seats c.args.place.name) c.args.place.name (seat_value (new g c))) (tables_left g c)
 
 housed : (g : given.Over) (c : goal.After-push_reserved g) → homes_of c.put_home.new.homes.items ≡ fin.insert (without_server (left g c) c.args.place.name).homes c.args.place.root c.args.place.name

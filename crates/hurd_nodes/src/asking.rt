@@ -1,0 +1,263 @@
+//! Whether nodes may be made, linked, renamed or given other attributes.
+ghost use Rattle.std.specs.Prelude.{◌≡◌, Option};
+ghost use Rattle.std.specs.Option.{option_map};
+ghost use Rattle.std.specs.FinMap as fin;
+ghost use Rattle.hurd_trans_iface.specs.Nodes.{Node, attrs_of, is_dir};
+ghost use Rattle.hurd_trans_iface.specs.Answers.{is_file, is_made, make_of, link_of, rename_of, set_attrs_of};
+ghost use Rattle.hurd_nodes.specs.Shown.{shown, can_make, can_link, can_set_attrs, can_rename, nameless_in, can_make_nameless};
+ghost use Rattle.hurd_trans_iface.specs.Meaning.{keeps_tree};
+
+use crate::nodes::Nodes;
+use hurd_creds::{Attrs, Errno, Kind, NodeName};
+use hurd_trans_iface::{Crossing, Server};
+
+impl<S: Server> Nodes<S> {
+    /// Whether a node of this kind may be made in a directory under a name. Takes no memory.
+    ///
+    /// Errors, in order: `EDIED` no such directory, `ENOTDIR`, `EROFS` its server keeps no tree, `EEXIST`, `EOPNOTSUPP` a kind that trees don't have.
+    pub fn can_make(&self, dir: NodeName, name: &[u8], kind: Kind) -> Result<(), Errno>
+        ensures { result ≡ can_make dir name.now kind (shown S.meaning self.now) }
+    {
+        match self.server_of(dir) {
+            Some(server) => can_make_in(server, dir, name, kind),
+            None => Err(Errno::EDIED),
+        }
+    }
+
+    /// Whether a node of this kind may be made that no entry names, of the server of a node that is there. Takes no memory.
+    ///
+    /// Errors, in order: `EDIED` no such node, `EROFS` its server keeps no tree, `EOPNOTSUPP` any other kind than a file.
+    pub fn can_make_nameless(&self, dir: NodeName, kind: Kind) -> Result<(), Errno>
+        ensures { result ≡ can_make_nameless dir kind (shown S.meaning self.now) }
+    {
+        match self.server_of(dir) {
+            Some(server) => can_make_nameless_in(server, dir, kind),
+            None => Err(Errno::EDIED),
+        }
+    }
+
+    /// Whether a file may get another name in a directory. Takes no memory.
+    ///
+    /// Errors, in order: `EDIED` no such directory, `ENOTDIR`, `EROFS` its server keeps no tree, `EDIED` no such node, `EXDEV` one of another server, `EISDIR`, `EEXIST`,
+    /// `EOVERFLOW` it has 4,294,967,295 links.
+    pub fn can_link(&self, dir: NodeName, name: &[u8], node: NodeName) -> Result<(), Errno>
+        ensures { result ≡ can_link dir name.now node (shown S.meaning self.now) }
+    {
+        match self.server_of(dir) {
+            Some(server) => {
+                can_link_in(server, dir, name, self.are_kin(dir, node), self.attrs(node))
+            }
+            None => Err(Errno::EDIED),
+        }
+    }
+
+    /// Whether the owner, the group and the mode of a node may be set. Takes no memory.
+    ///
+    /// Errors, in order: `EDIED` no such node, `EOPNOTSUPP` its server keeps no tree.
+    pub fn can_set_attrs(&self, node: NodeName) -> Result<(), Errno>
+        ensures { result ≡ can_set_attrs node (shown S.meaning self.now) }
+    {
+        match self.server_of(node) {
+            Some(server) => can_set_attrs_in(server, node),
+            None => Err(Errno::EDIED),
+        }
+    }
+
+    /// Whether the entry of a name may go from a directory to another. Takes no memory.
+    ///
+    /// Errors, in order: `EDIED` no such directory, `ENOTDIR`, `EROFS` its server keeps no tree, `EXDEV` the two are of different servers, `EDIED` no such directory
+    /// `to`, `ENOTDIR`, `ENOENT`.
+    pub(crate) fn can_rename(&self, dir: NodeName, name: &[u8], to: NodeName) -> Result<(), Errno>
+        ensures { result ≡ can_rename dir name.now to (shown S.meaning self.now) }
+    {
+        match self.server_of(dir) {
+            Some(server) => can_rename_in(server, dir, name, self.are_kin(dir, to), to),
+            None => Err(Errno::EDIED),
+        }
+    }
+}
+
+/// Whether a node of this kind may be made in a directory of a server under a name.
+///
+/// Errors, in order: `EDIED` no such directory, `ENOTDIR`, `EROFS` the server keeps no tree, `EEXIST`, `EOPNOTSUPP` a kind that trees don't have.
+pub(crate) fn can_make_in<S: Server>(
+    server: &S,
+    dir: NodeName,
+    name: &[u8],
+    kind: Kind,
+) -> Result<(), Errno>
+    ensures { let m = S.meaning server.now in result ≡ make_of (keeps_tree m.kind) name.now kind (fin.get m.nodes dir) }
+{
+    let Some(attrs) = server.attrs(dir) else {
+        return Err(Errno::EDIED);
+    };
+    if !is_dir(attrs.kind) {
+        return Err(Errno::ENOTDIR);
+    }
+    if !has_tree(server) {
+        return Err(Errno::EROFS);
+    }
+    if server.step(dir, name).is_some() {
+        return Err(Errno::EEXIST);
+    }
+    if !is_made(kind) {
+        return Err(Errno::EOPNOTSUPP);
+    }
+    Ok(())
+}
+
+/// Whether the server of a node may make one of this kind that no entry names.
+///
+/// Errors, in order: `EDIED` no such node, `EROFS` the server keeps no tree, `EOPNOTSUPP` any other kind than a file.
+pub(crate) fn can_make_nameless_in<S: Server>(
+    server: &S,
+    dir: NodeName,
+    kind: Kind,
+) -> Result<(), Errno>
+    ensures { let m = S.meaning server.now in result ≡ nameless_in (keeps_tree m.kind) kind (fin.get m.nodes dir) }
+{
+    if server.attrs(dir).is_none() {
+        return Err(Errno::EDIED);
+    }
+    if !has_tree(server) {
+        return Err(Errno::EROFS);
+    }
+    if !is_file(kind) {
+        return Err(Errno::EOPNOTSUPP);
+    }
+    Ok(())
+}
+
+/// Whether a file of these attributes may get another name in a directory of a server; `kin`: it is of that server.
+///
+/// Errors, in order: `EDIED` no such directory, `ENOTDIR`, `EROFS` the server keeps no tree, `EDIED` no such file, `EXDEV`, `EISDIR`, `EEXIST`, `EOVERFLOW`.
+fn can_link_in<S: Server>(
+    server: &S,
+    dir: NodeName,
+    name: &[u8],
+    kin: bool,
+    file: Option<Attrs>,
+) -> Result<(), Errno>
+    ensures { (x : Option Node) → file ≡ option_map attrs_of x
+        → (let m = S.meaning server.now in result ≡ link_of (keeps_tree m.kind) name.now kin (fin.get m.nodes dir) x) }
+{
+    let Some(attrs) = server.attrs(dir) else {
+        return Err(Errno::EDIED);
+    };
+    if !is_dir(attrs.kind) {
+        return Err(Errno::ENOTDIR);
+    }
+    if !has_tree(server) {
+        return Err(Errno::EROFS);
+    }
+    let Some(file) = file else {
+        return Err(Errno::EDIED);
+    };
+    if !kin {
+        return Err(Errno::EXDEV);
+    }
+    if is_dir(file.kind) {
+        return Err(Errno::EISDIR);
+    }
+    if server.step(dir, name).is_some() {
+        return Err(Errno::EEXIST);
+    }
+    if file.links < u32::MAX {
+        Ok(())
+    } else {
+        Err(Errno::EOVERFLOW)
+    }
+}
+
+/// Whether the entry of a name may go from a directory of a server to another; `kin`: that is of the same server.
+///
+/// Errors, in order: `EDIED` no such directory, `ENOTDIR`, `EROFS` the server keeps no tree, `EXDEV`, `EDIED` no such directory `to`, `ENOTDIR`, `ENOENT`.
+fn can_rename_in<S: Server>(
+    server: &S,
+    dir: NodeName,
+    name: &[u8],
+    kin: bool,
+    to: NodeName,
+) -> Result<(), Errno>
+    ensures { let m = S.meaning server.now in result ≡ rename_of (keeps_tree m.kind) name.now kin (fin.get m.nodes dir) (fin.get m.nodes to) }
+{
+    let Some(attrs) = server.attrs(dir) else {
+        return Err(Errno::EDIED);
+    };
+    if !is_dir(attrs.kind) {
+        return Err(Errno::ENOTDIR);
+    }
+    if !has_tree(server) {
+        return Err(Errno::EROFS);
+    }
+    if !kin {
+        return Err(Errno::EXDEV);
+    }
+    let Some(other) = server.attrs(to) else {
+        return Err(Errno::EDIED);
+    };
+    if !is_dir(other.kind) {
+        return Err(Errno::ENOTDIR);
+    }
+    if server.step(dir, name).is_some() {
+        Ok(())
+    } else {
+        Err(Errno::ENOENT)
+    }
+}
+
+/// Whether the owner, the group and the mode of a node of a server may be set.
+///
+/// Errors, in order: `EDIED` no such node, `EOPNOTSUPP` the server keeps no tree.
+fn can_set_attrs_in<S: Server>(server: &S, node: NodeName) -> Result<(), Errno>
+    ensures { let m = S.meaning server.now in result ≡ set_attrs_of (keeps_tree m.kind) (fin.get m.nodes node) }
+{
+    if server.attrs(node).is_none() {
+        return Err(Errno::EDIED);
+    }
+    if !has_tree(server) {
+        return Err(Errno::EOPNOTSUPP);
+    }
+    Ok(())
+}
+
+/// Whether a server keeps a tree, in whose directories nodes can be made.
+pub(crate) fn has_tree<S: Server>(server: &S) -> bool
+    ensures { result ≡ keeps_tree (S.meaning server.now).kind }
+{
+    let root = server.root();
+    match root.crossing {
+        Crossing::Plain => is_dir(root.kind),
+        Crossing::Link { .. } => false,
+    }
+}
+
+/// Whether a node of this kind is a directory.
+pub(crate) fn is_dir(kind: Kind) -> bool
+    ensures { result ≡ is_dir kind }
+{
+    match kind {
+        Kind::Dir => true,
+        Kind::File | Kind::Link | Kind::Fifo | Kind::Char => false,
+    }
+}
+
+/// Whether a node of this kind is a file.
+fn is_file(kind: Kind) -> bool
+    ensures { result ≡ is_file kind }
+{
+    match kind {
+        Kind::File => true,
+        Kind::Dir | Kind::Link | Kind::Fifo | Kind::Char => false,
+    }
+}
+
+/// Whether a tree has nodes of this kind.
+fn is_made(kind: Kind) -> bool
+    ensures { result ≡ is_made kind }
+{
+    match kind {
+        Kind::File | Kind::Dir => true,
+        Kind::Link | Kind::Fifo | Kind::Char => false,
+    }
+}

@@ -1,0 +1,202 @@
+//! Changes of nodes by their servers: what is written, made, linked, renamed, and taken out of directories.
+ghost use Rattle.std.specs.Prelude.{◌≡◌, None};
+ghost use Rattle.std.specs.FinMap as fin;
+ghost use Rattle.hurd_creds.specs.Memory.{Steps};
+ghost use Rattle.hurd_trans_iface.specs.Behaviour.{reading, writing, resizing};
+ghost use Rattle.hurd_nodes.specs.Shown.{shown, asked_step, make_at, link_at, set_attrs_at, HideNothing, unlink_at, rename_at, make_nameless_at};
+ghost use Rattle.hurd_nodes.specs.Held.{holds_of};
+
+use crate::asking::{can_make_in, can_make_nameless_in};
+use crate::nodes::Nodes;
+use crate::search::{place_of_server, put_home};
+use crate::seat::Home;
+use hurd_creds::{Bytes, Errno, Mode, NodeName};
+use hurd_trans_iface::{NewNode, Server};
+use std::alloc::Global;
+
+impl<S: Server> Nodes<S> {
+    /// At most `amount` bytes of a node from `at` on.
+    ///
+    /// Errors, in order: `EDIED` no such node, the server's own refusals, `ENOMEM`.
+    pub fn read(
+        &mut self,
+        alloc: Global,
+        node: NodeName,
+        at: u64,
+        amount: u64,
+    ) -> Result<Bytes, Errno>
+        ensures shown { let h = shown S.meaning self.old in
+            Steps h (asked_step (reading at amount) node h) result (shown S.meaning self.new) }
+        ensures holds { holds_of self.new ≡ holds_of self.old }
+        ensures hidden { HideNothing S.meaning self.old → HideNothing S.meaning self.new }
+    {
+        match self.server_of_mut(node) {
+            Some(server) => server.read(alloc, node, at, amount),
+            None => Err(Errno::EDIED),
+        }
+    }
+
+    /// Puts bytes into a node at `at`, and answers how many.
+    ///
+    /// Errors, in order: `EDIED` no such node, the server's own refusals, `ENOMEM`.
+    pub fn write(&mut self, node: NodeName, at: u64, bytes: &[u8]) -> Result<u64, Errno>
+        ensures shown { let h = shown S.meaning self.old in
+            Steps h (asked_step (writing at bytes.now) node h) result (shown S.meaning self.new) }
+        ensures holds { holds_of self.new ≡ holds_of self.old }
+        ensures hidden { HideNothing S.meaning self.old → HideNothing S.meaning self.new }
+    {
+        match self.server_of_mut(node) {
+            Some(server) => server.write(node, at, bytes),
+            None => Err(Errno::EDIED),
+        }
+    }
+
+    /// Cuts a node's bytes, or grows them by zero bytes.
+    ///
+    /// Errors, in order: `EDIED` no such node, the server's own refusals, `ENOMEM`.
+    pub fn set_size(&mut self, node: NodeName, size: u64) -> Result<(), Errno>
+        ensures shown { let h = shown S.meaning self.old in
+            Steps h (asked_step (resizing size) node h) result (shown S.meaning self.new) }
+        ensures holds { holds_of self.new ≡ holds_of self.old }
+        ensures hidden { HideNothing S.meaning self.old → HideNothing S.meaning self.new }
+    {
+        match self.server_of_mut(node) {
+            Some(server) => server.set_size(node, size),
+            None => Err(Errno::EDIED),
+        }
+    }
+
+    /// Makes a node in a directory under a name, of the directory's server.
+    ///
+    /// Errors, in order: those of `can_make`, `ENOMEM`.
+    pub fn make(
+        &mut self,
+        alloc: Global,
+        dir: NodeName,
+        name: &[u8],
+        new: NewNode,
+    ) -> Result<(), Errno>
+        ensures shown { let h = shown S.meaning self.old in
+            Steps h (make_at dir name.now new h) result (shown S.meaning self.new) }
+        ensures holds { holds_of self.new ≡ holds_of self.old }
+        ensures hidden { fin.get self.old.homes new.name ≡ None → HideNothing S.meaning self.old → HideNothing S.meaning self.new }
+    {
+        let Some(i) = place_of_server(&self.homes, &self.seats, dir) else {
+            return Err(Errno::EDIED);
+        };
+        can_make_in(&self.seats[i].server, dir, name, new.kind)?;
+        self.homes.reserve(1)?;
+        let home = Home {
+            node: new.name,
+            server: self.seats[i].name,
+        };
+        self.seats[i].server.make(alloc, dir, name, new)?;
+        put_home(&mut self.homes, home);
+        Ok(())
+    }
+
+    /// Makes a file that no entry names, of the server of a node that is there.
+    ///
+    /// Errors, in order: `EDIED` no such node, `EROFS` its server keeps no tree, `EOPNOTSUPP` any other kind than a file, `ENOMEM`.
+    pub fn make_nameless(&mut self, dir: NodeName, new: NewNode) -> Result<(), Errno>
+        ensures shown { let h = shown S.meaning self.old in
+            Steps h (make_nameless_at dir new h) result (shown S.meaning self.new) }
+        ensures holds { holds_of self.new ≡ holds_of self.old }
+        ensures hidden { fin.get self.old.homes new.name ≡ None → HideNothing S.meaning self.old → HideNothing S.meaning self.new }
+    {
+        let Some(i) = place_of_server(&self.homes, &self.seats, dir) else {
+            return Err(Errno::EDIED);
+        };
+        can_make_nameless_in(&self.seats[i].server, dir, new.kind)?;
+        self.homes.reserve(1)?;
+        let home = Home {
+            node: new.name,
+            server: self.seats[i].name,
+        };
+        self.seats[i].server.make_nameless(new)?;
+        put_home(&mut self.homes, home);
+        Ok(())
+    }
+
+    /// Gives a file another name in a directory.
+    ///
+    /// Errors, in order: those of `can_link`, `ENOMEM`.
+    pub fn link(
+        &mut self,
+        alloc: Global,
+        dir: NodeName,
+        name: &[u8],
+        node: NodeName,
+    ) -> Result<(), Errno>
+        ensures shown { let h = shown S.meaning self.old in
+            Steps h (link_at dir name.now node h) result (shown S.meaning self.new) }
+        ensures holds { holds_of self.new ≡ holds_of self.old }
+        ensures hidden { HideNothing S.meaning self.old → HideNothing S.meaning self.new }
+    {
+        self.can_link(dir, name, node)?;
+        match self.server_of_mut(dir) {
+            Some(server) => server.link(alloc, dir, name, node),
+            None => Err(Errno::EDIED),
+        }
+    }
+
+    /// Takes the first entry of a name out of a directory: of what it names, a directory loses its parent, and any other node a link. Whether that is a directory, and
+    /// whether it is empty, is for who asks. Takes no memory.
+    ///
+    /// Errors, in order: `EDIED` no such directory, `ENOTDIR`, `EROFS` its server keeps no tree, `ENOENT`.
+    pub fn unlink(&mut self, dir: NodeName, name: &[u8]) -> Result<(), Errno>
+        ensures shown { (result, shown S.meaning self.new) ≡ unlink_at dir name.now (shown S.meaning self.old) }
+        ensures holds { holds_of self.new ≡ holds_of self.old }
+        ensures hidden { HideNothing S.meaning self.old → HideNothing S.meaning self.new }
+    {
+        match self.server_of_mut(dir) {
+            Some(server) => server.unlink(dir, name),
+            None => Err(Errno::EDIED),
+        }
+    }
+
+    /// Takes the first entry `name` out of a directory and puts it last into another one, or the same, as `new`: in the place of the entry of that name, where there is
+    /// one, whose node loses it as by `unlink`. A directory gets its new parent. Where both entries name one node nothing changes. What the two nodes are is for who asks.
+    ///
+    /// Errors, in order: `EDIED` no such directory, `ENOTDIR`, `EROFS` its server keeps no tree, `EXDEV` the two are of different servers, `EDIED` no such directory
+    /// `to`, `ENOTDIR`, `ENOENT`, `ENOMEM`.
+    pub fn rename(
+        &mut self,
+        alloc: Global,
+        dir: NodeName,
+        name: &[u8],
+        to: NodeName,
+        new: &[u8],
+    ) -> Result<(), Errno>
+        ensures shown { let h = shown S.meaning self.old in
+            Steps h (rename_at dir name.now to new.now h) result (shown S.meaning self.new) }
+        ensures holds { holds_of self.new ≡ holds_of self.old }
+        ensures hidden { HideNothing S.meaning self.old → HideNothing S.meaning self.new }
+    {
+        self.can_rename(dir, name, to)?;
+        match self.server_of_mut(dir) {
+            Some(server) => server.rename(alloc, dir, name, to, new),
+            None => Err(Errno::EDIED),
+        }
+    }
+
+    /// Sets the owner, the group and the mode of a node. Takes no memory.
+    ///
+    /// Errors, in order: those of `can_set_attrs`.
+    pub fn set_attrs(
+        &mut self,
+        node: NodeName,
+        owner: u32,
+        group: u32,
+        mode: Mode,
+    ) -> Result<(), Errno>
+        ensures shown { (result, shown S.meaning self.new) ≡ set_attrs_at node owner group mode (shown S.meaning self.old) }
+        ensures holds { holds_of self.new ≡ holds_of self.old }
+        ensures hidden { HideNothing S.meaning self.old → HideNothing S.meaning self.new }
+    {
+        match self.server_of_mut(node) {
+            Some(server) => server.set_attrs(node, owner, group, mode),
+            None => Err(Errno::EDIED),
+        }
+    }
+}

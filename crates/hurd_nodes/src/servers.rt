@@ -1,0 +1,81 @@
+//! Servers that take their place, and servers that are sent away.
+ghost use Rattle.std.specs.Prelude.{◌≡◌, None, IfErr, OnOk, OnErr};
+ghost use Rattle.std.specs.FinMap as fin;
+ghost use Rattle.hurd_nodes.specs.Shown.{attached, begun_info, begun_root, out_server, without_active, without_old, shown, HideNothing};
+ghost use Rattle.hurd_trans_iface.specs.Meaning.{Begins};
+ghost use Rattle.hurd_nodes.specs.Held.{holds_of};
+
+use crate::nodes::Nodes;
+use crate::search::{put_home, remove_home, remove_old, reserve_rows, send_away};
+use crate::seat::{Home, Place, Seat};
+use hurd_creds::{Errno, Ids, NodeName, ServerName};
+use hurd_trans_iface::Server;
+
+impl<S: Server> Nodes<S> {
+    /// A new server takes its place: active on a node, with a root of its own, which may be a node that is there. The server that leaves for it goes first, as by
+    /// `detach`, and so does one of its own name; one that was active on the node is so no more.
+    ///
+    /// `ENOMEM`, with the box back: nothing is changed.
+    pub fn attach(
+        &mut self,
+        place: Place,
+        ids: Ids,
+        instead: Option<ServerName>,
+        server: S,
+    ) -> Result<(), (Errno, S)>
+        requires { Begins (S.meaning server) }
+        ensures shown { OnOk result (shown S.meaning self.new ≡ attached place.name place.seat (begun_info (S.meaning server) place.root ids)
+            (begun_root (S.meaning server) place.owner place.group place.mode) (without_old instead (shown S.meaning self.old))) }
+        ensures holds { holds_of self.new ≡ holds_of self.old }
+        ensures hidden { fin.get self.old.homes place.root ≡ None → HideNothing S.meaning self.old → HideNothing S.meaning self.new }
+        ensures kept { OnErr result (self.new ≡ self.old) }
+        ensures err { IfErr result (λ e. e ≡ (Errno.ENOMEM, server)) }
+    {
+        if reserve_rows(&mut self.homes, &mut self.actives, &mut self.seats).is_err() {
+            return Err((Errno::ENOMEM, server));
+        }
+        remove_old(&mut self.homes, &mut self.actives, &mut self.seats, instead);
+        send_away(
+            &mut self.homes,
+            &mut self.actives,
+            &mut self.seats,
+            place.name,
+        );
+        let mut server = server;
+        server.begin_root(place.root, place.owner, place.group, place.mode);
+        let served = Home {
+            node: place.root,
+            server: place.name,
+        };
+        let seated = Home {
+            node: place.seat,
+            server: place.name,
+        };
+        put_home(&mut self.homes, served);
+        put_home(&mut self.actives, seated);
+        self.seats.push_reserved(Seat {
+            name: place.name,
+            root: place.root,
+            ids,
+            server,
+        });
+        Ok(())
+    }
+
+    /// Sends a server away: its box is told, and then it is taken out, with its nodes and its box; it is active nowhere any more. What nothing else keeps then goes by
+    /// `settle`. Takes no memory.
+    pub fn detach(&mut self, server: ServerName)
+        ensures shown { shown S.meaning self.new ≡ out_server server (shown S.meaning self.old) }
+        ensures holds { holds_of self.new ≡ holds_of self.old }
+        ensures hidden { HideNothing S.meaning self.old → HideNothing S.meaning self.new }
+    {
+        send_away(&mut self.homes, &mut self.actives, &mut self.seats, server);
+    }
+
+    /// No server is active on a node any more. Takes no memory.
+    pub fn unseat(&mut self, node: NodeName)
+        ensures { self.new ≡ without_active self.old node }
+    {
+        remove_home(&mut self.actives, node);
+    }
+}

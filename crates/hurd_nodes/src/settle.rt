@@ -1,0 +1,191 @@
+//! What is named from outside, and what goes when nothing keeps it any more.
+ghost use Rattle.std.specs.Prelude.{◌≡◌, ◌≤◌, ◌<◌, ◌-◌, true, false, not, is_some, [], ◌∷◌, ◌++◌, None, IfSome, OnOk, OnErr};
+ghost use Rattle.std.specs.List.{list_any};
+ghost use Rattle.std.specs.FinMap as fin;
+ghost use Rattle.hurd_nodes.specs.Shown.{out_node, without_server, shown, header_in, HideNothing, forgotten};
+ghost use Rattle.hurd_nodes.specs.Held.{holds_of, homes_of, less_one, mean, seats_of, with_holds, with_seats};
+ghost use Rattle.hurd_nodes.specs.Settle.{is_entered, is_entered_at, node_stays, outside_of, server_stays, settle, sweep};
+ghost use Rattle.hurd_nodes.specs.Parts.{TakesOut};
+
+use crate::asking::is_dir;
+use crate::nodes::{BOOT_NAME, Nodes};
+use crate::search::{
+    has_held, is_active, is_controlled, is_held, place_of_server, remove_hold, remove_home,
+    remove_server,
+};
+use crate::seat::{Hold, Home, Seat};
+use hurd_creds::{Attrs, NodeName, ServerName};
+use hurd_trans_iface::Server;
+use std::alloc::AllocError;
+
+impl<S: Server> Nodes<S> {
+    /// Takes room in memory for so many more holds. `ENOMEM`: nothing is changed.
+    pub fn reserve_holds(&mut self, count: usize) -> Result<(), AllocError>
+        ensures ok { OnOk result ((self.new ≡ with_holds self.old self.old.holds self.new.spare) × (count ≤ self.new.spare)) }
+        ensures err { OnErr result (self.new ≡ self.old) }
+    {
+        self.holds.reserve(count)
+    }
+
+    /// A node or a server is named from outside once more. There is room for that. Takes no memory.
+    pub fn hold(&mut self, hold: Hold)
+        requires { 0 < self.old.spare }
+        ensures { self.new ≡ with_holds self.old (self.old.holds ++ hold ∷ []) (self.old.spare - 1) }
+    {
+        self.holds.push_reserved(hold);
+    }
+
+    /// A node or a server is named from outside once less. What nothing keeps any more then goes by `settle`. Takes no memory.
+    pub fn release(&mut self, hold: Hold)
+        ensures { self.new ≡ with_holds self.old (less_one hold self.old.holds) self.new.spare }
+    {
+        remove_hold(&mut self.holds, hold);
+    }
+
+    /// What nothing keeps any more goes: servers with their boxes, and nodes, which their boxes forget. Takes no memory.
+    pub fn settle(&mut self)
+        ensures shown { shown S.meaning self.new ≡ settle (outside_of self.old.holds) (shown S.meaning self.old) }
+        ensures holds { holds_of self.new ≡ holds_of self.old }
+        ensures hidden { HideNothing S.meaning self.old → HideNothing S.meaning self.new }
+    {
+        while self.take_one() {}
+    }
+
+    /// Takes out one node or server that doesn't stay; false where all stay.
+    fn take_one(&mut self) -> bool
+        ensures taken { result ≡ true → TakesOut (outside_of self.old.holds) (shown S.meaning self.old) (shown S.meaning self.new) }
+        ensures end { result ≡ false → sweep (outside_of self.old.holds) (shown S.meaning self.old) ≡ shown S.meaning self.old }
+        ensures same { result ≡ false → self.new ≡ self.old }
+        ensures holds { holds_of self.new ≡ holds_of self.old }
+        ensures hidden { HideNothing S.meaning self.old → HideNothing S.meaning self.new }
+    {
+        if let Some(node) = self.unkept_node(&self.homes) {
+            self.take_node(node);
+            return true;
+        }
+        if let Some(node) = self.unkept_node(&self.actives) {
+            self.take_node(node);
+            return true;
+        }
+        if let Some(server) = self.unkept_server(&self.seats) {
+            self.take_server(server);
+            return true;
+        }
+        false
+    }
+
+    /// The first node of these rows that doesn't stay.
+    fn unkept_node(&self, rows: &[Home]) -> Option<NodeName>
+        ensures found { IfSome result (λ n. (node_stays (outside_of self.now.holds) (shown S.meaning self.now) n ≡ false)
+            × (is_some (fin.get (homes_of rows.now) n) ≡ true)) }
+        ensures none { result ≡ None → list_any (λ x. not (node_stays (outside_of self.now.holds) (shown S.meaning self.now) x.node)) rows.now ≡ false }
+    {
+        for row in rows {
+            if !self.node_stays(row.node) {
+                return Some(row.node);
+            }
+        }
+        None
+    }
+
+    /// The first server of these seats that doesn't stay.
+    fn unkept_server(&self, seats: &[Seat<S>]) -> Option<ServerName>
+        ensures found { IfSome result (λ s. (server_stays (outside_of self.now.holds) (shown S.meaning self.now) s ≡ false)
+            × (is_some (fin.get (seats_of seats.now) s) ≡ true)) }
+        ensures none { result ≡ None → list_any (λ x. not (server_stays (outside_of self.now.holds) (shown S.meaning self.now) x.name)) seats.now ≡ false }
+    {
+        for seat in seats {
+            if !self.server_stays(seat.name) {
+                return Some(seat.name);
+            }
+        }
+        None
+    }
+
+    /// Whether a node stays: its server does, and it is that server's root, an entry names it, or it is named from outside.
+    fn node_stays(&self, node: NodeName) -> bool
+        ensures { result ≡ node_stays (outside_of self.now.holds) (shown S.meaning self.now) node }
+    {
+        let Some(i) = place_of_server(&self.homes, &self.seats, node) else {
+            return false;
+        };
+        let seat = &self.seats[i];
+        if !self.server_stays(seat.name) {
+            return false;
+        }
+        if node == seat.root {
+            return true;
+        }
+        if self.is_entered(node) {
+            return true;
+        }
+        is_held(&self.holds, node)
+    }
+
+    /// Whether a server stays: the boot server, one that is controlled, one that is active on a node, and one that has a node named from outside.
+    fn server_stays(&self, server: ServerName) -> bool
+        ensures { result ≡ server_stays (outside_of self.now.holds) (shown S.meaning self.now) server }
+    {
+        if server == BOOT_NAME {
+            return true;
+        }
+        if is_controlled(&self.holds, server) {
+            return true;
+        }
+        if is_active(&self.actives, server) {
+            return true;
+        }
+        has_held(&self.homes, &self.holds, server)
+    }
+
+    /// Whether an entry names a node: a directory has a parent, or another node a link.
+    fn is_entered(&self, node: NodeName) -> bool
+        ensures { result ≡ is_entered_at (fin.get (shown S.meaning self.now).nodes node) }
+    {
+        match self.attrs(node) {
+            Some(attrs) => is_entered(&attrs),
+            None => false,
+        }
+    }
+
+    /// Takes a node out, and has its box forget it.
+    fn take_node(&mut self, node: NodeName)
+        ensures shown { shown S.meaning self.new ≡ out_node node (shown S.meaning self.old) }
+        ensures boxes { mean S.meaning self.new.seats ≡ forgotten node (fin.get self.old.homes node) (mean S.meaning self.old.seats) }
+        ensures homes { self.new.homes ≡ fin.remove self.old.homes node }
+        ensures holds { holds_of self.new ≡ holds_of self.old }
+    {
+        self.forget(node);
+        remove_home(&mut self.homes, node);
+        remove_home(&mut self.actives, node);
+    }
+
+    /// Takes a server out, with its nodes, wherever it is active, and its box.
+    fn take_server(&mut self, server: ServerName)
+        ensures { self.new ≡ without_server self.old server }
+    {
+        remove_server(&mut self.homes, &mut self.actives, &mut self.seats, server);
+    }
+
+    /// Lets the box of a node's server forget it. The node's home stays for now.
+    fn forget(&mut self, node: NodeName)
+        ensures boxes { mean S.meaning self.new.seats ≡ forgotten node (fin.get self.old.homes node) (mean S.meaning self.old.seats) }
+        ensures others { with_seats self.new self.old.seats ≡ self.old }
+    {
+        match self.server_of_mut(node) {
+            Some(server) => server.forget(node),
+            None => (),
+        }
+    }
+}
+
+/// Whether an entry names a node of these attributes.
+fn is_entered(attrs: &Attrs) -> bool
+    ensures { result ≡ is_entered (header_in attrs.now) }
+{
+    if is_dir(attrs.kind) {
+        attrs.parent.is_some()
+    } else {
+        attrs.links > 0
+    }
+}
