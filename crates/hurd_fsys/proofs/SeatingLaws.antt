@@ -20,7 +20,7 @@ use Rattle.hurd_machine.specs.Handle.{Named}
 use Rattle.hurd_core.specs.Core.{Does, attaching, naming_asks}
 use Rattle.hurd_creds.proofs.IdLaws.{len-listed}
 use Rattle.hurd_core.proofs.PlanLaws.{asked-refused, does-planned, follows-refused, follows-then, planned-then}
-use Rattle.hurd_fsys.specs.declared.setting.Wanted.{Wanted}
+use Rattle.hurd_machine.specs.declared.call.Setting.{Setting}
 use Rattle.hurd_fsys.specs.Setting.{emptying, leaver, plan_set_translator, seat_asks, seat_for, seating, server_ids, sets_nothing, setter_asks, setting, setting_where}
 
 -- so few are never too many
@@ -43,7 +43,7 @@ means_some f None = refl
 means_some f (Some x) = refl
 
 -- of a port that may set, on what it names
-module _ {S : Type 0} (mean : S → Meaning) (w : World) (t p : ℕ) (f : Wanted) (server : Option S) (b : Bool) (brings : b ≡ is_some server) where
+module _ {S : Type 0} (mean : S → Meaning) (w : World) (t p : ℕ) (f : Setting) (server : Option S) (b : Bool) (brings : b ≡ is_some server) where
   abbrev box : Option Meaning
   box = option_map mean server
 

@@ -33,7 +33,7 @@ use Rattle.hurd_machine.proofs.Going.{Begun, goes_within, goes_proper, goes_link
 use Rattle.hurd_machine.proofs.Asks.{IsPlain, IsPlainReply, IsNamed, is_named, info_same, is_root_same, port_same, port_plain, holds_right, first_ok, given_ok, on_ok, first_same, given_same, on_same, first_plain, given_plain, on_plain, ok_plain, answered_all, answered_same, answered_plain, done_plain}
 use Rattle.hurd_machine.proofs.CallLaws.{CallLaws, answered_within}
 use Rattle.hurd_core.specs.Core.{attaching, naming_asks}
-use Rattle.hurd_fsys.specs.declared.setting.Wanted.{Wanted}
+use Rattle.hurd_machine.specs.declared.call.Setting.{Setting}
 use Rattle.hurd_fsys.specs.Setting.{sets_nothing, setter_asks, may_replace, seat_asks, leaver, emptying, server_ids, seat_for, seating, setting_where, plan_set_translator, GoesFor, seat_parts, parts_where, touches_set_translator, root_mode, root_kind}
 use Rattle.hurd_fsys.proofs.ControlLaws.{owner_holds}
 use Rattle.hurd_fsys.proofs.BegunLaws.{begun_shaped, begun_bare, begun}
@@ -142,7 +142,7 @@ record Setter (w : World) (t p : ℕ) (n : Named) : Type 0 where
   is_named : IsNamed w t p n
   owned : owns n.right.ids (bare n.header) ≡ true
 
-module _ (t p : ℕ) (f : Wanted) where
+module _ (t p : ℕ) (f : Setting) where
   setter : (w : World) (b : Bool) (n : Named) → setter_asks w t p f b ≡ Ok n → Setter w t p n
   setter w b n is =
       let k = first_ok (port_asks w t p) _ n is in

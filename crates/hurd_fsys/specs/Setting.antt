@@ -20,15 +20,15 @@ use Rattle.hurd_machine.specs.Handle.{Named, port_asks}
 use Rattle.hurd_machine.specs.Sight.{Part, AttrOf, bare, users}
 use Rattle.hurd_machine.specs.Touched.{asked_parts, Nothing, Goes}
 use Rattle.hurd_core.specs.declared.to_make.ServerToMake.{ServerToMake}
-use Rattle.hurd_fsys.specs.declared.setting.Wanted.{Wanted}
+use Rattle.hurd_machine.specs.declared.call.Setting.{Setting}
 use Rattle.hurd_core.specs.Core.{attaching, naming_asks}
 
 -- whether neither half is to be set
-abbrev pub sets_nothing : Wanted → Bool
+abbrev pub sets_nothing : Setting → Bool
 sets_nothing f = not (asks_trans f.passive SET) && not (asks_trans f.active SET)
 
 -- a port on a node that its ids own, and a box only where an active translator is to be set: EBADF, EDIED, EPERM, EINVAL
-abbrev pub setter_asks : World → ℕ → ℕ → Wanted → Bool → Result Named Errno
+abbrev pub setter_asks : World → ℕ → ℕ → Setting → Bool → Result Named Errno
 setter_asks w t p f brings =
     first (port_asks w t p) (λ n.
     given EPERM (owns n.right.ids (bare n.header)) (
@@ -39,22 +39,22 @@ abbrev pub may_seat : World → Name → Bool
 may_seat w n = tree_by (info_at w n) && not (is_server_root w n)
 
 -- whether what is active on a node may be replaced: not where the half is to be a new one, nor while it has users, unless it becomes an orphan, or is forced
-abbrev pub may_replace : World → Wanted → Option Name → Bool
+abbrev pub may_replace : World → Setting → Option Name → Bool
 may_replace w f None = true
 may_replace w f (Some q) = not (asks_trans f.active EXCL) && (asks_trans f.active ORPHAN || (asks_goaway f.goaway FORCE || (users w q == 0)))
 
 -- what is active on the node, and may be replaced: EOPNOTSUPP, EBUSY. (Words are stored by no server yet.)
-abbrev pub seat_asks : World → Wanted → Name → Result (Option Name) Errno
+abbrev pub seat_asks : World → Setting → Name → Result (Option Name) Errno
 seat_asks w f n =
     given EOPNOTSUPP (may_seat w n && not (asks_trans f.passive SET)) (
     given EBUSY (may_replace w f (active_at w n)) (Ok (active_at w n)))
 
 -- the server that goes: the old one, unless it becomes an orphan
-abbrev pub leaver : Wanted → Option Name → Option Name
+abbrev pub leaver : Setting → Option Name → Option Name
 leaver f old = if asks_trans f.active ORPHAN then None else old
 
 -- where no server comes, the old one goes, or loses its seat
-abbrev pub emptying : Wanted → Name → Option Name → List Change
+abbrev pub emptying : Setting → Name → Option Name → List Change
 emptying f n None = []
 emptying f n (Some q) = if asks_trans f.active ORPHAN then Unseat n ∷ Settle ∷ [] else DropServer q ∷ Settle ∷ []
 
@@ -79,20 +79,20 @@ abbrev pub seat_for : Named → Meaning → Option Name → ServerToMake
 seat_for n m instead = record { seat = n.right.node; owner = n.header.owner; group = n.header.group; mode = root_mode (root_kind m) n.header.mode; instead = instead }
 
 -- what is set where something is: with a box, which means this, or without one
-abbrev pub seating : World → ℕ → Named → Wanted → Option Meaning → Option Name → Plan
+abbrev pub seating : World → ℕ → Named → Setting → Option Meaning → Option Name → Plan
 seating w t n f None old = record { reply = Done; changes = emptying f n.right.node old }
 seating w t n f (Some m) old = answered (naming_asks w t 2) (λ x. record { reply = Done; changes = attaching t (seat_for n m (leaver f old)) (server_ids n.header.owner) m x })
 
 -- with neither half to be set, nothing is
-abbrev pub setting_where : Bool → World → ℕ → Wanted → Option Meaning → Named → Plan
+abbrev pub setting_where : Bool → World → ℕ → Setting → Option Meaning → Named → Plan
 setting_where true w t f box n = record { reply = Done; changes = [] }
 setting_where false w t f box n = answered (seat_asks w f n.right.node) (seating w t n f box)
 
-abbrev pub setting : World → ℕ → Wanted → Option Meaning → Named → Plan
+abbrev pub setting : World → ℕ → Setting → Option Meaning → Named → Plan
 setting w t f box n = setting_where (sets_nothing f) w t f box n
 
 -- file_set_translator
-abbrev pub plan_set_translator : World → ℕ → ℕ → Wanted → Option Meaning → Plan
+abbrev pub plan_set_translator : World → ℕ → ℕ → Setting → Option Meaning → Plan
 plan_set_translator w t p f box = answered (setter_asks w t p f (is_some box)) (setting w t f box)
 
 -- a server that goes, if one does
@@ -101,15 +101,15 @@ GoesFor w None p = ⊥
 GoesFor w (Some q) p = Goes w q p
 
 -- the node's attributes, and what goes
-abbrev pub seat_parts : World → Wanted → Name → Option Name → Part → Type 0
+abbrev pub seat_parts : World → Setting → Name → Option Name → Part → Type 0
 seat_parts w f n old p = (p ≡ AttrOf n) ⊎ GoesFor w (leaver f old) p
 
-abbrev pub parts_where : Bool → World → Wanted → Name → Part → Type 0
+abbrev pub parts_where : Bool → World → Setting → Name → Part → Type 0
 parts_where true w f n = Nothing
 parts_where false w f n = asked_parts (seat_asks w f n) (seat_parts w f n)
 
-abbrev pub setting_parts : World → Wanted → Named → Part → Type 0
+abbrev pub setting_parts : World → Setting → Named → Part → Type 0
 setting_parts w f n = parts_where (sets_nothing f) w f n.right.node
 
-abbrev pub touches_set_translator : World → ℕ → ℕ → Wanted → Bool → Part → Type 0
+abbrev pub touches_set_translator : World → ℕ → ℕ → Setting → Bool → Part → Type 0
 touches_set_translator w t p f brings = asked_parts (setter_asks w t p f brings) (setting_parts w f)

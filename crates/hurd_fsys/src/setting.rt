@@ -12,36 +12,25 @@ ghost use Rattle.hurd_fsys.specs.Setting.{emptying, leaver, may_replace, may_sea
 use bitflags::Flags;
 use hurd_core::{Core, PortNode, ServerToMake};
 use hurd_creds::{Errno, GoawayFlags, Ids, Kind, Mode, NodeName, ServerName, TaskId, TransFlags};
+use hurd_machine::Setting;
 use hurd_trans_iface::Server;
 use std::alloc::Global;
 
-/// What is asked for: flags of the passive half and of the active one, and of how the old server goes.
-#[derive(Clone, Copy, Debug)]
-pub struct Wanted {
-    pub passive: TransFlags,
-    pub active: TransFlags,
-    pub goaway: GoawayFlags,
+/// Whether neither half is to be set.
+fn sets_nothing(setting: Setting) -> bool
+    ensures { result ≡ sets_nothing setting }
+{
+    !setting.passive.asks(TransFlags::SET) && !setting.active.asks(TransFlags::SET)
 }
 
-impl Wanted {
-    /// Whether neither half is to be set.
-    fn sets_nothing(self) -> bool
-        ensures { result ≡ sets_nothing self }
-    {
-        !self.passive.asks(TransFlags::SET) && !self.active.asks(TransFlags::SET)
-    }
-}
-
-impl Wanted {
-    /// The server that goes for the new one: the old one, unless it becomes an orphan.
-    fn leaver(self, old: Option<ServerName>) -> Option<ServerName>
-        ensures { result ≡ leaver self old }
-    {
-        if self.active.asks(TransFlags::ORPHAN) {
-            None
-        } else {
-            old
-        }
+/// The server that goes for the new one: the old one, unless it becomes an orphan.
+fn leaver(setting: Setting, old: Option<ServerName>) -> Option<ServerName>
+    ensures { result ≡ leaver setting old }
+{
+    if setting.active.asks(TransFlags::ORPHAN) {
+        None
+    } else {
+        old
     }
 }
 
@@ -57,30 +46,30 @@ pub fn file_set_translator<S: Server>(
     alloc: Global,
     task: TaskId,
     port: u64,
-    wanted: Wanted,
+    setting: Setting,
     server: Option<S>,
 ) -> Result<(), (Errno, Option<S>)>
     requires { IfSome server (λ s. Begins (S.meaning s)) }
     ensures planned { let w = world_of S.meaning core.old in
-        Planned w (plan_set_translator w task.0 port wanted (option_map S.meaning server)) (λ u. Done) (without_box result) (world_of S.meaning core.new) }
+        Planned w (plan_set_translator w task.0 port setting (option_map S.meaning server)) (λ u. Done) (without_box result) (world_of S.meaning core.new) }
     ensures free { let w = world_of S.meaning core.old in
-        IsNone server → Follows w (plan_set_translator w task.0 port wanted (option_map S.meaning server)) (told (λ u. Done) (without_box result)) (world_of S.meaning core.new) }
+        IsNone server → Follows w (plan_set_translator w task.0 port setting (option_map S.meaning server)) (told (λ u. Done) (without_box result)) (world_of S.meaning core.new) }
     ensures back { IfErr result (λ e. e.1 ≡ server) }
 {
-    let (node, attrs) = match setter(core, task, port, wanted, server.is_some()) {
+    let (node, attrs) = match setter(core, task, port, setting, server.is_some()) {
         Ok(named) => (named.right.node, named.attrs),
         Err(errno) => return Err((errno, server)),
     };
-    if wanted.sets_nothing() {
+    if sets_nothing(setting) {
         return Ok(());
     }
-    let old = match old_server(core, node, wanted) {
+    let old = match old_server(core, node, setting) {
         Ok(old) => old,
         Err(errno) => return Err((errno, server)),
     };
     match server {
         None => {
-            empty_seat(core, node, wanted, old);
+            empty_seat(core, node, setting, old);
             Ok(())
         }
         Some(server) => {
@@ -89,7 +78,7 @@ pub fn file_set_translator<S: Server>(
                 owner: attrs.owner,
                 group: attrs.group,
                 mode: root_mode(server.root().kind, attrs.mode),
-                instead: wanted.leaver(old),
+                instead: leaver(setting, old),
             };
             match seat(core, alloc, task, place, server) {
                 Ok(()) => Ok(()),
@@ -107,16 +96,16 @@ fn setter<S: Server>(
     core: &Core<S>,
     task: TaskId,
     port: u64,
-    wanted: Wanted,
+    setting: Setting,
     brings: bool,
 ) -> Result<PortNode, Errno>
-    ensures { named result ≡ setter_asks (world_of S.meaning core.now) task.0 port wanted brings }
+    ensures { named result ≡ setter_asks (world_of S.meaning core.now) task.0 port setting brings }
 {
     let named = core.port_node(task, port)?;
     if !named.right.ids.owns(&named.attrs) {
         return Err(Errno::EPERM);
     }
-    if brings && !wanted.active.asks(TransFlags::SET) {
+    if brings && !setting.active.asks(TransFlags::SET) {
         return Err(Errno::EINVAL);
     }
     Ok(named)
@@ -129,31 +118,31 @@ fn setter<S: Server>(
 fn old_server<S: Server>(
     core: &Core<S>,
     node: NodeName,
-    wanted: Wanted,
+    setting: Setting,
 ) -> Result<Option<ServerName>, Errno>
-    ensures { result ≡ seat_asks (world_of S.meaning core.now) wanted node }
+    ensures { result ≡ seat_asks (world_of S.meaning core.now) setting node }
 {
     let may_seat = core.keeps_tree(node) && !core.is_root(node);
-    if !may_seat || wanted.passive.asks(TransFlags::SET) {
+    if !may_seat || setting.passive.asks(TransFlags::SET) {
         return Err(Errno::EOPNOTSUPP);
     }
     let old = core.active(node);
-    if !may_replace(core, wanted, old) {
+    if !may_replace(core, setting, old) {
         return Err(Errno::EBUSY);
     }
     Ok(old)
 }
 
 /// Whether what is active may be replaced: not where it is to be a new one, nor while it has users, unless it becomes an orphan, or is forced.
-fn may_replace<S: Server>(core: &Core<S>, wanted: Wanted, old: Option<ServerName>) -> bool
-    ensures { result ≡ may_replace (world_of S.meaning core.now) wanted old }
+fn may_replace<S: Server>(core: &Core<S>, setting: Setting, old: Option<ServerName>) -> bool
+    ensures { result ≡ may_replace (world_of S.meaning core.now) setting old }
 {
     let Some(old) = old else {
         return true;
     };
-    !wanted.active.asks(TransFlags::EXCL)
-        && (wanted.active.asks(TransFlags::ORPHAN)
-            || wanted.goaway.asks(GoawayFlags::FORCE)
+    !setting.active.asks(TransFlags::EXCL)
+        && (setting.active.asks(TransFlags::ORPHAN)
+            || setting.goaway.asks(GoawayFlags::FORCE)
             || core.users(old) == 0)
 }
 
@@ -182,15 +171,15 @@ fn seat<S: Server>(
 fn empty_seat<S: Server>(
     core: &mut Core<S>,
     node: NodeName,
-    wanted: Wanted,
+    setting: Setting,
     old: Option<ServerName>,
 )
-    ensures { world_of S.meaning core.new ≡ apply_all (emptying wanted node old) (world_of S.meaning core.old) }
+    ensures { world_of S.meaning core.new ≡ apply_all (emptying setting node old) (world_of S.meaning core.old) }
 {
     let Some(old) = old else {
         return;
     };
-    if wanted.active.asks(TransFlags::ORPHAN) {
+    if setting.active.asks(TransFlags::ORPHAN) {
         core.unseat(node);
     } else {
         core.send_away(old);

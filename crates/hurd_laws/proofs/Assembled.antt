@@ -1,14 +1,18 @@
 -- The laws of one step, from those of each call: each call has a line.
 use Rattle.std.proofs.Common.{ℕ, sym}
-use Rattle.hurd_machine.specs.Calls.{Call}
-use Rattle.hurd_machine.specs.declared.call.Call.TheVariants.{PortDeallocate, PortSend, PortReceive, AuthMakeauth, DirLookup, IoRead, IoWrite, IoSeek, IoStat, IoReadable, IoGetOpenmodes, IoSetAllOpenmodes, IoDuplicate, IoReauthenticate, IoRestrictAuth, IoIdentity, FileSetSize, FileChmod, FileChown, FileCheckAccess, DirReaddir, DirMkdir, DirRmdir, DirUnlink, DirLink, DirMkfile, DirRename}
+use Rattle.hurd_machine.specs.Calls.{Call, box_in}
+use Rattle.hurd_machine.specs.declared.call.Call.TheVariants.{PortDeallocate, PortSend, PortReceive, AuthMakeauth, DirLookup, IoRead, IoWrite, IoSeek, IoStat, IoReadable, IoGetOpenmodes, IoSetAllOpenmodes, IoDuplicate, IoReauthenticate, IoRestrictAuth, IoIdentity, FileSetSize, FileChmod, FileChown, FileCheckAccess, FileSetTranslator, FileGetTranslatorCntl, FsysGetroot, FsysGoaway, DirReaddir, DirMkdir, DirRmdir, DirUnlink, DirLink, DirMkfile, DirRename}
 use Rattle.hurd_machine.specs.World.{World}
 use Rattle.hurd_machine.specs.Sight.{Part, AttrOf, EmptyOf, BodyOf, OpenOf, OptionsOf, UsersOf, TaskOf}
 use Rattle.hurd_machine.proofs.Frame.{IsUnnamed, gone_kept}
-use Rattle.hurd_machine.proofs.CallLaws.{CallLaws}
+use Rattle.hurd_machine.proofs.CallLaws.{CallLaws, returning_laws}
 use Rattle.hurd_machine.proofs.CallLaws as call
 use Rattle.hurd_rights.proofs.RightsLaws.{deallocate_laws, send_laws, receive_laws, makeauth_laws}
 use Rattle.hurd_lookup.proofs.LookupLaws.{lookup_laws}
+use Rattle.hurd_lookup.proofs.GetrootLaws.{getroot_laws}
+use Rattle.hurd_fsys.proofs.FsysLaws.{goaway_laws}
+use Rattle.hurd_fsys.proofs.ControlLaws.{cntl_laws}
+use Rattle.hurd_fsys.proofs.SettingLaws.{set_translator_laws}
 use Rattle.hurd_io.proofs.IoLaws.{read_laws, write_laws, stat_laws}
 use Rattle.hurd_io.proofs.OpensLaws.{seek_laws, readable_laws, get_openmodes_laws, set_openmodes_laws}
 use Rattle.hurd_io.proofs.SharingLaws.{duplicate_laws, reauthenticate_laws, restrict_auth_laws, identity_laws}
@@ -19,37 +23,45 @@ use Rattle.hurd_dirs.proofs.FileLaws.{mkfile_laws}
 use Rattle.hurd_dirs.proofs.RemoveLaws.{rmdir_laws, unlink_laws}
 use Rattle.hurd_dirs.proofs.LinkLaws.{link_laws}
 use Rattle.hurd_dirs.proofs.RenameLaws.{rename_laws}
-use Rattle.hurd_laws.specs.Step.{plan, touches, after}
+use Rattle.hurd_laws.specs.Step.{row, plan, touches, after}
 use Rattle.hurd_laws.specs.Laws.{IsOld, ChangesTouched, GoneUnseen, OthersUnseen, OwnFromView, StaysSound, NeverWantsMemory}
 
+row_laws : (t : ℕ) (c : Call) → CallLaws t (λ w. row w t c) (λ w. touches w t c)
+row_laws t (PortDeallocate p) = deallocate_laws t p
+row_laws t (PortSend p q) = send_laws t p q.0
+row_laws t PortReceive = receive_laws t
+row_laws t (AuthMakeauth ids) = makeauth_laws t ids
+row_laws t (DirLookup p path flags mode) = lookup_laws t p path flags mode
+row_laws t (IoRead p amount offset) = read_laws t p amount offset
+row_laws t (IoWrite p bytes offset) = write_laws t p bytes offset
+row_laws t (IoSeek p offset whence) = seek_laws t p offset whence
+row_laws t (IoStat p) = stat_laws t p
+row_laws t (IoReadable p) = readable_laws t p
+row_laws t (IoGetOpenmodes p) = get_openmodes_laws t p
+row_laws t (IoSetAllOpenmodes p flags) = set_openmodes_laws t p flags
+row_laws t (IoDuplicate p) = duplicate_laws t p
+row_laws t (IoReauthenticate p) = reauthenticate_laws t p
+row_laws t (IoRestrictAuth p ids) = restrict_auth_laws t p ids
+row_laws t (IoIdentity p q) = identity_laws t p q
+row_laws t (FileSetSize p size) = set_size_laws t p size
+row_laws t (FileChmod p mode) = chmod_laws t p mode
+row_laws t (FileChown p owner group) = chown_laws t p owner group
+row_laws t (FileCheckAccess p) = check_access_laws t p
+row_laws t (FileSetTranslator p setting words server) = set_translator_laws t p setting server
+row_laws t (FileGetTranslatorCntl p) = cntl_laws t p
+row_laws t (FsysGetroot c dir flags) = getroot_laws t c dir flags
+row_laws t (FsysGoaway c flags) = goaway_laws t c flags
+row_laws t (DirReaddir p) = readdir_laws t p
+row_laws t (DirMkdir p name mode) = mkdir_laws t p name mode
+row_laws t (DirMkfile p flags mode) = mkfile_laws t p flags mode
+row_laws t (DirRmdir p name) = rmdir_laws t p name
+row_laws t (DirUnlink p name) = unlink_laws t p name
+row_laws t (DirLink p name q) = link_laws t p name q
+row_laws t (DirRename p name q new) = rename_laws t p q name new
+
+-- with the box back
 pub laws_of : (t : ℕ) (c : Call) → CallLaws t (λ w. plan w t c) (λ w. touches w t c)
-laws_of t (PortDeallocate p) = deallocate_laws t p
-laws_of t (PortSend p q) = send_laws t p q.0
-laws_of t PortReceive = receive_laws t
-laws_of t (AuthMakeauth ids) = makeauth_laws t ids
-laws_of t (DirLookup p path flags mode) = lookup_laws t p path flags mode
-laws_of t (IoRead p amount offset) = read_laws t p amount offset
-laws_of t (IoWrite p bytes offset) = write_laws t p bytes offset
-laws_of t (IoSeek p offset whence) = seek_laws t p offset whence
-laws_of t (IoStat p) = stat_laws t p
-laws_of t (IoReadable p) = readable_laws t p
-laws_of t (IoGetOpenmodes p) = get_openmodes_laws t p
-laws_of t (IoSetAllOpenmodes p flags) = set_openmodes_laws t p flags
-laws_of t (IoDuplicate p) = duplicate_laws t p
-laws_of t (IoReauthenticate p) = reauthenticate_laws t p
-laws_of t (IoRestrictAuth p ids) = restrict_auth_laws t p ids
-laws_of t (IoIdentity p q) = identity_laws t p q
-laws_of t (FileSetSize p size) = set_size_laws t p size
-laws_of t (FileChmod p mode) = chmod_laws t p mode
-laws_of t (FileChown p owner group) = chown_laws t p owner group
-laws_of t (FileCheckAccess p) = check_access_laws t p
-laws_of t (DirReaddir p) = readdir_laws t p
-laws_of t (DirMkdir p name mode) = mkdir_laws t p name mode
-laws_of t (DirMkfile p flags mode) = mkfile_laws t p flags mode
-laws_of t (DirRmdir p name) = rmdir_laws t p name
-laws_of t (DirUnlink p name) = unlink_laws t p name
-laws_of t (DirLink p name q) = link_laws t p name q
-laws_of t (DirRename p name q new) = rename_laws t p q name new
+laws_of t c = returning_laws t (λ w. row w t c) (λ w. touches w t c) (box_in c) (row_laws t c)
 
 -- what has a name that was given is not new
 old_named : (w : World) (p : Part) → IsOld w p → IsUnnamed w p → ⊥

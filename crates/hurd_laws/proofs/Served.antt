@@ -1,11 +1,8 @@
 -- What was served is a run of the written machine.
-use Rattle.std.proofs.Common.{◌≡◌, ◌∙◌, ◌&&◌, if◌then◌else◌, inl, inr, ℕ, Bool, true, false, true≢false, List, [], ◌∷◌, ◌++◌, sym, refl, ap, ap₂, subst}
-use Rattle.hurd_creds.specs.Memory.{is_no_memory}
-use Rattle.hurd_creds.specs.declared.errno.Errno.{Errno}
+use Rattle.std.proofs.Common.{◌≡◌, ◌∙◌, ◌&&◌, if◌then◌else◌, inl, inr, ℕ, Bool, true, false, true≢false, List, [], ◌∷◌, ◌++◌, Option, Some, None, sym, refl, ap, ap₂, subst}
 use Rattle.hurd_creds.specs.declared.errno.Errno.TheVariants.{ENOMEM}
-use Rattle.hurd_machine.specs.Calls.{Call}
-use Rattle.hurd_machine.specs.Calls.{Reply}
-use Rattle.hurd_machine.specs.declared.call.Reply.TheVariants.{Refused}
+use Rattle.hurd_trans_iface.specs.Meaning.{Meaning}
+use Rattle.hurd_machine.specs.Calls.{Call, Reply, box_in, refusal}
 use Rattle.hurd_machine.specs.World.{World}
 use Rattle.hurd_machine.specs.Sight.{SameView}
 use Rattle.hurd_machine.specs.Sound.{Sound}
@@ -22,23 +19,18 @@ pub called_sound : (w x : World) (t : ℕ) (c : Call) (r : Reply) → Called w t
 called_sound w x t c r (inl h) s = subst Sound (sym (ap (λ p. p.1) h)) (stays_sound w t c s)
 called_sound w x t c r (inr l) s = subst Sound (sym l.same) s
 
-no_memory_is : (e : Errno) → is_no_memory e ≡ true → e ≡ ENOMEM
-no_memory_is ENOMEM h = refl
-no_memory_is _ h = absurd (cc)
-
--- a reply that is want of memory is ENOMEM
-lacks_is : (r : Reply) → lacks_memory r ≡ true → r ≡ Refused ENOMEM
-lacks_is (Refused e) h = ap (λ (x : Errno). Refused x) (no_memory_is e h)
-lacks_is _ h = absurd (cc)
+lacks_told : (box : Option Meaning) → lacks_memory (refusal box ENOMEM) ≡ true
+lacks_told None = refl
+lacks_told (Some m) = refl
 
 -- a reply that isn't want of memory is the machine's
 pub called_step : (w x : World) (t : ℕ) (c : Call) (r : Reply) → Called w t c r x → lacks_memory r ≡ false → (r, x) ≡ step w t c
 called_step w x t c r (inl h) found = h
-called_step w x t c r (inr l) found = absurd (true≢false (sym (ap lacks_memory l.told) ∙ found))
+called_step w x t c r (inr l) found = absurd (true≢false (sym (ap lacks_memory l.told ∙ lacks_told (box_in c)) ∙ found))
 
 -- and a reply that is, isn't
 pub called_lacks : (w x : World) (t : ℕ) (c : Call) (r : Reply) → Called w t c r x → lacks_memory r ≡ true → Lacks w t c r x
-called_lacks w x t c r (inl h) lacks = absurd (never_wants_memory w t c (sym (ap (λ p. p.0) h) ∙ lacks_is r lacks))
+called_lacks w x t c r (inl h) lacks = absurd (true≢false (sym lacks ∙ (ap (λ (p : Reply × World). lacks_memory p.0) h ∙ never_wants_memory w t c)))
 called_lacks w x t c r (inr l) lacks = l
 
 -- lists of calls

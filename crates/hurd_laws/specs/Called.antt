@@ -1,17 +1,15 @@
 -- What one call is told by a core that may be refused memory.
 use Rattle.std.specs.Prelude.{◌≡◌, ◌⊎◌, ℕ, Bool, true, false}
 use Rattle.hurd_creds.specs.declared.errno.Errno.TheVariants.{ENOMEM}
-use Rattle.hurd_creds.specs.Memory.{is_no_memory}
-use Rattle.hurd_machine.specs.Calls.{Call}
-use Rattle.hurd_machine.specs.Calls.{Reply}
-use Rattle.hurd_machine.specs.declared.call.Reply.TheVariants.{Refused}
+pub use Rattle.hurd_machine.specs.Calls.{lacks_memory}
+use Rattle.hurd_machine.specs.Calls.{Call, Reply, box_in, refusal}
 use Rattle.hurd_machine.specs.World.{World}
 use Rattle.hurd_machine.specs.Plan.{is_refused}
 use Rattle.hurd_laws.specs.Step.{reply_of, takes_memory, step}
 
--- want of memory: of a call that takes some and that the machine doesn't refuse; nothing is changed
+-- want of memory: of a call that takes some and that the machine doesn't refuse; nothing is changed, and a box comes back
 pub record Lacks (w : World) (t : ℕ) (c : Call) (reply : Reply) (x : World) : Type 0 where
-  pub told : reply ≡ Refused ENOMEM
+  pub told : reply ≡ refusal (box_in c) ENOMEM
   pub takes : takes_memory c ≡ true
   pub wanted : is_refused (reply_of w t c) ≡ false
   pub same : x ≡ w
@@ -19,8 +17,3 @@ pub record Lacks (w : World) (t : ℕ) (c : Call) (reply : Reply) (x : World) : 
 -- what a call of task t is told, and the world that it leaves: those of the step, or want of memory
 abbrev pub Called : World → ℕ → Call → Reply → World → Type 0
 Called w t c reply x = ((reply, x) ≡ step w t c) ⊎ Lacks w t c reply x
-
--- whether a reply is want of memory
-abbrev pub lacks_memory : Reply → Bool
-lacks_memory (Refused e) = is_no_memory e
-lacks_memory _ = false

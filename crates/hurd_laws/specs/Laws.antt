@@ -1,10 +1,8 @@
 -- The laws: what a set of tasks is told depends only on what it sees.
 use Rattle.std.specs.Prelude.{◌≡◌, ◌≢◌, ◌⊎◌, ℕ, ◌≤◌, Bool, true, false, List, Some}
-use Rattle.hurd_creds.specs.declared.errno.Errno.TheVariants.{ENOMEM}
 use Rattle.hurd_creds.specs.declared.name.Name.{Name}
 use Rattle.hurd_ports.specs.Tables.{Task}
-use Rattle.hurd_machine.specs.Calls.{Call}
-use Rattle.hurd_machine.specs.declared.call.Reply.TheVariants.{Refused}
+use Rattle.hurd_machine.specs.Calls.{Call, lacks_memory}
 use Rattle.hurd_machine.specs.World.{World, task_at}
 use Rattle.hurd_machine.specs.Sight.{Seen, Part, AttrOf, EmptyOf, BodyOf, OpenOf, OptionsOf, UsersOf, TaskOf, Sees, SameView, IsGone, part}
 use Rattle.hurd_machine.specs.Sound.{Sound, Below}
@@ -50,7 +48,7 @@ StaysSound = (w : World) (t : ℕ) (c : Call) → Sound w → Sound (after w t c
 
 -- of memory the machine knows nothing: no call is refused for want of it
 abbrev pub NeverWantsMemory : Type 0
-NeverWantsMemory = (w : World) (t : ℕ) (c : Call) → reply_of w t c ≢ Refused ENOMEM
+NeverWantsMemory = (w : World) (t : ℕ) (c : Call) → lacks_memory (reply_of w t c) ≡ false
 
 -- a name that a task of S has given since the world w
 pub record GivenSince (S : ℕ → Bool) (w : World) (n : Name) : Type 0 where

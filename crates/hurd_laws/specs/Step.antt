@@ -1,13 +1,15 @@
--- One step of the machine: a call of a task. Each call has a line in each of the three definitions by cases.
-use Rattle.std.specs.Prelude.{ℕ, Bool, true, false}
-use Rattle.hurd_machine.specs.Calls.{Call}
-use Rattle.hurd_machine.specs.declared.call.Call.TheVariants.{PortDeallocate, PortSend, PortReceive, AuthMakeauth, DirLookup, IoRead, IoWrite, IoSeek, IoStat, IoReadable, IoGetOpenmodes, IoSetAllOpenmodes, IoDuplicate, IoReauthenticate, IoRestrictAuth, IoIdentity, FileSetSize, FileChmod, FileChown, FileCheckAccess, DirReaddir, DirMkdir, DirRmdir, DirUnlink, DirLink, DirMkfile, DirRename}
-use Rattle.hurd_machine.specs.Calls.{Reply}
+-- One step of the machine: a call of a task. Each call has a line in each of the definitions by cases.
+use Rattle.std.specs.Prelude.{ℕ, Bool, true, false, is_some}
+use Rattle.hurd_machine.specs.Calls.{Call, Reply, box_in}
+use Rattle.hurd_machine.specs.declared.call.Call.TheVariants.{PortDeallocate, PortSend, PortReceive, AuthMakeauth, DirLookup, IoRead, IoWrite, IoSeek, IoStat, IoReadable, IoGetOpenmodes, IoSetAllOpenmodes, IoDuplicate, IoReauthenticate, IoRestrictAuth, IoIdentity, FileSetSize, FileChmod, FileChown, FileCheckAccess, FileSetTranslator, FileGetTranslatorCntl, FsysGetroot, FsysGoaway, DirReaddir, DirMkdir, DirRmdir, DirUnlink, DirLink, DirMkfile, DirRename}
 use Rattle.hurd_machine.specs.World.{World}
-use Rattle.hurd_machine.specs.Plan.{Plan, after_plan}
+use Rattle.hurd_machine.specs.Plan.{Plan, after_plan, returning}
 use Rattle.hurd_machine.specs.Sight.{Part}
 use Rattle.hurd_rights.specs.Rights.{plan_deallocate, touches_deallocate, plan_send, touches_send, plan_receive, touches_receive, plan_makeauth, touches_makeauth}
 use Rattle.hurd_lookup.specs.Lookup.{plan_lookup, touches_lookup}
+use Rattle.hurd_lookup.specs.Getroot.{plan_getroot, touches_getroot}
+use Rattle.hurd_fsys.specs.Fsys.{plan_cntl, touches_cntl, plan_goaway, touches_goaway}
+use Rattle.hurd_fsys.specs.Setting.{plan_set_translator, touches_set_translator}
 use Rattle.hurd_io.specs.Io.{plan_read, touches_read, plan_write, touches_write, plan_stat, touches_stat}
 use Rattle.hurd_io.specs.Opens.{plan_seek, touches_seek, plan_readable, touches_readable, plan_get_openmodes, touches_get_openmodes, plan_set_openmodes, touches_set_openmodes}
 use Rattle.hurd_io.specs.Sharing.{plan_duplicate, plan_reauthenticate, plan_restrict_auth, touches_share, plan_identity, touches_identity}
@@ -19,35 +21,43 @@ use Rattle.hurd_dirs.specs.Remove.{plan_rmdir, touches_rmdir, plan_unlink, touch
 use Rattle.hurd_dirs.specs.Link.{plan_link, touches_link}
 use Rattle.hurd_dirs.specs.Rename.{plan_rename, touches_rename}
 
--- what a call of task t answers and changes; ESRCH where there is no such task
+-- what a call of task t answers and changes by its row; ESRCH where there is no such task
+abbrev pub row : World → ℕ → Call → Plan
+row w t (PortDeallocate p) = plan_deallocate w t p
+row w t (PortSend p q) = plan_send w t p q.0
+row w t PortReceive = plan_receive w t
+row w t (AuthMakeauth ids) = plan_makeauth w t ids
+row w t (DirLookup p path flags mode) = plan_lookup w t p path flags mode
+row w t (IoRead p amount offset) = plan_read w t p amount offset
+row w t (IoWrite p bytes offset) = plan_write w t p bytes offset
+row w t (IoSeek p offset whence) = plan_seek w t p offset whence
+row w t (IoStat p) = plan_stat w t p
+row w t (IoReadable p) = plan_readable w t p
+row w t (IoGetOpenmodes p) = plan_get_openmodes w t p
+row w t (IoSetAllOpenmodes p flags) = plan_set_openmodes w t p flags
+row w t (IoDuplicate p) = plan_duplicate w t p
+row w t (IoReauthenticate p) = plan_reauthenticate w t p
+row w t (IoRestrictAuth p ids) = plan_restrict_auth w t p ids
+row w t (IoIdentity p q) = plan_identity w t p q
+row w t (FileSetSize p size) = plan_set_size w t p size
+row w t (FileChmod p mode) = plan_chmod w t p mode
+row w t (FileChown p owner group) = plan_chown w t p owner group
+row w t (FileCheckAccess p) = plan_check_access w t p
+row w t (FileSetTranslator p setting words server) = plan_set_translator w t p setting server
+row w t (FileGetTranslatorCntl p) = plan_cntl w t p
+row w t (FsysGetroot c dir flags) = plan_getroot w t c dir flags
+row w t (FsysGoaway c flags) = plan_goaway w t c flags
+row w t (DirReaddir p) = plan_readdir w t p
+row w t (DirMkdir p name mode) = plan_mkdir w t p name mode
+row w t (DirMkfile p flags mode) = plan_mkfile w t p flags mode
+row w t (DirRmdir p name) = plan_rmdir w t p name
+row w t (DirUnlink p name) = plan_unlink w t p name
+row w t (DirLink p name q) = plan_link w t p name q
+row w t (DirRename p name q new) = plan_rename w t p name q new
+
+-- with the box back that a refused call brought
 abbrev pub plan : World → ℕ → Call → Plan
-plan w t (PortDeallocate p) = plan_deallocate w t p
-plan w t (PortSend p q) = plan_send w t p q.0
-plan w t PortReceive = plan_receive w t
-plan w t (AuthMakeauth ids) = plan_makeauth w t ids
-plan w t (DirLookup p path flags mode) = plan_lookup w t p path flags mode
-plan w t (IoRead p amount offset) = plan_read w t p amount offset
-plan w t (IoWrite p bytes offset) = plan_write w t p bytes offset
-plan w t (IoSeek p offset whence) = plan_seek w t p offset whence
-plan w t (IoStat p) = plan_stat w t p
-plan w t (IoReadable p) = plan_readable w t p
-plan w t (IoGetOpenmodes p) = plan_get_openmodes w t p
-plan w t (IoSetAllOpenmodes p flags) = plan_set_openmodes w t p flags
-plan w t (IoDuplicate p) = plan_duplicate w t p
-plan w t (IoReauthenticate p) = plan_reauthenticate w t p
-plan w t (IoRestrictAuth p ids) = plan_restrict_auth w t p ids
-plan w t (IoIdentity p q) = plan_identity w t p q
-plan w t (FileSetSize p size) = plan_set_size w t p size
-plan w t (FileChmod p mode) = plan_chmod w t p mode
-plan w t (FileChown p owner group) = plan_chown w t p owner group
-plan w t (FileCheckAccess p) = plan_check_access w t p
-plan w t (DirReaddir p) = plan_readdir w t p
-plan w t (DirMkdir p name mode) = plan_mkdir w t p name mode
-plan w t (DirMkfile p flags mode) = plan_mkfile w t p flags mode
-plan w t (DirRmdir p name) = plan_rmdir w t p name
-plan w t (DirUnlink p name) = plan_unlink w t p name
-plan w t (DirLink p name q) = plan_link w t p name q
-plan w t (DirRename p name q new) = plan_rename w t p name q new
+plan w t c = returning (box_in c) (row w t c)
 
 -- the parts of the world that it touches, beside the caller's own task; a refused call touches none
 abbrev pub touches : World → ℕ → Call → Part → Type 0
@@ -71,6 +81,10 @@ touches w t (FileSetSize p size) = touches_set_size w t p size
 touches w t (FileChmod p mode) = touches_chmod w t p mode
 touches w t (FileChown p owner group) = touches_chown w t p owner group
 touches w t (FileCheckAccess p) = touches_check_access w t p
+touches w t (FileSetTranslator p setting words server) = touches_set_translator w t p setting (is_some server)
+touches w t (FileGetTranslatorCntl p) = touches_cntl w t p
+touches w t (FsysGetroot c dir flags) = touches_getroot w t c dir flags
+touches w t (FsysGoaway c flags) = touches_goaway w t c flags
 touches w t (DirReaddir p) = touches_readdir w t p
 touches w t (DirMkdir p name mode) = touches_mkdir w t p name mode
 touches w t (DirMkfile p flags mode) = touches_mkfile w t p flags mode
@@ -92,6 +106,8 @@ takes_memory (IoIdentity p q) = false
 takes_memory (FileChmod p mode) = false
 takes_memory (FileChown p owner group) = false
 takes_memory (FileCheckAccess p) = false
+takes_memory (FileSetTranslator p setting words server) = is_some server
+takes_memory (FsysGoaway c flags) = false
 takes_memory (DirRmdir p name) = false
 takes_memory (DirUnlink p name) = false
 takes_memory _ = true

@@ -1,36 +1,103 @@
 -- What a row answers is what its call owes.
-use Rattle.std.proofs.Common.{◌≡◌, inl, inr, ℕ, true, Result, Ok, Err, refl, ap, sym, ◌∙◌}
+use Rattle.std.specs.Prelude.{IfErr, IfSome, IsNone}
+use Rattle.std.specs.Option.{option_map}
+use Rattle.std.proofs.Common.{◌≡◌, inl, inr, ℕ, true, false, Result, Ok, Err, Option, Some, None, refl, ap, sym, ◌∙◌, subst}
 use Rattle.hurd_creds.specs.declared.errno.Errno.{Errno}
-use Rattle.hurd_machine.specs.Calls.{Call}
-use Rattle.hurd_machine.specs.Calls.{Reply}
-use Rattle.hurd_machine.specs.declared.call.Reply.TheVariants.{Refused}
+use Rattle.hurd_creds.specs.declared.errno.Errno.TheVariants.{ENOMEM}
+use Rattle.hurd_trans_iface.specs.Meaning.{Meaning, Begins}
+use Rattle.hurd_trans_iface.specs.declared.words.Words.{Words}
+use Rattle.hurd_machine.specs.declared.call.Call as code
+use Rattle.hurd_machine.specs.declared.call.Call.TheVariants.{FileSetTranslator}
+use Rattle.hurd_machine.specs.declared.call.Reply as code_reply
+use Rattle.hurd_machine.specs.declared.call.Reply.TheVariants.{Done, Found, Port, Data, Count, Names, Stat, Modes, Same, Refused, Back}
+use Rattle.hurd_machine.specs.declared.call.Setting.{Setting}
+use Rattle.hurd_machine.specs.Calls.{Call, Reply, box_in, call_by, refusal, reply_by}
 use Rattle.hurd_machine.specs.World.{World}
-use Rattle.hurd_machine.specs.Plan.{Plan, Follows, Planned, after_plan, told}
+use Rattle.hurd_machine.specs.Plan.{Plan, Follows, Planned, after_plan, handing_back, is_refused, refuse, returning, told}
+use Rattle.hurd_core.specs.Core.{without_box}
+use Rattle.hurd_fsys.specs.Setting.{plan_set_translator}
 use Rattle.hurd_laws.specs.Called.{Called}
 use Rattle.hurd_laws.specs.Step.{after, plan, reply_of, takes_memory}
+use Rattle.hurd_world.specs.Held.{ComesBack, set_told, told_of}
 
 -- a call that made its step
 stepped : (w x : World) (t : ℕ) (c : Call) (reply : Reply) → reply ≡ reply_of w t c → x ≡ after w t c → Called w t c reply x
 stepped w x t c reply r e = inl (rw (r, e) refl)
 
-follows_called : (w x : World) (t : ℕ) (c : Call) (answer reply : Reply) → reply ≡ answer → Follows w (plan w t c) answer x → Called w t c reply x
-follows_called w x t c answer reply same f = stepped w x t c reply (same ∙ f.0) f.1
-
-planned_called : {T : Type 0} (w x : World) (t : ℕ) (c : Call) (reply : Reply) (f : T → Reply) (r : Result T Errno) → takes_memory c ≡ true
-    → reply ≡ told f r → Planned w (plan w t c) f r x → Called w t c reply x
-planned_called w x t c reply f (Ok a) takes same p = follows_called w x t c (f a) reply same p
-planned_called w x t c reply f (Err e) takes same (left, inl is) =
-    stepped w x t c reply (same ∙ ap (λ (P : Plan). P.reply) (sym is)) (left ∙ ap (λ (P : Plan). after_plan w P) (sym is))
-planned_called w x t c reply f (Err e) takes same (left, inr lacks) =
-    inr (record { told = same ∙ ap (λ (n : Errno). Refused n) lacks.0; takes = takes; wanted = lacks.1; same = left })
-
 -- one call of the world v, which is the core's w, with a reply and a world behind it, as the code has them
-module _ (v w : World) (t : ℕ) (call : Call) (reply : Reply) (y : World) (seen : w ≡ v) where
+module _ {S : Type 0} (f : S → Meaning) (v w : World) (t : ℕ) (call : code.Call S) (reply : code_reply.Reply S) (y : World) (seen : w ≡ v) where
+  -- what it owes
+  abbrev Owes : Type 0
+  Owes = Called v t (call_by f call) (reply_by f reply) y × ComesBack call reply
+
+  owed : (c : code.Call S) (got : code_reply.Reply S) (x : World) → call ≡ c → reply ≡ got → y ≡ x → Called w t (call_by f c) (reply_by f got) x → ComesBack c got → Owes
+  owed c got x is same left called back = rw (is, same, left, ← seen) (called, back)
+
   -- the call takes no memory
-  pub follows_row : (c : Call) (answer got : Reply) (x : World) → call ≡ c → reply ≡ got → y ≡ x → got ≡ answer → Follows w (plan w t c) answer x → Called v t call reply y
-  follows_row c answer got x is same left so f = rw (is, same, left, ← seen) (follows_called w x t c answer got so f)
+  pub follows_row : {T : Type 0} (c : code.Call S) (k : T → code_reply.Reply S) (r : Result T Errno) (got : code_reply.Reply S) (x : World) → ((a : T) → ComesBack c (k a)) → call ≡ c → reply ≡ got → y ≡ x
+      → got ≡ told_of k r → Follows w (plan w t (call_by f c)) (told (λ a. reply_by f (k a)) r) x → Owes
+  follows_row c k (Ok a) got x plain is same left so p = owed c (k a) x is (same ∙ so) left (stepped w x t (call_by f c) (reply_by f (k a)) p.0 p.1) (plain a)
+  follows_row c k (Err e) got x plain is same left so p = owed c (Refused e) x is (same ∙ so) left (stepped w x t (call_by f c) (Refused e) p.0 p.1) tt
 
   -- the call may find none
-  pub planned_row : {T : Type 0} (c : Call) (f : T → Reply) (r : Result T Errno) (got : Reply) (x : World) → takes_memory c ≡ true → call ≡ c → reply ≡ got → y ≡ x → got ≡ told f r
-      → Planned w (plan w t c) f r x → Called v t call reply y
-  planned_row c f r got x takes is same left so p = rw (is, same, left, ← seen) (planned_called w x t c got f r takes so p)
+  pub planned_row : {T : Type 0} (c : code.Call S) (k : T → code_reply.Reply S) (r : Result T Errno) (got : code_reply.Reply S) (x : World) → ((a : T) → ComesBack c (k a)) → takes_memory (call_by f c) ≡ true
+      → box_in (call_by f c) ≡ None → call ≡ c → reply ≡ got → y ≡ x → got ≡ told_of k r → Planned w (plan w t (call_by f c)) (λ a. reply_by f (k a)) r x → Owes
+  planned_row c k (Ok a) got x plain takes none is same left so p = owed c (k a) x is (same ∙ so) left (stepped w x t (call_by f c) (reply_by f (k a)) p.0 p.1) (plain a)
+  planned_row c k (Err e) got x plain takes none is same left so (back, inl bars) =
+      owed c (Refused e) x is (same ∙ so) left
+      (stepped w x t (call_by f c) (Refused e) (ap (λ (P : Plan). P.reply) (sym bars)) (back ∙ ap (λ (P : Plan). after_plan w P) (sym bars))) tt
+  planned_row c k (Err e) got x plain takes none is same left so (back, inr lacks) =
+      owed c (Refused e) x is (same ∙ so) left
+      (inr (record { told = ap (λ (n : Errno). Refused n) lacks.0 ∙ ap (λ (o : Option Meaning). refusal o ENOMEM) (sym none); takes = takes; wanted = lacks.1; same = back })) tt
+
+  -- a call that brings a box, or none
+
+  kept_refused : (m : Meaning) (r : Reply) → is_refused r ≡ false → is_refused (handing_back m r) ≡ false
+  kept_refused m (Refused e) is = is
+  kept_refused m Done is = is
+  kept_refused m (Found found) is = is
+  kept_refused m (Port p) is = is
+  kept_refused m (Data bytes) is = is
+  kept_refused m (Count count) is = is
+  kept_refused m (Names names) is = is
+  kept_refused m (Stat stat) is = is
+  kept_refused m (Modes flags) is = is
+  kept_refused m (Same same) is = is
+  kept_refused m (Back e n) is = is
+
+  module _ (p : ℕ) (setting : Setting) (words : List (List ℕ)) where
+    abbrev asked : Option S → code.Call S
+    asked server = FileSetTranslator p setting words server
+
+    abbrev tells : Unit {0} → Reply
+    tells u = Done
+
+    abbrev planned : Option S → Plan
+    planned server = plan_set_translator w t p setting (option_map f server)
+
+    set_done : (server : Option S) (u : Unit {0}) (x : World) → Follows w (planned server) Done x → Called w t (call_by f (asked server)) Done x
+    set_done None u x h = stepped w x t _ Done h.0 h.1
+    set_done (Some s) u x h = stepped w x t _ Done (ap (handing_back (f s)) h.0) h.1
+
+    set_refused : (server : Option S) (e : Errno) (x : World) → Planned w (planned server) tells (Err e) x → (IsNone server → Follows w (planned server) (Refused e) x)
+        → Called w t (call_by f (asked server)) (reply_by f (refusal server e)) x
+    set_refused None e x h free = let l = free refl in stepped w x t _ (Refused e) l.0 l.1
+    set_refused (Some s) e x (back, inl bars) free =
+        stepped w x t _ (Back e (f s)) (ap (λ (P : Plan). handing_back (f s) P.reply) (sym bars)) (back ∙ ap (λ (P : Plan). after_plan w P) (sym bars))
+    set_refused (Some s) e x (back, inr lacks) free =
+        inr (record { told = ap (λ (n : Errno). Back n (f s)) lacks.0; takes = refl; wanted = kept_refused (f s) (planned (Some s)).reply lacks.1; same = back })
+
+    comes_back : (server : Option S) (e : Errno) → ComesBack (asked server) (refusal server e)
+    comes_back None e = tt
+    comes_back (Some s) e = refl
+
+    pub set_row : (server : Option S) (r : Result (Unit {0}) (Errno × Option S)) (got : code_reply.Reply S) (x : World) → call ≡ asked server → reply ≡ got → y ≡ x → got ≡ set_told r
+        → Planned w (planned server) tells (without_box r) x → (IsNone server → Follows w (planned server) (told tells (without_box r)) x) → IfErr r (λ e. e.1 ≡ server) → Owes
+    set_row server (Ok u) got x is same left so planned free back = owed (asked server) Done x is (same ∙ so) left (set_done server u x planned) tt
+    set_row server (Err e) got x is same left so planned free back =
+        owed (asked server) (refusal server e.0) x is (same ∙ so ∙ ap (λ (o : Option S). refusal o e.0) back) left (set_refused server e.0 x planned free) (comes_back server e.0)
+
+-- the condition on a box, as the row wants it
+pub begun_box : {S : Type 0} (f : S → Meaning) (server : Option S) → IfSome (option_map f server) Begins → IfSome server (λ s. Begins (f s))
+begun_box f None h = tt
+begun_box f (Some s) h = h

@@ -1,14 +1,14 @@
 //! Replies, as calls answer them.
 ghost use Rattle.std.specs.Prelude.{◌≡◌};
-ghost use Rattle.hurd_machine.specs.Plan.{told};
+ghost use Rattle.hurd_world.specs.Held.{set_told, told_of};
 
 use hurd_creds::{Bytes, Errno, OpenFlags, Stat};
 use hurd_machine::{Lookup, Reply};
 use hurd_trans_iface::Names;
 
 /// Of a call that only changes something.
-pub(crate) fn done(answer: Result<(), Errno>) -> Reply
-    ensures { result ≡ told (λ _. Reply.Done) answer }
+pub(crate) fn done<S>(answer: Result<(), Errno>) -> Reply<S>
+    ensures { result ≡ told_of (λ _. Reply.Done) answer }
 {
     match answer {
         Ok(()) => Reply::Done,
@@ -17,8 +17,8 @@ pub(crate) fn done(answer: Result<(), Errno>) -> Reply
 }
 
 /// Of a call that gives a port.
-pub(crate) fn port(answer: Result<u64, Errno>) -> Reply
-    ensures { result ≡ told (λ x. Reply.Port x) answer }
+pub(crate) fn port<S>(answer: Result<u64, Errno>) -> Reply<S>
+    ensures { result ≡ told_of (λ x. Reply.Port x) answer }
 {
     match answer {
         Ok(port) => Reply::Port(port),
@@ -27,8 +27,8 @@ pub(crate) fn port(answer: Result<u64, Errno>) -> Reply
 }
 
 /// Of a lookup.
-pub(crate) fn found(answer: Result<Lookup, Errno>) -> Reply
-    ensures { result ≡ told (λ x. Reply.Found x) answer }
+pub(crate) fn found<S>(answer: Result<Lookup, Errno>) -> Reply<S>
+    ensures { result ≡ told_of (λ x. Reply.Found x) answer }
 {
     match answer {
         Ok(found) => Reply::Found(found),
@@ -37,8 +37,8 @@ pub(crate) fn found(answer: Result<Lookup, Errno>) -> Reply
 }
 
 /// Of a read.
-pub(crate) fn data(answer: Result<Bytes, Errno>) -> Reply
-    ensures { result ≡ told (λ x. Reply.Data x) answer }
+pub(crate) fn data<S>(answer: Result<Bytes, Errno>) -> Reply<S>
+    ensures { result ≡ told_of (λ x. Reply.Data x) answer }
 {
     match answer {
         Ok(bytes) => Reply::Data(bytes),
@@ -47,8 +47,8 @@ pub(crate) fn data(answer: Result<Bytes, Errno>) -> Reply
 }
 
 /// Of a call that counts bytes.
-pub(crate) fn count(answer: Result<u64, Errno>) -> Reply
-    ensures { result ≡ told (λ x. Reply.Count x) answer }
+pub(crate) fn count<S>(answer: Result<u64, Errno>) -> Reply<S>
+    ensures { result ≡ told_of (λ x. Reply.Count x) answer }
 {
     match answer {
         Ok(count) => Reply::Count(count),
@@ -57,8 +57,8 @@ pub(crate) fn count(answer: Result<u64, Errno>) -> Reply
 }
 
 /// Of a call that tells of a node.
-pub(crate) fn stat(answer: Result<Stat, Errno>) -> Reply
-    ensures { result ≡ told (λ x. Reply.Stat x) answer }
+pub(crate) fn stat<S>(answer: Result<Stat, Errno>) -> Reply<S>
+    ensures { result ≡ told_of (λ x. Reply.Stat x) answer }
 {
     match answer {
         Ok(stat) => Reply::Stat(stat),
@@ -67,8 +67,8 @@ pub(crate) fn stat(answer: Result<Stat, Errno>) -> Reply
 }
 
 /// Of a call that tells modes.
-pub(crate) fn modes(answer: Result<OpenFlags, Errno>) -> Reply
-    ensures { result ≡ told (λ x. Reply.Modes x) answer }
+pub(crate) fn modes<S>(answer: Result<OpenFlags, Errno>) -> Reply<S>
+    ensures { result ≡ told_of (λ x. Reply.Modes x) answer }
 {
     match answer {
         Ok(flags) => Reply::Modes(flags),
@@ -77,8 +77,8 @@ pub(crate) fn modes(answer: Result<OpenFlags, Errno>) -> Reply
 }
 
 /// Of a comparison.
-pub(crate) fn same(answer: Result<bool, Errno>) -> Reply
-    ensures { result ≡ told (λ x. Reply.Same x) answer }
+pub(crate) fn same<S>(answer: Result<bool, Errno>) -> Reply<S>
+    ensures { result ≡ told_of (λ x. Reply.Same x) answer }
 {
     match answer {
         Ok(same) => Reply::Same(same),
@@ -87,11 +87,22 @@ pub(crate) fn same(answer: Result<bool, Errno>) -> Reply
 }
 
 /// Of a call that lists names.
-pub(crate) fn names(answer: Result<Names, Errno>) -> Reply
-    ensures { result ≡ told (λ x. Reply.Names x) answer }
+pub(crate) fn names<S>(answer: Result<Names, Errno>) -> Reply<S>
+    ensures { result ≡ told_of (λ x. Reply.Names x) answer }
 {
     match answer {
         Ok(names) => Reply::Names(names),
         Err(errno) => Reply::Refused(errno),
+    }
+}
+
+/// Of a call that may bring a server, which comes back with a refusal.
+pub(crate) fn set<S>(answer: Result<(), (Errno, Option<S>)>) -> Reply<S>
+    ensures { result ≡ set_told answer }
+{
+    match answer {
+        Ok(()) => Reply::Done,
+        Err((errno, None)) => Reply::Refused(errno),
+        Err((errno, Some(server))) => Reply::Back(errno, server),
     }
 }

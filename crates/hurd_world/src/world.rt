@@ -1,10 +1,11 @@
 //! The world, and the calls of its tasks.
 ghost use Rattle.std.specs.Prelude.{◌≡◌, ◌⊎◌, IfOk, IfErr, IsOk, map, Ok, Err};
 ghost use Rattle.hurd_trans_iface.specs.Meaning.{Begins};
+ghost use Rattle.hurd_machine.specs.Calls.{BringsBegun, call_by, reply_by};
 ghost use Rattle.hurd_machine.specs.Sound.{Sound};
 ghost use Rattle.hurd_laws.specs.Called.{Called};
 ghost use Rattle.hurd_laws.specs.Served.{Served, IsolatedRun};
-ghost use Rattle.hurd_world.specs.Held.{world_of, made_by};
+ghost use Rattle.hurd_world.specs.Held.{AllBegun, AllComeBack, ComesBack, made_by, world_of};
 ghost use Rattle.hurd_world.specs.Boot.{boot_of, first_world};
 
 use crate::boot::first_ports;
@@ -13,8 +14,9 @@ use hurd_core::Core;
 use hurd_creds::{Errno, Ids, Kind, TaskId};
 use hurd_dirs::{file, link, make, remove, rename};
 use hurd_files::{access, files};
+use hurd_fsys::{fsys, setting};
 use hurd_io::{io, opens, sharing};
-use hurd_lookup::lookup;
+use hurd_lookup::{getroot, lookup};
 use hurd_machine::{Call, Reply};
 use hurd_nodes::Nodes;
 use hurd_rights::rights;
@@ -72,20 +74,23 @@ impl<S: Server> World<S> {
         })
     }
 
-    /// Makes one call of a task. A refused call changes nothing.
+    /// Makes one call of a task. A refused call changes nothing, and gives back the server that it brought, which some words made.
     ///
     /// Errors: `ESRCH` where there is no such task, then those of the call, in its order. `ENOMEM` where a call that takes
     /// memory isn't refused, and finds none.
-    pub fn call(&mut self, alloc: Global, task: TaskId, call: Call) -> Reply
-        ensures answer { Called (world_of S.meaning self.old) task.0 call result (world_of S.meaning self.new) }
+    pub fn call(&mut self, alloc: Global, task: TaskId, call: Call<S>) -> Reply<S>
+        requires { BringsBegun (call_by S.meaning call) }
+        ensures answer { Called (world_of S.meaning self.old) task.0 (call_by S.meaning call) (reply_by S.meaning result) (world_of S.meaning self.new) }
+        ensures back { ComesBack call result }
         ensures sound { Sound (world_of S.meaning self.old) → Sound (world_of S.meaning self.new) }
     {
         self.dispatch(alloc, task, call)
     }
 
     /// Hands one call of a task to its row.
-    fn dispatch(&mut self, alloc: Global, task: TaskId, call: Call) -> Reply
-        ensures { Called (world_of S.meaning self.old) task.0 call result (world_of S.meaning self.new) }
+    fn dispatch(&mut self, alloc: Global, task: TaskId, call: Call<S>) -> Reply<S>
+        requires { BringsBegun (call_by S.meaning call) }
+        ensures { Called (world_of S.meaning self.old) task.0 (call_by S.meaning call) (reply_by S.meaning result) (world_of S.meaning self.new) × ComesBack call result }
     {
         let core = &mut self.core;
         match call {
@@ -158,6 +163,27 @@ impl<S: Server> World<S> {
             Call::FileCheckAccess { port } => replies::modes(access::file_check_access(
                 core, task, port,
             )),
+            Call::FileSetTranslator {
+                port,
+                setting,
+                words: _words,
+                server,
+            } => replies::set(setting::file_set_translator(
+                core, alloc, task, port, setting, server,
+            )),
+            Call::FileGetTranslatorCntl { port } => {
+                replies::port(fsys::file_get_translator_cntl(core, task, port))
+            }
+            Call::FsysGetroot {
+                control,
+                dir,
+                flags,
+            } => replies::found(getroot::fsys_getroot(
+                core, alloc, task, control, dir, flags,
+            )),
+            Call::FsysGoaway { control, flags } => replies::done(fsys::fsys_goaway(
+                core, task, control, flags,
+            )),
             Call::DirReaddir { port } => replies::names(files::dir_readdir(
                 core, alloc, task, port,
             )),
@@ -183,7 +209,8 @@ impl<S: Server> World<S> {
         }
     }
 
-    /// Makes calls in their order, and gives a reply for each; room for the replies is taken first.
+    /// Makes calls in their order, and gives a reply for each; room for the replies is taken first. A server that a call brings was
+    /// made by some words, and comes back in that call's reply where it is refused.
     ///
     /// What a set of tasks is told is what the written machine tells it in any sound world that it sees alike, where the
     /// calls of the others touch nothing that it sees. A call that found no memory counts as not made.
@@ -192,12 +219,14 @@ impl<S: Server> World<S> {
     pub fn run(
         &mut self,
         alloc: Global,
-        calls: Vec<(TaskId, Call)>,
-    ) -> Result<Vec<Reply>, (Errno, Vec<(TaskId, Call)>)>
+        calls: Vec<(TaskId, Call<S>)>,
+    ) -> Result<Vec<Reply<S>>, (Errno, Vec<(TaskId, Call<S>)>)>
+        requires { AllBegun S.meaning calls.items }
         ensures exact { let w = world_of S.meaning self.old in let x = world_of S.meaning self.new in
-            IfOk result (λ replies. Served w (map made_by calls.items) replies.items x) }
+            IfOk result (λ replies. Served w (map (made_by S.meaning) calls.items) (map (reply_by S.meaning) replies.items) x) }
         ensures isolated { let w = world_of S.meaning self.old in let x = world_of S.meaning self.new in
-            IfOk result (λ replies. Sound w → IsolatedRun w (map made_by calls.items) replies.items x) }
+            IfOk result (λ replies. Sound w → IsolatedRun w (map (made_by S.meaning) calls.items) (map (reply_by S.meaning) replies.items) x) }
+        ensures back { IfOk result (λ replies. AllComeBack calls.items replies.items) }
         ensures sound { Sound (world_of S.meaning self.old) → Sound (world_of S.meaning self.new) }
         ensures err { IfErr result (λ e. (e ≡ (Errno.ENOMEM, calls)) × (self.new ≡ self.old)) }
     {
