@@ -10,8 +10,7 @@ use Rattle.hurd_machine.proofs.CallLaws as call
 use Rattle.hurd_rights.proofs.RightsLaws.{deallocate_laws, send_laws, receive_laws, makeauth_laws}
 use Rattle.hurd_lookup.proofs.LookupLaws.{lookup_laws}
 use Rattle.hurd_lookup.proofs.GetrootLaws.{getroot_laws}
-use Rattle.hurd_fsys.proofs.FsysLaws.{goaway_laws}
-use Rattle.hurd_fsys.proofs.ControlLaws.{cntl_laws}
+use Rattle.hurd_fsys.proofs.FsysLaws.{cntl_laws, goaway_laws}
 use Rattle.hurd_fsys.proofs.SettingLaws.{set_translator_laws}
 use Rattle.hurd_io.proofs.IoLaws.{read_laws, write_laws, stat_laws}
 use Rattle.hurd_io.proofs.OpensLaws.{seek_laws, readable_laws, get_openmodes_laws, set_openmodes_laws}

@@ -1,11 +1,10 @@
 -- What a row answers is what its call owes.
 use Rattle.std.specs.Prelude.{IfErr, IfSome, IsNone}
 use Rattle.std.specs.Option.{option_map}
-use Rattle.std.proofs.Common.{◌≡◌, inl, inr, ℕ, true, false, Result, Ok, Err, Option, Some, None, refl, ap, sym, ◌∙◌, subst}
+use Rattle.std.proofs.Common.{◌≡◌, inl, inr, ℕ, true, false, List, Result, Ok, Err, Option, Some, None, refl, ap, sym, ◌∙◌, subst}
 use Rattle.hurd_creds.specs.declared.errno.Errno.{Errno}
 use Rattle.hurd_creds.specs.declared.errno.Errno.TheVariants.{ENOMEM}
 use Rattle.hurd_trans_iface.specs.Meaning.{Meaning, Begins}
-use Rattle.hurd_trans_iface.specs.declared.words.Words.{Words}
 use Rattle.hurd_machine.specs.declared.call.Call as code
 use Rattle.hurd_machine.specs.declared.call.Call.TheVariants.{FileSetTranslator}
 use Rattle.hurd_machine.specs.declared.call.Reply as code_reply

@@ -36,6 +36,7 @@ ComesBack c _ = Unit {0}
 
 -- each box that comes back, in the reply to the call that brought it
 abbrev pub AllComeBack : {S : Type 0} → List (TaskId × call.Call S) → List (reply.Reply S) → Type 0
-AllComeBack [] rs = Unit {0}
-AllComeBack (m ∷ ms) [] = Unit {0}
+AllComeBack [] [] = Unit {0}
+AllComeBack [] (r ∷ rs) = ⊥
+AllComeBack (m ∷ ms) [] = ⊥
 AllComeBack (m ∷ ms) (r ∷ rs) = ComesBack m.1 r × AllComeBack ms rs
