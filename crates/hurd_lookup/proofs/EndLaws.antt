@@ -11,6 +11,7 @@ use Rattle.hurd_creds.specs.Bits.{asks, known_mode, WRITE}
 use Rattle.hurd_trans_iface.specs.Nodes.{Header, is_dir}
 use Rattle.hurd_ports.specs.declared.parents.Parent.{Parent}
 use Rattle.hurd_ports.specs.declared.table.IoRight.{IoRight}
+use Rattle.hurd_machine.specs.declared.call.RetryKind.{RetryKind}
 use Rattle.hurd_machine.specs.World.{World, header_at, home_at, info_at, makes_at, is_removed}
 use Rattle.hurd_machine.specs.Sight.{bare, BodyOf, Sees, Taken}
 use Rattle.hurd_machine.proofs.Views.{Agree, header_same, home_same}
@@ -54,23 +55,27 @@ pub record OpenLeads (w : World) (flags : OpenFlags) (e : NewPort) : Type 0 wher
   pub is_header : header_at w e.node ≡ Some header
   pub may : may_open e.ids header flags ≡ true
   pub fits : not (is_dir header.kind && asks flags WRITE) ≡ true
-  pub ways : WaysGiven w e.parents
 
 -- a file that is made is of its directory's server, which lets it be made, and the directory isn't removed
-pub record MakeLeads (w : World) (s dir : Name) (name : List ℕ) (parents : List Parent) : Type 0 where
+pub record MakeLeads (w : World) (s dir : Name) (name : List ℕ) : Type 0 where
   pub may : makes_at w dir name File ≡ Ok tt
   pub home : home_at w dir ≡ Some s
   pub header : Header
   pub is_header : header_at w dir ≡ Some header
   pub stands : not (is_removed w dir header) ≡ true
-  pub ways : WaysGiven w parents
 
--- what an outcome shows of the world; a port of a retry is on a node that is there
+-- what an outcome shows of the world
 abbrev pub Leads : World → OpenFlags → Outcome → Type 0
 Leads w flags (Opens e) = OpenLeads w flags e
-Leads w flags (Makes s f ids ways) = MakeLeads w s f.dir f.name ways
-Leads w flags (Retries kind name None) = Unit {0}
-Leads w flags (Retries kind name (Some e)) = PortGiven w e
+Leads w flags (Makes s f ids ways) = MakeLeads w s f.dir f.name
+Leads w flags (Retries kind name at) = Unit {0}
+
+-- what an outcome names was given: the nodes of ways; and a port of a retry is on a node that is there
+abbrev pub OutcomeGiven : World → Outcome → Type 0
+OutcomeGiven w (Opens e) = WaysGiven w e.parents
+OutcomeGiven w (Makes s f ids ways) = WaysGiven w ways
+OutcomeGiven w (Retries kind name None) = Unit {0}
+OutcomeGiven w (Retries kind name (Some e)) = PortGiven w e
 
 -- what an answer at the end of the names shows
 module _ (w : World) (q : IoRight) (r : Request) where
@@ -78,18 +83,17 @@ module _ (w : World) (q : IoRight) (r : Request) where
   port n ways = record { node = n; ids = q.ids; parents = ways }
 
   -- a node that is opened
-  opened : (n : Name) (ways : List Parent) (o : Outcome) → open_asks w q.ids r n ways ≡ Ok o → (Opens (port n ways) ≡ o) × (WaysGiven w ways → OpenLeads w r.flags (port n ways))
+  opened : (n : Name) (ways : List Parent) (o : Outcome) → open_asks w q.ids r n ways ≡ Ok o → (Opens (port n ways) ≡ o) × OpenLeads w r.flags (port n ways)
   opened n ways o is =
       let h = on_ok EDIED (header_at w n) _ o is in
       let k = given_ok ENOTDIR (not r.wants_dir || is_dir h.0.kind) _ o h.2 in
       let b = given_ok EISDIR (not (is_dir h.0.kind && asks r.flags WRITE)) _ o k.1 in
       let g = given_ok EROFS (not (asks r.flags WRITE && only_reads (info_at w n))) _ o b.1 in
       let m = given_ok EACCES (may_open q.ids h.0 r.flags) _ o g.1 in
-      (cc (m.1), λ given. record { header = h.0; is_header = h.1; may = m.0; fits = b.0; ways = given })
+      (cc (m.1), record { header = h.0; is_header = h.1; may = m.0; fits = b.0 })
 
   -- a file that is made
-  made : (d : Name) (name : List ℕ) (o : Outcome) → make_asks w q r d name ≡ Ok o
-      → (s : Name) × (f : NewNodeAt) × (Makes s f q.ids q.parents ≡ o) × (f.dir ≡ d) × (WaysGiven w q.parents → MakeLeads w s f.dir f.name q.parents)
+  made : (d : Name) (name : List ℕ) (o : Outcome) → make_asks w q r d name ≡ Ok o → (s : Name) × (f : NewNodeAt) × (Makes s f q.ids q.parents ≡ o) × (f.dir ≡ d) × MakeLeads w s f.dir f.name
   made d name o is =
       let u = first_ok (makes_at w d name File) _ o is in
       let h = on_ok EDIED (header_at w d) _ o u.2 in
@@ -98,26 +102,29 @@ module _ (w : World) (q : IoRight) (r : Request) where
       let g = given_ok ENOENT (not (is_removed w d h.0)) _ o l.2 in
       let s = on_ok EDIED (home_at w d) _ o g.1 in
       let f : NewNodeAt = record { dir = d; name = name; owner = l.0; group = h.0.group; mode = known_mode r.mode } in
-      (s.0, f, cc (s.2), refl, λ given. record { may = u.1; home = s.1; header = h.0; is_header = h.1; stands = g.0; ways = given })
+      (s.0, f, cc (s.2), refl, record { may = u.1; home = s.1; header = h.0; is_header = h.1; stands = g.0 })
 
-  -- of a right whose ids S has, and whose ways it sees, S sees the outcome
+  -- a name that is looked up elsewhere
+  retried : (P : Outcome → Type 0) (kind : RetryKind) (name : List ℕ) (at : Option NewPort) (o : Outcome) → end_asks w q r (Elsewhere kind name at) ≡ Ok o → P (Retries kind name at) → P o
+  retried P kind name at o is h = let same : Retries kind name at ≡ o = cc in subst P same h
+
+  pub end_leads : (place : Place) (o : Outcome) → end_asks w q r place ≡ Ok o → Leads w r.flags o
+  end_leads (AtNode n parents) o is = let x = opened n parents o is in subst (Leads w r.flags) x.0 x.1
+  end_leads (AtName d name) o is = let x = made d name o is in subst (Leads w r.flags) x.2 x.4
+  end_leads (Elsewhere kind name at) o is = retried (Leads w r.flags) kind name at o is tt
+
+  -- by a right whose ways were given
+  pub end_given : WaysGiven w q.parents → (place : Place) (o : Outcome) → PlaceGiven w place → end_asks w q r place ≡ Ok o → OutcomeGiven w o
+  end_given ways (AtNode n parents) o given is = subst (OutcomeGiven w) (opened n parents o is).0 given
+  end_given ways (AtName d name) o given is = subst (OutcomeGiven w) (made d name o is).2 ways
+  end_given ways (Elsewhere kind name None) o given is = retried (OutcomeGiven w) kind name None o is given
+  end_given ways (Elsewhere kind name (Some e)) o given is = retried (OutcomeGiven w) kind name (Some e) o is given
+
+  -- by a right whose ids S has, and whose ways it sees
   pub end_seen : (S : ℕ → Bool) → Taken S w q.ids → WaysSeen S w q.parents → (place : Place) (o : Outcome) → PlaceSeen S w place → end_asks w q r place ≡ Ok o → OutcomeSeen S w o
   end_seen S taken ways (AtNode n parents) o seen is = subst (OutcomeSeen S w) (opened n parents o is).0 (record { node = seen.0; ids = taken; ways = seen.1 })
   end_seen S taken ways (AtName d name) o seen is =
       let x = made d name o is in
       subst (OutcomeSeen S w) x.2 (subst (λ dir. Sees S w (BodyOf dir)) (sym x.3) seen, taken, ways)
-  end_seen S taken ways (Elsewhere kind name at) o seen is = let same : Retries kind name at ≡ o = cc in subst (OutcomeSeen S w) same (go at seen)
-    where
-      go : (at : Option NewPort) → PlaceSeen S w (Elsewhere kind name at) → OutcomeSeen S w (Retries kind name at)
-      go None s = s
-      go (Some e) s = s
-
-  -- of a right whose ways were given, it shows what it is to show
-  pub end_leads : WaysGiven w q.parents → (place : Place) (o : Outcome) → PlaceGiven w place → end_asks w q r place ≡ Ok o → Leads w r.flags o
-  end_leads ways (AtNode n parents) o given is = let x = opened n parents o is in subst (Leads w r.flags) x.0 (x.1 given)
-  end_leads ways (AtName d name) o given is = let x = made d name o is in subst (Leads w r.flags) x.2 (x.4 ways)
-  end_leads ways (Elsewhere kind name at) o given is = let same : Retries kind name at ≡ o = cc in subst (Leads w r.flags) same (go at given)
-    where
-      go : (at : Option NewPort) → PlaceGiven w (Elsewhere kind name at) → Leads w r.flags (Retries kind name at)
-      go None g = g
-      go (Some e) g = g
+  end_seen S taken ways (Elsewhere kind name None) o seen is = retried (OutcomeSeen S w) kind name None o is seen
+  end_seen S taken ways (Elsewhere kind name (Some e)) o seen is = retried (OutcomeSeen S w) kind name (Some e) o is seen

@@ -1,5 +1,5 @@
 -- What a lookup does at its end: it opens a node, makes a file and opens that, or makes the port of a retry.
-use Rattle.std.proofs.Common.{◌≡◌, ℕ, ◌+◌, Bool, true, false, not, ◌&&◌, ◌||◌, List, [], Option, Some, None, refl, ap, ◌∙◌, inl, inr, arith}
+use Rattle.std.proofs.Common.{◌≡◌, ℕ, ◌+◌, Bool, true, false, not, ◌&&◌, ◌||◌, List, [], Some, None, refl, ap, ◌∙◌, inl, inr, arith}
 use Rattle.std.proofs.lemmas.Nat.{and_assoc}
 use Rattle.hurd_creds.specs.declared.name.Name.{Name}
 use Rattle.hurd_creds.specs.declared.open_flags.OpenFlags.{OpenFlags}
@@ -33,7 +33,7 @@ use Rattle.hurd_machine.proofs.Makes.{MayMake, may_make, entered_within, entered
 use Rattle.hurd_core.specs.Core.{NewNodeAt, asked_node, making}
 use Rattle.hurd_lookup.specs.Lookup.{NewPort, Outcome, Opens, Makes, Retries, may_open, no_modes, lookup_changes, lookup_parts}
 use Rattle.hurd_lookup.proofs.WalkLaws.{PortSeen, WaysGiven}
-use Rattle.hurd_lookup.proofs.EndLaws.{OutcomeSeen, Leads}
+use Rattle.hurd_lookup.proofs.EndLaws.{OutcomeSeen, OutcomeGiven, Leads}
 
 -- an open keeps no flag that was not asked for
 
@@ -127,18 +127,18 @@ module _ (w : World) (t : ℕ) (x : Task) (is : task_at w t ≡ Some x) (flags :
       (opens_within (left s f) t (named 1 x) (seat s f) n ids ways modes (Writes (Makes s f ids ways)) own (inr (inr (fragments.later_new w t 1 x is)))
       (λ p on. let same : on.0 ≡ s = cc (on.1, entered_home w n s (file s f) f.dir f.name) in inl (inl (rw (on.2, same) refl))))
 
-  pub outcome_proper : Coherent w → (o : Outcome) → Leads w flags o → AllProper w (changes o)
-  outcome_proper c (Opens e) l =
-      port_proper e modes c (header_old c e.node l.header l.is_header) l.ways (λ writes h eh.
+  pub outcome_proper : Coherent w → (o : Outcome) → Leads w flags o → OutcomeGiven w o → AllProper w (changes o)
+  outcome_proper c (Opens e) l given =
+      port_proper e modes c (header_old c e.node l.header l.is_header) given (λ writes h eh.
       let same : l.header ≡ h = cc (l.is_header, eh) in
       rw (← same) (no_dir (is_dir l.header.kind) (asks flags WRITE) l.fits (kept_write flags writes)))
-  outcome_proper c (Retries kind name None) l = tt
-  outcome_proper c (Retries kind name (Some e)) l = port_proper e no_modes c (header_old c e.node l.header l.is_header) l.ways (λ writes h eh. absurd (silent_write writes))
-  outcome_proper c (Makes s f ids ways) l =
+  outcome_proper c (Retries kind name None) l given = tt
+  outcome_proper c (Retries kind name (Some e)) l given = port_proper e no_modes c (header_old c e.node given.header given.is_header) given.ways (λ writes h eh. absurd (silent_write writes))
+  outcome_proper c (Makes s f ids ways) l given =
       let m : MayMake w f.dir f.name File = may_make w f.dir f.name File tt l.may in
       proper_append (made s f) (file_opened ids ways) w c
       (entered_proper w n s (file s f) f.dir f.name c (fresh_next w t x is) l.home (ap tree_by m.is_info ∙ m.tree) m.absent (made_in f.dir (asked_node File f n) (file s f) refl w (home_old c f.dir s l.home)))
-      (λ d. opens_proper (left s f) t (named 1 x) (seat s f) n ids ways modes d (entered_below w n s (file s f) f.dir f.name c (fresh_next w t x is)) (λ k way. named_still w c n (fresh_next w t x is) 1 k (l.ways k way))
+      (λ d. opens_proper (left s f) t (named 1 x) (seat s f) n ids ways modes d (entered_below w n s (file s f) f.dir f.name c (fresh_next w t x is)) (λ k way. named_still w c n (fresh_next w t x is) 1 k (given k way))
       (λ writes h e. let same : (file s f).header ≡ h = cc (header s f, e) in rw (← same) refl))
 
   pub outcome_rests : Coherent w → (o : Outcome) → Leads w flags o → Rests w (changes o)
