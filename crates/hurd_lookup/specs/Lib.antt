@@ -1,3 +1,4 @@
 pub mod Path
 pub mod Lookup
+pub mod Getroot
 pub mod Ends

@@ -1,22 +1,35 @@
--- One lookup: where the names lead, and what is opened or made there.
-use Rattle.std.specs.Prelude.{◌≡◌, ◌⊎◌, ℕ, ◌&&◌, ◌||◌, not, Bool, true, false, if◌then◌else◌, List, [], ◌∷◌, codes, Option, Some, None, Result, Ok, Err}
+-- One lookup: where the names lead, and what is opened or made there, or looked up elsewhere.
+use Rattle.std.specs.Prelude.{◌≡◌, ◌⊎◌, ℕ, ◌&&◌, ◌||◌, not, Bool, true, false, if◌then◌else◌, List, [], ◌∷◌, codes, Option, Some, None, Result, Ok, Err, length, nat_le, option_and_then}
 use Rattle.std.specs.Str.{bytes_eq}
+use Rattle.std.specs.Option.{option_map}
+use Rattle.std.specs.FinSet as set
 use Rattle.hurd_creds.specs.declared.name.Name.{Name}
 use Rattle.hurd_creds.specs.declared.mode.Mode.{Mode}
 use Rattle.hurd_creds.specs.declared.open_flags.OpenFlags.{OpenFlags}
-use Rattle.hurd_creds.specs.declared.attrs.Kind.TheVariants.{File}
+use Rattle.hurd_creds.specs.declared.attrs.Kind.{Kind}
+use Rattle.hurd_creds.specs.declared.attrs.Kind.TheVariants.{File, Link as LinkKind}
 use Rattle.hurd_creds.specs.declared.attrs.Want.TheVariants.{Read, Write, Exec}
 use Rattle.hurd_creds.specs.declared.errno.Errno.{Errno}
-use Rattle.hurd_creds.specs.declared.errno.Errno.TheVariants.{EACCES, EDIED, EEXIST, EISDIR, ENAMETOOLONG, ENOENT, ENOTDIR}
+use Rattle.hurd_creds.specs.declared.errno.Errno.TheVariants.{EACCES, EDIED, EEXIST, EISDIR, ELOOP, ENAMETOOLONG, ENOENT, ENOTDIR, EROFS, ESRCH}
 use Rattle.hurd_creds.specs.Access.{IdSets, may, least_uid}
-use Rattle.hurd_creds.specs.Bits.{asks, known_mode, open_modes, READ, WRITE, EXEC, CREATE, EXCL, DIRECTORY}
+use Rattle.hurd_creds.specs.Bits.{asks, known_mode, open_modes, READ, WRITE, EXEC, CREATE, EXCL, NOTRANS, NOLINK, DIRECTORY}
+use Rattle.hurd_creds.specs.Names.{same_name}
 use Rattle.hurd_trans_iface.specs.Nodes.{Header, is_dir}
 use Rattle.hurd_trans_iface.specs.Answers.{entry_of}
+use Rattle.hurd_trans_iface.specs.Meaning.{root_of}
+use Rattle.hurd_trans_iface.specs.declared.root.Crossing.{Crossing}
+use Rattle.hurd_trans_iface.specs.declared.root.Crossing.TheVariants.{Plain, Link}
+use Rattle.hurd_nodes.specs.Shown.{ServerInfo}
+use Rattle.hurd_ports.specs.Limits.{most_parents}
 use Rattle.hurd_ports.specs.declared.parents.Parent.{Parent}
+use Rattle.hurd_ports.specs.declared.table.IoRight.{IoRight}
 use Rattle.hurd_ports.specs.Tables.{Task, io_right_of}
+use Rattle.hurd_machine.specs.declared.call.Lookup.{Lookup}
 use Rattle.hurd_machine.specs.declared.call.Lookup.TheVariants as found
+use Rattle.hurd_machine.specs.declared.call.RetryKind.{RetryKind}
+use Rattle.hurd_machine.specs.declared.call.RetryKind.TheVariants.{Normal, Reauth, Magical}
 use Rattle.hurd_machine.specs.declared.call.Reply.TheVariants.{Found}
-use Rattle.hurd_machine.specs.World.{World, ports_of, header_at, body_at, home_at, is_removed, is_server_root, makes_at}
+use Rattle.hurd_machine.specs.World.{World, ports_of, task_at, header_at, body_at, home_at, active_at, server_at, info_at, is_removed, is_server_root, makes_at}
 use Rattle.hurd_machine.specs.Change.{Change, opening}
 use Rattle.hurd_machine.specs.Plan.{Plan, on, given, first, answered}
 use Rattle.hurd_machine.specs.Sight.{Part, EmptyOf, BodyOf, UsersOf, bare}
@@ -24,8 +37,20 @@ use Rattle.hurd_machine.specs.Touched.{asked_parts, OnNode}
 use Rattle.hurd_core.specs.Core.{NewNodeAt, room_asks, making_open}
 use Rattle.hurd_lookup.specs.declared.request.Request.{Request}
 use Rattle.hurd_lookup.specs.declared.walk.Next.{Next}
-use Rattle.hurd_lookup.specs.declared.walk.Next.TheVariants.{There, Absent}
-use Rattle.hurd_lookup.specs.Path.{names_in, ends_with_slash, is_short}
+use Rattle.hurd_lookup.specs.declared.walk.Next.TheVariants.{There, Entry, Back, Absent}
+use Rattle.hurd_lookup.specs.Path.{names_in, ends_with_slash, is_short, most_path, rest_of, onto}
+
+-- a port that a lookup makes: on which node, with which ids, and come in by which ways
+pub record NewPort : Type 0 where
+  pub node : Name
+  pub ids : IdSets
+  pub parents : List Parent
+
+-- what the names lead to
+pub data Place : Type 0 where
+  AtNode : Name → List Parent → Place  -- a node that is opened, come in by these ways
+  AtName : Name → List ℕ → Place  -- a name in a directory, under which a file is to be made
+  Elsewhere : RetryKind → List ℕ → Option NewPort → Place  -- a name that is looked up in another lookup
 
 -- along the names
 
@@ -33,36 +58,43 @@ abbrev pub to_parent : Option Name → Result Next Errno
 to_parent None = Err ENOENT
 to_parent (Some p) = Ok (There p)
 
--- `..`: a server's root stays, a removed directory leads nowhere, any other goes to its parent
-abbrev pub step_up : World → Name → Header → Result Next Errno
-step_up w d h = if is_server_root w d then Ok (There d) else to_parent h.parent
+-- whether a port came into a server's tree at this node
+abbrev pub came_in_at : List Parent → Name → Bool
+came_in_at [] d = false
+came_in_at (way ∷ ways) d = same_name d way.at
+
+-- `..`: from where the port came in, back; a server's root stays, a removed directory leads nowhere, any other goes to its parent
+abbrev pub step_up : World → List Parent → Name → Header → Result Next Errno
+step_up w ways d h =
+    if came_in_at ways d then Ok Back
+    else if is_server_root w d then Ok (There d)
+    else to_parent h.parent
 
 abbrev pub or_absent : Option Name → Next
 or_absent None = Absent
-or_absent (Some n) = There n
+or_absent (Some n) = Entry n
 
 -- where a name leads from a directory: `.` stays, `..` goes up, any other name is an entry's
-abbrev pub step_by : World → Name → Header → List ℕ → Result Next Errno
-step_by w d h name =
+abbrev pub step_by : World → List Parent → Name → Header → List ℕ → Result Next Errno
+step_by w ways d h name =
     if bytes_eq name (codes ".") then Ok (There d)
-    else if bytes_eq name (codes "..") then step_up w d h
+    else if bytes_eq name (codes "..") then step_up w ways d h
     else Ok (or_absent (entry_of name (body_at w d)))
 
--- one name, looked up in a node: that is a directory, which the ids may search
-abbrev pub step_asks : World → IdSets → Name → List ℕ → Result Next Errno
-step_asks w ids d name =
+-- one name, looked up in a node by a port's right: the node is a directory, which the ids may search
+abbrev pub step_asks : World → IoRight → Name → List ℕ → Result Next Errno
+step_asks w q d name =
     on EDIED (header_at w d) (λ h.
     given ENOTDIR (is_dir h.kind) (
-    given EACCES (may ids (bare h) Exec) (step_by w d h name)))
+    given EACCES (may q.ids (bare h) Exec) (step_by w q.parents d h name)))
 
--- what the names lead to: a node, or a name in a directory under which a file is to be made
-pub data Place : Type 0 where
-  AtNode : Name → Place
-  AtName : Name → List ℕ → Place
+-- whether a node that is there is refused
+abbrev pub is_exclusive : Request → Bool
+is_exclusive r = asks r.flags CREATE && asks r.flags EXCL
 
 -- at the end of the names: with CREATE and EXCL a node that is there is refused
-abbrev pub arrive : Request → Name → Result Place Errno
-arrive r n = given EEXIST (not (asks r.flags CREATE && asks r.flags EXCL)) (Ok (AtNode n))
+abbrev pub arrive : Request → List Parent → Name → Result Place Errno
+arrive r ways n = given EEXIST (not (is_exclusive r)) (Ok (AtNode n ways))
 
 abbrev pub is_last : List (List ℕ) → Bool
 is_last [] = true
@@ -72,96 +104,193 @@ is_last (more ∷ names) = false
 abbrev pub miss : Request → Name → List ℕ → Bool → Result Place Errno
 miss r d name last = given ENOENT (last && (asks r.flags CREATE && not r.wants_dir)) (Ok (AtName d name))
 
--- after one name: on at the node that it led to, or it is missed
-abbrev pub stepped : Next → (Name → Result Place Errno) → Result Place Errno → Result Place Errno
-stepped (There n) onward missed = onward n
-stepped Absent onward missed = missed
+-- no ids: a port of a retry gets those of who goes on by it
+abbrev pub no_ids : IdSets
+no_ids = record { uids = set.empty; gids = set.empty }
 
--- from a directory along the names
-abbrev pub walk : World → IdSets → Request → Name → List (List ℕ) → Result Place Errno
-walk w ids r d [] = arrive r d
-walk w ids r d (name ∷ names) = first (step_asks w ids d name) (λ s. stepped s (λ n. walk w ids r n names) (miss r d name (is_last names)))
+-- back by the way that a port came in by, if one is left: the node that was left there is to be there
+abbrev pub go_back : World → Request → List (List ℕ) → List Parent → Result Place Errno
+go_back w r names [] = Err ENOENT
+go_back w r names (way ∷ ways) =
+    on EDIED (header_at w way.parent) (λ h.
+    Ok (Elsewhere Reauth (rest_of names r.slash) (Some (record { node = way.parent; ids = no_ids; parents = ways }))))
+
+-- into a server, which is active on a node of this directory, by its root: ELOOP past the ways that a port may have. The last node is opened there, and more names are
+-- looked up there
+abbrev pub enter : IoRight → Request → Name → Name → List (List ℕ) → Result Place Errno
+enter q r d root names =
+    let ways = record { at = root; parent = d } ∷ q.parents in
+    given ELOOP (nat_le (length ways) most_parents) (
+    Ok (if is_last names then AtNode root ways
+    else Elsewhere Normal (rest_of names r.slash) (Some (record { node = root; ids = q.ids; parents = ways }))))
+
+-- where a link's name is looked up: from the root of the tree, or at its directory
+abbrev pub link_place : Bool → IoRight → Name → List ℕ → Place
+link_place true q d name = Elsewhere Magical name None
+link_place false q d name = Elsewhere Reauth name (Some (record { node = d; ids = no_ids; parents = q.parents }))
+
+-- along a link in a directory: its text, and the names that follow: ENAMETOOLONG
+abbrev pub follow : Bool → IoRight → Request → Name → List ℕ → List (List ℕ) → Result Place Errno
+follow absolute q r d text names =
+    let name = onto text (rest_of names r.slash) in given ENAMETOOLONG (nat_le (length name) most_path) (Ok (link_place absolute q d name))
+
+-- by what the root of a server is: a link leads on, unless it is the last and NOLINK is set, and any other is entered
+abbrev pub crossing : Crossing → IoRight → Request → Name → Name → List ℕ → List (List ℕ) → Result Place Errno
+crossing Plain q r d root text names = enter q r d root names
+crossing (Link absolute) q r d root text names = if is_last names && asks r.flags NOLINK then enter q r d root names else follow absolute q r d text names
+
+-- the server of a root that is there
+abbrev pub root_asks : World → Name → Result ServerInfo Errno
+root_asks w root =
+    on EDIED (header_at w root) (λ h.
+    on EDIED (info_at w root) (λ i. Ok i))
+
+-- across the root of a server that is active on a node of this directory
+abbrev pub cross : World → IoRight → Request → Name → Name → List (List ℕ) → Result Place Errno
+cross w q r d root names = first (root_asks w root) (λ i. crossing (root_of i.kind i.text).crossing q r d root i.text names)
+
+-- the root of the server that is active on a node, if one is
+abbrev pub root_on : World → Name → Option Name
+root_on w n = option_and_then (λ s. option_map (λ (i : ServerInfo). i.root) (server_at w s)) (active_at w n)
+
+-- what is to be crossed at a node: nothing at the last one with NOTRANS
+abbrev pub to_cross : World → Request → Name → List (List ℕ) → Option Name
+to_cross w r n names = if is_last names && asks r.flags NOTRANS then None else root_on w n
+
+-- onward at a node, or across what is active on it
+abbrev pub over : World → IoRight → Request → Name → Option Name → List (List ℕ) → Result Place Errno → Result Place Errno
+over w q r d None names onward = onward
+over w q r d (Some root) names onward = given EEXIST (not (is_last names && is_exclusive r)) (cross w q r d root names)
+
+-- after one name: on at the node that it led to, or it is missed
+abbrev pub stepped : World → IoRight → Request → Name → List ℕ → List (List ℕ) → (Name → Result Place Errno) → Next → Result Place Errno
+stepped w q r d name names onward (There n) = onward n
+stepped w q r d name names onward (Entry n) = over w q r d (to_cross w r n names) names (onward n)
+stepped w q r d name names onward Back = go_back w r names q.parents
+stepped w q r d name names onward Absent = miss r d name (is_last names)
+
+-- from a directory along the names, by a port's right
+abbrev pub walk : World → IoRight → Request → Name → List (List ℕ) → Result Place Errno
+walk w q r d [] = arrive r q.parents d
+walk w q r d (name ∷ names) = first (step_asks w q d name) (stepped w q r d name names (λ n. walk w q r n names))
 
 -- at their end
 
--- what is to be done: a node is opened, or a file is made by a server, and opened
+-- what is to be done: a node is opened; a file is made by a server, and opened; or a name is looked up elsewhere
 pub data Outcome : Type 0 where
-  Opens : Name → Outcome
-  Makes : Name → NewNodeAt → Outcome
+  Opens : NewPort → Outcome
+  Makes : Name → NewNodeAt → IdSets → List Parent → Outcome
+  Retries : RetryKind → List ℕ → Option NewPort → Outcome
 
 -- the ids may do what the flags ask for
 abbrev pub may_open : IdSets → Header → OpenFlags → Bool
 may_open ids h flags =
     (not (asks flags READ) || may ids (bare h) Read) && ((not (asks flags WRITE) || may ids (bare h) Write) && (not (asks flags EXEC) || may ids (bare h) Exec))
 
+-- whether a server only gives its text: its root is a file or a link
+abbrev pub is_text : Kind → Bool
+is_text File = true
+is_text LinkKind = true
+is_text _ = false
+
+abbrev pub only_reads : Option ServerInfo → Bool
+only_reads None = false
+only_reads (Some i) = is_text (root_of i.kind i.text).kind
+
 -- opening the last node
-abbrev pub open_asks : World → IdSets → Request → Name → Result Outcome Errno
-open_asks w ids r n =
+abbrev pub open_asks : World → IdSets → Request → Name → List Parent → Result Outcome Errno
+open_asks w ids r n ways =
     on EDIED (header_at w n) (λ h.
     given ENOTDIR (not r.wants_dir || is_dir h.kind) (
     given EISDIR (not (is_dir h.kind && asks r.flags WRITE)) (
-    given EACCES (may_open ids h r.flags) (Ok (Opens n)))))
+    given EROFS (not (asks r.flags WRITE && only_reads (info_at w n))) (
+    given EACCES (may_open ids h r.flags) (Ok (Opens (record { node = n; ids = ids; parents = ways })))))))
 
 -- making a file, which belongs to the least uid, and to its directory's group; it is opened without a test
-abbrev pub make_asks : World → IdSets → Request → Name → List ℕ → Result Outcome Errno
-make_asks w ids r d name =
+abbrev pub make_asks : World → IoRight → Request → Name → List ℕ → Result Outcome Errno
+make_asks w q r d name =
     first (makes_at w d name File) (λ u.
     on EDIED (header_at w d) (λ h.
-    given EACCES (may ids (bare h) Write) (
-    on EACCES (least_uid ids) (λ owner.
+    given EACCES (may q.ids (bare h) Write) (
+    on EACCES (least_uid q.ids) (λ owner.
     given ENOENT (not (is_removed w d h)) (
     on EDIED (home_at w d) (λ s.
-    Ok (Makes s (record { dir = d; name = name; owner = owner; group = h.group; mode = known_mode r.mode }))))))))
+    Ok (Makes s (record { dir = d; name = name; owner = owner; group = h.group; mode = known_mode r.mode }) q.ids q.parents)))))))
 
-abbrev pub end_asks : World → IdSets → Request → Place → Result Outcome Errno
-end_asks w ids r (AtNode n) = open_asks w ids r n
-end_asks w ids r (AtName d name) = make_asks w ids r d name
+abbrev pub end_asks : World → IoRight → Request → Place → Result Outcome Errno
+end_asks w q r (AtNode n ways) = open_asks w q.ids r n ways
+end_asks w q r (AtName d name) = make_asks w q r d name
+end_asks w q r (Elsewhere kind name at) = Ok (Retries kind name at)
 
 -- a lookup, whole
 
 -- how many things it names: an open, or a node and its open
 abbrev pub names_taken : Outcome → ℕ
-names_taken (Opens n) = 1
-names_taken (Makes s f) = 2
+names_taken (Makes s f ids ways) = 2
+names_taken _ = 1
+
+-- the task, where it can number the port that is to be made, if one is
+abbrev pub ending_asks : World → ℕ → Outcome → Result Task Errno
+ending_asks w t (Retries kind name None) = on ESRCH (task_at w t) (λ x. Ok x)
+ending_asks w t o = room_asks w t (names_taken o)
 
 -- what is asked for, by the flags and by the path
 abbrev pub request : List ℕ → OpenFlags → Mode → Request
-request path flags mode = record { flags = flags; mode = mode; wants_dir = asks flags DIRECTORY || ends_with_slash path }
-
--- what a lookup is to do, by which ids, and come in by which ways: those of the port that it begins at
-pub record Looked : Type 0 where
-  pub ids : IdSets
-  pub parents : List Parent
-  pub outcome : Outcome
+request path flags mode =
+    record { flags = flags; mode = mode; wants_dir = asks flags DIRECTORY || ends_with_slash path; slash = ends_with_slash path }
 
 -- from the node of a port along a path to its end
-abbrev pub found_asks : World → ℕ → ℕ → List ℕ → Request → Result Looked Errno
+abbrev pub found_asks : World → ℕ → ℕ → List ℕ → Request → Result Outcome Errno
 found_asks w t p path r =
     first (io_right_of (ports_of w) t p) (λ q.
     on EDIED (header_at w q.node) (λ h.
     given ENAMETOOLONG (is_short path) (
-    first (walk w q.ids r q.node (names_in path)) (λ place.
-    first (end_asks w q.ids r place) (λ o. Ok (record { ids = q.ids; parents = q.parents; outcome = o }))))))
+    first (walk w q r q.node (names_in path)) (λ place. end_asks w q r place))))
 
--- all that a lookup asks, with its refusals in order
-abbrev pub lookup_asks : World → ℕ → ℕ → List ℕ → Request → Result (Looked × Task) Errno
-lookup_asks w t p path r = first (found_asks w t p path r) (λ l. first (room_asks w t (names_taken l.outcome)) (λ x. Ok (l, x)))
+-- all that a lookup asks, with its refusals in order: what was found, and the task that makes a port of it
+abbrev pub whole_asks : World → ℕ → Result Outcome Errno → Result (Outcome × Task) Errno
+whole_asks w t found = first found (λ o. first (ending_asks w t o) (λ x. Ok (o, x)))
+
+-- a port without modes
+abbrev pub no_modes : OpenFlags
+no_modes = record { 0 = 0 }
+
+abbrev pub retry_changes : ℕ → Task → Option NewPort → List Change
+retry_changes t x None = []
+retry_changes t x (Some e) = opening t x e.node e.ids e.parents no_modes
 
 -- what is opened, or made and opened
-abbrev pub lookup_changes : ℕ → Task → IdSets → List Parent → OpenFlags → Outcome → List Change
-lookup_changes t x ids parents modes (Opens n) = opening t x n ids parents modes
-lookup_changes t x ids parents modes (Makes s f) = making_open t f ids parents modes (x, s)
+abbrev pub lookup_changes : ℕ → Task → OpenFlags → Outcome → List Change
+lookup_changes t x modes (Opens e) = opening t x e.node e.ids e.parents modes
+lookup_changes t x modes (Makes s f ids ways) = making_open t f ids ways modes (x, s)
+lookup_changes t x modes (Retries kind name at) = retry_changes t x at
 
--- the users of the server of what is opened; what is made also changes its directory
+-- what is told: the port, or the name that is looked up elsewhere
+abbrev pub lookup_told : Task → Outcome → Lookup
+lookup_told x (Retries kind name at) = found.Retry kind name (option_map (λ e. x.next) at)
+lookup_told x o = found.Done x.next
+
+-- the users of the server of what gets a port; what is made also changes its directory
+
+abbrev pub port_parts : World → Option NewPort → Part → Type 0
+port_parts w None p = ⊥
+port_parts w (Some e) p = OnNode w e.node p
+
 abbrev pub lookup_parts : World → Outcome → Part → Type 0
-lookup_parts w (Opens n) p = OnNode w n p
-lookup_parts w (Makes s f) p = (p ≡ UsersOf s) ⊎ ((p ≡ BodyOf f.dir) ⊎ (p ≡ EmptyOf f.dir))
+lookup_parts w (Opens e) p = OnNode w e.node p
+lookup_parts w (Makes s f ids ways) p = (p ≡ UsersOf s) ⊎ ((p ≡ BodyOf f.dir) ⊎ (p ≡ EmptyOf f.dir))
+lookup_parts w (Retries kind name at) p = port_parts w at p
+
+-- the plan of what a lookup found
+abbrev pub finding : World → ℕ → OpenFlags → Result Outcome Errno → Plan
+finding w t flags found = answered (whole_asks w t found) (λ l. record { reply = Found (lookup_told l.1 l.0); changes = lookup_changes t l.1 (open_modes flags) l.0 })
+
+abbrev pub finding_parts : World → ℕ → Result Outcome Errno → Part → Type 0
+finding_parts w t found = asked_parts (whole_asks w t found) (λ l. lookup_parts w l.0)
 
 -- dir_lookup
 abbrev pub plan_lookup : World → ℕ → ℕ → List ℕ → OpenFlags → Mode → Plan
-plan_lookup w t p path flags mode =
-    let r = request path flags mode in
-    answered (lookup_asks w t p path r) (λ l. record { reply = Found (found.Done l.1.next); changes = lookup_changes t l.1 l.0.ids l.0.parents (open_modes flags) l.0.outcome })
+plan_lookup w t p path flags mode = finding w t flags (found_asks w t p path (request path flags mode))
 
 abbrev pub touches_lookup : World → ℕ → ℕ → List ℕ → OpenFlags → Mode → Part → Type 0
-touches_lookup w t p path flags mode = asked_parts (lookup_asks w t p path (request path flags mode)) (λ l. lookup_parts w l.0.outcome)
+touches_lookup w t p path flags mode = finding_parts w t (found_asks w t p path (request path flags mode))

@@ -12,6 +12,8 @@ pub(crate) struct Request {
     pub(crate) mode: Mode,
     /// Whether a directory is asked for, by the flag or by the path.
     pub(crate) wants_dir: bool,
+    /// Whether the path ends with a slash.
+    pub(crate) slash: bool,
 }
 
 impl Request {
@@ -19,10 +21,12 @@ impl Request {
     pub(crate) fn new(path: &[u8], flags: OpenFlags, mode: Mode) -> Request
         ensures { result ≡ request path.now flags mode }
     {
+        let slash = path::ends_with_slash(path);
         Request {
             flags,
             mode,
-            wants_dir: flags.asks(OpenFlags::DIRECTORY) || path::ends_with_slash(path),
+            wants_dir: flags.asks(OpenFlags::DIRECTORY) || slash,
+            slash,
         }
     }
 }

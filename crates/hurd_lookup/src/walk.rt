@@ -15,7 +15,12 @@ use hurd_trans_iface::Server;
 /// Where one name leads from a directory.
 #[derive(Clone, Copy, Debug, PartialEq, Eq)]
 pub(crate) enum Next {
+    /// A directory, by `.` or `..`.
     There(NodeName),
+    /// The node of an entry.
+    Entry(NodeName),
+    /// Out of a server's tree, by the way that the port came in.
+    Back,
     /// No entry has the name.
     Absent,
 }
