@@ -7,7 +7,7 @@ use Rattle.hurd_creds.specs.declared.name.Name.{Name}
 use Rattle.hurd_creds.specs.declared.attrs.Kind.TheVariants.{Dir}
 use Rattle.hurd_creds.specs.declared.attrs.Want.TheVariants.{Write, Exec}
 use Rattle.hurd_creds.specs.declared.errno.Errno.{Errno}
-use Rattle.hurd_creds.specs.declared.errno.Errno.TheVariants.{EACCES, EDIED, EISDIR, ENOENT, ENOTDIR, EROFS, ENOTEMPTY}
+use Rattle.hurd_creds.specs.declared.errno.Errno.TheVariants.{EACCES, EBUSY, EDIED, EISDIR, ENOENT, ENOTDIR, EROFS, ENOTEMPTY}
 use Rattle.hurd_creds.proofs.NameLaws.{same_name-itself}
 use Rattle.hurd_trans_iface.specs.Nodes.{Node, Header, Body, Content, Listing, is_dir, is_empty_dir, unlinked, without_entry, OnBody, OnHeader}
 use Rattle.hurd_trans_iface.specs.Answers.{entry_of, unlink_edits}
@@ -16,7 +16,7 @@ use Rattle.hurd_trans_iface.proofs.Goods.{good}
 use Rattle.hurd_nodes.specs.Shown.{ServerInfo, are_kin, info_in, own_edits, tree_by, unlink_by}
 use Rattle.hurd_machine.specs.Calls.{Reply}
 use Rattle.hurd_machine.specs.declared.call.Reply.TheVariants.{Done}
-use Rattle.hurd_machine.specs.World.{World, header_at, body_at, home_at, info_at, unlinks_at, lists_at}
+use Rattle.hurd_machine.specs.World.{World, header_at, body_at, home_at, active_at, info_at, unlinks_at, lists_at}
 use Rattle.hurd_machine.specs.Change.{Change, EditBody, EditHeader, Settle, changes_of}
 use Rattle.hurd_machine.specs.Plan.{Follows, answered}
 use Rattle.hurd_machine.specs.Handle.{Named}
@@ -25,7 +25,7 @@ use Rattle.hurd_machine.specs.Sound.{Coherent}
 use Rattle.hurd_machine.specs.Touched.{asked_parts}
 use Rattle.hurd_machine.proofs.Nodes.{header_in, body_in, node_of_header}
 use Rattle.hurd_machine.proofs.Coherence.{entry_lists}
-use Rattle.hurd_machine.proofs.Views.{Agree, header_same, body_same, home_same}
+use Rattle.hurd_machine.proofs.Views.{Agree, header_same, body_same, home_same, active_same}
 use Rattle.hurd_machine.proofs.Frame.{Full}
 use Rattle.hurd_machine.proofs.Removals.{MayRemove, removal_within, removal_proper, removal_linked, removal_sized, removal_rests, removal_may}
 use Rattle.hurd_machine.proofs.Asks.{IsPlain, on_ok, given_ok, first_ok, on_same, given_same, first_same, on_plain, given_plain, first_plain, ok_plain, answered_same, answered_plain, done_plain}
@@ -191,7 +191,8 @@ module _ {S : ℕ → Bool} {v w : World} (a : Agree S v w) (t : ℕ) (ours : S 
       first_same _ _ _ _ taking_same (λ x is.
       given_same _ _ _ _ _ refl (λ dir.
       let sees : Sees S v (EmptyOf x.node) = empty_seen t ours p name c x (taking v t p name x is) (dir_kind x.header.kind dir) in
-      given_same _ _ _ _ _ (empty_by (body_at v x.node) (body_at w x.node) (let e = a.parts (EmptyOf x.node) sees in cc)) (λ empty. refl)))
+      given_same _ _ _ _ _ (ap (λ o. not (is_some o)) (active_same a x.node sees.0)) (λ idle.
+      given_same _ _ _ _ _ (empty_by (body_at v x.node) (body_at w x.node) (let e = a.parts (EmptyOf x.node) sees in cc)) (λ empty. refl))))
 
 taking_plain : (w : World) (t p : ℕ) (name : List ℕ) → IsPlain (taking_asks w t p name)
 taking_plain w t p name =
@@ -234,17 +235,18 @@ unlink_laws t p name =
     removal_laws t p name (λ w. unlink_asks w t p name) (λ w. unlink_takes w t p name) (λ S v w c a ours. unlink_same a t ours p name)
     (λ w. first_plain _ _ (taking_plain w t p name) (λ x is. given_plain _ _ _ refl (λ file. ok_plain x)))
 
--- dir_rmdir: a directory without entries
+-- dir_rmdir: a directory without entries, on which no server is active
 
 pub rmdir_takes : (w : World) (t p : ℕ) (name : List ℕ) (x : Entered) → rmdir_asks w t p name ≡ Ok x → MayTake w t p name x
 rmdir_takes w t p name x is =
     let k = first_ok (taking_asks w t p name) _ x is in
     let d = given_ok ENOTDIR (is_dir k.0.header.kind) _ x k.2 in
-    let g = given_ok ENOTEMPTY (is_empty_at (body_at w k.0.node)) _ x d.1 in
+    let s = given_ok EBUSY (not (is_some (active_at w k.0.node))) _ x d.1 in
+    let g = given_ok ENOTEMPTY (is_empty_at (body_at w k.0.node)) _ x s.1 in
     let same : k.0 ≡ x = cc (g.1) in
     subst (MayTake w t p name) same (record { is_taking = taking w t p name k.0 k.1; empty = λ dir. g.0 })
 
 pub rmdir_laws : (t p : ℕ) (name : List ℕ) → CallLaws t (λ w. plan_rmdir w t p name) (λ w. touches_rmdir w t p name)
 rmdir_laws t p name =
     removal_laws t p name (λ w. rmdir_asks w t p name) (λ w. rmdir_takes w t p name) (λ S v w c a ours. rmdir_same a t ours p name c)
-    (λ w. first_plain _ _ (taking_plain w t p name) (λ x is. given_plain _ _ _ refl (λ dir. given_plain _ _ _ refl (λ empty. ok_plain x))))
+    (λ w. first_plain _ _ (taking_plain w t p name) (λ x is. given_plain _ _ _ refl (λ dir. given_plain _ _ _ refl (λ idle. given_plain _ _ _ refl (λ empty. ok_plain x)))))

@@ -1,6 +1,6 @@
 -- The laws of renames.
 use Rattle.std.proofs.Common.{◌≡◌, ◌≢◌, ◌⊎◌, ◌∙◌, ℕ, ◌&&◌, ◌||◌, not, Bool, true, false, true≢false, if◌then◌else◌, List, [], ◌∷◌, Option, Some, None, refl, sym, subst, inl, inr, ap, ap₂}
-use Rattle.std.specs.Prelude.{Result, Ok, Err}
+use Rattle.std.specs.Prelude.{Result, Ok, Err, is_some}
 use Rattle.std.specs.Option.{option_map}
 use Rattle.std.specs.FinMap.{get}
 use Rattle.std.proofs.lemmas.Bool.{and_parts}
@@ -8,7 +8,7 @@ use Rattle.hurd_creds.specs.declared.name.Name.{Name}
 use Rattle.hurd_creds.specs.declared.attrs.Kind.TheVariants.{Dir}
 use Rattle.hurd_creds.specs.declared.attrs.Want.TheVariants.{Write, Exec}
 use Rattle.hurd_creds.specs.declared.errno.Errno.{Errno}
-use Rattle.hurd_creds.specs.declared.errno.Errno.TheVariants.{EACCES, EDIED, EINVAL, EISDIR, ENOENT, ENOTDIR, ENOTEMPTY, EROFS, EXDEV}
+use Rattle.hurd_creds.specs.declared.errno.Errno.TheVariants.{EACCES, EBUSY, EDIED, EINVAL, EISDIR, ENOENT, ENOTDIR, ENOTEMPTY, EROFS, EXDEV}
 use Rattle.hurd_creds.specs.Access.{may}
 use Rattle.hurd_creds.specs.Names.{same_name}
 use Rattle.hurd_creds.proofs.NameLaws.{same_or_apart, apart_if_not_same, same_name-apart, edit_apart}
@@ -17,14 +17,14 @@ use Rattle.hurd_trans_iface.specs.Answers.{entry_of}
 use Rattle.hurd_trans_iface.proofs.Goods.{good}
 use Rattle.hurd_nodes.specs.Shown.{are_kin, tree_by, info_in}
 use Rattle.hurd_machine.specs.declared.call.Reply.TheVariants.{Done}
-use Rattle.hurd_machine.specs.World.{World, nodes_of, header_at, body_at, home_at, info_at, is_removed, lists_at, renames_at}
+use Rattle.hurd_machine.specs.World.{World, nodes_of, header_at, body_at, home_at, active_at, info_at, is_removed, lists_at, renames_at}
 use Rattle.hurd_machine.specs.Plan.{Plan, Planned}
 use Rattle.hurd_machine.specs.Handle.{Named, both_asks}
 use Rattle.hurd_machine.specs.Change.{Change, EditHeader, EditBody, apply, apply_all}
 use Rattle.hurd_machine.specs.Sight.{Part, AttrOf, EmptyOf, BodyOf, Seen, Child, Sees, Could, Allowed, ToSearch, ByParent, bare, AnEmpty}
 use Rattle.hurd_machine.specs.Sound.{HasDistinctNames, Coherent, Linked, LeadsUp}
 use Rattle.hurd_machine.proofs.Nodes.{header_in, body_in, node_of_header, edit_keeps, edit_reads, header-with_header, header-with_body, body-with_header, body-with_body}
-use Rattle.hurd_machine.proofs.Views.{Agree, header_same, home_same, body_same}
+use Rattle.hurd_machine.proofs.Views.{Agree, header_same, home_same, active_same, body_same}
 use Rattle.hurd_machine.proofs.Coherence.{AllProper, entry_lists}
 use Rattle.hurd_machine.proofs.Keeping.{coherent_all, proper_append}
 use Rattle.hurd_machine.proofs.Settle.{Rests, rests_settle}
@@ -120,7 +120,8 @@ way w b k m u is =
     let t = given_ok EACCES (may_take b.right.ids b.header j.0) _ u s.1 in
     let o = given_ok ENOTDIR (not (is_dir k.kind) || is_dir j.0.kind) _ u t.1 in
     let i = given_ok EISDIR (is_dir k.kind || not (is_dir j.0.kind)) _ u o.1 in
-    let e = given_ok ENOTEMPTY (not (is_dir j.0.kind) || is_empty_at (body_at w m)) _ u i.1 in
+    let x = given_ok EBUSY (not (is_dir j.0.kind && is_some (active_at w m))) _ u i.1 in
+    let e = given_ok ENOTEMPTY (not (is_dir j.0.kind) || is_empty_at (body_at w m)) _ u x.1 in
     record { header = j.0; is_header = j.1; kin = s.0; empty = e.0 }
 
 record Asked (w : World) (t p q : ℕ) (name new : List ℕ) (a b : Named) (l : Name × Header) : Type 0 where
@@ -390,12 +391,14 @@ module _ {S : ℕ → Bool} {v w : World} (agree : Agree S v w) (c : Coherent v)
 
     way_same : (k : Header) (m : Name) → entry_of new (body_at v b.right.node) ≡ Some m → gives_way w b k m ≡ gives_way v b k m
     way_same k m entry =
-        on_same _ _ _ _ _ (header_same agree m (child_seen t ours q b named.other trees.to_dir trees.to_search new m entry)) (λ j at.
-        given_same _ _ _ _ _ (ap₂ are_kin (home_same agree b.right.node to_seen) (home_same agree m (child_seen t ours q b named.other trees.to_dir trees.to_search new m entry))) (λ kin.
+        let seen : Seen S v m = child_seen t ours q b named.other trees.to_dir trees.to_search new m entry in
+        on_same _ _ _ _ _ (header_same agree m seen) (λ j at.
+        given_same _ _ _ _ _ (ap₂ are_kin (home_same agree b.right.node to_seen) (home_same agree m seen)) (λ kin.
         given_same _ _ _ _ _ refl (λ take.
         given_same _ _ _ _ _ refl (λ over.
         given_same _ _ _ _ _ refl (λ under.
-        given_same _ _ _ _ _ (empty_same m j entry at) (λ empty. refl))))))
+        given_same _ _ _ _ _ (ap (λ o. not (is_dir j.kind && is_some o)) (active_same agree m seen)) (λ idle.
+        given_same _ _ _ _ _ (empty_same m j entry at) (λ empty. refl)))))))
 
     old_same : (l : Name × Header) → old_asks w b l (entry_of new (body_at w b.right.node)) ≡ old_asks v b l (entry_of new (body_at v b.right.node))
     old_same l = ap (λ o. old_asks w b l (entry_of new o)) (body_same agree b.right.node to_sees) ∙ by (entry_of new (body_at v b.right.node)) refl
@@ -421,7 +424,7 @@ module _ (t p q : ℕ) (name new : List ℕ) where
   way_plain : (w : World) (b : Named) (k : Header) (m : Name) → IsPlain (gives_way w b k m)
   way_plain w b k m =
       on_plain _ _ _ refl (λ j at. given_plain _ _ _ refl (λ kin.
-      given_plain _ _ _ refl (λ take. given_plain _ _ _ refl (λ over. given_plain _ _ _ refl (λ under. given_plain _ _ _ refl (λ empty. ok_plain tt))))))
+      given_plain _ _ _ refl (λ take. given_plain _ _ _ refl (λ over. given_plain _ _ _ refl (λ under. given_plain _ _ _ refl (λ idle. given_plain _ _ _ refl (λ empty. ok_plain tt)))))))
 
   old_plain : (w : World) (b : Named) (l : Name × Header) (o : Option Name) → IsPlain (old_asks w b l o)
   old_plain w b l None = ok_plain tt

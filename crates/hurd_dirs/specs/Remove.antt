@@ -1,13 +1,13 @@
 -- Taking entries out of directories.
-use Rattle.std.specs.Prelude.{◌≡◌, ◌⊎◌, ℕ, not, Bool, false, List, [], ◌∷◌, Option, Some, None, Result, Ok, Err}
+use Rattle.std.specs.Prelude.{◌≡◌, ◌⊎◌, ℕ, not, Bool, false, List, [], ◌∷◌, Option, Some, None, is_some, Result, Ok, Err}
 use Rattle.hurd_creds.specs.declared.name.Name.{Name}
 use Rattle.hurd_creds.specs.declared.errno.Errno.{Errno}
-use Rattle.hurd_creds.specs.declared.errno.Errno.TheVariants.{EACCES, EDIED, EISDIR, ENOENT, ENOTDIR, ENOTEMPTY}
+use Rattle.hurd_creds.specs.declared.errno.Errno.TheVariants.{EACCES, EBUSY, EDIED, EISDIR, ENOENT, ENOTDIR, ENOTEMPTY}
 use Rattle.hurd_trans_iface.specs.Nodes.{Header, Body, is_dir, is_empty_dir, unlinked, without_entry}
 use Rattle.hurd_trans_iface.specs.Answers.{entry_of}
 use Rattle.hurd_nodes.specs.Shown.{are_kin, header_in}
 use Rattle.hurd_machine.specs.declared.call.Reply.TheVariants.{Done}
-use Rattle.hurd_machine.specs.World.{World, header_at, body_at, home_at}
+use Rattle.hurd_machine.specs.World.{World, header_at, body_at, home_at, active_at}
 use Rattle.hurd_machine.specs.Change.{EditBody, EditHeader, Settle}
 use Rattle.hurd_machine.specs.Plan.{Plan, on, given, first, answered}
 use Rattle.hurd_machine.specs.Sight.{Part, AttrOf, EmptyOf, BodyOf}
@@ -66,12 +66,13 @@ plan_unlink w t p name = answered (unlink_asks w t p name) (removing name)
 abbrev pub touches_unlink : World → ℕ → ℕ → List ℕ → Part → Type 0
 touches_unlink w t p name = asked_parts (unlink_asks w t p name) OnEntry
 
--- dir_rmdir: an entry of a directory that has no entries itself
+-- dir_rmdir: an entry of a directory on which no server is active, and that has no entries itself
 abbrev pub rmdir_asks : World → ℕ → ℕ → List ℕ → Result Entered Errno
 rmdir_asks w t p name =
     first (taking_asks w t p name) (λ x.
     given ENOTDIR (is_dir x.header.kind) (
-    given ENOTEMPTY (is_empty_at (body_at w x.node)) (Ok x)))
+    given EBUSY (not (is_some (active_at w x.node))) (
+    given ENOTEMPTY (is_empty_at (body_at w x.node)) (Ok x))))
 
 abbrev pub plan_rmdir : World → ℕ → ℕ → List ℕ → Plan
 plan_rmdir w t p name = answered (rmdir_asks w t p name) (removing name)

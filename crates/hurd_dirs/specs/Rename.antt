@@ -1,15 +1,15 @@
 -- An entry that goes to another directory, or gets another name.
-use Rattle.std.specs.Prelude.{◌≡◌, ◌⊎◌, ℕ, zero, suc, ◌&&◌, ◌||◌, not, Bool, true, false, List, [], ◌∷◌, Option, Some, None, if◌then◌else◌, Result, Ok, Err}
+use Rattle.std.specs.Prelude.{◌≡◌, ◌⊎◌, ℕ, zero, suc, ◌&&◌, ◌||◌, not, Bool, true, false, List, [], ◌∷◌, Option, Some, None, is_some, if◌then◌else◌, Result, Ok, Err}
 use Rattle.hurd_creds.specs.declared.name.Name.{Name}
 use Rattle.hurd_creds.specs.declared.attrs.Attrs.{Attrs}
 use Rattle.hurd_creds.specs.declared.errno.Errno.{Errno}
-use Rattle.hurd_creds.specs.declared.errno.Errno.TheVariants.{EACCES, EDIED, EINVAL, EISDIR, ENOENT, ENOTDIR, ENOTEMPTY, EROFS, EXDEV}
+use Rattle.hurd_creds.specs.declared.errno.Errno.TheVariants.{EACCES, EBUSY, EDIED, EINVAL, EISDIR, ENOENT, ENOTDIR, ENOTEMPTY, EROFS, EXDEV}
 use Rattle.hurd_creds.specs.Names.{same_name}
 use Rattle.hurd_trans_iface.specs.Nodes.{Header, is_dir, unlinked, moved_to, with_entry, without_entry}
 use Rattle.hurd_trans_iface.specs.Answers.{entry_of}
 use Rattle.hurd_nodes.specs.Shown.{are_kin, header_in, tree_by}
 use Rattle.hurd_machine.specs.declared.call.Reply.TheVariants.{Done}
-use Rattle.hurd_machine.specs.World.{World, header_at, body_at, home_at, info_at, is_removed}
+use Rattle.hurd_machine.specs.World.{World, header_at, body_at, home_at, active_at, info_at, is_removed}
 use Rattle.hurd_machine.specs.Change.{Change, EditHeader, EditBody, Settle}
 use Rattle.hurd_machine.specs.Plan.{Plan, on, given, first, answered}
 use Rattle.hurd_machine.specs.Handle.{Named, both_asks}
@@ -56,7 +56,8 @@ leaves_asks w name a b =
     given EACCES (may_take a.right.ids a.header k) (
     given EINVAL (not (is_dir k.kind && is_inside w n b.right.node)) (Ok (n, k)))))))
 
--- what stands under the new name may give way to a node with the header k: no directory to none, an empty directory to one
+-- what stands under the new name may give way to a node with the header k: no directory to none, an empty directory on which no
+-- server is active to one
 abbrev pub gives_way : World → Named → Header → Name → Result (Unit {0}) Errno
 gives_way w b k m =
     on EDIED (header_at w m) (λ j.
@@ -64,7 +65,8 @@ gives_way w b k m =
     given EACCES (may_take b.right.ids b.header j) (
     given ENOTDIR (not (is_dir k.kind) || is_dir j.kind) (
     given EISDIR (is_dir k.kind || not (is_dir j.kind)) (
-    given ENOTEMPTY (not (is_dir j.kind) || is_empty_at (body_at w m)) (Ok tt))))))
+    given EBUSY (not (is_dir j.kind && is_some (active_at w m))) (
+    given ENOTEMPTY (not (is_dir j.kind) || is_empty_at (body_at w m)) (Ok tt)))))))
 
 -- nothing need give way to the node n where nothing stands there, or n itself does
 abbrev pub old_asks : World → Named → Name × Header → Option Name → Result (Unit {0}) Errno

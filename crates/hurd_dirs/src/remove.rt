@@ -102,7 +102,7 @@ pub fn dir_unlink<S: Server>(
 
 /// The entry of the directory that is to be removed.
 ///
-/// Errors, in order: those of `taking_asked`, `ENOTDIR`, `ENOTEMPTY`.
+/// Errors, in order: those of `taking_asked`, `ENOTDIR`, `EBUSY` a server is active on it, `ENOTEMPTY`.
 #[tactic(auto, unfolding(hurd_machine::specs::Plan::given, hurd_machine::specs::Plan::first))]
 fn rmdir_asked<S: Server>(
     core: &Core<S>,
@@ -116,19 +116,23 @@ fn rmdir_asked<S: Server>(
     if !is_dir(entry.attrs.kind) {
         return Err(Errno::ENOTDIR);
     }
+    if core.active(entry.node).is_some() {
+        return Err(Errno::EBUSY);
+    }
     if !entry.attrs.empty {
         return Err(Errno::ENOTEMPTY);
     }
     Ok(entry)
 }
 
-/// Removes the directory of a name from the directory of a port (`fs.defs`). It has no entries, and loses its parent; it
-/// goes, unless a port is on it. Takes no memory.
+/// Removes the directory of a name from the directory of a port (`fs.defs`). It has no entries, no server is active on it, and
+/// it loses its parent; it goes, unless a port is on it. Takes no memory.
 ///
 /// Errors, in order: `ESRCH` no such task, `EBADF` no such port, `EDIED` no such node, `EINVAL` no name, `ENAMETOOLONG`,
 /// `ENOTDIR`, `EROFS` its server keeps no tree, `EACCES` the port's ids may not search the directory, or may not write it,
 /// `ENOENT` a removed directory, or no such entry, `EDIED` no such node of the directory's server, `EACCES` in a sticky
-/// directory the ids hold neither its owner nor the entry's, `ENOTDIR` what the entry names, `ENOTEMPTY`.
+/// directory the ids hold neither its owner nor the entry's, `ENOTDIR` what the entry names, `EBUSY` a server is active on it,
+/// `ENOTEMPTY`.
 pub fn dir_rmdir<S: Server>(
     core: &mut Core<S>,
     task: TaskId,

@@ -107,7 +107,8 @@ fn leaves_asked<S: Server>(
 /// Whether what stands under the new name gives way to a node of these attributes.
 ///
 /// Errors, in order: `EDIED` no such node of the directory's server, `EACCES` in a sticky directory the ids hold neither its
-/// owner nor the entry's, `ENOTDIR` a directory over none, `EISDIR` none over a directory, `ENOTEMPTY`.
+/// owner nor the entry's, `ENOTDIR` a directory over none, `EISDIR` none over a directory, `EBUSY` a server is active on a
+/// directory, `ENOTEMPTY`.
 #[tactic(auto, unfolding(hurd_machine::specs::Plan::on, hurd_machine::specs::Plan::given))]
 fn gives_way<S: Server>(
     core: &Core<S>,
@@ -133,6 +134,10 @@ fn gives_way<S: Server>(
     }
     if !dir && other_dir {
         return Err(Errno::EISDIR);
+    }
+    let busy = other_dir && core.active(old).is_some();
+    if busy {
+        return Err(Errno::EBUSY);
     }
     if other_dir && !other.empty {
         return Err(Errno::ENOTEMPTY);
@@ -212,7 +217,7 @@ fn is_there(node: NodeName, old: Option<NodeName>) -> bool
 /// `EDIED` no such node of the directory's server, `EACCES` in a sticky directory the ids hold neither its owner nor the
 /// entry's, `EINVAL` a directory into itself, or below; and of another node that stands under the new name: `EDIED` no such node
 /// of the directory's server, `EACCES` in a sticky directory the ids hold neither its owner nor the entry's, `ENOTDIR` a directory
-/// over none, `EISDIR` none over a directory, `ENOTEMPTY`; `ENOMEM`.
+/// over none, `EISDIR` none over a directory, `EBUSY` a server is active on that directory, `ENOTEMPTY`; `ENOMEM`.
 pub fn dir_rename<S: Server>(
     core: &mut Core<S>,
     alloc: Global,
