@@ -4,7 +4,7 @@ ghost use Rattle.hurd_words.specs.Reading.{Reads};
 ghost use Rattle.hurd_trans_iface.specs.Meaning.{begin};
 ghost use Rattle.hurd_machine.specs.Calls.{call_by};
 ghost use Rattle.hurd_lists.specs.Arguments.{server_words};
-ghost use Rattle.hurd_lists.specs.Calls.{auth_makeauth, before_box, begun, behind_box, box_place, call_of, dir_link, dir_lookup, dir_mkdir, dir_mkfile, dir_rename, dir_rmdir, dir_unlink, entry, file_chmod, file_chown, file_set_size, file_set_translator, fsys_getroot, fsys_goaway, io_identity, io_read, io_restrict_auth, io_seek, io_set_all_openmodes, io_write, lone, pair, port_receive, port_send, server_of, setting_of};
+ghost use Rattle.hurd_lists.specs.Calls.{auth_makeauth, before_box, begun, behind_box, box_place, call_of, dir_link, dir_lookup, dir_mkdir, dir_mkfile, dir_rename, dir_rmdir, dir_unlink, entry, file_chmod, file_chown, file_set_size, file_set_translator, fsys_getroot, fsys_goaway, io_identity, io_read, io_restrict_auth, io_seek, io_set_all_openmodes, io_write, lone, pair, port_receive, port_send, server_of, setting_of, with_server};
 
 use crate::arguments::{
     bytes, goaway_flags, ids, long_number, mode, number, offset, open_flags, server_words, task,
@@ -441,5 +441,25 @@ pub fn server_of(alloc: Global, verb: Verb, args: &[Bytes]) -> Result<Option<Wor
     match behind_box(args) {
         Some(words) => Ok(Some(begun_words(alloc, words)?)),
         None => Ok(None),
+    }
+}
+
+/// A call with this server in the place of the one that it brings.
+pub fn with_server<S: Server>(call: Call<S>, server: Option<S>) -> Call<S>
+    ensures { result ≡ with_server server call }
+{
+    match call {
+        Call::FileSetTranslator {
+            port,
+            setting,
+            words,
+            server: _,
+        } => Call::FileSetTranslator {
+            port,
+            setting,
+            words,
+            server,
+        },
+        call => call,
     }
 }

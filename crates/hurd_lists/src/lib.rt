@@ -16,5 +16,6 @@ mod replies;
 mod verb;
 mod words;
 
+pub use calls::with_server;
 pub use reader::{CallList, ListFault, ListedCall, parse_calls};
 pub use replies::told;
