@@ -4,22 +4,22 @@ use Rattle.std.specs.Io.KnownBytes.{Appends}
 use Rattle.std.specs.List.{concat}
 use Rattle.std.proofs.Common.{◌≡◌, ℕ, List, [], ◌∷◌, ◌++◌, refl, sym, ◌∙◌, ap, subst, append_assoc, append-nil}
 use Rattle.std.proofs.KnownBytes.{Appends-nil, Appends-trans}
-use Rattle.hurd_lists.specs.declared.reader.ListedCall.{ListedCall}
+use Rattle.hurd_lists.specs.Lists.{Listed}
 use Rattle.hurd_machine.specs.World.{World}
 use Rattle.hurd_terminal.specs.Faults.{AppendsFront}
 use Rattle.hurd_terminal.proofs.OutputLaws.{front_follows}
 use Rattle.hurd_calls.specs.Lists.{after_call, part_of, parts_of}
 
 -- a front of the whole was printed, and the rest are the parts of the calls that are left
-pub record PrintedSoFar (whole : List ℕ) (before now : Option (List ℕ)) (left : List ListedCall) (w : World) : Type 0 where
+pub record PrintedSoFar (whole : List ℕ) (before now : Option (List ℕ)) (left : List Listed) (w : World) : Type 0 where
   pub printed : List ℕ
   pub split : whole ≡ printed ++ concat (parts_of left w)
   pub appends : Appends before now printed
 
-pub none_printed : (before : Option (List ℕ)) (calls : List ListedCall) (w : World) → PrintedSoFar (concat (parts_of calls w)) before before calls w
+pub none_printed : (before : Option (List ℕ)) (calls : List Listed) (w : World) → PrintedSoFar (concat (parts_of calls w)) before before calls w
 none_printed before calls w = record { printed = []; split = refl; appends = Appends-nil before }
 
-more_parts : (c : ListedCall) (cs : List ListedCall) (w : World) → concat (parts_of (c ∷ cs) w) ≡ part_of c w ++ concat (parts_of cs (after_call c w))
+more_parts : (c : Listed) (cs : List Listed) (w : World) → concat (parts_of (c ∷ cs) w) ≡ part_of c w ++ concat (parts_of cs (after_call c w))
 unfolding parts_of
 more_parts c cs w = refl
 
@@ -27,17 +27,17 @@ no_parts : (w : World) → concat (parts_of [] w) ≡ []
 unfolding parts_of
 no_parts w = refl
 
-module _ (whole : List ℕ) (before now : Option (List ℕ)) (left : List ListedCall) (w : World) (so : PrintedSoFar whole before now left w) where
+module _ (whole : List ℕ) (before now : Option (List ℕ)) (left : List Listed) (w : World) (so : PrintedSoFar whole before now left w) where
   -- the rest begins with the part of the next call
-  next_split : (c : ListedCall) (less : List ListedCall) (x : World) (part : List ℕ) → left ≡ c ∷ less → part ≡ part_of c w → x ≡ after_call c w
+  next_split : (c : Listed) (less : List Listed) (x : World) (part : List ℕ) → left ≡ c ∷ less → part ≡ part_of c w → x ≡ after_call c w
       → whole ≡ (so.printed ++ part) ++ concat (parts_of less x)
   next_split c less x part is here next =
       rw (here, next) (so.split
-      ∙ (ap (λ (cs : List ListedCall). so.printed ++ concat (parts_of cs w)) is
+      ∙ (ap (λ (cs : List Listed). so.printed ++ concat (parts_of cs w)) is
       ∙ (ap (λ (bs : List ℕ). so.printed ++ bs) (more_parts c less w) ∙ sym (append_assoc so.printed (part_of c w) (concat (parts_of less (after_call c w)))))))
 
   -- the part of one call more was printed
-  pub next_printed : (then : Option (List ℕ)) (c : ListedCall) (less : List ListedCall) (x : World) (part : List ℕ) → left ≡ c ∷ less → part ≡ part_of c w → x ≡ after_call c w
+  pub next_printed : (then : Option (List ℕ)) (c : Listed) (less : List Listed) (x : World) (part : List ℕ) → left ≡ c ∷ less → part ≡ part_of c w → x ≡ after_call c w
       → Appends now then part → PrintedSoFar whole before then less x
   next_printed then c less x part is here next adds = record {
     printed = so.printed ++ part;
@@ -46,7 +46,7 @@ module _ (whole : List ℕ) (before now : Option (List ℕ)) (left : List Listed
   }
 
   -- only a front of it was
-  pub next_cut : (then : Option (List ℕ)) (c : ListedCall) (less : List ListedCall) (x : World) (part : List ℕ) → left ≡ c ∷ less → part ≡ part_of c w → x ≡ after_call c w
+  pub next_cut : (then : Option (List ℕ)) (c : Listed) (less : List Listed) (x : World) (part : List ℕ) → left ≡ c ∷ less → part ≡ part_of c w → x ≡ after_call c w
       → AppendsFront now then part → AppendsFront before then whole
   next_cut then c less x part is here next adds =
       front_follows before now then whole so.printed part (concat (parts_of less x), next_split c less x part is here next) so.appends adds
@@ -58,5 +58,5 @@ module _ (whole : List ℕ) (before now : Option (List ℕ)) (left : List Listed
   -- no call is left
   pub all_printed : left ≡ [] → Appends before now whole
   all_printed none =
-      let all : whole ≡ so.printed = so.split ∙ (ap (λ (cs : List ListedCall). so.printed ++ concat (parts_of cs w)) none ∙ (ap (λ (bs : List ℕ). so.printed ++ bs) (no_parts w) ∙ append-nil so.printed)) in
+      let all : whole ≡ so.printed = so.split ∙ (ap (λ (cs : List Listed). so.printed ++ concat (parts_of cs w)) none ∙ (ap (λ (bs : List ℕ). so.printed ++ bs) (no_parts w) ∙ append-nil so.printed)) in
       subst (λ (bs : List ℕ). Appends before now bs) (sym all) so.appends

@@ -5,6 +5,7 @@
 //! `hurd: cannot write`, `hurd: out of memory` or `hurd: cannot boot: NAME` as the last line, as far as that can be written.
 #![tactic(auto)]
 
+mod calling;
 mod run;
 
 use hurd_terminal::{Input, Output};

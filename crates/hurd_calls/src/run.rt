@@ -1,54 +1,42 @@
 //! A list of calls from its reading to the last reply.
-ghost use Rattle.std.specs.Prelude.{◌≡◌, ◌≢◌, true, Ok, Err, IfOk, IfErr, OnOk};
+ghost use Rattle.std.specs.Prelude.{◌≡◌, ◌≢◌, true, map, Ok, Err, IfOk, IfErr, OnOk};
 ghost use Rattle.std.specs.Io.KnownBytes.{Appends};
 ghost use Rattle.std.specs.List.{concat};
 ghost use Rattle.hurd_trans_iface.specs.Meaning.{Begins};
 ghost use Rattle.hurd_tmpfs.specs.Tree.{new_tmpfs};
 ghost use Rattle.hurd_world.specs.Boot.{first_world};
 ghost use Rattle.hurd_world.specs.Held.{world_of};
-ghost use Rattle.hurd_lists.specs.Lists.{reading_of, said_by};
+ghost use Rattle.hurd_lists.specs.Lists.{listed_by, reading_of, said_by};
 ghost use Rattle.hurd_terminal.specs.Faults.{AppendsFront, IsPrintFault};
 ghost use Rattle.hurd_terminal.specs.Runs.{Adds, Blames, Exits, Ran};
 ghost use Rattle.hurd_calls.specs.Faults.{NotBegun, NotRead};
-ghost use Rattle.hurd_calls.specs.Lists.{after_call, lists, part_of, parts_of};
+ghost use Rattle.hurd_calls.specs.Lists.{lists, parts_of};
 
-use hurd_creds::{Bytes, Errno, Ids};
-use hurd_lists::{CallList, ListFault, ListedCall, parse_calls, told};
+use crate::calling::made;
+use hurd_creds::{Errno, Ids};
+use hurd_lists::{CallList, ListFault, ListedCall, parse_calls};
 use hurd_terminal::{Fault, Input, Output, finish, read_text};
 use hurd_tmpfs::Tmpfs;
 use hurd_trans_iface::Server;
-use hurd_world::{Reply, World};
+use hurd_world::World;
 use std::alloc::Global;
 use std::io::{Read, Write};
 
 /// What stands behind the number of a bad line.
 const COMPLAINT: &str = ": bad calls\n";
 
-/// Makes a call, and gives its part of the output. `Memory`.
-fn made<S: Server>(world: &mut World<S>, alloc: Global, listed: ListedCall) -> Result<Bytes, Fault>
-    ensures part { IfOk result (λ part. part ≡ part_of listed (world_of S.meaning world.old)) }
-    ensures world { OnOk result (world_of S.meaning world.new ≡ after_call listed (world_of S.meaning world.old)) }
-    ensures err { IfErr result (λ fault. fault ≡ Fault.Memory) }
-{
-    let ListedCall { task, call, line } = listed;
-    match world.call(alloc, task, call) {
-        Reply::Refused(Errno::ENOMEM) => Err(Fault::Memory),
-        reply => Ok(told(alloc, line.as_slice(), &reply)?),
-    }
-}
-
 /// Makes calls in their order, and prints each with its reply.
-fn make_all<S: Server, W: Write>(
+fn make_all<W: Write>(
     alloc: Global,
-    world: &mut World<S>,
+    world: &mut World,
     calls: Vec<ListedCall>,
     output: &mut Output<W>,
 ) -> Result<(), Fault>
     ensures ok { OnOk result (Appends (W.contents output.old.writer) (W.contents output.new.writer)
-        (concat (parts_of calls.items (world_of S.meaning world.old)))) }
+        (concat (parts_of (map (listed_by (λ b. meaning b)) calls.items) (world_of (λ b. meaning b) world.old)))) }
     ensures err { IfErr result (λ fault. IsPrintFault output.new fault
         × AppendsFront (W.contents output.old.writer) (W.contents output.new.writer)
-        (concat (parts_of calls.items (world_of S.meaning world.old)))) }
+        (concat (parts_of (map (listed_by (λ b. meaning b)) calls.items) (world_of (λ b. meaning b) world.old)))) }
 {
     for listed in calls {
         let part = made(world, alloc, listed)?;
@@ -75,8 +63,8 @@ fn begun<S: Server>(alloc: Global, root: S, tasks: Vec<Ids>) -> Result<World<S>,
 /// Reads a list's text.
 ///
 /// Errors: `Bad` with its first bad line, `Memory`.
-fn parsed(alloc: Global, text: &[u8]) -> Result<CallList, Fault>
-    ensures ok { IfOk result (λ list. reading_of text.now ≡ Ok (said_by list)) }
+fn parsed<S: Server>(alloc: Global, text: &[u8]) -> Result<CallList<S>, Fault>
+    ensures ok { IfOk result (λ list. reading_of text.now ≡ Ok (said_by S.meaning list)) }
     ensures err { IfErr result (λ fault. NotRead (reading_of text.now) fault) }
 {
     match parse_calls(alloc, text) {
@@ -87,13 +75,13 @@ fn parsed(alloc: Global, text: &[u8]) -> Result<CallList, Fault>
 }
 
 /// Makes the calls of a list, begun over an empty tree, and prints each with its reply.
-fn answer<S: Server, W: Write>(
+fn answer<W: Write>(
     alloc: Global,
     text: &[u8],
-    root: S,
+    root: Box<dyn Server>,
     output: &mut Output<W>,
 ) -> Result<(), Fault>
-    requires { S.meaning root ≡ new_tmpfs }
+    requires { meaning root ≡ new_tmpfs }
     ensures adds { Adds lists text.now (W.contents output.old.writer) (W.contents output.new.writer) result }
     ensures read { result ≢ Err Fault.Read }
     ensures write { result ≡ Err Fault.Write → output.new.failed ≡ true }

@@ -1,9 +1,14 @@
 -- The lines of a list.
-use Rattle.std.proofs.Common.{◌≡◌, ◌+◌, ◌∷◌, [], ℕ, List, Option, Some, None, Result, Ok, Err, refl, sym, ◌∙◌, ap, option_map}
-use Rattle.hurd_words.specs.Reading.{Reads}
+use Rattle.std.proofs.Common.{◌≡◌, ◌+◌, ◌∷◌, [], ℕ, List, Option, Some, None, Result, Ok, Err, codes, false, ◌==◌, refl, sym, ◌∙◌, ap, option_map}
+use Rattle.std.specs.List.{slice_split}
+use Rattle.hurd_trans_iface.specs.Meaning.{Meaning}
+use Rattle.hurd_words.specs.Lines.{is_skipped}
+use Rattle.hurd_words.specs.Reading.{Reads, good_words}
+use Rattle.hurd_words.specs.Users.{begins_with}
 use Rattle.hurd_words.specs.declared.fault.ReadFault.{ReadFault}
 use Rattle.hurd_words.specs.declared.fault.ReadFault.TheVariants as read_fault
-use Rattle.hurd_lists.specs.Lists.{Parses, Standing, fault_at, or_bad, read_from, with_line}
+use Rattle.hurd_lists.specs.Lists.{Parses, Standing, call_from, fault_at, or_bad, read_from, with_call, with_line}
+use Rattle.hurd_lists.specs.Words.{bytes_of}
 
 -- a line that is read, and one that is bad
 pub read_next : (number : ℕ) (s next : Standing) (line : List ℕ) (lines : List (List ℕ)) → with_line s line ≡ Some next
@@ -20,7 +25,12 @@ unfolding read_from
 read_ended number s = refl
 
 -- what a line that was not read says
-pub line_not_read : (e : ReadFault) (number : ℕ) (s after : Standing) (line : List ℕ) (lines : List (List ℕ)) (wanted : Result Standing ℕ) → read_from number s (line ∷ lines) ≡ wanted
-    → Reads {X = Unit {0}} (λ _. after) (with_line s line) (Err e) → Parses wanted (Err (fault_at e number))
-line_not_read read_fault.Memory number s after line lines wanted same r = tt
-line_not_read read_fault.Bad number s after line lines wanted same r = sym same ∙ read_bad number s line lines r
+pub line_not_read : {S : Type 0} (f : S → Meaning) (e : ReadFault) (number : ℕ) (s after : Standing) (line : List ℕ) (lines : List (List ℕ)) (wanted : Result Standing ℕ) → read_from number s (line ∷ lines) ≡ wanted
+    → Reads {X = Unit {0}} (λ _. after) (with_line s line) (Err e) → Parses f wanted (Err (fault_at e number))
+line_not_read f read_fault.Memory number s after line lines wanted same r = tt
+line_not_read f read_fault.Bad number s after line lines wanted same r = sym same ∙ read_bad number s line lines r
+
+-- a line of these words that is no task's
+pub call_line : (s : Standing) (line : List ℕ) (words : List (List ℕ)) → is_skipped line ≡ false → good_words bytes_of (slice_split (λ b. b == 32) line) ≡ Some words
+    → begins_with (codes "task") words ≡ false → with_line s line ≡ with_call s (call_from line words)
+call_line s line words said read no_task = rw (said, read, no_task) refl

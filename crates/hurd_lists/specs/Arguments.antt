@@ -6,8 +6,13 @@ use Rattle.std.specs.Int.RustNames.{bit_or}
 use Rattle.hurd_creds.specs.declared.mode.Mode.{Mode}
 use Rattle.hurd_creds.specs.declared.name.TaskId.{TaskId}
 use Rattle.hurd_creds.specs.declared.open_flags.OpenFlags.{OpenFlags}
+use Rattle.hurd_creds.specs.declared.trans_flags.TransFlags.{TransFlags}
+use Rattle.hurd_creds.specs.declared.trans_flags.GoawayFlags.{GoawayFlags}
 use Rattle.hurd_creds.specs.Access.{IdSets}
 use Rattle.hurd_creds.specs.Bits as bit
+use Rattle.hurd_creds.specs.TransBits as trans
+use Rattle.bitflags.specs.Sets.{Row, find_name}
+use Rattle.hurd_trans_iface.specs.Words.{is_within_limits}
 use Rattle.hurd_machine.specs.declared.call.Whence.{Whence}
 use Rattle.hurd_machine.specs.declared.call.Whence.TheVariants.{Set, Current, End}
 use Rattle.hurd_words.specs.Numbers as script
@@ -76,34 +81,49 @@ whence_named name =
 abbrev pub whence_of : List ℕ → Option Whence
 whence_of word = option_and_then whence_named (text_of word)
 
--- the flag of these bits
-abbrev pub flags_from : ℕ → OpenFlags
-flags_from bits = record { 0 = bits }
+-- flags by name
 
--- the flag of a name
-abbrev pub flag_of : List ℕ → Option OpenFlags
-flag_of name =
-    if bytes_eq name (codes "READ") then Some (flags_from bit.READ)
-    else if bytes_eq name (codes "WRITE") then Some (flags_from bit.WRITE)
-    else if bytes_eq name (codes "EXEC") then Some (flags_from bit.EXEC)
-    else if bytes_eq name (codes "APPEND") then Some (flags_from bit.APPEND)
-    else if bytes_eq name (codes "CREATE") then Some (flags_from bit.CREATE)
-    else if bytes_eq name (codes "EXCL") then Some (flags_from bit.EXCL)
-    else if bytes_eq name (codes "NOTRANS") then Some (flags_from bit.NOTRANS)
-    else if bytes_eq name (codes "NOLINK") then Some (flags_from bit.NOLINK)
-    else if bytes_eq name (codes "DIRECTORY") then Some (flags_from bit.DIRECTORY)
-    else None
+abbrev pub open_names : List Row
+open_names = (codes "READ", bit.READ) ∷ (codes "WRITE", bit.WRITE) ∷ (codes "EXEC", bit.EXEC) ∷ (codes "APPEND", bit.APPEND) ∷ (codes "CREATE", bit.CREATE) ∷ (codes "EXCL", bit.EXCL) ∷ (codes "NOTRANS", bit.NOTRANS) ∷ (codes "NOLINK", bit.NOLINK) ∷ (codes "DIRECTORY", bit.DIRECTORY) ∷ []
 
--- these flags and those of names, if each is one
-unfoldable pub with_flags : OpenFlags → List (List ℕ) → Option OpenFlags
-with_flags flags [] = Some flags
-with_flags flags (name ∷ names) = option_and_then (λ flag. with_flags (flags_from (bit_or flags.0 flag.0)) names) (flag_of name)
+abbrev pub trans_names : List Row
+trans_names = (codes "SET", trans.SET) ∷ (codes "EXCL", trans.EXCL) ∷ (codes "ORPHAN", trans.ORPHAN) ∷ []
 
--- flags joined by commas, or `-` for none
-abbrev pub flags_listed : List ℕ → Option OpenFlags
-flags_listed word =
-    if bytes_eq word (codes "-") then Some (flags_from 0)
-    else with_flags (flags_from 0) (slice_split (λ b. b == 44) word)
+abbrev pub goaway_names : List Row
+goaway_names = (codes "FORCE", trans.FORCE) ∷ (codes "NOSYNC", 2) ∷ (codes "NOWAIT", 4) ∷ []
 
-abbrev pub flags_of : List ℕ → Option OpenFlags
-flags_of word = option_and_then flags_listed (text_of word)
+-- these bits and those of names, if each is one
+unfoldable pub with_names : List Row → ℕ → List (List ℕ) → Option ℕ
+with_names rows bits [] = Some bits
+with_names rows bits (name ∷ names) = option_and_then (λ flag. with_names rows (bit_or bits flag) names) (find_name rows name)
+
+-- the bits of names joined by commas, or `-` for none
+abbrev pub bits_listed : List Row → List ℕ → Option ℕ
+bits_listed rows word =
+    if bytes_eq word (codes "-") then Some 0
+    else with_names rows 0 (slice_split (λ b. b == 44) word)
+
+abbrev pub bits_of : List Row → List ℕ → Option ℕ
+bits_of rows word = option_and_then (bits_listed rows) (text_of word)
+
+abbrev pub open_flags_of : List ℕ → Option OpenFlags
+open_flags_of word = option_map (λ bits. record { 0 = bits }) (bits_of open_names word)
+
+abbrev pub trans_flags_of : List ℕ → Option TransFlags
+trans_flags_of word = option_map (λ bits. record { 0 = bits }) (bits_of trans_names word)
+
+abbrev pub goaway_flags_of : List ℕ → Option GoawayFlags
+goaway_flags_of word = option_map (λ bits. record { 0 = bits }) (bits_of goaway_names word)
+
+-- the bytes of words, each behind `=`
+unfoldable pub texts_of : List (List ℕ) → Option (List (List ℕ))
+texts_of [] = Some []
+texts_of (word ∷ words) = option_and_then (λ text. option_map (λ texts. text ∷ texts) (texts_of words)) (bytes_of word)
+
+-- words, if they are not too many
+abbrev pub within_limits : List (List ℕ) → Option (List (List ℕ))
+within_limits words = if is_within_limits words then Some words else None
+
+-- the words of a server, each behind `=`
+abbrev pub server_words : List (List ℕ) → Option (List (List ℕ))
+server_words words = option_and_then within_limits (texts_of words)

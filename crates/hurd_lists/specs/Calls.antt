@@ -1,8 +1,12 @@
 -- Which calls names and arguments make.
-use Rattle.std.specs.Prelude.{ℕ, List, [], ◌∷◌, Option, Some, None, option_map}
+use Rattle.std.specs.Prelude.{ℕ, ◌+◌, List, [], ◌∷◌, Option, Some, None, bytes_eq, codes, drop, option_and_then, option_map, take}
+use Rattle.std.specs.List.{position}
+use Rattle.hurd_trans_iface.specs.Meaning.{Meaning, begin}
 use Rattle.hurd_machine.specs.Calls.{Call}
+use Rattle.hurd_machine.specs.declared.call.Call as machine
+use Rattle.hurd_machine.specs.declared.call.Setting.{Setting}
 use Rattle.hurd_machine.specs.declared.call.Call.TheVariants as call
-use Rattle.hurd_lists.specs.Arguments.{bytes_of, flags_of, ids_of, long_number_of, mode_of, number_of, offset_of, task_of, whence_of}
+use Rattle.hurd_lists.specs.Arguments.{bytes_of, goaway_flags_of, ids_of, long_number_of, mode_of, number_of, offset_of, open_flags_of, server_words, task_of, trans_flags_of, whence_of}
 use Rattle.hurd_lists.specs.Reading.{◌>>=◌}
 use Rattle.hurd_lists.specs.declared.verb.Verb.{Verb}
 use Rattle.hurd_lists.specs.declared.verb.Verb.TheVariants as verb
@@ -87,7 +91,7 @@ io_seek _ = None
 abbrev pub io_set_all_openmodes : List (List ℕ) → Option Call
 io_set_all_openmodes (port ∷ flags ∷ []) = do
   port ← long_number_of port
-  flags ← flags_of flags
+  flags ← open_flags_of flags
   Some (call.IoSetAllOpenmodes port flags)
 io_set_all_openmodes _ = None
 
@@ -113,7 +117,7 @@ abbrev pub dir_lookup : List (List ℕ) → Option Call
 dir_lookup (dir ∷ path ∷ flags ∷ mode ∷ []) = do
   dir ← long_number_of dir
   path ← bytes_of path
-  flags ← flags_of flags
+  flags ← open_flags_of flags
   mode ← mode_of mode
   Some (call.DirLookup dir path flags mode)
 dir_lookup _ = None
@@ -131,7 +135,7 @@ dir_mkdir _ = None
 abbrev pub dir_mkfile : List (List ℕ) → Option Call
 dir_mkfile (dir ∷ flags ∷ mode ∷ []) = do
   dir ← long_number_of dir
-  flags ← flags_of flags
+  flags ← open_flags_of flags
   mode ← mode_of mode
   Some (call.DirMkfile dir flags mode)
 dir_mkfile _ = None
@@ -171,7 +175,57 @@ io_identity args = option_map (λ p. call.IoIdentity p.0 p.1) (pair args)
 abbrev pub file_set_size : List (List ℕ) → Option Call
 file_set_size args = option_map (λ p. call.FileSetSize p.0 p.1) (pair args)
 
--- the call of a name with these arguments
+-- where the word `box` stands first
+abbrev pub box_place : List (List ℕ) → Option ℕ
+box_place words = position (λ w. bytes_eq w (codes "box")) words
+
+-- the words before `box`, or all
+abbrev pub words_until : List (List ℕ) → Option ℕ → List (List ℕ)
+words_until words None = words
+words_until words (Some place) = take place words
+
+abbrev pub before_box : List (List ℕ) → List (List ℕ)
+before_box words = words_until words (box_place words)
+
+-- the words behind `box`, where it stands
+abbrev pub behind_box : List (List ℕ) → Option (List (List ℕ))
+behind_box words = option_map (λ place. drop (place + 1) words) (box_place words)
+
+-- what is asked for where a translator is set
+abbrev pub setting_of : List ℕ → List ℕ → List ℕ → Option Setting
+setting_of passive active goaway = do
+  passive ← trans_flags_of passive
+  active ← trans_flags_of active
+  goaway ← goaway_flags_of goaway
+  Some (record { passive = passive; active = active; goaway = goaway })
+
+-- `PORT PASSIVE ACTIVE GOAWAY [=WORD ..] [box =WORD ..]`, without the server of the words behind `box`
+abbrev pub file_set_translator : List (List ℕ) → Option Call
+file_set_translator (port ∷ passive ∷ active ∷ goaway ∷ words) = do
+  port ← long_number_of port
+  setting ← setting_of passive active goaway
+  words ← server_words (before_box words)
+  Some (call.FileSetTranslator port setting words None)
+file_set_translator _ = None
+
+-- `CONTROL DIR FLAGS`
+abbrev pub fsys_getroot : List (List ℕ) → Option Call
+fsys_getroot (control ∷ dir ∷ flags ∷ []) = do
+  control ← long_number_of control
+  dir ← long_number_of dir
+  flags ← open_flags_of flags
+  Some (call.FsysGetroot control dir flags)
+fsys_getroot _ = None
+
+-- `CONTROL GOAWAY`
+abbrev pub fsys_goaway : List (List ℕ) → Option Call
+fsys_goaway (control ∷ flags ∷ []) = do
+  control ← long_number_of control
+  flags ← goaway_flags_of flags
+  Some (call.FsysGoaway control flags)
+fsys_goaway _ = None
+
+-- the call of a name with these arguments, without a server that it may bring
 abbrev pub call_of : Verb → List (List ℕ) → Option Call
 call_of verb.PortDeallocate args = option_map (λ port. call.PortDeallocate port) (lone args)
 call_of verb.PortSend args = port_send args
@@ -192,6 +246,10 @@ call_of verb.FileChmod args = file_chmod args
 call_of verb.FileChown args = file_chown args
 call_of verb.FileSetSize args = file_set_size args
 call_of verb.FileCheckAccess args = option_map (λ port. call.FileCheckAccess port) (lone args)
+call_of verb.FileSetTranslator args = file_set_translator args
+call_of verb.FileGetTranslatorCntl args = option_map (λ port. call.FileGetTranslatorCntl port) (lone args)
+call_of verb.FsysGetroot args = fsys_getroot args
+call_of verb.FsysGoaway args = fsys_goaway args
 call_of verb.DirLookup args = dir_lookup args
 call_of verb.DirReaddir args = option_map (λ port. call.DirReaddir port) (lone args)
 call_of verb.DirMkdir args = dir_mkdir args
@@ -200,3 +258,22 @@ call_of verb.DirRmdir args = dir_rmdir args
 call_of verb.DirUnlink args = dir_unlink args
 call_of verb.DirLink args = dir_link args
 call_of verb.DirRename args = dir_rename args
+
+-- the server that these words make, if there are any
+abbrev pub begun : Option (List (List ℕ)) → Option Meaning
+begun words = option_and_then begin words
+
+-- the server that words behind `box` make; they are bad where no kind takes them
+abbrev pub brought : Option (List (List ℕ)) → Option (Option Meaning)
+brought None = Some None
+brought (Some words) = option_map Some (option_and_then begin (server_words words))
+
+-- the server that a call of a name with these arguments brings, if it brings one
+abbrev pub server_of : Verb → List (List ℕ) → Option (Option Meaning)
+server_of verb.FileSetTranslator args = brought (behind_box args)
+server_of _ args = Some None
+
+-- a call with this server in the place of the one that it brings
+abbrev pub with_server : {S : Type 0} → Option S → machine.Call S → machine.Call S
+with_server s (call.FileSetTranslator port setting words server) = call.FileSetTranslator port setting words s
+with_server s c = c

@@ -1,5 +1,5 @@
 -- What a list of calls says, and where it is bad.
-use Rattle.std.specs.Prelude.{◌≡◌, ℕ, ◌+◌, ◌==◌, ◌||◌, not, List, [], ◌∷◌, ◌++◌, Option, Some, None, Result, Ok, Err, if◌then◌else◌, nat_lt, nat_le, option_and_then, option_map, length, codes}
+use Rattle.std.specs.Prelude.{◌≡◌, ℕ, ◌+◌, ◌==◌, ◌||◌, not, List, [], ◌∷◌, ◌++◌, Option, Some, None, Result, Ok, Err, if◌then◌else◌, nat_lt, nat_le, option_and_then, option_map, map, length, codes}
 use Rattle.std.specs.List.{slice_split}
 use Rattle.hurd_creds.specs.Access.{IdSets}
 use Rattle.hurd_words.specs.Lines.{skip_spaces, without_end}
@@ -8,10 +8,11 @@ use Rattle.hurd_words.specs.Reading.{good_words}
 use Rattle.hurd_words.specs.Users.{begins_with}
 use Rattle.hurd_words.specs.declared.fault.ReadFault.{ReadFault}
 use Rattle.hurd_words.specs.declared.fault.ReadFault.TheVariants as read_fault
-use Rattle.hurd_machine.specs.Calls.{Call}
+use Rattle.hurd_trans_iface.specs.Meaning.{Meaning}
+use Rattle.hurd_machine.specs.Calls.{Call, call_by}
 use Rattle.hurd_creds.specs.declared.name.TaskId.{TaskId}
 use Rattle.hurd_lists.specs.Arguments.{ids_of, task_of, text_of}
-use Rattle.hurd_lists.specs.Calls.{call_of}
+use Rattle.hurd_lists.specs.Calls.{begun, call_of, server_of, with_server}
 use Rattle.hurd_lists.specs.Reading.{◌>>=◌}
 use Rattle.hurd_lists.specs.Verbs.{verb_of}
 use Rattle.hurd_lists.specs.Words.{bytes_of}
@@ -37,24 +38,27 @@ task_from _ = None
 abbrev pub trimmed : List ℕ → List ℕ
 trimmed line = without_end (skip_spaces line)
 
--- a call of these parts
-abbrev pub listed_call : TaskId → Call → List ℕ → ListedCall
-listed_call task call line = record { task = task; call = call; line = line }
+-- what a line says: a task makes a call; and the line itself
+pub record Listed : Type 0 where
+  pub task : TaskId
+  pub call : Call
+  pub line : List ℕ
 
 -- `TASK CALL ARG..`
-abbrev pub call_from : List ℕ → List (List ℕ) → Option ListedCall
+abbrev pub call_from : List ℕ → List (List ℕ) → Option Listed
 call_from line (number ∷ name ∷ args) = do
   task ← task_of number
   name ← text_of name
   verb ← verb_of name
   call ← call_of verb args
-  Some (listed_call task call (trimmed line))
+  server ← server_of verb args
+  Some (record { task = task; call = with_server server call; line = trimmed line })
 call_from line _ = None
 
 -- what the lines so far have said
 pub record Standing : Type 0 where
   pub tasks : List IdSets
-  pub calls : List ListedCall
+  pub calls : List Listed
 
 -- with a task more, unless a call came, or there are as many as may be
 abbrev pub with_task : Standing → Option IdSets → Option Standing
@@ -64,7 +68,7 @@ with_task s (Some ids) =
     else Some (record s { tasks = s.tasks ++ ids ∷ [] })
 
 -- with a call more, where there is one
-abbrev pub with_call : Standing → Option ListedCall → Option Standing
+abbrev pub with_call : Standing → Option Listed → Option Standing
 with_call s None = None
 with_call s (Some call) = Some (record s { calls = s.calls ++ call ∷ [] })
 
@@ -98,15 +102,19 @@ unsaid = record { tasks = []; calls = [] }
 abbrev pub reading_of : List ℕ → Result Standing ℕ
 reading_of list = if nat_lt most_bytes (length list) then Err 0 else read_from 1 unsaid (lines_of list)
 
+-- what a call says that was read, where each box means this: the server of its words is in it
+abbrev pub listed_by : {S : Type 0} → (S → Meaning) → ListedCall S → Listed
+listed_by f c = record { task = c.task; call = with_server (begun c.server) (call_by f c.call); line = c.line }
+
 -- what stands in a list that was read
-abbrev pub said_by : CallList → Standing
-said_by list = record { tasks = list.tasks.items; calls = list.calls.items }
+abbrev pub said_by : {S : Type 0} → (S → Meaning) → CallList S → Standing
+said_by f list = record { tasks = list.tasks.items; calls = map (listed_by f) list.calls.items }
 
 -- a list was read as it is, or is bad at the line that is told, or memory was refused
-abbrev pub Parses : Result Standing ℕ → Result CallList ListFault → Type 0
-Parses wanted (Ok list) = wanted ≡ Ok (said_by list)
-Parses wanted (Err fault.Memory) = Unit {0}
-Parses wanted (Err (fault.Bad line)) = wanted ≡ Err line
+abbrev pub Parses : {S : Type 0} → (S → Meaning) → Result Standing ℕ → Result (CallList S) ListFault → Type 0
+Parses f wanted (Ok list) = wanted ≡ Ok (said_by f list)
+Parses f wanted (Err fault.Memory) = Unit {0}
+Parses f wanted (Err (fault.Bad line)) = wanted ≡ Err line
 
 -- the fault of a line
 abbrev pub fault_at : ReadFault → ℕ → ListFault

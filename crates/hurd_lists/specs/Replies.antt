@@ -131,6 +131,7 @@ reply_text (reply.Modes flags) = codes "Modes " ++ flags_text flags
 reply_text (reply.Same true) = codes "Same true"
 reply_text (reply.Same false) = codes "Same false"
 reply_text (reply.Refused e) = codes "Refused " ++ name_of e
+reply_text (reply.Back e s) = codes "Back " ++ name_of e
 
 -- a call's line, and on the next its reply, behind two spaces
 abbrev pub told : List ℕ → Reply → List ℕ

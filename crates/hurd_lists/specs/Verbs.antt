@@ -2,7 +2,7 @@
 use Rattle.std.specs.Prelude.{ℕ, List, Option, Some, None, if◌then◌else◌, bytes_eq, codes}
 use Rattle.std.specs.Option.{option_or}
 use Rattle.hurd_lists.specs.declared.verb.Verb.{Verb}
-use Rattle.hurd_lists.specs.declared.verb.Verb.TheVariants.{PortDeallocate, PortSend, PortReceive, AuthMakeauth, IoRead, IoWrite, IoSeek, IoStat, IoReadable, IoGetOpenmodes, IoSetAllOpenmodes, IoDuplicate, IoReauthenticate, IoRestrictAuth, IoIdentity, FileChmod, FileChown, FileSetSize, FileCheckAccess, DirLookup, DirReaddir, DirMkdir, DirMkfile, DirRmdir, DirUnlink, DirLink, DirRename}
+use Rattle.hurd_lists.specs.declared.verb.Verb.TheVariants.{PortDeallocate, PortSend, PortReceive, AuthMakeauth, IoRead, IoWrite, IoSeek, IoStat, IoReadable, IoGetOpenmodes, IoSetAllOpenmodes, IoDuplicate, IoReauthenticate, IoRestrictAuth, IoIdentity, FileChmod, FileChown, FileSetSize, FileCheckAccess, FileSetTranslator, FileGetTranslatorCntl, FsysGetroot, FsysGoaway, DirLookup, DirReaddir, DirMkdir, DirMkfile, DirRmdir, DirUnlink, DirLink, DirRename}
 
 -- a call on a port as such, or on ids
 abbrev pub port_verb : List ℕ → Option Verb
@@ -34,13 +34,22 @@ share_verb name =
     else if bytes_eq name (codes "io_identity") then Some IoIdentity
     else None
 
--- a call on the attributes of a node
+-- a call on the attributes of a node, or on its translators
 abbrev pub file_verb : List ℕ → Option Verb
 file_verb name =
     if bytes_eq name (codes "file_chmod") then Some FileChmod
     else if bytes_eq name (codes "file_chown") then Some FileChown
     else if bytes_eq name (codes "file_set_size") then Some FileSetSize
     else if bytes_eq name (codes "file_check_access") then Some FileCheckAccess
+    else if bytes_eq name (codes "file_set_translator") then Some FileSetTranslator
+    else if bytes_eq name (codes "file_get_translator_cntl") then Some FileGetTranslatorCntl
+    else None
+
+-- a call on a server
+abbrev pub fsys_verb : List ℕ → Option Verb
+fsys_verb name =
+    if bytes_eq name (codes "fsys_getroot") then Some FsysGetroot
+    else if bytes_eq name (codes "fsys_goaway") then Some FsysGoaway
     else None
 
 -- a call on entries of a directory
@@ -58,4 +67,5 @@ dir_verb name =
 
 -- the call of a name
 abbrev pub verb_of : List ℕ → Option Verb
-verb_of name = option_or (option_or (option_or (option_or (port_verb name) (io_verb name)) (share_verb name)) (file_verb name)) (dir_verb name)
+verb_of name =
+    option_or (option_or (option_or (option_or (option_or (port_verb name) (io_verb name)) (share_verb name)) (file_verb name)) (fsys_verb name)) (dir_verb name)

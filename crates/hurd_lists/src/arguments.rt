@@ -2,12 +2,14 @@
 ghost use Rattle.std.specs.Prelude.{◌≡◌, ◌==◌, option_map};
 ghost use Rattle.std.specs.List.{slice_split};
 ghost use Rattle.std.specs.Int.RustNames.{bit_or};
-ghost use Rattle.hurd_words.specs.Reading.{Reads};
-ghost use Rattle.hurd_lists.specs.Arguments.{above_zero, below_zero, bytes_of, flag_of, flags_from, flags_of, ids_of, long_number_of, mode_of, number_of, offset_of, task_of, text_of, whence_named, whence_of, with_flags};
+ghost use Rattle.bitflags.specs.Sets.{find_name};
+ghost use Rattle.hurd_words.specs.Reading.{Reads, said};
+ghost use Rattle.hurd_lists.specs.Arguments.{above_zero, below_zero, bits_of, bytes_of, goaway_flags_of, ids_of, long_number_of, mode_of, number_of, offset_of, open_flags_of, server_words, task_of, text_of, texts_of, trans_flags_of, whence_named, whence_of, with_names};
 
 use bitflags::Flags;
-use hurd_creds::{Bytes, Ids, Mode, OpenFlags, TaskId};
+use hurd_creds::{Bytes, Errno, GoawayFlags, Ids, Mode, OpenFlags, TaskId, TransFlags};
 use hurd_machine::Whence;
+use hurd_trans_iface::Words;
 use hurd_words::fault::ReadFault;
 use hurd_words::numbers;
 use hurd_words::users::{ids_from, parts};
@@ -108,14 +110,22 @@ pub fn mode(word: &[u8]) -> Result<Mode, ReadFault>
     Ok(<Mode as Flags>::from_bits_retain(bits))
 }
 
-/// Bytes behind `=`.
+/// What stands behind `=`.
+fn behind_equals(word: &[u8]) -> Result<&[u8], ReadFault>
+    ensures { Reads (λ b. b.now) (bytes_of word.now) result }
+{
+    match word {
+        [b'=', bytes @ ..] => Ok(bytes),
+        _ => Err(ReadFault::Bad),
+    }
+}
+
+/// A copy of the bytes behind `=`.
 pub fn bytes(alloc: Global, word: &[u8]) -> Result<Bytes, ReadFault>
     ensures { Reads (λ b. b) (bytes_of word.now) result }
 {
-    match word {
-        [b'=', bytes @ ..] => Ok(Bytes::copied(alloc, bytes)?),
-        _ => Err(ReadFault::Bad),
-    }
+    let bytes = behind_equals(word)?;
+    Ok(Bytes::copied(alloc, bytes)?)
 }
 
 /// The ids of two lists.
@@ -151,59 +161,80 @@ fn whence_named(name: &str) -> Option<Whence>
 }
 
 /// Flags joined by commas, or `-` for none.
-pub fn flags(alloc: Global, word: &[u8]) -> Result<OpenFlags, ReadFault>
-    ensures { Reads (λ f. f) (flags_of word.now) result }
+fn flags<F: Flags>(alloc: Global, word: &[u8]) -> Result<F, ReadFault>
+    requires { F.exact }
+    ensures { Reads F.set_of (bits_of F.table word.now) result }
 {
     let word = text(word)?;
     if is(word, "-") {
-        return Ok(OpenFlags::from_bits_truncate(0));
+        return Ok(F::empty());
     }
     listed_flags(alloc, word)
 }
 
 /// Flags joined by commas.
-fn listed_flags(alloc: Global, word: &str) -> Result<OpenFlags, ReadFault>
-    ensures { Reads (λ f. f) (with_flags (flags_from 0) (slice_split (λ b. b == 44) word.now)) result }
+fn listed_flags<F: Flags>(alloc: Global, word: &str) -> Result<F, ReadFault>
+    requires { F.exact }
+    ensures { Reads F.set_of (with_names F.table 0 (slice_split (λ b. b == 44) word.now)) result }
 {
-    let mut flags = OpenFlags::from_bits_truncate(0);
+    let mut flags = F::empty();
     let names = parts(alloc, word)?;
     for name in names.as_slice() {
-        flags = with_flag(flags, name)?;
+        add_flag(&mut flags, name)?;
     }
     Ok(flags)
 }
 
-/// These flags, and the one of this name.
-fn with_flag(flags: OpenFlags, name: &str) -> Result<OpenFlags, ReadFault>
-    ensures { Reads (λ f. f) (option_map (λ flag. flags_from (bit_or flags.0 flag.0)) (flag_of name.now)) result }
+/// Adds the flag of this name.
+fn add_flag<F: Flags>(flags: &mut F, name: &str) -> Result<(), ReadFault>
+    requires { F.exact }
+    ensures { Reads (λ _. F.set_of flags.new) (option_map (bit_or (F.set_of flags.old)) (find_name F.table name.now)) result }
 {
-    let flag = wanted(flag_of(name))?;
-    Ok(flags.union(flag))
+    let flag = wanted(F::from_name(name))?;
+    flags.insert(flag);
+    Ok(())
 }
 
-/// The flag of a name.
-fn flag_of(name: &str) -> Option<OpenFlags>
-    ensures { result ≡ flag_of name.now }
+/// Flags of opening.
+pub fn open_flags(alloc: Global, word: &[u8]) -> Result<OpenFlags, ReadFault>
+    ensures { Reads (λ f. f) (open_flags_of word.now) result }
 {
-    if is(name, "READ") {
-        Some(OpenFlags::READ)
-    } else if is(name, "WRITE") {
-        Some(OpenFlags::WRITE)
-    } else if is(name, "EXEC") {
-        Some(OpenFlags::EXEC)
-    } else if is(name, "APPEND") {
-        Some(OpenFlags::APPEND)
-    } else if is(name, "CREATE") {
-        Some(OpenFlags::CREATE)
-    } else if is(name, "EXCL") {
-        Some(OpenFlags::EXCL)
-    } else if is(name, "NOTRANS") {
-        Some(OpenFlags::NOTRANS)
-    } else if is(name, "NOLINK") {
-        Some(OpenFlags::NOLINK)
-    } else if is(name, "DIRECTORY") {
-        Some(OpenFlags::DIRECTORY)
-    } else {
-        None
+    flags(alloc, word)
+}
+
+/// Flags of setting a translator.
+pub fn trans_flags(alloc: Global, word: &[u8]) -> Result<TransFlags, ReadFault>
+    ensures { Reads (λ f. f) (trans_flags_of word.now) result }
+{
+    flags(alloc, word)
+}
+
+/// Flags of sending a server away.
+pub fn goaway_flags(alloc: Global, word: &[u8]) -> Result<GoawayFlags, ReadFault>
+    ensures { Reads (λ f. f) (goaway_flags_of word.now) result }
+{
+    flags(alloc, word)
+}
+
+/// The bytes of words, each behind `=`.
+fn texts<'a>(alloc: Global, words: &'a [Bytes]) -> Result<Vec<&'a [u8]>, ReadFault>
+    ensures { Reads (λ texts. said texts.items) (texts_of words.now) result }
+{
+    let mut texts = Vec::new(alloc);
+    for word in words {
+        texts.push(behind_equals(word.as_slice())?)?;
+    }
+    Ok(texts)
+}
+
+/// The words of a server, each behind `=`.
+pub fn server_words(alloc: Global, words: &[Bytes]) -> Result<Words, ReadFault>
+    ensures { Reads (λ w. w) (server_words words.now) result }
+{
+    let texts = texts(alloc, words)?;
+    match Words::new(alloc, texts.as_slice()) {
+        Ok(words) => Ok(words),
+        Err(Errno::ENOMEM) => Err(ReadFault::Memory),
+        Err(_) => Err(ReadFault::Bad),
     }
 }

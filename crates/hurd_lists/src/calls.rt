@@ -1,11 +1,19 @@
 //! Which calls names and arguments make.
+ghost use Rattle.std.specs.Prelude.{◌≡◌, Some, option_and_then, option_map};
 ghost use Rattle.hurd_words.specs.Reading.{Reads};
-ghost use Rattle.hurd_lists.specs.Calls.{auth_makeauth, call_of, dir_link, dir_lookup, dir_mkdir, dir_mkfile, dir_rename, dir_rmdir, dir_unlink, entry, file_chmod, file_chown, file_set_size, io_identity, io_read, io_restrict_auth, io_seek, io_set_all_openmodes, io_write, lone, pair, port_receive, port_send};
+ghost use Rattle.hurd_trans_iface.specs.Meaning.{begin};
+ghost use Rattle.hurd_machine.specs.Calls.{call_by};
+ghost use Rattle.hurd_lists.specs.Arguments.{server_words};
+ghost use Rattle.hurd_lists.specs.Calls.{auth_makeauth, before_box, begun, behind_box, box_place, call_of, dir_link, dir_lookup, dir_mkdir, dir_mkfile, dir_rename, dir_rmdir, dir_unlink, entry, file_chmod, file_chown, file_set_size, file_set_translator, fsys_getroot, fsys_goaway, io_identity, io_read, io_restrict_auth, io_seek, io_set_all_openmodes, io_write, lone, pair, port_receive, port_send, server_of, setting_of, with_server};
 
-use crate::arguments::{bytes, flags, ids, long_number, mode, number, offset, task, whence};
+use crate::arguments::{
+    bytes, goaway_flags, ids, long_number, mode, number, offset, open_flags, server_words, task,
+    trans_flags, whence,
+};
 use crate::verb::Verb;
 use hurd_creds::Bytes;
-use hurd_machine::Call;
+use hurd_machine::{Call, Setting};
+use hurd_trans_iface::{Server, Words, words_ok};
 use hurd_words::fault::ReadFault;
 use std::alloc::Global;
 
@@ -42,8 +50,8 @@ fn entry(alloc: Global, args: &[Bytes]) -> Result<(u64, Bytes), ReadFault>
 }
 
 /// `PORT TASK`.
-fn port_send(args: &[Bytes]) -> Result<Call, ReadFault>
-    ensures { Reads (λ c. c) (port_send args.now) result }
+fn port_send<S: Server>(args: &[Bytes]) -> Result<Call<S>, ReadFault>
+    ensures { Reads (λ c. call_by S.meaning c) (port_send args.now) result }
 {
     let [port, to] = args else {
         return Err(ReadFault::Bad);
@@ -54,8 +62,8 @@ fn port_send(args: &[Bytes]) -> Result<Call, ReadFault>
 }
 
 /// No argument.
-fn port_receive(args: &[Bytes]) -> Result<Call, ReadFault>
-    ensures { Reads (λ c. c) (port_receive args.now) result }
+fn port_receive<S: Server>(args: &[Bytes]) -> Result<Call<S>, ReadFault>
+    ensures { Reads (λ c. call_by S.meaning c) (port_receive args.now) result }
 {
     if args.is_empty() {
         Ok(Call::PortReceive)
@@ -65,8 +73,8 @@ fn port_receive(args: &[Bytes]) -> Result<Call, ReadFault>
 }
 
 /// `UIDS GIDS`.
-fn auth_makeauth(alloc: Global, args: &[Bytes]) -> Result<Call, ReadFault>
-    ensures { Reads (λ c. c) (auth_makeauth args.now) result }
+fn auth_makeauth<S: Server>(alloc: Global, args: &[Bytes]) -> Result<Call<S>, ReadFault>
+    ensures { Reads (λ c. call_by S.meaning c) (auth_makeauth args.now) result }
 {
     let [uids, gids] = args else {
         return Err(ReadFault::Bad);
@@ -76,8 +84,8 @@ fn auth_makeauth(alloc: Global, args: &[Bytes]) -> Result<Call, ReadFault>
 }
 
 /// `PORT AMOUNT OFFSET`.
-fn io_read(args: &[Bytes]) -> Result<Call, ReadFault>
-    ensures { Reads (λ c. c) (io_read args.now) result }
+fn io_read<S: Server>(args: &[Bytes]) -> Result<Call<S>, ReadFault>
+    ensures { Reads (λ c. call_by S.meaning c) (io_read args.now) result }
 {
     let [port, amount, at] = args else {
         return Err(ReadFault::Bad);
@@ -93,8 +101,8 @@ fn io_read(args: &[Bytes]) -> Result<Call, ReadFault>
 }
 
 /// `PORT =BYTES OFFSET`.
-fn io_write(alloc: Global, args: &[Bytes]) -> Result<Call, ReadFault>
-    ensures { Reads (λ c. c) (io_write args.now) result }
+fn io_write<S: Server>(alloc: Global, args: &[Bytes]) -> Result<Call<S>, ReadFault>
+    ensures { Reads (λ c. call_by S.meaning c) (io_write args.now) result }
 {
     let [port, word, at] = args else {
         return Err(ReadFault::Bad);
@@ -110,8 +118,8 @@ fn io_write(alloc: Global, args: &[Bytes]) -> Result<Call, ReadFault>
 }
 
 /// `PORT OFFSET WHENCE`.
-fn io_seek(args: &[Bytes]) -> Result<Call, ReadFault>
-    ensures { Reads (λ c. c) (io_seek args.now) result }
+fn io_seek<S: Server>(args: &[Bytes]) -> Result<Call<S>, ReadFault>
+    ensures { Reads (λ c. call_by S.meaning c) (io_seek args.now) result }
 {
     let [port, at, from] = args else {
         return Err(ReadFault::Bad);
@@ -127,20 +135,20 @@ fn io_seek(args: &[Bytes]) -> Result<Call, ReadFault>
 }
 
 /// `PORT FLAGS`.
-fn io_set_all_openmodes(alloc: Global, args: &[Bytes]) -> Result<Call, ReadFault>
-    ensures { Reads (λ c. c) (io_set_all_openmodes args.now) result }
+fn io_set_all_openmodes<S: Server>(alloc: Global, args: &[Bytes]) -> Result<Call<S>, ReadFault>
+    ensures { Reads (λ c. call_by S.meaning c) (io_set_all_openmodes args.now) result }
 {
     let [port, names] = args else {
         return Err(ReadFault::Bad);
     };
     let port = long_number(port.as_slice())?;
-    let flags = flags(alloc, names.as_slice())?;
+    let flags = open_flags(alloc, names.as_slice())?;
     Ok(Call::IoSetAllOpenmodes { port, flags })
 }
 
 /// `PORT UIDS GIDS`.
-fn io_restrict_auth(alloc: Global, args: &[Bytes]) -> Result<Call, ReadFault>
-    ensures { Reads (λ c. c) (io_restrict_auth args.now) result }
+fn io_restrict_auth<S: Server>(alloc: Global, args: &[Bytes]) -> Result<Call<S>, ReadFault>
+    ensures { Reads (λ c. call_by S.meaning c) (io_restrict_auth args.now) result }
 {
     let [port, uids, gids] = args else {
         return Err(ReadFault::Bad);
@@ -151,8 +159,8 @@ fn io_restrict_auth(alloc: Global, args: &[Bytes]) -> Result<Call, ReadFault>
 }
 
 /// `PORT MODE`.
-fn file_chmod(args: &[Bytes]) -> Result<Call, ReadFault>
-    ensures { Reads (λ c. c) (file_chmod args.now) result }
+fn file_chmod<S: Server>(args: &[Bytes]) -> Result<Call<S>, ReadFault>
+    ensures { Reads (λ c. call_by S.meaning c) (file_chmod args.now) result }
 {
     let [port, digits] = args else {
         return Err(ReadFault::Bad);
@@ -163,8 +171,8 @@ fn file_chmod(args: &[Bytes]) -> Result<Call, ReadFault>
 }
 
 /// `PORT OWNER GROUP`.
-fn file_chown(args: &[Bytes]) -> Result<Call, ReadFault>
-    ensures { Reads (λ c. c) (file_chown args.now) result }
+fn file_chown<S: Server>(args: &[Bytes]) -> Result<Call<S>, ReadFault>
+    ensures { Reads (λ c. call_by S.meaning c) (file_chown args.now) result }
 {
     let [port, owner, group] = args else {
         return Err(ReadFault::Bad);
@@ -176,15 +184,15 @@ fn file_chown(args: &[Bytes]) -> Result<Call, ReadFault>
 }
 
 /// `DIR =PATH FLAGS MODE`.
-fn dir_lookup(alloc: Global, args: &[Bytes]) -> Result<Call, ReadFault>
-    ensures { Reads (λ c. c) (dir_lookup args.now) result }
+fn dir_lookup<S: Server>(alloc: Global, args: &[Bytes]) -> Result<Call<S>, ReadFault>
+    ensures { Reads (λ c. call_by S.meaning c) (dir_lookup args.now) result }
 {
     let [dir, word, names, digits] = args else {
         return Err(ReadFault::Bad);
     };
     let dir = long_number(dir.as_slice())?;
     let path = bytes(alloc, word.as_slice())?;
-    let flags = flags(alloc, names.as_slice())?;
+    let flags = open_flags(alloc, names.as_slice())?;
     let mode = mode(digits.as_slice())?;
     Ok(Call::DirLookup {
         dir,
@@ -195,8 +203,8 @@ fn dir_lookup(alloc: Global, args: &[Bytes]) -> Result<Call, ReadFault>
 }
 
 /// `DIR =NAME MODE`.
-fn dir_mkdir(alloc: Global, args: &[Bytes]) -> Result<Call, ReadFault>
-    ensures { Reads (λ c. c) (dir_mkdir args.now) result }
+fn dir_mkdir<S: Server>(alloc: Global, args: &[Bytes]) -> Result<Call<S>, ReadFault>
+    ensures { Reads (λ c. call_by S.meaning c) (dir_mkdir args.now) result }
 {
     let [dir, word, digits] = args else {
         return Err(ReadFault::Bad);
@@ -208,37 +216,37 @@ fn dir_mkdir(alloc: Global, args: &[Bytes]) -> Result<Call, ReadFault>
 }
 
 /// `DIR FLAGS MODE`.
-fn dir_mkfile(alloc: Global, args: &[Bytes]) -> Result<Call, ReadFault>
-    ensures { Reads (λ c. c) (dir_mkfile args.now) result }
+fn dir_mkfile<S: Server>(alloc: Global, args: &[Bytes]) -> Result<Call<S>, ReadFault>
+    ensures { Reads (λ c. call_by S.meaning c) (dir_mkfile args.now) result }
 {
     let [dir, names, digits] = args else {
         return Err(ReadFault::Bad);
     };
     let dir = long_number(dir.as_slice())?;
-    let flags = flags(alloc, names.as_slice())?;
+    let flags = open_flags(alloc, names.as_slice())?;
     let mode = mode(digits.as_slice())?;
     Ok(Call::DirMkfile { dir, flags, mode })
 }
 
 /// `DIR =NAME`, an empty directory.
-fn dir_rmdir(alloc: Global, args: &[Bytes]) -> Result<Call, ReadFault>
-    ensures { Reads (λ c. c) (dir_rmdir args.now) result }
+fn dir_rmdir<S: Server>(alloc: Global, args: &[Bytes]) -> Result<Call<S>, ReadFault>
+    ensures { Reads (λ c. call_by S.meaning c) (dir_rmdir args.now) result }
 {
     let (dir, name) = entry(alloc, args)?;
     Ok(Call::DirRmdir { dir, name })
 }
 
 /// `DIR =NAME`, a file.
-fn dir_unlink(alloc: Global, args: &[Bytes]) -> Result<Call, ReadFault>
-    ensures { Reads (λ c. c) (dir_unlink args.now) result }
+fn dir_unlink<S: Server>(alloc: Global, args: &[Bytes]) -> Result<Call<S>, ReadFault>
+    ensures { Reads (λ c. call_by S.meaning c) (dir_unlink args.now) result }
 {
     let (dir, name) = entry(alloc, args)?;
     Ok(Call::DirUnlink { dir, name })
 }
 
 /// `DIR =NAME FILEPORT`.
-fn dir_link(alloc: Global, args: &[Bytes]) -> Result<Call, ReadFault>
-    ensures { Reads (λ c. c) (dir_link args.now) result }
+fn dir_link<S: Server>(alloc: Global, args: &[Bytes]) -> Result<Call<S>, ReadFault>
+    ensures { Reads (λ c. call_by S.meaning c) (dir_link args.now) result }
 {
     let [dir, word, file] = args else {
         return Err(ReadFault::Bad);
@@ -250,8 +258,8 @@ fn dir_link(alloc: Global, args: &[Bytes]) -> Result<Call, ReadFault>
 }
 
 /// `DIR =NAME DIR2 =NEW`.
-fn dir_rename(alloc: Global, args: &[Bytes]) -> Result<Call, ReadFault>
-    ensures { Reads (λ c. c) (dir_rename args.now) result }
+fn dir_rename<S: Server>(alloc: Global, args: &[Bytes]) -> Result<Call<S>, ReadFault>
+    ensures { Reads (λ c. call_by S.meaning c) (dir_rename args.now) result }
 {
     let [dir, word, to, new] = args else {
         return Err(ReadFault::Bad);
@@ -264,24 +272,117 @@ fn dir_rename(alloc: Global, args: &[Bytes]) -> Result<Call, ReadFault>
 }
 
 /// `PORT PORT`.
-fn io_identity(args: &[Bytes]) -> Result<Call, ReadFault>
-    ensures { Reads (λ c. c) (io_identity args.now) result }
+fn io_identity<S: Server>(args: &[Bytes]) -> Result<Call<S>, ReadFault>
+    ensures { Reads (λ c. call_by S.meaning c) (io_identity args.now) result }
 {
     let (port, other) = pair(args)?;
     Ok(Call::IoIdentity { port, other })
 }
 
 /// `PORT SIZE`.
-fn file_set_size(args: &[Bytes]) -> Result<Call, ReadFault>
-    ensures { Reads (λ c. c) (file_set_size args.now) result }
+fn file_set_size<S: Server>(args: &[Bytes]) -> Result<Call<S>, ReadFault>
+    ensures { Reads (λ c. call_by S.meaning c) (file_set_size args.now) result }
 {
     let (port, size) = pair(args)?;
     Ok(Call::FileSetSize { port, size })
 }
 
-/// The call of a name with these arguments.
-pub fn call_of(alloc: Global, verb: Verb, args: &[Bytes]) -> Result<Call, ReadFault>
-    ensures { Reads (λ c. c) (call_of verb args.now) result }
+/// Where the word `box` stands first.
+fn box_place(words: &[Bytes]) -> Option<usize>
+    ensures { result ≡ box_place words.now }
+{
+    words.iter().position(|word| word.is(b"box"))
+}
+
+/// The words before `box`, or all.
+fn before_box(words: &[Bytes]) -> &[Bytes]
+    ensures { result.now ≡ before_box words.now }
+{
+    match box_place(words) {
+        Some(place) => &words[..place],
+        None => words,
+    }
+}
+
+/// The words behind `box`, where it stands.
+fn behind_box(words: &[Bytes]) -> Option<&[Bytes]>
+    ensures { option_map (λ ws. ws.now) result ≡ behind_box words.now }
+{
+    let place = box_place(words)?;
+    Some(&words[place + 1..])
+}
+
+/// What is asked for where a translator is set.
+fn setting(
+    alloc: Global,
+    passive: &[u8],
+    active: &[u8],
+    goaway: &[u8],
+) -> Result<Setting, ReadFault>
+    ensures { Reads (λ s. s) (setting_of passive.now active.now goaway.now) result }
+{
+    Ok(Setting {
+        passive: trans_flags(alloc, passive)?,
+        active: trans_flags(alloc, active)?,
+        goaway: goaway_flags(alloc, goaway)?,
+    })
+}
+
+/// `PORT PASSIVE ACTIVE GOAWAY [=WORD ..] [box =WORD ..]`, without the server of the words behind `box`.
+fn file_set_translator<S: Server>(alloc: Global, args: &[Bytes]) -> Result<Call<S>, ReadFault>
+    ensures { Reads (λ c. call_by S.meaning c) (file_set_translator args.now) result }
+{
+    let [port, passive, active, goaway, words @ ..] = args else {
+        return Err(ReadFault::Bad);
+    };
+    let port = long_number(port.as_slice())?;
+    let setting = setting(
+        alloc,
+        passive.as_slice(),
+        active.as_slice(),
+        goaway.as_slice(),
+    )?;
+    let words = server_words(alloc, before_box(words))?;
+    Ok(Call::FileSetTranslator {
+        port,
+        setting,
+        words,
+        server: None,
+    })
+}
+
+/// `CONTROL DIR FLAGS`.
+fn fsys_getroot<S: Server>(alloc: Global, args: &[Bytes]) -> Result<Call<S>, ReadFault>
+    ensures { Reads (λ c. call_by S.meaning c) (fsys_getroot args.now) result }
+{
+    let [control, dir, names] = args else {
+        return Err(ReadFault::Bad);
+    };
+    let control = long_number(control.as_slice())?;
+    let dir = long_number(dir.as_slice())?;
+    let flags = open_flags(alloc, names.as_slice())?;
+    Ok(Call::FsysGetroot {
+        control,
+        dir,
+        flags,
+    })
+}
+
+/// `CONTROL GOAWAY`.
+fn fsys_goaway<S: Server>(alloc: Global, args: &[Bytes]) -> Result<Call<S>, ReadFault>
+    ensures { Reads (λ c. call_by S.meaning c) (fsys_goaway args.now) result }
+{
+    let [control, names] = args else {
+        return Err(ReadFault::Bad);
+    };
+    let control = long_number(control.as_slice())?;
+    let flags = goaway_flags(alloc, names.as_slice())?;
+    Ok(Call::FsysGoaway { control, flags })
+}
+
+/// The call of a name with these arguments, without a server that it may bring.
+pub fn call_of<S: Server>(alloc: Global, verb: Verb, args: &[Bytes]) -> Result<Call<S>, ReadFault>
+    ensures { Reads (λ c. call_by S.meaning c) (call_of verb args.now) result }
 {
     match verb {
         Verb::PortDeallocate => Ok(Call::PortDeallocate { port: lone(args)? }),
@@ -303,6 +404,10 @@ pub fn call_of(alloc: Global, verb: Verb, args: &[Bytes]) -> Result<Call, ReadFa
         Verb::FileChown => file_chown(args),
         Verb::FileSetSize => file_set_size(args),
         Verb::FileCheckAccess => Ok(Call::FileCheckAccess { port: lone(args)? }),
+        Verb::FileSetTranslator => file_set_translator(alloc, args),
+        Verb::FileGetTranslatorCntl => Ok(Call::FileGetTranslatorCntl { port: lone(args)? }),
+        Verb::FsysGetroot => fsys_getroot(alloc, args),
+        Verb::FsysGoaway => fsys_goaway(alloc, args),
         Verb::DirLookup => dir_lookup(alloc, args),
         Verb::DirReaddir => Ok(Call::DirReaddir { port: lone(args)? }),
         Verb::DirMkdir => dir_mkdir(alloc, args),
@@ -311,5 +416,50 @@ pub fn call_of(alloc: Global, verb: Verb, args: &[Bytes]) -> Result<Call, ReadFa
         Verb::DirUnlink => dir_unlink(alloc, args),
         Verb::DirLink => dir_link(alloc, args),
         Verb::DirRename => dir_rename(alloc, args),
+    }
+}
+
+/// The words of a server, where some kind of server takes them.
+fn begun_words(alloc: Global, words: &[Bytes]) -> Result<Words, ReadFault>
+    ensures { Reads (λ w. begin w) (option_map Some (option_and_then begin (server_words words.now))) result }
+{
+    let words = server_words(alloc, words)?;
+    if words_ok(words.as_slice()) {
+        Ok(words)
+    } else {
+        Err(ReadFault::Bad)
+    }
+}
+
+/// The words of the server that a call of a name with these arguments brings, if it brings one.
+pub fn server_of(alloc: Global, verb: Verb, args: &[Bytes]) -> Result<Option<Words>, ReadFault>
+    ensures { Reads begun (server_of verb args.now) result }
+{
+    if verb != Verb::FileSetTranslator {
+        return Ok(None);
+    }
+    match behind_box(args) {
+        Some(words) => Ok(Some(begun_words(alloc, words)?)),
+        None => Ok(None),
+    }
+}
+
+/// A call with this server in the place of the one that it brings.
+pub fn with_server<S: Server>(call: Call<S>, server: Option<S>) -> Call<S>
+    ensures { result ≡ with_server server call }
+{
+    match call {
+        Call::FileSetTranslator {
+            port,
+            setting,
+            words,
+            server: _,
+        } => Call::FileSetTranslator {
+            port,
+            setting,
+            words,
+            server,
+        },
+        call => call,
     }
 }

@@ -6,7 +6,7 @@
 //! `\\` a backslash and `\xHH` the byte of two hexadecimal digits. `call_of` says which call a name and its arguments make,
 //! and `told` prints a call's line with its reply.
 //!
-//! It makes no call: that is the world's.
+//! It makes no call: that is the world's. Nor does it make the server that a call brings: it reads the words of it.
 #![tactic(auto)]
 
 mod arguments;
@@ -16,5 +16,6 @@ mod replies;
 mod verb;
 mod words;
 
+pub use calls::with_server;
 pub use reader::{CallList, ListFault, ListedCall, parse_calls};
 pub use replies::told;

@@ -5,11 +5,12 @@ ghost use Rattle.hurd_words.specs.Users.{begins_with};
 ghost use Rattle.hurd_lists.specs.Lists.{Parses, call_from, fault_at, read_from, reading_of, said_by, task_from, unsaid, with_call, with_line, with_task};
 
 use crate::arguments::{ids, task, text};
-use crate::calls::call_of;
+use crate::calls::{call_of, server_of};
 use crate::verb::verb_of;
 use crate::words::words_of;
 use hurd_creds::{Bytes, Ids, TaskId};
 use hurd_machine::Call;
+use hurd_trans_iface::{Server, Words};
 use hurd_words::fault::ReadFault;
 use hurd_words::lines::{is_skipped, skip_spaces, without_end};
 use hurd_words::words::pieces;
@@ -21,22 +22,24 @@ const MOST_BYTES: usize = 1_048_576;
 /// How many tasks there may be.
 const MOST_TASKS: usize = 64;
 
-/// A call of a list.
-#[derive(Debug, Drop)]
-pub struct ListedCall {
+/// A call of a list. It has no server in it: who makes the call makes that of the words first.
+#[derive(Drop)]
+pub struct ListedCall<S = Box<dyn Server>> {
     /// The task that makes it.
     pub task: TaskId,
-    pub call: Call,
+    pub call: Call<S>,
     /// Its line, without outer spaces.
     pub line: Bytes,
+    /// The words of the server that it brings, if it brings one.
+    pub server: Option<Words>,
 }
 
 /// A list of calls that was read.
-#[derive(Debug, Drop)]
-pub struct CallList {
+#[derive(Drop)]
+pub struct CallList<S = Box<dyn Server>> {
     /// The ids of the tasks.
     pub tasks: Vec<Ids>,
-    pub calls: Vec<ListedCall>,
+    pub calls: Vec<ListedCall<S>>,
 }
 
 /// Why a list of calls was not read.
@@ -58,10 +61,10 @@ impl From<AllocError> for ListFault {
     }
 }
 
-impl CallList {
+impl<S: Server> CallList<S> {
     /// No task, and no call.
-    fn new(alloc: Global) -> CallList
-        ensures { said_by result ≡ unsaid }
+    fn new(alloc: Global) -> CallList<S>
+        ensures { said_by S.meaning result ≡ unsaid }
     {
         CallList {
             tasks: Vec::new(alloc),
@@ -71,7 +74,7 @@ impl CallList {
 
     /// Reads a task line's words.
     fn take_task(&mut self, alloc: Global, words: &[Bytes]) -> Result<(), ReadFault>
-        ensures { Reads (λ _. said_by self.new) (with_task (said_by self.old) (task_from words.now)) result }
+        ensures { Reads (λ _. said_by S.meaning self.new) (with_task (said_by S.meaning self.old) (task_from words.now)) result }
     {
         let [_, uids, gids] = words else {
             return Err(ReadFault::Bad);
@@ -86,7 +89,7 @@ impl CallList {
 
     /// Reads a call line, of these words.
     fn take_call(&mut self, alloc: Global, line: &[u8], words: &[Bytes]) -> Result<(), ReadFault>
-        ensures { Reads (λ _. said_by self.new) (with_call (said_by self.old) (call_from line.now words.now)) result }
+        ensures { Reads (λ _. said_by S.meaning self.new) (with_call (said_by S.meaning self.old) (call_from line.now words.now)) result }
     {
         let [number, name, args @ ..] = words else {
             return Err(ReadFault::Bad);
@@ -97,13 +100,19 @@ impl CallList {
         };
         let line = Bytes::copied(alloc, without_end(skip_spaces(line)))?;
         let call = call_of(alloc, verb, args)?;
-        self.calls.push(ListedCall { task, call, line })?;
+        let server = server_of(alloc, verb, args)?;
+        self.calls.push(ListedCall {
+            task,
+            call,
+            line,
+            server,
+        })?;
         Ok(())
     }
 
     /// Reads a line.
     fn take_line(&mut self, alloc: Global, line: &[u8]) -> Result<(), ReadFault>
-        ensures { Reads (λ _. said_by self.new) (with_line (said_by self.old) line.now) result }
+        ensures { Reads (λ _. said_by S.meaning self.new) (with_line (said_by S.meaning self.old) line.now) result }
     {
         if is_skipped(line) {
             return Ok(());
@@ -128,8 +137,8 @@ fn is_task_line(words: &[Bytes]) -> bool
 }
 
 /// Reads the lines of a list.
-fn read_lines(alloc: Global, lines: &[&[u8]]) -> Result<CallList, ListFault>
-    ensures { Parses (read_from 1 unsaid (said lines.now)) result }
+fn read_lines<S: Server>(alloc: Global, lines: &[&[u8]]) -> Result<CallList<S>, ListFault>
+    ensures { Parses S.meaning (read_from 1 unsaid (said lines.now)) result }
 {
     let mut list = CallList::new(alloc);
     for (index, line) in lines.iter().enumerate() {
@@ -154,12 +163,13 @@ fn fault_at(fault: ReadFault, line: u64) -> ListFault
 /// Reads a list of calls: the ids of its tasks, and the calls.
 ///
 /// Errors: `Bad` at line 0 for a list of more than 1,048,576 bytes; else `Bad` at its first bad line, one with a byte or a
-/// backslash that no word has, a task line of another form, behind a call or one too many, or another line that is no call.
+/// backslash that no word has, a task line of another form, behind a call or one too many, another line that is
+/// no call, or words behind `box` that no kind of server takes.
 /// `Memory` where memory is refused.
 ///
 /// Limits: 64 tasks, and 32 different uids and gids each.
-pub fn parse_calls(alloc: Global, list: &[u8]) -> Result<CallList, ListFault>
-    ensures { Parses (reading_of list.now) result }
+pub fn parse_calls<S: Server>(alloc: Global, list: &[u8]) -> Result<CallList<S>, ListFault>
+    ensures { Parses S.meaning (reading_of list.now) result }
 {
     if list.len() > MOST_BYTES {
         return Err(ListFault::Bad { line: 0 });

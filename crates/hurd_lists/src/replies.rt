@@ -1,10 +1,12 @@
 //! The text of replies.
 ghost use Rattle.std.specs.Prelude.{◌≡◌, ◌<◌, ◌++◌, ◌∷◌, [], if◌then◌else◌, List, ℕ, IfOk, OnOk};
+ghost use Rattle.hurd_machine.specs.Calls.{reply_by};
 ghost use Rattle.hurd_lists.specs.Replies.{flags_text, hex_letter, high_digit, high_digits, kind_name, listed_flags, lookup_text, octal_digit, port_text, reply_text, retry_name, shown, shown_byte, shown_names, six_digits, spaced, mode_text, stat_rest, stat_text, text_if, told};
 
 use bitflags::Flags;
 use hurd_creds::{Bytes, Kind, Mode, OpenFlags, Stat};
 use hurd_machine::{Lookup, Reply, RetryKind};
+use hurd_trans_iface::Server;
 use itoa::Buffer;
 use std::alloc::{AllocError, Global};
 
@@ -262,8 +264,8 @@ fn push_lookup(text: &mut Vec<u8>, found: &Lookup) -> Result<(), AllocError>
 }
 
 /// Prints a reply.
-fn push_reply(text: &mut Vec<u8>, reply: &Reply) -> Result<(), AllocError>
-    ensures { OnOk result (text.new.items ≡ text.old.items ++ reply_text reply.now) }
+fn push_reply<S: Server>(text: &mut Vec<u8>, reply: &Reply<S>) -> Result<(), AllocError>
+    ensures { OnOk result (text.new.items ≡ text.old.items ++ reply_text (reply_by S.meaning reply.now)) }
 {
     match reply {
         Reply::Done => text.extend_from_slice(b"Done"),
@@ -298,12 +300,16 @@ fn push_reply(text: &mut Vec<u8>, reply: &Reply) -> Result<(), AllocError>
             text.extend_from_slice(b"Refused ")?;
             text.extend_from_slice(errno.name().as_bytes())
         }
+        Reply::Back(errno, _) => {
+            text.extend_from_slice(b"Back ")?;
+            text.extend_from_slice(errno.name().as_bytes())
+        }
     }
 }
 
-/// A call's line, and on the next its reply, behind two spaces.
-pub fn told(alloc: Global, line: &[u8], reply: &Reply) -> Result<Bytes, AllocError>
-    ensures { IfOk result (λ text. text ≡ told line.now reply.now) }
+/// A call's line, and on the next its reply, behind two spaces. Of a box that comes back nothing is printed.
+pub fn told<S: Server>(alloc: Global, line: &[u8], reply: &Reply<S>) -> Result<Bytes, AllocError>
+    ensures { IfOk result (λ text. text ≡ told line.now (reply_by S.meaning reply.now)) }
 {
     let mut text = Vec::from_slice(alloc, line)?;
     text.extend_from_slice(b"\n  ")?;

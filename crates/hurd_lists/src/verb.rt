@@ -1,6 +1,6 @@
 //! What calls are named.
 ghost use Rattle.std.specs.Prelude.{◌≡◌};
-ghost use Rattle.hurd_lists.specs.Verbs.{dir_verb, file_verb, io_verb, port_verb, share_verb, verb_of};
+ghost use Rattle.hurd_lists.specs.Verbs.{dir_verb, file_verb, fsys_verb, io_verb, port_verb, share_verb, verb_of};
 
 use hurd_words::words::is;
 
@@ -26,6 +26,10 @@ pub enum Verb {
     FileChown,
     FileSetSize,
     FileCheckAccess,
+    FileSetTranslator,
+    FileGetTranslatorCntl,
+    FsysGetroot,
+    FsysGoaway,
     DirLookup,
     DirReaddir,
     DirMkdir,
@@ -93,7 +97,7 @@ fn share_verb(name: &str) -> Option<Verb>
     }
 }
 
-/// A call on the attributes of a node.
+/// A call on the attributes of a node, or on its translators.
 fn file_verb(name: &str) -> Option<Verb>
     ensures { result ≡ file_verb name.now }
 {
@@ -105,6 +109,23 @@ fn file_verb(name: &str) -> Option<Verb>
         Some(Verb::FileSetSize)
     } else if is(name, "file_check_access") {
         Some(Verb::FileCheckAccess)
+    } else if is(name, "file_set_translator") {
+        Some(Verb::FileSetTranslator)
+    } else if is(name, "file_get_translator_cntl") {
+        Some(Verb::FileGetTranslatorCntl)
+    } else {
+        None
+    }
+}
+
+/// A call on a server.
+fn fsys_verb(name: &str) -> Option<Verb>
+    ensures { result ≡ fsys_verb name.now }
+{
+    if is(name, "fsys_getroot") {
+        Some(Verb::FsysGetroot)
+    } else if is(name, "fsys_goaway") {
+        Some(Verb::FsysGoaway)
     } else {
         None
     }
@@ -143,5 +164,6 @@ pub fn verb_of(name: &str) -> Option<Verb>
         .or(io_verb(name))
         .or(share_verb(name))
         .or(file_verb(name))
+        .or(fsys_verb(name))
         .or(dir_verb(name))
 }

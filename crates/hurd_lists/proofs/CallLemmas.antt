@@ -1,0 +1,85 @@
+-- Calls, and the servers that they bring.
+use Rattle.std.proofs.Common.{◌≡◌, ℕ, List, Option, Some, None, refl}
+use Rattle.std.specs.Prelude.{IfSome}
+use Rattle.std.specs.Option.{option_map}
+use Rattle.hurd_trans_iface.specs.Meaning.{Meaning, Begins, begin}
+use Rattle.hurd_machine.specs.declared.call.Call as call
+use Rattle.hurd_machine.specs.declared.call.Call.TheVariants.{PortDeallocate, PortSend, PortReceive, AuthMakeauth, DirLookup, IoRead, IoWrite, IoSeek, IoStat, IoReadable, IoGetOpenmodes, IoSetAllOpenmodes, IoDuplicate, IoReauthenticate, IoRestrictAuth, IoIdentity, FileSetSize, FileChmod, FileChown, FileCheckAccess, FileSetTranslator, FileGetTranslatorCntl, FsysGetroot, FsysGoaway, DirReaddir, DirMkdir, DirMkfile, DirRmdir, DirUnlink, DirLink, DirRename}
+use Rattle.hurd_machine.specs.Calls.{BringsBegun, Call, call_by}
+use Rattle.hurd_lists.specs.Calls.{begun, with_server}
+
+-- what a call with another server means
+pub served_by : {S : Type 0} (f : S → Meaning) (s : Option S) (c : call.Call S) → call_by f (with_server s c) ≡ with_server (option_map f s) (call_by f c)
+served_by f s (PortDeallocate p) = refl
+served_by f s (PortSend p t) = refl
+served_by f s PortReceive = refl
+served_by f s (AuthMakeauth ids) = refl
+served_by f s (DirLookup p path flags mode) = refl
+served_by f s (IoRead p amount offset) = refl
+served_by f s (IoWrite p bytes offset) = refl
+served_by f s (IoSeek p offset whence) = refl
+served_by f s (IoStat p) = refl
+served_by f s (IoReadable p) = refl
+served_by f s (IoGetOpenmodes p) = refl
+served_by f s (IoSetAllOpenmodes p flags) = refl
+served_by f s (IoDuplicate p) = refl
+served_by f s (IoReauthenticate p) = refl
+served_by f s (IoRestrictAuth p ids) = refl
+served_by f s (IoIdentity p q) = refl
+served_by f s (FileSetSize p size) = refl
+served_by f s (FileChmod p mode) = refl
+served_by f s (FileChown p owner group) = refl
+served_by f s (FileCheckAccess p) = refl
+served_by f s (FileSetTranslator p setting words server) = refl
+served_by f s (FileGetTranslatorCntl p) = refl
+served_by f s (FsysGetroot k dir flags) = refl
+served_by f s (FsysGoaway k flags) = refl
+served_by f s (DirReaddir p) = refl
+served_by f s (DirMkdir p name mode) = refl
+served_by f s (DirMkfile p flags mode) = refl
+served_by f s (DirRmdir p name) = refl
+served_by f s (DirUnlink p name) = refl
+served_by f s (DirLink p name q) = refl
+served_by f s (DirRename p name q new) = refl
+
+begun_by : (words : List (List ℕ)) (m : Option Meaning) → begin words ≡ m → IfSome m Begins
+begun_by words None e = tt
+begun_by words (Some m) e = (words, e)
+
+are_begun : (words : Option (List (List ℕ))) → IfSome (begun words) Begins
+are_begun None = tt
+are_begun (Some words) = begun_by words (begin words) refl
+
+-- the server of some words is one that words made
+pub brings_begun : (words : Option (List (List ℕ))) (c : Call) → BringsBegun (with_server (begun words) c)
+brings_begun words (PortDeallocate p) = tt
+brings_begun words (PortSend p t) = tt
+brings_begun words PortReceive = tt
+brings_begun words (AuthMakeauth ids) = tt
+brings_begun words (DirLookup p path flags mode) = tt
+brings_begun words (IoRead p amount offset) = tt
+brings_begun words (IoWrite p bytes offset) = tt
+brings_begun words (IoSeek p offset whence) = tt
+brings_begun words (IoStat p) = tt
+brings_begun words (IoReadable p) = tt
+brings_begun words (IoGetOpenmodes p) = tt
+brings_begun words (IoSetAllOpenmodes p flags) = tt
+brings_begun words (IoDuplicate p) = tt
+brings_begun words (IoReauthenticate p) = tt
+brings_begun words (IoRestrictAuth p ids) = tt
+brings_begun words (IoIdentity p q) = tt
+brings_begun words (FileSetSize p size) = tt
+brings_begun words (FileChmod p mode) = tt
+brings_begun words (FileChown p owner group) = tt
+brings_begun words (FileCheckAccess p) = tt
+brings_begun words (FileSetTranslator p setting others server) = are_begun words
+brings_begun words (FileGetTranslatorCntl p) = tt
+brings_begun words (FsysGetroot k dir flags) = tt
+brings_begun words (FsysGoaway k flags) = tt
+brings_begun words (DirReaddir p) = tt
+brings_begun words (DirMkdir p name mode) = tt
+brings_begun words (DirMkfile p flags mode) = tt
+brings_begun words (DirRmdir p name) = tt
+brings_begun words (DirUnlink p name) = tt
+brings_begun words (DirLink p name q) = tt
+brings_begun words (DirRename p name q new) = tt

@@ -1,0 +1,107 @@
+//! Which words make a server.
+ghost use Rattle.std.specs.Prelude.{◌≡◌, codes, is_some};
+ghost use Rattle.hurd_trans_iface.specs.HelloKind.{behind, hello_text};
+ghost use Rattle.hurd_trans_iface.specs.Meaning.{Tmpfs, Hello, Null, Zero, Symlink, begin, begin_as};
+ghost use Rattle.hurd_trans_iface.specs.SymlinkKind.{target_text};
+ghost use Rattle.hurd_trans_iface.specs.TmpfsKind.{no_text};
+
+use hurd_creds::Bytes;
+
+/// The most bytes of a path.
+const MOST_PATH: usize = 1024;
+
+/// Whether there are no words behind a program's name.
+fn says_nothing(arguments: &[Bytes]) -> bool
+    ensures { result ≡ is_some (no_text arguments.now) }
+{
+    arguments.is_empty()
+}
+
+/// Whether these words make a tree in memory: `/hurd/tmpfs` alone.
+fn makes_tmpfs(words: &[Bytes]) -> bool
+    ensures { result ≡ is_some (begin_as Tmpfs words.now) }
+{
+    match words {
+        [program, arguments @ ..] => program.is(b"/hurd/tmpfs") && says_nothing(arguments),
+        [] => false,
+    }
+}
+
+/// Whether these words make a stream without bytes: `/hurd/null` alone.
+fn makes_null(words: &[Bytes]) -> bool
+    ensures { result ≡ is_some (begin_as Null words.now) }
+{
+    match words {
+        [program, arguments @ ..] => program.is(b"/hurd/null") && says_nothing(arguments),
+        [] => false,
+    }
+}
+
+/// Whether these words make a stream of zero bytes: `/hurd/zero` alone.
+fn makes_zero(words: &[Bytes]) -> bool
+    ensures { result ≡ is_some (begin_as Zero words.now) }
+{
+    match words {
+        [program, arguments @ ..] => program.is(b"/hurd/zero") && says_nothing(arguments),
+        [] => false,
+    }
+}
+
+/// Whether a word begins with `--contents=`.
+fn has_contents(word: &[u8]) -> bool
+    ensures { result ≡ is_some (behind (codes "--contents=") word.now) }
+{
+    word.starts_with(b"--contents=")
+}
+
+/// Whether the words behind `/hurd/hello` make a file: none, or one `--contents=` with a text behind it.
+fn says_contents(arguments: &[Bytes]) -> bool
+    ensures { result ≡ is_some (hello_text arguments.now) }
+{
+    match arguments {
+        [] => true,
+        [word] => has_contents(word.as_slice()),
+        _ => false,
+    }
+}
+
+/// Whether these words make a file that gives a text.
+fn makes_hello(words: &[Bytes]) -> bool
+    ensures { result ≡ is_some (begin_as Hello words.now) }
+{
+    match words {
+        [program, arguments @ ..] => program.is(b"/hurd/hello") && says_contents(arguments),
+        [] => false,
+    }
+}
+
+/// Whether the words behind `/hurd/symlink` make a link: one path of 1 to 1,024 bytes.
+fn says_path(arguments: &[Bytes]) -> bool
+    ensures { result ≡ is_some (target_text arguments.now) }
+{
+    match arguments {
+        [path] => !path.is_empty() && path.len() <= MOST_PATH,
+        _ => false,
+    }
+}
+
+/// Whether these words make a link.
+fn makes_symlink(words: &[Bytes]) -> bool
+    ensures { result ≡ is_some (begin_as Symlink words.now) }
+{
+    match words {
+        [program, arguments @ ..] => program.is(b"/hurd/symlink") && says_path(arguments),
+        [] => false,
+    }
+}
+
+/// Whether some kind of server takes these words.
+pub fn words_ok(words: &[Bytes]) -> bool
+    ensures { result ≡ is_some (begin words.now) }
+{
+    makes_tmpfs(words)
+        || makes_hello(words)
+        || makes_null(words)
+        || makes_zero(words)
+        || makes_symlink(words)
+}
