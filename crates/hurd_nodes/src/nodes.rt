@@ -8,7 +8,7 @@ ghost use Rattle.hurd_trans_iface.specs.Nodes.{Node, attrs_of, header_of, body_o
 ghost use Rattle.hurd_trans_iface.specs.Answers.{entry_of, names_of, is_file, is_made, make_of, link_of, rename_of, set_attrs_of};
 ghost use Rattle.hurd_trans_iface.specs.Behaviour.{reading, writing, resizing};
 ghost use Rattle.hurd_nodes.specs.Shown.{ServerInfo, attached, begun_info, begun_root, boot_name, out_node, out_server, without_active, without_old, without_server, server_of, shown, state_of, header_in, booted, is_root, asked_step, can_make, make_at, are_kin, can_link, link_at, can_set_attrs, set_attrs_at, readable_at, tree_by, HideNothing, forgotten, unlink_at, can_rename, rename_at, make_nameless_at, nameless_in, can_make_nameless};
-ghost use Rattle.hurd_trans_iface.specs.Meaning.{Begins, keeps_tree};
+ghost use Rattle.hurd_trans_iface.specs.Meaning.{Begins, keeps_tree, root_of};
 ghost use Rattle.hurd_nodes.specs.Held.{box_by, holds_of, homes_of, less_one, mean, seats_of, users_in, with_holds, with_seats};
 ghost use Rattle.hurd_nodes.specs.Settle.{is_entered, is_entered_at, node_stays, outside_of, server_stays, settle, sweep};
 ghost use Rattle.hurd_nodes.specs.Parts.{TakesOut};
@@ -20,7 +20,7 @@ use crate::search::{
 use crate::seat::{Hold, Home, Place, Seat};
 use bitflags::Flags;
 use hurd_creds::{Attrs, Bytes, Errno, Ids, Kind, Mode, Name, NodeName, ServerName, TaskId};
-use hurd_trans_iface::{Crossing, Names, NewNode, Readable, Server};
+use hurd_trans_iface::{Crossing, Names, NewNode, Readable, Root, Server};
 use std::alloc::{AllocError, Global};
 use std::marker::Model;
 
@@ -264,6 +264,16 @@ impl<S: Server> Nodes<S> {
         match self.server_of(node) {
             Some(server) => has_tree(server),
             None => false,
+        }
+    }
+
+    /// What the root of a node's server is, if the node has a server.
+    pub fn root(&self, node: NodeName) -> Option<Root>
+        ensures { result ≡ option_map (λ (i : ServerInfo). root_of i.kind i.text) (server_of (shown S.meaning self.now) node) }
+    {
+        match self.server_of(node) {
+            Some(server) => Some(server.root()),
+            None => None,
         }
     }
 
