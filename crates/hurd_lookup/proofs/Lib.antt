@@ -1,7 +1,2 @@
-pub mod WalkLaws
-pub mod EndLaws
-pub mod OutcomeLaws
-pub mod LookupLaws
 pub mod PathLaws
-pub mod StepLaws
-pub mod DoneLaws
+pub mod RoomLaws
