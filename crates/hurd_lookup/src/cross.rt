@@ -1,10 +1,11 @@
 //! Crossing the servers that are active on nodes.
-ghost use Rattle.std.specs.Prelude.{◌≡◌};
+ghost use Rattle.std.specs.Prelude.{◌≡◌, ◌&&◌};
+ghost use Rattle.hurd_creds.specs.Bits.{NOLINK, asks};
 ghost use Rattle.hurd_machine.specs.World.{World};
 ghost use Rattle.hurd_ports.specs.declared.table.IoRight.{IoRight};
 ghost use Rattle.hurd_core.specs.Core.{world_of};
 ghost use Rattle.hurd_lookup.specs.Path.{names_in};
-ghost use Rattle.hurd_lookup.specs.Lookup.{cross, enter, follow, root_on, to_cross};
+ghost use Rattle.hurd_lookup.specs.Lookup.{cross, enter, follow, is_last, root_on, to_cross};
 ghost use Rattle.hurd_lookup.specs.Ends.{CanGo, Finds, IsLink, place_of, right_by, text_at};
 
 use crate::authority::Authority;
@@ -100,10 +101,18 @@ fn follow<'a>(
     }))
 }
 
+/// Whether a link is not followed: it is the last node, and `NOLINK` is set.
+fn is_final(request: Request, rest: &[u8]) -> bool
+    ensures { result ≡ (is_last (names_in rest.now) && asks request.flags NOLINK) }
+{
+    is_last(rest) && request.flags.asks(OpenFlags::NOLINK)
+}
+
 /// Across the root of a server that is active on a node of this directory: a link leads on, unless it is the last and
 /// `NOLINK` is set, and any other is entered.
 ///
-/// Errors, in order: `EDIED` the root is gone, `ENAMETOOLONG` those of `follow`, `ELOOP` those of `enter`.
+/// Errors, in order: `EDIED` the root is gone, `ENAMETOOLONG` along a link, `ELOOP` into any other.
+#[tactic(auto, unfolding(hurd_machine::specs::Plan::on, hurd_machine::specs::Plan::first))]
 pub(crate) fn cross<'a, S: Server>(
     core: &Core<S>,
     authority: Authority,
@@ -121,12 +130,14 @@ pub(crate) fn cross<'a, S: Server>(
     let Some(served) = core.root(root) else {
         return Err(Errno::EDIED);
     };
-    let Crossing::Link { absolute } = served.crossing else {
-        return enter(authority, request, dir, root, rest);
-    };
-    if is_last(rest) && request.flags.asks(OpenFlags::NOLINK) {
-        return enter(authority, request, dir, root, rest);
+    match served.crossing {
+        Crossing::Plain => enter(authority, request, dir, root, rest),
+        Crossing::Link { absolute } => {
+            if is_final(request, rest) {
+                return enter(authority, request, dir, root, rest);
+            }
+            let length = core.readable(root, 0);
+            follow(absolute, request, dir, Link { root, length }, rest)
+        }
     }
-    let length = core.readable(root, 0);
-    follow(absolute, request, dir, Link { root, length }, rest)
 }
