@@ -6,7 +6,7 @@ ghost use Rattle.hurd_creds.specs.Memory.{Meets};
 ghost use Rattle.hurd_trans_iface.specs.Nodes.{attrs_of, linked, with_attrs, with_entry};
 ghost use Rattle.hurd_trans_iface.specs.Answers.{entry_of, names_of};
 ghost use Rattle.hurd_trans_iface.specs.Behaviour.{edits_of, reading, writing, resizing};
-ghost use Rattle.hurd_trans_iface.specs.Meaning.{Begins};
+ghost use Rattle.hurd_trans_iface.specs.Meaning.{Begins, root_of};
 ghost use Rattle.hurd_nodes.specs.Shown.{ServerInfo, are_kin, shown, header_in, tree_by};
 ghost use Rattle.hurd_ports.specs.Tables.{ids_at, io_right_of, lent, right_of, room_of, task_of};
 ghost use Rattle.hurd_ports.specs.Steps.{appending, at_cursor, received, with_ids, with_port};
@@ -30,7 +30,7 @@ use hurd_creds::{
 use hurd_machine::Handle;
 use hurd_nodes::Nodes;
 use hurd_ports::{IoRight, Parents, Ports, Right};
-use hurd_trans_iface::{Names, NewNode, Server};
+use hurd_trans_iface::{Names, NewNode, Root, Server};
 use std::alloc::Global;
 use std::marker::Model;
 
@@ -228,6 +228,13 @@ impl<S: Server> Core<S> {
         ensures { result ≡ tree_by (info_at (world_of S.meaning self.now) node) }
     {
         self.nodes.keeps_tree(node)
+    }
+
+    /// What the root of a node's server is, if the node has a server.
+    pub fn root(&self, node: NodeName) -> Option<Root>
+        ensures { result ≡ option_map (λ (i : ServerInfo). root_of i.kind i.text) (info_at (world_of S.meaning self.now) node) }
+    {
+        self.nodes.root(node)
     }
 
     /// Whether a directory of these attributes is removed: it has no parent, and is no server's root.

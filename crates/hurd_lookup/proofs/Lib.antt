@@ -5,5 +5,5 @@ pub mod FoundLaws
 pub mod LookupLaws
 pub mod GetrootLaws
 pub mod PathLaws
-pub mod StepLaws
-pub mod DoneLaws
+pub mod RoomLaws
+pub mod RestLaws

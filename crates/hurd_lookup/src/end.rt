@@ -1,34 +1,31 @@
 //! What is to be done at the end of the names.
-ghost use Rattle.std.specs.Prelude.{◌≡◌};
+ghost use Rattle.std.specs.Prelude.{◌≡◌, List};
 ghost use Rattle.hurd_nodes.specs.Shown.{header_in};
+ghost use Rattle.hurd_ports.specs.declared.parents.Parent.{Parent};
 ghost use Rattle.hurd_trans_iface.specs.Nodes.{is_dir};
+ghost use Rattle.hurd_machine.specs.World.{info_at};
 ghost use Rattle.hurd_core.specs.Core.{world_of};
-ghost use Rattle.hurd_lookup.specs.Lookup.{may_open, open_asks, make_asks, end_asks, names_taken};
-ghost use Rattle.hurd_lookup.specs.Ends.{place_of, outcome_of, ended};
+ghost use Rattle.hurd_lookup.specs.Lookup.{end_asks, is_text, make_asks, may_open, only_reads, open_asks};
+ghost use Rattle.hurd_lookup.specs.Ends.{CanEnd, CanGo, Finds, opened, outcome_of, place_of, right_by};
 
+use crate::authority::Authority;
 use crate::request::Request;
+use crate::retry::Retry;
 use crate::walk::Place;
 use hurd_core::{Core, NodeToMake};
 use hurd_creds::{Attrs, Errno, Ids, Kind, NodeName, OpenFlags, ServerName, Want};
+use hurd_ports::Parent;
 use hurd_trans_iface::Server;
 
-/// What is to be done: a node is opened, or a file is made by a server, and opened.
+/// What is to be done at the end of the names.
 #[derive(Clone, Copy, Debug)]
 pub(crate) enum Outcome<'a> {
-    Opens(NodeName),
+    /// A node is opened: of a server that was entered by a way, if one was.
+    Opens(NodeName, Option<Parent>),
+    /// A file is made by a server, and opened.
     Makes(ServerName, NodeToMake<'a>),
-}
-
-impl Outcome<'_> {
-    /// How many things it names: an open, or a node and its open.
-    pub(crate) fn names(&self) -> u64
-        ensures { result ≡ names_taken (outcome_of self.now) }
-    {
-        match self {
-            Outcome::Opens(_) => 1,
-            Outcome::Makes(_, _) => 2,
-        }
-    }
+    /// A name is looked up elsewhere.
+    Retries(Retry<'a>),
 }
 
 /// Whether the ids may do what the flags ask for.
@@ -50,17 +47,39 @@ fn is_dir(kind: Kind) -> bool
     }
 }
 
+/// Whether a server only gives its text: its root is a file or a link.
+fn is_text(kind: Kind) -> bool
+    ensures { result ≡ is_text kind }
+{
+    match kind {
+        Kind::File | Kind::Link => true,
+        Kind::Dir | Kind::Fifo | Kind::Char => false,
+    }
+}
+
+/// Whether the server of a node, if it has one, only gives its text.
+fn only_reads<S: Server>(core: &Core<S>, node: NodeName) -> bool
+    ensures { let w = world_of S.meaning core.now in result ≡ only_reads (info_at w node) }
+{
+    match core.root(node) {
+        Some(root) => is_text(root.kind),
+        None => false,
+    }
+}
+
 /// Whether the node at the end of the names may be opened.
 ///
-/// Errors, in order: `EDIED` no such node, `ENOTDIR` a directory is wanted, `EISDIR` to write a directory, `EACCES`.
+/// Errors, in order: `EDIED` no such node, `ENOTDIR` a directory is wanted, `EISDIR` to write a directory, `EROFS` to write
+/// a node of a server that only gives its text, `EACCES`.
 #[tactic(auto, unfolding(hurd_machine::specs::Plan::on, hurd_machine::specs::Plan::given))]
-fn open_asked<'a, S: Server>(
+fn open_asked<S: Server>(
     core: &Core<S>,
     ids: &Ids,
     request: Request,
     node: NodeName,
-) -> Result<Outcome<'a>, Errno>
-    ensures { ended result ≡ open_asks (world_of S.meaning core.now) ids.now request node }
+) -> Result<(), Errno>
+    ensures { (ways : List Parent) → open_asks (world_of S.meaning core.now) ids.now request node ways
+        ≡ opened (record { node = node; ids = ids.now; parents = ways }) result }
 {
     let Some(attrs) = core.attrs(node) else {
         return Err(Errno::EDIED);
@@ -69,13 +88,17 @@ fn open_asked<'a, S: Server>(
     if request.wants_dir && !is_dir {
         return Err(Errno::ENOTDIR);
     }
-    if is_dir && request.flags.asks(OpenFlags::WRITE) {
+    let writes = request.flags.asks(OpenFlags::WRITE);
+    if is_dir && writes {
         return Err(Errno::EISDIR);
+    }
+    if writes && only_reads(core, node) {
+        return Err(Errno::EROFS);
     }
     if !may_open(ids, &attrs, request.flags) {
         return Err(Errno::EACCES);
     }
-    Ok(Outcome::Opens(node))
+    Ok(())
 }
 
 /// Whether these ids may make a file in a directory under a name, and whose it is then: the least uid's.
@@ -85,21 +108,22 @@ fn open_asked<'a, S: Server>(
 #[tactic(auto, unfolding(hurd_machine::specs::Plan::on, hurd_machine::specs::Plan::given, hurd_machine::specs::Plan::first))]
 fn make_asked<'a, S: Server>(
     core: &Core<S>,
-    ids: &Ids,
+    authority: Authority,
     request: Request,
     dir: NodeName,
     name: &'a [u8],
 ) -> Result<Outcome<'a>, Errno>
-    ensures { ended result ≡ make_asks (world_of S.meaning core.now) ids.now request dir name.entry.now }
+    ensures { let w = world_of S.meaning core.now in let q = right_by authority.entry in
+        Finds (outcome_of w q) (CanEnd w q) (make_asks w q request dir name.entry.now) result }
 {
     core.can_make(dir, name, Kind::File)?;
     let Some(attrs) = core.attrs(dir) else {
         return Err(Errno::EDIED);
     };
-    if !ids.may(&attrs, Want::Write) {
+    if !authority.ids.may(&attrs, Want::Write) {
         return Err(Errno::EACCES);
     }
-    let Some(owner) = ids.least_uid() else {
+    let Some(owner) = authority.ids.least_uid() else {
         return Err(Errno::EACCES);
     };
     if core.is_removed(dir, &attrs) {
@@ -123,14 +147,20 @@ fn make_asked<'a, S: Server>(
 /// Errors: those of `open_asked`, or of `make_asked`.
 pub(crate) fn end_asked<'a, S: Server>(
     core: &Core<S>,
-    ids: &Ids,
+    authority: Authority,
     request: Request,
     place: Place<'a>,
 ) -> Result<Outcome<'a>, Errno>
-    ensures { ended result ≡ end_asks (world_of S.meaning core.now) ids.now request (place_of place.entry) }
+    requires { CanGo (world_of S.meaning core.now) (right_by authority) place }
+    ensures { let w = world_of S.meaning core.now in let q = right_by authority.entry in
+        Finds (outcome_of w q) (CanEnd w q) (end_asks w q request (place_of w q place.entry)) result }
 {
     match place {
-        Place::AtNode(node) => open_asked(core, ids, request, node),
-        Place::AtName(dir, name) => make_asked(core, ids, request, dir, name),
+        Place::AtNode(node, entered) => {
+            open_asked(core, authority.ids, request, node)?;
+            Ok(Outcome::Opens(node, entered))
+        }
+        Place::AtName(dir, name) => make_asked(core, authority, request, dir, name),
+        Place::Elsewhere(retry) => Ok(Outcome::Retries(retry)),
     }
 }

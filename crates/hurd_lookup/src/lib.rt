@@ -1,14 +1,21 @@
 //! Looking a path up, one lookup at a time.
 //!
 //! `dir_lookup` goes from a directory along the names of a path, asks at each directory whether the port's ids may
-//! search it, and opens what it comes to, or makes a file. What it answers and changes is `plan_lookup` of
-//! `specs/Lookup`.
+//! search it, and opens what it comes to, or makes a file. Across servers that are active on nodes, along links and back it tells
+//! a retry. What it answers and changes is `plan_lookup` of `specs/Lookup`. `fsys_getroot` opens the root of a server that a port
+//! controls, as where that is crossed.
 //!
-//! It follows no retries: that is the client's loop.
+//! They follow no retries: that is the client's loop.
 #![tactic(auto)]
 
+mod authority;
+mod cross;
 mod end;
+mod found;
+pub mod getroot;
 pub mod lookup;
 mod path;
 mod request;
+mod rest;
+mod retry;
 mod walk;

@@ -4,26 +4,19 @@ ghost use Rattle.hurd_machine.specs.Plan.{Planned};
 ghost use Rattle.hurd_machine.specs.declared.call.Reply.TheVariants.{Found};
 ghost use Rattle.hurd_core.specs.Core.{world_of};
 ghost use Rattle.hurd_lookup.specs.Lookup.{found_asks, plan_lookup};
-ghost use Rattle.hurd_lookup.specs.Ends.{looked};
+ghost use Rattle.hurd_lookup.specs.Ends.{CanBe, Finds, found_of};
 
-use crate::end::{Outcome, end_asked};
+use crate::authority::Authority;
+use crate::end::end_asked;
+use crate::found::FoundAt;
 use crate::path;
 use crate::request::Request;
 use crate::walk::walk;
 use hurd_core::Core;
-use hurd_creds::{Errno, Ids, Mode, OpenFlags, TaskId};
+use hurd_creds::{Errno, Mode, OpenFlags, TaskId};
 use hurd_machine::Lookup;
-use hurd_ports::{IoRight, Parents};
 use hurd_trans_iface::Server;
 use std::alloc::Global;
-
-/// What a lookup is to do, by which ids, and come in by which ways: those of the port that it begins at.
-#[derive(Clone, Copy, Debug)]
-pub(crate) struct FoundAt<'a, 'p> {
-    pub(crate) ids: &'a Ids,
-    pub(crate) parents: &'a Parents,
-    pub(crate) outcome: Outcome<'p>,
-}
 
 /// Goes from the node of a port along a path to its end. Takes no memory.
 ///
@@ -36,37 +29,46 @@ fn found_asked<'a, 'p, S: Server>(
     path: &'p [u8],
     request: Request,
 ) -> Result<FoundAt<'a, 'p>, Errno>
-    ensures { looked result ≡ found_asks (world_of S.meaning core.entry.now) task.0 dir path.entry.now request }
+    ensures { let w = world_of S.meaning core.entry.now in
+        Finds (found_of w) (CanBe w) (found_asks w task.0 dir path.entry.now request) result }
 {
     let right = core.io_right(task, dir)?;
-    let Some(_attrs) = core.attrs(right.node) else {
+    if core.attrs(right.node).is_none() {
         return Err(Errno::EDIED);
-    };
+    }
     if !path::is_short(path) {
         return Err(Errno::ENAMETOOLONG);
     }
-    let IoRight { ids, parents, .. } = right;
-    let place = walk(core, ids, request, right.node, path)?;
-    let outcome = end_asked(core, ids, request, place)?;
-    Ok(FoundAt {
-        ids,
-        parents,
-        outcome,
-    })
+    let authority = Authority {
+        right,
+        ids: &right.ids,
+    };
+    let place = walk(core, authority, request, right.node, path)?;
+    let outcome = end_asked(core, authority, request, place)?;
+    Ok(FoundAt { authority, outcome })
 }
 
-/// Looks a path up from a directory that a port names, and opens what it comes to, or makes a file there (GNU Hurd
-/// Reference Manual, Files; `fs.defs`).
+/// Looks a path up from a directory that a port names, and opens what it comes to, or makes a file there; or tells which name is
+/// left, and where that is looked up (GNU Hurd Reference Manual, Files and Translators; `fs.defs`).
 ///
 /// The names are the parts between slashes, but empty ones; a path has at most 1,024 bytes, a name 255. A file that is
 /// made belongs to the least uid, and to its directory's group; it is opened without a test of its mode.
 ///
-/// Errors, in order: `ESRCH` no such task, `EBADF` no such port, `EDIED` no such node, `ENAMETOOLONG`. Then at each name
-/// `EDIED`, `ENOTDIR` no directory, `EACCES` the ids may not search it, `ENOENT` no such entry, and it is not to be made,
-/// or `..` in a removed directory. Then of a node that is there `EEXIST` with `CREATE` and `EXCL`, `EDIED`, `ENOTDIR` a
-/// directory is asked for, `EISDIR` to write a directory, `EACCES`; of one to be made `EROFS` a server that keeps no
-/// tree, `EACCES` the ids may not write the directory, or have no uids, `ENOENT` a removed directory. Last `EOVERFLOW`
-/// and `ENOMEM`. A refused call changes nothing.
+/// A server that is active on a node is crossed, unless the node is the last and `NOTRANS` is set. At its root the last node is
+/// opened, and more names are left for a retry at the root, with the port's ids. At a link, unless it is the last and `NOLINK` is
+/// set, the link's text is left, with the names that follow: for a retry at the link's directory, without ids, or from the root of
+/// the tree. `..` at the root by which the port came into a server is left for a retry at the directory from which it came, without
+/// ids.
+///
+/// Errors, in order: `ESRCH` no such task, `EBADF` no such port, or one that controls a server, `EDIED` no such node,
+/// `ENAMETOOLONG`. Then at each name `EDIED`, `ENOTDIR` no directory, `EACCES` the ids may not search it, `EDIED` the directory is
+/// gone to which `..` goes back, `ENOENT` no such entry, and it is not to be made, or `..` in a removed directory; of the last one
+/// with a server to be crossed `EEXIST` with `CREATE` and `EXCL`; at a crossing `EDIED`, `ENAMETOOLONG` a link's text with the names
+/// that follow is longer than a path, `ELOOP` the port came in by 64 ways. Then of a node that is there `EEXIST` with `CREATE` and
+/// `EXCL`, `EDIED`, `ENOTDIR` a directory is asked for, `EISDIR` to write a directory, `EROFS` to write a node of a server that only
+/// gives its text, `EACCES`; of one to be made `EROFS` a server that keeps no tree, `EACCES` the ids may not write the directory, or
+/// have no uids, `ENOENT` a removed directory. Last `EOVERFLOW`, unless it makes no port, and `ENOMEM`. A refused call changes
+/// nothing.
 pub fn dir_lookup<S: Server>(
     core: &mut Core<S>,
     alloc: Global,
@@ -80,18 +82,7 @@ pub fn dir_lookup<S: Server>(
         Planned w (plan_lookup w task.0 dir path.now flags mode) Found result (world_of S.meaning core.new) }
 {
     let request = Request::new(path, flags, mode);
-    let FoundAt {
-        ids,
-        parents,
-        outcome,
-    } = found_asked(core, task, dir, path, request)?;
-    core.room(task, outcome.names())?;
-    let ids = ids.copied(alloc)?;
-    let parents = parents.copied(alloc)?;
-    let modes = flags.open_modes();
-    let port = match outcome {
-        Outcome::Opens(node) => core.open(task, node, ids, parents, modes)?,
-        Outcome::Makes(_, file) => core.make_file(alloc, task, file, ids, parents, modes)?,
-    };
-    Ok(Lookup::Done(port))
+    let found = found_asked(core, task, dir, path, request)?;
+    let ready = found.ready(core, alloc, task)?;
+    ready.done(core, alloc, task, flags)
 }

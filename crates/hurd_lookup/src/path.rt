@@ -4,7 +4,7 @@ ghost use Rattle.std.specs.List.{position, position_or_len};
 ghost use Rattle.hurd_lookup.specs.Path.{names_in, is_slash_byte, from_name, ends_with_slash, has_short_names, is_short};
 
 /// The greatest lengths of a path and of a name.
-const MOST_PATH: usize = 1024;
+pub(crate) const MOST_PATH: usize = 1024;
 
 const MOST_NAME: usize = 255;
 

@@ -1,15 +1,23 @@
 //! Going along the names of a path.
 ghost use Rattle.std.specs.Prelude.{◌≡◌};
 ghost use Rattle.hurd_nodes.specs.Shown.{header_in};
+ghost use Rattle.hurd_machine.specs.World.{World};
+ghost use Rattle.hurd_machine.specs.Plan.{first};
+ghost use Rattle.hurd_ports.specs.declared.table.IoRight.{IoRight};
 ghost use Rattle.hurd_core.specs.Core.{world_of};
 ghost use Rattle.hurd_lookup.specs.Path.{names_in};
-ghost use Rattle.hurd_lookup.specs.Lookup.{step_up, step_by, step_asks, arrive, miss, walk};
-ghost use Rattle.hurd_lookup.specs.Ends.{placed};
+ghost use Rattle.hurd_lookup.specs.Lookup.{arrive, came_in_at, go_back, is_exclusive, miss, over, step_asks, step_by, step_up, stepped, to_cross, walk};
+ghost use Rattle.hurd_lookup.specs.Ends.{CanGo, Finds, Goes, place_of, right_by};
 
+use crate::authority::Authority;
+use crate::cross::{cross, to_cross};
 use crate::path::first_name;
 use crate::request::Request;
+use crate::rest::is_last;
+use crate::retry::{Onward, Retry};
 use hurd_core::Core;
-use hurd_creds::{Attrs, Errno, Ids, Kind, NodeName, OpenFlags, Want};
+use hurd_creds::{Attrs, Errno, Kind, NodeName, OpenFlags, Want};
+use hurd_ports::{Parent, Parents};
 use hurd_trans_iface::Server;
 
 /// Where one name leads from a directory.
@@ -25,17 +33,47 @@ pub(crate) enum Next {
     Absent,
 }
 
-/// What the names lead to: a node, or a name in a directory under which a file is to be made.
+/// What the names lead to.
 #[derive(Clone, Copy, Debug)]
 pub(crate) enum Place<'a> {
-    AtNode(NodeName),
+    /// A node that is opened: of a server that was entered by a way, if one was.
+    AtNode(NodeName, Option<Parent>),
+    /// A name in a directory, under which a file is to be made.
     AtName(NodeName, &'a [u8]),
+    /// A name that is looked up in another lookup.
+    Elsewhere(Retry<'a>),
 }
 
-/// Where `..` leads: a server's root stays, a removed directory leads nowhere, any other goes to its parent.
-fn step_up<S: Server>(core: &Core<S>, dir: NodeName, attrs: &Attrs) -> Result<Next, Errno>
-    ensures { result ≡ step_up (world_of S.meaning core.now) dir (header_in attrs.now) }
+/// After one name: on at a node, or at the end.
+#[derive(Clone, Copy, Debug)]
+enum Step<'a> {
+    On(NodeName),
+    To(Place<'a>),
+}
+
+/// Whether a port came into a server's tree at this node.
+fn came_in_at(parents: &Parents, dir: NodeName) -> bool
+    ensures { result ≡ came_in_at parents.now dir }
 {
+    match parents.first() {
+        Some(way) => dir == way.at,
+        None => false,
+    }
+}
+
+/// Where `..` leads: from where the port came in, back; a server's root stays, a removed directory leads nowhere, any
+/// other goes to its parent.
+fn step_up<S: Server>(
+    core: &Core<S>,
+    parents: &Parents,
+    dir: NodeName,
+    attrs: &Attrs,
+) -> Result<Next, Errno>
+    ensures { result ≡ step_up (world_of S.meaning core.now) parents.now dir (header_in attrs.now) }
+{
+    if came_in_at(parents, dir) {
+        return Ok(Next::Back);
+    }
     if core.is_root(dir) {
         return Ok(Next::There(dir));
     }
@@ -48,36 +86,37 @@ fn step_up<S: Server>(core: &Core<S>, dir: NodeName, attrs: &Attrs) -> Result<Ne
 /// Where a name leads from a directory of these attributes.
 fn step_by<S: Server>(
     core: &Core<S>,
+    parents: &Parents,
     dir: NodeName,
     attrs: &Attrs,
     name: &[u8],
 ) -> Result<Next, Errno>
-    ensures { result ≡ step_by (world_of S.meaning core.now) dir (header_in attrs.now) name.now }
+    ensures { result ≡ step_by (world_of S.meaning core.now) parents.now dir (header_in attrs.now) name.now }
 {
     if name == b".".as_slice() {
         return Ok(Next::There(dir));
     }
     if name == b"..".as_slice() {
-        return step_up(core, dir, attrs);
+        return step_up(core, parents, dir, attrs);
     }
     match core.step(dir, name) {
-        Some(node) => Ok(Next::There(node)),
+        Some(node) => Ok(Next::Entry(node)),
         None => Ok(Next::Absent),
     }
 }
 
-/// Looks one name up in a node, by a port's ids.
+/// Looks one name up in a node.
 ///
 /// Errors, in order: `EDIED` no such node, `ENOTDIR`, `EACCES` the ids may not search it, `ENOENT` for `..` in a removed
 /// directory.
 #[tactic(auto, unfolding(hurd_machine::specs::Plan::on, hurd_machine::specs::Plan::given))]
 fn step_asked<S: Server>(
     core: &Core<S>,
-    ids: &Ids,
+    authority: Authority,
     dir: NodeName,
     name: &[u8],
 ) -> Result<Next, Errno>
-    ensures { result ≡ step_asks (world_of S.meaning core.now) ids.now dir name.now }
+    ensures { result ≡ step_asks (world_of S.meaning core.now) (right_by authority.entry) dir name.now }
 {
     let Some(attrs) = core.attrs(dir) else {
         return Err(Errno::EDIED);
@@ -85,29 +124,35 @@ fn step_asked<S: Server>(
     let Kind::Dir = attrs.kind else {
         return Err(Errno::ENOTDIR);
     };
-    if !ids.may(&attrs, Want::Exec) {
+    if !authority.ids.may(&attrs, Want::Exec) {
         return Err(Errno::EACCES);
     }
-    step_by(core, dir, &attrs, name)
+    step_by(core, &authority.right.parents, dir, &attrs, name)
 }
 
 impl Request {
-    /// At the end of the names. `EEXIST`: with `CREATE` and `EXCL` a node that is there is refused.
+    /// Whether a node that is there is refused: with `CREATE` and `EXCL`.
+    fn is_exclusive(self) -> bool
+        ensures { result ≡ is_exclusive self }
+    {
+        self.flags.asks(OpenFlags::CREATE) && self.flags.asks(OpenFlags::EXCL)
+    }
+
+    /// At the end of the names. `EEXIST`: a node that is there is refused.
     #[tactic(auto, unfolding(hurd_machine::specs::Plan::given))]
     fn arrive<'a>(self, node: NodeName) -> Result<Place<'a>, Errno>
-        ensures { placed result ≡ arrive self node }
+        ensures { (w : World) (q : IoRight) → Finds (place_of w q) (CanGo w q) (arrive self q.parents node) result }
     {
-        if self.flags.asks(OpenFlags::CREATE) && self.flags.asks(OpenFlags::EXCL) {
-            Err(Errno::EEXIST)
-        } else {
-            Ok(Place::AtNode(node))
+        if self.is_exclusive() {
+            return Err(Errno::EEXIST);
         }
+        Ok(Place::AtNode(node, None))
     }
 
     /// A name that no entry has. `ENOENT`: it is not the last, a directory is asked for, or `CREATE` is not.
     #[tactic(auto, unfolding(hurd_machine::specs::Plan::given))]
     fn miss<'a>(self, dir: NodeName, name: &'a [u8], is_last: bool) -> Result<Place<'a>, Errno>
-        ensures { placed result ≡ miss self dir name.entry.now is_last }
+        ensures { (w : World) (q : IoRight) → Finds (place_of w q) (CanGo w q) (miss self dir name.entry.now is_last) result }
     {
         if is_last && self.flags.asks(OpenFlags::CREATE) && !self.wants_dir {
             Ok(Place::AtName(dir, name))
@@ -117,25 +162,99 @@ impl Request {
     }
 }
 
-/// Goes from a node along the names of a path, by a port's ids.
+/// Back by the latest way that a port came in by.
 ///
-/// Errors, at each name: those of `step_asked`, then `ENOENT` where it is missed; at the end `EEXIST`.
+/// Errors, in order: `ENOENT` there is none, `EDIED` the node is gone from which it came.
+#[tactic(auto, unfolding(hurd_machine::specs::Plan::on))]
+fn go_back<'a, S: Server>(
+    core: &Core<S>,
+    authority: Authority,
+    request: Request,
+    rest: &'a [u8],
+) -> Result<Place<'a>, Errno>
+    ensures { let w = world_of S.meaning core.now in let q = right_by authority.entry in
+        Finds (place_of w q) (CanGo w q) (go_back w request (names_in rest.entry.now) q.parents) result }
+{
+    let Some(way) = authority.right.parents.first() else {
+        return Err(Errno::ENOENT);
+    };
+    if core.attrs(way.parent).is_none() {
+        return Err(Errno::EDIED);
+    }
+    Ok(Place::Elsewhere(Retry {
+        onward: Onward::Back(way.parent),
+        rest,
+        slash: request.slash,
+    }))
+}
+
+/// At the node of an entry: on, or across the server that is active on it.
+///
+/// Errors, in order: `EEXIST` it is the last, and refused where it is there, those of `cross`.
+#[tactic(auto, unfolding(hurd_machine::specs::Plan::given))]
+fn over<'a, S: Server>(
+    core: &Core<S>,
+    authority: Authority,
+    request: Request,
+    dir: NodeName,
+    node: NodeName,
+    rest: &'a [u8],
+) -> Result<Step<'a>, Errno>
+    ensures { let w = world_of S.meaning core.now in let q = right_by authority.entry in let names = names_in rest.entry.now in
+        Goes w q (λ onward. over w q request dir (to_cross w request node names) names (onward node)) result }
+{
+    let Some(root) = to_cross(core, request, node, rest) else {
+        return Ok(Step::On(node));
+    };
+    if is_last(rest) && request.is_exclusive() {
+        return Err(Errno::EEXIST);
+    }
+    let place = cross(core, authority, request, dir, root, rest)?;
+    Ok(Step::To(place))
+}
+
+/// From a directory by one name, behind which the rest of the path follows.
+///
+/// Errors, in order: those of `step_asked`, those of `over`, of `go_back`, or `ENOENT` where the name is missed.
+#[tactic(auto, unfolding(hurd_machine::specs::Plan::first))]
+fn stepped<'a, S: Server>(
+    core: &Core<S>,
+    authority: Authority,
+    request: Request,
+    dir: NodeName,
+    name: &'a [u8],
+    rest: &'a [u8],
+) -> Result<Step<'a>, Errno>
+    ensures { let w = world_of S.meaning core.now in let q = right_by authority.entry in
+        Goes w q (λ onward. first (step_asks w q dir name.entry.now) (stepped w q request dir name.entry.now (names_in rest.entry.now) onward)) result }
+{
+    match step_asked(core, authority, dir, name)? {
+        Next::There(node) => Ok(Step::On(node)),
+        Next::Entry(node) => over(core, authority, request, dir, node, rest),
+        Next::Back => Ok(Step::To(go_back(core, authority, request, rest)?)),
+        Next::Absent => Ok(Step::To(request.miss(dir, name, is_last(rest))?)),
+    }
+}
+
+/// Goes from a node along the names of a path.
+///
+/// Errors, at each name: those of `stepped`; at the end `EEXIST`.
 pub(crate) fn walk<'a, S: Server>(
     core: &Core<S>,
-    ids: &Ids,
+    authority: Authority,
     request: Request,
     start: NodeName,
     path: &'a [u8],
 ) -> Result<Place<'a>, Errno>
-    ensures { placed result ≡ walk (world_of S.meaning core.now) ids.now request start (names_in path.entry.now) }
+    ensures { let w = world_of S.meaning core.now in let q = right_by authority.entry in
+        Finds (place_of w q) (CanGo w q) (walk w q request start (names_in path.entry.now)) result }
 {
     let mut here = start;
     let mut rest = path;
     while let Some((name, after)) = first_name(rest) {
-        match step_asked(core, ids, here, name) {
-            Ok(Next::There(node)) => here = node,
-            Ok(Next::Absent) => return request.miss(here, name, first_name(after).is_none()),
-            Err(errno) => return Err(errno),
+        match stepped(core, authority, request, here, name, after)? {
+            Step::On(node) => here = node,
+            Step::To(place) => return Ok(place),
         }
         rest = after;
     }

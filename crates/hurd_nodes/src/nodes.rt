@@ -6,7 +6,7 @@ ghost use Rattle.hurd_creds.specs.Memory.{Meets};
 ghost use Rattle.hurd_trans_iface.specs.Nodes.{attrs_of, header_of, body_of};
 ghost use Rattle.hurd_trans_iface.specs.Answers.{entry_of, names_of};
 ghost use Rattle.hurd_nodes.specs.Shown.{ServerInfo, boot_name, server_of, shown, state_of, header_in, booted, is_root, are_kin, readable_at, tree_by, HideNothing};
-ghost use Rattle.hurd_trans_iface.specs.Meaning.{Begins};
+ghost use Rattle.hurd_trans_iface.specs.Meaning.{Begins, root_of};
 ghost use Rattle.hurd_nodes.specs.Held.{box_by, mean, users_in};
 
 use crate::asking::has_tree;
@@ -14,7 +14,7 @@ use crate::search::{home_of, place_of_seat, place_of_server, repeated, users_amo
 use crate::seat::{Hold, Home, Seat};
 use bitflags::Flags;
 use hurd_creds::{Attrs, Errno, Ids, Mode, Name, NodeName, ServerName, TaskId};
-use hurd_trans_iface::{Names, Readable, Server};
+use hurd_trans_iface::{Names, Readable, Root, Server};
 use std::alloc::Global;
 use std::marker::Model;
 
@@ -207,6 +207,16 @@ impl<S: Server> Nodes<S> {
         match self.server_of(node) {
             Some(server) => has_tree(server),
             None => false,
+        }
+    }
+
+    /// What the root of a node's server is, if the node has a server.
+    pub fn root(&self, node: NodeName) -> Option<Root>
+        ensures { result ≡ option_map (λ (i : ServerInfo). root_of i.kind i.text) (server_of (shown S.meaning self.now) node) }
+    {
+        match self.server_of(node) {
+            Some(server) => Some(server.root()),
+            None => None,
         }
     }
 

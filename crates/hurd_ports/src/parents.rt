@@ -1,10 +1,13 @@
 //! The ways back from a port.
-ghost use Rattle.std.specs.Prelude.{◌≡◌, ◌≤◌, [], length, IfOk};
+ghost use Rattle.std.specs.Prelude.{◌≡◌, ◌≤◌, ◌<◌, [], ◌∷◌, length, drop, not, nat_lt, slice_get, IfOk};
 ghost use Rattle.hurd_ports.specs.Limits.{most_parents};
 
 use hurd_creds::NodeName;
 use std::alloc::{AllocError, Global};
 use std::marker::Model;
+
+/// So many ways a port can have come in by.
+const MOST_PARENTS: usize = 64;
 
 /// A way in: at the root of a translator, and from which node it was entered.
 #[derive(Clone, Copy, Debug, PartialEq, Eq)]
@@ -50,6 +53,42 @@ impl Parents {
         Ok(Parents {
             ways: Vec::from_slice(alloc, self.ways.as_slice())?,
         })
+    }
+
+    /// Whether there are as many ways as a port can have.
+    pub fn is_full(&self) -> bool
+        ensures { result ≡ not (nat_lt (length self.now) most_parents) }
+    {
+        self.ways.len() >= MOST_PARENTS
+    }
+
+    /// The same ways behind another, which is the latest.
+    pub fn entered(&self, alloc: Global, way: Parent) -> Result<Parents, AllocError>
+        requires { length self.now < most_parents }
+        ensures { IfOk result (λ p. p ≡ way ∷ self.now) }
+    {
+        let mut ways = Vec::with_capacity(alloc, self.ways.len() + 1)?;
+        ways.push(way)?;
+        ways.extend_from_slice(self.ways.as_slice())?;
+        Ok(Parents { ways })
+    }
+
+    /// The ways without the latest.
+    pub fn left(&self, alloc: Global) -> Result<Parents, AllocError>
+        ensures { IfOk result (λ p. p ≡ drop 1 self.now) }
+    {
+        let ways = match self.ways.as_slice() {
+            [] => Vec::new(alloc),
+            [_, others @ ..] => Vec::from_slice(alloc, others)?,
+        };
+        Ok(Parents { ways })
+    }
+
+    /// The latest way, if there is one.
+    pub fn first(&self) -> Option<Parent>
+        ensures { result ≡ slice_get self.now 0 }
+    {
+        self.ways.first().copied()
     }
 
     /// The ways, the latest first.

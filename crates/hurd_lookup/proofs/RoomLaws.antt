@@ -1,0 +1,31 @@
+-- Whether a task has room for what a lookup makes.
+use Rattle.std.proofs.Common.{◌≡◌, ◌∙◌, ℕ, Option, refl, sym, ap}
+use Rattle.std.specs.Prelude.{Result, Ok, Err, Some, None}
+use Rattle.hurd_creds.specs.declared.errno.Errno.{Errno}
+use Rattle.hurd_creds.specs.declared.errno.Errno.TheVariants.{ESRCH}
+use Rattle.hurd_creds.specs.Access.{IdSets}
+use Rattle.hurd_nodes.specs.Shown.{NodeState}
+use Rattle.hurd_ports.specs.Tables.{PortState, Task, ids_at, room_of}
+use Rattle.hurd_machine.specs.World.{world_from}
+use Rattle.hurd_machine.specs.Plan.{on}
+use Rattle.hurd_core.specs.Core.{asked_only, room_asks}
+use Rattle.hurd_core.proofs.CoreLaws.{IsRefused, HasRoom, room}
+
+-- what the tables say of it is what the plan asks
+pub room_asked : (N : NodeState) (H : PortState) (t names : ℕ) → room_of H t names ≡ asked_only (room_asks (world_from N H) t names)
+room_asked N H t names = elim (room N H t names) [
+  | IsRefused e bars asks ↦ bars ∙ sym (ap asked_only asks)
+  | HasRoom x at free frees asks ↦ frees ∙ sym (ap asked_only asks)
+]
+
+-- a task that is there, or isn't
+
+pub ids_missing : (o : Option Task) (e : Errno) → Err e ≡ ids_at o → Err e ≡ asked_only (on ESRCH o (λ x. Ok x))
+unfolding on
+ids_missing None e is = let same : e ≡ ESRCH = cc in rw same refl
+ids_missing (Some x) e is = absurd (cc)
+
+pub ids_there : (o : Option Task) (i : IdSets) → Ok i ≡ ids_at o → Ok tt ≡ asked_only (on ESRCH o (λ x. Ok x))
+unfolding on
+ids_there None i is = absurd (cc)
+ids_there (Some x) i is = refl

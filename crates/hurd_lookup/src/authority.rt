@@ -1,0 +1,93 @@
+//! By what a lookup goes, and the ports that it makes.
+ghost use Rattle.std.specs.Prelude.{◌≡◌, ◌<◌, [], length, drop, IfSome, IfOk, Ok};
+ghost use Rattle.hurd_creds.specs.Memory.{Meets};
+ghost use Rattle.hurd_ports.specs.Limits.{most_parents};
+ghost use Rattle.hurd_core.specs.Core.{Does, room_asks, world_of};
+ghost use Rattle.hurd_machine.specs.Change.{opening};
+ghost use Rattle.hurd_lookup.specs.Lookup.{no_ids};
+ghost use Rattle.hurd_lookup.specs.Ends.{right_by, ways_by, port_of, port_told, nameless_port};
+
+use hurd_core::Core;
+use hurd_creds::{Errno, Ids, NodeName, OpenFlags, TaskId};
+use hurd_ports::{IoRight, Parent, Parents};
+use hurd_trans_iface::Server;
+use std::alloc::{AllocError, Global};
+
+/// By what a lookup goes: the right of a port, and the ids that it asks with, which may be others.
+#[derive(Clone, Copy, Debug)]
+pub(crate) struct Authority<'a> {
+    pub(crate) right: &'a IoRight,
+    pub(crate) ids: &'a Ids,
+}
+
+/// A port that is to be made.
+#[derive(Debug, Drop)]
+pub(crate) struct NewPort {
+    pub(crate) node: NodeName,
+    pub(crate) ids: Ids,
+    pub(crate) parents: Parents,
+}
+
+impl Authority<'_> {
+    /// The port's ways, behind the one by which a server was entered, if one was.
+    pub(crate) fn ways(&self, alloc: Global, entered: Option<Parent>) -> Result<Parents, AllocError>
+        requires { IfSome entered (λ way. length (right_by self.now).parents < most_parents) }
+        ensures { IfOk result (λ ways. ways ≡ ways_by entered (right_by self.now).parents) }
+    {
+        match entered {
+            Some(way) => self.right.parents.entered(alloc, way),
+            None => self.right.parents.copied(alloc),
+        }
+    }
+
+    /// A port with the ids that this goes by.
+    pub(crate) fn port(
+        &self,
+        alloc: Global,
+        node: NodeName,
+        entered: Option<Parent>,
+    ) -> Result<NewPort, AllocError>
+        requires { IfSome entered (λ way. length (right_by self.now).parents < most_parents) }
+        ensures { IfOk result (λ port. port_of port
+            ≡ record { node = node; ids = (right_by self.now).ids; parents = ways_by entered (right_by self.now).parents }) }
+    {
+        Ok(NewPort {
+            node,
+            ids: self.ids.copied(alloc)?,
+            parents: self.ways(alloc, entered)?,
+        })
+    }
+}
+
+impl NewPort {
+    /// A port without ids.
+    pub(crate) fn nameless(
+        alloc: Global,
+        node: NodeName,
+        parents: Parents,
+    ) -> Result<NewPort, Errno>
+        ensures { Meets (Ok (nameless_port node parents)) (port_told result) }
+    {
+        Ok(NewPort {
+            node,
+            ids: Ids::new(alloc, &[], &[])?,
+            parents,
+        })
+    }
+
+    /// Makes the port, with an open of these modes.
+    ///
+    /// Errors, in order: `ESRCH` no such task, `EOVERFLOW`, `ENOMEM`.
+    pub(crate) fn open<S: Server>(
+        self,
+        core: &mut Core<S>,
+        task: TaskId,
+        modes: OpenFlags,
+    ) -> Result<u64, Errno>
+        ensures { let w = world_of S.meaning core.old in let e = port_of self in
+            Does w (room_asks w task.0 1) (λ x. opening task.0 x e.node e.ids e.parents modes) (λ x. x.next) result (world_of S.meaning core.new) }
+    {
+        let NewPort { node, ids, parents } = self;
+        core.open(task, node, ids, parents, modes)
+    }
+}

@@ -1,0 +1,143 @@
+//! Crossing the servers that are active on nodes.
+ghost use Rattle.std.specs.Prelude.{◌≡◌, ◌&&◌};
+ghost use Rattle.hurd_creds.specs.Bits.{NOLINK, asks};
+ghost use Rattle.hurd_machine.specs.World.{World};
+ghost use Rattle.hurd_ports.specs.declared.table.IoRight.{IoRight};
+ghost use Rattle.hurd_core.specs.Core.{world_of};
+ghost use Rattle.hurd_lookup.specs.Path.{names_in};
+ghost use Rattle.hurd_lookup.specs.Lookup.{cross, enter, follow, is_last, root_on, to_cross};
+ghost use Rattle.hurd_lookup.specs.Ends.{CanGo, Finds, IsLink, place_of, right_by, text_at};
+
+use crate::authority::Authority;
+use crate::request::Request;
+use crate::rest::{fits, is_last};
+use crate::retry::{Link, Onward, Retry};
+use crate::walk::Place;
+use hurd_core::Core;
+use hurd_creds::{Errno, NodeName, OpenFlags};
+use hurd_ports::Parent;
+use hurd_trans_iface::{Crossing, Server};
+
+/// The root of the server that is active on a node, if one is.
+fn root_on<S: Server>(core: &Core<S>, node: NodeName) -> Option<NodeName>
+    ensures { result ≡ root_on (world_of S.meaning core.now) node }
+{
+    match core.active(node) {
+        Some(server) => core.root_of(server),
+        None => None,
+    }
+}
+
+/// The root that is to be crossed at a node, before what is left of the path: none at the last node with `NOTRANS`.
+pub(crate) fn to_cross<S: Server>(
+    core: &Core<S>,
+    request: Request,
+    node: NodeName,
+    rest: &[u8],
+) -> Option<NodeName>
+    ensures { result ≡ to_cross (world_of S.meaning core.now) request node (names_in rest.now) }
+{
+    if is_last(rest) && request.flags.asks(OpenFlags::NOTRANS) {
+        None
+    } else {
+        root_on(core, node)
+    }
+}
+
+/// Into a server that is active on a node of this directory, by its root: the last node is opened there, and more names
+/// are looked up there. `ELOOP`: a port came in by 64 ways.
+#[tactic(auto, unfolding(hurd_machine::specs::Plan::given))]
+fn enter<'a>(
+    authority: Authority,
+    request: Request,
+    dir: NodeName,
+    root: NodeName,
+    rest: &'a [u8],
+) -> Result<Place<'a>, Errno>
+    ensures { (w : World) → let q = right_by authority.entry in
+        Finds (place_of w q) (CanGo w q) (enter q request dir root (names_in rest.entry.now)) result }
+{
+    if authority.right.parents.is_full() {
+        return Err(Errno::ELOOP);
+    }
+    let way = Parent {
+        at: root,
+        parent: dir,
+    };
+    if is_last(rest) {
+        return Ok(Place::AtNode(root, Some(way)));
+    }
+    Ok(Place::Elsewhere(Retry {
+        onward: Onward::Within(way),
+        rest,
+        slash: request.slash,
+    }))
+}
+
+/// Along a link in a directory. `ENAMETOOLONG`: its text, with what is left of the path, is too long for a path.
+#[tactic(auto, unfolding(hurd_machine::specs::Plan::given))]
+fn follow<'a>(
+    absolute: bool,
+    request: Request,
+    dir: NodeName,
+    link: Link,
+    rest: &'a [u8],
+) -> Result<Place<'a>, Errno>
+    ensures { (w : World) (q : IoRight) → IsLink w link
+        → Finds (place_of w q) (CanGo w q) (follow absolute q request dir (text_at w link.root) (names_in rest.entry.now)) result }
+{
+    if !fits(link.length, rest, request.slash) {
+        return Err(Errno::ENAMETOOLONG);
+    }
+    let onward = if absolute {
+        Onward::FromTop(link)
+    } else {
+        Onward::Beside(dir, link)
+    };
+    Ok(Place::Elsewhere(Retry {
+        onward,
+        rest,
+        slash: request.slash,
+    }))
+}
+
+/// Whether a link is not followed: it is the last node, and `NOLINK` is set.
+fn is_final(request: Request, rest: &[u8]) -> bool
+    ensures { result ≡ (is_last (names_in rest.now) && asks request.flags NOLINK) }
+{
+    is_last(rest) && request.flags.asks(OpenFlags::NOLINK)
+}
+
+/// Across the root of a server that is active on a node of this directory: a link leads on, unless it is the last and
+/// `NOLINK` is set, and any other is entered.
+///
+/// Errors, in order: `EDIED` the root is gone, `ENAMETOOLONG` along a link, `ELOOP` into any other.
+#[tactic(auto, unfolding(hurd_machine::specs::Plan::on, hurd_machine::specs::Plan::first))]
+pub(crate) fn cross<'a, S: Server>(
+    core: &Core<S>,
+    authority: Authority,
+    request: Request,
+    dir: NodeName,
+    root: NodeName,
+    rest: &'a [u8],
+) -> Result<Place<'a>, Errno>
+    ensures { let w = world_of S.meaning core.now in let q = right_by authority.entry in
+        Finds (place_of w q) (CanGo w q) (cross w q request dir root (names_in rest.entry.now)) result }
+{
+    if core.attrs(root).is_none() {
+        return Err(Errno::EDIED);
+    }
+    let Some(served) = core.root(root) else {
+        return Err(Errno::EDIED);
+    };
+    match served.crossing {
+        Crossing::Plain => enter(authority, request, dir, root, rest),
+        Crossing::Link { absolute } => {
+            if is_final(request, rest) {
+                return enter(authority, request, dir, root, rest);
+            }
+            let length = core.readable(root, 0);
+            follow(absolute, request, dir, Link { root, length }, rest)
+        }
+    }
+}

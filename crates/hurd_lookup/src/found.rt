@@ -1,0 +1,139 @@
+//! Doing what a lookup found.
+ghost use Rattle.std.specs.Prelude.{◌≡◌, IfSome, IsOk, Ok};
+ghost use Rattle.hurd_machine.specs.Plan.{Planned};
+ghost use Rattle.hurd_machine.specs.declared.call.Reply.TheVariants.{Found};
+ghost use Rattle.hurd_creds.specs.declared.open_flags.OpenFlags.{OpenFlags};
+ghost use Rattle.hurd_core.specs.Core.{asked_only, world_of};
+ghost use Rattle.hurd_lookup.specs.Lookup.{ending_asks, finding};
+ghost use Rattle.hurd_lookup.specs.Ends.{CanBe, IsLink, IsReady, Readies, found_of, link_of, ready_of, retry_of};
+
+use crate::authority::{Authority, NewPort};
+use crate::end::Outcome;
+use crate::retry::{Onward, Retry};
+use bitflags::Flags;
+use hurd_core::{Core, NodeToMake};
+use hurd_creds::{Errno, Ids, OpenFlags, ServerName, TaskId};
+use hurd_machine::Lookup;
+use hurd_ports::Parents;
+use hurd_trans_iface::Server;
+use std::alloc::Global;
+
+/// What a lookup is to do, and by what it went.
+#[derive(Clone, Copy, Debug)]
+pub(crate) struct FoundAt<'a, 'p> {
+    pub(crate) authority: Authority<'a>,
+    pub(crate) outcome: Outcome<'p>,
+}
+
+/// The same, with all that a port of it has.
+#[derive(Debug, Drop)]
+pub(crate) enum Ready<'p> {
+    Opens(NewPort),
+    Makes(ServerName, NodeToMake<'p>, Ids, Parents),
+    Retries(Retry<'p>, Option<NewPort>),
+}
+
+impl<'p> FoundAt<'_, 'p> {
+    /// Whether the task has room for a port of it, if it makes one.
+    ///
+    /// Errors, in order: `ESRCH` no such task, `EOVERFLOW`.
+    fn has_room<S: Server>(&self, core: &Core<S>, task: TaskId) -> Result<(), Errno>
+        ensures { let w = world_of S.meaning core.now in result ≡ asked_only (ending_asks w task.0 (found_of w self.now)) }
+    {
+        match &self.outcome {
+            Outcome::Opens(_, _) => core.room(task, 1),
+            Outcome::Makes(_, _) => core.room(task, 2),
+            Outcome::Retries(retry) => match retry.onward {
+                Onward::FromTop(_) => {
+                    core.ids(task)?;
+                    Ok(())
+                }
+                Onward::Within(_) | Onward::Back(_) | Onward::Beside(_, _) => core.room(task, 1),
+            },
+        }
+    }
+
+    /// Takes room for a port of it, and the ids and ways that the port has.
+    ///
+    /// Errors, in order: those of `has_room`, `ENOMEM`.
+    pub(crate) fn ready<S: Server>(
+        self,
+        core: &Core<S>,
+        alloc: Global,
+        task: TaskId,
+    ) -> Result<Ready<'p>, Errno>
+        requires { CanBe (world_of S.meaning core.now) self }
+        ensures { let w = world_of S.meaning core.now in Readies w task.0 (found_of w self.entry) result }
+    {
+        self.has_room(core, task)?;
+        let authority = self.authority;
+        match self.outcome {
+            Outcome::Opens(node, entered) => {
+                Ok(Ready::Opens(authority.port(alloc, node, entered)?))
+            }
+            Outcome::Makes(server, file) => {
+                let ids = authority.ids.copied(alloc)?;
+                let parents = authority.right.parents.copied(alloc)?;
+                Ok(Ready::Makes(server, file, ids, parents))
+            }
+            Outcome::Retries(retry) => {
+                let port = retry.onward.port(alloc, authority)?;
+                Ok(Ready::Retries(retry, port))
+            }
+        }
+    }
+}
+
+impl Ready<'_> {
+    /// Opens the node, makes the file and opens it, or makes the port of a retry.
+    ///
+    /// `ENOMEM`.
+    pub(crate) fn done<S: Server>(
+        self,
+        core: &mut Core<S>,
+        alloc: Global,
+        task: TaskId,
+        flags: OpenFlags,
+    ) -> Result<Lookup, Errno>
+        requires { let w = world_of S.meaning core.old in IsReady w self × IsOk (ending_asks w task.0 (ready_of w self)) }
+        ensures { let w = world_of S.meaning core.old in
+            Planned w (finding w task.0 flags (Ok (ready_of w self.entry))) Found result (world_of S.meaning core.new) }
+    {
+        let modes = flags.open_modes();
+        match self {
+            Ready::Opens(port) => Ok(Lookup::Done(port.open(core, task, modes)?)),
+            Ready::Makes(_, file, ids, parents) => {
+                let port = core.make_file(alloc, task, file, ids, parents, modes)?;
+                Ok(Lookup::Done(port))
+            }
+            Ready::Retries(retry, port) => retried(core, alloc, task, retry, port),
+        }
+    }
+}
+
+/// Makes the name of a retry, and its port, if it has one: that has no modes.
+///
+/// `ENOMEM`.
+fn retried<S: Server>(
+    core: &mut Core<S>,
+    alloc: Global,
+    task: TaskId,
+    retry: Retry,
+    port: Option<NewPort>,
+) -> Result<Lookup, Errno>
+    requires { let w = world_of S.meaning core.old in
+        IfSome (link_of retry.onward) (IsLink w) × IsOk (ending_asks w task.0 (retry_of w retry port)) }
+    ensures { (flags : OpenFlags) → let w = world_of S.meaning core.old in
+        Planned w (finding w task.0 flags (Ok (retry_of w retry.entry port))) Found result (world_of S.meaning core.new) }
+{
+    let name = retry.name(core, alloc)?;
+    let port = match port {
+        Some(port) => Some(port.open(core, task, OpenFlags::empty())?),
+        None => None,
+    };
+    Ok(Lookup::Retry {
+        kind: retry.onward.kind(),
+        name,
+        port,
+    })
+}
