@@ -52,7 +52,7 @@ fn part<S: Server>(
 }
 
 /// Makes a call with this server in a box, and gives its part of the output. `Memory`.
-fn part_with<T: Server>(
+fn part_with<T: Server + 'static>(
     world: &mut World,
     alloc: Global,
     listed: ListedCall,
