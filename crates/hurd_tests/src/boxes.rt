@@ -26,11 +26,19 @@ struct Counts {
     dropped: Rc<Cell<u32>>,
 }
 
+/// A count that stands at none.
+fn none(alloc: Global) -> Result<Rc<Cell<u32>>, Errno> {
+    match Rc::new(alloc, Cell::new(0u32)) {
+        Ok(count) => Ok(count),
+        Err(_) => Err(Errno::ENOMEM),
+    }
+}
+
 impl Counts {
     fn new(alloc: Global) -> Result<Counts, Errno> {
         Ok(Counts {
-            sent_away: Rc::new(alloc, Cell::new(0u32))?,
-            dropped: Rc::new(alloc, Cell::new(0u32))?,
+            sent_away: none(alloc)?,
+            dropped: none(alloc)?,
         })
     }
 
@@ -149,7 +157,7 @@ impl Server for Counted {
 }
 
 /// A box that counts here what becomes of it.
-fn counted(alloc: Global, counts: &Counts) -> Result<Box<dyn Server>, Errno>
+fn counting(alloc: Global, counts: &Counts) -> Result<Box<dyn Server>, Errno>
     ensures { IfOk result (λ b. Begins (meaning b)) }
 {
     let words = Words::new(alloc, &[b"/hurd/tmpfs".as_slice()])?;
@@ -172,7 +180,7 @@ fn seat(alloc: Global, world: &mut World, port: u64, counts: &Counts) -> Result<
         goaway: GoawayFlags::from_bits_truncate(0),
     };
     let words = Words::new(alloc, &[])?;
-    let server = counted(alloc, counts)?;
+    let server = counting(alloc, counts)?;
     let call = Call::FileSetTranslator {
         port,
         setting,

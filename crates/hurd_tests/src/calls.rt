@@ -117,6 +117,45 @@ const PORTS: &str = r"1 dir_lookup 1 = READ 0
   Names =. =..
 ";
 
+/// root puts servers behind nodes, which alice reads, and takes them away; she opens their roots by a right that she was sent.
+const SERVERS: &str = r"0 dir_lookup 1 =h NOTRANS,CREATE 644
+  Found Done 3
+0 file_set_translator 3 - SET - box =/hurd/hello
+  Done
+1 dir_lookup 1 =h READ 0
+  Found Done 3
+1 io_read 3 5 -1
+  Data =Hello
+1 file_set_translator 3 - SET - box =/hurd/hello
+  Back EPERM
+0 file_get_translator_cntl 3
+  Port 4
+0 port_send 4 1
+  Done
+1 port_receive
+  Port 4
+1 fsys_getroot 4 1 READ
+  Found Done 5
+1 io_read 5 99 -1
+  Data =Hello,\sworld!\n
+0 file_set_translator 3 - SET - box =/hurd/hello
+  Back EBUSY
+0 file_set_translator 3 - SET FORCE box =/hurd/hello
+  Done
+1 io_read 3 5 -1
+  Refused EDIED
+1 dir_lookup 1 =h/x/y READ 0
+  Found Retry NORMAL =x/y 6
+1 dir_lookup 6 =x/y READ 0
+  Refused ENOTDIR
+0 file_set_translator 3 - SET,ORPHAN -
+  Done
+1 dir_lookup 1 =h READ 0
+  Found Done 7
+1 io_read 7 5 -1
+  Data =
+";
+
 /// What stands before the calls that are sure: a text of two names, and three directories, of which one is open to alice.
 const BEFORE: &str = r"0 dir_lookup 1 =motd READ,WRITE,CREATE 644
   Found Done 3
@@ -208,11 +247,15 @@ const SURE: &str = r"1 io_seek 3 2 Set
   Refused EPERM
 1 auth_makeauth 1000 -
   Done
+0 file_set_translator 3 - SET -
+  Done
+0 fsys_goaway 3 -
+  Refused EBADF
 ";
 
 /// Makes the calls of each transcript in a new world; where memory was refused to one and may be, once more.
 fn check_all(rt: &impl Abort, alloc: Global, memory: &mut Memory) -> Result<(), Fail> {
-    for transcript in [FILES, ENTRIES, PORTS] {
+    for transcript in [FILES, ENTRIES, PORTS, SERVERS] {
         let mut world = world(alloc, memory)?;
         check(rt, alloc, &mut world, transcript, Tries::Twice, memory)?;
     }

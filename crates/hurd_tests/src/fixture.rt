@@ -1,9 +1,10 @@
 //! Worlds to make calls in, and transcripts of calls, which say what each is to answer.
-ghost use Rattle.std.specs.Prelude.{IfOk};
+ghost use Rattle.std.specs.Prelude.{IfOk, IfSome};
 ghost use Rattle.hurd_trans_iface.specs.Meaning.{Begins};
 
 use hurd_creds::{Bytes, Errno};
-use hurd_lists::{CallList, ListFault, ListedCall, parse_calls, told};
+use hurd_lists::{CallList, ListFault, ListedCall, parse_calls, told, with_server};
+use hurd_small::Hello;
 use hurd_tmpfs::Tmpfs;
 use hurd_trans_iface::{Server, Words};
 use hurd_world::{Reply, World};
@@ -30,6 +31,18 @@ pub fn tree(alloc: Global) -> Result<Box<dyn Server>, Errno>
     let tmpfs = Tmpfs::new(alloc, &words)?;
     match Box::new(alloc, tmpfs) {
         Ok(tree) => Ok(tree),
+        Err(_) => Err(Errno::ENOMEM),
+    }
+}
+
+/// A text, boxed.
+fn text(alloc: Global) -> Result<Box<dyn Server>, Errno>
+    ensures { IfOk result (λ b. Begins (meaning b)) }
+{
+    let words = Words::new(alloc, &[b"/hurd/hello".as_slice()])?;
+    let hello = Hello::new(alloc, &words)?;
+    match Box::new(alloc, hello) {
+        Ok(text) => Ok(text),
         Err(_) => Err(Errno::ENOMEM),
     }
 }
@@ -92,6 +105,25 @@ fn call_of(alloc: Global, line: &str) -> Result<ListedCall, Errno> {
     list.calls.pop().ok_or(Errno::EINVAL)
 }
 
+/// The server that a line brings, if it brings one: a text.
+fn server_of(alloc: Global, listed: &ListedCall) -> Result<Option<Box<dyn Server>>, Errno>
+    ensures { IfOk result (λ o. IfSome o (λ b. Begins (meaning b))) }
+{
+    match listed.server {
+        Some(_) => Ok(Some(text(alloc)?)),
+        None => Ok(None),
+    }
+}
+
+/// Reads a line, and makes the server that it brings.
+fn ready(alloc: Global, line: &str) -> Result<(ListedCall, Option<Box<dyn Server>>), Errno>
+    ensures { IfOk result (λ r. IfSome r.1 (λ b. Begins (meaning b))) }
+{
+    let listed = call_of(alloc, line)?;
+    let server = server_of(alloc, &listed)?;
+    Ok((listed, server))
+}
+
 /// Reads a line and makes its call; the line is read once more where memory was refused and may be.
 fn made_once(
     alloc: Global,
@@ -99,16 +131,19 @@ fn made_once(
     line: &str,
     memory: &mut Memory,
 ) -> Result<Reply, Errno> {
-    let listed = match call_of(alloc, line) {
-        Err(Errno::ENOMEM) if memory.may_refuse() => call_of(alloc, line)?,
-        listed => listed?,
+    let (listed, server) = match ready(alloc, line) {
+        Err(Errno::ENOMEM) if memory.may_refuse() => ready(alloc, line)?,
+        ready => ready?,
     };
-    Ok(world.call(alloc, listed.task, listed.call))
+    Ok(world.call(alloc, listed.task, with_server(listed.call, server)))
 }
 
 /// Whether memory was refused to a call.
 pub fn wants_memory(reply: &Reply) -> bool {
-    matches!(reply, Reply::Refused(Errno::ENOMEM))
+    matches!(
+        reply,
+        Reply::Refused(Errno::ENOMEM) | Reply::Back(Errno::ENOMEM, _)
+    )
 }
 
 /// Makes a line's call, so often as it may be.
@@ -157,7 +192,7 @@ pub fn check(
             let printed = printed(alloc, line, &reply, memory)?;
             match left.strip_prefix(printed.as_slice()) {
                 Some(rest) => left = rest,
-                None => assert!(rt; false, "{line}: {reply:?}"),
+                None => assert!(rt; false, "{line}: {printed:?}"),
             }
         }
     }

@@ -1,9 +1,11 @@
 //! Two runs that look the same to alice.
-use crate::fixture::{Memory, Tries, booted, check, list_of, wants_memory};
-use bitflags::Flags;
-use hurd_creds::{Bytes, Errno, Mode, TaskId};
-use hurd_lists::{ListedCall, told};
-use hurd_world::{Call, Reply, World};
+ghost use Rattle.std.specs.Prelude.{IfOk};
+ghost use Rattle.hurd_world.specs.Held.{AllBegun};
+
+use crate::fixture::{Memory, booted, list_of, wants_memory};
+use hurd_creds::{Errno, TaskId};
+use hurd_lists::{ListedCall, told, with_server};
+use hurd_world::{Call, Reply, run_boxed};
 use std::alloc::{AllocError, Global};
 use std::process::Abort;
 use std::test::Fail;
@@ -57,13 +59,15 @@ const TOLD: &str = r"1 dir_lookup 1 =motd READ 0
   Data =Welcome\n
 ";
 
-/// The calls, bob's only where he is there.
-fn calls(alloc: Global, with_bob: bool) -> Result<Vec<(TaskId, Call)>, Errno> {
+/// The calls, bob's only where he is there. None brings a server.
+fn calls(alloc: Global, with_bob: bool) -> Result<Vec<(TaskId, Call)>, Errno>
+    ensures { IfOk result (λ calls. AllBegun (λ b. meaning b) calls.items) }
+{
     let list = list_of(alloc, CALLS)?;
     let mut calls = Vec::new(alloc);
     for listed in list.calls {
         let ListedCall { task, call, .. } = listed;
-        if (with_bob || task != BOB) && calls.push((task, call)).is_err() {
+        if (with_bob || task != BOB) && calls.push((task, with_server(call, None))).is_err() {
             return Err(Errno::ENOMEM);
         }
     }
@@ -73,7 +77,7 @@ fn calls(alloc: Global, with_bob: bool) -> Result<Vec<(TaskId, Call)>, Errno> {
 /// Makes the calls in a new world.
 fn run(alloc: Global, with_bob: bool) -> Result<Vec<Reply>, Errno> {
     let mut world = booted(alloc)?;
-    match world.run(alloc, calls(alloc, with_bob)?) {
+    match run_boxed(&mut world, alloc, calls(alloc, with_bob)?) {
         Ok(replies) => Ok(replies),
         Err((errno, _)) => Err(errno),
     }
@@ -135,78 +139,4 @@ fn isolation_with_ample_memory(rt: HostRuntime) -> Result<(), Fail> {
 #[test]
 fn refused_memory_in_isolation(rt: HostRuntime) -> Result<(), Fail> {
     check_runs(&rt, rt.alloc(), Memory::refused_once(rt.alloc()))
-}
-
-/// root's `put /motd Welcome\n`, and bob's home, of which alice sees no entry; alice opens motd.
-const BEFORE: &str = r"0 dir_lookup 1 =/motd WRITE,CREATE 644
-  Found Done 3
-0 io_write 3 =Welcome\n -1
-  Count 8
-0 port_deallocate 3
-  Done
-0 dir_mkdir 1 =bob 700
-  Done
-0 dir_lookup 1 =bob - 0
-  Found Done 4
-0 file_chown 4 1001 1001
-  Done
-2 dir_lookup 1 =bob - 0
-  Found Done 3
-1 dir_lookup 1 =motd READ 0
-  Found Done 3
-1 io_stat 3
-  Stat File 0 0 000644 1 8
-";
-
-/// alice opens motd anew.
-const AFTERWARDS: &str = r"1 port_deallocate 3
-  Done
-1 dir_lookup 1 =motd READ 0
-  Found Done 4
-1 io_stat 4
-  Stat File 0 0 000644 1 8
-";
-
-/// A digit, of ten.
-fn digit(number: u16) -> u8 {
-    b'0' + (number % 10) as u8
-}
-
-/// bob makes a directory in his home, whose name is a number of three digits.
-fn make_one(alloc: Global, world: &mut World, number: u16) -> Result<Reply, AllocError> {
-    let name = [digit(number / 100), digit(number / 10), digit(number)];
-    let call = Call::DirMkdir {
-        dir: 3,
-        name: Bytes::copied(alloc, &name)?,
-        mode: Mode::from_bits_retain(0o777),
-    };
-    Ok(world.call(alloc, BOB, call))
-}
-
-/// bob makes a thousand directories.
-fn make_many(rt: &impl Abort, alloc: Global, world: &mut World) -> Result<(), AllocError> {
-    for number in 0..1000u16 {
-        let reply = make_one(alloc, world, number)?;
-        assert!(rt; matches!(reply, Reply::Done), "{reply:?}");
-    }
-    Ok(())
-}
-
-/// The transcript of alice's and root's calls, with bob's thousand directories between or without.
-fn check_many(rt: &impl Abort, alloc: Global, with_bob: bool) -> Result<(), Fail> {
-    let mut world = booted(alloc)?;
-    let mut memory = Memory::ample();
-    check(rt, alloc, &mut world, BEFORE, Tries::Once, &mut memory)?;
-    if with_bob {
-        make_many(rt, alloc, &mut world)?;
-    }
-    check(rt, alloc, &mut world, AFTERWARDS, Tries::Once, &mut memory)?;
-    Ok(())
-}
-
-/// alice is told the same, and gets the same numbers, whether or not bob makes a thousand directories.
-#[test]
-fn many_things_of_another(rt: HostRuntime) -> Result<(), Fail> {
-    check_many(&rt, rt.alloc(), true)?;
-    check_many(&rt, rt.alloc(), false)
 }

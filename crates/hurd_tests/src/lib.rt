@@ -1,4 +1,5 @@
-//! Tests that cross crates: transcripts of calls on a world of boxed servers, and scripts with theirs.
+//! Tests that cross crates: transcripts of calls on a world of boxed servers, boxes that count what becomes of them, and what
+//! alice is told of bob.
 //!
 //! Each is gone through twice: with ample memory, where no call may answer `ENOMEM`, and by a test whose name begins
 //! with `refused_`, which `tests/refuse-each` runs with each request for memory refused in turn: there one call may answer
@@ -10,6 +11,8 @@
 #![tactic(auto)]
 
 #[cfg(test)]
+mod boxes;
+#[cfg(test)]
 mod calls;
 #[cfg(test)]
 mod fixture;
@@ -17,5 +20,3 @@ mod fixture;
 mod isolation;
 #[cfg(test)]
 mod nodes;
-#[cfg(test)]
-mod scripts;
