@@ -20,4 +20,4 @@ pub returns-in_ok-ids-in-FromTop : goal.returns-in_ok-ids-in-FromTop
 returns-in_ok-ids-in-FromTop g c = rw (c.in-Retries.is, c.in-FromTop.is) (ids_there _ _ c.in_ok-ids-in-FromTop.ensures)
 
 pub returns-in-Within : goal.returns-in-Within
-returns-in-Within g c = ?
+returns-in-Within g c = let a : ⊥ = c.in-Within.is in ?
