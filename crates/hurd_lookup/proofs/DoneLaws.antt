@@ -1,5 +1,5 @@
 -- A lookup that is refused, finds no memory, or is done, as its plan has it.
-use Rattle.std.proofs.Common.{◌≡◌, ◌∙◌, ◌⊎◌, inl, inr, ℕ, List, Option, refl, ap}
+use Rattle.std.proofs.Common.{◌≡◌, ◌∙◌, ◌⊎◌, inl, inr, ℕ, false, List, Option, refl, ap, subst}
 use Rattle.std.specs.Prelude.{Result, Ok, Err, IsOk, Some, None}
 use Rattle.hurd_creds.specs.declared.name.Name.{Name}
 use Rattle.hurd_creds.specs.declared.attrs.Kind.TheVariants.{File}
@@ -75,7 +75,7 @@ module _ (w : World) (t : ℕ) (flags : OpenFlags) where
   -- it can't be made ready
   pub unready : (f : Result Outcome Errno) (o : Outcome) → f ≡ Ok o → (e : Errno) → (ending_asks w t o ≡ Err e) ⊎ ((e ≡ ENOMEM) × IsOk (ending_asks w t o)) → Planned w (asked f) Found (Err e) w
   unready f o is e (inl bars) = (refl, inl (ap asked is ∙ full o e bars))
-  unready f o is e (inr no) = rw is (lacks o no.1 e no.0 w refl)
+  unready f o is e (inr short) = rw is (lacks o short.1 e short.0 w refl)
 
   -- a node that is there is opened
   module _ (e : NewPort) (ok : IsOk (ending_asks w t (Opens e))) where
@@ -127,14 +127,26 @@ module _ (w : World) (t : ℕ) (flags : OpenFlags) where
       abbrev p : Outcome
       p = Retries kind name (Some e)
 
-      abbrev bare_opens : Task → List Change
-      bare_opens x = opening t x e.node e.ids e.parents no_modes
+      abbrev bare_opens : OpenFlags → Task → List Change
+      bare_opens modes x = opening t x e.node e.ids e.parents modes
 
       abbrev tell : ℕ → Lookup
       tell k = found.Retry kind name (Some k)
 
-      pub told-at : (k : ℕ) (y : World) → Does w (room_asks w t 1) bare_opens (λ x. x.next) (Ok k) y → Follows w (asked (Ok p)) (Found (tell k)) y
-      told-at k y d = let x = there (ending_asks w t p) ok in does_planned w (room_asks w t 1) bare_opens (λ x. x.next) tell (asked (Ok p)) x.0 x.1 (plan-is p x.0 x.1) k y d
+      -- in a world that is this one, with modes that are none
+      abbrev Does-bare : World → OpenFlags → Result ℕ Errno → World → Type 0
+      Does-bare v modes r y = Does v (room_asks v t 1) (bare_opens modes) (λ x. x.next) r y
 
-      pub untold-at : (f : Errno) (y : World) → Does w (room_asks w t 1) bare_opens (λ x. x.next) (Err f) y → Planned w (asked (Ok p)) Found (Err f) y
-      untold-at f y d = let x = there (ending_asks w t p) ok in does_lacks w (room_asks w t 1) bare_opens (λ x. x.next) tell (asked (Ok p)) x.0 x.1 (plan-is p x.0 x.1) f y d
+      pub told-at : (v : World) → v ≡ w → (modes : OpenFlags) → modes ≡ no_modes → (k : ℕ) (y : World) → Does v (room_asks v t 1) (bare_opens modes) (λ x. x.next) (Ok k) y
+          → Follows w (asked (Ok p)) (Found (tell k)) y
+      told-at v same modes none k y d =
+          let x = there (ending_asks w t p) ok in
+          let here = subst (λ (u : World). Does-bare u no_modes (Ok k) y) same (subst (λ (m : OpenFlags). Does-bare v m (Ok k) y) none d) in
+          does_planned w (room_asks w t 1) (bare_opens no_modes) (λ x. x.next) tell (asked (Ok p)) x.0 x.1 (plan-is p x.0 x.1) k y here
+
+      pub untold-at : (v : World) → v ≡ w → (modes : OpenFlags) → (f : Errno) (y : World) → Does v (room_asks v t 1) (bare_opens modes) (λ x. x.next) (Err f) y
+          → Planned w (asked (Ok p)) Found (Err f) y
+      untold-at v same modes f y d =
+          let x = there (ending_asks w t p) ok in
+          does_lacks w (room_asks w t 1) (bare_opens no_modes) (λ x. x.next) tell (asked (Ok p)) x.0 x.1 (plan-is p x.0 x.1) f y
+          (subst (λ (u : World). Does-bare u no_modes (Err f) y) same d)
