@@ -80,6 +80,6 @@ module _ (w : World) (root : Name) (h : Header) (there : header_at w root ≡ So
       let y = node-of in
       let kind = only_symlink i.0.kind i.0.text a (ap (λ (z : Root). z.crossing) i.2 ∙ link) in
       let reads : readable_at w root 0 ≡ length i.0.text =
-          ap₂ (λ (o : Option ServerInfo) (z : Option Node). count_in (readable_by 0 o z)) i.1 y.1
-          ∙ ap (λ (k : ServerKind). (behaviour_of k).readable i.0.text y.0 0) kind ∙ omega arith in
+      ap₂ (λ (o : Option ServerInfo) (z : Option Node). count_in (readable_by 0 o z)) i.1 y.1
+      ∙ ap (λ (k : ServerKind). (behaviour_of k).readable i.0.text y.0 0) kind ∙ omega arith in
       record { info = i.0; node = y.0; served = i.1; there = y.1; kind = kind; long = sym (is ∙ reads) }

@@ -19,7 +19,7 @@ use Rattle.hurd_machine.specs.Change.{Change, apply_all, opening}
 use Rattle.hurd_machine.specs.Plan.{Plan, Planned, Follows, refuse, is_refused, on, first, answered}
 use Rattle.hurd_core.specs.Core.{Does, NewNodeAt, room_asks, making_asks, making_open}
 use Rattle.hurd_lookup.specs.Lookup.{NewPort, Outcome, Opens, Makes, Retries, ending_asks, finding, lookup_changes, lookup_told, no_modes}
-use Rattle.hurd_lookup.specs.Ends.{MayMake, Readies}
+use Rattle.hurd_lookup.specs.Ends.{MayMake}
 
 -- a method that does what a plan says, where it is not refused
 
@@ -107,10 +107,13 @@ module _ (w : World) (t : ℕ) (flags : OpenFlags) where
     makes-it : (x : Task) × (making_asks w t f ≡ Ok (x, s)) × (asked (Ok o) ≡ told (o, x))
     unfolding first on
     makes-it =
-        let x = there (ending_asks w t o) ok in
-        (x.0, ap (λ (r : Result Task Errno). asks_more r (makes_at w f.dir f.name File) (home_at w f.dir)) x.1
-        ∙ ap (λ (m : Result (Unit {0}) Errno). asks_more (Ok x.0) m (home_at w f.dir)) may.0
-        ∙ ap (λ (h : Option Name). asks_more (Ok x.0) (Ok tt) h) may.1, plan-is o x.0 x.1)
+        let x = there (ending_asks w t o) ok in (
+          x.0,
+          ap (λ (r : Result Task Errno). asks_more r (makes_at w f.dir f.name File) (home_at w f.dir)) x.1
+              ∙ ap (λ (m : Result (Unit {0}) Errno). asks_more (Ok x.0) m (home_at w f.dir)) may.0
+              ∙ ap (λ (h : Option Name). asks_more (Ok x.0) (Ok tt) h) may.1,
+          plan-is o x.0 x.1,
+        )
 
     pub made : (k : ℕ) (y : World) → Does w (making_asks w t f) makes (λ a. a.0.next) (Ok k) y → Follows w (asked (Ok o)) (Found (found.Done k)) y
     made k y d = let x = makes-it in does_planned w (making_asks w t f) makes (λ a. a.0.next) found.Done (asked (Ok o)) (x.0, s) x.1 x.2 k y d

@@ -1,3 +1,7 @@
+pub mod WalkLaws
+pub mod EndLaws
+pub mod OutcomeLaws
+pub mod LookupLaws
 pub mod PathLaws
 pub mod RoomLaws
 pub mod RestLaws

@@ -80,11 +80,7 @@ impl Onward {
     /// The port at which it goes on, if at one. A port has ids only within the server that was entered.
     ///
     /// `ENOMEM`.
-    pub(crate) fn port(
-        self,
-        alloc: Global,
-        authority: Authority,
-    ) -> Result<Option<NewPort>, Errno>
+    pub(crate) fn port(self, alloc: Global, authority: Authority) -> Result<Option<NewPort>, Errno>
         requires { IfSome (way_of self) (λ way. length (right_by authority).parents < most_parents) }
         ensures { Meets (Ok (port_by (right_by authority.entry) self)) (ports_told result) }
     {

@@ -1,5 +1,4 @@
 -- What the root is says how it is crossed.
-use Rattle.std.proofs.Common.{◌∙◌}
 use Rattle.hurd_core.specs.Core.{world_of}
 use Rattle.hurd_lookup.specs.Path.{names_in}
 use Rattle.hurd_lookup.specs.Ends.{right_by}

@@ -1,6 +1,5 @@
 -- A name that is missed; any other step follows from what was asked.
-use Rattle.std.proofs.Common.{◌∙◌, ap, sym}
-use Rattle.std.specs.Prelude.{Err}
+use Rattle.std.proofs.Common.{◌∙◌}
 use Rattle.std.proofs.lemmas.Result.{err_from_is_err_and}
 use Rattle.hurd_core.specs.Core.{world_of}
 use Rattle.hurd_lookup.specs.Path.{names_in}

@@ -21,10 +21,12 @@ pub returns-in-To : goal.returns-in-To
 returns-in-To g c =
     let w = world_of g.S.Server.meaning c.args.core.now in
     let q = right_by c.args.authority in
-    let goes = rw c.in-To.is at c.in_ok-node.ensures in
-    (sym c.loop-name.invariant
-    ∙ walk-one w q c.args.request c.loop-name.here c.loop-name.rest.now c.in-Some.name.now c.in-Some.after.now c.in-Some.ensures.0
-    ∙ goes.0 (on_along w q c.args.request c.loop-name.here (names_in c.in-Some.after.now)), goes.1)
+    let goes = rw c.in-To.is at c.in_ok-node.ensures in (
+      sym c.loop-name.invariant
+          ∙ walk-one w q c.args.request c.loop-name.here c.loop-name.rest.now c.in-Some.name.now c.in-Some.after.now c.in-Some.ensures.0
+          ∙ goes.0 (on_along w q c.args.request c.loop-name.here (names_in c.in-Some.after.now)),
+      goes.1,
+    )
 
 pub loop-name-preserved : goal.loop-name-preserved
 loop-name-preserved g c =

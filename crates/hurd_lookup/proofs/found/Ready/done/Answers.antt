@@ -1,5 +1,4 @@
 -- The node is opened, or the file is made.
-use Rattle.std.proofs.Common.{◌∙◌}
 use Rattle.std.proofs.lemmas.Result.{err_from_is_err_and}
 use Rattle.hurd_core.specs.Core.{world_of}
 use Rattle.hurd_core.specs.ToMake.{new_node_of}
