@@ -1,99 +1,130 @@
 -- The end of a lookup: what it asks there is the same in worlds that agree, and what its answer shows.
-use Rattle.std.proofs.Common.{◌≡◌, ◌⊎◌, ℕ, Bool, true, false, not, ◌&&◌, ◌||◌, if◌then◌else◌, List, Option, Some, None, refl, ap₂, inl, inr}
-use Rattle.std.specs.Prelude.{Ok, Err}
-use Rattle.std.specs.Option.{option_map}
-use Rattle.std.specs.FinMap.{get}
+use Rattle.std.proofs.Common.{◌≡◌, ℕ, Bool, true, not, ◌&&◌, ◌||◌, List, Option, Some, None, refl, sym, subst}
+use Rattle.std.specs.Prelude.{Ok}
 use Rattle.hurd_creds.specs.declared.name.Name.{Name}
+use Rattle.hurd_creds.specs.declared.open_flags.OpenFlags.{OpenFlags}
 use Rattle.hurd_creds.specs.declared.attrs.Kind.TheVariants.{File}
 use Rattle.hurd_creds.specs.declared.attrs.Want.TheVariants.{Write}
-use Rattle.hurd_creds.specs.declared.errno.Errno.TheVariants.{EACCES, EDIED, EEXIST, EISDIR, ENOENT, ENOTDIR, EROFS}
-use Rattle.hurd_creds.specs.Access.{IdSets, may, least_uid}
+use Rattle.hurd_creds.specs.declared.errno.Errno.TheVariants.{EACCES, EDIED, EISDIR, ENOENT, ENOTDIR, EROFS}
+use Rattle.hurd_creds.specs.Access.{may, least_uid}
 use Rattle.hurd_creds.specs.Bits.{asks, known_mode, WRITE}
-use Rattle.hurd_trans_iface.specs.Nodes.{Node, Header, Body, is_dir}
+use Rattle.hurd_trans_iface.specs.Nodes.{Header, is_dir}
+use Rattle.hurd_ports.specs.declared.parents.Parent.{Parent}
+use Rattle.hurd_ports.specs.declared.table.IoRight.{IoRight}
+use Rattle.hurd_machine.specs.declared.call.RetryKind.{RetryKind}
 use Rattle.hurd_machine.specs.World.{World, header_at, home_at, info_at, makes_at, is_removed}
-use Rattle.hurd_machine.specs.Sight.{bare, BodyOf, Sees}
-use Rattle.hurd_machine.proofs.Views.{Agree, header_same, body_same, home_same}
-use Rattle.hurd_machine.proofs.Asks.{on_same, given_same, first_same, on_ok, given_ok, first_ok, IsPlain, ok_plain, err_plain, on_plain, given_plain, first_plain, info_same}
+use Rattle.hurd_machine.specs.Sight.{bare, BodyOf, Sees, Taken}
+use Rattle.hurd_machine.proofs.Views.{Agree, header_same, home_same}
+use Rattle.hurd_machine.proofs.Asks.{on_same, given_same, first_same, on_ok, given_ok, first_ok, IsPlain, ok_plain, on_plain, given_plain, first_plain, info_same, is_root_same, makes_same, makes_plain}
+use Rattle.hurd_core.specs.Core.{NewNodeAt}
 use Rattle.hurd_lookup.specs.declared.request.Request.{Request}
-use Rattle.hurd_lookup.specs.Lookup.{Place, AtNode, AtName, Outcome, Opens, Makes, may_open, end_asks}
-use Rattle.hurd_lookup.proofs.WalkLaws.{PlaceSeen, root_same}
-
--- whether a file may be made in a directory
-
-same_node : (o p : Option Node) → option_map (λ (x : Node). x.header) p ≡ option_map (λ (x : Node). x.header) o → option_map (λ (x : Node). x.body) p ≡ option_map (λ (x : Node). x.body) o → p ≡ o
-same_node None None h b = refl
-same_node None (Some y) h b = absurd (cc)
-same_node (Some x) None h b = absurd (cc)
-same_node (Some x) (Some y) h b =
-    let header : y.header ≡ x.header = cc in
-    let body : y.body ≡ x.body = cc in
-    ap₂ (λ (h : Header) (b : Body). let z : Node = record { header = h; body = b } in Some z) header body
-
-makes_same : {S : ℕ → Bool} {v w : World} → Agree S v w → (d : Name) (name : List ℕ) → Sees S v (BodyOf d) → makes_at w d name File ≡ makes_at v d name File
-makes_same {S} {v} {w} a d name seen =
-    let info : info_at w d ≡ info_at v d = info_same a d seen.0 in
-    let node : get w.nodes d ≡ get v.nodes d = same_node (get v.nodes d) (get w.nodes d) (header_same a d seen.0) (body_same a d seen) in
-    rw (info, node) refl
-
-none_or_some : {A : Type 0} (o : Option A) → (o ≡ None) ⊎ ((a : A) × (o ≡ Some a))
-none_or_some None = inl refl
-none_or_some (Some a) = inr (a, refl)
-
-makes_plain : (w : World) (d : Name) (name : List ℕ) → IsPlain (makes_at w d name File)
-makes_plain w d name = elim (none_or_some (info_at w d)) [
-  | inl none ↦ rw none (err_plain EDIED refl)
-  | inr i ↦ elim (none_or_some (get w.nodes d)) [ inl none ↦ rw (i.1, none) (err_plain EDIED refl) | inr x ↦ rw (i.1, x.1) (steps _ _ _) ]
-]
-  where
-    steps : (bad_dir bad_tree there : Bool) → IsPlain {A = Unit {0}} (if bad_dir then Err ENOTDIR else if bad_tree then Err EROFS else if there then Err EEXIST else Ok tt)
-    steps true bad_tree there = err_plain ENOTDIR refl
-    steps false true there = err_plain EROFS refl
-    steps false false true = err_plain EEXIST refl
-    steps false false false = ok_plain tt
+use Rattle.hurd_lookup.specs.Lookup.{NewPort, Place, AtNode, AtName, Elsewhere, Outcome, Opens, Makes, Retries, may_open, only_reads, open_asks, make_asks, end_asks}
+use Rattle.hurd_lookup.proofs.WalkLaws.{WaysSeen, PortSeen, PlaceSeen, WaysGiven, PortGiven, PlaceGiven}
 
 -- what is asked at the end
 
-module _ {S : ℕ → Bool} {v w : World} (a : Agree S v w) (ids : IdSets) (r : Request) where
-  pub end_same : (place : Place) → PlaceSeen S v place → end_asks w ids r place ≡ end_asks v ids r place
-  end_same (AtNode n) seen = on_same _ _ _ _ _ (header_same a n seen) (λ h e. refl)
+module _ {S : ℕ → Bool} {v w : World} (a : Agree S v w) (q : IoRight) (r : Request) where
+  pub end_same : (place : Place) → PlaceSeen S v place → end_asks w q r place ≡ end_asks v q r place
+  end_same (AtNode n ways) seen =
+      on_same _ _ _ _ _ (header_same a n seen.0) (λ h e. given_same _ _ _ _ _ refl (λ k. given_same _ _ _ _ _ refl (λ b.
+      given_same _ (not (asks r.flags WRITE && only_reads (info_at v n))) (not (asks r.flags WRITE && only_reads (info_at w n))) _ _ (rw (info_same a n seen.0) refl) (λ g. refl))))
   end_same (AtName d name) seen =
-      first_same _ _ _ _ (makes_same a d name seen) (λ u made.
+      first_same _ _ _ _ (makes_same a d name File seen) (λ u made.
       on_same _ _ _ _ _ (header_same a d seen.0) (λ h e. given_same _ _ _ _ _ refl (λ m. on_same _ _ _ _ _ refl (λ owner least.
-      given_same _ (not (is_removed v d h)) (not (is_removed w d h)) _ _ (rw (root_same a d seen.0) refl) (λ g.
+      given_same _ (not (is_removed v d h)) (not (is_removed w d h)) _ _ (rw (is_root_same a d seen.0) refl) (λ g.
       on_same _ _ _ _ _ (home_same a d seen.0) (λ s es. refl))))))
+  end_same (Elsewhere kind name at) seen = refl
 
-pub end_plain : (w : World) (ids : IdSets) (r : Request) (place : Place) → IsPlain (end_asks w ids r place)
-end_plain w ids r (AtNode n) = on_plain _ _ _ refl (λ h e. given_plain _ _ _ refl (λ k. given_plain _ _ _ refl (λ b. given_plain _ _ _ refl (λ m. ok_plain _))))
-end_plain w ids r (AtName d name) =
-    first_plain _ _ (makes_plain w d name) (λ u made. on_plain _ _ _ refl (λ h e. given_plain _ _ _ refl (λ m. on_plain _ _ _ refl (λ owner least.
+pub end_plain : (w : World) (q : IoRight) (r : Request) (place : Place) → IsPlain (end_asks w q r place)
+end_plain w q r (AtNode n ways) = on_plain _ _ _ refl (λ h e. given_plain _ _ _ refl (λ k. given_plain _ _ _ refl (λ b. given_plain _ _ _ refl (λ g. given_plain _ _ _ refl (λ m. ok_plain _)))))
+end_plain w q r (AtName d name) =
+    first_plain _ _ (makes_plain w d name File) (λ u made. on_plain _ _ _ refl (λ h e. given_plain _ _ _ refl (λ m. on_plain _ _ _ refl (λ owner least.
     given_plain _ _ _ refl (λ g. on_plain _ _ _ refl (λ s es. ok_plain _))))))
+end_plain w q r (Elsewhere kind name at) = ok_plain _
 
--- where it was that something is to be done
-abbrev pub place_of : Outcome → Place
-place_of (Opens n) = AtNode n
-place_of (Makes s f) = AtName f.dir f.name
+-- what S sees of an outcome: of a port its node, ids and ways, and the entries of a directory in which a file is made
+abbrev pub OutcomeSeen : (ℕ → Bool) → World → Outcome → Type 0
+OutcomeSeen S v (Opens e) = PortSeen S v e
+OutcomeSeen S v (Makes s f ids ways) = Sees S v (BodyOf f.dir) × Taken S v ids × WaysSeen S v ways
+OutcomeSeen S v (Retries kind name None) = Unit {0}
+OutcomeSeen S v (Retries kind name (Some e)) = PortSeen S v e
 
--- a node that is opened stands, and may be opened; a file that is made is of its directory's server, which lets it be made, and the directory isn't removed
-abbrev pub Leads : World → IdSets → Request → Outcome → Type 0
-Leads w ids r (Opens n) = (h : Header) × (header_at w n ≡ Some h) × (may_open ids h r.flags ≡ true) × (not (is_dir h.kind && asks r.flags WRITE) ≡ true)
-Leads w ids r (Makes s f) =
-    (u : Unit {0}) × (makes_at w f.dir f.name File ≡ Ok u) × (home_at w f.dir ≡ Some s)
-    × (h : Header) × (header_at w f.dir ≡ Some h) × (not (is_removed w f.dir h) ≡ true)
+-- a node that is opened stands, and may be opened
+pub record OpenLeads (w : World) (flags : OpenFlags) (e : NewPort) : Type 0 where
+  pub header : Header
+  pub is_header : header_at w e.node ≡ Some header
+  pub may : may_open e.ids header flags ≡ true
+  pub fits : not (is_dir header.kind && asks flags WRITE) ≡ true
 
-pub ended : (w : World) (ids : IdSets) (r : Request) (place : Place) (o : Outcome) → end_asks w ids r place ≡ Ok o → (place_of o ≡ place) × Leads w ids r o
-ended w ids r (AtNode n) o is =
-    let h = on_ok EDIED (header_at w n) _ o is in
-    let a = given_ok ENOTDIR (not r.wants_dir || is_dir h.0.kind) _ o h.2 in
-    let b = given_ok EISDIR (not (is_dir h.0.kind && asks r.flags WRITE)) _ o a.1 in
-    let m = given_ok EACCES (may_open ids h.0 r.flags) _ o b.1 in
-    let same : Opens n ≡ o = cc (m.1) in
-    rw (← same) (refl, (h.0, h.1, m.0, b.0))
-ended w ids r (AtName d name) o is =
-    let u = first_ok (makes_at w d name File) _ o is in
-    let h = on_ok EDIED (header_at w d) _ o u.2 in
-    let m = given_ok EACCES (may ids (bare h.0) Write) _ o h.2 in
-    let l = on_ok EACCES (least_uid ids) _ o m.1 in
-    let g = given_ok ENOENT (not (is_removed w d h.0)) _ o l.2 in
-    let s = on_ok EDIED (home_at w d) _ o g.1 in
-    let same : Makes s.0 (record { dir = d; name = name; owner = l.0; group = h.0.group; mode = known_mode r.mode }) ≡ o = cc (s.2) in
-    rw (← same) (refl, (u.0, u.1, s.1, h.0, h.1, g.0))
+-- a file that is made is of its directory's server, which lets it be made, and the directory isn't removed
+pub record MakeLeads (w : World) (s dir : Name) (name : List ℕ) : Type 0 where
+  pub may : makes_at w dir name File ≡ Ok tt
+  pub home : home_at w dir ≡ Some s
+  pub header : Header
+  pub is_header : header_at w dir ≡ Some header
+  pub stands : not (is_removed w dir header) ≡ true
+
+-- what an outcome shows of the world
+abbrev pub Leads : World → OpenFlags → Outcome → Type 0
+Leads w flags (Opens e) = OpenLeads w flags e
+Leads w flags (Makes s f ids ways) = MakeLeads w s f.dir f.name
+Leads w flags (Retries kind name at) = Unit {0}
+
+-- what an outcome names was given: the nodes of ways; and a port of a retry is on a node that is there
+abbrev pub OutcomeGiven : World → Outcome → Type 0
+OutcomeGiven w (Opens e) = WaysGiven w e.parents
+OutcomeGiven w (Makes s f ids ways) = WaysGiven w ways
+OutcomeGiven w (Retries kind name None) = Unit {0}
+OutcomeGiven w (Retries kind name (Some e)) = PortGiven w e
+
+-- what an answer at the end of the names shows
+module _ (w : World) (q : IoRight) (r : Request) where
+  abbrev port : Name → List Parent → NewPort
+  port n ways = record { node = n; ids = q.ids; parents = ways }
+
+  -- a node that is opened
+  opened : (n : Name) (ways : List Parent) (o : Outcome) → open_asks w q.ids r n ways ≡ Ok o → (Opens (port n ways) ≡ o) × OpenLeads w r.flags (port n ways)
+  opened n ways o is =
+      let h = on_ok EDIED (header_at w n) _ o is in
+      let k = given_ok ENOTDIR (not r.wants_dir || is_dir h.0.kind) _ o h.2 in
+      let b = given_ok EISDIR (not (is_dir h.0.kind && asks r.flags WRITE)) _ o k.1 in
+      let g = given_ok EROFS (not (asks r.flags WRITE && only_reads (info_at w n))) _ o b.1 in
+      let m = given_ok EACCES (may_open q.ids h.0 r.flags) _ o g.1 in
+      (cc (m.1), record { header = h.0; is_header = h.1; may = m.0; fits = b.0 })
+
+  -- a file that is made
+  made : (d : Name) (name : List ℕ) (o : Outcome) → make_asks w q r d name ≡ Ok o → (s : Name) × (f : NewNodeAt) × (Makes s f q.ids q.parents ≡ o) × (f.dir ≡ d) × MakeLeads w s f.dir f.name
+  made d name o is =
+      let u = first_ok (makes_at w d name File) _ o is in
+      let h = on_ok EDIED (header_at w d) _ o u.2 in
+      let m = given_ok EACCES (may q.ids (bare h.0) Write) _ o h.2 in
+      let l = on_ok EACCES (least_uid q.ids) _ o m.1 in
+      let g = given_ok ENOENT (not (is_removed w d h.0)) _ o l.2 in
+      let s = on_ok EDIED (home_at w d) _ o g.1 in
+      let f : NewNodeAt = record { dir = d; name = name; owner = l.0; group = h.0.group; mode = known_mode r.mode } in
+      (s.0, f, cc (s.2), refl, record { may = u.1; home = s.1; header = h.0; is_header = h.1; stands = g.0 })
+
+  -- a name that is looked up elsewhere
+  retried : (P : Outcome → Type 0) (kind : RetryKind) (name : List ℕ) (at : Option NewPort) (o : Outcome) → end_asks w q r (Elsewhere kind name at) ≡ Ok o → P (Retries kind name at) → P o
+  retried P kind name at o is h = let same : Retries kind name at ≡ o = cc in subst P same h
+
+  pub end_leads : (place : Place) (o : Outcome) → end_asks w q r place ≡ Ok o → Leads w r.flags o
+  end_leads (AtNode n parents) o is = let x = opened n parents o is in subst (Leads w r.flags) x.0 x.1
+  end_leads (AtName d name) o is = let x = made d name o is in subst (Leads w r.flags) x.2 x.4
+  end_leads (Elsewhere kind name at) o is = retried (Leads w r.flags) kind name at o is tt
+
+  -- by a right whose ways were given
+  pub end_given : WaysGiven w q.parents → (place : Place) (o : Outcome) → PlaceGiven w place → end_asks w q r place ≡ Ok o → OutcomeGiven w o
+  end_given ways (AtNode n parents) o given is = subst (OutcomeGiven w) (opened n parents o is).0 given
+  end_given ways (AtName d name) o given is = subst (OutcomeGiven w) (made d name o is).2 ways
+  end_given ways (Elsewhere kind name None) o given is = retried (OutcomeGiven w) kind name None o is given
+  end_given ways (Elsewhere kind name (Some e)) o given is = retried (OutcomeGiven w) kind name (Some e) o is given
+
+  -- by a right whose ids S has, and whose ways it sees
+  pub end_seen : (S : ℕ → Bool) → Taken S w q.ids → WaysSeen S w q.parents → (place : Place) (o : Outcome) → PlaceSeen S w place → end_asks w q r place ≡ Ok o → OutcomeSeen S w o
+  end_seen S taken ways (AtNode n parents) o seen is = subst (OutcomeSeen S w) (opened n parents o is).0 (record { node = seen.0; ids = taken; ways = seen.1 })
+  end_seen S taken ways (AtName d name) o seen is =
+      let x = made d name o is in
+      subst (OutcomeSeen S w) x.2 (subst (λ dir. Sees S w (BodyOf dir)) (sym x.3) seen, taken, ways)
+  end_seen S taken ways (Elsewhere kind name None) o seen is = retried (OutcomeSeen S w) kind name None o is seen
+  end_seen S taken ways (Elsewhere kind name (Some e)) o seen is = retried (OutcomeSeen S w) kind name (Some e) o is seen

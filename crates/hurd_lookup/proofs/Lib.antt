@@ -1,7 +1,9 @@
 pub mod WalkLaws
 pub mod EndLaws
 pub mod OutcomeLaws
+pub mod FoundLaws
 pub mod LookupLaws
+pub mod GetrootLaws
 pub mod PathLaws
 pub mod RoomLaws
 pub mod RestLaws

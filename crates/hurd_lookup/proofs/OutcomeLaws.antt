@@ -1,5 +1,5 @@
--- What a lookup does at its end: it opens a node, or makes a file and opens that.
-use Rattle.std.proofs.Common.{◌≡◌, ℕ, ◌+◌, Bool, true, false, not, ◌&&◌, ◌||◌, List, Some, refl, ap, ◌∙◌, inl, inr, arith}
+-- What a lookup does at its end: it opens a node, makes a file and opens that, or makes the port of a retry.
+use Rattle.std.proofs.Common.{◌≡◌, ℕ, ◌+◌, Bool, true, false, not, ◌&&◌, ◌||◌, List, [], Some, None, refl, ap, ◌∙◌, inl, inr, arith}
 use Rattle.std.proofs.lemmas.Nat.{and_assoc}
 use Rattle.hurd_creds.specs.declared.name.Name.{Name}
 use Rattle.hurd_creds.specs.declared.open_flags.OpenFlags.{OpenFlags}
@@ -10,30 +10,30 @@ use Rattle.hurd_creds.specs.Bits.{asks, open_modes, READ, WRITE, EXEC}
 use Rattle.hurd_trans_iface.specs.Nodes.{Node, Header, is_dir, new_file}
 use Rattle.hurd_trans_iface.proofs.Goods.{good}
 use Rattle.hurd_ports.specs.declared.parents.Parent.{Parent}
-use Rattle.hurd_ports.specs.Tables.{Task, fresh, ways_of}
+use Rattle.hurd_ports.specs.Tables.{Task, fresh}
 use Rattle.hurd_ports.specs.Steps.{named}
 use Rattle.hurd_nodes.specs.Shown.{tree_by}
-use Rattle.hurd_machine.specs.World.{World, IsAmong, task_at, header_at, server_at, nodes_of}
+use Rattle.hurd_machine.specs.World.{World, task_at, header_at, server_at, nodes_of}
 use Rattle.hurd_machine.specs.Change.{Change, apply_all, opening}
-use Rattle.hurd_machine.specs.Sight.{Part, OfNode, TaskOf, bare, Taken, Allowed, ToRead}
+use Rattle.hurd_machine.specs.Sight.{Part, OfNode, TaskOf, bare, Allowed, SeesBody, ToRead}
+use Rattle.hurd_machine.specs.Touched.{OnNode}
 use Rattle.hurd_machine.specs.Sound.{Below, Coherent, Linked}
 use Rattle.hurd_machine.proofs.Coherence.{AllProper, header_old, home_old, named_still, next_not, no_home}
 use Rattle.hurd_machine.proofs.Keeping.{proper_append}
-use Rattle.hurd_machine.proofs.Settle.{Rests, rests_append, rests_opening}
+use Rattle.hurd_machine.proofs.Settle.{Rests, rests_quiet, rests_append, rests_opening}
 use Rattle.hurd_machine.proofs.Frame.{AllWithin, Full, within_append}
-use Rattle.hurd_machine.proofs.Sizes.{KeepsSized, sized_append}
-use Rattle.hurd_machine.proofs.Links.{KeepsLinked, linked_append, leads_unless, file_hangs}
-use Rattle.hurd_machine.proofs.Confine.{NewTo, SeenOrNew}
+use Rattle.hurd_machine.proofs.Sizes.{KeepsSized, sized_ports, sized_append}
+use Rattle.hurd_machine.proofs.Links.{KeepsLinked, linked_steady, linked_append, leads_unless, file_hangs}
+use Rattle.hurd_machine.proofs.Confine.{NewTo}
 use Rattle.hurd_machine.proofs.Several.{AllMay}
 use Rattle.hurd_machine.proofs.Permits.{may_append, later_new, opens_may}
 use Rattle.hurd_machine.proofs.Opens as fragments
 use Rattle.hurd_machine.proofs.Opens.{own_task, fresh_new, fresh_next, opens_within, opens_proper, opens_sized, opens_linked}
 use Rattle.hurd_machine.proofs.Makes.{MayMake, may_make, entered_within, entered_proper, entered_rests, entered_sized, entered_may, entered_home, entered_header, entered_task, entered_below, made_in, made_fit, entered_linked}
 use Rattle.hurd_core.specs.Core.{NewNodeAt, asked_node, making}
-use Rattle.hurd_lookup.specs.declared.request.Request.{Request}
-use Rattle.hurd_lookup.specs.Lookup.{Outcome, Opens, Makes, may_open, lookup_changes, lookup_parts}
-use Rattle.hurd_lookup.proofs.WalkLaws.{PlaceSeen}
-use Rattle.hurd_lookup.proofs.EndLaws.{place_of, Leads}
+use Rattle.hurd_lookup.specs.Lookup.{NewPort, Outcome, Opens, Makes, Retries, may_open, no_modes, lookup_changes, lookup_parts}
+use Rattle.hurd_lookup.proofs.WalkLaws.{PortSeen, WaysGiven}
+use Rattle.hurd_lookup.proofs.EndLaws.{OutcomeSeen, OutcomeGiven, Leads}
 
 -- an open keeps no flag that was not asked for
 
@@ -57,23 +57,42 @@ no_dir true true h k = absurd (cc)
 no_dir false b h k = refl
 no_dir true false h k = absurd (cc)
 
-module _ (w : World) (t : ℕ) (x : Task) (is : task_at w t ≡ Some x) (ids : IdSets) (parents : List Parent) (r : Request) where
+-- a port without modes neither reads nor writes
+
+silent_write : asks no_modes WRITE ≡ true → ⊥
+silent_write h = absurd (cc)
+
+silent_read : asks no_modes READ ≡ true → ⊥
+silent_read h = absurd (cc)
+
+module _ (w : World) (t : ℕ) (x : Task) (is : task_at w t ≡ Some x) (flags : OpenFlags) where
   abbrev modes : OpenFlags
-  modes = open_modes r.flags
+  modes = open_modes flags
 
   abbrev n : Name
   n = fresh t x
 
   abbrev changes : Outcome → List Change
-  changes o = lookup_changes t x ids parents modes o
+  changes o = lookup_changes t x modes o
 
   -- the parts that it may write
   abbrev Writes : Outcome → Part → Type 0
   Writes o = Full w t (lookup_parts w o)
 
-  -- the new file is opened
-  abbrev file_opened : List Change
-  file_opened = opening t (named 1 x) n ids parents modes
+  -- a port that is made
+  module _ (e : NewPort) (modes : OpenFlags) where
+    abbrev new_port : List Change
+    new_port = opening t x e.node e.ids e.parents modes
+
+    port_within : (o : Outcome) → ((p : Part) → OnNode w e.node p → lookup_parts w o p) → AllWithin (Writes o) w new_port
+    port_within o on = opens_within w t x is e.node e.ids e.parents modes (Writes o) (own_task w t (lookup_parts w o)) (inr (inr (fresh_new w t x is))) (λ p here. inl (on p here))
+
+    port_proper : Coherent w → Below w e.node → WaysGiven w e.parents → (asks modes WRITE ≡ true → (h : Header) → header_at w e.node ≡ Some h → is_dir h.kind ≡ false) → AllProper w new_port
+    port_proper c made up writes = opens_proper w t x is e.node e.ids e.parents modes c made up writes
+
+    port_may : (S : ℕ → Bool) → S t ≡ true → PortSeen S w e → (asks modes READ ≡ true → (h : Header) → header_at w e.node ≡ Some h → SeesBody S w e.node h) → AllMay S w w new_port
+    port_may S ours seen reads =
+        opens_may S w w t x e.node e.ids e.parents modes ours (later_new S w t x x.made ours is (omega arith)) (inl seen.node) (λ m way. inl (seen.ways m way)) (inr seen.ids) reads
 
   -- a file that is made
   module _ (s : Name) (f : NewNodeAt) where
@@ -92,59 +111,76 @@ module _ (w : World) (t : ℕ) (x : Task) (is : task_at w t ≡ Some x) (ids : I
     header : header_at left n ≡ Some file.header
     header = entered_header w n s file f.dir f.name
 
+  -- it is opened
+  abbrev file_opened : IdSets → List Parent → List Change
+  file_opened ids ways = opening t (named 1 x) n ids ways modes
+
   pub outcome_within : (o : Outcome) → AllWithin (Full w t (lookup_parts w o)) w (changes o)
-  outcome_within (Opens m) = opens_within w t x is m ids parents modes (Writes (Opens m)) (own_task w t (lookup_parts w (Opens m))) (inr (inr (fresh_new w t x is))) (λ p on. inl on)
-  outcome_within (Makes s f) =
+  outcome_within (Opens e) = port_within e modes (Opens e) (λ p on. on)
+  outcome_within (Retries kind name None) = tt
+  outcome_within (Retries kind name (Some e)) = port_within e no_modes (Retries kind name (Some e)) (λ p on. on)
+  outcome_within (Makes s f ids ways) =
       let new = fresh_new w t x is in
-      let own : Writes (Makes s f) (TaskOf t) = own_task w t (lookup_parts w (Makes s f)) in
-      within_append (Writes (Makes s f)) (made s f) file_opened w
-      (entered_within w n s (file s f) f.dir f.name (Writes (Makes s f)) own (inr (inr new)) (inr (inr new)) (inr (inr new)) (inl (inr (inl refl))) (inl (inr (inr refl))))
-      (opens_within (left s f) t (named 1 x) (seat s f) n ids parents modes (Writes (Makes s f)) own (inr (inr (fragments.later_new w t 1 x is)))
+      let own : Writes (Makes s f ids ways) (TaskOf t) = own_task w t (lookup_parts w (Makes s f ids ways)) in
+      within_append (Writes (Makes s f ids ways)) (made s f) (file_opened ids ways) w
+      (entered_within w n s (file s f) f.dir f.name (Writes (Makes s f ids ways)) own (inr (inr new)) (inr (inr new)) (inr (inr new)) (inl (inr (inl refl))) (inl (inr (inr refl))))
+      (opens_within (left s f) t (named 1 x) (seat s f) n ids ways modes (Writes (Makes s f ids ways)) own (inr (inr (fragments.later_new w t 1 x is)))
       (λ p on. let same : on.0 ≡ s = cc (on.1, entered_home w n s (file s f) f.dir f.name) in inl (inl (rw (on.2, same) refl))))
 
-  pub outcome_proper : Coherent w → ((m : Name) → IsAmong m (ways_of parents) → Below w m) → (o : Outcome) → Leads w ids r o → AllProper w (changes o)
-  outcome_proper c up (Opens m) l =
-      opens_proper w t x is m ids parents modes c (header_old c m l.0 l.1) up (λ writes h e.
-      let same : l.0 ≡ h = cc (l.1, e) in
-      rw (← same) (no_dir (is_dir l.0.kind) (asks r.flags WRITE) l.3 (kept_write r.flags writes)))
-  outcome_proper c up (Makes s f) l =
-      let m : MayMake w f.dir f.name File = may_make w f.dir f.name File l.0 l.1 in
-      proper_append (made s f) file_opened w c
-      (entered_proper w n s (file s f) f.dir f.name c (fresh_next w t x is) l.2 (ap tree_by m.is_info ∙ m.tree) m.absent (made_in f.dir (asked_node File f n) (file s f) refl w (home_old c f.dir s l.2)))
-      (λ d. opens_proper (left s f) t (named 1 x) (seat s f) n ids parents modes d (entered_below w n s (file s f) f.dir f.name c (fresh_next w t x is)) (λ k way. named_still w c n (fresh_next w t x is) 1 k (up k way))
+  pub outcome_proper : Coherent w → (o : Outcome) → Leads w flags o → OutcomeGiven w o → AllProper w (changes o)
+  outcome_proper c (Opens e) l given =
+      port_proper e modes c (header_old c e.node l.header l.is_header) given (λ writes h eh.
+      let same : l.header ≡ h = cc (l.is_header, eh) in
+      rw (← same) (no_dir (is_dir l.header.kind) (asks flags WRITE) l.fits (kept_write flags writes)))
+  outcome_proper c (Retries kind name None) l given = tt
+  outcome_proper c (Retries kind name (Some e)) l given = port_proper e no_modes c (header_old c e.node given.header given.is_header) given.ways (λ writes h eh. absurd (silent_write writes))
+  outcome_proper c (Makes s f ids ways) l given =
+      let m : MayMake w f.dir f.name File = may_make w f.dir f.name File tt l.may in
+      proper_append (made s f) (file_opened ids ways) w c
+      (entered_proper w n s (file s f) f.dir f.name c (fresh_next w t x is) l.home (ap tree_by m.is_info ∙ m.tree) m.absent (made_in f.dir (asked_node File f n) (file s f) refl w (home_old c f.dir s l.home)))
+      (λ d. opens_proper (left s f) t (named 1 x) (seat s f) n ids ways modes d (entered_below w n s (file s f) f.dir f.name c (fresh_next w t x is)) (λ k way. named_still w c n (fresh_next w t x is) 1 k (given k way))
       (λ writes h e. let same : (file s f).header ≡ h = cc (header s f, e) in rw (← same) refl))
 
-  pub outcome_rests : Coherent w → (o : Outcome) → Leads w ids r o → Rests w (changes o)
-  outcome_rests c (Opens m) l = rests_opening w t x is m ids parents modes
-  outcome_rests c (Makes s f) l =
-      let m : MayMake w f.dir f.name File = may_make w f.dir f.name File l.0 l.1 in
-      let is_server : server_at w s ≡ Some m.info = rw l.2 at m.is_info in
-      rests_append (made s f) file_opened w (entered_rests w n s (file s f) f.dir f.name refl (no_home c n (next_not w n (fresh_next w t x is))) m.info is_server) (rests_opening (left s f) t (named 1 x) (seat s f) n ids parents modes)
+  pub outcome_rests : Coherent w → (o : Outcome) → Leads w flags o → Rests w (changes o)
+  outcome_rests c (Opens e) l = rests_opening w t x is e.node e.ids e.parents modes
+  outcome_rests c (Retries kind name None) l = rests_quiet [] w tt
+  outcome_rests c (Retries kind name (Some e)) l = rests_opening w t x is e.node e.ids e.parents no_modes
+  outcome_rests c (Makes s f ids ways) l =
+      let m : MayMake w f.dir f.name File = may_make w f.dir f.name File tt l.may in
+      let is_server : server_at w s ≡ Some m.info = rw l.home at m.is_info in
+      rests_append (made s f) (file_opened ids ways) w (entered_rests w n s (file s f) f.dir f.name refl (no_home c n (next_not w n (fresh_next w t x is))) m.info is_server) (rests_opening (left s f) t (named 1 x) (seat s f) n ids ways modes)
 
-  pub outcome_linked : Coherent w → Linked (nodes_of w) → (o : Outcome) → Leads w ids r o → KeepsLinked w (changes o)
-  outcome_linked c l (Opens m) k = opens_linked w t x m ids parents modes
-  outcome_linked c l (Makes s f) k =
-      let m : MayMake w f.dir f.name File = may_make w f.dir f.name File k.0 k.1 in
-      linked_append (made s f) file_opened w
-      (entered_linked w n s (file s f) f.dir f.name c (fresh_next w t x is) m (leads_unless w l f.dir k.3 k.4 k.5) tt (file_hangs f.dir f.owner f.group f.mode))
-      (opens_linked (left s f) t (named 1 x) n ids parents modes)
+  pub outcome_linked : Coherent w → Linked (nodes_of w) → (o : Outcome) → Leads w flags o → KeepsLinked w (changes o)
+  outcome_linked c l (Opens e) k = opens_linked w t x e.node e.ids e.parents modes
+  outcome_linked c l (Retries kind name None) k = linked_steady [] w tt
+  outcome_linked c l (Retries kind name (Some e)) k = opens_linked w t x e.node e.ids e.parents no_modes
+  outcome_linked c l (Makes s f ids ways) k =
+      let m : MayMake w f.dir f.name File = may_make w f.dir f.name File tt k.may in
+      linked_append (made s f) (file_opened ids ways) w
+      (entered_linked w n s (file s f) f.dir f.name c (fresh_next w t x is) m (leads_unless w l f.dir k.header k.is_header k.stands) tt (file_hangs f.dir f.owner f.group f.mode))
+      (opens_linked (left s f) t (named 1 x) n ids ways modes)
 
-  pub outcome_sized : (o : Outcome) → Leads w ids r o → KeepsSized w (changes o)
-  outcome_sized (Opens m) l = opens_sized w t x m ids parents modes
-  outcome_sized (Makes s f) l =
-      let m : MayMake w f.dir f.name File = may_make w f.dir f.name File l.0 l.1 in
-      let is_server : server_at w s ≡ Some m.info = rw l.2 at m.is_info in
-      sized_append (made s f) file_opened w
+  pub outcome_sized : (o : Outcome) → Leads w flags o → KeepsSized w (changes o)
+  outcome_sized (Opens e) l = opens_sized w t x e.node e.ids e.parents modes
+  outcome_sized (Retries kind name None) l = sized_ports [] w tt
+  outcome_sized (Retries kind name (Some e)) l = opens_sized w t x e.node e.ids e.parents no_modes
+  outcome_sized (Makes s f ids ways) l =
+      let m : MayMake w f.dir f.name File = may_make w f.dir f.name File tt l.may in
+      let is_server : server_at w s ≡ Some m.info = rw l.home at m.is_info in
+      sized_append (made s f) (file_opened ids ways) w
       (entered_sized w n s (file s f) f.dir f.name good (λ i e. let same : m.info ≡ i = cc (is_server, e) in rw (← same) (made_fit f.dir (asked_node File f n) (file s f) refl good m.info m.tree)))
-      (opens_sized (left s f) t (named 1 x) n ids parents modes)
+      (opens_sized (left s f) t (named 1 x) n ids ways modes)
 
-  pub outcome_may : (S : ℕ → Bool) → Coherent w → S t ≡ true → Taken S w ids → ((m : Name) → IsAmong m (ways_of parents) → SeenOrNew S w m) → (o : Outcome) → PlaceSeen S w (place_of o) → Leads w ids r o → AllMay S w w (changes o)
-  outcome_may S c ours taken ways (Opens m) seen l =
-      opens_may S w w t x m ids parents modes ours (later_new S w t x x.made ours is (omega arith)) (inl seen) ways (inr taken) (λ read h e.
-      let same : l.0 ≡ h = cc (l.1, e) in
-      ToRead (Allowed ids taken (rw (← same) (reads ids l.0 r.flags l.2 (kept_read r.flags read)))))
-  outcome_may S c ours taken ways (Makes s f) seen l =
+  pub outcome_may : (S : ℕ → Bool) → Coherent w → S t ≡ true → (o : Outcome) → OutcomeSeen S w o → Leads w flags o → AllMay S w w (changes o)
+  outcome_may S c ours (Opens e) seen l =
+      port_may e modes S ours seen (λ read h eh.
+      let same : l.header ≡ h = cc (l.is_header, eh) in
+      ToRead (Allowed e.ids seen.ids (rw (← same) (reads e.ids l.header flags l.may (kept_read flags read)))))
+  outcome_may S c ours (Retries kind name None) seen l = tt
+  outcome_may S c ours (Retries kind name (Some e)) seen l = port_may e no_modes S ours seen (λ read h eh. absurd (silent_read read))
+  outcome_may S c ours (Makes s f ids ways) seen l =
       let new : NewTo S w n = later_new S w t x x.made ours is (omega arith) in
-      may_append S w (made s f) file_opened w (tt, (tt, tt))
-      (entered_may w n s (file s f) f.dir f.name S w ours new (OfNode f.dir seen.0 l.2) (λ p e. absurd (cc)))
-      (opens_may S w (left s f) t (named 1 x) n ids parents modes ours (later_new S w t x (x.made + 1) ours is (omega arith)) (inr new) ways (inr taken) (λ read h e. absurd (new.1 (header_old c n h e))))
+      may_append S w (made s f) (file_opened ids ways) w (tt, (tt, tt))
+      (entered_may w n s (file s f) f.dir f.name S w ours new (OfNode f.dir seen.0.0 l.home) (λ p e. absurd (cc)))
+      (opens_may S w (left s f) t (named 1 x) n ids ways modes ours (later_new S w t x (x.made + 1) ours is (omega arith)) (inr new) (λ m way. inl (seen.2 m way)) (inr seen.1)
+      (λ read h e. absurd (new.1 (header_old c n h e))))
