@@ -87,8 +87,8 @@ impl Onward {
         let parents = &authority.right.parents;
         let port = match self {
             Onward::Within(way) => authority.port(alloc, way.at, Some(way))?,
-            Onward::Back(node) => NewPort::nameless(alloc, node, parents.left(alloc)?)?,
-            Onward::Beside(dir, _) => NewPort::nameless(alloc, dir, parents.copied(alloc)?)?,
+            Onward::Back(node) => NewPort::without_ids(alloc, node, parents.left(alloc)?)?,
+            Onward::Beside(dir, _) => NewPort::without_ids(alloc, dir, parents.copied(alloc)?)?,
             Onward::FromTop(_) => return Ok(None),
         };
         Ok(Some(port))

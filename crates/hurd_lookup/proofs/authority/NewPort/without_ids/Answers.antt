@@ -2,7 +2,7 @@
 use Rattle.std.proofs.Common.{◌∙◌, inr, refl}
 use Rattle.std.proofs.lemmas.Result.{err_from_is_err_and}
 use Rattle.hurd_lookup.proofs.RoomLaws.{ids_short}
-use Rattle.hurd_lookup.proofs.authority.NewPort.nameless.Goals as goal
+use Rattle.hurd_lookup.proofs.authority.NewPort.without_ids.Goals as goal
 
 pub returns-in_err-new : goal.returns-in_err-new
 returns-in_err-new c =
