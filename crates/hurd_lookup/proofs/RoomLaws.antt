@@ -1,15 +1,35 @@
 -- Whether a task has room for what a lookup makes.
-use Rattle.std.proofs.Common.{◌≡◌, ◌∙◌, ℕ, Option, refl, sym, ap}
+use Rattle.std.proofs.Common.{◌≡◌, ◌∙◌, ℕ, [], Option, inl, inr, refl, sym, ap, subst}
 use Rattle.std.specs.Prelude.{Result, Ok, Err, Some, None}
+use Rattle.std.specs.Ordering.{nat_cmp}
+use Rattle.std.specs.FinSet as set
 use Rattle.hurd_creds.specs.declared.errno.Errno.{Errno}
-use Rattle.hurd_creds.specs.declared.errno.Errno.TheVariants.{ESRCH}
-use Rattle.hurd_creds.specs.Access.{IdSets}
+use Rattle.hurd_creds.specs.declared.errno.Errno.TheVariants.{ENOMEM, ESRCH}
+use Rattle.hurd_creds.specs.Access.{IdSets, ids_of}
+use Rattle.hurd_creds.specs.Memory.{Meets}
 use Rattle.hurd_nodes.specs.Shown.{NodeState}
 use Rattle.hurd_ports.specs.Tables.{PortState, Task, ids_at, room_of}
 use Rattle.hurd_machine.specs.World.{world_from}
 use Rattle.hurd_machine.specs.Plan.{on}
 use Rattle.hurd_core.specs.Core.{asked_only, room_asks}
 use Rattle.hurd_core.proofs.CoreLaws.{IsRefused, HasRoom, room}
+use Rattle.hurd_lookup.specs.Lookup.{no_ids}
+
+-- what can't be refused is want of memory, where it is no answer
+
+pub only_short : {T : Type 0} (x : T) (e : Errno) → Meets (Ok x) (Err e) → e ≡ ENOMEM
+only_short x e (inl bars) = absurd (cc)
+only_short x e (inr short) = short.0
+
+pub told_is : {T : Type 0} (x y : T) → Meets (Ok x) (Ok y) → y ≡ x
+told_is x y is = cc
+
+-- no ids are never too many
+pub ids_none : ids_of [] [] ≡ Ok no_ids
+ids_none = rw (set.len-empty nat_cmp) refl
+
+pub ids_short : (e : Errno) → Meets (ids_of [] []) (Err e) → e ≡ ENOMEM
+ids_short e short = only_short no_ids e (subst (λ (r : Result IdSets Errno). Meets r (Err e)) ids_none short)
 
 -- what the tables say of it is what the plan asks
 pub room_asked : (N : NodeState) (H : PortState) (t names : ℕ) → room_of H t names ≡ asked_only (room_asks (world_from N H) t names)

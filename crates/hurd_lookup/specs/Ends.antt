@@ -58,8 +58,8 @@ abbrev pub ports_told : Result (Option port.NewPort) Errno → Result (Option Ne
 ports_told (Ok o) = Ok (option_map port_of o)
 ports_told (Err e) = Err e
 
-abbrev pub nameless_port : Name → List Parent → NewPort
-nameless_port n ways = record { node = n; ids = no_ids; parents = ways }
+abbrev pub port_without_ids : Name → List Parent → NewPort
+port_without_ids n ways = record { node = n; ids = no_ids; parents = ways }
 
 -- what is left of a path
 
@@ -106,8 +106,8 @@ name_of w e = behind w (link_of e.onward) (rest_of (names_in e.rest.now) e.slash
 
 abbrev pub port_by : IoRight → Onward → Option NewPort
 port_by q (Within way) = Some (record { node = way.at; ids = q.ids; parents = way ∷ q.parents })
-port_by q (Back n) = Some (nameless_port n (drop 1 q.parents))
-port_by q (Beside d l) = Some (nameless_port d q.parents)
+port_by q (Back n) = Some (port_without_ids n (drop 1 q.parents))
+port_by q (Beside d l) = Some (port_without_ids d q.parents)
 port_by q (FromTop l) = None
 
 -- a link: the root of a symlink server that is there, with a text of so many bytes

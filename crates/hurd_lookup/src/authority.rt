@@ -5,7 +5,7 @@ ghost use Rattle.hurd_ports.specs.Limits.{most_parents};
 ghost use Rattle.hurd_core.specs.Core.{Does, room_asks, world_of};
 ghost use Rattle.hurd_machine.specs.Change.{opening};
 ghost use Rattle.hurd_lookup.specs.Lookup.{no_ids};
-ghost use Rattle.hurd_lookup.specs.Ends.{right_by, ways_by, port_of, port_told, nameless_port};
+ghost use Rattle.hurd_lookup.specs.Ends.{right_by, ways_by, port_of, port_told, port_without_ids};
 
 use hurd_core::Core;
 use hurd_creds::{Errno, Ids, NodeName, OpenFlags, TaskId};
@@ -61,12 +61,12 @@ impl Authority<'_> {
 
 impl NewPort {
     /// A port without ids.
-    pub(crate) fn nameless(
+    pub(crate) fn without_ids(
         alloc: Global,
         node: NodeName,
         parents: Parents,
     ) -> Result<NewPort, Errno>
-        ensures { Meets (Ok (nameless_port node parents)) (port_told result) }
+        ensures { Meets (Ok (port_without_ids node parents)) (port_told result) }
     {
         Ok(NewPort {
             node,

@@ -127,13 +127,16 @@ fn retried<S: Server>(
         Planned w (finding w task.0 flags (Ok (retry_of w retry.entry port))) Found result (world_of S.meaning core.new) }
 {
     let name = retry.name(core, alloc)?;
-    let port = match port {
-        Some(port) => Some(port.open(core, task, OpenFlags::empty())?),
-        None => None,
-    };
-    Ok(Lookup::Retry {
-        kind: retry.onward.kind(),
-        name,
-        port,
-    })
+    let kind = retry.onward.kind();
+    match port {
+        None => Ok(Lookup::Retry {
+            kind,
+            name,
+            port: None,
+        }),
+        Some(port) => {
+            let port = Some(port.open(core, task, OpenFlags::empty())?);
+            Ok(Lookup::Retry { kind, name, port })
+        }
+    }
 }

@@ -80,19 +80,15 @@ impl Onward {
     /// The port at which it goes on, if at one. A port has ids only within the server that was entered.
     ///
     /// `ENOMEM`.
-    pub(crate) fn port(
-        self,
-        alloc: Global,
-        authority: Authority,
-    ) -> Result<Option<NewPort>, Errno>
+    pub(crate) fn port(self, alloc: Global, authority: Authority) -> Result<Option<NewPort>, Errno>
         requires { IfSome (way_of self) (λ way. length (right_by authority).parents < most_parents) }
         ensures { Meets (Ok (port_by (right_by authority.entry) self)) (ports_told result) }
     {
         let parents = &authority.right.parents;
         let port = match self {
             Onward::Within(way) => authority.port(alloc, way.at, Some(way))?,
-            Onward::Back(node) => NewPort::nameless(alloc, node, parents.left(alloc)?)?,
-            Onward::Beside(dir, _) => NewPort::nameless(alloc, dir, parents.copied(alloc)?)?,
+            Onward::Back(node) => NewPort::without_ids(alloc, node, parents.left(alloc)?)?,
+            Onward::Beside(dir, _) => NewPort::without_ids(alloc, dir, parents.copied(alloc)?)?,
             Onward::FromTop(_) => return Ok(None),
         };
         Ok(Some(port))

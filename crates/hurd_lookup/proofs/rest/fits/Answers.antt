@@ -1,5 +1,5 @@
 -- What is left fits where the whole does.
-use Rattle.std.proofs.Common.{◌∙◌, sym}
+use Rattle.std.proofs.Common.{◌∙◌}
 use Rattle.hurd_lookup.proofs.RestLaws.{fits-whole}
 use Rattle.hurd_lookup.proofs.rest.fits.Goals as goal
 

@@ -1,5 +1,5 @@
 -- A task has room where the plan asks it.
-use Rattle.std.proofs.Common.{◌∙◌}
+use Rattle.std.proofs.Common.{◌∙◌, inl, inr}
 use Rattle.std.proofs.lemmas.Result.{err_from_is_err_and}
 use Rattle.hurd_nodes.specs.Shown.{shown}
 use Rattle.hurd_lookup.proofs.RoomLaws.{room_asked, ids_missing, ids_there}
@@ -20,4 +20,9 @@ pub returns-in_ok-ids-in-FromTop : goal.returns-in_ok-ids-in-FromTop
 returns-in_ok-ids-in-FromTop g c = rw (c.in-Retries.is, c.in-FromTop.is) (ids_there _ _ c.in_ok-ids-in-FromTop.ensures)
 
 pub returns-in-Within : goal.returns-in-Within
-returns-in-Within g c = ?
+returns-in-Within g c =
+    let room = c.room-in-Within.ensures ∙ room_asked (shown g.S.Server.meaning c.args.core.now.nodes) c.args.core.now.ports.state c.args.task.0 1 in
+    elim c.in-Within.is [
+      | inl x ↦ rw (c.in-Retries.is, x.1) room
+      | inr y ↦ elim y [ inl x ↦ rw (c.in-Retries.is, x.1) room | inr x ↦ rw (c.in-Retries.is, x.2) room ]
+    ]

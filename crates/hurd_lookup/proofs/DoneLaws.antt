@@ -1,0 +1,155 @@
+-- A lookup that is refused, finds no memory, or is done, as its plan has it.
+use Rattle.std.proofs.Common.{◌≡◌, ◌∙◌, ◌⊎◌, inl, inr, ℕ, false, List, Option, refl, ap, subst}
+use Rattle.std.specs.Prelude.{Result, Ok, Err, IsOk, Some, None}
+use Rattle.hurd_creds.specs.declared.name.Name.{Name}
+use Rattle.hurd_creds.specs.declared.attrs.Kind.TheVariants.{File}
+use Rattle.hurd_creds.specs.declared.open_flags.OpenFlags.{OpenFlags}
+use Rattle.hurd_creds.specs.declared.errno.Errno.{Errno}
+use Rattle.hurd_creds.specs.declared.errno.Errno.TheVariants.{EDIED, ENOMEM}
+use Rattle.hurd_creds.specs.Access.{IdSets}
+use Rattle.hurd_creds.specs.Bits.{open_modes}
+use Rattle.hurd_ports.specs.declared.parents.Parent.{Parent}
+use Rattle.hurd_ports.specs.Tables.{Task}
+use Rattle.hurd_machine.specs.declared.call.Lookup.{Lookup}
+use Rattle.hurd_machine.specs.declared.call.Lookup.TheVariants as found
+use Rattle.hurd_machine.specs.declared.call.RetryKind.{RetryKind}
+use Rattle.hurd_machine.specs.declared.call.Reply.TheVariants.{Found}
+use Rattle.hurd_machine.specs.World.{World, home_at, makes_at}
+use Rattle.hurd_machine.specs.Change.{Change, apply_all, opening}
+use Rattle.hurd_machine.specs.Plan.{Plan, Planned, Follows, refuse, is_refused, on, first, answered}
+use Rattle.hurd_core.specs.Core.{Does, NewNodeAt, room_asks, making_asks, making_open}
+use Rattle.hurd_lookup.specs.Lookup.{NewPort, Outcome, Opens, Makes, Retries, ending_asks, finding, lookup_changes, lookup_told, no_modes}
+use Rattle.hurd_lookup.specs.Ends.{MayMake}
+
+-- a method that does what a plan says, where it is not refused
+
+abbrev done : {A : Type 0} → (A → List Change) → (A → ℕ) → (ℕ → Lookup) → A → Plan
+done changes answer tell a = record { reply = Found (tell (answer a)); changes = changes a }
+
+module _ {A : Type 0} (w : World) (asks : Result A Errno) (changes : A → List Change) (answer : A → ℕ) (tell : ℕ → Lookup) (P : Plan) (a : A) (is : asks ≡ Ok a) (plan : P ≡ done changes answer tell a) where
+  does_planned : (k : ℕ) (y : World) → Does w asks changes answer (Ok k) y → Follows w P (Found (tell k)) y
+  does_planned k y (b, asked, told, left) =
+      let same : b ≡ a = cc (asked, is) in
+      rw plan (ap (λ (n : ℕ). Found (tell n)) (told ∙ ap answer same), left ∙ ap (λ (c : A). apply_all (changes c) w) same)
+
+  does_lacks : (e : Errno) (y : World) → Does w asks changes answer (Err e) y → Planned w P Found (Err e) y
+  does_lacks e y (left, inl refused) = absurd (cc (is, refused))
+  does_lacks e y (left, inr lacks) = (left, inr (lacks.0, rw plan refl))
+
+-- an answer that there is
+there : {A : Type 0} (r : Result A Errno) → IsOk r → (a : A) × (r ≡ Ok a)
+there (Ok a) h = (a, refl)
+there (Err e) h = absurd (cc)
+
+module _ (w : World) (t : ℕ) (flags : OpenFlags) where
+  abbrev told : Outcome × Task → Plan
+  told l = record { reply = Found (lookup_told l.1 l.0); changes = lookup_changes t l.1 (open_modes flags) l.0 }
+
+  abbrev asked : Result Outcome Errno → Plan
+  asked f = finding w t flags f
+
+  abbrev planned_in : Outcome → Result Task Errno → Plan
+  planned_in o x = answered (first x (λ x. Ok (o, x))) told
+
+  -- nothing is found
+  pub unfound : (f : Result Outcome Errno) (e : Errno) → f ≡ Err e → asked f ≡ refuse e
+  unfolding first answered
+  unfound f e is = ap asked is
+
+  module _ (o : Outcome) where
+    full : (e : Errno) → ending_asks w t o ≡ Err e → asked (Ok o) ≡ refuse e
+    unfolding first answered
+    full e is = ap (planned_in o) is
+
+    plan-is : (x : Task) → ending_asks w t o ≡ Ok x → asked (Ok o) ≡ told (o, x)
+    unfolding first answered
+    plan-is x is = ap (planned_in o) is
+
+  answers : (o : Outcome) (x : Task) → is_refused (told (o, x)).reply ≡ false
+  answers o x = refl
+
+  -- no memory for what it makes
+  pub lacks : (o : Outcome) → IsOk (ending_asks w t o) → (e : Errno) → e ≡ ENOMEM → (y : World) → y ≡ w → Planned w (asked (Ok o)) Found (Err e) y
+  lacks o ok e is y same = let x = there (ending_asks w t o) ok in (same, inr (is, ap (λ (P : Plan). is_refused P.reply) (plan-is o x.0 x.1)))
+
+  -- it can't be made ready
+  pub unready : (f : Result Outcome Errno) (o : Outcome) → f ≡ Ok o → (e : Errno) → (ending_asks w t o ≡ Err e) ⊎ ((e ≡ ENOMEM) × IsOk (ending_asks w t o)) → Planned w (asked f) Found (Err e) w
+  unready f o is e (inl bars) = (refl, inl (ap asked is ∙ full o e bars))
+  unready f o is e (inr short) = rw is (lacks o short.1 e short.0 w refl)
+
+  -- a node that is there is opened
+  module _ (e : NewPort) (ok : IsOk (ending_asks w t (Opens e))) where
+    abbrev opens : Task → List Change
+    opens x = opening t x e.node e.ids e.parents (open_modes flags)
+
+    pub opened : (k : ℕ) (y : World) → Does w (room_asks w t 1) opens (λ x. x.next) (Ok k) y → Follows w (asked (Ok (Opens e))) (Found (found.Done k)) y
+    opened k y d =
+        let x = there (ending_asks w t (Opens e)) ok in
+        does_planned w (room_asks w t 1) opens (λ x. x.next) found.Done (asked (Ok (Opens e))) x.0 x.1 (plan-is (Opens e) x.0 x.1) k y d
+
+    pub unopened : (f : Errno) (y : World) → Does w (room_asks w t 1) opens (λ x. x.next) (Err f) y → Planned w (asked (Ok (Opens e))) Found (Err f) y
+    unopened f y d =
+        let x = there (ending_asks w t (Opens e)) ok in
+        does_lacks w (room_asks w t 1) opens (λ x. x.next) found.Done (asked (Ok (Opens e))) x.0 x.1 (plan-is (Opens e) x.0 x.1) f y d
+
+  -- a file is made, and opened
+  module _ (s : Name) (f : NewNodeAt) (ids : IdSets) (ways : List Parent) (may : MayMake w s f) (ok : IsOk (ending_asks w t (Makes s f ids ways))) where
+    abbrev o : Outcome
+    o = Makes s f ids ways
+
+    abbrev makes : Task × Name → List Change
+    makes a = making_open t f ids ways (open_modes flags) a
+
+    abbrev asks_more : Result Task Errno → Result (Unit {0}) Errno → Option Name → Result (Task × Name) Errno
+    asks_more r m h = first r (λ x. first m (λ u. on EDIED h (λ s. Ok (x, s))))
+
+    -- the task, which may make it, of the server that the lookup found
+    makes-it : (x : Task) × (making_asks w t f ≡ Ok (x, s)) × (asked (Ok o) ≡ told (o, x))
+    unfolding first on
+    makes-it =
+        let x = there (ending_asks w t o) ok in (
+          x.0,
+          ap (λ (r : Result Task Errno). asks_more r (makes_at w f.dir f.name File) (home_at w f.dir)) x.1
+              ∙ ap (λ (m : Result (Unit {0}) Errno). asks_more (Ok x.0) m (home_at w f.dir)) may.0
+              ∙ ap (λ (h : Option Name). asks_more (Ok x.0) (Ok tt) h) may.1,
+          plan-is o x.0 x.1,
+        )
+
+    pub made : (k : ℕ) (y : World) → Does w (making_asks w t f) makes (λ a. a.0.next) (Ok k) y → Follows w (asked (Ok o)) (Found (found.Done k)) y
+    made k y d = let x = makes-it in does_planned w (making_asks w t f) makes (λ a. a.0.next) found.Done (asked (Ok o)) (x.0, s) x.1 x.2 k y d
+
+    pub unmade : (e : Errno) (y : World) → Does w (making_asks w t f) makes (λ a. a.0.next) (Err e) y → Planned w (asked (Ok o)) Found (Err e) y
+    unmade e y d = let x = makes-it in does_lacks w (making_asks w t f) makes (λ a. a.0.next) found.Done (asked (Ok o)) (x.0, s) x.1 x.2 e y d
+
+  -- a name is told, with a port or without one
+  module _ (kind : RetryKind) (name : List ℕ) where
+    pub told-alone : IsOk (ending_asks w t (Retries kind name None)) → (y : World) → y ≡ w → Follows w (asked (Ok (Retries kind name None))) (Found (found.Retry kind name None)) y
+    told-alone ok y same = let x = there (ending_asks w t (Retries kind name None)) ok in rw (plan-is (Retries kind name None) x.0 x.1) (refl, same)
+
+    module _ (e : NewPort) (ok : IsOk (ending_asks w t (Retries kind name (Some e)))) where
+      abbrev p : Outcome
+      p = Retries kind name (Some e)
+
+      abbrev bare_opens : OpenFlags → Task → List Change
+      bare_opens modes x = opening t x e.node e.ids e.parents modes
+
+      abbrev tell : ℕ → Lookup
+      tell k = found.Retry kind name (Some k)
+
+      -- in a world that is this one, with modes that are none
+      abbrev Does-bare : World → OpenFlags → Result ℕ Errno → World → Type 0
+      Does-bare v modes r y = Does v (room_asks v t 1) (bare_opens modes) (λ x. x.next) r y
+
+      pub told-at : (v : World) → v ≡ w → (modes : OpenFlags) → modes ≡ no_modes → (k : ℕ) (y : World) → Does v (room_asks v t 1) (bare_opens modes) (λ x. x.next) (Ok k) y
+          → Follows w (asked (Ok p)) (Found (tell k)) y
+      told-at v same modes none k y d =
+          let x = there (ending_asks w t p) ok in
+          let here = subst (λ (u : World). Does-bare u no_modes (Ok k) y) same (subst (λ (m : OpenFlags). Does-bare v m (Ok k) y) none d) in
+          does_planned w (room_asks w t 1) (bare_opens no_modes) (λ x. x.next) tell (asked (Ok p)) x.0 x.1 (plan-is p x.0 x.1) k y here
+
+      pub untold-at : (v : World) → v ≡ w → (modes : OpenFlags) → (f : Errno) (y : World) → Does v (room_asks v t 1) (bare_opens modes) (λ x. x.next) (Err f) y
+          → Planned w (asked (Ok p)) Found (Err f) y
+      untold-at v same modes f y d =
+          let x = there (ending_asks w t p) ok in
+          does_lacks w (room_asks w t 1) (bare_opens no_modes) (λ x. x.next) tell (asked (Ok p)) x.0 x.1 (plan-is p x.0 x.1) f y
+          (subst (λ (u : World). Does-bare u no_modes (Err f) y) same d)

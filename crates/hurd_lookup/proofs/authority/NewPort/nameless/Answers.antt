@@ -1,9 +1,0 @@
--- No ids are never too many.
-use Rattle.std.proofs.Common.{◌≡◌, ◌∙◌, inl, inr}
-use Rattle.std.proofs.lemmas.Result.{err_from_is_err_and}
-use Rattle.hurd_lookup.proofs.authority.NewPort.nameless.Goals as goal
-
-pub returns-in_err-new : goal.returns-in_err-new
-returns-in_err-new c =
-    let p = err_from_is_err_and c.from_residual.result c.from_residual.ensures.1 in
-    rw p.1 (elim c.in_err-new.ensures.sets [ inl no ↦ absurd (cc) | inr h ↦ inr (p.2 ∙ h.0, h.1) ])

@@ -1,0 +1,33 @@
+-- The node is opened, or the file is made.
+use Rattle.std.proofs.lemmas.Result.{err_from_is_err_and}
+use Rattle.hurd_core.specs.Core.{world_of}
+use Rattle.hurd_core.specs.ToMake.{new_node_of}
+use Rattle.hurd_lookup.specs.Ends.{port_of}
+use Rattle.hurd_lookup.proofs.DoneLaws.{made, opened, unmade, unopened}
+use Rattle.hurd_lookup.proofs.found.Ready.done.Goals as goal
+
+pub returns-in_err-open-in-Opens : goal.returns-in_err-open-in-Opens
+returns-in_err-open-in-Opens g c =
+    let p = err_from_is_err_and c.from_residual.result c.from_residual.ensures.1 in
+    let ok = rw c.in-Opens.is at c.requires.1 in
+    rw (p.1, p.2, c.in-Opens.is) (unopened (world_of g.S.Server.meaning c.args.core.now) c.args.task.0 c.args.flags (port_of c.in-Opens.port) ok _ _ c.in_err-open-in-Opens.ensures)
+
+pub returns-in_err-port-in-Makes : goal.returns-in_err-port-in-Makes
+returns-in_err-port-in-Makes g c =
+    let p = err_from_is_err_and c.from_residual-in_err-port-in-Makes.result c.from_residual-in_err-port-in-Makes.ensures.1 in
+    let ok = rw c.in-Makes.is at c.requires in
+    rw (p.1, p.2, c.in-Makes.is)
+    (unmade (world_of g.S.Server.meaning c.args.core.now) c.args.task.0 c.args.flags c.in-Makes.field-0 (new_node_of c.in-Makes.file) c.in-Makes.ids c.in-Makes.parents ok.0 ok.1 _ _ c.in_err-port-in-Makes.ensures)
+
+pub returns-in_ok-open-in-Opens : goal.returns-in_ok-open-in-Opens
+returns-in_ok-open-in-Opens g c =
+    let ok = rw c.in-Opens.is at c.requires.1 in
+    let does = rw c.open_modes-modes.ensures at c.in_ok-open-in-Opens.ensures in
+    rw c.in-Opens.is (opened (world_of g.S.Server.meaning c.args.core.now) c.args.task.0 c.args.flags (port_of c.in-Opens.port) ok _ _ does)
+
+pub returns-in_ok-port-in-Makes : goal.returns-in_ok-port-in-Makes
+returns-in_ok-port-in-Makes g c =
+    let ok = rw c.in-Makes.is at c.requires in
+    let does = rw c.open_modes-modes.ensures at c.in_ok-port-in-Makes.ensures in
+    rw c.in-Makes.is
+    (made (world_of g.S.Server.meaning c.args.core.now) c.args.task.0 c.args.flags c.in-Makes.field-0 (new_node_of c.in-Makes.file) c.in-Makes.ids c.in-Makes.parents ok.0 ok.1 _ _ does)

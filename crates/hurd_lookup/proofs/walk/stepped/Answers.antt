@@ -1,0 +1,24 @@
+-- A name that is missed; any other step follows from what was asked.
+use Rattle.std.proofs.Common.{◌∙◌}
+use Rattle.std.proofs.lemmas.Result.{err_from_is_err_and}
+use Rattle.hurd_core.specs.Core.{world_of}
+use Rattle.hurd_lookup.specs.Path.{names_in}
+use Rattle.hurd_lookup.specs.Ends.{right_by}
+use Rattle.hurd_lookup.proofs.StepLaws.{step-missed}
+use Rattle.hurd_lookup.proofs.walk.stepped.Goals as goal
+
+pub returns-in_err-miss-in-Absent : goal.returns-in_err-miss-in-Absent
+returns-in_err-miss-in-Absent g c =
+    let w = world_of g.S.Server.meaning c.args.core.now in
+    let q = right_by c.args.authority in
+    let p = err_from_is_err_and c.from_residual-in_err-miss-in-Absent.result c.from_residual-in_err-miss-in-Absent.ensures.1 in
+    let asked = rw c.in-Absent.is at c.in_ok-node.ensures in
+    rw (p.1, p.2) (λ onward. step-missed w q c.args.request c.args.dir c.args.name.now (names_in c.args.rest.now) c.is_last.result asked c.is_last.ensures onward ∙ c.in_err-miss-in-Absent.ensures w q)
+
+pub returns-in_ok-miss-in-Absent : goal.returns-in_ok-miss-in-Absent
+returns-in_ok-miss-in-Absent g c =
+    let w = world_of g.S.Server.meaning c.args.core.now in
+    let q = right_by c.args.authority in
+    let asked = rw c.in-Absent.is at c.in_ok-node.ensures in
+    let missed = c.in_ok-miss-in-Absent.ensures w q in
+    (λ onward. step-missed w q c.args.request c.args.dir c.args.name.now (names_in c.args.rest.now) c.is_last.result asked c.is_last.ensures onward ∙ missed.0, missed.1)
