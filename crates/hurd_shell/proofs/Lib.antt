@@ -5,3 +5,4 @@ pub mod SoundLaws
 pub mod TextLaws
 pub mod SessionLaws
 pub mod OutputLaws
+pub mod ReplyLaws

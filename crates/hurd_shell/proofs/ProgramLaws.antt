@@ -2,9 +2,8 @@
 use Rattle.std.proofs.Common.{◌≡◌, ℕ, Result, Ok, Err, refl, ◌∙◌, ap}
 use Rattle.std.specs.Result.{IsErr, IsErrAnd}
 use Rattle.hurd_creds.specs.declared.errno.Errno.{Errno}
-use Rattle.hurd_machine.specs.Calls.{Call}
+use Rattle.hurd_machine.specs.Calls.{Call, Reply}
 use Rattle.hurd_machine.specs.declared.call.Call.TheVariants.{PortDeallocate}
-use Rattle.hurd_machine.specs.Calls.{Reply}
 use Rattle.hurd_machine.specs.World.{World}
 use Rattle.hurd_laws.specs.Step.{reply_of, after}
 use Rattle.hurd_shell.specs.declared.commands.Printed.{Printed}

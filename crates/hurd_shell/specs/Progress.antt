@@ -2,9 +2,8 @@
 use Rattle.std.specs.Prelude.{◌≡◌, ℕ, List, [], ◌∷◌, Result, Ok, Err}
 use Rattle.hurd_creds.specs.declared.errno.Errno.{Errno}
 use Rattle.hurd_trans_iface.specs.Meaning.{Meaning}
-use Rattle.hurd_machine.specs.Calls.{Call}
+use Rattle.hurd_machine.specs.Calls.{Call, Reply}
 use Rattle.hurd_machine.specs.declared.call.Call.TheVariants.{DirMkdir, DirRmdir, DirUnlink, DirLink, DirRename}
-use Rattle.hurd_machine.specs.Calls.{Reply}
 use Rattle.hurd_machine.specs.World.{World}
 use Rattle.hurd_laws.specs.Step.{step}
 use Rattle.hurd_script.specs.Commands.{CommandLine}

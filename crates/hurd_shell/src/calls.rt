@@ -1,6 +1,7 @@
 //! Calls that a command makes, and what it reads of their replies.
 ghost use Rattle.std.specs.Prelude.{◌≡◌, IfOk, IfErr, Ok};
 ghost use Rattle.hurd_creds.specs.declared.open_flags.OpenFlags.{OpenFlags};
+ghost use Rattle.hurd_machine.specs.Calls.{BringsBegun, box_in, call_by, lacks_memory, refusal, reply_by};
 ghost use Rattle.hurd_laws.specs.Called.{Lacks};
 ghost use Rattle.hurd_world.specs.Held.{world_of};
 ghost use Rattle.hurd_shell.specs.Programs.{made, data_of, done_of, names_of, port_of, stat_of, unread};
@@ -27,21 +28,34 @@ const FILE_MODE: u32 = 0o644;
 /// The mode of a directory that a command makes.
 const DIRECTORY_MODE: u32 = 0o755;
 
-/// Makes a call of a task.
+/// Whether a reply is want of memory.
+fn lacks_memory<S>(reply: &Reply<S>) -> bool
+    ensures { result ≡ lacks_memory reply.now }
+{
+    matches!(
+        reply,
+        Reply::Refused(Errno::ENOMEM) | Reply::Back(Errno::ENOMEM, _)
+    )
+}
+
+/// Makes a call of a task. Where memory was refused, a server that the call brought is dropped.
 fn made<S: Server>(
     world: &mut World<S>,
     alloc: Global,
     task: TaskId,
-    call: Call,
-) -> Result<Reply, NoMemory>
-    ensures ok { IfOk result (λ reply. Stepped (world_of S.meaning world.old) task.0 call reply (world_of S.meaning world.new)) }
-    ensures err { IfErr result (λ e.
-        Lacks (world_of S.meaning world.old) task.0 call (Reply.Refused Errno.ENOMEM) (world_of S.meaning world.new)) }
+    call: Call<S>,
+) -> Result<Reply<S>, NoMemory>
+    requires { BringsBegun (call_by S.meaning call) }
+    ensures ok { IfOk result (λ reply.
+        Stepped (world_of S.meaning world.old) task.0 (call_by S.meaning call) (reply_by S.meaning reply) (world_of S.meaning world.new)) }
+    ensures err { let c = call_by S.meaning call in IfErr result (λ e.
+        Lacks (world_of S.meaning world.old) task.0 c (refusal (box_in c) Errno.ENOMEM) (world_of S.meaning world.new)) }
 {
-    match world.call(alloc, task, call) {
-        Reply::Refused(Errno::ENOMEM) => Err(NoMemory),
-        reply => Ok(reply),
+    let reply = world.call(alloc, task, call);
+    if lacks_memory(&reply) {
+        return Err(NoMemory);
     }
+    Ok(reply)
 }
 
 /// A retry, which has a port unless it is magical.
@@ -59,8 +73,8 @@ fn retry_of(kind: RetryKind, name: Bytes, port: Option<u64>) -> Result<Looked, S
 }
 
 /// What a lookup was answered.
-fn looked_of(reply: Reply) -> Result<Looked, Stop>
-    ensures { result ≡ stopped (looked_of reply) }
+fn looked_of<S: Server>(reply: Reply<S>) -> Result<Looked, Stop>
+    ensures { result ≡ stopped (looked_of (reply_by S.meaning reply)) }
 {
     match reply {
         Reply::Found(Lookup::Done(port)) => Ok(Looked::Opened(port)),
@@ -73,13 +87,14 @@ fn looked_of(reply: Reply) -> Result<Looked, Stop>
         | Reply::Names(_)
         | Reply::Stat(_)
         | Reply::Modes(_)
-        | Reply::Same(_) => Err(Stop::Refused(Errno::EIO)),
+        | Reply::Same(_)
+        | Reply::Back(_, _) => Err(Stop::Refused(Errno::EIO)),
     }
 }
 
 /// The port that was made of another.
-fn port_of(reply: Reply) -> Result<u64, Stop>
-    ensures { result ≡ stopped (port_of reply) }
+fn port_of<S: Server>(reply: Reply<S>) -> Result<u64, Stop>
+    ensures { result ≡ stopped (port_of (reply_by S.meaning reply)) }
 {
     match reply {
         Reply::Port(port) => Ok(port),
@@ -91,13 +106,14 @@ fn port_of(reply: Reply) -> Result<u64, Stop>
         | Reply::Names(_)
         | Reply::Stat(_)
         | Reply::Modes(_)
-        | Reply::Same(_) => Err(Stop::Refused(Errno::EIO)),
+        | Reply::Same(_)
+        | Reply::Back(_, _) => Err(Stop::Refused(Errno::EIO)),
     }
 }
 
 /// The bytes that a read gave.
-fn data_of(reply: Reply) -> Result<Bytes, Stop>
-    ensures { result ≡ stopped (data_of reply) }
+fn data_of<S: Server>(reply: Reply<S>) -> Result<Bytes, Stop>
+    ensures { result ≡ stopped (data_of (reply_by S.meaning reply)) }
 {
     match reply {
         Reply::Data(bytes) => Ok(bytes),
@@ -109,13 +125,14 @@ fn data_of(reply: Reply) -> Result<Bytes, Stop>
         | Reply::Names(_)
         | Reply::Stat(_)
         | Reply::Modes(_)
-        | Reply::Same(_) => Err(Stop::Refused(Errno::EIO)),
+        | Reply::Same(_)
+        | Reply::Back(_, _) => Err(Stop::Refused(Errno::EIO)),
     }
 }
 
 /// The names in a directory.
-fn names_of(reply: Reply) -> Result<Names, Stop>
-    ensures { result ≡ stopped (names_of reply) }
+fn names_of<S: Server>(reply: Reply<S>) -> Result<Names, Stop>
+    ensures { result ≡ stopped (names_of (reply_by S.meaning reply)) }
 {
     match reply {
         Reply::Names(names) => Ok(names),
@@ -127,13 +144,14 @@ fn names_of(reply: Reply) -> Result<Names, Stop>
         | Reply::Count(_)
         | Reply::Stat(_)
         | Reply::Modes(_)
-        | Reply::Same(_) => Err(Stop::Refused(Errno::EIO)),
+        | Reply::Same(_)
+        | Reply::Back(_, _) => Err(Stop::Refused(Errno::EIO)),
     }
 }
 
 /// What is told of a node.
-fn stat_of(reply: Reply) -> Result<Stat, Stop>
-    ensures { result ≡ stopped (stat_of reply) }
+fn stat_of<S: Server>(reply: Reply<S>) -> Result<Stat, Stop>
+    ensures { result ≡ stopped (stat_of (reply_by S.meaning reply)) }
 {
     match reply {
         Reply::Stat(stat) => Ok(stat),
@@ -145,13 +163,14 @@ fn stat_of(reply: Reply) -> Result<Stat, Stop>
         | Reply::Count(_)
         | Reply::Names(_)
         | Reply::Modes(_)
-        | Reply::Same(_) => Err(Stop::Refused(Errno::EIO)),
+        | Reply::Same(_)
+        | Reply::Back(_, _) => Err(Stop::Refused(Errno::EIO)),
     }
 }
 
 /// Whether a change was made.
-fn done_of(reply: Reply) -> Result<(), Stop>
-    ensures { result ≡ stopped (done_of reply) }
+fn done_of<S: Server>(reply: Reply<S>) -> Result<(), Stop>
+    ensures { result ≡ stopped (done_of (reply_by S.meaning reply)) }
 {
     match reply {
         Reply::Done | Reply::Count(_) => Ok(()),
@@ -162,7 +181,8 @@ fn done_of(reply: Reply) -> Result<(), Stop>
         | Reply::Names(_)
         | Reply::Stat(_)
         | Reply::Modes(_)
-        | Reply::Same(_) => Err(Stop::Refused(Errno::EIO)),
+        | Reply::Same(_)
+        | Reply::Back(_, _) => Err(Stop::Refused(Errno::EIO)),
     }
 }
 
