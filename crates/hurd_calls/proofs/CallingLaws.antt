@@ -1,5 +1,5 @@
 -- What a call of a list is told.
-use Rattle.std.proofs.Common.{◌≡◌, ◌⊎◌, subst, List, inl, inr, false, true, Option, Some, None, ℕ, refl, sym, ap, ◌∙◌, true≢false}
+use Rattle.std.proofs.Common.{◌≡◌, subst, List, inl, inr, false, true, Option, Some, None, ℕ, refl, sym, ap, ◌∙◌, true≢false}
 use Rattle.std.specs.Option.{option_map}
 use Rattle.hurd_creds.specs.declared.errno.Errno.TheVariants.{ENOMEM}
 use Rattle.hurd_trans_iface.specs.Meaning.{Meaning}

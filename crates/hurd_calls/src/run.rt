@@ -1,6 +1,6 @@
 //! A list of calls from its reading to the last reply.
 ghost use Rattle.std.specs.Prelude.{◌≡◌, ◌≢◌, true, Ok, Err, IfOk, IfErr};
-ghost use Rattle.hurd_trans_iface.specs.Meaning.{Begins};
+ghost use Rattle.hurd_tmpfs.specs.Tree.{new_tmpfs};
 ghost use Rattle.hurd_world.specs.Boot.{first_world};
 ghost use Rattle.hurd_world.specs.Held.{world_of};
 ghost use Rattle.hurd_lists.specs.Lists.{reading_of, said_by};
@@ -20,13 +20,13 @@ use std::io::{Read, Write};
 /// What stands behind the number of a bad line.
 const COMPLAINT: &str = ": bad calls\n";
 
-/// A world of tasks over a root server.
+/// A world of tasks over an empty tree in memory.
 ///
 /// Errors, in order: `Boot` with the world's refusal, `Memory`.
 fn begun<S: Server>(alloc: Global, root: S, tasks: Vec<Ids>) -> Result<World<S>, Fault>
-    requires { Begins (S.meaning root) }
-    ensures ok { IfOk result (λ world. world_of S.meaning world ≡ first_world (S.meaning root) tasks.items) }
-    ensures err { IfErr result (λ fault. NotBegun (S.meaning root) tasks.items fault) }
+    requires { S.meaning root ≡ new_tmpfs }
+    ensures ok { IfOk result (λ world. world_of S.meaning world ≡ first_world new_tmpfs tasks.items) }
+    ensures err { IfErr result (λ fault. NotBegun new_tmpfs tasks.items fault) }
 {
     match World::boot(alloc, root, tasks) {
         Ok(world) => Ok(world),
