@@ -1,2 +1,3 @@
+pub mod CallingLaws
 pub mod ListLaws
 pub mod PrintedLaws

@@ -1,9 +1,12 @@
 -- What a list has printed.
-use Rattle.std.specs.Prelude.{Option, Result, OnOk, IfErr}
-use Rattle.std.specs.Io.KnownBytes.{Appends}
-use Rattle.std.proofs.Common.{◌≡◌, length, true, nat_lt, ℕ, List, [], Ok, Err, refl, inl, ◌∙◌, ap}
+use Rattle.std.specs.Prelude.{Option, Result}
+use Rattle.std.proofs.Common.{◌≡◌, length, true, nat_lt, ℕ, List, [], Ok, Err, refl, inl, ◌∙◌, ap, map}
 use Rattle.std.proofs.lemmas.Bool.{lt-ltb}
-use Rattle.hurd_lists.specs.Lists.{Standing, most_bytes, reading_of}
+use Rattle.hurd_lists.specs.Lists.{Standing, listed_by, most_bytes, reading_of, said_by}
+use Rattle.hurd_lists.specs.declared.reader.CallList.{CallList}
+use Rattle.hurd_lists.specs.declared.reader.ListedCall.{ListedCall}
+use Rattle.hurd_trans_iface.specs.Meaning.{Meaning}
+use Rattle.hurd_machine.specs.World.{World}
 use Rattle.hurd_terminal.specs.Faults.{AppendsFront, IsPrintFault}
 use Rattle.hurd_terminal.specs.Runs.{Adds, Prints}
 use Rattle.hurd_terminal.specs.declared.fault.Fault.{Fault}
@@ -11,7 +14,8 @@ use Rattle.hurd_terminal.specs.declared.fault.Fault.TheVariants.{Read, Write, Ba
 use Rattle.hurd_terminal.specs.declared.print.Output.{Output}
 use Rattle.hurd_terminal.proofs.RunLaws.{HasLimit, adds_output}
 use Rattle.hurd_tmpfs.specs.Tree.{new_tmpfs}
-use Rattle.hurd_world.specs.Boot.{boot_of}
+use Rattle.hurd_world.specs.Boot.{boot_of, first_world}
+use Rattle.hurd_calls.proofs.PrintedLaws.{PrintedSoFar, none_printed}
 use Rattle.hurd_calls.specs.Faults.{NotBegun, NotRead}
 use Rattle.hurd_calls.specs.Lists.{bad_line, lists, output_of, said_in}
 
@@ -35,10 +39,12 @@ not_begun list said (Bad line) read is = absurd is
 not_begun list said (Boot e) read is = (ap bad_line read, ap (λ (r : Result Standing ℕ). boot_of new_tmpfs (said_in r).tasks) read ∙ is, refl)
 not_begun list said Memory read is = inl refl
 
--- the calls of a list that was read print its output, or a front of it
-pub answered : {W : Type 0} (output : Output W) (before after : Option (List ℕ)) (list : List ℕ) (said : Standing) (ended : Result (Unit {0}) Fault) → reading_of list ≡ Ok said
-    → OnOk ended (Appends before after (output_of said)) → IfErr ended (λ fault. IsPrintFault output fault × AppendsFront before after (output_of said))
-    → Adds lists list before after ended
-answered output before after list said ended read ok err =
-    let same : output_of (said_in (reading_of list)) ≡ output_of said = ap (λ (r : Result Standing ℕ). output_of (said_in r)) read in
-    adds_output lists output before after list ended (ap bad_line read) (rw same ok) (rw same err)
+-- nothing was printed yet of the calls of a list that was read
+pub begin_printed : {S : Type 0} (f : S → Meaning) (before : Option (List ℕ)) (text : List ℕ) (list : CallList S) (calls : List (ListedCall S)) (w : World) → reading_of text ≡ Ok (said_by f list) → calls ≡ list.calls.items
+    → w ≡ first_world new_tmpfs list.tasks.items → PrintedSoFar (output_of (said_in (reading_of text))) before before (map (listed_by f) calls) w
+begin_printed f before text list calls w read is here = rw (read, is, here) (none_printed before (map (listed_by f) list.calls.items) (first_world new_tmpfs list.tasks.items))
+
+-- a front was printed, up to a fault
+pub front_added : {W : Type 0} (output : Output W) (before after : Option (List ℕ)) (list : List ℕ) (said : Standing) (fault : Fault) → reading_of list ≡ Ok said → IsPrintFault output fault
+    → AppendsFront before after (output_of (said_in (reading_of list))) → Adds lists list before after (Err fault)
+front_added output before after list said fault read is front = adds_output lists output before after list (Err fault) (ap bad_line read) tt (is, front)

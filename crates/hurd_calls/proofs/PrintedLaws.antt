@@ -2,9 +2,11 @@
 use Rattle.std.specs.Prelude.{Option}
 use Rattle.std.specs.Io.KnownBytes.{Appends}
 use Rattle.std.specs.List.{concat}
-use Rattle.std.proofs.Common.{◌≡◌, ℕ, List, [], ◌∷◌, ◌++◌, refl, sym, ◌∙◌, ap, subst, append_assoc, append-nil}
+use Rattle.std.proofs.Common.{◌≡◌, ℕ, List, [], ◌∷◌, ◌++◌, refl, sym, ◌∙◌, ap, subst, map, append_assoc, append-nil}
 use Rattle.std.proofs.KnownBytes.{Appends-nil, Appends-trans}
-use Rattle.hurd_lists.specs.Lists.{Listed}
+use Rattle.hurd_trans_iface.specs.Meaning.{Meaning}
+use Rattle.hurd_lists.specs.Lists.{Listed, listed_by}
+use Rattle.hurd_lists.specs.declared.reader.ListedCall.{ListedCall}
 use Rattle.hurd_machine.specs.World.{World}
 use Rattle.hurd_terminal.specs.Faults.{AppendsFront}
 use Rattle.hurd_terminal.proofs.OutputLaws.{front_follows}
@@ -60,3 +62,17 @@ module _ (whole : List ℕ) (before now : Option (List ℕ)) (left : List Listed
   all_printed none =
       let all : whole ≡ so.printed = so.split ∙ (ap (λ (cs : List Listed). so.printed ++ concat (parts_of cs w)) none ∙ (ap (λ (bs : List ℕ). so.printed ++ bs) (no_parts w) ∙ append-nil so.printed)) in
       subst (λ (bs : List ℕ). Appends before now bs) (sym all) so.appends
+
+-- the same of calls as they were read
+
+module _ {S : Type 0} (f : S → Meaning) (whole : List ℕ) (before now : Option (List ℕ)) (left : List (ListedCall S)) (w : World) (so : PrintedSoFar whole before now (map (listed_by f) left) w) where
+  pub read_printed : (then : Option (List ℕ)) (c : ListedCall S) (less : List (ListedCall S)) (x : World) (part : List ℕ) → left ≡ c ∷ less → part ≡ part_of (listed_by f c) w
+      → x ≡ after_call (listed_by f c) w → Appends now then part → PrintedSoFar whole before then (map (listed_by f) less) x
+  read_printed then c less x part is here next adds = next_printed whole before now (map (listed_by f) left) w so then (listed_by f c) (map (listed_by f) less) x part (ap (map (listed_by f)) is) here next adds
+
+  pub read_cut : (then : Option (List ℕ)) (c : ListedCall S) (less : List (ListedCall S)) (x : World) (part : List ℕ) → left ≡ c ∷ less → part ≡ part_of (listed_by f c) w
+      → x ≡ after_call (listed_by f c) w → AppendsFront now then part → AppendsFront before then whole
+  read_cut then c less x part is here next adds = next_cut whole before now (map (listed_by f) left) w so then (listed_by f c) (map (listed_by f) less) x part (ap (map (listed_by f)) is) here next adds
+
+  pub all_read : left ≡ [] → Appends before now whole
+  all_read none = all_printed whole before now (map (listed_by f) left) w so (ap (map (listed_by f)) none)

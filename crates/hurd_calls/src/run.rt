@@ -1,22 +1,17 @@
 //! A list of calls from its reading to the last reply.
-ghost use Rattle.std.specs.Prelude.{◌≡◌, ◌≢◌, true, map, Ok, Err, IfOk, IfErr, OnOk};
-ghost use Rattle.std.specs.Io.KnownBytes.{Appends};
-ghost use Rattle.std.specs.List.{concat};
-ghost use Rattle.hurd_trans_iface.specs.Meaning.{Begins};
+ghost use Rattle.std.specs.Prelude.{◌≡◌, ◌≢◌, true, Ok, Err, IfOk, IfErr};
 ghost use Rattle.hurd_tmpfs.specs.Tree.{new_tmpfs};
 ghost use Rattle.hurd_world.specs.Boot.{first_world};
 ghost use Rattle.hurd_world.specs.Held.{world_of};
-ghost use Rattle.hurd_lists.specs.Lists.{listed_by, reading_of, said_by};
-ghost use Rattle.hurd_terminal.specs.Faults.{AppendsFront, IsPrintFault};
+ghost use Rattle.hurd_lists.specs.Lists.{reading_of, said_by};
 ghost use Rattle.hurd_terminal.specs.Runs.{Adds, Blames, Exits, Ran};
 ghost use Rattle.hurd_calls.specs.Faults.{NotBegun, NotRead};
-ghost use Rattle.hurd_calls.specs.Lists.{lists, parts_of};
+ghost use Rattle.hurd_calls.specs.Lists.{lists};
 
-use crate::calling::made;
+use crate::calling::{Made, empty_tree, part, server_from};
 use hurd_creds::{Errno, Ids};
-use hurd_lists::{CallList, ListFault, ListedCall, parse_calls};
+use hurd_lists::{CallList, ListFault, parse_calls};
 use hurd_terminal::{Fault, Input, Output, finish, read_text};
-use hurd_tmpfs::Tmpfs;
 use hurd_trans_iface::Server;
 use hurd_world::World;
 use std::alloc::Global;
@@ -25,33 +20,13 @@ use std::io::{Read, Write};
 /// What stands behind the number of a bad line.
 const COMPLAINT: &str = ": bad calls\n";
 
-/// Makes calls in their order, and prints each with its reply.
-fn make_all<W: Write>(
-    alloc: Global,
-    world: &mut World,
-    calls: Vec<ListedCall>,
-    output: &mut Output<W>,
-) -> Result<(), Fault>
-    ensures ok { OnOk result (Appends (W.contents output.old.writer) (W.contents output.new.writer)
-        (concat (parts_of (map (listed_by (λ b. meaning b)) calls.items) (world_of (λ b. meaning b) world.old)))) }
-    ensures err { IfErr result (λ fault. IsPrintFault output.new fault
-        × AppendsFront (W.contents output.old.writer) (W.contents output.new.writer)
-        (concat (parts_of (map (listed_by (λ b. meaning b)) calls.items) (world_of (λ b. meaning b) world.old)))) }
-{
-    for listed in calls {
-        let part = made(world, alloc, listed)?;
-        output.print(part.as_slice())?;
-    }
-    Ok(())
-}
-
-/// A world of tasks over a root server.
+/// A world of tasks over an empty tree in memory.
 ///
 /// Errors, in order: `Boot` with the world's refusal, `Memory`.
 fn begun<S: Server>(alloc: Global, root: S, tasks: Vec<Ids>) -> Result<World<S>, Fault>
-    requires { Begins (S.meaning root) }
-    ensures ok { IfOk result (λ world. world_of S.meaning world ≡ first_world (S.meaning root) tasks.items) }
-    ensures err { IfErr result (λ fault. NotBegun (S.meaning root) tasks.items fault) }
+    requires { S.meaning root ≡ new_tmpfs }
+    ensures ok { IfOk result (λ world. world_of S.meaning world ≡ first_world new_tmpfs tasks.items) }
+    ensures err { IfErr result (λ fault. NotBegun new_tmpfs tasks.items fault) }
 {
     match World::boot(alloc, root, tasks) {
         Ok(world) => Ok(world),
@@ -74,21 +49,31 @@ fn parsed<S: Server>(alloc: Global, text: &[u8]) -> Result<CallList<S>, Fault>
     }
 }
 
-/// Makes the calls of a list, begun over an empty tree, and prints each with its reply.
-fn answer<W: Write>(
-    alloc: Global,
-    text: &[u8],
-    root: Box<dyn Server>,
-    output: &mut Output<W>,
-) -> Result<(), Fault>
-    requires { meaning root ≡ new_tmpfs }
+/// Makes the calls of a list over an empty tree in memory, each with the server that it brings, and prints each with its
+/// reply. The boxes are made here, since a function that gave them out could say nothing of what they mean.
+fn answer<W: Write>(alloc: Global, text: &[u8], output: &mut Output<W>) -> Result<(), Fault>
     ensures adds { Adds lists text.now (W.contents output.old.writer) (W.contents output.new.writer) result }
     ensures read { result ≢ Err Fault.Read }
     ensures write { result ≡ Err Fault.Write → output.new.failed ≡ true }
 {
     let CallList { tasks, calls } = parsed(alloc, text)?;
+    let root: Box<dyn Server> = empty_tree(alloc)?;
     let mut world = begun(alloc, root, tasks)?;
-    make_all(alloc, &mut world, calls, output)
+    for listed in calls {
+        let server: Option<Box<dyn Server>> = match &listed.server {
+            None => None,
+            Some(words) => Some(match server_from(alloc, words)? {
+                Made::Tmpfs(server) => server,
+                Made::Hello(server) => server,
+                Made::Null(server) => server,
+                Made::Zero(server) => server,
+                Made::Symlink(server) => server,
+            }),
+        };
+        let part = part(&mut world, alloc, listed, server)?;
+        output.print(part.as_slice())?;
+    }
+    Ok(())
 }
 
 /// Reads a list of calls, makes them over an empty tree in memory, and prints each with its reply.
@@ -107,12 +92,7 @@ pub fn run<R: Read, W: Write>(
     ensures blames { Blames input.new output.new result }
 {
     let text = read_text(alloc, input)?;
-    let tree = Tmpfs::empty(alloc)?;
-    let Ok(root) = Box::new(alloc, tree) else {
-        return Err(Fault::Memory);
-    };
-    let root: Box<dyn Server> = root;
-    answer(alloc, text.as_slice(), root, output)
+    answer(alloc, text.as_slice(), output)
 }
 
 /// The whole program: runs a list, and after a fault prints the fault's line; answers the exit status.

@@ -446,7 +446,8 @@ pub fn server_of(alloc: Global, verb: Verb, args: &[Bytes]) -> Result<Option<Wor
 
 /// A call with this server in the place of the one that it brings.
 pub fn with_server<S: Server>(call: Call<S>, server: Option<S>) -> Call<S>
-    ensures { result ≡ with_server server call }
+    ensures is { result ≡ with_server server call }
+    ensures begun { IfSome server (λ s. Begins (S.meaning s)) → BringsBegun (call_by S.meaning result) }
 {
     match call {
         Call::FileSetTranslator {

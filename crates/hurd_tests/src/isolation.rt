@@ -1,11 +1,8 @@
 //! Two runs that look the same to alice.
-ghost use Rattle.std.specs.Prelude.{IfOk};
-ghost use Rattle.hurd_world.specs.Held.{AllBegun};
-
 use crate::fixture::{Memory, booted, list_of, wants_memory};
 use hurd_creds::{Errno, TaskId};
 use hurd_lists::{ListedCall, told, with_server};
-use hurd_world::{Call, Reply, run_boxed};
+use hurd_world::Reply;
 use std::alloc::{AllocError, Global};
 use std::process::Abort;
 use std::test::Fail;
@@ -59,28 +56,20 @@ const TOLD: &str = r"1 dir_lookup 1 =motd READ 0
   Data =Welcome\n
 ";
 
-/// The calls, bob's only where he is there. None brings a server.
-fn calls(alloc: Global, with_bob: bool) -> Result<Vec<(TaskId, Call)>, Errno>
-    ensures { IfOk result (λ calls. AllBegun (λ b. meaning b) calls.items) }
-{
-    let list = list_of(alloc, CALLS)?;
-    let mut calls = Vec::new(alloc);
-    for listed in list.calls {
-        let ListedCall { task, call, .. } = listed;
-        if (with_bob || task != BOB) && calls.push((task, with_server(call, None))).is_err() {
-            return Err(Errno::ENOMEM);
-        }
-    }
-    Ok(calls)
-}
-
-/// Makes the calls in a new world.
+/// Makes the calls in a new world, bob's only where he is there. None brings a server.
 fn run(alloc: Global, with_bob: bool) -> Result<Vec<Reply>, Errno> {
     let mut world = booted(alloc)?;
-    match run_boxed(&mut world, alloc, calls(alloc, with_bob)?) {
-        Ok(replies) => Ok(replies),
-        Err((errno, _)) => Err(errno),
+    let mut replies = Vec::new(alloc);
+    for listed in list_of(alloc, CALLS)?.calls {
+        let ListedCall { task, call, .. } = listed;
+        if with_bob || task != BOB {
+            let reply = world.call(alloc, task, with_server(call, None));
+            if replies.push(reply).is_err() {
+                return Err(Errno::ENOMEM);
+            }
+        }
     }
+    Ok(replies)
 }
 
 /// Whether no call was refused memory.

@@ -1,5 +1,5 @@
 use Rattle.std.proofs.lemmas.Result.{err_from_is_err_and}
-use Rattle.hurd_terminal.proofs.RunLaws.{ran_out, ran_whole, unread}
+use Rattle.hurd_terminal.proofs.RunLaws.{ran_whole, unread}
 use Rattle.hurd_calls.specs.Lists.{lists}
 use Rattle.hurd_calls.proofs.ListLaws.{lists_limited}
 use Rattle.hurd_calls.proofs.run.run.Goals as goal
@@ -8,14 +8,6 @@ pub returns-in_err-text-clause-ran : goal.returns-in_err-text-clause-ran
 returns-in_err-text-clause-ran g c =
     let p = err_from_is_err_and c.from_residual.result c.from_residual.ensures.1 in
     rw (p.1, p.2) (unread lists c.read_text.new.input _ _ _ c.in_err-text.ensures.err)
-
-pub returns-in_err-tree-clause-ran : goal.returns-in_err-tree-clause-ran
-returns-in_err-tree-clause-ran g c =
-    let p = err_from_is_err_and c.from_residual-in_err-tree.result c.from_residual-in_err-tree.ensures.1 in
-    rw (p.1, p.2) (ran_out lists _ _)
-
-pub returns-in_default-clause-ran : goal.returns-in_default-clause-ran
-returns-in_default-clause-ran g c = ran_out lists _ _
 
 pub returns-clause-ran : goal.returns-clause-ran
 returns-clause-ran g c = ran_whole lists lists_limited _ _ _ _ _ c.in_ok-text.ensures.ok (rw c.as_slice.ensures at c.answer.ensures.adds)
