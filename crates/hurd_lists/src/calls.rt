@@ -1,8 +1,8 @@
 //! Which calls names and arguments make.
-ghost use Rattle.std.specs.Prelude.{◌≡◌, Some, option_and_then, option_map};
+ghost use Rattle.std.specs.Prelude.{◌≡◌, IfSome, Some, option_and_then, option_map};
 ghost use Rattle.hurd_words.specs.Reading.{Reads};
-ghost use Rattle.hurd_trans_iface.specs.Meaning.{begin};
-ghost use Rattle.hurd_machine.specs.Calls.{call_by};
+ghost use Rattle.hurd_trans_iface.specs.Meaning.{Begins, begin};
+ghost use Rattle.hurd_machine.specs.Calls.{BringsBegun, call_by};
 ghost use Rattle.hurd_lists.specs.Arguments.{server_words};
 ghost use Rattle.hurd_lists.specs.Calls.{auth_makeauth, before_box, begun, behind_box, box_place, call_of, dir_link, dir_lookup, dir_mkdir, dir_mkfile, dir_rename, dir_rmdir, dir_unlink, entry, file_chmod, file_chown, file_set_size, file_set_translator, fsys_getroot, fsys_goaway, io_identity, io_read, io_restrict_auth, io_seek, io_set_all_openmodes, io_write, lone, pair, port_receive, port_send, server_of, setting_of, with_server};
 
