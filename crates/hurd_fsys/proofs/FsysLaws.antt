@@ -3,32 +3,33 @@ use Rattle.std.proofs.Common.{◌≡◌, ◌≢◌, ◌∙◌, ◌||◌, ◌&&�
 use Rattle.std.specs.Prelude.{Ok}
 use Rattle.hurd_creds.specs.declared.name.Name.{Name}
 use Rattle.hurd_creds.specs.declared.trans_flags.GoawayFlags.{GoawayFlags}
-use Rattle.hurd_creds.specs.declared.errno.Errno.TheVariants.{EBUSY, ENXIO, EOVERFLOW, EPERM, ESRCH}
-use Rattle.hurd_creds.specs.Access.{owns}
+use Rattle.hurd_creds.specs.declared.errno.Errno.TheVariants.{EBUSY, ENXIO, EOVERFLOW, ESRCH}
 use Rattle.hurd_creds.specs.Names.{same_name}
 use Rattle.hurd_creds.specs.TransBits.{asks_goaway, FORCE}
 use Rattle.hurd_creds.proofs.NameLaws.{same_name-itself}
 use Rattle.hurd_nodes.specs.Shown.{boot_name}
 use Rattle.hurd_nodes.proofs.PartLaws.{and_both}
-use Rattle.hurd_ports.specs.declared.table.Right.TheVariants.{Io, Control}
+use Rattle.hurd_ports.specs.declared.table.Right.TheVariants.{Control}
 use Rattle.hurd_ports.specs.Tables.{Task, has_room}
 use Rattle.hurd_machine.specs.declared.call.Reply.TheVariants.{Done, Port}
 use Rattle.hurd_machine.specs.World.{World, task_at, active_at}
 use Rattle.hurd_machine.specs.Plan.{Plan}
-use Rattle.hurd_machine.specs.Handle.{Named, port_asks}
-use Rattle.hurd_machine.specs.Sight.{UsersOf, Held, ByControl, BySeat, bare, users}
+use Rattle.hurd_machine.specs.Handle.{Named}
+use Rattle.hurd_machine.specs.Sight.{UsersOf, ByControl, BySeat, users}
 use Rattle.hurd_machine.specs.Sound.{Coherent}
 use Rattle.hurd_machine.specs.Touched.{Goes, Nothing}
 use Rattle.hurd_machine.proofs.Views.{Agree, same_tasks, active_same}
 use Rattle.hurd_machine.proofs.Frame.{Full, AllWithin}
 use Rattle.hurd_machine.proofs.Opens.{own_task}
 use Rattle.hurd_machine.proofs.Going.{goes_within, goes_proper, goes_linked, goes_sized, goes_rests, goes_may}
-use Rattle.hurd_machine.proofs.Asks.{IsPlain, IsNamed, is_named, port_same, port_seen, port_plain, holds_right, first_ok, given_ok, on_ok, first_same, given_same, on_same, first_plain, given_plain, on_plain, ok_plain, answered_all, answered_same, answered_plain, done_plain}
+use Rattle.hurd_machine.proofs.Asks.{IsPlain, holds_right, first_ok, given_ok, on_ok, first_same, given_same, on_same, first_plain, given_plain, on_plain, ok_plain, answered_all, answered_same, answered_plain, done_plain}
 use Rattle.hurd_machine.proofs.CallLaws.{CallLaws, answered_within, answered_proper, answered_linked, answered_sized, answered_rests, answered_may}
 use Rattle.hurd_machine.proofs.Confine.{Commands}
 use Rattle.hurd_core.specs.Core.{room_asks}
 use Rattle.hurd_fsys.specs.Controls.{Controlled, control_asks}
 use Rattle.hurd_fsys.specs.Fsys.{may_go, goaway_asks, plan_goaway, touches_goaway, seated_asks, plan_cntl, touches_cntl}
+use Rattle.hurd_fsys.specs.Owned.{owned_asks}
+use Rattle.hurd_fsys.proofs.OwnedLaws.{Owner, owner, owner_right, owner_sees, owned_same, owned_plain}
 use Rattle.hurd_fsys.proofs.ControlLaws.{IsControlled, is_controlled, controlled_same, controlled_plain, controls_within, controls_proper, controls_rests, controls_sized, controls_linked, controls_may, owner_holds}
 
 -- fsys_goaway
@@ -89,17 +90,15 @@ module _ (t p : ℕ) where
   -- what is controlled is active on a node that the port's ids own
   record Seated (w : World) (s : Name) : Type 0 where
     named : Named
-    is_named : IsNamed w t p named
-    owned : owns named.right.ids (bare named.header) ≡ true
+    owner : Owner t p w named
     active : active_at w named.right.node ≡ Some s
 
   seated : (w : World) (s : Name) → seated_asks w t p ≡ Ok s → Seated w s
   seated w s is =
-      let n = first_ok (port_asks w t p) _ s is in
-      let g = given_ok EPERM _ _ s n.2 in
-      let q = on_ok ENXIO (active_at w n.0.right.node) _ s g.1 in
+      let n = first_ok (owned_asks w t p) _ s is in
+      let q = on_ok ENXIO (active_at w n.0.right.node) _ s n.2 in
       let same : q.0 ≡ s = cc (q.2) in
-      subst (Seated w) same (record { named = n.0; is_named = is_named w t p n.0 n.1; owned = g.0; active = q.1 })
+      subst (Seated w) same (record { named = n.0; owner = owner t p w n.0 n.1; active = q.1 })
 
   roomy : (w : World) (x : Task) → room_asks w t 0 ≡ Ok x → task_at w t ≡ Some x
   roomy w x is =
@@ -110,15 +109,14 @@ module _ (t p : ℕ) where
 
   seated_same : (S : ℕ → Bool) (v w : World) → Agree S v w → S t ≡ true → seated_asks w t p ≡ seated_asks v t p
   seated_same S v w a ours =
-      first_same _ _ _ _ (port_same a t ours p) (λ n is.
-      given_same _ _ _ _ _ refl (λ e.
-      on_same _ _ _ _ _ (active_same a n.right.node (port_seen t ours p n is)) (λ s at. refl)))
+      first_same _ _ _ _ (owned_same t p a ours) (λ n is.
+      on_same _ _ _ _ _ (active_same a n.right.node (owner_sees t p ours n (owner t p v n is))) (λ s at. refl))
 
   room_same : (S : ℕ → Bool) (v w : World) → Agree S v w → S t ≡ true → room_asks w t 0 ≡ room_asks v t 0
   room_same S v w a ours = on_same _ _ _ _ _ (same_tasks a t ours) (λ x k. refl)
 
   seated_plain : (w : World) → IsPlain (seated_asks w t p)
-  seated_plain w = first_plain _ _ (port_plain w t p) (λ n is. given_plain _ _ _ refl (λ e. on_plain _ _ _ refl (λ s at. ok_plain _)))
+  seated_plain w = first_plain _ _ (owned_plain t p w) (λ n is. on_plain _ _ _ refl (λ s at. ok_plain _))
 
   room_plain : (w : World) → IsPlain (room_asks w t 0)
   room_plain w = on_plain _ _ _ refl (λ x k. given_plain _ _ _ refl (λ room. ok_plain _))
@@ -127,8 +125,8 @@ module _ (t p : ℕ) where
   commanded : (S : ℕ → Bool) (v : World) → Coherent v → S t ≡ true → (s : Name) → Seated v s → Commands S v s
   commanded S v c ours s k =
       let i = c.seating.seated k.named.right.node s k.active in
-      let held = holds_right t ours p (Io k.named.right) k.is_named.is_right in
-      inr (i.1, i.2, BySeat k.named.right.node k.named.header (Held k.named.right held refl) k.active k.is_named.is_header (owner_holds S v k.named held k.owned))
+      let held = owner_right t p ours k.named k.owner in
+      inr (i.1, i.2, BySeat k.named.right.node k.named.header (owner_sees t p ours k.named k.owner) k.active k.owner.is_named.is_header (owner_holds S v k.named held k.owner.owned))
 
   pub cntl_laws : CallLaws t (λ w. plan_cntl w t p) (λ w. touches_cntl w t p)
   cntl_laws = record {

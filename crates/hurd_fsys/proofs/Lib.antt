@@ -1,3 +1,4 @@
+pub mod OwnedLaws
 pub mod ControlLaws
 pub mod FsysLaws
 pub mod BegunLaws

@@ -2,8 +2,8 @@
 use Rattle.std.proofs.Common.{◌≡◌, ◌≢◌, ◌⊎◌, ◌∙◌, ◌||◌, ◌&&◌, ◌==◌, not, ℕ, Bool, true, false, if◌then◌else◌, List, [], ◌∷◌, Option, Some, None, refl, sym, ap, ap₂, subst, inl, inr}
 use Rattle.std.specs.Prelude.{Ok, is_some}
 use Rattle.hurd_creds.specs.declared.name.Name.{Name}
-use Rattle.hurd_creds.specs.declared.errno.Errno.TheVariants.{EBUSY, EINVAL, EOPNOTSUPP, EOVERFLOW, EPERM, ESRCH}
-use Rattle.hurd_creds.specs.Access.{IdSets, owns}
+use Rattle.hurd_creds.specs.declared.errno.Errno.TheVariants.{EBUSY, EINVAL, EOPNOTSUPP, EOVERFLOW, ESRCH}
+use Rattle.hurd_creds.specs.Access.{IdSets}
 use Rattle.hurd_creds.specs.TransBits.{asks_goaway, asks_trans, SET, EXCL, ORPHAN, FORCE}
 use Rattle.hurd_trans_iface.specs.Nodes.{Node}
 use Rattle.hurd_trans_iface.specs.Meaning.{Meaning}
@@ -17,8 +17,8 @@ use Rattle.hurd_machine.specs.declared.call.Reply.TheVariants.{Done}
 use Rattle.hurd_machine.specs.World.{World, nodes_of, task_at, header_at, home_at, active_at}
 use Rattle.hurd_machine.specs.Change.{Change, Attach, DropServer, Unseat, Settle, apply, apply_all}
 use Rattle.hurd_machine.specs.Plan.{Plan}
-use Rattle.hurd_machine.specs.Handle.{Named, port_asks}
-use Rattle.hurd_machine.specs.Sight.{Part, AttrOf, UsersOf, Holds, Held, Seen, BySeat, bare, users}
+use Rattle.hurd_machine.specs.Handle.{Named}
+use Rattle.hurd_machine.specs.Sight.{Part, AttrOf, UsersOf, Holds, Seen, BySeat, users}
 use Rattle.hurd_machine.specs.Sound.{Coherent, AreSized, Linked, AtRest}
 use Rattle.hurd_machine.specs.Touched.{Goes}
 use Rattle.hurd_machine.proofs.Views.{Agree, same_tasks, active_same}
@@ -30,11 +30,13 @@ use Rattle.hurd_machine.proofs.Settle.{rests_settle}
 use Rattle.hurd_machine.proofs.Opens.{own_task, fresh_new, fresh_next, later_new}
 use Rattle.hurd_machine.proofs.Several.{AllMay}
 use Rattle.hurd_machine.proofs.Going.{Begun, goes_within, goes_proper, goes_linked, goes_sized, goes_rests, goes_may, unseats_within, unseats_proper, unseats_linked, unseats_sized, unseats_rests, unseats_may, comes_within, comes_proper, comes_linked, comes_sized, comes_after}
-use Rattle.hurd_machine.proofs.Asks.{IsPlain, IsPlainReply, IsNamed, is_named, info_same, is_root_same, port_same, port_plain, holds_right, first_ok, given_ok, on_ok, first_same, given_same, on_same, first_plain, given_plain, on_plain, ok_plain, answered_all, answered_same, answered_plain, done_plain}
+use Rattle.hurd_machine.proofs.Asks.{IsPlain, IsPlainReply, info_same, is_root_same, first_ok, given_ok, on_ok, first_same, given_same, on_same, first_plain, given_plain, on_plain, ok_plain, answered_all, answered_same, answered_plain, done_plain}
 use Rattle.hurd_machine.proofs.CallLaws.{CallLaws, answered_within}
 use Rattle.hurd_core.specs.Core.{attaching, naming_asks}
 use Rattle.hurd_machine.specs.declared.call.Setting.{Setting}
 use Rattle.hurd_fsys.specs.Setting.{sets_nothing, setter_asks, may_replace, seat_asks, leaver, emptying, server_ids, seat_for, seating, setting_where, plan_set_translator, GoesFor, seat_parts, parts_where, touches_set_translator, root_mode, root_kind}
+use Rattle.hurd_fsys.specs.Owned.{owned_asks}
+use Rattle.hurd_fsys.proofs.OwnedLaws.{Owner, owner, owner_right, owner_sees, owned_same, owned_plain}
 use Rattle.hurd_fsys.proofs.ControlLaws.{owner_holds}
 use Rattle.hurd_fsys.proofs.BegunLaws.{begun_shaped, begun_bare, begun}
 
@@ -137,19 +139,13 @@ module _ (w : World) (c : Coherent w) (t : ℕ) (n : Named) (there : header_at w
 
 -- what is asked
 
--- a port on a node that is there, which its ids own
-record Setter (w : World) (t p : ℕ) (n : Named) : Type 0 where
-  is_named : IsNamed w t p n
-  owned : owns n.right.ids (bare n.header) ≡ true
-
 module _ (t p : ℕ) (f : Setting) where
-  setter : (w : World) (b : Bool) (n : Named) → setter_asks w t p f b ≡ Ok n → Setter w t p n
+  setter : (w : World) (b : Bool) (n : Named) → setter_asks w t p f b ≡ Ok n → Owner t p w n
   setter w b n is =
-      let k = first_ok (port_asks w t p) _ n is in
-      let g = given_ok EPERM _ _ n k.2 in
-      let h = given_ok EINVAL _ _ n g.1 in
+      let k = first_ok (owned_asks w t p) _ n is in
+      let h = given_ok EINVAL _ _ n k.2 in
       let same : k.0 ≡ n = cc (h.1) in
-      subst (Setter w t p) same (record { is_named = is_named w t p k.0 k.1; owned = g.0 })
+      subst (Owner t p w) same (owner t p w k.0 k.1)
 
   seated : (w : World) (n : Name) (old : Option Name) → seat_asks w f n ≡ Ok old → active_at w n ≡ old
   seated w n old is =
@@ -177,14 +173,14 @@ module _ (t p : ℕ) (f : Setting) where
   -- in worlds that agree
 
   setter_same : {S : ℕ → Bool} {v w : World} → Agree S v w → S t ≡ true → (b : Bool) → setter_asks w t p f b ≡ setter_asks v t p f b
-  setter_same a ours b = first_same _ _ _ _ (port_same a t ours p) (λ n is. refl)
+  setter_same a ours b = first_same _ _ _ _ (owned_same t p a ours) (λ n is. refl)
 
-  module _ {S : ℕ → Bool} {v w : World} (c : Coherent v) (a : Agree S v w) (ours : S t ≡ true) (n : Named) (k : Setter v t p n) where
+  module _ {S : ℕ → Bool} {v w : World} (c : Coherent v) (a : Agree S v w) (ours : S t ≡ true) (n : Named) (k : Owner t p v n) where
     held : Holds S v (Io n.right)
-    held = holds_right t ours p (Io n.right) k.is_named.is_right
+    held = owner_right t p ours n k
 
     seen : Seen S v n.right.node
-    seen = Held n.right held refl
+    seen = owner_sees t p ours n k
 
     replace_same : (o : Option Name) → active_at v n.right.node ≡ o → may_replace w f o ≡ may_replace v f o
     replace_same None e = refl
@@ -206,7 +202,7 @@ module _ (t p : ℕ) (f : Setting) where
   -- of memory nothing is known
 
   setter_plain : (w : World) (b : Bool) → IsPlain (setter_asks w t p f b)
-  setter_plain w b = first_plain _ _ (port_plain w t p) (λ n is. given_plain _ _ _ refl (λ e. given_plain _ _ _ refl (λ h. ok_plain _)))
+  setter_plain w b = first_plain _ _ (owned_plain t p w) (λ n is. given_plain _ _ _ refl (λ h. ok_plain _))
 
   seat_plain : (w : World) (n : Name) → IsPlain (seat_asks w f n)
   seat_plain w n = given_plain _ _ _ refl (λ e. given_plain _ _ _ refl (λ h. ok_plain _))
@@ -218,16 +214,16 @@ module _ (t p : ℕ) (f : Setting) where
     -- the changes of the plan are one of these
     record Cases (w : World) (P : List Change → Type 0) : Type 0 where
       none : P []
-      away : (n : Named) → Setter w t p n → (q : Name) → active_at w n.right.node ≡ Some q → P (DropServer q ∷ Settle ∷ [])
-      unseat : (n : Named) → Setter w t p n → P (Unseat n.right.node ∷ Settle ∷ [])
-      come : (n : Named) → Setter w t p n → (m : Meaning) (x : Task) → task_at w t ≡ Some x → (old : Option Name) → ((q : Name) → old ≡ Some q → active_at w n.right.node ≡ Some q)
+      away : (n : Named) → Owner t p w n → (q : Name) → active_at w n.right.node ≡ Some q → P (DropServer q ∷ Settle ∷ [])
+      unseat : (n : Named) → Owner t p w n → P (Unseat n.right.node ∷ Settle ∷ [])
+      come : (n : Named) → Owner t p w n → (m : Meaning) (x : Task) → task_at w t ≡ Some x → (old : Option Name) → ((q : Name) → old ≡ Some q → active_at w n.right.node ≡ Some q)
           → P (attaching t (seat_for n m old) (server_ids n.header.owner) m x)
 
     module _ (w : World) (P : List Change → Type 0) (cases : Cases w P) where
       abbrev Of : Plan → Type 0
       Of plan = P plan.changes
 
-      by_old : (n : Named) → Setter w t p n → (old : Option Name) → active_at w n.right.node ≡ old → P (emptying f n.right.node old)
+      by_old : (n : Named) → Owner t p w n → (old : Option Name) → active_at w n.right.node ≡ old → P (emptying f n.right.node old)
       by_old n k None e = cases.none
       by_old n k (Some q) e = go (asks_trans f.active ORPHAN)
         where
@@ -235,11 +231,11 @@ module _ (t p : ℕ) (f : Setting) where
           go true = cases.unseat n k
           go false = cases.away n k q e
 
-      by_box : (n : Named) → Setter w t p n → (o : Option Meaning) (old : Option Name) → active_at w n.right.node ≡ old → Of (seating w t n f o old)
+      by_box : (n : Named) → Owner t p w n → (o : Option Meaning) (old : Option Name) → active_at w n.right.node ≡ old → Of (seating w t n f o old)
       by_box n k None old e = by_old n k old e
       by_box n k (Some m) old e = answered_all Of (λ r. cases.none) (naming_asks w t 2) _ (λ x at. cases.come n k m x (namer w x at) (leaver f old) (leaves w n.right.node old e))
 
-      by_half : (n : Named) → Setter w t p n → (b : Bool) → Of (setting_where b w t f box n)
+      by_half : (n : Named) → Owner t p w n → (b : Bool) → Of (setting_where b w t f box n)
       by_half n k true = cases.none
       by_half n k false = answered_all Of (λ r. cases.none) (seat_asks w f n.right.node) _ (λ old is. by_box n k box old (seated w n.right.node old is))
 
@@ -259,16 +255,16 @@ module _ (t p : ℕ) (f : Setting) where
           go true = unseats_within w c n.right.node (Full w t (λ k. (k ≡ AttrOf n.right.node) ⊎ ⊥)) (inl (inl refl))
           go false = goes_within w c q not_boot_one (Full w t (λ k. (k ≡ AttrOf n.right.node) ⊎ Goes w q k)) (λ k goes. inl (inr goes))
 
-      box_within : (n : Named) → Setter w t p n → (o : Option Meaning) (old : Option Name) → active_at w n.right.node ≡ old → AllWithin (Full w t (seat_parts w f n.right.node old)) w (seating w t n f o old).changes
+      box_within : (n : Named) → Owner t p w n → (o : Option Meaning) (old : Option Name) → active_at w n.right.node ≡ old → AllWithin (Full w t (seat_parts w f n.right.node old)) w (seating w t n f o old).changes
       box_within n k None old e = emptied_within n old e
       box_within n k (Some m) old e = answered_all (λ (P : Plan). AllWithin (Full w t (seat_parts w f n.right.node old)) w P.changes) (λ r. tt) (naming_asks w t 2) _ (λ x at.
           comings_within w c t n k.is_named.is_header m x (namer w x at) (seat_parts w f n.right.node old) (leaver f old) (leaves w n.right.node old e) (inl refl) (λ q goes. inr goes))
 
-      half_within : (n : Named) → Setter w t p n → (b : Bool) → AllWithin (Full w t (parts_where b w f n.right.node)) w (setting_where b w t f box n).changes
+      half_within : (n : Named) → Owner t p w n → (b : Bool) → AllWithin (Full w t (parts_where b w f n.right.node)) w (setting_where b w t f box n).changes
       half_within n k true = tt
       half_within n k false = answered_within w t (seat_asks w f n.right.node) (seating w t n f box) (seat_parts w f n.right.node) (λ old is. box_within n k box old (seated w n.right.node old is))
 
-    half_same : {S : ℕ → Bool} {v w : World} → Coherent v → Agree S v w → S t ≡ true → (n : Named) → Setter v t p n → (b : Bool) → setting_where b w t f box n ≡ setting_where b v t f box n
+    half_same : {S : ℕ → Bool} {v w : World} → Coherent v → Agree S v w → S t ≡ true → (n : Named) → Owner t p v n → (b : Bool) → setting_where b w t f box n ≡ setting_where b v t f box n
     half_same c a ours n k true = refl
     half_same {S} {v} {w} c a ours n k false = answered_same _ _ _ _ (seat_same c a ours n k) (λ old is. of_box box old)
       where

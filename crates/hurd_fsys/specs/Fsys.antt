@@ -2,9 +2,8 @@
 use Rattle.std.specs.Prelude.{◌==◌, ◌||◌, ◌&&◌, not, ℕ, Bool, List, [], ◌∷◌, Result, Ok}
 use Rattle.hurd_creds.specs.declared.name.Name.{Name}
 use Rattle.hurd_creds.specs.declared.errno.Errno.{Errno}
-use Rattle.hurd_creds.specs.declared.errno.Errno.TheVariants.{EBUSY, ENXIO, EPERM}
+use Rattle.hurd_creds.specs.declared.errno.Errno.TheVariants.{EBUSY, ENXIO}
 use Rattle.hurd_creds.specs.declared.trans_flags.GoawayFlags.{GoawayFlags}
-use Rattle.hurd_creds.specs.Access.{owns}
 use Rattle.hurd_creds.specs.Names.{same_name}
 use Rattle.hurd_creds.specs.TransBits.{asks_goaway, FORCE}
 use Rattle.hurd_nodes.specs.Shown.{boot_name}
@@ -14,11 +13,11 @@ use Rattle.hurd_machine.specs.declared.call.Reply.TheVariants.{Done, Port}
 use Rattle.hurd_machine.specs.World.{World, active_at}
 use Rattle.hurd_machine.specs.Change.{Change, EditTask, DropServer, Settle}
 use Rattle.hurd_machine.specs.Plan.{Plan, on, given, first, answered}
-use Rattle.hurd_machine.specs.Handle.{port_asks}
-use Rattle.hurd_machine.specs.Sight.{Part, bare, users}
+use Rattle.hurd_machine.specs.Sight.{Part, users}
 use Rattle.hurd_machine.specs.Touched.{asked_parts, Nothing, Goes}
 use Rattle.hurd_core.specs.Core.{room_asks}
 use Rattle.hurd_fsys.specs.Controls.{control_asks}
+use Rattle.hurd_fsys.specs.Owned.{owned_asks}
 
 -- a server that may be sent away: not the boot server, and no users, or they are not asked for
 abbrev pub may_go : World → Name → Bool → Bool
@@ -43,9 +42,8 @@ touches_goaway w t c flags = asked_parts (goaway_asks w t c flags) (λ s. Goes w
 -- file_get_translator_cntl: the server that is active on a node that the port's ids own: EBADF, EDIED, EPERM, ENXIO
 abbrev pub seated_asks : World → ℕ → ℕ → Result Name Errno
 seated_asks w t p =
-    first (port_asks w t p) (λ n.
-    given EPERM (owns n.right.ids (bare n.header)) (
-    on ENXIO (active_at w n.right.node) (λ s. Ok s)))
+    first (owned_asks w t p) (λ n.
+    on ENXIO (active_at w n.right.node) (λ s. Ok s))
 
 -- a port to control it
 abbrev pub controlling : ℕ → Name → List Change

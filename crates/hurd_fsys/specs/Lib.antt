@@ -1,3 +1,4 @@
+pub mod Owned
 pub mod Controls
 pub mod Fsys
 pub mod Setting

@@ -6,8 +6,8 @@ use Rattle.hurd_creds.specs.declared.name.Name.{Name}
 use Rattle.hurd_creds.specs.declared.mode.Mode.{Mode}
 use Rattle.hurd_creds.specs.declared.attrs.Kind.{Kind}
 use Rattle.hurd_creds.specs.declared.errno.Errno.{Errno}
-use Rattle.hurd_creds.specs.declared.errno.Errno.TheVariants.{EBUSY, EINVAL, EOPNOTSUPP, EPERM}
-use Rattle.hurd_creds.specs.Access.{IdSets, owns}
+use Rattle.hurd_creds.specs.declared.errno.Errno.TheVariants.{EBUSY, EINVAL, EOPNOTSUPP}
+use Rattle.hurd_creds.specs.Access.{IdSets}
 use Rattle.hurd_creds.specs.TransBits.{asks_goaway, asks_trans, SET, EXCL, ORPHAN, FORCE}
 use Rattle.hurd_trans_iface.specs.Nodes.{is_dir}
 use Rattle.hurd_trans_iface.specs.Meaning.{Meaning, root_of}
@@ -16,12 +16,13 @@ use Rattle.hurd_machine.specs.declared.call.Reply.TheVariants.{Done}
 use Rattle.hurd_machine.specs.World.{World, active_at, info_at, is_server_root}
 use Rattle.hurd_machine.specs.Change.{Change, DropServer, Unseat, Settle}
 use Rattle.hurd_machine.specs.Plan.{Plan, given, first, answered}
-use Rattle.hurd_machine.specs.Handle.{Named, port_asks}
-use Rattle.hurd_machine.specs.Sight.{Part, AttrOf, bare, users}
+use Rattle.hurd_machine.specs.Handle.{Named}
+use Rattle.hurd_machine.specs.Sight.{Part, AttrOf, users}
 use Rattle.hurd_machine.specs.Touched.{asked_parts, Nothing, Goes}
 use Rattle.hurd_core.specs.declared.to_make.ServerToMake.{ServerToMake}
 use Rattle.hurd_machine.specs.declared.call.Setting.{Setting}
 use Rattle.hurd_core.specs.Core.{attaching, naming_asks}
+use Rattle.hurd_fsys.specs.Owned.{owned_asks}
 
 -- whether neither half is to be set
 abbrev pub sets_nothing : Setting → Bool
@@ -30,9 +31,8 @@ sets_nothing f = not (asks_trans f.passive SET) && not (asks_trans f.active SET)
 -- a port on a node that its ids own, and a box only where an active translator is to be set: EBADF, EDIED, EPERM, EINVAL
 abbrev pub setter_asks : World → ℕ → ℕ → Setting → Bool → Result Named Errno
 setter_asks w t p f brings =
-    first (port_asks w t p) (λ n.
-    given EPERM (owns n.right.ids (bare n.header)) (
-    given EINVAL (not brings || asks_trans f.active SET) (Ok n)))
+    first (owned_asks w t p) (λ n.
+    given EINVAL (not brings || asks_trans f.active SET) (Ok n))
 
 -- a node that a server may sit on: of a server that keeps a tree, and not its root
 abbrev pub may_seat : World → Name → Bool

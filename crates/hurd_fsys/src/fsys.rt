@@ -5,6 +5,7 @@ ghost use Rattle.hurd_machine.specs.declared.call.Reply.TheVariants.{Done, Port}
 ghost use Rattle.hurd_core.specs.Core.{world_of};
 ghost use Rattle.hurd_fsys.specs.Fsys.{goaway_asks, plan_cntl, plan_goaway, seated_asks};
 
+use crate::owned::owned;
 use hurd_core::Core;
 use hurd_creds::{Errno, GoawayFlags, ServerName, TaskId};
 use hurd_nodes::BOOT_NAME;
@@ -80,9 +81,6 @@ pub fn file_get_translator_cntl<S: Server>(
 fn seated<S: Server>(core: &Core<S>, task: TaskId, port: u64) -> Result<ServerName, Errno>
     ensures { result ≡ seated_asks (world_of S.meaning core.now) task.0 port }
 {
-    let found = core.port_node(task, port)?;
-    if !found.right.ids.owns(&found.attrs) {
-        return Err(Errno::EPERM);
-    }
+    let found = owned(core, task, port)?;
     core.active(found.right.node).ok_or(Errno::ENXIO)
 }

@@ -4,4 +4,5 @@
 #![tactic(auto)]
 
 pub mod fsys;
+mod owned;
 pub mod setting;

@@ -9,6 +9,7 @@ ghost use Rattle.hurd_core.specs.Core.{Does, attaching, naming_asks, without_box
 ghost use Rattle.hurd_core.specs.PortNode.{named};
 ghost use Rattle.hurd_fsys.specs.Setting.{emptying, leaver, may_replace, may_seat, plan_set_translator, root_mode, seat_asks, server_ids, sets_nothing, setter_asks, with_search};
 
+use crate::owned::owned;
 use bitflags::Flags;
 use hurd_core::{Core, PortNode, ServerToMake};
 use hurd_creds::{Errno, GoawayFlags, Ids, Kind, Mode, NodeName, ServerName, TaskId, TransFlags};
@@ -101,10 +102,7 @@ fn setter<S: Server>(
 ) -> Result<PortNode, Errno>
     ensures { named result ≡ setter_asks (world_of S.meaning core.now) task.0 port setting brings }
 {
-    let named = core.port_node(task, port)?;
-    if !named.right.ids.owns(&named.attrs) {
-        return Err(Errno::EPERM);
-    }
+    let named = owned(core, task, port)?;
     if brings && !setting.active.asks(TransFlags::SET) {
         return Err(Errno::EINVAL);
     }

@@ -1,5 +1,5 @@
 -- What one call is told by a core that may be refused memory.
-use Rattle.std.specs.Prelude.{◌≡◌, ◌⊎◌, ℕ, Bool, true, false}
+use Rattle.std.specs.Prelude.{◌≡◌, ◌⊎◌, ℕ, true, false}
 use Rattle.hurd_creds.specs.declared.errno.Errno.TheVariants.{ENOMEM}
 pub use Rattle.hurd_machine.specs.Calls.{lacks_memory}
 use Rattle.hurd_machine.specs.Calls.{Call, Reply, box_in, refusal}

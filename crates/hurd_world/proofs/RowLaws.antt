@@ -1,7 +1,7 @@
 -- What a row answers is what its call owes.
 use Rattle.std.specs.Prelude.{IfErr, IfSome, IsNone}
 use Rattle.std.specs.Option.{option_map}
-use Rattle.std.proofs.Common.{◌≡◌, inl, inr, ℕ, true, false, List, Result, Ok, Err, Option, Some, None, refl, ap, sym, ◌∙◌, subst}
+use Rattle.std.proofs.Common.{◌≡◌, inl, inr, ℕ, true, false, List, Result, Ok, Err, Option, Some, None, refl, ap, sym, ◌∙◌}
 use Rattle.hurd_creds.specs.declared.errno.Errno.{Errno}
 use Rattle.hurd_creds.specs.declared.errno.Errno.TheVariants.{ENOMEM}
 use Rattle.hurd_trans_iface.specs.Meaning.{Meaning, Begins}
@@ -12,7 +12,7 @@ use Rattle.hurd_machine.specs.declared.call.Reply.TheVariants.{Done, Found, Port
 use Rattle.hurd_machine.specs.declared.call.Setting.{Setting}
 use Rattle.hurd_machine.specs.Calls.{Call, Reply, box_in, call_by, refusal, reply_by}
 use Rattle.hurd_machine.specs.World.{World}
-use Rattle.hurd_machine.specs.Plan.{Plan, Follows, Planned, after_plan, handing_back, is_refused, refuse, returning, told}
+use Rattle.hurd_machine.specs.Plan.{Plan, Follows, Planned, after_plan, handing_back, is_refused, told}
 use Rattle.hurd_core.specs.Core.{without_box}
 use Rattle.hurd_fsys.specs.Setting.{plan_set_translator}
 use Rattle.hurd_laws.specs.Called.{Called}
