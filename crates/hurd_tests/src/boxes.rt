@@ -4,9 +4,7 @@ ghost use Rattle.hurd_trans_iface.specs.Meaning.{Begins};
 
 use crate::fixture::{Memory, Tries, booted, check};
 use bitflags::Flags;
-use hurd_creds::{
-    Attrs, Bytes, Errno, GoawayFlags, Mode, NodeName, OpenFlags, TaskId, TransFlags,
-};
+use hurd_creds::{Attrs, Bytes, Errno, GoawayFlags, Mode, NodeName, OpenFlags, TaskId, TransFlags};
 use hurd_machine::{Call, Lookup, Reply, Setting};
 use hurd_tmpfs::Tmpfs;
 use hurd_trans_iface::{Names, NewNode, Readable, Root, Server, Words};
@@ -91,7 +89,13 @@ impl Server for Counted {
         self.tree.names(alloc, dir)
     }
 
-    fn read(&mut self, alloc: Global, node: NodeName, at: u64, amount: u64) -> Result<Bytes, Errno> {
+    fn read(
+        &mut self,
+        alloc: Global,
+        node: NodeName,
+        at: u64,
+        amount: u64,
+    ) -> Result<Bytes, Errno> {
         self.tree.read(alloc, node, at, amount)
     }
 
@@ -107,7 +111,13 @@ impl Server for Counted {
         self.tree.readable(node, at)
     }
 
-    fn make(&mut self, alloc: Global, dir: NodeName, name: &[u8], new: NewNode) -> Result<(), Errno> {
+    fn make(
+        &mut self,
+        alloc: Global,
+        dir: NodeName,
+        name: &[u8],
+        new: NewNode,
+    ) -> Result<(), Errno> {
         self.tree.make(alloc, dir, name, new)
     }
 
@@ -115,7 +125,13 @@ impl Server for Counted {
         self.tree.make_nameless(new)
     }
 
-    fn link(&mut self, alloc: Global, dir: NodeName, name: &[u8], node: NodeName) -> Result<(), Errno> {
+    fn link(
+        &mut self,
+        alloc: Global,
+        dir: NodeName,
+        name: &[u8],
+        node: NodeName,
+    ) -> Result<(), Errno> {
         self.tree.link(alloc, dir, name, node)
     }
 
@@ -134,7 +150,13 @@ impl Server for Counted {
         self.tree.rename(alloc, dir, name, to, new)
     }
 
-    fn set_attrs(&mut self, node: NodeName, owner: u32, group: u32, mode: Mode) -> Result<(), Errno> {
+    fn set_attrs(
+        &mut self,
+        node: NodeName,
+        owner: u32,
+        group: u32,
+        mode: Mode,
+    ) -> Result<(), Errno> {
         self.tree.set_attrs(node, owner, group, mode)
     }
 
@@ -220,7 +242,14 @@ const LET_GO: &str = "0 port_deallocate 4
 
 /// Makes the calls of a transcript, with ample memory.
 fn calls(rt: &impl Abort, alloc: Global, world: &mut World, transcript: &str) -> Result<(), Errno> {
-    check(rt, alloc, world, transcript, Tries::Once, &mut Memory::ample())
+    check(
+        rt,
+        alloc,
+        world,
+        transcript,
+        Tries::Once,
+        &mut Memory::ample(),
+    )
 }
 
 /// A world with a directory under port 3, behind which there is a counted box.
@@ -333,7 +362,12 @@ fn a_chain_goes_in_one_call(rt: HostRuntime) -> Result<(), Fail> {
         port = deepen(alloc, &mut world, port, &counts)?;
     }
     world.call(alloc, ROOT, Call::PortDeallocate { port });
-    calls(&rt, alloc, &mut world, "0 file_set_translator 3 - SET,ORPHAN -\n  Done\n")?;
+    calls(
+        &rt,
+        alloc,
+        &mut world,
+        "0 file_set_translator 3 - SET,ORPHAN -\n  Done\n",
+    )?;
     assert!(rt; counts.are(0, 0));
     calls(&rt, alloc, &mut world, "0 port_deallocate 5\n  Done\n")?;
     assert!(rt; counts.are(0, 60));

@@ -178,9 +178,7 @@ impl<S: Server> World<S> {
                 control,
                 dir,
                 flags,
-            } => replies::found(getroot::fsys_getroot(
-                core, alloc, task, control, dir, flags,
-            )),
+            } => replies::found(getroot::fsys_getroot(core, alloc, task, control, dir, flags)),
             Call::FsysGoaway { control, flags } => replies::done(fsys::fsys_goaway(
                 core, task, control, flags,
             )),
