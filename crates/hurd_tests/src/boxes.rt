@@ -297,7 +297,7 @@ fn replaced_it_is_told_and_dropped(rt: HostRuntime) -> Result<(), Fail> {
 }
 
 #[test]
-fn refused_it_comes_back(rt: HostRuntime) -> Result<(), Fail> {
+fn a_refused_one_comes_back(rt: HostRuntime) -> Result<(), Fail> {
     let alloc = rt.alloc();
     let counts = Counts::new(alloc)?;
     let mut world = booted(alloc)?;
