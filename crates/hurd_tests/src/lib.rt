@@ -1,7 +1,7 @@
 //! Tests that cross crates: transcripts of calls on a world of boxed servers, boxes that count what becomes of them, and what
 //! alice is told of bob.
 //!
-//! Each is gone through twice: with ample memory, where no call may answer `ENOMEM`, and by a test whose name begins
+//! Each transcript is gone through twice: with ample memory, where no call may answer `ENOMEM`, and by a test whose name begins
 //! with `refused_`, which `tests/refuse-each` runs with each request for memory refused in turn: there one call may answer
 //! `ENOMEM`, is made again, and must then answer as its transcript says. Lookups that are refused and calls that take no
 //! memory must do so at the first try.
