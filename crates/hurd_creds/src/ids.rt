@@ -163,7 +163,7 @@ impl Ids {
     }
 
     /// Whether this uid is held.
-    fn holds_uid(&self, uid: u32) -> bool
+    pub fn holds_uid(&self, uid: u32) -> bool
         ensures { result ≡ holds_uid self.now uid }
     {
         self.uids.as_slice().contains(&uid)

@@ -1,18 +1,20 @@
--- Sending servers away, and getting control of them.
-use Rattle.std.specs.Prelude.{◌==◌, ◌||◌, ◌&&◌, not, ℕ, Bool, List, [], ◌∷◌, Result, Ok}
+-- Sending servers away, getting control of them, and asking how they were made.
+use Rattle.std.specs.Prelude.{◌==◌, ◌||◌, ◌&&◌, not, ℕ, Bool, false, List, [], ◌∷◌, Option, Some, None, Result, Ok}
 use Rattle.hurd_creds.specs.declared.name.Name.{Name}
 use Rattle.hurd_creds.specs.declared.errno.Errno.{Errno}
-use Rattle.hurd_creds.specs.declared.errno.Errno.TheVariants.{EBUSY, ENXIO}
+use Rattle.hurd_creds.specs.declared.errno.Errno.TheVariants.{EBUSY, EDIED, ENXIO, EPERM}
 use Rattle.hurd_creds.specs.declared.trans_flags.GoawayFlags.{GoawayFlags}
+use Rattle.hurd_creds.specs.Access.{IdSets, holds_uid, is_root, least_uid}
 use Rattle.hurd_creds.specs.Names.{same_name}
 use Rattle.hurd_creds.specs.TransBits.{asks_goaway, FORCE}
 use Rattle.hurd_nodes.specs.Shown.{boot_name}
 use Rattle.hurd_ports.specs.declared.table.Right.TheVariants.{Control}
 use Rattle.hurd_ports.specs.Steps.{with_port}
-use Rattle.hurd_machine.specs.declared.call.Reply.TheVariants.{Done, Port}
-use Rattle.hurd_machine.specs.World.{World, active_at}
+use Rattle.hurd_machine.specs.declared.call.Reply.TheVariants.{Done, Port, Words}
+use Rattle.hurd_machine.specs.World.{World, active_at, home_at, server_at}
 use Rattle.hurd_machine.specs.Change.{Change, EditTask, DropServer, Settle}
-use Rattle.hurd_machine.specs.Plan.{Plan, on, given, first, answered}
+use Rattle.hurd_machine.specs.Plan.{Plan, on, given, first, answered, looks}
+use Rattle.hurd_machine.specs.Handle.{port_asks}
 use Rattle.hurd_machine.specs.Sight.{Part, users}
 use Rattle.hurd_machine.specs.Touched.{asked_parts, Nothing, Goes}
 use Rattle.hurd_core.specs.Core.{room_asks}
@@ -49,8 +51,45 @@ seated_asks w t p =
 abbrev pub controlling : ℕ → Name → List Change
 controlling t s = EditTask t (with_port (Control s)) ∷ []
 
+-- such a port, of a server that was asked for
+abbrev pub plan_control : World → ℕ → Result Name Errno → Plan
+plan_control w t asks = answered asks (λ s. answered (room_asks w t 0) (λ x. record { reply = Port x.next; changes = controlling t s }))
+
 abbrev pub plan_cntl : World → ℕ → ℕ → Plan
-plan_cntl w t p = answered (seated_asks w t p) (λ s. answered (room_asks w t 0) (λ x. record { reply = Port x.next; changes = controlling t s }))
+plan_cntl w t p = plan_control w t (seated_asks w t p)
 
 abbrev pub touches_cntl : World → ℕ → ℕ → Part → Type 0
 touches_cntl w t p = Nothing
+
+-- whether ids may control a server of these ids: they hold its uid, or 0
+
+abbrev pub holds_any : IdSets → Option ℕ → Bool
+holds_any ids None = false
+holds_any ids (Some u) = holds_uid ids u
+
+abbrev pub may_control : IdSets → IdSets → Bool
+may_control ids served = is_root ids || holds_any ids (least_uid served)
+
+-- file_getcontrol: the server of a port's node, whose uid the port's ids hold, or 0: EBADF, EDIED, EPERM
+abbrev pub served_asks : World → ℕ → ℕ → Result Name Errno
+served_asks w t p =
+    first (port_asks w t p) (λ n.
+    on EDIED (home_at w n.right.node) (λ s.
+    on EDIED (server_at w s) (λ i.
+    given EPERM (may_control n.right.ids i.ids) (Ok s))))
+
+abbrev pub plan_getcontrol : World → ℕ → ℕ → Plan
+plan_getcontrol w t p = plan_control w t (served_asks w t p)
+
+abbrev pub touches_getcontrol : World → ℕ → ℕ → Part → Type 0
+touches_getcontrol w t p = Nothing
+
+-- fsys_get_options: the words of a server that a port controls: EBADF, EDIED
+abbrev pub options_asks : World → ℕ → ℕ → Result (List (List ℕ)) Errno
+options_asks w t c = first (control_asks w t c) (λ k. Ok (options_of k.info.kind k.info.text))
+
+abbrev pub plan_get_options : World → ℕ → ℕ → Plan
+plan_get_options w t c = looks (options_asks w t c) Words
+
+abbrev pub touches_get_options : World → ℕ → ℕ → Part → Type 0
+touches_get_options w t c = Nothing

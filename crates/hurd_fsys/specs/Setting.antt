@@ -1,5 +1,5 @@
 -- Setting a translator: who may, what goes for it, and what it is given.
-use Rattle.std.specs.Prelude.{◌≡◌, ◌⊎◌, ◌==◌, ◌||◌, ◌&&◌, not, is_some, ℕ, Bool, true, false, if◌then◌else◌, List, [], ◌∷◌, Option, Some, None, Result, Ok}
+use Rattle.std.specs.Prelude.{◌≡◌, ◌⊎◌, ◌==◌, ◌||◌, ◌&&◌, not, is_some, ℕ, Bool, true, false, if◌then◌else◌, List, [], ◌∷◌, ◌++◌, Option, Some, None, Result, Ok}
 use Rattle.std.specs.FinSet as set
 use Rattle.std.specs.Int.RustNames.{bit_and, bit_or}
 use Rattle.hurd_creds.specs.declared.name.Name.{Name}
@@ -8,15 +8,16 @@ use Rattle.hurd_creds.specs.declared.attrs.Kind.{Kind}
 use Rattle.hurd_creds.specs.declared.errno.Errno.{Errno}
 use Rattle.hurd_creds.specs.declared.errno.Errno.TheVariants.{EBUSY, EINVAL, EOPNOTSUPP}
 use Rattle.hurd_creds.specs.Access.{IdSets}
+use Rattle.hurd_creds.specs.declared.trans_flags.TransFlags.{TransFlags}
 use Rattle.hurd_creds.specs.TransBits.{asks_goaway, asks_trans, SET, EXCL, ORPHAN, FORCE}
-use Rattle.hurd_trans_iface.specs.Nodes.{is_dir}
+use Rattle.hurd_trans_iface.specs.Nodes.{Header, is_dir, has_words, some_words, with_passive}
 use Rattle.hurd_trans_iface.specs.Meaning.{Meaning, root_of}
 use Rattle.hurd_nodes.specs.Shown.{tree_by}
-use Rattle.hurd_machine.specs.declared.call.Reply.TheVariants.{Done}
+use Rattle.hurd_machine.specs.declared.call.Reply.TheVariants.{Done, Words}
 use Rattle.hurd_machine.specs.World.{World, active_at, info_at, is_server_root}
-use Rattle.hurd_machine.specs.Change.{Change, DropServer, Unseat, Settle}
-use Rattle.hurd_machine.specs.Plan.{Plan, given, first, answered}
-use Rattle.hurd_machine.specs.Handle.{Named}
+use Rattle.hurd_machine.specs.Change.{Change, EditHeader, DropServer, Unseat, Settle}
+use Rattle.hurd_machine.specs.Plan.{Plan, on, given, first, answered, looks}
+use Rattle.hurd_machine.specs.Handle.{Named, port_asks}
 use Rattle.hurd_machine.specs.Sight.{Part, AttrOf, users}
 use Rattle.hurd_machine.specs.Touched.{asked_parts, Nothing, Goes}
 use Rattle.hurd_core.specs.declared.to_make.ServerToMake.{ServerToMake}
@@ -38,25 +39,37 @@ setter_asks w t p f brings =
 abbrev pub may_seat : World → Name → Bool
 may_seat w n = tree_by (info_at w n) && not (is_server_root w n)
 
--- whether what is active on a node may be replaced: not where the half is to be a new one, nor while it has users, unless it becomes an orphan, or is forced
+-- whether a half that is there is to be a new one, whether or not it is to be set
+abbrev pub is_excluded : TransFlags → Bool → Bool
+is_excluded flags there = asks_trans flags EXCL && there
+
+-- whether what is active on a node may be replaced, where the active half is to be set: not while it has users, unless it becomes an orphan, or is forced
 abbrev pub may_replace : World → Setting → Option Name → Bool
 may_replace w f None = true
-may_replace w f (Some q) = not (asks_trans f.active EXCL) && (asks_trans f.active ORPHAN || (asks_goaway f.goaway FORCE || (users w q == 0)))
+may_replace w f (Some q) = not (asks_trans f.active SET) || (asks_trans f.active ORPHAN || (asks_goaway f.goaway FORCE || (users w q == 0)))
 
--- what is active on the node, and may be replaced: EOPNOTSUPP, EBUSY. (Words are stored by no server yet.)
-abbrev pub seat_asks : World → Setting → Name → Result (Option Name) Errno
+-- whether both halves may be set
+abbrev pub may_set : World → Setting → List (List ℕ) → Option Name → Bool
+may_set w f stored old = not (is_excluded f.passive (has_words stored)) && (not (is_excluded f.active (is_some old)) && may_replace w f old)
+
+-- what is active on the node, and may be replaced: EOPNOTSUPP, EBUSY
+abbrev pub seat_asks : World → Setting → Named → Result (Option Name) Errno
 seat_asks w f n =
-    given EOPNOTSUPP (may_seat w n && not (asks_trans f.passive SET)) (
-    given EBUSY (may_replace w f (active_at w n)) (Ok (active_at w n)))
+    given EOPNOTSUPP (may_seat w n.right.node) (
+    given EBUSY (may_set w f n.header.passive (active_at w n.right.node)) (Ok (active_at w n.right.node)))
 
--- the server that goes: the old one, unless it becomes an orphan
+-- the server that goes: the old one, where the active half is set, unless it becomes an orphan
 abbrev pub leaver : Setting → Option Name → Option Name
-leaver f old = if asks_trans f.active ORPHAN then None else old
+leaver f old = if not (asks_trans f.active SET) || asks_trans f.active ORPHAN then None else old
 
--- where no server comes, the old one goes, or loses its seat
+-- where the active half is set and no server comes, the old one goes, or loses its seat
 abbrev pub emptying : Setting → Name → Option Name → List Change
 emptying f n None = []
-emptying f n (Some q) = if asks_trans f.active ORPHAN then Unseat n ∷ Settle ∷ [] else DropServer q ∷ Settle ∷ []
+emptying f n (Some q) = if not (asks_trans f.active SET) then [] else if asks_trans f.active ORPHAN then Unseat n ∷ Settle ∷ [] else DropServer q ∷ Settle ∷ []
+
+-- where the passive half is set, its words are stored, in place of those that were there; with none there are none any more
+abbrev pub storing : Setting → Name → List (List ℕ) → List Change
+storing f n words = if asks_trans f.passive SET then EditHeader n (with_passive words) ∷ [] else []
 
 -- a server runs with the uid of the node's owner, and no gids
 abbrev pub server_ids : ℕ → IdSets
@@ -74,26 +87,28 @@ root_mode kind mode = if is_dir kind then record { 0 = with_search 256 64 (with_
 abbrev pub root_kind : Meaning → Kind
 root_kind m = (root_of m.kind m.text).kind
 
--- where a server comes: on the node, its root like that; for it another goes
-abbrev pub seat_for : Named → Meaning → Option Name → ServerToMake
-seat_for n m instead = record { seat = n.right.node; owner = n.header.owner; group = n.header.group; mode = root_mode (root_kind m) n.header.mode; instead = instead }
+-- where a server comes: on a node of this header, its root like that; for it another goes
+abbrev pub seat_on : Name → Header → Meaning → Option Name → ServerToMake
+seat_on n h m instead = record { seat = n; owner = h.owner; group = h.group; mode = root_mode (root_kind m) h.mode; instead = instead }
 
--- what is set where something is: with a box, which means this, or without one
-abbrev pub seating : World → ℕ → Named → Setting → Option Meaning → Option Name → Plan
-seating w t n f None old = record { reply = Done; changes = emptying f n.right.node old }
-seating w t n f (Some m) old = answered (naming_asks w t 2) (λ x. record { reply = Done; changes = attaching t (seat_for n m (leaver f old)) (server_ids n.header.owner) m x })
+-- what is set where something is: with a box, which means this, or without one; then the words
+abbrev pub seating : World → ℕ → Named → Setting → List (List ℕ) → Option Meaning → Option Name → Plan
+seating w t n f words None old = record { reply = Done; changes = emptying f n.right.node old ++ storing f n.right.node words }
+seating w t n f words (Some m) old =
+    answered (naming_asks w t 2) (λ x.
+    record { reply = Done; changes = attaching t (seat_on n.right.node n.header m (leaver f old)) (server_ids n.header.owner) m x ++ storing f n.right.node words })
 
 -- with neither half to be set, nothing is
-abbrev pub setting_where : Bool → World → ℕ → Setting → Option Meaning → Named → Plan
-setting_where true w t f box n = record { reply = Done; changes = [] }
-setting_where false w t f box n = answered (seat_asks w f n.right.node) (seating w t n f box)
+abbrev pub setting_where : Bool → World → ℕ → Setting → List (List ℕ) → Option Meaning → Named → Plan
+setting_where true w t f words box n = record { reply = Done; changes = [] }
+setting_where false w t f words box n = answered (seat_asks w f n) (seating w t n f words box)
 
-abbrev pub setting : World → ℕ → Setting → Option Meaning → Named → Plan
-setting w t f box n = setting_where (sets_nothing f) w t f box n
+abbrev pub setting : World → ℕ → Setting → List (List ℕ) → Option Meaning → Named → Plan
+setting w t f words box n = setting_where (sets_nothing f) w t f words box n
 
 -- file_set_translator
-abbrev pub plan_set_translator : World → ℕ → ℕ → Setting → Option Meaning → Plan
-plan_set_translator w t p f box = answered (setter_asks w t p f (is_some box)) (setting w t f box)
+abbrev pub plan_set_translator : World → ℕ → ℕ → Setting → List (List ℕ) → Option Meaning → Plan
+plan_set_translator w t p f words box = answered (setter_asks w t p f (is_some box)) (setting w t f words box)
 
 -- a server that goes, if one does
 abbrev pub GoesFor : World → Option Name → Part → Type 0
@@ -104,12 +119,24 @@ GoesFor w (Some q) p = Goes w q p
 abbrev pub seat_parts : World → Setting → Name → Option Name → Part → Type 0
 seat_parts w f n old p = (p ≡ AttrOf n) ⊎ GoesFor w (leaver f old) p
 
-abbrev pub parts_where : Bool → World → Setting → Name → Part → Type 0
+abbrev pub parts_where : Bool → World → Setting → Named → Part → Type 0
 parts_where true w f n = Nothing
-parts_where false w f n = asked_parts (seat_asks w f n) (seat_parts w f n)
+parts_where false w f n = asked_parts (seat_asks w f n) (seat_parts w f n.right.node)
 
 abbrev pub setting_parts : World → Setting → Named → Part → Type 0
-setting_parts w f n = parts_where (sets_nothing f) w f n.right.node
+setting_parts w f n = parts_where (sets_nothing f) w f n
 
 abbrev pub touches_set_translator : World → ℕ → ℕ → Setting → Bool → Part → Type 0
 touches_set_translator w t p f brings = asked_parts (setter_asks w t p f brings) (setting_parts w f)
+
+-- file_get_translator: the words that are stored with a port's node: EBADF, EDIED, EINVAL
+abbrev pub stored_asks : World → ℕ → ℕ → Result (List (List ℕ)) Errno
+stored_asks w t p =
+    first (port_asks w t p) (λ n.
+    on EINVAL (some_words n.header.passive) (λ words. Ok words))
+
+abbrev pub plan_get_translator : World → ℕ → ℕ → Plan
+plan_get_translator w t p = looks (stored_asks w t p) Words
+
+abbrev pub touches_get_translator : World → ℕ → ℕ → Part → Type 0
+touches_get_translator w t p = Nothing

@@ -1,16 +1,17 @@
-//! Sending servers away, and getting control of them (`fsys.defs`, `fs.defs`).
+//! Sending servers away, getting control of them, and asking how they were made (`fsys.defs`, `fs.defs`).
 ghost use Rattle.std.specs.Prelude.{◌≡◌};
 ghost use Rattle.hurd_machine.specs.Plan.{Follows, Planned, told};
-ghost use Rattle.hurd_machine.specs.declared.call.Reply.TheVariants.{Done, Port};
+ghost use Rattle.hurd_machine.specs.declared.call.Reply.TheVariants.{Done, Port, Words};
 ghost use Rattle.hurd_core.specs.Core.{world_of};
-ghost use Rattle.hurd_fsys.specs.Fsys.{goaway_asks, plan_cntl, plan_goaway, seated_asks};
+ghost use Rattle.hurd_fsys.specs.Fsys.{goaway_asks, may_control, options_asks, plan_cntl, plan_get_options, plan_getcontrol, plan_goaway, seated_asks, served_asks};
 
 use crate::owned::owned;
 use hurd_core::Core;
-use hurd_creds::{Errno, GoawayFlags, ServerName, TaskId};
+use hurd_creds::{Errno, GoawayFlags, Ids, ServerName, TaskId};
 use hurd_nodes::BOOT_NAME;
 use hurd_ports::Right;
-use hurd_trans_iface::Server;
+use hurd_trans_iface::{Server, Words};
+use std::alloc::Global;
 
 /// Sends the server away that a port controls, with its nodes. Takes no memory.
 ///
@@ -83,4 +84,68 @@ fn seated<S: Server>(core: &Core<S>, task: TaskId, port: u64) -> Result<ServerNa
 {
     let found = owned(core, task, port)?;
     core.active(found.right.node).ok_or(Errno::ENXIO)
+}
+
+/// A port that controls the server of a port's node, for who holds that server's uid, or 0.
+///
+/// Errors, in order: `ESRCH` no such task, `EBADF` no such port, or one that controls a server, `EDIED` no such node, `EPERM` the
+/// port's ids hold neither the server's uid nor 0, `EOVERFLOW`, `ENOMEM`.
+pub fn file_getcontrol<S: Server>(
+    core: &mut Core<S>,
+    task: TaskId,
+    port: u64,
+) -> Result<u64, Errno>
+    ensures { let w = world_of S.meaning core.old in
+        Planned w (plan_getcontrol w task.0 port) Port result (world_of S.meaning core.new) }
+{
+    let server = served(core, task, port)?;
+    core.share(task, Right::Control(server))
+}
+
+/// The server of a port's node, which the port's ids may control.
+///
+/// Errors, in order: those of `file_getcontrol` but the last two.
+#[tactic(auto, unfolding(hurd_machine::specs::Plan::on, hurd_machine::specs::Plan::given, hurd_machine::specs::Plan::first))]
+fn served<S: Server>(core: &Core<S>, task: TaskId, port: u64) -> Result<ServerName, Errno>
+    ensures { result ≡ served_asks (world_of S.meaning core.now) task.0 port }
+{
+    let found = core.port_node(task, port)?;
+    let Some(server) = core.home(found.right.node) else {
+        return Err(Errno::EDIED);
+    };
+    let Some(ids) = core.server_ids(server) else {
+        return Err(Errno::EDIED);
+    };
+    if !may_control(&found.right.ids, ids) {
+        return Err(Errno::EPERM);
+    }
+    Ok(server)
+}
+
+/// Whether ids may control a server of these ids: they hold its uid, or 0.
+fn may_control(ids: &Ids, served: &Ids) -> bool
+    ensures { result ≡ may_control ids.now served.now }
+{
+    ids.is_root()
+        || match served.least_uid() {
+            Some(uid) => ids.holds_uid(uid),
+            None => false,
+        }
+}
+
+/// The program and the words of the server that a port controls.
+///
+/// Errors, in order: `ESRCH` no such task, `EBADF` no such port, or one to use a node, `EDIED` the server is gone, `ENOMEM`.
+#[tactic(auto, unfolding(hurd_machine::specs::Plan::on, hurd_machine::specs::Plan::first, hurd_machine::specs::Plan::answered))]
+pub fn fsys_get_options<S: Server>(
+    core: &Core<S>,
+    alloc: Global,
+    task: TaskId,
+    control: u64,
+) -> Result<Words, Errno>
+    ensures { let w = world_of S.meaning core.now in
+        Planned w (plan_get_options w task.0 control) Words result w }
+{
+    let server = core.control(task, control)?;
+    core.options(alloc, server)
 }

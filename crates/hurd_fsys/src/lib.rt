@@ -1,4 +1,4 @@
-//! Calls on servers: sending one away, getting control of one, and setting one behind a node.
+//! Calls on servers: sending one away, getting control of one, setting one behind a node, and starting one that waits there.
 //!
 //! What each answers and changes is its plan in `specs`.
 #![tactic(auto)]
@@ -6,3 +6,4 @@
 pub mod fsys;
 mod owned;
 pub mod setting;
+pub mod starting;

@@ -5,9 +5,9 @@ use Rattle.hurd_creds.specs.declared.errno.Errno.{Errno}
 use Rattle.hurd_creds.specs.Memory.{is_no_memory}
 use Rattle.hurd_trans_iface.specs.Meaning.{Meaning, Begins}
 use Rattle.hurd_machine.specs.declared.call.Call as call
-use Rattle.hurd_machine.specs.declared.call.Call.TheVariants.{PortDeallocate, PortSend, PortReceive, AuthMakeauth, DirLookup, IoRead, IoWrite, IoSeek, IoStat, IoReadable, IoGetOpenmodes, IoSetAllOpenmodes, IoDuplicate, IoReauthenticate, IoRestrictAuth, IoIdentity, FileSetSize, FileChmod, FileChown, FileCheckAccess, FileSetTranslator, FileGetTranslatorCntl, FsysGetroot, FsysGoaway, DirReaddir, DirMkdir, DirMkfile, DirRmdir, DirUnlink, DirLink, DirRename}
+use Rattle.hurd_machine.specs.declared.call.Call.TheVariants.{PortDeallocate, PortSend, PortReceive, AuthMakeauth, DirLookup, IoRead, IoWrite, IoSeek, IoStat, IoReadable, IoGetOpenmodes, IoSetAllOpenmodes, IoDuplicate, IoReauthenticate, IoRestrictAuth, IoIdentity, FileSetSize, FileChmod, FileChown, FileCheckAccess, FileSetTranslator, FileGetTranslator, FileGetTranslatorCntl, FileGetcontrol, FsysStartup, StartFailed, FsysGetroot, FsysGoaway, FsysGetOptions, DirReaddir, DirMkdir, DirMkfile, DirRmdir, DirUnlink, DirLink, DirRename}
 use Rattle.hurd_machine.specs.declared.call.Reply as reply
-use Rattle.hurd_machine.specs.declared.call.Reply.TheVariants.{Done, Found, Port, Data, Count, Names, Stat, Modes, Same, Refused, Back}
+use Rattle.hurd_machine.specs.declared.call.Reply.TheVariants.{Done, Found, Port, Data, Count, Names, Words, Stat, Modes, Same, Refused, Back}
 
 abbrev pub Call : Type 0
 Call = call.Call Meaning
@@ -38,9 +38,14 @@ call_by f (FileChmod p mode) = FileChmod p mode
 call_by f (FileChown p owner group) = FileChown p owner group
 call_by f (FileCheckAccess p) = FileCheckAccess p
 call_by f (FileSetTranslator p setting words server) = FileSetTranslator p setting words (option_map f server)
+call_by f (FileGetTranslator p) = FileGetTranslator p
 call_by f (FileGetTranslatorCntl p) = FileGetTranslatorCntl p
+call_by f (FileGetcontrol p) = FileGetcontrol p
+call_by f (FsysStartup server) = FsysStartup (f server)
+call_by f StartFailed = StartFailed
 call_by f (FsysGetroot c dir flags) = FsysGetroot c dir flags
 call_by f (FsysGoaway c flags) = FsysGoaway c flags
+call_by f (FsysGetOptions c) = FsysGetOptions c
 call_by f (DirReaddir p) = DirReaddir p
 call_by f (DirMkdir p name mode) = DirMkdir p name mode
 call_by f (DirMkfile p flags mode) = DirMkfile p flags mode
@@ -57,6 +62,7 @@ reply_by f (Port p) = Port p
 reply_by f (Data bytes) = Data bytes
 reply_by f (Count count) = Count count
 reply_by f (Names names) = Names names
+reply_by f (Words words) = Words words
 reply_by f (Stat stat) = Stat stat
 reply_by f (Modes flags) = Modes flags
 reply_by f (Same same) = Same same
@@ -66,6 +72,7 @@ reply_by f (Back e s) = Back e (f s)
 -- the box that a call brings
 abbrev pub box_in : {S : Type 0} → call.Call S → Option S
 box_in (FileSetTranslator p setting words server) = server
+box_in (FsysStartup server) = Some server
 box_in _ = None
 
 -- a refusal, with the box that was brought

@@ -127,10 +127,24 @@ pub enum Call<S = Box<dyn Server>> {
         words: Words,
         server: Option<S>,
     },
+    /// Tells the words of the passive translator of the port's node.
+    FileGetTranslator {
+        port: u64,
+    },
     /// Makes a port that controls the server which is active on the port's node.
     FileGetTranslatorCntl {
         port: u64,
     },
+    /// Makes a port that controls the server of the port's node.
+    FileGetcontrol {
+        port: u64,
+    },
+    /// Starts the translator that the task is to start, with this server.
+    FsysStartup {
+        server: S,
+    },
+    /// Starts nothing: the task gives up what it was to start.
+    StartFailed,
     /// Opens the root of the server that a port controls.
     FsysGetroot {
         control: u64,
@@ -141,6 +155,10 @@ pub enum Call<S = Box<dyn Server>> {
     FsysGoaway {
         control: u64,
         flags: GoawayFlags,
+    },
+    /// Tells the program and the words of the server that a port controls.
+    FsysGetOptions {
+        control: u64,
     },
     /// Tells the names in a directory.
     DirReaddir {
@@ -206,6 +224,9 @@ pub enum Lookup {
         name: Bytes,
         port: Option<u64>,
     },
+    /// A translator that is to be started first, by these words: from now on that is what the task is to start. (In the Hurd the
+    /// server that has the node starts it.)
+    Start { words: Words },
 }
 
 /// What a call is told.
@@ -217,6 +238,7 @@ pub enum Reply<S = Box<dyn Server>> {
     Data(Bytes),
     Count(u64),
     Names(Names),
+    Words(Words),
     Stat(Stat),
     Modes(OpenFlags),
     Same(bool),

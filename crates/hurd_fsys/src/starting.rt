@@ -1,0 +1,49 @@
+//! Starting the translator that a lookup came to, or giving that up (`fsys.defs`).
+//!
+//! In the Hurd the server that has a node starts its passive translator, and that one calls `fsys_startup`. Here both are done by the
+//! task whose lookup came there.
+ghost use Rattle.std.specs.Prelude.{◌≡◌, ◌⊎◌, IfErr, Err};
+ghost use Rattle.hurd_trans_iface.specs.Meaning.{Begins};
+ghost use Rattle.hurd_machine.specs.Plan.{Follows, told};
+ghost use Rattle.hurd_machine.specs.declared.call.Reply.TheVariants.{Done};
+ghost use Rattle.hurd_core.specs.Core.{without_box, world_of};
+ghost use Rattle.hurd_fsys.specs.Starting.{Started, plan_start_failed, plan_startup, same_words};
+
+use crate::setting::root_mode;
+use hurd_core::{Core, ServerToMake};
+use hurd_creds::{Errno, Ids, TaskId};
+use hurd_trans_iface::{Server, Words};
+use std::alloc::Global;
+
+/// The task gives up what it was to start. Takes no memory.
+///
+/// Errors: `ESRCH` no such task, or it is to start nothing.
+pub fn start_failed<S: Server>(core: &mut Core<S>, task: TaskId) -> Result<(), Errno>
+    ensures { let w = world_of S.meaning core.old in
+        Follows w (plan_start_failed w task.0) (told (λ u. Done) result) (world_of S.meaning core.new) }
+{
+    if core.pending(task).is_none() {
+        return Err(Errno::ESRCH);
+    }
+    core.unpend(task)
+}
+
+/// Starts the translator that the task is to start, with this server, which becomes active on the node. It runs with the uid of
+/// the node's owner; its root is like the node. The task is then to start nothing any more; nor is it where this is refused, but for
+/// want of memory.
+///
+/// Errors, in order, with the box back: `ESRCH` no such task, or it is to start nothing, `EDIED` the node is gone, `EBUSY` a server is
+/// active on it, or its words are others than those that the lookup found, `EOVERFLOW`, `ENOMEM`.
+pub fn fsys_startup<S: Server>(
+    core: &mut Core<S>,
+    alloc: Global,
+    task: TaskId,
+    server: S,
+) -> Result<(), (Errno, S)>
+    requires { Begins (S.meaning server) }
+    ensures started { let w = world_of S.meaning core.old in
+        Started w (plan_startup w task.0 (S.meaning server)) (without_box result) (world_of S.meaning core.new) }
+    ensures back { IfErr result (λ e. e.1 ≡ server) }
+{
+    todo
+}
