@@ -12,7 +12,7 @@ use Rattle.hurd_nodes.specs.Shown.{ServerInfo}
 use Rattle.hurd_ports.specs.declared.table.Opened.{Opened}
 use Rattle.hurd_ports.specs.declared.table.IoRight.{IoRight}
 use Rattle.hurd_ports.specs.declared.table.Right.{Right}
-use Rattle.hurd_ports.specs.declared.table.Right.TheVariants.{Io, Control}
+use Rattle.hurd_ports.specs.declared.table.Right.TheVariants.{Io, Control, Start}
 use Rattle.hurd_ports.specs.Tables.{Task, rights_of}
 use Rattle.hurd_ports.specs.Steps.{named, with_sent, edit_task}
 use Rattle.hurd_machine.specs.World.{World, IsAmong, task_at, open_at, header_at, body_at, home_at, active_at, server_at}
@@ -33,19 +33,22 @@ pub record IoMay (S : ℕ → Bool) (v x : World) (r : IoRight) : Type 0 where
   pub inside : IoInside S v r
   pub reads : (o : Opened) → open_at x r.open_name ≡ Some o → asks o.modes READ ≡ true → (h : Header) → header_at v r.node ≡ Some h → SeesBody S v r.node h
 
--- of either kind
+-- of each kind
 abbrev pub RightMay : (ℕ → Bool) → World → World → Right → Type 0
 RightMay S v x (Io r) = IoMay S v x r
 RightMay S v x (Control s) = Commands S v s
+RightMay S v x (Start n) = SeenOrNew S v n
 
 pub may_inside : (S : ℕ → Bool) (v x : World) (r : Right) → RightMay S v x r → RightInside S v r
 may_inside S v x (Io r) m = m.inside
 may_inside S v x (Control s) m = inl m
+may_inside S v x (Start n) m = m
 
 -- the ids of a right that S may get
 abbrev pub IdsMay : (ℕ → Bool) → World → Right → Type 0
 IdsMay S v (Io r) = Taken S v r.ids
 IdsMay S v (Control s) = Unit {0}
+IdsMay S v (Start n) = Unit {0}
 
 -- the rights of a task z of S in place of a
 abbrev pub OwnMay : (ℕ → Bool) → World → World → Task → Task → Type 0

@@ -17,7 +17,7 @@ use Rattle.hurd_trans_iface.specs.Good.{IsBlind, IsPlain as IsPlainAnswer}
 use Rattle.hurd_nodes.specs.Shown.{ServerInfo, info_in, asked_of, readable_by, is_root_at, is_root_of, made_by, are_kin, link_by, set_attrs_by}
 use Rattle.hurd_ports.specs.declared.table.IoRight.{IoRight}
 use Rattle.hurd_ports.specs.declared.table.Right.{Right}
-use Rattle.hurd_ports.specs.declared.table.Right.TheVariants.{Io, Control}
+use Rattle.hurd_ports.specs.declared.table.Right.TheVariants.{Io, Control, Start}
 use Rattle.hurd_ports.specs.Tables.{Task, rights_of, or_refuse, task_of, right_in, right_at, right_of, io_of, io_right_in, io_right_of}
 use Rattle.hurd_machine.specs.Calls.{Reply, lacks_memory}
 use Rattle.hurd_machine.specs.declared.call.Reply.TheVariants.{Refused, Back}
@@ -175,6 +175,7 @@ io_right_is w t q r h = go (right_of (ports_of w) t q) h
     go : (o : Result Right Errno) → io_right_in o ≡ Ok r → o ≡ Ok (Io r)
     go (Err e) k = absurd (cc)
     go (Ok (Control s)) k = absurd (cc)
+    go (Ok (Start n)) k = absurd (cc)
     go (Ok (Io p)) k = let same : p ≡ r = cc in rw same refl
 
 pub holds_io : {S : ℕ → Bool} {v : World} (t : ℕ) → S t ≡ true → (q : ℕ) (r : IoRight) → io_right_of (ports_of v) t q ≡ Ok r → Holds S v (Io r)
@@ -198,6 +199,7 @@ io_right_plain w t q = go (right_of (ports_of w) t q) (right_plain w t q)
     go (Err e) out = err_plain e (out e refl)
     go (Ok (Io r)) out = ok_plain r
     go (Ok (Control s)) out = err_plain EBADF refl
+    go (Ok (Start n)) out = err_plain EBADF refl
 
 -- a port on a node that is there
 

@@ -18,7 +18,7 @@ use Rattle.hurd_nodes.specs.Settle.{is_entered, is_entered_at}
 use Rattle.hurd_ports.specs.declared.table.Opened.{Opened}
 use Rattle.hurd_ports.specs.declared.table.IoRight.{IoRight}
 use Rattle.hurd_ports.specs.declared.table.Right.{Right}
-use Rattle.hurd_ports.specs.declared.table.Right.TheVariants.{Io, Control}
+use Rattle.hurd_ports.specs.declared.table.Right.TheVariants.{Io, Control, Start}
 use Rattle.hurd_ports.specs.declared.table.Port.{Port}
 use Rattle.hurd_ports.specs.Tables.{Task, OpenMap, rights_of, nodes_of as nodes_named}
 use Rattle.hurd_ports.specs.Steps.{named, with_sent, edit_task}
@@ -80,20 +80,23 @@ pub record FineIo (w : World) (r : IoRight) : Type 0 where
   pub shared : (t : ℕ) (x : Task) (p : IoRight) → task_at w t ≡ Some x → IsAmong (Io p) (rights_of x) → p.open_name ≡ r.open_name → p.node ≡ r.node
   pub written : (o : Opened) (h : Header) → open_at w r.open_name ≡ Some o → asks o.modes WRITE ≡ true → header_at w r.node ≡ Some h → is_dir h.kind ≡ false
 
--- of either kind
+-- of each kind
 abbrev pub FineRight : World → Right → Type 0
 FineRight w (Io r) = FineIo w r
 FineRight w (Control s) = Below w s
+FineRight w (Start n) = Below w n
 
 -- what it names was given
 pub fine_given : (w : World) (r : Right) → FineRight w r → IsGivenRight w r
 fine_given w (Io r) f = (f.nodes, f.open_name)
 fine_given w (Control s) f = f
+fine_given w (Start n) f = f
 
 -- and is wherever the names of this world are
 pub given_raised : (w y : World) → ((n : Name) → Below w n → Below y n) → (r : Right) → IsGivenRight w r → IsGivenRight y r
 given_raised w y up (Io r) g = (λ n i. up n (g.0 n i), up r.open_name g.1)
 given_raised w y up (Control s) g = up s g
+given_raised w y up (Start n) g = up n g
 
 abbrev pub IsNew : Option Right → Right → Type 0
 IsNew None r = ⊥

@@ -12,11 +12,11 @@ use Rattle.hurd_nodes.specs.Shown.{ServerInfo}
 use Rattle.hurd_ports.specs.declared.table.Opened.{Opened}
 use Rattle.hurd_ports.specs.declared.table.IoRight.{IoRight}
 use Rattle.hurd_ports.specs.declared.table.Right.{Right}
-use Rattle.hurd_ports.specs.declared.table.Right.TheVariants.{Io, Control}
+use Rattle.hurd_ports.specs.declared.table.Right.TheVariants.{Io, Control, Start}
 use Rattle.hurd_ports.specs.Tables.{Task, nodes_of as nodes_named}
 use Rattle.hurd_machine.specs.World.{World, IsAmong, boot_root, task_at, open_at, header_at, body_at, home_at, active_at, server_at}
 use Rattle.hurd_machine.specs.Sight.{Holds, HasUid, UidOfTask, UidOfRight, HasGid, GidOfTask, GidOfRight, Taken, Could, Owns, OwnsIt, Allowed, CouldServe}
-use Rattle.hurd_machine.specs.Sight.{Seen, Root, Held, Way, Controlled, Child, Parent, Active, ServerRoot, Sends, ByControl, ByNode, BySeat, Knows, OfNode, OfSeat, OfControl, SeesBody, ToRead, ToSearch, IsOpen, SeesEmpty, ByBody, ByParent}
+use Rattle.hurd_machine.specs.Sight.{Seen, Root, Held, Way, Controlled, Pending, Child, Parent, Active, ServerRoot, Sends, ByControl, ByNode, BySeat, Knows, OfNode, OfSeat, OfControl, SeesBody, ToRead, ToSearch, IsOpen, SeesEmpty, ByBody, ByParent}
 use Rattle.hurd_machine.specs.Sight.{Part, AttrOf, EmptyOf, BodyOf, OpenOf, OptionsOf, UsersOf, TaskOf, Sees, MaySend}
 use Rattle.hurd_machine.specs.Sound.{Below, Coherent}
 use Rattle.hurd_machine.proofs.Coherence.{header_old, entry_old, home_old, right_old, entry_lists}
@@ -31,6 +31,7 @@ seen_old {S} {w} c n (Way r p h i e) =
     let given = (c.given.rights h.task h.seat (Io r) h.is_task h.here).0 in
     elim e [ inl at ↦ subst (Below w) (sym at) (given p.at (inr (way_at p r.parents i))) | inr up ↦ subst (Below w) (sym up) (given p.parent (inr (way_parent p r.parents i))) ]
 seen_old {S} {w} c n (Controlled s i h es e) = subst (Below w) (sym e) (home_old c i.root s (c.housing.roots s i es))
+seen_old {S} {w} c n (Pending h) = c.given.rights h.task h.seat (Start n) h.is_task h.here
 seen_old {S} {w} c n (Child d h name s eh k could en) = c.given.entries d n (entry_lists name (body_at w d) n en)
 seen_old c n (Parent d h s eh ep) = c.given.parents d n h eh ep
 seen_old {S} {w} c n (Active m s i sm em es e) = subst (Below w) (sym e) (home_old c i.root s (c.housing.roots s i es))
@@ -91,6 +92,7 @@ Commands S v s = Holds S v (Control s) ⊎ ((i : ServerInfo) × (server_at v s �
 abbrev pub RightInside : (ℕ → Bool) → World → Right → Type 0
 RightInside S v (Io r) = IoInside S v r
 RightInside S v (Control s) = Commands S v s ⊎ NewTo S v s
+RightInside S v (Start n) = SeenOrNew S v n
 
 -- the nodes that a right of S names are seen
 pub named_seen : (S : ℕ → Bool) (v : World) (r : IoRight) → Holds S v (Io r) → (n : Name) → IsAmong n (nodes_named (Io r)) → Seen S v n
@@ -137,6 +139,7 @@ pub record Inside (S : ℕ → Bool) (v x : World) : Type 0 where
 held_inside : (S : ℕ → Bool) (v : World) (r : Right) → Holds S v r → RightInside S v r
 held_inside S v (Io r) h = record { nodes = λ n i. inl (named_seen S v r h n i); opened = inl (r, h, refl) }
 held_inside S v (Control s) h = inl (inl h)
+held_inside S v (Start n) h = inl (Pending h)
 
 pub Inside-refl : (S : ℕ → Bool) (v : World) → Inside S v v
 Inside-refl S v = record {
@@ -237,6 +240,7 @@ module _ {S : ℕ → Bool} {v x : World} (coherent : Coherent v) (i : Inside S 
   seen_inside n (Controlled s info h es e) =
       by_server s info (Commands S v s) (SeenOrNew S v n) (i.held (Control s) h) (i.servers s info es)
       (λ k is. is_root info n e (inl (sends_root S v s info is (commands_send S v s info is k)))) (λ new root. is_root info n e (inr root))
+  seen_inside n (Pending h) = i.held (Start n) h
   seen_inside n (Child d h name s eh k c en) = child_inside d n h name eh k c (seen_inside d s) (i.entries d n name en)
   seen_inside n (Parent d h s eh ep) = parent_inside d n h eh ep (seen_inside d s) (i.headers d h eh)
   seen_inside n (Active m s info sm em es e) =

@@ -7,7 +7,7 @@ use Rattle.hurd_creds.proofs.NameLaws.{same_name-apart, get_apart, edit_apart as
 use Rattle.hurd_trans_iface.specs.Nodes.{with_header, with_body, is_empty_dir}
 use Rattle.hurd_ports.specs.declared.table.IoRight.{IoRight}
 use Rattle.hurd_ports.specs.declared.table.Right.{Right}
-use Rattle.hurd_ports.specs.declared.table.Right.TheVariants.{Io, Control}
+use Rattle.hurd_ports.specs.declared.table.Right.TheVariants.{Io, Control, Start}
 use Rattle.hurd_ports.specs.Tables.{Task, rights_of, names_open}
 use Rattle.hurd_ports.specs.Steps.{named, with_sent, edit_task}
 use Rattle.hurd_ports.proofs.TaskLaws.{edit-apart, edit-length}
@@ -36,6 +36,7 @@ pub record Moved (T : Part → Type 0) (w : World) (x z : Task) : Type 0 where
 abbrev pub Covers : (Part → Type 0) → World → Right → Type 0
 Covers T w (Io r) = T (OpenOf r.open_name) × ((s : Name) → home_at w r.node ≡ Some s → T (UsersOf s))
 Covers T w (Control s) = Unit {0}
+Covers T w (Start n) = Unit {0}
 
 -- a change that writes the parts T alone
 abbrev pub Within : (Part → Type 0) → World → Change → Type 0
@@ -89,10 +90,12 @@ IsPlain c = Unit {0}
 pub not_on : (w : World) (s : Name) (r : Right) (T : Part → Type 0) → Covers T w r → (T (UsersOf s) → ⊥) → is_on w s r ≡ false
 not_on w s (Io r) T i h = not_home s (home_at w r.node) (λ e. h (i.1 s e))
 not_on w s (Control q) T i h = refl
+not_on w s (Start n) T i h = refl
 
 pub not_named : (w : World) (o : Name) (r : Right) (T : Part → Type 0) → Covers T w r → (T (OpenOf o) → ⊥) → names_open o r ≡ false
 not_named w o (Io r) T i h = same_name-apart r.open_name o (λ e. h (subst (λ z. T (OpenOf z)) e i.0))
 not_named w o (Control q) T i h = refl
+not_named w o (Start n) T i h = refl
 
 module _ (w : World) (coherent : Coherent w) (T : Part → Type 0) where
   avoids : (p q : Part) → T q → (T p → ⊥) → p ≢ q

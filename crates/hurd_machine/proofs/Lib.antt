@@ -43,3 +43,4 @@ pub mod Removals
 pub mod Renames
 pub mod Servers
 pub mod Going
+pub mod Pending

@@ -7,7 +7,7 @@ use Rattle.hurd_creds.proofs.NameLaws.{same_or_apart, edit_apart}
 use Rattle.hurd_trans_iface.specs.Nodes.{with_header, with_body, is_empty_dir}
 use Rattle.hurd_ports.specs.declared.table.IoRight.{IoRight}
 use Rattle.hurd_ports.specs.declared.table.Right.{Right}
-use Rattle.hurd_ports.specs.declared.table.Right.TheVariants.{Io, Control}
+use Rattle.hurd_ports.specs.declared.table.Right.TheVariants.{Io, Control, Start}
 use Rattle.hurd_ports.specs.Tables.{Task, rights_of, names_open}
 use Rattle.hurd_ports.specs.Steps.{named, with_sent, edit_task}
 use Rattle.hurd_machine.specs.World.{World, IsAmong, task_at, open_at, header_at, body_at, home_at, active_at, server_at}
@@ -124,6 +124,7 @@ module _ (S : ℕ → Bool) (v x y : World) (before : Inside S v x) (cx : Cohere
   same_side : (s : Name) (r : Right) → RightInside S v r → is_on y s r ≡ is_on x s r
   same_side s (Io r) i = ap (is_home s) (home_same r.node (i.nodes r.node (inl refl)))
   same_side s (Control q) i = refl
+  same_side s (Start n) i = refl
 
   -- counts of the rights of a task that S has, in both
   counts_own : (q : ℕ) (f : Task → Task) (T U : Right → Bool) (a b : Task) → S q ≡ true → task_at x q ≡ Some a → task_at y q ≡ Some b

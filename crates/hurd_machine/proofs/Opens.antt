@@ -12,7 +12,7 @@ use Rattle.hurd_ports.specs.declared.table.Opened.{Opened}
 use Rattle.hurd_ports.specs.declared.parents.Parent.{Parent as Pair}
 use Rattle.hurd_ports.specs.declared.table.IoRight.{IoRight}
 use Rattle.hurd_ports.specs.declared.table.Right.{Right}
-use Rattle.hurd_ports.specs.declared.table.Right.TheVariants.{Io, Control}
+use Rattle.hurd_ports.specs.declared.table.Right.TheVariants.{Io, Control, Start}
 use Rattle.hurd_ports.specs.Tables.{Task, names_open, right_in, fresh, ways_of}
 use Rattle.hurd_ports.specs.Steps.{named, without_port, new_open, new_right, at_cursor, appending}
 use Rattle.hurd_machine.specs.World.{World, IsAmong, nodes_of, task_at, header_at}
@@ -52,6 +52,7 @@ fresh_next w t x is = record { seat = x; is_task = is; next = refl }
 pub covers : (T : Part → Type 0) (w : World) (r : Right) → ((p : Part) → OnRight w r p → T p) → Covers T w r
 covers T w (Io r) f = (f (OpenOf r.open_name) (inl refl), λ s e. f (UsersOf s) (inr (s, e, refl)))
 covers T w (Control s) f = tt
+covers T w (Start n) f = tt
 
 -- a port with a new open
 

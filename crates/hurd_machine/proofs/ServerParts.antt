@@ -11,7 +11,7 @@ use Rattle.hurd_nodes.specs.Weights.{count_list}
 use Rattle.hurd_nodes.specs.Shown.{ServerInfo, is_other, is_other_seat}
 use Rattle.hurd_ports.specs.declared.table.IoRight.{IoRight}
 use Rattle.hurd_ports.specs.declared.table.Right.{Right}
-use Rattle.hurd_ports.specs.declared.table.Right.TheVariants.{Io, Control}
+use Rattle.hurd_ports.specs.declared.table.Right.TheVariants.{Io, Control, Start}
 use Rattle.hurd_ports.specs.Tables.{Task, rights_of, names_open}
 use Rattle.hurd_ports.specs.Steps.{named, edit_task}
 use Rattle.hurd_ports.proofs.TaskLaws.{edit-apart}
@@ -40,6 +40,7 @@ users_named w y c n next k m s new homes tasks q =
     same : (t : ℕ) (x : Task) (r : Right) → slice_get (edit_task n.task.0 (named k) w.tasks) t ≡ Some x → IsAmong r (rights_of x) → is_on y q r ≡ is_on w q r
     same t x (Io r) at i = ap (is_home q) (ap (λ h. get h r.node) homes ∙ get_apart w.homes m s r.node (unnoded w c n next k m new t x r at i))
     same t x (Control p) at i = refl
+    same t x (Start m) at i = refl
 
 -- nothing is counted that passes no test
 pub none_counted : (ts : List Task) → count_rights (λ r. false) ts ≡ 0
@@ -128,6 +129,7 @@ module _ (w : World) (s : Name) where
       on : (r : Right) → is_on dropped q r ≡ is_on w q r
       on (Io r) = ap (is_home q) (home_after r.node) ∙ same_home q apart (home_at w r.node)
       on (Control z) = refl
+      on (Start m) = refl
 
   -- what doesn't go is as it was
   pub drop_parts : (k : Part) → (Goes w s k → ⊥) → part dropped k ≡ part w k
@@ -158,6 +160,7 @@ module _ (w : World) (s : Name) where
       on : (r : Right) → is_on dropped s r ≡ false
       on (Io r) = ap (is_home s) (home_after r.node) ∙ gone_home (home_at w r.node)
       on (Control z) = refl
+      on (Start m) = refl
 
 -- and what is alike before it went is so after, where its node is
 module _ (x y : World) (s : Name) where

@@ -15,12 +15,12 @@ use Rattle.hurd_nodes.specs.Settle.{is_entered, is_entered_at}
 use Rattle.hurd_ports.specs.declared.table.Opened.{Opened}
 use Rattle.hurd_ports.specs.declared.table.IoRight.{IoRight}
 use Rattle.hurd_ports.specs.declared.table.Right.{Right}
-use Rattle.hurd_ports.specs.declared.table.Right.TheVariants.{Io, Control}
+use Rattle.hurd_ports.specs.declared.table.Right.TheVariants.{Io, Control, Start}
 use Rattle.hurd_ports.specs.declared.parents.Parent.{Parent as Pair}
 use Rattle.hurd_ports.specs.Tables.{Task, rights_of, nodes_of as nodes_named, ways_of, is_held, is_named, is_controlled, IsSettled, fresh}
 use Rattle.hurd_ports.specs.Steps.{named, with_port, with_sent, new_open, new_right, edit_task}
 use Rattle.hurd_machine.specs.World.{World, IsAmong, world_from, nodes_of, ports_of, task_at, open_at, header_at, body_at, home_at, active_at, server_at}
-use Rattle.hurd_machine.specs.Sight.{Holds, Seen, Root, Held, Way, Controlled, Child, Parent, Active, ServerRoot, Knows, OfNode, OfSeat, OfControl}
+use Rattle.hurd_machine.specs.Sight.{Holds, Seen, Root, Held, Way, Controlled, Pending, Child, Parent, Active, ServerRoot, Knows, OfNode, OfSeat, OfControl}
 use Rattle.hurd_nodes.specs.Held.{is_home}
 use Rattle.hurd_machine.specs.Sight.{Part, AttrOf, EmptyOf, BodyOf, OpenOf, OptionsOf, UsersOf, TaskOf, Sees, part, IsGone, is_on, holders, users, AnEmpty, ABody, AnOpen, AnOptions, AUsers}
 use Rattle.hurd_machine.specs.Change.{Change, EditHeader, EditBody, MakeNode, EditOpen, MakeOpen, EditTask, Send, Attach, DropServer, Unseat, Settle, outside, stays, server_stays, settle, apply, apply_all, opening}
@@ -73,6 +73,7 @@ users_still w c s = count_alike (is_on (sweep w) s) (is_on w s) w.tasks on
     on : (t : ℕ) (x : Task) (r : Right) → task_at w t ≡ Some x → IsAmong r (rights_of x) → is_on (sweep w) s r ≡ is_on w s r
     on t x (Io r) at i = ap (is_home s) (homed t x r at i)
     on t x (Control q) at i = refl
+    on t x (Start n) at i = refl
 
 -- what S sees stays
 module _ (S : ℕ → Bool) (w : World) (c : Coherent w) (l : Linked (nodes_of w)) where
@@ -92,6 +93,9 @@ module _ (S : ℕ → Bool) (w : World) (c : Coherent w) (l : Linked (nodes_of w
     | inr up ↦ named_alive r n p.parent h held up (inr (way_parent p r.parents i)) eh
   ]
   alive n (Controlled s i held es e) h eh = root_alive n s i es (lives_controlled w held.task held.seat s held.is_task held.here) e
+  alive n (Pending held) h eh =
+      let k = header_server w c n h eh in
+      stays_named w held.task held.seat (Start n) n k.server k.info held.is_task held.here (inl refl) k.is_home k.is_info
   alive n (Child d k name sd ed dir could en) h eh = entry_stays w c l d n h (entry_lists name (body_at w d) n en) eh (alive d sd k ed)
   alive n (Parent d k sd ed ep) h eh = parent_stays w c l d n k ed ep (alive d sd k ed)
   alive n (Active m s i sm em es e) h eh = root_alive n s i es (lives_active w m s em) e

@@ -5,7 +5,7 @@ use Rattle.hurd_creds.proofs.NameLaws.{same_name-apart}
 use Rattle.hurd_trans_iface.specs.Nodes.{Node}
 use Rattle.hurd_ports.specs.declared.table.IoRight.{IoRight}
 use Rattle.hurd_ports.specs.declared.table.Right.{Right}
-use Rattle.hurd_ports.specs.declared.table.Right.TheVariants.{Io, Control}
+use Rattle.hurd_ports.specs.declared.table.Right.TheVariants.{Io, Control, Start}
 use Rattle.hurd_ports.specs.Tables.{Task, rights_of, names_open}
 use Rattle.hurd_machine.specs.World.{World, IsAmong, nodes_of, task_at, home_at}
 use Rattle.hurd_nodes.specs.Weights.{count_list}
@@ -43,6 +43,7 @@ no_holders w c o new =
     unnamed : (t : ℕ) (x : Task) (r : Right) → task_at w t ≡ Some x → IsAmong r (rights_of x) → names_open o r ≡ false
     unnamed t x (Io r) at h = same_name-apart r.open_name o (λ e. new (subst (Below w) e (right_old c t x r at h).1))
     unnamed t x (Control s) at h = refl
+    unnamed t x (Start n) at h = refl
 
 no_users : (w : World) → Coherent w → (s : Name) → (Below w s → ⊥) → users w s ≡ 0
 no_users w c s new = count_alike (is_on w s) (λ r. false) w.tasks (λ t x r at i. on r) ∙ none_counted w.tasks
@@ -50,6 +51,7 @@ no_users w c s new = count_alike (is_on w s) (λ r. false) w.tasks (λ t x r at 
     on : (r : Right) → is_on w s r ≡ false
     on (Io r) = not_home s (home_at w r.node) (λ e. none_served w c s new r.node s e refl)
     on (Control q) = refl
+    on (Start n) = refl
 
 new_same : {S : ℕ → Bool} {v w : World} → Coherent v → Coherent w → Agree S v w → (p : Part) → NewPart S v p → part w p ≡ part v p
 new_same {S} {v} {w} cv cw a (AttrOf n) new =

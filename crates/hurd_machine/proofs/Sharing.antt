@@ -4,11 +4,11 @@ use Rattle.hurd_creds.specs.Access.{IdSets, restrict, may_take}
 use Rattle.hurd_creds.proofs.TakeLaws.{AreHeld, restrict_held, take_held}
 use Rattle.hurd_ports.specs.declared.table.IoRight.{IoRight}
 use Rattle.hurd_ports.specs.declared.table.Right.{Right}
-use Rattle.hurd_ports.specs.declared.table.Right.TheVariants.{Io, Control}
+use Rattle.hurd_ports.specs.declared.table.Right.TheVariants.{Io, Control, Start}
 use Rattle.hurd_ports.specs.Tables.{Task, rights_of, names_open}
 use Rattle.hurd_ports.specs.Steps.{with_ids_for, with_port}
 use Rattle.hurd_machine.specs.World.{World, IsAmong, task_at}
-use Rattle.hurd_machine.specs.Sight.{Part, TaskOf, Holds, HasUid, UidOfTask, UidOfRight, GidOfTask, GidOfRight, Taken, Held, IsOpen, is_on}
+use Rattle.hurd_machine.specs.Sight.{Part, TaskOf, Holds, HasUid, UidOfTask, UidOfRight, GidOfTask, GidOfRight, Taken, Held, Pending, IsOpen, is_on}
 use Rattle.hurd_machine.specs.Touched.{OnRight}
 use Rattle.hurd_machine.specs.Change.{Change, EditTask}
 use Rattle.hurd_machine.specs.Sound.{Coherent}
@@ -27,6 +27,7 @@ use Rattle.hurd_machine.proofs.Opens.{covers}
 
 pub fine_right : (w : World) → Coherent w → (t : ℕ) (x : Task) (r : Right) → task_at w t ≡ Some x → IsAmong r (rights_of x) → FineRight w r
 fine_right w c t x (Control s) is i = c.given.rights t x (Control s) is i
+fine_right w c t x (Start n) is i = c.given.rights t x (Start n) is i
 fine_right w c t x (Io r) is i =
     let given = c.given.rights t x (Io r) is i in
     record {
@@ -45,6 +46,7 @@ fine_ids w r ids fine = record { nodes = fine.nodes; open_name = fine.open_name;
 pub held_may : (S : ℕ → Bool) (v : World) (r : Right) → Holds S v r → RightMay S v v r
 held_may S v (Io r) h = record { inside = record { nodes = λ n i. inl (named_seen S v r h n i); opened = inl (r, h, refl) }; reads = λ o e modes k ek. IsOpen r h refl o e modes }
 held_may S v (Control s) h = inl h
+held_may S v (Start n) h = inl (Pending h)
 
 pub held_may_ids : (S : ℕ → Bool) (v : World) (r : IoRight) (ids : IdSets) → Holds S v (Io r) → RightMay S v v (Io (with_ids_for ids r))
 held_may_ids S v r ids h = record { inside = record { nodes = λ n i. inl (named_seen S v r h n i); opened = inl (r, h, refl) }; reads = λ o e modes k ek. IsOpen r h refl o e modes }
@@ -61,6 +63,7 @@ module _ (S : ℕ → Bool) (v : World) where
   pub ids_held : (r : Right) → Holds S v r → IdsMay S v r
   ids_held (Io r) held = taken_right r held
   ids_held (Control s) held = tt
+  ids_held (Start n) held = tt
 
   taken_held : (ids asked : IdSets) → Taken S v ids → AreHeld ids asked → Taken S v asked
   taken_held ids asked taken held = record { uids = λ u h. taken.uids u (held.uids u h); gids = λ g h. taken.gids g (held.gids g h) }

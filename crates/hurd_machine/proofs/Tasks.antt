@@ -3,7 +3,7 @@ use Rattle.std.proofs.Common.{◌≡◌, ◌⊎◌, ℕ, zero, suc, ◌+◌, ◌
 use Rattle.std.specs.Option.{option_map}
 use Rattle.hurd_creds.specs.declared.name.Name.{Name}
 use Rattle.hurd_ports.specs.declared.table.Right.{Right}
-use Rattle.hurd_ports.specs.Tables.{Task, rights_of}
+use Rattle.hurd_ports.specs.Tables.{Task, rights_of, start_of}
 use Rattle.hurd_ports.specs.Steps.{named, with_sent, edit_at, edit_task}
 use Rattle.hurd_ports.proofs.TaskLaws.{one_or_other, set-cases, edit-found, edit-here, edit-apart}
 use Rattle.hurd_machine.specs.World.{World, IsAmong, task_at}
@@ -105,6 +105,10 @@ among_cases x [] ys h = inr h
 among_cases x (y ∷ xs) ys (inl e) = inl (inl e)
 among_cases x (y ∷ xs) ys (inr h) = elim (among_cases x xs ys h) [ inl k ↦ inl (inr k) | inr k ↦ inr k ]
 
+-- behind others: where what follows has it, if what followed had it
+pub among_behind : {X : Type 0} (x : X) (xs ys zs : List X) → (IsAmong x ys → IsAmong x zs) → IsAmong x (xs ++ ys) → IsAmong x (xs ++ zs)
+among_behind x xs ys zs more h = elim (among_cases x xs ys h) [ inl k ↦ among_left x xs zs k | inr k ↦ among_right x xs zs (more k) ]
+
 pub among_map : {X Y : Type 0} (f : X → Y) (y : Y) (xs : List X) → IsAmong y (map f xs) → (x : X) × IsAmong x xs × (f x ≡ y)
 among_map f y [] h = absurd h
 among_map f y (x ∷ xs) (inl e) = (x, inl refl, e)
@@ -118,7 +122,9 @@ among_mapped f x (y ∷ xs) (inr h) = inr (among_mapped f x xs h)
 -- a right that is sent comes last
 
 sent_last : (r : Right) (x : Task) → rights_of (with_sent r x) ≡ rights_of x ++ r ∷ []
-sent_last r x = sym (append_assoc (map (λ p. p.right) x.ports) x.inbox (r ∷ []))
+sent_last r x =
+    let own : List Right = map (λ p. p.right) x.ports in
+    ap (λ (rs : List Right). start_of x.pending ++ rs) (sym (append_assoc own x.inbox (r ∷ []))) ∙ sym (append_assoc (start_of x.pending) (own ++ x.inbox) (r ∷ []))
 
 pub sent_cases : (r : Right) (x : Task) (q : Right) → IsAmong q (rights_of (with_sent r x)) → IsAmong q (rights_of x) ⊎ (r ≡ q)
 sent_cases r x q h = elim (among_cases q (rights_of x) (r ∷ []) (subst (λ (rs : List Right). IsAmong q rs) (sent_last r x) h)) [

@@ -10,10 +10,10 @@ use Rattle.hurd_trans_iface.specs.Answers.{entry_of}
 use Rattle.hurd_nodes.specs.Shown.{ServerInfo}
 use Rattle.hurd_ports.specs.declared.table.IoRight.{IoRight}
 use Rattle.hurd_ports.specs.declared.table.Right.{Right}
-use Rattle.hurd_ports.specs.declared.table.Right.TheVariants.{Io, Control}
+use Rattle.hurd_ports.specs.declared.table.Right.TheVariants.{Io, Control, Start}
 use Rattle.hurd_machine.specs.World.{World, task_at, open_at, header_at, body_at, home_at, active_at, server_at}
 use Rattle.hurd_machine.specs.Sight.{Holds, HasUid, UidOfTask, UidOfRight, HasGid, GidOfTask, GidOfRight, Taken, Could, Owns, OwnsIt, Allowed, CouldServe}
-use Rattle.hurd_machine.specs.Sight.{Seen, Root, Held, Way, Controlled, Child, Parent, Active, ServerRoot, Sends, ByControl, ByNode, BySeat, Knows, OfNode, OfSeat, OfControl, SeesBody, ToRead, ToSearch, IsOpen, SeesEmpty, ByBody, ByParent}
+use Rattle.hurd_machine.specs.Sight.{Seen, Root, Held, Way, Controlled, Pending, Child, Parent, Active, ServerRoot, Sends, ByControl, ByNode, BySeat, Knows, OfNode, OfSeat, OfControl, SeesBody, ToRead, ToSearch, IsOpen, SeesEmpty, ByBody, ByParent}
 use Rattle.hurd_machine.specs.Sight.{Part, AttrOf, EmptyOf, BodyOf, OpenOf, OptionsOf, UsersOf, TaskOf, Sees, part, SameView}
 
 -- a server that S may send away it knows
@@ -92,6 +92,7 @@ module _ {S : ℕ → Bool} {v w : World} (a : Agree S v w) where
   Seen-kept n (Held r h e) = Held r (Holds-kept v w same_tasks (Io r) h) e
   Seen-kept n (Way r p h i e) = Way r p (Holds-kept v w same_tasks (Io r) h) i e
   Seen-kept n (Controlled s i h es e) = Controlled s i (Holds-kept v w same_tasks (Control s) h) (server_known s (OfControl h) ∙ es) e
+  Seen-kept n (Pending h) = Pending (Holds-kept v w same_tasks (Start n) h)
   Seen-kept n (Child d h name s eh k c en) =
       Child d h name (Seen-kept d s) (header_same d s ∙ eh) k (Could-kept v w same_tasks h Exec c)
       (ap (entry_of name) (body_same d (s, h, eh, ToSearch k c)) ∙ en)
@@ -144,6 +145,7 @@ module _ {S : ℕ → Bool} {v w : World} (a : Agree S v w) where
   Seen-back n (Held r h e) = Held r (Holds-kept w v back (Io r) h) e
   Seen-back n (Way r p h i e) = Way r p (Holds-kept w v back (Io r) h) i e
   Seen-back n (Controlled s i h es e) = let h' : Holds S v (Control s) = Holds-kept w v back (Control s) h in Controlled s i h' (sym (server_known s (OfControl h')) ∙ es) e
+  Seen-back n (Pending h) = Pending (Holds-kept w v back (Start n) h)
   Seen-back n (Child d h name s eh k c en) =
       let s' : Seen S v d = Seen-back d s in
       let eh' : header_at v d ≡ Some h = sym (header_same d s') ∙ eh in

@@ -1,5 +1,5 @@
 -- What a call changes, as data.
-use Rattle.std.specs.Prelude.{ℕ, Bool, List, [], ◌∷◌}
+use Rattle.std.specs.Prelude.{ℕ, Bool, List, [], ◌∷◌, Option}
 use Rattle.std.specs.FinMap.{insert, retain_keys}
 use Rattle.hurd_creds.specs.declared.name.Name.{Name}
 use Rattle.hurd_creds.specs.declared.open_flags.OpenFlags.{OpenFlags}
@@ -7,13 +7,14 @@ use Rattle.hurd_creds.specs.Access.{IdSets}
 use Rattle.hurd_creds.specs.NameMaps.{NameMap, edit}
 use Rattle.hurd_trans_iface.specs.Nodes.{NodeMap, Node, Header, Body, Edit, OnHeader, OnBody, AddNode, with_header, with_body}
 use Rattle.hurd_ports.specs.declared.table.Opened.{Opened}
+use Rattle.hurd_ports.specs.declared.table.PendingStart.{PendingStart}
 use Rattle.hurd_ports.specs.declared.parents.Parent.{Parent}
 use Rattle.hurd_ports.specs.declared.table.Right.{Right}
 use Rattle.hurd_nodes.specs.Settle as kept
 use Rattle.hurd_nodes.specs.Settle.{Outside}
 use Rattle.hurd_nodes.specs.Shown.{NodeState, ServerInfo, attached, out_server, unseated}
 use Rattle.hurd_ports.specs.Tables.{Task, OpenMap, fresh, is_held, is_named, is_controlled}
-use Rattle.hurd_ports.specs.Steps.{named, edit_task, with_port, without_port, with_sent, new_open, new_right}
+use Rattle.hurd_ports.specs.Steps.{named, edit_task, with_pending, with_port, without_port, with_sent, new_open, new_right}
 use Rattle.hurd_machine.specs.World.{World, world_from, nodes_of, ports_of}
 
 pub data Change : Type 0 where
@@ -113,3 +114,7 @@ opening t x n ids parents modes = MakeOpen (fresh t x) (new_open modes) ∷ Edit
 -- task t gives up a port
 abbrev pub dropping : ℕ → ℕ → List Change
 dropping t p = EditTask t (without_port p) ∷ Settle ∷ []
+
+-- task t is to start this from now on, or nothing
+abbrev pub pending : ℕ → Option PendingStart → List Change
+pending t p = EditTask t (with_pending p) ∷ Settle ∷ []

@@ -18,7 +18,7 @@ use Rattle.hurd_ports.specs.declared.table.Opened.{Opened}
 use Rattle.hurd_ports.specs.declared.parents.Parent.{Parent as Pair}
 use Rattle.hurd_ports.specs.declared.table.IoRight.{IoRight}
 use Rattle.hurd_ports.specs.declared.table.Right.{Right}
-use Rattle.hurd_ports.specs.declared.table.Right.TheVariants.{Io, Control}
+use Rattle.hurd_ports.specs.declared.table.Right.TheVariants.{Io, Control, Start}
 use Rattle.hurd_ports.specs.Tables.{Task, rights_of, names_open, nodes_of as nodes_named}
 use Rattle.hurd_machine.specs.World.{World, IsAmong, boot_root, task_at, open_at, header_at, body_at, home_at, active_at, server_at}
 
@@ -72,6 +72,8 @@ pub data Seen (S : ℕ → Bool) (w : World) : Name → Type 0 where
   Way : {n : Name} (r : IoRight) (p : Pair) → Holds S w (Io r) → IsAmong p r.parents → (n ≡ p.at) ⊎ (n ≡ p.parent) → Seen S w n
   -- the root of a server that S controls
   Controlled : {n : Name} (s : Name) (i : ServerInfo) → Holds S w (Control s) → server_at w s ≡ Some i → n ≡ i.root → Seen S w n
+  -- a node whose translator a task of S is to start
+  Pending : {n : Name} → Holds S w (Start n) → Seen S w n
   -- what a seen directory has, where S could search it
   Child : {n : Name} (d : Name) (h : Header) (name : List ℕ) → Seen S w d → header_at w d ≡ Some h
       → h.kind ≡ Dir → Could S w h Exec
@@ -153,6 +155,7 @@ naming n r = count_list (λ m. same_name n m) (nodes_named r)
 abbrev pub is_on : World → Name → Right → Bool
 is_on w s (Io r) = is_home s (home_at w r.node)
 is_on w s (Control q) = false
+is_on w s (Start n) = false
 
 -- how many rights name the open
 abbrev pub holders : World → Name → ℕ

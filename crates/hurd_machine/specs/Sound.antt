@@ -14,7 +14,7 @@ use Rattle.hurd_nodes.specs.Shown.{NodeState, ServerInfo, boot_name, is_root, se
 use Rattle.hurd_ports.specs.declared.table.Opened.{Opened}
 use Rattle.hurd_ports.specs.declared.table.IoRight.{IoRight}
 use Rattle.hurd_ports.specs.declared.table.Right.{Right}
-use Rattle.hurd_ports.specs.declared.table.Right.TheVariants.{Io, Control}
+use Rattle.hurd_ports.specs.declared.table.Right.TheVariants.{Io, Control, Start}
 use Rattle.hurd_ports.specs.declared.table.Port.{Port}
 use Rattle.hurd_ports.specs.Tables.{Task, rights_of, nodes_of as nodes_named, IsSettled}
 use Rattle.hurd_machine.specs.Change.{stays, server_stays}
@@ -35,10 +35,11 @@ abbrev pub HasDistinctNames : Body → Type 0
 HasDistinctNames (Content bs) = Unit {0}
 HasDistinctNames (Listing es) = AreDistinct es
 
--- what a right names was given: its nodes and its open, or its server
+-- what a right names was given: its nodes and its open, its server, or its node
 abbrev pub IsGivenRight : World → Right → Type 0
 IsGivenRight w (Io r) = ((n : Name) → IsAmong n (nodes_named (Io r)) → Below w n) × Below w r.open_name
 IsGivenRight w (Control s) = Below w s
+IsGivenRight w (Start n) = Below w n
 
 -- what stands in the world was made: nodes, opens, servers, and what rights, entries and parents name
 pub record AreGiven (w : World) : Type 0 where

@@ -5,7 +5,7 @@ use Rattle.hurd_creds.specs.declared.errno.Errno.{Errno}
 use Rattle.hurd_trans_iface.specs.Behaviour.{Did}
 use Rattle.hurd_ports.specs.declared.table.IoRight.{IoRight}
 use Rattle.hurd_ports.specs.declared.table.Right.{Right}
-use Rattle.hurd_ports.specs.declared.table.Right.TheVariants.{Io, Control}
+use Rattle.hurd_ports.specs.declared.table.Right.TheVariants.{Io, Control, Start}
 use Rattle.hurd_machine.specs.World.{World, home_at, active_at}
 use Rattle.hurd_machine.specs.Sight.{Part, AttrOf, EmptyOf, BodyOf, OpenOf, OptionsOf, UsersOf}
 
@@ -26,6 +26,7 @@ OnNode w n p = (s : Name) × (home_at w n ≡ Some s) × (p ≡ UsersOf s)
 abbrev pub OnRight : World → Right → Part → Type 0
 OnRight w (Io r) p = (p ≡ OpenOf r.open_name) ⊎ OnNode w r.node p
 OnRight w (Control s) p = ⊥
+OnRight w (Start n) p = ⊥
 
 -- a server goes with its nodes, and leaves its seat
 abbrev pub Goes : World → Name → Part → Type 0

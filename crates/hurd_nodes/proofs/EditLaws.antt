@@ -1,20 +1,19 @@
 -- What is shown after a call that a server answers, and that changes nodes of its own.
-use Rattle.std.proofs.Common.{◌≡◌, ℕ, Bool, true, false, if◌then◌else◌, not, List, refl, sym, ◌∙◌, ap, ap₂, subst}
+use Rattle.std.proofs.Common.{◌≡◌, ℕ, Bool, true, false, if◌then◌else◌, not, List, [], ◌∷◌, refl, sym, ◌∙◌, ap, ap₂, subst}
 use Rattle.std.specs.Prelude.{Option, Some, None, Result, Ok, Err}
 use Rattle.std.specs.FinMap as fin
 use Rattle.hurd_creds.specs.declared.name.Name.{Name}
-use Rattle.hurd_creds.specs.declared.mode.Mode.{Mode}
 use Rattle.hurd_creds.specs.declared.errno.Errno.{Errno}
 use Rattle.hurd_creds.specs.declared.errno.Errno.TheVariants.{EDIED, EXDEV, ENOTDIR, EROFS}
 use Rattle.hurd_creds.specs.NameMaps.{NameMap}
 use Rattle.hurd_creds.specs.Memory.{Steps}
 use Rattle.hurd_creds.proofs.NameLaws.{insert_same}
 use Rattle.hurd_creds.proofs.StepLaws.{steps-inside, steps-refused}
-use Rattle.hurd_trans_iface.specs.Nodes.{Body, Node, Edit, body_of, is_dir}
-use Rattle.hurd_trans_iface.specs.Answers.{entry_of, link_in, link_of, link_edits, unlink_of, unlink_edits, rename_of, rename_to, rename_edits, set_attrs_of, set_attrs_edits, edits_if}
-use Rattle.hurd_trans_iface.specs.Meaning.{Meaning, ServerKind, keeps_tree, edited, link_step, rename_step, set_attrs_step, unlink_step}
+use Rattle.hurd_trans_iface.specs.Nodes.{Header, Body, Node, Edit, OnHeader, body_of, is_dir}
+use Rattle.hurd_trans_iface.specs.Answers.{entry_of, link_in, link_of, link_edits, unlink_of, unlink_edits, rename_of, rename_to, rename_edits, set_header_of, edits_if}
+use Rattle.hurd_trans_iface.specs.Meaning.{Meaning, ServerKind, keeps_tree, edited, link_step, rename_step, unlink_step}
 use Rattle.hurd_nodes.specs.Held.{Held, Seated, box_by, mean, with_box, with_server_of}
-use Rattle.hurd_nodes.specs.Shown.{NodeState, ServerInfo, flat, shown, nodes_of, with_edits, are_kin, can_link, can_set_attrs, link_at, link_by, can_unlink, own_edits, unlink_at, unlink_by, unlink_edits_at, can_rename, rename_at, rename_by, rename_edits_at, set_attrs_at, set_attrs_by, server_of, tree_by}
+use Rattle.hurd_nodes.specs.Shown.{NodeState, ServerInfo, flat, shown, nodes_of, with_edits, are_kin, can_link, can_set_attrs, link_at, link_by, can_unlink, own_edits, unlink_at, unlink_by, unlink_edits_at, can_rename, rename_at, rename_by, rename_edits_at, set_attrs_by, server_of, tree_by}
 use Rattle.hurd_nodes.proofs.SeatLaws.{lent}
 use Rattle.hurd_nodes.proofs.ShownLaws.{body-told, flat-own, kin-home, node-told, own-all, seen, server-told, server-untold}
 
@@ -70,13 +69,13 @@ module _ {S : Type 0} (f : S → Meaning) (t : Held S) (n : Name) (a w : S) (box
       ∙ ap (λ (z : Result (Unit {0}) Errno × Meaning). let y : Result (Unit {0}) Errno × NodeState = (z.0, left z.1) in y) told
       ∙ sym (is ∙ answered-shown t.homes t.actives seats l.name l.seat l.is answer es gs (own l.name l.home))
 
--- owner, group and mode
+-- what the header of a node says
 
 module _ (homes : NameMap Name) (seats : NameMap (Seated Meaning)) (n : Name) where
-  pub can_set_attrs-told : (m : Meaning) → Some m ≡ box_by seats (fin.get homes n) → can_set_attrs n (seen homes seats) ≡ set_attrs_of (keeps_tree m.kind) (fin.get m.nodes n)
+  pub can_set_attrs-told : (m : Meaning) → Some m ≡ box_by seats (fin.get homes n) → can_set_attrs n (seen homes seats) ≡ set_header_of (keeps_tree m.kind) (fin.get m.nodes n)
   can_set_attrs-told m box =
       let i = server-told homes seats n m box in
-      ap₂ set_attrs_by i.1 (node-told homes seats n m box) ∙ ap (λ (k : ServerKind). set_attrs_of (keeps_tree k) (fin.get m.nodes n)) i.2
+      ap₂ set_attrs_by i.1 (node-told homes seats n m box) ∙ ap (λ (k : ServerKind). set_header_of (keeps_tree k) (fin.get m.nodes n)) i.2
 
   pub can_set_attrs-untold : None ≡ box_by seats (fin.get homes n) → can_set_attrs n (seen homes seats) ≡ Err EDIED
   can_set_attrs-untold box = ap (λ (i : Option ServerInfo). set_attrs_by i (fin.get (nodes_of homes seats) n)) (server-untold homes seats n box)
@@ -91,23 +90,25 @@ module _ (homes : NameMap Name) (seats : NameMap (Seated Meaning)) (n : Name) wh
   pub tree-untold : None ≡ box_by seats (fin.get homes n) → tree_by (server_of (seen homes seats) n) ≡ false
   tree-untold box = ap tree_by (server-untold homes seats n box)
 
-module _ {S : Type 0} (f : S → Meaning) (t : Held S) (n : Name) (owner group : ℕ) (mode : Mode) where
+module _ {S : Type 0} (f : S → Meaning) (t : Held S) (n : Name) (k : Header → Header) where
   abbrev edits : List Edit
-  edits = set_attrs_edits n owner group mode
+  edits = OnHeader n k ∷ []
 
-  abbrev attrs_set : Result (Unit {0}) Errno → Result (Unit {0}) Errno × NodeState
-  attrs_set answer = answered with_edits edits (shown f t) answer
+  abbrev header_set : Result (Unit {0}) Errno → Result (Unit {0}) Errno × NodeState
+  header_set answer = answered with_edits edits (shown f t) answer
 
-  pub set_attrs-shown : (a w : S) (got : Result (Unit {0}) Errno) → Some (f a) ≡ box_by (mean f t.seats) (fin.get t.homes n)
-      → (got, f w) ≡ set_attrs_step n owner group mode (f a) → (got, shown f (with_server_of t n w)) ≡ set_attrs_at n owner group mode (shown f t)
-  set_attrs-shown a w got box steps =
-      sure-shown f t n a w box (set_attrs_of (keeps_tree (f a).kind) (fin.get (f a).nodes n)) edits edits (set_attrs_at n owner group mode (shown f t)) got
+  -- a box that was lent sets the header of a node
+  pub set_header-shown : (a w : S) (got : Result (Unit {0}) Errno) → Some (f a) ≡ box_by (mean f t.seats) (fin.get t.homes n)
+      → (got, f w) ≡ answered edited edits (f a) (set_header_of (keeps_tree (f a).kind) (fin.get (f a).nodes n))
+      → (got, shown f (with_server_of t n w)) ≡ header_set (can_set_attrs n (shown f t))
+  set_header-shown a w got box steps =
+      sure-shown f t n a w box (set_header_of (keeps_tree (f a).kind) (fin.get (f a).nodes n)) edits edits (header_set (can_set_attrs n (shown f t))) got
       (λ s home u ok. own-all s t.homes edits (home, tt))
-      (ap attrs_set (can_set_attrs-told t.homes (mean f t.seats) n (f a) box))
+      (ap header_set (can_set_attrs-told t.homes (mean f t.seats) n (f a) box))
       steps
 
-  pub set_attrs-gone : None ≡ box_by (mean f t.seats) (fin.get t.homes n) → (Err EDIED, shown f t) ≡ set_attrs_at n owner group mode (shown f t)
-  set_attrs-gone box = sym (ap attrs_set (can_set_attrs-untold t.homes (mean f t.seats) n box))
+  pub set_header-gone : None ≡ box_by (mean f t.seats) (fin.get t.homes n) → (Err EDIED, shown f t) ≡ header_set (can_set_attrs n (shown f t))
+  set_header-gone box = sym (ap header_set (can_set_attrs-untold t.homes (mean f t.seats) n box))
 
 -- another name
 

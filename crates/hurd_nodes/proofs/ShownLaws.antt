@@ -9,10 +9,10 @@ use Rattle.hurd_creds.specs.Names.{name_cmp, same_name}
 use Rattle.hurd_creds.specs.NameMaps.{NameMap, edit}
 use Rattle.hurd_creds.proofs.NameLaws.{get_here, get_apart, remove_here, remove_apart, edit_here, edit_apart, insert_same, insert-insert, same_map_by, same_or_apart, same_name-itself, equal_if_same, apart_if_not_same, tied-itself, tied-apart}
 use Rattle.hurd_creds.proofs.MapLaws.{get-map_values, map_values-insert}
-use Rattle.hurd_trans_iface.specs.Nodes.{NodeMap, Node, Edit, OnHeader, OnBody, AddNode, attrs_of, body_of, node_of_edit, edit_one, edit_all, with_header, with_body}
+use Rattle.hurd_trans_iface.specs.Nodes.{NodeMap, Node, Edit, OnHeader, OnBody, AddNode, attrs_of, body_of, passive_of, node_of_edit, edit_one, edit_all, with_header, with_body}
 use Rattle.hurd_trans_iface.specs.Meaning.{Meaning, edited, readable_of}
 use Rattle.hurd_nodes.specs.Held.{Seated, box_at, box_by, with_box}
-use Rattle.hurd_nodes.specs.Shown.{NodeState, ServerInfo, header_in, set_at, picked, pick_values, node_in, nodes_of, info_in, info_of, is_root, is_root_at, is_root_of, server_of, servers_of, readable_at, readable_by, flat, are_kin, own_edits, with_edits}
+use Rattle.hurd_nodes.specs.Shown.{NodeState, ServerInfo, header_in, told_header, set_at, picked, pick_values, node_in, nodes_of, info_in, info_of, is_root, is_root_at, is_root_of, server_of, servers_of, readable_at, readable_by, flat, are_kin, own_edits, with_edits}
 
 -- maps of what is picked
 
@@ -85,6 +85,13 @@ module _ (homes : NameMap Name) (seats : NameMap (Seated Meaning)) (n : Name) wh
   pub attrs-untold : None ≡ served → None ≡ option_map attrs_of (fin.get (nodes_of homes seats) n)
   attrs-untold box = sym (ap (option_map attrs_of) (node-untold box))
 
+  -- the words of its passive translator
+  pub passive-told : (m : Meaning) (ws : Option (List (List ℕ))) → Some m ≡ served → ws ≡ passive_of (fin.get m.nodes n) → ws ≡ passive_of (fin.get (nodes_of homes seats) n)
+  passive-told m ws box is = is ∙ sym (ap passive_of (node-told m box))
+
+  pub passive-untold : None ≡ served → None ≡ passive_of (fin.get (nodes_of homes seats) n)
+  passive-untold box = sym (ap passive_of (node-untold box))
+
   info_by : (o : Option Name) (m : Meaning) → Some m ≡ box_by seats o → (i : ServerInfo) × (info_in (servers_of seats) o ≡ Some i) × (i.kind ≡ m.kind) × (i.text ≡ m.text)
   info_by None m box = absurd (cc)
   info_by (Some s) m box = go (fin.get seats s) refl box
@@ -119,9 +126,19 @@ module _ (homes : NameMap Name) (seats : NameMap (Seated Meaning)) (n : Name) (a
   readable-untold box = ap (λ (i : Option ServerInfo). readable_by at i (fin.get (nodes_of homes seats) n)) (server-untold homes seats n box)
 
 -- the header among a node's attributes
-pub header_in-attrs_of : (o : Option Node) → option_map header_in (option_map attrs_of o) ≡ option_map (λ (x : Node). x.header) o
+pub header_in-attrs_of : (o : Option Node) → option_map header_in (option_map attrs_of o) ≡ option_map told_header (option_map (λ (x : Node). x.header) o)
 header_in-attrs_of None = refl
 header_in-attrs_of (Some x) = refl
+
+-- what has attributes is there, and they are its own
+pub attrs-there : (o : Option Node) (a : Attrs) → Some a ≡ option_map attrs_of o → (x : Node) × (o ≡ Some x) × (a ≡ attrs_of x)
+attrs-there None a is = absurd (cc)
+attrs-there (Some x) a is = (x, refl, cc)
+
+-- and where there are none, nothing is there
+pub attrs-nowhere : (o : Option Node) → None ≡ option_map attrs_of o → o ≡ None
+attrs-nowhere None is = refl
+attrs-nowhere (Some x) is = absurd (cc)
 
 -- the root of its server
 pub root-told : (h : NodeState) (n : Name) (i : ServerInfo) → server_of h n ≡ Some i → is_root h n ≡ same_name n i.root

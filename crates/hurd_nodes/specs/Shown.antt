@@ -15,7 +15,7 @@ use Rattle.hurd_creds.specs.NameMaps.{NameMap, edit, map_values}
 use Rattle.hurd_trans_iface.specs.declared.new_node.NewNode.{NewNode}
 use Rattle.hurd_trans_iface.specs.declared.readable.Readable.{Readable}
 use Rattle.hurd_trans_iface.specs.Nodes.{NodeMap, Node, Header, Edit, node_of_edit, body_of, edit_all}
-use Rattle.hurd_trans_iface.specs.Answers.{entry_of, make_of, make_edits, nameless_of, nameless_edits, link_of, link_edits, unlink_of, unlink_edits, rename_of, rename_edits, set_attrs_of, set_attrs_edits, edits_if}
+use Rattle.hurd_trans_iface.specs.Answers.{entry_of, make_of, make_edits, nameless_of, nameless_edits, link_of, link_edits, unlink_of, unlink_edits, rename_of, rename_edits, set_header_of, set_attrs_edits, set_passive_edits, edits_if}
 use Rattle.hurd_trans_iface.specs.Behaviour.{Question, Effect, effect_on, told_of, edits_of}
 use Rattle.hurd_trans_iface.specs.Meaning.{Meaning, ServerKind, behaviour_of, keeps_tree, begin_root_after, forget_after, new_root}
 use Rattle.hurd_nodes.specs.Held.{Held, Seated, mean, box_at, with_box, is_home}
@@ -42,9 +42,13 @@ pub record NodeState : Type 0 where
   pub actives : NameMap Name
   pub servers : NameMap ServerInfo
 
--- the header that attributes tell
+-- the header that attributes tell, which is all of it but for the words of a passive translator
 abbrev pub header_in : Attrs → Header
-header_in a = record { kind = a.kind; owner = a.owner; group = a.group; mode = a.mode; links = a.links; size = a.size; parent = a.parent }
+header_in a = record { kind = a.kind; owner = a.owner; group = a.group; mode = a.mode; links = a.links; size = a.size; parent = a.parent; passive = [] }
+
+-- what attributes tell of a header
+abbrev pub told_header : Header → Header
+told_header h = record h { passive = [] }
 
 -- a map by names with a function at each name and value, where that gives a value
 
@@ -246,14 +250,18 @@ rename_at dir name to new h = let answer = can_rename dir name to h in (answer, 
 
 abbrev pub set_attrs_by : Option ServerInfo → Option Node → Result (Unit {0}) Errno
 set_attrs_by None x = Err EDIED
-set_attrs_by (Some i) x = set_attrs_of (keeps_tree i.kind) x
+set_attrs_by (Some i) x = set_header_of (keeps_tree i.kind) x
 
--- whether owner, group and mode of a node may be set
+-- whether owner, group and mode of a node may be set, or words stored with it
 abbrev pub can_set_attrs : Name → NodeState → Result (Unit {0}) Errno
 can_set_attrs n h = set_attrs_by (server_of h n) (fin.get h.nodes n)
 
 abbrev pub set_attrs_at : Name → ℕ → ℕ → Mode → NodeState → Result (Unit {0}) Errno × NodeState
 set_attrs_at n owner group mode h = let answer = can_set_attrs n h in (answer, with_edits (edits_if answer (set_attrs_edits n owner group mode)) h)
+
+-- with the words of a passive translator stored with a node, or with none
+abbrev pub set_passive_at : Name → List (List ℕ) → NodeState → Result (Unit {0}) Errno × NodeState
+set_passive_at n words h = let answer = can_set_attrs n h in (answer, with_edits (edits_if answer (set_passive_edits n words)) h)
 
 -- the mode of the boot root: 0o755
 abbrev pub boot_mode : Mode

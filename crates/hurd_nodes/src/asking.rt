@@ -1,9 +1,9 @@
-//! Whether nodes may be made, linked, renamed or given other attributes.
+//! Whether nodes may be made, linked, renamed, or given other attributes or the words of a passive translator.
 ghost use Rattle.std.specs.Prelude.{◌≡◌, Option};
 ghost use Rattle.std.specs.Option.{option_map};
 ghost use Rattle.std.specs.FinMap as fin;
 ghost use Rattle.hurd_trans_iface.specs.Nodes.{Node, attrs_of, is_dir};
-ghost use Rattle.hurd_trans_iface.specs.Answers.{is_file, is_made, make_of, link_of, rename_of, set_attrs_of};
+ghost use Rattle.hurd_trans_iface.specs.Answers.{is_file, is_made, make_of, link_of, rename_of, set_header_of};
 ghost use Rattle.hurd_nodes.specs.Shown.{shown, can_make, can_link, can_set_attrs, can_rename, nameless_in, can_make_nameless};
 ghost use Rattle.hurd_trans_iface.specs.Meaning.{keeps_tree};
 
@@ -51,7 +51,7 @@ impl<S: Server> Nodes<S> {
         }
     }
 
-    /// Whether the owner, the group and the mode of a node may be set. Takes no memory.
+    /// Whether the owner, the group and the mode of a node may be set, or the words of a passive translator stored with it. Takes no memory.
     ///
     /// Errors, in order: `EDIED` no such node, `EOPNOTSUPP` its server keeps no tree.
     pub fn can_set_attrs(&self, node: NodeName) -> Result<(), Errno>
@@ -206,11 +206,11 @@ fn can_rename_in<S: Server>(
     }
 }
 
-/// Whether the owner, the group and the mode of a node of a server may be set.
+/// Whether the owner, the group and the mode of a node of a server may be set, or words stored with it.
 ///
 /// Errors, in order: `EDIED` no such node, `EOPNOTSUPP` the server keeps no tree.
 fn can_set_attrs_in<S: Server>(server: &S, node: NodeName) -> Result<(), Errno>
-    ensures { let m = S.meaning server.now in result ≡ set_attrs_of (keeps_tree m.kind) (fin.get m.nodes node) }
+    ensures { let m = S.meaning server.now in result ≡ set_header_of (keeps_tree m.kind) (fin.get m.nodes node) }
 {
     if server.attrs(node).is_none() {
         return Err(Errno::EDIED);

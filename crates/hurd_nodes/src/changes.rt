@@ -1,9 +1,9 @@
-//! Changes of nodes by their servers: what is written, made, linked, renamed, and taken out of directories.
+//! Changes of nodes by their servers: what is written, made, linked, renamed, taken out of directories, and stored with nodes.
 ghost use Rattle.std.specs.Prelude.{◌≡◌, None};
 ghost use Rattle.std.specs.FinMap as fin;
 ghost use Rattle.hurd_creds.specs.Memory.{Steps};
 ghost use Rattle.hurd_trans_iface.specs.Behaviour.{reading, writing, resizing};
-ghost use Rattle.hurd_nodes.specs.Shown.{shown, asked_step, make_at, link_at, set_attrs_at, HideNothing, unlink_at, rename_at, make_nameless_at};
+ghost use Rattle.hurd_nodes.specs.Shown.{shown, asked_step, make_at, link_at, set_attrs_at, set_passive_at, HideNothing, unlink_at, rename_at, make_nameless_at};
 ghost use Rattle.hurd_nodes.specs.Held.{holds_of};
 
 use crate::asking::{can_make_in, can_make_nameless_in};
@@ -11,7 +11,7 @@ use crate::nodes::Nodes;
 use crate::search::{place_of_server, put_home};
 use crate::seat::Home;
 use hurd_creds::{Bytes, Errno, Mode, NodeName};
-use hurd_trans_iface::{NewNode, Server};
+use hurd_trans_iface::{NewNode, Server, Words};
 use std::alloc::Global;
 
 impl<S: Server> Nodes<S> {
@@ -196,6 +196,21 @@ impl<S: Server> Nodes<S> {
     {
         match self.server_of_mut(node) {
             Some(server) => server.set_attrs(node, owner, group, mode),
+            None => Err(Errno::EDIED),
+        }
+    }
+
+    /// Stores the words of a passive translator with a node, in place of those that were there; with no words there are none any more. Whether the node is its server's
+    /// root is for who asks. Takes no memory.
+    ///
+    /// Errors, in order: those of `can_set_attrs`.
+    pub fn set_passive(&mut self, node: NodeName, words: Words) -> Result<(), Errno>
+        ensures shown { (result, shown S.meaning self.new) ≡ set_passive_at node words (shown S.meaning self.old) }
+        ensures holds { holds_of self.new ≡ holds_of self.old }
+        ensures hidden { HideNothing S.meaning self.old → HideNothing S.meaning self.new }
+    {
+        match self.server_of_mut(node) {
+            Some(server) => server.set_passive(node, words),
             None => Err(Errno::EDIED),
         }
     }

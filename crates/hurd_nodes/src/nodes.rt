@@ -3,9 +3,9 @@ ghost use Rattle.std.specs.Prelude.{◌≡◌, replicate, option_copied, IfOk, I
 ghost use Rattle.std.specs.Option.{option_map};
 ghost use Rattle.std.specs.FinMap as fin;
 ghost use Rattle.hurd_creds.specs.Memory.{Meets};
-ghost use Rattle.hurd_trans_iface.specs.Nodes.{attrs_of, header_of, body_of};
+ghost use Rattle.hurd_trans_iface.specs.Nodes.{attrs_of, header_of, body_of, passive_of};
 ghost use Rattle.hurd_trans_iface.specs.Answers.{entry_of, names_of};
-ghost use Rattle.hurd_nodes.specs.Shown.{ServerInfo, boot_name, server_of, shown, state_of, header_in, booted, is_root, are_kin, readable_at, tree_by, HideNothing};
+ghost use Rattle.hurd_nodes.specs.Shown.{ServerInfo, boot_name, server_of, shown, state_of, header_in, told_header, booted, is_root, are_kin, readable_at, tree_by, HideNothing};
 ghost use Rattle.hurd_trans_iface.specs.Meaning.{Begins, root_of};
 ghost use Rattle.hurd_nodes.specs.Held.{box_by, mean, users_in};
 
@@ -14,7 +14,7 @@ use crate::search::{home_of, place_of_seat, place_of_server, repeated, users_amo
 use crate::seat::{Hold, Home, Seat};
 use bitflags::Flags;
 use hurd_creds::{Attrs, Errno, Ids, Mode, Name, NodeName, ServerName, TaskId};
-use hurd_trans_iface::{Names, Readable, Root, Server};
+use hurd_trans_iface::{Names, Readable, Root, Server, Words};
 use std::alloc::Global;
 use std::marker::Model;
 
@@ -119,7 +119,7 @@ impl<S: Server> Nodes<S> {
     /// The attributes of a node, if it is there.
     pub fn attrs(&self, node: NodeName) -> Option<Attrs>
         ensures all { result ≡ option_map attrs_of (fin.get (shown S.meaning self.now).nodes node) }
-        ensures header { option_map header_in result ≡ header_of (shown S.meaning self.now).nodes node }
+        ensures header { option_map header_in result ≡ option_map told_header (header_of (shown S.meaning self.now).nodes node) }
     {
         match self.server_of(node) {
             Some(server) => server.attrs(node),
@@ -236,6 +236,16 @@ impl<S: Server> Nodes<S> {
     {
         match self.server_of(node) {
             Some(server) => server.readable(node, at),
+            None => None,
+        }
+    }
+
+    /// The words of the passive translator of a node, lent, if the node is there and has any. Takes no memory.
+    pub fn passive(&self, node: NodeName) -> Option<&Words>
+        ensures { option_copied result ≡ passive_of (fin.get (shown S.meaning self.now).nodes node) }
+    {
+        match self.server_of(node) {
+            Some(server) => server.passive(node),
             None => None,
         }
     }

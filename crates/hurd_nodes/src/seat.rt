@@ -17,7 +17,8 @@ pub(crate) struct Seat<S> {
     pub(crate) server: S,
 }
 
-/// What is named from outside: a node by a right to use it, a node by a way that a right came in by, a server by a right to control it.
+/// What is named from outside: a node by a right to use it; a node that is named and not used, by a way that a right came in by or by a start that is pending; a server
+/// by a right to control it.
 #[derive(Clone, Copy, Debug, PartialEq, Eq)]
 pub enum Hold {
     Use(NodeName),

@@ -14,11 +14,12 @@ use Rattle.hurd_creds.specs.Access.{IdSets}
 use Rattle.hurd_creds.specs.Memory.{Steps, is_no_memory, lacks_memory}
 use Rattle.hurd_creds.proofs.StepLaws.{steps-inside}
 use Rattle.hurd_ports.specs.declared.table.Right.{Right}
+use Rattle.hurd_ports.specs.declared.table.PendingStart.{PendingStart}
 use Rattle.hurd_ports.specs.declared.table.Port.{Port}
 use Rattle.hurd_ports.specs.declared.table.TaskSeat.{TaskSeat}
 use Rattle.hurd_ports.specs.declared.opens.OpenSeat.{OpenSeat}
-use Rattle.hurd_ports.specs.Tables.{Task, PortState, has_room, is_held, names_open, or_refuse, right_at, right_of, rights_of}
-use Rattle.hurd_ports.specs.Steps.{edit_task, received, receive_at, receive_step, sent_to, send_step, share_at, share_step, take_ids_at, take_ids_step, taken_by, with_ids, with_port, with_sent}
+use Rattle.hurd_ports.specs.Tables.{Task, PortState, has_room, is_held, names_open, or_refuse, right_at, right_of, rights_of, start_of}
+use Rattle.hurd_ports.specs.Steps.{edit_task, pend_at, pend_step, received, receive_at, receive_step, sent_to, send_step, share_at, share_step, take_ids_at, take_ids_step, taken_by, with_ids, with_pending, with_port, with_sent}
 use Rattle.hurd_ports.specs.Sound.{IsSound, NumbersRise}
 use Rattle.hurd_ports.specs.Seats.{seat_task, tasks_of, state_of}
 use Rattle.hurd_ports.proofs.TaskLaws.{one_or_other, set-same, edit-apart, edit-found, edit-here}
@@ -35,7 +36,8 @@ received-rights x = go x.inbox refl
     go (r ∷ rs) e =
         let old : List Right = map (λ (p : Port). p.right) x.ports in
         rw e
-        (ap (λ (l : List Right). l ++ rs) (map_push (λ (p : Port). p.right) x.ports (record { number = x.next; right = r })) ∙ append_assoc old (r ∷ []) rs)
+        (ap (λ (l : List Right). start_of x.pending ++ l)
+        (ap (λ (l : List Right). l ++ rs) (map_push (λ (p : Port). p.right) x.ports (record { number = x.next; right = r })) ∙ append_assoc old (r ∷ []) rs))
 
 -- the tables with this task in its place
 abbrev pub put : PortState → ℕ → Task → PortState
@@ -131,6 +133,18 @@ module _ (h : PortState) (t : ℕ) (x : Task) (sound : IsSound h) (at : slice_ge
   pub take_ids-done : (ids : IdSets) → take_ids_step t ids h ≡ (Ok tt, put h t (with_ids ids x))
   take_ids-done ids = ap (take_ids_at h t ids) at ∙ put-found tt (with_ids ids)
 
+  -- other things to start
+  pub sound-pending : (p : Option PendingStart) → IsSound (put h t (with_pending p x))
+  sound-pending p = sound-put h t x sound at (with_pending p x) (λ n e. holds_by n (with_pending p x) ∙ sym (holds_by n x) ∙ e) (omega arith) (sound.numbered t x at)
+
+  pub pend-done : (p : Option PendingStart) → pend_step t p h ≡ (Ok tt, put h t (with_pending p x))
+  pend-done p = ap (pend_at h t p) at ∙ put-found tt (with_pending p)
+
+-- a task is to start something, or nothing
+pub record Pended (h k : PortState) (t : ℕ) (p : Option PendingStart) : Type 0 where
+  pub step : (Ok tt, k) ≡ pend_step t p h
+  pub sound : IsSound k
+
 -- a task took ids
 pub record IdsTaken (h k : PortState) (t : ℕ) (ids : IdSets) : Type 0 where
   pub step : (Ok tt, k) ≡ take_ids_step t ids h
@@ -184,6 +198,11 @@ module _ (os : List OpenSeat) (ss : List TaskSeat) (t : ℕ) (a s new : TaskSeat
   seat-other_ids ids is =
       let left : state_of os (slice_set ss t new) ≡ put h t (with_ids ids (seat_task a)) = put-seat ∙ ap (put h t) (is ∙ ap (λ (z : TaskSeat). with_ids ids (seat_task z)) same) in
       rw left (record { step = sym (take_ids-done h t (seat_task a) sound there ids); sound = sound-other_ids h t (seat_task a) sound there ids })
+
+  pub seat-pending : (p : Option PendingStart) → seat_task new ≡ with_pending p (seat_task s) → Pended h (state_of os (slice_set ss t new)) t p
+  seat-pending p is =
+      let left : state_of os (slice_set ss t new) ≡ put h t (with_pending p (seat_task a)) = put-seat ∙ ap (put h t) (is ∙ ap (λ (z : TaskSeat). with_pending p (seat_task z)) same) in
+      rw left (record { step = sym (pend-done h t (seat_task a) sound there p); sound = sound-pending h t (seat_task a) sound there p })
 
 -- what stands after a step that may find no memory: what stood, or what the step leaves
 left-either : {T : Type 0} (h x k : PortState) (a got : Result T Errno) → Steps h (a, x) got k → (k ≡ h) ⊎ (k ≡ x)

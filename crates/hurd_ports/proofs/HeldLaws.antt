@@ -3,14 +3,15 @@ use Rattle.std.proofs.Common.{◌≡◌, ◌≢◌, ◌⊎◌, inl, inr, ℕ, ze
 use Rattle.std.proofs.lemmas.List.{map_push}
 use Rattle.std.proofs.lemmas.List.Folds.{list_any-append, list_any_at}
 use Rattle.std.proofs.lemmas.Option.{slice_get_within, get_or_from_slice_get}
-use Rattle.std.specs.Prelude.{Some, slice_get, slice_set, ◌||◌}
+use Rattle.std.specs.Prelude.{Option, Some, None, slice_get, slice_set, ◌||◌}
 use Rattle.std.specs.List.{list_any}
 use Rattle.hurd_creds.specs.declared.name.Name.{Name}
 use Rattle.hurd_creds.proofs.NameLaws.{same_name-itself, same_name-apart}
+use Rattle.hurd_ports.specs.declared.table.PendingStart.{PendingStart}
 use Rattle.hurd_ports.specs.declared.table.Port.{Port}
 use Rattle.hurd_ports.specs.declared.table.Right.{Right}
-use Rattle.hurd_ports.specs.declared.table.Right.TheVariants.{Io, Control}
-use Rattle.hurd_ports.specs.Tables.{Task, names_open, open_of, rights_of, right_in, is_held}
+use Rattle.hurd_ports.specs.declared.table.Right.TheVariants.{Io, Control, Start}
+use Rattle.hurd_ports.specs.Tables.{Task, names_open, open_of, rights_of, right_in, start_of, is_held}
 use Rattle.hurd_ports.specs.Steps.{ports_without, without_port}
 use Rattle.hurd_ports.proofs.TaskLaws.{set-here}
 
@@ -54,22 +55,31 @@ module _ {X : Type 0} (f : X → Bool) where
 pub names_own : (n : Name) (r : Right) → open_of r ≡ Some n → names_open n r ≡ true
 names_own n (Io r) e = let is : r.open_name ≡ n = cc in rw is (same_name-itself n)
 names_own n (Control s) e = absurd (cc)
+names_own n (Start m) e = absurd (cc)
 
 -- and no other
 pub names_no_other : (n : Name) (r : Right) → open_of r ≢ Some n → names_open n r ≡ false
 names_no_other n (Io r) apart = same_name-apart r.open_name n (λ e. apart (ap Some e))
 names_no_other n (Control s) apart = refl
+names_no_other n (Start m) apart = refl
 
 -- whether a right of the task names the open
 abbrev pub holds : Name → Task → Bool
 holds n z = list_any (names_open n) (rights_of z)
+
+-- no pending start does
+start_opens : (n : Name) (p : Option PendingStart) (rs : List Right) → list_any (names_open n) (start_of p ++ rs) ≡ list_any (names_open n) rs
+start_opens n None rs = refl
+start_opens n (Some s) rs = refl
 
 -- by its ports, or by what it was sent
 abbrev pub ported : Name → List Port → Bool
 ported n ps = list_any (names_open n) (map (λ (z : Port). z.right) ps)
 
 pub holds_by : (n : Name) (z : Task) → holds n z ≡ (ported n z.ports || list_any (names_open n) z.inbox)
-holds_by n z = list_any-append (names_open n) (map (λ (p : Port). p.right) z.ports) z.inbox
+holds_by n z =
+    let ported : List Right = map (λ (p : Port). p.right) z.ports in
+    start_opens n z.pending (ported ++ z.inbox) ∙ list_any-append (names_open n) ported z.inbox
 
 -- of a task with one more port at the end
 module _ (x y : Task) (p : Port) (more : y.ports ≡ x.ports ++ p ∷ []) (same : y.inbox ≡ x.inbox) (n : Name) where

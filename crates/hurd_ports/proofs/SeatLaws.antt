@@ -74,7 +74,7 @@ seat-found ss t s P there read = go (slice_get (tasks_of ss) t) refl there
 -- where opens and the ports of a seat have other room, nothing else changes
 pub seat-kept : (os news : List OpenSeat) (ss : List TaskSeat) (t : ℕ) (s : TaskSeat) (ports : Vec Port) → slice_get ss t ≡ Some s → ports.items ≡ s.ports.items → news ≡ os → state_of news (slice_set ss t (record s { ports = ports })) ≡ state_of os ss
 seat-kept os news ss t s ports at same kept =
-    let task : seat_task (record s { ports = ports }) ≡ seat_task s = ap (λ (ps : List Port). let x : Task = record { ids = s.ids; ports = ps; next = s.next; inbox = s.inbox.items; made = s.made } in x) same in
+    let task : seat_task (record s { ports = ports }) ≡ seat_task s = ap (λ (ps : List Port). let x : Task = record { ids = s.ids; ports = ps; next = s.next; inbox = s.inbox.items; made = s.made; pending = s.pending } in x) same in
     same_halves _ _ _ _ (ap opens_of kept) (seat-changed ss t (record s { ports = ports }) (seat_task s) task ∙ set-same (tasks_of ss) t (seat_task s) (seat-there ss t s at))
 
 -- a seat that named one thing

@@ -14,7 +14,7 @@ use Rattle.hurd_ports.specs.Sound.{IsSound}
 
 -- what a seat stands for
 abbrev pub seat_task : TaskSeat → Task
-seat_task s = record { ids = s.ids; ports = s.ports.items; next = s.next; inbox = s.inbox.items; made = s.made }
+seat_task s = record { ids = s.ids; ports = s.ports.items; next = s.next; inbox = s.inbox.items; made = s.made; pending = s.pending }
 
 -- the tasks of the seats, in their order
 abbrev pub tasks_of : List TaskSeat → List Task

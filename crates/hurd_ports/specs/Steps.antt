@@ -14,11 +14,12 @@ use Rattle.hurd_ports.specs.declared.table.IoRight.{IoRight}
 use Rattle.hurd_ports.specs.declared.table.Right.{Right}
 use Rattle.hurd_ports.specs.declared.table.Right.TheVariants.{Io}
 use Rattle.hurd_ports.specs.declared.table.Port.{Port}
+use Rattle.hurd_ports.specs.declared.table.PendingStart.{PendingStart}
 use Rattle.hurd_ports.specs.Tables.{Task, PortState, right_in, right_of, fresh, has_room, is_held}
 
 -- a task that has made nothing, with an empty table
 abbrev pub new_task : ℕ → IdSets → Task
-new_task next ids = record { ids = ids; ports = []; next = next; inbox = []; made = 0 }
+new_task next ids = record { ids = ids; ports = []; next = next; inbox = []; made = 0; pending = None }
 
 -- empty tables for tasks with these ids
 abbrev pub starting_at : List IdSets → ℕ → PortState
@@ -45,6 +46,10 @@ without_port p x = record x { ports = ports_without p x.ports }
 -- with these ids
 abbrev pub with_ids : IdSets → Task → Task
 with_ids ids x = record x { ids = ids }
+
+-- to start this from now on, or nothing
+abbrev pub with_pending : Option PendingStart → Task → Task
+with_pending p x = record x { pending = p }
 
 -- the same right, with these ids
 abbrev pub with_ids_for : IdSets → IoRight → IoRight
@@ -159,6 +164,14 @@ take_ids_at h t ids (Some x) = (Ok tt, record h { tasks = edit_task t (with_ids 
 -- other ids for the task; those of its rights stay
 abbrev pub take_ids_step : ℕ → IdSets → PortState → Result (Unit {0}) Errno × PortState
 take_ids_step t ids h = take_ids_at h t ids (slice_get h.tasks t)
+
+abbrev pub pend_at : PortState → ℕ → Option PendingStart → Option Task → Result (Unit {0}) Errno × PortState
+pend_at h t p None = (Err ESRCH, h)
+pend_at h t p (Some x) = (Ok tt, record h { tasks = edit_task t (with_pending p) h.tasks })
+
+-- the task is to start this from now on, or nothing
+abbrev pub pend_step : ℕ → Option PendingStart → PortState → Result (Unit {0}) Errno × PortState
+pend_step t p h = pend_at h t p (slice_get h.tasks t)
 
 -- with the open's APPEND set, or taken away
 abbrev pub set_append_step : Name → Bool → PortState → PortState

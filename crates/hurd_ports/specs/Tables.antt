@@ -14,20 +14,23 @@ use Rattle.hurd_ports.specs.declared.table.Opened.{Opened}
 use Rattle.hurd_ports.specs.declared.parents.Parent.{Parent}
 use Rattle.hurd_ports.specs.declared.table.IoRight.{IoRight}
 use Rattle.hurd_ports.specs.declared.table.Right.{Right}
-use Rattle.hurd_ports.specs.declared.table.Right.TheVariants.{Io, Control}
+use Rattle.hurd_ports.specs.declared.table.Right.TheVariants.{Io, Control, Start}
+use Rattle.hurd_ports.specs.declared.table.PendingStart.{PendingStart}
 use Rattle.hurd_ports.specs.declared.table.Port.{Port}
 use Rattle.hurd_ports.specs.contracts.table.Port as port
 use Rattle.hurd_ports.specs.contracts.table.Right as right
+use Rattle.hurd_ports.specs.contracts.table.PendingStart as start
 use Rattle.hurd_ports.specs.contracts.table.Opened as opened
 
--- a task: its ids, its ports in order of their numbers, the next number, the rights that it was sent, in their order, and how
--- many things it has made
+-- a task: its ids, its ports in order of their numbers, the next number, the rights that it was sent, in their order, how
+-- many things it has made, and what it is to start
 pub record Task : Type 0 where
   pub ids : IdSets
   pub ports : List Port
   pub next : ℕ
   pub inbox : List Right
   pub made : ℕ
+  pub pending : Option PendingStart
 
 abbrev pub OpenMap : Type 0
 OpenMap = NameMap Opened
@@ -44,17 +47,24 @@ pub record Tables : Type 0 where
 
 abbrev pub coded_task : Coded Task
 coded_task =
-    code_by (IdSets × (List Port × (ℕ × (List Right × ℕ)))) (coded× coded_ids (coded× (coded_list port.the_row.coded) (coded× coded_ℕ (coded× (coded_list right.the_row.coded) coded_ℕ))))
-    (λ x. (x.ids, (x.ports, (x.next, (x.inbox, x.made))))) (λ p. record { ids = p.0; ports = p.1.0; next = p.1.1.0; inbox = p.1.1.1.0; made = p.1.1.1.1 }) (λ _. refl)
+    code_by (IdSets × (List Port × (ℕ × (List Right × (ℕ × Option PendingStart)))))
+    (coded× coded_ids (coded× (coded_list port.the_row.coded) (coded× coded_ℕ (coded× (coded_list right.the_row.coded) (coded× coded_ℕ (coded_option start.the_row.coded))))))
+    (λ x. (x.ids, (x.ports, (x.next, (x.inbox, (x.made, x.pending))))))
+    (λ p. record { ids = p.0; ports = p.1.0; next = p.1.1.0; inbox = p.1.1.1.0; made = p.1.1.1.1.0; pending = p.1.1.1.1.1 }) (λ _. refl)
 
 abbrev pub coded_tables : Coded Tables
 coded_tables =
     code_by (OpenMap × (List Task × Option ℕ)) (coded× (fin.code coded_name opened.the_row.coded) (coded× (coded_list coded_task) (coded_option coded_ℕ)))
     (λ h. (h.state.opens, (h.state.tasks, h.ready))) (λ p. record { state = record { opens = p.0; tasks = p.1.0 }; ready = p.1.1 }) (λ _. refl)
 
--- all rights of a task: those of its ports, and those that it was sent
+-- the right that a pending start is
+abbrev pub start_of : Option PendingStart → List Right
+start_of None = []
+start_of (Some s) = Start s.node ∷ []
+
+-- all rights of a task: its pending start, those of its ports, and those that it was sent
 abbrev pub rights_of : Task → List Right
-rights_of x = map (λ p. p.right) x.ports ++ x.inbox
+rights_of x = start_of x.pending ++ (map (λ p. p.right) x.ports ++ x.inbox)
 
 -- the right that was sent first, if there is one
 abbrev pub first_sent : List Right → Option Right
@@ -85,6 +95,7 @@ right_of h t p = right_at p (slice_get h.tasks t)
 abbrev pub io_of : Right → Option IoRight
 io_of (Io r) = Some r
 io_of (Control s) = None
+io_of (Start n) = None
 
 abbrev pub io_right_in : Result Right Errno → Result IoRight Errno
 io_right_in (Err e) = Err e
@@ -93,6 +104,15 @@ io_right_in (Ok r) = or_refuse EBADF (io_of r)
 -- the right to use a node of a task under a number: EBADF also where the port controls a server
 abbrev pub io_right_of : PortState → ℕ → ℕ → Result IoRight Errno
 io_right_of h t p = io_right_in (right_of h t p)
+
+-- what a task that may not be there is to start
+abbrev pub pending_at : Option Task → Option PendingStart
+pending_at None = None
+pending_at (Some x) = x.pending
+
+-- what a task is to start, if it is there and is to start anything
+abbrev pub pending_of : PortState → ℕ → Option PendingStart
+pending_of h t = pending_at (slice_get h.tasks t)
 
 abbrev pub ids_at : Option Task → Result IdSets Errno
 ids_at None = Err ESRCH
@@ -133,10 +153,12 @@ room_of h t names = room_at names (slice_get h.tasks t)
 abbrev pub open_of : Right → Option Name
 open_of (Io r) = Some r.open_name
 open_of (Control s) = None
+open_of (Start n) = None
 
 abbrev pub names_open : Name → Right → Bool
 names_open o (Io r) = same_name r.open_name o
 names_open o (Control s) = false
+names_open o (Start n) = false
 
 -- some right names the open
 unfoldable pub is_held : List Task → Name → Bool
@@ -147,10 +169,11 @@ abbrev pub ways_of : List Parent → List Name
 ways_of [] = []
 ways_of (p ∷ ps) = p.at ∷ (p.parent ∷ ways_of ps)
 
--- the nodes that a right names: that which it is for, and both of each way that it came in by
+-- the nodes that a right names: that which it is for, and both of each way that it came in by; that on which a translator is to start
 abbrev pub nodes_of : Right → List Name
 nodes_of (Io r) = r.node ∷ ways_of r.parents
 nodes_of (Control s) = []
+nodes_of (Start n) = n ∷ []
 
 abbrev pub names_node : Name → Right → Bool
 names_node n r = list_any (λ m. same_name n m) (nodes_of r)
@@ -163,6 +186,7 @@ is_named ts n = list_any (λ (x : Task). list_any (names_node n) (rights_of x)) 
 abbrev pub names_server : Name → Right → Bool
 names_server s (Io r) = false
 names_server s (Control q) = same_name s q
+names_server s (Start n) = false
 
 -- some right controls the server
 unfoldable pub is_controlled : List Task → Name → Bool

@@ -6,6 +6,9 @@
 //!
 //! A task also has an inbox: rights that it was sent, in their order. It takes the first of them as a port.
 //!
+//! And it may be to start the translator that waits on a node: its pending start, of which there is one at most. It counts as a right
+//! of a third kind, that names the node.
+//!
 //! A port is filled into room that was reserved for it, so that nothing is left to fail once its node is made.
 //!
 //! It knows no nodes: a right may name one that is gone. What a right allows is for the calls to say.
@@ -18,4 +21,4 @@ mod table;
 
 pub use parents::{Parent, Parents};
 pub use ports::Ports;
-pub use table::{IoRight, Opened, Port, Right, TaskSeat};
+pub use table::{IoRight, Opened, PendingStart, Port, Right, TaskSeat};

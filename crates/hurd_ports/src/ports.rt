@@ -1,16 +1,16 @@
 //! The tables of all tasks, and the opens.
-ghost use Rattle.std.specs.Prelude.{◌≡◌, ◌<◌, Ok, Err, if◌then◌else◌, length, nat_lt, slice_get, IfOk, IsSomeAnd};
+ghost use Rattle.std.specs.Prelude.{◌≡◌, ◌<◌, Ok, Err, if◌then◌else◌, length, nat_lt, option_copied, slice_get, IfOk, IsSomeAnd};
 ghost use Rattle.std.specs.Option.{option_map};
 ghost use Rattle.std.specs.FinMap as fin;
 ghost use Rattle.hurd_creds.specs.Memory.{Meets, Steps};
 ghost use Rattle.hurd_creds.specs.declared.errno.Errno.{Errno};
-ghost use Rattle.hurd_ports.specs.Tables.{IsSettled, fresh, ids_at, io_right_of, is_held, lent, naming_of, or_refuse, right_of, room_of};
+ghost use Rattle.hurd_ports.specs.Tables.{IsSettled, fresh, ids_at, io_right_of, is_held, lent, naming_of, or_refuse, pending_of, right_of, room_of};
 ghost use Rattle.hurd_ports.specs.Steps as step;
 ghost use Rattle.hurd_ports.specs.Seats.{opens_of, settled_by, tasks_of};
 
 use crate::opens::{self, OpenSeat};
 use crate::parents::Parents;
-use crate::table::{IoRight, Opened, Right, TaskSeat};
+use crate::table::{IoRight, Opened, PendingStart, Right, TaskSeat};
 use hurd_creds::{Errno, Ids, Name, NodeName, OpenFlags, OpenName, TaskId};
 use std::alloc::{AllocError, Global};
 use std::marker::Model;
@@ -69,6 +69,7 @@ impl Ports {
                 next,
                 inbox: Vec::new(alloc),
                 made: 0,
+                pending: None,
             });
         }
         Ok(Ports {
@@ -92,6 +93,16 @@ impl Ports {
         match self.tasks.get(task.0 as usize) {
             Some(seat) => Ok(&seat.ids),
             None => Err(Errno::ESRCH),
+        }
+    }
+
+    /// What a task is to start, if it is there and is to start anything.
+    pub fn pending(&self, task: TaskId) -> Option<&PendingStart>
+        ensures { option_copied result ≡ pending_of self.now.state task.0 }
+    {
+        match self.tasks.get(task.0 as usize) {
+            Some(seat) => seat.pending.as_ref(),
+            None => None,
         }
     }
 
@@ -119,6 +130,7 @@ impl Ports {
         match self.right(task, port)? {
             Right::Io(right) => Ok(right),
             Right::Control(_) => Err(Errno::EBADF),
+            Right::Start(_) => Err(Errno::EBADF),
         }
     }
 
@@ -345,6 +357,20 @@ impl Ports {
             return Err(Errno::ESRCH);
         }
         self.tasks[task.0 as usize].take_ids(ids);
+        Ok(())
+    }
+
+    /// The task is to start this from now on, in place of what it was to start before, or nothing. Takes no memory.
+    ///
+    /// `ESRCH`: no such task.
+    pub fn set_pending(&mut self, task: TaskId, pending: Option<PendingStart>) -> Result<(), Errno>
+        ensures answer { (result, self.new.state) ≡ step.pend_step task.0 pending self.old.state }
+        ensures settled { IsSettled self.new.state }
+    {
+        if task.0 as usize >= self.tasks.len() {
+            return Err(Errno::ESRCH);
+        }
+        self.tasks[task.0 as usize].set_pending(pending);
         Ok(())
     }
 

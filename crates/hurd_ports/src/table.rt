@@ -3,11 +3,12 @@ ghost use Rattle.std.specs.Prelude.{◌≡◌, ◌==◌, ◌+◌, ◌<◌, Ok, l
 ghost use Rattle.std.specs.List.{list_any, position};
 ghost use Rattle.hurd_creds.specs.Memory.{Steps};
 ghost use Rattle.hurd_ports.specs.Tables.{can_name, fresh, has_room, names_open, open_of, right_in, rights_of};
-ghost use Rattle.hurd_ports.specs.Steps.{named, received, with_ids, with_ids_for, with_port, with_sent, without_port};
+ghost use Rattle.hurd_ports.specs.Steps.{named, received, with_ids, with_ids_for, with_pending, with_port, with_sent, without_port};
 ghost use Rattle.hurd_ports.specs.Seats.{HasSpare, seat_task};
 
 use crate::parents::Parents;
 use hurd_creds::{Errno, Ids, Name, NodeName, OpenFlags, OpenName, ServerName, TaskId};
+use hurd_trans_iface::Words;
 use std::alloc::{AllocError, Global};
 
 /// The right to use a node, with the ids that decide what is allowed, an open of it, and the ways that it came in by
@@ -41,11 +42,13 @@ impl IoRight {
     }
 }
 
-/// A right: to use a node, or to control a server (`hurd/fsys.defs`).
+/// A right: to use a node, to control a server (`hurd/fsys.defs`), or to start a translator.
 #[derive(Debug, Drop)]
 pub enum Right {
     Io(IoRight),
     Control(ServerName),
+    /// To start the translator that waits on a node. It stands in no table and no inbox: a task has one at most, its pending start.
+    Start(NodeName),
 }
 
 impl Right {
@@ -56,6 +59,7 @@ impl Right {
         match self {
             Right::Io(right) => Ok(Right::Io(right.copied(alloc)?)),
             Right::Control(server) => Ok(Right::Control(*server)),
+            Right::Start(node) => Ok(Right::Start(*node)),
         }
     }
 
@@ -66,6 +70,7 @@ impl Right {
         match self {
             Right::Io(right) => Some(right.open_name),
             Right::Control(_) => None,
+            Right::Start(_) => None,
         }
     }
 
@@ -76,6 +81,7 @@ impl Right {
         match self {
             Right::Io(right) => right.open_name == name,
             Right::Control(_) => false,
+            Right::Start(_) => false,
         }
     }
 }
@@ -94,8 +100,15 @@ pub struct Port {
     pub right: Right,
 }
 
-/// A task: its ids, its ports in order of their numbers, the next number, the rights that it was sent, and how many things it
-/// has made.
+/// What a task is to start: the translator that waits on a node, and its words as a lookup found them.
+#[derive(Debug, Drop)]
+pub struct PendingStart {
+    pub node: NodeName,
+    pub words: Words,
+}
+
+/// A task: its ids, its ports in order of their numbers, the next number, the rights that it was sent, how many things it
+/// has made, and what it is to start.
 #[derive(Debug, Drop)]
 pub struct TaskSeat {
     pub ids: Ids,
@@ -103,6 +116,7 @@ pub struct TaskSeat {
     pub next: u64,
     pub inbox: Vec<Right>,
     pub made: u64,
+    pub pending: Option<PendingStart>,
 }
 
 impl TaskSeat {
@@ -196,6 +210,14 @@ impl TaskSeat {
         ensures ports { self.new.ports ≡ self.old.ports }
     {
         self.ids = ids;
+    }
+
+    /// The task is to start this from now on, or nothing.
+    pub(crate) fn set_pending(&mut self, pending: Option<PendingStart>)
+        ensures pending { seat_task self.new ≡ with_pending pending (seat_task self.old) }
+        ensures ports { self.new.ports ≡ self.old.ports }
+    {
+        self.pending = pending;
     }
 
     /// Takes out the port of this number, if it is there.

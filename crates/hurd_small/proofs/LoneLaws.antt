@@ -12,7 +12,7 @@ use Rattle.hurd_creds.specs.declared.errno.Errno.{Errno}
 use Rattle.hurd_creds.proofs.NameLaws.{equal_if_same, apart_if_not_same, same_or_apart, same_map_by, get_here, get_apart, remove_here, remove_apart}
 use Rattle.hurd_creds.proofs.StepLaws.{steps-refused}
 use Rattle.hurd_trans_iface.specs.declared.new_node.NewNode.{NewNode}
-use Rattle.hurd_trans_iface.specs.Nodes.{Node, NodeMap, Edit, body_of, is_dir}
+use Rattle.hurd_trans_iface.specs.Nodes.{Node, NodeMap, Edit, body_of, is_dir, passive_of}
 use Rattle.hurd_trans_iface.specs.Answers.{entry_of, names_of, make_of, make_edits, link_of, link_edits, unlink_of, unlink_edits, rename_of, rename_edits, edits_if}
 use Rattle.hurd_trans_iface.specs.Meaning.{Meaning, ServerKind, root_of, keeps_tree, edited, make_step, link_step, unlink_step, rename_step, forget_after}
 use Rattle.hurd_small.specs.declared.presence.LoneNode.{LoneNode}
@@ -110,6 +110,13 @@ module _ (kind : ServerKind) (text : List ℕ) where
   found (There r) n = elim (same_or_apart n r.name) [
     | inl e ↦ inr (r, rw e (get-one r.name (node_of kind text r)))
     | inr apart ↦ inl (get-other r.name (node_of kind text r) n apart)
+  ]
+
+  -- no words are stored with it
+  pub passive-none : (p : Presence) (n : Name) → None ≡ passive_of (at p n)
+  passive-none p n = elim (found p n) [
+    | inl none ↦ rw none refl
+    | inr there ↦ rw there.1 refl
   ]
 
   -- where it is no directory

@@ -4,7 +4,7 @@ ghost use Rattle.hurd_small.specs.Lone.{lone_meaning};
 use crate::presence::{LoneNode, Presence};
 use crate::single::Single;
 use hurd_creds::{Attrs, Bytes, Errno, Mode, NodeName, OpenFlags};
-use hurd_trans_iface::{Names, NewNode, Readable, Root, Server};
+use hurd_trans_iface::{Names, NewNode, Readable, Root, Server, Words};
 use std::alloc::Global;
 
 /// The greatest size that a node may be cut or grown to, in bytes.
@@ -143,6 +143,17 @@ impl<S: Single> Server for Lone<S> {
         _group: u32,
         _mode: Mode,
     ) -> Result<(), Errno> {
+        match self.presence.find(node) {
+            Some(_) => Err(Errno::EOPNOTSUPP),
+            None => Err(Errno::EDIED),
+        }
+    }
+
+    fn passive(&self, _node: NodeName) -> Option<&Words> {
+        None
+    }
+
+    fn set_passive(&mut self, node: NodeName, _words: Words) -> Result<(), Errno> {
         match self.presence.find(node) {
             Some(_) => Err(Errno::EOPNOTSUPP),
             None => Err(Errno::EDIED),

@@ -160,6 +160,14 @@ impl Server for Counted {
         self.tree.set_attrs(node, owner, group, mode)
     }
 
+    fn passive(&self, node: NodeName) -> Option<&Words> {
+        self.tree.passive(node)
+    }
+
+    fn set_passive(&mut self, node: NodeName, words: Words) -> Result<(), Errno> {
+        self.tree.set_passive(node, words)
+    }
+
     fn forget(&mut self, node: NodeName) {
         self.tree.forget(node)
     }

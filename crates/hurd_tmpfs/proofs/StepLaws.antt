@@ -1,11 +1,10 @@
 -- What a call does to one node is what it does to the tree.
-use Rattle.std.proofs.Common.{◌≡◌, ℕ, Bool, true, false, if◌then◌else◌, not, List, refl, ap, sym, ◌∙◌, subst, is_some}
+use Rattle.std.proofs.Common.{◌≡◌, ℕ, Bool, true, false, if◌then◌else◌, not, List, [], ◌∷◌, refl, ap, sym, ◌∙◌, subst, is_some}
 use Rattle.std.specs.Prelude.{Option, Some, None, Result, Ok, Err}
 use Rattle.std.specs.FinMap as fin
 use Rattle.hurd_creds.specs.Memory.{Steps}
 use Rattle.hurd_creds.specs.NameMaps.{edit}
 use Rattle.hurd_creds.specs.declared.name.Name.{Name}
-use Rattle.hurd_creds.specs.declared.mode.Mode.{Mode}
 use Rattle.hurd_creds.specs.declared.attrs.Kind.{Kind}
 use Rattle.hurd_creds.specs.declared.attrs.Kind.TheVariants.{File}
 use Rattle.hurd_creds.specs.declared.errno.Errno.{Errno}
@@ -13,10 +12,10 @@ use Rattle.hurd_creds.specs.declared.errno.Errno.TheVariants.{EDIED, ENOTDIR, EE
 use Rattle.hurd_creds.proofs.NameLaws.{edit_found, insert_same}
 use Rattle.hurd_creds.proofs.StepLaws.{steps-refused, steps-inside}
 use Rattle.hurd_trans_iface.specs.declared.new_node.NewNode.{NewNode}
-use Rattle.hurd_trans_iface.specs.Nodes.{Node, NodeMap, is_dir, edit_all, with_attrs, with_header, with_body, with_size, on_bytes}
-use Rattle.hurd_trans_iface.specs.Answers.{is_made, entry_of, make_of, make_edits, set_attrs_of, set_attrs_edits, edits_if}
+use Rattle.hurd_trans_iface.specs.Nodes.{Header, Node, NodeMap, OnHeader, is_dir, edit_all, with_header, with_body, with_size, on_bytes}
+use Rattle.hurd_trans_iface.specs.Answers.{is_made, entry_of, make_of, make_edits, set_header_of, edits_if}
 use Rattle.hurd_trans_iface.specs.Behaviour.{Effect, Question, effect_on, told_of, edit_bytes, edit_size, edits_of, size_left, bytes_left, left_by}
-use Rattle.hurd_trans_iface.specs.Meaning.{Meaning, behaviour_of, keeps_tree, edited, step_of, make_step, set_attrs_step}
+use Rattle.hurd_trans_iface.specs.Meaning.{Meaning, behaviour_of, keeps_tree, edited, step_of, make_step}
 use Rattle.hurd_tmpfs.specs.Changes.{served}
 use Rattle.hurd_tmpfs.proofs.TreeLaws.{edit-inserted}
 
@@ -69,21 +68,25 @@ module _ (m : Meaning) (n : Name) (x : Node) (at_n : fin.get m.nodes n ≡ Some 
 pub step-nowhere : {T : Type 0} (q : Question T) (m : Meaning) (n : Name) → fin.get m.nodes n ≡ None → Steps m (step_of q n m) (Err EDIED) m
 step-nowhere q m n none = steps-refused (step_of q n m) m EDIED (rw none refl)
 
--- owner, group and mode
+-- what the header of a node says
 
-module _ (m : Meaning) (n : Name) (owner group : ℕ) (mode : Mode) where
+module _ (m : Meaning) (n : Name) (f : Header → Header) where
   abbrev answered_by : Result (Unit {0}) Errno → Result (Unit {0}) Errno × Meaning
-  answered_by answer = (answer, edited (edits_if answer (set_attrs_edits n owner group mode)) m)
+  answered_by answer = (answer, edited (edits_if answer (OnHeader n f ∷ [])) m)
+
+  -- the answer, and the server that is left
+  abbrev pub header_step : Result (Unit {0}) Errno × Meaning
+  header_step = answered_by (set_header_of (keeps_tree m.kind) (fin.get m.nodes n))
 
   -- in a tree a node that is there gets what is given
-  pub attrs-set : (x : Node) (ns : NodeMap) → keeps_tree m.kind ≡ true → fin.get m.nodes n ≡ Some x → ns ≡ edit n (with_header (with_attrs owner group mode)) m.nodes → (Ok tt, with_nodes m ns) ≡ set_attrs_step n owner group mode m
-  attrs-set x ns kept is new =
+  pub header-set : (x : Node) (ns : NodeMap) → keeps_tree m.kind ≡ true → fin.get m.nodes n ≡ Some x → ns ≡ edit n (with_header f) m.nodes → (Ok tt, with_nodes m ns) ≡ header_step
+  header-set x ns kept is new =
       ap (λ (z : NodeMap). let s : Result (Unit {0}) Errno × Meaning = (Ok tt, with_nodes m z) in s) new
-      ∙ sym (ap answered_by (ap (set_attrs_of (keeps_tree m.kind)) is ∙ ap (λ (b : Bool). if b then Ok tt else Err EOPNOTSUPP) kept))
+      ∙ sym (ap answered_by (ap (set_header_of (keeps_tree m.kind)) is ∙ ap (λ (b : Bool). if b then Ok tt else Err EOPNOTSUPP) kept))
 
   -- no such node
-  pub attrs-nowhere : fin.get m.nodes n ≡ None → (Err EDIED, m) ≡ set_attrs_step n owner group mode m
-  attrs-nowhere none = sym (ap answered_by (ap (set_attrs_of (keeps_tree m.kind)) none))
+  pub header-nowhere : fin.get m.nodes n ≡ None → (Err EDIED, m) ≡ header_step
+  header-nowhere none = sym (ap answered_by (ap (set_header_of (keeps_tree m.kind)) none))
 
 -- making
 

@@ -41,6 +41,7 @@ header_with i kind size = record {
   links = i.links;
   size = size;
   parent = i.parent;
+  passive = i.passive;
 }
 
 -- what a node means

@@ -1,8 +1,8 @@
 //! The nodes of a tree.
-ghost use Rattle.std.specs.Prelude.{◌≡◌, ◌<◌, ◌≤◌, ◌+◌, ◌-◌, ◌++◌, map, length, take, drop, replicate, OnOk, OnErr, IfSome};
+ghost use Rattle.std.specs.Prelude.{◌≡◌, ◌<◌, ◌≤◌, ◌+◌, ◌-◌, ◌++◌, map, length, take, drop, replicate, OnOk, OnErr, IfSome, Some, option_copied};
 ghost use Rattle.std.specs.Option.{option_map};
 ghost use Rattle.hurd_creds.specs.Memory.{Steps};
-ghost use Rattle.hurd_trans_iface.specs.Nodes.{attrs_of, bytes_put, linked, unlinked, moved_to, less_entry, with_attrs, with_body, with_header, without_entry};
+ghost use Rattle.hurd_trans_iface.specs.Nodes.{attrs_of, bytes_put, linked, unlinked, moved_to, less_entry, passive_of, with_attrs, with_passive, with_body, with_header, without_entry};
 ghost use Rattle.hurd_trans_iface.specs.Answers.{made_node};
 ghost use Rattle.hurd_tmpfs.specs.Tree.{node_of, entry_of};
 ghost use Rattle.hurd_trans_iface.specs.TmpfsKind.{read_bytes, write_file, cut_file};
@@ -10,7 +10,7 @@ ghost use Rattle.hurd_tmpfs.specs.Changes.{served, entered};
 
 use crate::search::entry_place;
 use hurd_creds::{Attrs, Bytes, Errno, Kind, Mode, NodeName};
-use hurd_trans_iface::NewNode;
+use hurd_trans_iface::{NewNode, Words};
 use std::alloc::{AllocError, Global};
 
 /// The greatest size of a file, in bytes.
@@ -39,6 +39,8 @@ pub(crate) struct Inode {
     pub(crate) mode: Mode,
     pub(crate) links: u32,
     pub(crate) parent: Option<NodeName>,
+    /// The words of its passive translator: none where it has none.
+    pub(crate) passive: Words,
     pub(crate) contents: Contents,
 }
 
@@ -60,6 +62,7 @@ impl Inode {
             mode: new.mode,
             links: 1,
             parent,
+            passive: Words::none(alloc),
             contents,
         })
     }
@@ -82,7 +85,7 @@ impl Inode {
             empty,
             readers: 0,
             writers: 0,
-            passive: false,
+            passive: self.passive.has_any(),
             active: false,
             parent: self.parent,
         }
@@ -145,6 +148,25 @@ impl Inode {
         self.owner = owner;
         self.group = group;
         self.mode = mode;
+    }
+
+    /// The words of its passive translator, if it has one.
+    pub(crate) fn passive(&self) -> Option<&Words>
+        ensures { option_copied result ≡ passive_of (Some (node_of self.now)) }
+    {
+        if self.passive.has_any() {
+            Some(&self.passive)
+        } else {
+            None
+        }
+    }
+
+    /// Stores the words of a passive translator, or none.
+    pub(crate) fn set_passive(&mut self, words: Words)
+        ensures is { node_of self.new ≡ with_header (with_passive words) (node_of self.old) }
+        ensures name { self.new.name ≡ self.old.name }
+    {
+        self.passive = words;
     }
 
     /// Counts one link more.

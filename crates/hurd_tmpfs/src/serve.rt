@@ -147,6 +147,7 @@ impl Server for Tmpfs {
             mode,
             links: 1,
             parent: None,
+            passive: Words::none(self.alloc),
             contents: Contents::Dir(Vec::new(self.alloc)),
         };
         put(&mut self.nodes, inode);
@@ -248,6 +249,7 @@ impl Server for Tmpfs {
             mode: new.mode,
             links: 0,
             parent: None,
+            passive: Words::none(self.alloc),
             contents: Contents::File(Vec::new(self.alloc)),
         };
         Ok(add_nameless(&mut self.nodes, inode)?)
@@ -307,6 +309,23 @@ impl Server for Tmpfs {
         match place(&self.nodes, node) {
             Some(i) => {
                 self.nodes[i].set_attrs(owner, group, mode);
+                Ok(())
+            }
+            None => Err(Errno::EDIED),
+        }
+    }
+
+    fn passive(&self, node: NodeName) -> Option<&Words> {
+        match find(&self.nodes, node) {
+            Some(inode) => inode.passive(),
+            None => None,
+        }
+    }
+
+    fn set_passive(&mut self, node: NodeName, words: Words) -> Result<(), Errno> {
+        match place(&self.nodes, node) {
+            Some(i) => {
+                self.nodes[i].set_passive(words);
                 Ok(())
             }
             None => Err(Errno::EDIED),

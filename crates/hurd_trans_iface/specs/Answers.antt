@@ -12,7 +12,7 @@ use Rattle.hurd_trans_iface.specs.declared.new_node.NewNode.{NewNode}
 use Rattle.hurd_trans_iface.specs.declared.root.Root.{Root}
 use Rattle.hurd_trans_iface.specs.declared.root.Crossing.{Crossing}
 use Rattle.hurd_trans_iface.specs.declared.root.Crossing.TheVariants.{Plain, Link}
-use Rattle.hurd_trans_iface.specs.Nodes.{Entry, Body, Content, Listing, Node, Edit, OnHeader, OnBody, AddNode, is_dir, linked, unlinked, moved_to, with_attrs, with_entry, without_entry, new_file, nameless_file, new_dir}
+use Rattle.hurd_trans_iface.specs.Nodes.{Entry, Body, Content, Listing, Node, Edit, OnHeader, OnBody, AddNode, is_dir, linked, unlinked, moved_to, with_attrs, with_passive, with_entry, without_entry, new_file, nameless_file, new_dir}
 
 -- the node of the first entry of this name
 abbrev pub entry_in : List ℕ → List Entry → Option Name
@@ -141,13 +141,17 @@ abbrev pub rename_edits : Name → List ℕ → Name → List ℕ → Option Nam
 rename_edits dir name to new None m = []
 rename_edits dir name to new (Some n) m = if is_one n m then [] else move_edits dir name to new n m
 
--- whether owner, group and mode of a node may be set, where its server keeps a tree or doesn't: in trees they may
-abbrev pub set_attrs_of : Bool → Option Node → Result (Unit {0}) Errno
-set_attrs_of keeps None = Err EDIED
-set_attrs_of keeps (Some x) = if keeps then Ok tt else Err EOPNOTSUPP
+-- whether what the header of a node says may be set, its owner, group and mode, and the words of its passive translator, where its server
+-- keeps a tree or doesn't: in trees it may
+abbrev pub set_header_of : Bool → Option Node → Result (Unit {0}) Errno
+set_header_of keeps None = Err EDIED
+set_header_of keeps (Some x) = if keeps then Ok tt else Err EOPNOTSUPP
 
 abbrev pub set_attrs_edits : Name → ℕ → ℕ → Mode → List Edit
 set_attrs_edits n owner group mode = OnHeader n (with_attrs owner group mode) ∷ []
+
+abbrev pub set_passive_edits : Name → List (List ℕ) → List Edit
+set_passive_edits n words = OnHeader n (with_passive words) ∷ []
 
 -- the edits of a call that isn't refused
 abbrev pub edits_if : {T : Type 0} → Result T Errno → List Edit → List Edit

@@ -10,7 +10,7 @@ use Rattle.hurd_creds.specs.declared.errno.Errno.{Errno}
 use Rattle.hurd_trans_iface.specs.declared.new_node.NewNode.{NewNode}
 use Rattle.hurd_trans_iface.specs.declared.root.Root.{Root}
 use Rattle.hurd_trans_iface.specs.Nodes.{Body, Content, Listing, Node, NodeMap, Edit, body_of, edit_all, is_dir}
-use Rattle.hurd_trans_iface.specs.Answers.{entry_of, make_of, make_edits, nameless_of, nameless_edits, link_of, link_edits, unlink_of, unlink_edits, rename_of, rename_edits, set_attrs_of, set_attrs_edits, edits_if}
+use Rattle.hurd_trans_iface.specs.Answers.{entry_of, make_of, make_edits, nameless_of, nameless_edits, link_of, link_edits, unlink_of, unlink_edits, rename_of, rename_edits, set_header_of, set_attrs_edits, set_passive_edits, edits_if}
 use Rattle.hurd_trans_iface.specs.Behaviour.{Behaviour, Question, effect_on, told_of, edits_of}
 use Rattle.hurd_trans_iface.specs.declared.readable.Readable.{Readable}
 pub use Rattle.hurd_trans_iface.specs.Kinds.{ServerKind, Tmpfs, Hello, Null, Zero, Symlink, all_kinds, behaviour_of}
@@ -61,7 +61,7 @@ abbrev pub new_root : Behaviour → List ℕ → ℕ → ℕ → Mode → Node
 new_root b text owner group mode =
     let body = empty_body (is_dir (b.root text).kind) in
     record {
-      header = record { kind = (b.root text).kind; owner = owner; group = group; mode = mode; links = 1; size = b.size text body; parent = None };
+      header = record { kind = (b.root text).kind; owner = owner; group = group; mode = mode; links = 1; size = b.size text body; parent = None; passive = [] };
       body = body;
     }
 
@@ -106,7 +106,12 @@ rename_step dir name to new m =
 -- owner, group and mode of a node
 abbrev pub set_attrs_step : Name → ℕ → ℕ → Mode → Meaning → Result (Unit {0}) Errno × Meaning
 set_attrs_step n owner group mode m =
-    let answer = set_attrs_of (keeps_tree m.kind) (fin.get m.nodes n) in (answer, edited (edits_if answer (set_attrs_edits n owner group mode)) m)
+    let answer = set_header_of (keeps_tree m.kind) (fin.get m.nodes n) in (answer, edited (edits_if answer (set_attrs_edits n owner group mode)) m)
+
+-- the words of a node's passive translator, or none
+abbrev pub set_passive_step : Name → List (List ℕ) → Meaning → Result (Unit {0}) Errno × Meaning
+set_passive_step n words m =
+    let answer = set_header_of (keeps_tree m.kind) (fin.get m.nodes n) in (answer, edited (edits_if answer (set_passive_edits n words)) m)
 
 -- the server without a node; entries that name it stay
 abbrev pub forget_after : Meaning → Name → Meaning

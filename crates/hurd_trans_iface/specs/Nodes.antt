@@ -29,6 +29,8 @@ pub record Header : Type 0 where
   pub links : ℕ
   pub size : ℕ
   pub parent : Option Name
+  -- the words of its passive translator: none where it has none
+  pub passive : List (List ℕ)
 
 pub record Node : Type 0 where
   pub header : Header
@@ -49,6 +51,21 @@ is_empty_dir (Listing []) = true
 is_empty_dir (Listing (e ∷ es)) = false
 is_empty_dir (Content bs) = false
 
+-- whether there are words
+abbrev pub has_words : List (List ℕ) → Bool
+has_words [] = false
+has_words (w ∷ ws) = true
+
+-- words, if there are any
+abbrev pub some_words : List (List ℕ) → Option (List (List ℕ))
+some_words [] = None
+some_words (w ∷ ws) = Some (w ∷ ws)
+
+-- the words of a node's passive translator, if the node is there and has one
+abbrev pub passive_of : Option Node → Option (List (List ℕ))
+passive_of None = None
+passive_of (Some x) = some_words x.header.passive
+
 -- the attributes of a node with this header, which is an empty directory or isn't
 abbrev pub attrs_with : Header → Bool → Attrs
 attrs_with h empty = record {
@@ -61,7 +78,7 @@ attrs_with h empty = record {
   empty = empty;
   readers = 0;
   writers = 0;
-  passive = false;
+  passive = has_words h.passive;
   active = false;
   parent = h.parent;
 }
@@ -81,12 +98,12 @@ IsShaped h (Listing es) = h.kind ≡ Dir
 -- a directory that has no entries yet, below this parent
 abbrev pub new_dir : ℕ → ℕ → Mode → Option Name → Node
 new_dir owner group mode parent =
-    record { header = record { kind = Dir; owner = owner; group = group; mode = mode; links = 1; size = 0; parent = parent }; body = Listing [] }
+    record { header = record { kind = Dir; owner = owner; group = group; mode = mode; links = 1; size = 0; parent = parent; passive = [] }; body = Listing [] }
 
 -- an empty file that one entry names
 abbrev pub new_file : ℕ → ℕ → Mode → Node
 new_file owner group mode =
-    record { header = record { kind = File; owner = owner; group = group; mode = mode; links = 1; size = 0; parent = None }; body = Content [] }
+    record { header = record { kind = File; owner = owner; group = group; mode = mode; links = 1; size = 0; parent = None; passive = [] }; body = Content [] }
 
 -- the file's bytes with these put at a place; a gap becomes zero bytes, and no data changes nothing
 abbrev pub bytes_put : ℕ → List ℕ → List ℕ → List ℕ
@@ -123,6 +140,10 @@ with_size size h = record h { size = size }
 -- whose the node is, and what may be done with it
 abbrev pub with_attrs : ℕ → ℕ → Mode → Header → Header
 with_attrs owner group mode h = record h { owner = owner; group = group; mode = mode }
+
+-- with these words of a passive translator, in place of those that were there
+abbrev pub with_passive : List (List ℕ) → Header → Header
+with_passive words h = record h { passive = words }
 
 -- one entry more names the file
 abbrev pub linked : Header → Header

@@ -4,6 +4,7 @@ use crate::new_node::NewNode;
 use crate::readable::Readable;
 use crate::root::Root;
 use crate::server::Server;
+use crate::words::Words;
 use hurd_creds::{Attrs, Bytes, Errno, Mode, NodeName, OpenFlags};
 use std::alloc::Global;
 
@@ -99,6 +100,14 @@ impl Server for Box<dyn Server> {
         mode: Mode,
     ) -> Result<(), Errno> {
         (**self).set_attrs(node, owner, group, mode)
+    }
+
+    fn passive(&self, node: NodeName) -> Option<&Words> {
+        (**self).passive(node)
+    }
+
+    fn set_passive(&mut self, node: NodeName, words: Words) -> Result<(), Errno> {
+        (**self).set_passive(node, words)
     }
 
     fn forget(&mut self, node: NodeName) {

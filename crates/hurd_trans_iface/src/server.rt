@@ -1,17 +1,18 @@
 //! The trait of servers.
-ghost use Rattle.std.specs.Prelude.{◌≡◌, None};
+ghost use Rattle.std.specs.Prelude.{◌≡◌, None, option_copied};
 ghost use Rattle.std.specs.Option.{option_map};
 ghost use Rattle.std.specs.FinMap as fin;
 ghost use Rattle.hurd_creds.specs.Memory.{Meets, Steps};
-ghost use Rattle.hurd_trans_iface.specs.Nodes.{attrs_of, body_of};
+ghost use Rattle.hurd_trans_iface.specs.Nodes.{attrs_of, body_of, passive_of};
 ghost use Rattle.hurd_trans_iface.specs.Answers.{entry_of, names_of};
 ghost use Rattle.hurd_trans_iface.specs.Behaviour.{reading, writing, resizing};
-ghost use Rattle.hurd_trans_iface.specs.Meaning.{Meaning, root_of, begin_root_after, step_of, make_step, make_nameless_step, link_step, unlink_step, rename_step, set_attrs_step, opened_after, forget_after, readable_of};
+ghost use Rattle.hurd_trans_iface.specs.Meaning.{Meaning, root_of, begin_root_after, step_of, make_step, make_nameless_step, link_step, unlink_step, rename_step, set_attrs_step, set_passive_step, opened_after, forget_after, readable_of};
 
 use crate::names::Names;
 use crate::new_node::NewNode;
 use crate::readable::Readable;
 use crate::root::Root;
+use crate::words::Words;
 use hurd_creds::{Attrs, Bytes, Errno, Mode, NodeName, OpenFlags};
 use std::alloc::Global;
 
@@ -117,6 +118,17 @@ pub trait Server: Drop {
     /// Errors, in order: `EDIED` no such node, `EOPNOTSUPP` the server keeps no tree.
     fn set_attrs(&mut self, node: NodeName, owner: u32, group: u32, mode: Mode) -> Result<(), Errno>
         ensures { (result, meaning self.new) ≡ set_attrs_step node owner group mode (meaning self.old) };
+
+    /// The words of the passive translator of a node, lent, if the server has the node and there are any. Takes no memory.
+    fn passive(&self, node: NodeName) -> Option<&Words>
+        ensures { option_copied result ≡ passive_of (fin.get (meaning self.now).nodes node) };
+
+    /// Stores the words of a passive translator with a node, in place of those that were there; with no words there are none any more. Whether the node is the server's
+    /// root is for who asks. Takes no memory.
+    ///
+    /// Errors, in order: `EDIED` no such node, `EOPNOTSUPP` the server keeps no tree.
+    fn set_passive(&mut self, node: NodeName, words: Words) -> Result<(), Errno>
+        ensures { (result, meaning self.new) ≡ set_passive_step node words (meaning self.old) };
 
     /// Lets a node go that nothing keeps any more, if the server has it; what entries name it stays. Takes no memory.
     fn forget(&mut self, node: NodeName)

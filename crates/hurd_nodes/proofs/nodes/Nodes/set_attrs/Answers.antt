@@ -1,22 +1,23 @@
 use Rattle.std.proofs.Common.{refl}
 use Rattle.std.specs.FinMap as fin
-use Rattle.hurd_trans_iface.specs.Answers.{set_attrs_edits, set_attrs_of}
+use Rattle.hurd_trans_iface.specs.Answers.{set_attrs_edits, set_header_of}
+use Rattle.hurd_trans_iface.specs.Nodes.{with_attrs}
 use Rattle.hurd_trans_iface.specs.Meaning.{keeps_tree}
 use Rattle.hurd_nodes.proofs.HideLaws.{hides-sure}
-use Rattle.hurd_nodes.proofs.EditLaws.{set_attrs-shown, set_attrs-gone}
+use Rattle.hurd_nodes.proofs.EditLaws.{set_header-shown, set_header-gone}
 use Rattle.hurd_nodes.proofs.nodes.Nodes.set_attrs.Goals as goal
 
 pub returns-in-Some-clause-shown : goal.returns-in-Some-clause-shown
 returns-in-Some-clause-shown g c =
-    set_attrs-shown g.S.Server.meaning c.args.self.now c.args.node c.args.owner c.args.group c.args.mode c.in-Some.server.now c.set_attrs.new.self c.set_attrs.result c.in-Some.ensures.there c.set_attrs.ensures
+    set_header-shown g.S.Server.meaning c.args.self.now c.args.node (with_attrs c.args.owner c.args.group c.args.mode) c.in-Some.server.now c.set_attrs.new.self c.set_attrs.result c.in-Some.ensures.there c.set_attrs.ensures
 
 pub returns-in-None-clause-shown : goal.returns-in-None-clause-shown
-returns-in-None-clause-shown g c = set_attrs-gone g.S.Server.meaning c.args.self.now c.args.node c.args.owner c.args.group c.args.mode c.in-None.ensures.there
+returns-in-None-clause-shown g c = set_header-gone g.S.Server.meaning c.args.self.now c.args.node (with_attrs c.args.owner c.args.group c.args.mode) c.in-None.ensures.there
 
 pub returns-in-Some-clause-hidden : goal.returns-in-Some-clause-hidden
 returns-in-Some-clause-hidden g c =
     let f = g.S.Server.meaning in
     let m = f c.in-Some.server.now in
-    let answer = set_attrs_of (keeps_tree m.kind) (fin.get m.nodes c.args.node) in
+    let answer = set_header_of (keeps_tree m.kind) (fin.get m.nodes c.args.node) in
     let edits = set_attrs_edits c.args.node c.args.owner c.args.group c.args.mode in
     hides-sure f c.args.self.now c.args.node c.in-Some.server.now c.set_attrs.new.self c.in-Some.ensures.there answer edits refl c.set_attrs.result c.set_attrs.ensures

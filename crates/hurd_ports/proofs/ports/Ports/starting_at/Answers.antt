@@ -19,7 +19,7 @@ loop-ids-preserved c = record {
   all = grind (arith, common_steps);
   seats =
       let empty =
-      ap₂ (λ (ps : List Port) (rs : List Right). let x : Task = record { ids = c.in-Some.ids; ports = ps; next = c.args.next; inbox = rs; made = 0 } in x) c.new.ensures.items c.new-in-loop-ids.ensures.items in
+      ap₂ (λ (ps : List Port) (rs : List Right). let x : Task = record { ids = c.in-Some.ids; ports = ps; next = c.args.next; inbox = rs; made = 0; pending = None } in x) c.new.ensures.items c.new-in-loop-ids.ensures.items in
       rw (c.push_reserved.ensures.items) (seat-pushed c.loop-ids.seats.items _ c.loop-ids.yielded c.in-Some.ids c.args.next c.loop-ids.invariant.seats empty);
   room = omega (arith, c.in-Some.ensures.steps.1);
 }

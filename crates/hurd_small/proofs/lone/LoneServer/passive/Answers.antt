@@ -1,0 +1,5 @@
+use Rattle.hurd_small.proofs.LoneLaws.{passive-none}
+use Rattle.hurd_small.proofs.lone.LoneServer.passive.Goals as goal
+
+pub returns : goal.returns
+returns g c = let s = c.args.self.now in passive-none g.S.Single.kind (g.S.Single.text s.single) s.presence c.args._node

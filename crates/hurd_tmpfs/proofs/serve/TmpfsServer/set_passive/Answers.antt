@@ -1,0 +1,19 @@
+use Rattle.std.proofs.Common.{refl}
+use Rattle.hurd_creds.proofs.KeyedLaws.{get-found, get-absent, keyed-edited}
+use Rattle.hurd_trans_iface.specs.Nodes.{with_passive, with_header}
+use Rattle.hurd_tmpfs.specs.Tree.{key_of, node_of, tree}
+use Rattle.hurd_tmpfs.proofs.StepLaws.{header-set, header-nowhere}
+use Rattle.hurd_tmpfs.proofs.serve.TmpfsServer.set_passive.Goals as goal
+
+pub returns-in-Some : goal.returns-in-Some
+returns-in-Some c =
+    let there = rw c.deref.ensures.value at c.in-Some.ensures.is in
+    let is = c.index_mut.ensures.value in
+    let found = get-found key_of node_of c.args.node c.args.self.now.nodes.items c.in-Some.i c.index_mut.result.now there is in
+    let changed = keyed-edited key_of node_of c.args.node c.args.self.now.nodes.items c.in-Some.i c.index_mut.result.now c.set_passive.new.self (with_header (with_passive c.args.words)) there is c.set_passive.ensures.name c.set_passive.ensures.is in
+    header-set (tree c.args.self.now) c.args.node (with_passive c.args.words) (node_of c.index_mut.result.now) _ refl found changed
+
+pub returns-in-None : goal.returns-in-None
+returns-in-None c =
+    header-nowhere (tree c.args.self.now) c.args.node (with_passive c.args.words)
+    (get-absent key_of node_of c.args.node c.args.self.now.nodes.items (rw c.deref.ensures.value at c.in-None.ensures.is))
