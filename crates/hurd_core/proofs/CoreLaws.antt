@@ -5,15 +5,14 @@ use Rattle.std.specs.FinMap.{retain_keys}
 use Rattle.hurd_nodes.specs.declared.seat.Hold.{Hold}
 use Rattle.hurd_nodes.specs.declared.seat.Hold.TheVariants as hold
 use Rattle.hurd_creds.specs.declared.name.Name.{Name}
-use Rattle.hurd_creds.specs.declared.mode.Mode.{Mode}
 use Rattle.hurd_creds.specs.declared.errno.Errno.{Errno}
 use Rattle.hurd_creds.specs.declared.errno.Errno.TheVariants.{ENOMEM, EOVERFLOW, ESRCH}
 use Rattle.hurd_creds.specs.declared.open_flags.OpenFlags.{OpenFlags}
 use Rattle.hurd_creds.specs.Access.{IdSets}
 use Rattle.hurd_creds.specs.Memory.{Meets}
-use Rattle.hurd_trans_iface.specs.Nodes.{with_attrs}
-use Rattle.hurd_trans_iface.specs.Answers.{set_attrs_edits, edits_if}
-use Rattle.hurd_nodes.specs.Shown.{NodeState, with_edits, can_set_attrs, set_attrs_at}
+use Rattle.hurd_trans_iface.specs.Nodes.{Header, OnHeader}
+use Rattle.hurd_trans_iface.specs.Answers.{edits_if}
+use Rattle.hurd_nodes.specs.Shown.{NodeState, with_edits, can_set_attrs}
 use Rattle.hurd_ports.specs.declared.parents.Parent.{Parent}
 use Rattle.hurd_ports.specs.declared.table.Right.{Right}
 use Rattle.hurd_nodes.specs.Settle as kept
@@ -29,16 +28,16 @@ use Rattle.hurd_machine.proofs.Tasks.{edit_here as task_here}
 use Rattle.hurd_core.specs.Core.{Does, HoldsRights, holds_of, holds_of_ways, naming_asks, room_asks}
 use Rattle.hurd_core.proofs.HoldLaws.{outside_named, holds_named, holds_opened, holds_dropped}
 
--- owner, group and mode of a node set
+-- the header of a node changed, as where owner, group and mode are set, or words stored
 module _ (N : NodeState) (H : PortState) where
-  pub attrs-follow : (n : Name) (owner group : ℕ) (mode : Mode) (r : Result (Unit {0}) Errno) (M : NodeState) → (r, M) ≡ set_attrs_at n owner group mode N
-      → Follows (world_from N H) (answered (can_set_attrs n N) (λ u. record { reply = Done; changes = EditHeader n (with_attrs owner group mode) ∷ [] })) (told (λ u. Done) r) (world_from M H)
+  pub header-follow : (n : Name) (f : Header → Header) (r : Result (Unit {0}) Errno) (M : NodeState) → ◌≡◌ {A = Result (Unit {0}) Errno × NodeState} (r, M) (can_set_attrs n N, with_edits (edits_if (can_set_attrs n N) (OnHeader n f ∷ [])) N)
+      → Follows (world_from N H) (answered (can_set_attrs n N) (λ u. record { reply = Done; changes = EditHeader n f ∷ [] })) (told (λ u. Done) r) (world_from M H)
   unfolding answered
-  attrs-follow n owner group mode r M e = by (can_set_attrs n N) e
+  header-follow n f r M e = by (can_set_attrs n N) e
     where
-      by : (a : Result (Unit {0}) Errno) → ◌≡◌ {A = Result (Unit {0}) Errno × NodeState} (r, M) (a, with_edits (edits_if a (set_attrs_edits n owner group mode)) N)
-          → Follows (world_from N H) (answered a (λ u. record { reply = Done; changes = EditHeader n (with_attrs owner group mode) ∷ [] })) (told (λ u. Done) r) (world_from M H)
-      by (Err f) h = (ap (λ (z : Result (Unit {0}) Errno × NodeState). told (λ u. Done) z.0) h, ap (λ (z : Result (Unit {0}) Errno × NodeState). world_from z.1 H) h)
+      by : (a : Result (Unit {0}) Errno) → ◌≡◌ {A = Result (Unit {0}) Errno × NodeState} (r, M) (a, with_edits (edits_if a (OnHeader n f ∷ [])) N)
+          → Follows (world_from N H) (answered a (λ u. record { reply = Done; changes = EditHeader n f ∷ [] })) (told (λ u. Done) r) (world_from M H)
+      by (Err g) h = (ap (λ (z : Result (Unit {0}) Errno × NodeState). told (λ u. Done) z.0) h, ap (λ (z : Result (Unit {0}) Errno × NodeState). world_from z.1 H) h)
       by (Ok u) h = (ap (λ (z : Result (Unit {0}) Errno × NodeState). told (λ u. Done) z.0) h, ap (λ (z : Result (Unit {0}) Errno × NodeState). world_from z.1 H) h)
 
 module _ (N : NodeState) (H : PortState) (t : ℕ) where

@@ -3,14 +3,14 @@ ghost use Rattle.std.specs.Prelude.{◌≡◌, [], ◌∷◌, Ok, IfErr, IfOk, o
 ghost use Rattle.std.specs.Option.{option_map};
 ghost use Rattle.std.specs.FinMap as fin;
 ghost use Rattle.hurd_creds.specs.Memory.{Meets};
-ghost use Rattle.hurd_trans_iface.specs.Nodes.{attrs_of, linked, with_attrs, with_entry};
+ghost use Rattle.hurd_trans_iface.specs.Nodes.{attrs_of, linked, passive_of, with_attrs, with_entry, with_passive};
 ghost use Rattle.hurd_trans_iface.specs.Answers.{entry_of, names_of};
 ghost use Rattle.hurd_trans_iface.specs.Behaviour.{edits_of, reading, writing, resizing};
 ghost use Rattle.hurd_trans_iface.specs.Meaning.{Begins, root_of};
 ghost use Rattle.hurd_nodes.specs.Shown.{ServerInfo, are_kin, shown, header_in, tree_by};
 ghost use Rattle.hurd_ports.specs.Tables.{ids_at, io_right_of, lent, right_of, room_of, task_of};
 ghost use Rattle.hurd_ports.specs.Steps.{appending, at_cursor, received, with_ids, with_port};
-ghost use Rattle.hurd_machine.specs.World.{world_from, ports_of, active_at, asked_at, body_at, header_at, home_at, info_at, is_removed, is_server_root, links_at, makes_at, readable_at, renames_at, server_at, sets_attrs_at, stream_at, task_at, unlinks_at};
+ghost use Rattle.hurd_machine.specs.World.{world_from, ports_of, active_at, asked_at, body_at, header_at, home_at, info_at, is_removed, is_server_root, links_at, makes_at, node_at,  readable_at, renames_at, server_at, sets_attrs_at, stream_at, task_at, unlinks_at, words_at};
 ghost use Rattle.hurd_machine.specs.Sight.{users};
 ghost use Rattle.hurd_machine.specs.Change.{DropServer, EditBody, EditHeader, EditOpen, EditTask, Send, Settle, Unseat, apply, apply_all, changes_of, dropping, opening};
 ghost use Rattle.hurd_machine.specs.Plan.{Follows, answered, told};
@@ -19,7 +19,7 @@ ghost use Rattle.hurd_machine.specs.declared.call.Reply.TheVariants.{Done};
 ghost use Rattle.hurd_core.specs.Core.{Does, HoldsRights, attaching, naming_asks, without_box, making_asks, making_dir, making_dir_asks, making_open, receive_asks, room_asks, send_asks, unlinking, world_of, asked_only, making_nameless, making_nameless_asks, renaming};
 ghost use Rattle.hurd_core.specs.Control.{control_of};
 ghost use Rattle.hurd_core.specs.ToMake.{new_node_of};
-ghost use Rattle.hurd_core.specs.PortNode.{IsTold, both_named, named};
+ghost use Rattle.hurd_core.specs.PortNode.{IsTold, both_named, header_with, named};
 
 use crate::holds::{hold_io, hold_right, holds_by, holds_of, release_right};
 use crate::port_node::PortNode;
@@ -30,7 +30,7 @@ use hurd_creds::{
 use hurd_machine::Handle;
 use hurd_nodes::Nodes;
 use hurd_ports::{IoRight, Parents, Ports, Right};
-use hurd_trans_iface::{Names, NewNode, Root, Server};
+use hurd_trans_iface::{Names, NewNode, Root, Server, Words};
 use std::alloc::Global;
 use std::marker::Model;
 
@@ -97,7 +97,12 @@ impl<S: Server> Core<S> {
         let Some(attrs) = self.nodes.attrs(right.node) else {
             return Err(Errno::EDIED);
         };
-        Ok(PortNode { right, attrs })
+        let words = self.nodes.passive(right.node);
+        Ok(PortNode {
+            right,
+            attrs,
+            words,
+        })
     }
 
     /// The rights of two ports of a task, with the attributes of their nodes.
@@ -122,10 +127,15 @@ impl<S: Server> Core<S> {
         let Some(others) = self.nodes.attrs(second.node) else {
             return Err(Errno::EDIED);
         };
-        let first = PortNode { right, attrs };
+        let first = PortNode {
+            right,
+            attrs,
+            words: self.nodes.passive(right.node),
+        };
         let second = PortNode {
             right: second,
             attrs: others,
+            words: self.nodes.passive(second.node),
         };
         Ok((first, second))
     }
@@ -176,9 +186,16 @@ impl<S: Server> Core<S> {
     /// The attributes of a node, if it is there.
     pub fn attrs(&self, node: NodeName) -> Option<Attrs>
         ensures all { result ≡ option_map attrs_of (fin.get (world_of S.meaning self.now).nodes node) }
-        ensures header { option_map header_in result ≡ header_at (world_of S.meaning self.now) node }
+        ensures header { let w = world_of S.meaning self.now in option_map (header_with (words_at w node)) result ≡ header_at w node }
     {
         self.nodes.attrs(node)
+    }
+
+    /// The words of the passive translator of a node, if the node is there and has any.
+    pub fn passive(&self, node: NodeName) -> Option<&Words>
+        ensures { option_copied result ≡ passive_of (node_at (world_of S.meaning self.now) node) }
+    {
+        self.nodes.passive(node)
     }
 
     /// The server of a node, if the node is there.
@@ -655,5 +672,16 @@ impl<S: Server> Core<S> {
             (told (λ u. Done) result) (world_of S.meaning self.new) }
     {
         self.nodes.set_attrs(node, owner, group, mode)
+    }
+
+    /// Stores the words of a passive translator with a node, in place of those that were there; with no words there are none any more. Takes no memory.
+    ///
+    /// Errors, in order: those of `can_set_attrs`.
+    pub fn set_passive(&mut self, node: NodeName, words: Words) -> Result<(), Errno>
+        ensures { let w = world_of S.meaning self.old in
+            Follows w (answered (sets_attrs_at w node) (λ u. record { reply = Done; changes = EditHeader node (with_passive words) ∷ [] }))
+            (told (λ u. Done) result) (world_of S.meaning self.new) }
+    {
+        self.nodes.set_passive(node, words)
     }
 }

@@ -54,6 +54,15 @@ header_at w n = option_map (λ x. x.header) (get w.nodes n)
 abbrev pub body_at : World → Name → Option Body
 body_at w n = option_map (λ x. x.body) (get w.nodes n)
 
+-- the words of a passive translator that are stored with a node; none where it is gone
+
+abbrev pub words_in : Option Node → List (List ℕ)
+words_in None = []
+words_in (Some x) = x.header.passive
+
+abbrev pub words_at : World → Name → List (List ℕ)
+words_at w n = words_in (get w.nodes n)
+
 -- the server of a node
 abbrev pub home_at : World → Name → Option Name
 home_at w n = get w.homes n
