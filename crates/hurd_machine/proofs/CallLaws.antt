@@ -8,7 +8,7 @@ use Rattle.hurd_ports.specs.declared.table.Right.TheVariants.{Control}
 use Rattle.hurd_ports.specs.Tables.{Task}
 use Rattle.hurd_machine.specs.World.{World, nodes_of, task_at}
 use Rattle.hurd_machine.specs.Calls.{Reply}
-use Rattle.hurd_machine.specs.declared.call.Reply.TheVariants.{Done, Found, Port, Data, Count, Names, Stat, Modes, Same, Refused, Back}
+use Rattle.hurd_machine.specs.declared.call.Reply.TheVariants.{Done, Found, Port, Data, Count, Names, Words, Stat, Modes, Same, Refused, Back}
 use Rattle.hurd_machine.specs.Plan.{Plan, answered, looks, is_refused, after_plan, handing_back, returning}
 use Rattle.hurd_trans_iface.specs.Meaning.{Meaning}
 use Rattle.hurd_machine.specs.Sight.{Part, AttrOf, EmptyOf, BodyOf, OpenOf, OptionsOf, UsersOf, TaskOf, Seen, Sees, Knows, OfNode, OfSeat, OfControl, SameView}
@@ -89,6 +89,7 @@ handed_plain m (Port p) out = out
 handed_plain m (Data bytes) out = out
 handed_plain m (Count count) out = out
 handed_plain m (Names names) out = out
+handed_plain m (Words words) out = out
 handed_plain m (Stat stat) out = out
 handed_plain m (Modes flags) out = out
 handed_plain m (Same same) out = out

@@ -8,7 +8,7 @@ use Rattle.hurd_trans_iface.specs.Meaning.{Meaning, Begins}
 use Rattle.hurd_machine.specs.declared.call.Call as code
 use Rattle.hurd_machine.specs.declared.call.Call.TheVariants.{FileSetTranslator}
 use Rattle.hurd_machine.specs.declared.call.Reply as code_reply
-use Rattle.hurd_machine.specs.declared.call.Reply.TheVariants.{Done, Found, Port, Data, Count, Names, Stat, Modes, Same, Refused, Back}
+use Rattle.hurd_machine.specs.declared.call.Reply.TheVariants.{Done, Found, Port, Data, Count, Names, Words, Stat, Modes, Same, Refused, Back}
 use Rattle.hurd_machine.specs.declared.call.Setting.{Setting}
 use Rattle.hurd_machine.specs.Calls.{Call, Reply, box_in, call_by, refusal, reply_by}
 use Rattle.hurd_machine.specs.World.{World}
@@ -59,6 +59,7 @@ module _ {S : Type 0} (f : S → Meaning) (v w : World) (t : ℕ) (call : code.C
   kept_refused m (Data bytes) is = is
   kept_refused m (Count count) is = is
   kept_refused m (Names names) is = is
+  kept_refused m (Words words) is = is
   kept_refused m (Stat stat) is = is
   kept_refused m (Modes flags) is = is
   kept_refused m (Same same) is = is
