@@ -5,7 +5,7 @@ use Rattle.hurd_creds.specs.declared.name.Name.{Name}
 use Rattle.hurd_creds.specs.declared.attrs.Kind.TheVariants.{File}
 use Rattle.hurd_creds.specs.declared.errno.Errno.{Errno}
 use Rattle.hurd_creds.specs.declared.errno.Errno.TheVariants.{ENOMEM}
-use Rattle.hurd_trans_iface.specs.Nodes.{Node}
+use Rattle.hurd_trans_iface.specs.Nodes.{Node, passive_of}
 use Rattle.hurd_trans_iface.specs.Meaning.{Symlink}
 use Rattle.hurd_nodes.specs.Shown.{ServerInfo}
 use Rattle.hurd_ports.specs.Limits.{most_parents}
@@ -13,7 +13,7 @@ use Rattle.hurd_ports.specs.declared.parents.Parent.{Parent}
 use Rattle.hurd_ports.specs.declared.table.IoRight.{IoRight}
 use Rattle.hurd_machine.specs.declared.call.RetryKind.{RetryKind}
 use Rattle.hurd_machine.specs.declared.call.RetryKind.TheVariants.{Normal, Reauth, Magical}
-use Rattle.hurd_machine.specs.World.{World, home_at, info_at, makes_at, node_at}
+use Rattle.hurd_machine.specs.World.{World, home_at, info_at, makes_at, node_at, words_at}
 use Rattle.hurd_core.specs.Core.{NewNodeAt}
 use Rattle.hurd_core.specs.ToMake.{new_node_of}
 use Rattle.hurd_lookup.specs.declared.authority.Authority.{Authority}
@@ -22,6 +22,8 @@ use Rattle.hurd_lookup.specs.declared.retry.Link.{Link}
 use Rattle.hurd_lookup.specs.declared.retry.Onward.{Onward}
 use Rattle.hurd_lookup.specs.declared.retry.Onward.TheVariants.{Within, Back, Beside, FromTop}
 use Rattle.hurd_lookup.specs.declared.retry.Retry.{Retry}
+use Rattle.hurd_lookup.specs.declared.cross.Crossed as across
+use Rattle.hurd_lookup.specs.declared.cross.Crossed.TheVariants as crossed
 use Rattle.hurd_lookup.specs.declared.walk.Place as code
 use Rattle.hurd_lookup.specs.declared.walk.Place.TheVariants as place
 use Rattle.hurd_lookup.specs.declared.walk.Step.{Step}
@@ -34,7 +36,7 @@ use Rattle.hurd_lookup.specs.declared.found.Ready.TheVariants as ready
 use Rattle.hurd_lookup.specs.declared.getroot.Entrance as entrance
 use Rattle.hurd_lookup.specs.Getroot.{Entrance}
 use Rattle.hurd_lookup.specs.Path.{names_in, onto, rest_of}
-use Rattle.hurd_lookup.specs.Lookup.{Place, AtNode, AtName, Elsewhere, NewPort, Outcome, Opens, Makes, Retries, ending_asks, no_ids}
+use Rattle.hurd_lookup.specs.Lookup.{Place, AtNode, AtName, Elsewhere, NewPort, Outcome, Opens, Makes, Retries, Starts, Waits, Crossed, Active, Waiting, ending_asks, no_ids}
 
 -- ports
 
@@ -127,18 +129,29 @@ HasRoom q entered = IfSome entered (λ way. length q.parents < most_parents)
 abbrev pub Leads : World → IoRight → Onward → Type 0
 Leads w q o = HasRoom q (way_of o) × IfSome (link_of o) (IsLink w)
 
+-- what is crossed at a node
+abbrev pub crossed_of : World → Name → across.Crossed → Crossed
+crossed_of w n (crossed.Active root) = Active root
+crossed_of w n crossed.Waiting = Waiting (words_at w n)
+
+-- a translator waits on a node: there are words
+abbrev pub HasWords : World → Name → Type 0
+HasWords w n = passive_of (node_at w n) ≡ Some (words_at w n)
+
 -- places
 
 abbrev pub place_of : World → IoRight → code.Place → Place
 place_of w q (place.AtNode n entered) = AtNode n (ways_by entered q.parents)
 place_of w q (place.AtName d name) = AtName d name.now
 place_of w q (place.Elsewhere e) = Elsewhere (kind_of e.onward) (name_of w e) (port_by q e.onward)
+place_of w q (place.Waits n) = Waits n (words_at w n)
 
 -- it can be gone on from there
 abbrev pub CanGo : World → IoRight → code.Place → Type 0
 CanGo w q (place.AtNode n entered) = HasRoom q entered
 CanGo w q (place.AtName d name) = Unit {0}
 CanGo w q (place.Elsewhere e) = Leads w q e.onward
+CanGo w q (place.Waits n) = HasWords w n
 
 -- an answer is the one that is wanted, by what it stands for; and this holds of it
 abbrev pub Finds : {A B : Type 0} → (B → A) → (B → Type 0) → Result A Errno → Result B Errno → Type 0
@@ -157,6 +170,7 @@ abbrev pub outcome_of : World → IoRight → end.Outcome → Outcome
 outcome_of w q (outcome.Opens n entered) = Opens (record { node = n; ids = q.ids; parents = ways_by entered q.parents })
 outcome_of w q (outcome.Makes s f) = Makes s (new_node_of f) q.ids q.parents
 outcome_of w q (outcome.Retries e) = Retries (kind_of e.onward) (name_of w e) (port_by q e.onward)
+outcome_of w q (outcome.Starts n) = Starts (record { node = n; words = words_at w n })
 
 -- opening is refused, or a port is made
 abbrev pub opened : NewPort → Result (Unit {0}) Errno → Result Outcome Errno
@@ -172,6 +186,7 @@ abbrev pub CanEnd : World → IoRight → end.Outcome → Type 0
 CanEnd w q (outcome.Opens n entered) = HasRoom q entered
 CanEnd w q (outcome.Makes s f) = MayMake w s (new_node_of f)
 CanEnd w q (outcome.Retries e) = Leads w q e.onward
+CanEnd w q (outcome.Starts n) = HasWords w n
 
 abbrev pub found_of : World → FoundAt → Outcome
 found_of w f = outcome_of w (right_by f.authority) f.outcome
@@ -187,12 +202,14 @@ abbrev pub ready_of : World → Ready → Outcome
 ready_of w (ready.Opens e) = Opens (port_of e)
 ready_of w (ready.Makes s f ids ways) = Makes s (new_node_of f) ids ways
 ready_of w (ready.Retries e at) = retry_of w e at
+ready_of w (ready.Starts s words) = Starts s
 
 -- it can be done
 abbrev pub IsReady : World → Ready → Type 0
 IsReady w (ready.Opens e) = Unit {0}
 IsReady w (ready.Makes s f ids ways) = MayMake w s (new_node_of f)
 IsReady w (ready.Retries e at) = IfSome (link_of e.onward) (IsLink w)
+IsReady w (ready.Starts s words) = words ≡ s.words
 
 -- it is ready where the task has room for its port; else it is refused, or finds no memory
 abbrev pub Readies : World → ℕ → Outcome → Result Ready Errno → Type 0

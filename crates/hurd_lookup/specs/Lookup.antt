@@ -1,5 +1,5 @@
 -- One lookup: where the names lead, and what is opened or made there, or looked up elsewhere.
-use Rattle.std.specs.Prelude.{◌≡◌, ◌⊎◌, ℕ, ◌&&◌, ◌||◌, not, Bool, true, false, if◌then◌else◌, List, [], ◌∷◌, codes, Option, Some, None, Result, Ok, Err, length, nat_le, option_and_then}
+use Rattle.std.specs.Prelude.{◌≡◌, ◌⊎◌, ℕ, ◌&&◌, ◌||◌, not, Bool, true, false, if◌then◌else◌, List, [], ◌∷◌, codes, Option, Some, None, Result, Ok, Err, length, nat_le, is_some, option_and_then}
 use Rattle.std.specs.Str.{bytes_eq}
 use Rattle.std.specs.Option.{option_map}
 use Rattle.std.specs.FinSet as set
@@ -14,7 +14,7 @@ use Rattle.hurd_creds.specs.declared.errno.Errno.TheVariants.{EACCES, EDIED, EEX
 use Rattle.hurd_creds.specs.Access.{IdSets, may, least_uid}
 use Rattle.hurd_creds.specs.Bits.{asks, known_mode, open_modes, READ, WRITE, EXEC, CREATE, EXCL, NOTRANS, NOLINK, DIRECTORY}
 use Rattle.hurd_creds.specs.Names.{same_name}
-use Rattle.hurd_trans_iface.specs.Nodes.{Header, is_dir}
+use Rattle.hurd_trans_iface.specs.Nodes.{Header, is_dir, passive_of}
 use Rattle.hurd_trans_iface.specs.Answers.{entry_of}
 use Rattle.hurd_trans_iface.specs.Meaning.{root_of}
 use Rattle.hurd_trans_iface.specs.declared.root.Crossing.{Crossing}
@@ -23,14 +23,15 @@ use Rattle.hurd_nodes.specs.Shown.{ServerInfo}
 use Rattle.hurd_ports.specs.Limits.{most_parents}
 use Rattle.hurd_ports.specs.declared.parents.Parent.{Parent}
 use Rattle.hurd_ports.specs.declared.table.IoRight.{IoRight}
+use Rattle.hurd_ports.specs.declared.table.PendingStart.{PendingStart}
 use Rattle.hurd_ports.specs.Tables.{Task, io_right_of}
 use Rattle.hurd_machine.specs.declared.call.Lookup.{Lookup}
 use Rattle.hurd_machine.specs.declared.call.Lookup.TheVariants as found
 use Rattle.hurd_machine.specs.declared.call.RetryKind.{RetryKind}
 use Rattle.hurd_machine.specs.declared.call.RetryKind.TheVariants.{Normal, Reauth, Magical}
 use Rattle.hurd_machine.specs.declared.call.Reply.TheVariants.{Found}
-use Rattle.hurd_machine.specs.World.{World, ports_of, task_at, header_at, body_at, home_at, active_at, server_at, info_at, is_removed, is_server_root, makes_at}
-use Rattle.hurd_machine.specs.Change.{Change, opening}
+use Rattle.hurd_machine.specs.World.{World, ports_of, task_at, node_at, header_at, body_at, home_at, active_at, server_at, info_at, is_removed, is_server_root, makes_at}
+use Rattle.hurd_machine.specs.Change.{Change, opening, pending}
 use Rattle.hurd_machine.specs.Plan.{Plan, on, given, first, answered}
 use Rattle.hurd_machine.specs.Sight.{Part, EmptyOf, BodyOf, UsersOf, bare}
 use Rattle.hurd_machine.specs.Touched.{asked_parts, OnNode}
@@ -51,6 +52,7 @@ pub data Place : Type 0 where
   AtNode : Name → List Parent → Place  -- a node that is opened, come in by these ways
   AtName : Name → List ℕ → Place  -- a name in a directory, under which a file is to be made
   Elsewhere : RetryKind → List ℕ → Option NewPort → Place  -- a name that is looked up in another lookup
+  Waits : Name → List (List ℕ) → Place  -- a node on which a translator waits that is to be started first, by these words
 
 -- along the names
 
@@ -153,19 +155,33 @@ cross w q r d root names = first (root_asks w root) (λ i. crossing (root_of i.k
 abbrev pub root_on : World → Name → Option Name
 root_on w n = option_and_then (λ s. option_map (λ (i : ServerInfo). i.root) (server_at w s)) (active_at w n)
 
--- what is to be crossed at a node: nothing at the last one with NOTRANS
-abbrev pub to_cross : World → Request → Name → List (List ℕ) → Option Name
-to_cross w r n names = if is_last names && asks r.flags NOTRANS then None else root_on w n
+-- what is crossed at a node
+pub data Crossed : Type 0 where
+  Active : Name → Crossed  -- the server that is active there, by its root
+  Waiting : List (List ℕ) → Crossed  -- a translator that waits there to be started, by these words
 
--- onward at a node, or across what is active on it
-abbrev pub over : World → IoRight → Request → Name → Option Name → List (List ℕ) → Result Place Errno → Result Place Errno
-over w q r d None names onward = onward
-over w q r d (Some root) names onward = given EEXIST (not (is_last names && is_exclusive r)) (cross w q r d root names)
+-- what is there to cross: the server that is active on a node, or else the translator that waits there, if one does
+abbrev pub crossed_at : World → Name → Option Crossed
+crossed_at w n = if is_some (active_at w n) then option_map Active (root_on w n) else option_map Waiting (passive_of (node_at w n))
+
+-- what is to be crossed at a node: nothing at the last one with NOTRANS
+abbrev pub to_cross : World → Request → Name → List (List ℕ) → Option Crossed
+to_cross w r n names = if is_last names && asks r.flags NOTRANS then None else crossed_at w n
+
+-- across what is there, at a node of this directory
+abbrev pub across : World → IoRight → Request → Name → Name → Crossed → List (List ℕ) → Result Place Errno
+across w q r d n (Active root) names = cross w q r d root names
+across w q r d n (Waiting words) names = Ok (Waits n words)
+
+-- onward at a node, or across what is there
+abbrev pub over : World → IoRight → Request → Name → Name → Option Crossed → List (List ℕ) → Result Place Errno → Result Place Errno
+over w q r d n None names onward = onward
+over w q r d n (Some c) names onward = given EEXIST (not (is_last names && is_exclusive r)) (across w q r d n c names)
 
 -- after one name: on at the node that it led to, or it is missed
 abbrev pub stepped : World → IoRight → Request → Name → List ℕ → List (List ℕ) → (Name → Result Place Errno) → Next → Result Place Errno
 stepped w q r d name names onward (There n) = onward n
-stepped w q r d name names onward (Entry n) = over w q r d (to_cross w r n names) names (onward n)
+stepped w q r d name names onward (Entry n) = over w q r d n (to_cross w r n names) names (onward n)
 stepped w q r d name names onward Back = go_back w r names q.parents
 stepped w q r d name names onward Absent = miss r d name (is_last names)
 
@@ -176,11 +192,13 @@ walk w q r d (name ∷ names) = first (step_asks w q d name) (stepped w q r d na
 
 -- at their end
 
--- what is to be done: a node is opened; a file is made by a server, and opened; or a name is looked up elsewhere
+-- what is to be done: a node is opened; a file is made by a server, and opened; a name is looked up elsewhere; or a translator is to be started
+-- first, which waits on a node
 pub data Outcome : Type 0 where
   Opens : NewPort → Outcome
   Makes : Name → NewNodeAt → IdSets → List Parent → Outcome
   Retries : RetryKind → List ℕ → Option NewPort → Outcome
+  Starts : PendingStart → Outcome
 
 -- the ids may do what the flags ask for
 abbrev pub may_open : IdSets → Header → OpenFlags → Bool
@@ -221,6 +239,7 @@ abbrev pub end_asks : World → IoRight → Request → Place → Result Outcome
 end_asks w q r (AtNode n ways) = open_asks w q.ids r n ways
 end_asks w q r (AtName d name) = make_asks w q r d name
 end_asks w q r (Elsewhere kind name at) = Ok (Retries kind name at)
+end_asks w q r (Waits n words) = Ok (Starts (record { node = n; words = words }))
 
 -- a lookup, whole
 
@@ -232,6 +251,7 @@ names_taken _ = 1
 -- the task, where it can number the port that is to be made, if one is
 abbrev pub ending_asks : World → ℕ → Outcome → Result Task Errno
 ending_asks w t (Retries kind name None) = on ESRCH (task_at w t) (λ x. Ok x)
+ending_asks w t (Starts s) = on ESRCH (task_at w t) (λ x. Ok x)
 ending_asks w t o = room_asks w t (names_taken o)
 
 -- what is asked for, by the flags and by the path
@@ -259,15 +279,17 @@ abbrev pub retry_changes : ℕ → Task → Option NewPort → List Change
 retry_changes t x None = []
 retry_changes t x (Some e) = opening t x e.node e.ids e.parents no_modes
 
--- what is opened, or made and opened
+-- what is opened, or made and opened, or what the task is to start from now on
 abbrev pub lookup_changes : ℕ → Task → OpenFlags → Outcome → List Change
 lookup_changes t x modes (Opens e) = opening t x e.node e.ids e.parents modes
 lookup_changes t x modes (Makes s f ids ways) = making_open t f ids ways modes (x, s)
 lookup_changes t x modes (Retries kind name at) = retry_changes t x at
+lookup_changes t x modes (Starts s) = pending t (Some s)
 
--- what is told: the port, or the name that is looked up elsewhere
+-- what is told: the port, the name that is looked up elsewhere, or the words of what is to be started
 abbrev pub lookup_told : Task → Outcome → Lookup
 lookup_told x (Retries kind name at) = found.Retry kind name (option_map (λ e. x.next) at)
+lookup_told x (Starts s) = found.Start s.words
 lookup_told x o = found.Done x.next
 
 -- the users of the server of what gets a port; what is made also changes its directory
@@ -280,6 +302,7 @@ abbrev pub lookup_parts : World → Outcome → Part → Type 0
 lookup_parts w (Opens e) p = OnNode w e.node p
 lookup_parts w (Makes s f ids ways) p = (p ≡ UsersOf s) ⊎ ((p ≡ BodyOf f.dir) ⊎ (p ≡ EmptyOf f.dir))
 lookup_parts w (Retries kind name at) p = port_parts w at p
+lookup_parts w (Starts s) p = ⊥
 
 -- the plan of what a lookup found
 abbrev pub finding : World → ℕ → OpenFlags → Result Outcome Errno → Plan

@@ -1,12 +1,13 @@
 //! Crossing the servers that are active on nodes.
 ghost use Rattle.std.specs.Prelude.{◌≡◌, ◌&&◌};
+ghost use Rattle.std.specs.Option.{option_map};
 ghost use Rattle.hurd_creds.specs.Bits.{NOLINK, asks};
 ghost use Rattle.hurd_machine.specs.World.{World};
 ghost use Rattle.hurd_ports.specs.declared.table.IoRight.{IoRight};
 ghost use Rattle.hurd_core.specs.Core.{world_of};
 ghost use Rattle.hurd_lookup.specs.Path.{names_in};
-ghost use Rattle.hurd_lookup.specs.Lookup.{cross, enter, follow, is_last, root_on, to_cross};
-ghost use Rattle.hurd_lookup.specs.Ends.{CanGo, Finds, IsLink, place_of, right_by, text_at};
+ghost use Rattle.hurd_lookup.specs.Lookup.{cross, crossed_at, enter, follow, is_last, root_on, to_cross};
+ghost use Rattle.hurd_lookup.specs.Ends.{CanGo, Finds, IsLink, crossed_of, place_of, right_by, text_at};
 
 use crate::authority::Authority;
 use crate::request::Request;
@@ -28,19 +29,40 @@ fn root_on<S: Server>(core: &Core<S>, node: NodeName) -> Option<NodeName>
     }
 }
 
-/// The root that is to be crossed at a node, before what is left of the path: none at the last node with `NOTRANS`.
+/// What is crossed at a node.
+#[derive(Clone, Copy, Debug, PartialEq, Eq)]
+pub(crate) enum Crossed {
+    /// The server that is active there, by its root.
+    Active(NodeName),
+    /// A translator that waits there to be started.
+    Waiting,
+}
+
+/// What there is to cross at a node: the server that is active there, or else the translator that waits there, if one does.
+fn crossed_at<S: Server>(core: &Core<S>, node: NodeName) -> Option<Crossed>
+    ensures { let w = world_of S.meaning core.now in option_map (crossed_of w node) result ≡ crossed_at w node }
+{
+    if core.active(node).is_some() {
+        let root = root_on(core, node)?;
+        return Some(Crossed::Active(root));
+    }
+    core.passive(node)?;
+    Some(Crossed::Waiting)
+}
+
+/// What is to be crossed at a node, before what is left of the path: nothing at the last node with `NOTRANS`.
 pub(crate) fn to_cross<S: Server>(
     core: &Core<S>,
     request: Request,
     node: NodeName,
     rest: &[u8],
-) -> Option<NodeName>
-    ensures { result ≡ to_cross (world_of S.meaning core.now) request node (names_in rest.now) }
+) -> Option<Crossed>
+    ensures { let w = world_of S.meaning core.now in option_map (crossed_of w node) result ≡ to_cross w request node (names_in rest.now) }
 {
     if is_last(rest) && request.flags.asks(OpenFlags::NOTRANS) {
         None
     } else {
-        root_on(core, node)
+        crossed_at(core, node)
     }
 }
 

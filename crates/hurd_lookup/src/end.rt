@@ -26,6 +26,8 @@ pub(crate) enum Outcome<'a> {
     Makes(ServerName, NodeToMake<'a>),
     /// A name is looked up elsewhere.
     Retries(Retry<'a>),
+    /// A translator is to be started first, which waits on a node.
+    Starts(NodeName),
 }
 
 /// Whether the ids may do what the flags ask for.
@@ -162,5 +164,6 @@ pub(crate) fn end_asked<'a, S: Server>(
         }
         Place::AtName(dir, name) => make_asked(core, authority, request, dir, name),
         Place::Elsewhere(retry) => Ok(Outcome::Retries(retry)),
+        Place::Waits(node) => Ok(Outcome::Starts(node)),
     }
 }

@@ -14,8 +14,8 @@ use bitflags::Flags;
 use hurd_core::{Core, NodeToMake};
 use hurd_creds::{Errno, Ids, OpenFlags, ServerName, TaskId};
 use hurd_machine::Lookup;
-use hurd_ports::Parents;
-use hurd_trans_iface::Server;
+use hurd_ports::{Parents, PendingStart};
+use hurd_trans_iface::{Server, Words};
 use std::alloc::Global;
 
 /// What a lookup is to do, and by what it went.
@@ -31,6 +31,8 @@ pub(crate) enum Ready<'p> {
     Opens(NewPort),
     Makes(ServerName, NodeToMake<'p>, Ids, Parents),
     Retries(Retry<'p>, Option<NewPort>),
+    /// What the task is to start, and the words that it is told.
+    Starts(PendingStart, Words),
 }
 
 impl<'p> FoundAt<'_, 'p> {
@@ -50,6 +52,10 @@ impl<'p> FoundAt<'_, 'p> {
                 }
                 Onward::Within(_) | Onward::Back(_) | Onward::Beside(_, _) => core.room(task, 1),
             },
+            Outcome::Starts(_) => {
+                core.ids(task)?;
+                Ok(())
+            }
         }
     }
 
@@ -80,12 +86,20 @@ impl<'p> FoundAt<'_, 'p> {
                 let port = retry.onward.port(alloc, authority)?;
                 Ok(Ready::Retries(retry, port))
             }
+            Outcome::Starts(node) => {
+                let Some(words) = core.passive(node) else {
+                    return Err(Errno::EDIED);
+                };
+                let told = words.copied(alloc)?;
+                let words = words.copied(alloc)?;
+                Ok(Ready::Starts(PendingStart { node, words }, told))
+            }
         }
     }
 }
 
 impl Ready<'_> {
-    /// Opens the node, makes the file and opens it, or makes the port of a retry.
+    /// Opens the node, makes the file and opens it, makes the port of a retry, or has the task start what waits on a node.
     ///
     /// `ENOMEM`.
     pub(crate) fn done<S: Server>(
@@ -107,6 +121,10 @@ impl Ready<'_> {
                 Ok(Lookup::Done(port))
             }
             Ready::Retries(retry, port) => retried(core, alloc, task, retry, port),
+            Ready::Starts(start, words) => {
+                core.pend(task, start)?;
+                Ok(Lookup::Start { words })
+            }
         }
     }
 }

@@ -55,7 +55,8 @@ fn found_asked<'a, 'p, S: Server>(
 /// made belongs to the least uid, and to its directory's group; it is opened without a test of its mode.
 ///
 /// A server that is active on a node is crossed, unless the node is the last and `NOTRANS` is set. At its root the last node is
-/// opened, and more names are left for a retry at the root, with the port's ids. At a link, unless it is the last and `NOLINK` is
+/// opened, and more names are left for a retry at the root, with the port's ids. Where none is active, but a passive translator
+/// waits, that is to be started first: it is what the task is to start from now on, in place of what it was to start before. At a link, unless it is the last and `NOLINK` is
 /// set, the link's text is left, with the names that follow: for a retry at the link's directory, without ids, or from the root of
 /// the tree. `..` at the root by which the port came into a server is left for a retry at the directory from which it came, without
 /// ids.

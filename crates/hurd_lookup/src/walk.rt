@@ -10,7 +10,7 @@ ghost use Rattle.hurd_lookup.specs.Lookup.{arrive, came_in_at, go_back, is_exclu
 ghost use Rattle.hurd_lookup.specs.Ends.{CanGo, Finds, Goes, place_of, right_by};
 
 use crate::authority::Authority;
-use crate::cross::{cross, to_cross};
+use crate::cross::{Crossed, cross, to_cross};
 use crate::path::first_name;
 use crate::request::Request;
 use crate::rest::is_last;
@@ -42,6 +42,8 @@ pub(crate) enum Place<'a> {
     AtName(NodeName, &'a [u8]),
     /// A name that is looked up in another lookup.
     Elsewhere(Retry<'a>),
+    /// A node on which a translator waits that is to be started first.
+    Waits(NodeName),
 }
 
 /// After one name: on at a node, or at the end.
@@ -188,7 +190,7 @@ fn go_back<'a, S: Server>(
     }))
 }
 
-/// At the node of an entry: on, or across the server that is active on it.
+/// At the node of an entry: on, or across what is there: the server that is active on it, or the translator that waits to be started.
 ///
 /// Errors, in order: `EEXIST` it is the last, and refused where it is there, those of `cross`.
 #[tactic(auto, unfolding(hurd_machine::specs::Plan::given))]
@@ -201,16 +203,21 @@ fn over<'a, S: Server>(
     rest: &'a [u8],
 ) -> Result<Step<'a>, Errno>
     ensures { let w = world_of S.meaning core.now in let q = right_by authority.entry in let names = names_in rest.entry.now in
-        Goes w q (λ onward. over w q request dir (to_cross w request node names) names (onward node)) result }
+        Goes w q (λ onward. over w q request dir node (to_cross w request node names) names (onward node)) result }
 {
-    let Some(root) = to_cross(core, request, node, rest) else {
+    let Some(crossed) = to_cross(core, request, node, rest) else {
         return Ok(Step::On(node));
     };
     if is_last(rest) && request.is_exclusive() {
         return Err(Errno::EEXIST);
     }
-    let place = cross(core, authority, request, dir, root, rest)?;
-    Ok(Step::To(place))
+    match crossed {
+        Crossed::Active(root) => {
+            let place = cross(core, authority, request, dir, root, rest)?;
+            Ok(Step::To(place))
+        }
+        Crossed::Waiting => Ok(Step::To(Place::Waits(node))),
+    }
 }
 
 /// From a directory by one name, behind which the rest of the path follows.
