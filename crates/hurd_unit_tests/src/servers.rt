@@ -119,28 +119,30 @@ fn told<S: Server>(alloc: Global, server: &mut S) -> Result<String, AllocError> 
     )
 }
 
-/// What a node answers to calls on directories and trees, and to a size past the greatest.
+/// What a node answers to calls on directories and trees, to a size past the greatest, and of words that are stored with it.
 fn refused<S: Server>(alloc: Global, server: &mut S, node: NodeName) -> Result<String, AllocError> {
     format!(in alloc;
-        "{:?} {:?} {:?} {:?} {:?} {:?} {:?} {:?}\n",
+        "{:?} {:?} {:?} {:?} {:?} {:?} {:?} {:?} {:?} {:?}\n",
         server.names(alloc, node).err(),
         server.make(alloc, node, b"f", FILE),
         server.link(alloc, node, b"f", node),
         server.unlink(node, b"f"),
         server.rename(alloc, node, b"f", node, b"g"),
         server.set_attrs(node, 0, 0, Mode::OWNER_WRITE),
+        server.set_passive(node, Words::none(alloc)),
         server.set_size(node, 16_777_217),
-        server.step(node, b"f")
+        server.step(node, b"f"),
+        server.passive(node)
     )
 }
 
 /// The root is no directory.
 const REFUSED: &str =
-    "Some(ENOTDIR) Err(ENOTDIR) Err(ENOTDIR) Err(ENOTDIR) Err(ENOTDIR) Err(EOPNOTSUPP) Err(EFBIG) None\n";
+    "Some(ENOTDIR) Err(ENOTDIR) Err(ENOTDIR) Err(ENOTDIR) Err(ENOTDIR) Err(EOPNOTSUPP) Err(EOPNOTSUPP) Err(EFBIG) None None\n";
 
 /// A node that a server hasn't.
 const GONE: &str =
-    "Some(EDIED) Err(EDIED) Err(EDIED) Err(EDIED) Err(EDIED) Err(EDIED) Err(EDIED) None\n";
+    "Some(EDIED) Err(EDIED) Err(EDIED) Err(EDIED) Err(EDIED) Err(EDIED) Err(EDIED) Err(EDIED) None None\n";
 
 /// A server tells this, refuses the rest, and has its root until it is to forget it.
 fn check<S: Server>(
