@@ -17,7 +17,7 @@ use Rattle.hurd_trans_iface.specs.declared.readable.Readable.{Readable}
 use Rattle.hurd_trans_iface.specs.Nodes.{NodeMap, Node, Header, Edit, node_of_edit, body_of, edit_all}
 use Rattle.hurd_trans_iface.specs.Answers.{entry_of, make_of, make_edits, nameless_of, nameless_edits, link_of, link_edits, unlink_of, unlink_edits, rename_of, rename_edits, set_header_of, set_attrs_edits, set_passive_edits, edits_if}
 use Rattle.hurd_trans_iface.specs.Behaviour.{Question, Effect, effect_on, told_of, edits_of}
-use Rattle.hurd_trans_iface.specs.Meaning.{Meaning, ServerKind, behaviour_of, keeps_tree, begin_root_after, forget_after, new_root}
+use Rattle.hurd_trans_iface.specs.Meaning.{Meaning, ServerKind, behaviour_of, keeps_tree, options_of, begin_root_after, forget_after, new_root}
 use Rattle.hurd_nodes.specs.Held.{Held, Seated, mean, box_at, with_box, is_home}
 
 -- the fixed name of the boot server and of its root, which no task makes
@@ -120,6 +120,11 @@ info_in servers (Some s) = fin.get servers s
 -- what is known of the server of a node
 abbrev pub server_of : NodeState → Name → Option ServerInfo
 server_of h n = info_in h.servers (fin.get h.homes n)
+
+-- the program and its words, as they would be given to make such a server now, if the server is there
+abbrev pub options_in : Option ServerInfo → Result (List (List ℕ)) Errno
+options_in None = Err EDIED
+options_in (Some i) = Ok (options_of i.kind i.text)
 
 -- what a server answers of a node, and does to it
 abbrev pub asked_of : {T : Type 0} → Question T → Option ServerInfo → Option Node → Effect T

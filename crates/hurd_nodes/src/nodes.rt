@@ -5,7 +5,7 @@ ghost use Rattle.std.specs.FinMap as fin;
 ghost use Rattle.hurd_creds.specs.Memory.{Meets};
 ghost use Rattle.hurd_trans_iface.specs.Nodes.{attrs_of, header_of, body_of, passive_of};
 ghost use Rattle.hurd_trans_iface.specs.Answers.{entry_of, names_of};
-ghost use Rattle.hurd_nodes.specs.Shown.{ServerInfo, boot_name, server_of, shown, state_of, header_in, told_header, booted, is_root, are_kin, readable_at, tree_by, HideNothing};
+ghost use Rattle.hurd_nodes.specs.Shown.{ServerInfo, boot_name, server_of, shown, state_of, header_in, told_header, booted, is_root, are_kin, options_in, readable_at, tree_by, HideNothing};
 ghost use Rattle.hurd_trans_iface.specs.Meaning.{Begins, root_of};
 ghost use Rattle.hurd_nodes.specs.Held.{box_by, mean, users_in};
 
@@ -158,6 +158,18 @@ impl<S: Server> Nodes<S> {
         match place_of_seat(&self.seats, server) {
             Some(i) => Some(&self.seats[i].ids),
             None => None,
+        }
+    }
+
+    /// The program and its words, as they would be given to make such a server now.
+    ///
+    /// Errors, in order: `EDIED` no such server, `ENOMEM`.
+    pub fn options(&self, alloc: Global, server: ServerName) -> Result<Words, Errno>
+        ensures { Meets (options_in (fin.get (shown S.meaning self.now).servers server)) result }
+    {
+        match place_of_seat(&self.seats, server) {
+            Some(i) => self.seats[i].server.options(alloc),
+            None => Err(Errno::EDIED),
         }
     }
 

@@ -19,7 +19,7 @@ begin-named Null w ws is = rw is (or_none _)
 begin-named Zero w ws is = rw is (or_none _)
 begin-named Symlink w ws is = rw is (or_none _)
 
-said_if : (b : Bool) (o : Option (List ℕ)) (text : List ℕ) → cond b o None ≡ Some text → (b ≡ true) × (o ≡ Some text)
+pub said_if : (b : Bool) (o : Option (List ℕ)) (text : List ℕ) → cond b o None ≡ Some text → (b ≡ true) × (o ≡ Some text)
 said_if true o text h = (refl, h)
 said_if false o text h = absurd (cc)
 

@@ -1,7 +1,7 @@
 -- What a link means.
 use Rattle.hurd_trans_iface.specs.Meaning.{Meaning, Symlink as SymlinkKind}
 use Rattle.hurd_small.specs.declared.lone.Lone.{Lone}
-use Rattle.hurd_small.specs.declared.symlink.Target.{Target}
+use Rattle.hurd_small.specs.declared.target.Target.{Target}
 use Rattle.hurd_small.specs.Lone.{lone_meaning}
 
 -- a server of this kind and its text

@@ -1,27 +1,20 @@
 //! A file that gives a text.
-ghost use Rattle.std.specs.Prelude.{◌≡◌, codes, Some, None, IfOk, IfErr, MatchOption, refl};
+ghost use Rattle.std.specs.Prelude.{◌≡◌, codes, Some, None, IfOk, IfErr, MatchOption};
 ghost use Rattle.std.specs.Option.{option_map};
 ghost use Rattle.hurd_trans_iface.specs.Meaning.{begin, begin_as, Hello as HelloKind};
 ghost use Rattle.hurd_trans_iface.specs.HelloKind.{behind, hello_text};
 ghost use Rattle.hurd_small.specs.Lone.{text_as};
 ghost use Rattle.hurd_small.specs.Hello.{hello_meaning};
 
+use crate::greeting::Greeting;
 use crate::lone::Lone;
 use crate::presence::Presence;
-use crate::single::Single;
-use crate::text;
-use hurd_creds::{Bytes, Errno, Kind};
-use hurd_trans_iface::{Crossing, Readable, Root, Words};
+use hurd_creds::{Bytes, Errno};
+use hurd_trans_iface::Words;
 use std::alloc::Global;
 
 /// A file that gives a text, and takes nothing (the Hurd's `/hurd/hello`).
 pub type Hello = Lone<Greeting>;
-
-/// The text.
-#[derive(Debug, Drop)]
-pub struct Greeting {
-    pub(crate) text: Bytes,
-}
 
 impl Lone<Greeting> {
     /// The server that these words make: `/hurd/hello`, alone or with one word `--contents=` and the text behind it.
@@ -35,6 +28,7 @@ impl Lone<Greeting> {
         ensures err { IfErr result
             (λ e. MatchOption (begin_as HelloKind words.now) (e ≡ Errno.EINVAL) (λ _. e ≡ Errno.ENOMEM)) }
     {
+        words.known();
         let Some(text) = text_in(words) else {
             return Err(Errno::EINVAL);
         };
@@ -73,40 +67,4 @@ fn contents_in(word: &[u8]) -> Option<&[u8]>
     ensures { option_map (λ text. text.now) result ≡ behind (codes "--contents=") word.now }
 {
     word.strip_prefix(b"--contents=".as_slice())
-}
-
-impl Single for Greeting {
-    ghost kind = { HelloKind };
-
-    ghost text = { λ s. s.text };
-
-    ghost no_dir = { λ _. refl };
-
-    ghost no_tree = { refl };
-
-    fn root(&self) -> Root {
-        Root {
-            kind: Kind::File,
-            crossing: Crossing::Plain,
-        }
-    }
-
-    fn size(&self) -> u64 {
-        self.text.len() as u64
-    }
-
-    fn read(&self, alloc: Global, at: u64, amount: u64) -> Result<Bytes, Errno> {
-        text::read(alloc, self.text.as_slice(), at, amount)
-    }
-
-    fn takes(&self) -> Result<(), Errno> {
-        Err(Errno::EOPNOTSUPP)
-    }
-
-    fn readable(&self, at: u64) -> Readable {
-        Readable {
-            count: self.size().saturating_sub(at),
-            is_stream: false,
-        }
-    }
 }

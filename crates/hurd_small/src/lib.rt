@@ -3,19 +3,23 @@
 //! Each is a `Lone` of what it says itself, a `Single`; `Lone` has the node, and answers every call on it.
 #![tactic(auto)]
 
+mod greeting;
 mod hello;
 mod lone;
 mod null;
 mod presence;
 mod single;
 mod symlink;
+mod target;
 mod text;
 mod words;
 mod zero;
 
-pub use hello::{Greeting, Hello};
+pub use greeting::Greeting;
+pub use hello::Hello;
 pub use lone::Lone;
 pub use null::{Nothing, Null};
 pub use single::Single;
-pub use symlink::{Symlink, Target};
+pub use symlink::Symlink;
+pub use target::Target;
 pub use zero::{Zero, Zeros};

@@ -33,6 +33,10 @@ impl<S: Single> Server for Lone<S> {
         self.single.root()
     }
 
+    fn options(&self, alloc: Global) -> Result<Words, Errno> {
+        self.single.options(alloc)
+    }
+
     fn attrs(&self, node: NodeName) -> Option<Attrs> {
         let lone = self.presence.find(node)?;
         Some(Attrs {

@@ -54,6 +54,10 @@ impl Single for Nothing {
         }
     }
 
+    fn options(&self, alloc: Global) -> Result<Words, Errno> {
+        Words::named(alloc, b"/hurd/null")
+    }
+
     fn size(&self) -> u64 {
         0
     }

@@ -1,11 +1,12 @@
 //! What a server of one node says itself.
-ghost use Rattle.std.specs.Prelude.{◌≡◌, ℕ, false, List, []};
+ghost use Rattle.std.specs.Prelude.{◌≡◌, ℕ, false, List, [], Ok};
+ghost use Rattle.hurd_creds.specs.Memory.{Meets};
 ghost use Rattle.hurd_trans_iface.specs.Nodes.{Content, Node, is_dir};
-ghost use Rattle.hurd_trans_iface.specs.Meaning.{ServerKind, behaviour_of, keeps_tree, root_of};
+ghost use Rattle.hurd_trans_iface.specs.Meaning.{ServerKind, behaviour_of, keeps_tree, options_of, root_of};
 ghost use Rattle.hurd_small.specs.Lone.{IsGiven, IsPut, IsCut};
 
 use hurd_creds::{Bytes, Errno};
-use hurd_trans_iface::{Readable, Root};
+use hurd_trans_iface::{Readable, Root, Words};
 use std::alloc::Global;
 
 /// What a server of one node says of it: no call changes that, and nothing is asked where the node isn't there.
@@ -19,6 +20,12 @@ pub trait Single: Drop {
     /// What the node is, which is no directory.
     fn root(&self) -> Root
         ensures { result ≡ root_of kind (text self.now) };
+
+    /// The program and its words, as they would be given to make such a server.
+    ///
+    /// Errors: `ENOMEM`.
+    fn options(&self, alloc: Global) -> Result<Words, Errno>
+        ensures { Meets (Ok (options_of kind (text self.now))) result };
 
     /// The node's size, in bytes.
     fn size(&self) -> u64

@@ -57,6 +57,10 @@ impl Single for Zeros {
         }
     }
 
+    fn options(&self, alloc: Global) -> Result<Words, Errno> {
+        Words::named(alloc, b"/hurd/zero")
+    }
+
     fn size(&self) -> u64 {
         0
     }

@@ -77,6 +77,10 @@ impl Server for Counted {
         self.tree.root()
     }
 
+    fn options(&self, alloc: Global) -> Result<Words, Errno> {
+        self.tree.options(alloc)
+    }
+
     fn attrs(&self, node: NodeName) -> Option<Attrs> {
         self.tree.attrs(node)
     }

@@ -161,6 +161,10 @@ impl Server for Tmpfs {
         }
     }
 
+    fn options(&self, alloc: Global) -> Result<Words, Errno> {
+        Words::named(alloc, b"/hurd/tmpfs")
+    }
+
     fn attrs(&self, node: NodeName) -> Option<Attrs> {
         match find(&self.nodes, node) {
             Some(inode) => Some(inode.attrs()),

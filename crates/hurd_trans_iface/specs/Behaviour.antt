@@ -26,6 +26,8 @@ pub record Behaviour : Type 0 where
   pub program : List ℕ
   -- the text of the server that these words behind the program's name make, if any
   pub begins : List (List ℕ) → Option (List ℕ)
+  -- the program and its words, as they would be given to make a server of this text
+  pub options : List ℕ → List (List ℕ)
   -- what its root is, by the text
   pub root : List ℕ → Root
   -- whether it keeps a tree: nodes can be made in its directories

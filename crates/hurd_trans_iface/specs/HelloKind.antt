@@ -15,6 +15,10 @@ behind first word = if bytes_eq (take (length first) word) first then Some (drop
 abbrev pub greeting : List ℕ
 greeting = codes "Hello, world!\n"
 
+-- the most bytes of a text that words say: 4,096, less those of the program's name and of `--contents=`
+abbrev pub most_text : ℕ
+most_text = 4074
+
 -- one word may say the text
 abbrev pub hello_text : List (List ℕ) → Option (List ℕ)
 hello_text [] = Some greeting
@@ -25,6 +29,7 @@ abbrev pub hello : Behaviour
 hello = record {
   program = codes "/hurd/hello";
   begins = hello_text;
+  options = λ text. codes "/hurd/hello" ∷ (codes "--contents=" ++ text) ∷ [];
   root = λ text. record { kind = File; crossing = Plain };
   tree = false;
   stream = false;

@@ -48,6 +48,10 @@ Begins m = (ws : List (List ℕ)) × (begin ws ≡ Some m)
 abbrev pub root_of : ServerKind → List ℕ → Root
 root_of k text = (behaviour_of k).root text
 
+-- the program and its words, as they would be given to make a server of this kind and text
+abbrev pub options_of : ServerKind → List ℕ → List (List ℕ)
+options_of k text = (behaviour_of k).options text
+
 -- whether servers of a kind keep trees
 abbrev pub keeps_tree : ServerKind → Bool
 keeps_tree k = (behaviour_of k).tree

@@ -1,5 +1,5 @@
 -- A stream without bytes, which drops what it takes.
-use Rattle.std.specs.Prelude.{true, false, if◌then◌else◌, [], length, nat_lt, codes, Err}
+use Rattle.std.specs.Prelude.{true, false, if◌then◌else◌, [], ◌∷◌, length, nat_lt, codes, Err}
 use Rattle.hurd_creds.specs.declared.attrs.Kind.TheVariants.{Char}
 use Rattle.hurd_creds.specs.declared.errno.Errno.TheVariants.{EFBIG}
 use Rattle.hurd_trans_iface.specs.declared.root.Crossing.TheVariants.{Plain}
@@ -10,6 +10,7 @@ abbrev pub null : Behaviour
 null = record {
   program = codes "/hurd/null";
   begins = no_text;
+  options = λ text. codes "/hurd/null" ∷ [];
   root = λ text. record { kind = Char; crossing = Plain };
   tree = false;
   stream = true;

@@ -23,5 +23,6 @@ abbrev pub symlink : Behaviour
 symlink = record hello {
   program = codes "/hurd/symlink";
   begins = target_text;
+  options = λ text. codes "/hurd/symlink" ∷ text ∷ [];
   root = λ text. record { kind = LinkNode; crossing = Link (is_absolute text) };
 }

@@ -48,6 +48,7 @@ abbrev pub tmpfs : Behaviour
 tmpfs = record {
   program = codes "/hurd/tmpfs";
   begins = no_text;
+  options = λ text. codes "/hurd/tmpfs" ∷ [];
   root = λ text. record { kind = Dir; crossing = Plain };
   tree = true;
   stream = false;

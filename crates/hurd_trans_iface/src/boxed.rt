@@ -19,6 +19,10 @@ impl Server for Box<dyn Server> {
         (**self).root()
     }
 
+    fn options(&self, alloc: Global) -> Result<Words, Errno> {
+        (**self).options(alloc)
+    }
+
     fn attrs(&self, node: NodeName) -> Option<Attrs> {
         (**self).attrs(node)
     }

@@ -1,12 +1,12 @@
 //! The trait of servers.
-ghost use Rattle.std.specs.Prelude.{◌≡◌, None, option_copied};
+ghost use Rattle.std.specs.Prelude.{◌≡◌, None, Ok, option_copied};
 ghost use Rattle.std.specs.Option.{option_map};
 ghost use Rattle.std.specs.FinMap as fin;
 ghost use Rattle.hurd_creds.specs.Memory.{Meets, Steps};
 ghost use Rattle.hurd_trans_iface.specs.Nodes.{attrs_of, body_of, passive_of};
 ghost use Rattle.hurd_trans_iface.specs.Answers.{entry_of, names_of};
 ghost use Rattle.hurd_trans_iface.specs.Behaviour.{reading, writing, resizing};
-ghost use Rattle.hurd_trans_iface.specs.Meaning.{Meaning, root_of, begin_root_after, step_of, make_step, make_nameless_step, link_step, unlink_step, rename_step, set_attrs_step, set_passive_step, opened_after, forget_after, readable_of};
+ghost use Rattle.hurd_trans_iface.specs.Meaning.{Meaning, root_of, options_of, begin_root_after, step_of, make_step, make_nameless_step, link_step, unlink_step, rename_step, set_attrs_step, set_passive_step, opened_after, forget_after, readable_of};
 
 use crate::names::Names;
 use crate::new_node::NewNode;
@@ -30,6 +30,12 @@ pub trait Server: Drop {
     /// What the root is, also before it has a name.
     fn root(&self) -> Root
         ensures { result ≡ root_of (meaning self.now).kind (meaning self.now).text };
+
+    /// The program and its words, as they would be given to make such a server now (`fsys_get_options`, `fsys.defs`).
+    ///
+    /// Errors: `ENOMEM`.
+    fn options(&self, alloc: Global) -> Result<Words, Errno>
+        ensures { Meets (Ok (options_of (meaning self.now).kind (meaning self.now).text)) result };
 
     /// The attributes of a node, if the server has it.
     fn attrs(&self, node: NodeName) -> Option<Attrs>

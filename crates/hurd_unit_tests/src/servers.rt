@@ -1,9 +1,10 @@
-//! Servers of one node, through the trait: no call puts one behind a node yet.
+//! Servers, through the trait: those of one node, the words that a tree stores, and the words that each says of itself.
 ghost use Rattle.std.specs.Prelude.{◌≡◌, None};
 
 use bitflags::Flags;
 use hurd_creds::{Errno, Kind, Mode, Name, NodeName, TaskId};
 use hurd_small::{Hello, Null, Symlink, Zero};
+use hurd_tmpfs::Tmpfs;
 use hurd_trans_iface::{Crossing, NewNode, Server, Words};
 use hurd_words::words::pieces;
 use std::alloc::{AllocError, Global};
@@ -119,28 +120,30 @@ fn told<S: Server>(alloc: Global, server: &mut S) -> Result<String, AllocError> 
     )
 }
 
-/// What a node answers to calls on directories and trees, and to a size past the greatest.
+/// What a node answers to calls on directories and trees, to a size past the greatest, and of words that are stored with it.
 fn refused<S: Server>(alloc: Global, server: &mut S, node: NodeName) -> Result<String, AllocError> {
     format!(in alloc;
-        "{:?} {:?} {:?} {:?} {:?} {:?} {:?} {:?}\n",
+        "{:?} {:?} {:?} {:?} {:?} {:?} {:?} {:?} {:?} {:?}\n",
         server.names(alloc, node).err(),
         server.make(alloc, node, b"f", FILE),
         server.link(alloc, node, b"f", node),
         server.unlink(node, b"f"),
         server.rename(alloc, node, b"f", node, b"g"),
         server.set_attrs(node, 0, 0, Mode::OWNER_WRITE),
+        server.set_passive(node, Words::none(alloc)),
         server.set_size(node, 16_777_217),
-        server.step(node, b"f")
+        server.step(node, b"f"),
+        server.passive(node)
     )
 }
 
 /// The root is no directory.
 const REFUSED: &str =
-    "Some(ENOTDIR) Err(ENOTDIR) Err(ENOTDIR) Err(ENOTDIR) Err(ENOTDIR) Err(EOPNOTSUPP) Err(EFBIG) None\n";
+    "Some(ENOTDIR) Err(ENOTDIR) Err(ENOTDIR) Err(ENOTDIR) Err(ENOTDIR) Err(EOPNOTSUPP) Err(EOPNOTSUPP) Err(EFBIG) None None\n";
 
 /// A node that a server hasn't.
 const GONE: &str =
-    "Some(EDIED) Err(EDIED) Err(EDIED) Err(EDIED) Err(EDIED) Err(EDIED) Err(EDIED) None\n";
+    "Some(EDIED) Err(EDIED) Err(EDIED) Err(EDIED) Err(EDIED) Err(EDIED) Err(EDIED) Err(EDIED) None None\n";
 
 /// A server tells this, refuses the rest, and has its root until it is to forget it.
 fn check<S: Server>(
@@ -221,5 +224,64 @@ fn links_are_absolute_or_not_and_have_a_longest(rt: HostRuntime) -> Result<(), F
     assert!(rt; symlink(alloc, longest.as_str()).is_ok());
     let too_long = format!(in alloc; "/hurd/symlink|{:01025}|", 0)?;
     assert!(rt; symlink(alloc, too_long.as_str()).is_err());
+    Ok(())
+}
+
+/// A server says these words of itself, each with a bar behind it.
+fn check_options<S: Server>(
+    rt: &impl Abort,
+    alloc: Global,
+    server: S,
+    words: &str,
+) -> Result<(), AllocError> {
+    let said = format!(in alloc; "{:?}", server.options(alloc))?;
+    let wanted = format!(in alloc; "{:?}", named_words(alloc, words))?;
+    assert_eq!(rt; said.as_str(), wanted.as_str());
+    Ok(())
+}
+
+#[test]
+fn servers_say_what_makes_them(rt: HostRuntime) -> Result<(), Fail> {
+    let alloc = rt.alloc();
+    let greeting = "/hurd/hello|--contents=Hello, world!\n|";
+    check_options(&rt, alloc, hello(alloc, "/hurd/hello|")?, greeting)?;
+    let longest = format!(in alloc; "/hurd/hello|--contents={:04074}|", 0)?;
+    let said = hello(alloc, longest.as_str())?;
+    check_options(&rt, alloc, said, longest.as_str())?;
+    let link = "/hurd/symlink|d/f|";
+    check_options(&rt, alloc, symlink(alloc, link)?, link)?;
+    check_options(&rt, alloc, null(alloc, "/hurd/null|")?, "/hurd/null|")?;
+    check_options(&rt, alloc, zero(alloc, "/hurd/zero|")?, "/hurd/zero|")?;
+    let tree = Tmpfs::empty(alloc)?;
+    Ok(check_options(&rt, alloc, tree, "/hurd/tmpfs|")?)
+}
+
+/// What a tree tells of the words of its root, and of a node that it hasn't.
+fn stored(alloc: Global, tree: &Tmpfs) -> Result<String, AllocError> {
+    format!(in alloc;
+        "{:?} {:?} {:?}",
+        tree.attrs(ROOT).map(|attrs| attrs.passive),
+        tree.passive(ROOT),
+        tree.passive(NOWHERE)
+    )
+}
+
+#[test]
+fn a_tree_stores_words(rt: HostRuntime) -> Result<(), Fail> {
+    let alloc = rt.alloc();
+    let mut tree = Tmpfs::empty(alloc)?;
+    tree.begin_root(ROOT, 1000, 100, Mode::OWNER_READ);
+    assert_eq!(rt; stored(alloc, &tree)?.as_str(), "Some(false) None None");
+    assert_eq!(rt; tree.set_passive(ROOT, named_words(alloc, "a|b|")?), Ok(()));
+    assert_eq!(rt;
+        stored(alloc, &tree)?.as_str(),
+        "Some(true) Some(Words { items: [Bytes { items: [97] }, Bytes { items: [98] }] }) None"
+    );
+    assert_eq!(rt; tree.set_passive(ROOT, Words::none(alloc)), Ok(()));
+    assert_eq!(rt; stored(alloc, &tree)?.as_str(), "Some(false) None None");
+    assert_eq!(rt;
+        tree.set_passive(NOWHERE, Words::none(alloc)),
+        Err(Errno::EDIED)
+    );
     Ok(())
 }

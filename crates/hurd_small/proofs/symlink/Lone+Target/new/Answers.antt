@@ -4,4 +4,4 @@ use Rattle.hurd_small.proofs.Beginnings.{begin-said}
 use Rattle.hurd_small.proofs.symlink.Lone+Target.new.Goals as goal
 
 pub returns-clause-begins : goal.returns-clause-begins
-returns-clause-begins c = rw c.in_ok-copied.ensures (begin-said SymlinkKind c.args.words.now _ (sym c.in-Some.ensures))
+returns-clause-begins c = rw c.in_ok-copied.ensures (begin-said SymlinkKind c.args.words.now _ (sym c.in-Some.ensures.said))

@@ -1,0 +1,60 @@
+//! What a file that gives a text says of itself.
+ghost use Rattle.std.specs.Prelude.{◌≤◌, length, refl};
+ghost use Rattle.hurd_trans_iface.specs.Meaning.{Hello as HelloKind};
+ghost use Rattle.hurd_trans_iface.specs.HelloKind.{most_text};
+
+use crate::single::Single;
+use crate::text;
+use hurd_creds::{Bytes, Errno, Kind};
+use hurd_trans_iface::{Crossing, Readable, Root, Words};
+use std::alloc::Global;
+
+/// The text, which words can say.
+#[derive(Debug, Drop)]
+pub struct Greeting {
+    pub(crate) text: Bytes,
+    /// With the program's name it is within the limits of words.
+    ghost short: { length text ≤ most_text },
+}
+
+impl Single for Greeting {
+    ghost kind = { HelloKind };
+
+    ghost text = { λ s. s.text };
+
+    ghost no_dir = { λ _. refl };
+
+    ghost no_tree = { refl };
+
+    fn root(&self) -> Root {
+        Root {
+            kind: Kind::File,
+            crossing: Crossing::Plain,
+        }
+    }
+
+    fn options(&self, alloc: Global) -> Result<Words, Errno> {
+        let mut word = Vec::from_slice(alloc, b"--contents=")?;
+        word.extend_from_slice(self.text.as_slice())?;
+        Words::with_argument(alloc, b"/hurd/hello", word.as_slice())
+    }
+
+    fn size(&self) -> u64 {
+        self.text.len() as u64
+    }
+
+    fn read(&self, alloc: Global, at: u64, amount: u64) -> Result<Bytes, Errno> {
+        text::read(alloc, self.text.as_slice(), at, amount)
+    }
+
+    fn takes(&self) -> Result<(), Errno> {
+        Err(Errno::EOPNOTSUPP)
+    }
+
+    fn readable(&self, at: u64) -> Readable {
+        Readable {
+            count: self.size().saturating_sub(at),
+            is_stream: false,
+        }
+    }
+}
