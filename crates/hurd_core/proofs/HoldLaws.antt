@@ -1,5 +1,5 @@
 -- What is held agrees with the rights of tasks: the holds are those that they take.
-use Rattle.std.proofs.Common.{◌≡◌, ◌≤◌, ◌∙◌, ℕ, ◌+◌, ◌||◌, Bool, true, false, List, [], ◌∷◌, ◌++◌, Option, Some, None, slice_get, nat_lt, length, sym, refl, ap, ap₂, subst, inl, inr, arith}
+use Rattle.std.proofs.Common.{◌≡◌, ◌≤◌, ◌∙◌, ℕ, ◌+◌, ◌||◌, Bool, true, false, List, [], ◌∷◌, ◌++◌, Option, Some, None, slice_get, nat_lt, append-nil, length, sym, refl, ap, ap₂, subst, inl, inr, arith}
 use Rattle.std.proofs.lemmas.Bool.Decides.{nat_tests}
 use Rattle.std.proofs.lemmas.Option.{slice_get_cases}
 use Rattle.std.specs.List.{list_any}
@@ -15,18 +15,19 @@ use Rattle.hurd_nodes.specs.Settle as kept
 use Rattle.hurd_nodes.specs.Settle.{outside_of}
 use Rattle.hurd_nodes.specs.Shown.{NodeState}
 use Rattle.hurd_ports.specs.declared.parents.Parent.{Parent}
+use Rattle.hurd_ports.specs.declared.table.PendingStart.{PendingStart}
 use Rattle.hurd_ports.specs.declared.table.Right.{Right}
-use Rattle.hurd_ports.specs.declared.table.Right.TheVariants.{Io, Control}
-use Rattle.hurd_ports.specs.Tables.{IsSettled, OpenMap, PortState, Task, is_held as open_held, rights_of, right_in, ways_of, names_node, names_server, is_named, is_controlled}
-use Rattle.hurd_ports.specs.Steps.{named, edit_at, edit_task, with_port, with_sent, without_port}
+use Rattle.hurd_ports.specs.declared.table.Right.TheVariants.{Io, Control, Start}
+use Rattle.hurd_ports.specs.Tables.{IsSettled, OpenMap, PortState, Task, is_held as open_held, rights_of, right_in, ways_of, names_node, names_server, is_named, is_controlled, start_of}
+use Rattle.hurd_ports.specs.Steps.{named, edit_at, edit_task, with_pending, with_port, with_sent, without_port}
 use Rattle.hurd_machine.specs.World.{world_from}
 use Rattle.hurd_machine.specs.Change.{settle}
 use Rattle.hurd_machine.specs.Sight.{weigh_rights, is_on, users}
 use Rattle.hurd_machine.proofs.Tasks.{weigh_edit, weigh_named, weigh_sent, weigh_append}
 use Rattle.hurd_machine.proofs.Holders.{list_counted, tasks_weighed}
 use Rattle.hurd_machine.proofs.Retained.{retain_all}
-use Rattle.hurd_machine.proofs.Rights.{port_weighs, weigh_dropped}
-use Rattle.hurd_core.specs.Core.{HoldsRights, holds_of, holds_of_ways, weight_of}
+use Rattle.hurd_machine.proofs.Rights.{pending_weighs, port_weighs, weigh_dropped}
+use Rattle.hurd_core.specs.Core.{HoldsRights, holds_of, holds_of_start, holds_of_ways, weight_of}
 
 -- what is held is what some right names
 
@@ -38,6 +39,7 @@ ways_named n (p ∷ ps) = ap (λ b. same_name n p.at || (same_name n p.parent ||
 node_named : (n : Name) (r : Right) → names_node n r ≡ nat_lt 0 (weight_of (λ h. one_if (held.names_node n h)) r)
 node_named n (Io r) = ap (λ b. same_name n r.node || b) (ways_named n r.parents) ∙ list_counted (held.names_node n) (holds_of (Io r))
 node_named n (Control s) = list_counted (held.names_node n) (holds_of (Control s))
+node_named n (Start m) = list_counted (held.names_node n) (holds_of (Start m))
 
 ways_control : (s : Name) (ps : List Parent) → list_any (held.names_server s) (holds_of_ways ps) ≡ false
 ways_control s [] = refl
@@ -45,6 +47,7 @@ ways_control s (p ∷ ps) = ways_control s ps
 
 server_named : (s : Name) (r : Right) → names_server s r ≡ nat_lt 0 (weight_of (λ h. one_if (held.names_server s h)) r)
 server_named s (Io r) = sym (ways_control s r.parents) ∙ list_counted (held.names_server s) (holds_of (Io r))
+server_named s (Start n) = list_counted (held.names_server s) (holds_of (Start n))
 server_named s (Control q) = sym (or_false (same_name s q)) ∙ list_counted (held.names_server s) (holds_of (Control q))
   where
     or_false : (b : Bool) → (b || false) ≡ b
@@ -86,6 +89,7 @@ module _ (N : NodeState) (H : PortState) (s : Name) where
   right_uses : (r : Right) → weight_of is_use r ≡ one_if (is_on (world_from N H) s r)
   right_uses (Io r) = let none = ways_use r.parents in omega (arith, none)
   right_uses (Control q) = refl
+  right_uses (Start n) = refl
 
   pub users_held : (hs : List Hold) → HoldsRights hs H.tasks → held.users_in N.homes s hs ≡ users (world_from N H) s
   users_held hs same = same is_use ∙ (λ i. weigh_rights (λ r. right_uses r i) H.tasks)
@@ -198,3 +202,36 @@ holds_dropped hs ts same t p x r at under W =
 
     fewer : (y : Hold) → times y (holds_of r) ≤ times y hs
     fewer y = let all = gone (λ h. one_if (same_hold y h)) in let old = same (λ h. one_if (same_hold y h)) in omega arith
+
+-- the holds of a pending start are those of the right that it is
+start_weighs : (W : Hold → ℕ) (p : Option PendingStart) → weigh_list (weight_of W) (start_of p) ≡ weigh_list W (holds_of_start p)
+start_weighs W None = refl
+start_weighs W (Some s) = omega arith
+
+-- a task is to start another thing: the holds of that come, and those of what it was to start go
+pub holds_pended : (hs : List Hold) (ts : List Task) → HoldsRights hs ts → (t : ℕ) (p : Option PendingStart) (x : Task) → slice_get ts t ≡ Some x
+    → HoldsRights (less_all (holds_of_start x.pending) (hs ++ holds_of_start p)) (edit_task t (with_pending p) ts)
+holds_pended hs ts same t p x at W =
+    let less = weigh_less_all (holds_of_start x.pending) (hs ++ holds_of_start p) fewer W in
+    let all = changed W in
+    omega arith
+  where
+    -- what all weigh afterwards with what goes, and before with what comes
+    changed : (V : Hold → ℕ) → weigh_rights (weight_of V) (edit_task t (with_pending p) ts) + weigh_list V (holds_of_start x.pending) ≡ weigh_list V (hs ++ holds_of_start p)
+    changed V =
+        let tasks = weigh_edit (weight_of V) t (with_pending p) ts x at in
+        let table = pending_weighs (weight_of V) p x in
+        let list = weigh_append V hs (holds_of_start p) in
+        let comes = start_weighs V p in
+        let goes = start_weighs V x.pending in
+        let old = same V in
+        omega arith
+
+    fewer : (y : Hold) → times y (holds_of_start x.pending) ≤ times y (hs ++ holds_of_start p)
+    fewer y = let all = changed (λ h. one_if (same_hold y h)) in omega arith
+
+-- or nothing
+pub holds_unpended : (hs : List Hold) (ts : List Task) → HoldsRights hs ts → (t : ℕ) (x : Task) → slice_get ts t ≡ Some x
+    → HoldsRights (less_all (holds_of_start x.pending) hs) (edit_task t (with_pending None) ts)
+holds_unpended hs ts same t x at =
+    subst (λ (l : List Hold). HoldsRights (less_all (holds_of_start x.pending) l) (edit_task t (with_pending None) ts)) (append-nil hs) (holds_pended hs ts same t None x at)

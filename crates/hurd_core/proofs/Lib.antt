@@ -3,6 +3,7 @@ pub mod WayLaws
 pub mod HoldLaws
 pub mod CoreLaws
 pub mod RightLaws
+pub mod StartLaws
 pub mod MakingLaws
 pub mod NamelessLaws
 pub mod DirLaws

@@ -1,26 +1,30 @@
 -- A server that the core seats is the machine's attaching of it.
 use Rattle.std.proofs.Common.{◌≡◌, ◌∙◌, ◌<◌, ◌≤◌, inr, ℕ, ◌+◌, true, List, [], ◌∷◌, ◌++◌, Option, Some, None, refl, sym, ap, slice_get, slice_set, arith}
 use Rattle.std.proofs.lemmas.Bool.Decides.{nat_tests}
-use Rattle.std.specs.Prelude.{IsSomeAnd, Ok, Err, is_ok}
+use Rattle.std.specs.Prelude.{IsSomeAnd, Result, Ok, Err, is_ok}
 use Rattle.std.specs.Option.{option_map}
 use Rattle.hurd_nodes.specs.declared.seat.Hold.{Hold}
 use Rattle.hurd_nodes.specs.declared.seat.Place.{Place}
 use Rattle.hurd_creds.specs.declared.name.Name.{Name}
+use Rattle.hurd_creds.specs.declared.errno.Errno.{Errno}
 use Rattle.hurd_creds.specs.declared.errno.Errno.TheVariants.{ENOMEM}
 use Rattle.hurd_creds.specs.Access.{IdSets}
 use Rattle.hurd_trans_iface.specs.Nodes.{Node}
 use Rattle.hurd_trans_iface.specs.Meaning.{Meaning}
+use Rattle.hurd_nodes.specs.Held.{less_all}
 use Rattle.hurd_nodes.specs.Settle as kept
 use Rattle.hurd_nodes.specs.Shown.{NodeState, ServerInfo, attached, begun_info, begun_root, without_old}
-use Rattle.hurd_ports.specs.Tables.{IsSettled, PortState, Task, fresh, can_name, naming_of, u64_greatest}
-use Rattle.hurd_ports.specs.Steps.{named, edit_task, name_step}
+use Rattle.hurd_ports.specs.declared.table.PendingStart.{PendingStart}
+use Rattle.hurd_ports.specs.Tables.{IsSettled, PortState, Task, fresh, can_name, naming_of, pending_of, u64_greatest}
+use Rattle.hurd_ports.specs.Steps.{named, edit_task, name_step, pend_step}
 use Rattle.hurd_ports.proofs.TaskLaws.{edit-edit, edit-found, edit-here}
 use Rattle.hurd_machine.specs.World.{World, world_from}
-use Rattle.hurd_machine.specs.Change.{Attach, Change, Settle, apply_all, settle}
+use Rattle.hurd_machine.specs.Change.{Attach, Change, Settle, apply_all, pending, settle}
 use Rattle.hurd_core.specs.declared.to_make.ServerToMake.{ServerToMake}
-use Rattle.hurd_core.specs.Core.{Does, HoldsRights, attaching, leaving, naming_asks, placed}
+use Rattle.hurd_core.specs.Core.{Does, HoldsRights, attaching, holds_of_start, leaving, naming_asks, placed, starting}
 use Rattle.hurd_core.proofs.CoreLaws.{naming-had}
 use Rattle.hurd_core.proofs.HoldLaws.{holds_given, settled_world}
+use Rattle.hurd_core.proofs.StartLaws.{unpended-holds, unpended-world}
 
 module _ (N : NodeState) (H : PortState) (t : ℕ) where
   abbrev w : World
@@ -49,6 +53,10 @@ module _ (N : NodeState) (H : PortState) (t : ℕ) where
     -- the nodes with the server that stands at a place
     abbrev pub seated : Place → NodeState
     seated at = attached at.name at.seat (begun_info m at.root ids) (begun_root m at.owner at.group at.mode) (without_old p.instead N)
+
+    -- those where none leaves for it
+    abbrev pub seated_alone : Place → NodeState
+    seated_alone at = attached at.name at.seat (begun_info m at.root ids) (begun_root m at.owner at.group at.mode) (without_old None N)
 
     -- with them the tables that gave two names are the world in which it was attached
     seated-world : (o : Option Name) (x : Task) → slice_get H.tasks t ≡ Some x → (s : Name) (i : ServerInfo) (node : Node) → s.task.0 ≡ t
@@ -95,3 +103,33 @@ module _ (N : NodeState) (H : PortState) (t : ℕ) where
                 ∙ ap (λ (K : NodeState). settle (world_from K two_named)) nodes ∙ ap settle (seated-world p ids m p.instead x here.1 (fresh t x) info node refl)
                 ∙ settled_last p.instead (Attach (fresh t x) p.seat info node),
           )
+
+      -- the same for a task that was to start it: once it gave the names, it is to start nothing any more
+
+      pub start-lacks : Does w (naming_asks w t 2) (starting t p ids m) (λ x. tt {0}) (Err ENOMEM) w
+      start-lacks = (refl, inr (refl, ap is_ok here.3))
+
+      abbrev twice : Task
+      twice = named 1 (named 1 here.0)
+
+      twice_there : slice_get two_named.tasks t ≡ Some twice
+      twice_there = edit-here t (named 1) (edit_task t (named 1) H.tasks) ∙ ap (option_map (named 1)) (edit-here t (named 1) H.tasks ∙ ap (option_map (named 1)) here.1)
+
+      module _ (hs : List Hold) (same : HoldsRights hs H.tasks) (q : Option PendingStart) (was : q ≡ pending_of two_named t)
+          (r : Result (Unit {0}) Errno) (K : PortState) (answer : (r, K) ≡ pend_step t None two_named) where
+        pub start-holds : HoldsRights (less_all (holds_of_start q) hs) K.tasks
+        start-holds = unpended-holds N two_named t twice twice_there hs (two-holds hs same) q was r K answer
+
+        pub start-done : (n : Name) → Some n ≡ option_map (fresh t) (slice_get H.tasks t) → (M L : NodeState) → M ≡ seated_alone p ids m (placed p n)
+            → IsSettled K → L ≡ kept.settle (kept.outside_of (less_all (holds_of_start q) hs)) M
+            → Does w (naming_asks w t 2) (starting t p ids m) (λ x. tt {0}) (Ok tt) (world_from L K)
+        start-done n next M L is whole left =
+            let x = here.0 in
+            let one : Some n ≡ Some (fresh t x) = next ∙ ap (option_map (fresh t)) here.1 in
+            let name : n ≡ fresh t x = cc in
+            let info = begun_info m (fresh t (named 1 x)) ids in
+            let node = begun_root m p.owner p.group p.mode in
+            let nodes : M ≡ attached (fresh t x) p.seat info node (without_old None N) = is ∙ ap (λ (k : Name). seated_alone p ids m (placed p k)) name in
+            let seated_is : world_from M two_named ≡ apply_all (Attach (fresh t x) p.seat info node ∷ []) w =
+            ap (λ (k : NodeState). world_from k two_named) nodes ∙ seated-world p ids m None x here.1 (fresh t x) info node refl in
+            (x, here.3, refl, unpended-world M two_named t twice twice_there hs (two-holds hs same) q was r K answer whole L left ∙ ap (apply_all (pending t None)) seated_is)

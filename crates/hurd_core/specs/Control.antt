@@ -4,13 +4,14 @@ use Rattle.hurd_creds.specs.declared.name.Name.{Name}
 use Rattle.hurd_creds.specs.declared.errno.Errno.{Errno}
 use Rattle.hurd_creds.specs.declared.errno.Errno.TheVariants.{EBADF}
 use Rattle.hurd_ports.specs.declared.table.Right.{Right}
-use Rattle.hurd_ports.specs.declared.table.Right.TheVariants.{Io, Control}
+use Rattle.hurd_ports.specs.declared.table.Right.TheVariants.{Io, Control, Start}
 use Rattle.hurd_ports.specs.Tables.{PortState, or_refuse, right_of}
 
 -- the server that a right controls
 abbrev pub server_in : Right → Option Name
 server_in (Io r) = None
 server_in (Control s) = Some s
+server_in (Start n) = None
 
 abbrev pub control_in : Result Right Errno → Result Name Errno
 control_in (Err e) = Err e

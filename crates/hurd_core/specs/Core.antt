@@ -19,11 +19,12 @@ use Rattle.hurd_nodes.specs.declared.seat.Place.{Place}
 use Rattle.hurd_nodes.specs.Shown.{begun_info, begun_root, shown, unlink_edits_at, can_make_nameless, rename_edits_at}
 use Rattle.hurd_ports.specs.Tables.{Task, Tables, coded_tables, fresh, can_name, has_room, first_sent, right_of}
 use Rattle.hurd_ports.specs.declared.parents.Parent.{Parent}
+use Rattle.hurd_ports.specs.declared.table.PendingStart.{PendingStart}
 use Rattle.hurd_ports.specs.declared.table.Right.{Right}
-use Rattle.hurd_ports.specs.declared.table.Right.TheVariants.{Io, Control}
+use Rattle.hurd_ports.specs.declared.table.Right.TheVariants.{Io, Control, Start}
 use Rattle.hurd_ports.specs.Steps.{named}
 use Rattle.hurd_machine.specs.World.{World, world_from, nodes_of, ports_of, task_at, home_at, makes_at}
-use Rattle.hurd_machine.specs.Change.{Attach, Change, DropServer, MakeNode, EditBody, Settle, opening, apply_all, changes_of}
+use Rattle.hurd_machine.specs.Change.{Attach, Change, DropServer, MakeNode, EditBody, Settle, opening, pending, apply_all, changes_of}
 use Rattle.hurd_machine.specs.Plan.{on, given, first}
 use Rattle.hurd_nodes.specs.Weights.{weigh_list}
 use Rattle.hurd_machine.specs.Sight.{weigh_rights}
@@ -47,6 +48,12 @@ holds_of_ways (p ∷ ps) = hold.Way p.at ∷ (hold.Way p.parent ∷ holds_of_way
 abbrev pub holds_of : Right → List Hold
 holds_of (Io r) = hold.Use r.node ∷ holds_of_ways r.parents
 holds_of (Control s) = hold.Control s ∷ []
+holds_of (Start n) = hold.Way n ∷ []
+
+-- the holds that a pending start takes: its node is named, and not used
+abbrev pub holds_of_start : Option PendingStart → List Hold
+holds_of_start None = []
+holds_of_start (Some s) = hold.Way s.node ∷ []
 
 -- what a right weighs, where a hold weighs so much
 abbrev pub weight_of : (Hold → ℕ) → Right → ℕ
@@ -168,6 +175,11 @@ leaving (Some q) = DropServer q ∷ []
 abbrev pub attaching : ℕ → ServerToMake → IdSets → Meaning → Task → List Change
 attaching t p ids m x =
     leaving p.instead ++ Attach (fresh t x) p.seat (begun_info m (fresh t (named 1 x)) ids) (begun_root m p.owner p.group p.mode) ∷ Settle ∷ []
+
+-- task t, which stands as x, seats a server that means m, which it was to start, as above, though none leaves for it; it then is to start nothing any more
+abbrev pub starting : ℕ → ServerToMake → IdSets → Meaning → Task → List Change
+starting t p ids m x =
+    Attach (fresh t x) p.seat (begun_info m (fresh t (named 1 x)) ids) (begun_root m p.owner p.group p.mode) ∷ pending t None
 
 -- the answer, where what comes back with a refusal is left out
 abbrev pub without_box : {S T : Type 0} → Result T (Errno × S) → Result T Errno

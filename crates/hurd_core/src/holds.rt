@@ -1,11 +1,11 @@
 //! What rights name is held.
-ghost use Rattle.std.specs.Prelude.{◌≡◌, ◌≤◌, ◌+◌, ◌++◌, ◌∷◌, length};
+ghost use Rattle.std.specs.Prelude.{◌≡◌, ◌≤◌, ◌+◌, ◌++◌, ◌∷◌, length, option_copied};
 ghost use Rattle.hurd_nodes.specs.Held.{less_all, with_holds};
-ghost use Rattle.hurd_core.specs.Core.{holds_of, holds_of_ways};
+ghost use Rattle.hurd_core.specs.Core.{holds_of, holds_of_start, holds_of_ways};
 
 use hurd_creds::NodeName;
 use hurd_nodes::{Hold, Nodes};
-use hurd_ports::{Parent, Parents, Right};
+use hurd_ports::{Parent, Parents, PendingStart, Right};
 use hurd_trans_iface::Server;
 
 /// How many holds it takes for a right to use a node that came in by these ways: one for the node, and two for each way.
@@ -22,6 +22,7 @@ pub(crate) fn holds_of(right: &Right) -> usize
     match right {
         Right::Io(right) => holds_by(&right.parents),
         Right::Control(_) => 1,
+        Right::Start(_) => 1,
     }
 }
 
@@ -53,6 +54,7 @@ pub(crate) fn hold_right<S: Server>(nodes: &mut Nodes<S>, right: &Right)
     match right {
         Right::Io(right) => hold_io(nodes, right.node, &right.parents),
         Right::Control(server) => nodes.hold(Hold::Control(*server)),
+        Right::Start(node) => nodes.hold(Hold::Way(*node)),
     }
 }
 
@@ -76,5 +78,15 @@ pub(crate) fn release_right<S: Server>(nodes: &mut Nodes<S>, right: &Right)
             release_ways(nodes, right.parents.as_slice());
         }
         Right::Control(server) => nodes.release(Hold::Control(*server)),
+        Right::Start(node) => nodes.release(Hold::Way(*node)),
+    }
+}
+
+/// Holds the node of a pending start once less, if there is one.
+pub(crate) fn release_start<S: Server>(nodes: &mut Nodes<S>, pending: Option<&PendingStart>)
+    ensures { nodes.new ≡ with_holds nodes.old (less_all (holds_of_start (option_copied pending.entry)) nodes.old.holds) nodes.new.spare }
+{
+    if let Some(start) = pending {
+        nodes.release(Hold::Way(start.node));
     }
 }

@@ -1,5 +1,5 @@
 //! The core.
-ghost use Rattle.std.specs.Prelude.{◌≡◌, [], ◌∷◌, Ok, IfErr, IfOk, option_copied};
+ghost use Rattle.std.specs.Prelude.{◌≡◌, [], ◌∷◌, Some, None, Ok, IfErr, IfOk, option_copied};
 ghost use Rattle.std.specs.Option.{option_map};
 ghost use Rattle.std.specs.FinMap as fin;
 ghost use Rattle.hurd_creds.specs.Memory.{Meets};
@@ -8,28 +8,28 @@ ghost use Rattle.hurd_trans_iface.specs.Answers.{entry_of, names_of};
 ghost use Rattle.hurd_trans_iface.specs.Behaviour.{edits_of, reading, writing, resizing};
 ghost use Rattle.hurd_trans_iface.specs.Meaning.{Begins, root_of};
 ghost use Rattle.hurd_nodes.specs.Shown.{ServerInfo, are_kin, shown, header_in, tree_by};
-ghost use Rattle.hurd_ports.specs.Tables.{ids_at, io_right_of, lent, right_of, room_of, task_of};
+ghost use Rattle.hurd_ports.specs.Tables.{ids_at, io_right_of, lent, pending_of, right_of, room_of, task_of};
 ghost use Rattle.hurd_ports.specs.Steps.{appending, at_cursor, received, with_ids, with_port};
-ghost use Rattle.hurd_machine.specs.World.{world_from, ports_of, active_at, asked_at, body_at, header_at, home_at, info_at, is_removed, is_server_root, links_at, makes_at, node_at,  readable_at, renames_at, server_at, sets_attrs_at, stream_at, task_at, unlinks_at, words_at};
+ghost use Rattle.hurd_machine.specs.World.{world_from, ports_of, active_at, asked_at, body_at, header_at, home_at, info_at, is_removed, is_server_root, links_at, makes_at, node_at, readable_at, renames_at, server_at, sets_attrs_at, stream_at, task_at, unlinks_at, words_at};
 ghost use Rattle.hurd_machine.specs.Sight.{users};
-ghost use Rattle.hurd_machine.specs.Change.{DropServer, EditBody, EditHeader, EditOpen, EditTask, Send, Settle, Unseat, apply, apply_all, changes_of, dropping, opening};
+ghost use Rattle.hurd_machine.specs.Change.{DropServer, EditBody, EditHeader, EditOpen, EditTask, Send, Settle, Unseat, apply, apply_all, changes_of, dropping, opening, pending};
 ghost use Rattle.hurd_machine.specs.Plan.{Follows, answered, told};
 ghost use Rattle.hurd_machine.specs.Handle.{both_asks, port_asks, handle_asks};
 ghost use Rattle.hurd_machine.specs.declared.call.Reply.TheVariants.{Done};
-ghost use Rattle.hurd_core.specs.Core.{Does, HoldsRights, attaching, naming_asks, without_box, making_asks, making_dir, making_dir_asks, making_open, receive_asks, room_asks, send_asks, unlinking, world_of, asked_only, making_nameless, making_nameless_asks, renaming};
+ghost use Rattle.hurd_core.specs.Core.{Does, HoldsRights, attaching, naming_asks, without_box, making_asks, making_dir, making_dir_asks, making_open, receive_asks, room_asks, send_asks, unlinking, world_of, asked_only, making_nameless, making_nameless_asks, renaming, starting};
 ghost use Rattle.hurd_core.specs.Control.{control_of};
 ghost use Rattle.hurd_core.specs.ToMake.{new_node_of};
 ghost use Rattle.hurd_core.specs.PortNode.{IsTold, both_named, header_with, named};
 
-use crate::holds::{hold_io, hold_right, holds_by, holds_of, release_right};
+use crate::holds::{hold_io, hold_right, holds_by, holds_of, release_right, release_start};
 use crate::port_node::PortNode;
 use crate::to_make::{NamelessToMake, NodeToMake, ServerToMake};
 use hurd_creds::{
     Attrs, Bytes, Errno, Ids, Kind, Mode, NodeName, OpenFlags, OpenName, ServerName, TaskId,
 };
 use hurd_machine::Handle;
-use hurd_nodes::Nodes;
-use hurd_ports::{IoRight, Parents, Ports, Right};
+use hurd_nodes::{Hold, Nodes};
+use hurd_ports::{IoRight, Parents, PendingStart, Ports, Right};
 use hurd_trans_iface::{Names, NewNode, Root, Server, Words};
 use std::alloc::Global;
 use std::marker::Model;
@@ -73,6 +73,13 @@ impl<S: Server> Core<S> {
         self.ports.io_right(task, port)
     }
 
+    /// What a task is to start, if it is there and is to start anything.
+    pub fn pending(&self, task: TaskId) -> Option<&PendingStart>
+        ensures { option_copied result ≡ pending_of (ports_of (world_of S.meaning self.now)) task.0 }
+    {
+        self.ports.pending(task)
+    }
+
     /// The server that a port of a task controls.
     ///
     /// Errors, in order: `ESRCH` no such task, `EBADF` no such port, or one to use a node.
@@ -82,6 +89,7 @@ impl<S: Server> Core<S> {
         match self.ports.right(task, port)? {
             Right::Control(server) => Ok(*server),
             Right::Io(_) => Err(Errno::EBADF),
+            Right::Start(_) => Err(Errno::EBADF),
         }
     }
 
@@ -506,6 +514,35 @@ impl<S: Server> Core<S> {
         self.ports.take_ids(task, ids)
     }
 
+    /// The task is to start this from now on, in place of what it was to start before. What nothing keeps any more goes.
+    ///
+    /// Errors, in order: `ESRCH` no such task, `ENOMEM`.
+    pub fn pend(&mut self, task: TaskId, start: PendingStart) -> Result<(), Errno>
+        ensures { let w = world_of S.meaning self.old in
+            Does w (task_of (ports_of w) task.0) (λ x. pending task.0 (Some start)) (λ x. tt) result (world_of S.meaning self.new) }
+    {
+        self.ports.has_task(task)?;
+        self.nodes.reserve_holds(1)?;
+        self.nodes.hold(Hold::Way(start.node));
+        release_start(&mut self.nodes, self.ports.pending(task));
+        self.nodes.settle();
+        self.ports.set_pending(task, Some(start))
+    }
+
+    /// The task is to start nothing any more. What nothing keeps any more goes. Takes no memory.
+    ///
+    /// `ESRCH`: no such task.
+    pub fn unpend(&mut self, task: TaskId) -> Result<(), Errno>
+        ensures { let w = world_of S.meaning self.old in
+            Follows w (answered (task_of (ports_of w) task.0) (λ x. record { reply = Done; changes = pending task.0 None }))
+            (told (λ u. Done) result) (world_of S.meaning self.new) }
+    {
+        self.ports.has_task(task)?;
+        release_start(&mut self.nodes, self.ports.pending(task));
+        self.nodes.settle();
+        self.ports.set_pending(task, None)
+    }
+
     /// Lets an open append, or not, if it is there. Takes no memory.
     pub fn set_append(&mut self, open_name: OpenName, append: bool)
         ensures { world_of S.meaning self.new ≡ apply (EditOpen open_name (appending append)) (world_of S.meaning self.old) }
@@ -636,6 +673,37 @@ impl<S: Server> Core<S> {
         self.ports.take_name(task);
         self.ports.opens_are_held();
         self.nodes.settle();
+        Ok(())
+    }
+
+    /// Seats a new server on a node, as `attach` does where none leaves for it, for the task that was to start it; the task then is
+    /// to start nothing any more. What nothing keeps any more goes.
+    ///
+    /// Errors, in order, with the box back: `ESRCH` no such task, `EOVERFLOW`, `ENOMEM`.
+    pub fn start(
+        &mut self,
+        task: TaskId,
+        place: ServerToMake,
+        ids: Ids,
+        server: S,
+    ) -> Result<(), (Errno, S)>
+        requires { Begins (S.meaning server) }
+        ensures does { let w = world_of S.meaning self.old in
+            Does w (naming_asks w task.0 2) (starting task.0 place ids (S.meaning server)) (λ x. tt) (without_box result) (world_of S.meaning self.new) }
+        ensures back { IfErr result (λ e. e.1 ≡ server) }
+    {
+        if let Err(refused) = self.ports.naming(task, 2) {
+            return Err((refused, server));
+        }
+        let Some(name) = self.ports.next_name(task) else {
+            return Err((Errno::ESRCH, server));
+        };
+        self.nodes.attach(place.place(name), ids, None, server)?;
+        self.ports.take_name(task);
+        self.ports.take_name(task);
+        release_start(&mut self.nodes, self.ports.pending(task));
+        self.nodes.settle();
+        let _ = self.ports.set_pending(task, None);
         Ok(())
     }
 

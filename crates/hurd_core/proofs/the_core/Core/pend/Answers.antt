@@ -1,0 +1,27 @@
+-- The ports with the pending start, whose node is held once more, and that of the one before once less, are the world with it.
+use Rattle.std.proofs.Common.{◌≡◌, ℕ, List, refl, sym, ap, inl, inr}
+use Rattle.std.specs.Prelude.{is_ok, option_copied}
+use Rattle.std.proofs.lemmas.Result.{err_from_is_err_and}
+use Rattle.hurd_nodes.specs.declared.seat.Hold.{Hold}
+use Rattle.hurd_nodes.specs.Shown.{shown}
+use Rattle.hurd_core.proofs.StartLaws.{pended-does, pended-holds, task-had}
+use Rattle.hurd_core.proofs.the_core.Core.pend.Goals as goal
+
+pub invariant_of-self-2 : goal.invariant_of-self-2
+invariant_of-self-2 g c =
+    let H = c.self.inside.ports.state in
+    let t = c.args.task.0 in
+    let x = task-had H t c.in_ok-has_task.field-0 c.in_ok-has_task.ensures in
+    rw (ap (λ (p : List Hold × ℕ). p.0) c.settle.ensures.holds, c.release_start.ensures, c.hold.ensures, c.in_ok-reserve_holds.ensures.ok.0)
+    (pended-holds (shown g.S.Server.meaning c.self.inside.nodes) H t x.0 x.1 c.self.inside.nodes.holds c.self.invariant (option_copied c.pending.result) c.pending.ensures c.args.start
+    c.set_pending.result c.set_pending.new.self.state c.set_pending.ensures.answer)
+
+pub returns : goal.returns
+returns g c =
+    let H = c.self.inside.ports.state in
+    let t = c.args.task.0 in
+    let x = task-had H t c.in_ok-has_task.field-0 c.in_ok-has_task.ensures in
+    let left = rw (c.release_start.ensures, c.hold.ensures, c.in_ok-reserve_holds.ensures.ok.0) at c.settle.ensures.shown in
+    rw (← c.self.view_is)
+    (pended-does (shown g.S.Server.meaning c.self.inside.nodes) H t x.0 x.1 c.self.inside.nodes.holds c.self.invariant (option_copied c.pending.result) c.pending.ensures c.args.start
+    c.set_pending.result c.set_pending.new.self.state c.set_pending.ensures.answer c.set_pending.ensures.settled (shown g.S.Server.meaning c.settle.new.self) left)
