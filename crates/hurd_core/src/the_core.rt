@@ -7,8 +7,8 @@ ghost use Rattle.hurd_trans_iface.specs.Nodes.{attrs_of, linked, passive_of, wit
 ghost use Rattle.hurd_trans_iface.specs.Answers.{entry_of, names_of};
 ghost use Rattle.hurd_trans_iface.specs.Behaviour.{edits_of, reading, writing, resizing};
 ghost use Rattle.hurd_trans_iface.specs.Meaning.{Begins, root_of};
-ghost use Rattle.hurd_nodes.specs.Shown.{ServerInfo, are_kin, shown, header_in, tree_by};
-ghost use Rattle.hurd_ports.specs.Tables.{ids_at, io_right_of, lent, pending_of, right_of, room_of, task_of};
+ghost use Rattle.hurd_nodes.specs.Shown.{ServerInfo, are_kin, options_in, shown, header_in, tree_by};
+ghost use Rattle.hurd_ports.specs.Tables.{ids_at, io_right_of, lent, naming_of, pending_of, right_of, room_of, task_of};
 ghost use Rattle.hurd_ports.specs.Steps.{appending, at_cursor, received, with_ids, with_port};
 ghost use Rattle.hurd_machine.specs.World.{world_from, ports_of, active_at, asked_at, body_at, header_at, home_at, info_at, is_removed, is_server_root, links_at, makes_at, node_at, readable_at, renames_at, server_at, sets_attrs_at, stream_at, task_at, unlinks_at, words_at};
 ghost use Rattle.hurd_machine.specs.Sight.{users};
@@ -191,6 +191,15 @@ impl<S: Server> Core<S> {
         self.ports.room(task, names)
     }
 
+    /// Whether a task can name so many more things.
+    ///
+    /// Errors, in order: `ESRCH` no such task, `EOVERFLOW`.
+    pub fn naming(&self, task: TaskId, names: u64) -> Result<(), Errno>
+        ensures { result ≡ naming_of (ports_of (world_of S.meaning self.now)) task.0 names }
+    {
+        self.ports.naming(task, names)
+    }
+
     /// The attributes of a node, if it is there.
     pub fn attrs(&self, node: NodeName) -> Option<Attrs>
         ensures all { result ≡ option_map attrs_of (fin.get (world_of S.meaning self.now).nodes node) }
@@ -290,6 +299,15 @@ impl<S: Server> Core<S> {
         ensures { Meets (names_of (body_at (world_of S.meaning self.now) dir)) result }
     {
         self.nodes.names(alloc, dir)
+    }
+
+    /// The program and the words of a server, as they would be given to make such a server now.
+    ///
+    /// Errors, in order: `EDIED` no such server, `ENOMEM`.
+    pub fn options(&self, alloc: Global, server: ServerName) -> Result<Words, Errno>
+        ensures { Meets (options_in (server_at (world_of S.meaning self.now) server)) result }
+    {
+        self.nodes.options(alloc, server)
     }
 
     /// How many bytes there are to read in a node at a place; none where it is gone.
