@@ -5,7 +5,7 @@ use Rattle.hurd_creds.specs.declared.name.Name.{Name}
 use Rattle.hurd_creds.specs.declared.errno.Errno.{Errno}
 use Rattle.hurd_creds.specs.declared.errno.Errno.TheVariants.{EBADF, EDIED}
 use Rattle.hurd_ports.specs.declared.table.Right.{Right}
-use Rattle.hurd_ports.specs.declared.table.Right.TheVariants.{Io, Control}
+use Rattle.hurd_ports.specs.declared.table.Right.TheVariants.{Io, Control, Start}
 use Rattle.hurd_ports.specs.Tables.{Task, right_of, names_open}
 use Rattle.hurd_machine.specs.World.{World, ports_of, task_at, server_at}
 use Rattle.std.proofs.lemmas.Bool.{or_cases}
@@ -35,6 +35,7 @@ control_is w t c s h = go (right_of (ports_of w) t c) h
     go : (o : Result Right Errno) → control_in o ≡ Ok s → o ≡ Ok (Control s)
     go (Err e) k = absurd (cc)
     go (Ok (Io r)) k = absurd (cc)
+    go (Ok (Start n)) k = absurd (cc)
     go (Ok (Control q)) k = let same : q ≡ s = cc in ap (λ (z : Name). Ok (Control z)) same
 
 pub control_same : {S : ℕ → Bool} {v w : World} → Agree S v w → (t : ℕ) → S t ≡ true → (c : ℕ) → control_of (ports_of w) t c ≡ control_of (ports_of v) t c
@@ -47,6 +48,7 @@ control_plain w t c = go (right_of (ports_of w) t c) (right_plain w t c)
     go (Err e) p = err_plain e (p e refl)
     go (Ok (Io r)) p = err_plain EBADF refl
     go (Ok (Control q)) p = ok_plain q
+    go (Ok (Start n)) p = err_plain EBADF refl
 
 -- a server that a port controls
 pub record IsControlled (w : World) (t c : ℕ) (k : Controlled) : Type 0 where

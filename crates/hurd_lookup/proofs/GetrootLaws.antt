@@ -9,7 +9,7 @@ use Rattle.hurd_trans_iface.specs.Nodes.{Header, is_dir}
 use Rattle.hurd_nodes.specs.Shown.{ServerInfo}
 use Rattle.hurd_ports.specs.declared.table.IoRight.{IoRight}
 use Rattle.hurd_ports.specs.declared.table.Right.{Right}
-use Rattle.hurd_ports.specs.declared.table.Right.TheVariants.{Io, Control}
+use Rattle.hurd_ports.specs.declared.table.Right.TheVariants.{Io, Control, Start}
 use Rattle.hurd_ports.specs.Tables.{Task, right_of, io_right_of}
 use Rattle.hurd_machine.specs.World.{World, ports_of, task_at, header_at, server_at}
 use Rattle.hurd_machine.specs.Sight.{Holds, UidOfTask, GidOfTask, Taken, Seen, Controlled, OfControl}
@@ -34,6 +34,7 @@ control_is w t c s h = go (right_of (ports_of w) t c) h
     go : (o : Result Right Errno) → control_in o ≡ Ok s → o ≡ Ok (Control s)
     go (Err e) k = absurd (cc)
     go (Ok (Io r)) k = absurd (cc)
+    go (Ok (Start n)) k = absurd (cc)
     go (Ok (Control q)) k = let same : q ≡ s = cc in ap (λ (z : Name). Ok (Control z)) same
 
 control_same : {S : ℕ → Bool} {v w : World} → Agree S v w → (t : ℕ) → S t ≡ true → (c : ℕ) → control_of (ports_of w) t c ≡ control_of (ports_of v) t c
@@ -46,6 +47,7 @@ control_plain w t c = go (right_of (ports_of w) t c) (right_plain w t c)
     go (Err e) p = err_plain e (p e refl)
     go (Ok (Io r)) p = err_plain EBADF refl
     go (Ok (Control q)) p = ok_plain q
+    go (Ok (Start n)) p = err_plain EBADF refl
 
 control_held : {S : ℕ → Bool} {v : World} (t : ℕ) → S t ≡ true → (c : ℕ) (s : Name) → control_of (ports_of v) t c ≡ Ok s → Holds S v (Control s)
 control_held {S} {v} t ours c s is = holds_right t ours c (Control s) (control_is v t c s is)

@@ -15,7 +15,7 @@ use Rattle.hurd_nodes.specs.Shown.{boot_name}
 use Rattle.hurd_ports.specs.declared.table.Opened.{Opened}
 use Rattle.hurd_ports.specs.declared.table.IoRight.{IoRight}
 use Rattle.hurd_ports.specs.declared.table.Right.{Right}
-use Rattle.hurd_ports.specs.declared.table.Right.TheVariants.{Io, Control}
+use Rattle.hurd_ports.specs.declared.table.Right.TheVariants.{Io, Control, Start}
 use Rattle.hurd_ports.specs.declared.table.Port.{Port}
 use Rattle.hurd_ports.specs.Tables.{OpenMap, Task, IsSettled, is_held, names_open, rights_of}
 use Rattle.hurd_ports.specs.Steps.{new_open}
@@ -79,6 +79,7 @@ pub record IsBootRight (t : ℕ) (r : IoRight) : Type 0 where
 abbrev pub IsFirst : ℕ → Right → Type 0
 IsFirst t (Io r) = IsBootRight t r
 IsFirst t (Control s) = ⊥
+IsFirst t (Start n) = ⊥
 
 -- each right of a task is one
 pub boot_right : (t : ℕ) (ids : IdSets) (r : Right) → IsAmong r (rights_of (boot_task t ids)) → IsFirst t r

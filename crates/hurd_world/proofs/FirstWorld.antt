@@ -22,7 +22,7 @@ use Rattle.hurd_nodes.specs.Shown.{NodeState, ServerInfo, boot_name, boot_mode, 
 use Rattle.hurd_ports.specs.declared.table.Opened.{Opened}
 use Rattle.hurd_ports.specs.declared.parents.Parent.{Parent}
 use Rattle.hurd_ports.specs.declared.table.Right.{Right}
-use Rattle.hurd_ports.specs.declared.table.Right.TheVariants.{Io, Control}
+use Rattle.hurd_ports.specs.declared.table.Right.TheVariants.{Io, Control, Start}
 use Rattle.hurd_ports.specs.Tables.{Task, rights_of, ways_of}
 use Rattle.hurd_machine.specs.World.{World, IsAmong, lists, lists_at, task_at}
 use Rattle.hurd_machine.specs.Sound.{IsGivenRight, Sound, Below, HasDistinctNames, AreGiven, AreHoused, AreSeated, IsTree, AreTables, Hangs, Linked, AreSized, AtRest, times_in, times_listed}
@@ -186,6 +186,7 @@ module _ (kind : ServerKind) (text : List ℕ) where
     right_given : (t : ℕ) (r : Right) → IsFirst t r → IsGivenRight w r
     right_given t (Io r) is = (λ n named. elim named [ inl e ↦ named_root n (sym e ∙ is.node) | inr way ↦ absurd (subst (λ (ps : List Parent). IsAmong n (ways_of ps)) is.parents way) ], named_open t r.open_name is.open_name)
     right_given t (Control s) is = absurd is
+    right_given t (Start n) is = absurd is
 
     given : AreGiven w
     given = record {

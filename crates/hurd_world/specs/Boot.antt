@@ -1,5 +1,5 @@
 -- The first world.
-use Rattle.std.specs.Prelude.{ℕ, ◌+◌, not, if◌then◌else◌, List, [], ◌∷◌, length, nat_le, Result, Ok, Err}
+use Rattle.std.specs.Prelude.{ℕ, ◌+◌, not, if◌then◌else◌, List, [], ◌∷◌, None, length, nat_le, Result, Ok, Err}
 use Rattle.std.specs.FinMap as fin
 use Rattle.hurd_creds.specs.declared.errno.Errno.{Errno}
 use Rattle.hurd_creds.specs.declared.errno.Errno.TheVariants.{EINVAL, ENOTDIR}
@@ -40,6 +40,7 @@ boot_task t ids = record {
   next = 3;
   inbox = [];
   made = 2;
+  pending = None;
 }
 
 -- the tasks from number t on
