@@ -12,3 +12,4 @@ pub mod PlanLaws
 pub mod UnlinkLaws
 pub mod RenameLaws
 pub mod ServerLaws
+pub mod NamedLaws

@@ -1,0 +1,14 @@
+-- The rights, each with the header that the attributes and the words of its node are.
+use Rattle.std.proofs.Common.{sym}
+use Rattle.std.specs.Prelude.{option_copied}
+use Rattle.hurd_nodes.specs.Shown.{shown}
+use Rattle.hurd_machine.specs.World.{world_from}
+use Rattle.hurd_core.proofs.NamedLaws.{both_told}
+use Rattle.hurd_core.proofs.the_core.Core.port_nodes.Goals as goal
+
+pub returns-clause-is : goal.returns-clause-is
+returns-clause-is g c =
+    rw (← c.self.view_is)
+    (sym (both_told (world_from (shown g.S.Server.meaning c.self.inside.nodes) c.self.inside.ports.state) c.args.task.0 c.args.port c.args.other
+    c.in_ok-right.right.now c.in_ok-second.second.now c.in-Some.attrs c.in-Some-attrs.others (option_copied c.passive.result) (option_copied c.passive-2.result)
+    (sym c.in_ok-right.ensures) (sym c.in_ok-second.ensures) c.in-Some.ensures.all c.passive.ensures c.in-Some-attrs.ensures.all c.passive-2.ensures))
