@@ -22,7 +22,7 @@ pub begun-as : (k : ServerKind) (ws : List (List ℕ)) (m : Meaning) → begin_a
 begun-as k [] m h = absurd (cc)
 begun-as k (w ∷ ws) m h = new_if k (bytes_eq w (behaviour_of k).program) ((behaviour_of k).begins ws) m h
 
-first_or : (p q : Option Meaning) (m : Meaning) → option_or p q ≡ Some m → (p ≡ Some m) ⊎ (q ≡ Some m)
+pub first_or : (p q : Option Meaning) (m : Meaning) → option_or p q ≡ Some m → (p ≡ Some m) ⊎ (q ≡ Some m)
 first_or None q m h = inr h
 first_or (Some x) q m h = inl h
 
