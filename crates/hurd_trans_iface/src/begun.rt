@@ -109,5 +109,4 @@ pub fn words_ok(words: &[Bytes]) -> bool
 /// The words that a server says of itself make it again, as it was when it began.
 pub fn options_begin()
     ensures { (words : List (List ℕ)) (m : Meaning) → begin words ≡ Some m → begin (options_of m.kind m.text) ≡ Some m }
-{
-}
+{}
