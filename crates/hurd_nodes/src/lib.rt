@@ -9,9 +9,10 @@
 //! active on a node.
 //!
 //! It knows what is named from outside, once for each naming (`hold`, `release`): nodes by rights to use them, nodes by ways
-//! that rights came in by and by starts that are pending, servers by rights to control them. A server that nothing keeps any more, no naming, seat or node
-//! of its own that is named, goes by `settle`, and so does a node that no root, entry or naming keeps, or whose server went;
-//! then its box forgets it. What is left is the greatest part in which all stay, in whatever order things go.
+//! that rights came in by and by starts that are pending, servers by rights to control them. A server that nothing keeps any
+//! more, no naming, seat or node of its own that is named, goes by `settle`, and so does a node that no root, entry or naming
+//! keeps, or whose server went; then its box forgets it. What is left is the greatest part in which all stay, in whatever order
+//! things go.
 //!
 //! It doesn't decide who may ask: that is for the calls.
 #![tactic(auto)]

@@ -1,11 +1,11 @@
 -- The texts that words say are short, and the words that say a short text are within their limits.
-use Rattle.std.proofs.Common.{◌≡◌, ℕ, ◌≤◌, ◌+◌, ◌-◌, Bool, true, false, List, [], ◌∷◌, ◌++◌, length, take, drop, sum_by, nat_le, ◌&&◌, if◌then◌else◌, codes, refl, ap, sym, ◌∙◌, subst, arith}
+use Rattle.std.proofs.Common.{◌≡◌, ℕ, ◌≤◌, ◌+◌, Bool, true, false, List, [], ◌∷◌, ◌++◌, length, take, drop, nat_le, if◌then◌else◌, codes, refl, ap, sym, subst, arith}
 use Rattle.std.specs.Prelude.{Option, Some, None}
 use Rattle.std.specs.Str.{bytes_eq}
 use Rattle.std.proofs.lemmas.Bool.Decides.{nat_tests}
 use Rattle.std.proofs.lemmas.List.{length-append, length-take, length-drop}
 use Rattle.std.proofs.lemmas.Slice.Eq.{bytes_eq-Decides}
-use Rattle.hurd_trans_iface.specs.HelloKind.{behind, hello_text, most_text}
+use Rattle.hurd_trans_iface.specs.HelloKind.{hello_text, most_text}
 use Rattle.hurd_trans_iface.specs.SymlinkKind.{most_path}
 use Rattle.hurd_trans_iface.specs.Meaning.{Hello, Symlink, options_of}
 use Rattle.hurd_trans_iface.specs.Words.{IsWithinLimits}

@@ -1,4 +1,5 @@
 pub mod Beginnings
+pub mod Options
 pub mod Lengths
 pub mod Goodness
 pub mod TmpfsGood

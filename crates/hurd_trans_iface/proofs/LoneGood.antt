@@ -1,10 +1,10 @@
 -- Servers of one node that nothing changes are good.
-use Rattle.std.proofs.Common.{◌≡◌, ℕ, Bool, true, false, List, nat_lt, if◌then◌else◌, refl, sym, ◌∙◌, true≢false}
-use Rattle.std.specs.Prelude.{Option, None}
-use Rattle.hurd_trans_iface.specs.Nodes.{Body, Header, Node}
+use Rattle.std.proofs.Common.{◌≡◌, ℕ, false, List, nat_lt, refl, sym, ◌∙◌, true≢false}
+use Rattle.std.specs.Prelude.{None}
+use Rattle.hurd_trans_iface.specs.Nodes.{Body, Node}
 use Rattle.hurd_trans_iface.specs.Answers.{is_tree}
-use Rattle.hurd_trans_iface.specs.Behaviour.{Did, Behaviour, Question, reading, writing, resizing, bytes_left, node_left, size_left}
-use Rattle.hurd_trans_iface.specs.Good.{GoodBehaviour, IsBlind, IsSized, KeepsSizes}
+use Rattle.hurd_trans_iface.specs.Behaviour.{Did, Behaviour, Question, reading, writing, resizing}
+use Rattle.hurd_trans_iface.specs.Good.{GoodBehaviour, IsBlind, KeepsSizes}
 use Rattle.hurd_trans_iface.specs.TmpfsKind.{most_bytes}
 use Rattle.hurd_trans_iface.specs.HelloKind.{hello}
 use Rattle.hurd_trans_iface.specs.NullKind.{null}

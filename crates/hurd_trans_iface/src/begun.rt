@@ -1,7 +1,7 @@
 //! Which words make a server.
-ghost use Rattle.std.specs.Prelude.{◌≡◌, codes, is_some};
+ghost use Rattle.std.specs.Prelude.{◌≡◌, ℕ, List, Some, codes, is_some};
 ghost use Rattle.hurd_trans_iface.specs.HelloKind.{behind, hello_text};
-ghost use Rattle.hurd_trans_iface.specs.Meaning.{Tmpfs, Hello, Null, Zero, Symlink, begin, begin_as};
+ghost use Rattle.hurd_trans_iface.specs.Meaning.{Meaning, Tmpfs, Hello, Null, Zero, Symlink, begin, begin_as, options_of};
 ghost use Rattle.hurd_trans_iface.specs.SymlinkKind.{target_text};
 ghost use Rattle.hurd_trans_iface.specs.TmpfsKind.{no_text};
 
@@ -105,3 +105,8 @@ pub fn words_ok(words: &[Bytes]) -> bool
         || makes_zero(words)
         || makes_symlink(words)
 }
+
+/// The words that a server says of itself make it again, as it was when it began.
+pub fn options_begin()
+    ensures { (words : List (List ℕ)) (m : Meaning) → begin words ≡ Some m → begin (options_of m.kind m.text) ≡ Some m }
+{}

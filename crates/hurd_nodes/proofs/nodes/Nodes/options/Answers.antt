@@ -1,5 +1,5 @@
 use Rattle.std.proofs.Common.{sym, ap, inl, subst}
-use Rattle.std.specs.Prelude.{Option, Result}
+use Rattle.std.specs.Prelude.{Option}
 use Rattle.hurd_creds.specs.Memory.{Meets}
 use Rattle.hurd_nodes.specs.Shown.{ServerInfo, options_in}
 use Rattle.hurd_nodes.proofs.StayLaws.{info-found, info-absent}

@@ -1,0 +1,52 @@
+-- The words that a server says of itself make it again.
+use Rattle.std.proofs.Common.{◌≡◌, inl, inr, ◌&&◌, Bool, true, false, cond, if◌then◌else◌, List, ℕ, [], ◌∷◌, length, nat_le, refl, subst}
+use Rattle.std.specs.Prelude.{Option, Some, None}
+use Rattle.std.specs.Option.{option_map}
+use Rattle.std.specs.Str.{bytes_eq}
+use Rattle.hurd_trans_iface.specs.Meaning.{Meaning, ServerKind, Tmpfs, Hello, Null, Zero, Symlink, all_kinds, begin, begin_among, begin_as, behaviour_of, new_server, options_of}
+use Rattle.hurd_trans_iface.specs.SymlinkKind.{most_path}
+use Rattle.hurd_trans_iface.proofs.Beginnings.{first_or}
+
+abbrev Remakes : Meaning → Type 0
+Remakes m = begin (options_of m.kind m.text) ≡ Some (new_server m.kind m.text)
+
+link_remade : (b : Bool) (w text : List ℕ) → (nat_le 1 (length w) && nat_le (length w) most_path) ≡ b
+    → (let o : Option (List ℕ) = if b then Some w else None in o) ≡ Some text → Remakes (new_server Symlink text)
+link_remade false w text is h = absurd (cc)
+link_remade true w text is h = let same : w ≡ text = cc in subst (λ (t : List ℕ). Remakes (new_server Symlink t)) same (rw is refl)
+
+-- a text that words said
+remade : (k : ServerKind) (ws : List (List ℕ)) (text : List ℕ) → (behaviour_of k).begins ws ≡ Some text → Remakes (new_server k text)
+remade Tmpfs [] text h = let same : [] ≡ text = cc in subst (λ (t : List ℕ). Remakes (new_server Tmpfs t)) same refl
+remade Tmpfs (w ∷ ws) text h = absurd (cc)
+remade Hello ws text h = refl
+remade Null [] text h = let same : [] ≡ text = cc in subst (λ (t : List ℕ). Remakes (new_server Null t)) same refl
+remade Null (w ∷ ws) text h = absurd (cc)
+remade Zero [] text h = let same : [] ≡ text = cc in subst (λ (t : List ℕ). Remakes (new_server Zero t)) same refl
+remade Zero (w ∷ ws) text h = absurd (cc)
+remade Symlink [] text h = absurd (cc)
+remade Symlink (w ∷ []) text h = link_remade (nat_le 1 (length w) && nat_le (length w) most_path) w text refl h
+remade Symlink (w ∷ v ∷ ws) text h = absurd (cc)
+
+abbrev AgainIs : Meaning → Type 0
+AgainIs m = begin (options_of m.kind m.text) ≡ Some m
+
+again_text : (k : ServerKind) (ws : List (List ℕ)) (o : Option (List ℕ)) (m : Meaning) → (behaviour_of k).begins ws ≡ o → option_map (new_server k) o ≡ Some m → AgainIs m
+again_text k ws None m is h = absurd (cc)
+again_text k ws (Some text) m is h = let same : new_server k text ≡ m = cc in subst AgainIs same (remade k ws text is)
+
+again_if : (k : ServerKind) (b : Bool) (ws : List (List ℕ)) (m : Meaning) → cond b (option_map (new_server k) ((behaviour_of k).begins ws)) None ≡ Some m → AgainIs m
+again_if k true ws m h = again_text k ws ((behaviour_of k).begins ws) m refl h
+again_if k false ws m h = absurd (cc)
+
+again_as : (k : ServerKind) (ws : List (List ℕ)) (m : Meaning) → begin_as k ws ≡ Some m → AgainIs m
+again_as k [] m h = absurd (cc)
+again_as k (w ∷ ws) m h = again_if k (bytes_eq w (behaviour_of k).program) ws m h
+
+again_among : (ks : List ServerKind) (ws : List (List ℕ)) (m : Meaning) → begin_among ks ws ≡ Some m → AgainIs m
+again_among [] ws m h = absurd (cc)
+again_among (k ∷ ks) ws m h =
+    elim (first_or (begin_as k ws) (begin_among ks ws) m h) [ inl first ↦ again_as k ws m first | inr later ↦ again_among ks ws m later ]
+
+pub begun-again : (ws : List (List ℕ)) (m : Meaning) → begin ws ≡ Some m → begin (options_of m.kind m.text) ≡ Some m
+begun-again ws m h = again_among all_kinds ws m h
