@@ -1,5 +1,5 @@
 -- Which calls names and arguments make.
-use Rattle.std.specs.Prelude.{ℕ, ◌+◌, List, [], ◌∷◌, Option, Some, None, bytes_eq, codes, drop, option_and_then, option_map, take}
+use Rattle.std.specs.Prelude.{ℕ, ◌+◌, List, [], ◌∷◌, Option, Some, None, if◌then◌else◌, bytes_eq, codes, drop, option_and_then, option_map, take}
 use Rattle.std.specs.List.{position}
 use Rattle.hurd_trans_iface.specs.Meaning.{Meaning, begin}
 use Rattle.hurd_machine.specs.Calls.{Call}
