@@ -26,6 +26,7 @@ lacks_by f (Port x) = refl
 lacks_by f (Data x) = refl
 lacks_by f (Count x) = refl
 lacks_by f (Names x) = refl
+lacks_by f (Words x) = refl
 lacks_by f (Stat x) = refl
 lacks_by f (Modes x) = refl
 lacks_by f (Same x) = refl

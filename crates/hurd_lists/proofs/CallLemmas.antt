@@ -4,9 +4,14 @@ use Rattle.std.specs.Prelude.{IfSome}
 use Rattle.std.specs.Option.{option_map}
 use Rattle.hurd_trans_iface.specs.Meaning.{Meaning, Begins, begin}
 use Rattle.hurd_machine.specs.declared.call.Call as call
-use Rattle.hurd_machine.specs.declared.call.Call.TheVariants.{PortDeallocate, PortSend, PortReceive, AuthMakeauth, DirLookup, IoRead, IoWrite, IoSeek, IoStat, IoReadable, IoGetOpenmodes, IoSetAllOpenmodes, IoDuplicate, IoReauthenticate, IoRestrictAuth, IoIdentity, FileSetSize, FileChmod, FileChown, FileCheckAccess, FileSetTranslator, FileGetTranslatorCntl, FsysGetroot, FsysGoaway, DirReaddir, DirMkdir, DirMkfile, DirRmdir, DirUnlink, DirLink, DirRename}
+use Rattle.hurd_machine.specs.declared.call.Call.TheVariants.{PortDeallocate, PortSend, PortReceive, AuthMakeauth, DirLookup, IoRead, IoWrite, IoSeek, IoStat, IoReadable, IoGetOpenmodes, IoSetAllOpenmodes, IoDuplicate, IoReauthenticate, IoRestrictAuth, IoIdentity, FileSetSize, FileChmod, FileChown, FileCheckAccess, FileSetTranslator, FileGetTranslator, FileGetTranslatorCntl, FileGetcontrol, FsysStartup, StartFailed, FsysGetroot, FsysGoaway, FsysGetOptions, DirReaddir, DirMkdir, DirMkfile, DirRmdir, DirUnlink, DirLink, DirRename}
 use Rattle.hurd_machine.specs.Calls.{BringsBegun, Call, call_by}
-use Rattle.hurd_lists.specs.Calls.{begun, with_server}
+use Rattle.hurd_lists.specs.Calls.{begun, started, with_server}
+
+-- what a start with a server means
+started_by : {S : Type 0} (f : S → Meaning) (s : Option S) → call_by f (started s) ≡ started (option_map f s)
+started_by f None = refl
+started_by f (Some s) = refl
 
 -- what a call with another server means
 pub served_by : {S : Type 0} (f : S → Meaning) (s : Option S) (c : call.Call S) → call_by f (with_server s c) ≡ with_server (option_map f s) (call_by f c)
@@ -31,9 +36,14 @@ served_by f s (FileChmod p mode) = refl
 served_by f s (FileChown p owner group) = refl
 served_by f s (FileCheckAccess p) = refl
 served_by f s (FileSetTranslator p setting words server) = refl
+served_by f s (FileGetTranslator p) = refl
 served_by f s (FileGetTranslatorCntl p) = refl
+served_by f s (FileGetcontrol p) = refl
+served_by f s (FsysStartup server) = started_by f s
+served_by f s StartFailed = started_by f s
 served_by f s (FsysGetroot k dir flags) = refl
 served_by f s (FsysGoaway k flags) = refl
+served_by f s (FsysGetOptions k) = refl
 served_by f s (DirReaddir p) = refl
 served_by f s (DirMkdir p name mode) = refl
 served_by f s (DirMkfile p flags mode) = refl
@@ -49,6 +59,10 @@ begun_by words (Some m) e = (words, e)
 are_begun : (words : Option (List (List ℕ))) → IfSome (begun words) Begins
 are_begun None = tt
 are_begun (Some words) = begun_by words (begin words) refl
+
+start_begun : (s : Option Meaning) → IfSome s Begins → BringsBegun (started s)
+start_begun None h = tt
+start_begun (Some m) h = h
 
 -- the server of some words is one that words made
 pub brings_begun : (words : Option (List (List ℕ))) (c : Call) → BringsBegun (with_server (begun words) c)
@@ -73,9 +87,14 @@ brings_begun words (FileChmod p mode) = tt
 brings_begun words (FileChown p owner group) = tt
 brings_begun words (FileCheckAccess p) = tt
 brings_begun words (FileSetTranslator p setting others server) = are_begun words
+brings_begun words (FileGetTranslator p) = tt
 brings_begun words (FileGetTranslatorCntl p) = tt
+brings_begun words (FileGetcontrol p) = tt
+brings_begun words (FsysStartup server) = start_begun (begun words) (are_begun words)
+brings_begun words StartFailed = start_begun (begun words) (are_begun words)
 brings_begun words (FsysGetroot k dir flags) = tt
 brings_begun words (FsysGoaway k flags) = tt
+brings_begun words (FsysGetOptions k) = tt
 brings_begun words (DirReaddir p) = tt
 brings_begun words (DirMkdir p name mode) = tt
 brings_begun words (DirMkfile p flags mode) = tt
@@ -88,7 +107,13 @@ begun_box : {S : Type 0} (f : S → Meaning) (s : Option S) → IfSome s (λ x. 
 begun_box f None h = tt
 begun_box f (Some x) h = h
 
+begun_start : {S : Type 0} (f : S → Meaning) (s : Option S) → IfSome s (λ x. Begins (f x)) → BringsBegun (call_by f (started s))
+begun_start f None h = tt
+begun_start f (Some x) h = h
+
 -- a call with a server that some words made, or none
 pub with_begun : {S : Type 0} (f : S → Meaning) (s : Option S) (c : call.Call S) → IfSome s (λ x. Begins (f x)) → BringsBegun (call_by f (with_server s c))
 with_begun f s (FileSetTranslator p setting words server) h = begun_box f s h
+with_begun f s (FsysStartup server) h = begun_start f s h
+with_begun f s StartFailed h = begun_start f s h
 with_begun f s _ h = tt

@@ -1,5 +1,5 @@
 -- Which calls names and arguments make.
-use Rattle.std.specs.Prelude.{ℕ, ◌+◌, List, [], ◌∷◌, Option, Some, None, bytes_eq, codes, drop, option_and_then, option_map, take}
+use Rattle.std.specs.Prelude.{ℕ, ◌+◌, List, [], ◌∷◌, Option, Some, None, if◌then◌else◌, bytes_eq, codes, drop, option_and_then, option_map, take}
 use Rattle.std.specs.List.{position}
 use Rattle.hurd_trans_iface.specs.Meaning.{Meaning, begin}
 use Rattle.hurd_machine.specs.Calls.{Call}
@@ -36,6 +36,11 @@ entry _ = None
 abbrev pub port_receive : List (List ℕ) → Option Call
 port_receive [] = Some call.PortReceive
 port_receive _ = None
+
+-- no argument
+abbrev pub start_failed : List (List ℕ) → Option Call
+start_failed [] = Some call.StartFailed
+start_failed _ = None
 
 -- `UIDS GIDS`
 abbrev pub auth_makeauth : List (List ℕ) → Option Call
@@ -208,6 +213,11 @@ file_set_translator (port ∷ passive ∷ active ∷ goaway ∷ words) = do
   Some (call.FileSetTranslator port setting words None)
 file_set_translator _ = None
 
+-- `box =WORD ..`, without the server of the words behind `box`: so far a start that failed
+abbrev pub fsys_startup : List (List ℕ) → Option Call
+fsys_startup [] = None
+fsys_startup (word ∷ words) = if bytes_eq word (codes "box") then Some call.StartFailed else None
+
 -- `CONTROL DIR FLAGS`
 abbrev pub fsys_getroot : List (List ℕ) → Option Call
 fsys_getroot (control ∷ dir ∷ flags ∷ []) = do
@@ -247,9 +257,14 @@ call_of verb.FileChown args = file_chown args
 call_of verb.FileSetSize args = file_set_size args
 call_of verb.FileCheckAccess args = option_map (λ port. call.FileCheckAccess port) (lone args)
 call_of verb.FileSetTranslator args = file_set_translator args
+call_of verb.FileGetTranslator args = option_map (λ port. call.FileGetTranslator port) (lone args)
 call_of verb.FileGetTranslatorCntl args = option_map (λ port. call.FileGetTranslatorCntl port) (lone args)
+call_of verb.FileGetcontrol args = option_map (λ port. call.FileGetcontrol port) (lone args)
+call_of verb.FsysStartup args = fsys_startup args
+call_of verb.StartFailed args = start_failed args
 call_of verb.FsysGetroot args = fsys_getroot args
 call_of verb.FsysGoaway args = fsys_goaway args
+call_of verb.FsysGetOptions args = option_map (λ control. call.FsysGetOptions control) (lone args)
 call_of verb.DirLookup args = dir_lookup args
 call_of verb.DirReaddir args = option_map (λ port. call.DirReaddir port) (lone args)
 call_of verb.DirMkdir args = dir_mkdir args
@@ -271,9 +286,17 @@ brought (Some words) = option_map Some (option_and_then begin (server_words word
 -- the server that a call of a name with these arguments brings, if it brings one
 abbrev pub server_of : Verb → List (List ℕ) → Option (Option Meaning)
 server_of verb.FileSetTranslator args = brought (behind_box args)
+server_of verb.FsysStartup args = brought (behind_box args)
 server_of _ args = Some None
 
--- a call with this server in the place of the one that it brings
+-- a start with this server; without one it is a start that failed
+abbrev pub started : {S : Type 0} → Option S → machine.Call S
+started (Some s) = call.FsysStartup s
+started None = call.StartFailed
+
+-- a call with this server in the place of the one that it brings: a start without one is a start that failed
 abbrev pub with_server : {S : Type 0} → Option S → machine.Call S → machine.Call S
 with_server s (call.FileSetTranslator port setting words server) = call.FileSetTranslator port setting words s
+with_server s (call.FsysStartup server) = started s
+with_server s call.StartFailed = started s
 with_server s c = c

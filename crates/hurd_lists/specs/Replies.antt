@@ -35,7 +35,7 @@ each_shown (b ∷ bs) = shown_byte b ++ each_shown bs
 abbrev pub shown : List ℕ → List ℕ
 shown bytes = 61 ∷ each_shown bytes
 
--- names, each behind a space
+-- names or words, each behind a space
 unfoldable pub shown_names : List (List ℕ) → List ℕ
 shown_names [] = []
 shown_names (name ∷ names) = 32 ∷ shown name ++ shown_names names
@@ -113,10 +113,11 @@ abbrev pub port_text : Option ℕ → List ℕ
 port_text None = []
 port_text (Some port) = spaced port
 
--- what a lookup found: its port, or a retry's kind, its name and its port
+-- what a lookup found: its port, or a retry's kind, its name and its port, or the words of what is to be started
 abbrev pub lookup_text : Lookup → List ℕ
 lookup_text (lookup.Done port) = codes "Done" ++ spaced port
 lookup_text (lookup.Retry kind name port) = codes "Retry " ++ (retry_name kind ++ (32 ∷ shown name ++ port_text port))
+lookup_text (lookup.Start words) = codes "Start" ++ shown_names words
 
 -- a reply
 abbrev pub reply_text : Reply → List ℕ
@@ -126,6 +127,7 @@ reply_text (reply.Port port) = codes "Port" ++ spaced port
 reply_text (reply.Data bytes) = codes "Data " ++ shown bytes
 reply_text (reply.Count count) = codes "Count" ++ spaced count
 reply_text (reply.Names names) = codes "Names" ++ shown_names names
+reply_text (reply.Words words) = codes "Words" ++ shown_names words
 reply_text (reply.Stat stat) = stat_text stat
 reply_text (reply.Modes flags) = codes "Modes " ++ flags_text flags
 reply_text (reply.Same true) = codes "Same true"

@@ -2,7 +2,7 @@
 use Rattle.std.specs.Prelude.{ℕ, List, Option, Some, None, if◌then◌else◌, bytes_eq, codes}
 use Rattle.std.specs.Option.{option_or}
 use Rattle.hurd_lists.specs.declared.verb.Verb.{Verb}
-use Rattle.hurd_lists.specs.declared.verb.Verb.TheVariants.{PortDeallocate, PortSend, PortReceive, AuthMakeauth, IoRead, IoWrite, IoSeek, IoStat, IoReadable, IoGetOpenmodes, IoSetAllOpenmodes, IoDuplicate, IoReauthenticate, IoRestrictAuth, IoIdentity, FileChmod, FileChown, FileSetSize, FileCheckAccess, FileSetTranslator, FileGetTranslatorCntl, FsysGetroot, FsysGoaway, DirLookup, DirReaddir, DirMkdir, DirMkfile, DirRmdir, DirUnlink, DirLink, DirRename}
+use Rattle.hurd_lists.specs.declared.verb.Verb.TheVariants.{PortDeallocate, PortSend, PortReceive, AuthMakeauth, IoRead, IoWrite, IoSeek, IoStat, IoReadable, IoGetOpenmodes, IoSetAllOpenmodes, IoDuplicate, IoReauthenticate, IoRestrictAuth, IoIdentity, FileChmod, FileChown, FileSetSize, FileCheckAccess, FileSetTranslator, FileGetTranslator, FileGetTranslatorCntl, FileGetcontrol, FsysStartup, StartFailed, FsysGetroot, FsysGoaway, FsysGetOptions, DirLookup, DirReaddir, DirMkdir, DirMkfile, DirRmdir, DirUnlink, DirLink, DirRename}
 
 -- a call on a port as such, or on ids
 abbrev pub port_verb : List ℕ → Option Verb
@@ -34,22 +34,32 @@ share_verb name =
     else if bytes_eq name (codes "io_identity") then Some IoIdentity
     else None
 
--- a call on the attributes of a node, or on its translators
+-- a call on the attributes of a node
 abbrev pub file_verb : List ℕ → Option Verb
 file_verb name =
     if bytes_eq name (codes "file_chmod") then Some FileChmod
     else if bytes_eq name (codes "file_chown") then Some FileChown
     else if bytes_eq name (codes "file_set_size") then Some FileSetSize
     else if bytes_eq name (codes "file_check_access") then Some FileCheckAccess
-    else if bytes_eq name (codes "file_set_translator") then Some FileSetTranslator
-    else if bytes_eq name (codes "file_get_translator_cntl") then Some FileGetTranslatorCntl
     else None
 
--- a call on a server
+-- a call on the translators of a node
+abbrev pub translator_verb : List ℕ → Option Verb
+translator_verb name =
+    if bytes_eq name (codes "file_set_translator") then Some FileSetTranslator
+    else if bytes_eq name (codes "file_get_translator") then Some FileGetTranslator
+    else if bytes_eq name (codes "file_get_translator_cntl") then Some FileGetTranslatorCntl
+    else if bytes_eq name (codes "file_getcontrol") then Some FileGetcontrol
+    else None
+
+-- a call on a server, or on the start of one
 abbrev pub fsys_verb : List ℕ → Option Verb
 fsys_verb name =
-    if bytes_eq name (codes "fsys_getroot") then Some FsysGetroot
+    if bytes_eq name (codes "fsys_startup") then Some FsysStartup
+    else if bytes_eq name (codes "start_failed") then Some StartFailed
+    else if bytes_eq name (codes "fsys_getroot") then Some FsysGetroot
     else if bytes_eq name (codes "fsys_goaway") then Some FsysGoaway
+    else if bytes_eq name (codes "fsys_get_options") then Some FsysGetOptions
     else None
 
 -- a call on entries of a directory
@@ -68,4 +78,4 @@ dir_verb name =
 -- the call of a name
 abbrev pub verb_of : List ℕ → Option Verb
 verb_of name =
-    option_or (option_or (option_or (option_or (option_or (port_verb name) (io_verb name)) (share_verb name)) (file_verb name)) (fsys_verb name)) (dir_verb name)
+    option_or (option_or (option_or (option_or (option_or (option_or (port_verb name) (io_verb name)) (share_verb name)) (file_verb name)) (translator_verb name)) (fsys_verb name)) (dir_verb name)

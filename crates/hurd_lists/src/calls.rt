@@ -4,7 +4,7 @@ ghost use Rattle.hurd_words.specs.Reading.{Reads};
 ghost use Rattle.hurd_trans_iface.specs.Meaning.{Begins, begin};
 ghost use Rattle.hurd_machine.specs.Calls.{BringsBegun, call_by};
 ghost use Rattle.hurd_lists.specs.Arguments.{server_words};
-ghost use Rattle.hurd_lists.specs.Calls.{auth_makeauth, before_box, begun, behind_box, box_place, call_of, dir_link, dir_lookup, dir_mkdir, dir_mkfile, dir_rename, dir_rmdir, dir_unlink, entry, file_chmod, file_chown, file_set_size, file_set_translator, fsys_getroot, fsys_goaway, io_identity, io_read, io_restrict_auth, io_seek, io_set_all_openmodes, io_write, lone, pair, port_receive, port_send, server_of, setting_of, with_server};
+ghost use Rattle.hurd_lists.specs.Calls.{auth_makeauth, before_box, begun, behind_box, box_place, call_of, dir_link, dir_lookup, dir_mkdir, dir_mkfile, dir_rename, dir_rmdir, dir_unlink, entry, file_chmod, file_chown, file_set_size, file_set_translator, fsys_getroot, fsys_goaway, fsys_startup, io_identity, io_read, io_restrict_auth, io_seek, io_set_all_openmodes, io_write, lone, pair, port_receive, port_send, server_of, setting_of, start_failed, started, with_server};
 
 use crate::arguments::{
     bytes, goaway_flags, ids, long_number, mode, number, offset, open_flags, server_words, task,
@@ -67,6 +67,17 @@ fn port_receive<S: Server>(args: &[Bytes]) -> Result<Call<S>, ReadFault>
 {
     if args.is_empty() {
         Ok(Call::PortReceive)
+    } else {
+        Err(ReadFault::Bad)
+    }
+}
+
+/// No argument.
+fn start_failed<S: Server>(args: &[Bytes]) -> Result<Call<S>, ReadFault>
+    ensures { Reads (λ c. call_by S.meaning c) (start_failed args.now) result }
+{
+    if args.is_empty() {
+        Ok(Call::StartFailed)
     } else {
         Err(ReadFault::Bad)
     }
@@ -351,6 +362,20 @@ fn file_set_translator<S: Server>(alloc: Global, args: &[Bytes]) -> Result<Call<
     })
 }
 
+/// `box =WORD ..`, without the server of the words behind `box`: so far a start that failed.
+fn fsys_startup<S: Server>(args: &[Bytes]) -> Result<Call<S>, ReadFault>
+    ensures { Reads (λ c. call_by S.meaning c) (fsys_startup args.now) result }
+{
+    let [word, ..] = args else {
+        return Err(ReadFault::Bad);
+    };
+    if word.is(b"box") {
+        Ok(Call::StartFailed)
+    } else {
+        Err(ReadFault::Bad)
+    }
+}
+
 /// `CONTROL DIR FLAGS`.
 fn fsys_getroot<S: Server>(alloc: Global, args: &[Bytes]) -> Result<Call<S>, ReadFault>
     ensures { Reads (λ c. call_by S.meaning c) (fsys_getroot args.now) result }
@@ -405,9 +430,16 @@ pub fn call_of<S: Server>(alloc: Global, verb: Verb, args: &[Bytes]) -> Result<C
         Verb::FileSetSize => file_set_size(args),
         Verb::FileCheckAccess => Ok(Call::FileCheckAccess { port: lone(args)? }),
         Verb::FileSetTranslator => file_set_translator(alloc, args),
+        Verb::FileGetTranslator => Ok(Call::FileGetTranslator { port: lone(args)? }),
         Verb::FileGetTranslatorCntl => Ok(Call::FileGetTranslatorCntl { port: lone(args)? }),
+        Verb::FileGetcontrol => Ok(Call::FileGetcontrol { port: lone(args)? }),
+        Verb::FsysStartup => fsys_startup(args),
+        Verb::StartFailed => start_failed(args),
         Verb::FsysGetroot => fsys_getroot(alloc, args),
         Verb::FsysGoaway => fsys_goaway(alloc, args),
+        Verb::FsysGetOptions => Ok(Call::FsysGetOptions {
+            control: lone(args)?,
+        }),
         Verb::DirLookup => dir_lookup(alloc, args),
         Verb::DirReaddir => Ok(Call::DirReaddir { port: lone(args)? }),
         Verb::DirMkdir => dir_mkdir(alloc, args),
@@ -435,7 +467,7 @@ fn begun_words(alloc: Global, words: &[Bytes]) -> Result<Words, ReadFault>
 pub fn server_of(alloc: Global, verb: Verb, args: &[Bytes]) -> Result<Option<Words>, ReadFault>
     ensures { Reads begun (server_of verb args.now) result }
 {
-    if verb != Verb::FileSetTranslator {
+    if verb != Verb::FileSetTranslator && verb != Verb::FsysStartup {
         return Ok(None);
     }
     match behind_box(args) {
@@ -444,7 +476,17 @@ pub fn server_of(alloc: Global, verb: Verb, args: &[Bytes]) -> Result<Option<Wor
     }
 }
 
-/// A call with this server in the place of the one that it brings.
+/// A start with this server; without one it is a start that failed.
+fn started<S>(server: Option<S>) -> Call<S>
+    ensures { result ≡ started server }
+{
+    match server {
+        Some(server) => Call::FsysStartup { server },
+        None => Call::StartFailed,
+    }
+}
+
+/// A call with this server in the place of the one that it brings: a start without one is a start that failed.
 pub fn with_server<S: Server>(call: Call<S>, server: Option<S>) -> Call<S>
     ensures is { result ≡ with_server server call }
     ensures begun { IfSome server (λ s. Begins (S.meaning s)) → BringsBegun (call_by S.meaning result) }
@@ -461,6 +503,8 @@ pub fn with_server<S: Server>(call: Call<S>, server: Option<S>) -> Call<S>
             words,
             server,
         },
+        Call::FsysStartup { server: _ } => started(server),
+        Call::StartFailed => started(server),
         call => call,
     }
 }

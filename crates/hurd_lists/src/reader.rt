@@ -22,7 +22,8 @@ const MOST_BYTES: usize = 1_048_576;
 /// How many tasks there may be.
 const MOST_TASKS: usize = 64;
 
-/// A call of a list. It has no server in it: who makes the call makes that of the words first.
+/// A call of a list. It has no server in it, and a start without one is a start that failed: who makes the call makes the
+/// server of the words first, and puts it in by `with_server`.
 #[derive(Drop)]
 pub struct ListedCall<S = Box<dyn Server>> {
     /// The task that makes it.

@@ -47,7 +47,7 @@ fn push_bytes(text: &mut Vec<u8>, bytes: &[u8]) -> Result<(), AllocError>
     Ok(())
 }
 
-/// Prints names, each behind a space.
+/// Prints names or words, each behind a space.
 fn push_names(text: &mut Vec<u8>, names: &[Bytes]) -> Result<(), AllocError>
     ensures { OnOk result (text.new.items ≡ text.old.items ++ shown_names names.now) }
 {
@@ -260,6 +260,10 @@ fn push_lookup(text: &mut Vec<u8>, found: &Lookup) -> Result<(), AllocError>
             push_spaced(text, name.as_slice())?;
             push_port(text, *port)
         }
+        Lookup::Start { words } => {
+            text.extend_from_slice(b"Start")?;
+            push_names(text, words.as_slice())
+        }
     }
 }
 
@@ -288,6 +292,10 @@ fn push_reply<S: Server>(text: &mut Vec<u8>, reply: &Reply<S>) -> Result<(), All
         Reply::Names(names) => {
             text.extend_from_slice(b"Names")?;
             push_names(text, names.as_slice())
+        }
+        Reply::Words(words) => {
+            text.extend_from_slice(b"Words")?;
+            push_names(text, words.as_slice())
         }
         Reply::Stat(stat) => push_stat(text, stat),
         Reply::Modes(flags) => {

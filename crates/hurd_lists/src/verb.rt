@@ -1,6 +1,6 @@
 //! What calls are named.
 ghost use Rattle.std.specs.Prelude.{◌≡◌};
-ghost use Rattle.hurd_lists.specs.Verbs.{dir_verb, file_verb, fsys_verb, io_verb, port_verb, share_verb, verb_of};
+ghost use Rattle.hurd_lists.specs.Verbs.{dir_verb, file_verb, fsys_verb, io_verb, port_verb, share_verb, translator_verb, verb_of};
 
 use hurd_words::words::is;
 
@@ -27,9 +27,14 @@ pub enum Verb {
     FileSetSize,
     FileCheckAccess,
     FileSetTranslator,
+    FileGetTranslator,
     FileGetTranslatorCntl,
+    FileGetcontrol,
+    FsysStartup,
+    StartFailed,
     FsysGetroot,
     FsysGoaway,
+    FsysGetOptions,
     DirLookup,
     DirReaddir,
     DirMkdir,
@@ -97,7 +102,7 @@ fn share_verb(name: &str) -> Option<Verb>
     }
 }
 
-/// A call on the attributes of a node, or on its translators.
+/// A call on the attributes of a node.
 fn file_verb(name: &str) -> Option<Verb>
     ensures { result ≡ file_verb name.now }
 {
@@ -109,23 +114,42 @@ fn file_verb(name: &str) -> Option<Verb>
         Some(Verb::FileSetSize)
     } else if is(name, "file_check_access") {
         Some(Verb::FileCheckAccess)
-    } else if is(name, "file_set_translator") {
-        Some(Verb::FileSetTranslator)
-    } else if is(name, "file_get_translator_cntl") {
-        Some(Verb::FileGetTranslatorCntl)
     } else {
         None
     }
 }
 
-/// A call on a server.
+/// A call on the translators of a node.
+fn translator_verb(name: &str) -> Option<Verb>
+    ensures { result ≡ translator_verb name.now }
+{
+    if is(name, "file_set_translator") {
+        Some(Verb::FileSetTranslator)
+    } else if is(name, "file_get_translator") {
+        Some(Verb::FileGetTranslator)
+    } else if is(name, "file_get_translator_cntl") {
+        Some(Verb::FileGetTranslatorCntl)
+    } else if is(name, "file_getcontrol") {
+        Some(Verb::FileGetcontrol)
+    } else {
+        None
+    }
+}
+
+/// A call on a server, or on the start of one.
 fn fsys_verb(name: &str) -> Option<Verb>
     ensures { result ≡ fsys_verb name.now }
 {
-    if is(name, "fsys_getroot") {
+    if is(name, "fsys_startup") {
+        Some(Verb::FsysStartup)
+    } else if is(name, "start_failed") {
+        Some(Verb::StartFailed)
+    } else if is(name, "fsys_getroot") {
         Some(Verb::FsysGetroot)
     } else if is(name, "fsys_goaway") {
         Some(Verb::FsysGoaway)
+    } else if is(name, "fsys_get_options") {
+        Some(Verb::FsysGetOptions)
     } else {
         None
     }
@@ -164,6 +188,7 @@ pub fn verb_of(name: &str) -> Option<Verb>
         .or(io_verb(name))
         .or(share_verb(name))
         .or(file_verb(name))
+        .or(translator_verb(name))
         .or(fsys_verb(name))
         .or(dir_verb(name))
 }
