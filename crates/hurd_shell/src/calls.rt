@@ -80,12 +80,14 @@ fn looked_of<S: Server>(reply: Reply<S>) -> Result<Looked, Stop>
         Reply::Found(Lookup::Done(port)) => Ok(Looked::Opened(port)),
         Reply::Found(Lookup::Retry { kind, name, port }) => retry_of(kind, name, port),
         Reply::Refused(errno) => Err(Stop::Refused(errno)),
-        Reply::Done
+        Reply::Found(Lookup::Start { .. })
+        | Reply::Done
         | Reply::Port(_)
         | Reply::Data(_)
         | Reply::Count(_)
         | Reply::Names(_)
         | Reply::Stat(_)
+        | Reply::Words(_)
         | Reply::Modes(_)
         | Reply::Same(_)
         | Reply::Back(_, _) => Err(Stop::Refused(Errno::EIO)),
@@ -105,6 +107,7 @@ fn port_of<S: Server>(reply: Reply<S>) -> Result<u64, Stop>
         | Reply::Count(_)
         | Reply::Names(_)
         | Reply::Stat(_)
+        | Reply::Words(_)
         | Reply::Modes(_)
         | Reply::Same(_)
         | Reply::Back(_, _) => Err(Stop::Refused(Errno::EIO)),
@@ -124,6 +127,7 @@ fn data_of<S: Server>(reply: Reply<S>) -> Result<Bytes, Stop>
         | Reply::Count(_)
         | Reply::Names(_)
         | Reply::Stat(_)
+        | Reply::Words(_)
         | Reply::Modes(_)
         | Reply::Same(_)
         | Reply::Back(_, _) => Err(Stop::Refused(Errno::EIO)),
@@ -143,6 +147,7 @@ fn names_of<S: Server>(reply: Reply<S>) -> Result<Names, Stop>
         | Reply::Data(_)
         | Reply::Count(_)
         | Reply::Stat(_)
+        | Reply::Words(_)
         | Reply::Modes(_)
         | Reply::Same(_)
         | Reply::Back(_, _) => Err(Stop::Refused(Errno::EIO)),
@@ -162,6 +167,7 @@ fn stat_of<S: Server>(reply: Reply<S>) -> Result<Stat, Stop>
         | Reply::Data(_)
         | Reply::Count(_)
         | Reply::Names(_)
+        | Reply::Words(_)
         | Reply::Modes(_)
         | Reply::Same(_)
         | Reply::Back(_, _) => Err(Stop::Refused(Errno::EIO)),
@@ -180,6 +186,7 @@ fn done_of<S: Server>(reply: Reply<S>) -> Result<(), Stop>
         | Reply::Data(_)
         | Reply::Names(_)
         | Reply::Stat(_)
+        | Reply::Words(_)
         | Reply::Modes(_)
         | Reply::Same(_)
         | Reply::Back(_, _) => Err(Stop::Refused(Errno::EIO)),

@@ -6,18 +6,19 @@ use Rattle.hurd_creds.specs.declared.errno.Errno.{Errno}
 use Rattle.hurd_creds.specs.declared.errno.Errno.TheVariants.{ENOMEM}
 use Rattle.hurd_trans_iface.specs.Meaning.{Meaning, Begins}
 use Rattle.hurd_machine.specs.declared.call.Call as code
-use Rattle.hurd_machine.specs.declared.call.Call.TheVariants.{FileSetTranslator}
+use Rattle.hurd_machine.specs.declared.call.Call.TheVariants.{FileSetTranslator, FsysStartup}
 use Rattle.hurd_machine.specs.declared.call.Reply as code_reply
 use Rattle.hurd_machine.specs.declared.call.Reply.TheVariants.{Done, Found, Port, Data, Count, Names, Words, Stat, Modes, Same, Refused, Back}
 use Rattle.hurd_machine.specs.declared.call.Setting.{Setting}
 use Rattle.hurd_machine.specs.Calls.{Call, Reply, box_in, call_by, refusal, reply_by}
 use Rattle.hurd_machine.specs.World.{World}
-use Rattle.hurd_machine.specs.Plan.{Plan, Follows, Planned, after_plan, handing_back, is_refused, told}
+use Rattle.hurd_machine.specs.Plan.{Plan, Follows, Planned, Tried, after_plan, handing_back, is_refused, told}
 use Rattle.hurd_core.specs.Core.{without_box}
 use Rattle.hurd_fsys.specs.Setting.{plan_set_translator}
+use Rattle.hurd_fsys.specs.Starting.{plan_startup}
 use Rattle.hurd_laws.specs.Called.{Called}
 use Rattle.hurd_laws.specs.Step.{after, plan, reply_of, takes_memory}
-use Rattle.hurd_world.specs.Held.{ComesBack, set_told, told_of}
+use Rattle.hurd_world.specs.Held.{ComesBack, set_told, start_told, told_of}
 
 -- a call that made its step
 stepped : (w x : World) (t : ℕ) (c : Call) (reply : Reply) → reply ≡ reply_of w t c → x ≡ after w t c → Called w t c reply x
@@ -73,7 +74,7 @@ module _ {S : Type 0} (f : S → Meaning) (v w : World) (t : ℕ) (call : code.C
     tells u = Done
 
     abbrev planned : Option S → Plan
-    planned server = plan_set_translator w t p setting (option_map f server)
+    planned server = plan_set_translator w t p setting words (option_map f server)
 
     set_done : (server : Option S) (u : Unit {0}) (x : World) → Follows w (planned server) Done x → Called w t (call_by f (asked server)) Done x
     set_done None u x h = stepped w x t _ Done h.0 h.1
@@ -96,6 +97,27 @@ module _ {S : Type 0} (f : S → Meaning) (v w : World) (t : ℕ) (call : code.C
     set_row server (Ok u) got x is same left so planned free back = owed (asked server) Done x is (same ∙ so) left (set_done server u x planned) tt
     set_row server (Err e) got x is same left so planned free back =
         owed (asked server) (refusal server e.0) x is (same ∙ so ∙ ap (λ (o : Option S). refusal o e.0) back) left (set_refused server e.0 x planned free) (comes_back server e.0)
+
+  -- a call that always brings one
+
+  abbrev starts : S → Plan
+  starts server = plan_startup w t (f server)
+
+  abbrev starts_done : Unit {0} → Reply
+  starts_done u = Done
+
+  pub start_row : (server : S) (r : Result (Unit {0}) (Errno × S)) (got : code_reply.Reply S) (x : World) → call ≡ FsysStartup server → reply ≡ got → y ≡ x → got ≡ start_told r
+      → Tried w (starts server) starts_done (without_box r) x → IfErr r (λ e. e.1 ≡ server) → Owes
+  start_row server (Ok u) got x is same left so (inl p) back =
+      owed (FsysStartup server) Done x is (same ∙ so) left (stepped w x t (call_by f (FsysStartup server)) Done (ap (handing_back (f server)) p.0) p.1) tt
+  start_row server (Ok u) got x is same left so (inr lacks) back = let out = lacks.0 in absurd (cc)
+  start_row server (Err e) got x is same left so (inl p) back =
+      owed (FsysStartup server) (Back e.0 server) x is (same ∙ so ∙ ap (λ (s : S). Back e.0 s) back) left
+      (stepped w x t (call_by f (FsysStartup server)) (Back e.0 (f server)) (ap (handing_back (f server)) p.0) p.1) refl
+  start_row server (Err e) got x is same left so (inr lacks) back =
+      let none : e.0 ≡ ENOMEM = cc (lacks.0) in
+      owed (FsysStartup server) (Back e.0 server) x is (same ∙ so ∙ ap (λ (s : S). Back e.0 s) back) left
+      (inr (record { told = ap (λ (n : Errno). Back n (f server)) none; takes = refl; wanted = kept_refused (f server) (starts server).reply lacks.1.1; same = lacks.1.0 })) refl
 
 -- the condition on a box, as the row wants it
 pub begun_box : {S : Type 0} (f : S → Meaning) (server : Option S) → IfSome (option_map f server) Begins → IfSome server (λ s. Begins (f s))

@@ -24,6 +24,11 @@ abbrev pub set_told : {S : Type 0} → Result (Unit {0}) (Errno × Option S) →
 set_told (Ok u) = Done
 set_told (Err e) = refusal e.1 e.0
 
+-- of one that always brings a box
+abbrev pub start_told : {S : Type 0} → Result (Unit {0}) (Errno × S) → reply.Reply S
+start_told (Ok u) = Done
+start_told (Err e) = Back e.0 e.1
+
 -- the condition on boxes, of each call
 abbrev pub AllBegun : {S : Type 0} → (S → Meaning) → List (TaskId × call.Call S) → Type 0
 AllBegun f [] = Unit {0}

@@ -1,10 +1,10 @@
 //! Replies, as calls answer them.
 ghost use Rattle.std.specs.Prelude.{◌≡◌};
-ghost use Rattle.hurd_world.specs.Held.{set_told, told_of};
+ghost use Rattle.hurd_world.specs.Held.{set_told, start_told, told_of};
 
 use hurd_creds::{Bytes, Errno, OpenFlags, Stat};
 use hurd_machine::{Lookup, Reply};
-use hurd_trans_iface::Names;
+use hurd_trans_iface::{Names, Words};
 
 /// Of a call that only changes something.
 pub(crate) fn done<S>(answer: Result<(), Errno>) -> Reply<S>
@@ -93,6 +93,26 @@ pub(crate) fn names<S>(answer: Result<Names, Errno>) -> Reply<S>
     match answer {
         Ok(names) => Reply::Names(names),
         Err(errno) => Reply::Refused(errno),
+    }
+}
+
+/// Of a call that tells words.
+pub(crate) fn words<S>(answer: Result<Words, Errno>) -> Reply<S>
+    ensures { result ≡ told_of (λ x. Reply.Words x) answer }
+{
+    match answer {
+        Ok(words) => Reply::Words(words),
+        Err(errno) => Reply::Refused(errno),
+    }
+}
+
+/// Of a call that brings a server, which comes back with a refusal.
+pub(crate) fn started<S>(answer: Result<(), (Errno, S)>) -> Reply<S>
+    ensures { result ≡ start_told answer }
+{
+    match answer {
+        Ok(()) => Reply::Done,
+        Err((errno, server)) => Reply::Back(errno, server),
     }
 }
 

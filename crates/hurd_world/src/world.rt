@@ -14,7 +14,7 @@ use hurd_core::Core;
 use hurd_creds::{Errno, Ids, Kind, TaskId};
 use hurd_dirs::{file, link, make, remove, rename};
 use hurd_files::{access, files};
-use hurd_fsys::{fsys, setting};
+use hurd_fsys::{fsys, setting, starting};
 use hurd_io::{io, opens, sharing};
 use hurd_lookup::{getroot, lookup};
 use hurd_machine::{Call, Reply};
@@ -74,7 +74,8 @@ impl<S: Server> World<S> {
         })
     }
 
-    /// Makes one call of a task. A refused call changes nothing, and gives back the server that it brought, which some words made.
+    /// Makes one call of a task. A refused call changes nothing, and gives back the server that it brought, which some words made;
+    /// a refused `fsys_startup` alone gives up what the task was to start, but for want of memory.
     ///
     /// Errors: `ESRCH` where there is no such task, then those of the call, in its order. `ENOMEM` where a call that takes
     /// memory isn't refused, and finds none.
@@ -166,14 +167,24 @@ impl<S: Server> World<S> {
             Call::FileSetTranslator {
                 port,
                 setting,
-                words: _words,
+                words,
                 server,
             } => replies::set(setting::file_set_translator(
-                core, alloc, task, port, setting, server,
+                core, alloc, task, port, setting, words, server,
+            )),
+            Call::FileGetTranslator { port } => replies::words(setting::file_get_translator(
+                core, alloc, task, port,
             )),
             Call::FileGetTranslatorCntl { port } => {
                 replies::port(fsys::file_get_translator_cntl(core, task, port))
             }
+            Call::FileGetcontrol { port } => replies::port(fsys::file_getcontrol(
+                core, task, port,
+            )),
+            Call::FsysStartup { server } => replies::started(starting::fsys_startup(
+                core, alloc, task, server,
+            )),
+            Call::StartFailed => replies::done(starting::start_failed(core, task)),
             Call::FsysGetroot {
                 control,
                 dir,
@@ -181,6 +192,9 @@ impl<S: Server> World<S> {
             } => replies::found(getroot::fsys_getroot(core, alloc, task, control, dir, flags)),
             Call::FsysGoaway { control, flags } => replies::done(fsys::fsys_goaway(
                 core, task, control, flags,
+            )),
+            Call::FsysGetOptions { control } => replies::words(fsys::fsys_get_options(
+                core, alloc, task, control,
             )),
             Call::DirReaddir { port } => replies::names(files::dir_readdir(
                 core, alloc, task, port,

@@ -1,10 +1,10 @@
 use Rattle.std.proofs.Common.{◌≡◌, ap, refl, rules}
-use Rattle.hurd_machine.specs.declared.call.Call.TheVariants.{PortDeallocate, PortSend, PortReceive, AuthMakeauth, DirLookup, IoRead, IoWrite, IoSeek, IoStat, IoReadable, IoGetOpenmodes, IoSetAllOpenmodes, IoDuplicate, IoReauthenticate, IoRestrictAuth, IoIdentity, FileSetSize, FileChmod, FileChown, FileCheckAccess, FileGetTranslatorCntl, FsysGetroot, FsysGoaway, DirReaddir, DirMkdir, DirMkfile, DirRmdir, DirUnlink, DirLink, DirRename}
-use Rattle.hurd_machine.specs.declared.call.Reply.TheVariants.{Done, Found, Port, Data, Count, Names, Stat, Modes, Same}
+use Rattle.hurd_machine.specs.declared.call.Call.TheVariants.{PortDeallocate, PortSend, PortReceive, AuthMakeauth, DirLookup, IoRead, IoWrite, IoSeek, IoStat, IoReadable, IoGetOpenmodes, IoSetAllOpenmodes, IoDuplicate, IoReauthenticate, IoRestrictAuth, IoIdentity, FileSetSize, FileChmod, FileChown, FileCheckAccess, FileGetTranslator, FileGetTranslatorCntl, FileGetcontrol, StartFailed, FsysGetroot, FsysGoaway, FsysGetOptions, DirReaddir, DirMkdir, DirMkfile, DirRmdir, DirUnlink, DirLink, DirRename}
+use Rattle.hurd_machine.specs.declared.call.Reply.TheVariants.{Done, Found, Port, Data, Count, Names, Words, Stat, Modes, Same}
 use Rattle.hurd_machine.specs.World.{World}
 use Rattle.hurd_world.specs.Held.{world_of}
-use Rattle.hurd_world.proofs.RowLaws.{follows_row, planned_row, set_row, begun_box}
-use Rattle.hurd_world.proofs.world.World.dispatch.Goals.{in-PortDeallocate, in-PortSend, in-PortReceive, in-AuthMakeauth, in-DirLookup, in-IoRead, in-IoWrite, in-IoSeek, in-IoStat, in-IoReadable, in-IoGetOpenmodes, in-IoSetAllOpenmodes, in-IoDuplicate, in-IoReauthenticate, in-IoRestrictAuth, in-IoIdentity, in-FileSetSize, in-FileChmod, in-FileChown, in-FileCheckAccess, in-FileSetTranslator, in-FileGetTranslatorCntl, in-FsysGetroot, in-FsysGoaway, in-DirReaddir, in-DirMkdir, in-DirMkfile, in-DirRmdir, in-DirUnlink, in-DirLink, in-DirRename}
+use Rattle.hurd_world.proofs.RowLaws.{follows_row, planned_row, set_row, start_row, begun_box}
+use Rattle.hurd_world.proofs.world.World.dispatch.Goals.{in-PortDeallocate, in-PortSend, in-PortReceive, in-AuthMakeauth, in-DirLookup, in-IoRead, in-IoWrite, in-IoSeek, in-IoStat, in-IoReadable, in-IoGetOpenmodes, in-IoSetAllOpenmodes, in-IoDuplicate, in-IoReauthenticate, in-IoRestrictAuth, in-IoIdentity, in-FileSetSize, in-FileChmod, in-FileChown, in-FileCheckAccess, in-FileSetTranslator, in-FileGetTranslator, in-FileGetTranslatorCntl, in-FileGetcontrol, in-FsysStartup, in-StartFailed, in-FsysGetroot, in-FsysGoaway, in-FsysGetOptions, in-DirReaddir, in-DirMkdir, in-DirMkfile, in-DirRmdir, in-DirUnlink, in-DirLink, in-DirRename}
 use Rattle.hurd_world.proofs.world.World.dispatch.Goals as goal
 
 -- each call's row is what it owes
@@ -37,10 +37,15 @@ returns g c =
       | in-FileChmod b ↦ follows_row f v w t c.args.call c.match-call.result y seen (FileChmod b.in-FileChmod.port b.in-FileChmod.mode) (λ (u : Unit {0}). Done) b.file_chmod.result _ (world_of g.S.Server.meaning b.file_chmod.new.core) (λ a. tt) b.in-FileChmod.is b.result-is (rw b.self-inside-is refl) b.done-in-FileChmod.ensures b.file_chmod.ensures
       | in-FileChown b ↦ follows_row f v w t c.args.call c.match-call.result y seen (FileChown b.in-FileChown.port b.in-FileChown.owner b.in-FileChown.group) (λ (u : Unit {0}). Done) b.file_chown.result _ (world_of g.S.Server.meaning b.file_chown.new.core) (λ a. tt) b.in-FileChown.is b.result-is (rw b.self-inside-is refl) b.done-in-FileChown.ensures b.file_chown.ensures
       | in-FileCheckAccess b ↦ follows_row f v w t c.args.call c.match-call.result y seen (FileCheckAccess b.in-FileCheckAccess.port) (λ n. Modes n) b.file_check_access.result _ (world_of g.S.Server.meaning c.self.inside.core) (λ a. tt) b.in-FileCheckAccess.is b.result-is (rw b.self-inside-is refl) b.modes-in-FileCheckAccess.ensures b.file_check_access.ensures
-      | in-FileSetTranslator b ↦ set_row f v w t c.args.call c.match-call.result y seen b.in-FileSetTranslator.port b.in-FileSetTranslator.setting b.in-FileSetTranslator._words b.in-FileSetTranslator.server _ _ (world_of g.S.Server.meaning b.file_set_translator.new.core) b.in-FileSetTranslator.is b.result-is (rw b.self-inside-is refl) b.set.ensures b.file_set_translator.ensures.planned b.file_set_translator.ensures.free b.file_set_translator.ensures.back
+      | in-FileSetTranslator b ↦ set_row f v w t c.args.call c.match-call.result y seen b.in-FileSetTranslator.port b.in-FileSetTranslator.setting b.in-FileSetTranslator.words b.in-FileSetTranslator.server _ _ (world_of g.S.Server.meaning b.file_set_translator.new.core) b.in-FileSetTranslator.is b.result-is (rw b.self-inside-is refl) b.set.ensures b.file_set_translator.ensures.planned b.file_set_translator.ensures.free b.file_set_translator.ensures.back
+      | in-FileGetTranslator b ↦ planned_row f v w t c.args.call c.match-call.result y seen (FileGetTranslator b.in-FileGetTranslator.port) (λ n. Words n) b.file_get_translator.result _ (world_of g.S.Server.meaning c.self.inside.core) (λ a. tt) refl refl b.in-FileGetTranslator.is b.result-is (rw b.self-inside-is refl) b.words.ensures b.file_get_translator.ensures
       | in-FileGetTranslatorCntl b ↦ planned_row f v w t c.args.call c.match-call.result y seen (FileGetTranslatorCntl b.in-FileGetTranslatorCntl.port) (λ n. Port n) b.file_get_translator_cntl.result _ (world_of g.S.Server.meaning b.file_get_translator_cntl.new.core) (λ a. tt) refl refl b.in-FileGetTranslatorCntl.is b.result-is (rw b.self-inside-is refl) b.port-in-FileGetTranslatorCntl.ensures b.file_get_translator_cntl.ensures
+      | in-FileGetcontrol b ↦ planned_row f v w t c.args.call c.match-call.result y seen (FileGetcontrol b.in-FileGetcontrol.port) (λ n. Port n) b.file_getcontrol.result _ (world_of g.S.Server.meaning b.file_getcontrol.new.core) (λ a. tt) refl refl b.in-FileGetcontrol.is b.result-is (rw b.self-inside-is refl) b.port-in-FileGetcontrol.ensures b.file_getcontrol.ensures
+      | in-FsysStartup b ↦ start_row f v w t c.args.call c.match-call.result y seen b.in-FsysStartup.server _ _ (world_of g.S.Server.meaning b.fsys_startup.new.core) b.in-FsysStartup.is b.result-is (rw b.self-inside-is refl) b.started.ensures b.fsys_startup.ensures.tried b.fsys_startup.ensures.back
+      | in-StartFailed b ↦ follows_row f v w t c.args.call c.match-call.result y seen StartFailed (λ (u : Unit {0}). Done) b.start_failed.result _ (world_of g.S.Server.meaning b.start_failed.new.core) (λ a. tt) b.in-StartFailed.is b.result-is (rw b.self-inside-is refl) b.done-in-StartFailed.ensures b.start_failed.ensures
       | in-FsysGetroot b ↦ planned_row f v w t c.args.call c.match-call.result y seen (FsysGetroot b.in-FsysGetroot.control b.in-FsysGetroot.dir b.in-FsysGetroot.flags) (λ n. Found n) b.fsys_getroot.result _ (world_of g.S.Server.meaning b.fsys_getroot.new.core) (λ a. tt) refl refl b.in-FsysGetroot.is b.result-is (rw b.self-inside-is refl) b.found-in-FsysGetroot.ensures b.fsys_getroot.ensures
       | in-FsysGoaway b ↦ follows_row f v w t c.args.call c.match-call.result y seen (FsysGoaway b.in-FsysGoaway.control b.in-FsysGoaway.flags) (λ (u : Unit {0}). Done) b.fsys_goaway.result _ (world_of g.S.Server.meaning b.fsys_goaway.new.core) (λ a. tt) b.in-FsysGoaway.is b.result-is (rw b.self-inside-is refl) b.done-in-FsysGoaway.ensures b.fsys_goaway.ensures
+      | in-FsysGetOptions b ↦ planned_row f v w t c.args.call c.match-call.result y seen (FsysGetOptions b.in-FsysGetOptions.control) (λ n. Words n) b.fsys_get_options.result _ (world_of g.S.Server.meaning c.self.inside.core) (λ a. tt) refl refl b.in-FsysGetOptions.is b.result-is (rw b.self-inside-is refl) b.words-in-FsysGetOptions.ensures b.fsys_get_options.ensures
       | in-DirReaddir b ↦ planned_row f v w t c.args.call c.match-call.result y seen (DirReaddir b.in-DirReaddir.port) (λ n. Names n) b.dir_readdir.result _ (world_of g.S.Server.meaning c.self.inside.core) (λ a. tt) refl refl b.in-DirReaddir.is b.result-is (rw b.self-inside-is refl) b.names.ensures b.dir_readdir.ensures
       | in-DirMkdir b ↦ planned_row f v w t c.args.call c.match-call.result y seen (DirMkdir b.in-DirMkdir.dir b.in-DirMkdir.name b.in-DirMkdir.mode) (λ (u : Unit {0}). Done) b.dir_mkdir.result _ (world_of g.S.Server.meaning b.dir_mkdir.new.core) (λ a. tt) refl refl b.in-DirMkdir.is b.result-is (rw b.self-inside-is refl) b.done-in-DirMkdir.ensures (rw b.as_slice-in-DirMkdir.ensures at b.dir_mkdir.ensures)
       | in-DirMkfile b ↦ planned_row f v w t c.args.call c.match-call.result y seen (DirMkfile b.in-DirMkfile.dir b.in-DirMkfile.flags b.in-DirMkfile.mode) (λ n. Port n) b.dir_mkfile.result _ (world_of g.S.Server.meaning b.dir_mkfile.new.core) (λ a. tt) refl refl b.in-DirMkfile.is b.result-is (rw b.self-inside-is refl) b.port-in-DirMkfile.ensures b.dir_mkfile.ensures
@@ -52,3 +57,6 @@ returns g c =
 
 pub file_set_translator-requires : goal.file_set_translator-requires
 file_set_translator-requires g c = begun_box g.S.Server.meaning c.in-FileSetTranslator.server (rw c.in-FileSetTranslator.is at c.requires)
+
+pub fsys_startup-requires : goal.fsys_startup-requires
+fsys_startup-requires g c = rw c.in-FsysStartup.is at c.requires
