@@ -156,6 +156,60 @@ const SERVERS: &str = r"0 dir_lookup 1 =h NOTRANS,CREATE 644
   Data =
 ";
 
+/// root stores the words of a translator with a node, which alice and bob come to: she starts what waits there, and he is refused. Then both
+/// halves are set at once, and taken away.
+const STARTS: &str = r"0 dir_lookup 1 =k NOTRANS,CREATE 644
+  Found Done 3
+0 file_set_translator 3 SET - - =/hurd/hello
+  Done
+0 file_get_translator 3
+  Words =/hurd/hello
+1 dir_lookup 1 =k READ 0
+  Found Start =/hurd/hello
+2 dir_lookup 1 =k READ 0
+  Found Start =/hurd/hello
+1 fsys_startup box =/hurd/hello
+  Done
+2 fsys_startup box =/hurd/hello
+  Back EBUSY
+2 fsys_startup box =/hurd/hello
+  Back ESRCH
+2 dir_lookup 1 =k READ 0
+  Found Done 3
+2 io_read 3 5 -1
+  Data =Hello
+2 file_getcontrol 3
+  Refused EPERM
+0 dir_lookup 1 =k READ 0
+  Found Done 4
+0 file_getcontrol 4
+  Port 5
+0 fsys_get_options 5
+  Words =/hurd/hello =--contents=Hello,\sworld!\n
+0 file_set_translator 3 SET SET - =/hurd/null box =/hurd/zero
+  Back EBUSY
+0 file_get_translator 3
+  Words =/hurd/hello
+0 file_set_translator 3 SET SET FORCE =/hurd/null box =/hurd/zero
+  Done
+2 io_read 3 5 -1
+  Refused EDIED
+0 file_get_translator 3
+  Words =/hurd/null
+0 file_set_translator 3 SET SET FORCE
+  Done
+0 file_get_translator 3
+  Refused EINVAL
+0 file_set_translator 3 SET - - =/hurd/hello
+  Done
+2 dir_lookup 1 =k READ 0
+  Found Start =/hurd/hello
+2 start_failed
+  Done
+2 start_failed
+  Refused ESRCH
+";
+
 /// What stands before the calls that are sure: a text of two names, and three directories, of which one is open to alice.
 const BEFORE: &str = r"0 dir_lookup 1 =motd READ,WRITE,CREATE 644
   Found Done 3
@@ -249,13 +303,17 @@ const SURE: &str = r"1 io_seek 3 2 Set
   Done
 0 file_set_translator 3 - SET -
   Done
+0 file_set_translator 3 SET - - =/hurd/hello
+  Done
+1 start_failed
+  Refused ESRCH
 0 fsys_goaway 3 -
   Refused EBADF
 ";
 
 /// Makes the calls of each transcript in a new world; where memory was refused to one and may be, once more.
 fn check_all(rt: &impl Abort, alloc: Global, memory: &mut Memory) -> Result<(), Fail> {
-    for transcript in [FILES, ENTRIES, PORTS, SERVERS] {
+    for transcript in [FILES, ENTRIES, PORTS, SERVERS, STARTS] {
         let mut world = world(alloc, memory)?;
         check(rt, alloc, &mut world, transcript, Tries::Twice, memory)?;
     }
