@@ -91,11 +91,7 @@ fn seated<S: Server>(core: &Core<S>, task: TaskId, port: u64) -> Result<ServerNa
 ///
 /// Errors, in order: `ESRCH` no such task, `EBADF` no such port, or one that controls a server, `EDIED` no such node, `EPERM` the
 /// port's ids hold neither the server's uid nor 0, `EOVERFLOW`, `ENOMEM`.
-pub fn file_getcontrol<S: Server>(
-    core: &mut Core<S>,
-    task: TaskId,
-    port: u64,
-) -> Result<u64, Errno>
+pub fn file_getcontrol<S: Server>(core: &mut Core<S>, task: TaskId, port: u64) -> Result<u64, Errno>
     ensures { let w = world_of S.meaning core.old in
         Planned w (plan_getcontrol w task.0 port) Port result (world_of S.meaning core.new) }
 {
