@@ -5,13 +5,14 @@ use Rattle.hurd_creds.specs.declared.errno.Errno.{Errno}
 use Rattle.hurd_creds.specs.declared.errno.Errno.TheVariants.{EACCES, EBUSY, EDIED, EISDIR, ENOENT, ENOTDIR, ENOTEMPTY}
 use Rattle.hurd_trans_iface.specs.Nodes.{Header, Body, is_dir, is_empty_dir, unlinked, without_entry}
 use Rattle.hurd_trans_iface.specs.Answers.{entry_of}
-use Rattle.hurd_nodes.specs.Shown.{are_kin, header_in}
+use Rattle.hurd_nodes.specs.Shown.{are_kin}
 use Rattle.hurd_machine.specs.declared.call.Reply.TheVariants.{Done}
-use Rattle.hurd_machine.specs.World.{World, header_at, body_at, home_at, active_at}
+use Rattle.hurd_machine.specs.World.{World, header_at, body_at, words_at, home_at, active_at}
 use Rattle.hurd_machine.specs.Change.{EditBody, EditHeader, Settle}
 use Rattle.hurd_machine.specs.Plan.{Plan, on, given, first, answered}
 use Rattle.hurd_machine.specs.Sight.{Part, AttrOf, EmptyOf, BodyOf}
 use Rattle.hurd_machine.specs.Touched.{asked_parts}
+use Rattle.hurd_core.specs.PortNode.{header_with}
 use Rattle.hurd_dirs.specs.declared.remove.EntryNode.{EntryNode}
 use Rattle.hurd_dirs.specs.Entry.{entry_asks, may_take}
 
@@ -21,13 +22,13 @@ pub record Entered : Type 0 where
   pub node : Name
   pub header : Header
 
--- the same as the code has it
-abbrev pub entered_of : EntryNode → Entered
-entered_of x = record { dir = x.dir; node = x.node; header = header_in x.attrs }
+-- the same as the code has it, with the words that are stored with the node in a world
+abbrev pub entered_of : World → EntryNode → Entered
+entered_of w x = record { dir = x.dir; node = x.node; header = header_with (words_at w x.node) x.attrs }
 
-abbrev pub entered : Result EntryNode Errno → Result Entered Errno
-entered (Ok x) = Ok (entered_of x)
-entered (Err e) = Err e
+abbrev pub entered : World → Result EntryNode Errno → Result Entered Errno
+entered w (Ok x) = Ok (entered_of w x)
+entered w (Err e) = Err e
 
 -- whether this is a directory without entries
 abbrev pub is_empty_at : Option Body → Bool

@@ -7,14 +7,15 @@ use Rattle.hurd_creds.specs.declared.errno.Errno.TheVariants.{EACCES, EBUSY, EDI
 use Rattle.hurd_creds.specs.Names.{same_name}
 use Rattle.hurd_trans_iface.specs.Nodes.{Header, is_dir, unlinked, moved_to, with_entry, without_entry}
 use Rattle.hurd_trans_iface.specs.Answers.{entry_of}
-use Rattle.hurd_nodes.specs.Shown.{are_kin, header_in, tree_by}
+use Rattle.hurd_nodes.specs.Shown.{are_kin, tree_by}
 use Rattle.hurd_machine.specs.declared.call.Reply.TheVariants.{Done}
-use Rattle.hurd_machine.specs.World.{World, header_at, body_at, home_at, active_at, info_at, is_removed}
+use Rattle.hurd_machine.specs.World.{World, header_at, body_at, words_at, home_at, active_at, info_at, is_removed}
 use Rattle.hurd_machine.specs.Change.{Change, EditHeader, EditBody, Settle}
 use Rattle.hurd_machine.specs.Plan.{Plan, on, given, first, answered}
 use Rattle.hurd_machine.specs.Handle.{Named, both_asks}
 use Rattle.hurd_machine.specs.Sight.{Part, AttrOf, EmptyOf, BodyOf}
 use Rattle.hurd_machine.specs.Touched.{asked_parts}
+use Rattle.hurd_core.specs.PortNode.{header_with}
 use Rattle.hurd_dirs.specs.declared.rename.Renaming.{Renaming}
 use Rattle.hurd_dirs.specs.Entry.{name_asks, may_change, may_take}
 use Rattle.hurd_dirs.specs.Remove.{is_empty_at}
@@ -73,10 +74,13 @@ abbrev pub old_asks : World → Named → Name × Header → Option Name → Res
 old_asks w b l None = Ok tt
 old_asks w b l (Some m) = if same_name m l.0 then Ok tt else gives_way w b l.1 m
 
--- what goes, as the code has it
-abbrev pub leaving : Result (Name × Attrs) Errno → Result (Name × Header) Errno
-leaving (Ok x) = Ok (x.0, header_in x.1)
-leaving (Err e) = Err e
+-- what goes, as the code has it, with the words that are stored with the node in a world
+abbrev pub leaving_of : World → Name × Attrs → Name × Header
+leaving_of w x = (x.0, header_with (words_at w x.0) x.1)
+
+abbrev pub leaving : World → Result (Name × Attrs) Errno → Result (Name × Header) Errno
+leaving w (Ok x) = Ok (leaving_of w x)
+leaving w (Err e) = Err e
 
 -- what goes where, with all refusals in order
 abbrev pub rename_asks : World → ℕ → ℕ → List ℕ → ℕ → List ℕ → Result Renaming Errno

@@ -24,7 +24,7 @@ pub(crate) struct EntryNode {
 /// Errors, in order: `ENOENT`, `EDIED` no such node of that server.
 #[tactic(auto, unfolding(hurd_machine::specs::Plan::on, hurd_machine::specs::Plan::given))]
 fn found_asked<S: Server>(core: &Core<S>, dir: NodeName, name: &[u8]) -> Result<EntryNode, Errno>
-    ensures is { entered result ≡ found_asks (world_of S.meaning core.now) dir name.now }
+    ensures is { let w = world_of S.meaning core.now in entered w result ≡ found_asks w dir name.now }
     ensures empty { IfOk result (λ x. x.attrs.empty ≡ is_empty_at (body_at (world_of S.meaning core.now) x.node)) }
 {
     let Some(node) = core.step(dir, name) else {
@@ -50,7 +50,7 @@ fn taking_asked<S: Server>(
     port: u64,
     name: &[u8],
 ) -> Result<EntryNode, Errno>
-    ensures is { entered result ≡ taking_asks (world_of S.meaning core.now) task.0 port name.now }
+    ensures is { let w = world_of S.meaning core.now in entered w result ≡ taking_asks w task.0 port name.now }
     ensures empty { IfOk result (λ x. x.attrs.empty ≡ is_empty_at (body_at (world_of S.meaning core.now) x.node)) }
 {
     let dir = entry_asked(core, task, port, name)?;
@@ -71,7 +71,7 @@ fn unlink_asked<S: Server>(
     port: u64,
     name: &[u8],
 ) -> Result<EntryNode, Errno>
-    ensures { entered result ≡ unlink_asks (world_of S.meaning core.now) task.0 port name.now }
+    ensures { let w = world_of S.meaning core.now in entered w result ≡ unlink_asks w task.0 port name.now }
 {
     let entry = taking_asked(core, task, port, name)?;
     if is_dir(entry.attrs.kind) {
@@ -110,7 +110,7 @@ fn rmdir_asked<S: Server>(
     port: u64,
     name: &[u8],
 ) -> Result<EntryNode, Errno>
-    ensures { entered result ≡ rmdir_asks (world_of S.meaning core.now) task.0 port name.now }
+    ensures { let w = world_of S.meaning core.now in entered w result ≡ rmdir_asks w task.0 port name.now }
 {
     let entry = taking_asked(core, task, port, name)?;
     if !is_dir(entry.attrs.kind) {

@@ -5,7 +5,7 @@ ghost use Rattle.hurd_machine.specs.Plan.{Planned};
 ghost use Rattle.hurd_machine.specs.declared.call.Reply.TheVariants as reply;
 ghost use Rattle.hurd_core.specs.Core.{world_of};
 ghost use Rattle.hurd_core.specs.PortNode.{named_of};
-ghost use Rattle.hurd_dirs.specs.Rename.{is_inside, trees_ask, leaves_asks, leaving, gives_way, old_asks, rename_asks, is_there, plan_rename};
+ghost use Rattle.hurd_dirs.specs.Rename.{is_inside, trees_ask, leaves_asks, leaving, leaving_of, gives_way, old_asks, rename_asks, is_there, plan_rename};
 
 use crate::entry::{is_dir, may_change, may_take, name_asked};
 use hurd_core::{Core, PortNode};
@@ -80,7 +80,7 @@ fn leaves_asked<S: Server>(
     name: &[u8],
     to: &PortNode,
 ) -> Result<(NodeName, Attrs), Errno>
-    ensures { leaving result ≡ leaves_asks (world_of S.meaning core.now) name.now (named_of from.now) (named_of to.now) }
+    ensures { let w = world_of S.meaning core.now in leaving w result ≡ leaves_asks w name.now (named_of from.now) (named_of to.now) }
 {
     if core.is_removed(to.right.node, &to.attrs) {
         return Err(Errno::ENOENT);
@@ -155,7 +155,7 @@ fn old_asked<S: Server>(
     attrs: &Attrs,
     old: Option<NodeName>,
 ) -> Result<(), Errno>
-    ensures { result ≡ old_asks (world_of S.meaning core.now) (named_of to.now) (node, header_in attrs.now) old }
+    ensures { let w = world_of S.meaning core.now in result ≡ old_asks w (named_of to.now) (leaving_of w (node, attrs.now)) old }
 {
     let Some(old) = old else {
         return Ok(());

@@ -15,7 +15,7 @@ use Rattle.hurd_machine.proofs.Frame.{Full}
 use Rattle.hurd_machine.proofs.Sizes.{did_sized}
 use Rattle.hurd_machine.proofs.Permits.{did_may}
 use Rattle.hurd_machine.proofs.Edits.{did_within, did_proper, did_rests, did_linked}
-use Rattle.hurd_machine.proofs.Asks.{first_same, answered_same, first_ok, first_plain, ok_plain, answered_plain, done_plain, handle_same, handle_seen, handle_plain, asked_same, asked_plain, port_same, port_plain, IsPlain, given_same, given_plain, err_plain, handle_read, answered_all}
+use Rattle.hurd_machine.proofs.Asks.{first_same, answered_same, first_ok, first_plain, ok_plain, answered_plain, done_plain, handle_same, handle_seen, handle_plain, asked_same, asked_plain, IsPlain, given_same, given_plain, err_plain, handle_read}
 use Rattle.hurd_machine.proofs.CallLaws.{CallLaws, looking_laws, answered_within, answered_proper, answered_sized, answered_rests, answered_may, answered_linked}
 use Rattle.hurd_files.specs.Files.{set_size_asks, plan_set_size, touches_set_size, readdir_asks, plan_readdir, touches_readdir}
 use Rattle.hurd_trans_iface.specs.Nodes.{Body, Content, Listing}

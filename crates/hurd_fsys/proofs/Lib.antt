@@ -1,6 +1,3 @@
 pub mod OwnedLaws
 pub mod ControlLaws
 pub mod FsysLaws
-pub mod BegunLaws
-pub mod SettingLaws
-pub mod SeatingLaws

@@ -33,7 +33,7 @@ use Rattle.hurd_creds.specs.Bits.{READ, WRITE}
 use Rattle.hurd_trans_iface.proofs.Goods.{good}
 use Rattle.hurd_machine.specs.declared.handle.Handle.{Handle}
 use Rattle.hurd_machine.specs.declared.call.Reply.TheVariants.{Data, Count, Stat}
-use Rattle.hurd_machine.specs.Handle.{port_asks, handle_asks}
+use Rattle.hurd_machine.specs.Handle.{handle_asks}
 
 -- Reads and writes: what the laws need of them, by what is asked first and the question to the server.
 

@@ -16,6 +16,6 @@ returns-in_err-entry g c =
 pub returns : goal.returns
 returns g c =
     let w = world_of g.S.Server.meaning c.args.core.now in
-    let x = entered_of c.in_ok-entry.entry in
+    let x = entered_of w c.in_ok-entry.entry in
     removing-follows w c.args.task.0 c.args.port c.args.name.now (rmdir_asks w c.args.task.0 c.args.port c.args.name.now) x _ _ (sym c.in_ok-entry.ensures)
     (rmdir_takes w c.args.task.0 c.args.port c.args.name.now x (sym c.in_ok-entry.ensures)).is_taking c.unlink.ensures

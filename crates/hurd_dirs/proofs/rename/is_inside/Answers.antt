@@ -1,8 +1,9 @@
 -- Each step goes on from the parent.
 use Rattle.std.proofs.Common.{◌∙◌, Some, None, sym, ap}
 use Rattle.std.specs.Option.{option_map}
-use Rattle.hurd_nodes.specs.Shown.{header_in}
+use Rattle.hurd_machine.specs.World.{words_at}
 use Rattle.hurd_core.specs.Core.{world_of}
+use Rattle.hurd_core.specs.PortNode.{header_with}
 use Rattle.hurd_dirs.specs.Rename.{parent_in}
 use Rattle.hurd_dirs.proofs.ClimbLaws.{climb_begin, climb_end, climb_found, climb_on}
 use Rattle.hurd_dirs.proofs.rename.is_inside.Goals as goal
@@ -16,8 +17,9 @@ returns-then-eq g c =
 
 pub returns-in_default : goal.returns-in_default
 returns-in_default g c =
-    sym (climb_on (world_of g.S.Server.meaning c.args.core.now) c.args.node 18446744073709551615 c.loop.counter c.loop.at None c.loop-test.true (sym c.eq.ensures ∙ c.if-eq.false)
-    (sym (ap parent_in c.attrs.ensures.header) ∙ ap (λ o. parent_in (option_map header_in o)) c.in_default.is)) ∙ c.loop.invariant
+    let w = world_of g.S.Server.meaning c.args.core.now in
+    sym (climb_on w c.args.node 18446744073709551615 c.loop.counter c.loop.at None c.loop-test.true (sym c.eq.ensures ∙ c.if-eq.false)
+    (sym (ap parent_in c.attrs.ensures.header) ∙ ap (λ o. parent_in (option_map (header_with (words_at w c.loop.at)) o)) c.in_default.is)) ∙ c.loop.invariant
 
 pub returns-in_default-parent : goal.returns-in_default-parent
 returns-in_default-parent g c =
