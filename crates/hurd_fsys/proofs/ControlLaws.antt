@@ -1,17 +1,24 @@
 -- Ports that control servers: what an answer shows, and that it is the same in worlds that agree; and a port more to control one.
-use Rattle.std.proofs.Common.{◌≡◌, ℕ, Bool, true, Some, refl, ap, subst, inl, inr, arith}
+use Rattle.std.proofs.Common.{◌≡◌, ◌∙◌, ◌||◌, ◌≤◌, ℕ, Bool, true, [], ◌∷◌, Some, refl, sym, ap, subst, inl, inr, arith}
 use Rattle.std.specs.Prelude.{Result, Ok, Err}
+use Rattle.std.specs.Ordering.{is_eq}
+use Rattle.std.specs.Cmp.{nat_cmp_total, tied_itself}
+use Rattle.std.specs.FinSet as set
+use Rattle.std.proofs.lemmas.List.Elements.{All-nil, All-cons}
 use Rattle.hurd_creds.specs.declared.name.Name.{Name}
 use Rattle.hurd_creds.specs.declared.errno.Errno.{Errno}
 use Rattle.hurd_creds.specs.declared.errno.Errno.TheVariants.{EBADF, EDIED}
+use Rattle.hurd_ports.specs.declared.table.IoRight.{IoRight}
 use Rattle.hurd_ports.specs.declared.table.Right.{Right}
 use Rattle.hurd_ports.specs.declared.table.Right.TheVariants.{Io, Control, Start}
 use Rattle.hurd_ports.specs.Tables.{Task, right_of, names_open}
 use Rattle.hurd_machine.specs.World.{World, ports_of, task_at, server_at}
 use Rattle.std.proofs.lemmas.Bool.{or_cases}
-use Rattle.hurd_creds.specs.Access.{holds_uid, is_root, owns}
+use Rattle.hurd_creds.specs.Access.{IdSets, holds_uid, is_root, least_uid, owns}
+use Rattle.hurd_creds.proofs.IdLaws.{least-answer}
+use Rattle.hurd_nodes.specs.Shown.{ServerInfo}
 use Rattle.hurd_machine.specs.Handle.{Named}
-use Rattle.hurd_machine.specs.Sight.{Part, TaskOf, Holds, OfControl, OwnsIt, UidOfRight, bare, is_on}
+use Rattle.hurd_machine.specs.Sight.{Part, TaskOf, Holds, OfControl, OwnsIt, CouldServe, UidOfRight, bare, is_on}
 use Rattle.hurd_machine.specs.Sound.{Below, Coherent}
 use Rattle.hurd_machine.proofs.Asks.{IsPlain, right_same, right_plain, holds_right, first_ok, on_ok, first_same, on_same, first_plain, on_plain, ok_plain, err_plain}
 use Rattle.hurd_machine.proofs.Views.{Agree, server_known}
@@ -26,7 +33,7 @@ use Rattle.hurd_machine.proofs.Confine.{Commands}
 use Rattle.hurd_machine.proofs.Several.{AllMay}
 use Rattle.hurd_core.specs.Control.{control_in, control_of}
 use Rattle.hurd_fsys.specs.Controls.{Controlled, control_asks}
-use Rattle.hurd_fsys.specs.Fsys.{controlling}
+use Rattle.hurd_fsys.specs.Fsys.{controlling, holds_any, may_control}
 
 -- a port that controls is one with that right
 pub control_is : (w : World) (t c : ℕ) (s : Name) → control_of (ports_of w) t c ≡ Ok s → right_of (ports_of w) t c ≡ Ok (Control s)
@@ -76,6 +83,28 @@ owner_holds S v n held h = elim (or_cases (holds_uid n.right.ids n.header.owner)
   | inl e ↦ (n.header.owner, UidOfRight n.right held e, inl refl)
   | inr e ↦ (0, UidOfRight n.right held e, inr refl)
 ]
+
+-- a server's one uid is the least that it has
+its_uid : (i : IdSets) (u : ℕ) → i ≡ record { uids = set.from_list (u ∷ []); gids = set.from_list [] } → least_uid i ≡ Some u
+its_uid i u is =
+    ap least_uid is
+    ∙ sym (least-answer (u ∷ []) (Some u) (λ none. absurd (cc)) ((0, omega arith, refl), All-cons (λ v. u ≤ v) u [] (omega arith) (All-nil (λ v. u ≤ v))))
+
+has_its_uid : (i : IdSets) (u : ℕ) → i ≡ record { uids = set.from_list (u ∷ []); gids = set.from_list [] } → holds_uid i u ≡ true
+has_its_uid i u is = ap (λ d. holds_uid d u) is ∙ set.contains-insert nat_cmp_total _ u u ∙ ap (λ o. is_eq o || holds_uid none u) (tied_itself nat_cmp_total u)
+  where
+    none : IdSets
+    none = record { uids = set.from_list []; gids = set.from_list [] }
+
+-- ids that may control a server hold its uid, or 0
+pub controller_holds : (S : ℕ → Bool) (v : World) → Coherent v → (r : IoRight) → Holds S v (Io r) → (s : Name) (i : ServerInfo) → server_at v s ≡ Some i
+    → may_control r.ids i.ids ≡ true → CouldServe S v i
+controller_holds S v c r held s i is may =
+    let one = c.housing.serving s i is in
+    elim (or_cases (is_root r.ids) (holds_any r.ids (least_uid i.ids)) may) [
+      | inl root ↦ (0, UidOfRight r held root, inr refl)
+      | inr any ↦ (one.0, UidOfRight r held (ap (holds_any r.ids) (sym (its_uid i.ids one.0 one.1)) ∙ any), inl (has_its_uid i.ids one.0 one.1))
+    ]
 
 -- a port more, to control a server
 

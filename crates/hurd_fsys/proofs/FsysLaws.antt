@@ -1,36 +1,39 @@
--- The laws of sending servers away, and of getting control of them.
+-- The laws of sending servers away, of getting control of them, and of asking how they were made.
 use Rattle.std.proofs.Common.{◌≡◌, ◌≢◌, ◌∙◌, ◌||◌, ◌&&◌, ◌==◌, not, ℕ, Bool, true, false, true≢false, Some, refl, sym, ap, subst, inl, inr}
-use Rattle.std.specs.Prelude.{Ok}
+use Rattle.std.specs.Prelude.{Result, Ok}
 use Rattle.hurd_creds.specs.declared.name.Name.{Name}
 use Rattle.hurd_creds.specs.declared.trans_flags.GoawayFlags.{GoawayFlags}
-use Rattle.hurd_creds.specs.declared.errno.Errno.TheVariants.{EBUSY, ENXIO, EOVERFLOW, ESRCH}
+use Rattle.hurd_creds.specs.declared.errno.Errno.{Errno}
+use Rattle.hurd_creds.specs.declared.errno.Errno.TheVariants.{EBUSY, EDIED, ENXIO, EOVERFLOW, EPERM, ESRCH}
 use Rattle.hurd_creds.specs.Names.{same_name}
 use Rattle.hurd_creds.specs.TransBits.{asks_goaway, FORCE}
 use Rattle.hurd_creds.proofs.NameLaws.{same_name-itself}
-use Rattle.hurd_nodes.specs.Shown.{boot_name}
+use Rattle.hurd_nodes.specs.Shown.{ServerInfo, boot_name}
 use Rattle.hurd_nodes.proofs.PartLaws.{and_both}
-use Rattle.hurd_ports.specs.declared.table.Right.TheVariants.{Control}
+use Rattle.hurd_ports.specs.declared.table.Right.TheVariants.{Io, Control}
 use Rattle.hurd_ports.specs.Tables.{Task, has_room}
-use Rattle.hurd_machine.specs.declared.call.Reply.TheVariants.{Done, Port}
-use Rattle.hurd_machine.specs.World.{World, task_at, active_at}
+use Rattle.hurd_machine.specs.declared.call.Reply.TheVariants.{Done, Port, Words}
+use Rattle.hurd_machine.specs.World.{World, task_at, home_at, active_at, server_at}
 use Rattle.hurd_machine.specs.Plan.{Plan}
-use Rattle.hurd_machine.specs.Handle.{Named}
-use Rattle.hurd_machine.specs.Sight.{UsersOf, ByControl, BySeat, users}
+use Rattle.hurd_machine.specs.Handle.{Named, port_asks}
+use Rattle.hurd_machine.specs.Sight.{Holds, Seen, Held, UsersOf, ByControl, ByNode, BySeat, users}
 use Rattle.hurd_machine.specs.Sound.{Coherent}
 use Rattle.hurd_machine.specs.Touched.{Goes, Nothing}
-use Rattle.hurd_machine.proofs.Views.{Agree, same_tasks, active_same}
+use Rattle.hurd_machine.proofs.Views.{Agree, same_tasks, home_same, active_same, server_same}
 use Rattle.hurd_machine.proofs.Frame.{Full, AllWithin}
 use Rattle.hurd_machine.proofs.Opens.{own_task}
 use Rattle.hurd_machine.proofs.Going.{goes_within, goes_proper, goes_linked, goes_sized, goes_rests, goes_may}
-use Rattle.hurd_machine.proofs.Asks.{IsPlain, holds_right, first_ok, given_ok, on_ok, first_same, given_same, on_same, first_plain, given_plain, on_plain, ok_plain, answered_all, answered_same, answered_plain, done_plain}
-use Rattle.hurd_machine.proofs.CallLaws.{CallLaws, answered_within, answered_proper, answered_linked, answered_sized, answered_rests, answered_may}
+use Rattle.hurd_machine.proofs.Asks.{IsPlain, IsNamed, is_named, port_same, port_seen, port_plain, holds_right, first_ok, given_ok}
+use Rattle.hurd_machine.proofs.Asks.{on_ok, first_same, given_same, on_same, first_plain, given_plain, on_plain, ok_plain, answered_all, answered_same, answered_plain, done_plain}
+use Rattle.hurd_machine.proofs.CallLaws.{CallLaws, looking_laws, answered_within, answered_proper, answered_linked, answered_sized, answered_rests, answered_may}
 use Rattle.hurd_machine.proofs.Confine.{Commands}
 use Rattle.hurd_core.specs.Core.{room_asks}
 use Rattle.hurd_fsys.specs.Controls.{Controlled, control_asks}
-use Rattle.hurd_fsys.specs.Fsys.{may_go, goaway_asks, plan_goaway, touches_goaway, seated_asks, plan_cntl, touches_cntl}
+use Rattle.hurd_fsys.specs.Fsys.{may_go, goaway_asks, plan_goaway, touches_goaway, plan_control, seated_asks, plan_cntl, touches_cntl}
+use Rattle.hurd_fsys.specs.Fsys.{may_control, served_asks, plan_getcontrol, touches_getcontrol, options_asks, plan_get_options, touches_get_options}
 use Rattle.hurd_fsys.specs.Owned.{owned_asks}
 use Rattle.hurd_fsys.proofs.OwnedLaws.{Owner, owner, owner_right, owner_sees, owned_same, owned_plain}
-use Rattle.hurd_fsys.proofs.ControlLaws.{IsControlled, is_controlled, controlled_same, controlled_plain, controls_within, controls_proper, controls_rests, controls_sized, controls_linked, controls_may, owner_holds}
+use Rattle.hurd_fsys.proofs.ControlLaws.{IsControlled, is_controlled, controlled_same, controlled_plain, controls_within, controls_proper, controls_rests, controls_sized, controls_linked, controls_may, owner_holds, controller_holds}
 
 -- fsys_goaway
 
@@ -84,6 +87,44 @@ module _ (t c : ℕ) (flags : GoawayFlags) where
     plain = λ w. answered_plain _ _ (goaway_plain w) (λ q is. done_plain Done refl);
   }
 
+-- a port to control a server that was asked for
+
+-- of what is asked: the server is there, who asked may command it, worlds that agree answer the same, and it isn't refused for want of memory
+pub record AskedServer (t : ℕ) (asks : World → Result Name Errno) : Type 0 where
+  pub there : (w : World) → Coherent w → (s : Name) → asks w ≡ Ok s → (i : ServerInfo) × (server_at w s ≡ Some i)
+  pub commanded : (S : ℕ → Bool) (v : World) → Coherent v → S t ≡ true → (s : Name) → asks v ≡ Ok s → Commands S v s
+  pub same : (S : ℕ → Bool) (v w : World) → Agree S v w → S t ≡ true → asks w ≡ asks v
+  pub plain : (w : World) → IsPlain (asks w)
+
+module _ (t : ℕ) where
+  roomy : (w : World) (x : Task) → room_asks w t 0 ≡ Ok x → task_at w t ≡ Some x
+  roomy w x is =
+      let y = on_ok ESRCH (task_at w t) _ x is in
+      let r = given_ok EOVERFLOW (has_room 0 y.0) _ x y.2 in
+      let same : y.0 ≡ x = cc (r.1) in
+      y.1 ∙ ap Some same
+
+  room_same : (S : ℕ → Bool) (v w : World) → Agree S v w → S t ≡ true → room_asks w t 0 ≡ room_asks v t 0
+  room_same S v w a ours = on_same _ _ _ _ _ (same_tasks a t ours) (λ x k. refl)
+
+  room_plain : (w : World) → IsPlain (room_asks w t 0)
+  room_plain w = on_plain _ _ _ refl (λ x k. given_plain _ _ _ refl (λ room. ok_plain _))
+
+  pub control_laws : (asks : World → Result Name Errno) → AskedServer t asks → CallLaws t (λ w. plan_control w t (asks w)) (λ w. Nothing)
+  control_laws asks l = record {
+    fits = λ w c. answered_all (λ (P : Plan). AllWithin (Full w t Nothing) w P.changes) (λ e. tt) (asks w) _ (λ s is.
+        answered_all (λ (P : Plan). AllWithin (Full w t Nothing) w P.changes) (λ e. tt) (room_asks w t 0) _ (λ x at. controls_within t s (Full w t Nothing) w (own_task w t Nothing)));
+    proper = λ w s. answered_proper w _ _ (λ q is. answered_proper w _ _ (λ x at.
+        let i = l.there w s.coherent q is in
+        controls_proper t q w s.coherent x (roomy w x at) (s.coherent.given.servers q i.0 i.1)));
+    linked = λ w s. answered_linked w _ _ s.linked (λ q is. answered_linked w _ _ s.linked (λ x at. controls_linked t q w s.linked));
+    sized = λ w s. answered_sized w _ _ s.sizes (λ q is. answered_sized w _ _ s.sizes (λ x at. controls_sized t q w s.sizes));
+    rests = λ w s. answered_rests w _ _ s.settled (λ q is. answered_rests w _ _ s.settled (λ x at. controls_rests t q w s.settled));
+    may = λ S v c ours. answered_may v _ _ S v (λ q is. answered_may v _ _ S v (λ x at. controls_may t q S v ours (l.commanded S v c ours q is)));
+    same = λ S v w c a ours. answered_same _ _ _ _ (l.same S v w a ours) (λ q is. answered_same _ _ _ _ (room_same S v w a ours) (λ x at. refl));
+    plain = λ w. answered_plain _ _ (l.plain w) (λ q is. answered_plain _ _ (room_plain w) (λ x at. done_plain (Port x.next) refl));
+  }
+
 -- file_get_translator_cntl
 
 module _ (t p : ℕ) where
@@ -100,46 +141,80 @@ module _ (t p : ℕ) where
       let same : q.0 ≡ s = cc (q.2) in
       subst (Seated w) same (record { named = n.0; owner = owner t p w n.0 n.1; active = q.1 })
 
-  roomy : (w : World) (x : Task) → room_asks w t 0 ≡ Ok x → task_at w t ≡ Some x
-  roomy w x is =
-      let y = on_ok ESRCH (task_at w t) _ x is in
-      let r = given_ok EOVERFLOW (has_room 0 y.0) _ x y.2 in
-      let same : y.0 ≡ x = cc (r.1) in
-      y.1 ∙ ap Some same
-
   seated_same : (S : ℕ → Bool) (v w : World) → Agree S v w → S t ≡ true → seated_asks w t p ≡ seated_asks v t p
   seated_same S v w a ours =
       first_same _ _ _ _ (owned_same t p a ours) (λ n is.
       on_same _ _ _ _ _ (active_same a n.right.node (owner_sees t p ours n (owner t p v n is))) (λ s at. refl))
 
-  room_same : (S : ℕ → Bool) (v w : World) → Agree S v w → S t ≡ true → room_asks w t 0 ≡ room_asks v t 0
-  room_same S v w a ours = on_same _ _ _ _ _ (same_tasks a t ours) (λ x k. refl)
-
   seated_plain : (w : World) → IsPlain (seated_asks w t p)
   seated_plain w = first_plain _ _ (owned_plain t p w) (λ n is. on_plain _ _ _ refl (λ s at. ok_plain _))
 
-  room_plain : (w : World) → IsPlain (room_asks w t 0)
-  room_plain w = on_plain _ _ _ refl (λ x k. given_plain _ _ _ refl (λ room. ok_plain _))
-
   -- a task of S may control it
-  commanded : (S : ℕ → Bool) (v : World) → Coherent v → S t ≡ true → (s : Name) → Seated v s → Commands S v s
-  commanded S v c ours s k =
+  seated_commanded : (S : ℕ → Bool) (v : World) → Coherent v → S t ≡ true → (s : Name) → Seated v s → Commands S v s
+  seated_commanded S v c ours s k =
       let i = c.seating.seated k.named.right.node s k.active in
       let held = owner_right t p ours k.named k.owner in
       inr (i.1, i.2, BySeat k.named.right.node k.named.header (owner_sees t p ours k.named k.owner) k.active k.owner.is_named.is_header (owner_holds S v k.named held k.owner.owned))
 
   pub cntl_laws : CallLaws t (λ w. plan_cntl w t p) (λ w. touches_cntl w t p)
-  cntl_laws = record {
-    fits = λ w c. answered_all (λ (P : Plan). AllWithin (Full w t Nothing) w P.changes) (λ e. tt) (seated_asks w t p) _ (λ s is.
-        answered_all (λ (P : Plan). AllWithin (Full w t Nothing) w P.changes) (λ e. tt) (room_asks w t 0) _ (λ x at. controls_within t s (Full w t Nothing) w (own_task w t Nothing)));
-    proper = λ w s. answered_proper w _ _ (λ q is. answered_proper w _ _ (λ x at.
-        let k = seated w q is in
-        let i = s.coherent.seating.seated k.named.right.node q k.active in
-        controls_proper t q w s.coherent x (roomy w x at) (s.coherent.given.servers q i.1 i.2)));
-    linked = λ w s. answered_linked w _ _ s.linked (λ q is. answered_linked w _ _ s.linked (λ x at. controls_linked t q w s.linked));
-    sized = λ w s. answered_sized w _ _ s.sizes (λ q is. answered_sized w _ _ s.sizes (λ x at. controls_sized t q w s.sizes));
-    rests = λ w s. answered_rests w _ _ s.settled (λ q is. answered_rests w _ _ s.settled (λ x at. controls_rests t q w s.settled));
-    may = λ S v c ours. answered_may v _ _ S v (λ q is. answered_may v _ _ S v (λ x at. controls_may t q S v ours (commanded S v c ours q (seated v q is))));
-    same = λ S v w c a ours. answered_same _ _ _ _ (seated_same S v w a ours) (λ q is. answered_same _ _ _ _ (room_same S v w a ours) (λ x at. refl));
-    plain = λ w. answered_plain _ _ (seated_plain w) (λ q is. answered_plain _ _ (room_plain w) (λ x at. done_plain (Port x.next) refl));
-  }
+  cntl_laws = control_laws t (λ w. seated_asks w t p) (record {
+    there = λ w c s is. let k = seated w s is in let i = c.seating.seated k.named.right.node s k.active in (i.1, i.2);
+    commanded = λ S v c ours s is. seated_commanded S v c ours s (seated v s is);
+    same = seated_same;
+    plain = seated_plain;
+  })
+
+-- file_getcontrol
+
+module _ (t p : ℕ) where
+  -- what is controlled is the server of a port's node, and the port's ids may control it
+  record Served (w : World) (s : Name) : Type 0 where
+    named : Named
+    is_named : IsNamed w t p named
+    home : home_at w named.right.node ≡ Some s
+    info : ServerInfo
+    is_server : server_at w s ≡ Some info
+    may : may_control named.right.ids info.ids ≡ true
+
+  served : (w : World) (s : Name) → served_asks w t p ≡ Ok s → Served w s
+  served w s is =
+      let n = first_ok (port_asks w t p) _ s is in
+      let q = on_ok EDIED (home_at w n.0.right.node) _ s n.2 in
+      let i = on_ok EDIED (server_at w q.0) _ s q.2 in
+      let g = given_ok EPERM (may_control n.0.right.ids i.0.ids) _ s i.2 in
+      let same : q.0 ≡ s = cc (g.1) in
+      subst (Served w) same (record { named = n.0; is_named = is_named w t p n.0 n.1; home = q.1; info = i.0; is_server = i.1; may = g.0 })
+
+  served_same : (S : ℕ → Bool) (v w : World) → Agree S v w → S t ≡ true → served_asks w t p ≡ served_asks v t p
+  served_same S v w a ours =
+      first_same _ _ _ _ (port_same a t ours p) (λ n is.
+      let seen : Seen S v n.right.node = port_seen t ours p n is in
+      on_same _ _ _ _ _ (home_same a n.right.node seen) (λ s home.
+      on_same _ _ _ _ _ (server_same a n.right.node s seen home) (λ i at. refl)))
+
+  served_plain : (w : World) → IsPlain (served_asks w t p)
+  served_plain w =
+      first_plain _ _ (port_plain w t p) (λ n is.
+      on_plain _ _ _ refl (λ s home. on_plain _ _ _ refl (λ i at. given_plain _ _ _ refl (λ may. ok_plain _))))
+
+  -- a task of S may control it: it sees a node of the server, and could serve it
+  served_commanded : (S : ℕ → Bool) (v : World) → Coherent v → S t ≡ true → (s : Name) → Served v s → Commands S v s
+  served_commanded S v c ours s k =
+      let held : Holds S v (Io k.named.right) = holds_right t ours p (Io k.named.right) k.is_named.is_right in
+      inr (k.info, k.is_server, ByNode k.named.right.node (Held k.named.right held refl) k.home (controller_holds S v c k.named.right held s k.info k.is_server k.may))
+
+  pub getcontrol_laws : CallLaws t (λ w. plan_getcontrol w t p) (λ w. touches_getcontrol w t p)
+  getcontrol_laws = control_laws t (λ w. served_asks w t p) (record {
+    there = λ w c s is. let k = served w s is in (k.info, k.is_server);
+    commanded = λ S v c ours s is. served_commanded S v c ours s (served v s is);
+    same = served_same;
+    plain = served_plain;
+  })
+
+-- fsys_get_options: what it asks for is known to who controls the server, and nothing changes
+
+pub get_options_laws : (t c : ℕ) → CallLaws t (λ w. plan_get_options w t c) (λ w. touches_get_options w t c)
+get_options_laws t c = looking_laws t (λ w. options_asks w t c) (λ ws. Words ws)
+    (λ S v w a ours. first_same _ _ _ _ (controlled_same a t ours c) (λ k is. refl))
+    (λ w. first_plain _ _ (controlled_plain w t c) (λ k is. ok_plain _))
+    (λ ws. refl)

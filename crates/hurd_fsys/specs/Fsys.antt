@@ -7,6 +7,7 @@ use Rattle.hurd_creds.specs.declared.trans_flags.GoawayFlags.{GoawayFlags}
 use Rattle.hurd_creds.specs.Access.{IdSets, holds_uid, is_root, least_uid}
 use Rattle.hurd_creds.specs.Names.{same_name}
 use Rattle.hurd_creds.specs.TransBits.{asks_goaway, FORCE}
+use Rattle.hurd_trans_iface.specs.Meaning.{options_of}
 use Rattle.hurd_nodes.specs.Shown.{boot_name}
 use Rattle.hurd_ports.specs.declared.table.Right.TheVariants.{Control}
 use Rattle.hurd_ports.specs.Steps.{with_port}
@@ -61,12 +62,12 @@ plan_cntl w t p = plan_control w t (seated_asks w t p)
 abbrev pub touches_cntl : World → ℕ → ℕ → Part → Type 0
 touches_cntl w t p = Nothing
 
--- whether ids may control a server of these ids: they hold its uid, or 0
-
+-- whether a uid is held, if there is one
 abbrev pub holds_any : IdSets → Option ℕ → Bool
 holds_any ids None = false
 holds_any ids (Some u) = holds_uid ids u
 
+-- whether ids may control a server of these ids: they hold its uid, or 0
 abbrev pub may_control : IdSets → IdSets → Bool
 may_control ids served = is_root ids || holds_any ids (least_uid served)
 

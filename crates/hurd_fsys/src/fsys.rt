@@ -1,7 +1,8 @@
 //! Sending servers away, getting control of them, and asking how they were made (`fsys.defs`, `fs.defs`).
 ghost use Rattle.std.specs.Prelude.{◌≡◌};
 ghost use Rattle.hurd_machine.specs.Plan.{Follows, Planned, told};
-ghost use Rattle.hurd_machine.specs.declared.call.Reply.TheVariants.{Done, Port, Words};
+ghost use Rattle.hurd_machine.specs.declared.call.Reply.TheVariants.{Done, Port};
+ghost use Rattle.hurd_machine.specs.declared.call.Reply.TheVariants as reply;
 ghost use Rattle.hurd_core.specs.Core.{world_of};
 ghost use Rattle.hurd_fsys.specs.Fsys.{goaway_asks, may_control, options_asks, plan_cntl, plan_get_options, plan_getcontrol, plan_goaway, seated_asks, served_asks};
 
@@ -90,11 +91,7 @@ fn seated<S: Server>(core: &Core<S>, task: TaskId, port: u64) -> Result<ServerNa
 ///
 /// Errors, in order: `ESRCH` no such task, `EBADF` no such port, or one that controls a server, `EDIED` no such node, `EPERM` the
 /// port's ids hold neither the server's uid nor 0, `EOVERFLOW`, `ENOMEM`.
-pub fn file_getcontrol<S: Server>(
-    core: &mut Core<S>,
-    task: TaskId,
-    port: u64,
-) -> Result<u64, Errno>
+pub fn file_getcontrol<S: Server>(core: &mut Core<S>, task: TaskId, port: u64) -> Result<u64, Errno>
     ensures { let w = world_of S.meaning core.old in
         Planned w (plan_getcontrol w task.0 port) Port result (world_of S.meaning core.new) }
 {
@@ -144,7 +141,7 @@ pub fn fsys_get_options<S: Server>(
     control: u64,
 ) -> Result<Words, Errno>
     ensures { let w = world_of S.meaning core.now in
-        Planned w (plan_get_options w task.0 control) Words result w }
+        Planned w (plan_get_options w task.0 control) reply.Words result w }
 {
     let server = core.control(task, control)?;
     core.options(alloc, server)
