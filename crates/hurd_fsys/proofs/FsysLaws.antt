@@ -23,12 +23,14 @@ use Rattle.hurd_machine.proofs.Views.{Agree, same_tasks, home_same, active_same,
 use Rattle.hurd_machine.proofs.Frame.{Full, AllWithin}
 use Rattle.hurd_machine.proofs.Opens.{own_task}
 use Rattle.hurd_machine.proofs.Going.{goes_within, goes_proper, goes_linked, goes_sized, goes_rests, goes_may}
-use Rattle.hurd_machine.proofs.Asks.{IsPlain, IsNamed, is_named, port_same, port_seen, port_plain, holds_right, first_ok, given_ok, on_ok, first_same, given_same, on_same, first_plain, given_plain, on_plain, ok_plain, answered_all, answered_same, answered_plain, done_plain}
+use Rattle.hurd_machine.proofs.Asks.{IsPlain, IsNamed, is_named, port_same, port_seen, port_plain, holds_right, first_ok, given_ok}
+use Rattle.hurd_machine.proofs.Asks.{on_ok, first_same, given_same, on_same, first_plain, given_plain, on_plain, ok_plain, answered_all, answered_same, answered_plain, done_plain}
 use Rattle.hurd_machine.proofs.CallLaws.{CallLaws, looking_laws, answered_within, answered_proper, answered_linked, answered_sized, answered_rests, answered_may}
 use Rattle.hurd_machine.proofs.Confine.{Commands}
 use Rattle.hurd_core.specs.Core.{room_asks}
 use Rattle.hurd_fsys.specs.Controls.{Controlled, control_asks}
-use Rattle.hurd_fsys.specs.Fsys.{may_go, goaway_asks, plan_goaway, touches_goaway, plan_control, seated_asks, plan_cntl, touches_cntl, may_control, served_asks, plan_getcontrol, touches_getcontrol, options_asks, plan_get_options, touches_get_options}
+use Rattle.hurd_fsys.specs.Fsys.{may_go, goaway_asks, plan_goaway, touches_goaway, plan_control, seated_asks, plan_cntl, touches_cntl}
+use Rattle.hurd_fsys.specs.Fsys.{may_control, served_asks, plan_getcontrol, touches_getcontrol, options_asks, plan_get_options, touches_get_options}
 use Rattle.hurd_fsys.specs.Owned.{owned_asks}
 use Rattle.hurd_fsys.proofs.OwnedLaws.{Owner, owner, owner_right, owner_sees, owned_same, owned_plain}
 use Rattle.hurd_fsys.proofs.ControlLaws.{IsControlled, is_controlled, controlled_same, controlled_plain, controls_within, controls_proper, controls_rests, controls_sized, controls_linked, controls_may, owner_holds, controller_holds}
@@ -85,8 +87,9 @@ module _ (t c : ℕ) (flags : GoawayFlags) where
     plain = λ w. answered_plain _ _ (goaway_plain w) (λ q is. done_plain Done refl);
   }
 
--- a port to control a server that was asked for: it is there, and who asked may command it; and that is asked the same in worlds that agree
+-- a port to control a server that was asked for
 
+-- of what is asked: the server is there, who asked may command it, worlds that agree answer the same, and it isn't refused for want of memory
 pub record AskedServer (t : ℕ) (asks : World → Result Name Errno) : Type 0 where
   pub there : (w : World) → Coherent w → (s : Name) → asks w ≡ Ok s → (i : ServerInfo) × (server_at w s ≡ Some i)
   pub commanded : (S : ℕ → Bool) (v : World) → Coherent v → S t ≡ true → (s : Name) → asks v ≡ Ok s → Commands S v s
