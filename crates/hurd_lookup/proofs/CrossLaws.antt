@@ -12,10 +12,11 @@ use Rattle.hurd_trans_iface.specs.Meaning.{ServerKind, Tmpfs, Hello, Null, Zero,
 use Rattle.hurd_trans_iface.specs.declared.root.Root.{Root}
 use Rattle.hurd_trans_iface.specs.declared.root.Crossing.{Crossing}
 use Rattle.hurd_trans_iface.specs.declared.root.Crossing.TheVariants.{Plain, Link}
-use Rattle.hurd_nodes.specs.Shown.{ServerInfo, header_in, readable_by}
+use Rattle.hurd_nodes.specs.Shown.{ServerInfo, readable_by}
 use Rattle.hurd_ports.specs.declared.table.IoRight.{IoRight}
-use Rattle.hurd_machine.specs.World.{World, count_in, header_at, info_at, node_at, readable_at}
+use Rattle.hurd_machine.specs.World.{World, count_in, header_at, info_at, node_at, readable_at, words_at}
 use Rattle.hurd_machine.specs.Plan.{on, first}
+use Rattle.hurd_core.specs.PortNode.{header_with}
 use Rattle.hurd_lookup.specs.declared.request.Request.{Request}
 use Rattle.hurd_lookup.specs.Lookup.{Place, cross, crossing, enter, follow, is_last}
 use Rattle.hurd_lookup.specs.Ends.{IsLink, text_at, text_by}
@@ -29,9 +30,9 @@ only_symlink Zero text a is = absurd (cc)
 only_symlink Symlink text a is = refl
 
 -- a node whose attributes are told is there
-pub there : (w : World) (n : Name) (o : Option Attrs) (b : Bool) → is_some o ≡ not b → b ≡ false → option_map header_in o ≡ header_at w n → (h : Header) × (header_at w n ≡ Some h)
+pub there : (w : World) (n : Name) (o : Option Attrs) (b : Bool) → is_some o ≡ not b → b ≡ false → option_map (header_with (words_at w n)) o ≡ header_at w n → (h : Header) × (header_at w n ≡ Some h)
 there w n None b some off told = absurd (cc)
-there w n (Some a) b some off told = (header_in a, sym told)
+there w n (Some a) b some off told = (header_with (words_at w n) a, sym told)
 
 module _ (w : World) (root : Name) (h : Header) (there : header_at w root ≡ Some h) (x : Root) (is : Some x ≡ option_map (λ (i : ServerInfo). root_of i.kind i.text) (info_at w root)) where
   -- the server whose root it is

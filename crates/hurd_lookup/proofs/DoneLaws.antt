@@ -5,32 +5,33 @@ use Rattle.hurd_creds.specs.declared.name.Name.{Name}
 use Rattle.hurd_creds.specs.declared.attrs.Kind.TheVariants.{File}
 use Rattle.hurd_creds.specs.declared.open_flags.OpenFlags.{OpenFlags}
 use Rattle.hurd_creds.specs.declared.errno.Errno.{Errno}
-use Rattle.hurd_creds.specs.declared.errno.Errno.TheVariants.{EDIED, ENOMEM}
+use Rattle.hurd_creds.specs.declared.errno.Errno.TheVariants.{EDIED, ENOMEM, ESRCH}
 use Rattle.hurd_creds.specs.Access.{IdSets}
 use Rattle.hurd_creds.specs.Bits.{open_modes}
 use Rattle.hurd_ports.specs.declared.parents.Parent.{Parent}
-use Rattle.hurd_ports.specs.Tables.{Task}
+use Rattle.hurd_ports.specs.declared.table.PendingStart.{PendingStart}
+use Rattle.hurd_ports.specs.Tables.{Task, or_refuse, task_of}
 use Rattle.hurd_machine.specs.declared.call.Lookup.{Lookup}
 use Rattle.hurd_machine.specs.declared.call.Lookup.TheVariants as found
 use Rattle.hurd_machine.specs.declared.call.RetryKind.{RetryKind}
 use Rattle.hurd_machine.specs.declared.call.Reply.TheVariants.{Found}
-use Rattle.hurd_machine.specs.World.{World, home_at, makes_at}
-use Rattle.hurd_machine.specs.Change.{Change, apply_all, opening}
+use Rattle.hurd_machine.specs.World.{World, home_at, makes_at, ports_of, task_at}
+use Rattle.hurd_machine.specs.Change.{Change, apply_all, opening, pending}
 use Rattle.hurd_machine.specs.Plan.{Plan, Planned, Follows, refuse, is_refused, on, first, answered}
 use Rattle.hurd_core.specs.Core.{Does, NewNodeAt, room_asks, making_asks, making_open}
-use Rattle.hurd_lookup.specs.Lookup.{NewPort, Outcome, Opens, Makes, Retries, ending_asks, finding, lookup_changes, lookup_told, no_modes}
+use Rattle.hurd_lookup.specs.Lookup.{NewPort, Outcome, Opens, Makes, Retries, Starts, ending_asks, finding, lookup_changes, lookup_told, no_modes}
 use Rattle.hurd_lookup.specs.Ends.{MayMake}
 
 -- a method that does what a plan says, where it is not refused
 
-abbrev done : {A : Type 0} → (A → List Change) → (A → ℕ) → (ℕ → Lookup) → A → Plan
+abbrev done : {A T : Type 0} → (A → List Change) → (A → T) → (T → Lookup) → A → Plan
 done changes answer tell a = record { reply = Found (tell (answer a)); changes = changes a }
 
-module _ {A : Type 0} (w : World) (asks : Result A Errno) (changes : A → List Change) (answer : A → ℕ) (tell : ℕ → Lookup) (P : Plan) (a : A) (is : asks ≡ Ok a) (plan : P ≡ done changes answer tell a) where
-  does_planned : (k : ℕ) (y : World) → Does w asks changes answer (Ok k) y → Follows w P (Found (tell k)) y
+module _ {A T : Type 0} (w : World) (asks : Result A Errno) (changes : A → List Change) (answer : A → T) (tell : T → Lookup) (P : Plan) (a : A) (is : asks ≡ Ok a) (plan : P ≡ done changes answer tell a) where
+  does_planned : (k : T) (y : World) → Does w asks changes answer (Ok k) y → Follows w P (Found (tell k)) y
   does_planned k y (b, asked, told, left) =
       let same : b ≡ a = cc (asked, is) in
-      rw plan (ap (λ (n : ℕ). Found (tell n)) (told ∙ ap answer same), left ∙ ap (λ (c : A). apply_all (changes c) w) same)
+      rw plan (ap (λ (n : T). Found (tell n)) (told ∙ ap answer same), left ∙ ap (λ (c : A). apply_all (changes c) w) same)
 
   does_lacks : (e : Errno) (y : World) → Does w asks changes answer (Err e) y → Planned w P Found (Err e) y
   does_lacks e y (left, inl refused) = absurd (cc (is, refused))
@@ -120,6 +121,32 @@ module _ (w : World) (t : ℕ) (flags : OpenFlags) where
 
     pub unmade : (e : Errno) (y : World) → Does w (making_asks w t f) makes (λ a. a.0.next) (Err e) y → Planned w (asked (Ok o)) Found (Err e) y
     unmade e y d = let x = makes-it in does_lacks w (making_asks w t f) makes (λ a. a.0.next) found.Done (asked (Ok o)) (x.0, s) x.1 x.2 e y d
+
+  -- a translator is to be started
+  module _ (s : PendingStart) (ok : IsOk (ending_asks w t (Starts s))) where
+    abbrev pends : Task → List Change
+    pends x = pending t (Some s)
+
+    abbrev nothing : Task → Unit {0}
+    nothing x = tt
+
+    abbrev words_told : Unit {0} → Lookup
+    words_told u = found.Start s.words
+
+    -- the task that is to start it
+    starter : (x : Task) × (task_of (ports_of w) t ≡ Ok x) × (asked (Ok (Starts s)) ≡ told (Starts s, x))
+    unfolding on
+    starter = let x = there (ending_asks w t (Starts s)) ok in (x.0, had (task_at w t) x.0 x.1, plan-is (Starts s) x.0 x.1)
+      where
+        had : (o : Option Task) (x : Task) → on ESRCH o (λ z. Ok z) ≡ Ok x → or_refuse ESRCH o ≡ Ok x
+        had None x is = absurd (cc)
+        had (Some y) x is = is
+
+    pub started : (y : World) → Does w (task_of (ports_of w) t) pends nothing (Ok tt) y → Follows w (asked (Ok (Starts s))) (Found (found.Start s.words)) y
+    started y d = let x = starter in does_planned w (task_of (ports_of w) t) pends nothing words_told (asked (Ok (Starts s))) x.0 x.1 x.2 tt y d
+
+    pub unstarted : (e : Errno) (y : World) → Does w (task_of (ports_of w) t) pends nothing (Err e) y → Planned w (asked (Ok (Starts s))) Found (Err e) y
+    unstarted e y d = let x = starter in does_lacks w (task_of (ports_of w) t) pends nothing words_told (asked (Ok (Starts s))) x.0 x.1 x.2 e y d
 
   -- a name is told, with a port or without one
   module _ (kind : RetryKind) (name : List ℕ) where

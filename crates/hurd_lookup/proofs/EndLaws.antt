@@ -13,12 +13,13 @@ use Rattle.hurd_ports.specs.declared.parents.Parent.{Parent}
 use Rattle.hurd_ports.specs.declared.table.IoRight.{IoRight}
 use Rattle.hurd_machine.specs.declared.call.RetryKind.{RetryKind}
 use Rattle.hurd_machine.specs.World.{World, header_at, home_at, info_at, makes_at, is_removed}
-use Rattle.hurd_machine.specs.Sight.{bare, BodyOf, Sees, Taken}
+use Rattle.hurd_machine.specs.Sight.{bare, BodyOf, Seen, Sees, Taken}
+use Rattle.hurd_machine.specs.Sound.{Below}
 use Rattle.hurd_machine.proofs.Views.{Agree, header_same, home_same}
 use Rattle.hurd_machine.proofs.Asks.{on_same, given_same, first_same, on_ok, given_ok, first_ok, IsPlain, ok_plain, on_plain, given_plain, first_plain, info_same, is_root_same, makes_same, makes_plain}
 use Rattle.hurd_core.specs.Core.{NewNodeAt}
 use Rattle.hurd_lookup.specs.declared.request.Request.{Request}
-use Rattle.hurd_lookup.specs.Lookup.{NewPort, Place, AtNode, AtName, Elsewhere, Outcome, Opens, Makes, Retries, may_open, only_reads, open_asks, make_asks, end_asks}
+use Rattle.hurd_lookup.specs.Lookup.{NewPort, Place, AtNode, AtName, Elsewhere, Waits, Outcome, Opens, Makes, Retries, Starts, may_open, only_reads, open_asks, make_asks, end_asks}
 use Rattle.hurd_lookup.proofs.WalkLaws.{WaysSeen, PortSeen, PlaceSeen, WaysGiven, PortGiven, PlaceGiven}
 
 -- what is asked at the end
@@ -34,6 +35,7 @@ module _ {S : ℕ → Bool} {v w : World} (a : Agree S v w) (q : IoRight) (r : R
       given_same _ (not (is_removed v d h)) (not (is_removed w d h)) _ _ (rw (is_root_same a d seen.0) refl) (λ g.
       on_same _ _ _ _ _ (home_same a d seen.0) (λ s es. refl))))))
   end_same (Elsewhere kind name at) seen = refl
+  end_same (Waits n words) seen = refl
 
 pub end_plain : (w : World) (q : IoRight) (r : Request) (place : Place) → IsPlain (end_asks w q r place)
 end_plain w q r (AtNode n ways) = on_plain _ _ _ refl (λ h e. given_plain _ _ _ refl (λ k. given_plain _ _ _ refl (λ b. given_plain _ _ _ refl (λ g. given_plain _ _ _ refl (λ m. ok_plain _)))))
@@ -41,13 +43,15 @@ end_plain w q r (AtName d name) =
     first_plain _ _ (makes_plain w d name File) (λ u made. on_plain _ _ _ refl (λ h e. given_plain _ _ _ refl (λ m. on_plain _ _ _ refl (λ owner least.
     given_plain _ _ _ refl (λ g. on_plain _ _ _ refl (λ s es. ok_plain _))))))
 end_plain w q r (Elsewhere kind name at) = ok_plain _
+end_plain w q r (Waits n words) = ok_plain _
 
--- what S sees of an outcome: of a port its node, ids and ways, and the entries of a directory in which a file is made
+-- what S sees of an outcome: of a port its node, ids and ways, the entries of a directory in which a file is made, and the node of what is to be started
 abbrev pub OutcomeSeen : (ℕ → Bool) → World → Outcome → Type 0
 OutcomeSeen S v (Opens e) = PortSeen S v e
 OutcomeSeen S v (Makes s f ids ways) = Sees S v (BodyOf f.dir) × Taken S v ids × WaysSeen S v ways
 OutcomeSeen S v (Retries kind name None) = Unit {0}
 OutcomeSeen S v (Retries kind name (Some e)) = PortSeen S v e
+OutcomeSeen S v (Starts s) = Seen S v s.node
 
 -- a node that is opened stands, and may be opened
 pub record OpenLeads (w : World) (flags : OpenFlags) (e : NewPort) : Type 0 where
@@ -69,13 +73,15 @@ abbrev pub Leads : World → OpenFlags → Outcome → Type 0
 Leads w flags (Opens e) = OpenLeads w flags e
 Leads w flags (Makes s f ids ways) = MakeLeads w s f.dir f.name
 Leads w flags (Retries kind name at) = Unit {0}
+Leads w flags (Starts s) = Unit {0}
 
--- what an outcome names was given: the nodes of ways; and a port of a retry is on a node that is there
+-- what an outcome names was given: the nodes of ways, and the node of what is to be started; and a port of a retry is on a node that is there
 abbrev pub OutcomeGiven : World → Outcome → Type 0
 OutcomeGiven w (Opens e) = WaysGiven w e.parents
 OutcomeGiven w (Makes s f ids ways) = WaysGiven w ways
 OutcomeGiven w (Retries kind name None) = Unit {0}
 OutcomeGiven w (Retries kind name (Some e)) = PortGiven w e
+OutcomeGiven w (Starts s) = Below w s.node
 
 -- what an answer at the end of the names shows
 module _ (w : World) (q : IoRight) (r : Request) where
@@ -108,10 +114,15 @@ module _ (w : World) (q : IoRight) (r : Request) where
   retried : (P : Outcome → Type 0) (kind : RetryKind) (name : List ℕ) (at : Option NewPort) (o : Outcome) → end_asks w q r (Elsewhere kind name at) ≡ Ok o → P (Retries kind name at) → P o
   retried P kind name at o is h = let same : Retries kind name at ≡ o = cc in subst P same h
 
+  -- a translator that is to be started
+  starts : (P : Outcome → Type 0) (n : Name) (words : List (List ℕ)) (o : Outcome) → end_asks w q r (Waits n words) ≡ Ok o → P (Starts (record { node = n; words = words })) → P o
+  starts P n words o is h = let same : Starts (record { node = n; words = words }) ≡ o = cc in subst P same h
+
   pub end_leads : (place : Place) (o : Outcome) → end_asks w q r place ≡ Ok o → Leads w r.flags o
   end_leads (AtNode n parents) o is = let x = opened n parents o is in subst (Leads w r.flags) x.0 x.1
   end_leads (AtName d name) o is = let x = made d name o is in subst (Leads w r.flags) x.2 x.4
   end_leads (Elsewhere kind name at) o is = retried (Leads w r.flags) kind name at o is tt
+  end_leads (Waits n words) o is = starts (Leads w r.flags) n words o is tt
 
   -- by a right whose ways were given
   pub end_given : WaysGiven w q.parents → (place : Place) (o : Outcome) → PlaceGiven w place → end_asks w q r place ≡ Ok o → OutcomeGiven w o
@@ -119,6 +130,7 @@ module _ (w : World) (q : IoRight) (r : Request) where
   end_given ways (AtName d name) o given is = subst (OutcomeGiven w) (made d name o is).2 ways
   end_given ways (Elsewhere kind name None) o given is = retried (OutcomeGiven w) kind name None o is given
   end_given ways (Elsewhere kind name (Some e)) o given is = retried (OutcomeGiven w) kind name (Some e) o is given
+  end_given ways (Waits n words) o given is = starts (OutcomeGiven w) n words o is given
 
   -- by a right whose ids S has, and whose ways it sees
   pub end_seen : (S : ℕ → Bool) → Taken S w q.ids → WaysSeen S w q.parents → (place : Place) (o : Outcome) → PlaceSeen S w place → end_asks w q r place ≡ Ok o → OutcomeSeen S w o
@@ -128,3 +140,4 @@ module _ (w : World) (q : IoRight) (r : Request) where
       subst (OutcomeSeen S w) x.2 (subst (λ dir. Sees S w (BodyOf dir)) (sym x.3) seen, taken, ways)
   end_seen S taken ways (Elsewhere kind name None) o seen is = retried (OutcomeSeen S w) kind name None o is seen
   end_seen S taken ways (Elsewhere kind name (Some e)) o seen is = retried (OutcomeSeen S w) kind name (Some e) o is seen
+  end_seen S taken ways (Waits n words) o seen is = starts (OutcomeSeen S w) n words o is seen

@@ -1,4 +1,4 @@
--- The laws of a call that makes of what it found a port, a file or a retry.
+-- The laws of a call that makes of what it found a port, a file or a retry, or is to start it.
 use Rattle.std.proofs.Common.{◌≡◌, ℕ, Bool, true, Some, None, refl, subst}
 use Rattle.std.specs.Prelude.{Result, Ok}
 use Rattle.hurd_creds.specs.declared.errno.Errno.{Errno}
@@ -7,12 +7,13 @@ use Rattle.hurd_creds.specs.declared.open_flags.OpenFlags.{OpenFlags}
 use Rattle.hurd_ports.specs.Tables.{Task, has_room}
 use Rattle.hurd_machine.specs.declared.call.Reply.TheVariants.{Found}
 use Rattle.hurd_machine.specs.World.{World, task_at}
+use Rattle.hurd_machine.specs.Plan.{on}
 use Rattle.hurd_machine.specs.Sound.{Coherent}
 use Rattle.hurd_machine.proofs.Views.{Agree, same_tasks}
 use Rattle.hurd_machine.proofs.Asks.{on_same, first_same, answered_same, on_ok, given_ok, first_ok, IsPlain, ok_plain, on_plain, given_plain, first_plain, answered_plain, done_plain}
 use Rattle.hurd_machine.proofs.CallLaws.{CallLaws, answered_within, answered_proper, answered_linked, answered_sized, answered_rests, answered_may}
 use Rattle.hurd_core.specs.Core.{room_asks}
-use Rattle.hurd_lookup.specs.Lookup.{Outcome, Opens, Makes, Retries, ending_asks, whole_asks, lookup_told, finding, finding_parts}
+use Rattle.hurd_lookup.specs.Lookup.{Outcome, Opens, Makes, Retries, Starts, ending_asks, whole_asks, lookup_told, finding, finding_parts}
 use Rattle.hurd_lookup.proofs.EndLaws.{OutcomeSeen, OutcomeGiven, Leads}
 use Rattle.hurd_lookup.proofs.OutcomeLaws.{outcome_within, outcome_proper, outcome_linked, outcome_rests, outcome_sized, outcome_may}
 
@@ -37,14 +38,18 @@ module _ (w : World) (t : ℕ) where
       let same : s.0 ≡ x = cc (room.1) in
       subst (λ z. task_at w t ≡ Some z) same s.1
 
+  there_task : (x : Task) → on ESRCH (task_at w t) (λ z. Ok z) ≡ Ok x → task_at w t ≡ Some x
+  there_task x is =
+      let s = on_ok ESRCH (task_at w t) _ x is in
+      let same : s.0 ≡ x = cc (s.2) in
+      subst (λ z. task_at w t ≡ Some z) same s.1
+
   ending_task : (o : Outcome) (x : Task) → ending_asks w t o ≡ Ok x → task_at w t ≡ Some x
   ending_task (Opens e) x is = room_task 1 x is
   ending_task (Makes s f ids ways) x is = room_task 2 x is
   ending_task (Retries kind name (Some e)) x is = room_task 1 x is
-  ending_task (Retries kind name None) x is =
-      let s = on_ok ESRCH (task_at w t) _ x is in
-      let same : s.0 ≡ x = cc (s.2) in
-      subst (λ z. task_at w t ≡ Some z) same s.1
+  ending_task (Retries kind name None) x is = there_task x is
+  ending_task (Starts s) x is = there_task x is
 
   room_plain : (names : ℕ) → IsPlain (room_asks w t names)
   room_plain names = on_plain _ _ _ refl (λ x e. given_plain _ _ _ refl (λ room. ok_plain _))
@@ -54,6 +59,7 @@ module _ (w : World) (t : ℕ) where
   ending_plain (Makes s f ids ways) = room_plain 2
   ending_plain (Retries kind name (Some e)) = room_plain 1
   ending_plain (Retries kind name None) = on_plain _ _ _ refl (λ x e. ok_plain _)
+  ending_plain (Starts s) = on_plain _ _ _ refl (λ x e. ok_plain _)
 
 module _ {S : ℕ → Bool} {v w : World} (a : Agree S v w) (t : ℕ) (ours : S t ≡ true) where
   room_same : (names : ℕ) → room_asks w t names ≡ room_asks v t names
@@ -64,6 +70,7 @@ module _ {S : ℕ → Bool} {v w : World} (a : Agree S v w) (t : ℕ) (ours : S 
   ending_same (Makes s f ids ways) = room_same 2
   ending_same (Retries kind name (Some e)) = room_same 1
   ending_same (Retries kind name None) = on_same _ _ _ _ _ (same_tasks a t ours) (λ x e. refl)
+  ending_same (Starts s) = on_same _ _ _ _ _ (same_tasks a t ours) (λ x e. refl)
 
 module _ (t : ℕ) (flags : OpenFlags) (found : World → Result Outcome Errno) (l : FoundLaws t flags found) where
   abbrev asked : World → Result (Outcome × Task) Errno
@@ -93,9 +100,9 @@ module _ (t : ℕ) (flags : OpenFlags) (found : World → Result Outcome Errno) 
   pub finding_laws : CallLaws t (λ w. finding w t flags (found w)) (λ w. finding_parts w t (found w))
   finding_laws = record {
     fits = λ w c. answered_within w t (asked w) _ _ (λ got is. let k = answer w got is in outcome_within w t got.1 k.is_task flags got.0);
-    proper = λ w s. answered_proper w (asked w) _ (λ got is. let k = answer w got is in outcome_proper w t got.1 k.is_task flags s.coherent got.0 (leads_of w got k) (l.given w s.coherent got.0 k.is_found));
+    proper = λ w s. answered_proper w (asked w) _ (λ got is. let k = answer w got is in outcome_proper w t got.1 k.is_task flags s.coherent s.linked got.0 (leads_of w got k) (l.given w s.coherent got.0 k.is_found));
     linked = λ w s. answered_linked w (asked w) _ s.linked (λ got is.
-        let k = answer w got is in outcome_linked w t got.1 k.is_task flags s.coherent s.linked got.0 (leads_of w got k) s.linked);
+        let k = answer w got is in outcome_linked w t got.1 k.is_task flags s.coherent s.linked got.0 (leads_of w got k) (l.given w s.coherent got.0 k.is_found) s.linked);
     sized = λ w s. answered_sized w (asked w) _ s.sizes (λ got is. let k = answer w got is in outcome_sized w t got.1 k.is_task flags got.0 (leads_of w got k) s.sizes);
     rests = λ w s. answered_rests w (asked w) _ s.settled (λ got is. let k = answer w got is in outcome_rests w t got.1 k.is_task flags s.coherent got.0 (leads_of w got k) s.settled);
     may = λ S v c ours. answered_may v (asked v) _ S v (λ got is.

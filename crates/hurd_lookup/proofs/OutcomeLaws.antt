@@ -1,4 +1,4 @@
--- What a lookup does at its end: it opens a node, makes a file and opens that, or makes the port of a retry.
+-- What a lookup does at its end: it opens a node, makes a file and opens that, makes the port of a retry, or has the task start a translator.
 use Rattle.std.proofs.Common.{◌≡◌, ℕ, ◌+◌, Bool, true, false, not, ◌&&◌, ◌||◌, List, [], Some, None, refl, ap, ◌∙◌, inl, inr, arith}
 use Rattle.std.proofs.lemmas.Nat.{and_assoc}
 use Rattle.hurd_creds.specs.declared.name.Name.{Name}
@@ -30,8 +30,9 @@ use Rattle.hurd_machine.proofs.Permits.{may_append, later_new, opens_may}
 use Rattle.hurd_machine.proofs.Opens as fragments
 use Rattle.hurd_machine.proofs.Opens.{own_task, fresh_new, fresh_next, opens_within, opens_proper, opens_sized, opens_linked}
 use Rattle.hurd_machine.proofs.Makes.{MayMake, may_make, entered_within, entered_proper, entered_rests, entered_sized, entered_may, entered_home, entered_header, entered_task, entered_below, made_in, made_fit, entered_linked}
+use Rattle.hurd_machine.proofs.Pending.{pends_within, pends_proper, pends_rests, pends_sized, pends_linked, pends_may}
 use Rattle.hurd_core.specs.Core.{NewNodeAt, asked_node, making}
-use Rattle.hurd_lookup.specs.Lookup.{NewPort, Outcome, Opens, Makes, Retries, may_open, no_modes, lookup_changes, lookup_parts}
+use Rattle.hurd_lookup.specs.Lookup.{NewPort, Outcome, Opens, Makes, Retries, Starts, may_open, no_modes, lookup_changes, lookup_parts}
 use Rattle.hurd_lookup.proofs.WalkLaws.{PortSeen, WaysGiven}
 use Rattle.hurd_lookup.proofs.EndLaws.{OutcomeSeen, OutcomeGiven, Leads}
 
@@ -116,6 +117,7 @@ module _ (w : World) (t : ℕ) (x : Task) (is : task_at w t ≡ Some x) (flags :
   file_opened ids ways = opening t (named 1 x) n ids ways modes
 
   pub outcome_within : (o : Outcome) → AllWithin (Full w t (lookup_parts w o)) w (changes o)
+  outcome_within (Starts s) = pends_within t (Some s) (Writes (Starts s)) w (own_task w t (lookup_parts w (Starts s)))
   outcome_within (Opens e) = port_within e modes (Opens e) (λ p on. on)
   outcome_within (Retries kind name None) = tt
   outcome_within (Retries kind name (Some e)) = port_within e no_modes (Retries kind name (Some e)) (λ p on. on)
@@ -127,14 +129,15 @@ module _ (w : World) (t : ℕ) (x : Task) (is : task_at w t ≡ Some x) (flags :
       (opens_within (left s f) t (named 1 x) (seat s f) n ids ways modes (Writes (Makes s f ids ways)) own (inr (inr (fragments.later_new w t 1 x is)))
       (λ p on. let same : on.0 ≡ s = cc (on.1, entered_home w n s (file s f) f.dir f.name) in inl (inl (rw (on.2, same) refl))))
 
-  pub outcome_proper : Coherent w → (o : Outcome) → Leads w flags o → OutcomeGiven w o → AllProper w (changes o)
-  outcome_proper c (Opens e) l given =
+  pub outcome_proper : Coherent w → Linked (nodes_of w) → (o : Outcome) → Leads w flags o → OutcomeGiven w o → AllProper w (changes o)
+  outcome_proper c k (Starts s) l given = pends_proper t (Some s) w c k x is given
+  outcome_proper c k (Opens e) l given =
       port_proper e modes c (header_old c e.node l.header l.is_header) given (λ writes h eh.
       let same : l.header ≡ h = cc (l.is_header, eh) in
       rw (← same) (no_dir (is_dir l.header.kind) (asks flags WRITE) l.fits (kept_write flags writes)))
-  outcome_proper c (Retries kind name None) l given = tt
-  outcome_proper c (Retries kind name (Some e)) l given = port_proper e no_modes c (header_old c e.node given.header given.is_header) given.ways (λ writes h eh. absurd (silent_write writes))
-  outcome_proper c (Makes s f ids ways) l given =
+  outcome_proper c k (Retries kind name None) l given = tt
+  outcome_proper c k (Retries kind name (Some e)) l given = port_proper e no_modes c (header_old c e.node given.header given.is_header) given.ways (λ writes h eh. absurd (silent_write writes))
+  outcome_proper c linked (Makes s f ids ways) l given =
       let m : MayMake w f.dir f.name File = may_make w f.dir f.name File tt l.may in
       proper_append (made s f) (file_opened ids ways) w c
       (entered_proper w n s (file s f) f.dir f.name c (fresh_next w t x is) l.home (ap tree_by m.is_info ∙ m.tree) m.absent (made_in f.dir (asked_node File f n) (file s f) refl w (home_old c f.dir s l.home)))
@@ -142,6 +145,7 @@ module _ (w : World) (t : ℕ) (x : Task) (is : task_at w t ≡ Some x) (flags :
       (λ writes h e. let same : (file s f).header ≡ h = cc (header s f, e) in rw (← same) refl))
 
   pub outcome_rests : Coherent w → (o : Outcome) → Leads w flags o → Rests w (changes o)
+  outcome_rests c (Starts s) l = pends_rests t (Some s) w
   outcome_rests c (Opens e) l = rests_opening w t x is e.node e.ids e.parents modes
   outcome_rests c (Retries kind name None) l = rests_quiet [] w tt
   outcome_rests c (Retries kind name (Some e)) l = rests_opening w t x is e.node e.ids e.parents no_modes
@@ -150,17 +154,19 @@ module _ (w : World) (t : ℕ) (x : Task) (is : task_at w t ≡ Some x) (flags :
       let is_server : server_at w s ≡ Some m.info = rw l.home at m.is_info in
       rests_append (made s f) (file_opened ids ways) w (entered_rests w n s (file s f) f.dir f.name refl (no_home c n (next_not w n (fresh_next w t x is))) m.info is_server) (rests_opening (left s f) t (named 1 x) (seat s f) n ids ways modes)
 
-  pub outcome_linked : Coherent w → Linked (nodes_of w) → (o : Outcome) → Leads w flags o → KeepsLinked w (changes o)
-  outcome_linked c l (Opens e) k = opens_linked w t x e.node e.ids e.parents modes
-  outcome_linked c l (Retries kind name None) k = linked_steady [] w tt
-  outcome_linked c l (Retries kind name (Some e)) k = opens_linked w t x e.node e.ids e.parents no_modes
-  outcome_linked c l (Makes s f ids ways) k =
+  pub outcome_linked : Coherent w → Linked (nodes_of w) → (o : Outcome) → Leads w flags o → OutcomeGiven w o → KeepsLinked w (changes o)
+  outcome_linked c l (Starts s) k given = pends_linked t (Some s) w c x is given
+  outcome_linked c l (Opens e) k given = opens_linked w t x e.node e.ids e.parents modes
+  outcome_linked c l (Retries kind name None) k given = linked_steady [] w tt
+  outcome_linked c l (Retries kind name (Some e)) k given = opens_linked w t x e.node e.ids e.parents no_modes
+  outcome_linked c l (Makes s f ids ways) k given =
       let m : MayMake w f.dir f.name File = may_make w f.dir f.name File tt k.may in
       linked_append (made s f) (file_opened ids ways) w
       (entered_linked w n s (file s f) f.dir f.name c (fresh_next w t x is) m (leads_unless w l f.dir k.header k.is_header k.stands) tt (file_hangs f.dir f.owner f.group f.mode))
       (opens_linked (left s f) t (named 1 x) n ids ways modes)
 
   pub outcome_sized : (o : Outcome) → Leads w flags o → KeepsSized w (changes o)
+  outcome_sized (Starts s) l = pends_sized t (Some s) w
   outcome_sized (Opens e) l = opens_sized w t x e.node e.ids e.parents modes
   outcome_sized (Retries kind name None) l = sized_ports [] w tt
   outcome_sized (Retries kind name (Some e)) l = opens_sized w t x e.node e.ids e.parents no_modes
@@ -172,6 +178,7 @@ module _ (w : World) (t : ℕ) (x : Task) (is : task_at w t ≡ Some x) (flags :
       (opens_sized (left s f) t (named 1 x) n ids ways modes)
 
   pub outcome_may : (S : ℕ → Bool) → Coherent w → S t ≡ true → (o : Outcome) → OutcomeSeen S w o → Leads w flags o → AllMay S w w (changes o)
+  outcome_may S c ours (Starts s) seen l = pends_may t (Some s) S w w ours (inl seen)
   outcome_may S c ours (Opens e) seen l =
       port_may e modes S ours seen (λ read h eh.
       let same : l.header ≡ h = cc (l.is_header, eh) in

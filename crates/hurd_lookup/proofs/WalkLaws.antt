@@ -1,6 +1,6 @@
 -- Walking along names: S sees each node on the way, and what the walk is to know of it.
 use Rattle.std.proofs.Common.{◌≡◌, ℕ, Bool, true, false, if◌then◌else◌, not, ◌&&◌, List, [], ◌∷◌, Option, Some, None, refl, sym, ◌∙◌, ap, ap₂, subst, true≢false, inl, inr}
-use Rattle.std.specs.Prelude.{Result, Ok, codes, length, nat_le, option_and_then}
+use Rattle.std.specs.Prelude.{Result, Ok, codes, length, nat_le, is_some, option_and_then}
 use Rattle.std.specs.Str.{bytes_eq}
 use Rattle.std.specs.Option.{option_map}
 use Rattle.std.specs.Ordering.{nat_cmp}
@@ -13,7 +13,7 @@ use Rattle.hurd_creds.specs.declared.errno.Errno.{Errno}
 use Rattle.hurd_creds.specs.declared.errno.Errno.TheVariants.{EACCES, EDIED, EEXIST, ELOOP, ENAMETOOLONG, ENOENT, ENOTDIR}
 use Rattle.hurd_creds.specs.Access.{may}
 use Rattle.hurd_creds.specs.Bits.{asks, CREATE, NOLINK, NOTRANS}
-use Rattle.hurd_trans_iface.specs.Nodes.{Header, is_dir}
+use Rattle.hurd_trans_iface.specs.Nodes.{Node, Header, is_dir, passive_of, some_words}
 use Rattle.hurd_trans_iface.specs.Answers.{entry_of}
 use Rattle.hurd_trans_iface.specs.Meaning.{root_of}
 use Rattle.hurd_trans_iface.specs.declared.root.Crossing.{Crossing}
@@ -24,7 +24,7 @@ use Rattle.hurd_ports.specs.declared.parents.Parent.{Parent as Pair}
 use Rattle.hurd_ports.specs.declared.table.IoRight.{IoRight}
 use Rattle.hurd_ports.specs.Tables.{ways_of}
 use Rattle.hurd_machine.specs.declared.call.RetryKind.TheVariants.{Normal, Reauth, Magical}
-use Rattle.hurd_machine.specs.World.{World, IsAmong, header_at, body_at, home_at, active_at, server_at, is_server_root}
+use Rattle.hurd_machine.specs.World.{World, IsAmong, node_at, header_at, body_at, home_at, active_at, server_at, is_server_root}
 use Rattle.hurd_machine.specs.Sight.{bare, Taken, Could, Allowed, Seen, Child, Parent, Active, OfSeat, ToSearch, BodyOf, Sees}
 use Rattle.hurd_machine.specs.Sound.{Below, Coherent}
 use Rattle.hurd_machine.proofs.Coherence.{header_old}
@@ -34,7 +34,8 @@ use Rattle.hurd_lookup.specs.declared.request.Request.{Request}
 use Rattle.hurd_lookup.specs.declared.walk.Next.{Next}
 use Rattle.hurd_lookup.specs.declared.walk.Next.TheVariants.{There, Entry, Back, Absent}
 use Rattle.hurd_lookup.specs.Path.{most_path, rest_of, onto}
-use Rattle.hurd_lookup.specs.Lookup.{NewPort, Place, AtNode, AtName, Elsewhere, to_parent, came_in_at, step_up, or_absent, step_asks, is_exclusive, is_last, no_ids, go_back, enter, link_place, follow, crossing, root_asks, cross, root_on, to_cross, over, stepped, walk}
+use Rattle.hurd_lookup.specs.Lookup as lookup
+use Rattle.hurd_lookup.specs.Lookup.{NewPort, Place, AtNode, AtName, Elsewhere, Waits, Crossed, to_parent, came_in_at, step_up, or_absent, step_asks, is_exclusive, is_last, no_ids, go_back, enter, link_place, follow, crossing, root_asks, cross, root_on, crossed_at, to_cross, across, over, stepped, walk}
 
 -- S sees the nodes of ways
 abbrev pub WaysSeen : (ℕ → Bool) → World → List Pair → Type 0
@@ -46,12 +47,13 @@ pub record PortSeen (S : ℕ → Bool) (v : World) (e : NewPort) : Type 0 where
   pub ids : Taken S v e.ids
   pub ways : WaysSeen S v e.parents
 
--- S sees where a walk leads: a node and its ways, the entries of a directory, or a port that is to be made
+-- S sees where a walk leads: a node and its ways, the entries of a directory, a port that is to be made, or a node on which a translator waits
 abbrev pub PlaceSeen : (ℕ → Bool) → World → Place → Type 0
 PlaceSeen S v (AtNode n ways) = Seen S v n × WaysSeen S v ways
 PlaceSeen S v (AtName d name) = Sees S v (BodyOf d)
 PlaceSeen S v (Elsewhere kind name None) = Unit {0}
 PlaceSeen S v (Elsewhere kind name (Some e)) = PortSeen S v e
+PlaceSeen S v (Waits n words) = Seen S v n
 
 -- the nodes of ways were given
 abbrev pub WaysGiven : World → List Pair → Type 0
@@ -69,6 +71,7 @@ PlaceGiven w (AtNode n ways) = WaysGiven w ways
 PlaceGiven w (AtName d name) = Unit {0}
 PlaceGiven w (Elsewhere kind name None) = Unit {0}
 PlaceGiven w (Elsewhere kind name (Some e)) = PortGiven w e
+PlaceGiven w (Waits n words) = Below w n
 
 -- what holds of a root, of the directory that was left for it, and of the nodes of the ways before, holds of those of the longer ways
 longer_ways : (P : Name → Type 0) (root d : Name) (ways : List Pair) → P root → P d → ((m : Name) → IsAmong m (ways_of ways) → P m)
@@ -131,13 +134,37 @@ leads_back : (w : World) (r : Request) (names : List (List ℕ)) (ways : List Pa
 leads_back w r names [] end is = absurd (cc)
 leads_back w r names (way ∷ ways) end is = let h = on_ok EDIED (header_at w way.parent) _ end is in (rest_of names r.slash, h.0, h.1, cc (h.2))
 
--- what is crossed at a node is active on it
-crosses : (w : World) (r : Request) (n root : Name) (names : List (List ℕ)) → to_cross w r n names ≡ Some root → root_on w n ≡ Some root
-crosses w r n root names is = by (is_last names && asks r.flags NOTRANS) is
+-- what is crossed at a node is there
+crosses : (w : World) (r : Request) (n : Name) (x : Crossed) (names : List (List ℕ)) → to_cross w r n names ≡ Some x → crossed_at w n ≡ Some x
+crosses w r n x names is = by (is_last names && asks r.flags NOTRANS) is
   where
-    by : (stays : Bool) → (if stays then None else root_on w n) ≡ Some root → root_on w n ≡ Some root
+    by : (stays : Bool) → (if stays then None else crossed_at w n) ≡ Some x → crossed_at w n ≡ Some x
     by true k = absurd (cc)
     by false k = k
+
+-- what a node must be for this to be crossed there: the server that is active on it has this root, or it is there itself
+abbrev IsCrossed : World → Name → Crossed → Type 0
+IsCrossed w n (lookup.Active root) = root_on w n ≡ Some root
+IsCrossed w n (lookup.Waiting words) = (h : Header) × (header_at w n ≡ Some h)
+
+is_crossed : (w : World) (n : Name) (x : Crossed) → crossed_at w n ≡ Some x → IsCrossed w n x
+is_crossed w n x is = by (is_some (active_at w n)) is
+  where
+    active : (o : Option Name) → root_on w n ≡ o → option_map lookup.Active o ≡ Some x → IsCrossed w n x
+    active None e k = absurd (cc)
+    active (Some root) e k = let same : lookup.Active root ≡ x = cc (k) in subst (IsCrossed w n) same e
+
+    waiting : (o : Option Node) → node_at w n ≡ o → option_map lookup.Waiting (passive_of o) ≡ Some x → IsCrossed w n x
+    waiting None e k = absurd (cc)
+    waiting (Some y) e k = words y.header.passive k
+      where
+        words : (ws : List (List ℕ)) → option_map lookup.Waiting (some_words ws) ≡ Some x → IsCrossed w n x
+        words [] k = absurd (cc)
+        words (word ∷ ws) k = let same : lookup.Waiting (word ∷ ws) ≡ x = cc (k) in subst (IsCrossed w n) same (y.header, ap (option_map (λ (z : Node). z.header)) e)
+
+    by : (some : Bool) → (if some then option_map lookup.Active (root_on w n) else option_map lookup.Waiting (passive_of (node_at w n))) ≡ Some x → IsCrossed w n x
+    by true k = active (root_on w n) refl k
+    by false k = waiting (node_at w n) refl k
 
 -- the root of a server, if there is one
 abbrev root_in : World → Option Name → Option Name
@@ -225,19 +252,24 @@ module _ (S : ℕ → Bool) (v : World) where
           let i = first_ok (root_asks v root) _ end is in
           crossing_to q d root (PlaceSeen S v) (crossings_seen d root seen at) r names end (root_of i.0.kind i.0.text).crossing i.0.text i.2
 
+      -- across what is there
+      across_seen : (d n : Name) (x : Crossed) (names : List (List ℕ)) (end : Place) → Seen S v d → Seen S v n → IsCrossed v n x → across v q r d n x names ≡ Ok end → PlaceSeen S v end
+      across_seen d n (lookup.Active root) names end seen here at is = cross_seen d root names end seen (root_seen n root here at) is
+      across_seen d n (lookup.Waiting words) names end seen here at is = let same : Waits n words ≡ end = cc (is) in subst (PlaceSeen S v) same here
+
       -- at an entry's node, on or across
-      over_seen : (d : Name) (o : Option Name) (names : List (List ℕ)) (onward : Result Place Errno) (end : Place) → Seen S v d → ((root : Name) → o ≡ Some root → Seen S v root)
-          → (onward ≡ Ok end → PlaceSeen S v end) → over v q r d o names onward ≡ Ok end → PlaceSeen S v end
-      over_seen d None names onward end seen at on is = on is
-      over_seen d (Some root) names onward end seen at on is =
-          let g = given_ok EEXIST (not (is_last names && is_exclusive r)) _ end is in cross_seen d root names end seen (at root refl) g.1
+      over_seen : (d n : Name) (o : Option Crossed) (names : List (List ℕ)) (onward : Result Place Errno) (end : Place) → Seen S v d → Seen S v n
+          → ((x : Crossed) → o ≡ Some x → IsCrossed v n x) → (onward ≡ Ok end → PlaceSeen S v end) → over v q r d n o names onward ≡ Ok end → PlaceSeen S v end
+      over_seen d n None names onward end seen here at on is = on is
+      over_seen d n (Some x) names onward end seen here at on is =
+          let g = given_ok EEXIST (not (is_last names && is_exclusive r)) _ end is in across_seen d n x names end seen here (at x refl) g.1
 
       -- after one name
       stepped_seen : (d : Name) (name : List ℕ) (names : List (List ℕ)) (s : Next) (onward : Name → Result Place Errno) (end : Place) → Seen S v d → NextSeen S v d s
           → ((n : Name) → Seen S v n → onward n ≡ Ok end → PlaceSeen S v end) → stepped v q r d name names onward s ≡ Ok end → PlaceSeen S v end
       stepped_seen d name names (There n) onward end here seen on is = on n seen is
       stepped_seen d name names (Entry n) onward end here seen on is =
-          over_seen d (to_cross v r n names) names (onward n) end here (λ root e. root_seen n root seen (crosses v r n root names e)) (on n seen) is
+          over_seen d n (to_cross v r n names) names (onward n) end here seen (λ x e. is_crossed v n x (crosses v r n x names e)) (on n seen) is
       stepped_seen d name names Back onward end here seen on is = back_seen q.parents end ways (leads_back v r names q.parents end is)
       stepped_seen d name names Absent onward end here seen on is =
           let g = given_ok ENOENT (is_last names && (asks r.flags CREATE && not r.wants_dir)) _ end is in
@@ -272,6 +304,19 @@ module _ {S : ℕ → Bool} {v w : World} (a : Agree S v w) where
       go None e h = ap (root_in w) (h ∙ e) ∙ ap (root_in v) (sym e)
       go (Some s) e h = ap (root_in w) (h ∙ e) ∙ ap (option_map (λ (i : ServerInfo). i.root)) (server_known a s (OfSeat n seen e)) ∙ ap (root_in v) (sym e)
 
+  -- the words of a node are its header's
+  words_by : (o : Option Node) → passive_of o ≡ option_and_then (λ (h : Header). some_words h.passive) (option_map (λ (x : Node). x.header) o)
+  words_by None = refl
+  words_by (Some x) = refl
+
+  -- what there is to cross at a seen node
+  crossed_same : (n : Name) → Seen S v n → crossed_at w n ≡ crossed_at v n
+  crossed_same n seen =
+      let words : passive_of (node_at w n) ≡ passive_of (node_at v n) =
+          words_by (node_at w n) ∙ ap (option_and_then (λ (h : Header). some_words h.passive)) (header_same a n seen) ∙ sym (words_by (node_at v n)) in
+      ap (λ (o : Option Name). if is_some o then option_map lookup.Active (root_on w n) else option_map lookup.Waiting (passive_of (node_at w n))) (active_same a n seen)
+      ∙ ap₂ (λ (o : Option Name) (p : Option (List (List ℕ))). if is_some (active_at v n) then option_map lookup.Active o else option_map lookup.Waiting p) (root_on_same n seen) words
+
   -- the server of a seen root
   root_asks_same : (root : Name) → Seen S v root → root_asks w root ≡ root_asks v root
   root_asks_same root seen = on_same _ _ _ _ _ (header_same a root seen) (λ h e. on_same _ _ _ _ _ (info_same a root seen) (λ i k. refl))
@@ -290,16 +335,21 @@ module _ {S : ℕ → Bool} {v w : World} (a : Agree S v w) where
         ap₂ (λ (root : Bool) (o : Option Name). if bytes_eq name (codes ".") then Ok (There d) else if bytes_eq name (codes "..") then (if came_in_at q.parents d then Ok Back else if root then Ok (There d) else to_parent h.parent) else Ok (or_absent o))
         (root_same d s) (ap (entry_of name) (body_same a d (s, h, e, ToSearch (dir_is h.kind k) (Allowed q.ids taken m)))))))
 
-    over_same : (d : Name) (o : Option Name) (names : List (List ℕ)) (j k : Result Place Errno) → ((root : Name) → o ≡ Some root → Seen S v root) → k ≡ j → over w q r d o names k ≡ over v q r d o names j
-    over_same d None names j k at same = same
-    over_same d (Some root) names j k at same = given_same _ _ _ _ _ refl (λ g. cross_same q r d root names (at root refl))
+    across_same : (d n : Name) (x : Crossed) (names : List (List ℕ)) → Seen S v n → IsCrossed v n x → across w q r d n x names ≡ across v q r d n x names
+    across_same d n (lookup.Active root) names seen at = cross_same q r d root names (root_seen S v n root seen at)
+    across_same d n (lookup.Waiting words) names seen at = refl
+
+    over_same : (d n : Name) (o : Option Crossed) (names : List (List ℕ)) (j k : Result Place Errno) → Seen S v n → ((x : Crossed) → o ≡ Some x → IsCrossed v n x) → k ≡ j
+        → over w q r d n o names k ≡ over v q r d n o names j
+    over_same d n None names j k seen at same = same
+    over_same d n (Some x) names j k seen at same = given_same _ _ _ _ _ refl (λ g. across_same d n x names seen (at x refl))
 
     stepped_same : (d : Name) (name : List ℕ) (names : List (List ℕ)) (s : Next) (j k : Name → Result Place Errno) → NextSeen S v d s → ((n : Name) → Seen S v n → k n ≡ j n)
         → stepped w q r d name names k s ≡ stepped v q r d name names j s
     stepped_same d name names (There n) j k seen same = same n seen
     stepped_same d name names (Entry n) j k seen same =
-        ap (λ (o : Option Name). over w q r d (if is_last names && asks r.flags NOTRANS then None else o) names (k n)) (root_on_same n seen)
-        ∙ over_same d (to_cross v r n names) names (j n) (k n) (λ root e. root_seen S v n root seen (crosses v r n root names e)) (same n seen)
+        ap (λ (o : Option Crossed). over w q r d n (if is_last names && asks r.flags NOTRANS then None else o) names (k n)) (crossed_same n seen)
+        ∙ over_same d n (to_cross v r n names) names (j n) (k n) seen (λ x e. is_crossed v n x (crosses v r n x names e)) (same n seen)
     stepped_same d name names Back j k seen same = back_same r names q.parents ways
     stepped_same d name names Absent j k seen same = refl
 
@@ -335,16 +385,21 @@ module _ (w : World) (c : Coherent w) (q : IoRight) (given : WaysGiven w q.paren
         let k = root_is_there w root i.0 i.1 in
         crossing_to q d root (PlaceGiven w) (crossings_given d root h k.0 here k.1) r names end (root_of i.0.kind i.0.text).crossing i.0.text i.2
 
-    over_given : (d : Name) (o : Option Name) (names : List (List ℕ)) (onward : Result Place Errno) (end : Place) (h : Header) → header_at w d ≡ Some h
-        → (onward ≡ Ok end → PlaceGiven w end) → over w q r d o names onward ≡ Ok end → PlaceGiven w end
-    over_given d None names onward end h here on is = on is
-    over_given d (Some root) names onward end h here on is =
-        let g = given_ok EEXIST (not (is_last names && is_exclusive r)) _ end is in cross_given d root names end h here g.1
+    across_given : (d n : Name) (x : Crossed) (names : List (List ℕ)) (end : Place) (h : Header) → header_at w d ≡ Some h → IsCrossed w n x → across w q r d n x names ≡ Ok end → PlaceGiven w end
+    across_given d n (lookup.Active root) names end h here at is = cross_given d root names end h here is
+    across_given d n (lookup.Waiting words) names end h here at is = let same : Waits n words ≡ end = cc (is) in subst (PlaceGiven w) same (header_old c n at.0 at.1)
+
+    over_given : (d n : Name) (o : Option Crossed) (names : List (List ℕ)) (onward : Result Place Errno) (end : Place) (h : Header) → header_at w d ≡ Some h
+        → ((x : Crossed) → o ≡ Some x → IsCrossed w n x) → (onward ≡ Ok end → PlaceGiven w end) → over w q r d n o names onward ≡ Ok end → PlaceGiven w end
+    over_given d n None names onward end h here at on is = on is
+    over_given d n (Some x) names onward end h here at on is =
+        let g = given_ok EEXIST (not (is_last names && is_exclusive r)) _ end is in across_given d n x names end h here (at x refl) g.1
 
     stepped_given : (d : Name) (name : List ℕ) (names : List (List ℕ)) (s : Next) (onward : Name → Result Place Errno) (end : Place) (h : Header) → header_at w d ≡ Some h
         → ((n : Name) → onward n ≡ Ok end → PlaceGiven w end) → stepped w q r d name names onward s ≡ Ok end → PlaceGiven w end
     stepped_given d name names (There n) onward end h here on is = on n is
-    stepped_given d name names (Entry n) onward end h here on is = over_given d (to_cross w r n names) names (onward n) end h here (on n) is
+    stepped_given d name names (Entry n) onward end h here on is =
+        over_given d n (to_cross w r n names) names (onward n) end h here (λ x e. is_crossed w n x (crosses w r n x names e)) (on n) is
     stepped_given d name names Back onward end h here on is = back_given q.parents end given (leads_back w r names q.parents end is)
     stepped_given d name names Absent onward end h here on is =
         let g = given_ok ENOENT (is_last names && (asks r.flags CREATE && not r.wants_dir)) _ end is in
@@ -398,14 +453,19 @@ pub cross_plain : (w : World) (q : IoRight) (r : Request) (d root : Name) (names
 cross_plain w q r d root names =
     first_plain _ _ (on_plain _ _ _ refl (λ h e. on_plain _ _ _ refl (λ i k. ok_plain _))) (λ i is. crossing_plain (root_of i.kind i.text).crossing q r d root i.text names)
 
-over_plain : (w : World) (q : IoRight) (r : Request) (d : Name) (o : Option Name) (names : List (List ℕ)) (onward : Result Place Errno) → IsPlain onward → IsPlain (over w q r d o names onward)
-over_plain w q r d None names onward on = on
-over_plain w q r d (Some root) names onward on = given_plain _ _ _ refl (λ g. cross_plain w q r d root names)
+across_plain : (w : World) (q : IoRight) (r : Request) (d n : Name) (x : Crossed) (names : List (List ℕ)) → IsPlain (across w q r d n x names)
+across_plain w q r d n (lookup.Active root) names = cross_plain w q r d root names
+across_plain w q r d n (lookup.Waiting words) names = ok_plain _
+
+over_plain : (w : World) (q : IoRight) (r : Request) (d n : Name) (o : Option Crossed) (names : List (List ℕ)) (onward : Result Place Errno) → IsPlain onward
+    → IsPlain (over w q r d n o names onward)
+over_plain w q r d n None names onward on = on
+over_plain w q r d n (Some x) names onward on = given_plain _ _ _ refl (λ g. across_plain w q r d n x names)
 
 stepped_plain : (w : World) (q : IoRight) (r : Request) (d : Name) (name : List ℕ) (names : List (List ℕ)) (onward : Name → Result Place Errno) (s : Next)
     → ((n : Name) → IsPlain (onward n)) → IsPlain (stepped w q r d name names onward s)
 stepped_plain w q r d name names onward (There n) on = on n
-stepped_plain w q r d name names onward (Entry n) on = over_plain w q r d (to_cross w r n names) names (onward n) (on n)
+stepped_plain w q r d name names onward (Entry n) on = over_plain w q r d n (to_cross w r n names) names (onward n) (on n)
 stepped_plain w q r d name names onward Back on = back_plain w r names q.parents
 stepped_plain w q r d name names onward Absent on = given_plain _ _ _ refl (λ g. ok_plain _)
 

@@ -19,6 +19,14 @@ returns-in_err-ids-in-FromTop g c =
 pub returns-in_ok-ids-in-FromTop : goal.returns-in_ok-ids-in-FromTop
 returns-in_ok-ids-in-FromTop g c = rw (c.in-Retries.is, c.in-FromTop.is) (ids_there _ _ c.in_ok-ids-in-FromTop.ensures)
 
+pub returns-in_err-ids-in-Starts : goal.returns-in_err-ids-in-Starts
+returns-in_err-ids-in-Starts g c =
+    let p = err_from_is_err_and c.from_residual-in_err-ids-in-Starts.result c.from_residual-in_err-ids-in-Starts.ensures.1 in
+    rw (c.in-Starts.is, p.1, p.2) (ids_missing _ _ c.in_err-ids-in-Starts.ensures)
+
+pub returns-in_ok-ids-in-Starts : goal.returns-in_ok-ids-in-Starts
+returns-in_ok-ids-in-Starts g c = rw c.in-Starts.is (ids_there _ _ c.in_ok-ids-in-Starts.ensures)
+
 pub returns-in-Within : goal.returns-in-Within
 returns-in-Within g c =
     let room = c.room-in-Within.ensures ∙ room_asked (shown g.S.Server.meaning c.args.core.now.nodes) c.args.core.now.ports.state c.args.task.0 1 in

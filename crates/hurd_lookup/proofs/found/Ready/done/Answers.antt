@@ -1,9 +1,9 @@
--- The node is opened, or the file is made.
+-- The node is opened, the file is made, or the task is to start what waits.
 use Rattle.std.proofs.lemmas.Result.{err_from_is_err_and}
 use Rattle.hurd_core.specs.Core.{world_of}
 use Rattle.hurd_core.specs.ToMake.{new_node_of}
 use Rattle.hurd_lookup.specs.Ends.{port_of}
-use Rattle.hurd_lookup.proofs.DoneLaws.{made, opened, unmade, unopened}
+use Rattle.hurd_lookup.proofs.DoneLaws.{made, opened, started, unmade, unopened, unstarted}
 use Rattle.hurd_lookup.proofs.found.Ready.done.Goals as goal
 
 pub returns-in_err-open-in-Opens : goal.returns-in_err-open-in-Opens
@@ -31,3 +31,14 @@ returns-in_ok-port-in-Makes g c =
     let does = rw c.open_modes-modes.ensures at c.in_ok-port-in-Makes.ensures in
     rw c.in-Makes.is
     (made (world_of g.S.Server.meaning c.args.core.now) c.args.task.0 c.args.flags c.in-Makes.field-0 (new_node_of c.in-Makes.file) c.in-Makes.ids c.in-Makes.parents ok.0 ok.1 _ _ does)
+
+pub returns-in_err-pend-in-Starts : goal.returns-in_err-pend-in-Starts
+returns-in_err-pend-in-Starts g c =
+    let p = err_from_is_err_and c.from_residual-in_err-pend-in-Starts.result c.from_residual-in_err-pend-in-Starts.ensures.1 in
+    let ok = rw c.in-Starts.is at c.requires in
+    rw (p.1, p.2, c.in-Starts.is) (unstarted (world_of g.S.Server.meaning c.args.core.now) c.args.task.0 c.args.flags c.in-Starts.start ok.1 _ _ c.in_err-pend-in-Starts.ensures)
+
+pub returns-in_ok-pend-in-Starts : goal.returns-in_ok-pend-in-Starts
+returns-in_ok-pend-in-Starts g c =
+    let ok = rw c.in-Starts.is at c.requires in
+    rw (c.in-Starts.is, ok.0) (started (world_of g.S.Server.meaning c.args.core.now) c.args.task.0 c.args.flags c.in-Starts.start ok.1 _ c.in_ok-pend-in-Starts.ensures)
