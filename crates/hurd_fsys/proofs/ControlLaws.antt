@@ -97,12 +97,8 @@ has_its_uid i u is = ap (λ d. holds_uid d u) is ∙ set.contains-insert nat_cmp
     none = record { uids = set.from_list []; gids = set.from_list [] }
 
 -- ids that may control a server hold its uid, or 0
-<<<<<<< HEAD
-pub controller_holds : (S : ℕ → Bool) (v : World) → Coherent v → (r : IoRight) → Holds S v (Io r) → (s : Name) (i : ServerInfo) → server_at v s ≡ Some i → may_control r.ids i.ids ≡ true → CouldServe S v i
-=======
 pub controller_holds : (S : ℕ → Bool) (v : World) → Coherent v → (r : IoRight) → Holds S v (Io r) → (s : Name) (i : ServerInfo) → server_at v s ≡ Some i
     → may_control r.ids i.ids ≡ true → CouldServe S v i
->>>>>>> f1
 controller_holds S v c r held s i is may =
     let one = c.housing.serving s i is in
     elim (or_cases (is_root r.ids) (holds_any r.ids (least_uid i.ids)) may) [

@@ -1,3 +1,6 @@
 pub mod OwnedLaws
 pub mod ControlLaws
 pub mod FsysLaws
+pub mod BegunLaws
+pub mod SettingLaws
+pub mod SeatingLaws

@@ -1,6 +1,5 @@
 pub mod Owned
 pub mod Controls
 pub mod Fsys
-
--- pub mod Setting
--- pub mod Starting
+pub mod Setting
+pub mod Starting

@@ -5,5 +5,5 @@
 
 pub mod fsys;
 mod owned;
-// pub mod setting;
-// pub mod starting;
+pub mod setting;
+pub mod starting;
