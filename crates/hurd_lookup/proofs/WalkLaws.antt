@@ -313,7 +313,7 @@ module _ {S : ℕ → Bool} {v w : World} (a : Agree S v w) where
   crossed_same : (n : Name) → Seen S v n → crossed_at w n ≡ crossed_at v n
   crossed_same n seen =
       let words : passive_of (node_at w n) ≡ passive_of (node_at v n) =
-          words_by (node_at w n) ∙ ap (option_and_then (λ (h : Header). some_words h.passive)) (header_same a n seen) ∙ sym (words_by (node_at v n)) in
+      words_by (node_at w n) ∙ ap (option_and_then (λ (h : Header). some_words h.passive)) (header_same a n seen) ∙ sym (words_by (node_at v n)) in
       ap (λ (o : Option Name). if is_some o then option_map lookup.Active (root_on w n) else option_map lookup.Waiting (passive_of (node_at w n))) (active_same a n seen)
       ∙ ap₂ (λ (o : Option Name) (p : Option (List (List ℕ))). if is_some (active_at v n) then option_map lookup.Active o else option_map lookup.Waiting p) (root_on_same n seen) words
 

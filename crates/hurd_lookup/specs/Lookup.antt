@@ -1,4 +1,4 @@
--- One lookup: where the names lead, and what is opened or made there, or looked up elsewhere.
+-- One lookup: where the names lead, and what is opened or made there, looked up elsewhere, or to be started first.
 use Rattle.std.specs.Prelude.{◌≡◌, ◌⊎◌, ℕ, ◌&&◌, ◌||◌, not, Bool, true, false, if◌then◌else◌, List, [], ◌∷◌, codes, Option, Some, None, Result, Ok, Err, length, nat_le, is_some, option_and_then}
 use Rattle.std.specs.Str.{bytes_eq}
 use Rattle.std.specs.Option.{option_map}

@@ -56,20 +56,20 @@ fn found_asked<'a, 'p, S: Server>(
 ///
 /// A server that is active on a node is crossed, unless the node is the last and `NOTRANS` is set. At its root the last node is
 /// opened, and more names are left for a retry at the root, with the port's ids. Where none is active, but a passive translator
-/// waits, that is to be started first: it is what the task is to start from now on, in place of what it was to start before. At a link, unless it is the last and `NOLINK` is
-/// set, the link's text is left, with the names that follow: for a retry at the link's directory, without ids, or from the root of
-/// the tree. `..` at the root by which the port came into a server is left for a retry at the directory from which it came, without
-/// ids.
+/// waits, that is to be started first: it is what the task is to start from now on, in place of what it was to start before. At a
+/// link, unless it is the last and `NOLINK` is set, the link's text is left, with the names that follow: for a retry at the link's
+/// directory, without ids, or from the root of the tree. `..` at the root by which the port came into a server is left for a retry
+/// at the directory from which it came, without ids.
 ///
 /// Errors, in order: `ESRCH` no such task, `EBADF` no such port, or one that controls a server, `EDIED` no such node,
-/// `ENAMETOOLONG`. Then at each name `EDIED`, `ENOTDIR` no directory, `EACCES` the ids may not search it, `EDIED` the directory is
-/// gone to which `..` goes back, `ENOENT` no such entry, and it is not to be made, or `..` in a removed directory; of the last one
-/// with a server to be crossed `EEXIST` with `CREATE` and `EXCL`; at a crossing `EDIED`, `ENAMETOOLONG` a link's text with the names
-/// that follow is longer than a path, `ELOOP` the port came in by 64 ways. Then of a node that is there `EEXIST` with `CREATE` and
-/// `EXCL`, `EDIED`, `ENOTDIR` a directory is asked for, `EISDIR` to write a directory, `EROFS` to write a node of a server that only
-/// gives its text, `EACCES`; of one to be made `EROFS` a server that keeps no tree, `EACCES` the ids may not write the directory, or
-/// have no uids, `ENOENT` a removed directory. Last `EOVERFLOW`, unless it makes no port, and `ENOMEM`. A refused call changes
-/// nothing.
+/// `ENAMETOOLONG`. Then at each name `EDIED`, `ENOTDIR` no directory, `EACCES` the ids may not search it, `EDIED` the directory
+/// is gone to which `..` goes back, `ENOENT` no such entry, and it is not to be made, or `..` in a removed directory; of the last
+/// one with a server to be crossed, or a translator to be started, `EEXIST` with `CREATE` and `EXCL`; at a crossing `EDIED`,
+/// `ENAMETOOLONG` a link's text with the names that follow is longer than a path, `ELOOP` the port came in by 64 ways. Then of a
+/// node that is there `EEXIST` with `CREATE` and `EXCL`, `EDIED`, `ENOTDIR` a directory is asked for, `EISDIR` to write a
+/// directory, `EROFS` to write a node of a server that only gives its text, `EACCES`; of one to be made `EROFS` a server that
+/// keeps no tree, `EACCES` the ids may not write the directory, or have no uids, `ENOENT` a removed directory. Last `EOVERFLOW`,
+/// unless it makes no port, and `ENOMEM`. A refused call changes nothing.
 pub fn dir_lookup<S: Server>(
     core: &mut Core<S>,
     alloc: Global,
