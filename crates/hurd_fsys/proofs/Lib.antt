@@ -4,3 +4,5 @@ pub mod FsysLaws
 pub mod BegunLaws
 pub mod SettingLaws
 pub mod SeatingLaws
+pub mod StartingLaws
+pub mod StartupLaws

@@ -1,6 +1,7 @@
 -- Starting the translator that a lookup came to, or giving that up.
-use Rattle.std.specs.Prelude.{◌≡◌, ◌&&◌, not, is_some, ℕ, Bool, true, false, List, [], ◌∷◌, Option, Some, None, Result, Ok, Err}
+use Rattle.std.specs.Prelude.{◌≡◌, ◌&&◌, not, is_some, ℕ, Bool, true, false, List, [], ◌∷◌, None, Result, Ok, Err}
 use Rattle.std.specs.Str.{bytes_eq}
+use Rattle.hurd_creds.specs.declared.attrs.Attrs.{Attrs}
 use Rattle.hurd_creds.specs.declared.errno.Errno.{Errno}
 use Rattle.hurd_creds.specs.declared.errno.Errno.TheVariants.{EBUSY, EDIED, ESRCH}
 use Rattle.hurd_trans_iface.specs.Nodes.{Header}
@@ -14,6 +15,7 @@ use Rattle.hurd_machine.specs.Plan.{Plan, on, given, first, answered}
 use Rattle.hurd_machine.specs.Sight.{Part, AttrOf}
 use Rattle.hurd_machine.specs.Touched.{asked_parts, Nothing}
 use Rattle.hurd_core.specs.Core.{naming_asks, starting}
+use Rattle.hurd_core.specs.PortNode.{header_with}
 use Rattle.hurd_fsys.specs.Setting.{seat_on, server_ids}
 
 -- what the task is to start: ESRCH
@@ -44,6 +46,16 @@ abbrev pub startup_asks : World → ℕ → PendingStart → Result (Header × T
 startup_asks w t s =
     first (waiting_asks w s) (λ h.
     first (naming_asks w t 2) (λ x. Ok (h, x)))
+
+-- the header alone of what is asked
+abbrev pub header_asked : Result (Header × Task) Errno → Result Header Errno
+header_asked (Ok a) = Ok a.0
+header_asked (Err e) = Err e
+
+-- the header that attributes tell, with these words
+abbrev pub header_told : List (List ℕ) → Result Attrs Errno → Result Header Errno
+header_told words (Ok a) = Ok (header_with words a)
+header_told words (Err e) = Err e
 
 -- the server comes, and the task is to start nothing any more; nor is it where that is refused
 abbrev pub started : ℕ → PendingStart → Meaning → Result (Header × Task) Errno → Plan

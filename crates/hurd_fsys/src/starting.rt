@@ -2,16 +2,20 @@
 //!
 //! In the Hurd the server that has a node starts its passive translator, and that one calls `fsys_startup`. Here both are done by the
 //! task whose lookup came there.
-ghost use Rattle.std.specs.Prelude.{◌≡◌, ◌⊎◌, IfErr, Err};
+ghost use Rattle.std.specs.Prelude.{◌≡◌, IfErr, option_copied};
 ghost use Rattle.hurd_trans_iface.specs.Meaning.{Begins};
 ghost use Rattle.hurd_machine.specs.Plan.{Follows, Tried, told};
 ghost use Rattle.hurd_machine.specs.declared.call.Reply.TheVariants.{Done};
-ghost use Rattle.hurd_core.specs.Core.{without_box, world_of};
-ghost use Rattle.hurd_fsys.specs.Starting.{plan_start_failed, plan_startup, same_words, startup_asks, waiting_asks};
+ghost use Rattle.hurd_machine.specs.World.{words_at};
+ghost use Rattle.hurd_core.specs.Core.{Does, naming_asks, starting, without_box, world_of};
+ghost use Rattle.hurd_core.specs.PortNode.{or_no_words};
+ghost use Rattle.hurd_fsys.specs.Setting.{server_ids};
+ghost use Rattle.hurd_fsys.specs.Starting.{header_asked, header_told, plan_start_failed, plan_startup, same_words, startup_asks, waiting_asks};
 
 use crate::setting::root_mode;
 use hurd_core::{Core, ServerToMake};
-use hurd_creds::{Attrs, Errno, Ids, NodeName, TaskId};
+use hurd_creds::{Attrs, Bytes, Errno, Ids, TaskId};
+use hurd_ports::PendingStart;
 use hurd_trans_iface::{Server, Words};
 use std::alloc::Global;
 
@@ -45,10 +49,13 @@ pub fn fsys_startup<S: Server>(
         Tried w (plan_startup w task.0 (S.meaning server)) (λ u. Done) (without_box result) (world_of S.meaning core.new) }
     ensures back { IfErr result (λ e. e.1 ≡ server) }
 {
-    let (node, attrs) = match startup_asked(core, task) {
-        Ok(found) => found,
+    let Some(start) = core.pending(task) else {
+        return Err((Errno::ESRCH, server));
+    };
+    let node = start.node;
+    let attrs = match startup_asked(core, task, start) {
+        Ok(attrs) => attrs,
         Err(errno) => {
-            // where the task is there, it is to start nothing any more
             let _ = core.unpend(task);
             return Err((errno, server));
         }
@@ -60,27 +67,80 @@ pub fn fsys_startup<S: Server>(
         mode: root_mode(server.root().kind, attrs.mode),
         instead: None,
     };
+    seat(core, alloc, task, place, server)
+}
+
+/// Seats the server that a task was to start, which runs with the uid of its root's owner. An error gives the box back.
+///
+/// Errors, in order: `ESRCH`, `EOVERFLOW`, `ENOMEM`.
+fn seat<S: Server>(
+    core: &mut Core<S>,
+    alloc: Global,
+    task: TaskId,
+    place: ServerToMake,
+    server: S,
+) -> Result<(), (Errno, S)>
+    requires { Begins (S.meaning server) }
+    ensures does { let w = world_of S.meaning core.old in
+        Does w (naming_asks w task.0 2) (starting task.0 place (server_ids place.owner) (S.meaning server)) (λ x. tt) (without_box result) (world_of S.meaning core.new) }
+    ensures back { IfErr result (λ e. e.1 ≡ server) }
+{
     match Ids::new(alloc, &[place.owner], &[]) {
         Ok(ids) => core.start(task, place, ids, server),
         Err(errno) => Err((errno, server)),
     }
 }
 
-/// The node whose translator a task is to start, and its attributes, where that can be done, and the task can name two things more.
+/// The attributes of the node whose translator a task is to start, where that can be done, and the task can name two things more.
 ///
-/// Errors, in order: `ESRCH`, `EDIED`, `EBUSY`, `EOVERFLOW`.
-#[tactic(auto, unfolding(hurd_machine::specs::Plan::on, hurd_machine::specs::Plan::given, hurd_machine::specs::Plan::first))]
-fn startup_asked<S: Server>(core: &Core<S>, task: TaskId) -> Result<(NodeName, Attrs), Errno>
+/// Errors, in order: `EDIED`, `EBUSY`, `EOVERFLOW`.
+fn startup_asked<S: Server>(
+    core: &Core<S>,
+    task: TaskId,
+    start: &PendingStart,
+) -> Result<Attrs, Errno>
+    ensures { let w = world_of S.meaning core.now in header_told (words_at w start.now.node) result ≡ header_asked (startup_asks w task.0 start.now) }
 {
-    let Some(start) = core.pending(task) else {
-        return Err(Errno::ESRCH);
-    };
+    let attrs = waiting(core, start)?;
+    core.naming(task, 2)?;
+    Ok(attrs)
+}
+
+/// The attributes of a node that is there, with nothing active on it, and with the words that a lookup found.
+///
+/// Errors, in order: `EDIED`, `EBUSY`.
+#[tactic(auto, unfolding(hurd_machine::specs::Plan::on, hurd_machine::specs::Plan::given))]
+fn waiting<S: Server>(core: &Core<S>, start: &PendingStart) -> Result<Attrs, Errno>
+    ensures { let w = world_of S.meaning core.now in header_told (words_at w start.now.node) result ≡ waiting_asks w start.now }
+{
     let Some(attrs) = core.attrs(start.node) else {
         return Err(Errno::EDIED);
     };
     if core.active(start.node).is_some() || !is_stored(core.passive(start.node), &start.words) {
         return Err(Errno::EBUSY);
     }
-    core.naming(task, 2)?;
-    Ok((start.node, attrs))
+    Ok(attrs)
+}
+
+/// Whether the words that are stored with a node, if there are any, are these.
+fn is_stored(stored: Option<&Words>, words: &Words) -> bool
+    ensures { result ≡ same_words (or_no_words (option_copied stored.entry)) words.now }
+{
+    match stored {
+        Some(stored) => same_words(stored.as_slice(), words.as_slice()),
+        None => !words.has_any(),
+    }
+}
+
+/// Whether two lists of words are the same.
+fn same_words(words: &[Bytes], others: &[Bytes]) -> bool
+    ensures { result ≡ same_words words.now others.now }
+{
+    match words {
+        [] => others.is_empty(),
+        [word, words @ ..] => match others {
+            [] => false,
+            [other, others @ ..] => word.is(other.as_slice()) && same_words(words, others),
+        },
+    }
 }
