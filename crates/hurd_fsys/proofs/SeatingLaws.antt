@@ -1,27 +1,37 @@
 -- When setting a translator answers, and leaves, what its plan says.
-use Rattle.std.proofs.Common.{◌≡◌, ◌≢◌, ◌∙◌, ◌≤◌, ℕ, arith, Bool, true, false, List, [], ◌∷◌, Option, Some, None, inl, inr, refl, sym, ap, subst, true≢false}
+use Rattle.std.proofs.Common.{◌≡◌, ◌≢◌, ◌∙◌, ◌≤◌, ◌⊎◌, ℕ, arith, Bool, true, false, not, if◌then◌else◌, List, [], ◌∷◌, ◌++◌, Option, Some, None, inl, inr, refl, sym, ap, ap₂, subst, true≢false}
 use Rattle.std.specs.Prelude.{Result, Ok, Err, IsOk, is_some, length, nat_le}
 use Rattle.std.specs.Option.{option_map}
 use Rattle.std.proofs.lemmas.Bool.Decides.{nat_tests}
 use Rattle.std.specs.FinSet as set
 use Rattle.std.specs.Ordering.{nat_cmp}
 use Rattle.hurd_creds.specs.declared.errno.Errno.{Errno}
-use Rattle.hurd_creds.specs.declared.errno.Errno.TheVariants.{ENOMEM}
+use Rattle.hurd_creds.specs.declared.errno.Errno.TheVariants.{ENOMEM, EOPNOTSUPP}
 use Rattle.hurd_creds.specs.declared.name.Name.{Name}
 use Rattle.hurd_creds.specs.Access.{IdSets, ids_of, most_ids}
 use Rattle.hurd_creds.specs.Memory.{Meets}
+use Rattle.hurd_creds.specs.TransBits.{asks_trans, SET}
+use Rattle.hurd_trans_iface.specs.Nodes.{has_words, passive_of, with_passive}
 use Rattle.hurd_trans_iface.specs.Meaning.{Meaning}
+use Rattle.hurd_nodes.proofs.PartLaws.{and_both}
+use Rattle.hurd_nodes.specs.Shown.{tree_by}
+use Rattle.hurd_ports.specs.Tables.{Task, naming_of}
 use Rattle.hurd_machine.specs.Calls.{Reply}
 use Rattle.hurd_machine.specs.declared.call.Reply.TheVariants.{Done, Refused}
-use Rattle.hurd_machine.specs.World.{World}
-use Rattle.hurd_machine.specs.Change.{apply_all}
+use Rattle.hurd_machine.specs.World.{World, header_at, info_at, is_server_root, node_at, nodes_of, ports_of, sets_attrs_at, words_at}
+use Rattle.hurd_machine.specs.Change.{Change, EditHeader, apply_all}
 use Rattle.hurd_machine.specs.Plan.{Follows, Planned, answered, told}
 use Rattle.hurd_machine.specs.Handle.{Named}
 use Rattle.hurd_core.specs.Core.{Does, attaching, naming_asks}
 use Rattle.hurd_creds.proofs.IdLaws.{len-listed}
-use Rattle.hurd_core.proofs.PlanLaws.{asked-refused, does-planned, follows-refused, follows-then, planned-then}
+use Rattle.hurd_machine.proofs.Keeping.{apply_all-append}
+use Rattle.hurd_machine.proofs.Asks.{given_ok}
+use Rattle.hurd_core.proofs.CoreLaws.{naming-had}
+use Rattle.hurd_core.proofs.PlanLaws.{asked-refused, does-planned, follows-from, follows-refused, follows-then, planned-then}
 use Rattle.hurd_machine.specs.declared.call.Setting.{Setting}
-use Rattle.hurd_fsys.specs.Setting.{emptying, leaver, plan_set_translator, seat_asks, seat_for, seating, server_ids, sets_nothing, setter_asks, setting, setting_where}
+use Rattle.hurd_fsys.specs.Setting.{emptying, leaver, plan_set_translator, seat_asks, seat_on, seating, server_ids, sets_nothing, setter_asks, setting, setting_where, storing}
+use Rattle.hurd_fsys.proofs.StoringLaws.{some_has, storing_back, storing_names, storing_sets, tree_sets, words_told}
+use Rattle.hurd_fsys.proofs.SettingLaws.{setter}
 
 -- so few are never too many
 few_fit : (us : List ℕ) → length us ≤ 1 → nat_le (set.len (set.from_list {R = nat_cmp} us)) most_ids ≡ true
@@ -37,13 +47,54 @@ pub one_is_held : (o : ℕ) (e : Errno) → Meets (ids_of (o ∷ []) []) (Err e)
 one_is_held o e (inl is) has = true≢false (sym (subst (λ (r : Result IdSets Errno). IsOk r) is (ids_fit o)))
 one_is_held o e (inr lacks) has = has lacks.0
 
--- what a box means is there where the box is
-pub means_some : {S : Type 0} (f : S → Meaning) (o : Option S) → is_some (option_map f o) ≡ is_some o
+-- what becomes of something is there where that is
+pub means_some : {S T : Type 0} (f : S → T) (o : Option S) → is_some (option_map f o) ≡ is_some o
 means_some f None = refl
 means_some f (Some x) = refl
 
+-- the words of the passive half are stored, where it is set
+pub stores : (w : World) (n : Name) (f : Setting) (words : List (List ℕ)) (r : Reply) (y : World) → sets_attrs_at w n ≡ Ok tt → true ≡ asks_trans f.passive SET
+    → Follows w (answered (sets_attrs_at w n) (λ u. record { reply = Done; changes = EditHeader n (with_passive words) ∷ [] })) r y → y ≡ apply_all (storing f n words) w
+stores w n f words r y may set h =
+    (follows-from w (sets_attrs_at w n) (λ u. record { reply = Done; changes = EditHeader n (with_passive words) ∷ [] }) tt r y may h).1
+    ∙ ap (λ (b : Bool). apply_all (if b then EditHeader n (with_passive words) ∷ [] else []) w) set
+
+-- where a task can name two things, and a copy isn't made, memory was wanting
+pub uncopied : (w : World) (t : ℕ) (words : List (List ℕ)) (e : Errno) → naming_of (ports_of w) t 2 ≡ Ok tt → Meets (Ok words) (Err e) → (e ≡ ENOMEM) × IsOk (naming_asks w t 2)
+uncopied w t words e room (inl never) = absurd (cc)
+uncopied w t words e room (inr lacks) = (lacks.0, subst (λ (r : Result Task Errno). IsOk r) (sym (naming-had (nodes_of w) (ports_of w) t 2 tt room).3) refl)
+
+-- words are stored, and then a server is seated, or the old words are stored again
+
+module _ (w : World) (t : ℕ) (n : Name) (f : Setting) (words : List (List ℕ)) where
+  -- what may be set stays so
+  pub sets_still : (v : World) → v ≡ apply_all (storing f n words) w → sets_attrs_at w n ≡ Ok tt → sets_attrs_at v n ≡ Ok tt
+  sets_still v is sets = ap (λ (z : World). sets_attrs_at z n) is ∙ storing_sets n words (asks_trans f.passive SET) w n ∙ sets
+
+  module _ (changes : Task → List Change) (v : World) (is : v ≡ apply_all (storing f n words) w) where
+    named_there : naming_asks v t 2 ≡ naming_asks w t 2
+    named_there = ap (λ (z : World). naming_asks z t 2) is ∙ storing_names n words (asks_trans f.passive SET) w t 2
+
+    pub seated_then : (u : Unit {0}) (y : World) → Does v (naming_asks v t 2) changes (λ x. tt {0}) (Ok u) y
+        → Does w (naming_asks w t 2) (λ x. storing f n words ++ changes x) (λ x. tt {0}) (Ok u) y
+    seated_then u y d = (d.0, sym named_there ∙ d.1, d.2, d.3 ∙ ap (apply_all (changes d.0)) is ∙ sym (apply_all-append (storing f n words) (changes d.0) w))
+
+    pub seat_refused : (e : Errno) (x y : World) (kept : List (List ℕ)) → Does v (naming_asks v t 2) changes (λ x. tt {0}) (Err e) x → Meets (Ok (words_at w n)) (Ok kept)
+        → y ≡ apply_all (storing f n kept) x → Does w (naming_asks w t 2) (λ x. storing f n words ++ changes x) (λ x. tt {0}) (Err e) y
+    seat_refused e x y kept d copied back = (whole, why d.1)
+      where
+        same : words_at w n ≡ kept
+        same = cc (copied)
+
+        whole : y ≡ w
+        whole = back ∙ ap₂ (λ (k : List (List ℕ)) (z : World). apply_all (storing f n k) z) (sym same) (d.0 ∙ is) ∙ storing_back n words (asks_trans f.passive SET) w
+
+        why : (naming_asks v t 2 ≡ Err e) ⊎ ((e ≡ ENOMEM) × IsOk (naming_asks v t 2)) → (naming_asks w t 2 ≡ Err e) ⊎ ((e ≡ ENOMEM) × IsOk (naming_asks w t 2))
+        why (inl short) = inl (sym named_there ∙ short)
+        why (inr lacks) = inr (lacks.0, subst (λ (r : Result Task Errno). IsOk r) named_there lacks.1)
+
 -- of a port that may set, on what it names
-module _ {S : Type 0} (mean : S → Meaning) (w : World) (t p : ℕ) (f : Setting) (server : Option S) (b : Bool) (brings : b ≡ is_some server) where
+module _ {S : Type 0} (mean : S → Meaning) (w : World) (t p : ℕ) (f : Setting) (words : List (List ℕ)) (server : Option S) (b : Bool) (brings : b ≡ is_some server) where
   abbrev box : Option Meaning
   box = option_map mean server
 
@@ -54,52 +105,68 @@ module _ {S : Type 0} (mean : S → Meaning) (w : World) (t p : ℕ) (f : Settin
   tells u = Done
 
   abbrev IsPlanned : Result (Unit {0}) Errno → World → Type 0
-  IsPlanned r y = Planned w (plan_set_translator w t p f box) tells r y
+  IsPlanned r y = Planned w (plan_set_translator w t p f words box) tells r y
 
   abbrev IsFollowed : Result (Unit {0}) Errno → World → Type 0
-  IsFollowed r y = Follows w (plan_set_translator w t p f box) (told tells r) y
+  IsFollowed r y = Follows w (plan_set_translator w t p f words box) (told tells r) y
 
   pub refused_freely : (e : Errno) → Err e ≡ setter_asks w t p f b → IsFollowed (Err e) w
-  refused_freely e is = follows-refused w (setter_asks w t p f (is_some box)) (setting w t f box) e (asked_by (Err e) is)
+  refused_freely e is = follows-refused w (setter_asks w t p f (is_some box)) (setting w t f words box) e (asked_by (Err e) is)
 
   pub set_refused : (e : Errno) → Err e ≡ setter_asks w t p f b → IsPlanned (Err e) w
-  set_refused e is = asked-refused w (setter_asks w t p f (is_some box)) (setting w t f box) tells e (asked_by (Err e) is)
+  set_refused e is = asked-refused w (setter_asks w t p f (is_some box)) (setting w t f words box) tells e (asked_by (Err e) is)
 
   module _ (n : Named) (is : Ok n ≡ setter_asks w t p f b) where
-    then_set : (r : Result (Unit {0}) Errno) (y : World) → Planned w (setting w t f box n) tells r y → IsPlanned r y
-    then_set r y h = planned-then w (setter_asks w t p f (is_some box)) (setting w t f box) tells n r y (asked_by (Ok n) is) h
+    then_set : (r : Result (Unit {0}) Errno) (y : World) → Planned w (setting w t f words box n) tells r y → IsPlanned r y
+    then_set r y h = planned-then w (setter_asks w t p f (is_some box)) (setting w t f words box) tells n r y (asked_by (Ok n) is) h
 
     -- with neither half to be set
     pub set_nothing : (u : Unit {0}) → true ≡ sets_nothing f → IsPlanned (Ok u) w
-    set_nothing u none = then_set (Ok u) w (subst (λ (b : Bool). Planned w (setting_where b w t f box n) tells (Ok u) w) none (refl, refl))
+    set_nothing u none = then_set (Ok u) w (subst (λ (b : Bool). Planned w (setting_where b w t f words box n) tells (Ok u) w) none (refl, refl))
 
-    -- else by what is active on the node
+    -- else by what is active on the node, and whether words are stored
     module _ (half : false ≡ sets_nothing f) where
-      then_seat : (r : Result (Unit {0}) Errno) (y : World) → Planned w (answered (seat_asks w f n.right.node) (seating w t n f box)) tells r y → IsPlanned r y
-      then_seat r y h = then_set r y (subst (λ (b : Bool). Planned w (setting_where b w t f box n) tells r y) half h)
+      then_seat : (r : Result (Unit {0}) Errno) (y : World) → Planned w (answered (seat_asks w f n) (seating w t n f words box)) tells r y → IsPlanned r y
+      then_seat r y h = then_set r y (subst (λ (b : Bool). Planned w (setting_where b w t f words box n) tells r y) half h)
 
-      pub set_kept : (e : Errno) → Err e ≡ seat_asks w f n.right.node → IsPlanned (Err e) w
-      set_kept e at = then_seat (Err e) w (asked-refused w (seat_asks w f n.right.node) (seating w t n f box) tells e (sym at))
+      -- the port's node is there
+      there : header_at w n.right.node ≡ Some n.header
+      there = (setter t p f w b n (sym is)).is_named.is_header
 
-      pub kept_freely : (e : Errno) → Err e ≡ seat_asks w f n.right.node → IsFollowed (Err e) w
+      module _ (z : Option (List (List ℕ))) (passive : z ≡ passive_of (node_at w n.right.node)) (e : Bool) (stored : e ≡ is_some z) where
+        pub told_stored : has_words n.header.passive ≡ e
+        told_stored = sym (some_has n.header.passive) ∙ ap is_some (sym (words_told w n.right.node n.header there) ∙ sym passive) ∙ sym stored
+
+      pub set_kept : (e : Errno) → Err e ≡ seat_asks w f n → IsPlanned (Err e) w
+      set_kept e at = then_seat (Err e) w (asked-refused w (seat_asks w f n) (seating w t n f words box) tells e (sym at))
+
+      pub kept_freely : (e : Errno) → Err e ≡ seat_asks w f n → IsFollowed (Err e) w
       kept_freely e at =
-          follows-then w (setter_asks w t p f (is_some box)) (setting w t f box) n (Refused e) w (asked_by (Ok n) is)
-          (subst (λ (b : Bool). Follows w (setting_where b w t f box n) (Refused e) w) half
-          (follows-refused w (seat_asks w f n.right.node) (seating w t n f box) e (sym at)))
+          follows-then w (setter_asks w t p f (is_some box)) (setting w t f words box) n (Refused e) w (asked_by (Ok n) is)
+          (subst (λ (b : Bool). Follows w (setting_where b w t f words box n) (Refused e) w) half
+          (follows-refused w (seat_asks w f n) (seating w t n f words box) e (sym at)))
 
-      module _ (old : Option Name) (at : Ok old ≡ seat_asks w f n.right.node) where
-        then_old : (r : Result (Unit {0}) Errno) (y : World) → Planned w (seating w t n f box old) tells r y → IsPlanned r y
-        then_old r y h = then_seat r y (planned-then w (seat_asks w f n.right.node) (seating w t n f box) tells old r y (sym at) h)
+      module _ (old : Option Name) (at : Ok old ≡ seat_asks w f n) where
+        then_old : (r : Result (Unit {0}) Errno) (y : World) → Planned w (seating w t n f words box old) tells r y → IsPlanned r y
+        then_old r y h = then_seat r y (planned-then w (seat_asks w f n) (seating w t n f words box) tells old r y (sym at) h)
 
-        -- without a box the seat is emptied
-        pub set_emptied : (u : Unit {0}) (y : World) → server ≡ None → y ≡ apply_all (emptying f n.right.node old) w → IsPlanned (Ok u) y
-        set_emptied u y none makes =
-            then_old (Ok u) y (subst (λ (b : Option Meaning). Planned w (seating w t n f b old) tells (Ok u) y) (sym (ap (option_map mean) none)) (refl, makes))
+        -- words may be stored
+        pub may_store : sets_attrs_at w n.right.node ≡ Ok tt
+        may_store =
+            let seats = (given_ok EOPNOTSUPP _ _ old (sym at)).0 in
+            tree_sets w n.right.node n.header there (and_both (tree_by (info_at w n.right.node)) (not (is_server_root w n.right.node)) seats).0
 
-        -- with a box it is taken
-        pub set_seated : (s : S) (u : Unit {0}) (r : Result (Unit {0}) Errno) (y : World) → server ≡ Some s
-            → Does w (naming_asks w t 2) (attaching t (seat_for n (mean s) (leaver f old)) (server_ids n.header.owner) (mean s)) (λ x. u) r y → IsPlanned r y
-        set_seated s u r y some does =
-            then_old r y (subst (λ (b : Option Meaning). Planned w (seating w t n f b old) tells r y) (sym (ap (option_map mean) some))
-            (does-planned w (naming_asks w t 2) (attaching t (seat_for n (mean s) (leaver f old)) (server_ids n.header.owner) (mean s)) (λ x. u)
-            (λ x. record { reply = Done; changes = attaching t (seat_for n (mean s) (leaver f old)) (server_ids n.header.owner) (mean s) x }) tells r y (λ x. (refl, refl)) (λ x. refl) does))
+        -- without a box the words are stored, and the seat is emptied
+        pub set_emptied : (u : Unit {0}) (v y : World) → server ≡ None → v ≡ apply_all (storing f n.right.node words) w → y ≡ apply_all (emptying f n.right.node old) v → IsPlanned (Ok u) y
+        set_emptied u v y none stores makes =
+            then_old (Ok u) y (subst (λ (b : Option Meaning). Planned w (seating w t n f words b old) tells (Ok u) y) (sym (ap (option_map mean) none))
+            (refl, makes ∙ ap (apply_all (emptying f n.right.node old)) stores ∙ sym (apply_all-append (storing f n.right.node words) (emptying f n.right.node old) w)))
+
+        abbrev seated_with : Meaning → Task → List Change
+        seated_with m x = storing f n.right.node words ++ attaching t (seat_on n.right.node n.header m (leaver f old)) (server_ids n.header.owner) m x
+
+        -- with a box they are stored, and it is taken
+        pub set_seated : (s : S) (r : Result (Unit {0}) Errno) (y : World) → server ≡ Some s → Does w (naming_asks w t 2) (seated_with (mean s)) (λ x. tt {0}) r y → IsPlanned r y
+        set_seated s r y some does =
+            then_old r y (subst (λ (b : Option Meaning). Planned w (seating w t n f words b old) tells r y) (sym (ap (option_map mean) some))
+            (does-planned w (naming_asks w t 2) (seated_with (mean s)) (λ x. tt {0}) (λ x. record { reply = Done; changes = seated_with (mean s) x }) tells r y (λ x. (refl, refl)) (λ x. refl) does))

@@ -1,11 +1,13 @@
 -- The laws of setting a translator.
-use Rattle.std.proofs.Common.{◌≡◌, ◌≢◌, ◌⊎◌, ◌∙◌, ◌||◌, ◌&&◌, ◌==◌, not, ℕ, Bool, true, false, if◌then◌else◌, List, [], ◌∷◌, Option, Some, None, refl, sym, ap, ap₂, subst, inl, inr}
+use Rattle.std.proofs.Common.{◌≡◌, ◌≢◌, ◌⊎◌, ◌∙◌, ◌||◌, ◌&&◌, ◌==◌, not, slice_get, ℕ, Bool, true, false, if◌then◌else◌, List, [], ◌∷◌, ◌++◌, Option, Some, None, refl, sym, ap, ap₂, subst, inl, inr}
 use Rattle.std.specs.Prelude.{Ok, is_some}
+use Rattle.std.specs.FinMap.{get}
 use Rattle.hurd_creds.specs.declared.name.Name.{Name}
+use Rattle.hurd_creds.specs.NameMaps.{NameMap}
 use Rattle.hurd_creds.specs.declared.errno.Errno.TheVariants.{EBUSY, EINVAL, EOPNOTSUPP, EOVERFLOW, ESRCH}
 use Rattle.hurd_creds.specs.Access.{IdSets}
 use Rattle.hurd_creds.specs.TransBits.{asks_goaway, asks_trans, SET, EXCL, ORPHAN, FORCE}
-use Rattle.hurd_trans_iface.specs.Nodes.{Node}
+use Rattle.hurd_trans_iface.specs.Nodes.{Node, Header, has_words}
 use Rattle.hurd_trans_iface.specs.Meaning.{Meaning}
 use Rattle.hurd_creds.proofs.NameLaws.{same_name-apart}
 use Rattle.hurd_nodes.specs.Held.{is_home}
@@ -13,36 +15,40 @@ use Rattle.hurd_nodes.specs.Shown.{ServerInfo, boot_name, begun_info, begun_root
 use Rattle.hurd_ports.specs.declared.table.Right.TheVariants.{Io}
 use Rattle.hurd_ports.specs.Tables.{Task, fresh, can_name}
 use Rattle.hurd_ports.specs.Steps.{named}
-use Rattle.hurd_machine.specs.declared.call.Reply.TheVariants.{Done}
+use Rattle.hurd_machine.specs.declared.call.Reply.TheVariants.{Done, Words}
 use Rattle.hurd_machine.specs.World.{World, nodes_of, task_at, header_at, home_at, active_at}
 use Rattle.hurd_machine.specs.Change.{Change, Attach, DropServer, Unseat, Settle, apply, apply_all}
 use Rattle.hurd_machine.specs.Plan.{Plan}
 use Rattle.hurd_machine.specs.Handle.{Named}
-use Rattle.hurd_machine.specs.Sight.{Part, AttrOf, UsersOf, Holds, Seen, BySeat, users}
+use Rattle.hurd_machine.specs.Sight.{Part, AttrOf, EmptyOf, BodyOf, OptionsOf, UsersOf, TaskOf, Holds, Seen, BySeat, users}
 use Rattle.hurd_machine.specs.Sound.{Coherent, AreSized, Linked, AtRest}
 use Rattle.hurd_machine.specs.Touched.{Goes}
 use Rattle.hurd_machine.proofs.Views.{Agree, same_tasks, active_same}
 use Rattle.hurd_machine.proofs.Coherence.{Comes, AllProper}
 use Rattle.hurd_machine.proofs.Drop.{drop_coherent, drop_linked}
+use Rattle.hurd_machine.proofs.Keeping.{coherent_all, proper_append}
+use Rattle.hurd_machine.proofs.Links.{linked_append}
+use Rattle.hurd_machine.proofs.Sizes.{sized_append}
 use Rattle.hurd_machine.proofs.Servers.{sized_drop}
-use Rattle.hurd_machine.proofs.Frame.{Full, AllWithin}
-use Rattle.hurd_machine.proofs.Settle.{rests_settle}
+use Rattle.hurd_machine.proofs.Frame.{Full, AllWithin, within_append}
+use Rattle.hurd_machine.proofs.Settle.{rests_settle, rests_append}
 use Rattle.hurd_machine.proofs.Opens.{own_task, fresh_new, fresh_next, later_new}
 use Rattle.hurd_machine.proofs.Several.{AllMay}
 use Rattle.hurd_machine.proofs.Going.{Begun, goes_within, goes_proper, goes_linked, goes_sized, goes_rests, goes_may, unseats_within, unseats_proper, unseats_linked, unseats_sized, unseats_rests, unseats_may, comes_within, comes_proper, comes_linked, comes_sized, comes_after}
-use Rattle.hurd_machine.proofs.Asks.{IsPlain, IsPlainReply, info_same, is_root_same, first_ok, given_ok, on_ok, first_same, given_same, on_same, first_plain, given_plain, on_plain, ok_plain, answered_all, answered_same, answered_plain, done_plain}
-use Rattle.hurd_machine.proofs.CallLaws.{CallLaws, answered_within}
+use Rattle.hurd_machine.proofs.Asks.{IsPlain, IsPlainReply, port_same, port_plain, info_same, is_root_same, first_ok, given_ok, on_ok, first_same, given_same, on_same, first_plain, given_plain, on_plain, ok_plain, answered_all, answered_same, answered_plain, done_plain}
+use Rattle.hurd_machine.proofs.CallLaws.{CallLaws, answered_within, looking_laws}
 use Rattle.hurd_core.specs.Core.{attaching, naming_asks}
 use Rattle.hurd_machine.specs.declared.call.Setting.{Setting}
-use Rattle.hurd_fsys.specs.Setting.{sets_nothing, setter_asks, may_replace, seat_asks, leaver, emptying, server_ids, seat_for, seating, setting_where, plan_set_translator, GoesFor, seat_parts, parts_where, touches_set_translator, root_mode, root_kind}
+use Rattle.hurd_fsys.specs.Setting.{sets_nothing, setter_asks, is_excluded, may_replace, may_set, seat_asks, leaver, emptying, storing, server_ids, seat_on, seating, setting_where, plan_set_translator, GoesFor, seat_parts, parts_where, touches_set_translator, root_mode, root_kind, stored_asks, plan_get_translator, touches_get_translator}
 use Rattle.hurd_fsys.specs.Owned.{owned_asks}
 use Rattle.hurd_fsys.proofs.OwnedLaws.{Owner, owner, owner_right, owner_sees, owned_same, owned_plain}
 use Rattle.hurd_fsys.proofs.ControlLaws.{owner_holds}
+use Rattle.hurd_fsys.proofs.StoringLaws.{IsLike, goes_like, storing_like, storing_within, storing_proper, storing_rests, storing_linked, storing_sized, storing_may}
 use Rattle.hurd_fsys.proofs.BegunLaws.{begun_shaped, begun_bare, begun}
 
 -- a server comes to a node, and another goes for it, which is active there
 
-module _ (w : World) (c : Coherent w) (t : ℕ) (n : Named) (there : header_at w n.right.node ≡ Some n.header) (m : Meaning) (x : Task) (is : task_at w t ≡ Some x) where
+module _ (w : World) (c : Coherent w) (t : ℕ) (n : Named) (there : (h : Header) × (header_at w n.right.node ≡ Some h)) (m : Meaning) (x : Task) (is : task_at w t ≡ Some x) where
   abbrev s : Name
   s = fresh t x
 
@@ -67,7 +73,7 @@ module _ (w : World) (c : Coherent w) (t : ℕ) (n : Named) (there : header_at w
     shape = begun_shaped m root ids n.header.owner n.header.group (root_mode (root_kind m) n.header.mode);
     empty = begun_bare m root ids n.header.owner n.header.group (root_mode (root_kind m) n.header.mode);
     parent = refl;
-    seat = (n.header, there);
+    seat = there;
   }
 
   begins : Begun info node
@@ -75,7 +81,7 @@ module _ (w : World) (c : Coherent w) (t : ℕ) (n : Named) (there : header_at w
 
   -- the changes, for a server that goes or none
   abbrev comings : Option Name → List Change
-  comings old = attaching t (seat_for n m old) ids m x
+  comings old = attaching t (seat_on n.right.node n.header m old) ids m x
 
   -- what goes is active on the node
   abbrev IsOld : Option Name → Type 0
@@ -98,17 +104,14 @@ module _ (w : World) (c : Coherent w) (t : ℕ) (n : Named) (there : header_at w
   left : (q : Name) → active_at w n.right.node ≡ Some q → Coherent (apply (DropServer q) w)
   left q e = drop_coherent w c q (not_boot q e)
 
-  pub comings_within : (T : Part → Type 0) → (old : Option Name) → IsOld old → T (AttrOf n.right.node) → ((p : Part) → GoesFor w old p → T p) → AllWithin (Full w t T) w (comings old)
-  comings_within T None is_old seat parts =
-      let new = fresh_new w t x is in
-      let later = later_new w t 1 x is in
-      comes_within w c s n.right.node info node newcomer begins (Full w t T) (own_task w t T) (inr (inr later)) (inr (inr later)) (inr (inr later)) (inl seat) (inr (inr new))
-  comings_within T (Some q) is_old seat parts =
-      let new = fresh_new w t x is in
-      let later = later_new w t 1 x is in
+  -- what it writes may be parts of a world like this one
+  pub comings_within : (T : Part → Type 0) → T (TaskOf t) → T (AttrOf root) → T (EmptyOf root) → T (BodyOf root) → T (OptionsOf s) → T (AttrOf n.right.node)
+      → (old : Option Name) → IsOld old → ((q : Name) → old ≡ Some q → (p : Part) → Goes w q p → T p) → AllWithin T w (comings old)
+  comings_within T task attr empty body options seat None is_old parts = comes_within w c s n.right.node info node newcomer begins T task attr empty body seat options
+  comings_within T task attr empty body options seat (Some q) is_old parts =
       let e = is_old q refl in (
-        λ p goes. inl (parts p goes),
-        comes_within (apply (DropServer q) w) (left q e) s n.right.node info node (after q e) begins (Full w t T) (own_task w t T) (inr (inr later)) (inr (inr later)) (inr (inr later)) (inl seat) (inr (inr new)),
+        parts q refl,
+        comes_within (apply (DropServer q) w) (left q e) s n.right.node info node (after q e) begins T task attr empty body seat options,
       )
 
   pub comings_proper : Linked (nodes_of w) → (old : Option Name) → IsOld old → AllProper w (comings old)
@@ -140,14 +143,14 @@ module _ (w : World) (c : Coherent w) (t : ℕ) (n : Named) (there : header_at w
 -- what is asked
 
 module _ (t p : ℕ) (f : Setting) where
-  setter : (w : World) (b : Bool) (n : Named) → setter_asks w t p f b ≡ Ok n → Owner t p w n
+  pub setter : (w : World) (b : Bool) (n : Named) → setter_asks w t p f b ≡ Ok n → Owner t p w n
   setter w b n is =
       let k = first_ok (owned_asks w t p) _ n is in
       let h = given_ok EINVAL _ _ n k.2 in
       let same : k.0 ≡ n = cc (h.1) in
       subst (Owner t p w) same (owner t p w k.0 k.1)
 
-  seated : (w : World) (n : Name) (old : Option Name) → seat_asks w f n ≡ Ok old → active_at w n ≡ old
+  seated : (w : World) (n : Named) (old : Option Name) → seat_asks w f n ≡ Ok old → active_at w n.right.node ≡ old
   seated w n old is =
       let g = given_ok EOPNOTSUPP _ _ old is in
       let h = given_ok EBUSY _ _ old g.1 in
@@ -161,14 +164,11 @@ module _ (t p : ℕ) (f : Setting) where
       y.1 ∙ ap Some same
 
   leaver_is : (old : Option Name) (q : Name) → leaver f old ≡ Some q → old ≡ Some q
-  leaver_is old q = go (asks_trans f.active ORPHAN)
+  leaver_is old q = go (not (asks_trans f.active SET) || asks_trans f.active ORPHAN)
     where
       go : (b : Bool) → (if b then None else old) ≡ Some q → old ≡ Some q
       go true e = absurd (cc)
       go false e = e
-
-  leaves : (w : World) (n : Name) (old : Option Name) → active_at w n ≡ old → (q : Name) → leaver f old ≡ Some q → active_at w n ≡ Some q
-  leaves w n old e q is = e ∙ leaver_is old q is
 
   -- in worlds that agree
 
@@ -188,13 +188,17 @@ module _ (t p : ℕ) (f : Setting) where
         let i = c.seating.seated n.right.node q e in
         let parts = a.parts (UsersOf q) (record { info = i.1; is_server = i.2; other = i.0; why = BySeat n.right.node n.header seen e k.is_named.is_header (owner_holds S v n held k.owned) }) in
         let used : users w q ≡ users v q = cc in
-        ap (λ z. not (asks_trans f.active EXCL) && (asks_trans f.active ORPHAN || (asks_goaway f.goaway FORCE || (z == 0)))) used
+        ap (λ z. not (asks_trans f.active SET) || (asks_trans f.active ORPHAN || (asks_goaway f.goaway FORCE || (z == 0)))) used
 
-    seat_same : seat_asks w f n.right.node ≡ seat_asks v f n.right.node
+    set_same : may_set w f n.header.passive (active_at w n.right.node) ≡ may_set v f n.header.passive (active_at v n.right.node)
+    set_same =
+        ap (may_set w f n.header.passive) (active_same a n.right.node seen)
+        ∙ ap (λ z. not (is_excluded f.passive (has_words n.header.passive)) && (not (is_excluded f.active (is_some (active_at v n.right.node))) && z)) (replace_same (active_at v n.right.node) refl)
+
+    seat_same : seat_asks w f n ≡ seat_asks v f n
     seat_same =
-        let act = active_same a n.right.node seen in
-        given_same _ _ _ _ _ (ap₂ (λ i b. (tree_by i && not b) && not (asks_trans f.passive SET)) (info_same a n.right.node seen) (is_root_same a n.right.node seen)) (λ e.
-        given_same _ _ _ _ _ (ap (may_replace w f) act ∙ replace_same (active_at v n.right.node) refl) (λ e. ap Ok act))
+        given_same _ _ _ _ _ (ap₂ (λ i b. tree_by i && not b) (info_same a n.right.node seen) (is_root_same a n.right.node seen)) (λ e.
+        given_same _ _ _ _ _ set_same (λ e. ap Ok (active_same a n.right.node seen)))
 
   naming_same : {S : ℕ → Bool} {v w : World} → Agree S v w → S t ≡ true → naming_asks w t 2 ≡ naming_asks v t 2
   naming_same a ours = on_same _ _ _ _ _ (same_tasks a t ours) (λ x k. refl)
@@ -204,115 +208,204 @@ module _ (t p : ℕ) (f : Setting) where
   setter_plain : (w : World) (b : Bool) → IsPlain (setter_asks w t p f b)
   setter_plain w b = first_plain _ _ (owned_plain t p w) (λ n is. given_plain _ _ _ refl (λ h. ok_plain _))
 
-  seat_plain : (w : World) (n : Name) → IsPlain (seat_asks w f n)
+  seat_plain : (w : World) (n : Named) → IsPlain (seat_asks w f n)
   seat_plain w n = given_plain _ _ _ refl (λ e. given_plain _ _ _ refl (λ h. ok_plain _))
 
   naming_plain : (w : World) → IsPlain (naming_asks w t 2)
   naming_plain w = on_plain _ _ _ refl (λ x k. given_plain _ _ _ refl (λ room. ok_plain _))
 
-  module _ (box : Option Meaning) where
-    -- the changes of the plan are one of these
+  module _ (words : List (List ℕ)) (box : Option Meaning) where
+    abbrev sets : Bool
+    sets = asks_trans f.passive SET
+
+    -- the world with the words stored
+    abbrev stored : Name → World → World
+    stored n w = apply_all (storing f n words) w
+
+    like : (w : World) (n : Named) → Owner t p w n → IsLike w (stored n.right.node w) n.right.node
+    like w n k = storing_like n.right.node words sets w n.header k.is_named.is_header
+
+    abbrev comings_of : Named → Meaning → Option Name → Task → List Change
+    comings_of n m old x = attaching t (seat_on n.right.node n.header m old) (server_ids n.header.owner) m x
+
+    -- the changes of the plan are none, or words that are stored, and then one of these
     record Cases (w : World) (P : List Change → Type 0) : Type 0 where
       none : P []
-      away : (n : Named) → Owner t p w n → (q : Name) → active_at w n.right.node ≡ Some q → P (DropServer q ∷ Settle ∷ [])
-      unseat : (n : Named) → Owner t p w n → P (Unseat n.right.node ∷ Settle ∷ [])
-      come : (n : Named) → Owner t p w n → (m : Meaning) (x : Task) → task_at w t ≡ Some x → (old : Option Name) → ((q : Name) → old ≡ Some q → active_at w n.right.node ≡ Some q)
-          → P (attaching t (seat_for n m old) (server_ids n.header.owner) m x)
+      stay : (n : Named) → Owner t p w n → P (storing f n.right.node words ++ [])
+      away : (n : Named) → Owner t p w n → (q : Name) → active_at (stored n.right.node w) n.right.node ≡ Some q → P (storing f n.right.node words ++ DropServer q ∷ Settle ∷ [])
+      unseat : (n : Named) → Owner t p w n → P (storing f n.right.node words ++ Unseat n.right.node ∷ Settle ∷ [])
+      come : (n : Named) → Owner t p w n → (m : Meaning) (x : Task) → task_at (stored n.right.node w) t ≡ Some x → (old : Option Name) → ((q : Name) → old ≡ Some q → active_at (stored n.right.node w) n.right.node ≡ Some q)
+          → P (storing f n.right.node words ++ comings_of n m old x)
 
     module _ (w : World) (P : List Change → Type 0) (cases : Cases w P) where
       abbrev Of : Plan → Type 0
       Of plan = P plan.changes
 
-      by_old : (n : Named) → Owner t p w n → (old : Option Name) → active_at w n.right.node ≡ old → P (emptying f n.right.node old)
-      by_old n k None e = cases.none
-      by_old n k (Some q) e = go (asks_trans f.active ORPHAN)
+      -- what is active, and the task, are the same with the words stored
+      active_still : (n : Named) → Owner t p w n → (o : Option Name) → active_at w n.right.node ≡ o → active_at (stored n.right.node w) n.right.node ≡ o
+      active_still n k o e = ap (λ (m : NameMap Name). get m n.right.node) (like w n k).actives ∙ e
+
+      task_still : (n : Named) → Owner t p w n → (x : Task) → task_at w t ≡ Some x → task_at (stored n.right.node w) t ≡ Some x
+      task_still n k x e = ap (λ (ts : List Task). slice_get ts t) (like w n k).tasks ∙ e
+
+      by_old : (n : Named) → Owner t p w n → (old : Option Name) → active_at w n.right.node ≡ old → P (storing f n.right.node words ++ emptying f n.right.node old)
+      by_old n k None e = cases.stay n k
+      by_old n k (Some q) e = go (not (asks_trans f.active SET)) (asks_trans f.active ORPHAN)
         where
-          go : (b : Bool) → P (if b then Unseat n.right.node ∷ Settle ∷ [] else DropServer q ∷ Settle ∷ [])
-          go true = cases.unseat n k
-          go false = cases.away n k q e
+          go : (b d : Bool) → P (storing f n.right.node words ++ (if b then [] else if d then Unseat n.right.node ∷ Settle ∷ [] else DropServer q ∷ Settle ∷ []))
+          go true d = cases.stay n k
+          go false true = cases.unseat n k
+          go false false = cases.away n k q (active_still n k (Some q) e)
 
-      by_box : (n : Named) → Owner t p w n → (o : Option Meaning) (old : Option Name) → active_at w n.right.node ≡ old → Of (seating w t n f o old)
+      by_box : (n : Named) → Owner t p w n → (o : Option Meaning) (old : Option Name) → active_at w n.right.node ≡ old → Of (seating w t n f words o old)
       by_box n k None old e = by_old n k old e
-      by_box n k (Some m) old e = answered_all Of (λ r. cases.none) (naming_asks w t 2) _ (λ x at. cases.come n k m x (namer w x at) (leaver f old) (leaves w n.right.node old e))
+      by_box n k (Some m) old e = answered_all Of (λ r. cases.none) (naming_asks w t 2) _ (λ x at.
+          cases.come n k m x (task_still n k x (namer w x at)) (leaver f old) (λ q is. active_still n k (Some q) (e ∙ leaver_is old q is)))
 
-      by_half : (n : Named) → Owner t p w n → (b : Bool) → Of (setting_where b w t f box n)
+      by_half : (n : Named) → Owner t p w n → (b : Bool) → Of (setting_where b w t f words box n)
       by_half n k true = cases.none
-      by_half n k false = answered_all Of (λ r. cases.none) (seat_asks w f n.right.node) _ (λ old is. by_box n k box old (seated w n.right.node old is))
+      by_half n k false = answered_all Of (λ r. cases.none) (seat_asks w f n) _ (λ old is. by_box n k box old (seated w n old is))
 
-      all : P (plan_set_translator w t p f box).changes
+      all : P (plan_set_translator w t p f words box).changes
       all = answered_all Of (λ r. cases.none) (setter_asks w t p f (is_some box)) _ (λ n is. by_half n (setter w (is_some box) n is) (sets_nothing f))
 
     -- what it writes
-    module _ (w : World) (c : Coherent w) where
-      emptied_within : (n : Named) (old : Option Name) → active_at w n.right.node ≡ old → AllWithin (Full w t (seat_parts w f n.right.node old)) w (emptying f n.right.node old)
-      emptied_within n None e = tt
-      emptied_within n (Some q) e = go (asks_trans f.active ORPHAN)
+    module _ (w : World) (c : Coherent w) (n : Named) (k : Owner t p w n) (old : Option Name) (e : active_at w n.right.node ≡ old) where
+      abbrev v : World
+      v = stored n.right.node w
+
+      d : Coherent v
+      d = coherent_all (storing f n.right.node words) w c (storing_proper n.right.node words sets w)
+
+      abbrev Written : Part → Type 0
+      Written = Full w t (seat_parts w f n.right.node old)
+
+      -- the words stored, and then what is written in that world
+      with_words : (cs : List Change) → AllWithin Written v cs → AllWithin Written w (storing f n.right.node words ++ cs)
+      with_words cs h = within_append Written (storing f n.right.node words) cs w (storing_within n.right.node words Written sets w (inl (inl refl))) h
+
+      -- what goes there goes here
+      left_here : (q : Name) → leaver f old ≡ Some q → (r : Part) → Goes v q r → Written r
+      left_here q is r goes = inl (inr (subst (λ (o : Option Name). GoesFor w o r) (sym is) (goes_like w v n.right.node (like w n k) q r goes)))
+
+      emptied_within : AllWithin Written w (storing f n.right.node words ++ emptying f n.right.node old)
+      emptied_within = with_words (emptying f n.right.node old) (by_seat old refl)
         where
-          not_boot_one : q ≢ boot_name
-          not_boot_one = (c.seating.seated n.right.node q e).0
+          by_flags : (q : Name) → old ≡ Some q → (b z : Bool) → asks_trans f.active ORPHAN ≡ z → not (asks_trans f.active SET) ≡ b
+              → AllWithin Written v (if b then [] else if z then Unseat n.right.node ∷ Settle ∷ [] else DropServer q ∷ Settle ∷ [])
+          by_flags q is true z orphan set = tt
+          by_flags q is false true orphan set = unseats_within v d n.right.node Written (inl (inl refl))
+          by_flags q is false false orphan set =
+              goes_within v d q (c.seating.seated n.right.node q (e ∙ is)).0 Written (left_here q (ap₂ (λ (b z : Bool). if b || z then None else old) set orphan ∙ is))
 
-          go : (b : Bool) → AllWithin (Full w t (λ k. (k ≡ AttrOf n.right.node) ⊎ GoesFor w (if b then None else Some q) k)) w (if b then Unseat n.right.node ∷ Settle ∷ [] else DropServer q ∷ Settle ∷ [])
-          go true = unseats_within w c n.right.node (Full w t (λ k. (k ≡ AttrOf n.right.node) ⊎ ⊥)) (inl (inl refl))
-          go false = goes_within w c q not_boot_one (Full w t (λ k. (k ≡ AttrOf n.right.node) ⊎ Goes w q k)) (λ k goes. inl (inr goes))
+          by_seat : (o : Option Name) → old ≡ o → AllWithin Written v (emptying f n.right.node o)
+          by_seat None is = tt
+          by_seat (Some q) is = by_flags q is (not (asks_trans f.active SET)) (asks_trans f.active ORPHAN) refl refl
 
-      box_within : (n : Named) → Owner t p w n → (o : Option Meaning) (old : Option Name) → active_at w n.right.node ≡ old → AllWithin (Full w t (seat_parts w f n.right.node old)) w (seating w t n f o old).changes
-      box_within n k None old e = emptied_within n old e
-      box_within n k (Some m) old e = answered_all (λ (P : Plan). AllWithin (Full w t (seat_parts w f n.right.node old)) w P.changes) (λ r. tt) (naming_asks w t 2) _ (λ x at.
-          comings_within w c t n k.is_named.is_header m x (namer w x at) (seat_parts w f n.right.node old) (leaver f old) (leaves w n.right.node old e) (inl refl) (λ q goes. inr goes))
+      box_within : (o : Option Meaning) → AllWithin Written w (seating w t n f words o old).changes
+      box_within None = emptied_within
+      box_within (Some m) = answered_all (λ (P : Plan). AllWithin Written w P.changes) (λ r. tt) (naming_asks w t 2) _ (λ x at.
+          let is = namer w x at in
+          let new = fresh_new w t x is in
+          let later = later_new w t 1 x is in
+          with_words (comings_of n m (leaver f old) x)
+          (comings_within v d t n (like w n k).there m x (ap (λ (ts : List Task). slice_get ts t) (like w n k).tasks ∙ is) Written (own_task w t (seat_parts w f n.right.node old)) (inr (inr later)) (inr (inr later))
+          (inr (inr later)) (inr (inr new)) (inl (inl refl)) (leaver f old) (λ q is. ap (λ (m : NameMap Name). get m n.right.node) (like w n k).actives ∙ (e ∙ leaver_is old q is)) left_here))
 
-      half_within : (n : Named) → Owner t p w n → (b : Bool) → AllWithin (Full w t (parts_where b w f n.right.node)) w (setting_where b w t f box n).changes
-      half_within n k true = tt
-      half_within n k false = answered_within w t (seat_asks w f n.right.node) (seating w t n f box) (seat_parts w f n.right.node) (λ old is. box_within n k box old (seated w n.right.node old is))
+    half_within : (w : World) → Coherent w → (n : Named) → Owner t p w n → (b : Bool) → AllWithin (Full w t (parts_where b w f n)) w (setting_where b w t f words box n).changes
+    half_within w c n k true = tt
+    half_within w c n k false = answered_within w t (seat_asks w f n) (seating w t n f words box) (seat_parts w f n.right.node) (λ old is. box_within w c n k old (seated w n old is) box)
 
-    half_same : {S : ℕ → Bool} {v w : World} → Coherent v → Agree S v w → S t ≡ true → (n : Named) → Owner t p v n → (b : Bool) → setting_where b w t f box n ≡ setting_where b v t f box n
+    half_same : {S : ℕ → Bool} {v w : World} → Coherent v → Agree S v w → S t ≡ true → (n : Named) → Owner t p v n → (b : Bool) → setting_where b w t f words box n ≡ setting_where b v t f words box n
     half_same c a ours n k true = refl
     half_same {S} {v} {w} c a ours n k false = answered_same _ _ _ _ (seat_same c a ours n k) (λ old is. of_box box old)
       where
-        of_box : (o : Option Meaning) (old : Option Name) → seating w t n f o old ≡ seating v t n f o old
+        of_box : (o : Option Meaning) (old : Option Name) → seating w t n f words o old ≡ seating v t n f words o old
         of_box None old = refl
         of_box (Some m) old = answered_same _ _ _ _ (naming_same a ours) (λ x at. refl)
 
-    half_plain : (w : World) (n : Named) (b : Bool) → IsPlainReply (setting_where b w t f box n).reply
+    half_plain : (w : World) (n : Named) (b : Bool) → IsPlainReply (setting_where b w t f words box n).reply
     half_plain w n true = done_plain Done refl
-    half_plain w n false = answered_plain _ _ (seat_plain w n.right.node) (λ old is. of_box box old)
+    half_plain w n false = answered_plain _ _ (seat_plain w n) (λ old is. of_box box old)
       where
-        of_box : (o : Option Meaning) (old : Option Name) → IsPlainReply (seating w t n f o old).reply
+        of_box : (o : Option Meaning) (old : Option Name) → IsPlainReply (seating w t n f words o old).reply
         of_box None old = done_plain Done refl
         of_box (Some m) old = answered_plain _ _ (naming_plain w) (λ x at. done_plain Done refl)
 
-    pub set_translator_laws : CallLaws t (λ w. plan_set_translator w t p f box) (λ w. touches_set_translator w t p f (is_some box))
+    -- with the words stored a sound world is one
+
+    stored_coherent : (w : World) → Coherent w → (n : Named) → Coherent (stored n.right.node w)
+    stored_coherent w c n = coherent_all (storing f n.right.node words) w c (storing_proper n.right.node words sets w)
+
+    stored_linked : (w : World) → Linked (nodes_of w) → (n : Named) → Linked (nodes_of (stored n.right.node w))
+    stored_linked w l n = storing_linked n.right.node words sets w l
+
+    proper_then : (w : World) → Coherent w → (n : Named) (cs : List Change) → (Coherent (stored n.right.node w) → AllProper (stored n.right.node w) cs) → AllProper w (storing f n.right.node words ++ cs)
+    proper_then w c n cs h = proper_append (storing f n.right.node words) cs w c (storing_proper n.right.node words sets w) h
+
+    not_boot_there : (w : World) → Coherent w → (n : Named) (q : Name) → active_at (stored n.right.node w) n.right.node ≡ Some q → q ≢ boot_name
+    not_boot_there w c n q e = ((stored_coherent w c n).seating.seated n.right.node q e).0
+
+    pub set_translator_laws : CallLaws t (λ w. plan_set_translator w t p f words box) (λ w. touches_set_translator w t p f (is_some box))
     set_translator_laws = record {
       fits = λ w c. answered_within w t (setter_asks w t p f (is_some box)) _ _ (λ n is. half_within w c n (setter w (is_some box) n is) (sets_nothing f));
       proper = λ w s. all w (AllProper w) (record {
         none = tt;
-        away = λ n k q e. goes_proper w s.coherent q (s.coherent.seating.seated n.right.node q e).0 s.linked;
-        unseat = λ n k. unseats_proper w s.coherent n.right.node s.linked;
-        come = λ n k m x at old is_old. comings_proper w s.coherent t n k.is_named.is_header m x at s.linked old is_old;
+        stay = λ n k. proper_then w s.coherent n [] (λ d. tt);
+        away = λ n k q e. proper_then w s.coherent n _ (λ d. goes_proper (stored n.right.node w) d q (not_boot_there w s.coherent n q e) (stored_linked w s.linked n));
+        unseat = λ n k. proper_then w s.coherent n _ (λ d. unseats_proper (stored n.right.node w) d n.right.node (stored_linked w s.linked n));
+        come = λ n k m x at old is_old. proper_then w s.coherent n (comings_of n m old x) (λ d.
+            comings_proper (stored n.right.node w) d t n (like w n k).there m x at (stored_linked w s.linked n) old is_old);
       });
       linked = λ w s. all w (λ cs. Linked (nodes_of (apply_all cs w))) (record {
         none = s.linked;
-        away = λ n k q e. goes_linked w s.coherent q (s.coherent.seating.seated n.right.node q e).0 s.linked;
-        unseat = λ n k. unseats_linked w s.coherent n.right.node s.linked;
-        come = λ n k m x at old is_old. comings_linked w s.coherent t n k.is_named.is_header m x at s.linked old is_old;
+        stay = λ n k. linked_append (storing f n.right.node words) [] w (storing_linked n.right.node words sets w) (λ l. l) s.linked;
+        away = λ n k q e. linked_append (storing f n.right.node words) _ w (storing_linked n.right.node words sets w)
+            (goes_linked (stored n.right.node w) (stored_coherent w s.coherent n) q (not_boot_there w s.coherent n q e)) s.linked;
+        unseat = λ n k. linked_append (storing f n.right.node words) _ w (storing_linked n.right.node words sets w)
+            (unseats_linked (stored n.right.node w) (stored_coherent w s.coherent n) n.right.node) s.linked;
+        come = λ n k m x at old is_old. linked_append (storing f n.right.node words) (comings_of n m old x) w (storing_linked n.right.node words sets w)
+            (λ l. comings_linked (stored n.right.node w) (stored_coherent w s.coherent n) t n (like w n k).there m x at l old is_old) s.linked;
       });
       sized = λ w s. all w (λ cs. AreSized (nodes_of (apply_all cs w))) (record {
         none = s.sizes;
-        away = λ n k q e. goes_sized w s.coherent q (s.coherent.seating.seated n.right.node q e).0 s.sizes;
-        unseat = λ n k. unseats_sized w s.coherent n.right.node s.sizes;
-        come = λ n k m x at old is_old. comings_sized w s.coherent t n k.is_named.is_header m x at s.sizes old is_old;
+        stay = λ n k. sized_append (storing f n.right.node words) [] w (storing_sized n.right.node words sets w) (λ fit. fit) s.sizes;
+        away = λ n k q e. sized_append (storing f n.right.node words) _ w (storing_sized n.right.node words sets w)
+            (goes_sized (stored n.right.node w) (stored_coherent w s.coherent n) q (not_boot_there w s.coherent n q e)) s.sizes;
+        unseat = λ n k. sized_append (storing f n.right.node words) _ w (storing_sized n.right.node words sets w)
+            (unseats_sized (stored n.right.node w) (stored_coherent w s.coherent n) n.right.node) s.sizes;
+        come = λ n k m x at old is_old. sized_append (storing f n.right.node words) (comings_of n m old x) w (storing_sized n.right.node words sets w)
+            (λ fit. comings_sized (stored n.right.node w) (stored_coherent w s.coherent n) t n (like w n k).there m x at fit old is_old) s.sizes;
       });
       rests = λ w s. all w (λ cs. AtRest (apply_all cs w)) (record {
         none = s.settled;
-        away = λ n k q e. goes_rests w s.coherent q (s.coherent.seating.seated n.right.node q e).0 s.settled;
-        unseat = λ n k. unseats_rests w s.coherent n.right.node s.settled;
-        come = λ n k m x at old is_old. comings_rests w s.coherent t n k.is_named.is_header m x at s.settled old;
+        stay = λ n k. rests_append (storing f n.right.node words) [] w (storing_rests n.right.node words sets w) (λ r. r) s.settled;
+        away = λ n k q e. rests_append (storing f n.right.node words) _ w (storing_rests n.right.node words sets w)
+            (goes_rests (stored n.right.node w) (stored_coherent w s.coherent n) q (not_boot_there w s.coherent n q e)) s.settled;
+        unseat = λ n k. rests_append (storing f n.right.node words) _ w (storing_rests n.right.node words sets w)
+            (unseats_rests (stored n.right.node w) (stored_coherent w s.coherent n) n.right.node) s.settled;
+        come = λ n k m x at old is_old. rests_append (storing f n.right.node words) (comings_of n m old x) w (storing_rests n.right.node words sets w)
+            (λ r. comings_rests (stored n.right.node w) (stored_coherent w s.coherent n) t n (like w n k).there m x at r old) s.settled;
       });
       may = λ S v c ours. all v (AllMay S v v) (record {
         none = tt;
-        away = λ n k q e. goes_may v c q (c.seating.seated n.right.node q e).0 S v;
-        unseat = λ n k. unseats_may v c n.right.node S v;
-        come = λ n k m x at old is_old. comings_may v c t n k.is_named.is_header m x at S v ours old;
+        stay = λ n k. words_may S v n k ours [] tt;
+        away = λ n k q e. words_may S v n k ours _ (goes_may (stored n.right.node v) (stored_coherent v c n) q (not_boot_there v c n q e) S v);
+        unseat = λ n k. words_may S v n k ours _ (unseats_may (stored n.right.node v) (stored_coherent v c n) n.right.node S v);
+        come = λ n k m x at old is_old. words_may S v n k ours (comings_of n m old x) (comings_may (stored n.right.node v) (stored_coherent v c n) t n (like v n k).there m x at S v ours old);
       });
       same = λ S v w c a ours. answered_same _ _ _ _ (setter_same a ours (is_some box)) (λ n is. half_same c a ours n (setter v (is_some box) n is) (sets_nothing f));
       plain = λ w. answered_plain _ _ (setter_plain w (is_some box)) (λ n is. half_plain w n (sets_nothing f));
     }
+      where
+        words_may : (S : ℕ → Bool) (v : World) (n : Named) → Owner t p v n → S t ≡ true → (cs : List Change) → AllMay S v (stored n.right.node v) cs → AllMay S v v (storing f n.right.node words ++ cs)
+        words_may S v n k ours cs h = storing_may n.right.node words S v v n.header k.is_named.is_header (owner_holds S v n (owner_right t p ours n k) k.owned) sets cs h
+
+-- file_get_translator: what it asks is the same in worlds that agree, whose header the caller sees
+
+pub get_translator_laws : (t p : ℕ) → CallLaws t (λ w. plan_get_translator w t p) (λ w. touches_get_translator w t p)
+get_translator_laws t p =
+    looking_laws t (λ w. stored_asks w t p) Words
+    (λ S v w a ours. first_same _ _ _ _ (port_same a t ours p) (λ n is. refl))
+    (λ w. first_plain _ _ (port_plain w t p) (λ n is. on_plain _ _ _ refl (λ words e. ok_plain words)))
+    (λ words. refl)

@@ -8,7 +8,7 @@ ghost use Rattle.hurd_machine.specs.World.{sets_attrs_at, words_at};
 ghost use Rattle.hurd_machine.specs.Change.{apply_all};
 ghost use Rattle.hurd_machine.specs.Handle.{Named};
 ghost use Rattle.hurd_machine.specs.Plan.{Follows, Planned, told};
-ghost use Rattle.hurd_machine.specs.declared.call.Reply.TheVariants.{Done, Words};
+ghost use Rattle.hurd_machine.specs.declared.call.Reply.TheVariants as reply;
 ghost use Rattle.hurd_core.specs.Core.{Does, attaching, naming_asks, without_box, world_of};
 ghost use Rattle.hurd_core.specs.PortNode.{named};
 ghost use Rattle.hurd_fsys.specs.Setting.{emptying, is_excluded, leaver, may_replace, plan_get_translator, plan_set_translator, root_mode, seat_asks, server_ids, sets_nothing, setter_asks, storing, with_search};
@@ -58,19 +58,20 @@ pub fn file_set_translator<S: Server>(
 ) -> Result<(), (Errno, Option<S>)>
     requires { IfSome server (λ s. Begins (S.meaning s)) }
     ensures planned { let w = world_of S.meaning core.old in
-        Planned w (plan_set_translator w task.0 port setting words.entry (option_map S.meaning server)) (λ u. Done) (without_box result) (world_of S.meaning core.new) }
+        Planned w (plan_set_translator w task.0 port setting words (option_map S.meaning server)) (λ u. reply.Done) (without_box result) (world_of S.meaning core.new) }
     ensures free { let w = world_of S.meaning core.old in
-        IsNone server → Follows w (plan_set_translator w task.0 port setting words.entry (option_map S.meaning server)) (told (λ u. Done) (without_box result)) (world_of S.meaning core.new) }
+        IsNone server → Follows w (plan_set_translator w task.0 port setting words (option_map S.meaning server)) (told (λ u. reply.Done) (without_box result)) (world_of S.meaning core.new) }
     ensures back { IfErr result (λ e. e.1 ≡ server) }
 {
-    let (node, attrs, has_words) = match setter(core, task, port, setting, server.is_some()) {
-        Ok(named) => (named.right.node, named.attrs, named.words.is_some()),
+    let (node, attrs) = match setter(core, task, port, setting, server.is_some()) {
+        Ok(named) => (named.right.node, named.attrs),
         Err(errno) => return Err((errno, server)),
     };
     if sets_nothing(setting) {
         return Ok(());
     }
-    let old = match old_server(core, node, has_words, setting) {
+    let is_stored = core.passive(node).is_some();
+    let old = match old_server(core, node, is_stored, setting) {
         Ok(old) => old,
         Err(errno) => return Err((errno, server)),
     };
@@ -123,16 +124,16 @@ fn setter<S: Server>(
 fn old_server<S: Server>(
     core: &Core<S>,
     node: NodeName,
-    has_words: bool,
+    is_stored: bool,
     setting: Setting,
 ) -> Result<Option<ServerName>, Errno>
-    ensures { (n : Named) → n.right.node ≡ node → has_words n.header.passive ≡ has_words → result ≡ seat_asks (world_of S.meaning core.now) setting n }
+    ensures { (n : Named) → n.right.node ≡ node → has_words n.header.passive ≡ is_stored → result ≡ seat_asks (world_of S.meaning core.now) setting n }
 {
     if !core.keeps_tree(node) || core.is_root(node) {
         return Err(Errno::EOPNOTSUPP);
     }
     let old = core.active(node);
-    let is_excluded = is_excluded(setting.passive, has_words)
+    let is_excluded = is_excluded(setting.passive, is_stored)
         || is_excluded(setting.active, old.is_some());
     if is_excluded || !may_replace(core, setting, old) {
         return Err(Errno::EBUSY);
@@ -246,10 +247,10 @@ pub fn file_get_translator<S: Server>(
     task: TaskId,
     port: u64,
 ) -> Result<Words, Errno>
-    ensures { let w = world_of S.meaning core.now in Planned w (plan_get_translator w task.0 port) Words result w }
+    ensures { let w = world_of S.meaning core.now in Planned w (plan_get_translator w task.0 port) reply.Words result w }
 {
     let found = core.port_node(task, port)?;
-    let Some(words) = found.words else {
+    let Some(words) = core.passive(found.right.node) else {
         return Err(Errno::EINVAL);
     };
     Ok(words.copied(alloc)?)

@@ -1,0 +1,168 @@
+-- The words of a passive translator stored with a node, or not: a piece of a call, the world that it leaves, and that the old words make it what it was.
+use Rattle.std.proofs.Common.{◌≡◌, ◌≢◌, ◌⊎◌, ◌∙◌, ℕ, Bool, true, false, if◌then◌else◌, List, [], ◌∷◌, ◌++◌, Option, Some, None, refl, sym, ap, inl, inr}
+use Rattle.std.specs.Prelude.{Result, Ok, Err, is_some}
+use Rattle.std.specs.Option.{option_map}
+use Rattle.std.specs.FinMap.{get}
+use Rattle.hurd_creds.specs.declared.name.Name.{Name}
+use Rattle.hurd_creds.specs.declared.errno.Errno.{Errno}
+use Rattle.hurd_creds.specs.declared.errno.Errno.TheVariants.{EINVAL}
+use Rattle.hurd_creds.specs.NameMaps.{NameMap, edit}
+use Rattle.hurd_creds.proofs.NameLaws.{same_map_by, same_or_apart, edit_here, edit_apart}
+use Rattle.hurd_trans_iface.specs.Nodes.{Header, Node, NodeMap, has_words, passive_of, some_words, with_header, with_passive}
+use Rattle.hurd_nodes.specs.Shown.{ServerInfo, set_attrs_by, tree_by}
+use Rattle.hurd_ports.specs.Tables.{Task}
+use Rattle.hurd_machine.specs.World.{World, header_at, info_at, node_at, sets_attrs_at, words_at, words_in}
+use Rattle.hurd_machine.specs.Change.{Change, EditHeader, apply_all}
+use Rattle.hurd_machine.specs.Plan.{on, first}
+use Rattle.hurd_machine.specs.Handle.{Named, port_asks}
+use Rattle.hurd_machine.specs.Sight.{Part, AttrOf, EmptyOf, BodyOf, OptionsOf, UsersOf, OwnsIt, Owns}
+use Rattle.hurd_machine.specs.Touched.{Goes}
+use Rattle.hurd_machine.proofs.Asks.{is_named}
+use Rattle.hurd_machine.proofs.Nodes.{header_in, header-with_header, edit_keeps, edit_reads}
+use Rattle.hurd_machine.proofs.Coherence.{AllProper}
+use Rattle.hurd_machine.proofs.Settle.{Rests, rests_quiet}
+use Rattle.hurd_machine.proofs.Frame.{AllWithin}
+use Rattle.hurd_machine.proofs.Links.{KeepsLinked, linked_steady}
+use Rattle.hurd_machine.proofs.Sizes.{KeepsSized, sized_header}
+use Rattle.hurd_machine.proofs.Confine.{Less}
+use Rattle.hurd_machine.proofs.Several.{AllMay}
+use Rattle.hurd_core.specs.Core.{naming_asks}
+use Rattle.hurd_fsys.specs.Setting.{stored_asks}
+
+-- a world like another, but for the headers of its nodes; this node is there
+pub record IsLike (w v : World) (n : Name) : Type 0 where
+  pub homes : v.homes ≡ w.homes
+  pub actives : v.actives ≡ w.actives
+  pub tasks : v.tasks ≡ w.tasks
+  pub there : (h : Header) × (header_at v n ≡ Some h)
+
+-- the same goes with a server
+pub goes_like : (w v : World) (n : Name) → IsLike w v n → (q : Name) (p : Part) → Goes v q p → Goes w q p
+goes_like w v n k q (AttrOf m) (inl e) = inl (ap (λ (h : NameMap Name). get h m) (sym k.homes) ∙ e)
+goes_like w v n k q (AttrOf m) (inr e) = inr (ap (λ (h : NameMap Name). get h m) (sym k.actives) ∙ e)
+goes_like w v n k q (EmptyOf m) e = ap (λ (h : NameMap Name). get h m) (sym k.homes) ∙ e
+goes_like w v n k q (BodyOf m) e = ap (λ (h : NameMap Name). get h m) (sym k.homes) ∙ e
+goes_like w v n k q (OptionsOf s) e = e
+goes_like w v n k q (UsersOf s) e = e
+goes_like w v n k q _ e = absurd e
+
+module _ (n : Name) (words : List (List ℕ)) where
+  abbrev pub storing_if : Bool → List Change
+  storing_if b = if b then EditHeader n (with_passive words) ∷ [] else []
+
+  pub storing_like : (b : Bool) (w : World) (h : Header) → header_at w n ≡ Some h → IsLike w (apply_all (storing_if b) w) n
+  storing_like true w h at = record {
+    homes = refl;
+    actives = refl;
+    tasks = refl;
+    there = (with_passive words h, edit_reads header_in (option_map (with_passive words)) (with_header (with_passive words)) (header-with_header (with_passive words)) w.nodes n ∙ ap (option_map (with_passive words)) at);
+  }
+  storing_like false w h at = record { homes = refl; actives = refl; tasks = refl; there = (h, at) }
+
+  -- a task has as many names left
+  pub storing_names : (b : Bool) (w : World) (t k : ℕ) → naming_asks (apply_all (storing_if b) w) t k ≡ naming_asks w t k
+  storing_names true w t k = refl
+  storing_names false w t k = refl
+
+  pub storing_within : (T : Part → Type 0) (b : Bool) (w : World) → T (AttrOf n) → AllWithin T w (storing_if b)
+  storing_within T true w attr = (attr, tt)
+  storing_within T false w attr = tt
+
+  pub storing_proper : (b : Bool) (w : World) → AllProper w (storing_if b)
+  storing_proper true w = (λ h is. (refl, inl refl), λ one. tt)
+  storing_proper false w = tt
+
+  pub storing_rests : (b : Bool) (w : World) → Rests w (storing_if b)
+  storing_rests true w = rests_quiet (storing_if true) w (λ h e. e, tt)
+  storing_rests false w = λ rest. rest
+
+  pub storing_linked : (b : Bool) (w : World) → KeepsLinked w (storing_if b)
+  storing_linked true w = linked_steady (storing_if true) w (λ h. (refl, refl, refl), tt)
+  storing_linked false w = λ l. l
+
+  pub storing_sized : (b : Bool) (w : World) → KeepsSized w (storing_if b)
+  storing_sized true w = sized_header w n (with_passive words) (λ h. refl)
+  storing_sized false w = λ fit. fit
+
+  -- whoever holds the owner's uid, or 0, could do all with the node before; then follows what may be done in the world that is left
+  pub storing_may : (S : ℕ → Bool) (v x : World) (h : Header) → header_at x n ≡ Some h → OwnsIt S v h → (b : Bool) (cs : List Change) → AllMay S v (apply_all (storing_if b) x) cs → AllMay S v x (storing_if b ++ cs)
+  storing_may S v x h at o true cs rest = (λ k there. less k (cc (at, there)), rest)
+    where
+      less : (k : Header) → h ≡ k → Less S v n (with_passive words k) k
+      less k same = rw (← same) (record { kind = refl; parent = λ p e. inl e; could = λ want c. Owns o.0 o.1 o.2; owns = λ z. o })
+  storing_may S v x h at o false cs rest = rest
+
+  -- whether attributes may be set stays
+  pub storing_sets : (b : Bool) (w : World) (m : Name) → sets_attrs_at (apply_all (storing_if b) w) m ≡ sets_attrs_at w m
+  storing_sets true w m = edit_keeps (set_attrs_by (info_at w m)) (with_header (with_passive words)) (still (info_at w m)) w.nodes n m
+    where
+      still : (i : Option ServerInfo) (o : Option Node) → set_attrs_by i (option_map (with_header (with_passive words)) o) ≡ set_attrs_by i o
+      still None o = refl
+      still (Some i) None = refl
+      still (Some i) (Some x) = refl
+  storing_sets false w m = refl
+
+  -- with the old words again the world is what it was
+  pub storing_back : (b : Bool) (w : World) → apply_all (if b then EditHeader n (with_passive (words_at w n)) ∷ [] else []) (apply_all (storing_if b) w) ≡ w
+  storing_back true w = ap (λ (m : NodeMap). record w { nodes = m }) (same_map_by _ _ (λ q. go q (same_or_apart q n)))
+    where
+      again : Node → Node
+      again = with_header (with_passive (words_at w n))
+
+      other : Node → Node
+      other = with_header (with_passive words)
+
+      whole : (o : Option Node) → option_map (with_header (with_passive (words_in o))) (option_map other o) ≡ o
+      whole None = refl
+      whole (Some x) = refl
+
+      go : (q : Name) → (q ≡ n) ⊎ (q ≢ n) → get (edit n again (edit n other w.nodes)) q ≡ get w.nodes q
+      go q (inl e) = rw e (edit_here (edit n other w.nodes) n again ∙ ap (option_map again) (edit_here w.nodes n other) ∙ whole (get w.nodes n))
+      go q (inr a) = edit_apart (edit n other w.nodes) n again q a ∙ edit_apart w.nodes n other q a
+  storing_back false w = refl
+
+-- of a node that is there, whose server keeps a tree, attributes may be set
+pub tree_sets : (w : World) (n : Name) (h : Header) → header_at w n ≡ Some h → tree_by (info_at w n) ≡ true → sets_attrs_at w n ≡ Ok tt
+tree_sets w n h at tree = go (info_at w n) (get w.nodes n) tree at
+  where
+    go : (i : Option ServerInfo) (o : Option Node) → tree_by i ≡ true → header_in o ≡ Some h → set_attrs_by i o ≡ Ok tt
+    go None o t e = absurd (cc)
+    go (Some i) None t e = absurd (cc)
+    go (Some i) (Some x) t e = rw t refl
+
+-- whether a node that is there has words stored, as the core tells it
+pub words_told : (w : World) (n : Name) (h : Header) → header_at w n ≡ Some h → passive_of (node_at w n) ≡ some_words h.passive
+words_told w n h at = go (get w.nodes n) at
+  where
+    go : (o : Option Node) → header_in o ≡ Some h → passive_of o ≡ some_words h.passive
+    go None e = absurd (cc)
+    go (Some x) e = let same : x.header ≡ h = cc in ap (λ (k : Header). some_words k.passive) same
+
+pub some_has : (words : List (List ℕ)) → is_some (some_words words) ≡ has_words words
+some_has [] = refl
+some_has (w ∷ ws) = refl
+
+-- what file_get_translator asks
+
+module _ (w : World) (t p : ℕ) where
+  pub stored_refused : (e : Errno) → port_asks w t p ≡ Err e → stored_asks w t p ≡ Err e
+  unfolding first
+  stored_refused e is = ap (λ (r : Result Named Errno). first r (λ n. on EINVAL (some_words n.header.passive) (λ words. Ok words))) is
+
+  module _ (n : Named) (is : port_asks w t p ≡ Ok n) where
+    told : passive_of (node_at w n.right.node) ≡ some_words n.header.passive
+    told = words_told w n.right.node n.header (is_named w t p n is).is_header
+
+    asks_words : (o : Option (List (List ℕ))) → passive_of (node_at w n.right.node) ≡ o → stored_asks w t p ≡ on EINVAL o (λ words. Ok words)
+    unfolding first
+    asks_words o e =
+        ap (λ (r : Result Named Errno). first r (λ n. on EINVAL (some_words n.header.passive) (λ words. Ok words))) is
+        ∙ ap (λ (o : Option (List (List ℕ))). on EINVAL o (λ words. Ok words)) (sym told ∙ e)
+
+    pub stored_none : passive_of (node_at w n.right.node) ≡ None → stored_asks w t p ≡ Err EINVAL
+    unfolding on
+    stored_none e = asks_words None e
+
+    pub stored_some : (words : List (List ℕ)) → passive_of (node_at w n.right.node) ≡ Some words → stored_asks w t p ≡ Ok words
+    unfolding on
+    stored_some words e = asks_words (Some words) e
