@@ -226,7 +226,9 @@ pub enum Lookup {
     },
     /// A translator that is to be started first, by these words: from now on that is what the task is to start. (In the Hurd the
     /// server that has the node starts it.)
-    Start { words: Words },
+    Start {
+        words: Words,
+    },
 }
 
 /// What a call is told.

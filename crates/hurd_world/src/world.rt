@@ -178,9 +178,7 @@ impl<S: Server> World<S> {
             Call::FileGetTranslatorCntl { port } => {
                 replies::port(fsys::file_get_translator_cntl(core, task, port))
             }
-            Call::FileGetcontrol { port } => replies::port(fsys::file_getcontrol(
-                core, task, port,
-            )),
+            Call::FileGetcontrol { port } => replies::port(fsys::file_getcontrol(core, task, port)),
             Call::FsysStartup { server } => replies::started(starting::fsys_startup(
                 core, alloc, task, server,
             )),
