@@ -1,16 +1,19 @@
 -- Servers of one node that nothing changes are good.
-use Rattle.std.proofs.Common.{◌≡◌, ℕ, false, List, nat_lt, refl, sym, ◌∙◌, true≢false}
-use Rattle.std.specs.Prelude.{None}
+use Rattle.std.proofs.Common.{◌≡◌, ℕ, false, List, [], nat_lt, refl, sym, ◌∙◌, true≢false}
+use Rattle.std.specs.Prelude.{Some, None, Ok, Err}
+use Rattle.hurd_creds.specs.declared.errno.Errno.{Errno}
+use Rattle.hurd_creds.specs.Memory.{is_no_memory}
 use Rattle.hurd_trans_iface.specs.Nodes.{Body, Node}
 use Rattle.hurd_trans_iface.specs.Answers.{is_tree}
 use Rattle.hurd_trans_iface.specs.Behaviour.{Did, Behaviour, Question, reading, writing, resizing}
-use Rattle.hurd_trans_iface.specs.Good.{GoodBehaviour, IsBlind, KeepsSizes}
+use Rattle.hurd_trans_iface.specs.Good.{GoodBehaviour, IsBlind, KeepsRoot, KeepsSizes}
 use Rattle.hurd_trans_iface.specs.TmpfsKind.{most_bytes}
 use Rattle.hurd_trans_iface.specs.HelloKind.{hello}
 use Rattle.hurd_trans_iface.specs.NullKind.{null}
 use Rattle.hurd_trans_iface.specs.ZeroKind.{zeros}
 use Rattle.hurd_trans_iface.specs.SymlinkKind.{symlink}
-use Rattle.hurd_trans_iface.proofs.Goodness.{IsFine, fine_done, fine_refused, fine_if}
+use Rattle.hurd_trans_iface.proofs.Goodness.{IsFine, fine_done, fine_refused, fine_if, no-options-text, no-options-plain}
+use Rattle.hurd_trans_iface.proofs.Options.{hello-options-plain}
 
 -- an answer that leaves the node as it is
 abbrev Leaves : {T : Type 0} → Did T → Type 0
@@ -26,6 +29,9 @@ record IsStill (b : Behaviour) : Type 0 where
   set_size : (size : ℕ) (text : List ℕ) (x : Node) → IsFine Leaves (b.set_size text x size)
   write_blind : (at : ℕ) (bs : List ℕ) → IsBlind b (writing at bs)
   set_size_blind : (size : ℕ) → IsBlind b (resizing size)
+  no_words : b.set_options [] ≡ Ok None
+  options_root : (ws : List (List ℕ)) (new : List ℕ) → b.set_options ws ≡ Ok (Some new) → KeepsRoot b new
+  options_plain : (ws : List (List ℕ)) (e : Errno) → b.set_options ws ≡ Err e → is_no_memory e ≡ false
 
 -- an answer that leaves the node as it is leaves its size right
 still_sized : {T : Type 0} (b : Behaviour) (q : Question T) → ((text : List ℕ) (x : Node) → IsFine Leaves (q b text x)) → KeepsSizes b q
@@ -42,6 +48,9 @@ good_still b s = record {
   newborn = λ is text dir new x made. absurd (true≢false (sym is ∙ s.treeless));
   write_blind = s.write_blind;
   set_size_blind = s.set_size_blind;
+  no_words = s.no_words;
+  options_root = s.options_root;
+  options_plain = s.options_plain;
   read_plain = λ at amount text x e is. fine_refused Leaves (b.read text x at amount) e (s.read at amount text x) is;
   write_plain = λ at bs text x e is. fine_refused Leaves (b.write text x at bs) e (s.write at bs text x) is;
   set_size_plain = λ size text x e is. fine_refused Leaves (b.set_size text x size) e (s.set_size size text x) is;
@@ -57,6 +66,9 @@ hello_good = good_still hello (record {
   set_size = λ size text x. fine_if Leaves (nat_lt most_bytes size) _ _ (λ long. refl) (λ short. refl);
   write_blind = λ at bs text h c e. refl;
   set_size_blind = λ size text h c e. refl;
+  no_words = refl;
+  options_root = λ ws new is. record { lone = refl; rooted = λ text. refl; sized = λ c. refl };
+  options_plain = hello-options-plain;
 })
 
 pub null_good : GoodBehaviour null
@@ -69,6 +81,9 @@ null_good = good_still null (record {
   set_size = λ size text x. fine_if Leaves (nat_lt most_bytes size) _ _ (λ long. refl) (λ short. (refl, refl));
   write_blind = λ at bs text h c e. refl;
   set_size_blind = λ size text h c e. refl;
+  no_words = refl;
+  options_root = λ ws new is. absurd (no-options-text ws new is);
+  options_plain = no-options-plain;
 })
 
 pub zeros_good : GoodBehaviour zeros
@@ -81,6 +96,9 @@ zeros_good = good_still zeros (record {
   set_size = λ size text x. fine_if Leaves (nat_lt most_bytes size) _ _ (λ long. refl) (λ short. (refl, refl));
   write_blind = λ at bs text h c e. refl;
   set_size_blind = λ size text h c e. refl;
+  no_words = refl;
+  options_root = λ ws new is. absurd (no-options-text ws new is);
+  options_plain = no-options-plain;
 })
 
 pub symlink_good : GoodBehaviour symlink
@@ -93,4 +111,7 @@ symlink_good = good_still symlink (record {
   set_size = λ size text x. fine_if Leaves (nat_lt most_bytes size) _ _ (λ long. refl) (λ short. refl);
   write_blind = λ at bs text h c e. refl;
   set_size_blind = λ size text h c e. refl;
+  no_words = refl;
+  options_root = λ ws new is. absurd (no-options-text ws new is);
+  options_plain = no-options-plain;
 })

@@ -1,10 +1,19 @@
 -- The words that a server says of itself make it again.
-use Rattle.std.proofs.Common.{◌≡◌, inl, inr, ◌&&◌, Bool, true, false, cond, if◌then◌else◌, List, ℕ, [], ◌∷◌, length, nat_le, refl, subst}
-use Rattle.std.specs.Prelude.{Option, Some, None}
+use Rattle.std.proofs.Common.{◌≡◌, ◌≤◌, ◌+◌, ◌-◌, inl, inr, ◌&&◌, Bool, true, false, cond, if◌then◌else◌, List, ℕ, [], ◌∷◌, ◌++◌, length, nat_le, codes, slice_get, refl, subst, arith}
+use Rattle.std.proofs.lemmas.Bool.Decides.{nat_tests}
+use Rattle.std.proofs.lemmas.List.{length-append}
+use Rattle.std.specs.Prelude.{Option, Some, None, Result, Ok, Err}
+use Rattle.std.specs.List.{list_all}
+use Rattle.hurd_creds.specs.declared.errno.Errno.{Errno}
+use Rattle.hurd_creds.specs.declared.errno.Errno.TheVariants.{EINVAL}
+use Rattle.hurd_creds.specs.Memory.{is_no_memory}
 use Rattle.std.specs.Option.{option_map}
 use Rattle.std.specs.Str.{bytes_eq}
 use Rattle.hurd_trans_iface.specs.Meaning.{Meaning, ServerKind, Tmpfs, Hello, Null, Zero, Symlink, all_kinds, begin, begin_among, begin_as, behaviour_of, new_server, options_of}
+use Rattle.hurd_trans_iface.specs.HelloKind.{behind, most_text, says_text, short_text, text_in, hello_options}
 use Rattle.hurd_trans_iface.specs.SymlinkKind.{most_path}
+use Rattle.hurd_trans_iface.specs.Words.{IsWithinLimits}
+use Rattle.hurd_trans_iface.proofs.Goodness.{no-options-text}
 use Rattle.hurd_trans_iface.proofs.Beginnings.{first_or}
 
 abbrev Remakes : Meaning → Type 0
@@ -50,3 +59,58 @@ again_among (k ∷ ks) ws m h =
 
 pub begun-again : (ws : List (List ℕ)) (m : Meaning) → begin ws ≡ Some m → begin (options_of m.kind m.text) ≡ Some m
 begun-again ws m h = again_among all_kinds ws m h
+
+-- options that are taken
+
+pub two-within : (v w : List ℕ) → length v + length w ≤ 4096 → IsWithinLimits (v ∷ w ∷ [])
+two-within v w fits = let few : nat_le (0 + length v + length w) 4096 ≡ true = grind (arith, nat_tests) in few
+
+pub hello-within : (text : List ℕ) → length text ≤ most_text → IsWithinLimits (options_of Hello text)
+hello-within text short =
+    let long = length-append (codes "--contents=") text in
+    two-within (codes "/hurd/hello") (codes "--contents=" ++ text) (omega (arith, long))
+
+-- a text that is no longer than words can say, or a refusal that isn't want of memory
+abbrev IsShort : Result (Option (List ℕ)) Errno → Type 0
+IsShort (Ok None) = Unit {0}
+IsShort (Ok (Some text)) = length text ≤ most_text
+IsShort (Err e) = is_no_memory e ≡ false
+
+short-if : (text : List ℕ) (b : Bool) → nat_le (length text) most_text ≡ b → IsShort (if b then Ok (Some text) else Err EINVAL)
+short-if text true is = let short : length text ≤ most_text = grind (arith, nat_tests) in short
+short-if text false is = refl
+
+short-said : (o : Option (List ℕ)) → IsShort (short_text o)
+short-said None = refl
+short-said (Some text) = short-if text (nat_le (length text) most_text) refl
+
+short-in : (o : Option (List ℕ)) → IsShort (text_in o)
+short-in None = tt
+short-in (Some w) = short-said (behind (codes "--contents=") w)
+
+short-all : (b : Bool) (r : Result (Option (List ℕ)) Errno) → IsShort r → IsShort (if b then r else Err EINVAL)
+short-all true r short = short
+short-all false r short = refl
+
+hello-short : (ws : List (List ℕ)) → IsShort (hello_options ws)
+hello-short ws = let last = slice_get ws (length ws - 1) in short-all (list_all says_text ws) (text_in last) (short-in last)
+
+pub hello-options-plain : (ws : List (List ℕ)) (e : Errno) → hello_options ws ≡ Err e → is_no_memory e ≡ false
+hello-options-plain ws e is = subst IsShort is (hello-short ws)
+
+pub hello-options-short : (ws : List (List ℕ)) (text : List ℕ) → hello_options ws ≡ Ok (Some text) → length text ≤ most_text
+hello-options-short ws text is = subst IsShort is (hello-short ws)
+
+pub set-again : (k : ServerKind) (ws : List (List ℕ)) (text : List ℕ) → (behaviour_of k).set_options ws ≡ Ok (Some text) → Remakes (new_server k text)
+set-again Tmpfs ws text is = absurd (no-options-text ws text is)
+set-again Hello ws text is = refl
+set-again Null ws text is = absurd (no-options-text ws text is)
+set-again Zero ws text is = absurd (no-options-text ws text is)
+set-again Symlink ws text is = absurd (no-options-text ws text is)
+
+pub set-within : (k : ServerKind) (ws : List (List ℕ)) (text : List ℕ) → (behaviour_of k).set_options ws ≡ Ok (Some text) → IsWithinLimits (options_of k text)
+set-within Tmpfs ws text is = absurd (no-options-text ws text is)
+set-within Hello ws text is = hello-within text (hello-options-short ws text is)
+set-within Null ws text is = absurd (no-options-text ws text is)
+set-within Zero ws text is = absurd (no-options-text ws text is)
+set-within Symlink ws text is = absurd (no-options-text ws text is)

@@ -11,7 +11,7 @@ use Rattle.hurd_trans_iface.specs.Behaviour.{Did}
 use Rattle.hurd_trans_iface.specs.Good.{GoodBehaviour, IsSized}
 use Rattle.hurd_trans_iface.specs.TmpfsKind.{tmpfs, most_bytes, read_bytes, put_into, write_file, cut_file}
 use Rattle.hurd_trans_iface.proofs.Lengths.{put_grows, put_stays, length-resized}
-use Rattle.hurd_trans_iface.proofs.Goodness.{KeepsSize, IsFine, fine_done, fine_refused, fine_if}
+use Rattle.hurd_trans_iface.proofs.Goodness.{KeepsSize, IsFine, fine_done, fine_refused, fine_if, no-options-text, no-options-plain}
 
 module _ (text : List ℕ) where
   abbrev Keeps : {T : Type 0} → Header → Body → Did T → Type 0
@@ -72,6 +72,9 @@ tmpfs_good = record {
   newborn = λ is text dir new x. made_sizes text dir new x new.kind;
   write_blind = λ at bs text h c e. refl;
   set_size_blind = λ size text h c e. refl;
+  no_words = refl;
+  options_root = λ ws new is. absurd (no-options-text ws new is);
+  options_plain = no-options-plain;
   read_plain = λ at amount text x e. fine_refused (Keeps text x.header x.body) _ e (reads_well text at amount x.header x.body);
   write_plain = λ at bs text x e. fine_refused (Keeps text x.header x.body) _ e (writes_well text x.header x.body at bs);
   set_size_plain = λ size text x e. fine_refused (Keeps text x.header x.body) _ e (resizes_well text x.header x.body size);

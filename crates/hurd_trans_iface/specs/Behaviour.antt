@@ -28,6 +28,8 @@ pub record Behaviour : Type 0 where
   pub begins : List (List ℕ) → Option (List ℕ)
   -- the program and its words, as they would be given to make a server of this text
   pub options : List ℕ → List (List ℕ)
+  -- the text that these options give it in place of its own, if any
+  pub set_options : List (List ℕ) → Result (Option (List ℕ)) Errno
   -- what its root is, by the text
   pub root : List ℕ → Root
   -- whether it keeps a tree: nodes can be made in its directories

@@ -1,10 +1,10 @@
 -- What the laws need of a kind of server.
-use Rattle.std.specs.Prelude.{◌≡◌, ℕ, true, false, List, Some, Ok, Err}
+use Rattle.std.specs.Prelude.{◌≡◌, ℕ, true, false, List, [], Some, None, Ok, Err}
 use Rattle.hurd_creds.specs.declared.name.Name.{Name}
 use Rattle.hurd_creds.specs.declared.errno.Errno.{Errno}
 use Rattle.hurd_creds.specs.Memory.{is_no_memory}
 use Rattle.hurd_trans_iface.specs.declared.new_node.NewNode.{NewNode}
-use Rattle.hurd_trans_iface.specs.Nodes.{Header, Body, Node, IsShaped, with_entry, without_entry}
+use Rattle.hurd_trans_iface.specs.Nodes.{Header, Body, Content, Node, IsShaped, with_entry, without_entry}
 use Rattle.hurd_trans_iface.specs.Answers.{is_tree, made_node}
 use Rattle.hurd_trans_iface.specs.Behaviour.{Did, Behaviour, Question, reading, writing, resizing, node_left}
 
@@ -27,6 +27,12 @@ IsBlind b q =
 abbrev pub IsPlain : {T : Type 0} → Behaviour → Question T → Type 0
 IsPlain b q = (text : List ℕ) (x : Node) (e : Errno) → q b text x ≡ Err e → is_no_memory e ≡ false
 
+-- what another text leaves as it is: the server keeps no tree, and its root stays what it is, with the size that the text says
+pub record KeepsRoot (b : Behaviour) (new : List ℕ) : Type 0 where
+  pub lone : b.tree ≡ false
+  pub rooted : (text : List ℕ) → b.root text ≡ b.root new
+  pub sized : (c : Body) → b.size new c ≡ b.size new (Content [])
+
 pub record GoodBehaviour (b : Behaviour) : Type 0 where
   -- what its root is tells whether it keeps a tree
   pub rooted : (text : List ℕ) → is_tree (b.root text) ≡ b.tree
@@ -39,6 +45,10 @@ pub record GoodBehaviour (b : Behaviour) : Type 0 where
   pub newborn : b.tree ≡ true → (text : List ℕ) (dir : Name) (new : NewNode) (x : Node) → made_node dir new ≡ Some x → IsSized b text x
   pub write_blind : (at : ℕ) (bs : List ℕ) → IsBlind b (writing at bs)
   pub set_size_blind : (size : ℕ) → IsBlind b (resizing size)
+  -- options without words change nothing
+  pub no_words : b.set_options [] ≡ Ok None
+  pub options_root : (ws : List (List ℕ)) (new : List ℕ) → b.set_options ws ≡ Ok (Some new) → KeepsRoot b new
+  pub options_plain : (ws : List (List ℕ)) (e : Errno) → b.set_options ws ≡ Err e → is_no_memory e ≡ false
   pub read_plain : (at amount : ℕ) → IsPlain b (reading at amount)
   pub write_plain : (at : ℕ) (bs : List ℕ) → IsPlain b (writing at bs)
   pub set_size_plain : (size : ℕ) → IsPlain b (resizing size)

@@ -1,8 +1,10 @@
 -- A file that gives the server's text.
-use Rattle.std.specs.Prelude.{ℕ, ◌-◌, ◌++◌, false, if◌then◌else◌, List, [], ◌∷◌, length, take, drop, nat_lt, codes, Option, Some, None, Err}
+use Rattle.std.specs.Prelude.{ℕ, ◌-◌, ◌++◌, Bool, false, if◌then◌else◌, List, [], ◌∷◌, length, take, drop, nat_lt, nat_le, codes, is_some, slice_get, Option, Some, None, Result, Ok, Err}
+use Rattle.std.specs.List.{list_all}
 use Rattle.std.specs.Str.{bytes_eq}
 use Rattle.hurd_creds.specs.declared.attrs.Kind.TheVariants.{File}
-use Rattle.hurd_creds.specs.declared.errno.Errno.TheVariants.{EOPNOTSUPP, EFBIG}
+use Rattle.hurd_creds.specs.declared.errno.Errno.{Errno}
+use Rattle.hurd_creds.specs.declared.errno.Errno.TheVariants.{EINVAL, EOPNOTSUPP, EFBIG}
 use Rattle.hurd_trans_iface.specs.declared.root.Crossing.TheVariants.{Plain}
 use Rattle.hurd_trans_iface.specs.Behaviour.{Behaviour, only}
 use Rattle.hurd_trans_iface.specs.TmpfsKind.{most_bytes}
@@ -25,11 +27,30 @@ hello_text [] = Some greeting
 hello_text (w ∷ []) = behind (codes "--contents=") w
 hello_text (v ∷ w ∷ ws) = None
 
+-- whether a word says a text
+abbrev pub says_text : List ℕ → Bool
+says_text w = is_some (behind (codes "--contents=") w)
+
+-- a text that words can say
+abbrev pub short_text : Option (List ℕ) → Result (Option (List ℕ)) Errno
+short_text None = Err EINVAL
+short_text (Some text) = if nat_le (length text) most_text then Ok (Some text) else Err EINVAL
+
+-- the text that this word says, if there is a word
+abbrev pub text_in : Option (List ℕ) → Result (Option (List ℕ)) Errno
+text_in None = Ok None
+text_in (Some w) = short_text (behind (codes "--contents=") w)
+
+-- of options that all say a text the last one counts
+abbrev pub hello_options : List (List ℕ) → Result (Option (List ℕ)) Errno
+hello_options ws = if list_all says_text ws then text_in (slice_get ws (length ws - 1)) else Err EINVAL
+
 abbrev pub hello : Behaviour
 hello = record {
   program = codes "/hurd/hello";
   begins = hello_text;
   options = λ text. codes "/hurd/hello" ∷ (codes "--contents=" ++ text) ∷ [];
+  set_options = hello_options;
   root = λ text. record { kind = File; crossing = Plain };
   tree = false;
   stream = false;

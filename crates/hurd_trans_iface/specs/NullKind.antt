@@ -4,13 +4,14 @@ use Rattle.hurd_creds.specs.declared.attrs.Kind.TheVariants.{Char}
 use Rattle.hurd_creds.specs.declared.errno.Errno.TheVariants.{EFBIG}
 use Rattle.hurd_trans_iface.specs.declared.root.Crossing.TheVariants.{Plain}
 use Rattle.hurd_trans_iface.specs.Behaviour.{Behaviour, only}
-use Rattle.hurd_trans_iface.specs.TmpfsKind.{most_bytes, no_text}
+use Rattle.hurd_trans_iface.specs.TmpfsKind.{most_bytes, no_text, no_options}
 
 abbrev pub null : Behaviour
 null = record {
   program = codes "/hurd/null";
   begins = no_text;
   options = λ text. codes "/hurd/null" ∷ [];
+  set_options = no_options;
   root = λ text. record { kind = Char; crossing = Plain };
   tree = false;
   stream = true;

@@ -3,6 +3,7 @@ use Rattle.std.specs.Prelude.{ℕ, ◌==◌, ◌&&◌, Bool, false, if◌then◌
 use Rattle.hurd_creds.specs.declared.attrs.Kind.TheVariants.{Link as LinkNode}
 use Rattle.hurd_trans_iface.specs.declared.root.Crossing.TheVariants.{Link}
 use Rattle.hurd_trans_iface.specs.Behaviour.{Behaviour}
+use Rattle.hurd_trans_iface.specs.TmpfsKind.{no_options}
 use Rattle.hurd_trans_iface.specs.HelloKind.{hello}
 
 -- the most bytes of a path
@@ -24,5 +25,6 @@ symlink = record hello {
   program = codes "/hurd/symlink";
   begins = target_text;
   options = λ text. codes "/hurd/symlink" ∷ text ∷ [];
+  set_options = no_options;
   root = λ text. record { kind = LinkNode; crossing = Link (is_absolute text) };
 }

@@ -1,7 +1,8 @@
 -- A tree of files and directories in memory.
-use Rattle.std.specs.Prelude.{ℕ, ◌+◌, ◌-◌, true, false, if◌then◌else◌, List, [], ◌∷◌, length, take, drop, nat_lt, codes, Option, Some, None, Ok, Err}
+use Rattle.std.specs.Prelude.{ℕ, ◌+◌, ◌-◌, true, false, if◌then◌else◌, List, [], ◌∷◌, length, take, drop, nat_lt, codes, Option, Some, None, Result, Ok, Err}
 use Rattle.hurd_creds.specs.declared.attrs.Kind.TheVariants.{Dir}
-use Rattle.hurd_creds.specs.declared.errno.Errno.TheVariants.{EBADF, EISDIR, EFBIG}
+use Rattle.hurd_creds.specs.declared.errno.Errno.{Errno}
+use Rattle.hurd_creds.specs.declared.errno.Errno.TheVariants.{EBADF, EINVAL, EISDIR, EFBIG}
 use Rattle.hurd_trans_iface.specs.declared.root.Crossing.TheVariants.{Plain}
 use Rattle.hurd_trans_iface.specs.Nodes.{Body, Content, Listing, Header, is_dir, bytes_put, bytes_resized}
 use Rattle.hurd_trans_iface.specs.Behaviour.{Did, Effect, Behaviour, only}
@@ -44,11 +45,17 @@ abbrev pub no_text : List (List ℕ) → Option (List ℕ)
 no_text [] = Some []
 no_text (w ∷ ws) = None
 
+-- options that a kind without any takes: no words, which change nothing
+abbrev pub no_options : List (List ℕ) → Result (Option (List ℕ)) Errno
+no_options [] = Ok None
+no_options (w ∷ ws) = Err EINVAL
+
 abbrev pub tmpfs : Behaviour
 tmpfs = record {
   program = codes "/hurd/tmpfs";
   begins = no_text;
   options = λ text. codes "/hurd/tmpfs" ∷ [];
+  set_options = no_options;
   root = λ text. record { kind = Dir; crossing = Plain };
   tree = true;
   stream = false;

@@ -1,9 +1,10 @@
 //! Which words make a server.
-ghost use Rattle.std.specs.Prelude.{◌≡◌, ℕ, List, Some, codes, is_some};
+ghost use Rattle.std.specs.Prelude.{◌≡◌, ℕ, List, Some, Ok, codes, is_some};
 ghost use Rattle.hurd_trans_iface.specs.HelloKind.{behind, hello_text};
-ghost use Rattle.hurd_trans_iface.specs.Meaning.{Meaning, Tmpfs, Hello, Null, Zero, Symlink, begin, begin_as, options_of};
+ghost use Rattle.hurd_trans_iface.specs.Meaning.{Meaning, ServerKind, Tmpfs, Hello, Null, Zero, Symlink, behaviour_of, begin, begin_as, new_server, options_of};
 ghost use Rattle.hurd_trans_iface.specs.SymlinkKind.{target_text};
 ghost use Rattle.hurd_trans_iface.specs.TmpfsKind.{no_text};
+ghost use Rattle.hurd_trans_iface.specs.Words.{IsWithinLimits};
 
 use hurd_creds::Bytes;
 
@@ -109,4 +110,12 @@ pub fn words_ok(words: &[Bytes]) -> bool
 /// The words that a server says of itself make it again, as it was when it began.
 pub fn options_begin()
     ensures { (words : List (List ℕ)) (m : Meaning) → begin words ≡ Some m → begin (options_of m.kind m.text) ≡ Some m }
+{}
+
+/// Options that a server takes are words, and they make it again with its new text.
+pub fn options_set()
+    ensures begin { (kind : ServerKind) (words : List (List ℕ)) (text : List ℕ)
+        → (behaviour_of kind).set_options words ≡ Ok (Some text) → begin (options_of kind text) ≡ Some (new_server kind text) }
+    ensures within { (kind : ServerKind) (words : List (List ℕ)) (text : List ℕ)
+        → (behaviour_of kind).set_options words ≡ Ok (Some text) → IsWithinLimits (options_of kind text) }
 {}

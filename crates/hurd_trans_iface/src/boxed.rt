@@ -23,6 +23,10 @@ impl Server for Box<dyn Server> {
         (**self).options(alloc)
     }
 
+    fn set_options(&mut self, alloc: Global, words: &Words) -> Result<(), Errno> {
+        (**self).set_options(alloc, words)
+    }
+
     fn attrs(&self, node: NodeName) -> Option<Attrs> {
         (**self).attrs(node)
     }

@@ -1,12 +1,12 @@
 //! The trait of servers.
-ghost use Rattle.std.specs.Prelude.{◌≡◌, None, Ok, option_copied};
+ghost use Rattle.std.specs.Prelude.{◌≡◌, [], None, Ok, option_copied};
 ghost use Rattle.std.specs.Option.{option_map};
 ghost use Rattle.std.specs.FinMap as fin;
 ghost use Rattle.hurd_creds.specs.Memory.{Meets, Steps};
 ghost use Rattle.hurd_trans_iface.specs.Nodes.{attrs_of, body_of, passive_of};
 ghost use Rattle.hurd_trans_iface.specs.Answers.{entry_of, names_of};
 ghost use Rattle.hurd_trans_iface.specs.Behaviour.{reading, writing, resizing};
-ghost use Rattle.hurd_trans_iface.specs.Meaning.{Meaning, root_of, options_of, begin_root_after, step_of, make_step, make_nameless_step, link_step, unlink_step, rename_step, set_attrs_step, set_passive_step, opened_after, forget_after, readable_of};
+ghost use Rattle.hurd_trans_iface.specs.Meaning.{Meaning, root_of, options_of, begin_root_after, step_of, set_options_step, make_step, make_nameless_step, link_step, unlink_step, rename_step, set_attrs_step, set_passive_step, opened_after, forget_after, readable_of};
 
 use crate::names::Names;
 use crate::new_node::NewNode;
@@ -36,6 +36,13 @@ pub trait Server: Drop {
     /// Errors: `ENOMEM`.
     fn options(&self, alloc: Global) -> Result<Words, Errno>
         ensures { Meets (Ok (options_of (meaning self.now).kind (meaning self.now).text)) result };
+
+    /// Takes other options in place of those that it has (`fsys_set_options`, `fsys.defs`); without words nothing changes, and no memory is taken.
+    ///
+    /// Errors, in order: `EINVAL` words that this kind doesn't take, or options past the limits of words; `ENOMEM`.
+    fn set_options(&mut self, alloc: Global, words: &Words) -> Result<(), Errno>
+        ensures steps { Steps (meaning self.old) (set_options_step words.now (meaning self.old)) result (meaning self.new) }
+        ensures no_words { words.now ≡ [] → result ≡ Ok tt };
 
     /// The attributes of a node, if the server has it.
     fn attrs(&self, node: NodeName) -> Option<Attrs>
