@@ -143,7 +143,7 @@ module _ (t p : ℕ) (flags : OpenFlags) (mode : Mode) where
         nameless_within w t m.0 k.is_task m.1 k.server.info k.is_server (file a.1) (file_nameless a.1) a.0.right.ids a.0.right.parents modes (λ q. q ≡ UsersOf m.1) refl));
     proper = λ w s. answered_proper w _ _ (λ a is. answered_proper w _ _ (λ m may.
         let k = makes_file w t a.1.dir m may in
-        nameless_proper w t m.0 k.is_task m.1 k.server.info k.is_server (file a.1) (file_nameless a.1) a.0.right.ids a.0.right.parents modes s.coherent (ways_given w t p a.0.right (file_made_by w a is).is_port.is_right s.coherent)));
+        nameless_proper w t m.0 k.is_task m.1 k.server.info k.is_server (file a.1) (file_nameless a.1) a.0.right.ids a.0.right.parents modes s.coherent k.server.tree (ways_given w t p a.0.right (file_made_by w a is).is_port.is_right s.coherent)));
     linked = λ w s. answered_linked w _ _ s.linked (λ a is. answered_linked w _ _ s.linked (λ m may.
         let k = makes_file w t a.1.dir m may in
         nameless_linked w t m.0 k.is_task m.1 k.server.info k.is_server (file a.1) (file_nameless a.1) a.0.right.ids a.0.right.parents modes s.coherent s.linked));

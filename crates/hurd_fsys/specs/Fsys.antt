@@ -1,5 +1,5 @@
--- Sending servers away, getting control of them, and asking how they were made.
-use Rattle.std.specs.Prelude.{◌==◌, ◌||◌, ◌&&◌, not, ℕ, Bool, false, List, [], ◌∷◌, Option, Some, None, Result, Ok}
+-- Sending servers away, getting control of them, and their options: asked for, and given.
+use Rattle.std.specs.Prelude.{◌≡◌, ◌⊎◌, ◌==◌, ◌||◌, ◌&&◌, not, ℕ, Bool, false, List, [], ◌∷◌, Option, Some, None, Result, Ok}
 use Rattle.hurd_creds.specs.declared.name.Name.{Name}
 use Rattle.hurd_creds.specs.declared.errno.Errno.{Errno}
 use Rattle.hurd_creds.specs.declared.errno.Errno.TheVariants.{EBUSY, EDIED, ENXIO, EPERM}
@@ -8,17 +8,19 @@ use Rattle.hurd_creds.specs.Access.{IdSets, holds_uid, is_root, least_uid}
 use Rattle.hurd_creds.specs.Names.{same_name}
 use Rattle.hurd_creds.specs.TransBits.{asks_goaway, FORCE}
 use Rattle.hurd_trans_iface.specs.Meaning.{options_of}
-use Rattle.hurd_nodes.specs.Shown.{boot_name}
+use Rattle.hurd_nodes.specs.Shown.{ServerInfo, boot_name}
 use Rattle.hurd_ports.specs.declared.table.Right.TheVariants.{Control}
 use Rattle.hurd_ports.specs.Steps.{with_port}
 use Rattle.hurd_machine.specs.declared.call.Reply.TheVariants.{Done, Port, Words}
-use Rattle.hurd_machine.specs.World.{World, active_at, home_at, server_at}
+use Rattle.hurd_machine.specs.World.{World, ports_of, active_at, home_at, server_at}
 use Rattle.hurd_machine.specs.Change.{Change, EditTask, DropServer, Settle}
 use Rattle.hurd_machine.specs.Plan.{Plan, on, given, first, answered, looks}
 use Rattle.hurd_machine.specs.Handle.{port_asks}
-use Rattle.hurd_machine.specs.Sight.{Part, users}
+use Rattle.hurd_machine.specs.Sight.{Part, AttrOf, OptionsOf, users}
 use Rattle.hurd_machine.specs.Touched.{asked_parts, Nothing, Goes}
 use Rattle.hurd_core.specs.Core.{room_asks}
+use Rattle.hurd_core.specs.Control as core
+use Rattle.hurd_core.specs.Control.{control_of, plan_options}
 use Rattle.hurd_fsys.specs.Controls.{control_asks}
 use Rattle.hurd_fsys.specs.Owned.{owned_asks}
 
@@ -94,3 +96,15 @@ plan_get_options w t c = looks (options_asks w t c) Words
 
 abbrev pub touches_get_options : World → ℕ → ℕ → Part → Type 0
 touches_get_options w t c = Nothing
+
+-- fsys_set_options: a server that a port controls takes options: EBADF, EDIED, EINVAL
+abbrev pub plan_set_options : World → ℕ → ℕ → List (List ℕ) → Plan
+plan_set_options w t c words = answered (control_of (ports_of w) t c) (λ s. plan_options w s words)
+
+-- the server, and its root's attributes
+abbrev pub options_parts : Name → ServerInfo → Part → Type 0
+options_parts s i p = (p ≡ OptionsOf s) ⊎ (p ≡ AttrOf i.root)
+
+abbrev pub touches_set_options : World → ℕ → ℕ → List (List ℕ) → Part → Type 0
+touches_set_options w t c words =
+    asked_parts (control_of (ports_of w) t c) (λ s. asked_parts (core.options_asks w s words) (λ a. options_parts s a.0))

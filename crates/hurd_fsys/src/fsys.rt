@@ -1,10 +1,10 @@
-//! Sending servers away, getting control of them, and asking how they were made (`fsys.defs`, `fs.defs`).
-ghost use Rattle.std.specs.Prelude.{◌≡◌};
+//! Sending servers away, getting control of them, and their options (`fsys.defs`, `fs.defs`).
+ghost use Rattle.std.specs.Prelude.{◌≡◌, []};
 ghost use Rattle.hurd_machine.specs.Plan.{Follows, Planned, told};
 ghost use Rattle.hurd_machine.specs.declared.call.Reply.TheVariants.{Done, Port};
 ghost use Rattle.hurd_machine.specs.declared.call.Reply.TheVariants as reply;
 ghost use Rattle.hurd_core.specs.Core.{world_of};
-ghost use Rattle.hurd_fsys.specs.Fsys.{goaway_asks, may_control, options_asks, plan_cntl, plan_get_options, plan_getcontrol, plan_goaway, seated_asks, served_asks};
+ghost use Rattle.hurd_fsys.specs.Fsys.{goaway_asks, may_control, options_asks, plan_cntl, plan_get_options, plan_getcontrol, plan_goaway, plan_set_options, seated_asks, served_asks};
 
 use crate::owned::owned;
 use hurd_core::Core;
@@ -145,4 +145,24 @@ pub fn fsys_get_options<S: Server>(
 {
     let server = core.control(task, control)?;
     core.options(alloc, server)
+}
+
+/// Gives options to the server that a port controls. Without words nothing changes, and no memory is taken.
+///
+/// Errors, in order: `ESRCH` no such task, `EBADF` no such port, or one to use a node, `EDIED` the server is gone, `EINVAL` words
+/// that the server doesn't take, `ENOMEM`.
+pub fn fsys_set_options<S: Server>(
+    core: &mut Core<S>,
+    alloc: Global,
+    task: TaskId,
+    control: u64,
+    words: &Words,
+) -> Result<(), Errno>
+    ensures planned { let w = world_of S.meaning core.old in
+        Planned w (plan_set_options w task.0 control words.now) (λ u. Done) result (world_of S.meaning core.new) }
+    ensures free { let w = world_of S.meaning core.old in
+        words.now ≡ [] → Follows w (plan_set_options w task.0 control words.now) (told (λ u. Done) result) (world_of S.meaning core.new) }
+{
+    let server = core.control(task, control)?;
+    core.set_options(alloc, server, words)
 }

@@ -1,7 +1,7 @@
 -- The laws of one step, from those of each call: each call has a line.
 use Rattle.std.proofs.Common.{ℕ, sym}
 use Rattle.hurd_machine.specs.Calls.{Call, box_in}
-use Rattle.hurd_machine.specs.declared.call.Call.TheVariants.{PortDeallocate, PortSend, PortReceive, AuthMakeauth, DirLookup, IoRead, IoWrite, IoSeek, IoStat, IoReadable, IoGetOpenmodes, IoSetAllOpenmodes, IoDuplicate, IoReauthenticate, IoRestrictAuth, IoIdentity, FileSetSize, FileChmod, FileChown, FileCheckAccess, FileSetTranslator, FileGetTranslator, FileGetTranslatorCntl, FileGetcontrol, FsysStartup, StartFailed, FsysGetroot, FsysGoaway, FsysGetOptions, DirReaddir, DirMkdir, DirRmdir, DirUnlink, DirLink, DirMkfile, DirRename}
+use Rattle.hurd_machine.specs.declared.call.Call.TheVariants.{PortDeallocate, PortSend, PortReceive, AuthMakeauth, DirLookup, IoRead, IoWrite, IoSeek, IoStat, IoReadable, IoGetOpenmodes, IoSetAllOpenmodes, IoDuplicate, IoReauthenticate, IoRestrictAuth, IoIdentity, FileSetSize, FileChmod, FileChown, FileCheckAccess, FileSetTranslator, FileGetTranslator, FileGetTranslatorCntl, FileGetcontrol, FsysStartup, StartFailed, FsysGetroot, FsysGoaway, FsysGetOptions, FsysSetOptions, DirReaddir, DirMkdir, DirRmdir, DirUnlink, DirLink, DirMkfile, DirRename}
 use Rattle.hurd_machine.specs.World.{World}
 use Rattle.hurd_machine.specs.Sight.{Part, AttrOf, EmptyOf, BodyOf, OpenOf, OptionsOf, UsersOf, TaskOf}
 use Rattle.hurd_machine.proofs.Frame.{IsUnnamed, gone_kept}
@@ -11,6 +11,7 @@ use Rattle.hurd_rights.proofs.RightsLaws.{deallocate_laws, send_laws, receive_la
 use Rattle.hurd_lookup.proofs.LookupLaws.{lookup_laws}
 use Rattle.hurd_lookup.proofs.GetrootLaws.{getroot_laws}
 use Rattle.hurd_fsys.proofs.FsysLaws.{cntl_laws, getcontrol_laws, goaway_laws, get_options_laws}
+use Rattle.hurd_fsys.proofs.OptionsLaws.{set_options_laws}
 use Rattle.hurd_fsys.proofs.SettingLaws.{set_translator_laws, get_translator_laws}
 use Rattle.hurd_fsys.proofs.StartingLaws.{startup_laws, start_failed_laws}
 use Rattle.hurd_io.proofs.IoLaws.{read_laws, write_laws, stat_laws}
@@ -56,6 +57,7 @@ row_laws t StartFailed = start_failed_laws t
 row_laws t (FsysGetroot c dir flags) = getroot_laws t c dir flags
 row_laws t (FsysGoaway c flags) = goaway_laws t c flags
 row_laws t (FsysGetOptions c) = get_options_laws t c
+row_laws t (FsysSetOptions c words) = set_options_laws t c words
 row_laws t (DirReaddir p) = readdir_laws t p
 row_laws t (DirMkdir p name mode) = mkdir_laws t p name mode
 row_laws t (DirMkfile p flags mode) = mkfile_laws t p flags mode

@@ -1,14 +1,15 @@
 -- One step of the machine: a call of a task. Each call has a line in each of the definitions by cases.
 use Rattle.std.specs.Prelude.{ℕ, Bool, true, false, is_some}
+use Rattle.hurd_trans_iface.specs.Nodes.{has_words}
 use Rattle.hurd_machine.specs.Calls.{Call, Reply, box_in}
-use Rattle.hurd_machine.specs.declared.call.Call.TheVariants.{PortDeallocate, PortSend, PortReceive, AuthMakeauth, DirLookup, IoRead, IoWrite, IoSeek, IoStat, IoReadable, IoGetOpenmodes, IoSetAllOpenmodes, IoDuplicate, IoReauthenticate, IoRestrictAuth, IoIdentity, FileSetSize, FileChmod, FileChown, FileCheckAccess, FileSetTranslator, FileGetTranslator, FileGetTranslatorCntl, FileGetcontrol, FsysStartup, StartFailed, FsysGetroot, FsysGoaway, FsysGetOptions, DirReaddir, DirMkdir, DirRmdir, DirUnlink, DirLink, DirMkfile, DirRename}
+use Rattle.hurd_machine.specs.declared.call.Call.TheVariants.{PortDeallocate, PortSend, PortReceive, AuthMakeauth, DirLookup, IoRead, IoWrite, IoSeek, IoStat, IoReadable, IoGetOpenmodes, IoSetAllOpenmodes, IoDuplicate, IoReauthenticate, IoRestrictAuth, IoIdentity, FileSetSize, FileChmod, FileChown, FileCheckAccess, FileSetTranslator, FileGetTranslator, FileGetTranslatorCntl, FileGetcontrol, FsysStartup, StartFailed, FsysGetroot, FsysGoaway, FsysGetOptions, FsysSetOptions, DirReaddir, DirMkdir, DirRmdir, DirUnlink, DirLink, DirMkfile, DirRename}
 use Rattle.hurd_machine.specs.World.{World}
 use Rattle.hurd_machine.specs.Plan.{Plan, after_plan, returning}
 use Rattle.hurd_machine.specs.Sight.{Part}
 use Rattle.hurd_rights.specs.Rights.{plan_deallocate, touches_deallocate, plan_send, touches_send, plan_receive, touches_receive, plan_makeauth, touches_makeauth}
 use Rattle.hurd_lookup.specs.Lookup.{plan_lookup, touches_lookup}
 use Rattle.hurd_lookup.specs.Getroot.{plan_getroot, touches_getroot}
-use Rattle.hurd_fsys.specs.Fsys.{plan_cntl, touches_cntl, plan_getcontrol, touches_getcontrol, plan_goaway, touches_goaway, plan_get_options, touches_get_options}
+use Rattle.hurd_fsys.specs.Fsys.{plan_cntl, touches_cntl, plan_getcontrol, touches_getcontrol, plan_goaway, touches_goaway, plan_get_options, touches_get_options, plan_set_options, touches_set_options}
 use Rattle.hurd_fsys.specs.Setting.{plan_set_translator, touches_set_translator, plan_get_translator, touches_get_translator}
 use Rattle.hurd_fsys.specs.Starting.{plan_startup, touches_startup, plan_start_failed, touches_start_failed}
 use Rattle.hurd_io.specs.Io.{plan_read, touches_read, plan_write, touches_write, plan_stat, touches_stat}
@@ -53,6 +54,7 @@ row w t StartFailed = plan_start_failed w t
 row w t (FsysGetroot c dir flags) = plan_getroot w t c dir flags
 row w t (FsysGoaway c flags) = plan_goaway w t c flags
 row w t (FsysGetOptions c) = plan_get_options w t c
+row w t (FsysSetOptions c words) = plan_set_options w t c words
 row w t (DirReaddir p) = plan_readdir w t p
 row w t (DirMkdir p name mode) = plan_mkdir w t p name mode
 row w t (DirMkfile p flags mode) = plan_mkfile w t p flags mode
@@ -96,6 +98,7 @@ touches w t StartFailed = touches_start_failed w t
 touches w t (FsysGetroot c dir flags) = touches_getroot w t c dir flags
 touches w t (FsysGoaway c flags) = touches_goaway w t c flags
 touches w t (FsysGetOptions c) = touches_get_options w t c
+touches w t (FsysSetOptions c words) = touches_set_options w t c words
 touches w t (DirReaddir p) = touches_readdir w t p
 touches w t (DirMkdir p name mode) = touches_mkdir w t p name mode
 touches w t (DirMkfile p flags mode) = touches_mkfile w t p flags mode
@@ -120,6 +123,7 @@ takes_memory (FileCheckAccess p) = false
 takes_memory (FileSetTranslator p setting words server) = is_some server
 takes_memory StartFailed = false
 takes_memory (FsysGoaway c flags) = false
+takes_memory (FsysSetOptions c words) = has_words words
 takes_memory (DirRmdir p name) = false
 takes_memory (DirUnlink p name) = false
 takes_memory _ = true

@@ -17,7 +17,7 @@ use Rattle.hurd_ports.specs.Tables.{Task, rights_of}
 use Rattle.hurd_ports.specs.Steps.{named, with_sent, edit_task}
 use Rattle.hurd_machine.specs.World.{World, IsAmong, task_at, open_at, header_at, body_at, home_at, active_at, server_at}
 use Rattle.hurd_machine.specs.Sight.{Holds, HasUid, Taken, SeesBody, BodyOf, OptionsOf, Sees}
-use Rattle.hurd_machine.specs.Change.{Change, EditHeader, EditBody, MakeNode, EditOpen, MakeOpen, EditTask, Send, Attach, DropServer, Unseat, Settle, apply}
+use Rattle.hurd_machine.specs.Change.{Change, EditHeader, EditBody, MakeNode, EditOpen, MakeOpen, EditTask, Send, Attach, DropServer, Unseat, SetText, Settle, with_text, apply}
 use Rattle.hurd_machine.specs.Sound.{Coherent}
 use Rattle.hurd_machine.proofs.Nodes.{header_in, body_in, header-with_header, header-with_body, body-with_header, body-with_body, edit_reads, edit_keeps, edited_from, node_of_header, ByEmptiness}
 use Rattle.hurd_machine.proofs.Tasks.{edit_cases, sent_cases}
@@ -25,6 +25,7 @@ use Rattle.hurd_machine.proofs.Coherence.{right_old, HasNoEntries, IsNext, Comes
 use Rattle.hurd_machine.proofs.Comes.{attach_is, come_world}
 use Rattle.hurd_machine.proofs.Drop as drop
 use Rattle.hurd_machine.proofs.Unseated.{still_active}
+use Rattle.hurd_machine.proofs.Texts.{server_was}
 use Rattle.hurd_machine.proofs.Frame.{IsExact}
 use Rattle.hurd_machine.proofs.Confine.{NewTo, SeenOrNew, Known, Less, Less-refl, Less-trans, IoInside, RightInside, Commands, TakesLess, ServerInside, Inside}
 
@@ -72,6 +73,7 @@ May S v x (Send r q) = RightMay S v x r × (HasUid S v 0 ⊎ IdsMay S v r)  -- t
 May S v x (Attach s at i node) = S s.task.0 ≡ true
 May S v x (DropServer s) = Unit {0}
 May S v x (Unseat n) = Unit {0}
+May S v x (SetText s text) = Unit {0}
 May S v x Settle = Unit {0}
 
 module _ (S : ℕ → Bool) (v x : World) (coherent : Coherent x) (i : Inside S v x) where
@@ -321,6 +323,7 @@ module _ (S : ℕ → Bool) (v x : World) (coherent : Coherent x) (i : Inside S 
     | inl a ↦ inr (subst (NewTo S v) (sym a.0) (next_new q p.next m), subst (λ (z : ServerInfo). NewTo S v z.root) a.1 (root_new q at j node p m))
     | inr a ↦ i.servers s k a.1
   ]
+  servers_next (SetText q text) ex p m s k e = let l = server_was x q text s k e in i.servers s (with_text l.0 k) l.1
   servers_next (DropServer q) ex p m s k e = i.servers s k (drop.server_was x q s k e).0
   servers_next Settle ex p m s k e = absurd ex
   servers_next c ex p m s k e = i.servers s k e

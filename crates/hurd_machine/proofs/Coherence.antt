@@ -1,5 +1,5 @@
 -- Changes that keep a coherent world so.
-use Rattle.std.proofs.Common.{true, false, ◌≡◌, ◌≢◌, ◌⊎◌, ℕ, ◌+◌, ◌<◌, ◌≤◌, cond, is_some, nat_lt, if◌then◌else◌, Bool, List, [], ◌∷◌, ◌++◌, Option, Some, None, sym, refl, ◌∙◌, ap, subst, inl, inr, arith}
+use Rattle.std.proofs.Common.{true, false, true≢false, ◌≡◌, ◌≢◌, ◌⊎◌, ℕ, ◌+◌, ◌<◌, ◌≤◌, cond, is_some, nat_lt, if◌then◌else◌, Bool, List, [], ◌∷◌, ◌++◌, Option, Some, None, sym, refl, ◌∙◌, ap, subst, inl, inr, arith}
 use Rattle.std.proofs.lemmas.Bool.{or_left, or_right}
 use Rattle.std.specs.List.{list_any}
 use Rattle.std.specs.Option.{option_map}
@@ -13,6 +13,7 @@ use Rattle.hurd_creds.specs.NameMaps.{NameMap, edit}
 use Rattle.hurd_creds.proofs.NameLaws.{same_name-itself, same_or_apart, get_here, get_apart, edit_here, edit_apart}
 use Rattle.hurd_trans_iface.specs.Nodes.{NodeMap, Node, Entry, Header, Body, Content, Listing, IsShaped, is_dir, with_header, with_body}
 use Rattle.hurd_trans_iface.specs.Answers.{entry_in, entry_of}
+use Rattle.hurd_trans_iface.specs.Meaning.{keeps_tree}
 use Rattle.hurd_nodes.specs.Shown.{ServerInfo, boot_name, info_in, is_root_of, tree_by}
 use Rattle.hurd_nodes.specs.Settle.{is_entered, is_entered_at}
 use Rattle.hurd_ports.specs.declared.table.Opened.{Opened}
@@ -23,7 +24,7 @@ use Rattle.hurd_ports.specs.declared.table.Port.{Port}
 use Rattle.hurd_ports.specs.Tables.{Task, OpenMap, rights_of, nodes_of as nodes_named}
 use Rattle.hurd_ports.specs.Steps.{named, with_sent, edit_task}
 use Rattle.hurd_machine.specs.World.{World, IsAmong, boot_root, nodes_of, task_at, open_at, header_at, body_at, home_at, active_at, server_at, info_at, is_of, lists, lists_at}
-use Rattle.hurd_machine.specs.Change.{Change, EditHeader, EditBody, MakeNode, EditOpen, MakeOpen, EditTask, Send, Attach, DropServer, Unseat, Settle, apply}
+use Rattle.hurd_machine.specs.Change.{Change, EditHeader, EditBody, MakeNode, EditOpen, MakeOpen, EditTask, Send, Attach, DropServer, Unseat, SetText, Settle, apply}
 use Rattle.hurd_machine.specs.Sound.{Below, AreDistinct, HasDistinctNames, IsGivenRight, AreGiven, AreHoused, AreSeated, IsTree, AreTables, Coherent, LeadsUp, AtRoot, Above, Linked}
 use Rattle.hurd_machine.proofs.Nodes.{header_in, body_in, body-with_header, edit_keeps, edited_from, node_of_header}
 use Rattle.hurd_machine.proofs.Tasks.{edit_cases, edit_here as task_here, below_edit, sent_cases}
@@ -53,10 +54,11 @@ abbrev pub HasNoEntries : Body → Type 0
 HasNoEntries (Content bs) = Unit {0}
 HasNoEntries (Listing es) = es ≡ []
 
--- a node that a server may make
+-- a node that a server, which keeps a tree, may make
 pub record GoodNode (w : World) (s : Name) (node : Node) : Type 0 where
   pub info : ServerInfo
   pub is_server : server_at w s ≡ Some info
+  pub tree : keeps_tree info.kind ≡ true
   pub shape : IsShaped node.header node.body
   pub empty : HasNoEntries node.body
   pub parent : (p : Name) → node.header.parent ≡ Some p → Below w p
@@ -133,6 +135,7 @@ Proper w (Send r q) = (x : Task) × (task_at w q ≡ Some x) × FineRight w r
 Proper w (Attach s at i node) = Comes w s at i node
 Proper w (DropServer s) = s ≢ boot_name
 Proper w (Unseat n) = Unit {0}
+Proper w (SetText s text) = Unit {0}
 Proper w Settle = Linked (nodes_of w)
 
 -- each change is proper in the world that the ones before it leave
@@ -272,6 +275,7 @@ module _ (w : World) (m : NodeMap) (c : Coherent w) (r : Reworked w m) where
     housed = λ n q e. let h = c.housing.housed n q e in header_still n h.0 h.1;
     roots = c.housing.roots;
     serving = c.housing.serving;
+    lone = c.housing.lone;
   }
 
   reworked_seating : AreSeated (nodes_of (with_nodes m w))
@@ -577,6 +581,13 @@ module _ (w : World) (c : Coherent w) (n s : Name) (node : Node) (b : Below w n)
     ];
     roots = λ q i e. home_kept i.root q (c.housing.roots q i e);
     serving = c.housing.serving;
+    lone = λ m q i e ei alone. elim (was w.homes n m s q e) [
+      | inl k ↦
+          let here : server_at w s ≡ Some i = rw (k.1) ei in
+          let same : p.info ≡ i = cc (p.is_server, here) in
+          absurd (true≢false (sym p.tree ∙ ap (λ (j : ServerInfo). keeps_tree j.kind) same ∙ alone))
+      | inr k ↦ c.housing.lone m q i k.1 ei alone
+    ];
   }
 
   made_seating : AreSeated (nodes_of made_world)

@@ -172,6 +172,10 @@ module _ (w : World) (c : Coherent w) (s at : Name) (i : ServerInfo) (node : Nod
       | inl k ↦ (p.serving.0, ap (λ (z : ServerInfo). z.ids) (sym k.1) ∙ p.serving.1)
       | inr k ↦ c.housing.serving q j k.1
     ];
+    lone = λ n q j e ej alone. elim (was w.homes i.root n s q e) [
+      | inl k ↦ elim (was w.servers s q i j ej) [ inl h ↦ k.0 ∙ ap (λ (z : ServerInfo). z.root) h.1 | inr h ↦ absurd (h.0 (sym k.1)) ]
+      | inr k ↦ elim (was w.servers s q i j ej) [ inl h ↦ absurd (none_served w c s come_new n q k.1 h.0) | inr h ↦ c.housing.lone n q j k.1 h.1 alone ]
+    ];
   }
 
   boot_below : Below w boot_name

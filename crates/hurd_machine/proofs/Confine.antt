@@ -18,6 +18,7 @@ use Rattle.hurd_machine.specs.World.{World, IsAmong, boot_root, task_at, open_at
 use Rattle.hurd_machine.specs.Sight.{Holds, HasUid, UidOfTask, UidOfRight, HasGid, GidOfTask, GidOfRight, Taken, Could, Owns, OwnsIt, Allowed, CouldServe}
 use Rattle.hurd_machine.specs.Sight.{Seen, Root, Held, Way, Controlled, Pending, Child, Parent, Active, ServerRoot, Sends, ByControl, ByNode, BySeat, Knows, OfNode, OfSeat, OfControl, SeesBody, ToRead, ToSearch, IsOpen, SeesEmpty, ByBody, ByParent}
 use Rattle.hurd_machine.specs.Sight.{Part, AttrOf, EmptyOf, BodyOf, OpenOf, OptionsOf, UsersOf, TaskOf, Sees, MaySend}
+use Rattle.hurd_machine.specs.Change.{with_text}
 use Rattle.hurd_machine.specs.Sound.{Below, Coherent}
 use Rattle.hurd_machine.proofs.Coherence.{header_old, entry_old, home_old, right_old, entry_lists}
 use Rattle.hurd_machine.proofs.Stays.{way_at, way_parent, way_with}
@@ -119,9 +120,9 @@ pub record TakesLess (S : ℕ → Bool) (v x : World) : Type 0 where
   pub tasks : (q : ℕ) (y : Task) → S q ≡ true → task_at x q ≡ Some y → Taken S v y.ids
   pub rights : (r : IoRight) → Holds S x (Io r) → Taken S v r.ids
 
--- a server that was, or a new one of S, with its root
+-- a server that was, but for its text, or a new one of S, with its root
 abbrev pub ServerInside : (ℕ → Bool) → World → Name → ServerInfo → Type 0
-ServerInside S v s i = (server_at v s ≡ Some i) ⊎ (NewTo S v s × NewTo S v i.root)
+ServerInside S v s i = ((text : List ℕ) × (server_at v s ≡ Some (with_text text i))) ⊎ (NewTo S v s × NewTo S v i.root)
 
 -- the world x holds nothing for S beyond what S saw in v
 pub record Inside (S : ℕ → Bool) (v x : World) : Type 0 where
@@ -143,7 +144,7 @@ held_inside S v (Start n) h = inl (Pending h)
 
 pub Inside-refl : (S : ℕ → Bool) (v : World) → Inside S v v
 Inside-refl S v = record {
-  servers = λ s i e. inl e;
+  servers = λ s i e. inl (i.text, e);
   actives = λ n s e. inl e;
   made = λ q y e. (y, e, omega arith);
   power = inr (record {
@@ -209,10 +210,10 @@ module _ {S : ℕ → Bool} {v x : World} (coherent : Coherent v) (i : Inside S 
   seat_inside n s (inr new) (inl e) = let h = coherent.seating.seats n s e in absurd (new.1 (header_old coherent n h.0 h.1))
 
   -- what is seen by a server: it was seen where the server was known, and is new where that is
-  by_server : (s : Name) (info : ServerInfo) (P Q : Type 0) → P ⊎ NewTo S v s → ServerInside S v s info → (P → server_at v s ≡ Some info → Q) → (NewTo S v s → NewTo S v info.root → Q) → Q
+  by_server : (s : Name) (info : ServerInfo) (P Q : Type 0) → P ⊎ NewTo S v s → ServerInside S v s info → (P → (text : List ℕ) → server_at v s ≡ Some (with_text text info) → Q) → (NewTo S v s → NewTo S v info.root → Q) → Q
   by_server s info P Q ok (inr new) old made = made new.0 new.1
-  by_server s info P Q (inl p) (inl e) old made = old p e
-  by_server s info P Q (inr new) (inl e) old made = absurd (new.1 (coherent.given.servers s info e))
+  by_server s info P Q (inl p) (inl e) old made = old p e.0 e.1
+  by_server s info P Q (inr new) (inl e) old made = absurd (new.1 (coherent.given.servers s (with_text e.0 info) e.1))
 
   -- the root of a server that S knows and could serve
   known_root : (s : Name) (info : ServerInfo) → server_at v s ≡ Some info → CouldServe S v info → Knows S v s → Seen S v info.root
@@ -239,16 +240,16 @@ module _ {S : ℕ → Bool} {v x : World} (coherent : Coherent v) (i : Inside S 
       elim e [ inl at ↦ subst (SeenOrNew S v) (sym at) (known p.at (inr (way_at p r.parents a))) | inr up ↦ subst (SeenOrNew S v) (sym up) (known p.parent (inr (way_parent p r.parents a))) ]
   seen_inside n (Controlled s info h es e) =
       by_server s info (Commands S v s) (SeenOrNew S v n) (i.held (Control s) h) (i.servers s info es)
-      (λ k is. is_root info n e (inl (sends_root S v s info is (commands_send S v s info is k)))) (λ new root. is_root info n e (inr root))
+      (λ k text is. is_root info n e (inl (sends_root S v s (with_text text info) is (commands_send S v s (with_text text info) is k)))) (λ new root. is_root info n e (inr root))
   seen_inside n (Pending h) = i.held (Start n) h
   seen_inside n (Child d h name s eh k c en) = child_inside d n h name eh k c (seen_inside d s) (i.entries d n name en)
   seen_inside n (Parent d h s eh ep) = parent_inside d n h eh ep (seen_inside d s) (i.headers d h eh)
   seen_inside n (Active m s info sm em es e) =
       by_server s info (Seen S v m × (active_at v m ≡ Some s)) (SeenOrNew S v n) (seat_inside m s (seen_inside m sm) (i.actives m s em)) (i.servers s info es)
-      (λ k is. is_root info n e (inl (Active m s info k.0 k.1 is refl))) (λ new root. is_root info n e (inr root))
+      (λ k text is. is_root info n e (inl (Active m s (with_text text info) k.0 k.1 is refl))) (λ new root. is_root info n e (inr root))
   seen_inside n (ServerRoot m s info sm em es c e) =
       by_server s info (Knows S v s) (SeenOrNew S v n) (server_inside m s (seen_inside m sm) (i.homes m s em)) (i.servers s info es)
-      (λ k is. is_root info n e (inl (known_root s info is (serve_back info c) k))) (λ new root. is_root info n e (inr root))
+      (λ k text is. is_root info n e (inl (known_root s (with_text text info) is (serve_back info c) k))) (λ new root. is_root info n e (inr root))
 
   body_inside : (n : Name) (h before : Header) → header_at v n ≡ Some before → Less S v n h before → SeesBody S x n h → SeesBody S v n before
   body_inside n h before is less (ToRead c) = ToRead (less.could Read (could_back h Read c))
@@ -268,17 +269,17 @@ module _ {S : ℕ → Bool} {v x : World} (coherent : Coherent v) (i : Inside S 
   knows_inside q (OfSeat n sn en) = elim (seat_inside n q (seen_inside n sn) (i.actives n q en)) [ inl k ↦ inl (OfSeat n k.0 k.1) | inr new ↦ inr new ]
   knows_inside q (OfControl h) = elim (i.held (Control q) h) [ inl k ↦ inl (commands_known S v q k) | inr new ↦ inr new ]
 
-  sends_inside : (q : Name) (info : ServerInfo) → server_at v q ≡ Some info → Sends S x q info → Sends S v q info ⊎ NewTo S v q
-  sends_inside q info is (ByControl h) = elim (i.held (Control q) h) [ inl k ↦ inl (commands_send S v q info is k) | inr new ↦ inr new ]
-  sends_inside q info is (ByNode n sn en could) = elim (server_inside n q (seen_inside n sn) (i.homes n q en)) [ inl k ↦ inl (known_sends q info is (serve_back info could) k) | inr new ↦ inr new ]
-  sends_inside q info is (BySeat n h sn en eh owns) = elim (seat_inside n q (seen_inside n sn) (i.actives n q en)) [
+  sends_inside : (q : Name) (info : ServerInfo) (text : List ℕ) → server_at v q ≡ Some (with_text text info) → Sends S x q info → Sends S v q (with_text text info) ⊎ NewTo S v q
+  sends_inside q info text is (ByControl h) = elim (i.held (Control q) h) [ inl k ↦ inl (commands_send S v q (with_text text info) is k) | inr new ↦ inr new ]
+  sends_inside q info text is (ByNode n sn en could) = elim (server_inside n q (seen_inside n sn) (i.homes n q en)) [ inl k ↦ inl (known_sends q (with_text text info) is (serve_back info could) k) | inr new ↦ inr new ]
+  sends_inside q info text is (BySeat n h sn en eh owns) = elim (seat_inside n q (seen_inside n sn) (i.actives n q en)) [
     | inl k ↦ let l = header_before n h eh k.0 in inl (BySeat n l.0 k.0 k.1 l.1 (l.2.owns (owns_back h owns)))
     | inr new ↦ inr new
   ]
 
   users_inside : (q : Name) (m : MaySend S x q) → ServerInside S v q m.info → Known S v (UsersOf q)
   users_inside q m (inr new) = inr new.0
-  users_inside q m (inl is) = elim (sends_inside q m.info is m.why) [ inl k ↦ inl (record { info = m.info; is_server = is; other = m.other; why = k }) | inr new ↦ inr new ]
+  users_inside q m (inl is) = elim (sends_inside q m.info is.0 is.1 m.why) [ inl k ↦ inl (record { info = with_text is.0 m.info; is_server = is.1; other = m.other; why = k }) | inr new ↦ inr new ]
 
   -- a part that is seen was seen, or is new
   pub sees_inside : (p : Part) → Sees S x p → Known S v p

@@ -112,6 +112,7 @@ module _ (w : World) (s : Name) where
       housed = λ n q e. let k = home_was n q e in let h = c.housing.housed n q k.0 in (h.0, ap header_in (node_yet n k.1) ∙ h.1);
       roots = λ q i e. let k = server_was q i e in let r = c.housing.roots q i k.0 in home_yet i.root (other_home s q (home_at w i.root) r k.1) ∙ r;
       serving = λ q i e. c.housing.serving q i (server_was q i e).0;
+      lone = λ n q i e ei. c.housing.lone n q i (home_was n q e).0 (server_was q i ei).0;
     }
 
     drop_seating : AreSeated (nodes_of dropped)

@@ -11,11 +11,11 @@ use Rattle.hurd_ports.specs.declared.table.Right.TheVariants.{Io, Control, Start
 use Rattle.hurd_ports.specs.Tables.{Task, rights_of, names_open}
 use Rattle.hurd_ports.specs.Steps.{named, with_sent, edit_task}
 use Rattle.hurd_ports.proofs.TaskLaws.{edit-apart, edit-length}
-use Rattle.hurd_machine.specs.World.{World, IsAmong, task_at, open_at, header_at, body_at, home_at}
+use Rattle.hurd_machine.specs.World.{World, IsAmong, task_at, open_at, header_at, body_at, home_at, server_at}
 use Rattle.hurd_nodes.specs.Weights.{one_if, count_list}
 use Rattle.hurd_nodes.specs.Held.{is_home}
 use Rattle.hurd_machine.specs.Sight.{Part, AttrOf, EmptyOf, BodyOf, OpenOf, OptionsOf, UsersOf, TaskOf, Sees, part, IsGone, count_rights, is_on, holders, users, AnAttr, AnEmpty, ABody, AnOpen, AnOptions, AUsers, ATask}
-use Rattle.hurd_machine.specs.Change.{Change, EditHeader, EditBody, MakeNode, EditOpen, MakeOpen, EditTask, Send, Attach, DropServer, Unseat, Settle, settle, apply, apply_all}
+use Rattle.hurd_machine.specs.Change.{Change, EditHeader, EditBody, MakeNode, EditOpen, MakeOpen, EditTask, Send, Attach, DropServer, Unseat, SetText, Settle, with_text, settle, apply, apply_all}
 use Rattle.hurd_machine.specs.Sound.{Below, Coherent, AtRest, Sound}
 use Rattle.hurd_machine.proofs.Nodes.{attr_same, header_in, body_in, empty_in, header-with_body, body-with_header, edit_keeps, KeepsEmptiness, empty-kept}
 use Rattle.hurd_machine.proofs.Tasks.{count_edit, count_named, count_alike, count_sent}
@@ -50,6 +50,7 @@ Within T w (Send r q) = T (TaskOf q) × Covers T w r
 Within T w (Attach s at i node) = T (TaskOf s.task.0) × T (AttrOf i.root) × T (EmptyOf i.root) × T (BodyOf i.root) × T (AttrOf at) × T (OptionsOf s)
 Within T w (DropServer s) = (p : Part) → Goes w s p → T p
 Within T w (Unseat n) = T (AttrOf n)
+Within T w (SetText s text) = T (OptionsOf s)
 Within T w Settle = Unit {0}
 
 abbrev pub AllWithin : (Part → Type 0) → World → List Change → Type 0
@@ -79,7 +80,7 @@ abbrev pub IsExact : Change → Type 0
 IsExact Settle = ⊥
 IsExact c = Unit {0}
 
--- all but settling and those of servers
+-- all but settling, and those by which servers come, go or lose their seat
 abbrev pub IsPlain : Change → Type 0
 IsPlain (Attach s at i node) = ⊥
 IsPlain (DropServer s) = ⊥
@@ -151,12 +152,13 @@ module _ (w : World) (coherent : Coherent w) (T : Part → Type 0) where
   open_kept Settle ex o i h = absurd ex
   open_kept c ex o i h = refl
 
-  server_kept : (c : Change) → IsPlain c → (apply c w).servers ≡ w.servers
-  server_kept (Attach a b j x) ex = absurd ex
-  server_kept (DropServer a) ex = absurd ex
-  server_kept (Unseat a) ex = absurd ex
-  server_kept Settle ex = absurd ex
-  server_kept c ex = refl
+  server_kept : (c : Change) → IsPlain c → (s : Name) → Within T w c → (T (OptionsOf s) → ⊥) → server_at (apply c w) s ≡ server_at w s
+  server_kept (SetText q text) ex s i h = edit_other w.servers q (with_text text) s (λ e. avoids (OptionsOf s) (OptionsOf q) i h (ap OptionsOf e))
+  server_kept (Attach a b j x) ex s i h = absurd ex
+  server_kept (DropServer a) ex s i h = absurd ex
+  server_kept (Unseat a) ex s i h = absurd ex
+  server_kept Settle ex s i h = absurd ex
+  server_kept c ex s i h = refl
 
   actives_kept : (c : Change) → IsPlain c → (apply c w).actives ≡ w.actives
   actives_kept (Attach a b j x) ex = absurd ex
@@ -217,7 +219,7 @@ module _ (w : World) (coherent : Coherent w) (T : Part → Type 0) where
   plain_frame c pl pr (EmptyOf n) i h = ap AnEmpty (empty_kept c pl n i h)
   plain_frame c pl pr (BodyOf n) i h = ap ABody (body_kept c pl n i h)
   plain_frame c pl pr (OpenOf o) i h = ap₂ AnOpen (open_kept c pl o i h) (holders_kept c pl pr o i h)
-  plain_frame c pl pr (OptionsOf s) i h = ap (λ m. AnOptions (get m s)) (server_kept c pl)
+  plain_frame c pl pr (OptionsOf s) i h = ap AnOptions (server_kept c pl s i h)
   plain_frame c pl pr (UsersOf s) i h = ap AUsers (users_kept c pl pr s i h)
   plain_frame c pl pr (TaskOf q) i h = ap ATask (task_kept c pl q i h)
 
@@ -228,6 +230,7 @@ frame T w c (Attach s at i node) ex pr p within out =
     ∙ come_parts w c s at i node pr p (λ e. out (subst T (sym e) within.0)) (λ e. out (subst T (sym e) within.1)) (λ e. out (subst T (sym e) within.2)) (λ e. out (subst T (sym e) within.3))
     (λ e. out (subst T (sym e) within.4)) (λ e. out (subst T (sym e) within.5))
 frame T w c (DropServer s) ex pr p within out = drop_parts w s p (λ goes. out (within p goes))
+frame T w c (SetText s text) ex pr p within out = plain_frame w c T (SetText s text) tt pr p within out
 frame T w c (Unseat n) ex pr p within out = unseated_parts w n p (λ e. out (subst T (sym e) within))
 frame T w c Settle ex pr p within out = absurd ex
 frame T w c (EditHeader n f) ex pr p within out = plain_frame w c T (EditHeader n f) tt pr p within out

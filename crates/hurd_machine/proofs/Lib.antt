@@ -11,6 +11,7 @@ pub mod Coherence
 pub mod Drop
 pub mod Comes
 pub mod Unseated
+pub mod Texts
 pub mod Keeping
 pub mod ServerParts
 pub mod Rights
@@ -36,6 +37,7 @@ pub mod Sending
 pub mod Taking
 pub mod Edits
 pub mod Attrs
+pub mod Retexting
 pub mod Makes
 pub mod Nameless
 pub mod Linking

@@ -13,7 +13,7 @@ use Rattle.hurd_creds.proofs.NameLaws.{same_or_apart, same_name-apart, same_name
 use Rattle.hurd_trans_iface.specs.Nodes.{NodeMap, Node, Entry, Header, Body, Content, Listing, IsShaped, is_dir, header_of, body_of, with_header, with_body, with_entry, new_file, new_dir}
 use Rattle.hurd_nodes.specs.Shown.{NodeState, is_root, is_root_of, info_in, server_of, tree_by}
 use Rattle.hurd_machine.specs.World.{World, nodes_of, header_at, body_at, home_at, is_server_root, is_of, lists, lists_at}
-use Rattle.hurd_machine.specs.Change.{Change, EditHeader, EditBody, MakeNode, Attach, DropServer, Unseat, Settle, apply, apply_all}
+use Rattle.hurd_machine.specs.Change.{Change, EditHeader, EditBody, MakeNode, Attach, DropServer, Unseat, SetText, Settle, apply, apply_all}
 use Rattle.hurd_nodes.specs.Weights.{one_if}
 use Rattle.hurd_machine.specs.Sound.{Below, Coherent, times_in, times_listed, LeadsUp, AtRoot, Above, Hangs, Linked}
 use Rattle.hurd_machine.proofs.Nodes.{header_in, body_in, edited_from, edit_keeps, edit_reads, header-with_header, header-with_body, body-with_header, body-with_body}
@@ -21,6 +21,7 @@ use Rattle.hurd_machine.proofs.Tasks.{count_append}
 use Rattle.hurd_machine.proofs.Listed.{lists_counted, none_in}
 use Rattle.hurd_machine.proofs.Sums.{of_found, total_insert, total_kept, total_none, total_retained}
 use Rattle.hurd_machine.proofs.Coherence.{HasNoEntries}
+use Rattle.hurd_machine.proofs.Texts.{root_kept, tree_kept}
 use Rattle.hurd_machine.proofs.Keeping.{apply_all-append}
 
 -- how often a body names a node
@@ -78,7 +79,7 @@ pub record Keeps (h g : NodeState) (n : Name) : Type 0 where
   pub header : (j : Header) → header_of g.nodes n ≡ Some j → (k : Header) × (header_of h.nodes n ≡ Some k) × (k.kind ≡ j.kind) × (k.parent ≡ j.parent) × (k.links ≡ j.links)
   pub times : times_listed g.nodes n ≡ times_listed h.nodes n
   pub lists : (p : Name) → lists_at n (body_of h.nodes p) ≡ true → lists_at n (body_of g.nodes p) ≡ true
-  pub server : server_of g n ≡ server_of h n
+  pub tree : tree_by (server_of g n) ≡ tree_by (server_of h n)
   pub root : is_root g n ≡ true → is_root h n ≡ true
 
 -- the node hangs as it is to, where it is there
@@ -93,7 +94,7 @@ still_hung h g n same hung j e =
       up = λ p ep. let u = k.up p (b.3 ∙ ep) in (sym b.2 ∙ u.0, same.lists p u.1);
       top = λ is. sym b.3 ∙ k.top (same.root is);
       once = λ dir. subst (λ t. t ≤ 1) (sym same.times) (k.once (b.2 ∙ dir));
-      links = λ tree. sym b.4 ∙ k.links (ap tree_by (sym same.server) ∙ tree) ∙ ap₂ (λ kind t. cond (is_dir kind) 1 t) b.2 (sym same.times);
+      links = λ tree. sym b.4 ∙ k.links (sym same.tree ∙ tree) ∙ ap₂ (λ kind t. cond (is_dir kind) 1 t) b.2 (sym same.times);
     }
 
 -- roots stay roots, and parents parents: what led up still does
@@ -197,7 +198,7 @@ module _ (loose : Name → Type 0) (w : World) (a : Name) (f : Header → Header
   loose_header : LinkedBut loose (nodes_of w) → LinkedBut loose (nodes_of reheaded)
   loose_header l = record {
     nodes = λ n out. still_hung (nodes_of w) (nodes_of reheaded) n
-        (record { header = headed n out; times = times_headed w.nodes a n f; lists = λ p e. ap (lists_at n) (bodies p) ∙ e; server = refl; root = λ is. is }) (l.nodes n out);
+        (record { header = headed n out; times = times_headed w.nodes a n f; lists = λ p e. ap (lists_at n) (bodies p) ∙ e; tree = refl; root = λ is. is }) (l.nodes n out);
     rooted = λ d n e. led_still l d n (sym (ap (lists_at n) (bodies d)) ∙ e);
   }
 
@@ -242,7 +243,7 @@ module _ (loose : Name → Type 0) (w : World) (a : Name) (g : Body → Body) (m
       header = λ j e. (j, sym (headers n) ∙ e, refl, refl, refl);
       times = named_stay n out;
       lists = λ p e. lists_stay n out p ∙ e;
-      server = refl;
+      tree = refl;
       root = λ is. is;
     }) (l.nodes n out);
     rooted = λ d n e. led d (elim (same_or_apart d a) [
@@ -302,11 +303,24 @@ module _ (loose : Name → Type 0) (w : World) (a s : Name) (node : Node) (may :
       header = λ j e. (j, sym (ap header_in (there n (other n out))) ∙ e, refl, refl, refl);
       times = named_grown n;
       lists = lists_grown n;
-      server = ap (info_in w.servers) (get_apart w.homes a s n (other n out));
+      tree = ap (λ o. tree_by (info_in w.servers o)) (get_apart w.homes a s n (other n out));
       root = λ is. sym (ap (is_root_of w.servers n) (get_apart w.homes a s n (other n out))) ∙ is;
     }) (l.nodes n out);
     rooted = λ d n e. leads_grown d (l.rooted d n (lists_before d n e));
   }
+
+-- a server with another text
+loose_text : (loose : Name → Type 0) (w : World) (s : Name) (text : List ℕ) → LinkedBut loose (nodes_of w) → LinkedBut loose (nodes_of (apply (SetText s text) w))
+loose_text loose w s text l = record {
+  nodes = λ n out. still_hung (nodes_of w) (nodes_of (apply (SetText s text) w)) n (record {
+    header = λ j e. (j, e, refl, refl, refl);
+    times = refl;
+    lists = λ p e. e;
+    tree = tree_kept w s text n;
+    root = λ is. sym (root_kept w s text n) ∙ is;
+  }) (l.nodes n out);
+  rooted = λ d n e. leads_still (nodes_of w) (nodes_of (apply (SetText s text) w)) (λ m is. root_kept w s text m ∙ is) (λ m k is. (k, is, refl)) d (l.rooted d n e);
+}
 
 -- changes one after another
 
@@ -318,6 +332,7 @@ loosened_one loose (Attach s at i node) w may l = absurd may
 loosened_one loose (DropServer s) w may l = absurd may
 loosened_one loose (Unseat n) w may l = absurd may
 loosened_one loose Settle w may l = absurd may
+loosened_one loose (SetText s text) w may l = loose_text loose w s text l
 loosened_one loose c w may l = l
 
 pub loosened : (loose : Name → Type 0) (cs : List Change) (w : World) → AllLoosen loose w cs → LinkedBut loose (nodes_of w) → LinkedBut loose (nodes_of (apply_all cs w))

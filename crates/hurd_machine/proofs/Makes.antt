@@ -231,7 +231,9 @@ module _ (w : World) (n s : Name) (node : Node) (d : Name) (name : List ℕ) whe
             let there = c.housing.housed d s home in
             let i = c.housing.homes d there.0 there.1 in
             let same : i.0 ≡ s = cc (i.2, home) in
-            record { info = i.1; is_server = subst (λ q. server_at w q ≡ Some i.1) same i.3; shape = new.shape; empty = new.empty; parent = new.parent }
+            let is_server : server_at w s ≡ Some i.1 = subst (λ q. server_at w q ≡ Some i.1) same i.3 in
+            let tree : keeps_tree i.1.kind ≡ true = sym (ap tree_by (ap (info_in w.servers) home ∙ is_server)) ∙ keeps in
+            record { info = i.1; is_server = is_server; tree = tree; shape = new.shape; empty = new.empty; parent = new.parent }
 
         new_entry : IsEntry made d n
         new_entry = record {

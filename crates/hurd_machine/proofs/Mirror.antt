@@ -15,7 +15,7 @@ use Rattle.hurd_nodes.specs.Weights.{one_if}
 use Rattle.hurd_nodes.specs.Held.{is_home}
 use Rattle.hurd_machine.specs.Sight.{Part, AttrOf, EmptyOf, BodyOf, OpenOf, OptionsOf, UsersOf, TaskOf, part, count_rights, holders, is_on, users}
 use Rattle.hurd_machine.specs.Sight.{AnAttr, AnEmpty, ABody, AnOpen, AnOptions, AUsers, ATask}
-use Rattle.hurd_machine.specs.Change.{Change, EditHeader, EditBody, MakeNode, EditOpen, MakeOpen, EditTask, Send, Attach, DropServer, Unseat, Settle, apply}
+use Rattle.hurd_machine.specs.Change.{Change, EditHeader, EditBody, MakeNode, EditOpen, MakeOpen, EditTask, Send, Attach, DropServer, Unseat, SetText, Settle, with_text, apply}
 use Rattle.hurd_machine.specs.Sound.{Coherent}
 use Rattle.hurd_machine.proofs.Nodes.{attr_same, header_in, body_in, empty_in, header-with_header, header-with_body, body-with_header, body-with_body, edit_alike, insert_alike, ByEmptiness, edit_empty_alike}
 use Rattle.hurd_machine.proofs.Tasks.{edit_here, edit_same, count_edit, count_named, list_alike, count_sent}
@@ -61,6 +61,7 @@ module _ (x y : World) where
   body_alike c ex n h = h
 
   server_alike : (c : Change) → IsPlain c → (s : Name) → server_at y s ≡ server_at x s → server_at (apply c y) s ≡ server_at (apply c x) s
+  server_alike (SetText q text) ex s h = edit_alike (λ z. z) (option_map (with_text text)) (with_text text) (λ z. refl) x.servers y.servers q s h
   server_alike (Attach a b j u) ex s h = absurd ex
   server_alike (DropServer a) ex s h = absurd ex
   server_alike (Unseat a) ex s h = absurd ex
@@ -224,6 +225,7 @@ module _ (S : ℕ → Bool) (v x y : World) (before : Inside S v x) (cx : Cohere
       ap (λ z. part z p) (attach_is y s at i node cy (next_not y s py.next)) ∙ come_alike x y cx cy s at i node px py p (alike.parts p known)
       ∙ sym (ap (λ z. part z p) (attach_is x s at i node cx (next_not x s px.next)))
   part_same (DropServer s) ex px py m after p known = drop_alike x y s p (λ n is. home_same S v x y before cx cy alike n (attr_of p n is known)) (alike.parts p known)
+  part_same (SetText s text) ex px py m after p known = plain_same S v x y before cx cy alike (SetText s text) tt px py m after p known
   part_same (Unseat n) ex px py m after p known = unseated_alike x y n p (alike.parts p known)
   part_same Settle ex px py m after p known = absurd ex
   part_same (EditHeader n f) ex px py m after p known = plain_same S v x y before cx cy alike (EditHeader n f) tt px py m after p known

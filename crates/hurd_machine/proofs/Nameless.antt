@@ -7,6 +7,7 @@ use Rattle.hurd_creds.proofs.NameLaws.{get_here, get_apart}
 use Rattle.hurd_trans_iface.specs.Nodes.{Node, IsShaped, is_dir}
 use Rattle.hurd_trans_iface.specs.Good.{IsSized}
 use Rattle.hurd_trans_iface.specs.Kinds.{behaviour_of}
+use Rattle.hurd_trans_iface.specs.Meaning.{keeps_tree}
 use Rattle.hurd_nodes.specs.Shown.{ServerInfo, info_in}
 use Rattle.hurd_nodes.specs.Settle.{is_entered_at}
 use Rattle.hurd_ports.specs.declared.parents.Parent.{Parent as Pair}
@@ -78,9 +79,9 @@ module _ (w : World) (t : ℕ) (x : Task) (is : task_at w t ≡ Some x) (s : Nam
         opens_within made t (named 1 x) seat n ids parents modes (Full w t T) own (inr (inr (later_new w t 1 x is))) (λ p on. let same : on.0 ≡ s = cc (on.1, home) in inl (rw (on.2, same) users)),
       )
 
-  pub nameless_proper : Coherent w → ((m : Name) → IsAmong m (ways_of parents) → Below w m) → AllProper w (nameless t x s node ids parents modes)
-  nameless_proper c up = (
-    (next, record { info = i; is_server = server; shape = lone.shape; empty = lone.empty; parent = λ p e. absurd (cc (lone.alone, e)) }),
+  pub nameless_proper : Coherent w → keeps_tree i.kind ≡ true → ((m : Name) → IsAmong m (ways_of parents) → Below w m) → AllProper w (nameless t x s node ids parents modes)
+  nameless_proper c tree up = (
+    (next, record { info = i; is_server = server; tree = tree; shape = lone.shape; empty = lone.empty; parent = λ p e. absurd (cc (lone.alone, e)) }),
     λ d. opens_proper made t (named 1 x) seat n ids parents modes d (named_below w c n next 1 n refl (omega arith)) (λ m way. coherence.named_still w c n next 1 m (up m way)) (λ writes h e.
         let same : node.header ≡ h = cc (header, e) in rw (← same) lone.file),
   )

@@ -112,7 +112,7 @@ bytes_may S v x n f = (inl (λ b c e. emptiness c ∙ e ∙ sym (emptiness b)), 
     entries name (Content bs) = refl
     entries name (Listing es) = refl
 
-size_may : (S : ℕ → Bool) (v : World) (n : Name) (k : ℕ) (h : Header) → Less S v n (with_size k h) h
+pub size_may : (S : ℕ → Bool) (v : World) (n : Name) (k : ℕ) (h : Header) → Less S v n (with_size k h) h
 size_may S v n k h = record { kind = refl; parent = λ p e. inl e; could = could; owns = λ o. o }
   where
     could : (want : Want) → Could S v (with_size k h) want → Could S v h want

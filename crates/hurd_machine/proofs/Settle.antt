@@ -23,7 +23,7 @@ use Rattle.hurd_machine.specs.World.{World, IsAmong, world_from, nodes_of, ports
 use Rattle.hurd_machine.specs.Sight.{Holds, Seen, Root, Held, Way, Controlled, Pending, Child, Parent, Active, ServerRoot, Knows, OfNode, OfSeat, OfControl}
 use Rattle.hurd_nodes.specs.Held.{is_home}
 use Rattle.hurd_machine.specs.Sight.{Part, AttrOf, EmptyOf, BodyOf, OpenOf, OptionsOf, UsersOf, TaskOf, Sees, part, IsGone, is_on, holders, users, AnEmpty, ABody, AnOpen, AnOptions, AUsers}
-use Rattle.hurd_machine.specs.Change.{Change, EditHeader, EditBody, MakeNode, EditOpen, MakeOpen, EditTask, Send, Attach, DropServer, Unseat, Settle, outside, stays, server_stays, settle, apply, apply_all, opening}
+use Rattle.hurd_machine.specs.Change.{Change, EditHeader, EditBody, MakeNode, EditOpen, MakeOpen, EditTask, Send, Attach, DropServer, Unseat, SetText, Settle, outside, stays, server_stays, with_text, settle, apply, apply_all, opening}
 use Rattle.hurd_machine.specs.Sound.{Coherent, Linked, AtRest}
 use Rattle.hurd_machine.proofs.Nodes.{attr_same, header_in, body_in, empty_in, no_header, no_body, no_emptiness, edit_keeps, edited_from}
 use Rattle.hurd_machine.proofs.Tasks.{count_alike, sent_keeps, edit_here as task_here}
@@ -32,6 +32,7 @@ use Rattle.hurd_machine.proofs.Stays.{sweep, way_at, way_parent, server_more, ke
 use Rattle.hurd_machine.proofs.Swept.{header_server, root_stays, boot_stays, entry_stays, parent_stays, settle_keeps}
 use Rattle.hurd_machine.proofs.Coherence.{was, entry_lists}
 use Rattle.hurd_machine.proofs.Keeping.{apply_all-append}
+use Rattle.hurd_machine.proofs.Texts.{server_was, stays_kept}
 use Rattle.hurd_machine.proofs.Rights.{port_keeps, port_has}
 use Rattle.hurd_machine.proofs.Views.{Agree, Agree-refl, Agree-trans}
 
@@ -306,6 +307,7 @@ servers_more (Send r t) w keeps s h = tasks_more t (with_sent r) w s (sent_keeps
 servers_more (EditHeader n f) w keeps s h = h
 servers_more (EditBody n g) w keeps s h = h
 servers_more (EditOpen o f) w keeps s h = h
+servers_more (SetText k text) w keeps s h = h
 servers_more (Attach q at i node) w keeps s h = absurd keeps
 servers_more (DropServer q) w keeps s h = absurd keeps
 servers_more (Unseat n) w keeps s h = absurd keeps
@@ -334,6 +336,7 @@ nodes_still (MakeNode k s node) w q rest n x e = elim (was w.nodes k n node x e)
       (named_still k.task.0 (named 1) w.tasks n (λ y r h. h)) (rest.nodes n x old.1)
 ]
 nodes_still (EditOpen o f) w q rest n x e = rest.nodes n x e
+nodes_still (SetText k text) w q rest n x e = stays_kept w k text n ∙ rest.nodes n x e
 nodes_still (MakeOpen o z) w q rest n x e =
     kept_more (outside w) (outside (apply (MakeOpen o z) w)) (nodes_of w) (nodes_of w) n (same_servers (MakeOpen o z) w q n refl refl) (λ i. i) (named_still o.task.0 (named 1) w.tasks n (λ y r h. h)) (rest.nodes n x e)
 nodes_still (EditTask t f) w q rest n x e =
@@ -345,17 +348,19 @@ nodes_still (DropServer s) w q rest n x e = absurd q
 nodes_still (Unseat k) w q rest n x e = absurd q
 nodes_still Settle w q rest n x e = absurd q
 
-servers_same : (c : Change) (w : World) → KeepsNodes w c → (apply c w).servers ≡ w.servers
-servers_same (Attach s at i node) w q = absurd q
-servers_same (DropServer s) w q = absurd q
-servers_same (Unseat n) w q = absurd q
-servers_same Settle w q = absurd q
-servers_same c w q = refl
+-- a server that is there was there
+server_old : (c : Change) (w : World) → KeepsNodes w c → (s : Name) (i : ServerInfo) → server_at (apply c w) s ≡ Some i → (j : ServerInfo) × (server_at w s ≡ Some j)
+server_old (SetText k text) w q s i e = let l = server_was w k text s i e in (with_text l.0 i, l.1)
+server_old (Attach k at j node) w q s i e = absurd q
+server_old (DropServer k) w q s i e = absurd q
+server_old (Unseat n) w q s i e = absurd q
+server_old Settle w q s i e = absurd q
+server_old c w q s i e = (i, e)
 
 pub nodes_rest : (c : Change) (w : World) → KeepsNodes w c → NodesRest w → NodesRest (apply c w)
 nodes_rest c w q rest = record {
   nodes = nodes_still c w q rest;
-  servers = λ s i e. servers_more c w q s (rest.servers s i (sym (ap (λ m. get m s) (servers_same c w q)) ∙ e));
+  servers = λ s i e. let j = server_old c w q s i e in servers_more c w q s (rest.servers s j.0 j.1);
 }
 
 pub nodes_of_rest : {w : World} → AtRest w → NodesRest w
@@ -389,6 +394,7 @@ opens_rest (Unseat n) w q settled = absurd q
 opens_rest Settle w q settled = absurd q
 opens_rest (EditHeader n f) w q settled = settled
 opens_rest (EditBody n g) w q settled = settled
+opens_rest (SetText s text) w q settled = settled
 
 pub rests_quiet : (cs : List Change) (w : World) → AreQuiet w cs → Rests w cs
 rests_quiet [] w q rest = rest

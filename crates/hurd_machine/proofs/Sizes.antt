@@ -12,7 +12,7 @@ use Rattle.hurd_trans_iface.specs.Good.{IsSized, KeepsSizes, GoodBehaviour}
 use Rattle.hurd_trans_iface.specs.Kinds.{ServerKind, behaviour_of}
 use Rattle.hurd_nodes.specs.Shown.{ServerInfo, info_in, asked_of}
 use Rattle.hurd_machine.specs.World.{World, nodes_of, server_at, info_at, asked_at}
-use Rattle.hurd_machine.specs.Change.{Change, EditHeader, EditBody, MakeNode, Attach, DropServer, Unseat, Settle, apply, apply_all, changes_of}
+use Rattle.hurd_machine.specs.Change.{Change, EditHeader, EditBody, MakeNode, Attach, DropServer, Unseat, SetText, Settle, apply, apply_all, changes_of}
 use Rattle.hurd_machine.specs.Sound.{Coherent, AreSized}
 use Rattle.hurd_machine.proofs.Stays.{sweep, node_left, info_still}
 use Rattle.hurd_machine.proofs.Sweeps.{settle_by}
@@ -40,6 +40,7 @@ IsOfPorts (MakeNode n s node) = ⊥
 IsOfPorts (Attach s at i node) = ⊥
 IsOfPorts (DropServer s) = ⊥
 IsOfPorts (Unseat n) = ⊥
+IsOfPorts (SetText s text) = ⊥
 IsOfPorts Settle = ⊥
 IsOfPorts c = Unit {0}
 
@@ -54,6 +55,7 @@ ports_one (MakeNode n s node) w p = absurd p
 ports_one (Attach s at i node) w p = absurd p
 ports_one (DropServer s) w p = absurd p
 ports_one (Unseat n) w p = absurd p
+ports_one (SetText s text) w p = absurd p
 ports_one Settle w p = absurd p
 ports_one c w p = refl
 

@@ -99,6 +99,7 @@ module _ (w : World) (c : Coherent w) (l : Linked (nodes_of w)) where
     housed = λ n s e. let k = home_left w n s e in let h = c.housing.housed n s k.0 in (h.0, ap header_in (node_still w n k.1) ∙ h.1);
     roots = λ s i e. let k = server_left w s i e in home_still w i.root (root_stays w c s i k.0 k.1) ∙ c.housing.roots s i k.0;
     serving = λ s i e. c.housing.serving s i (server_left w s i e).0;
+    lone = λ n s i e ei. c.housing.lone n s i (home_left w n s e).0 (server_left w s i ei).0;
   }
 
   swept_seating : AreSeated (nodes_of (sweep w))

@@ -22,7 +22,7 @@ unseated_coherent w c k = record {
     entries = c.given.entries;
     parents = c.given.parents;
   };
-  housing = record { homes = c.housing.homes; housed = c.housing.housed; roots = c.housing.roots; serving = c.housing.serving };
+  housing = record { homes = c.housing.homes; housed = c.housing.housed; roots = c.housing.roots; serving = c.housing.serving; lone = c.housing.lone };
   seating = record {
     seated = λ n s e. c.seating.seated n s (still_active w k n s e);
     seats = λ n s e. c.seating.seats n s (still_active w k n s e);

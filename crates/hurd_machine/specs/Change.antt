@@ -1,11 +1,12 @@
 -- What a call changes, as data.
-use Rattle.std.specs.Prelude.{ℕ, Bool, List, [], ◌∷◌, Option}
+use Rattle.std.specs.Prelude.{ℕ, Bool, List, [], ◌∷◌, Option, Some, None}
 use Rattle.std.specs.FinMap.{insert, retain_keys}
 use Rattle.hurd_creds.specs.declared.name.Name.{Name}
 use Rattle.hurd_creds.specs.declared.open_flags.OpenFlags.{OpenFlags}
 use Rattle.hurd_creds.specs.Access.{IdSets}
 use Rattle.hurd_creds.specs.NameMaps.{NameMap, edit}
-use Rattle.hurd_trans_iface.specs.Nodes.{NodeMap, Node, Header, Body, Edit, OnHeader, OnBody, AddNode, with_header, with_body}
+use Rattle.hurd_trans_iface.specs.Nodes.{NodeMap, Node, Header, Body, Edit, OnHeader, OnBody, AddNode, with_header, with_body, with_size}
+use Rattle.hurd_trans_iface.specs.Meaning.{size_of}
 use Rattle.hurd_ports.specs.declared.table.Opened.{Opened}
 use Rattle.hurd_ports.specs.declared.table.PendingStart.{PendingStart}
 use Rattle.hurd_ports.specs.declared.parents.Parent.{Parent}
@@ -31,6 +32,7 @@ pub data Change : Type 0 where
   Attach : Name → Name → ServerInfo → Node → Change  -- a server under the next name of its task, and its root under the one after; active on a node
   DropServer : Name → Change  -- with its nodes
   Unseat : Name → Change  -- what is active on a node is so no more
+  SetText : Name → List ℕ → Change  -- a server's text becomes this
   -- what nothing names goes
   Settle : Change
 
@@ -74,6 +76,10 @@ server_stays w s = kept.server_stays (outside w) (nodes_of w) s
 abbrev pub settle : World → World
 settle w = world_from (kept.settle (outside w) (nodes_of w)) (record { opens = retain_keys w.opens (is_held w.tasks); tasks = w.tasks })
 
+-- a server with this text
+abbrev pub with_text : List ℕ → ServerInfo → ServerInfo
+with_text text i = record i { text = text }
+
 -- the world with other nodes and servers
 abbrev pub with_nodes : NodeState → World → World
 with_nodes h w = world_from h (ports_of w)
@@ -84,6 +90,7 @@ apply Settle w = settle w
 apply (Attach s at i node) w = world_from (attached s at i node (nodes_of w)) (record { opens = w.opens; tasks = next_tasks (Attach s at i node) w.tasks })
 apply (DropServer s) w = with_nodes (out_server s (nodes_of w)) w
 apply (Unseat n) w = with_nodes (unseated n (nodes_of w)) w
+apply (SetText s text) w = record w { servers = edit s (with_text text) w.servers }
 apply c w = record {
   nodes = next_nodes c w.nodes;
   homes = next_homes c w.homes;
@@ -99,6 +106,11 @@ apply_all [] w = w
 apply_all (c ∷ cs) w = apply_all cs (apply c w)
 
 -- what several calls do
+
+-- a server gets this text, where there is one to get; its root's size is what the new text makes it
+abbrev pub retexting : Name → ServerInfo → Option (List ℕ) → List Change
+retexting s i None = []
+retexting s i (Some text) = SetText s text ∷ EditHeader i.root (with_size (size_of i.kind text)) ∷ []
 
 -- a server's edits of a node that is there, as changes
 abbrev pub changes_of : List Edit → List Change

@@ -9,6 +9,7 @@ use Rattle.hurd_creds.specs.Bits.{asks, WRITE}
 use Rattle.hurd_trans_iface.specs.Nodes.{NodeMap, Node, Entry, Header, Body, Content, Listing, IsShaped, is_dir, header_of, body_of}
 use Rattle.hurd_trans_iface.specs.Answers.{entry_in}
 use Rattle.hurd_trans_iface.specs.Kinds.{behaviour_of}
+use Rattle.hurd_trans_iface.specs.Meaning.{keeps_tree}
 use Rattle.hurd_trans_iface.specs.Good.{IsSized}
 use Rattle.hurd_nodes.specs.Shown.{NodeState, ServerInfo, boot_name, is_root, server_of, tree_by}
 use Rattle.hurd_ports.specs.declared.table.Opened.{Opened}
@@ -60,6 +61,8 @@ pub record AreHoused (h : NodeState) : Type 0 where
   -- a server holds one uid and no gids
   pub serving : (s : Name) (i : ServerInfo) → get h.servers s ≡ Some i
       → (u : ℕ) × (i.ids ≡ record { uids = set.from_list (u ∷ []); gids = set.from_list [] })
+  -- a server that keeps no tree has its root alone
+  pub lone : (n s : Name) (i : ServerInfo) → get h.homes n ≡ Some s → get h.servers s ≡ Some i → keeps_tree i.kind ≡ false → n ≡ i.root
 
 -- servers that are active on nodes
 pub record AreSeated (h : NodeState) : Type 0 where

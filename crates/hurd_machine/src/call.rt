@@ -160,6 +160,11 @@ pub enum Call<S = Box<dyn Server>> {
     FsysGetOptions {
         control: u64,
     },
+    /// Gives these words to the server that a port controls.
+    FsysSetOptions {
+        control: u64,
+        words: Words,
+    },
     /// Tells the names in a directory.
     DirReaddir {
         port: u64,

@@ -99,6 +99,9 @@ module _ (kind : ServerKind) (text : List ℕ) where
     housed = λ n s is. let x = option_map-origin _ (fin.get state.nodes n) s (sym (get-map_values (λ (x : Node). boot_name) state.nodes n) ∙ is) in (x.0.header, ap (option_map (λ (y : Node). y.header)) x.1);
     roots = λ s i is. let e = server_only s i is in rw (e.0, e.1) root_home;
     serving = λ s i is. (0, ap (λ (j : ServerInfo). j.ids) (server_only s i is).1);
+    lone = λ n s i is there alone.
+        let x = option_map-origin _ (fin.get state.nodes n) s (sym (get-map_values (λ (x : Node). boot_name) state.nodes n) ∙ is) in
+        (node_only n x.0 x.1).0 ∙ sym (ap (λ (j : ServerInfo). j.root) (server_only s i there).1);
   }
 
   no_active : (n s : Name) → fin.get state.actives n ≡ Some s → ⊥

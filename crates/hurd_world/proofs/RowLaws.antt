@@ -1,12 +1,12 @@
 -- What a row answers is what its call owes.
 use Rattle.std.specs.Prelude.{IfErr, IfSome, IsNone}
 use Rattle.std.specs.Option.{option_map}
-use Rattle.std.proofs.Common.{◌≡◌, inl, inr, ℕ, true, false, List, Result, Ok, Err, Option, Some, None, refl, ap, sym, ◌∙◌}
+use Rattle.std.proofs.Common.{◌≡◌, inl, inr, ℕ, true, false, List, [], ◌∷◌, Result, Ok, Err, Option, Some, None, refl, ap, sym, ◌∙◌}
 use Rattle.hurd_creds.specs.declared.errno.Errno.{Errno}
 use Rattle.hurd_creds.specs.declared.errno.Errno.TheVariants.{ENOMEM}
 use Rattle.hurd_trans_iface.specs.Meaning.{Meaning, Begins}
 use Rattle.hurd_machine.specs.declared.call.Call as code
-use Rattle.hurd_machine.specs.declared.call.Call.TheVariants.{FileSetTranslator, FsysStartup}
+use Rattle.hurd_machine.specs.declared.call.Call.TheVariants.{FileSetTranslator, FsysSetOptions, FsysStartup}
 use Rattle.hurd_machine.specs.declared.call.Reply as code_reply
 use Rattle.hurd_machine.specs.declared.call.Reply.TheVariants.{Done, Found, Port, Data, Count, Names, Words, Stat, Modes, Same, Refused, Back}
 use Rattle.hurd_machine.specs.declared.call.Setting.{Setting}
@@ -14,6 +14,7 @@ use Rattle.hurd_machine.specs.Calls.{Call, Reply, box_in, call_by, refusal, repl
 use Rattle.hurd_machine.specs.World.{World}
 use Rattle.hurd_machine.specs.Plan.{Plan, Follows, Planned, Tried, after_plan, handing_back, is_refused, told}
 use Rattle.hurd_core.specs.Core.{without_box}
+use Rattle.hurd_fsys.specs.Fsys.{plan_set_options}
 use Rattle.hurd_fsys.specs.Setting.{plan_set_translator}
 use Rattle.hurd_fsys.specs.Starting.{plan_startup}
 use Rattle.hurd_laws.specs.Called.{Called}
@@ -49,6 +50,12 @@ module _ {S : Type 0} (f : S → Meaning) (v w : World) (t : ℕ) (call : code.C
   planned_row c k (Err e) got x plain takes none is same left so (back, inr lacks) =
       owed c (Refused e) x is (same ∙ so) left
       (inr (record { told = ap (λ (n : Errno). Refused n) lacks.0 ∙ ap (λ (o : Option Meaning). refusal o ENOMEM) (sym none); takes = takes; wanted = lacks.1; same = back })) tt
+
+  -- the call takes memory where it has words
+  pub options_row : (c : ℕ) (words : List (List ℕ)) (r : Result (Unit {0}) Errno) (got : code_reply.Reply S) (x : World) → call ≡ FsysSetOptions c words → reply ≡ got → y ≡ x → got ≡ told_of (λ (u : Unit {0}). Done) r
+      → Planned w (plan_set_options w t c words) (λ u. Done) r x → (words ≡ [] → Follows w (plan_set_options w t c words) (told (λ u. Done) r) x) → Owes
+  options_row c [] r got x is same left so planned free = follows_row (FsysSetOptions c []) (λ (u : Unit {0}). Done) r got x (λ u. tt) is same left so (free refl)
+  options_row c (v ∷ vs) r got x is same left so planned free = planned_row (FsysSetOptions c (v ∷ vs)) (λ (u : Unit {0}). Done) r got x (λ u. tt) refl refl is same left so planned
 
   -- a call that brings a box, or none
 

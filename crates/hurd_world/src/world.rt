@@ -194,6 +194,9 @@ impl<S: Server> World<S> {
             Call::FsysGetOptions { control } => replies::words(fsys::fsys_get_options(
                 core, alloc, task, control,
             )),
+            Call::FsysSetOptions { control, words } => replies::done(fsys::fsys_set_options(
+                core, alloc, task, control, &words,
+            )),
             Call::DirReaddir { port } => replies::names(files::dir_readdir(
                 core, alloc, task, port,
             )),

@@ -1,9 +1,9 @@
 use Rattle.std.proofs.Common.{◌≡◌, ap, refl, rules}
-use Rattle.hurd_machine.specs.declared.call.Call.TheVariants.{PortDeallocate, PortSend, PortReceive, AuthMakeauth, DirLookup, IoRead, IoWrite, IoSeek, IoStat, IoReadable, IoGetOpenmodes, IoSetAllOpenmodes, IoDuplicate, IoReauthenticate, IoRestrictAuth, IoIdentity, FileSetSize, FileChmod, FileChown, FileCheckAccess, FileGetTranslator, FileGetTranslatorCntl, FileGetcontrol, StartFailed, FsysGetroot, FsysGoaway, FsysGetOptions, DirReaddir, DirMkdir, DirMkfile, DirRmdir, DirUnlink, DirLink, DirRename}
+use Rattle.hurd_machine.specs.declared.call.Call.TheVariants.{PortDeallocate, PortSend, PortReceive, AuthMakeauth, DirLookup, IoRead, IoWrite, IoSeek, IoStat, IoReadable, IoGetOpenmodes, IoSetAllOpenmodes, IoDuplicate, IoReauthenticate, IoRestrictAuth, IoIdentity, FileSetSize, FileChmod, FileChown, FileCheckAccess, FileGetTranslator, FileGetTranslatorCntl, FileGetcontrol, StartFailed, FsysGetroot, FsysGoaway, FsysGetOptions, FsysSetOptions, DirReaddir, DirMkdir, DirMkfile, DirRmdir, DirUnlink, DirLink, DirRename}
 use Rattle.hurd_machine.specs.declared.call.Reply.TheVariants.{Done, Found, Port, Data, Count, Names, Words, Stat, Modes, Same}
 use Rattle.hurd_machine.specs.World.{World}
 use Rattle.hurd_world.specs.Held.{world_of}
-use Rattle.hurd_world.proofs.RowLaws.{follows_row, planned_row, set_row, start_row, begun_box}
+use Rattle.hurd_world.proofs.RowLaws.{follows_row, planned_row, options_row, set_row, start_row, begun_box}
 use Rattle.hurd_world.proofs.world.World.dispatch.Goals.{in-PortDeallocate, in-PortSend, in-PortReceive, in-AuthMakeauth, in-DirLookup, in-IoRead, in-IoWrite, in-IoSeek, in-IoStat, in-IoReadable, in-IoGetOpenmodes, in-IoSetAllOpenmodes, in-IoDuplicate, in-IoReauthenticate, in-IoRestrictAuth, in-IoIdentity, in-FileSetSize, in-FileChmod, in-FileChown, in-FileCheckAccess, in-FileSetTranslator, in-FileGetTranslator, in-FileGetTranslatorCntl, in-FileGetcontrol, in-FsysStartup, in-StartFailed, in-FsysGetroot, in-FsysGoaway, in-FsysGetOptions, in-DirReaddir, in-DirMkdir, in-DirMkfile, in-DirRmdir, in-DirUnlink, in-DirLink, in-DirRename}
 use Rattle.hurd_world.proofs.world.World.dispatch.Goals as goal
 
@@ -46,6 +46,7 @@ returns g c =
       | in-FsysGetroot b ↦ planned_row f v w t c.args.call c.match-call.result y seen (FsysGetroot b.in-FsysGetroot.control b.in-FsysGetroot.dir b.in-FsysGetroot.flags) (λ n. Found n) b.fsys_getroot.result _ (world_of g.S.Server.meaning b.fsys_getroot.new.core) (λ a. tt) refl refl b.in-FsysGetroot.is b.result-is (rw b.self-inside-is refl) b.found-in-FsysGetroot.ensures b.fsys_getroot.ensures
       | in-FsysGoaway b ↦ follows_row f v w t c.args.call c.match-call.result y seen (FsysGoaway b.in-FsysGoaway.control b.in-FsysGoaway.flags) (λ (u : Unit {0}). Done) b.fsys_goaway.result _ (world_of g.S.Server.meaning b.fsys_goaway.new.core) (λ a. tt) b.in-FsysGoaway.is b.result-is (rw b.self-inside-is refl) b.done-in-FsysGoaway.ensures b.fsys_goaway.ensures
       | in-FsysGetOptions b ↦ planned_row f v w t c.args.call c.match-call.result y seen (FsysGetOptions b.in-FsysGetOptions.control) (λ n. Words n) b.fsys_get_options.result _ (world_of g.S.Server.meaning c.self.inside.core) (λ a. tt) refl refl b.in-FsysGetOptions.is b.result-is (rw b.self-inside-is refl) b.words-in-FsysGetOptions.ensures b.fsys_get_options.ensures
+      | in-FsysSetOptions b ↦ options_row f v w t c.args.call c.match-call.result y seen b.in-FsysSetOptions.control b.in-FsysSetOptions.words b.fsys_set_options.result _ (world_of g.S.Server.meaning b.fsys_set_options.new.core) b.in-FsysSetOptions.is b.result-is (rw b.self-inside-is refl) b.done-in-FsysSetOptions.ensures b.fsys_set_options.ensures.planned b.fsys_set_options.ensures.free
       | in-DirReaddir b ↦ planned_row f v w t c.args.call c.match-call.result y seen (DirReaddir b.in-DirReaddir.port) (λ n. Names n) b.dir_readdir.result _ (world_of g.S.Server.meaning c.self.inside.core) (λ a. tt) refl refl b.in-DirReaddir.is b.result-is (rw b.self-inside-is refl) b.names.ensures b.dir_readdir.ensures
       | in-DirMkdir b ↦ planned_row f v w t c.args.call c.match-call.result y seen (DirMkdir b.in-DirMkdir.dir b.in-DirMkdir.name b.in-DirMkdir.mode) (λ (u : Unit {0}). Done) b.dir_mkdir.result _ (world_of g.S.Server.meaning b.dir_mkdir.new.core) (λ a. tt) refl refl b.in-DirMkdir.is b.result-is (rw b.self-inside-is refl) b.done-in-DirMkdir.ensures (rw b.as_slice-in-DirMkdir.ensures at b.dir_mkdir.ensures)
       | in-DirMkfile b ↦ planned_row f v w t c.args.call c.match-call.result y seen (DirMkfile b.in-DirMkfile.dir b.in-DirMkfile.flags b.in-DirMkfile.mode) (λ n. Port n) b.dir_mkfile.result _ (world_of g.S.Server.meaning b.dir_mkfile.new.core) (λ a. tt) refl refl b.in-DirMkfile.is b.result-is (rw b.self-inside-is refl) b.port-in-DirMkfile.ensures b.dir_mkfile.ensures

@@ -1,0 +1,103 @@
+-- A server has another text: what is read of the world then, and that it is coherent.
+use Rattle.std.proofs.Common.{◌≡◌, ◌≢◌, ℕ, List, Option, Some, None, sym, refl, ◌∙◌, ap, inl, inr}
+use Rattle.std.specs.Option.{option_map}
+use Rattle.std.specs.FinMap.{get}
+use Rattle.hurd_creds.specs.declared.name.Name.{Name}
+use Rattle.hurd_creds.proofs.NameLaws.{same_or_apart, edit_here, edit_apart}
+use Rattle.hurd_nodes.specs.Shown.{ServerInfo, is_root_at, is_root_of, info_in, tree_by}
+use Rattle.hurd_nodes.specs.Settle.{stays_by, stays_with}
+use Rattle.hurd_machine.specs.World.{World, nodes_of, home_at, server_at, info_at, is_server_root}
+use Rattle.hurd_machine.specs.Change.{SetText, apply, outside, stays, with_text}
+use Rattle.hurd_machine.specs.Sound.{Coherent}
+use Rattle.hurd_machine.proofs.Nodes.{edited_from, edit_keeps}
+
+module _ (w : World) (s : Name) (text : List ℕ) where
+  abbrev pub retexted : World
+  retexted = apply (SetText s text) w
+
+  -- a server that is there was there, but for its text, and still is
+
+  pub server_was : (q : Name) (i : ServerInfo) → server_at retexted q ≡ Some i → (old : List ℕ) × (server_at w q ≡ Some (with_text old i))
+  server_was q i e = elim (same_or_apart q s) [
+    | inl same ↦
+        let l = edited_from (with_text text) (get w.servers s) i (sym (edit_here w.servers s (with_text text)) ∙ rw same at e) in
+        (l.0.text, rw same (l.1 ∙ ap (λ (j : ServerInfo). Some (with_text l.0.text j)) l.2))
+    | inr apart ↦ (i.text, sym (edit_apart w.servers s (with_text text) q apart) ∙ e)
+  ]
+
+  pub server_still : (q : Name) (i : ServerInfo) → server_at w q ≡ Some i → (new : List ℕ) × (server_at retexted q ≡ Some (with_text new i))
+  server_still q i e = elim (same_or_apart q s) [
+    | inl same ↦ (text, rw same (edit_here w.servers s (with_text text) ∙ ap (option_map (with_text text)) (rw same at e)))
+    | inr apart ↦ (i.text, edit_apart w.servers s (with_text text) q apart ∙ e)
+  ]
+
+  -- what is read of a server without its text is as it was
+  read_kept : {P : Type 0} (read : Option ServerInfo → P) → ((i : ServerInfo) → read (Some (with_text text i)) ≡ read (Some i)) → (q : Name) → read (server_at retexted q) ≡ read (server_at w q)
+  read_kept {P} read blind q = edit_keeps read (with_text text) each w.servers s q
+    where
+      each : (o : Option ServerInfo) → read (option_map (with_text text) o) ≡ read o
+      each None = refl
+      each (Some i) = blind i
+
+  pub root_kept : (n : Name) → is_server_root retexted n ≡ is_server_root w n
+  root_kept n = go (home_at w n)
+    where
+      go : (o : Option Name) → is_root_of retexted.servers n o ≡ is_root_of w.servers n o
+      go None = refl
+      go (Some q) = read_kept (is_root_at n) (λ i. refl) q
+
+  pub tree_kept : (n : Name) → tree_by (info_at retexted n) ≡ tree_by (info_at w n)
+  tree_kept n = go (home_at w n)
+    where
+      go : (o : Option Name) → tree_by (info_in retexted.servers o) ≡ tree_by (info_in w.servers o)
+      go None = refl
+      go (Some q) = read_kept tree_by (λ i. refl) q
+
+  pub stays_kept : (n : Name) → stays retexted n ≡ stays w n
+  stays_kept n = go (home_at w n)
+    where
+      go : (o : Option Name) → stays_by (outside w) (nodes_of retexted) n o ≡ stays_by (outside w) (nodes_of w) n o
+      go None = refl
+      go (Some q) = read_kept (stays_with (outside w) (nodes_of w) n q) (λ i. refl) q
+
+  pub retexted_coherent : Coherent w → Coherent retexted
+  retexted_coherent c = record {
+    given = record {
+      nodes = c.given.nodes;
+      opens = c.given.opens;
+      servers = λ q i e. let l = server_was q i e in c.given.servers q (with_text l.0 i) l.1;
+      rights = c.given.rights;
+      entries = c.given.entries;
+      parents = c.given.parents;
+    };
+    housing = record {
+      homes = λ n h e.
+          let i = c.housing.homes n h e in
+          let l = server_still i.0 i.1 i.3 in
+          (i.0, with_text l.0 i.1, i.2, l.1);
+      housed = c.housing.housed;
+      roots = λ q i e. let l = server_was q i e in c.housing.roots q (with_text l.0 i) l.1;
+      serving = λ q i e. let l = server_was q i e in c.housing.serving q (with_text l.0 i) l.1;
+      lone = λ n q i e ei. let l = server_was q i ei in c.housing.lone n q (with_text l.0 i) e l.1;
+    };
+    seating = record {
+      seated = λ n q e.
+          let i = c.seating.seated n q e in
+          let l = server_still q i.1 i.2 in
+          (i.0, with_text l.0 i.1, l.1);
+      seats = c.seating.seats;
+      alone = c.seating.alone;
+      elsewhere = c.seating.elsewhere;
+    };
+    tree = record {
+      kin = c.tree.kin;
+      below = c.tree.below;
+      trees = λ d n e. tree_kept d ∙ c.tree.trees d n e;
+      shapes = c.tree.shapes;
+      distinct = c.tree.distinct;
+      root = c.tree.root;
+      boot = root_kept boot_root ∙ c.tree.boot;
+      served = c.tree.served;
+    };
+    tables = record { numbers = c.tables.numbers; opened = c.tables.opened; shared = c.tables.shared; written = c.tables.written };
+  }
