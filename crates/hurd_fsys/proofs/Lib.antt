@@ -1,6 +1,7 @@
 pub mod OwnedLaws
 pub mod ControlLaws
 pub mod FsysLaws
+pub mod OptionsLaws
 pub mod BegunLaws
 pub mod StoringLaws
 pub mod SettingLaws
