@@ -14,10 +14,10 @@ use Rattle.hurd_creds.specs.Names.{name_of, same_name}
 use Rattle.hurd_creds.specs.NameMaps.{NameMap, edit, map_values}
 use Rattle.hurd_trans_iface.specs.declared.new_node.NewNode.{NewNode}
 use Rattle.hurd_trans_iface.specs.declared.readable.Readable.{Readable}
-use Rattle.hurd_trans_iface.specs.Nodes.{NodeMap, Node, Header, Edit, node_of_edit, body_of, edit_all}
+use Rattle.hurd_trans_iface.specs.Nodes.{NodeMap, Node, Header, Edit, OnHeader, node_of_edit, body_of, edit_all, with_size}
 use Rattle.hurd_trans_iface.specs.Answers.{entry_of, make_of, make_edits, nameless_of, nameless_edits, link_of, link_edits, unlink_of, unlink_edits, rename_of, rename_edits, set_header_of, set_attrs_edits, set_passive_edits, edits_if}
 use Rattle.hurd_trans_iface.specs.Behaviour.{Question, Effect, effect_on, told_of, edits_of}
-use Rattle.hurd_trans_iface.specs.Meaning.{Meaning, ServerKind, behaviour_of, keeps_tree, options_of, begin_root_after, forget_after, new_root}
+use Rattle.hurd_trans_iface.specs.Meaning.{Meaning, ServerKind, behaviour_of, keeps_tree, options_of, size_of, begin_root_after, forget_after, new_root}
 use Rattle.hurd_nodes.specs.Held.{Held, Seated, mean, box_at, with_box, is_home}
 
 -- the fixed name of the boot server and of its root, which no task makes
@@ -267,6 +267,44 @@ set_attrs_at n owner group mode h = let answer = can_set_attrs n h in (answer, w
 -- with the words of a passive translator stored with a node, or with none
 abbrev pub set_passive_at : Name → List (List ℕ) → NodeState → Result (Unit {0}) Errno × NodeState
 set_passive_at n words h = let answer = can_set_attrs n h in (answer, with_edits (edits_if answer (set_passive_edits n words)) h)
+
+-- options of a server
+
+-- a server with another text
+abbrev pub with_text : List ℕ → ServerInfo → ServerInfo
+with_text text i = record i { text = text }
+
+-- the names of a server's nodes
+abbrev pub own_nodes : Name → NameMap Name → List Name
+own_nodes s homes = fin.keys (fin.retain_keys homes (λ n. is_home s (fin.get homes n)))
+
+-- these nodes get a size
+abbrev pub sizing : ℕ → List Name → List Edit
+sizing k [] = []
+sizing k (n ∷ ns) = OnHeader n (with_size k) ∷ sizing k ns
+
+-- with another text of a server, if one is given: each of its nodes gets the size that this says
+abbrev pub retexted : Name → ServerInfo → Option (List ℕ) → NodeState → NodeState
+retexted s i None h = h
+retexted s i (Some text) h = record h { nodes = edit_all (sizing (size_of i.kind text) (own_nodes s h.homes)) h.nodes; servers = edit s (with_text text) h.servers }
+
+-- a server, with the text that it takes
+abbrev pub info_taken : ServerInfo → Result (Option (List ℕ)) Errno → Result (ServerInfo × Option (List ℕ)) Errno
+info_taken i (Ok text) = Ok (i, text)
+info_taken i (Err e) = Err e
+
+-- the text that these options give a server, if it is there and takes them
+abbrev pub takes_options : List (List ℕ) → Option ServerInfo → Result (ServerInfo × Option (List ℕ)) Errno
+takes_options ws None = Err EDIED
+takes_options ws (Some i) = info_taken i ((behaviour_of i.kind).set_options ws)
+
+-- options that are taken, or refused, with the maps that they leave
+abbrev pub retexted_if : Name → Result (ServerInfo × Option (List ℕ)) Errno → NodeState → Result (Unit {0}) Errno × NodeState
+retexted_if s (Ok t) h = (Ok tt, retexted s t.0 t.1 h)
+retexted_if s (Err e) h = (Err e, h)
+
+abbrev pub set_options_at : Name → List (List ℕ) → NodeState → Result (Unit {0}) Errno × NodeState
+set_options_at s ws h = retexted_if s (takes_options ws (fin.get h.servers s)) h
 
 -- the mode of the boot root: 0o755
 abbrev pub boot_mode : Mode

@@ -1,16 +1,16 @@
-//! Changes of nodes by their servers: what is written, made, linked, renamed, taken out of directories, and stored with nodes.
-ghost use Rattle.std.specs.Prelude.{◌≡◌, None};
+//! Changes of nodes by their servers: what is written, made, linked, renamed, taken out of directories, stored with nodes, and set as options.
+ghost use Rattle.std.specs.Prelude.{◌≡◌, [], None};
 ghost use Rattle.std.specs.FinMap as fin;
 ghost use Rattle.hurd_creds.specs.Memory.{Steps};
 ghost use Rattle.hurd_trans_iface.specs.Behaviour.{reading, writing, resizing};
-ghost use Rattle.hurd_nodes.specs.Shown.{shown, asked_step, make_at, link_at, set_attrs_at, set_passive_at, HideNothing, unlink_at, rename_at, make_nameless_at};
+ghost use Rattle.hurd_nodes.specs.Shown.{shown, asked_step, make_at, link_at, set_attrs_at, set_passive_at, set_options_at, HideNothing, unlink_at, rename_at, make_nameless_at};
 ghost use Rattle.hurd_nodes.specs.Held.{holds_of};
 
 use crate::asking::{can_make_in, can_make_nameless_in};
 use crate::nodes::Nodes;
-use crate::search::{place_of_server, put_home};
+use crate::search::{place_of_seat, place_of_server, put_home};
 use crate::seat::Home;
-use hurd_creds::{Bytes, Errno, Mode, NodeName};
+use hurd_creds::{Bytes, Errno, Mode, NodeName, ServerName};
 use hurd_trans_iface::{NewNode, Server, Words};
 use std::alloc::Global;
 
@@ -211,6 +211,27 @@ impl<S: Server> Nodes<S> {
     {
         match self.server_of_mut(node) {
             Some(server) => server.set_passive(node, words),
+            None => Err(Errno::EDIED),
+        }
+    }
+    /// Gives a server other options in place of those that it has; without words nothing changes, and no memory is taken.
+    ///
+    /// Errors, in order: `EDIED` no such server, `EINVAL` words that it doesn't take, `ENOMEM`.
+    pub fn set_options(
+        &mut self,
+        alloc: Global,
+        server: ServerName,
+        words: &Words,
+    ) -> Result<(), Errno>
+        ensures shown { let h = shown S.meaning self.old in
+            Steps h (set_options_at server words.now h) result (shown S.meaning self.new) }
+        ensures no_words { let h = shown S.meaning self.old in
+            words.now ≡ [] → (result, shown S.meaning self.new) ≡ set_options_at server words.now h }
+        ensures holds { holds_of self.new ≡ holds_of self.old }
+        ensures hidden { HideNothing S.meaning self.old → HideNothing S.meaning self.new }
+    {
+        match place_of_seat(&self.seats, server) {
+            Some(i) => self.seats[i].server.set_options(alloc, words),
             None => Err(Errno::EDIED),
         }
     }

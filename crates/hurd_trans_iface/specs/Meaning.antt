@@ -4,12 +4,13 @@ use Rattle.std.specs.Str.{bytes_eq}
 use Rattle.std.specs.Option.{option_map, option_or}
 use Rattle.std.specs.FinMap as fin
 use Rattle.hurd_creds.specs.declared.name.Name.{Name}
+use Rattle.hurd_creds.specs.NameMaps.{map_values}
 use Rattle.hurd_creds.specs.declared.mode.Mode.{Mode}
 use Rattle.hurd_creds.specs.declared.open_flags.OpenFlags.{OpenFlags}
 use Rattle.hurd_creds.specs.declared.errno.Errno.{Errno}
 use Rattle.hurd_trans_iface.specs.declared.new_node.NewNode.{NewNode}
 use Rattle.hurd_trans_iface.specs.declared.root.Root.{Root}
-use Rattle.hurd_trans_iface.specs.Nodes.{Body, Content, Listing, Node, NodeMap, Edit, OnHeader, body_of, edit_all, is_dir, with_size}
+use Rattle.hurd_trans_iface.specs.Nodes.{Body, Content, Listing, Node, NodeMap, Edit, body_of, edit_all, is_dir, with_header, with_size}
 use Rattle.hurd_trans_iface.specs.Answers.{entry_of, make_of, make_edits, nameless_of, nameless_edits, link_of, link_edits, unlink_of, unlink_edits, rename_of, rename_edits, set_header_of, set_attrs_edits, set_passive_edits, edits_if}
 use Rattle.hurd_trans_iface.specs.Behaviour.{Behaviour, Question, effect_on, told_of, edits_of}
 use Rattle.hurd_trans_iface.specs.declared.readable.Readable.{Readable}
@@ -83,19 +84,14 @@ edited es m = record m { nodes = edit_all es m.nodes }
 abbrev pub step_of : {T : Type 0} → Question T → Name → Meaning → Result T Errno × Meaning
 step_of q n m = let e = effect_on q (behaviour_of m.kind) m.text (fin.get m.nodes n) in (told_of e, edited (edits_of n e) m)
 
--- the size of a root without entries, where its server has this kind and text
+-- the size of a node without entries, where its server has this kind and text
 abbrev pub size_of : ServerKind → List ℕ → ℕ
 size_of k text = (behaviour_of k).size text (Content [])
 
--- the root, if it has a name, gets a size
-abbrev pub root_edits : Option Name → ℕ → List Edit
-root_edits None k = []
-root_edits (Some n) k = OnHeader n (with_size k) ∷ []
-
--- the server with another text, if one is given: its root has the size that this says
+-- the server with another text, if one is given: whatever node it has gets the size that this says
 abbrev pub with_text : Option (List ℕ) → Meaning → Meaning
 with_text None m = m
-with_text (Some text) m = edited (root_edits m.root (size_of m.kind text)) (record m { text = text })
+with_text (Some text) m = record m { text = text; nodes = map_values (with_header (with_size (size_of m.kind text))) m.nodes }
 
 -- options that are taken, or refused, with the server that they leave
 abbrev pub options_taken : Result (Option (List ℕ)) Errno → Meaning → Result (Unit {0}) Errno × Meaning
