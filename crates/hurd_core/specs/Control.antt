@@ -2,16 +2,15 @@
 use Rattle.std.specs.Prelude.{ℕ, List, Option, Some, None, Result, Ok, Err}
 use Rattle.hurd_creds.specs.declared.name.Name.{Name}
 use Rattle.hurd_creds.specs.declared.errno.Errno.{Errno}
-use Rattle.hurd_creds.specs.declared.errno.Errno.TheVariants.{EBADF, EDIED}
-use Rattle.hurd_trans_iface.specs.Meaning.{behaviour_of}
-use Rattle.hurd_nodes.specs.Shown.{ServerInfo}
+use Rattle.hurd_creds.specs.declared.errno.Errno.TheVariants.{EBADF}
+use Rattle.hurd_nodes.specs.Shown.{takes_options}
 use Rattle.hurd_ports.specs.declared.table.Right.{Right}
 use Rattle.hurd_ports.specs.declared.table.Right.TheVariants.{Io, Control, Start}
 use Rattle.hurd_ports.specs.Tables.{PortState, or_refuse, right_of}
 use Rattle.hurd_machine.specs.declared.call.Reply.TheVariants.{Done}
 use Rattle.hurd_machine.specs.World.{World, server_at}
 use Rattle.hurd_machine.specs.Change.{retexting}
-use Rattle.hurd_machine.specs.Plan.{Plan, on, first, answered}
+use Rattle.hurd_machine.specs.Plan.{Plan, answered}
 
 -- the server that a right controls
 abbrev pub server_in : Right → Option Name
@@ -27,12 +26,6 @@ control_in (Ok r) = or_refuse EBADF (server_in r)
 abbrev pub control_of : PortState → ℕ → ℕ → Result Name Errno
 control_of h t p = control_in (right_of h t p)
 
--- a server, with the text that options give it, if any: EDIED, EINVAL
-abbrev pub options_asks : World → Name → List (List ℕ) → Result (ServerInfo × Option (List ℕ)) Errno
-options_asks w s words =
-    on EDIED (server_at w s) (λ i.
-    first ((behaviour_of i.kind).set_options words) (λ text. Ok (i, text)))
-
--- it gets that text
+-- a server gets the text that options give it, if any: EDIED, EINVAL
 abbrev pub plan_options : World → Name → List (List ℕ) → Plan
-plan_options w s words = answered (options_asks w s words) (λ a. record { reply = Done; changes = retexting s a.0 a.1 })
+plan_options w s words = answered (takes_options words (server_at w s)) (λ a. record { reply = Done; changes = retexting w s a.0 a.1 })

@@ -158,7 +158,7 @@ module _ (t p : ℕ) (flags : OpenFlags) (mode : Mode) where
         let b = file_made_by v a is in
         nameless_may v t m.0 k.is_task m.1 k.server.info k.is_server (file a.1) (file_nameless a.1) a.0.right.ids a.0.right.parents modes S c ours (right_taken t ours p a.0.right b.is_port.is_right)
         (ways_seen v t p a.0.right b.is_port.is_right S ours) (OfNode a.1.dir (mkfile_seen ours a b).0 k.home)));
-    same = λ S v w c a ours. answered_same _ _ _ _ (mkfile_same a ours) (λ b is.
+    same = λ S v w c d a ours. answered_same _ _ _ _ (mkfile_same a ours) (λ b is.
         answered_same _ _ _ _ (making_same a t ours b.1.dir (mkfile_seen ours b (file_made_by v b is))) (λ m may. refl));
     plain = λ w. answered_plain _ _ (mkfile_plain w) (λ a is. answered_plain _ _ (making_plain w t a.1.dir) (λ m may. done_plain (Port m.0.next) refl));
   }

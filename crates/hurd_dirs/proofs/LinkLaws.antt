@@ -83,7 +83,7 @@ module _ (t p : ℕ) (name : List ℕ) (q : ℕ) where
     sized = λ w s. answered_sized w _ _ s.sizes (λ f is. answered_sized w _ _ s.sizes (λ u may. link_sized f.dir name f.file good w s.sizes));
     rests = λ w s. answered_rests w _ _ s.settled (λ f is. answered_rests w _ _ s.settled (λ u may. link_rests f.dir name f.file w s.settled));
     may = λ S v c ours. answered_may v _ _ S v (λ f is. answered_may v _ _ S v (λ u may. link_may f.dir name f.file S v v (file_seen ours f (named_by v f is))));
-    same = λ S v w c a ours. answered_same _ _ _ _ (link_same a ours) (λ f is.
+    same = λ S v w c d a ours. answered_same _ _ _ _ (link_same a ours) (λ f is.
         let n = named_by v f is in
         answered_same _ _ _ _ (links_same a f.dir f.file name (dir_seen ours f n) (file_seen ours f n)) (λ u may. refl));
     plain = λ w. answered_plain _ _ (link_plain w) (λ f is. answered_plain _ _ (links_plain w f.dir name f.file) (λ u may. done_plain Done refl));

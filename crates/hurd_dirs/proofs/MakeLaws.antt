@@ -63,7 +63,7 @@ module _ (t p : ℕ) (name : List ℕ) (mode : Mode) where
     sized = λ w s. answered_sized w _ _ s.sizes (λ f is. answered_sized w _ _ s.sizes (λ m may. dir_sized t f w m (asks_dir t f w m may) good s.sizes));
     rests = λ w s. answered_rests w _ _ s.settled (λ f is. answered_rests w _ _ s.settled (λ m may. dir_rests t f w m (asks_dir t f w m may) s.coherent s.settled));
     may = λ S v c ours. answered_may v _ _ S v (λ f is. answered_may v _ _ S v (λ m may. dir_may t f v m (asks_dir t f v m may) S ours (made_seen ours f is).0));
-    same = λ S v w c a ours. answered_same _ _ _ _ (mkdir_same a ours) (λ f is.
+    same = λ S v w c d a ours. answered_same _ _ _ _ (mkdir_same a ours) (λ f is.
         answered_same _ _ _ _ (making_dir_same t f a ours (made_seen ours f is)) (λ m may. refl));
     plain = λ w. answered_plain _ _ (mkdir_plain w) (λ f is. answered_plain _ _ (making_dir_plain t f w) (λ m may. done_plain Done refl));
   }

@@ -212,7 +212,7 @@ module _ (t p : ℕ) (name : List ℕ) (asks : World → Result Entered Errno) w
     sized = λ w s. answered_sized w _ _ s.sizes (λ x is. removal_sized x.dir name x.node good w s.sizes);
     rests = λ w s. answered_rests w _ _ s.settled (λ x is. removal_rests x.dir name x.node w s.settled);
     may = λ S v c ours. answered_may v _ _ S v (λ x is. removal_may x.dir name x.node S v c (body_seen t ours p name x (takes v x is).is_taking));
-    same = λ S v w c a ours. answered_same _ _ _ _ (same S v w c a ours) (λ x is. refl);
+    same = λ S v w c d a ours. answered_same _ _ _ _ (same S v w c a ours) (λ x is. refl);
     plain = λ w. answered_plain _ _ (plain w) (λ x is. done_plain Done refl);
   }
 

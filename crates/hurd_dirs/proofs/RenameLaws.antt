@@ -537,7 +537,7 @@ module _ (t p q : ℕ) (name new : List ℕ) where
     sized = λ w s. answered_sized w _ _ s.sizes (λ r is. rename_sized w r is s.sizes);
     rests = λ w s. answered_rests w _ _ s.settled (λ r is. rename_rests w r is s.settled);
     may = λ S v c ours. answered_may v _ _ S v (λ r is. rename_may S v c ours r is);
-    same = λ S v w c a ours. answered_same _ _ _ _ (rename_same a c ours) (λ r is. refl);
+    same = λ S v w c d a ours. answered_same _ _ _ _ (rename_same a c ours) (λ r is. refl);
     plain = λ w. answered_plain _ _ (rename_plain w) (λ r is. done_plain Done refl);
   }
 

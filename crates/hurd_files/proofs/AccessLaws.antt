@@ -82,7 +82,7 @@ module _ (t p : ℕ) (can : IdSets → Attrs → Bool) (owner group : Named → 
         let m = may_set v t p can n is in
         let o = owner_holds S v n (holds_right t ours p (Io n.right) m.is_named.is_right) (owners n.right.ids (bare n.header) m.may) in
         attrs_may n.right.node (owner n) (group n) (mode n) S v v n.header m.is_named.is_header o.0 o.1 o.2);
-    same = λ S v w c a ours. answered_same _ _ _ _ (setting_same S v w a ours) (λ n is. refl);
+    same = λ S v w c d a ours. answered_same _ _ _ _ (setting_same S v w a ours) (λ n is. refl);
     plain = λ w. answered_plain _ _ (setting_plain w) (λ n is. done_plain Done refl);
   }
 

@@ -38,7 +38,7 @@ set_size_laws t p size = record {
       did_sized (resizing size) (λ k. (good k).set_size_sizes size) w s.coherent n d told s.sizes));
   rests = λ w s. answered_rests w _ _ s.settled (λ n is. answered_rests w _ _ s.settled (λ d told. did_rests w n d s.settled));
   may = λ S v c ours. answered_may v _ _ S v (λ n is. answered_may v _ _ S v (λ d told. did_may S v v n d));
-  same = λ S v w c a ours. answered_same _ _ _ _ (first_same _ _ _ _ (handle_same a t ours p WRITE) (λ h is. refl)) (λ n is.
+  same = λ S v w c d a ours. answered_same _ _ _ _ (first_same _ _ _ _ (handle_same a t ours p WRITE) (λ h is. refl)) (λ n is.
       let h = resized_by v t p n is in
       let seen : Seen S v n = subst (Seen S v) h.2 (handle_seen t ours p WRITE h.0 h.1) in
       answered_same _ _ _ _ (asked_same a n (resizing size) (λ k. (good k).set_size_blind size) seen) (λ d told. refl));

@@ -83,7 +83,7 @@ module _ (t c : ℕ) (flags : GoawayFlags) where
     sized = λ w s. answered_sized w _ _ s.sizes (λ q is. goes_sized w s.coherent q (goer w q is).other s.sizes);
     rests = λ w s. answered_rests w _ _ s.settled (λ q is. goes_rests w s.coherent q (goer w q is).other s.settled);
     may = λ S v c' ours. answered_may v _ _ S v (λ q is. goes_may v c' q (goer v q is).other S v);
-    same = λ S v w c' a ours. answered_same _ _ _ _ (goaway_same S v w a ours) (λ q is. refl);
+    same = λ S v w c' d a ours. answered_same _ _ _ _ (goaway_same S v w a ours) (λ q is. refl);
     plain = λ w. answered_plain _ _ (goaway_plain w) (λ q is. done_plain Done refl);
   }
 
@@ -121,7 +121,7 @@ module _ (t : ℕ) where
     sized = λ w s. answered_sized w _ _ s.sizes (λ q is. answered_sized w _ _ s.sizes (λ x at. controls_sized t q w s.sizes));
     rests = λ w s. answered_rests w _ _ s.settled (λ q is. answered_rests w _ _ s.settled (λ x at. controls_rests t q w s.settled));
     may = λ S v c ours. answered_may v _ _ S v (λ q is. answered_may v _ _ S v (λ x at. controls_may t q S v ours (l.commanded S v c ours q is)));
-    same = λ S v w c a ours. answered_same _ _ _ _ (l.same S v w a ours) (λ q is. answered_same _ _ _ _ (room_same S v w a ours) (λ x at. refl));
+    same = λ S v w c d a ours. answered_same _ _ _ _ (l.same S v w a ours) (λ q is. answered_same _ _ _ _ (room_same S v w a ours) (λ x at. refl));
     plain = λ w. answered_plain _ _ (l.plain w) (λ q is. answered_plain _ _ (room_plain w) (λ x at. done_plain (Port x.next) refl));
   }
 

@@ -394,7 +394,7 @@ module _ (t p : ℕ) (f : Setting) where
         unseat = λ n k. words_may S v n k ours _ (unseats_may (stored n.right.node v) (stored_coherent v c n) n.right.node S v);
         come = λ n k m x at old is_old. words_may S v n k ours (comings_of n m old x) (comings_may (stored n.right.node v) (stored_coherent v c n) t n (like v n k).there m x at S v ours old);
       });
-      same = λ S v w c a ours. answered_same _ _ _ _ (setter_same a ours (is_some box)) (λ n is. half_same c a ours n (setter v (is_some box) n is) (sets_nothing f));
+      same = λ S v w c d a ours. answered_same _ _ _ _ (setter_same a ours (is_some box)) (λ n is. half_same c a ours n (setter v (is_some box) n is) (sets_nothing f));
       plain = λ w. answered_plain _ _ (setter_plain w (is_some box)) (λ n is. half_plain w n (sets_nothing f));
     }
       where

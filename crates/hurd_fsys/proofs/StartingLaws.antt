@@ -79,7 +79,7 @@ module _ (t : ℕ) where
     sized = λ w s. answered_sized w _ _ s.sizes (λ q is. pends_sized t None w s.sizes);
     rests = λ w s. answered_rests w _ _ s.settled (λ q is. pends_rests t None w s.settled);
     may = λ S v c ours. answered_may v _ _ S v (λ q is. pends_may t None S v v ours tt);
-    same = λ S v w c a ours. answered_same _ _ _ _ (pending_same a ours) (λ q is. refl);
+    same = λ S v w c d a ours. answered_same _ _ _ _ (pending_same a ours) (λ q is. refl);
     plain = λ w. answered_plain _ _ (pending_plain w) (λ q is. done_plain Done refl);
   }
 
@@ -214,6 +214,6 @@ module _ (t : ℕ) (m : Meaning) where
     sized = λ w s. answered_sized w _ _ s.sizes (λ q is. started_sized w s.coherent q s.sizes);
     rests = λ w s. answered_rests w _ _ s.settled (λ q is. started_rests w s.coherent q s.settled);
     may = λ S v c ours. answered_may v _ _ S v (λ q is. started_may v c q S v ours);
-    same = λ S v w c a ours. answered_same _ _ _ _ (pending_same t a ours) (λ s is. ap (started t s m) (startup_same a ours s (starter t v s is)));
+    same = λ S v w c d a ours. answered_same _ _ _ _ (pending_same t a ours) (λ s is. ap (started t s m) (startup_same a ours s (starter t v s is)));
     plain = λ w. answered_plain _ _ (pending_plain t w) (λ s is. started_plain w s);
   }

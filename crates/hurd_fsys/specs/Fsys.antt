@@ -8,7 +8,7 @@ use Rattle.hurd_creds.specs.Access.{IdSets, holds_uid, is_root, least_uid}
 use Rattle.hurd_creds.specs.Names.{same_name}
 use Rattle.hurd_creds.specs.TransBits.{asks_goaway, FORCE}
 use Rattle.hurd_trans_iface.specs.Meaning.{options_of}
-use Rattle.hurd_nodes.specs.Shown.{ServerInfo, boot_name}
+use Rattle.hurd_nodes.specs.Shown.{ServerInfo, boot_name, takes_options}
 use Rattle.hurd_ports.specs.declared.table.Right.TheVariants.{Control}
 use Rattle.hurd_ports.specs.Steps.{with_port}
 use Rattle.hurd_machine.specs.declared.call.Reply.TheVariants.{Done, Port, Words}
@@ -19,7 +19,6 @@ use Rattle.hurd_machine.specs.Handle.{port_asks}
 use Rattle.hurd_machine.specs.Sight.{Part, AttrOf, OptionsOf, users}
 use Rattle.hurd_machine.specs.Touched.{asked_parts, Nothing, Goes}
 use Rattle.hurd_core.specs.Core.{room_asks}
-use Rattle.hurd_core.specs.Control as core
 use Rattle.hurd_core.specs.Control.{control_of, plan_options}
 use Rattle.hurd_fsys.specs.Controls.{control_asks}
 use Rattle.hurd_fsys.specs.Owned.{owned_asks}
@@ -107,4 +106,4 @@ options_parts s i p = (p ≡ OptionsOf s) ⊎ (p ≡ AttrOf i.root)
 
 abbrev pub touches_set_options : World → ℕ → ℕ → List (List ℕ) → Part → Type 0
 touches_set_options w t c words =
-    asked_parts (control_of (ports_of w) t c) (λ s. asked_parts (core.options_asks w s words) (λ a. options_parts s a.0))
+    asked_parts (control_of (ports_of w) t c) (λ s. asked_parts (takes_options words (server_at w s)) (λ a. options_parts s a.0))

@@ -121,7 +121,7 @@ module _ {T : Type 0} (t : ℕ) (asks : World → Result IoAt Errno) (q : ℕ �
         rests_append (edits a d) (moves a d) w (did_rests w a.node d) (moved_rests (between w a d) a.offset a.is_stream a.open_name _) s.settled));
     may = λ S v c ours. answered_may v _ _ S v (λ a is. answered_may v _ _ S v (λ d told.
         may_append S v (edits a d) (moves a d) v (did_exact a.node d) (did_may S v v a.node d) (moved_may S v (between v a d) a.offset a.is_stream a.open_name _)));
-    same = λ S v w c a ours. answered_same _ _ _ _ (l.asks_same S v w a ours) (λ x is. answered_same _ _ _ _ (l.told_same S v w a ours x is) (λ d told. refl));
+    same = λ S v w c d a ours. answered_same _ _ _ _ (l.asks_same S v w a ours) (λ x is. answered_same _ _ _ _ (l.told_same S v w a ours x is) (λ d told. refl));
     plain = λ w. answered_plain _ _ (l.asks_plain w) (λ a is.
         answered_plain _ _ (asked_plain (q a.at) (l.told_plain a.at) a.node w) (λ d told. done_plain _ (l.reply_plain d.told)));
   }

@@ -37,7 +37,7 @@ module _ (t p : ℕ) (offset : ℤ) (whence : Whence) where
     sized = λ w s. answered_sized w _ _ s.sizes (λ k is. cursor_sized w k.0 k.1 s.sizes);
     rests = λ w s. answered_rests w _ _ s.settled (λ k is. cursor_rests w k.0 k.1 s.settled);
     may = λ S v c ours. answered_may v _ _ S v (λ k is. cursor_may S v v k.0 k.1);
-    same = λ S v w c a ours. answered_same _ _ _ _ (seek_same S v w a ours) (λ k is. refl);
+    same = λ S v w c d a ours. answered_same _ _ _ _ (seek_same S v w a ours) (λ k is. refl);
     plain = λ w. answered_plain _ _ (seek_plain w) (λ k is. done_plain (Count k.1) refl);
   }
 
@@ -64,6 +64,6 @@ set_openmodes_laws t p flags = record {
   sized = λ w s. answered_sized w _ _ s.sizes (λ a is. append_sized a.open_name (asks flags APPEND) w s.sizes);
   rests = λ w s. answered_rests w _ _ s.settled (λ a is. append_rests a.open_name (asks flags APPEND) w s.settled);
   may = λ S v c ours. answered_may v _ _ S v (λ a is. append_may S v v a.open_name (asks flags APPEND));
-  same = λ S v w c a ours. answered_same _ _ _ _ (handle_same a t ours p any_mode) (λ b is. refl);
+  same = λ S v w c d a ours. answered_same _ _ _ _ (handle_same a t ours p any_mode) (λ b is. refl);
   plain = λ w. answered_plain _ _ (handle_plain w t p any_mode) (λ a is. done_plain Done refl);
 }

@@ -63,7 +63,7 @@ module _ (t p : ℕ) where
       rests = λ w s. answered_rests w _ _ s.settled (λ a is. shares_rests t a.0 (given a) w s.settled);
       may = λ S v c ours. answered_may v _ _ S v (λ a is.
           let h = is_shared v t p a is in shares_may t a.0 (given a) S v ours (holds_right t ours p (Io a.0) h.is_right) (power S v a ours h));
-      same = λ S v w c a ours. answered_same _ _ _ _ (share_same S v w a ours) (λ b is. refl);
+      same = λ S v w c d a ours. answered_same _ _ _ _ (share_same S v w a ours) (λ b is. refl);
       plain = λ w. answered_plain _ _ (share_plain w) (λ a is. done_plain (Port a.1.next) refl);
     }
 

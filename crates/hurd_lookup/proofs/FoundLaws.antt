@@ -107,6 +107,6 @@ module _ (t : ℕ) (flags : OpenFlags) (found : World → Result Outcome Errno) 
     rests = λ w s. answered_rests w (asked w) _ s.settled (λ got is. let k = answer w got is in outcome_rests w t got.1 k.is_task flags s.coherent got.0 (leads_of w got k) s.settled);
     may = λ S v c ours. answered_may v (asked v) _ S v (λ got is.
         let k = answer v got is in outcome_may v t got.1 k.is_task flags S c ours got.0 (l.seen S v ours got.0 k.is_found) (leads_of v got k));
-    same = λ S v w c a ours. answered_same _ _ _ _ (asked_same S v w a ours) (λ got is. refl);
+    same = λ S v w c d a ours. answered_same _ _ _ _ (asked_same S v w a ours) (λ got is. refl);
     plain = λ w. answered_plain (asked w) _ (asked_plain w) (λ got is. done_plain (Found (lookup_told got.1 got.0)) refl);
   }

@@ -8,7 +8,7 @@ use Rattle.hurd_creds.specs.NameMaps.{edit}
 use Rattle.hurd_creds.proofs.NameLaws.{same_or_apart, get_here, get_apart, edit_here, edit_apart}
 use Rattle.hurd_trans_iface.specs.Nodes.{Node, Header, Body, Content, Listing, with_header, with_body}
 use Rattle.hurd_trans_iface.specs.Answers.{entry_in, entry_of}
-use Rattle.hurd_nodes.specs.Shown.{ServerInfo}
+use Rattle.hurd_nodes.specs.Shown.{ServerInfo, with_text}
 use Rattle.hurd_ports.specs.declared.table.Opened.{Opened}
 use Rattle.hurd_ports.specs.declared.table.IoRight.{IoRight}
 use Rattle.hurd_ports.specs.declared.table.Right.{Right}
@@ -17,7 +17,7 @@ use Rattle.hurd_ports.specs.Tables.{Task, rights_of}
 use Rattle.hurd_ports.specs.Steps.{named, with_sent, edit_task}
 use Rattle.hurd_machine.specs.World.{World, IsAmong, task_at, open_at, header_at, body_at, home_at, active_at, server_at}
 use Rattle.hurd_machine.specs.Sight.{Holds, HasUid, Taken, SeesBody, BodyOf, OptionsOf, Sees}
-use Rattle.hurd_machine.specs.Change.{Change, EditHeader, EditBody, MakeNode, EditOpen, MakeOpen, EditTask, Send, Attach, DropServer, Unseat, SetText, Settle, with_text, apply}
+use Rattle.hurd_machine.specs.Change.{Change, EditHeader, EditBody, MakeNode, EditOpen, MakeOpen, EditTask, Send, Attach, DropServer, Unseat, SetText, Settle, apply}
 use Rattle.hurd_machine.specs.Sound.{Coherent}
 use Rattle.hurd_machine.proofs.Nodes.{header_in, body_in, header-with_header, header-with_body, body-with_header, body-with_body, edit_reads, edit_keeps, edited_from, node_of_header, ByEmptiness}
 use Rattle.hurd_machine.proofs.Tasks.{edit_cases, sent_cases}

@@ -36,7 +36,7 @@ pub record CallLaws (t : ℕ) (plan : World → Plan) (touches : World → Part 
   pub rests : (w : World) → Sound w → AtRest (after_plan w (plan w))
   -- a task of S may make its changes, and plans the same in worlds that agree
   pub may : (S : ℕ → Bool) (v : World) → Coherent v → S t ≡ true → AllMay S v v (plan v).changes
-  pub same : (S : ℕ → Bool) (v w : World) → Coherent v → Agree S v w → S t ≡ true → plan w ≡ plan v
+  pub same : (S : ℕ → Bool) (v w : World) → Coherent v → Coherent w → Agree S v w → S t ≡ true → plan w ≡ plan v
   -- of memory it knows nothing
   pub plain : (w : World) → IsPlainReply (plan w).reply
 
@@ -75,7 +75,7 @@ looking_laws t asks reply same plain told = record {
   linked = λ w s. answered_linked w _ _ s.linked (λ a is. s.linked);
   rests = λ w s. answered_rests w _ _ s.settled (λ a is. s.settled);
   may = λ S v c ours. answered_may v _ _ S v (λ a is. tt);
-  same = λ S v w c a ours. answered_same _ _ _ _ (same S v w a ours) (λ b is. refl);
+  same = λ S v w c d a ours. answered_same _ _ _ _ (same S v w a ours) (λ b is. refl);
   plain = λ w. answered_plain _ _ (plain w) (λ a is. done_plain (reply a) (told a));
 }
 
@@ -104,7 +104,7 @@ returning_laws t plan touches (Some m) l = record {
   sized = l.sized;
   rests = l.rests;
   may = l.may;
-  same = λ S v w c a ours. ap (returning (Some m)) (l.same S v w c a ours);
+  same = λ S v w c d a ours. ap (returning (Some m)) (l.same S v w c d a ours);
   plain = λ w. handed_plain m (plan w).reply (l.plain w);
 }
 
@@ -154,7 +154,7 @@ module _ (t : ℕ) (plan : World → Plan) (touches : World → Part → Type 0)
   pub own_from_view : (S : ℕ → Bool) (v w : World) → Sound v → Sound w → S t ≡ true → SameView S v w → ((plan w).reply ≡ (plan v).reply) × SameView S (after v) (after w)
   own_from_view S v w sv sw ours view =
       let a : Agree S v w = agree_of view in
-      let same : plan w ≡ plan v = l.same S v w sv.coherent a ours in
+      let same : plan w ≡ plan v = l.same S v w sv.coherent sw.coherent a ours in
       let proper : AllProper w (plan v).changes = subst (λ (P : Plan). AllProper w P.changes) same (l.proper w sw) in
       let left : Agree S (after v) (after_plan w (plan v)) =
       agree_after S v w (plan v).changes sv.coherent sw.coherent a (l.proper v sv) proper (l.may S v sv.coherent ours) in

@@ -8,7 +8,7 @@ use Rattle.hurd_creds.specs.declared.attrs.Want.TheVariants.{Read, Write, Exec}
 use Rattle.hurd_creds.specs.Bits.{asks, READ}
 use Rattle.hurd_trans_iface.specs.Nodes.{Header}
 use Rattle.hurd_trans_iface.specs.Answers.{entry_of}
-use Rattle.hurd_nodes.specs.Shown.{ServerInfo}
+use Rattle.hurd_nodes.specs.Shown.{ServerInfo, with_text}
 use Rattle.hurd_ports.specs.declared.table.Opened.{Opened}
 use Rattle.hurd_ports.specs.declared.table.IoRight.{IoRight}
 use Rattle.hurd_ports.specs.declared.table.Right.{Right}
@@ -18,7 +18,6 @@ use Rattle.hurd_machine.specs.World.{World, IsAmong, boot_root, task_at, open_at
 use Rattle.hurd_machine.specs.Sight.{Holds, HasUid, UidOfTask, UidOfRight, HasGid, GidOfTask, GidOfRight, Taken, Could, Owns, OwnsIt, Allowed, CouldServe}
 use Rattle.hurd_machine.specs.Sight.{Seen, Root, Held, Way, Controlled, Pending, Child, Parent, Active, ServerRoot, Sends, ByControl, ByNode, BySeat, Knows, OfNode, OfSeat, OfControl, SeesBody, ToRead, ToSearch, IsOpen, SeesEmpty, ByBody, ByParent}
 use Rattle.hurd_machine.specs.Sight.{Part, AttrOf, EmptyOf, BodyOf, OpenOf, OptionsOf, UsersOf, TaskOf, Sees, MaySend}
-use Rattle.hurd_machine.specs.Change.{with_text}
 use Rattle.hurd_machine.specs.Sound.{Below, Coherent}
 use Rattle.hurd_machine.proofs.Coherence.{header_old, entry_old, home_old, right_old, entry_lists}
 use Rattle.hurd_machine.proofs.Stays.{way_at, way_parent, way_with}

@@ -69,7 +69,7 @@ module _ (w : World) (n e : Name) (f : Header → Header) (k : Header) (is : hea
       header = λ j at. (j, sym (apart m out) ∙ at, refl, refl, refl);
       times = times_headed w.nodes n m f;
       lists = λ p h. ap (lists_at m) (bodies p) ∙ h;
-      server = refl;
+      tree = refl;
       root = λ root. root;
     }) (l.nodes m out);
     rooted = λ d m h. led_on d (l.rooted d m (sym (ap (lists_at m) (bodies d)) ∙ h));

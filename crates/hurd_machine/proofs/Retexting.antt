@@ -1,80 +1,229 @@
--- A server gets a text, with its root's size, as a piece of any call.
-use Rattle.std.proofs.Common.{◌≡◌, ◌≢◌, ℕ, Bool, false, List, [], ◌∷◌, Option, Some, None, sym, refl, ◌∙◌, ap, subst, inl, inr}
+-- A server gets another text, and its nodes their sizes, as a piece of any call.
+use Rattle.std.proofs.Common.{◌≡◌, ◌≢◌, ◌⊎◌, ◌||◌, ℕ, Bool, true, false, List, [], ◌∷◌, Option, Some, None, sym, refl, ◌∙◌, ap, ap₂, subst, inl, inr}
+use Rattle.std.proofs.lemmas.Bool.{or_cases, or_left, or_right}
+use Rattle.std.specs.Prelude.{is_some}
+use Rattle.std.specs.List.{list_any}
 use Rattle.std.specs.Option.{option_map}
-use Rattle.std.specs.FinMap.{get}
+use Rattle.std.specs.Ordering.{eq_by_cmp}
+use Rattle.std.specs.FinMap.{get, keys, retain_keys, contains_key-keys}
 use Rattle.hurd_creds.specs.declared.name.Name.{Name}
-use Rattle.hurd_creds.proofs.NameLaws.{same_or_apart, edit_here, edit_apart}
-use Rattle.hurd_trans_iface.specs.Nodes.{Node, with_header, with_size}
+use Rattle.hurd_creds.specs.NameMaps.{NameMap, edit}
+use Rattle.hurd_creds.specs.Names.{name_cmp, same_name}
+use Rattle.hurd_creds.proofs.NameLaws.{name_exact, same_map_by, tied-itself, equal_if_tied, same_name-itself, equal_if_same, same_or_apart, edit_here, edit_apart}
+use Rattle.hurd_trans_iface.specs.Nodes.{NodeMap, Node, with_header, with_size, edit_all}
 use Rattle.hurd_trans_iface.specs.Kinds.{behaviour_of}
 use Rattle.hurd_trans_iface.specs.Meaning.{size_of}
 use Rattle.hurd_trans_iface.specs.Good.{IsSized, KeepsRoot}
-use Rattle.hurd_nodes.specs.Shown.{ServerInfo, info_in}
-use Rattle.hurd_machine.specs.World.{World, nodes_of, home_at, server_at}
+use Rattle.hurd_nodes.specs.Held.{is_home}
+use Rattle.hurd_nodes.specs.Shown.{ServerInfo, info_in, own_nodes, sizing, with_text}
+use Rattle.hurd_machine.specs.World.{World, IsAmong, nodes_of, home_at, server_at}
 use Rattle.hurd_machine.specs.Sight.{Part, AttrOf, OptionsOf}
-use Rattle.hurd_machine.specs.Change.{Change, SetText, EditHeader, retexting, with_text, apply_all}
-use Rattle.hurd_machine.specs.Sound.{Coherent}
+use Rattle.hurd_machine.specs.Change.{Change, SetText, changes_of, retexting, apply_all}
+use Rattle.hurd_machine.specs.Sound.{Coherent, AreSized}
 use Rattle.hurd_machine.proofs.Nodes.{edited_from}
 use Rattle.hurd_machine.proofs.Coherence.{AllProper}
+use Rattle.hurd_machine.proofs.Retained.{retained, dropped, was_retained}
 use Rattle.hurd_machine.proofs.Frame.{AllWithin}
-use Rattle.hurd_machine.proofs.Settle.{Rests, rests_quiet}
+use Rattle.hurd_machine.proofs.Settle.{Rests, AreQuiet, rests_quiet}
 use Rattle.hurd_machine.proofs.Sizes.{KeepsSized}
-use Rattle.hurd_machine.proofs.Links.{KeepsLinked, linked_steady}
+use Rattle.hurd_machine.proofs.Links.{KeepsLinked, AreSteady, linked_steady}
 use Rattle.hurd_machine.proofs.Several.{AllMay}
 use Rattle.hurd_machine.proofs.Permits.{size_may}
 
-module _ (s : Name) (i : ServerInfo) where
-  pub retexts_within : (T : Part → Type 0) (w : World) (o : Option (List ℕ)) → T (OptionsOf s) → T (AttrOf i.root) → AllWithin T w (retexting s i o)
-  retexts_within T w None options attr = tt
-  retexts_within T w (Some text) options attr = (options, (attr, tt))
+-- the names in a map, as a list
 
-  pub retexts_proper : (w : World) (o : Option (List ℕ)) → AllProper w (retexting s i o)
-  retexts_proper w None = tt
-  retexts_proper w (Some text) = (tt, λ one. (λ h is. (refl, inl refl), λ two. tt))
+abbrev ties : Name → Name → Bool
+ties n m = eq_by_cmp name_cmp n m
 
-  pub retexts_rests : (w : World) (o : Option (List ℕ)) → Rests w (retexting s i o)
-  retexts_rests w None rest = rest
-  retexts_rests w (Some text) = rests_quiet (retexting s i (Some text)) w (tt, (λ h e. e, tt))
+any_among : (n : Name) (ns : List Name) → IsAmong n ns → list_any (ties n) ns ≡ true
+any_among n [] i = absurd i
+any_among n (m ∷ ns) (inl e) = or_left (ties n m) (list_any (ties n) ns) (rw e (tied-itself n))
+any_among n (m ∷ ns) (inr i) = or_right (ties n m) (list_any (ties n) ns) (any_among n ns i)
 
-  pub retexts_linked : (w : World) (o : Option (List ℕ)) → KeepsLinked w (retexting s i o)
-  retexts_linked w None l = l
-  retexts_linked w (Some text) = linked_steady (retexting s i (Some text)) w (tt, (λ h. (refl, refl, refl), tt))
+among_any : (n : Name) (ns : List Name) → list_any (ties n) ns ≡ true → IsAmong n ns
+among_any n [] h = absurd (cc)
+among_any n (m ∷ ns) h = elim (or_cases (ties n m) (list_any (ties n) ns) h) [ inl here ↦ inl (sym (equal_if_tied n m here)) | inr there ↦ inr (among_any n ns there) ]
 
-  pub retexts_may : (S : ℕ → Bool) (v x : World) (o : Option (List ℕ)) → AllMay S v x (retexting s i o)
-  retexts_may S v x None = tt
-  retexts_may S v x (Some text) = (tt, (λ h is. size_may S v i.root (size_of i.kind text) h, tt))
+-- a server's own nodes are among those of that list, and no others
 
-  -- the server has its root alone, which gets the size that the text says
-  module _ (w : World) (c : Coherent w) (is : server_at w s ≡ Some i) where
-    pub retexts_sized : (o : Option (List ℕ)) → ((text : List ℕ) → o ≡ Some text → KeepsRoot (behaviour_of i.kind) text) → KeepsSized w (retexting s i o)
-    retexts_sized None keeps sized = sized
-    retexts_sized (Some text) keeps sized n x j e ej = go (home_at w n) refl
+pub own_here : (s n : Name) (homes : NameMap Name) → get homes n ≡ Some s → IsAmong n (own_nodes s homes)
+own_here s n homes e =
+    among_any n _ (sym (contains_key-keys (retain_keys homes (λ m. is_home s (get homes m))) n)
+    ∙ ap is_some (retained homes (λ m. is_home s (get homes m)) n (ap (is_home s) e ∙ same_name-itself s) ∙ e))
+
+pub own_home : (s n : Name) (homes : NameMap Name) → IsAmong n (own_nodes s homes) → get homes n ≡ Some s
+own_home s n homes i = go (get own n) refl
+  where
+    own : NameMap Name
+    own = retain_keys homes (λ m. is_home s (get homes m))
+
+    here : (q : Name) → get homes n ≡ Some q → is_home s (get homes n) ≡ true → get homes n ≡ Some s
+    here q e h = e ∙ ap Some (sym (equal_if_same s q (ap (is_home s) (sym e) ∙ h)))
+
+    go : (o : Option Name) → get own n ≡ o → get homes n ≡ Some s
+    go None e =
+        let bad : false ≡ true = sym (ap is_some e) ∙ contains_key-keys own n ∙ any_among n (keys own) i in
+        absurd (cc)
+    go (Some q) e = let l = was_retained homes (λ m. is_home s (get homes m)) n q e in here q l.0 l.1
+
+-- a server that has its root alone has the same nodes in both
+pub own_alone : (s r : Name) (a b : NameMap Name) → get a r ≡ Some s → get b r ≡ Some s → ((n : Name) → get a n ≡ Some s → n ≡ r) → ((n : Name) → get b n ≡ Some s → n ≡ r)
+    → own_nodes s a ≡ own_nodes s b
+own_alone s r a b in_a in_b lone_a lone_b = ap keys (same_map_by _ _ (λ n. elim (same_or_apart n r) [
+  | inl e ↦ rw e (at_root a in_a ∙ sym (at_root b in_b))
+  | inr apart ↦ elsewhere a n (λ h. apart (lone_a n h)) ∙ sym (elsewhere b n (λ h. apart (lone_b n h)))
+]))
+  where
+    at_root : (m : NameMap Name) → get m r ≡ Some s → get (retain_keys m (λ n. is_home s (get m n))) r ≡ Some s
+    at_root m e = retained m (λ n. is_home s (get m n)) r (ap (is_home s) e ∙ same_name-itself s) ∙ e
+
+    elsewhere : (m : NameMap Name) (n : Name) → (get m n ≡ Some s → ⊥) → get (retain_keys m (λ k. is_home s (get m k))) n ≡ None
+    elsewhere m n out = go (is_home s (get m n)) refl
       where
-        root : KeepsRoot (behaviour_of i.kind) text
-        root = keeps text refl
+        other : (o : Option Name) → get m n ≡ o → is_home s o ≡ true → ⊥
+        other None e h = absurd (cc)
+        other (Some q) e h = out (e ∙ ap Some (sym (equal_if_same s q h)))
 
-        abbrev left : World
-        left = apply_all (retexting s i (Some text)) w
+        go : (h : Bool) → is_home s (get m n) ≡ h → get (retain_keys m (λ k. is_home s (get m k))) n ≡ None
+        go true h = absurd (other (get m n) refl h)
+        go false h = dropped m (λ k. is_home s (get m k)) n h
 
-        abbrev sized_root : Node → Node
-        sized_root = with_header (with_size (size_of i.kind text))
+-- nodes that get a size
 
-        -- the node is of this server, and so is its root
-        here : home_at w n ≡ Some s → IsSized (behaviour_of j.kind) j.text x
-        here home =
-            let top : n ≡ i.root = c.housing.lone n s i home is root.lone in
-            let known : Some (with_text text i) ≡ Some j =
-            sym (ap (info_in left.servers) home ∙ edit_here w.servers s (with_text text) ∙ ap (option_map (with_text text)) is) ∙ ej in
-            let same : with_text text i ≡ j = cc in
-            let l = edited_from sized_root (get w.nodes i.root) x (sym (edit_here w.nodes i.root sized_root) ∙ rw top at e) in
-            subst (λ (z : ServerInfo). IsSized (behaviour_of z.kind) z.text x) same (subst (IsSized (behaviour_of i.kind) text) l.2 (sym (root.sized l.0.body)))
+module _ (k : ℕ) where
+  abbrev sized : Node → Node
+  sized = with_header (with_size k)
 
-        -- or of another
-        there : (q : Name) → home_at w n ≡ Some q → q ≢ s → IsSized (behaviour_of j.kind) j.text x
-        there q home apart =
-            let other : n ≢ i.root = λ top. let at_root : home_at w n ≡ Some s = rw top (c.housing.roots s i is) in apart (cc (home, at_root)) in
-            sized n x j (sym (edit_apart w.nodes i.root sized_root n other) ∙ e)
-            (ap (info_in w.servers) home ∙ sym (edit_apart w.servers s (with_text text) q apart) ∙ sym (ap (info_in left.servers) home) ∙ ej)
+  abbrev sizes : List Name → List Change
+  sizes ns = changes_of (sizing k ns)
 
-        go : (o : Option Name) → home_at w n ≡ o → IsSized (behaviour_of j.kind) j.text x
-        go None home = let none : None ≡ Some j = sym (ap (info_in left.servers) home) ∙ ej in absurd (cc)
-        go (Some q) home = elim (same_or_apart q s) [ inl same ↦ here (home ∙ ap Some same) | inr apart ↦ there q home apart ]
+  sizes_done : (ns : List Name) (w : World) → apply_all (sizes ns) w ≡ record w { nodes = edit_all (sizing k ns) w.nodes }
+  sizes_done [] w = refl
+  sizes_done (n ∷ ns) w = sizes_done ns (record w { nodes = edit n sized w.nodes })
+
+  twice : (o : Option Node) → option_map sized (option_map sized o) ≡ option_map sized o
+  twice None = refl
+  twice (Some x) = refl
+
+  -- a node that has it keeps it
+  sized_yet : (ns : List Name) (m : NodeMap) (n : Name) (o : Option Node) → get m n ≡ option_map sized o → get (edit_all (sizing k ns) m) n ≡ option_map sized o
+  sized_yet [] m n o e = e
+  sized_yet (q ∷ ns) m n o e = sized_yet ns (edit q sized m) n o (elim (same_or_apart n q) [
+    | inl same ↦ rw same (edit_here m q sized ∙ ap (option_map sized) (rw same at e) ∙ twice o)
+    | inr apart ↦ edit_apart m q sized n apart ∙ e
+  ])
+
+  sized_here : (ns : List Name) (m : NodeMap) (n : Name) → IsAmong n ns → get (edit_all (sizing k ns) m) n ≡ option_map sized (get m n)
+  sized_here [] m n i = absurd i
+  sized_here (q ∷ ns) m n (inl e) = sized_yet ns (edit q sized m) n (get m n) (rw e (edit_here m n sized))
+  sized_here (q ∷ ns) m n (inr i) = elim (same_or_apart n q) [
+    | inl same ↦ sized_yet ns (edit q sized m) n (get m n) (rw same (edit_here m q sized))
+    | inr apart ↦ sized_here ns (edit q sized m) n i ∙ ap (option_map sized) (edit_apart m q sized n apart)
+  ]
+
+  sized_apart : (ns : List Name) (m : NodeMap) (n : Name) → (IsAmong n ns → ⊥) → get (edit_all (sizing k ns) m) n ≡ get m n
+  sized_apart [] m n out = refl
+  sized_apart (q ∷ ns) m n out = sized_apart ns (edit q sized m) n (λ i. out (inr i)) ∙ edit_apart m q sized n (λ e. out (inl (sym e)))
+
+  sizes_within : (T : Part → Type 0) (ns : List Name) (w : World) → ((n : Name) → IsAmong n ns → T (AttrOf n)) → AllWithin T w (sizes ns)
+  sizes_within T [] w attrs = tt
+  sizes_within T (n ∷ ns) w attrs = (attrs n (inl refl), sizes_within T ns (record w { nodes = edit n sized w.nodes }) (λ m i. attrs m (inr i)))
+
+  sizes_proper : (ns : List Name) (w : World) → AllProper w (sizes ns)
+  sizes_proper [] w = tt
+  sizes_proper (n ∷ ns) w = (λ h is. (refl, inl refl), λ one. sizes_proper ns (record w { nodes = edit n sized w.nodes }))
+
+  sizes_quiet : (ns : List Name) (w : World) → AreQuiet w (sizes ns)
+  sizes_quiet [] w = tt
+  sizes_quiet (n ∷ ns) w = (λ h e. e, sizes_quiet ns (record w { nodes = edit n sized w.nodes }))
+
+  sizes_steady : (ns : List Name) → AreSteady (sizes ns)
+  sizes_steady [] = tt
+  sizes_steady (n ∷ ns) = (λ h. (refl, refl, refl), sizes_steady ns)
+
+  sizes_may : (S : ℕ → Bool) (v x : World) (ns : List Name) → AllMay S v x (sizes ns)
+  sizes_may S v x [] = tt
+  sizes_may S v x (n ∷ ns) = (λ h is. size_may S v n k h, sizes_may S v (record x { nodes = edit n sized x.nodes }) ns)
+
+-- the whole piece
+
+module _ (w : World) (s : Name) (i : ServerInfo) where
+  abbrev own : List Name
+  own = own_nodes s w.homes
+
+  pub retexts_proper : (o : Option (List ℕ)) → AllProper w (retexting w s i o)
+  retexts_proper None = tt
+  retexts_proper (Some text) = (tt, λ one. sizes_proper (size_of i.kind text) own (record w { servers = edit s (with_text text) w.servers }))
+
+  pub retexts_rests : (o : Option (List ℕ)) → Rests w (retexting w s i o)
+  retexts_rests None rest = rest
+  retexts_rests (Some text) =
+      rests_quiet (retexting w s i (Some text)) w (tt, sizes_quiet (size_of i.kind text) own (record w { servers = edit s (with_text text) w.servers }))
+
+  pub retexts_linked : (o : Option (List ℕ)) → KeepsLinked w (retexting w s i o)
+  retexts_linked None l = l
+  retexts_linked (Some text) = linked_steady (retexting w s i (Some text)) w (tt, sizes_steady (size_of i.kind text) own)
+
+  pub retexts_may : (S : ℕ → Bool) (v : World) (o : Option (List ℕ)) → AllMay S v w (retexting w s i o)
+  retexts_may S v None = tt
+  retexts_may S v (Some text) = (tt, sizes_may (size_of i.kind text) S v (record w { servers = edit s (with_text text) w.servers }) own)
+
+  -- a text that the server may get: it has its root alone
+  abbrev pub MayGet : Option (List ℕ) → Type 0
+  MayGet o = (text : List ℕ) → o ≡ Some text → KeepsRoot (behaviour_of i.kind) text
+
+  root_alone : Coherent w → server_at w s ≡ Some i → (text : List ℕ) → MayGet (Some text) → (n : Name) → home_at w n ≡ Some s → n ≡ i.root
+  root_alone c is text keeps n home = c.housing.lone n s i home is (keeps text refl).lone
+
+  pub retexts_within : (T : Part → Type 0) → Coherent w → server_at w s ≡ Some i → (o : Option (List ℕ)) → MayGet o → T (OptionsOf s) → T (AttrOf i.root) → AllWithin T w (retexting w s i o)
+  retexts_within T c is None keeps options attr = tt
+  retexts_within T c is (Some text) keeps options attr = (
+    options,
+    sizes_within (size_of i.kind text) T own (record w { servers = edit s (with_text text) w.servers }) (λ n among.
+        subst (λ m. T (AttrOf m)) (sym (root_alone c is text keeps n (own_home s n w.homes among))) attr),
+  )
+
+  -- which gets the size that the text says
+  pub retexts_sized : Coherent w → server_at w s ≡ Some i → (o : Option (List ℕ)) → MayGet o → KeepsSized w (retexting w s i o)
+  retexts_sized c is None keeps fit = fit
+  retexts_sized c is (Some text) keeps fit = subst (λ (x : World). AreSized (nodes_of x)) (sym done) now
+    where
+      left : World
+      left = record w { servers = edit s (with_text text) w.servers; nodes = edit_all (sizing (size_of i.kind text) own) w.nodes }
+
+      done : apply_all (retexting w s i (Some text)) w ≡ left
+      done = sizes_done (size_of i.kind text) own (record w { servers = edit s (with_text text) w.servers })
+
+      now : AreSized (nodes_of left)
+      now n x j e ej = go (home_at w n) refl
+        where
+          -- a node of this server
+          here : home_at w n ≡ Some s → IsSized (behaviour_of j.kind) j.text x
+          here home =
+              let known : Some (with_text text i) ≡ Some j =
+              sym (ap (info_in left.servers) home ∙ edit_here w.servers s (with_text text) ∙ ap (option_map (with_text text)) is) ∙ ej in
+              let same : with_text text i ≡ j = cc in
+              let l = edited_from (sized (size_of i.kind text)) (get w.nodes n) x (sym (sized_here (size_of i.kind text) own w.nodes n (own_here s n w.homes home)) ∙ e) in
+              subst (λ (z : ServerInfo). IsSized (behaviour_of z.kind) z.text x) same
+              (subst (IsSized (behaviour_of i.kind) text) l.2 (sym ((keeps text refl).sized l.0.body)))
+
+          -- or of another
+          there : (q : Name) → home_at w n ≡ Some q → q ≢ s → IsSized (behaviour_of j.kind) j.text x
+          there q home apart =
+              let other : IsAmong n own → ⊥ = λ among. let it : home_at w n ≡ Some s = own_home s n w.homes among in apart (cc (home, it)) in
+              fit n x j (sym (sized_apart (size_of i.kind text) own w.nodes n other) ∙ e)
+              (ap (info_in w.servers) home ∙ sym (edit_apart w.servers s (with_text text) q apart) ∙ sym (ap (info_in left.servers) home) ∙ ej)
+
+          go : (o : Option Name) → home_at w n ≡ o → IsSized (behaviour_of j.kind) j.text x
+          go None home = let none : None ≡ Some j = sym (ap (info_in left.servers) home) ∙ ej in absurd (cc)
+          go (Some q) home = elim (same_or_apart q s) [ inl same ↦ here (home ∙ ap Some same) | inr apart ↦ there q home apart ]
+
+-- in two worlds where it is known as the same server the piece is the same
+pub retexts_same : (v w : World) → Coherent v → Coherent w → (s : Name) (i : ServerInfo) → server_at v s ≡ Some i → server_at w s ≡ Some i → (o : Option (List ℕ)) → MayGet v s i o → retexting w s i o ≡ retexting v s i o
+retexts_same v w cv cw s i in_v in_w None keeps = refl
+retexts_same v w cv cw s i in_v in_w (Some text) keeps =
+    ap retexted_by (own_alone s i.root w.homes v.homes (cw.housing.roots s i in_w) (cv.housing.roots s i in_v)
+    (root_alone w s i cw in_w text keeps) (root_alone v s i cv in_v text keeps))
+  where
+    retexted_by : List Name → List Change
+    retexted_by ns = SetText s text ∷ changes_of (sizing (size_of i.kind text) ns)

@@ -8,7 +8,7 @@ use Rattle.hurd_creds.specs.Access.{IdSets}
 use Rattle.hurd_creds.specs.NameMaps.{edit}
 use Rattle.hurd_creds.proofs.NameLaws.{same_or_apart, get_here, get_apart, edit_here, edit_apart}
 use Rattle.hurd_trans_iface.specs.Nodes.{NodeMap, Node, Header, Body, with_header, with_body}
-use Rattle.hurd_nodes.specs.Shown.{NodeState, ServerInfo}
+use Rattle.hurd_nodes.specs.Shown.{NodeState, ServerInfo, with_text}
 use Rattle.hurd_nodes.specs.Settle as kept
 use Rattle.hurd_nodes.proofs.SettleLaws.{settle-is}
 use Rattle.hurd_nodes.specs.Settle.{is_entered, is_entered_at}
@@ -23,7 +23,7 @@ use Rattle.hurd_machine.specs.World.{World, IsAmong, world_from, nodes_of, ports
 use Rattle.hurd_machine.specs.Sight.{Holds, Seen, Root, Held, Way, Controlled, Pending, Child, Parent, Active, ServerRoot, Knows, OfNode, OfSeat, OfControl}
 use Rattle.hurd_nodes.specs.Held.{is_home}
 use Rattle.hurd_machine.specs.Sight.{Part, AttrOf, EmptyOf, BodyOf, OpenOf, OptionsOf, UsersOf, TaskOf, Sees, part, IsGone, is_on, holders, users, AnEmpty, ABody, AnOpen, AnOptions, AUsers}
-use Rattle.hurd_machine.specs.Change.{Change, EditHeader, EditBody, MakeNode, EditOpen, MakeOpen, EditTask, Send, Attach, DropServer, Unseat, SetText, Settle, outside, stays, server_stays, with_text, settle, apply, apply_all, opening}
+use Rattle.hurd_machine.specs.Change.{Change, EditHeader, EditBody, MakeNode, EditOpen, MakeOpen, EditTask, Send, Attach, DropServer, Unseat, SetText, Settle, outside, stays, server_stays, settle, apply, apply_all, opening}
 use Rattle.hurd_machine.specs.Sound.{Coherent, Linked, AtRest}
 use Rattle.hurd_machine.proofs.Nodes.{attr_same, header_in, body_in, empty_in, no_header, no_body, no_emptiness, edit_keeps, edited_from}
 use Rattle.hurd_machine.proofs.Tasks.{count_alike, sent_keeps, edit_here as task_here}

@@ -4,10 +4,10 @@ use Rattle.std.specs.Option.{option_map}
 use Rattle.std.specs.FinMap.{get}
 use Rattle.hurd_creds.specs.declared.name.Name.{Name}
 use Rattle.hurd_creds.proofs.NameLaws.{same_or_apart, edit_here, edit_apart}
-use Rattle.hurd_nodes.specs.Shown.{ServerInfo, is_root_at, is_root_of, info_in, tree_by}
+use Rattle.hurd_nodes.specs.Shown.{ServerInfo, is_root_at, is_root_of, info_in, tree_by, with_text}
 use Rattle.hurd_nodes.specs.Settle.{stays_by, stays_with}
-use Rattle.hurd_machine.specs.World.{World, nodes_of, home_at, server_at, info_at, is_server_root}
-use Rattle.hurd_machine.specs.Change.{SetText, apply, outside, stays, with_text}
+use Rattle.hurd_machine.specs.World.{World, boot_root, nodes_of, home_at, server_at, info_at, is_server_root}
+use Rattle.hurd_machine.specs.Change.{SetText, apply, outside, stays}
 use Rattle.hurd_machine.specs.Sound.{Coherent}
 use Rattle.hurd_machine.proofs.Nodes.{edited_from, edit_keeps}
 

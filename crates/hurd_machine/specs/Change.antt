@@ -5,7 +5,7 @@ use Rattle.hurd_creds.specs.declared.name.Name.{Name}
 use Rattle.hurd_creds.specs.declared.open_flags.OpenFlags.{OpenFlags}
 use Rattle.hurd_creds.specs.Access.{IdSets}
 use Rattle.hurd_creds.specs.NameMaps.{NameMap, edit}
-use Rattle.hurd_trans_iface.specs.Nodes.{NodeMap, Node, Header, Body, Edit, OnHeader, OnBody, AddNode, with_header, with_body, with_size}
+use Rattle.hurd_trans_iface.specs.Nodes.{NodeMap, Node, Header, Body, Edit, OnHeader, OnBody, AddNode, with_header, with_body}
 use Rattle.hurd_trans_iface.specs.Meaning.{size_of}
 use Rattle.hurd_ports.specs.declared.table.Opened.{Opened}
 use Rattle.hurd_ports.specs.declared.table.PendingStart.{PendingStart}
@@ -13,7 +13,7 @@ use Rattle.hurd_ports.specs.declared.parents.Parent.{Parent}
 use Rattle.hurd_ports.specs.declared.table.Right.{Right}
 use Rattle.hurd_nodes.specs.Settle as kept
 use Rattle.hurd_nodes.specs.Settle.{Outside}
-use Rattle.hurd_nodes.specs.Shown.{NodeState, ServerInfo, attached, out_server, unseated}
+use Rattle.hurd_nodes.specs.Shown.{NodeState, ServerInfo, attached, out_server, own_nodes, sizing, unseated, with_text}
 use Rattle.hurd_ports.specs.Tables.{Task, OpenMap, fresh, is_held, is_named, is_controlled}
 use Rattle.hurd_ports.specs.Steps.{named, edit_task, with_pending, with_port, without_port, with_sent, new_open, new_right}
 use Rattle.hurd_machine.specs.World.{World, world_from, nodes_of, ports_of}
@@ -76,10 +76,6 @@ server_stays w s = kept.server_stays (outside w) (nodes_of w) s
 abbrev pub settle : World → World
 settle w = world_from (kept.settle (outside w) (nodes_of w)) (record { opens = retain_keys w.opens (is_held w.tasks); tasks = w.tasks })
 
--- a server with this text
-abbrev pub with_text : List ℕ → ServerInfo → ServerInfo
-with_text text i = record i { text = text }
-
 -- the world with other nodes and servers
 abbrev pub with_nodes : NodeState → World → World
 with_nodes h w = world_from h (ports_of w)
@@ -107,17 +103,17 @@ apply_all (c ∷ cs) w = apply_all cs (apply c w)
 
 -- what several calls do
 
--- a server gets this text, where there is one to get; its root's size is what the new text makes it
-abbrev pub retexting : Name → ServerInfo → Option (List ℕ) → List Change
-retexting s i None = []
-retexting s i (Some text) = SetText s text ∷ EditHeader i.root (with_size (size_of i.kind text)) ∷ []
-
 -- a server's edits of a node that is there, as changes
 abbrev pub changes_of : List Edit → List Change
 changes_of [] = []
 changes_of (OnHeader n f ∷ es) = EditHeader n f ∷ changes_of es
 changes_of (OnBody n g ∷ es) = EditBody n g ∷ changes_of es
 changes_of (AddNode n x ∷ es) = changes_of es
+
+-- a server gets another text, if one is given: each of its nodes gets the size that this says
+abbrev pub retexting : World → Name → ServerInfo → Option (List ℕ) → List Change
+retexting w s i None = []
+retexting w s i (Some text) = SetText s text ∷ changes_of (sizing (size_of i.kind text) (own_nodes s w.homes))
 
 -- task t, which stands as x, opens a node: a new open, and a port with it
 abbrev pub opening : ℕ → Task → Name → IdSets → List Parent → OpenFlags → List Change

@@ -33,7 +33,7 @@ deallocate_laws t p = record {
   sized = λ w s. answered_sized w _ _ s.sizes (λ r is. drops_sized w t p s.sizes);
   rests = λ w s. answered_rests w _ _ s.settled (λ r is. drops_rests w t p s.settled);
   may = λ S v c ours. answered_may v _ _ S v (λ r is. dropping_may S v v t p ours);
-  same = λ S v w c a ours. answered_same _ _ _ _ (right_same a t ours p) (λ r is. refl);
+  same = λ S v w c d a ours. answered_same _ _ _ _ (right_same a t ours p) (λ r is. refl);
   plain = λ w. answered_plain _ _ (right_plain w t p) (λ r is. done_plain Done refl);
 }
 
@@ -72,7 +72,7 @@ module _ (t p q : ℕ) where
     sized = λ w s. answered_sized w _ _ s.sizes (λ r is. sends_sized r q w s.sizes);
     rests = λ w s. answered_rests w _ _ s.settled (λ r is. sends_rests r q w s.settled);
     may = λ S v c ours. answered_may v _ _ S v (λ r is. sends_may r q S v (holds_right t ours p r (is_sent v t p q r is).is_right));
-    same = λ S v w c a ours. answered_same _ _ _ _ (send_same S v w a ours) (λ r is. refl);
+    same = λ S v w c d a ours. answered_same _ _ _ _ (send_same S v w a ours) (λ r is. refl);
     plain = λ w. answered_plain _ _ (send_plain w) (λ r is. done_plain Done refl);
   }
 
@@ -101,7 +101,7 @@ module _ (t : ℕ) where
     sized = λ w s. answered_sized w _ _ s.sizes (λ x is. receives_sized t w s.sizes);
     rests = λ w s. answered_rests w _ _ s.settled (λ x is. receives_rests t w s.settled);
     may = λ S v c ours. answered_may v _ _ S v (λ x is. receives_may t S v v ours);
-    same = λ S v w c a ours. answered_same _ _ _ _ (receive_same S v w a ours) (λ x is. refl);
+    same = λ S v w c d a ours. answered_same _ _ _ _ (receive_same S v w a ours) (λ x is. refl);
     plain = λ w. answered_plain _ _ (receive_plain w) (λ x is. done_plain (Port x.next) refl);
   }
 
@@ -134,6 +134,6 @@ module _ (t : ℕ) (ids : IdSets) where
     sized = λ w s. answered_sized w _ _ s.sizes (λ x is. takes_sized t ids w s.sizes);
     rests = λ w s. answered_rests w _ _ s.settled (λ x is. takes_rests t ids w s.settled);
     may = λ S v c ours. answered_may v _ _ S v (λ x is. let h = is_taken v x is in takes_may t ids S v v ours (taken_taken S v t x ids ours h.is_task h.may));
-    same = λ S v w c a ours. answered_same _ _ _ _ (makeauth_same S v w a ours) (λ x is. refl);
+    same = λ S v w c d a ours. answered_same _ _ _ _ (makeauth_same S v w a ours) (λ x is. refl);
     plain = λ w. answered_plain _ _ (makeauth_plain w) (λ x is. done_plain Done refl);
   }
