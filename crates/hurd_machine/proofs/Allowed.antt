@@ -16,7 +16,7 @@ use Rattle.hurd_ports.specs.declared.table.Right.TheVariants.{Io, Control, Start
 use Rattle.hurd_ports.specs.Tables.{Task, rights_of}
 use Rattle.hurd_ports.specs.Steps.{named, with_sent, edit_task}
 use Rattle.hurd_machine.specs.World.{World, IsAmong, task_at, open_at, header_at, body_at, home_at, active_at, server_at}
-use Rattle.hurd_machine.specs.Sight.{Holds, HasUid, Taken, SeesBody, BodyOf, OptionsOf, Sees}
+use Rattle.hurd_machine.specs.Sight.{Holds, HasUid, Taken, SeesBody, BodyOf, OptionsOf}
 use Rattle.hurd_machine.specs.Change.{Change, EditHeader, EditBody, MakeNode, EditOpen, MakeOpen, EditTask, Send, Attach, DropServer, Unseat, SetText, Settle, apply}
 use Rattle.hurd_machine.specs.Sound.{Coherent}
 use Rattle.hurd_machine.proofs.Nodes.{header_in, body_in, header-with_header, header-with_body, body-with_header, body-with_body, edit_reads, edit_keeps, edited_from, node_of_header, ByEmptiness}

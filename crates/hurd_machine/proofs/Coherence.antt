@@ -1,5 +1,5 @@
 -- Changes that keep a coherent world so.
-use Rattle.std.proofs.Common.{true, false, true≢false, ◌≡◌, ◌≢◌, ◌⊎◌, ℕ, ◌+◌, ◌<◌, ◌≤◌, cond, is_some, nat_lt, if◌then◌else◌, Bool, List, [], ◌∷◌, ◌++◌, Option, Some, None, sym, refl, ◌∙◌, ap, subst, inl, inr, arith}
+use Rattle.std.proofs.Common.{true, false, true≢false, ◌≡◌, ◌≢◌, ◌⊎◌, ℕ, ◌+◌, ◌<◌, ◌≤◌, cond, Bool, List, [], ◌∷◌, Option, Some, None, sym, refl, ◌∙◌, ap, subst, inl, inr, arith}
 use Rattle.std.proofs.lemmas.Bool.{or_left, or_right}
 use Rattle.std.specs.List.{list_any}
 use Rattle.std.specs.Option.{option_map}
@@ -15,7 +15,6 @@ use Rattle.hurd_trans_iface.specs.Nodes.{NodeMap, Node, Entry, Header, Body, Con
 use Rattle.hurd_trans_iface.specs.Answers.{entry_in, entry_of}
 use Rattle.hurd_trans_iface.specs.Meaning.{keeps_tree}
 use Rattle.hurd_nodes.specs.Shown.{ServerInfo, boot_name, info_in, is_root_of, tree_by}
-use Rattle.hurd_nodes.specs.Settle.{is_entered, is_entered_at}
 use Rattle.hurd_ports.specs.declared.table.Opened.{Opened}
 use Rattle.hurd_ports.specs.declared.table.IoRight.{IoRight}
 use Rattle.hurd_ports.specs.declared.table.Right.{Right}
@@ -25,7 +24,7 @@ use Rattle.hurd_ports.specs.Tables.{Task, OpenMap, rights_of, nodes_of as nodes_
 use Rattle.hurd_ports.specs.Steps.{named, with_sent, edit_task}
 use Rattle.hurd_machine.specs.World.{World, IsAmong, boot_root, nodes_of, task_at, open_at, header_at, body_at, home_at, active_at, server_at, info_at, is_of, lists, lists_at}
 use Rattle.hurd_machine.specs.Change.{Change, EditHeader, EditBody, MakeNode, EditOpen, MakeOpen, EditTask, Send, Attach, DropServer, Unseat, SetText, Settle, apply}
-use Rattle.hurd_machine.specs.Sound.{Below, AreDistinct, HasDistinctNames, IsGivenRight, AreGiven, AreHoused, AreSeated, IsTree, AreTables, Coherent, LeadsUp, AtRoot, Above, Linked}
+use Rattle.hurd_machine.specs.Sound.{Below, AreDistinct, HasDistinctNames, IsGivenRight, AreGiven, AreHoused, AreSeated, IsTree, AreTables, Coherent, Linked}
 use Rattle.hurd_machine.proofs.Nodes.{header_in, body_in, body-with_header, edit_keeps, edited_from, node_of_header}
 use Rattle.hurd_machine.proofs.Tasks.{edit_cases, edit_here as task_here, below_edit, sent_cases}
 

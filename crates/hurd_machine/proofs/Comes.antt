@@ -1,23 +1,19 @@
 -- A server comes, and is active on a node: what the world is then, and that it is coherent.
-use Rattle.std.proofs.Common.{◌≡◌, ◌≢◌, ◌⊎◌, ℕ, ◌+◌, ◌<◌, not, Bool, true, false, cond, List, Option, Some, None, sym, refl, ◌∙◌, ap, subst, inl, inr, arith}
-use Rattle.std.specs.FinMap.{get, insert, remove, retain_keys}
+use Rattle.std.proofs.Common.{◌≡◌, ◌≢◌, ◌⊎◌, ◌<◌, not, true, false, Option, Some, None, sym, refl, ◌∙◌, ap, subst, inl, inr, arith}
+use Rattle.std.specs.FinMap.{get, insert, remove}
 use Rattle.hurd_creds.specs.declared.name.Name.{Name}
-use Rattle.hurd_creds.specs.Names.{same_name}
-use Rattle.hurd_creds.specs.NameMaps.{NameMap}
-use Rattle.hurd_creds.proofs.NameLaws.{same_name-apart, same_name-itself, same_map_by, same_or_apart, get_here, get_apart, remove_here, remove_apart}
+use Rattle.hurd_creds.proofs.NameLaws.{same_name-apart, same_map_by, same_or_apart, get_here, get_apart, remove_here, remove_apart}
 use Rattle.hurd_trans_iface.specs.Nodes.{Node, Header, IsShaped}
 use Rattle.hurd_nodes.specs.Held.{is_home}
 use Rattle.hurd_nodes.specs.Shown.{ServerInfo, boot_name, info_in, is_root_at, is_root_of, is_other, is_other_seat, tree_by}
 use Rattle.hurd_nodes.proofs.PartLaws.{and_true}
-use Rattle.hurd_ports.specs.declared.table.IoRight.{IoRight}
-use Rattle.hurd_ports.specs.Tables.{Task, rights_of}
 use Rattle.hurd_ports.specs.Steps.{named, edit_task}
-use Rattle.hurd_machine.specs.World.{World, IsAmong, boot_root, nodes_of, task_at, header_at, body_at, home_at, active_at, server_at, lists_at}
+use Rattle.hurd_machine.specs.World.{World, boot_root, nodes_of, task_at, header_at, body_at, home_at, active_at, server_at, lists_at}
 use Rattle.hurd_machine.specs.Change.{Attach, apply}
 use Rattle.hurd_machine.specs.Sound.{Below, AreGiven, AreHoused, AreSeated, IsTree, AreTables, Coherent, HasDistinctNames}
 use Rattle.hurd_machine.proofs.Nodes.{header_in, body_in, node_of_header}
 use Rattle.hurd_machine.proofs.Retained.{retain_all}
-use Rattle.hurd_machine.proofs.Coherence.{Comes, next_not, was, lister, no_entry, no_names, no_node, no_home, header_old, named_world, named_coherent, named_still, named_below, unnoded}
+use Rattle.hurd_machine.proofs.Coherence.{Comes, next_not, was, lister, no_entry, no_names, header_old, named_coherent, named_still, named_below, unnoded}
 
 -- a world that was given no server's name has nothing of that server
 module _ (w : World) (c : Coherent w) (s : Name) (new : Below w s → ⊥) where

@@ -1,9 +1,9 @@
 -- A server goes with its nodes: what is left, and that the world is coherent and linked then.
-use Rattle.std.proofs.Common.{◌≡◌, ◌≢◌, ◌⊎◌, inl, inr, ◌≤◌, ◌&&◌, not, Bool, true, false, true≢false, cond, List, Option, Some, None, sym, refl, ◌∙◌, ap, subst}
+use Rattle.std.proofs.Common.{◌≡◌, ◌≢◌, ◌⊎◌, inl, inr, ◌≤◌, not, Bool, true, false, true≢false, cond, Option, Some, None, sym, refl, ◌∙◌, ap, subst}
 use Rattle.std.specs.FinMap.{get}
 use Rattle.hurd_creds.specs.declared.name.Name.{Name}
 use Rattle.hurd_creds.specs.Names.{same_name}
-use Rattle.hurd_creds.proofs.NameLaws.{same_name-itself, same_name-apart, equal_if_same, remove_apart, remove_here, same_or_apart}
+use Rattle.hurd_creds.proofs.NameLaws.{same_name-itself, same_name-apart, remove_apart, remove_here, same_or_apart}
 use Rattle.hurd_trans_iface.specs.Nodes.{Node, Header, is_dir}
 use Rattle.hurd_nodes.specs.Held.{is_home}
 use Rattle.hurd_nodes.specs.Shown.{ServerInfo, boot_name, info_in, is_root_at, is_root_of, is_other, is_other_seat, tree_by}

@@ -1,11 +1,11 @@
 -- A server goes, or comes, with what settles then: as pieces of any call.
-use Rattle.std.proofs.Common.{◌≡◌, ◌≢◌, ℕ, Bool, true, List, [], ◌∷◌, Some, refl, sym, ◌∙◌, ap, inl}
+use Rattle.std.proofs.Common.{◌≡◌, ◌≢◌, ℕ, Bool, true, List, [], ◌∷◌, Some, ◌∙◌, ap}
 use Rattle.hurd_creds.specs.declared.name.Name.{Name}
-use Rattle.hurd_trans_iface.specs.Nodes.{Node, Header, is_dir}
+use Rattle.hurd_trans_iface.specs.Nodes.{Node, is_dir}
 use Rattle.hurd_trans_iface.specs.Kinds.{behaviour_of}
 use Rattle.hurd_trans_iface.specs.Good.{IsSized}
 use Rattle.hurd_nodes.specs.Shown.{ServerInfo, boot_name, is_other, tree_by}
-use Rattle.hurd_machine.specs.World.{World, nodes_of, header_at}
+use Rattle.hurd_machine.specs.World.{World, nodes_of}
 use Rattle.hurd_machine.specs.Change.{Change, Attach, DropServer, Unseat, Settle, apply}
 use Rattle.hurd_machine.specs.Sight.{Part, AttrOf, EmptyOf, BodyOf, OptionsOf, TaskOf}
 use Rattle.hurd_machine.specs.Sound.{Coherent, Linked}

@@ -1,5 +1,5 @@
 -- Changes one after another keep a coherent world so.
-use Rattle.std.proofs.Common.{◌≡◌, ℕ, List, [], ◌∷◌, ◌++◌, refl, arith}
+use Rattle.std.proofs.Common.{◌≡◌, List, [], ◌∷◌, ◌++◌, refl, arith}
 use Rattle.hurd_creds.specs.NameMaps.{edit}
 use Rattle.std.specs.FinMap.{insert}
 use Rattle.hurd_trans_iface.specs.Nodes.{with_header, with_body}

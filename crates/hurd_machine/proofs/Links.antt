@@ -19,7 +19,7 @@ use Rattle.hurd_machine.specs.Sound.{Below, Coherent, times_in, times_listed, Le
 use Rattle.hurd_machine.proofs.Nodes.{header_in, body_in, edited_from, edit_keeps, edit_reads, header-with_header, header-with_body, body-with_header, body-with_body}
 use Rattle.hurd_machine.proofs.Tasks.{count_append}
 use Rattle.hurd_machine.proofs.Listed.{lists_counted, none_in}
-use Rattle.hurd_machine.proofs.Sums.{of_found, total_insert, total_kept, total_none, total_retained}
+use Rattle.hurd_machine.proofs.Sums.{of_found, total_insert, total_kept, total_none}
 use Rattle.hurd_machine.proofs.Coherence.{HasNoEntries}
 use Rattle.hurd_machine.proofs.Texts.{root_kept, tree_kept}
 use Rattle.hurd_machine.proofs.Keeping.{apply_all-append}

@@ -8,14 +8,14 @@ use Rattle.hurd_trans_iface.specs.Nodes.{Node, IsShaped, is_dir}
 use Rattle.hurd_trans_iface.specs.Good.{IsSized}
 use Rattle.hurd_trans_iface.specs.Kinds.{behaviour_of}
 use Rattle.hurd_trans_iface.specs.Meaning.{keeps_tree}
-use Rattle.hurd_nodes.specs.Shown.{ServerInfo, info_in}
+use Rattle.hurd_nodes.specs.Shown.{ServerInfo}
 use Rattle.hurd_nodes.specs.Settle.{is_entered_at}
 use Rattle.hurd_ports.specs.declared.parents.Parent.{Parent as Pair}
 use Rattle.hurd_ports.specs.declared.table.IoRight.{IoRight}
 use Rattle.hurd_ports.specs.declared.table.Right.{Right}
 use Rattle.hurd_ports.specs.declared.table.Right.TheVariants.{Io}
 use Rattle.hurd_ports.specs.Tables.{Task, fresh, ways_of, is_held, is_named, is_controlled}
-use Rattle.hurd_ports.specs.Steps.{named, with_port, new_open, new_right, edit_task}
+use Rattle.hurd_ports.specs.Steps.{named, with_port, new_open, edit_task}
 use Rattle.hurd_machine.specs.World.{World, IsAmong, nodes_of, task_at, header_at, home_at, server_at}
 use Rattle.hurd_machine.specs.Sight.{Part, OptionsOf, UsersOf, TaskOf, Sees, Taken}
 use Rattle.hurd_machine.specs.Change.{Change, MakeNode, outside, stays, server_stays, apply, apply_all, opening}

@@ -5,11 +5,11 @@ use Rattle.hurd_trans_iface.specs.Nodes.{Node}
 use Rattle.hurd_nodes.specs.Shown.{ServerInfo}
 use Rattle.hurd_ports.specs.declared.table.PendingStart.{PendingStart}
 use Rattle.hurd_ports.specs.declared.table.Right.{Right}
-use Rattle.hurd_ports.specs.Tables.{Task, names_open, rights_of, start_of}
+use Rattle.hurd_ports.specs.Tables.{Task, names_open, start_of}
 use Rattle.hurd_ports.specs.Steps.{named, with_pending}
 use Rattle.hurd_machine.specs.World.{World, IsAmong, nodes_of, task_at}
 use Rattle.hurd_machine.specs.Sight.{Part, AttrOf, EmptyOf, BodyOf, OptionsOf, TaskOf, is_on}
-use Rattle.hurd_machine.specs.Change.{Change, Attach, EditTask, Settle, apply, pending}
+use Rattle.hurd_machine.specs.Change.{Change, Attach, EditTask, apply, pending}
 use Rattle.hurd_machine.specs.Sound.{Coherent, Linked}
 use Rattle.hurd_machine.proofs.Tasks.{edit_here}
 use Rattle.hurd_machine.proofs.Coherence.{AllProper, Comes}

@@ -20,7 +20,7 @@ use Rattle.hurd_ports.specs.declared.table.IoRight.{IoRight}
 use Rattle.hurd_ports.specs.declared.table.Right.{Right}
 use Rattle.hurd_ports.specs.declared.table.Right.TheVariants.{Io}
 use Rattle.hurd_ports.specs.Tables.{Task, fresh, ways_of}
-use Rattle.hurd_ports.specs.Steps.{new_open, new_right, at_cursor, appending}
+use Rattle.hurd_ports.specs.Steps.{new_open, at_cursor, appending}
 use Rattle.hurd_machine.specs.World.{World, IsAmong, task_at, header_at}
 use Rattle.hurd_machine.specs.Sight.{HasUid, Taken, Could, Owns, Allowed, SeesBody}
 use Rattle.hurd_machine.specs.Change.{Change, EditBody, EditOpen, MakeOpen, Settle, apply, apply_all, changes_of, opening, dropping}

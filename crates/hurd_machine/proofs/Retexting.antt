@@ -1,5 +1,5 @@
 -- A server gets another text, and its nodes their sizes, as a piece of any call.
-use Rattle.std.proofs.Common.{◌≡◌, ◌≢◌, ◌⊎◌, ◌||◌, ℕ, Bool, true, false, List, [], ◌∷◌, Option, Some, None, sym, refl, ◌∙◌, ap, ap₂, subst, inl, inr}
+use Rattle.std.proofs.Common.{◌≡◌, ◌≢◌, ℕ, Bool, true, false, List, [], ◌∷◌, Option, Some, None, sym, refl, ◌∙◌, ap, subst, inl, inr}
 use Rattle.std.proofs.lemmas.Bool.{or_cases, or_left, or_right}
 use Rattle.std.specs.Prelude.{is_some}
 use Rattle.std.specs.List.{list_any}
@@ -8,8 +8,8 @@ use Rattle.std.specs.Ordering.{eq_by_cmp}
 use Rattle.std.specs.FinMap.{get, keys, retain_keys, contains_key-keys}
 use Rattle.hurd_creds.specs.declared.name.Name.{Name}
 use Rattle.hurd_creds.specs.NameMaps.{NameMap, edit}
-use Rattle.hurd_creds.specs.Names.{name_cmp, same_name}
-use Rattle.hurd_creds.proofs.NameLaws.{name_exact, same_map_by, tied-itself, equal_if_tied, same_name-itself, equal_if_same, same_or_apart, edit_here, edit_apart}
+use Rattle.hurd_creds.specs.Names.{name_cmp}
+use Rattle.hurd_creds.proofs.NameLaws.{same_map_by, tied-itself, equal_if_tied, same_name-itself, equal_if_same, same_or_apart, edit_here, edit_apart}
 use Rattle.hurd_trans_iface.specs.Nodes.{NodeMap, Node, with_header, with_size, edit_all}
 use Rattle.hurd_trans_iface.specs.Kinds.{behaviour_of}
 use Rattle.hurd_trans_iface.specs.Meaning.{size_of}
@@ -156,12 +156,12 @@ module _ (w : World) (s : Name) (i : ServerInfo) where
   retexts_proper (Some text) = (tt, λ one. sizes_proper (size_of i.kind text) own (record w { servers = edit s (with_text text) w.servers }))
 
   pub retexts_rests : (o : Option (List ℕ)) → Rests w (retexting w s i o)
-  retexts_rests None rest = rest
+  retexts_rests None = λ rest. rest
   retexts_rests (Some text) =
       rests_quiet (retexting w s i (Some text)) w (tt, sizes_quiet (size_of i.kind text) own (record w { servers = edit s (with_text text) w.servers }))
 
   pub retexts_linked : (o : Option (List ℕ)) → KeepsLinked w (retexting w s i o)
-  retexts_linked None l = l
+  retexts_linked None = λ l. l
   retexts_linked (Some text) = linked_steady (retexting w s i (Some text)) w (tt, sizes_steady (size_of i.kind text) own)
 
   pub retexts_may : (S : ℕ → Bool) (v : World) (o : Option (List ℕ)) → AllMay S v w (retexting w s i o)

@@ -1,21 +1,19 @@
 -- What each part of a world is after a server came or went, or lost its seat.
-use Rattle.std.proofs.Common.{◌≡◌, ◌≢◌, ◌⊎◌, ℕ, ◌+◌, ◌&&◌, not, Bool, true, false, cond, List, [], ◌∷◌, Option, Some, None, slice_get, sym, refl, ◌∙◌, ap, ap₂, subst, inl, inr, arith}
-use Rattle.std.specs.Option.{option_map}
+use Rattle.std.proofs.Common.{◌≡◌, ◌≢◌, ◌⊎◌, ℕ, ◌&&◌, not, Bool, true, false, cond, List, [], ◌∷◌, Option, Some, None, slice_get, sym, refl, ◌∙◌, ap, ap₂, inl, inr, arith}
 use Rattle.std.specs.FinMap.{get, insert}
 use Rattle.hurd_creds.specs.declared.name.Name.{Name}
 use Rattle.hurd_creds.specs.Names.{same_name}
-use Rattle.hurd_creds.proofs.NameLaws.{same_name-apart, equal_if_same, same_or_apart, get_here, get_apart, remove_apart, remove_here}
-use Rattle.hurd_trans_iface.specs.Nodes.{Node, Header, Body, is_empty_dir}
+use Rattle.hurd_creds.proofs.NameLaws.{same_name-apart, equal_if_same, same_or_apart, get_apart, remove_apart, remove_here}
+use Rattle.hurd_trans_iface.specs.Nodes.{Node}
 use Rattle.hurd_nodes.specs.Held.{is_home}
 use Rattle.hurd_nodes.specs.Weights.{count_list}
 use Rattle.hurd_nodes.specs.Shown.{ServerInfo, is_other, is_other_seat}
-use Rattle.hurd_ports.specs.declared.table.IoRight.{IoRight}
 use Rattle.hurd_ports.specs.declared.table.Right.{Right}
 use Rattle.hurd_ports.specs.declared.table.Right.TheVariants.{Io, Control, Start}
 use Rattle.hurd_ports.specs.Tables.{Task, rights_of, names_open}
 use Rattle.hurd_ports.specs.Steps.{named, edit_task}
 use Rattle.hurd_ports.proofs.TaskLaws.{edit-apart}
-use Rattle.hurd_machine.specs.World.{World, IsAmong, nodes_of, task_at, open_at, header_at, body_at, home_at, active_at, server_at}
+use Rattle.hurd_machine.specs.World.{World, IsAmong, task_at, open_at, header_at, body_at, home_at, active_at, server_at}
 use Rattle.hurd_machine.specs.Sight.{Part, AttrOf, EmptyOf, BodyOf, OpenOf, OptionsOf, UsersOf, TaskOf, part, is_on, users, holders, count_rights, AnEmpty, ABody, AnOpen, AnOptions, AUsers, ATask}
 use Rattle.hurd_machine.specs.Change.{DropServer, Unseat, apply}
 use Rattle.hurd_machine.specs.Touched.{Goes}
@@ -23,7 +21,7 @@ use Rattle.hurd_machine.specs.Sound.{Below, Coherent}
 use Rattle.hurd_machine.proofs.Nodes.{attr_same, header_in, body_in, empty_in, insert_alike}
 use Rattle.hurd_machine.proofs.Retained.{get-retained}
 use Rattle.hurd_machine.proofs.Tasks.{count_named, count_alike, edit_same}
-use Rattle.hurd_machine.proofs.Coherence.{IsNext, Comes, next_not, unnoded}
+use Rattle.hurd_machine.proofs.Coherence.{IsNext, Comes, unnoded}
 use Rattle.hurd_machine.proofs.Comes.{come_world, root_new}
 
 pub not_home : (s : Name) (o : Option Name) → (o ≡ Some s → ⊥) → is_home s o ≡ false

@@ -1,13 +1,13 @@
 -- Changes of servers keep nodes linked as trees are, and sizes right.
-use Rattle.std.proofs.Common.{◌≡◌, ◌≢◌, ◌⊎◌, ◌∙◌, ◌≤◌, Bool, true, false, cond, List, [], ◌∷◌, Option, Some, None, sym, refl, ap, subst, inl, inr, arith}
+use Rattle.std.proofs.Common.{◌≡◌, ◌≢◌, ◌∙◌, ◌≤◌, true, false, cond, [], ◌∷◌, Option, Some, None, sym, refl, ap, subst, inl, inr, arith}
 use Rattle.std.specs.FinMap.{get, insert}
 use Rattle.hurd_creds.specs.declared.name.Name.{Name}
-use Rattle.hurd_creds.proofs.NameLaws.{same_or_apart, get_here, get_apart, remove_apart, remove_here}
-use Rattle.hurd_trans_iface.specs.Nodes.{Node, Header, is_dir, header_of}
+use Rattle.hurd_creds.proofs.NameLaws.{get_here, get_apart}
+use Rattle.hurd_trans_iface.specs.Nodes.{Node, is_dir}
 use Rattle.hurd_trans_iface.specs.Kinds.{behaviour_of}
 use Rattle.hurd_trans_iface.specs.Good.{IsSized}
-use Rattle.hurd_nodes.specs.Shown.{NodeState, ServerInfo, info_in, is_root_at, is_root_of, tree_by, server_of}
-use Rattle.hurd_machine.specs.World.{World, nodes_of, header_at, home_at, server_at, info_at, is_server_root}
+use Rattle.hurd_nodes.specs.Shown.{ServerInfo, info_in, is_root_at, is_root_of, tree_by}
+use Rattle.hurd_machine.specs.World.{World, nodes_of, header_at, home_at, info_at, is_server_root}
 use Rattle.hurd_machine.specs.Change.{MakeNode, Attach, DropServer, Unseat, apply}
 use Rattle.hurd_machine.specs.Sound.{Coherent, AreSized, LeadsUp, AtRoot, Above, Hangs, Linked, times_listed}
 use Rattle.hurd_machine.proofs.Nodes.{header_in}

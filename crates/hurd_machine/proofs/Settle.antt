@@ -17,7 +17,7 @@ use Rattle.hurd_ports.specs.declared.table.IoRight.{IoRight}
 use Rattle.hurd_ports.specs.declared.table.Right.{Right}
 use Rattle.hurd_ports.specs.declared.table.Right.TheVariants.{Io, Control, Start}
 use Rattle.hurd_ports.specs.declared.parents.Parent.{Parent as Pair}
-use Rattle.hurd_ports.specs.Tables.{Task, rights_of, nodes_of as nodes_named, ways_of, is_held, is_named, is_controlled, IsSettled, fresh}
+use Rattle.hurd_ports.specs.Tables.{Task, rights_of, nodes_of as nodes_named, is_held, is_named, is_controlled, IsSettled, fresh}
 use Rattle.hurd_ports.specs.Steps.{named, with_port, with_sent, new_open, new_right, edit_task}
 use Rattle.hurd_machine.specs.World.{World, IsAmong, world_from, nodes_of, ports_of, task_at, open_at, header_at, body_at, home_at, active_at, server_at}
 use Rattle.hurd_machine.specs.Sight.{Holds, Seen, Root, Held, Way, Controlled, Pending, Child, Parent, Active, ServerRoot, Knows, OfNode, OfSeat, OfControl}

@@ -8,7 +8,7 @@ use Rattle.hurd_ports.specs.declared.table.Right.TheVariants.{Io, Control, Start
 use Rattle.hurd_ports.specs.Tables.{Task, rights_of, names_open}
 use Rattle.hurd_ports.specs.Steps.{with_ids_for, with_port}
 use Rattle.hurd_machine.specs.World.{World, IsAmong, task_at}
-use Rattle.hurd_machine.specs.Sight.{Part, TaskOf, Holds, HasUid, UidOfTask, UidOfRight, GidOfTask, GidOfRight, Taken, Held, Pending, IsOpen, is_on}
+use Rattle.hurd_machine.specs.Sight.{Part, TaskOf, Holds, HasUid, UidOfTask, UidOfRight, GidOfTask, GidOfRight, Taken, Pending, IsOpen, is_on}
 use Rattle.hurd_machine.specs.Touched.{OnRight}
 use Rattle.hurd_machine.specs.Change.{Change, EditTask}
 use Rattle.hurd_machine.specs.Sound.{Coherent}

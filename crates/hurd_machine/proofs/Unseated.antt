@@ -1,5 +1,5 @@
 -- No server is active on a node any more: what is left, and that the world is coherent then.
-use Rattle.std.proofs.Common.{◌≡◌, ◌≢◌, ◌⊎◌, Option, Some, None, sym, ◌∙◌, ap, inl, inr}
+use Rattle.std.proofs.Common.{◌≡◌, Some, None, sym, ◌∙◌, inl, inr}
 use Rattle.hurd_creds.specs.declared.name.Name.{Name}
 use Rattle.hurd_creds.proofs.NameLaws.{remove_apart, remove_here, same_or_apart}
 use Rattle.hurd_machine.specs.World.{World, active_at}
