@@ -11,5 +11,6 @@ pub mod DirPieces
 pub mod PlanLaws
 pub mod UnlinkLaws
 pub mod RenameLaws
+pub mod OptionLaws
 pub mod ServerLaws
 pub mod NamedLaws

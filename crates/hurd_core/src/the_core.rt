@@ -13,11 +13,11 @@ ghost use Rattle.hurd_ports.specs.Steps.{appending, at_cursor, received, with_id
 ghost use Rattle.hurd_machine.specs.World.{world_from, ports_of, active_at, asked_at, body_at, header_at, home_at, info_at, is_removed, is_server_root, links_at, makes_at, node_at, readable_at, renames_at, server_at, sets_attrs_at, stream_at, task_at, unlinks_at, words_at};
 ghost use Rattle.hurd_machine.specs.Sight.{users};
 ghost use Rattle.hurd_machine.specs.Change.{DropServer, EditBody, EditHeader, EditOpen, EditTask, Send, Settle, Unseat, apply, apply_all, changes_of, dropping, opening, pending};
-ghost use Rattle.hurd_machine.specs.Plan.{Follows, answered, told};
+ghost use Rattle.hurd_machine.specs.Plan.{Follows, Planned, answered, told};
 ghost use Rattle.hurd_machine.specs.Handle.{both_asks, port_asks, handle_asks};
 ghost use Rattle.hurd_machine.specs.declared.call.Reply.TheVariants.{Done};
 ghost use Rattle.hurd_core.specs.Core.{Does, HoldsRights, attaching, naming_asks, without_box, making_asks, making_dir, making_dir_asks, making_open, receive_asks, room_asks, send_asks, unlinking, world_of, asked_only, making_nameless, making_nameless_asks, renaming, starting};
-ghost use Rattle.hurd_core.specs.Control.{control_of};
+ghost use Rattle.hurd_core.specs.Control.{control_of, plan_options};
 ghost use Rattle.hurd_core.specs.ToMake.{new_node_of};
 ghost use Rattle.hurd_core.specs.PortNode.{IsTold, both_named, header_with, named};
 
@@ -769,5 +769,22 @@ impl<S: Server> Core<S> {
             (told (λ u. Done) result) (world_of S.meaning self.new) }
     {
         self.nodes.set_passive(node, words)
+    }
+
+    /// Gives a server other options in place of those that it has. Without words nothing changes, and no memory is taken.
+    ///
+    /// Errors, in order: `EDIED` no such server, `EINVAL` words that it doesn't take, `ENOMEM`.
+    pub fn set_options(
+        &mut self,
+        alloc: Global,
+        server: ServerName,
+        words: &Words,
+    ) -> Result<(), Errno>
+        ensures planned { let w = world_of S.meaning self.old in
+            Planned w (plan_options w server words.now) (λ u. Done) result (world_of S.meaning self.new) }
+        ensures free { let w = world_of S.meaning self.old in
+            words.now ≡ [] → Follows w (plan_options w server words.now) (told (λ u. Done) result) (world_of S.meaning self.new) }
+    {
+        self.nodes.set_options(alloc, server, words)
     }
 }

@@ -1,0 +1,71 @@
+-- What options make of a server is what the machine's changes make of the world.
+use Rattle.std.proofs.Common.{◌≡◌, ◌∙◌, ℕ, Bool, true, false, cond, List, [], ◌∷◌, Option, Some, None, refl, sym, ap, subst, true≢false, inl, inr}
+use Rattle.std.specs.Prelude.{Result, Ok, Err}
+use Rattle.std.specs.FinMap.{get}
+use Rattle.hurd_creds.specs.declared.name.Name.{Name}
+use Rattle.hurd_creds.specs.declared.errno.Errno.{Errno}
+use Rattle.hurd_creds.specs.Memory.{Steps, is_no_memory}
+use Rattle.hurd_creds.specs.NameMaps.{edit}
+use Rattle.hurd_trans_iface.specs.Nodes.{OnHeader, with_size}
+use Rattle.hurd_trans_iface.specs.Meaning.{size_of}
+use Rattle.hurd_nodes.specs.Shown.{NodeState, ServerInfo, own_nodes, retexted, retexted_if, set_options_at, sizing, takes_options, with_edits, with_text}
+use Rattle.hurd_ports.specs.Tables.{PortState}
+use Rattle.hurd_machine.specs.declared.call.Reply.TheVariants.{Done}
+use Rattle.hurd_machine.specs.World.{World, world_from}
+use Rattle.hurd_machine.specs.Change.{apply_all, changes_of, retexting}
+use Rattle.hurd_machine.specs.Plan.{Follows, Planned, told}
+use Rattle.hurd_core.specs.Control.{plan_options}
+use Rattle.hurd_core.proofs.PlanLaws.{asked-refused, asked-lacks, asked-done, follows-refused, follows-then}
+
+cond_one : {X : Type 0} (b : Bool) (x : X) → cond b x x ≡ x
+cond_one true x = refl
+cond_one false x = refl
+
+-- nodes that get a size are nodes of the world that do
+sized : (H : PortState) (k : ℕ) (ns : List Name) (N : NodeState) → world_from (with_edits (sizing k ns) N) H ≡ apply_all (changes_of (sizing k ns)) (world_from N H)
+sized H k [] N = refl
+sized H k (n ∷ ns) N = sized H k ns (with_edits (OnHeader n (with_size k) ∷ []) N)
+
+module _ (N : NodeState) (H : PortState) (s : Name) (words : List (List ℕ)) where
+  abbrev w : World
+  w = world_from N H
+
+  abbrev asks : Result (ServerInfo × Option (List ℕ)) Errno
+  asks = takes_options words (get N.servers s)
+
+  retexted_world : (i : ServerInfo) (o : Option (List ℕ)) → world_from (retexted s i o N) H ≡ apply_all (retexting w s i o) w
+  retexted_world i None = refl
+  retexted_world i (Some text) = sized H (size_of i.kind text) (own_nodes s N.homes) (record N { servers = edit s (with_text text) N.servers })
+
+  planned_by : (a : Result (ServerInfo × Option (List ℕ)) Errno) → asks ≡ a → (r : Result (Unit {0}) Errno) (M : NodeState) → Steps N (retexted_if s a N) r M
+      → Planned w (plan_options w s words) (λ (u : Unit {0}). Done) r (world_from M H)
+  planned_by (Err g) is (Ok u) M h = let no = h.answered in absurd (cc)
+  planned_by (Err g) is (Err e) M h = elim h.answered [
+    | inl bars ↦
+        subst (λ (K : NodeState). Planned w (plan_options w s words) (λ (u : Unit {0}). Done) (Err e) (world_from K H)) (sym (h.left ∙ cond_one (is_no_memory e) N))
+        (asked-refused w asks _ _ e (is ∙ cc))
+    | inr lacks ↦ absurd (true≢false (sym lacks.1))
+  ]
+  planned_by (Ok t) is (Ok u) M h = asked-done w asks _ _ t u (world_from M H) is refl (ap (λ (K : NodeState). world_from K H) h.left ∙ retexted_world t.0 t.1)
+  planned_by (Ok t) is (Err e) M h = elim h.answered [
+    | inl no ↦ absurd (cc)
+    | inr lacks ↦
+        let kept : M ≡ N = h.left ∙ ap (λ (f : Errno). cond (is_no_memory f) N (retexted s t.0 t.1 N)) lacks.0 in
+        asked-lacks w asks _ _ t e (world_from M H) is refl (ap (λ (K : NodeState). world_from K H) kept) lacks.0
+  ]
+
+  pub options-planned : (r : Result (Unit {0}) Errno) (M : NodeState) → Steps N (set_options_at s words N) r M → Planned w (plan_options w s words) (λ (u : Unit {0}). Done) r (world_from M H)
+  options-planned r M h = planned_by asks refl r M h
+
+  follows_by : (a : Result (ServerInfo × Option (List ℕ)) Errno) → asks ≡ a → (r : Result (Unit {0}) Errno) (M : NodeState) → ◌≡◌ {A = Result (Unit {0}) Errno × NodeState} (r, M) (retexted_if s a N)
+      → Follows w (plan_options w s words) (told (λ (u : Unit {0}). Done) r) (world_from M H)
+  follows_by (Err g) is r M h =
+      subst (λ (z : Result (Unit {0}) Errno × NodeState). Follows w (plan_options w s words) (told (λ (u : Unit {0}). Done) z.0) (world_from z.1 H)) (sym h)
+      (follows-refused w asks _ g is)
+  follows_by (Ok t) is r M h =
+      subst (λ (z : Result (Unit {0}) Errno × NodeState). Follows w (plan_options w s words) (told (λ (u : Unit {0}). Done) z.0) (world_from z.1 H)) (sym h)
+      (follows-then w asks _ t Done (world_from (retexted s t.0 t.1 N) H) is (refl, retexted_world t.0 t.1))
+
+  pub options-follow : (r : Result (Unit {0}) Errno) (M : NodeState) → ◌≡◌ {A = Result (Unit {0}) Errno × NodeState} (r, M) (set_options_at s words N)
+      → Follows w (plan_options w s words) (told (λ (u : Unit {0}). Done) r) (world_from M H)
+  options-follow r M h = follows_by asks refl r M h
