@@ -1,5 +1,5 @@
 -- What is shown after a server took other options.
-use Rattle.std.proofs.Common.{◌≡◌, ◌≢◌, ◌⊎◌, inl, inr, ℕ, Bool, true, false, cond, ◌||◌, List, [], ◌∷◌, map, refl, sym, ◌∙◌, ap, ap₂, subst}
+use Rattle.std.proofs.Common.{◌≡◌, ◌≢◌, ◌⊎◌, inl, inr, ℕ, Bool, true, false, cond, List, [], ◌∷◌, map, refl, sym, ◌∙◌, ap, ap₂, subst}
 use Rattle.std.specs.Prelude.{Option, Some, None, Result, Ok, Err, is_some}
 use Rattle.std.specs.Option.{option_map}
 use Rattle.std.specs.List.{list_any}
@@ -10,9 +10,9 @@ use Rattle.hurd_creds.specs.declared.errno.Errno.{Errno}
 use Rattle.hurd_creds.specs.declared.errno.Errno.TheVariants.{EDIED}
 use Rattle.hurd_creds.specs.Memory.{Steps, lacks_memory}
 use Rattle.hurd_creds.specs.Names.{name_cmp, same_name}
-use Rattle.hurd_creds.specs.NameMaps.{NameMap, edit, map_values}
+use Rattle.hurd_creds.specs.NameMaps.{NameMap, edit}
 use Rattle.hurd_creds.proofs.MapLaws.{get-map_values, map_values-insert}
-use Rattle.hurd_creds.proofs.NameLaws.{edit_here, edit_apart, edit_found, get_here, get_apart, insert_same, name_total, same_map_by, same_name-apart, same_name-itself, same_or_apart, tied-apart, tied-itself}
+use Rattle.hurd_creds.proofs.NameLaws.{edit_here, edit_apart, edit_found, get_here, get_apart, insert_same, same_map_by, same_name-apart, same_name-itself, same_or_apart, tied-apart, tied-itself}
 use Rattle.hurd_creds.proofs.StepLaws.{steps-inside, steps-refused}
 use Rattle.hurd_trans_iface.specs.Nodes.{Node, NodeMap, edit_all, with_header, with_size}
 use Rattle.hurd_trans_iface.specs.Meaning.{Meaning, behaviour_of, options_taken, set_options_step, size_of}
@@ -44,14 +44,17 @@ own-listed s q homes =
 -- where one node alone has this home, it is the only one
 pub own-lone : (s root : Name) (homes : NameMap Name) → fin.get homes root ≡ Some s → ((n : Name) → fin.get homes n ≡ Some s → n ≡ root) → own_nodes s homes ≡ root ∷ []
 own-lone s root homes home lone =
-    ap (λ (m : NameMap Name). fin.keys m) (same_map_by (fin.retain_keys homes own) one (λ q. get-kept homes own q ∙ by q (same_or_apart q root)))
-    ∙ ap (λ (es : List (Name × Name)). map (λ (e : Name × Name). e.0) es) (fin.entries-insert name_total fin.empty root s)
+    ap (λ (m : NameMap Name). fin.keys m) (same_map_by (fin.retain_keys homes own) (fin.from_sorted one) (λ q. get-kept homes own q ∙ by q (same_or_apart q root)))
+    ∙ ap (λ (es : List (Name × Name)). map (λ (e : Name × Name). e.0) es) (fin.entries-from_sorted name_cmp one tt)
   where
     own : Name → Bool
     own n = is_home s (fin.get homes n)
 
-    one : NameMap Name
-    one = fin.insert fin.empty root s
+    one : List (Name × Name)
+    one = (root, s) ∷ []
+
+    found : (q : Name) → fin.get (fin.from_sorted {R = name_cmp} one) q ≡ cond (eq_by_cmp name_cmp q root) (Some s) None
+    found q = fin.get-from_sorted name_cmp one q tt
 
     other : (q : Name) → q ≢ root → (o : Option Name) → fin.get homes q ≡ o → cond (is_home s o) o None ≡ None
     other q apart None is = refl
@@ -60,9 +63,9 @@ own-lone s root homes home lone =
       | inr apart ↦ rw (same_name-apart s p (λ e. apart (sym e))) refl
     ]
 
-    by : (q : Name) → (q ≡ root) ⊎ (q ≢ root) → cond (own q) (fin.get homes q) None ≡ fin.get one q
-    by q (inl here) = rw (here, home, same_name-itself s) (sym (get_here fin.empty root s))
-    by q (inr apart) = other q apart (fin.get homes q) refl ∙ sym (get_apart fin.empty root s q apart ∙ fin.get-empty name_cmp q)
+    by : (q : Name) → (q ≡ root) ⊎ (q ≢ root) → cond (own q) (fin.get homes q) None ≡ fin.get (fin.from_sorted {R = name_cmp} one) q
+    by q (inl here) = rw (here, home, same_name-itself s) (sym (found root ∙ ap (λ (b : Bool). cond b (Some s) None) (tied-itself root)))
+    by q (inr apart) = other q apart (fin.get homes q) refl ∙ sym (found q ∙ ap (λ (b : Bool). cond b (Some s) None) (tied-apart q root apart))
 
 -- nodes that get a size
 
