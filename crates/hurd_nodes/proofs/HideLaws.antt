@@ -22,7 +22,7 @@ use Rattle.hurd_nodes.proofs.EditLaws.{answered}
 abbrev pub has : NameMap Node → Name → Bool
 has m q = is_some (fin.get m q)
 
-has_mapped : (f : Node → Node) (o : Option Node) → is_some (option_map f o) ≡ is_some o
+pub has_mapped : (f : Node → Node) (o : Option Node) → is_some (option_map f o) ≡ is_some o
 has_mapped f None = refl
 has_mapped f (Some x) = refl
 
@@ -89,7 +89,7 @@ TellsAll homes seats = (s n : Name) (e : Seated Meaning) → fin.get seats s ≡
 
 module _ (homes : NameMap Name) (seats : NameMap (Seated Meaning)) (tells : TellsAll homes seats) (s : Name) (e : Seated Meaning) (is : fin.get seats s ≡ Some e) where
   -- a server that has no more than before
-  tells-less : (m : Meaning) → ((q : Name) → has m.nodes q ≡ true → has e.server.nodes q ≡ true) → TellsAll homes (fin.insert seats s (with_box e m))
+  pub tells-less : (m : Meaning) → ((q : Name) → has m.nodes q ≡ true → has e.server.nodes q ≡ true) → TellsAll homes (fin.insert seats s (with_box e m))
   tells-less m less p q x at there = elim (same_or_apart p s) [
     | inl here ↦
         let same : with_box e m ≡ x = (let one : Some (with_box e m) ≡ Some x = sym (get_here seats s (with_box e m)) ∙ ap (fin.get (fin.insert seats s (with_box e m))) (sym here) ∙ at in cc) in

@@ -14,3 +14,4 @@ pub mod AttachLaws
 pub mod StayLaws
 pub mod BootLaws
 pub mod HideLaws
+pub mod TextLaws

@@ -85,14 +85,24 @@ pub record SeatAt {S : Type 0} (f : S → Meaning) (ss : List (Seat S)) (o : Opt
   pub is : fin.get (mean f (seats_of ss)) name ≡ Some (mean_seat f (seat_value x))
   pub set : (w : S) → mean f (seats_of (slice_set ss i (record x { server = w }))) ≡ fin.insert (mean f (seats_of ss)) name (with_box (mean_seat f (seat_value x)) (f w))
 
+-- the seat that stands at a server's place, and one in its place
+module _ {S : Type 0} (f : S → Meaning) (ss : List (Seat S)) (s : Name) (i : ℕ) (x : Seat S) (at : Some i ≡ place_by seat_key s ss) (read : x ≡ slice_index_or ss i x) where
+  pub seat-is : fin.get (mean f (seats_of ss)) s ≡ Some (mean_seat f (seat_value x))
+  unfolding seats_of
+  seat-is = mean-at f (seats_of ss) s (seat_value x) (get-found seat_key seat_value s ss i x at read)
+
+  pub seat-put : (w : S) → mean f (seats_of (slice_set ss i (record x { server = w }))) ≡ fin.insert (mean f (seats_of ss)) s (with_box (mean_seat f (seat_value x)) (f w))
+  unfolding seats_of
+  seat-put w = ap (mean f) (keyed-changed seat_key seat_value s ss i x (record x { server = w }) at read refl) ∙ mean-put f (seats_of ss) s (seat_value x) w
+
 at_in : {S : Type 0} (f : S → Meaning) (ss : List (Seat S)) (o : Option Name) (i : ℕ) (x : Seat S) → (s : Name) → o ≡ Some s → Some i ≡ place_by seat_key s ss → x ≡ slice_index_or ss i x → SeatAt f ss o i x
 unfolding seats_of
 at_in f ss o i x s home at read = record {
   name = s;
   home = home;
   named = ap seat_key read ∙ (place-is seat_key seat_value s ss i (sym at)).named x;
-  is = mean-at f (seats_of ss) s (seat_value x) (get-found seat_key seat_value s ss i x at read);
-  set = λ w. ap (mean f) (keyed-changed seat_key seat_value s ss i x (record x { server = w }) at read refl) ∙ mean-put f (seats_of ss) s (seat_value x) w;
+  is = seat-is f ss s i x at read;
+  set = seat-put f ss s i x at read;
 }
 
 pub seat-at : {S : Type 0} (f : S → Meaning) (ss : List (Seat S)) (o : Option Name) (i : ℕ) (x : Seat S) → Some i ≡ place_in ss o → x ≡ slice_index_or ss i x → SeatAt f ss o i x
