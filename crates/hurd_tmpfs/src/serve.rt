@@ -165,6 +165,13 @@ impl Server for Tmpfs {
         Words::named(alloc, b"/hurd/tmpfs")
     }
 
+    fn set_options(&mut self, _alloc: Global, words: &Words) -> Result<(), Errno> {
+        if words.has_any() {
+            return Err(Errno::EINVAL);
+        }
+        Ok(())
+    }
+
     fn attrs(&self, node: NodeName) -> Option<Attrs> {
         match find(&self.nodes, node) {
             Some(inode) => Some(inode.attrs()),
