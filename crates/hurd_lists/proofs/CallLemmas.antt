@@ -4,7 +4,7 @@ use Rattle.std.specs.Prelude.{IfSome}
 use Rattle.std.specs.Option.{option_map}
 use Rattle.hurd_trans_iface.specs.Meaning.{Meaning, Begins, begin}
 use Rattle.hurd_machine.specs.declared.call.Call as call
-use Rattle.hurd_machine.specs.declared.call.Call.TheVariants.{PortDeallocate, PortSend, PortReceive, AuthMakeauth, DirLookup, IoRead, IoWrite, IoSeek, IoStat, IoReadable, IoGetOpenmodes, IoSetAllOpenmodes, IoDuplicate, IoReauthenticate, IoRestrictAuth, IoIdentity, FileSetSize, FileChmod, FileChown, FileCheckAccess, FileSetTranslator, FileGetTranslator, FileGetTranslatorCntl, FileGetcontrol, FsysStartup, StartFailed, FsysGetroot, FsysGoaway, FsysGetOptions, DirReaddir, DirMkdir, DirMkfile, DirRmdir, DirUnlink, DirLink, DirRename}
+use Rattle.hurd_machine.specs.declared.call.Call.TheVariants.{PortDeallocate, PortSend, PortReceive, AuthMakeauth, DirLookup, IoRead, IoWrite, IoSeek, IoStat, IoReadable, IoGetOpenmodes, IoSetAllOpenmodes, IoDuplicate, IoReauthenticate, IoRestrictAuth, IoIdentity, FileSetSize, FileChmod, FileChown, FileCheckAccess, FileSetTranslator, FileGetTranslator, FileGetTranslatorCntl, FileGetcontrol, FsysStartup, StartFailed, FsysGetroot, FsysGoaway, FsysGetOptions, FsysSetOptions, DirReaddir, DirMkdir, DirMkfile, DirRmdir, DirUnlink, DirLink, DirRename}
 use Rattle.hurd_machine.specs.Calls.{BringsBegun, Call, call_by}
 use Rattle.hurd_lists.specs.Calls.{begun, started, with_server}
 
@@ -44,6 +44,7 @@ served_by f s StartFailed = started_by f s
 served_by f s (FsysGetroot k dir flags) = refl
 served_by f s (FsysGoaway k flags) = refl
 served_by f s (FsysGetOptions k) = refl
+served_by f s (FsysSetOptions k words) = refl
 served_by f s (DirReaddir p) = refl
 served_by f s (DirMkdir p name mode) = refl
 served_by f s (DirMkfile p flags mode) = refl
@@ -95,6 +96,7 @@ brings_begun words StartFailed = start_begun (begun words) (are_begun words)
 brings_begun words (FsysGetroot k dir flags) = tt
 brings_begun words (FsysGoaway k flags) = tt
 brings_begun words (FsysGetOptions k) = tt
+brings_begun words (FsysSetOptions k options) = tt
 brings_begun words (DirReaddir p) = tt
 brings_begun words (DirMkdir p name mode) = tt
 brings_begun words (DirMkfile p flags mode) = tt

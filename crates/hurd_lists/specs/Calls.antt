@@ -235,6 +235,14 @@ fsys_goaway (control ∷ flags ∷ []) = do
   Some (call.FsysGoaway control flags)
 fsys_goaway _ = None
 
+-- `CONTROL [=WORD ..]`
+abbrev pub fsys_set_options : List (List ℕ) → Option Call
+fsys_set_options (control ∷ words) = do
+  control ← long_number_of control
+  words ← server_words words
+  Some (call.FsysSetOptions control words)
+fsys_set_options _ = None
+
 -- the call of a name with these arguments, without a server that it may bring
 abbrev pub call_of : Verb → List (List ℕ) → Option Call
 call_of verb.PortDeallocate args = option_map (λ port. call.PortDeallocate port) (lone args)
@@ -265,6 +273,7 @@ call_of verb.StartFailed args = start_failed args
 call_of verb.FsysGetroot args = fsys_getroot args
 call_of verb.FsysGoaway args = fsys_goaway args
 call_of verb.FsysGetOptions args = option_map (λ control. call.FsysGetOptions control) (lone args)
+call_of verb.FsysSetOptions args = fsys_set_options args
 call_of verb.DirLookup args = dir_lookup args
 call_of verb.DirReaddir args = option_map (λ port. call.DirReaddir port) (lone args)
 call_of verb.DirMkdir args = dir_mkdir args

@@ -2,7 +2,7 @@
 use Rattle.std.specs.Prelude.{ℕ, List, Option, Some, None, if◌then◌else◌, bytes_eq, codes}
 use Rattle.std.specs.Option.{option_or}
 use Rattle.hurd_lists.specs.declared.verb.Verb.{Verb}
-use Rattle.hurd_lists.specs.declared.verb.Verb.TheVariants.{PortDeallocate, PortSend, PortReceive, AuthMakeauth, IoRead, IoWrite, IoSeek, IoStat, IoReadable, IoGetOpenmodes, IoSetAllOpenmodes, IoDuplicate, IoReauthenticate, IoRestrictAuth, IoIdentity, FileChmod, FileChown, FileSetSize, FileCheckAccess, FileSetTranslator, FileGetTranslator, FileGetTranslatorCntl, FileGetcontrol, FsysStartup, StartFailed, FsysGetroot, FsysGoaway, FsysGetOptions, DirLookup, DirReaddir, DirMkdir, DirMkfile, DirRmdir, DirUnlink, DirLink, DirRename}
+use Rattle.hurd_lists.specs.declared.verb.Verb.TheVariants.{PortDeallocate, PortSend, PortReceive, AuthMakeauth, IoRead, IoWrite, IoSeek, IoStat, IoReadable, IoGetOpenmodes, IoSetAllOpenmodes, IoDuplicate, IoReauthenticate, IoRestrictAuth, IoIdentity, FileChmod, FileChown, FileSetSize, FileCheckAccess, FileSetTranslator, FileGetTranslator, FileGetTranslatorCntl, FileGetcontrol, FsysStartup, StartFailed, FsysGetroot, FsysGoaway, FsysGetOptions, FsysSetOptions, DirLookup, DirReaddir, DirMkdir, DirMkfile, DirRmdir, DirUnlink, DirLink, DirRename}
 
 -- a call on a port as such, or on ids
 abbrev pub port_verb : List ℕ → Option Verb
@@ -60,6 +60,7 @@ fsys_verb name =
     else if bytes_eq name (codes "fsys_getroot") then Some FsysGetroot
     else if bytes_eq name (codes "fsys_goaway") then Some FsysGoaway
     else if bytes_eq name (codes "fsys_get_options") then Some FsysGetOptions
+    else if bytes_eq name (codes "fsys_set_options") then Some FsysSetOptions
     else None
 
 -- a call on entries of a directory

@@ -4,7 +4,7 @@ ghost use Rattle.hurd_words.specs.Reading.{Reads};
 ghost use Rattle.hurd_trans_iface.specs.Meaning.{Begins, begin};
 ghost use Rattle.hurd_machine.specs.Calls.{BringsBegun, call_by};
 ghost use Rattle.hurd_lists.specs.Arguments.{server_words};
-ghost use Rattle.hurd_lists.specs.Calls.{auth_makeauth, before_box, begun, behind_box, box_place, call_of, dir_link, dir_lookup, dir_mkdir, dir_mkfile, dir_rename, dir_rmdir, dir_unlink, entry, file_chmod, file_chown, file_set_size, file_set_translator, fsys_getroot, fsys_goaway, fsys_startup, io_identity, io_read, io_restrict_auth, io_seek, io_set_all_openmodes, io_write, lone, pair, port_receive, port_send, server_of, setting_of, start_failed, started, with_server};
+ghost use Rattle.hurd_lists.specs.Calls.{auth_makeauth, before_box, begun, behind_box, box_place, call_of, dir_link, dir_lookup, dir_mkdir, dir_mkfile, dir_rename, dir_rmdir, dir_unlink, entry, file_chmod, file_chown, file_set_size, file_set_translator, fsys_getroot, fsys_goaway, fsys_set_options, fsys_startup, io_identity, io_read, io_restrict_auth, io_seek, io_set_all_openmodes, io_write, lone, pair, port_receive, port_send, server_of, setting_of, start_failed, started, with_server};
 
 use crate::arguments::{
     bytes, goaway_flags, ids, long_number, mode, number, offset, open_flags, server_words, task,
@@ -405,6 +405,18 @@ fn fsys_goaway<S: Server>(alloc: Global, args: &[Bytes]) -> Result<Call<S>, Read
     Ok(Call::FsysGoaway { control, flags })
 }
 
+/// `CONTROL [=WORD ..]`.
+fn fsys_set_options<S: Server>(alloc: Global, args: &[Bytes]) -> Result<Call<S>, ReadFault>
+    ensures { Reads (λ c. call_by S.meaning c) (fsys_set_options args.now) result }
+{
+    let [control, words @ ..] = args else {
+        return Err(ReadFault::Bad);
+    };
+    let control = long_number(control.as_slice())?;
+    let words = server_words(alloc, words)?;
+    Ok(Call::FsysSetOptions { control, words })
+}
+
 /// The call of a name with these arguments, without a server that it may bring.
 pub fn call_of<S: Server>(alloc: Global, verb: Verb, args: &[Bytes]) -> Result<Call<S>, ReadFault>
     ensures { Reads (λ c. call_by S.meaning c) (call_of verb args.now) result }
@@ -440,6 +452,7 @@ pub fn call_of<S: Server>(alloc: Global, verb: Verb, args: &[Bytes]) -> Result<C
         Verb::FsysGetOptions => Ok(Call::FsysGetOptions {
             control: lone(args)?,
         }),
+        Verb::FsysSetOptions => fsys_set_options(alloc, args),
         Verb::DirLookup => dir_lookup(alloc, args),
         Verb::DirReaddir => Ok(Call::DirReaddir { port: lone(args)? }),
         Verb::DirMkdir => dir_mkdir(alloc, args),

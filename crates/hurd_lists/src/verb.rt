@@ -35,6 +35,7 @@ pub enum Verb {
     FsysGetroot,
     FsysGoaway,
     FsysGetOptions,
+    FsysSetOptions,
     DirLookup,
     DirReaddir,
     DirMkdir,
@@ -150,6 +151,8 @@ fn fsys_verb(name: &str) -> Option<Verb>
         Some(Verb::FsysGoaway)
     } else if is(name, "fsys_get_options") {
         Some(Verb::FsysGetOptions)
+    } else if is(name, "fsys_set_options") {
+        Some(Verb::FsysSetOptions)
     } else {
         None
     }

@@ -1,27 +1,21 @@
 -- The texts that words say are short, and the words that say a short text are within their limits.
-use Rattle.std.proofs.Common.{◌≡◌, ℕ, ◌≤◌, ◌+◌, Bool, true, false, List, [], ◌∷◌, ◌++◌, length, take, drop, nat_le, if◌then◌else◌, codes, refl, ap, sym, subst, arith}
+use Rattle.std.proofs.Common.{◌≡◌, ℕ, ◌≤◌, ◌+◌, Bool, true, false, List, [], ◌∷◌, length, take, drop, nat_le, if◌then◌else◌, codes, refl, ap, sym, subst, arith}
 use Rattle.std.specs.Prelude.{Option, Some, None}
 use Rattle.std.specs.Str.{bytes_eq}
 use Rattle.std.proofs.lemmas.Bool.Decides.{nat_tests}
-use Rattle.std.proofs.lemmas.List.{length-append, length-take, length-drop}
+use Rattle.std.proofs.lemmas.List.{length-take, length-drop}
 use Rattle.std.proofs.lemmas.Slice.Eq.{bytes_eq-Decides}
 use Rattle.hurd_trans_iface.specs.HelloKind.{hello_text, most_text}
 use Rattle.hurd_trans_iface.specs.SymlinkKind.{most_path}
 use Rattle.hurd_trans_iface.specs.Meaning.{Hello, Symlink, options_of}
 use Rattle.hurd_trans_iface.specs.Words.{IsWithinLimits}
+use Rattle.hurd_trans_iface.proofs.Options.{two-within}
+pub use Rattle.hurd_trans_iface.proofs.Options.{hello-within}
 use Rattle.hurd_small.specs.Lone.{text_as}
 use Rattle.hurd_small.proofs.Beginnings.{said_if}
 
-two-within : (v w : List ℕ) → length v + length w ≤ 4096 → IsWithinLimits (v ∷ w ∷ [])
-two-within v w fits = let few : nat_le (0 + length v + length w) 4096 ≡ true = grind (arith, nat_tests) in few
-
 within-two : (v w : List ℕ) → IsWithinLimits (v ∷ w ∷ []) → length v + length w ≤ 4096
 within-two v w within = let few : nat_le (0 + length v + length w) 4096 ≡ true = within in grind (arith, nat_tests)
-
-pub hello-within : (text : List ℕ) → length text ≤ most_text → IsWithinLimits (options_of Hello text)
-hello-within text short =
-    let long = length-append (codes "--contents=") text in
-    two-within (codes "/hurd/hello") (codes "--contents=" ++ text) (omega (arith, long))
 
 pub symlink-within : (text : List ℕ) → length text ≤ most_path → IsWithinLimits (options_of Symlink text)
 symlink-within text short = two-within (codes "/hurd/symlink") text (omega arith)

@@ -1,24 +1,27 @@
 -- The one node of a server, and what its server answers of it.
 use Rattle.std.proofs.Common.{◌≡◌, ◌⊎◌, inl, inr, ℕ, Bool, true, false, List, refl, ap, sym, ◌∙◌, is_some}
-use Rattle.std.specs.Prelude.{Option, Some, None, Result, Err}
+use Rattle.std.specs.Prelude.{Option, Some, None, Result, Ok, Err}
 use Rattle.std.specs.Option.{option_map}
 use Rattle.std.specs.FinMap as fin
 use Rattle.hurd_creds.specs.Memory.{Steps}
-use Rattle.hurd_creds.specs.NameMaps.{NameMap}
+use Rattle.hurd_creds.specs.NameMaps.{NameMap, map_values}
 use Rattle.hurd_creds.specs.Names.{name_cmp, same_name}
 use Rattle.hurd_creds.specs.declared.name.Name.{Name}
 use Rattle.hurd_creds.specs.declared.attrs.Kind.{Kind}
 use Rattle.hurd_creds.specs.declared.errno.Errno.{Errno}
 use Rattle.hurd_creds.proofs.NameLaws.{equal_if_same, apart_if_not_same, same_or_apart, same_map_by, get_here, get_apart, remove_here, remove_apart}
-use Rattle.hurd_creds.proofs.StepLaws.{steps-refused}
+use Rattle.hurd_creds.proofs.MapLaws.{map_values-empty, map_values-insert}
+use Rattle.hurd_creds.proofs.StepLaws.{steps-inside, steps-refused}
 use Rattle.hurd_trans_iface.specs.declared.new_node.NewNode.{NewNode}
-use Rattle.hurd_trans_iface.specs.Nodes.{Node, NodeMap, Edit, body_of, is_dir, passive_of}
+use Rattle.hurd_trans_iface.specs.Nodes.{Node, NodeMap, Edit, body_of, is_dir, passive_of, with_header, with_size}
 use Rattle.hurd_trans_iface.specs.Answers.{entry_of, names_of, make_of, make_edits, link_of, link_edits, unlink_of, unlink_edits, rename_of, rename_edits, edits_if}
-use Rattle.hurd_trans_iface.specs.Meaning.{Meaning, ServerKind, root_of, keeps_tree, edited, make_step, link_step, unlink_step, rename_step, forget_after}
+use Rattle.hurd_trans_iface.specs.Meaning.{Meaning, ServerKind, behaviour_of, root_of, keeps_tree, edited, options_taken, set_options_step, size_of, make_step, link_step, unlink_step, rename_step, forget_after}
+use Rattle.hurd_trans_iface.specs.Good.{KeepsRoot}
+use Rattle.hurd_trans_iface.proofs.Goods.{good}
 use Rattle.hurd_small.specs.declared.presence.LoneNode.{LoneNode}
 use Rattle.hurd_small.specs.declared.presence.Presence.{Presence}
 use Rattle.hurd_small.specs.declared.presence.Presence.TheVariants.{Nameless, There, Forgotten}
-use Rattle.hurd_small.specs.Lone.{node_of, nodes_of, lone_meaning, barred_by}
+use Rattle.hurd_small.specs.Lone.{node_of, nodes_of, lone_meaning, barred_by, text_taken}
 
 -- maps of one value, and of none
 
@@ -185,3 +188,38 @@ module _ (kind : ServerKind) (text : List ℕ) where
   pub forget-absent : (p : Presence) (n : Name) (o : Option LoneNode) → Finds p n o → is_some o ≡ false → lone_meaning kind text p ≡ forget_after (lone_meaning kind text p) n
   forget-absent p n o finds none =
       rw (remove-absent n (nodes_of kind text p) (sym finds ∙ none_if_none o none)) refl
+
+-- options that are taken
+
+module _ (kind : ServerKind) (no_dir : (text : List ℕ) → is_dir (root_of kind text).kind ≡ false) (old : List ℕ) (p : Presence) where
+  abbrev meant : List ℕ → Meaning
+  meant text = lone_meaning kind text p
+
+  module _ (new : List ℕ) (kept : KeepsRoot (behaviour_of kind) new) where
+    abbrev resized : Node → Node
+    resized x = with_header (with_size (size_of kind new)) x
+
+    node-retexted : (n : LoneNode) → resized (node_of kind old n) ≡ node_of kind new n
+    node-retexted n = rw (kept.rooted old, no_dir new) refl
+
+    nodes-retexted : (q : Presence) → map_values resized (nodes_of kind old q) ≡ nodes_of kind new q
+    nodes-retexted Nameless = map_values-empty resized
+    nodes-retexted (Forgotten name) = map_values-empty resized
+    nodes-retexted (There n) =
+        map_values-insert resized no_nodes n.name (node_of kind old n)
+        ∙ ap (λ (m : NodeMap). fin.insert m n.name (resized (node_of kind old n))) (map_values-empty resized)
+        ∙ ap (λ (x : Node). fin.insert no_nodes n.name x) (node-retexted n)
+
+  taken : (r : Result (Option (List ℕ)) Errno) → ((new : List ℕ) → r ≡ Ok (Some new) → KeepsRoot (behaviour_of kind) new)
+      → options_taken r (meant old) ≡ ((text_taken r old).0, meant (text_taken r old).1)
+  taken (Ok None) keeps = refl
+  taken (Ok (Some new)) keeps =
+      ap (λ (m : NodeMap). let z : Result (Unit {0}) Errno × Meaning = (Ok tt, record { kind = kind; text = new; root = (meant old).root; nodes = m }) in z)
+      (nodes-retexted new (keeps new refl) p)
+  taken (Err e) keeps = refl
+
+  pub options-taken : (ws : List (List ℕ)) (got : Result (Unit {0}) Errno) (new : List ℕ)
+      → Steps old (text_taken ((behaviour_of kind).set_options ws) old) got new → Steps (meant old) (set_options_step ws (meant old)) got (meant new)
+  options-taken ws got new steps =
+      let r = (behaviour_of kind).set_options ws in
+      steps-inside meant old new (text_taken r old) (set_options_step ws (meant old)) got (taken r (λ text. (good kind).options_root ws text)) steps

@@ -34,6 +34,12 @@ root_name (Forgotten name) = Some name
 abbrev pub lone_meaning : ServerKind → List ℕ → Presence → Meaning
 lone_meaning kind text p = record { kind = kind; text = text; root = root_name p; nodes = nodes_of kind text p }
 
+-- the answer to options, and the text that they leave
+abbrev pub text_taken : Result (Option (List ℕ)) Errno → List ℕ → Result (Unit {0}) Errno × List ℕ
+text_taken (Ok None) text = (Ok tt, text)
+text_taken (Ok (Some new)) text = (Ok tt, new)
+text_taken (Err e) text = (Err e, text)
+
 -- the text that these words say, if they make a server of this kind
 abbrev pub text_as : ServerKind → List (List ℕ) → Option (List ℕ)
 text_as kind [] = None

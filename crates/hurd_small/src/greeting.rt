@@ -3,6 +3,7 @@ ghost use Rattle.std.specs.Prelude.{◌≤◌, length, refl};
 ghost use Rattle.hurd_trans_iface.specs.Meaning.{Hello as HelloKind};
 ghost use Rattle.hurd_trans_iface.specs.HelloKind.{most_text};
 
+use crate::contents::new_text;
 use crate::single::Single;
 use crate::text;
 use hurd_creds::{Bytes, Errno, Kind};
@@ -37,6 +38,15 @@ impl Single for Greeting {
         let mut word = Vec::from_slice(alloc, b"--contents=")?;
         word.extend_from_slice(self.text.as_slice())?;
         Words::with_argument(alloc, b"/hurd/hello", word.as_slice())
+    }
+
+    fn set_options(&mut self, alloc: Global, words: &Words) -> Result<(), Errno> {
+        if let Some(text) = new_text(words.as_slice())? {
+            *self = Greeting {
+                text: Bytes::copied(alloc, text)?,
+            };
+        }
+        Ok(())
     }
 
     fn size(&self) -> u64 {

@@ -1,11 +1,12 @@
 //! A file that gives a text.
-ghost use Rattle.std.specs.Prelude.{◌≡◌, codes, Some, None, IfOk, IfErr, MatchOption};
+ghost use Rattle.std.specs.Prelude.{◌≡◌, Some, None, IfOk, IfErr, MatchOption};
 ghost use Rattle.std.specs.Option.{option_map};
 ghost use Rattle.hurd_trans_iface.specs.Meaning.{begin, begin_as, Hello as HelloKind};
-ghost use Rattle.hurd_trans_iface.specs.HelloKind.{behind, hello_text};
+ghost use Rattle.hurd_trans_iface.specs.HelloKind.{hello_text};
 ghost use Rattle.hurd_small.specs.Lone.{text_as};
 ghost use Rattle.hurd_small.specs.Hello.{hello_meaning};
 
+use crate::contents::contents_in;
 use crate::greeting::Greeting;
 use crate::lone::Lone;
 use crate::presence::Presence;
@@ -60,11 +61,4 @@ fn text_of(arguments: &[Bytes]) -> Option<&[u8]>
         [word] => contents_in(word.as_slice()),
         _ => None,
     }
-}
-
-/// What stands behind `--contents=` in a word, if it begins so.
-fn contents_in(word: &[u8]) -> Option<&[u8]>
-    ensures { option_map (λ text. text.now) result ≡ behind (codes "--contents=") word.now }
-{
-    word.strip_prefix(b"--contents=".as_slice())
 }

@@ -3,6 +3,7 @@
 //! Each is a `Lone` of what it says itself, a `Single`; `Lone` has the node, and answers every call on it.
 #![tactic(auto)]
 
+mod contents;
 mod greeting;
 mod hello;
 mod lone;

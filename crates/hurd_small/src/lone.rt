@@ -10,7 +10,7 @@ use std::alloc::Global;
 /// The greatest size that a node may be cut or grown to, in bytes.
 const MOST_BYTES: u64 = 16_777_216;
 
-/// A server of one node, which is no directory, and of which nothing changes but that it gets its name and is forgotten.
+/// A server of one node, which is no directory, and of which nothing changes but its options, and that it gets its name and is forgotten.
 #[derive(Drop)]
 pub struct Lone<S> {
     pub(crate) single: S,
@@ -35,6 +35,10 @@ impl<S: Single> Server for Lone<S> {
 
     fn options(&self, alloc: Global) -> Result<Words, Errno> {
         self.single.options(alloc)
+    }
+
+    fn set_options(&mut self, alloc: Global, words: &Words) -> Result<(), Errno> {
+        self.single.set_options(alloc, words)
     }
 
     fn attrs(&self, node: NodeName) -> Option<Attrs> {

@@ -1,15 +1,15 @@
 //! What a server of one node says itself.
 ghost use Rattle.std.specs.Prelude.{◌≡◌, ℕ, false, List, [], Ok};
-ghost use Rattle.hurd_creds.specs.Memory.{Meets};
+ghost use Rattle.hurd_creds.specs.Memory.{Meets, Steps};
 ghost use Rattle.hurd_trans_iface.specs.Nodes.{Content, Node, is_dir};
 ghost use Rattle.hurd_trans_iface.specs.Meaning.{ServerKind, behaviour_of, keeps_tree, options_of, root_of};
-ghost use Rattle.hurd_small.specs.Lone.{IsGiven, IsPut, IsCut};
+ghost use Rattle.hurd_small.specs.Lone.{IsGiven, IsPut, IsCut, text_taken};
 
 use hurd_creds::{Bytes, Errno};
 use hurd_trans_iface::{Readable, Root, Words};
 use std::alloc::Global;
 
-/// What a server of one node says of it: no call changes that, and nothing is asked where the node isn't there.
+/// What a server of one node says of it: options alone change that, and nothing else is asked where the node isn't there.
 pub trait Single: Drop {
     // The kind of its server.
     ghost kind: { ServerKind };
@@ -26,6 +26,13 @@ pub trait Single: Drop {
     /// Errors: `ENOMEM`.
     fn options(&self, alloc: Global) -> Result<Words, Errno>
         ensures { Meets (Ok (options_of kind (text self.now))) result };
+
+    /// Takes other options in place of those that it has, which may give it another text; without words nothing changes, and no memory is taken.
+    ///
+    /// Errors, in order: `EINVAL` words that this kind doesn't take, or options past the limits of words; `ENOMEM`.
+    fn set_options(&mut self, alloc: Global, words: &Words) -> Result<(), Errno>
+        ensures steps { Steps (text self.old) (text_taken ((behaviour_of kind).set_options words.now) (text self.old)) result (text self.new) }
+        ensures no_words { words.now ≡ [] → result ≡ Ok tt };
 
     /// The node's size, in bytes.
     fn size(&self) -> u64

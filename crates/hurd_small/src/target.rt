@@ -5,6 +5,7 @@ ghost use Rattle.hurd_trans_iface.specs.SymlinkKind.{is_absolute, most_path};
 
 use crate::single::Single;
 use crate::text;
+use crate::words::no_options;
 use hurd_creds::{Bytes, Errno, Kind};
 use hurd_trans_iface::{Crossing, Readable, Root, Words};
 use std::alloc::Global;
@@ -37,6 +38,10 @@ impl Single for Target {
 
     fn options(&self, alloc: Global) -> Result<Words, Errno> {
         Words::with_argument(alloc, b"/hurd/symlink", self.path.as_slice())
+    }
+
+    fn set_options(&mut self, _alloc: Global, words: &Words) -> Result<(), Errno> {
+        no_options(words)
     }
 
     fn size(&self) -> u64 {

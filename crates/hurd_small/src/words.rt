@@ -1,7 +1,9 @@
 //! What words say.
-ghost use Rattle.std.specs.Prelude.{◌≡◌};
+ghost use Rattle.std.specs.Prelude.{◌≡◌, IfOk, IfErr, [], Ok, Err, None};
+ghost use Rattle.hurd_trans_iface.specs.TmpfsKind.{no_options};
 ghost use Rattle.hurd_small.specs.Lone.{is_alone};
 
+use hurd_creds::Errno;
 use hurd_trans_iface::Words;
 
 /// Whether these words are a program's name alone.
@@ -12,4 +14,16 @@ pub(crate) fn is_alone(words: &Words, program: &[u8]) -> bool
         [first] => first.is(program),
         _ => false,
     }
+}
+
+/// Takes no options: `EINVAL` for any word.
+pub(crate) fn no_options(words: &Words) -> Result<(), Errno>
+    ensures ok { IfOk result (λ u. no_options words.now ≡ Ok None) }
+    ensures err { IfErr result (λ e. no_options words.now ≡ Err e) }
+    ensures no_words { words.now ≡ [] → result ≡ Ok tt }
+{
+    if words.has_any() {
+        return Err(Errno::EINVAL);
+    }
+    Ok(())
 }

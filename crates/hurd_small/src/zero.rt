@@ -6,7 +6,7 @@ ghost use Rattle.hurd_small.specs.Zero.{zero_meaning};
 use crate::lone::Lone;
 use crate::presence::Presence;
 use crate::single::Single;
-use crate::words::is_alone;
+use crate::words::{is_alone, no_options};
 use hurd_creds::{Bytes, Errno, Kind};
 use hurd_trans_iface::{Crossing, Readable, Root, Words};
 use std::alloc::Global;
@@ -59,6 +59,10 @@ impl Single for Zeros {
 
     fn options(&self, alloc: Global) -> Result<Words, Errno> {
         Words::named(alloc, b"/hurd/zero")
+    }
+
+    fn set_options(&mut self, _alloc: Global, words: &Words) -> Result<(), Errno> {
+        no_options(words)
     }
 
     fn size(&self) -> u64 {

@@ -81,6 +81,10 @@ impl Server for Counted {
         self.tree.options(alloc)
     }
 
+    fn set_options(&mut self, alloc: Global, words: &Words) -> Result<(), Errno> {
+        self.tree.set_options(alloc, words)
+    }
+
     fn attrs(&self, node: NodeName) -> Option<Attrs> {
         self.tree.attrs(node)
     }

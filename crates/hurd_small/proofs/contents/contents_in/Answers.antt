@@ -3,7 +3,7 @@ use Rattle.std.specs.Prelude.{Option, Some, None, MatchOption}
 use Rattle.std.specs.Option.{option_map}
 use Rattle.std.specs.Str.{bytes_eq}
 use Rattle.hurd_trans_iface.specs.HelloKind.{behind}
-use Rattle.hurd_small.proofs.hello.contents_in.Goals as goal
+use Rattle.hurd_small.proofs.contents.contents_in.Goals as goal
 
 stripped : (first word : List ℕ) (r : Option (Bor (List ℕ))) → MatchOption r (bytes_eq (take (length first) word) first ≡ false) (λ x. (bytes_eq (take (length first) word) first ≡ true) × (x.now ≡ drop (length first) word) × (length x.now + length first ≡ length word)) → option_map (λ (x : Bor (List ℕ)). x.now) r ≡ behind first word
 stripped first word None cases = rw cases refl
