@@ -13,7 +13,8 @@ use Rattle.hurd_ports.specs.Tables.{PortState}
 use Rattle.hurd_machine.specs.declared.call.Reply.TheVariants.{Done}
 use Rattle.hurd_machine.specs.World.{World, world_from}
 use Rattle.hurd_machine.specs.Change.{apply_all, changes_of, retexting}
-use Rattle.hurd_machine.specs.Plan.{Follows, Planned, told}
+use Rattle.hurd_machine.specs.Calls.{Reply}
+use Rattle.hurd_machine.specs.Plan.{Plan, Follows, Planned, told}
 use Rattle.hurd_core.specs.Control.{plan_options}
 use Rattle.hurd_core.proofs.PlanLaws.{asked-refused, asked-lacks, asked-done, follows-refused, follows-then}
 
@@ -33,39 +34,46 @@ module _ (N : NodeState) (H : PortState) (s : Name) (words : List (List ℕ)) wh
   abbrev asks : Result (ServerInfo × Option (List ℕ)) Errno
   asks = takes_options words (get N.servers s)
 
+  abbrev gets : ServerInfo × Option (List ℕ) → Plan
+  gets a = record { reply = Done; changes = retexting w s a.0 a.1 }
+
+  abbrev tells : Unit {0} → Reply
+  tells u = Done
+
   retexted_world : (i : ServerInfo) (o : Option (List ℕ)) → world_from (retexted s i o N) H ≡ apply_all (retexting w s i o) w
   retexted_world i None = refl
   retexted_world i (Some text) = sized H (size_of i.kind text) (own_nodes s N.homes) (record N { servers = edit s (with_text text) N.servers })
 
   planned_by : (a : Result (ServerInfo × Option (List ℕ)) Errno) → asks ≡ a → (r : Result (Unit {0}) Errno) (M : NodeState) → Steps N (retexted_if s a N) r M
-      → Planned w (plan_options w s words) (λ (u : Unit {0}). Done) r (world_from M H)
-  planned_by (Err g) is (Ok u) M h = let no = h.answered in absurd (cc)
+      → Planned w (plan_options w s words) tells r (world_from M H)
+  planned_by (Err g) is (Ok u) M h = let refused = h.answered in absurd (cc)
   planned_by (Err g) is (Err e) M h = elim h.answered [
     | inl bars ↦
-        subst (λ (K : NodeState). Planned w (plan_options w s words) (λ (u : Unit {0}). Done) (Err e) (world_from K H)) (sym (h.left ∙ cond_one (is_no_memory e) N))
-        (asked-refused w asks _ _ e (is ∙ cc))
+        let same : g ≡ e = cc in
+        subst (λ (K : NodeState). Planned w (plan_options w s words) tells (Err e) (world_from K H)) (sym (h.left ∙ cond_one (is_no_memory e) N))
+        (asked-refused w asks gets tells e (is ∙ ap Err same))
     | inr lacks ↦ absurd (true≢false (sym lacks.1))
   ]
-  planned_by (Ok t) is (Ok u) M h = asked-done w asks _ _ t u (world_from M H) is refl (ap (λ (K : NodeState). world_from K H) h.left ∙ retexted_world t.0 t.1)
+  planned_by (Ok t) is (Ok u) M h = asked-done w asks gets tells t u (world_from M H) is refl (ap (λ (K : NodeState). world_from K H) h.left ∙ retexted_world t.0 t.1)
   planned_by (Ok t) is (Err e) M h = elim h.answered [
-    | inl no ↦ absurd (cc)
+    | inl refused ↦ absurd (cc)
     | inr lacks ↦
         let kept : M ≡ N = h.left ∙ ap (λ (f : Errno). cond (is_no_memory f) N (retexted s t.0 t.1 N)) lacks.0 in
-        asked-lacks w asks _ _ t e (world_from M H) is refl (ap (λ (K : NodeState). world_from K H) kept) lacks.0
+        asked-lacks w asks gets tells t e (world_from M H) is refl (ap (λ (K : NodeState). world_from K H) kept) lacks.0
   ]
 
-  pub options-planned : (r : Result (Unit {0}) Errno) (M : NodeState) → Steps N (set_options_at s words N) r M → Planned w (plan_options w s words) (λ (u : Unit {0}). Done) r (world_from M H)
+  pub options-planned : (r : Result (Unit {0}) Errno) (M : NodeState) → Steps N (set_options_at s words N) r M → Planned w (plan_options w s words) tells r (world_from M H)
   options-planned r M h = planned_by asks refl r M h
 
   follows_by : (a : Result (ServerInfo × Option (List ℕ)) Errno) → asks ≡ a → (r : Result (Unit {0}) Errno) (M : NodeState) → ◌≡◌ {A = Result (Unit {0}) Errno × NodeState} (r, M) (retexted_if s a N)
-      → Follows w (plan_options w s words) (told (λ (u : Unit {0}). Done) r) (world_from M H)
+      → Follows w (plan_options w s words) (told tells r) (world_from M H)
   follows_by (Err g) is r M h =
-      subst (λ (z : Result (Unit {0}) Errno × NodeState). Follows w (plan_options w s words) (told (λ (u : Unit {0}). Done) z.0) (world_from z.1 H)) (sym h)
-      (follows-refused w asks _ g is)
+      subst (λ (z : Result (Unit {0}) Errno × NodeState). Follows w (plan_options w s words) (told tells z.0) (world_from z.1 H)) (sym h)
+      (follows-refused w asks gets g is)
   follows_by (Ok t) is r M h =
-      subst (λ (z : Result (Unit {0}) Errno × NodeState). Follows w (plan_options w s words) (told (λ (u : Unit {0}). Done) z.0) (world_from z.1 H)) (sym h)
-      (follows-then w asks _ t Done (world_from (retexted s t.0 t.1 N) H) is (refl, retexted_world t.0 t.1))
+      subst (λ (z : Result (Unit {0}) Errno × NodeState). Follows w (plan_options w s words) (told tells z.0) (world_from z.1 H)) (sym h)
+      (follows-then w asks gets t Done (world_from (retexted s t.0 t.1 N) H) is (refl, retexted_world t.0 t.1))
 
   pub options-follow : (r : Result (Unit {0}) Errno) (M : NodeState) → ◌≡◌ {A = Result (Unit {0}) Errno × NodeState} (r, M) (set_options_at s words N)
-      → Follows w (plan_options w s words) (told (λ (u : Unit {0}). Done) r) (world_from M H)
+      → Follows w (plan_options w s words) (told tells r) (world_from M H)
   options-follow r M h = follows_by asks refl r M h
