@@ -229,6 +229,8 @@ const BEFORE: &str = r"0 dir_lookup 1 =motd READ,WRITE,CREATE 644
   Found Done 3
 1 dir_lookup 1 =home READ 0
   Found Done 4
+0 file_getcontrol 1
+  Port 5
 ";
 
 /// Lookups that are refused.
@@ -309,6 +311,10 @@ const SURE: &str = r"1 io_seek 3 2 Set
   Refused ESRCH
 0 fsys_goaway 3 -
   Refused EBADF
+0 fsys_set_options 5
+  Done
+0 fsys_set_options 5 =--contents=Hi
+  Refused EINVAL
 ";
 
 /// Makes the calls of each transcript in a new world; where memory was refused to one and may be, once more.
