@@ -4,7 +4,7 @@ use Rattle.hurd_machine.specs.declared.call.Reply.TheVariants.{Done, Found, Port
 use Rattle.hurd_machine.specs.World.{World}
 use Rattle.hurd_world.specs.Held.{world_of}
 use Rattle.hurd_world.proofs.RowLaws.{follows_row, planned_row, options_row, set_row, start_row, begun_box}
-use Rattle.hurd_world.proofs.world.World.dispatch.Goals.{in-PortDeallocate, in-PortSend, in-PortReceive, in-AuthMakeauth, in-DirLookup, in-IoRead, in-IoWrite, in-IoSeek, in-IoStat, in-IoReadable, in-IoGetOpenmodes, in-IoSetAllOpenmodes, in-IoDuplicate, in-IoReauthenticate, in-IoRestrictAuth, in-IoIdentity, in-FileSetSize, in-FileChmod, in-FileChown, in-FileCheckAccess, in-FileSetTranslator, in-FileGetTranslator, in-FileGetTranslatorCntl, in-FileGetcontrol, in-FsysStartup, in-StartFailed, in-FsysGetroot, in-FsysGoaway, in-FsysGetOptions, in-DirReaddir, in-DirMkdir, in-DirMkfile, in-DirRmdir, in-DirUnlink, in-DirLink, in-DirRename}
+use Rattle.hurd_world.proofs.world.World.dispatch.Goals.{in-PortDeallocate, in-PortSend, in-PortReceive, in-AuthMakeauth, in-DirLookup, in-IoRead, in-IoWrite, in-IoSeek, in-IoStat, in-IoReadable, in-IoGetOpenmodes, in-IoSetAllOpenmodes, in-IoDuplicate, in-IoReauthenticate, in-IoRestrictAuth, in-IoIdentity, in-FileSetSize, in-FileChmod, in-FileChown, in-FileCheckAccess, in-FileSetTranslator, in-FileGetTranslator, in-FileGetTranslatorCntl, in-FileGetcontrol, in-FsysStartup, in-StartFailed, in-FsysGetroot, in-FsysGoaway, in-FsysGetOptions, in-FsysSetOptions, in-DirReaddir, in-DirMkdir, in-DirMkfile, in-DirRmdir, in-DirUnlink, in-DirLink, in-DirRename}
 use Rattle.hurd_world.proofs.world.World.dispatch.Goals as goal
 
 -- each call's row is what it owes
