@@ -186,6 +186,10 @@ const STARTS: &str = r"0 dir_lookup 1 =k NOTRANS,CREATE 644
   Port 5
 0 fsys_get_options 5
   Words =/hurd/hello =--contents=Hello,\sworld!\n
+0 fsys_set_options 5 =--contents=Ho
+  Done
+2 io_read 3 5 0
+  Data =Ho
 0 file_set_translator 3 SET SET - =/hurd/null box =/hurd/zero
   Back EBUSY
 0 file_get_translator 3
