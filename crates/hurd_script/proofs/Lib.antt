@@ -2,3 +2,6 @@ pub mod ScriptLemmas
 pub mod UsageLemmas
 pub mod ListLemmas
 pub mod ActionLemmas
+pub mod LetterLemmas
+pub mod SettransLemmas
+pub mod SettingLemmas

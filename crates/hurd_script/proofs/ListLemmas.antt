@@ -7,7 +7,7 @@ use Rattle.std.proofs.lemmas.Slice.Eq.{bytes_eq-Decides}
 use Rattle.clap.specs.Words.{Row, Text, first_of, one_of}
 use Rattle.clap.proofs.OnLiterals.{clap_on_literals}
 use Rattle.clap.specs.declared.error.kind.ErrorKind.TheVariants.{ArgumentConflict, MissingRequiredArgument, UnknownArgument}
-use Rattle.hurd_script.specs.Actions.{flags_of, is_flag_word, operands_of}
+use Rattle.hurd_script.specs.Flags.{flags_of, is_flag_word, operands_of}
 use Rattle.hurd_script.specs.Usage.{Answer, HasListed, flag_text, is_other_flag, list_app, listed}
 use Rattle.hurd_script.proofs.UsageLemmas.{IsPlain, faulty, hyphen, is_plain, no_flag, nothing, other}
 

@@ -10,7 +10,7 @@ use Rattle.clap.specs.Lexer.{long_of, short_of}
 use Rattle.clap.proofs.OnLiterals.{clap_on_literals}
 use Rattle.clap.specs.declared.error.kind.ErrorKind.{ErrorKind}
 use Rattle.clap.specs.declared.error.kind.ErrorKind.TheVariants.{MissingRequiredArgument, UnknownArgument}
-use Rattle.hurd_script.specs.Actions.{flags_of, is_flag_word, operands_of}
+use Rattle.hurd_script.specs.Flags.{flags_of, is_flag_word, operands_of}
 use Rattle.hurd_script.specs.Usage.{Answer, HasNode, HasPair, HasTriple, both, lone, node_app, pair_app, three, triple_app}
 
 -- a word that is no flag

@@ -1,27 +1,18 @@
 -- What the words of a command ask for.
-use Rattle.std.specs.Prelude.{ℕ, ◌==◌, ◌&&◌, Bool, false, not, List, [], ◌∷◌, Option, Some, None, if◌then◌else◌, bytes_eq, codes, filter}
+use Rattle.std.specs.Prelude.{ℕ, List, [], ◌∷◌, Option, Some, None, if◌then◌else◌, bytes_eq, codes}
+use Rattle.std.specs.Option.{option_map_or}
 use Rattle.hurd_creds.specs.declared.mode.Mode.{Mode}
-use Rattle.hurd_words.specs.Words.{has_bytes}
+use Rattle.hurd_trans_iface.specs.Words.{is_within_limits}
 use Rattle.hurd_words.specs.Numbers.{mode_of, number_of}
 use Rattle.hurd_script.specs.Places.{place_of}
 use Rattle.hurd_script.specs.Commands.{CommandLine}
+use Rattle.hurd_script.specs.Flags.{flags_of, is_flag_word, operands_of}
+use Rattle.hurd_script.specs.Settrans.{from_node, is_at_odds, leading_flags, letters_of, setting_of}
 use Rattle.hurd_script.specs.declared.command.Verb.{Verb}
-use Rattle.hurd_script.specs.declared.command.Verb.TheVariants.{Cat, Ls, Put, Mkdir, Rm, Rmdir, Ln, Mv, Chmod, Chown}
+use Rattle.hurd_script.specs.declared.command.Verb.TheVariants.{Cat, Ls, Put, Mkdir, Rm, Rmdir, Ln, Mv, Chmod, Chown, Settrans, Showtrans, Fsysopts}
 use Rattle.hurd_script.specs.declared.command.Action.{Action}
 use Rattle.hurd_script.specs.declared.command.Action.TheVariants as action
-
--- begins with `-`, and is not that byte alone
-abbrev pub is_flag_word : List ℕ → Bool
-is_flag_word [] = false
-is_flag_word (b ∷ bs) = (b == 45) && has_bytes bs
-
--- the words that are flags
-abbrev pub flags_of : List (List ℕ) → List (List ℕ)
-flags_of words = filter is_flag_word words
-
--- the words that are none
-abbrev pub operands_of : List (List ℕ) → List (List ℕ)
-operands_of words = filter (λ word. not (is_flag_word word)) words
+use Rattle.hurd_script.specs.declared.settrans.SettransFlags.{SettransFlags}
 
 -- `chmod MODE NODE`
 abbrev pub chmod_action : Option Mode → List ℕ → Action
@@ -45,6 +36,7 @@ plain_action Ln (file ∷ new ∷ []) = action.Ln file (place_of new)
 plain_action Mv (old ∷ new ∷ []) = action.Mv (place_of old) (place_of new)
 plain_action Chmod (mode ∷ node ∷ []) = chmod_action (mode_of mode) node
 plain_action Chown (owner ∷ group ∷ node ∷ []) = chown_action (number_of owner) (number_of group) node
+plain_action Showtrans (node ∷ []) = action.Showtrans node
 plain_action _ _ = action.Usage
 
 -- what words with one flag ask for: `ls -d NODE`, and no other command takes a flag
@@ -58,8 +50,29 @@ asked verb [] operands = plain_action verb operands
 asked verb (flag ∷ []) operands = flagged_action verb flag operands
 asked verb _ operands = action.Usage
 
--- what these words behind a command's name ask for; its flags may stand anywhere among them
+-- words of a translator, unless they are past their limits
+abbrev pub within_limits : List (List ℕ) → Option (List (List ℕ))
+within_limits words = if is_within_limits words then Some words else None
+
+-- an action with these words, where they are within their limits
+abbrev pub with_words : (List (List ℕ) → Action) → List (List ℕ) → Action
+with_words made words = option_map_or made (within_limits words) action.Usage
+
+-- `fsysopts NODE [WORD..]`, without a flag in front; the words may be any
+abbrev pub fsysopts_action : List (List ℕ) → Action
+fsysopts_action [] = action.Usage
+fsysopts_action (node ∷ words) = if is_flag_word node then action.Usage else with_words (action.Fsysopts node) words
+
+-- `settrans` with flags that are not at odds, a node, and any words
+abbrev pub settrans_action : Option (SettransFlags × (List ℕ × List (List ℕ))) → Action
+settrans_action None = action.Usage
+settrans_action (Some (flags, (node, words))) = if is_at_odds flags then action.Usage else with_words (action.Settrans flags node) words
+
+-- what these words behind a command's name ask for: flags may stand anywhere among them, but where words of a
+-- translator come behind a node, those in front of it are its flags
 abbrev pub asked_by : Verb → List (List ℕ) → Action
+asked_by Settrans words = settrans_action (setting_of (letters_of (leading_flags words)) (from_node words))
+asked_by Fsysopts words = fsysopts_action words
 asked_by verb words = asked verb (flags_of words) (operands_of words)
 
 -- what a command asks for

@@ -6,7 +6,7 @@ use Rattle.hurd_words.specs.Words.{words_of}
 use Rattle.hurd_words.specs.Users.{is_user_line, names_before, task_of}
 use Rattle.hurd_script.specs.contracts.command.Verb as verb
 use Rattle.hurd_script.specs.declared.command.Verb.{Verb}
-use Rattle.hurd_script.specs.declared.command.Verb.TheVariants.{Cat, Ls, Put, Mkdir, Rm, Rmdir, Ln, Mv, Chmod, Chown}
+use Rattle.hurd_script.specs.declared.command.Verb.TheVariants.{Cat, Ls, Put, Mkdir, Rm, Rmdir, Ln, Mv, Chmod, Chown, Settrans, Showtrans, Fsysopts}
 
 -- a command: who makes it, what a transcript writes before its output, what it is called, and the words behind that
 pub record CommandLine : Type 0 where
@@ -41,6 +41,9 @@ verb_of word =
     else if bytes_eq word (codes "mv") then Some Mv
     else if bytes_eq word (codes "chmod") then Some Chmod
     else if bytes_eq word (codes "chown") then Some Chown
+    else if bytes_eq word (codes "settrans") then Some Settrans
+    else if bytes_eq word (codes "showtrans") then Some Showtrans
+    else if bytes_eq word (codes "fsysopts") then Some Fsysopts
     else None
 
 -- the line behind its first word, as written, without outer spaces

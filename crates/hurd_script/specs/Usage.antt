@@ -1,9 +1,10 @@
 -- What clap is told of the commands, and what it makes of their words.
-use Rattle.std.specs.Prelude.{◌≡◌, ◌≢◌, ◌&&◌, ℕ, Bool, true, false, not, List, [], ◌∷◌, Option, Some, None, bytes_eq, codes, if◌then◌else◌}
+use Rattle.std.specs.Prelude.{◌≡◌, ◌≢◌, ◌&&◌, ℕ, Bool, true, false, not, List, [], ◌∷◌, Option, Some, None, bytes_eq, codes, fold, if◌then◌else◌}
 use Rattle.clap.specs.Words.{App, Row, Rule, Text, fault_of, first_of, matches_of, new_app, new_rule, one_of, with_rule}
 use Rattle.clap.specs.Simple.{on_top}
 use Rattle.clap.specs.declared.builder.ArgAction.TheVariants.{Set, SetTrue}
-use Rattle.hurd_script.specs.Actions.{is_flag_word}
+use Rattle.hurd_script.specs.Flags.{is_flag_word}
+use Rattle.hurd_script.specs.declared.settrans.SettransFlags.{SettransFlags}
 
 -- a command without clap's own flags, whose words begin behind its name
 abbrev pub bare_app : Text → App
@@ -88,3 +89,26 @@ flag_text false = codes "false"
 
 abbrev pub HasListed : List Row → Text × Bool → Type 0
 HasListed rows listed = HasNode rows listed.0 × (one_of (codes "itself") rows ≡ Some (flag_text listed.1))
+
+-- a flag that is called by its letter
+abbrev pub own_flag : ℕ → Rule
+own_flag letter = letter_flag (letter ∷ []) letter
+
+-- `settrans`, which takes a node and eight flags
+abbrev pub settrans_app : App
+settrans_app = fold (λ app letter. with_rule app (own_flag letter)) (node_app (codes "settrans")) (codes "apcxgkfo")
+
+-- the row of a flag says what is told of it, where it says anything
+abbrev pub Tells : List Row → ℕ → Bool → Type 0
+Tells rows letter flag = (set : Bool) → one_of (letter ∷ []) rows ≡ Some (flag_text set) → flag ≡ set
+
+-- the flags are those that the rows tell
+pub record IsFound (rows : List Row) (flags : SettransFlags) : Type 0 where
+  pub active : Tells rows 97 flags.active
+  pub passive : Tells rows 112 flags.passive
+  pub create : Tells rows 99 flags.create
+  pub exclusive : Tells rows 120 flags.exclusive
+  pub goaway : Tells rows 103 flags.goaway
+  pub keep : Tells rows 107 flags.keep
+  pub force : Tells rows 102 flags.force
+  pub orphan : Tells rows 111 flags.orphan

@@ -1,11 +1,13 @@
 //! What the words of each command ask for.
 ghost use Rattle.std.specs.Prelude.{◌≡◌, IfOk, map, string_bytes};
-ghost use Rattle.hurd_script.specs.Actions.{asked_by};
+ghost use Rattle.hurd_script.specs.Actions.{asked_by, within_limits};
 
 use crate::command::{Action, Verb};
 use crate::places::place_of;
+use crate::settrans::setting_of;
 use crate::usage::{listed_of, node_of, pair_of, triple_of};
-use hurd_creds::Bytes;
+use hurd_creds::{Bytes, Errno};
+use hurd_trans_iface::Words;
 use hurd_words::numbers::{mode, number};
 use std::alloc::{AllocError, Global};
 
@@ -14,6 +16,25 @@ fn bytes_of(alloc: Global, text: &str) -> Result<Bytes, AllocError>
     ensures { IfOk result (λ bytes. bytes ≡ text.now) }
 {
     Bytes::copied(alloc, text.as_bytes())
+}
+
+/// The bytes of each of these texts.
+fn texts_of<'a>(alloc: Global, words: &'a [String]) -> Result<Vec<&'a [u8]>, AllocError>
+    ensures { IfOk result (λ texts. map (λ text. text.now) texts.items ≡ map string_bytes words.entry.now) }
+{
+    words.iter().map(|word| word.as_bytes()).collect(alloc)
+}
+
+/// The words, unless they are past the limits.
+fn words_from(alloc: Global, words: &[String]) -> Result<Option<Words>, AllocError>
+    ensures { IfOk result (λ found. found ≡ within_limits (map string_bytes words.now)) }
+{
+    let texts = texts_of(alloc, words)?;
+    match Words::new(alloc, texts.as_slice()) {
+        Ok(words) => Ok(Some(words)),
+        Err(Errno::ENOMEM) => Err(AllocError),
+        Err(_) => Ok(None),
+    }
 }
 
 /// `cat NODE`.
@@ -152,4 +173,53 @@ pub fn chown(alloc: Global, words: &[String]) -> Result<Action, AllocError>
         group,
         node: bytes_of(alloc, node)?,
     })
+}
+
+/// `settrans [FLAGS] NODE [WORD..]`.
+pub fn settrans(alloc: Global, words: &[String]) -> Result<Action, AllocError>
+    ensures { IfOk result (λ action. action ≡ asked_by Verb.Settrans (map string_bytes words.now)) }
+{
+    let Some(setting) = setting_of(alloc, words)? else {
+        return Ok(Action::Usage);
+    };
+    if setting.flags.is_at_odds() {
+        return Ok(Action::Usage);
+    }
+    match words_from(alloc, setting.words)? {
+        Some(words) => Ok(Action::Settrans {
+            flags: setting.flags,
+            node: bytes_of(alloc, setting.node)?,
+            words,
+        }),
+        None => Ok(Action::Usage),
+    }
+}
+
+/// `showtrans NODE`.
+pub fn showtrans(alloc: Global, words: &[String]) -> Result<Action, AllocError>
+    ensures { IfOk result (λ action. action ≡ asked_by Verb.Showtrans (map string_bytes words.now)) }
+{
+    match node_of(alloc, "showtrans", words)? {
+        Some(node) => Ok(Action::Showtrans {
+            node: bytes_of(alloc, node)?,
+        }),
+        None => Ok(Action::Usage),
+    }
+}
+
+/// `fsysopts NODE [WORD..]`.
+pub fn fsysopts(alloc: Global, words: &[String]) -> Result<Action, AllocError>
+    ensures { IfOk result (λ action. action ≡ asked_by Verb.Fsysopts (map string_bytes words.now)) }
+{
+    let (front, behind) = words.split_at(words.len().min(1));
+    let Some(node) = node_of(alloc, "fsysopts", front)? else {
+        return Ok(Action::Usage);
+    };
+    match words_from(alloc, behind)? {
+        Some(words) => Ok(Action::Fsysopts {
+            node: bytes_of(alloc, node)?,
+            words,
+        }),
+        None => Ok(Action::Usage),
+    }
 }

@@ -5,7 +5,9 @@ ghost use Rattle.hurd_script.specs.Commands.{CommandLine, verb_of};
 
 use crate::actions;
 use crate::places::Place;
+use crate::settrans::SettransFlags;
 use hurd_creds::{Bytes, Mode, TaskId};
+use hurd_trans_iface::Words;
 use hurd_words::words::is;
 use std::alloc::{AllocError, Global};
 use std::marker::Model;
@@ -23,24 +25,69 @@ pub enum Verb {
     Mv,
     Chmod,
     Chown,
+    Settrans,
+    Showtrans,
+    Fsysopts,
 }
 
 /// A command with its words.
 #[derive(Debug, Drop)]
 pub enum Action {
-    Cat { node: Bytes },
-    Ls { node: Bytes },
+    Cat {
+        node: Bytes,
+    },
+    Ls {
+        node: Bytes,
+    },
     /// `ls -d`: the node itself is shown, whatever kind it is of.
-    Stat { node: Bytes },
-    Put { node: Bytes, text: Bytes },
-    Mkdir { place: Place },
-    Rm { place: Place },
-    Rmdir { place: Place },
+    Stat {
+        node: Bytes,
+    },
+    Put {
+        node: Bytes,
+        text: Bytes,
+    },
+    Mkdir {
+        place: Place,
+    },
+    Rm {
+        place: Place,
+    },
+    Rmdir {
+        place: Place,
+    },
     /// A new entry for a file.
-    Ln { file: Bytes, new: Place },
-    Mv { old: Place, new: Place },
-    Chmod { mode: Mode, node: Bytes },
-    Chown { owner: u32, group: u32, node: Bytes },
+    Ln {
+        file: Bytes,
+        new: Place,
+    },
+    Mv {
+        old: Place,
+        new: Place,
+    },
+    Chmod {
+        mode: Mode,
+        node: Bytes,
+    },
+    Chown {
+        owner: u32,
+        group: u32,
+        node: Bytes,
+    },
+    Showtrans {
+        node: Bytes,
+    },
+    /// New options for the server of a node; without words its options are shown.
+    Fsysopts {
+        node: Bytes,
+        words: Words,
+    },
+    /// A translator of these words on a node.
+    Settrans {
+        flags: SettransFlags,
+        node: Bytes,
+        words: Words,
+    },
     /// The words are none that the command takes.
     Usage,
 }
@@ -94,12 +141,16 @@ impl Command {
 
     /// What the words ask for, read with clap.
     ///
-    /// A word that begins with `-`, other than `-` itself, is a flag, and may stand anywhere among the words. `ls`
-    /// takes the flag `-d`, once at most, and no other command takes one. `cat`, `ls`, `mkdir`, `rm` and `rmdir` take one
-    /// node, `put` a node and a text, `ln` and `mv` two nodes, `chmod` a mode and a node, `chown` an owner, a group and a
-    /// node. A mode is one to six octal digits
-    /// of known bits, an owner or a group a decimal number below 2 to the 32nd; zeros may lead, and no sign. Any
-    /// other words are `Usage`. An error is want of memory.
+    /// A word that begins with `-`, other than `-` itself, is a flag. `ls` takes the flag `-d`, once at most,
+    /// `settrans` takes `-a`, `-p`, `-c`, `-x`, `-g`, `-k`, `-f` and `-o`, also joined as in `-ac`, each once at most
+    /// and `-k` beside none of `-a`, `-g` and `-o`; no other command takes one. Flags may stand anywhere among the
+    /// words; those of `settrans` stand in front of its node, and the words behind the nodes of `settrans` and
+    /// `fsysopts` are taken as they stand, at most 32 of 4,096 bytes in all.
+    ///
+    /// `cat`, `ls`, `mkdir`, `rm`, `rmdir` and `showtrans` take one node, `put` a node and a text, `ln` and `mv` two
+    /// nodes, `chmod` a mode and a node, `chown` an owner, a group and a node. A mode is one to six octal digits of
+    /// known bits, an owner or a group a decimal number below 2 to the 32nd; zeros may lead, and no sign. Any other
+    /// words are `Usage`. An error is want of memory.
     pub fn action(&self, alloc: Global) -> Result<Action, AllocError>
         ensures { IfOk result (λ action. action ≡ action_of self.now) }
     {
@@ -115,6 +166,9 @@ impl Command {
             Verb::Mv => actions::mv(alloc, words),
             Verb::Chmod => actions::chmod(alloc, words),
             Verb::Chown => actions::chown(alloc, words),
+            Verb::Settrans => actions::settrans(alloc, words),
+            Verb::Showtrans => actions::showtrans(alloc, words),
+            Verb::Fsysopts => actions::fsysopts(alloc, words),
         }
     }
 }
@@ -143,6 +197,12 @@ pub fn verb_of(word: &str) -> Option<Verb>
         Some(Verb::Chmod)
     } else if is(word, "chown") {
         Some(Verb::Chown)
+    } else if is(word, "settrans") {
+        Some(Verb::Settrans)
+    } else if is(word, "showtrans") {
+        Some(Verb::Showtrans)
+    } else if is(word, "fsysopts") {
+        Some(Verb::Fsysopts)
     } else {
         None
     }

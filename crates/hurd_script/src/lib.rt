@@ -5,7 +5,8 @@
 //! Lines that are empty, only spaces or begin with `#` are skipped. Words are of printable ASCII, between
 //! spaces; in a word `\s` is a space, `\n` a newline and `\\` a backslash. `Command::action` says what the
 //! words of a command ask for. The commands are `cat NODE`, `ls [-d] NODE`, `put NODE TEXT`, `mkdir NODE`,
-//! `rm NODE`, `rmdir NODE`, `ln FILE NEW`, `mv OLD NEW`, `chmod MODE NODE` and `chown OWNER GROUP NODE`.
+//! `rm NODE`, `rmdir NODE`, `ln FILE NEW`, `mv OLD NEW`, `chmod MODE NODE`, `chown OWNER GROUP NODE`,
+//! `settrans [-apcxgkfo] NODE [WORD..]`, `showtrans NODE` and `fsysopts NODE [WORD..]`.
 //!
 //! It runs no command and knows no node: it isn't a shell.
 #![tactic(auto)]
@@ -15,8 +16,10 @@ mod command;
 mod header;
 mod places;
 mod reader;
+mod settrans;
 mod usage;
 
 pub use command::{Action, Command, Verb};
 pub use places::Place;
 pub use reader::{Script, ScriptFault, parse_script};
+pub use settrans::SettransFlags;

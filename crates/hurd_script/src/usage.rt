@@ -2,7 +2,7 @@
 ghost use Rattle.std.specs.Prelude.{◌≡◌, ◌≢◌, ◌⊎◌, [], IfOk, MatchOption, codes, false, map, option_copied, option_map, string_bytes, true};
 ghost use Rattle.std.specs.List.{list_any};
 ghost use Rattle.clap.specs.Words.{app_of, fault_of, found_of, is_simple_and_free, rows_of, rule_of};
-ghost use Rattle.hurd_script.specs.Actions.{flags_of, is_flag_word, operands_of};
+ghost use Rattle.hurd_script.specs.Flags.{flags_of, is_flag_word, operands_of};
 ghost use Rattle.hurd_script.specs.Usage.{ReadsAs, bare_app, both, first_app, is_other_flag, letter_flag, list_app, listed, lone, node_app, operand, pair_app, three, triple_app};
 
 use clap::error::ErrorKind;
@@ -10,7 +10,7 @@ use clap::{Arg, ArgAction, ArgMatches, Command};
 use std::alloc::{AllocError, Global};
 
 /// Whether a word begins with `-`, and is not that alone.
-fn is_flag_word(word: &str) -> bool
+pub fn is_flag_word(word: &str) -> bool
     ensures { result ≡ is_flag_word word.now }
 {
     let bytes = word.as_bytes();
@@ -65,7 +65,7 @@ fn operand<'a>(alloc: Global, name: &'a str) -> Arg<'a>
 }
 
 /// A flag of one letter.
-fn letter_flag<'a>(alloc: Global, name: &'a str, letter: char) -> Arg<'a>
+pub fn letter_flag<'a>(alloc: Global, name: &'a str, letter: char) -> Arg<'a>
     ensures rule { rule_of result ≡ letter_flag name.entry.now letter }
     ensures local { result.global ≡ false }
 {
@@ -75,7 +75,7 @@ fn letter_flag<'a>(alloc: Global, name: &'a str, letter: char) -> Arg<'a>
 }
 
 /// A command that takes one word, a node.
-fn node_command<'a>(alloc: Global, name: &'a str) -> Result<Command<'a>, AllocError>
+pub fn node_command<'a>(alloc: Global, name: &'a str) -> Result<Command<'a>, AllocError>
     ensures { IfOk result (λ command. app_of command ≡ node_app name.entry.now) }
 {
     bare_command(alloc, name).arg(operand(alloc, "node"))
@@ -110,7 +110,7 @@ fn triple_command<'a>(alloc: Global, name: &'a str) -> Result<Command<'a>, Alloc
 }
 
 /// What clap makes of the words, unless it refuses them.
-fn matched<'a>(
+pub fn matched<'a>(
     command: Command<'a>,
     words: &'a [String],
 ) -> Result<Option<ArgMatches<'a>>, AllocError>

@@ -2,7 +2,7 @@ use Rattle.std.proofs.Common.{◌≡◌, ◌∙◌, codes, false, map, refl, str
 use Rattle.std.specs.List.{list_any}
 use Rattle.clap.specs.Words.{found_of, rows_of}
 use Rattle.clap.proofs.WalkLemmas.{first_value-rows}
-use Rattle.hurd_script.specs.Actions.{is_flag_word}
+use Rattle.hurd_script.specs.Flags.{is_flag_word}
 use Rattle.hurd_script.specs.Usage.{HasTriple, three}
 use Rattle.hurd_script.proofs.UsageLemmas.{read, takes_no_flag, triple_answer, triple_value, unread}
 use Rattle.hurd_script.proofs.usage.triple_of.Goals as goal

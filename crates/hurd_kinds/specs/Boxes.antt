@@ -1,0 +1,17 @@
+-- What a server of some kind means.
+use Rattle.hurd_trans_iface.specs.Meaning.{Meaning}
+use Rattle.hurd_small.specs.Hello.{hello_meaning}
+use Rattle.hurd_small.specs.Null.{null_meaning}
+use Rattle.hurd_small.specs.Zero.{zero_meaning}
+use Rattle.hurd_small.specs.Symlink.{symlink_meaning}
+use Rattle.hurd_tmpfs.specs.Tree.{tree}
+use Rattle.hurd_kinds.specs.declared.server_box.ServerBox.{ServerBox}
+use Rattle.hurd_kinds.specs.declared.server_box.ServerBox.TheVariants.{Tmpfs, Hello, Null, Zero, Symlink}
+
+-- what the server in the box means
+abbrev pub box_meaning : ServerBox → Meaning
+box_meaning (Tmpfs s) = tree s.value
+box_meaning (Hello s) = hello_meaning s.value
+box_meaning (Null s) = null_meaning s.value
+box_meaning (Zero s) = zero_meaning s.value
+box_meaning (Symlink s) = symlink_meaning s.value
