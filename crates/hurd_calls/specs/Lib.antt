@@ -1,3 +1,2 @@
 pub mod Lists
 pub mod Faults
-pub mod Made

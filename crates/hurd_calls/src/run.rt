@@ -8,8 +8,9 @@ ghost use Rattle.hurd_terminal.specs.Runs.{Adds, Blames, Exits, Ran};
 ghost use Rattle.hurd_calls.specs.Faults.{NotBegun, NotRead};
 ghost use Rattle.hurd_calls.specs.Lists.{lists};
 
-use crate::calling::{Made, empty_tree, part, server_from};
+use crate::calling::part;
 use hurd_creds::{Errno, Ids};
+use hurd_kinds::{ServerBox, empty_tree, server_for};
 use hurd_lists::{CallList, ListFault, parse_calls};
 use hurd_terminal::{Fault, Input, Output, finish, read_text};
 use hurd_trans_iface::Server;
@@ -50,7 +51,7 @@ fn parsed<S: Server>(alloc: Global, text: &[u8]) -> Result<CallList<S>, Fault>
 }
 
 /// Makes the calls of a list over an empty tree in memory, each with the server that it brings, and prints each with its
-/// reply. The boxes are made here, since a function that gave them out could say nothing of what they mean.
+/// reply. The boxes of the trait are made here, since a function that gave them out could say nothing of what they mean.
 fn answer<W: Write>(alloc: Global, text: &[u8], output: &mut Output<W>) -> Result<(), Fault>
     ensures adds { Adds lists text.now (W.contents output.old.writer) (W.contents output.new.writer) result }
     ensures read { result ≢ Err Fault.Read }
@@ -62,13 +63,14 @@ fn answer<W: Write>(alloc: Global, text: &[u8], output: &mut Output<W>) -> Resul
     for listed in calls {
         let server: Option<Box<dyn Server>> = match &listed.server {
             None => None,
-            Some(words) => Some(match server_from(alloc, words)? {
-                Made::Tmpfs(server) => server,
-                Made::Hello(server) => server,
-                Made::Null(server) => server,
-                Made::Zero(server) => server,
-                Made::Symlink(server) => server,
-            }),
+            Some(words) => match server_for(alloc, words)? {
+                None => None,
+                Some(ServerBox::Tmpfs(server)) => Some(server),
+                Some(ServerBox::Hello(server)) => Some(server),
+                Some(ServerBox::Null(server)) => Some(server),
+                Some(ServerBox::Zero(server)) => Some(server),
+                Some(ServerBox::Symlink(server)) => Some(server),
+            },
         };
         let part = part(&mut world, alloc, listed, server)?;
         output.print(part.as_slice())?;

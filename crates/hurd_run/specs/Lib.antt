@@ -1,1 +1,3 @@
 pub mod Scripts
+pub mod Pauses
+pub mod Faults

@@ -1,58 +1,113 @@
 //! A script from its reading to its transcript.
-ghost use Rattle.std.specs.Prelude.{◌≡◌, ◌≢◌, true, Err, IfErr, OnOk};
+ghost use Rattle.std.specs.Prelude.{◌≡◌, ◌≢◌, true, Err, None, Some, IfErr, IfOk};
 ghost use Rattle.std.specs.Io.KnownBytes.{Appends};
-ghost use Rattle.std.specs.List.{concat};
-ghost use Rattle.hurd_machine.specs.World as machine;
 ghost use Rattle.hurd_tmpfs.specs.Tree.{new_tmpfs};
-ghost use Rattle.hurd_shell.specs.Session.{Follows};
-ghost use Rattle.hurd_shell.specs.Transcript.{parts_of};
+ghost use Rattle.hurd_trans_iface.specs.Meaning.{Begins};
+ghost use Rattle.hurd_script.specs.Script.{bad};
+ghost use Rattle.hurd_shell.specs.Session.{Begun, waits_for};
 ghost use Rattle.hurd_terminal.specs.Faults.{AppendsFront, IsPrintFault};
 ghost use Rattle.hurd_terminal.specs.Runs.{Adds, Blames, Exits, Ran};
+ghost use Rattle.hurd_run.specs.Faults.{NotBegun};
+ghost use Rattle.hurd_run.specs.Pauses.{Asked, Paused, TakesUnlessFailed, to_print};
 ghost use Rattle.hurd_run.specs.Scripts.{scripts};
 
-use hurd_shell::{Session, Want, outputs_are_the_transcript};
+use hurd_kinds::{ServerBox, empty_tree, server_for};
+use hurd_shell::{Session, Want};
 use hurd_terminal::{Fault, Input, Output, finish, read_text};
-use hurd_tmpfs::Tmpfs;
-use hurd_trans_iface::Server;
+use hurd_trans_iface::{Server, Words};
 use std::alloc::Global;
 use std::io::{Read, Write};
 
 /// What stands behind the number of a bad line.
 const COMPLAINT: &str = ": bad script\n";
 
-/// Prints the outputs of a session that was just begun.
-fn print_all<S: Server, W: Write>(
+/// A session of a script over an empty tree.
+///
+/// Errors, in order: `Bad` with the first bad line, `Boot` with the world's refusal; `Memory` at any point.
+#[tactic(auto, using(hurd_tmpfs::proofs::Beginning::begins_tree))]
+fn begun<S: Server>(alloc: Global, script: &[u8], root: S) -> Result<Session<S>, Fault>
+    requires { S.meaning root ≡ new_tmpfs }
+    ensures ok { IfOk result (λ session. (bad script.now ≡ None) × Begun S.meaning new_tmpfs script.now session) }
+    ensures err { IfErr result (λ fault. NotBegun new_tmpfs script.now fault) }
+{
+    Ok(Session::new(alloc, script, root)?)
+}
+
+/// Prints the parts that a session gives, up to the next server that it asks for, and gives the words of that; none at the end.
+fn told<S: Server, W: Write>(
     alloc: Global,
     session: &mut Session<S>,
     output: &mut Output<W>,
-) -> Result<(), Fault>
-    requires { (first : machine.World) × Follows S.meaning first session.old × (session.old.given ≡ 0) }
-    ensures ok { OnOk result ((first : machine.World) → Follows S.meaning first session.old
-        → Appends (W.contents output.old.writer) (W.contents output.new.writer) (concat (parts_of session.old.commands first))) }
-    ensures err { IfErr result (λ fault. IsPrintFault output.new fault × ((first : machine.World) → Follows S.meaning first session.old
-        → AppendsFront (W.contents output.old.writer) (W.contents output.new.writer) (concat (parts_of session.old.commands first)))) }
+) -> Result<Option<Words>, Fault>
+    ensures ok { IfOk result (λ wanted. Paused S.meaning session.old wanted session.new
+        × Appends (W.contents output.old.writer) (W.contents output.new.writer) (to_print S.meaning session.old)) }
+    ensures err { IfErr result (λ fault. IsPrintFault output.new fault
+        × AppendsFront (W.contents output.old.writer) (W.contents output.new.writer) (to_print S.meaning session.old)) }
 {
-    outputs_are_the_transcript::<S>();
-    while let Want::Output(part) = session.next(alloc)? {
-        output.print(part.as_slice())?;
+    'parts: loop {
+        match session.next(alloc)? {
+            Want::Output(part) => output.print(part.as_slice())?,
+            Want::Server(words) => return Ok(Some(words)),
+            Want::Done => return Ok(None),
+        }
     }
-    Ok(())
 }
 
-/// Prints the transcript of a script, begun over an empty tree.
-fn transcribe<S: Server, W: Write>(
+/// Prints the parts that a session gives, up to the next server that it asks for, and makes that, as far as its words make
+/// one; none at the end.
+fn wanted<S: Server, W: Write>(
     alloc: Global,
-    script: &[u8],
-    root: S,
+    session: &mut Session<S>,
     output: &mut Output<W>,
-) -> Result<(), Fault>
-    requires { S.meaning root ≡ new_tmpfs }
+) -> Result<Option<Option<ServerBox>>, Fault>
+    ensures ok { IfOk result (λ server. Asked S.meaning session.old server session.new
+        × Appends (W.contents output.old.writer) (W.contents output.new.writer) (to_print S.meaning session.old)) }
+    ensures err { IfErr result (λ fault. IsPrintFault output.new fault
+        × AppendsFront (W.contents output.old.writer) (W.contents output.new.writer) (to_print S.meaning session.old)) }
+{
+    match told(alloc, session, output)? {
+        Some(words) => Ok(Some(server_for(alloc, &words)?)),
+        None => Ok(None),
+    }
+}
+
+/// Supplies the server that was asked for. Where memory is refused, the session tells that next.
+fn supply<S: Server>(alloc: Global, session: &mut Session<S>, server: S)
+    requires begins { Begins (S.meaning server) }
+    requires waits { waits_for session.old ≡ true }
+    ensures { TakesUnlessFailed S.meaning session.old (Some (S.meaning server)) session.new }
+{
+    let _ = session.supply(alloc, server);
+}
+
+/// Says that there is no server of the words that were asked for. Where memory is refused, the session tells that next.
+fn supply_none<S: Server>(alloc: Global, session: &mut Session<S>)
+    requires { waits_for session.old ≡ true }
+    ensures { TakesUnlessFailed S.meaning session.old None session.new }
+{
+    let _ = session.supply_none(alloc);
+}
+
+/// Prints the transcript of a script, begun over an empty tree. The boxes of the trait are made here, since a function that gave
+/// them out could say nothing of what they mean.
+fn transcribe<W: Write>(alloc: Global, script: &[u8], output: &mut Output<W>) -> Result<(), Fault>
     ensures adds { Adds scripts script.now (W.contents output.old.writer) (W.contents output.new.writer) result }
     ensures read { result ≢ Err Fault.Read }
     ensures write { result ≡ Err Fault.Write → output.new.failed ≡ true }
 {
-    let mut session = Session::new(alloc, script, root)?;
-    print_all(alloc, &mut session, output)
+    let root: Box<dyn Server> = empty_tree(alloc)?;
+    let mut session = begun(alloc, script, root)?;
+    while let Some(server) = wanted(alloc, &mut session, output)? {
+        match server {
+            Some(ServerBox::Tmpfs(server)) => supply(alloc, &mut session, server),
+            Some(ServerBox::Hello(server)) => supply(alloc, &mut session, server),
+            Some(ServerBox::Null(server)) => supply(alloc, &mut session, server),
+            Some(ServerBox::Zero(server)) => supply(alloc, &mut session, server),
+            Some(ServerBox::Symlink(server)) => supply(alloc, &mut session, server),
+            None => supply_none(alloc, &mut session),
+        }
+    }
+    Ok(())
 }
 
 /// Reads a script, and prints its transcript, begun over an empty tree in memory.
@@ -71,12 +126,7 @@ pub fn run<R: Read, W: Write>(
     ensures blames { Blames input.new output.new result }
 {
     let script = read_text(alloc, input)?;
-    let tree = Tmpfs::empty(alloc)?;
-    let Ok(root) = Box::new(alloc, tree) else {
-        return Err(Fault::Memory);
-    };
-    let root: Box<dyn Server> = root;
-    transcribe(alloc, script.as_slice(), root, output)
+    transcribe(alloc, script.as_slice(), output)
 }
 
 /// The whole program: runs a script, and after a fault prints the fault's line; answers the exit status.

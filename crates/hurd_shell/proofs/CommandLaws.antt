@@ -1,17 +1,14 @@
--- The reads of cat, and a command's part of the transcript.
-use Rattle.std.proofs.Common.{◌≡◌, ◌≤◌, ◌<◌, inl, inr, ℕ, zero, suc, ◌-◌, ◌++◌, ◌==◌, true, false, true≢false, List, [], ◌∷◌, length, Some, Result, Ok, Err, sym, ◌∙◌, ap, arith}
+-- The reads of cat, and the options of a server.
+use Rattle.std.proofs.Common.{◌≡◌, ◌≤◌, ◌<◌, inl, inr, ℕ, zero, suc, ◌-◌, ◌++◌, ◌==◌, true, false, true≢false, List, [], ◌∷◌, length, Some, Result, Ok, Err, refl, sym, ◌∙◌, arith}
 use Rattle.std.proofs.lemmas.Bool.Decides.{eqb_tells}
 use Rattle.hurd_creds.specs.declared.errno.Errno.{Errno}
-use Rattle.hurd_machine.specs.declared.call.Call.TheVariants.{IoRead}
+use Rattle.hurd_machine.specs.declared.call.Call.TheVariants.{FsysSetOptions, IoRead}
 use Rattle.hurd_machine.specs.World.{World}
-use Rattle.hurd_shell.specs.declared.commands.Printed.{Printed}
-use Rattle.hurd_script.specs.Actions.{action_of}
-use Rattle.hurd_script.specs.Commands.{CommandLine}
-use Rattle.hurd_shell.specs.Programs.{Prog, End, gives, made, data_of}
-use Rattle.hurd_shell.specs.Commands.{at_cursor, cat_from, cat_read, prints, program_of, read_amount}
-use Rattle.hurd_shell.specs.Transcript.{end_of, lines_of}
-use Rattle.hurd_shell.specs.Progress.{Leads, Told}
-use Rattle.hurd_shell.proofs.ProgramLaws.{go-gives, leads_refl, tried_ends}
+use Rattle.hurd_trans_iface.specs.Nodes.{has_words}
+use Rattle.hurd_shell.specs.Programs.{Prog, gives, made, data_of, done_of}
+use Rattle.hurd_shell.specs.Commands.{at_cursor, cat_from, cat_read, options, prints, read_amount, silent}
+use Rattle.hurd_shell.specs.Progress.{Leads}
+use Rattle.hurd_shell.proofs.ProgramLaws.{leads_refl, tried_ends}
 
 sub_one : (n : ℕ) → suc n - 1 ≡ n
 sub_one n = omega arith
@@ -52,8 +49,12 @@ pub cat_err : {t : ℕ} {w x : World} (reads p : ℕ) (output : List ℕ) (e : E
     → Leads t (cat_from reads p output) w (gives (Ok (record { output = output; refusal = Some e }))) x
 cat_err reads p output e some l = cat_turn reads p output (Err e) some l
 
--- what a command that was made prints is its part of the transcript
-pub told : (c : CommandLine) (r : Result Printed Errno) (bytes : List ℕ) (w x : World) → bytes ≡ c.header ++ lines_of r → Leads c.task (program_of (action_of c)) w (gives r) x → Told c w bytes x
-told c r bytes w x same l =
-    let end : end_of c w ≡ record { world = x; result = r } = l.goes ∙ go-gives c.task r x in
-    record { part = same ∙ ap (λ (e : End Printed). c.header ++ lines_of e.result) (sym end); world = ap (λ (e : End Printed). e.world) (sym end) }
+-- with words, they are given to the server
+pub options_given : (words : List (List ℕ)) (c : ℕ) → has_words words ≡ true → options words c ≡ silent (made (FsysSetOptions c words) done_of)
+options_given [] c some = absurd (cc)
+options_given (w ∷ ws) c some = refl
+
+-- with none, its options are shown
+pub options_shown : (words : List (List ℕ)) (c : ℕ) → has_words words ≡ false → options words c ≡ options [] c
+options_shown [] c none = refl
+options_shown (w ∷ ws) c none = absurd (cc)

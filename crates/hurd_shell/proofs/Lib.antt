@@ -2,7 +2,10 @@ pub mod ProgramLaws
 pub mod LookLaws
 pub mod CommandLaws
 pub mod SoundLaws
+pub mod AnswerLaws
+pub mod StageLaws
 pub mod TextLaws
 pub mod SessionLaws
-pub mod OutputLaws
 pub mod ReplyLaws
+pub mod OutputLaws
+pub mod IsolationLaws

@@ -1,19 +1,23 @@
 -- An opening, turn by turn.
-use Rattle.std.proofs.Common.{◌≡◌, ◌≤◌, ◌<◌, ◌-◌, ◌++◌, ℕ, zero, suc, List, [], ◌∷◌, Result, Ok, Err, refl, sym, ◌∙◌, ap, arith}
+use Rattle.std.proofs.Common.{◌≡◌, ◌≤◌, ◌<◌, ◌-◌, ◌++◌, ℕ, zero, suc, List, [], ◌∷◌, Option, Result, Ok, Err, refl, ap, arith}
 use Rattle.std.specs.Result.{IsErr, IsErrAnd}
 use Rattle.hurd_creds.specs.declared.errno.Errno.{Errno}
 use Rattle.hurd_creds.specs.declared.open_flags.OpenFlags.{OpenFlags}
+use Rattle.hurd_trans_iface.specs.Meaning.{Meaning}
 use Rattle.hurd_machine.specs.declared.call.Call.TheVariants.{IoReauthenticate, PortDeallocate}
 use Rattle.hurd_machine.specs.World.{World}
 use Rattle.hurd_shell.specs.declared.fault.Stop.{Stop}
 use Rattle.hurd_shell.specs.declared.fault.Stop.TheVariants.{Refused, Memory}
 use Rattle.hurd_shell.specs.declared.looking.Looked.{Looked}
+use Rattle.hurd_shell.specs.declared.looking.Opening.{Opening}
 use Rattle.hurd_shell.specs.declared.looking.Outcome.{Outcome}
+use Rattle.hurd_shell.specs.declared.looking.Reached.TheVariants.{Opened, Waits}
 use Rattle.hurd_shell.specs.declared.looking.Retry.TheVariants.{Reauth}
-use Rattle.hurd_shell.specs.Programs.{Prog, End, gives, tried, bind, on_ok, made, closing, go, port_of, unread}
-use Rattle.hurd_shell.specs.Looking.{Opener, looking, too_many, followed, arrived, look}
-use Rattle.hurd_shell.specs.Progress.{Leads, Ends, Does, ComesTo, Comes, opening_on, releasing}
-use Rattle.hurd_shell.proofs.ProgramLaws.{leads_refl, leads_trans, tried_goes, tried_ends}
+use Rattle.hurd_shell.specs.Programs.{Prog, gives, asks, tried, bind, on_ok, made, closing, port_of, unread}
+use Rattle.hurd_shell.specs.Looking.{Opener, looking, most_retries, start_of, too_many, not_started, start_with, starting, followed, arrived, look, open_node}
+use Rattle.hurd_shell.specs.Progress.{Leads, Does, ComesTo, Comes, ReachesTo, Reaches, opening_on, releasing}
+use Rattle.hurd_shell.specs.Stages.{opening_behind, reached_on}
+use Rattle.hurd_shell.proofs.ProgramLaws.{leads_refl, leads_trans, tried_ends, tried_leads}
 
 releasing_more : (held : List ℕ) (port : ℕ) (p : Prog ℕ) → releasing (held ++ port ∷ []) p ≡ releasing held (closing port p)
 unfolding releasing
@@ -23,11 +27,6 @@ releasing_more (q ∷ held) port p = ap (closing q) (releasing_more held port p)
 -- one port more is held: it is given up first
 pub holding : {new : List ℕ} (held : List ℕ) (port : ℕ) (p : Prog ℕ) → new ≡ held ++ port ∷ [] → releasing new p ≡ releasing held (closing port p)
 holding held port p same = rw same (releasing_more held port p)
-
-tried_leads : {A B : Type 0} {t : ℕ} {p q : Prog A} {w x : World} (k : Result A Errno → Prog B) → Leads t p w q x → Leads t (tried p k) w (tried q k) x
-tried_leads {A} {B} {t} {p} {q} {w} {x} k l = record {
-  goes = tried_goes t k p w ∙ (ap (λ (z : End A). go t (k z.result) z.world) l.goes ∙ sym (tried_goes t k q x));
-}
 
 -- a program goes on as it does where ports are given up behind it
 pub held_leads : {t : ℕ} {p q : Prog ℕ} {w x : World} (held : List ℕ) → Leads t p w q x → Leads t (releasing held p) w (releasing held q) x
@@ -80,27 +79,27 @@ comes_err {r = Err e} {left = left} {next = next} gone d = record { comes = rw g
 
 -- a turn whose lookup is answered
 pub turn_leads : {t : ℕ} {l : Looked} {w x : World} (left : ℕ) (flags : OpenFlags) (dir : ℕ) (name held : List ℕ) → Does t (looking flags dir name) w (Ok l) x
-    → Leads t (releasing held (look (suc left) flags dir name)) w (releasing held (arrived (followed (look left flags)) l)) x
+    → Leads t (releasing held (look (suc left) flags dir name)) w (releasing held (arrived (followed (look left flags)) (starting (look left flags dir name)) l)) x
 unfolding look
-turn_leads left flags dir name held d = held_ok held (arrived (followed (look left flags))) d
+turn_leads left flags dir name held d = held_ok held (arrived (followed (look left flags)) (starting (look left flags dir name))) d
 
 -- a turn whose lookup is refused
 pub turn_err : {B : Type 0} {t : ℕ} {s : Stop} {r : Result B Stop} {w x : World} {next : B → Prog ℕ} (left : ℕ) (flags : OpenFlags) (dir : ℕ) (name held : List ℕ)
     → IsErr r × IsErrAnd r (λ e. e ≡ s) → Does t (looking flags dir name) w (Err s) x → Comes t (releasing held (look (suc left) flags dir name)) w next held r x
 unfolding look
-turn_err left flags dir name held gone d = held_err held (arrived (followed (look left flags))) gone d
+turn_err left flags dir name held gone d = held_err held (arrived (followed (look left flags)) (starting (look left flags dir name))) gone d
 
 -- the last turn, whose lookup is answered
 pub last_leads : {t : ℕ} {l : Looked} {w x : World} (flags : OpenFlags) (dir : ℕ) (name held : List ℕ) → Does t (looking flags dir name) w (Ok l) x
-    → Leads t (releasing held (look zero flags dir name)) w (releasing held (arrived too_many l)) x
+    → Leads t (releasing held (look zero flags dir name)) w (releasing held (arrived too_many not_started l)) x
 unfolding look
-last_leads flags dir name held d = held_ok held (arrived too_many) d
+last_leads flags dir name held d = held_ok held (arrived too_many not_started) d
 
 -- the last turn, whose lookup is refused
 pub last_err : {B : Type 0} {t : ℕ} {s : Stop} {r : Result B Stop} {w x : World} {next : B → Prog ℕ} (flags : OpenFlags) (dir : ℕ) (name held : List ℕ)
     → IsErr r × IsErrAnd r (λ e. e ≡ s) → Does t (looking flags dir name) w (Err s) x → Comes t (releasing held (look zero flags dir name)) w next held r x
 unfolding look
-last_err flags dir name held gone d = held_err held (arrived too_many) gone d
+last_err flags dir name held gone d = held_err held (arrived too_many not_started) gone d
 
 -- a program is another one
 pub same_comes : {B : Type 0} {t : ℕ} {p : Prog ℕ} {w : World} (left : B → Prog ℕ) (held : List ℕ) (b : B) → releasing held (left b) ≡ p → Comes t p w left held (Ok b) w
@@ -146,14 +145,45 @@ pub give_none : {t : ℕ} {w : World} (p : Prog ℕ) → Leads t (releasing [] p
 unfolding releasing
 give_none p = leads_refl _ _ _
 
-gives_up : (t : ℕ) (p : Prog ℕ) (w x y : World) (held : List ℕ) (r : Result ℕ Stop) → ComesTo t (releasing [] p) w (λ port. gives (Ok port)) held r x
-    → ((end : Result ℕ Errno) → Leads t (releasing held (gives end)) x (gives end) y) → Ends t p w r y
-unfolding releasing
-gives_up t p w x y held (Ok port) l given = leads_trans l (given (Ok port))
-gives_up t p w x y held (Err (Refused e)) l given = leads_trans l (given (Err e))
-gives_up t p w x y held (Err Memory) l given = tt
+-- a program that asks for a server asks for it too where ports are given up behind it
+pub releasing_asks : (held : List ℕ) (words : List (List ℕ)) (k : Option Meaning → Prog ℕ) → releasing held (asks words k) ≡ asks words (λ server. releasing held (k server))
+unfolding releasing tried
+releasing_asks [] words k = refl
+releasing_asks (port ∷ held) words k = ap (closing port) (releasing_asks held words k)
 
--- a program was made, and the ports that it holds were given up
-pub does_give_up : {t : ℕ} {p : Prog ℕ} {r : Result ℕ Stop} {w x y : World} (held : List ℕ) → Comes t (releasing [] p) w (λ port. gives (Ok port)) held r x
-    → ((end : Result ℕ Errno) → Leads t (releasing held (gives end)) x (gives end) y) → Does t p w r y
-does_give_up held d given = record { ends = gives_up _ _ _ _ _ held _ d.comes given }
+-- an opening goes on at once
+pub behind_done : {t : ℕ} {w : World} (o : Opening) → Leads t (opening_behind o (gives (Ok tt))) w (releasing o.held.items (look o.left o.flags o.target.dir o.target.name)) w
+unfolding bind tried
+behind_done o = leads_refl _ _ _
+
+-- an opening whose server was refused is refused, and gives up its ports
+pub behind_refused : {t : ℕ} {w : World} (o : Opening) (e : Errno) → Leads t (opening_behind o (gives (Err e))) w (releasing o.held.items (gives (Err e))) w
+unfolding bind tried
+behind_refused o e = leads_refl _ _ _
+
+-- a path's opening holds no port at first
+pub first_leads : {t : ℕ} {w : World} (held : List ℕ) (dir : ℕ) (path : List ℕ) (flags : OpenFlags) → held ≡ [] → dir ≡ start_of path
+    → Leads t (open_node path flags) w (releasing held (bind (gives (Ok (tt {0}))) (λ u. look most_retries flags dir path))) w
+unfolding bind tried releasing
+first_leads held dir path flags none start = rw (none, start) (leads_refl _ _ _)
+
+-- an opening that found its node gives up its ports
+pub node_reached : {t : ℕ} {p : Prog ℕ} {w x y : World} (held : List ℕ) (port : ℕ) → Leads t p w (releasing held (gives (Ok port))) x
+    → ((end : Result ℕ Errno) → Leads t (releasing held (gives end)) x (gives end) y) → Reaches t p w reached_on (Ok (Opened port)) y
+node_reached held port l given = record { reaches = leads_trans l (given (Ok port)) }
+
+-- an opening that found a translator to start waits for its server, and holds its ports
+pub server_awaited : {t : ℕ} {p : Prog ℕ} {w x : World} (words : List (List ℕ)) (o : Opening)
+    → Leads t p w (releasing o.held.items (starting (look o.left o.flags o.target.dir o.target.name) words)) x → Reaches t p w reached_on (Ok (Waits words o)) x
+server_awaited words o l =
+    record { reaches = rw (← releasing_asks o.held.items words (λ server. bind (start_with server) (λ u. look o.left o.flags o.target.dir o.target.name))) l }
+
+stops_behind : {B C : Type 0} (t : ℕ) (p : Prog ℕ) (w x y : World) (left : B → Prog ℕ) (next : C → Prog ℕ) (held : List ℕ) (s : Stop) → ComesTo {B = B} t p w left held (Err s) x
+    → ((end : Result ℕ Errno) → Leads t (releasing held (gives end)) x (gives end) y) → ReachesTo {B = C} t p w next (Err s) y
+stops_behind t p w x y left next held (Refused e) l given = leads_trans l (given (Err e))
+stops_behind t p w x y left next held Memory l given = tt
+
+-- an opening that was refused gives up its ports
+pub stop_reached : {B C : Type 0} {t : ℕ} {p : Prog ℕ} {w x y : World} {left : B → Prog ℕ} {next : C → Prog ℕ} {held : List ℕ} {s : Stop} → Comes {B = B} t p w left held (Err s) x
+    → ((end : Result ℕ Errno) → Leads t (releasing held (gives end)) x (gives end) y) → Reaches {B = C} t p w next (Err s) y
+stop_reached {B} {C} {left = left} {next = next} d given = record { reaches = stops_behind {B = B} {C = C} _ _ _ _ _ left next _ _ d.comes given }

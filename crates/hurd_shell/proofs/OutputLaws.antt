@@ -1,40 +1,64 @@
--- The outputs of a session, joined.
-use Rattle.std.proofs.Common.{◌≡◌, ℕ, ◌+◌, List, [], ◌∷◌, ◌++◌, length, drop, Ok, refl, sym, ◌∙◌, ap, append_assoc, append-nil, arith}
-use Rattle.std.proofs.lemmas.List.{drop_all}
-use Rattle.std.specs.List.{concat}
-use Rattle.hurd_machine.specs.World.{World}
-use Rattle.hurd_script.specs.Commands.{CommandLine}
-use Rattle.hurd_shell.specs.Session.{View, Tells}
-use Rattle.hurd_shell.specs.Outputs.{Gave}
-use Rattle.hurd_shell.specs.Transcript.{parts_of}
+-- What a session gave and was answered, along its transcript.
+use Rattle.std.proofs.Common.{◌≡◌, ℕ, List, [], ◌∷◌, ◌++◌, Option, Some, None, Ok, refl, sym, ◌∙◌, ap, subst, append-nil}
+use Rattle.hurd_trans_iface.specs.Meaning.{Meaning}
+use Rattle.hurd_shell.specs.Session.{Answers, Tells, View, left_in}
+use Rattle.hurd_shell.specs.Outputs.{Came, Event, answered, answers_in, asked, told, told_in}
+use Rattle.hurd_shell.specs.Transcript.{Dialogue, Maker, ends, tells, wants, parts_by, parts_of, says_by, wanted_of}
 use Rattle.hurd_shell.specs.declared.session.Want.TheVariants.{Done}
-use Rattle.hurd_shell.proofs.SessionLaws.{next_joined}
 
--- what a session gave, and what it has left, are what it had left
-gave_all : {S : Type 0} (first : World) (s x : View S) (outputs : List (List ℕ)) → Gave first s outputs x
-    → (x.commands ≡ s.commands) × (concat (drop s.given (parts_of s.commands first)) ≡ concat outputs ++ concat (drop x.given (parts_of s.commands first)))
-gave_all first s x [] gave = rw gave (refl, refl)
-gave_all first s x (bytes ∷ more) (y, told, same, gave) =
-    let rest = gave_all first y x more gave in
-    let parts = parts_of s.commands first in
-    let left : concat (drop (s.given + 1) parts) ≡ concat more ++ concat (drop x.given parts) = rw (told.2, same) at rest.1 in (
-      rest.0 ∙ same,
-      next_joined parts s.given bytes told.1
-          ∙ (ap (λ (bs : List ℕ). bytes ++ bs) left ∙ sym (append_assoc bytes (concat more) (concat (drop x.given parts)))),
-    )
+-- what is told after an answer is what follows it
+answer_parts : (d left : Dialogue) (server : Option Meaning) (says : List (Option Meaning)) → Answers d server left → parts_of d (server ∷ says) ≡ parts_of left says
+unfolding parts_of
+answer_parts ends left server says a = absurd a
+answer_parts (tells part rest) left server says a = absurd a
+answer_parts (wants words rest) left server says a = ap (λ (e : Dialogue). parts_of e says) (sym a)
 
-from_start : {S : Type 0} (first : World) (s x : View S) (outputs : List (List ℕ)) → s.given ≡ 0 → Gave first s outputs x
-    → concat (parts_of s.commands first) ≡ concat outputs ++ concat (drop x.given (parts_of s.commands first))
-from_start first s x outputs start gave = rw start at (gave_all first s x outputs gave).1
+answer_wanted : (d left : Dialogue) (server : Option Meaning) (says : List (Option Meaning)) → Answers d server left → wanted_of d (server ∷ says) ≡ wanted_of left says
+unfolding wanted_of
+answer_wanted ends left server says a = absurd a
+answer_wanted (tells part rest) left server says a = absurd a
+answer_wanted (wants words rest) left server says a = ap (λ (e : Dialogue). wanted_of e says) (sym a)
 
-pub outputs_prefix : {S : Type 0} (first : World) (s x : View S) (outputs : List (List ℕ)) → s.given ≡ 0 → Gave first s outputs x
-    → (rest : List ℕ) × (concat (parts_of s.commands first) ≡ concat outputs ++ rest)
-outputs_prefix first s x outputs start gave = (concat (drop x.given (parts_of s.commands first)), from_start first s x outputs start gave)
+told_parts : (d rest : Dialogue) (part : List ℕ) (says : List (Option Meaning)) → d ≡ tells part rest → parts_of d says ≡ part ∷ parts_of rest says
+unfolding parts_of
+told_parts d rest part says same = ap (λ (e : Dialogue). parts_of e says) same
 
-pub outputs_whole : {S : Type 0} (first : World) (s x : View S) (outputs : List (List ℕ)) → s.given ≡ 0 → Gave first s outputs x
-    → Tells first x (Ok Done) x → concat outputs ≡ concat (parts_of s.commands first)
-outputs_whole first s x outputs start gave done =
-    let parts = parts_of s.commands first in
-    let all : x.given ≡ length parts = done.1 ∙ ap (λ (cs : List CommandLine). length (parts_of cs first)) (gave_all first s x outputs gave).0 in
-    let none : drop x.given parts ≡ [] = rw all (drop_all (length parts) parts (omega arith)) in
-    sym (from_start first s x outputs start gave ∙ (ap (λ (ps : List (List ℕ)). concat outputs ++ concat ps) none ∙ append-nil (concat outputs)))
+told_wanted : (d rest : Dialogue) (part : List ℕ) (says : List (Option Meaning)) → d ≡ tells part rest → wanted_of d says ≡ wanted_of rest says
+unfolding wanted_of
+told_wanted d rest part says same = ap (λ (e : Dialogue). wanted_of e says) same
+
+-- what a session told, and what it has left, are what it had left
+pub came_parts : {S : Type 0} (f : S → Meaning) (s x : View S) (events : List Event) → Came f s events x
+    → (says : List (Option Meaning)) → parts_of (left_in f s) (answers_in events ++ says) ≡ told_in events ++ parts_of (left_in f x) says
+came_parts f s x [] came says = ap (λ (y : View _). parts_of (left_in f y) says) (sym came)
+came_parts f s x (told part ∷ events) (y, happened, came) says =
+    told_parts _ _ part _ happened.0 ∙ ap (λ (ps : List (List ℕ)). part ∷ ps) (came_parts f y x events came says)
+came_parts f s x (asked words ∷ events) (y, happened, came) says =
+    ap (λ (d : Dialogue). parts_of d (answers_in events ++ says)) (sym happened.0) ∙ came_parts f y x events came says
+came_parts f s x (answered server ∷ events) (y, happened, came) says = answer_parts _ _ server _ happened.0 ∙ came_parts f y x events came says
+
+pub came_wanted : {S : Type 0} (f : S → Meaning) (s x : View S) (events : List Event) → Came f s events x
+    → (says : List (Option Meaning)) → wanted_of (left_in f s) (answers_in events ++ says) ≡ wanted_of (left_in f x) says
+came_wanted f s x [] came says = ap (λ (y : View _). wanted_of (left_in f y) says) (sym came)
+came_wanted f s x (told part ∷ events) (y, happened, came) says = told_wanted _ _ part _ happened.0 ∙ came_wanted f y x events came says
+came_wanted f s x (asked words ∷ events) (y, happened, came) says =
+    ap (λ (d : Dialogue). wanted_of d (answers_in events ++ says)) (sym happened.0) ∙ came_wanted f y x events came says
+came_wanted f s x (answered server ∷ events) (y, happened, came) says = answer_wanted _ _ server _ happened.0 ∙ came_wanted f y x events came says
+
+no_parts : (d : Dialogue) (says : List (Option Meaning)) → d ≡ ends → parts_of d says ≡ []
+unfolding parts_of
+no_parts d says same = ap (λ (e : Dialogue). parts_of e says) same
+
+-- at the end all is told
+pub came_whole : {S : Type 0} (f : S → Meaning) (s x : View S) (events : List Event) → Came f s events x → Tells f x (Ok Done) x
+    → told_in events ≡ parts_of (left_in f s) (answers_in events)
+came_whole f s x events came done =
+    let left = came_parts f s x events came [] in
+    sym (ap (parts_of (left_in f s)) (sym (append-nil (answers_in events))) ∙ (left ∙ (ap (λ (ps : List (List ℕ)). told_in events ++ ps) (no_parts _ [] done.0) ∙ append-nil (told_in events))))
+
+-- a maker's answers
+pub maker_answers : (make : Maker) (d : Dialogue) → parts_by make d ≡ parts_of d (says_by make d)
+unfolding parts_by parts_of says_by
+maker_answers make ends = refl
+maker_answers make (tells part rest) = ap (λ (ps : List (List ℕ)). part ∷ ps) (maker_answers make rest)
+maker_answers make (wants words rest) = maker_answers make (rest (make words))

@@ -1,7 +1,8 @@
 -- Programs, one behind another.
-use Rattle.std.proofs.Common.{◌≡◌, ℕ, Result, Ok, Err, refl, ◌∙◌, ap}
+use Rattle.std.proofs.Common.{◌≡◌, ℕ, List, Option, Result, Ok, Err, refl, sym, ◌∙◌, ap}
 use Rattle.std.specs.Result.{IsErr, IsErrAnd}
 use Rattle.hurd_creds.specs.declared.errno.Errno.{Errno}
+use Rattle.hurd_trans_iface.specs.Meaning.{Meaning}
 use Rattle.hurd_machine.specs.Calls.{Call, Reply}
 use Rattle.hurd_machine.specs.declared.call.Call.TheVariants.{PortDeallocate}
 use Rattle.hurd_machine.specs.World.{World}
@@ -9,8 +10,8 @@ use Rattle.hurd_laws.specs.Step.{reply_of, after}
 use Rattle.hurd_shell.specs.declared.commands.Printed.{Printed}
 use Rattle.hurd_shell.specs.declared.fault.Stop.{Stop}
 use Rattle.hurd_shell.specs.declared.fault.Stop.TheVariants.{Refused, Memory}
-use Rattle.hurd_shell.specs.Programs.{Prog, gives, calls, tried, bind, on_ok, made, closing, go, End, unread}
-use Rattle.hurd_shell.specs.Progress.{Stepped, Leads, Ends, Does, stopped}
+use Rattle.hurd_shell.specs.Programs.{Prog, gives, calls, asks, tried, bind, on_ok, made, closing, go, Pause, unread}
+use Rattle.hurd_shell.specs.Progress.{Stepped, Leads, Ends, Does, ReachesTo, Reaches, stopped}
 
 pub leads_refl : {A : Type 0} (t : ℕ) (p : Prog A) (w : World) → Leads t p w p w
 leads_refl t p w = record { goes = refl }
@@ -18,22 +19,42 @@ leads_refl t p w = record { goes = refl }
 pub leads_trans : {A : Type 0} {t : ℕ} {p q s : Prog A} {w x y : World} → Leads t p w q x → Leads t q x s y → Leads t p w s y
 leads_trans a b = record { goes = a.goes ∙ b.goes }
 
--- the end of a program that is at its end
-pub go-gives : {A : Type 0} (t : ℕ) (r : Result A Errno) (w : World) → go t (gives r) w ≡ record { world = w; result = r }
+-- a program that is at its end, and one that asks for a server
+pub go-gives : {A : Type 0} (t : ℕ) (r : Result A Errno) (w : World) → go t (gives r) w ≡ record { world = w; rest = gives r }
 unfolding go
 go-gives t r w = refl
 
--- what is behind a program goes on where that program ends
-pub tried_goes : {A B : Type 0} (t : ℕ) (k : Result A Errno → Prog B) (p : Prog A) (w : World) → go t (tried p k) w ≡ go t (k (go t p w).result) (go t p w).world
+pub go-asks : {A : Type 0} (t : ℕ) (words : List (List ℕ)) (k : Option Meaning → Prog A) (w : World) → go t (asks words k) w ≡ record { world = w; rest = asks words k }
+unfolding go
+go-asks t words k w = refl
+
+-- what is behind a program goes on where that program stops
+pub tried_goes : {A B : Type 0} (t : ℕ) (k : Result A Errno → Prog B) (p : Prog A) (w : World) → go t (tried p k) w ≡ go t (tried (go t p w).rest k) (go t p w).world
 unfolding go tried
 tried_goes t k (gives r) w = refl
 tried_goes t k (calls c j) w = tried_goes t k (j (reply_of w t c)) (after w t c)
+tried_goes t k (asks words j) w = refl
+
+-- a program that comes to another comes to it in front of what is behind it
+pub tried_leads : {A B : Type 0} {t : ℕ} {p q : Prog A} {w x : World} (k : Result A Errno → Prog B) → Leads t p w q x → Leads t (tried p k) w (tried q k) x
+tried_leads {A} {B} {t} {p} {q} {w} {x} k l = record {
+  goes = tried_goes t k p w ∙ (ap (λ (z : Pause A). go t (tried z.rest k) z.world) l.goes ∙ sym (tried_goes t k q x));
+}
+
+pub tried_gives : {A B : Type 0} (r : Result A Errno) (k : Result A Errno → Prog B) → tried (gives r) k ≡ k r
+unfolding tried
+tried_gives r k = refl
 
 -- the first of two programs ends, and the other goes on
 pub tried_ends : {A B : Type 0} {t : ℕ} {p : Prog A} {r : Result A Errno} {w x : World} (k : Result A Errno → Prog B) → Leads t p w (gives r) x → Leads t (tried p k) w (k r) x
-tried_ends {A} {B} {t} {p} {r} {w} {x} k a = record {
-  goes = tried_goes t k p w ∙ ap (λ (z : End A). go t (k z.result) z.world) (a.goes ∙ go-gives t r x);
-}
+unfolding tried
+tried_ends {A} {B} {t} {p} {r} {w} {x} k a = record { goes = (tried_leads {q = gives r} k a).goes }
+
+-- the first of two programs asks for a server, and goes on in front of the other
+pub tried_asks : {A B : Type 0} {t : ℕ} {p : Prog A} {words : List (List ℕ)} {f : Option Meaning → Prog A} {w x : World} (k : Result A Errno → Prog B)
+    → Leads t p w (asks words f) x → Leads t (tried p k) w (asks words (λ server. tried (f server) k)) x
+unfolding tried
+tried_asks {A} {B} {t} {p} {words} {f} {w} {x} k a = record { goes = (tried_leads {q = asks words f} k a).goes }
 
 ends_behind : {A : Type 0} (t : ℕ) (p q : Prog A) (w x y : World) (r : Result A Stop) → Leads t p w q x → Ends t q x r y → Ends t p w r y
 ends_behind t p q w x y (Ok a) l d = leads_trans l d
@@ -92,3 +113,26 @@ closes p w port u (Err Memory) d e = tt
 -- a program was made, and its port is given up
 pub does_close : {t : ℕ} {p : Prog Printed} {r : Result Printed Stop} {w x y : World} (port : ℕ) (u : Unit {0}) → Does t p w r x → Does t (made (PortDeallocate port) unread) x (Ok u) y → Does t (closing port p) w r y
 does_close port u d e = record { ends = closes _ _ port u _ d.ends e }
+
+reaches_behind : {A B : Type 0} (t : ℕ) (p q : Prog A) (w x y : World) (left : B → Prog A) (r : Result B Stop) → Leads t p w q x → ReachesTo t q x left r y → ReachesTo t p w left r y
+reaches_behind t p q w x y left (Ok b) l d = leads_trans l d
+reaches_behind t p q w x y left (Err (Refused e)) l d = leads_trans l d
+reaches_behind t p q w x y left (Err Memory) l d = tt
+
+-- a program that comes to another goes on as that does
+pub leads_reaches : {A B : Type 0} {t : ℕ} {p q : Prog A} {w x y : World} {left : B → Prog A} {r : Result B Stop} → Leads t p w q x → Reaches t q x left r y → Reaches t p w left r y
+leads_reaches l d = record { reaches = reaches_behind _ _ _ _ _ _ _ _ l d.reaches }
+
+lost_reaches : {A B : Type 0} (t : ℕ) (p : Prog A) (w x : World) (left : B → Prog A) (r : Result B Stop) → IsErr r × IsErrAnd r (λ e. e ≡ Memory) → ReachesTo t p w left r x
+lost_reaches t p w x left (Ok b) gone = absurd gone.1
+lost_reaches t p w x left (Err e) gone = rw gone.1 tt
+
+-- memory was refused
+pub reaches_lost : {A B : Type 0} {t : ℕ} {p : Prog A} {w x : World} {left : B → Prog A} {r : Result B Stop} → IsErr r × IsErrAnd r (λ e. e ≡ Memory) → Reaches t p w left r x
+reaches_lost gone = record { reaches = lost_reaches _ _ _ _ _ _ gone }
+
+-- along `?`: the first program stops somewhere, and the rest of the code goes on from there
+pub reaches_ok : {A B C : Type 0} {t : ℕ} {p : Prog A} {left : C → Prog A} {c : C} {D : Type 0} {next : D → Prog B} {r : Result D Stop} {w x y : World} (k : A → Prog B)
+    → Reaches t p w left (Ok c) x → Reaches t (bind (left c) k) x next r y → Reaches t (bind p k) w next r y
+unfolding bind
+reaches_ok k d e = leads_reaches (tried_leads (on_ok k) d.reaches) e

@@ -1,12 +1,25 @@
 -- A world that hangs together stays so along a program.
-use Rattle.std.proofs.Common.{ℕ}
+use Rattle.std.proofs.Common.{ℕ, ◌≡◌, ◌∙◌, Result, Ok, Err, ap, subst}
+use Rattle.hurd_creds.specs.declared.errno.Errno.{Errno}
 use Rattle.hurd_machine.specs.World.{World}
 use Rattle.hurd_machine.specs.Sound.{Sound}
 use Rattle.hurd_laws.specs.Step.{reply_of, after}
 use Rattle.hurd_laws.proofs.Assembled.{stays_sound}
-use Rattle.hurd_shell.specs.Programs.{Prog, gives, calls, go}
+use Rattle.hurd_shell.specs.Programs.{Pause, Prog, gives, calls, asks, go}
+use Rattle.hurd_shell.specs.Progress.{Does, Leads, stopped}
+use Rattle.hurd_shell.proofs.ProgramLaws.{go-gives}
 
 pub go_sound : {A : Type 0} (t : ℕ) (p : Prog A) (w : World) → Sound w → Sound (go t p w).world
 unfolding go
 go_sound t (gives r) w s = s
 go_sound t (calls c k) w s = go_sound t (k (reply_of w t c)) (after w t c) (stays_sound w t c s)
+go_sound t (asks words k) w s = s
+
+-- a world that a program stops in
+pub stop_sound : {A : Type 0} {t : ℕ} {p q : Prog A} {w x : World} → go t q x ≡ record { world = x; rest = q } → Leads t p w q x → Sound w → Sound x
+stop_sound {A} {t} {p} {q} {w} {x} stops l s = subst Sound (ap (λ (z : Pause A). z.world) (l.goes ∙ stops)) (go_sound t p w s)
+
+-- a world that a program without want of memory ends in
+pub does_sound : {A : Type 0} {t : ℕ} {p : Prog A} {w x : World} (answer : Result A Errno) → Does t p w (stopped answer) x → Sound w → Sound x
+does_sound (Ok a) d s = stop_sound (go-gives _ (Ok a) _) d.ends s
+does_sound (Err e) d s = stop_sound (go-gives _ (Err e) _) d.ends s

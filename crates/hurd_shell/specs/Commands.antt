@@ -1,18 +1,26 @@
 -- What each command does.
-use Rattle.std.specs.Prelude.{ℕ, ℤ, negsuc, zero, suc, Bool, not, ◌||◌, List, [], ◌∷◌, ◌++◌, bytes_eq, codes, filter, Some, None, Result, Ok, Err}
+use Rattle.std.specs.Prelude.{ℕ, ◌+◌, ℤ, negsuc, zero, suc, Bool, true, false, not, ◌&&◌, ◌||◌, List, [], ◌∷◌, ◌++◌, bytes_eq, codes, filter, if◌then◌else◌, Option, Some, None, Result, Ok, Err}
 use Rattle.std.specs.Int.RustNames.{bit_or}
 use Rattle.hurd_creds.specs.declared.errno.Errno.{Errno}
+use Rattle.hurd_creds.specs.declared.errno.Errno.TheVariants.{ENOENT}
 use Rattle.hurd_creds.specs.declared.mode.Mode.{Mode}
 use Rattle.hurd_creds.specs.declared.open_flags.OpenFlags.{OpenFlags}
 use Rattle.hurd_creds.specs.Bits.{READ, WRITE, CREATE, NOTRANS, NOLINK, DIRECTORY}
-use Rattle.hurd_machine.specs.declared.call.Call.TheVariants.{IoRead, IoWrite, IoStat, FileSetSize, FileChmod, FileChown, DirReaddir, DirMkdir, DirRmdir, DirUnlink, DirLink, DirRename}
+use Rattle.hurd_creds.specs.declared.trans_flags.TransFlags.{TransFlags}
+use Rattle.hurd_creds.specs.declared.trans_flags.GoawayFlags.{GoawayFlags}
+use Rattle.hurd_creds.specs.TransBits as trans
+use Rattle.hurd_trans_iface.specs.Meaning.{Meaning}
+use Rattle.hurd_trans_iface.specs.Nodes.{has_words}
+use Rattle.hurd_machine.specs.declared.call.Call.TheVariants.{IoRead, IoWrite, IoStat, FileSetSize, FileChmod, FileChown, FileSetTranslator, FileGetTranslator, FileGetcontrol, FsysGetOptions, FsysSetOptions, DirReaddir, DirMkdir, DirRmdir, DirUnlink, DirLink, DirRename}
+use Rattle.hurd_machine.specs.declared.call.Setting.{Setting}
 use Rattle.hurd_script.specs.declared.command.Action.{Action}
-use Rattle.hurd_script.specs.declared.command.Action.TheVariants.{Cat, Ls, Stat, Put, Mkdir, Rm, Rmdir, Ln, Mv, Chmod, Chown, Usage}
+use Rattle.hurd_script.specs.declared.command.Action.TheVariants.{Cat, Ls, Stat, Put, Mkdir, Rm, Rmdir, Ln, Mv, Chmod, Chown, Showtrans, Fsysopts, Settrans, Usage}
 use Rattle.hurd_script.specs.declared.places.Place.{Place}
+use Rattle.hurd_script.specs.declared.settrans.SettransFlags.{SettransFlags}
 use Rattle.hurd_shell.specs.declared.commands.Printed.{Printed}
 use Rattle.hurd_shell.specs.Looking.{open_node}
-use Rattle.hurd_shell.specs.Programs.{Prog, gives, tried, bind, made, closing, data_of, names_of, stat_of, done_of}
-use Rattle.hurd_shell.specs.Lines.{stat_line}
+use Rattle.hurd_shell.specs.Programs.{Prog, gives, asks, tried, bind, made, closing, data_of, names_of, port_of, stat_of, words_of, done_of, set_of}
+use Rattle.hurd_shell.specs.Lines.{stat_line, words_line}
 
 -- the mode of directories that a command makes: 0o755
 abbrev pub directory_mode : Mode
@@ -86,6 +94,65 @@ chmod mode p = bind (made (FileChmod p mode) done_of) (λ u. gives (Ok (prints [
 abbrev pub chown : ℕ → ℕ → ℕ → Prog Printed
 chown owner group p = bind (made (FileChown p owner group) done_of) (λ u. gives (Ok (prints [])))
 
+-- showtrans: the words of the passive translator are shown
+abbrev pub showtrans : ℕ → Prog Printed
+showtrans p = bind (made (FileGetTranslator p) words_of) (λ words. gives (Ok (prints (words_line words))))
+
+-- with no words, a server's options are shown; else these are given to it
+abbrev pub options : List (List ℕ) → ℕ → Prog Printed
+options [] c = bind (made (FsysGetOptions c) words_of) (λ shown. gives (Ok (prints (words_line shown))))
+options (word ∷ words) c = silent (made (FsysSetOptions c (word ∷ words)) done_of)
+
+-- fsysopts: the control port of the node's server is got, worked on, and given up
+abbrev pub fsysopts : List (List ℕ) → ℕ → Prog Printed
+fsysopts words p = bind (made (FileGetcontrol p) port_of) (λ c. closing c (options words c))
+
+-- a half of a translator that is set: only where none is there, or whatever is; ORPHAN lets an old server live on
+abbrev pub set_half : Bool → Bool → TransFlags
+set_half exclusive orphan = record { 0 = trans.SET + (if exclusive then trans.EXCL else 0) + (if orphan then trans.ORPHAN else 0) }
+
+-- a half that is left alone
+abbrev pub no_half : TransFlags
+no_half = record { 0 = 0 }
+
+-- the passive half: with `-p`, or without `-a`
+abbrev pub passive_half : SettransFlags → TransFlags
+passive_half f = if f.passive || not f.active then set_half f.exclusive false else no_half
+
+-- the active half: with `-a` another server, with `-g` or `-o` none, with `-k` it stays; else there may be none
+abbrev pub active_half : SettransFlags → TransFlags
+active_half f =
+    if f.active then set_half f.exclusive f.orphan
+    else if f.goaway || f.orphan then set_half false f.orphan
+    else if f.keep then no_half
+    else set_half true false
+
+-- how an old server goes: with `-f` also under its users
+abbrev pub old_goes : SettransFlags → GoawayFlags
+old_goes f = record { 0 = if f.force then trans.FORCE else 0 }
+
+-- what settrans asks for
+abbrev pub setting_of : SettransFlags → Setting
+setting_of f = record { passive = passive_half f; active = active_half f; goaway = old_goes f }
+
+-- setting a translator
+abbrev pub set : ℕ → Setting → List (List ℕ) → Option Meaning → Prog (Unit {0})
+set p setting words server = made (FileSetTranslator p setting words server) set_of
+
+-- with the server that was asked for; without one nothing is set
+abbrev pub set_with : ℕ → Setting → List (List ℕ) → Option Meaning → Prog (Unit {0})
+set_with p setting words (Some server) = set p setting words (Some server)
+set_with p setting words None = gives (Err ENOENT)
+
+-- setting a translator with a server of these words, which is asked for, or with none
+abbrev pub setting_with : Bool → ℕ → Setting → List (List ℕ) → Prog (Unit {0})
+setting_with true p setting words = asks words (set_with p setting words)
+setting_with false p setting words = set p setting words None
+
+-- settrans: with `-a` and words, a server of these words is asked for
+abbrev pub settrans : SettransFlags → List (List ℕ) → ℕ → Prog Printed
+settrans f words p = silent (setting_with (f.active && has_words words) p (setting_of f) words)
+
 abbrev pub to_read : OpenFlags
 to_read = record { 0 = READ }
 
@@ -103,6 +170,18 @@ to_show = record { 0 = NOLINK }
 -- the node itself, whatever translator is on it
 abbrev pub to_change : OpenFlags
 to_change = record { 0 = bit_or NOTRANS NOLINK }
+
+-- the node itself whatever translator is on it, a symbolic link's too
+abbrev pub to_look_behind : OpenFlags
+to_look_behind = record { 0 = NOTRANS }
+
+-- the server of the node
+abbrev pub to_control : OpenFlags
+to_control = record { 0 = 0 }
+
+-- the node itself, which is made with `-c` where it isn't there
+abbrev pub to_set : SettransFlags → OpenFlags
+to_set f = record { 0 = if f.create then bit_or NOTRANS CREATE else NOTRANS }
 
 -- the directory of an entry that is made, removed or moved
 abbrev pub to_enter : OpenFlags
@@ -145,4 +224,7 @@ program_of (Ln file new) = with_open file to_change (ln new)
 program_of (Mv old new) = in_place old (mv new)
 program_of (Chmod mode node) = with_open node to_change (chmod mode)
 program_of (Chown owner group node) = with_open node to_change (chown owner group)
+program_of (Showtrans node) = with_open node to_look_behind showtrans
+program_of (Fsysopts node words) = with_open node to_control (fsysopts words)
+program_of (Settrans flags node words) = with_open node (to_set flags) (settrans flags words)
 program_of Usage = gives (Ok (prints (codes "usage" ++ 10 ∷ [])))

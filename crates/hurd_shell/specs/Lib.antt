@@ -4,6 +4,9 @@ pub mod Looking
 pub mod Commands
 pub mod Transcript
 pub mod Progress
+pub mod Stages
+pub mod Turns
 pub mod Session
 pub mod Faults
 pub mod Outputs
+pub mod Isolation

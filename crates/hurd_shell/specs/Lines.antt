@@ -1,5 +1,5 @@
--- The line that `ls -d` prints.
-use Rattle.std.specs.Prelude.{ℕ, ◌+◌, ◌/◌, ◌%◌, List, [], ◌∷◌, ◌++◌, decimal}
+-- The lines that `ls -d`, `showtrans` and `fsysopts` print.
+use Rattle.std.specs.Prelude.{ℕ, ◌+◌, ◌/◌, ◌%◌, ◌==◌, if◌then◌else◌, List, [], ◌∷◌, ◌++◌, decimal}
 use Rattle.hurd_creds.specs.declared.attrs.Kind.{Kind}
 use Rattle.hurd_creds.specs.declared.attrs.Kind.TheVariants.{File, Dir, Link, Fifo, Char}
 use Rattle.hurd_creds.specs.declared.attrs.Stat.{Stat}
@@ -29,3 +29,26 @@ spaced n = 32 ∷ decimal n
 abbrev pub stat_line : Stat → List ℕ
 stat_line s =
     kind_letter s.kind ∷ (six_octal_digits s.mode.0 ++ (spaced s.links ++ (spaced s.owner ++ (spaced s.group ++ (spaced s.size ++ 10 ∷ [])))))
+
+-- a byte as it is written in a script: `\s` for a space, `\n` for a newline, and `\\` for a backslash
+abbrev pub spelled_byte : ℕ → List ℕ
+spelled_byte b =
+    if b == 32 then 92 ∷ 115 ∷ []
+    else if b == 10 then 92 ∷ 110 ∷ []
+    else if b == 92 then 92 ∷ 92 ∷ []
+    else b ∷ []
+
+-- a word as it is written in a script
+abbrev pub spelled : List ℕ → List ℕ
+spelled [] = []
+spelled (b ∷ bs) = spelled_byte b ++ spelled bs
+
+-- words, each behind a space
+abbrev pub spaced_words : List (List ℕ) → List ℕ
+spaced_words [] = []
+spaced_words (word ∷ words) = 32 ∷ spelled word ++ spaced_words words
+
+-- words on a line, with a space between them
+abbrev pub words_line : List (List ℕ) → List ℕ
+words_line [] = 10 ∷ []
+words_line (word ∷ words) = spelled word ++ (spaced_words words ++ 10 ∷ [])

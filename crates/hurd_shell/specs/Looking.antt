@@ -1,19 +1,20 @@
--- The client's loop: a lookup that follows retries.
-use Rattle.std.specs.Prelude.{ℕ, zero, suc, ◌==◌, if◌then◌else◌, List, [], ◌∷◌, Some, None, Result, Ok, Err}
+-- The client's loop: a lookup that follows retries, and starts translators.
+use Rattle.std.specs.Prelude.{ℕ, zero, suc, ◌==◌, if◌then◌else◌, List, [], ◌∷◌, Option, Some, None, Result, Ok, Err}
 use Rattle.hurd_creds.specs.declared.errno.Errno.{Errno}
-use Rattle.hurd_creds.specs.declared.errno.Errno.TheVariants.{EIO, ELOOP}
+use Rattle.hurd_creds.specs.declared.errno.Errno.TheVariants.{EIO, ENOENT, ELOOP}
 use Rattle.hurd_creds.specs.declared.mode.Mode.{Mode}
 use Rattle.hurd_creds.specs.declared.open_flags.OpenFlags.{OpenFlags}
-use Rattle.hurd_machine.specs.declared.call.Call.TheVariants.{DirLookup, IoReauthenticate}
+use Rattle.hurd_trans_iface.specs.Meaning.{Meaning}
+use Rattle.hurd_machine.specs.declared.call.Call.TheVariants.{DirLookup, IoReauthenticate, FsysStartup, StartFailed}
 use Rattle.hurd_machine.specs.declared.call.Lookup.TheVariants as found
 use Rattle.hurd_machine.specs.Calls.{Reply}
 use Rattle.hurd_machine.specs.declared.call.Reply.TheVariants as reply
 use Rattle.hurd_machine.specs.declared.call.RetryKind.TheVariants as kind
 use Rattle.hurd_shell.specs.declared.looking.Looked.{Looked}
-use Rattle.hurd_shell.specs.declared.looking.Looked.TheVariants.{Opened, Retried}
+use Rattle.hurd_shell.specs.declared.looking.Looked.TheVariants.{Opened, Retried, Started}
 use Rattle.hurd_shell.specs.declared.looking.Retry.{Retry}
 use Rattle.hurd_shell.specs.declared.looking.Retry.TheVariants.{Normal, Reauth, Magical}
-use Rattle.hurd_shell.specs.Programs.{Prog, gives, bind, made, closing, port_of}
+use Rattle.hurd_shell.specs.Programs.{Prog, gives, asks, bind, made, closing, port_of, started_of, unread}
 
 -- the port of a task's root
 abbrev pub root_port : ℕ
@@ -23,7 +24,7 @@ root_port = 1
 abbrev pub directory_port : ℕ
 directory_port = 2
 
--- how many retries one opening follows
+-- how many retries and starts one opening follows
 abbrev pub most_retries : ℕ
 most_retries = 32
 
@@ -36,12 +37,13 @@ start_of (b ∷ bs) = if b == 47 then root_port else directory_port
 abbrev pub file_mode : Mode
 file_mode = record { 0 = 420 }
 
--- what a lookup is answered: the opened node, or a retry, which has a port unless it is magical
+-- what a lookup is answered: the opened node, a retry, which has a port unless it is magical, or a translator that is to be started
 abbrev pub looked_of : Reply → Result Looked Errno
 looked_of (reply.Found (found.Done p)) = Ok (Opened p)
 looked_of (reply.Found (found.Retry kind.Normal name (Some p))) = Ok (Retried (Normal name p))
 looked_of (reply.Found (found.Retry kind.Reauth name (Some p))) = Ok (Retried (Reauth name p))
 looked_of (reply.Found (found.Retry kind.Magical name None)) = Ok (Retried (Magical name))
+looked_of (reply.Found (found.Start words)) = Ok (Started words)
 looked_of (reply.Refused e) = Err e
 looked_of _ = Err EIO
 
@@ -65,15 +67,30 @@ too_many (Normal name p) = closing p (gives (Err ELOOP))
 too_many (Reauth name p) = closing p (gives (Err ELOOP))
 too_many (Magical name) = gives (Err ELOOP)
 
--- what an answer leads to: the opened node is the end, and a retry goes on
-abbrev pub arrived : (Retry → Prog ℕ) → Looked → Prog ℕ
-arrived goes_on (Opened p) = gives (Ok p)
-arrived goes_on (Retried retry) = goes_on retry
+-- a start too many: it is ELOOP, and what is to be started stays
+abbrev pub not_started : List (List ℕ) → Prog ℕ
+not_started words = gives (Err ELOOP)
 
--- opening a name at a port, where so many retries are followed
+-- with a server, the translator is started; without one the start is given up, and there is no node
+abbrev pub start_with : Option Meaning → Prog (Unit {0})
+start_with (Some server) = made (FsysStartup server) started_of
+start_with None = bind (made StartFailed unread) (λ u. gives (Err ENOENT))
+
+-- a start: its server is asked for, and then the node is looked up again
+abbrev pub starting : Prog ℕ → List (List ℕ) → Prog ℕ
+starting again words = asks words (λ server. bind (start_with server) (λ u. again))
+
+-- what an answer leads to: the opened node is the end, and a retry and a start go on
+abbrev pub arrived : (Retry → Prog ℕ) → (List (List ℕ) → Prog ℕ) → Looked → Prog ℕ
+arrived goes_on starts (Opened p) = gives (Ok p)
+arrived goes_on starts (Retried retry) = goes_on retry
+arrived goes_on starts (Started words) = starts words
+
+-- opening a name at a port, where so many retries and starts are followed
 unfoldable pub look : ℕ → OpenFlags → Opener
-look zero flags dir name = bind (looking flags dir name) (arrived too_many)
-look (suc left) flags dir name = bind (looking flags dir name) (arrived (followed (look left flags)))
+look zero flags dir name = bind (looking flags dir name) (arrived too_many not_started)
+look (suc left) flags dir name =
+    bind (looking flags dir name) (arrived (followed (look left flags)) (starting (look left flags dir name)))
 
 -- opening what a path leads to
 abbrev pub open_node : List ℕ → OpenFlags → Prog ℕ

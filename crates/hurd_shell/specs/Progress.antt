@@ -1,27 +1,21 @@
 -- What the code does of a program.
 use Rattle.std.specs.Prelude.{◌≡◌, ℕ, List, [], ◌∷◌, Result, Ok, Err}
 use Rattle.hurd_creds.specs.declared.errno.Errno.{Errno}
+use Rattle.hurd_creds.specs.declared.open_flags.OpenFlags.{OpenFlags}
 use Rattle.hurd_trans_iface.specs.Meaning.{Meaning}
 use Rattle.hurd_machine.specs.Calls.{Call, Reply}
-use Rattle.hurd_machine.specs.declared.call.Call.TheVariants.{DirMkdir, DirRmdir, DirUnlink, DirLink, DirRename}
 use Rattle.hurd_machine.specs.World.{World}
 use Rattle.hurd_laws.specs.Step.{step}
-use Rattle.hurd_script.specs.Commands.{CommandLine}
 use Rattle.hurd_world.specs.Held.{Whole, world_of}
-use Rattle.hurd_shell.specs.declared.commands.Printed.{Printed}
-use Rattle.hurd_shell.specs.declared.commands.Work.{Work}
-use Rattle.hurd_shell.specs.declared.commands.Work.TheVariants.{Cat, Ls, Stat, Put, Chmod, Chown, Ln, Mv}
-use Rattle.hurd_shell.specs.declared.entries.EntryWork.{EntryWork}
-use Rattle.hurd_shell.specs.declared.entries.EntryWork.TheVariants as entry
 use Rattle.hurd_shell.specs.declared.fault.Stop.{Stop}
 use Rattle.hurd_shell.specs.declared.fault.Stop.TheVariants.{Refused, Memory}
 use Rattle.hurd_shell.specs.declared.looking.Outcome.{Outcome}
-use Rattle.hurd_shell.specs.declared.looking.Outcome.TheVariants.{Opened, Onward}
+use Rattle.hurd_shell.specs.declared.looking.Outcome.TheVariants as outcome
+use Rattle.hurd_shell.specs.declared.looking.Found.{Found}
+use Rattle.hurd_shell.specs.declared.looking.Found.TheVariants as found
 use Rattle.hurd_shell.specs.declared.looking.Target.{Target}
-use Rattle.hurd_shell.specs.Programs.{Prog, gives, made, closing, done_of, go}
-use Rattle.hurd_shell.specs.Looking.{Opener}
-use Rattle.hurd_shell.specs.Commands.{directory_mode, silent, cat, ls, stat, put, chmod, chown, ln, mv}
-use Rattle.hurd_shell.specs.Transcript.{end_of, part_of}
+use Rattle.hurd_shell.specs.Programs.{Prog, gives, closing, go}
+use Rattle.hurd_shell.specs.Looking.{Opener, look, starting}
 
 -- a call of task t was told the machine's reply, and left its world
 pub record Stepped (w : World) (t : ℕ) (c : Call) (r : Reply) (x : World) : Type 0 where
@@ -61,8 +55,14 @@ opening opener target = opener target.dir target.name
 
 -- what is left of an opening after a turn
 abbrev pub opening_on : Opener → Outcome → Prog ℕ
-opening_on opener (Opened p) = gives (Ok p)
-opening_on opener (Onward target) = opening opener target
+opening_on opener (outcome.Opened p) = gives (Ok p)
+opening_on opener (outcome.Onward target) = opening opener target
+opening_on opener (outcome.Starts words target) = starting (opening opener target) words
+
+-- what is left of an opening that has found its node, or a translator that is to be started
+abbrev pub found_on : OpenFlags → Found → Prog ℕ
+found_on flags (found.Opened p) = gives (Ok p)
+found_on flags (found.Starts words left target) = starting (opening (look left flags) target) words
 
 -- where a program of task t comes to, with ports to give up: to what is left where the code goes on, or to a refusal
 abbrev pub ComesTo : {B : Type 0} → ℕ → Prog ℕ → World → (B → Prog ℕ) → List ℕ → Result B Stop → World → Type 0
@@ -78,30 +78,16 @@ pub record Comes {B : Type 0} (t : ℕ) (p : Prog ℕ) (w : World) (left : B →
 abbrev pub Went : {S B : Type 0} → (S → Meaning) → ℕ → List ℕ → Prog ℕ → Whole S → (B → Prog ℕ) → List ℕ → Result B Stop → Whole S → Type 0
 Went f t before p old left held r new = Comes t (releasing before p) (world_of f old) left held r (world_of f new)
 
--- the program of what the code does with an open node
-abbrev pub work_of : Work → ℕ → Prog Printed
-work_of Cat = cat
-work_of Ls = ls
-work_of Stat = stat
-work_of (Put text) = put text
-work_of (Chmod mode) = chmod mode
-work_of (Chown owner group) = chown owner group
-work_of (Ln new) = ln new
-work_of (Mv name new) = λ p. mv new p name
+-- where a program of task t comes to: to what is left where the code goes on, or to a refusal
+abbrev pub ReachesTo : {A B : Type 0} → ℕ → Prog A → World → (B → Prog A) → Result B Stop → World → Type 0
+ReachesTo t p w left (Ok b) x = Leads t p w (left b) x
+ReachesTo t p w left (Err (Refused e)) x = Leads t p w (gives (Err e)) x
+ReachesTo t p w left (Err Memory) x = Unit {0}
 
--- the call of what the code does at a name of an open directory
-abbrev pub change_of : EntryWork → ℕ → List ℕ → Prog (Unit {0})
-change_of entry.Mkdir p name = made (DirMkdir p name directory_mode) done_of
-change_of entry.Rm p name = made (DirUnlink p name) done_of
-change_of entry.Rmdir p name = made (DirRmdir p name) done_of
-change_of (entry.Ln file) p name = made (DirLink p name file) done_of
-change_of (entry.Mv q old) p name = made (DirRename q old p name) done_of
+-- task t went on from the program p in w
+pub record Reaches {A B : Type 0} (t : ℕ) (p : Prog A) (w : World) (left : B → Prog A) (r : Result B Stop) (x : World) : Type 0 where
+  pub reaches : ReachesTo t p w left r x
 
--- the program of that
-abbrev pub entry_work_of : EntryWork → ℕ → List ℕ → Prog Printed
-entry_work_of work p name = silent (change_of work p name)
-
--- a command was made, and this is its part of the transcript
-pub record Told (c : CommandLine) (w : World) (bytes : List ℕ) (x : World) : Type 0 where
-  pub part : bytes ≡ part_of c w
-  pub world : x ≡ (end_of c w).world
+-- the same of the worlds that the code holds
+abbrev pub Arrived : {S A B : Type 0} → (S → Meaning) → ℕ → Prog A → Whole S → (B → Prog A) → Result B Stop → Whole S → Type 0
+Arrived f t p old left r new = Reaches t p (world_of f old) left r (world_of f new)

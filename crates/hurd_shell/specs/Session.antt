@@ -1,49 +1,118 @@
 -- A session: a script on its way.
-use Rattle.std.specs.Prelude.{◌≡◌, ℕ, ◌+◌, Bool, true, false, List, take, length, slice_get, Some, None, Result, Ok, Err, IsOk, refl}
-use Rattle.std.specs.Coded.{Coded, code_by, coded×, coded_ℕ, coded_bool, coded_list}
+use Rattle.std.specs.Prelude.{◌≡◌, ℕ, ◌&&◌, Bool, true, false, length, nat_lt, List, [], ◌∷◌, drop, Option, Some, None, Result, Ok, Err, IsOk, refl}
+use Rattle.std.specs.Coded.{Coded, code_by, coded×, coded_ℕ, coded_list}
 use Rattle.hurd_trans_iface.specs.Meaning.{Meaning}
 use Rattle.hurd_machine.specs.World.{World}
 use Rattle.hurd_machine.specs.Sound.{Sound}
 use Rattle.hurd_script.specs.Commands.{CommandLine, coded_command}
 use Rattle.hurd_creds.specs.Access.{IdSets}
-use Rattle.hurd_script.specs.Script.{bad, users_of}
-use Rattle.hurd_world.specs.Boot.{boot_of}
+use Rattle.hurd_script.specs.Script.{bad, commands_of, users_of}
+use Rattle.hurd_world.specs.Boot.{boot_of, first_world}
 use Rattle.hurd_world.specs.Held.{Whole, coded_whole, world_of}
-use Rattle.hurd_shell.specs.Transcript.{parts_of, world_after}
+use Rattle.hurd_script.specs.Actions.{action_of}
+use Rattle.hurd_shell.specs.Programs.{Prog, gives}
+use Rattle.hurd_shell.specs.Commands.{prints, program_of}
+use Rattle.hurd_shell.specs.Stages.{answered_on, waiting_on}
+use Rattle.hurd_shell.specs.Transcript.{Dialogue, ends, tells, wants, dialogue, part_of, played, AsksFor}
+use Rattle.hurd_shell.specs.contracts.phase.Phase as phase_code
+use Rattle.hurd_shell.specs.declared.phase.Phase.{Phase}
+use Rattle.hurd_shell.specs.declared.phase.Phase.TheVariants as phase
+use Rattle.hurd_shell.specs.declared.commands.Printed.{Printed}
 use Rattle.hurd_shell.specs.declared.session.Want.{Want}
-use Rattle.hurd_shell.specs.declared.session.Want.TheVariants.{Output, Done}
+use Rattle.hurd_shell.specs.declared.session.Want.TheVariants.{Output, Server, Done}
+use Rattle.hurd_shell.specs.declared.fault.SupplyFault.{SupplyFault}
+use Rattle.hurd_shell.specs.declared.fault.SupplyFault.TheVariants as supply
+use Rattle.hurd_shell.specs.declared.fault.SupplyFault.TheVariants.{NotWanted}
 use Rattle.hurd_shell.specs.declared.fault.SessionFault.{SessionFault}
 use Rattle.hurd_shell.specs.declared.fault.SessionFault.TheVariants.{BadScript, Boot, Memory}
 
--- the world, the commands, how many outputs were given, and whether memory was refused
+-- the world, the commands, how many of them are made, and how far the next one is
 pub record View (S : Type 0) : Type 0 where
   pub world : Whole S
   pub commands : List CommandLine
   pub given : ℕ
-  pub failed : Bool
+  pub phase : Phase
 
 -- a view is stored as the tuple of its fields
 abbrev pub coded_view : {S : Type 0} → Coded S → Coded (View S)
 coded_view {S} c =
     code_by
-    (Whole S × (List CommandLine × (ℕ × Bool)))
-    (coded× (coded_whole c) (coded× (coded_list coded_command) (coded× coded_ℕ coded_bool)))
-    (λ s. (s.world, (s.commands, (s.given, s.failed))))
-    (λ p. record { world = p.0; commands = p.1.0; given = p.1.1.0; failed = p.1.1.1 })
+    (Whole S × (List CommandLine × (ℕ × Phase)))
+    (coded× (coded_whole c) (coded× (coded_list coded_command) (coded× coded_ℕ (phase_code.the_row).coded)))
+    (λ s. (s.world, (s.commands, (s.given, s.phase))))
+    (λ p. record { world = p.0; commands = p.1.0; given = p.1.1.0; phase = p.1.1.1 })
     (λ _. refl)
 
--- the session goes through its commands from the world `first`: unless memory was refused, its world is the one after the
--- outputs given, and hangs together
-pub record Follows {S : Type 0} (f : S → Meaning) (first : World) (s : View S) : Type 0 where
-  pub world : s.failed ≡ false → world_of f s.world ≡ world_after (take s.given s.commands) first
-  pub sound : s.failed ≡ false → Sound (world_of f s.world)
+-- memory was refused
+abbrev pub is_failed : Phase → Bool
+is_failed phase.Failed = true
+is_failed _ = false
 
--- the next output is the next part of the transcript; Done comes when all are given; memory may be refused, and then for good
-abbrev pub Tells : {S : Type 0} → World → View S → Result Want SessionFault → View S → Type 0
-Tells first old (Ok (Output bytes)) new =
-    (old.failed ≡ false) × (slice_get (parts_of old.commands first) old.given ≡ Some bytes) × (new.given ≡ old.given + 1) × (new.failed ≡ false)
-Tells first old (Ok Done) new = (old.failed ≡ false) × (old.given ≡ length (parts_of old.commands first)) × (new ≡ old)
-Tells first old (Err e) new = (e ≡ Memory) × (new.given ≡ old.given) × (new.failed ≡ true)
+abbrev pub has_failed : {S : Type 0} → View S → Bool
+has_failed s = is_failed s.phase
+
+-- a server was asked for, and that was not answered
+abbrev pub waits_by : Phase → Bool
+waits_by (phase.Waiting w) = true
+waits_by _ = false
+
+abbrev pub waits_for : {S : Type 0} → View S → Bool
+waits_for s = waits_by s.phase && nat_lt s.given (length s.commands)
+
+-- what is left of the command that a session is at
+abbrev pub command_on : Phase → CommandLine → Prog Printed
+command_on phase.Between c = program_of (action_of c)
+command_on (phase.Waiting w) c = waiting_on w
+command_on (phase.Answered stage answer) c = answered_on stage answer
+command_on phase.Failed c = gives (Ok (prints []))
+
+-- what is told of the commands that are left, of which the first is so far
+abbrev pub left_of : Phase → List CommandLine → World → Dialogue
+left_of phase [] w = ends
+left_of phase (c ∷ cs) w = played c.task (command_on phase c) w (λ r x. tells (part_of c r) (dialogue cs x))
+
+-- what a session has still to tell
+abbrev pub left_in : {S : Type 0} → (S → Meaning) → View S → Dialogue
+left_in f s = left_of s.phase (drop s.given s.commands) (world_of f s.world)
+
+-- unless memory was refused, the session's world hangs together
+abbrev pub HangsTogether : {S : Type 0} → (S → Meaning) → View S → Type 0
+HangsTogether f s = has_failed s ≡ false → Sound (world_of f s.world)
+
+-- a session that has all of what these commands tell before it, over a world of these users
+pub record BegunWith {S : Type 0} (f : S → Meaning) (m : Meaning) (users : List IdSets) (commands : List CommandLine) (s : View S) : Type 0 where
+  pub left : left_in f s ≡ dialogue commands (first_world m users)
+  pub fine : has_failed s ≡ false
+  pub waits : waits_for s ≡ false
+  pub sound : Sound (world_of f s.world)
+
+-- a session that has all of what a script tells before it
+abbrev pub Begun : {S : Type 0} → (S → Meaning) → Meaning → List ℕ → View S → Type 0
+Begun f m script s = BegunWith f m (users_of script) (commands_of script) s
+
+-- what a session gives its caller is the head of what it has to tell: a part, behind which the rest is left; the words of the server
+-- that is asked for, again at each call until that is answered; or the end. Memory may be refused, and then for good
+abbrev pub Tells : {S : Type 0} → (S → Meaning) → View S → Result Want SessionFault → View S → Type 0
+Tells f old (Ok (Output part)) new = (left_in f old ≡ tells part (left_in f new)) × (has_failed new ≡ false) × (waits_for new ≡ false)
+Tells f old (Ok (Server words)) new =
+    (left_in f new ≡ left_in f old) × AsksFor (left_in f old) words × (has_failed new ≡ false) × (waits_for new ≡ true)
+Tells f old (Ok Done) new = (left_in f old ≡ ends) × (new ≡ old)
+Tells f old (Err e) new = (e ≡ Memory) × (has_failed new ≡ true)
+
+-- an answer to what is asked for: what is left to tell is what follows it
+abbrev pub Answers : Dialogue → Option Meaning → Dialogue → Type 0
+Answers (wants words rest) server left = left ≡ rest server
+Answers _ server left = ⊥
+
+-- an answer was taken
+abbrev pub Takes : {S : Type 0} → (S → Meaning) → View S → Option Meaning → View S → Type 0
+Takes f old server new =
+    Answers (left_in f old) server (left_in f new) × (waits_for old ≡ true) × (has_failed new ≡ false) × (waits_for new ≡ false)
+
+-- why an answer was not taken: none was asked for, and nothing is changed; or memory was refused, now or before
+abbrev pub NotTaken : {S : Type 0} → View S → SupplyFault → View S → Type 0
+NotTaken old NotWanted new = (has_failed old ≡ false) × (waits_for old ≡ false) × (new ≡ old)
+NotTaken old supply.Memory new = has_failed new ≡ true
 
 -- why no session was begun over a root server and these users: their world is refused, or it isn't and memory was refused
 abbrev pub BeginFault : Meaning → List IdSets → SessionFault → Type 0

@@ -1,5 +1,5 @@
 -- What a transcript says.
-use Rattle.std.specs.Prelude.{ℕ, ◌==◌, if◌then◌else◌, List, [], ◌∷◌, ◌++◌, Option, Some, None, Result, Ok, Err}
+use Rattle.std.specs.Prelude.{◌≡◌, ℕ, ◌==◌, if◌then◌else◌, List, [], ◌∷◌, ◌++◌, Option, Some, None, Result, Ok, Err}
 use Rattle.std.specs.List.{concat}
 use Rattle.hurd_creds.specs.Errors.{name_of}
 use Rattle.hurd_creds.specs.declared.errno.Errno.{Errno}
@@ -8,9 +8,10 @@ use Rattle.hurd_machine.specs.World.{World}
 use Rattle.hurd_script.specs.Commands.{CommandLine}
 use Rattle.hurd_script.specs.Actions.{action_of}
 use Rattle.hurd_script.specs.Script.{users_of, commands_of}
+use Rattle.hurd_laws.specs.Step.{reply_of, after}
 use Rattle.hurd_world.specs.Boot.{first_world}
 use Rattle.hurd_shell.specs.declared.commands.Printed.{Printed}
-use Rattle.hurd_shell.specs.Programs.{End, go}
+use Rattle.hurd_shell.specs.Programs.{Prog, gives, calls, asks}
 use Rattle.hurd_shell.specs.Commands.{program_of}
 
 -- output that isn't empty ends with a newline
@@ -28,28 +29,71 @@ abbrev pub lines_of : Result Printed Errno → List ℕ
 lines_of (Ok printed) = ended_lines printed.output ++ refusal_line printed.refusal
 lines_of (Err e) = refusal_line (Some e)
 
--- the end of a command
-abbrev pub end_of : CommandLine → World → End Printed
-end_of c w = go c.task (program_of (action_of c)) w
-
 -- a command's part of the transcript: its line, and what it prints
-abbrev pub part_of : CommandLine → World → List ℕ
-part_of c w = c.header ++ lines_of (end_of c w).result
+abbrev pub part_of : CommandLine → Result Printed Errno → List ℕ
+part_of c r = c.header ++ lines_of r
 
--- the parts of commands, one after another
-unfoldable pub parts_of : List CommandLine → World → List (List ℕ)
-parts_of [] w = []
-parts_of (c ∷ cs) w = part_of c w ∷ parts_of cs (end_of c w).world
+-- what a script tells whoever runs it: parts of its transcript, one after another, and servers that it asks for on the way, with
+-- what it tells after each answer
+pub data Dialogue : Type 0 where
+  ends : Dialogue
+  tells : List ℕ → Dialogue → Dialogue
+  wants : List (List ℕ) → (Option Meaning → Dialogue) → Dialogue
 
--- the world after commands
-unfoldable pub world_after : List CommandLine → World → World
-world_after [] w = w
-world_after (c ∷ cs) w = world_after cs (end_of c w).world
+-- what is told while task t makes a program, and what comes of its end
+unfoldable pub played : {A : Type 0} → ℕ → Prog A → World → (Result A Errno → World → Dialogue) → Dialogue
+played t (gives r) w next = next r w
+played t (calls c k) w next = played t (k (reply_of w t c)) (after w t c) next
+played t (asks words k) w next = wants words (λ server. played t (k server) w next)
 
--- the parts of a script's transcript, begun over a boot server of this meaning
-abbrev pub out_parts : List ℕ → Meaning → List (List ℕ)
-out_parts script m = parts_of (commands_of script) (first_world m (users_of script))
+-- what is told of commands that are made one after another
+unfoldable pub dialogue : List CommandLine → World → Dialogue
+dialogue [] w = ends
+dialogue (c ∷ cs) w = played c.task (program_of (action_of c)) w (λ r x. tells (part_of c r) (dialogue cs x))
 
--- the transcript: the parts, joined
-abbrev pub out : List ℕ → Meaning → List ℕ
-out script m = concat (out_parts script m)
+-- what a script tells, begun over a boot server of this meaning
+abbrev pub dialogue_of : List ℕ → Meaning → Dialogue
+dialogue_of script m = dialogue (commands_of script) (first_world m (users_of script))
+
+-- the parts that are told where the servers that are asked for are answered so, one after another: up to the first that has no answer yet
+unfoldable pub parts_of : Dialogue → List (Option Meaning) → List (List ℕ)
+parts_of ends says = []
+parts_of (tells part rest) says = part ∷ parts_of rest says
+parts_of (wants words rest) [] = []
+parts_of (wants words rest) (server ∷ says) = parts_of (rest server) says
+
+-- the words of the server that is asked for next, after these answers
+unfoldable pub wanted_of : Dialogue → List (Option Meaning) → Option (List (List ℕ))
+wanted_of ends says = None
+wanted_of (tells part rest) says = wanted_of rest says
+wanted_of (wants words rest) [] = Some words
+wanted_of (wants words rest) (server ∷ says) = wanted_of (rest server) says
+
+-- what is told first is the asking for a server of these words
+abbrev pub AsksFor : Dialogue → List (List ℕ) → Type 0
+AsksFor (wants words rest) asked = words ≡ asked
+AsksFor _ asked = ⊥
+
+-- the transcript of a script after these answers: the parts, joined
+abbrev pub out : List ℕ → Meaning → List (Option Meaning) → List ℕ
+out script m says = concat (parts_of (dialogue_of script m) says)
+
+-- a way to answer: the server that some words get, if any
+abbrev pub Maker : Type 0
+Maker = List (List ℕ) → Option Meaning
+
+-- the answers that a maker gives
+unfoldable pub says_by : Maker → Dialogue → List (Option Meaning)
+says_by make ends = []
+says_by make (tells part rest) = says_by make rest
+says_by make (wants words rest) = make words ∷ says_by make (rest (make words))
+
+-- the parts that are told where a maker answers
+unfoldable pub parts_by : Maker → Dialogue → List (List ℕ)
+parts_by make ends = []
+parts_by make (tells part rest) = part ∷ parts_by make rest
+parts_by make (wants words rest) = parts_by make (rest (make words))
+
+-- the whole transcript of a script whose servers a maker makes
+abbrev pub out_by : List ℕ → Meaning → Maker → List ℕ
+out_by script m make = concat (parts_by make (dialogue_of script m))

@@ -1,10 +1,11 @@
 //! Calls that a command makes, and what it reads of their replies.
-ghost use Rattle.std.specs.Prelude.{◌≡◌, IfOk, IfErr, Ok};
+ghost use Rattle.std.specs.Prelude.{◌≡◌, IfOk, IfErr, Ok, None, Some, IsSome};
+ghost use Rattle.hurd_creds.specs.Memory.{is_no_memory};
 ghost use Rattle.hurd_creds.specs.declared.open_flags.OpenFlags.{OpenFlags};
 ghost use Rattle.hurd_machine.specs.Calls.{BringsBegun, box_in, call_by, lacks_memory, refusal, reply_by};
 ghost use Rattle.hurd_laws.specs.Called.{Lacks};
 ghost use Rattle.hurd_world.specs.Held.{world_of};
-ghost use Rattle.hurd_shell.specs.Programs.{made, data_of, done_of, names_of, port_of, stat_of, unread};
+ghost use Rattle.hurd_shell.specs.Programs.{made, data_of, done_of, names_of, port_of, set_of, stat_of, unread, words_of};
 ghost use Rattle.hurd_shell.specs.Commands.{at_cursor, directory_mode, read_amount};
 ghost use Rattle.hurd_shell.specs.Looking.{file_mode, looked_of, looking};
 ghost use Rattle.hurd_shell.specs.Progress.{Ran, Stepped, stopped};
@@ -12,7 +13,8 @@ ghost use Rattle.hurd_shell.specs.Progress.{Ran, Stepped, stopped};
 use crate::fault::{NoMemory, Stop};
 use crate::looking::{Looked, Retry};
 use hurd_creds::{Bytes, Errno, Mode, OpenFlags, Stat, TaskId};
-use hurd_trans_iface::{Names, Server};
+use hurd_machine::Setting;
+use hurd_trans_iface::{Names, Server, Words};
 use hurd_world::{Call, Lookup, Reply, RetryKind, World};
 use std::alloc::Global;
 
@@ -79,9 +81,9 @@ fn looked_of<S: Server>(reply: Reply<S>) -> Result<Looked, Stop>
     match reply {
         Reply::Found(Lookup::Done(port)) => Ok(Looked::Opened(port)),
         Reply::Found(Lookup::Retry { kind, name, port }) => retry_of(kind, name, port),
+        Reply::Found(Lookup::Start { words }) => Ok(Looked::Started(words)),
         Reply::Refused(errno) => Err(Stop::Refused(errno)),
-        Reply::Found(Lookup::Start { .. })
-        | Reply::Done
+        Reply::Done
         | Reply::Port(_)
         | Reply::Data(_)
         | Reply::Count(_)
@@ -171,6 +173,45 @@ fn stat_of<S: Server>(reply: Reply<S>) -> Result<Stat, Stop>
         | Reply::Modes(_)
         | Reply::Same(_)
         | Reply::Back(_, _) => Err(Stop::Refused(Errno::EIO)),
+    }
+}
+
+/// The words that were told.
+fn words_of<S: Server>(reply: Reply<S>) -> Result<Words, Stop>
+    ensures { result ≡ stopped (words_of (reply_by S.meaning reply)) }
+{
+    match reply {
+        Reply::Words(words) => Ok(words),
+        Reply::Refused(errno) => Err(Stop::Refused(errno)),
+        Reply::Done
+        | Reply::Found(_)
+        | Reply::Port(_)
+        | Reply::Data(_)
+        | Reply::Count(_)
+        | Reply::Names(_)
+        | Reply::Stat(_)
+        | Reply::Modes(_)
+        | Reply::Same(_)
+        | Reply::Back(_, _) => Err(Stop::Refused(Errno::EIO)),
+    }
+}
+
+/// Whether a translator was set; a server that comes back is dropped.
+fn set_of<S: Server>(reply: Reply<S>) -> Result<(), Stop>
+    ensures { result ≡ stopped (set_of (reply_by S.meaning reply)) }
+{
+    match reply {
+        Reply::Done => Ok(()),
+        Reply::Refused(errno) | Reply::Back(errno, _) => Err(Stop::Refused(errno)),
+        Reply::Found(_)
+        | Reply::Port(_)
+        | Reply::Data(_)
+        | Reply::Count(_)
+        | Reply::Names(_)
+        | Reply::Stat(_)
+        | Reply::Words(_)
+        | Reply::Modes(_)
+        | Reply::Same(_) => Err(Stop::Refused(Errno::EIO)),
     }
 }
 
@@ -431,4 +472,130 @@ pub(crate) fn rename<S: Server>(
 {
     let call = Call::DirRename { dir, name, to, new };
     done_of(made(world, alloc, task, call)?)
+}
+
+/// The words of the passive translator of a node.
+pub(crate) fn passive<S: Server>(
+    world: &mut World<S>,
+    alloc: Global,
+    task: TaskId,
+    port: u64,
+) -> Result<Words, Stop>
+    ensures { Ran S.meaning task.0 (made (Call.FileGetTranslator port) words_of) world.old result world.new }
+{
+    let call = Call::FileGetTranslator { port };
+    words_of(made(world, alloc, task, call)?)
+}
+
+/// Makes a port that controls the server of a node.
+pub(crate) fn control<S: Server>(
+    world: &mut World<S>,
+    alloc: Global,
+    task: TaskId,
+    port: u64,
+) -> Result<u64, Stop>
+    ensures { Ran S.meaning task.0 (made (Call.FileGetcontrol port) port_of) world.old result world.new }
+{
+    let call = Call::FileGetcontrol { port };
+    port_of(made(world, alloc, task, call)?)
+}
+
+/// The program and the words of a server.
+pub(crate) fn options<S: Server>(
+    world: &mut World<S>,
+    alloc: Global,
+    task: TaskId,
+    control: u64,
+) -> Result<Words, Stop>
+    ensures { Ran S.meaning task.0 (made (Call.FsysGetOptions control) words_of) world.old result world.new }
+{
+    let call = Call::FsysGetOptions { control };
+    words_of(made(world, alloc, task, call)?)
+}
+
+/// Gives a server these words.
+pub(crate) fn set_options<S: Server>(
+    world: &mut World<S>,
+    alloc: Global,
+    task: TaskId,
+    control: u64,
+    words: Words,
+) -> Result<(), Stop>
+    ensures { Ran S.meaning task.0 (made (Call.FsysSetOptions control words) done_of) world.old result world.new }
+{
+    let call = Call::FsysSetOptions { control, words };
+    done_of(made(world, alloc, task, call)?)
+}
+
+/// Sets a translator without a server.
+pub(crate) fn set<S: Server>(
+    world: &mut World<S>,
+    alloc: Global,
+    task: TaskId,
+    port: u64,
+    setting: Setting,
+    words: Words,
+) -> Result<(), Stop>
+    ensures { Ran S.meaning task.0 (made (Call.FileSetTranslator port setting words None) set_of) world.old result world.new }
+{
+    let call = Call::FileSetTranslator {
+        port,
+        setting,
+        words,
+        server: None,
+    };
+    set_of(made(world, alloc, task, call)?)
+}
+
+/// Gives up what was to be started.
+pub(crate) fn start_failed<S: Server>(
+    world: &mut World<S>,
+    alloc: Global,
+    task: TaskId,
+) -> Result<(), NoMemory>
+    ensures { IfOk result (λ u. Ran S.meaning task.0 (made Call.StartFailed unread) world.old (Ok u) world.new) }
+{
+    let _reply = made(world, alloc, task, Call::StartFailed)?;
+    Ok(())
+}
+
+/// Whether an error is want of memory.
+fn is_no_memory(errno: Errno) -> bool
+    ensures { result ≡ is_no_memory errno }
+{
+    matches!(errno, Errno::ENOMEM)
+}
+
+/// Makes a call that brings a server, and drops a server that comes back; but for want of memory, where it is given back.
+pub(crate) fn offered<S: Server>(
+    world: &mut World<S>,
+    alloc: Global,
+    task: TaskId,
+    call: Call<S>,
+) -> Result<Result<(), Errno>, S>
+    requires begun { BringsBegun (call_by S.meaning call) }
+    requires brings { IsSome (box_in call) }
+    ensures ok { IfOk result (λ answer. Ran S.meaning task.0 (made (call_by S.meaning call) set_of) world.old (stopped answer) world.new) }
+    ensures err { IfErr result (λ server. (box_in call ≡ Some server) × (world_of S.meaning world.new ≡ world_of S.meaning world.old)) }
+{
+    match world.call(alloc, task, call) {
+        Reply::Done => Ok(Ok(())),
+        Reply::Refused(errno) => Ok(Err(errno)),
+        Reply::Back(errno, server) => {
+            if is_no_memory(errno) {
+                Err(server)
+            } else {
+                Ok(Err(errno))
+            }
+        }
+        Reply::Found(_)
+        | Reply::Port(_)
+        | Reply::Data(_)
+        | Reply::Count(_)
+        | Reply::Names(_)
+        | Reply::Stat(_)
+        | Reply::Words(_)
+        | Reply::Modes(_)
+        | Reply::Same(_) => Ok(Err(Errno::EIO)),
+    }
 }

@@ -1,18 +1,16 @@
-//! The commands.
-ghost use Rattle.std.specs.Prelude.{◌≡◌, ◌++◌, ◌∷◌, List, ℕ, IfOk, OnOk, filter};
-ghost use Rattle.hurd_script.specs.Actions.{action_of};
+//! What commands do with an open node.
+ghost use Rattle.std.specs.Prelude.{◌≡◌, ◌++◌, ◌∷◌, [], List, ℕ, IfOk, OnOk, filter};
+ghost use Rattle.hurd_machine.specs.declared.call.Call.TheVariants as Call;
 ghost use Rattle.hurd_shell.specs.Commands as written;
-ghost use Rattle.hurd_shell.specs.Progress.{Ran, work_of};
+ghost use Rattle.hurd_shell.specs.Programs.{done_of, made};
+ghost use Rattle.hurd_shell.specs.Progress.{Ran};
+ghost use Rattle.hurd_shell.specs.Stages.{node_work_of};
 
 use crate::calls;
-use crate::entries::{EntryWork, in_place, to_enter};
 use crate::fault::Stop;
-use crate::lines::stat_line;
-use crate::looking::open;
-use bitflags::Flags;
-use hurd_creds::{Bytes, Errno, Mode, OpenFlags, TaskId};
-use hurd_script::{Action, Command, Place};
-use hurd_trans_iface::Server;
+use crate::lines::{stat_line, words_line};
+use hurd_creds::{Bytes, Errno, Mode, TaskId};
+use hurd_trans_iface::{Server, Words};
 use hurd_world::World;
 use std::alloc::{AllocError, Global};
 
@@ -26,19 +24,22 @@ pub(crate) struct Printed {
     pub(crate) refusal: Option<Errno>,
 }
 
-/// What a command does with its open node.
+/// What a command does with its open node, where it stops for nothing.
 #[derive(Debug, Drop)]
-pub(crate) enum Work {
+pub(crate) enum NodeWork {
     Cat,
     Ls,
     Stat,
     Put(Bytes),
     Chmod(Mode),
     Chown(u32, u32),
-    /// The open file gets a name at this place.
-    Ln(Place),
-    /// An entry of the open directory, of this name, is moved to this place.
-    Mv(Bytes, Place),
+    Showtrans,
+    /// With no words the options are shown, else set.
+    Fsysopts(Words),
+    /// A directory of this name is made in the open one.
+    Mkdir(Bytes),
+    Rm(Bytes),
+    Rmdir(Bytes),
 }
 
 /// This output, and no refusal.
@@ -183,100 +184,142 @@ fn chown<S: Server>(
     Ok(prints(Vec::new(alloc)))
 }
 
-/// Does a command's work with its open node.
-fn work_on<S: Server>(
+/// `showtrans`: prints the words of the passive translator.
+fn showtrans<S: Server>(
     world: &mut World<S>,
     alloc: Global,
     task: TaskId,
     port: u64,
-    work: Work,
 ) -> Result<Printed, Stop>
-    ensures { Ran S.meaning task.0 (work_of work port) world.old result world.new }
+    ensures { Ran S.meaning task.0 (written.showtrans port) world.old result world.new }
 {
-    match work {
-        Work::Cat => cat(world, alloc, task, port),
-        Work::Ls => ls(world, alloc, task, port),
-        Work::Stat => stat(world, alloc, task, port),
-        Work::Put(text) => put(world, alloc, task, port, text),
-        Work::Chmod(mode) => chmod(world, alloc, task, port, mode),
-        Work::Chown(owner, group) => chown(world, alloc, task, port, owner, group),
-        Work::Ln(new) => in_place(world, alloc, task, new, EntryWork::Ln(port)),
-        Work::Mv(name, new) => in_place(world, alloc, task, new, EntryWork::Mv(port, name)),
-    }
+    let words = calls::passive(world, alloc, task, port)?;
+    Ok(prints(words_line(alloc, words.as_slice())?))
 }
 
-/// Opens a node, does a command's work with it, and gives it up.
-fn with_open<S: Server>(
+/// Prints the options of a server.
+fn show_options<S: Server>(
     world: &mut World<S>,
     alloc: Global,
     task: TaskId,
-    path: Bytes,
-    flags: OpenFlags,
-    work: Work,
+    control: u64,
 ) -> Result<Printed, Stop>
-    ensures { Ran S.meaning task.0 (written.with_open path flags (work_of work)) world.old result world.new }
+    ensures { Ran S.meaning task.0 (written.options [] control) world.old result world.new }
 {
-    let port = open(world, alloc, task, path, flags)?;
-    let done = work_on(world, alloc, task, port, work);
-    calls::deallocate(world, alloc, task, port)?;
+    let words = calls::options(world, alloc, task, control)?;
+    Ok(prints(words_line(alloc, words.as_slice())?))
+}
+
+/// Gives a server options, and prints nothing.
+fn set_options<S: Server>(
+    world: &mut World<S>,
+    alloc: Global,
+    task: TaskId,
+    control: u64,
+    words: Words,
+) -> Result<Printed, Stop>
+    ensures { Ran S.meaning task.0 (written.silent (made (Call.FsysSetOptions control words) done_of)) world.old result world.new }
+{
+    calls::set_options(world, alloc, task, control, words)?;
+    Ok(prints(Vec::new(alloc)))
+}
+
+/// Shows the options of a server, or gives it these.
+fn options<S: Server>(
+    world: &mut World<S>,
+    alloc: Global,
+    task: TaskId,
+    control: u64,
+    words: Words,
+) -> Result<Printed, Stop>
+    ensures { Ran S.meaning task.0 (written.options words control) world.old result world.new }
+{
+    if words.has_any() {
+        set_options(world, alloc, task, control, words)
+    } else {
+        show_options(world, alloc, task, control)
+    }
+}
+
+/// `fsysopts`: shows the options of a node's server, or gives it these.
+fn fsysopts<S: Server>(
+    world: &mut World<S>,
+    alloc: Global,
+    task: TaskId,
+    port: u64,
+    words: Words,
+) -> Result<Printed, Stop>
+    ensures { Ran S.meaning task.0 (written.fsysopts words port) world.old result world.new }
+{
+    let control = calls::control(world, alloc, task, port)?;
+    let done = options(world, alloc, task, control, words);
+    calls::deallocate(world, alloc, task, control)?;
     done
 }
 
-/// The flags of a directory's opening.
-fn to_list() -> OpenFlags
-    ensures { result ≡ written.to_list }
-{
-    OpenFlags::READ.union(OpenFlags::DIRECTORY)
-}
-
-/// The flags of the opening of a file that is written, and made where it isn't there.
-fn to_write() -> OpenFlags
-    ensures { result ≡ written.to_write }
-{
-    OpenFlags::WRITE.union(OpenFlags::CREATE)
-}
-
-/// The flags of the opening of a node that is changed itself.
-fn to_change() -> OpenFlags
-    ensures { result ≡ written.to_change }
-{
-    OpenFlags::NOTRANS.union(OpenFlags::NOLINK)
-}
-
-/// Makes a command.
-pub(crate) fn run<S: Server>(
+/// `mkdir`: makes a directory in an open one.
+fn mkdir<S: Server>(
     world: &mut World<S>,
     alloc: Global,
-    command: &Command,
+    task: TaskId,
+    dir: u64,
+    name: Bytes,
 ) -> Result<Printed, Stop>
-    ensures { Ran S.meaning command.now.task (written.program_of (action_of command.now)) world.old result world.new }
+    ensures { Ran S.meaning task.0 (written.mkdir dir name) world.old result world.new }
 {
-    let task = command.task();
-    match command.action(alloc)? {
-        Action::Cat { node } => with_open(world, alloc, task, node, OpenFlags::READ, Work::Cat),
-        Action::Ls { node } => with_open(world, alloc, task, node, to_list(), Work::Ls),
-        Action::Stat { node } => with_open(world, alloc, task, node, OpenFlags::NOLINK, Work::Stat),
-        Action::Put { node, text } => {
-            with_open(world, alloc, task, node, to_write(), Work::Put(text))
-        }
-        Action::Mkdir { place } => in_place(world, alloc, task, place, EntryWork::Mkdir),
-        Action::Rm { place } => in_place(world, alloc, task, place, EntryWork::Rm),
-        Action::Rmdir { place } => in_place(world, alloc, task, place, EntryWork::Rmdir),
-        Action::Ln { file, new } => {
-            with_open(world, alloc, task, file, to_change(), Work::Ln(new))
-        }
-        Action::Mv { old, new } => {
-            let Place { directory, name } = old;
-            let work = Work::Mv(name, new);
-            with_open(world, alloc, task, directory, to_enter(), work)
-        }
-        Action::Chmod { mode, node } => {
-            with_open(world, alloc, task, node, to_change(), Work::Chmod(mode))
-        }
-        Action::Chown { owner, group, node } => {
-            let work = Work::Chown(owner, group);
-            with_open(world, alloc, task, node, to_change(), work)
-        }
-        Action::Usage => Ok(prints(Vec::from_slice(alloc, b"usage\n")?)),
+    calls::mkdir(world, alloc, task, dir, name)?;
+    Ok(prints(Vec::new(alloc)))
+}
+
+/// `rm`: takes the name of a file away.
+fn rm<S: Server>(
+    world: &mut World<S>,
+    alloc: Global,
+    task: TaskId,
+    dir: u64,
+    name: Bytes,
+) -> Result<Printed, Stop>
+    ensures { Ran S.meaning task.0 (written.rm dir name) world.old result world.new }
+{
+    calls::unlink(world, alloc, task, dir, name)?;
+    Ok(prints(Vec::new(alloc)))
+}
+
+/// `rmdir`: removes a directory.
+fn rmdir<S: Server>(
+    world: &mut World<S>,
+    alloc: Global,
+    task: TaskId,
+    dir: u64,
+    name: Bytes,
+) -> Result<Printed, Stop>
+    ensures { Ran S.meaning task.0 (written.rmdir dir name) world.old result world.new }
+{
+    calls::rmdir(world, alloc, task, dir, name)?;
+    Ok(prints(Vec::new(alloc)))
+}
+
+/// Does a command's work with its open node.
+pub(crate) fn work_on<S: Server>(
+    world: &mut World<S>,
+    alloc: Global,
+    task: TaskId,
+    port: u64,
+    work: NodeWork,
+) -> Result<Printed, Stop>
+    ensures { Ran S.meaning task.0 (node_work_of work port) world.old result world.new }
+{
+    match work {
+        NodeWork::Cat => cat(world, alloc, task, port),
+        NodeWork::Ls => ls(world, alloc, task, port),
+        NodeWork::Stat => stat(world, alloc, task, port),
+        NodeWork::Put(text) => put(world, alloc, task, port, text),
+        NodeWork::Chmod(mode) => chmod(world, alloc, task, port, mode),
+        NodeWork::Chown(owner, group) => chown(world, alloc, task, port, owner, group),
+        NodeWork::Showtrans => showtrans(world, alloc, task, port),
+        NodeWork::Fsysopts(words) => fsysopts(world, alloc, task, port, words),
+        NodeWork::Mkdir(name) => mkdir(world, alloc, task, port, name),
+        NodeWork::Rm(name) => rm(world, alloc, task, port, name),
+        NodeWork::Rmdir(name) => rmdir(world, alloc, task, port, name),
     }
 }

@@ -1,85 +1,54 @@
-//! What commands do with the entries of directories.
-ghost use Rattle.std.specs.Prelude.{◌≡◌};
-ghost use Rattle.hurd_shell.specs.Commands as written;
-ghost use Rattle.hurd_shell.specs.Progress.{Ran, change_of, entry_work_of};
+//! What commands do with an entry of a second directory.
+ghost use Rattle.hurd_shell.specs.Progress.{Ran};
+ghost use Rattle.hurd_shell.specs.Stages.{entry_change_of, entry_work_of};
 
 use crate::calls;
 use crate::commands::{Printed, prints};
 use crate::fault::Stop;
-use crate::looking::open;
-use hurd_creds::{Bytes, OpenFlags, TaskId};
-use hurd_script::Place;
+use hurd_creds::{Bytes, TaskId};
 use hurd_trans_iface::Server;
 use hurd_world::World;
 use std::alloc::Global;
 
-/// What a command does at a name of its open directory.
+/// What a command does at a name of a second directory, while it holds an open node.
 #[derive(Debug, Drop)]
 pub(crate) enum EntryWork {
-    Mkdir,
-    Rm,
-    Rmdir,
-    /// The file of this port gets the name.
-    Ln(u64),
-    /// An entry comes here from the directory of this port, where it has this name.
-    Mv(u64, Bytes),
+    /// The open file gets the name.
+    Ln,
+    /// The entry of this name comes here from the open directory.
+    Mv(Bytes),
 }
 
-/// The flags of the opening of a directory whose entries are changed.
-pub(crate) fn to_enter() -> OpenFlags
-    ensures { result ≡ written.to_enter }
-{
-    OpenFlags::DIRECTORY
-}
-
-/// Makes a change at a name of an open directory.
+/// Makes a change at a name of an open directory, while a node is held.
 fn change<S: Server>(
     world: &mut World<S>,
     alloc: Global,
     task: TaskId,
+    held: u64,
     dir: u64,
     name: Bytes,
     work: EntryWork,
 ) -> Result<(), Stop>
-    ensures { Ran S.meaning task.0 (change_of work dir name) world.old result world.new }
+    ensures { Ran S.meaning task.0 (entry_change_of work held dir name) world.old result world.new }
 {
     match work {
-        EntryWork::Mkdir => calls::mkdir(world, alloc, task, dir, name),
-        EntryWork::Rm => calls::unlink(world, alloc, task, dir, name),
-        EntryWork::Rmdir => calls::rmdir(world, alloc, task, dir, name),
-        EntryWork::Ln(file) => calls::link(world, alloc, task, dir, name, file),
-        EntryWork::Mv(from, old) => calls::rename(world, alloc, task, from, old, dir, name),
+        EntryWork::Ln => calls::link(world, alloc, task, dir, name, held),
+        EntryWork::Mv(old) => calls::rename(world, alloc, task, held, old, dir, name),
     }
 }
 
-/// Makes a change at a name of an open directory, and prints nothing.
-fn work_at<S: Server>(
+/// Makes a change at a name of an open directory, while a node is held, and prints nothing.
+pub(crate) fn work_at<S: Server>(
     world: &mut World<S>,
     alloc: Global,
     task: TaskId,
+    held: u64,
     dir: u64,
     name: Bytes,
     work: EntryWork,
 ) -> Result<Printed, Stop>
-    ensures { Ran S.meaning task.0 (entry_work_of work dir name) world.old result world.new }
+    ensures { Ran S.meaning task.0 (entry_work_of work held dir name) world.old result world.new }
 {
-    change(world, alloc, task, dir, name, work)?;
+    change(world, alloc, task, held, dir, name, work)?;
     Ok(prints(Vec::new(alloc)))
-}
-
-/// Opens the directory of a place, does a command's work at the name in it, and gives the directory up.
-pub(crate) fn in_place<S: Server>(
-    world: &mut World<S>,
-    alloc: Global,
-    task: TaskId,
-    place: Place,
-    work: EntryWork,
-) -> Result<Printed, Stop>
-    ensures { Ran S.meaning task.0 (written.in_place place (entry_work_of work)) world.old result world.new }
-{
-    let Place { directory, name } = place;
-    let dir = open(world, alloc, task, directory, to_enter())?;
-    let done = work_at(world, alloc, task, dir, name, work);
-    calls::deallocate(world, alloc, task, dir)?;
-    done
 }

@@ -57,6 +57,25 @@ pub enum SessionFault {
     Memory,
 }
 
+impl From<AllocError> for SessionFault {
+    ghost use Rattle.std.specs.Prelude.{◌≡◌};
+    ghost use Rattle.hurd_shell.specs.declared.fault.SessionFault.TheVariants.{Memory};
+
+    ghost from_gives = { λ _ e. e ≡ Memory };
+
+    fn from(_error: AllocError) -> SessionFault {
+        SessionFault::Memory
+    }
+}
+
+/// Why a session took no answer.
+#[derive(Clone, Copy, Debug, PartialEq, Eq)]
+pub enum SupplyFault {
+    /// No server is asked for.
+    NotWanted,
+    Memory,
+}
+
 impl From<SessionFault> for Fault {
     ghost use Rattle.std.specs.Prelude.{◌≡◌};
     ghost use Rattle.hurd_shell.specs.Faults.{fault_of};

@@ -1,9 +1,9 @@
-//! The line that `ls -d` prints.
-ghost use Rattle.std.specs.Prelude.{◌≡◌, ◌++◌, IfOk, OnOk};
-ghost use Rattle.hurd_shell.specs.Lines.{kind_letter, octal_digit, six_octal_digits, spaced, stat_line};
+//! The lines that `ls -d`, `showtrans` and `fsysopts` print.
+ghost use Rattle.std.specs.Prelude.{◌≡◌, ◌++◌, ◌∷◌, List, ℕ, IfOk, OnOk};
+ghost use Rattle.hurd_shell.specs.Lines.{kind_letter, octal_digit, six_octal_digits, spaced, spaced_words, spelled, spelled_byte, stat_line, words_line};
 
 use bitflags::Flags;
-use hurd_creds::{Kind, Mode, Stat};
+use hurd_creds::{Bytes, Kind, Mode, Stat};
 use itoa::Buffer;
 use std::alloc::{AllocError, Global};
 
@@ -65,6 +65,53 @@ pub(crate) fn stat_line(alloc: Global, stat: &Stat) -> Result<Vec<u8>, AllocErro
     push_number(&mut line, u64::from(stat.owner))?;
     push_number(&mut line, u64::from(stat.group))?;
     push_number(&mut line, stat.size)?;
+    line.push(b'\n')?;
+    Ok(line)
+}
+
+/// Prints a byte as it is written in a script.
+fn push_byte(line: &mut Vec<u8>, byte: u8) -> Result<(), AllocError>
+    ensures { OnOk result (line.new.items ≡ line.old.items ++ spelled_byte byte) }
+{
+    match byte {
+        b' ' => line.extend_from_slice(b"\\s")?,
+        b'\n' => line.extend_from_slice(b"\\n")?,
+        b'\\' => line.extend_from_slice(b"\\\\")?,
+        plain => line.push(plain)?,
+    }
+    Ok(())
+}
+
+/// Prints a word as it is written in a script.
+fn push_word(line: &mut Vec<u8>, word: &[u8]) -> Result<(), AllocError>
+    ensures { OnOk result (line.new.items ≡ line.old.items ++ spelled word.now) }
+{
+    for byte in word {
+        push_byte(line, *byte)?;
+    }
+    Ok(())
+}
+
+/// Prints words, each behind a space.
+fn push_words(line: &mut Vec<u8>, words: &[Bytes]) -> Result<(), AllocError>
+    ensures { OnOk result (line.new.items ≡ line.old.items ++ spaced_words words.now) }
+{
+    for word in words {
+        line.push(b' ')?;
+        push_word(line, word.as_slice())?;
+    }
+    Ok(())
+}
+
+/// Words on a line, with a space between them.
+pub(crate) fn words_line(alloc: Global, words: &[Bytes]) -> Result<Vec<u8>, AllocError>
+    ensures { IfOk result (λ line. line.items ≡ words_line words.now) }
+{
+    let mut line = Vec::new(alloc);
+    if let Some((first, rest)) = words.split_first() {
+        push_word(&mut line, first.as_slice())?;
+        push_words(&mut line, rest)?;
+    }
     line.push(b'\n')?;
     Ok(line)
 }

@@ -1,15 +1,16 @@
-//! Opening what a path leads to: a lookup, and the retries that it is answered.
+//! Opening what a path leads to: a lookup, the retries that it is answered, and the translators that are started on the way.
 ghost use Rattle.std.specs.Prelude.{◌≡◌, ◌++◌, ◌∷◌, [], ℕ, suc, Result, Ok, Err, IfOk, OnOk};
 ghost use Rattle.hurd_creds.specs.declared.errno.Errno.{Errno};
 ghost use Rattle.hurd_world.specs.Held.{world_of};
 ghost use Rattle.hurd_shell.specs.Programs.{gives};
 ghost use Rattle.hurd_shell.specs.Looking as written;
-ghost use Rattle.hurd_shell.specs.Progress.{Leads, Ran, Went, opening, opening_on, releasing};
+ghost use Rattle.hurd_shell.specs.Progress.{Arrived, Leads, Went, found_on, opening, opening_on, releasing};
+ghost use Rattle.hurd_shell.specs.Stages.{opening_behind, reached_on};
 
 use crate::calls;
 use crate::fault::{NoMemory, Stop};
 use hurd_creds::{Bytes, Errno, OpenFlags, TaskId};
-use hurd_trans_iface::Server;
+use hurd_trans_iface::{Server, Words};
 use hurd_world::World;
 use std::alloc::{AllocError, Global};
 
@@ -19,7 +20,7 @@ const ROOT_PORT: u64 = 1;
 /// The port of a task's working directory.
 const DIRECTORY_PORT: u64 = 2;
 
-/// How many retries one opening follows.
+/// How many retries and starts one opening follows.
 const MOST_RETRIES: u32 = 32;
 
 /// Where a lookup goes on.
@@ -39,6 +40,8 @@ pub(crate) enum Looked {
     /// The node's port.
     Opened(u64),
     Retried(Retry),
+    /// A translator of these words is to be started.
+    Started(Words),
 }
 
 /// A name that is opened at a port.
@@ -55,6 +58,39 @@ pub(crate) enum Outcome {
     Opened(u64),
     /// Another turn, for this target.
     Onward(Target),
+    /// A translator of these words is to be started, and then there is another turn for this target.
+    Starts { words: Words, target: Target },
+}
+
+/// What turns come to.
+#[derive(Debug, Drop)]
+pub(crate) enum Found {
+    /// The node's port.
+    Opened(u64),
+    /// A translator of these words is to be started; then there are so many turns left, and this is the target.
+    Starts {
+        words: Words,
+        left: u32,
+        target: Target,
+    },
+}
+
+/// An opening on its way: what is looked up, how many retries and starts are still followed, and the ports that were got.
+#[derive(Debug, Drop)]
+pub(crate) struct Opening {
+    flags: OpenFlags,
+    left: u32,
+    target: Target,
+    held: Vec<u64>,
+}
+
+/// What an opening comes to.
+#[derive(Debug, Drop)]
+pub(crate) enum Reached {
+    /// The node's port.
+    Opened(u64),
+    /// A server of these words is to be started, and then it goes on.
+    Waits { words: Words, opening: Opening },
 }
 
 /// The port that a path starts at.
@@ -171,16 +207,21 @@ fn take_turn<S: Server>(
         (opening_on (written.look left flags)) held.new.items result world.new }
 {
     let Target { dir, name } = target;
-    match calls::look_up(world, alloc, task, dir, name, flags)? {
+    let path = Bytes::copied(alloc, name.as_slice())?;
+    match calls::look_up(world, alloc, task, dir, path, flags)? {
         Looked::Opened(port) => Ok(Outcome::Opened(port)),
         Looked::Retried(retry) => {
             let target = follow(world, alloc, task, retry, held)?;
             Ok(Outcome::Onward(target))
         }
+        Looked::Started(words) => Ok(Outcome::Starts {
+            words,
+            target: Target { dir, name },
+        }),
     }
 }
 
-/// The last turn: looks a target up, and follows no retry.
+/// The last turn: looks a target up, follows no retry, and starts nothing.
 fn take_last_turn<S: Server>(
     world: &mut World<S>,
     alloc: Global,
@@ -199,49 +240,123 @@ fn take_last_turn<S: Server>(
             hold_last(retry, held)?;
             Err(Stop::Refused(Errno::ELOOP))
         }
+        Looked::Started(_) => Err(Stop::Refused(Errno::ELOOP)),
     }
 }
 
-/// Opens a target, and holds the ports that are got on the way.
+/// Opens a target, up to a translator that is to be started, and holds the ports that are got on the way.
 fn look<S: Server>(
     world: &mut World<S>,
     alloc: Global,
     task: TaskId,
     flags: OpenFlags,
+    left: u32,
     target: Target,
     held: &mut Vec<u64>,
-) -> Result<u64, Stop>
-    ensures { Went S.meaning task.0 held.old.items (opening (written.look written.most_retries flags) target) world.old
-        (λ port. gives (Ok port)) held.new.items result world.new }
+) -> Result<Found, Stop>
+    ensures { Went S.meaning task.0 held.old.items (opening (written.look left flags) target) world.old
+        (found_on flags) held.new.items result world.new }
 {
     let mut target = target;
-    let mut left = MOST_RETRIES;
+    let mut left = left;
     while left > 0 {
         left -= 1;
         match take_turn(world, alloc, task, flags, target, held)? {
-            Outcome::Opened(port) => return Ok(port),
+            Outcome::Opened(port) => return Ok(Found::Opened(port)),
             Outcome::Onward(next) => target = next,
+            Outcome::Starts { words, target } => {
+                return Ok(Found::Starts {
+                    words,
+                    left,
+                    target,
+                });
+            }
         }
     }
-    take_last_turn(world, alloc, task, flags, target, held)
+    let port = take_last_turn(world, alloc, task, flags, target, held)?;
+    Ok(Found::Opened(port))
 }
 
-/// Opens what a path leads to, and gives up the ports that were got on the way.
+/// Goes on with an opening, up to the node or to a translator that is to be started. At the end, and at a refusal, the ports
+/// that were got on the way are given up.
+pub(crate) fn go_on<S: Server>(
+    world: &mut World<S>,
+    alloc: Global,
+    task: TaskId,
+    opening: Opening,
+) -> Result<Reached, Stop>
+    ensures { Arrived S.meaning task.0 (opening_behind opening (gives (Ok tt))) world.old reached_on result world.new }
+{
+    let Opening {
+        flags,
+        left,
+        target,
+        mut held,
+    } = opening;
+    match look(world, alloc, task, flags, left, target, &mut held) {
+        Ok(Found::Opened(port)) => {
+            give_up(world, alloc, task, held)?;
+            Ok(Reached::Opened(port))
+        }
+        Ok(
+            Found::Starts {
+                words,
+                left,
+                target,
+            },
+        ) => {
+            let opening = Opening {
+                flags,
+                left,
+                target,
+                held,
+            };
+            Ok(Reached::Waits { words, opening })
+        }
+        Err(stop) => {
+            give_up(world, alloc, task, held)?;
+            Err(stop)
+        }
+    }
+}
+
+/// Goes on with an opening whose server was asked for, or gives up its ports where that was refused.
+pub(crate) fn go_on_with<S: Server>(
+    world: &mut World<S>,
+    alloc: Global,
+    task: TaskId,
+    opening: Opening,
+    answer: Result<(), Errno>,
+) -> Result<Reached, Stop>
+    ensures { Arrived S.meaning task.0 (opening_behind opening (gives answer)) world.old reached_on result world.new }
+{
+    match answer {
+        Ok(()) => go_on(world, alloc, task, opening),
+        Err(errno) => {
+            give_up(world, alloc, task, opening.held)?;
+            Err(Stop::Refused(errno))
+        }
+    }
+}
+
+/// Opens what a path leads to, up to the node or to a translator that is to be started.
 pub(crate) fn open<S: Server>(
     world: &mut World<S>,
     alloc: Global,
     task: TaskId,
     path: Bytes,
     flags: OpenFlags,
-) -> Result<u64, Stop>
-    ensures { Ran S.meaning task.0 (written.open_node path flags) world.old result world.new }
+) -> Result<Reached, Stop>
+    ensures { Arrived S.meaning task.0 (written.open_node path flags) world.old reached_on result world.new }
 {
-    let target = Target {
-        dir: start_of(path.as_slice()),
-        name: path,
+    let opening = Opening {
+        flags,
+        left: MOST_RETRIES,
+        target: Target {
+            dir: start_of(path.as_slice()),
+            name: path,
+        },
+        held: Vec::new(alloc),
     };
-    let mut held = Vec::new(alloc);
-    let end = look(world, alloc, task, flags, target, &mut held);
-    give_up(world, alloc, task, held)?;
-    end
+    go_on(world, alloc, task, opening)
 }

@@ -1,49 +1,106 @@
 //! A session.
-ghost use Rattle.std.specs.Prelude.{◌≡◌, true, false, None, IfOk, IfErr, Ok, Err};
+ghost use Rattle.std.specs.Prelude.{◌≡◌, true, false, None, Some, IfOk, IfErr, OnOk, Ok, Err, if◌then◌else◌};
 ghost use Rattle.hurd_trans_iface.specs.Meaning.{Begins};
 ghost use Rattle.hurd_machine.specs.World as machine;
-ghost use Rattle.hurd_script.specs.Script.{bad, users_of, commands_of};
-ghost use Rattle.hurd_world.specs.Boot.{boot_of, first_world};
-ghost use Rattle.hurd_shell.specs.Session.{Follows, Tells, BeginFault, NewFault};
+ghost use Rattle.hurd_machine.specs.Sound.{Sound};
+ghost use Rattle.hurd_script.specs.Script.{bad, users_of};
+ghost use Rattle.hurd_world.specs.Boot.{boot_of};
+ghost use Rattle.hurd_world.specs.Held.{world_of};
+ghost use Rattle.hurd_shell.specs.Session.{Begun, BegunWith, waits_for, BeginFault, HangsTogether, NewFault, NotTaken, Takes, Tells, command_on, has_failed};
+ghost use Rattle.hurd_shell.specs.Transcript.{Dialogue, part_of, played, tells};
+ghost use Rattle.hurd_shell.specs.Turns.{Stands, turn_on};
 
-use crate::fault::{NoMemory, SessionFault};
-use crate::transcript::part_of;
+use crate::answers::{bring, go_without};
+use crate::fault::{NoMemory, SessionFault, SupplyFault};
+use crate::phase::Phase;
+use crate::stages::{begin, resume};
+use crate::transcript::{Turn, told};
 use hurd_creds::{Bytes, Errno};
 use hurd_script::{Command, Script, ScriptFault, parse_script};
-use hurd_trans_iface::Server;
+use hurd_trans_iface::{Server, Words};
 use hurd_world::World;
-use std::alloc::Global;
+use std::alloc::{AllocError, Global};
 use std::marker::Model;
+use std::mem::replace;
 
 /// What a session gives its caller.
 #[derive(Debug, Drop)]
 pub enum Want {
     /// One command's part of the transcript.
     Output(Bytes),
+    /// A server of these words is to be supplied, or none.
+    Server(Words),
     /// All parts were given.
     Done,
 }
 
 /// A script on its way through a world of its own.
+///
+/// A command may stop for a server that its caller makes: `next` answers `Want::Server` until `supply` or `supply_none` answers it.
 #[derive(Drop)]
 pub struct Session<S = Box<dyn Server>> {
     world: World<S>,
     commands: Vec<Command>,
     given: usize,
-    failed: bool,
+    phase: Phase,
 }
 
 impl<S> Model for Session<S> {
-    ghost use Rattle.std.specs.Prelude.{◌≤◌, length};
     ghost use Rattle.hurd_shell.specs.Session.{View, coded_view};
 
     ghost Value = { View S };
 
     ghost coded = { coded_view S.code };
 
-    ghost view = { λ s. record { world = s.world; commands = s.commands.items; given = s.given; failed = s.failed } };
+    ghost view = { λ s. record { world = s.world; commands = s.commands.items; given = s.given; phase = s.phase } };
+}
 
-    ghost invariant = { λ s. s.given ≤ length s.commands.items };
+/// Goes on with a command, up to its end or to a server that it waits for. An error is want of memory.
+fn take_turn<S: Server>(
+    world: &mut World<S>,
+    alloc: Global,
+    command: &Command,
+    phase: Phase,
+) -> Result<Turn, AllocError>
+    ensures ok { IfOk result (λ turn. (next : machine.World → Dialogue)
+        → played command.now.task (command_on phase command.now) (world_of S.meaning world.old) (λ r y. tells (part_of command.now r) (next y))
+        ≡ turn_on command.now next turn (world_of S.meaning world.new)) }
+    ensures sound { Sound (world_of S.meaning world.old) → OnOk result (Sound (world_of S.meaning world.new)) }
+{
+    match phase {
+        Phase::Between => told(alloc, command, begin(world, alloc, command)),
+        Phase::Waiting(waiting) => Ok(Turn::Waits(waiting)),
+        Phase::Answered(stage, answer) => {
+            let progress = resume(world, alloc, command.task(), stage, answer);
+            told(alloc, command, progress)
+        }
+        Phase::Failed => Err(AllocError),
+    }
+}
+
+/// What the caller is given after a turn, how many commands are made then, and how far the next one is. An error is want of memory.
+fn stand(
+    alloc: Global,
+    turn: Turn,
+    made: usize,
+    given: &mut usize,
+    phase: &mut Phase,
+) -> Result<Want, AllocError>
+    ensures ok { IfOk result (λ want. Stands turn made given.old want given.new phase.new) }
+    ensures err { IfErr result (λ e. phase.new ≡ phase.old) }
+{
+    match turn {
+        Turn::Told(part) => {
+            *given = made;
+            *phase = Phase::Between;
+            Ok(Want::Output(part))
+        }
+        Turn::Waits(waiting) => {
+            let words = waiting.words.copied(alloc)?;
+            *phase = Phase::Waiting(waiting);
+            Ok(Want::Server(words))
+        }
+    }
 }
 
 impl<S: Server> Session<S> {
@@ -54,8 +111,7 @@ impl<S: Server> Session<S> {
     pub fn new(alloc: Global, script: &[u8], root: S) -> Result<Session<S>, SessionFault>
         requires { Begins (S.meaning root) }
         ensures ok { IfOk result (λ s. (bad script.now ≡ None) × (boot_of (S.meaning root) (users_of script.now) ≡ Ok tt)
-            × Follows S.meaning (first_world (S.meaning root) (users_of script.now)) s
-            × (s.commands ≡ commands_of script.now) × (s.given ≡ 0) × (s.failed ≡ false)) }
+            × Begun S.meaning (S.meaning root) script.now s) }
         ensures err { IfErr result (λ e. NewFault (S.meaning root) script.now e) }
     {
         match parse_script(alloc, script) {
@@ -71,8 +127,7 @@ impl<S: Server> Session<S> {
     fn begin(alloc: Global, script: Script, root: S) -> Result<Session<S>, SessionFault>
         requires { Begins (S.meaning root) }
         ensures ok { IfOk result (λ s. (boot_of (S.meaning root) script.users.items ≡ Ok tt)
-            × Follows S.meaning (first_world (S.meaning root) script.users.items) s
-            × (s.commands ≡ script.commands.items) × (s.given ≡ 0) × (s.failed ≡ false)) }
+            × BegunWith S.meaning (S.meaning root) script.users.items script.commands.items s) }
         ensures err { IfErr result (λ e. BeginFault (S.meaning root) script.users.items e) }
     {
         let Script { users, commands } = script;
@@ -81,38 +136,111 @@ impl<S: Server> Session<S> {
                 world,
                 commands,
                 given: 0,
-                failed: false,
+                phase: Phase::Between,
             }),
             Err((Errno::ENOMEM, _)) => Err(SessionFault::Memory),
             Err((errno, _)) => Err(SessionFault::Boot(errno)),
         }
     }
 
-    /// The next command's part of the transcript, or `Done`, for good, after the last.
+    /// Whether memory was refused.
+    fn has_failed(&self) -> bool
+        ensures { result ≡ has_failed self.now }
+    {
+        matches!(self.phase, Phase::Failed)
+    }
+
+    /// The next command's part of the transcript, `Server` with the words of a server that it waits for, until that is supplied
+    /// or refused, or `Done`, for good, after the last.
     ///
     /// `Memory`, from then on at every call, where memory was refused.
     pub fn next(&mut self, alloc: Global) -> Result<Want, SessionFault>
-        ensures tells { (first : machine.World) → Follows S.meaning first self.old
-            → Tells first self.old result self.new × Follows S.meaning first self.new }
-        ensures same { self.new.commands ≡ self.old.commands }
-        ensures stays { self.old.failed ≡ true → (result ≡ Err SessionFault.Memory) × (self.new ≡ self.old) }
+        ensures tells { has_failed self.old ≡ false → Tells S.meaning self.old result self.new }
+        ensures sound { HangsTogether S.meaning self.old → HangsTogether S.meaning self.new }
+        ensures stays { has_failed self.old ≡ true → (result ≡ Err SessionFault.Memory) × (self.new ≡ self.old) }
     {
-        if self.failed {
+        if self.has_failed() {
             return Err(SessionFault::Memory);
         }
         if self.given >= self.commands.len() {
             return Ok(Want::Done);
         }
+        let phase = replace(&mut self.phase, Phase::Failed);
         let command = &self.commands[self.given];
-        match part_of(&mut self.world, alloc, command) {
-            Ok(part) => {
-                self.given += 1;
-                Ok(Want::Output(part))
+        let turn = take_turn(&mut self.world, alloc, command, phase)?;
+        let made = self.given + 1;
+        Ok(stand(alloc, turn, made, &mut self.given, &mut self.phase)?)
+    }
+
+    /// Whether a server is waited for.
+    fn waits(&self) -> bool
+        ensures { result ≡ waits_for self.now }
+    {
+        matches!(self.phase, Phase::Waiting(_)) && self.given < self.commands.len()
+    }
+
+    /// Why no answer is taken where none is waited for.
+    fn not_taken(&self) -> SupplyFault
+        ensures { result ≡ (if has_failed self.now then SupplyFault.Memory else SupplyFault.NotWanted) }
+    {
+        if self.has_failed() {
+            SupplyFault::Memory
+        } else {
+            SupplyFault::NotWanted
+        }
+    }
+
+    /// Supplies the server that `next` asked for. The call that takes it is made at once; where that drops it or sends it back,
+    /// `next` goes on with the refusal.
+    ///
+    /// Errors, with the server: `NotWanted` where none is asked for, and then nothing is changed; `Memory`, from then on at every
+    /// call, where memory was refused.
+    pub fn supply(&mut self, alloc: Global, server: S) -> Result<(), (SupplyFault, S)>
+        requires { Begins (S.meaning server) }
+        ensures ok { OnOk result (Takes S.meaning self.old (Some (S.meaning server)) self.new) }
+        ensures err { IfErr result (λ e. NotTaken self.old e.0 self.new × (e.1 ≡ server)) }
+        ensures sound { HangsTogether S.meaning self.old → HangsTogether S.meaning self.new }
+        ensures stays { has_failed self.old ≡ true → (result ≡ Err (SupplyFault.Memory, server)) × (self.new ≡ self.old) }
+    {
+        if !self.waits() {
+            return Err((self.not_taken(), server));
+        }
+        let task = self.commands[self.given].task();
+        let Phase::Waiting(waiting) = replace(&mut self.phase, Phase::Failed) else {
+            return Err((SupplyFault::Memory, server));
+        };
+        match bring(&mut self.world, alloc, task, waiting, server) {
+            Ok((stage, answer)) => {
+                self.phase = Phase::Answered(stage, answer);
+                Ok(())
             }
-            Err(NoMemory) => {
-                self.failed = true;
-                Err(SessionFault::Memory)
+            Err(server) => Err((SupplyFault::Memory, server)),
+        }
+    }
+
+    /// Says that there is no server of the words that `next` asked for.
+    ///
+    /// Errors: `NotWanted` where none is asked for, and then nothing is changed; `Memory`, from then on at every call, where memory
+    /// was refused.
+    pub fn supply_none(&mut self, alloc: Global) -> Result<(), SupplyFault>
+        ensures ok { OnOk result (Takes S.meaning self.old None self.new) }
+        ensures err { IfErr result (λ e. NotTaken self.old e self.new) }
+        ensures sound { HangsTogether S.meaning self.old → HangsTogether S.meaning self.new }
+        ensures stays { has_failed self.old ≡ true → (result ≡ Err SupplyFault.Memory) × (self.new ≡ self.old) }
+    {
+        if !self.waits() {
+            return Err(self.not_taken());
+        }
+        let task = self.commands[self.given].task();
+        let Phase::Waiting(waiting) = replace(&mut self.phase, Phase::Failed) else {
+            return Err(SupplyFault::Memory);
+        };
+        match go_without(&mut self.world, alloc, task, waiting) {
+            Ok((stage, answer)) => {
+                self.phase = Phase::Answered(stage, answer);
+                Ok(())
             }
+            Err(NoMemory) => Err(SupplyFault::Memory),
         }
     }
 }

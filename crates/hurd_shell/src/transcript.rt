@@ -1,16 +1,22 @@
 //! What a transcript says of a command.
-ghost use Rattle.std.specs.Prelude.{◌≡◌, ◌++◌, ◌∷◌, [], IfOk, OnOk, if◌then◌else◌};
-ghost use Rattle.hurd_world.specs.Held.{world_of};
+ghost use Rattle.std.specs.Prelude.{◌≡◌, ◌++◌, ◌∷◌, [], IfOk, OnOk, Some, if◌then◌else◌};
 ghost use Rattle.hurd_shell.specs.Transcript.{ended_lines, refusal_line};
-ghost use Rattle.hurd_shell.specs.Progress.{Told};
+ghost use Rattle.hurd_shell.specs.Turns.{turn_of};
 
-use crate::commands::run;
-use crate::fault::{NoMemory, Stop};
+use crate::fault::Stop;
+use crate::stages::{Progress, Waiting};
 use hurd_creds::{Bytes, Errno};
 use hurd_script::Command;
-use hurd_trans_iface::Server;
-use hurd_world::World;
 use std::alloc::{AllocError, Global};
+
+/// What a session comes to with a command.
+#[derive(Debug, Drop)]
+pub(crate) enum Turn {
+    /// The command is made, and this is its part of the transcript.
+    Told(Bytes),
+    /// It waits for a server.
+    Waits(Waiting),
+}
 
 /// Whether an output lacks its last newline.
 fn lacks_newline(output: &[u8]) -> bool
@@ -59,19 +65,22 @@ fn written(
     Ok(Bytes::new(part))
 }
 
-/// Makes a command, and gives its part of the transcript.
-pub(crate) fn part_of<S: Server>(
-    world: &mut World<S>,
+/// What is told of a command that came to its end, or waits for a server.
+pub(crate) fn told(
     alloc: Global,
     command: &Command,
-) -> Result<Bytes, NoMemory>
-    ensures { IfOk result (λ part. Told command.now
-        (world_of S.meaning world.old) part (world_of S.meaning world.new)) }
+    progress: Result<Progress, Stop>,
+) -> Result<Turn, AllocError>
+    ensures { IfOk result (λ turn. Some turn ≡ turn_of command.now progress) }
 {
     let header = command.header();
-    match run(world, alloc, command) {
-        Ok(printed) => Ok(written(alloc, header, printed.output.as_slice(), printed.refusal)?),
-        Err(Stop::Refused(errno)) => Ok(written(alloc, header, b"", Some(errno))?),
-        Err(Stop::Memory) => Err(NoMemory),
+    match progress {
+        Ok(Progress::Ended(printed)) => {
+            let part = written(alloc, header, printed.output.as_slice(), printed.refusal)?;
+            Ok(Turn::Told(part))
+        }
+        Ok(Progress::Waits(waiting)) => Ok(Turn::Waits(waiting)),
+        Err(Stop::Refused(errno)) => Ok(Turn::Told(written(alloc, header, b"", Some(errno))?)),
+        Err(Stop::Memory) => Err(AllocError),
     }
 }

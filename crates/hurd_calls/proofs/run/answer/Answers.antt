@@ -23,10 +23,10 @@ loop-listed-init g c =
       printed = begin_printed _ _ c.args.text.now c.in_ok-tasks.field-0 (into_iter_items c.into_iter-listed-iterator.result) _ c.in_ok-tasks.ensures.ok same c.in_ok-world.ensures.ok;
     }
 
-pub returns-in_err-server-in-Some-server-clause-adds : goal.returns-in_err-server-in-Some-server-clause-adds
-returns-in_err-server-in-Some-server-clause-adds g c =
-    let p = err_from_is_err_and c.from_residual-in_err-server-in-Some-server.result c.from_residual-in_err-server-in-Some-server.ensures.1 in
-    rw (p.1, p.2) (front_added c.loop-listed.output _ _ c.args.text.now _ _ c.in_ok-tasks.ensures.ok (inr c.in_err-server-in-Some-server.ensures.err) (front_printed _ _ _ _ _ c.loop-listed.invariant.printed))
+pub returns-in_err-server_for-in-Some-server-clause-adds : goal.returns-in_err-server_for-in-Some-server-clause-adds
+returns-in_err-server_for-in-Some-server-clause-adds g c =
+    let p = err_from_is_err_and c.from_residual-in_err-server_for-in-Some-server.result c.from_residual-in_err-server_for-in-Some-server.ensures.1 in
+    rw (p.1, p.2) (front_added c.loop-listed.output _ _ c.args.text.now _ _ c.in_ok-tasks.ensures.ok (inr refl) (front_printed _ _ _ _ _ c.loop-listed.invariant.printed))
 
 pub returns-in_err-part-clause-adds : goal.returns-in_err-part-clause-adds
 returns-in_err-part-clause-adds g c =

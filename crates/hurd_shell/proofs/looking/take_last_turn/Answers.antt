@@ -9,7 +9,12 @@ returns-in-Opened g c =
     let answered = rw c.in-Opened.is at c.in_ok-port.ensures in
     record { comes = last_leads _ _ _ _ answered }
 
-pub returns-in_ok-hold_last-in-Retried : goal.returns-in_ok-hold_last-in-Retried
-returns-in_ok-hold_last-in-Retried g c =
+pub returns-in-Retried : goal.returns-in-Retried
+returns-in-Retried g c =
     let answered = rw c.in-Retried.is at c.in_ok-port.ensures in
     record { comes = rw c.in_ok-hold_last-in-Retried.ensures (last_leads _ _ _ _ answered) }
+
+pub returns : goal.returns
+returns g c =
+    let answered = rw c.in-Started.is at c.in_ok-port.ensures in
+    record { comes = last_leads _ _ _ _ answered }

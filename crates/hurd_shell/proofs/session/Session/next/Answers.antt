@@ -1,18 +1,14 @@
-use Rattle.std.proofs.Common.{◌≡◌, ◌<◌, ◌∙◌, length, refl, sym, arith}
-use Rattle.hurd_shell.proofs.SessionLaws.{length-parts, next_part, told_sound}
+use Rattle.std.proofs.Common.{◌≡◌, ◌<◌, false, length, subst, Ok, arith}
+use Rattle.hurd_shell.specs.Session.{Tells, View, has_failed}
+use Rattle.hurd_shell.proofs.SessionLaws.{told_next}
 use Rattle.hurd_shell.proofs.session.Session.next.Goals as goal
 
-pub returns-then-self-len-clause-tells : goal.returns-then-self-len-clause-tells
-returns-then-self-len-clause-tells g c =
+pub returns-clause-tells : goal.returns-clause-tells
+returns-clause-tells g c =
     let inside = c.self.inside in
-    let all : inside.given ≡ length inside.commands.items = omega (arith, c.self.invariant, c.len.ensures) in
-    rw (← c.self.view_is) (λ first follows. ((c.if-self.false, all ∙ sym (length-parts inside.commands.items first), refl), follows))
-
-pub returns-in-Ok-clause-tells : goal.returns-in-Ok-clause-tells
-returns-in-Ok-clause-tells g c =
-    let inside = c.self.inside in
-    let in_range : inside.given < length inside.commands.items = omega (arith, c.len.ensures) in
-    rw (← c.self.view_is)
-    (λ first follows.
-    let next = next_part inside.commands.items inside.given _ first _ _ _ in_range c.index-command.ensures (follows.world c.if-self.false) c.in-Ok.ensures in
-    ((c.if-self.false, next.0, refl, c.if-self.false), record { world = λ _. next.1; sound = λ _. told_sound _ _ _ _ c.in-Ok.ensures (follows.sound c.if-self.false) }))
+    let within : inside.given < length inside.commands.items = omega (arith, c.len.ensures) in
+    let turned = rw c.replace-phase.ensures.value at c.in_ok-turn.ensures.ok in
+    let after : View g.row.S.Denot = record { world = c.take_turn.new.world; commands = inside.commands.items; given = c.stand.new.given; phase = c.stand.new.phase } in
+    subst (λ (v : View g.row.S.Denot). has_failed v ≡ false → Tells g.S.Server.meaning v (Ok c.in_ok-stand.field-0) after) c.self.view_is
+    (λ fine. told_next g.S.Server.meaning inside.world c.take_turn.new.world inside.commands.items inside.given c.stand.new.given inside.phase c.stand.new.phase c.index-command.result.now
+    c.in_ok-turn.turn _ within c.index-command.ensures turned c.in_ok-stand.ensures.ok)

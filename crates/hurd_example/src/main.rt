@@ -1,0 +1,47 @@
+//! A first program over the tree: root writes a notice and puts a server behind a second file, and alice reads both.
+#![tactic(auto)]
+
+ghost use Rattle.std.specs.Prelude.{IfOk};
+ghost use Rattle.hurd_trans_iface.specs.Meaning.{Begins};
+ghost use Rattle.hurd_small.specs.Hello.{hello_meaning};
+
+mod tree;
+
+use hurd_creds::{Errno, OpenFlags};
+use hurd_kinds::empty_tree;
+use hurd_small::Hello;
+use hurd_trans_iface::{Server, Words};
+use std::alloc::Global;
+use std::io;
+use tree::{ALICE, ROOT, Tree};
+
+/// A server that gives a text.
+fn hello(alloc: Global) -> Result<Box<Hello>, Errno>
+    ensures { IfOk result (λ server. Begins (hello_meaning server.value)) }
+{
+    let words = Words::new(alloc, &[b"/hurd/hello", b"--contents=Good morning"])?;
+    Box::new(alloc, Hello::new(alloc, &words)?).map_err(|_| Errno::ENOMEM)
+}
+
+/// What alice is told: the notice, why she may not write it, and what the server gives.
+fn tour(alloc: Global) -> Result<(String, Option<Errno>, String), Errno> {
+    let boot: Box<dyn Server> = empty_tree(alloc)?;
+    let mut tree = Tree::begin(alloc, boot)?;
+    tree.write(ROOT, "notice", "Closed on Mondays")?;
+    let notice = tree.read(ALICE, "notice")?;
+    let refusal = tree.open(ALICE, "notice", OpenFlags::WRITE).err();
+    let hello: Box<dyn Server> = hello(alloc)?;
+    tree.attach(ROOT, "greeting", hello)?;
+    Ok((notice, refusal, tree.read(ALICE, "greeting")?))
+}
+
+fn main(rt: HostRuntime) -> io::Result<()> {
+    match tour(rt.alloc()) {
+        Ok((notice, refusal, greeting)) => {
+            println!(rt; "notice: {notice}")?;
+            println!(rt; "to write it: {}", refusal.map_or("done", Errno::name))?;
+            println!(rt; "greeting: {greeting}")
+        }
+        Err(errno) => println!(rt; "refused: {}", errno.name()),
+    }
+}

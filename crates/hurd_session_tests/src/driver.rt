@@ -1,0 +1,229 @@
+//! Goes through a script, answers what its session asks for, and compares what it tells with a course.
+ghost use Rattle.hurd_trans_iface.specs.Meaning.{Begins};
+
+use crate::boxes::{Count, kind_of, made_at_last, text, tree};
+use crate::memory::Memory;
+use hurd_creds::Errno;
+use hurd_shell::{Session, SessionFault, SupplyFault, Want};
+use hurd_trans_iface::{Server, Words};
+use std::alloc::Global;
+use std::process::Abort;
+use std::str;
+
+/// More turns than any course has.
+const MOST_TURNS: u32 = 1000;
+
+/// A script, and what its session comes to: the parts of its transcript, and a line for each server that it asks for.
+///
+/// Such a line stands before the part of the command that waits: the words, and whether there is such a server; where there is
+/// one, whether it was taken, or dropped by the call that was to take it.
+#[derive(Clone, Copy)]
+pub struct Course {
+    pub script: &'static str,
+    pub told: &'static str,
+}
+
+/// What becomes of a want.
+#[derive(Clone, Copy)]
+enum Answer {
+    Taken,
+    Dropped,
+    /// There is no such server.
+    Absent,
+    /// The session found no memory, and gave back what was supplied.
+    Forgone,
+}
+
+impl Answer {
+    /// What a course says of it, if it does.
+    fn told(&self) -> &'static [u8] {
+        match self {
+            Answer::Taken => b": taken\n",
+            Answer::Dropped => b": dropped\n",
+            Answer::Absent => b": none\n",
+            Answer::Forgone => b"",
+        }
+    }
+}
+
+/// What is left of a course behind a text that it must go on with.
+fn behind<'a>(rt: &impl Abort, left: &'a [u8], text: &[u8]) -> &'a [u8] {
+    match left.strip_prefix(text) {
+        Some(rest) => rest,
+        None => {
+            assert!(rt;
+                false,
+                "{:?} where {:?} is left",
+                str::from_utf8(text),
+                str::from_utf8(left)
+            );
+            left
+        }
+    }
+}
+
+/// What is left of a course behind these words, as they are asked for.
+fn behind_words<'a>(rt: &impl Abort, left: &'a [u8], words: &Words) -> &'a [u8] {
+    let mut left = behind(rt, left, b"asks for");
+    for word in words.as_slice() {
+        left = behind(rt, left, b" ");
+        left = behind(rt, left, word.as_slice());
+    }
+    left
+}
+
+fn begun_once(alloc: Global, script: &str) -> Result<Session, Errno> {
+    let (root, _count) = tree(alloc)?;
+    match Session::new(alloc, script.as_bytes(), root) {
+        Ok(session) => Ok(session),
+        Err(SessionFault::Memory) => Err(Errno::ENOMEM),
+        Err(_) => Err(Errno::EINVAL),
+    }
+}
+
+/// A session over an empty tree; where memory was refused and may be, a second try.
+pub fn begun(alloc: Global, script: &str, memory: &mut Memory) -> Result<Session, Errno> {
+    match begun_once(alloc, script) {
+        Err(Errno::ENOMEM) if memory.may_refuse() => begun_once(alloc, script),
+        session => session,
+    }
+}
+
+/// Supplies a server.
+fn supply(
+    rt: &impl Abort,
+    alloc: Global,
+    session: &mut Session,
+    server: Box<dyn Server>,
+    count: &Count,
+) -> Answer
+    requires { Begins (meaning server) }
+{
+    let Err((fault, _server)) = session.supply(alloc, server) else {
+        return if count.is(0) {
+            Answer::Taken
+        } else {
+            Answer::Dropped
+        };
+    };
+    assert!(rt; fault == SupplyFault::Memory);
+    assert!(rt; count.is(0));
+    Answer::Forgone
+}
+
+/// Says that there is no such server.
+fn supply_none(rt: &impl Abort, alloc: Global, session: &mut Session) -> Answer {
+    match session.supply_none(alloc) {
+        Ok(()) => Answer::Absent,
+        Err(fault) => {
+            assert!(rt; fault == SupplyFault::Memory);
+            Answer::Forgone
+        }
+    }
+}
+
+/// Supplies the server that there is for these words, if there is one.
+fn answered(
+    rt: &impl Abort,
+    alloc: Global,
+    session: &mut Session,
+    words: &Words,
+    memory: &mut Memory,
+) -> Result<Answer, Errno> {
+    match kind_of(words) {
+        Some(kind) => {
+            let (server, count) = made_at_last(alloc, kind, words, memory)?;
+            Ok(supply(rt, alloc, session, server, &count))
+        }
+        None => Ok(supply_none(rt, alloc, session)),
+    }
+}
+
+/// No answer is taken, by this fault, and a server comes back.
+pub fn check_takes_none(
+    rt: &impl Abort,
+    alloc: Global,
+    session: &mut Session,
+    fault: SupplyFault,
+) -> Result<(), Errno> {
+    let (server, count) = text(alloc)?;
+    let Err((why, server)) = session.supply(alloc, server) else {
+        assert!(rt; false);
+        return Ok(());
+    };
+    assert!(rt; why == fault);
+    assert!(rt; count.is(0));
+    drop(server);
+    assert!(rt; count.is(1));
+    assert!(rt; session.supply_none(alloc) == Err(fault));
+    Ok(())
+}
+
+/// Memory was refused to the session, and it says so at each of three further calls.
+fn check_failed(rt: &impl Abort, alloc: Global, session: &mut Session) -> Result<(), Errno> {
+    for _ in 0..3 {
+        assert!(rt; matches!(session.next(alloc), Err(SessionFault::Memory)));
+        check_takes_none(rt, alloc, session, SupplyFault::Memory)?;
+    }
+    Ok(())
+}
+
+/// What is left of a course behind what a session gives; none at its end.
+fn behind_want<'a>(
+    rt: &impl Abort,
+    alloc: Global,
+    session: &mut Session,
+    want: &Want,
+    left: &'a [u8],
+    memory: &mut Memory,
+) -> Result<Option<&'a [u8]>, Errno> {
+    match want {
+        Want::Output(part) => Ok(Some(behind(rt, left, part.as_slice()))),
+        Want::Server(words) => {
+            let left = behind_words(rt, left, words);
+            let answer = answered(rt, alloc, session, words, memory)?;
+            Ok(Some(behind(rt, left, answer.told())))
+        }
+        Want::Done => {
+            assert!(rt; left.is_empty());
+            Ok(None)
+        }
+    }
+}
+
+/// What is left of a course after the session's next turn; none at its end, or where memory is refused to the session and may be.
+pub fn turn<'a>(
+    rt: &impl Abort,
+    alloc: Global,
+    session: &mut Session,
+    left: &'a [u8],
+    memory: &mut Memory,
+) -> Result<Option<&'a [u8]>, Errno> {
+    match session.next(alloc) {
+        Ok(want) => behind_want(rt, alloc, session, &want, left, memory),
+        Err(fault) => {
+            assert!(rt; matches!(fault, SessionFault::Memory) && memory.may_refuse());
+            check_failed(rt, alloc, session)?;
+            Ok(None)
+        }
+    }
+}
+
+/// Goes through a course: the session comes to all of it, or, where memory is refused to it, to a front of it.
+pub fn check(
+    rt: &impl Abort,
+    alloc: Global,
+    course: Course,
+    memory: &mut Memory,
+) -> Result<(), Errno> {
+    let mut session = begun(alloc, course.script, memory)?;
+    let mut left = course.told.as_bytes();
+    for _ in 0..MOST_TURNS {
+        match turn(rt, alloc, &mut session, left, memory)? {
+            Some(rest) => left = rest,
+            None => return Ok(()),
+        }
+    }
+    assert!(rt; false);
+    Ok(())
+}

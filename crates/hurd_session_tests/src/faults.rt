@@ -1,0 +1,152 @@
+//! Which answers a session doesn't take, what becomes of servers, and why a session isn't begun.
+ghost use Rattle.hurd_trans_iface.specs.Meaning.{Begins};
+
+use crate::boxes::text;
+use crate::driver::{begun, check_takes_none, turn};
+use crate::memory::Memory;
+use hurd_creds::Errno;
+use hurd_shell::{Session, SupplyFault, Want};
+use hurd_trans_iface::Server;
+use std::alloc::{AllocError, Global};
+use std::process::Abort;
+use std::test::Fail;
+
+/// A server is started, and one that is asked for isn't there.
+const SCRIPT: &str = "root settrans -c /h /hurd/hello
+root cat /h
+root settrans -a /h /hurd/none
+";
+
+/// What the session of that script comes to.
+const TOLD: &str = "root$ settrans -c /h /hurd/hello
+asks for /hurd/hello: taken
+root$ cat /h
+Hello, world!
+asks for /hurd/none: none
+root$ settrans -a /h /hurd/none
+ENOENT
+";
+
+/// No answer is taken, at two tries.
+fn check_wants_none(rt: &impl Abort, alloc: Global, session: &mut Session) -> Result<(), Errno> {
+    check_takes_none(rt, alloc, session, SupplyFault::NotWanted)?;
+    check_takes_none(rt, alloc, session, SupplyFault::NotWanted)
+}
+
+/// Before, between and behind the answers that are asked for, none is taken, and nothing changes.
+#[test]
+fn no_other_answer_is_taken(rt: HostRuntime) -> Result<(), Fail> {
+    let alloc = rt.alloc();
+    let mut session = begun(alloc, SCRIPT, &mut Memory::ample())?;
+    let mut left = TOLD.as_bytes();
+    for _ in 0..5 {
+        check_wants_none(&rt, alloc, &mut session)?;
+        match turn(&rt, alloc, &mut session, left, &mut Memory::ample())? {
+            Some(rest) => left = rest,
+            None => assert!(rt; false),
+        }
+    }
+    check_wants_none(&rt, alloc, &mut session)?;
+    assert!(rt; turn(&rt, alloc, &mut session, left, &mut Memory::ample())?.is_none());
+    check_wants_none(&rt, alloc, &mut session)?;
+    assert!(rt; turn(&rt, alloc, &mut session, left, &mut Memory::ample())?.is_none());
+    Ok(())
+}
+
+/// What a session answers next, as it is printed.
+fn printed_next(alloc: Global, session: &mut Session) -> Result<String, AllocError> {
+    format!(in alloc; "{:?}", session.next(alloc))
+}
+
+#[test]
+fn the_same_is_asked_for_until_it_is_answered(rt: HostRuntime) -> Result<(), Fail> {
+    let alloc = rt.alloc();
+    let script = "root settrans -ac /h /hurd/none\n";
+    let mut session = begun(alloc, script, &mut Memory::ample())?;
+    let asked = printed_next(alloc, &mut session)?;
+    assert!(rt; asked.as_str().starts_with("Ok(Server("));
+    for _ in 0..3 {
+        assert_eq!(rt; printed_next(alloc, &mut session)?.as_str(), asked.as_str());
+    }
+    assert!(rt; session.supply_none(alloc) == Ok(()));
+    assert!(rt;
+        printed_next(alloc, &mut session)?
+            .as_str()
+            .starts_with("Ok(Output(")
+    );
+    assert_eq!(rt; printed_next(alloc, &mut session)?.as_str(), "Ok(Done)");
+    Ok(())
+}
+
+/// The next part is given.
+fn check_gives_part(rt: &impl Abort, alloc: Global, session: &mut Session) {
+    match session.next(alloc) {
+        Ok(want) => assert!(rt; matches!(&want, Want::Output(_))),
+        Err(fault) => assert!(rt; false, "{fault:?}"),
+    }
+}
+
+/// A session that sets a counted server as its script's first command, and gave that command's part.
+fn with_server(
+    rt: &impl Abort,
+    alloc: Global,
+    script: &str,
+    server: Box<dyn Server>,
+) -> Result<Session, Errno>
+    requires { Begins (meaning server) }
+{
+    let mut session = begun(alloc, script, &mut Memory::ample())?;
+    let _want = session.next(alloc);
+    assert!(rt; session.supply(alloc, server).is_ok());
+    check_gives_part(rt, alloc, &mut session);
+    Ok(session)
+}
+
+#[test]
+fn a_server_is_dropped_where_it_is_sent_away(rt: HostRuntime) -> Result<(), Fail> {
+    let alloc = rt.alloc();
+    let script = "root settrans -ac /h /hurd/hello\nroot settrans -g /h\n";
+    let (server, count) = text(alloc)?;
+    let mut session = with_server(&rt, alloc, script, server)?;
+    assert!(rt; count.is(0));
+    check_gives_part(&rt, alloc, &mut session);
+    assert!(rt; count.is(1));
+    Ok(())
+}
+
+#[test]
+fn a_session_drops_its_servers(rt: HostRuntime) -> Result<(), Fail> {
+    let alloc = rt.alloc();
+    let (server, count) = text(alloc)?;
+    let session = with_server(&rt, alloc, "root settrans -ac /h /hurd/hello\n", server)?;
+    assert!(rt; count.is(0));
+    drop(session);
+    assert!(rt; count.is(1));
+    Ok(())
+}
+
+/// Why no session of a script over a text is begun, as it is printed; the text is dropped.
+fn refusal(rt: &impl Abort, alloc: Global, script: &str) -> Result<String, Fail> {
+    let (root, count) = text(alloc)?;
+    let refusal = Session::new(alloc, script.as_bytes(), root).err();
+    assert!(rt; count.is(1));
+    Ok(format!(in alloc; "{refusal:?}")?)
+}
+
+/// The first bad line, else that the root is no directory.
+#[test]
+fn a_session_is_refused(rt: HostRuntime) -> Result<(), Fail> {
+    for (script, wanted) in [
+        (
+            "root ls /\nroot put /a b\\q\n",
+            "Some(BadScript { line: 2 })",
+        ),
+        ("carol ls /\n", "Some(BadScript { line: 1 })"),
+        ("root ls /\n\n# text\nroot", "Some(BadScript { line: 4 })"),
+        ("root ls /\n", "Some(Boot(ENOTDIR))"),
+        ("", "Some(Boot(ENOTDIR))"),
+    ] {
+        assert_eq!(rt; refusal(&rt, rt.alloc(), script)?.as_str(), wanted);
+    }
+    Ok(())
+}

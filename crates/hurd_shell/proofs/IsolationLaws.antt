@@ -1,0 +1,184 @@
+-- What a script tells a set of tasks, against the commands of these tasks alone.
+use Rattle.std.proofs.Common.{◌≡◌, ◌∙◌, ℕ, suc, Bool, true, false, if◌then◌else◌, List, [], ◌∷◌, ◌++◌, length, Result, sym, refl, ap, ap₂, subst}
+use Rattle.hurd_creds.specs.declared.errno.Errno.{Errno}
+use Rattle.hurd_creds.specs.Access.{IdSets}
+use Rattle.hurd_machine.specs.Calls.{Reply}
+use Rattle.hurd_machine.specs.World.{World}
+use Rattle.hurd_machine.specs.Sight.{SameView}
+use Rattle.hurd_machine.specs.Sound.{Sound}
+use Rattle.hurd_machine.proofs.Views.{Agree-refl, Agree-sym, Agree-trans, agree_of, view_of}
+use Rattle.hurd_script.specs.Commands.{CommandLine}
+use Rattle.hurd_script.specs.Actions.{action_of}
+use Rattle.hurd_script.specs.Script.{users_of, commands_of}
+use Rattle.hurd_laws.specs.Step.{reply_of, after}
+use Rattle.hurd_laws.specs.Runs.{TaskCall, run, calls_of, Quiet}
+use Rattle.hurd_laws.proofs.Assembled.{own_from_view, stays_sound}
+use Rattle.hurd_laws.proofs.Headline.{isolated}
+use Rattle.hurd_world.specs.Boot.{first_world}
+use Rattle.hurd_world.proofs.FirstWorld.{first_sound}
+use Rattle.hurd_shell.specs.Programs.{Prog, gives, calls, asks}
+use Rattle.hurd_shell.specs.Commands.{program_of}
+use Rattle.hurd_shell.specs.Transcript.{Dialogue, tells, Maker, dialogue, part_of, parts_by, played}
+use Rattle.hurd_shell.specs.Isolation.{calls_in, command_calls, script_calls, world_after, commands_by, parts_to, QuietCommands, OnePartEach, ToldInTurn, IsolatedCommands, IsolatedScripts}
+
+-- runs in two halves
+
+run_both : (ms ns : List TaskCall) (w : World) → run w (ms ++ ns) ≡ run (run w ms) ns
+run_both [] ns w = refl
+run_both (m ∷ ms) ns w = run_both ms ns (after w m.task m.call)
+
+quiet_both : (S : ℕ → Bool) (ms ns : List TaskCall) (w : World) → Quiet S w (ms ++ ns) → Quiet S w ms × Quiet S (run w ms) ns
+quiet_both S [] ns w q = (tt, q)
+quiet_both S (m ∷ ms) ns w q = let rest = quiet_both S ms ns (after w m.task m.call) q.1 in ((q.0, rest.0), rest.1)
+
+run_sound : (ms : List TaskCall) (w : World) → Sound w → Sound (run w ms)
+run_sound [] w s = s
+run_sound (m ∷ ms) w s = run_sound ms (after w m.task m.call) (stays_sound w m.task m.call s)
+
+-- the result of a program of task t whose servers a maker makes
+unfoldable result_in : {A : Type 0} → Maker → ℕ → Prog A → World → Result A Errno
+result_in make t (gives r) w = r
+result_in make t (calls c k) w = result_in make t (k (reply_of w t c)) (after w t c)
+result_in make t (asks words k) w = result_in make t (k (make words)) w
+
+-- what is told while a program is made is what is told at its end
+played_parts : {A : Type 0} (make : Maker) (t : ℕ) (next : Result A Errno → World → Dialogue) (p : Prog A) (w : World)
+    → parts_by make (played t p w next) ≡ parts_by make (next (result_in make t p w) (run w (calls_in make t p w)))
+unfolding played parts_by calls_in result_in
+played_parts make t next (gives r) w = refl
+played_parts make t next (calls c k) w = played_parts make t next (k (reply_of w t c)) (after w t c)
+played_parts make t next (asks words k) w = played_parts make t next (k (make words)) w
+
+abbrev command_part : Maker → CommandLine → World → List ℕ
+command_part make c w = part_of c (result_in make c.task (program_of (action_of c)) w)
+
+no_parts : (make : Maker) (w : World) → parts_by make (dialogue [] w) ≡ []
+unfolding dialogue parts_by
+no_parts make w = refl
+
+-- the first part, and those of the commands behind
+first_part : (make : Maker) (c : CommandLine) (cs : List CommandLine) (w : World)
+    → parts_by make (dialogue (c ∷ cs) w) ≡ command_part make c w ∷ parts_by make (dialogue cs (run w (command_calls make c w)))
+unfolding dialogue parts_by
+first_part make c cs w = played_parts make c.task (λ r x. tells (part_of c r) (dialogue cs x)) (program_of (action_of c)) w
+
+pub one_part_each : OnePartEach
+one_part_each make [] w = ap length (no_parts make w)
+one_part_each make (c ∷ cs) w = ap length (first_part make c cs w) ∙ ap (λ (n : ℕ). suc n) (one_part_each make cs (run w (command_calls make c w)))
+
+pub told_in_turn : ToldInTurn
+told_in_turn make [] ds w = sym (ap (λ (ps : List (List ℕ)). ps ++ parts_by make (dialogue ds w)) (no_parts make w))
+told_in_turn make (c ∷ cs) ds w =
+    let x = run w (command_calls make c w) in
+    let later : World → List (List ℕ) = λ y. parts_by make (dialogue ds y) in
+    first_part make c (cs ++ ds) w
+    ∙ (ap (λ (ps : List (List ℕ)). command_part make c w ∷ ps) (told_in_turn make cs ds x)
+    ∙ ap₂ (λ (ps qs : List (List ℕ)). ps ++ qs) (sym (first_part make c cs w)) (ap later (sym (run_both (command_calls make c w) (script_calls make cs x) w))))
+
+-- what S is told, command by command
+abbrev told_to : (ℕ → Bool) → Maker → List CommandLine → World → List (List ℕ)
+told_to S make [] w = []
+told_to S make (c ∷ cs) w =
+    if S c.task then command_part make c w ∷ told_to S make cs (run w (command_calls make c w))
+    else told_to S make cs (run w (command_calls make c w))
+
+told_parts : (S : ℕ → Bool) (make : Maker) (cs : List CommandLine) (w : World) → parts_to S cs (parts_by make (dialogue cs w)) ≡ told_to S make cs w
+told_parts S make [] w = refl
+told_parts S make (c ∷ cs) w =
+    ap (parts_to S (c ∷ cs)) (first_part make c cs w)
+    ∙ ap (λ (ps : List (List ℕ)). if S c.task then command_part make c w ∷ ps else ps) (told_parts S make cs (run w (command_calls make c w)))
+
+-- a program of a task of S goes the same way in two worlds that have the same view for S
+
+abbrev GoesAlike : {A : Type 0} → (ℕ → Bool) → Maker → ℕ → Prog A → World → World → Type 0
+GoesAlike S make t p v w = (result_in make t p v ≡ result_in make t p w) × SameView S (run v (calls_in make t p v)) (run w (calls_in make t p w))
+
+own_program : {A : Type 0} (S : ℕ → Bool) (make : Maker) (t : ℕ) → S t ≡ true → (p : Prog A) (v w : World) → Sound v → Sound w → SameView S v w → GoesAlike S make t p v w
+unfolding calls_in result_in
+own_program S make t ours (gives r) v w sv sw same = (refl, same)
+own_program {A} S make t ours (calls c k) v w sv sw same =
+    let step = own_from_view S v w t c sv sw ours same in
+    let x = after v t c in
+    let y = after w t c in
+    let rest = own_program S make t ours (k (reply_of v t c)) x y (stays_sound v t c sv) (stays_sound w t c sw) step.1 in
+    let end : Reply → World = λ r. run y (calls_in make t (k r) y) in (
+      rest.0 ∙ ap (λ (r : Reply). result_in make t (k r) y) (sym step.0),
+      subst (λ (z : World). SameView S (run x (calls_in make t (k (reply_of v t c)) x)) z) (ap end (sym step.0)) rest.1,
+    )
+own_program S make t ours (asks words k) v w sv sw same = own_program S make t ours (k (make words)) v w sv sw same
+
+-- a program of another task makes no call of a task of S
+none_of : {A : Type 0} (S : ℕ → Bool) (make : Maker) (t : ℕ) → S t ≡ false → (p : Prog A) (w : World) → calls_of S (calls_in make t p w) ≡ []
+unfolding calls_in
+none_of S make t other (gives r) w = refl
+none_of S make t other (calls c k) w = rw other (none_of S make t other (k (reply_of w t c)) (after w t c))
+none_of S make t other (asks words k) w = none_of S make t other (k (make words)) w
+
+-- to S, the commands made in v are its own commands alone, made in any world of the same view
+abbrev Alone : (ℕ → Bool) → Maker → List CommandLine → Type 0
+Alone S make cs =
+    (v u : World) → Sound v → Sound u → SameView S v u → QuietCommands S make cs v
+    → (told_to S make cs v ≡ told_to S make (commands_by S cs) u) × SameView S (world_after make cs v) (world_after make (commands_by S cs) u)
+
+turn : (S : ℕ → Bool) (make : Maker) (c : CommandLine) (cs : List CommandLine) → Alone S make cs → (b : Bool) → S c.task ≡ b → Alone S make (c ∷ cs)
+turn S make c cs ih true ours v u sv su same quiet =
+    let ms = command_calls make c v in
+    let ns = command_calls make c u in
+    let now = own_program S make c.task ours (program_of (action_of c)) v u sv su same in
+    let later = quiet_both S ms (script_calls make cs (run v ms)) v quiet in
+    let rest = ih (run v ms) (run u ns) (run_sound ms v sv) (run_sound ns u su) now.1 later.1 in
+    rw (ours, ours, run_both ms (script_calls make cs (run v ms)) v, run_both ns (script_calls make (commands_by S cs) (run u ns)) u) (
+      ap₂ ◌∷◌ (ap (part_of c) now.0) rest.0,
+      rest.1,
+    )
+turn S make c cs ih false other v u sv su same quiet =
+    let ms = command_calls make c v in
+    let later = quiet_both S ms (script_calls make cs (run v ms)) v quiet in
+    let unseen = (isolated S v u ms [] sv su same (none_of S make c.task other (program_of (action_of c)) v) later.0 tt).1 in
+    let rest = ih (run v ms) u (run_sound ms v sv) su unseen later.1 in
+    rw (other, run_both ms (script_calls make cs (run v ms)) v) rest
+
+alone : (S : ℕ → Bool) (make : Maker) (cs : List CommandLine) → Alone S make cs
+alone S make [] = λ v u sv su same quiet. (refl, same)
+alone S make (c ∷ cs) = turn S make c cs (alone S make cs) (S c.task) refl
+
+SameView-refl : (S : ℕ → Bool) (v : World) → SameView S v v
+SameView-refl S v = view_of (Agree-refl S v)
+
+pub isolated_commands : IsolatedCommands
+isolated_commands S make v w cs ds sv sw same commands qv qw =
+    let l = alone S make cs v v sv sv (SameView-refl S v) qv in
+    let r = alone S make ds w v sw sv (view_of (Agree-sym (agree_of same))) qw in
+    let end = subst (λ (es : List CommandLine). SameView S (world_after make ds w) (world_after make es v)) (sym commands) r.1 in (
+      told_parts S make cs v ∙ (l.0 ∙ (ap (λ (es : List CommandLine). told_to S make es v) commands ∙ (sym r.0 ∙ sym (told_parts S make ds w)))),
+      view_of (Agree-trans (agree_of l.1) (Agree-sym (agree_of end))),
+    )
+
+-- what S is told of a common beginning is the same
+behind : (S : ℕ → Bool) (make : Maker) (before cs ds : List CommandLine) (w : World)
+    → told_to S make cs (world_after make before w) ≡ told_to S make ds (world_after make before w)
+    → told_to S make (before ++ cs) w ≡ told_to S make (before ++ ds) w
+behind S make [] cs ds w same = same
+behind S make (c ∷ before) cs ds w same =
+    let x = run w (command_calls make c w) in
+    let later = rw (run_both (command_calls make c w) (script_calls make before x) w) at same in
+    ap (λ (ps : List (List ℕ)). if S c.task then command_part make c w ∷ ps else ps) (behind S make before cs ds x later)
+
+begun_alike : (S : ℕ → Bool) (make : Maker) (before cs ds : List CommandLine) (w : World) → Sound w → commands_by S cs ≡ commands_by S ds
+    → QuietCommands S make cs (world_after make before w) → QuietCommands S make ds (world_after make before w)
+    → told_to S make (before ++ cs) w ≡ told_to S make (before ++ ds) w
+begun_alike S make before cs ds w sound commands qc qd =
+    let x = world_after make before w in
+    let still = run_sound (script_calls make before w) w sound in
+    let told = isolated_commands S make x x cs ds still still (SameView-refl S x) commands qc qd in
+    behind S make before cs ds w (sym (told_parts S make cs x) ∙ (told.0 ∙ told_parts S make ds x))
+
+pub isolated_scripts : IsolatedScripts
+isolated_scripts S make m script other before cs ds begins users ours theirs commands qc qd =
+    let w = first_world m (users_of script) in
+    let to : List IdSets → List CommandLine → List (List ℕ) = λ us es. told_to S make es (first_world m us) in
+    let there = subst (λ (us : List IdSets). QuietCommands S make ds (world_after make before (first_world m us))) (sym users) qd in
+    let told = begun_alike S make before cs ds w (first_sound m (users_of script) begins) commands qc there in
+    told_parts S make (commands_of script) w
+    ∙ (ap (to (users_of script)) ours
+    ∙ (told ∙ (ap₂ to users (sym theirs) ∙ sym (told_parts S make (commands_of other) (first_world m (users_of other))))))

@@ -1,0 +1,5 @@
+use Rattle.std.proofs.Common.{refl}
+use Rattle.hurd_shell.proofs.answers.go_without.Goals as goal
+
+pub returns : goal.returns
+returns g c = (refl, c.in_ok-give_up_start.ensures c.args.waiting.words)

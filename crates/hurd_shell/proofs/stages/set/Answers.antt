@@ -1,0 +1,13 @@
+use Rattle.std.proofs.Common.{sym, ◌∙◌}
+use Rattle.hurd_shell.proofs.StageLaws.{asks_server, no_words, not_active}
+use Rattle.hurd_shell.proofs.stages.set.Goals as goal
+use Rattle.hurd_shell.proofs.stages.set.Goals.{else-active-via-then-active+else-has_any, else-active-via-else-active}
+
+pub returns-then-has_any : goal.returns-then-has_any
+returns-then-has_any g c = asks_server _ _ _ _ _ _ c.if-active.true (sym c.has_any.ensures ∙ c.if-has_any.true)
+
+pub returns-else-active : goal.returns-else-active
+returns-else-active g c = elim c.else-active.branch [
+  | else-active-via-then-active+else-has_any w ↦ no_words _ _ _ _ (sym w.has_any.ensures ∙ w.if-has_any.false) c.set_and_close.ensures
+  | else-active-via-else-active w ↦ not_active _ _ _ _ w.if-active.false c.set_and_close.ensures
+]

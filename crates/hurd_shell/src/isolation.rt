@@ -1,0 +1,16 @@
+//! What a script tells a set of tasks does not depend on the others' commands.
+ghost use Rattle.hurd_shell.specs.Isolation.{IsolatedCommands, IsolatedScripts, OnePartEach, ToldInTurn};
+
+/// A law: each command has one part in what is told, and what is told of commands behind others is what is told of them in the
+/// world after those.
+pub fn scripts_are_told_in_turn()
+    ensures parts { OnePartEach }
+    ensures turns { ToldInTurn }
+{}
+
+/// A law: a set of tasks is told the same by two scripts that begin with the same lines, in which it has the same commands after
+/// these and the others' calls touch nothing that it sees; and so from any two worlds in which it has the same view.
+pub fn scripts_are_isolated()
+    ensures commands { IsolatedCommands }
+    ensures scripts { IsolatedScripts }
+{}
