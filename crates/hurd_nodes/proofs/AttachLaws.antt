@@ -12,7 +12,6 @@ use Rattle.hurd_creds.proofs.KeyedLaws.{contains-place, keyed-push}
 use Rattle.hurd_creds.proofs.MapLaws.{map_values-insert, map_values-remove}
 use Rattle.hurd_trans_iface.specs.Nodes.{NodeMap, Node}
 use Rattle.hurd_trans_iface.specs.Meaning.{Meaning, begin_root_after}
-use Rattle.hurd_nodes.specs.declared.seat.Home.{Home}
 use Rattle.hurd_nodes.specs.declared.seat.Seat.{Seat}
 use Rattle.hurd_nodes.specs.Held.{AreApart, Held, Seated, box_by, home_key, home_value, homes_of, is_home, mean, mean_seat, seat_key, seat_value, seats_of}
 use Rattle.hurd_nodes.specs.Shown.{HideNothing, NodeState, ServerInfo, attached, begun_info, begun_root, flat, info_of, is_other, is_other_seat, less_old, without_old, without_seats, node_in, nodes_of, out_server, servers_of, shown, without_server, without_value}
@@ -36,14 +35,14 @@ kept_seat s homes n None = go (is_other s homes n && true)
     go true = refl
     go false = refl
 
-pub homes-filter : (s : Name) (hs : List Home) → AreApart home_key hs → homes_of (filter (λ (x : Home). not (same_name s x.server)) hs) ≡ without_value s (homes_of hs)
+pub homes-filter : (s : Name) (hs : List (Name × Name)) → AreApart home_key hs → homes_of (filter (λ (x : Name × Name). not (same_name s x.1)) hs) ≡ without_value s (homes_of hs)
 unfolding homes_of
 homes-filter s hs apart = same_map_by _ _ (λ n.
     get-filter home_key home_value (λ m q. not (same_name s q)) hs apart n ∙ kept_value s n (fin.get (homes_of hs) n)
     ∙ sym (get-kept (homes_of hs) (is_other s (homes_of hs)) n))
 
-pub seats-filter : (s : Name) (homes : NameMap Name) (hs : List Home) → AreApart home_key hs
-    → homes_of (filter (λ (x : Home). is_other s homes x.node && not (same_name s x.server)) hs) ≡ without_seats s homes (homes_of hs)
+pub seats-filter : (s : Name) (homes : NameMap Name) (hs : List (Name × Name)) → AreApart home_key hs
+    → homes_of (filter (λ (x : Name × Name). is_other s homes x.0 && not (same_name s x.1)) hs) ≡ without_seats s homes (homes_of hs)
 unfolding homes_of
 seats-filter s homes hs apart = same_map_by _ _ (λ n.
     get-filter home_key home_value (λ m q. is_other s homes m && not (same_name s q)) hs apart n ∙ kept_seat s homes n (fin.get (homes_of hs) n)

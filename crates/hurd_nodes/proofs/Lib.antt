@@ -6,6 +6,7 @@ pub mod EditLaws
 pub mod MakeLaws
 pub mod NamelessLaws
 pub mod TableLaws
+pub mod HomeLaws
 pub mod PartLaws
 pub mod SettleLaws
 pub mod AnyLaws

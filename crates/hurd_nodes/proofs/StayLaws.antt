@@ -12,7 +12,6 @@ use Rattle.hurd_creds.proofs.KeyedLaws.{contains-place, get-absent, get-found}
 use Rattle.hurd_creds.proofs.MapLaws.{get-map_values}
 use Rattle.hurd_trans_iface.specs.Nodes.{Node, attrs_of}
 use Rattle.hurd_trans_iface.specs.Meaning.{Meaning}
-use Rattle.hurd_nodes.specs.declared.seat.Home.{Home}
 use Rattle.hurd_nodes.specs.declared.seat.Seat.{Seat}
 use Rattle.hurd_nodes.specs.Held.{AreApart, Seated, box_by, home_key, home_value, homes_of, mean, mean_seat, place_in, seat_key, seat_value, seats_of}
 use Rattle.hurd_nodes.specs.Shown.{NodeState, ServerInfo, flat, header_in, info_in, info_of, node_in, server_of, servers_of}
@@ -25,16 +24,16 @@ use Rattle.hurd_nodes.proofs.AnyLaws.{all-listed, any-keyed}
 
 -- what is on a list stands in its map
 
-pub home-there : (hs : List Home) (i : ℕ) (d : Home) → i < length hs → is_some (fin.get (homes_of hs) (get_or hs i d).node) ≡ true
+pub home-there : (hs : List (Name × Name)) (i : ℕ) (d : Name × Name) → i < length hs → is_some (fin.get (homes_of hs) (get_or hs i d).0) ≡ true
 unfolding homes_of
-home-there hs i d below = sym (contains-place home_key home_value (get_or hs i d).node hs) ∙ place-there home_key hs i d below
+home-there hs i d below = sym (contains-place home_key home_value (get_or hs i d).0 hs) ∙ place-there home_key hs i d below
 
 pub seat-there : {S : Type 0} (ss : List (Seat S)) (i : ℕ) (x : Seat S) → i < length ss → x ≡ slice_index_or ss i x → is_some (fin.get (seats_of ss) x.name) ≡ true
 unfolding seats_of
 seat-there ss i x below read = sym (contains-place seat_key seat_value x.name ss) ∙ place-there_read seat_key ss i x below read
 
 -- a test of a list of homes is one of their map
-pub home-told : (p : Name → Name → Bool) (hs : List Home) → AreApart home_key hs → list_any (λ (x : Home). p x.node x.server) hs ≡ any_in p (homes_of hs)
+pub home-told : (p : Name → Name → Bool) (hs : List (Name × Name)) → AreApart home_key hs → list_any (λ (x : Name × Name). p x.0 x.1) hs ≡ any_in p (homes_of hs)
 unfolding homes_of
 home-told p hs apart = any-keyed home_key home_value p hs apart
 
@@ -77,7 +76,7 @@ node_home : (seats : NameMap (Seated Meaning)) (n : Name) (o : Option Name) (x :
 node_home seats n None x h = absurd (cc)
 node_home seats n (Some s) x h = (s, refl)
 
-all_homes : (hs : List Home) (p : Name → Bool) → list_any (λ (x : Home). not (p x.node)) hs ≡ false → (n s : Name) → fin.get (homes_of hs) n ≡ Some s → p n ≡ true
+all_homes : (hs : List (Name × Name)) (p : Name → Bool) → list_any (λ (x : Name × Name). not (p x.0)) hs ≡ false → (n s : Name) → fin.get (homes_of hs) n ≡ Some s → p n ≡ true
 unfolding homes_of
 all_homes hs p none n s is = all-listed home_key home_value p hs none n s is
 
@@ -86,8 +85,8 @@ all_seats : {S : Type 0} (f : S → Meaning) (ss : List (Seat S)) (p : Name → 
 unfolding seats_of
 all_seats f ss p none s i is = let e = seat-of f (seats_of ss) s i is in all-listed seat_key seat_value p ss none s e.0 e.1
 
-pub all-kept : {S : Type 0} (f : S → Meaning) (homes actives : List Home) (ss : List (Seat S)) (o : Outside) → (let h = flat (homes_of homes) (homes_of actives) (mean f (seats_of ss)) in
-    list_any (λ (x : Home). not (node_stays o h x.node)) homes ≡ false → list_any (λ (x : Home). not (node_stays o h x.node)) actives ≡ false
+pub all-kept : {S : Type 0} (f : S → Meaning) (homes actives : List (Name × Name)) (ss : List (Seat S)) (o : Outside) → (let h = flat (homes_of homes) (homes_of actives) (mean f (seats_of ss)) in
+    list_any (λ (x : Name × Name). not (node_stays o h x.0)) homes ≡ false → list_any (λ (x : Name × Name). not (node_stays o h x.0)) actives ≡ false
     → list_any (λ (x : Seat S). not (server_stays o h x.name)) ss ≡ false → sweep o h ≡ h)
 all-kept f homes actives ss o no_home no_active no_server =
     let seats = mean f (seats_of ss) in

@@ -11,7 +11,6 @@ use Rattle.hurd_creds.specs.Names.{coded_name, same_name}
 use Rattle.hurd_creds.specs.NameMaps.{NameMap, keyed, map_values, place_by}
 use Rattle.hurd_nodes.specs.Weights.{count_list}
 use Rattle.hurd_nodes.specs.declared.seat.Seat.{Seat}
-use Rattle.hurd_nodes.specs.declared.seat.Home.{Home}
 use Rattle.hurd_nodes.specs.declared.seat.Hold.{Hold}
 use Rattle.hurd_nodes.specs.declared.seat.Hold.TheVariants.{Use, Way, Control}
 use Rattle.hurd_nodes.specs.contracts.seat.Hold as hold
@@ -44,13 +43,13 @@ coded_held {S} c =
 
 -- the lists of the code as maps
 
-abbrev pub home_key : Home → Name
-home_key h = h.node
+abbrev pub home_key : Name × Name → Name
+home_key h = h.0
 
-abbrev pub home_value : Home → Name
-home_value h = h.server
+abbrev pub home_value : Name × Name → Name
+home_value h = h.1
 
-unfoldable pub homes_of : List Home → NameMap Name
+unfoldable pub homes_of : List (Name × Name) → NameMap Name
 homes_of hs = keyed home_key home_value hs
 
 abbrev pub seat_key : {S : Type 0} → Seat S → Name
@@ -70,7 +69,7 @@ spare_of v = vec_capacity v - vec_len v
 abbrev pub Shrinks : {X : Type 0} → Vec X → Vec X → Type 0
 Shrinks old new = (vec_len new ≤ vec_len old) × (vec_capacity new ≡ vec_capacity old)
 
-abbrev pub held_of : {S : Type 0} → List Home → List Home → List (Seat S) → List Hold → ℕ → Held S
+abbrev pub held_of : {S : Type 0} → List (Name × Name) → List (Name × Name) → List (Seat S) → List Hold → ℕ → Held S
 held_of homes actives seats holds spare = record { homes = homes_of homes; actives = homes_of actives; seats = seats_of seats; holds = holds; spare = spare }
 
 -- no two of a list have one name
@@ -79,7 +78,7 @@ AreApart key [] = Unit {0}
 AreApart key (x ∷ xs) = (place_by key (key x) xs ≡ None) × AreApart key xs
 
 -- a node has one server and one that is active on it, and a server one seat
-pub record AreTables {S : Type 0} (homes actives : List Home) (seats : List (Seat S)) : Type 0 where
+pub record AreTables {S : Type 0} (homes actives : List (Name × Name)) (seats : List (Seat S)) : Type 0 where
   pub homes_apart : AreApart home_key homes
   pub actives_apart : AreApart home_key actives
   pub seats_apart : AreApart seat_key seats

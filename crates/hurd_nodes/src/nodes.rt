@@ -10,8 +10,8 @@ ghost use Rattle.hurd_trans_iface.specs.Meaning.{Begins, root_of};
 ghost use Rattle.hurd_nodes.specs.Held.{box_by, mean, users_in};
 
 use crate::asking::has_tree;
-use crate::search::{home_of, place_of_seat, place_of_server, repeated, users_among};
-use crate::seat::{Hold, Home, Seat};
+use crate::search::{home_of, place_of_seat, place_of_server, put_home, repeated, users_among};
+use crate::seat::{Hold, Homes, Seat};
 use bitflags::Flags;
 use hurd_creds::{Attrs, Errno, Ids, Mode, Name, NodeName, ServerName, TaskId};
 use hurd_trans_iface::{Names, Readable, Root, Server, Words};
@@ -28,9 +28,9 @@ pub const BOOT_NAME: Name = Name {
 #[derive(Drop)]
 pub struct Nodes<S = Box<dyn Server>> {
     /// Which server serves each node.
-    pub(crate) homes: Vec<Home>,
+    pub(crate) homes: Homes,
     /// Which server is active on a node.
-    pub(crate) actives: Vec<Home>,
+    pub(crate) actives: Homes,
     pub(crate) seats: Vec<Seat<S>>,
     /// One for each time that a node or a server is named from outside.
     pub(crate) holds: Vec<Hold>,
@@ -43,9 +43,9 @@ impl<S> Model for Nodes<S> {
 
     ghost coded = { coded_held S.code };
 
-    ghost view = { λ n. held_of n.homes.items n.actives.items n.seats.items n.holds.items (spare_of n.holds) };
+    ghost view = { λ n. held_of n.homes.entries n.actives.entries n.seats.items n.holds.items (spare_of n.holds) };
 
-    ghost invariant = { λ n. AreTables n.homes.items n.actives.items n.seats.items };
+    ghost invariant = { λ n. AreTables n.homes.entries n.actives.entries n.seats.items };
 }
 
 impl<S: Server> Nodes<S> {
@@ -66,7 +66,7 @@ impl<S: Server> Nodes<S> {
         let Ok(ids) = Ids::new(alloc, &[0], &[]) else {
             return Err((Errno::ENOMEM, boot));
         };
-        let Ok(mut homes) = Vec::with_capacity(alloc, 1) else {
+        let Ok(mut homes) = Homes::with_capacity(alloc, 1) else {
             return Err((Errno::ENOMEM, boot));
         };
         let Ok(mut seats) = Vec::with_capacity(alloc, 1) else {
@@ -77,10 +77,7 @@ impl<S: Server> Nodes<S> {
         };
         let mut server = boot;
         server.begin_root(BOOT_NAME, 0, 0, Mode::from_bits_retain(0o755));
-        homes.push_reserved(Home {
-            node: BOOT_NAME,
-            server: BOOT_NAME,
-        });
+        put_home(&mut homes, BOOT_NAME, BOOT_NAME);
         seats.push_reserved(Seat {
             name: BOOT_NAME,
             root: BOOT_NAME,
@@ -89,7 +86,7 @@ impl<S: Server> Nodes<S> {
         });
         Ok(Nodes {
             homes,
-            actives: Vec::new(alloc),
+            actives: Homes::new(alloc),
             seats,
             holds,
         })

@@ -2,37 +2,22 @@
 ghost use Rattle.std.specs.Prelude.{◌≡◌, ◌<◌, ◌≤◌, ◌&&◌, ℕ, List, length, replicate, IfOk, IfSome, MatchOption, vec_len, vec_capacity};
 ghost use Rattle.std.specs.List.{list_any, remove};
 ghost use Rattle.std.specs.FinMap as fin;
+ghost use Rattle.indexmap.specs.IndexMap.{spare};
 ghost use Rattle.hurd_creds.specs.Names.{same_name};
 ghost use Rattle.hurd_creds.specs.NameMaps.{place_by};
 ghost use Rattle.hurd_nodes.specs.Held.{AreApart, AreTables, Shrinks, held_of, home_key, homes_of, is_controlled, is_held, is_user, less_one, names_node, names_server, place_in, seat_key, seats_of, users_in, is_home};
 ghost use Rattle.hurd_nodes.specs.Shown.{less_old, without_seats, without_server, without_value};
 
-use crate::seat::{Hold, Home, Seat};
+use crate::seat::{Hold, Homes, Seat};
 use hurd_creds::{NodeName, ServerName};
 use hurd_trans_iface::Server;
 use std::alloc::{AllocError, Global};
 
-/// The index of the home of a node.
-fn place_of_home(homes: &[Home], node: NodeName) -> Option<usize>
-    ensures is { result ≡ place_by home_key node homes.now }
-    ensures below { IfSome result (λ i. i < length homes.now) }
-{
-    for (i, home) in homes.iter().enumerate() {
-        if node == home.node {
-            return Some(i);
-        }
-    }
-    None
-}
-
 /// The server of a node.
-pub(crate) fn home_of(homes: &[Home], node: NodeName) -> Option<ServerName>
-    ensures { result ≡ fin.get (homes_of homes.now) node }
+pub(crate) fn home_of(homes: &Homes, node: NodeName) -> Option<ServerName>
+    ensures { result ≡ fin.get (homes_of homes.now.entries) node }
 {
-    match place_of_home(homes, node) {
-        Some(i) => Some(homes[i].server),
-        None => None,
-    }
+    homes.get(&node).copied()
 }
 
 /// The index of the seat of a server.
@@ -49,8 +34,8 @@ pub(crate) fn place_of_seat<S>(seats: &[Seat<S>], name: ServerName) -> Option<us
 }
 
 /// The index of the seat of a node's server.
-pub(crate) fn place_of_server<S>(homes: &[Home], seats: &[Seat<S>], node: NodeName) -> Option<usize>
-    ensures is { result ≡ place_in seats.now (fin.get (homes_of homes.now) node) }
+pub(crate) fn place_of_server<S>(homes: &Homes, seats: &[Seat<S>], node: NodeName) -> Option<usize>
+    ensures is { result ≡ place_in seats.now (fin.get (homes_of homes.now.entries) node) }
     ensures below { IfSome result (λ i. i < length seats.now) }
 {
     match home_of(homes, node) {
@@ -60,39 +45,35 @@ pub(crate) fn place_of_server<S>(homes: &[Home], seats: &[Seat<S>], node: NodeNa
 }
 
 /// Gives a node a home, in the place of the one that it has. There is room for one more.
-pub(crate) fn put_home(homes: &mut Vec<Home>, home: Home)
-    requires { vec_len homes.old < vec_capacity homes.old }
-    ensures is { homes_of homes.new.items ≡ fin.insert (homes_of homes.old.items) home.node home.server }
-    ensures apart { AreApart home_key homes.old.items → AreApart home_key homes.new.items }
+pub(crate) fn put_home(homes: &mut Homes, node: NodeName, server: ServerName)
+    requires { 0 < spare homes.old }
+    ensures is { homes_of homes.new.entries ≡ fin.insert (homes_of homes.old.entries) node server }
+    ensures apart { AreApart home_key homes.new.entries }
 {
-    match place_of_home(homes, home.node) {
-        Some(i) => homes[i] = home,
-        None => homes.push_reserved(home),
-    }
+    homes.insert(node, server).unwrap();
 }
 
 /// Takes out the home of a node.
-pub(crate) fn remove_home(homes: &mut Vec<Home>, node: NodeName)
-    ensures is { homes_of homes.new.items ≡ fin.remove (homes_of homes.old.items) node }
-    ensures apart { AreApart home_key homes.old.items → AreApart home_key homes.new.items }
+pub(crate) fn remove_home(homes: &mut Homes, node: NodeName)
+    ensures is { homes_of homes.new.entries ≡ fin.remove (homes_of homes.old.entries) node }
+    ensures apart { AreApart home_key homes.new.entries }
 {
-    homes.retain(|home| node != home.node);
+    homes.swap_remove(&node);
 }
 
 /// Takes out the homes that are of this server.
-pub(crate) fn remove_homes_of(homes: &mut Vec<Home>, server: ServerName)
-    requires { AreApart home_key homes.old.items }
-    ensures is { homes_of homes.new.items ≡ without_value server (homes_of homes.old.items) }
-    ensures apart { AreApart home_key homes.new.items }
-    ensures len { vec_len homes.new ≤ vec_len homes.old }
-    ensures capacity { vec_capacity homes.new ≡ vec_capacity homes.old }
+pub(crate) fn remove_homes_of(homes: &mut Homes, server: ServerName)
+    requires { AreApart home_key homes.old.entries }
+    ensures is { homes_of homes.new.entries ≡ without_value server (homes_of homes.old.entries) }
+    ensures apart { AreApart home_key homes.new.entries }
+    ensures room { spare homes.old ≤ spare homes.new }
 {
-    homes.retain(|home| server != home.server);
+    homes.retain(|_, home| server != *home);
 }
 
 /// Whether a node is of a server.
-fn is_served(homes: &[Home], node: NodeName, server: ServerName) -> bool
-    ensures { result ≡ is_home server (fin.get (homes_of homes.now) node) }
+fn is_served(homes: &Homes, node: NodeName, server: ServerName) -> bool
+    ensures { result ≡ is_home server (fin.get (homes_of homes.now.entries) node) }
 {
     match home_of(homes, node) {
         Some(home) => server == home,
@@ -101,14 +82,13 @@ fn is_served(homes: &[Home], node: NodeName, server: ServerName) -> bool
 }
 
 /// Takes out what is active on nodes of this server, and this server where it is active.
-pub(crate) fn remove_seats_of(actives: &mut Vec<Home>, homes: &[Home], server: ServerName)
-    requires { AreApart home_key actives.old.items }
-    ensures is { homes_of actives.new.items ≡ without_seats server (homes_of homes.now) (homes_of actives.old.items) }
-    ensures apart { AreApart home_key actives.new.items }
-    ensures len { vec_len actives.new ≤ vec_len actives.old }
-    ensures capacity { vec_capacity actives.new ≡ vec_capacity actives.old }
+pub(crate) fn remove_seats_of(actives: &mut Homes, homes: &Homes, server: ServerName)
+    requires { AreApart home_key actives.old.entries }
+    ensures is { homes_of actives.new.entries ≡ without_seats server (homes_of homes.now.entries) (homes_of actives.old.entries) }
+    ensures apart { AreApart home_key actives.new.entries }
+    ensures room { spare actives.old ≤ spare actives.new }
 {
-    actives.retain(|active| { !is_served(homes, active.node, server) && server != active.server });
+    actives.retain(|node, active| { !is_served(homes, *node, server) && server != *active });
 }
 
 /// Takes out the seat of a server, with its box.
@@ -123,16 +103,16 @@ pub(crate) fn remove_seat<S: Drop>(seats: &mut Vec<Seat<S>>, name: ServerName)
 
 /// Takes out a server: its nodes with what is active on them, wherever it is active itself, and its seat with its box.
 pub(crate) fn remove_server<S: Drop>(
-    homes: &mut Vec<Home>,
-    actives: &mut Vec<Home>,
+    homes: &mut Homes,
+    actives: &mut Homes,
     seats: &mut Vec<Seat<S>>,
     server: ServerName,
 )
-    requires { AreTables homes.old.items actives.old.items seats.old.items }
-    ensures is { (holds : List _) (spare : ℕ) → held_of homes.new.items actives.new.items seats.new.items holds spare
-        ≡ without_server (held_of homes.old.items actives.old.items seats.old.items holds spare) server }
-    ensures tables { AreTables homes.new.items actives.new.items seats.new.items }
-    ensures room { Shrinks homes.old homes.new × Shrinks actives.old actives.new × Shrinks seats.old seats.new }
+    requires { AreTables homes.old.entries actives.old.entries seats.old.items }
+    ensures is { (holds : List _) (room : ℕ) → held_of homes.new.entries actives.new.entries seats.new.items holds room
+        ≡ without_server (held_of homes.old.entries actives.old.entries seats.old.items holds room) server }
+    ensures tables { AreTables homes.new.entries actives.new.entries seats.new.items }
+    ensures room { (spare homes.old ≤ spare homes.new) × (spare actives.old ≤ spare actives.new) × Shrinks seats.old seats.new }
 {
     remove_seats_of(actives, homes, server);
     remove_homes_of(homes, server);
@@ -153,16 +133,16 @@ fn tell_away<S: Server>(seats: &mut Vec<Seat<S>>, server: ServerName)
 
 /// Sends a server away: its box is told, and then it is taken out as by `remove_server`.
 pub(crate) fn send_away<S: Server>(
-    homes: &mut Vec<Home>,
-    actives: &mut Vec<Home>,
+    homes: &mut Homes,
+    actives: &mut Homes,
     seats: &mut Vec<Seat<S>>,
     server: ServerName,
 )
-    requires { AreTables homes.old.items actives.old.items seats.old.items }
-    ensures is { (holds : List _) (spare : ℕ) → held_of homes.new.items actives.new.items seats.new.items holds spare
-        ≡ without_server (held_of homes.old.items actives.old.items seats.old.items holds spare) server }
-    ensures tables { AreTables homes.new.items actives.new.items seats.new.items }
-    ensures room { Shrinks homes.old homes.new × Shrinks actives.old actives.new × Shrinks seats.old seats.new }
+    requires { AreTables homes.old.entries actives.old.entries seats.old.items }
+    ensures is { (holds : List _) (room : ℕ) → held_of homes.new.entries actives.new.entries seats.new.items holds room
+        ≡ without_server (held_of homes.old.entries actives.old.entries seats.old.items holds room) server }
+    ensures tables { AreTables homes.new.entries actives.new.entries seats.new.items }
+    ensures room { (spare homes.old ≤ spare homes.new) × (spare actives.old ≤ spare actives.new) × Shrinks seats.old seats.new }
 {
     tell_away(seats, server);
     remove_server(homes, actives, seats, server);
@@ -170,16 +150,16 @@ pub(crate) fn send_away<S: Server>(
 
 /// Sends the server away that leaves, if one does.
 pub(crate) fn remove_old<S: Server>(
-    homes: &mut Vec<Home>,
-    actives: &mut Vec<Home>,
+    homes: &mut Homes,
+    actives: &mut Homes,
     seats: &mut Vec<Seat<S>>,
     old: Option<ServerName>,
 )
-    requires { AreTables homes.old.items actives.old.items seats.old.items }
-    ensures is { (holds : List _) (spare : ℕ) → held_of homes.new.items actives.new.items seats.new.items holds spare
-        ≡ less_old (held_of homes.old.items actives.old.items seats.old.items holds spare) old }
-    ensures tables { AreTables homes.new.items actives.new.items seats.new.items }
-    ensures room { Shrinks homes.old homes.new × Shrinks actives.old actives.new × Shrinks seats.old seats.new }
+    requires { AreTables homes.old.entries actives.old.entries seats.old.items }
+    ensures is { (holds : List _) (room : ℕ) → held_of homes.new.entries actives.new.entries seats.new.items holds room
+        ≡ less_old (held_of homes.old.entries actives.old.entries seats.old.items holds room) old }
+    ensures tables { AreTables homes.new.entries actives.new.entries seats.new.items }
+    ensures room { (spare homes.old ≤ spare homes.new) × (spare actives.old ≤ spare actives.new) × Shrinks seats.old seats.new }
 {
     if let Some(server) = old {
         send_away(homes, actives, seats, server);
@@ -188,14 +168,14 @@ pub(crate) fn remove_old<S: Server>(
 
 /// Takes room for a row more in each table. `ENOMEM`: the rows are as they were.
 pub(crate) fn reserve_rows<S>(
-    homes: &mut Vec<Home>,
-    actives: &mut Vec<Home>,
+    homes: &mut Homes,
+    actives: &mut Homes,
     seats: &mut Vec<Seat<S>>,
 ) -> Result<(), AllocError>
-    ensures homes { homes.new.items ≡ homes.old.items }
-    ensures actives { actives.new.items ≡ actives.old.items }
+    ensures homes { homes.new.entries ≡ homes.old.entries }
+    ensures actives { actives.new.entries ≡ actives.old.entries }
     ensures seats { seats.new.items ≡ seats.old.items }
-    ensures room { IfOk result (λ u. (vec_len homes.new < vec_capacity homes.new) × (vec_len actives.new < vec_capacity actives.new) × (vec_len seats.new < vec_capacity seats.new)) }
+    ensures room { IfOk result (λ u. (0 < spare homes.new) × (0 < spare actives.new) × (vec_len seats.new < vec_capacity seats.new)) }
 {
     homes.reserve(1)?;
     actives.reserve(1)?;
@@ -203,22 +183,19 @@ pub(crate) fn reserve_rows<S>(
 }
 
 /// Whether a server is active on a node.
-pub(crate) fn is_active(actives: &[Home], server: ServerName) -> bool
-    ensures { result ≡ list_any (λ x. same_name server x.server) actives.now }
+pub(crate) fn is_active(actives: &Homes, server: ServerName) -> bool
+    ensures { result ≡ list_any (λ x. same_name server x.1) actives.now.entries }
 {
-    actives.iter().any(|active| server == active.server)
+    actives.iter().any(|(_, active)| server == *active)
 }
 
 /// Whether a server has a node that is named from outside.
-pub(crate) fn has_held(homes: &[Home], holds: &[Hold], server: ServerName) -> bool
-    ensures { result ≡ list_any (λ x. same_name server x.server && is_held holds.now x.node) homes.now }
+pub(crate) fn has_held(homes: &Homes, holds: &[Hold], server: ServerName) -> bool
+    ensures { result ≡ list_any (λ x. same_name server x.1 && is_held holds.now x.0) homes.now.entries }
 {
-    for home in homes {
-        if server == home.server && is_held(holds, home.node) {
-            return true;
-        }
-    }
-    false
+    homes
+        .iter()
+        .any(|(node, home)| server == *home && is_held(holds, *node))
 }
 
 /// Whether a hold names a node.
@@ -299,8 +276,8 @@ pub(crate) fn repeated(alloc: Global, hold: Hold, times: usize) -> Result<Vec<Ho
 }
 
 /// Whether this is a right to use a node of a server.
-fn is_user(homes: &[Home], hold: Hold, server: ServerName) -> bool
-    ensures { result ≡ is_user (homes_of homes.now) server hold }
+fn is_user(homes: &Homes, hold: Hold, server: ServerName) -> bool
+    ensures { result ≡ is_user (homes_of homes.now.entries) server hold }
 {
     match hold {
         Hold::Use(node) => is_served(homes, node, server),
@@ -310,8 +287,8 @@ fn is_user(homes: &[Home], hold: Hold, server: ServerName) -> bool
 }
 
 /// How many of these holds are rights to use nodes of a server.
-pub(crate) fn users_among(homes: &[Home], holds: &[Hold], server: ServerName) -> usize
-    ensures { result ≡ users_in (homes_of homes.now) server holds.now }
+pub(crate) fn users_among(homes: &Homes, holds: &[Hold], server: ServerName) -> usize
+    ensures { result ≡ users_in (homes_of homes.now.entries) server holds.now }
 {
     let mut count = 0;
     for hold in holds {

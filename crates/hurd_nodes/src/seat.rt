@@ -1,12 +1,9 @@
 //! The rows of the tables, homes of nodes and seats of servers, and what is named from outside.
 use hurd_creds::{Ids, Mode, NodeName, ServerName};
+use indexmap::IndexMap;
 
-/// A node has a server: the one that serves it, or the one that is active on it.
-#[derive(Clone, Copy, Debug, PartialEq, Eq)]
-pub(crate) struct Home {
-    pub(crate) node: NodeName,
-    pub(crate) server: ServerName,
-}
+/// The server that each of some nodes has: the one that serves it, or the one that is active on it.
+pub(crate) type Homes = IndexMap<NodeName, ServerName>;
 
 /// A server in its place: its name, the name of its root, its ids, and its box.
 #[derive(Drop)]

@@ -7,7 +7,7 @@ ghost use Rattle.hurd_nodes.specs.Held.{holds_of};
 
 use crate::nodes::Nodes;
 use crate::search::{put_home, remove_home, remove_old, reserve_rows, send_away};
-use crate::seat::{Home, Place, Seat};
+use crate::seat::{Place, Seat};
 use hurd_creds::{Errno, Ids, NodeName, ServerName};
 use hurd_trans_iface::Server;
 
@@ -43,16 +43,8 @@ impl<S: Server> Nodes<S> {
         );
         let mut server = server;
         server.begin_root(place.root, place.owner, place.group, place.mode);
-        let served = Home {
-            node: place.root,
-            server: place.name,
-        };
-        let seated = Home {
-            node: place.seat,
-            server: place.name,
-        };
-        put_home(&mut self.homes, served);
-        put_home(&mut self.actives, seated);
+        put_home(&mut self.homes, place.root, place.name);
+        put_home(&mut self.actives, place.seat, place.name);
         self.seats.push_reserved(Seat {
             name: place.name,
             root: place.root,

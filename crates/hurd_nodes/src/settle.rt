@@ -13,7 +13,7 @@ use crate::search::{
     has_held, is_active, is_controlled, is_held, place_of_server, remove_hold, remove_home,
     remove_server,
 };
-use crate::seat::{Hold, Home, Seat};
+use crate::seat::{Hold, Homes, Seat};
 use hurd_creds::{Attrs, NodeName, ServerName};
 use hurd_trans_iface::Server;
 use std::alloc::AllocError;
@@ -74,15 +74,17 @@ impl<S: Server> Nodes<S> {
         false
     }
 
-    /// The first node of these rows that doesn't stay.
-    fn unkept_node(&self, rows: &[Home]) -> Option<NodeName>
+    /// The first node of these homes that doesn't stay.
+    fn unkept_node(&self, homes: &Homes) -> Option<NodeName>
         ensures found { IfSome result (λ n. (node_stays (outside_of self.now.holds) (shown S.meaning self.now) n ≡ false)
-            × (is_some (fin.get (homes_of rows.now) n) ≡ true)) }
-        ensures none { result ≡ None → list_any (λ x. not (node_stays (outside_of self.now.holds) (shown S.meaning self.now) x.node)) rows.now ≡ false }
+            × (is_some (fin.get (homes_of homes.now.entries) n) ≡ true)) }
+        ensures none { result ≡ None → list_any (λ x. not (node_stays (outside_of self.now.holds) (shown S.meaning self.now) x.0)) homes.now.entries ≡ false }
     {
-        for row in rows {
-            if !self.node_stays(row.node) {
-                return Some(row.node);
+        for i in 0..homes.len() {
+            if let Some((node, _)) = homes.get_index(i) {
+                if !self.node_stays(*node) {
+                    return Some(*node);
+                }
             }
         }
         None

@@ -12,7 +12,7 @@ passed count next i before after is below same none = (omega arith, omega arith)
 
 pub loop-hold-preserved : goal.loop-hold-preserved
 loop-hold-preserved c =
-    let p = is_user (homes_of c.args.homes.now) c.args.server in
+    let p = is_user (homes_of c.args.homes.now.entries) c.args.server in
     elim c.if-is_user.branch [
       | then-is_user w ↦
           counted c.loop-hold.count c.if-is_user.count c.loop-hold.hold-index _ _ c.loop-hold.invariant.0 c.loop-hold.invariant.1 w.count-is

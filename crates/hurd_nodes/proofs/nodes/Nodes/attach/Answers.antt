@@ -23,20 +23,20 @@ new g c = record { name = c.args.place.name; root = c.args.place.root; ids = c.a
 
 -- what is held, and what is left of it without the server that leaves
 abbrev held : (g : given.Over) (c : goal.After-push_reserved g) → Held g.row.S.Denot
-held g c = held_of c.self.inside.homes.items c.self.inside.actives.items c.self.inside.seats.items c.self.inside.holds.items (spare_of c.self.inside.holds)
+held g c = held_of c.self.inside.homes.entries c.self.inside.actives.entries c.self.inside.seats.items c.self.inside.holds.items (spare_of c.self.inside.holds)
 
 abbrev left : (g : given.Over) (c : goal.After-push_reserved g) → Held g.row.S.Denot
 left g c = less_old (held g c) c.args.instead
 
 -- as the tables have it
 tables_left : (g : given.Over) (c : goal.After-push_reserved g)
-    → held_of c.remove_old.new.homes.items c.remove_old.new.actives.items c.remove_old.new.seats.items c.self.inside.holds.items (spare_of c.self.inside.holds) ≡ left g c
+    → held_of c.remove_old.new.homes.entries c.remove_old.new.actives.entries c.remove_old.new.seats.items c.self.inside.holds.items (spare_of c.self.inside.holds) ≡ left g c
 tables_left g c =
     c.remove_old.ensures.is c.self.inside.holds.items (spare_of c.self.inside.holds)
     ∙ rw (c.reserve_rows.ensures.homes, c.reserve_rows.ensures.actives, c.reserve_rows.ensures.seats) refl
 
 tables_less : (g : given.Over) (c : goal.After-push_reserved g)
-    → held_of c.send_away.new.homes.items c.send_away.new.actives.items c.send_away.new.seats.items c.self.inside.holds.items (spare_of c.self.inside.holds) ≡ without_server (left g c) c.args.place.name
+    → held_of c.send_away.new.homes.entries c.send_away.new.actives.entries c.send_away.new.seats.items c.self.inside.holds.items (spare_of c.self.inside.holds) ≡ without_server (left g c) c.args.place.name
 tables_less g c =
     c.send_away.ensures.is c.self.inside.holds.items (spare_of c.self.inside.holds) ∙ ap (λ (t : Held g.row.S.Denot). without_server t c.args.place.name) (tables_left g c)
 
@@ -48,8 +48,8 @@ pub invariant_of-self-2 : goal.invariant_of-self-2
 invariant_of-self-2 g c =
     let tables = c.send_away.ensures.tables in
     record {
-      homes_apart = c.put_home.ensures.apart tables.homes_apart;
-      actives_apart = c.put_home-2.ensures.apart tables.actives_apart;
+      homes_apart = c.put_home.ensures.apart;
+      actives_apart = c.put_home-2.ensures.apart;
       seats_apart = rw c.push_reserved.ensures.items (seat-apart c.remove_old.new.seats.items c.send_away.new.seats.items (new g c) (out g c) tables.seats_apart);
     }
 
@@ -60,10 +60,10 @@ pushed g c =
     ap seats_of c.push_reserved.ensures.items ∙ seat-pushed c.remove_old.new.seats.items c.send_away.new.seats.items (new g c) (out g c)
     ∙ ap (λ (t : Held g.row.S.Denot). fin.insert (fin.remove t.seats c.args.place.name) c.args.place.name (seat_value (new g c))) (tables_left g c)
 
-housed : (g : given.Over) (c : goal.After-push_reserved g) → homes_of c.put_home.new.homes.items ≡ fin.insert (without_server (left g c) c.args.place.name).homes c.args.place.root c.args.place.name
+housed : (g : given.Over) (c : goal.After-push_reserved g) → homes_of c.put_home.new.homes.entries ≡ fin.insert (without_server (left g c) c.args.place.name).homes c.args.place.root c.args.place.name
 housed g c = c.put_home.ensures.is ∙ ap (λ (t : Held g.row.S.Denot). fin.insert t.homes c.args.place.root c.args.place.name) (tables_less g c)
 
-seated : (g : given.Over) (c : goal.After-push_reserved g) → homes_of c.put_home-2.new.homes.items ≡ fin.insert (without_server (left g c) c.args.place.name).actives c.args.place.seat c.args.place.name
+seated : (g : given.Over) (c : goal.After-push_reserved g) → homes_of c.put_home-2.new.homes.entries ≡ fin.insert (without_server (left g c) c.args.place.name).actives c.args.place.seat c.args.place.name
 seated g c = c.put_home-2.ensures.is ∙ ap (λ (t : Held g.row.S.Denot). fin.insert t.actives c.args.place.seat c.args.place.name) (tables_less g c)
 
 pub returns-clause-shown : goal.returns-clause-shown

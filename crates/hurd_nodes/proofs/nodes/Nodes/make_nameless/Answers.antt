@@ -5,7 +5,7 @@ use Rattle.std.specs.FinMap as fin
 use Rattle.hurd_trans_iface.specs.Meaning.{Meaning, keeps_tree}
 use Rattle.hurd_nodes.specs.Shown.{nameless_in}
 use Rattle.hurd_nodes.specs.Held.{homes_of, mean, mean_seat, seat_key, seat_value, seats_of}
-use Rattle.hurd_nodes.specs.declared.seat.Home.{Home}
+use Rattle.hurd_creds.specs.declared.name.Name.{Name}
 use Rattle.hurd_nodes.proofs.TableLaws.{apart-set}
 use Rattle.hurd_nodes.proofs.SeatLaws.{SeatAt, seat-at, seat-twice, some_same, unplaced}
 use Rattle.hurd_nodes.proofs.NamelessLaws.{nameless-gone, nameless-refused, nameless-short, nameless-not, nameless-done}
@@ -16,39 +16,39 @@ use Rattle.hurd_nodes.proofs.nodes.Nodes.make_nameless.Goals as goal
 pub returns-in_default-clause-shown : goal.returns-in_default-clause-shown
 returns-in_default-clause-shown g c =
     let f = g.S.Server.meaning in
-    let at = rw (c.deref.ensures.value, c.deref-2.ensures.value) at c.in_default.ensures.is in
-    let homes = homes_of c.self.inside.homes.items in
-    rw (← c.self.view_is) (nameless-gone c.args.dir c.args.new homes (homes_of c.self.inside.actives.items) (mean f (seats_of c.self.inside.seats.items)) (unplaced f c.self.inside.seats.items (fin.get homes c.args.dir) at))
+    let at = rw c.deref.ensures.value at c.in_default.ensures.is in
+    let homes = homes_of c.self.inside.homes.entries in
+    rw (← c.self.view_is) (nameless-gone c.args.dir c.args.new homes (homes_of c.self.inside.actives.entries) (mean f (seats_of c.self.inside.seats.items)) (unplaced f c.self.inside.seats.items (fin.get homes c.args.dir) at))
 
 pub returns-in_err-can_make_nameless_in-clause-shown : goal.returns-in_err-can_make_nameless_in-clause-shown
 returns-in_err-can_make_nameless_in-clause-shown g c =
     let f = g.S.Server.meaning in
-    let at = rw (c.deref.ensures.value, c.deref-2.ensures.value) at c.in-Some.ensures.is in
-    let homes = homes_of c.self.inside.homes.items in
+    let at = rw c.deref.ensures.value at c.in-Some.ensures.is in
+    let homes = homes_of c.self.inside.homes.entries in
     let ss = c.self.inside.seats.items in
     let x = c.index.result.now in
     let s = seat-at f ss (fin.get homes c.args.dir) c.in-Some.i x at c.index.ensures in
     let p = err_from_is_err_and c.from_residual.result c.from_residual.ensures.1 in
     rw (p.1, p.2, ← c.self.view_is)
-    (nameless-refused c.args.dir c.args.new homes (homes_of c.self.inside.actives.items) (mean f (seats_of ss)) s.name (mean_seat f (seat_value x)) s.home s.is c.in_err-can_make_nameless_in.field-0.0 (sym c.in_err-can_make_nameless_in.ensures))
+    (nameless-refused c.args.dir c.args.new homes (homes_of c.self.inside.actives.entries) (mean f (seats_of ss)) s.name (mean_seat f (seat_value x)) s.home s.is c.in_err-can_make_nameless_in.field-0.0 (sym c.in_err-can_make_nameless_in.ensures))
 
 pub returns-in_err-reserve-clause-shown : goal.returns-in_err-reserve-clause-shown
 returns-in_err-reserve-clause-shown g c =
     let f = g.S.Server.meaning in
-    let at = rw (c.deref.ensures.value, c.deref-2.ensures.value) at c.in-Some.ensures.is in
-    let homes = homes_of c.self.inside.homes.items in
+    let at = rw c.deref.ensures.value at c.in-Some.ensures.is in
+    let homes = homes_of c.self.inside.homes.entries in
     let ss = c.self.inside.seats.items in
     let x = c.index.result.now in
     let s = seat-at f ss (fin.get homes c.args.dir) c.in-Some.i x at c.index.ensures in
     let p = err_from_is_err_and c.from_residual-in_err-reserve.result c.from_residual-in_err-reserve.ensures.1 in
-    rw (p.1, p.2, ← c.self.view_is, c.reserve.ensures.items)
-    (nameless-short c.args.dir c.args.new homes (homes_of c.self.inside.actives.items) (mean f (seats_of ss)) s.name (mean_seat f (seat_value x)) s.home s.is c.in_ok-can_make_nameless_in.field-0 (sym c.in_ok-can_make_nameless_in.ensures))
+    rw (p.1, p.2, ← c.self.view_is, c.reserve.ensures.entries)
+    (nameless-short c.args.dir c.args.new homes (homes_of c.self.inside.actives.entries) (mean f (seats_of ss)) s.name (mean_seat f (seat_value x)) s.home s.is c.in_ok-can_make_nameless_in.field-0 (sym c.in_ok-can_make_nameless_in.ensures))
 
 pub returns-in_err-make_nameless-clause-shown : goal.returns-in_err-make_nameless-clause-shown
 returns-in_err-make_nameless-clause-shown g c =
     let f = g.S.Server.meaning in
-    let at = rw (c.deref.ensures.value, c.deref-2.ensures.value) at c.in-Some.ensures.is in
-    let homes = homes_of c.self.inside.homes.items in
+    let at = rw c.deref.ensures.value at c.in-Some.ensures.is in
+    let homes = homes_of c.self.inside.homes.entries in
     let ss = c.self.inside.seats.items in
     let x = c.index_mut.result.now in
     let s = seat-at f ss (fin.get homes c.args.dir) c.in-Some.i x at c.index_mut.ensures.value in
@@ -57,41 +57,41 @@ returns-in_err-make_nameless-clause-shown g c =
     ap (λ (m : Meaning). nameless_in (keeps_tree m.kind) c.args.new.kind (fin.get m.nodes c.args.dir)) (seat-twice f ss (fin.get homes c.args.dir) c.in-Some.i x c.index.result.now s t)
     ∙ sym c.in_ok-can_make_nameless_in.ensures in
     let p = err_from_is_err_and c.from_residual-in_err-make_nameless.result c.from_residual-in_err-make_nameless.ensures.1 in
-    rw (p.1, p.2, ← c.self.view_is, c.reserve.ensures.items, s.set c.make_nameless.new.self)
-    (nameless-not c.args.dir c.args.new homes (homes_of c.self.inside.actives.items) (mean f (seats_of ss)) s.name (mean_seat f (seat_value x)) s.home s.is (f c.make_nameless.new.self) c.in_ok-can_make_nameless_in.field-0 c.in_err-make_nameless.field-0.0 can (rw c.in_err-make_nameless.was at c.make_nameless.ensures))
+    rw (p.1, p.2, ← c.self.view_is, c.reserve.ensures.entries, s.set c.make_nameless.new.self)
+    (nameless-not c.args.dir c.args.new homes (homes_of c.self.inside.actives.entries) (mean f (seats_of ss)) s.name (mean_seat f (seat_value x)) s.home s.is (f c.make_nameless.new.self) c.in_ok-can_make_nameless_in.field-0 c.in_err-make_nameless.field-0.0 can (rw c.in_err-make_nameless.was at c.make_nameless.ensures))
 
 pub returns-in_err-make_nameless-clause-hidden : goal.returns-in_err-make_nameless-clause-hidden
 returns-in_err-make_nameless-clause-hidden g c =
     let f = g.S.Server.meaning in
-    let at = rw (c.deref.ensures.value, c.deref-2.ensures.value) at c.in-Some.ensures.is in
-    let homes = homes_of c.self.inside.homes.items in
+    let at = rw c.deref.ensures.value at c.in-Some.ensures.is in
+    let homes = homes_of c.self.inside.homes.entries in
     let ss = c.self.inside.seats.items in
     let x = c.index_mut.result.now in
     let s = seat-at f ss (fin.get homes c.args.dir) c.in-Some.i x at c.index_mut.ensures.value in
-    rw (← c.self.view_is, c.reserve.ensures.items, s.set c.make_nameless.new.self)
+    rw (← c.self.view_is, c.reserve.ensures.entries, s.set c.make_nameless.new.self)
     (λ fresh hides. hides-not_nameless c.args.new homes (mean f (seats_of ss)) s.name (mean_seat f (seat_value x)) s.is (f c.make_nameless.new.self) c.in_err-make_nameless.field-0.0 (rw c.in_err-make_nameless.was at c.make_nameless.ensures) hides)
 
 -- made: the seat of the server, and the table of homes with the new one
 
-seat : (g : given.Over) (c : goal.After-put_home g) → SeatAt g.S.Server.meaning c.self.inside.seats.items (fin.get (homes_of c.self.inside.homes.items) c.args.dir) c.in-Some.i c.index_mut.result.now
+seat : (g : given.Over) (c : goal.After-put_home g) → SeatAt g.S.Server.meaning c.self.inside.seats.items (fin.get (homes_of c.self.inside.homes.entries) c.args.dir) c.in-Some.i c.index_mut.result.now
 seat g c =
-    let at = rw (c.deref.ensures.value, c.deref-2.ensures.value) at c.in-Some.ensures.is in
-    seat-at g.S.Server.meaning c.self.inside.seats.items (fin.get (homes_of c.self.inside.homes.items) c.args.dir) c.in-Some.i c.index_mut.result.now at c.index_mut.ensures.value
+    let at = rw c.deref.ensures.value at c.in-Some.ensures.is in
+    seat-at g.S.Server.meaning c.self.inside.seats.items (fin.get (homes_of c.self.inside.homes.entries) c.args.dir) c.in-Some.i c.index_mut.result.now at c.index_mut.ensures.value
 
-home_put : (g : given.Over) (c : goal.After-put_home g) → homes_of c.put_home.new.homes.items ≡ fin.insert (homes_of c.self.inside.homes.items) c.args.new.name (seat g c).name
+home_put : (g : given.Over) (c : goal.After-put_home g) → homes_of c.put_home.new.homes.entries ≡ fin.insert (homes_of c.self.inside.homes.entries) c.args.new.name (seat g c).name
 home_put g c =
-    let homes = homes_of c.self.inside.homes.items in
-    let at = rw (c.deref.ensures.value, c.deref-2.ensures.value) at c.in-Some.ensures.is in
+    let homes = homes_of c.self.inside.homes.entries in
+    let at = rw c.deref.ensures.value at c.in-Some.ensures.is in
     let q = seat-at g.S.Server.meaning c.self.inside.seats.items (fin.get homes c.args.dir) c.in-Some.i c.index-2.result.now at c.index-2.ensures in
     let one : Some q.name ≡ Some (seat g c).name = sym q.home ∙ (seat g c).home in
     let named : c.index-2.result.now.name ≡ (seat g c).name = q.named ∙ some_same one in
-    c.put_home.ensures.is ∙ ap (λ (hs : List Home). fin.insert (homes_of hs) c.args.new.name c.index-2.result.now.name) c.reserve.ensures.items ∙ ap (fin.insert homes c.args.new.name) named
+    c.put_home.ensures.is ∙ ap (λ (hs : List (Name × Name)). fin.insert (homes_of hs) c.args.new.name c.index-2.result.now.name) c.reserve.ensures.entries ∙ ap (fin.insert homes c.args.new.name) named
 
 pub returns-clause-shown : goal.returns-clause-shown
 returns-clause-shown g c =
     let f = g.S.Server.meaning in
-    let at = rw (c.deref.ensures.value, c.deref-2.ensures.value) at c.in-Some.ensures.is in
-    let homes = homes_of c.self.inside.homes.items in
+    let at = rw c.deref.ensures.value at c.in-Some.ensures.is in
+    let homes = homes_of c.self.inside.homes.entries in
     let ss = c.self.inside.seats.items in
     let x = c.index_mut.result.now in
     let s = seat g c in
@@ -100,27 +100,27 @@ returns-clause-shown g c =
     ap (λ (m : Meaning). nameless_in (keeps_tree m.kind) c.args.new.kind (fin.get m.nodes c.args.dir)) (seat-twice f ss (fin.get homes c.args.dir) c.in-Some.i x c.index.result.now s t)
     ∙ sym c.in_ok-can_make_nameless_in.ensures in
     rw (← c.self.view_is, home_put g c, s.set c.make_nameless.new.self)
-    (nameless-done c.args.dir c.args.new homes (homes_of c.self.inside.actives.items) (mean f (seats_of ss)) s.name (mean_seat f (seat_value x)) s.home s.is (f c.make_nameless.new.self) c.in_ok-make_nameless.field-0 can (rw c.in_ok-make_nameless.was at c.make_nameless.ensures))
+    (nameless-done c.args.dir c.args.new homes (homes_of c.self.inside.actives.entries) (mean f (seats_of ss)) s.name (mean_seat f (seat_value x)) s.home s.is (f c.make_nameless.new.self) c.in_ok-make_nameless.field-0 can (rw c.in_ok-make_nameless.was at c.make_nameless.ensures))
 
 pub returns-clause-hidden : goal.returns-clause-hidden
 returns-clause-hidden g c =
     let f = g.S.Server.meaning in
     let s = seat g c in
     rw (← c.self.view_is, home_put g c, s.set c.make_nameless.new.self)
-    (λ fresh hides. hides-nameless c.args.new (homes_of c.self.inside.homes.items) (mean f (seats_of c.self.inside.seats.items)) s.name (mean_seat f (seat_value c.index_mut.result.now)) s.is (f c.make_nameless.new.self) c.in_ok-make_nameless.field-0 (rw c.in_ok-make_nameless.was at c.make_nameless.ensures) fresh hides)
+    (λ fresh hides. hides-nameless c.args.new (homes_of c.self.inside.homes.entries) (mean f (seats_of c.self.inside.seats.items)) s.name (mean_seat f (seat_value c.index_mut.result.now)) s.is (f c.make_nameless.new.self) c.in_ok-make_nameless.field-0 (rw c.in_ok-make_nameless.was at c.make_nameless.ensures) fresh hides)
 
 -- no two rows are of one name
 
 pub invariant_of-self-2 : goal.invariant_of-self-2
 invariant_of-self-2 g c = record {
-  homes_apart = c.put_home.ensures.apart (rw c.reserve.ensures.items c.self.invariant.homes_apart);
+  homes_apart = c.put_home.ensures.apart;
   actives_apart = c.self.invariant.actives_apart;
   seats_apart = apart-set seat_key c.self.inside.seats.items c.in-Some.i c.index_mut.result.now (record c.index_mut.result.now { server = c.make_nameless.new.self }) c.index_mut.ensures.value refl c.self.invariant.seats_apart;
 }
 
 pub invariant_of-self-in_err-make_nameless : goal.invariant_of-self-in_err-make_nameless
 invariant_of-self-in_err-make_nameless g c = record {
-  homes_apart = rw c.reserve.ensures.items c.self.invariant.homes_apart;
+  homes_apart = rw c.reserve.ensures.entries c.self.invariant.homes_apart;
   actives_apart = c.self.invariant.actives_apart;
   seats_apart = apart-set seat_key c.self.inside.seats.items c.in-Some.i c.index_mut.result.now (record c.index_mut.result.now { server = c.make_nameless.new.self }) c.index_mut.ensures.value refl c.self.invariant.seats_apart;
 }

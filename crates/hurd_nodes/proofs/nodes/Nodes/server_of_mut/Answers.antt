@@ -14,12 +14,12 @@ returns-in-Some g c =
     let s = c.index_mut.result.now in
     let ss = c.self.inside.seats.items in
     let spare = spare_of c.self.inside.holds in
-    let old = held_of c.self.inside.homes.items c.self.inside.actives.items ss c.self.inside.holds.items spare in
-    let at = rw (c.deref.ensures.value, c.deref-2.ensures.value) at c.in-Some.ensures.is in
+    let old = held_of c.self.inside.homes.entries c.self.inside.actives.entries ss c.self.inside.holds.items spare in
+    let at = rw c.deref.ensures.value at c.in-Some.ensures.is in
     let p = placed ss _ _ at in
     let n = p.0 in
     let h : fin.get old.seats n ≡ Some (seat_value s) = get-found seat_key seat_value n ss c.in-Some.i s p.2 c.index_mut.ensures.value in
-    let eq : (w : g.row.S.Denot) → held_of c.self.inside.homes.items c.self.inside.actives.items (slice_set ss c.in-Some.i (record s { server = w })) c.self.inside.holds.items spare ≡ with_server_of c.args.self.now c.args.node w =
+    let eq : (w : g.row.S.Denot) → held_of c.self.inside.homes.entries c.self.inside.actives.entries (slice_set ss c.in-Some.i (record s { server = w })) c.self.inside.holds.items spare ≡ with_server_of c.args.self.now c.args.node w =
     λ w. ap (with_seats old) (keyed-changed seat_key seat_value n ss c.in-Some.i s (record s { server = w }) p.2 c.index_mut.ensures.value refl)
     ∙ sym (ap (λ (o : Option (Seated g.row.S.Denot)). with_seats old (put_box old.seats n w o)) h)
     ∙ sym (ap (λ (o : Option Name). with_seats old (put_by old.seats o w)) p.1)
@@ -33,7 +33,7 @@ returns-in-Some g c =
 
 pub returns-in-None : goal.returns-in-None
 returns-in-None g c =
-    let at = rw (c.deref.ensures.value, c.deref-2.ensures.value) at c.in-None.ensures.is in (
+    let at = rw c.deref.ensures.value at c.in-None.ensures.is in (
       ap inr c.self.view_is,
       record {
         lends = tt;

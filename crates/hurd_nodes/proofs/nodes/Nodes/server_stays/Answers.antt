@@ -1,29 +1,28 @@
-use Rattle.std.proofs.Common.{◌≡◌, Bool, List, sym, ◌∙◌, ap, ◌&&◌}
+use Rattle.std.proofs.Common.{◌≡◌, Bool, List, sym, ◌∙◌, ◌&&◌}
 use Rattle.std.specs.List.{list_any}
 use Rattle.hurd_creds.specs.declared.name.Name.{Name}
 use Rattle.hurd_creds.specs.Names.{same_name}
-use Rattle.hurd_nodes.specs.declared.seat.Home.{Home}
 use Rattle.hurd_nodes.specs.Held.{AreApart, home_key, homes_of, is_held}
 use Rattle.hurd_nodes.specs.Shown.{boot_name}
 use Rattle.hurd_nodes.specs.Settle.{any_in}
 use Rattle.hurd_nodes.proofs.StayLaws.{home-told, or-3, or-4}
 use Rattle.hurd_nodes.proofs.nodes.Nodes.server_stays.Goals as goal
 
-active : (server : Name) (hs : List Home) (r : Bool) (ds : List Home) → r ≡ list_any (λ (x : Home). same_name server x.server) ds → ds ≡ hs → AreApart home_key hs → r ≡ any_in (λ n q. same_name server q) (homes_of hs)
-active server hs r ds is same apart = is ∙ ap (list_any (λ (x : Home). same_name server x.server)) same ∙ home-told (λ n q. same_name server q) hs apart
+active : (server : Name) (hs : List (Name × Name)) (r : Bool) → r ≡ list_any (λ (x : Name × Name). same_name server x.1) hs → AreApart home_key hs → r ≡ any_in (λ n q. same_name server q) (homes_of hs)
+active server hs r is apart = is ∙ home-told (λ n q. same_name server q) hs apart
 
 pub returns-then-is_active : goal.returns-then-is_active
 returns-then-is_active g c =
-    let told = active c.args.server c.self.inside.actives.items c.is_active.result c.deref-2.result.now c.is_active.ensures c.deref-2.ensures.value c.self.invariant.actives_apart in
+    let told = active c.args.server c.self.inside.actives.entries c.is_active.result c.is_active.ensures c.self.invariant.actives_apart in
     let controls = rw c.deref.ensures.value at (sym c.is_controlled.ensures ∙ c.if-is_controlled.false) in
     rw (← c.self.view_is)
     (or-3 (same_name c.args.server boot_name) _ _ _ (sym c.eq.ensures ∙ c.if-eq.false) controls (sym told ∙ c.if-is_active.true))
 
 pub returns : goal.returns
 returns g c =
-    let told = active c.args.server c.self.inside.actives.items c.is_active.result c.deref-2.result.now c.is_active.ensures c.deref-2.ensures.value c.self.invariant.actives_apart in
+    let told = active c.args.server c.self.inside.actives.entries c.is_active.result c.is_active.ensures c.self.invariant.actives_apart in
     let controls = rw c.deref.ensures.value at (sym c.is_controlled.ensures ∙ c.if-is_controlled.false) in
-    let last = rw (c.deref-3.ensures.value, c.deref-4.ensures.value) at c.has_held.ensures in
+    let last = rw c.deref-2.ensures.value at c.has_held.ensures in
     rw (← c.self.view_is)
-    (last ∙ home-told (λ n q. same_name c.args.server q && is_held c.self.inside.holds.items n) c.self.inside.homes.items c.self.invariant.homes_apart
+    (last ∙ home-told (λ n q. same_name c.args.server q && is_held c.self.inside.holds.items n) c.self.inside.homes.entries c.self.invariant.homes_apart
     ∙ or-4 (same_name c.args.server boot_name) _ _ _ (sym c.eq.ensures ∙ c.if-eq.false) controls (sym told ∙ c.if-is_active.false))

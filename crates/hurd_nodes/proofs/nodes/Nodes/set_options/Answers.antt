@@ -42,28 +42,28 @@ put g c =
 pub returns-in-Some-clause-shown : goal.returns-in-Some-clause-shown
 returns-in-Some-clause-shown g c =
     rw (← c.self.view_is, put g c)
-    (options-shown (homes_of c.self.inside.homes.items) (homes_of c.self.inside.actives.items) (boxes g c) c.args.server (box g c) (is g c) c.args.words.now (g.S.Server.meaning c.set_options.new.self) c.set_options.result c.set_options.ensures.steps)
+    (options-shown (homes_of c.self.inside.homes.entries) (homes_of c.self.inside.actives.entries) (boxes g c) c.args.server (box g c) (is g c) c.args.words.now (g.S.Server.meaning c.set_options.new.self) c.set_options.result c.set_options.ensures.steps)
 
 pub returns-in-Some-clause-no_words : goal.returns-in-Some-clause-no_words
 returns-in-Some-clause-no_words g c =
     rw (← c.self.view_is, put g c)
-    (λ none. options-sure (homes_of c.self.inside.homes.items) (homes_of c.self.inside.actives.items) (boxes g c) c.args.server (box g c) (is g c) c.args.words.now (g.S.Server.meaning c.set_options.new.self) c.set_options.result c.set_options.ensures.steps (c.set_options.ensures.no_words none))
+    (λ none. options-sure (homes_of c.self.inside.homes.entries) (homes_of c.self.inside.actives.entries) (boxes g c) c.args.server (box g c) (is g c) c.args.words.now (g.S.Server.meaning c.set_options.new.self) c.set_options.result c.set_options.ensures.steps (c.set_options.ensures.no_words none))
 
 pub returns-in-Some-clause-hidden : goal.returns-in-Some-clause-hidden
 returns-in-Some-clause-hidden g c =
     rw (← c.self.view_is, put g c)
-    (options-hide (homes_of c.self.inside.homes.items) (homes_of c.self.inside.actives.items) (boxes g c) c.args.server (box g c) (is g c) c.args.words.now (g.S.Server.meaning c.set_options.new.self) c.set_options.result c.set_options.ensures.steps)
+    (options-hide (homes_of c.self.inside.homes.entries) (homes_of c.self.inside.actives.entries) (boxes g c) c.args.server (box g c) (is g c) c.args.words.now (g.S.Server.meaning c.set_options.new.self) c.set_options.result c.set_options.ensures.steps)
 
 pub returns-in-None-clause-shown : goal.returns-in-None-clause-shown
 returns-in-None-clause-shown g c =
     let f = g.S.Server.meaning in
     let ss = c.self.inside.seats.items in
     let at = rw c.deref.ensures.value at c.in-None.ensures.is in
-    rw (← c.self.view_is) (options-gone (flat (homes_of c.self.inside.homes.items) (homes_of c.self.inside.actives.items) (mean f (seats_of ss))) c.args.server c.args.words.now (info-absent f ss c.args.server at))
+    rw (← c.self.view_is) (options-gone (flat (homes_of c.self.inside.homes.entries) (homes_of c.self.inside.actives.entries) (mean f (seats_of ss))) c.args.server c.args.words.now (info-absent f ss c.args.server at))
 
 pub returns-in-None-clause-no_words : goal.returns-in-None-clause-no_words
 returns-in-None-clause-no_words g c =
     let f = g.S.Server.meaning in
     let ss = c.self.inside.seats.items in
     let at = rw c.deref.ensures.value at c.in-None.ensures.is in
-    rw (← c.self.view_is) (λ none. options-untold (flat (homes_of c.self.inside.homes.items) (homes_of c.self.inside.actives.items) (mean f (seats_of ss))) c.args.server c.args.words.now (info-absent f ss c.args.server at))
+    rw (← c.self.view_is) (λ none. options-untold (flat (homes_of c.self.inside.homes.entries) (homes_of c.self.inside.actives.entries) (mean f (seats_of ss))) c.args.server c.args.words.now (info-absent f ss c.args.server at))

@@ -18,14 +18,14 @@ pub returns-clause-shown : goal.returns-clause-shown
 unfolding homes_of seats_of
 returns-clause-shown g c =
     let f = g.S.Server.meaning in
-    rw (c.push_reserved.ensures.items, c.push_reserved-2.ensures.items, c.in-Ok-with_capacity.ensures.items, c.in-Ok-with_capacity-2.ensures.items, c.new-2.ensures.items)
-    (rw (keyed-one home_key home_value _, keyed-one seat_key seat_value _, keyed-nothing home_key home_value)
+    rw (c.put_home.ensures.is, c.push_reserved.ensures.items, c.in-Ok-with_capacity.ensures.empty, c.in-Ok-with_capacity-2.ensures.items, c.new-2.ensures.empty)
+    (rw (keyed-one seat_key seat_value _, keyed-nothing home_key home_value)
     (boot-shown (f c.args.boot) (begun-empty c.requires.0 (f c.args.boot) c.requires.1) f c.begin_root.new.self c.in-Ok.ids (begun g c) (boot-ids c.in-Ok.ids c.in-Ok.ensures.sets)))
 
 pub returns-clause-hidden : goal.returns-clause-hidden
 unfolding homes_of seats_of
 returns-clause-hidden g c =
     let f = g.S.Server.meaning in
-    rw (c.push_reserved.ensures.items, c.push_reserved-2.ensures.items, c.in-Ok-with_capacity.ensures.items, c.in-Ok-with_capacity-2.ensures.items)
-    (rw (keyed-one home_key home_value _, keyed-one seat_key seat_value _)
+    rw (c.put_home.ensures.is, c.push_reserved.ensures.items, c.in-Ok-with_capacity.ensures.empty, c.in-Ok-with_capacity-2.ensures.items)
+    (rw (keyed-one seat_key seat_value _, keyed-nothing home_key home_value)
     (boot-hides (f c.args.boot) (begun-empty c.requires.0 (f c.args.boot) c.requires.1) f c.begin_root.new.self c.in-Ok.ids (begun g c) (boot-ids c.in-Ok.ids c.in-Ok.ensures.sets)))

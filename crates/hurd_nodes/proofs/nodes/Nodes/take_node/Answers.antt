@@ -12,10 +12,10 @@ returns-clause-shown g c =
     let f = g.S.Server.meaning in
     let n = c.args.node in
     let old = c.args.self.now in
-    let homes : homes_of c.remove_home.new.homes.items ≡ fin.remove old.homes n =
+    let homes : homes_of c.remove_home.new.homes.entries ≡ fin.remove old.homes n =
     c.remove_home.ensures.is ∙ ap (λ (t : Held _). fin.remove t.homes n) c.self.view_is ∙ ap (λ (t : Held _). fin.remove t.homes n) c.forget.ensures.others in
     let boxes : mean f (seats_of c.self.inside.seats.items) ≡ forgotten n (fin.get old.homes n) (mean f old.seats) =
     ap (λ (t : Held _). mean f t.seats) c.self.view_is ∙ c.forget.ensures.boxes in
-    let actives : homes_of c.remove_home-2.new.homes.items ≡ fin.remove old.actives n =
+    let actives : homes_of c.remove_home-2.new.homes.entries ≡ fin.remove old.actives n =
     c.remove_home-2.ensures.is ∙ ap (λ (t : Held _). fin.remove t.actives n) c.self.view_is ∙ ap (λ (t : Held _). fin.remove t.actives n) c.forget.ensures.others in
     ap₂ (λ (hs ats : NameMap Name). flat hs ats (mean f (seats_of c.self.inside.seats.items))) homes actives ∙ ap (flat (fin.remove old.homes n) (fin.remove old.actives n)) boxes ∙ flat-taken old.homes (mean f old.seats) n old.actives

@@ -14,7 +14,7 @@ use Rattle.hurd_nodes.proofs.nodes.Nodes.take_one.Goals as goal
 pub returns-in-Some-clause-taken : goal.returns-in-Some-clause-taken
 returns-in-Some-clause-taken g c =
     let found = c.in-Some.ensures.found in
-    let there : is_some (fin.get c.args.self.now.homes c.in-Some.node) ≡ true = rw (← c.self.view_is) (rw c.deref.ensures.value at found.1) in
+    let there : is_some (fin.get c.args.self.now.homes c.in-Some.node) ≡ true = rw (← c.self.view_is) (found.1) in
     λ yes. rw c.take_node.ensures.shown (takes-home (outside_of c.args.self.now.holds) (shown g.S.Server.meaning c.args.self.now) c.in-Some.node found.0 there)
 
 pub returns-in-Some-clause-hidden : goal.returns-in-Some-clause-hidden
@@ -26,7 +26,7 @@ pub returns-in-Some-unkept_node-clause-taken : goal.returns-in-Some-unkept_node-
 returns-in-Some-unkept_node-clause-taken g c =
     let n = c.in-Some-unkept_node.node in
     let found = c.in-Some-unkept_node.ensures.found in
-    let there : is_some (fin.get c.args.self.now.actives n) ≡ true = rw (← c.self.view_is) (rw c.deref-2.ensures.value at found.1) in
+    let there : is_some (fin.get c.args.self.now.actives n) ≡ true = rw (← c.self.view_is) (found.1) in
     λ yes. rw c.take_node-in-Some-unkept_node.ensures.shown (takes-active (outside_of c.args.self.now.holds) (shown g.S.Server.meaning c.args.self.now) n found.0 there)
 
 pub returns-in-Some-unkept_node-clause-hidden : goal.returns-in-Some-unkept_node-clause-hidden
@@ -41,7 +41,7 @@ returns-in-Some-unkept_server-clause-taken g c =
     let f = g.S.Server.meaning in
     let s = c.in-Some-unkept_server.server in
     let found = c.in-Some-unkept_server.ensures.found in
-    let there : is_some (fin.get c.args.self.now.seats s) ≡ true = rw (← c.self.view_is) (rw c.deref-3.ensures.value at found.1) in
+    let there : is_some (fin.get c.args.self.now.seats s) ≡ true = rw (← c.self.view_is) (rw c.deref.ensures.value at found.1) in
     λ yes.
     rw (c.take_server.ensures, taken-server f c.args.self.now s)
     (takes-server (outside_of c.args.self.now.holds) (shown f c.args.self.now) s found.0 (server-there f c.args.self.now.seats s there))
@@ -54,7 +54,7 @@ returns-in-Some-unkept_server-clause-hidden g c = rw c.take_server.ensures (hide
 pub returns-clause-end : goal.returns-clause-end
 returns-clause-end g c =
     let f = g.S.Server.meaning in
-    let homes = rw (← c.self.view_is, c.deref.ensures.value) at (c.in_default.ensures.none refl) in
-    let actives = rw (← c.self.view_is, c.deref-2.ensures.value) at (c.in_default-unkept_node.ensures.none refl) in
-    let servers = rw (← c.self.view_is, c.deref-3.ensures.value) at (c.in_default-unkept_server.ensures.none refl) in
-    λ no. rw (← c.self.view_is) (all-kept f c.self.inside.homes.items c.self.inside.actives.items c.self.inside.seats.items (outside_of c.self.inside.holds.items) homes actives servers)
+    let homes = rw (← c.self.view_is) at (c.in_default.ensures.none refl) in
+    let actives = rw (← c.self.view_is) at (c.in_default-unkept_node.ensures.none refl) in
+    let servers = rw (← c.self.view_is, c.deref.ensures.value) at (c.in_default-unkept_server.ensures.none refl) in
+    λ no. rw (← c.self.view_is) (all-kept f c.self.inside.homes.entries c.self.inside.actives.entries c.self.inside.seats.items (outside_of c.self.inside.holds.items) homes actives servers)
