@@ -1,5 +1,5 @@
 //! Servers that count when they are dropped, and the server that there is for some words.
-ghost use Rattle.std.specs.Prelude.{IfOk};
+ghost use Rattle.std.specs.Prelude.{◌≡◌, IfOk};
 ghost use Rattle.hurd_trans_iface.specs.Meaning.{Begins};
 
 use crate::memory::Memory;
@@ -175,23 +175,16 @@ impl<S: Server> Server for Counted<S> {
     }
 }
 
-/// A box whose server counts when it is dropped.
-fn counting<S: Server + 'static>(
-    alloc: Global,
-    server: S,
-) -> Result<(Box<dyn Server>, Count), Errno>
-    requires { Begins (S.meaning server) }
-    ensures { IfOk result (λ made. Begins ((Server-box made.0).meaning made.0.value)) }
+/// A server that counts when it is dropped, and its count.
+fn counting<S: Server>(alloc: Global, server: S) -> Result<(Counted<S>, Count), Errno>
+    ensures { IfOk result (λ made. made.0.server ≡ server) }
 {
     let count = Count::new(alloc)?;
     let counted = Counted {
         server,
         dropped: count.dropped.clone()?,
     };
-    match Box::new(alloc, counted) {
-        Ok(server) => Ok((server, count)),
-        Err(_) => Err(Errno::ENOMEM),
-    }
+    Ok((counted, count))
 }
 
 /// What there is for some words.
@@ -224,7 +217,11 @@ pub fn text(alloc: Global) -> Result<(Box<dyn Server>, Count), Errno>
     ensures { IfOk result (λ made. Begins (meaning made.0)) }
 {
     let words = Words::named(alloc, b"/hurd/hello")?;
-    counting(alloc, Hello::new(alloc, &words)?)
+    let (server, count) = counting(alloc, Hello::new(alloc, &words)?)?;
+    match Box::new(alloc, server) {
+        Ok(server) => Ok((server, count)),
+        Err(_) => Err(Errno::ENOMEM),
+    }
 }
 
 /// An empty tree in memory.
@@ -232,14 +229,22 @@ pub fn tree(alloc: Global) -> Result<(Box<dyn Server>, Count), Errno>
     ensures { IfOk result (λ made. Begins (meaning made.0)) }
 {
     let words = Words::named(alloc, b"/hurd/tmpfs")?;
-    counting(alloc, Tmpfs::new(alloc, &words)?)
+    let (server, count) = counting(alloc, Tmpfs::new(alloc, &words)?)?;
+    match Box::new(alloc, server) {
+        Ok(server) => Ok((server, count)),
+        Err(_) => Err(Errno::ENOMEM),
+    }
 }
 
 /// A link to where the words say.
 fn link(alloc: Global, words: &Words) -> Result<(Box<dyn Server>, Count), Errno>
     ensures { IfOk result (λ made. Begins (meaning made.0)) }
 {
-    counting(alloc, Symlink::new(alloc, words)?)
+    let (server, count) = counting(alloc, Symlink::new(alloc, words)?)?;
+    match Box::new(alloc, server) {
+        Ok(server) => Ok((server, count)),
+        Err(_) => Err(Errno::ENOMEM),
+    }
 }
 
 /// A server of a kind, with these words if it is a link.

@@ -1,12 +1,9 @@
 //! Which answers a session doesn't take, what becomes of servers, and why a session isn't begun.
-ghost use Rattle.hurd_trans_iface.specs.Meaning.{Begins};
-
-use crate::boxes::text;
+use crate::boxes::{Count, text};
 use crate::driver::{begun, check_takes_none, turn};
 use crate::memory::Memory;
 use hurd_creds::Errno;
 use hurd_shell::{Session, SupplyFault, Want};
-use hurd_trans_iface::Server;
 use std::alloc::{AllocError, Global};
 use std::process::Abort;
 use std::test::Fail;
@@ -33,23 +30,45 @@ fn check_wants_none(rt: &impl Abort, alloc: Global, session: &mut Session) -> Re
     check_takes_none(rt, alloc, session, SupplyFault::NotWanted)
 }
 
+/// What is left of a course behind five turns, before each of which no answer is taken.
+fn behind_turns<'a>(
+    rt: &impl Abort,
+    alloc: Global,
+    session: &mut Session,
+    left: &'a [u8],
+) -> Result<&'a [u8], Errno> {
+    let mut left = left;
+    for _ in 0..5 {
+        check_wants_none(rt, alloc, session)?;
+        match turn(rt, alloc, session, left, &mut Memory::ample())? {
+            Some(rest) => left = rest,
+            None => assert!(rt; false),
+        }
+    }
+    Ok(left)
+}
+
+/// The session has come to its end, where no answer is taken either.
+fn check_ended(
+    rt: &impl Abort,
+    alloc: Global,
+    session: &mut Session,
+    left: &[u8],
+) -> Result<(), Errno> {
+    check_wants_none(rt, alloc, session)?;
+    let behind = turn(rt, alloc, session, left, &mut Memory::ample())?;
+    assert!(rt; behind.is_none());
+    Ok(())
+}
+
 /// Before, between and behind the answers that are asked for, none is taken, and nothing changes.
 #[test]
 fn no_other_answer_is_taken(rt: HostRuntime) -> Result<(), Fail> {
     let alloc = rt.alloc();
     let mut session = begun(alloc, SCRIPT, &mut Memory::ample())?;
-    let mut left = TOLD.as_bytes();
-    for _ in 0..5 {
-        check_wants_none(&rt, alloc, &mut session)?;
-        match turn(&rt, alloc, &mut session, left, &mut Memory::ample())? {
-            Some(rest) => left = rest,
-            None => assert!(rt; false),
-        }
-    }
-    check_wants_none(&rt, alloc, &mut session)?;
-    assert!(rt; turn(&rt, alloc, &mut session, left, &mut Memory::ample())?.is_none());
-    check_wants_none(&rt, alloc, &mut session)?;
-    assert!(rt; turn(&rt, alloc, &mut session, left, &mut Memory::ample())?.is_none());
+    let left = behind_turns(&rt, alloc, &mut session, TOLD.as_bytes())?;
+    check_ended(&rt, alloc, &mut session, left)?;
+    check_ended(&rt, alloc, &mut session, left)?;
     Ok(())
 }
 
@@ -86,29 +105,22 @@ fn check_gives_part(rt: &impl Abort, alloc: Global, session: &mut Session) {
     }
 }
 
-/// A session that sets a counted server as its script's first command, and gave that command's part.
-fn with_server(
-    rt: &impl Abort,
-    alloc: Global,
-    script: &str,
-    server: Box<dyn Server>,
-) -> Result<Session, Errno>
-    requires { Begins (meaning server) }
-{
+/// A session that was supplied a counted server for its script's first command, and gave that command's part.
+fn with_server(rt: &impl Abort, alloc: Global, script: &str) -> Result<(Session, Count), Errno> {
     let mut session = begun(alloc, script, &mut Memory::ample())?;
+    let (server, count) = text(alloc)?;
     let _want = session.next(alloc);
     assert!(rt; session.supply(alloc, server).is_ok());
     check_gives_part(rt, alloc, &mut session);
-    Ok(session)
+    assert!(rt; count.is(0));
+    Ok((session, count))
 }
 
 #[test]
 fn a_server_is_dropped_where_it_is_sent_away(rt: HostRuntime) -> Result<(), Fail> {
     let alloc = rt.alloc();
     let script = "root settrans -ac /h /hurd/hello\nroot settrans -g /h\n";
-    let (server, count) = text(alloc)?;
-    let mut session = with_server(&rt, alloc, script, server)?;
-    assert!(rt; count.is(0));
+    let (mut session, count) = with_server(&rt, alloc, script)?;
     check_gives_part(&rt, alloc, &mut session);
     assert!(rt; count.is(1));
     Ok(())
@@ -117,9 +129,7 @@ fn a_server_is_dropped_where_it_is_sent_away(rt: HostRuntime) -> Result<(), Fail
 #[test]
 fn a_session_drops_its_servers(rt: HostRuntime) -> Result<(), Fail> {
     let alloc = rt.alloc();
-    let (server, count) = text(alloc)?;
-    let session = with_server(&rt, alloc, "root settrans -ac /h /hurd/hello\n", server)?;
-    assert!(rt; count.is(0));
+    let (session, count) = with_server(&rt, alloc, "root settrans -ac /h /hurd/hello\n")?;
     drop(session);
     assert!(rt; count.is(1));
     Ok(())

@@ -1,0 +1,54 @@
+//! What the program is asked for.
+use crate::fault::Fault;
+use crate::files::Files;
+use std::env;
+use std::rt::Env;
+
+/// The files of a run without an argument.
+const SAMPLE: usize = 100;
+
+/// The most files of a run.
+const MOST_FILES: usize = 10_000_000;
+
+/// How many files there are to be, and whether times are printed.
+#[derive(Clone, Copy)]
+pub struct Asked {
+    pub files: Files,
+    pub timed: bool,
+}
+
+impl Asked {
+    /// What the arguments ask for: at most one, a number of files.
+    pub fn read(rt: &(impl Env + Alloc)) -> Result<Asked, Fault> {
+        let mut arguments = env::args(rt)?;
+        arguments.next();
+        let first = arguments.next();
+        if arguments.next().is_some() {
+            return Err(Fault::Usage);
+        }
+        let Some(text) = first else {
+            return Ok(Asked {
+                files: Files { count: SAMPLE },
+                timed: false,
+            });
+        };
+        Ok(Asked {
+            files: Files {
+                count: number(&text).ok_or(Fault::Usage)?,
+            },
+            timed: true,
+        })
+    }
+}
+
+/// The number of files that digits name, if there may be so many.
+fn number(text: &str) -> Option<usize> {
+    if !text.bytes().all(|byte| byte.is_ascii_digit()) {
+        return None;
+    }
+    let count = text.parse::<usize>().ok()?;
+    if count == 0 || count > MOST_FILES {
+        return None;
+    }
+    Some(count)
+}

@@ -1,0 +1,99 @@
+//! Measures the work of a user on files: how long one call after another takes in a tree of so many files.
+//!
+//! `hurd_bench NODES` makes that many files, from 1 to 10,000,000, in directories of at most 1,000, does each kind of work on
+//! them or on some of them, and prints for each kind how many times it was done and how many nanoseconds one took. With no
+//! argument there are 100 files and no times are printed, so that each run prints the same.
+//!
+//! Status 1 with one line, the usage or the error of a call that was refused.
+#![tactic(auto)]
+
+ghost use Rattle.std.specs.Prelude.{IfOk};
+ghost use Rattle.hurd_trans_iface.specs.Meaning.{Begins};
+ghost use Rattle.hurd_small.specs.Hello.{hello_meaning};
+
+mod arguments;
+mod fault;
+mod files;
+mod row;
+mod tree;
+mod work;
+
+use arguments::Asked;
+use fault::Fault;
+use files::Files;
+use hurd_creds::Errno;
+use hurd_kinds::empty_tree;
+use hurd_small::Hello;
+use hurd_trans_iface::{Server, Words};
+use row::Row;
+use std::alloc::Global;
+use std::process::ExitCode;
+use std::rt::Clock;
+use tree::Tree;
+use work::Work;
+
+/// After so many seconds no more servers are made: each costs a look at all nodes.
+const LONG_ENOUGH: u64 = 10;
+
+/// A server that gives a short text.
+fn hello(alloc: Global) -> Result<Box<Hello>, Errno>
+    ensures { IfOk result (λ server. Begins (hello_meaning server.value)) }
+{
+    let words = Words::new(alloc, &[b"/hurd/hello", b"--contents=morning"])?;
+    Box::new(alloc, Hello::new(alloc, &words)?).map_err(|_| Errno::ENOMEM)
+}
+
+/// Does these kinds of work one after another, and prints the row of each.
+fn work_on<S: Server>(
+    rt: &(impl Clock + Print),
+    tree: &mut Tree<S>,
+    works: &[Work],
+    asked: Asked,
+) -> Result<(), Fault> {
+    for work in works {
+        let mut row = Row::begin(rt, *work)?;
+        row.add(tree.repeat(*work, asked.files)?);
+        row.print(rt, asked.timed)?;
+    }
+    Ok(())
+}
+
+/// Whether the work has gone on for so long that it ends; never where no times are printed.
+fn is_enough(rt: &impl Clock, row: &Row, asked: Asked) -> Result<bool, Fault> {
+    Ok(asked.timed && row.took(rt)?.as_secs() >= LONG_ENOUGH)
+}
+
+/// Does each kind of work, and prints its row. The names are taken away last, so that servers come into a full tree.
+fn measure(rt: &(impl Clock + Print), alloc: Global, asked: Asked) -> Result<(), Fault> {
+    let files = asked.files;
+    let boot: Box<dyn Server> = empty_tree(alloc).map_err(Errno::from)?;
+    let mut tree = Tree::begin(alloc, boot)?;
+    tree.make_directories(files.directories())?;
+    work_on(rt, &mut tree, &Work::BEFORE_SERVERS, asked)?;
+    let mut row = Row::begin(rt, Work::Serve)?;
+    for number in (0..files.count).step_by(files.stride(Work::Serve)) {
+        let server: Box<dyn Server> = hello(alloc)?;
+        tree.serve(number, server)?;
+        row.add(1);
+        if is_enough(rt, &row, asked)? {
+            break;
+        }
+    }
+    row.print(rt, asked.timed)?;
+    work_on(rt, &mut tree, &[Work::Unlink], asked)
+}
+
+/// The whole program, up to the first fault.
+fn program(rt: &HostRuntime) -> Result<(), Fault> {
+    measure(rt, rt.alloc(), Asked::read(rt)?)
+}
+
+fn main(rt: HostRuntime) -> ExitCode {
+    match program(&rt) {
+        Ok(()) => ExitCode::SUCCESS,
+        Err(fault) => {
+            let _ = println!(rt; "{fault}");
+            ExitCode::FAILURE
+        }
+    }
+}
