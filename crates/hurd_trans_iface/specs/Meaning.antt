@@ -6,7 +6,6 @@ use Rattle.std.specs.FinMap as fin
 use Rattle.hurd_creds.specs.declared.name.Name.{Name}
 use Rattle.hurd_creds.specs.NameMaps.{map_values}
 use Rattle.hurd_creds.specs.declared.mode.Mode.{Mode}
-use Rattle.hurd_creds.specs.declared.open_flags.OpenFlags.{OpenFlags}
 use Rattle.hurd_creds.specs.declared.errno.Errno.{Errno}
 use Rattle.hurd_trans_iface.specs.declared.new_node.NewNode.{NewNode}
 use Rattle.hurd_trans_iface.specs.declared.root.Root.{Root}
@@ -138,10 +137,6 @@ set_passive_step n words m =
 -- the server without a node; entries that name it stay
 abbrev pub forget_after : Meaning → Name → Meaning
 forget_after m n = record m { nodes = fin.remove m.nodes n }
-
--- opens of a tree's nodes are not counted
-abbrev pub opened_after : Meaning → Name → OpenFlags → Meaning
-opened_after m n modes = m
 
 -- how many bytes there are to read in a node at a place, and whether it is a stream
 abbrev pub readable_of : Meaning → Name → ℕ → Option Readable

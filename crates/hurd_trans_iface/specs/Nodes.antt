@@ -1,9 +1,11 @@
 -- Nodes, and edits of finite maps of them.
-use Rattle.std.specs.Prelude.{◌≡◌, ℕ, ◌+◌, ◌-◌, Bool, true, false, if◌then◌else◌, List, [], ◌∷◌, ◌++◌, length, take, drop, replicate, Option, Some, None}
+use Rattle.std.specs.Prelude.{◌≡◌, ℕ, ◌+◌, ◌-◌, Bool, true, false, if◌then◌else◌, List, [], ◌∷◌, ◌++◌, length, take, drop, replicate, is_some, nat_lt, Option, Some, None}
 use Rattle.std.specs.Str.{bytes_eq}
+use Rattle.std.specs.List.{list_any}
 use Rattle.std.specs.FinMap as fin
 use Rattle.std.specs.Option.{option_map}
 use Rattle.hurd_creds.specs.NameMaps.{NameMap, edit}
+use Rattle.hurd_creds.specs.Names.{same_name}
 use Rattle.hurd_creds.specs.declared.name.Name.{Name}
 use Rattle.hurd_creds.specs.declared.mode.Mode.{Mode}
 use Rattle.hurd_creds.specs.declared.attrs.Attrs.{Attrs}
@@ -94,6 +96,23 @@ is_dir _ = false
 abbrev pub IsShaped : Header → Body → Type 0
 IsShaped h (Content bs) = is_dir h.kind ≡ false
 IsShaped h (Listing es) = h.kind ≡ Dir
+
+-- an entry names it: a directory has a parent, any other node a link
+abbrev pub is_entered : Header → Bool
+is_entered h = if is_dir h.kind then is_some h.parent else nat_lt 0 h.links
+
+-- an entry names what is there, or nothing is there that one could name
+abbrev pub is_entered_at : Option Node → Bool
+is_entered_at None = true
+is_entered_at (Some x) = is_entered x.header
+
+-- whether a name is on a list
+abbrev pub is_listed : Name → List Name → Bool
+is_listed n ns = list_any (same_name n) ns
+
+-- each node that no entry names is on the list
+abbrev pub AllListed : NodeMap → List Name → Type 0
+AllListed m ns = (n : Name) → is_entered_at (fin.get m n) ≡ false → is_listed n ns ≡ true
 
 -- a directory that has no entries yet, below this parent
 abbrev pub new_dir : ℕ → ℕ → Mode → Option Name → Node

@@ -5,7 +5,7 @@ use crate::readable::Readable;
 use crate::root::Root;
 use crate::server::Server;
 use crate::words::Words;
-use hurd_creds::{Attrs, Bytes, Errno, Mode, NodeName, OpenFlags};
+use hurd_creds::{Attrs, Bytes, Errno, Mode, NodeName};
 use std::alloc::Global;
 
 impl Server for Box<dyn Server> {
@@ -122,12 +122,8 @@ impl Server for Box<dyn Server> {
         (**self).forget(node)
     }
 
-    fn opened(&mut self, node: NodeName, modes: OpenFlags) {
-        (**self).opened(node, modes)
-    }
-
-    fn closed(&mut self, node: NodeName, modes: OpenFlags) {
-        (**self).closed(node, modes)
+    fn nameless(&self) -> Option<&[NodeName]> {
+        (**self).nameless()
     }
 
     fn goaway(&mut self) {

@@ -1,19 +1,19 @@
 //! The trait of servers.
-ghost use Rattle.std.specs.Prelude.{◌≡◌, [], None, Ok, option_copied};
+ghost use Rattle.std.specs.Prelude.{◌≡◌, [], None, Ok, IfSome, option_copied};
 ghost use Rattle.std.specs.Option.{option_map};
 ghost use Rattle.std.specs.FinMap as fin;
 ghost use Rattle.hurd_creds.specs.Memory.{Meets, Steps};
-ghost use Rattle.hurd_trans_iface.specs.Nodes.{attrs_of, body_of, passive_of};
+ghost use Rattle.hurd_trans_iface.specs.Nodes.{AllListed, attrs_of, body_of, passive_of};
 ghost use Rattle.hurd_trans_iface.specs.Answers.{entry_of, names_of};
 ghost use Rattle.hurd_trans_iface.specs.Behaviour.{reading, writing, resizing};
-ghost use Rattle.hurd_trans_iface.specs.Meaning.{Meaning, root_of, options_of, begin_root_after, step_of, set_options_step, make_step, make_nameless_step, link_step, unlink_step, rename_step, set_attrs_step, set_passive_step, opened_after, forget_after, readable_of};
+ghost use Rattle.hurd_trans_iface.specs.Meaning.{Meaning, root_of, options_of, begin_root_after, step_of, set_options_step, make_step, make_nameless_step, link_step, unlink_step, rename_step, set_attrs_step, set_passive_step, forget_after, readable_of};
 
 use crate::names::Names;
 use crate::new_node::NewNode;
 use crate::readable::Readable;
 use crate::root::Root;
 use crate::words::Words;
-use hurd_creds::{Attrs, Bytes, Errno, Mode, NodeName, OpenFlags};
+use hurd_creds::{Attrs, Bytes, Errno, Mode, NodeName};
 use std::alloc::Global;
 
 /// A server of nodes, as a boxed object that the core owns (GNU Hurd Reference Manual, Translators; `fs.defs`, `io.defs`).
@@ -147,13 +147,10 @@ pub trait Server: Drop {
     fn forget(&mut self, node: NodeName)
         ensures { meaning self.new ≡ forget_after (meaning self.old) node };
 
-    /// A node was opened with these modes. Takes no memory.
-    fn opened(&mut self, node: NodeName, modes: OpenFlags)
-        ensures { meaning self.new ≡ opened_after (meaning self.old) node modes };
-
-    /// An open of a node with these modes has gone. Takes no memory.
-    fn closed(&mut self, node: NodeName, modes: OpenFlags)
-        ensures { meaning self.new ≡ opened_after (meaning self.old) node modes };
+    /// The nodes that no entry names, and maybe others, lent; none where the server doesn't say, and each of its nodes may be one. What is on the list is looked at by
+    /// itself whenever something may have gone, so a short one serves best. Takes no memory.
+    fn nameless(&self) -> Option<&[NodeName]>
+        ensures { IfSome (option_copied result) (λ names. AllListed (meaning self.now).nodes names) };
 
     /// The server is about to be sent away (`fsys_goaway`, `fsys.defs`). Takes no memory.
     fn goaway(&mut self)
