@@ -36,10 +36,10 @@ module _ {X V : Type 0} (key : X → Name) (value : X → V) where
   abbrev pair_of : X → Name × V
   pair_of x = (key x, value x)
 
-  get-first : (x : X) (xs : List X) → fin.get (keyed key value (x ∷ xs)) (key x) ≡ Some (value x)
+  pub get-first : (x : X) (xs : List X) → fin.get (keyed key value (x ∷ xs)) (key x) ≡ Some (value x)
   get-first x xs = get-keyed key value (x ∷ xs) (key x) ∙ ap (λ b. cond b (Some (value x)) (fin.find name_cmp (key x) (map pair_of xs))) (tied-itself (key x))
 
-  get-rest : (x : X) (xs : List X) (n : Name) → n ≢ key x → fin.get (keyed key value (x ∷ xs)) n ≡ fin.get (keyed key value xs) n
+  pub get-rest : (x : X) (xs : List X) (n : Name) → n ≢ key x → fin.get (keyed key value (x ∷ xs)) n ≡ fin.get (keyed key value xs) n
   get-rest x xs n apart = get-keyed key value (x ∷ xs) n ∙ ap (λ b. cond b (Some (value x)) (fin.find name_cmp n (map pair_of xs))) (tied-apart n (key x) apart) ∙ sym (get-keyed key value xs n)
 
   in_list : (p : Name → V → Bool) (xs : List X) → AreApart key xs → list_any (λ x. p (key x) (value x)) xs ≡ true → InList xs p

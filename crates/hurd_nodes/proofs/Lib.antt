@@ -16,3 +16,5 @@ pub mod StayLaws
 pub mod BootLaws
 pub mod HideLaws
 pub mod TextLaws
+pub mod SeatedLaws
+pub mod LookLaws

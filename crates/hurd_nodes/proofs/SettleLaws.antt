@@ -6,17 +6,17 @@ use Rattle.hurd_creds.specs.declared.name.Name.{Name}
 use Rattle.hurd_creds.specs.Names.{same_name}
 use Rattle.hurd_creds.specs.NameMaps.{NameMap}
 use Rattle.hurd_creds.proofs.NameLaws.{equal_if_same, remove_here, remove_apart}
-use Rattle.hurd_trans_iface.specs.Nodes.{Node}
+use Rattle.hurd_trans_iface.specs.Nodes.{Node, is_entered_at}
 use Rattle.hurd_nodes.specs.Held.{is_home}
 use Rattle.hurd_nodes.specs.Shown.{NodeState, ServerInfo, boot_name, is_other, is_other_seat, out_node, out_server}
-use Rattle.hurd_nodes.specs.Settle.{Outside, any_in, server_stays, is_entered_at, node_stays, stays_by, stays_with, size, sweep, sweeps, settle}
+use Rattle.hurd_nodes.specs.Settle.{Outside, any_in, server_stays, node_stays, stays_by, stays_with, size, sweep, sweeps, settle}
 use Rattle.hurd_nodes.specs.Parts.{IsWithin, IsPart, IsSettlement, TakesOut}
-use Rattle.hurd_nodes.proofs.PartLaws.{and_true, or_left, or_right, or_mono, and_mono, and_both, any_in-here, any_in-mono, within-both, within-len, within-or, kept-is, kept-here, kept-within, kept-all, removed-within}
+use Rattle.hurd_nodes.proofs.PartLaws.{and_true, or_left, or_right, or_mono, and_mono, and_both, any_in-here, any_in-mono, within-both, within-len, within-or, kept-is, kept-here, kept-within, kept-all, removed-is, removed-within}
 
 -- parts
 
 pub part-itself : (h : NodeState) → IsPart h h
-part-itself h = record { nodes = λ n x is. is; homes = λ n x is. is; actives = λ n x is. is; servers = λ n x is. is }
+part-itself h = record { nodes = λ n x is. is; homes = λ n x is. is; actives = λ n x is. is; servers = λ n x is. is; whole = λ n s x home is. is }
 
 pub part-through : (a b c : NodeState) → IsPart a b → IsPart b c → IsPart a c
 part-through a b c f g = record {
@@ -24,6 +24,7 @@ part-through a b c f g = record {
   homes = λ n x is. g.homes n x (f.homes n x is);
   actives = λ n x is. g.actives n x (f.actives n x is);
   servers = λ n x is. g.servers n x (f.servers n x is);
+  whole = λ n s x home is. f.whole n s x home (g.whole n s x (f.homes n s home) is);
 }
 
 same_state : (a b : NodeState) → a.nodes ≡ b.nodes → a.homes ≡ b.homes → a.actives ≡ b.actives → a.servers ≡ b.servers → a ≡ b
@@ -69,21 +70,26 @@ module _ (o : Outside) (a b : NodeState) (part : IsPart a b) where
       (λ z. any_in-mono seated seated a.actives b.actives part.actives (λ n q w. w) z)
       (λ z. any_in-mono named named a.homes b.homes part.homes (λ n q w. w) z) y) x) h
 
-  entered-mono : (n : Name) (u : Option Node) → fin.get a.nodes n ≡ u → is_entered_at u ≡ true → is_entered_at (fin.get b.nodes n) ≡ true
-  entered-mono n None is h = absurd (true≢false (sym h))
-  entered-mono n (Some x) is h = rw (part.nodes n x is) h
+  -- what is no node in a part that has its home is none in the whole
+  absent-mono : (n s : Name) → fin.get a.homes n ≡ Some s → fin.get a.nodes n ≡ None → (v : Option Node) → fin.get b.nodes n ≡ v → is_entered_at v ≡ true
+  absent-mono n s home none None is = refl
+  absent-mono n s home none (Some x) is = let c : None ≡ Some x = sym none ∙ part.whole n s x home is in absurd (cc)
 
-  with-mono : (n s : Name) (u : Option ServerInfo) → fin.get a.servers s ≡ u → stays_with o a n s u ≡ true → stays_with o b n s (fin.get b.servers s) ≡ true
-  with-mono n s None is h = absurd (true≢false (sym h))
-  with-mono n s (Some i) is h =
+  entered-mono : (n s : Name) → fin.get a.homes n ≡ Some s → (u : Option Node) → fin.get a.nodes n ≡ u → is_entered_at u ≡ true → is_entered_at (fin.get b.nodes n) ≡ true
+  entered-mono n s home None is h = absent-mono n s home is (fin.get b.nodes n) refl
+  entered-mono n s home (Some x) is h = rw (part.nodes n x is) h
+
+  with-mono : (n s : Name) → fin.get a.homes n ≡ Some s → (u : Option ServerInfo) → fin.get a.servers s ≡ u → stays_with o a n s u ≡ true → stays_with o b n s (fin.get b.servers s) ≡ true
+  with-mono n s home None is h = absurd (true≢false (sym h))
+  with-mono n s home (Some i) is h =
       rw (part.servers s i is)
       (and_mono (server_stays o a s) _ (server_stays o b s) _ (server-mono s)
       (λ x. or_mono (same_name n i.root) _ (same_name n i.root) _ (λ y. y)
-      (λ y. or_mono (is_entered_at (fin.get a.nodes n)) (o.held n) (is_entered_at (fin.get b.nodes n)) (o.held n) (entered-mono n (fin.get a.nodes n) refl) (λ z. z) y) x) h)
+      (λ y. or_mono (is_entered_at (fin.get a.nodes n)) (o.held n) (is_entered_at (fin.get b.nodes n)) (o.held n) (entered-mono n s home (fin.get a.nodes n) refl) (λ z. z) y) x) h)
 
   by-mono : (n : Name) (u : Option Name) → fin.get a.homes n ≡ u → stays_by o a n u ≡ true → stays_by o b n (fin.get b.homes n) ≡ true
   by-mono n None is h = absurd (true≢false (sym h))
-  by-mono n (Some s) is h = rw (part.homes n s is) (with-mono n s (fin.get a.servers s) refl h)
+  by-mono n (Some s) is h = rw (part.homes n s is) (with-mono n s is (fin.get a.servers s) refl h)
 
   pub node-mono : (n : Name) → node_stays o a n ≡ true → node_stays o b n ≡ true
   node-mono n h = by-mono n (fin.get a.homes n) refl h
@@ -100,6 +106,9 @@ module _ (o : Outside) (a b : NodeState) (part : IsPart a b) where
     homes = sweep-within (node_stays o a) (node_stays o b) node-mono a.homes b.homes part.homes;
     actives = sweep-within (node_stays o a) (node_stays o b) node-mono a.actives b.actives part.actives;
     servers = sweep-within (server_stays o a) (server_stays o b) server-mono a.servers b.servers part.servers;
+    whole = λ n s x home is.
+        let kept = kept-is a.homes (node_stays o a) n s home in
+        kept-here a.nodes (node_stays o a) n x kept.0 (part.whole n s x kept.1 (kept-is b.nodes (node_stays o b) n x is).1);
   }
 
 -- what goes
@@ -111,6 +120,7 @@ module _ (o : Outside) (h : NodeState) where
     homes = kept-within h.homes (node_stays o h);
     actives = kept-within h.actives (node_stays o h);
     servers = kept-within h.servers (server_stays o h);
+    whole = λ n s x home is. kept-here h.nodes (node_stays o h) n x (kept-is h.homes (node_stays o h) n s home).0 is;
   }
 
   left_apart : {X : Type 0} (p : Name → Bool) (n : Name) → p n ≡ false → (m : NameMap X) → IsWithin (fin.retain_keys m p) (fin.remove m n)
@@ -123,6 +133,7 @@ module _ (o : Outside) (h : NodeState) where
     homes = left_apart (node_stays o h) n gone h.homes;
     actives = left_apart (node_stays o h) n gone h.actives;
     servers = kept-within h.servers (server_stays o h);
+    whole = λ q s x home is. kept-here h.nodes (node_stays o h) q x (kept-is h.homes (node_stays o h) q s home).0 (removed-within h.nodes n q x is);
   }
 
   with-serves : (n s : Name) (u : Option ServerInfo) → stays_with o h n s u ≡ true → server_stays o h s ≡ true
@@ -167,10 +178,17 @@ module _ (o : Outside) (h : NodeState) where
           let both = kept-is h.actives (node_stays o h) q x is in
           kept-here h.actives (is_other_seat s h.homes h.actives) q x (and_true (is_other s h.homes q) (is_other s h.actives q) (other_home q both.0) (other_active q)) both.1;
       servers = left_apart (server_stays o h) s gone h.servers;
+      whole = λ q p x home is. kept-here h.nodes (node_stays o h) q x (kept-is h.homes (node_stays o h) q p home).0 (kept-within h.nodes (is_other s h.homes) q x is);
     }
 
   pub out_node-less : (n : Name) → IsPart (out_node n h) h
-  out_node-less n = record { nodes = removed-within h.nodes n; homes = removed-within h.homes n; actives = removed-within h.actives n; servers = λ q x is. is }
+  out_node-less n = record {
+    nodes = removed-within h.nodes n;
+    homes = removed-within h.homes n;
+    actives = removed-within h.actives n;
+    servers = λ q x is. is;
+    whole = λ q s x home is. remove_apart h.nodes n q (removed-is h.homes n q s home).0 ∙ is;
+  }
 
   pub out_server-less : (s : Name) → IsPart (out_server s h) h
   out_server-less s = record {
@@ -178,6 +196,7 @@ module _ (o : Outside) (h : NodeState) where
     homes = kept-within h.homes (is_other s h.homes);
     actives = kept-within h.actives (is_other_seat s h.homes h.actives);
     servers = removed-within h.servers s;
+    whole = λ q p x home is. kept-here h.nodes (is_other s h.homes) q x (kept-is h.homes (is_other s h.homes) q p home).0 is;
   }
 
   takes : (k : NodeState) → IsPart k h → IsPart (sweep o h) k → k ≢ h → TakesOut o h k

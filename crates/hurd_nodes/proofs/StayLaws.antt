@@ -10,12 +10,13 @@ use Rattle.hurd_creds.specs.Names.{same_name}
 use Rattle.hurd_creds.specs.NameMaps.{NameMap, place_by}
 use Rattle.hurd_creds.proofs.KeyedLaws.{contains-place, get-absent, get-found}
 use Rattle.hurd_creds.proofs.MapLaws.{get-map_values}
-use Rattle.hurd_trans_iface.specs.Nodes.{Node, attrs_of}
+use Rattle.hurd_trans_iface.specs.Nodes.{Node, attrs_of, is_entered, is_entered_at}
 use Rattle.hurd_trans_iface.specs.Meaning.{Meaning}
 use Rattle.hurd_nodes.specs.declared.seat.Seat.{Seat}
 use Rattle.hurd_nodes.specs.Held.{AreApart, Seated, box_by, home_key, home_value, homes_of, mean, mean_seat, place_in, seat_key, seat_value, seats_of}
 use Rattle.hurd_nodes.specs.Shown.{NodeState, ServerInfo, flat, header_in, info_in, info_of, node_in, server_of, servers_of}
-use Rattle.hurd_nodes.specs.Settle.{Outside, any_in, is_entered, is_entered_at, node_stays, server_stays, stays_by, stays_with, sweep}
+use Rattle.hurd_nodes.specs.Settle.{Outside, any_in, node_stays, server_stays, stays_by, stays_with, sweep}
+use Rattle.hurd_nodes.specs.Look.{HomedStay, ServersStay}
 use Rattle.hurd_nodes.proofs.SeatLaws.{SeatAt, seat-at}
 use Rattle.hurd_nodes.proofs.ShownLaws.{get-nodes, get-servers, seen}
 use Rattle.hurd_nodes.proofs.SettleLaws.{sweep-none}
@@ -76,32 +77,30 @@ node_home : (seats : NameMap (Seated Meaning)) (n : Name) (o : Option Name) (x :
 node_home seats n None x h = absurd (cc)
 node_home seats n (Some s) x h = (s, refl)
 
-all_homes : (hs : List (Name × Name)) (p : Name → Bool) → list_any (λ (x : Name × Name). not (p x.0)) hs ≡ false → (n s : Name) → fin.get (homes_of hs) n ≡ Some s → p n ≡ true
+pub homes-stay : (hs : List (Name × Name)) (p : Name → Bool) → list_any (λ (x : Name × Name). not (p x.0)) hs ≡ false → (n s : Name) → fin.get (homes_of hs) n ≡ Some s → p n ≡ true
 unfolding homes_of
-all_homes hs p none n s is = all-listed home_key home_value p hs none n s is
+homes-stay hs p none n s is = all-listed home_key home_value p hs none n s is
 
-all_seats : {S : Type 0} (f : S → Meaning) (ss : List (Seat S)) (p : Name → Bool) → list_any (λ (x : Seat S). not (p x.name)) ss ≡ false
+pub seats-stay : {S : Type 0} (f : S → Meaning) (ss : List (Seat S)) (p : Name → Bool) → list_any (λ (x : Seat S). not (p x.name)) ss ≡ false
     → (s : Name) (i : ServerInfo) → fin.get (servers_of (mean f (seats_of ss))) s ≡ Some i → p s ≡ true
 unfolding seats_of
-all_seats f ss p none s i is = let e = seat-of f (seats_of ss) s i is in all-listed seat_key seat_value p ss none s e.0 e.1
+seats-stay f ss p none s i is = let e = seat-of f (seats_of ss) s i is in all-listed seat_key seat_value p ss none s e.0 e.1
 
 pub all-kept : {S : Type 0} (f : S → Meaning) (homes actives : List (Name × Name)) (ss : List (Seat S)) (o : Outside) → (let h = flat (homes_of homes) (homes_of actives) (mean f (seats_of ss)) in
-    list_any (λ (x : Name × Name). not (node_stays o h x.0)) homes ≡ false → list_any (λ (x : Name × Name). not (node_stays o h x.0)) actives ≡ false
-    → list_any (λ (x : Seat S). not (server_stays o h x.name)) ss ≡ false → sweep o h ≡ h)
-all-kept f homes actives ss o no_home no_active no_server =
+    HomedStay o h → list_any (λ (x : Name × Name). not (node_stays o h x.0)) actives ≡ false → ServersStay o h → sweep o h ≡ h)
+all-kept f homes actives ss o kept no_active serves =
     let seats = mean f (seats_of ss) in
     let h = flat (homes_of homes) (homes_of actives) seats in
-    let kept = all_homes homes (node_stays o h) no_home in
     sweep-none o h
     (λ n x is. let at = node_home seats n (fin.get (homes_of homes) n) x (sym (get-nodes (homes_of homes) seats n) ∙ is) in kept n at.0 at.1)
-    kept (all_homes actives (node_stays o h) no_active) (all_seats f ss (server_stays o h) no_server)
+    kept (homes-stay actives (node_stays o h) no_active) serves
 
 -- a node's attributes tell whether an entry names it
 pub entered-told : (o : Option Node) (a : Attrs) → Some a ≡ option_map attrs_of o → is_entered (header_in a) ≡ is_entered_at o
 entered-told None a is = absurd (cc)
 entered-told (Some x) a is = let e : a ≡ attrs_of x = cc in rw e refl
 
-pub entered-untold : (o : Option Node) → None ≡ option_map attrs_of o → false ≡ is_entered_at o
+pub entered-untold : (o : Option Node) → None ≡ option_map attrs_of o → true ≡ is_entered_at o
 entered-untold None is = refl
 entered-untold (Some x) is = absurd (cc)
 

@@ -1,5 +1,5 @@
 -- What the core holds: which server serves each node, which one is active on it, the servers as boxes, and what is named from outside.
-use Rattle.std.specs.Prelude.{◌≡◌, ◌≤◌, Bool, false, List, [], ◌∷◌, if◌then◌else◌, Option, Some, None, ℕ, ◌-◌, vec_len, vec_capacity, refl}
+use Rattle.std.specs.Prelude.{◌≡◌, ◌≤◌, Bool, true, false, is_some, List, [], ◌∷◌, if◌then◌else◌, Option, Some, None, ℕ, ◌-◌, vec_len, vec_capacity, refl}
 use Rattle.std.specs.Option.{option_map}
 use Rattle.std.specs.Global.{Vec}
 use Rattle.std.specs.List.{list_any}
@@ -77,11 +77,16 @@ abbrev pub AreApart : {X : Type 0} → (X → Name) → List X → Type 0
 AreApart key [] = Unit {0}
 AreApart key (x ∷ xs) = (place_by key (key x) xs ≡ None) × AreApart key xs
 
--- a node has one server and one that is active on it, and a server one seat
+-- the server of each node is there
+abbrev pub AllSeated : {S : Type 0} → NameMap Name → NameMap (Seated S) → Type 0
+AllSeated homes seats = (n s : Name) → fin.get homes n ≡ Some s → is_some (fin.get seats s) ≡ true
+
+-- a node has one server, which is there, and one that is active on it, and a server one seat
 pub record AreTables {S : Type 0} (homes actives : List (Name × Name)) (seats : List (Seat S)) : Type 0 where
   pub homes_apart : AreApart home_key homes
   pub actives_apart : AreApart home_key actives
   pub seats_apart : AreApart seat_key seats
+  pub housed : AllSeated (homes_of homes) (seats_of seats)
 
 -- each box as what it means
 

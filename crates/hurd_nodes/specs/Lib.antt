@@ -4,3 +4,4 @@ pub mod Shown
 pub mod Settle
 pub mod Parts
 pub mod Lends
+pub mod Look

@@ -1,11 +1,11 @@
 -- What stays, and what is left when all else has gone.
-use Rattle.std.specs.Prelude.{ℕ, zero, suc, ◌+◌, Bool, false, ◌||◌, ◌&&◌, if◌then◌else◌, is_some, nat_lt, List, Option, Some, None}
+use Rattle.std.specs.Prelude.{ℕ, zero, suc, ◌+◌, Bool, false, ◌||◌, ◌&&◌, is_some, List, Option, Some, None}
 use Rattle.std.specs.List.{list_any}
 use Rattle.std.specs.FinMap as fin
 use Rattle.hurd_creds.specs.declared.name.Name.{Name}
 use Rattle.hurd_creds.specs.Names.{same_name}
 use Rattle.hurd_creds.specs.NameMaps.{NameMap}
-use Rattle.hurd_trans_iface.specs.Nodes.{Node, Header, is_dir}
+use Rattle.hurd_trans_iface.specs.Nodes.{is_entered_at}
 use Rattle.hurd_nodes.specs.declared.seat.Hold.{Hold}
 use Rattle.hurd_nodes.specs.Held.{is_held, is_controlled}
 use Rattle.hurd_nodes.specs.Shown.{NodeState, ServerInfo, boot_name}
@@ -25,14 +25,6 @@ passes test n (Some x) = test n x
 -- whether something in a map passes a test
 unfoldable pub any_in : {X : Type 0} → (Name → X → Bool) → NameMap X → Bool
 any_in test m = list_any (λ n. passes test n (fin.get m n)) (fin.keys m)
-
--- an entry names it: a directory has a parent, any other node a link
-abbrev pub is_entered : Header → Bool
-is_entered h = if is_dir h.kind then is_some h.parent else nat_lt 0 h.links
-
-abbrev pub is_entered_at : Option Node → Bool
-is_entered_at None = false
-is_entered_at (Some x) = is_entered x.header
 
 -- a server stays: the boot server, one that is controlled, one that is active on a node, and one that has a node named from outside
 abbrev pub server_stays : Outside → NodeState → Name → Bool

@@ -33,3 +33,14 @@ pub struct Place {
     pub group: u32,
     pub mode: Mode,
 }
+
+/// What a look at the nodes that no entry names comes to.
+#[derive(Clone, Copy, Debug, PartialEq, Eq)]
+pub(crate) enum Look {
+    /// This one goes.
+    Leaves(NodeName),
+    /// Each of them stays.
+    AllStay,
+    /// A server doesn't say which these are.
+    Untold,
+}

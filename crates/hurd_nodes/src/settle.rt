@@ -1,10 +1,12 @@
 //! What is named from outside, and what goes when nothing keeps it any more.
-ghost use Rattle.std.specs.Prelude.{◌≡◌, ◌≤◌, ◌<◌, ◌-◌, true, false, not, is_some, [], ◌∷◌, ◌++◌, None, IfSome, OnOk, OnErr};
-ghost use Rattle.std.specs.List.{list_any};
+ghost use Rattle.std.specs.Prelude.{◌≡◌, ◌≤◌, ◌<◌, ◌-◌, true, false, not, ◌&&◌, is_some, [], ◌∷◌, ◌++◌, None, IfSome, OnOk, OnErr};
+ghost use Rattle.std.specs.List.{All, list_any};
 ghost use Rattle.std.specs.FinMap as fin;
 ghost use Rattle.hurd_nodes.specs.Shown.{out_node, without_server, shown, header_in, HideNothing, forgotten};
 ghost use Rattle.hurd_nodes.specs.Held.{holds_of, homes_of, less_one, mean, seats_of, with_holds, with_seats};
-ghost use Rattle.hurd_nodes.specs.Settle.{is_entered, is_entered_at, node_stays, outside_of, server_stays, settle, sweep};
+ghost use Rattle.hurd_trans_iface.specs.Nodes.{is_entered, is_entered_at};
+ghost use Rattle.hurd_nodes.specs.Look.{Goes, HomedStay, IsLook, NamelessStay, ServersStay};
+ghost use Rattle.hurd_nodes.specs.Settle.{node_stays, outside_of, server_stays, settle, sweep};
 ghost use Rattle.hurd_nodes.specs.Parts.{TakesOut};
 
 use crate::asking::is_dir;
@@ -13,7 +15,7 @@ use crate::search::{
     has_held, is_active, is_controlled, is_held, place_of_server, remove_hold, remove_home,
     remove_server,
 };
-use crate::seat::{Hold, Homes, Seat};
+use crate::seat::{Hold, Homes, Look, Seat};
 use hurd_creds::{Attrs, NodeName, ServerName};
 use hurd_trans_iface::Server;
 use std::alloc::AllocError;
@@ -59,7 +61,7 @@ impl<S: Server> Nodes<S> {
         ensures holds { holds_of self.new ≡ holds_of self.old }
         ensures hidden { HideNothing S.meaning self.old → HideNothing S.meaning self.new }
     {
-        if let Some(node) = self.unkept_node(&self.homes) {
+        if let Some(node) = self.unkept_served() {
             self.take_node(node);
             return true;
         }
@@ -72,6 +74,61 @@ impl<S: Server> Nodes<S> {
             return true;
         }
         false
+    }
+
+    /// A node that goes; where none is found, none does, if all servers stay. What servers list is looked at, and all nodes only where one of them doesn't say.
+    fn unkept_served(&self) -> Option<NodeName>
+        ensures found { IfSome result (λ n. Goes (outside_of self.now.holds) (shown S.meaning self.now) n) }
+        ensures none { let o = outside_of self.now.holds in let h = shown S.meaning self.now in
+            result ≡ None → ServersStay o h → HomedStay o h }
+    {
+        match self.unkept_nameless(&self.seats) {
+            Look::Leaves(node) => Some(node),
+            Look::AllStay => None,
+            Look::Untold => self.unkept_node(&self.homes),
+        }
+    }
+
+    /// A look at the nodes that no entry names of the servers of these seats.
+    fn unkept_nameless(&self, seats: &[Seat<S>]) -> Look
+        ensures { let o = outside_of self.now.holds in let h = shown S.meaning self.now in
+            IsLook o h (All (λ x. NamelessStay o h (S.meaning x.server)) seats.now) result }
+    {
+        for seat in seats {
+            match self.unkept_of(&seat.server) {
+                Look::AllStay => {}
+                Look::Leaves(node) => return Look::Leaves(node),
+                Look::Untold => return Look::Untold,
+            }
+        }
+        Look::AllStay
+    }
+
+    /// A look at the nodes of a server that no entry names.
+    fn unkept_of(&self, server: &S) -> Look
+        ensures { let o = outside_of self.now.holds in let h = shown S.meaning self.now in
+            IsLook o h (NamelessStay o h (S.meaning server.now)) result }
+    {
+        let Some(names) = server.nameless() else {
+            return Look::Untold;
+        };
+        match self.unkept_among(names) {
+            Some(node) => Look::Leaves(node),
+            None => Look::AllStay,
+        }
+    }
+
+    /// The first of these nodes that has a home and doesn't stay.
+    fn unkept_among(&self, names: &[NodeName]) -> Option<NodeName>
+        ensures found { IfSome result (λ n. Goes (outside_of self.now.holds) (shown S.meaning self.now) n) }
+        ensures none { result ≡ None → list_any (λ n. let h = shown S.meaning self.now in is_some (fin.get h.homes n) && not (node_stays (outside_of self.now.holds) h n)) names.now ≡ false }
+    {
+        for name in names {
+            if self.home(*name).is_some() && !self.node_stays(*name) {
+                return Some(*name);
+            }
+        }
+        None
     }
 
     /// The first node of these homes that doesn't stay.
@@ -140,13 +197,13 @@ impl<S: Server> Nodes<S> {
         has_held(&self.homes, &self.holds, server)
     }
 
-    /// Whether an entry names a node: a directory has a parent, or another node a link.
+    /// Whether an entry names a node, a directory has a parent, or another node a link; or there is no such node.
     fn is_entered(&self, node: NodeName) -> bool
         ensures { result ≡ is_entered_at (fin.get (shown S.meaning self.now).nodes node) }
     {
         match self.attrs(node) {
             Some(attrs) => is_entered(&attrs),
-            None => false,
+            None => true,
         }
     }
 

@@ -5,6 +5,7 @@ use Rattle.hurd_nodes.specs.declared.seat.Seat.{Seat}
 use Rattle.hurd_nodes.specs.Held.{Held, held_of, homes_of, seat_value, seats_of, spare_of}
 use Rattle.hurd_nodes.specs.Shown.{attached, begun_info, begun_root, less_old, shown, without_server}
 use Rattle.hurd_nodes.proofs.AttachLaws.{flat-same, attached-shown, attached-hides, seat-pushed, seat-apart, taken-old, hides-old, none-old}
+use Rattle.hurd_nodes.proofs.SeatedLaws.{seated-pushed}
 use Rattle.hurd_nodes.proofs.nodes.Nodes.attach.Given as given
 use Rattle.hurd_nodes.proofs.nodes.Nodes.attach.Goals as goal
 
@@ -51,6 +52,7 @@ invariant_of-self-2 g c =
       homes_apart = c.put_home.ensures.apart;
       actives_apart = c.put_home-2.ensures.apart;
       seats_apart = rw c.push_reserved.ensures.items (seat-apart c.remove_old.new.seats.items c.send_away.new.seats.items (new g c) (out g c) tables.seats_apart);
+      housed = rw (c.put_home.ensures.is, c.push_reserved.ensures.items) (seated-pushed _ c.remove_old.new.seats.items c.send_away.new.seats.items (new g c) c.args.place.root (out g c) tables.housed);
     }
 
 -- the tables with it

@@ -8,6 +8,7 @@ use Rattle.hurd_nodes.proofs.TableLaws.{apart-set}
 use Rattle.hurd_nodes.proofs.SeatLaws.{SeatAt, seat-at, some_same, unplaced}
 use Rattle.hurd_nodes.proofs.MakeLaws.{make-gone, make-refused, make-short, make-not, make-kept, make-done}
 use Rattle.hurd_nodes.proofs.HideLaws.{hides-made, hides-unmade}
+use Rattle.hurd_nodes.proofs.SeatedLaws.{seated-kin, seated-set}
 use Rattle.hurd_nodes.proofs.nodes.Nodes.make.Given as given
 use Rattle.hurd_nodes.proofs.nodes.Nodes.make.Goals as goal
 
@@ -105,6 +106,8 @@ invariant_of-self-2 g c = record {
   homes_apart = c.put_home.ensures.apart;
   actives_apart = c.self.invariant.actives_apart;
   seats_apart = apart-set seat_key c.self.inside.seats.items c.in-Some.i c.index_mut.result.now (record c.index_mut.result.now { server = c.make.new.self }) c.index_mut.ensures.value refl c.self.invariant.seats_apart;
+  housed = seated-set _ c.self.inside.seats.items c.in-Some.i c.index_mut.result.now (record c.index_mut.result.now { server = c.make.new.self }) c.index_mut.ensures.value refl
+      (rw (home_put g c) (seated-kin (homes_of c.self.inside.homes.entries) (seats_of c.self.inside.seats.items) c.self.invariant.housed c.args.new.name c.args.dir (seat g c).name (seat g c).home));
 }
 
 pub invariant_of-self-in_err-make : goal.invariant_of-self-in_err-make
@@ -112,4 +115,5 @@ invariant_of-self-in_err-make g c = record {
   homes_apart = rw c.reserve.ensures.entries c.self.invariant.homes_apart;
   actives_apart = c.self.invariant.actives_apart;
   seats_apart = apart-set seat_key c.self.inside.seats.items c.in-Some.i c.index_mut.result.now (record c.index_mut.result.now { server = c.make.new.self }) c.index_mut.ensures.value refl c.self.invariant.seats_apart;
+  housed = seated-set _ c.self.inside.seats.items c.in-Some.i c.index_mut.result.now (record c.index_mut.result.now { server = c.make.new.self }) c.index_mut.ensures.value refl (rw c.reserve.ensures.entries c.self.invariant.housed);
 }

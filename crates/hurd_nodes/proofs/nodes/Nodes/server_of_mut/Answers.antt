@@ -6,6 +6,7 @@ use Rattle.hurd_creds.proofs.KeyedLaws.{get-found, keyed-changed}
 use Rattle.hurd_nodes.specs.Held.{Held, Seated, spare_of, held_of, put_box, put_by, seat_key, seat_value, seats_of, with_seats, with_server_of}
 use Rattle.hurd_nodes.proofs.TableLaws.{apart-set}
 use Rattle.hurd_nodes.proofs.SeatLaws.{box-found, placed, unplaced, same_read}
+use Rattle.hurd_nodes.proofs.SeatedLaws.{seated-set}
 use Rattle.hurd_nodes.proofs.nodes.Nodes.server_of_mut.Goals as goal
 
 pub returns-in-Some : goal.returns-in-Some
@@ -46,4 +47,5 @@ invariant_of-self-lent g c = λ w. record {
   homes_apart = c.self.invariant.homes_apart;
   actives_apart = c.self.invariant.actives_apart;
   seats_apart = apart-set seat_key c.self.inside.seats.items c.in-Some.i c.index_mut.result.now (record c.index_mut.result.now { server = w }) c.index_mut.ensures.value refl c.self.invariant.seats_apart;
+  housed = seated-set _ c.self.inside.seats.items c.in-Some.i c.index_mut.result.now (record c.index_mut.result.now { server = w }) c.index_mut.ensures.value refl c.self.invariant.housed;
 }

@@ -9,6 +9,7 @@ use Rattle.hurd_nodes.proofs.SeatLaws.{seat-is, seat-put}
 use Rattle.hurd_nodes.proofs.StayLaws.{info-absent}
 use Rattle.hurd_nodes.proofs.TableLaws.{apart-set}
 use Rattle.hurd_nodes.proofs.TextLaws.{options-gone, options-hide, options-shown, options-sure, options-untold}
+use Rattle.hurd_nodes.proofs.SeatedLaws.{seated-set}
 use Rattle.hurd_nodes.proofs.nodes.Nodes.set_options.Given as given
 use Rattle.hurd_nodes.proofs.nodes.Nodes.set_options.Goals as goal
 
@@ -17,6 +18,7 @@ invariant_of-self g c = record {
   homes_apart = c.self.invariant.homes_apart;
   actives_apart = c.self.invariant.actives_apart;
   seats_apart = apart-set seat_key c.self.inside.seats.items c.in-Some.i c.index_mut.result.now (record c.index_mut.result.now { server = c.set_options.new.self }) c.index_mut.ensures.value refl c.self.invariant.seats_apart;
+  housed = seated-set _ c.self.inside.seats.items c.in-Some.i c.index_mut.result.now (record c.index_mut.result.now { server = c.set_options.new.self }) c.index_mut.ensures.value refl c.self.invariant.housed;
 }
 
 -- the server's box, and another in its place

@@ -1,10 +1,11 @@
 use Rattle.std.proofs.Common.{◌≡◌, true, refl}
 use Rattle.std.specs.Prelude.{is_some}
 use Rattle.std.specs.FinMap as fin
-use Rattle.hurd_nodes.specs.Shown.{shown}
-use Rattle.hurd_nodes.specs.Settle.{outside_of}
+use Rattle.hurd_nodes.specs.Held.{homes_of, mean, seats_of}
+use Rattle.hurd_nodes.specs.Shown.{flat, shown}
+use Rattle.hurd_nodes.specs.Settle.{outside_of, server_stays}
 use Rattle.hurd_nodes.proofs.SettleLaws.{takes-home, takes-active, takes-server}
-use Rattle.hurd_nodes.proofs.StayLaws.{server-there, all-kept}
+use Rattle.hurd_nodes.proofs.StayLaws.{server-there, seats-stay, all-kept}
 use Rattle.hurd_nodes.proofs.AttachLaws.{taken-server, hides-left}
 use Rattle.hurd_nodes.proofs.TakeLaws.{hides-taken}
 use Rattle.hurd_nodes.proofs.nodes.Nodes.take_one.Goals as goal
@@ -14,8 +15,7 @@ use Rattle.hurd_nodes.proofs.nodes.Nodes.take_one.Goals as goal
 pub returns-in-Some-clause-taken : goal.returns-in-Some-clause-taken
 returns-in-Some-clause-taken g c =
     let found = c.in-Some.ensures.found in
-    let there : is_some (fin.get c.args.self.now.homes c.in-Some.node) ≡ true = rw (← c.self.view_is) (found.1) in
-    λ yes. rw c.take_node.ensures.shown (takes-home (outside_of c.args.self.now.holds) (shown g.S.Server.meaning c.args.self.now) c.in-Some.node found.0 there)
+    λ yes. rw c.take_node.ensures.shown (takes-home (outside_of c.args.self.now.holds) (shown g.S.Server.meaning c.args.self.now) c.in-Some.node found.0 found.1)
 
 pub returns-in-Some-clause-hidden : goal.returns-in-Some-clause-hidden
 returns-in-Some-clause-hidden g c = hides-taken g.S.Server.meaning c.args.self.now c.take_node.new.self c.in-Some.node c.take_node.ensures.homes c.take_node.ensures.boxes
@@ -57,4 +57,7 @@ returns-clause-end g c =
     let homes = rw (← c.self.view_is) at (c.in_default.ensures.none refl) in
     let actives = rw (← c.self.view_is) at (c.in_default-unkept_node.ensures.none refl) in
     let servers = rw (← c.self.view_is, c.deref.ensures.value) at (c.in_default-unkept_server.ensures.none refl) in
-    λ no. rw (← c.self.view_is) (all-kept f c.self.inside.homes.entries c.self.inside.actives.entries c.self.inside.seats.items (outside_of c.self.inside.holds.items) homes actives servers)
+    let o = outside_of c.self.inside.holds.items in
+    let h = flat (homes_of c.self.inside.homes.entries) (homes_of c.self.inside.actives.entries) (mean f (seats_of c.self.inside.seats.items)) in
+    let serves = seats-stay f c.self.inside.seats.items (server_stays o h) servers in
+    λ no. rw (← c.self.view_is) (all-kept f c.self.inside.homes.entries c.self.inside.actives.entries c.self.inside.seats.items o (homes serves) actives serves)

@@ -1,0 +1,94 @@
+-- Where no node that servers list goes, and no server does, no node does.
+use Rattle.std.proofs.Common.{◌≡◌, inl, inr, ◌⊎◌, ℕ, zero, suc, Bool, true, false, ◌||◌, ◌&&◌, List, [], ◌∷◌, refl, sym, ap, ◌∙◌, true≢false, arith}
+use Rattle.std.specs.Prelude.{Option, Some, None, is_some, not}
+use Rattle.std.specs.Option.{option_map}
+use Rattle.std.specs.List.{All, list_any}
+use Rattle.std.specs.FinMap as fin
+use Rattle.hurd_creds.specs.declared.name.Name.{Name}
+use Rattle.hurd_creds.specs.Names.{same_name}
+use Rattle.hurd_creds.specs.NameMaps.{NameMap}
+use Rattle.hurd_creds.proofs.NameLaws.{equal_if_same, same_or_apart}
+use Rattle.hurd_creds.proofs.KeyedLaws.{get-keyed}
+use Rattle.hurd_trans_iface.specs.Nodes.{Node, is_entered_at, is_listed}
+use Rattle.hurd_trans_iface.specs.Meaning.{Meaning}
+use Rattle.hurd_nodes.specs.declared.seat.Seat.{Seat}
+use Rattle.hurd_nodes.specs.Held.{AllSeated, Seated, mean, mean_seat, seat_key, seat_value, seats_of}
+use Rattle.hurd_nodes.specs.Shown.{NodeState, ServerInfo, flat, info_of, node_in, servers_of}
+use Rattle.hurd_nodes.specs.Settle.{Outside, node_stays, server_stays, stays_by, stays_with}
+use Rattle.hurd_nodes.specs.Look.{HomedStay, NamelessStay, ServersStay}
+use Rattle.hurd_nodes.proofs.AnyLaws.{get-first, get-rest}
+use Rattle.hurd_nodes.proofs.PartLaws.{or_cases, true_or_false}
+use Rattle.hurd_nodes.proofs.SeatLaws.{box-found}
+use Rattle.hurd_nodes.proofs.ShownLaws.{get-nodes}
+use Rattle.hurd_nodes.proofs.StayLaws.{info-is}
+
+-- of a list on which none has a home and goes, one that has a home stays
+both_true : (a b : Bool) → (a && not b) ≡ false → a ≡ true → b ≡ true
+both_true true true h k = refl
+both_true true false h k = absurd (true≢false h)
+both_true false b h k = absurd (true≢false (sym k))
+
+neither : (a b : Bool) → (a || b) ≡ false → (a ≡ false) × (b ≡ false)
+neither true b h = absurd (true≢false h)
+neither false b h = (refl, h)
+
+pub listed-stays : (p q : Name → Bool) (ns : List Name) (n : Name) → is_listed n ns ≡ true → list_any (λ x. p x && not (q x)) ns ≡ false → p n ≡ true → q n ≡ true
+listed-stays p q [] n on none home = absurd (true≢false (sym on))
+listed-stays p q (m ∷ ns) n on none home =
+    let rest = neither (p m && not (q m)) (list_any (λ x. p x && not (q x)) ns) none in
+    elim (or_cases (same_name n m) (is_listed n ns) on) [
+      | inl here ↦ let e = equal_if_same n m here in both_true (p n) (q n) (rw e rest.0) home
+      | inr later ↦ listed-stays p q ns n later rest.1 home
+    ]
+
+-- what holds of each seat of a list holds of the one of a name
+pub all-seated : {S : Type 0} (P : Seat S → Type 0) (ss : List (Seat S)) → All P ss → (s : Name) (e : Seated S) → fin.get (seats_of ss) s ≡ Some e → (x : Seat S) × (seat_value x ≡ e) × P x
+unfolding seats_of
+all-seated P [] all s e is = let c : None ≡ Some e = sym (get-keyed seat_key seat_value [] s) ∙ is in absurd (cc)
+all-seated P (x ∷ xs) all s e is = elim (same_or_apart s x.name) [
+  | inl here ↦ let c : Some (seat_value x) ≡ Some e = sym (get-first seat_key seat_value x xs) ∙ ap (fin.get _) (sym here) ∙ is in (x, cc, all 0 x (omega arith))
+  | inr apart ↦ all-seated P xs (λ k d below. all (suc k) d (omega arith)) s e (sym (get-rest seat_key seat_value x xs s apart) ∙ is)
+]
+
+some_back : {A : Type 0} (o : Option A) → is_some o ≡ true → (x : A) × (o ≡ Some x)
+some_back None h = absurd (true≢false (sym h))
+some_back (Some x) h = (x, refl)
+
+module _ {S : Type 0} (f : S → Meaning) (homes actives : NameMap Name) (ss : List (Seat S)) (o : Outside) (housed : AllSeated homes (seats_of ss)) where
+  abbrev told : NodeState
+  told = flat homes actives (mean f (seats_of ss))
+
+  module _ (looked : All (λ (x : Seat S). NamelessStay o told (f x.server)) ss) (serves : ServersStay o told) (n s : Name) (home : fin.get homes n ≡ Some s) where
+    seat : (e : Seated S) × (fin.get (seats_of ss) s ≡ Some e)
+    seat = some_back (fin.get (seats_of ss) s) (housed n s home)
+
+    info : fin.get told.servers s ≡ Some (info_of (mean_seat f seat.0))
+    info = info-is f (seats_of ss) s ∙ ap (λ (u : Option (Seated S)). option_map info_of (option_map (mean_seat f) u)) seat.1
+
+    -- the node is what its server has
+    served : fin.get told.nodes n ≡ fin.get (f seat.0.server).nodes n
+    served =
+        get-nodes homes (mean f (seats_of ss)) n ∙ ap (λ (u : Option Name). node_in n (Rattle.hurd_nodes.specs.Held.box_by (mean f (seats_of ss)) u)) home
+        ∙ ap (node_in n) (sym (box-found f (seats_of ss) s seat.0 seat.1))
+
+    stays_is : node_stays o told n ≡ (server_stays o told s && (same_name n seat.0.root || (is_entered_at (fin.get told.nodes n) || o.held n)))
+    stays_is = ap (stays_by o told n) home ∙ ap (stays_with o told n s) info
+
+    entered_stays : is_entered_at (fin.get told.nodes n) ≡ true → node_stays o told n ≡ true
+    entered_stays entered = stays_is ∙ rw (serves s (info_of (mean_seat f seat.0)) info, entered) (go (same_name n seat.0.root))
+      where
+        go : (b : Bool) → (b || true) ≡ true
+        go true = refl
+        go false = refl
+
+    nameless_stays : is_entered_at (fin.get told.nodes n) ≡ false → node_stays o told n ≡ true
+    nameless_stays nameless =
+        let x = all-seated (λ (x : Seat S). NamelessStay o told (f x.server)) ss looked s seat.0 seat.1 in
+        let same : x.0.server ≡ seat.0.server = ap (λ (e : Seated S). e.server) x.1 in
+        x.2 n (ap (λ (b : S). is_entered_at (fin.get (f b).nodes n)) same ∙ sym (ap is_entered_at served) ∙ nameless) (ap (λ (u : Option Name). is_some u) home)
+
+    stays_by_cases : node_stays o told n ≡ true
+    stays_by_cases = elim (true_or_false (is_entered_at (fin.get told.nodes n))) [ inl entered ↦ entered_stays entered | inr nameless ↦ nameless_stays nameless ]
+
+  pub looked-stay : All (λ (x : Seat S). NamelessStay o told (f x.server)) ss → ServersStay o told → HomedStay o told
+  looked-stay looked serves n s home = stays_by_cases looked serves n s home

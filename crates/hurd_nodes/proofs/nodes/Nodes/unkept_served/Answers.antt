@@ -1,0 +1,20 @@
+use Rattle.hurd_nodes.specs.Held.{homes_of, mean, seats_of}
+use Rattle.hurd_nodes.specs.Shown.{flat}
+use Rattle.hurd_nodes.specs.Settle.{node_stays, outside_of}
+use Rattle.hurd_nodes.proofs.LookLaws.{looked-stay}
+use Rattle.hurd_nodes.proofs.StayLaws.{homes-stay}
+use Rattle.hurd_nodes.proofs.nodes.Nodes.unkept_served.Goals as goal
+
+pub returns-in-AllStay-clause-none : goal.returns-in-AllStay-clause-none
+returns-in-AllStay-clause-none g c =
+    let i = c.self.inside in
+    let looked = rw (← c.self.view_is, c.deref.ensures.value) at c.in-AllStay.ensures in
+    rw (← c.self.view_is)
+    (λ none serves. looked-stay g.S.Server.meaning (homes_of i.homes.entries) (homes_of i.actives.entries) i.seats.items (outside_of i.holds.items) c.self.invariant.housed looked serves)
+
+pub returns-in-Untold-clause-none : goal.returns-in-Untold-clause-none
+returns-in-Untold-clause-none g c =
+    let i = c.self.inside in
+    let h = flat (homes_of i.homes.entries) (homes_of i.actives.entries) (mean g.S.Server.meaning (seats_of i.seats.items)) in
+    let found = rw (← c.self.view_is) at c.unkept_node.ensures.none in
+    rw (← c.self.view_is) (λ none serves. homes-stay i.homes.entries (node_stays (outside_of i.holds.items) h) (found none))
