@@ -1,5 +1,5 @@
 -- The one node of a server, and what its server answers of it.
-use Rattle.std.proofs.Common.{◌≡◌, ◌⊎◌, inl, inr, ℕ, Bool, true, false, List, refl, ap, sym, ◌∙◌, is_some}
+use Rattle.std.proofs.Common.{◌≡◌, ◌⊎◌, inl, inr, ℕ, Bool, true, false, true≢false, List, [], refl, ap, sym, ◌∙◌, is_some}
 use Rattle.std.specs.Prelude.{Option, Some, None, Result, Ok, Err}
 use Rattle.std.specs.Option.{option_map}
 use Rattle.std.specs.FinMap as fin
@@ -13,7 +13,7 @@ use Rattle.hurd_creds.proofs.NameLaws.{equal_if_same, apart_if_not_same, same_or
 use Rattle.hurd_creds.proofs.MapLaws.{map_values-empty, map_values-insert}
 use Rattle.hurd_creds.proofs.StepLaws.{steps-inside, steps-refused}
 use Rattle.hurd_trans_iface.specs.declared.new_node.NewNode.{NewNode}
-use Rattle.hurd_trans_iface.specs.Nodes.{Node, NodeMap, Edit, body_of, is_dir, passive_of, with_header, with_size}
+use Rattle.hurd_trans_iface.specs.Nodes.{AllListed, Node, NodeMap, Edit, body_of, is_dir, is_entered_at, passive_of, with_header, with_size}
 use Rattle.hurd_trans_iface.specs.Answers.{entry_of, names_of, make_of, make_edits, link_of, link_edits, unlink_of, unlink_edits, rename_of, rename_edits, edits_if}
 use Rattle.hurd_trans_iface.specs.Meaning.{Meaning, ServerKind, behaviour_of, root_of, keeps_tree, edited, options_taken, set_options_step, size_of, make_step, link_step, unlink_step, rename_step, forget_after}
 use Rattle.hurd_trans_iface.specs.Good.{KeepsRoot}
@@ -114,6 +114,14 @@ module _ (kind : ServerKind) (text : List ℕ) where
     | inl e ↦ inr (r, rw e (get-one r.name (node_of kind text r)))
     | inr apart ↦ inl (get-other r.name (node_of kind text r) n apart)
   ]
+
+  entered : is_dir (root_of kind text).kind ≡ false → (o : Option Node) → (o ≡ None) ⊎ ((r : LoneNode) × (o ≡ Some (node_of kind text r))) → is_entered_at o ≡ true
+  entered plain o (inl none) = rw none refl
+  entered plain o (inr (r, is)) = rw (is, plain) refl
+
+  -- the node is no directory and has a link, so no node is without an entry
+  pub all-entered : is_dir (root_of kind text).kind ≡ false → (p : Presence) → AllListed (nodes_of kind text p) []
+  all-entered plain p n nameless = absurd (true≢false (sym (entered plain (at p n) (found p n)) ∙ nameless))
 
   -- no words are stored with it
   pub passive-none : (p : Presence) (n : Name) → None ≡ passive_of (at p n)

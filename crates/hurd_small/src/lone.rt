@@ -3,7 +3,7 @@ ghost use Rattle.hurd_small.specs.Lone.{lone_meaning};
 
 use crate::presence::{LoneNode, Presence};
 use crate::single::Single;
-use hurd_creds::{Attrs, Bytes, Errno, Mode, NodeName, OpenFlags};
+use hurd_creds::{Attrs, Bytes, Errno, Mode, NodeName};
 use hurd_trans_iface::{Names, NewNode, Readable, Root, Server, Words};
 use std::alloc::Global;
 
@@ -174,9 +174,9 @@ impl<S: Single> Server for Lone<S> {
         }
     }
 
-    fn opened(&mut self, _node: NodeName, _modes: OpenFlags) {}
-
-    fn closed(&mut self, _node: NodeName, _modes: OpenFlags) {}
+    fn nameless(&self) -> Option<&[NodeName]> {
+        Some(&[])
+    }
 
     fn goaway(&mut self) {}
 }
