@@ -64,9 +64,6 @@ KeepsElse n m k = (q : Name) → q ≢ n → is_entered_at (fin.get m q) ≡ tru
 abbrev pub Keeps : NodeMap → NodeMap → Type 0
 Keeps m k = (q : Name) → is_entered_at (fin.get m q) ≡ true → is_entered_at (fin.get k q) ≡ true
 
-pub keeps-same : (m k : NodeMap) → k ≡ m → Keeps m k
-keeps-same m k same q h = rw same h
-
 -- where another map is the same
 pub keeps-as : (m k l : NodeMap) → l ≡ k → Keeps m k → Keeps m l
 keeps-as m k l same keeps q h = rw same (keeps q h)
@@ -158,14 +155,14 @@ served-entered e x y got steps h = ap (λ (z : Node). is_entered z.header) steps
 abbrev pub IsListOf : NodeMap → Option (Vec Name) → Type 0
 IsListOf m o = IfSome o (λ (ns : Vec Name). AllListed m ns.items)
 
+before : (a b : Bool) → (a ≡ true → b ≡ true) → b ≡ false → a ≡ false
+before true b keeps h = absurd (true≢false (sym (keeps refl) ∙ h))
+before false b keeps h = refl
+
 -- a list stays right where entered nodes stay entered
 pub list-kept : (m k : NodeMap) (o : Option (Vec Name)) → Keeps m k → IsListOf m o → IsListOf k o
 list-kept m k None keeps list = tt
-list-kept m k (Some ns) keeps list = λ q nameless. list q (go q nameless (is_entered_at (fin.get m q)) refl)
-  where
-    go : (q : Name) → is_entered_at (fin.get k q) ≡ false → (b : Bool) → is_entered_at (fin.get m q) ≡ b → is_entered_at (fin.get m q) ≡ false
-    go q nameless true is = absurd (true≢false (sym (keeps q is) ∙ nameless))
-    go q nameless false is = is
+list-kept m k (Some ns) keeps list = λ q nameless. list q (before (is_entered_at (fin.get m q)) (is_entered_at (fin.get k q)) (keeps q) nameless)
 
 -- and where one node was looked at, and the others stay entered
 pub list-after : (n : Name) (m k : NodeMap) (old new : Option (Vec Name)) → KeepsElse n m k → IsListOf m old → Relisted k n old new → IsListOf k new
@@ -173,12 +170,8 @@ list-after n m k old None keeps list looked = tt
 list-after n m k None (Some ns) keeps list looked = absurd looked
 list-after n m k (Some os) (Some ns) keeps list looked = λ q nameless. elim (same_or_apart q n) [
   | inl e ↦ rw e (looked.1 (rw e at nameless))
-  | inr apart ↦ looked.0 q apart (list q (go q apart nameless (is_entered_at (fin.get m q)) refl))
+  | inr apart ↦ looked.0 q apart (list q (before (is_entered_at (fin.get m q)) (is_entered_at (fin.get k q)) (keeps q apart) nameless))
 ]
-  where
-    go : (q : Name) → q ≢ n → is_entered_at (fin.get k q) ≡ false → (b : Bool) → is_entered_at (fin.get m q) ≡ b → is_entered_at (fin.get m q) ≡ false
-    go q apart nameless true is = absurd (true≢false (sym (keeps q apart is) ∙ nameless))
-    go q apart nameless false is = is
 
 -- of no nodes
 pub list-nothing : (m : NodeMap) (ns : List Name) → m ≡ fin.empty → AllListed m ns
