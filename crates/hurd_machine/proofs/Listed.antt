@@ -6,9 +6,8 @@ use Rattle.hurd_creds.specs.declared.name.Name.{Name}
 use Rattle.hurd_creds.specs.declared.attrs.Kind.{Kind}
 use Rattle.hurd_creds.specs.declared.attrs.Kind.TheVariants.{File, Dir, Link, Fifo, Char}
 use Rattle.hurd_creds.specs.NameMaps.{edit}
-use Rattle.hurd_trans_iface.specs.Nodes.{NodeMap, Node, Header, Body, Content, Listing, is_dir, body_of, with_body}
+use Rattle.hurd_trans_iface.specs.Nodes.{NodeMap, Node, Header, Body, Content, Listing, is_dir, body_of, with_body, is_entered}
 use Rattle.hurd_nodes.specs.Shown.{NodeState, server_of, tree_by}
-use Rattle.hurd_nodes.specs.Settle.{is_entered}
 use Rattle.hurd_machine.specs.World.{is_of, lists, lists_at}
 use Rattle.hurd_machine.specs.Sound.{times_in, times_listed, Hangs}
 use Rattle.hurd_machine.proofs.Nodes.{body_in}

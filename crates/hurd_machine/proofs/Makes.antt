@@ -15,13 +15,12 @@ use Rattle.hurd_creds.specs.declared.errno.Errno.{Errno}
 use Rattle.hurd_creds.specs.declared.errno.Errno.TheVariants.{EEXIST, ENOTDIR, EROFS, EOPNOTSUPP}
 use Rattle.hurd_creds.proofs.NameLaws.{equal_if_same, get_here, get_apart}
 use Rattle.hurd_trans_iface.specs.declared.new_node.NewNode.{NewNode}
-use Rattle.hurd_trans_iface.specs.Nodes.{Node, Entry, Header, Body, Content, Listing, IsShaped, is_dir, with_body, with_entry, new_file, new_dir}
+use Rattle.hurd_trans_iface.specs.Nodes.{Node, Entry, Header, Body, Content, Listing, IsShaped, is_dir, with_body, with_entry, new_file, new_dir, is_entered}
 use Rattle.hurd_trans_iface.specs.Answers.{entry_in, entry_of, is_made, made_node, node_of_kind}
 use Rattle.hurd_trans_iface.specs.Good.{IsSized, GoodBehaviour}
 use Rattle.hurd_trans_iface.specs.Kinds.{ServerKind, behaviour_of}
 use Rattle.hurd_trans_iface.specs.Meaning.{keeps_tree}
 use Rattle.hurd_nodes.specs.Shown.{ServerInfo, info_in, made_by, is_root_at, is_root_of, tree_by}
-use Rattle.hurd_nodes.specs.Settle.{is_entered}
 use Rattle.hurd_ports.specs.Tables.{Task}
 use Rattle.hurd_ports.specs.Steps.{named}
 use Rattle.hurd_machine.specs.World.{World, task_at, header_at, body_at, home_at, server_at, info_at, makes_at, is_of, lists, lists_at, nodes_of, is_server_root}

@@ -4,12 +4,11 @@ use Rattle.hurd_creds.specs.declared.name.Name.{Name}
 use Rattle.hurd_creds.specs.declared.open_flags.OpenFlags.{OpenFlags}
 use Rattle.hurd_creds.specs.Access.{IdSets}
 use Rattle.hurd_creds.proofs.NameLaws.{get_here, get_apart}
-use Rattle.hurd_trans_iface.specs.Nodes.{Node, IsShaped, is_dir}
+use Rattle.hurd_trans_iface.specs.Nodes.{Node, IsShaped, is_dir, is_entered_at}
 use Rattle.hurd_trans_iface.specs.Good.{IsSized}
 use Rattle.hurd_trans_iface.specs.Kinds.{behaviour_of}
 use Rattle.hurd_trans_iface.specs.Meaning.{keeps_tree}
 use Rattle.hurd_nodes.specs.Shown.{ServerInfo}
-use Rattle.hurd_nodes.specs.Settle.{is_entered_at}
 use Rattle.hurd_ports.specs.declared.parents.Parent.{Parent as Pair}
 use Rattle.hurd_ports.specs.declared.table.IoRight.{IoRight}
 use Rattle.hurd_ports.specs.declared.table.Right.{Right}

@@ -7,11 +7,10 @@ use Rattle.hurd_creds.specs.declared.open_flags.OpenFlags.{OpenFlags}
 use Rattle.hurd_creds.specs.Access.{IdSets}
 use Rattle.hurd_creds.specs.NameMaps.{edit}
 use Rattle.hurd_creds.proofs.NameLaws.{same_or_apart, get_here, get_apart, edit_here, edit_apart}
-use Rattle.hurd_trans_iface.specs.Nodes.{NodeMap, Node, Header, Body, with_header, with_body}
+use Rattle.hurd_trans_iface.specs.Nodes.{NodeMap, Node, Header, Body, with_header, with_body, is_entered, is_entered_at}
 use Rattle.hurd_nodes.specs.Shown.{NodeState, ServerInfo, with_text}
 use Rattle.hurd_nodes.specs.Settle as kept
 use Rattle.hurd_nodes.proofs.SettleLaws.{settle-is}
-use Rattle.hurd_nodes.specs.Settle.{is_entered, is_entered_at}
 use Rattle.hurd_ports.specs.declared.table.Opened.{Opened}
 use Rattle.hurd_ports.specs.declared.table.IoRight.{IoRight}
 use Rattle.hurd_ports.specs.declared.table.Right.{Right}
@@ -282,7 +281,7 @@ entered_edit m k n f keeps h = elim (same_or_apart n k) [
 ]
   where
     go : (o : Option Node) → is_entered_at o ≡ true → is_entered_at (option_map (with_header f) o) ≡ true
-    go None i = absurd (cc)
+    go None i = i
     go (Some x) i = keeps x.header i
 
 entered_body : (g : Body → Body) (o : Option Node) → is_entered_at (option_map (with_body g) o) ≡ is_entered_at o

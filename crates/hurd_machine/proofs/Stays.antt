@@ -6,9 +6,9 @@ use Rattle.std.specs.FinMap.{get}
 use Rattle.hurd_creds.specs.declared.name.Name.{Name}
 use Rattle.hurd_creds.proofs.NameLaws.{same_name-itself, equal_if_same}
 use Rattle.hurd_creds.specs.Names.{same_name}
-use Rattle.hurd_trans_iface.specs.Nodes.{Node, Header}
+use Rattle.hurd_trans_iface.specs.Nodes.{Node, Header, is_entered_at}
 use Rattle.hurd_nodes.specs.Shown.{NodeState, ServerInfo, boot_name, is_root, is_root_at, is_root_of, info_in}
-use Rattle.hurd_nodes.specs.Settle.{Outside, any_in, is_entered_at, node_stays, stays_by, stays_with}
+use Rattle.hurd_nodes.specs.Settle.{Outside, any_in, node_stays, stays_by, stays_with}
 use Rattle.hurd_nodes.proofs.PartLaws.{and_both, and_true, any_in-here, any_in-found}
 use Rattle.hurd_nodes.specs.Settle as kept
 use Rattle.hurd_ports.specs.declared.parents.Parent.{Parent as Pair}

@@ -2,9 +2,8 @@
 use Rattle.std.proofs.Common.{true, false, ◌≡◌, ◌≤◌, cond, is_some, nat_lt, if◌then◌else◌, Bool, true≢false, Option, Some, None, sym, refl, ◌∙◌, ap, subst}
 use Rattle.std.specs.FinMap.{get}
 use Rattle.hurd_creds.specs.declared.name.Name.{Name}
-use Rattle.hurd_trans_iface.specs.Nodes.{Node, Header, is_dir}
+use Rattle.hurd_trans_iface.specs.Nodes.{Node, Header, is_dir, is_entered, is_entered_at}
 use Rattle.hurd_nodes.specs.Shown.{ServerInfo, boot_name, info_in, tree_by}
-use Rattle.hurd_nodes.specs.Settle.{is_entered, is_entered_at}
 use Rattle.hurd_machine.specs.World.{World, boot_root, nodes_of, header_at, body_at, home_at, server_at, info_at, lists, lists_at}
 use Rattle.hurd_machine.specs.Change.{outside, stays, server_stays, settle}
 use Rattle.hurd_machine.specs.Sound.{AreGiven, AreHoused, AreSeated, IsTree, AreTables, Coherent, times_in, times_listed, LeadsUp, AtRoot, Above, Linked}

@@ -1,5 +1,5 @@
 -- Where no node that servers list goes, and no server does, no node does.
-use Rattle.std.proofs.Common.{◌≡◌, inl, inr, ◌⊎◌, ℕ, zero, suc, Bool, true, false, ◌||◌, ◌&&◌, List, [], ◌∷◌, refl, sym, ap, ◌∙◌, true≢false, arith}
+use Rattle.std.proofs.Common.{◌≡◌, inl, inr, suc, Bool, true, false, ◌||◌, ◌&&◌, List, [], ◌∷◌, refl, sym, ap, ◌∙◌, true≢false, arith}
 use Rattle.std.specs.Prelude.{Option, Some, None, is_some, not}
 use Rattle.std.specs.Option.{option_map}
 use Rattle.std.specs.List.{All, list_any}
@@ -9,11 +9,11 @@ use Rattle.hurd_creds.specs.Names.{same_name}
 use Rattle.hurd_creds.specs.NameMaps.{NameMap}
 use Rattle.hurd_creds.proofs.NameLaws.{equal_if_same, same_or_apart}
 use Rattle.hurd_creds.proofs.KeyedLaws.{get-keyed}
-use Rattle.hurd_trans_iface.specs.Nodes.{Node, is_entered_at, is_listed}
+use Rattle.hurd_trans_iface.specs.Nodes.{is_entered_at, is_listed}
 use Rattle.hurd_trans_iface.specs.Meaning.{Meaning}
 use Rattle.hurd_nodes.specs.declared.seat.Seat.{Seat}
 use Rattle.hurd_nodes.specs.Held.{AllSeated, Seated, mean, mean_seat, seat_key, seat_value, seats_of}
-use Rattle.hurd_nodes.specs.Shown.{NodeState, ServerInfo, flat, info_of, node_in, servers_of}
+use Rattle.hurd_nodes.specs.Shown.{NodeState, flat, info_of, node_in}
 use Rattle.hurd_nodes.specs.Settle.{Outside, node_stays, server_stays, stays_by, stays_with}
 use Rattle.hurd_nodes.specs.Look.{HomedStay, NamelessStay, ServersStay}
 use Rattle.hurd_nodes.proofs.AnyLaws.{get-first, get-rest}

@@ -1,14 +1,15 @@
 -- The server of each node is there.
-use Rattle.std.proofs.Common.{◌≡◌, inl, inr, ℕ, Bool, true, List, [], ◌∷◌, ◌++◌, refl, sym, ap, ◌∙◌, true≢false}
+use Rattle.std.proofs.Common.{◌≡◌, inl, inr, ℕ, true, List, [], ◌∷◌, ◌++◌, sym, ap, ◌∙◌, true≢false}
 use Rattle.std.specs.Prelude.{Option, Some, None, is_some, not, slice_set, slice_index_or}
 use Rattle.std.specs.FinMap as fin
 use Rattle.hurd_creds.specs.declared.name.Name.{Name}
 use Rattle.hurd_creds.specs.NameMaps.{NameMap, place_by}
 use Rattle.hurd_creds.proofs.NameLaws.{same_or_apart, same_name-itself, get_here, get_apart, remove_apart}
-use Rattle.hurd_creds.proofs.KeyedLaws.{contains-place}
+use Rattle.hurd_creds.proofs.KeyedLaws.{contains-place, get-keyed}
 use Rattle.hurd_nodes.specs.declared.seat.Seat.{Seat}
-use Rattle.hurd_nodes.specs.Held.{AllSeated, Seated, is_home, seat_key, seat_value, seats_of}
+use Rattle.hurd_nodes.specs.Held.{AllSeated, Seated, home_key, home_value, homes_of, is_home, seat_key, seat_value, seats_of}
 use Rattle.hurd_nodes.specs.Shown.{is_other, without_value}
+use Rattle.hurd_nodes.proofs.AnyLaws.{get-first}
 use Rattle.hurd_nodes.proofs.AttachLaws.{seat-pushed}
 use Rattle.hurd_nodes.proofs.PartLaws.{kept-is, removed-is}
 use Rattle.hurd_nodes.proofs.TableLaws.{place-set}
@@ -56,6 +57,13 @@ module _ {S : Type 0} (homes : NameMap Name) (seats : NameMap (Seated S)) (all :
   seated-left s q p is =
       let kept = kept-is homes (is_other s homes) q p is in
       ap (λ (o : Option (Seated S)). is_some o) (remove_apart seats s p (other_server s p (fin.get homes q) kept.1 kept.0)) ∙ all q p kept.1
+
+-- the first server, with its root's home
+pub seated-first : {S : Type 0} (x : Seat S) (root : Name) → AllSeated (fin.insert (homes_of []) root x.name) (seats_of (x ∷ []))
+unfolding homes_of seats_of
+seated-first x root =
+    seated-put (homes_of []) (seats_of (x ∷ [])) (λ n s is. let c : None ≡ Some s = sym (get-keyed home_key home_value [] n) ∙ is in absurd (cc)) root x.name
+    (ap (λ (o : Option (Seated _)). is_some o) (get-first seat_key seat_value x []))
 
 -- a server more, with its root's home
 pub seated-pushed : {S : Type 0} (homes : NameMap Name) (before ss : List (Seat S)) (x : Seat S) (root : Name) → seats_of ss ≡ fin.remove (seats_of before) x.name

@@ -5,7 +5,7 @@ ghost use Rattle.std.specs.FinMap as fin;
 ghost use Rattle.indexmap.specs.IndexMap.{spare};
 ghost use Rattle.hurd_creds.specs.Names.{same_name};
 ghost use Rattle.hurd_creds.specs.NameMaps.{place_by};
-ghost use Rattle.hurd_nodes.specs.Held.{AreApart, AreTables, Shrinks, held_of, home_key, homes_of, is_controlled, is_held, is_user, less_one, names_node, names_server, place_in, seat_key, seats_of, users_in, is_home};
+ghost use Rattle.hurd_nodes.specs.Held.{AllSeated, AreApart, AreTables, Shrinks, held_of, home_key, homes_of, is_controlled, is_held, is_user, less_one, names_node, names_server, place_in, seat_key, seats_of, users_in, is_home};
 ghost use Rattle.hurd_nodes.specs.Shown.{less_old, without_seats, without_server, without_value};
 
 use crate::seat::{Hold, Homes, Seat};
@@ -123,6 +123,7 @@ pub(crate) fn remove_server<S: Drop>(
 fn tell_away<S: Server>(seats: &mut Vec<Seat<S>>, server: ServerName)
     ensures others { fin.remove (seats_of seats.new.items) server ≡ fin.remove (seats_of seats.old.items) server }
     ensures apart { AreApart seat_key seats.old.items → AreApart seat_key seats.new.items }
+    ensures housed { (homes : _) → AllSeated homes (seats_of seats.old.items) → AllSeated homes (seats_of seats.new.items) }
     ensures len { vec_len seats.new ≡ vec_len seats.old }
     ensures capacity { vec_capacity seats.new ≡ vec_capacity seats.old }
 {

@@ -3,7 +3,7 @@ ghost use Rattle.std.specs.Prelude.{◌≡◌, IfOk};
 ghost use Rattle.hurd_trans_iface.specs.Meaning.{Begins};
 
 use crate::memory::Memory;
-use hurd_creds::{Attrs, Bytes, Errno, Mode, NodeName, OpenFlags};
+use hurd_creds::{Attrs, Bytes, Errno, Mode, NodeName};
 use hurd_small::{Hello, Symlink};
 use hurd_tmpfs::Tmpfs;
 use hurd_trans_iface::{Names, NewNode, Readable, Root, Server, Words};
@@ -162,12 +162,8 @@ impl<S: Server> Server for Counted<S> {
         self.server.forget(node)
     }
 
-    fn opened(&mut self, node: NodeName, modes: OpenFlags) {
-        self.server.opened(node, modes)
-    }
-
-    fn closed(&mut self, node: NodeName, modes: OpenFlags) {
-        self.server.closed(node, modes)
+    fn nameless(&self) -> Option<&[NodeName]> {
+        self.server.nameless()
     }
 
     fn goaway(&mut self) {

@@ -180,12 +180,8 @@ impl Server for Counted {
         self.tree.forget(node)
     }
 
-    fn opened(&mut self, node: NodeName, modes: OpenFlags) {
-        self.tree.opened(node, modes)
-    }
-
-    fn closed(&mut self, node: NodeName, modes: OpenFlags) {
-        self.tree.closed(node, modes)
+    fn nameless(&self) -> Option<&[NodeName]> {
+        self.tree.nameless()
     }
 
     fn goaway(&mut self) {

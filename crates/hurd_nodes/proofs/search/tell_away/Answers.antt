@@ -5,6 +5,7 @@ use Rattle.hurd_creds.proofs.KeyedLaws.{keyed-changed}
 use Rattle.hurd_nodes.specs.declared.seat.Seat.{Seat}
 use Rattle.hurd_nodes.specs.Held.{Seated, seat_key, seat_value, seats_of}
 use Rattle.hurd_nodes.proofs.AttachLaws.{removed-put}
+use Rattle.hurd_nodes.proofs.SeatedLaws.{seated-set}
 use Rattle.hurd_nodes.proofs.TableLaws.{apart-set}
 use Rattle.hurd_nodes.proofs.search.tell_away.Goals as goal
 
@@ -21,3 +22,7 @@ returns-in-Some-clause-others g c =
 pub returns-in-Some-clause-apart : goal.returns-in-Some-clause-apart
 returns-in-Some-clause-apart g c =
     apart-set seat_key c.args.seats.now.items c.in-Some.i c.index_mut.result.now (record c.index_mut.result.now { server = c.goaway.new.self }) c.index_mut.ensures.value refl
+
+pub returns-in-Some-clause-housed : goal.returns-in-Some-clause-housed
+returns-in-Some-clause-housed g c homes =
+    seated-set homes c.args.seats.now.items c.in-Some.i c.index_mut.result.now (record c.index_mut.result.now { server = c.goaway.new.self }) c.index_mut.ensures.value refl
