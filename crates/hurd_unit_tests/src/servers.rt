@@ -272,7 +272,8 @@ fn a_tree_stores_words(rt: HostRuntime) -> Result<(), Fail> {
     let mut tree = Tmpfs::empty(alloc)?;
     tree.begin_root(ROOT, 1000, 100, Mode::OWNER_READ);
     assert_eq!(rt; stored(alloc, &tree)?.as_str(), "Some(false) None None");
-    assert_eq!(rt; tree.set_passive(ROOT, named_words(alloc, "a|b|")?), Ok(()));
+    let words = named_words(alloc, "a|b|")?;
+    assert_eq!(rt; tree.set_passive(ROOT, words), Ok(()));
     assert_eq!(rt;
         stored(alloc, &tree)?.as_str(),
         "Some(true) Some(Words { items: [Bytes { items: [97] }, Bytes { items: [98] }] }) None"
