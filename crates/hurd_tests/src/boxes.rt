@@ -2,7 +2,7 @@
 ghost use Rattle.std.specs.Prelude.{IfOk};
 ghost use Rattle.hurd_trans_iface.specs.Meaning.{Begins};
 
-use crate::fixture::{Memory, Tries, booted, check};
+use crate::fixture::{Memory, TASKS, Tries, booted, check, list_of};
 use bitflags::Flags;
 use hurd_creds::{Attrs, Bytes, Errno, GoawayFlags, Mode, NodeName, OpenFlags, TaskId, TransFlags};
 use hurd_machine::{Call, Lookup, Reply, Setting};
@@ -326,6 +326,41 @@ fn a_world_drops_its_boxes(rt: HostRuntime) -> Result<(), Fail> {
     let alloc = rt.alloc();
     let counts = Counts::new(alloc)?;
     let world = seated(&rt, alloc, &counts)?;
+    assert!(rt; counts.are(0, 0));
+    drop(world);
+    assert!(rt; counts.are(0, 1));
+    Ok(())
+}
+
+/// A world over a counted box.
+fn booted_over(alloc: Global, counts: &Counts) -> Result<World, Errno> {
+    let tree = counting(alloc, counts)?;
+    let list = list_of(alloc, TASKS)?;
+    match World::boot(alloc, tree, list.tasks) {
+        Ok(world) => Ok(world),
+        Err((errno, _)) => Err(errno),
+    }
+}
+
+/// The boot box can't be sent away.
+const STAYS: &str = "0 file_getcontrol 1
+  Port 3
+0 fsys_goaway 3 FORCE
+  Refused EBUSY
+0 port_deallocate 3
+  Done
+0 port_deallocate 1
+  Done
+0 port_deallocate 2
+  Done
+";
+
+#[test]
+fn the_boot_box_is_told_nothing(rt: HostRuntime) -> Result<(), Fail> {
+    let alloc = rt.alloc();
+    let counts = Counts::new(alloc)?;
+    let mut world = booted_over(alloc, &counts)?;
+    calls(&rt, alloc, &mut world, STAYS)?;
     assert!(rt; counts.are(0, 0));
     drop(world);
     assert!(rt; counts.are(0, 1));

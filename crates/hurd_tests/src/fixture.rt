@@ -12,7 +12,7 @@ use std::alloc::{AllocError, Global};
 use std::process::Abort;
 
 /// root, alice, bob, and nobody with root's group: tasks 0 to 3.
-const TASKS: &str = "task 0 0\ntask 1000 1000\ntask 1001 1001\ntask - 0\n";
+pub const TASKS: &str = "task 0 0\ntask 1000 1000\ntask 1001 1001\ntask - 0\n";
 
 /// How often a call is made.
 #[derive(Clone, Copy)]

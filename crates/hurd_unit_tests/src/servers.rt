@@ -269,10 +269,10 @@ fn stored(alloc: Global, tree: &Tmpfs) -> Result<String, AllocError> {
 #[test]
 fn a_tree_stores_words(rt: HostRuntime) -> Result<(), Fail> {
     let alloc = rt.alloc();
+    let words = named_words(alloc, "a|b|")?;
     let mut tree = Tmpfs::empty(alloc)?;
     tree.begin_root(ROOT, 1000, 100, Mode::OWNER_READ);
     assert_eq!(rt; stored(alloc, &tree)?.as_str(), "Some(false) None None");
-    let words = named_words(alloc, "a|b|")?;
     assert_eq!(rt; tree.set_passive(ROOT, words), Ok(()));
     assert_eq!(rt;
         stored(alloc, &tree)?.as_str(),
