@@ -384,7 +384,8 @@ fn looked_up(alloc: Global, world: &mut World, dir: u64, flags: OpenFlags) -> Re
 /// A port that controls the box behind the node of a port, which it gives up, and then one on the root of that box: reached from the first root, so it
 /// came in by one way.
 fn entered(alloc: Global, world: &mut World, under: u64) -> Result<u64, Errno> {
-    let Reply::Port(control) = world.call(alloc, ROOT, Call::FileGetcontrol { port: under }) else {
+    let Reply::Port(control) = world.call(alloc, ROOT, Call::FileGetTranslatorCntl { port: under })
+    else {
         return Err(Errno::EIO);
     };
     let call = Call::FsysGetroot {
