@@ -32,7 +32,7 @@ use std::rt::Clock;
 use tree::Tree;
 use work::Work;
 
-/// After so many seconds no more servers are made: each costs a look at all nodes.
+/// After so many seconds no more servers are made: each makes what comes later dearer.
 const LONG_ENOUGH: u64 = 10;
 
 /// A server that gives a short text.
