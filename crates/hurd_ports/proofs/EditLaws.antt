@@ -17,11 +17,10 @@ use Rattle.hurd_ports.specs.declared.table.Right.{Right}
 use Rattle.hurd_ports.specs.declared.table.PendingStart.{PendingStart}
 use Rattle.hurd_ports.specs.declared.table.Port.{Port}
 use Rattle.hurd_ports.specs.declared.table.TaskSeat.{TaskSeat}
-use Rattle.hurd_ports.specs.declared.opens.OpenSeat.{OpenSeat}
 use Rattle.hurd_ports.specs.Tables.{Task, PortState, has_room, is_held, names_open, or_refuse, right_at, right_of, rights_of, start_of}
 use Rattle.hurd_ports.specs.Steps.{edit_task, pend_at, pend_step, received, receive_at, receive_step, sent_to, send_step, share_at, share_step, take_ids_at, take_ids_step, taken_by, with_ids, with_pending, with_port, with_sent}
 use Rattle.hurd_ports.specs.Sound.{IsSound, NumbersRise}
-use Rattle.hurd_ports.specs.Seats.{seat_task, tasks_of, state_of}
+use Rattle.hurd_ports.specs.Seats.{OpenEntry, seat_task, tasks_of, state_of}
 use Rattle.hurd_ports.proofs.TaskLaws.{one_or_other, set-same, edit-apart, edit-found, edit-here}
 use Rattle.hurd_ports.proofs.HeldLaws.{any-grows, holds, holds_by, keeps, or_first, ported}
 use Rattle.hurd_ports.proofs.SoundLaws.{given-set, next_found, numbers-set, rise-push}
@@ -151,7 +150,7 @@ pub record IdsTaken (h k : PortState) (t : ℕ) (ids : IdSets) : Type 0 where
   pub sound : IsSound k
 
 -- a task is there where the test says so
-pub task-there : (os : List OpenSeat) (ss : List TaskSeat) (t : ℕ) (u : Unit {0}) → ◌≡◌ {A = Result (Unit {0}) Errno} (Ok u) (if nat_lt t (length (state_of os ss).tasks) then Ok tt else Err ESRCH) → t < length ss
+pub task-there : (os : List OpenEntry) (ss : List TaskSeat) (t : ℕ) (u : Unit {0}) → ◌≡◌ {A = Result (Unit {0}) Errno} (Ok u) (if nat_lt t (length (state_of os ss).tasks) then Ok tt else Err ESRCH) → t < length ss
 task-there os ss t u is =
     let below : nat_lt t (length (tasks_of ss)) ≡ true = go (nat_lt t (length (tasks_of ss))) is in
     let same : length (tasks_of ss) ≡ length ss = length-map ss seat_task in
@@ -162,7 +161,7 @@ task-there os ss t u is =
     go false h = absurd (cc)
 
 -- in the code
-module _ (os : List OpenSeat) (ss : List TaskSeat) (t : ℕ) (a s new : TaskSeat) (sound : IsSound (state_of os ss)) (found : slice_get ss t ≡ Some a) (read : s ≡ slice_index_or ss t s) where
+module _ (os : List OpenEntry) (ss : List TaskSeat) (t : ℕ) (a s new : TaskSeat) (sound : IsSound (state_of os ss)) (found : slice_get ss t ≡ Some a) (read : s ≡ slice_index_or ss t s) where
   abbrev pub h : PortState
   h = state_of os ss
 

@@ -1,22 +1,23 @@
 -- A port that is filled in, with its open.
-use Rattle.std.proofs.Common.{◌≡◌, ℕ, List, [], ◌∷◌, ◌++◌, ap, sym, ◌∙◌}
+use Rattle.std.proofs.Common.{◌≡◌, ◌+◌, ℕ, List, ap, sym, ◌∙◌}
 use Rattle.std.specs.Prelude.{Some, Ok, Err, slice_get, slice_set, slice_index_or}
+use Rattle.std.specs.FinMap as fin
 use Rattle.hurd_creds.specs.declared.name.Name.{Name}
 use Rattle.hurd_creds.specs.declared.errno.Errno.TheVariants.{EBADF}
 use Rattle.hurd_creds.specs.declared.open_flags.OpenFlags.{OpenFlags}
 use Rattle.hurd_creds.specs.Access.{IdSets}
-use Rattle.hurd_creds.proofs.KeyedLaws.{keyed-push}
 use Rattle.hurd_ports.specs.declared.table.TaskSeat.{TaskSeat}
-use Rattle.hurd_ports.specs.declared.opens.OpenSeat.{OpenSeat}
 use Rattle.hurd_ports.specs.declared.parents.Parent.{Parent}
+use Rattle.hurd_ports.specs.declared.table.Right.{Right}
 use Rattle.hurd_ports.specs.declared.table.Right.TheVariants.{Io}
-use Rattle.hurd_ports.specs.Tables.{Task, PortState, fresh, right_of, room_of}
+use Rattle.hurd_ports.specs.Tables.{Task, PortState, open_of, rights_of, fresh, right_of, room_of}
 use Rattle.hurd_ports.specs.Steps.{named, new_open, new_right, with_port, with_new_port, insert_step}
 use Rattle.hurd_ports.specs.Sound.{IsSound}
-use Rattle.hurd_ports.specs.Seats.{seat_task, tasks_of, open_key, open_value, opens_of, state_of}
+use Rattle.hurd_ports.specs.Seats.{AreCounted, counted, is_named_so, namings, one_if, OpenEntry, seat_task, tasks_of, opens_of, state_of}
+use Rattle.hurd_ports.proofs.CountLaws.{counted-more, namings-port}
 use Rattle.hurd_ports.proofs.TaskLaws.{edit-edit}
 use Rattle.hurd_ports.proofs.RoomLaws.{room-is, insert-done}
-use Rattle.hurd_ports.proofs.SoundLaws.{free-name, number-new, sound-inserted}
+use Rattle.hurd_ports.proofs.SoundLaws.{number-new, sound-inserted}
 use Rattle.hurd_ports.proofs.SeatLaws.{same_halves, seat-read, seat-changed}
 
 -- a port went in, under a number that no port had
@@ -25,20 +26,19 @@ pub record Inserted (h k : PortState) (t : ℕ) (n : Name) (ids : IdSets) (paren
   pub sound : IsSound k
   pub new : right_of h t number ≡ Err EBADF
 
-module _ (os : List OpenSeat) (ss : List TaskSeat) (t : ℕ) (n : Name) (ids : IdSets) (parents : List Parent) (modes : OpenFlags) where
-  -- the seat that stood as x has the port, and the open is at the end
-  filled_in : (news : List OpenSeat) (new : TaskSeat) (x : Task) → IsSound (state_of os ss) → slice_get (tasks_of ss) t ≡ Some x → seat_task new ≡ with_port (new_right t n ids parents x) (named 1 x)
-      → news ≡ os ++ record { name = fresh t x; opened = new_open modes } ∷ [] → state_of news (slice_set ss t new) ≡ with_new_port t n ids parents modes x (state_of os ss)
-  filled_in news new x sound at ported pushed =
-      same_halves _ _ _ _
-      (ap opens_of pushed ∙ keyed-push open_key open_value os (record { name = fresh t x; opened = new_open modes }) (free-name (state_of os ss) t x sound at))
+module _ (os : List OpenEntry) (ss : List TaskSeat) (t : ℕ) (n : Name) (ids : IdSets) (parents : List Parent) (modes : OpenFlags) where
+  -- the seat that stood as x has the port, and the open is put
+  filled_in : (news : List OpenEntry) (new : TaskSeat) (x : Task) → slice_get (tasks_of ss) t ≡ Some x → seat_task new ≡ with_port (new_right t n ids parents x) (named 1 x)
+      → opens_of news ≡ fin.insert (opens_of os) (fresh t x) (new_open modes) → state_of news (slice_set ss t new) ≡ with_new_port t n ids parents modes x (state_of os ss)
+  filled_in news new x at ported put =
+      same_halves _ _ _ _ put
       (seat-changed ss t new (with_port (new_right t n ids parents x) (named 1 x)) ported ∙ sym (edit-edit t (with_port (new_right t n ids parents x)) (named 1) (tasks_of ss) x at))
 
   -- a seat was read, named the open, and was given the port
-  pub filled : (news : List OpenSeat) (old mid new : TaskSeat) (name : Name) (number : ℕ) → IsSound (state_of os ss) → room_of (state_of os ss) t 1 ≡ Ok tt → old ≡ slice_index_or ss t old
+  pub filled : (news : List OpenEntry) (old mid new : TaskSeat) (name : Name) (number : ℕ) → IsSound (state_of os ss) → room_of (state_of os ss) t 1 ≡ Ok tt → old ≡ slice_index_or ss t old
       → name ≡ fresh t (seat_task old) → seat_task mid ≡ named 1 (seat_task old) → number ≡ mid.next → seat_task new ≡ with_port (Io (record { node = n; ids = ids; open_name = name; parents = parents })) (seat_task mid)
-      → news ≡ os ++ record { name = name; opened = new_open modes } ∷ [] → Inserted (state_of os ss) (state_of news (slice_set ss t new)) t n ids parents modes number
-  filled news old mid new name number sound room read fresh_is named_is number_is ported pushed =
+      → opens_of news ≡ fin.insert (opens_of os) name (new_open modes) → Inserted (state_of os ss) (state_of news (slice_set ss t new)) t n ids parents modes number
+  filled news old mid new name number sound room read fresh_is named_is number_is ported put =
       let h : PortState = state_of os ss in
       let found = room-is h t 1 room in
       let x : Task = found.task in
@@ -48,9 +48,17 @@ module _ (os : List OpenSeat) (ss : List TaskSeat) (t : ℕ) (n : Name) (ids : I
       let counted : number ≡ x.next = number_is ∙ ap (λ (y : Task). y.next) grown in
       let left : seat_task new ≡ with_port (new_right t n ids parents x) (named 1 x) = ported ∙ ap (with_port (Io (record { node = n; ids = ids; open_name = name; parents = parents }))) grown ∙ ap (λ (q : Name). with_port (Io (record { node = n; ids = ids; open_name = q; parents = parents })) (named 1 x)) given in
       let whole : state_of news (slice_set ss t new) ≡ with_new_port t n ids parents modes x h =
-      filled_in news new x sound found.there left (pushed ∙ ap (λ (q : Name). os ++ record { name = q; opened = new_open modes } ∷ []) given) in
+      filled_in news new x found.there left (put ∙ ap (λ (q : Name). fin.insert (opens_of os) q (new_open modes)) given) in
       rw (whole, counted) (record {
         step = insert-done h t n ids parents modes x found.there found.room;
         sound = sound-inserted h t x sound found.there n ids parents modes;
         new = number-new h t x sound found.there;
       })
+
+-- and its open is counted once more
+pub filled-counted : (os : List OpenEntry) (es news : List (Name × ℕ)) (ss : List TaskSeat) (t : ℕ) (old mid new : TaskSeat) (r : Right) → AreCounted es ss → room_of (state_of os ss) t 1 ≡ Ok tt → old ≡ slice_index_or ss t old
+    → seat_task mid ≡ named 1 (seat_task old) → seat_task new ≡ with_port r (seat_task mid) → ((o : Name) → counted news o ≡ counted es o + one_if (is_named_so o (open_of r))) → AreCounted news (slice_set ss t new)
+filled-counted os es news ss t old mid new r counts room read named_is ported added =
+    let found = room-is (state_of os ss) t 1 room in
+    let at = (seat-read ss t old found.task found.there read).0 in
+    counted-more es news ss t old new at counts r (λ o. ap (λ (x : Task). namings o (rights_of x)) (ported ∙ ap (with_port r) named_is) ∙ namings-port o r (named 1 (seat_task old))) added

@@ -47,10 +47,6 @@ module _ {X : Type 0} (f : X → Bool) where
     | inr t ↦ or_second (f z) (list_any f (slice_set xs i y)) (any-grows xs i x y at grows t)
   ]
 
-  pub any-map : {Y : Type 0} (g : Y → X) (ys : List Y) → list_any f (map g ys) ≡ list_any (λ y. f (g y)) ys
-  any-map g [] = refl
-  any-map g (y ∷ ys) = ap (λ b. f (g y) || b) (any-map g ys)
-
 -- a right names its own open
 pub names_own : (n : Name) (r : Right) → open_of r ≡ Some n → names_open n r ≡ true
 names_own n (Io r) e = let is : r.open_name ≡ n = cc in rw is (same_name-itself n)

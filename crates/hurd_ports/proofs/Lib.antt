@@ -1,9 +1,12 @@
 pub mod TaskLaws
 pub mod HeldLaws
 pub mod PlaceLaws
+pub mod OpenLaws
+pub mod SearchLaws
 pub mod RoomLaws
 pub mod SoundLaws
 pub mod SeatLaws
 pub mod EditLaws
+pub mod CountLaws
 pub mod FillLaws
 pub mod SettleLaws

@@ -1,12 +1,9 @@
--- The place of a port by its number, and of an open by its name.
+-- The place of a port by its number.
 use Rattle.std.proofs.Common.{◌≡◌, ◌⊎◌, inl, inr, ℕ, suc, ◌+◌, ◌==◌, Bool, true, false, cond, List, [], ◌∷◌, length, get_or, refl, ap, sym, ◌∙◌, arith}
 use Rattle.std.proofs.lemmas.Bool.Decides.{nat_tests}
 use Rattle.std.specs.Prelude.{Option, Some, None, not, nat_lt}
 use Rattle.std.specs.Option.{option_map}
 use Rattle.std.specs.List.{remove, position, position_or_len}
-use Rattle.hurd_creds.specs.declared.name.Name.{Name}
-use Rattle.hurd_creds.specs.Names.{same_name}
-use Rattle.hurd_creds.specs.NameMaps.{place_by}
 use Rattle.hurd_ports.specs.declared.table.Port.{Port}
 use Rattle.hurd_ports.specs.Tables.{right_in}
 use Rattle.hurd_ports.specs.Steps.{ports_without}
@@ -52,11 +49,6 @@ module _ {X : Type 0} (is : X → Bool) where
 
   pub position-none : (x : X) (xs : List X) → position is (x ∷ xs) ≡ None → (is x ≡ false) × (position is xs ≡ None)
   position-none x xs h = no_place (is x) (position is xs) (sym (position-cons x xs) ∙ h)
-
-pub place-position : {X : Type 0} (key : X → Name) (n : Name) (xs : List X) → position (λ x. same_name n (key x)) xs ≡ place_by key n xs
-place-position key n [] = refl
-place-position key n (x ∷ xs) =
-    position-cons (λ y. same_name n (key y)) x xs ∙ ap (λ (o : Option ℕ). cond (same_name n (key x)) (Some 0) (option_map (λ i. i + 1) o)) (place-position key n xs)
 
 abbrev pub numbered_so : ℕ → Port → Bool
 numbered_so p x = p == x.number

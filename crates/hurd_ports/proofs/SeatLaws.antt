@@ -1,23 +1,22 @@
 -- The tables in the code and those that they stand for.
-use Rattle.std.proofs.Common.{◌≡◌, inl, inr, ℕ, List, [], ◌∷◌, ◌++◌, map, refl, ap, ap₂, sym, ◌∙◌, append-nil}
+use Rattle.std.proofs.Common.{◌≡◌, inl, inr, ℕ, ◌<◌, List, [], ◌∷◌, ◌++◌, map, refl, ap, ap₂, sym, ◌∙◌, append-nil}
 use Rattle.std.proofs.lemmas.List.{map_push, map-set}
 use Rattle.std.specs.Prelude.{Option, Some, None, IsSomeAnd, slice_get, slice_set, slice_index_or}
 use Rattle.std.specs.Option.{option_map}
 use Rattle.std.specs.Global.{Vec}
-use Rattle.std.specs.Vec.{with_item}
 use Rattle.std.proofs.lemmas.Option.{get_or_from_slice_get, slice_get-map}
 use Rattle.hurd_creds.specs.Access.{IdSets}
-use Rattle.hurd_creds.proofs.KeyedLaws.{keyed-nothing, keyed-edited, edit-absent}
-use Rattle.hurd_creds.specs.NameMaps.{edit, place_by}
+use Rattle.hurd_creds.proofs.KeyedLaws.{keyed-nothing}
+use Rattle.hurd_creds.specs.NameMaps.{edit}
 use Rattle.hurd_creds.specs.declared.name.Name.{Name}
 use Rattle.hurd_creds.specs.declared.name.TaskId.{TaskId}
 use Rattle.hurd_ports.specs.declared.table.TaskSeat.{TaskSeat}
 use Rattle.hurd_ports.specs.declared.table.Port.{Port}
 use Rattle.hurd_ports.specs.declared.table.Opened.{Opened}
-use Rattle.hurd_ports.specs.declared.opens.OpenSeat.{OpenSeat}
 use Rattle.hurd_ports.specs.Tables.{Task, PortState, OpenMap}
 use Rattle.hurd_ports.specs.Steps.{new_task, starting_at, named, name_step}
-use Rattle.hurd_ports.specs.Seats.{seat_task, tasks_of, open_key, open_value, opens_of, state_of, HasSpare, IsReady}
+use Rattle.hurd_ports.specs.Seats.{OpenEntry, seat_task, tasks_of, open_key, open_value, opens_of, state_of, AreInOrder, HasSpare, IsReady}
+use Rattle.hurd_ports.specs.Sound.{IsSound}
 use Rattle.hurd_ports.proofs.TaskLaws.{map-origin, set-here, set-apart, set-same, one_or_other, edit-found}
 
 -- the tables with an open changed, where it is there
@@ -28,7 +27,7 @@ pub same_halves : (m n : OpenMap) (ts us : List Task) → m ≡ n → ts ≡ us 
 same_halves m n ts us opens tasks = rw (opens, tasks) refl
 
 -- a seat for each task, and no opens
-pub started : (os : List OpenSeat) (ss : List TaskSeat) (ids done rest : List IdSets) (next : ℕ) → os ≡ [] → tasks_of ss ≡ map (new_task next) done → done ++ rest ≡ ids → rest ≡ [] → state_of os ss ≡ starting_at ids next
+pub started : (os : List OpenEntry) (ss : List TaskSeat) (ids done rest : List IdSets) (next : ℕ) → os ≡ [] → tasks_of ss ≡ map (new_task next) done → done ++ rest ≡ ids → rest ≡ [] → state_of os ss ≡ starting_at ids next
 started os ss ids done rest next none seats all end =
     let whole : done ≡ ids = sym (append-nil done) ∙ ap (λ (r : List IdSets). done ++ r) (sym end) ∙ all in
     same_halves _ _ _ _ (ap opens_of none ∙ keyed-nothing open_key open_value) (seats ∙ ap (map (new_task next)) whole)
@@ -38,20 +37,17 @@ pub seat-pushed : (ss : List TaskSeat) (x : TaskSeat) (done : List IdSets) (ids 
 seat-pushed ss x done ids next seats is =
     map_push seat_task ss x ∙ ap₂ (λ (ts : List Task) (t : Task). ts ++ t ∷ []) seats is ∙ sym (map_push (new_task next) done ids)
 
--- an open at the place of its name, changed
-module _ (n : Name) (f : Opened → Opened) (os : List OpenSeat) (ss : List TaskSeat) where
-  pub open-set : (i : ℕ) (x : OpenSeat) → Some i ≡ place_by open_key n os → x ≡ slice_index_or os i x
-      → state_of (slice_set os i (record { name = x.name; opened = f x.opened })) ss ≡ edit_open n f (state_of os ss)
-  open-set i x at is =
-      ap (λ (m : OpenMap). let h : PortState = record { opens = m; tasks = tasks_of ss } in h)
-      (keyed-edited open_key open_value n os i x (record { name = x.name; opened = f x.opened }) f at is refl refl)
-
-  pub open-absent : None ≡ place_by open_key n os → state_of os ss ≡ edit_open n f (state_of os ss)
-  open-absent none = ap (λ (m : OpenMap). let h : PortState = record { opens = m; tasks = tasks_of ss } in h) (sym (edit-absent open_key open_value n os f none))
+-- an open changed
+pub open-changed : (os news : List OpenEntry) (ss : List TaskSeat) (n : Name) (f : Opened → Opened) → opens_of news ≡ edit n f (opens_of os) → state_of news ss ≡ edit_open n f (state_of os ss)
+open-changed os news ss n f is = same_halves _ _ _ _ is refl
 
 -- the task of a seat that was looked up
 pub seat-there : (ss : List TaskSeat) (t : ℕ) (s : TaskSeat) → slice_get ss t ≡ Some s → slice_get (tasks_of ss) t ≡ Some (seat_task s)
 seat-there ss t s at = slice_get-map seat_task ss t ∙ ap (option_map seat_task) at
+
+-- the numbers of its ports rise
+pub seat-ordered : (os : List OpenEntry) (ss : List TaskSeat) (t : ℕ) (s : TaskSeat) → IsSound (state_of os ss) → slice_get ss t ≡ Some s → AreInOrder s.ports.items
+seat-ordered os ss t s sound at = (s.next, sound.numbered t (seat_task s) (seat-there ss t s at))
 
 -- the task of a seat that was read
 pub seat-read : (ss : List TaskSeat) (t : ℕ) (s : TaskSeat) (x : Task) → slice_get (tasks_of ss) t ≡ Some x → s ≡ slice_index_or ss t s → (slice_get ss t ≡ Some s) × (seat_task s ≡ x)
@@ -72,20 +68,20 @@ seat-found ss t s P there read = go (slice_get (tasks_of ss) t) refl there
     go (Some x) e h = (seat-read ss t s x e read).0
 
 -- where opens and the ports of a seat have other room, nothing else changes
-pub seat-kept : (os news : List OpenSeat) (ss : List TaskSeat) (t : ℕ) (s : TaskSeat) (ports : Vec Port) → slice_get ss t ≡ Some s → ports.items ≡ s.ports.items → news ≡ os → state_of news (slice_set ss t (record s { ports = ports })) ≡ state_of os ss
+pub seat-kept : (os news : List OpenEntry) (ss : List TaskSeat) (t : ℕ) (s : TaskSeat) (ports : Vec Port) → slice_get ss t ≡ Some s → ports.items ≡ s.ports.items → news ≡ os → state_of news (slice_set ss t (record s { ports = ports })) ≡ state_of os ss
 seat-kept os news ss t s ports at same kept =
     let task : seat_task (record s { ports = ports }) ≡ seat_task s = ap (λ (ps : List Port). let x : Task = record { ids = s.ids; ports = ps; next = s.next; inbox = s.inbox.items; made = s.made; pending = s.pending } in x) same in
     same_halves _ _ _ _ (ap opens_of kept) (seat-changed ss t (record s { ports = ports }) (seat_task s) task ∙ set-same (tasks_of ss) t (seat_task s) (seat-there ss t s at))
 
 -- a seat that named one thing
-pub seat-named : (os : List OpenSeat) (ss : List TaskSeat) (t : ℕ) (s new : TaskSeat) → slice_get ss t ≡ Some s → seat_task new ≡ named 1 (seat_task s) → state_of os (slice_set ss t new) ≡ name_step t (state_of os ss)
+pub seat-named : (os : List OpenEntry) (ss : List TaskSeat) (t : ℕ) (s new : TaskSeat) → slice_get ss t ≡ Some s → seat_task new ≡ named 1 (seat_task s) → state_of os (slice_set ss t new) ≡ name_step t (state_of os ss)
 seat-named os ss t s new at is =
     same_halves _ _ _ _ refl (seat-changed ss t new (named 1 (seat_task s)) is ∙ sym (edit-found t (named 1) (tasks_of ss) (seat_task s) (seat-there ss t s at)))
 
 -- what is reserved stays where a seat keeps its ports
-pub ready-kept : (opens : Vec OpenSeat) (ss : List TaskSeat) (ready : Option TaskId) (t : ℕ) (s new : TaskSeat) → slice_get ss t ≡ Some s → new.ports ≡ s.ports → IsReady opens ss ready → IsReady opens (slice_set ss t new) ready
-ready-kept opens ss None t s new at same h = tt
-ready-kept opens ss (Some r) t s new at same h = (
+pub ready-kept : (room places : ℕ) (ss : List TaskSeat) (ready : Option TaskId) (t : ℕ) (s new : TaskSeat) → slice_get ss t ≡ Some s → new.ports ≡ s.ports → IsReady room places ss ready → IsReady room places (slice_set ss t new) ready
+ready-kept room places ss None t s new at same h = tt
+ready-kept room places ss (Some r) t s new at same h = (
   h.0,
   elim (one_or_other r.0 t) [
     | inl e ↦ let was = rw (e, at) at h.1 in rw (e, set-here ss t s new at, same) was
@@ -93,11 +89,6 @@ ready-kept opens ss (Some r) t s new at same h = (
   ],
 )
 
--- or an open is another
-pub ready-set : (opens : Vec OpenSeat) (ss : List TaskSeat) (ready : Option TaskId) (i : ℕ) (x : OpenSeat) → IsReady opens ss ready → IsReady (with_item opens i x) ss ready
-ready-set opens ss None i x h = tt
-ready-set opens ss (Some r) i x h = h
-
 -- and is there for a task whose seat has room for a port
-pub ready-made : (opens : Vec OpenSeat) (ss : List TaskSeat) (r : TaskId) (s new : TaskSeat) → slice_get ss r.0 ≡ Some s → HasSpare opens → HasSpare new.ports → IsReady opens (slice_set ss r.0 new) (Some r)
-ready-made opens ss r s new at spare port = (spare, rw (set-here ss r.0 s new at) port)
+pub ready-made : (room places : ℕ) (ss : List TaskSeat) (r : TaskId) (s new : TaskSeat) → slice_get ss r.0 ≡ Some s → 0 < room → 0 < places → HasSpare new.ports → IsReady room places (slice_set ss r.0 new) (Some r)
+ready-made room places ss r s new at spare place port = ((spare, place), rw (set-here ss r.0 s new at) port)

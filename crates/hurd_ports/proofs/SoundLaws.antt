@@ -89,15 +89,7 @@ numbers-set ts t x y at rises here q z is = elim (set-cases ts t x y q z at is) 
 -- a task that is there
 
 module _ (h : PortState) (t : ℕ) (x : Task) (sound : IsSound h) (at : slice_get h.tasks t ≡ Some x) where
-  -- no open has its next name
-  pub free-name : fin.get h.opens (fresh t x) ≡ None
-  free-name = go (fin.get h.opens (fresh t x)) refl
-    where
-      go : (o : Option Opened) → fin.get h.opens (fresh t x) ≡ o → o ≡ None
-      go None e = refl
-      go (Some w) e = let below = rw at at (sound.given (fresh t x) w e) in absurd (omega arith)
-
-  -- nor has any of its ports its next number
+  -- none of its ports has its next number
   pub number-new : right_of h t x.next ≡ Err EBADF
   number-new = rw (at, next_absent 0 x.next x.ports (sound.numbered t x at)) refl
 

@@ -1,30 +1,56 @@
-//! What is open, in a list.
-ghost use Rattle.std.specs.Prelude.{◌≡◌, ◌<◌, length, IfSome};
+//! What is open, by name.
+ghost use Rattle.std.specs.Prelude.{◌≡◌, ◌<◌};
 ghost use Rattle.std.specs.FinMap as fin;
-ghost use Rattle.hurd_creds.specs.NameMaps.{place_by};
-ghost use Rattle.hurd_ports.specs.Seats.{open_key, opens_of};
+ghost use Rattle.indexmap.specs.IndexMap.{spare};
+ghost use Rattle.hurd_creds.specs.NameMaps.{edit};
+ghost use Rattle.hurd_ports.specs.Steps.{appending, at_cursor, new_open};
+ghost use Rattle.hurd_ports.specs.Seats.{opens_of};
 
 use crate::table::Opened;
-use hurd_creds::OpenName;
+use hurd_creds::{OpenFlags, OpenName};
+use indexmap::IndexMap;
 
-/// An open under its name.
-#[derive(Debug, Drop)]
-pub struct OpenSeat {
-    pub name: OpenName,
-    pub opened: Opened,
+/// What is open, each open under its name.
+pub(crate) type Opens = IndexMap<OpenName, Opened>;
+
+/// What the open of this name is.
+pub(crate) fn opened(opens: &Opens, name: OpenName) -> Option<Opened>
+    ensures { result ≡ fin.get (opens_of opens.now.entries) name }
+{
+    opens.get(&name).copied()
 }
 
-/// The index of the open of this name.
-pub(crate) fn place(opens: &[OpenSeat], name: OpenName) -> Option<usize>
-    ensures is { result ≡ place_by open_key name opens.now }
-    ensures below { IfSome result (λ i. i < length opens.now) }
+/// Adds an open from its beginning. There is room for one more.
+pub(crate) fn add(opens: &mut Opens, name: OpenName, modes: OpenFlags)
+    requires { 0 < spare opens.old }
+    ensures { opens_of opens.new.entries ≡ fin.insert (opens_of opens.old.entries) name (new_open modes) }
 {
-    opens.iter().position(|seat| name == seat.name)
+    opens.insert(name, Opened { cursor: 0, modes }).unwrap();
 }
 
 /// Takes out the open of this name.
-pub(crate) fn remove(opens: &mut Vec<OpenSeat>, name: OpenName)
-    ensures { opens_of opens.new.items ≡ fin.remove (opens_of opens.old.items) name }
+pub(crate) fn remove(opens: &mut Opens, name: OpenName)
+    ensures { opens_of opens.new.entries ≡ fin.remove (opens_of opens.old.entries) name }
 {
-    opens.retain(|seat| name != seat.name);
+    opens.swap_remove(&name);
+}
+
+/// Moves the cursor of the open of this name, if it is there.
+pub(crate) fn move_cursor(opens: &mut Opens, name: OpenName, cursor: u64)
+    ensures moved { opens_of opens.new.entries ≡ edit name (at_cursor cursor) (opens_of opens.old.entries) }
+    ensures room { spare opens.new ≡ spare opens.old }
+{
+    if let Some(opened) = opens.get_mut(&name) {
+        opened.cursor = cursor;
+    }
+}
+
+/// Lets the open of this name append, or not, if it is there.
+pub(crate) fn set_append(opens: &mut Opens, name: OpenName, append: bool)
+    ensures set { opens_of opens.new.entries ≡ edit name (appending append) (opens_of opens.old.entries) }
+    ensures room { spare opens.new ≡ spare opens.old }
+{
+    if let Some(opened) = opens.get_mut(&name) {
+        opened.modes = opened.modes.with_append(append);
+    }
 }

@@ -4,11 +4,12 @@ ghost use Rattle.std.specs.Option.{option_map};
 ghost use Rattle.std.specs.FinMap as fin;
 ghost use Rattle.hurd_creds.specs.Memory.{Meets, Steps};
 ghost use Rattle.hurd_creds.specs.declared.errno.Errno.{Errno};
-ghost use Rattle.hurd_ports.specs.Tables.{IsSettled, fresh, ids_at, io_right_of, is_held, lent, naming_of, or_refuse, pending_of, right_of, room_of};
+ghost use Rattle.hurd_ports.specs.Tables.{IsSettled, fresh, ids_at, io_right_of, lent, naming_of, or_refuse, pending_of, right_of, room_of};
 ghost use Rattle.hurd_ports.specs.Steps as step;
-ghost use Rattle.hurd_ports.specs.Seats.{opens_of, settled_by, tasks_of};
+ghost use Rattle.hurd_ports.specs.Seats.{holders_in, is_counted, opens_of, seat_task, settled_by};
 
-use crate::opens::{self, OpenSeat};
+use crate::holders::{self, Holders};
+use crate::opens::{self, Opens};
 use crate::parents::Parents;
 use crate::table::{IoRight, Opened, PendingStart, Right, TaskSeat};
 use hurd_creds::{Errno, Ids, Name, NodeName, OpenFlags, OpenName, TaskId};
@@ -18,7 +19,9 @@ use std::marker::Model;
 /// The ports of all tasks, and what is open (GNU Hurd Reference Manual, Ports).
 #[derive(Drop)]
 pub struct Ports {
-    opens: Vec<OpenSeat>,
+    opens: Opens,
+    /// How many rights name each open.
+    holders: Holders,
     tasks: Vec<TaskSeat>,
     /// The task for whose next port and open there is room in memory.
     ready: Option<TaskId>,
@@ -33,24 +36,19 @@ impl Model for Ports {
 
     ghost use Rattle.hurd_ports.specs.Seats.{tables_of, IsKept};
 
-    ghost view = { λ p. tables_of p.opens.items p.tasks.items p.ready };
+    ghost view = { λ p. tables_of p.opens.entries p.tasks.items p.ready };
 
-    ghost invariant = { λ p. IsKept p.opens p.tasks p.ready };
+    ghost use Rattle.indexmap.specs.IndexMap.{spare};
+
+    ghost invariant = { λ p. IsKept p.opens.entries (spare p.opens) p.holders.entries (spare p.holders) p.tasks.items p.ready };
 }
 
-/// Whether some right names the open.
-fn is_held(tasks: &[TaskSeat], name: OpenName) -> bool
-    ensures { result ≡ is_held (tasks_of tasks.now) name }
-{
-    tasks.iter().any(|seat| seat.holds(name))
-}
-
-/// Takes out the open that a right had, if no right names it any more.
-fn settle(opens: &mut Vec<OpenSeat>, tasks: &[TaskSeat], name: Option<OpenName>)
-    ensures { opens_of opens.new.items ≡ settled_by (tasks_of tasks.now) name (opens_of opens.old.items) }
+/// Takes out the open that a right had, if no right is counted that names it.
+fn settle(opens: &mut Opens, holders: &Holders, name: Option<OpenName>)
+    ensures { opens_of opens.new.entries ≡ settled_by (is_counted holders.now.entries) name (opens_of opens.old.entries) }
 {
     if let Some(name) = name {
-        if !is_held(tasks, name) {
+        if holders::count(holders, name) == 0 {
             opens::remove(opens, name);
         }
     }
@@ -73,7 +71,8 @@ impl Ports {
             });
         }
         Ok(Ports {
-            opens: Vec::new(alloc),
+            opens: Opens::new(alloc),
+            holders: Holders::new(alloc),
             tasks: seats,
             ready: None,
         })
@@ -84,6 +83,13 @@ impl Ports {
         ensures { result ≡ length self.now.state.tasks }
     {
         self.tasks.len()
+    }
+
+    /// The row of a task, lent, if the task is there. Takes no memory.
+    pub fn seat(&self, task: TaskId) -> Option<&TaskSeat>
+        ensures { option_map seat_task (option_copied result) ≡ slice_get self.now.state.tasks task.0 }
+    {
+        self.tasks.get(task.0 as usize)
     }
 
     /// The ids of a task. `ESRCH`: no such task.
@@ -149,10 +155,14 @@ impl Ports {
     pub fn opened(&self, name: OpenName) -> Option<Opened>
         ensures { result ≡ fin.get self.now.state.opens name }
     {
-        match opens::place(&self.opens, name) {
-            Some(i) => Some(self.opens[i].opened),
-            None => None,
-        }
+        opens::opened(&self.opens, name)
+    }
+
+    /// How many rights name the open, in tables and in inboxes.
+    pub fn holders(&self, name: OpenName) -> u128
+        ensures { result ≡ holders_in self.now.state.tasks name }
+    {
+        holders::count(&self.holders, name)
     }
 
     /// Each open is held by a right.
@@ -215,8 +225,8 @@ impl Ports {
         self.tasks[task.0 as usize].take_name(task)
     }
 
-    /// Takes the memory for the task's next port and its open. It lasts until any port is filled or given up, or memory
-    /// is reserved anew.
+    /// Takes the memory for the task's next port and its open. It lasts until any port is filled or given up, a right is
+    /// shared, sent or received, or memory is reserved anew.
     ///
     /// Errors, in order: `ESRCH` no such task, `ENOMEM`.
     pub fn reserve(&mut self, task: TaskId) -> Result<(), Errno>
@@ -229,6 +239,9 @@ impl Ports {
         }
         self.ready = None;
         let Ok(()) = self.opens.reserve(1) else {
+            return Err(Errno::ENOMEM);
+        };
+        let Ok(()) = self.holders.reserve(1) else {
             return Err(Errno::ENOMEM);
         };
         let Ok(()) = self.tasks[task.0 as usize].ports.reserve(1) else {
@@ -262,10 +275,8 @@ impl Ports {
             open_name: name,
             parents,
         }));
-        self.opens.push_reserved(OpenSeat {
-            name,
-            opened: Opened { cursor: 0, modes },
-        });
+        opens::add(&mut self.opens, name, modes);
+        holders::hold(&mut self.holders, Some(name));
         self.ready = None;
         number
     }
@@ -305,7 +316,13 @@ impl Ports {
             return Err(Errno::EOVERFLOW);
         }
         self.ready = None;
-        self.tasks[task.0 as usize].share(right)
+        let Ok(()) = self.holders.reserve(1) else {
+            return Err(Errno::ENOMEM);
+        };
+        let open_name = right.open_name();
+        let shared = self.tasks[task.0 as usize].share(right);
+        holders::hold_if(&mut self.holders, shared.is_ok(), open_name);
+        shared
     }
 
     /// Gives a copy of a port's right to a task, last in its inbox; a task may send to itself.
@@ -322,7 +339,14 @@ impl Ports {
         let Ok(right) = right.copied(alloc) else {
             return Err(Errno::ENOMEM);
         };
-        self.tasks[to.0 as usize].accept(right)
+        self.ready = None;
+        let Ok(()) = self.holders.reserve(1) else {
+            return Err(Errno::ENOMEM);
+        };
+        let open_name = right.open_name();
+        let sent = self.tasks[to.0 as usize].accept(right);
+        holders::hold_if(&mut self.holders, sent.is_ok(), open_name);
+        sent
     }
 
     /// Takes the first right of a task's inbox, as a port; answers its number, the task's next.
@@ -384,7 +408,8 @@ impl Ports {
         let open_name = self.right(task, port)?.open_name();
         self.ready = None;
         self.tasks[task.0 as usize].remove(port);
-        settle(&mut self.opens, &self.tasks, open_name);
+        holders::release(&mut self.holders, open_name);
+        settle(&mut self.opens, &self.holders, open_name);
         Ok(())
     }
 
@@ -393,9 +418,7 @@ impl Ports {
         ensures moved { self.new.state ≡ step.move_cursor_step name cursor self.old.state }
         ensures settled { IsSettled self.new.state }
     {
-        if let Some(i) = opens::place(&self.opens, name) {
-            self.opens[i].opened.cursor = cursor;
-        }
+        opens::move_cursor(&mut self.opens, name, cursor);
     }
 
     /// Lets an open append, or not; where it isn't there, nothing changes. Takes no memory.
@@ -403,9 +426,6 @@ impl Ports {
         ensures set { self.new.state ≡ step.set_append_step name append self.old.state }
         ensures settled { IsSettled self.new.state }
     {
-        if let Some(i) = opens::place(&self.opens, name) {
-            let opened = &mut self.opens[i].opened;
-            opened.modes = opened.modes.with_append(append);
-        }
+        opens::set_append(&mut self.opens, name, append);
     }
 }

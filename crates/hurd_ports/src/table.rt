@@ -1,10 +1,10 @@
 //! Rights, opens, and the tables of tasks.
-ghost use Rattle.std.specs.Prelude.{◌≡◌, ◌==◌, ◌+◌, ◌<◌, Ok, length, map, IfOk, IfSome, option_copied};
-ghost use Rattle.std.specs.List.{list_any, position};
+ghost use Rattle.std.specs.Prelude.{◌≡◌, ◌==◌, ◌+◌, ◌<◌, Ok, length, IfOk, IfSome, option_copied};
+ghost use Rattle.std.specs.List.{position};
 ghost use Rattle.hurd_creds.specs.Memory.{Steps};
-ghost use Rattle.hurd_ports.specs.Tables.{can_name, fresh, has_room, names_open, open_of, right_in, rights_of};
+ghost use Rattle.hurd_ports.specs.Tables.{can_name, fresh, has_room, open_of, right_in};
 ghost use Rattle.hurd_ports.specs.Steps.{named, received, with_ids, with_ids_for, with_pending, with_port, with_sent, without_port};
-ghost use Rattle.hurd_ports.specs.Seats.{HasSpare, seat_task};
+ghost use Rattle.hurd_ports.specs.Seats.{AreInOrder, HasSpare, seat_task};
 
 use crate::parents::Parents;
 use hurd_creds::{Errno, Ids, Name, NodeName, OpenFlags, OpenName, ServerName, TaskId};
@@ -71,17 +71,6 @@ impl Right {
             Right::Io(right) => Some(right.open_name),
             Right::Control(_) => None,
             Right::Start(_) => None,
-        }
-    }
-
-    /// Whether the right has this open.
-    pub(crate) fn names_open(&self, name: OpenName) -> bool
-        ensures { result ≡ names_open name self.now }
-    {
-        match self {
-            Right::Io(right) => right.open_name == name,
-            Right::Control(_) => false,
-            Right::Start(_) => false,
         }
     }
 }
@@ -222,6 +211,7 @@ impl TaskSeat {
 
     /// Takes out the port of this number, if it is there.
     pub(crate) fn remove(&mut self, number: u64)
+        requires { AreInOrder self.old.ports.items }
         ensures { seat_task self.new ≡ without_port number (seat_task self.old) }
     {
         if let Some(i) = place(&self.ports, number) {
@@ -231,6 +221,7 @@ impl TaskSeat {
 
     /// The right under this number.
     pub(crate) fn find(&self, number: u64) -> Option<&Right>
+        requires { AreInOrder self.now.ports.items }
         ensures { option_copied result ≡ right_in number self.now.ports.items }
     {
         match place(&self.ports, number) {
@@ -238,34 +229,13 @@ impl TaskSeat {
             None => None,
         }
     }
-
-    /// Whether some right of the task names the open.
-    #[tactic(auto, using(crate::proofs::HeldLaws::holds_by))]
-    pub(crate) fn holds(&self, name: OpenName) -> bool
-        ensures { result ≡ list_any (names_open name) (rights_of (seat_task self.now)) }
-    {
-        self.has_port_on(name) || self.was_sent(name)
-    }
-
-    /// Whether a port of the task has the open.
-    fn has_port_on(&self, name: OpenName) -> bool
-        ensures { result ≡ list_any (names_open name) (map (λ p. p.right) self.now.ports.items) }
-    {
-        self.ports.iter().any(|port| port.right.names_open(name))
-    }
-
-    /// Whether a right that the task was sent names the open.
-    fn was_sent(&self, name: OpenName) -> bool
-        ensures { result ≡ list_any (names_open name) self.now.inbox.items }
-    {
-        self.inbox.iter().any(|right| right.names_open(name))
-    }
 }
 
-/// The index of the port of this number.
+/// The index of the port of this number, by a binary search.
 fn place(ports: &[Port], number: u64) -> Option<usize>
+    requires { AreInOrder ports.now }
     ensures is { result ≡ position (λ p. number == p.number) ports.now }
     ensures below { IfSome result (λ i. i < length ports.now) }
 {
-    ports.iter().position(|port| number == port.number)
+    ports.binary_search_by_key(&number, |port| port.number).ok()
 }

@@ -3,23 +3,34 @@ use Rattle.std.proofs.lemmas.Bool.Decides.{nat_tests}
 use Rattle.std.proofs.lemmas.Option.{slice_get_read}
 use Rattle.std.specs.Prelude.{slice_set}
 use Rattle.hurd_ports.specs.Steps.{receive_step}
-use Rattle.hurd_ports.specs.Seats.{state_of}
+use Rattle.hurd_ports.specs.Seats.{seat_task, state_of}
+use Rattle.hurd_ports.specs.Steps.{received}
+use Rattle.hurd_ports.proofs.CountLaws.{counted-moved, namings-received}
 use Rattle.hurd_ports.proofs.EditLaws.{Edited, seat-received}
 use Rattle.hurd_ports.proofs.ports.Ports.receive.Goals as goal
 
 done : (c : goal.After-self-2-1)
-    → Edited (state_of c.self.inside.opens.items c.self.inside.tasks.items) (state_of c.self.inside.opens.items (slice_set c.self.inside.tasks.items c.args.task.0 c.receive.new.self)) (receive_step c.args.task.0 (state_of c.self.inside.opens.items c.self.inside.tasks.items)) c.receive.result
+    → Edited (state_of c.self.inside.opens.entries c.self.inside.tasks.items) (state_of c.self.inside.opens.entries (slice_set c.self.inside.tasks.items c.args.task.0 c.receive.new.self)) (receive_step c.args.task.0 (state_of c.self.inside.opens.entries c.self.inside.tasks.items)) c.receive.result
 done c =
     let ss = c.self.inside.tasks.items in
     let found = rw c.deref.ensures.value at c.in-Some.ensures.lookup in
     let seat = slice_get_read ss (length ss) c.args.task.0 c.in-Some.seat.now refl found.3.0 found.1 in
     let empty = c.is_empty.ensures in
     let not_empty = c.if-is_empty.false in
-    seat-received c.self.inside.opens.items c.self.inside.tasks.items c.args.task.0 c.in-Some.seat.now c.index_mut.result.now c.receive.new.self c.self.invariant.sound seat c.index_mut.ensures.value c.receive.result
+    seat-received c.self.inside.opens.entries c.self.inside.tasks.items c.args.task.0 c.in-Some.seat.now c.index_mut.result.now c.receive.new.self c.self.invariant.sound seat c.index_mut.ensures.value c.receive.result
     (grind (arith, nat_tests)) (sym c.if-not-has_room.ensures) c.receive.ensures
 
 pub invariant_of-self : goal.invariant_of-self
-invariant_of-self c = record { sound = (done c).sound; spare = tt }
+invariant_of-self c = record {
+  sound = (done c).sound;
+  counted =
+      let ss = c.self.inside.tasks.items in
+      let found = rw c.deref.ensures.value at c.in-Some.ensures.lookup in
+      let s = c.index_mut.result.now in
+      let seat = slice_get_read ss (length ss) c.args.task.0 s refl found.3.0 c.index_mut.ensures.value in
+      counted-moved c.self.inside.holders.entries ss c.args.task.0 s c.receive.new.self s.next (received (seat_task s)) c.receive.result seat c.self.invariant.counted c.receive.ensures (λ o. namings-received o (seat_task s));
+  spare = tt;
+}
 
 pub returns-clause-answer : goal.returns-clause-answer
 returns-clause-answer c = rw (← c.self.view_is) (done c).step

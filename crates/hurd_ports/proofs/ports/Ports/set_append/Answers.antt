@@ -1,27 +1,22 @@
+use Rattle.std.proofs.Common.{◌≡◌}
 use Rattle.hurd_ports.specs.Steps.{appending}
-use Rattle.hurd_ports.proofs.SeatLaws.{open-set, open-absent, ready-set}
+use Rattle.hurd_ports.specs.Seats.{state_of}
+use Rattle.hurd_ports.proofs.SeatLaws.{edit_open, open-changed}
 use Rattle.hurd_ports.proofs.SoundLaws.{sound-open}
 use Rattle.hurd_ports.proofs.ports.Ports.set_append.Goals as goal
 
+done : (c : goal.After-set_append) → state_of c.set_append.new.opens.entries c.self.inside.tasks.items ≡ edit_open c.args.name (appending c.args.append) (state_of c.self.inside.opens.entries c.self.inside.tasks.items)
+done c = open-changed c.self.inside.opens.entries c.set_append.new.opens.entries c.self.inside.tasks.items c.args.name (appending c.args.append) c.set_append.ensures.set
+
 pub invariant_of-self : goal.invariant_of-self
-invariant_of-self c =
-    let x = c.index_mut.result.now in
-    rw c.with_append-opened.ensures
-    (record {
-      sound =
-          rw (open-set c.args.name (appending c.args.append) c.self.inside.opens.items c.self.inside.tasks.items c.in-Some.i x (rw c.deref.ensures.value at c.in-Some.ensures.is) c.index_mut.ensures.value)
-          (sound-open _ c.args.name (appending c.args.append) c.self.invariant.sound);
-      spare = ready-set c.self.inside.opens c.self.inside.tasks.items c.self.inside.ready c.in-Some.i (record { name = x.name; opened = appending c.args.append x.opened }) c.self.invariant.spare;
-    })
+invariant_of-self c = record {
+  sound = rw (done c) (sound-open _ c.args.name (appending c.args.append) c.self.invariant.sound);
+  counted = c.self.invariant.counted;
+  spare = rw c.set_append.ensures.room c.self.invariant.spare;
+}
 
-pub returns-in-Some-clause-set : goal.returns-in-Some-clause-set
-returns-in-Some-clause-set c =
-    rw (← c.self.view_is, c.with_append-opened.ensures)
-    (open-set c.args.name (appending c.args.append) c.self.inside.opens.items c.self.inside.tasks.items c.in-Some.i c.index_mut.result.now (rw c.deref.ensures.value at c.in-Some.ensures.is) c.index_mut.ensures.value)
+pub returns-clause-set : goal.returns-clause-set
+returns-clause-set c = rw (← c.self.view_is) (done c)
 
-pub returns-in-Some-clause-settled : goal.returns-in-Some-clause-settled
-returns-in-Some-clause-settled c = (invariant_of-self c).sound.settled
-
-pub returns-in_default-clause-set : goal.returns-in_default-clause-set
-returns-in_default-clause-set c =
-    rw (← c.self.view_is) (open-absent c.args.name (appending c.args.append) c.self.inside.opens.items c.self.inside.tasks.items (rw c.deref.ensures.value at c.in_default.ensures.is))
+pub returns-clause-settled : goal.returns-clause-settled
+returns-clause-settled c = (invariant_of-self c).sound.settled

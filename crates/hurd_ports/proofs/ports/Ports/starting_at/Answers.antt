@@ -9,6 +9,7 @@ use Rattle.hurd_ports.specs.Seats.{state_of}
 use Rattle.hurd_ports.specs.declared.table.Port.{Port}
 use Rattle.hurd_ports.specs.declared.table.Right.{Right}
 use Rattle.hurd_ports.proofs.SeatLaws.{started, seat-pushed}
+use Rattle.hurd_ports.proofs.CountLaws.{counted-starting}
 use Rattle.hurd_ports.proofs.SoundLaws.{sound-starting}
 use Rattle.hurd_ports.proofs.ports.Ports.starting_at.Goals as goal
 
@@ -25,13 +26,17 @@ loop-ids-preserved c = record {
 }
 
 -- what the seats and no opens stand for
-begun : (c : goal.After-new-2) → state_of c.new-2.result.items c.loop-ids.seats.items ≡ starting_at c.args.tasks.items c.args.next
+begun : (c : goal.After-new-3) → state_of c.new-2.result.entries c.loop-ids.seats.items ≡ starting_at c.args.tasks.items c.args.next
 begun c =
     let end : into_iter_items c.loop-ids.ids-iterator ≡ [] = nil_from_length _ (omega (arith, c.in-None.ensures.steps.0, c.loop-ids.ids-iterator.rest.ok.0)) in
-    started c.new-2.result.items c.loop-ids.seats.items c.args.tasks.items c.loop-ids.yielded _ c.args.next c.new-2.ensures.items c.loop-ids.invariant.seats c.loop-ids.invariant.all end
+    started c.new-2.result.entries c.loop-ids.seats.items c.args.tasks.items c.loop-ids.yielded _ c.args.next c.new-2.ensures.empty c.loop-ids.invariant.seats c.loop-ids.invariant.all end
 
 pub returns : goal.returns
 returns c = ap (λ (h : PortState). let p : Tables = record { state = h; ready = None } in p) (begun c)
 
 pub invariant_of-result : goal.invariant_of-result
-invariant_of-result c = record { sound = rw (begun c) (sound-starting c.args.tasks.items c.args.next); spare = tt }
+invariant_of-result c = record {
+  sound = rw (begun c) (sound-starting c.args.tasks.items c.args.next);
+  counted = counted-starting c.loop-ids.seats.items c.loop-ids.yielded c.args.next c.new-3.result.entries c.new-3.ensures.empty c.loop-ids.invariant.seats;
+  spare = tt;
+}

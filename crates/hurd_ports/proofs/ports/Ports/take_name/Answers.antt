@@ -1,9 +1,11 @@
 use Rattle.std.proofs.Common.{◌≡◌, ◌<◌, Some, slice_get, ap, sym, ◌∙◌}
 use Rattle.std.specs.Option.{option_map}
-use Rattle.hurd_ports.specs.Tables.{fresh, u64_greatest}
-use Rattle.hurd_ports.specs.Seats.{seat_task, state_of}
+use Rattle.indexmap.specs.IndexMap.{spare}
+use Rattle.hurd_ports.specs.Tables.{Task, rights_of, fresh, u64_greatest}
+use Rattle.hurd_ports.specs.Seats.{namings, seat_task, state_of}
 use Rattle.hurd_ports.proofs.SeatLaws.{seat-found, seat-there, seat-named, ready-kept}
 use Rattle.hurd_ports.proofs.SoundLaws.{sound-named}
+use Rattle.hurd_ports.proofs.CountLaws.{counted-same}
 use Rattle.hurd_ports.proofs.ports.Ports.take_name.Goals as goal
 
 -- the seat that was read
@@ -14,14 +16,15 @@ at c =
 
 pub invariant_of-self : goal.invariant_of-self
 invariant_of-self c =
-    let os = c.self.inside.opens in
+    let os = c.self.inside.opens.entries in
     let ss = c.self.inside.tasks.items in
     let s = c.index_mut.result.now in
     record {
       sound =
-          rw (seat-named os.items ss c.args.task.0 s c.take_name.new.self (at c) c.take_name.ensures.named)
-          (sound-named (state_of os.items ss) c.args.task.0 (seat_task s) c.self.invariant.sound (seat-there ss c.args.task.0 s (at c)));
-      spare = ready-kept os ss c.self.inside.ready c.args.task.0 s c.take_name.new.self (at c) c.take_name.ensures.ports c.self.invariant.spare;
+          rw (seat-named os ss c.args.task.0 s c.take_name.new.self (at c) c.take_name.ensures.named)
+          (sound-named (state_of os ss) c.args.task.0 (seat_task s) c.self.invariant.sound (seat-there ss c.args.task.0 s (at c)));
+      counted = counted-same c.self.inside.holders.entries c.self.inside.holders.entries c.self.inside.tasks.items c.args.task.0 c.index_mut.result.now c.take_name.new.self (at c) c.self.invariant.counted (λ o. ap (λ (x : Task). namings o (rights_of x)) c.take_name.ensures.named);
+      spare = ready-kept (spare c.self.inside.opens) (spare c.self.inside.holders) ss c.self.inside.ready c.args.task.0 s c.take_name.new.self (at c) c.take_name.ensures.ports c.self.invariant.spare;
     }
 
 pub returns-clause-name : goal.returns-clause-name
@@ -31,4 +34,4 @@ returns-clause-name c =
 
 pub returns-clause-named : goal.returns-clause-named
 returns-clause-named c =
-    rw (← c.self.view_is) (seat-named c.self.inside.opens.items c.self.inside.tasks.items c.args.task.0 c.index_mut.result.now c.take_name.new.self (at c) c.take_name.ensures.named)
+    rw (← c.self.view_is) (seat-named c.self.inside.opens.entries c.self.inside.tasks.items c.args.task.0 c.index_mut.result.now c.take_name.new.self (at c) c.take_name.ensures.named)
