@@ -62,6 +62,20 @@ impl<S: Server> Core<S> {
         Core { nodes, ports }
     }
 
+    /// The servers with their nodes, to be looked at. Takes no memory.
+    pub fn nodes(&self) -> &Nodes<S>
+        ensures { result.now ≡ self.now.nodes }
+    {
+        &self.nodes
+    }
+
+    /// The tasks with their ports, and the opens, to be looked at. Takes no memory.
+    pub fn ports(&self) -> &Ports
+        ensures { result.now ≡ self.now.ports }
+    {
+        &self.ports
+    }
+
     // What a call asks. Nothing of this takes memory but `names`, and nothing changes.
 
     /// The right to use a node of a task under a number.

@@ -19,7 +19,7 @@ pub(crate) fn owner_bit(want: Want) -> Mode
 }
 
 /// The group's bit.
-pub(crate) fn group_bit(want: Want) -> Mode
+pub fn group_bit(want: Want) -> Mode
     ensures { result.0 ≡ group_bit want }
 {
     match want {
@@ -30,7 +30,7 @@ pub(crate) fn group_bit(want: Want) -> Mode
 }
 
 /// The others' bit.
-pub(crate) fn others_bit(want: Want) -> Mode
+pub fn others_bit(want: Want) -> Mode
     ensures { result.0 ≡ others_bit want }
 {
     match want {
@@ -41,7 +41,7 @@ pub(crate) fn others_bit(want: Want) -> Mode
 }
 
 /// The bit of those who hold no uid.
-pub(crate) fn unknown_bit(want: Want) -> Mode
+pub fn unknown_bit(want: Want) -> Mode
     ensures { result.0 ≡ unknown_bit want }
 {
     match want {

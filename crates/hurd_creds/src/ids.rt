@@ -98,6 +98,20 @@ impl Ids {
                 && are_among(asked.gids.as_slice(), self.gids.as_slice())
     }
 
+    /// The uids that are held, in no order. Takes no memory.
+    pub fn uids(&self) -> &[u32]
+        ensures { set.from_list {R = nat_cmp} result.now ≡ self.now.uids }
+    {
+        self.uids.as_slice()
+    }
+
+    /// The gids that are held, in no order. Takes no memory.
+    pub fn gids(&self) -> &[u32]
+        ensures { set.from_list {R = nat_cmp} result.now ≡ self.now.gids }
+    {
+        self.gids.as_slice()
+    }
+
     /// Whether uid 0 is held.
     pub fn is_root(&self) -> bool
         ensures { result ≡ is_root self.now }

@@ -18,6 +18,7 @@ mod name;
 mod open_flags;
 mod trans_flags;
 
+pub use access::{group_bit, others_bit, unknown_bit};
 pub use attrs::{Attrs, Kind, Stat, Want};
 pub use bytes::Bytes;
 pub use errno::Errno;
