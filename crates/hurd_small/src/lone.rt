@@ -98,6 +98,13 @@ impl<S: Single> Server for Lone<S> {
         self.single.takes()
     }
 
+    fn content(&self, node: NodeName) -> Option<&[u8]> {
+        match self.presence.find(node) {
+            Some(_) => Some(&[]),
+            None => None,
+        }
+    }
+
     fn readable(&self, node: NodeName, at: u64) -> Option<Readable> {
         match self.presence.find(node) {
             Some(_) => Some(self.single.readable(at)),

@@ -2,6 +2,7 @@
 ghost use Rattle.std.specs.Prelude.{◌≡◌, ℕ, false, List, [], Ok};
 ghost use Rattle.hurd_creds.specs.Memory.{Meets, Steps};
 ghost use Rattle.hurd_trans_iface.specs.Nodes.{Content, Node, is_dir};
+ghost use Rattle.hurd_trans_iface.specs.Behaviour.{told_of};
 ghost use Rattle.hurd_trans_iface.specs.Meaning.{ServerKind, behaviour_of, keeps_tree, options_of, root_of};
 ghost use Rattle.hurd_small.specs.Lone.{IsGiven, IsPut, IsCut, text_taken};
 
@@ -38,11 +39,12 @@ pub trait Single: Drop {
     fn size(&self) -> u64
         ensures { result ≡ (behaviour_of kind).size (text self.now) (Content []) };
 
-    /// At most `amount` bytes from `at` on.
+    /// At most `amount` bytes from `at` on; where there are none, no memory is taken.
     ///
     /// Errors: `ENOMEM`.
     fn read(&self, alloc: Global, at: u64, amount: u64) -> Result<Bytes, Errno>
-        ensures { (x : Node) → IsGiven ((behaviour_of kind).read (text self.now) x at amount) result };
+        ensures given { (x : Node) → IsGiven ((behaviour_of kind).read (text self.now) x at amount) result }
+        ensures nothing { (x : Node) → told_of ((behaviour_of kind).read (text self.now) x at amount) ≡ Ok [] → result ≡ Ok [] };
 
     /// Whether bytes that are written are taken, and dropped; so are sizes up to 16,777,216.
     ///

@@ -1,5 +1,5 @@
 -- Nodes, and edits of finite maps of them.
-use Rattle.std.specs.Prelude.{◌≡◌, ℕ, ◌+◌, ◌-◌, Bool, true, false, if◌then◌else◌, List, [], ◌∷◌, ◌++◌, length, take, drop, replicate, is_some, nat_lt, Option, Some, None}
+use Rattle.std.specs.Prelude.{◌≡◌, ◌≤◌, ℕ, ◌+◌, ◌-◌, Bool, true, false, if◌then◌else◌, List, [], ◌∷◌, ◌++◌, length, take, drop, replicate, is_some, nat_lt, Option, Some, None, IfSome}
 use Rattle.std.specs.Str.{bytes_eq}
 use Rattle.std.specs.List.{list_any}
 use Rattle.std.specs.FinMap as fin
@@ -46,6 +46,20 @@ header_of m n = option_map (λ x. x.header) (fin.get m n)
 
 abbrev pub body_of : NodeMap → Name → Option Body
 body_of m n = option_map (λ x. x.body) (fin.get m n)
+
+-- the bytes of what is in a node that may not be there; a directory has none
+abbrev pub content_in : Option Body → Option (List ℕ)
+content_in None = None
+content_in (Some (Content bs)) = Some bs
+content_in (Some (Listing es)) = None
+
+-- the bytes that a node holds, if it is there and no directory
+abbrev pub content_of : NodeMap → Name → Option (List ℕ)
+content_of m n = content_in (body_of m n)
+
+-- of a node that may not be there: if it holds bytes, there are at least this many
+abbrev pub Reaches : Option Body → ℕ → Type 0
+Reaches b count = IfSome (content_in b) (λ bs. count ≤ length bs)
 
 -- a directory without entries
 abbrev pub is_empty_dir : Body → Bool

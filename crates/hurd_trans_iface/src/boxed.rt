@@ -57,6 +57,10 @@ impl Server for Box<dyn Server> {
         (**self).set_size(node, size)
     }
 
+    fn content(&self, node: NodeName) -> Option<&[u8]> {
+        (**self).content(node)
+    }
+
     fn readable(&self, node: NodeName, at: u64) -> Option<Readable> {
         (**self).readable(node, at)
     }

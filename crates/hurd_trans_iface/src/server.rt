@@ -1,12 +1,12 @@
 //! The trait of servers.
-ghost use Rattle.std.specs.Prelude.{◌≡◌, [], None, Ok, IfSome, option_copied};
+ghost use Rattle.std.specs.Prelude.{◌≡◌, ◌+◌, true, [], length, None, Ok, IfSome, option_copied};
 ghost use Rattle.std.specs.Option.{option_map};
 ghost use Rattle.std.specs.FinMap as fin;
 ghost use Rattle.hurd_creds.specs.Memory.{Meets, Steps};
-ghost use Rattle.hurd_trans_iface.specs.Nodes.{AllListed, attrs_of, body_of, passive_of};
+ghost use Rattle.hurd_trans_iface.specs.Nodes.{AllListed, Reaches, attrs_of, body_of, content_of, passive_of};
 ghost use Rattle.hurd_trans_iface.specs.Answers.{entry_of, names_of};
 ghost use Rattle.hurd_trans_iface.specs.Behaviour.{reading, writing, resizing};
-ghost use Rattle.hurd_trans_iface.specs.Meaning.{Meaning, root_of, options_of, begin_root_after, step_of, set_options_step, make_step, make_nameless_step, link_step, unlink_step, rename_step, set_attrs_step, set_passive_step, forget_after, readable_of};
+ghost use Rattle.hurd_trans_iface.specs.Meaning.{Meaning, behaviour_of, root_of, options_of, begin_root_after, step_of, set_options_step, make_step, make_nameless_step, link_step, unlink_step, rename_step, set_attrs_step, set_passive_step, forget_after, readable_of};
 
 use crate::names::Names;
 use crate::new_node::NewNode;
@@ -58,23 +58,34 @@ pub trait Server: Drop {
     fn names(&self, alloc: Global, dir: NodeName) -> Result<Names, Errno>
         ensures { Meets (names_of (body_of (meaning self.now).nodes dir)) result };
 
-    /// At most `amount` bytes of a file from `at` on.
+    /// At most `amount` bytes of a file from `at` on; where there are none, no memory is taken.
     ///
     /// Errors, in order: `EDIED` no such node, `EISDIR`, `ENOMEM`.
     fn read(&mut self, alloc: Global, node: NodeName, at: u64, amount: u64) -> Result<Bytes, Errno>
-        ensures { Steps (meaning self.old) (step_of (reading at amount) node (meaning self.old)) result (meaning self.new) };
+        ensures steps { Steps (meaning self.old) (step_of (reading at amount) node (meaning self.old)) result (meaning self.new) }
+        ensures nothing { (step_of (reading at amount) node (meaning self.old)).0 ≡ Ok [] → result ≡ Ok [] };
 
-    /// Puts bytes into a file at `at`, and answers how many; a gap becomes zero bytes, no data grows nothing.
+    /// Puts bytes into a file at `at`, and answers how many; a gap becomes zero bytes, no data grows nothing. Takes no memory where
+    /// there is no data, where the file has the bytes that are written over, and in a stream.
     ///
     /// Errors, in order: `EDIED` no such node, `EBADF` a directory, `EFBIG` an end past 16,777,216, `ENOMEM`.
     fn write(&mut self, node: NodeName, at: u64, bytes: &[u8]) -> Result<u64, Errno>
-        ensures { Steps (meaning self.old) (step_of (writing at bytes.now) node (meaning self.old)) result (meaning self.new) };
+        ensures steps { Steps (meaning self.old) (step_of (writing at bytes.now) node (meaning self.old)) result (meaning self.new) }
+        ensures within { Reaches (body_of (meaning self.old).nodes node) (at + length bytes.now) → result ≡ (step_of (writing at bytes.now) node (meaning self.old)).0 }
+        ensures nothing { bytes.now ≡ [] → result ≡ (step_of (writing at bytes.now) node (meaning self.old)).0 }
+        ensures stream { (behaviour_of (meaning self.old).kind).stream ≡ true → result ≡ (step_of (writing at bytes.now) node (meaning self.old)).0 };
 
-    /// Cuts a file, or grows it by zero bytes.
+    /// Cuts a file, or grows it by zero bytes. A cut takes no memory, nor does a stream.
     ///
     /// Errors, in order: `EDIED` no such node, `EFBIG` a size past 16,777,216, `EBADF` a directory, `ENOMEM`.
     fn set_size(&mut self, node: NodeName, size: u64) -> Result<(), Errno>
-        ensures { Steps (meaning self.old) (step_of (resizing size) node (meaning self.old)) result (meaning self.new) };
+        ensures steps { Steps (meaning self.old) (step_of (resizing size) node (meaning self.old)) result (meaning self.new) }
+        ensures cut { Reaches (body_of (meaning self.old).nodes node) size → result ≡ (step_of (resizing size) node (meaning self.old)).0 }
+        ensures stream { (behaviour_of (meaning self.old).kind).stream ≡ true → result ≡ (step_of (resizing size) node (meaning self.old)).0 };
+
+    /// The bytes that a node holds, lent, if the server has it and it is no directory; what reads make of the server's text is none of them. Takes no memory.
+    fn content(&self, node: NodeName) -> Option<&[u8]>
+        ensures { option_copied result ≡ content_of (meaning self.now).nodes node };
 
     /// How many bytes there are to read at a place, none in a directory, and whether the node is a stream; if the server has it. Takes no memory.
     fn readable(&self, node: NodeName, at: u64) -> Option<Readable>

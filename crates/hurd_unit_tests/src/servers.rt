@@ -120,10 +120,10 @@ fn told<S: Server>(alloc: Global, server: &mut S) -> Result<String, AllocError> 
     )
 }
 
-/// What a node answers to calls on directories and trees, to a size past the greatest, and of words that are stored with it.
+/// What a node answers to calls on directories and trees, to a size past the greatest, of words that are stored with it, and of its bytes.
 fn refused<S: Server>(alloc: Global, server: &mut S, node: NodeName) -> Result<String, AllocError> {
     format!(in alloc;
-        "{:?} {:?} {:?} {:?} {:?} {:?} {:?} {:?} {:?} {:?}\n",
+        "{:?} {:?} {:?} {:?} {:?} {:?} {:?} {:?} {:?} {:?} {:?}\n",
         server.names(alloc, node).err(),
         server.make(alloc, node, b"f", FILE),
         server.link(alloc, node, b"f", node),
@@ -133,17 +133,18 @@ fn refused<S: Server>(alloc: Global, server: &mut S, node: NodeName) -> Result<S
         server.set_passive(node, Words::none(alloc)),
         server.set_size(node, 16_777_217),
         server.step(node, b"f"),
-        server.passive(node)
+        server.passive(node),
+        server.content(node)
     )
 }
 
-/// The root is no directory.
+/// The root is no directory, and holds no bytes.
 const REFUSED: &str =
-    "Some(ENOTDIR) Err(ENOTDIR) Err(ENOTDIR) Err(ENOTDIR) Err(ENOTDIR) Err(EOPNOTSUPP) Err(EOPNOTSUPP) Err(EFBIG) None None\n";
+    "Some(ENOTDIR) Err(ENOTDIR) Err(ENOTDIR) Err(ENOTDIR) Err(ENOTDIR) Err(EOPNOTSUPP) Err(EOPNOTSUPP) Err(EFBIG) None None Some([])\n";
 
 /// A node that a server hasn't.
 const GONE: &str =
-    "Some(EDIED) Err(EDIED) Err(EDIED) Err(EDIED) Err(EDIED) Err(EDIED) Err(EDIED) Err(EDIED) None None\n";
+    "Some(EDIED) Err(EDIED) Err(EDIED) Err(EDIED) Err(EDIED) Err(EDIED) Err(EDIED) Err(EDIED) None None None\n";
 
 /// A server tells this, refuses the rest, and has its root until it is to forget it.
 fn check<S: Server>(
@@ -283,6 +284,28 @@ fn a_tree_stores_words(rt: HostRuntime) -> Result<(), Fail> {
     assert_eq!(rt;
         tree.set_passive(NOWHERE, Words::none(alloc)),
         Err(Errno::EDIED)
+    );
+    Ok(())
+}
+
+/// What a server lends of a file that it makes, with bytes behind a gap, and of its root.
+fn lent<S: Server>(alloc: Global, mut server: S) -> Result<String, AllocError> {
+    format!(in alloc;
+        "{:?} {:?} {:?} {:?}",
+        server.make_nameless(FILE),
+        server.write(NOWHERE, 1, b"hi"),
+        server.content(NOWHERE),
+        server.content(ROOT)
+    )
+}
+
+#[test]
+fn a_tree_lends_the_bytes_of_files(rt: HostRuntime) -> Result<(), Fail> {
+    let alloc = rt.alloc();
+    let tree = named(Tmpfs::empty(alloc)?);
+    assert_eq!(rt;
+        lent(alloc, tree)?.as_str(),
+        "Ok(()) Ok(2) Some([0, 104, 105]) None"
     );
     Ok(())
 }
