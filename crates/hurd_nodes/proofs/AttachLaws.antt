@@ -1,24 +1,21 @@
 -- What is shown after a server took its place, or went.
-use Rattle.std.proofs.Common.{◌≡◌, ◌≢◌, ◌&&◌, inl, inr, ℕ, Bool, true, false, cond, List, [], ◌∷◌, ◌++◌, refl, sym, ap, ap₂, ◌∙◌, true≢false}
+use Rattle.std.proofs.Common.{◌≡◌, ◌≢◌, ◌&&◌, inl, inr, ℕ, Bool, true, false, cond, List, refl, sym, ap, ap₂, ◌∙◌, true≢false}
 use Rattle.std.specs.Prelude.{Option, Some, None, is_some, not, filter}
 use Rattle.std.specs.Option.{option_map}
 use Rattle.std.specs.FinMap as fin
 use Rattle.hurd_creds.specs.declared.name.Name.{Name}
 use Rattle.hurd_creds.specs.declared.mode.Mode.{Mode}
 use Rattle.hurd_creds.specs.Names.{same_name, name_cmp}
-use Rattle.hurd_creds.specs.NameMaps.{NameMap, place_by}
+use Rattle.hurd_creds.specs.NameMaps.{NameMap}
 use Rattle.hurd_creds.proofs.NameLaws.{same_map_by, same_or_apart, same_name-itself, same_name-apart, get_here, get_apart, remove_here, remove_apart}
-use Rattle.hurd_creds.proofs.KeyedLaws.{contains-place, keyed-push}
 use Rattle.hurd_creds.proofs.MapLaws.{map_values-insert, map_values-remove}
 use Rattle.hurd_trans_iface.specs.Nodes.{NodeMap, Node}
 use Rattle.hurd_trans_iface.specs.Meaning.{Meaning, begin_root_after}
-use Rattle.hurd_nodes.specs.declared.seat.Seat.{Seat}
-use Rattle.hurd_nodes.specs.Held.{AreApart, Held, Seated, box_by, home_key, home_value, homes_of, is_home, mean, mean_seat, seat_key, seat_value, seats_of}
+use Rattle.hurd_nodes.specs.Held.{AreApart, Held, Seated, box_by, home_key, home_value, homes_of, is_home, mean, mean_seat}
 use Rattle.hurd_nodes.specs.Shown.{HideNothing, NodeState, ServerInfo, attached, begun_info, begun_root, flat, info_of, is_other, is_other_seat, less_old, without_old, without_seats, node_in, nodes_of, out_server, servers_of, shown, without_server, without_value}
 use Rattle.hurd_nodes.proofs.ShownLaws.{get-nodes}
 use Rattle.hurd_nodes.proofs.SeatLaws.{some_same}
 use Rattle.hurd_nodes.proofs.PartLaws.{get-kept, kept-is, kept-here, removed-is}
-use Rattle.hurd_nodes.proofs.TableLaws.{apart-push}
 use Rattle.hurd_nodes.proofs.AnyLaws.{get-filter, kept_if}
 
 -- rows of other servers
@@ -47,24 +44,6 @@ unfolding homes_of
 seats-filter s homes hs apart = same_map_by _ _ (λ n.
     get-filter home_key home_value (λ m q. is_other s homes m && not (same_name s q)) hs apart n ∙ kept_seat s homes n (fin.get (homes_of hs) n)
     ∙ sym (get-kept (homes_of hs) (is_other_seat s homes (homes_of hs)) n))
-
--- a seat more, of a server that has left
-
-module _ {S : Type 0} (before ss : List (Seat S)) (x : Seat S) (out : seats_of ss ≡ fin.remove (seats_of before) x.name) where
-  seat_gone : fin.get (seats_of ss) x.name ≡ None
-  seat_gone = ap (λ (m : NameMap (Seated S)). fin.get m x.name) out ∙ remove_here (seats_of before) x.name
-
-  pub seat-pushed : seats_of (ss ++ x ∷ []) ≡ fin.insert (fin.remove (seats_of before) x.name) x.name (seat_value x)
-  unfolding seats_of
-  seat-pushed = keyed-push seat_key seat_value ss x seat_gone ∙ ap (λ (m : NameMap (Seated S)). fin.insert m x.name (seat_value x)) out
-
-  none_if : (o : Option ℕ) → is_some o ≡ false → o ≡ None
-  none_if None h = refl
-  none_if (Some i) h = absurd (cc)
-
-  pub seat-apart : AreApart seat_key ss → AreApart seat_key (ss ++ x ∷ [])
-  unfolding seats_of
-  seat-apart apart = apart-push seat_key ss x (none_if (place_by seat_key x.name ss) (contains-place seat_key seat_value x.name ss ∙ ap (λ (o : Option (Seated S)). is_some o) seat_gone)) apart
 
 -- without a server
 

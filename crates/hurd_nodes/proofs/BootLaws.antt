@@ -6,22 +6,14 @@ use Rattle.hurd_creds.specs.declared.name.Name.{Name}
 use Rattle.hurd_creds.specs.declared.errno.Errno.{Errno}
 use Rattle.hurd_creds.specs.Access.{IdSets, ids_of}
 use Rattle.hurd_creds.specs.Names.{name_cmp}
-use Rattle.hurd_creds.specs.NameMaps.{NameMap, keyed, map_values}
+use Rattle.hurd_creds.specs.NameMaps.{NameMap, map_values}
 use Rattle.hurd_creds.proofs.NameLaws.{same_map_by, same_or_apart, get_here, get_apart}
-use Rattle.hurd_creds.proofs.KeyedLaws.{keyed-nothing, keyed-push}
 use Rattle.hurd_creds.proofs.MapLaws.{map_values-insert, map_values-empty}
 use Rattle.hurd_trans_iface.specs.Nodes.{Node, NodeMap}
 use Rattle.hurd_trans_iface.specs.Meaning.{Meaning, behaviour_of, new_root}
 use Rattle.hurd_nodes.specs.Held.{Seated, box_by, mean, mean_seat}
 use Rattle.hurd_nodes.specs.Shown.{boot_ids, boot_mode, boot_name, booted, flat, info_of, node_in, nodes_of, state_of, servers_of}
 use Rattle.hurd_nodes.proofs.ShownLaws.{get-nodes}
-
--- the map of one thing
-pub keyed-one : {X V : Type 0} (key : X → Name) (value : X → V) (x : X) → keyed key value (x ∷ []) ≡ fin.insert fin.empty (key x) (value x)
-keyed-one key value x =
-    let nothing = keyed-nothing key value in
-    keyed-push key value [] x (ap (λ (m : NameMap _). fin.get m (key x)) nothing ∙ fin.get-empty name_cmp (key x))
-    ∙ ap (λ (m : NameMap _). fin.insert m (key x) (value x)) nothing
 
 module _ {X : Type 0} (n : Name) (x : X) where
   abbrev one : NameMap X

@@ -1,42 +1,81 @@
 -- Homes in a map of the code, and the map that they stand for.
 use Rattle.std.proofs.Common.{◌≡◌, ◌≢◌, ◌⊎◌, ◌||◌, inl, inr, ℕ, zero, suc, ◌+◌, Bool, true, false, cond, List, [], ◌∷◌, map, take, refl, sym, ap, ◌∙◌, true≢false, add-one}
 use Rattle.std.specs.Prelude.{Option, Some, None, Result, Ok, Err, IsOk, OnOk, is_some, slice_get}
+use Rattle.std.specs.Option.{option_map}
+use Rattle.std.proofs.lemmas.Iterator.Adapters.{option_map_id}
 use Rattle.std.specs.List.{IsDistinct, AllByRecursion, list_any}
 use Rattle.std.specs.Map.{keys_of, lookup}
 use Rattle.std.specs.FinMap as fin
 use Rattle.indexmap.specs.IndexMap.{IndexMap, get}
 use Rattle.hurd_creds.specs.Names.{name_cmp, same_name}
-use Rattle.hurd_creds.specs.NameMaps.{place_by}
+use Rattle.hurd_creds.specs.NameMaps.{NameMap, keyed, place_by}
 use Rattle.hurd_creds.specs.declared.name.Name.{Name}
 use Rattle.hurd_creds.proofs.KeyedLaws.{get-keyed}
 use Rattle.hurd_creds.proofs.NameLaws.{name_tied, same_name-itself, same_name-apart, same_map_by, same_or_apart, get_here, get_apart, remove_here, remove_apart}
-use Rattle.hurd_nodes.specs.Held.{AreApart, home_key, home_value, homes_of}
+use Rattle.hurd_nodes.specs.declared.seat.Seat.{Seat}
+use Rattle.hurd_nodes.specs.Held.{AreApart, homes_of, seat_value, seats_of}
+use Rattle.hurd_nodes.proofs.RowLaws.{row_key}
 
 -- what an insert says of its success, where it has one
 pub on_success : {A E : Type 0} {P : Type 0} (r : Result A E) → IsOk r → OnOk r P → P
 on_success (Ok x) ok is = is
 on_success (Err e) ok is = absurd (true≢false (sym ok))
 
-find-homes : (n : Name) (es : List (Name × Name)) → fin.find name_cmp n (map (λ e. (home_key e, home_value e)) es) ≡ lookup (same_name n) es
-find-homes n [] = refl
-find-homes n (e ∷ es) = go (same_name n e.0) refl (find-homes n es)
-  where
-    go : (b : Bool) → same_name n e.0 ≡ b → fin.find name_cmp n (map (λ e. (home_key e, home_value e)) es) ≡ lookup (same_name n) es
-        → fin.find name_cmp n (map (λ e. (home_key e, home_value e)) (e ∷ es)) ≡ lookup (same_name n) (e ∷ es)
-    go true is rest = rw (name_tied n e.0, is) refl
-    go false is rest = rw (name_tied n e.0, is) rest
+-- what is found under a name, of a table whose values stand for others
+module _ {X V : Type 0} (value : X → V) where
+  abbrev pub rows_of : List (Name × X) → NameMap V
+  rows_of es = keyed (λ (e : Name × X). e.0) (λ (e : Name × X). value e.1) es
+
+  find-rows : (n : Name) (es : List (Name × X)) → fin.find name_cmp n (map (λ (e : Name × X). (e.0, value e.1)) es) ≡ option_map value (lookup (same_name n) es)
+  find-rows n [] = refl
+  find-rows n (e ∷ es) = go (same_name n e.0) refl (find-rows n es)
+    where
+      go : (b : Bool) → same_name n e.0 ≡ b → fin.find name_cmp n (map (λ (e : Name × X). (e.0, value e.1)) es) ≡ option_map value (lookup (same_name n) es)
+          → fin.find name_cmp n (map (λ (e : Name × X). (e.0, value e.1)) (e ∷ es)) ≡ option_map value (lookup (same_name n) (e ∷ es))
+      go true is rest = rw (name_tied n e.0, is) refl
+      go false is rest = rw (name_tied n e.0, is) rest
+
+  pub row-got : (es : List (Name × X)) (n : Name) → fin.get (rows_of es) n ≡ option_map value (lookup (same_name n) es)
+  row-got es n = get-keyed (λ (e : Name × X). e.0) (λ (e : Name × X). value e.1) es n ∙ find-rows n es
+
+  module _ {S : Type 0} (m l : IndexMap Name X S) (n : Name) where
+    -- a row is put
+    pub row-put : (x : X) → ((q : Name) → get same_name l q ≡ cond (same_name n q) (Some x) (get same_name m q)) → rows_of l.entries ≡ fin.insert (rows_of m.entries) n (value x)
+    row-put x w = same_map_by _ _ (λ q. go q (same_or_apart q n))
+      where
+        go : (q : Name) → (q ≡ n) ⊎ (q ≢ n) → fin.get (rows_of l.entries) q ≡ fin.get (fin.insert (rows_of m.entries) n (value x)) q
+        go q (inl e) =
+            rw e
+            (row-got l.entries n ∙ ap (option_map value) (w n ∙ ap (λ (b : Bool). cond b (Some x) (get same_name m n)) (same_name-itself n))
+            ∙ sym (get_here (rows_of m.entries) n (value x)))
+        go q (inr apart) =
+            row-got l.entries q ∙ ap (option_map value) (w q ∙ ap (λ (b : Bool). cond b (Some x) (get same_name m q)) (same_name-apart n q (λ e. apart (sym e))))
+            ∙ sym (get_apart (rows_of m.entries) n (value x) q apart ∙ row-got m.entries q)
+
+    -- a row is taken out
+    pub row-out : ((q : Name) → get same_name l q ≡ cond (same_name n q) None (get same_name m q)) → rows_of l.entries ≡ fin.remove (rows_of m.entries) n
+    row-out w = same_map_by _ _ (λ q. go q (same_or_apart q n))
+      where
+        go : (q : Name) → (q ≡ n) ⊎ (q ≢ n) → fin.get (rows_of l.entries) q ≡ fin.get (fin.remove (rows_of m.entries) n) q
+        go q (inl e) =
+            rw e
+            (row-got l.entries n ∙ ap (option_map value) (w n ∙ ap (λ (b : Bool). cond b None (get same_name m n)) (same_name-itself n))
+            ∙ sym (remove_here (rows_of m.entries) n))
+        go q (inr apart) =
+            row-got l.entries q ∙ ap (option_map value) (w q ∙ ap (λ (b : Bool). cond b None (get same_name m q)) (same_name-apart n q (λ e. apart (sym e))))
+            ∙ sym (remove_apart (rows_of m.entries) n q apart ∙ row-got m.entries q)
 
 -- the home of a node is what is found under its name
 pub home-got : (es : List (Name × Name)) (n : Name) → fin.get (homes_of es) n ≡ lookup (same_name n) es
 unfolding homes_of
-home-got es n = get-keyed home_key home_value es n ∙ find-homes n es
+home-got es n = row-got (λ (s : Name). s) es n ∙ option_map_id (lookup (same_name n) es)
 
 -- distinct names are apart
-none_ahead : (q : Name) (es : List (Name × Name)) → AllByRecursion (λ y. same_name q y ≡ false) (keys_of es) → place_by home_key q es ≡ None
+none_ahead : {X : Type 0} (q : Name) (es : List (Name × X)) → AllByRecursion (λ y. same_name q y ≡ false) (keys_of es) → place_by row_key q es ≡ None
 none_ahead q [] apart = refl
 none_ahead q (e ∷ es) apart = rw (apart.0, none_ahead q es apart.1) refl
 
-pub distinct-apart : (es : List (Name × Name)) → IsDistinct same_name (keys_of es) → AreApart home_key es
+pub distinct-apart : {X : Type 0} (es : List (Name × X)) → IsDistinct same_name (keys_of es) → AreApart row_key es
 unfolding IsDistinct
 distinct-apart [] distinct = tt
 distinct-apart (e ∷ es) distinct = (none_ahead e.0 es distinct.0, distinct-apart es distinct.1)
@@ -44,23 +83,24 @@ distinct-apart (e ∷ es) distinct = (none_ahead e.0 es distinct.0, distinct-apa
 module _ {S : Type 0} (m l : IndexMap Name Name S) (n : Name) where
   -- a home is put
   pub home-put : (s : Name) → ((q : Name) → get same_name l q ≡ cond (same_name n q) (Some s) (get same_name m q)) → homes_of l.entries ≡ fin.insert (homes_of m.entries) n s
-  home-put s w = same_map_by _ _ (λ q. go q (same_or_apart q n))
-    where
-      go : (q : Name) → (q ≡ n) ⊎ (q ≢ n) → fin.get (homes_of l.entries) q ≡ fin.get (fin.insert (homes_of m.entries) n s) q
-      go q (inl e) = rw e (home-got l.entries n ∙ w n ∙ ap (λ (b : Bool). cond b (Some s) (get same_name m n)) (same_name-itself n) ∙ sym (get_here (homes_of m.entries) n s))
-      go q (inr apart) =
-          home-got l.entries q ∙ w q ∙ ap (λ (b : Bool). cond b (Some s) (get same_name m q)) (same_name-apart n q (λ e. apart (sym e)))
-          ∙ sym (get_apart (homes_of m.entries) n s q apart ∙ home-got m.entries q)
+  unfolding homes_of
+  home-put s w = row-put (λ (t : Name). t) m l n s w
 
   -- a home is taken out
   pub home-out : ((q : Name) → get same_name l q ≡ cond (same_name n q) None (get same_name m q)) → homes_of l.entries ≡ fin.remove (homes_of m.entries) n
-  home-out w = same_map_by _ _ (λ q. go q (same_or_apart q n))
-    where
-      go : (q : Name) → (q ≡ n) ⊎ (q ≢ n) → fin.get (homes_of l.entries) q ≡ fin.get (fin.remove (homes_of m.entries) n) q
-      go q (inl e) = rw e (home-got l.entries n ∙ w n ∙ ap (λ (b : Bool). cond b None (get same_name m n)) (same_name-itself n) ∙ sym (remove_here (homes_of m.entries) n))
-      go q (inr apart) =
-          home-got l.entries q ∙ w q ∙ ap (λ (b : Bool). cond b None (get same_name m q)) (same_name-apart n q (λ e. apart (sym e)))
-          ∙ sym (remove_apart (homes_of m.entries) n q apart ∙ home-got m.entries q)
+  unfolding homes_of
+  home-out w = row-out (λ (t : Name). t) m l n w
+
+module _ {X S : Type 0} (m l : IndexMap Name (Seat X) S) (n : Name) where
+  -- a seat is put
+  pub seat-in : (x : Seat X) → ((q : Name) → get same_name l q ≡ cond (same_name n q) (Some x) (get same_name m q)) → seats_of l.entries ≡ fin.insert (seats_of m.entries) n (seat_value x)
+  unfolding seats_of
+  seat-in x w = row-put seat_value m l n x w
+
+  -- a seat is taken out
+  pub seat-out : ((q : Name) → get same_name l q ≡ cond (same_name n q) None (get same_name m q)) → seats_of l.entries ≡ fin.remove (seats_of m.entries) n
+  unfolding seats_of
+  seat-out w = row-out seat_value m l n w
 
 -- a scan that has found none before i, and doesn't find it at i
 
@@ -79,3 +119,11 @@ none-more p xs i x none at is = rw add-one (none-more_suc p xs i x none at is)
 -- what is told of the home at a place
 pub home-here : (es : List (Name × Name)) (n s : Name) → lookup (same_name n) es ≡ Some s → is_some (fin.get (homes_of es) n) ≡ true
 home-here es n s is = ap (λ (o : Option Name). is_some o) (home-got es n ∙ is)
+
+some_map : {A B : Type 0} (f : A → B) (o : Option A) (x : A) → o ≡ Some x → is_some (option_map f o) ≡ true
+some_map {A = A} f o x is = ap (λ (u : Option A). is_some (option_map f u)) is
+
+-- and of the seat at one
+pub seat-here : {S : Type 0} (es : List (Name × Seat S)) (n : Name) (x : Seat S) → lookup (same_name n) es ≡ Some x → is_some (fin.get (seats_of es) n) ≡ true
+unfolding seats_of
+seat-here es n x is = ap (λ (o : Option _). is_some o) (row-got seat_value es n) ∙ some_map seat_value (lookup (same_name n) es) x is

@@ -7,6 +7,7 @@ pub mod MakeLaws
 pub mod NamelessLaws
 pub mod TableLaws
 pub mod HomeLaws
+pub mod RowLaws
 pub mod PartLaws
 pub mod SettleLaws
 pub mod AnyLaws

@@ -1,6 +1,8 @@
 -- Where no node that servers list goes, and no server does, no node does.
-use Rattle.std.proofs.Common.{◌≡◌, inl, inr, suc, Bool, true, false, ◌||◌, ◌&&◌, List, [], ◌∷◌, refl, sym, ap, ◌∙◌, true≢false, arith}
-use Rattle.std.specs.Prelude.{Option, Some, None, is_some, not}
+use Rattle.std.proofs.Common.{◌≡◌, inl, inr, ℕ, suc, ◌+◌, Bool, true, false, ◌||◌, ◌&&◌, List, [], ◌∷◌, take, refl, sym, ap, subst, ◌∙◌, true≢false, arith}
+use Rattle.std.proofs.lemmas.List.{take_more}
+use Rattle.std.proofs.lemmas.List.Elements.{All-push}
+use Rattle.std.specs.Prelude.{Option, Some, None, is_some, not, slice_get, slice_index_or}
 use Rattle.std.specs.Option.{option_map}
 use Rattle.std.specs.List.{All, list_any}
 use Rattle.std.specs.FinMap as fin
@@ -12,12 +14,13 @@ use Rattle.hurd_creds.proofs.KeyedLaws.{get-keyed}
 use Rattle.hurd_trans_iface.specs.Nodes.{is_entered_at, is_listed}
 use Rattle.hurd_trans_iface.specs.Meaning.{Meaning}
 use Rattle.hurd_nodes.specs.declared.seat.Seat.{Seat}
-use Rattle.hurd_nodes.specs.Held.{AllSeated, Seated, mean, mean_seat, seat_key, seat_value, seats_of}
+use Rattle.hurd_nodes.specs.Held.{AllSeated, Seated, mean, mean_seat, row_value, seat_key, seats_of}
 use Rattle.hurd_nodes.specs.Shown.{NodeState, flat, info_of, node_in}
 use Rattle.hurd_nodes.specs.Settle.{Outside, node_stays, server_stays, stays_by, stays_with}
 use Rattle.hurd_nodes.specs.Look.{HomedStay, NamelessStay, ServersStay}
 use Rattle.hurd_nodes.proofs.AnyLaws.{get-first, get-rest}
 use Rattle.hurd_nodes.proofs.PartLaws.{or_cases, true_or_false}
+use Rattle.hurd_nodes.proofs.RowLaws.{got-at}
 use Rattle.hurd_nodes.proofs.SeatLaws.{box-found}
 use Rattle.hurd_nodes.proofs.ShownLaws.{get-nodes}
 use Rattle.hurd_nodes.proofs.StayLaws.{info-is}
@@ -42,23 +45,23 @@ listed-stays p q (m ∷ ns) n on none home =
     ]
 
 -- what holds of each seat of a list holds of the one of a name
-pub all-seated : {S : Type 0} (P : Seat S → Type 0) (ss : List (Seat S)) → All P ss → (s : Name) (e : Seated S) → fin.get (seats_of ss) s ≡ Some e → (x : Seat S) × (seat_value x ≡ e) × P x
+pub all-seated : {S : Type 0} (P : Name × Seat S → Type 0) (ss : List (Name × Seat S)) → All P ss → (s : Name) (e : Seated S) → fin.get (seats_of ss) s ≡ Some e → (x : Name × Seat S) × (row_value x ≡ e) × P x
 unfolding seats_of
-all-seated P [] all s e is = let c : None ≡ Some e = sym (get-keyed seat_key seat_value [] s) ∙ is in absurd (cc)
-all-seated P (x ∷ xs) all s e is = elim (same_or_apart s x.name) [
-  | inl here ↦ let c : Some (seat_value x) ≡ Some e = sym (get-first seat_key seat_value x xs) ∙ ap (fin.get _) (sym here) ∙ is in (x, cc, all 0 x (omega arith))
-  | inr apart ↦ all-seated P xs (λ k d below. all (suc k) d (omega arith)) s e (sym (get-rest seat_key seat_value x xs s apart) ∙ is)
+all-seated P [] all s e is = let c : None ≡ Some e = sym (get-keyed seat_key row_value [] s) ∙ is in absurd (cc)
+all-seated P (x ∷ xs) all s e is = elim (same_or_apart s x.0) [
+  | inl here ↦ let c : Some (row_value x) ≡ Some e = sym (get-first seat_key row_value x xs) ∙ ap (fin.get _) (sym here) ∙ is in (x, cc, all 0 x (omega arith))
+  | inr apart ↦ all-seated P xs (λ k d below. all (suc k) d (omega arith)) s e (sym (get-rest seat_key row_value x xs s apart) ∙ is)
 ]
 
 some_back : {A : Type 0} (o : Option A) → is_some o ≡ true → (x : A) × (o ≡ Some x)
 some_back None h = absurd (true≢false (sym h))
 some_back (Some x) h = (x, refl)
 
-module _ {S : Type 0} (f : S → Meaning) (homes actives : NameMap Name) (ss : List (Seat S)) (o : Outside) (housed : AllSeated homes (seats_of ss)) where
+module _ {S : Type 0} (f : S → Meaning) (homes actives : NameMap Name) (ss : List (Name × Seat S)) (o : Outside) (housed : AllSeated homes (seats_of ss)) where
   abbrev told : NodeState
   told = flat homes actives (mean f (seats_of ss))
 
-  module _ (looked : All (λ (x : Seat S). NamelessStay o told (f x.server)) ss) (serves : ServersStay o told) (n s : Name) (home : fin.get homes n ≡ Some s) where
+  module _ (looked : All (λ (x : Name × Seat S). NamelessStay o told (f x.1.server)) ss) (serves : ServersStay o told) (n s : Name) (home : fin.get homes n ≡ Some s) where
     seat : (e : Seated S) × (fin.get (seats_of ss) s ≡ Some e)
     seat = some_back (fin.get (seats_of ss) s) (housed n s home)
 
@@ -83,12 +86,18 @@ module _ {S : Type 0} (f : S → Meaning) (homes actives : NameMap Name) (ss : L
 
     nameless_stays : is_entered_at (fin.get told.nodes n) ≡ false → node_stays o told n ≡ true
     nameless_stays nameless =
-        let x = all-seated (λ (x : Seat S). NamelessStay o told (f x.server)) ss looked s seat.0 seat.1 in
-        let same : x.0.server ≡ seat.0.server = ap (λ (e : Seated S). e.server) x.1 in
+        let x = all-seated (λ (x : Name × Seat S). NamelessStay o told (f x.1.server)) ss looked s seat.0 seat.1 in
+        let same : x.0.1.server ≡ seat.0.server = ap (λ (e : Seated S). e.server) x.1 in
         x.2 n (ap (λ (b : S). is_entered_at (fin.get (f b).nodes n)) same ∙ sym (ap is_entered_at served) ∙ nameless) (ap (λ (u : Option Name). is_some u) home)
 
     stays_by_cases : node_stays o told n ≡ true
     stays_by_cases = elim (true_or_false (is_entered_at (fin.get told.nodes n))) [ inl entered ↦ entered_stays entered | inr nameless ↦ nameless_stays nameless ]
 
-  pub looked-stay : All (λ (x : Seat S). NamelessStay o told (f x.server)) ss → ServersStay o told → HomedStay o told
+  pub looked-stay : All (λ (x : Name × Seat S). NamelessStay o told (f x.1.server)) ss → ServersStay o told → HomedStay o told
   looked-stay looked serves n s home = stays_by_cases looked serves n s home
+
+-- what holds of those before i, and of the one at i
+pub all-more : {X : Type 0} (P : X → Type 0) (xs : List X) (i : ℕ) (x : X) → All P (take i xs) → Some x ≡ slice_get xs i → P x → All P (take (i + 1) xs)
+all-more P xs i x all at is =
+    let r = got-at xs i x at in
+    subst (All P) (sym (take_more xs i x r.0)) (All-push P (take i xs) (slice_index_or xs i x) all (subst P r.1 is))

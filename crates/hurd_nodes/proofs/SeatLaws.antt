@@ -1,16 +1,19 @@
 -- The boxes of a table, what they mean, and one in the place of another.
 use Rattle.std.proofs.Common.{◌≡◌, ◌⊎◌, inl, ℕ, List, refl, sym, ap, ◌∙◌}
-use Rattle.std.specs.Prelude.{Option, Some, None, slice_set, slice_index_or}
+use Rattle.std.specs.Prelude.{Option, Some, None, slice_get}
 use Rattle.std.specs.Option.{option_map}
+use Rattle.std.specs.Map.{values_of}
 use Rattle.std.specs.FinMap as fin
+use Rattle.indexmap.specs.IndexMap.{set_value_at}
 use Rattle.hurd_creds.specs.declared.name.Name.{Name}
-use Rattle.hurd_creds.specs.NameMaps.{NameMap, place_by}
+use Rattle.hurd_creds.specs.NameMaps.{NameMap, keyed, place_by}
 use Rattle.hurd_creds.proofs.MapLaws.{get-map_values, map_values-insert}
-use Rattle.hurd_creds.proofs.KeyedLaws.{get-absent, get-found, keyed-changed, place-is}
+use Rattle.hurd_creds.proofs.KeyedLaws.{get-absent, get-found, keyed-changed}
 use Rattle.hurd_trans_iface.specs.Meaning.{Meaning}
 use Rattle.hurd_nodes.specs.declared.seat.Seat.{Seat}
-use Rattle.hurd_nodes.specs.Held.{Held, Seated, mean, mean_seat, box_at, box_by, with_box, put_box, put_by, with_server_of, place_in, seat_key, seat_value, seats_of}
+use Rattle.hurd_nodes.specs.Held.{Held, Seated, mean, mean_seat, box_at, box_by, with_box, put_box, put_by, with_server_of, place_in, row_value, seat_key, seat_value, seats_of}
 use Rattle.hurd_nodes.specs.Shown.{shown, flat}
+use Rattle.hurd_nodes.proofs.RowLaws.{row-at}
 
 -- what is read later of what was lent
 pub same_read : {N D E : Type 0} (n : N) (F G : E → D) → ((w : E) → F w ≡ G w) → ◌≡◌ {A = (N × (E → D)) ⊎ D} (inl (n, F)) (inl (n, G))
@@ -39,15 +42,15 @@ module _ {S : Type 0} (f : S → Meaning) (seats : NameMap (Seated S)) (n : Name
   mean-put e s = map_values-insert (mean_seat f) seats n (with_box e s)
 
 -- a node's server is found at a place
-pub placed : {S : Type 0} (ss : List (Seat S)) (o : Option Name) (i : ℕ) → Some i ≡ place_in ss o → (s : Name) × (o ≡ Some s) × (Some i ≡ place_by seat_key s ss)
+pub placed : {S : Type 0} (ss : List (Name × Seat S)) (o : Option Name) (i : ℕ) → Some i ≡ place_in ss o → (s : Name) × (o ≡ Some s) × (Some i ≡ place_by seat_key s ss)
 placed ss None i h = absurd (cc)
 placed ss (Some s) i h = (s, refl, h)
 
 -- no box serves the node
-pub unplaced : {S : Type 0} (f : S → Meaning) (ss : List (Seat S)) (o : Option Name) → None ≡ place_in ss o → None ≡ box_by (mean f (seats_of ss)) o
+pub unplaced : {S : Type 0} (f : S → Meaning) (ss : List (Name × Seat S)) (o : Option Name) → None ≡ place_in ss o → None ≡ box_by (mean f (seats_of ss)) o
 unfolding seats_of
 unplaced f ss None h = refl
-unplaced f ss (Some s) h = box-gone f (seats_of ss) s (get-absent seat_key seat_value s ss h)
+unplaced f ss (Some s) h = box-gone f (seats_of ss) s (get-absent seat_key row_value s ss h)
 
 -- a box that was lent, and is another in the end
 pub record Lent {S : Type 0} (f : S → Meaning) (t : Held S) (n : Name) (a w : S) : Type 0 where
@@ -77,35 +80,42 @@ module _ {S : Type 0} (f : S → Meaning) (t : Held S) (n : Name) (a w : S) wher
   pub lent : Some (f a) ≡ box_by (mean f t.seats) (fin.get t.homes n) → Lent f t n a w
   lent there = lent_by (fin.get t.homes n) refl there
 
+-- the seat that stands at a server's place, and another in its place
+module _ {S : Type 0} (ss : List (Name × Seat S)) (s : Name) (i : ℕ) (x : Seat S) (at : Some i ≡ place_by seat_key s ss) (read : slice_get (values_of ss) i ≡ Some x) where
+  pub seat-found : fin.get (seats_of ss) s ≡ Some (seat_value x)
+  unfolding seats_of
+  seat-found = let r = row-at ss i x read in get-found seat_key row_value s ss i (r.name, x) at r.is
+
+  pub seat-changed : (y : Seat S) → seats_of (set_value_at ss i y) ≡ fin.insert (seats_of ss) s (seat_value y)
+  unfolding seats_of
+  seat-changed y =
+      let r = row-at ss i x read in
+      ap (keyed seat_key row_value) (r.set y) ∙ keyed-changed seat_key row_value s ss i (r.name, x) (r.name, y) at r.is refl
+
 -- the seat of a node's server, read at its place
-pub record SeatAt {S : Type 0} (f : S → Meaning) (ss : List (Seat S)) (o : Option Name) (i : ℕ) (x : Seat S) : Type 0 where
+pub record SeatAt {S : Type 0} (f : S → Meaning) (ss : List (Name × Seat S)) (o : Option Name) (i : ℕ) (x : Seat S) : Type 0 where
   pub name : Name
   pub home : o ≡ Some name
-  pub named : x.name ≡ name
   pub is : fin.get (mean f (seats_of ss)) name ≡ Some (mean_seat f (seat_value x))
-  pub set : (w : S) → mean f (seats_of (slice_set ss i (record x { server = w }))) ≡ fin.insert (mean f (seats_of ss)) name (with_box (mean_seat f (seat_value x)) (f w))
+  pub set : (w : S) → mean f (seats_of (set_value_at ss i (record x { server = w }))) ≡ fin.insert (mean f (seats_of ss)) name (with_box (mean_seat f (seat_value x)) (f w))
 
--- the seat that stands at a server's place, and one in its place
-module _ {S : Type 0} (f : S → Meaning) (ss : List (Seat S)) (s : Name) (i : ℕ) (x : Seat S) (at : Some i ≡ place_by seat_key s ss) (read : x ≡ slice_index_or ss i x) where
+-- what they mean
+module _ {S : Type 0} (f : S → Meaning) (ss : List (Name × Seat S)) (s : Name) (i : ℕ) (x : Seat S) (at : Some i ≡ place_by seat_key s ss) (read : slice_get (values_of ss) i ≡ Some x) where
   pub seat-is : fin.get (mean f (seats_of ss)) s ≡ Some (mean_seat f (seat_value x))
-  unfolding seats_of
-  seat-is = mean-at f (seats_of ss) s (seat_value x) (get-found seat_key seat_value s ss i x at read)
+  seat-is = mean-at f (seats_of ss) s (seat_value x) (seat-found ss s i x at read)
 
-  pub seat-put : (w : S) → mean f (seats_of (slice_set ss i (record x { server = w }))) ≡ fin.insert (mean f (seats_of ss)) s (with_box (mean_seat f (seat_value x)) (f w))
-  unfolding seats_of
-  seat-put w = ap (mean f) (keyed-changed seat_key seat_value s ss i x (record x { server = w }) at read refl) ∙ mean-put f (seats_of ss) s (seat_value x) w
+  pub seat-put : (w : S) → mean f (seats_of (set_value_at ss i (record x { server = w }))) ≡ fin.insert (mean f (seats_of ss)) s (with_box (mean_seat f (seat_value x)) (f w))
+  seat-put w = ap (mean f) (seat-changed ss s i x at read (record x { server = w })) ∙ mean-put f (seats_of ss) s (seat_value x) w
 
-at_in : {S : Type 0} (f : S → Meaning) (ss : List (Seat S)) (o : Option Name) (i : ℕ) (x : Seat S) → (s : Name) → o ≡ Some s → Some i ≡ place_by seat_key s ss → x ≡ slice_index_or ss i x → SeatAt f ss o i x
-unfolding seats_of
+at_in : {S : Type 0} (f : S → Meaning) (ss : List (Name × Seat S)) (o : Option Name) (i : ℕ) (x : Seat S) → (s : Name) → o ≡ Some s → Some i ≡ place_by seat_key s ss → slice_get (values_of ss) i ≡ Some x → SeatAt f ss o i x
 at_in f ss o i x s home at read = record {
   name = s;
   home = home;
-  named = ap seat_key read ∙ (place-is seat_key seat_value s ss i (sym at)).named x;
   is = seat-is f ss s i x at read;
   set = seat-put f ss s i x at read;
 }
 
-pub seat-at : {S : Type 0} (f : S → Meaning) (ss : List (Seat S)) (o : Option Name) (i : ℕ) (x : Seat S) → Some i ≡ place_in ss o → x ≡ slice_index_or ss i x → SeatAt f ss o i x
+pub seat-at : {S : Type 0} (f : S → Meaning) (ss : List (Name × Seat S)) (o : Option Name) (i : ℕ) (x : Seat S) → Some i ≡ place_in ss o → slice_get (values_of ss) i ≡ Some x → SeatAt f ss o i x
 seat-at f ss o i x at read = let p = placed ss o i at in at_in f ss o i x p.0 p.1 p.2 read
 
 -- what is there is one thing
@@ -113,7 +123,7 @@ pub some_same : {A : Type 0} {a b : A} → Some a ≡ Some b → a ≡ b
 some_same h = cc
 
 -- read twice, it means the same
-pub seat-twice : {S : Type 0} (f : S → Meaning) (ss : List (Seat S)) (o : Option Name) (i : ℕ) (x y : Seat S) → SeatAt f ss o i x → SeatAt f ss o i y → f x.server ≡ f y.server
+pub seat-twice : {S : Type 0} (f : S → Meaning) (ss : List (Name × Seat S)) (o : Option Name) (i : ℕ) (x y : Seat S) → SeatAt f ss o i x → SeatAt f ss o i y → f x.server ≡ f y.server
 seat-twice f ss o i x y p q =
     let one : Some p.name ≡ Some q.name = sym p.home ∙ q.home in
     let both : Some (mean_seat f (seat_value x)) ≡ Some (mean_seat f (seat_value y)) = sym p.is ∙ ap (fin.get (mean f (seats_of ss))) (some_same one) ∙ q.is in

@@ -1,37 +1,28 @@
 -- What stays, as it is found in the tables.
-use Rattle.std.proofs.Common.{◌≡◌, ℕ, ◌<◌, Bool, true, false, ◌||◌, ◌&&◌, List, length, get_or, refl, sym, ap, ◌∙◌}
-use Rattle.std.specs.Prelude.{Option, Some, None, is_some, not, slice_index_or}
+use Rattle.std.proofs.Common.{◌≡◌, ℕ, Bool, true, false, ◌||◌, ◌&&◌, List, refl, sym, ap, ◌∙◌, true≢false}
+use Rattle.std.specs.Prelude.{Option, Some, None, is_some, not, slice_get}
 use Rattle.std.specs.Option.{option_map}
 use Rattle.std.specs.List.{list_any}
+use Rattle.std.specs.Map.{values_of}
 use Rattle.std.specs.FinMap as fin
 use Rattle.hurd_creds.specs.declared.name.Name.{Name}
 use Rattle.hurd_creds.specs.declared.attrs.Attrs.{Attrs}
 use Rattle.hurd_creds.specs.Names.{same_name}
 use Rattle.hurd_creds.specs.NameMaps.{NameMap, place_by}
-use Rattle.hurd_creds.proofs.KeyedLaws.{contains-place, get-absent, get-found}
+use Rattle.hurd_creds.proofs.KeyedLaws.{get-absent}
 use Rattle.hurd_creds.proofs.MapLaws.{get-map_values}
 use Rattle.hurd_trans_iface.specs.Nodes.{Node, attrs_of, is_entered, is_entered_at}
 use Rattle.hurd_trans_iface.specs.Meaning.{Meaning}
 use Rattle.hurd_nodes.specs.declared.seat.Seat.{Seat}
-use Rattle.hurd_nodes.specs.Held.{AreApart, Seated, box_by, home_key, home_value, homes_of, mean, mean_seat, place_in, seat_key, seat_value, seats_of}
+use Rattle.hurd_nodes.specs.Held.{AreApart, Seated, box_by, home_key, home_value, homes_of, is_home, mean, mean_seat, row_value, seat_key, seat_value, seats_of}
 use Rattle.hurd_nodes.specs.Shown.{NodeState, ServerInfo, flat, header_in, info_in, info_of, node_in, server_of, servers_of}
 use Rattle.hurd_nodes.specs.Settle.{Outside, any_in, node_stays, server_stays, stays_by, stays_with, sweep}
 use Rattle.hurd_nodes.specs.Look.{HomedStay, ServersStay}
-use Rattle.hurd_nodes.proofs.SeatLaws.{SeatAt, seat-at}
+use Rattle.hurd_nodes.proofs.SeatLaws.{seat-found, seat-is}
 use Rattle.hurd_nodes.proofs.ShownLaws.{get-nodes, get-servers, seen}
 use Rattle.hurd_nodes.proofs.SettleLaws.{sweep-none}
-use Rattle.hurd_nodes.proofs.TableLaws.{place-there, place-there_read}
+use Rattle.hurd_nodes.proofs.PartLaws.{any_in-here}
 use Rattle.hurd_nodes.proofs.AnyLaws.{all-listed, any-keyed}
-
--- what is on a list stands in its map
-
-pub home-there : (hs : List (Name × Name)) (i : ℕ) (d : Name × Name) → i < length hs → is_some (fin.get (homes_of hs) (get_or hs i d).0) ≡ true
-unfolding homes_of
-home-there hs i d below = sym (contains-place home_key home_value (get_or hs i d).0 hs) ∙ place-there home_key hs i d below
-
-pub seat-there : {S : Type 0} (ss : List (Seat S)) (i : ℕ) (x : Seat S) → i < length ss → x ≡ slice_index_or ss i x → is_some (fin.get (seats_of ss) x.name) ≡ true
-unfolding seats_of
-seat-there ss i x below read = sym (contains-place seat_key seat_value x.name ss) ∙ place-there_read seat_key ss i x below read
 
 -- a test of a list of homes is one of their map
 pub home-told : (p : Name → Name → Bool) (hs : List (Name × Name)) → AreApart home_key hs → list_any (λ (x : Name × Name). p x.0 x.1) hs ≡ any_in p (homes_of hs)
@@ -62,14 +53,14 @@ module _ {S : Type 0} (f : S → Meaning) (seats : NameMap (Seated S)) (s : Name
       (b.0, b.1)
 
 -- a server that is found by its place, or not found
-module _ {S : Type 0} (f : S → Meaning) (ss : List (Seat S)) (s : Name) where
-  pub info-found : (i : ℕ) (x : Seat S) → Some i ≡ place_by seat_key s ss → x ≡ slice_index_or ss i x → fin.get (servers_of (mean f (seats_of ss))) s ≡ Some (info_of (mean_seat f (seat_value x)))
+module _ {S : Type 0} (f : S → Meaning) (ss : List (Name × Seat S)) (s : Name) where
+  pub info-found : (i : ℕ) (x : Seat S) → Some i ≡ place_by seat_key s ss → slice_get (values_of ss) i ≡ Some x → fin.get (servers_of (mean f (seats_of ss))) s ≡ Some (info_of (mean_seat f (seat_value x)))
   unfolding seats_of
-  info-found i x at read = info-is f (seats_of ss) s ∙ ap (λ (o : Option (Seated S)). option_map info_of (option_map (mean_seat f) o)) (get-found seat_key seat_value s ss i x at read)
+  info-found i x at read = info-is f (seats_of ss) s ∙ ap (λ (o : Option (Seated S)). option_map info_of (option_map (mean_seat f) o)) (seat-found ss s i x at read)
 
   pub info-absent : None ≡ place_by seat_key s ss → fin.get (servers_of (mean f (seats_of ss))) s ≡ None
   unfolding seats_of
-  info-absent at = info-is f (seats_of ss) s ∙ ap (λ (o : Option (Seated S)). option_map info_of (option_map (mean_seat f) o)) (get-absent seat_key seat_value s ss at)
+  info-absent at = info-is f (seats_of ss) s ∙ ap (λ (o : Option (Seated S)). option_map info_of (option_map (mean_seat f) o)) (get-absent seat_key row_value s ss at)
 
 -- where each on the lists stays, nothing goes
 
@@ -81,12 +72,12 @@ pub homes-stay : (hs : List (Name × Name)) (p : Name → Bool) → list_any (λ
 unfolding homes_of
 homes-stay hs p none n s is = all-listed home_key home_value p hs none n s is
 
-pub seats-stay : {S : Type 0} (f : S → Meaning) (ss : List (Seat S)) (p : Name → Bool) → list_any (λ (x : Seat S). not (p x.name)) ss ≡ false
+pub seats-stay : {S : Type 0} (f : S → Meaning) (ss : List (Name × Seat S)) (p : Name → Bool) → list_any (λ (x : Name × Seat S). not (p x.0)) ss ≡ false
     → (s : Name) (i : ServerInfo) → fin.get (servers_of (mean f (seats_of ss))) s ≡ Some i → p s ≡ true
 unfolding seats_of
-seats-stay f ss p none s i is = let e = seat-of f (seats_of ss) s i is in all-listed seat_key seat_value p ss none s e.0 e.1
+seats-stay f ss p none s i is = let e = seat-of f (seats_of ss) s i is in all-listed seat_key row_value p ss none s e.0 e.1
 
-pub all-kept : {S : Type 0} (f : S → Meaning) (homes actives : List (Name × Name)) (ss : List (Seat S)) (o : Outside) → (let h = flat (homes_of homes) (homes_of actives) (mean f (seats_of ss)) in
+pub all-kept : {S : Type 0} (f : S → Meaning) (homes actives : List (Name × Name)) (ss : List (Name × Seat S)) (o : Outside) → (let h = flat (homes_of homes) (homes_of actives) (mean f (seats_of ss)) in
     HomedStay o h → list_any (λ (x : Name × Name). not (node_stays o h x.0)) actives ≡ false → ServersStay o h → sweep o h ≡ h)
 all-kept f homes actives ss o kept no_active serves =
     let seats = mean f (seats_of ss) in
@@ -117,46 +108,51 @@ stays-none o h n is = sym (by (fin.get h.homes n) is)
     by (Some s) none = ap (stays_with o h n s) none
 
 -- a node whose server is found in its seat
-module _ {S : Type 0} (f : S → Meaning) (homes actives : NameMap Name) (ss : List (Seat S)) (o : Outside) (n : Name) (i : ℕ) (x : Seat S)
-    (at : Some i ≡ place_in ss (fin.get homes n)) (read : x ≡ slice_index_or ss i x) where
+module _ {S : Type 0} (f : S → Meaning) (homes actives : NameMap Name) (ss : List (Name × Seat S)) (o : Outside) (n : Name) (i : ℕ) (x : Seat S)
+    (s : Name) (home : Some s ≡ fin.get homes n) (at : Some i ≡ place_by seat_key s ss) (read : slice_get (values_of ss) i ≡ Some x) where
   abbrev told : NodeState
   told = flat homes actives (mean f (seats_of ss))
 
-  seat : SeatAt f ss (fin.get homes n) i x
-  seat = seat-at f ss (fin.get homes n) i x at read
+  and_true : (b : Bool) → (b && true) ≡ b
+  and_true true = refl
+  and_true false = refl
+
+  and_false : (b : Bool) → (b && false) ≡ false
+  and_false true = refl
+  and_false false = refl
 
   abbrev tests : Bool → Bool → Bool
   tests serves root = serves && (root || (is_entered_at (fin.get told.nodes n) || o.held n))
 
-  stays-is : node_stays o told n ≡ tests (server_stays o told x.name) (same_name n x.root)
+  stays-is : node_stays o told n ≡ tests (server_stays o told s) (same_name n x.root)
   stays-is =
-      ap (stays_by o told n) seat.home
-      ∙ ap (stays_with o told n seat.name) (get-servers (mean f (seats_of ss)) seat.name ∙ ap (option_map info_of) seat.is)
-      ∙ ap (λ (s : Name). tests (server_stays o told s) (same_name n x.root)) (sym seat.named)
+      ap (stays_by o told n) (sym home)
+      ∙ ap (stays_with o told n s) (get-servers (mean f (seats_of ss)) s ∙ ap (option_map info_of) (seat-is f ss s i x at read))
 
-  pub stays-unserved : server_stays o told x.name ≡ false → false ≡ node_stays o told n
-  stays-unserved serves = sym (stays-is ∙ rw serves refl)
+  abbrev named : Bool
+  named = same_name n x.root || (is_entered_at (fin.get told.nodes n) || o.held n)
 
-  module _ (serves : server_stays o told x.name ≡ true) where
-    pub stays-root : same_name n x.root ≡ true → true ≡ node_stays o told n
-    stays-root root = sym (stays-is ∙ rw (serves, root) refl)
+  -- it stays while its server does, if it is the root, entered or held
+  pub stays-named : named ≡ true → server_stays o told s ≡ node_stays o told n
+  stays-named is = sym (stays-is ∙ ap (λ (b : Bool). server_stays o told s && b) is ∙ and_true (server_stays o told s))
 
-    pub stays-entered : same_name n x.root ≡ false → is_entered_at (fin.get told.nodes n) ≡ true → true ≡ node_stays o told n
-    stays-entered root entered = sym (stays-is ∙ rw (serves, root, entered) refl)
+  pub stays-nameless : named ≡ false → false ≡ node_stays o told n
+  stays-nameless is = sym (stays-is ∙ ap (λ (b : Bool). server_stays o told s && b) is ∙ and_false (server_stays o told s))
 
-    pub stays-held : same_name n x.root ≡ false → is_entered_at (fin.get told.nodes n) ≡ false → o.held n ≡ node_stays o told n
-    stays-held root entered = sym (stays-is ∙ rw (serves, root, entered) refl)
+-- the last of four tests, where none before it holds
+pub or-4 : (a b c d : Bool) → a ≡ false → b ≡ false → c ≡ false → d ≡ (a || (b || (c || d)))
+or-4 a b c d h k l = rw (h, k, l) refl
 
--- four tests, one after another
-module _ (a b c d : Bool) where
-  pub or-1 : a ≡ true → true ≡ (a || (b || (c || d)))
-  or-1 h = rw h refl
+-- the third of them, whatever the two before it say
+pub or-third : (a b c d : Bool) → c ≡ true → true ≡ (a || (b || (c || d)))
+or-third true b c d h = refl
+or-third false true c d h = refl
+or-third false false c d h = rw h refl
 
-  pub or-2 : a ≡ false → b ≡ true → true ≡ (a || (b || (c || d)))
-  or-2 h k = rw (h, k) refl
-
-  pub or-3 : a ≡ false → b ≡ false → c ≡ true → true ≡ (a || (b || (c || d)))
-  or-3 h k l = rw (h, k, l) refl
-
-  pub or-4 : a ≡ false → b ≡ false → c ≡ false → d ≡ (a || (b || (c || d)))
-  or-4 h k l = rw (h, k, l) refl
+-- a server that is active on a node
+pub active-here : (hs : NameMap Name) (server node : Name) → is_home server (fin.get hs node) ≡ true → any_in (λ n q. same_name server q) hs ≡ true
+active-here hs server node is = by (fin.get hs node) refl is
+  where
+    by : (o : Option Name) → fin.get hs node ≡ o → is_home server o ≡ true → any_in (λ n q. same_name server q) hs ≡ true
+    by None at h = absurd (true≢false (sym h))
+    by (Some q) at h = any_in-here (λ n q. same_name server q) hs node q at h

@@ -1,5 +1,5 @@
 -- What the core holds: which server serves each node, which one is active on it, the servers as boxes, and what is named from outside.
-use Rattle.std.specs.Prelude.{◌≡◌, ◌≤◌, Bool, true, false, is_some, List, [], ◌∷◌, if◌then◌else◌, Option, Some, None, ℕ, ◌-◌, vec_len, vec_capacity, refl}
+use Rattle.std.specs.Prelude.{◌≡◌, Bool, true, false, is_some, List, [], ◌∷◌, if◌then◌else◌, Option, Some, None, ℕ, ◌-◌, vec_len, vec_capacity, refl}
 use Rattle.std.specs.Option.{option_map}
 use Rattle.std.specs.Global.{Vec}
 use Rattle.std.specs.List.{list_any}
@@ -52,24 +52,24 @@ home_value h = h.1
 unfoldable pub homes_of : List (Name × Name) → NameMap Name
 homes_of hs = keyed home_key home_value hs
 
-abbrev pub seat_key : {S : Type 0} → Seat S → Name
-seat_key s = s.name
+abbrev pub seat_key : {S : Type 0} → Name × Seat S → Name
+seat_key e = e.0
 
 abbrev pub seat_value : {S : Type 0} → Seat S → Seated S
 seat_value s = record { server = s.server; root = s.root; ids = s.ids }
 
-unfoldable pub seats_of : {S : Type 0} → List (Seat S) → NameMap (Seated S)
-seats_of ss = keyed seat_key seat_value ss
+-- a seat as its row has it, under the name of its server
+abbrev pub row_value : {S : Type 0} → Name × Seat S → Seated S
+row_value e = seat_value e.1
+
+unfoldable pub seats_of : {S : Type 0} → List (Name × Seat S) → NameMap (Seated S)
+seats_of ss = keyed seat_key row_value ss
 
 -- for how many items more a vector has room
 abbrev pub spare_of : Vec Hold → ℕ
 spare_of v = vec_capacity v - vec_len v
 
--- no more rows than before, in the same memory
-abbrev pub Shrinks : {X : Type 0} → Vec X → Vec X → Type 0
-Shrinks old new = (vec_len new ≤ vec_len old) × (vec_capacity new ≡ vec_capacity old)
-
-abbrev pub held_of : {S : Type 0} → List (Name × Name) → List (Name × Name) → List (Seat S) → List Hold → ℕ → Held S
+abbrev pub held_of : {S : Type 0} → List (Name × Name) → List (Name × Name) → List (Name × Seat S) → List Hold → ℕ → Held S
 held_of homes actives seats holds spare = record { homes = homes_of homes; actives = homes_of actives; seats = seats_of seats; holds = holds; spare = spare }
 
 -- no two of a list have one name
@@ -82,7 +82,7 @@ abbrev pub AllSeated : {S : Type 0} → NameMap Name → NameMap (Seated S) → 
 AllSeated homes seats = (n s : Name) → fin.get homes n ≡ Some s → is_some (fin.get seats s) ≡ true
 
 -- a node has one server, which is there, and one that is active on it, and a server one seat
-pub record AreTables {S : Type 0} (homes actives : List (Name × Name)) (seats : List (Seat S)) : Type 0 where
+pub record AreTables {S : Type 0} (homes actives : List (Name × Name)) (seats : List (Name × Seat S)) : Type 0 where
   pub homes_apart : AreApart home_key homes
   pub actives_apart : AreApart home_key actives
   pub seats_apart : AreApart seat_key seats
@@ -106,7 +106,7 @@ box_by seats None = None
 box_by seats (Some s) = box_at seats s
 
 -- the place of a node's server
-abbrev pub place_in : {S : Type 0} → List (Seat S) → Option Name → Option ℕ
+abbrev pub place_in : {S : Type 0} → List (Name × Seat S) → Option Name → Option ℕ
 place_in ss None = None
 place_in ss (Some s) = place_by seat_key s ss
 

@@ -8,7 +8,7 @@ ghost use Rattle.hurd_nodes.specs.Held.{holds_of};
 
 use crate::asking::{can_make_in, can_make_nameless_in};
 use crate::nodes::Nodes;
-use crate::search::{place_of_seat, place_of_server, put_home};
+use crate::search::{place_of_seat, place_of_server, put_kin};
 use hurd_creds::{Bytes, Errno, Mode, NodeName, ServerName};
 use hurd_trans_iface::{NewNode, Server, Words};
 use std::alloc::Global;
@@ -85,9 +85,8 @@ impl<S: Server> Nodes<S> {
         };
         can_make_in(&self.seats[i].server, dir, name, new.kind)?;
         self.homes.reserve(1)?;
-        let server = self.seats[i].name;
         self.seats[i].server.make(alloc, dir, name, new)?;
-        put_home(&mut self.homes, new.name, server);
+        put_kin(&mut self.homes, new.name, dir);
         Ok(())
     }
 
@@ -105,9 +104,8 @@ impl<S: Server> Nodes<S> {
         };
         can_make_nameless_in(&self.seats[i].server, dir, new.kind)?;
         self.homes.reserve(1)?;
-        let server = self.seats[i].name;
         self.seats[i].server.make_nameless(new)?;
-        put_home(&mut self.homes, new.name, server);
+        put_kin(&mut self.homes, new.name, dir);
         Ok(())
     }
 

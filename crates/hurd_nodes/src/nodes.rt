@@ -3,15 +3,17 @@ ghost use Rattle.std.specs.Prelude.{◌≡◌, replicate, option_copied, IfOk, I
 ghost use Rattle.std.specs.Option.{option_map};
 ghost use Rattle.std.specs.FinMap as fin;
 ghost use Rattle.hurd_creds.specs.Memory.{Meets};
-ghost use Rattle.hurd_trans_iface.specs.Nodes.{attrs_of, header_of, body_of, passive_of};
+ghost use Rattle.hurd_trans_iface.specs.Nodes.{attrs_of, header_of, body_of, content_of, passive_of};
 ghost use Rattle.hurd_trans_iface.specs.Answers.{entry_of, names_of};
 ghost use Rattle.hurd_nodes.specs.Shown.{ServerInfo, boot_name, server_of, shown, state_of, header_in, told_header, booted, is_root, are_kin, options_in, readable_at, tree_by, HideNothing};
 ghost use Rattle.hurd_trans_iface.specs.Meaning.{Begins, root_of};
 ghost use Rattle.hurd_nodes.specs.Held.{box_by, mean, users_in};
 
 use crate::asking::has_tree;
-use crate::search::{home_of, place_of_seat, place_of_server, put_home, repeated, users_among};
-use crate::seat::{Hold, Homes, Seat};
+use crate::search::{
+    home_of, place_of_seat, place_of_server, put_home, put_seat, repeated, users_among,
+};
+use crate::seat::{Hold, Homes, Seat, Seats};
 use bitflags::Flags;
 use hurd_creds::{Attrs, Errno, Ids, Mode, Name, NodeName, ServerName, TaskId};
 use hurd_trans_iface::{Names, Readable, Root, Server, Words};
@@ -31,7 +33,7 @@ pub struct Nodes<S = Box<dyn Server>> {
     pub(crate) homes: Homes,
     /// Which server is active on a node.
     pub(crate) actives: Homes,
-    pub(crate) seats: Vec<Seat<S>>,
+    pub(crate) seats: Seats<S>,
     /// One for each time that a node or a server is named from outside.
     pub(crate) holds: Vec<Hold>,
 }
@@ -43,9 +45,9 @@ impl<S> Model for Nodes<S> {
 
     ghost coded = { coded_held S.code };
 
-    ghost view = { λ n. held_of n.homes.entries n.actives.entries n.seats.items n.holds.items (spare_of n.holds) };
+    ghost view = { λ n. held_of n.homes.entries n.actives.entries n.seats.entries n.holds.items (spare_of n.holds) };
 
-    ghost invariant = { λ n. AreTables n.homes.entries n.actives.entries n.seats.items };
+    ghost invariant = { λ n. AreTables n.homes.entries n.actives.entries n.seats.entries };
 }
 
 impl<S: Server> Nodes<S> {
@@ -69,7 +71,7 @@ impl<S: Server> Nodes<S> {
         let Ok(mut homes) = Homes::with_capacity(alloc, 1) else {
             return Err((Errno::ENOMEM, boot));
         };
-        let Ok(mut seats) = Vec::with_capacity(alloc, 1) else {
+        let Ok(mut seats) = Seats::with_capacity(alloc, 1) else {
             return Err((Errno::ENOMEM, boot));
         };
         let Ok(holds) = repeated(alloc, Hold::Use(BOOT_NAME), times) else {
@@ -78,12 +80,13 @@ impl<S: Server> Nodes<S> {
         let mut server = boot;
         server.begin_root(BOOT_NAME, 0, 0, Mode::from_bits_retain(0o755));
         put_home(&mut homes, BOOT_NAME, BOOT_NAME);
-        seats.push_reserved(Seat {
-            name: BOOT_NAME,
+        let seat = Seat {
             root: BOOT_NAME,
+            at: None,
             ids,
             server,
-        });
+        };
+        put_seat(&mut seats, BOOT_NAME, seat);
         Ok(Nodes {
             homes,
             actives: Homes::new(alloc),
@@ -245,6 +248,16 @@ impl<S: Server> Nodes<S> {
     {
         match self.server_of(node) {
             Some(server) => server.readable(node, at),
+            None => None,
+        }
+    }
+
+    /// The bytes that a node holds, lent, if it is there and no directory. Takes no memory.
+    pub fn content(&self, node: NodeName) -> Option<&[u8]>
+        ensures { option_copied result ≡ content_of (shown S.meaning self.now).nodes node }
+    {
+        match self.server_of(node) {
+            Some(server) => server.content(node),
             None => None,
         }
     }

@@ -1,14 +1,15 @@
 //! Homes, seats and holds by name.
-ghost use Rattle.std.specs.Prelude.{◌≡◌, ◌<◌, ◌≤◌, ◌&&◌, ℕ, List, length, replicate, IfOk, IfSome, MatchOption, vec_len, vec_capacity};
+ghost use Rattle.std.specs.Prelude.{◌≡◌, ◌<◌, ◌≤◌, true, ◌&&◌, ℕ, List, length, replicate, IfOk, IfSome, MatchOption};
 ghost use Rattle.std.specs.List.{list_any, remove};
 ghost use Rattle.std.specs.FinMap as fin;
 ghost use Rattle.indexmap.specs.IndexMap.{spare};
 ghost use Rattle.hurd_creds.specs.Names.{same_name};
 ghost use Rattle.hurd_creds.specs.NameMaps.{place_by};
-ghost use Rattle.hurd_nodes.specs.Held.{AllSeated, AreApart, AreTables, Shrinks, held_of, home_key, homes_of, is_controlled, is_held, is_user, less_one, names_node, names_server, place_in, seat_key, seats_of, users_in, is_home};
-ghost use Rattle.hurd_nodes.specs.Shown.{less_old, without_seats, without_server, without_value};
+ghost use Rattle.hurd_nodes.specs.Held.{AllSeated, AreApart, AreTables, held_of, home_key, homes_of, is_controlled, is_held, is_user, less_one, names_node, names_server, place_in, seat_key, seat_value, seats_of, users_in, is_home};
+ghost use Rattle.hurd_nodes.specs.Shown.{less_old, with_home, without_seats, without_server, without_value};
+ghost use Rattle.hurd_nodes.specs.Settle.{any_in};
 
-use crate::seat::{Hold, Homes, Seat};
+use crate::seat::{Hold, Homes, Seat, Seats};
 use hurd_creds::{NodeName, ServerName};
 use hurd_trans_iface::Server;
 use std::alloc::{AllocError, Global};
@@ -21,22 +22,17 @@ pub(crate) fn home_of(homes: &Homes, node: NodeName) -> Option<ServerName>
 }
 
 /// The index of the seat of a server.
-pub(crate) fn place_of_seat<S>(seats: &[Seat<S>], name: ServerName) -> Option<usize>
-    ensures is { result ≡ place_by seat_key name seats.now }
-    ensures below { IfSome result (λ i. i < length seats.now) }
+pub(crate) fn place_of_seat<S>(seats: &Seats<S>, name: ServerName) -> Option<usize>
+    ensures is { result ≡ place_by seat_key name seats.now.entries }
+    ensures below { IfSome result (λ i. i < length seats.now.entries) }
 {
-    for (i, seat) in seats.iter().enumerate() {
-        if name == seat.name {
-            return Some(i);
-        }
-    }
-    None
+    seats.get_index_of(&name)
 }
 
 /// The index of the seat of a node's server.
-pub(crate) fn place_of_server<S>(homes: &Homes, seats: &[Seat<S>], node: NodeName) -> Option<usize>
-    ensures is { result ≡ place_in seats.now (fin.get (homes_of homes.now.entries) node) }
-    ensures below { IfSome result (λ i. i < length seats.now) }
+pub(crate) fn place_of_server<S>(homes: &Homes, seats: &Seats<S>, node: NodeName) -> Option<usize>
+    ensures is { result ≡ place_in seats.now.entries (fin.get (homes_of homes.now.entries) node) }
+    ensures below { IfSome result (λ i. i < length seats.now.entries) }
 {
     match home_of(homes, node) {
         Some(name) => place_of_seat(seats, name),
@@ -91,28 +87,47 @@ pub(crate) fn remove_seats_of(actives: &mut Homes, homes: &Homes, server: Server
     actives.retain(|node, active| { !is_served(homes, *node, server) && server != *active });
 }
 
-/// Takes out the seat of a server, with its box.
-pub(crate) fn remove_seat<S: Drop>(seats: &mut Vec<Seat<S>>, name: ServerName)
-    ensures is { seats_of seats.new.items ≡ fin.remove (seats_of seats.old.items) name }
-    ensures apart { AreApart seat_key seats.old.items → AreApart seat_key seats.new.items }
-    ensures len { vec_len seats.new ≤ vec_len seats.old }
-    ensures capacity { vec_capacity seats.new ≡ vec_capacity seats.old }
+/// Gives a node the home that another has, if it has one. There is room for one more.
+pub(crate) fn put_kin(homes: &mut Homes, node: NodeName, kin: NodeName)
+    requires { 0 < spare homes.old }
+    ensures is { homes_of homes.new.entries ≡ with_home node (fin.get (homes_of homes.old.entries) kin) (homes_of homes.old.entries) }
+    ensures apart { AreApart home_key homes.old.entries → AreApart home_key homes.new.entries }
 {
-    seats.retain(|seat| name != seat.name);
+    if let Some(server) = home_of(homes, kin) {
+        put_home(homes, node, server);
+    }
+}
+
+/// Gives a server a seat, in the place of the one that it has. There is room for one more.
+pub(crate) fn put_seat<S: Drop>(seats: &mut Seats<S>, name: ServerName, seat: Seat<S>)
+    requires { 0 < spare seats.old }
+    ensures is { seats_of seats.new.entries ≡ fin.insert (seats_of seats.old.entries) name (seat_value seat) }
+    ensures apart { AreApart seat_key seats.new.entries }
+{
+    seats.insert(name, seat).unwrap();
+}
+
+/// Takes out the seat of a server, with its box.
+pub(crate) fn remove_seat<S: Drop>(seats: &mut Seats<S>, name: ServerName)
+    ensures is { seats_of seats.new.entries ≡ fin.remove (seats_of seats.old.entries) name }
+    ensures apart { AreApart seat_key seats.new.entries }
+    ensures room { spare seats.old ≤ spare seats.new }
+{
+    seats.swap_remove(&name);
 }
 
 /// Takes out a server: its nodes with what is active on them, wherever it is active itself, and its seat with its box.
 pub(crate) fn remove_server<S: Drop>(
     homes: &mut Homes,
     actives: &mut Homes,
-    seats: &mut Vec<Seat<S>>,
+    seats: &mut Seats<S>,
     server: ServerName,
 )
-    requires { AreTables homes.old.entries actives.old.entries seats.old.items }
-    ensures is { (holds : List _) (room : ℕ) → held_of homes.new.entries actives.new.entries seats.new.items holds room
-        ≡ without_server (held_of homes.old.entries actives.old.entries seats.old.items holds room) server }
-    ensures tables { AreTables homes.new.entries actives.new.entries seats.new.items }
-    ensures room { (spare homes.old ≤ spare homes.new) × (spare actives.old ≤ spare actives.new) × Shrinks seats.old seats.new }
+    requires { AreTables homes.old.entries actives.old.entries seats.old.entries }
+    ensures is { (holds : List _) (room : ℕ) → held_of homes.new.entries actives.new.entries seats.new.entries holds room
+        ≡ without_server (held_of homes.old.entries actives.old.entries seats.old.entries holds room) server }
+    ensures tables { AreTables homes.new.entries actives.new.entries seats.new.entries }
+    ensures room { (spare homes.old ≤ spare homes.new) × (spare actives.old ≤ spare actives.new) × (spare seats.old ≤ spare seats.new) }
 {
     remove_seats_of(actives, homes, server);
     remove_homes_of(homes, server);
@@ -120,12 +135,11 @@ pub(crate) fn remove_server<S: Drop>(
 }
 
 /// Tells the box of a server, if it is there, that it is sent away.
-fn tell_away<S: Server>(seats: &mut Vec<Seat<S>>, server: ServerName)
-    ensures others { fin.remove (seats_of seats.new.items) server ≡ fin.remove (seats_of seats.old.items) server }
-    ensures apart { AreApart seat_key seats.old.items → AreApart seat_key seats.new.items }
-    ensures housed { (homes : _) → AllSeated homes (seats_of seats.old.items) → AllSeated homes (seats_of seats.new.items) }
-    ensures len { vec_len seats.new ≡ vec_len seats.old }
-    ensures capacity { vec_capacity seats.new ≡ vec_capacity seats.old }
+fn tell_away<S: Server>(seats: &mut Seats<S>, server: ServerName)
+    ensures others { fin.remove (seats_of seats.new.entries) server ≡ fin.remove (seats_of seats.old.entries) server }
+    ensures apart { AreApart seat_key seats.old.entries → AreApart seat_key seats.new.entries }
+    ensures housed { (homes : _) → AllSeated homes (seats_of seats.old.entries) → AllSeated homes (seats_of seats.new.entries) }
+    ensures room { spare seats.old ≤ spare seats.new }
 {
     if let Some(i) = place_of_seat(seats, server) {
         seats[i].server.goaway();
@@ -136,14 +150,14 @@ fn tell_away<S: Server>(seats: &mut Vec<Seat<S>>, server: ServerName)
 pub(crate) fn send_away<S: Server>(
     homes: &mut Homes,
     actives: &mut Homes,
-    seats: &mut Vec<Seat<S>>,
+    seats: &mut Seats<S>,
     server: ServerName,
 )
-    requires { AreTables homes.old.entries actives.old.entries seats.old.items }
-    ensures is { (holds : List _) (room : ℕ) → held_of homes.new.entries actives.new.entries seats.new.items holds room
-        ≡ without_server (held_of homes.old.entries actives.old.entries seats.old.items holds room) server }
-    ensures tables { AreTables homes.new.entries actives.new.entries seats.new.items }
-    ensures room { (spare homes.old ≤ spare homes.new) × (spare actives.old ≤ spare actives.new) × Shrinks seats.old seats.new }
+    requires { AreTables homes.old.entries actives.old.entries seats.old.entries }
+    ensures is { (holds : List _) (room : ℕ) → held_of homes.new.entries actives.new.entries seats.new.entries holds room
+        ≡ without_server (held_of homes.old.entries actives.old.entries seats.old.entries holds room) server }
+    ensures tables { AreTables homes.new.entries actives.new.entries seats.new.entries }
+    ensures room { (spare homes.old ≤ spare homes.new) × (spare actives.old ≤ spare actives.new) × (spare seats.old ≤ spare seats.new) }
 {
     tell_away(seats, server);
     remove_server(homes, actives, seats, server);
@@ -153,14 +167,14 @@ pub(crate) fn send_away<S: Server>(
 pub(crate) fn remove_old<S: Server>(
     homes: &mut Homes,
     actives: &mut Homes,
-    seats: &mut Vec<Seat<S>>,
+    seats: &mut Seats<S>,
     old: Option<ServerName>,
 )
-    requires { AreTables homes.old.entries actives.old.entries seats.old.items }
-    ensures is { (holds : List _) (room : ℕ) → held_of homes.new.entries actives.new.entries seats.new.items holds room
-        ≡ less_old (held_of homes.old.entries actives.old.entries seats.old.items holds room) old }
-    ensures tables { AreTables homes.new.entries actives.new.entries seats.new.items }
-    ensures room { (spare homes.old ≤ spare homes.new) × (spare actives.old ≤ spare actives.new) × Shrinks seats.old seats.new }
+    requires { AreTables homes.old.entries actives.old.entries seats.old.entries }
+    ensures is { (holds : List _) (room : ℕ) → held_of homes.new.entries actives.new.entries seats.new.entries holds room
+        ≡ less_old (held_of homes.old.entries actives.old.entries seats.old.entries holds room) old }
+    ensures tables { AreTables homes.new.entries actives.new.entries seats.new.entries }
+    ensures room { (spare homes.old ≤ spare homes.new) × (spare actives.old ≤ spare actives.new) × (spare seats.old ≤ spare seats.new) }
 {
     if let Some(server) = old {
         send_away(homes, actives, seats, server);
@@ -171,16 +185,26 @@ pub(crate) fn remove_old<S: Server>(
 pub(crate) fn reserve_rows<S>(
     homes: &mut Homes,
     actives: &mut Homes,
-    seats: &mut Vec<Seat<S>>,
+    seats: &mut Seats<S>,
 ) -> Result<(), AllocError>
     ensures homes { homes.new.entries ≡ homes.old.entries }
     ensures actives { actives.new.entries ≡ actives.old.entries }
-    ensures seats { seats.new.items ≡ seats.old.items }
-    ensures room { IfOk result (λ u. (0 < spare homes.new) × (0 < spare actives.new) × (vec_len seats.new < vec_capacity seats.new)) }
+    ensures seats { seats.new.entries ≡ seats.old.entries }
+    ensures room { IfOk result (λ u. (0 < spare homes.new) × (0 < spare actives.new) × (0 < spare seats.new)) }
 {
     homes.reserve(1)?;
     actives.reserve(1)?;
     seats.reserve(1)
+}
+
+/// Whether a server is active on this node, if one is given.
+pub(crate) fn is_active_on(actives: &Homes, server: ServerName, node: Option<NodeName>) -> bool
+    ensures { result ≡ true → any_in (λ n q. same_name server q) (homes_of actives.now.entries) ≡ true }
+{
+    match node {
+        Some(node) => is_served(actives, node, server),
+        None => false,
+    }
 }
 
 /// Whether a server is active on a node.

@@ -5,11 +5,14 @@ use indexmap::IndexMap;
 /// The server that each of some nodes has: the one that serves it, or the one that is active on it.
 pub(crate) type Homes = IndexMap<NodeName, ServerName>;
 
-/// A server in its place: its name, the name of its root, its ids, and its box.
+/// The seat of each server.
+pub(crate) type Seats<S> = IndexMap<ServerName, Seat<S>>;
+
+/// A server in its place: the name of its root, the node on which it was attached, if on one, its ids, and its box.
 #[derive(Drop)]
 pub(crate) struct Seat<S> {
-    pub(crate) name: ServerName,
     pub(crate) root: NodeName,
+    pub(crate) at: Option<NodeName>,
     pub(crate) ids: Ids,
     pub(crate) server: S,
 }

@@ -6,7 +6,7 @@ ghost use Rattle.hurd_trans_iface.specs.Meaning.{Begins};
 ghost use Rattle.hurd_nodes.specs.Held.{holds_of};
 
 use crate::nodes::Nodes;
-use crate::search::{put_home, remove_home, remove_old, reserve_rows, send_away};
+use crate::search::{put_home, put_seat, remove_home, remove_old, reserve_rows, send_away};
 use crate::seat::{Place, Seat};
 use hurd_creds::{Errno, Ids, NodeName, ServerName};
 use hurd_trans_iface::Server;
@@ -45,12 +45,13 @@ impl<S: Server> Nodes<S> {
         server.begin_root(place.root, place.owner, place.group, place.mode);
         put_home(&mut self.homes, place.root, place.name);
         put_home(&mut self.actives, place.seat, place.name);
-        self.seats.push_reserved(Seat {
-            name: place.name,
+        let seat = Seat {
             root: place.root,
+            at: Some(place.seat),
             ids,
             server,
-        });
+        };
+        put_seat(&mut self.seats, place.name, seat);
         Ok(())
     }
 

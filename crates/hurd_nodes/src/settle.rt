@@ -1,9 +1,10 @@
 //! What is named from outside, and what goes when nothing keeps it any more.
-ghost use Rattle.std.specs.Prelude.{◌≡◌, ◌≤◌, ◌<◌, ◌-◌, true, false, not, ◌&&◌, is_some, [], ◌∷◌, ◌++◌, None, IfSome, OnOk, OnErr};
+ghost use Rattle.std.specs.Prelude.{◌≡◌, ◌≤◌, ◌<◌, ◌-◌, true, false, not, ◌&&◌, ◌||◌, is_some, [], ◌∷◌, ◌++◌, None, IfSome, OnOk, OnErr};
 ghost use Rattle.std.specs.List.{All, list_any};
 ghost use Rattle.std.specs.FinMap as fin;
 ghost use Rattle.hurd_nodes.specs.Shown.{out_node, without_server, shown, header_in, HideNothing, forgotten};
-ghost use Rattle.hurd_nodes.specs.Held.{holds_of, homes_of, less_one, mean, seats_of, with_holds, with_seats};
+ghost use Rattle.hurd_creds.specs.Names.{same_name};
+ghost use Rattle.hurd_nodes.specs.Held.{holds_of, homes_of, is_held, less_one, mean, seats_of, with_holds, with_seats};
 ghost use Rattle.hurd_trans_iface.specs.Nodes.{is_entered, is_entered_at};
 ghost use Rattle.hurd_nodes.specs.Look.{Goes, HomedStay, IsLook, NamelessStay, ServersStay};
 ghost use Rattle.hurd_nodes.specs.Settle.{node_stays, outside_of, server_stays, settle, sweep};
@@ -12,10 +13,10 @@ ghost use Rattle.hurd_nodes.specs.Parts.{TakesOut};
 use crate::asking::is_dir;
 use crate::nodes::{BOOT_NAME, Nodes};
 use crate::search::{
-    has_held, is_active, is_controlled, is_held, place_of_server, remove_hold, remove_home,
-    remove_server,
+    has_held, home_of, is_active, is_active_on, is_controlled, is_held, place_of_seat, remove_hold,
+    remove_home, remove_server,
 };
-use crate::seat::{Hold, Homes, Look, Seat};
+use crate::seat::{Hold, Homes, Look, Seats};
 use hurd_creds::{Attrs, NodeName, ServerName};
 use hurd_trans_iface::Server;
 use std::alloc::AllocError;
@@ -90,15 +91,17 @@ impl<S: Server> Nodes<S> {
     }
 
     /// A look at the nodes that no entry names of the servers of these seats.
-    fn unkept_nameless(&self, seats: &[Seat<S>]) -> Look
+    fn unkept_nameless(&self, seats: &Seats<S>) -> Look
         ensures { let o = outside_of self.now.holds in let h = shown S.meaning self.now in
-            IsLook o h (All (λ x. NamelessStay o h (S.meaning x.server)) seats.now) result }
+            IsLook o h (All (λ x. NamelessStay o h (S.meaning x.1.server)) seats.now.entries) result }
     {
-        for seat in seats {
-            match self.unkept_of(&seat.server) {
-                Look::AllStay => {}
-                Look::Leaves(node) => return Look::Leaves(node),
-                Look::Untold => return Look::Untold,
+        for i in 0..seats.len() {
+            if let Some((_, seat)) = seats.get_index(i) {
+                match self.unkept_of(&seat.server) {
+                    Look::AllStay => {}
+                    Look::Leaves(node) => return Look::Leaves(node),
+                    Look::Untold => return Look::Untold,
+                }
             }
         }
         Look::AllStay
@@ -148,14 +151,16 @@ impl<S: Server> Nodes<S> {
     }
 
     /// The first server of these seats that doesn't stay.
-    fn unkept_server(&self, seats: &[Seat<S>]) -> Option<ServerName>
+    fn unkept_server(&self, seats: &Seats<S>) -> Option<ServerName>
         ensures found { IfSome result (λ s. (server_stays (outside_of self.now.holds) (shown S.meaning self.now) s ≡ false)
-            × (is_some (fin.get (seats_of seats.now) s) ≡ true)) }
-        ensures none { result ≡ None → list_any (λ x. not (server_stays (outside_of self.now.holds) (shown S.meaning self.now) x.name)) seats.now ≡ false }
+            × (is_some (fin.get (seats_of seats.now.entries) s) ≡ true)) }
+        ensures none { result ≡ None → list_any (λ x. not (server_stays (outside_of self.now.holds) (shown S.meaning self.now) x.0)) seats.now.entries ≡ false }
     {
-        for seat in seats {
-            if !self.server_stays(seat.name) {
-                return Some(seat.name);
+        for i in 0..seats.len() {
+            if let Some((name, seat)) = seats.get_index(i) {
+                if !self.server_stays(*name, seat.at) {
+                    return Some(*name);
+                }
             }
         }
         None
@@ -165,14 +170,24 @@ impl<S: Server> Nodes<S> {
     fn node_stays(&self, node: NodeName) -> bool
         ensures { result ≡ node_stays (outside_of self.now.holds) (shown S.meaning self.now) node }
     {
-        let Some(i) = place_of_server(&self.homes, &self.seats, node) else {
+        let Some(server) = home_of(&self.homes, node) else {
+            return false;
+        };
+        let Some(i) = place_of_seat(&self.seats, server) else {
             return false;
         };
         let seat = &self.seats[i];
-        if !self.server_stays(seat.name) {
+        if !self.is_named(node, seat.root) {
             return false;
         }
-        if node == seat.root {
+        self.server_stays(server, seat.at)
+    }
+
+    /// Whether a node is this root, an entry names it, or it is named from outside.
+    fn is_named(&self, node: NodeName, root: NodeName) -> bool
+        ensures { result ≡ (same_name node root || (is_entered_at (fin.get (shown S.meaning self.now).nodes node) || is_held self.now.holds node)) }
+    {
+        if node == root {
             return true;
         }
         if self.is_entered(node) {
@@ -181,11 +196,15 @@ impl<S: Server> Nodes<S> {
         is_held(&self.holds, node)
     }
 
-    /// Whether a server stays: the boot server, one that is controlled, one that is active on a node, and one that has a node named from outside.
-    fn server_stays(&self, server: ServerName) -> bool
+    /// Whether a server stays: the boot server, one that is active on a node, one that is controlled, and one that has a node named from outside. First is looked at the
+    /// node on which it was attached, if one is given; all on which servers are active only where it isn't active there.
+    fn server_stays(&self, server: ServerName, at: Option<NodeName>) -> bool
         ensures { result ≡ server_stays (outside_of self.now.holds) (shown S.meaning self.now) server }
     {
         if server == BOOT_NAME {
+            return true;
+        }
+        if is_active_on(&self.actives, server, at) {
             return true;
         }
         if is_controlled(&self.holds, server) {

@@ -1,11 +1,12 @@
-use Rattle.std.proofs.Common.{◌≡◌, [], refl, ap, ◌∙◌}
+use Rattle.std.proofs.Common.{◌≡◌, refl, ap, ◌∙◌}
+use Rattle.std.specs.Prelude.{Some}
 use Rattle.std.specs.FinMap as fin
 use Rattle.hurd_trans_iface.proofs.Beginnings.{begun-empty, begun-rootless}
 use Rattle.hurd_nodes.specs.declared.seat.Seat.{Seat}
 use Rattle.hurd_nodes.specs.Held.{Held, held_of, homes_of, seat_value, seats_of, spare_of}
 use Rattle.hurd_nodes.specs.Shown.{attached, begun_info, begun_root, less_old, shown, without_server}
-use Rattle.hurd_nodes.proofs.AttachLaws.{flat-same, attached-shown, attached-hides, seat-pushed, seat-apart, taken-old, hides-old, none-old}
-use Rattle.hurd_nodes.proofs.SeatedLaws.{seated-pushed}
+use Rattle.hurd_nodes.proofs.AttachLaws.{flat-same, attached-shown, attached-hides, taken-old, hides-old, none-old}
+use Rattle.hurd_nodes.proofs.SeatedLaws.{seated-more}
 use Rattle.hurd_nodes.proofs.nodes.Nodes.attach.Given as given
 use Rattle.hurd_nodes.proofs.nodes.Nodes.attach.Goals as goal
 
@@ -19,53 +20,46 @@ pub remove_old-requires : goal.remove_old-requires
 remove_old-requires g c = rw (c.reserve_rows.ensures.homes, c.reserve_rows.ensures.actives, c.reserve_rows.ensures.seats) c.self.invariant
 
 -- the new seat
-abbrev new : (g : given.Over) (c : goal.After-push_reserved g) → Seat g.row.S.Denot
-new g c = record { name = c.args.place.name; root = c.args.place.root; ids = c.args.ids; server = c.begin_root.new.self }
+abbrev new : (g : given.Over) (c : goal.After-put_seat g) → Seat g.row.S.Denot
+new g c = record { root = c.args.place.root; at = Some c.args.place.seat; ids = c.args.ids; server = c.begin_root.new.self }
 
 -- what is held, and what is left of it without the server that leaves
-abbrev held : (g : given.Over) (c : goal.After-push_reserved g) → Held g.row.S.Denot
-held g c = held_of c.self.inside.homes.entries c.self.inside.actives.entries c.self.inside.seats.items c.self.inside.holds.items (spare_of c.self.inside.holds)
+abbrev held : (g : given.Over) (c : goal.After-put_seat g) → Held g.row.S.Denot
+held g c = held_of c.self.inside.homes.entries c.self.inside.actives.entries c.self.inside.seats.entries c.self.inside.holds.items (spare_of c.self.inside.holds)
 
-abbrev left : (g : given.Over) (c : goal.After-push_reserved g) → Held g.row.S.Denot
+abbrev left : (g : given.Over) (c : goal.After-put_seat g) → Held g.row.S.Denot
 left g c = less_old (held g c) c.args.instead
 
 -- as the tables have it
-tables_left : (g : given.Over) (c : goal.After-push_reserved g)
-    → held_of c.remove_old.new.homes.entries c.remove_old.new.actives.entries c.remove_old.new.seats.items c.self.inside.holds.items (spare_of c.self.inside.holds) ≡ left g c
+tables_left : (g : given.Over) (c : goal.After-put_seat g)
+    → held_of c.remove_old.new.homes.entries c.remove_old.new.actives.entries c.remove_old.new.seats.entries c.self.inside.holds.items (spare_of c.self.inside.holds) ≡ left g c
 tables_left g c =
     c.remove_old.ensures.is c.self.inside.holds.items (spare_of c.self.inside.holds)
     ∙ rw (c.reserve_rows.ensures.homes, c.reserve_rows.ensures.actives, c.reserve_rows.ensures.seats) refl
 
-tables_less : (g : given.Over) (c : goal.After-push_reserved g)
-    → held_of c.send_away.new.homes.entries c.send_away.new.actives.entries c.send_away.new.seats.items c.self.inside.holds.items (spare_of c.self.inside.holds) ≡ without_server (left g c) c.args.place.name
+tables_less : (g : given.Over) (c : goal.After-put_seat g)
+    → held_of c.send_away.new.homes.entries c.send_away.new.actives.entries c.send_away.new.seats.entries c.self.inside.holds.items (spare_of c.self.inside.holds) ≡ without_server (left g c) c.args.place.name
 tables_less g c =
     c.send_away.ensures.is c.self.inside.holds.items (spare_of c.self.inside.holds) ∙ ap (λ (t : Held g.row.S.Denot). without_server t c.args.place.name) (tables_left g c)
 
--- what was taken out of the seats
-out : (g : given.Over) (c : goal.After-push_reserved g) → seats_of c.send_away.new.seats.items ≡ fin.remove (seats_of c.remove_old.new.seats.items) c.args.place.name
-out g c = ap (λ (t : Held g.row.S.Denot). t.seats) (c.send_away.ensures.is [] 0)
-
 pub invariant_of-self-2 : goal.invariant_of-self-2
 invariant_of-self-2 g c =
-    let tables = c.send_away.ensures.tables in
     record {
       homes_apart = c.put_home.ensures.apart;
       actives_apart = c.put_home-2.ensures.apart;
-      seats_apart = rw c.push_reserved.ensures.items (seat-apart c.remove_old.new.seats.items c.send_away.new.seats.items (new g c) (out g c) tables.seats_apart);
-      housed = rw (c.put_home.ensures.is, c.push_reserved.ensures.items) (seated-pushed _ c.remove_old.new.seats.items c.send_away.new.seats.items (new g c) c.args.place.root (out g c) tables.housed);
+      seats_apart = c.put_seat.ensures.apart;
+      housed = rw (c.put_home.ensures.is, c.put_seat.ensures.is) (seated-more _ _ c.send_away.ensures.tables.housed c.args.place.root c.args.place.name (seat_value (new g c)));
     }
 
 -- the tables with it
 
-pushed : (g : given.Over) (c : goal.After-push_reserved g) → seats_of c.push_reserved.new.self.items ≡ fin.insert (fin.remove (left g c).seats c.args.place.name) c.args.place.name (seat_value (new g c))
-pushed g c =
-    ap seats_of c.push_reserved.ensures.items ∙ seat-pushed c.remove_old.new.seats.items c.send_away.new.seats.items (new g c) (out g c)
-    ∙ ap (λ (t : Held g.row.S.Denot). fin.insert (fin.remove t.seats c.args.place.name) c.args.place.name (seat_value (new g c))) (tables_left g c)
+pushed : (g : given.Over) (c : goal.After-put_seat g) → seats_of c.put_seat.new.seats.entries ≡ fin.insert (fin.remove (left g c).seats c.args.place.name) c.args.place.name (seat_value (new g c))
+pushed g c = c.put_seat.ensures.is ∙ ap (λ (t : Held g.row.S.Denot). fin.insert t.seats c.args.place.name (seat_value (new g c))) (tables_less g c)
 
-housed : (g : given.Over) (c : goal.After-push_reserved g) → homes_of c.put_home.new.homes.entries ≡ fin.insert (without_server (left g c) c.args.place.name).homes c.args.place.root c.args.place.name
+housed : (g : given.Over) (c : goal.After-put_seat g) → homes_of c.put_home.new.homes.entries ≡ fin.insert (without_server (left g c) c.args.place.name).homes c.args.place.root c.args.place.name
 housed g c = c.put_home.ensures.is ∙ ap (λ (t : Held g.row.S.Denot). fin.insert t.homes c.args.place.root c.args.place.name) (tables_less g c)
 
-seated : (g : given.Over) (c : goal.After-push_reserved g) → homes_of c.put_home-2.new.homes.entries ≡ fin.insert (without_server (left g c) c.args.place.name).actives c.args.place.seat c.args.place.name
+seated : (g : given.Over) (c : goal.After-put_seat g) → homes_of c.put_home-2.new.homes.entries ≡ fin.insert (without_server (left g c) c.args.place.name).actives c.args.place.seat c.args.place.name
 seated g c = c.put_home-2.ensures.is ∙ ap (λ (t : Held g.row.S.Denot). fin.insert t.actives c.args.place.seat c.args.place.name) (tables_less g c)
 
 pub returns-clause-shown : goal.returns-clause-shown

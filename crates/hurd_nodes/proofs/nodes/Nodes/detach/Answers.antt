@@ -7,7 +7,7 @@ use Rattle.hurd_nodes.proofs.nodes.Nodes.detach.Goals as goal
 
 -- what is held in the end is what was held, without the server
 gone : (g : given.Over) (c : goal.After-send_away g)
-    → held_of c.send_away.new.homes.entries c.send_away.new.actives.entries c.send_away.new.seats.items c.self.inside.holds.items (spare_of c.self.inside.holds) ≡ without_server c.args.self.now c.args.server
+    → held_of c.send_away.new.homes.entries c.send_away.new.actives.entries c.send_away.new.seats.entries c.self.inside.holds.items (spare_of c.self.inside.holds) ≡ without_server c.args.self.now c.args.server
 gone g c = c.send_away.ensures.is c.self.inside.holds.items (spare_of c.self.inside.holds) ∙ ap (λ (t : Held g.row.S.Denot). without_server t c.args.server) c.self.view_is
 
 pub returns-clause-shown : goal.returns-clause-shown

@@ -9,10 +9,10 @@ use Rattle.hurd_nodes.proofs.nodes.Nodes.is_root.Goals as goal
 
 pub returns-in-Some : goal.returns-in-Some
 returns-in-Some g c =
-    let at = rw c.deref.ensures.value at c.in-Some.ensures.is in
+    let at = c.in-Some.ensures.is in
     let f = g.S.Server.meaning in
     let homes = homes_of c.self.inside.homes.entries in
-    let ss = c.self.inside.seats.items in
+    let ss = c.self.inside.seats.entries in
     let x = c.index.result.now in
     let p = seat-at f ss (fin.get homes c.args.node) c.in-Some.i x at c.index.ensures in
     let e = mean_seat f (seat_value x) in
@@ -20,8 +20,8 @@ returns-in-Some g c =
 
 pub returns-in-None : goal.returns-in-None
 returns-in-None g c =
-    let at = rw c.deref.ensures.value at c.in-None.ensures.is in
+    let at = c.in-None.ensures.is in
     let f = g.S.Server.meaning in
     let homes = homes_of c.self.inside.homes.entries in
-    let seats = mean f (seats_of c.self.inside.seats.items) in
-    rw (← c.self.view_is) (sym (root-untold (seen homes seats) c.args.node (server-untold homes seats c.args.node (unplaced f c.self.inside.seats.items (fin.get homes c.args.node) at))))
+    let seats = mean f (seats_of c.self.inside.seats.entries) in
+    rw (← c.self.view_is) (sym (root-untold (seen homes seats) c.args.node (server-untold homes seats c.args.node (unplaced f c.self.inside.seats.entries (fin.get homes c.args.node) at))))

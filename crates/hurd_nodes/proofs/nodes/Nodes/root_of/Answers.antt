@@ -7,12 +7,12 @@ use Rattle.hurd_nodes.proofs.nodes.Nodes.root_of.Goals as goal
 
 pub returns-in-Some : goal.returns-in-Some
 returns-in-Some g c =
-    let at = rw c.deref.ensures.value at c.in-Some.ensures.is in
+    let at = c.in-Some.ensures.is in
     rw (← c.self.view_is)
-    (sym (ap (λ (o : Option ServerInfo). option_map (λ (i : ServerInfo). i.root) o) (info-found g.S.Server.meaning c.self.inside.seats.items c.args.server c.in-Some.i c.index.result.now at c.index.ensures)))
+    (sym (ap (λ (o : Option ServerInfo). option_map (λ (i : ServerInfo). i.root) o) (info-found g.S.Server.meaning c.self.inside.seats.entries c.args.server c.in-Some.i c.index.result.now at c.index.ensures)))
 
 pub returns-in-None : goal.returns-in-None
 returns-in-None g c =
-    let at = rw c.deref.ensures.value at c.in-None.ensures.is in
+    let at = c.in-None.ensures.is in
     rw (← c.self.view_is)
-    (sym (ap (λ (o : Option ServerInfo). option_map (λ (i : ServerInfo). i.root) o) (info-absent g.S.Server.meaning c.self.inside.seats.items c.args.server at)))
+    (sym (ap (λ (o : Option ServerInfo). option_map (λ (i : ServerInfo). i.root) o) (info-absent g.S.Server.meaning c.self.inside.seats.entries c.args.server at)))

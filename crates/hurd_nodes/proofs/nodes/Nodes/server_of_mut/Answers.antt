@@ -1,27 +1,26 @@
-use Rattle.std.proofs.Common.{◌≡◌, sym, ◌∙◌, ap, refl, inr}
-use Rattle.std.specs.Prelude.{Option, Some, slice_set}
+use Rattle.std.proofs.Common.{◌≡◌, sym, ◌∙◌, ap, inr}
+use Rattle.std.specs.Prelude.{Option, Some}
 use Rattle.std.specs.FinMap as fin
+use Rattle.indexmap.specs.IndexMap.{set_value_at}
 use Rattle.hurd_creds.specs.declared.name.Name.{Name}
-use Rattle.hurd_creds.proofs.KeyedLaws.{get-found, keyed-changed}
-use Rattle.hurd_nodes.specs.Held.{Held, Seated, spare_of, held_of, put_box, put_by, seat_key, seat_value, seats_of, with_seats, with_server_of}
-use Rattle.hurd_nodes.proofs.TableLaws.{apart-set}
-use Rattle.hurd_nodes.proofs.SeatLaws.{box-found, placed, unplaced, same_read}
+use Rattle.hurd_nodes.specs.Held.{Held, Seated, spare_of, held_of, put_box, put_by, seat_value, seats_of, with_seats, with_server_of}
+use Rattle.hurd_nodes.proofs.RowLaws.{apart-kept}
+use Rattle.hurd_nodes.proofs.SeatLaws.{box-found, placed, same_read, seat-changed, seat-found, unplaced}
 use Rattle.hurd_nodes.proofs.SeatedLaws.{seated-set}
 use Rattle.hurd_nodes.proofs.nodes.Nodes.server_of_mut.Goals as goal
 
 pub returns-in-Some : goal.returns-in-Some
-unfolding seats_of
 returns-in-Some g c =
     let s = c.index_mut.result.now in
-    let ss = c.self.inside.seats.items in
+    let ss = c.self.inside.seats.entries in
     let spare = spare_of c.self.inside.holds in
     let old = held_of c.self.inside.homes.entries c.self.inside.actives.entries ss c.self.inside.holds.items spare in
-    let at = rw c.deref.ensures.value at c.in-Some.ensures.is in
+    let at = c.in-Some.ensures.is in
     let p = placed ss _ _ at in
     let n = p.0 in
-    let h : fin.get old.seats n ≡ Some (seat_value s) = get-found seat_key seat_value n ss c.in-Some.i s p.2 c.index_mut.ensures.value in
-    let eq : (w : g.row.S.Denot) → held_of c.self.inside.homes.entries c.self.inside.actives.entries (slice_set ss c.in-Some.i (record s { server = w })) c.self.inside.holds.items spare ≡ with_server_of c.args.self.now c.args.node w =
-    λ w. ap (with_seats old) (keyed-changed seat_key seat_value n ss c.in-Some.i s (record s { server = w }) p.2 c.index_mut.ensures.value refl)
+    let h : fin.get old.seats n ≡ Some (seat_value s) = seat-found ss n c.in-Some.i s p.2 c.index_mut.ensures.value in
+    let eq : (w : g.row.S.Denot) → held_of c.self.inside.homes.entries c.self.inside.actives.entries (set_value_at ss c.in-Some.i (record s { server = w })) c.self.inside.holds.items spare ≡ with_server_of c.args.self.now c.args.node w =
+    λ w. ap (with_seats old) (seat-changed ss n c.in-Some.i s p.2 c.index_mut.ensures.value (record s { server = w }))
     ∙ sym (ap (λ (o : Option (Seated g.row.S.Denot)). with_seats old (put_box old.seats n w o)) h)
     ∙ sym (ap (λ (o : Option Name). with_seats old (put_by old.seats o w)) p.1)
     ∙ ap (λ (t : Held g.row.S.Denot). with_server_of t c.args.node w) c.self.view_is in (
@@ -34,11 +33,11 @@ returns-in-Some g c =
 
 pub returns-in-None : goal.returns-in-None
 returns-in-None g c =
-    let at = rw c.deref.ensures.value at c.in-None.ensures.is in (
+    let at = c.in-None.ensures.is in (
       ap inr c.self.view_is,
       record {
         lends = tt;
-        there = rw (← c.self.view_is) (unplaced g.S.Server.meaning c.self.inside.seats.items _ at);
+        there = rw (← c.self.view_is) (unplaced g.S.Server.meaning c.self.inside.seats.entries _ at);
       },
     )
 
@@ -46,6 +45,6 @@ pub invariant_of-self-lent : goal.invariant_of-self-lent
 invariant_of-self-lent g c = λ w. record {
   homes_apart = c.self.invariant.homes_apart;
   actives_apart = c.self.invariant.actives_apart;
-  seats_apart = apart-set seat_key c.self.inside.seats.items c.in-Some.i c.index_mut.result.now (record c.index_mut.result.now { server = w }) c.index_mut.ensures.value refl c.self.invariant.seats_apart;
-  housed = seated-set _ c.self.inside.seats.items c.in-Some.i c.index_mut.result.now (record c.index_mut.result.now { server = w }) c.index_mut.ensures.value refl c.self.invariant.housed;
+  seats_apart = apart-kept c.self.inside.seats.entries c.in-Some.i (record c.index_mut.result.now { server = w }) c.self.invariant.seats_apart;
+  housed = seated-set _ c.self.inside.seats.entries c.in-Some.i (record c.index_mut.result.now { server = w }) c.self.invariant.housed;
 }

@@ -1,11 +1,11 @@
-use Rattle.std.proofs.Common.{◌≡◌, ◌∙◌, ap, refl, ℕ}
+use Rattle.std.proofs.Common.{◌≡◌, ◌∙◌, ap, ℕ}
 use Rattle.hurd_creds.proofs.KeyedLaws.{keyed-nothing}
 use Rattle.hurd_trans_iface.specs.Meaning.{begin_root_after}
 use Rattle.hurd_trans_iface.proofs.Beginnings.{begun-empty, begun-rootless}
-use Rattle.hurd_nodes.specs.Held.{homes_of, seats_of, home_key, home_value, seat_key, seat_value}
+use Rattle.hurd_nodes.specs.Held.{homes_of, seats_of, home_key, home_value, row_value, seat_key}
 use Rattle.hurd_nodes.specs.Shown.{boot_name, booted}
-use Rattle.hurd_nodes.proofs.BootLaws.{boot-ids, boot-shown, boot-hides, keyed-one}
-use Rattle.hurd_nodes.proofs.SeatedLaws.{seated-first}
+use Rattle.hurd_nodes.proofs.BootLaws.{boot-ids, boot-shown, boot-hides}
+use Rattle.hurd_nodes.proofs.SeatedLaws.{seated-more, seated-none}
 use Rattle.hurd_nodes.proofs.nodes.Nodes.starting_with.Goals as goal
 use Rattle.hurd_nodes.proofs.nodes.Nodes.starting_with.Given as given
 
@@ -19,22 +19,22 @@ pub returns-clause-shown : goal.returns-clause-shown
 unfolding homes_of seats_of
 returns-clause-shown g c =
     let f = g.S.Server.meaning in
-    rw (c.put_home.ensures.is, c.push_reserved.ensures.items, c.in-Ok-with_capacity.ensures.empty, c.in-Ok-with_capacity-2.ensures.items, c.new-2.ensures.empty)
-    (rw (keyed-one seat_key seat_value _, keyed-nothing home_key home_value)
+    rw (c.put_home.ensures.is, c.put_seat.ensures.is, c.in-Ok-with_capacity.ensures.empty, c.in-Ok-with_capacity-2.ensures.empty, c.new-2.ensures.empty)
+    (rw (keyed-nothing seat_key row_value, keyed-nothing home_key home_value)
     (boot-shown (f c.args.boot) (begun-empty c.requires.0 (f c.args.boot) c.requires.1) f c.begin_root.new.self c.in-Ok.ids (begun g c) (boot-ids c.in-Ok.ids c.in-Ok.ensures.sets)))
 
 pub returns-clause-hidden : goal.returns-clause-hidden
 unfolding homes_of seats_of
 returns-clause-hidden g c =
     let f = g.S.Server.meaning in
-    rw (c.put_home.ensures.is, c.push_reserved.ensures.items, c.in-Ok-with_capacity.ensures.empty, c.in-Ok-with_capacity-2.ensures.items)
-    (rw (keyed-one seat_key seat_value _, keyed-nothing home_key home_value)
+    rw (c.put_home.ensures.is, c.put_seat.ensures.is, c.in-Ok-with_capacity.ensures.empty, c.in-Ok-with_capacity-2.ensures.empty)
+    (rw (keyed-nothing seat_key row_value, keyed-nothing home_key home_value)
     (boot-hides (f c.args.boot) (begun-empty c.requires.0 (f c.args.boot) c.requires.1) f c.begin_root.new.self c.in-Ok.ids (begun g c) (boot-ids c.in-Ok.ids c.in-Ok.ensures.sets)))
 
 pub invariant_of-result : goal.invariant_of-result
 invariant_of-result g c = record {
   homes_apart = c.put_home.ensures.apart;
   actives_apart = rw c.new-2.ensures.empty tt;
-  seats_apart = rw (c.push_reserved.ensures.items, c.in-Ok-with_capacity-2.ensures.items) (refl, tt);
-  housed = rw (c.put_home.ensures.is, c.push_reserved.ensures.items, c.in-Ok-with_capacity.ensures.empty, c.in-Ok-with_capacity-2.ensures.items) (seated-first _ boot_name);
+  seats_apart = c.put_seat.ensures.apart;
+  housed = rw (c.put_home.ensures.is, c.put_seat.ensures.is, c.in-Ok-with_capacity.ensures.empty) (seated-more _ _ (seated-none _) boot_name boot_name _);
 }

@@ -41,7 +41,7 @@ returns-in-Some-unkept_server-clause-taken g c =
     let f = g.S.Server.meaning in
     let s = c.in-Some-unkept_server.server in
     let found = c.in-Some-unkept_server.ensures.found in
-    let there : is_some (fin.get c.args.self.now.seats s) ≡ true = rw (← c.self.view_is) (rw c.deref.ensures.value at found.1) in
+    let there : is_some (fin.get c.args.self.now.seats s) ≡ true = rw (← c.self.view_is) found.1 in
     λ yes.
     rw (c.take_server.ensures, taken-server f c.args.self.now s)
     (takes-server (outside_of c.args.self.now.holds) (shown f c.args.self.now) s found.0 (server-there f c.args.self.now.seats s there))
@@ -56,8 +56,8 @@ returns-clause-end g c =
     let f = g.S.Server.meaning in
     let homes = rw (← c.self.view_is) at (c.in_default.ensures.none refl) in
     let actives = rw (← c.self.view_is) at (c.in_default-unkept_node.ensures.none refl) in
-    let servers = rw (← c.self.view_is, c.deref.ensures.value) at (c.in_default-unkept_server.ensures.none refl) in
+    let servers = rw (← c.self.view_is) at (c.in_default-unkept_server.ensures.none refl) in
     let o = outside_of c.self.inside.holds.items in
-    let h = flat (homes_of c.self.inside.homes.entries) (homes_of c.self.inside.actives.entries) (mean f (seats_of c.self.inside.seats.items)) in
-    let serves = seats-stay f c.self.inside.seats.items (server_stays o h) servers in
-    λ no. rw (← c.self.view_is) (all-kept f c.self.inside.homes.entries c.self.inside.actives.entries c.self.inside.seats.items o (homes serves) actives serves)
+    let h = flat (homes_of c.self.inside.homes.entries) (homes_of c.self.inside.actives.entries) (mean f (seats_of c.self.inside.seats.entries)) in
+    let serves = seats-stay f c.self.inside.seats.entries (server_stays o h) servers in
+    λ no. rw (← c.self.view_is) (all-kept f c.self.inside.homes.entries c.self.inside.actives.entries c.self.inside.seats.entries o (homes serves) actives serves)
