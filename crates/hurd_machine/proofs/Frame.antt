@@ -1,11 +1,11 @@
 -- What changes leave as it was.
 use Rattle.std.proofs.Common.{◌≡◌, ◌≢◌, ◌⊎◌, ℕ, Bool, false, List, [], ◌∷◌, ◌++◌, Some, length, sym, refl, ◌∙◌, ap, ap₂, subst, inl, inr, arith}
 use Rattle.std.specs.Option.{option_map}
-use Rattle.std.specs.FinMap.{get}
 use Rattle.hurd_creds.specs.declared.name.Name.{Name}
 use Rattle.hurd_creds.proofs.NameLaws.{same_name-apart, get_apart, edit_apart as edit_other}
 use Rattle.hurd_trans_iface.specs.Nodes.{with_header, with_body, is_empty_dir}
-use Rattle.hurd_nodes.specs.Shown.{with_text}
+use Rattle.hurd_creds.specs.NameMaps.{NameMap, edit}
+use Rattle.hurd_nodes.specs.Shown.{ServerInfo, with_text}
 use Rattle.hurd_ports.specs.declared.table.Right.{Right}
 use Rattle.hurd_ports.specs.declared.table.Right.TheVariants.{Io, Control, Start}
 use Rattle.hurd_ports.specs.Tables.{Task, rights_of, names_open}
@@ -14,7 +14,7 @@ use Rattle.hurd_ports.proofs.TaskLaws.{edit-apart, edit-length}
 use Rattle.hurd_machine.specs.World.{World, task_at, open_at, header_at, body_at, home_at, server_at}
 use Rattle.hurd_nodes.specs.Weights.{one_if, count_list}
 use Rattle.hurd_machine.specs.Sight.{Part, AttrOf, EmptyOf, BodyOf, OpenOf, OptionsOf, UsersOf, TaskOf, Sees, part, IsGone, is_on, holders, users, AnEmpty, ABody, AnOpen, AnOptions, AUsers, ATask}
-use Rattle.hurd_machine.specs.Change.{Change, EditHeader, EditBody, MakeNode, EditOpen, MakeOpen, EditTask, Send, Attach, DropServer, Unseat, SetText, Settle, settle, apply, apply_all}
+use Rattle.hurd_machine.specs.Change.{Change, EditHeader, EditBody, MakeNode, EditOpen, MakeOpen, EditTask, Send, Attach, DropServer, Unseat, SetText, Settle, settle, apply, apply_all, next_nodes, next_homes, next_opens, next_tasks}
 use Rattle.hurd_machine.specs.Sound.{Below, Coherent, AtRest, Sound}
 use Rattle.hurd_machine.proofs.Nodes.{attr_same, header_in, body_in, empty_in, header-with_body, body-with_header, edit_keeps, KeepsEmptiness, empty-kept}
 use Rattle.hurd_machine.proofs.Tasks.{count_edit, count_named, count_sent}
@@ -87,6 +87,29 @@ IsPlain (Unseat n) = ⊥
 IsPlain Settle = ⊥
 IsPlain c = Unit {0}
 
+-- what such a change leaves of the world, part by part
+
+abbrev next_servers : Change → NameMap ServerInfo → NameMap ServerInfo
+next_servers (SetText s text) m = edit s (with_text text) m
+next_servers c m = m
+
+abbrev pub next_world : Change → World → World
+next_world c w = record {
+  nodes = next_nodes c w.nodes;
+  homes = next_homes c w.homes;
+  actives = w.actives;
+  servers = next_servers c w.servers;
+  opens = next_opens c w.opens;
+  tasks = next_tasks c w.tasks;
+}
+
+pub next_is : (c : Change) (w : World) → IsPlain c → apply c w ≡ next_world c w
+next_is (Attach s at i node) w p = absurd p
+next_is (DropServer s) w p = absurd p
+next_is (Unseat n) w p = absurd p
+next_is Settle w p = absurd p
+next_is c w p = refl
+
 pub not_on : (w : World) (s : Name) (r : Right) (T : Part → Type 0) → Covers T w r → (T (UsersOf s) → ⊥) → is_on w s r ≡ false
 not_on w s (Io r) T i h = not_home s (home_at w r.node) (λ e. h (i.1 s e))
 not_on w s (Control q) T i h = refl
@@ -101,126 +124,86 @@ module _ (w : World) (coherent : Coherent w) (T : Part → Type 0) where
   avoids : (p q : Part) → T q → (T p → ⊥) → p ≢ q
   avoids p q i h e = h (subst T (sym e) i)
 
-  header_kept : (c : Change) → IsPlain c → (n : Name) → Within T w c → (T (AttrOf n) → ⊥) → header_at (apply c w) n ≡ header_at w n
-  header_kept (EditHeader k f) ex n i h = ap header_in (edit_other w.nodes k (with_header f) n (λ e. avoids (AttrOf n) (AttrOf k) i h (ap AttrOf e)))
-  header_kept (EditBody k g) ex n i h = edit_keeps header_in (with_body g) (header-with_body g) w.nodes k n
-  header_kept (MakeNode k s node) ex n i h = ap header_in (get_apart w.nodes k node n (λ e. avoids (AttrOf n) (AttrOf k) i.1 h (ap AttrOf e)))
-  header_kept (Attach a b j x) ex n i h = absurd ex
-  header_kept (DropServer a) ex n i h = absurd ex
-  header_kept (Unseat a) ex n i h = absurd ex
-  header_kept Settle ex n i h = absurd ex
-  header_kept c ex n i h = refl
+  header_kept : (c : Change) → (n : Name) → Within T w c → (T (AttrOf n) → ⊥) → header_at (next_world c w) n ≡ header_at w n
+  header_kept (EditHeader k f) n i h = ap header_in (edit_other w.nodes k (with_header f) n (λ e. avoids (AttrOf n) (AttrOf k) i h (ap AttrOf e)))
+  header_kept (EditBody k g) n i h = edit_keeps header_in (with_body g) (header-with_body g) w.nodes k n
+  header_kept (MakeNode k s node) n i h = ap header_in (get_apart w.nodes k node n (λ e. avoids (AttrOf n) (AttrOf k) i.1 h (ap AttrOf e)))
+  header_kept c n i h = refl
 
-  home_kept : (c : Change) → IsPlain c → (n : Name) → Within T w c → (T (AttrOf n) → ⊥) → home_at (apply c w) n ≡ home_at w n
-  home_kept (MakeNode k s node) ex n i h = get_apart w.homes k s n (λ e. avoids (AttrOf n) (AttrOf k) i.1 h (ap AttrOf e))
-  home_kept (Attach a b j x) ex n i h = absurd ex
-  home_kept (DropServer a) ex n i h = absurd ex
-  home_kept (Unseat a) ex n i h = absurd ex
-  home_kept Settle ex n i h = absurd ex
-  home_kept c ex n i h = refl
+  home_kept : (c : Change) → (n : Name) → Within T w c → (T (AttrOf n) → ⊥) → home_at (next_world c w) n ≡ home_at w n
+  home_kept (MakeNode k s node) n i h = get_apart w.homes k s n (λ e. avoids (AttrOf n) (AttrOf k) i.1 h (ap AttrOf e))
+  home_kept c n i h = refl
 
-  body_kept : (c : Change) → IsPlain c → (n : Name) → Within T w c → (T (BodyOf n) → ⊥) → body_at (apply c w) n ≡ body_at w n
-  body_kept (EditHeader k f) ex n i h = edit_keeps body_in (with_header f) (body-with_header f) w.nodes k n
-  body_kept (EditBody k g) ex n i h = ap body_in (edit_other w.nodes k (with_body g) n (λ e. avoids (BodyOf n) (BodyOf k) i.0 h (ap BodyOf e)))
-  body_kept (MakeNode k s node) ex n i h = ap body_in (get_apart w.nodes k node n (λ e. avoids (BodyOf n) (BodyOf k) i.3 h (ap BodyOf e)))
-  body_kept (Attach a b j x) ex n i h = absurd ex
-  body_kept (DropServer a) ex n i h = absurd ex
-  body_kept (Unseat a) ex n i h = absurd ex
-  body_kept Settle ex n i h = absurd ex
-  body_kept c ex n i h = refl
+  body_kept : (c : Change) → (n : Name) → Within T w c → (T (BodyOf n) → ⊥) → body_at (next_world c w) n ≡ body_at w n
+  body_kept (EditHeader k f) n i h = edit_keeps body_in (with_header f) (body-with_header f) w.nodes k n
+  body_kept (EditBody k g) n i h = ap body_in (edit_other w.nodes k (with_body g) n (λ e. avoids (BodyOf n) (BodyOf k) i.0 h (ap BodyOf e)))
+  body_kept (MakeNode k s node) n i h = ap body_in (get_apart w.nodes k node n (λ e. avoids (BodyOf n) (BodyOf k) i.3 h (ap BodyOf e)))
+  body_kept c n i h = refl
 
-  empty_kept : (c : Change) → IsPlain c → (n : Name) → Within T w c → (T (EmptyOf n) → ⊥) → option_map is_empty_dir (body_at (apply c w) n) ≡ option_map is_empty_dir (body_at w n)
-  empty_kept (EditHeader k f) ex n i h = edit_keeps empty_in (with_header f) (λ o. ap (option_map is_empty_dir) (body-with_header f o)) w.nodes k n
-  empty_kept (EditBody k g) ex n i h = elim i.1 [
+  empty_kept : (c : Change) → (n : Name) → Within T w c → (T (EmptyOf n) → ⊥) → option_map is_empty_dir (body_at (next_world c w) n) ≡ option_map is_empty_dir (body_at w n)
+  empty_kept (EditHeader k f) n i h = edit_keeps empty_in (with_header f) (λ o. ap (option_map is_empty_dir) (body-with_header f o)) w.nodes k n
+  empty_kept (EditBody k g) n i h = elim i.1 [
     | inl e ↦ ap empty_in (edit_other w.nodes k (with_body g) n (λ k. avoids (EmptyOf n) _ e h (ap EmptyOf k)))
     | inr keeps ↦ edit_keeps empty_in (with_body g) (empty-kept g keeps) w.nodes k n
   ]
-  empty_kept (MakeNode k s node) ex n i h = ap empty_in (get_apart w.nodes k node n (λ e. avoids (EmptyOf n) (EmptyOf k) i.2 h (ap EmptyOf e)))
-  empty_kept (Attach a b j x) ex n i h = absurd ex
-  empty_kept (DropServer a) ex n i h = absurd ex
-  empty_kept (Unseat a) ex n i h = absurd ex
-  empty_kept Settle ex n i h = absurd ex
-  empty_kept c ex n i h = refl
+  empty_kept (MakeNode k s node) n i h = ap empty_in (get_apart w.nodes k node n (λ e. avoids (EmptyOf n) (EmptyOf k) i.2 h (ap EmptyOf e)))
+  empty_kept c n i h = refl
 
-  open_kept : (c : Change) → IsPlain c → (o : Name) → Within T w c → (T (OpenOf o) → ⊥) → open_at (apply c w) o ≡ open_at w o
-  open_kept (EditOpen k f) ex o i h = edit_other w.opens k f o (λ e. avoids (OpenOf o) (OpenOf k) i h (ap OpenOf e))
-  open_kept (MakeOpen k z) ex o i h = get_apart w.opens k z o (λ e. avoids (OpenOf o) (OpenOf k) i.1 h (ap OpenOf e))
-  open_kept (Attach a b j x) ex o i h = absurd ex
-  open_kept (DropServer a) ex o i h = absurd ex
-  open_kept (Unseat a) ex o i h = absurd ex
-  open_kept Settle ex o i h = absurd ex
-  open_kept c ex o i h = refl
+  open_kept : (c : Change) → (o : Name) → Within T w c → (T (OpenOf o) → ⊥) → open_at (next_world c w) o ≡ open_at w o
+  open_kept (EditOpen k f) o i h = edit_other w.opens k f o (λ e. avoids (OpenOf o) (OpenOf k) i h (ap OpenOf e))
+  open_kept (MakeOpen k z) o i h = get_apart w.opens k z o (λ e. avoids (OpenOf o) (OpenOf k) i.1 h (ap OpenOf e))
+  open_kept c o i h = refl
 
-  server_kept : (c : Change) → IsPlain c → (s : Name) → Within T w c → (T (OptionsOf s) → ⊥) → server_at (apply c w) s ≡ server_at w s
-  server_kept (SetText q text) ex s i h = edit_other w.servers q (with_text text) s (λ e. avoids (OptionsOf s) (OptionsOf q) i h (ap OptionsOf e))
-  server_kept (Attach a b j x) ex s i h = absurd ex
-  server_kept (DropServer a) ex s i h = absurd ex
-  server_kept (Unseat a) ex s i h = absurd ex
-  server_kept Settle ex s i h = absurd ex
-  server_kept c ex s i h = refl
+  server_kept : (c : Change) → (s : Name) → Within T w c → (T (OptionsOf s) → ⊥) → server_at (next_world c w) s ≡ server_at w s
+  server_kept (SetText q text) s i h = edit_other w.servers q (with_text text) s (λ e. avoids (OptionsOf s) (OptionsOf q) i h (ap OptionsOf e))
+  server_kept c s i h = refl
 
-  actives_kept : (c : Change) → IsPlain c → (apply c w).actives ≡ w.actives
-  actives_kept (Attach a b j x) ex = absurd ex
-  actives_kept (DropServer a) ex = absurd ex
-  actives_kept (Unseat a) ex = absurd ex
-  actives_kept Settle ex = absurd ex
-  actives_kept c ex = refl
-
-  pub holders_kept : (c : Change) → IsPlain c → Proper w c → (o : Name) → Within T w c → (T (OpenOf o) → ⊥) → holders (apply c w) o ≡ holders w o
-  holders_kept (EditTask q f) ex p o i h =
+  pub holders_kept : (c : Change) → Proper w c → (o : Name) → Within T w c → (T (OpenOf o) → ⊥) → holders (next_world c w) o ≡ holders w o
+  holders_kept (EditTask q f) p o i h =
       let e = count_edit (names_open o) q f w.tasks p.1 p.2 in
       let m = (i.1 p.1 p.2).opens o h in
       omega arith
-  holders_kept (Send r q) ex p o i h =
+  holders_kept (Send r q) p o i h =
       let e = count_edit (names_open o) q (with_sent r) w.tasks p.0 p.1 in
       let more = count_sent (names_open o) r p.0 in
       let none = ap one_if (not_named w o r T i.1 h) in
       omega arith
-  holders_kept (MakeNode n s node) ex p o i h = count_named (names_open o) n.task.0 1 w.tasks p.0.seat p.0.is_task
-  holders_kept (MakeOpen n z) ex p o i h = count_named (names_open o) n.task.0 1 w.tasks p.seat p.is_task
-  holders_kept (Attach a b j x) ex p o i h = absurd ex
-  holders_kept (DropServer a) ex p o i h = absurd ex
-  holders_kept (Unseat a) ex p o i h = absurd ex
-  holders_kept Settle ex p o i h = absurd ex
-  holders_kept c ex p o i h = refl
+  holders_kept (MakeNode n s node) p o i h = count_named (names_open o) n.task.0 1 w.tasks p.0.seat p.0.is_task
+  holders_kept (MakeOpen n z) p o i h = count_named (names_open o) n.task.0 1 w.tasks p.seat p.is_task
+  holders_kept (Attach s at j node) p o i h = count_named (names_open o) s.task.0 2 w.tasks p.next.seat p.next.is_task
+  holders_kept c p o i h = refl
 
-  users_kept : (c : Change) → IsPlain c → Proper w c → (s : Name) → Within T w c → (T (UsersOf s) → ⊥) → users (apply c w) s ≡ users w s
-  users_kept (EditTask q f) ex p s i h =
+  users_kept : (c : Change) → Proper w c → (s : Name) → Within T w c → (T (UsersOf s) → ⊥) → users (next_world c w) s ≡ users w s
+  users_kept (EditTask q f) p s i h =
       let e = count_edit (is_on w s) q f w.tasks p.1 p.2 in
       let m = (i.1 p.1 p.2).users s h in
       omega arith
-  users_kept (Send r q) ex p s i h =
+  users_kept (Send r q) p s i h =
       let e = count_edit (is_on w s) q (with_sent r) w.tasks p.0 p.1 in
       let more = count_sent (is_on w s) r p.0 in
       let none = ap one_if (not_on w s r T i.1 h) in
       omega arith
-  users_kept (MakeNode n q node) ex p s i h = users_named w (apply (MakeNode n q node) w) coherent n p.0 1 n q (next_not w n p.0) refl refl s
-  users_kept (MakeOpen n z) ex p s i h = count_named (is_on w s) n.task.0 1 w.tasks p.seat p.is_task
-  users_kept (Attach a b j x) ex p s i h = absurd ex
-  users_kept (DropServer a) ex p s i h = absurd ex
-  users_kept (Unseat a) ex p s i h = absurd ex
-  users_kept Settle ex p s i h = absurd ex
-  users_kept c ex p s i h = refl
+  users_kept (MakeNode n q node) p s i h = users_named w (apply (MakeNode n q node) w) coherent n p.0 1 n q (next_not w n p.0) refl refl s
+  users_kept (MakeOpen n z) p s i h = count_named (is_on w s) n.task.0 1 w.tasks p.seat p.is_task
+  users_kept (Attach q at j node) p s i h = count_named (is_on w s) q.task.0 2 w.tasks p.next.seat p.next.is_task
+  users_kept c p s i h = refl
 
-  task_kept : (c : Change) → IsPlain c → (q : ℕ) → Within T w c → (T (TaskOf q) → ⊥) → task_at (apply c w) q ≡ task_at w q
-  task_kept (EditTask k f) ex q i h = edit-apart k f w.tasks q (λ e. avoids (TaskOf q) (TaskOf k) i.0 h (ap TaskOf e))
-  task_kept (Send r k) ex q i h = edit-apart k (with_sent r) w.tasks q (λ e. avoids (TaskOf q) (TaskOf k) i.0 h (ap TaskOf e))
-  task_kept (MakeNode n s node) ex q i h = edit-apart n.task.0 (named 1) w.tasks q (λ e. avoids (TaskOf q) (TaskOf n.task.0) i.0 h (ap TaskOf e))
-  task_kept (MakeOpen n z) ex q i h = edit-apart n.task.0 (named 1) w.tasks q (λ e. avoids (TaskOf q) (TaskOf n.task.0) i.0 h (ap TaskOf e))
-  task_kept (Attach a b j x) ex q i h = absurd ex
-  task_kept (DropServer a) ex q i h = absurd ex
-  task_kept (Unseat a) ex q i h = absurd ex
-  task_kept Settle ex q i h = absurd ex
-  task_kept c ex q i h = refl
+  task_kept : (c : Change) → (q : ℕ) → Within T w c → (T (TaskOf q) → ⊥) → task_at (next_world c w) q ≡ task_at w q
+  task_kept (EditTask k f) q i h = edit-apart k f w.tasks q (λ e. avoids (TaskOf q) (TaskOf k) i.0 h (ap TaskOf e))
+  task_kept (Send r k) q i h = edit-apart k (with_sent r) w.tasks q (λ e. avoids (TaskOf q) (TaskOf k) i.0 h (ap TaskOf e))
+  task_kept (MakeNode n s node) q i h = edit-apart n.task.0 (named 1) w.tasks q (λ e. avoids (TaskOf q) (TaskOf n.task.0) i.0 h (ap TaskOf e))
+  task_kept (MakeOpen n z) q i h = edit-apart n.task.0 (named 1) w.tasks q (λ e. avoids (TaskOf q) (TaskOf n.task.0) i.0 h (ap TaskOf e))
+  task_kept (Attach s at j node) q i h = edit-apart s.task.0 (named 2) w.tasks q (λ e. avoids (TaskOf q) (TaskOf s.task.0) i.0 h (ap TaskOf e))
+  task_kept c q i h = refl
 
-  plain_frame : (c : Change) → IsPlain c → Proper w c → (p : Part) → Within T w c → (T p → ⊥) → part (apply c w) p ≡ part w p
-  plain_frame c pl pr (AttrOf n) i h = attr_same (header_kept c pl n i h) (home_kept c pl n i h) (ap (λ m. get m n) (actives_kept c pl))
-  plain_frame c pl pr (EmptyOf n) i h = ap AnEmpty (empty_kept c pl n i h)
-  plain_frame c pl pr (BodyOf n) i h = ap ABody (body_kept c pl n i h)
-  plain_frame c pl pr (OpenOf o) i h = ap₂ AnOpen (open_kept c pl o i h) (holders_kept c pl pr o i h)
-  plain_frame c pl pr (OptionsOf s) i h = ap AnOptions (server_kept c pl s i h)
-  plain_frame c pl pr (UsersOf s) i h = ap AUsers (users_kept c pl pr s i h)
-  plain_frame c pl pr (TaskOf q) i h = ap ATask (task_kept c pl q i h)
+  next_frame : (c : Change) → Proper w c → (p : Part) → Within T w c → (T p → ⊥) → part (next_world c w) p ≡ part w p
+  next_frame c pr (AttrOf n) i h = attr_same (header_kept c n i h) (home_kept c n i h) refl
+  next_frame c pr (EmptyOf n) i h = ap AnEmpty (empty_kept c n i h)
+  next_frame c pr (BodyOf n) i h = ap ABody (body_kept c n i h)
+  next_frame c pr (OpenOf o) i h = ap₂ AnOpen (open_kept c o i h) (holders_kept c pr o i h)
+  next_frame c pr (OptionsOf s) i h = ap AnOptions (server_kept c s i h)
+  next_frame c pr (UsersOf s) i h = ap AUsers (users_kept c pr s i h)
+  next_frame c pr (TaskOf q) i h = ap ATask (task_kept c q i h)
 
 -- what a change doesn't write stays
 pub frame : (T : Part → Type 0) (w : World) → Coherent w → (c : Change) → IsExact c → Proper w c → (p : Part) → Within T w c → (T p → ⊥) → part (apply c w) p ≡ part w p
@@ -229,16 +212,9 @@ frame T w c (Attach s at i node) ex pr p within out =
     ∙ come_parts w c s at i node pr p (λ e. out (subst T (sym e) within.0)) (λ e. out (subst T (sym e) within.1)) (λ e. out (subst T (sym e) within.2)) (λ e. out (subst T (sym e) within.3))
     (λ e. out (subst T (sym e) within.4)) (λ e. out (subst T (sym e) within.5))
 frame T w c (DropServer s) ex pr p within out = drop_parts w s p (λ goes. out (within p goes))
-frame T w c (SetText s text) ex pr p within out = plain_frame w c T (SetText s text) tt pr p within out
 frame T w c (Unseat n) ex pr p within out = unseated_parts w n p (λ e. out (subst T (sym e) within))
 frame T w c Settle ex pr p within out = absurd ex
-frame T w c (EditHeader n f) ex pr p within out = plain_frame w c T (EditHeader n f) tt pr p within out
-frame T w c (EditBody n g) ex pr p within out = plain_frame w c T (EditBody n g) tt pr p within out
-frame T w c (MakeNode n s node) ex pr p within out = plain_frame w c T (MakeNode n s node) tt pr p within out
-frame T w c (EditOpen o f) ex pr p within out = plain_frame w c T (EditOpen o f) tt pr p within out
-frame T w c (MakeOpen o z) ex pr p within out = plain_frame w c T (MakeOpen o z) tt pr p within out
-frame T w c (EditTask q f) ex pr p within out = plain_frame w c T (EditTask q f) tt pr p within out
-frame T w c (Send r q) ex pr p within out = plain_frame w c T (Send r q) tt pr p within out
+frame T w c k ex pr p within out = ap (λ x. part x p) (next_is k w tt) ∙ next_frame w c T k pr p within out
 
 -- what is gone is not made anew by a change that doesn't write it
 pub gone_kept : (x y : World) (p : Part) → part y p ≡ part x p → IsGone x p → IsGone y p
@@ -275,9 +251,6 @@ length_one (Send r q) w = edit-length q (with_sent r) w.tasks
 length_one (MakeNode n s node) w = edit-length n.task.0 (named 1) w.tasks
 length_one (MakeOpen o z) w = edit-length o.task.0 (named 1) w.tasks
 length_one (Attach s at i node) w = edit-length s.task.0 (named 2) w.tasks
-length_one (DropServer s) w = refl
-length_one (Unseat n) w = refl
-length_one Settle w = refl
 length_one c w = refl
 
 -- changes that write nothing that S sees: S sees the same after them

@@ -40,6 +40,7 @@ pub mod Attrs
 pub mod Retexting
 pub mod Makes
 pub mod Nameless
+pub mod Left
 pub mod Linking
 pub mod Removals
 pub mod Renames

@@ -20,7 +20,7 @@ use Rattle.hurd_machine.specs.Sound.{Coherent}
 use Rattle.hurd_machine.proofs.Nodes.{attr_same, header_in, body_in, empty_in, header-with_header, header-with_body, body-with_header, body-with_body, edit_alike, insert_alike, ByEmptiness, edit_empty_alike}
 use Rattle.hurd_machine.proofs.Tasks.{edit_here, edit_same, count_edit, count_named, list_alike, count_sent}
 use Rattle.hurd_machine.proofs.Coherence.{next_not, Proper}
-use Rattle.hurd_machine.proofs.Frame.{IsExact, IsPlain}
+use Rattle.hurd_machine.proofs.Frame.{IsExact, next_world, next_is}
 use Rattle.hurd_machine.proofs.Comes.{attach_is}
 use Rattle.hurd_machine.proofs.ServerParts.{users_named, come_alike, drop_alike, unseated_alike}
 use Rattle.hurd_machine.proofs.Confine.{SeenOrNew, Known, RightInside, Inside}
@@ -32,90 +32,56 @@ pub record Mirror (S : ℕ → Bool) (v x y : World) : Type 0 where
   pub parts : (p : Part) → Known S v p → part y p ≡ part x p
 
 module _ (x y : World) where
-  header_alike : (c : Change) → IsPlain c → (n : Name) → header_at y n ≡ header_at x n → header_at (apply c y) n ≡ header_at (apply c x) n
-  header_alike (EditHeader k f) ex n h = edit_alike header_in (option_map f) (with_header f) (header-with_header f) x.nodes y.nodes k n h
-  header_alike (EditBody k g) ex n h = edit_alike header_in (λ z. z) (with_body g) (header-with_body g) x.nodes y.nodes k n h
-  header_alike (MakeNode k s node) ex n h = insert_alike header_in x.nodes y.nodes k n node h
-  header_alike (Attach a b j u) ex n h = absurd ex
-  header_alike (DropServer a) ex n h = absurd ex
-  header_alike (Unseat a) ex n h = absurd ex
-  header_alike Settle ex n h = absurd ex
-  header_alike c ex n h = h
+  header_alike : (c : Change) → (n : Name) → header_at y n ≡ header_at x n → header_at (next_world c y) n ≡ header_at (next_world c x) n
+  header_alike (EditHeader k f) n h = edit_alike header_in (option_map f) (with_header f) (header-with_header f) x.nodes y.nodes k n h
+  header_alike (EditBody k g) n h = edit_alike header_in (λ z. z) (with_body g) (header-with_body g) x.nodes y.nodes k n h
+  header_alike (MakeNode k s node) n h = insert_alike header_in x.nodes y.nodes k n node h
+  header_alike c n h = h
 
-  home_alike : (c : Change) → IsPlain c → (n : Name) → home_at y n ≡ home_at x n → home_at (apply c y) n ≡ home_at (apply c x) n
-  home_alike (MakeNode k s node) ex n o = insert_alike (λ z. z) x.homes y.homes k n s o
-  home_alike (Attach a b j u) ex n o = absurd ex
-  home_alike (DropServer a) ex n o = absurd ex
-  home_alike (Unseat a) ex n o = absurd ex
-  home_alike Settle ex n o = absurd ex
-  home_alike c ex n o = o
+  home_alike : (c : Change) → (n : Name) → home_at y n ≡ home_at x n → home_at (next_world c y) n ≡ home_at (next_world c x) n
+  home_alike (MakeNode k s node) n o = insert_alike (λ z. z) x.homes y.homes k n s o
+  home_alike c n o = o
 
-  body_alike : (c : Change) → IsPlain c → (n : Name) → body_at y n ≡ body_at x n → body_at (apply c y) n ≡ body_at (apply c x) n
-  body_alike (EditHeader k f) ex n h = edit_alike body_in (λ z. z) (with_header f) (body-with_header f) x.nodes y.nodes k n h
-  body_alike (EditBody k g) ex n h = edit_alike body_in (option_map g) (with_body g) (body-with_body g) x.nodes y.nodes k n h
-  body_alike (MakeNode k s node) ex n h = insert_alike body_in x.nodes y.nodes k n node h
-  body_alike (Attach a b j u) ex n h = absurd ex
-  body_alike (DropServer a) ex n h = absurd ex
-  body_alike (Unseat a) ex n h = absurd ex
-  body_alike Settle ex n h = absurd ex
-  body_alike c ex n h = h
+  body_alike : (c : Change) → (n : Name) → body_at y n ≡ body_at x n → body_at (next_world c y) n ≡ body_at (next_world c x) n
+  body_alike (EditHeader k f) n h = edit_alike body_in (λ z. z) (with_header f) (body-with_header f) x.nodes y.nodes k n h
+  body_alike (EditBody k g) n h = edit_alike body_in (option_map g) (with_body g) (body-with_body g) x.nodes y.nodes k n h
+  body_alike (MakeNode k s node) n h = insert_alike body_in x.nodes y.nodes k n node h
+  body_alike c n h = h
 
-  server_alike : (c : Change) → IsPlain c → (s : Name) → server_at y s ≡ server_at x s → server_at (apply c y) s ≡ server_at (apply c x) s
-  server_alike (SetText q text) ex s h = edit_alike (λ z. z) (option_map (with_text text)) (with_text text) (λ z. refl) x.servers y.servers q s h
-  server_alike (Attach a b j u) ex s h = absurd ex
-  server_alike (DropServer a) ex s h = absurd ex
-  server_alike (Unseat a) ex s h = absurd ex
-  server_alike Settle ex s h = absurd ex
-  server_alike c ex s h = h
-
-  active_alike : (c : Change) → IsPlain c → (n : Name) → active_at y n ≡ active_at x n → active_at (apply c y) n ≡ active_at (apply c x) n
-  active_alike (Attach a b j u) ex n h = absurd ex
-  active_alike (DropServer a) ex n h = absurd ex
-  active_alike (Unseat a) ex n h = absurd ex
-  active_alike Settle ex n h = absurd ex
-  active_alike c ex n h = h
+  server_alike : (c : Change) → (s : Name) → server_at y s ≡ server_at x s → server_at (next_world c y) s ≡ server_at (next_world c x) s
+  server_alike (SetText q text) s h = edit_alike (λ z. z) (option_map (with_text text)) (with_text text) (λ z. refl) x.servers y.servers q s h
+  server_alike c s h = h
 
   -- a change of a body that is alike, or whose emptiness afterwards is settled by that before
   abbrev EmptinessSettled : Change → Type 0
   EmptinessSettled (EditBody k g) = ByEmptiness g ⊎ (body_at y k ≡ body_at x k)
   EmptinessSettled c = Unit {0}
 
-  empty_alike : (c : Change) → IsPlain c → EmptinessSettled c → (n : Name) → empty_in (get y.nodes n) ≡ empty_in (get x.nodes n)
-      → option_map is_empty_dir (body_at (apply c y) n) ≡ option_map is_empty_dir (body_at (apply c x) n)
-  empty_alike (EditHeader k f) ex by n h = edit_alike empty_in (λ z. z) (with_header f) (λ z. ap (option_map is_empty_dir) (body-with_header f z)) x.nodes y.nodes k n h
-  empty_alike (EditBody k g) ex by n h = elim by [
+  empty_alike : (c : Change) → EmptinessSettled c → (n : Name) → empty_in (get y.nodes n) ≡ empty_in (get x.nodes n)
+      → option_map is_empty_dir (body_at (next_world c y) n) ≡ option_map is_empty_dir (body_at (next_world c x) n)
+  empty_alike (EditHeader k f) by n h = edit_alike empty_in (λ z. z) (with_header f) (λ z. ap (option_map is_empty_dir) (body-with_header f z)) x.nodes y.nodes k n h
+  empty_alike (EditBody k g) by n h = elim by [
     | inl empties ↦ edit_empty_alike g empties x.nodes y.nodes k n h
     | inr same ↦ elim (same_or_apart n k) [
-      | inl e ↦ ap (option_map is_empty_dir) (rw e (body_alike (EditBody k g) tt k same))
+      | inl e ↦ ap (option_map is_empty_dir) (rw e (body_alike (EditBody k g) k same))
       | inr a ↦ ap empty_in (edit_apart y.nodes k (with_body g) n a) ∙ h ∙ sym (ap empty_in (edit_apart x.nodes k (with_body g) n a))
     ]
   ]
-  empty_alike (MakeNode k s node) ex by n h = insert_alike empty_in x.nodes y.nodes k n node h
-  empty_alike (Attach a b j u) ex by n h = absurd ex
-  empty_alike (DropServer a) ex by n h = absurd ex
-  empty_alike (Unseat a) ex by n h = absurd ex
-  empty_alike Settle ex by n h = absurd ex
-  empty_alike c ex by n h = h
+  empty_alike (MakeNode k s node) by n h = insert_alike empty_in x.nodes y.nodes k n node h
+  empty_alike c by n h = h
 
-  open_alike : (c : Change) → IsPlain c → (o : Name) → open_at y o ≡ open_at x o → open_at (apply c y) o ≡ open_at (apply c x) o
-  open_alike (EditOpen k f) ex o h = edit_alike (λ z. z) (option_map f) f (λ z. refl) x.opens y.opens k o h
-  open_alike (MakeOpen k z) ex o h = insert_alike (λ u. u) x.opens y.opens k o z h
-  open_alike (Attach a b j u) ex o h = absurd ex
-  open_alike (DropServer a) ex o h = absurd ex
-  open_alike (Unseat a) ex o h = absurd ex
-  open_alike Settle ex o h = absurd ex
-  open_alike c ex o h = h
+  open_alike : (c : Change) → (o : Name) → open_at y o ≡ open_at x o → open_at (next_world c y) o ≡ open_at (next_world c x) o
+  open_alike (EditOpen k f) o h = edit_alike (λ z. z) (option_map f) f (λ z. refl) x.opens y.opens k o h
+  open_alike (MakeOpen k z) o h = insert_alike (λ u. u) x.opens y.opens k o z h
+  open_alike c o h = h
 
-  task_alike : (c : Change) → IsPlain c → (q : ℕ) → task_at y q ≡ task_at x q → task_at (apply c y) q ≡ task_at (apply c x) q
-  task_alike (EditTask k f) ex q h = edit_same k f x.tasks y.tasks q h
-  task_alike (Send r k) ex q h = edit_same k (with_sent r) x.tasks y.tasks q h
-  task_alike (MakeNode n s node) ex q h = edit_same n.task.0 (named 1) x.tasks y.tasks q h
-  task_alike (MakeOpen o z) ex q h = edit_same o.task.0 (named 1) x.tasks y.tasks q h
-  task_alike (Attach a b j u) ex q h = absurd ex
-  task_alike (DropServer a) ex q h = absurd ex
-  task_alike (Unseat a) ex q h = absurd ex
-  task_alike Settle ex q h = absurd ex
-  task_alike c ex q h = h
+  task_alike : (c : Change) → (q : ℕ) → task_at y q ≡ task_at x q → task_at (next_world c y) q ≡ task_at (next_world c x) q
+  task_alike (EditTask k f) q h = edit_same k f x.tasks y.tasks q h
+  task_alike (Send r k) q h = edit_same k (with_sent r) x.tasks y.tasks q h
+  task_alike (MakeNode n s node) q h = edit_same n.task.0 (named 1) x.tasks y.tasks q h
+  task_alike (MakeOpen o z) q h = edit_same o.task.0 (named 1) x.tasks y.tasks q h
+  task_alike (Attach s at j node) q h = edit_same s.task.0 (named 2) x.tasks y.tasks q h
+  task_alike c q h = h
 
 module _ (S : ℕ → Bool) (v x y : World) (before : Inside S v x) (cx : Coherent x) (cy : Coherent y) (alike : Mirror S v x y) where
   home_same : (n : Name) → SeenOrNew S v n → home_at y n ≡ home_at x n
@@ -154,64 +120,60 @@ module _ (S : ℕ → Bool) (v x y : World) (before : Inside S v x) (cx : Cohere
   emptiness (EditBody n g) m = elim m.0 [ inl by ↦ inl by | inr known ↦ inr (let e = alike.parts (BodyOf n) known in cc) ]
   emptiness c m = tt
 
-  holders_alike : (c : Change) → IsPlain c → Proper x c → Proper y c → May S v x c → (o : Name) → holders y o ≡ holders x o → holders (apply c y) o ≡ holders (apply c x) o
-  holders_alike (EditTask q f) ex px py m o e = counts_own q f (names_open o) (names_open o) px.1 py.1 m.0 px.2 py.2 (λ r i. refl) (λ r i. refl) e
-  holders_alike (Send r q) ex px py m o e = counts_sent q r (names_open o) (names_open o) px.0 py.0 px.1 py.1 refl e
-  holders_alike (MakeNode n s node) ex px py m o e =
+  holders_alike : (c : Change) → Proper x c → Proper y c → May S v x c → (o : Name) → holders y o ≡ holders x o → holders (next_world c y) o ≡ holders (next_world c x) o
+  holders_alike (EditTask q f) px py m o e = counts_own q f (names_open o) (names_open o) px.1 py.1 m.0 px.2 py.2 (λ r i. refl) (λ r i. refl) e
+  holders_alike (Send r q) px py m o e = counts_sent q r (names_open o) (names_open o) px.0 py.0 px.1 py.1 refl e
+  holders_alike (MakeNode n s node) px py m o e =
       count_named (names_open o) n.task.0 1 y.tasks py.0.seat py.0.is_task ∙ e ∙ sym (count_named (names_open o) n.task.0 1 x.tasks px.0.seat px.0.is_task)
-  holders_alike (MakeOpen n z) ex px py m o e =
+  holders_alike (MakeOpen n z) px py m o e =
       count_named (names_open o) n.task.0 1 y.tasks py.seat py.is_task ∙ e ∙ sym (count_named (names_open o) n.task.0 1 x.tasks px.seat px.is_task)
-  holders_alike (Attach a b j u) ex px py m o e = absurd ex
-  holders_alike (DropServer a) ex px py m o e = absurd ex
-  holders_alike (Unseat a) ex px py m o e = absurd ex
-  holders_alike Settle ex px py m o e = absurd ex
-  holders_alike c ex px py m o e = e
+  holders_alike (Attach s at j node) px py m o e =
+      count_named (names_open o) s.task.0 2 y.tasks py.next.seat py.next.is_task ∙ e ∙ sym (count_named (names_open o) s.task.0 2 x.tasks px.next.seat px.next.is_task)
+  holders_alike c px py m o e = e
 
-  users_alike : (c : Change) → IsPlain c → Proper x c → Proper y c → May S v x c → Inside S v (apply c x) → (s : Name) → users y s ≡ users x s → users (apply c y) s ≡ users (apply c x) s
-  users_alike (EditTask q f) ex px py m after s e =
+  users_alike : (c : Change) → Proper x c → Proper y c → May S v x c → Inside S v (apply c x) → (s : Name) → users y s ≡ users x s → users (next_world c y) s ≡ users (next_world c x) s
+  users_alike (EditTask q f) px py m after s e =
       counts_own q f (is_on x s) (is_on y s) px.1 py.1 m.0 px.2 py.2
       (λ r i. same_side s r (before.held r (record { task = q; ours = m.0; seat = px.1; is_task = px.2; here = i })))
       (λ r i. same_side s r (after.held r (record { task = q; ours = m.0; seat = f px.1; is_task = edit_here q f x.tasks px.1 px.2; here = i })))
       e
-  users_alike (Send r q) ex px py m after s e = counts_sent q r (is_on x s) (is_on y s) px.0 py.0 px.1 py.1 (same_side s r (may_inside S v x r m.0)) e
-  users_alike (MakeNode n q node) ex px py m after s e =
+  users_alike (Send r q) px py m after s e = counts_sent q r (is_on x s) (is_on y s) px.0 py.0 px.1 py.1 (same_side s r (may_inside S v x r m.0)) e
+  users_alike (MakeNode n q node) px py m after s e =
       users_named y (apply (MakeNode n q node) y) cy n py.0 1 n q (next_not y n py.0) refl refl s ∙ e
       ∙ sym (users_named x (apply (MakeNode n q node) x) cx n px.0 1 n q (next_not x n px.0) refl refl s)
-  users_alike (MakeOpen n z) ex px py m after s e =
+  users_alike (MakeOpen n z) px py m after s e =
       count_named (is_on y s) n.task.0 1 y.tasks py.seat py.is_task ∙ e ∙ sym (count_named (is_on x s) n.task.0 1 x.tasks px.seat px.is_task)
-  users_alike (Attach a b j u) ex px py m after s e = absurd ex
-  users_alike (DropServer a) ex px py m after s e = absurd ex
-  users_alike (Unseat a) ex px py m after s e = absurd ex
-  users_alike Settle ex px py m after s e = absurd ex
-  users_alike c ex px py m after s e = e
+  users_alike (Attach q at j node) px py m after s e =
+      count_named (is_on y s) q.task.0 2 y.tasks py.next.seat py.next.is_task ∙ e ∙ sym (count_named (is_on x s) q.task.0 2 x.tasks px.next.seat px.next.is_task)
+  users_alike c px py m after s e = e
 
-  module _ (c : Change) (ex : IsPlain c) (px : Proper x c) (py : Proper y c) (m : May S v x c) (after : Inside S v (apply c x)) where
+  module _ (c : Change) (px : Proper x c) (py : Proper y c) (m : May S v x c) (after : Inside S v (apply c x)) where
     -- each part that S knows is alike afterwards
-    plain_same : (p : Part) → Known S v p → part (apply c y) p ≡ part (apply c x) p
-    plain_same (AttrOf n) known =
+    next_same : (p : Part) → Known S v p → part (next_world c y) p ≡ part (next_world c x) p
+    next_same (AttrOf n) known =
         let e = alike.parts (AttrOf n) known in
         let h : header_at y n ≡ header_at x n = cc in
         let k : active_at y n ≡ active_at x n = cc in
-        attr_same (header_alike x y c ex n h) (home_alike x y c ex n (home_same n known)) (active_alike x y c ex n k)
-    plain_same (EmptyOf n) known =
+        attr_same (header_alike x y c n h) (home_alike x y c n (home_same n known)) k
+    next_same (EmptyOf n) known =
         let e = alike.parts (EmptyOf n) known in
         let h : empty_in (get y.nodes n) ≡ empty_in (get x.nodes n) = cc in
-        ap AnEmpty (empty_alike x y c ex (emptiness c m) n h)
-    plain_same (BodyOf n) known =
+        ap AnEmpty (empty_alike x y c (emptiness c m) n h)
+    next_same (BodyOf n) known =
         let e = alike.parts (BodyOf n) known in
         let h : body_at y n ≡ body_at x n = cc in
-        ap ABody (body_alike x y c ex n h)
-    plain_same (OpenOf o) known =
+        ap ABody (body_alike x y c n h)
+    next_same (OpenOf o) known =
         let e = alike.parts (OpenOf o) known in
         let h : open_at y o ≡ open_at x o = cc in
         let k : holders y o ≡ holders x o = cc in
-        ap₂ AnOpen (open_alike x y c ex o h) (holders_alike c ex px py m o k)
-    plain_same (OptionsOf s) known =
+        ap₂ AnOpen (open_alike x y c o h) (holders_alike c px py m o k)
+    next_same (OptionsOf s) known =
         let e = alike.parts (OptionsOf s) known in
         let h : server_at y s ≡ server_at x s = cc in
-        ap AnOptions (server_alike x y c ex s h)
-    plain_same (UsersOf s) known = let e = alike.parts (UsersOf s) known in let h : users y s ≡ users x s = cc in ap AUsers (users_alike c ex px py m after s h)
-    plain_same (TaskOf q) known = let e = alike.parts (TaskOf q) known in let h : task_at y q ≡ task_at x q = cc in ap ATask (task_alike x y c ex q h)
+        ap AnOptions (server_alike x y c s h)
+    next_same (UsersOf s) known = let e = alike.parts (UsersOf s) known in let h : users y s ≡ users x s = cc in ap AUsers (users_alike c px py m after s h)
+    next_same (TaskOf q) known = let e = alike.parts (TaskOf q) known in let h : task_at y q ≡ task_at x q = cc in ap ATask (task_alike x y c q h)
 
 -- of what S knows of a node's bytes it knows the node
 attr_of : {S : ℕ → Bool} {v : World} (p : Part) (n : Name) → (p ≡ EmptyOf n) ⊎ (p ≡ BodyOf n) → Known S v p → Known S v (AttrOf n)
@@ -225,13 +187,7 @@ module _ (S : ℕ → Bool) (v x y : World) (before : Inside S v x) (cx : Cohere
       ap (λ z. part z p) (attach_is y s at i node cy (next_not y s py.next)) ∙ come_alike x y cx cy s at i node px py p (alike.parts p known)
       ∙ sym (ap (λ z. part z p) (attach_is x s at i node cx (next_not x s px.next)))
   part_same (DropServer s) ex px py m after p known = drop_alike x y s p (λ n is. home_same S v x y before cx cy alike n (attr_of p n is known)) (alike.parts p known)
-  part_same (SetText s text) ex px py m after p known = plain_same S v x y before cx cy alike (SetText s text) tt px py m after p known
   part_same (Unseat n) ex px py m after p known = unseated_alike x y n p (alike.parts p known)
   part_same Settle ex px py m after p known = absurd ex
-  part_same (EditHeader n f) ex px py m after p known = plain_same S v x y before cx cy alike (EditHeader n f) tt px py m after p known
-  part_same (EditBody n g) ex px py m after p known = plain_same S v x y before cx cy alike (EditBody n g) tt px py m after p known
-  part_same (MakeNode n s node) ex px py m after p known = plain_same S v x y before cx cy alike (MakeNode n s node) tt px py m after p known
-  part_same (EditOpen o f) ex px py m after p known = plain_same S v x y before cx cy alike (EditOpen o f) tt px py m after p known
-  part_same (MakeOpen o z) ex px py m after p known = plain_same S v x y before cx cy alike (MakeOpen o z) tt px py m after p known
-  part_same (EditTask q f) ex px py m after p known = plain_same S v x y before cx cy alike (EditTask q f) tt px py m after p known
-  part_same (Send r q) ex px py m after p known = plain_same S v x y before cx cy alike (Send r q) tt px py m after p known
+  part_same c ex px py m after p known =
+      ap (λ z. part z p) (next_is c y tt) ∙ next_same S v x y before cx cy alike c px py m after p known ∙ sym (ap (λ z. part z p) (next_is c x tt))

@@ -6,7 +6,7 @@ use Rattle.std.specs.FinMap.{get}
 use Rattle.hurd_creds.specs.declared.name.Name.{Name}
 use Rattle.hurd_creds.proofs.NameLaws.{same_name-itself, equal_if_same}
 use Rattle.hurd_creds.specs.Names.{same_name}
-use Rattle.hurd_trans_iface.specs.Nodes.{Node, Header, is_entered_at}
+use Rattle.hurd_trans_iface.specs.Nodes.{Node, is_entered_at}
 use Rattle.hurd_nodes.specs.Shown.{NodeState, ServerInfo, boot_name, is_root, is_root_at, is_root_of, info_in}
 use Rattle.hurd_nodes.specs.Settle.{Outside, any_in, node_stays, stays_by, stays_with}
 use Rattle.hurd_nodes.proofs.PartLaws.{and_both, and_true, any_in-here, any_in-found}
@@ -15,9 +15,8 @@ use Rattle.hurd_ports.specs.declared.parents.Parent.{Parent as Pair}
 use Rattle.hurd_ports.specs.declared.table.Right.{Right}
 use Rattle.hurd_ports.specs.declared.table.Right.TheVariants.{Control}
 use Rattle.hurd_ports.specs.Tables.{Task, rights_of, nodes_of as nodes_named, ways_of}
-use Rattle.hurd_machine.specs.World.{World, IsAmong, world_from, nodes_of, ports_of, task_at, header_at, body_at, home_at, active_at, server_at, info_at, is_server_root, lists_at}
+use Rattle.hurd_machine.specs.World.{World, IsAmong, world_from, nodes_of, ports_of, task_at, home_at, active_at, server_at, info_at, is_server_root}
 use Rattle.hurd_machine.specs.Change.{outside, stays, server_stays}
-use Rattle.hurd_machine.proofs.Nodes.{header_in, body_in, node_of_header}
 use Rattle.hurd_machine.proofs.Holders.{named_by_right, controlled_by_right}
 use Rattle.hurd_machine.proofs.Retained.{retained, dropped, was_retained, none_retained}
 
@@ -223,11 +222,6 @@ module _ (w : World) (n : Name) where
       let k = kept_why (outside w) (nodes_of w) n h in
       ap (info_in (sweep w).servers) (home_still h ∙ k.is_home) ∙ retained w.servers (server_stays w) k.server k.lives ∙ sym (ap (info_in w.servers) k.is_home)
 
-  pub root_still : stays w n ≡ true → is_server_root (sweep w) n ≡ is_server_root w n
-  root_still h =
-      let k = kept_why (outside w) (nodes_of w) n h in
-      ap (is_root_of (sweep w).servers n) (home_still h ∙ k.is_home) ∙ ap (is_root_at n) (retained w.servers (server_stays w) k.server k.lives) ∙ sym (ap (is_root_of w.servers n) k.is_home)
-
   pub node_gone : stays w n ≡ false → get (sweep w).nodes n ≡ None
   node_gone h = dropped w.nodes (stays w) n h
 
@@ -251,21 +245,6 @@ module _ (w : World) (n : Name) where
 
   pub server_left : (i : ServerInfo) → server_at (sweep w) n ≡ Some i → (server_at w n ≡ Some i) × (server_stays w n ≡ true)
   server_left i e = was_retained w.servers (server_stays w) n i e
-
-  pub header_left : (h : Header) → header_at (sweep w) n ≡ Some h → (header_at w n ≡ Some h) × (stays w n ≡ true)
-  header_left h e =
-      let x = node_of_header (get (sweep w).nodes n) h e in
-      let l = node_left x.0 x.1 in
-      (ap header_in l.0 ∙ ap (λ (z : Header). Some z) x.2, l.1)
-
-  pub lists_left : (m : Name) → lists_at m (body_at (sweep w) n) ≡ true → (lists_at m (body_at w n) ≡ true) × (stays w n ≡ true)
-  lists_left m e = go (get (sweep w).nodes n) refl
-    where
-      go : (o : Option Node) → get (sweep w).nodes n ≡ o → (lists_at m (body_at w n) ≡ true) × (stays w n ≡ true)
-      go None k = let none : false ≡ true = sym (ap (λ o. lists_at m (body_in o)) k) ∙ e in absurd (cc)
-      go (Some x) k =
-          let l = node_left x k in
-          (ap (λ o. lists_at m (body_in o)) l.0 ∙ sym (ap (λ o. lists_at m (body_in o)) k) ∙ e, l.1)
 
   pub none_left : get w.nodes n ≡ None → get (sweep w).nodes n ≡ None
   none_left e = none_retained w.nodes (stays w) n e

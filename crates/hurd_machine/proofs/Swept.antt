@@ -1,17 +1,18 @@
 -- What stays while servers do, and that a world is coherent and linked once it is settled.
-use Rattle.std.proofs.Common.{true, false, ◌≡◌, ◌≤◌, cond, is_some, nat_lt, if◌then◌else◌, Bool, true≢false, Option, Some, None, sym, refl, ◌∙◌, ap, subst}
+use Rattle.std.proofs.Common.{true, ◌≡◌, is_some, nat_lt, if◌then◌else◌, Option, Some, None, sym, refl, ◌∙◌, ap}
 use Rattle.std.specs.FinMap.{get}
 use Rattle.hurd_creds.specs.declared.name.Name.{Name}
-use Rattle.hurd_trans_iface.specs.Nodes.{Node, Header, is_dir, is_entered, is_entered_at}
+use Rattle.hurd_trans_iface.specs.Nodes.{Header, is_dir, is_entered, is_entered_at}
 use Rattle.hurd_nodes.specs.Shown.{ServerInfo, boot_name, info_in, tree_by}
-use Rattle.hurd_machine.specs.World.{World, boot_root, nodes_of, header_at, body_at, home_at, server_at, info_at, lists, lists_at}
+use Rattle.hurd_machine.specs.World.{World, boot_root, nodes_of, header_at, body_at, home_at, server_at, lists_at}
 use Rattle.hurd_machine.specs.Change.{outside, stays, server_stays, settle}
-use Rattle.hurd_machine.specs.Sound.{AreGiven, AreHoused, AreSeated, IsTree, AreTables, Coherent, times_in, times_listed, LeadsUp, AtRoot, Above, Linked}
-use Rattle.hurd_machine.proofs.Nodes.{header_in, body_in, node_of_header}
-use Rattle.hurd_machine.proofs.Sums.{total_retained}
-use Rattle.hurd_machine.proofs.Listed.{entered_by, none_in}
+use Rattle.hurd_machine.specs.Sound.{Coherent, LeadsUp, AtRoot, Above, Linked}
+use Rattle.hurd_machine.proofs.Nodes.{body_in, node_of_header}
+use Rattle.hurd_machine.proofs.Left.{Left, left_coherent, left_linked, times_retained}
+use Rattle.hurd_machine.proofs.Coherence.{reopened}
+use Rattle.hurd_machine.proofs.Listed.{entered_by}
 use Rattle.hurd_machine.proofs.Holders.{let_go, held_by_right, held_stays, left_over}
-use Rattle.hurd_machine.proofs.Stays.{sweep, kept_why, lives_at, lives_active, lives_boot, stays_root, stays_as_root, stays_entered, node_still, home_still, server_still, info_still, root_still, node_left, home_left, active_left, server_left, header_left, lists_left, no_home_left}
+use Rattle.hurd_machine.proofs.Stays.{sweep, kept_why, lives_at, lives_active, lives_boot, stays_root, stays_as_root, stays_entered, node_still, home_still, server_still, node_left, home_left, active_left, server_left, no_home_left}
 use Rattle.hurd_machine.proofs.Sweeps.{settle_by}
 
 -- what stays
@@ -25,9 +26,6 @@ pub record HasServer (w : World) (n : Name) : Type 0 where
 
 pub header_server : (w : World) → Coherent w → (n : Name) (h : Header) → header_at w n ≡ Some h → HasServer w n
 header_server w c n h e = let s = c.housing.homes n h e in record { server = s.0; info = s.1; is_home = s.2; is_info = s.3 }
-
-pub header_info : (w : World) → Coherent w → (n : Name) (h : Header) → header_at w n ≡ Some h → (i : ServerInfo) × (info_at w n ≡ Some i)
-header_info w c n h e = let s = header_server w c n h e in (s.info, ap (info_in w.servers) s.is_home ∙ s.is_info)
 
 -- the root of a server that stays
 pub root_stays : (w : World) → Coherent w → (s : Name) (i : ServerInfo) → server_at w s ≡ Some i → server_stays w s ≡ true → stays w i.root ≡ true
@@ -78,113 +76,38 @@ entry_homed w l c d n e stays_d = go (home_at w n) refl
 
 -- after a sweep
 module _ (w : World) (c : Coherent w) (l : Linked (nodes_of w)) where
-  swept_given : AreGiven (sweep w)
-  swept_given = record {
-    nodes = λ n x e. c.given.nodes n x (node_left w n x e).0;
-    opens = c.given.opens;
-    servers = λ s i e. c.given.servers s i (server_left w s i e).0;
-    rights = c.given.rights;
-    entries = λ d n e. c.given.entries d n (lists_left w d n e).0;
-    parents = λ n p h e ep. c.given.parents n p h (header_left w n h e).0 ep;
-  }
-
-  swept_housing : AreHoused (nodes_of (sweep w))
-  swept_housing = record {
-    homes = λ n h e.
-        let k = header_left w n h e in
-        let i = c.housing.homes n h k.0 in
-        (i.0, i.1, home_still w n k.1 ∙ i.2, server_still w i.0 (lives_at w n i.0 k.1 i.2) ∙ i.3);
-    housed = λ n s e. let k = home_left w n s e in let h = c.housing.housed n s k.0 in (h.0, ap header_in (node_still w n k.1) ∙ h.1);
-    roots = λ s i e. let k = server_left w s i e in home_still w i.root (root_stays w c s i k.0 k.1) ∙ c.housing.roots s i k.0;
-    serving = λ s i e. c.housing.serving s i (server_left w s i e).0;
-    lone = λ n s i e ei. c.housing.lone n s i (home_left w n s e).0 (server_left w s i ei).0;
-  }
-
-  swept_seating : AreSeated (nodes_of (sweep w))
-  swept_seating = record {
-    seated = λ n s e. let k = active_left w n s e in let i = c.seating.seated n s k.0 in (i.0, i.1, server_still w s (lives_active w n s k.0) ∙ i.2);
-    seats = λ n s e. let k = active_left w n s e in let h = c.seating.seats n s k.0 in (h.0, ap header_in (node_still w n k.1) ∙ h.1);
-    alone = λ n m s e f. c.seating.alone n m s (active_left w n s e).0 (active_left w m s f).0;
-    elsewhere = λ n s e f. c.seating.elsewhere n s (active_left w n s e).0 (home_left w n s f).0;
-  }
-
-  swept_tree : IsTree (nodes_of (sweep w))
-  swept_tree = record {
-    kin = λ d n e. let k = lists_left w d n e in entry_homed w l c d n k.0 k.1 ∙ c.tree.kin d n k.0 ∙ sym (home_still w d k.1);
-    trees = λ d n e. let k = lists_left w d n e in ap tree_by (info_still w d k.1) ∙ c.tree.trees d n k.0;
-    below = λ d n h e eh is. c.tree.below d n h (lists_left w d n e).0 (header_left w n h eh).0 is;
-    shapes = λ n x e. c.tree.shapes n x (node_left w n x e).0;
-    distinct = λ n x e. c.tree.distinct n x (node_left w n x e).0;
-    root = (c.tree.root.0, ap header_in (node_still w boot_root (boot_stays w c)) ∙ c.tree.root.1);
-    boot = root_still w boot_root (boot_stays w c) ∙ c.tree.boot;
-    served = home_still w boot_root (boot_stays w c) ∙ c.tree.served;
-  }
-
-  swept_tables : AreTables (sweep w)
-  swept_tables = record {
-    numbers = c.tables.numbers;
-    opened = c.tables.opened;
-    shared = c.tables.shared;
-    written = λ t x r o h at i eo modes eh. c.tables.written t x r o h at i eo modes (header_left w r.node h eh).0;
+  sweep_left : Left w (nodes_of (sweep w)) (stays w)
+  sweep_left = record {
+    node_was = node_left w;
+    home_was = home_left w;
+    active_was = active_left w;
+    server_was = λ s i e. let k = server_left w s i e in (k.0, root_stays w c s i k.0 k.1);
+    node_yet = node_still w;
+    home_yet = home_still w;
+    server_yet = λ n s e h. server_still w s (lives_at w n s h e);
+    seat_yet = λ n s e. server_still w s (lives_active w n s (active_left w n s e).0);
+    boot = boot_stays w c;
+    entry_yet = entry_homed w l c;
   }
 
   pub sweep_coherent : Coherent (sweep w)
-  sweep_coherent = record { given = swept_given; housing = swept_housing; seating = swept_seating; tree = swept_tree; tables = swept_tables }
+  sweep_coherent = left_coherent w c (nodes_of (sweep w)) (stays w) sweep_left
 
--- what lists a node that stays does so too: as many entries name that, and each path up is still there
-module _ (w : World) (c : Coherent w) (l : Linked (nodes_of w)) where
-  times_still : (n : Name) → stays w n ≡ true → times_listed (sweep w).nodes n ≡ times_listed w.nodes n
-  unfolding times_listed
-  times_still n stays_n = total_retained (λ (x : Node). times_in n x.body) w.nodes (stays w) none
-    where
-      none : (d : Name) (x : Node) → stays w d ≡ false → get w.nodes d ≡ Some x → times_in n x.body ≡ 0
-      none d x out is = go (lists n x.body) refl
-        where
-          go : (b : Bool) → lists n x.body ≡ b → times_in n x.body ≡ 0
-          go true e =
-              let at : lists_at n (body_at w d) ≡ true = ap (λ o. lists_at n (body_in o)) is ∙ e in
-              absurd (true≢false (sym (leads_stays w c l d (l.rooted d n at) n (sym (c.tree.kin d n at)) stays_n) ∙ out))
-          go false e = none_in n x.body e
-
-  leads_left : (d : Name) → stays w d ≡ true → LeadsUp (nodes_of w) d → LeadsUp (nodes_of (sweep w)) d
-  leads_left d stays_d (AtRoot is) = AtRoot (root_still w d stays_d ∙ is)
-  leads_left d stays_d (Above p k is up rest) = Above p k (ap header_in (node_still w d stays_d) ∙ is) up (leads_left p (parent_stays w c l d p k is up stays_d) rest)
-
+  -- what lists a node that stays does so too
   pub sweep_linked : Linked (nodes_of (sweep w))
-  sweep_linked = record {
-    nodes = λ n k e.
-        let b = header_left w n k e in
-        let h = l.nodes n k b.0 in
-        record {
-          up = λ p ep. let u = h.up p ep in (u.0, ap (λ o. lists_at n (body_in o)) (node_still w p (parent_stays w c l n p k b.0 ep b.1)) ∙ u.1);
-          top = λ root. h.top (sym (root_still w n b.1) ∙ root);
-          once = λ dir. subst (λ t. t ≤ 1) (sym (times_still n b.1)) (h.once dir);
-          links = λ tree. h.links (sym (ap tree_by (info_still w n b.1)) ∙ tree) ∙ ap (λ t. cond (is_dir k.kind) 1 t) (sym (times_still n b.1));
-        };
-    rooted = λ d n e. let k = lists_left w d n e in leads_left d k.1 (l.rooted d n k.0);
-  }
+  sweep_linked = left_linked w c (nodes_of (sweep w)) (stays w) sweep_left l kept (λ n h.
+      times_retained w.nodes (stays w) n (λ d x is e. kept d n (ap (λ o. lists_at n (body_in o)) is ∙ e) h))
+    where
+      kept : (d n : Name) → lists_at n (body_at w d) ≡ true → stays w n ≡ true → stays w d ≡ true
+      kept d n e h = leads_stays w c l d (l.rooted d n e) n (sym (c.tree.kin d n e)) h
 
 -- without opens that no right names
 pub let_go_coherent : (w : World) → Coherent w → Coherent (let_go w)
-let_go_coherent w c = record {
-  given = record {
-    nodes = c.given.nodes;
-    opens = λ o z e. c.given.opens o z (left_over w o z e).0;
-    servers = c.given.servers;
-    rights = c.given.rights;
-    entries = c.given.entries;
-    parents = c.given.parents;
-  };
-  housing = c.housing;
-  seating = c.seating;
-  tree = c.tree;
-  tables = record {
-    numbers = c.tables.numbers;
-    opened = λ t x r at i. let o = c.tables.opened t x r at i in (o.0, held_stays w r.open_name (held_by_right w.tasks t x r at i) ∙ o.1);
-    shared = c.tables.shared;
-    written = λ t x r o h at i eo modes eh. c.tables.written t x r o h at i (left_over w r.open_name o eo).0 modes eh;
-  };
-}
+let_go_coherent w c = reopened w (let_go w).opens c (record {
+  made = λ o z e. c.given.opens o z (left_over w o z e).0;
+  writes = λ t x r z at i e modes. (z, (left_over w r.open_name z e).0, modes);
+  still = λ t x r z at i e. (z, held_stays w r.open_name (held_by_right w.tasks t x r at i) ∙ e);
+})
 
 -- a world that hangs together and is linked is so once it is settled; and what each sweep of such a world keeps, it keeps
 module _ (P : World → Type 0) (each : (x : World) → Coherent x → Linked (nodes_of x) → P x → P (sweep x)) (last : (x : World) → Coherent x → P x → P (let_go x)) where
