@@ -7,7 +7,7 @@ use Rattle.hurd_machine.specs.World.{World, task_at}
 use Rattle.hurd_machine.specs.Sight.{Seen, Part, AttrOf, EmptyOf, BodyOf, OpenOf, OptionsOf, UsersOf, TaskOf, Sees, SameView, IsGone, part}
 use Rattle.hurd_machine.specs.Sound.{Sound, Below}
 use Rattle.hurd_laws.specs.Step.{reply_of, after, touches}
-use Rattle.hurd_laws.specs.Runs.{TaskCall, run, calls_of, replies_to, TouchesUnseen, Quiet}
+use Rattle.hurd_laws.specs.Runs.{TaskCall, run, calls_of, replies_to, TouchesUnseen, Quiet, Unmoved}
 
 -- a part of something whose name was given before
 abbrev pub IsOld : World → Part → Type 0
@@ -76,4 +76,17 @@ abbrev pub Isolated : Type 0
 Isolated =
     (S : ℕ → Bool) (v w : World) (ms ns : List TaskCall) → Sound v → Sound w → SameView S v w
     → calls_of S ms ≡ calls_of S ns → Quiet S v ms → Quiet S w ns
+    → (replies_to S v ms ≡ replies_to S w ns) × SameView S (run v ms) (run w ns)
+
+-- where the others touch nothing that S sees, they leave its view as it was; the other way round it need not be so: who sets an
+-- attribute to what it is touches it, and moves no view
+abbrev pub QuietUnmoved : Type 0
+QuietUnmoved = (S : ℕ → Bool) (w : World) (ms : List TaskCall) → Sound w → Quiet S w ms → Unmoved S w ms
+
+-- two runs from worlds that have the same view for S, in which S makes the same calls and each call of the others leaves the view
+-- of S as it was: S is told the same, and sees the same afterwards
+abbrev pub IsolatedByView : Type 0
+IsolatedByView =
+    (S : ℕ → Bool) (v w : World) (ms ns : List TaskCall) → Sound v → Sound w → SameView S v w
+    → calls_of S ms ≡ calls_of S ns → Unmoved S v ms → Unmoved S w ns
     → (replies_to S v ms ≡ replies_to S w ns) × SameView S (run v ms) (run w ns)

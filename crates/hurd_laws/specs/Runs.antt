@@ -3,7 +3,7 @@ use Rattle.std.specs.Prelude.{◌≡◌, ℕ, Bool, false, if◌then◌else◌, 
 use Rattle.hurd_machine.specs.Calls.{Call}
 use Rattle.hurd_machine.specs.Calls.{Reply}
 use Rattle.hurd_machine.specs.World.{World}
-use Rattle.hurd_machine.specs.Sight.{Sees, Part}
+use Rattle.hurd_machine.specs.Sight.{Sees, SameView, Part}
 use Rattle.hurd_laws.specs.Step.{reply_of, after, touches}
 
 -- a call with the task that makes it
@@ -36,3 +36,8 @@ TouchesUnseen S w t c = (p : Part) → touches w t c p → Sees S w p → ⊥
 abbrev pub Quiet : (ℕ → Bool) → World → List TaskCall → Type 0
 Quiet S w [] = Unit {0}
 Quiet S w (m ∷ ms) = (S m.task ≡ false → TouchesUnseen S w m.task m.call) × Quiet S (after w m.task m.call) ms
+
+-- each call of another task leaves the view of S as it was, whatever it touches
+abbrev pub Unmoved : (ℕ → Bool) → World → List TaskCall → Type 0
+Unmoved S w [] = Unit {0}
+Unmoved S w (m ∷ ms) = (S m.task ≡ false → SameView S w (after w m.task m.call)) × Unmoved S (after w m.task m.call) ms

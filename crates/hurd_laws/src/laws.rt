@@ -1,5 +1,5 @@
 //! The laws.
-ghost use Rattle.hurd_laws.specs.Laws.{ChangesTouched, Confined, ConfinedRun, GoneUnseen, Isolated, NeverWantsMemory, OthersUnseen, OwnFromView, StaysSound};
+ghost use Rattle.hurd_laws.specs.Laws.{ChangesTouched, Confined, ConfinedRun, GoneUnseen, Isolated, IsolatedByView, NeverWantsMemory, OthersUnseen, OwnFromView, QuietUnmoved, StaysSound};
 
 /// A step changes touched parts, its caller's own task and new things alone; what of the others doesn't stay is gone.
 pub fn changes_touched()
@@ -45,4 +45,16 @@ pub fn confined_run()
 /// nothing that it sees, it is told the same, and sees the same afterwards.
 pub fn isolated()
     ensures { Isolated }
+{}
+
+/// Where the others touch nothing that a set of tasks sees, they leave its view as it was.
+pub fn quiet_unmoved()
+    ensures { QuietUnmoved }
+{}
+
+/// Where a set of tasks makes the same calls in two runs, from worlds that look the same to it, and each call of the others
+/// leaves the view of the set as it was, it is told the same, and sees the same afterwards. Finer than `isolated`, which follows
+/// from it: what is touched need not change.
+pub fn isolated_by_view()
+    ensures { IsolatedByView }
 {}

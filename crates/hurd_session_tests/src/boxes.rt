@@ -97,6 +97,10 @@ impl<S: Server> Server for Counted<S> {
         self.server.set_size(node, size)
     }
 
+    fn content(&self, node: NodeName) -> Option<&[u8]> {
+        self.server.content(node)
+    }
+
     fn readable(&self, node: NodeName, at: u64) -> Option<Readable> {
         self.server.readable(node, at)
     }

@@ -1,5 +1,5 @@
 -- What a script tells a set of tasks, against the commands of these tasks alone.
-use Rattle.std.proofs.Common.{◌≡◌, ◌∙◌, ℕ, suc, Bool, true, false, if◌then◌else◌, List, [], ◌∷◌, ◌++◌, length, Result, sym, refl, ap, ap₂, subst}
+use Rattle.std.proofs.Common.{◌≡◌, ◌∙◌, ℕ, suc, Bool, true, false, true≢false, if◌then◌else◌, List, [], ◌∷◌, ◌++◌, length, Result, sym, refl, ap, ap₂, subst}
 use Rattle.hurd_creds.specs.declared.errno.Errno.{Errno}
 use Rattle.hurd_creds.specs.Access.{IdSets}
 use Rattle.hurd_machine.specs.Calls.{Reply}
@@ -19,7 +19,7 @@ use Rattle.hurd_world.proofs.FirstWorld.{first_sound}
 use Rattle.hurd_shell.specs.Programs.{Prog, gives, calls, asks}
 use Rattle.hurd_shell.specs.Commands.{program_of}
 use Rattle.hurd_shell.specs.Transcript.{Dialogue, tells, Maker, dialogue, part_of, parts_by, played}
-use Rattle.hurd_shell.specs.Isolation.{calls_in, command_calls, script_calls, world_after, commands_by, parts_to, QuietCommands, OnePartEach, ToldInTurn, IsolatedCommands, IsolatedScripts}
+use Rattle.hurd_shell.specs.Isolation.{calls_in, command_calls, script_calls, world_after, commands_by, parts_to, QuietCommands, OnePartEach, ToldInTurn, UnmovedCommands, IsolatedCommands, IsolatedByView, AsWithoutOthers, IsolatedScripts}
 
 -- runs in two halves
 
@@ -117,42 +117,76 @@ none_of S make t other (asks words k) w = none_of S make t other (k (make words)
 -- to S, the commands made in v are its own commands alone, made in any world of the same view
 abbrev Alone : (ℕ → Bool) → Maker → List CommandLine → Type 0
 Alone S make cs =
-    (v u : World) → Sound v → Sound u → SameView S v u → QuietCommands S make cs v
+    (v u : World) → Sound v → Sound u → SameView S v u → UnmovedCommands S make cs v
     → (told_to S make cs v ≡ told_to S make (commands_by S cs) u) × SameView S (world_after make cs v) (world_after make (commands_by S cs) u)
 
 turn : (S : ℕ → Bool) (make : Maker) (c : CommandLine) (cs : List CommandLine) → Alone S make cs → (b : Bool) → S c.task ≡ b → Alone S make (c ∷ cs)
-turn S make c cs ih true ours v u sv su same quiet =
+turn S make c cs ih true ours v u sv su same still =
     let ms = command_calls make c v in
     let ns = command_calls make c u in
     let now = own_program S make c.task ours (program_of (action_of c)) v u sv su same in
-    let later = quiet_both S ms (script_calls make cs (run v ms)) v quiet in
-    let rest = ih (run v ms) (run u ns) (run_sound ms v sv) (run_sound ns u su) now.1 later.1 in
+    let rest = ih (run v ms) (run u ns) (run_sound ms v sv) (run_sound ns u su) now.1 still.1 in
     rw (ours, ours, run_both ms (script_calls make cs (run v ms)) v, run_both ns (script_calls make (commands_by S cs) (run u ns)) u) (
       ap₂ ◌∷◌ (ap (part_of c) now.0) rest.0,
       rest.1,
     )
-turn S make c cs ih false other v u sv su same quiet =
+turn S make c cs ih false other v u sv su same still =
     let ms = command_calls make c v in
-    let later = quiet_both S ms (script_calls make cs (run v ms)) v quiet in
-    let unseen = (isolated S v u ms [] sv su same (none_of S make c.task other (program_of (action_of c)) v) later.0 tt).1 in
-    let rest = ih (run v ms) u (run_sound ms v sv) su unseen later.1 in
+    let unseen = view_of (Agree-trans (Agree-sym (agree_of (still.0 other))) (agree_of same)) in
+    let rest = ih (run v ms) u (run_sound ms v sv) su unseen still.1 in
     rw (other, run_both ms (script_calls make cs (run v ms)) v) rest
 
 alone : (S : ℕ → Bool) (make : Maker) (cs : List CommandLine) → Alone S make cs
-alone S make [] = λ v u sv su same quiet. (refl, same)
+alone S make [] = λ v u sv su same still. (refl, same)
 alone S make (c ∷ cs) = turn S make c cs (alone S make cs) (S c.task) refl
 
 SameView-refl : (S : ℕ → Bool) (v : World) → SameView S v v
 SameView-refl S v = view_of (Agree-refl S v)
 
-pub isolated_commands : IsolatedCommands
-isolated_commands S make v w cs ds sv sw same commands qv qw =
+pub isolated_by_view : IsolatedByView
+isolated_by_view S make v w cs ds sv sw same commands qv qw =
     let l = alone S make cs v v sv sv (SameView-refl S v) qv in
     let r = alone S make ds w v sw sv (view_of (Agree-sym (agree_of same))) qw in
     let end = subst (λ (es : List CommandLine). SameView S (world_after make ds w) (world_after make es v)) (sym commands) r.1 in (
       told_parts S make cs v ∙ (l.0 ∙ (ap (λ (es : List CommandLine). told_to S make es v) commands ∙ (sym r.0 ∙ sym (told_parts S make ds w)))),
       view_of (Agree-trans (agree_of l.1) (Agree-sym (agree_of end))),
     )
+
+-- the others' quiet calls leave the view of S as it was
+quiet_unmoved : (S : ℕ → Bool) (make : Maker) (cs : List CommandLine) (w : World) → Sound w → QuietCommands S make cs w → UnmovedCommands S make cs w
+quiet_unmoved S make [] w sound quiet = tt
+quiet_unmoved S make (c ∷ cs) w sound quiet =
+    let ms = command_calls make c w in
+    let each = quiet_both S ms (script_calls make cs (run w ms)) w quiet in (
+      λ other. (isolated S w w [] ms sound sound (SameView-refl S w) (sym (none_of S make c.task other (program_of (action_of c)) w)) tt each.0).1,
+      quiet_unmoved S make cs (run w ms) (run_sound ms w sound) each.1,
+    )
+
+pub isolated_commands : IsolatedCommands
+isolated_commands S make v w cs ds sv sw same commands qv qw =
+    isolated_by_view S make v w cs ds sv sw same commands (quiet_unmoved S make cs v sv qv) (quiet_unmoved S make ds w sw qw)
+
+-- a set's own commands leave out the others'
+own_unmoved : (S : ℕ → Bool) (make : Maker) (cs : List CommandLine) (w : World) → UnmovedCommands S make (commands_by S cs) w
+own_unmoved S make [] w = tt
+own_unmoved S make (c ∷ cs) w = go (S c.task) refl (own_unmoved S make cs)
+  where
+    go : (b : Bool) → S c.task ≡ b → ((x : World) → UnmovedCommands S make (commands_by S cs) x) → UnmovedCommands S make (commands_by S (c ∷ cs)) w
+    go true ours rest = rw ours (λ other. absurd (true≢false (sym ours ∙ other)), rest (run w (command_calls make c w)))
+    go false other rest = rw other (rest w)
+
+-- and taking them twice is taking them once
+own_twice : (S : ℕ → Bool) (cs : List CommandLine) → commands_by S (commands_by S cs) ≡ commands_by S cs
+own_twice S [] = refl
+own_twice S (c ∷ cs) = go (S c.task) refl (own_twice S cs)
+  where
+    go : (b : Bool) → S c.task ≡ b → commands_by S (commands_by S cs) ≡ commands_by S cs → commands_by S (commands_by S (c ∷ cs)) ≡ commands_by S (c ∷ cs)
+    go true ours rest = rw (ours, ours) (ap (λ (es : List CommandLine). c ∷ es) rest)
+    go false other rest = rw other rest
+
+pub as_without_others : AsWithoutOthers
+as_without_others S make w cs sound still =
+    (isolated_by_view S make w w cs (commands_by S cs) sound sound (SameView-refl S w) (sym (own_twice S cs)) still (own_unmoved S make cs w)).0
 
 -- what S is told of a common beginning is the same
 behind : (S : ℕ → Bool) (make : Maker) (before cs ds : List CommandLine) (w : World)

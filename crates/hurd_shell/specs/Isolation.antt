@@ -1,5 +1,5 @@
 -- What a script tells a set of tasks does not depend on the others' commands.
-use Rattle.std.specs.Prelude.{◌≡◌, ℕ, Bool, if◌then◌else◌, List, [], ◌∷◌, ◌++◌, length}
+use Rattle.std.specs.Prelude.{◌≡◌, ℕ, Bool, false, if◌then◌else◌, List, [], ◌∷◌, ◌++◌, length}
 use Rattle.std.specs.List.{filter}
 use Rattle.hurd_trans_iface.specs.Meaning.{Meaning, Begins}
 use Rattle.hurd_machine.specs.World.{World}
@@ -47,6 +47,12 @@ parts_to S cs parts = []
 abbrev pub QuietCommands : (ℕ → Bool) → Maker → List CommandLine → World → Type 0
 QuietCommands S make cs w = Quiet S w (script_calls make cs w)
 
+-- each command of a task outside S leaves the view of S as it was, whatever its calls touch
+abbrev pub UnmovedCommands : (ℕ → Bool) → Maker → List CommandLine → World → Type 0
+UnmovedCommands S make [] w = Unit {0}
+UnmovedCommands S make (c ∷ cs) w =
+    let x = run w (command_calls make c w) in (S c.task ≡ false → SameView S w x) × UnmovedCommands S make cs x
+
 -- each command has one part in what is told
 abbrev pub OnePartEach : Type 0
 OnePartEach = (make : Maker) (cs : List CommandLine) (w : World) → length (parts_by make (dialogue cs w)) ≡ length cs
@@ -65,6 +71,21 @@ IsolatedCommands =
     → commands_by S cs ≡ commands_by S ds → QuietCommands S make cs v → QuietCommands S make ds w
     → (parts_to S cs (parts_by make (dialogue cs v)) ≡ parts_to S ds (parts_by make (dialogue ds w)))
     × SameView S (world_after make cs v) (world_after make ds w)
+
+-- the same where each command of the others leaves the view of S as it was
+abbrev pub IsolatedByView : Type 0
+IsolatedByView =
+    (S : ℕ → Bool) (make : Maker) (v w : World) (cs ds : List CommandLine) → Sound v → Sound w → SameView S v w
+    → commands_by S cs ≡ commands_by S ds → UnmovedCommands S make cs v → UnmovedCommands S make ds w
+    → (parts_to S cs (parts_by make (dialogue cs v)) ≡ parts_to S ds (parts_by make (dialogue ds w)))
+    × SameView S (world_after make cs v) (world_after make ds w)
+
+-- and so what S is told from some line on, where behind it each command of the others leaves the view of S as it was, is what it is
+-- told there without these commands
+abbrev pub AsWithoutOthers : Type 0
+AsWithoutOthers =
+    (S : ℕ → Bool) (make : Maker) (w : World) (cs : List CommandLine) → Sound w → UnmovedCommands S make cs w
+    → parts_to S cs (parts_by make (dialogue cs w)) ≡ parts_to S (commands_by S cs) (parts_by make (dialogue (commands_by S cs) w))
 
 -- two scripts over boot servers of one meaning, whose servers one maker makes, have the same users and begin with the same commands;
 -- where S has the same commands after these, and the others' commands after these are quiet, the parts for S's commands are the same

@@ -1,5 +1,5 @@
 //! What a script tells a set of tasks does not depend on the others' commands.
-ghost use Rattle.hurd_shell.specs.Isolation.{IsolatedCommands, IsolatedScripts, OnePartEach, ToldInTurn};
+ghost use Rattle.hurd_shell.specs.Isolation.{AsWithoutOthers, IsolatedByView, IsolatedCommands, IsolatedScripts, OnePartEach, ToldInTurn};
 
 /// A law: each command has one part in what is told, and what is told of commands behind others is what is told of them in the
 /// world after those.
@@ -13,4 +13,11 @@ pub fn scripts_are_told_in_turn()
 pub fn scripts_are_isolated()
     ensures commands { IsolatedCommands }
     ensures scripts { IsolatedScripts }
+{}
+
+/// A law, finer than that: where each command of the others leaves what a set of tasks sees as it was, whatever its calls touch, the
+/// set is told the same, and so what it is told without these commands.
+pub fn unmoved_scripts_are_isolated()
+    ensures views { IsolatedByView }
+    ensures without { AsWithoutOthers }
 {}
