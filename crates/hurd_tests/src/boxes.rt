@@ -115,6 +115,10 @@ impl Server for Counted {
         self.tree.set_size(node, size)
     }
 
+    fn content(&self, node: NodeName) -> Option<&[u8]> {
+        self.tree.content(node)
+    }
+
     fn readable(&self, node: NodeName, at: u64) -> Option<Readable> {
         self.tree.readable(node, at)
     }

@@ -1,5 +1,5 @@
-//! Tests that cross crates: transcripts of calls on a world of boxed servers, boxes that count what becomes of them, and what
-//! alice is told of bob.
+//! Tests that cross crates: transcripts of calls on a world of boxed servers, boxes that count what becomes of them, what
+//! alice is told of bob, and what she sees.
 //!
 //! Each transcript is gone through twice: with ample memory, where no call may answer `ENOMEM`, and by a test whose name begins
 //! with `refused_`, which `tests/refuse-each` runs with each request for memory refused in turn: there one call may answer
@@ -20,3 +20,5 @@ mod fixture;
 mod isolation;
 #[cfg(test)]
 mod nodes;
+#[cfg(test)]
+mod sight;

@@ -14,8 +14,8 @@ mod world;
 
 pub use boxed::run_boxed;
 pub use hurd_laws::{
-    changes_touched, confined, confined_run, gone_unseen, isolated, never_wants_memory,
-    others_unseen, own_from_view, stays_sound,
+    changes_touched, confined, confined_run, gone_unseen, isolated, isolated_by_view,
+    never_wants_memory, others_unseen, own_from_view, quiet_unmoved, stays_sound,
 };
 pub use hurd_machine::{Call, Lookup, Reply, RetryKind, Whence};
 pub use world::{MOST_TASKS, World};

@@ -74,6 +74,13 @@ impl<S: Server> World<S> {
         })
     }
 
+    /// Servers, nodes, tasks and opens, to be looked at from outside all tasks. Takes no memory.
+    pub fn core(&self) -> &Core<S>
+        ensures { result.now ≡ self.now }
+    {
+        &self.core
+    }
+
     /// Makes one call of a task. A refused call changes nothing, and gives back the server that it brought, which some words made;
     /// a refused `fsys_startup` alone gives up what the task was to start, but for want of memory.
     ///

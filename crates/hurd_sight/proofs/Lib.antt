@@ -1,0 +1,9 @@
+pub mod CouldLaws
+pub mod ReachLaws
+pub mod FoundLaws
+pub mod NodeLaws
+pub mod FollowLaws
+pub mod SightLaws
+pub mod NameLaws
+pub mod PartLaws
+pub mod NearLaws

@@ -1,0 +1,251 @@
+-- What is gathered of ids, one thing after another, and that it is what a set of tasks can act with.
+use Rattle.std.proofs.Common.{◌≡◌, ◌∙◌, ◌⊎◌, inl, inr, sym, refl, ap, ap₂, subst, ℕ, zero, suc, ◌+◌, ◌<◌, ◌==◌, arith, Bool, true, false, true≢false, List, [], ◌∷◌, ◌++◌, map, take, take_all, length, get_or, ◌≤◌}
+use Rattle.std.specs.Prelude.{◌↔◌, ◌||◌, Option, Some, None, Result, Ok, Err, IfOk, OnOk, slice_get, nat_eq}
+use Rattle.std.specs.List.{list_any}
+use Rattle.std.proofs.lemmas.Bool.{or_cases, or_left, or_right}
+use Rattle.std.proofs.lemmas.Bool.Decides.{nat_tests}
+use Rattle.std.proofs.lemmas.List.{take_more, map_push}
+use Rattle.std.proofs.lemmas.List.Folds.{list_any-append}
+use Rattle.std.specs.Ordering.{nat_cmp}
+use Rattle.std.specs.FinSet as set
+use Rattle.hurd_creds.specs.declared.name.TaskId.{TaskId}
+use Rattle.hurd_creds.specs.Access.{IdSet, IdSets, holds_gid, holds_uid, is_among}
+use Rattle.hurd_ports.specs.declared.table.IoRight.{IoRight}
+use Rattle.hurd_ports.specs.declared.table.Port.{Port}
+use Rattle.hurd_ports.specs.declared.table.PendingStart.{PendingStart}
+use Rattle.hurd_ports.specs.declared.table.Right.{Right}
+use Rattle.hurd_ports.specs.declared.table.Right.TheVariants.{Io, Control, Start}
+use Rattle.hurd_ports.specs.Tables.{Task, rights_of, start_of}
+use Rattle.hurd_machine.specs.World.{World, IsAmong, task_at}
+use Rattle.hurd_machine.specs.Sight.{HasUid, HasGid, UidOfTask, UidOfRight, GidOfTask, GidOfRight, Holds}
+use Rattle.hurd_sight.specs.Reach.{Gains, Gathers, ReachIsGathered, Reaches, Serves, among, holds_at, right_holds, some_holds, task_holds}
+
+or_false : (a : Bool) → (a || false) ≡ a
+or_false true = refl
+or_false false = refl
+
+or_join : (a b c : Bool) → ((a || b) || c) ≡ (a || (b || c))
+or_join true b c = refl
+or_join false b c = refl
+
+pub ok_then : {T E : Type 0} (r : Result T E) {P Q : Type 0} → (P → Q) → OnOk r P → OnOk r Q
+ok_then (Ok x) f p = f p
+ok_then (Err e) f p = tt
+
+pub if_ok : {T E : Type 0} (r : Result T E) {P Q : T → Type 0} → ((x : T) → P x → Q x) → IfOk r P → IfOk r Q
+if_ok (Ok x) f p = f x p
+if_ok (Err e) f p = tt
+
+-- whether there is none, by whether it is known that the length is 0
+pub is_none : (b : Bool) (n : ℕ) → ((b ≡ true) ↔ (n ≡ 0)) → b ≡ (n == 0)
+is_none true n iff = sym (rw (iff.0 refl) refl)
+is_none false zero iff = absurd (true≢false (sym (iff.1 refl)))
+is_none false (suc n) iff = sym (grind (arith, nat_tests))
+
+-- one step after another
+
+pub gains_none : (ids : IdSets) → Gains ids ids (λ holds. false)
+gains_none ids = record { uids = λ u. sym (or_false (holds_uid ids u)); gids = λ g. sym (or_false (holds_gid ids g)) }
+
+pub gains_both : {a b c : IdSets} {P Q : (IdSets → Bool) → Bool} → Gains a b P → Gains b c Q → Gains a c (λ holds. P holds || Q holds)
+gains_both {a} {b} {c} {P} {Q} x y = record {
+  uids = λ u. y.uids u ∙ (ap (λ (t : Bool). t || Q (λ i. holds_uid i u)) (x.uids u) ∙ or_join (holds_uid a u) (P (λ i. holds_uid i u)) (Q (λ i. holds_uid i u)));
+  gids = λ g. y.gids g ∙ (ap (λ (t : Bool). t || Q (λ i. holds_gid i g)) (x.gids g) ∙ or_join (holds_gid a g) (P (λ i. holds_gid i g)) (Q (λ i. holds_gid i g)));
+}
+
+pub gains_as : {a b : IdSets} {P : (IdSets → Bool) → Bool} (Q : (IdSets → Bool) → Bool) → ((holds : IdSets → Bool) → P holds ≡ Q holds) → Gains a b P → Gains a b Q
+gains_as {a} {b} {P} Q same x = record {
+  uids = λ u. x.uids u ∙ ap (λ (t : Bool). holds_uid a u || t) (same (λ i. holds_uid i u));
+  gids = λ g. x.gids g ∙ ap (λ (t : Bool). holds_gid a g || t) (same (λ i. holds_gid i g));
+}
+
+-- ids as lists
+
+abbrev listed_ids : List ℕ → List ℕ → IdSets
+listed_ids us gs = record { uids = set.from_list us; gids = set.from_list gs }
+
+-- ids that were put into both lists
+pub gains_ids : (us vs gs hs uids gids : List ℕ) (ids : IdSets) → set.from_list {R = nat_cmp} uids ≡ ids.uids → set.from_list {R = nat_cmp} gids ≡ ids.gids
+    → ((u : ℕ) → is_among vs u ≡ (is_among us u || is_among uids u)) → ((g : ℕ) → is_among hs g ≡ (is_among gs g || is_among gids g))
+    → Gains (listed_ids us gs) (listed_ids vs hs) (λ holds. holds ids)
+gains_ids us vs gs hs uids gids ids eu eg pu pg = record { uids = λ u. told us vs uids ids.uids u eu (pu u); gids = λ g. told gs hs gids ids.gids g eg (pg g) }
+  where
+    told : (xs ys zs : List ℕ) (s : IdSet) (u : ℕ) → set.from_list zs ≡ s → is_among ys u ≡ (is_among xs u || is_among zs u)
+        → set.contains (set.from_list {R = nat_cmp} ys) u ≡ (set.contains (set.from_list {R = nat_cmp} xs) u || set.contains s u)
+    told xs ys zs s u e p =
+        set.contains-from_list_nat ys u
+        ∙ (p
+        ∙ ap₂ (λ (a b : Bool). a || b) (sym (set.contains-from_list_nat xs u)) (sym (set.contains-from_list_nat zs u) ∙ ap (λ (t : IdSet). set.contains t u) e))
+
+any_more : {X : Type 0} (f : X → Bool) (xs : List X) (i : ℕ) (x : X) → i < length xs → x ≡ get_or xs i x → list_any f (take (i + 1) xs) ≡ (list_any f (take i xs) || f x)
+any_more f xs i x below at =
+    ap (list_any f) (take_more xs i x below)
+    ∙ (list_any-append f (take i xs) (get_or xs i x ∷ [])
+    ∙ ap (λ (b : Bool). list_any f (take i xs) || b) (or_false (f (get_or xs i x)) ∙ ap f (sym at)))
+
+-- what one more of a list adds
+pub gains_more : {X : Type 0} {a b c : IdSets} (f : (IdSets → Bool) → X → Bool) (xs : List X) (i : ℕ) (x : X) → i < length xs → x ≡ get_or xs i x
+    → Gains a b (λ holds. list_any (f holds) (take i xs)) → Gains b c (λ holds. f holds x)
+    → Gains a c (λ holds. list_any (f holds) (take (i + 1) xs))
+gains_more f xs i x below at before step = gains_as (λ holds. list_any (f holds) (take (i + 1) xs)) (λ holds. sym (any_more (f holds) xs i x below at)) (gains_both before step)
+
+-- the same of the one at an index
+pub gains_at : {X : Type 0} {a b c : IdSets} (f : (IdSets → Bool) → X → Bool) (xs : List X) (i : ℕ) (d : X) → i < length xs
+    → Gains a b (λ holds. list_any (f holds) (take i xs)) → Gains b c (λ holds. f holds (get_or xs i d))
+    → Gains a c (λ holds. list_any (f holds) (take (i + 1) xs))
+gains_at f xs i d below before step = gains_as (λ holds. list_any (f holds) (take (i + 1) xs)) same (gains_both before step)
+  where
+    same : (holds : IdSets → Bool) → (list_any (f holds) (take i xs) || f holds (get_or xs i d)) ≡ list_any (f holds) (take (i + 1) xs)
+    same holds =
+        sym (ap (list_any (f holds)) (take_more xs i d below)
+        ∙ (list_any-append (f holds) (take i xs) (get_or xs i d ∷ [])
+        ∙ ap (λ (b : Bool). list_any (f holds) (take i xs) || b) (or_false (f holds (get_or xs i d)))))
+
+-- and the whole list
+pub gains_all : {X : Type 0} {a b : IdSets} (f : (IdSets → Bool) → X → Bool) (xs : List X) (i : ℕ) → length xs ≤ i
+    → Gains a b (λ holds. list_any (f holds) (take i xs)) → Gains a b (λ holds. list_any (f holds) xs)
+gains_all f xs i past g = gains_as (λ holds. list_any (f holds) xs) (λ holds. ap (list_any (f holds)) (take_all i xs past)) g
+
+-- all rights of a task: its pending start holds no id
+pub task_gains : {a b : IdSets} (x : Task)
+    → Gains a b (λ holds. (holds x.ids || list_any (λ (p : Port). right_holds holds p.right) x.ports) || list_any (right_holds holds) x.inbox)
+    → Gains a b (λ holds. task_holds holds x)
+task_gains x g = gains_as (λ holds. task_holds holds x) same g
+  where
+    any_rights : (holds : IdSets → Bool) (ps : List Port) (rs : List Right)
+        → list_any (right_holds holds) (map (λ p. p.right) ps ++ rs) ≡ (list_any (λ (p : Port). right_holds holds p.right) ps || list_any (right_holds holds) rs)
+    any_rights holds [] rs = refl
+    any_rights holds (p ∷ ps) rs = ap (λ (b : Bool). right_holds holds p.right || b) (any_rights holds ps rs) ∙ sym (or_join (right_holds holds p.right) _ _)
+
+    no_start : (holds : IdSets → Bool) (s : Option PendingStart) (rs : List Right) → list_any (right_holds holds) (start_of s ++ rs) ≡ list_any (right_holds holds) rs
+    no_start holds None rs = refl
+    no_start holds (Some s) rs = refl
+
+    same : (holds : IdSets → Bool) → ((holds x.ids || list_any (λ (p : Port). right_holds holds p.right) x.ports) || list_any (right_holds holds) x.inbox) ≡ task_holds holds x
+    same holds =
+        or_join (holds x.ids) _ _
+        ∙ ap (λ (b : Bool). holds x.ids || b) (sym (no_start holds x.pending (map (λ p. p.right) x.ports ++ x.inbox) ∙ any_rights holds x.ports x.inbox))
+
+-- one found, and one to be found
+
+pub any_found : {X : Type 0} (f : X → Bool) (xs : List X) → list_any f xs ≡ true → (x : X) × IsAmong x xs × (f x ≡ true)
+any_found f [] e = absurd (true≢false (sym e))
+any_found f (x ∷ xs) e = elim (or_cases (f x) (list_any f xs) e) [
+  | inl here ↦ (x, inl refl, here)
+  | inr there ↦ let rest = any_found f xs there in (rest.0, inr rest.1, rest.2)
+]
+
+pub found_any : {X : Type 0} (f : X → Bool) (xs : List X) (x : X) → IsAmong x xs → f x ≡ true → list_any f xs ≡ true
+found_any f [] x among e = absurd among
+found_any f (y ∷ ys) x (inl same) e = or_left (f y) (list_any f ys) (ap f same ∙ e)
+found_any f (y ∷ ys) x (inr there) e = or_right (f y) (list_any f ys) (found_any f ys x there e)
+
+nat_eq-is : (a b : ℕ) → nat_eq a b ≡ true → a ≡ b
+nat_eq-is a b e = grind (arith, nat_tests)
+
+nat_eq-itself : (a : ℕ) → nat_eq a a ≡ true
+nat_eq-itself a = grind (arith, nat_tests)
+
+-- a task of a list, by its number
+pub listed_task : (tasks : List TaskId) (t : ℕ) → among tasks t ≡ true → (x : TaskId) × IsAmong x tasks × (x.0 ≡ t)
+listed_task tasks t e = let found = any_found (λ (x : TaskId). nat_eq x.0 t) tasks e in (found.0, found.1, nat_eq-is found.0.0 t found.2)
+
+pub ours : (tasks : List TaskId) (x : TaskId) → IsAmong x tasks → among tasks x.0 ≡ true
+ours tasks x here = found_any (λ (y : TaskId). nat_eq y.0 x.0) tasks x here (nat_eq-itself x.0)
+
+-- who of some tasks passes a test of ids: a task itself, or a right of one
+data Holder (S : ℕ → Bool) (w : World) (holds : IdSets → Bool) : Type 0 where
+  ByTask : (t : ℕ) → S t ≡ true → (x : Task) → task_at w t ≡ Some x → holds x.ids ≡ true → Holder S w holds
+  ByRight : (r : IoRight) → Holds S w (Io r) → holds r.ids ≡ true → Holder S w holds
+
+module _ (w : World) (tasks : List TaskId) (holds : IdSets → Bool) where
+  holder_from : some_holds holds w.tasks tasks ≡ true → Holder (among tasks) w holds
+  holder_from e =
+      let found = any_found (λ (t : TaskId). holds_at holds (slice_get w.tasks t.0)) tasks e in
+      at_task found.0 found.1 (slice_get w.tasks found.0.0) refl found.2
+    where
+      by_right : (t : TaskId) → IsAmong t tasks → (x : Task) → slice_get w.tasks t.0 ≡ Some x → (r : Right) → IsAmong r (rights_of x) → right_holds holds r ≡ true
+          → Holder (among tasks) w holds
+      by_right t here x is (Io r) there h = ByRight r (record { task = t.0; ours = ours tasks t here; seat = x; is_task = is; here = there }) h
+      by_right t here x is (Control s) there h = absurd (true≢false (sym h))
+      by_right t here x is (Start n) there h = absurd (true≢false (sym h))
+
+      at_task : (t : TaskId) → IsAmong t tasks → (o : Option Task) → slice_get w.tasks t.0 ≡ o → holds_at holds o ≡ true → Holder (among tasks) w holds
+      at_task t here None is h = absurd (true≢false (sym h))
+      at_task t here (Some x) is h = elim (or_cases (holds x.ids) (list_any (right_holds holds) (rights_of x)) h) [
+        | inl own ↦ ByTask t.0 (ours tasks t here) x is own
+        | inr right ↦ let found = any_found (right_holds holds) (rights_of x) right in by_right t here x is found.0 found.1 found.2
+      ]
+
+  there : (t : ℕ) → among tasks t ≡ true → (x : Task) → slice_get w.tasks t ≡ Some x → task_holds holds x ≡ true → some_holds holds w.tasks tasks ≡ true
+  there t mine x is h =
+      let found = listed_task tasks t mine in
+      let at : slice_get w.tasks found.0.0 ≡ Some x = ap (slice_get w.tasks) found.2 ∙ is in
+      found_any (λ (q : TaskId). holds_at holds (slice_get w.tasks q.0)) tasks found.0 found.1 (ap (holds_at holds) at ∙ h)
+
+  holder_to : Holder (among tasks) w holds → some_holds holds w.tasks tasks ≡ true
+  holder_to (ByTask t mine x is h) = there t mine x is (or_left (holds x.ids) (list_any (right_holds holds) (rights_of x)) h)
+  holder_to (ByRight r has h) =
+      there has.task has.ours has.seat has.is_task
+      (or_right (holds has.seat.ids) (list_any (right_holds holds) (rights_of has.seat)) (found_any (right_holds holds) (rights_of has.seat) (Io r) has.here h))
+
+pub reach_is_gathered : ReachIsGathered
+reach_is_gathered w tasks ids g = record {
+  uids = λ u. (λ e. uid_of (holder_from w tasks (λ i. holds_uid i u) (sym (g.uids u) ∙ e)), λ has. g.uids u ∙ holder_to w tasks (λ i. holds_uid i u) (of_uid has));
+  gids = λ q. (λ e. gid_of (holder_from w tasks (λ i. holds_gid i q) (sym (g.gids q) ∙ e)), λ has. g.gids q ∙ holder_to w tasks (λ i. holds_gid i q) (of_gid has));
+}
+  where
+    uid_of : {S : ℕ → Bool} {v : World} {u : ℕ} → Holder S v (λ i. holds_uid i u) → HasUid S v u
+    uid_of (ByTask t mine x is h) = UidOfTask t mine x is h
+    uid_of (ByRight r has h) = UidOfRight r has h
+
+    of_uid : {S : ℕ → Bool} {v : World} {u : ℕ} → HasUid S v u → Holder S v (λ i. holds_uid i u)
+    of_uid (UidOfTask t mine x is h) = ByTask t mine x is h
+    of_uid (UidOfRight r has h) = ByRight r has h
+
+    gid_of : {S : ℕ → Bool} {v : World} {q : ℕ} → Holder S v (λ i. holds_gid i q) → HasGid S v q
+    gid_of (ByTask t mine x is h) = GidOfTask t mine x is h
+    gid_of (ByRight r has h) = GidOfRight r has h
+
+    of_gid : {S : ℕ → Bool} {v : World} {q : ℕ} → HasGid S v q → Holder S v (λ i. holds_gid i q)
+    of_gid (GidOfTask t mine x is h) = ByTask t mine x is h
+    of_gid (GidOfRight r has h) = ByRight r has h
+
+-- from no ids, what some tasks hold
+pub gathered : (ts : List Task) (tasks : List TaskId) (a b : IdSets) → ((u : ℕ) → holds_uid a u ≡ false) → ((g : ℕ) → holds_gid a g ≡ false)
+    → Gains a b (λ holds. some_holds holds ts tasks) → Gathers ts tasks b
+gathered ts tasks a b no_uid no_gid g = record {
+  uids = λ u. g.uids u ∙ ap (λ (t : Bool). t || some_holds (λ i. holds_uid i u) ts tasks) (no_uid u);
+  gids = λ q. g.gids q ∙ ap (λ (t : Bool). t || some_holds (λ i. holds_gid i q) ts tasks) (no_gid q);
+}
+
+pub none_listed : (ks : List ℕ) → ks ≡ [] → (u : ℕ) → set.contains (set.from_list {R = nat_cmp} ks) u ≡ false
+none_listed ks e u = ap (λ (xs : List ℕ). set.contains (set.from_list {R = nat_cmp} xs) u) e ∙ set.contains-empty nat_cmp u
+
+-- where uid 0 is held, any server could be served
+pub serves_zero : (ids served : IdSets) (b : Bool) → b ≡ true → b ≡ holds_uid ids 0 → (b ≡ true) ↔ Serves ids served
+serves_zero ids served b is e = (λ h. (0, sym e ∙ is, inr refl), λ s. is)
+
+-- else one of its uids has to be
+pub serves_one : (ids served : IdSets) (us : List ℕ) (b : Bool) → set.from_list {R = nat_cmp} us ≡ served.uids → holds_uid ids 0 ≡ false → b ≡ list_any (holds_uid ids) us
+    → (b ≡ true) ↔ Serves ids served
+serves_one ids served us b same zeroless e = (to, from)
+  where
+    among_them : (u : ℕ) → holds_uid served u ≡ is_among us u
+    among_them u = ap (λ (s : IdSet). set.contains s u) (sym same) ∙ set.contains-from_list_nat us u
+
+    to : b ≡ true → Serves ids served
+    to is =
+        let found = any_found (holds_uid ids) us (sym e ∙ is) in
+        (found.0, found.2, inl (among_them found.0 ∙ found_any (λ (y : ℕ). nat_eq y found.0) us found.0 found.1 (nat_eq-itself found.0)))
+
+    by_uid : (u : ℕ) → holds_uid ids u ≡ true → holds_uid served u ≡ true → b ≡ true
+    by_uid u held theirs =
+        let found = any_found (λ (y : ℕ). nat_eq y u) us (sym (among_them u) ∙ theirs) in
+        e ∙ found_any (holds_uid ids) us found.0 found.1 (ap (holds_uid ids) (nat_eq-is found.0 u found.2) ∙ held)
+
+    from : Serves ids served → b ≡ true
+    from s = elim s.2 [
+      | inl theirs ↦ by_uid s.0 s.1 theirs
+      | inr zero_is ↦ absurd (true≢false (sym (ap (holds_uid ids) (sym zero_is) ∙ s.1) ∙ zeroless))
+    ]

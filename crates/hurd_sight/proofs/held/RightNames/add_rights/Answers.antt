@@ -1,0 +1,13 @@
+use Rattle.hurd_machine.specs.World.{IsAmong}
+use Rattle.hurd_sight.proofs.NameLaws.{rights_next, rights_none, rights_whole}
+use Rattle.hurd_sight.proofs.held.RightNames.add_rights.Goals as goal
+
+pub loop-right-init : goal.loop-right-init
+loop-right-init c = rights_none c.args.ports.now.state.opens _ c.args.self.now (λ r none. none)
+
+pub loop-right-preserved : goal.loop-right-preserved
+loop-right-preserved c =
+    rights_next c.args.ports.now.state.opens c.args.rights.now c.loop-right.right-index c.right-item.result c.loop-right-test.true c.right-item.is c.loop-right.invariant c.in_ok-add_right.ensures
+
+pub returns : goal.returns
+returns c = rights_whole c.args.ports.now.state.opens c.args.rights.now c.loop-right.right-index c.loop-right-test.false c.loop-right.invariant

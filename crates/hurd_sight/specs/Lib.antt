@@ -1,0 +1,4 @@
+pub mod Reach
+pub mod Found
+pub mod Parts
+pub mod Looks

@@ -1,0 +1,63 @@
+-- Which parts of a world a set of tasks sees, by what was gathered when it was looked at.
+use Rattle.std.specs.Prelude.{◌≡◌, ◌↔◌, ℕ, ◌||◌, ◌&&◌, not, is_some, Bool, true, false, Option, Some, None}
+use Rattle.std.specs.FinMap as fin
+use Rattle.hurd_creds.specs.declared.name.Name.{Name}
+use Rattle.hurd_creds.specs.declared.attrs.Want.TheVariants.{Read, Write, Exec}
+use Rattle.hurd_creds.specs.Access.{IdSets}
+use Rattle.hurd_creds.specs.Names.{same_name}
+use Rattle.hurd_trans_iface.specs.Nodes.{Header, header_of, is_dir}
+use Rattle.hurd_nodes.specs.Shown.{NodeState, boot_name}
+use Rattle.hurd_ports.specs.declared.table.Right.TheVariants.{Control}
+use Rattle.hurd_machine.specs.World.{World, nodes_of}
+use Rattle.hurd_machine.specs.Sight.{Holds, Sees, bare}
+use Rattle.hurd_sight.specs.Reach.{Reaches, among, could_with}
+use Rattle.hurd_sight.specs.Found.{IsSight, is_found}
+use Rattle.hurd_sight.specs.Parts.{AreThose, HasOpen, HasRead, KnownByNode, SentByNode, is_in, part_of}
+use Rattle.hurd_sight.specs.declared.looks.Sight.{Sight}
+use Rattle.hurd_sight.specs.declared.parts.SeenPart.{SeenPart}
+use Rattle.hurd_sight.specs.declared.parts.SeenPart.TheVariants as seen
+
+-- all that is wanted to say which parts of a world S sees
+pub record Looks (S : ℕ → Bool) (w : World) (v : Sight) : Type 0 where
+  pub tasks : (t : ℕ) → among v.tasks.items t ≡ S t
+  pub reach : Reaches S w v.reach
+  pub found : IsSight S w v.found
+  pub opens : AreThose v.rights.opens (HasOpen S w)
+  pub readable : AreThose v.rights.readable (HasRead S w)
+  pub controlled : AreThose v.rights.controlled (λ s. Holds S w (Control s))
+  pub known : AreThose v.known (KnownByNode S w)
+  pub sendable : AreThose v.sendable (SentByNode S w)
+
+-- whether a node of this header could be read, or searched if it is a directory, or is open to read
+abbrev pub reads_with : Sight → Name → Option Header → Bool
+reads_with v n None = false
+reads_with v n (Some x) = could_with v.reach (bare x) Read || ((is_dir x.kind && could_with v.reach (bare x) Exec) || is_in n v.rights.readable)
+
+-- whether a node of this header could be written
+abbrev pub could_write : IdSets → Option Header → Bool
+could_write ids None = false
+could_write ids (Some a) = could_with ids (bare a) Write
+
+-- whether a node could be written, if there is one
+abbrev pub writes_at : NodeState → IdSets → Option Name → Bool
+writes_at h ids None = false
+writes_at h ids (Some p) = could_write ids (header_of h.nodes p)
+
+-- whether it is told if a directory of this header is empty
+abbrev pub tells_empty : NodeState → Sight → Name → Option Header → Bool
+tells_empty h v n None = false
+tells_empty h v n (Some x) = is_dir x.kind && (reads_with v n (Some x) || writes_at h v.reach x.parent)
+
+-- whether a part is seen
+abbrev pub sees_with : NodeState → Sight → SeenPart → Bool
+sees_with h v (seen.Attributes n) = is_found n v.found
+sees_with h v (seen.Empty n) = is_found n v.found && tells_empty h v n (header_of h.nodes n)
+sees_with h v (seen.Body n) = is_found n v.found && reads_with v n (header_of h.nodes n)
+sees_with h v (seen.Open o) = is_in o v.rights.opens
+sees_with h v (seen.Options s) = is_in s v.known || is_in s v.rights.controlled
+sees_with h v (seen.Users s) = not (same_name s boot_name) && (is_some (fin.get h.servers s) && (is_in s v.sendable || is_in s v.rights.controlled))
+sees_with h v (seen.Task t) = among v.tasks.items t.0
+
+-- a part is told exactly where S sees it, of the nodes that were looked at
+abbrev pub PartsAreSeen : Type 0
+PartsAreSeen = (S : ℕ → Bool) (w : World) (v : Sight) (p : SeenPart) → Looks S w v → (sees_with (nodes_of w) v p ≡ true) ↔ Sees S w (part_of p)

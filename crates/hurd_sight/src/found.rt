@@ -1,0 +1,430 @@
+//! The nodes that a set of tasks sees, and why.
+ghost use Rattle.std.specs.Prelude.{◌≡◌, ◌<◌, ◌^◌, false, length, IfOk, OnOk, slice_get};
+ghost use Rattle.std.specs.Option.{option_map};
+ghost use Rattle.hurd_creds.specs.declared.name.Name.{Name};
+ghost use Rattle.hurd_creds.specs.Memory.{is_no_memory};
+ghost use Rattle.hurd_trans_iface.specs.Nodes.{header_of, is_dir};
+ghost use Rattle.hurd_nodes.specs.Shown.{shown};
+ghost use Rattle.hurd_ports.specs.Seats.{seat_task};
+ghost use Rattle.hurd_ports.specs.Tables.{rights_of, start_of};
+ghost use Rattle.hurd_sight.specs.Found.{Collects, Follows, FoundAll, FoundIsSeen, OfActive, OfChild, OfControl, OfEntry, OfName, OfNames, OfNode, OfParent, OfPorts, OfRight, OfRights, OfServer, OfTask, OfTasks, OfWay, OfWays, ServedRoot, found_more, is_found, parent_in, searched_by};
+ghost use Rattle.hurd_sight.specs.declared.found.Why.{Why};
+
+use crate::reach::Reach;
+use hurd_creds::{Attrs, Errno, Kind, NodeName, ServerName, TaskId, Want};
+use hurd_nodes::{BOOT_NAME, Nodes};
+use hurd_ports::{Parent, PendingStart, Port, Ports, Right, TaskSeat};
+use hurd_trans_iface::{Names, Server};
+use indexmap::IndexMap;
+use std::alloc::{AllocError, Global};
+use std::marker::Model;
+
+/// Why a node is seen: by what it was found first. A node in it is one that was found before.
+#[derive(Clone, Copy, Debug, PartialEq, Eq)]
+pub enum Why {
+    /// It is the root of the tree.
+    Root,
+    /// A right is on it.
+    Held,
+    /// A right came in by it.
+    Way,
+    /// It is the root of a server that is controlled.
+    Controlled,
+    /// Its translator is to be started.
+    Pending,
+    /// An entry of this directory, which could be searched, names it.
+    Child(NodeName),
+    /// It is the parent of this directory.
+    Parent(NodeName),
+    /// It is the root of the server that is active on this node.
+    Active(NodeName),
+    /// It is the root of this node's server, which could be served.
+    ServerRoot(NodeName),
+}
+
+/// Nodes in the order in which they were found, each once, with why.
+#[derive(Drop)]
+pub struct Found {
+    nodes: IndexMap<NodeName, Why>,
+}
+
+impl Model for Found {
+    ghost use Rattle.std.specs.Prelude.{List};
+    ghost use Rattle.hurd_creds.specs.declared.name.Name.{Name};
+    ghost use Rattle.hurd_creds.specs.Memory.{is_no_memory};
+    ghost use Rattle.hurd_sight.specs.declared.found.Why.TheVariants.{the_data as Why};
+
+    ghost Value = { List (Name × Why) };
+
+    ghost view = { λ f. f.nodes.entries };
+}
+
+impl Found {
+    /// All nodes that the rights of these tasks show, with the ids that they reach.
+    pub fn of<S: Server>(
+        alloc: Global,
+        nodes: &Nodes<S>,
+        ports: &Ports,
+        reach: &Reach,
+        tasks: &[TaskId],
+    ) -> Result<Found, AllocError>
+        ensures { IfOk result (λ found. FoundAll (shown S.meaning nodes.now) ports.now.state.tasks reach.now tasks.now found) }
+    {
+        let mut found = Found {
+            nodes: IndexMap::new(alloc),
+        };
+        found.add(BOOT_NAME, Why::Root)?;
+        found.add_tasks(nodes, ports, tasks)?;
+        found.follow(alloc, nodes, reach)?;
+        Ok(found)
+    }
+
+    /// How many there are.
+    pub fn len(&self) -> usize
+        ensures { result ≡ length self.now }
+    {
+        self.nodes.len()
+    }
+
+    /// The node at an index with why it is seen, if there are so many.
+    pub fn get(&self, index: usize) -> Option<(NodeName, Why)>
+        ensures { result ≡ slice_get self.now index }
+    {
+        match self.nodes.get_index(index) {
+            Some((node, why)) => Some((*node, *why)),
+            None => None,
+        }
+    }
+
+    /// The node at an index, if there are so many; there are less than 2 to the 63rd.
+    fn node_at(&self, index: usize) -> Option<NodeName>
+        ensures node { result ≡ option_map (λ (e : Name × Why). e.0) (slice_get self.now index) }
+        ensures few { length self.now < 2 ^ 63 }
+    {
+        let _few = self.nodes.len();
+        match self.nodes.get_index(index) {
+            Some((node, _)) => Some(*node),
+            None => None,
+        }
+    }
+
+    /// Whether a node is among them.
+    pub fn has(&self, node: NodeName) -> bool
+        ensures { result ≡ is_found node self.now }
+    {
+        self.nodes.contains_key(&node)
+    }
+
+    /// One node more, unless it is there.
+    fn add(&mut self, node: NodeName, why: Why) -> Result<(), AllocError>
+        ensures { OnOk result (self.new ≡ found_more node why self.old) }
+    {
+        if self.has(node) {
+            return Ok(());
+        }
+        self.nodes.reserve(1)?;
+        self.nodes.insert(node, why).unwrap();
+        Ok(())
+    }
+
+    /// What the rights of these tasks show.
+    fn add_tasks<S: Server>(
+        &mut self,
+        nodes: &Nodes<S>,
+        ports: &Ports,
+        tasks: &[TaskId],
+    ) -> Result<(), AllocError>
+        ensures { OnOk result (Collects (OfTasks (shown S.meaning nodes.now) ports.now.state.tasks tasks.now) self.old self.new) }
+    {
+        for task in tasks {
+            self.add_task(nodes, ports, *task)?;
+        }
+        Ok(())
+    }
+
+    /// What the rights of a task show, if it is there.
+    fn add_task<S: Server>(
+        &mut self,
+        nodes: &Nodes<S>,
+        ports: &Ports,
+        task: TaskId,
+    ) -> Result<(), AllocError>
+        ensures { OnOk result (Collects (OfTask (shown S.meaning nodes.now) (slice_get ports.now.state.tasks task.0)) self.old self.new) }
+    {
+        match ports.seat(task) {
+            Some(seat) => self.add_seat(nodes, seat),
+            None => Ok(()),
+        }
+    }
+
+    /// What the rights of a row show: those of its ports, those that it was sent, and its pending start.
+    fn add_seat<S: Server>(&mut self, nodes: &Nodes<S>, seat: &TaskSeat) -> Result<(), AllocError>
+        ensures { OnOk result (Collects (OfRights (shown S.meaning nodes.now) (rights_of (seat_task seat.now))) self.old self.new) }
+    {
+        self.add_start(nodes, &seat.pending)?;
+        self.add_ports(nodes, &seat.ports)?;
+        self.add_rights(nodes, &seat.inbox)
+    }
+
+    /// The node on which a translator is to be started, if one is.
+    fn add_start<S: Server>(
+        &mut self,
+        _nodes: &Nodes<S>,
+        pending: &Option<PendingStart>,
+    ) -> Result<(), AllocError>
+        ensures { OnOk result (Collects (OfRights (shown S.meaning _nodes.now) (start_of pending.now)) self.old self.new) }
+    {
+        match pending {
+            Some(start) => self.add(start.node, Why::Pending),
+            None => Ok(()),
+        }
+    }
+
+    /// What the rights of these ports show.
+    fn add_ports<S: Server>(&mut self, nodes: &Nodes<S>, ports: &[Port]) -> Result<(), AllocError>
+        ensures { OnOk result (Collects (OfPorts (shown S.meaning nodes.now) ports.now) self.old self.new) }
+    {
+        for port in ports {
+            self.add_right(nodes, &port.right)?;
+        }
+        Ok(())
+    }
+
+    /// What these rights show.
+    fn add_rights<S: Server>(
+        &mut self,
+        nodes: &Nodes<S>,
+        rights: &[Right],
+    ) -> Result<(), AllocError>
+        ensures { OnOk result (Collects (OfRights (shown S.meaning nodes.now) rights.now) self.old self.new) }
+    {
+        for right in rights {
+            self.add_right(nodes, right)?;
+        }
+        Ok(())
+    }
+
+    /// What a right shows.
+    fn add_right<S: Server>(&mut self, nodes: &Nodes<S>, right: &Right) -> Result<(), AllocError>
+        ensures { OnOk result (Collects (OfRight (shown S.meaning nodes.now) right.now) self.old self.new) }
+    {
+        match right {
+            Right::Io(right) => {
+                self.add(right.node, Why::Held)?;
+                self.add_ways(right.parents.as_slice())
+            }
+            Right::Control(server) => self.add_controlled(nodes, *server),
+            Right::Start(node) => self.add(*node, Why::Pending),
+        }
+    }
+
+    /// Both nodes of each of these ways.
+    fn add_ways(&mut self, ways: &[Parent]) -> Result<(), AllocError>
+        ensures { OnOk result (Collects (OfWays ways.now) self.old self.new) }
+    {
+        for way in ways {
+            self.add_way(*way)?;
+        }
+        Ok(())
+    }
+
+    /// Both nodes of a way.
+    fn add_way(&mut self, way: Parent) -> Result<(), AllocError>
+        ensures { OnOk result (Collects (OfWay way) self.old self.new) }
+    {
+        self.add(way.at, Why::Way)?;
+        self.add(way.parent, Why::Way)
+    }
+
+    /// The root of a server that is controlled, if the server is there.
+    fn add_controlled<S: Server>(
+        &mut self,
+        nodes: &Nodes<S>,
+        server: ServerName,
+    ) -> Result<(), AllocError>
+        ensures { OnOk result (Collects (OfControl (shown S.meaning nodes.now) server) self.old self.new) }
+    {
+        match nodes.root_of(server) {
+            Some(root) => self.add(root, Why::Controlled),
+            None => Ok(()),
+        }
+    }
+
+    /// Follows each node to those that it shows, and these in turn, until all are there.
+    fn follow<S: Server>(
+        &mut self,
+        alloc: Global,
+        nodes: &Nodes<S>,
+        reach: &Reach,
+    ) -> Result<(), AllocError>
+        ensures { OnOk result (Follows (shown S.meaning nodes.now) reach.now self.old self.new) }
+    {
+        let mut index = 0;
+        while let Some(node) = self.node_at(index) {
+            self.add_neighbours(alloc, nodes, reach, node)?;
+            index += 1;
+        }
+        Ok(())
+    }
+
+    /// What a node shows.
+    fn add_neighbours<S: Server>(
+        &mut self,
+        alloc: Global,
+        nodes: &Nodes<S>,
+        reach: &Reach,
+        node: NodeName,
+    ) -> Result<(), AllocError>
+        ensures { OnOk result (Collects (OfNode (shown S.meaning nodes.now) reach.now node) self.old self.new) }
+    {
+        self.add_below(alloc, nodes, reach, node)?;
+        self.add_parent(nodes, node)?;
+        self.add_active(nodes, node)?;
+        self.add_server(nodes, reach, node)
+    }
+
+    /// What the entries of a directory name that could be searched.
+    fn add_below<S: Server>(
+        &mut self,
+        alloc: Global,
+        nodes: &Nodes<S>,
+        reach: &Reach,
+        dir: NodeName,
+    ) -> Result<(), AllocError>
+        ensures { OnOk result (Collects (OfChild (shown S.meaning nodes.now) reach.now dir) self.old self.new) }
+    {
+        if !could_search(nodes, reach, dir) {
+            return Ok(());
+        }
+        match nodes.names(alloc, dir) {
+            Ok(names) => self.add_entries(nodes, dir, &names),
+            Err(errno) => unless_memory(errno),
+        }
+    }
+
+    /// What the entries of these names name in a directory.
+    fn add_entries<S: Server>(
+        &mut self,
+        nodes: &Nodes<S>,
+        dir: NodeName,
+        names: &Names,
+    ) -> Result<(), AllocError>
+        ensures { OnOk result (Collects (OfNames (shown S.meaning nodes.now) dir names.now) self.old self.new) }
+    {
+        for name in names.as_slice() {
+            self.add_entry(nodes, dir, name.as_slice())?;
+        }
+        Ok(())
+    }
+
+    /// What an entry names in a directory, if it is there.
+    fn add_entry<S: Server>(
+        &mut self,
+        nodes: &Nodes<S>,
+        dir: NodeName,
+        name: &[u8],
+    ) -> Result<(), AllocError>
+        ensures { OnOk result (Collects (OfName (shown S.meaning nodes.now) dir name.now) self.old self.new) }
+    {
+        match nodes.step(dir, name) {
+            Some(node) => self.add(node, Why::Child(dir)),
+            None => Ok(()),
+        }
+    }
+
+    /// The parent of a directory that has one.
+    fn add_parent<S: Server>(&mut self, nodes: &Nodes<S>, dir: NodeName) -> Result<(), AllocError>
+        ensures { OnOk result (Collects (OfParent (shown S.meaning nodes.now) dir) self.old self.new) }
+    {
+        match parent_of(nodes, dir) {
+            Some(parent) => self.add(parent, Why::Parent(dir)),
+            None => Ok(()),
+        }
+    }
+
+    /// The root of the server that is active on a node.
+    fn add_active<S: Server>(&mut self, nodes: &Nodes<S>, node: NodeName) -> Result<(), AllocError>
+        ensures { OnOk result (Collects (OfActive (shown S.meaning nodes.now) node) self.old self.new) }
+    {
+        let Some(server) = nodes.active(node) else {
+            return Ok(());
+        };
+        match nodes.root_of(server) {
+            Some(root) => self.add(root, Why::Active(node)),
+            None => Ok(()),
+        }
+    }
+
+    /// The root of a node's server that could be served.
+    fn add_server<S: Server>(
+        &mut self,
+        nodes: &Nodes<S>,
+        reach: &Reach,
+        node: NodeName,
+    ) -> Result<(), AllocError>
+        ensures { OnOk result (Collects (OfServer (shown S.meaning nodes.now) reach.now node) self.old self.new) }
+    {
+        match served_root(nodes, reach, node) {
+            Some(root) => self.add(root, Why::ServerRoot(node)),
+            None => Ok(()),
+        }
+    }
+}
+
+/// Whether a node is a directory that could be searched with some of these ids.
+fn could_search<S: Server>(nodes: &Nodes<S>, reach: &Reach, node: NodeName) -> bool
+    ensures { result ≡ searched_by reach.now (header_of (shown S.meaning nodes.now).nodes node) }
+{
+    match nodes.attrs(node) {
+        Some(attrs) => is_dir(attrs.kind) && reach.could(&attrs, Want::Exec),
+        None => false,
+    }
+}
+
+/// Want of memory, where an error is that.
+fn unless_memory(errno: Errno) -> Result<(), AllocError>
+    ensures { OnOk result (is_no_memory errno ≡ false) }
+{
+    match errno {
+        Errno::ENOMEM => Err(AllocError),
+        _ => Ok(()),
+    }
+}
+
+/// Whether this is a directory.
+fn is_dir(kind: Kind) -> bool
+    ensures { result ≡ is_dir kind }
+{
+    match kind {
+        Kind::Dir => true,
+        Kind::File | Kind::Link | Kind::Fifo | Kind::Char => false,
+    }
+}
+
+/// The parent of a directory that has one.
+fn parent_of<S: Server>(nodes: &Nodes<S>, node: NodeName) -> Option<NodeName>
+    ensures { result ≡ parent_in (header_of (shown S.meaning nodes.now).nodes node) }
+{
+    match nodes.attrs(node) {
+        Some(attrs) => attrs.parent,
+        None => None,
+    }
+}
+
+/// The root of a node's server, if that is there, and could be served with one of these uids.
+fn served_root<S: Server>(nodes: &Nodes<S>, reach: &Reach, node: NodeName) -> Option<NodeName>
+    ensures { ServedRoot (shown S.meaning nodes.now) reach.now node result }
+{
+    let server = nodes.home(node)?;
+    let ids = nodes.ids_of(server)?;
+    if reach.could_serve(ids) {
+        nodes.root_of(server)
+    } else {
+        None
+    }
+}
+
+/// A law: what is found from the rights of some tasks, with the ids that they reach, is what the set of these tasks sees.
+pub fn found_is_seen()
+    ensures { FoundIsSeen }
+{}

@@ -1,0 +1,118 @@
+//! What the rights of a set of tasks name beside the nodes that they show: opens, nodes that are open to read, and servers.
+ghost use Rattle.std.specs.Prelude.{◌≡◌, IfOk, OnOk, map, slice_get};
+ghost use Rattle.std.specs.FinMap as fin;
+ghost use Rattle.hurd_creds.specs.declared.name.Name.{Name};
+ghost use Rattle.hurd_ports.specs.declared.table.Right.{Right};
+ghost use Rattle.hurd_ports.specs.declared.table.Right.TheVariants.{Io};
+ghost use Rattle.hurd_ports.specs.Tables.{Task, rights_of};
+ghost use Rattle.hurd_ports.specs.Seats.{seat_task};
+ghost use Rattle.hurd_machine.specs.World.{IsAmong};
+ghost use Rattle.hurd_sight.specs.Parts.{Adds, AddsRights, IsOf, RightAt, RightOf, ReadOfRight, reads};
+
+use crate::names::NameSet;
+use hurd_creds::{OpenFlags, OpenName, TaskId};
+use hurd_ports::{IoRight, Port, Ports, Right, TaskSeat};
+use std::alloc::{AllocError, Global};
+
+/// The opens, the nodes that are open to read, and the servers that are controlled, of some rights.
+#[derive(Drop)]
+pub(crate) struct RightNames {
+    pub(crate) opens: NameSet,
+    pub(crate) readable: NameSet,
+    pub(crate) controlled: NameSet,
+}
+
+impl RightNames {
+    /// Those of all rights of these tasks, where they are there.
+    pub(crate) fn of(
+        alloc: Global,
+        ports: &Ports,
+        tasks: &[TaskId],
+    ) -> Result<RightNames, AllocError>
+        ensures { IfOk result (λ names. IsOf ports.now.state.opens (RightOf ports.now.state.tasks tasks.now) names) }
+    {
+        let mut names = RightNames {
+            opens: NameSet::new(alloc),
+            readable: NameSet::new(alloc),
+            controlled: NameSet::new(alloc),
+        };
+        for task in tasks {
+            names.add_task(ports, *task)?;
+        }
+        Ok(names)
+    }
+
+    /// Those of a task, if it is there.
+    fn add_task(&mut self, ports: &Ports, task: TaskId) -> Result<(), AllocError>
+        ensures { OnOk result (AddsRights ports.now.state.opens (RightAt (slice_get ports.now.state.tasks task.0)) self.old self.new) }
+    {
+        match ports.seat(task) {
+            Some(seat) => self.add_seat(ports, seat),
+            None => Ok(()),
+        }
+    }
+
+    /// Those of a row; a pending start names none.
+    fn add_seat(&mut self, ports: &Ports, seat: &TaskSeat) -> Result<(), AllocError>
+        ensures { OnOk result (AddsRights ports.now.state.opens (λ r. IsAmong r (rights_of (seat_task seat.now))) self.old self.new) }
+    {
+        self.add_ports(ports, &seat.ports)?;
+        self.add_rights(ports, &seat.inbox)
+    }
+
+    /// Those of the rights of some ports.
+    fn add_ports(&mut self, ports: &Ports, some: &[Port]) -> Result<(), AllocError>
+        ensures { OnOk result (AddsRights ports.now.state.opens (λ r. IsAmong r (map (λ p. p.right) some.now)) self.old self.new) }
+    {
+        for port in some {
+            self.add_right(ports, &port.right)?;
+        }
+        Ok(())
+    }
+
+    /// Those of some rights.
+    fn add_rights(&mut self, ports: &Ports, rights: &[Right]) -> Result<(), AllocError>
+        ensures { OnOk result (AddsRights ports.now.state.opens (λ r. IsAmong r rights.now) self.old self.new) }
+    {
+        for right in rights {
+            self.add_right(ports, right)?;
+        }
+        Ok(())
+    }
+
+    /// Those of a right.
+    fn add_right(&mut self, ports: &Ports, right: &Right) -> Result<(), AllocError>
+        ensures { OnOk result (AddsRights ports.now.state.opens (λ r. right.now ≡ r) self.old self.new) }
+    {
+        match right {
+            Right::Io(right) => {
+                self.opens.add(right.open_name)?;
+                self.add_readable(ports, right)
+            }
+            Right::Control(server) => self.controlled.add(*server),
+            Right::Start(_) => Ok(()),
+        }
+    }
+
+    /// The node of a right, if it has that open to read.
+    fn add_readable(&mut self, ports: &Ports, right: &IoRight) -> Result<(), AllocError>
+        ensures read { OnOk result (Adds (ReadOfRight ports.now.state.opens (Io right.now)) self.old.readable self.new.readable) }
+        ensures others { OnOk result ((self.new.opens ≡ self.old.opens) × (self.new.controlled ≡ self.old.controlled)) }
+    {
+        if has_read(ports, right.open_name) {
+            self.readable.add(right.node)
+        } else {
+            Ok(())
+        }
+    }
+}
+
+/// Whether an open is there, and may be read from.
+fn has_read(ports: &Ports, open_name: OpenName) -> bool
+    ensures { result ≡ reads (fin.get ports.now.state.opens open_name) }
+{
+    match ports.opened(open_name) {
+        Some(opened) => opened.modes.asks(OpenFlags::READ),
+        None => false,
+    }
+}

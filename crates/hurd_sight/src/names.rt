@@ -1,0 +1,50 @@
+//! Sets of names.
+ghost use Rattle.std.specs.Prelude.{◌≡◌, ◌++◌, ◌∷◌, [], if◌then◌else◌, OnOk};
+ghost use Rattle.hurd_sight.specs.Parts.{is_in};
+
+use hurd_creds::Name;
+use indexmap::IndexSet;
+use std::alloc::{AllocError, Global};
+use std::marker::Model;
+
+/// Names, each once.
+#[derive(Drop)]
+pub(crate) struct NameSet {
+    names: IndexSet<Name>,
+}
+
+impl Model for NameSet {
+    ghost use Rattle.std.specs.Prelude.{List};
+    ghost use Rattle.hurd_creds.specs.declared.name.Name.{Name};
+
+    ghost Value = { List Name };
+
+    ghost view = { λ s. s.names.keys };
+}
+
+impl NameSet {
+    /// No names.
+    pub(crate) fn new(alloc: Global) -> NameSet
+        ensures { result ≡ [] }
+    {
+        NameSet {
+            names: IndexSet::new(alloc),
+        }
+    }
+
+    /// Whether a name is one of them.
+    pub(crate) fn has(&self, name: Name) -> bool
+        ensures { result ≡ is_in name self.now }
+    {
+        self.names.contains(&name)
+    }
+
+    /// One name more, unless it is there.
+    pub(crate) fn add(&mut self, name: Name) -> Result<(), AllocError>
+        ensures { OnOk result (self.new ≡ (if is_in name self.old then self.old else self.old ++ name ∷ [])) }
+    {
+        self.names.reserve(1)?;
+        self.names.insert(name).unwrap();
+        Ok(())
+    }
+}

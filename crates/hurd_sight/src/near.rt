@@ -1,0 +1,152 @@
+//! The servers of seen nodes: those that are known by them, and those that may be sent away by what is seen.
+ghost use Rattle.std.specs.Prelude.{◌≡◌, true, Some, IfOk, OnOk, slice_get};
+ghost use Rattle.hurd_nodes.specs.Shown.{shown};
+ghost use Rattle.hurd_sight.specs.Parts.{Adds, AreThose, AtEntry, KnownAt, OfEntries, OwnedAt, SendableAt, ServedAt};
+
+use crate::found::Found;
+use crate::names::NameSet;
+use crate::reach::Reach;
+use hurd_creds::{Name, NodeName};
+use hurd_nodes::Nodes;
+use hurd_trans_iface::Server;
+use std::alloc::{AllocError, Global};
+
+/// The servers of these nodes, and those that are active on them.
+pub(crate) fn known_servers<S: Server>(
+    alloc: Global,
+    nodes: &Nodes<S>,
+    found: &Found,
+) -> Result<NameSet, AllocError>
+    ensures { IfOk result (λ names. AreThose names (OfEntries found.now (KnownAt (shown S.meaning nodes.now)))) }
+{
+    let mut names = NameSet::new(alloc);
+    for i in 0..found.len() {
+        add_known(&mut names, nodes, found, i)?;
+    }
+    Ok(names)
+}
+
+/// Those of the node at an index.
+fn add_known<S: Server>(
+    names: &mut NameSet,
+    nodes: &Nodes<S>,
+    found: &Found,
+    index: usize,
+) -> Result<(), AllocError>
+    ensures { OnOk result (Adds (AtEntry (slice_get found.now index) (KnownAt (shown S.meaning nodes.now))) names.old names.new) }
+{
+    match found.get(index) {
+        Some((node, _)) => add_both(names, nodes, node),
+        None => Ok(()),
+    }
+}
+
+/// The server of a node, and the one that is active on it.
+fn add_both<S: Server>(
+    names: &mut NameSet,
+    nodes: &Nodes<S>,
+    node: NodeName,
+) -> Result<(), AllocError>
+    ensures { OnOk result (Adds (KnownAt (shown S.meaning nodes.now) node) names.old names.new) }
+{
+    add_maybe(names, nodes.home(node))?;
+    add_maybe(names, nodes.active(node))
+}
+
+/// A name, if there is one.
+fn add_maybe(names: &mut NameSet, name: Option<Name>) -> Result<(), AllocError>
+    ensures { OnOk result (Adds (λ n. name ≡ Some n) names.old names.new) }
+{
+    match name {
+        Some(name) => names.add(name),
+        None => Ok(()),
+    }
+}
+
+/// The servers of these nodes that could be served, and those that are active on one that is owned.
+pub(crate) fn sendable_servers<S: Server>(
+    alloc: Global,
+    nodes: &Nodes<S>,
+    reach: &Reach,
+    found: &Found,
+) -> Result<NameSet, AllocError>
+    ensures { IfOk result (λ names. AreThose names (OfEntries found.now (SendableAt (shown S.meaning nodes.now) reach.now))) }
+{
+    let mut names = NameSet::new(alloc);
+    for i in 0..found.len() {
+        add_sendable(&mut names, nodes, reach, found, i)?;
+    }
+    Ok(names)
+}
+
+/// Those of the node at an index.
+fn add_sendable<S: Server>(
+    names: &mut NameSet,
+    nodes: &Nodes<S>,
+    reach: &Reach,
+    found: &Found,
+    index: usize,
+) -> Result<(), AllocError>
+    ensures { OnOk result (Adds (AtEntry (slice_get found.now index) (SendableAt (shown S.meaning nodes.now) reach.now)) names.old names.new) }
+{
+    match found.get(index) {
+        Some((node, _)) => add_sent(names, nodes, reach, node),
+        None => Ok(()),
+    }
+}
+
+/// The server of a node, if it could be served, and the one that is active on it, if it is owned.
+fn add_sent<S: Server>(
+    names: &mut NameSet,
+    nodes: &Nodes<S>,
+    reach: &Reach,
+    node: NodeName,
+) -> Result<(), AllocError>
+    ensures { OnOk result (Adds (SendableAt (shown S.meaning nodes.now) reach.now node) names.old names.new) }
+{
+    add_served(names, nodes, reach, node)?;
+    add_owned(names, nodes, reach, node)
+}
+
+/// The server of a node, if it is there and could be served.
+fn add_served<S: Server>(
+    names: &mut NameSet,
+    nodes: &Nodes<S>,
+    reach: &Reach,
+    node: NodeName,
+) -> Result<(), AllocError>
+    ensures { OnOk result (Adds (ServedAt (shown S.meaning nodes.now) reach.now node) names.old names.new) }
+{
+    let Some(server) = nodes.home(node) else {
+        return Ok(());
+    };
+    match nodes.ids_of(server) {
+        Some(ids) => add_if(names, server, reach.could_serve(ids)),
+        None => Ok(()),
+    }
+}
+
+/// The server that is active on a node, if that is owned.
+fn add_owned<S: Server>(
+    names: &mut NameSet,
+    nodes: &Nodes<S>,
+    reach: &Reach,
+    node: NodeName,
+) -> Result<(), AllocError>
+    ensures { OnOk result (Adds (OwnedAt (shown S.meaning nodes.now) reach.now node) names.old names.new) }
+{
+    let Some(attrs) = nodes.attrs(node) else {
+        return Ok(());
+    };
+    match nodes.active(node) {
+        Some(server) => add_if(names, server, reach.owns(&attrs)),
+        None => Ok(()),
+    }
+}
+
+/// A name, where the test holds.
+fn add_if(names: &mut NameSet, name: Name, test: bool) -> Result<(), AllocError>
+    ensures { OnOk result (Adds (λ n. (test ≡ true) × (n ≡ name)) names.old names.new) }
+{
+    if test { names.add(name) } else { Ok(()) }
+}

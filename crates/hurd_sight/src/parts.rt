@@ -1,0 +1,21 @@
+//! The parts of a world that a set of tasks sees.
+use hurd_creds::{NodeName, OpenName, ServerName, TaskId};
+
+/// A part of a world.
+#[derive(Clone, Copy, Debug, PartialEq, Eq)]
+pub enum SeenPart {
+    /// A node's server, the one active on it, and its attributes, but whether it is empty.
+    Attributes(NodeName),
+    /// Whether a directory is empty.
+    Empty(NodeName),
+    /// A node's bytes or entries.
+    Body(NodeName),
+    /// An open, and how many rights hold it.
+    Open(OpenName),
+    /// A server.
+    Options(ServerName),
+    /// How many rights there are on a server's nodes.
+    Users(ServerName),
+    /// A task.
+    Task(TaskId),
+}

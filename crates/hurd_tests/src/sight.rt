@@ -1,0 +1,136 @@
+//! What alice sees, and why.
+use crate::fixture::{Memory, booted, list_of, wants_memory};
+use hurd_creds::{Errno, Name, NodeName, TaskId};
+use hurd_lists::{ListedCall, with_server};
+use hurd_nodes::BOOT_NAME;
+use hurd_sight::{Found, Why, seen};
+use hurd_world::World;
+use std::alloc::Global;
+use std::process::Abort;
+use std::test::Fail;
+
+const ALICE: TaskId = TaskId(1);
+
+/// root makes an open and a closed directory, and one in that.
+const CLOSED: &str = r"0 dir_mkdir 1 =home 755
+0 dir_mkdir 1 =closed 700
+0 dir_lookup 1 =closed - 0
+0 dir_mkdir 3 =inner 700
+";
+
+/// root sends alice the port of the closed directory, which has root's ids.
+const SENT: &str = "0 port_send 3 1\n";
+
+/// She takes it, and gives it up.
+const GIVEN_UP: &str = "1 port_receive\n1 port_deallocate 3\n";
+
+/// She takes it once more, and has one with her own ids in its place.
+const WEAKENED: &str = r"0 port_send 3 1
+1 port_receive
+1 io_reauthenticate 4
+1 port_deallocate 4
+";
+
+/// What root made behind the opens of its two first ports.
+fn made(count: u64) -> NodeName {
+    Name {
+        task: TaskId(0),
+        count,
+    }
+}
+
+/// Makes the calls of a list, none of which brings a server. `ENOMEM`: one of them found no memory.
+fn make(alloc: Global, world: &mut World, calls: &str) -> Result<(), Errno> {
+    for listed in list_of(alloc, calls)?.calls {
+        let ListedCall { task, call, .. } = listed;
+        let reply = world.call(alloc, task, with_server(call, None));
+        if wants_memory(&reply) {
+            return Err(Errno::ENOMEM);
+        }
+    }
+    Ok(())
+}
+
+/// Whether these are the nodes, in this order, each with this reason.
+fn is_all(found: &Found, rows: &[(NodeName, Why)]) -> bool {
+    for (i, row) in rows.iter().enumerate() {
+        if found.get(i) != Some(*row) {
+            return false;
+        }
+    }
+    found.len() == rows.len()
+}
+
+/// Makes calls, and says whether alice then sees these nodes.
+fn sees_after(
+    alloc: Global,
+    world: &mut World,
+    calls: &str,
+    rows: &[(NodeName, Why)],
+) -> Result<bool, Errno> {
+    make(alloc, world, calls)?;
+    match seen(alloc, world, &[ALICE]) {
+        Ok(found) => Ok(is_all(&found, rows)),
+        Err(_) => Err(Errno::ENOMEM),
+    }
+}
+
+/// Whether she sees, behind each list of calls, what she should: what is open to her; what a right of root's shows, with root's ids; what
+/// is open to her once she has given it up; and the closed directory alone, where she keeps a right to it with ids of her own.
+fn sees_all(alloc: Global) -> Result<bool, Errno> {
+    let mut world = booted(alloc)?;
+    let outside = [
+        (BOOT_NAME, Why::Root),
+        (made(2), Why::Child(BOOT_NAME)),
+        (made(3), Why::Child(BOOT_NAME)),
+    ];
+    let inside = [
+        (BOOT_NAME, Why::Root),
+        (made(3), Why::Held),
+        (made(2), Why::Child(BOOT_NAME)),
+        (made(5), Why::Child(made(3))),
+    ];
+    let held = [
+        (BOOT_NAME, Why::Root),
+        (made(3), Why::Held),
+        (made(2), Why::Child(BOOT_NAME)),
+    ];
+    let seen = [
+        sees_after(alloc, &mut world, CLOSED, &outside),
+        sees_after(alloc, &mut world, SENT, &inside),
+        sees_after(alloc, &mut world, GIVEN_UP, &outside),
+        sees_after(alloc, &mut world, WEAKENED, &held),
+    ];
+    all_of(seen.as_slice())
+}
+
+/// Whether all hold; the first error, if there is one.
+fn all_of(answers: &[Result<bool, Errno>]) -> Result<bool, Errno> {
+    for answer in answers {
+        match answer {
+            Ok(true) => {}
+            Ok(false) => return Ok(false),
+            Err(errno) => return Err(*errno),
+        }
+    }
+    Ok(true)
+}
+
+fn check_sight(rt: &impl Abort, alloc: Global, mut memory: Memory) -> Result<(), Fail> {
+    let sees = match sees_all(alloc) {
+        Err(Errno::ENOMEM) if memory.may_refuse() => sees_all(alloc)?,
+        sees => sees?,
+    };
+    assert!(rt; sees);
+    Ok(())
+}
+
+#[test]
+fn sight_with_ample_memory(rt: HostRuntime) -> Result<(), Fail> {
+    check_sight(&rt, rt.alloc(), Memory::ample())
+}
+
+#[test]
+fn refused_memory_in_sight(rt: HostRuntime) -> Result<(), Fail> {
+    check_sight(&rt, rt.alloc(), Memory::refused_once(rt.alloc()))
+}
