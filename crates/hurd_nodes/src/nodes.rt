@@ -151,6 +151,16 @@ impl<S: Server> Nodes<S> {
         }
     }
 
+    /// The text of a server, lent, if the server is there. Takes no memory.
+    pub fn text_of(&self, server: ServerName) -> Option<&[u8]>
+        ensures { option_copied result ≡ option_map (λ (i : ServerInfo). i.text) (fin.get (shown S.meaning self.now).servers server) }
+    {
+        match place_of_seat(&self.seats, server) {
+            Some(i) => Some(self.seats[i].server.text()),
+            None => None,
+        }
+    }
+
     /// The ids of a server, if the server is there.
     pub fn ids_of(&self, server: ServerName) -> Option<&Ids>
         ensures { option_copied result ≡ option_map (λ (i : ServerInfo). i.ids) (fin.get (shown S.meaning self.now).servers server) }

@@ -59,6 +59,10 @@ impl<S: Server> Server for Counted<S> {
         self.server.root()
     }
 
+    fn text(&self) -> &[u8] {
+        self.server.text()
+    }
+
     fn options(&self, alloc: Global) -> Result<Words, Errno> {
         self.server.options(alloc)
     }

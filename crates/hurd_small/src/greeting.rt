@@ -34,6 +34,10 @@ impl Single for Greeting {
         }
     }
 
+    fn said(&self) -> &[u8] {
+        self.text.as_slice()
+    }
+
     fn options(&self, alloc: Global) -> Result<Words, Errno> {
         let mut word = Vec::from_slice(alloc, b"--contents=")?;
         word.extend_from_slice(self.text.as_slice())?;

@@ -33,6 +33,10 @@ impl<S: Single> Server for Lone<S> {
         self.single.root()
     }
 
+    fn text(&self) -> &[u8] {
+        self.single.said()
+    }
+
     fn options(&self, alloc: Global) -> Result<Words, Errno> {
         self.single.options(alloc)
     }

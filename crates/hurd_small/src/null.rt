@@ -54,6 +54,10 @@ impl Single for Nothing {
         }
     }
 
+    fn said(&self) -> &[u8] {
+        &[]
+    }
+
     fn options(&self, alloc: Global) -> Result<Words, Errno> {
         Words::named(alloc, b"/hurd/null")
     }

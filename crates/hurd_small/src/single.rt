@@ -22,6 +22,10 @@ pub trait Single: Drop {
     fn root(&self) -> Root
         ensures { result ≡ root_of kind (text self.now) };
 
+    /// The text, lent: none where its kind takes none.
+    fn said(&self) -> &[u8]
+        ensures { result.now ≡ text self.now };
+
     /// The program and its words, as they would be given to make such a server.
     ///
     /// Errors: `ENOMEM`.

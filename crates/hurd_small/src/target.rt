@@ -36,6 +36,10 @@ impl Single for Target {
         }
     }
 
+    fn said(&self) -> &[u8] {
+        self.path.as_slice()
+    }
+
     fn options(&self, alloc: Global) -> Result<Words, Errno> {
         Words::with_argument(alloc, b"/hurd/symlink", self.path.as_slice())
     }

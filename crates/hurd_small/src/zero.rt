@@ -57,6 +57,10 @@ impl Single for Zeros {
         }
     }
 
+    fn said(&self) -> &[u8] {
+        &[]
+    }
+
     fn options(&self, alloc: Global) -> Result<Words, Errno> {
         Words::named(alloc, b"/hurd/zero")
     }

@@ -77,6 +77,10 @@ impl Server for Counted {
         self.tree.root()
     }
 
+    fn text(&self) -> &[u8] {
+        self.tree.text()
+    }
+
     fn options(&self, alloc: Global) -> Result<Words, Errno> {
         self.tree.options(alloc)
     }

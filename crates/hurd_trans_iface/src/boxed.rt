@@ -19,6 +19,10 @@ impl Server for Box<dyn Server> {
         (**self).root()
     }
 
+    fn text(&self) -> &[u8] {
+        (**self).text()
+    }
+
     fn options(&self, alloc: Global) -> Result<Words, Errno> {
         (**self).options(alloc)
     }

@@ -31,6 +31,10 @@ pub trait Server: Drop {
     fn root(&self) -> Root
         ensures { result ≡ root_of (meaning self.now).kind (meaning self.now).text };
 
+    /// The text that its words gave it, lent: none where its kind takes none. Takes no memory.
+    fn text(&self) -> &[u8]
+        ensures { result.now ≡ (meaning self.now).text };
+
     /// The program and its words, as they would be given to make such a server now (`fsys_get_options`, `fsys.defs`).
     ///
     /// Errors: `ENOMEM`.
