@@ -5,3 +5,4 @@ pub mod IdLaws
 pub mod StepLaws
 pub mod AppendLaws
 pub mod TakeLaws
+pub mod CompareLaws

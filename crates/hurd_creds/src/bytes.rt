@@ -1,7 +1,8 @@
 //! Bytes that contracts see as a list.
-ghost use Rattle.std.specs.Prelude.{◌≡◌, ◌==◌, length, IfOk};
+ghost use Rattle.std.specs.Prelude.{◌≡◌, ◌==◌, ◌↔◌, length, IsTrue, IfOk};
 ghost use Rattle.std.specs.Str.{bytes_eq};
 
+use crate::same::Same;
 use std::alloc::{AllocError, Global};
 use std::marker::Model;
 
@@ -70,5 +71,18 @@ impl Bytes {
         ensures { result ≡ bytes_eq self.now other.now }
     {
         self.as_slice() == other
+    }
+
+    /// Whether these are the same bytes as the other. Takes no memory.
+    pub fn is_same(&self, other: &Bytes) -> bool
+        ensures { IsTrue result ↔ (self.now ≡ other.now) }
+    {
+        self.is(other.as_slice())
+    }
+}
+
+impl Same for Bytes {
+    fn same(&self, other: &Bytes) -> bool {
+        self.is_same(other)
     }
 }

@@ -1,5 +1,5 @@
 //! User and group ids.
-ghost use Rattle.std.specs.Prelude.{◌≡◌, ◌≢◌, ◌≤◌, ◌<◌, ◌&&◌, ◌↔◌, length, [], IsOk, IsNone, IfOk, IfSome, IfNone};
+ghost use Rattle.std.specs.Prelude.{◌≡◌, ◌≢◌, ◌≤◌, ◌<◌, ◌&&◌, ◌↔◌, length, [], IsTrue, IsOk, IsNone, IfOk, IfSome, IfNone};
 ghost use Rattle.std.specs.List.{All, Contains, filter, list_all};
 ghost use Rattle.std.specs.Ordering.{nat_cmp};
 ghost use Rattle.std.specs.FinSet as set;
@@ -96,6 +96,14 @@ impl Ids {
         self.is_root()
             || are_among(asked.uids.as_slice(), self.uids.as_slice())
                 && are_among(asked.gids.as_slice(), self.gids.as_slice())
+    }
+
+    /// Whether these are the same sets. Takes no memory.
+    pub fn is_same(&self, other: &Ids) -> bool
+        ensures { IsTrue result ↔ (self.now ≡ other.now) }
+    {
+        hold_the_same(self.uids.as_slice(), other.uids.as_slice())
+            && hold_the_same(self.gids.as_slice(), other.gids.as_slice())
     }
 
     /// The uids that are held, in no order. Takes no memory.
@@ -209,6 +217,13 @@ fn are_among(asked: &[u32], held: &[u32]) -> bool
     ensures { result ≡ list_all (is_among held.now) asked.now }
 {
     asked.iter().all(|id| held.contains(id))
+}
+
+/// Whether these ids are the same set; repeats and order don't count.
+fn hold_the_same(some: &[u32], others: &[u32]) -> bool
+    ensures { IsTrue result ↔ (set.from_list {R = nat_cmp} some.now ≡ set.from_list others.now) }
+{
+    are_among(some, others) && are_among(others, some)
 }
 
 /// The least of these ids, if there is any.

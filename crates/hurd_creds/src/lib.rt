@@ -16,6 +16,7 @@ mod ids;
 mod mode;
 mod name;
 mod open_flags;
+mod same;
 mod trans_flags;
 
 pub use access::{group_bit, others_bit, unknown_bit};
@@ -26,4 +27,5 @@ pub use ids::Ids;
 pub use mode::Mode;
 pub use name::{Name, NodeName, OpenName, ServerName, TaskId};
 pub use open_flags::OpenFlags;
+pub use same::{Same, all_same};
 pub use trans_flags::{GoawayFlags, TransFlags};
