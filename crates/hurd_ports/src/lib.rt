@@ -14,6 +14,7 @@
 //! It knows no nodes: a right may name one that is gone. What a right allows is for the calls to say.
 #![tactic(auto)]
 
+mod compare;
 mod holders;
 mod opens;
 mod parents;

@@ -1,8 +1,8 @@
 //! The ways back from a port.
-ghost use Rattle.std.specs.Prelude.{◌≡◌, ◌≤◌, ◌<◌, [], ◌∷◌, length, drop, not, nat_lt, slice_get, IfOk};
+ghost use Rattle.std.specs.Prelude.{◌≡◌, ◌≤◌, ◌<◌, ◌↔◌, [], ◌∷◌, length, drop, not, nat_lt, slice_get, IsTrue, IfOk};
 ghost use Rattle.hurd_ports.specs.Limits.{most_parents};
 
-use hurd_creds::NodeName;
+use hurd_creds::{NodeName, Same, all_same};
 use std::alloc::{AllocError, Global};
 use std::marker::Model;
 
@@ -14,6 +14,12 @@ const MOST_PARENTS: usize = 64;
 pub struct Parent {
     pub at: NodeName,
     pub parent: NodeName,
+}
+
+impl Same for Parent {
+    fn same(&self, other: &Parent) -> bool {
+        *self == *other
+    }
 }
 
 /// The ways that a port came in by, the latest first: `..` goes back by them. At most 64.
@@ -53,6 +59,13 @@ impl Parents {
         Ok(Parents {
             ways: Vec::from_slice(alloc, self.ways.as_slice())?,
         })
+    }
+
+    /// Whether these are the same ways. Takes no memory.
+    pub(crate) fn is_same(&self, other: &Parents) -> bool
+        ensures { IsTrue result ↔ (self.now ≡ other.now) }
+    {
+        all_same(self.ways.as_slice(), other.ways.as_slice())
     }
 
     /// Whether there are as many ways as a port can have.
