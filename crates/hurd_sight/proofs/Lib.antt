@@ -7,3 +7,6 @@ pub mod SightLaws
 pub mod NameLaws
 pub mod PartLaws
 pub mod NearLaws
+pub mod ViewLaws
+pub mod ToldLaws
+pub mod RowLaws

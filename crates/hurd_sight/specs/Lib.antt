@@ -2,3 +2,4 @@ pub mod Reach
 pub mod Found
 pub mod Parts
 pub mod Looks
+pub mod Views

@@ -26,9 +26,9 @@ pub struct Sight {
     tasks: Vec<TaskId>,
     reach: Reach,
     found: Found,
-    rights: RightNames,
+    pub(crate) rights: RightNames,
     /// The servers of seen nodes, and those that are active on them.
-    known: NameSet,
+    pub(crate) known: NameSet,
     /// Those of them that may be sent away by what is seen.
     sendable: NameSet,
 }

@@ -1,5 +1,5 @@
 //! Sets of names.
-ghost use Rattle.std.specs.Prelude.{◌≡◌, ◌++◌, ◌∷◌, [], if◌then◌else◌, OnOk};
+ghost use Rattle.std.specs.Prelude.{◌≡◌, ◌++◌, ◌∷◌, [], if◌then◌else◌, length, slice_get, OnOk};
 ghost use Rattle.hurd_sight.specs.Parts.{is_in};
 
 use hurd_creds::Name;
@@ -37,6 +37,20 @@ impl NameSet {
         ensures { result ≡ is_in name self.now }
     {
         self.names.contains(&name)
+    }
+
+    /// How many there are.
+    pub(crate) fn len(&self) -> usize
+        ensures { result ≡ length self.now }
+    {
+        self.names.len()
+    }
+
+    /// The name at an index, if there are so many.
+    pub(crate) fn get(&self, index: usize) -> Option<Name>
+        ensures { result ≡ slice_get self.now index }
+    {
+        self.names.get_index(index).copied()
     }
 
     /// One name more, unless it is there.

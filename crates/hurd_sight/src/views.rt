@@ -4,10 +4,12 @@ ghost use Rattle.hurd_world.specs.Held.{world_of};
 ghost use Rattle.hurd_sight.specs.Found.{IsSight};
 ghost use Rattle.hurd_sight.specs.Looks.{Looks};
 ghost use Rattle.hurd_sight.specs.Reach.{Reaches, among};
+ghost use Rattle.hurd_sight.specs.Views.{Views};
 
 use crate::found::Found;
 use crate::looks::Sight;
 use crate::reach::Reach;
+use crate::view::View;
 use hurd_creds::TaskId;
 use hurd_trans_iface::Server;
 use hurd_world::World;
@@ -48,4 +50,15 @@ pub fn look<S: Server>(
 {
     let core = world.core();
     Sight::of(alloc, core.nodes(), core.ports(), tasks)
+}
+
+/// All that a set of tasks sees of a world, kept to be compared with what they see later.
+pub fn view_of<S: Server>(
+    alloc: Global,
+    world: &World<S>,
+    tasks: &[TaskId],
+) -> Result<View, AllocError>
+    ensures { IfOk result (λ view. Views tasks.now (world_of S.meaning world.now) view) }
+{
+    View::of(alloc, world.core(), tasks)
 }
