@@ -8,7 +8,7 @@ ghost use Rattle.hurd_terminal.specs.Runs.{Adds, Blames, Exits, Ran};
 ghost use Rattle.hurd_calls.specs.Faults.{NotBegun, NotRead};
 ghost use Rattle.hurd_calls.specs.Lists.{lists};
 
-use crate::calling::part;
+use crate::calling::make;
 use hurd_creds::{Errno, Ids};
 use hurd_kinds::{ServerBox, empty_tree, server_for};
 use hurd_lists::{CallList, ListFault, parse_calls};
@@ -72,8 +72,7 @@ fn answer<W: Write>(alloc: Global, text: &[u8], output: &mut Output<W>) -> Resul
                 Some(ServerBox::Symlink(server)) => Some(server),
             },
         };
-        let part = part(&mut world, alloc, listed, server)?;
-        output.print(part.as_slice())?;
+        make(&mut world, alloc, listed, server, output)?;
     }
     Ok(())
 }

@@ -3,7 +3,7 @@ use crate::fixture::{Memory, booted, list_of, wants_memory};
 use hurd_creds::{Errno, Name, NodeName, TaskId};
 use hurd_lists::{ListedCall, with_server};
 use hurd_nodes::BOOT_NAME;
-use hurd_sight::{Found, Why, seen};
+use hurd_sight::{Found, Why, seen, view_of};
 use hurd_world::World;
 use std::alloc::Global;
 use std::process::Abort;
@@ -29,6 +29,16 @@ const WEAKENED: &str = r"0 port_send 3 1
 1 port_receive
 1 io_reauthenticate 4
 1 port_deallocate 4
+";
+
+/// root sets the closed directory to the mode that it has, and makes another one in it.
+const UNSEEN: &str = r"0 file_chmod 3 700
+0 dir_mkdir 3 =more 700
+";
+
+/// root closes the open one, too.
+const SHUT: &str = r"0 dir_lookup 1 =home - 0
+0 file_chmod 4 700
 ";
 
 /// What root made behind the opens of its two first ports.
@@ -104,6 +114,32 @@ fn sees_all(alloc: Global) -> Result<bool, Errno> {
     all_of(seen.as_slice())
 }
 
+/// Makes calls, and says whether alice's view is then as it was.
+fn same_after(alloc: Global, world: &mut World, calls: &str) -> Result<bool, Errno> {
+    let Ok(before) = view_of(alloc, world, &[ALICE]) else {
+        return Err(Errno::ENOMEM);
+    };
+    make(alloc, world, calls)?;
+    match view_of(alloc, world, &[ALICE]) {
+        Ok(after) => Ok(before.is_same(&after)),
+        Err(_) => Err(Errno::ENOMEM),
+    }
+}
+
+/// Whether her view is as it was where nothing that she sees has another value, whatever was touched; and is not where a directory's mode
+/// changes, or she is sent a port.
+fn views_differ(alloc: Global) -> Result<bool, Errno> {
+    let mut world = booted(alloc)?;
+    let same = [
+        same_after(alloc, &mut world, ""),
+        same_after(alloc, &mut world, CLOSED).map(|same| !same),
+        same_after(alloc, &mut world, UNSEEN),
+        same_after(alloc, &mut world, SHUT).map(|same| !same),
+        same_after(alloc, &mut world, SENT).map(|same| !same),
+    ];
+    all_of(same.as_slice())
+}
+
 /// Whether all hold; the first error, if there is one.
 fn all_of(answers: &[Result<bool, Errno>]) -> Result<bool, Errno> {
     for answer in answers {
@@ -122,6 +158,11 @@ fn check_sight(rt: &impl Abort, alloc: Global, mut memory: Memory) -> Result<(),
         sees => sees?,
     };
     assert!(rt; sees);
+    let differ = match views_differ(alloc) {
+        Err(Errno::ENOMEM) if memory.may_refuse() => views_differ(alloc)?,
+        differ => differ?,
+    };
+    assert!(rt; differ);
     Ok(())
 }
 
