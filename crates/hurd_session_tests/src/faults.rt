@@ -77,24 +77,30 @@ fn printed_next(alloc: Global, session: &mut Session) -> Result<String, AllocErr
     format!(in alloc; "{:?}", session.next(alloc))
 }
 
+/// The session asks for the same, until it is said that there is no such server; then it goes on to its end.
+fn check_asks_for_the_same(
+    rt: &impl Abort,
+    alloc: Global,
+    session: &mut Session,
+) -> Result<(), Fail> {
+    let asked = printed_next(alloc, session)?;
+    assert!(rt; asked.as_str().starts_with("Ok(Server("));
+    for _ in 0..3 {
+        assert_eq!(rt; printed_next(alloc, session)?.as_str(), asked.as_str());
+    }
+    assert!(rt; session.supply_none(alloc) == Ok(()));
+    let told = printed_next(alloc, session)?;
+    assert!(rt; told.as_str().starts_with("Ok(Output("));
+    assert_eq!(rt; printed_next(alloc, session)?.as_str(), "Ok(Done)");
+    Ok(())
+}
+
 #[test]
 fn the_same_is_asked_for_until_it_is_answered(rt: HostRuntime) -> Result<(), Fail> {
     let alloc = rt.alloc();
     let script = "root settrans -ac /h /hurd/none\n";
     let mut session = begun(alloc, script, &mut Memory::ample())?;
-    let asked = printed_next(alloc, &mut session)?;
-    assert!(rt; asked.as_str().starts_with("Ok(Server("));
-    for _ in 0..3 {
-        assert_eq!(rt; printed_next(alloc, &mut session)?.as_str(), asked.as_str());
-    }
-    assert!(rt; session.supply_none(alloc) == Ok(()));
-    assert!(rt;
-        printed_next(alloc, &mut session)?
-            .as_str()
-            .starts_with("Ok(Output(")
-    );
-    assert_eq!(rt; printed_next(alloc, &mut session)?.as_str(), "Ok(Done)");
-    Ok(())
+    check_asks_for_the_same(&rt, alloc, &mut session)
 }
 
 /// The next part is given.
