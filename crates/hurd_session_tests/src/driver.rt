@@ -209,7 +209,26 @@ pub fn turn<'a>(
     }
 }
 
-/// Goes through a course: the session comes to all of it, or, where memory is refused to it, to a front of it.
+/// Goes through what a course tells: the session comes to all of it, or, where memory is refused to it, to a front of it.
+fn go_through(
+    rt: &impl Abort,
+    alloc: Global,
+    session: &mut Session,
+    told: &[u8],
+    memory: &mut Memory,
+) -> Result<(), Errno> {
+    let mut left = told;
+    for _ in 0..MOST_TURNS {
+        match turn(rt, alloc, session, left, memory)? {
+            Some(rest) => left = rest,
+            None => return Ok(()),
+        }
+    }
+    assert!(rt; false);
+    Ok(())
+}
+
+/// Begins a course's script, and goes through what it tells.
 pub fn check(
     rt: &impl Abort,
     alloc: Global,
@@ -217,13 +236,5 @@ pub fn check(
     memory: &mut Memory,
 ) -> Result<(), Errno> {
     let mut session = begun(alloc, course.script, memory)?;
-    let mut left = course.told.as_bytes();
-    for _ in 0..MOST_TURNS {
-        match turn(rt, alloc, &mut session, left, memory)? {
-            Some(rest) => left = rest,
-            None => return Ok(()),
-        }
-    }
-    assert!(rt; false);
-    Ok(())
+    go_through(rt, alloc, &mut session, course.told.as_bytes(), memory)
 }
