@@ -115,7 +115,7 @@ fn sees_all(alloc: Global) -> Result<bool, Errno> {
 }
 
 /// Makes calls, and says whether alice's view is then as it was.
-fn same_after(alloc: Global, world: &mut World, calls: &str) -> Result<bool, Errno> {
+fn is_same_after(alloc: Global, world: &mut World, calls: &str) -> Result<bool, Errno> {
     let Ok(before) = view_of(alloc, world, &[ALICE]) else {
         return Err(Errno::ENOMEM);
     };
@@ -126,18 +126,26 @@ fn same_after(alloc: Global, world: &mut World, calls: &str) -> Result<bool, Err
     }
 }
 
+/// Makes calls, and says whether alice's view is then another.
+fn differs_after(alloc: Global, world: &mut World, calls: &str) -> Result<bool, Errno> {
+    match is_same_after(alloc, world, calls) {
+        Ok(same) => Ok(!same),
+        Err(errno) => Err(errno),
+    }
+}
+
 /// Whether her view is as it was where nothing that she sees has another value, whatever was touched; and is not where a directory's mode
 /// changes, or she is sent a port.
 fn views_differ(alloc: Global) -> Result<bool, Errno> {
     let mut world = booted(alloc)?;
-    let same = [
-        same_after(alloc, &mut world, ""),
-        same_after(alloc, &mut world, CLOSED).map(|same| !same),
-        same_after(alloc, &mut world, UNSEEN),
-        same_after(alloc, &mut world, SHUT).map(|same| !same),
-        same_after(alloc, &mut world, SENT).map(|same| !same),
+    let answers = [
+        is_same_after(alloc, &mut world, ""),
+        differs_after(alloc, &mut world, CLOSED),
+        is_same_after(alloc, &mut world, UNSEEN),
+        differs_after(alloc, &mut world, SHUT),
+        differs_after(alloc, &mut world, SENT),
     ];
-    all_of(same.as_slice())
+    all_of(answers.as_slice())
 }
 
 /// Whether all hold; the first error, if there is one.
