@@ -3,7 +3,7 @@ use crate::fixture::{Memory, booted, list_of, wants_memory};
 use hurd_creds::{Errno, Name, NodeName, TaskId};
 use hurd_lists::{ListedCall, with_server};
 use hurd_nodes::BOOT_NAME;
-use hurd_sight::{Found, Why, seen, view_of};
+use hurd_sight::{Found, View, Why, seen, view_of};
 use hurd_world::World;
 use std::alloc::Global;
 use std::process::Abort;
@@ -114,14 +114,19 @@ fn sees_all(alloc: Global) -> Result<bool, Errno> {
     all_of(seen.as_slice())
 }
 
-/// Makes calls, and says whether alice's view is then as it was.
-fn is_same_after(alloc: Global, world: &mut World, calls: &str) -> Result<bool, Errno> {
-    let Ok(before) = view_of(alloc, world, &[ALICE]) else {
-        return Err(Errno::ENOMEM);
-    };
+/// Makes calls, and says whether alice's view is then this one.
+fn is_still(alloc: Global, world: &mut World, calls: &str, before: &View) -> Result<bool, Errno> {
     make(alloc, world, calls)?;
     match view_of(alloc, world, &[ALICE]) {
         Ok(after) => Ok(before.is_same(&after)),
+        Err(_) => Err(Errno::ENOMEM),
+    }
+}
+
+/// Makes calls, and says whether alice's view is then as it was.
+fn is_same_after(alloc: Global, world: &mut World, calls: &str) -> Result<bool, Errno> {
+    match view_of(alloc, world, &[ALICE]) {
+        Ok(before) => is_still(alloc, world, calls, &before),
         Err(_) => Err(Errno::ENOMEM),
     }
 }
