@@ -204,16 +204,34 @@ impl ServerRow {
     }
 }
 
+impl Same for NodeRow {
+    fn same(&self, other: &NodeRow) -> bool {
+        self.is_same(other)
+    }
+}
+
+impl Same for BodyRow {
+    fn same(&self, other: &BodyRow) -> bool {
+        self.is_same(other)
+    }
+}
+
+impl Same for ServerRow {
+    fn same(&self, other: &ServerRow) -> bool {
+        self.is_same(other)
+    }
+}
+
 impl Row {
     /// Whether these are the same. Takes no memory.
     pub fn is_same(&self, other: &Row) -> bool
         ensures { IsTrue result ↔ (self.now ≡ other.now) }
     {
-        same_attributes(&self.attributes, &other.attributes)
+        same_option(&self.attributes, &other.attributes)
             && self.empty == other.empty
-            && same_bodies(&self.body, &other.body)
+            && same_seen(&self.body, &other.body)
             && self.opened == other.opened
-            && same_servers(&self.server, &other.server)
+            && same_seen(&self.server, &other.server)
             && self.users == other.users
     }
 }
@@ -232,59 +250,23 @@ impl Row {
     }
 }
 
-/// Whether the same is seen of a node beside what is in it.
-pub(crate) fn same_attributes(row: &Option<NodeRow>, other: &Option<NodeRow>) -> bool
-    ensures { IsTrue result ↔ (row.now ≡ other.now) }
+/// Whether these are the same, if they are there. Takes no memory.
+fn same_option<T: Same>(one: &Option<T>, other: &Option<T>) -> bool
+    ensures { IsTrue result ↔ (one.now ≡ other.now) }
 {
-    match (row, other) {
-        (Some(row), Some(other)) => row.is_same(other),
+    match (one, other) {
+        (Some(one), Some(other)) => one.same(other),
         (None, None) => true,
         _ => false,
     }
 }
 
-/// Whether the same is seen of what is in a node.
-pub(crate) fn same_bodies(row: &Option<Option<BodyRow>>, other: &Option<Option<BodyRow>>) -> bool
-    ensures { IsTrue result ↔ (row.now ≡ other.now) }
+/// Whether the same is seen of what may not be there. Takes no memory.
+fn same_seen<T: Same>(one: &Option<Option<T>>, other: &Option<Option<T>>) -> bool
+    ensures { IsTrue result ↔ (one.now ≡ other.now) }
 {
-    match (row, other) {
-        (Some(row), Some(other)) => same_body(row, other),
-        (None, None) => true,
-        _ => false,
-    }
-}
-
-/// Whether these are the same, if they are there.
-fn same_body(row: &Option<BodyRow>, other: &Option<BodyRow>) -> bool
-    ensures { IsTrue result ↔ (row.now ≡ other.now) }
-{
-    match (row, other) {
-        (Some(row), Some(other)) => row.is_same(other),
-        (None, None) => true,
-        _ => false,
-    }
-}
-
-/// Whether the same is seen of a server.
-pub(crate) fn same_servers(
-    row: &Option<Option<ServerRow>>,
-    other: &Option<Option<ServerRow>>,
-) -> bool
-    ensures { IsTrue result ↔ (row.now ≡ other.now) }
-{
-    match (row, other) {
-        (Some(row), Some(other)) => same_server(row, other),
-        (None, None) => true,
-        _ => false,
-    }
-}
-
-/// Whether these are the same, if they are there.
-fn same_server(row: &Option<ServerRow>, other: &Option<ServerRow>) -> bool
-    ensures { IsTrue result ↔ (row.now ≡ other.now) }
-{
-    match (row, other) {
-        (Some(row), Some(other)) => row.is_same(other),
+    match (one, other) {
+        (Some(one), Some(other)) => same_option(one, other),
         (None, None) => true,
         _ => false,
     }

@@ -10,7 +10,6 @@ ghost use Rattle.hurd_sight.specs.Parts.{is_in};
 ghost use Rattle.hurd_sight.specs.Views.{Fills, LooksSomehow, RowsAreViews, SameRows, Views, has_row, is_name_at, is_node_at, or_no_row, row_at, row_of};
 ghost use Rattle.hurd_sight.specs.declared.rows.Row.{Row};
 
-use crate::found::Found;
 use crate::looks::Sight;
 use crate::names::NameSet;
 use crate::rows::Row;
@@ -32,7 +31,6 @@ pub struct Rows {
 impl Model for Rows {
     ghost use Rattle.std.specs.Prelude.{List};
     ghost use Rattle.hurd_creds.specs.declared.name.Name.{Name};
-    ghost use Rattle.hurd_creds.specs.declared.name.TaskId.{TaskId};
     ghost use Rattle.std.specs.Coded.{coded_list, coded×};
     ghost use Rattle.hurd_creds.specs.Names.{coded_name};
     ghost use Rattle.hurd_sight.specs.contracts.rows.Row as row;
