@@ -28,7 +28,7 @@ fn lacks_memory<S>(reply: &Reply<S>) -> bool
 }
 
 /// Makes a call with the server that its words make, and gives its part of the output. `Memory`.
-pub fn part<S: Server>(
+fn part<S: Server>(
     world: &mut World<S>,
     alloc: Global,
     listed: ListedCall<S>,
