@@ -22,3 +22,25 @@ pub fn all_same<T: Same>(some: &[T], others: &[T]) -> bool
     }
     true
 }
+
+impl Same for bool {
+    fn same(&self, other: &bool) -> bool {
+        *self == *other
+    }
+}
+
+impl Same for usize {
+    fn same(&self, other: &usize) -> bool {
+        *self == *other
+    }
+}
+
+impl<T: Same> Same for Option<T> {
+    fn same(&self, other: &Option<T>) -> bool {
+        match (self, other) {
+            (Some(one), Some(other)) => one.same(other),
+            (None, None) => true,
+            _ => false,
+        }
+    }
+}

@@ -1,6 +1,6 @@
 -- Which ids, taken from those that a set of tasks reaches, may do something: no more than a few of them need be tried.
-use Rattle.std.proofs.Common.{◌≡◌, ◌∙◌, ◌⊎◌, inl, inr, sym, refl, ap, subst, ℕ, zero, suc, ◌==◌, Bool, true, false, true≢false, if◌then◌else◌, arith}
-use Rattle.std.specs.Prelude.{◌↔◌, ◌||◌, ◌&&◌, not}
+use Rattle.std.proofs.Common.{◌≡◌, ◌∙◌, inl, inr, sym, refl, ap, subst, ℕ, zero, suc, ◌==◌, Bool, true, false, true≢false, if◌then◌else◌, arith}
+use Rattle.std.specs.Prelude.{◌||◌, ◌&&◌, not}
 use Rattle.std.proofs.lemmas.Bool.{or_cases, or_left, or_right, and_parts, not-true}
 use Rattle.std.proofs.lemmas.Bool.Decides.{nat_tests}
 use Rattle.std.specs.Ordering.{nat_cmp, eq_by_cmp, is_eq}
@@ -13,8 +13,7 @@ use Rattle.hurd_creds.specs.Access.{IdSet, IdSets, USE_UNK, group_bit, has_no_ui
 use Rattle.hurd_creds.specs.Bits.{has_bits}
 use Rattle.hurd_trans_iface.specs.Nodes.{Header}
 use Rattle.hurd_machine.specs.World.{World}
-use Rattle.hurd_machine.specs.Sight.{HasUid, HasGid, Taken, Could, Owns, Allowed, CouldServe, bare}
-use Rattle.hurd_nodes.specs.Shown.{ServerInfo}
+use Rattle.hurd_machine.specs.Sight.{HasUid, HasGid, Taken, Could, Owns, Allowed, bare}
 use Rattle.hurd_sight.specs.Reach.{CouldIsEnough, Reaches, could_with, others_or_group}
 
 or_false : (a b : Bool) → (a || b) ≡ false → (a ≡ false) × (b ≡ false)

@@ -1,10 +1,9 @@
 -- Nodes are followed in their order, until all that they show is there.
-use Rattle.std.proofs.Common.{◌≡◌, ◌∙◌, ◌⊎◌, inl, inr, sym, refl, ap, subst, ℕ, zero, suc, ◌+◌, ◌<◌, ◌≤◌, arith, Bool, true, false, true≢false, List, [], ◌∷◌, ◌++◌, take, take_all, length, length-append, append_assoc, append-nil, get_or}
-use Rattle.std.specs.Prelude.{◌↔◌, ◌||◌, Option, Some, None, slice_get}
+use Rattle.std.proofs.Common.{◌≡◌, ◌∙◌, ◌⊎◌, inl, inr, sym, refl, ap, subst, ℕ, zero, suc, ◌+◌, ◌<◌, ◌≤◌, arith, true, false, true≢false, List, [], ◌∷◌, ◌++◌, take, take_all, length, length-append, append_assoc, append-nil}
+use Rattle.std.specs.Prelude.{Option, Some, None, slice_get}
 use Rattle.std.specs.Option.{option_map}
 use Rattle.std.proofs.lemmas.Bool.{or_cases, or_left, or_right}
-use Rattle.std.proofs.lemmas.List.{take_more, take-append-le}
-use Rattle.std.proofs.lemmas.List.Folds.{list_any-append}
+use Rattle.std.proofs.lemmas.List.{take-append-le}
 use Rattle.std.proofs.lemmas.Option.{slice_get_within, slice_get_past}
 use Rattle.hurd_creds.specs.declared.name.Name.{Name}
 use Rattle.hurd_creds.specs.Names.{same_name}
@@ -17,7 +16,7 @@ use Rattle.hurd_creds.specs.declared.name.TaskId.{TaskId}
 use Rattle.hurd_sight.specs.Found.{Collects, Follows, Following, FoundAll, OfNode, OfSeeds, OfTasks, found_more, is_found}
 use Rattle.hurd_sight.specs.declared.found.Why.{Why}
 use Rattle.hurd_sight.specs.declared.found.Why.TheVariants as why
-use Rattle.hurd_sight.proofs.FoundLaws.{Entries, found_left, found_one, found_right}
+use Rattle.hurd_sight.proofs.FoundLaws.{Entries, found_left, found_one}
 
 slice_get_none : (es : Entries) (k : ℕ) → slice_get es k ≡ None → length es ≤ k
 slice_get_none [] k none = omega arith

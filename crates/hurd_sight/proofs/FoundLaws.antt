@@ -1,18 +1,16 @@
 -- What is collected of nodes, one thing after another.
-use Rattle.std.proofs.Common.{◌≡◌, ◌≢◌, ◌∙◌, ◌⊎◌, inl, inr, sym, refl, ap, ap₂, subst, ℕ, zero, suc, ◌+◌, ◌<◌, ◌≤◌, arith, Bool, true, false, true≢false, List, [], ◌∷◌, ◌++◌, map, take, take_all, length, get_or, append_assoc, append-nil, if◌then◌else◌}
-use Rattle.std.specs.Prelude.{◌↔◌, ◌||◌, ◌&&◌, Option, Some, None, Result, Ok, Err, OnOk, is_some, slice_get}
-use Rattle.std.specs.Option.{option_map}
-use Rattle.std.specs.List.{list_any}
+use Rattle.std.proofs.Common.{◌≡◌, ◌∙◌, ◌⊎◌, inl, inr, sym, refl, ap, subst, ℕ, ◌+◌, ◌<◌, ◌≤◌, Bool, true, false, true≢false, List, [], ◌∷◌, ◌++◌, map, take, take_all, length, get_or, append_assoc, append-nil, if◌then◌else◌}
+use Rattle.std.specs.Prelude.{◌||◌, Result, Ok, Err, OnOk, is_some}
 use Rattle.std.specs.Map.{lookup}
 use Rattle.indexmap.specs.IndexMap.{insert_entry}
-use Rattle.std.proofs.lemmas.Bool.{or_cases, or_left, or_right, and_parts}
+use Rattle.std.proofs.lemmas.Bool.{or_left, or_right}
 use Rattle.std.proofs.lemmas.List.{take_more}
 use Rattle.std.proofs.lemmas.List.Folds.{list_any-append}
 use Rattle.hurd_creds.specs.declared.name.Name.{Name}
 use Rattle.hurd_creds.specs.Names.{same_name}
 use Rattle.hurd_creds.proofs.NameLaws.{same_name-itself}
 use Rattle.hurd_machine.specs.World.{IsAmong}
-use Rattle.hurd_sight.specs.Found.{Collects, found_more, is_found}
+use Rattle.hurd_sight.specs.Found.{Collects, found_more, is_found, why_of}
 use Rattle.hurd_sight.specs.declared.found.Why.{Why}
 
 abbrev pub Entries : Type 0
@@ -143,6 +141,15 @@ is_looked_up n [] = refl
 is_looked_up n (e ∷ es) = go (same_name n e.0) refl (is_looked_up n es)
   where
     go : (b : Bool) → same_name n e.0 ≡ b → is_some (lookup (same_name n) es) ≡ is_found n es → is_some (lookup (same_name n) (e ∷ es)) ≡ is_found n (e ∷ es)
+    go true is rest = rw is refl
+    go false is rest = rw is rest
+
+-- why it was found, by what is looked up
+pub why_got : (n : Name) (es : Entries) → lookup (same_name n) es ≡ why_of n es
+why_got n [] = refl
+why_got n (e ∷ es) = go (same_name n e.0) refl (why_got n es)
+  where
+    go : (b : Bool) → same_name n e.0 ≡ b → lookup (same_name n) es ≡ why_of n es → lookup (same_name n) (e ∷ es) ≡ why_of n (e ∷ es)
     go true is rest = rw is refl
     go false is rest = rw is rest
 

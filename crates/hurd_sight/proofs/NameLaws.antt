@@ -1,8 +1,7 @@
 -- Names that are added, one thing after another.
 use Rattle.std.proofs.Common.{◌≡◌, ◌∙◌, ◌⊎◌, inl, inr, sym, refl, ap, subst, ℕ, ◌+◌, ◌<◌, ◌≤◌, Bool, true, false, true≢false, List, [], ◌∷◌, ◌++◌, map, take, take_all, length, get_or, if◌then◌else◌}
-use Rattle.std.specs.Prelude.{◌↔◌, ◌||◌, Option, Some, None, Result, Ok, Err, OnOk, slice_get}
+use Rattle.std.specs.Prelude.{◌||◌, Option, Some, None, Result, Ok, Err, OnOk, slice_get}
 use Rattle.std.specs.FinMap as fin
-use Rattle.std.specs.List.{list_any}
 use Rattle.std.proofs.lemmas.Bool.{or_cases, or_left, or_right}
 use Rattle.std.proofs.lemmas.List.{take_more, map-append}
 use Rattle.std.proofs.lemmas.List.Folds.{list_any-append}
@@ -19,7 +18,7 @@ use Rattle.hurd_ports.specs.Tables.{OpenMap, Task, rights_of, start_of}
 use Rattle.hurd_machine.specs.World.{IsAmong}
 use Rattle.hurd_sight.specs.declared.held.RightNames.{RightNames}
 use Rattle.hurd_sight.specs.Parts.{Adds, AddsRights, AreThose, ControlOfRight, IsOf, OpenOfRight, ReadOfRight, RightAt, RightOf, is_in, reads}
-use Rattle.hurd_sight.proofs.FoundLaws.{among_either, among_left, among_map, among_right, map_among}
+use Rattle.hurd_sight.proofs.FoundLaws.{among_either, among_left, among_right}
 
 abbrev pub Names : Type 0
 Names = List Name

@@ -1,5 +1,5 @@
 -- The servers of seen nodes, gathered one node after another.
-use Rattle.std.proofs.Common.{◌≡◌, ◌∙◌, ◌⊎◌, inl, inr, sym, refl, ap, subst, ℕ, ◌+◌, ◌<◌, ◌≤◌, arith, Bool, true, false, true≢false, List, [], ◌∷◌, ◌++◌, take, take_all, length, get_or}
+use Rattle.std.proofs.Common.{◌≡◌, ◌∙◌, ◌⊎◌, inl, inr, sym, refl, ap, subst, ℕ, ◌+◌, ◌<◌, ◌≤◌, arith, Bool, true, false, true≢false, [], ◌∷◌, ◌++◌, take, take_all, length}
 use Rattle.std.specs.Prelude.{◌↔◌, Option, Some, None, if◌then◌else◌, slice_get}
 use Rattle.std.specs.Option.{option_map}
 use Rattle.std.specs.FinMap as fin
@@ -14,7 +14,7 @@ use Rattle.hurd_machine.specs.World.{IsAmong}
 use Rattle.hurd_machine.specs.Sight.{bare}
 use Rattle.hurd_sight.specs.Reach.{Serves}
 use Rattle.hurd_sight.specs.declared.found.Why.{Why}
-use Rattle.hurd_sight.specs.Parts.{Adds, AreThose, AtEntry, KnownAt, OfEntries, OwnedAt, SendableAt, ServedAt, is_in}
+use Rattle.hurd_sight.specs.Parts.{Adds, AreThose, AtEntry, KnownAt, OfEntries, OwnedAt, ServedAt, is_in}
 use Rattle.hurd_sight.proofs.FoundLaws.{Entries, among_either, among_left, among_right}
 use Rattle.hurd_sight.proofs.NameLaws.{Names, adds_all, adds_as, adds_both, adds_none, adds_one}
 

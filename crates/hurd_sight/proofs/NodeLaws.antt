@@ -1,13 +1,12 @@
 -- What a node, a right and a task show, of what the code asks.
 use Rattle.std.proofs.Common.{◌≡◌, ◌∙◌, ◌⊎◌, inl, inr, sym, refl, ap, subst, ℕ, Bool, true, false, true≢false, List, [], ◌∷◌, ◌++◌, map}
-use Rattle.std.specs.Prelude.{◌↔◌, ◌||◌, ◌&&◌, cond, Option, Some, None, Result, Ok, Err, OnOk, IsOk}
+use Rattle.std.specs.Prelude.{cond, Option, Some, None, Result, Ok, Err}
 use Rattle.std.specs.Option.{option_map}
 use Rattle.std.specs.Str.{bytes_eq}
 use Rattle.std.specs.FinMap as fin
 use Rattle.std.proofs.lemmas.Bool.{and_parts}
 use Rattle.hurd_creds.specs.declared.name.Name.{Name}
 use Rattle.hurd_creds.specs.declared.errno.Errno.{Errno}
-use Rattle.hurd_creds.specs.declared.errno.Errno.TheVariants.{ENOMEM}
 use Rattle.hurd_creds.specs.declared.attrs.Kind.{Kind}
 use Rattle.hurd_creds.specs.declared.attrs.Kind.TheVariants.{File, Dir, Link, Fifo, Char}
 use Rattle.hurd_creds.specs.declared.attrs.Want.TheVariants.{Exec}
@@ -21,16 +20,16 @@ use Rattle.hurd_ports.specs.declared.table.IoRight.{IoRight}
 use Rattle.hurd_ports.specs.declared.table.PendingStart.{PendingStart}
 use Rattle.hurd_ports.specs.declared.table.Port.{Port}
 use Rattle.hurd_ports.specs.declared.table.Right.{Right}
-use Rattle.hurd_ports.specs.declared.table.Right.TheVariants.{Io, Control, Start}
+use Rattle.hurd_ports.specs.declared.table.Right.TheVariants.{Io, Start}
 use Rattle.hurd_ports.specs.Tables.{Task, rights_of, start_of}
 use Rattle.hurd_machine.specs.World.{IsAmong}
 use Rattle.hurd_machine.proofs.Removals.{same_exact}
 use Rattle.hurd_machine.specs.Sight.{bare}
 use Rattle.hurd_sight.specs.Reach.{Serves, could_with}
-use Rattle.hurd_sight.specs.Found.{Collects, OfActive, OfChild, OfControl, OfEntry, OfName, OfNames, OfNode, OfParent, OfPorts, OfRight, OfRights, OfServer, OfTask, OfWays, ServedRoot, found_more, is_found, parent_in, searched_by}
+use Rattle.hurd_sight.specs.Found.{Collects, OfActive, OfChild, OfControl, OfName, OfNames, OfNode, OfParent, OfPorts, OfRight, OfRights, OfServer, OfTask, OfWays, ServedRoot, found_more, parent_in, searched_by}
 use Rattle.hurd_sight.specs.declared.found.Why.{Why}
 use Rattle.hurd_sight.specs.declared.found.Why.TheVariants as why
-use Rattle.hurd_sight.proofs.FoundLaws.{Entries, Any, among_either, among_left, among_map, among_right, collects_as, collects_both, collects_none, collects_one, collects_some, map_among}
+use Rattle.hurd_sight.proofs.FoundLaws.{Entries, among_either, among_left, among_map, among_right, collects_as, collects_both, collects_none, collects_one, collects_some, map_among}
 
 same_some : {X : Type 0} (x y : X) → Some x ≡ Some y → x ≡ y
 same_some x y e = cc

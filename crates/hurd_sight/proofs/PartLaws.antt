@@ -1,5 +1,5 @@
 -- Names that were gathered are those that a set of tasks has and knows, and by them its parts are told.
-use Rattle.std.proofs.Common.{◌≡◌, ◌≢◌, ◌∙◌, ◌⊎◌, inl, inr, sym, refl, ap, subst, ℕ, Bool, true, false, true≢false, List, [], ◌∷◌}
+use Rattle.std.proofs.Common.{◌≡◌, ◌≢◌, ◌∙◌, ◌⊎◌, inl, inr, sym, refl, ap, subst, ℕ, Bool, true, true≢false, List}
 use Rattle.std.specs.Prelude.{◌↔◌, ◌||◌, ◌&&◌, not, is_some, Option, Some, None, slice_get}
 use Rattle.std.specs.FinMap as fin
 use Rattle.std.specs.Global.{Vec}
@@ -15,22 +15,19 @@ use Rattle.hurd_creds.specs.Bits.{asks, READ}
 use Rattle.hurd_creds.specs.Names.{same_name}
 use Rattle.hurd_creds.proofs.NameLaws.{equal_if_same, same_name-itself, apart_if_not_same, same_name-apart}
 use Rattle.hurd_trans_iface.specs.Nodes.{Header, header_of, is_dir}
-use Rattle.hurd_nodes.specs.Shown.{NodeState, ServerInfo, boot_name}
+use Rattle.hurd_nodes.specs.Shown.{ServerInfo, boot_name}
 use Rattle.hurd_ports.specs.declared.table.Opened.{Opened}
-use Rattle.hurd_ports.specs.declared.table.IoRight.{IoRight}
 use Rattle.hurd_ports.specs.declared.table.Right.{Right}
 use Rattle.hurd_ports.specs.declared.table.Right.TheVariants.{Io, Control, Start}
-use Rattle.hurd_ports.specs.Tables.{Task, rights_of}
-use Rattle.hurd_machine.specs.World.{World, IsAmong, nodes_of, active_at, header_at, home_at, open_at, server_at}
+use Rattle.hurd_machine.specs.World.{World, IsAmong, nodes_of, active_at, header_at, home_at, server_at}
 use Rattle.hurd_machine.specs.Sight.{Could, CouldServe, HasUid, Holds, OwnsIt, Seen, Sees, SeesBody, ToRead, ToSearch, IsOpen, SeesEmpty, ByBody, ByParent, Knows, OfNode, OfSeat, OfControl, MaySend, Sends, ByControl, ByNode, BySeat, bare}
 use Rattle.hurd_sight.specs.Reach.{Gathers, Reaches, Serves, among, could_with}
 use Rattle.hurd_sight.specs.Found.{FoundAll, IsSight, is_found}
 use Rattle.hurd_sight.specs.declared.found.Why.{Why}
 use Rattle.hurd_sight.specs.declared.held.RightNames.{RightNames}
 use Rattle.hurd_sight.specs.declared.looks.Sight.{Sight}
-use Rattle.hurd_sight.specs.declared.parts.SeenPart.{SeenPart}
 use Rattle.hurd_sight.specs.declared.parts.SeenPart.TheVariants as seen
-use Rattle.hurd_sight.specs.Parts.{AreThose, ControlOfRight, HasOpen, HasRead, IsOf, KnownAt, KnownByNode, NamesAreSeen, OfEntries, OpenOfRight, OwnedAt, ReadOfRight, RightOf, SendableAt, SentByNode, ServedAt, is_in, part_of, reads}
+use Rattle.hurd_sight.specs.Parts.{AreThose, ControlOfRight, HasOpen, HasRead, IsOf, KnownAt, KnownByNode, NamesAreSeen, OfEntries, OpenOfRight, ReadOfRight, RightOf, SendableAt, SentByNode, is_in, part_of, reads}
 use Rattle.hurd_sight.specs.Looks.{Looks, PartsAreSeen, could_write, reads_with, sees_with, tells_empty, writes_at}
 use Rattle.hurd_sight.proofs.CouldLaws.{could_is_enough}
 use Rattle.hurd_sight.proofs.ReachLaws.{any_found, found_any, listed_task, ours, reach_is_gathered}

@@ -1,10 +1,10 @@
 -- What is gathered of ids, one thing after another, and that it is what a set of tasks can act with.
-use Rattle.std.proofs.Common.{◌≡◌, ◌∙◌, ◌⊎◌, inl, inr, sym, refl, ap, ap₂, subst, ℕ, zero, suc, ◌+◌, ◌<◌, ◌==◌, arith, Bool, true, false, true≢false, List, [], ◌∷◌, ◌++◌, map, take, take_all, length, get_or, ◌≤◌}
+use Rattle.std.proofs.Common.{◌≡◌, ◌∙◌, inl, inr, sym, refl, ap, ap₂, ℕ, zero, suc, ◌+◌, ◌<◌, ◌==◌, arith, Bool, true, false, true≢false, List, [], ◌∷◌, ◌++◌, map, take, take_all, length, get_or, ◌≤◌}
 use Rattle.std.specs.Prelude.{◌↔◌, ◌||◌, Option, Some, None, Result, Ok, Err, IfOk, OnOk, slice_get, nat_eq}
 use Rattle.std.specs.List.{list_any}
 use Rattle.std.proofs.lemmas.Bool.{or_cases, or_left, or_right}
 use Rattle.std.proofs.lemmas.Bool.Decides.{nat_tests}
-use Rattle.std.proofs.lemmas.List.{take_more, map_push}
+use Rattle.std.proofs.lemmas.List.{take_more}
 use Rattle.std.proofs.lemmas.List.Folds.{list_any-append}
 use Rattle.std.specs.Ordering.{nat_cmp}
 use Rattle.std.specs.FinSet as set
@@ -18,7 +18,7 @@ use Rattle.hurd_ports.specs.declared.table.Right.TheVariants.{Io, Control, Start
 use Rattle.hurd_ports.specs.Tables.{Task, rights_of, start_of}
 use Rattle.hurd_machine.specs.World.{World, IsAmong, task_at}
 use Rattle.hurd_machine.specs.Sight.{HasUid, HasGid, UidOfTask, UidOfRight, GidOfTask, GidOfRight, Holds}
-use Rattle.hurd_sight.specs.Reach.{Gains, Gathers, ReachIsGathered, Reaches, Serves, among, holds_at, right_holds, some_holds, task_holds}
+use Rattle.hurd_sight.specs.Reach.{Gains, Gathers, ReachIsGathered, Serves, among, holds_at, right_holds, some_holds, task_holds}
 
 or_false : (a : Bool) → (a || false) ≡ a
 or_false true = refl

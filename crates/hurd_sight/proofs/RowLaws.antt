@@ -1,5 +1,5 @@
 -- Rows that are kept by name, filled in and compared.
-use Rattle.std.proofs.Common.{◌≡◌, ◌≢◌, ◌∙◌, ◌⊎◌, inl, inr, sym, refl, ap, subst, ℕ, zero, suc, ◌+◌, ◌<◌, ◌≤◌, Bool, true, false, true≢false, List, [], ◌∷◌, ◌++◌, take, take_all, length, get_or, if◌then◌else◌, arith}
+use Rattle.std.proofs.Common.{◌≡◌, ◌∙◌, inl, inr, sym, refl, ap, subst, ℕ, zero, suc, ◌+◌, ◌<◌, ◌≤◌, Bool, true, false, true≢false, List, [], ◌∷◌, ◌++◌, take, take_all, length, if◌then◌else◌, arith}
 use Rattle.std.specs.Prelude.{◌↔◌, ◌||◌, ◌&&◌, not, is_some, IsTrue, Option, Some, None, slice_get}
 use Rattle.std.specs.List.{list_any}
 use Rattle.std.specs.FinMap as fin
@@ -32,6 +32,15 @@ row_got [] n = refl
 row_got (e ∷ es) n = go (same_name n e.0) refl (row_got es n)
   where
     go : (b : Bool) → same_name n e.0 ≡ b → or_no_row (lookup (same_name n) es) ≡ row_at es n → or_no_row (lookup (same_name n) (e ∷ es)) ≡ row_at (e ∷ es) n
+    go true is rest = rw is refl
+    go false is rest = rw is rest
+
+-- whether a row is kept under a name, by what is looked up
+pub row_is_got : (es : Kept) (n : Name) → is_some (lookup (same_name n) es) ≡ has_row es n
+row_is_got [] n = refl
+row_is_got (e ∷ es) n = go (same_name n e.0) refl (row_is_got es n)
+  where
+    go : (b : Bool) → same_name n e.0 ≡ b → is_some (lookup (same_name n) es) ≡ has_row es n → is_some (lookup (same_name n) (e ∷ es)) ≡ has_row (e ∷ es) n
     go true is rest = rw is refl
     go false is rest = rw is rest
 

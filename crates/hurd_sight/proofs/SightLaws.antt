@@ -1,21 +1,18 @@
 -- What is found from the rights of some tasks is what they see.
-use Rattle.std.proofs.Common.{◌≡◌, ◌∙◌, ◌⊎◌, inl, inr, sym, refl, ap, subst, ℕ, zero, suc, ◌<◌, ◌≤◌, arith, Bool, true, false, true≢false, List, [], ◌∷◌, take, take_all, length}
-use Rattle.std.specs.Prelude.{◌↔◌, Option, Some, None, slice_get}
-use Rattle.std.specs.FinMap as fin
+use Rattle.std.proofs.Common.{◌≡◌, ◌∙◌, inl, inr, sym, refl, ap, subst, ℕ, zero, suc, arith, Bool, true, true≢false, List, take, take_all, length}
+use Rattle.std.specs.Prelude.{Option, Some, None, slice_get}
 use Rattle.hurd_creds.specs.declared.name.Name.{Name}
 use Rattle.hurd_creds.specs.declared.name.TaskId.{TaskId}
 use Rattle.hurd_creds.specs.declared.attrs.Want.TheVariants.{Exec}
-use Rattle.hurd_creds.specs.Access.{IdSets, holds_uid}
+use Rattle.hurd_creds.specs.Access.{IdSets}
 use Rattle.hurd_nodes.specs.Shown.{ServerInfo}
-use Rattle.hurd_ports.specs.declared.parents.Parent.{Parent as Pair}
-use Rattle.hurd_ports.specs.declared.table.IoRight.{IoRight}
 use Rattle.hurd_ports.specs.declared.table.Right.{Right}
 use Rattle.hurd_ports.specs.declared.table.Right.TheVariants.{Io, Control, Start}
-use Rattle.hurd_ports.specs.Tables.{Task, rights_of}
-use Rattle.hurd_machine.specs.World.{World, IsAmong, boot_root, nodes_of}
-use Rattle.hurd_machine.specs.Sight.{CouldServe, Holds, HasUid, Seen, Root, Held, Way, Controlled, Pending, Child, Parent, Active, ServerRoot}
+use Rattle.hurd_ports.specs.Tables.{Task}
+use Rattle.hurd_machine.specs.World.{World, IsAmong, nodes_of}
+use Rattle.hurd_machine.specs.Sight.{CouldServe, Holds, Seen, Root, Held, Way, Controlled, Pending, Child, Parent, Active, ServerRoot}
 use Rattle.hurd_sight.specs.Reach.{Reaches, Serves, among}
-use Rattle.hurd_sight.specs.Found.{FoundAll, FoundIsSeen, IsBefore, IsSight, IsWhy, OfNode, OfRight, OfRights, OfSeeds, OfTask, found_from, is_found}
+use Rattle.hurd_sight.specs.Found.{FoundAll, FoundIsSeen, IsBefore, IsSight, IsWhy, OfNode, OfRight, OfSeeds, OfTask, found_from, is_found}
 use Rattle.hurd_sight.specs.declared.found.Why.{Why}
 use Rattle.hurd_sight.specs.declared.found.Why.TheVariants as why
 use Rattle.hurd_sight.proofs.CouldLaws.{could_is_enough}

@@ -1,6 +1,6 @@
 -- Views in which nothing differs are of worlds that have the same view, and no others.
-use Rattle.std.proofs.Common.{◌≡◌, ◌≢◌, ◌∙◌, ◌⊎◌, inl, inr, sym, refl, ap, subst, ℕ, Bool, true, false, true≢false, List, [], ◌∷◌, ◌++◌, map, length, cond}
-use Rattle.std.specs.Prelude.{◌↔◌, ◌||◌, Option, Some, None, nat_eq}
+use Rattle.std.proofs.Common.{◌≡◌, ◌∙◌, inl, inr, sym, refl, ap, subst, ℕ, Bool, true, false, true≢false, List, [], ◌∷◌, map, cond}
+use Rattle.std.specs.Prelude.{◌↔◌, Option, Some, None, nat_eq}
 use Rattle.std.specs.FinMap as fin
 use Rattle.std.specs.Option.{option_map}
 use Rattle.std.proofs.lemmas.Bool.{or_cases, or_left, or_right}
@@ -11,19 +11,18 @@ use Rattle.hurd_creds.specs.declared.name.Name.{Name}
 use Rattle.hurd_creds.specs.declared.name.TaskId.{TaskId}
 use Rattle.hurd_creds.specs.declared.attrs.Attrs.{Attrs}
 use Rattle.hurd_creds.specs.Access.{IdSets}
-use Rattle.hurd_trans_iface.specs.Nodes.{Body, Content, Listing, Entry, Header, Node, NodeMap, is_empty_dir}
+use Rattle.hurd_trans_iface.specs.Nodes.{Body, Content, Listing, Entry, Header, Node, is_empty_dir}
 use Rattle.hurd_trans_iface.specs.Answers.{entry_in}
 use Rattle.hurd_trans_iface.specs.Meaning.{ServerKind, Tmpfs, Hello, Null, Zero, Symlink, behaviour_of, options_of}
 use Rattle.hurd_nodes.specs.Shown.{ServerInfo}
 use Rattle.hurd_ports.specs.Tables.{Task}
 use Rattle.hurd_machine.specs.World.{World, IsAmong, nodes_of, active_at, body_at, header_at, home_at, open_at, server_at, task_at, words_at, words_in}
-use Rattle.hurd_machine.specs.Sight.{Part, AttrOf, EmptyOf, BodyOf, OpenOf, OptionsOf, UsersOf, TaskOf, Sees, SameView, Value, AnAttr, AnEmpty, ABody, AnOpen, AnOptions, AUsers, ATask, bare, holders, part, users}
+use Rattle.hurd_machine.specs.Sight.{Part, AttrOf, EmptyOf, BodyOf, OpenOf, OptionsOf, UsersOf, TaskOf, Sees, SameView, AnAttr, AnEmpty, ABody, AnOpen, AnOptions, AUsers, ATask, bare, holders, part, users}
 use Rattle.hurd_machine.specs.Sound.{AreDistinct, HasDistinctNames, Sound}
-use Rattle.hurd_sight.specs.Looks.{Looks, sees_with}
+use Rattle.hurd_sight.specs.Looks.{sees_with}
 use Rattle.hurd_sight.specs.Parts.{part_of}
 use Rattle.hurd_sight.specs.Reach.{among}
-use Rattle.hurd_sight.specs.Views.{RowsAreViews, SameRows, Views, body_row, entry_before, node_row, row_at, row_of, rows_in, server_row, told_if}
-use Rattle.hurd_sight.specs.declared.looks.Sight.{Sight}
+use Rattle.hurd_sight.specs.Views.{RowsAreViews, SameRows, Views, body_row, entry_before, node_row, row_of, rows_in, server_row, told_if}
 use Rattle.hurd_sight.specs.declared.parts.SeenPart.{SeenPart}
 use Rattle.hurd_sight.specs.declared.parts.SeenPart.TheVariants as seen
 use Rattle.hurd_sight.specs.declared.rows.BodyRow.{BodyRow}

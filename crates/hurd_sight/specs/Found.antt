@@ -1,5 +1,5 @@
 -- The nodes that a set of tasks sees, each with why.
-use Rattle.std.specs.Prelude.{◌≡◌, ◌≢◌, ◌⊎◌, ◌↔◌, ℕ, ◌≤◌, ◌&&◌, Bool, true, false, List, [], ◌∷◌, ◌++◌, if◌then◌else◌, Option, Some, None, slice_get, take, length}
+use Rattle.std.specs.Prelude.{◌≡◌, ◌⊎◌, ◌↔◌, ℕ, ◌≤◌, ◌&&◌, Bool, true, false, List, [], ◌∷◌, ◌++◌, if◌then◌else◌, Option, Some, None, slice_get, take, length}
 use Rattle.std.specs.List.{list_any}
 use Rattle.std.specs.FinMap as fin
 use Rattle.hurd_creds.specs.declared.name.Name.{Name}
@@ -26,6 +26,11 @@ use Rattle.hurd_sight.specs.declared.found.Why.TheVariants as why
 -- whether a node is among those found
 abbrev pub is_found : Name → List (Name × Why) → Bool
 is_found n es = list_any (λ (e : Name × Why). same_name n e.0) es
+
+-- why a node was found, if it was
+abbrev pub why_of : Name → List (Name × Why) → Option Why
+why_of n [] = None
+why_of n (e ∷ es) = if same_name n e.0 then Some e.1 else why_of n es
 
 -- why S sees a node, each clause by itself
 abbrev pub IsWhy : (ℕ → Bool) → World → Name → Why → Type 0

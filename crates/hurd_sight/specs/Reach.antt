@@ -1,7 +1,6 @@
 -- The ids that a set of tasks may act with, and what it could do with them.
 use Rattle.std.specs.Prelude.{◌≡◌, ◌↔◌, ◌⊎◌, ℕ, ◌||◌, ◌&&◌, not, nat_eq, Bool, true, false, List, Option, Some, None, slice_get}
 use Rattle.std.specs.List.{list_any}
-use Rattle.std.specs.FinSet as set
 use Rattle.hurd_creds.specs.declared.name.TaskId.{TaskId}
 use Rattle.hurd_creds.specs.declared.attrs.Attrs.{Attrs}
 use Rattle.hurd_creds.specs.declared.attrs.Want.{Want}

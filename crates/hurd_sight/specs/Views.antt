@@ -17,13 +17,11 @@ use Rattle.hurd_sight.specs.Looks.{Looks, sees_with}
 use Rattle.hurd_sight.specs.Reach.{among}
 use Rattle.hurd_sight.specs.declared.found.Why.{Why}
 use Rattle.hurd_sight.specs.declared.looks.Sight.{Sight}
-use Rattle.hurd_sight.specs.declared.parts.SeenPart.{SeenPart}
 use Rattle.hurd_sight.specs.declared.parts.SeenPart.TheVariants as seen
 use Rattle.hurd_sight.specs.declared.rows.BodyRow.{BodyRow}
 use Rattle.hurd_sight.specs.declared.rows.BodyRow.TheVariants as body
 use Rattle.hurd_sight.specs.declared.rows.EntryRow.{EntryRow}
 use Rattle.hurd_sight.specs.declared.rows.NodeRow.{NodeRow}
-use Rattle.hurd_sight.specs.declared.rows.OpenRow.{OpenRow}
 use Rattle.hurd_sight.specs.declared.rows.Row.{Row}
 use Rattle.hurd_sight.specs.declared.rows.ServerRow.{ServerRow}
 use Rattle.hurd_sight.specs.declared.view.View.{View}

@@ -7,7 +7,7 @@ ghost use Rattle.hurd_trans_iface.specs.Nodes.{header_of, is_dir};
 ghost use Rattle.hurd_nodes.specs.Shown.{shown};
 ghost use Rattle.hurd_ports.specs.Seats.{seat_task};
 ghost use Rattle.hurd_ports.specs.Tables.{rights_of, start_of};
-ghost use Rattle.hurd_sight.specs.Found.{Collects, Follows, FoundAll, FoundIsSeen, OfActive, OfChild, OfControl, OfEntry, OfName, OfNames, OfNode, OfParent, OfPorts, OfRight, OfRights, OfServer, OfTask, OfTasks, OfWay, OfWays, ServedRoot, found_more, is_found, parent_in, searched_by};
+ghost use Rattle.hurd_sight.specs.Found.{Collects, Follows, FoundAll, FoundIsSeen, OfActive, OfChild, OfControl, OfEntry, OfName, OfNames, OfNode, OfParent, OfPorts, OfRight, OfRights, OfServer, OfTask, OfTasks, OfWay, OfWays, ServedRoot, found_more, is_found, parent_in, searched_by, why_of};
 ghost use Rattle.hurd_sight.specs.declared.found.Why.{Why};
 
 use crate::reach::Reach;
@@ -113,6 +113,13 @@ impl Found {
         ensures { result ≡ is_found node self.now }
     {
         self.nodes.contains_key(&node)
+    }
+
+    /// Why a node is seen, if it is among them.
+    pub fn why(&self, node: NodeName) -> Option<Why>
+        ensures { result ≡ why_of node self.now }
+    {
+        self.nodes.get(&node).copied()
     }
 
     /// One node more, unless it is there.

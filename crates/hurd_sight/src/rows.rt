@@ -216,6 +216,12 @@ impl Same for BodyRow {
     }
 }
 
+impl Same for OpenRow {
+    fn same(&self, other: &OpenRow) -> bool {
+        *self == *other
+    }
+}
+
 impl Same for ServerRow {
     fn same(&self, other: &ServerRow) -> bool {
         self.is_same(other)
@@ -227,11 +233,11 @@ impl Row {
     pub fn is_same(&self, other: &Row) -> bool
         ensures { IsTrue result ↔ (self.now ≡ other.now) }
     {
-        same_option(&self.attributes, &other.attributes)
+        self.attributes.same(&other.attributes)
             && self.empty == other.empty
-            && same_seen(&self.body, &other.body)
+            && self.body.same(&other.body)
             && self.opened == other.opened
-            && same_seen(&self.server, &other.server)
+            && self.server.same(&other.server)
             && self.users == other.users
     }
 }
@@ -247,27 +253,5 @@ impl Row {
             && self.opened.is_none()
             && self.server.is_none()
             && self.users.is_none()
-    }
-}
-
-/// Whether these are the same, if they are there. Takes no memory.
-fn same_option<T: Same>(one: &Option<T>, other: &Option<T>) -> bool
-    ensures { IsTrue result ↔ (one.now ≡ other.now) }
-{
-    match (one, other) {
-        (Some(one), Some(other)) => one.same(other),
-        (None, None) => true,
-        _ => false,
-    }
-}
-
-/// Whether the same is seen of what may not be there. Takes no memory.
-fn same_seen<T: Same>(one: &Option<Option<T>>, other: &Option<Option<T>>) -> bool
-    ensures { IsTrue result ↔ (one.now ≡ other.now) }
-{
-    match (one, other) {
-        (Some(one), Some(other)) => same_option(one, other),
-        (None, None) => true,
-        _ => false,
     }
 }

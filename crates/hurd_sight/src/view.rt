@@ -224,6 +224,13 @@ impl Rows {
         self.rows.get(&name)
     }
 
+    /// Whether a name is there.
+    pub fn has(&self, name: Name) -> bool
+        ensures { result ≡ has_row self.now name }
+    {
+        self.rows.contains_key(&name)
+    }
+
     /// Whether the same is seen under each name.
     fn is_same(&self, other: &Rows) -> bool
         ensures { IsTrue result ↔ ((n : Name) → row_at self.now n ≡ row_at other.now n) }

@@ -375,6 +375,21 @@ fn the_boot_box_is_told_nothing(rt: HostRuntime) -> Result<(), Fail> {
     Ok(())
 }
 
+/// Where another box is sent away, the boot box is told nothing either.
+#[test]
+fn a_box_that_is_sent_away_is_told_alone(rt: HostRuntime) -> Result<(), Fail> {
+    let alloc = rt.alloc();
+    let (counts, others) = (Counts::new(alloc)?, Counts::new(alloc)?);
+    let mut world = booted_over(alloc, &counts)?;
+    calls(&rt, alloc, &mut world, DIRECTORY)?;
+    let reply = seat(alloc, &mut world, 3, &others)?;
+    assert!(rt; matches!(reply, Reply::Done));
+    calls(&rt, alloc, &mut world, SENT_AWAY)?;
+    assert!(rt; others.are(1, 1));
+    assert!(rt; counts.are(0, 0));
+    Ok(())
+}
+
 /// The port that a lookup of `d` gives.
 fn looked_up(alloc: Global, world: &mut World, dir: u64, flags: OpenFlags) -> Result<u64, Errno> {
     let call = Call::DirLookup {

@@ -1,4 +1,3 @@
-use Rattle.std.proofs.Common.{sym, ◌∙◌}
 use Rattle.hurd_nodes.specs.Shown.{shown}
 use Rattle.hurd_sight.proofs.NodeLaws.{served, told_ids}
 use Rattle.hurd_sight.proofs.found.served_root.Goals as goal

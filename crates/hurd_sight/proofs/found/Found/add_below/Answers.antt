@@ -1,6 +1,5 @@
-use Rattle.std.proofs.Common.{sym, ◌∙◌}
 use Rattle.hurd_nodes.specs.Shown.{shown}
-use Rattle.hurd_sight.proofs.NodeLaws.{below, no_names, not_searched, other_error}
+use Rattle.hurd_sight.proofs.NodeLaws.{below, no_names, other_error}
 use Rattle.hurd_sight.proofs.FoundLaws.{ok_map}
 use Rattle.hurd_sight.proofs.found.Found.add_below.Goals as goal
 

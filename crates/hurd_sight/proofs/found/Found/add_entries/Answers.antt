@@ -1,4 +1,3 @@
-use Rattle.std.proofs.Common.{List, ℕ}
 use Rattle.hurd_nodes.specs.Shown.{shown}
 use Rattle.hurd_sight.specs.Found.{OfName}
 use Rattle.hurd_sight.proofs.FoundLaws.{collects_all, collects_item, collects_nothing}

@@ -1,5 +1,4 @@
 use Rattle.hurd_nodes.specs.Shown.{shown}
-use Rattle.hurd_ports.specs.declared.table.Port.{Port}
 use Rattle.hurd_sight.specs.Found.{OfRight}
 use Rattle.hurd_sight.proofs.FoundLaws.{collects_all, collects_item, collects_nothing}
 use Rattle.hurd_sight.proofs.found.Found.add_rights.Goals as goal

@@ -1,5 +1,3 @@
-use Rattle.std.proofs.Common.{sym}
-use Rattle.hurd_ports.specs.Tables.{start_of}
 use Rattle.hurd_nodes.specs.Shown.{shown}
 use Rattle.hurd_sight.proofs.NodeLaws.{starts, no_start}
 use Rattle.hurd_sight.proofs.FoundLaws.{ok_map}

@@ -1,4 +1,3 @@
-use Rattle.hurd_machine.specs.World.{IsAmong}
 use Rattle.hurd_sight.proofs.NameLaws.{rights_next, rights_none, rights_whole}
 use Rattle.hurd_sight.proofs.held.RightNames.add_rights.Goals as goal
 

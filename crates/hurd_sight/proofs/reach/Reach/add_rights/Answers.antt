@@ -1,6 +1,5 @@
 use Rattle.std.proofs.Common.{Bool}
 use Rattle.hurd_creds.specs.Access.{IdSets}
-use Rattle.hurd_ports.specs.declared.table.Port.{Port}
 use Rattle.hurd_ports.specs.declared.table.Right.{Right}
 use Rattle.hurd_sight.specs.Reach.{right_holds}
 use Rattle.hurd_sight.proofs.ReachLaws.{gains_all, gains_more, gains_none}

@@ -1,4 +1,4 @@
-use Rattle.std.proofs.Common.{◌∙◌, ap, sym}
+use Rattle.std.proofs.Common.{◌∙◌, ap}
 use Rattle.hurd_creds.specs.Access.{IdSets, has_no_uids}
 use Rattle.hurd_creds.proofs.IdLaws.{no_ids}
 use Rattle.hurd_sight.proofs.ReachLaws.{is_none}

@@ -1,4 +1,4 @@
-use Rattle.std.proofs.Common.{Bool, ℕ}
+use Rattle.std.proofs.Common.{Bool}
 use Rattle.std.specs.Prelude.{slice_get}
 use Rattle.hurd_creds.specs.declared.name.TaskId.{TaskId}
 use Rattle.hurd_creds.specs.Access.{IdSets}

@@ -1,4 +1,3 @@
-use Rattle.std.proofs.Common.{◌∙◌, sym}
 use Rattle.hurd_sight.proofs.RowLaws.{agree_at}
 use Rattle.hurd_sight.proofs.view.Rows.agrees_at.Goals as goal
 

@@ -1,6 +1,5 @@
 use Rattle.std.proofs.Common.{take}
 use Rattle.hurd_core.specs.Core.{world_of}
-use Rattle.hurd_sight.specs.Found.{is_found}
 use Rattle.hurd_sight.specs.Parts.{is_in}
 use Rattle.hurd_sight.specs.Views.{Fills}
 use Rattle.hurd_sight.proofs.view.Rows.fill.Given as goal

@@ -1,0 +1,35 @@
+-- What became of what is seen under a name, between two looks.
+use Rattle.std.specs.Prelude.{◌≡◌, ◌≢◌, ◌⊎◌, ◌&&◌, ◌||◌, Bool, true, false, Option, Some, None, is_some}
+use Rattle.hurd_sight.specs.declared.rows.Row.{Row}
+use Rattle.hurd_lessons.specs.declared.changes.Became.{Became}
+use Rattle.hurd_lessons.specs.declared.changes.Became.TheVariants as became
+use Rattle.hurd_lessons.specs.declared.changes.Change.{Change}
+
+-- what became of a part, of which this was seen before, and that after
+abbrev pub Turned : {X : Type 0} → Option X → Option X → Became → Type 0
+Turned None None b = b ≡ became.Same
+Turned None (Some y) b = b ≡ became.New
+Turned (Some x) None b = b ≡ became.Lost
+Turned (Some x) (Some y) b = ((x ≡ y) × (b ≡ became.Same)) ⊎ ((x ≢ y) × (b ≡ became.Changed))
+
+-- what became of each part
+pub record IsChange (x y : Row) (c : Change) : Type 0 where
+  pub attributes : Turned x.attributes y.attributes c.attributes
+  pub body : Turned x.body y.body c.body
+  pub empty : Turned x.empty y.empty c.empty
+  pub opened : Turned x.opened y.opened c.opened
+  pub server : Turned x.server y.server c.server
+  pub users : Turned x.users y.users c.users
+
+-- a part is as it was
+abbrev pub is_same : Became → Bool
+is_same became.Same = true
+is_same _ = false
+
+-- each part is
+abbrev pub is_kept : Change → Bool
+is_kept c = is_same c.attributes && (is_same c.body && (is_same c.empty && (is_same c.opened && (is_same c.server && is_same c.users))))
+
+-- anything is seen
+abbrev pub shows : Row → Bool
+shows r = is_some r.attributes || (is_some r.body || (is_some r.empty || (is_some r.opened || (is_some r.server || is_some r.users))))

@@ -1,0 +1,117 @@
+-- What a set of tasks learns between two looks, a line for each thing.
+use Rattle.std.specs.Prelude.{◌≡◌, ◌↔◌, ◌⊎◌, ℕ, Bool, true, false, List, [], ◌∷◌, ◌++◌, map, Option, Some, if◌then◌else◌, codes}
+use Rattle.hurd_creds.specs.declared.name.Name.{Name}
+use Rattle.hurd_sight.specs.Views.{SameRows, has_row, row_at}
+use Rattle.hurd_sight.specs.declared.rows.BodyRow.{BodyRow}
+use Rattle.hurd_sight.specs.declared.rows.BodyRow.TheVariants as body
+use Rattle.hurd_sight.specs.declared.rows.Row.{Row}
+use Rattle.hurd_sight.specs.declared.view.View.{View}
+use Rattle.hurd_lessons.specs.Changes.{IsChange, is_kept, shows}
+use Rattle.hurd_lessons.specs.Places.{place_of}
+use Rattle.hurd_lessons.specs.declared.changes.Became.{Became}
+use Rattle.hurd_lessons.specs.declared.changes.Became.TheVariants as became
+use Rattle.hurd_lessons.specs.declared.changes.Change.{Change}
+
+-- words, and a comma where some stand already
+abbrev pub parted : List ℕ → List ℕ
+parted [] = []
+parted (b ∷ bs) = (b ∷ bs) ++ codes ", "
+
+-- one part more, by its word, unless it is as it was
+abbrev pub noted : List ℕ → List ℕ → Became → List ℕ
+noted words word became.Same = words
+noted words word became.New = parted words ++ word
+noted words word became.Changed = parted words ++ word
+noted words word became.Lost = parted words ++ (word ++ codes " no longer seen")
+
+-- what a body is called
+abbrev pub is_listing : Option (Option BodyRow) → Bool
+is_listing (Some (Some (body.Entries es))) = true
+is_listing _ = false
+
+abbrev pub body_word : Row → Row → List ℕ
+body_word x y = if is_listing x.body then codes "entries" else if is_listing y.body then codes "entries" else codes "bytes"
+
+-- entries that are new or others say whether there are any
+abbrev pub emptiness : Became → Became → Became
+emptiness became.New e = became.Same
+emptiness became.Changed e = became.Same
+emptiness _ e = e
+
+-- the parts that changed, by their words
+abbrev pub parts_of : Row → Row → Change → List ℕ
+parts_of x y c =
+    noted (noted (noted (noted (noted (noted []
+    (codes "attributes") c.attributes)
+    (body_word x y) c.body)
+    (codes "emptiness") (emptiness c.body c.empty))
+    (codes "open") c.opened)
+    (codes "options") c.server)
+    (codes "users") c.users
+
+-- what is said of a thing of which x was seen before, and y after
+abbrev pub said_of : Row → Row → Change → List ℕ
+said_of x y c =
+    if shows y
+    then (if shows x then [] else codes "new: ") ++ parts_of x y c
+    else codes "no longer seen"
+
+-- the view in which something is to be looked for: the later one, unless it isn't seen there
+abbrev pub place_in : View → View → Name → List ℕ
+place_in a b n = if shows (row_at b.rows n) then place_of b n else place_of a n
+
+-- a line, which says to whom, where and what
+abbrev pub line_from : List ℕ → List ℕ → List ℕ → List ℕ
+line_from who place said = codes "  " ++ (who ++ (codes ": " ++ (place ++ (codes ": " ++ (said ++ 10 ∷ [])))))
+
+abbrev pub line : List ℕ → View → View → Name → Change → List ℕ
+line who a b n c = line_from who (place_in a b n) (said_of (row_at a.rows n) (row_at b.rows n) c)
+
+-- a name has a line, unless nothing changed under it
+abbrev pub LineOf : List ℕ → View → View → Name → List ℕ → Type 0
+LineOf who a b n text =
+    (c : Change) × IsChange (row_at a.rows n) (row_at b.rows n) c × (text ≡ (if is_kept c then [] else line who a b n c))
+
+-- a name that is only in the view before has one, and none that is in both: it has its line already
+abbrev pub GoneLineOf : List ℕ → View → View → Name → List ℕ → Type 0
+GoneLineOf who a b n text = ((has_row b.rows n ≡ true) × (text ≡ [])) ⊎ ((has_row b.rows n ≡ false) × LineOf who a b n text)
+
+-- one text for each name, joined
+abbrev pub Lines : (Name → List ℕ → Type 0) → List Name → List ℕ → Type 0
+Lines P [] text = text ≡ []
+Lines P (n ∷ ns) text = (here rest : List ℕ) × (text ≡ here ++ rest) × P n here × Lines P ns rest
+
+-- the names of a view, in its order
+abbrev pub names_of : View → List Name
+names_of v = map (λ e. e.0) v.rows
+
+-- a line, where something doesn't hold
+abbrev pub Unless : Type 0 → List ℕ → List ℕ → Type 0
+Unless P said text = (P × (text ≡ [])) ⊎ ((P → ⊥) × (text ≡ said))
+
+abbrev pub tasks_line : List ℕ → List ℕ
+tasks_line who = codes "  " ++ (who ++ codes ": own ports\n")
+
+abbrev pub count_line : List ℕ → List ℕ
+count_line who = codes "  " ++ (who ++ codes ": number of tasks\n")
+
+-- what is learned between two views: what is seen in the later one, in its order, and then what is no longer seen; and at last of the
+-- tasks themselves
+pub record Lessons (who : List ℕ) (a b : View) (text : List ℕ) : Type 0 where
+  pub seen : List ℕ
+  pub gone : List ℕ
+  pub tasks : List ℕ
+  pub count : List ℕ
+  pub joined : text ≡ seen ++ (gone ++ (tasks ++ count))
+  pub are_seen : Lines (LineOf who a b) (names_of b) seen
+  pub are_gone : Lines (GoneLineOf who a b) (names_of a) gone
+  pub are_tasks : Unless (a.seats.items ≡ b.seats.items) (tasks_line who) tasks
+  pub is_count : Unless (a.count ≡ b.count) (count_line who) count
+
+-- nothing is said exactly where nothing differs
+abbrev pub SilentWhereSame : Type 0
+SilentWhereSame = (who : List ℕ) (a b : View) (text : List ℕ) → Lessons who a b text → (text ≡ []) ↔ SameRows a b
+
+-- two views have one text
+abbrev pub OneText : Type 0
+OneText = (who : List ℕ) (a b : View) (s t : List ℕ) → Lessons who a b s → Lessons who a b t → s ≡ t

@@ -1,0 +1,4 @@
+pub mod Changes
+pub mod Places
+pub mod Lessons
+pub mod Added

@@ -1,0 +1,117 @@
+//! What became of what is seen under a name, between two looks.
+ghost use Rattle.std.specs.Prelude.{◌≡◌, Some};
+ghost use Rattle.hurd_sight.specs.Views.{no_row};
+ghost use Rattle.hurd_lessons.specs.Changes.{IsChange, Turned, is_kept, is_same, shows};
+
+use hurd_creds::Same;
+use hurd_sight::Row;
+
+/// What became of a part.
+#[derive(Clone, Copy, Debug, PartialEq, Eq)]
+pub(crate) enum Became {
+    /// It is seen as it was, or is not seen either time.
+    Same,
+    /// It was not seen before.
+    New,
+    /// It is seen otherwise.
+    Changed,
+    /// It is no longer seen.
+    Lost,
+}
+
+/// What became of each part of what is seen under a name.
+#[derive(Clone, Copy, Debug, PartialEq, Eq)]
+pub(crate) struct Change {
+    pub(crate) attributes: Became,
+    pub(crate) body: Became,
+    pub(crate) empty: Became,
+    pub(crate) opened: Became,
+    pub(crate) server: Became,
+    pub(crate) users: Became,
+}
+
+impl Became {
+    /// What became of a part, of which this was seen before, and that after.
+    fn of<T: Same>(before: &Option<T>, after: &Option<T>) -> Became
+        ensures { Turned before.now after.now result }
+    {
+        match (before, after) {
+            (Some(before), Some(after)) => Became::of_seen(before, after),
+            (None, None) => Became::Same,
+            (None, Some(_)) => Became::New,
+            (Some(_), None) => Became::Lost,
+        }
+    }
+
+    /// What became of a part that is seen both times.
+    fn of_seen<T: Same>(before: &T, after: &T) -> Became
+        ensures { Turned (Some before.now) (Some after.now) result }
+    {
+        if before.same(after) {
+            Became::Same
+        } else {
+            Became::Changed
+        }
+    }
+
+    /// Whether the part is as it was.
+    fn is_same(self) -> bool
+        ensures { result ≡ is_same self }
+    {
+        matches!(self, Became::Same)
+    }
+}
+
+impl Change {
+    /// What became of each part, of which these were seen before, and those after.
+    pub(crate) fn of(before: &Row, after: &Row) -> Change
+        ensures { IsChange before.now after.now result }
+    {
+        Change {
+            attributes: Became::of(&before.attributes, &after.attributes),
+            body: Became::of(&before.body, &after.body),
+            empty: Became::of(&before.empty, &after.empty),
+            opened: Became::of(&before.opened, &after.opened),
+            server: Became::of(&before.server, &after.server),
+            users: Became::of(&before.users, &after.users),
+        }
+    }
+
+    /// Whether each part is as it was.
+    pub(crate) fn is_kept(&self) -> bool
+        ensures { result ≡ is_kept self.now }
+    {
+        self.attributes.is_same()
+            && self.body.is_same()
+            && self.empty.is_same()
+            && self.opened.is_same()
+            && self.server.is_same()
+            && self.users.is_same()
+    }
+}
+
+/// Whether anything is seen.
+pub(crate) fn shows(row: &Row) -> bool
+    ensures { result ≡ shows row.now }
+{
+    row.attributes.is_some()
+        || row.body.is_some()
+        || row.empty.is_some()
+        || row.opened.is_some()
+        || row.server.is_some()
+        || row.users.is_some()
+}
+
+/// A row in which nothing is seen.
+pub(crate) fn no_row() -> Row
+    ensures { result ≡ no_row }
+{
+    Row {
+        attributes: None,
+        empty: None,
+        body: None,
+        opened: None,
+        server: None,
+        users: None,
+    }
+}

@@ -1,0 +1,207 @@
+//! What a set of tasks learns between two looks, a line for each thing.
+ghost use Rattle.std.specs.Prelude.{◌≡◌, ◌++◌, [], if◌then◌else◌, codes, IfOk, OnOk};
+ghost use Rattle.hurd_sight.specs.Views.{no_row, row_at};
+ghost use Rattle.hurd_lessons.specs.Added.{Adds, AddsAt, AddsLines};
+ghost use Rattle.hurd_lessons.specs.Lessons.{GoneLineOf, Lessons, LineOf, OneText, SilentWhereSame, Unless, count_line, line_from, names_of, place_in, tasks_line};
+
+use crate::changes::{Change, no_row, shows};
+use crate::places::place;
+use crate::said::said;
+use hurd_creds::{Bytes, Name, all_same};
+use hurd_sight::{Row, View};
+use std::alloc::{AllocError, Global};
+
+/// What is seen under a name; nothing is seen where there is no row.
+fn row_at<'a>(view: &'a View, name: Name, nothing: &'a Row) -> &'a Row
+    requires { nothing.now ≡ no_row }
+    ensures { result.now ≡ row_at view.now.rows name }
+{
+    match view.rows.get(name) {
+        Some(row) => row,
+        None => nothing,
+    }
+}
+
+/// Where something is: looked for in the later view, unless it isn't seen there.
+fn place_in(alloc: Global, before: &View, after: &View, name: Name) -> Result<Vec<u8>, AllocError>
+    ensures { IfOk result (λ place. place.items ≡ place_in before.now after.now name) }
+{
+    let nothing = no_row();
+    let row = row_at(after, name, &nothing);
+    if shows(row) {
+        return place(alloc, after, name, row);
+    }
+    place(alloc, before, name, row_at(before, name, &nothing))
+}
+
+/// Adds a line: to whom, where and what.
+fn add_from(text: &mut Vec<u8>, who: &[u8], place: &[u8], said: &[u8]) -> Result<(), AllocError>
+    ensures { OnOk result (text.new.items ≡ text.old.items ++ line_from who.now place.now said.now) }
+{
+    text.extend_from_slice(b"  ")?;
+    text.extend_from_slice(who)?;
+    text.extend_from_slice(b": ")?;
+    text.extend_from_slice(place)?;
+    text.extend_from_slice(b": ")?;
+    text.extend_from_slice(said)?;
+    text.push(b'\n')?;
+    Ok(())
+}
+
+/// Adds the line of a name, unless nothing changed under it.
+fn add_line(
+    alloc: Global,
+    text: &mut Vec<u8>,
+    who: &[u8],
+    before: &View,
+    after: &View,
+    name: Name,
+) -> Result<(), AllocError>
+    ensures { OnOk result (Adds (LineOf who.now before.now after.now name) text.old.items text.new.items) }
+{
+    let nothing = no_row();
+    let old = row_at(before, name, &nothing);
+    let new = row_at(after, name, &nothing);
+    let change = Change::of(old, new);
+    if change.is_kept() {
+        return Ok(());
+    }
+    let place = place_in(alloc, before, after, name)?;
+    let said = said(alloc, old, new, &change)?;
+    add_from(text, who, place.as_slice(), said.as_slice())
+}
+
+/// Adds the line of a name that is only in the view before; one that is in both has its line already.
+fn add_gone_line(
+    alloc: Global,
+    text: &mut Vec<u8>,
+    who: &[u8],
+    before: &View,
+    after: &View,
+    name: Name,
+) -> Result<(), AllocError>
+    ensures { OnOk result (Adds (GoneLineOf who.now before.now after.now name) text.old.items text.new.items) }
+{
+    if after.rows.has(name) {
+        return Ok(());
+    }
+    add_line(alloc, text, who, before, after, name)
+}
+
+/// Adds the line of a name, if there is one.
+fn add_line_at(
+    alloc: Global,
+    text: &mut Vec<u8>,
+    who: &[u8],
+    before: &View,
+    after: &View,
+    name: Option<Name>,
+) -> Result<(), AllocError>
+    ensures { OnOk result (AddsAt (LineOf who.now before.now after.now) name text.old.items text.new.items) }
+{
+    match name {
+        Some(name) => add_line(alloc, text, who, before, after, name),
+        None => Ok(()),
+    }
+}
+
+/// Adds the line of a name that is only in the view before, if there is one.
+fn add_gone_at(
+    alloc: Global,
+    text: &mut Vec<u8>,
+    who: &[u8],
+    before: &View,
+    after: &View,
+    name: Option<Name>,
+) -> Result<(), AllocError>
+    ensures { OnOk result (AddsAt (GoneLineOf who.now before.now after.now) name text.old.items text.new.items) }
+{
+    match name {
+        Some(name) => add_gone_line(alloc, text, who, before, after, name),
+        None => Ok(()),
+    }
+}
+
+/// Adds the lines of what is seen in the later view.
+fn add_seen(
+    alloc: Global,
+    text: &mut Vec<u8>,
+    who: &[u8],
+    before: &View,
+    after: &View,
+) -> Result<(), AllocError>
+    ensures { OnOk result (AddsLines (LineOf who.now before.now after.now) (names_of after.now) text.old.items text.new.items) }
+{
+    for i in 0..after.rows.len() {
+        add_line_at(alloc, text, who, before, after, after.rows.name_at(i))?;
+    }
+    Ok(())
+}
+
+/// Adds the lines of what is no longer seen.
+fn add_gone(
+    alloc: Global,
+    text: &mut Vec<u8>,
+    who: &[u8],
+    before: &View,
+    after: &View,
+) -> Result<(), AllocError>
+    ensures { OnOk result (AddsLines (GoneLineOf who.now before.now after.now) (names_of before.now) text.old.items text.new.items) }
+{
+    for i in 0..before.rows.len() {
+        add_gone_at(alloc, text, who, before, after, before.rows.name_at(i))?;
+    }
+    Ok(())
+}
+
+/// Adds a line about these tasks, unless something holds.
+fn add_unless(text: &mut Vec<u8>, holds: bool, who: &[u8], said: &[u8]) -> Result<(), AllocError>
+    ensures { OnOk result (text.new.items ≡ text.old.items ++ (if holds then [] else codes "  " ++ (who.now ++ said.now))) }
+{
+    if holds {
+        return Ok(());
+    }
+    text.extend_from_slice(b"  ")?;
+    text.extend_from_slice(who)?;
+    text.extend_from_slice(said)?;
+    Ok(())
+}
+
+/// Adds what is learned of the tasks themselves.
+fn add_tasks(text: &mut Vec<u8>, who: &[u8], before: &View, after: &View) -> Result<(), AllocError>
+    ensures { OnOk result (Adds (Unless (before.now.seats.items ≡ after.now.seats.items) (tasks_line who.now)) text.old.items text.new.items) }
+{
+    let same = all_same(before.seats.as_slice(), after.seats.as_slice());
+    add_unless(text, same, who, b": own ports\n")
+}
+
+/// Adds what is learned of how many tasks there are.
+fn add_count(text: &mut Vec<u8>, who: &[u8], before: &View, after: &View) -> Result<(), AllocError>
+    ensures { OnOk result (Adds (Unless (before.now.count ≡ after.now.count) (count_line who.now)) text.old.items text.new.items) }
+{
+    add_unless(
+        text,
+        before.count == after.count,
+        who,
+        b": number of tasks\n",
+    )
+}
+
+/// What is learned between two looks of the same tasks, in lines that begin with two spaces and these words, as `alice learns`: what is
+/// seen in the later view, in its order, then what is no longer seen, then of the tasks themselves. Nothing where nothing differs.
+pub fn lessons(alloc: Global, who: &[u8], before: &View, after: &View) -> Result<Bytes, AllocError>
+    ensures { IfOk result (λ text. Lessons who.now before.now after.now text) }
+{
+    let mut text = Vec::new(alloc);
+    add_seen(alloc, &mut text, who, before, after)?;
+    add_gone(alloc, &mut text, who, before, after)?;
+    add_tasks(&mut text, who, before, after)?;
+    add_count(&mut text, who, before, after)?;
+    Ok(Bytes::new(text))
+}
+
+/// A law: nothing is said exactly where nothing differs, and two views have one text.
+pub fn silent_where_same()
+    ensures silent { SilentWhereSame }
+    ensures one { OneText }
+{}
