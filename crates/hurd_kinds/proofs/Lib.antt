@@ -1,1 +1,2 @@
 pub mod NoKind
+pub mod BoxLaws

@@ -1,3 +1,5 @@
 pub mod PlaceLaws
 pub mod LineLaws
 pub mod LessonLaws
+pub mod TaughtLaws
+pub mod WatchLaws

@@ -2,3 +2,5 @@ pub mod Changes
 pub mod Places
 pub mod Lessons
 pub mod Added
+pub mod Watched
+pub mod Told

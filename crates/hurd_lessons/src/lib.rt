@@ -1,12 +1,17 @@
 //! What a set of tasks learns between two looks at a world, in words.
 //!
 //! `lessons` writes a line for each thing of which they see something else than before, and nothing where nothing differs. A line says
-//! where the thing is, and which parts of it changed, as `  alice learns: /home/bob: attributes, entries`.
+//! where the thing is, and which parts of it changed, as `  alice learns: /home/bob: attributes, entries`. A `Watch` keeps what they saw from
+//! one look to the next.
 #![tactic(auto)]
 
 mod changes;
 mod lines;
 mod places;
 mod said;
+mod tally;
+mod watch;
 
 pub use lines::{lessons, silent_where_same};
+pub use tally::Tally;
+pub use watch::{Watch, untaught_where_unmoved};

@@ -1,5 +1,5 @@
 -- What a script has printed.
-use Rattle.std.proofs.Common.{◌≡◌, ◌≢◌, ◌<◌, nat_lt, Bool, true, false, ℕ, zero, suc, List, [], ◌∷◌, ◌++◌, Option, Some, None, Result, Ok, Err, OnOk, IfErr, refl, inl, inr, sym, ◌∙◌, ap, subst, append_assoc, append-nil, length, arith}
+use Rattle.std.proofs.Common.{◌≡◌, ◌≢◌, ◌<◌, nat_lt, Bool, true, false, ℕ, zero, suc, List, [], ◌∷◌, ◌++◌, Option, Some, None, Result, Ok, Err, refl, inl, inr, sym, ◌∙◌, ap, subst, append_assoc, append-nil, length, arith}
 use Rattle.std.proofs.KnownBytes.{Appends-nil, Appends-trans}
 use Rattle.std.proofs.lemmas.Bool.{lt-ltb}
 use Rattle.std.proofs.lemmas.List.Folds.{concat-append}
@@ -12,12 +12,10 @@ use Rattle.hurd_kinds.specs.Boxes.{box_meaning}
 use Rattle.hurd_kinds.specs.declared.server_box.ServerBox.{ServerBox}
 use Rattle.hurd_script.specs.Script.{most_bytes}
 use Rattle.hurd_shell.specs.Faults.{fault_of}
-use Rattle.hurd_shell.specs.Session.{Answers, Begun, NewFault, NotTaken, Takes, Tells, View, has_failed, left_in, waits_for}
-use Rattle.hurd_shell.specs.Transcript.{AsksFor, Dialogue, Maker, ends, tells, wants, out_by, parts_by, parts_of}
+use Rattle.hurd_shell.specs.Session.{Answers, Begun, NewFault, Takes, Tells, TakesUnlessFailed, View, has_failed, left_in, waits_for}
+use Rattle.hurd_shell.specs.Transcript.{AsksFor, Dialogue, Maker, Part, ends, tells, wants, out_by, parts_by, parts_of}
 use Rattle.hurd_shell.specs.declared.fault.SessionFault.{SessionFault}
 use Rattle.hurd_shell.specs.declared.fault.SessionFault.TheVariants as session
-use Rattle.hurd_shell.specs.declared.fault.SupplyFault.{SupplyFault}
-use Rattle.hurd_shell.specs.declared.fault.SupplyFault.TheVariants as supply
 use Rattle.hurd_shell.specs.declared.session.Want.{Want}
 use Rattle.hurd_shell.specs.declared.session.Want.TheVariants as want
 use Rattle.hurd_terminal.specs.Faults.{AppendsFront, IsFront, IsPrintFault}
@@ -29,7 +27,7 @@ use Rattle.hurd_terminal.proofs.OutputLaws.{front_follows}
 use Rattle.hurd_terminal.proofs.RunLaws.{HasLimit}
 use Rattle.hurd_tmpfs.specs.Tree.{new_tmpfs}
 use Rattle.hurd_run.specs.Faults.{NotBegun}
-use Rattle.hurd_run.specs.Pauses.{Asked, Paused, TakesUnlessFailed, front, paused, to_print}
+use Rattle.hurd_run.specs.Pauses.{Asked, Paused, front, paused, to_print}
 use Rattle.hurd_run.specs.Scripts.{scripts}
 
 -- a script that is too long is bad at line 0
@@ -59,25 +57,20 @@ pub print_writes : {W : Type 0} (output : Output W) (ended : Result (Unit {0}) F
 print_writes output ended fault is (inl failed) write = failed.1
 print_writes output ended fault is (inr memory) write = absurd (cc)
 
--- whoever was given something was not refused memory before
-pub was_fine : {A P : Type 0} (q : Bool) (x : A) (e : SessionFault) → (q ≡ true → (Ok x ≡ Err e) × P) → q ≡ false
-was_fine true x e stays = absurd (let refused = (stays refl).0 in cc)
-was_fine false x e stays = refl
-
 -- how many parts are told up to the next server that is asked for
 abbrev pub parts_left : Dialogue → ℕ
 parts_left d = length (parts_of d [])
 
 -- one part
-pub part_front : (d rest : Dialogue) (part : List ℕ) → d ≡ tells part rest → front d ≡ part ++ front rest
+pub part_front : (d rest : Dialogue) (part : Part) → d ≡ tells part rest → front d ≡ part.text ++ front rest
 unfolding parts_of
 part_front d rest part same = ap front same
 
-pub part_paused : (d rest : Dialogue) (part : List ℕ) → d ≡ tells part rest → paused d ≡ paused rest
+pub part_paused : (d rest : Dialogue) (part : Part) → d ≡ tells part rest → paused d ≡ paused rest
 unfolding paused
 part_paused d rest part same = ap paused same
 
-pub part_counts : (d rest : Dialogue) (part : List ℕ) → d ≡ tells part rest → parts_left d ≡ suc (parts_left rest)
+pub part_counts : (d rest : Dialogue) (part : Part) → d ≡ tells part rest → parts_left d ≡ suc (parts_left rest)
 unfolding parts_of
 part_counts d rest part same = ap parts_left same
 
@@ -106,7 +99,7 @@ ends_paused d same = ap paused same ∙ sym same
 pub by_pause : (make : Maker) (d : Dialogue) → concat (parts_by make d) ≡ front d ++ concat (parts_by make (paused d))
 unfolding parts_by parts_of paused
 by_pause make ends = refl
-by_pause make (tells part rest) = ap (λ (bs : List ℕ). part ++ bs) (by_pause make rest) ∙ sym (append_assoc part (front rest) (concat (parts_by make (paused rest))))
+by_pause make (tells part rest) = ap (λ (bs : List ℕ). part.text ++ bs) (by_pause make rest) ∙ sym (append_assoc part.text (front rest) (concat (parts_by make (paused rest))))
 by_pause make (wants words rest) = refl
 
 -- how many servers are asked for where a maker answers
@@ -155,7 +148,7 @@ fine_prints f s fine = ap (λ (q : Bool). if q then [] else front (left_in f s))
 part_prints : {S : Type 0} (f : S → Meaning) (old new : View S) (part : List ℕ) → has_failed old ≡ false → Tells f old (Ok (want.Output part)) new
     → to_print f old ≡ part ++ to_print f new
 part_prints f old new part fine told =
-    fine_prints f old fine ∙ (part_front (left_in f old) (left_in f new) part told.0 ∙ ap (λ (bs : List ℕ). part ++ bs) (sym (fine_prints f new told.1)))
+    fine_prints f old fine ∙ (part_front (left_in f old) (left_in f new) _ told.left ∙ ap (λ (bs : List ℕ). part ++ bs) (sym (fine_prints f new told.fine)))
 
 -- what a session told so far, and what it has still to tell up to the next server
 pub record ToldSoFar {S : Type 0} (f : S → Meaning) (before now : Option (List ℕ)) (start s : View S) : Type 0 where
@@ -177,7 +170,7 @@ part_told f a b c start old new part so_far fine told printed = record {
   done = so_far.done ++ part;
   appends = Appends-trans a b c so_far.done part so_far.appends printed;
   splits = splits_on f start old new part so_far.done so_far.splits fine told ∙ sym (append_assoc so_far.done part (to_print f new));
-  pauses = λ _. ((so_far.pauses fine).0, (so_far.pauses fine).1 ∙ part_paused (left_in f old) (left_in f new) part told.0);
+  pauses = λ _. ((so_far.pauses fine).0, (so_far.pauses fine).1 ∙ part_paused (left_in f old) (left_in f new) _ told.left);
 }
 
 pub part_cut : {S : Type 0} (f : S → Meaning) (a b c : Option (List ℕ)) (start old new : View S) (part : List ℕ) → ToldSoFar f a b start old
@@ -216,16 +209,6 @@ ends_told f a b start old new so_far fine told =
       (started, stays ∙ sym (same ∙ ends_paused (left_in f old) told.0), stays ∙ told.0),
       told_all f a b start old so_far (fine_prints f old fine ∙ ends_front (left_in f old) told.0),
     )
-
--- an answer that was asked for is taken, unless memory is refused
-not_taken : {S : Type 0} (old new : View S) (e : SupplyFault) → NotTaken old e new → waits_for old ≡ true → has_failed new ≡ true
-not_taken old new supply.NotWanted not waits = absurd (let no = not.1 in cc)
-not_taken old new supply.Memory not waits = not
-
-pub takes_or_fails : {S E : Type 0} (f : S → Meaning) (old new : View S) (server : Option Meaning) (fault : E → SupplyFault) (result : Result (Unit {0}) E)
-    → OnOk result (Takes f old server new) → IfErr result (λ e. NotTaken old (fault e) new) → waits_for old ≡ true → TakesUnlessFailed f old server new
-takes_or_fails f old new server fault (Ok u) takes not waits = inr takes
-takes_or_fails f old new server fault (Err e) takes not waits = inl (not_taken old new (fault e) not waits)
 
 -- of a whole transcript this was printed, and the rest is left unless memory was refused
 pub record PrintedSoFar {S : Type 0} (f : S → Meaning) (whole : List ℕ) (before now : Option (List ℕ)) (s : View S) : Type 0 where
@@ -332,7 +315,3 @@ fewer f s t u words m asked same (inr takes) =
 pub fewer_turns : {S : Type 0} (f : S → Meaning) (s t u : View S) (server : Option ServerBox) (m : Option Meaning) → Asked f s (Some server) t
     → option_map box_meaning server ≡ m → TakesUnlessFailed f t m u → turns_left f u < turns_left f s
 fewer_turns f s t u server m (words, asked, made) same takes = fewer f s t u words m asked (sym made ∙ same) takes
-
--- a server that was made means what the box of its kind means
-pub made_as : (server : Option ServerBox) (some kind : ServerBox) (m : Meaning) → server ≡ Some some → some ≡ kind → m ≡ box_meaning kind → option_map box_meaning server ≡ Some m
-made_as server some kind m is same means = ap (option_map box_meaning) (is ∙ ap (λ (s : ServerBox). Some s) same) ∙ ap (λ (n : Meaning). Some n) (sym means)

@@ -1,11 +1,11 @@
 -- What is told up to the next server that a session asks for.
-use Rattle.std.specs.Prelude.{◌≡◌, ◌⊎◌, ℕ, if◌then◌else◌, List, [], Option, Some, None, false, true}
+use Rattle.std.specs.Prelude.{◌≡◌, ℕ, if◌then◌else◌, List, [], Option, Some, None, false, true}
 use Rattle.std.specs.List.{concat}
 use Rattle.std.specs.Option.{option_map}
 use Rattle.hurd_trans_iface.specs.Meaning.{Meaning, begin}
 use Rattle.hurd_kinds.specs.Boxes.{box_meaning}
 use Rattle.hurd_kinds.specs.declared.server_box.ServerBox.{ServerBox}
-use Rattle.hurd_shell.specs.Session.{View, Takes, has_failed, left_in, waits_for}
+use Rattle.hurd_shell.specs.Session.{View, has_failed, left_in, waits_for}
 use Rattle.hurd_shell.specs.Transcript.{Dialogue, ends, tells, wants, parts_of, AsksFor}
 
 -- what is told up to the next server that is asked for
@@ -32,7 +32,3 @@ Paused f old (Some words) new =
 abbrev pub Asked : {S : Type 0} → (S → Meaning) → View S → Option (Option ServerBox) → View S → Type 0
 Asked f old None new = Paused f old None new
 Asked f old (Some server) new = (words : List (List ℕ)) × Paused f old (Some words) new × (option_map box_meaning server ≡ begin words)
-
--- an answer was taken, unless memory was refused
-abbrev pub TakesUnlessFailed : {S : Type 0} → (S → Meaning) → View S → Option Meaning → View S → Type 0
-TakesUnlessFailed f old server new = (has_failed new ≡ true) ⊎ Takes f old server new

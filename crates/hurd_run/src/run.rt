@@ -4,11 +4,11 @@ ghost use Rattle.std.specs.Io.KnownBytes.{Appends};
 ghost use Rattle.hurd_tmpfs.specs.Tree.{new_tmpfs};
 ghost use Rattle.hurd_trans_iface.specs.Meaning.{Begins};
 ghost use Rattle.hurd_script.specs.Script.{bad};
-ghost use Rattle.hurd_shell.specs.Session.{Begun, waits_for};
+ghost use Rattle.hurd_shell.specs.Session.{Begun, TakesUnlessFailed, waits_for};
 ghost use Rattle.hurd_terminal.specs.Faults.{AppendsFront, IsPrintFault};
 ghost use Rattle.hurd_terminal.specs.Runs.{Adds, Blames, Exits, Ran};
 ghost use Rattle.hurd_run.specs.Faults.{NotBegun};
-ghost use Rattle.hurd_run.specs.Pauses.{Asked, Paused, TakesUnlessFailed, to_print};
+ghost use Rattle.hurd_run.specs.Pauses.{Asked, Paused, to_print};
 ghost use Rattle.hurd_run.specs.Scripts.{scripts};
 
 use hurd_kinds::{ServerBox, empty_tree, server_for};

@@ -51,6 +51,10 @@ user_at line = option_and_then declared_ids (declared line)
 abbrev pub users_before : List (List ℕ) → List IdSets
 users_before lines = root_ids ∷ filter_map user_at lines
 
+-- the names of a script's users
+abbrev pub names_of : List ℕ → List (List ℕ)
+names_of script = names_before (lines_of script)
+
 -- the ids of a script's users
 abbrev pub users_of : List ℕ → List IdSets
 users_of script = users_before (lines_of script)

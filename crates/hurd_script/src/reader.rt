@@ -1,10 +1,10 @@
 //! Reading a script.
-ghost use Rattle.std.specs.Prelude.{[], ◌≡◌, ◌⊎◌, ◌<◌, IfErr, IfOk, List, None, OnOk, Some, length, map, string_bytes, ℕ};
+ghost use Rattle.std.specs.Prelude.{[], ◌≡◌, ◌⊎◌, ◌<◌, ◌≤◌, IfErr, IfOk, List, None, OnOk, Some, length, map, string_bytes, ℕ};
 ghost use Rattle.hurd_words.specs.Lines.{is_skipped};
 ghost use Rattle.hurd_words.specs.Reading.{Reads, said};
 ghost use Rattle.hurd_script.specs.Reading.{LineFaultOf, fault_at, standing, with_command, with_declared, with_line, with_user, with_words};
 ghost use Rattle.hurd_script.specs.Commands.{command_of};
-ghost use Rattle.hurd_script.specs.Script.{FaultOf, bad, commands_of, first_bad, users_of};
+ghost use Rattle.hurd_script.specs.Script.{FaultOf, bad, commands_of, first_bad, names_of, users_of};
 ghost use Rattle.hurd_words.specs.Users.{Declaration, declaration_of, has_room_for, most_tasks};
 
 use crate::command::{Command, verb_of};
@@ -26,7 +26,9 @@ const MOST_TASKS: usize = 64;
 /// A script that was read.
 #[derive(Debug, Drop)]
 pub struct Script {
-    /// The ids of the users, by task: root first.
+    /// The names of the users, by task: root first.
+    pub names: Vec<String>,
+    /// Their ids.
     pub users: Vec<Ids>,
     pub commands: Vec<Command>,
 }
@@ -222,7 +224,7 @@ fn fault_at(fault: ReadFault, line: u64) -> ScriptFault
     }
 }
 
-/// Reads a script: the ids of its users, root's first, and its commands.
+/// Reads a script: its users, root first, and its commands.
 ///
 /// Errors: `Bad` at line 0 for a script of more than 1,048,576 bytes; else `Bad` at its first bad line,
 /// one with a byte or a backslash that no word has, a user line of another form or behind a command, or
@@ -231,7 +233,8 @@ fn fault_at(fault: ReadFault, line: u64) -> ScriptFault
 /// Limits: 63 users besides root, names of 1 to 16 lower-case letters and digits that begin with a
 /// letter, and 32 different uids and gids each.
 pub fn parse_script(alloc: Global, script: &[u8]) -> Result<Script, ScriptFault>
-    ensures good { IfOk result (λ s. (bad script.now ≡ None) × (s.users.items ≡ users_of script.now) × (s.commands.items ≡ commands_of script.now)) }
+    ensures good { IfOk result (λ s. (bad script.now ≡ None) × (map string_bytes s.names.items ≡ names_of script.now) × (s.users.items ≡ users_of script.now) × (s.commands.items ≡ commands_of script.now)) }
+    ensures few { IfOk result (λ s. length s.names.items ≤ 64) }
     ensures fault { IfErr result (λ e. FaultOf script.now e) }
 {
     if script.len() > MOST_BYTES {
@@ -240,6 +243,7 @@ pub fn parse_script(alloc: Global, script: &[u8]) -> Result<Script, ScriptFault>
     let lines = pieces(alloc, script, b'\n')?;
     let reader = read_lines(alloc, lines.as_slice())?;
     Ok(Script {
+        names: reader.names,
         users: reader.users,
         commands: reader.commands,
     })

@@ -18,12 +18,12 @@ use Rattle.hurd_world.specs.Boot.{first_world}
 use Rattle.hurd_world.proofs.FirstWorld.{first_sound}
 use Rattle.hurd_shell.specs.Programs.{Prog, gives, calls, asks}
 use Rattle.hurd_shell.specs.Commands.{program_of}
-use Rattle.hurd_shell.specs.Transcript.{Dialogue, tells, Maker, dialogue, part_of, parts_by, played}
-use Rattle.hurd_shell.specs.Isolation.{calls_in, command_calls, script_calls, world_after, commands_by, parts_to, QuietCommands, OnePartEach, ToldInTurn, UnmovedCommands, IsolatedCommands, IsolatedByView, AsWithoutOthers, IsolatedScripts}
+use Rattle.hurd_shell.specs.Transcript.{Dialogue, tells, Maker, dialogue, part_by, part_of, parts_by, played}
+use Rattle.hurd_shell.specs.Isolation.{calls_in, command_calls, command_part, result_in, script_calls, world_after, commands_by, parts_to, QuietCommands, OnePartEach, ToldInTurn, UnmovedCommands, IsolatedCommands, IsolatedByView, AsWithoutOthers, IsolatedScripts}
 
 -- runs in two halves
 
-run_both : (ms ns : List TaskCall) (w : World) → run w (ms ++ ns) ≡ run (run w ms) ns
+pub run_both : (ms ns : List TaskCall) (w : World) → run w (ms ++ ns) ≡ run (run w ms) ns
 run_both [] ns w = refl
 run_both (m ∷ ms) ns w = run_both ms ns (after w m.task m.call)
 
@@ -31,15 +31,9 @@ quiet_both : (S : ℕ → Bool) (ms ns : List TaskCall) (w : World) → Quiet S 
 quiet_both S [] ns w q = (tt, q)
 quiet_both S (m ∷ ms) ns w q = let rest = quiet_both S ms ns (after w m.task m.call) q.1 in ((q.0, rest.0), rest.1)
 
-run_sound : (ms : List TaskCall) (w : World) → Sound w → Sound (run w ms)
+pub run_sound : (ms : List TaskCall) (w : World) → Sound w → Sound (run w ms)
 run_sound [] w s = s
 run_sound (m ∷ ms) w s = run_sound ms (after w m.task m.call) (stays_sound w m.task m.call s)
-
--- the result of a program of task t whose servers a maker makes
-unfoldable result_in : {A : Type 0} → Maker → ℕ → Prog A → World → Result A Errno
-result_in make t (gives r) w = r
-result_in make t (calls c k) w = result_in make t (k (reply_of w t c)) (after w t c)
-result_in make t (asks words k) w = result_in make t (k (make words)) w
 
 -- what is told while a program is made is what is told at its end
 played_parts : {A : Type 0} (make : Maker) (t : ℕ) (next : Result A Errno → World → Dialogue) (p : Prog A) (w : World)
@@ -49,9 +43,6 @@ played_parts make t next (gives r) w = refl
 played_parts make t next (calls c k) w = played_parts make t next (k (reply_of w t c)) (after w t c)
 played_parts make t next (asks words k) w = played_parts make t next (k (make words)) w
 
-abbrev command_part : Maker → CommandLine → World → List ℕ
-command_part make c w = part_of c (result_in make c.task (program_of (action_of c)) w)
-
 no_parts : (make : Maker) (w : World) → parts_by make (dialogue [] w) ≡ []
 unfolding dialogue parts_by
 no_parts make w = refl
@@ -60,7 +51,7 @@ no_parts make w = refl
 first_part : (make : Maker) (c : CommandLine) (cs : List CommandLine) (w : World)
     → parts_by make (dialogue (c ∷ cs) w) ≡ command_part make c w ∷ parts_by make (dialogue cs (run w (command_calls make c w)))
 unfolding dialogue parts_by
-first_part make c cs w = played_parts make c.task (λ r x. tells (part_of c r) (dialogue cs x)) (program_of (action_of c)) w
+first_part make c cs w = played_parts make c.task (λ r x. tells (part_by c (part_of c r) x) (dialogue cs x)) (program_of (action_of c)) w
 
 pub one_part_each : OnePartEach
 one_part_each make [] w = ap length (no_parts make w)

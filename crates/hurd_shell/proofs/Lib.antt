@@ -9,3 +9,4 @@ pub mod SessionLaws
 pub mod ReplyLaws
 pub mod OutputLaws
 pub mod IsolationLaws
+pub mod GivenLaws

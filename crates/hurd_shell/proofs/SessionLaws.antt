@@ -1,6 +1,7 @@
 -- What a session has still to tell.
-use Rattle.std.proofs.Common.{◌≡◌, ◌≤◌, ◌<◌, ◌+◌, ◌&&◌, ℕ, zero, suc, Bool, true, false, List, [], ◌∷◌, length, drop, get_or, Option, Some, None, Result, Ok, Err, nat_lt, refl, sym, ◌∙◌, ap, subst, arith}
+use Rattle.std.proofs.Common.{◌≡◌, ◌≤◌, ◌<◌, ◌+◌, ◌&&◌, ℕ, zero, suc, Bool, true, false, List, [], ◌∷◌, length, drop, get_or, slice_get, Option, Some, None, Result, Ok, Err, nat_lt, refl, sym, ◌∙◌, ap, subst, arith}
 use Rattle.std.specs.Prelude.{IfOk, OnOk}
+use Rattle.std.specs.Option.{option_map}
 use Rattle.std.proofs.lemmas.Bool.{and_parts, lt-ltb, ltb-true}
 use Rattle.std.proofs.lemmas.List.{drop_all}
 use Rattle.hurd_creds.specs.declared.errno.Errno.{Errno}
@@ -30,7 +31,7 @@ use Rattle.hurd_shell.specs.Commands.{program_of}
 use Rattle.hurd_shell.specs.Progress.{Does, Leads, Reaches, stopped}
 use Rattle.hurd_shell.specs.Stages.{answer_with, answered_on, opening_behind, progress_on, stage_behind, waiting_on}
 use Rattle.hurd_shell.specs.Session.{Answers, HangsTogether, Takes, Tells, command_on, is_failed, left_of, waits_by}
-use Rattle.hurd_shell.specs.Transcript.{Dialogue, ends, tells, dialogue, part_of, played, AsksFor}
+use Rattle.hurd_shell.specs.Transcript.{Dialogue, ends, tells, dialogue, part_by, part_of, played, AsksFor}
 use Rattle.hurd_shell.specs.Turns.{Stands, turn_of, turn_on}
 use Rattle.hurd_shell.proofs.ProgramLaws.{go-asks, go-gives, tried_leads}
 use Rattle.hurd_shell.proofs.LookLaws.{held_leads}
@@ -53,7 +54,7 @@ played_gives t r w next = refl
 
 -- what is told behind a command
 abbrev behind : CommandLine → (World → Dialogue) → Result Printed Errno → World → Dialogue
-behind c next r x = tells (part_of c r) (next x)
+behind c next r x = tells (part_by c (part_of c r) x) (next x)
 
 ended : (c : CommandLine) (p : Prog Printed) (w x : World) (r : Result Printed Errno) (turn : Turn) (next : World → Dialogue)
     → Leads c.task p w (gives r) x → Some turn ≡ Some (Told (part_of c r)) → played c.task p w (behind c next) ≡ turn_on c next turn x
@@ -63,7 +64,7 @@ ended c p w x r turn next l same =
 
 -- a command that came to its end, or waits for a server, tells what is left to tell after that turn
 pub turned : (c : CommandLine) (p : Prog Printed) (w x : World) (r : Result Progress Stop) (turn : Turn) → Reaches c.task p w progress_on r x → Some turn ≡ turn_of c r
-    → (next : World → Dialogue) → played c.task p w (λ r y. tells (part_of c r) (next y)) ≡ turn_on c next turn x
+    → (next : World → Dialogue) → played c.task p w (λ r y. tells (part_by c (part_of c r) y) (next y)) ≡ turn_on c next turn x
 turned c p w x (Ok (Ended printed)) turn d same next = ended c p w x (Ok printed) turn next d.reaches same
 turned c p w x (Ok (progress.Waits waiting)) turn d same next =
     let waits : turn ≡ Waits waiting = cc in
@@ -87,6 +88,11 @@ from_here [] k c within here = absurd (omega arith)
 from_here (d ∷ cs) zero c within here = ap (λ (x : CommandLine). x ∷ cs) (sym here)
 from_here (d ∷ cs) (suc k) c within here = from_here cs k c (omega arith) here
 
+got_here : (cs : List CommandLine) (k : ℕ) (c : CommandLine) → k < length cs → c ≡ get_or cs k c → slice_get cs k ≡ Some c
+got_here [] k c within here = absurd (omega arith)
+got_here (d ∷ cs) zero c within here = ap Some (sym here)
+got_here (d ∷ cs) (suc k) c within here = got_here cs k c (omega arith) here
+
 -- the command that a session is at, and those behind it
 pub at_command : (cs : List CommandLine) (k : ℕ) (c : CommandLine) → k < length cs → c ≡ get_or cs k c → drop k cs ≡ c ∷ drop (k + 1) cs
 at_command cs k c within here = from_here cs k c within here ∙ ap (λ (n : ℕ). c ∷ drop n cs) (sym (one_more k))
@@ -103,13 +109,13 @@ none_left phase cs k w all = ap (λ (ds : List CommandLine). left_of phase ds w)
 
 -- what a session has to tell is what its turn comes to
 pub turn_left : (at : Phase) (cs : List CommandLine) (k : ℕ) (c : CommandLine) (w x : World) (turn : Turn) → k < length cs → c ≡ get_or cs k c
-    → ((next : World → Dialogue) → played c.task (command_on at c) w (λ r y. tells (part_of c r) (next y)) ≡ turn_on c next turn x)
+    → ((next : World → Dialogue) → played c.task (command_on at c) w (λ r y. tells (part_by c (part_of c r) y) (next y)) ≡ turn_on c next turn x)
     → left_of at (drop k cs) w ≡ turn_on c (dialogue (drop (k + 1) cs)) turn x
 turn_left at cs k c w x turn within here same = ap (λ (ds : List CommandLine). left_of at ds w) (at_command cs k c within here) ∙ same (dialogue (drop (k + 1) cs))
 
 -- a part is told, and the commands behind are left
-pub part_told : (c : CommandLine) (cs : List CommandLine) (part : List ℕ) (x : World) → turn_on c (dialogue cs) (Told part) x ≡ tells part (left_of phase.Between cs x)
-part_told c cs part x = ap (tells part) (sym (between cs x))
+pub part_told : (c : CommandLine) (cs : List CommandLine) (text : List ℕ) (x : World) → turn_on c (dialogue cs) (Told text) x ≡ tells (part_by c text x) (left_of phase.Between cs x)
+part_told c cs text x = ap (tells (part_by c text x)) (sym (between cs x))
 
 -- a server is waited for, and the command is left with those behind
 pub waits_left : (cs : List CommandLine) (k : ℕ) (c : CommandLine) (waiting : Waiting) (x : World) → k < length cs → c ≡ get_or cs k c
@@ -170,6 +176,7 @@ took f world left commands given at c waiting server stage answer is waits here 
       waits,
       refl,
       refl,
+      refl,
     )
 
 -- and its world hangs together
@@ -183,7 +190,7 @@ took_sound f world left commands given at t waiting server stage answer is d han
 -- what is told of a command that came to its end, or waits for a server, unless memory was refused
 pub told_turn : {E : Type 0} (c : CommandLine) (p : Prog Printed) (w x : World) (r : Result Progress Stop) (told : Result Turn E) → Reaches c.task p w progress_on r x
     → IfOk told (λ turn. Some turn ≡ turn_of c r)
-    → IfOk told (λ turn. (next : World → Dialogue) → played c.task p w (λ r y. tells (part_of c r) (next y)) ≡ turn_on c next turn x)
+    → IfOk told (λ turn. (next : World → Dialogue) → played c.task p w (λ r y. tells (part_by c (part_of c r) y) (next y)) ≡ turn_on c next turn x)
 told_turn c p w x r (Ok turn) d same = turned c p w x r turn d same
 told_turn c p w x r (Err e) d same = tt
 
@@ -195,12 +202,19 @@ told_sound c p w x r (Err e) d same s = tt
 -- what a session gives after a turn
 pub told_next : {S : Type 0} (f : S → Meaning) (world left : Whole S) (commands : List CommandLine) (given after : ℕ) (at next : Phase) (c : CommandLine) (turn : Turn) (want : Want)
     → given < length commands → c ≡ get_or commands given c
-    → ((n : World → Dialogue) → played c.task (command_on at c) (world_of f world) (λ r y. tells (part_of c r) (n y)) ≡ turn_on c n turn (world_of f left))
+    → ((n : World → Dialogue) → played c.task (command_on at c) (world_of f world) (λ r y. tells (part_by c (part_of c r) y) (n y)) ≡ turn_on c n turn (world_of f left))
     → Stands turn (given + 1) given want after next
     → Tells f (record { world = world; commands = commands; given = given; phase = at }) (Ok want)
     (record { world = left; commands = commands; given = after; phase = next })
-told_next f world left commands given after at next c (Told part) want within here same s =
-    rw (s.0, s.1, s.2) (turn_left at commands given c _ _ (Told part) within here same ∙ part_told c _ part _, refl, refl)
+told_next f world left commands given after at next c (Told text) want within here same s =
+    rw (s.0, s.1, s.2)
+    (record {
+      task = c.task;
+      next = ap (option_map (λ (d : CommandLine). d.task)) (got_here commands given c within here);
+      left = turn_left at commands given c _ _ (Told text) within here same ∙ part_told c _ text _;
+      fine = refl;
+      waits = refl;
+    })
 told_next f world left commands given after at next c (Waits waiting) want within here same s =
     let turned = turn_left at commands given c _ (world_of f left) (Waits waiting) within here same in
     rw (s.0, s.1, s.2) (
@@ -208,4 +222,5 @@ told_next f world left commands given after at next c (Waits waiting) want withi
       subst (λ (d : Dialogue). AsksFor d waiting.words) (sym turned) (waits_asks c (dialogue (drop (given + 1) commands)) waiting (world_of f left)),
       refl,
       lt-ltb _ _ within,
+      refl,
     )

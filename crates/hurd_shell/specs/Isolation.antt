@@ -1,6 +1,7 @@
 -- What a script tells a set of tasks does not depend on the others' commands.
-use Rattle.std.specs.Prelude.{◌≡◌, ℕ, Bool, false, if◌then◌else◌, List, [], ◌∷◌, ◌++◌, length}
+use Rattle.std.specs.Prelude.{◌≡◌, ℕ, Bool, false, if◌then◌else◌, List, [], ◌∷◌, ◌++◌, length, Result}
 use Rattle.std.specs.List.{filter}
+use Rattle.hurd_creds.specs.declared.errno.Errno.{Errno}
 use Rattle.hurd_trans_iface.specs.Meaning.{Meaning, Begins}
 use Rattle.hurd_machine.specs.World.{World}
 use Rattle.hurd_machine.specs.Sight.{SameView}
@@ -13,7 +14,7 @@ use Rattle.hurd_laws.specs.Runs.{TaskCall, run, Quiet}
 use Rattle.hurd_world.specs.Boot.{first_world}
 use Rattle.hurd_shell.specs.Programs.{Prog, gives, calls, asks}
 use Rattle.hurd_shell.specs.Commands.{program_of}
-use Rattle.hurd_shell.specs.Transcript.{Maker, dialogue, dialogue_of, parts_by}
+use Rattle.hurd_shell.specs.Transcript.{Maker, dialogue, dialogue_of, part_of, parts_by}
 
 -- the calls that task t makes in a program whose servers a maker makes
 unfoldable pub calls_in : {A : Type 0} → Maker → ℕ → Prog A → World → List TaskCall
@@ -21,9 +22,19 @@ calls_in make t (gives r) w = []
 calls_in make t (calls c k) w = record { task = t; call = c } ∷ calls_in make t (k (reply_of w t c)) (after w t c)
 calls_in make t (asks words k) w = calls_in make t (k (make words)) w
 
+-- the result of such a program
+unfoldable pub result_in : {A : Type 0} → Maker → ℕ → Prog A → World → Result A Errno
+result_in make t (gives r) w = r
+result_in make t (calls c k) w = result_in make t (k (reply_of w t c)) (after w t c)
+result_in make t (asks words k) w = result_in make t (k (make words)) w
+
 -- the calls of one command
 abbrev pub command_calls : Maker → CommandLine → World → List TaskCall
 command_calls make c w = calls_in make c.task (program_of (action_of c)) w
+
+-- the part of one command in what is told
+abbrev pub command_part : Maker → CommandLine → World → List ℕ
+command_part make c w = part_of c (result_in make c.task (program_of (action_of c)) w)
 
 -- the calls of commands that are made one after another
 abbrev pub script_calls : Maker → List CommandLine → World → List TaskCall

@@ -1,5 +1,6 @@
 -- A session: a script on its way.
-use Rattle.std.specs.Prelude.{◌≡◌, ℕ, ◌&&◌, Bool, true, false, length, nat_lt, List, [], ◌∷◌, drop, Option, Some, None, Result, Ok, Err, IsOk, refl}
+use Rattle.std.specs.Prelude.{◌≡◌, ◌⊎◌, ℕ, ◌&&◌, Bool, true, false, length, nat_lt, List, [], ◌∷◌, drop, slice_get, Option, Some, None, Result, Ok, Err, IsOk, refl}
+use Rattle.std.specs.Option.{option_map}
 use Rattle.std.specs.Coded.{Coded, code_by, coded×, coded_ℕ, coded_list}
 use Rattle.hurd_trans_iface.specs.Meaning.{Meaning}
 use Rattle.hurd_machine.specs.World.{World}
@@ -13,7 +14,7 @@ use Rattle.hurd_script.specs.Actions.{action_of}
 use Rattle.hurd_shell.specs.Programs.{Prog, gives}
 use Rattle.hurd_shell.specs.Commands.{prints, program_of}
 use Rattle.hurd_shell.specs.Stages.{answered_on, waiting_on}
-use Rattle.hurd_shell.specs.Transcript.{Dialogue, ends, tells, wants, dialogue, part_of, played, AsksFor}
+use Rattle.hurd_shell.specs.Transcript.{Dialogue, ends, tells, wants, dialogue, part_by, part_of, played, AsksFor}
 use Rattle.hurd_shell.specs.contracts.phase.Phase as phase_code
 use Rattle.hurd_shell.specs.declared.phase.Phase.{Phase}
 use Rattle.hurd_shell.specs.declared.phase.Phase.TheVariants as phase
@@ -69,11 +70,15 @@ command_on phase.Failed c = gives (Ok (prints []))
 -- what is told of the commands that are left, of which the first is so far
 abbrev pub left_of : Phase → List CommandLine → World → Dialogue
 left_of phase [] w = ends
-left_of phase (c ∷ cs) w = played c.task (command_on phase c) w (λ r x. tells (part_of c r) (dialogue cs x))
+left_of phase (c ∷ cs) w = played c.task (command_on phase c) w (λ r x. tells (part_by c (part_of c r) x) (dialogue cs x))
 
 -- what a session has still to tell
 abbrev pub left_in : {S : Type 0} → (S → Meaning) → View S → Dialogue
 left_in f s = left_of s.phase (drop s.given s.commands) (world_of f s.world)
+
+-- the task whose command is next, or is on its way
+abbrev pub next_task : {S : Type 0} → View S → Option ℕ
+next_task s = option_map (λ (c : CommandLine). c.task) (slice_get s.commands s.given)
 
 -- unless memory was refused, the session's world hangs together
 abbrev pub HangsTogether : {S : Type 0} → (S → Meaning) → View S → Type 0
@@ -81,6 +86,7 @@ HangsTogether f s = has_failed s ≡ false → Sound (world_of f s.world)
 
 -- a session that has all of what these commands tell before it, over a world of these users
 pub record BegunWith {S : Type 0} (f : S → Meaning) (m : Meaning) (users : List IdSets) (commands : List CommandLine) (s : View S) : Type 0 where
+  pub world : world_of f s.world ≡ first_world m users
   pub left : left_in f s ≡ dialogue commands (first_world m users)
   pub fine : has_failed s ≡ false
   pub waits : waits_for s ≡ false
@@ -90,12 +96,21 @@ pub record BegunWith {S : Type 0} (f : S → Meaning) (m : Meaning) (users : Lis
 abbrev pub Begun : {S : Type 0} → (S → Meaning) → Meaning → List ℕ → View S → Type 0
 Begun f m script s = BegunWith f m (users_of script) (commands_of script) s
 
+-- a session gave this text: it is the next command's, and stands in front of what is left
+pub record Gives {S : Type 0} (f : S → Meaning) (old : View S) (text : List ℕ) (new : View S) : Type 0 where
+  pub task : ℕ
+  pub next : next_task old ≡ Some task
+  pub left : left_in f old ≡ tells (record { task = task; text = text; world = world_of f new.world }) (left_in f new)
+  pub fine : has_failed new ≡ false
+  pub waits : waits_for new ≡ false
+
 -- what a session gives its caller is the head of what it has to tell: a part, behind which the rest is left; the words of the server
 -- that is asked for, again at each call until that is answered; or the end. Memory may be refused, and then for good
 abbrev pub Tells : {S : Type 0} → (S → Meaning) → View S → Result Want SessionFault → View S → Type 0
-Tells f old (Ok (Output part)) new = (left_in f old ≡ tells part (left_in f new)) × (has_failed new ≡ false) × (waits_for new ≡ false)
+Tells f old (Ok (Output text)) new = Gives f old text new
 Tells f old (Ok (Server words)) new =
     (left_in f new ≡ left_in f old) × AsksFor (left_in f old) words × (has_failed new ≡ false) × (waits_for new ≡ true)
+    × (next_task new ≡ next_task old)
 Tells f old (Ok Done) new = (left_in f old ≡ ends) × (new ≡ old)
 Tells f old (Err e) new = (e ≡ Memory) × (has_failed new ≡ true)
 
@@ -108,6 +123,11 @@ Answers _ server left = ⊥
 abbrev pub Takes : {S : Type 0} → (S → Meaning) → View S → Option Meaning → View S → Type 0
 Takes f old server new =
     Answers (left_in f old) server (left_in f new) × (waits_for old ≡ true) × (has_failed new ≡ false) × (waits_for new ≡ false)
+    × (next_task new ≡ next_task old)
+
+-- an answer was taken, unless memory was refused
+abbrev pub TakesUnlessFailed : {S : Type 0} → (S → Meaning) → View S → Option Meaning → View S → Type 0
+TakesUnlessFailed f old server new = (has_failed new ≡ true) ⊎ Takes f old server new
 
 -- why an answer was not taken: none was asked for, and nothing is changed; or memory was refused, now or before
 abbrev pub NotTaken : {S : Type 0} → View S → SupplyFault → View S → Type 0

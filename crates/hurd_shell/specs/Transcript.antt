@@ -33,12 +33,22 @@ lines_of (Err e) = refusal_line (Some e)
 abbrev pub part_of : CommandLine → Result Printed Errno → List ℕ
 part_of c r = c.header ++ lines_of r
 
--- what a script tells whoever runs it: parts of its transcript, one after another, and servers that it asks for on the way, with
--- what it tells after each answer
+-- a part that is told: of whose command, what stands in the transcript, and the world behind it
+pub record Part : Type 0 where
+  pub task : ℕ
+  pub text : List ℕ
+  pub world : World
+
+-- what a script tells whoever runs it: parts, one after another, and servers that it asks for on the way, with what it tells after
+-- each answer
 pub data Dialogue : Type 0 where
   ends : Dialogue
-  tells : List ℕ → Dialogue → Dialogue
+  tells : Part → Dialogue → Dialogue
   wants : List (List ℕ) → (Option Meaning → Dialogue) → Dialogue
+
+-- the part of a command with this text, behind which this world is left
+abbrev pub part_by : CommandLine → List ℕ → World → Part
+part_by c text x = record { task = c.task; text = text; world = x }
 
 -- what is told while task t makes a program, and what comes of its end
 unfoldable pub played : {A : Type 0} → ℕ → Prog A → World → (Result A Errno → World → Dialogue) → Dialogue
@@ -49,16 +59,16 @@ played t (asks words k) w next = wants words (λ server. played t (k server) w n
 -- what is told of commands that are made one after another
 unfoldable pub dialogue : List CommandLine → World → Dialogue
 dialogue [] w = ends
-dialogue (c ∷ cs) w = played c.task (program_of (action_of c)) w (λ r x. tells (part_of c r) (dialogue cs x))
+dialogue (c ∷ cs) w = played c.task (program_of (action_of c)) w (λ r x. tells (part_by c (part_of c r) x) (dialogue cs x))
 
 -- what a script tells, begun over a boot server of this meaning
 abbrev pub dialogue_of : List ℕ → Meaning → Dialogue
 dialogue_of script m = dialogue (commands_of script) (first_world m (users_of script))
 
--- the parts that are told where the servers that are asked for are answered so, one after another: up to the first that has no answer yet
+-- the texts that are told where the servers that are asked for are answered so, one after another: up to the first that has no answer yet
 unfoldable pub parts_of : Dialogue → List (Option Meaning) → List (List ℕ)
 parts_of ends says = []
-parts_of (tells part rest) says = part ∷ parts_of rest says
+parts_of (tells part rest) says = part.text ∷ parts_of rest says
 parts_of (wants words rest) [] = []
 parts_of (wants words rest) (server ∷ says) = parts_of (rest server) says
 
@@ -88,10 +98,10 @@ says_by make ends = []
 says_by make (tells part rest) = says_by make rest
 says_by make (wants words rest) = make words ∷ says_by make (rest (make words))
 
--- the parts that are told where a maker answers
+-- the texts that are told where a maker answers
 unfoldable pub parts_by : Maker → Dialogue → List (List ℕ)
 parts_by make ends = []
-parts_by make (tells part rest) = part ∷ parts_by make rest
+parts_by make (tells part rest) = part.text ∷ parts_by make rest
 parts_by make (wants words rest) = parts_by make (rest (make words))
 
 -- the whole transcript of a script whose servers a maker makes

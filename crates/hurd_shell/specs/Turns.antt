@@ -13,7 +13,7 @@ use Rattle.hurd_shell.specs.declared.stages.Progress.TheVariants as progress
 use Rattle.hurd_shell.specs.declared.transcript.Turn.{Turn}
 use Rattle.hurd_shell.specs.declared.transcript.Turn.TheVariants.{Told, Waits}
 use Rattle.hurd_shell.specs.Stages.{waiting_on}
-use Rattle.hurd_shell.specs.Transcript.{Dialogue, tells, part_of, played}
+use Rattle.hurd_shell.specs.Transcript.{Dialogue, tells, part_by, part_of, played}
 
 -- what is told of a command that came to its end, or waits for a server, unless memory was refused
 abbrev pub turn_of : CommandLine → Result Progress Stop → Option Turn
@@ -24,8 +24,8 @@ turn_of c (Err Memory) = None
 
 -- what is left to tell after a turn, where this is told behind the command
 abbrev pub turn_on : CommandLine → (World → Dialogue) → Turn → World → Dialogue
-turn_on c next (Told part) x = tells part (next x)
-turn_on c next (Waits w) x = played c.task (waiting_on w) x (λ r y. tells (part_of c r) (next y))
+turn_on c next (Told text) x = tells (part_by c text x) (next x)
+turn_on c next (Waits w) x = played c.task (waiting_on w) x (λ r y. tells (part_by c (part_of c r) y) (next y))
 
 -- what the caller is given after a turn, how many commands are made then, and how far the next one is
 abbrev pub Stands : Turn → ℕ → ℕ → Want → ℕ → Phase → Type 0

@@ -1,13 +1,15 @@
 //! A session.
 ghost use Rattle.std.specs.Prelude.{◌≡◌, true, false, None, Some, IfOk, IfErr, OnOk, Ok, Err, if◌then◌else◌};
+ghost use Rattle.std.specs.Option.{option_map};
+ghost use Rattle.hurd_creds.specs.declared.name.TaskId.{TaskId};
 ghost use Rattle.hurd_trans_iface.specs.Meaning.{Begins};
 ghost use Rattle.hurd_machine.specs.World as machine;
 ghost use Rattle.hurd_machine.specs.Sound.{Sound};
 ghost use Rattle.hurd_script.specs.Script.{bad, users_of};
 ghost use Rattle.hurd_world.specs.Boot.{boot_of};
 ghost use Rattle.hurd_world.specs.Held.{world_of};
-ghost use Rattle.hurd_shell.specs.Session.{Begun, BegunWith, waits_for, BeginFault, HangsTogether, NewFault, NotTaken, Takes, Tells, command_on, has_failed};
-ghost use Rattle.hurd_shell.specs.Transcript.{Dialogue, part_of, played, tells};
+ghost use Rattle.hurd_shell.specs.Session.{Begun, BegunWith, waits_for, BeginFault, HangsTogether, NewFault, NotTaken, Takes, Tells, command_on, has_failed, next_task};
+ghost use Rattle.hurd_shell.specs.Transcript.{Dialogue, part_by, part_of, played, tells};
 ghost use Rattle.hurd_shell.specs.Turns.{Stands, turn_on};
 
 use crate::answers::{bring, go_without};
@@ -15,7 +17,7 @@ use crate::fault::{NoMemory, SessionFault, SupplyFault};
 use crate::phase::Phase;
 use crate::stages::{begin, resume};
 use crate::transcript::{Turn, told};
-use hurd_creds::{Bytes, Errno};
+use hurd_creds::{Bytes, Errno, TaskId};
 use hurd_script::{Command, Script, ScriptFault, parse_script};
 use hurd_trans_iface::{Server, Words};
 use hurd_world::World;
@@ -63,7 +65,7 @@ fn take_turn<S: Server>(
     phase: Phase,
 ) -> Result<Turn, AllocError>
     ensures ok { IfOk result (λ turn. (next : machine.World → Dialogue)
-        → played command.now.task (command_on phase command.now) (world_of S.meaning world.old) (λ r y. tells (part_of command.now r) (next y))
+        → played command.now.task (command_on phase command.now) (world_of S.meaning world.old) (λ r y. tells (part_by command.now (part_of command.now r) y) (next y))
         ≡ turn_on command.now next turn (world_of S.meaning world.new)) }
     ensures sound { Sound (world_of S.meaning world.old) → OnOk result (Sound (world_of S.meaning world.new)) }
 {
@@ -121,16 +123,20 @@ impl<S: Server> Session<S> {
         }
     }
 
-    /// Boots the world of a script that was read.
+    /// Boots the world of a script that was read over a root server, which some words made. A refused call drops the server.
     ///
     /// Errors, in order: `Boot` with the world's refusal, `Memory`.
-    fn begin(alloc: Global, script: Script, root: S) -> Result<Session<S>, SessionFault>
+    pub fn begin(alloc: Global, script: Script, root: S) -> Result<Session<S>, SessionFault>
         requires { Begins (S.meaning root) }
         ensures ok { IfOk result (λ s. (boot_of (S.meaning root) script.users.items ≡ Ok tt)
             × BegunWith S.meaning (S.meaning root) script.users.items script.commands.items s) }
         ensures err { IfErr result (λ e. BeginFault (S.meaning root) script.users.items e) }
     {
-        let Script { users, commands } = script;
+        let Script {
+            users,
+            commands,
+            ..
+        } = script;
         match World::boot(alloc, root, users) {
             Ok(world) => Ok(Session {
                 world,
@@ -148,6 +154,23 @@ impl<S: Server> Session<S> {
         ensures { result ≡ has_failed self.now }
     {
         matches!(self.phase, Phase::Failed)
+    }
+
+    /// The world, as the commands so far left it.
+    pub fn world(&self) -> &World<S>
+        ensures { result.now ≡ self.now.world }
+    {
+        &self.world
+    }
+
+    /// The task whose command is next, or is on its way; none behind the last.
+    pub fn task(&self) -> Option<TaskId>
+        ensures { option_map (λ (t : TaskId). t.0) result ≡ next_task self.now }
+    {
+        match self.commands.get(self.given) {
+            Some(command) => Some(command.task()),
+            None => None,
+        }
     }
 
     /// The next command's part of the transcript, `Server` with the words of a server that it waits for, until that is supplied

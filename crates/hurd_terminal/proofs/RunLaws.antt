@@ -24,7 +24,7 @@ by_length p limit xs true test =
     inr (limit (take 1048577 xs) (omega (arith, length-take 1048577 xs)), limit xs (omega arith))
 
 -- either nothing was cut off, or both are too long
-cut_off : (p : Program) → HasLimit p → (xs : List ℕ) → (take 1048577 xs ≡ xs) ⊎ ((p.bad (take 1048577 xs) ≡ Some 0) × (p.bad xs ≡ Some 0))
+pub cut_off : (p : Program) → HasLimit p → (xs : List ℕ) → (take 1048577 xs ≡ xs) ⊎ ((p.bad (take 1048577 xs) ≡ Some 0) × (p.bad xs ≡ Some 0))
 cut_off p limit xs = by_length p limit xs (nat_lt 1048577 (length xs)) refl
 
 not_good : (o : Option ℕ) → o ≡ Some 0 → o ≡ None → ⊥

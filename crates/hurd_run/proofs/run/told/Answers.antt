@@ -2,7 +2,8 @@ use Rattle.std.proofs.Common.{◌≡◌, suc, inl, arith}
 use Rattle.std.proofs.lemmas.Result.{err_from_is_err_and}
 use Rattle.hurd_shell.specs.Session.{has_failed, left_in}
 use Rattle.hurd_shell.specs.declared.fault.SessionFault.TheVariants.{Memory}
-use Rattle.hurd_run.proofs.SessionLaws.{asks_told, ends_told, none_told, part_counts, part_cut, part_told, parts_left, was_fine}
+use Rattle.hurd_shell.proofs.GivenLaws.{was_fine}
+use Rattle.hurd_run.proofs.SessionLaws.{asks_told, ends_told, none_told, part_counts, part_cut, part_told, parts_left}
 use Rattle.hurd_run.proofs.run.told.Goals as goal
 
 pub parts-init : goal.parts-init
@@ -21,7 +22,7 @@ parts-smaller g c =
     let fine = was_fine (has_failed c.parts.session) c.in_ok-part.field-0 Memory c.in_ok-part.ensures.stays in
     let told = rw c.in-Output.is at (c.in_ok-part.ensures.tells fine) in
     let counts : parts_left (left_in f c.parts.session) ≡ suc (parts_left (left_in f c.next.new.self)) =
-    part_counts (left_in f c.parts.session) (left_in f c.next.new.self) c.in-Output.part told.0 in
+    part_counts (left_in f c.parts.session) (left_in f c.next.new.self) _ told.left in
     omega (arith, counts)
 
 pub returns-in_err-print-in-Output-clause-err : goal.returns-in_err-print-in-Output-clause-err

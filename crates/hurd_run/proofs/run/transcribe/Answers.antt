@@ -4,8 +4,9 @@ use Rattle.std.proofs.lemmas.Result.{err_from_is_err_and}
 use Rattle.std.specs.Option.{option_map}
 use Rattle.hurd_kinds.specs.Boxes.{box_meaning}
 use Rattle.hurd_terminal.proofs.RunLaws.{adds_output}
+use Rattle.hurd_kinds.proofs.BoxLaws.{made_as}
 use Rattle.hurd_run.specs.Scripts.{scripts}
-use Rattle.hurd_run.proofs.SessionLaws.{all_printed_so_far, answer_printed, fewer_turns, front_printed, made_as, none_printed, print_reads, print_writes}
+use Rattle.hurd_run.proofs.SessionLaws.{all_printed_so_far, answer_printed, fewer_turns, front_printed, none_printed, print_reads, print_writes}
 use Rattle.hurd_trans_iface.specs.Meaning.{Meaning}
 use Rattle.hurd_kinds.specs.declared.server_box.ServerBox.TheVariants as kind
 use Rattle.hurd_run.proofs.run.transcribe.OwnLists.{at-1-1, at-1-2, at-1-3, at-1-4, at-1-5, own-1}

@@ -8,6 +8,7 @@ returns-in-Ok-clause-ok g c =
     let booted = c.in-Ok.ensures in (
       booted.ok.0,
       record {
+        world = booted.ok.1;
         left = between c.args.script.commands.items _ ∙ ap (dialogue c.args.script.commands.items) booted.ok.1;
         fine = refl;
         waits = refl;

@@ -1,0 +1,4 @@
+pub mod Lessons
+pub mod Steps
+pub mod Users
+pub mod Runs

@@ -1,0 +1,101 @@
+-- What comes of one step of a session that is watched.
+use Rattle.std.specs.Prelude.{◌≡◌, ◌⊎◌, ℕ, Bool, true, false, List, [], ◌++◌, Option, Some, None, Ok, if◌then◌else◌}
+use Rattle.std.specs.Io.KnownBytes.{Appends}
+use Rattle.std.specs.Option.{option_map}
+use Rattle.hurd_creds.specs.declared.name.TaskId.{TaskId}
+use Rattle.hurd_trans_iface.specs.Meaning.{Meaning, begin}
+use Rattle.hurd_kinds.specs.Boxes.{box_meaning}
+use Rattle.hurd_kinds.specs.declared.server_box.ServerBox.{ServerBox}
+use Rattle.hurd_machine.specs.World.{World}
+use Rattle.hurd_world.specs.Held.{world_of}
+use Rattle.hurd_shell.specs.Session.{Gives, Tells, View, has_failed, left_in, next_task}
+use Rattle.hurd_shell.specs.Transcript.{ends}
+use Rattle.hurd_shell.specs.declared.session.Want.TheVariants.{Server}
+use Rattle.hurd_sight.specs.Reach.{among}
+use Rattle.hurd_sight.specs.declared.view.View as sight
+use Rattle.hurd_lessons.specs.Told.{counted}
+use Rattle.hurd_lessons.specs.Watched.{Learns, SeesOr}
+use Rattle.hurd_lessons.specs.declared.tally.Tally.{Tally}
+use Rattle.hurd_terminal.specs.Faults.{AppendsFront}
+use Rattle.hurd_learns.specs.declared.steps.Step.{Step}
+use Rattle.hurd_learns.specs.declared.steps.Step.TheVariants.{Told, Made, Done}
+
+-- one of these tasks is next, or none is
+abbrev pub is_own : List TaskId → Option ℕ → Bool
+is_own tasks None = true
+is_own tasks (Some t) = among tasks t
+
+-- whose command is next, and what is kept of what is seen: before one of others, there was a look
+pub record Looked {S : Type 0} (f : S → Meaning) (tasks : List TaskId) (s : View S) (before : Option sight.View) (own : Bool) (after : Option sight.View) : Type 0 where
+  pub is : own ≡ is_own tasks (next_task s)
+  pub kept : own ≡ true → after ≡ before
+  pub looks : own ≡ false → SeesOr tasks (world_of f s.world) before after
+
+-- what is said behind a command, and what is kept of what is seen
+abbrev pub SaysOf : List TaskId → List ℕ → Bool → World → Option sight.View → Option sight.View → List ℕ → Type 0
+SaysOf tasks who true x before after text = (after ≡ None) × (text ≡ [])
+SaysOf tasks who false x before after text = Learns tasks who x before after text
+
+-- a part was printed with what is said behind it, and that was counted
+pub record Printed (tasks : List TaskId) (who : List ℕ) (ours : Bool) (x : World) (text : List ℕ) (seen : Option sight.View) (tally : Tally) (before : Option (List ℕ))
+    (kept : Option sight.View) (count : Tally) (after : Option (List ℕ)) : Type 0 where
+  pub said : List ℕ
+  pub says : SaysOf tasks who ours x seen kept said
+  pub appends : Appends before after (text ++ said)
+  pub counts : count ≡ (if ours then tally else counted tally said)
+
+-- a front of these was printed, or nothing
+abbrev pub PrintedSome : List TaskId → List ℕ → Bool → World → List ℕ → Option sight.View → Option (List ℕ) → Option sight.View → Option (List ℕ) → Type 0
+PrintedSome tasks who ours x text seen before kept after =
+    (after ≡ before) ⊎ ((said : List ℕ) × SaysOf tasks who ours x seen kept said × AppendsFront before after (text ++ said))
+
+-- a command was made, of this text, and this is said behind it
+pub record Makes {S : Type 0} (f : S → Meaning) (tasks : List TaskId) (who : List ℕ) (s : View S) (before : Option sight.View) (text said : List ℕ) (left : View S) (after : Option sight.View) : Type 0 where
+  pub ours : Bool
+  pub watched : Option sight.View
+  pub looked : Looked f tasks s before ours watched
+  pub fine : has_failed s ≡ false
+  pub gives : Gives f s text left
+  pub says : SaysOf tasks who ours (world_of f left.world) watched after said
+
+-- that was printed, and counted
+pub record IsTold {S : Type 0} (f : S → Meaning) (tasks : List TaskId) (who : List ℕ) (s : View S) (seen : Option sight.View) (tally : Tally) (before : Option (List ℕ))
+    (left : View S) (kept : Option sight.View) (count : Tally) (after : Option (List ℕ)) : Type 0 where
+  pub text : List ℕ
+  pub said : List ℕ
+  pub makes : Makes f tasks who s seen text said left kept
+  pub appends : Appends before after (text ++ said)
+  pub counts : count ≡ (if makes.ours then tally else counted tally said)
+
+-- nothing was printed or counted
+pub record Nothing (tally : Tally) (before : Option (List ℕ)) (count : Tally) (after : Option (List ℕ)) : Type 0 where
+  pub printed : after ≡ before
+  pub counts : count ≡ tally
+
+-- a server was asked for, and this is what some words made
+pub record Asks {S : Type 0} (f : S → Meaning) (tasks : List TaskId) (s : View S) (before : Option sight.View) (server : Option ServerBox) (left : View S) (after : Option sight.View) : Type 0 where
+  pub ours : Bool
+  pub looked : Looked f tasks s before ours after
+  pub words : List (List ℕ)
+  pub fine : has_failed s ≡ false
+  pub tells : Tells f s (Ok (Server words)) left
+  pub made : option_map box_meaning server ≡ begin words
+
+-- what comes of a step
+unfoldable pub StepsTo : {S : Type 0} → (S → Meaning) → List TaskId → List ℕ → View S → Option sight.View → Tally → Option (List ℕ)
+    → Step → View S → Option sight.View → Tally → Option (List ℕ) → Type 0
+StepsTo f tasks who s seen tally before Told left kept count after = IsTold f tasks who s seen tally before left kept count after
+StepsTo f tasks who s seen tally before (Made server) left kept count after = Asks f tasks s seen server left kept × Nothing tally before count after
+StepsTo f tasks who s seen tally before Done left kept count after = (has_failed s ≡ false) × (left_in f s ≡ ends) × Nothing tally before count after
+
+-- a command was made, and a front of its text and of what is said behind it was printed
+pub record IsCut {S : Type 0} (f : S → Meaning) (tasks : List TaskId) (who : List ℕ) (s : View S) (seen : Option sight.View) (before : Option (List ℕ))
+    (left : View S) (kept : Option sight.View) (after : Option (List ℕ)) : Type 0 where
+  pub text : List ℕ
+  pub said : List ℕ
+  pub makes : Makes f tasks who s seen text said left kept
+  pub front : AppendsFront before after (text ++ said)
+
+-- what was printed of a step that failed
+unfoldable pub Stops : {S : Type 0} → (S → Meaning) → List TaskId → List ℕ → View S → Option sight.View → Option (List ℕ) → View S → Option sight.View → Option (List ℕ) → Type 0
+Stops f tasks who s seen before left kept after = (after ≡ before) ⊎ IsCut f tasks who s seen before left kept after

@@ -1,0 +1,197 @@
+//! A script from its reading to its transcript, with what is learned on the way.
+ghost use Rattle.std.specs.Prelude.{◌≡◌, ◌≢◌, ◌≤◌, true, None, Ok, Err, Some, IfErr, IfOk, OnOk, length, map, string_bytes};
+ghost use Rattle.hurd_tmpfs.specs.Tree.{new_tmpfs};
+ghost use Rattle.hurd_trans_iface.specs.Meaning.{Begins};
+ghost use Rattle.hurd_shell.specs.Session.{BegunWith, TakesUnlessFailed, waits_for};
+ghost use Rattle.hurd_world.specs.Boot.{boot_of};
+ghost use Rattle.hurd_script.specs.Script.{bad, commands_of, names_of, users_of};
+ghost use Rattle.hurd_learns.specs.Runs.{NotAll, NotBegun, NotRead, ToldAll};
+
+use crate::learners::Learners;
+use crate::steps::{Step, go_on};
+use hurd_kinds::{ServerBox, empty_tree};
+use hurd_lessons::{Tally, Watch};
+use hurd_script::{Script, ScriptFault, parse_script};
+use hurd_shell::Session;
+use hurd_terminal::{Fault, Input, Output, finish, read_text};
+use hurd_trans_iface::Server;
+use std::alloc::Global;
+use std::io::{Read, Write};
+
+/// What stands behind the number of a bad line.
+const COMPLAINT: &str = ": bad script\n";
+
+/// How the program is called.
+const USAGE: &[u8] = b"usage: hurd_learns USER[,USER..] < script\n";
+
+/// What was learned from, in the last line.
+const COMMANDS: &[u8] = b" commands of others\n";
+
+/// A session of a script over an empty tree.
+///
+/// Errors, in order: `Boot` with the world's refusal, `Memory`.
+#[tactic(auto, using(hurd_tmpfs::proofs::Beginning::begins_tree))]
+fn begun<S: Server>(alloc: Global, script: Script, root: S) -> Result<Session<S>, Fault>
+    requires { S.meaning root ≡ new_tmpfs }
+    ensures ok { IfOk result (λ session. (boot_of new_tmpfs script.users.items ≡ Ok tt)
+        × BegunWith S.meaning new_tmpfs script.users.items script.commands.items session) }
+    ensures err { IfErr result (λ fault. NotBegun new_tmpfs script.users.items fault) }
+{
+    Ok(Session::begin(alloc, script, root)?)
+}
+
+/// Supplies the server that was asked for. Where memory is refused, the session tells that next.
+fn supply<S: Server>(alloc: Global, session: &mut Session<S>, server: S)
+    requires begins { Begins (S.meaning server) }
+    requires waits { waits_for session.old ≡ true }
+    ensures { TakesUnlessFailed S.meaning session.old (Some (S.meaning server)) session.new }
+{
+    let _ = session.supply(alloc, server);
+}
+
+/// Says that there is no server of the words that were asked for. Where memory is refused, the session tells that next.
+fn supply_none<S: Server>(alloc: Global, session: &mut Session<S>)
+    requires { waits_for session.old ≡ true }
+    ensures { TakesUnlessFailed S.meaning session.old None session.new }
+{
+    let _ = session.supply_none(alloc);
+}
+
+/// Prints the transcript of a script, begun over an empty tree, with what is learned on the way by users of whom nothing was seen yet.
+/// The boxes of the trait are made here, since a function that gave them out could say nothing of what they mean.
+///
+/// `Boot` with the world's refusal, and then nothing is printed; `Write` where something can't be written, `Memory` at any point: then
+/// the first commands are printed, the last of them as far as it was.
+fn transcribe<W: Write>(
+    alloc: Global,
+    script: Script,
+    learners: &Learners,
+    watch: &mut Watch,
+    tally: &mut Tally,
+    output: &mut Output<W>,
+) -> Result<(), Fault>
+    requires { watch.old.seen ≡ None }
+    ensures ok { OnOk result (ToldAll learners.now.tasks.items learners.now.who.items script.users.items script.commands.items
+        tally.old (W.contents output.old.writer) tally.new (W.contents output.new.writer)) }
+    ensures err { IfErr result (λ fault. NotAll learners.now.tasks.items learners.now.who.items script.users.items script.commands.items
+        output.new (W.contents output.old.writer) fault (W.contents output.new.writer)) }
+{
+    let root: Box<dyn Server> = empty_tree(alloc)?;
+    let mut session = begun(alloc, script, root)?;
+    'steps: loop {
+        match go_on(alloc, &mut session, learners, watch, tally, output)? {
+            Step::Told => {}
+            Step::Made(server) => match server {
+                Some(ServerBox::Tmpfs(server)) => supply(alloc, &mut session, server),
+                Some(ServerBox::Hello(server)) => supply(alloc, &mut session, server),
+                Some(ServerBox::Null(server)) => supply(alloc, &mut session, server),
+                Some(ServerBox::Zero(server)) => supply(alloc, &mut session, server),
+                Some(ServerBox::Symlink(server)) => supply(alloc, &mut session, server),
+                None => supply_none(alloc, &mut session),
+            },
+            Step::Done => return Ok(()),
+        }
+    }
+}
+
+/// Prints all that is told and learned of a script by users of whom nothing was seen yet, and the last line.
+///
+/// Faults as of `transcribe`; `Write` and `Memory` also where only the last line is left.
+fn learn<W: Write>(
+    alloc: Global,
+    script: Script,
+    learners: &Learners,
+    watch: &mut Watch,
+    output: &mut Output<W>,
+) -> Result<(), Fault>
+    requires { watch.old.seen ≡ None }
+{
+    let mut tally = Tally::new();
+    transcribe(alloc, script, learners, watch, &mut tally, output)?;
+    let line = tally.line(alloc, learners.names.as_slice(), COMMANDS)?;
+    output.print(line.as_slice())
+}
+
+/// The same, of users who saw nothing yet.
+fn learn_anew<W: Write>(
+    alloc: Global,
+    script: Script,
+    learners: &Learners,
+    output: &mut Output<W>,
+) -> Result<(), Fault> {
+    let mut watch = Watch::new();
+    learn(alloc, script, learners, &mut watch, output)
+}
+
+/// Reads a script's text.
+///
+/// `Bad` with its first bad line, `Memory`.
+fn parsed(alloc: Global, text: &[u8]) -> Result<Script, Fault>
+    ensures ok { IfOk result (λ script. (bad text.now ≡ None) × (map string_bytes script.names.items ≡ names_of text.now)
+        × (script.users.items ≡ users_of text.now) × (script.commands.items ≡ commands_of text.now)) }
+    ensures few { IfOk result (λ script. length script.names.items ≤ 64) }
+    ensures err { IfErr result (λ fault. NotRead text.now fault) }
+{
+    match parse_script(alloc, text) {
+        Ok(script) => Ok(script),
+        Err(ScriptFault::Bad { line }) => Err(Fault::Bad { line }),
+        Err(ScriptFault::Memory) => Err(Fault::Memory),
+    }
+}
+
+/// Reads a script's text, and prints its transcript with what the users learn whom a word names; whether all of them are its users:
+/// where one isn't, nothing is printed.
+///
+/// `Bad` with its first bad line, `Boot` with the world's refusal, and then nothing is printed; `Write`, `Memory`.
+fn run_text<W: Write>(
+    alloc: Global,
+    word: &str,
+    text: &[u8],
+    output: &mut Output<W>,
+) -> Result<bool, Fault> {
+    let script = parsed(alloc, text)?;
+    match Learners::named(alloc, script.names.as_slice(), word)? {
+        Some(learners) => {
+            learn_anew(alloc, script, &learners, output)?;
+            Ok(true)
+        }
+        None => Ok(false),
+    }
+}
+
+/// Reads a script, and prints its transcript with what the users learn whom a word names; whether all of them are its users: where one
+/// isn't, nothing is printed.
+///
+/// `Read` where the script can't be read, `Bad` with its first bad line, `Boot` with the world's refusal, `Write` where something can't
+/// be written; `Memory` at any point.
+fn run<R: Read, W: Write>(
+    alloc: Global,
+    word: &str,
+    input: &mut Input<R>,
+    output: &mut Output<W>,
+) -> Result<bool, Fault> {
+    let text = read_text(alloc, input)?;
+    run_text(alloc, word, text.as_slice(), output)
+}
+
+/// Prints how the program is called; answers the exit status.
+pub fn usage<W: Write>(output: &mut Output<W>) -> u8 {
+    match output.print(USAGE) {
+        Ok(()) => 1,
+        Err(_) => 2,
+    }
+}
+
+/// The whole program: runs a script for the users whom a word names, and after a fault prints the fault's line; answers the exit status.
+pub fn program<R: Read, W: Write>(
+    alloc: Global,
+    word: &str,
+    input: &mut Input<R>,
+    output: &mut Output<W>,
+) -> u8 {
+    match run(alloc, word, input, output) {
+        Ok(true) => 0,
+        Ok(false) => usage(output),
+        Err(fault) => finish(Err(fault), COMPLAINT, output),
+    }
+}

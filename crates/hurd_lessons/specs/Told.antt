@@ -1,0 +1,53 @@
+-- What is said behind what each of several tasks does, and how that is printed.
+use Rattle.std.specs.Prelude.{◌≡◌, ◌↔◌, ◌+◌, ◌==◌, ℕ, Bool, true, false, List, [], ◌∷◌, ◌++◌, if◌then◌else◌, length, nat_lt, codes, decimal}
+use Rattle.hurd_creds.specs.declared.name.TaskId.{TaskId}
+use Rattle.hurd_machine.specs.Sight.{SameView}
+use Rattle.hurd_machine.specs.Sound.{Sound}
+use Rattle.hurd_machine.specs.World.{World}
+use Rattle.hurd_sight.specs.Reach.{among}
+use Rattle.hurd_sight.specs.Views.{Views}
+use Rattle.hurd_sight.specs.declared.view.View.{View}
+use Rattle.hurd_lessons.specs.Lessons.{Lessons}
+use Rattle.hurd_lessons.specs.declared.tally.Tally.{Tally}
+
+-- what these tasks learn by what was done between two worlds
+abbrev pub Taught : List TaskId → List ℕ → World → World → List ℕ → Type 0
+Taught tasks who w x text = (a b : View) × Views tasks w a × Views tasks x b × Lessons who a b text
+
+-- what is said behind what task t did: nothing, where it is one of these; else what they learn by it
+pub record Lesson (tasks : List TaskId) (who : List ℕ) (t : ℕ) (w x : World) (text : List ℕ) : Type 0 where
+  pub own : among tasks t ≡ true → text ≡ []
+  pub others : among tasks t ≡ false → Taught tasks who w x text
+
+-- nothing is learned exactly where the view of these tasks is as it was
+abbrev pub UntaughtWhereUnmoved : Type 0
+UntaughtWhereUnmoved =
+    (tasks : List TaskId) (who : List ℕ) (w x : World) (text : List ℕ) → Sound w → Sound x → Taught tasks who w x text
+    → (text ≡ []) ↔ SameView (among tasks) w x
+
+-- who did something, and what is said behind it
+pub record Said : Type 0 where
+  pub task : ℕ
+  pub text : List ℕ
+
+-- parts, and what is said behind each; up to the first behind which nothing was said yet
+abbrev pub printed : List (List ℕ) → List Said → List ℕ
+printed (part ∷ parts) (said ∷ more) = part ++ (said.text ++ printed parts more)
+printed _ _ = []
+
+-- one more, up to the greatest number that there is room for
+abbrev pub one_more : ℕ → ℕ
+one_more n = if nat_lt n 18446744073709551615 then n + 1 else n
+
+-- one more thing that others did, which taught something where anything is said of it
+abbrev pub counted : Tally → List ℕ → Tally
+counted t text = record { others = one_more t.others; taught = if length text == 0 then t.taught else one_more t.taught }
+
+-- the same of all that was said
+abbrev pub tally_from : (ℕ → Bool) → Tally → List Said → Tally
+tally_from S t [] = t
+tally_from S t (said ∷ more) = tally_from S (if S said.task then t else counted t said.text) more
+
+-- the last line: how many of the things that others did taught something
+abbrev pub last_line : List ℕ → List ℕ → Tally → List ℕ
+last_line names things t = names ++ (codes " learned from " ++ (decimal t.taught ++ (codes " of " ++ (decimal t.others ++ things))))

@@ -1,0 +1,85 @@
+//! What some tasks saw when they were last looked at.
+ghost use Rattle.std.specs.Prelude.{◌≡◌, None, IfOk, OnOk};
+ghost use Rattle.hurd_world.specs.Held.{world_of};
+ghost use Rattle.hurd_lessons.specs.Told.{UntaughtWhereUnmoved};
+ghost use Rattle.hurd_lessons.specs.Watched.{LearnedSince, Learns, SeesOr};
+
+use crate::lines::lessons;
+use hurd_creds::{Bytes, TaskId};
+use hurd_sight::{View, view_of};
+use hurd_trans_iface::Server;
+use hurd_world::World;
+use std::alloc::{AllocError, Global};
+
+/// What some tasks saw when they were last looked at, if nothing came since that they did themselves.
+#[derive(Drop)]
+pub struct Watch {
+    seen: Option<View>,
+}
+
+/// What is learned since something was looked at; nothing where nothing was.
+fn learned_since(
+    alloc: Global,
+    who: &[u8],
+    before: &Option<View>,
+    after: &View,
+) -> Result<Bytes, AllocError>
+    ensures { IfOk result (λ text. LearnedSince who.now before.now after.now text) }
+{
+    match before {
+        Some(before) => lessons(alloc, who, before, after),
+        None => Ok(Bytes::new(Vec::new(alloc))),
+    }
+}
+
+impl Watch {
+    /// Nothing was looked at.
+    pub fn new() -> Watch
+        ensures { result ≡ record { seen = None } }
+    {
+        Watch { seen: None }
+    }
+
+    /// Looks at what these tasks see of a world, unless that was done. An error is want of memory.
+    pub fn look<S: Server>(
+        &mut self,
+        alloc: Global,
+        world: &World<S>,
+        tasks: &[TaskId],
+    ) -> Result<(), AllocError>
+        ensures { OnOk result (SeesOr tasks.now (world_of S.meaning world.now) self.old.seen self.new.seen) }
+    {
+        if self.seen.is_none() {
+            self.seen = Some(view_of(alloc, world, tasks)?);
+        }
+        Ok(())
+    }
+
+    /// These tasks do something themselves: they are to be looked at anew.
+    pub fn forget(&mut self)
+        ensures { self.new.seen ≡ None }
+    {
+        self.seen = None;
+    }
+
+    /// What these tasks learn of a world since they were looked at, a line for each thing, and looks at them. An error is want of memory.
+    pub fn learned<S: Server>(
+        &mut self,
+        alloc: Global,
+        world: &World<S>,
+        tasks: &[TaskId],
+        who: &[u8],
+    ) -> Result<Bytes, AllocError>
+        ensures { IfOk result (λ text. Learns tasks.now who.now (world_of S.meaning world.now) self.old.seen self.new.seen text) }
+    {
+        let after = view_of(alloc, world, tasks)?;
+        let learned = learned_since(alloc, who, &self.seen, &after);
+        self.seen = Some(after);
+        learned
+    }
+}
+
+/// A law: what others did taught some tasks nothing exactly where it left what these see as it was.
+pub fn untaught_where_unmoved()
+    ensures { UntaughtWhereUnmoved }
+{}
