@@ -1,5 +1,5 @@
 //! What some tasks saw when they were last looked at.
-ghost use Rattle.std.specs.Prelude.{◌≡◌, None, IfOk, OnOk};
+ghost use Rattle.std.specs.Prelude.{◌≡◌, None, IfErr, IfOk, OnOk};
 ghost use Rattle.hurd_world.specs.Held.{world_of};
 ghost use Rattle.hurd_lessons.specs.Told.{UntaughtWhereUnmoved};
 ghost use Rattle.hurd_lessons.specs.Watched.{LearnedSince, Learns, SeesOr};
@@ -40,14 +40,15 @@ impl Watch {
         Watch { seen: None }
     }
 
-    /// Looks at what these tasks see of a world, unless that was done. An error is want of memory.
+    /// Looks at what these tasks see of a world, unless that was done. An error is want of memory, and then what was seen is kept.
     pub fn look<S: Server>(
         &mut self,
         alloc: Global,
         world: &World<S>,
         tasks: &[TaskId],
     ) -> Result<(), AllocError>
-        ensures { OnOk result (SeesOr tasks.now (world_of S.meaning world.now) self.old.seen self.new.seen) }
+        ensures ok { OnOk result (SeesOr tasks.now (world_of S.meaning world.now) self.old.seen self.new.seen) }
+        ensures err { IfErr result (λ e. self.new.seen ≡ self.old.seen) }
     {
         if self.seen.is_none() {
             self.seen = Some(view_of(alloc, world, tasks)?);
@@ -62,7 +63,8 @@ impl Watch {
         self.seen = None;
     }
 
-    /// What these tasks learn of a world since they were looked at, a line for each thing, and looks at them. An error is want of memory.
+    /// What these tasks learn of a world since they were looked at, a line for each thing, and looks at them. An error is want of memory,
+    /// and then what was seen is kept.
     pub fn learned<S: Server>(
         &mut self,
         alloc: Global,
@@ -70,12 +72,13 @@ impl Watch {
         tasks: &[TaskId],
         who: &[u8],
     ) -> Result<Bytes, AllocError>
-        ensures { IfOk result (λ text. Learns tasks.now who.now (world_of S.meaning world.now) self.old.seen self.new.seen text) }
+        ensures ok { IfOk result (λ text. Learns tasks.now who.now (world_of S.meaning world.now) self.old.seen self.new.seen text) }
+        ensures err { IfErr result (λ e. self.new.seen ≡ self.old.seen) }
     {
         let after = view_of(alloc, world, tasks)?;
-        let learned = learned_since(alloc, who, &self.seen, &after);
+        let learned = learned_since(alloc, who, &self.seen, &after)?;
         self.seen = Some(after);
-        learned
+        Ok(learned)
     }
 }
 
