@@ -1,5 +1,5 @@
 -- The arguments of calls.
-use Rattle.std.specs.Prelude.{ℕ, ℤ, pos, ◌-ℤ◌, ◌^◌, ◌==◌, List, [], ◌∷◌, Option, Some, None, if◌then◌else◌, nat_le, nat_lt, option_and_then, option_map, bytes_eq, codes}
+use Rattle.std.specs.Prelude.{ℕ, ℤ, pos, ◌-ℤ◌, ◌^◌, ◌==◌, ◌≡◌, Result, Ok, Err, List, [], ◌∷◌, Option, Some, None, if◌then◌else◌, nat_le, nat_lt, option_and_then, option_map, bytes_eq, codes}
 use Rattle.std.specs.Str.{is_utf8}
 use Rattle.std.specs.List.{slice_split}
 use Rattle.std.specs.Int.RustNames.{bit_or}
@@ -15,8 +15,16 @@ use Rattle.bitflags.specs.Sets.{Row, find_name}
 use Rattle.hurd_trans_iface.specs.Words.{is_within_limits}
 use Rattle.hurd_machine.specs.declared.call.Whence.{Whence}
 use Rattle.hurd_machine.specs.declared.call.Whence.TheVariants.{Set, Current, End}
+use Rattle.hurd_words.specs.declared.fault.ReadFault.{ReadFault}
+use Rattle.hurd_words.specs.declared.fault.ReadFault.TheVariants as fault
 use Rattle.hurd_words.specs.Numbers as script
 use Rattle.hurd_words.specs.Users as users
+
+-- what was to be read is read, or is bad; no memory is taken for it
+abbrev pub Finds : {X Y : Type 0} → (X → Y) → Option Y → Result X ReadFault → Type 0
+Finds view wanted (Ok x) = wanted ≡ Some (view x)
+Finds view wanted (Err fault.Memory) = ⊥
+Finds view wanted (Err fault.Bad) = wanted ≡ None
 
 -- a word that is text
 abbrev pub text_of : List ℕ → Option (List ℕ)

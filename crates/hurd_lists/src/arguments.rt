@@ -4,7 +4,7 @@ ghost use Rattle.std.specs.List.{slice_split};
 ghost use Rattle.std.specs.Int.RustNames.{bit_or};
 ghost use Rattle.bitflags.specs.Sets.{find_name};
 ghost use Rattle.hurd_words.specs.Reading.{Reads, said};
-ghost use Rattle.hurd_lists.specs.Arguments.{above_zero, below_zero, bits_of, bytes_of, goaway_flags_of, ids_of, long_number_of, mode_of, number_of, offset_of, open_flags_of, server_words, task_of, text_of, texts_of, trans_flags_of, whence_named, whence_of, with_names};
+ghost use Rattle.hurd_lists.specs.Arguments.{Finds, above_zero, below_zero, bits_of, bytes_of, goaway_flags_of, ids_of, long_number_of, mode_of, number_of, offset_of, open_flags_of, server_words, task_of, text_of, texts_of, trans_flags_of, whence_named, whence_of, with_names};
 
 use bitflags::Flags;
 use hurd_creds::{Bytes, Errno, GoawayFlags, Ids, Mode, OpenFlags, TaskId, TransFlags};
@@ -21,7 +21,7 @@ const MOST_BELOW: u64 = 1 << 63;
 
 /// What was to be read, if it was there.
 fn wanted<T>(found: Option<T>) -> Result<T, ReadFault>
-    ensures { Reads (λ x. x) found result }
+    ensures { Finds (λ x. x) found result }
 {
     match found {
         Some(value) => Ok(value),
@@ -31,7 +31,7 @@ fn wanted<T>(found: Option<T>) -> Result<T, ReadFault>
 
 /// A word that is text.
 pub fn text(word: &[u8]) -> Result<&str, ReadFault>
-    ensures { Reads (λ s. s.now) (text_of word.now) result }
+    ensures { Finds (λ s. s.now) (text_of word.now) result }
 {
     match str::from_utf8(word) {
         Ok(text) => Ok(text),
@@ -41,7 +41,7 @@ pub fn text(word: &[u8]) -> Result<&str, ReadFault>
 
 /// A number below 2 to the 32nd.
 pub fn number(word: &[u8]) -> Result<u32, ReadFault>
-    ensures { Reads (λ n. n) (number_of word.now) result }
+    ensures { Finds (λ n. n) (number_of word.now) result }
 {
     let digits = text(word)?;
     wanted(numbers::number(digits))
@@ -49,7 +49,7 @@ pub fn number(word: &[u8]) -> Result<u32, ReadFault>
 
 /// A number below 2 to the 64th.
 pub fn long_number(word: &[u8]) -> Result<u64, ReadFault>
-    ensures { Reads (λ n. n) (long_number_of word.now) result }
+    ensures { Finds (λ n. n) (long_number_of word.now) result }
 {
     let digits = text(word)?;
     wanted(numbers::long_number(digits))
@@ -57,7 +57,7 @@ pub fn long_number(word: &[u8]) -> Result<u64, ReadFault>
 
 /// A number that may be below zero.
 pub fn offset(word: &[u8]) -> Result<i64, ReadFault>
-    ensures { Reads (λ n. n) (offset_of word.now) result }
+    ensures { Finds (λ n. n) (offset_of word.now) result }
 {
     match word {
         [b'-', digits @ ..] => {
@@ -95,7 +95,7 @@ fn below_zero(amount: u64) -> Option<i64>
 
 /// A task's number.
 pub fn task(word: &[u8]) -> Result<TaskId, ReadFault>
-    ensures { Reads (λ t. t) (task_of word.now) result }
+    ensures { Finds (λ t. t) (task_of word.now) result }
 {
     let number = number(word)?;
     Ok(TaskId(number))
@@ -103,7 +103,7 @@ pub fn task(word: &[u8]) -> Result<TaskId, ReadFault>
 
 /// A mode in octal digits; bits that none knows stay.
 pub fn mode(word: &[u8]) -> Result<Mode, ReadFault>
-    ensures { Reads (λ m. m) (mode_of word.now) result }
+    ensures { Finds (λ m. m) (mode_of word.now) result }
 {
     let digits = text(word)?;
     let bits = wanted(numbers::octal_number(digits))?;
@@ -112,7 +112,7 @@ pub fn mode(word: &[u8]) -> Result<Mode, ReadFault>
 
 /// What stands behind `=`.
 fn behind_equals(word: &[u8]) -> Result<&[u8], ReadFault>
-    ensures { Reads (λ b. b.now) (bytes_of word.now) result }
+    ensures { Finds (λ b. b.now) (bytes_of word.now) result }
 {
     match word {
         [b'=', bytes @ ..] => Ok(bytes),
@@ -139,7 +139,7 @@ pub fn ids(alloc: Global, uids: &[u8], gids: &[u8]) -> Result<Ids, ReadFault>
 
 /// From where a seek counts.
 pub fn whence(word: &[u8]) -> Result<Whence, ReadFault>
-    ensures { Reads (λ w. w) (whence_of word.now) result }
+    ensures { Finds (λ w. w) (whence_of word.now) result }
 {
     let name = text(word)?;
     wanted(whence_named(name))
@@ -188,7 +188,7 @@ fn listed_flags<F: Flags>(alloc: Global, word: &str) -> Result<F, ReadFault>
 /// Adds the flag of this name.
 fn add_flag<F: Flags>(flags: &mut F, name: &str) -> Result<(), ReadFault>
     requires { F.exact }
-    ensures { Reads (λ _. F.set_of flags.new) (option_map (bit_or (F.set_of flags.old)) (find_name F.table name.now)) result }
+    ensures { Finds (λ _. F.set_of flags.new) (option_map (bit_or (F.set_of flags.old)) (find_name F.table name.now)) result }
 {
     let flag = wanted(F::from_name(name))?;
     flags.insert(flag);

@@ -1,8 +1,9 @@
-//! Goes through a script, answers what its session asks for, and compares what it tells with a course.
+//! Goes through a script, answers what its session asks for, and compares what it tells with what it is to tell.
 ghost use Rattle.hurd_trans_iface.specs.Meaning.{Begins};
 
-use crate::boxes::{Count, kind_of, made_at_last, text, tree};
+use crate::boxes::{is_text, text, text_at_last, tree};
 use crate::memory::Memory;
+use hurd_counted::Counts;
 use hurd_creds::Errno;
 use hurd_shell::{Session, SessionFault, SupplyFault, Want};
 use hurd_trans_iface::{Server, Words};
@@ -10,18 +11,8 @@ use std::alloc::Global;
 use std::process::Abort;
 use std::str;
 
-/// More turns than any course has.
+/// More turns than any of these scripts takes.
 const MOST_TURNS: u32 = 1000;
-
-/// A script, and what its session comes to: the parts of its transcript, and a line for each server that it asks for.
-///
-/// Such a line stands before the part of the command that waits: the words, and whether there is such a server; where there is
-/// one, whether it was taken, or dropped by the call that was to take it.
-#[derive(Clone, Copy)]
-pub struct Course {
-    pub script: &'static str,
-    pub told: &'static str,
-}
 
 /// What becomes of a want.
 #[derive(Clone, Copy)]
@@ -35,7 +26,7 @@ enum Answer {
 }
 
 impl Answer {
-    /// What a course says of it, if it does.
+    /// What is said of it behind the words, if something is.
     fn told(&self) -> &'static [u8] {
         match self {
             Answer::Taken => b": taken\n",
@@ -46,7 +37,7 @@ impl Answer {
     }
 }
 
-/// What is left of a course behind a text that it must go on with.
+/// What is left of what a session is to tell behind a text that it must go on with.
 fn behind<'a>(rt: &impl Abort, left: &'a [u8], text: &[u8]) -> &'a [u8] {
     match left.strip_prefix(text) {
         Some(rest) => rest,
@@ -62,7 +53,7 @@ fn behind<'a>(rt: &impl Abort, left: &'a [u8], text: &[u8]) -> &'a [u8] {
     }
 }
 
-/// What is left of a course behind these words, as they are asked for.
+/// What is left of what a session is to tell behind these words, as they are asked for.
 fn behind_words<'a>(rt: &impl Abort, left: &'a [u8], words: &Words) -> &'a [u8] {
     let mut left = behind(rt, left, b"asks for");
     for word in words.as_slice() {
@@ -73,8 +64,7 @@ fn behind_words<'a>(rt: &impl Abort, left: &'a [u8], words: &Words) -> &'a [u8] 
 }
 
 fn begun_once(alloc: Global, script: &str) -> Result<Session, Errno> {
-    let (root, _count) = tree(alloc)?;
-    match Session::new(alloc, script.as_bytes(), root) {
+    match Session::new(alloc, script.as_bytes(), tree(alloc)?) {
         Ok(session) => Ok(session),
         Err(SessionFault::Memory) => Err(Errno::ENOMEM),
         Err(_) => Err(Errno::EINVAL),
@@ -95,19 +85,19 @@ fn supply(
     alloc: Global,
     session: &mut Session,
     server: Box<dyn Server>,
-    count: &Count,
+    counts: &Counts,
 ) -> Answer
     requires { Begins (meaning server) }
 {
     let Err((fault, _server)) = session.supply(alloc, server) else {
-        return if count.is(0) {
+        return if counts.are(0, 0) {
             Answer::Taken
         } else {
             Answer::Dropped
         };
     };
     assert!(rt; fault == SupplyFault::Memory);
-    assert!(rt; count.is(0));
+    assert!(rt; counts.are(0, 0));
     Answer::Forgone
 }
 
@@ -130,13 +120,11 @@ fn answered(
     words: &Words,
     memory: &mut Memory,
 ) -> Result<Answer, Errno> {
-    match kind_of(words) {
-        Some(kind) => {
-            let (server, count) = made_at_last(alloc, kind, words, memory)?;
-            Ok(supply(rt, alloc, session, server, &count))
-        }
-        None => Ok(supply_none(rt, alloc, session)),
+    if !is_text(words) {
+        return Ok(supply_none(rt, alloc, session));
     }
+    let (server, counts) = text_at_last(alloc, memory)?;
+    Ok(supply(rt, alloc, session, server, &counts))
 }
 
 /// No answer is taken, by this fault, and a server comes back.
@@ -146,15 +134,15 @@ pub fn check_takes_none(
     session: &mut Session,
     fault: SupplyFault,
 ) -> Result<(), Errno> {
-    let (server, count) = text(alloc)?;
+    let (server, counts) = text(alloc)?;
     let Err((why, server)) = session.supply(alloc, server) else {
         assert!(rt; false);
         return Ok(());
     };
     assert!(rt; why == fault);
-    assert!(rt; count.is(0));
+    assert!(rt; counts.are(0, 0));
     drop(server);
-    assert!(rt; count.is(1));
+    assert!(rt; counts.are(0, 1));
     assert!(rt; session.supply_none(alloc) == Err(fault));
     Ok(())
 }
@@ -168,7 +156,7 @@ fn check_failed(rt: &impl Abort, alloc: Global, session: &mut Session) -> Result
     Ok(())
 }
 
-/// What is left of a course behind what a session gives; none at its end.
+/// What is left of what a session is to tell behind what a session gives; none at its end.
 fn behind_want<'a>(
     rt: &impl Abort,
     alloc: Global,
@@ -191,7 +179,7 @@ fn behind_want<'a>(
     }
 }
 
-/// What is left of a course after the session's next turn; none at its end, or where memory is refused to the session and may be.
+/// What is left of what a session is to tell after the session's next turn; none at its end, or where memory is refused to the session and may be.
 pub fn turn<'a>(
     rt: &impl Abort,
     alloc: Global,
@@ -209,7 +197,7 @@ pub fn turn<'a>(
     }
 }
 
-/// Goes through what a course tells: the session comes to all of it, or, where memory is refused to it, to a front of it.
+/// Goes through what a session is to tell: it comes to all of it, or, where memory is refused to it, to a front of it.
 fn go_through(
     rt: &impl Abort,
     alloc: Global,
@@ -228,13 +216,14 @@ fn go_through(
     Ok(())
 }
 
-/// Begins a course's script, and goes through what it tells.
+/// Begins a script, and goes through what it is to tell.
 pub fn check(
     rt: &impl Abort,
     alloc: Global,
-    course: Course,
+    script: &str,
+    told: &str,
     memory: &mut Memory,
 ) -> Result<(), Errno> {
-    let mut session = begun(alloc, course.script, memory)?;
-    go_through(rt, alloc, &mut session, course.told.as_bytes(), memory)
+    let mut session = begun(alloc, script, memory)?;
+    go_through(rt, alloc, &mut session, told.as_bytes(), memory)
 }

@@ -1,7 +1,8 @@
 //! Which answers a session doesn't take, what becomes of servers, and why a session isn't begun.
-use crate::boxes::{Count, text};
-use crate::driver::{begun, check_takes_none, turn};
+use crate::boxes::text;
+use crate::driver::{begun, check, check_takes_none, turn};
 use crate::memory::Memory;
+use hurd_counted::Counts;
 use hurd_creds::Errno;
 use hurd_shell::{Session, SupplyFault, Want};
 use std::alloc::{AllocError, Global};
@@ -14,7 +15,8 @@ root cat /h
 root settrans -a /h /hurd/none
 ";
 
-/// What the session of that script comes to.
+/// What its session comes to: the parts of its transcript, and before the part of a command that waits a line with the words that are asked for, and what
+/// becomes of the server.
 const TOLD: &str = "root$ settrans -c /h /hurd/hello
 asks for /hurd/hello: taken
 root$ cat /h
@@ -30,7 +32,14 @@ fn check_wants_none(rt: &impl Abort, alloc: Global, session: &mut Session) -> Re
     check_takes_none(rt, alloc, session, SupplyFault::NotWanted)
 }
 
-/// What is left of a course behind five turns, before each of which no answer is taken.
+/// Where a request for memory is refused, the session says so from then on, and gives back what it is supplied.
+#[test]
+fn refused_memory_is_for_good(rt: HostRuntime) -> Result<(), Errno> {
+    let memory = &mut Memory::refused_once(rt.alloc());
+    check(&rt, rt.alloc(), SCRIPT, TOLD, memory)
+}
+
+/// What is left to tell behind five turns, before each of which no answer is taken.
 fn behind_turns<'a>(
     rt: &impl Abort,
     alloc: Global,
@@ -112,40 +121,40 @@ fn check_gives_part(rt: &impl Abort, alloc: Global, session: &mut Session) {
 }
 
 /// A session that was supplied a counted server for its script's first command, and gave that command's part.
-fn with_server(rt: &impl Abort, alloc: Global, script: &str) -> Result<(Session, Count), Errno> {
+fn with_server(rt: &impl Abort, alloc: Global, script: &str) -> Result<(Session, Counts), Errno> {
     let mut session = begun(alloc, script, &mut Memory::ample())?;
-    let (server, count) = text(alloc)?;
+    let (server, counts) = text(alloc)?;
     let _want = session.next(alloc);
     assert!(rt; session.supply(alloc, server).is_ok());
     check_gives_part(rt, alloc, &mut session);
-    assert!(rt; count.is(0));
-    Ok((session, count))
+    assert!(rt; counts.are(0, 0));
+    Ok((session, counts))
 }
 
 #[test]
-fn a_server_is_dropped_where_it_is_sent_away(rt: HostRuntime) -> Result<(), Fail> {
+fn a_server_is_told_and_dropped_where_it_is_sent_away(rt: HostRuntime) -> Result<(), Fail> {
     let alloc = rt.alloc();
     let script = "root settrans -ac /h /hurd/hello\nroot settrans -g /h\n";
-    let (mut session, count) = with_server(&rt, alloc, script)?;
+    let (mut session, counts) = with_server(&rt, alloc, script)?;
     check_gives_part(&rt, alloc, &mut session);
-    assert!(rt; count.is(1));
+    assert!(rt; counts.are(1, 1));
     Ok(())
 }
 
 #[test]
 fn a_session_drops_its_servers(rt: HostRuntime) -> Result<(), Fail> {
     let alloc = rt.alloc();
-    let (session, count) = with_server(&rt, alloc, "root settrans -ac /h /hurd/hello\n")?;
+    let (session, counts) = with_server(&rt, alloc, "root settrans -ac /h /hurd/hello\n")?;
     drop(session);
-    assert!(rt; count.is(1));
+    assert!(rt; counts.are(0, 1));
     Ok(())
 }
 
 /// Why no session of a script over a text is begun, as it is printed; the text is dropped.
 fn refusal(rt: &impl Abort, alloc: Global, script: &str) -> Result<String, Fail> {
-    let (root, count) = text(alloc)?;
+    let (root, counts) = text(alloc)?;
     let refusal = Session::new(alloc, script.as_bytes(), root).err();
-    assert!(rt; count.is(1));
+    assert!(rt; counts.are(0, 1));
     Ok(format!(in alloc; "{refusal:?}")?)
 }
 

@@ -1,14 +1,11 @@
-//! Tests of sessions whose servers come from the test: courses of scripts and answers, and boxes that count when they are dropped.
+//! Tests of sessions whose servers come from the test: which answers are taken, and what becomes of the servers.
 //!
-//! Each course is gone through twice: with ample memory, and by a test whose name begins with `refused_`, which
-//! `tests/refuse-each` runs with each request for memory refused in turn: there the session may say once that it finds no memory,
-//! and what it told before is a front of the course.
+//! What sessions tell of scripts stands in `tests/scripts`, which `tests/built-program` runs, with each request for memory refused
+//! in turn. Here the test whose name begins with `refused_` is run so by `tests/refuse-each`.
 #![tactic(auto)]
 
 #[cfg(test)]
 mod boxes;
-#[cfg(test)]
-mod courses;
 #[cfg(test)]
 mod driver;
 #[cfg(test)]

@@ -1,13 +1,12 @@
 //! What alice sees, and why.
-use crate::fixture::{Memory, booted, list_of, wants_memory};
+use crate::fixture::{booted, list_of};
 use hurd_creds::{Errno, Name, NodeName, TaskId};
 use hurd_lists::{ListedCall, with_server};
 use hurd_nodes::BOOT_NAME;
 use hurd_sight::{Found, View, Why, seen, view_of};
-use hurd_world::World;
+use hurd_world::{Reply, World};
 use std::alloc::Global;
 use std::process::Abort;
-use std::test::Fail;
 
 const ALICE: TaskId = TaskId(1);
 
@@ -47,6 +46,11 @@ fn made(count: u64) -> NodeName {
         task: TaskId(0),
         count,
     }
+}
+
+/// Whether memory was refused to a call that brings no server.
+fn wants_memory(reply: &Reply) -> bool {
+    matches!(reply, Reply::Refused(Errno::ENOMEM))
 }
 
 /// Makes the calls of a list, none of which brings a server. `ENOMEM`: one of them found no memory.
@@ -165,26 +169,24 @@ fn all_of(answers: &[Result<bool, Errno>]) -> Result<bool, Errno> {
     Ok(true)
 }
 
-fn check_sight(rt: &impl Abort, alloc: Global, mut memory: Memory) -> Result<(), Fail> {
-    let sees = match sees_all(alloc) {
-        Err(Errno::ENOMEM) if memory.may_refuse() => sees_all(alloc)?,
-        sees => sees?,
-    };
-    assert!(rt; sees);
-    let differ = match views_differ(alloc) {
-        Err(Errno::ENOMEM) if memory.may_refuse() => views_differ(alloc)?,
-        differ => differ?,
-    };
-    assert!(rt; differ);
-    Ok(())
+/// alice sees what she should, and her view differs where it should; of the two at most so many find no memory.
+fn check_sight(rt: &impl Abort, alloc: Global, refusals: u32) {
+    let mut refused = 0u32;
+    for answer in [sees_all(alloc), views_differ(alloc)] {
+        match answer {
+            Err(Errno::ENOMEM) => refused = refused.wrapping_add(1),
+            answer => assert!(rt; answer == Ok(true)),
+        }
+    }
+    assert!(rt; refused <= refusals);
 }
 
 #[test]
-fn sight_with_ample_memory(rt: HostRuntime) -> Result<(), Fail> {
-    check_sight(&rt, rt.alloc(), Memory::ample())
+fn sight_with_ample_memory(rt: HostRuntime) {
+    check_sight(&rt, rt.alloc(), 0)
 }
 
 #[test]
-fn refused_memory_in_sight(rt: HostRuntime) -> Result<(), Fail> {
-    check_sight(&rt, rt.alloc(), Memory::refused_once(rt.alloc()))
+fn refused_memory_in_sight(rt: HostRuntime) {
+    check_sight(&rt, rt.alloc(), 1)
 }

@@ -2,7 +2,7 @@ use Rattle.std.proofs.Common.{◌≡◌, ◌++◌, ◌∷◌, [], Bor, List, ℕ
 use Rattle.std.proofs.lemmas.Result.{err_from_is_err_and}
 use Rattle.hurd_words.specs.Reading.{said}
 use Rattle.hurd_lists.specs.Arguments.{bytes_of}
-use Rattle.hurd_lists.proofs.ArgumentLemmas.{not_read, text_refused, text_taken, texts_ended}
+use Rattle.hurd_lists.proofs.ArgumentLemmas.{not_found, text_refused, text_taken, texts_ended}
 use Rattle.hurd_lists.proofs.arguments.texts.Goals as goal
 
 pub loop-word-preserved : goal.loop-word-preserved
@@ -24,5 +24,5 @@ returns-in_err-behind_equals c =
     let i = c.loop-word.word-index in
     let here : c.word-item.result ≡ get_or words i c.word-item.result = search rules in
     let same : c.as_slice.result.now ≡ get_or words i c.word-item.result = c.as_slice.ensures ∙ here in
-    rw (p.1, p.2) (not_read {X = Bor (List ℕ)} (λ b. b.now) (λ (texts : Vec (Bor (List ℕ)) Global). said texts.items) _ _ _ (λ none.
+    rw (p.1, p.2) (not_found {X = Bor (List ℕ)} (λ b. b.now) (λ (texts : Vec (Bor (List ℕ)) Global). said texts.items) _ _ _ (λ none.
     sym c.loop-word.invariant ∙ text_refused c.loop-word.texts.items words i c.word-item.result c.loop-word-test.true (ap bytes_of (sym same) ∙ none)) c.in_err-behind_equals.ensures)

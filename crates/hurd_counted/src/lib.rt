@@ -1,0 +1,205 @@
+//! A server for tests that counts what becomes of it: how often it is told that it is sent away, and how often it is dropped.
+#![tactic(auto)]
+
+ghost use Rattle.std.specs.Prelude.{◌≡◌, IfOk};
+
+use hurd_creds::{Attrs, Bytes, Errno, Mode, NodeName};
+use hurd_trans_iface::{Names, NewNode, Readable, Root, Server, Words};
+use std::alloc::Global;
+use std::cell::Cell;
+use std::rc::Rc;
+
+/// How many servers were told that they are sent away, and how many were dropped.
+#[derive(Drop)]
+pub struct Counts {
+    sent_away: Rc<Cell<u32>>,
+    dropped: Rc<Cell<u32>>,
+}
+
+/// A count that stands at none.
+fn none(alloc: Global) -> Result<Rc<Cell<u32>>, Errno> {
+    match Rc::new(alloc, Cell::new(0u32)) {
+        Ok(count) => Ok(count),
+        Err(_) => Err(Errno::ENOMEM),
+    }
+}
+
+fn add_one(count: &Cell<u32>) {
+    count.set(count.get().wrapping_add(1))
+}
+
+impl Counts {
+    /// None so far. Errors: `ENOMEM`.
+    pub fn new(alloc: Global) -> Result<Counts, Errno> {
+        Ok(Counts {
+            sent_away: none(alloc)?,
+            dropped: none(alloc)?,
+        })
+    }
+
+    /// So many were told, and so many dropped.
+    pub fn are(&self, sent_away: u32, dropped: u32) -> bool {
+        self.sent_away.get() == sent_away && self.dropped.get() == dropped
+    }
+
+    /// A server that counts here what becomes of it, and else is this one. Errors: `ENOMEM`, and the server is dropped.
+    pub fn counting<S: Server>(&self, server: S) -> Result<Counted<S>, Errno>
+        ensures { IfOk result (λ counted. counted.server ≡ server) }
+    {
+        Ok(Counted {
+            sent_away: self.sent_away.clone()?,
+            dropped: self.dropped.clone()?,
+            server,
+        })
+    }
+}
+
+/// A server that counts what becomes of it.
+pub struct Counted<S> {
+    server: S,
+    sent_away: Rc<Cell<u32>>,
+    dropped: Rc<Cell<u32>>,
+}
+
+impl<S: Drop> Drop for Counted<S> {
+    fn drop(self) {
+        let Counted {
+            server: _server,
+            sent_away: _sent_away,
+            dropped,
+        } = self;
+        add_one(&dropped);
+    }
+}
+
+impl<S: Server> Server for Counted<S> {
+    ghost meaning = { λ c. S.meaning c.server };
+
+    fn begin_root(&mut self, root: NodeName, owner: u32, group: u32, mode: Mode) {
+        self.server.begin_root(root, owner, group, mode)
+    }
+
+    fn root(&self) -> Root {
+        self.server.root()
+    }
+
+    fn text(&self) -> &[u8] {
+        self.server.text()
+    }
+
+    fn options(&self, alloc: Global) -> Result<Words, Errno> {
+        self.server.options(alloc)
+    }
+
+    fn set_options(&mut self, alloc: Global, words: &Words) -> Result<(), Errno> {
+        self.server.set_options(alloc, words)
+    }
+
+    fn attrs(&self, node: NodeName) -> Option<Attrs> {
+        self.server.attrs(node)
+    }
+
+    fn step(&self, dir: NodeName, name: &[u8]) -> Option<NodeName> {
+        self.server.step(dir, name)
+    }
+
+    fn names(&self, alloc: Global, dir: NodeName) -> Result<Names, Errno> {
+        self.server.names(alloc, dir)
+    }
+
+    fn read(
+        &mut self,
+        alloc: Global,
+        node: NodeName,
+        at: u64,
+        amount: u64,
+    ) -> Result<Bytes, Errno> {
+        self.server.read(alloc, node, at, amount)
+    }
+
+    fn write(&mut self, node: NodeName, at: u64, bytes: &[u8]) -> Result<u64, Errno> {
+        self.server.write(node, at, bytes)
+    }
+
+    fn set_size(&mut self, node: NodeName, size: u64) -> Result<(), Errno> {
+        self.server.set_size(node, size)
+    }
+
+    fn content(&self, node: NodeName) -> Option<&[u8]> {
+        self.server.content(node)
+    }
+
+    fn readable(&self, node: NodeName, at: u64) -> Option<Readable> {
+        self.server.readable(node, at)
+    }
+
+    fn make(
+        &mut self,
+        alloc: Global,
+        dir: NodeName,
+        name: &[u8],
+        new: NewNode,
+    ) -> Result<(), Errno> {
+        self.server.make(alloc, dir, name, new)
+    }
+
+    fn make_nameless(&mut self, new: NewNode) -> Result<(), Errno> {
+        self.server.make_nameless(new)
+    }
+
+    fn link(
+        &mut self,
+        alloc: Global,
+        dir: NodeName,
+        name: &[u8],
+        node: NodeName,
+    ) -> Result<(), Errno> {
+        self.server.link(alloc, dir, name, node)
+    }
+
+    fn unlink(&mut self, dir: NodeName, name: &[u8]) -> Result<(), Errno> {
+        self.server.unlink(dir, name)
+    }
+
+    fn rename(
+        &mut self,
+        alloc: Global,
+        dir: NodeName,
+        name: &[u8],
+        to: NodeName,
+        new: &[u8],
+    ) -> Result<(), Errno> {
+        self.server.rename(alloc, dir, name, to, new)
+    }
+
+    fn set_attrs(
+        &mut self,
+        node: NodeName,
+        owner: u32,
+        group: u32,
+        mode: Mode,
+    ) -> Result<(), Errno> {
+        self.server.set_attrs(node, owner, group, mode)
+    }
+
+    fn passive(&self, node: NodeName) -> Option<&Words> {
+        self.server.passive(node)
+    }
+
+    fn set_passive(&mut self, node: NodeName, words: Words) -> Result<(), Errno> {
+        self.server.set_passive(node, words)
+    }
+
+    fn forget(&mut self, node: NodeName) {
+        self.server.forget(node)
+    }
+
+    fn nameless(&self) -> Option<&[NodeName]> {
+        self.server.nameless()
+    }
+
+    fn goaway(&mut self) {
+        add_one(&self.sent_away);
+        self.server.goaway()
+    }
+}
