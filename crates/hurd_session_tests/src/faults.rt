@@ -71,14 +71,21 @@ fn check_ended(
 }
 
 /// Before, between and behind the answers that are asked for, none is taken, and nothing changes.
+fn check_takes_no_other(
+    rt: &impl Abort,
+    alloc: Global,
+    session: &mut Session,
+) -> Result<(), Errno> {
+    let left = behind_turns(rt, alloc, session, TOLD.as_bytes())?;
+    check_ended(rt, alloc, session, left)?;
+    check_ended(rt, alloc, session, left)
+}
+
 #[test]
-fn no_other_answer_is_taken(rt: HostRuntime) -> Result<(), Fail> {
+fn no_other_answer_is_taken(rt: HostRuntime) -> Result<(), Errno> {
     let alloc = rt.alloc();
     let mut session = begun(alloc, SCRIPT, &mut Memory::ample())?;
-    let left = behind_turns(&rt, alloc, &mut session, TOLD.as_bytes())?;
-    check_ended(&rt, alloc, &mut session, left)?;
-    check_ended(&rt, alloc, &mut session, left)?;
-    Ok(())
+    check_takes_no_other(&rt, alloc, &mut session)
 }
 
 /// What a session answers next, as it is printed.

@@ -83,15 +83,39 @@ fn seated(rt: &impl Abort, alloc: Global, counts: &Counts) -> Result<World, Errn
     Ok(world)
 }
 
+/// Makes the calls of a transcript, before which nothing became of a box, and behind which so often it was told, and dropped.
+fn check_told(
+    rt: &impl Abort,
+    alloc: Global,
+    world: &mut World,
+    transcript: &str,
+    counts: &Counts,
+    sent_away: u32,
+    dropped: u32,
+) -> Result<(), Errno> {
+    assert!(rt; counts.are(0, 0));
+    check(rt, alloc, world, transcript)?;
+    assert!(rt; counts.are(sent_away, dropped));
+    Ok(())
+}
+
 #[test]
 fn sent_away_it_is_told_and_dropped(rt: HostRuntime) -> Result<(), Fail> {
     let alloc = rt.alloc();
     let counts = Counts::new(alloc)?;
     let mut world = seated(&rt, alloc, &counts)?;
-    assert!(rt; counts.are(0, 0));
-    check(&rt, alloc, &mut world, SENT_AWAY)?;
-    assert!(rt; counts.are(1, 1));
-    Ok(())
+    Ok(check_told(&rt, alloc, &mut world, SENT_AWAY, &counts, 1, 1)?)
+}
+
+/// It stays as long as it has a user.
+fn check_orphan(
+    rt: &impl Abort,
+    alloc: Global,
+    world: &mut World,
+    counts: &Counts,
+) -> Result<(), Errno> {
+    check_told(rt, alloc, world, ORPHANED, counts, 0, 0)?;
+    check_told(rt, alloc, world, LET_GO, counts, 0, 1)
 }
 
 #[test]
@@ -99,23 +123,30 @@ fn an_orphan_is_dropped_with_its_last_port(rt: HostRuntime) -> Result<(), Fail> 
     let alloc = rt.alloc();
     let counts = Counts::new(alloc)?;
     let mut world = seated(&rt, alloc, &counts)?;
-    check(&rt, alloc, &mut world, ORPHANED)?;
-    assert!(rt; counts.are(0, 0));
-    check(&rt, alloc, &mut world, LET_GO)?;
-    assert!(rt; counts.are(0, 1));
+    Ok(check_orphan(&rt, alloc, &mut world, &counts)?)
+}
+
+/// Another box takes its place.
+fn check_replaced(
+    rt: &impl Abort,
+    alloc: Global,
+    world: &mut World,
+    counts: &Counts,
+) -> Result<(), Errno> {
+    let others = Counts::new(alloc)?;
+    let reply = seat(alloc, world, 3, &others)?;
+    assert!(rt; matches!(reply, Reply::Done));
+    assert!(rt; counts.are(1, 1));
+    assert!(rt; others.are(0, 0));
     Ok(())
 }
 
 #[test]
 fn replaced_it_is_told_and_dropped(rt: HostRuntime) -> Result<(), Fail> {
     let alloc = rt.alloc();
-    let (counts, others) = (Counts::new(alloc)?, Counts::new(alloc)?);
+    let counts = Counts::new(alloc)?;
     let mut world = seated(&rt, alloc, &counts)?;
-    let reply = seat(alloc, &mut world, 3, &others)?;
-    assert!(rt; matches!(reply, Reply::Done));
-    assert!(rt; counts.are(1, 1));
-    assert!(rt; others.are(0, 0));
-    Ok(())
+    Ok(check_replaced(&rt, alloc, &mut world, &counts)?)
 }
 
 #[test]
@@ -167,19 +198,29 @@ fn the_boot_box_is_told_nothing(rt: HostRuntime) -> Result<(), Fail> {
     Ok(())
 }
 
+/// Another box is sent away.
+fn check_other(
+    rt: &impl Abort,
+    alloc: Global,
+    world: &mut World,
+    counts: &Counts,
+) -> Result<(), Errno> {
+    let others = Counts::new(alloc)?;
+    check(rt, alloc, world, DIRECTORY)?;
+    let reply = seat(alloc, world, 3, &others)?;
+    assert!(rt; matches!(reply, Reply::Done));
+    check_told(rt, alloc, world, SENT_AWAY, &others, 1, 1)?;
+    assert!(rt; counts.are(0, 0));
+    Ok(())
+}
+
 /// Where another box is sent away, the boot box is told nothing either.
 #[test]
 fn a_box_that_is_sent_away_is_told_alone(rt: HostRuntime) -> Result<(), Fail> {
     let alloc = rt.alloc();
-    let (counts, others) = (Counts::new(alloc)?, Counts::new(alloc)?);
+    let counts = Counts::new(alloc)?;
     let mut world = booted_over(alloc, counting(alloc, &counts)?)?;
-    check(&rt, alloc, &mut world, DIRECTORY)?;
-    let reply = seat(alloc, &mut world, 3, &others)?;
-    assert!(rt; matches!(reply, Reply::Done));
-    check(&rt, alloc, &mut world, SENT_AWAY)?;
-    assert!(rt; others.are(1, 1));
-    assert!(rt; counts.are(0, 0));
-    Ok(())
+    Ok(check_other(&rt, alloc, &mut world, &counts)?)
 }
 
 /// The port that a lookup of `d` gives.
@@ -231,26 +272,43 @@ fn deepen(alloc: Global, world: &mut World, port: u64, counts: &Counts) -> Resul
     Ok(root)
 }
 
-/// A hundred boxes, one behind a node of another, the first without a seat: they go in the one call that gives up the last port on the first.
+/// Puts ninety-nine boxes one behind a node of another, the first behind one of a box at port 3, of which port 5 then is a right to the root.
+fn chained(alloc: Global, world: &mut World, counts: &Counts) -> Result<(), Errno> {
+    let mut port = looked_up(alloc, world, 1, OpenFlags::from_bits_truncate(0))?;
+    world.call(alloc, ROOT, Call::IoDuplicate { port });
+    for _ in 0..99 {
+        port = deepen(alloc, world, port, counts)?;
+    }
+    world.call(alloc, ROOT, Call::PortDeallocate { port });
+    Ok(())
+}
+
+/// The first box loses its seat.
+const UNSEATED: &str = "0 file_set_translator 3 - SET,ORPHAN -
+  Done
+";
+
+/// The last port on the first box goes.
+const UNUSED: &str = "0 port_deallocate 5
+  Done
+";
+
+/// A hundred boxes go in the one call that gives up the last port on the first.
+fn check_chain(
+    rt: &impl Abort,
+    alloc: Global,
+    world: &mut World,
+    counts: &Counts,
+) -> Result<(), Errno> {
+    chained(alloc, world, counts)?;
+    check_told(rt, alloc, world, UNSEATED, counts, 0, 0)?;
+    check_told(rt, alloc, world, UNUSED, counts, 0, 100)
+}
+
 #[test]
 fn a_chain_goes_in_one_call(rt: HostRuntime) -> Result<(), Fail> {
     let alloc = rt.alloc();
     let counts = Counts::new(alloc)?;
     let mut world = seated(&rt, alloc, &counts)?;
-    let mut port = looked_up(alloc, &mut world, 1, OpenFlags::from_bits_truncate(0))?;
-    world.call(alloc, ROOT, Call::IoDuplicate { port });
-    for _ in 0..99 {
-        port = deepen(alloc, &mut world, port, &counts)?;
-    }
-    world.call(alloc, ROOT, Call::PortDeallocate { port });
-    check(
-        &rt,
-        alloc,
-        &mut world,
-        "0 file_set_translator 3 - SET,ORPHAN -\n  Done\n",
-    )?;
-    assert!(rt; counts.are(0, 0));
-    check(&rt, alloc, &mut world, "0 port_deallocate 5\n  Done\n")?;
-    assert!(rt; counts.are(0, 100));
-    Ok(())
+    Ok(check_chain(&rt, alloc, &mut world, &counts)?)
 }
