@@ -169,24 +169,22 @@ fn all_of(answers: &[Result<bool, Errno>]) -> Result<bool, Errno> {
     Ok(true)
 }
 
-/// alice sees what she should, and her view differs where it should; of the two at most so many find no memory.
-fn check_sight(rt: &impl Abort, alloc: Global, refusals: u32) {
-    let mut refused = 0u32;
+/// alice sees what she should, and her view differs where it should; or memory was refused, where it may be.
+fn check_sight(rt: &impl Abort, alloc: Global, may_refuse: bool) {
     for answer in [sees_all(alloc), views_differ(alloc)] {
         match answer {
-            Err(Errno::ENOMEM) => refused = refused.wrapping_add(1),
+            Err(Errno::ENOMEM) if may_refuse => {}
             answer => assert!(rt; answer == Ok(true)),
         }
     }
-    assert!(rt; refused <= refusals);
 }
 
 #[test]
 fn sight_with_ample_memory(rt: HostRuntime) {
-    check_sight(&rt, rt.alloc(), 0)
+    check_sight(&rt, rt.alloc(), false)
 }
 
 #[test]
 fn refused_memory_in_sight(rt: HostRuntime) {
-    check_sight(&rt, rt.alloc(), 1)
+    check_sight(&rt, rt.alloc(), true)
 }
