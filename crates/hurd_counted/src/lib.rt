@@ -1,7 +1,8 @@
 //! A server for tests that counts what becomes of it: how often it is told that it is sent away, and how often it is dropped.
 #![tactic(auto)]
 
-ghost use Rattle.std.specs.Prelude.{◌≡◌, IfOk};
+ghost use Rattle.std.specs.Prelude.{◌≡◌, IfErr, IfOk};
+ghost use Rattle.hurd_creds.specs.declared.errno.Errno.TheVariants.{ENOMEM};
 
 use hurd_creds::{Attrs, Bytes, Errno, Mode, NodeName};
 use hurd_trans_iface::{Names, NewNode, Readable, Root, Server, Words};
@@ -17,7 +18,9 @@ pub struct Counts {
 }
 
 /// A count that stands at none.
-fn none(alloc: Global) -> Result<Rc<Cell<u32>>, Errno> {
+fn none(alloc: Global) -> Result<Rc<Cell<u32>>, Errno>
+    ensures { IfErr result (λ e. e ≡ ENOMEM) }
+{
     match Rc::new(alloc, Cell::new(0u32)) {
         Ok(count) => Ok(count),
         Err(_) => Err(Errno::ENOMEM),
@@ -30,7 +33,9 @@ fn add_one(count: &Cell<u32>) {
 
 impl Counts {
     /// None so far. Errors: `ENOMEM`.
-    pub fn new(alloc: Global) -> Result<Counts, Errno> {
+    pub fn new(alloc: Global) -> Result<Counts, Errno>
+        ensures { IfErr result (λ e. e ≡ ENOMEM) }
+    {
         Ok(Counts {
             sent_away: none(alloc)?,
             dropped: none(alloc)?,
@@ -44,7 +49,8 @@ impl Counts {
 
     /// A server that counts here what becomes of it, and else is this one. Errors: `ENOMEM`, and the server is dropped.
     pub fn counting<S: Server>(&self, server: S) -> Result<Counted<S>, Errno>
-        ensures { IfOk result (λ counted. counted.server ≡ server) }
+        ensures ok { IfOk result (λ counted. counted.server ≡ server) }
+        ensures err { IfErr result (λ e. e ≡ ENOMEM) }
     {
         Ok(Counted {
             sent_away: self.sent_away.clone()?,

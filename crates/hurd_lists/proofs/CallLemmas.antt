@@ -104,18 +104,3 @@ brings_begun words (DirRmdir p name) = tt
 brings_begun words (DirUnlink p name) = tt
 brings_begun words (DirLink p name q) = tt
 brings_begun words (DirRename p name q new) = tt
-
-begun_box : {S : Type 0} (f : S → Meaning) (s : Option S) → IfSome s (λ x. Begins (f x)) → IfSome (option_map f s) Begins
-begun_box f None h = tt
-begun_box f (Some x) h = h
-
-begun_start : {S : Type 0} (f : S → Meaning) (s : Option S) → IfSome s (λ x. Begins (f x)) → BringsBegun (call_by f (started s))
-begun_start f None h = tt
-begun_start f (Some x) h = h
-
--- a call with a server that some words made, or none
-pub with_begun : {S : Type 0} (f : S → Meaning) (s : Option S) (c : call.Call S) → IfSome s (λ x. Begins (f x)) → BringsBegun (call_by f (with_server s c))
-with_begun f s (FileSetTranslator p setting words server) h = begun_box f s h
-with_begun f s (FsysStartup server) h = begun_start f s h
-with_begun f s StartFailed h = begun_start f s h
-with_begun f s _ h = tt

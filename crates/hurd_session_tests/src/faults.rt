@@ -9,10 +9,11 @@ use std::alloc::{AllocError, Global};
 use std::process::Abort;
 use std::test::Fail;
 
-/// A server is started, and one that is asked for isn't there.
+/// A server is started, one that is asked for isn't there, and one is dropped by the call that was to take it.
 const SCRIPT: &str = "root settrans -c /h /hurd/hello
 root cat /h
 root settrans -a /h /hurd/none
+root settrans -a / /hurd/hello
 ";
 
 /// What its session comes to: the parts of its transcript, and before the part of a command that waits a line with the words that are asked for, and what
@@ -24,6 +25,9 @@ Hello, world!
 asks for /hurd/none: none
 root$ settrans -a /h /hurd/none
 ENOENT
+asks for /hurd/hello: dropped
+root$ settrans -a / /hurd/hello
+EOPNOTSUPP
 ";
 
 /// No answer is taken, at two tries.
@@ -39,7 +43,7 @@ fn refused_memory_is_for_good(rt: HostRuntime) -> Result<(), Errno> {
     check(&rt, rt.alloc(), SCRIPT, TOLD, memory)
 }
 
-/// What is left to tell behind five turns, before each of which no answer is taken.
+/// What is left to tell behind seven turns, before each of which no answer is taken.
 fn behind_turns<'a>(
     rt: &impl Abort,
     alloc: Global,
@@ -47,7 +51,7 @@ fn behind_turns<'a>(
     left: &'a [u8],
 ) -> Result<&'a [u8], Errno> {
     let mut left = left;
-    for _ in 0..5 {
+    for _ in 0..7 {
         check_wants_none(rt, alloc, session)?;
         match turn(rt, alloc, session, left, &mut Memory::ample())? {
             Some(rest) => left = rest,
