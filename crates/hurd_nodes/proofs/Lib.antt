@@ -19,3 +19,4 @@ pub mod HideLaws
 pub mod TextLaws
 pub mod SeatedLaws
 pub mod LookLaws
+pub mod NeedLaws

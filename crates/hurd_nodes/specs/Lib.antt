@@ -5,3 +5,4 @@ pub mod Settle
 pub mod Parts
 pub mod Lends
 pub mod Look
+pub mod Needs

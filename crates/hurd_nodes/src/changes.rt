@@ -4,6 +4,7 @@ ghost use Rattle.std.specs.FinMap as fin;
 ghost use Rattle.hurd_creds.specs.Memory.{Steps};
 ghost use Rattle.hurd_trans_iface.specs.Behaviour.{reading, writing, resizing};
 ghost use Rattle.hurd_nodes.specs.Shown.{shown, asked_step, make_at, link_at, set_attrs_at, set_passive_at, set_options_at, HideNothing, unlink_at, rename_at, make_nameless_at};
+ghost use Rattle.hurd_nodes.specs.Needs.{FreeRead, FreeSize, FreeWrite};
 ghost use Rattle.hurd_nodes.specs.Held.{holds_of};
 
 use crate::asking::{can_make_in, can_make_nameless_in};
@@ -14,7 +15,7 @@ use hurd_trans_iface::{NewNode, Server, Words};
 use std::alloc::Global;
 
 impl<S: Server> Nodes<S> {
-    /// At most `amount` bytes of a node from `at` on.
+    /// At most `amount` bytes of a node from `at` on; where there are none, no memory is taken.
     ///
     /// Errors, in order: `EDIED` no such node, the server's own refusals, `ENOMEM`.
     pub fn read(
@@ -26,6 +27,8 @@ impl<S: Server> Nodes<S> {
     ) -> Result<Bytes, Errno>
         ensures shown { let h = shown S.meaning self.old in
             Steps h (asked_step (reading at amount) node h) result (shown S.meaning self.new) }
+        ensures free { let h = shown S.meaning self.old in
+            FreeRead at amount node h → result ≡ (asked_step (reading at amount) node h).0 }
         ensures holds { holds_of self.new ≡ holds_of self.old }
         ensures hidden { HideNothing S.meaning self.old → HideNothing S.meaning self.new }
     {
@@ -35,12 +38,14 @@ impl<S: Server> Nodes<S> {
         }
     }
 
-    /// Puts bytes into a node at `at`, and answers how many.
+    /// Puts bytes into a node at `at`, and answers how many. Takes no memory where there is no data, where the bytes that are written over are there, and in a stream.
     ///
     /// Errors, in order: `EDIED` no such node, the server's own refusals, `ENOMEM`.
     pub fn write(&mut self, node: NodeName, at: u64, bytes: &[u8]) -> Result<u64, Errno>
         ensures shown { let h = shown S.meaning self.old in
             Steps h (asked_step (writing at bytes.now) node h) result (shown S.meaning self.new) }
+        ensures free { let h = shown S.meaning self.old in
+            FreeWrite at bytes.now node h → result ≡ (asked_step (writing at bytes.now) node h).0 }
         ensures holds { holds_of self.new ≡ holds_of self.old }
         ensures hidden { HideNothing S.meaning self.old → HideNothing S.meaning self.new }
     {
@@ -50,12 +55,14 @@ impl<S: Server> Nodes<S> {
         }
     }
 
-    /// Cuts a node's bytes, or grows them by zero bytes.
+    /// Cuts a node's bytes, or grows them by zero bytes. A cut takes no memory, nor does a stream.
     ///
     /// Errors, in order: `EDIED` no such node, the server's own refusals, `ENOMEM`.
     pub fn set_size(&mut self, node: NodeName, size: u64) -> Result<(), Errno>
         ensures shown { let h = shown S.meaning self.old in
             Steps h (asked_step (resizing size) node h) result (shown S.meaning self.new) }
+        ensures free { let h = shown S.meaning self.old in
+            FreeSize size node h → result ≡ (asked_step (resizing size) node h).0 }
         ensures holds { holds_of self.new ≡ holds_of self.old }
         ensures hidden { HideNothing S.meaning self.old → HideNothing S.meaning self.new }
     {
