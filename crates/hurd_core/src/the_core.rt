@@ -5,12 +5,13 @@ ghost use Rattle.std.specs.FinMap as fin;
 ghost use Rattle.hurd_creds.specs.Memory.{Meets};
 ghost use Rattle.hurd_trans_iface.specs.Nodes.{attrs_of, linked, passive_of, with_attrs, with_entry, with_passive};
 ghost use Rattle.hurd_trans_iface.specs.Answers.{entry_of, names_of};
-ghost use Rattle.hurd_trans_iface.specs.Behaviour.{edits_of, reading, writing, resizing};
+ghost use Rattle.hurd_trans_iface.specs.Behaviour.{edits_of, reading, told_of, writing, resizing};
 ghost use Rattle.hurd_trans_iface.specs.Meaning.{Begins, root_of};
 ghost use Rattle.hurd_nodes.specs.Shown.{ServerInfo, are_kin, options_in, shown, header_in, tree_by};
+ghost use Rattle.hurd_nodes.specs.Needs.{FreeRead, FreeSize, FreeWrite};
 ghost use Rattle.hurd_ports.specs.Tables.{ids_at, io_right_of, lent, naming_of, pending_of, right_of, room_of, task_of};
 ghost use Rattle.hurd_ports.specs.Steps.{appending, at_cursor, received, with_ids, with_port};
-ghost use Rattle.hurd_machine.specs.World.{world_from, ports_of, active_at, asked_at, body_at, header_at, home_at, info_at, is_removed, is_server_root, links_at, makes_at, node_at, readable_at, renames_at, server_at, sets_attrs_at, stream_at, task_at, unlinks_at, words_at};
+ghost use Rattle.hurd_machine.specs.World.{world_from, nodes_of, ports_of, active_at, asked_at, body_at, header_at, home_at, info_at, is_removed, is_server_root, links_at, makes_at, node_at, readable_at, renames_at, server_at, sets_attrs_at, stream_at, task_at, unlinks_at, words_at};
 ghost use Rattle.hurd_machine.specs.Sight.{users};
 ghost use Rattle.hurd_machine.specs.Change.{DropServer, EditBody, EditHeader, EditOpen, EditTask, Send, Settle, Unseat, apply, apply_all, changes_of, dropping, opening, pending};
 ghost use Rattle.hurd_machine.specs.Plan.{Follows, Planned, answered, told};
@@ -589,7 +590,7 @@ impl<S: Server> Core<S> {
         self.ports.move_cursor(open_name, cursor)
     }
 
-    /// At most `amount` bytes of a node from `at` on, as its server gives them.
+    /// At most `amount` bytes of a node from `at` on, as its server gives them; where there are none, no memory is taken.
     pub fn read(
         &mut self,
         alloc: Global,
@@ -597,27 +598,34 @@ impl<S: Server> Core<S> {
         at: u64,
         amount: u64,
     ) -> Result<Bytes, Errno>
-        ensures { let w = world_of S.meaning self.old in
+        ensures does { let w = world_of S.meaning self.old in
             Does w (asked_at (reading at amount) node w) (λ d. changes_of (edits_of node (Ok d))) (λ d. d.told) result
             (world_of S.meaning self.new) }
+        ensures free { let w = world_of S.meaning self.old in
+            FreeRead at amount node (nodes_of w) → result ≡ told_of (asked_at (reading at amount) node w) }
     {
         self.nodes.read(alloc, node, at, amount)
     }
 
-    /// Puts bytes into a node at `at`, and answers how many its server took.
+    /// Puts bytes into a node at `at`, and answers how many its server took. Takes no memory where there is no data, where the bytes that are written over are there, and in
+    /// a stream.
     pub fn write(&mut self, node: NodeName, at: u64, bytes: &[u8]) -> Result<u64, Errno>
-        ensures { let w = world_of S.meaning self.old in
+        ensures does { let w = world_of S.meaning self.old in
             Does w (asked_at (writing at bytes.now) node w) (λ d. changes_of (edits_of node (Ok d))) (λ d. d.told) result
             (world_of S.meaning self.new) }
+        ensures free { let w = world_of S.meaning self.old in
+            FreeWrite at bytes.now node (nodes_of w) → result ≡ told_of (asked_at (writing at bytes.now) node w) }
     {
         self.nodes.write(node, at, bytes)
     }
 
-    /// Cuts a node to a size, or grows it, as its server does.
+    /// Cuts a node to a size, or grows it, as its server does. A cut takes no memory, nor does a stream.
     pub fn set_size(&mut self, node: NodeName, size: u64) -> Result<(), Errno>
-        ensures { let w = world_of S.meaning self.old in
+        ensures does { let w = world_of S.meaning self.old in
             Does w (asked_at (resizing size) node w) (λ d. changes_of (edits_of node (Ok d))) (λ d. d.told) result
             (world_of S.meaning self.new) }
+        ensures free { let w = world_of S.meaning self.old in
+            FreeSize size node (nodes_of w) → result ≡ told_of (asked_at (resizing size) node w) }
     {
         self.nodes.set_size(node, size)
     }
