@@ -14,3 +14,4 @@ pub mod RenameLaws
 pub mod OptionLaws
 pub mod ServerLaws
 pub mod NamedLaws
+pub mod NeedLaws

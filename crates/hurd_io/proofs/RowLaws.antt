@@ -1,21 +1,28 @@
 -- Reads and writes do as their plans say.
 use Rattle.std.proofs.Common.{◌≡◌, ◌∙◌, ℕ, List, sym, ap, subst}
-use Rattle.std.specs.Prelude.{Result, Ok, Err, false}
+use Rattle.std.specs.Prelude.{Result, Ok, Err, IfOk, false}
+use Rattle.hurd_creds.specs.declared.name.Name.{Name}
 use Rattle.hurd_creds.specs.declared.errno.Errno.{Errno}
-use Rattle.hurd_trans_iface.specs.Behaviour.{Did, Question, edits_of}
+use Rattle.hurd_trans_iface.specs.Behaviour.{Did, Question, edits_of, told_of}
+use Rattle.hurd_nodes.specs.Shown.{NodeState}
 use Rattle.hurd_machine.specs.Calls.{Reply}
-use Rattle.hurd_machine.specs.World.{World, asked_at}
+use Rattle.hurd_machine.specs.declared.call.Reply.TheVariants.{Refused}
+use Rattle.hurd_machine.specs.World.{World, asked_at, nodes_of}
 use Rattle.hurd_machine.specs.Change.{Change, apply_all, changes_of}
-use Rattle.hurd_machine.specs.Plan.{Planned, is_refused}
+use Rattle.hurd_machine.specs.Plan.{Follows, Planned, is_refused}
 use Rattle.hurd_machine.proofs.Keeping.{apply_all-append}
 use Rattle.hurd_core.specs.Core.{Does}
-use Rattle.hurd_core.proofs.PlanLaws.{asked-refused, asked-done, asked-short, planned-then}
-use Rattle.hurd_io.specs.Io.{IoAt, past, moved, io_changes, plan_io}
+use Rattle.hurd_core.proofs.PlanLaws.{asked-refused, asked-done, asked-short, follows-refused, follows-then, planned-then}
+use Rattle.hurd_core.proofs.NeedLaws.{told-follows}
+use Rattle.hurd_io.specs.Io.{IoAt, past, moved, free_io, io_changes, plan_io}
 
 module _ {T : Type 0} (w : World) (asks : Result IoAt Errno) (q : ℕ → Question T) (reply : T → Reply) (count : T → ℕ) (answers : (x : T) → is_refused (reply x) ≡ false) where
   -- what is asked is refused
   pub io-refused : (e : Errno) → asks ≡ Err e → Planned w (plan_io w asks q reply count) reply (Err e) w
   io-refused e is = asked-refused w asks _ reply e is
+
+  pub io-refused-free : (e : Errno) → asks ≡ Err e → Follows w (plan_io w asks q reply count) (Refused e) w
+  io-refused-free e is = follows-refused w asks _ e is
 
   module _ (a : IoAt) (is : asks ≡ Ok a) where
     abbrev did : Did T → List Change
@@ -34,3 +41,10 @@ module _ {T : Type 0} (w : World) (asks : Result IoAt Errno) (q : ℕ → Questi
         moves ∙ ap (λ (k : ℕ). apply_all (moved a.offset a.is_stream a.open_name (past a.at k)) y) (ap count d.2) ∙ ap (apply_all (moved a.offset a.is_stream a.open_name (past a.at (count d.0.told)))) d.3
         ∙ sym (apply_all-append (did d.0) (moved a.offset a.is_stream a.open_name (past a.at (count d.0.told))) w) in
         planned-then w asks _ reply a (Ok x) z is (asked-done w (asked_at (q a.at) a.node w) _ reply d.0 x z d.1 (ap reply d.2) left)
+
+    -- the server refuses, where it needs no memory
+    pub io-short-free : (free : ℕ → Name → NodeState → Type 0) (e : Errno) (y : World) → Does w (asked_at (q a.at) a.node w) did (λ (d : Did T). d.told) (Err e) y
+        → (free a.at a.node (nodes_of w) → Err e ≡ told_of (asked_at (q a.at) a.node w)) → free_io w asks free → Follows w (plan_io w asks q reply count) (Refused e) y
+    io-short-free free e y d sure needs =
+        let here : free a.at a.node (nodes_of w) = subst (λ (r : Result IoAt Errno). IfOk r (λ (b : IoAt). free b.at b.node (nodes_of w))) is needs in
+        follows-then w asks _ a (Refused e) y is (told-follows w (asked_at (q a.at) a.node w) _ did e y d (sure here))

@@ -1,5 +1,5 @@
 -- Reading, writing, and what is told of a node.
-use Rattle.std.specs.Prelude.{◌≡◌, ◌⊎◌, Bool, true, false, ℕ, ℤ, pos, negsuc, zero, suc, ◌+◌, not, is_some, if◌then◌else◌, min, List, [], ◌∷◌, ◌++◌, length, Result, Ok, Err}
+use Rattle.std.specs.Prelude.{◌≡◌, ◌⊎◌, Bool, true, false, ℕ, ℤ, pos, negsuc, zero, suc, ◌+◌, not, is_some, if◌then◌else◌, min, List, [], ◌∷◌, ◌++◌, length, Result, Ok, Err, IfOk}
 use Rattle.hurd_creds.specs.declared.name.Name.{Name}
 use Rattle.hurd_creds.specs.declared.errno.Errno.{Errno}
 use Rattle.hurd_creds.specs.declared.errno.Errno.TheVariants.{EINVAL, EISDIR}
@@ -8,6 +8,8 @@ use Rattle.hurd_creds.specs.Stats.{stat_of}
 use Rattle.hurd_creds.specs.declared.attrs.Stat.{Stat}
 use Rattle.hurd_trans_iface.specs.Nodes.{is_dir}
 use Rattle.hurd_trans_iface.specs.Behaviour.{Did, Question, edits_of, reading, writing}
+use Rattle.hurd_nodes.specs.Shown.{NodeState}
+use Rattle.hurd_nodes.specs.Needs.{FreeRead, FreeWrite}
 use Rattle.hurd_ports.specs.Steps.{at_cursor}
 use Rattle.hurd_machine.specs.declared.handle.Handle.{Handle}
 use Rattle.hurd_machine.specs.Calls.{Reply}
@@ -16,7 +18,7 @@ use Rattle.hurd_machine.specs.declared.call.Reply.TheVariants as reply
 pub use Rattle.hurd_io.specs.declared.offset.Offset.{Offset}
 use Rattle.hurd_io.specs.declared.offset.Offset.TheVariants.{Place, Cursor}
 pub use Rattle.hurd_io.specs.declared.offset.IoAt.{IoAt}
-use Rattle.hurd_machine.specs.World.{World, active_at, asked_at, stream_at}
+use Rattle.hurd_machine.specs.World.{World, active_at, asked_at, nodes_of, stream_at}
 use Rattle.hurd_machine.specs.Change.{Change, EditOpen, changes_of}
 use Rattle.hurd_machine.specs.Plan.{Plan, given, first, answered, looks}
 use Rattle.hurd_machine.specs.Handle.{Named, port_asks, handle_asks}
@@ -70,6 +72,10 @@ plan_io w asks q reply count =
 abbrev pub touches_io : {T : Type 0} → World → Result IoAt Errno → (ℕ → Question T) → Part → Type 0
 touches_io w asks q = asked_parts asks (λ a. asked_parts (asked_at (q a.at) a.node w) (λ d p. OnDid a.node d p ⊎ Moves a.offset a.is_stream a.open_name p))
 
+-- a read or a write that needs no memory: it is refused before the server is asked, or needs none there, at the place that is asked for
+abbrev pub free_io : World → Result IoAt Errno → (ℕ → Name → NodeState → Type 0) → Type 0
+free_io w asks free = IfOk asks (λ a. free a.at a.node (nodes_of w))
+
 -- the most bytes of one read
 abbrev pub most_read : ℕ
 most_read = 65536
@@ -94,6 +100,10 @@ plan_read w t p amount offset = plan_io w (read_asks w t p offset) (reads amount
 abbrev pub touches_read : World → ℕ → ℕ → ℕ → ℤ → Part → Type 0
 touches_read w t p amount offset = touches_io w (read_asks w t p offset) (reads amount)
 
+-- a read that needs no memory, as it gives nothing
+abbrev pub free_read : World → ℕ → ℕ → ℕ → ℤ → Type 0
+free_read w t p amount offset = free_io w (read_asks w t p offset) (λ at. FreeRead at (min amount most_read))
+
 -- the cursor that a write begins at: with APPEND it is first set to the size
 abbrev pub write_cursor : Handle → ℕ
 write_cursor a = if asks a.opened.modes APPEND then a.size else a.opened.cursor
@@ -108,6 +118,10 @@ plan_write w t p bytes offset = plan_io w (write_asks w t p offset) (writes byte
 
 abbrev pub touches_write : World → ℕ → ℕ → List ℕ → ℤ → Part → Type 0
 touches_write w t p bytes offset = touches_io w (write_asks w t p offset) (writes bytes)
+
+-- a write that needs no memory: of no data, over bytes that are there, or to a stream
+abbrev pub free_write : World → ℕ → ℕ → List ℕ → ℤ → Type 0
+free_write w t p bytes offset = free_io w (write_asks w t p offset) (λ at. FreeWrite at bytes)
 
 -- what is told of a port's node: its attributes, and whether a server is active on it
 abbrev pub stat_at : World → Named → Stat

@@ -3,7 +3,7 @@ ghost use Rattle.std.specs.Prelude.{◌≡◌};
 ghost use Rattle.hurd_machine.specs.Plan.{Planned, Follows, told};
 ghost use Rattle.hurd_machine.specs.declared.call.Reply.TheVariants as reply;
 ghost use Rattle.hurd_core.specs.Core.{world_of};
-ghost use Rattle.hurd_io.specs.Io.{read_asks, plan_read, write_cursor, write_asks, plan_write, plan_stat};
+ghost use Rattle.hurd_io.specs.Io.{free_read, free_write, read_asks, plan_read, write_cursor, write_asks, plan_write, plan_stat};
 
 use crate::offset::{IoAt, Offset};
 use hurd_core::Core;
@@ -38,7 +38,7 @@ fn read_asked<S: Server>(
 
 /// Reads at most `amount` bytes, and no more than 65,536, from what a port has open: from `offset` on, or from the
 /// cursor, which moves past them, where that is -1. A stream has no places: its bytes are those that its server gives, and the
-/// cursor stays (`io.defs`).
+/// cursor stays (`io.defs`). Takes no memory where there are none.
 ///
 /// Errors, in order: `ESRCH` no such task, `EBADF` no such port, or not opened to read, `EDIED` no such node, `EISDIR`,
 /// `EINVAL` an offset below -1, `ENOMEM`.
@@ -50,8 +50,10 @@ pub fn io_read<S: Server>(
     amount: u64,
     offset: i64,
 ) -> Result<Bytes, Errno>
-    ensures { let w = world_of S.meaning core.old in
+    ensures planned { let w = world_of S.meaning core.old in
         Planned w (plan_read w task.0 port amount offset) reply.Data result (world_of S.meaning core.new) }
+    ensures free { let w = world_of S.meaning core.old in
+        free_read w task.0 port amount offset → Follows w (plan_read w task.0 port amount offset) (told reply.Data result) (world_of S.meaning core.new) }
 {
     let from = read_asked(core, task, port, offset)?;
     let bytes = core.read(alloc, from.node, from.at, amount.min(MOST_READ))?;
@@ -90,7 +92,8 @@ fn write_asked<S: Server>(
 
 /// Writes bytes to what a port has open, and answers how many: at `offset`, or at the cursor, which moves past them,
 /// where that is -1. With `APPEND` the cursor is first set to the size. A gap becomes zero bytes; no data grows nothing.
-/// On a stream the cursor stays (`io.defs`).
+/// On a stream the cursor stays (`io.defs`). Takes no memory where there is no data, where the bytes that are written over are
+/// there, and on a stream.
 ///
 /// Errors, in order: `ESRCH` no such task, `EBADF` no such port, or not opened to write, `EDIED` no such node, `EINVAL` an
 /// offset below -1, `EFBIG` an end past 16,777,216, `ENOMEM`.
@@ -101,8 +104,10 @@ pub fn io_write<S: Server>(
     bytes: &[u8],
     offset: i64,
 ) -> Result<u64, Errno>
-    ensures { let w = world_of S.meaning core.old in
+    ensures planned { let w = world_of S.meaning core.old in
         Planned w (plan_write w task.0 port bytes.now offset) reply.Count result (world_of S.meaning core.new) }
+    ensures free { let w = world_of S.meaning core.old in
+        free_write w task.0 port bytes.now offset → Follows w (plan_write w task.0 port bytes.now offset) (told reply.Count result) (world_of S.meaning core.new) }
 {
     let to = write_asked(core, task, port, offset)?;
     let count = core.write(to.node, to.at, bytes)?;
