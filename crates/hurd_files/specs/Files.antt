@@ -1,5 +1,5 @@
 -- Files and directories.
-use Rattle.std.specs.Prelude.{ℕ, List, ◌∷◌, codes, Result, Ok}
+use Rattle.std.specs.Prelude.{ℕ, List, ◌∷◌, codes, Result, Ok, IfOk}
 use Rattle.hurd_creds.specs.declared.name.Name.{Name}
 use Rattle.hurd_creds.specs.declared.errno.Errno.{Errno}
 use Rattle.hurd_creds.specs.declared.errno.Errno.TheVariants.{ENOTDIR}
@@ -7,8 +7,9 @@ use Rattle.hurd_creds.specs.Bits.{READ, WRITE}
 use Rattle.hurd_trans_iface.specs.Nodes.{is_dir}
 use Rattle.hurd_trans_iface.specs.Answers.{names_of}
 use Rattle.hurd_trans_iface.specs.Behaviour.{edits_of, resizing}
+use Rattle.hurd_nodes.specs.Needs.{FreeSize}
 use Rattle.hurd_machine.specs.declared.call.Reply.TheVariants.{Done, Names}
-use Rattle.hurd_machine.specs.World.{World, asked_at, body_at}
+use Rattle.hurd_machine.specs.World.{World, asked_at, body_at, nodes_of}
 use Rattle.hurd_machine.specs.Change.{changes_of}
 use Rattle.hurd_machine.specs.Plan.{Plan, given, first, answered, looks}
 use Rattle.hurd_machine.specs.Handle.{handle_asks}
@@ -26,6 +27,10 @@ plan_set_size w t p size =
 
 abbrev pub touches_set_size : World → ℕ → ℕ → ℕ → Part → Type 0
 touches_set_size w t p size = asked_parts (set_size_asks w t p) (λ n. asked_parts (asked_at (resizing size) n w) (λ d. OnDid n d))
+
+-- a size that needs no memory: it is refused before the server is asked, or is a cut, or of a stream
+abbrev pub free_set_size : World → ℕ → ℕ → ℕ → Type 0
+free_set_size w t p size = IfOk (set_size_asks w t p) (λ n. FreeSize size n (nodes_of w))
 
 -- all that reading a directory asks, with its refusals in order
 abbrev pub readdir_asks : World → ℕ → ℕ → Result (List (List ℕ)) Errno

@@ -1,10 +1,10 @@
 //! Sizes of files, and names in directories.
 ghost use Rattle.std.specs.Prelude.{◌≡◌, ◌∷◌, codes, IfOk};
 ghost use Rattle.hurd_creds.specs.Memory.{Meets};
-ghost use Rattle.hurd_machine.specs.Plan.{Planned};
+ghost use Rattle.hurd_machine.specs.Plan.{Follows, Planned, told};
 ghost use Rattle.hurd_machine.specs.declared.call.Reply.TheVariants as reply;
 ghost use Rattle.hurd_core.specs.Core.{world_of};
-ghost use Rattle.hurd_files.specs.Files.{set_size_asks, plan_set_size, readdir_asks, plan_readdir};
+ghost use Rattle.hurd_files.specs.Files.{free_set_size, set_size_asks, plan_set_size, readdir_asks, plan_readdir};
 
 use hurd_core::Core;
 use hurd_creds::{Bytes, Errno, Kind, NodeName, OpenFlags, TaskId};
@@ -21,7 +21,8 @@ fn set_size_asked<S: Server>(core: &Core<S>, task: TaskId, port: u64) -> Result<
     Ok(core.handle(task, port, OpenFlags::WRITE)?.node)
 }
 
-/// Cuts the file that a port has open to this many bytes, or grows it by zero bytes (`fs.defs`).
+/// Cuts the file that a port has open to this many bytes, or grows it by zero bytes (`fs.defs`). A cut takes no memory, nor does a
+/// stream.
 ///
 /// Errors, in order: `ESRCH` no such task, `EBADF` no such port, or not opened to write, `EDIED` no such node, `EFBIG` a
 /// size past 16,777,216, `ENOMEM`.
@@ -31,8 +32,10 @@ pub fn file_set_size<S: Server>(
     port: u64,
     size: u64,
 ) -> Result<(), Errno>
-    ensures { let w = world_of S.meaning core.old in
+    ensures planned { let w = world_of S.meaning core.old in
         Planned w (plan_set_size w task.0 port size) (λ u. reply.Done) result (world_of S.meaning core.new) }
+    ensures free { let w = world_of S.meaning core.old in
+        free_set_size w task.0 port size → Follows w (plan_set_size w task.0 port size) (told (λ u. reply.Done) result) (world_of S.meaning core.new) }
 {
     let node = set_size_asked(core, task, port)?;
     core.set_size(node, size)
