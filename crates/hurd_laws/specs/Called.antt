@@ -5,12 +5,13 @@ pub use Rattle.hurd_machine.specs.Calls.{lacks_memory}
 use Rattle.hurd_machine.specs.Calls.{Call, Reply, box_in, refusal}
 use Rattle.hurd_machine.specs.World.{World}
 use Rattle.hurd_machine.specs.Plan.{is_refused}
-use Rattle.hurd_laws.specs.Step.{reply_of, takes_memory, step}
+use Rattle.hurd_laws.specs.Step.{NeedsNone, reply_of, takes_memory, step}
 
--- want of memory: of a call that takes some and that the machine doesn't refuse; nothing is changed, and a box comes back
+-- want of memory: of a call that takes some, and needs some as the world stands, and that the machine doesn't refuse; nothing is changed, and a box comes back
 pub record Lacks (w : World) (t : ℕ) (c : Call) (reply : Reply) (x : World) : Type 0 where
   pub told : reply ≡ refusal (box_in c) ENOMEM
   pub takes : takes_memory c ≡ true
+  pub needs : NeedsNone w t c → ⊥
   pub wanted : is_refused (reply_of w t c) ≡ false
   pub same : x ≡ w
 

@@ -12,10 +12,10 @@ use Rattle.hurd_lookup.specs.Getroot.{plan_getroot, touches_getroot}
 use Rattle.hurd_fsys.specs.Fsys.{plan_cntl, touches_cntl, plan_getcontrol, touches_getcontrol, plan_goaway, touches_goaway, plan_get_options, touches_get_options, plan_set_options, touches_set_options}
 use Rattle.hurd_fsys.specs.Setting.{plan_set_translator, touches_set_translator, plan_get_translator, touches_get_translator}
 use Rattle.hurd_fsys.specs.Starting.{plan_startup, touches_startup, plan_start_failed, touches_start_failed}
-use Rattle.hurd_io.specs.Io.{plan_read, touches_read, plan_write, touches_write, plan_stat, touches_stat}
+use Rattle.hurd_io.specs.Io.{free_read, free_write, plan_read, touches_read, plan_write, touches_write, plan_stat, touches_stat}
 use Rattle.hurd_io.specs.Opens.{plan_seek, touches_seek, plan_readable, touches_readable, plan_get_openmodes, touches_get_openmodes, plan_set_openmodes, touches_set_openmodes}
 use Rattle.hurd_io.specs.Sharing.{plan_duplicate, plan_reauthenticate, plan_restrict_auth, touches_share, plan_identity, touches_identity}
-use Rattle.hurd_files.specs.Files.{plan_set_size, touches_set_size, plan_readdir, touches_readdir}
+use Rattle.hurd_files.specs.Files.{free_set_size, plan_set_size, touches_set_size, plan_readdir, touches_readdir}
 use Rattle.hurd_files.specs.Access.{plan_chmod, touches_chmod, plan_chown, touches_chown, plan_check_access, touches_check_access}
 use Rattle.hurd_dirs.specs.Make.{plan_mkdir, touches_mkdir}
 use Rattle.hurd_dirs.specs.File.{plan_mkfile, touches_mkfile}
@@ -127,6 +127,13 @@ takes_memory (FsysSetOptions c words) = has_words words
 takes_memory (DirRmdir p name) = false
 takes_memory (DirUnlink p name) = false
 takes_memory _ = true
+
+-- where a call that takes memory needs none, as the world stands: a read that gives nothing; a write of no data, over bytes that are there, or to a stream; a cut, and any size of a stream
+abbrev pub NeedsNone : World → ℕ → Call → Type 0
+NeedsNone w t (IoRead p amount offset) = free_read w t p amount offset
+NeedsNone w t (IoWrite p bytes offset) = free_write w t p bytes offset
+NeedsNone w t (FileSetSize p size) = free_set_size w t p size
+NeedsNone w t _ = ⊥
 
 abbrev pub reply_of : World → ℕ → Call → Reply
 reply_of w t c = (plan w t c).reply

@@ -1,7 +1,7 @@
 -- What a row answers is what its call owes.
 use Rattle.std.specs.Prelude.{IfErr, IfSome, IsNone}
 use Rattle.std.specs.Option.{option_map}
-use Rattle.std.proofs.Common.{◌≡◌, inl, inr, ℕ, true, false, List, [], ◌∷◌, Result, Ok, Err, Option, Some, None, refl, ap, sym, ◌∙◌}
+use Rattle.std.proofs.Common.{◌≡◌, inl, inr, ℕ, true, false, true≢false, List, [], ◌∷◌, Result, Ok, Err, Option, Some, None, refl, ap, sym, ◌∙◌}
 use Rattle.hurd_creds.specs.declared.errno.Errno.{Errno}
 use Rattle.hurd_creds.specs.declared.errno.Errno.TheVariants.{ENOMEM}
 use Rattle.hurd_trans_iface.specs.Meaning.{Meaning, Begins}
@@ -18,7 +18,7 @@ use Rattle.hurd_fsys.specs.Fsys.{plan_set_options}
 use Rattle.hurd_fsys.specs.Setting.{plan_set_translator}
 use Rattle.hurd_fsys.specs.Starting.{plan_startup}
 use Rattle.hurd_laws.specs.Called.{Called}
-use Rattle.hurd_laws.specs.Step.{after, plan, reply_of, takes_memory}
+use Rattle.hurd_laws.specs.Step.{NeedsNone, after, plan, reply_of, takes_memory}
 use Rattle.hurd_world.specs.Held.{ComesBack, set_told, start_told, told_of}
 
 -- a call that made its step
@@ -40,22 +40,29 @@ module _ {S : Type 0} (f : S → Meaning) (v w : World) (t : ℕ) (call : code.C
   follows_row c k (Ok a) got x plain is same left so p = owed c (k a) x is (same ∙ so) left (stepped w x t (call_by f c) (reply_by f (k a)) p.0 p.1) (plain a)
   follows_row c k (Err e) got x plain is same left so p = owed c (Refused e) x is (same ∙ so) left (stepped w x t (call_by f c) (Refused e) p.0 p.1) tt
 
-  -- the call may find none
+  -- the call may find none, unless it needs none
   pub planned_row : {T : Type 0} (c : code.Call S) (k : T → code_reply.Reply S) (r : Result T Errno) (got : code_reply.Reply S) (x : World) → ((a : T) → ComesBack c (k a)) → takes_memory (call_by f c) ≡ true
-      → box_in (call_by f c) ≡ None → call ≡ c → reply ≡ got → y ≡ x → got ≡ told_of k r → Planned w (plan w t (call_by f c)) (λ a. reply_by f (k a)) r x → Owes
-  planned_row c k (Ok a) got x plain takes none is same left so p = owed c (k a) x is (same ∙ so) left (stepped w x t (call_by f c) (reply_by f (k a)) p.0 p.1) (plain a)
-  planned_row c k (Err e) got x plain takes none is same left so (back, inl bars) =
+      → box_in (call_by f c) ≡ None → call ≡ c → reply ≡ got → y ≡ x → got ≡ told_of k r → Planned w (plan w t (call_by f c)) (λ a. reply_by f (k a)) r x
+      → (NeedsNone w t (call_by f c) → Follows w (plan w t (call_by f c)) (told (λ a. reply_by f (k a)) r) x) → Owes
+  planned_row c k (Ok a) got x plain takes none is same left so p free = owed c (k a) x is (same ∙ so) left (stepped w x t (call_by f c) (reply_by f (k a)) p.0 p.1) (plain a)
+  planned_row c k (Err e) got x plain takes none is same left so (back, inl bars) free =
       owed c (Refused e) x is (same ∙ so) left
       (stepped w x t (call_by f c) (Refused e) (ap (λ (P : Plan). P.reply) (sym bars)) (back ∙ ap (λ (P : Plan). after_plan w P) (sym bars))) tt
-  planned_row c k (Err e) got x plain takes none is same left so (back, inr lacks) =
+  planned_row c k (Err e) got x plain takes none is same left so (back, inr lacks) free =
       owed c (Refused e) x is (same ∙ so) left
-      (inr (record { told = ap (λ (n : Errno). Refused n) lacks.0 ∙ ap (λ (o : Option Meaning). refusal o ENOMEM) (sym none); takes = takes; wanted = lacks.1; same = back })) tt
+      (inr (record {
+        told = ap (λ (n : Errno). Refused n) lacks.0 ∙ ap (λ (o : Option Meaning). refusal o ENOMEM) (sym none);
+        takes = takes;
+        needs = λ n. true≢false (ap is_refused (free n).0 ∙ lacks.1);
+        wanted = lacks.1;
+        same = back;
+      })) tt
 
   -- the call takes memory where it has words
   pub options_row : (c : ℕ) (words : List (List ℕ)) (r : Result (Unit {0}) Errno) (got : code_reply.Reply S) (x : World) → call ≡ FsysSetOptions c words → reply ≡ got → y ≡ x → got ≡ told_of (λ (u : Unit {0}). Done) r
       → Planned w (plan_set_options w t c words) (λ u. Done) r x → (words ≡ [] → Follows w (plan_set_options w t c words) (told (λ u. Done) r) x) → Owes
   options_row c [] r got x is same left so planned free = follows_row (FsysSetOptions c []) (λ (u : Unit {0}). Done) r got x (λ u. tt) is same left so (free refl)
-  options_row c (v ∷ vs) r got x is same left so planned free = planned_row (FsysSetOptions c (v ∷ vs)) (λ (u : Unit {0}). Done) r got x (λ u. tt) refl refl is same left so planned
+  options_row c (v ∷ vs) r got x is same left so planned free = planned_row (FsysSetOptions c (v ∷ vs)) (λ (u : Unit {0}). Done) r got x (λ u. tt) refl refl is same left so planned (λ n. absurd n)
 
   -- a call that brings a box, or none
 
@@ -93,7 +100,7 @@ module _ {S : Type 0} (f : S → Meaning) (v w : World) (t : ℕ) (call : code.C
     set_refused (Some s) e x (back, inl bars) free =
         stepped w x t _ (Back e (f s)) (ap (λ (P : Plan). handing_back (f s) P.reply) (sym bars)) (back ∙ ap (λ (P : Plan). after_plan w P) (sym bars))
     set_refused (Some s) e x (back, inr lacks) free =
-        inr (record { told = ap (λ (n : Errno). Back n (f s)) lacks.0; takes = refl; wanted = kept_refused (f s) (planned (Some s)).reply lacks.1; same = back })
+        inr (record { told = ap (λ (n : Errno). Back n (f s)) lacks.0; takes = refl; needs = λ n. n; wanted = kept_refused (f s) (planned (Some s)).reply lacks.1; same = back })
 
     comes_back : (server : Option S) (e : Errno) → ComesBack (asked server) (refusal server e)
     comes_back None e = tt
@@ -124,7 +131,7 @@ module _ {S : Type 0} (f : S → Meaning) (v w : World) (t : ℕ) (call : code.C
   start_row server (Err e) got x is same left so (inr lacks) back =
       let none : e.0 ≡ ENOMEM = cc (lacks.0) in
       owed (FsysStartup server) (Back e.0 server) x is (same ∙ so ∙ ap (λ (s : S). Back e.0 s) back) left
-      (inr (record { told = ap (λ (n : Errno). Back n (f server)) none; takes = refl; wanted = kept_refused (f server) (starts server).reply lacks.1.1; same = lacks.1.0 })) refl
+      (inr (record { told = ap (λ (n : Errno). Back n (f server)) none; takes = refl; needs = λ n. n; wanted = kept_refused (f server) (starts server).reply lacks.1.1; same = lacks.1.0 })) refl
 
 -- the condition on a box, as the row wants it
 pub begun_box : {S : Type 0} (f : S → Meaning) (server : Option S) → IfSome (option_map f server) Begins → IfSome server (λ s. Begins (f s))
