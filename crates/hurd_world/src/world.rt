@@ -85,7 +85,7 @@ impl<S: Server> World<S> {
     /// a refused `fsys_startup` alone gives up what the task was to start, but for want of memory.
     ///
     /// Errors: `ESRCH` where there is no such task, then those of the call, in its order. `ENOMEM` where a call that takes
-    /// memory isn't refused, and finds none.
+    /// memory, and needs some as the world stands, isn't refused, and finds none.
     pub fn call(&mut self, alloc: Global, task: TaskId, call: Call<S>) -> Reply<S>
         requires { BringsBegun (call_by S.meaning call) }
         ensures answer { Called (world_of S.meaning self.old) task.0 (call_by S.meaning call) (reply_by S.meaning result) (world_of S.meaning self.new) }
