@@ -248,7 +248,7 @@ module _ (d : Name) (name : List ℕ) (n : Name) where
         left_by orphaned (dir_unlinked m.header dir)
         (dir_linked w d n (without_entry name) orphaned m.dir m.header m.is_dir m.is_header kind (m.empty kind) less.times (λ k e. lists_before name k m.dir.body e) (omega arith) (λ h. (refl, refl)) refl l)
 
-    left_linked : Linked (nodes_of w) → Linked (nodes_of left)
+    pub left_linked : Linked (nodes_of w) → Linked (nodes_of left)
     left_linked l = go (is_dir m.header.kind) refl
       where
         go : (b : Bool) → is_dir m.header.kind ≡ b → Linked (nodes_of left)
