@@ -1,28 +1,18 @@
 -- A directory made by the core, as a piece of any call: what it asks, and what its changes keep.
-use Rattle.std.proofs.Common.{◌≡◌, ℕ, Bool, true, Some, refl, sym, ap, ◌∙◌, subst, inl, inr, arith}
+use Rattle.std.proofs.Common.{◌≡◌, ℕ, Bool, true, Some, refl, subst}
 use Rattle.std.specs.Prelude.{Ok}
 use Rattle.hurd_creds.specs.declared.name.Name.{Name}
 use Rattle.hurd_creds.specs.declared.attrs.Kind.TheVariants.{Dir}
 use Rattle.hurd_creds.specs.declared.errno.Errno.TheVariants.{EDIED, EOVERFLOW, ESRCH}
 use Rattle.hurd_trans_iface.specs.Nodes.{Node, new_dir}
-use Rattle.hurd_trans_iface.specs.Good.{GoodBehaviour}
-use Rattle.hurd_trans_iface.specs.Kinds.{ServerKind, behaviour_of}
 use Rattle.hurd_ports.specs.Tables.{Task, fresh, can_name}
-use Rattle.hurd_nodes.specs.Shown.{tree_by}
-use Rattle.hurd_machine.specs.World.{World, nodes_of, task_at, home_at, server_at, makes_at}
-use Rattle.hurd_machine.specs.Sight.{Part, EmptyOf, BodyOf, Seen, Sees, OfNode}
+use Rattle.hurd_machine.specs.World.{World, nodes_of, task_at, home_at, makes_at}
+use Rattle.hurd_machine.specs.Sight.{Part, EmptyOf, BodyOf, Seen, Sees}
 use Rattle.hurd_machine.specs.Sound.{LeadsUp, Sound}
-use Rattle.hurd_machine.proofs.Coherence.{AllProper, home_old, next_not, no_home}
-use Rattle.hurd_machine.proofs.Settle.{Rests}
-use Rattle.hurd_machine.proofs.Frame.{AllWithin, Full}
-use Rattle.hurd_machine.proofs.Sizes.{KeepsSized}
-use Rattle.hurd_machine.proofs.Links.{KeepsLinked, dir_hangs}
+use Rattle.hurd_machine.proofs.Frame.{Full}
+use Rattle.hurd_machine.proofs.Links.{dir_hangs}
 use Rattle.hurd_machine.proofs.Views.{Agree, same_tasks, home_same}
 use Rattle.hurd_machine.proofs.Asks.{IsPlain, first_ok, given_ok, on_ok, first_same, on_same, makes_same, ok_plain, first_plain, given_plain, on_plain, makes_plain}
-use Rattle.hurd_machine.proofs.Confine.{NewTo, SeenOrNew}
-use Rattle.hurd_machine.proofs.Several.{AllMay}
-use Rattle.hurd_machine.proofs.Permits.{later_new}
-use Rattle.hurd_machine.proofs.Opens.{own_task, fresh_new, fresh_next}
 use Rattle.hurd_machine.proofs.Makes.{MayMake, may_make, entered_whole}
 use Rattle.hurd_core.specs.Core.{NewNodeAt, asked_node, naming_asks, making_dir_asks, making_dir}
 use Rattle.hurd_trans_iface.proofs.Goods.{good}
