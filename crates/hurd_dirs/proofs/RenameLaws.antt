@@ -27,7 +27,7 @@ use Rattle.hurd_machine.proofs.Nodes.{header_in, body_in, node_of_header, edit_k
 use Rattle.hurd_machine.proofs.Views.{Agree, header_same, home_same, active_same, body_same}
 use Rattle.hurd_machine.proofs.Coherence.{AllProper, entry_lists}
 use Rattle.hurd_machine.proofs.Keeping.{coherent_all, proper_append}
-use Rattle.hurd_machine.proofs.Settle.{Rests, rests_settle}
+use Rattle.hurd_machine.proofs.Settle.{Rests}
 use Rattle.hurd_machine.proofs.Frame.{AllWithin, Full}
 use Rattle.hurd_machine.proofs.Sizes.{KeepsSized, sized_append, sized_header, sized_removed}
 use Rattle.hurd_machine.proofs.Several.{AllMay}

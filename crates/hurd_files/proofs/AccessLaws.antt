@@ -13,9 +13,8 @@ use Rattle.hurd_machine.specs.declared.call.Reply.TheVariants.{Done}
 use Rattle.hurd_machine.specs.World.{World, sets_attrs_at}
 use Rattle.hurd_machine.specs.Plan.{Follows, answered}
 use Rattle.hurd_machine.specs.Handle.{Named, port_asks}
-use Rattle.hurd_machine.specs.Sight.{AttrOf, Holds, HasUid, UidOfRight, bare}
+use Rattle.hurd_machine.specs.Sight.{Holds, HasUid, UidOfRight, bare}
 use Rattle.hurd_machine.proofs.Views.{Agree}
-use Rattle.hurd_machine.proofs.Frame.{Full}
 use Rattle.hurd_machine.proofs.Attrs.{attrs_whole}
 use Rattle.hurd_machine.proofs.Asks.{IsPlain, IsNamed, is_named, port_same, port_seen, port_plain, sets_attrs_same, sets_attrs_plain, holds_right, first_ok, given_ok, first_same, first_plain, given_plain, ok_plain, answered_same, answered_plain, done_plain}
 use Rattle.hurd_machine.proofs.CallLaws.{CallLaws, answered_piece, looking_laws}

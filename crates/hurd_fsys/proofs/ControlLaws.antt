@@ -11,29 +11,20 @@ use Rattle.hurd_creds.specs.declared.errno.Errno.TheVariants.{EBADF, EDIED}
 use Rattle.hurd_ports.specs.declared.table.IoRight.{IoRight}
 use Rattle.hurd_ports.specs.declared.table.Right.{Right}
 use Rattle.hurd_ports.specs.declared.table.Right.TheVariants.{Io, Control, Start}
-use Rattle.hurd_ports.specs.Tables.{Task, right_of, names_open}
-use Rattle.hurd_machine.specs.World.{World, ports_of, task_at, server_at}
+use Rattle.hurd_ports.specs.Tables.{right_of}
+use Rattle.hurd_machine.specs.World.{World, ports_of, server_at}
 use Rattle.std.proofs.lemmas.Bool.{or_cases}
 use Rattle.hurd_creds.specs.Access.{IdSets, holds_uid, is_root, least_uid, owns}
 use Rattle.hurd_creds.proofs.IdLaws.{least-answer}
 use Rattle.hurd_nodes.specs.Shown.{ServerInfo}
 use Rattle.hurd_machine.specs.Handle.{Named}
-use Rattle.hurd_machine.specs.Sight.{Part, TaskOf, Holds, OfControl, OwnsIt, CouldServe, UidOfRight, bare, is_on}
-use Rattle.hurd_machine.specs.Sound.{Below, Coherent}
+use Rattle.hurd_machine.specs.Sight.{Holds, OfControl, OwnsIt, CouldServe, UidOfRight, bare}
+use Rattle.hurd_machine.specs.Sound.{Coherent}
 use Rattle.hurd_machine.proofs.Asks.{IsPlain, right_same, right_plain, holds_right, first_ok, on_ok, first_same, on_same, first_plain, on_plain, ok_plain, err_plain}
 use Rattle.hurd_machine.proofs.Views.{Agree, server_known}
-use Rattle.hurd_machine.proofs.Coherence.{AllProper}
-use Rattle.hurd_machine.proofs.Rights.{port_rights, port_keeps, port_counts, port_table}
-use Rattle.hurd_machine.proofs.Settle.{Rests, rests_quiet}
-use Rattle.hurd_machine.proofs.Frame.{AllWithin, not_on, not_named}
-use Rattle.hurd_machine.proofs.Sizes.{KeepsSized, sized_ports}
-use Rattle.hurd_machine.proofs.Links.{KeepsLinked, linked_steady}
-use Rattle.hurd_machine.proofs.Allowed.{RightMay, IdsMay}
-use Rattle.hurd_machine.proofs.Confine.{Commands}
-use Rattle.hurd_machine.proofs.Several.{AllMay}
 use Rattle.hurd_core.specs.Control.{control_in, control_of}
 use Rattle.hurd_fsys.specs.Controls.{Controlled, control_asks}
-use Rattle.hurd_fsys.specs.Fsys.{controlling, holds_any, may_control}
+use Rattle.hurd_fsys.specs.Fsys.{holds_any, may_control}
 
 -- a port that controls is one with that right
 pub control_is : (w : World) (t c : ℕ) (s : Name) → control_of (ports_of w) t c ≡ Ok s → right_of (ports_of w) t c ≡ Ok (Control s)

@@ -14,17 +14,15 @@ use Rattle.hurd_ports.specs.declared.table.Right.TheVariants.{Io, Control}
 use Rattle.hurd_ports.specs.Tables.{Task, has_room}
 use Rattle.hurd_machine.specs.declared.call.Reply.TheVariants.{Done, Port, Words}
 use Rattle.hurd_machine.specs.World.{World, task_at, home_at, active_at, server_at}
-use Rattle.hurd_machine.specs.Plan.{Plan}
 use Rattle.hurd_machine.specs.Handle.{Named, port_asks}
 use Rattle.hurd_machine.specs.Sight.{Holds, Seen, Held, UsersOf, ByControl, ByNode, BySeat, users}
 use Rattle.hurd_machine.specs.Sound.{Coherent}
-use Rattle.hurd_machine.specs.Touched.{Goes, Nothing}
+use Rattle.hurd_machine.specs.Touched.{Nothing}
 use Rattle.hurd_machine.proofs.Views.{Agree, same_tasks, home_same, active_same, server_same}
-use Rattle.hurd_machine.proofs.Frame.{Full, AllWithin}
 use Rattle.hurd_machine.proofs.Opens.{own_task}
 use Rattle.hurd_machine.proofs.Going.{goes_piece}
 use Rattle.hurd_machine.proofs.Asks.{IsPlain, IsNamed, is_named, port_same, port_seen, port_plain, holds_right, first_ok, given_ok}
-use Rattle.hurd_machine.proofs.Asks.{on_ok, first_same, given_same, on_same, first_plain, given_plain, on_plain, ok_plain, answered_all, answered_same, answered_plain, done_plain}
+use Rattle.hurd_machine.proofs.Asks.{on_ok, first_same, given_same, on_same, first_plain, given_plain, on_plain, ok_plain, answered_same, answered_plain, done_plain}
 use Rattle.hurd_machine.proofs.CallLaws.{CallLaws, looking_laws, answered_piece, answered_whole}
 use Rattle.hurd_machine.proofs.Confine.{Commands}
 use Rattle.hurd_core.specs.Core.{room_asks}

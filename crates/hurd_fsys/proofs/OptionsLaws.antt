@@ -15,12 +15,11 @@ use Rattle.hurd_machine.specs.Change.{retexting}
 use Rattle.hurd_machine.specs.Sight.{OfControl}
 use Rattle.hurd_machine.specs.Sound.{Coherent}
 use Rattle.hurd_machine.proofs.Views.{Agree, server_known}
-use Rattle.hurd_machine.proofs.Frame.{Full}
 use Rattle.hurd_machine.proofs.Asks.{IsPlain, holds_right, ok_plain, err_plain, answered_same, answered_plain, done_plain}
 use Rattle.hurd_machine.proofs.Retexting.{MayGet, retexts_whole, retexts_same}
 use Rattle.hurd_machine.proofs.CallLaws.{CallLaws, answered_piece}
 use Rattle.hurd_core.specs.Control.{control_of}
-use Rattle.hurd_fsys.specs.Fsys.{options_parts, plan_set_options, touches_set_options}
+use Rattle.hurd_fsys.specs.Fsys.{plan_set_options, touches_set_options}
 use Rattle.hurd_fsys.proofs.ControlLaws.{control_is, control_same, control_plain}
 
 module _ (t c : ℕ) (words : List (List ℕ)) where

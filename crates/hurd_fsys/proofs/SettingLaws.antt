@@ -1,12 +1,12 @@
 -- The laws of setting a translator.
-use Rattle.std.proofs.Common.{◌≡◌, ◌≢◌, ◌⊎◌, ◌∙◌, ◌||◌, ◌&&◌, ◌==◌, not, slice_get, ℕ, Bool, true, false, if◌then◌else◌, List, [], ◌∷◌, ◌++◌, Option, Some, None, refl, sym, ap, ap₂, subst, inl, inr}
+use Rattle.std.proofs.Common.{◌≡◌, ◌≢◌, ◌∙◌, ◌||◌, ◌&&◌, ◌==◌, not, slice_get, ℕ, Bool, true, false, if◌then◌else◌, List, [], ◌∷◌, ◌++◌, Option, Some, None, refl, sym, ap, ap₂, subst, inl, inr}
 use Rattle.std.specs.Prelude.{Ok, is_some}
 use Rattle.std.specs.FinMap.{get}
 use Rattle.hurd_creds.specs.declared.name.Name.{Name}
 use Rattle.hurd_creds.specs.NameMaps.{NameMap}
 use Rattle.hurd_creds.specs.declared.errno.Errno.TheVariants.{EBUSY, EINVAL, EOPNOTSUPP, EOVERFLOW, ESRCH}
 use Rattle.hurd_creds.specs.Access.{IdSets}
-use Rattle.hurd_creds.specs.TransBits.{asks_goaway, asks_trans, SET, EXCL, ORPHAN, FORCE}
+use Rattle.hurd_creds.specs.TransBits.{asks_goaway, asks_trans, SET, ORPHAN, FORCE}
 use Rattle.hurd_trans_iface.specs.Nodes.{Node, Header, has_words}
 use Rattle.hurd_trans_iface.specs.Meaning.{Meaning}
 use Rattle.hurd_creds.proofs.NameLaws.{same_name-apart}
@@ -16,26 +16,18 @@ use Rattle.hurd_ports.specs.declared.table.Right.TheVariants.{Io}
 use Rattle.hurd_ports.specs.Tables.{Task, fresh, can_name}
 use Rattle.hurd_ports.specs.Steps.{named}
 use Rattle.hurd_machine.specs.declared.call.Reply.TheVariants.{Done, Words}
-use Rattle.hurd_machine.specs.World.{World, nodes_of, task_at, header_at, home_at, active_at}
+use Rattle.hurd_machine.specs.World.{World, task_at, header_at, home_at, active_at}
 use Rattle.hurd_machine.specs.Change.{Change, Attach, DropServer, Unseat, Settle, apply, apply_all}
-use Rattle.hurd_machine.specs.Plan.{Plan}
 use Rattle.hurd_machine.specs.Handle.{Named}
 use Rattle.hurd_machine.specs.Sight.{Part, AttrOf, EmptyOf, BodyOf, OptionsOf, UsersOf, TaskOf, Holds, Seen, BySeat, users}
 use Rattle.hurd_machine.specs.Sound.{Coherent, Sound}
 use Rattle.hurd_machine.specs.Touched.{Goes}
 use Rattle.hurd_machine.proofs.Views.{Agree, same_tasks, active_same}
-use Rattle.hurd_machine.proofs.Coherence.{Comes, AllProper}
-use Rattle.hurd_machine.proofs.Drop.{drop_coherent, drop_linked}
-use Rattle.hurd_machine.proofs.Keeping.{coherent_all, proper_append}
-use Rattle.hurd_machine.proofs.Links.{linked_append}
-use Rattle.hurd_machine.proofs.Sizes.{sized_append}
-use Rattle.hurd_machine.proofs.Servers.{sized_drop}
-use Rattle.hurd_machine.proofs.Frame.{Full, AllWithin, within_append}
-use Rattle.hurd_machine.proofs.Settle.{rests_settle, rests_append}
-use Rattle.hurd_machine.proofs.Opens.{own_task, fresh_new, fresh_next, later_new}
-use Rattle.hurd_machine.proofs.Several.{AllMay}
+use Rattle.hurd_machine.proofs.Coherence.{Comes}
+use Rattle.hurd_machine.proofs.Frame.{Full}
+use Rattle.hurd_machine.proofs.Opens.{own_task, fresh_new, later_new}
 use Rattle.hurd_machine.proofs.Going.{Begun, goes_piece, unseats_piece, comes_piece, comes_after}
-use Rattle.hurd_machine.proofs.Asks.{IsPlain, IsPlainReply, port_same, port_plain, info_same, is_root_same, first_ok, given_ok, on_ok, first_same, given_same, on_same, first_plain, given_plain, on_plain, ok_plain, answered_all, answered_same, answered_plain, done_plain}
+use Rattle.hurd_machine.proofs.Asks.{IsPlain, IsPlainReply, port_same, port_plain, info_same, is_root_same, first_ok, given_ok, on_ok, first_same, given_same, on_same, first_plain, given_plain, on_plain, ok_plain, answered_same, answered_plain, done_plain}
 use Rattle.hurd_machine.proofs.CallLaws.{CallLaws, answered_piece, answered_whole, looking_laws}
 use Rattle.hurd_core.specs.Core.{attaching, naming_asks}
 use Rattle.hurd_machine.specs.declared.call.Setting.{Setting}
@@ -44,7 +36,7 @@ use Rattle.hurd_fsys.specs.Owned.{owned_asks}
 use Rattle.hurd_fsys.proofs.OwnedLaws.{Owner, owner, owner_right, owner_sees, owned_same, owned_plain}
 use Rattle.hurd_fsys.proofs.ControlLaws.{owner_holds}
 use Rattle.hurd_fsys.proofs.StoringLaws.{IsLike, goes_like, storing_like, storing_exact, storing_whole}
-use Rattle.hurd_fsys.proofs.BegunLaws.{begun_shaped, begun_bare, begun}
+use Rattle.hurd_fsys.proofs.BegunLaws as begun
 use Rattle.hurd_machine.proofs.Piece.{Stands, Whole, stands, whole_none, piece_then, whole_then, settled}
 
 -- a server comes to a node, and another goes for it, which is active there
@@ -66,19 +58,10 @@ module _ (w : World) (c : Coherent w) (t : ℕ) (n : Named) (there : (h : Header
   node = begun_root m n.header.owner n.header.group (root_mode (root_kind m) n.header.mode)
 
   newcomer : Comes w s n.right.node info node
-  newcomer = record {
-    next = fresh_next w t x is;
-    task = refl;
-    count = refl;
-    serving = (n.header.owner, refl);
-    shape = begun_shaped m root ids n.header.owner n.header.group (root_mode (root_kind m) n.header.mode);
-    empty = begun_bare m root ids n.header.owner n.header.group (root_mode (root_kind m) n.header.mode);
-    parent = refl;
-    seat = there;
-  }
+  newcomer = begun.newcomer w t n.right.node n.header there m x is
 
   begins : Begun info node
-  begins = begun m root ids n.header.owner n.header.group (root_mode (root_kind m) n.header.mode)
+  begins = begun.begins w t n.right.node n.header there m x is
 
   -- the changes, for a server that goes or none
   abbrev comings : Option Name → List Change

@@ -1,36 +1,27 @@
 -- The laws of starting a translator, and of giving that up.
 use Rattle.std.proofs.Common.{◌≡◌, ◌∙◌, ℕ, Bool, true, ◌++◌, map, Option, Some, None, not, is_some, ◌&&◌, refl, ap, subst, inl, inr}
 use Rattle.std.specs.Prelude.{Result, Ok, Err}
-use Rattle.hurd_creds.specs.declared.name.Name.{Name}
 use Rattle.hurd_creds.specs.declared.errno.Errno.{Errno}
 use Rattle.hurd_creds.specs.declared.errno.Errno.TheVariants.{EBUSY, EDIED, EOVERFLOW, ESRCH}
-use Rattle.hurd_creds.specs.Access.{IdSets}
-use Rattle.hurd_trans_iface.specs.Nodes.{Header, Node}
+use Rattle.hurd_trans_iface.specs.Nodes.{Header}
 use Rattle.hurd_trans_iface.specs.Meaning.{Meaning}
-use Rattle.hurd_nodes.specs.Shown.{ServerInfo, begun_info, begun_root}
 use Rattle.hurd_ports.specs.declared.table.PendingStart.{PendingStart}
 use Rattle.hurd_ports.specs.declared.table.Right.TheVariants.{Start}
 use Rattle.hurd_ports.specs.Tables.{Task, can_name, fresh, pending_at, pending_of, start_of}
-use Rattle.hurd_ports.specs.Steps.{named}
 use Rattle.hurd_machine.specs.declared.call.Reply.TheVariants.{Done}
-use Rattle.hurd_machine.specs.World.{World, IsAmong, nodes_of, ports_of, task_at, header_at, active_at}
-use Rattle.hurd_machine.specs.Plan.{Plan, after_plan}
+use Rattle.hurd_machine.specs.World.{World, IsAmong, ports_of, task_at, header_at, active_at}
 use Rattle.hurd_machine.specs.Sight.{Part, AttrOf, Seen, Pending}
 use Rattle.hurd_machine.specs.Sound.{Sound}
 use Rattle.hurd_machine.specs.Touched.{Nothing, asked_parts}
-use Rattle.hurd_machine.proofs.Asks.{IsPlain, IsPlainReply, first_ok, given_ok, on_ok, first_same, given_same, on_same, first_plain, given_plain, on_plain, ok_plain, answered_all, answered_same, answered_plain, done_plain, refused_plain}
+use Rattle.hurd_machine.proofs.Asks.{IsPlain, IsPlainReply, first_ok, given_ok, on_ok, first_same, given_same, on_same, first_plain, given_plain, on_plain, ok_plain, answered_same, answered_plain, done_plain, refused_plain}
 use Rattle.hurd_machine.proofs.CallLaws.{CallLaws, answered_piece, answered_whole}
-use Rattle.hurd_machine.proofs.Coherence.{AllProper, Comes}
-use Rattle.hurd_machine.proofs.Frame.{AllWithin, Full}
-use Rattle.hurd_machine.proofs.Going.{Begun}
-use Rattle.hurd_machine.proofs.Opens.{own_task, fresh_new, fresh_next, later_new}
+use Rattle.hurd_machine.proofs.Frame.{Full}
+use Rattle.hurd_machine.proofs.Opens.{own_task, fresh_new, later_new}
 use Rattle.hurd_machine.proofs.Pending.{pends_whole, starts_whole}
-use Rattle.hurd_machine.proofs.Several.{AllMay}
 use Rattle.hurd_machine.proofs.Views.{Agree, same_tasks, header_same, active_same}
 use Rattle.hurd_core.specs.Core.{naming_asks}
-use Rattle.hurd_fsys.specs.Setting.{root_kind, root_mode, server_ids}
 use Rattle.hurd_fsys.specs.Starting.{pending_asks, plan_start_failed, plan_startup, same_words, started, startup_asks, touches_start_failed, touches_startup, waiting_asks}
-use Rattle.hurd_fsys.proofs.BegunLaws.{begun_shaped, begun_bare, begun}
+use Rattle.hurd_fsys.proofs.BegunLaws.{newcomer, begins}
 use Rattle.hurd_machine.proofs.Piece.{Whole, stands}
 
 -- what is asked first
@@ -76,39 +67,6 @@ module _ (t : ℕ) where
     plain = λ w. answered_plain _ _ (pending_plain w) (λ q is. done_plain Done refl);
   }
 
--- the server comes, on a node that is there
-
-module _ (w : World) (t : ℕ) (n : Name) (h : Header) (there : header_at w n ≡ Some h) (m : Meaning) (x : Task) (is : task_at w t ≡ Some x) where
-  abbrev s : Name
-  s = fresh t x
-
-  abbrev root : Name
-  root = fresh t (named 1 x)
-
-  abbrev ids : IdSets
-  ids = server_ids h.owner
-
-  abbrev info : ServerInfo
-  info = begun_info m root ids
-
-  abbrev node : Node
-  node = begun_root m h.owner h.group (root_mode (root_kind m) h.mode)
-
-  newcomer : Comes w s n info node
-  newcomer = record {
-    next = fresh_next w t x is;
-    task = refl;
-    count = refl;
-    serving = (h.owner, refl);
-    shape = begun_shaped m root ids h.owner h.group (root_mode (root_kind m) h.mode);
-    empty = begun_bare m root ids h.owner h.group (root_mode (root_kind m) h.mode);
-    parent = refl;
-    seat = (h, there);
-  }
-
-  begins : Begun info node
-  begins = begun m root ids h.owner h.group (root_mode (root_kind m) h.mode)
-
 -- fsys_startup
 
 module _ (t : ℕ) (m : Meaning) where
@@ -143,7 +101,7 @@ module _ (t : ℕ) (m : Meaning) where
       go (Ok a) is =
           let b = startable w s a is in
           let later = later_new w t 1 a.1 b.is_task in
-          starts_whole (stands st) (fresh t a.1) s.node _ _ (newcomer w t s.node a.0 b.there m a.1 b.is_task) (begins w t s.node a.0 b.there m a.1 b.is_task)
+          starts_whole (stands st) (fresh t a.1) s.node _ _ (newcomer w t s.node a.0 (a.0, b.there) m a.1 b.is_task) (begins w t s.node a.0 (a.0, b.there) m a.1 b.is_task)
           (own_task w t (parts s (Ok a))) (inr (inr later)) (inr (inr later)) (inr (inr later)) (inl refl) (inr (inr (fresh_new w t a.1 b.is_task)))
 
   -- in worlds that agree

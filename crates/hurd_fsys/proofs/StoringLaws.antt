@@ -1,5 +1,5 @@
 -- The words of a passive translator stored with a node, or not: a piece of a call, the world that it leaves, and that the old words make it what it was.
-use Rattle.std.proofs.Common.{◌≡◌, ◌≢◌, ◌⊎◌, ◌∙◌, ℕ, Bool, true, false, if◌then◌else◌, List, [], ◌∷◌, ◌++◌, Option, Some, None, refl, sym, ap, inl, inr}
+use Rattle.std.proofs.Common.{◌≡◌, ◌≢◌, ◌⊎◌, ◌∙◌, ℕ, Bool, true, false, if◌then◌else◌, List, [], ◌∷◌, Option, Some, None, refl, sym, ap, inl, inr}
 use Rattle.std.specs.Prelude.{Result, Ok, Err, is_some}
 use Rattle.std.specs.Option.{option_map}
 use Rattle.std.specs.FinMap.{get}
@@ -10,7 +10,6 @@ use Rattle.hurd_creds.specs.NameMaps.{NameMap, edit}
 use Rattle.hurd_creds.proofs.NameLaws.{same_map_by, same_or_apart, edit_here, edit_apart}
 use Rattle.hurd_trans_iface.specs.Nodes.{Header, Node, NodeMap, has_words, passive_of, some_words, with_header, with_passive}
 use Rattle.hurd_nodes.specs.Shown.{ServerInfo, set_attrs_by, tree_by}
-use Rattle.hurd_ports.specs.Tables.{Task}
 use Rattle.hurd_machine.specs.World.{World, header_at, info_at, node_at, sets_attrs_at, words_at, words_in}
 use Rattle.hurd_machine.specs.Change.{Change, EditHeader, apply_all}
 use Rattle.hurd_machine.specs.Plan.{on, first}
@@ -19,13 +18,7 @@ use Rattle.hurd_machine.specs.Sight.{Part, AttrOf, EmptyOf, BodyOf, OptionsOf, U
 use Rattle.hurd_machine.specs.Touched.{Goes}
 use Rattle.hurd_machine.proofs.Asks.{is_named}
 use Rattle.hurd_machine.proofs.Nodes.{header_in, header-with_header, edit_keeps, edit_reads}
-use Rattle.hurd_machine.proofs.Coherence.{AllProper}
-use Rattle.hurd_machine.proofs.Settle.{Rests, rests_quiet}
-use Rattle.hurd_machine.proofs.Frame.{AllWithin}
-use Rattle.hurd_machine.proofs.Links.{KeepsLinked, linked_steady}
-use Rattle.hurd_machine.proofs.Sizes.{KeepsSized, sized_header}
 use Rattle.hurd_machine.proofs.Confine.{Less}
-use Rattle.hurd_machine.proofs.Several.{AllMay}
 use Rattle.hurd_core.specs.Core.{naming_asks}
 use Rattle.hurd_fsys.specs.Setting.{stored_asks}
 use Rattle.hurd_machine.proofs.Piece.{Whole, stands, whole_none, quiet, of_header}

@@ -16,9 +16,9 @@ use Rattle.hurd_machine.proofs.Views.{Agree, active_same}
 use Rattle.hurd_machine.proofs.Frame.{AllWithin, Full, within_append}
 use Rattle.hurd_machine.proofs.Coherence.{AllProper}
 use Rattle.hurd_machine.proofs.Keeping.{proper_append}
-use Rattle.hurd_machine.proofs.Settle.{Rests, rests_append}
+use Rattle.hurd_machine.proofs.Settle.{Rests}
 use Rattle.hurd_machine.proofs.Sizes.{KeepsSized, did_sized, sized_append}
-use Rattle.hurd_machine.proofs.Links.{KeepsLinked, linked_append}
+use Rattle.hurd_machine.proofs.Links.{KeepsLinked}
 use Rattle.hurd_machine.proofs.Several.{AllMay}
 use Rattle.hurd_machine.proofs.Permits.{did_exact}
 use Rattle.hurd_machine.proofs.Opens.{cursor_whole}

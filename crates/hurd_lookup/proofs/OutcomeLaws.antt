@@ -20,10 +20,10 @@ use Rattle.hurd_machine.specs.Touched.{OnNode}
 use Rattle.hurd_machine.specs.Sound.{Below, Sound}
 use Rattle.hurd_machine.proofs.Coherence.{IsNext, header_old, home_old, named_still, next_not, no_home}
 use Rattle.hurd_machine.proofs.Keeping.{proper_append}
-use Rattle.hurd_machine.proofs.Settle.{Rests, rests_quiet, rests_append, rests_opening}
+use Rattle.hurd_machine.proofs.Settle.{Rests, rests_quiet, rests_opening}
 use Rattle.hurd_machine.proofs.Frame.{AllWithin, Full, within_append}
 use Rattle.hurd_machine.proofs.Sizes.{KeepsSized, sized_ports, sized_append}
-use Rattle.hurd_machine.proofs.Links.{KeepsLinked, linked_steady, linked_append, leads_unless, file_hangs}
+use Rattle.hurd_machine.proofs.Links.{KeepsLinked, linked_steady, leads_unless, file_hangs}
 use Rattle.hurd_machine.proofs.Confine.{NewTo}
 use Rattle.hurd_machine.proofs.Several.{AllMay}
 use Rattle.hurd_machine.proofs.Permits.{may_append, later_new, opens_may}
