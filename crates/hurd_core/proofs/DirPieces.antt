@@ -1,30 +1,22 @@
 -- A directory made by the core, as a piece of any call: what it asks, and what its changes keep.
-use Rattle.std.proofs.Common.{◌≡◌, ℕ, Bool, true, Some, refl, sym, ap, ◌∙◌, subst, inl, inr, arith}
+use Rattle.std.proofs.Common.{◌≡◌, ℕ, Bool, true, Some, refl, subst}
 use Rattle.std.specs.Prelude.{Ok}
 use Rattle.hurd_creds.specs.declared.name.Name.{Name}
 use Rattle.hurd_creds.specs.declared.attrs.Kind.TheVariants.{Dir}
 use Rattle.hurd_creds.specs.declared.errno.Errno.TheVariants.{EDIED, EOVERFLOW, ESRCH}
 use Rattle.hurd_trans_iface.specs.Nodes.{Node, new_dir}
-use Rattle.hurd_trans_iface.specs.Good.{GoodBehaviour}
-use Rattle.hurd_trans_iface.specs.Kinds.{ServerKind, behaviour_of}
 use Rattle.hurd_ports.specs.Tables.{Task, fresh, can_name}
-use Rattle.hurd_nodes.specs.Shown.{tree_by}
-use Rattle.hurd_machine.specs.World.{World, nodes_of, task_at, home_at, server_at, makes_at}
-use Rattle.hurd_machine.specs.Sight.{Part, EmptyOf, BodyOf, Seen, Sees, OfNode}
-use Rattle.hurd_machine.specs.Sound.{Coherent, LeadsUp}
-use Rattle.hurd_machine.proofs.Coherence.{AllProper, home_old, next_not, no_home}
-use Rattle.hurd_machine.proofs.Settle.{Rests}
-use Rattle.hurd_machine.proofs.Frame.{AllWithin, Full}
-use Rattle.hurd_machine.proofs.Sizes.{KeepsSized}
-use Rattle.hurd_machine.proofs.Links.{KeepsLinked, dir_hangs}
+use Rattle.hurd_machine.specs.World.{World, nodes_of, task_at, home_at, makes_at}
+use Rattle.hurd_machine.specs.Sight.{Part, EmptyOf, BodyOf, Seen, Sees}
+use Rattle.hurd_machine.specs.Sound.{LeadsUp, Sound}
+use Rattle.hurd_machine.proofs.Frame.{Full}
+use Rattle.hurd_machine.proofs.Links.{dir_hangs}
 use Rattle.hurd_machine.proofs.Views.{Agree, same_tasks, home_same}
 use Rattle.hurd_machine.proofs.Asks.{IsPlain, first_ok, given_ok, on_ok, first_same, on_same, makes_same, ok_plain, first_plain, given_plain, on_plain, makes_plain}
-use Rattle.hurd_machine.proofs.Confine.{NewTo, SeenOrNew}
-use Rattle.hurd_machine.proofs.Several.{AllMay}
-use Rattle.hurd_machine.proofs.Permits.{later_new}
-use Rattle.hurd_machine.proofs.Opens.{own_task, fresh_new, fresh_next}
-use Rattle.hurd_machine.proofs.Makes.{MayMake, may_make, entered_within, entered_proper, entered_rests, entered_sized, entered_linked, entered_may, made_parent, made_in, made_fit}
+use Rattle.hurd_machine.proofs.Makes.{MayMake, may_make, entered_whole}
 use Rattle.hurd_core.specs.Core.{NewNodeAt, asked_node, naming_asks, making_dir_asks, making_dir}
+use Rattle.hurd_trans_iface.proofs.Goods.{good}
+use Rattle.hurd_machine.proofs.Piece.{Whole}
 
 module _ (t : ℕ) (f : NewNodeAt) where
   abbrev node : Node
@@ -46,42 +38,11 @@ module _ (t : ℕ) (f : NewNodeAt) where
       let both : (k.0, s.0) ≡ a = cc (room.1, s.2) in
       subst (AsksDir w) both (record { is_task = k.1; home = s.1; may = may_make w f.dir f.name Dir u.0 u.1 })
 
-  module _ (w : World) (a : Task × Name) (m : AsksDir w a) where
-    abbrev n : Name
-    n = fresh t a.0
-
-    pub dir_within : (T : Part → Type 0) → T (BodyOf f.dir) → T (EmptyOf f.dir) → AllWithin (Full w t T) w (making_dir t f a)
-    dir_within T body empty =
-        let new = fresh_new w t a.0 m.is_task in
-        entered_within w n a.1 node f.dir f.name (Full w t T) (own_task w t T) (inr (inr new)) (inr (inr new)) (inr (inr new)) (inl body) (inl empty)
-
-    pub dir_proper : Coherent w → AllProper w (making_dir t f a)
-    dir_proper c =
-        entered_proper w n a.1 node f.dir f.name c (fresh_next w t a.0 m.is_task) m.home (ap tree_by m.may.is_info ∙ m.may.tree) m.may.absent
-        (made_in f.dir (asked_node Dir f n) node refl w (home_old c f.dir a.1 m.home))
-
-    pub dir_rests : Coherent w → Rests w (making_dir t f a)
-    dir_rests c =
-        let is_server : server_at w a.1 ≡ Some m.may.info = rw m.home at m.may.is_info in
-        entered_rests w n a.1 node f.dir f.name refl (no_home c n (next_not w n (fresh_next w t a.0 m.is_task))) m.may.info is_server
-
-    -- it hangs in the directory above, which isn't removed
-    pub dir_linked : Coherent w → LeadsUp (nodes_of w) f.dir → KeepsLinked w (making_dir t f a)
-    dir_linked c up =
-        entered_linked w n a.1 node f.dir f.name c (fresh_next w t a.0 m.is_task) m.may up refl (dir_hangs f.dir f.owner f.group f.mode)
-
-    pub dir_sized : ((k : ServerKind) → GoodBehaviour (behaviour_of k)) → KeepsSized w (making_dir t f a)
-    dir_sized good =
-        let is_server : server_at w a.1 ≡ Some m.may.info = rw m.home at m.may.is_info in
-        entered_sized w n a.1 node f.dir f.name good (λ i e.
-        let same : m.may.info ≡ i = cc (is_server, e) in rw (← same) (made_fit f.dir (asked_node Dir f n) node refl good m.may.info m.may.tree))
-
-    -- a task of S may make it in a directory that S sees
-    pub dir_may : (S : ℕ → Bool) → S t ≡ true → Seen S w f.dir → AllMay S w w (making_dir t f a)
-    dir_may S ours seen =
-        let new : NewTo S w n = later_new S w t a.0 a.0.made ours m.is_task (omega arith) in
-        entered_may w n a.1 node f.dir f.name S w ours new (OfNode f.dir seen m.home) (λ p e.
-        subst (SeenOrNew S w) (sym (made_parent f.dir (asked_node Dir f n) node refl p e)) (inl seen))
+  -- it hangs in the directory above, which isn't removed; a task of S may make it in a directory that S sees
+  pub dir_whole : {T : Part → Type 0} {w : World} → Sound w → (a : Task × Name) → AsksDir w a → LeadsUp (nodes_of w) f.dir → T (BodyOf f.dir) → T (EmptyOf f.dir) → ((S : ℕ → Bool) → S t ≡ true → Seen S w f.dir)
+      → Whole t (Full w t T) w w (making_dir t f a)
+  dir_whole s a m up body empty seen =
+      entered_whole good s t a.0 m.is_task a.1 f.dir m.home f.name m.may up (asked_node Dir f (fresh t a.0)) node refl refl (dir_hangs f.dir f.owner f.group f.mode) body empty seen
 
   -- where S sees the entries of the directory above, all that is asked is the same
   pub making_dir_same : {S : ℕ → Bool} {v w : World} → Agree S v w → S t ≡ true → Sees S v (BodyOf f.dir) → making_dir_asks w t f ≡ making_dir_asks v t f

@@ -1,13 +1,12 @@
 -- What a port names, from the attributes and the words of its node.
-use Rattle.std.proofs.Common.{◌≡◌, ℕ, List, [], ◌∷◌, Option, Some, None, refl, sym, ◌∙◌, ap, option_map}
-use Rattle.std.specs.Prelude.{Result, Ok, Err}
+use Rattle.std.proofs.Common.{◌≡◌, ℕ, List, [], ◌∷◌, Option, Some, None, refl, option_map}
+use Rattle.std.specs.Prelude.{Ok}
 use Rattle.hurd_creds.specs.declared.attrs.Attrs.{Attrs}
-use Rattle.hurd_creds.specs.declared.errno.Errno.TheVariants.{EDIED}
-use Rattle.hurd_trans_iface.specs.Nodes.{Header, Node, attrs_of, passive_of, some_words}
+use Rattle.hurd_trans_iface.specs.Nodes.{Node, attrs_of, passive_of, some_words}
 use Rattle.hurd_ports.specs.declared.table.IoRight.{IoRight}
 use Rattle.hurd_ports.specs.Tables.{io_right_of}
-use Rattle.hurd_machine.specs.World.{World, ports_of, header_at, node_at, words_in}
-use Rattle.hurd_machine.specs.Handle.{Named, port_asks, both_asks}
+use Rattle.hurd_machine.specs.World.{World, ports_of, node_at, words_in}
+use Rattle.hurd_machine.specs.Handle.{port_asks, both_asks}
 use Rattle.hurd_machine.specs.Plan.{on, first}
 use Rattle.hurd_core.specs.PortNode.{header_with, or_no_words}
 

@@ -24,8 +24,8 @@ use Rattle.hurd_machine.specs.Handle.{Named, port_asks}
 use Rattle.hurd_machine.specs.Sight.{UsersOf, OfNode, BodyOf, Sees}
 use Rattle.hurd_machine.proofs.Views.{Agree, same_tasks, home_same}
 use Rattle.hurd_machine.proofs.Asks.{IsPlain, IsNamed, is_named, port_same, port_seen, port_plain, info_same, seen_node, on_ok, given_ok, first_ok, on_same, first_same, on_plain, given_plain, first_plain, ok_plain, err_plain, answered_same, answered_plain, done_plain}
-use Rattle.hurd_machine.proofs.Nameless.{IsNameless, nameless_within, nameless_proper, nameless_linked, nameless_sized, nameless_rests, nameless_may}
-use Rattle.hurd_machine.proofs.CallLaws.{CallLaws, answered_within, answered_proper, answered_linked, answered_sized, answered_rests, answered_may}
+use Rattle.hurd_machine.proofs.Nameless.{IsNameless, nameless_whole}
+use Rattle.hurd_machine.proofs.CallLaws.{CallLaws, answered_piece}
 use Rattle.hurd_core.specs.declared.to_make.NamelessToMake.{NamelessToMake}
 use Rattle.hurd_core.specs.Core.{Does, room_asks, nameless_asks, making_nameless_asks, making_nameless, asked_only}
 use Rattle.hurd_core.proofs.NamelessLaws.{only-refused, only-answered}
@@ -138,26 +138,12 @@ module _ (t p : ℕ) (flags : OpenFlags) (mode : Mode) where
 
   pub mkfile_laws : CallLaws t (λ w. plan_mkfile w t p flags mode) (λ w. touches_mkfile w t p flags mode)
   mkfile_laws = record {
-    fits = λ w c. answered_within w t (mkfile_asks w t p mode) _ _ (λ a is. answered_within w t (making_nameless_asks w t a.1.dir) _ _ (λ m may.
+    piece = λ w s. answered_piece s (mkfile_asks w t p mode) _ _ (λ a is. answered_piece s (making_nameless_asks w t a.1.dir) _ _ (λ m may.
         let k = makes_file w t a.1.dir m may in
-        nameless_within w t m.0 k.is_task m.1 k.server.info k.is_server (file a.1) (file_nameless a.1) a.0.right.ids a.0.right.parents modes (λ q. q ≡ UsersOf m.1) refl));
-    proper = λ w s. answered_proper w _ _ (λ a is. answered_proper w _ _ (λ m may.
-        let k = makes_file w t a.1.dir m may in
-        nameless_proper w t m.0 k.is_task m.1 k.server.info k.is_server (file a.1) (file_nameless a.1) a.0.right.ids a.0.right.parents modes s.coherent k.server.tree (ways_given w t p a.0.right (file_made_by w a is).is_port.is_right s.coherent)));
-    linked = λ w s. answered_linked w _ _ s.linked (λ a is. answered_linked w _ _ s.linked (λ m may.
-        let k = makes_file w t a.1.dir m may in
-        nameless_linked w t m.0 k.is_task m.1 k.server.info k.is_server (file a.1) (file_nameless a.1) a.0.right.ids a.0.right.parents modes s.coherent s.linked));
-    sized = λ w s. answered_sized w _ _ s.sizes (λ a is. answered_sized w _ _ s.sizes (λ m may.
-        let k = makes_file w t a.1.dir m may in
-        nameless_sized w t m.0 k.is_task m.1 k.server.info k.is_server (file a.1) (file_nameless a.1) a.0.right.ids a.0.right.parents modes (file_fits a.1 k.server.info k.server.tree) s.sizes));
-    rests = λ w s. answered_rests w _ _ s.settled (λ a is. answered_rests w _ _ s.settled (λ m may.
-        let k = makes_file w t a.1.dir m may in
-        nameless_rests w t m.0 k.is_task m.1 k.server.info k.is_server (file a.1) (file_nameless a.1) a.0.right.ids a.0.right.parents modes s.coherent s.settled));
-    may = λ S v c ours. answered_may v _ _ S v (λ a is. answered_may v _ _ S v (λ m may.
-        let k = makes_file v t a.1.dir m may in
-        let b = file_made_by v a is in
-        nameless_may v t m.0 k.is_task m.1 k.server.info k.is_server (file a.1) (file_nameless a.1) a.0.right.ids a.0.right.parents modes S c ours (right_taken t ours p a.0.right b.is_port.is_right)
-        (ways_seen v t p a.0.right b.is_port.is_right S ours) (OfNode a.1.dir (mkfile_seen ours a b).0 k.home)));
+        let b = file_made_by w a is in
+        let right = b.is_port.is_right in
+        nameless_whole w t m.0 k.is_task m.1 k.server.info k.is_server (file a.1) (file_nameless a.1) a.0.right.ids a.0.right.parents modes s k.server.tree (file_fits a.1 k.server.info k.server.tree)
+        (ways_given w t p a.0.right right s.coherent) refl (λ S ours. (right_taken t ours p a.0.right right, ways_seen w t p a.0.right right S ours, OfNode a.1.dir (mkfile_seen ours a b).0 k.home))));
     same = λ S v w c d a ours. answered_same _ _ _ _ (mkfile_same a ours) (λ b is.
         answered_same _ _ _ _ (making_same a t ours b.1.dir (mkfile_seen ours b (file_made_by v b is))) (λ m may. refl));
     plain = λ w. answered_plain _ _ (mkfile_plain w) (λ a is. answered_plain _ _ (making_plain w t a.1.dir) (λ m may. done_plain (Port m.0.next) refl));

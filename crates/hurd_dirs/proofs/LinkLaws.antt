@@ -14,20 +14,14 @@ use Rattle.hurd_machine.proofs.Frame.{Full}
 use Rattle.hurd_machine.proofs.Views.{Agree}
 use Rattle.hurd_machine.proofs.Asks.{IsPlain, first_ok, first_same, first_plain, ok_plain, answered_same, answered_plain, done_plain, links_same, links_plain}
 use Rattle.hurd_machine.proofs.Links.{KeepsLinked, listing_of}
-use Rattle.hurd_machine.proofs.Linking.{MayLink, may_link, link_within, link_proper, link_rests, link_sized, link_may}
+use Rattle.hurd_machine.proofs.Linking.{may_link, link_whole}
 use Rattle.hurd_machine.proofs.Relinks.{again_linked}
-use Rattle.hurd_machine.proofs.CallLaws.{CallLaws, answered_within, answered_proper, answered_linked, answered_sized, answered_rests, answered_may}
+use Rattle.hurd_machine.proofs.CallLaws.{CallLaws, answered_piece}
 use Rattle.hurd_dirs.specs.declared.link.FileToName.{FileToName}
 use Rattle.hurd_dirs.specs.Entry.{name_asks, dir_asks}
 use Rattle.hurd_dirs.specs.Link.{OnName, link_asks, plan_link, touches_link}
 use Rattle.hurd_machine.proofs.BothLaws.{AreNamed, are_named, both_same, both_plain}
 use Rattle.hurd_dirs.proofs.EntryLaws.{IsEntryDir, entry_dir, dir_leads, dir_same, dir_plain, name_plain, named_seen, entries_seen}
-
--- a file has an entry more in a directory that leads up, and a link more
-named_linked : (w : World) → Coherent w → (f : FileToName) (name : List ℕ) → LeadsUp (nodes_of w) f.dir → MayLink w f.dir name f.file → KeepsLinked w (EditBody f.dir (with_entry name f.file) ∷ EditHeader f.file linked ∷ [])
-named_linked w c f name up m =
-    let listing = listing_of m.node.header m.node.body (c.tree.shapes f.dir m.node m.is_node) m.dir in
-    again_linked w f.dir f.file name linked m.node listing.0 m.file.header m.is_node listing.1 (ap header_in m.is_file) m.no_dir up (λ h. (refl, refl)) refl
 
 -- dir_link: it asks for a directory whose entries the caller sees, and a file that it has a port on
 
@@ -75,14 +69,9 @@ module _ (t p : ℕ) (name : List ℕ) (q : ℕ) where
 
   pub link_laws : CallLaws t (λ w. plan_link w t p name q) (λ w. touches_link w t p name q)
   link_laws = record {
-    fits = λ w c. answered_within w t (link_asks w t p name q) _ _ (λ f is. answered_within w t (links_at w f.dir name f.file) _ _ (λ u may.
-        link_within f.dir name f.file (Full w t (OnName f)) w (inl (inl refl)) (inl (inr (inl refl))) (inl (inr (inr refl)))));
-    proper = λ w s. answered_proper w _ _ (λ f is. answered_proper w _ _ (λ u may. link_proper f.dir name f.file w s.coherent (may_link w f.dir name f.file u may)));
-    linked = λ w s. answered_linked w _ _ s.linked (λ f is. answered_linked w _ _ s.linked (λ u may.
-        named_linked w s.coherent f name (link_leads w s.linked f (named_by w f is)) (may_link w f.dir name f.file u may) s.linked));
-    sized = λ w s. answered_sized w _ _ s.sizes (λ f is. answered_sized w _ _ s.sizes (λ u may. link_sized f.dir name f.file good w s.sizes));
-    rests = λ w s. answered_rests w _ _ s.settled (λ f is. answered_rests w _ _ s.settled (λ u may. link_rests f.dir name f.file w s.settled));
-    may = λ S v c ours. answered_may v _ _ S v (λ f is. answered_may v _ _ S v (λ u may. link_may f.dir name f.file S v v (file_seen ours f (named_by v f is))));
+    piece = λ w s. answered_piece s (link_asks w t p name q) _ _ (λ f is. answered_piece s (links_at w f.dir name f.file) _ _ (λ u may.
+        let n = named_by w f is in
+        link_whole f.dir name f.file good s (may_link w f.dir name f.file u may) (link_leads w s.linked f n) (inl (inl refl)) (inl (inr (inl refl))) (inl (inr (inr refl))) (λ S ours. file_seen ours f n)));
     same = λ S v w c d a ours. answered_same _ _ _ _ (link_same a ours) (λ f is.
         let n = named_by v f is in
         answered_same _ _ _ _ (links_same a f.dir f.file name (dir_seen ours f n) (file_seen ours f n)) (λ u may. refl));

@@ -13,9 +13,9 @@ use Rattle.hurd_machine.specs.Sight.{EmptyOf, BodyOf, Sees}
 use Rattle.hurd_machine.specs.Sound.{Linked, LeadsUp}
 use Rattle.hurd_machine.proofs.Views.{Agree, body_same}
 use Rattle.hurd_machine.proofs.Asks.{IsPlain, on_ok, given_ok, first_ok, on_same, given_same, first_same, on_plain, given_plain, first_plain, ok_plain, answered_same, answered_plain, done_plain}
-use Rattle.hurd_machine.proofs.CallLaws.{CallLaws, answered_within, answered_proper, answered_linked, answered_sized, answered_rests, answered_may}
+use Rattle.hurd_machine.proofs.CallLaws.{CallLaws, answered_piece}
 use Rattle.hurd_core.specs.Core.{NewNodeAt, making_dir_asks}
-use Rattle.hurd_core.proofs.DirPieces.{asks_dir, dir_within, dir_proper, dir_linked, dir_sized, dir_rests, dir_may, making_dir_same, making_dir_plain}
+use Rattle.hurd_core.proofs.DirPieces.{asks_dir, dir_whole, making_dir_same, making_dir_plain}
 use Rattle.hurd_dirs.specs.Entry.{entry_asks}
 use Rattle.hurd_dirs.specs.Make.{node_by, mkdir_asks, plan_mkdir, touches_mkdir}
 use Rattle.hurd_dirs.proofs.EntryLaws.{IsEntryAt, entry_at, entry_leads, entry_seen, entry_same, entry_plain}
@@ -55,14 +55,8 @@ module _ (t p : ℕ) (name : List ℕ) (mode : Mode) where
 
   pub mkdir_laws : CallLaws t (λ w. plan_mkdir w t p name mode) (λ w. touches_mkdir w t p name mode)
   mkdir_laws = record {
-    fits = λ w c. answered_within w t (mkdir_asks w t p name mode) _ _ (λ f is. answered_within w t (making_dir_asks w t f) _ _ (λ m may.
-        dir_within t f w m (asks_dir t f w m may) (λ q. (q ≡ BodyOf f.dir) ⊎ (q ≡ EmptyOf f.dir)) (inl refl) (inr refl)));
-    proper = λ w s. answered_proper w _ _ (λ f is. answered_proper w _ _ (λ m may. dir_proper t f w m (asks_dir t f w m may) s.coherent));
-    linked = λ w s. answered_linked w _ _ s.linked (λ f is. answered_linked w _ _ s.linked (λ m may.
-        dir_linked t f w m (asks_dir t f w m may) s.coherent (made_leads w s.linked f is) s.linked));
-    sized = λ w s. answered_sized w _ _ s.sizes (λ f is. answered_sized w _ _ s.sizes (λ m may. dir_sized t f w m (asks_dir t f w m may) good s.sizes));
-    rests = λ w s. answered_rests w _ _ s.settled (λ f is. answered_rests w _ _ s.settled (λ m may. dir_rests t f w m (asks_dir t f w m may) s.coherent s.settled));
-    may = λ S v c ours. answered_may v _ _ S v (λ f is. answered_may v _ _ S v (λ m may. dir_may t f v m (asks_dir t f v m may) S ours (made_seen ours f is).0));
+    piece = λ w s. answered_piece s (mkdir_asks w t p name mode) _ _ (λ f is. answered_piece s (making_dir_asks w t f) _ _ (λ m may.
+        dir_whole t f s m (asks_dir t f w m may) (made_leads w s.linked f is) (inl refl) (inr refl) (λ S ours. (made_seen ours f is).0)));
     same = λ S v w c d a ours. answered_same _ _ _ _ (mkdir_same a ours) (λ f is.
         answered_same _ _ _ _ (making_dir_same t f a ours (made_seen ours f is)) (λ m may. refl));
     plain = λ w. answered_plain _ _ (mkdir_plain w) (λ f is. answered_plain _ _ (making_dir_plain t f w) (λ m may. done_plain Done refl));

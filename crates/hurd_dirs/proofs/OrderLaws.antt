@@ -17,7 +17,7 @@ use Rattle.hurd_machine.specs.World.{World, header_at, body_at, home_at, info_at
 use Rattle.hurd_machine.specs.Change.{EditHeader, EditBody, Settle, settle, apply_all, changes_of}
 use Rattle.hurd_machine.proofs.Nodes.{header_in, body_in}
 use Rattle.hurd_machine.proofs.Removals.{same_exact}
-use Rattle.hurd_machine.proofs.Renames.{gone}
+use Rattle.hurd_machine.proofs.Renames.{going}
 use Rattle.hurd_core.specs.Core.{renaming}
 
 edit_at : {X : Type 0} (m : NameMap X) (a : Name) (f : X → X) (q : Name) → q ≡ a → get (edit a f m) q ≡ option_map f (get m q)
@@ -81,7 +81,7 @@ module _ (w : World) (d : Name) (name : List ℕ) (n e : Name) (new : List ℕ) 
 
   module _ (entry : entry_of name (body_at w d) ≡ Some n) (own : are_kin (home_at w d) (home_at w d) ≡ true) (to : are_kin (home_at w d) (home_at w e) ≡ true) (node : are_kin (home_at w d) (home_at w n) ≡ true) where
     -- nothing stands under the new name
-    pub goes-alone : entry_of new (body_at w e) ≡ None → apply_all (renaming w d name e new) w ≡ apply_all (gone d name n e new) w
+    pub goes-alone : entry_of new (body_at w e) ≡ None → apply_all (renaming w d name e new) w ≡ apply_all (going d name n e new ++ Settle ∷ []) w
     goes-alone none =
         ap (λ z. apply_all (changes_of z ++ Settle ∷ []) w)
         (ap (λ o. own_edits (home_at w d) w.homes (rename_edits d name e new o (entry_of new (body_at w e)))) entry
@@ -91,7 +91,7 @@ module _ (w : World) (d : Name) (name : List ℕ) (n e : Name) (new : List ℕ) 
 
     -- another node does
     pub goes-over : (m : Name) → entry_of new (body_at w e) ≡ Some m → is_one n (Some m) ≡ false → are_kin (home_at w d) (home_at w m) ≡ true
-        → apply_all (renaming w d name e new) w ≡ apply_all (EditBody e (without_entry new) ∷ EditHeader m unlinked ∷ gone d name n e new) w
+        → apply_all (renaming w d name e new) w ≡ apply_all (EditBody e (without_entry new) ∷ EditHeader m unlinked ∷ going d name n e new ++ Settle ∷ []) w
     goes-over m some other kin =
         let base : NodeMap = w.nodes in
         let taken : NodeMap = edit e (with_body (without_entry new)) base in

@@ -27,14 +27,16 @@ use Rattle.hurd_machine.proofs.Nodes.{header_in, body_in, node_of_header}
 use Rattle.hurd_machine.proofs.Coherence.{entry_lists}
 use Rattle.hurd_machine.proofs.Views.{Agree, header_same, body_same, home_same, active_same}
 use Rattle.hurd_machine.proofs.Frame.{Full}
-use Rattle.hurd_machine.proofs.Removals.{MayRemove, removal_within, removal_proper, removal_linked, removal_sized, removal_rests, removal_may}
+use Rattle.hurd_machine.proofs.Removals.{MayRemove, unlinking_piece}
 use Rattle.hurd_machine.proofs.Asks.{IsPlain, on_ok, given_ok, first_ok, on_same, given_same, first_same, on_plain, given_plain, first_plain, ok_plain, answered_same, answered_plain, done_plain}
-use Rattle.hurd_machine.proofs.CallLaws.{CallLaws, answered_within, answered_proper, answered_linked, answered_sized, answered_rests, answered_may}
+use Rattle.hurd_machine.proofs.CallLaws.{CallLaws, answered_piece}
 use Rattle.hurd_core.specs.Core.{unlinking}
 use Rattle.hurd_core.proofs.PlanLaws.{follows-then, follows-from}
 use Rattle.hurd_dirs.specs.Entry.{entry_asks, may_take}
 use Rattle.hurd_dirs.specs.Remove.{Entered, OnEntry, is_empty_at, found_asks, taking_asks, removing, unlink_asks, plan_unlink, touches_unlink, rmdir_asks, plan_rmdir, touches_rmdir}
 use Rattle.hurd_dirs.proofs.EntryLaws.{IsEntryAt, dir_kind, entry_at, entry_seen, entry_same, entry_plain, right_taken}
+use Rattle.hurd_machine.proofs.Removals as gone
+use Rattle.hurd_machine.proofs.Piece.{stands, settled}
 
 -- an entry of a name, which names a node of the directory's server
 pub record IsFound (w : World) (d : Name) (name : List ℕ) (x : Entered) : Type 0 where
@@ -206,12 +208,10 @@ module _ (t p : ℕ) (name : List ℕ) (asks : World → Result Entered Errno) w
   removal_laws : ((w : World) (x : Entered) → asks w ≡ Ok x → MayTake w t p name x) → ((S : ℕ → Bool) (v w : World) → Coherent v → Agree S v w → S t ≡ true → asks w ≡ asks v) → ((w : World) → IsPlain (asks w))
       → CallLaws t (λ w. answered (asks w) (removing name)) (λ w. asked_parts (asks w) OnEntry)
   removal_laws takes same plain = record {
-    fits = λ w c. answered_within w t (asks w) _ _ (λ x is. removal_within x.dir name x.node (Full w t (OnEntry x)) w (inl (inl refl)) (inl (inr (inl refl))) (inl (inr (inr refl))));
-    proper = λ w s. answered_proper w _ _ (λ x is. removal_proper x.dir name x.node w s.coherent (may_remove w s.coherent t p name x (takes w x is)) s.linked);
-    linked = λ w s. answered_linked w _ _ s.linked (λ x is. removal_linked x.dir name x.node w s.coherent (may_remove w s.coherent t p name x (takes w x is)) s.linked);
-    sized = λ w s. answered_sized w _ _ s.sizes (λ x is. removal_sized x.dir name x.node good w s.sizes);
-    rests = λ w s. answered_rests w _ _ s.settled (λ x is. removal_rests x.dir name x.node w s.settled);
-    may = λ S v c ours. answered_may v _ _ S v (λ x is. removal_may x.dir name x.node S v c (body_seen t ours p name x (takes v x is).is_taking));
+    piece = λ w s. answered_piece s (asks w) _ _ (λ x is.
+        let k = takes w x is in
+        settled (gone.unlinking x.dir name x.node) (tt, (tt, tt)) (stands s) (unlinking_piece x.dir name x.node good (stands s) (may_remove w s.coherent t p name x k) (inl (inl refl)) (inl (inr (inl refl))) (inl (inr (inr refl)))
+        (λ S ours. body_seen t ours p name x k.is_taking)));
     same = λ S v w c d a ours. answered_same _ _ _ _ (same S v w c a ours) (λ x is. refl);
     plain = λ w. answered_plain _ _ (plain w) (λ x is. done_plain Done refl);
   }

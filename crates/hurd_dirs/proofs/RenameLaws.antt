@@ -1,5 +1,5 @@
 -- The laws of renames.
-use Rattle.std.proofs.Common.{◌≡◌, ◌≢◌, ◌⊎◌, ◌∙◌, ℕ, ◌&&◌, ◌||◌, not, Bool, true, false, true≢false, if◌then◌else◌, List, [], ◌∷◌, Option, Some, None, refl, sym, subst, inl, inr, ap, ap₂}
+use Rattle.std.proofs.Common.{◌≡◌, ◌≢◌, ◌⊎◌, ◌∙◌, ℕ, ◌&&◌, ◌||◌, not, Bool, true, false, true≢false, if◌then◌else◌, List, [], ◌∷◌, ◌++◌, Option, Some, None, refl, sym, subst, inl, inr, ap, ap₂}
 use Rattle.std.specs.Prelude.{Result, Ok, Err, is_some}
 use Rattle.std.specs.Option.{option_map}
 use Rattle.std.specs.FinMap.{get}
@@ -22,21 +22,21 @@ use Rattle.hurd_machine.specs.Plan.{Plan, Planned}
 use Rattle.hurd_machine.specs.Handle.{Named, both_asks}
 use Rattle.hurd_machine.specs.Change.{Change, EditHeader, EditBody, apply, apply_all}
 use Rattle.hurd_machine.specs.Sight.{Part, AttrOf, EmptyOf, BodyOf, Seen, Child, Sees, Could, Allowed, ToSearch, ByParent, bare, AnEmpty}
-use Rattle.hurd_machine.specs.Sound.{HasDistinctNames, Coherent, Linked, LeadsUp}
+use Rattle.hurd_machine.specs.Sound.{HasDistinctNames, Sound, Coherent, Linked, LeadsUp}
 use Rattle.hurd_machine.proofs.Nodes.{header_in, body_in, node_of_header, edit_keeps, edit_reads, header-with_header, header-with_body, body-with_header, body-with_body}
 use Rattle.hurd_machine.proofs.Views.{Agree, header_same, home_same, active_same, body_same}
 use Rattle.hurd_machine.proofs.Coherence.{AllProper, entry_lists}
 use Rattle.hurd_machine.proofs.Keeping.{coherent_all, proper_append}
-use Rattle.hurd_machine.proofs.Settle.{Rests, rests_settle}
+use Rattle.hurd_machine.proofs.Settle.{Rests}
 use Rattle.hurd_machine.proofs.Frame.{AllWithin, Full}
 use Rattle.hurd_machine.proofs.Sizes.{KeepsSized, sized_append, sized_header, sized_removed}
 use Rattle.hurd_machine.proofs.Several.{AllMay}
 use Rattle.hurd_machine.proofs.Links.{leads_unless, listing_of}
 use Rattle.hurd_machine.proofs.Linking.{kin_are}
-use Rattle.hurd_machine.proofs.Removals.{MayRemove, unlinking, unlinked_less, distinct_at, entry_of_before, names_without, unlinking_proper, left_linked}
-use Rattle.hurd_machine.proofs.Renames.{MayGo, may_go, gone, going, taken_none, taken_other, gone_within, gone_rests, gone_sized, gone_may, gone_proper, gone_linked}
+use Rattle.hurd_machine.proofs.Removals.{MayRemove, unlinking, distinct_at, left_linked, unlinking_piece}
+use Rattle.hurd_machine.proofs.Renames.{MayGo, may_go, going, taken_none, taken_other, going_piece}
 use Rattle.hurd_machine.proofs.Asks.{IsPlain, IsNamed, info_same, is_root_same, on_ok, given_ok, first_ok, on_same, given_same, first_same, on_plain, given_plain, first_plain, ok_plain, answered_same, answered_plain, done_plain}
-use Rattle.hurd_machine.proofs.CallLaws.{CallLaws, answered_within, answered_proper, answered_linked, answered_sized, answered_rests, answered_may}
+use Rattle.hurd_machine.proofs.CallLaws.{CallLaws, answered_piece}
 use Rattle.hurd_core.specs.Core as core
 use Rattle.hurd_core.specs.Core.{Does}
 use Rattle.hurd_core.proofs.PlanLaws.{asked-done, asked-lacks}
@@ -49,6 +49,7 @@ use Rattle.hurd_machine.proofs.BothLaws.{AreNamed, are_named, both_same, both_pl
 use Rattle.hurd_dirs.proofs.RemoveLaws.{kin_itself}
 use Rattle.hurd_dirs.proofs.OrderLaws.{goes-alone, goes-over, may_rename}
 use Rattle.hurd_dirs.proofs.ClimbLaws.{inside_same, inside_around, inside_fewer}
+use Rattle.hurd_machine.proofs.Piece.{Stands, Piece, Whole, stands, whole_none, piece_then, settled}
 
 -- what an answer shows
 
@@ -217,19 +218,6 @@ module _ (w : World) (e : Name) (new : List ℕ) (m : Name) where
             | inr none ↦ inr (rw same (ap parent_in (read ∙ ap (option_map unlinked) is) ∙ none))
           ]
 
-  -- bodies have distinct names
-  left_distinct : ((d : Name) (b : Body) → body_at w d ≡ Some b → HasDistinctNames b) → (d : Name) (b : Body) → body_at unlinked_world d ≡ Some b → HasDistinctNames b
-  left_distinct distinct d b is = elim (same_or_apart d e) [
-    | inl same ↦ by (body_at w e) refl (sym left_here ∙ rw same at is)
-    | inr apart ↦ distinct d b (sym (left_apart d apart) ∙ is)
-  ]
-    where
-      by : (o : Option Body) → body_at w e ≡ o → option_map (without_entry new) (body_at w e) ≡ Some b → HasDistinctNames b
-      by None at h = let none : None ≡ Some b = ap (option_map (without_entry new)) (sym at) ∙ h in absurd (cc)
-      by (Some c) at h =
-          let same : without_entry new c ≡ b = cc (ap (option_map (without_entry new)) (sym at) ∙ h) in
-          subst HasDistinctNames same (names_without new c (distinct e c at))
-
 -- in a world in which it is asked
 module _ (w : World) (t p q : ℕ) (name new : List ℕ) (a b : Named) (l : Name × Header) (f : Asked w t p q name new a b l) where
   abbrev d : Name
@@ -289,9 +277,6 @@ module _ (w : World) (t p q : ℕ) (name new : List ℕ) (a b : Named) (l : Name
 
       abbrev left : World
       left = unlinked_world w e new m
-
-      left_coherent : Coherent left
-      left_coherent = coherent_all (unlinking e new m) w c (unlinking_proper e new m w c removes linked)
 
       left_links : Linked (nodes_of left)
       left_links = left_linked e new m w c removes linked
@@ -446,97 +431,48 @@ module _ (t p q : ℕ) (name new : List ℕ) where
   abbrev touched : Renaming → Part → Type 0
   touched r x = ((x ≡ BodyOf r.from) ⊎ (x ≡ EmptyOf r.from)) ⊎ (((x ≡ BodyOf r.to) ⊎ (x ≡ EmptyOf r.to)) ⊎ ((x ≡ AttrOf r.node) ⊎ ((m : Name) × (r.old ≡ Some m) × (x ≡ AttrOf m))))
 
-  rename_within : (w : World) (r : Renaming) → rename_asks w t p name q new ≡ Ok r → AllWithin (Full w t (touched r)) w (renames name new r r.old)
-  rename_within w = asked_all w t p q name new (λ r. AllWithin (Full w t (touched r)) w (renames name new r r.old)) each
+  rename_whole : (w : World) → Sound w → (r : Renaming) → rename_asks w t p name q new ≡ Ok r → Whole t (Full w t (touched r)) w w (renames name new r r.old)
+  rename_whole w s = asked_all w t p q name new (λ r. Whole t (Full w t (touched r)) w w (renames name new r r.old)) each
     where
-      each : (a b : Named) (l : Name × Header) → Asked w t p q name new a b l → let r : Renaming = renaming w new a b l in AllWithin (Full w t (touched r)) w (renames name new r r.old)
-      each a b l f =
-          let r : Renaming = renaming w new a b l in
-          let T : Part → Type 0 = Full w t (touched r) in
-          let body : T (BodyOf r.to) = inl (inr (inl (inl refl))) in
-          let empty : T (EmptyOf r.to) = inl (inr (inl (inr refl))) in
-          let moved = gone_within r.from name r.node r.to new T in
-          by_old w b l r name new (AllWithin T w) refl f.old tt
-          (λ none. moved w (inl (inl (inl refl))) (inl (inl (inr refl))) (inl (inr (inr (inl refl)))) body empty)
-          (λ m old other gives. ((body, inl empty), (inl (inr (inr (inr (m, old, refl)))), moved (unlinked_world w r.to new m) (inl (inl (inl refl))) (inl (inl (inr refl))) (inl (inr (inr (inl refl)))) body empty)))
+      c : Coherent w
+      c = s.coherent
 
-  rename_proper : (w : World) → Coherent w → Linked (nodes_of w) → (r : Renaming) → rename_asks w t p name q new ≡ Ok r → AllProper w (renames name new r r.old)
-  rename_proper w c linked = asked_all w t p q name new (λ r. AllProper w (renames name new r r.old)) each
-    where
-      each : (a b : Named) (l : Name × Header) → Asked w t p q name new a b l → let r : Renaming = renaming w new a b l in AllProper w (renames name new r r.old)
-      each a b l f =
-          let r : Renaming = renaming w new a b l in
-          by_old w b l r name new (AllProper w) refl f.old tt
-          (λ none. gone_proper r.from name r.node r.to new w c (goes w t p q name new a b l f c linked none) linked)
-          (λ m old other gives.
-          proper_append (unlinking r.to new m) (gone r.from name r.node r.to new) w c (unlinking_proper r.to new m w c (removes w t p q name new a b l f c linked m old other gives) linked)
-          (λ next. gone_proper r.from name r.node r.to new (unlinked_world w r.to new m) next (left_goes w t p q name new a b l f c linked m old other gives) (left_links w t p q name new a b l f c linked m old other gives)))
-
-  rename_linked : (w : World) → Coherent w → Linked (nodes_of w) → (r : Renaming) → rename_asks w t p name q new ≡ Ok r → Linked (nodes_of (apply_all (renames name new r r.old) w))
-  rename_linked w c linked = asked_all w t p q name new (λ r. Linked (nodes_of (apply_all (renames name new r r.old) w))) each
-    where
-      each : (a b : Named) (l : Name × Header) → Asked w t p q name new a b l → let r : Renaming = renaming w new a b l in Linked (nodes_of (apply_all (renames name new r r.old) w))
-      each a b l f =
-          let r : Renaming = renaming w new a b l in
-          by_old w b l r name new (λ cs. Linked (nodes_of (apply_all cs w))) refl f.old linked
-          (λ none. gone_linked r.from name r.node r.to new w c (goes w t p q name new a b l f c linked none) linked)
-          (λ m old other gives.
-          gone_linked r.from name r.node r.to new (unlinked_world w r.to new m) (left_coherent w t p q name new a b l f c linked m old other gives)
-          (left_goes w t p q name new a b l f c linked m old other gives) (left_links w t p q name new a b l f c linked m old other gives))
-
-  rename_sized : (w : World) (r : Renaming) → rename_asks w t p name q new ≡ Ok r → KeepsSized w (renames name new r r.old)
-  rename_sized w = asked_all w t p q name new (λ r. KeepsSized w (renames name new r r.old)) each
-    where
-      each : (a b : Named) (l : Name × Header) → Asked w t p q name new a b l → let r : Renaming = renaming w new a b l in KeepsSized w (renames name new r r.old)
-      each a b l f =
-          let r : Renaming = renaming w new a b l in
-          let onward : List Change = gone r.from name r.node r.to new in
-          by_old w b l r name new (KeepsSized w) refl f.old (λ fit. fit) (λ none. gone_sized r.from name r.node r.to new good w)
-          (λ m old other gives.
-          let cut : World = apply (EditBody r.to (without_entry new)) w in
-          sized_append (EditBody r.to (without_entry new) ∷ []) (EditHeader m unlinked ∷ onward) w (sized_removed good w r.to new)
-          (sized_append (EditHeader m unlinked ∷ []) onward cut (sized_header cut m unlinked (λ h. refl)) (gone_sized r.from name r.node r.to new good (unlinked_world w r.to new m))))
-
-  rename_rests : (w : World) (r : Renaming) → rename_asks w t p name q new ≡ Ok r → Rests w (renames name new r r.old)
-  rename_rests w = asked_all w t p q name new (λ r. Rests w (renames name new r r.old)) each
-    where
-      each : (a b : Named) (l : Name × Header) → Asked w t p q name new a b l → let r : Renaming = renaming w new a b l in Rests w (renames name new r r.old)
-      each a b l f =
-          let r : Renaming = renaming w new a b l in
-          by_old w b l r name new (Rests w) refl f.old (λ rest. rest) (λ none. gone_rests r.from name r.node r.to new w)
-          (λ m old other gives. rests_settle (EditBody r.to (without_entry new) ∷ EditHeader m unlinked ∷ going r.from name r.node r.to new) w)
-
-  rename_may : (S : ℕ → Bool) (v : World) → Coherent v → S t ≡ true → (r : Renaming) → rename_asks v t p name q new ≡ Ok r → AllMay S v v (renames name new r r.old)
-  rename_may S v c ours = asked_all v t p q name new (λ r. AllMay S v v (renames name new r r.old)) each
-    where
-      each : (a b : Named) (l : Name × Header) → Asked v t p q name new a b l → let r : Renaming = renaming v new a b l in AllMay S v v (renames name new r r.old)
-      each a b l f =
-          let r : Renaming = renaming v new a b l in
-          let from : Sees S v (BodyOf r.from) = searched t ours p a f.named.one f.trees.from_dir f.trees.from_search in
-          let to : Sees S v (BodyOf r.to) = searched t ours q b f.named.other f.trees.to_dir f.trees.to_search in
-          let seen : Seen S v r.node = child_seen t ours p a f.named.one f.trees.from_dir f.trees.from_search name r.node f.leaving.entry in
-          by_old v b l r name new (AllMay S v v) refl f.old tt
-          (λ none. gone_may r.from name r.node r.to new S v v from (distinct_at v c r.from) seen to.0 (known a b l f))
-          (λ m old other gives. (
-            (inr (inl to), λ y z n is e. inl (entry_of_before new z n y (distinct_at v c r.to y is) e)),
-            (
-              (λ h at. unlinked_less r.to new m S v h),
-              gone_may r.from name r.node r.to new S v (unlinked_world v r.to new m) from (left_distinct v r.to new m (distinct_at v c) r.from) seen to.0
-                  (λ h at dir. known a b l f h (sym (left_header v r.to new m r.node (λ same. other (sym same))) ∙ at) dir),
-            ),
-          ))
+      each : (a b : Named) (l : Name × Header) → Asked w t p q name new a b l → let r : Renaming = renaming w new a b l in Whole t (Full w t (touched r)) w w (renames name new r r.old)
+      each a b l f = by_old w b l r name new (Whole t T w w) refl f.old (whole_none s) (λ none. settled goings (tt, (tt, (tt, tt))) (stands s) (onward (stands s) (goes w t p q name new a b l f c s.linked none) (λ h at. at))) (λ m old other gives.
+          settled (unlinking r.to new m ++ goings) (tt, (tt, (tt, (tt, (tt, tt))))) (stands s)
+          (piece_then (unlinking r.to new m) goings (tt, (tt, tt)) (stands s) (unlinking_piece r.to new m good (stands s) (removes w t p q name new a b l f c s.linked m old other gives) body empty (inl (inr (inr (inr (m, old, refl))))) (λ S ours. to S ours))
+          (λ d. onward d (left_goes w t p q name new a b l f c s.linked m old other gives) (λ h at. sym (left_header w r.to new m r.node (λ same. other (sym same))) ∙ at))))
         where
-          known : (a b : Named) (l : Name × Header) → Asked v t p q name new a b l → (h : Header) → header_at v l.0 ≡ Some h → is_dir h.kind ≡ true → Sees S v (EmptyOf l.0)
-          known a b l f h at dir = child_empty t ours p a f.named.one f.trees.from_dir c f.trees.from_search f.trees.from_write name l.0 h f.leaving.entry at (dir_kind h.kind dir)
+          r : Renaming
+          r = renaming w new a b l
+
+          T : Part → Type 0
+          T = Full w t (touched r)
+
+          goings : List Change
+          goings = going r.from name r.node r.to new
+
+          body : T (BodyOf r.to)
+          body = inl (inr (inl (inl refl)))
+
+          empty : T (EmptyOf r.to)
+          empty = inl (inr (inl (inr refl)))
+
+          to : (S : ℕ → Bool) → S t ≡ true → Sees S w (BodyOf r.to)
+          to S ours = searched t ours q b f.named.other f.trees.to_dir f.trees.to_search
+
+          -- in a world where the node has the header that it had
+          onward : {x : World} → Stands x → MayGo x r.from name r.node r.to new → ((h : Header) → header_at x r.node ≡ Some h → header_at w r.node ≡ Some h) → Piece t T w x goings
+          onward st may was = going_piece r.from name r.node r.to new good st may (inl (inl (inl refl))) (inl (inl (inr refl))) (inl (inr (inr (inl refl)))) body empty (λ S ours. (
+            searched t ours p a f.named.one f.trees.from_dir f.trees.from_search,
+            child_seen t ours p a f.named.one f.trees.from_dir f.trees.from_search name r.node f.leaving.entry,
+            (to S ours).0,
+            λ h at dir. child_empty t ours p a f.named.one f.trees.from_dir c f.trees.from_search f.trees.from_write name l.0 h f.leaving.entry (was h at) (dir_kind h.kind dir),
+          ))
 
   pub rename_laws : CallLaws t (λ w. plan_rename w t p name q new) (λ w. touches_rename w t p name q new)
   rename_laws = record {
-    fits = λ w c. answered_within w t (rename_asks w t p name q new) _ _ (λ r is. rename_within w r is);
-    proper = λ w s. answered_proper w _ _ (λ r is. rename_proper w s.coherent s.linked r is);
-    linked = λ w s. answered_linked w _ _ s.linked (λ r is. rename_linked w s.coherent s.linked r is);
-    sized = λ w s. answered_sized w _ _ s.sizes (λ r is. rename_sized w r is s.sizes);
-    rests = λ w s. answered_rests w _ _ s.settled (λ r is. rename_rests w r is s.settled);
-    may = λ S v c ours. answered_may v _ _ S v (λ r is. rename_may S v c ours r is);
+    piece = λ w s. answered_piece s (rename_asks w t p name q new) _ _ (λ r is. rename_whole w s r is);
     same = λ S v w c d a ours. answered_same _ _ _ _ (rename_same a c ours) (λ r is. refl);
     plain = λ w. answered_plain _ _ (rename_plain w) (λ r is. done_plain Done refl);
   }

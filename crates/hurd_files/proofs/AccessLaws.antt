@@ -13,12 +13,11 @@ use Rattle.hurd_machine.specs.declared.call.Reply.TheVariants.{Done}
 use Rattle.hurd_machine.specs.World.{World, sets_attrs_at}
 use Rattle.hurd_machine.specs.Plan.{Follows, answered}
 use Rattle.hurd_machine.specs.Handle.{Named, port_asks}
-use Rattle.hurd_machine.specs.Sight.{AttrOf, Holds, HasUid, UidOfRight, bare}
+use Rattle.hurd_machine.specs.Sight.{Holds, HasUid, UidOfRight, bare}
 use Rattle.hurd_machine.proofs.Views.{Agree}
-use Rattle.hurd_machine.proofs.Frame.{Full}
-use Rattle.hurd_machine.proofs.Attrs.{attrs_within, attrs_proper, attrs_sized, attrs_linked, attrs_rests, attrs_may}
+use Rattle.hurd_machine.proofs.Attrs.{attrs_whole}
 use Rattle.hurd_machine.proofs.Asks.{IsPlain, IsNamed, is_named, port_same, port_seen, port_plain, sets_attrs_same, sets_attrs_plain, holds_right, first_ok, given_ok, first_same, first_plain, given_plain, ok_plain, answered_same, answered_plain, done_plain}
-use Rattle.hurd_machine.proofs.CallLaws.{CallLaws, looking_laws, answered_within, answered_proper, answered_linked, answered_sized, answered_rests, answered_may}
+use Rattle.hurd_machine.proofs.CallLaws.{CallLaws, answered_piece, looking_laws}
 use Rattle.hurd_core.proofs.PlanLaws.{follows-then, follows-from}
 use Rattle.hurd_files.specs.Access.{told_access, plan_check_access, touches_check_access, setting_asks, setting, touches_setting, plan_chmod, touches_chmod, gives, plan_chown, touches_chown}
 
@@ -72,16 +71,10 @@ module _ (t p : ℕ) (can : IdSets → Attrs → Bool) (owner group : Named → 
   pub setting_laws : ((ids : IdSets) (a : Attrs) → can ids a ≡ true → owns ids a ≡ true)
       → CallLaws t (λ w. answered (setting_asks w t p can) (λ n. setting n (owner n) (group n) (mode n))) (λ w. touches_setting w t p can)
   setting_laws owners = record {
-    fits = λ w c. answered_within w t (setting_asks w t p can) _ _ (λ n is.
-        attrs_within n.right.node (owner n) (group n) (mode n) (Full w t (λ q. q ≡ AttrOf n.right.node)) w (inl refl));
-    proper = λ w c. answered_proper w _ _ (λ n is. attrs_proper n.right.node (owner n) (group n) (mode n) w);
-    linked = λ w s. answered_linked w _ _ s.linked (λ n is. attrs_linked n.right.node (owner n) (group n) (mode n) w s.linked);
-    sized = λ w s. answered_sized w _ _ s.sizes (λ n is. attrs_sized n.right.node (owner n) (group n) (mode n) w s.sizes);
-    rests = λ w s. answered_rests w _ _ s.settled (λ n is. attrs_rests n.right.node (owner n) (group n) (mode n) w s.settled);
-    may = λ S v c ours. answered_may v _ _ S v (λ n is.
-        let m = may_set v t p can n is in
-        let o = owner_holds S v n (holds_right t ours p (Io n.right) m.is_named.is_right) (owners n.right.ids (bare n.header) m.may) in
-        attrs_may n.right.node (owner n) (group n) (mode n) S v v n.header m.is_named.is_header o.0 o.1 o.2);
+    piece = λ w s. answered_piece s (setting_asks w t p can) _ _ (λ n is.
+        let m = may_set w t p can n is in
+        attrs_whole n.right.node (owner n) (group n) (mode n) s (inl refl) n.header m.is_named.is_header (λ S ours.
+        owner_holds S w n (holds_right t ours p (Io n.right) m.is_named.is_right) (owners n.right.ids (bare n.header) m.may)));
     same = λ S v w c d a ours. answered_same _ _ _ _ (setting_same S v w a ours) (λ n is. refl);
     plain = λ w. answered_plain _ _ (setting_plain w) (λ n is. done_plain Done refl);
   }

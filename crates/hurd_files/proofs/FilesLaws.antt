@@ -10,13 +10,9 @@ use Rattle.hurd_machine.specs.declared.call.Reply.TheVariants.{Done}
 use Rattle.hurd_machine.specs.World.{World, asked_at}
 use Rattle.hurd_machine.specs.Handle.{handle_asks}
 use Rattle.hurd_machine.specs.Sight.{Seen}
-use Rattle.hurd_machine.specs.Touched.{OnDid}
-use Rattle.hurd_machine.proofs.Frame.{Full}
-use Rattle.hurd_machine.proofs.Sizes.{did_sized}
-use Rattle.hurd_machine.proofs.Permits.{did_may}
-use Rattle.hurd_machine.proofs.Edits.{did_within, did_proper, did_rests, did_linked}
+use Rattle.hurd_machine.proofs.Edits.{did_whole}
 use Rattle.hurd_machine.proofs.Asks.{first_same, answered_same, first_ok, first_plain, ok_plain, answered_plain, done_plain, handle_same, handle_seen, handle_plain, asked_same, asked_plain, IsPlain, given_same, given_plain, err_plain, handle_read}
-use Rattle.hurd_machine.proofs.CallLaws.{CallLaws, looking_laws, answered_within, answered_proper, answered_sized, answered_rests, answered_may, answered_linked}
+use Rattle.hurd_machine.proofs.CallLaws.{CallLaws, answered_piece, looking_laws}
 use Rattle.hurd_files.specs.Files.{set_size_asks, plan_set_size, touches_set_size, readdir_asks, plan_readdir, touches_readdir}
 use Rattle.hurd_trans_iface.specs.Nodes.{Body, Content, Listing}
 use Rattle.hurd_trans_iface.specs.Answers.{names_of}
@@ -30,14 +26,8 @@ resized_by w t p n is = let h = first_ok _ _ n is in (h.0, h.1, cc (h.2))
 
 pub set_size_laws : (t p size : ℕ) → CallLaws t (λ w. plan_set_size w t p size) (λ w. touches_set_size w t p size)
 set_size_laws t p size = record {
-  fits = λ w c. answered_within w t (set_size_asks w t p) _ _ (λ n is. answered_within w t (asked_at (resizing size) n w) _ _ (λ d told.
-      did_within (Full w t (OnDid n d)) w n d (λ q on. inl on)));
-  proper = λ w s. answered_proper w _ _ (λ n is. answered_proper w _ _ (λ d told. did_proper w s.coherent n d));
-  linked = λ w s. answered_linked w _ _ s.linked (λ n is. answered_linked w _ _ s.linked (λ d told. did_linked w n d s.linked));
-  sized = λ w s. answered_sized w _ _ s.sizes (λ n is. answered_sized w _ _ s.sizes (λ d told.
-      did_sized (resizing size) (λ k. (good k).set_size_sizes size) w s.coherent n d told s.sizes));
-  rests = λ w s. answered_rests w _ _ s.settled (λ n is. answered_rests w _ _ s.settled (λ d told. did_rests w n d s.settled));
-  may = λ S v c ours. answered_may v _ _ S v (λ n is. answered_may v _ _ S v (λ d told. did_may S v v n d));
+  piece = λ w s. answered_piece s (set_size_asks w t p) _ _ (λ n is. answered_piece s (asked_at (resizing size) n w) _ _ (λ d told.
+      did_whole s (resizing size) (λ k. (good k).set_size_sizes size) n d told (λ q on. inl on)));
   same = λ S v w c d a ours. answered_same _ _ _ _ (first_same _ _ _ _ (handle_same a t ours p WRITE) (λ h is. refl)) (λ n is.
       let h = resized_by v t p n is in
       let seen : Seen S v n = subst (Seen S v) h.2 (handle_seen t ours p WRITE h.0 h.1) in

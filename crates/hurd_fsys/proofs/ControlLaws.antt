@@ -11,29 +11,20 @@ use Rattle.hurd_creds.specs.declared.errno.Errno.TheVariants.{EBADF, EDIED}
 use Rattle.hurd_ports.specs.declared.table.IoRight.{IoRight}
 use Rattle.hurd_ports.specs.declared.table.Right.{Right}
 use Rattle.hurd_ports.specs.declared.table.Right.TheVariants.{Io, Control, Start}
-use Rattle.hurd_ports.specs.Tables.{Task, right_of, names_open}
-use Rattle.hurd_machine.specs.World.{World, ports_of, task_at, server_at}
+use Rattle.hurd_ports.specs.Tables.{right_of}
+use Rattle.hurd_machine.specs.World.{World, ports_of, server_at}
 use Rattle.std.proofs.lemmas.Bool.{or_cases}
 use Rattle.hurd_creds.specs.Access.{IdSets, holds_uid, is_root, least_uid, owns}
 use Rattle.hurd_creds.proofs.IdLaws.{least-answer}
 use Rattle.hurd_nodes.specs.Shown.{ServerInfo}
 use Rattle.hurd_machine.specs.Handle.{Named}
-use Rattle.hurd_machine.specs.Sight.{Part, TaskOf, Holds, OfControl, OwnsIt, CouldServe, UidOfRight, bare, is_on}
-use Rattle.hurd_machine.specs.Sound.{Below, Coherent}
+use Rattle.hurd_machine.specs.Sight.{Holds, OfControl, OwnsIt, CouldServe, UidOfRight, bare}
+use Rattle.hurd_machine.specs.Sound.{Coherent}
 use Rattle.hurd_machine.proofs.Asks.{IsPlain, right_same, right_plain, holds_right, first_ok, on_ok, first_same, on_same, first_plain, on_plain, ok_plain, err_plain}
 use Rattle.hurd_machine.proofs.Views.{Agree, server_known}
-use Rattle.hurd_machine.proofs.Coherence.{AllProper}
-use Rattle.hurd_machine.proofs.Rights.{port_rights, port_keeps, port_counts, port_table}
-use Rattle.hurd_machine.proofs.Settle.{Rests, rests_quiet}
-use Rattle.hurd_machine.proofs.Frame.{AllWithin, not_on, not_named}
-use Rattle.hurd_machine.proofs.Sizes.{KeepsSized, sized_ports}
-use Rattle.hurd_machine.proofs.Links.{KeepsLinked, linked_steady}
-use Rattle.hurd_machine.proofs.Allowed.{RightMay, IdsMay}
-use Rattle.hurd_machine.proofs.Confine.{Commands}
-use Rattle.hurd_machine.proofs.Several.{AllMay}
 use Rattle.hurd_core.specs.Control.{control_in, control_of}
 use Rattle.hurd_fsys.specs.Controls.{Controlled, control_asks}
-use Rattle.hurd_fsys.specs.Fsys.{controlling, holds_any, may_control}
+use Rattle.hurd_fsys.specs.Fsys.{holds_any, may_control}
 
 -- a port that controls is one with that right
 pub control_is : (w : World) (t c : ℕ) (s : Name) → control_of (ports_of w) t c ≡ Ok s → right_of (ports_of w) t c ≡ Ok (Control s)
@@ -105,49 +96,3 @@ controller_holds S v c r held s i is may =
       | inl root ↦ (0, UidOfRight r held root, inr refl)
       | inr any ↦ (one.0, UidOfRight r held (ap (holds_any r.ids) (sym (its_uid i.ids one.0 one.1)) ∙ any), inl (has_its_uid i.ids one.0 one.1))
     ]
-
--- a port more, to control a server
-
-module _ (t : ℕ) (s : Name) where
-  abbrev new : Right
-  new = Control s
-
-  pub controls_within : (T : Part → Type 0) (w : World) → T (TaskOf t) → AllWithin T w (controlling t s)
-  controls_within T w task = (
-    (
-      task,
-      λ x is. record {
-        opens = λ o out. port_counts (names_open o) new x (not_named w o new T tt out);
-        users = λ q out. port_counts (is_on w q) new x (not_on w q new T tt out);
-      },
-    ),
-    tt,
-  )
-
-  pub controls_proper : (w : World) → Coherent w → (x : Task) → task_at w t ≡ Some x → Below w s → AllProper w (controlling t s)
-  controls_proper w c x is given = ((λ z. omega arith, x, is, port_table w c t new x is given), λ d. tt)
-
-  pub controls_rests : (w : World) → Rests w (controlling t s)
-  controls_rests w = rests_quiet (controlling t s) w (port_keeps new, tt)
-
-  pub controls_sized : (w : World) → KeepsSized w (controlling t s)
-  controls_sized w = sized_ports (controlling t s) w (tt, tt)
-
-  pub controls_linked : (w : World) → KeepsLinked w (controlling t s)
-  controls_linked w = linked_steady (controlling t s) w (tt, tt)
-
-  -- a task of S may control what S commands
-  pub controls_may : (S : ℕ → Bool) (v : World) → S t ≡ true → Commands S v s → AllMay S v v (controlling t s)
-  controls_may S v ours commands = (
-    (
-      ours,
-      λ a at. (
-        λ q h. elim (port_rights new a q h) [ inl old ↦ inl old | inr e ↦ inr (subst (RightMay S v v) e commands) ],
-        inr (record {
-          ids = inl refl;
-          rights = λ q h. elim (port_rights new a q h) [ inl old ↦ inl old | inr e ↦ inr (subst (IdsMay S v) e tt) ];
-        }),
-      ),
-    ),
-    tt,
-  )

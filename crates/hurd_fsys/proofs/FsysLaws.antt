@@ -1,5 +1,5 @@
 -- The laws of sending servers away, of getting control of them, and of asking how they were made.
-use Rattle.std.proofs.Common.{◌≡◌, ◌≢◌, ◌∙◌, ◌||◌, ◌&&◌, ◌==◌, not, ℕ, Bool, true, false, true≢false, Some, refl, sym, ap, subst, inl, inr}
+use Rattle.std.proofs.Common.{[], ◌∷◌, ◌≡◌, ◌≢◌, ◌∙◌, ◌||◌, ◌&&◌, ◌==◌, not, ℕ, Bool, true, false, true≢false, Some, refl, sym, ap, subst, inl, inr}
 use Rattle.std.specs.Prelude.{Result, Ok}
 use Rattle.hurd_creds.specs.declared.name.Name.{Name}
 use Rattle.hurd_creds.specs.declared.trans_flags.GoawayFlags.{GoawayFlags}
@@ -14,18 +14,16 @@ use Rattle.hurd_ports.specs.declared.table.Right.TheVariants.{Io, Control}
 use Rattle.hurd_ports.specs.Tables.{Task, has_room}
 use Rattle.hurd_machine.specs.declared.call.Reply.TheVariants.{Done, Port, Words}
 use Rattle.hurd_machine.specs.World.{World, task_at, home_at, active_at, server_at}
-use Rattle.hurd_machine.specs.Plan.{Plan}
 use Rattle.hurd_machine.specs.Handle.{Named, port_asks}
 use Rattle.hurd_machine.specs.Sight.{Holds, Seen, Held, UsersOf, ByControl, ByNode, BySeat, users}
 use Rattle.hurd_machine.specs.Sound.{Coherent}
-use Rattle.hurd_machine.specs.Touched.{Goes, Nothing}
+use Rattle.hurd_machine.specs.Touched.{Nothing}
 use Rattle.hurd_machine.proofs.Views.{Agree, same_tasks, home_same, active_same, server_same}
-use Rattle.hurd_machine.proofs.Frame.{Full, AllWithin}
 use Rattle.hurd_machine.proofs.Opens.{own_task}
-use Rattle.hurd_machine.proofs.Going.{goes_within, goes_proper, goes_linked, goes_sized, goes_rests, goes_may}
+use Rattle.hurd_machine.proofs.Going.{goes_piece}
 use Rattle.hurd_machine.proofs.Asks.{IsPlain, IsNamed, is_named, port_same, port_seen, port_plain, holds_right, first_ok, given_ok}
-use Rattle.hurd_machine.proofs.Asks.{on_ok, first_same, given_same, on_same, first_plain, given_plain, on_plain, ok_plain, answered_all, answered_same, answered_plain, done_plain}
-use Rattle.hurd_machine.proofs.CallLaws.{CallLaws, looking_laws, answered_within, answered_proper, answered_linked, answered_sized, answered_rests, answered_may}
+use Rattle.hurd_machine.proofs.Asks.{on_ok, first_same, given_same, on_same, first_plain, given_plain, on_plain, ok_plain, answered_same, answered_plain, done_plain}
+use Rattle.hurd_machine.proofs.CallLaws.{CallLaws, looking_laws, answered_piece, answered_whole}
 use Rattle.hurd_machine.proofs.Confine.{Commands}
 use Rattle.hurd_core.specs.Core.{room_asks}
 use Rattle.hurd_fsys.specs.Controls.{Controlled, control_asks}
@@ -33,7 +31,10 @@ use Rattle.hurd_fsys.specs.Fsys.{may_go, goaway_asks, plan_goaway, touches_goawa
 use Rattle.hurd_fsys.specs.Fsys.{may_control, served_asks, plan_getcontrol, touches_getcontrol, options_asks, plan_get_options, touches_get_options}
 use Rattle.hurd_fsys.specs.Owned.{owned_asks}
 use Rattle.hurd_fsys.proofs.OwnedLaws.{Owner, owner, owner_right, owner_sees, owned_same, owned_plain}
-use Rattle.hurd_fsys.proofs.ControlLaws.{IsControlled, is_controlled, controlled_same, controlled_plain, controls_within, controls_proper, controls_rests, controls_sized, controls_linked, controls_may, owner_holds, controller_holds}
+use Rattle.hurd_fsys.proofs.ControlLaws.{IsControlled, is_controlled, controlled_same, controlled_plain, owner_holds, controller_holds}
+use Rattle.hurd_machine.proofs.Piece.{stands, settled}
+use Rattle.hurd_machine.proofs.Sharing.{port_whole}
+use Rattle.hurd_machine.specs.Change.{DropServer}
 
 -- fsys_goaway
 
@@ -77,12 +78,7 @@ module _ (t c : ℕ) (flags : GoawayFlags) where
 
   pub goaway_laws : CallLaws t (λ w. plan_goaway w t c flags) (λ w. touches_goaway w t c flags)
   goaway_laws = record {
-    fits = λ w c'. answered_within w t (goaway_asks w t c flags) _ _ (λ s is. goes_within w c' s (goer w s is).other (Full w t (Goes w s)) (λ p g. inl g));
-    proper = λ w s. answered_proper w _ _ (λ q is. goes_proper w s.coherent q (goer w q is).other s.linked);
-    linked = λ w s. answered_linked w _ _ s.linked (λ q is. goes_linked w s.coherent q (goer w q is).other s.linked);
-    sized = λ w s. answered_sized w _ _ s.sizes (λ q is. goes_sized w s.coherent q (goer w q is).other s.sizes);
-    rests = λ w s. answered_rests w _ _ s.settled (λ q is. goes_rests w s.coherent q (goer w q is).other s.settled);
-    may = λ S v c' ours. answered_may v _ _ S v (λ q is. goes_may v c' q (goer v q is).other S v);
+    piece = λ w s. answered_piece s (goaway_asks w t c flags) _ _ (λ q is. settled (DropServer q ∷ []) (tt, tt) (stands s) (goes_piece (stands s) q (goer w q is).other (λ p g. inl g)));
     same = λ S v w c' d a ours. answered_same _ _ _ _ (goaway_same S v w a ours) (λ q is. refl);
     plain = λ w. answered_plain _ _ (goaway_plain w) (λ q is. done_plain Done refl);
   }
@@ -112,15 +108,9 @@ module _ (t : ℕ) where
 
   pub control_laws : (asks : World → Result Name Errno) → AskedServer t asks → CallLaws t (λ w. plan_control w t (asks w)) (λ w. Nothing)
   control_laws asks l = record {
-    fits = λ w c. answered_all (λ (P : Plan). AllWithin (Full w t Nothing) w P.changes) (λ e. tt) (asks w) _ (λ s is.
-        answered_all (λ (P : Plan). AllWithin (Full w t Nothing) w P.changes) (λ e. tt) (room_asks w t 0) _ (λ x at. controls_within t s (Full w t Nothing) w (own_task w t Nothing)));
-    proper = λ w s. answered_proper w _ _ (λ q is. answered_proper w _ _ (λ x at.
+    piece = λ w s. answered_whole s (asks w) _ (λ q is. answered_whole s (room_asks w t 0) _ (λ x at.
         let i = l.there w s.coherent q is in
-        controls_proper t q w s.coherent x (roomy w x at) (s.coherent.given.servers q i.0 i.1)));
-    linked = λ w s. answered_linked w _ _ s.linked (λ q is. answered_linked w _ _ s.linked (λ x at. controls_linked t q w s.linked));
-    sized = λ w s. answered_sized w _ _ s.sizes (λ q is. answered_sized w _ _ s.sizes (λ x at. controls_sized t q w s.sizes));
-    rests = λ w s. answered_rests w _ _ s.settled (λ q is. answered_rests w _ _ s.settled (λ x at. controls_rests t q w s.settled));
-    may = λ S v c ours. answered_may v _ _ S v (λ q is. answered_may v _ _ S v (λ x at. controls_may t q S v ours (l.commanded S v c ours q is)));
+        port_whole s t (Control q) x (roomy w x at) (own_task w t Nothing) tt (s.coherent.given.servers q i.0 i.1) (λ S ours. (l.commanded S w s.coherent ours q is, inr tt))));
     same = λ S v w c d a ours. answered_same _ _ _ _ (l.same S v w a ours) (λ q is. answered_same _ _ _ _ (room_same S v w a ours) (λ x at. refl));
     plain = λ w. answered_plain _ _ (l.plain w) (λ q is. answered_plain _ _ (room_plain w) (λ x at. done_plain (Port x.next) refl));
   }

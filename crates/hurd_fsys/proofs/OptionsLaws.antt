@@ -15,12 +15,11 @@ use Rattle.hurd_machine.specs.Change.{retexting}
 use Rattle.hurd_machine.specs.Sight.{OfControl}
 use Rattle.hurd_machine.specs.Sound.{Coherent}
 use Rattle.hurd_machine.proofs.Views.{Agree, server_known}
-use Rattle.hurd_machine.proofs.Frame.{Full}
 use Rattle.hurd_machine.proofs.Asks.{IsPlain, holds_right, ok_plain, err_plain, answered_same, answered_plain, done_plain}
-use Rattle.hurd_machine.proofs.Retexting.{MayGet, retexts_within, retexts_proper, retexts_rests, retexts_linked, retexts_may, retexts_sized, retexts_same}
-use Rattle.hurd_machine.proofs.CallLaws.{CallLaws, answered_within, answered_proper, answered_linked, answered_sized, answered_rests, answered_may}
+use Rattle.hurd_machine.proofs.Retexting.{MayGet, retexts_whole, retexts_same}
+use Rattle.hurd_machine.proofs.CallLaws.{CallLaws, answered_piece}
 use Rattle.hurd_core.specs.Control.{control_of}
-use Rattle.hurd_fsys.specs.Fsys.{options_parts, plan_set_options, touches_set_options}
+use Rattle.hurd_fsys.specs.Fsys.{plan_set_options, touches_set_options}
 use Rattle.hurd_fsys.proofs.ControlLaws.{control_is, control_same, control_plain}
 
 module _ (t c : ℕ) (words : List (List ℕ)) where
@@ -73,16 +72,9 @@ module _ (t c : ℕ) (words : List (List ℕ)) where
 
   pub set_options_laws : CallLaws t (λ w. plan_set_options w t c words) (λ w. touches_set_options w t c words)
   set_options_laws = record {
-    fits = λ w x. answered_within w t (control_of (ports_of w) t c) _ _ (λ s is. answered_within w t (asks w s) _ _ (λ b takes.
+    piece = λ w x. answered_piece x (control_of (ports_of w) t c) _ _ (λ s is. answered_piece x (asks w s) _ _ (λ b takes.
         let k = taking w s b takes in
-        retexts_within w s b.0 (Full w t (options_parts s b.0)) x k.is_server b.1 (may_get w s b k) (inl (inl refl)) (inl (inr refl))));
-    proper = λ w x. answered_proper w _ _ (λ s is. answered_proper w _ _ (λ b takes. retexts_proper w s b.0 b.1));
-    linked = λ w x. answered_linked w _ _ x.linked (λ s is. answered_linked w _ _ x.linked (λ b takes. retexts_linked w s b.0 b.1 x.linked));
-    sized = λ w x. answered_sized w _ _ x.sizes (λ s is. answered_sized w _ _ x.sizes (λ b takes.
-        let k = taking w s b takes in
-        retexts_sized w s b.0 x.coherent k.is_server b.1 (may_get w s b k) x.sizes));
-    rests = λ w x. answered_rests w _ _ x.settled (λ s is. answered_rests w _ _ x.settled (λ b takes. retexts_rests w s b.0 b.1 x.settled));
-    may = λ S v x ours. answered_may v _ _ S v (λ s is. answered_may v _ _ S v (λ b takes. retexts_may v s b.0 S v b.1));
+        retexts_whole w s b.0 x k.is_server b.1 (may_get w s b k) (inl (inl refl)) (inl (inr refl))));
     same = λ S v w x y a ours. answered_same _ _ _ _ (control_same a t ours c) (λ s is.
         answered_same _ _ _ _ (ap (takes_options words) (known a ours s is)) (λ b takes. gets_same x y a ours s is b takes));
     plain = λ w. answered_plain _ _ (control_plain w t c) (λ s is. answered_plain _ _ (asks_plain w s) (λ b takes. done_plain Done refl));

@@ -1,12 +1,12 @@
 -- The laws of setting a translator.
-use Rattle.std.proofs.Common.{◌≡◌, ◌≢◌, ◌⊎◌, ◌∙◌, ◌||◌, ◌&&◌, ◌==◌, not, slice_get, ℕ, Bool, true, false, if◌then◌else◌, List, [], ◌∷◌, ◌++◌, Option, Some, None, refl, sym, ap, ap₂, subst, inl, inr}
+use Rattle.std.proofs.Common.{◌≡◌, ◌≢◌, ◌∙◌, ◌||◌, ◌&&◌, ◌==◌, not, slice_get, ℕ, Bool, true, false, if◌then◌else◌, List, [], ◌∷◌, ◌++◌, Option, Some, None, refl, sym, ap, ap₂, subst, inl, inr}
 use Rattle.std.specs.Prelude.{Ok, is_some}
 use Rattle.std.specs.FinMap.{get}
 use Rattle.hurd_creds.specs.declared.name.Name.{Name}
 use Rattle.hurd_creds.specs.NameMaps.{NameMap}
 use Rattle.hurd_creds.specs.declared.errno.Errno.TheVariants.{EBUSY, EINVAL, EOPNOTSUPP, EOVERFLOW, ESRCH}
 use Rattle.hurd_creds.specs.Access.{IdSets}
-use Rattle.hurd_creds.specs.TransBits.{asks_goaway, asks_trans, SET, EXCL, ORPHAN, FORCE}
+use Rattle.hurd_creds.specs.TransBits.{asks_goaway, asks_trans, SET, ORPHAN, FORCE}
 use Rattle.hurd_trans_iface.specs.Nodes.{Node, Header, has_words}
 use Rattle.hurd_trans_iface.specs.Meaning.{Meaning}
 use Rattle.hurd_creds.proofs.NameLaws.{same_name-apart}
@@ -16,35 +16,28 @@ use Rattle.hurd_ports.specs.declared.table.Right.TheVariants.{Io}
 use Rattle.hurd_ports.specs.Tables.{Task, fresh, can_name}
 use Rattle.hurd_ports.specs.Steps.{named}
 use Rattle.hurd_machine.specs.declared.call.Reply.TheVariants.{Done, Words}
-use Rattle.hurd_machine.specs.World.{World, nodes_of, task_at, header_at, home_at, active_at}
+use Rattle.hurd_machine.specs.World.{World, task_at, header_at, home_at, active_at}
 use Rattle.hurd_machine.specs.Change.{Change, Attach, DropServer, Unseat, Settle, apply, apply_all}
-use Rattle.hurd_machine.specs.Plan.{Plan}
 use Rattle.hurd_machine.specs.Handle.{Named}
 use Rattle.hurd_machine.specs.Sight.{Part, AttrOf, EmptyOf, BodyOf, OptionsOf, UsersOf, TaskOf, Holds, Seen, BySeat, users}
-use Rattle.hurd_machine.specs.Sound.{Coherent, AreSized, Linked, AtRest}
+use Rattle.hurd_machine.specs.Sound.{Coherent, Sound}
 use Rattle.hurd_machine.specs.Touched.{Goes}
 use Rattle.hurd_machine.proofs.Views.{Agree, same_tasks, active_same}
-use Rattle.hurd_machine.proofs.Coherence.{Comes, AllProper}
-use Rattle.hurd_machine.proofs.Drop.{drop_coherent, drop_linked}
-use Rattle.hurd_machine.proofs.Keeping.{coherent_all, proper_append}
-use Rattle.hurd_machine.proofs.Links.{linked_append}
-use Rattle.hurd_machine.proofs.Sizes.{sized_append}
-use Rattle.hurd_machine.proofs.Servers.{sized_drop}
-use Rattle.hurd_machine.proofs.Frame.{Full, AllWithin, within_append}
-use Rattle.hurd_machine.proofs.Settle.{rests_settle, rests_append}
-use Rattle.hurd_machine.proofs.Opens.{own_task, fresh_new, fresh_next, later_new}
-use Rattle.hurd_machine.proofs.Several.{AllMay}
-use Rattle.hurd_machine.proofs.Going.{Begun, goes_within, goes_proper, goes_linked, goes_sized, goes_rests, goes_may, unseats_within, unseats_proper, unseats_linked, unseats_sized, unseats_rests, unseats_may, comes_within, comes_proper, comes_linked, comes_sized, comes_after}
-use Rattle.hurd_machine.proofs.Asks.{IsPlain, IsPlainReply, port_same, port_plain, info_same, is_root_same, first_ok, given_ok, on_ok, first_same, given_same, on_same, first_plain, given_plain, on_plain, ok_plain, answered_all, answered_same, answered_plain, done_plain}
-use Rattle.hurd_machine.proofs.CallLaws.{CallLaws, answered_within, looking_laws}
+use Rattle.hurd_machine.proofs.Coherence.{Comes}
+use Rattle.hurd_machine.proofs.Frame.{Full}
+use Rattle.hurd_machine.proofs.Opens.{own_task, fresh_new, later_new}
+use Rattle.hurd_machine.proofs.Going.{Begun, goes_piece, unseats_piece, comes_piece, comes_after}
+use Rattle.hurd_machine.proofs.Asks.{IsPlain, IsPlainReply, port_same, port_plain, info_same, is_root_same, first_ok, given_ok, on_ok, first_same, given_same, on_same, first_plain, given_plain, on_plain, ok_plain, answered_same, answered_plain, done_plain}
+use Rattle.hurd_machine.proofs.CallLaws.{CallLaws, answered_piece, answered_whole, looking_laws}
 use Rattle.hurd_core.specs.Core.{attaching, naming_asks}
 use Rattle.hurd_machine.specs.declared.call.Setting.{Setting}
 use Rattle.hurd_fsys.specs.Setting.{sets_nothing, setter_asks, is_excluded, may_replace, may_set, seat_asks, leaver, emptying, storing, server_ids, seat_on, seating, setting_where, plan_set_translator, GoesFor, seat_parts, parts_where, touches_set_translator, root_mode, root_kind, stored_asks, plan_get_translator, touches_get_translator}
 use Rattle.hurd_fsys.specs.Owned.{owned_asks}
 use Rattle.hurd_fsys.proofs.OwnedLaws.{Owner, owner, owner_right, owner_sees, owned_same, owned_plain}
 use Rattle.hurd_fsys.proofs.ControlLaws.{owner_holds}
-use Rattle.hurd_fsys.proofs.StoringLaws.{IsLike, goes_like, storing_like, storing_within, storing_proper, storing_rests, storing_linked, storing_sized, storing_may}
-use Rattle.hurd_fsys.proofs.BegunLaws.{begun_shaped, begun_bare, begun}
+use Rattle.hurd_fsys.proofs.StoringLaws.{IsLike, goes_like, storing_like, storing_exact, storing_whole}
+use Rattle.hurd_fsys.proofs.BegunLaws as begun
+use Rattle.hurd_machine.proofs.Piece.{Stands, Whole, stands, whole_none, piece_then, whole_then, settled}
 
 -- a server comes to a node, and another goes for it, which is active there
 
@@ -65,19 +58,10 @@ module _ (w : World) (c : Coherent w) (t : ℕ) (n : Named) (there : (h : Header
   node = begun_root m n.header.owner n.header.group (root_mode (root_kind m) n.header.mode)
 
   newcomer : Comes w s n.right.node info node
-  newcomer = record {
-    next = fresh_next w t x is;
-    task = refl;
-    count = refl;
-    serving = (n.header.owner, refl);
-    shape = begun_shaped m root ids n.header.owner n.header.group (root_mode (root_kind m) n.header.mode);
-    empty = begun_bare m root ids n.header.owner n.header.group (root_mode (root_kind m) n.header.mode);
-    parent = refl;
-    seat = there;
-  }
+  newcomer = begun.newcomer w t n.right.node n.header there m x is
 
   begins : Begun info node
-  begins = begun m root ids n.header.owner n.header.group (root_mode (root_kind m) n.header.mode)
+  begins = begun.begins w t n.right.node n.header there m x is
 
   -- the changes, for a server that goes or none
   abbrev comings : Option Name → List Change
@@ -101,44 +85,15 @@ module _ (w : World) (c : Coherent w) (t : ℕ) (n : Named) (there : (h : Header
   after : (q : Name) → active_at w n.right.node ≡ Some q → Comes (apply (DropServer q) w) s n.right.node info node
   after q e = comes_after w q s n.right.node info node (other q e) newcomer
 
-  left : (q : Name) → active_at w n.right.node ≡ Some q → Coherent (apply (DropServer q) w)
-  left q e = drop_coherent w c q (not_boot q e)
-
-  -- what it writes may be parts of a world like this one
-  pub comings_within : (T : Part → Type 0) → T (TaskOf t) → T (AttrOf root) → T (EmptyOf root) → T (BodyOf root) → T (OptionsOf s) → T (AttrOf n.right.node)
-      → (old : Option Name) → IsOld old → ((q : Name) → old ≡ Some q → (p : Part) → Goes w q p → T p) → AllWithin T w (comings old)
-  comings_within T task attr empty body options seat None is_old parts = comes_within w c s n.right.node info node newcomer begins T task attr empty body seat options
-  comings_within T task attr empty body options seat (Some q) is_old parts =
-      let e = is_old q refl in (
-        parts q refl,
-        comes_within (apply (DropServer q) w) (left q e) s n.right.node info node (after q e) begins T task attr empty body seat options,
-      )
-
-  pub comings_proper : Linked (nodes_of w) → (old : Option Name) → IsOld old → AllProper w (comings old)
-  comings_proper l None is_old = comes_proper w c s n.right.node info node newcomer begins l
-  comings_proper l (Some q) is_old =
+  -- it writes what may be parts of a world like this one
+  pub comings_whole : {T : Part → Type 0} {v : World} → Stands w → T (TaskOf t) → T (AttrOf root) → T (EmptyOf root) → T (BodyOf root) → T (OptionsOf s) → T (AttrOf n.right.node)
+      → (old : Option Name) → IsOld old → ((q : Name) → old ≡ Some q → (p : Part) → Goes w q p → T p) → Whole t T v w (comings old)
+  comings_whole st task attr empty body options seat None is_old parts =
+      settled (Attach s n.right.node info node ∷ []) (tt, tt) st (comes_piece st s n.right.node info node newcomer begins task attr empty body seat options)
+  comings_whole st task attr empty body options seat (Some q) is_old parts =
       let e = is_old q refl in
-      (not_boot q e, λ d. comes_proper (apply (DropServer q) w) d s n.right.node info node (after q e) begins (drop_linked w c l q (not_boot q e)))
-
-  pub comings_linked : Linked (nodes_of w) → (old : Option Name) → IsOld old → Linked (nodes_of (apply_all (comings old) w))
-  comings_linked l None is_old = comes_linked w c s n.right.node info node newcomer begins l
-  comings_linked l (Some q) is_old =
-      let e = is_old q refl in
-      comes_linked (apply (DropServer q) w) (left q e) s n.right.node info node (after q e) begins (drop_linked w c l q (not_boot q e))
-
-  pub comings_sized : AreSized (nodes_of w) → (old : Option Name) → IsOld old → AreSized (nodes_of (apply_all (comings old) w))
-  comings_sized fit None is_old = comes_sized w c s n.right.node info node newcomer begins fit
-  comings_sized fit (Some q) is_old =
-      let e = is_old q refl in
-      comes_sized (apply (DropServer q) w) (left q e) s n.right.node info node (after q e) begins (sized_drop w q fit)
-
-  pub comings_rests : AtRest w → (old : Option Name) → AtRest (apply_all (comings old) w)
-  comings_rests rest None = rests_settle (Attach s n.right.node info node ∷ []) w rest
-  comings_rests rest (Some q) = rests_settle (DropServer q ∷ Attach s n.right.node info node ∷ []) w rest
-
-  pub comings_may : (S : ℕ → Bool) (v : World) → S t ≡ true → (old : Option Name) → AllMay S v w (comings old)
-  comings_may S v ours None = (ours, tt)
-  comings_may S v ours (Some q) = (tt, (ours, tt))
+      settled (DropServer q ∷ Attach s n.right.node info node ∷ []) (tt, (tt, tt)) st (piece_then (DropServer q ∷ []) (Attach s n.right.node info node ∷ []) (tt, tt) st (goes_piece st q (not_boot q e) (parts q refl))
+      (λ d. comes_piece d s n.right.node info node (after q e) begins task attr empty body seat options))
 
 -- what is asked
 
@@ -228,93 +183,48 @@ module _ (t p : ℕ) (f : Setting) where
     abbrev comings_of : Named → Meaning → Option Name → Task → List Change
     comings_of n m old x = attaching t (seat_on n.right.node n.header m old) (server_ids n.header.owner) m x
 
-    -- the changes of the plan are none, or words that are stored, and then one of these
-    record Cases (w : World) (P : List Change → Type 0) : Type 0 where
-      none : P []
-      stay : (n : Named) → Owner t p w n → P (storing f n.right.node words ++ [])
-      away : (n : Named) → Owner t p w n → (q : Name) → active_at (stored n.right.node w) n.right.node ≡ Some q → P (storing f n.right.node words ++ DropServer q ∷ Settle ∷ [])
-      unseat : (n : Named) → Owner t p w n → P (storing f n.right.node words ++ Unseat n.right.node ∷ Settle ∷ [])
-      come : (n : Named) → Owner t p w n → (m : Meaning) (x : Task) → task_at (stored n.right.node w) t ≡ Some x → (old : Option Name) → ((q : Name) → old ≡ Some q → active_at (stored n.right.node w) n.right.node ≡ Some q)
-          → P (storing f n.right.node words ++ comings_of n m old x)
-
-    module _ (w : World) (P : List Change → Type 0) (cases : Cases w P) where
-      abbrev Of : Plan → Type 0
-      Of plan = P plan.changes
-
-      -- what is active, and the task, are the same with the words stored
-      active_still : (n : Named) → Owner t p w n → (o : Option Name) → active_at w n.right.node ≡ o → active_at (stored n.right.node w) n.right.node ≡ o
-      active_still n k o e = ap (λ (m : NameMap Name). get m n.right.node) (like w n k).actives ∙ e
-
-      task_still : (n : Named) → Owner t p w n → (x : Task) → task_at w t ≡ Some x → task_at (stored n.right.node w) t ≡ Some x
-      task_still n k x e = ap (λ (ts : List Task). slice_get ts t) (like w n k).tasks ∙ e
-
-      by_old : (n : Named) → Owner t p w n → (old : Option Name) → active_at w n.right.node ≡ old → P (storing f n.right.node words ++ emptying f n.right.node old)
-      by_old n k None e = cases.stay n k
-      by_old n k (Some q) e = go (not (asks_trans f.active SET)) (asks_trans f.active ORPHAN)
-        where
-          go : (b d : Bool) → P (storing f n.right.node words ++ (if b then [] else if d then Unseat n.right.node ∷ Settle ∷ [] else DropServer q ∷ Settle ∷ []))
-          go true d = cases.stay n k
-          go false true = cases.unseat n k
-          go false false = cases.away n k q (active_still n k (Some q) e)
-
-      by_box : (n : Named) → Owner t p w n → (o : Option Meaning) (old : Option Name) → active_at w n.right.node ≡ old → Of (seating w t n f words o old)
-      by_box n k None old e = by_old n k old e
-      by_box n k (Some m) old e = answered_all Of (λ r. cases.none) (naming_asks w t 2) _ (λ x at.
-          cases.come n k m x (task_still n k x (namer w x at)) (leaver f old) (λ q is. active_still n k (Some q) (e ∙ leaver_is old q is)))
-
-      by_half : (n : Named) → Owner t p w n → (b : Bool) → Of (setting_where b w t f words box n)
-      by_half n k true = cases.none
-      by_half n k false = answered_all Of (λ r. cases.none) (seat_asks w f n) _ (λ old is. by_box n k box old (seated w n old is))
-
-      all : P (plan_set_translator w t p f words box).changes
-      all = answered_all Of (λ r. cases.none) (setter_asks w t p f (is_some box)) _ (λ n is. by_half n (setter w (is_some box) n is) (sets_nothing f))
-
-    -- what it writes
-    module _ (w : World) (c : Coherent w) (n : Named) (k : Owner t p w n) (old : Option Name) (e : active_at w n.right.node ≡ old) where
+    module _ (w : World) (s : Sound w) (n : Named) (k : Owner t p w n) (old : Option Name) (e : active_at w n.right.node ≡ old) where
       abbrev v : World
       v = stored n.right.node w
-
-      d : Coherent v
-      d = coherent_all (storing f n.right.node words) w c (storing_proper n.right.node words sets w)
 
       abbrev Written : Part → Type 0
       Written = Full w t (seat_parts w f n.right.node old)
 
-      -- the words stored, and then what is written in that world
-      with_words : (cs : List Change) → AllWithin Written v cs → AllWithin Written w (storing f n.right.node words ++ cs)
-      with_words cs h = within_append Written (storing f n.right.node words) cs w (storing_within n.right.node words Written sets w (inl (inl refl))) h
+      -- the words stored, and then what is done in that world
+      with_words : (cs : List Change) → (Sound v → Whole t Written w v cs) → Whole t Written w w (storing f n.right.node words ++ cs)
+      with_words cs done = whole_then (storing f n.right.node words) cs (storing_exact n.right.node words sets) s
+          (storing_whole n.right.node words s n.header k.is_named.is_header (inl (inl refl)) (λ S ours. owner_holds S w n (owner_right t p ours n k) k.owned) sets) done
 
       -- what goes there goes here
       left_here : (q : Name) → leaver f old ≡ Some q → (r : Part) → Goes v q r → Written r
       left_here q is r goes = inl (inr (subst (λ (o : Option Name). GoesFor w o r) (sym is) (goes_like w v n.right.node (like w n k) q r goes)))
 
-      emptied_within : AllWithin Written w (storing f n.right.node words ++ emptying f n.right.node old)
-      emptied_within = with_words (emptying f n.right.node old) (by_seat old refl)
+      emptied_whole : Whole t Written w w (storing f n.right.node words ++ emptying f n.right.node old)
+      emptied_whole = with_words (emptying f n.right.node old) (λ x. by_seat x old refl)
         where
-          by_flags : (q : Name) → old ≡ Some q → (b z : Bool) → asks_trans f.active ORPHAN ≡ z → not (asks_trans f.active SET) ≡ b
-              → AllWithin Written v (if b then [] else if z then Unseat n.right.node ∷ Settle ∷ [] else DropServer q ∷ Settle ∷ [])
-          by_flags q is true z orphan set = tt
-          by_flags q is false true orphan set = unseats_within v d n.right.node Written (inl (inl refl))
-          by_flags q is false false orphan set =
-              goes_within v d q (c.seating.seated n.right.node q (e ∙ is)).0 Written (left_here q (ap₂ (λ (b z : Bool). if b || z then None else old) set orphan ∙ is))
+          by_flags : Sound v → (q : Name) → old ≡ Some q → (b z : Bool) → asks_trans f.active ORPHAN ≡ z → not (asks_trans f.active SET) ≡ b
+              → Whole t Written w v (if b then [] else if z then Unseat n.right.node ∷ Settle ∷ [] else DropServer q ∷ Settle ∷ [])
+          by_flags x q is true z orphan set = whole_none x
+          by_flags x q is false true orphan set = settled (Unseat n.right.node ∷ []) (tt, tt) (stands x) (unseats_piece (stands x) n.right.node (inl (inl refl)))
+          by_flags x q is false false orphan set =
+              settled (DropServer q ∷ []) (tt, tt) (stands x) (goes_piece (stands x) q (s.coherent.seating.seated n.right.node q (e ∙ is)).0 (left_here q (ap₂ (λ (b z : Bool). if b || z then None else old) set orphan ∙ is)))
 
-          by_seat : (o : Option Name) → old ≡ o → AllWithin Written v (emptying f n.right.node o)
-          by_seat None is = tt
-          by_seat (Some q) is = by_flags q is (not (asks_trans f.active SET)) (asks_trans f.active ORPHAN) refl refl
+          by_seat : Sound v → (o : Option Name) → old ≡ o → Whole t Written w v (emptying f n.right.node o)
+          by_seat x None is = whole_none x
+          by_seat x (Some q) is = by_flags x q is (not (asks_trans f.active SET)) (asks_trans f.active ORPHAN) refl refl
 
-      box_within : (o : Option Meaning) → AllWithin Written w (seating w t n f words o old).changes
-      box_within None = emptied_within
-      box_within (Some m) = answered_all (λ (P : Plan). AllWithin Written w P.changes) (λ r. tt) (naming_asks w t 2) _ (λ x at.
+      box_whole : (o : Option Meaning) → Whole t Written w w (seating w t n f words o old).changes
+      box_whole None = emptied_whole
+      box_whole (Some m) = answered_whole s (naming_asks w t 2) _ (λ x at.
           let is = namer w x at in
-          let new = fresh_new w t x is in
           let later = later_new w t 1 x is in
-          with_words (comings_of n m (leaver f old) x)
-          (comings_within v d t n (like w n k).there m x (ap (λ (ts : List Task). slice_get ts t) (like w n k).tasks ∙ is) Written (own_task w t (seat_parts w f n.right.node old)) (inr (inr later)) (inr (inr later))
-          (inr (inr later)) (inr (inr new)) (inl (inl refl)) (leaver f old) (λ q is. ap (λ (m : NameMap Name). get m n.right.node) (like w n k).actives ∙ (e ∙ leaver_is old q is)) left_here))
+          with_words (comings_of n m (leaver f old) x) (λ y.
+          comings_whole v y.coherent t n (like w n k).there m x (ap (λ (ts : List Task). slice_get ts t) (like w n k).tasks ∙ is) (stands y) (own_task w t (seat_parts w f n.right.node old)) (inr (inr later)) (inr (inr later))
+          (inr (inr later)) (inr (inr (fresh_new w t x is))) (inl (inl refl)) (leaver f old) (λ q is. ap (λ (m : NameMap Name). get m n.right.node) (like w n k).actives ∙ (e ∙ leaver_is old q is)) left_here))
 
-    half_within : (w : World) → Coherent w → (n : Named) → Owner t p w n → (b : Bool) → AllWithin (Full w t (parts_where b w f n)) w (setting_where b w t f words box n).changes
-    half_within w c n k true = tt
-    half_within w c n k false = answered_within w t (seat_asks w f n) (seating w t n f words box) (seat_parts w f n.right.node) (λ old is. box_within w c n k old (seated w n old is) box)
+    half_whole : (w : World) → Sound w → (n : Named) → Owner t p w n → (b : Bool) → Whole t (Full w t (parts_where b w f n)) w w (setting_where b w t f words box n).changes
+    half_whole w s n k true = whole_none s
+    half_whole w s n k false = answered_piece s (seat_asks w f n) (seating w t n f words box) (seat_parts w f n.right.node) (λ old is. box_whole w s n k old (seated w n old is) box)
 
     half_same : {S : ℕ → Bool} {v w : World} → Coherent v → Agree S v w → S t ≡ true → (n : Named) → Owner t p v n → (b : Bool) → setting_where b w t f words box n ≡ setting_where b v t f words box n
     half_same c a ours n k true = refl
@@ -332,74 +242,12 @@ module _ (t p : ℕ) (f : Setting) where
         of_box None old = done_plain Done refl
         of_box (Some m) old = answered_plain _ _ (naming_plain w) (λ x at. done_plain Done refl)
 
-    -- with the words stored a sound world is one
-
-    stored_coherent : (w : World) → Coherent w → (n : Named) → Coherent (stored n.right.node w)
-    stored_coherent w c n = coherent_all (storing f n.right.node words) w c (storing_proper n.right.node words sets w)
-
-    stored_linked : (w : World) → Linked (nodes_of w) → (n : Named) → Linked (nodes_of (stored n.right.node w))
-    stored_linked w l n = storing_linked n.right.node words sets w l
-
-    proper_then : (w : World) → Coherent w → (n : Named) (cs : List Change) → (Coherent (stored n.right.node w) → AllProper (stored n.right.node w) cs) → AllProper w (storing f n.right.node words ++ cs)
-    proper_then w c n cs h = proper_append (storing f n.right.node words) cs w c (storing_proper n.right.node words sets w) h
-
-    not_boot_there : (w : World) → Coherent w → (n : Named) (q : Name) → active_at (stored n.right.node w) n.right.node ≡ Some q → q ≢ boot_name
-    not_boot_there w c n q e = ((stored_coherent w c n).seating.seated n.right.node q e).0
-
     pub set_translator_laws : CallLaws t (λ w. plan_set_translator w t p f words box) (λ w. touches_set_translator w t p f (is_some box))
     set_translator_laws = record {
-      fits = λ w c. answered_within w t (setter_asks w t p f (is_some box)) _ _ (λ n is. half_within w c n (setter w (is_some box) n is) (sets_nothing f));
-      proper = λ w s. all w (AllProper w) (record {
-        none = tt;
-        stay = λ n k. proper_then w s.coherent n [] (λ d. tt);
-        away = λ n k q e. proper_then w s.coherent n _ (λ d. goes_proper (stored n.right.node w) d q (not_boot_there w s.coherent n q e) (stored_linked w s.linked n));
-        unseat = λ n k. proper_then w s.coherent n _ (λ d. unseats_proper (stored n.right.node w) d n.right.node (stored_linked w s.linked n));
-        come = λ n k m x at old is_old. proper_then w s.coherent n (comings_of n m old x) (λ d.
-            comings_proper (stored n.right.node w) d t n (like w n k).there m x at (stored_linked w s.linked n) old is_old);
-      });
-      linked = λ w s. all w (λ cs. Linked (nodes_of (apply_all cs w))) (record {
-        none = s.linked;
-        stay = λ n k. linked_append (storing f n.right.node words) [] w (storing_linked n.right.node words sets w) (λ l. l) s.linked;
-        away = λ n k q e. linked_append (storing f n.right.node words) _ w (storing_linked n.right.node words sets w)
-            (goes_linked (stored n.right.node w) (stored_coherent w s.coherent n) q (not_boot_there w s.coherent n q e)) s.linked;
-        unseat = λ n k. linked_append (storing f n.right.node words) _ w (storing_linked n.right.node words sets w)
-            (unseats_linked (stored n.right.node w) (stored_coherent w s.coherent n) n.right.node) s.linked;
-        come = λ n k m x at old is_old. linked_append (storing f n.right.node words) (comings_of n m old x) w (storing_linked n.right.node words sets w)
-            (λ l. comings_linked (stored n.right.node w) (stored_coherent w s.coherent n) t n (like w n k).there m x at l old is_old) s.linked;
-      });
-      sized = λ w s. all w (λ cs. AreSized (nodes_of (apply_all cs w))) (record {
-        none = s.sizes;
-        stay = λ n k. sized_append (storing f n.right.node words) [] w (storing_sized n.right.node words sets w) (λ fit. fit) s.sizes;
-        away = λ n k q e. sized_append (storing f n.right.node words) _ w (storing_sized n.right.node words sets w)
-            (goes_sized (stored n.right.node w) (stored_coherent w s.coherent n) q (not_boot_there w s.coherent n q e)) s.sizes;
-        unseat = λ n k. sized_append (storing f n.right.node words) _ w (storing_sized n.right.node words sets w)
-            (unseats_sized (stored n.right.node w) (stored_coherent w s.coherent n) n.right.node) s.sizes;
-        come = λ n k m x at old is_old. sized_append (storing f n.right.node words) (comings_of n m old x) w (storing_sized n.right.node words sets w)
-            (λ fit. comings_sized (stored n.right.node w) (stored_coherent w s.coherent n) t n (like w n k).there m x at fit old is_old) s.sizes;
-      });
-      rests = λ w s. all w (λ cs. AtRest (apply_all cs w)) (record {
-        none = s.settled;
-        stay = λ n k. rests_append (storing f n.right.node words) [] w (storing_rests n.right.node words sets w) (λ r. r) s.settled;
-        away = λ n k q e. rests_append (storing f n.right.node words) _ w (storing_rests n.right.node words sets w)
-            (goes_rests (stored n.right.node w) (stored_coherent w s.coherent n) q (not_boot_there w s.coherent n q e)) s.settled;
-        unseat = λ n k. rests_append (storing f n.right.node words) _ w (storing_rests n.right.node words sets w)
-            (unseats_rests (stored n.right.node w) (stored_coherent w s.coherent n) n.right.node) s.settled;
-        come = λ n k m x at old is_old. rests_append (storing f n.right.node words) (comings_of n m old x) w (storing_rests n.right.node words sets w)
-            (λ r. comings_rests (stored n.right.node w) (stored_coherent w s.coherent n) t n (like w n k).there m x at r old) s.settled;
-      });
-      may = λ S v c ours. all v (AllMay S v v) (record {
-        none = tt;
-        stay = λ n k. words_may S v n k ours [] tt;
-        away = λ n k q e. words_may S v n k ours _ (goes_may (stored n.right.node v) (stored_coherent v c n) q (not_boot_there v c n q e) S v);
-        unseat = λ n k. words_may S v n k ours _ (unseats_may (stored n.right.node v) (stored_coherent v c n) n.right.node S v);
-        come = λ n k m x at old is_old. words_may S v n k ours (comings_of n m old x) (comings_may (stored n.right.node v) (stored_coherent v c n) t n (like v n k).there m x at S v ours old);
-      });
+      piece = λ w s. answered_piece s (setter_asks w t p f (is_some box)) _ _ (λ n is. half_whole w s n (setter w (is_some box) n is) (sets_nothing f));
       same = λ S v w c d a ours. answered_same _ _ _ _ (setter_same a ours (is_some box)) (λ n is. half_same c a ours n (setter v (is_some box) n is) (sets_nothing f));
       plain = λ w. answered_plain _ _ (setter_plain w (is_some box)) (λ n is. half_plain w n (sets_nothing f));
     }
-      where
-        words_may : (S : ℕ → Bool) (v : World) (n : Named) → Owner t p v n → S t ≡ true → (cs : List Change) → AllMay S v (stored n.right.node v) cs → AllMay S v v (storing f n.right.node words ++ cs)
-        words_may S v n k ours cs h = storing_may n.right.node words S v v n.header k.is_named.is_header (owner_holds S v n (owner_right t p ours n k) k.owned) sets cs h
 
 -- file_get_translator: what it asks is the same in worlds that agree, whose header the caller sees
 

@@ -1,5 +1,5 @@
 -- The words of a passive translator stored with a node, or not: a piece of a call, the world that it leaves, and that the old words make it what it was.
-use Rattle.std.proofs.Common.{◌≡◌, ◌≢◌, ◌⊎◌, ◌∙◌, ℕ, Bool, true, false, if◌then◌else◌, List, [], ◌∷◌, ◌++◌, Option, Some, None, refl, sym, ap, inl, inr}
+use Rattle.std.proofs.Common.{◌≡◌, ◌≢◌, ◌⊎◌, ◌∙◌, ℕ, Bool, true, false, if◌then◌else◌, List, [], ◌∷◌, Option, Some, None, refl, sym, ap, inl, inr}
 use Rattle.std.specs.Prelude.{Result, Ok, Err, is_some}
 use Rattle.std.specs.Option.{option_map}
 use Rattle.std.specs.FinMap.{get}
@@ -10,7 +10,6 @@ use Rattle.hurd_creds.specs.NameMaps.{NameMap, edit}
 use Rattle.hurd_creds.proofs.NameLaws.{same_map_by, same_or_apart, edit_here, edit_apart}
 use Rattle.hurd_trans_iface.specs.Nodes.{Header, Node, NodeMap, has_words, passive_of, some_words, with_header, with_passive}
 use Rattle.hurd_nodes.specs.Shown.{ServerInfo, set_attrs_by, tree_by}
-use Rattle.hurd_ports.specs.Tables.{Task}
 use Rattle.hurd_machine.specs.World.{World, header_at, info_at, node_at, sets_attrs_at, words_at, words_in}
 use Rattle.hurd_machine.specs.Change.{Change, EditHeader, apply_all}
 use Rattle.hurd_machine.specs.Plan.{on, first}
@@ -19,15 +18,12 @@ use Rattle.hurd_machine.specs.Sight.{Part, AttrOf, EmptyOf, BodyOf, OptionsOf, U
 use Rattle.hurd_machine.specs.Touched.{Goes}
 use Rattle.hurd_machine.proofs.Asks.{is_named}
 use Rattle.hurd_machine.proofs.Nodes.{header_in, header-with_header, edit_keeps, edit_reads}
-use Rattle.hurd_machine.proofs.Coherence.{AllProper}
-use Rattle.hurd_machine.proofs.Settle.{Rests, rests_quiet}
-use Rattle.hurd_machine.proofs.Frame.{AllWithin}
-use Rattle.hurd_machine.proofs.Links.{KeepsLinked, linked_steady}
-use Rattle.hurd_machine.proofs.Sizes.{KeepsSized, sized_header}
 use Rattle.hurd_machine.proofs.Confine.{Less}
-use Rattle.hurd_machine.proofs.Several.{AllMay}
 use Rattle.hurd_core.specs.Core.{naming_asks}
 use Rattle.hurd_fsys.specs.Setting.{stored_asks}
+use Rattle.hurd_machine.proofs.Piece.{Whole, stands, whole_none, quiet, of_header}
+use Rattle.hurd_machine.specs.Sound.{Sound}
+use Rattle.hurd_machine.proofs.Permits.{AllExact}
 
 -- a world like another, but for the headers of its nodes; this node is there
 pub record IsLike (w v : World) (n : Name) : Type 0 where
@@ -64,33 +60,18 @@ module _ (n : Name) (words : List (List ℕ)) where
   storing_names true w t k = refl
   storing_names false w t k = refl
 
-  pub storing_within : (T : Part → Type 0) (b : Bool) (w : World) → T (AttrOf n) → AllWithin T w (storing_if b)
-  storing_within T true w attr = (attr, tt)
-  storing_within T false w attr = tt
+  pub storing_exact : (b : Bool) → AllExact (storing_if b)
+  storing_exact true = (tt, tt)
+  storing_exact false = tt
 
-  pub storing_proper : (b : Bool) (w : World) → AllProper w (storing_if b)
-  storing_proper true w = (λ h is. (refl, inl refl), λ one. tt)
-  storing_proper false w = tt
-
-  pub storing_rests : (b : Bool) (w : World) → Rests w (storing_if b)
-  storing_rests true w = rests_quiet (storing_if true) w (λ h e. e, tt)
-  storing_rests false w = λ rest. rest
-
-  pub storing_linked : (b : Bool) (w : World) → KeepsLinked w (storing_if b)
-  storing_linked true w = linked_steady (storing_if true) w (λ h. (refl, refl, refl), tt)
-  storing_linked false w = λ l. l
-
-  pub storing_sized : (b : Bool) (w : World) → KeepsSized w (storing_if b)
-  storing_sized true w = sized_header w n (with_passive words) (λ h. refl)
-  storing_sized false w = λ fit. fit
-
-  -- whoever holds the owner's uid, or 0, could do all with the node before; then follows what may be done in the world that is left
-  pub storing_may : (S : ℕ → Bool) (v x : World) (h : Header) → header_at x n ≡ Some h → OwnsIt S v h → (b : Bool) (cs : List Change) → AllMay S v (apply_all (storing_if b) x) cs → AllMay S v x (storing_if b ++ cs)
-  storing_may S v x h at o true cs rest = (λ k there. less k (cc (at, there)), rest)
+  -- whoever holds the owner's uid, or 0, could do all with the node before
+  pub storing_whole : {t : ℕ} {T : Part → Type 0} {w : World} → Sound w → (h : Header) → header_at w n ≡ Some h → T (AttrOf n) → ((S : ℕ → Bool) → S t ≡ true → OwnsIt S w h) → (b : Bool) → Whole t T w w (storing_if b)
+  storing_whole {t} {T} {w} s h at attr owns false = whole_none s
+  storing_whole {t} {T} {w} s h at attr owns true =
+      quiet (storing_if true) (λ k e. e, tt) s (of_header n (with_passive words) (λ k. (refl, refl, refl)) (λ k. refl) (stands s) attr (λ S ours. (λ k there. less S (owns S ours) k (cc (at, there)), tt)))
     where
-      less : (k : Header) → h ≡ k → Less S v n (with_passive words k) k
-      less k same = rw (← same) (record { kind = refl; parent = λ p e. inl e; could = λ want c. Owns o.0 o.1 o.2; owns = λ z. o })
-  storing_may S v x h at o false cs rest = rest
+      less : (S : ℕ → Bool) → OwnsIt S w h → (k : Header) → h ≡ k → Less S w n (with_passive words k) k
+      less S o k same = rw (← same) (record { kind = refl; parent = λ p e. inl e; could = λ want c. Owns o.0 o.1 o.2; owns = λ z. o })
 
   -- whether attributes may be set stays
   pub storing_sets : (b : Bool) (w : World) (m : Name) → sets_attrs_at (apply_all (storing_if b) w) m ≡ sets_attrs_at w m

@@ -16,15 +16,15 @@ use Rattle.hurd_machine.proofs.Views.{Agree, active_same}
 use Rattle.hurd_machine.proofs.Frame.{AllWithin, Full, within_append}
 use Rattle.hurd_machine.proofs.Coherence.{AllProper}
 use Rattle.hurd_machine.proofs.Keeping.{proper_append}
-use Rattle.hurd_machine.proofs.Settle.{Rests, rests_append}
+use Rattle.hurd_machine.proofs.Settle.{Rests}
 use Rattle.hurd_machine.proofs.Sizes.{KeepsSized, did_sized, sized_append}
-use Rattle.hurd_machine.proofs.Links.{KeepsLinked, linked_append}
+use Rattle.hurd_machine.proofs.Links.{KeepsLinked}
 use Rattle.hurd_machine.proofs.Several.{AllMay}
-use Rattle.hurd_machine.proofs.Permits.{cursor_may, did_may, did_exact, may_append}
-use Rattle.hurd_machine.proofs.Opens.{cursor_within, cursor_proper, cursor_rests, cursor_sized, cursor_linked}
-use Rattle.hurd_machine.proofs.Edits.{did_within, did_proper, did_rests, did_linked}
+use Rattle.hurd_machine.proofs.Permits.{did_exact}
+use Rattle.hurd_machine.proofs.Opens.{cursor_whole}
+use Rattle.hurd_machine.proofs.Edits.{did_whole}
 use Rattle.hurd_machine.proofs.Asks.{IsPlain, ok_plain, err_plain, asked_plain, answered_same, answered_plain, done_plain, first_same, first_ok, given_ok, given_same, stream_same, first_plain, given_plain, handle_same, handle_read, handle_plain, asked_seen, handle_seen, asked_same, port_same, port_plain, port_seen}
-use Rattle.hurd_machine.proofs.CallLaws.{CallLaws, looking_laws, answered_within, answered_proper, answered_sized, answered_rests, answered_may, answered_linked}
+use Rattle.hurd_machine.proofs.CallLaws.{CallLaws, answered_piece, looking_laws}
 use Rattle.hurd_io.specs.declared.offset.Offset.{Offset}
 use Rattle.hurd_io.specs.declared.offset.Offset.TheVariants.{Place, Cursor}
 use Rattle.hurd_io.specs.declared.offset.IoAt.{IoAt}
@@ -34,6 +34,8 @@ use Rattle.hurd_trans_iface.proofs.Goods.{good}
 use Rattle.hurd_machine.specs.declared.handle.Handle.{Handle}
 use Rattle.hurd_machine.specs.declared.call.Reply.TheVariants.{Data, Count, Stat}
 use Rattle.hurd_machine.specs.Handle.{handle_asks}
+use Rattle.hurd_machine.proofs.Piece.{Whole, whole_none, whole_then}
+use Rattle.hurd_machine.specs.Sound.{Sound}
 
 -- Reads and writes: what the laws need of them, by what is asked first and the question to the server.
 
@@ -44,35 +46,10 @@ offset_plain (negsuc (suc n)) = err_plain _ refl
 
 -- a cursor that moves, or doesn't
 
-moved_within : (T : Part → Type 0) (w : World) (offset : Offset) (stream : Bool) (o : Name) (k : ℕ) → ((p : Part) → Moves offset stream o p → T p) → AllWithin T w (moved offset stream o k)
-moved_within T w (Place n) stream o k parts = tt
-moved_within T w Cursor true o k parts = tt
-moved_within T w Cursor false o k parts = cursor_within T w o k (parts _ refl)
-
-moved_proper : (w : World) (offset : Offset) (stream : Bool) (o : Name) (k : ℕ) → AllProper w (moved offset stream o k)
-moved_proper w (Place n) stream o k = tt
-moved_proper w Cursor true o k = tt
-moved_proper w Cursor false o k = cursor_proper w o k
-
-moved_linked : (w : World) (offset : Offset) (stream : Bool) (o : Name) (k : ℕ) → KeepsLinked w (moved offset stream o k)
-moved_linked w (Place n) stream o k linked = linked
-moved_linked w Cursor true o k linked = linked
-moved_linked w Cursor false o k linked = cursor_linked w o k linked
-
-moved_sized : (w : World) (offset : Offset) (stream : Bool) (o : Name) (k : ℕ) → KeepsSized w (moved offset stream o k)
-moved_sized w (Place n) stream o k sized = sized
-moved_sized w Cursor true o k sized = sized
-moved_sized w Cursor false o k sized = cursor_sized w o k sized
-
-moved_rests : (w : World) (offset : Offset) (stream : Bool) (o : Name) (k : ℕ) → Rests w (moved offset stream o k)
-moved_rests w (Place n) stream o k settled = settled
-moved_rests w Cursor true o k settled = settled
-moved_rests w Cursor false o k settled = cursor_rests w o k settled
-
-moved_may : (S : ℕ → Bool) (v x : World) (offset : Offset) (stream : Bool) (o : Name) (k : ℕ) → AllMay S v x (moved offset stream o k)
-moved_may S v x (Place n) stream o k = tt
-moved_may S v x Cursor true o k = tt
-moved_may S v x Cursor false o k = cursor_may S v x o k
+moved_whole : {t : ℕ} {T : Part → Type 0} {v w : World} → Sound w → (offset : Offset) (stream : Bool) (o : Name) (k : ℕ) → ((p : Part) → Moves offset stream o p → T p) → Whole t T v w (moved offset stream o k)
+moved_whole s (Place n) stream o k parts = whole_none s
+moved_whole s Cursor true o k parts = whole_none s
+moved_whole s Cursor false o k parts = cursor_whole s o (parts _ refl) k
 
 -- a call on a node that is seen begins alike in worlds that agree: whether that is a stream is seen
 begins_same : {S : ℕ → Bool} {v w : World} → Agree S v w → (h : Handle) → Seen S v h.node → (cursor : ℕ) (o : Offset)
@@ -99,28 +76,14 @@ module _ {T : Type 0} (t : ℕ) (asks : World → Result IoAt Errno) (q : ℕ �
   abbrev moves : IoAt → Did T → List Change
   moves a d = moved a.offset a.is_stream a.open_name (past a.at (count d.told))
 
-  abbrev between : World → IoAt → Did T → World
-  between w a d = apply_all (edits a d) w
-
   abbrev parts : IoAt → Did T → Part → Type 0
   parts a d p = OnDid a.node d p ⊎ Moves a.offset a.is_stream a.open_name p
 
   pub io_laws : CallLaws t (λ w. plan_io w (asks w) q reply count) (λ w. touches_io w (asks w) q)
   io_laws = record {
-    fits = λ w c. answered_within w t (asks w) _ _ (λ a is. answered_within w t (asked_at (q a.at) a.node w) _ (λ d p. parts a d p) (λ d told.
-        within_append (Full w t (parts a d)) (edits a d) (moves a d) w (did_within (Full w t (parts a d)) w a.node d (λ p on. inl (inl on)))
-        (moved_within (Full w t (parts a d)) (between w a d) a.offset a.is_stream a.open_name _ (λ p on. inl (inr on)))));
-    proper = λ w s. answered_proper w _ _ (λ a is. answered_proper w _ _ (λ d told.
-        proper_append (edits a d) (moves a d) w s.coherent (did_proper w s.coherent a.node d) (λ n. moved_proper (between w a d) a.offset a.is_stream a.open_name _)));
-    linked = λ w s. answered_linked w _ _ s.linked (λ a is. answered_linked w _ _ s.linked (λ d told.
-        linked_append (edits a d) (moves a d) w (did_linked w a.node d) (moved_linked (between w a d) a.offset a.is_stream a.open_name _) s.linked));
-    sized = λ w s. answered_sized w _ _ s.sizes (λ a is. answered_sized w _ _ s.sizes (λ d told.
-        sized_append (edits a d) (moves a d) w (did_sized (q a.at) (l.sizes a.at) w s.coherent a.node d told)
-        (moved_sized (between w a d) a.offset a.is_stream a.open_name _) s.sizes));
-    rests = λ w s. answered_rests w _ _ s.settled (λ a is. answered_rests w _ _ s.settled (λ d told.
-        rests_append (edits a d) (moves a d) w (did_rests w a.node d) (moved_rests (between w a d) a.offset a.is_stream a.open_name _) s.settled));
-    may = λ S v c ours. answered_may v _ _ S v (λ a is. answered_may v _ _ S v (λ d told.
-        may_append S v (edits a d) (moves a d) v (did_exact a.node d) (did_may S v v a.node d) (moved_may S v (between v a d) a.offset a.is_stream a.open_name _)));
+    piece = λ w s. answered_piece s (asks w) _ _ (λ a is. answered_piece s (asked_at (q a.at) a.node w) _ (λ d p. parts a d p) (λ d told.
+        whole_then (edits a d) (moves a d) (did_exact a.node d) s (did_whole s (q a.at) (l.sizes a.at) a.node d told (λ p on. inl (inl on)))
+        (λ x. moved_whole x a.offset a.is_stream a.open_name _ (λ p on. inl (inr on)))));
     same = λ S v w c d a ours. answered_same _ _ _ _ (l.asks_same S v w a ours) (λ x is. answered_same _ _ _ _ (l.told_same S v w a ours x is) (λ d told. refl));
     plain = λ w. answered_plain _ _ (l.asks_plain w) (λ a is.
         answered_plain _ _ (asked_plain (q a.at) (l.told_plain a.at) a.node w) (λ d told. done_plain _ (l.reply_plain d.told)));

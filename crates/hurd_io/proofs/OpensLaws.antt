@@ -10,10 +10,9 @@ use Rattle.hurd_machine.specs.Handle.{any_mode, handle_asks}
 use Rattle.hurd_machine.specs.Sight.{OpenOf}
 use Rattle.hurd_machine.proofs.Views.{Agree}
 use Rattle.hurd_machine.proofs.Frame.{Full}
-use Rattle.hurd_machine.proofs.Opens.{cursor_within, cursor_proper, cursor_linked, cursor_sized, cursor_rests, append_within, append_proper, append_linked, append_sized, append_rests}
-use Rattle.hurd_machine.proofs.Permits.{append_may, cursor_may}
+use Rattle.hurd_machine.proofs.Opens.{cursor_whole, append_whole}
 use Rattle.hurd_machine.proofs.Asks.{IsPlain, ok_plain, err_plain, given_plain, given_same, first_plain, first_same, handle_read, readable_same, answered_same, answered_plain, done_plain, handle_same, handle_plain}
-use Rattle.hurd_machine.proofs.CallLaws.{CallLaws, looking_laws, answered_within, answered_proper, answered_linked, answered_sized, answered_rests, answered_may}
+use Rattle.hurd_machine.proofs.CallLaws.{CallLaws, answered_piece, looking_laws}
 use Rattle.hurd_io.specs.Opens.{place_asks, seek_asks, plan_seek, touches_seek, readable_asks, told_readable, plan_readable, touches_readable, told_modes, plan_get_openmodes, touches_get_openmodes, plan_set_openmodes, touches_set_openmodes}
 
 -- io_seek
@@ -31,12 +30,7 @@ module _ (t p : ℕ) (offset : ℤ) (whence : Whence) where
 
   pub seek_laws : CallLaws t (λ w. plan_seek w t p offset whence) (λ w. touches_seek w t p offset whence)
   seek_laws = record {
-    fits = λ w c. answered_within w t (seek_asks w t p offset whence) _ _ (λ s is. cursor_within (Full w t (λ q. q ≡ OpenOf s.0)) w s.0 s.1 (inl refl));
-    proper = λ w s. answered_proper w _ _ (λ k is. cursor_proper w k.0 k.1);
-    linked = λ w s. answered_linked w _ _ s.linked (λ k is. cursor_linked w k.0 k.1 s.linked);
-    sized = λ w s. answered_sized w _ _ s.sizes (λ k is. cursor_sized w k.0 k.1 s.sizes);
-    rests = λ w s. answered_rests w _ _ s.settled (λ k is. cursor_rests w k.0 k.1 s.settled);
-    may = λ S v c ours. answered_may v _ _ S v (λ k is. cursor_may S v v k.0 k.1);
+    piece = λ w s. answered_piece s (seek_asks w t p offset whence) _ _ (λ k is. cursor_whole s k.0 (inl refl) k.1);
     same = λ S v w c d a ours. answered_same _ _ _ _ (seek_same S v w a ours) (λ k is. refl);
     plain = λ w. answered_plain _ _ (seek_plain w) (λ k is. done_plain (Count k.1) refl);
   }
@@ -58,12 +52,7 @@ get_openmodes_laws t p = looking_laws t (λ w. handle_asks w t p any_mode) told_
 
 pub set_openmodes_laws : (t p : ℕ) (flags : OpenFlags) → CallLaws t (λ w. plan_set_openmodes w t p flags) (λ w. touches_set_openmodes w t p flags)
 set_openmodes_laws t p flags = record {
-  fits = λ w c. answered_within w t (handle_asks w t p any_mode) _ _ (λ a is. append_within a.open_name (asks flags APPEND) (Full w t (λ q. q ≡ OpenOf a.open_name)) w (inl refl));
-  proper = λ w s. answered_proper w _ _ (λ a is. append_proper a.open_name (asks flags APPEND) w);
-  linked = λ w s. answered_linked w _ _ s.linked (λ a is. append_linked a.open_name (asks flags APPEND) w s.linked);
-  sized = λ w s. answered_sized w _ _ s.sizes (λ a is. append_sized a.open_name (asks flags APPEND) w s.sizes);
-  rests = λ w s. answered_rests w _ _ s.settled (λ a is. append_rests a.open_name (asks flags APPEND) w s.settled);
-  may = λ S v c ours. answered_may v _ _ S v (λ a is. append_may S v v a.open_name (asks flags APPEND));
+  piece = λ w s. answered_piece s (handle_asks w t p any_mode) _ _ (λ a is. append_whole s a.open_name (inl refl) (asks flags APPEND));
   same = λ S v w c d a ours. answered_same _ _ _ _ (handle_same a t ours p any_mode) (λ b is. refl);
   plain = λ w. answered_plain _ _ (handle_plain w t p any_mode) (λ a is. done_plain Done refl);
 }

@@ -14,10 +14,10 @@ use Rattle.hurd_machine.specs.Touched.{OnRight}
 use Rattle.hurd_machine.proofs.Views.{Agree, same_tasks}
 use Rattle.hurd_machine.proofs.Frame.{Full}
 use Rattle.hurd_machine.proofs.Opens.{own_task}
-use Rattle.hurd_machine.proofs.Sharing.{taken_task, taken_right, taken_restricted, shares_within, shares_proper, shares_linked, shares_sized, shares_rests, shares_may}
+use Rattle.hurd_machine.proofs.Sharing.{taken_task, taken_right, taken_restricted, shares_whole}
 use Rattle.hurd_machine.proofs.BothLaws.{both_same, both_plain}
 use Rattle.hurd_machine.proofs.Asks.{IsPlain, is_named, has_right, holds_right, on_ok, given_ok, first_ok, on_same, first_same, on_plain, given_plain, first_plain, ok_plain, port_same, port_plain, answered_same, answered_plain, done_plain}
-use Rattle.hurd_machine.proofs.CallLaws.{CallLaws, looking_laws, answered_within, answered_proper, answered_linked, answered_sized, answered_rests, answered_may}
+use Rattle.hurd_machine.proofs.CallLaws.{CallLaws, answered_piece, looking_laws}
 use Rattle.hurd_core.specs.Core.{room_asks}
 use Rattle.hurd_io.specs.Sharing.{share_asks, plan_share, touches_share, ids_of_port, plan_duplicate, ids_of_task, plan_reauthenticate, ids_among, plan_restrict_auth, told_same, plan_identity, touches_identity}
 
@@ -54,15 +54,10 @@ module _ (t p : ℕ) where
     -- where the caller holds the ids that the new port gets
     share_laws : ((S : ℕ → Bool) (v : World) (a : IoRight × Task) → S t ≡ true → IsShared v t p a → HasUid S v 0 ⊎ Taken S v (given a)) → CallLaws t (λ w. plan_share w t p ids) (λ w. touches_share w t p)
     share_laws power = record {
-      fits = λ w c. answered_within w t (share_asks w t p) _ _ (λ a is.
-          shares_within t a.0 (given a) (Full w t (OnRight w (Io a.0))) w (own_task w t (OnRight w (Io a.0))) (λ q on. inl on));
-      proper = λ w s. answered_proper w _ _ (λ a is.
-          let h = has_right w t p (Io a.0) (is_shared w t p a is).is_right in shares_proper t a.0 (given a) w s.coherent h.seat h.is_task h.here);
-      linked = λ w s. answered_linked w _ _ s.linked (λ a is. shares_linked t a.0 (given a) w s.linked);
-      sized = λ w s. answered_sized w _ _ s.sizes (λ a is. shares_sized t a.0 (given a) w s.sizes);
-      rests = λ w s. answered_rests w _ _ s.settled (λ a is. shares_rests t a.0 (given a) w s.settled);
-      may = λ S v c ours. answered_may v _ _ S v (λ a is.
-          let h = is_shared v t p a is in shares_may t a.0 (given a) S v ours (holds_right t ours p (Io a.0) h.is_right) (power S v a ours h));
+      piece = λ w s. answered_piece s (share_asks w t p) _ _ (λ a is.
+          let k = is_shared w t p a is in
+          let h = has_right w t p (Io a.0) k.is_right in
+          shares_whole s t a.0 (given a) h.seat h.is_task h.here (own_task w t (OnRight w (Io a.0))) (λ q on. inl on) (λ S ours. (holds_right t ours p (Io a.0) k.is_right, power S w a ours k)));
       same = λ S v w c d a ours. answered_same _ _ _ _ (share_same S v w a ours) (λ b is. refl);
       plain = λ w. answered_plain _ _ (share_plain w) (λ a is. done_plain (Port a.1.next) refl);
     }

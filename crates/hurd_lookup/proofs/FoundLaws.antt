@@ -11,11 +11,11 @@ use Rattle.hurd_machine.specs.Plan.{on}
 use Rattle.hurd_machine.specs.Sound.{Coherent}
 use Rattle.hurd_machine.proofs.Views.{Agree, same_tasks}
 use Rattle.hurd_machine.proofs.Asks.{on_same, first_same, answered_same, on_ok, given_ok, first_ok, IsPlain, ok_plain, on_plain, given_plain, first_plain, answered_plain, done_plain}
-use Rattle.hurd_machine.proofs.CallLaws.{CallLaws, answered_within, answered_proper, answered_linked, answered_sized, answered_rests, answered_may}
+use Rattle.hurd_machine.proofs.CallLaws.{CallLaws, answered_piece}
 use Rattle.hurd_core.specs.Core.{room_asks}
 use Rattle.hurd_lookup.specs.Lookup.{Outcome, Opens, Makes, Retries, Starts, ending_asks, whole_asks, lookup_told, finding, finding_parts}
 use Rattle.hurd_lookup.proofs.EndLaws.{OutcomeSeen, OutcomeGiven, Leads}
-use Rattle.hurd_lookup.proofs.OutcomeLaws.{outcome_within, outcome_proper, outcome_linked, outcome_rests, outcome_sized, outcome_may}
+use Rattle.hurd_lookup.proofs.OutcomeLaws.{outcome_whole}
 
 -- what is shown of what task t finds, which is to be opened by these flags
 pub record FoundLaws (t : ℕ) (flags : OpenFlags) (found : World → Result Outcome Errno) : Type 0 where
@@ -88,9 +88,6 @@ module _ (t : ℕ) (flags : OpenFlags) (found : World → Result Outcome Errno) 
       let both : (o.0, x.0) ≡ got = cc (x.2) in
       subst (Answered w) both (record { is_found = o.1; is_task = ending_task w t o.0 x.0 x.1 })
 
-  leads_of : (w : World) (got : Outcome × Task) → Answered w got → Leads w flags got.0
-  leads_of w got k = l.leads w got.0 k.is_found
-
   asked_same : (S : ℕ → Bool) (v w : World) → Agree S v w → S t ≡ true → asked w ≡ asked v
   asked_same S v w a ours = first_same _ _ _ _ (l.same S v w a ours) (λ o is. first_same _ _ _ _ (ending_same a t ours o) (λ x there. refl))
 
@@ -99,14 +96,9 @@ module _ (t : ℕ) (flags : OpenFlags) (found : World → Result Outcome Errno) 
 
   pub finding_laws : CallLaws t (λ w. finding w t flags (found w)) (λ w. finding_parts w t (found w))
   finding_laws = record {
-    fits = λ w c. answered_within w t (asked w) _ _ (λ got is. let k = answer w got is in outcome_within w t got.1 k.is_task flags got.0);
-    proper = λ w s. answered_proper w (asked w) _ (λ got is. let k = answer w got is in outcome_proper w t got.1 k.is_task flags s.coherent s.linked got.0 (leads_of w got k) (l.given w s.coherent got.0 k.is_found));
-    linked = λ w s. answered_linked w (asked w) _ s.linked (λ got is.
-        let k = answer w got is in outcome_linked w t got.1 k.is_task flags s.coherent s.linked got.0 (leads_of w got k) (l.given w s.coherent got.0 k.is_found) s.linked);
-    sized = λ w s. answered_sized w (asked w) _ s.sizes (λ got is. let k = answer w got is in outcome_sized w t got.1 k.is_task flags got.0 (leads_of w got k) s.sizes);
-    rests = λ w s. answered_rests w (asked w) _ s.settled (λ got is. let k = answer w got is in outcome_rests w t got.1 k.is_task flags s.coherent got.0 (leads_of w got k) s.settled);
-    may = λ S v c ours. answered_may v (asked v) _ S v (λ got is.
-        let k = answer v got is in outcome_may v t got.1 k.is_task flags S c ours got.0 (l.seen S v ours got.0 k.is_found) (leads_of v got k));
+    piece = λ w s. answered_piece s (asked w) _ _ (λ got is.
+        let k = answer w got is in
+        outcome_whole w t got.1 k.is_task flags s got.0 (l.leads w got.0 k.is_found) (l.given w s.coherent got.0 k.is_found) (λ S ours. l.seen S w ours got.0 k.is_found));
     same = λ S v w c d a ours. answered_same _ _ _ _ (asked_same S v w a ours) (λ got is. refl);
     plain = λ w. answered_plain (asked w) _ (asked_plain w) (λ got is. done_plain (Found (lookup_told got.1 got.0)) refl);
   }

@@ -3,17 +3,22 @@ use Rattle.std.proofs.Common.{◌≡◌, ℕ, true, List, Option, Some, None, sy
 use Rattle.std.specs.Prelude.{Ok}
 use Rattle.hurd_creds.specs.declared.name.Name.{Name}
 use Rattle.hurd_trans_iface.specs.Nodes.{Header, Body, Content, Listing, IsShaped, on_bytes}
-use Rattle.hurd_trans_iface.specs.Behaviour.{Did, edit_bytes, edit_size, edits_of}
-use Rattle.hurd_machine.specs.World.{World, body_at, lists, lists_at}
+use Rattle.hurd_trans_iface.specs.Behaviour.{Did, Question, edit_bytes, edit_size, edits_of}
+use Rattle.hurd_machine.specs.World.{World, asked_at, body_at, lists, lists_at}
 use Rattle.hurd_machine.specs.Sight.{Part, AttrOf, BodyOf}
 use Rattle.hurd_machine.specs.Touched.{Changes, OnDid}
 use Rattle.hurd_machine.specs.Change.{Change, EditBody, changes_of}
-use Rattle.hurd_machine.specs.Sound.{HasDistinctNames, Coherent, times_in}
+use Rattle.hurd_machine.specs.Sound.{HasDistinctNames, Coherent, Sound, times_in}
 use Rattle.hurd_machine.proofs.Nodes.{KeepsEmptiness}
 use Rattle.hurd_machine.proofs.Coherence.{Proper, AllProper}
-use Rattle.hurd_machine.proofs.Settle.{Rests, AreQuiet, rests_quiet}
+use Rattle.hurd_machine.proofs.Settle.{AreQuiet}
 use Rattle.hurd_machine.proofs.Frame.{AllWithin}
-use Rattle.hurd_machine.proofs.Links.{KeepsLinked, AreSteady, linked_steady}
+use Rattle.hurd_machine.proofs.Links.{AreSteady, linked_steady}
+use Rattle.hurd_trans_iface.specs.Kinds.{ServerKind, behaviour_of}
+use Rattle.hurd_trans_iface.specs.Good.{KeepsSizes}
+use Rattle.hurd_machine.proofs.Sizes.{did_sized}
+use Rattle.hurd_machine.proofs.Permits.{did_may}
+use Rattle.hurd_machine.proofs.Piece.{Whole, quiet}
 
 module _ (f : List ℕ → List ℕ) where
   bytes_emptiness : KeepsEmptiness (on_bytes f)
@@ -73,14 +78,13 @@ left_steady n None (Some k) = (λ h. (refl, refl, refl), tt)
 left_steady n (Some f) None = (bytes_times f, tt)
 left_steady n (Some f) (Some k) = (bytes_times f, (λ h. (refl, refl, refl), tt))
 
-pub did_within : {R : Type 0} (T : Part → Type 0) (w : World) (n : Name) (d : Did R) → ((p : Part) → OnDid n d p → T p) → AllWithin T w (changes_of (edits_of n (Ok d)))
-did_within T w n d parts = left_within T w n d.bytes d.size (λ b. parts (BodyOf n) (inl (b, refl))) (λ s. parts (AttrOf n) (inr (s, refl)))
-
-pub did_proper : {R : Type 0} (w : World) → Coherent w → (n : Name) (d : Did R) → AllProper w (changes_of (edits_of n (Ok d)))
-did_proper w c n d = left_proper w c n d.bytes d.size
-
-pub did_rests : {R : Type 0} (w : World) (n : Name) (d : Did R) → Rests w (changes_of (edits_of n (Ok d)))
-did_rests w n d = rests_quiet (changes_of (edits_of n (Ok d))) w (left_quiet w n d.bytes d.size)
-
-pub did_linked : {R : Type 0} (w : World) (n : Name) (d : Did R) → KeepsLinked w (changes_of (edits_of n (Ok d)))
-did_linked w n d = linked_steady (changes_of (edits_of n (Ok d))) w (left_steady n d.bytes d.size)
+-- what is answered to a question that keeps sizes
+pub did_whole : {R : Type 0} {t : ℕ} {T : Part → Type 0} {w : World} → Sound w → (q : Question R) → ((k : ServerKind) → KeepsSizes (behaviour_of k) q) → (n : Name) (d : Did R) → asked_at q n w ≡ Ok d → ((p : Part) → OnDid n d p → T p)
+    → Whole t T w w (changes_of (edits_of n (Ok d)))
+did_whole {T} {w} s q keeps n d told parts = quiet (left_changes n d.bytes d.size) (left_quiet w n d.bytes d.size) s (record {
+  within = left_within T w n d.bytes d.size (λ b. parts (BodyOf n) (inl (b, refl))) (λ z. parts (AttrOf n) (inr (z, refl)));
+  proper = left_proper w s.coherent n d.bytes d.size;
+  linked = linked_steady (left_changes n d.bytes d.size) w (left_steady n d.bytes d.size) s.linked;
+  sized = did_sized q keeps w s.coherent n d told s.sizes;
+  may = λ S ours. did_may S w w n d;
+})

@@ -16,7 +16,7 @@ use Rattle.hurd_ports.specs.Steps.{edit_task}
 use Rattle.hurd_ports.proofs.HeldLaws.{any-at}
 use Rattle.hurd_machine.specs.World.{World, IsAmong, open_at}
 use Rattle.hurd_nodes.specs.Weights.{one_if, weigh_list, count_list}
-use Rattle.hurd_machine.specs.Sight.{naming, weigh_rights, count_rights}
+use Rattle.hurd_machine.specs.Sight.{weigh_rights, count_rights}
 use Rattle.hurd_machine.proofs.Retained.{retained, none_retained, was_retained}
 use Rattle.hurd_machine.proofs.Tasks.{edit_still}
 
@@ -54,10 +54,6 @@ any_right T ts = list_any (λ (x : Task). list_any T (rights_of x)) ts
 pub held_counted : (ts : List Task) (o : Name) → is_held ts o ≡ nat_lt 0 (count_rights (names_open o) ts)
 unfolding is_held
 held_counted ts o = tasks_counted (names_open o) ts
-
-pub named_counted : (ts : List Task) (n : Name) → is_named ts n ≡ nat_lt 0 (weigh_rights (naming n) ts)
-unfolding is_named
-named_counted ts n = tasks_weighed (names_node n) (naming n) (λ r. list_counted (λ m. same_name n m) (nodes_of r)) ts
 
 -- whether some element passes a test
 

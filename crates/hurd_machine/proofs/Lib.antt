@@ -26,6 +26,7 @@ pub mod Mirror
 pub mod Several
 pub mod Confined
 pub mod Permits
+pub mod Piece
 pub mod CallLaws
 pub mod Sizes
 pub mod Links

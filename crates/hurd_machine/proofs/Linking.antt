@@ -14,19 +14,21 @@ use Rattle.hurd_trans_iface.specs.Good.{GoodBehaviour}
 use Rattle.hurd_trans_iface.specs.Kinds.{ServerKind, behaviour_of}
 use Rattle.hurd_trans_iface.specs.Meaning.{keeps_tree}
 use Rattle.hurd_nodes.specs.Shown.{ServerInfo, are_kin, link_by, tree_by}
-use Rattle.hurd_machine.specs.World.{World, body_at, home_at, info_at, links_at}
+use Rattle.hurd_machine.specs.World.{World, nodes_of, body_at, home_at, info_at, links_at}
 use Rattle.hurd_machine.specs.Sight.{Part, AttrOf, EmptyOf, BodyOf, Seen, Could, Owns, Allowed}
 use Rattle.hurd_machine.specs.Change.{Change, EditBody, EditHeader, apply}
 use Rattle.hurd_machine.specs.Sound.{Coherent}
 use Rattle.hurd_machine.proofs.Nodes.{header_in, body_in}
 use Rattle.hurd_machine.proofs.Coherence.{IsEntry, AllProper}
-use Rattle.hurd_machine.proofs.Settle.{Rests, KeepsEntered, rests_quiet}
-use Rattle.hurd_machine.proofs.Frame.{AllWithin}
-use Rattle.hurd_machine.proofs.Sizes.{KeepsSized, sized_append, sized_entry, sized_header}
+use Rattle.hurd_machine.proofs.Settle.{KeepsEntered}
+use Rattle.hurd_machine.proofs.Sizes.{sized_append, sized_entry, sized_header}
 use Rattle.hurd_machine.proofs.Confine.{Less}
-use Rattle.hurd_machine.proofs.Several.{AllMay}
 use Rattle.hurd_machine.proofs.Permits.{entry_may}
 use Rattle.hurd_machine.proofs.Makes.{entry_proper}
+use Rattle.hurd_machine.proofs.Links.{listing_of}
+use Rattle.hurd_machine.proofs.Relinks.{again_linked}
+use Rattle.hurd_machine.proofs.Piece.{Whole, quiet}
+use Rattle.hurd_machine.specs.Sound.{Sound, LeadsUp}
 
 -- where a file may get another name: in a directory of a tree that has no such entry, of the file's own server
 pub record MayLink (w : World) (d : Name) (name : List ℕ) (n : Name) : Type 0 where
@@ -101,16 +103,7 @@ module _ (d : Name) (name : List ℕ) (n : Name) where
   abbrev linking : List Change
   linking = EditBody d (with_entry name n) ∷ EditHeader n linked ∷ []
 
-  pub link_within : (T : Part → Type 0) (w : World) → T (BodyOf d) → T (EmptyOf d) → T (AttrOf n) → AllWithin T w linking
-  link_within T w body empty attr = ((body, inl empty), (attr, tt))
-
-  pub link_rests : (w : World) → Rests w linking
-  link_rests w = rests_quiet linking w (tt, (linked_entered, tt))
-
-  pub link_sized : ((k : ServerKind) → GoodBehaviour (behaviour_of k)) → (w : World) → KeepsSized w linking
-  link_sized good w = sized_append added counted w (sized_entry good w d name n) (sized_header (apply (EditBody d (with_entry name n)) w) n linked (λ h. refl))
-
-  pub link_proper : (w : World) → Coherent w → MayLink w d name n → AllProper w linking
+  link_proper : (w : World) → Coherent w → MayLink w d name n → AllProper w linking
   link_proper w c m = (entry_proper w c d name n m.absent new_entry, λ one. (λ h is. (refl, inl refl), λ two. tt))
     where
       new_entry : IsEntry w d n
@@ -131,6 +124,15 @@ module _ (d : Name) (name : List ℕ) (n : Name) where
       could want (Owns u has is) = Owns u has is
       could want (Allowed ids taken may) = Allowed ids taken may
 
-  -- a task of S may name a node that S saw
-  pub link_may : (S : ℕ → Bool) (v x : World) → Seen S v n → AllMay S v x linking
-  link_may S v x seen = (entry_may S v x d name n (inl seen), (λ h at. linked_less S v h, tt))
+  -- in a directory that leads up
+  pub link_whole : ((k : ServerKind) → GoodBehaviour (behaviour_of k)) → {t : ℕ} {T : Part → Type 0} {w : World} → Sound w → MayLink w d name n → LeadsUp (nodes_of w) d → T (BodyOf d) → T (EmptyOf d) → T (AttrOf n)
+      → ((S : ℕ → Bool) → S t ≡ true → Seen S w n) → Whole t T w w linking
+  link_whole good {t} {T} {w} s m up body empty attr seen =
+      let listing = listing_of m.node.header m.node.body (s.coherent.tree.shapes d m.node m.is_node) m.dir in
+      quiet linking (tt, (linked_entered, tt)) s (record {
+        within = ((body, inl empty), (attr, tt));
+        proper = link_proper w s.coherent m;
+        linked = again_linked w d n name linked m.node listing.0 m.file.header m.is_node listing.1 (ap header_in m.is_file) m.no_dir up (λ h. (refl, refl)) refl s.linked;
+        sized = sized_append added counted w (sized_entry good w d name n) (sized_header (apply (EditBody d (with_entry name n)) w) n linked (λ h. refl)) s.sizes;
+        may = λ S ours. (entry_may S w w d name n (inl (seen S ours)), (λ h at. linked_less S w h, tt));
+      })

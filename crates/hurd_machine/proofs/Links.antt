@@ -1,5 +1,5 @@
 -- Changes that keep nodes linked as a tree is, or keep them so but for some that are loose.
-use Rattle.std.proofs.Common.{◌≡◌, ◌≢◌, ◌⊎◌, ◌∙◌, ℕ, ◌+◌, ◌≤◌, Bool, true, false, not, ◌&&◌, cond, is_some, List, [], ◌∷◌, ◌++◌, Option, Some, None, nat_lt, sym, refl, ap, ap₂, subst, inl, inr, true≢false, arith}
+use Rattle.std.proofs.Common.{◌≡◌, ◌≢◌, ◌⊎◌, ◌∙◌, ℕ, ◌+◌, ◌≤◌, Bool, true, false, not, ◌&&◌, cond, is_some, List, [], ◌∷◌, Option, Some, None, nat_lt, sym, refl, ap, ap₂, subst, inl, inr, true≢false, arith}
 use Rattle.std.proofs.lemmas.Bool.Decides.{nat_tests}
 use Rattle.std.specs.List.{list_any}
 use Rattle.std.specs.Option.{option_map}
@@ -22,7 +22,6 @@ use Rattle.hurd_machine.proofs.Listed.{lists_counted, none_in}
 use Rattle.hurd_machine.proofs.Sums.{of_found, total_insert, total_kept, total_none}
 use Rattle.hurd_machine.proofs.Coherence.{HasNoEntries}
 use Rattle.hurd_machine.proofs.Texts.{root_kept, tree_kept}
-use Rattle.hurd_machine.proofs.Keeping.{apply_all-append}
 
 -- how often a body names a node
 
@@ -354,9 +353,6 @@ tied h a l hung = record {
 abbrev pub KeepsLinked : World → List Change → Type 0
 KeepsLinked w cs = Linked (nodes_of w) → Linked (nodes_of (apply_all cs w))
 
-pub linked_append : (cs ds : List Change) (w : World) → KeepsLinked w cs → KeepsLinked (apply_all cs w) ds → KeepsLinked w (cs ++ ds)
-linked_append cs ds w first then l = subst (λ x. Linked (nodes_of x)) (sym (apply_all-append cs ds w)) (then (first l))
-
 -- a change that gives and takes no entry, no link and no parent
 abbrev pub IsSteady : Change → Type 0
 IsSteady (EditHeader n f) = (h : Header) → ((f h).kind ≡ h.kind) × ((f h).parent ≡ h.parent) × ((f h).links ≡ h.links)
@@ -390,16 +386,6 @@ pub linked_steady : (cs : List Change) (w : World) → AreSteady cs → KeepsLin
 linked_steady cs w p l =
     let all = loosened (λ n. ⊥) cs w (steady_all cs w p) (loose_any (λ n. ⊥) (nodes_of w) l) in
     record { nodes = λ n. all.nodes n (λ no. no); rooted = all.rooted }
-
--- in a linked world
-
--- a directory that has entries is its server's root, or an entry itself
-pub anchored : (h : NodeState) → Linked h → (d n : Name) → lists_at n (body_of h.nodes d) ≡ true → (is_root h d ≡ true) ⊎ ((e : Name) × (lists_at d (body_of h.nodes e) ≡ true))
-anchored h l d n e = go d (l.rooted d n e)
-  where
-    go : (m : Name) → LeadsUp h m → (is_root h m ≡ true) ⊎ ((e : Name) × (lists_at m (body_of h.nodes e) ≡ true))
-    go m (AtRoot is) = inl is
-    go m (Above p k is up rest) = inr (p, ((l.nodes m k is).up p up).1)
 
 -- a directory that is an entry leads up
 pub entry_leads : (w : World) → Coherent w → Linked (nodes_of w) → (d n : Name) (k : Header) → lists_at n (body_at w d) ≡ true → header_at w n ≡ Some k → k.kind ≡ Dir → LeadsUp (nodes_of w) n

@@ -21,23 +21,25 @@ use Rattle.hurd_trans_iface.specs.Good.{IsSized, GoodBehaviour}
 use Rattle.hurd_trans_iface.specs.Kinds.{ServerKind, behaviour_of}
 use Rattle.hurd_trans_iface.specs.Meaning.{keeps_tree}
 use Rattle.hurd_nodes.specs.Shown.{ServerInfo, info_in, made_by, is_root_at, is_root_of, tree_by}
-use Rattle.hurd_ports.specs.Tables.{Task}
+use Rattle.hurd_ports.specs.Tables.{Task, fresh}
 use Rattle.hurd_ports.specs.Steps.{named}
 use Rattle.hurd_machine.specs.World.{World, task_at, header_at, body_at, home_at, server_at, info_at, makes_at, is_of, lists, lists_at, nodes_of, is_server_root}
-use Rattle.hurd_machine.specs.Sight.{Part, AttrOf, EmptyOf, BodyOf, OptionsOf, TaskOf, Sees}
+use Rattle.hurd_machine.specs.Sight.{Part, AttrOf, EmptyOf, BodyOf, OptionsOf, TaskOf, OfNode, Seen, Sees}
 use Rattle.hurd_machine.specs.Change.{Change, EditBody, MakeNode, apply, apply_all}
-use Rattle.hurd_machine.specs.Sound.{Below, AreDistinct, HasDistinctNames, Coherent, times_in, times_listed, LeadsUp, Hangs}
+use Rattle.hurd_machine.specs.Sound.{Below, AreDistinct, HasDistinctNames, Coherent, Sound, times_in, times_listed, LeadsUp, Hangs}
 use Rattle.hurd_machine.proofs.Nodes.{header_in, body_in, header-with_body, body-with_body, edit_keeps, edit_reads}
 use Rattle.hurd_machine.proofs.Tasks.{edit_here}
 use Rattle.hurd_machine.proofs.Coherence.{IsNext, IsEntry, GoodNode, HasNoEntries, Proper, AllProper, home_old, no_node, no_home, next_not, next_apart, named_below}
 use Rattle.hurd_machine.proofs.Settle.{Rests, rests_quiet}
-use Rattle.hurd_machine.proofs.Frame.{AllWithin}
+use Rattle.hurd_machine.proofs.Frame.{AllWithin, Full}
 use Rattle.hurd_machine.proofs.Confine.{NewTo, SeenOrNew}
 use Rattle.hurd_machine.proofs.Several.{AllMay}
-use Rattle.hurd_machine.proofs.Permits.{entry_may}
+use Rattle.hurd_machine.proofs.Permits.{entry_may, later_new}
 use Rattle.hurd_machine.proofs.Sizes.{KeepsSized, sized_made, sized_entry}
 use Rattle.hurd_machine.proofs.Listed.{times_edited}
 use Rattle.hurd_machine.proofs.Links.{IsHung, HangsIn, Loosens, KeepsLinked, loosened, loose_any, tied, leads_grown, named_grown, times_new, times_entered, lists_entered, listing_of, relisted_entry}
+use Rattle.hurd_machine.proofs.Opens.{own_task, fresh_new, fresh_next}
+use Rattle.hurd_machine.proofs.Piece.{Whole}
 
 -- a directory with one entry more
 
@@ -140,7 +142,7 @@ may_make w d name kind u = go (info_at w d) (get w.nodes d) refl refl
         record { info = i; is_info = is_info; node = x; is_node = is_node; dir = l.0; tree = l.1; absent = ap (λ o. entry_of name (body_in o)) is_node ∙ l.2; kinds = l.3 }
 
 -- a node that may be made in a directory
-pub record NewIn (w : World) (d : Name) (node : Node) : Type 0 where
+record NewIn (w : World) (d : Name) (node : Node) : Type 0 where
   pub shape : IsShaped node.header node.body
   pub empty : HasNoEntries node.body
   pub parent : (p : Name) → node.header.parent ≡ Some p → Below w p
@@ -149,7 +151,7 @@ pub record NewIn (w : World) (d : Name) (node : Node) : Type 0 where
 -- what a tree makes in a directory
 module _ (d : Name) (new : NewNode) (x : Node) (is : made_node d new ≡ Some x) where
   -- its parent, if it has one, is that directory
-  pub made_parent : (p : Name) → x.header.parent ≡ Some p → p ≡ d
+  made_parent : (p : Name) → x.header.parent ≡ Some p → p ≡ d
   made_parent p = by new.kind is
     where
       by : (kind : Kind) → node_of_kind d new kind ≡ Some x → x.header.parent ≡ Some p → p ≡ d
@@ -160,7 +162,7 @@ module _ (d : Name) (new : NewNode) (x : Node) (is : made_node d new ≡ Some x)
       by Char made e = absurd (cc)
 
   -- it may be made where that directory's name was given
-  pub made_in : (w : World) → Below w d → NewIn w d x
+  made_in : (w : World) → Below w d → NewIn w d x
   made_in w below = by new.kind is
     where
       parent : (p : Name) → x.header.parent ≡ Some p → Below w p
@@ -178,7 +180,7 @@ module _ (d : Name) (new : NewNode) (x : Node) (is : made_node d new ≡ Some x)
       by Char made = absurd (cc)
 
   -- and it has the size that its server says
-  pub made_fit : ((k : ServerKind) → GoodBehaviour (behaviour_of k)) → (i : ServerInfo) → keeps_tree i.kind ≡ true → IsSized (behaviour_of i.kind) i.text x
+  made_fit : ((k : ServerKind) → GoodBehaviour (behaviour_of k)) → (i : ServerInfo) → keeps_tree i.kind ≡ true → IsSized (behaviour_of i.kind) i.text x
   made_fit good i tree = (good i.kind).newborn tree i.text d new x is
 
 -- the node, and its entry
@@ -192,17 +194,17 @@ module _ (w : World) (n s : Name) (node : Node) (d : Name) (name : List ℕ) whe
   abbrev left : World
   left = apply_all (entered n s node d name) w
 
-  pub entered_within : (T : Part → Type 0) → T (TaskOf n.task.0) → T (AttrOf n) → T (EmptyOf n) → T (BodyOf n) → T (BodyOf d) → T (EmptyOf d) → AllWithin T w (entered n s node d name)
+  entered_within : (T : Part → Type 0) → T (TaskOf n.task.0) → T (AttrOf n) → T (EmptyOf n) → T (BodyOf n) → T (BodyOf d) → T (EmptyOf d) → AllWithin T w (entered n s node d name)
   entered_within T task attr empty body dir_body dir_empty = ((task, attr, empty, body), ((dir_body, inl dir_empty), tt))
 
-  pub entered_rests : is_entered node.header ≡ true → home_at w n ≡ None → (i : ServerInfo) → server_at w s ≡ Some i → Rests w (entered n s node d name)
+  entered_rests : is_entered node.header ≡ true → home_at w n ≡ None → (i : ServerInfo) → server_at w s ≡ Some i → Rests w (entered n s node d name)
   entered_rests is new i there = rests_quiet (entered n s node d name) w ((is, new, i, there), (tt, tt))
 
-  pub entered_sized : ((k : ServerKind) → GoodBehaviour (behaviour_of k)) → ((i : ServerInfo) → server_at w s ≡ Some i → IsSized (behaviour_of i.kind) i.text node) → KeepsSized w (entered n s node d name)
+  entered_sized : ((k : ServerKind) → GoodBehaviour (behaviour_of k)) → ((i : ServerInfo) → server_at w s ≡ Some i → IsSized (behaviour_of i.kind) i.text node) → KeepsSized w (entered n s node d name)
   entered_sized good fit sized = sized_entry good made d name n (sized_made w n s node fit sized)
 
   -- a task of S may make it where S saw the server, and the parent that it has
-  pub entered_may : (S : ℕ → Bool) (v : World) → S n.task.0 ≡ true → NewTo S v n → Sees S v (OptionsOf s) → ((p : Name) → node.header.parent ≡ Some p → SeenOrNew S v p) → AllMay S v w (entered n s node d name)
+  entered_may : (S : ℕ → Bool) (v : World) → S n.task.0 ≡ true → NewTo S v n → Sees S v (OptionsOf s) → ((p : Name) → node.header.parent ≡ Some p → SeenOrNew S v p) → AllMay S v w (entered n s node d name)
   entered_may S v ours new served parent = ((ours, inl served, parent), (entry_may S v made d name n (inr new), tt))
 
   -- what is read of the new node afterwards
@@ -219,7 +221,7 @@ module _ (w : World) (n s : Name) (node : Node) (d : Name) (name : List ℕ) whe
     pub entered_below : Below left n
     entered_below = named_below w c n next 1 n refl (omega arith)
 
-    pub entered_proper : home_at w d ≡ Some s → tree_by (info_at w d) ≡ true → entry_of name (body_at w d) ≡ None → NewIn w d node → AllProper w (entered n s node d name)
+    entered_proper : home_at w d ≡ Some s → tree_by (info_at w d) ≡ true → entry_of name (body_at w d) ≡ None → NewIn w d node → AllProper w (entered n s node d name)
     entered_proper home keeps absent new = ((next, good), λ one. (entry_proper made one d name n still new_entry, λ two. tt))
       where
         apart : d ≢ n
@@ -304,5 +306,39 @@ module _ (w : World) (n s : Name) (node : Node) (d : Name) (name : List ℕ) whe
             links = λ tree. hangs.links ∙ one_link (is_dir node.header.kind) (times_listed left.nodes n) named_once;
           })
 
-      pub entered_linked : KeepsLinked w (entered n s node d name)
+      entered_linked : KeepsLinked w (entered n s node d name)
       entered_linked l = tied (nodes_of left) n (loosened IsLoose (entered n s node d name) w (made_loose, (entry_loose, tt)) (loose_any IsLoose (nodes_of w) l)) hung
+
+-- task t makes it, as a tree does, and it hangs in the directory, which isn't removed
+pub entered_whole : ((k : ServerKind) → GoodBehaviour (behaviour_of k)) → {T : Part → Type 0} {w : World} → Sound w → (t : ℕ) (x : Task) → task_at w t ≡ Some x → (s d : Name) → home_at w d ≡ Some s → {kind : Kind} (name : List ℕ) → MayMake w d name kind
+    → LeadsUp (nodes_of w) d → (new : NewNode) (node : Node) → made_node d new ≡ Some node → is_entered node.header ≡ true → HangsIn d node → T (BodyOf d) → T (EmptyOf d) → ((S : ℕ → Bool) → S t ≡ true → Seen S w d)
+    → Whole t (Full w t T) w w (entered (fresh t x) s node d name)
+entered_whole good {T} {w} st t x is s d home name m up new node made_is is_in hangs body empty seen = record {
+  piece = record {
+    within = entered_within w n s node d name (Full w t T) (own_task w t T) (inr (inr still)) (inr (inr still)) (inr (inr still)) (inl body) (inl empty);
+    proper = entered_proper w n s node d name c next home (ap tree_by m.is_info ∙ m.tree) m.absent ready;
+    linked = entered_linked w n s node d name c next m up ready.empty hangs st.linked;
+    sized = entered_sized w n s node d name good (λ i e. let same : m.info ≡ i = cc (is_server, e) in rw (← same) (made_fit d new node made_is good m.info m.tree)) st.sizes;
+    may = λ S ours. entered_may w n s node d name S w ours (later_new S w t x x.made ours is (omega arith)) (OfNode d (seen S ours) home) (λ p e.
+        subst (SeenOrNew S w) (sym (made_parent d new node made_is p e)) (inl (seen S ours)));
+  };
+  rests = entered_rests w n s node d name is_in (no_home c n (next_not w n next)) m.info is_server st.settled;
+}
+  where
+    c : Coherent w
+    c = st.coherent
+
+    n : Name
+    n = fresh t x
+
+    next : IsNext w n
+    next = fresh_next w t x is
+
+    still : Below w n → ⊥
+    still = fresh_new w t x is
+
+    ready : NewIn w d node
+    ready = made_in d new node made_is w (home_old c d s home)
+
+    is_server : server_at w s ≡ Some m.info
+    is_server = rw home at m.is_info

@@ -18,7 +18,7 @@ use Rattle.hurd_ports.specs.Steps.{named, with_port, new_open, edit_task}
 use Rattle.hurd_machine.specs.World.{World, IsAmong, nodes_of, task_at, header_at, home_at, server_at}
 use Rattle.hurd_machine.specs.Sight.{Part, OptionsOf, UsersOf, TaskOf, Sees, Taken}
 use Rattle.hurd_machine.specs.Change.{Change, MakeNode, outside, stays, server_stays, apply, apply_all, opening}
-use Rattle.hurd_machine.specs.Sound.{Below, Coherent, times_listed, Hangs}
+use Rattle.hurd_machine.specs.Sound.{Sound, Below, Coherent, times_listed, Hangs}
 use Rattle.hurd_machine.proofs.Nodes.{header_in}
 use Rattle.hurd_machine.proofs.Tasks.{edit_here}
 use Rattle.hurd_machine.proofs.Holders.{held_by_right, held_still, named_still, controlled_still}
@@ -27,14 +27,14 @@ use Rattle.hurd_machine.proofs.Rights.{port_keeps, port_has}
 use Rattle.hurd_machine.proofs.Coherence.{IsNext, HasNoEntries, AllProper, was, header_old, no_node, no_home, next_not, named_below}
 use Rattle.hurd_machine.proofs.Coherence as coherence
 use Rattle.hurd_machine.proofs.Settle.{Rests}
-use Rattle.hurd_machine.proofs.Frame.{AllWithin, Full}
-use Rattle.hurd_machine.proofs.Sizes.{KeepsSized, sized_append, sized_made}
-use Rattle.hurd_machine.proofs.Links.{IsHung, Loosens, KeepsLinked, linked_append, loosened, loose_any, tied, named_grown, times_new}
+use Rattle.hurd_machine.proofs.Frame.{Full}
+use Rattle.hurd_machine.proofs.Sizes.{sized_made}
+use Rattle.hurd_machine.proofs.Links.{IsHung, Loosens, KeepsLinked, loosened, loose_any, tied, named_grown, times_new}
 use Rattle.hurd_machine.proofs.Confine.{NewTo, SeenOrNew}
-use Rattle.hurd_machine.proofs.Several.{AllMay}
 use Rattle.hurd_machine.proofs.Permits as permits
 use Rattle.hurd_machine.proofs.Permits.{opens_may}
-use Rattle.hurd_machine.proofs.Opens.{own_task, fresh_new, fresh_next, later_new, opens_within, opens_proper, opens_sized, opens_linked}
+use Rattle.hurd_machine.proofs.Opens.{own_task, fresh_new, fresh_next, later_new, opens_piece}
+use Rattle.hurd_machine.proofs.Piece.{Whole, stands, piece_then}
 
 -- a node that is no directory, has no parent and no links
 pub record IsNameless (node : Node) : Type 0 where
@@ -70,24 +70,6 @@ module _ (w : World) (t : ℕ) (x : Task) (is : task_at w t ≡ Some x) (s : Nam
   header : header_at made n ≡ Some node.header
   header = ap header_in (get_here w.nodes n node)
 
-  pub nameless_within : (T : Part → Type 0) → T (UsersOf s) → AllWithin (Full w t T) w (nameless t x s node ids parents modes)
-  nameless_within T users =
-      let new = fresh_new w t x is in
-      let own : Full w t T (TaskOf t) = own_task w t T in (
-        (own, inr (inr new), inr (inr new), inr (inr new)),
-        opens_within made t (named 1 x) seat n ids parents modes (Full w t T) own (inr (inr (later_new w t 1 x is))) (λ p on. let same : on.0 ≡ s = cc (on.1, home) in inl (rw (on.2, same) users)),
-      )
-
-  pub nameless_proper : Coherent w → keeps_tree i.kind ≡ true → ((m : Name) → IsAmong m (ways_of parents) → Below w m) → AllProper w (nameless t x s node ids parents modes)
-  nameless_proper c tree up = (
-    (next, record { info = i; is_server = server; tree = tree; shape = lone.shape; empty = lone.empty; parent = λ p e. absurd (cc (lone.alone, e)) }),
-    λ d. opens_proper made t (named 1 x) seat n ids parents modes d (named_below w c n next 1 n refl (omega arith)) (λ m way. coherence.named_still w c n next 1 m (up m way)) (λ writes h e.
-        let same : node.header ≡ h = cc (header, e) in rw (← same) lone.file),
-  )
-    where
-      next : IsNext w n
-      next = fresh_next w t x is
-
   -- no entry names it, and it has no link
   abbrev IsLoose : Name → Type 0
   IsLoose k = k ≡ n
@@ -113,14 +95,6 @@ module _ (w : World) (t : ℕ) (x : Task) (is : task_at w t ≡ Some x) (s : Nam
             once = λ dir. omega (arith, unnamed);
             links = λ tree. lone.links ∙ sym unnamed ∙ ap (λ b. cond b 1 (times_listed made.nodes n)) (sym lone.file);
           })
-
-  pub nameless_linked : Coherent w → KeepsLinked w (nameless t x s node ids parents modes)
-  nameless_linked c = linked_append (MakeNode n s node ∷ []) file_opened w (made_linked c) (opens_linked made t (named 1 x) n ids parents modes)
-
-  pub nameless_sized : IsSized (behaviour_of i.kind) i.text node → KeepsSized w (nameless t x s node ids parents modes)
-  nameless_sized fit =
-      sized_append (MakeNode n s node ∷ []) file_opened w (sized_made w n s node (λ j e. let same : i ≡ j = cc (server, e) in rw (← same) fit))
-      (opens_sized made t (named 1 x) n ids parents modes)
 
   -- the new right names the file, and holds the new open
   abbrev io : IoRight
@@ -150,7 +124,7 @@ module _ (w : World) (t : ℕ) (x : Task) (is : task_at w t ≡ Some x) (s : Nam
   file_stays : stays left n ≡ true
   file_stays = stays_named left t (with_port right (named 1 (named 1 x))) right n s i now (port_has right (named 1 (named 1 x))) (inl refl) home server
 
-  pub nameless_rests : Coherent w → Rests w (nameless t x s node ids parents modes)
+  nameless_rests : Coherent w → Rests w (nameless t x s node ids parents modes)
   nameless_rests c rest = record {
     nodes = λ m y e. elim (was w.nodes n m node y e) [
       | inl new ↦ subst (λ k. stays left k ≡ true) (sym new.0) file_stays
@@ -176,9 +150,33 @@ module _ (w : World) (t : ℕ) (x : Task) (is : task_at w t ≡ Some x) (s : Nam
           server_more (outside w) (outside left) (nodes_of w) (nodes_of left) q (controlled_yet q) (λ m e. e) (λ m e held. (home_kept m q e, named_yet m held)) h
 
   -- a task of S may make it where S saw the server, and open it by ids that S holds
-  pub nameless_may : (S : ℕ → Bool) → Coherent w → S t ≡ true → Taken S w ids → ((m : Name) → IsAmong m (ways_of parents) → SeenOrNew S w m) → Sees S w (OptionsOf s) → AllMay S w w (nameless t x s node ids parents modes)
-  nameless_may S c ours taken ways served =
-      let new : NewTo S w n = permits.later_new S w t x x.made ours is (omega arith) in (
-        (ours, inl served, λ p e. absurd (cc (lone.alone, e))),
-        opens_may S w made t (named 1 x) n ids parents modes ours (permits.later_new S w t x (x.made + 1) ours is (omega arith)) (inr new) ways (inr taken) (λ read h e. absurd (new.1 (header_old c n h e))),
-      )
+  pub nameless_whole : {T : Part → Type 0} → Sound w → keeps_tree i.kind ≡ true → IsSized (behaviour_of i.kind) i.text node → ((m : Name) → IsAmong m (ways_of parents) → Below w m) → T (UsersOf s)
+      → ((S : ℕ → Bool) → S t ≡ true → Taken S w ids × ((m : Name) → IsAmong m (ways_of parents) → SeenOrNew S w m) × Sees S w (OptionsOf s)) → Whole t (Full w t T) w w (nameless t x s node ids parents modes)
+  nameless_whole {T} st tree fit up users sees = record {
+    piece = piece_then (MakeNode n s node ∷ []) file_opened (tt, tt) (stands st) (record {
+      within = ((own, inr (inr new), inr (inr new), inr (inr new)), tt);
+      proper = ((next, record { info = i; is_server = server; tree = tree; shape = lone.shape; empty = lone.empty; parent = λ p e. absurd (cc (lone.alone, e)) }), λ one. tt);
+      linked = made_linked c st.linked;
+      sized = sized_made w n s node (λ j e. let same : i ≡ j = cc (server, e) in rw (← same) fit) st.sizes;
+      may = λ S ours. ((ours, inl (sees S ours).2, λ p e. absurd (cc (lone.alone, e))), tt);
+    }) (λ d. opens_piece made t (named 1 x) seat n ids parents modes d own (inr (inr (later_new w t 1 x is))) (λ p on. let same : on.0 ≡ s = cc (on.1, home) in inl (rw (on.2, same) users))
+        (named_below w c n next 1 n refl (omega arith)) (λ m way. coherence.named_still w c n next 1 m (up m way)) (λ writes h e. let same : node.header ≡ h = cc (header, e) in rw (← same) lone.file)
+        (λ S ours. opens_may S w made t (named 1 x) n ids parents modes ours (permits.later_new S w t x (x.made + 1) ours is (omega arith)) (inr (yet S ours)) (sees S ours).1 (inr (sees S ours).0)
+        (λ read h e. absurd ((yet S ours).1 (header_old c n h e)))));
+    rests = nameless_rests c st.settled;
+  }
+    where
+      c : Coherent w
+      c = st.coherent
+
+      next : IsNext w n
+      next = fresh_next w t x is
+
+      new : Below w n → ⊥
+      new = fresh_new w t x is
+
+      own : Full w t T (TaskOf t)
+      own = own_task w t T
+
+      yet : (S : ℕ → Bool) → S t ≡ true → NewTo S w n
+      yet S ours = permits.later_new S w t x x.made ours is (omega arith)

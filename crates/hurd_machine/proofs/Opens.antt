@@ -4,9 +4,9 @@ use Rattle.std.specs.FinMap.{get, insert}
 use Rattle.hurd_creds.specs.declared.name.Name.{Name}
 use Rattle.hurd_creds.specs.declared.open_flags.OpenFlags.{OpenFlags}
 use Rattle.hurd_creds.specs.Access.{IdSets}
-use Rattle.hurd_creds.specs.Bits.{asks, WRITE}
+use Rattle.hurd_creds.specs.Bits.{asks, READ, WRITE}
 use Rattle.hurd_creds.proofs.NameLaws.{get_here}
-use Rattle.hurd_creds.proofs.AppendLaws.{append_write}
+use Rattle.hurd_creds.proofs.AppendLaws.{append_read, append_write}
 use Rattle.hurd_trans_iface.specs.Nodes.{Header, is_dir}
 use Rattle.hurd_ports.specs.declared.table.Opened.{Opened}
 use Rattle.hurd_ports.specs.declared.parents.Parent.{Parent as Pair}
@@ -14,20 +14,17 @@ use Rattle.hurd_ports.specs.declared.table.Right.{Right}
 use Rattle.hurd_ports.specs.declared.table.Right.TheVariants.{Io, Control, Start}
 use Rattle.hurd_ports.specs.Tables.{Task, names_open, right_in, fresh, ways_of}
 use Rattle.hurd_ports.specs.Steps.{named, without_port, new_open, new_right, at_cursor, appending}
-use Rattle.hurd_machine.specs.World.{World, IsAmong, nodes_of, task_at, header_at}
+use Rattle.hurd_machine.specs.World.{World, IsAmong, task_at, header_at}
 use Rattle.hurd_machine.specs.Sight.{Part, OpenOf, UsersOf, TaskOf, is_on}
 use Rattle.hurd_machine.specs.Touched.{OnNode, OnRight}
 use Rattle.hurd_machine.specs.Change.{Change, EditTask, MakeOpen, EditOpen, apply, opening, dropping}
-use Rattle.hurd_machine.specs.Sound.{Below, Coherent, Linked}
+use Rattle.hurd_machine.specs.Sound.{Below, Coherent, Sound}
 use Rattle.hurd_machine.proofs.Tasks.{edit_here}
 use Rattle.hurd_machine.proofs.Coherence.{IsNext, FineRight, AllProper, named_below, named_still, unopened}
-use Rattle.hurd_machine.proofs.Keeping.{coherent_one}
-use Rattle.hurd_machine.proofs.Rights.{port_counts, port_table, without_counts, without_table}
-use Rattle.hurd_machine.proofs.Settle.{Rests, rests_settle, rests_quiet}
-use Rattle.hurd_machine.proofs.Frame.{Covers, AllWithin, Full, not_on, not_named}
-use Rattle.hurd_machine.proofs.Sizes.{KeepsSized, sized_ports, sized_settle}
-use Rattle.hurd_machine.proofs.Links.{KeepsLinked, linked_steady}
-use Rattle.hurd_machine.proofs.Swept.{linked_settle}
+use Rattle.hurd_machine.proofs.Rights.{port_counts, port_table, without_counts, without_rights, without_table}
+use Rattle.hurd_machine.proofs.Frame.{Covers, Within, AllWithin, Full, not_on, not_named}
+use Rattle.hurd_machine.proofs.Several.{AllMay}
+use Rattle.hurd_machine.proofs.Piece.{Stands, Piece, Whole, stands, settled, quiet, of_ports}
 
 -- what a call of task t may write anyway: its own task, and what has a name that it has still to give
 
@@ -68,7 +65,7 @@ module _ (w : World) (t : ℕ) (x : Task) (is : task_at w t ≡ Some x) (n : Nam
   there : get (insert w.opens (fresh t x) (new_open modes)) (fresh t x) ≡ Some (new_open modes)
   there = get_here w.opens (fresh t x) (new_open modes)
 
-  pub opens_within : (T : Part → Type 0) → T (TaskOf t) → T (OpenOf (fresh t x)) → ((p : Part) → OnNode w n p → T p) → AllWithin T w (opening t x n ids parents modes)
+  opens_within : (T : Part → Type 0) → T (TaskOf t) → T (OpenOf (fresh t x)) → ((p : Part) → OnNode w n p → T p) → AllWithin T w (opening t x n ids parents modes)
   opens_within T task open_part users =
       let cover : Covers T opened new_one = (open_part, λ s e. users (UsersOf s) (s, e, refl)) in (
         (task, open_part),
@@ -84,7 +81,7 @@ module _ (w : World) (t : ℕ) (x : Task) (is : task_at w t ≡ Some x) (n : Nam
         ),
       )
 
-  pub opens_proper : Coherent w → Below w n → ((m : Name) → IsAmong m (ways_of parents) → Below w m) → (asks modes WRITE ≡ true → (h : Header) → header_at w n ≡ Some h → is_dir h.kind ≡ false) → AllProper w (opening t x n ids parents modes)
+  opens_proper : Coherent w → Below w n → ((m : Name) → IsAmong m (ways_of parents) → Below w m) → (asks modes WRITE ≡ true → (h : Header) → header_at w n ≡ Some h → is_dir h.kind ≡ false) → AllProper w (opening t x n ids parents modes)
   opens_proper c made up writes = (fresh_next w t x is, λ d. ((λ z. omega arith, named 1 x, here, port_table opened d t new_one (named 1 x) here fine), λ e. tt))
     where
       next : IsNext w (fresh t x)
@@ -99,79 +96,43 @@ module _ (w : World) (t : ℕ) (x : Task) (is : task_at w t ≡ Some x) (n : Nam
         written = λ z h e asked eh. let same : new_open modes ≡ z = cc (there, e) in writes (ap (λ (k : Opened). asks k.modes WRITE) same ∙ asked) h eh;
       }
 
-pub opens_sized : (w : World) (t : ℕ) (x : Task) (n : Name) (ids : IdSets) (parents : List Pair) (modes : OpenFlags) → KeepsSized w (opening t x n ids parents modes)
-opens_sized w t x n ids parents modes = sized_ports (opening t x n ids parents modes) w (tt, (tt, tt))
-
-pub opens_linked : (w : World) (t : ℕ) (x : Task) (n : Name) (ids : IdSets) (parents : List Pair) (modes : OpenFlags) → KeepsLinked w (opening t x n ids parents modes)
-opens_linked w t x n ids parents modes = linked_steady (opening t x n ids parents modes) w (tt, (tt, tt))
+  pub opens_piece : {T : Part → Type 0} {v : World} → Stands w → T (TaskOf t) → T (OpenOf (fresh t x)) → ((p : Part) → OnNode w n p → T p) → Below w n → ((m : Name) → IsAmong m (ways_of parents) → Below w m)
+      → (asks modes WRITE ≡ true → (h : Header) → header_at w n ≡ Some h → is_dir h.kind ≡ false) → ((S : ℕ → Bool) → S t ≡ true → AllMay S v w (opening t x n ids parents modes)) → Piece t T v w (opening t x n ids parents modes)
+  opens_piece {T} s task open_part users made up writes may =
+      of_ports (opening t x n ids parents modes) (tt, (tt, tt)) s (opens_within T task open_part users) (opens_proper s.coherent made up writes) may
 
 -- a port goes
 
-pub drops_within : (T : Part → Type 0) (w : World) (t p : ℕ) (x : Task) (r : Right) → task_at w t ≡ Some x → right_in p x.ports ≡ Some r → T (TaskOf t) → ((q : Part) → OnRight w r q → T q) → AllWithin T w (dropping t p)
+drops_within : (T : Part → Type 0) (w : World) (t p : ℕ) (x : Task) (r : Right) → task_at w t ≡ Some x → right_in p x.ports ≡ Some r → T (TaskOf t) → ((q : Part) → OnRight w r q → T q) → Within T w (EditTask t (without_port p))
 drops_within T w t p x r is under task parts = (
-  (
-    task,
-    λ z at.
-        let same : x ≡ z = cc (is, at) in
-        let now : right_in p z.ports ≡ Some r = ap (λ (y : Task). right_in p y.ports) (sym same) ∙ under in
-        let cover : Covers T w r = covers T w r parts in
-        record {
-          opens = λ o out. without_counts (names_open o) p z r now (not_named w o r T cover out);
-          users = λ s out. without_counts (is_on w s) p z r now (not_on w s r T cover out);
-        },
-  ),
-  (tt, tt),
+  task,
+  λ z at.
+      let same : x ≡ z = cc (is, at) in
+      let now : right_in p z.ports ≡ Some r = ap (λ (y : Task). right_in p y.ports) (sym same) ∙ under in
+      let cover : Covers T w r = covers T w r parts in
+      record {
+        opens = λ o out. without_counts (names_open o) p z r now (not_named w o r T cover out);
+        users = λ s out. without_counts (is_on w s) p z r now (not_on w s r T cover out);
+      },
 )
 
-pub drops_proper : (w : World) → Coherent w → Linked (nodes_of w) → (t p : ℕ) (x : Task) → task_at w t ≡ Some x → AllProper w (dropping t p)
-drops_proper w c l t p x is = ((λ z. omega arith, x, is, without_table w c t p x is), λ d. (l, λ e. tt))
-
-pub drops_rests : (w : World) (t p : ℕ) → Rests w (dropping t p)
-drops_rests w t p = rests_settle (EditTask t (without_port p) ∷ []) w
-
-pub drops_sized : (w : World) (t p : ℕ) → KeepsSized w (dropping t p)
-drops_sized w t p sized = sized_settle (apply (EditTask t (without_port p)) w) sized
-
-pub drops_linked : (w : World) → Coherent w → (t p : ℕ) (x : Task) → task_at w t ≡ Some x → KeepsLinked w (dropping t p)
-drops_linked w c t p x is l = linked_settle given (coherent_one (EditTask t (without_port p)) w c (drops_proper w c l t p x is).0) l
+pub drops_whole : {T : Part → Type 0} {v w : World} → Stands w → (t p : ℕ) (x : Task) (r : Right) → task_at w t ≡ Some x → right_in p x.ports ≡ Some r → T (TaskOf t) → ((q : Part) → OnRight w r q → T q) → Whole t T v w (dropping t p)
+drops_whole {T} {v} {w} s t p x r is under task parts =
+    settled given (tt, tt) s (of_ports given (tt, tt) s (drops_within T w t p x r is under task parts, tt) ((λ z. omega arith, x, is, without_table w s.coherent t p x is), λ d. tt) (λ S ours. ((ours, λ a at. (λ q h. inl (without_rights p a q h), inr (record { ids = inl refl; rights = λ q h. inl (without_rights p a q h) }))), tt)))
   where
-    given : World
-    given = apply (EditTask t (without_port p)) w
+    given : List Change
+    given = EditTask t (without_port p) ∷ []
 
--- a cursor moves
+-- an open changes, which then is for no more than before
 
-pub cursor_within : (T : Part → Type 0) (w : World) (o : Name) (k : ℕ) → T (OpenOf o) → AllWithin T w (EditOpen o (at_cursor k) ∷ [])
-cursor_within T w o k part = (part, tt)
+module _ {t : ℕ} {T : Part → Type 0} {v w : World} (s : Sound w) (o : Name) (part : T (OpenOf o)) where
+  opened_whole : (f : Opened → Opened) → ((z : Opened) → asks (f z).modes WRITE ≡ true → asks z.modes WRITE ≡ true) → ((z : Opened) → asks (f z).modes READ ≡ true → asks z.modes READ ≡ true) → Whole t T v w (EditOpen o f ∷ [])
+  opened_whole f writes reads = quiet (EditOpen o f ∷ []) (tt, tt) s (of_ports (EditOpen o f ∷ []) (tt, tt) (stands s) (part, tt) (writes, λ c. tt) (λ S ours. (reads, tt)))
 
-pub cursor_proper : (w : World) (o : Name) (k : ℕ) → AllProper w (EditOpen o (at_cursor k) ∷ [])
-cursor_proper w o k = (λ z h. h, λ c. tt)
+  -- its cursor moves
+  pub cursor_whole : (k : ℕ) → Whole t T v w (EditOpen o (at_cursor k) ∷ [])
+  cursor_whole k = opened_whole (at_cursor k) (λ z h. h) (λ z h. h)
 
-pub cursor_rests : (w : World) (o : Name) (k : ℕ) → Rests w (EditOpen o (at_cursor k) ∷ [])
-cursor_rests w o k = rests_quiet (EditOpen o (at_cursor k) ∷ []) w (tt, tt)
-
-pub cursor_sized : (w : World) (o : Name) (k : ℕ) → KeepsSized w (EditOpen o (at_cursor k) ∷ [])
-cursor_sized w o k = sized_ports (EditOpen o (at_cursor k) ∷ []) w (tt, tt)
-
-pub cursor_linked : (w : World) (o : Name) (k : ℕ) → KeepsLinked w (EditOpen o (at_cursor k) ∷ [])
-cursor_linked w o k = linked_steady (EditOpen o (at_cursor k) ∷ []) w (tt, tt)
-
--- an open gets APPEND, or loses it
-
-module _ (o : Name) (append : Bool) where
-  abbrev appends : List Change
-  appends = EditOpen o (appending append) ∷ []
-
-  pub append_within : (T : Part → Type 0) (w : World) → T (OpenOf o) → AllWithin T w appends
-  append_within T w part = (part, tt)
-
-  pub append_proper : (w : World) → AllProper w appends
-  append_proper w = (λ z h. sym (append_write append z.modes) ∙ h, λ c. tt)
-
-  pub append_rests : (w : World) → Rests w appends
-  append_rests w = rests_quiet appends w (tt, tt)
-
-  pub append_sized : (w : World) → KeepsSized w appends
-  append_sized w = sized_ports appends w (tt, tt)
-
-  pub append_linked : (w : World) → KeepsLinked w appends
-  append_linked w = linked_steady appends w (tt, tt)
+  -- it gets APPEND, or loses it
+  pub append_whole : (append : Bool) → Whole t T v w (EditOpen o (appending append) ∷ [])
+  append_whole append = opened_whole (appending append) (λ z h. sym (append_write append z.modes) ∙ h) (λ z h. sym (append_read append z.modes) ∙ h)

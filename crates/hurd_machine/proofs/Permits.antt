@@ -10,7 +10,6 @@ use Rattle.hurd_creds.specs.Access.{IdSets}
 use Rattle.hurd_creds.specs.Bits.{asks, READ}
 use Rattle.hurd_creds.specs.Names.{name_of}
 use Rattle.hurd_creds.proofs.NameLaws.{get_here}
-use Rattle.hurd_creds.proofs.AppendLaws.{append_read}
 use Rattle.hurd_trans_iface.specs.Nodes.{Entry, Header, Body, Content, Listing, is_empty_dir, on_bytes, with_entry, with_size}
 use Rattle.hurd_trans_iface.specs.Answers.{entry_in, entry_of}
 use Rattle.hurd_trans_iface.specs.Behaviour.{Did, edit_bytes, edit_size, edits_of}
@@ -20,11 +19,11 @@ use Rattle.hurd_ports.specs.declared.table.IoRight.{IoRight}
 use Rattle.hurd_ports.specs.declared.table.Right.{Right}
 use Rattle.hurd_ports.specs.declared.table.Right.TheVariants.{Io}
 use Rattle.hurd_ports.specs.Tables.{Task, fresh, ways_of}
-use Rattle.hurd_ports.specs.Steps.{new_open, at_cursor, appending}
+use Rattle.hurd_ports.specs.Steps.{new_open}
 use Rattle.hurd_machine.specs.World.{World, IsAmong, task_at, header_at}
 use Rattle.hurd_machine.specs.Sight.{HasUid, Taken, Could, Owns, Allowed, SeesBody}
-use Rattle.hurd_machine.specs.Change.{Change, EditBody, EditOpen, MakeOpen, Settle, apply, apply_all, changes_of, opening, dropping}
-use Rattle.hurd_machine.proofs.Rights.{port_rights, without_rights}
+use Rattle.hurd_machine.specs.Change.{Change, EditBody, MakeOpen, Settle, apply, apply_all, changes_of, opening}
+use Rattle.hurd_machine.proofs.Rights.{port_rights}
 use Rattle.hurd_machine.proofs.Frame.{IsExact}
 use Rattle.hurd_machine.proofs.Confine.{NewTo, SeenOrNew, Less}
 use Rattle.hurd_machine.proofs.Allowed.{RightMay, IdsMay, May}
@@ -86,18 +85,6 @@ opens_may S v w t x n ids parents modes ours new seen ways power reads = (
           let same : new_open modes ≡ o = cc in
           reads (ap (λ (z : Opened). asks z.modes READ) same ∙ asked) h eh;
     }
-
--- to let go of a port shows nothing
-pub dropping_may : (S : ℕ → Bool) (v x : World) (t p : ℕ) → S t ≡ true → AllMay S v x (dropping t p)
-dropping_may S v x t p ours = ((ours, λ a at. (λ r h. inl (without_rights p a r h), inr (record { ids = inl refl; rights = λ r h. inl (without_rights p a r h) }))), tt)
-
--- nor does a cursor
-pub cursor_may : (S : ℕ → Bool) (v x : World) (o : Name) (k : ℕ) → AllMay S v x (EditOpen o (at_cursor k) ∷ [])
-cursor_may S v x o k = (λ z h. h, tt)
-
--- nor APPEND
-pub append_may : (S : ℕ → Bool) (v x : World) (o : Name) (append : Bool) → AllMay S v x (EditOpen o (appending append) ∷ [])
-append_may S v x o append = (λ z h. sym (append_read append z.modes) ∙ h, tt)
 
 -- a server's edits of a node's bytes and size: they add no entry, empty no directory and open nothing
 

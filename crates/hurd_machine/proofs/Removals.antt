@@ -19,20 +19,16 @@ use Rattle.hurd_nodes.specs.Shown.{tree_by}
 use Rattle.hurd_machine.specs.World.{World, nodes_of, header_at, body_at, info_at, is_of, lists, lists_at}
 use Rattle.hurd_nodes.specs.Weights.{one_if, count_list}
 use Rattle.hurd_machine.specs.Sight.{Part, AttrOf, EmptyOf, BodyOf, Sees, Could, Owns, Allowed}
-use Rattle.hurd_machine.specs.Change.{Change, EditHeader, EditBody, Settle, apply, apply_all}
+use Rattle.hurd_machine.specs.Change.{Change, EditHeader, EditBody, apply, apply_all}
 use Rattle.hurd_machine.specs.Sound.{AreDistinct, HasDistinctNames, Coherent, Linked, times_in, times_listed}
 use Rattle.hurd_machine.proofs.Nodes.{header_in, body_in, node_of_header, header-with_body, edit_keeps}
 use Rattle.hurd_machine.proofs.Listed.{times_edited, times_named, dir_kind}
-use Rattle.hurd_machine.proofs.Coherence.{IsUnlisted, MayMove, Proper, AllProper, entry_lists}
-use Rattle.hurd_machine.proofs.Keeping.{coherent_all}
-use Rattle.hurd_machine.proofs.Settle.{Rests, rests_settle}
-use Rattle.hurd_machine.proofs.Frame.{AllWithin}
-use Rattle.hurd_machine.proofs.Sizes.{KeepsSized, sized_append, sized_header, sized_removed, sized_settle}
+use Rattle.hurd_machine.proofs.Coherence.{IsUnlisted, MayMove, Proper, entry_lists}
+use Rattle.hurd_machine.proofs.Sizes.{sized_append, sized_header, sized_removed}
 use Rattle.hurd_machine.proofs.Confine.{Less}
-use Rattle.hurd_machine.proofs.Several.{AllMay}
-use Rattle.hurd_machine.proofs.Links.{Relisted, KeepsLinked}
-use Rattle.hurd_machine.proofs.Swept.{linked_settle}
+use Rattle.hurd_machine.proofs.Links.{Relisted}
 use Rattle.hurd_machine.proofs.Relinks.{file_linked, dir_linked}
+use Rattle.hurd_machine.proofs.Piece.{Stands, Piece}
 
 -- a directory with one entry less
 
@@ -203,35 +199,13 @@ module _ (d : Name) (name : List ℕ) (n : Name) where
   abbrev pub unlinking : List Change
   unlinking = EditBody d (without_entry name) ∷ EditHeader n unlinked ∷ []
 
-  abbrev removing : List Change
-  removing = EditBody d (without_entry name) ∷ EditHeader n unlinked ∷ Settle ∷ []
-
-  pub removal_within : (T : Part → Type 0) (w : World) → T (BodyOf d) → T (EmptyOf d) → T (AttrOf n) → AllWithin T w removing
-  removal_within T w body empty attr = ((body, inl empty), (attr, (tt, tt)))
-
-  pub removal_rests : (w : World) → Rests w removing
-  removal_rests w = rests_settle unlinking w
-
-  pub removal_sized : ((k : ServerKind) → GoodBehaviour (behaviour_of k)) → (w : World) → KeepsSized w removing
-  removal_sized good w =
-      let cut : World = apply_all cutting w in
-      sized_append cutting (EditHeader n unlinked ∷ Settle ∷ []) w (sized_removed good w d name)
-      (sized_append (EditHeader n unlinked ∷ []) (Settle ∷ []) cut (sized_header cut n unlinked (λ h. refl)) (sized_settle (apply (EditHeader n unlinked) cut)))
-
   -- an entry less shows nothing
-  pub unlinked_less : (S : ℕ → Bool) (v : World) (h : Header) → Less S v n (unlinked h) h
+  unlinked_less : (S : ℕ → Bool) (v : World) (h : Header) → Less S v n (unlinked h) h
   unlinked_less S v h = record { kind = refl; parent = λ p e. inl (parent_before h p e); could = could; owns = λ o. o }
     where
       could : (want : Want) → Could S v (unlinked h) want → Could S v h want
       could want (Owns u has is) = Owns u has is
       could want (Allowed ids taken may) = Allowed ids taken may
-
-  -- a task of S may take an entry out of a directory whose entries S sees
-  pub removal_may : (S : ℕ → Bool) (v : World) → Coherent v → Sees S v (BodyOf d) → AllMay S v v removing
-  removal_may S v c sees = (
-    (inr (inl sees), λ b other m is e. inl (entry_of_before name other m b (distinct_at v c d b is) e)),
-    ((λ h at. unlinked_less S v h), tt),
-  )
 
   module _ (w : World) (c : Coherent w) (m : MayRemove w d name n) where
     abbrev cut : World
@@ -294,11 +268,13 @@ module _ (d : Name) (name : List ℕ) (n : Name) where
     head_proper : Linked (nodes_of w) → Proper cut (EditHeader n unlinked)
     head_proper l h is = let same : m.header ≡ h = cc (still, is) in subst (λ (k : Header). ((unlinked k).kind ≡ k.kind) × MayMove cut cut.nodes n (unlinked k).parent k.parent) same (refl, may_move l)
 
-    pub unlinking_proper : Linked (nodes_of w) → AllProper w unlinking
-    unlinking_proper l = (cut_proper w c d name, λ one. (head_proper l, λ two. tt))
-
-    pub removal_proper : Linked (nodes_of w) → AllProper w removing
-    removal_proper l = (cut_proper w c d name, λ one. (head_proper l, λ two. (left_linked l, λ three. tt)))
-
-    pub removal_linked : KeepsLinked w removing
-    removal_linked l = linked_settle left (coherent_all unlinking w c (unlinking_proper l)) (left_linked l)
+  -- a task of S may take an entry out of a directory whose entries S sees
+  pub unlinking_piece : ((k : ServerKind) → GoodBehaviour (behaviour_of k)) → {t : ℕ} {T : Part → Type 0} {w : World} → Stands w → MayRemove w d name n → T (BodyOf d) → T (EmptyOf d) → T (AttrOf n)
+      → ((S : ℕ → Bool) → S t ≡ true → Sees S w (BodyOf d)) → Piece t T w w unlinking
+  unlinking_piece good {t} {T} {w} s m body empty attr sees = record {
+    within = ((body, inl empty), (attr, tt));
+    proper = (cut_proper w s.coherent d name, λ one. (head_proper w s.coherent m s.linked, λ two. tt));
+    linked = left_linked w s.coherent m s.linked;
+    sized = sized_append cutting (EditHeader n unlinked ∷ []) w (sized_removed good w d name) (sized_header (apply_all cutting w) n unlinked (λ h. refl)) s.sizes;
+    may = λ S ours. ((inr (inl (sees S ours)), λ b other m is e. inl (entry_of_before name other m b (distinct_at w s.coherent d b is) e)), ((λ h at. unlinked_less S w h), tt));
+  }

@@ -14,23 +14,18 @@ use Rattle.hurd_trans_iface.specs.Kinds.{ServerKind, behaviour_of}
 use Rattle.hurd_nodes.specs.Shown.{info_in, tree_by}
 use Rattle.hurd_machine.specs.World.{World, nodes_of, header_at, body_at, home_at, lists_at}
 use Rattle.hurd_machine.specs.Sight.{Part, AttrOf, EmptyOf, BodyOf, Seen, Sees, Could, Owns, Allowed}
-use Rattle.hurd_machine.specs.Change.{Change, EditHeader, EditBody, Settle, apply}
+use Rattle.hurd_machine.specs.Change.{Change, EditHeader, EditBody, apply}
 use Rattle.hurd_machine.specs.Sound.{Below, AreDistinct, HasDistinctNames, Coherent, Linked, LeadsUp}
 use Rattle.hurd_machine.proofs.Nodes.{header_in, body_in, edit_keeps, edit_reads, header-with_header, header-with_body, body-with_header, body-with_body}
 use Rattle.hurd_machine.proofs.Listed.{dir_kind}
 use Rattle.hurd_machine.proofs.Coherence.{IsEntry, MayMove, Proper, AllProper, entry_lists, header_old}
-use Rattle.hurd_machine.proofs.Keeping.{coherent_all}
-use Rattle.hurd_machine.proofs.Settle.{Rests, rests_settle}
-use Rattle.hurd_machine.proofs.Frame.{AllWithin}
-use Rattle.hurd_machine.proofs.Sizes.{KeepsSized, sized_append, sized_header, sized_entry, sized_removed, sized_settle}
+use Rattle.hurd_machine.proofs.Sizes.{sized_append, sized_header, sized_entry, sized_removed}
 use Rattle.hurd_machine.proofs.Confine.{SeenOrNew, Known, Less}
-use Rattle.hurd_machine.proofs.Several.{AllMay}
 use Rattle.hurd_machine.proofs.Permits.{entry_may}
 use Rattle.hurd_machine.proofs.Makes.{entry_proper}
-use Rattle.hurd_machine.proofs.Links.{KeepsLinked}
-use Rattle.hurd_machine.proofs.Swept.{linked_settle}
-use Rattle.hurd_machine.proofs.Removals.{same_exact, none_before, entry_of_before, lists_before, times_taken, times_others, cut_proper, cut_unlisted}
+use Rattle.hurd_machine.proofs.Removals.{same_exact, none_before, entry_of_before, lists_before, times_taken, times_others, cut_proper, cut_unlisted, distinct_at}
 use Rattle.hurd_machine.proofs.Moves.{LeadsAround, Gets, TakesOne, node_of_body, moved_linked}
+use Rattle.hurd_machine.proofs.Piece.{Stands, Piece}
 
 -- a body without an entry has no entry more
 pub none_without : (name other : List ℕ) (o : Option Body) → entry_of other o ≡ None → entry_of other (option_map (without_entry name) o) ≡ None
@@ -115,44 +110,16 @@ module _ (d : Name) (name : List ℕ) (n e : Name) (new : List ℕ) where
   abbrev pub going : List Change
   going = EditBody d (without_entry name) ∷ EditHeader n (moved_to e) ∷ EditBody e (with_entry new n) ∷ []
 
-  abbrev pub gone : List Change
-  gone = EditBody d (without_entry name) ∷ EditHeader n (moved_to e) ∷ EditBody e (with_entry new n) ∷ Settle ∷ []
-
-  pub gone_within : (T : Part → Type 0) (w : World) → T (BodyOf d) → T (EmptyOf d) → T (AttrOf n) → T (BodyOf e) → T (EmptyOf e) → AllWithin T w gone
-  gone_within T w body empty attr to to_empty = ((body, inl empty), (attr, ((to, inl to_empty), (tt, tt))))
-
-  pub gone_rests : (w : World) → Rests w gone
-  gone_rests w = rests_settle going w
-
-  pub gone_sized : ((k : ServerKind) → GoodBehaviour (behaviour_of k)) → (w : World) → KeepsSized w gone
-  gone_sized good w =
-      let cut : World = apply (EditBody d (without_entry name)) w in
-      let turned : World = apply (EditHeader n (moved_to e)) cut in
-      sized_append (EditBody d (without_entry name) ∷ []) (EditHeader n (moved_to e) ∷ EditBody e (with_entry new n) ∷ Settle ∷ []) w (sized_removed good w d name)
-      (sized_append (EditHeader n (moved_to e) ∷ []) (EditBody e (with_entry new n) ∷ Settle ∷ []) cut (sized_header cut n (moved_to e) (λ h. refl))
-      (sized_append (EditBody e (with_entry new n) ∷ []) (Settle ∷ []) turned (sized_entry good turned e new n) (sized_settle (apply (EditBody e (with_entry new n)) turned))))
-
-  -- a task of S may move what S sees to a directory that S sees, out of one whose entries S sees; of a directory S knows whether it is empty
-  pub gone_may : (S : ℕ → Bool) (v x : World) → Sees S v (BodyOf d) → ((b : Body) → body_at x d ≡ Some b → HasDistinctNames b) → Seen S v n → Seen S v e
-      → ((h : Header) → header_at x n ≡ Some h → is_dir h.kind ≡ true → Sees S v (EmptyOf n)) → AllMay S v x gone
-  gone_may S v x body distinct seen to known = (
-    (inr (inl body), λ b other m is h. inl (entry_of_before name other m b (distinct b is) h)),
-    ((λ h at. turned_less h (λ dir. known h (sym (edit_keeps header_in (with_body (without_entry name)) (header-with_body (without_entry name)) x.nodes d n) ∙ at) dir)), (entry_may S v turned e new n (inl seen), tt)),
-  )
+  turned_less : (S : ℕ → Bool) (v : World) (h : Header) → Seen S v e → (is_dir h.kind ≡ true → Sees S v (EmptyOf n)) → Less S v n (moved_to e h) h
+  turned_less S v h to empty = record { kind = refl; parent = λ p is. by (is_dir h.kind) refl p is; could = could; owns = λ o. o }
     where
-      turned : World
-      turned = apply (EditHeader n (moved_to e)) (apply (EditBody d (without_entry name)) x)
+      by : (b : Bool) → is_dir h.kind ≡ b → (p : Name) → (if b then Some e else h.parent) ≡ Some p → (h.parent ≡ Some p) ⊎ (SeenOrNew S v p × Known S v (EmptyOf n))
+      by true eb p is = let same : e ≡ p = cc in inr (inl (subst (Seen S v) same to), inl (empty eb))
+      by false eb p is = inl is
 
-      turned_less : (h : Header) → (is_dir h.kind ≡ true → Sees S v (EmptyOf n)) → Less S v n (moved_to e h) h
-      turned_less h empty = record { kind = refl; parent = λ p is. by (is_dir h.kind) refl p is; could = could; owns = λ o. o }
-        where
-          by : (b : Bool) → is_dir h.kind ≡ b → (p : Name) → (if b then Some e else h.parent) ≡ Some p → (h.parent ≡ Some p) ⊎ (SeenOrNew S v p × Known S v (EmptyOf n))
-          by true eb p is = let same : e ≡ p = cc in inr (inl (subst (Seen S v) same to), inl (empty eb))
-          by false eb p is = inl is
-
-          could : (want : Want) → Could S v (moved_to e h) want → Could S v h want
-          could want (Owns u has is) = Owns u has is
-          could want (Allowed ids taken may) = Allowed ids taken may
+      could : (want : Want) → Could S v (moved_to e h) want → Could S v h want
+      could want (Owns u has is) = Owns u has is
+      could want (Allowed ids taken may) = Allowed ids taken may
 
   module _ (w : World) (c : Coherent w) (m : MayGo w d name n e new) where
     abbrev cut : World
@@ -234,8 +201,20 @@ module _ (d : Name) (name : List ℕ) (n e : Name) (new : List ℕ) where
     arrived_linked l =
         moved_linked w d e n (without_entry name) (moved_to e) new m.dir m.target m.header m.is_dir m.is_target m.is_header taken_once gets m.up m.entries m.listing l
 
-    pub gone_proper : Linked (nodes_of w) → AllProper w gone
-    gone_proper l = (cut_proper w c d name, λ one. (turn_proper l, λ two. (entry_proper turned two e new n absent_still new_entry, λ three. (arrived_linked l, λ four. tt))))
-
-    pub gone_linked : KeepsLinked w gone
-    gone_linked l = linked_settle arrived (coherent_all going w c (going_proper l)) (arrived_linked l)
+  -- a task of S may move what S sees to a directory that S sees, out of one whose entries S sees; of a directory S knows whether it is empty
+  pub going_piece : ((k : ServerKind) → GoodBehaviour (behaviour_of k)) → {t : ℕ} {T : Part → Type 0} {v w : World} → Stands w → MayGo w d name n e new → T (BodyOf d) → T (EmptyOf d) → T (AttrOf n) → T (BodyOf e) → T (EmptyOf e)
+      → ((S : ℕ → Bool) → S t ≡ true → Sees S v (BodyOf d) × Seen S v n × Seen S v e × ((h : Header) → header_at w n ≡ Some h → is_dir h.kind ≡ true → Sees S v (EmptyOf n))) → Piece t T v w going
+  going_piece good {t} {T} {v} {w} s m body empty attr to to_empty sees =
+      let one : World = cut w s.coherent m in
+      let two : World = turned w s.coherent m in
+      record {
+        within = ((body, inl empty), (attr, ((to, inl to_empty), tt)));
+        proper = going_proper w s.coherent m s.linked;
+        linked = arrived_linked w s.coherent m s.linked;
+        sized = sized_append (EditBody d (without_entry name) ∷ []) (EditHeader n (moved_to e) ∷ EditBody e (with_entry new n) ∷ []) w (sized_removed good w d name)
+            (sized_append (EditHeader n (moved_to e) ∷ []) (EditBody e (with_entry new n) ∷ []) one (sized_header one n (moved_to e) (λ h. refl)) (sized_entry good two e new n)) s.sizes;
+        may = λ S ours. let k = sees S ours in (
+          (inr (inl k.0), λ b other m is h. inl (entry_of_before name other m b (distinct_at w s.coherent d b is) h)),
+          ((λ h at. turned_less S v h k.2 (λ dir. k.3 h (sym (edit_keeps header_in (with_body (without_entry name)) (header-with_body (without_entry name)) w.nodes d n) ∙ at) dir)), (entry_may S v two e new n (inl k.1), tt)),
+        );
+      }

@@ -37,6 +37,3 @@ retain_all {X} m f all = same_map_by _ _ (λ n. go n (get m n) refl)
     go : (n : Name) (o : Option X) → get m n ≡ o → get (retain_keys m f) n ≡ get m n
     go n (Some x) e = retained m f n (all n x e)
     go n None e = none_retained m f n e ∙ sym e
-
-pub retain_alike : {X : Type 0} (m : NameMap X) (f g : Name → Bool) → ((n : Name) → f n ≡ g n) → retain_keys m f ≡ retain_keys m g
-retain_alike {X} m f g same = same_map_by _ _ (λ n. get-retained m f n ∙ ap (λ b. cond {A = Option X} b (get m n) None) (same n) ∙ sym (get-retained m g n))

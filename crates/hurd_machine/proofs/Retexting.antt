@@ -19,16 +19,17 @@ use Rattle.hurd_nodes.specs.Shown.{ServerInfo, info_in, own_nodes, sizing, with_
 use Rattle.hurd_machine.specs.World.{World, IsAmong, nodes_of, home_at, server_at}
 use Rattle.hurd_machine.specs.Sight.{Part, AttrOf, OptionsOf}
 use Rattle.hurd_machine.specs.Change.{Change, SetText, changes_of, retexting, apply_all}
-use Rattle.hurd_machine.specs.Sound.{Coherent, AreSized}
+use Rattle.hurd_machine.specs.Sound.{Coherent, AreSized, Sound}
 use Rattle.hurd_machine.proofs.Nodes.{edited_from}
 use Rattle.hurd_machine.proofs.Coherence.{AllProper}
 use Rattle.hurd_machine.proofs.Retained.{retained, dropped, was_retained}
 use Rattle.hurd_machine.proofs.Frame.{AllWithin}
-use Rattle.hurd_machine.proofs.Settle.{Rests, AreQuiet, rests_quiet}
+use Rattle.hurd_machine.proofs.Settle.{AreQuiet}
 use Rattle.hurd_machine.proofs.Sizes.{KeepsSized}
-use Rattle.hurd_machine.proofs.Links.{KeepsLinked, AreSteady, linked_steady}
+use Rattle.hurd_machine.proofs.Links.{AreSteady, linked_steady}
 use Rattle.hurd_machine.proofs.Several.{AllMay}
 use Rattle.hurd_machine.proofs.Permits.{size_may}
+use Rattle.hurd_machine.proofs.Piece.{Whole, whole_none, quiet}
 
 -- the names in a map, as a list
 
@@ -151,23 +152,6 @@ module _ (w : World) (s : Name) (i : ServerInfo) where
   abbrev own : List Name
   own = own_nodes s w.homes
 
-  pub retexts_proper : (o : Option (List ℕ)) → AllProper w (retexting w s i o)
-  retexts_proper None = tt
-  retexts_proper (Some text) = (tt, λ one. sizes_proper (size_of i.kind text) own (record w { servers = edit s (with_text text) w.servers }))
-
-  pub retexts_rests : (o : Option (List ℕ)) → Rests w (retexting w s i o)
-  retexts_rests None = λ rest. rest
-  retexts_rests (Some text) =
-      rests_quiet (retexting w s i (Some text)) w (tt, sizes_quiet (size_of i.kind text) own (record w { servers = edit s (with_text text) w.servers }))
-
-  pub retexts_linked : (o : Option (List ℕ)) → KeepsLinked w (retexting w s i o)
-  retexts_linked None = λ l. l
-  retexts_linked (Some text) = linked_steady (retexting w s i (Some text)) w (tt, sizes_steady (size_of i.kind text) own)
-
-  pub retexts_may : (S : ℕ → Bool) (v : World) (o : Option (List ℕ)) → AllMay S v w (retexting w s i o)
-  retexts_may S v None = tt
-  retexts_may S v (Some text) = (tt, sizes_may (size_of i.kind text) S v (record w { servers = edit s (with_text text) w.servers }) own)
-
   -- a text that the server may get: it has its root alone
   abbrev pub MayGet : Option (List ℕ) → Type 0
   MayGet o = (text : List ℕ) → o ≡ Some text → KeepsRoot (behaviour_of i.kind) text
@@ -175,18 +159,9 @@ module _ (w : World) (s : Name) (i : ServerInfo) where
   root_alone : Coherent w → server_at w s ≡ Some i → (text : List ℕ) → MayGet (Some text) → (n : Name) → home_at w n ≡ Some s → n ≡ i.root
   root_alone c is text keeps n home = c.housing.lone n s i home is (keeps text refl).lone
 
-  pub retexts_within : (T : Part → Type 0) → Coherent w → server_at w s ≡ Some i → (o : Option (List ℕ)) → MayGet o → T (OptionsOf s) → T (AttrOf i.root) → AllWithin T w (retexting w s i o)
-  retexts_within T c is None keeps options attr = tt
-  retexts_within T c is (Some text) keeps options attr = (
-    options,
-    sizes_within (size_of i.kind text) T own (record w { servers = edit s (with_text text) w.servers }) (λ n among.
-        subst (λ m. T (AttrOf m)) (sym (root_alone c is text keeps n (own_home s n w.homes among))) attr),
-  )
-
   -- which gets the size that the text says
-  pub retexts_sized : Coherent w → server_at w s ≡ Some i → (o : Option (List ℕ)) → MayGet o → KeepsSized w (retexting w s i o)
-  retexts_sized c is None keeps fit = fit
-  retexts_sized c is (Some text) keeps fit = subst (λ (x : World). AreSized (nodes_of x)) (sym done) now
+  retexts_sized : Coherent w → server_at w s ≡ Some i → (text : List ℕ) → MayGet (Some text) → KeepsSized w (retexting w s i (Some text))
+  retexts_sized c is text keeps fit = subst (λ (x : World). AreSized (nodes_of x)) (sym done) now
     where
       left : World
       left = record w { servers = edit s (with_text text) w.servers; nodes = edit_all (sizing (size_of i.kind text) own) w.nodes }
@@ -217,6 +192,19 @@ module _ (w : World) (s : Name) (i : ServerInfo) where
           go : (o : Option Name) → home_at w n ≡ o → IsSized (behaviour_of j.kind) j.text x
           go None home = let none : None ≡ Some j = sym (ap (info_in left.servers) home) ∙ ej in absurd (cc)
           go (Some q) home = elim (same_or_apart q s) [ inl same ↦ here (home ∙ ap Some same) | inr apart ↦ there q home apart ]
+
+  pub retexts_whole : {t : ℕ} {T : Part → Type 0} → Sound w → server_at w s ≡ Some i → (o : Option (List ℕ)) → MayGet o → T (OptionsOf s) → T (AttrOf i.root) → Whole t T w w (retexting w s i o)
+  retexts_whole {t} {T} st is None keeps options attr = whole_none st
+  retexts_whole {t} {T} st is (Some text) keeps options attr =
+      let k : ℕ = size_of i.kind text in
+      let set : World = record w { servers = edit s (with_text text) w.servers } in
+      quiet (retexting w s i (Some text)) (tt, sizes_quiet k own set) st (record {
+        within = (options, sizes_within k T own set (λ n among. subst (λ m. T (AttrOf m)) (sym (root_alone st.coherent is text keeps n (own_home s n w.homes among))) attr));
+        proper = (tt, λ one. sizes_proper k own set);
+        linked = linked_steady (retexting w s i (Some text)) w (tt, sizes_steady k own) st.linked;
+        sized = retexts_sized st.coherent is text keeps st.sizes;
+        may = λ S ours. (tt, sizes_may k S w set own);
+      })
 
 -- in two worlds where it is known as the same server the piece is the same
 pub retexts_same : (v w : World) → Coherent v → Coherent w → (s : Name) (i : ServerInfo) → server_at v s ≡ Some i → server_at w s ≡ Some i → (o : Option (List ℕ)) → MayGet v s i o → retexting w s i o ≡ retexting v s i o

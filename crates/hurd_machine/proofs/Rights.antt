@@ -7,7 +7,7 @@ use Rattle.hurd_ports.specs.declared.table.Right.{Right}
 use Rattle.hurd_ports.specs.declared.table.Right.TheVariants.{Start}
 use Rattle.hurd_ports.specs.declared.table.Port.{Port}
 use Rattle.hurd_ports.specs.Tables.{Task, rights_of, right_in, start_of}
-use Rattle.hurd_ports.specs.Steps.{named, with_ids, with_pending, with_port, without_port, ports_without, received}
+use Rattle.hurd_ports.specs.Steps.{with_ids, with_pending, with_port, without_port, ports_without, received}
 use Rattle.hurd_machine.specs.World.{World, IsAmong, task_at}
 use Rattle.hurd_nodes.specs.Weights.{one_if, weigh_list, count_list}
 use Rattle.hurd_machine.specs.Sound.{Below, Coherent}
@@ -32,11 +32,6 @@ right_among p (x ∷ ps) r = go (p == x.number) refl (right_among p ps r)
 
 pub right_under : (p : ℕ) (x : Task) (r : Right) → right_in p x.ports ≡ Some r → IsAmong r (rights_of x)
 right_under p x r is = among_right r (start_of x.pending) (both_rights x.ports x.inbox) (among_left r (map right_of_port x.ports) x.inbox (right_among p x.ports r is))
-
--- a task that named things
-
-pub named_table : (w : World) → Coherent w → (t k : ℕ) (x : Task) → task_at w t ≡ Some x → Table w x (named k x)
-named_table w c t k x is = record { new = None; fine = tt; rights = λ r h. inl h; numbers = λ p h. c.tables.numbers t x p is h }
 
 -- a port goes
 

@@ -11,7 +11,7 @@ use Rattle.hurd_machine.specs.World.{World, nodes_of, header_at, home_at, info_a
 use Rattle.hurd_machine.specs.Change.{MakeNode, Attach, DropServer, Unseat, apply}
 use Rattle.hurd_machine.specs.Sound.{Coherent, AreSized, LeadsUp, AtRoot, Above, Hangs, Linked, times_listed}
 use Rattle.hurd_machine.proofs.Nodes.{header_in}
-use Rattle.hurd_machine.proofs.Coherence.{Comes, Proper, next_not, no_home, no_node, was}
+use Rattle.hurd_machine.proofs.Coherence.{Comes, next_not, no_home, no_node, was}
 use Rattle.hurd_machine.proofs.Comes.{attach_is, come_world, come_new, root_new, none_served}
 use Rattle.hurd_machine.proofs.Drop as drop
 use Rattle.hurd_machine.proofs.Drop.{drop_linked, home_apart}
@@ -90,9 +90,6 @@ pub linked_come : (w : World) → Coherent w → (s at : Name) (i : ServerInfo) 
     → KeepsLinked w (Attach s at i node ∷ [])
 linked_come w c s at i node p one dir l =
     subst (λ (x : World). Linked (nodes_of x)) (sym (attach_is w s at i node c (next_not w s p.next))) (come_linked w c s at i node p one dir l)
-
-pub linked_drop : (w : World) → Coherent w → (s : Name) → Proper w (DropServer s) → KeepsLinked w (DropServer s ∷ [])
-linked_drop w c s not_boot l = drop_linked w c l s not_boot
 
 pub linked_unseat : (w : World) (k : Name) → KeepsLinked w (Unseat k ∷ [])
 linked_unseat w k l = record {

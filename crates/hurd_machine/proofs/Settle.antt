@@ -1,5 +1,5 @@
 -- A world is settled once what nothing names is gone: who sees it sees the same; and changes that leave a world settled.
-use Rattle.std.proofs.Common.{◌≡◌, ◌⊎◌, ℕ, Bool, true, false, List, [], ◌∷◌, ◌++◌, Option, Some, None, slice_get, nat_lt, sym, refl, ◌∙◌, ap, ap₂, subst, inl, inr}
+use Rattle.std.proofs.Common.{◌≡◌, ◌⊎◌, ℕ, Bool, true, false, List, [], ◌∷◌, Option, Some, None, slice_get, nat_lt, sym, refl, ◌∙◌, ap, ap₂, subst, inl, inr}
 use Rattle.std.specs.Option.{option_map}
 use Rattle.std.specs.FinMap.{get}
 use Rattle.hurd_creds.specs.declared.name.Name.{Name}
@@ -30,7 +30,6 @@ use Rattle.hurd_machine.proofs.Holders.{let_go, held_counted, held_stays, none_s
 use Rattle.hurd_machine.proofs.Stays.{sweep, way_at, way_parent, server_more, kept_more, lives_at, lives_active, lives_controlled, stays_entered, stays_named, node_still, home_still, active_still, server_still, node_gone, home_gone, active_gone, server_gone, node_left, server_left, none_left, no_home_left, no_active_left, no_server_left}
 use Rattle.hurd_machine.proofs.Swept.{header_server, root_stays, boot_stays, entry_stays, parent_stays, settle_keeps}
 use Rattle.hurd_machine.proofs.Coherence.{was, entry_lists}
-use Rattle.hurd_machine.proofs.Keeping.{apply_all-append}
 use Rattle.hurd_machine.proofs.Texts.{server_was, stays_kept}
 use Rattle.hurd_machine.proofs.Rights.{port_keeps, port_has}
 use Rattle.hurd_machine.proofs.Views.{Agree, Agree-refl, Agree-trans}
@@ -400,13 +399,6 @@ rests_quiet [] w q rest = rest
 rests_quiet (c ∷ cs) w q rest =
     let n = nodes_rest c w (quiet_keeps c w q.0) (nodes_of_rest rest) in
     rests_quiet cs (apply c w) q.1 (record { nodes = n.nodes; servers = n.servers; opens = opens_rest c w q.0 rest.opens })
-
-pub rests_append : (cs ds : List Change) (w : World) → Rests w cs → Rests (apply_all cs w) ds → Rests w (cs ++ ds)
-rests_append cs ds w first then rest = subst AtRest (sym (apply_all-append cs ds w)) (then (first rest))
-
--- a list that ends in settling
-pub rests_settle : (cs : List Change) (w : World) → Rests w (cs ++ Settle ∷ [])
-rests_settle cs w rest = subst AtRest (sym (apply_all-append cs (Settle ∷ []) w)) (settle_settled (apply_all cs w))
 
 -- a new open, which the new right holds
 module _ (w : World) (t : ℕ) (x : Task) (is : task_at w t ≡ Some x) (n : Name) (ids : IdSets) (parents : List Pair) (modes : OpenFlags) where

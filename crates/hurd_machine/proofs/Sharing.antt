@@ -1,5 +1,5 @@
 -- A port more that shares the open of a right: as a piece of any call.
-use Rattle.std.proofs.Common.{◌≡◌, ◌⊎◌, ℕ, Bool, true, List, [], ◌∷◌, Some, refl, subst, inl, inr, arith}
+use Rattle.std.proofs.Common.{◌≡◌, ◌⊎◌, ℕ, Bool, true, [], ◌∷◌, Some, refl, subst, inl, inr, arith}
 use Rattle.hurd_creds.specs.Access.{IdSets, restrict, may_take}
 use Rattle.hurd_creds.proofs.TakeLaws.{AreHeld, restrict_held, take_held}
 use Rattle.hurd_ports.specs.declared.table.IoRight.{IoRight}
@@ -10,18 +10,15 @@ use Rattle.hurd_ports.specs.Steps.{with_ids_for, with_port}
 use Rattle.hurd_machine.specs.World.{World, IsAmong, task_at}
 use Rattle.hurd_machine.specs.Sight.{Part, TaskOf, Holds, HasUid, UidOfTask, UidOfRight, GidOfTask, GidOfRight, Taken, Pending, IsOpen, is_on}
 use Rattle.hurd_machine.specs.Touched.{OnRight}
-use Rattle.hurd_machine.specs.Change.{Change, EditTask}
-use Rattle.hurd_machine.specs.Sound.{Coherent}
-use Rattle.hurd_machine.proofs.Coherence.{FineRight, AllProper}
+use Rattle.hurd_machine.specs.Change.{EditTask}
+use Rattle.hurd_machine.specs.Sound.{Coherent, Sound}
+use Rattle.hurd_machine.proofs.Coherence.{FineRight}
 use Rattle.hurd_machine.proofs.Rights.{port_rights, port_keeps, port_counts, port_table}
-use Rattle.hurd_machine.proofs.Settle.{Rests, rests_quiet}
-use Rattle.hurd_machine.proofs.Frame.{Covers, AllWithin, not_on, not_named}
-use Rattle.hurd_machine.proofs.Sizes.{KeepsSized, sized_ports}
-use Rattle.hurd_machine.proofs.Links.{KeepsLinked, linked_steady}
-use Rattle.hurd_machine.proofs.Allowed.{RightMay, IdsMay}
+use Rattle.hurd_machine.proofs.Frame.{Covers, Within, not_on, not_named}
+use Rattle.hurd_machine.proofs.Allowed.{RightMay, IdsMay, May}
 use Rattle.hurd_machine.proofs.Confine.{named_seen}
-use Rattle.hurd_machine.proofs.Several.{AllMay}
 use Rattle.hurd_machine.proofs.Opens.{covers}
+use Rattle.hurd_machine.proofs.Piece.{Whole, stands, quiet, of_ports}
 
 -- a right that a task has, a task may get
 
@@ -82,54 +79,35 @@ module _ (S : ℕ → Bool) (v : World) where
     | inr less ↦ inr (taken_held x.ids asked (taken_task t x ours is) less)
   ]
 
--- the port
+-- a port more with a right, which does what it names no harm, and which S may get
 
-module _ (t : ℕ) (r : IoRight) (ids : IdSets) where
-  abbrev new : Right
-  new = Io (with_ids_for ids r)
-
-  abbrev pub sharing : List Change
-  sharing = EditTask t (with_port (Io (with_ids_for ids r))) ∷ []
-
-  pub shares_within : (T : Part → Type 0) (w : World) → T (TaskOf t) → ((p : Part) → OnRight w (Io r) p → T p) → AllWithin T w sharing
-  shares_within T w task parts =
-      let cover : Covers T w new = covers T w new parts in (
-        (
-          task,
-          λ x is. record {
-            opens = λ o out. port_counts (names_open o) new x (not_named w o new T cover out);
-            users = λ s out. port_counts (is_on w s) new x (not_on w s new T cover out);
-          },
-        ),
-        tt,
+module _ {T : Part → Type 0} {w : World} (s : Sound w) (t : ℕ) (r : Right) where
+  pub port_whole : (x : Task) → task_at w t ≡ Some x → T (TaskOf t) → Covers T w r → FineRight w r → ((S : ℕ → Bool) → S t ≡ true → RightMay S w w r × (HasUid S w 0 ⊎ IdsMay S w r)) → Whole t T w w (EditTask t (with_port r) ∷ [])
+  port_whole x is task cover fine may =
+      quiet (EditTask t (with_port r) ∷ []) (port_keeps r, tt) s (of_ports (EditTask t (with_port r) ∷ []) (tt, tt) (stands s) (within, tt) ((λ z. omega arith, x, is, port_table w s.coherent t r x is fine), λ d. tt) (λ S ours. (mine S ours (may S ours), tt)))
+    where
+      within : Within T w (EditTask t (with_port r))
+      within = (
+        task,
+        λ z at. record {
+          opens = λ o out. port_counts (names_open o) r z (not_named w o r T cover out);
+          users = λ q out. port_counts (is_on w q) r z (not_on w q r T cover out);
+        },
       )
 
-  pub shares_proper : (w : World) → Coherent w → (x : Task) → task_at w t ≡ Some x → IsAmong (Io r) (rights_of x) → AllProper w sharing
-  shares_proper w c x is i = ((λ z. omega arith, x, is, port_table w c t new x is (fine_ids w r ids (fine_right w c t x (Io r) is i))), λ d. tt)
+      among : (B : Right → Type 0) (a : Task) → B r → (q : Right) → IsAmong q (rights_of (with_port r a)) → IsAmong q (rights_of a) ⊎ B q
+      among B a b q h = elim (port_rights r a q h) [ inl old ↦ inl old | inr e ↦ inr (subst B e b) ]
 
-  pub shares_rests : (w : World) → Rests w sharing
-  shares_rests w = rests_quiet sharing w (port_keeps new, tt)
+      mine : (S : ℕ → Bool) → S t ≡ true → RightMay S w w r × (HasUid S w 0 ⊎ IdsMay S w r) → May S w w (EditTask t (with_port r))
+      mine S ours m = (
+        ours,
+        λ a at. (among (RightMay S w w) a m.0, elim m.1 [ inl all ↦ inl all | inr ids ↦ inr (record { ids = inl refl; rights = among (IdsMay S w) a ids }) ]),
+      )
 
-  pub shares_sized : (w : World) → KeepsSized w sharing
-  shares_sized w = sized_ports sharing w (tt, tt)
+-- one that shares the open of a right, with other ids
 
-  pub shares_linked : (w : World) → KeepsLinked w sharing
-  shares_linked w = linked_steady sharing w (tt, tt)
-
-  pub shares_may : (S : ℕ → Bool) (v : World) → S t ≡ true → Holds S v (Io r) → HasUid S v 0 ⊎ Taken S v ids → AllMay S v v sharing
-  shares_may S v ours held power = (
-    (
-      ours,
-      λ a at. (
-        λ q h. elim (port_rights new a q h) [ inl old ↦ inl old | inr e ↦ inr (subst (RightMay S v v) e (held_may_ids S v r ids held)) ],
-        elim power [
-          | inl all ↦ inl all
-          | inr taken ↦ inr (record {
-            ids = inl refl;
-            rights = λ q h. elim (port_rights new a q h) [ inl old ↦ inl old | inr e ↦ inr (subst (IdsMay S v) e taken) ];
-          })
-        ],
-      ),
-    ),
-    tt,
-  )
+pub shares_whole : {T : Part → Type 0} {w : World} → Sound w → (t : ℕ) (r : IoRight) (ids : IdSets) (x : Task) → task_at w t ≡ Some x → IsAmong (Io r) (rights_of x) → T (TaskOf t) → ((p : Part) → OnRight w (Io r) p → T p)
+    → ((S : ℕ → Bool) → S t ≡ true → Holds S w (Io r) × (HasUid S w 0 ⊎ Taken S w ids)) → Whole t T w w (EditTask t (with_port (Io (with_ids_for ids r))) ∷ [])
+shares_whole {T} {w} s t r ids x is here task parts power =
+    port_whole s t (Io (with_ids_for ids r)) x is task (covers T w (Io (with_ids_for ids r)) parts) (fine_ids w r ids (fine_right w s.coherent t x (Io r) is here))
+    (λ S ours. let p = power S ours in (held_may_ids S w r ids p.0, p.1))

@@ -1,38 +1,30 @@
 -- The laws of the calls on rights and ids: a port that goes; a right that goes to any inbox, and one that comes from there; and
 -- other ids, which the task holds already.
-use Rattle.std.proofs.Common.{ℕ, refl, inl, ◌≡◌, ◌∙◌, ◌⊎◌, Bool, true, Some, Ok, length, nat_lt, ap, inr, subst}
+use Rattle.std.proofs.Common.{ℕ, refl, inl, ◌≡◌, ◌∙◌, Bool, true, Some, Ok, length, nat_lt, ap, inr, subst}
 use Rattle.hurd_ports.specs.Tables.{right_of, Task, first_sent, task_of}
 use Rattle.hurd_machine.specs.declared.call.Reply.TheVariants.{Done, Port}
 use Rattle.hurd_machine.specs.World.{ports_of, World, task_at}
 use Rattle.hurd_machine.specs.Touched.{OnRight, Nothing}
-use Rattle.hurd_machine.proofs.Frame.{Full, AllWithin}
-use Rattle.hurd_machine.proofs.Asks.{right_same, answered_same, has_right, right_plain, answered_plain, done_plain, IsPlain, holds_right, on_ok, given_ok, first_ok, on_same, given_same, first_same, on_plain, given_plain, first_plain, ok_plain, answered_all, has_task, task_same, task_plain}
-use Rattle.hurd_machine.proofs.Opens.{own_task, drops_within, drops_proper, drops_linked, drops_sized, drops_rests}
-use Rattle.hurd_machine.proofs.Permits.{dropping_may}
-use Rattle.hurd_machine.proofs.CallLaws.{CallLaws, answered_within, answered_proper, answered_linked, answered_sized, answered_rests, answered_may}
+use Rattle.hurd_machine.proofs.Asks.{right_same, answered_same, has_right, right_plain, answered_plain, done_plain, IsPlain, holds_right, on_ok, given_ok, first_ok, on_same, given_same, first_same, on_plain, given_plain, first_plain, ok_plain, has_task, task_same, task_plain}
+use Rattle.hurd_machine.proofs.Opens.{own_task, drops_whole}
+use Rattle.hurd_machine.proofs.Piece.{stands}
+use Rattle.hurd_machine.proofs.CallLaws.{CallLaws, answered_piece, answered_whole}
 use Rattle.hurd_rights.specs.Rights.{plan_deallocate, touches_deallocate, plan_send, touches_send, plan_receive, touches_receive, makeauth_asks, plan_makeauth, touches_makeauth}
 use Rattle.hurd_creds.specs.declared.errno.Errno.TheVariants.{EOVERFLOW, ESRCH, EWOULDBLOCK, EPERM}
 use Rattle.hurd_ports.specs.declared.table.Right.{Right}
-use Rattle.hurd_machine.specs.Plan.{Plan}
-use Rattle.hurd_machine.specs.Sight.{Part, TaskOf}
 use Rattle.hurd_machine.proofs.Views.{Agree, same_tasks}
-use Rattle.hurd_machine.proofs.Sending.{sends_within, sends_proper, sends_rests, sends_sized, sends_linked, sends_may, receives_within, receives_proper, receives_rests, receives_sized, receives_linked, receives_may}
+use Rattle.hurd_machine.proofs.Sending.{sends_whole, receives_whole}
 use Rattle.hurd_core.specs.Core.{send_asks, receive_asks}
 use Rattle.hurd_creds.specs.Access.{IdSets, may_take}
 use Rattle.hurd_machine.proofs.Sharing.{taken_taken}
-use Rattle.hurd_machine.proofs.Taking.{takes_within, takes_proper, takes_rests, takes_sized, takes_linked, takes_may}
+use Rattle.hurd_machine.proofs.Taking.{takes_whole}
 
 -- port_deallocate: it asks for the right alone, and gives up what was the caller's
 
 pub deallocate_laws : (t p : ℕ) → CallLaws t (λ w. plan_deallocate w t p) (λ w. touches_deallocate w t p)
 deallocate_laws t p = record {
-  fits = λ w c. answered_within w t (right_of (ports_of w) t p) _ _ (λ r is.
-      let h = has_right w t p r is in drops_within (Full w t (OnRight w r)) w t p h.seat r h.is_task h.under (own_task w t (OnRight w r)) (λ q on. inl on));
-  proper = λ w s. answered_proper w _ _ (λ r is. let h = has_right w t p r is in drops_proper w s.coherent s.linked t p h.seat h.is_task);
-  linked = λ w s. answered_linked w _ _ s.linked (λ r is. let h = has_right w t p r is in drops_linked w s.coherent t p h.seat h.is_task s.linked);
-  sized = λ w s. answered_sized w _ _ s.sizes (λ r is. drops_sized w t p s.sizes);
-  rests = λ w s. answered_rests w _ _ s.settled (λ r is. drops_rests w t p s.settled);
-  may = λ S v c ours. answered_may v _ _ S v (λ r is. dropping_may S v v t p ours);
+  piece = λ w s. answered_piece s (right_of (ports_of w) t p) _ _ (λ r is.
+      let h = has_right w t p r is in drops_whole (stands s) t p h.seat r h.is_task h.under (own_task w t (OnRight w r)) (λ q on. inl on));
   same = λ S v w c d a ours. answered_same _ _ _ _ (right_same a t ours p) (λ r is. refl);
   plain = λ w. answered_plain _ _ (right_plain w t p) (λ r is. done_plain Done refl);
 }
@@ -58,20 +50,12 @@ module _ (t p q : ℕ) where
   send_plain : (w : World) → IsPlain (send_asks w t p q)
   send_plain w = first_plain _ _ (right_plain w t p) (λ r is. given_plain _ _ _ refl (λ e. ok_plain r))
 
-  abbrev sent_parts : World → Right → Part → Type 0
-  sent_parts w r k = OnRight w r k ⊎ (k ≡ TaskOf q)
-
   pub send_laws : CallLaws t (λ w. plan_send w t p q) (λ w. touches_send w t p q)
   send_laws = record {
-    fits = λ w c. answered_within w t (send_asks w t p q) _ _ (λ r is. sends_within r q (Full w t (sent_parts w r)) w (inl (inr refl)) (λ k on. inl (inl on)));
-    proper = λ w s. answered_proper w _ _ (λ r is.
+    piece = λ w s. answered_piece s (send_asks w t p q) _ _ (λ r is.
         let i = is_sent w t p q r is in
         let h = has_right w t p r i.is_right in
-        sends_proper r q w s.coherent t h.seat h.is_task h.here i.there);
-    linked = λ w s. answered_linked w _ _ s.linked (λ r is. sends_linked r q w s.linked);
-    sized = λ w s. answered_sized w _ _ s.sizes (λ r is. sends_sized r q w s.sizes);
-    rests = λ w s. answered_rests w _ _ s.settled (λ r is. sends_rests r q w s.settled);
-    may = λ S v c ours. answered_may v _ _ S v (λ r is. sends_may r q S v (holds_right t ours p r (is_sent v t p q r is).is_right));
+        sends_whole s r q t h.seat h.is_task h.here i.there (inl (inr refl)) (λ k on. inl (inl on)) (λ S ours. holds_right t ours p r i.is_right));
     same = λ S v w c d a ours. answered_same _ _ _ _ (send_same S v w a ours) (λ r is. refl);
     plain = λ w. answered_plain _ _ (send_plain w) (λ r is. done_plain Done refl);
   }
@@ -95,12 +79,7 @@ module _ (t : ℕ) where
 
   pub receive_laws : CallLaws t (λ w. plan_receive w t) (λ w. touches_receive w t)
   receive_laws = record {
-    fits = λ w c. answered_all (λ (P : Plan). AllWithin (Full w t Nothing) w P.changes) (λ e. tt) (receive_asks w t) _ (λ x is. receives_within t (Full w t Nothing) w (own_task w t Nothing));
-    proper = λ w s. answered_proper w _ _ (λ x is. receives_proper t w s.coherent x (receiver w x is));
-    linked = λ w s. answered_linked w _ _ s.linked (λ x is. receives_linked t w s.linked);
-    sized = λ w s. answered_sized w _ _ s.sizes (λ x is. receives_sized t w s.sizes);
-    rests = λ w s. answered_rests w _ _ s.settled (λ x is. receives_rests t w s.settled);
-    may = λ S v c ours. answered_may v _ _ S v (λ x is. receives_may t S v v ours);
+    piece = λ w s. answered_whole s (receive_asks w t) _ (λ x is. receives_whole s t x (receiver w x is) (own_task w t Nothing));
     same = λ S v w c d a ours. answered_same _ _ _ _ (receive_same S v w a ours) (λ x is. refl);
     plain = λ w. answered_plain _ _ (receive_plain w) (λ x is. done_plain (Port x.next) refl);
   }
@@ -128,12 +107,8 @@ module _ (t : ℕ) (ids : IdSets) where
 
   pub makeauth_laws : CallLaws t (λ w. plan_makeauth w t ids) (λ w. touches_makeauth w t ids)
   makeauth_laws = record {
-    fits = λ w c. answered_all (λ (P : Plan). AllWithin (Full w t Nothing) w P.changes) (λ e. tt) (makeauth_asks w t ids) _ (λ x is. takes_within t ids (Full w t Nothing) w (own_task w t Nothing));
-    proper = λ w s. answered_proper w _ _ (λ x is. takes_proper t ids w s.coherent x (is_taken w x is).is_task);
-    linked = λ w s. answered_linked w _ _ s.linked (λ x is. takes_linked t ids w s.linked);
-    sized = λ w s. answered_sized w _ _ s.sizes (λ x is. takes_sized t ids w s.sizes);
-    rests = λ w s. answered_rests w _ _ s.settled (λ x is. takes_rests t ids w s.settled);
-    may = λ S v c ours. answered_may v _ _ S v (λ x is. let h = is_taken v x is in takes_may t ids S v v ours (taken_taken S v t x ids ours h.is_task h.may));
+    piece = λ w s. answered_whole s (makeauth_asks w t ids) _ (λ x is.
+        let h = is_taken w x is in takes_whole s t ids x h.is_task (own_task w t Nothing) (λ S ours. taken_taken S w t x ids ours h.is_task h.may));
     same = λ S v w c d a ours. answered_same _ _ _ _ (makeauth_same S v w a ours) (λ x is. refl);
     plain = λ w. answered_plain _ _ (makeauth_plain w) (λ x is. done_plain Done refl);
   }

@@ -1,6 +1,5 @@
 -- The room to name, the old words, what is stored, and what is seated then; else the old words again.
-use Rattle.std.proofs.Common.{◌∙◌, ◌++◌, inl, inr, refl, sym}
-use Rattle.std.specs.Prelude.{Ok, Err}
+use Rattle.std.proofs.Common.{◌∙◌, inl, inr, refl, sym}
 use Rattle.hurd_machine.specs.World.{nodes_of, ports_of, words_at}
 use Rattle.hurd_core.specs.Core.{attaching, world_of}
 use Rattle.hurd_core.proofs.CoreLaws.{naming-refused}

@@ -1,5 +1,5 @@
 -- The ports with the pending start, whose node is held once more, and that of the one before once less, are the world with it.
-use Rattle.std.proofs.Common.{◌≡◌, ℕ, List, refl, sym, ap, inl, inr}
+use Rattle.std.proofs.Common.{ℕ, List, refl, ap, inl, inr}
 use Rattle.std.specs.Prelude.{is_ok, option_copied}
 use Rattle.std.proofs.lemmas.Result.{err_from_is_err_and}
 use Rattle.hurd_nodes.specs.declared.seat.Hold.{Hold}

@@ -1,5 +1,5 @@
 -- The ports without the pending start, whose node is held once less, are the world without it.
-use Rattle.std.proofs.Common.{◌≡◌, ℕ, List, sym, ap}
+use Rattle.std.proofs.Common.{ℕ, List, ap}
 use Rattle.std.specs.Prelude.{option_copied}
 use Rattle.std.proofs.lemmas.Result.{err_from_is_err_and}
 use Rattle.hurd_nodes.specs.declared.seat.Hold.{Hold}
