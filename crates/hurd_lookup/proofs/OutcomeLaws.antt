@@ -1,5 +1,5 @@
 -- What a lookup does at its end: it opens a node, makes a file and opens that, makes the port of a retry, or has the task start a translator.
-use Rattle.std.proofs.Common.{◌≡◌, ℕ, ◌+◌, Bool, true, false, not, ◌&&◌, ◌||◌, List, [], Some, None, refl, ap, ◌∙◌, inl, inr, arith}
+use Rattle.std.proofs.Common.{◌≡◌, ℕ, ◌+◌, Bool, true, false, not, ◌&&◌, ◌||◌, List, Some, None, refl, inl, inr, arith}
 use Rattle.std.proofs.lemmas.Nat.{and_assoc}
 use Rattle.hurd_creds.specs.declared.name.Name.{Name}
 use Rattle.hurd_creds.specs.declared.open_flags.OpenFlags.{OpenFlags}
@@ -9,29 +9,24 @@ use Rattle.hurd_creds.specs.Access.{IdSets, may}
 use Rattle.hurd_creds.specs.Bits.{asks, open_modes, READ, WRITE, EXEC}
 use Rattle.hurd_trans_iface.specs.Nodes.{Node, Header, is_dir, new_file}
 use Rattle.hurd_trans_iface.proofs.Goods.{good}
-use Rattle.hurd_ports.specs.declared.parents.Parent.{Parent}
 use Rattle.hurd_ports.specs.Tables.{Task, fresh}
 use Rattle.hurd_ports.specs.Steps.{named}
-use Rattle.hurd_nodes.specs.Shown.{tree_by}
-use Rattle.hurd_machine.specs.World.{World, task_at, header_at, server_at, nodes_of}
+use Rattle.hurd_machine.specs.World.{World, task_at, header_at}
 use Rattle.hurd_machine.specs.Change.{Change, apply_all, opening}
-use Rattle.hurd_machine.specs.Sight.{Part, OfNode, TaskOf, bare, Allowed, SeesBody, ToRead}
+use Rattle.hurd_machine.specs.Sight.{Part, bare, Allowed, SeesBody, ToRead}
 use Rattle.hurd_machine.specs.Touched.{OnNode}
 use Rattle.hurd_machine.specs.Sound.{Below, Sound}
-use Rattle.hurd_machine.proofs.Coherence.{IsNext, header_old, home_old, named_still, next_not, no_home}
-use Rattle.hurd_machine.proofs.Keeping.{proper_append}
-use Rattle.hurd_machine.proofs.Settle.{Rests, rests_quiet, rests_opening}
-use Rattle.hurd_machine.proofs.Frame.{AllWithin, Full, within_append}
-use Rattle.hurd_machine.proofs.Sizes.{KeepsSized, sized_ports, sized_append}
-use Rattle.hurd_machine.proofs.Links.{KeepsLinked, linked_steady, leads_unless, file_hangs}
+use Rattle.hurd_machine.proofs.Coherence.{IsNext, header_old, named_still}
+use Rattle.hurd_machine.proofs.Settle.{rests_opening}
+use Rattle.hurd_machine.proofs.Frame.{Full}
+use Rattle.hurd_machine.proofs.Links.{leads_unless, file_hangs}
 use Rattle.hurd_machine.proofs.Confine.{NewTo}
-use Rattle.hurd_machine.proofs.Several.{AllMay}
-use Rattle.hurd_machine.proofs.Permits.{may_append, later_new, opens_may}
+use Rattle.hurd_machine.proofs.Permits.{later_new, opens_may}
 use Rattle.hurd_machine.proofs.Opens as fragments
 use Rattle.hurd_machine.proofs.Opens.{own_task, fresh_new, fresh_next, opens_piece}
 use Rattle.hurd_machine.proofs.Makes.{may_make, entered_home, entered_header, entered_task, entered_below, entered_whole}
 use Rattle.hurd_machine.proofs.Pending.{pends_whole}
-use Rattle.hurd_core.specs.Core.{NewNodeAt, asked_node, making}
+use Rattle.hurd_core.specs.Core.{asked_node, making}
 use Rattle.hurd_lookup.specs.Lookup.{NewPort, Outcome, Opens, Makes, Retries, Starts, may_open, no_modes, lookup_changes, lookup_parts}
 use Rattle.hurd_lookup.proofs.WalkLaws.{PortSeen, WaysGiven}
 use Rattle.hurd_lookup.proofs.EndLaws.{OutcomeSeen, OutcomeGiven, Leads}
