@@ -1,15 +1,12 @@
 -- What a list has printed.
-use Rattle.std.specs.Prelude.{Option, Some, None, Result}
-use Rattle.std.specs.Option.{option_map}
-use Rattle.std.proofs.Common.{◌≡◌, length, true, nat_lt, ℕ, List, [], Ok, Err, refl, sym, inl, ◌∙◌, ap, map}
+use Rattle.std.specs.Prelude.{Option, Result}
+use Rattle.std.proofs.Common.{◌≡◌, length, true, nat_lt, ℕ, List, [], Ok, Err, refl, inl, ◌∙◌, ap, map}
 use Rattle.std.proofs.lemmas.Bool.{lt-ltb}
 use Rattle.hurd_lists.specs.Lists.{Standing, listed_by, most_bytes, reading_of, said_by}
 use Rattle.hurd_lists.specs.declared.reader.CallList.{CallList}
 use Rattle.hurd_lists.specs.declared.reader.ListedCall.{ListedCall}
-use Rattle.hurd_lists.specs.Calls.{begun}
-use Rattle.hurd_kinds.specs.Boxes.{box_meaning}
-use Rattle.hurd_kinds.specs.declared.server_box.ServerBox.{ServerBox}
-use Rattle.hurd_trans_iface.specs.Meaning.{Meaning, begin}
+use Rattle.hurd_making.specs.Faults.{NotBegun, NotRead}
+use Rattle.hurd_trans_iface.specs.Meaning.{Meaning}
 use Rattle.hurd_machine.specs.World.{World}
 use Rattle.hurd_terminal.specs.Faults.{AppendsFront, IsPrintFault}
 use Rattle.hurd_terminal.specs.Runs.{Adds, Prints}
@@ -20,7 +17,6 @@ use Rattle.hurd_terminal.proofs.RunLaws.{HasLimit, adds_output}
 use Rattle.hurd_tmpfs.specs.Tree.{new_tmpfs}
 use Rattle.hurd_world.specs.Boot.{boot_of, first_world}
 use Rattle.hurd_calls.proofs.PrintedLaws.{PrintedSoFar, none_printed}
-use Rattle.hurd_calls.specs.Faults.{NotBegun, NotRead}
 use Rattle.hurd_calls.specs.Lists.{bad_line, lists, output_of, said_in}
 
 -- a list that is too long is bad at line 0
@@ -52,17 +48,3 @@ begin_printed f before text list calls w read is here = rw (read, is, here) (non
 pub front_added : {W : Type 0} (output : Output W) (before after : Option (List ℕ)) (list : List ℕ) (said : Standing) (fault : Fault) → reading_of list ≡ Ok said → IsPrintFault output fault
     → AppendsFront before after (output_of (said_in (reading_of list))) → Adds lists list before after (Err fault)
 front_added output before after list said fault read is front = adds_output lists output before after list (Err fault) (ap bad_line read) tt (is, front)
-
--- what a call brings is what its words make
-
-pub brings_nothing : {S : Type 0} (f : S → Meaning) (asked : Option (List (List ℕ))) (given : Option S) → asked ≡ None → given ≡ None → begun asked ≡ option_map f given
-brings_nothing f asked given none nothing = rw (none, nothing) refl
-
-pub makes_nothing : {S : Type 0} (f : S → Meaning) (asked : Option (List (List ℕ))) (words : List (List ℕ)) (made : Option ServerBox) (given : Option S) → asked ≡ Some words
-    → option_map box_meaning made ≡ begin words → made ≡ None → given ≡ None → begun asked ≡ option_map f given
-makes_nothing f asked words made given some begins none nothing = rw (some, nothing) (sym begins ∙ ap (option_map box_meaning) none)
-
-pub makes_it : {S : Type 0} (f : S → Meaning) (asked : Option (List (List ℕ))) (words : List (List ℕ)) (made : Option ServerBox) (field box : ServerBox) (given : Option S) (server : S) → asked ≡ Some words
-    → option_map box_meaning made ≡ begin words → made ≡ Some field → field ≡ box → given ≡ Some server → f server ≡ box_meaning box → begun asked ≡ option_map f given
-makes_it f asked words made field box given server some begins it is so means =
-    rw (some, so) (sym begins ∙ (ap (option_map box_meaning) it ∙ ap Some (ap box_meaning is ∙ sym means)))

@@ -10,7 +10,7 @@ use Rattle.hurd_lists.specs.declared.reader.ListedCall.{ListedCall}
 use Rattle.hurd_machine.specs.World.{World}
 use Rattle.hurd_terminal.specs.Faults.{AppendsFront}
 use Rattle.hurd_terminal.proofs.OutputLaws.{front_follows}
-use Rattle.hurd_calls.specs.Lists.{after_call, part_of, parts_of}
+use Rattle.hurd_making.specs.Making.{after_call, part_of, parts_of}
 
 -- a front of the whole was printed, and the rest are the parts of the calls that are left
 pub record PrintedSoFar (whole : List ℕ) (before now : Option (List ℕ)) (left : List Listed) (w : World) : Type 0 where

@@ -1,54 +1,19 @@
 //! A list of calls from its reading to the last reply.
-ghost use Rattle.std.specs.Prelude.{◌≡◌, ◌≢◌, true, Ok, Err, IfOk, IfErr};
-ghost use Rattle.hurd_tmpfs.specs.Tree.{new_tmpfs};
-ghost use Rattle.hurd_world.specs.Boot.{first_world};
-ghost use Rattle.hurd_world.specs.Held.{world_of};
-ghost use Rattle.hurd_lists.specs.Lists.{reading_of, said_by};
+ghost use Rattle.std.specs.Prelude.{◌≡◌, ◌≢◌, true, Err};
 ghost use Rattle.hurd_terminal.specs.Runs.{Adds, Blames, Exits, Ran};
-ghost use Rattle.hurd_calls.specs.Faults.{NotBegun, NotRead};
 ghost use Rattle.hurd_calls.specs.Lists.{lists};
 
 use crate::calling::make;
-use hurd_creds::{Errno, Ids};
 use hurd_kinds::{ServerBox, empty_tree, server_for};
-use hurd_lists::{CallList, ListFault, parse_calls};
+use hurd_lists::CallList;
+use hurd_making::{begun, parsed};
 use hurd_terminal::{Fault, Input, Output, finish, read_text};
 use hurd_trans_iface::Server;
-use hurd_world::World;
 use std::alloc::Global;
 use std::io::{Read, Write};
 
 /// What stands behind the number of a bad line.
 const COMPLAINT: &str = ": bad calls\n";
-
-/// A world of tasks over an empty tree in memory.
-///
-/// Errors, in order: `Boot` with the world's refusal, `Memory`.
-fn begun<S: Server>(alloc: Global, root: S, tasks: Vec<Ids>) -> Result<World<S>, Fault>
-    requires { S.meaning root ≡ new_tmpfs }
-    ensures ok { IfOk result (λ world. world_of S.meaning world ≡ first_world new_tmpfs tasks.items) }
-    ensures err { IfErr result (λ fault. NotBegun new_tmpfs tasks.items fault) }
-{
-    match World::boot(alloc, root, tasks) {
-        Ok(world) => Ok(world),
-        Err((Errno::ENOMEM, _)) => Err(Fault::Memory),
-        Err((errno, _)) => Err(Fault::Boot(errno)),
-    }
-}
-
-/// Reads a list's text.
-///
-/// Errors: `Bad` with its first bad line, `Memory`.
-fn parsed<S: Server>(alloc: Global, text: &[u8]) -> Result<CallList<S>, Fault>
-    ensures ok { IfOk result (λ list. reading_of text.now ≡ Ok (said_by S.meaning list)) }
-    ensures err { IfErr result (λ fault. NotRead (reading_of text.now) fault) }
-{
-    match parse_calls(alloc, text) {
-        Ok(list) => Ok(list),
-        Err(ListFault::Bad { line }) => Err(Fault::Bad { line }),
-        Err(ListFault::Memory) => Err(Fault::Memory),
-    }
-}
 
 /// Makes the calls of a list over an empty tree in memory, each with the server that it brings, and prints each with its
 /// reply. The boxes of the trait are made here, since a function that gave them out could say nothing of what they mean.

@@ -1,5 +1,5 @@
 use denote.Param.Object.{read_made}
-use Rattle.std.proofs.Common.{◌≡◌, [], Err, inl, inr, ap, arith, refl}
+use Rattle.std.proofs.Common.{◌≡◌, [], Err, inr, ap, arith, refl}
 use Rattle.std.proofs.lemmas.List.{nil_from_length}
 use Rattle.std.proofs.lemmas.Result.{err_from_is_err_and}
 use Rattle.std.specs.Vec.Iter.{into_iter_items}
@@ -8,7 +8,8 @@ use Rattle.hurd_kinds.specs.declared.server_box.ServerBox.TheVariants as kind
 use Rattle.hurd_lists.specs.Lists.{reading_of}
 use Rattle.hurd_terminal.proofs.RunLaws.{adds_nothing}
 use Rattle.hurd_calls.specs.Lists.{bad_line, lists, output_of, said_in}
-use Rattle.hurd_calls.proofs.ListLaws.{begin_printed, brings_nothing, front_added, makes_it, makes_nothing, not_begun}
+use Rattle.hurd_calls.proofs.ListLaws.{begin_printed, front_added, not_begun}
+use Rattle.hurd_making.proofs.BroughtLaws.{brings_nothing, makes_it, makes_nothing}
 use Rattle.hurd_calls.proofs.PrintedLaws.{all_read, front_printed, read_cut, read_printed}
 use Rattle.hurd_calls.proofs.run.answer.OwnLists.{at-1-1, at-1-2, at-1-3, at-1-4, at-1-5, own-1}
 use Rattle.hurd_calls.proofs.run.answer.Goals.{in-None-server, in-Some-server+in_ok-server_for-in-Some-server+in-None-2, in-Some-server+in_ok-server_for-in-Some-server+in-Some-Tmpfs, in-Some-server+in_ok-server_for-in-Some-server+in-Some-Hello, in-Some-server+in_ok-server_for-in-Some-server+in-Some-Null, in-Some-server+in_ok-server_for-in-Some-server+in-Some-Zero, in-Some-server+in_ok-server_for-in-Some-server+in-Some-Symlink}

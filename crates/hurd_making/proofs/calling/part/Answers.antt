@@ -1,6 +1,6 @@
 use Rattle.std.proofs.Common.{◌∙◌, sym}
-use Rattle.hurd_calls.proofs.CallingLaws.{part_right, world_right}
-use Rattle.hurd_calls.proofs.calling.part.Goals as goal
+use Rattle.hurd_making.proofs.CallingLaws.{part_right, world_right}
+use Rattle.hurd_making.proofs.calling.part.Goals as goal
 
 pub returns-clause-part : goal.returns-clause-part
 returns-clause-part g c =

@@ -15,7 +15,7 @@ use Rattle.hurd_lists.proofs.CallLemmas.{served_by}
 use Rattle.hurd_lists.specs.Lists.{listed_by}
 use Rattle.hurd_lists.specs.Replies.{told}
 use Rattle.hurd_lists.specs.declared.reader.ListedCall.{ListedCall}
-use Rattle.hurd_calls.specs.Lists.{part_of, after_call}
+use Rattle.hurd_making.specs.Making.{part_of, after_call}
 use Rattle.hurd_lists.specs.Calls.{begun}
 
 -- want of memory, whatever boxes mean

@@ -1,0 +1,2 @@
+pub mod CallingLaws
+pub mod BroughtLaws

@@ -1,0 +1,50 @@
+//! Making a call of a list, with the server that it brings.
+ghost use Rattle.std.specs.Prelude.{◌≡◌, IfErr, IfOk, OnOk};
+ghost use Rattle.std.specs.Option.{option_map};
+ghost use Rattle.hurd_machine.specs.Calls.{lacks_memory};
+ghost use Rattle.hurd_world.specs.Held.{world_of};
+ghost use Rattle.hurd_lists.specs.Calls.{begun};
+ghost use Rattle.hurd_lists.specs.Lists.{listed_by};
+ghost use Rattle.hurd_making.specs.Making.{after_call, part_of};
+
+use hurd_creds::{Bytes, Errno};
+use hurd_lists::{ListedCall, told, with_server};
+use hurd_terminal::Fault;
+use hurd_trans_iface::Server;
+use hurd_world::{Reply, World};
+use std::alloc::Global;
+
+/// Whether a reply is want of memory.
+fn lacks_memory<S>(reply: &Reply<S>) -> bool
+    ensures { result ≡ lacks_memory reply.now }
+{
+    matches!(
+        reply,
+        Reply::Refused(Errno::ENOMEM) | Reply::Back(Errno::ENOMEM, _)
+    )
+}
+
+/// Makes a call with the server that its words make, and gives its part of the output. `Memory`.
+pub fn part<S: Server>(
+    world: &mut World<S>,
+    alloc: Global,
+    listed: ListedCall<S>,
+    server: Option<S>,
+) -> Result<Bytes, Fault>
+    requires { begun listed.server ≡ option_map S.meaning server }
+    ensures part { IfOk result (λ part. part ≡ part_of (listed_by S.meaning listed) (world_of S.meaning world.old)) }
+    ensures world { OnOk result (world_of S.meaning world.new ≡ after_call (listed_by S.meaning listed) (world_of S.meaning world.old)) }
+    ensures err { IfErr result (λ fault. fault ≡ Fault.Memory) }
+{
+    let ListedCall {
+        task,
+        call,
+        line,
+        server: _,
+    } = listed;
+    let reply = world.call(alloc, task, with_server(call, server));
+    if lacks_memory(&reply) {
+        return Err(Fault::Memory);
+    }
+    Ok(told(alloc, line.as_slice(), &reply)?)
+}
