@@ -6,3 +6,6 @@ pub mod StopLaws
 pub mod StepLaws
 pub mod Following
 pub mod Turns
+pub mod ShownLaws
+pub mod ProgramLaws
+pub mod ScriptLaws

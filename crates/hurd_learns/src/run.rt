@@ -1,11 +1,13 @@
 //! A script from its reading to its transcript, with what is learned on the way.
-ghost use Rattle.std.specs.Prelude.{◌≡◌, ◌≢◌, ◌≤◌, true, None, Ok, Err, Some, IfErr, IfOk, OnOk, length, map, string_bytes};
+ghost use Rattle.std.specs.Prelude.{◌≡◌, ◌≢◌, ◌≤◌, true, None, Ok, Err, Some, IfErr, IfOk, OnOk, codes, length, map, string_bytes};
 ghost use Rattle.hurd_tmpfs.specs.Tree.{new_tmpfs};
 ghost use Rattle.hurd_trans_iface.specs.Meaning.{Begins};
 ghost use Rattle.hurd_shell.specs.Session.{BegunWith, TakesUnlessFailed, waits_for};
 ghost use Rattle.hurd_world.specs.Boot.{boot_of};
 ghost use Rattle.hurd_script.specs.Script.{bad, commands_of, names_of, users_of};
-ghost use Rattle.hurd_learns.specs.Runs.{NotAll, NotBegun, NotRead, ToldAll};
+ghost use Rattle.hurd_terminal.specs.Runs.{Blames};
+ghost use Rattle.hurd_learns.specs.Programs.{Exits, Ran, SaysUsage, plainly};
+ghost use Rattle.hurd_learns.specs.Runs.{NotAll, NotBegun, NotRead, NotShown, Shown, ToldAll, learning};
 
 use crate::learners::Learners;
 use crate::steps::{Step, go_on};
@@ -105,6 +107,9 @@ fn learn<W: Write>(
     output: &mut Output<W>,
 ) -> Result<(), Fault>
     requires { watch.old.seen ≡ None }
+    ensures ok { OnOk result (Shown learners.now script.users.items script.commands.items (W.contents output.old.writer) (W.contents output.new.writer)) }
+    ensures err { IfErr result (λ fault. NotShown learners.now script.users.items script.commands.items
+        output.new (W.contents output.old.writer) fault (W.contents output.new.writer)) }
 {
     let mut tally = Tally::new();
     transcribe(alloc, script, learners, watch, &mut tally, output)?;
@@ -118,7 +123,11 @@ fn learn_anew<W: Write>(
     script: Script,
     learners: &Learners,
     output: &mut Output<W>,
-) -> Result<(), Fault> {
+) -> Result<(), Fault>
+    ensures ok { OnOk result (Shown learners.now script.users.items script.commands.items (W.contents output.old.writer) (W.contents output.new.writer)) }
+    ensures err { IfErr result (λ fault. NotShown learners.now script.users.items script.commands.items
+        output.new (W.contents output.old.writer) fault (W.contents output.new.writer)) }
+{
     let mut watch = Watch::new();
     learn(alloc, script, learners, &mut watch, output)
 }
@@ -148,7 +157,11 @@ fn run_text<W: Write>(
     word: &str,
     text: &[u8],
     output: &mut Output<W>,
-) -> Result<bool, Fault> {
+) -> Result<bool, Fault>
+    ensures ran { Ran (learning word.now) (Some text.now) (W.contents output.old.writer) (W.contents output.new.writer) result }
+    ensures read { result ≢ Err Fault.Read }
+    ensures write { result ≡ Err Fault.Write → output.new.failed ≡ true }
+{
     let script = parsed(alloc, text)?;
     match Learners::named(alloc, script.names.as_slice(), word)? {
         Some(learners) => {
@@ -169,13 +182,18 @@ fn run<R: Read, W: Write>(
     word: &str,
     input: &mut Input<R>,
     output: &mut Output<W>,
-) -> Result<bool, Fault> {
+) -> Result<bool, Fault>
+    ensures ran { Ran (learning word.now) (R.remaining input.old.reader) (W.contents output.old.writer) (W.contents output.new.writer) result }
+    ensures blames { Blames input.new output.new (plainly result) }
+{
     let text = read_text(alloc, input)?;
     run_text(alloc, word, text.as_slice(), output)
 }
 
 /// Prints how the program is called; answers the exit status.
-pub fn usage<W: Write>(output: &mut Output<W>) -> u8 {
+pub fn usage<W: Write>(output: &mut Output<W>) -> u8
+    ensures { SaysUsage W.contents output.old output.new (codes "usage: hurd_learns USER[,USER..] < script\n") result }
+{
     match output.print(USAGE) {
         Ok(()) => 1,
         Err(_) => 2,
@@ -188,7 +206,9 @@ pub fn program<R: Read, W: Write>(
     word: &str,
     input: &mut Input<R>,
     output: &mut Output<W>,
-) -> u8 {
+) -> u8
+    ensures { Exits (learning word.now) R.remaining W.contents input.old input.new output.old output.new result }
+{
     match run(alloc, word, input, output) {
         Ok(true) => 0,
         Ok(false) => usage(output),
