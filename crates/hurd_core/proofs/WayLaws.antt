@@ -81,10 +81,3 @@ pub both-held : {S : Type 0} (old one two : Held S) (n : Name) (ps qs : List Par
 both-held {S = S} old one two n ps qs k l first second same =
     second ∙ ap (λ (h : Held S). with_holds h (h.holds ++ holds_of_ways qs) l) first
     ∙ ap (λ (hs : List Hold). with_holds old hs l) (append_assoc old.holds (hold.Use n ∷ []) (holds_of_ways qs) ∙ ap (λ (rs : List Parent). old.holds ++ hold.Use n ∷ holds_of_ways rs) same)
-
--- and released
-pub both-released : {S : Type 0} (old one two : Held S) (n : Name) (ps qs : List Parent) (k l : ℕ) → one ≡ with_holds old (less_one (hold.Use n) old.holds) k
-    → two ≡ with_holds one (less_all (holds_of_ways qs) one.holds) l → qs ≡ ps → two ≡ with_holds old (less_all (hold.Use n ∷ holds_of_ways ps) old.holds) l
-both-released {S = S} old one two n ps qs k l first second same =
-    second ∙ ap (λ (h : Held S). with_holds h (less_all (holds_of_ways qs) h.holds) l) first
-    ∙ ap (λ (rs : List Parent). with_holds old (less_all (holds_of_ways rs) (less_one (hold.Use n) old.holds)) l) same

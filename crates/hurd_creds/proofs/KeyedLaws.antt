@@ -9,7 +9,7 @@ use Rattle.std.specs.FinMap as fin
 use Rattle.hurd_creds.specs.Names.{name_cmp, same_name}
 use Rattle.hurd_creds.specs.NameMaps.{keyed, place_by, edit}
 use Rattle.hurd_creds.specs.declared.name.Name.{Name}
-use Rattle.hurd_creds.proofs.NameLaws.{name_total, name_exact, name_tied, equal_if_same, same_map_by, edit_found, edit_absent}
+use Rattle.hurd_creds.proofs.NameLaws.{name_total, name_exact, name_tied, equal_if_same, same_map_by, edit_absent}
 
 -- the first of a list has the name, or it is looked for in the rest
 no_place : (b : Bool) (o : Option ℕ) → cond b (Some 0) (option_map (λ i. i + 1) o) ≡ None → (b ≡ false) × (o ≡ None)
@@ -71,9 +71,6 @@ module _ {X V : Type 0} (key : X → Name) (value : X → V) where
   pub place-found_read : (n : Name) (xs : List X) (i : ℕ) (x : X) → i < length xs → place_by key n (take i xs) ≡ None → x ≡ slice_index_or xs i x → same_name n (key x) ≡ true → Some i ≡ place_by key n xs
   place-found_read n xs i x below none read is = place-found n xs i x below none (ap (λ (t : X). same_name n (key t)) (sym read) ∙ is)
 
-  pub place-more_read : (n : Name) (xs : List X) (i : ℕ) (x : X) → i < length xs → place_by key n (take i xs) ≡ None → x ≡ slice_index_or xs i x → same_name n (key x) ≡ false → place_by key n (take (i + 1) xs) ≡ None
-  place-more_read n xs i x below none read is = place-more n xs i x below none (ap (λ (t : X). same_name n (key t)) (sym read) ∙ is)
-
   -- a scan that has found none in the whole list
   pub place-none : (n : Name) (xs : List X) (i : ℕ) → length xs ≤ i → place_by key n (take i xs) ≡ None → None ≡ place_by key n xs
   place-none n xs i past none = sym (rw (take_all i xs past) at none)
@@ -133,18 +130,6 @@ module _ {X V : Type 0} (key : X → Name) (value : X → V) where
   pub get-absent : (n : Name) (xs : List X) → None ≡ place_by key n xs → fin.get (keyed key value xs) n ≡ None
   get-absent n xs h = get-keyed xs n ∙ find-no_place n xs (sym h)
 
-  -- the same in a scan that finds the name at i, and none before
-  pub get-scanned : (n : Name) (xs : List X) (i : ℕ) (d : X) → i < length xs → place_by key n (take i xs) ≡ None → same_name n (key (get_or xs i d)) ≡ true → fin.get (keyed key value xs) n ≡ Some (value (get_or xs i d))
-  get-scanned n xs i d below none is = get-placed n xs i d (place-found n xs i d below none is)
-
-  -- the same in a scan that reads a thing x at i
-  pub get-scanned_read : (n : Name) (xs : List X) (i : ℕ) (x : X) → i < length xs → place_by key n (take i xs) ≡ None → x ≡ slice_index_or xs i x → same_name n (key x) ≡ true → fin.get (keyed key value xs) n ≡ Some (value x)
-  get-scanned_read n xs i x below none read is = get-found n xs i x (place-found_read n xs i x below none read is) read
-
-  -- the same in a scan that has found none in the whole list
-  pub get-unscanned : (n : Name) (xs : List X) (i : ℕ) → length xs ≤ i → place_by key n (take i xs) ≡ None → fin.get (keyed key value xs) n ≡ None
-  get-unscanned n xs i past none = get-absent n xs (place-none n xs i past none)
-
   is_some-place_by : (n : Name) (xs : List X) (o : Option ℕ) → o ≡ place_by key n xs → is_some o ≡ is_some (fin.get (keyed key value xs) n)
   is_some-place_by n xs None h = rw (get-absent n xs h)
   is_some-place_by n [] (Some i) h = absurd (cc)
@@ -172,18 +157,6 @@ module _ {X V : Type 0} (key : X → Name) (value : X → V) where
   pub keyed-changed : (n : Name) (xs : List X) (i : ℕ) (old new : X) → Some i ≡ place_by key n xs → old ≡ slice_index_or xs i old → key new ≡ key old → keyed key value (slice_set xs i new) ≡ fin.insert (keyed key value xs) n (value new)
   keyed-changed n xs i old new at is same = keyed-set n xs i new (sym at) (same ∙ ap key is ∙ (place-is n xs i (sym at)).named old)
 
-  -- and as an edit of the map, where the change of the thing is that of its value
-  pub keyed-edited : (n : Name) (xs : List X) (i : ℕ) (old new : X) (f : V → V) → Some i ≡ place_by key n xs → old ≡ slice_index_or xs i old → key new ≡ key old → value new ≡ f (value old) → keyed key value (slice_set xs i new) ≡ edit n f (keyed key value xs)
-  keyed-edited n xs i old new f at is same changed =
-      keyed-changed n xs i old new at is same ∙ ap (fin.insert (keyed key value xs) n) changed
-      ∙ sym (edit_found (keyed key value xs) n f (value old) (get-found n xs i old at is))
-
-  -- the same of the thing at i as a proof of plain numbers names it, with anything for a default
-  pub keyed-edited_at : (n : Name) (xs : List X) (i : ℕ) (d new : X) (f : V → V) → Some i ≡ place_by key n xs → key new ≡ key (get_or xs i d) → value new ≡ f (value (get_or xs i d)) → keyed key value (slice_set xs i new) ≡ edit n f (keyed key value xs)
-  keyed-edited_at n xs i d new f at same changed =
-      keyed-set n xs i new (sym at) (same ∙ (place-is n xs i (sym at)).named d) ∙ ap (fin.insert (keyed key value xs) n) changed
-      ∙ sym (edit_found (keyed key value xs) n f (value (get_or xs i d)) (get-placed n xs i d at))
-
   -- where nothing has the name, an edit changes nothing
   pub edit-absent : (n : Name) (xs : List X) (f : V → V) → None ≡ place_by key n xs → edit n f (keyed key value xs) ≡ keyed key value xs
   edit-absent n xs f at = edit_absent (keyed key value xs) n f (get-absent n xs at)
@@ -209,9 +182,3 @@ module _ {X V : Type 0} (key : X → Name) (value : X → V) where
     | inl y ↦ rw (y, ← equal_if_same n (key x) y, find-filter n xs q) (shadowed (eq_by_cmp name_cmp q n) None (Some (value x)) (fin.find name_cmp q (map entry_of xs)))
     | inr f ↦ rw (f, find-filter n xs q) (swapped (eq_by_cmp name_cmp q (key x)) (eq_by_cmp name_cmp q n) (Some (value x)) None (fin.find name_cmp q (map entry_of xs)) (λ a b. let k = ties_both q n (key x) b a in cc))
   ]
-
-  -- all but the things of a name
-  pub keyed-filter : (n : Name) (xs : List X) → keyed key value (filter (λ (x : X). not (same_name n (key x))) xs) ≡ fin.remove (keyed key value xs) n
-  keyed-filter n xs = same_map_by _ _ (λ q.
-      get-keyed (filter (λ (x : X). not (same_name n (key x))) xs) q ∙ find-filter n xs q
-      ∙ sym (fin.get-remove name_total (keyed key value xs) n q ∙ ap (cond (eq_by_cmp name_cmp q n) None) (get-keyed xs q)))

@@ -46,14 +46,6 @@ module _ {A B : Type 0} (f : A → B) where
   option_map-steps g h alike None = refl
   option_map-steps g h alike (Some x) = ap (λ (y : B). Some y) (alike x)
 
-  -- an edit before the function at each value is one after it
-  pub map_values-edit : (n : Name) (g : A → A) (h : B → B) → ((x : A) → f (g x) ≡ h (f x)) → (m : NameMap A) → map_values f (edit n g m) ≡ edit n h (map_values f m)
-  map_values-edit n g h alike m = same_map_by _ _ (λ q. go q (same_or_apart q n))
-    where
-      go : (q : Name) → (q ≡ n) ⊎ (q ≢ n) → fin.get (map_values f (edit n g m)) q ≡ fin.get (edit n h (map_values f m)) q
-      go q (inl e) = rw e (get-map_values (edit n g m) n ∙ ap (option_map f) (edit_here m n g) ∙ option_map-steps g h alike (fin.get m n) ∙ sym (edit_here (map_values f m) n h ∙ ap (option_map h) (get-map_values m n)))
-      go q (inr apart) = get-map_values (edit n g m) q ∙ ap (option_map f) (edit_apart m n g q apart) ∙ sym (edit_apart (map_values f m) n h q apart ∙ get-map_values m q)
-
   option_map-kept : (g : A → A) → ((x : A) → f (g x) ≡ f x) → (o : Option A) → option_map f (option_map g o) ≡ option_map f o
   option_map-kept g kept None = refl
   option_map-kept g kept (Some x) = ap (λ (y : B). Some y) (kept x)
@@ -69,9 +61,3 @@ module _ {A B : Type 0} (f : A → B) where
 option_map-twice : {A B C : Type 0} (f : A → B) (g : B → C) (o : Option A) → option_map g (option_map f o) ≡ option_map (λ x. g (f x)) o
 option_map-twice f g None = refl
 option_map-twice f g (Some x) = refl
-
--- one function after another
-pub map_values-map_values : {A B C : Type 0} (f : A → B) (g : B → C) (m : NameMap A) → map_values g (map_values f m) ≡ map_values (λ x. g (f x)) m
-map_values-map_values f g m = same_map_by _ _ (λ q.
-    get-map_values g (map_values f m) q ∙ ap (option_map g) (get-map_values f m q) ∙ option_map-twice f g (fin.get m q)
-    ∙ sym (get-map_values (λ x. g (f x)) m q))

@@ -16,9 +16,6 @@ module _ {T S : Type 0} (w : Result T Errno × S) (m : S) where
   pub steps-short : (x : T) (n : S) → w ≡ (Ok x, n) → Steps m w (Err ENOMEM) m
   steps-short x n is = rw is (record { answered = inr (refl, refl); left = refl })
 
-  pub steps-done : (x : T) (n : S) → w ≡ (Ok x, n) → Steps m w (Ok x) n
-  steps-done x n is = rw is (record { answered = refl; left = refl })
-
 cond-inside : {A B : Type 0} (k : A → B) (b : Bool) (x y : A) → k (cond b x y) ≡ cond b (k x) (k y)
 cond-inside k true x y = refl
 cond-inside k false x y = refl

@@ -101,9 +101,6 @@ module _ (bytes path : List ℕ) (ended : Bool) (t : ℕ) (is : length bytes ≡
   pub fits-whole : t ≤ most_path - k → nat_le b (most_path - k - t) ≡ nat_le (length (onto bytes (rest_of (names_in path) ended))) most_path
   fits-whole h = whole-fits t b k (small (is_last (names_in path)) ended) h ∙ sym whole
 
-  pub bars-whole : most_path - k < t → nat_le (length (onto bytes (rest_of (names_in path) ended))) most_path ≡ false
-  bars-whole h = whole ∙ none-whole t b k (small (is_last (names_in path)) ended) h
-
 -- names pushed behind a text
 
 pub pushed : (text path name after : List ℕ) → names_in path ≡ name ∷ names_in after → text ++ slash ∷ [] ++ name ++ behind_slashes (names_in after) ≡ text ++ behind_slashes (names_in path)

@@ -19,10 +19,6 @@ pub data LeadsAround (h : NodeState) (n : Name) : Name → Type 0 where
   RootApart : {m : Name} → m ≢ n → is_root h m ≡ true → LeadsAround h n m
   AboveApart : {m : Name} (p : Name) (k : Header) → m ≢ n → header_of h.nodes m ≡ Some k → k.parent ≡ Some p → LeadsAround h n p → LeadsAround h n m
 
-pub leads_of_around : (h : NodeState) (n m : Name) → LeadsAround h n m → LeadsUp h m
-leads_of_around h n m (RootApart out is) = AtRoot is
-leads_of_around h n m (AboveApart p k out is up rest) = Above p k is up (leads_of_around h n p rest)
-
 -- with the same roots, and the same headers of all that is met
 pub around_still : (h g : NodeState) (n : Name) → ((m : Name) → is_root h m ≡ true → is_root g m ≡ true) → ((m : Name) (k : Header) → m ≢ n → header_of h.nodes m ≡ Some k → (j : Header) × (header_of g.nodes m ≡ Some j) × (j.parent ≡ k.parent))
     → (m : Name) → LeadsAround h n m → LeadsAround g n m

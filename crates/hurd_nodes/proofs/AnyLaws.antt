@@ -7,10 +7,9 @@ use Rattle.std.specs.FinMap as fin
 use Rattle.std.specs.Ordering.{eq_by_cmp}
 use Rattle.hurd_creds.specs.declared.name.Name.{Name}
 use Rattle.hurd_creds.specs.Names.{name_cmp}
-use Rattle.hurd_creds.specs.NameMaps.{keyed, map_values, place_by}
-use Rattle.hurd_creds.proofs.NameLaws.{same_map_by, same_or_apart, tied-itself, tied-apart}
+use Rattle.hurd_creds.specs.NameMaps.{keyed, place_by}
+use Rattle.hurd_creds.proofs.NameLaws.{same_or_apart, tied-itself, tied-apart}
 use Rattle.hurd_creds.proofs.KeyedLaws.{get-keyed, get-absent}
-use Rattle.hurd_creds.proofs.MapLaws.{get-map_values}
 use Rattle.hurd_nodes.specs.Held.{AreApart}
 use Rattle.hurd_nodes.specs.Settle.{any_in}
 use Rattle.hurd_nodes.proofs.SeatLaws.{some_same}
@@ -84,12 +83,6 @@ module _ {X V : Type 0} (key : X → Name) (value : X → V) where
           → option_map f (cond b (Some (value x)) (fin.find name_cmp n (map pair_of xs))) ≡ cond b (Some (f (value x))) (fin.find name_cmp n (map (λ x. (key x, f (value x))) xs))
       by true rest = refl
       by false rest = rest
-
-  -- a function at each value of a list's map
-  pub map_values-keyed : {W : Type 0} (f : V → W) (xs : List X) → map_values f (keyed key value xs) ≡ keyed key (λ x. f (value x)) xs
-  map_values-keyed f xs = same_map_by _ _ (λ n.
-      get-map_values f (keyed key value xs) n ∙ ap (option_map f) (get-keyed key value xs n) ∙ find-mapped f xs n
-      ∙ sym (get-keyed key (λ x. f (value x)) xs n))
 
   none_kept : (p : X → Bool) (n : Name) (xs : List X) → place_by key n xs ≡ None → fin.get (keyed key value (filter p xs)) n ≡ None
   none_kept p n xs none = get-absent key value n (filter p xs) (sym (none-filter key p n xs none))

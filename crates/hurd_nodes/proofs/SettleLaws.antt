@@ -234,18 +234,6 @@ module _ (o : Outside) (h : NodeState) (rests : sweep o h ≡ h) where
   kept_passes : {X : Type 0} (m : NameMap X) (p : Name → Bool) → fin.retain_keys m p ≡ m → (n : Name) (x : X) → fin.get m n ≡ Some x → p n ≡ true
   kept_passes m p same n x is = (kept-is m p n x (ap (λ (k : NameMap _). fin.get k n) same ∙ is)).0
 
-  pub rests-node : (n : Name) (x : Node) → fin.get h.nodes n ≡ Some x → node_stays o h n ≡ true
-  rests-node = kept_passes h.nodes (node_stays o h) (ap (λ (k : NodeState). k.nodes) rests)
-
-  pub rests-home : (n s : Name) → fin.get h.homes n ≡ Some s → node_stays o h n ≡ true
-  rests-home = kept_passes h.homes (node_stays o h) (ap (λ (k : NodeState). k.homes) rests)
-
-  pub rests-active : (n s : Name) → fin.get h.actives n ≡ Some s → node_stays o h n ≡ true
-  rests-active = kept_passes h.actives (node_stays o h) (ap (λ (k : NodeState). k.actives) rests)
-
-  pub rests-server : (s : Name) (i : ServerInfo) → fin.get h.servers s ≡ Some i → server_stays o h s ≡ true
-  rests-server = kept_passes h.servers (server_stays o h) (ap (λ (k : NodeState). k.servers) rests)
-
 -- on the way: nothing was taken out that is left in the end
 pub record IsOnTheWay (o : Outside) (start now : NodeState) : Type 0 where
   pub part : IsPart now start
@@ -304,17 +292,3 @@ settled o h r is = settled-one o h r (settle o h) is (settle-is o h)
 -- where all stay, nothing goes
 pub settle-rests : (o : Outside) (h : NodeState) → sweep o h ≡ h → settle o h ≡ h
 settle-rests o h stays = sym (settled o h h (record { part = part-itself h; stays = stays; most = λ q part all. part }))
-
--- settled once is settled
-pub settle-twice : (o : Outside) (h : NodeState) → settle o (settle o h) ≡ settle o h
-settle-twice o h = settle-rests o (settle o h) (settle-is o h).stays
-
--- what is taken out first, of what doesn't stay, changes nothing of the end
-pub settle-taken : (o : Outside) (h k : NodeState) → IsPart k h → IsPart (sweep o h) k → settle o k ≡ settle o h
-settle-taken o h k less kept =
-    let i = settle-is o k in
-    settled o h (settle o k) (record {
-      part = part-through (settle o k) k h i.part less;
-      stays = i.stays;
-      most = λ q part stays. i.most q (part-through q (sweep o h) k (rw stays at (sweep-mono o q h part)) kept) stays;
-    })

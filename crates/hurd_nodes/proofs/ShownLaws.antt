@@ -130,16 +130,6 @@ pub header_in-attrs_of : (o : Option Node) → option_map header_in (option_map 
 header_in-attrs_of None = refl
 header_in-attrs_of (Some x) = refl
 
--- what has attributes is there, and they are its own
-pub attrs-there : (o : Option Node) (a : Attrs) → Some a ≡ option_map attrs_of o → (x : Node) × (o ≡ Some x) × (a ≡ attrs_of x)
-attrs-there None a is = absurd (cc)
-attrs-there (Some x) a is = (x, refl, cc)
-
--- and where there are none, nothing is there
-pub attrs-nowhere : (o : Option Node) → None ≡ option_map attrs_of o → o ≡ None
-attrs-nowhere None is = refl
-attrs-nowhere (Some x) is = absurd (cc)
-
 -- the root of its server
 pub root-told : (h : NodeState) (n : Name) (i : ServerInfo) → server_of h n ≡ Some i → is_root h n ≡ same_name n i.root
 root-told h n i is = by (fin.get h.homes n) is

@@ -6,16 +6,15 @@ use Rattle.std.specs.List.{list_any}
 use Rattle.std.specs.Map.{values_of}
 use Rattle.std.specs.FinMap as fin
 use Rattle.hurd_creds.specs.declared.name.Name.{Name}
-use Rattle.hurd_creds.specs.declared.attrs.Attrs.{Attrs}
 use Rattle.hurd_creds.specs.Names.{same_name}
 use Rattle.hurd_creds.specs.NameMaps.{NameMap, place_by}
 use Rattle.hurd_creds.proofs.KeyedLaws.{get-absent}
 use Rattle.hurd_creds.proofs.MapLaws.{get-map_values}
-use Rattle.hurd_trans_iface.specs.Nodes.{Node, attrs_of, is_entered, is_entered_at}
+use Rattle.hurd_trans_iface.specs.Nodes.{Node, is_entered_at}
 use Rattle.hurd_trans_iface.specs.Meaning.{Meaning}
 use Rattle.hurd_nodes.specs.declared.seat.Seat.{Seat}
 use Rattle.hurd_nodes.specs.Held.{AreApart, Seated, box_by, home_key, home_value, homes_of, is_home, mean, mean_seat, row_value, seat_key, seat_value, seats_of}
-use Rattle.hurd_nodes.specs.Shown.{NodeState, ServerInfo, flat, header_in, info_in, info_of, node_in, server_of, servers_of}
+use Rattle.hurd_nodes.specs.Shown.{NodeState, ServerInfo, flat, info_in, info_of, node_in, server_of, servers_of}
 use Rattle.hurd_nodes.specs.Settle.{Outside, any_in, node_stays, server_stays, stays_by, stays_with, sweep}
 use Rattle.hurd_nodes.specs.Look.{HomedStay, ServersStay}
 use Rattle.hurd_nodes.proofs.SeatLaws.{seat-found, seat-is}
@@ -85,15 +84,6 @@ all-kept f homes actives ss o kept no_active serves =
     sweep-none o h
     (λ n x is. let at = node_home seats n (fin.get (homes_of homes) n) x (sym (get-nodes (homes_of homes) seats n) ∙ is) in kept n at.0 at.1)
     kept (homes-stay actives (node_stays o h) no_active) serves
-
--- a node's attributes tell whether an entry names it
-pub entered-told : (o : Option Node) (a : Attrs) → Some a ≡ option_map attrs_of o → is_entered (header_in a) ≡ is_entered_at o
-entered-told None a is = absurd (cc)
-entered-told (Some x) a is = let e : a ≡ attrs_of x = cc in rw e refl
-
-pub entered-untold : (o : Option Node) → None ≡ option_map attrs_of o → true ≡ is_entered_at o
-entered-untold None is = refl
-entered-untold (Some x) is = absurd (cc)
 
 -- what is known of a node's server
 pub info-seated : (homes : NameMap Name) (seats : NameMap (Seated Meaning)) (n s : Name) (e : Seated Meaning) → fin.get homes n ≡ Some s → fin.get seats s ≡ Some e → server_of (seen homes seats) n ≡ Some (info_of e)

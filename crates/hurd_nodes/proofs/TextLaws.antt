@@ -1,5 +1,5 @@
 -- What is shown after a server took other options.
-use Rattle.std.proofs.Common.{◌≡◌, ◌≢◌, ◌⊎◌, inl, inr, ℕ, Bool, true, false, cond, List, [], ◌∷◌, map, refl, sym, ◌∙◌, ap, ap₂, subst}
+use Rattle.std.proofs.Common.{◌≡◌, inl, inr, ℕ, Bool, true, false, cond, List, [], ◌∷◌, refl, sym, ◌∙◌, ap, ap₂, subst}
 use Rattle.std.specs.Prelude.{Option, Some, None, Result, Ok, Err, is_some}
 use Rattle.std.specs.Option.{option_map}
 use Rattle.std.specs.List.{list_any}
@@ -40,32 +40,6 @@ own-listed : (s q : Name) (homes : NameMap Name) → is_listed q (own_nodes s ho
 own-listed s q homes =
     let own = λ (n : Name). is_home s (fin.get homes n) in
     sym (fin.contains_key-keys (fin.retain_keys homes own) q) ∙ ap (λ (o : Option Name). is_some o) (get-kept homes own q) ∙ is_kept s (fin.get homes q)
-
--- where one node alone has this home, it is the only one
-pub own-lone : (s root : Name) (homes : NameMap Name) → fin.get homes root ≡ Some s → ((n : Name) → fin.get homes n ≡ Some s → n ≡ root) → own_nodes s homes ≡ root ∷ []
-own-lone s root homes home lone =
-    ap (λ (m : NameMap Name). fin.keys m) (same_map_by (fin.retain_keys homes own) (fin.from_sorted one) (λ q. get-kept homes own q ∙ by q (same_or_apart q root)))
-    ∙ ap (λ (es : List (Name × Name)). map (λ (e : Name × Name). e.0) es) (fin.entries-from_sorted name_cmp one tt)
-  where
-    own : Name → Bool
-    own n = is_home s (fin.get homes n)
-
-    one : List (Name × Name)
-    one = (root, s) ∷ []
-
-    found : (q : Name) → fin.get (fin.from_sorted {R = name_cmp} one) q ≡ cond (eq_by_cmp name_cmp q root) (Some s) None
-    found q = fin.get-from_sorted name_cmp one q tt
-
-    other : (q : Name) → q ≢ root → (o : Option Name) → fin.get homes q ≡ o → cond (is_home s o) o None ≡ None
-    other q apart None is = refl
-    other q apart (Some p) is = elim (same_or_apart p s) [
-      | inl here ↦ absurd (apart (lone q (is ∙ ap Some here)))
-      | inr apart ↦ rw (same_name-apart s p (λ e. apart (sym e))) refl
-    ]
-
-    by : (q : Name) → (q ≡ root) ⊎ (q ≢ root) → cond (own q) (fin.get homes q) None ≡ fin.get (fin.from_sorted {R = name_cmp} one) q
-    by q (inl here) = rw (here, home, same_name-itself s) (sym (found root ∙ ap (λ (b : Bool). cond b (Some s) None) (tied-itself root)))
-    by q (inr apart) = other q apart (fin.get homes q) refl ∙ sym (found q ∙ ap (λ (b : Bool). cond b (Some s) None) (tied-apart q root apart))
 
 -- nodes that get a size
 

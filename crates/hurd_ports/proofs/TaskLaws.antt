@@ -79,17 +79,6 @@ module _ (q : ℕ) (f : Task → Task) (ts : List Task) where
       go None = refl
       go (Some x) = length-set ts q (f x)
 
-  -- a task after the change is the changed one, or one that was there before in its place
-  pub edit-cases : (i : ℕ) (z : Task) → slice_get (edit_task q f ts) i ≡ Some z → ((i ≡ q) × (x : Task) × (slice_get ts q ≡ Some x) × (z ≡ f x)) ⊎ (slice_get ts i ≡ Some z)
-  edit-cases i z is = elim (one_or_other i q) [
-    | inl e ↦ let was = from (slice_get ts q) (sym edit-here ∙ ap (slice_get (edit_task q f ts)) (sym e) ∙ is) in inl (e, was.0, was.1, was.2)
-    | inr apart ↦ inr (sym (edit-apart i apart) ∙ is)
-  ]
-    where
-      from : (o : Option Task) → option_map f o ≡ Some z → (x : Task) × (o ≡ Some x) × (z ≡ f x)
-      from None h = absurd (cc)
-      from (Some x) h = (x, refl, cc)
-
 -- one change after another of a task that is there
 pub edit-edit : (q : ℕ) (f g : Task → Task) (ts : List Task) (x : Task) → slice_get ts q ≡ Some x → edit_task q f (edit_task q g ts) ≡ slice_set ts q (f (g x))
 edit-edit q f g ts x at =

@@ -1,8 +1,7 @@
 -- What a script has printed.
-use Rattle.std.proofs.Common.{◌≡◌, ◌≢◌, ◌<◌, nat_lt, Bool, true, false, ℕ, zero, suc, List, [], ◌∷◌, ◌++◌, Option, Some, None, Result, Ok, Err, refl, inl, inr, sym, ◌∙◌, ap, subst, append_assoc, append-nil, length, arith}
+use Rattle.std.proofs.Common.{◌≡◌, ◌≢◌, ◌<◌, nat_lt, Bool, true, false, ℕ, zero, suc, List, [], ◌++◌, Option, Some, None, Result, Ok, Err, refl, inl, inr, sym, ◌∙◌, ap, subst, append_assoc, append-nil, length, arith}
 use Rattle.std.proofs.KnownBytes.{Appends-nil, Appends-trans}
 use Rattle.std.proofs.lemmas.Bool.{lt-ltb}
-use Rattle.std.proofs.lemmas.List.Folds.{concat-append}
 use Rattle.std.specs.Io.KnownBytes.{Appends}
 use Rattle.std.specs.List.{concat}
 use Rattle.std.specs.Option.{option_map}
@@ -11,12 +10,9 @@ use Rattle.hurd_trans_iface.specs.Meaning.{Meaning, begin}
 use Rattle.hurd_kinds.specs.Boxes.{box_meaning}
 use Rattle.hurd_kinds.specs.declared.server_box.ServerBox.{ServerBox}
 use Rattle.hurd_script.specs.Script.{most_bytes}
-use Rattle.hurd_shell.specs.Faults.{fault_of}
-use Rattle.hurd_shell.specs.Session.{Answers, Begun, NewFault, Takes, Tells, TakesUnlessFailed, View, has_failed, left_in, waits_for}
+use Rattle.hurd_shell.specs.Session.{Answers, Begun, Takes, Tells, TakesUnlessFailed, View, has_failed, left_in}
 use Rattle.hurd_shell.specs.Transcript.{AsksFor, Dialogue, Maker, Part, ends, tells, wants, out_by, parts_by, parts_of}
-use Rattle.hurd_shell.specs.declared.fault.SessionFault.{SessionFault}
 use Rattle.hurd_shell.specs.declared.fault.SessionFault.TheVariants as session
-use Rattle.hurd_shell.specs.declared.session.Want.{Want}
 use Rattle.hurd_shell.specs.declared.session.Want.TheVariants as want
 use Rattle.hurd_terminal.specs.Faults.{AppendsFront, IsFront, IsPrintFault}
 use Rattle.hurd_terminal.specs.Runs.{Prints}
@@ -41,12 +37,6 @@ not_begun script Write none = absurd none
 not_begun script (Bad line) none = (none, refl)
 not_begun script (Boot e) none = (none.0, none.1, refl)
 not_begun script Memory none = inl refl
-
--- no session of a script
-pub no_session : (m : Meaning) (script : List ℕ) (e : SessionFault) → NewFault m script e → NotBegun m script (fault_of e)
-no_session m script (session.BadScript line) none = none
-no_session m script (session.Boot e) none = none
-no_session m script session.Memory none = tt
 
 -- a fault that stops the printing of what was begun is no fault of reading, and `Write` only where a write failed
 pub print_reads : {W : Type 0} (output : Output W) (ended : Result (Unit {0}) Fault) (fault : Fault) → ended ≡ Err fault → IsPrintFault output fault → ended ≢ Err Read
@@ -137,10 +127,6 @@ no_parts_by make d same = ap (λ (e : Dialogue). concat (parts_by make e)) same
 pub front_more : (all done next left : List ℕ) → all ≡ done ++ (next ++ left) → IsFront (done ++ next) all
 front_more all done next left split = (left, split ∙ sym (append_assoc done next left))
 
--- all that was to be printed is a front of it
-pub all_is_front : (before after : Option (List ℕ)) (all : List ℕ) → Appends before after all → AppendsFront before after all
-all_is_front before after all printed = (all, ([], sym (append-nil all)), printed)
-
 -- what there is to print
 fine_prints : {S : Type 0} (f : S → Meaning) (s : View S) → has_failed s ≡ false → to_print f s ≡ front (left_in f s)
 fine_prints f s fine = ap (λ (q : Bool). if q then [] else front (left_in f s)) fine
@@ -178,10 +164,6 @@ pub part_cut : {S : Type 0} (f : S → Meaning) (a b c : Option (List ℕ)) (sta
 part_cut f a b c start old new part so_far fine told cut =
     front_follows a b c (to_print f start) so_far.done part
     (front_more (to_print f start) so_far.done part (to_print f new) (splits_on f start old new part so_far.done so_far.splits fine told)) so_far.appends cut
-
--- no more is told
-pub told_stops : {S : Type 0} (f : S → Meaning) (a b : Option (List ℕ)) (start s : View S) → ToldSoFar f a b start s → AppendsFront a b (to_print f start)
-told_stops f a b start s so_far = (so_far.done, (to_print f s, so_far.splits), so_far.appends)
 
 told_all : {S : Type 0} (f : S → Meaning) (a b : Option (List ℕ)) (start s : View S) (so_far : ToldSoFar f a b start s) → to_print f s ≡ [] → Appends a b (to_print f start)
 told_all f a b start s so_far none =

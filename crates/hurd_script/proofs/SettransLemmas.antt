@@ -7,7 +7,7 @@ use Rattle.std.specs.Str.{bytes_eq, chars}
 use Rattle.std.proofs.lemmas.Bool.{and_parts, and_right, eq-eqb, eqb-true, or_parts}
 use Rattle.std.proofs.lemmas.List.{map-append}
 use Rattle.std.proofs.lemmas.List.Folds.{find-append}
-use Rattle.clap.specs.Words.{App, Row, Rule, Shape, Text, built, fault_of, matches_of, one_of}
+use Rattle.clap.specs.Words.{App, Row, Rule, Shape, Text, built, matches_of, one_of}
 use Rattle.clap.specs.Faults.{check_fault, default_fault, defaults_fault, entered_fault, flags_fault, settle_fault, turn_fault, walk_fault}
 use Rattle.clap.specs.Kinds.{Kinds, or_else}
 use Rattle.clap.specs.Simple.{entered, filled, with_index}
@@ -32,9 +32,6 @@ rules = built_node ∷ map built_flag (codes "apcxgkfo")
 
 abbrev shape : Shape
 shape = (built settrans_app).top
-
-rules_are : shape.rules ≡ rules
-rules_are = refl
 
 -- the row of a flag that is there, and of one that is not
 abbrev true_row : ℕ → Row
@@ -335,9 +332,6 @@ fault_at_end end walking =
     (or_else (entered_fault app end.stopped)
     (or_else (settle_fault rules false end.held)
     (or_else (defaults_fault (settled rules end.held).rows rules) (check_fault shape (finished rules end.held) (is_some (entered app end.stopped))))))
-
-fault_is : (ws : List Text) → fault_of settrans_app ws ≡ fault_at_end (walk rules [] nothing_held ws) (walk_fault shape [] (walk_from nothing_held) ws)
-fault_is ws = refl
 
 rules_pass : (rows : List Row) → defaults_fault rows rules ≡ []
 unfolding defaults_fault

@@ -1,7 +1,6 @@
 -- What a session was given, or gave.
-use Rattle.std.proofs.Common.{◌≡◌, Bool, true, false, Option, Result, Ok, Err, OnOk, IfErr, refl, inl, inr}
-use Rattle.hurd_trans_iface.specs.Meaning.{Meaning}
-use Rattle.hurd_shell.specs.Session.{NotTaken, Takes, TakesUnlessFailed, View, has_failed, waits_for}
+use Rattle.std.proofs.Common.{◌≡◌, Bool, true, false, Ok, Err, refl}
+use Rattle.hurd_shell.specs.Session.{NotTaken, View, has_failed, waits_for}
 use Rattle.hurd_shell.specs.declared.fault.SessionFault.{SessionFault}
 use Rattle.hurd_shell.specs.declared.fault.SupplyFault.{SupplyFault}
 use Rattle.hurd_shell.specs.declared.fault.SupplyFault.TheVariants as supply
@@ -15,8 +14,3 @@ was_fine false x e stays = refl
 not_taken : {S : Type 0} (old new : View S) (e : SupplyFault) → NotTaken old e new → waits_for old ≡ true → has_failed new ≡ true
 not_taken old new supply.NotWanted not waits = absurd (let no = not.1 in cc)
 not_taken old new supply.Memory not waits = not
-
-pub takes_or_fails : {S E : Type 0} (f : S → Meaning) (old new : View S) (server : Option Meaning) (fault : E → SupplyFault) (result : Result (Unit {0}) E)
-    → OnOk result (Takes f old server new) → IfErr result (λ e. NotTaken old (fault e) new) → waits_for old ≡ true → TakesUnlessFailed f old server new
-takes_or_fails f old new server fault (Ok u) takes not waits = inr takes
-takes_or_fails f old new server fault (Err e) takes not waits = inl (not_taken old new (fault e) not waits)

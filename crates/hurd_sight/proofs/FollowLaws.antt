@@ -60,15 +60,6 @@ taken_left m (x ∷ es) fs (suc i) f = elim (or_cases (same_name m x.0) (is_foun
 taken_all : (m : Name) (es fs : Entries) (i : ℕ) → length es ≤ i → is_found m es ≡ true → is_found m (take i (es ++ fs)) ≡ true
 taken_all m es fs i past f = taken_left m es fs i (ap (is_found m) (take_all i es past) ∙ f)
 
-found_taken : (m : Name) (es : Entries) (i : ℕ) → is_found m (take i es) ≡ true → is_found m es ≡ true
-found_taken m [] zero f = f
-found_taken m [] (suc i) f = f
-found_taken m (x ∷ es) zero f = absurd (true≢false (sym f))
-found_taken m (x ∷ es) (suc i) f = elim (or_cases (same_name m x.0) (is_found m (take i es)) f) [
-  | inl here ↦ or_left (same_name m x.0) (is_found m es) here
-  | inr later ↦ or_right (same_name m x.0) (is_found m es) (found_taken m es i later)
-]
-
 -- an entry is found
 found_at : (es : Entries) (i : ℕ) (n : Name) (y : Why) → slice_get es i ≡ Some (n, y) → is_found n es ≡ true
 found_at [] i n y at = absurd (cc)

@@ -115,21 +115,6 @@ served_test {a} {b} h ids other n s t home told test x = go (fin.get h.servers s
             let info : p.0 ≡ i = same_some p.0 i (sym p.2 ∙ (ap (fin.get h.servers) it ∙ is)) in
             (test.1 (subst (Serves ids) (sym same) (subst (λ (j : ServerInfo). Serves ids j.ids) info p.3)), it)
 
-pub served_nowhere : (h : NodeState) (ids : IdSets) (n : Name) (a : Names) → None ≡ fin.get h.homes n → Adds (ServedAt h ids n) a a
-served_nowhere h ids n a home = adds_none a (λ m p. none m p.1)
-  where
-    none : (m : Name) → fin.get h.homes n ≡ Some m → ⊥
-    none m e = absurd (cc)
-
-pub served_gone : (h : NodeState) (ids : IdSets) (n s : Name) (a : Names) → Some s ≡ fin.get h.homes n → None ≡ option_map (λ (i : ServerInfo). i.ids) (fin.get h.servers s) → Adds (ServedAt h ids n) a a
-served_gone h ids n s a home gone = adds_none a (λ m p. none m p.0 p.1 p.2)
-  where
-    none : (m : Name) (i : ServerInfo) → fin.get h.homes n ≡ Some m → fin.get h.servers m ≡ Some i → ⊥
-    none m i there is =
-        let it : m ≡ s = same_some m s (sym there ∙ sym home) in
-        let at : fin.get h.servers s ≡ Some i = ap (fin.get h.servers) (sym it) ∙ is in
-        absurd (cc (gone, ap (option_map (λ (j : ServerInfo). j.ids)) at))
-
 -- the server that is active on a node that is owned
 
 -- the header that attributes are of
@@ -151,16 +136,3 @@ owned_test h ids n s x t told active test added = adds_as to from added
     from m p =
         let head : p.0 ≡ there.0 = same_some p.0 there.0 (sym p.1 ∙ there.1) in
         (test ∙ (there.2 ids ∙ (ap (λ (y : Header). owns ids (bare y)) (sym head) ∙ p.3)), same_some m s (sym p.2 ∙ sym active))
-
-pub owned_nowhere : (h : NodeState) (ids : IdSets) (n : Name) (a : Names) → None ≡ option_map attrs_of (fin.get h.nodes n) → Adds (OwnedAt h ids n) a a
-owned_nowhere h ids n a gone = adds_none a (λ m p. none (fin.get h.nodes n) gone p.0 p.1)
-  where
-    none : (o : Option Node) → None ≡ option_map attrs_of o → (y : Header) → option_map (λ (z : Node). z.header) o ≡ Some y → ⊥
-    none None e y is = absurd (cc)
-    none (Some z) e y is = absurd (cc)
-
-pub owned_idle : (h : NodeState) (ids : IdSets) (n : Name) (a : Names) → None ≡ fin.get h.actives n → Adds (OwnedAt h ids n) a a
-owned_idle h ids n a idle = adds_none a (λ m p. none m p.2)
-  where
-    none : (m : Name) → fin.get h.actives n ≡ Some m → ⊥
-    none m e = absurd (cc)

@@ -153,12 +153,6 @@ below h ids d ns a b searched told c =
     (λ n y p. (it.0, it.1, it.2, it.3, (p.2.0, p.0, p.2.1)))
     (λ n y p. (p.4.1, named p.4.1 n (body_of h.nodes d) ns told p.4.2, (p.4.0, p.4.2))) c
 
-pub not_searched : (h : NodeState) (ids : IdSets) (d : Name) (a : Entries) → false ≡ searched_by ids (header_of h.nodes d) → Collects (OfChild h ids d) a a
-not_searched h ids d a told = collects_none a (λ n y p. none p.0 p.1 p.2 p.3)
-  where
-    none : (x : Header) → header_of h.nodes d ≡ Some x → x.kind ≡ Dir → could_with ids (bare x) Exec ≡ true → ⊥
-    none x is dir could = true≢false (sym (told ∙ (ap (searched_by ids) is ∙ rw (dir, could) refl)))
-
 pub no_names : (h : NodeState) (ids : IdSets) (d : Name) (e : Errno) (a : Entries) → names_of (body_of h.nodes d) ≡ Err e → Collects (OfChild h ids d) a a
 no_names h ids d e a told = collects_none a (λ n y p. none n p.4.1 (body_of h.nodes d) told p.4.2)
   where

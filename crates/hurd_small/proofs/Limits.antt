@@ -6,19 +6,14 @@ use Rattle.std.proofs.lemmas.Bool.Decides.{nat_tests}
 use Rattle.std.proofs.lemmas.List.{length-take, length-drop}
 use Rattle.std.proofs.lemmas.Slice.Eq.{bytes_eq-Decides}
 use Rattle.hurd_trans_iface.specs.HelloKind.{hello_text, most_text}
-use Rattle.hurd_trans_iface.specs.SymlinkKind.{most_path}
-use Rattle.hurd_trans_iface.specs.Meaning.{Hello, Symlink, options_of}
+use Rattle.hurd_trans_iface.specs.Meaning.{Hello}
 use Rattle.hurd_trans_iface.specs.Words.{IsWithinLimits}
-use Rattle.hurd_trans_iface.proofs.Options.{two-within}
 pub use Rattle.hurd_trans_iface.proofs.Options.{hello-within}
 use Rattle.hurd_small.specs.Lone.{text_as}
 use Rattle.hurd_small.proofs.Beginnings.{said_if}
 
 within-two : (v w : List ℕ) → IsWithinLimits (v ∷ w ∷ []) → length v + length w ≤ 4096
 within-two v w within = let few : nat_le (0 + length v + length w) 4096 ≡ true = within in grind (arith, nat_tests)
-
-pub symlink-within : (text : List ℕ) → length text ≤ most_path → IsWithinLimits (options_of Symlink text)
-symlink-within text short = two-within (codes "/hurd/symlink") text (omega arith)
 
 -- what is behind the first bytes of a word
 behind-short : (b : Bool) (first word text : List ℕ) → bytes_eq (take (length first) word) first ≡ b

@@ -1,18 +1,14 @@
 -- What was printed.
 use Rattle.std.proofs.Common.{◌≡◌, ℕ, ◌-◌, List, [], ◌++◌, length, take, drop, Option, sym, ◌∙◌, ap, subst, append_assoc, append-nil, take-append-drop}
 use Rattle.std.proofs.lemmas.List.{take_rest}
-use Rattle.std.proofs.KnownBytes.{Appends-trans, Appends-kept}
-use Rattle.std.specs.Io.KnownBytes.{Appends, Keeps}
+use Rattle.std.proofs.KnownBytes.{Appends-trans}
+use Rattle.std.specs.Io.KnownBytes.{Appends}
 use Rattle.hurd_terminal.specs.Faults.{AppendsFront, IsFront}
 
 -- so many bytes of the rest were printed behind a front
 pub front_grows : (all front rest : List ℕ) (n : ℕ) → all ≡ front ++ rest → all ≡ (front ++ take n rest) ++ take (length rest - n) (drop n rest)
 front_grows all front rest n split =
     split ∙ (ap (λ bs. front ++ bs) (sym (take-append-drop n rest)) ∙ (sym (append_assoc front (take n rest) (drop n rest)) ∙ ap (λ bs. (front ++ take n rest) ++ bs) (sym (take_rest rest n))))
-
--- a front was printed, and then nothing
-pub front_stays : (a b c : Option (List ℕ)) (all front rest : List ℕ) → all ≡ front ++ rest → Appends a b front → Keeps b c → AppendsFront a c all
-front_stays a b c all front rest split printed kept = (front, (rest, split), Appends-kept a b c front printed kept)
 
 -- all was printed once nothing is left
 pub all_printed : (a b : Option (List ℕ)) (all front rest : List ℕ) → all ≡ front ++ rest → rest ≡ [] → Appends a b front → Appends a b all

@@ -1,5 +1,5 @@
 -- Which nodes an entry names, before and after changes of the nodes, and what is on a list.
-use Rattle.std.proofs.Common.{◌≡◌, ◌≢◌, inl, inr, ◌||◌, ℕ, ◌+◌, Bool, true, false, true≢false, List, ◌∷◌, get_or, is_some, refl, ap, sym, ◌∙◌, if◌then◌else◌, arith}
+use Rattle.std.proofs.Common.{◌≡◌, ◌≢◌, inl, inr, ◌||◌, ℕ, Bool, true, false, true≢false, List, ◌∷◌, get_or, is_some, refl, ap, sym, ◌∙◌, if◌then◌else◌}
 use Rattle.std.specs.Prelude.{Option, Some, None, IfSome, Result, Ok, Err, nat_lt, cond}
 use Rattle.std.specs.Option.{option_map}
 use Rattle.std.specs.Global.{Vec}
@@ -7,7 +7,6 @@ use Rattle.std.specs.List.{swap_remove}
 use Rattle.std.specs.FinMap as fin
 use Rattle.std.proofs.lemmas.List.{get_or_default}
 use Rattle.std.proofs.lemmas.List.Sorted.{IsPermutation-swap_remove, list_any-IsPermutation}
-use Rattle.std.proofs.lemmas.Bool.Decides.{nat_tests}
 use Rattle.hurd_creds.specs.Memory.{Steps, lacks_memory}
 use Rattle.hurd_creds.specs.Names.{name_cmp, same_name}
 use Rattle.hurd_creds.specs.NameMaps.{edit}
@@ -37,14 +36,6 @@ listed-less n ns i x at is q apart on =
     ∙ on
 
 -- headers
-
--- with an entry more
-pub linked-enters : (h : Header) → is_entered h ≡ true → is_entered (linked h) ≡ true
-linked-enters h is = go (is_dir h.kind) h.links is
-  where
-    go : (b : Bool) (k : ℕ) → (if b then is_some h.parent else nat_lt 0 k) ≡ true → (if b then is_some h.parent else nat_lt 0 (k + 1)) ≡ true
-    go true k e = e
-    go false k e = grind (arith, nat_tests)
 
 -- below another directory
 pub moved-enters : (dir : Name) (h : Header) → is_entered h ≡ true → is_entered (moved_to dir h) ≡ true

@@ -1,5 +1,5 @@
 -- The bytes of a word, and the words of a line.
-use Rattle.std.proofs.Common.{if◌then◌else◌, ℕ, ◌≡◌, ◌≢◌, ◌≤◌, ◌<◌, ◌+◌, ◌++◌, ◌∷◌, [], List, Option, Some, None, Bool, true, false, refl, sym, ◌∙◌, ap, append-nil, drop, get_or, is_none, length}
+use Rattle.std.proofs.Common.{if◌then◌else◌, ℕ, ◌≡◌, ◌≢◌, ◌≤◌, ◌<◌, ◌+◌, ◌++◌, ◌∷◌, [], List, Option, Some, None, true, false, refl, sym, ◌∙◌, ap, append-nil, drop, get_or, is_none, length}
 use Rattle.std.proofs.lemmas.List.{at_drop_all, at_drop_more}
 use Rattle.std.proofs.lemmas.Bool.{eq-eqb, ne_eqb, or_parts}
 use Rattle.hurd_words.specs.Words.{Spelling, escape_code, has_hidden_byte, is_hidden, onto, text_after}
@@ -30,10 +30,6 @@ escape_taken b code text new rest e n =
 
 pub escape_refused : (b : ℕ) (rest : List ℕ) → None ≡ escape_code b → text_after true (b ∷ rest) ≡ None
 escape_refused b rest e = at_escape b rest ∙ ap (λ (o : Option ℕ). onto o (text_after false rest)) (sym e)
-
--- the end of a word
-text_ended : (text word : List ℕ) (i : ℕ) (escaped : Bool) → length word ≤ i → behind text (text_after escaped (drop i word)) ≡ behind text (text_after escaped [])
-text_ended text word i escaped h = ap (behind text) (at_drop_all (text_after escaped) word i h)
 
 none_where_none : {X : Type 0} (o : Option X) → (if is_none o then None else o) ≡ o
 none_where_none None = refl
