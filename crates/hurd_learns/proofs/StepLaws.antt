@@ -11,7 +11,7 @@ use Rattle.hurd_sight.specs.Reach.{among}
 use Rattle.hurd_sight.specs.Views.{Views}
 use Rattle.hurd_sight.specs.declared.view.View as sight
 use Rattle.hurd_lessons.specs.Told.{Lesson, Taught, counted}
-use Rattle.hurd_lessons.specs.Watched.{Learns, SeenOf, SeesOr}
+use Rattle.hurd_lessons.specs.Watched.{LearnedSince, Learns, SeenOf, SeesOr}
 use Rattle.hurd_lessons.specs.declared.tally.Tally.{Tally}
 use Rattle.hurd_learns.specs.Steps.{Asks, Looked, Makes, SaysOf, is_own}
 
@@ -52,6 +52,7 @@ module _ {S : Type 0} (f : S → Meaning) (tasks : List TaskId) (s : View S) whe
 
   -- what others did taught what is said
   taught_by : (who : List ℕ) (w x : World) (after kept : Option sight.View) (said : List ℕ) → (after ≡ None → ⊥) → SeenOf tasks w after → Learns tasks who x after kept said → Taught tasks who w x said
+  unfolding LearnedSince
   taught_by who w x None kept said some seen learns = absurd (some refl)
   taught_by who w x (Some a) kept said some seen learns = (a, learns.view, seen, learns.sees, learns.learned)
 

@@ -16,7 +16,7 @@ SeesOr tasks w None seen = Sees tasks w seen
 SeesOr tasks w (Some v) seen = seen ≡ Some v
 
 -- what is learned since there was a look, if there was one
-abbrev pub LearnedSince : List ℕ → Option View → View → List ℕ → Type 0
+unfoldable pub LearnedSince : List ℕ → Option View → View → List ℕ → Type 0
 LearnedSince who None b text = text ≡ []
 LearnedSince who (Some a) b text = Lessons who a b text
 
