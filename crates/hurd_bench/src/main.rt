@@ -58,29 +58,57 @@ fn work_on<S: Server>(
     Ok(())
 }
 
-/// Whether the work has gone on for so long that it ends; never where no times are printed.
-fn is_enough(rt: &impl Clock, row: &Row, asked: Asked) -> Result<bool, Fault> {
+/// Makes the directories and does what is done before servers come; then their row begins.
+fn before_servers<S: Server>(
+    rt: &(impl Clock + Print),
+    tree: &mut Tree<S>,
+    asked: Asked,
+) -> Result<Row, Fault> {
+    tree.make_directories(asked.files.directories())?;
+    work_on(rt, tree, &Work::BEFORE_SERVERS, asked)?;
+    Row::begin(rt, Work::Serve)
+}
+
+/// Puts one server more, which some words made, behind a file; whether the work has gone on for so long that it ends, which it never has where no
+/// times are printed.
+fn serve_one<S: Server>(
+    rt: &impl Clock,
+    tree: &mut Tree<S>,
+    row: &mut Row,
+    number: usize,
+    server: S,
+    asked: Asked,
+) -> Result<bool, Fault>
+    requires { Begins (S.meaning server) }
+{
+    tree.serve(number, server)?;
+    row.add(1);
     Ok(asked.timed && row.took(rt)?.as_secs() >= LONG_ENOUGH)
+}
+
+/// The row of servers ends, and names are taken away.
+fn behind_servers<S: Server>(
+    rt: &(impl Clock + Print),
+    tree: &mut Tree<S>,
+    row: Row,
+    asked: Asked,
+) -> Result<(), Fault> {
+    row.print(rt, asked.timed)?;
+    work_on(rt, tree, &[Work::Unlink], asked)
 }
 
 /// Does each kind of work, and prints its row. The names are taken away last, so that servers come into a full tree.
 fn measure(rt: &(impl Clock + Print), alloc: Global, asked: Asked) -> Result<(), Fault> {
-    let files = asked.files;
     let boot: Box<dyn Server> = empty_tree(alloc).map_err(Errno::from)?;
     let mut tree = Tree::begin(alloc, boot)?;
-    tree.make_directories(files.directories())?;
-    work_on(rt, &mut tree, &Work::BEFORE_SERVERS, asked)?;
-    let mut row = Row::begin(rt, Work::Serve)?;
-    for number in (0..files.count).step_by(files.stride(Work::Serve)) {
+    let mut row = before_servers(rt, &mut tree, asked)?;
+    for number in (0..asked.files.count).step_by(asked.files.stride(Work::Serve)) {
         let server: Box<dyn Server> = hello(alloc)?;
-        tree.serve(number, server)?;
-        row.add(1);
-        if is_enough(rt, &row, asked)? {
+        if serve_one(rt, &mut tree, &mut row, number, server, asked)? {
             break;
         }
     }
-    row.print(rt, asked.timed)?;
-    work_on(rt, &mut tree, &[Work::Unlink], asked)
+    behind_servers(rt, &mut tree, row, asked)
 }
 
 /// The whole program, up to the first fault.

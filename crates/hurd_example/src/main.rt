@@ -23,21 +23,46 @@ fn hello(alloc: Global) -> Result<Box<Hello>, Errno>
     Box::new(alloc, Hello::new(alloc, &words)?).map_err(|_| Errno::ENOMEM)
 }
 
-/// What alice is told: the notice, why she may not write it, and what the server gives.
-fn tour(alloc: Global) -> Result<(String, Option<Errno>, String), Errno> {
-    let boot: Box<dyn Server> = empty_tree(alloc)?;
-    let mut tree = Tree::begin(alloc, boot)?;
+/// What alice is told.
+#[derive(Drop)]
+struct Told {
+    notice: String,
+    /// Why she may not write the notice.
+    refusal: Option<Errno>,
+    greeting: String,
+}
+
+/// root writes the notice and puts a server behind a second file; alice reads both.
+fn visit<S: Server>(tree: &mut Tree<S>, server: S) -> Result<Told, Errno>
+    requires { Begins (S.meaning server) }
+{
     tree.write(ROOT, "notice", "Closed on Mondays")?;
     let notice = tree.read(ALICE, "notice")?;
     let refusal = tree.open(ALICE, "notice", OpenFlags::WRITE).err();
-    let hello: Box<dyn Server> = hello(alloc)?;
-    tree.attach(ROOT, "greeting", hello)?;
-    Ok((notice, refusal, tree.read(ALICE, "greeting")?))
+    tree.attach(ROOT, "greeting", server)?;
+    let greeting = tree.read(ALICE, "greeting")?;
+    Ok(Told {
+        notice,
+        refusal,
+        greeting,
+    })
+}
+
+/// Begins a tree, and what is done in it.
+fn tour(alloc: Global) -> Result<Told, Errno> {
+    let server: Box<dyn Server> = hello(alloc)?;
+    let boot: Box<dyn Server> = empty_tree(alloc)?;
+    let mut tree = Tree::begin(alloc, boot)?;
+    visit(&mut tree, server)
 }
 
 fn main(rt: HostRuntime) -> io::Result<()> {
     match tour(rt.alloc()) {
-        Ok((notice, refusal, greeting)) => {
+        Ok(Told {
+            notice,
+            refusal,
+            greeting,
+        }) => {
             println!(rt; "notice: {notice}")?;
             println!(rt; "to write it: {}", refusal.map_or("done", Errno::name))?;
             println!(rt; "greeting: {greeting}")

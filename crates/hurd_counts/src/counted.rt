@@ -1,6 +1,4 @@
-//! A server for tests that counts what becomes of it: how often it is told that it is sent away, and how often it is dropped.
-#![tactic(auto)]
-
+//! A server that counts what becomes of it: how often it is told that it is sent away, and how often it is dropped.
 ghost use Rattle.std.specs.Prelude.{◌≡◌, IfErr, IfOk};
 ghost use Rattle.hurd_creds.specs.declared.errno.Errno.TheVariants.{ENOMEM};
 
@@ -42,9 +40,14 @@ impl Counts {
         })
     }
 
-    /// So many were told, and so many dropped.
-    pub fn are(&self, sent_away: u32, dropped: u32) -> bool {
-        self.sent_away.get() == sent_away && self.dropped.get() == dropped
+    /// How many were told.
+    pub fn sent_away(&self) -> u32 {
+        self.sent_away.get()
+    }
+
+    /// How many were dropped.
+    pub fn dropped(&self) -> u32 {
+        self.dropped.get()
     }
 
     /// A server that counts here what becomes of it, and else is this one. Errors: `ENOMEM`, and the server is dropped.

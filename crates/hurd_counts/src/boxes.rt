@@ -1,0 +1,84 @@
+//! The boxes of a run, numbered as they come, and what became of each.
+ghost use Rattle.std.specs.Prelude.{◌≡◌, IfOk};
+
+use crate::counted::{Counted, Counts};
+use hurd_terminal::{Fault, Output};
+use hurd_trans_iface::Server;
+use std::alloc::Global;
+use std::io::Write;
+
+/// What became of a box, and what of that was said.
+#[derive(Drop)]
+struct Followed {
+    counts: Counts,
+    sent_away: u32,
+    dropped: u32,
+}
+
+/// The boxes of a run; the first is the boot server's.
+#[derive(Drop)]
+pub struct Boxes {
+    boxes: Vec<Followed>,
+}
+
+impl Boxes {
+    /// None yet.
+    pub fn new(alloc: Global) -> Boxes {
+        Boxes {
+            boxes: Vec::new(alloc),
+        }
+    }
+
+    /// A server, followed from now on. `Memory`.
+    pub fn follow<S: Server>(&mut self, alloc: Global, server: S) -> Result<Counted<S>, Fault>
+        ensures { IfOk result (λ counted. counted.server ≡ server) }
+    {
+        self.boxes.reserve(1)?;
+        let Ok(counts) = Counts::new(alloc) else {
+            return Err(Fault::Memory);
+        };
+        let Ok(counted) = counts.counting(server) else {
+            return Err(Fault::Memory);
+        };
+        self.boxes.push_reserved(Followed {
+            counts,
+            sent_away: 0,
+            dropped: 0,
+        });
+        Ok(counted)
+    }
+
+    /// Prints a line for each box of which something became since this was said last.
+    ///
+    /// `Write`, `Memory`.
+    pub fn tell<W: Write>(&mut self, alloc: Global, output: &mut Output<W>) -> Result<(), Fault> {
+        for number in 0..self.boxes.len() {
+            if let Some(followed) = self.boxes.get_mut(number) {
+                followed.tell(alloc, number, output)?;
+            }
+        }
+        Ok(())
+    }
+}
+
+impl Followed {
+    /// Prints a line where something became of the box since this was said last.
+    ///
+    /// `Write`, `Memory`.
+    fn tell<W: Write>(
+        &mut self,
+        alloc: Global,
+        number: usize,
+        output: &mut Output<W>,
+    ) -> Result<(), Fault> {
+        let sent_away = self.counts.sent_away();
+        let dropped = self.counts.dropped();
+        if sent_away == self.sent_away && dropped == self.dropped {
+            return Ok(());
+        }
+        self.sent_away = sent_away;
+        self.dropped = dropped;
+        let line = format!(in alloc; "  box {number}: sent away {sent_away}, dropped {dropped}\n")?;
+        output.print(line.as_bytes())
+    }
+}
