@@ -58,11 +58,13 @@ fn tour(alloc: Global) -> Result<Told, Errno> {
 
 fn main(rt: HostRuntime) -> io::Result<()> {
     match tour(rt.alloc()) {
-        Ok(Told {
-            notice,
-            refusal,
-            greeting,
-        }) => {
+        Ok(
+            Told {
+                notice,
+                refusal,
+                greeting,
+            },
+        ) => {
             println!(rt; "notice: {notice}")?;
             println!(rt; "to write it: {}", refusal.map_or("done", Errno::name))?;
             println!(rt; "greeting: {greeting}")
