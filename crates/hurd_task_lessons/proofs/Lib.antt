@@ -1,0 +1,3 @@
+pub mod LearnerLaws
+pub mod StepLaws
+pub mod Following

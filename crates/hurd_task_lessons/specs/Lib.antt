@@ -1,0 +1,4 @@
+pub mod Learners
+pub mod Lessons
+pub mod Steps
+pub mod Runs
