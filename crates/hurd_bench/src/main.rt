@@ -22,7 +22,7 @@ use arguments::Asked;
 use fault::Fault;
 use files::Files;
 use hurd_creds::Errno;
-use hurd_kinds::empty_tree;
+use hurd_kinds::{ServerBox, empty_tree};
 use hurd_small::Hello;
 use hurd_trans_iface::{Server, Words};
 use row::Row;
@@ -86,29 +86,41 @@ fn serve_one<S: Server>(
     Ok(asked.timed && row.took(rt)?.as_secs() >= LONG_ENOUGH)
 }
 
-/// The row of servers ends, and names are taken away.
-fn behind_servers<S: Server>(
-    rt: &(impl Clock + Print),
-    tree: &mut Tree<S>,
-    row: Row,
+/// Puts servers behind files of which the work takes one after another.
+fn serve_all(
+    rt: &impl Clock,
+    alloc: Global,
+    tree: &mut Tree<ServerBox>,
+    row: &mut Row,
     asked: Asked,
 ) -> Result<(), Fault> {
+    for number in (0..asked.files.count).step_by(asked.files.stride(Work::Serve)) {
+        let server = ServerBox::Hello(hello(alloc)?);
+        if serve_one(rt, tree, row, number, server, asked)? {
+            break;
+        }
+    }
+    Ok(())
+}
+
+/// Does each kind of work, and prints its row. The names are taken away last, so that servers come into a full tree.
+fn measure_in(
+    rt: &(impl Clock + Print),
+    alloc: Global,
+    tree: &mut Tree<ServerBox>,
+    asked: Asked,
+) -> Result<(), Fault> {
+    let mut row = before_servers(rt, tree, asked)?;
+    serve_all(rt, alloc, tree, &mut row, asked)?;
     row.print(rt, asked.timed)?;
     work_on(rt, tree, &[Work::Unlink], asked)
 }
 
-/// Does each kind of work, and prints its row. The names are taken away last, so that servers come into a full tree.
+/// Begins a tree, and measures the work in it.
 fn measure(rt: &(impl Clock + Print), alloc: Global, asked: Asked) -> Result<(), Fault> {
-    let boot: Box<dyn Server> = empty_tree(alloc).map_err(Errno::from)?;
+    let boot = ServerBox::Tmpfs(empty_tree(alloc).map_err(Errno::from)?);
     let mut tree = Tree::begin(alloc, boot)?;
-    let mut row = before_servers(rt, &mut tree, asked)?;
-    for number in (0..asked.files.count).step_by(asked.files.stride(Work::Serve)) {
-        let server: Box<dyn Server> = hello(alloc)?;
-        if serve_one(rt, &mut tree, &mut row, number, server, asked)? {
-            break;
-        }
-    }
-    behind_servers(rt, &mut tree, row, asked)
+    measure_in(rt, alloc, &mut tree, asked)
 }
 
 /// The whole program, up to the first fault.

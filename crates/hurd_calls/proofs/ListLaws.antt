@@ -1,11 +1,13 @@
 -- What a list has printed.
-use Rattle.std.specs.Prelude.{Option, Result}
+use Rattle.std.specs.Prelude.{Option, Result, IfErr, OnOk}
+use Rattle.std.specs.Io.KnownBytes.{Appends}
+use Rattle.std.specs.List.{concat}
 use Rattle.std.proofs.Common.{◌≡◌, length, true, nat_lt, ℕ, List, [], Ok, Err, refl, inl, ◌∙◌, ap, map}
 use Rattle.std.proofs.lemmas.Bool.{lt-ltb}
 use Rattle.hurd_lists.specs.Lists.{Standing, listed_by, most_bytes, reading_of, said_by}
 use Rattle.hurd_lists.specs.declared.reader.CallList.{CallList}
-use Rattle.hurd_lists.specs.declared.reader.ListedCall.{ListedCall}
 use Rattle.hurd_making.specs.Faults.{NotBegun, NotRead}
+use Rattle.hurd_making.specs.Making.{parts_of}
 use Rattle.hurd_trans_iface.specs.Meaning.{Meaning}
 use Rattle.hurd_machine.specs.World.{World}
 use Rattle.hurd_terminal.specs.Faults.{AppendsFront, IsPrintFault}
@@ -16,8 +18,8 @@ use Rattle.hurd_terminal.specs.declared.print.Output.{Output}
 use Rattle.hurd_terminal.proofs.RunLaws.{HasLimit, adds_output}
 use Rattle.hurd_tmpfs.specs.Tree.{new_tmpfs}
 use Rattle.hurd_world.specs.Boot.{boot_of, first_world}
-use Rattle.hurd_calls.proofs.PrintedLaws.{PrintedSoFar, none_printed}
-use Rattle.hurd_calls.specs.Lists.{bad_line, lists, output_of, said_in}
+use Rattle.hurd_making.specs.Readings.{bad_line, said_in}
+use Rattle.hurd_calls.specs.Lists.{lists, output_of}
 
 -- a list that is too long is bad at line 0
 pub lists_limited : HasLimit lists
@@ -39,12 +41,17 @@ not_begun list said (Bad line) read is = absurd is
 not_begun list said (Boot e) read is = (ap bad_line read, ap (λ (r : Result Standing ℕ). boot_of new_tmpfs (said_in r).tasks) read ∙ is, refl)
 not_begun list said Memory read is = inl refl
 
--- nothing was printed yet of the calls of a list that was read
-pub begin_printed : {S : Type 0} (f : S → Meaning) (before : Option (List ℕ)) (text : List ℕ) (list : CallList S) (calls : List (ListedCall S)) (w : World) → reading_of text ≡ Ok (said_by f list) → calls ≡ list.calls.items
-    → w ≡ first_world new_tmpfs list.tasks.items → PrintedSoFar (output_of (said_in (reading_of text))) before before (map (listed_by f) calls) w
-begin_printed f before text list calls w read is here = rw (read, is, here) (none_printed before (map (listed_by f) list.calls.items) (first_world new_tmpfs list.tasks.items))
-
 -- a front was printed, up to a fault
 pub front_added : {W : Type 0} (output : Output W) (before after : Option (List ℕ)) (list : List ℕ) (said : Standing) (fault : Fault) → reading_of list ≡ Ok said → IsPrintFault output fault
     → AppendsFront before after (output_of (said_in (reading_of list))) → Adds lists list before after (Err fault)
 front_added output before after list said fault read is front = adds_output lists output before after list (Err fault) (ap bad_line read) tt (is, front)
+
+-- the calls of a list that was read were made over its world, up to a fault if there was one
+pub all_added : {S W : Type 0} (f : S → Meaning) (output : Output W) (before after : Option (List ℕ)) (text : List ℕ) (list : CallList S) (w : World) (ended : Result (Unit {0}) Fault)
+    → reading_of text ≡ Ok (said_by f list) → w ≡ first_world new_tmpfs list.tasks.items
+    → OnOk ended (Appends before after (concat (parts_of (map (listed_by f) list.calls.items) w)))
+    → IfErr ended (λ fault. IsPrintFault output fault × AppendsFront before after (concat (parts_of (map (listed_by f) list.calls.items) w)))
+    → Adds lists text before after ended
+all_added f output before after text list w (Ok done) read here ok err = (_, ok, (ap bad_line read, rw (read, here) refl))
+all_added f output before after text list w (Err fault) read here ok err =
+    front_added output before after text (said_by f list) fault read err.0 (rw read (rw here at err.1))

@@ -18,7 +18,7 @@ pub record PrintedSoFar (whole : List ℕ) (before now : Option (List ℕ)) (lef
   pub split : whole ≡ printed ++ concat (parts_of left w)
   pub appends : Appends before now printed
 
-pub none_printed : (before : Option (List ℕ)) (calls : List Listed) (w : World) → PrintedSoFar (concat (parts_of calls w)) before before calls w
+none_printed : (before : Option (List ℕ)) (calls : List Listed) (w : World) → PrintedSoFar (concat (parts_of calls w)) before before calls w
 none_printed before calls w = record { printed = []; split = refl; appends = Appends-nil before }
 
 more_parts : (c : Listed) (cs : List Listed) (w : World) → concat (parts_of (c ∷ cs) w) ≡ part_of c w ++ concat (parts_of cs (after_call c w))
@@ -64,6 +64,10 @@ module _ (whole : List ℕ) (before now : Option (List ℕ)) (left : List Listed
       subst (λ (bs : List ℕ). Appends before now bs) (sym all) so.appends
 
 -- the same of calls as they were read
+
+pub none_read : {S : Type 0} (f : S → Meaning) (before : Option (List ℕ)) (calls left : List (ListedCall S)) (w : World) → left ≡ calls
+    → PrintedSoFar (concat (parts_of (map (listed_by f) calls) w)) before before (map (listed_by f) left) w
+none_read f before calls left w same = rw same (none_printed before (map (listed_by f) calls) w)
 
 module _ {S : Type 0} (f : S → Meaning) (whole : List ℕ) (before now : Option (List ℕ)) (left : List (ListedCall S)) (w : World) (so : PrintedSoFar whole before now (map (listed_by f) left) w) where
   pub read_printed : (then : Option (List ℕ)) (c : ListedCall S) (less : List (ListedCall S)) (x : World) (part : List ℕ) → left ≡ c ∷ less → part ≡ part_of (listed_by f c) w

@@ -1,21 +1,12 @@
 -- The program of lists of calls.
-use Rattle.std.specs.Prelude.{ℕ, List, Option, Some, None, Result, Ok, Err, codes}
+use Rattle.std.specs.Prelude.{ℕ, List, codes}
 use Rattle.std.specs.List.{concat}
-use Rattle.hurd_lists.specs.Lists.{Standing, reading_of, unsaid}
+use Rattle.hurd_lists.specs.Lists.{Standing, reading_of}
 use Rattle.hurd_making.specs.Making.{parts_of}
+use Rattle.hurd_making.specs.Readings.{bad_line, said_in}
 use Rattle.hurd_terminal.specs.Runs.{Program}
 use Rattle.hurd_tmpfs.specs.Tree.{new_tmpfs}
 use Rattle.hurd_world.specs.Boot.{boot_of, first_world}
-
--- the line at which a list is bad
-abbrev pub bad_line : Result Standing ℕ → Option ℕ
-bad_line (Ok said) = None
-bad_line (Err line) = Some line
-
--- what a list says, and nothing where it is bad
-abbrev pub said_in : Result Standing ℕ → Standing
-said_in (Ok said) = said
-said_in (Err line) = unsaid
 
 -- the parts of the calls, joined, where they are made over an empty tree in memory
 abbrev pub output_of : Standing → List ℕ

@@ -1,45 +1,59 @@
 //! A list of calls from its reading to the last reply.
-ghost use Rattle.std.specs.Prelude.{◌≡◌, ◌≢◌, true, Err};
+ghost use Rattle.std.specs.Prelude.{◌≡◌, ◌≢◌, true, Err, IfErr, OnOk, map};
+ghost use Rattle.std.specs.Io.KnownBytes.{Appends};
+ghost use Rattle.std.specs.List.{concat};
+ghost use Rattle.hurd_kinds.specs.Boxes.{box_meaning};
+ghost use Rattle.hurd_world.specs.Held.{world_of};
+ghost use Rattle.hurd_lists.specs.Lists.{listed_by};
+ghost use Rattle.hurd_making.specs.Making.{parts_of};
+ghost use Rattle.hurd_terminal.specs.Faults.{AppendsFront, IsPrintFault};
 ghost use Rattle.hurd_terminal.specs.Runs.{Adds, Blames, Exits, Ran};
 ghost use Rattle.hurd_calls.specs.Lists.{lists};
 
 use crate::calling::make;
-use hurd_kinds::{ServerBox, empty_tree, server_for};
-use hurd_lists::CallList;
-use hurd_making::{begun, parsed};
+use hurd_kinds::{ServerBox, empty_tree};
+use hurd_lists::{CallList, ListedCall};
+use hurd_making::{begun, brought, parsed};
 use hurd_terminal::{Fault, Input, Output, finish, read_text};
-use hurd_trans_iface::Server;
+use hurd_world::World;
 use std::alloc::Global;
 use std::io::{Read, Write};
 
 /// What stands behind the number of a bad line.
 const COMPLAINT: &str = ": bad calls\n";
 
-/// Makes the calls of a list over an empty tree in memory, each with the server that it brings, and prints each with its
-/// reply. The boxes of the trait are made here, since a function that gave them out could say nothing of what they mean.
+/// Makes calls, each with the server that it brings, and prints each with its reply.
+///
+/// `Write` where that can't be written, `Memory`; then some front of it is printed.
+fn make_all<W: Write>(
+    world: &mut World<ServerBox>,
+    alloc: Global,
+    calls: Vec<ListedCall<ServerBox>>,
+    output: &mut Output<W>,
+) -> Result<(), Fault>
+    ensures ok { OnOk result (Appends (W.contents output.old.writer) (W.contents output.new.writer)
+        (concat (parts_of (map (listed_by box_meaning) calls.items) (world_of box_meaning world.old)))) }
+    ensures err { IfErr result (λ fault. IsPrintFault output.new fault
+        × AppendsFront (W.contents output.old.writer) (W.contents output.new.writer)
+        (concat (parts_of (map (listed_by box_meaning) calls.items) (world_of box_meaning world.old)))) }
+{
+    for listed in calls {
+        let server = brought(alloc, &listed.server)?;
+        make(world, alloc, listed, server, output)?;
+    }
+    Ok(())
+}
+
+/// Makes the calls of a list over an empty tree in memory, and prints each with its reply.
 fn answer<W: Write>(alloc: Global, text: &[u8], output: &mut Output<W>) -> Result<(), Fault>
     ensures adds { Adds lists text.now (W.contents output.old.writer) (W.contents output.new.writer) result }
     ensures read { result ≢ Err Fault.Read }
     ensures write { result ≡ Err Fault.Write → output.new.failed ≡ true }
 {
     let CallList { tasks, calls } = parsed(alloc, text)?;
-    let root: Box<dyn Server> = empty_tree(alloc)?;
+    let root = ServerBox::Tmpfs(empty_tree(alloc)?);
     let mut world = begun(alloc, root, tasks)?;
-    for listed in calls {
-        let server: Option<Box<dyn Server>> = match &listed.server {
-            None => None,
-            Some(words) => match server_for(alloc, words)? {
-                None => None,
-                Some(ServerBox::Tmpfs(server)) => Some(server),
-                Some(ServerBox::Hello(server)) => Some(server),
-                Some(ServerBox::Null(server)) => Some(server),
-                Some(ServerBox::Zero(server)) => Some(server),
-                Some(ServerBox::Symlink(server)) => Some(server),
-            },
-        };
-        make(&mut world, alloc, listed, server, output)?;
-    }
-    Ok(())
+    make_all(&mut world, alloc, calls, output)
 }
 
 /// Reads a list of calls, makes them over an empty tree in memory, and prints each with its reply.

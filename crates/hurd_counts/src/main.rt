@@ -2,7 +2,7 @@
 //!
 //! `hurd_counts < list` prints what hurd_calls prints, and behind each call a line for each box of which something became: how often in all it was told that it is
 //! sent away, and how often it was dropped. Boxes are numbered as they come; number 0 is the boot server's. In the end the world is dropped. Statuses and
-//! last lines are those of hurd_calls; only trees in memory are made, and a call that brings another server ends the list with `hurd: cannot boot: EOPNOTSUPP`.
+//! last lines are those of hurd_calls.
 #![tactic(auto)]
 
 mod boxes;

@@ -2,17 +2,16 @@
 ghost use Rattle.std.specs.Prelude.{◌≡◌, IfOk};
 ghost use Rattle.std.specs.Option.{option_map};
 ghost use Rattle.hurd_lists.specs.Calls.{begun};
-ghost use Rattle.hurd_tmpfs.specs.Tree.{new_tmpfs, tree};
+ghost use Rattle.hurd_tmpfs.specs.Tree.{new_tmpfs};
 
 use crate::boxes::Boxes;
 use crate::counted::Counted;
-use hurd_creds::{Errno, Ids};
-use hurd_kinds::{ServerBox, empty_tree, server_for};
+use hurd_creds::Ids;
+use hurd_kinds::{ServerBox, empty_tree};
 use hurd_lists::{CallList, ListedCall};
-use hurd_making::{begun, parsed, part};
+use hurd_making::{begun, brought, parsed, part};
 use hurd_terminal::{Fault, Input, Output, finish, read_text};
-use hurd_tmpfs::Tmpfs;
-use hurd_trans_iface::{Server, Words};
+use hurd_trans_iface::Server;
 use hurd_world::World;
 use std::alloc::Global;
 use std::io::{Read, Write};
@@ -65,34 +64,18 @@ fn make<S: Server, W: Write>(
     boxes.tell(alloc, output)
 }
 
-/// The tree that some words make, if there are any.
+/// Makes calls, each with the server that it brings.
 ///
-/// `Boot` with `EOPNOTSUPP` where they make a server of another kind, `Memory`.
-fn tree_for(alloc: Global, words: &Option<Words>) -> Result<Option<Tmpfs>, Fault>
-    ensures { IfOk result (λ made. begun words.now ≡ option_map tree made) }
-{
-    let Some(words) = words else {
-        return Ok(None);
-    };
-    match server_for(alloc, words)? {
-        None => Ok(None),
-        Some(ServerBox::Tmpfs(server)) => Ok(Some(Box::into_inner(server))),
-        Some(_) => Err(Fault::Boot(Errno::EOPNOTSUPP)),
-    }
-}
-
-/// Makes calls, each with the tree that it brings.
-///
-/// Faults as of `tree_for` and `make`.
+/// Faults as of `make`.
 fn make_all<W: Write>(
-    world: &mut World<Counted<Tmpfs>>,
+    world: &mut World<Counted<ServerBox>>,
     alloc: Global,
     boxes: &mut Boxes,
-    calls: Vec<ListedCall<Counted<Tmpfs>>>,
+    calls: Vec<ListedCall<Counted<ServerBox>>>,
     output: &mut Output<W>,
 ) -> Result<(), Fault> {
     for listed in calls {
-        let server = tree_for(alloc, &listed.server)?;
+        let server = brought(alloc, &listed.server)?;
         make(world, alloc, boxes, listed, server, output)?;
     }
     Ok(())
@@ -108,8 +91,8 @@ fn answer<W: Write>(
     output: &mut Output<W>,
 ) -> Result<(), Fault> {
     let CallList { tasks, calls } = parsed(alloc, text)?;
-    let root = empty_tree(alloc)?;
-    let mut world = boot(alloc, boxes, Box::into_inner(root), tasks)?;
+    let root = ServerBox::Tmpfs(empty_tree(alloc)?);
+    let mut world = boot(alloc, boxes, root, tasks)?;
     make_all(&mut world, alloc, boxes, calls, output)
 }
 

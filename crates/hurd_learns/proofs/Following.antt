@@ -4,7 +4,7 @@ use Rattle.std.proofs.KnownBytes.{Appends-nil, Appends-trans}
 use Rattle.std.proofs.lemmas.List.{take_all}
 use Rattle.std.specs.Io.KnownBytes.{Appends}
 use Rattle.std.specs.Option.{option_map}
-use Rattle.std.specs.Prelude.{if◌then◌else◌}
+use Rattle.std.specs.Prelude.{if◌then◌else◌, IfSome}
 use Rattle.hurd_creds.specs.Access.{IdSets}
 use Rattle.hurd_creds.specs.declared.name.TaskId.{TaskId}
 use Rattle.hurd_trans_iface.specs.Meaning.{Begins, Meaning, begin}
@@ -28,7 +28,8 @@ use Rattle.hurd_terminal.specs.declared.print.Output.{Output}
 use Rattle.hurd_terminal.proofs.OutputLaws.{front_follows}
 use Rattle.hurd_tmpfs.specs.Tree.{new_tmpfs}
 use Rattle.hurd_learns.specs.Lessons.{LessonsOf}
-use Rattle.hurd_learns.specs.Runs.{NotAll, NotBegun, ToldAll, ToldSome, told_text}
+use Rattle.hurd_teaching.specs.Shown.{ToldAll}
+use Rattle.hurd_learns.specs.Runs.{NotAll, NotBegun, ToldSome, made, told_text}
 use Rattle.hurd_learns.specs.Steps.{Asks, IsTold, Makes, Nothing, StepsTo, Stops}
 use Rattle.hurd_learns.specs.declared.steps.Step.{Step}
 use Rattle.hurd_learns.specs.declared.steps.Step.TheVariants.{Told, Made, Done}
@@ -177,7 +178,7 @@ module _ {S : Type 0} (f : S → Meaning) (tasks : List TaskId) (who : List ℕ)
 
   -- all commands are made
   pub following_done : (s : View S) (seen : Option sight.View) (count new : Tally) (now later : Option (List ℕ)) → Follows s seen count now → has_failed s ≡ false → left_in f s ≡ ends
-      → Nothing count now new later → ToldAll tasks who users commands tally before new later
+      → Nothing count now new later → ToldAll (made tasks who users commands) tasks tally before new later
   following_done s seen count new now later is fine all nothing =
       let w = first_world new_tmpfs users in
       let each : length is.said ≡ length commands =
@@ -230,7 +231,7 @@ module _ {S : Type 0} (f : S → Meaning) (tasks : List TaskId) (who : List ℕ)
       following_answered s x u seen kept count new now later server m is both.0 both.1 same takes
 
   pub step_done : (s x : View S) (seen kept : Option sight.View) (count new : Tally) (now later : Option (List ℕ)) (step : Step) → Follows s seen count now → step ≡ Done
-      → StepsTo f tasks who s seen count now step x kept new later → ToldAll tasks who users commands tally before new later
+      → StepsTo f tasks who s seen count now step x kept new later → ToldAll (made tasks who users commands) tasks tally before new later
   unfolding StepsTo
   step_done s x seen kept count new now later step is done steps =
       let all = rw done at steps in
@@ -238,12 +239,13 @@ module _ {S : Type 0} (f : S → Meaning) (tasks : List TaskId) (who : List ℕ)
 
 -- a server that was made and is asked for may be supplied
 
-pub step_begins : {S : Type 0} (f : S → Meaning) (tasks : List TaskId) (who : List ℕ) (s x : View S) (seen kept : Option sight.View) (count new : Tally) (now later : Option (List ℕ)) (step : Step) (server : Option ServerBox) (m : Meaning)
-    → step ≡ Made server → StepsTo f tasks who s seen count now step x kept new later → option_map box_meaning server ≡ Some m → Begins m
+pub step_begins : {S : Type 0} (f : S → Meaning) (tasks : List TaskId) (who : List ℕ) (s x : View S) (seen kept : Option sight.View) (count new : Tally) (now later : Option (List ℕ)) (step : Step) (server : Option ServerBox)
+    → step ≡ Made server → StepsTo f tasks who s seen count now step x kept new later → IfSome server (λ box. Begins (box_meaning box))
 unfolding StepsTo
-step_begins f tasks who s x seen kept count new now later step server m made steps same =
+step_begins f tasks who s x seen kept count new now later step None made steps = tt
+step_begins f tasks who s x seen kept count new now later step (Some box) made steps =
     let both = rw made at steps in
-    (both.0.words, sym both.0.made ∙ same)
+    (both.0.words, sym both.0.made)
 
 pub step_waits : {S : Type 0} (f : S → Meaning) (tasks : List TaskId) (who : List ℕ) (s x : View S) (seen kept : Option sight.View) (count new : Tally) (now later : Option (List ℕ)) (step : Step) (server : Option ServerBox)
     → step ≡ Made server → StepsTo f tasks who s seen count now step x kept new later → waits_for x ≡ true

@@ -1,4 +1,3 @@
-pub mod PrintLaws
 pub mod UserLaws
 pub mod Going
 pub mod LessonLaws
@@ -7,5 +6,4 @@ pub mod StepLaws
 pub mod Following
 pub mod Turns
 pub mod ShownLaws
-pub mod ProgramLaws
 pub mod ScriptLaws

@@ -13,7 +13,8 @@ use Rattle.hurd_sight.specs.declared.view.View as sight
 use Rattle.hurd_lessons.specs.Told.{Lesson, Taught, counted}
 use Rattle.hurd_lessons.specs.Watched.{LearnedSince, Learns, SeenOf, SeesOr}
 use Rattle.hurd_lessons.specs.declared.tally.Tally.{Tally}
-use Rattle.hurd_learns.specs.Steps.{Asks, Looked, Makes, SaysOf, is_own}
+use Rattle.hurd_teaching.specs.Telling.{SaysOf}
+use Rattle.hurd_learns.specs.Steps.{Asks, Looked, Makes, is_own}
 
 -- what is kept of what is seen was seen in w, the world behind the last command; and where nothing is kept, a command of others begins
 -- in w

@@ -4,9 +4,7 @@ use Rattle.hurd_words.proofs.Loops.{behind-push}
 use Rattle.hurd_words.specs.Reading.{behind}
 use Rattle.hurd_words.specs.Users.{task_of}
 use Rattle.hurd_words.specs.Words.{onto}
-use Rattle.std.proofs.lemmas.List.{map-append}
-use Rattle.hurd_creds.specs.declared.name.TaskId.{TaskId}
-use Rattle.hurd_learns.specs.Users.{numbers, tasks_of}
+use Rattle.hurd_learns.specs.Users.{tasks_of}
 
 -- a task is taken, whatever names follow
 pub task_taken : (users : List (List ℕ)) (front new : List ℕ) (t : ℕ) (name : List ℕ) (rest : List (List ℕ)) → Some t ≡ task_of users name → new ≡ front ++ t ∷ []
@@ -23,7 +21,3 @@ no_task users name rest none = ap (λ (o : Option ℕ). onto o (tasks_of users r
 pub tasks_ended : (users : List (List ℕ)) (front : List ℕ) → behind front (tasks_of users []) ≡ Some front
 unfolding tasks_of
 tasks_ended users front = ap Some (append-nil front)
-
--- one task more, by their numbers
-pub numbers_more : (tasks more : List TaskId) (t : TaskId) → more ≡ tasks ++ t ∷ [] → numbers more ≡ numbers tasks ++ t.0 ∷ []
-numbers_more tasks more t same = ap numbers same ∙ map-append (λ (x : TaskId). x.0) tasks (t ∷ [])

@@ -14,9 +14,10 @@ use Rattle.hurd_shell.specs.declared.session.Want.TheVariants.{Server}
 use Rattle.hurd_sight.specs.Reach.{among}
 use Rattle.hurd_sight.specs.declared.view.View as sight
 use Rattle.hurd_lessons.specs.Told.{counted}
-use Rattle.hurd_lessons.specs.Watched.{Learns, SeesOr}
+use Rattle.hurd_lessons.specs.Watched.{SeesOr}
 use Rattle.hurd_lessons.specs.declared.tally.Tally.{Tally}
 use Rattle.hurd_terminal.specs.Faults.{AppendsFront}
+use Rattle.hurd_teaching.specs.Telling.{SaysOf}
 use Rattle.hurd_learns.specs.declared.steps.Step.{Step}
 use Rattle.hurd_learns.specs.declared.steps.Step.TheVariants.{Told, Made, Done}
 
@@ -30,11 +31,6 @@ pub record Looked {S : Type 0} (f : S → Meaning) (tasks : List TaskId) (s : Vi
   pub is : own ≡ is_own tasks (next_task s)
   pub kept : own ≡ true → after ≡ before
   pub looks : own ≡ false → SeesOr tasks (world_of f s.world) before after
-
--- what is said behind a command, and what is kept of what is seen
-abbrev pub SaysOf : List TaskId → List ℕ → Bool → World → Option sight.View → Option sight.View → List ℕ → Type 0
-SaysOf tasks who true x before after text = (after ≡ None) × (text ≡ [])
-SaysOf tasks who false x before after text = Learns tasks who x before after text
 
 -- a part was printed with what is said behind it, and that was counted
 pub record Printed (tasks : List TaskId) (who : List ℕ) (ours : Bool) (x : World) (text : List ℕ) (seen : Option sight.View) (tally : Tally) (before : Option (List ℕ))

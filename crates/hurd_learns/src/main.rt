@@ -13,29 +13,19 @@ mod learners;
 mod run;
 mod steps;
 
+use hurd_teaching::{finish, only_argument};
 use hurd_terminal::{Input, Output};
-use run::{program, usage};
+use run::{COMPLAINT, USAGE, program};
+use std::io;
 use std::process::ExitCode;
-use std::{env, io};
-
-/// The word that names the users, if there is one and no other.
-fn users(rt: &HostRuntime) -> Option<String> {
-    let Ok(mut arguments) = env::args(rt) else {
-        return None;
-    };
-    arguments.next();
-    let users = arguments.next();
-    match arguments.next() {
-        Some(_) => None,
-        None => users,
-    }
-}
 
 fn main(rt: HostRuntime) -> ExitCode {
     let mut input = Input::new(rt.reader());
     let mut output = Output::new(io::writer(&rt));
-    match users(&rt) {
-        Some(users) => ExitCode::from(program(rt.alloc(), users.as_str(), &mut input, &mut output)),
-        None => ExitCode::from(usage(&mut output)),
-    }
+    let status = match only_argument(&rt) {
+        Ok(Some(users)) => program(rt.alloc(), users.as_str(), &mut input, &mut output),
+        Ok(None) => finish(Ok(false), USAGE, COMPLAINT, &mut output),
+        Err(fault) => finish(Err(fault), USAGE, COMPLAINT, &mut output),
+    };
+    ExitCode::from(status)
 }

@@ -1,30 +1,31 @@
 //! A script from its reading to its transcript, with what is learned on the way.
-ghost use Rattle.std.specs.Prelude.{◌≡◌, ◌≢◌, ◌≤◌, true, None, Ok, Err, Some, IfErr, IfOk, OnOk, codes, length, map, string_bytes};
+ghost use Rattle.std.specs.Prelude.{◌≡◌, ◌≢◌, ◌≤◌, true, None, Ok, Err, Some, IfErr, IfOk, OnOk, length, map, string_bytes};
 ghost use Rattle.hurd_tmpfs.specs.Tree.{new_tmpfs};
-ghost use Rattle.hurd_trans_iface.specs.Meaning.{Begins};
-ghost use Rattle.hurd_shell.specs.Session.{BegunWith, TakesUnlessFailed, waits_for};
+ghost use Rattle.hurd_shell.specs.Session.{BegunWith};
 ghost use Rattle.hurd_world.specs.Boot.{boot_of};
 ghost use Rattle.hurd_script.specs.Script.{bad, commands_of, names_of, users_of};
 ghost use Rattle.hurd_terminal.specs.Runs.{Blames};
-ghost use Rattle.hurd_learns.specs.Programs.{Exits, Ran, SaysUsage, plainly};
-ghost use Rattle.hurd_learns.specs.Runs.{NotAll, NotBegun, NotRead, NotShown, Shown, ToldAll, learning};
+ghost use Rattle.hurd_teaching.specs.Programs.{Exits, Ran, plainly};
+ghost use Rattle.hurd_teaching.specs.Shown.{NotShown, Shown, ToldAll};
+ghost use Rattle.hurd_learns.specs.Runs.{NotAll, NotBegun, NotRead, learning, made};
 
-use crate::learners::Learners;
+use crate::learners::named;
 use crate::steps::{Step, go_on};
 use hurd_kinds::{ServerBox, empty_tree};
 use hurd_lessons::{Tally, Watch};
 use hurd_script::{Script, ScriptFault, parse_script};
 use hurd_shell::Session;
-use hurd_terminal::{Fault, Input, Output, finish, read_text};
+use hurd_teaching::{Learners, finish};
+use hurd_terminal::{Fault, Input, Output, read_text};
 use hurd_trans_iface::Server;
 use std::alloc::Global;
 use std::io::{Read, Write};
 
 /// What stands behind the number of a bad line.
-const COMPLAINT: &str = ": bad script\n";
+pub const COMPLAINT: &str = ": bad script\n";
 
 /// How the program is called.
-const USAGE: &[u8] = b"usage: hurd_learns USER[,USER..] < script\n";
+pub const USAGE: &[u8] = b"usage: hurd_learns USER[,USER..] < script\n";
 
 /// What was learned from, in the last line.
 const COMMANDS: &[u8] = b" commands of others\n";
@@ -42,25 +43,7 @@ fn begun<S: Server>(alloc: Global, script: Script, root: S) -> Result<Session<S>
     Ok(Session::begin(alloc, script, root)?)
 }
 
-/// Supplies the server that was asked for. Where memory is refused, the session tells that next.
-fn supply<S: Server>(alloc: Global, session: &mut Session<S>, server: S)
-    requires begins { Begins (S.meaning server) }
-    requires waits { waits_for session.old ≡ true }
-    ensures { TakesUnlessFailed S.meaning session.old (Some (S.meaning server)) session.new }
-{
-    let _ = session.supply(alloc, server);
-}
-
-/// Says that there is no server of the words that were asked for. Where memory is refused, the session tells that next.
-fn supply_none<S: Server>(alloc: Global, session: &mut Session<S>)
-    requires { waits_for session.old ≡ true }
-    ensures { TakesUnlessFailed S.meaning session.old None session.new }
-{
-    let _ = session.supply_none(alloc);
-}
-
 /// Prints the transcript of a script, begun over an empty tree, with what is learned on the way by users of whom nothing was seen yet.
-/// The boxes of the trait are made here, since a function that gave them out could say nothing of what they mean.
 ///
 /// `Boot` with the world's refusal, and then nothing is printed; `Write` where something can't be written, `Memory` at any point: then
 /// the first commands are printed, the last of them as far as it was.
@@ -73,24 +56,17 @@ fn transcribe<W: Write>(
     output: &mut Output<W>,
 ) -> Result<(), Fault>
     requires { watch.old.seen ≡ None }
-    ensures ok { OnOk result (ToldAll learners.now.tasks.items learners.now.who.items script.users.items script.commands.items
-        tally.old (W.contents output.old.writer) tally.new (W.contents output.new.writer)) }
+    ensures ok { OnOk result (ToldAll (made learners.now.tasks.items learners.now.who.items script.users.items script.commands.items)
+        learners.now.tasks.items tally.old (W.contents output.old.writer) tally.new (W.contents output.new.writer)) }
     ensures err { IfErr result (λ fault. NotAll learners.now.tasks.items learners.now.who.items script.users.items script.commands.items
         output.new (W.contents output.old.writer) fault (W.contents output.new.writer)) }
 {
-    let root: Box<dyn Server> = empty_tree(alloc)?;
+    let root = ServerBox::Tmpfs(empty_tree(alloc)?);
     let mut session = begun(alloc, script, root)?;
     'steps: loop {
         match go_on(alloc, &mut session, learners, watch, tally, output)? {
             Step::Told => {}
-            Step::Made(server) => match server {
-                Some(ServerBox::Tmpfs(server)) => supply(alloc, &mut session, server),
-                Some(ServerBox::Hello(server)) => supply(alloc, &mut session, server),
-                Some(ServerBox::Null(server)) => supply(alloc, &mut session, server),
-                Some(ServerBox::Zero(server)) => supply(alloc, &mut session, server),
-                Some(ServerBox::Symlink(server)) => supply(alloc, &mut session, server),
-                None => supply_none(alloc, &mut session),
-            },
+            Step::Made(server) => session.answer(alloc, server),
             Step::Done => return Ok(()),
         }
     }
@@ -107,9 +83,10 @@ fn learn<W: Write>(
     output: &mut Output<W>,
 ) -> Result<(), Fault>
     requires { watch.old.seen ≡ None }
-    ensures ok { OnOk result (Shown learners.now script.users.items script.commands.items (W.contents output.old.writer) (W.contents output.new.writer)) }
-    ensures err { IfErr result (λ fault. NotShown learners.now script.users.items script.commands.items
-        output.new (W.contents output.old.writer) fault (W.contents output.new.writer)) }
+    ensures ok { OnOk result (Shown (made learners.now.tasks.items learners.now.who.items script.users.items script.commands.items) learners.now
+        (W.contents output.old.writer) (W.contents output.new.writer)) }
+    ensures err { IfErr result (λ fault. NotShown (boot_of new_tmpfs script.users.items)
+        (made learners.now.tasks.items learners.now.who.items script.users.items script.commands.items) learners.now output.new (W.contents output.old.writer) fault (W.contents output.new.writer)) }
 {
     let mut tally = Tally::new();
     transcribe(alloc, script, learners, watch, &mut tally, output)?;
@@ -124,9 +101,10 @@ fn learn_anew<W: Write>(
     learners: &Learners,
     output: &mut Output<W>,
 ) -> Result<(), Fault>
-    ensures ok { OnOk result (Shown learners.now script.users.items script.commands.items (W.contents output.old.writer) (W.contents output.new.writer)) }
-    ensures err { IfErr result (λ fault. NotShown learners.now script.users.items script.commands.items
-        output.new (W.contents output.old.writer) fault (W.contents output.new.writer)) }
+    ensures ok { OnOk result (Shown (made learners.now.tasks.items learners.now.who.items script.users.items script.commands.items) learners.now
+        (W.contents output.old.writer) (W.contents output.new.writer)) }
+    ensures err { IfErr result (λ fault. NotShown (boot_of new_tmpfs script.users.items)
+        (made learners.now.tasks.items learners.now.who.items script.users.items script.commands.items) learners.now output.new (W.contents output.old.writer) fault (W.contents output.new.writer)) }
 {
     let mut watch = Watch::new();
     learn(alloc, script, learners, &mut watch, output)
@@ -163,7 +141,7 @@ fn run_text<W: Write>(
     ensures write { result ≡ Err Fault.Write → output.new.failed ≡ true }
 {
     let script = parsed(alloc, text)?;
-    match Learners::named(alloc, script.names.as_slice(), word)? {
+    match named(alloc, script.names.as_slice(), word)? {
         Some(learners) => {
             learn_anew(alloc, script, &learners, output)?;
             Ok(true)
@@ -190,16 +168,6 @@ fn run<R: Read, W: Write>(
     run_text(alloc, word, text.as_slice(), output)
 }
 
-/// Prints how the program is called; answers the exit status.
-pub fn usage<W: Write>(output: &mut Output<W>) -> u8
-    ensures { SaysUsage W.contents output.old output.new (codes "usage: hurd_learns USER[,USER..] < script\n") result }
-{
-    match output.print(USAGE) {
-        Ok(()) => 1,
-        Err(_) => 2,
-    }
-}
-
 /// The whole program: runs a script for the users whom a word names, and after a fault prints the fault's line; answers the exit status.
 pub fn program<R: Read, W: Write>(
     alloc: Global,
@@ -209,9 +177,6 @@ pub fn program<R: Read, W: Write>(
 ) -> u8
     ensures { Exits (learning word.now) R.remaining W.contents input.old input.new output.old output.new result }
 {
-    match run(alloc, word, input, output) {
-        Ok(true) => 0,
-        Ok(false) => usage(output),
-        Err(fault) => finish(Err(fault), COMPLAINT, output),
-    }
+    let ended = run(alloc, word, input, output);
+    finish(ended, USAGE, COMPLAINT, output)
 }

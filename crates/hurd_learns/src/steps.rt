@@ -1,16 +1,16 @@
 //! A session that is watched, step by step.
-ghost use Rattle.std.specs.Prelude.{◌≡◌, ◌++◌, if◌then◌else◌, IfErr, IfOk, OnOk};
-ghost use Rattle.std.specs.Io.KnownBytes.{Appends};
+ghost use Rattle.std.specs.Prelude.{◌≡◌, IfErr, IfOk, OnOk};
+ghost use Rattle.std.specs.Option.{option_map};
+ghost use Rattle.hurd_creds.specs.declared.name.TaskId.{TaskId};
 ghost use Rattle.hurd_world.specs.Held.{world_of};
-ghost use Rattle.hurd_terminal.specs.Faults.{AppendsFront, IsPrintFault};
-ghost use Rattle.hurd_lessons.specs.Told.{counted};
-ghost use Rattle.hurd_learns.specs.Steps.{Looked, Printed, PrintedSome, SaysOf, StepsTo, Stops};
+ghost use Rattle.hurd_terminal.specs.Faults.{IsPrintFault};
+ghost use Rattle.hurd_learns.specs.Steps.{Looked, Printed, PrintedSome, StepsTo, Stops, is_own};
 
-use crate::learners::Learners;
-use hurd_creds::Bytes;
+use hurd_creds::{Bytes, TaskId};
 use hurd_kinds::{ServerBox, server_for};
 use hurd_lessons::{Tally, Watch};
 use hurd_shell::{Session, Want};
+use hurd_teaching::{Learners, counted, print_both, said};
 use hurd_terminal::{Fault, Output};
 use hurd_trans_iface::Server;
 use std::alloc::{AllocError, Global};
@@ -26,6 +26,16 @@ pub enum Step {
     Done,
 }
 
+/// Whether a task is one of these; so is none.
+fn have(learners: &Learners, task: Option<TaskId>) -> bool
+    ensures { result ≡ is_own learners.now.tasks.items (option_map (λ (t : TaskId). t.0) task) }
+{
+    match task {
+        Some(task) => learners.have(task),
+        None => true,
+    }
+}
+
 /// Whether the next command is of one of these users, or there is none; before one of others, it is looked at what they see, unless that
 /// was done. An error is want of memory.
 fn looked<S: Server>(
@@ -36,53 +46,11 @@ fn looked<S: Server>(
 ) -> Result<bool, AllocError>
     ensures { IfOk result (λ own. Looked S.meaning learners.now.tasks.items session.now watch.old.seen own watch.new.seen) }
 {
-    let own = learners.have(session.task());
+    let own = have(learners, session.task());
     if !own {
         watch.look(alloc, session.world(), learners.tasks.as_slice())?;
     }
     Ok(own)
-}
-
-/// What is said behind a command that was made: nothing behind one of these users, who are looked at anew; what a command of others
-/// taught. An error is want of memory.
-fn said<S: Server>(
-    alloc: Global,
-    session: &Session<S>,
-    learners: &Learners,
-    watch: &mut Watch,
-    own: bool,
-) -> Result<Bytes, AllocError>
-    ensures { IfOk result (λ text. SaysOf learners.now.tasks.items learners.now.who.items own (world_of S.meaning session.now.world) watch.old.seen watch.new.seen text) }
-{
-    if own {
-        watch.forget();
-        return Ok(Bytes::new(Vec::new(alloc)));
-    }
-    watch.learned(
-        alloc,
-        session.world(),
-        learners.tasks.as_slice(),
-        learners.who.as_slice(),
-    )
-}
-
-/// How often others taught something, with one command more.
-fn counted(tally: Tally, own: bool, said: &Bytes) -> Tally
-    ensures { result ≡ (if own then tally else counted tally said.now) }
-{
-    if own { tally } else { tally.count(said) }
-}
-
-/// Prints a command's part and what is said behind it.
-///
-/// `Write`; then only some first bytes were printed.
-fn print_both<W: Write>(part: &Bytes, said: &Bytes, output: &mut Output<W>) -> Result<(), Fault>
-    ensures ok { OnOk result (Appends (W.contents output.old.writer) (W.contents output.new.writer) (part.now ++ said.now)) }
-    ensures err { IfErr result (λ fault. IsPrintFault output.new fault
-        × AppendsFront (W.contents output.old.writer) (W.contents output.new.writer) (part.now ++ said.now)) }
-{
-    output.print(part.as_slice())?;
-    output.print(said.as_slice())
 }
 
 /// Prints the part of a command that was made, and what is said behind it, and counts that.
@@ -104,7 +72,7 @@ fn tell<S: Server, W: Write>(
         × PrintedSome learners.now.tasks.items learners.now.who.items own (world_of S.meaning session.now.world) part.now
         watch.old.seen (W.contents output.old.writer) watch.new.seen (W.contents output.new.writer)) }
 {
-    let said = said(alloc, session, learners, watch, own)?;
+    let said = said(alloc, session.world(), learners, watch, own)?;
     print_both(part, &said, output)?;
     *tally = counted(*tally, own, &said);
     Ok(())

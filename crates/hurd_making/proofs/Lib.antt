@@ -1,2 +1,1 @@
 pub mod CallingLaws
-pub mod BroughtLaws

@@ -1,2 +1,3 @@
 pub mod Making
 pub mod Faults
+pub mod Readings

@@ -1,6 +1,7 @@
 //! Making a call of a list, with the server that it brings.
 ghost use Rattle.std.specs.Prelude.{◌≡◌, IfErr, IfOk, OnOk};
 ghost use Rattle.std.specs.Option.{option_map};
+ghost use Rattle.hurd_kinds.specs.Boxes.{box_meaning};
 ghost use Rattle.hurd_machine.specs.Calls.{lacks_memory};
 ghost use Rattle.hurd_world.specs.Held.{world_of};
 ghost use Rattle.hurd_lists.specs.Calls.{begun};
@@ -8,11 +9,12 @@ ghost use Rattle.hurd_lists.specs.Lists.{listed_by};
 ghost use Rattle.hurd_making.specs.Making.{after_call, part_of};
 
 use hurd_creds::{Bytes, Errno};
+use hurd_kinds::{ServerBox, server_for};
 use hurd_lists::{ListedCall, told, with_server};
 use hurd_terminal::Fault;
-use hurd_trans_iface::Server;
+use hurd_trans_iface::{Server, Words};
 use hurd_world::{Reply, World};
-use std::alloc::Global;
+use std::alloc::{AllocError, Global};
 
 /// Whether a reply is want of memory.
 fn lacks_memory<S>(reply: &Reply<S>) -> bool
@@ -22,6 +24,16 @@ fn lacks_memory<S>(reply: &Reply<S>) -> bool
         reply,
         Reply::Refused(Errno::ENOMEM) | Reply::Back(Errno::ENOMEM, _)
     )
+}
+
+/// The server that the words of a call make, where it brings any; none also where no kind takes them. An error is want of memory.
+pub fn brought(alloc: Global, words: &Option<Words>) -> Result<Option<ServerBox>, AllocError>
+    ensures { IfOk result (λ server. begun words.now ≡ option_map box_meaning server) }
+{
+    match words {
+        Some(words) => server_for(alloc, words),
+        None => Ok(None),
+    }
 }
 
 /// Makes a call with the server that its words make, and gives its part of the output. `Memory`.

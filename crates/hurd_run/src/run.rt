@@ -1,10 +1,9 @@
 //! A script from its reading to its transcript.
-ghost use Rattle.std.specs.Prelude.{◌≡◌, ◌≢◌, true, Err, None, Some, IfErr, IfOk};
+ghost use Rattle.std.specs.Prelude.{◌≡◌, ◌≢◌, true, Err, None, IfErr, IfOk};
 ghost use Rattle.std.specs.Io.KnownBytes.{Appends};
 ghost use Rattle.hurd_tmpfs.specs.Tree.{new_tmpfs};
-ghost use Rattle.hurd_trans_iface.specs.Meaning.{Begins};
 ghost use Rattle.hurd_script.specs.Script.{bad};
-ghost use Rattle.hurd_shell.specs.Session.{Begun, TakesUnlessFailed, waits_for};
+ghost use Rattle.hurd_shell.specs.Session.{Begun};
 ghost use Rattle.hurd_terminal.specs.Faults.{AppendsFront, IsPrintFault};
 ghost use Rattle.hurd_terminal.specs.Runs.{Adds, Blames, Exits, Ran};
 ghost use Rattle.hurd_run.specs.Faults.{NotBegun};
@@ -71,41 +70,16 @@ fn wanted<S: Server, W: Write>(
     }
 }
 
-/// Supplies the server that was asked for. Where memory is refused, the session tells that next.
-fn supply<S: Server>(alloc: Global, session: &mut Session<S>, server: S)
-    requires begins { Begins (S.meaning server) }
-    requires waits { waits_for session.old ≡ true }
-    ensures { TakesUnlessFailed S.meaning session.old (Some (S.meaning server)) session.new }
-{
-    let _ = session.supply(alloc, server);
-}
-
-/// Says that there is no server of the words that were asked for. Where memory is refused, the session tells that next.
-fn supply_none<S: Server>(alloc: Global, session: &mut Session<S>)
-    requires { waits_for session.old ≡ true }
-    ensures { TakesUnlessFailed S.meaning session.old None session.new }
-{
-    let _ = session.supply_none(alloc);
-}
-
-/// Prints the transcript of a script, begun over an empty tree. The boxes of the trait are made here, since a function that gave
-/// them out could say nothing of what they mean.
+/// Prints the transcript of a script, begun over an empty tree, with the servers that its words make.
 fn transcribe<W: Write>(alloc: Global, script: &[u8], output: &mut Output<W>) -> Result<(), Fault>
     ensures adds { Adds scripts script.now (W.contents output.old.writer) (W.contents output.new.writer) result }
     ensures read { result ≢ Err Fault.Read }
     ensures write { result ≡ Err Fault.Write → output.new.failed ≡ true }
 {
-    let root: Box<dyn Server> = empty_tree(alloc)?;
+    let root = ServerBox::Tmpfs(empty_tree(alloc)?);
     let mut session = begun(alloc, script, root)?;
     while let Some(server) = wanted(alloc, &mut session, output)? {
-        match server {
-            Some(ServerBox::Tmpfs(server)) => supply(alloc, &mut session, server),
-            Some(ServerBox::Hello(server)) => supply(alloc, &mut session, server),
-            Some(ServerBox::Null(server)) => supply(alloc, &mut session, server),
-            Some(ServerBox::Zero(server)) => supply(alloc, &mut session, server),
-            Some(ServerBox::Symlink(server)) => supply(alloc, &mut session, server),
-            None => supply_none(alloc, &mut session),
-        }
+        session.answer(alloc, server);
     }
     Ok(())
 }

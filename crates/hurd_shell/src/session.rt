@@ -1,5 +1,5 @@
 //! A session.
-ghost use Rattle.std.specs.Prelude.{◌≡◌, true, false, None, Some, IfOk, IfErr, OnOk, Ok, Err, if◌then◌else◌};
+ghost use Rattle.std.specs.Prelude.{◌≡◌, true, false, None, Some, IfOk, IfErr, IfSome, OnOk, Ok, Err, if◌then◌else◌};
 ghost use Rattle.std.specs.Option.{option_map};
 ghost use Rattle.hurd_creds.specs.declared.name.TaskId.{TaskId};
 ghost use Rattle.hurd_trans_iface.specs.Meaning.{Begins};
@@ -8,7 +8,7 @@ ghost use Rattle.hurd_machine.specs.Sound.{Sound};
 ghost use Rattle.hurd_script.specs.Script.{bad, users_of};
 ghost use Rattle.hurd_world.specs.Boot.{boot_of};
 ghost use Rattle.hurd_world.specs.Held.{world_of};
-ghost use Rattle.hurd_shell.specs.Session.{Begun, BegunWith, waits_for, BeginFault, HangsTogether, NewFault, NotTaken, Takes, Tells, command_on, has_failed, next_task};
+ghost use Rattle.hurd_shell.specs.Session.{Begun, BegunWith, waits_for, BeginFault, HangsTogether, NewFault, NotTaken, Takes, TakesUnlessFailed, Tells, command_on, has_failed, next_task};
 ghost use Rattle.hurd_shell.specs.Transcript.{Dialogue, part_by, part_of, played, tells};
 ghost use Rattle.hurd_shell.specs.Turns.{Stands, turn_on};
 
@@ -264,6 +264,22 @@ impl<S: Server> Session<S> {
                 Ok(())
             }
             Err(NoMemory) => Err(SupplyFault::Memory),
+        }
+    }
+
+    /// Answers what `next` asked for: with the server, or that there is none. Where memory is refused, `next` tells that.
+    pub fn answer(&mut self, alloc: Global, server: Option<S>)
+        requires begins { IfSome server (λ s. Begins (S.meaning s)) }
+        requires waits { waits_for self.old ≡ true }
+        ensures { TakesUnlessFailed S.meaning self.old (option_map S.meaning server) self.new }
+    {
+        match server {
+            Some(server) => {
+                let _ = self.supply(alloc, server);
+            }
+            None => {
+                let _ = self.supply_none(alloc);
+            }
         }
     }
 }

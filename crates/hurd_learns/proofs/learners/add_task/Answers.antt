@@ -1,7 +1,8 @@
 use Rattle.std.proofs.Common.{◌≡◌, ◌++◌, ◌∷◌, [], arith, map}
 use Rattle.std.specs.Prelude.{string_bytes}
-use Rattle.hurd_learns.specs.Users.{numbers}
-use Rattle.hurd_learns.proofs.UserLaws.{no_task, numbers_more, task_taken}
+use Rattle.hurd_teaching.specs.Learners.{numbers}
+use Rattle.hurd_teaching.proofs.LearnerLaws.{numbers_more}
+use Rattle.hurd_learns.proofs.UserLaws.{no_task, task_taken}
 use Rattle.hurd_learns.proofs.learners.add_task.Goals as goal
 
 pub returns-in_ok-push-in-Some : goal.returns-in_ok-push-in-Some

@@ -2,7 +2,8 @@ use Rattle.std.proofs.Common.{◌∙◌, ◌+◌, ap, drop, map, sym}
 use Rattle.std.specs.Prelude.{string_bytes}
 use Rattle.hurd_words.specs.Reading.{behind, said}
 use Rattle.hurd_words.proofs.Loops.{last_piece, next_piece}
-use Rattle.hurd_learns.specs.Users.{numbers, tasks_of}
+use Rattle.hurd_teaching.specs.Learners.{numbers}
+use Rattle.hurd_learns.specs.Users.{tasks_of}
 use Rattle.hurd_learns.proofs.UserLaws.{tasks_ended}
 use Rattle.hurd_learns.proofs.learners.tasks_of.Goals as goal
 

@@ -1,7 +1,8 @@
 use Rattle.std.proofs.Common.{◌≡◌, drop, map}
 use Rattle.std.specs.Prelude.{string_bytes}
 use Rattle.hurd_words.specs.Reading.{behind, said}
-use Rattle.hurd_learns.specs.Users.{numbers, tasks_named, tasks_of}
+use Rattle.hurd_teaching.specs.Learners.{numbers}
+use Rattle.hurd_learns.specs.Users.{tasks_named, tasks_of}
 use Rattle.hurd_learns.proofs.learners.tasks_of.Given as goal
 
 -- reading all names is reading those that are left, behind the tasks so far

@@ -1,6 +1,6 @@
 use Rattle.std.proofs.lemmas.Result.{err_from_is_err_and}
 use Rattle.hurd_learns.specs.Runs.{learning}
-use Rattle.hurd_learns.proofs.ProgramLaws.{ran_whole, unread}
+use Rattle.hurd_teaching.proofs.ProgramLaws.{ran_whole, unread}
 use Rattle.hurd_learns.proofs.ScriptLaws.{scripts_limited}
 use Rattle.hurd_learns.proofs.run.run.Goals as goal
 

@@ -1,7 +1,7 @@
 use Rattle.std.proofs.lemmas.Result.{err_from_is_err_and}
 use Rattle.hurd_learns.specs.Runs.{learning}
-use Rattle.hurd_learns.proofs.ProgramLaws.{no_memory}
-use Rattle.hurd_learns.proofs.ScriptLaws.{no_user, not_read, ran_not_shown, ran_shown}
+use Rattle.hurd_teaching.proofs.ProgramLaws.{no_memory}
+use Rattle.hurd_learns.proofs.ScriptLaws.{no_user, not_read, script_not_shown, script_shown}
 use Rattle.hurd_learns.proofs.run.run_text.Goals as goal
 
 pub returns-in_err-script-clause-ran : goal.returns-in_err-script-clause-ran
@@ -20,14 +20,14 @@ returns-in_err-learn_anew-in-Some-clause-ran g c =
     let (good, names, users, commands) = c.in_ok-script.ensures.ok in
     let named = rw (c.in-Some.is, c.as_slice.ensures.value) at c.in_ok-learners.ensures in
     rw (p.1, p.2)
-    (ran_not_shown c.args.word.now c.args.text.now c.in-Some.learners _ _ _ c.learn_anew.new.output _ _ c.in_err-learn_anew-in-Some.field-0.0 good names users commands named
+    (script_not_shown c.args.word.now c.args.text.now c.in-Some.learners _ _ _ good names users commands named c.learn_anew.new.output _ _ c.in_err-learn_anew-in-Some.field-0.0
     c.in_err-learn_anew-in-Some.ensures.err)
 
 pub returns-in_ok-learn_anew-in-Some-clause-ran : goal.returns-in_ok-learn_anew-in-Some-clause-ran
 returns-in_ok-learn_anew-in-Some-clause-ran g c =
     let (good, names, users, commands) = c.in_ok-script.ensures.ok in
     let named = rw (c.in-Some.is, c.as_slice.ensures.value) at c.in_ok-learners.ensures in
-    ran_shown c.args.word.now c.args.text.now c.in-Some.learners _ _ _ _ _ good names users commands named c.in_ok-learn_anew-in-Some.ensures.ok
+    script_shown c.args.word.now c.args.text.now c.in-Some.learners _ _ _ good names users commands named _ _ c.in_ok-learn_anew-in-Some.ensures.ok
 
 pub returns-in-None-clause-ran : goal.returns-in-None-clause-ran
 returns-in-None-clause-ran g c =

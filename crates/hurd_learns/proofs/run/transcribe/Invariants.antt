@@ -1,13 +1,13 @@
 use Rattle.hurd_learns.proofs.Following.{Following}
 use Rattle.hurd_learns.proofs.Turns.{size_left}
-use Rattle.hurd_learns.proofs.run.transcribe.OwnLists.{own-1}
+use Rattle.hurd_kinds.specs.Boxes.{box_meaning}
 use Rattle.hurd_learns.proofs.run.transcribe.Given as goal
 
 -- what was said so far was printed
 abbrev pub invariant-steps : goal.invariant-steps
 invariant-steps g l =
-    Following (λ b. (own-1.entry b.vtable).1.meaning b.value) l.fn.learners.tasks.items l.fn.learners.who.items l.fn.script.users.items l.fn.script.commands.items
+    Following box_meaning l.fn.learners.tasks.items l.fn.learners.who.items l.fn.script.users.items l.fn.script.commands.items
     l.fn.tally (g.W.Write.contents l.fn.output.writer) l.session l.watch.seen l.tally (g.W.Write.contents l.output.writer)
 
 abbrev pub decreases-steps : goal.decreases-steps
-decreases-steps g l = size_left (λ b. (own-1.entry b.vtable).1.meaning b.value) l.session
+decreases-steps g l = size_left box_meaning l.session

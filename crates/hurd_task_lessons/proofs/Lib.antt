@@ -1,3 +1,0 @@
-pub mod LearnerLaws
-pub mod StepLaws
-pub mod Following

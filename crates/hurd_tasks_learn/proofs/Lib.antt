@@ -1,0 +1,4 @@
+pub mod LearnerLaws
+pub mod StepLaws
+pub mod Following
+pub mod ListLaws

@@ -1,0 +1,28 @@
+-- What comes of one call of a list that is watched.
+use Rattle.std.specs.Prelude.{◌≡◌, ◌⊎◌, ℕ, Bool, true, false, List, [], ◌++◌, Option, None, if◌then◌else◌}
+use Rattle.std.specs.Io.KnownBytes.{Appends}
+use Rattle.hurd_creds.specs.declared.name.TaskId.{TaskId}
+use Rattle.hurd_machine.specs.World.{World}
+use Rattle.hurd_lists.specs.Lists.{Listed}
+use Rattle.hurd_making.specs.Making.{after_call, part_of}
+use Rattle.hurd_sight.specs.Reach.{among}
+use Rattle.hurd_sight.specs.declared.view.View.{View}
+use Rattle.hurd_lessons.specs.Told.{Lesson, counted}
+use Rattle.hurd_lessons.specs.Watched.{Learns, SeenOf}
+use Rattle.hurd_lessons.specs.declared.tally.Tally.{Tally}
+use Rattle.hurd_terminal.specs.Faults.{AppendsFront}
+
+-- a call was made, its part printed with what is said behind it, and that was counted
+pub record IsTold (tasks : List TaskId) (who : List ℕ) (c : Listed) (w : World) (tally : Tally) (before : Option (List ℕ))
+    (x : World) (kept : Option View) (count : Tally) (after : Option (List ℕ)) : Type 0 where
+  pub said : List ℕ
+  pub next : x ≡ after_call c w
+  pub seen : SeenOf tasks x kept
+  pub lesson : Lesson tasks who c.task.0 w (after_call c w) said
+  pub appends : Appends before after (part_of c w ++ said)
+  pub counts : count ≡ (if among tasks c.task.0 then tally else counted tally said)
+
+-- nothing was printed of a call, or a front of its part and of what is said behind it
+abbrev pub ToldPart : List TaskId → List ℕ → Listed → World → Option (List ℕ) → Option (List ℕ) → Type 0
+ToldPart tasks who c w before after =
+    (after ≡ before) ⊎ ((said : List ℕ) × Lesson tasks who c.task.0 w (after_call c w) said × AppendsFront before after (part_of c w ++ said))

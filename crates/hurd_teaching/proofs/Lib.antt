@@ -1,0 +1,4 @@
+pub mod LearnerLaws
+pub mod PrintLaws
+pub mod ProgramLaws
+pub mod ShownLaws

@@ -1,0 +1,4 @@
+pub mod Learners
+pub mod Telling
+pub mod Shown
+pub mod Programs

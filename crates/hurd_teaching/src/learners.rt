@@ -1,0 +1,52 @@
+//! The tasks that are told what they learn.
+ghost use Rattle.std.specs.Prelude.{◌≡◌, IfOk};
+ghost use Rattle.hurd_sight.specs.Reach.{among};
+ghost use Rattle.hurd_teaching.specs.Learners.{AreCalled, verb_of};
+
+use hurd_creds::TaskId;
+use std::alloc::{AllocError, Global};
+
+/// Some tasks, and what is written in front of what they learn.
+#[derive(Drop)]
+pub struct Learners {
+    /// Their tasks.
+    pub tasks: Vec<TaskId>,
+    /// As `alice learns`, or `tasks 1,2 learn`.
+    pub who: Vec<u8>,
+    /// As `alice`, or `tasks 1,2`.
+    pub names: Vec<u8>,
+}
+
+/// What stands behind the names of those who learn.
+fn verb(tasks: &[TaskId]) -> &'static [u8]
+    ensures { result.now ≡ verb_of tasks.now }
+{
+    if tasks.len() > 1 {
+        b" learn"
+    } else {
+        b" learns"
+    }
+}
+
+impl Learners {
+    /// Tasks that are called so. An error is want of memory.
+    pub fn called(alloc: Global, tasks: Vec<TaskId>, names: Vec<u8>) -> Result<Learners, AllocError>
+        ensures { IfOk result (λ learners. AreCalled tasks.items names.items learners) }
+    {
+        let mut who = Vec::from_slice(alloc, names.as_slice())?;
+        who.extend_from_slice(verb(tasks.as_slice()))?;
+        Ok(Learners { tasks, who, names })
+    }
+
+    /// Whether a task is one of these.
+    pub fn have(&self, task: TaskId) -> bool
+        ensures { result ≡ among self.now.tasks.items task.0 }
+    {
+        for own in &self.tasks {
+            if own.0 == task.0 {
+                return true;
+            }
+        }
+        false
+    }
+}

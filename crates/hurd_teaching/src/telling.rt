@@ -1,0 +1,58 @@
+//! What is said behind what each task did.
+ghost use Rattle.std.specs.Prelude.{◌≡◌, ◌++◌, if◌then◌else◌, IfErr, IfOk, OnOk};
+ghost use Rattle.std.specs.Io.KnownBytes.{Appends};
+ghost use Rattle.hurd_world.specs.Held.{world_of};
+ghost use Rattle.hurd_lessons.specs.Told.{counted};
+ghost use Rattle.hurd_terminal.specs.Faults.{AppendsFront, IsPrintFault};
+ghost use Rattle.hurd_teaching.specs.Telling.{SaysOf};
+
+use crate::learners::Learners;
+use hurd_creds::Bytes;
+use hurd_lessons::{Tally, Watch};
+use hurd_terminal::{Fault, Output};
+use hurd_trans_iface::Server;
+use hurd_world::World;
+use std::alloc::{AllocError, Global};
+use std::io::Write;
+
+/// What is said behind what was done: nothing behind what one of these did, who are looked at anew; else what these learn by it. An error is
+/// want of memory.
+pub fn said<S: Server>(
+    alloc: Global,
+    world: &World<S>,
+    learners: &Learners,
+    watch: &mut Watch,
+    own: bool,
+) -> Result<Bytes, AllocError>
+    ensures { IfOk result (λ text. SaysOf learners.now.tasks.items learners.now.who.items own (world_of S.meaning world.now) watch.old.seen watch.new.seen text) }
+{
+    if own {
+        watch.forget();
+        return Ok(Bytes::new(Vec::new(alloc)));
+    }
+    watch.learned(
+        alloc,
+        world,
+        learners.tasks.as_slice(),
+        learners.who.as_slice(),
+    )
+}
+
+/// How often others taught something, with one thing more that was done.
+pub fn counted(tally: Tally, own: bool, said: &Bytes) -> Tally
+    ensures { result ≡ (if own then tally else counted tally said.now) }
+{
+    if own { tally } else { tally.count(said) }
+}
+
+/// Prints a part, and what is said behind it.
+///
+/// `Write`; then only some first bytes were printed.
+pub fn print_both<W: Write>(part: &Bytes, said: &Bytes, output: &mut Output<W>) -> Result<(), Fault>
+    ensures ok { OnOk result (Appends (W.contents output.old.writer) (W.contents output.new.writer) (part.now ++ said.now)) }
+    ensures err { IfErr result (λ fault. IsPrintFault output.new fault
+        × AppendsFront (W.contents output.old.writer) (W.contents output.new.writer) (part.now ++ said.now)) }
+{
+    output.print(part.as_slice())?;
+    output.print(said.as_slice())
+}
