@@ -1,33 +1,14 @@
--- Bytes, names and flags as they are printed.
+-- Names and flags as they are printed.
 use Rattle.std.proofs.Math.Bool.{and-true}
 use Rattle.hurd_creds.specs.Bits.{asks}
 use Rattle.hurd_creds.specs.declared.open_flags.OpenFlags.{OpenFlags}
 use Rattle.std.proofs.Common.{Bool, true, false, if◌then◌else◌, ◌≡◌, ◌<◌, ◌≤◌, ◌+◌, ◌++◌, ◌∷◌, [], ℕ, List, refl, sym, ◌∙◌, ap, append_assoc, append-nil, drop, get_or, length}
 use Rattle.std.proofs.lemmas.List.{at_drop_all, at_drop_more}
-use Rattle.hurd_lists.specs.Replies.{each_shown, listed_flags, shown, shown_byte, shown_names}
-
-more_bytes : (b : ℕ) (bs : List ℕ) → each_shown (b ∷ bs) ≡ shown_byte b ++ each_shown bs
-unfolding each_shown
-more_bytes b bs = refl
+use Rattle.hurd_lists.specs.Replies.{listed_flags, shown, shown_names}
 
 more_names : (name : List ℕ) (names : List (List ℕ)) → shown_names (name ∷ names) ≡ (32 ∷ shown name) ++ shown_names names
 unfolding shown_names
 more_names name names = refl
-
--- the next byte was printed
-pub bytes_next : (front new bytes : List ℕ) (i : ℕ) → i < length bytes → new ≡ front ++ shown_byte (get_or bytes i 0)
-    → new ++ each_shown (drop (i + 1) bytes) ≡ front ++ each_shown (drop i bytes)
-bytes_next front new bytes i h e =
-    ap (λ (n : List ℕ). n ++ each_shown (drop (i + 1) bytes)) e
-    ∙ (append_assoc front (shown_byte (get_or bytes i 0)) (each_shown (drop (i + 1) bytes))
-    ∙ ap (λ (t : List ℕ). front ++ t) (sym (at_drop_more each_shown bytes i 0 h ∙ more_bytes (get_or bytes i 0) (drop (i + 1) bytes))))
-
-no_bytes : each_shown [] ≡ []
-unfolding each_shown
-no_bytes = refl
-
-pub bytes_ended : (front bytes : List ℕ) (i : ℕ) → length bytes ≤ i → front ++ each_shown (drop i bytes) ≡ front
-bytes_ended front bytes i h = ap (λ (t : List ℕ). front ++ t) (at_drop_all each_shown bytes i h ∙ no_bytes) ∙ append-nil front
 
 -- the next name was printed
 pub names_next : (front new : List ℕ) (names : List (List ℕ)) (i : ℕ) (name d : List ℕ) → i < length names → name ≡ get_or names i d → new ≡ front ++ 32 ∷ shown name

@@ -1,9 +1,10 @@
 -- The text of replies.
-use Rattle.std.specs.Prelude.{ℕ, ◌+◌, ◌-◌, ◌/◌, ◌%◌, ◌==◌, ◌&&◌, ◌++◌, Bool, true, false, not, List, [], ◌∷◌, Option, Some, None, if◌then◌else◌, nat_le, nat_lt, codes, decimal}
+use Rattle.std.specs.Prelude.{ℕ, ◌+◌, ◌/◌, ◌%◌, ◌==◌, ◌&&◌, ◌++◌, Bool, true, false, not, List, [], ◌∷◌, Option, Some, None, if◌then◌else◌, codes, decimal}
 use Rattle.hurd_creds.specs.Bits as bit
 use Rattle.hurd_creds.specs.Errors.{name_of}
 use Rattle.hurd_creds.specs.declared.attrs.Stat.{Stat}
 use Rattle.hurd_creds.specs.declared.open_flags.OpenFlags.{OpenFlags}
+use Rattle.hurd_lines.specs.Escapes.{escaped}
 use Rattle.hurd_machine.specs.declared.call.Lookup.{Lookup}
 use Rattle.hurd_machine.specs.declared.call.Lookup.TheVariants as lookup
 use Rattle.hurd_machine.specs.Calls.{Reply}
@@ -13,27 +14,9 @@ use Rattle.hurd_machine.specs.declared.call.RetryKind.TheVariants.{Normal, Reaut
 use Rattle.hurd_creds.specs.declared.attrs.Kind.{Kind}
 use Rattle.hurd_creds.specs.declared.attrs.Kind.TheVariants.{File, Dir, Link, Fifo, Char}
 
--- a hexadecimal digit
-abbrev pub hex_letter : ℕ → ℕ
-hex_letter v = if nat_lt v 10 then 48 + v else 97 + (v - 10)
-
--- a byte as it is printed: by an escape where no word has it as it is
-abbrev pub shown_byte : ℕ → List ℕ
-shown_byte b =
-    if b == 32 then 92 ∷ 115 ∷ []
-    else if b == 10 then 92 ∷ 110 ∷ []
-    else if b == 92 then 92 ∷ 92 ∷ []
-    else if nat_le 33 b && nat_le b 126 then b ∷ []
-    else 92 ∷ 120 ∷ hex_letter (b / 16) ∷ hex_letter (b % 16) ∷ []
-
--- bytes one after another, each as it is printed
-unfoldable pub each_shown : List ℕ → List ℕ
-each_shown [] = []
-each_shown (b ∷ bs) = shown_byte b ++ each_shown bs
-
 -- bytes behind `=`
 abbrev pub shown : List ℕ → List ℕ
-shown bytes = 61 ∷ each_shown bytes
+shown bytes = 61 ∷ escaped bytes
 
 -- names or words, each behind a space
 unfoldable pub shown_names : List (List ℕ) → List ℕ

@@ -1,50 +1,22 @@
 //! The text of replies.
-ghost use Rattle.std.specs.Prelude.{◌≡◌, ◌<◌, ◌++◌, ◌∷◌, [], if◌then◌else◌, List, ℕ, IfOk, OnOk};
+ghost use Rattle.std.specs.Prelude.{◌≡◌, ◌++◌, ◌∷◌, [], if◌then◌else◌, List, ℕ, IfOk, OnOk};
 ghost use Rattle.hurd_machine.specs.Calls.{reply_by};
-ghost use Rattle.hurd_lists.specs.Replies.{flags_text, hex_letter, high_digit, high_digits, kind_name, listed_flags, lookup_text, octal_digit, port_text, reply_text, retry_name, shown, shown_byte, shown_names, six_digits, spaced, mode_text, stat_rest, stat_text, text_if, told};
+ghost use Rattle.hurd_lists.specs.Replies.{flags_text, high_digit, high_digits, kind_name, listed_flags, lookup_text, octal_digit, port_text, reply_text, retry_name, shown, shown_names, six_digits, spaced, mode_text, stat_rest, stat_text, text_if, told};
 
 use bitflags::Flags;
 use hurd_creds::{Bytes, Kind, Mode, OpenFlags, Stat};
+use hurd_lines::push_escaped;
 use hurd_machine::{Lookup, Reply, RetryKind};
 use hurd_trans_iface::Server;
 use itoa::Buffer;
 use std::alloc::{AllocError, Global};
-
-/// A hexadecimal digit.
-fn hex_digit(value: u8) -> u8
-    requires { value < 16 }
-    ensures { result ≡ hex_letter value }
-{
-    if value < 10 {
-        b'0' + value
-    } else {
-        b'a' + (value - 10)
-    }
-}
-
-/// Prints a byte, by an escape where no word has it as it is.
-fn push_byte(text: &mut Vec<u8>, byte: u8) -> Result<(), AllocError>
-    ensures { OnOk result (text.new.items ≡ text.old.items ++ shown_byte byte) }
-{
-    match byte {
-        b' ' => text.extend_from_slice(b"\\s")?,
-        b'\n' => text.extend_from_slice(b"\\n")?,
-        b'\\' => text.extend_from_slice(b"\\\\")?,
-        33..=126 => text.push(byte)?,
-        _ => { text.extend_from_slice(&[b'\\', b'x', hex_digit(byte / 16), hex_digit(byte % 16)])? }
-    }
-    Ok(())
-}
 
 /// Prints bytes behind `=`.
 fn push_bytes(text: &mut Vec<u8>, bytes: &[u8]) -> Result<(), AllocError>
     ensures { OnOk result (text.new.items ≡ text.old.items ++ shown bytes.now) }
 {
     text.push(b'=')?;
-    for byte in bytes {
-        push_byte(text, *byte)?;
-    }
-    Ok(())
+    push_escaped(text, bytes)
 }
 
 /// Prints names or words, each behind a space.

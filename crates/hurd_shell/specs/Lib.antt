@@ -1,5 +1,4 @@
 pub mod Programs
-pub mod Lines
 pub mod Looking
 pub mod Commands
 pub mod Transcript

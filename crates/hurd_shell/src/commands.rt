@@ -8,8 +8,8 @@ ghost use Rattle.hurd_shell.specs.Stages.{node_work_of};
 
 use crate::calls;
 use crate::fault::Stop;
-use crate::lines::{stat_line, words_line};
 use hurd_creds::{Bytes, Errno, Mode, TaskId};
+use hurd_lines::{stat_line, words_line};
 use hurd_trans_iface::{Server, Words};
 use hurd_world::World;
 use std::alloc::{AllocError, Global};

@@ -14,7 +14,6 @@ mod entries;
 mod fault;
 mod flags;
 mod isolation;
-mod lines;
 mod looking;
 mod outputs;
 mod phase;

@@ -1,6 +1,6 @@
-//! The lines that `ls -d`, `showtrans` and `fsysopts` print.
+//! The lines that `ls -d`, `showtrans` and `fsysopts` print, and what they are made of.
 ghost use Rattle.std.specs.Prelude.{◌≡◌, ◌++◌, ◌∷◌, List, ℕ, IfOk, OnOk};
-ghost use Rattle.hurd_shell.specs.Lines.{kind_letter, octal_digit, six_octal_digits, spaced, spaced_words, spelled, spelled_byte, stat_line, words_line};
+ghost use Rattle.hurd_lines.specs.Lines.{kind_letter, octal_digit, six_octal_digits, spaced, spaced_words, spelled, spelled_byte, stat_line, stat_words, words_line};
 
 use bitflags::Flags;
 use hurd_creds::{Bytes, Kind, Mode, Stat};
@@ -8,7 +8,7 @@ use itoa::Buffer;
 use std::alloc::{AllocError, Global};
 
 /// The letter of a kind.
-fn kind_letter(kind: Kind) -> u8
+pub fn kind_letter(kind: Kind) -> u8
     ensures { result ≡ kind_letter kind }
 {
     match kind {
@@ -28,7 +28,7 @@ fn octal_digit(number: u32) -> u8
 }
 
 /// Prints a mode as six octal digits.
-fn push_mode(line: &mut Vec<u8>, mode: Mode) -> Result<(), AllocError>
+pub fn push_mode(line: &mut Vec<u8>, mode: Mode) -> Result<(), AllocError>
     ensures { OnOk result (line.new.items ≡ line.old.items ++ six_octal_digits mode.0) }
 {
     let bits = mode.bits();
@@ -45,7 +45,7 @@ fn push_mode(line: &mut Vec<u8>, mode: Mode) -> Result<(), AllocError>
 }
 
 /// Prints a number behind a space.
-fn push_number(line: &mut Vec<u8>, number: u64) -> Result<(), AllocError>
+pub fn push_number(line: &mut Vec<u8>, number: u64) -> Result<(), AllocError>
     ensures { OnOk result (line.new.items ≡ line.old.items ++ spaced number) }
 {
     let mut buffer = Buffer::new();
@@ -54,17 +54,24 @@ fn push_number(line: &mut Vec<u8>, number: u64) -> Result<(), AllocError>
     Ok(())
 }
 
-/// A node's kind and mode, then its links, owner, group and size, and a newline.
-pub(crate) fn stat_line(alloc: Global, stat: &Stat) -> Result<Vec<u8>, AllocError>
+/// Prints a node's kind and mode, then its links, owner, group and size.
+pub fn push_stat(line: &mut Vec<u8>, stat: &Stat) -> Result<(), AllocError>
+    ensures { OnOk result (line.new.items ≡ line.old.items ++ stat_words stat.now) }
+{
+    line.push(kind_letter(stat.kind))?;
+    push_mode(line, stat.mode)?;
+    push_number(line, u64::from(stat.links))?;
+    push_number(line, u64::from(stat.owner))?;
+    push_number(line, u64::from(stat.group))?;
+    push_number(line, stat.size)
+}
+
+/// The same on a line.
+pub fn stat_line(alloc: Global, stat: &Stat) -> Result<Vec<u8>, AllocError>
     ensures { IfOk result (λ line. line.items ≡ stat_line stat.now) }
 {
     let mut line = Vec::new(alloc);
-    line.push(kind_letter(stat.kind))?;
-    push_mode(&mut line, stat.mode)?;
-    push_number(&mut line, u64::from(stat.links))?;
-    push_number(&mut line, u64::from(stat.owner))?;
-    push_number(&mut line, u64::from(stat.group))?;
-    push_number(&mut line, stat.size)?;
+    push_stat(&mut line, stat)?;
     line.push(b'\n')?;
     Ok(line)
 }
@@ -83,7 +90,7 @@ fn push_byte(line: &mut Vec<u8>, byte: u8) -> Result<(), AllocError>
 }
 
 /// Prints a word as it is written in a script.
-fn push_word(line: &mut Vec<u8>, word: &[u8]) -> Result<(), AllocError>
+pub fn push_word(line: &mut Vec<u8>, word: &[u8]) -> Result<(), AllocError>
     ensures { OnOk result (line.new.items ≡ line.old.items ++ spelled word.now) }
 {
     for byte in word {
@@ -93,7 +100,7 @@ fn push_word(line: &mut Vec<u8>, word: &[u8]) -> Result<(), AllocError>
 }
 
 /// Prints words, each behind a space.
-fn push_words(line: &mut Vec<u8>, words: &[Bytes]) -> Result<(), AllocError>
+pub fn push_words(line: &mut Vec<u8>, words: &[Bytes]) -> Result<(), AllocError>
     ensures { OnOk result (line.new.items ≡ line.old.items ++ spaced_words words.now) }
 {
     for word in words {
@@ -104,7 +111,7 @@ fn push_words(line: &mut Vec<u8>, words: &[Bytes]) -> Result<(), AllocError>
 }
 
 /// Words on a line, with a space between them.
-pub(crate) fn words_line(alloc: Global, words: &[Bytes]) -> Result<Vec<u8>, AllocError>
+pub fn words_line(alloc: Global, words: &[Bytes]) -> Result<Vec<u8>, AllocError>
     ensures { IfOk result (λ line. line.items ≡ words_line words.now) }
 {
     let mut line = Vec::new(alloc);

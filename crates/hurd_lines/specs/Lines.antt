@@ -1,4 +1,4 @@
--- The lines that `ls -d`, `showtrans` and `fsysopts` print.
+-- The lines that `ls -d`, `showtrans` and `fsysopts` print, and what they are made of.
 use Rattle.std.specs.Prelude.{ℕ, ◌+◌, ◌/◌, ◌%◌, ◌==◌, if◌then◌else◌, List, [], ◌∷◌, ◌++◌, decimal}
 use Rattle.hurd_creds.specs.declared.attrs.Kind.{Kind}
 use Rattle.hurd_creds.specs.declared.attrs.Kind.TheVariants.{File, Dir, Link, Fifo, Char}
@@ -26,9 +26,12 @@ abbrev pub spaced : ℕ → List ℕ
 spaced n = 32 ∷ decimal n
 
 -- a node's kind and mode, then its links, owner, group and size
+abbrev pub stat_words : Stat → List ℕ
+stat_words s = kind_letter s.kind ∷ (six_octal_digits s.mode.0 ++ (spaced s.links ++ (spaced s.owner ++ (spaced s.group ++ spaced s.size))))
+
+-- the same on a line
 abbrev pub stat_line : Stat → List ℕ
-stat_line s =
-    kind_letter s.kind ∷ (six_octal_digits s.mode.0 ++ (spaced s.links ++ (spaced s.owner ++ (spaced s.group ++ (spaced s.size ++ 10 ∷ [])))))
+stat_line s = stat_words s ++ 10 ∷ []
 
 -- a byte as it is written in a script: `\s` for a space, `\n` for a newline, and `\\` for a backslash
 abbrev pub spelled_byte : ℕ → List ℕ
