@@ -24,10 +24,10 @@ Adding P es i start text = (rest : List ℕ) → Lines P (named (drop i es)) res
 pub adding_none : (P : Name → List ℕ → Type 0) (es : List (Name × Row)) (text : List ℕ) → Adding P es 0 text text
 adding_none P es text rest it = (rest, refl, it)
 
-beyond : (i n : ℕ) → i < n → n ≤ i → ⊥
+pub beyond : (i n : ℕ) → i < n → n ≤ i → ⊥
 beyond i n below past = omega arith
 
-here : {X : Type 0} (xs : List X) (i : ℕ) (x : X) → slice_get xs i ≡ Some x → drop i xs ≡ x ∷ drop (i + 1) xs
+pub here : {X : Type 0} (xs : List X) (i : ℕ) (x : X) → slice_get xs i ≡ Some x → drop i xs ≡ x ∷ drop (i + 1) xs
 here xs i x is = drop_more xs i x (slice_get_within xs i x is) ∙ ap (λ (y : _). y ∷ drop (i + 1) xs) (get_or_from_slice_get xs i x x is)
 
 pub adding_next : (P : Name → List ℕ → Type 0) (es : List (Name × Row)) (i : ℕ) (e : Name × Row) (start old new : List ℕ) → slice_get es i ≡ Some e → Adds (P e.0) old new

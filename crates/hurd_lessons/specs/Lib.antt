@@ -1,6 +1,7 @@
 pub mod Changes
 pub mod Places
 pub mod Lessons
+pub mod Seen
 pub mod Added
 pub mod Watched
 pub mod Told

@@ -12,7 +12,7 @@ use hurd_sight::{Row, View};
 use std::alloc::{AllocError, Global};
 
 /// What is seen under a name; nothing is seen where there is no row.
-fn row_at<'a>(view: &'a View, name: Name, nothing: &'a Row) -> &'a Row
+pub(crate) fn row_at<'a>(view: &'a View, name: Name, nothing: &'a Row) -> &'a Row
     requires { nothing.now ≡ no_row }
     ensures { result.now ≡ row_at view.now.rows name }
 {
@@ -35,7 +35,12 @@ fn place_in(alloc: Global, before: &View, after: &View, name: Name) -> Result<Ve
 }
 
 /// Adds a line: to whom, where and what.
-fn add_from(text: &mut Vec<u8>, who: &[u8], place: &[u8], said: &[u8]) -> Result<(), AllocError>
+pub(crate) fn add_from(
+    text: &mut Vec<u8>,
+    who: &[u8],
+    place: &[u8],
+    said: &[u8],
+) -> Result<(), AllocError>
     ensures { OnOk result (text.new.items ≡ text.old.items ++ line_from who.now place.now said.now) }
 {
     text.extend_from_slice(b"  ")?;

@@ -7,7 +7,7 @@ use hurd_sight::{BodyRow, Row};
 use std::alloc::{AllocError, Global};
 
 /// Adds a comma where some words stand already.
-fn part(words: &mut Vec<u8>) -> Result<(), AllocError>
+pub(crate) fn part(words: &mut Vec<u8>) -> Result<(), AllocError>
     ensures { OnOk result (words.new.items ≡ parted words.old.items) }
 {
     if !words.is_empty() {

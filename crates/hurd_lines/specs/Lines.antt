@@ -1,5 +1,5 @@
 -- The lines that `ls -d`, `showtrans` and `fsysopts` print, and what they are made of.
-use Rattle.std.specs.Prelude.{ℕ, ◌+◌, ◌/◌, ◌%◌, ◌==◌, if◌then◌else◌, List, [], ◌∷◌, ◌++◌, decimal}
+use Rattle.std.specs.Prelude.{ℕ, ◌+◌, ◌/◌, ◌%◌, ◌==◌, if◌then◌else◌, Bool, true, false, List, [], ◌∷◌, ◌++◌, decimal}
 use Rattle.hurd_creds.specs.declared.attrs.Kind.{Kind}
 use Rattle.hurd_creds.specs.declared.attrs.Kind.TheVariants.{File, Dir, Link, Fifo, Char}
 use Rattle.hurd_creds.specs.declared.attrs.Stat.{Stat}
@@ -24,6 +24,11 @@ six_octal_digits n =
 -- a number in decimal digits, behind a space
 abbrev pub spaced : ℕ → List ℕ
 spaced n = 32 ∷ decimal n
+
+-- a text, where something holds
+abbrev pub text_if : Bool → List ℕ → List ℕ
+text_if true text = text
+text_if false text = []
 
 -- a node's kind and mode, then its links, owner, group and size
 abbrev pub stat_words : Stat → List ℕ

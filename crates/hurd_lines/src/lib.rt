@@ -11,5 +11,6 @@ mod lines;
 
 pub use escapes::push_escaped;
 pub use lines::{
-    kind_letter, push_mode, push_number, push_stat, push_word, push_words, stat_line, words_line,
+    kind_letter, octal_digit, push_if, push_long_number, push_mode, push_number, push_stat,
+    push_word, push_words, stat_line, words_line,
 };

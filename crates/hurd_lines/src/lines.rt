@@ -1,6 +1,6 @@
 //! The lines that `ls -d`, `showtrans` and `fsysopts` print, and what they are made of.
 ghost use Rattle.std.specs.Prelude.{◌≡◌, ◌++◌, ◌∷◌, List, ℕ, IfOk, OnOk};
-ghost use Rattle.hurd_lines.specs.Lines.{kind_letter, octal_digit, six_octal_digits, spaced, spaced_words, spelled, spelled_byte, stat_line, stat_words, words_line};
+ghost use Rattle.hurd_lines.specs.Lines.{kind_letter, octal_digit, six_octal_digits, spaced, spaced_words, spelled, spelled_byte, stat_line, stat_words, text_if, words_line};
 
 use bitflags::Flags;
 use hurd_creds::{Bytes, Kind, Mode, Stat};
@@ -21,7 +21,7 @@ pub fn kind_letter(kind: Kind) -> u8
 }
 
 /// The last octal digit of a number.
-fn octal_digit(number: u32) -> u8
+pub fn octal_digit(number: u32) -> u8
     ensures { result ≡ octal_digit number }
 {
     b'0' + (number % 8) as u8
@@ -48,9 +48,26 @@ pub fn push_mode(line: &mut Vec<u8>, mode: Mode) -> Result<(), AllocError>
 pub fn push_number(line: &mut Vec<u8>, number: u64) -> Result<(), AllocError>
     ensures { OnOk result (line.new.items ≡ line.old.items ++ spaced number) }
 {
+    push_long_number(line, u128::from(number))
+}
+
+/// The same of greater numbers.
+pub fn push_long_number(line: &mut Vec<u8>, number: u128) -> Result<(), AllocError>
+    ensures { OnOk result (line.new.items ≡ line.old.items ++ spaced number) }
+{
     let mut buffer = Buffer::new();
     line.push(b' ')?;
     line.extend_from_slice(buffer.format(number).as_bytes())?;
+    Ok(())
+}
+
+/// Prints a text, where something holds.
+pub fn push_if(line: &mut Vec<u8>, holds: bool, text: &str) -> Result<(), AllocError>
+    ensures { OnOk result (line.new.items ≡ line.old.items ++ text_if holds text.now) }
+{
+    if holds {
+        line.extend_from_slice(text.as_bytes())?;
+    }
     Ok(())
 }
 

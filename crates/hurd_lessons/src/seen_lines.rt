@@ -1,0 +1,66 @@
+//! All that a set of tasks sees, a line for each thing.
+ghost use Rattle.std.specs.Prelude.{◌≡◌, ◌++◌, IfOk, OnOk};
+ghost use Rattle.hurd_lessons.specs.Seen.{seen_at, seen_line, seen_lines, seen_text};
+
+use crate::changes::{no_row, shows};
+use crate::lines::{add_from, row_at};
+use crate::places::place;
+use crate::seen_parts::seen_of;
+use hurd_creds::{Bytes, Name};
+use hurd_sight::View;
+use std::alloc::{AllocError, Global};
+
+/// Adds a name's line, where anything is seen under it.
+fn add_line(
+    alloc: Global,
+    text: &mut Vec<u8>,
+    who: &[u8],
+    view: &View,
+    name: Name,
+) -> Result<(), AllocError>
+    ensures { OnOk result (text.new.items ≡ text.old.items ++ seen_line who.now view.now name) }
+{
+    let nothing = no_row();
+    let row = row_at(view, name, &nothing);
+    if !shows(row) {
+        return Ok(());
+    }
+    let place = place(alloc, view, name, row)?;
+    let words = seen_of(alloc, row)?;
+    add_from(text, who, place.as_slice(), words.as_slice())
+}
+
+/// Adds a name's line, if there is a name.
+fn add_line_at(
+    alloc: Global,
+    text: &mut Vec<u8>,
+    who: &[u8],
+    view: &View,
+    name: Option<Name>,
+) -> Result<(), AllocError>
+    ensures { OnOk result (text.new.items ≡ text.old.items ++ seen_at who.now view.now name) }
+{
+    match name {
+        Some(name) => add_line(alloc, text, who, view, name),
+        None => Ok(()),
+    }
+}
+
+/// The lines of all names of a view, in its order.
+fn lines(alloc: Global, who: &[u8], view: &View) -> Result<Vec<u8>, AllocError>
+    ensures { IfOk result (λ text. text.items ≡ seen_text who.now view.now) }
+{
+    let mut text = Vec::new(alloc);
+    for i in 0..view.rows.len() {
+        add_line_at(alloc, &mut text, who, view, view.rows.name_at(i))?;
+    }
+    Ok(text)
+}
+
+/// All that is seen in a view, a line for each thing, in its order. The lines begin with two spaces and these words, as `alice sees`, and
+/// say where the thing is, and what is seen of it. An error is want of memory.
+pub fn seen(alloc: Global, who: &[u8], view: &View) -> Result<Bytes, AllocError>
+    ensures { IfOk result (λ text. text ≡ seen_text who.now view.now) }
+{
+    Ok(Bytes::new(lines(alloc, who, view)?))
+}
