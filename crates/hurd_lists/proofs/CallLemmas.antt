@@ -5,7 +5,7 @@ use Rattle.std.specs.Option.{option_map}
 use Rattle.hurd_trans_iface.specs.Meaning.{Meaning, Begins, begin}
 use Rattle.hurd_machine.specs.declared.call.Call as call
 use Rattle.hurd_machine.specs.declared.call.Call.TheVariants.{PortDeallocate, PortSend, PortReceive, AuthMakeauth, DirLookup, IoRead, IoWrite, IoSeek, IoStat, IoReadable, IoGetOpenmodes, IoSetAllOpenmodes, IoDuplicate, IoReauthenticate, IoRestrictAuth, IoIdentity, FileSetSize, FileChmod, FileChown, FileCheckAccess, FileSetTranslator, FileGetTranslator, FileGetTranslatorCntl, FileGetcontrol, FsysStartup, StartFailed, FsysGetroot, FsysGoaway, FsysGetOptions, FsysSetOptions, DirReaddir, DirMkdir, DirMkfile, DirRmdir, DirUnlink, DirLink, DirRename}
-use Rattle.hurd_machine.specs.Calls.{BringsBegun, Call, call_by}
+use Rattle.hurd_machine.specs.Calls.{BringsBegun, call_by}
 use Rattle.hurd_lists.specs.Calls.{begun, started, with_server}
 
 -- what a start with a server means

@@ -1,10 +1,11 @@
 -- The text of replies.
-use Rattle.std.specs.Prelude.{ℕ, ◌+◌, ◌/◌, ◌%◌, ◌==◌, ◌&&◌, ◌++◌, Bool, true, false, not, List, [], ◌∷◌, Option, Some, None, if◌then◌else◌, codes, decimal}
+use Rattle.std.specs.Prelude.{ℕ, ◌/◌, ◌==◌, ◌&&◌, ◌++◌, Bool, true, false, not, List, [], ◌∷◌, Option, Some, None, if◌then◌else◌, codes}
 use Rattle.hurd_creds.specs.Bits as bit
 use Rattle.hurd_creds.specs.Errors.{name_of}
 use Rattle.hurd_creds.specs.declared.attrs.Stat.{Stat}
 use Rattle.hurd_creds.specs.declared.open_flags.OpenFlags.{OpenFlags}
 use Rattle.hurd_lines.specs.Escapes.{escaped}
+use Rattle.hurd_lines.specs.Lines.{octal_digit, six_octal_digits, spaced, text_if}
 use Rattle.hurd_machine.specs.declared.call.Lookup.{Lookup}
 use Rattle.hurd_machine.specs.declared.call.Lookup.TheVariants as lookup
 use Rattle.hurd_machine.specs.Calls.{Reply}
@@ -23,10 +24,6 @@ unfoldable pub shown_names : List (List ℕ) → List ℕ
 shown_names [] = []
 shown_names (name ∷ names) = 32 ∷ shown name ++ shown_names names
 
--- a number in decimal digits, behind a space
-abbrev pub spaced : ℕ → List ℕ
-spaced n = 32 ∷ decimal n
-
 -- the name of a kind
 abbrev pub kind_name : Kind → List ℕ
 kind_name File = codes "File"
@@ -34,10 +31,6 @@ kind_name Dir = codes "Dir"
 kind_name Link = codes "Link"
 kind_name Fifo = codes "Fifo"
 kind_name Char = codes "Char"
-
--- the last octal digit of a number
-abbrev pub octal_digit : ℕ → ℕ
-octal_digit n = 48 + n % 8
 
 -- the last octal digit of a number that is not zero
 abbrev pub high_digit : ℕ → List ℕ
@@ -47,11 +40,6 @@ high_digit n = if n == 0 then [] else octal_digit n ∷ []
 abbrev pub high_digits : ℕ → List ℕ
 high_digits n =
     high_digit (n / 1073741824) ++ (high_digit (n / 134217728) ++ (high_digit (n / 16777216) ++ (high_digit (n / 2097152) ++ high_digit (n / 262144))))
-
--- the last six octal digits of a number
-abbrev pub six_digits : ℕ → List ℕ
-six_digits n =
-    octal_digit (n / 32768) ∷ octal_digit (n / 4096) ∷ octal_digit (n / 512) ∷ octal_digit (n / 64) ∷ octal_digit (n / 8) ∷ octal_digit n ∷ []
 
 -- the name of a flag, if it is there, behind a comma where it is not the first
 abbrev pub flag_text : Bool → Bool → List ℕ → List ℕ
@@ -68,14 +56,9 @@ listed_flags first f (row ∷ rows) = flag_text first (bit.asks f row.0) row.1 +
 abbrev pub flags_text : OpenFlags → List ℕ
 flags_text f = listed_flags true f ((bit.READ, codes "READ") ∷ (bit.WRITE, codes "WRITE") ∷ (bit.EXEC, codes "EXEC") ∷ (bit.APPEND, codes "APPEND") ∷ (bit.CREATE, codes "CREATE") ∷ (bit.EXCL, codes "EXCL") ∷ (bit.NOTRANS, codes "NOTRANS") ∷ (bit.NOLINK, codes "NOLINK") ∷ (bit.DIRECTORY, codes "DIRECTORY") ∷ [])
 
--- a text, where something holds
-abbrev pub text_if : Bool → List ℕ → List ℕ
-text_if true text = text
-text_if false text = []
-
 -- a mode behind a space, as six octal digits, or more where it has them
 unfoldable pub mode_text : ℕ → List ℕ
-mode_text n = 32 ∷ high_digits n ++ six_digits n
+mode_text n = 32 ∷ high_digits n ++ six_octal_digits n
 
 -- how many entries name a node, its size and its translators
 unfoldable pub stat_rest : Stat → List ℕ

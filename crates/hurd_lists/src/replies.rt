@@ -1,14 +1,13 @@
 //! The text of replies.
 ghost use Rattle.std.specs.Prelude.{◌≡◌, ◌++◌, ◌∷◌, [], if◌then◌else◌, List, ℕ, IfOk, OnOk};
 ghost use Rattle.hurd_machine.specs.Calls.{reply_by};
-ghost use Rattle.hurd_lists.specs.Replies.{flags_text, high_digit, high_digits, kind_name, listed_flags, lookup_text, octal_digit, port_text, reply_text, retry_name, shown, shown_names, six_digits, spaced, mode_text, stat_rest, stat_text, text_if, told};
+ghost use Rattle.hurd_lists.specs.Replies.{flags_text, high_digit, high_digits, kind_name, listed_flags, lookup_text, port_text, reply_text, retry_name, shown, shown_names, mode_text, stat_rest, stat_text, told};
 
 use bitflags::Flags;
 use hurd_creds::{Bytes, Kind, Mode, OpenFlags, Stat};
-use hurd_lines::push_escaped;
+use hurd_lines::{octal_digit, push_escaped, push_if, push_mode, push_number};
 use hurd_machine::{Lookup, Reply, RetryKind};
 use hurd_trans_iface::Server;
-use itoa::Buffer;
 use std::alloc::{AllocError, Global};
 
 /// Prints bytes behind `=`.
@@ -37,16 +36,6 @@ fn push_spaced(text: &mut Vec<u8>, bytes: &[u8]) -> Result<(), AllocError>
     push_bytes(text, bytes)
 }
 
-/// Prints a number behind a space.
-fn push_number(text: &mut Vec<u8>, number: u64) -> Result<(), AllocError>
-    ensures { OnOk result (text.new.items ≡ text.old.items ++ spaced number) }
-{
-    let mut buffer = Buffer::new();
-    text.push(b' ')?;
-    text.extend_from_slice(buffer.format(number).as_bytes())?;
-    Ok(())
-}
-
 /// The name of a kind.
 fn kind_name(kind: Kind) -> &'static str
     ensures { result.now ≡ kind_name kind }
@@ -58,13 +47,6 @@ fn kind_name(kind: Kind) -> &'static str
         Kind::Fifo => "Fifo",
         Kind::Char => "Char",
     }
-}
-
-/// The last octal digit of a number.
-fn octal_digit(number: u32) -> u8
-    ensures { result ≡ octal_digit number }
-{
-    b'0' + (number % 8) as u8
 }
 
 /// Prints the last octal digit of a number, unless the number is zero.
@@ -90,32 +72,12 @@ fn push_high_digits(text: &mut Vec<u8>, number: u32) -> Result<(), AllocError>
 
 /// Prints a mode behind a space, as six octal digits, or more where it has them.
 #[tactic(auto, unfolding(crate::specs::Replies::mode_text))]
-fn push_mode(text: &mut Vec<u8>, mode: Mode) -> Result<(), AllocError>
+fn push_whole_mode(text: &mut Vec<u8>, mode: Mode) -> Result<(), AllocError>
     ensures { OnOk result (text.new.items ≡ text.old.items ++ mode_text mode.0) }
 {
-    let bits = mode.bits();
     text.push(b' ')?;
-    push_high_digits(text, bits)?;
-    let digits = [
-        octal_digit(bits / 0o100000),
-        octal_digit(bits / 0o10000),
-        octal_digit(bits / 0o1000),
-        octal_digit(bits / 0o100),
-        octal_digit(bits / 0o10),
-        octal_digit(bits),
-    ];
-    text.extend_from_slice(&digits)?;
-    Ok(())
-}
-
-/// Prints a text, where something holds.
-fn push_if(text: &mut Vec<u8>, holds: bool, words: &str) -> Result<(), AllocError>
-    ensures { OnOk result (text.new.items ≡ text.old.items ++ text_if holds words.now) }
-{
-    if holds {
-        text.extend_from_slice(words.as_bytes())?;
-    }
-    Ok(())
+    push_high_digits(text, mode.bits())?;
+    push_mode(text, mode)
 }
 
 /// Prints how many entries name a node, its size and its translators.
@@ -137,7 +99,7 @@ fn push_stat(text: &mut Vec<u8>, stat: &Stat) -> Result<(), AllocError>
     text.extend_from_slice(kind_name(stat.kind).as_bytes())?;
     push_number(text, u64::from(stat.owner))?;
     push_number(text, u64::from(stat.group))?;
-    push_mode(text, stat.mode)?;
+    push_whole_mode(text, stat.mode)?;
     push_rest(text, stat)
 }
 
