@@ -177,6 +177,7 @@ took f world left commands given at c waiting server stage answer is waits here 
       refl,
       refl,
       refl,
+      refl,
     )
 
 -- and its world hangs together
@@ -214,6 +215,7 @@ told_next f world left commands given after at next c (Told text) want within he
       left = turn_left at commands given c _ _ (Told text) within here same ∙ part_told c _ text _;
       fine = refl;
       waits = refl;
+      given = refl;
     })
 told_next f world left commands given after at next c (Waits waiting) want within here same s =
     let turned = turn_left at commands given c _ (world_of f left) (Waits waiting) within here same in
@@ -222,5 +224,6 @@ told_next f world left commands given after at next c (Waits waiting) want withi
       subst (λ (d : Dialogue). AsksFor d waiting.words) (sym turned) (waits_asks c (dialogue (drop (given + 1) commands)) waiting (world_of f left)),
       refl,
       lt-ltb _ _ within,
+      refl,
       refl,
     )

@@ -1,5 +1,5 @@
 -- A session: a script on its way.
-use Rattle.std.specs.Prelude.{◌≡◌, ◌⊎◌, ℕ, ◌&&◌, Bool, true, false, length, nat_lt, List, [], ◌∷◌, drop, slice_get, Option, Some, None, Result, Ok, Err, IsOk, refl}
+use Rattle.std.specs.Prelude.{◌≡◌, ◌⊎◌, ℕ, ◌+◌, ◌&&◌, Bool, true, false, length, nat_lt, List, [], ◌∷◌, drop, slice_get, Option, Some, None, Result, Ok, Err, IsOk, refl}
 use Rattle.std.specs.Option.{option_map}
 use Rattle.std.specs.Coded.{Coded, code_by, coded×, coded_ℕ, coded_list}
 use Rattle.hurd_trans_iface.specs.Meaning.{Meaning}
@@ -90,6 +90,7 @@ pub record BegunWith {S : Type 0} (f : S → Meaning) (m : Meaning) (users : Lis
   pub left : left_in f s ≡ dialogue commands (first_world m users)
   pub fine : has_failed s ≡ false
   pub waits : waits_for s ≡ false
+  pub given : s.given ≡ 0
   pub sound : Sound (world_of f s.world)
 
 -- a session that has all of what a script tells before it
@@ -103,6 +104,7 @@ pub record Gives {S : Type 0} (f : S → Meaning) (old : View S) (text : List �
   pub left : left_in f old ≡ tells (record { task = task; text = text; world = world_of f new.world }) (left_in f new)
   pub fine : has_failed new ≡ false
   pub waits : waits_for new ≡ false
+  pub given : new.given ≡ old.given + 1
 
 -- what a session gives its caller is the head of what it has to tell: a part, behind which the rest is left; the words of the server
 -- that is asked for, again at each call until that is answered; or the end. Memory may be refused, and then for good
@@ -110,7 +112,7 @@ abbrev pub Tells : {S : Type 0} → (S → Meaning) → View S → Result Want S
 Tells f old (Ok (Output text)) new = Gives f old text new
 Tells f old (Ok (Server words)) new =
     (left_in f new ≡ left_in f old) × AsksFor (left_in f old) words × (has_failed new ≡ false) × (waits_for new ≡ true)
-    × (next_task new ≡ next_task old)
+    × (next_task new ≡ next_task old) × (new.given ≡ old.given)
 Tells f old (Ok Done) new = (left_in f old ≡ ends) × (new ≡ old)
 Tells f old (Err e) new = (e ≡ Memory) × (has_failed new ≡ true)
 
@@ -123,7 +125,7 @@ Answers _ server left = ⊥
 abbrev pub Takes : {S : Type 0} → (S → Meaning) → View S → Option Meaning → View S → Type 0
 Takes f old server new =
     Answers (left_in f old) server (left_in f new) × (waits_for old ≡ true) × (has_failed new ≡ false) × (waits_for new ≡ false)
-    × (next_task new ≡ next_task old)
+    × (next_task new ≡ next_task old) × (new.given ≡ old.given)
 
 -- an answer was taken, unless memory was refused
 abbrev pub TakesUnlessFailed : {S : Type 0} → (S → Meaning) → View S → Option Meaning → View S → Type 0

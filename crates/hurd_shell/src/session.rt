@@ -163,6 +163,13 @@ impl<S: Server> Session<S> {
         &self.world
     }
 
+    /// How many commands are made.
+    pub fn made(&self) -> usize
+        ensures { result ≡ self.now.given }
+    {
+        self.given
+    }
+
     /// The task whose command is next, or is on its way; none behind the last.
     pub fn task(&self) -> Option<TaskId>
         ensures { option_map (λ (t : TaskId). t.0) result ≡ next_task self.now }

@@ -40,6 +40,27 @@ fn tell_all<W: Write>(
     alloc: Global,
     calls: Vec<ListedCall<ServerBox>>,
     learners: &Learners,
+    watch: &mut Watch,
+    output: &mut Output<W>,
+) -> Result<(), Fault>
+    requires { watch.old.seen ≡ None }
+    ensures ok { OnOk result (Shown (made learners.now.tasks.items learners.now.who.items (map (listed_by box_meaning) calls.items) (world_of box_meaning world.old)) learners.now
+        (W.contents output.old.writer) (W.contents output.new.writer)) }
+    ensures err { IfErr result (λ fault. NotTold (made learners.now.tasks.items learners.now.who.items (map (listed_by box_meaning) calls.items) (world_of box_meaning world.old))
+        learners.now output.new (W.contents output.old.writer) fault (W.contents output.new.writer)) }
+{
+    let mut tally = Tally::new();
+    make_all(world, alloc, calls, learners, watch, &mut tally, output)?;
+    let line = tally.line(alloc, learners.names.as_slice(), CALLS)?;
+    output.print(line.as_slice())
+}
+
+/// The same, with nothing seen yet.
+fn tell_anew<W: Write>(
+    world: &mut World<ServerBox>,
+    alloc: Global,
+    calls: Vec<ListedCall<ServerBox>>,
+    learners: &Learners,
     output: &mut Output<W>,
 ) -> Result<(), Fault>
     ensures ok { OnOk result (Shown (made learners.now.tasks.items learners.now.who.items (map (listed_by box_meaning) calls.items) (world_of box_meaning world.old)) learners.now
@@ -48,12 +69,7 @@ fn tell_all<W: Write>(
         learners.now output.new (W.contents output.old.writer) fault (W.contents output.new.writer)) }
 {
     let mut watch = Watch::new();
-    let mut tally = Tally::new();
-    make_all(
-        world, alloc, calls, learners, &mut watch, &mut tally, output,
-    )?;
-    let line = tally.line(alloc, learners.names.as_slice(), CALLS)?;
-    output.print(line.as_slice())
+    tell_all(world, alloc, calls, learners, &mut watch, output)
 }
 
 /// Makes the calls of a list over an empty tree in memory, and prints all that is told and learned of them, and the last line.
@@ -74,7 +90,7 @@ fn learn<W: Write>(
 {
     let root = ServerBox::Tmpfs(empty_tree(alloc)?);
     let mut world = begun(alloc, root, tasks)?;
-    tell_all(&mut world, alloc, calls, learners, output)
+    tell_anew(&mut world, alloc, calls, learners, output)
 }
 
 /// Reads a list's text, makes its calls, and prints what is told and learned by the tasks that a word names; whether all of them are its tasks:
@@ -92,7 +108,7 @@ fn run_text<W: Write>(
     ensures write { result ≡ Err Fault.Write → output.new.failed ≡ true }
 {
     let CallList { tasks, calls } = parsed(alloc, text)?;
-    match named(alloc, tasks.len(), word)? {
+    match named(alloc, tasks.as_slice().len(), word)? {
         Some(learners) => {
             learn(alloc, tasks, calls, &learners, output)?;
             Ok(true)

@@ -4,6 +4,9 @@ use Rattle.hurd_teaching.proofs.ShownLaws.{line_missing, line_not_told, line_sho
 use Rattle.hurd_tasks_learn.proofs.ListLaws.{front_shown}
 use Rattle.hurd_tasks_learn.proofs.run.tell_all.Goals as goal
 
+pub make_all-requires : goal.make_all-requires
+make_all-requires g c = rw c.requires tt
+
 pub returns-in_err-make_all-clause-err : goal.returns-in_err-make_all-clause-err
 returns-in_err-make_all-clause-err g c =
     let p = err_from_is_err_and c.from_residual.result c.from_residual.ensures.1 in

@@ -12,6 +12,7 @@ returns-in-Ok-clause-ok g c =
         left = between c.args.script.commands.items _ ∙ ap (dialogue c.args.script.commands.items) booted.ok.1;
         fine = refl;
         waits = refl;
+        given = refl;
         sound = booted.sound;
       },
     )
