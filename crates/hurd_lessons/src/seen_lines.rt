@@ -1,6 +1,6 @@
 //! All that a set of tasks sees, a line for each thing.
 ghost use Rattle.std.specs.Prelude.{◌≡◌, ◌++◌, IfOk, OnOk};
-ghost use Rattle.hurd_lessons.specs.Seen.{seen_at, seen_line, seen_lines, seen_text};
+ghost use Rattle.hurd_lessons.specs.Seen.{seen_at, seen_line, seen_text};
 
 use crate::changes::{no_row, shows};
 use crate::lines::{add_from, row_at};

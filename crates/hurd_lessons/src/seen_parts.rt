@@ -1,10 +1,10 @@
 //! What is seen under a name, by its parts, in words.
 ghost use Rattle.std.specs.Prelude.{◌≡◌, ◌++◌, IfOk, OnOk};
 ghost use Rattle.std.specs.Option.{option_map};
-ghost use Rattle.hurd_lessons.specs.Seen.{body_part, body_text, bytes_text, empty_part, empty_text, entry_names, held_text, listing_text, modes_text, node_text, open_text, passive_text, seen_of, server_text, users_text, with_part};
+ghost use Rattle.hurd_lessons.specs.Seen.{body_part, body_text, bytes_text, empty_part, entry_names, held_text, listing_text, modes_text, node_text, open_text, passive_text, seen_of, server_text, users_text, with_part};
 
 use crate::said::part;
-use hurd_creds::{Bytes, Name, OpenFlags};
+use hurd_creds::{Bytes, OpenFlags};
 use hurd_lines::{push_escaped, push_if, push_long_number, push_number, push_stat, push_words};
 use hurd_ports::Opened;
 use hurd_sight::{BodyRow, EntryRow, NodeRow, OpenRow, Row, ServerRow};

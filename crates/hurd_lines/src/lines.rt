@@ -1,5 +1,5 @@
 //! The lines that `ls -d`, `showtrans` and `fsysopts` print, and what they are made of.
-ghost use Rattle.std.specs.Prelude.{◌≡◌, ◌++◌, ◌∷◌, List, ℕ, IfOk, OnOk};
+ghost use Rattle.std.specs.Prelude.{◌≡◌, ◌++◌, IfOk, OnOk};
 ghost use Rattle.hurd_lines.specs.Lines.{kind_letter, octal_digit, six_octal_digits, spaced, spaced_words, spelled, spelled_byte, stat_line, stat_words, text_if, words_line};
 
 use bitflags::Flags;
