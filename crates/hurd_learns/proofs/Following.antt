@@ -1,5 +1,5 @@
 -- What is printed of a session that is watched, on the way.
-use Rattle.std.proofs.Common.{◌≡◌, ◌∙◌, inl, inr, refl, sym, ap, subst, ℕ, true, false, true≢false, List, [], ◌∷◌, ◌++◌, length, Option, Some, None, append-nil, arith}
+use Rattle.std.proofs.Common.{◌≡◌, ◌∙◌, ◌+◌, inl, inr, refl, sym, ap, subst, ℕ, true, false, true≢false, List, [], ◌∷◌, ◌++◌, length, Option, Some, None, append-nil, arith}
 use Rattle.std.proofs.KnownBytes.{Appends-nil, Appends-trans}
 use Rattle.std.proofs.lemmas.List.{take_all}
 use Rattle.std.specs.Io.KnownBytes.{Appends}
@@ -19,7 +19,7 @@ use Rattle.hurd_shell.specs.Transcript.{AsksFor, Dialogue, ends, dialogue, parts
 use Rattle.hurd_shell.proofs.IsolationLaws.{one_part_each}
 use Rattle.hurd_sight.specs.Reach.{among}
 use Rattle.hurd_sight.specs.declared.view.View as sight
-use Rattle.hurd_lessons.specs.Told.{Lesson, Said, counted, printed, tally_from}
+use Rattle.hurd_lessons.specs.Told.{Said, counted, printed, tally_from}
 use Rattle.hurd_lessons.specs.declared.tally.Tally.{Tally}
 use Rattle.hurd_terminal.specs.Faults.{IsPrintFault}
 use Rattle.hurd_terminal.specs.declared.fault.Fault.{Fault}
@@ -27,18 +27,18 @@ use Rattle.hurd_terminal.specs.declared.fault.Fault.TheVariants.{Read, Write, Ba
 use Rattle.hurd_terminal.specs.declared.print.Output.{Output}
 use Rattle.hurd_terminal.proofs.OutputLaws.{front_follows}
 use Rattle.hurd_tmpfs.specs.Tree.{new_tmpfs}
-use Rattle.hurd_learns.specs.Lessons.{LessonsOf}
+use Rattle.hurd_learns.specs.Lessons.{LessonsOf, Speech}
 use Rattle.hurd_teaching.specs.Shown.{ToldAll}
 use Rattle.hurd_learns.specs.Runs.{NotAll, NotBegun, ToldSome, made, told_text}
 use Rattle.hurd_learns.specs.Steps.{Asks, IsTold, Makes, Nothing, StepsTo, Stops}
 use Rattle.hurd_learns.specs.declared.steps.Step.{Step}
 use Rattle.hurd_learns.specs.declared.steps.Step.TheVariants.{Told, Made, Done}
 use Rattle.hurd_learns.proofs.Going.{Came, came_answered, came_none, came_printed, came_told, came_whole, tally_more}
-use Rattle.hurd_learns.proofs.LessonLaws.{came_lessons}
+use Rattle.hurd_learns.proofs.LessonLaws.{came_lessons, saying}
 use Rattle.hurd_learns.proofs.StepLaws.{Fits, asks_fit, asks_watched, makes_counts, makes_fit, makes_lesson}
 
 -- a fault that stops the printing of what was begun
-pub not_all : {W : Type 0} (tasks : List TaskId) (who : List ℕ) (users : List IdSets) (commands : List CommandLine) (output : Output W) (before after : Option (List ℕ)) (fault : Fault) → IsPrintFault output fault
+pub not_all : {W : Type 0} (tasks : List TaskId) (who : Speech) (users : List IdSets) (commands : List CommandLine) (output : Output W) (before after : Option (List ℕ)) (fault : Fault) → IsPrintFault output fault
     → ToldSome tasks who users commands before after → NotAll tasks who users commands output before fault after
 not_all tasks who users commands output before after Read printed some = (printed, some)
 not_all tasks who users commands output before after Write printed some = (printed, some)
@@ -48,12 +48,12 @@ not_all tasks who users commands output before after (Boot e) (inr memory) some 
 not_all tasks who users commands output before after Memory printed some = (printed, some)
 
 -- nothing was made
-pub nothing_told : (tasks : List TaskId) (who : List ℕ) (users : List IdSets) (commands : List CommandLine) (before : Option (List ℕ)) → ToldSome tasks who users commands before before
+pub nothing_told : (tasks : List TaskId) (who : Speech) (users : List IdSets) (commands : List CommandLine) (before : Option (List ℕ)) → ToldSome tasks who users commands before before
 nothing_told tasks who users commands before =
     record { done = 0; said = []; lessons = refl; front = ([], (told_text users commands [], refl), Appends-nil before) }
 
 -- no session was begun
-pub not_begun : {W : Type 0} (tasks : List TaskId) (who : List ℕ) (users : List IdSets) (commands : List CommandLine) (output : Output W) (before : Option (List ℕ)) (fault : Fault) → NotBegun new_tmpfs users fault
+pub not_begun : {W : Type 0} (tasks : List TaskId) (who : Speech) (users : List IdSets) (commands : List CommandLine) (output : Output W) (before : Option (List ℕ)) (fault : Fault) → NotBegun new_tmpfs users fault
     → NotAll tasks who users commands output before fault before
 not_begun tasks who users commands output before Read none = absurd none
 not_begun tasks who users commands output before Write none = absurd none
@@ -61,76 +61,90 @@ not_begun tasks who users commands output before (Bad line) none = absurd none
 not_begun tasks who users commands output before (Boot e) none = (none, refl)
 not_begun tasks who users commands output before Memory none = (inr refl, nothing_told tasks who users commands before)
 
+one_longer : (said : List Said) (s : Said) → length (said ++ s ∷ []) ≡ length said + 1
+one_longer [] s = refl
+one_longer (a ∷ said) s = let longer = one_longer said s in omega (arith, longer)
+
 -- what was said and printed so far of these commands, and where the session stands
-pub record Following {S : Type 0} (f : S → Meaning) (tasks : List TaskId) (who : List ℕ) (users : List IdSets) (commands : List CommandLine)
+pub record Following {S : Type 0} (f : S → Meaning) (tasks : List TaskId) (who : Speech) (users : List IdSets) (commands : List CommandLine)
     (tally : Tally) (before : Option (List ℕ)) (s : View S) (seen : Option sight.View) (count : Tally) (now : Option (List ℕ)) : Type 0 where
   pub said : List Said
   pub at : World
   pub rest : Dialogue
-  pub came : Came (Lesson tasks who) begin (first_world new_tmpfs users) (dialogue commands (first_world new_tmpfs users)) said at rest
+  pub came : Came (saying tasks who) begin 0 (first_world new_tmpfs users) (dialogue commands (first_world new_tmpfs users)) said at rest
   pub left : has_failed s ≡ false → left_in f s ≡ rest
   pub appends : Appends before now (told_text users commands said)
   pub counts : count ≡ tally_from (among tasks) tally said
   pub fits : has_failed s ≡ false → Fits f tasks at s seen
+  pub given : has_failed s ≡ false → s.given ≡ length said
 
 -- at the beginning
-pub following_none : {S : Type 0} (f : S → Meaning) (tasks : List TaskId) (who : List ℕ) (users : List IdSets) (commands : List CommandLine)
+pub following_none : {S : Type 0} (f : S → Meaning) (tasks : List TaskId) (who : Speech) (users : List IdSets) (commands : List CommandLine)
     (tally : Tally) (before : Option (List ℕ)) (s : View S) (seen : Option sight.View) → BegunWith f new_tmpfs users commands s → seen ≡ None
     → Following f tasks who users commands tally before s seen tally before
 following_none f tasks who users commands tally before s seen begun none = record {
   said = [];
   at = first_world new_tmpfs users;
   rest = dialogue commands (first_world new_tmpfs users);
-  came = came_none (Lesson tasks who) begin (first_world new_tmpfs users) (dialogue commands (first_world new_tmpfs users));
+  came = came_none (saying tasks who) begin 0 (first_world new_tmpfs users) (dialogue commands (first_world new_tmpfs users));
   left = λ _. begun.left;
   appends = subst (λ (bs : List ℕ). Appends before before bs) (sym (nothing_printed (parts_by begin (dialogue commands (first_world new_tmpfs users))))) (Appends-nil before);
   counts = refl;
   fits = λ _. record { seen = rw none tt; unseen = λ _ t next other. begun.world };
+  given = λ _. begun.given;
 }
   where
     nothing_printed : (parts : List (List ℕ)) → printed parts [] ≡ []
     nothing_printed [] = refl
     nothing_printed (part ∷ parts) = refl
 
-module _ {S : Type 0} (f : S → Meaning) (tasks : List TaskId) (who : List ℕ) (users : List IdSets) (commands : List CommandLine) (tally : Tally) (before : Option (List ℕ)) where
+module _ {S : Type 0} (f : S → Meaning) (tasks : List TaskId) (who : Speech) (users : List IdSets) (commands : List CommandLine) (tally : Tally) (before : Option (List ℕ)) where
   abbrev pub Follows : View S → Option sight.View → Tally → Option (List ℕ) → Type 0
   Follows s seen count now = Following f tasks who users commands tally before s seen count now
 
   -- what is printed with one command more
-  grown : (s x : View S) (seen kept : Option sight.View) (count : Tally) (now : Option (List ℕ)) (text said : List ℕ)
-      (is : Follows s seen count now) (makes : Makes f tasks who s seen text said x kept)
-      → told_text users commands (is.said ++ record { task = makes.gives.task; text = said } ∷ []) ≡ told_text users commands is.said ++ (text ++ said)
-  grown s x seen kept count now text said is makes =
-      came_printed (Lesson tasks who) begin _ is.at (dialogue commands (first_world new_tmpfs users)) is.rest (left_in f x) is.said _ (record { task = makes.gives.task; text = said })
+  grown : (s x : View S) (seen kept : Option sight.View) (count : Tally) (now : Option (List ℕ)) (text said shown : List ℕ)
+      (is : Follows s seen count now) (makes : Makes f tasks who s seen text said shown x kept)
+      → told_text users commands (is.said ++ record { task = makes.gives.task; text = said; shown = shown } ∷ []) ≡ told_text users commands is.said ++ (text ++ (said ++ shown))
+  grown s x seen kept count now text said shown is makes =
+      came_printed (saying tasks who) begin 0 _ is.at (dialogue commands (first_world new_tmpfs users)) is.rest (left_in f x) is.said _ (record { task = makes.gives.task; text = said; shown = shown })
       is.came (sym (is.left makes.fine) ∙ makes.gives.left)
 
+  -- how many commands are made with it
+  made_with : (s x : View S) (seen kept : Option sight.View) (count : Tally) (now : Option (List ℕ)) (text said shown : List ℕ)
+      (is : Follows s seen count now) (makes : Makes f tasks who s seen text said shown x kept) → x.given ≡ length is.said + 1
+  made_with s x seen kept count now text said shown is makes = makes.gives.given ∙ ap (λ (n : ℕ). n + 1) (is.given makes.fine)
+
   -- and where that has come
-  further : (s x : View S) (seen kept : Option sight.View) (count : Tally) (now : Option (List ℕ)) (text said : List ℕ)
-      (is : Follows s seen count now) (makes : Makes f tasks who s seen text said x kept)
-      → Came (Lesson tasks who) begin (first_world new_tmpfs users) (dialogue commands (first_world new_tmpfs users))
-      (is.said ++ record { task = makes.gives.task; text = said } ∷ []) (world_of f x.world) (left_in f x)
-  further s x seen kept count now text said is makes =
-      came_told (Lesson tasks who) begin _ is.at (dialogue commands (first_world new_tmpfs users)) is.rest (left_in f x) is.said _ said is.came (sym (is.left makes.fine) ∙ makes.gives.left)
-      (makes_lesson f tasks s who x seen kept text said makes is.at (is.fits makes.fine))
+  further : (s x : View S) (seen kept : Option sight.View) (count : Tally) (now : Option (List ℕ)) (text said shown : List ℕ)
+      (is : Follows s seen count now) (makes : Makes f tasks who s seen text said shown x kept)
+      → Came (saying tasks who) begin 0 (first_world new_tmpfs users) (dialogue commands (first_world new_tmpfs users))
+      (is.said ++ record { task = makes.gives.task; text = said; shown = shown } ∷ []) (world_of f x.world) (left_in f x)
+  further s x seen kept count now text said shown is makes =
+      came_told (saying tasks who) begin 0 x.given _ is.at (dialogue commands (first_world new_tmpfs users)) is.rest (left_in f x) is.said _ said shown is.came (sym (is.left makes.fine) ∙ makes.gives.left)
+      (made_with s x seen kept count now text said shown is makes)
+      (makes_lesson f tasks s who x seen kept text said shown makes is.at (is.fits makes.fine), makes.adds.shows)
 
   -- a command was made and printed
   pub following_told : (s x : View S) (seen kept : Option sight.View) (count new : Tally) (now later : Option (List ℕ)) → Follows s seen count now
       → IsTold f tasks who s seen count now x kept new later → Follows x kept new later
   following_told s x seen kept count new now later is told =
       let makes = told.makes in
+      let more : Said = record { task = makes.gives.task; text = told.said; shown = told.shown } in
       record {
-        said = is.said ++ record { task = makes.gives.task; text = told.said } ∷ [];
+        said = is.said ++ more ∷ [];
         at = world_of f x.world;
         rest = left_in f x;
-        came = further s x seen kept count now told.text told.said is makes;
+        came = further s x seen kept count now told.text told.said told.shown is makes;
         left = λ _. refl;
-        appends = subst (λ (bs : List ℕ). Appends before later bs) (sym (grown s x seen kept count now told.text told.said is makes))
-            (Appends-trans before now later (told_text users commands is.said) (told.text ++ told.said) is.appends told.appends);
+        appends = subst (λ (bs : List ℕ). Appends before later bs) (sym (grown s x seen kept count now told.text told.said told.shown is makes))
+            (Appends-trans before now later (told_text users commands is.said) (told.text ++ (told.said ++ told.shown)) is.appends told.appends);
         counts = told.counts
-            ∙ (makes_counts f tasks s who x seen kept told.text told.said makes count
+            ∙ (makes_counts f tasks s who x seen kept told.text told.said told.shown makes count
             ∙ (ap (λ (t : Tally). if among tasks makes.gives.task then t else counted t told.said) is.counts
-            ∙ sym (tally_more (among tasks) tally is.said (record { task = makes.gives.task; text = told.said }))));
-        fits = λ _. makes_fit f tasks s who x seen kept told.text told.said makes;
+            ∙ sym (tally_more (among tasks) tally is.said more)));
+        fits = λ _. makes_fit f tasks s who x seen kept told.text told.said told.shown makes;
+        given = λ _. made_with s x seen kept count now told.text told.said told.shown is makes ∙ sym (one_longer is.said more);
       }
 
   -- a server was asked for and answered
@@ -146,6 +160,7 @@ module _ {S : Type 0} (f : S → Meaning) (tasks : List TaskId) (who : List ℕ)
     appends = subst (λ (bytes : Option (List ℕ)). Appends before bytes (told_text users commands is.said)) (sym nothing.printed) is.appends;
     counts = nothing.counts ∙ is.counts;
     fits = fits_by takes;
+    given = given_by takes;
   }
     where
       rest_by : TakesUnlessFailed f x m u → Dialogue
@@ -158,16 +173,20 @@ module _ {S : Type 0} (f : S → Meaning) (tasks : List TaskId) (who : List ℕ)
       asked : AsksFor (left_in f x) asks.words
       asked = subst (λ (d : Dialogue). AsksFor d asks.words) (sym asks.tells.0) asks.tells.1
 
-      came_by : (t : TakesUnlessFailed f x m u) → Came (Lesson tasks who) begin (first_world new_tmpfs users) (dialogue commands (first_world new_tmpfs users)) is.said is.at (rest_by t)
+      came_by : (t : TakesUnlessFailed f x m u) → Came (saying tasks who) begin 0 (first_world new_tmpfs users) (dialogue commands (first_world new_tmpfs users)) is.said is.at (rest_by t)
       came_by (inl failed) = is.came
       came_by (inr takes) =
-          came_answered (Lesson tasks who) begin (first_world new_tmpfs users) is.at (dialogue commands (first_world new_tmpfs users)) (left_in f x) (left_in f u) is.said asks.words
-          (subst (λ (d : Dialogue). Came (Lesson tasks who) begin (first_world new_tmpfs users) (dialogue commands (first_world new_tmpfs users)) is.said is.at d) (sym (asks.tells.0 ∙ is.left asks.fine)) is.came)
+          came_answered (saying tasks who) begin 0 (first_world new_tmpfs users) is.at (dialogue commands (first_world new_tmpfs users)) (left_in f x) (left_in f u) is.said asks.words
+          (subst (λ (d : Dialogue). Came (saying tasks who) begin 0 (first_world new_tmpfs users) (dialogue commands (first_world new_tmpfs users)) is.said is.at d) (sym (asks.tells.0 ∙ is.left asks.fine)) is.came)
           asked (made takes.0)
 
       left_by : (t : TakesUnlessFailed f x m u) → has_failed u ≡ false → left_in f u ≡ rest_by t
       left_by (inl failed) fine = absurd (let no = fine in cc)
       left_by (inr takes) fine = refl
+
+      given_by : TakesUnlessFailed f x m u → has_failed u ≡ false → u.given ≡ length is.said
+      given_by (inl failed) fine = absurd (let no = fine in cc)
+      given_by (inr takes) fine = takes.5 ∙ (asks.tells.5 ∙ is.given asks.fine)
 
       fits_by : TakesUnlessFailed f x m u → has_failed u ≡ false → Fits f tasks is.at u kept
       fits_by (inl failed) fine = absurd (let no = fine in cc)
@@ -182,11 +201,11 @@ module _ {S : Type 0} (f : S → Meaning) (tasks : List TaskId) (who : List ℕ)
   following_done s seen count new now later is fine all nothing =
       let w = first_world new_tmpfs users in
       let each : length is.said ≡ length commands =
-      came_whole (Lesson tasks who) begin w is.at (dialogue commands w) is.rest is.said is.came (sym (is.left fine) ∙ all) ∙ one_part_each begin commands w in
+      came_whole (saying tasks who) begin 0 w is.at (dialogue commands w) is.rest is.said is.came (sym (is.left fine) ∙ all) ∙ one_part_each begin commands w in
       record {
         said = is.said;
-        lessons = subst (λ (cs : List CommandLine). LessonsOf tasks who begin cs w is.said) (take_all (length is.said) commands (omega (arith, each)))
-            (came_lessons tasks who begin commands w is.at is.rest is.said is.came);
+        lessons = subst (λ (cs : List CommandLine). LessonsOf tasks who begin 0 cs w is.said) (take_all (length is.said) commands (omega (arith, each)))
+            (came_lessons tasks who begin 0 commands w is.at is.rest is.said is.came);
         appends = subst (λ (bytes : Option (List ℕ)). Appends before bytes (told_text users commands is.said)) (sym nothing.printed) is.appends;
         counts = nothing.counts ∙ is.counts;
       }
@@ -200,19 +219,19 @@ module _ {S : Type 0} (f : S → Meaning) (tasks : List TaskId) (who : List ℕ)
       record {
         done = length is.said;
         said = is.said;
-        lessons = came_lessons tasks who begin commands w is.at is.rest is.said is.came;
+        lessons = came_lessons tasks who begin 0 commands w is.at is.rest is.said is.came;
         front = (told_text users commands is.said, ([], sym (append-nil (told_text users commands is.said))), subst (λ (bytes : Option (List ℕ)). Appends before bytes (told_text users commands is.said)) (sym same) is.appends);
       }
   following_stopped s x seen kept count now later is (inr cut) =
       let w = first_world new_tmpfs users in
-      let more : List Said = is.said ++ record { task = cut.makes.gives.task; text = cut.said } ∷ [] in
-      let whole : told_text users commands more ≡ told_text users commands is.said ++ (cut.text ++ cut.said) = grown s x seen kept count now cut.text cut.said is cut.makes in
+      let more : List Said = is.said ++ record { task = cut.makes.gives.task; text = cut.said; shown = cut.shown } ∷ [] in
+      let whole : told_text users commands more ≡ told_text users commands is.said ++ (cut.text ++ (cut.said ++ cut.shown)) = grown s x seen kept count now cut.text cut.said cut.shown is cut.makes in
       record {
         done = length more;
         said = more;
-        lessons = came_lessons tasks who begin commands w _ _ more (further s x seen kept count now cut.text cut.said is cut.makes);
-        front = front_follows before now later (told_text users commands more) (told_text users commands is.said) (cut.text ++ cut.said)
-            ([], whole ∙ sym (append-nil (told_text users commands is.said ++ (cut.text ++ cut.said)))) is.appends cut.front;
+        lessons = came_lessons tasks who begin 0 commands w _ _ more (further s x seen kept count now cut.text cut.said cut.shown is cut.makes);
+        front = front_follows before now later (told_text users commands more) (told_text users commands is.said) (cut.text ++ (cut.said ++ cut.shown))
+            ([], whole ∙ sym (append-nil (told_text users commands is.said ++ (cut.text ++ (cut.said ++ cut.shown))))) is.appends cut.front;
       }
 
   -- by what a step came to
@@ -239,7 +258,7 @@ module _ {S : Type 0} (f : S → Meaning) (tasks : List TaskId) (who : List ℕ)
 
 -- a server that was made and is asked for may be supplied
 
-pub step_begins : {S : Type 0} (f : S → Meaning) (tasks : List TaskId) (who : List ℕ) (s x : View S) (seen kept : Option sight.View) (count new : Tally) (now later : Option (List ℕ)) (step : Step) (server : Option ServerBox)
+pub step_begins : {S : Type 0} (f : S → Meaning) (tasks : List TaskId) (who : Speech) (s x : View S) (seen kept : Option sight.View) (count new : Tally) (now later : Option (List ℕ)) (step : Step) (server : Option ServerBox)
     → step ≡ Made server → StepsTo f tasks who s seen count now step x kept new later → IfSome server (λ box. Begins (box_meaning box))
 unfolding StepsTo
 step_begins f tasks who s x seen kept count new now later step None made steps = tt
@@ -247,7 +266,7 @@ step_begins f tasks who s x seen kept count new now later step (Some box) made s
     let both = rw made at steps in
     (both.0.words, sym both.0.made)
 
-pub step_waits : {S : Type 0} (f : S → Meaning) (tasks : List TaskId) (who : List ℕ) (s x : View S) (seen kept : Option sight.View) (count new : Tally) (now later : Option (List ℕ)) (step : Step) (server : Option ServerBox)
+pub step_waits : {S : Type 0} (f : S → Meaning) (tasks : List TaskId) (who : Speech) (s x : View S) (seen kept : Option sight.View) (count new : Tally) (now later : Option (List ℕ)) (step : Step) (server : Option ServerBox)
     → step ≡ Made server → StepsTo f tasks who s seen count now step x kept new later → waits_for x ≡ true
 unfolding StepsTo
 step_waits f tasks who s x seen kept count new now later step server made steps =

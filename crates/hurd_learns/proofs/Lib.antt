@@ -7,3 +7,4 @@ pub mod Following
 pub mod Turns
 pub mod ShownLaws
 pub mod ScriptLaws
+pub mod LookLaws

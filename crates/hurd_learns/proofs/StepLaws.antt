@@ -14,6 +14,7 @@ use Rattle.hurd_lessons.specs.Told.{Lesson, Taught, counted}
 use Rattle.hurd_lessons.specs.Watched.{LearnedSince, Learns, SeenOf, SeesOr}
 use Rattle.hurd_lessons.specs.declared.tally.Tally.{Tally}
 use Rattle.hurd_teaching.specs.Telling.{SaysOf}
+use Rattle.hurd_learns.specs.Lessons.{Speech}
 use Rattle.hurd_learns.specs.Steps.{Asks, Looked, Makes, is_own}
 
 -- what is kept of what is seen was seen in w, the world behind the last command; and where nothing is kept, a command of others begins
@@ -76,16 +77,17 @@ module _ {S : Type 0} (f : S → Meaning) (tasks : List TaskId) (s : View S) whe
 
   -- a command was made
 
-  pub makes_lesson : (who : List ℕ) (x : View S) (before kept : Option sight.View) (text said : List ℕ) (made : Makes f tasks who s before text said x kept) (w : World) → Fits f tasks w s before
-      → Lesson tasks who made.gives.task w (world_of f x.world) said
-  makes_lesson who x before kept text said made w fit = lesson_by who w (world_of f x.world) before made.watched kept made.ours made.gives.task said made.looked made.gives.next fit made.says
+  pub makes_lesson : (who : Speech) (x : View S) (before kept : Option sight.View) (text said shown : List ℕ) (made : Makes f tasks who s before text said shown x kept) (w : World) → Fits f tasks w s before
+      → Lesson tasks who.learns made.gives.task w (world_of f x.world) said
+  makes_lesson who x before kept text said shown made w fit =
+      lesson_by who.learns w (world_of f x.world) before made.watched kept made.ours made.gives.task said made.looked made.gives.next fit made.adds.says
 
-  pub makes_fit : (who : List ℕ) (x : View S) (before kept : Option sight.View) (text said : List ℕ) → Makes f tasks who s before text said x kept → Fits f tasks (world_of f x.world) x kept
-  makes_fit who x before kept text said made = says_fit who x made.watched kept made.ours said made.says
+  pub makes_fit : (who : Speech) (x : View S) (before kept : Option sight.View) (text said shown : List ℕ) → Makes f tasks who s before text said shown x kept → Fits f tasks (world_of f x.world) x kept
+  makes_fit who x before kept text said shown made = says_fit who.learns x made.watched kept made.ours said made.adds.says
 
-  pub makes_counts : (who : List ℕ) (x : View S) (before kept : Option sight.View) (text said : List ℕ) (made : Makes f tasks who s before text said x kept) (tally : Tally)
+  pub makes_counts : (who : Speech) (x : View S) (before kept : Option sight.View) (text said shown : List ℕ) (made : Makes f tasks who s before text said shown x kept) (tally : Tally)
       → (if made.ours then tally else counted tally said) ≡ (if among tasks made.gives.task then tally else counted tally said)
-  makes_counts who x before kept text said made tally =
+  makes_counts who x before kept text said shown made tally =
       ap (λ (b : Bool). if b then tally else counted tally said) (own_next tasks (next_task s) made.ours made.gives.task made.looked.is made.gives.next)
 
   -- a server was asked for

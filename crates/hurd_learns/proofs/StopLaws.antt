@@ -7,6 +7,7 @@ use Rattle.hurd_shell.specs.Session.{Gives, View, has_failed}
 use Rattle.hurd_shell.specs.declared.fault.SessionFault.{SessionFault}
 use Rattle.hurd_shell.specs.declared.fault.SessionFault.TheVariants.{Memory}
 use Rattle.hurd_sight.specs.declared.view.View as sight
+use Rattle.hurd_learns.specs.Lessons.{Speech}
 use Rattle.hurd_learns.specs.Steps.{Looked, PrintedSome, Stops}
 
 abbrev pub failing : (A : Type 0) → SessionFault → Result A SessionFault
@@ -18,20 +19,21 @@ session_memory true e tells stays = let same = (stays refl).0 in cc
 session_memory false e tells stays = (tells refl).0
 
 -- nothing was printed
-pub stops_before : {S : Type 0} (f : S → Meaning) (tasks : List TaskId) (who : List ℕ) (s left : View S) (seen kept : Option sight.View) (before : Option (List ℕ))
+pub stops_before : {S : Type 0} (f : S → Meaning) (tasks : List TaskId) (who : Speech) (s left : View S) (seen kept : Option sight.View) (before : Option (List ℕ))
     → Stops f tasks who s seen before left kept before
 unfolding Stops
 stops_before f tasks who s left seen kept before = inl refl
 
 -- a command was made, and some of it printed
-pub stops_printed : {S : Type 0} (f : S → Meaning) (tasks : List TaskId) (who : List ℕ) (s left : View S) (seen watched kept : Option sight.View) (before after : Option (List ℕ)) (ours : Bool) (text : List ℕ)
-    → Looked f tasks s seen ours watched → has_failed s ≡ false → Gives f s text left → PrintedSome tasks who ours (world_of f left.world) text watched before kept after
+pub stops_printed : {S : Type 0} (f : S → Meaning) (tasks : List TaskId) (who : Speech) (s left : View S) (seen watched kept : Option sight.View) (before after : Option (List ℕ)) (ours : Bool) (text : List ℕ)
+    → Looked f tasks s seen ours watched → has_failed s ≡ false → Gives f s text left → PrintedSome tasks who ours left.given (world_of f left.world) text watched before kept after
     → Stops f tasks who s seen before left kept after
 unfolding Stops
 stops_printed f tasks who s left seen watched kept before after ours text looked fine gives (inl same) = inl same
-stops_printed f tasks who s left seen watched kept before after ours text looked fine gives (inr (said, says, front)) = inr record {
+stops_printed f tasks who s left seen watched kept before after ours text looked fine gives (inr (said, shown, adds, front)) = inr record {
   text = text;
   said = said;
-  makes = record { ours = ours; watched = watched; looked = looked; fine = fine; gives = gives; says = says };
+  shown = shown;
+  makes = record { ours = ours; watched = watched; looked = looked; fine = fine; gives = gives; adds = adds };
   front = front;
 }

@@ -9,6 +9,7 @@ use Rattle.hurd_shell.specs.Transcript.{AsksFor, Dialogue, Maker, Part, ends, te
 use Rattle.hurd_sight.specs.declared.view.View as sight
 use Rattle.hurd_creds.specs.declared.name.TaskId.{TaskId}
 use Rattle.hurd_lessons.specs.declared.tally.Tally.{Tally}
+use Rattle.hurd_learns.specs.Lessons.{Speech}
 use Rattle.hurd_learns.specs.Steps.{Asks, StepsTo}
 use Rattle.hurd_learns.specs.declared.steps.Step.{Step}
 use Rattle.hurd_learns.specs.declared.steps.Step.TheVariants.{Told, Made}
@@ -70,14 +71,14 @@ answered_fewer f tasks s x u seen kept server m asks same (inr takes) =
 
 -- by what a step came to
 
-pub step_told_fewer : {S : Type 0} (f : S → Meaning) (tasks : List TaskId) (who : List ℕ) (s x : View S) (seen kept : Option sight.View) (count new : Tally) (now later : Option (List ℕ)) (step : Step)
+pub step_told_fewer : {S : Type 0} (f : S → Meaning) (tasks : List TaskId) (who : Speech) (s x : View S) (seen kept : Option sight.View) (count new : Tally) (now later : Option (List ℕ)) (step : Step)
     → step ≡ Told → StepsTo f tasks who s seen count now step x kept new later → size_left f x < size_left f s
 unfolding StepsTo
 step_told_fewer f tasks who s x seen kept count new now later step told steps =
     let this = rw told at steps in
     told_fewer f s x this.text this.makes.fine this.makes.gives
 
-pub step_answered_fewer : {S : Type 0} (f : S → Meaning) (tasks : List TaskId) (who : List ℕ) (s x u : View S) (seen kept : Option sight.View) (count new : Tally) (now later : Option (List ℕ)) (step : Step)
+pub step_answered_fewer : {S : Type 0} (f : S → Meaning) (tasks : List TaskId) (who : Speech) (s x u : View S) (seen kept : Option sight.View) (count new : Tally) (now later : Option (List ℕ)) (step : Step)
     (server : Option ServerBox) (m : Option Meaning)
     → step ≡ Made server → StepsTo f tasks who s seen count now step x kept new later → option_map box_meaning server ≡ m → TakesUnlessFailed f x m u → size_left f u < size_left f s
 unfolding StepsTo

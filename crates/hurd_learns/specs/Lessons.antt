@@ -1,5 +1,5 @@
 -- What users learn of the commands of a script.
-use Rattle.std.specs.Prelude.{◌≡◌, ℕ, List, [], ◌∷◌, ◌++◌, drop, length}
+use Rattle.std.specs.Prelude.{◌≡◌, ℕ, ◌+◌, Bool, List, [], ◌∷◌, ◌++◌, drop, length}
 use Rattle.hurd_creds.specs.declared.name.TaskId.{TaskId}
 use Rattle.hurd_machine.specs.World.{World}
 use Rattle.hurd_machine.specs.Sound.{Sound}
@@ -9,15 +9,23 @@ use Rattle.hurd_shell.specs.Isolation.{command_calls, commands_by, parts_to, wor
 use Rattle.hurd_shell.specs.Transcript.{Maker, dialogue, parts_by}
 use Rattle.hurd_sight.specs.Reach.{among}
 use Rattle.hurd_lessons.specs.Told.{Lesson, Said}
+use Rattle.hurd_teaching.specs.Telling.{Shows}
+use Rattle.hurd_learns.specs.Looks.{is_due}
 
--- what is said behind each of these commands, made one after another: nothing behind one of these users; behind one of others what
--- these users learn between the world before and the world after it
-abbrev pub LessonsOf : List TaskId → List ℕ → Maker → List CommandLine → World → List Said → Type 0
-LessonsOf tasks who make [] w said = said ≡ []
-LessonsOf tasks who make (c ∷ cs) w said =
+-- how it is written what users learn and what they see, and behind how many commands it is asked what they see
+pub record Speech : Type 0 where
+  pub learns : List ℕ
+  pub sees : List ℕ
+  pub looks : List Bool
+
+-- what is said behind each of these commands, made one after another where so many were made: nothing behind one of these users; behind one
+-- of others what these users learn between the world before and the world after it; and what they see then is shown, where that is asked
+abbrev pub LessonsOf : List TaskId → Speech → Maker → ℕ → List CommandLine → World → List Said → Type 0
+LessonsOf tasks who make made [] w said = said ≡ []
+LessonsOf tasks who make made (c ∷ cs) w said =
     let x = run w (command_calls make c w) in
-    (text : List ℕ) × (more : List Said) × (said ≡ record { task = c.task; text = text } ∷ more)
-    × Lesson tasks who c.task w x text × LessonsOf tasks who make cs x more
+    (text shown : List ℕ) × (more : List Said) × (said ≡ record { task = c.task; text = text; shown = shown } ∷ more)
+    × Lesson tasks who.learns c.task w x text × Shows tasks who.sees (is_due who.looks (made + 1)) x shown × LessonsOf tasks who make (made + 1) cs x more
 
 -- nothing is said
 abbrev pub Silent : List Said → Type 0
@@ -27,8 +35,8 @@ Silent (s ∷ more) = (s.text ≡ []) × Silent more
 -- where nothing is learned from some command on, these users are told from there on what they are told without the commands of others
 abbrev pub AsWithoutTheSilent : Type 0
 AsWithoutTheSilent =
-    (tasks : List TaskId) (who : List ℕ) (make : Maker) (before cs : List CommandLine) (w : World) (said : List Said) → Sound w
-    → LessonsOf tasks who make (before ++ cs) w said → Silent (drop (length before) said)
+    (tasks : List TaskId) (who : Speech) (make : Maker) (before cs : List CommandLine) (w : World) (said : List Said) → Sound w
+    → LessonsOf tasks who make 0 (before ++ cs) w said → Silent (drop (length before) said)
     → let x = world_after make before w in
     let S = among tasks in
     parts_to S cs (parts_by make (dialogue cs x)) ≡ parts_to S (commands_by S cs) (parts_by make (dialogue (commands_by S cs) x))

@@ -2,3 +2,4 @@ pub mod Lessons
 pub mod Steps
 pub mod Users
 pub mod Runs
+pub mod Looks

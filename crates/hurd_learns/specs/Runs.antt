@@ -1,5 +1,5 @@
 -- What is printed of a script, begun over an empty tree in memory, with what some of its users learn.
-use Rattle.std.specs.Prelude.{◌≡◌, ℕ, List, Option, Some, Err, codes, take}
+use Rattle.std.specs.Prelude.{◌≡◌, ℕ, Bool, List, Option, Some, Err, codes, take}
 use Rattle.hurd_creds.specs.Access.{IdSets}
 use Rattle.hurd_creds.specs.declared.name.TaskId.{TaskId}
 use Rattle.hurd_trans_iface.specs.Meaning.{Meaning, begin}
@@ -15,34 +15,36 @@ use Rattle.hurd_terminal.specs.declared.print.Output.{Output}
 use Rattle.hurd_tmpfs.specs.Tree.{new_tmpfs}
 use Rattle.hurd_teaching.specs.Programs.{Teaching}
 use Rattle.hurd_teaching.specs.Shown.{Doings}
-use Rattle.hurd_learns.specs.Lessons.{LessonsOf}
+use Rattle.hurd_teaching.specs.declared.learners.Learners.{Learners}
+use Rattle.hurd_learns.specs.Lessons.{LessonsOf, Speech}
+use Rattle.hurd_learns.specs.Looks.{looks_of}
 use Rattle.hurd_learns.specs.Users.{tasks_named}
 
--- each command's part, and what is said behind it
+-- each command's part, and what is said and shown behind it
 abbrev pub told_text : List IdSets → List CommandLine → List Said → List ℕ
 told_text users commands said = printed (parts_by begin (dialogue commands (first_world new_tmpfs users))) said
 
 -- a front of what is printed of so many of the first commands
-pub record FrontOfSome (tasks : List TaskId) (who : List ℕ) (users : List IdSets) (commands : List CommandLine) (text : List ℕ) : Type 0 where
+pub record FrontOfSome (tasks : List TaskId) (who : Speech) (users : List IdSets) (commands : List CommandLine) (text : List ℕ) : Type 0 where
   pub done : ℕ
   pub said : List Said
-  pub lessons : LessonsOf tasks who begin (take done commands) (first_world new_tmpfs users) said
+  pub lessons : LessonsOf tasks who begin 0 (take done commands) (first_world new_tmpfs users) said
   pub front : IsFront text (told_text users commands said)
 
 -- commands of a script that are made one after another, with what these users learn of them
-abbrev pub made : List TaskId → List ℕ → List IdSets → List CommandLine → Doings
+abbrev pub made : List TaskId → Speech → List IdSets → List CommandLine → Doings
 made tasks who users commands = record {
-  Lessons = LessonsOf tasks who begin commands (first_world new_tmpfs users);
+  Lessons = LessonsOf tasks who begin 0 commands (first_world new_tmpfs users);
   text = told_text users commands;
   IsFrontOfSome = FrontOfSome tasks who users commands;
   things = codes " commands of others\n";
 }
 
 -- so many of the first commands were made, and a front of their parts with what is said behind them was printed
-pub record ToldSome (tasks : List TaskId) (who : List ℕ) (users : List IdSets) (commands : List CommandLine) (before after : Option (List ℕ)) : Type 0 where
+pub record ToldSome (tasks : List TaskId) (who : Speech) (users : List IdSets) (commands : List CommandLine) (before after : Option (List ℕ)) : Type 0 where
   pub done : ℕ
   pub said : List Said
-  pub lessons : LessonsOf tasks who begin (take done commands) (first_world new_tmpfs users) said
+  pub lessons : LessonsOf tasks who begin 0 (take done commands) (first_world new_tmpfs users) said
   pub front : AppendsFront before after (told_text users commands said)
 
 -- why no session was begun over a server of this meaning and these users
@@ -52,7 +54,7 @@ NotBegun m users Memory = Unit {0}
 NotBegun m users _ = ⊥
 
 -- what was printed where not all was: nothing where the world is refused
-abbrev pub NotAll : {W : Type 0} → List TaskId → List ℕ → List IdSets → List CommandLine → Output W → Option (List ℕ) → Fault → Option (List ℕ) → Type 0
+abbrev pub NotAll : {W : Type 0} → List TaskId → Speech → List IdSets → List CommandLine → Output W → Option (List ℕ) → Fault → Option (List ℕ) → Type 0
 NotAll tasks who users commands output before (Boot e) after = (boot_of new_tmpfs users ≡ Err e) × (after ≡ before)
 NotAll tasks who users commands output before fault after = IsPrintFault output fault × ToldSome tasks who users commands before after
 
@@ -61,6 +63,10 @@ abbrev pub NotRead : List ℕ → Fault → Type 0
 NotRead text (Bad line) = bad text ≡ Some line
 NotRead text Memory = Unit {0}
 NotRead text _ = ⊥
+
+-- how it is written what learners learn and see
+abbrev pub speech : Learners → List Bool → Speech
+speech learners looks = record { learns = learners.who.items; sees = learners.sees.items; looks = looks }
 
 -- the program for those whom a word names of the users of a script
 abbrev pub learning : List ℕ → Teaching
@@ -71,5 +77,5 @@ learning word = record {
   named = λ text. tasks_named (names_of text) word;
   called = λ tasks. word;
   boot = λ text. boot_of new_tmpfs (users_of text);
-  doings = λ text learners. made learners.tasks.items learners.who.items (users_of text) (commands_of text);
+  doings = λ text learners. made learners.tasks.items (speech learners (looks_of text)) (users_of text) (commands_of text);
 }

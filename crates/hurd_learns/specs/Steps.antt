@@ -17,7 +17,9 @@ use Rattle.hurd_lessons.specs.Told.{counted}
 use Rattle.hurd_lessons.specs.Watched.{SeesOr}
 use Rattle.hurd_lessons.specs.declared.tally.Tally.{Tally}
 use Rattle.hurd_terminal.specs.Faults.{AppendsFront}
-use Rattle.hurd_teaching.specs.Telling.{SaysOf}
+use Rattle.hurd_teaching.specs.Telling.{SaysOf, Shows}
+use Rattle.hurd_learns.specs.Lessons.{Speech}
+use Rattle.hurd_learns.specs.Looks.{is_due}
 use Rattle.hurd_learns.specs.declared.steps.Step.{Step}
 use Rattle.hurd_learns.specs.declared.steps.Step.TheVariants.{Told, Made, Done}
 
@@ -32,35 +34,42 @@ pub record Looked {S : Type 0} (f : S → Meaning) (tasks : List TaskId) (s : Vi
   pub kept : own ≡ true → after ≡ before
   pub looks : own ≡ false → SeesOr tasks (world_of f s.world) before after
 
--- a part was printed with what is said behind it, and that was counted
-pub record Printed (tasks : List TaskId) (who : List ℕ) (ours : Bool) (x : World) (text : List ℕ) (seen : Option sight.View) (tally : Tally) (before : Option (List ℕ))
+-- what is said behind so many commands, and what is shown
+pub record Adds (tasks : List TaskId) (who : Speech) (ours : Bool) (made : ℕ) (x : World) (seen kept : Option sight.View) (said shown : List ℕ) : Type 0 where
+  pub says : SaysOf tasks who.learns ours x seen kept said
+  pub shows : Shows tasks who.sees (is_due who.looks made) x shown
+
+-- a part was printed with what is said and shown behind it, and that was counted
+pub record Printed (tasks : List TaskId) (who : Speech) (ours : Bool) (made : ℕ) (x : World) (text : List ℕ) (seen : Option sight.View) (tally : Tally) (before : Option (List ℕ))
     (kept : Option sight.View) (count : Tally) (after : Option (List ℕ)) : Type 0 where
   pub said : List ℕ
-  pub says : SaysOf tasks who ours x seen kept said
-  pub appends : Appends before after (text ++ said)
+  pub shown : List ℕ
+  pub adds : Adds tasks who ours made x seen kept said shown
+  pub appends : Appends before after (text ++ (said ++ shown))
   pub counts : count ≡ (if ours then tally else counted tally said)
 
 -- a front of these was printed, or nothing
-abbrev pub PrintedSome : List TaskId → List ℕ → Bool → World → List ℕ → Option sight.View → Option (List ℕ) → Option sight.View → Option (List ℕ) → Type 0
-PrintedSome tasks who ours x text seen before kept after =
-    (after ≡ before) ⊎ ((said : List ℕ) × SaysOf tasks who ours x seen kept said × AppendsFront before after (text ++ said))
+abbrev pub PrintedSome : List TaskId → Speech → Bool → ℕ → World → List ℕ → Option sight.View → Option (List ℕ) → Option sight.View → Option (List ℕ) → Type 0
+PrintedSome tasks who ours made x text seen before kept after =
+    (after ≡ before) ⊎ ((said shown : List ℕ) × Adds tasks who ours made x seen kept said shown × AppendsFront before after (text ++ (said ++ shown)))
 
--- a command was made, of this text, and this is said behind it
-pub record Makes {S : Type 0} (f : S → Meaning) (tasks : List TaskId) (who : List ℕ) (s : View S) (before : Option sight.View) (text said : List ℕ) (left : View S) (after : Option sight.View) : Type 0 where
+-- a command was made, of this text, and this is said and shown behind it
+pub record Makes {S : Type 0} (f : S → Meaning) (tasks : List TaskId) (who : Speech) (s : View S) (before : Option sight.View) (text said shown : List ℕ) (left : View S) (after : Option sight.View) : Type 0 where
   pub ours : Bool
   pub watched : Option sight.View
   pub looked : Looked f tasks s before ours watched
   pub fine : has_failed s ≡ false
   pub gives : Gives f s text left
-  pub says : SaysOf tasks who ours (world_of f left.world) watched after said
+  pub adds : Adds tasks who ours left.given (world_of f left.world) watched after said shown
 
 -- that was printed, and counted
-pub record IsTold {S : Type 0} (f : S → Meaning) (tasks : List TaskId) (who : List ℕ) (s : View S) (seen : Option sight.View) (tally : Tally) (before : Option (List ℕ))
+pub record IsTold {S : Type 0} (f : S → Meaning) (tasks : List TaskId) (who : Speech) (s : View S) (seen : Option sight.View) (tally : Tally) (before : Option (List ℕ))
     (left : View S) (kept : Option sight.View) (count : Tally) (after : Option (List ℕ)) : Type 0 where
   pub text : List ℕ
   pub said : List ℕ
-  pub makes : Makes f tasks who s seen text said left kept
-  pub appends : Appends before after (text ++ said)
+  pub shown : List ℕ
+  pub makes : Makes f tasks who s seen text said shown left kept
+  pub appends : Appends before after (text ++ (said ++ shown))
   pub counts : count ≡ (if makes.ours then tally else counted tally said)
 
 -- nothing was printed or counted
@@ -78,20 +87,21 @@ pub record Asks {S : Type 0} (f : S → Meaning) (tasks : List TaskId) (s : View
   pub made : option_map box_meaning server ≡ begin words
 
 -- what comes of a step
-unfoldable pub StepsTo : {S : Type 0} → (S → Meaning) → List TaskId → List ℕ → View S → Option sight.View → Tally → Option (List ℕ)
+unfoldable pub StepsTo : {S : Type 0} → (S → Meaning) → List TaskId → Speech → View S → Option sight.View → Tally → Option (List ℕ)
     → Step → View S → Option sight.View → Tally → Option (List ℕ) → Type 0
 StepsTo f tasks who s seen tally before Told left kept count after = IsTold f tasks who s seen tally before left kept count after
 StepsTo f tasks who s seen tally before (Made server) left kept count after = Asks f tasks s seen server left kept × Nothing tally before count after
 StepsTo f tasks who s seen tally before Done left kept count after = (has_failed s ≡ false) × (left_in f s ≡ ends) × Nothing tally before count after
 
--- a command was made, and a front of its text and of what is said behind it was printed
-pub record IsCut {S : Type 0} (f : S → Meaning) (tasks : List TaskId) (who : List ℕ) (s : View S) (seen : Option sight.View) (before : Option (List ℕ))
+-- a command was made, and a front of its text and of what is said and shown behind it was printed
+pub record IsCut {S : Type 0} (f : S → Meaning) (tasks : List TaskId) (who : Speech) (s : View S) (seen : Option sight.View) (before : Option (List ℕ))
     (left : View S) (kept : Option sight.View) (after : Option (List ℕ)) : Type 0 where
   pub text : List ℕ
   pub said : List ℕ
-  pub makes : Makes f tasks who s seen text said left kept
-  pub front : AppendsFront before after (text ++ said)
+  pub shown : List ℕ
+  pub makes : Makes f tasks who s seen text said shown left kept
+  pub front : AppendsFront before after (text ++ (said ++ shown))
 
 -- what was printed of a step that failed
-unfoldable pub Stops : {S : Type 0} → (S → Meaning) → List TaskId → List ℕ → View S → Option sight.View → Option (List ℕ) → View S → Option sight.View → Option (List ℕ) → Type 0
+unfoldable pub Stops : {S : Type 0} → (S → Meaning) → List TaskId → Speech → View S → Option sight.View → Option (List ℕ) → View S → Option sight.View → Option (List ℕ) → Type 0
 Stops f tasks who s seen before left kept after = (after ≡ before) ⊎ IsCut f tasks who s seen before left kept after

@@ -10,6 +10,7 @@
 
 mod laws;
 mod learners;
+mod looks;
 mod run;
 mod steps;
 

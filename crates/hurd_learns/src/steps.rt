@@ -4,13 +4,15 @@ ghost use Rattle.std.specs.Option.{option_map};
 ghost use Rattle.hurd_creds.specs.declared.name.TaskId.{TaskId};
 ghost use Rattle.hurd_world.specs.Held.{world_of};
 ghost use Rattle.hurd_terminal.specs.Faults.{IsPrintFault};
+ghost use Rattle.hurd_learns.specs.Runs.{speech};
 ghost use Rattle.hurd_learns.specs.Steps.{Looked, Printed, PrintedSome, StepsTo, Stops, is_own};
 
+use crate::looks::is_due;
 use hurd_creds::{Bytes, TaskId};
 use hurd_kinds::{ServerBox, server_for};
 use hurd_lessons::{Tally, Watch};
 use hurd_shell::{Session, Want};
-use hurd_teaching::{Learners, counted, print_both, said};
+use hurd_teaching::{Learners, counted, print_all, said, shown};
 use hurd_terminal::{Fault, Output};
 use hurd_trans_iface::Server;
 use std::alloc::{AllocError, Global};
@@ -53,27 +55,30 @@ fn looked<S: Server>(
     Ok(own)
 }
 
-/// Prints the part of a command that was made, and what is said behind it, and counts that.
+/// Prints the part of a command that was made, what is said behind it, and what these users see where that is asked for, and counts what was said.
 ///
 /// `Write` where it can't be written: then only some first bytes of it were; `Memory`, and then nothing is printed.
 fn tell<S: Server, W: Write>(
     alloc: Global,
     session: &Session<S>,
     learners: &Learners,
+    looks: &[bool],
     watch: &mut Watch,
     tally: &mut Tally,
     own: bool,
     part: &Bytes,
     output: &mut Output<W>,
 ) -> Result<(), Fault>
-    ensures ok { OnOk result (Printed learners.now.tasks.items learners.now.who.items own (world_of S.meaning session.now.world) part.now
+    ensures ok { OnOk result (Printed learners.now.tasks.items (speech learners.now looks.now) own session.now.given (world_of S.meaning session.now.world) part.now
         watch.old.seen tally.old (W.contents output.old.writer) watch.new.seen tally.new (W.contents output.new.writer)) }
     ensures err { IfErr result (λ fault. IsPrintFault output.new fault
-        × PrintedSome learners.now.tasks.items learners.now.who.items own (world_of S.meaning session.now.world) part.now
+        × PrintedSome learners.now.tasks.items (speech learners.now looks.now) own session.now.given (world_of S.meaning session.now.world) part.now
         watch.old.seen (W.contents output.old.writer) watch.new.seen (W.contents output.new.writer)) }
 {
     let said = said(alloc, session.world(), learners, watch, own)?;
-    print_both(part, &said, output)?;
+    let asked = is_due(looks, session.made());
+    let shown = shown(alloc, session.world(), learners, asked)?;
+    print_all(part, &said, &shown, output)?;
     *tally = counted(*tally, own, &said);
     Ok(())
 }
@@ -85,20 +90,23 @@ pub fn go_on<S: Server, W: Write>(
     alloc: Global,
     session: &mut Session<S>,
     learners: &Learners,
+    looks: &[bool],
     watch: &mut Watch,
     tally: &mut Tally,
     output: &mut Output<W>,
 ) -> Result<Step, Fault>
-    ensures ok { IfOk result (λ step. StepsTo S.meaning learners.now.tasks.items learners.now.who.items
+    ensures ok { IfOk result (λ step. StepsTo S.meaning learners.now.tasks.items (speech learners.now looks.now)
         session.old watch.old.seen tally.old (W.contents output.old.writer) step session.new watch.new.seen tally.new (W.contents output.new.writer)) }
     ensures err { IfErr result (λ fault. IsPrintFault output.new fault
-        × Stops S.meaning learners.now.tasks.items learners.now.who.items
+        × Stops S.meaning learners.now.tasks.items (speech learners.now looks.now)
         session.old watch.old.seen (W.contents output.old.writer) session.new watch.new.seen (W.contents output.new.writer)) }
 {
     let own = looked(alloc, session, learners, watch)?;
     match session.next(alloc)? {
         Want::Output(part) => {
-            tell(alloc, session, learners, watch, tally, own, &part, output)?;
+            tell(
+                alloc, session, learners, looks, watch, tally, own, &part, output,
+            )?;
             Ok(Step::Told)
         }
         Want::Server(words) => Ok(Step::Made(server_for(alloc, &words)?)),

@@ -25,14 +25,15 @@ UntaughtWhereUnmoved =
     (tasks : List TaskId) (who : List ℕ) (w x : World) (text : List ℕ) → Sound w → Sound x → Taught tasks who w x text
     → (text ≡ []) ↔ SameView (among tasks) w x
 
--- who did something, and what is said behind it
+-- who did something, what is said behind it, and what is shown behind that
 pub record Said : Type 0 where
   pub task : ℕ
   pub text : List ℕ
+  pub shown : List ℕ
 
--- parts, and what is said behind each; up to the first behind which nothing was said yet
+-- parts, and what is said and shown behind each; up to the first behind which nothing was said yet
 abbrev pub printed : List (List ℕ) → List Said → List ℕ
-printed (part ∷ parts) (said ∷ more) = part ++ (said.text ++ printed parts more)
+printed (part ∷ parts) (said ∷ more) = part ++ (said.text ++ (said.shown ++ printed parts more))
 printed _ _ = []
 
 -- one more, up to the greatest number that there is room for

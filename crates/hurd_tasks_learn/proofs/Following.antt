@@ -21,7 +21,7 @@ use Rattle.hurd_tasks_learn.specs.Steps.{IsTold, ToldPart}
 
 -- what is told of a call and of those behind it
 text_more : (c : Listed) (cs : List Listed) (w : World) (t : ℕ) (text : List ℕ) (more : List Said)
-    → told_text (c ∷ cs) w (record { task = t; text = text } ∷ more) ≡ (part_of c w ++ text) ++ told_text cs (after_call c w) more
+    → told_text (c ∷ cs) w (record { task = t; text = text; shown = [] } ∷ more) ≡ (part_of c w ++ text) ++ told_text cs (after_call c w) more
 unfolding parts_of
 text_more c cs w t text more = sym (append_assoc (part_of c w) text (told_text cs (after_call c w) more))
 
@@ -49,13 +49,13 @@ module _ (tasks : List TaskId) (who : List ℕ) where
   some_part : (c : Listed) (cs : List Listed) (w : World) (now later : Option (List ℕ)) → ToldPart tasks who c w now later → ToldSome tasks who (c ∷ cs) w now later
   some_part c cs w now later (inl same) = rw same (some_none (c ∷ cs) w now)
   some_part c cs w now later (inr (text, lesson, front)) =
-      let whole : told_text (c ∷ []) w (record { task = c.task.0; text = text } ∷ []) ≡ part_of c w ++ text =
+      let whole : told_text (c ∷ []) w (record { task = c.task.0; text = text; shown = [] } ∷ []) ≡ part_of c w ++ text =
       text_more c [] w c.task.0 text [] ∙ (ap (λ (bs : List ℕ). (part_of c w ++ text) ++ bs) (no_text (after_call c w)) ∙ append-nil (part_of c w ++ text)) in
       record {
         first = c ∷ [];
         left = cs;
         split = refl;
-        said = record { task = c.task.0; text = text } ∷ [];
+        said = record { task = c.task.0; text = text; shown = [] } ∷ [];
         lessons = (text, [], refl, lesson, refl);
         front = subst (λ (bs : List ℕ). AppendsFront now later bs) (sym whole) front;
       }
@@ -68,7 +68,7 @@ module _ (tasks : List TaskId) (who : List ℕ) where
         let here = rw told.next at rest in
         let same = rw told.counts at here.counts in
         record {
-          said = record { task = c.task.0; text = told.said } ∷ here.said;
+          said = record { task = c.task.0; text = told.said; shown = [] } ∷ here.said;
           lessons = (told.said, here.said, refl, told.lesson, here.lessons);
           appends = subst (λ (bs : List ℕ). Appends now end bs) (sym (text_more c cs w c.task.0 told.said here.said))
               (Appends-trans now later end (part_of c w ++ told.said) (told_text cs (after_call c w) here.said) told.appends here.appends);
@@ -78,7 +78,7 @@ module _ (tasks : List TaskId) (who : List ℕ) where
     some_more : (end : Option (List ℕ)) → ToldSome tasks who cs x later end → ToldSome tasks who (c ∷ cs) w now end
     some_more end rest =
         let here = rw told.next at rest in
-        let said : List Said = record { task = c.task.0; text = told.said } ∷ here.said in
+        let said : List Said = record { task = c.task.0; text = told.said; shown = [] } ∷ here.said in
         let more = told_text here.first (after_call c w) here.said in
         record {
           first = c ∷ here.first;

@@ -11,7 +11,7 @@ use Rattle.hurd_lessons.specs.Told.{Lesson, Said, printed}
 abbrev pub LessonsOf : List TaskId → List ℕ → List Listed → World → List Said → Type 0
 LessonsOf tasks who [] w said = said ≡ []
 LessonsOf tasks who (c ∷ cs) w said =
-    (text : List ℕ) × (more : List Said) × (said ≡ record { task = c.task.0; text = text } ∷ more)
+    (text : List ℕ) × (more : List Said) × (said ≡ record { task = c.task.0; text = text; shown = [] } ∷ more)
     × Lesson tasks who c.task.0 w (after_call c w) text × LessonsOf tasks who cs (after_call c w) more
 
 -- each call's part, and what is said behind it

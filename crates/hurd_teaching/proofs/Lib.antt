@@ -2,3 +2,4 @@ pub mod LearnerLaws
 pub mod PrintLaws
 pub mod ProgramLaws
 pub mod ShownLaws
+pub mod SeenLaws

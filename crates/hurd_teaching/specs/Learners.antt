@@ -11,16 +11,22 @@ numbers tasks = map (λ (t : TaskId). t.0) tasks
 abbrev pub verb_of : List TaskId → List ℕ
 verb_of tasks = if nat_lt 1 (length tasks) then codes " learn" else codes " learns"
 
+-- and where it is told what they see
+abbrev pub see_of : List TaskId → List ℕ
+see_of tasks = if nat_lt 1 (length tasks) then codes " see" else codes " sees"
+
 -- these tasks, under these names
 pub record AreCalled (these : List TaskId) (called : List ℕ) (learners : Learners) : Type 0 where
   pub tasks : learners.tasks.items ≡ these
   pub who : learners.who.items ≡ called ++ verb_of these
+  pub sees : learners.sees.items ≡ called ++ see_of these
   pub names : learners.names.items ≡ called
 
 -- the tasks that are named, under the names by which such tasks are called
 pub record AreNamed (named : Option (List ℕ)) (called : List TaskId → List ℕ) (learners : Learners) : Type 0 where
   pub tasks : named ≡ Some (numbers learners.tasks.items)
   pub who : learners.who.items ≡ called learners.tasks.items ++ verb_of learners.tasks.items
+  pub sees : learners.sees.items ≡ called learners.tasks.items ++ see_of learners.tasks.items
   pub names : learners.names.items ≡ called learners.tasks.items
 
 -- those, or none where somebody is named who isn't known

@@ -1,7 +1,7 @@
 //! The tasks that are told what they learn.
 ghost use Rattle.std.specs.Prelude.{◌≡◌, IfOk};
 ghost use Rattle.hurd_sight.specs.Reach.{among};
-ghost use Rattle.hurd_teaching.specs.Learners.{AreCalled, verb_of};
+ghost use Rattle.hurd_teaching.specs.Learners.{AreCalled, see_of, verb_of};
 
 use hurd_creds::TaskId;
 use std::alloc::{AllocError, Global};
@@ -13,6 +13,8 @@ pub struct Learners {
     pub tasks: Vec<TaskId>,
     /// As `alice learns`, or `tasks 1,2 learn`.
     pub who: Vec<u8>,
+    /// As `alice sees`, or `tasks 1,2 see`.
+    pub sees: Vec<u8>,
     /// As `alice`, or `tasks 1,2`.
     pub names: Vec<u8>,
 }
@@ -28,6 +30,13 @@ fn verb(tasks: &[TaskId]) -> &'static [u8]
     }
 }
 
+/// The same where it is told what they see.
+fn see(tasks: &[TaskId]) -> &'static [u8]
+    ensures { result.now ≡ see_of tasks.now }
+{
+    if tasks.len() > 1 { b" see" } else { b" sees" }
+}
+
 impl Learners {
     /// Tasks that are called so. An error is want of memory.
     pub fn called(alloc: Global, tasks: Vec<TaskId>, names: Vec<u8>) -> Result<Learners, AllocError>
@@ -35,7 +44,14 @@ impl Learners {
     {
         let mut who = Vec::from_slice(alloc, names.as_slice())?;
         who.extend_from_slice(verb(tasks.as_slice()))?;
-        Ok(Learners { tasks, who, names })
+        let mut sees = Vec::from_slice(alloc, names.as_slice())?;
+        sees.extend_from_slice(see(tasks.as_slice()))?;
+        Ok(Learners {
+            tasks,
+            who,
+            sees,
+            names,
+        })
     }
 
     /// Whether a task is one of these.

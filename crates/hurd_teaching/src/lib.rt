@@ -9,4 +9,4 @@ mod telling;
 pub use argument::only_argument;
 pub use ending::{finish, usage};
 pub use learners::Learners;
-pub use telling::{counted, print_both, said};
+pub use telling::{counted, print_all, print_both, said, shown};

@@ -1,14 +1,15 @@
-//! What is said behind what each task did.
+//! What is said behind what each task did, and what is shown.
 ghost use Rattle.std.specs.Prelude.{◌≡◌, ◌++◌, if◌then◌else◌, IfErr, IfOk, OnOk};
 ghost use Rattle.std.specs.Io.KnownBytes.{Appends};
 ghost use Rattle.hurd_world.specs.Held.{world_of};
 ghost use Rattle.hurd_lessons.specs.Told.{counted};
 ghost use Rattle.hurd_terminal.specs.Faults.{AppendsFront, IsPrintFault};
-ghost use Rattle.hurd_teaching.specs.Telling.{SaysOf};
+ghost use Rattle.hurd_teaching.specs.Telling.{SaysOf, Shows};
 
 use crate::learners::Learners;
 use hurd_creds::Bytes;
-use hurd_lessons::{Tally, Watch};
+use hurd_lessons::{Tally, Watch, seen};
+use hurd_sight::view_of;
 use hurd_terminal::{Fault, Output};
 use hurd_trans_iface::Server;
 use hurd_world::World;
@@ -38,6 +39,22 @@ pub fn said<S: Server>(
     )
 }
 
+/// What is shown behind what was done: all that these see, where that is asked for. An error is want of memory.
+pub fn shown<S: Server>(
+    alloc: Global,
+    world: &World<S>,
+    learners: &Learners,
+    asked: bool,
+) -> Result<Bytes, AllocError>
+    ensures { IfOk result (λ text. Shows learners.now.tasks.items learners.now.sees.items asked (world_of S.meaning world.now) text) }
+{
+    if !asked {
+        return Ok(Bytes::new(Vec::new(alloc)));
+    }
+    let view = view_of(alloc, world, learners.tasks.as_slice())?;
+    seen(alloc, learners.sees.as_slice(), &view)
+}
+
 /// How often others taught something, with one thing more that was done.
 pub fn counted(tally: Tally, own: bool, said: &Bytes) -> Tally
     ensures { result ≡ (if own then tally else counted tally said.now) }
@@ -55,4 +72,21 @@ pub fn print_both<W: Write>(part: &Bytes, said: &Bytes, output: &mut Output<W>) 
 {
     output.print(part.as_slice())?;
     output.print(said.as_slice())
+}
+
+/// Prints a part, what is said behind it, and what is shown behind that.
+///
+/// `Write`; then only some first bytes were printed.
+pub fn print_all<W: Write>(
+    part: &Bytes,
+    said: &Bytes,
+    shown: &Bytes,
+    output: &mut Output<W>,
+) -> Result<(), Fault>
+    ensures ok { OnOk result (Appends (W.contents output.old.writer) (W.contents output.new.writer) (part.now ++ (said.now ++ shown.now))) }
+    ensures err { IfErr result (λ fault. IsPrintFault output.new fault
+        × AppendsFront (W.contents output.old.writer) (W.contents output.new.writer) (part.now ++ (said.now ++ shown.now))) }
+{
+    output.print(part.as_slice())?;
+    print_both(said, shown, output)
 }
