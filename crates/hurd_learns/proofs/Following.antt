@@ -121,8 +121,9 @@ module _ {S : Type 0} (f : S → Meaning) (tasks : List TaskId) (who : Speech) (
       → Came (saying tasks who) begin 0 (first_world new_tmpfs users) (dialogue commands (first_world new_tmpfs users))
       (is.said ++ record { task = makes.gives.task; text = said; shown = shown } ∷ []) (world_of f x.world) (left_in f x)
   further s x seen kept count now text said shown is makes =
+      let many = made_with s x seen kept count now text said shown is makes in
       came_told (saying tasks who) begin 0 x.given _ is.at (dialogue commands (first_world new_tmpfs users)) is.rest (left_in f x) is.said _ said shown is.came (sym (is.left makes.fine) ∙ makes.gives.left)
-      (made_with s x seen kept count now text said shown is makes)
+      (omega (arith, many))
       (makes_lesson f tasks s who x seen kept text said shown makes is.at (is.fits makes.fine), makes.adds.shows)
 
   -- a command was made and printed

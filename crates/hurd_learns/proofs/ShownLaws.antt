@@ -1,5 +1,5 @@
 -- What is printed of the commands of a script.
-use Rattle.std.proofs.Common.{Bool, List, Option}
+use Rattle.std.proofs.Common.{Bool, List, Option, ℕ}
 use Rattle.hurd_creds.specs.Access.{IdSets}
 use Rattle.hurd_creds.specs.declared.name.TaskId.{TaskId}
 use Rattle.hurd_script.specs.Commands.{CommandLine}
