@@ -27,7 +27,8 @@ use Rattle.hurd_terminal.specs.declared.fault.Fault.TheVariants.{Read, Write, Ba
 use Rattle.hurd_terminal.specs.declared.print.Output.{Output}
 use Rattle.hurd_terminal.proofs.OutputLaws.{front_follows}
 use Rattle.hurd_tmpfs.specs.Tree.{new_tmpfs}
-use Rattle.hurd_learns.specs.Lessons.{LessonsOf, Speech}
+use Rattle.hurd_teaching.specs.Learners.{Speech}
+use Rattle.hurd_learns.specs.Lessons.{LessonsOf}
 use Rattle.hurd_teaching.specs.Shown.{ToldAll}
 use Rattle.hurd_learns.specs.Runs.{NotAll, NotBegun, ToldSome, made, told_text}
 use Rattle.hurd_learns.specs.Steps.{Asks, IsTold, Makes, Nothing, StepsTo, Stops}

@@ -14,8 +14,9 @@ use Rattle.hurd_sight.specs.Reach.{among}
 use Rattle.hurd_lessons.specs.Told.{Lesson, Said}
 use Rattle.hurd_lessons.proofs.TaughtLaws.{untaught_where_unmoved}
 use Rattle.hurd_teaching.specs.Telling.{Shows}
-use Rattle.hurd_learns.specs.Lessons.{AsWithoutTheSilent, LessonsOf, Silent, Speech}
-use Rattle.hurd_learns.specs.Looks.{is_due}
+use Rattle.hurd_teaching.specs.Learners.{Speech}
+use Rattle.hurd_teaching.specs.Looks.{is_due}
+use Rattle.hurd_learns.specs.Lessons.{AsWithoutTheSilent, LessonsOf, Silent}
 use Rattle.hurd_learns.proofs.Going.{Came, Saying, came_played}
 
 -- what is said and shown behind a command, by how many are made with it

@@ -1,47 +1,11 @@
--- Reading where a script asks what is seen.
-use Rattle.std.proofs.Common.{◌≡◌, ◌∙◌, refl, sym, ap, ℕ, Bool, true, false, List, [], ◌∷◌, ◌++◌, append_assoc, drop, length, map}
+-- Where a script asks what is seen, read.
+use Rattle.std.proofs.Common.{◌≡◌, ◌∙◌, sym, ap, ℕ, Bool, List, drop, length, map}
 use Rattle.std.proofs.lemmas.List.{length-map}
-use Rattle.std.specs.Prelude.{if◌then◌else◌}
 use Rattle.hurd_script.specs.Script.{names_of}
-use Rattle.hurd_words.specs.Lines.{is_skipped, lines_of}
-use Rattle.hurd_learns.specs.Looks.{asks_behind, asks_first, asks_of, is_look, looks_of}
+use Rattle.hurd_words.specs.Lines.{lines_of}
+use Rattle.hurd_teaching.specs.Looks.{asks_of}
+use Rattle.hurd_learns.specs.Runs.{looks_of}
 
--- what is still to be said of lines, where it was asked or not since the last that says something
-abbrev pub asks_from : Bool → List (List ℕ) → List Bool
-asks_from asked lines = (if asked then true else asks_first lines) ∷ asks_behind lines
-
--- a line asks
-pub look_line : (asked : Bool) (line : List ℕ) (lines : List (List ℕ)) → is_look line ≡ true → asks_from asked (line ∷ lines) ≡ asks_from true lines
-look_line true line lines is = rw is refl
-look_line false line lines is = rw is refl
-
--- a line says nothing
-pub skipped_line : (asked : Bool) (line : List ℕ) (lines : List (List ℕ)) → is_look line ≡ false → is_skipped line ≡ true → asks_from asked (line ∷ lines) ≡ asks_from asked lines
-skipped_line asked line lines other is = rw (other, is) refl
-
--- a line says something
-pub said_line : (asked : Bool) (line : List ℕ) (lines : List (List ℕ)) → is_look line ≡ false → is_skipped line ≡ false → asks_from asked (line ∷ lines) ≡ asked ∷ asks_from false lines
-said_line true line lines other says = rw (other, says) refl
-said_line false line lines other says = rw (other, says) refl
-
--- no line is left
-pub no_line : (asked : Bool) → asks_from asked [] ≡ asked ∷ []
-no_line true = refl
-no_line false = refl
-
--- a line more is read, by what it is
-
-module _ (front new : List Bool) (asked now : Bool) (line : List ℕ) (lines : List (List ℕ)) (all : List Bool) (before : front ++ asks_from asked (line ∷ lines) ≡ all) where
-  pub look_read : new ≡ front → now ≡ true → is_look line ≡ true → new ++ asks_from now lines ≡ all
-  look_read same asks is = rw (same, asks) (ap (λ (bs : List Bool). front ++ bs) (sym (look_line asked line lines is)) ∙ before)
-
-  pub skipped_read : new ≡ front → now ≡ asked → is_look line ≡ false → is_skipped line ≡ true → new ++ asks_from now lines ≡ all
-  skipped_read same asks other is = rw (same, asks) (ap (λ (bs : List Bool). front ++ bs) (sym (skipped_line asked line lines other is)) ∙ before)
-
-  pub said_read : new ≡ front ++ asked ∷ [] → now ≡ false → is_look line ≡ false → is_skipped line ≡ false → new ++ asks_from now lines ≡ all
-  said_read more asks other says =
-      rw (more, asks) (append_assoc front (asked ∷ []) (asks_from false lines) ∙ (ap (λ (bs : List Bool). front ++ bs) (sym (said_line asked line lines other says)) ∙ before))
-
--- where the names of a script's users were read
+-- the names of its users were read before
 pub looks_read : {X : Type 0} (f : X → List ℕ) (names : List X) (text : List ℕ) (looks : List Bool) → map f names ≡ names_of text → looks ≡ drop (length names) (asks_of (lines_of text)) → looks ≡ looks_of text
 looks_read f names text looks same is = is ∙ ap (λ (n : ℕ). drop n (asks_of (lines_of text))) (sym (length-map names f) ∙ ap length same)

@@ -14,7 +14,7 @@ use Rattle.hurd_lessons.specs.Told.{Lesson, Taught, counted}
 use Rattle.hurd_lessons.specs.Watched.{LearnedSince, Learns, SeenOf, SeesOr}
 use Rattle.hurd_lessons.specs.declared.tally.Tally.{Tally}
 use Rattle.hurd_teaching.specs.Telling.{SaysOf}
-use Rattle.hurd_learns.specs.Lessons.{Speech}
+use Rattle.hurd_teaching.specs.Learners.{Speech}
 use Rattle.hurd_learns.specs.Steps.{Asks, Looked, Makes, is_own}
 
 -- what is kept of what is seen was seen in w, the world behind the last command; and where nothing is kept, a command of others begins

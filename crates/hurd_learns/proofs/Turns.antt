@@ -9,7 +9,7 @@ use Rattle.hurd_shell.specs.Transcript.{AsksFor, Dialogue, Maker, Part, ends, te
 use Rattle.hurd_sight.specs.declared.view.View as sight
 use Rattle.hurd_creds.specs.declared.name.TaskId.{TaskId}
 use Rattle.hurd_lessons.specs.declared.tally.Tally.{Tally}
-use Rattle.hurd_learns.specs.Lessons.{Speech}
+use Rattle.hurd_teaching.specs.Learners.{Speech}
 use Rattle.hurd_learns.specs.Steps.{Asks, StepsTo}
 use Rattle.hurd_learns.specs.declared.steps.Step.{Step}
 use Rattle.hurd_learns.specs.declared.steps.Step.TheVariants.{Told, Made}

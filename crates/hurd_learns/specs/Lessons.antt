@@ -1,5 +1,5 @@
 -- What users learn of the commands of a script.
-use Rattle.std.specs.Prelude.{◌≡◌, ℕ, ◌+◌, Bool, List, [], ◌∷◌, ◌++◌, drop, length}
+use Rattle.std.specs.Prelude.{◌≡◌, ℕ, ◌+◌, List, [], ◌∷◌, ◌++◌, drop, length}
 use Rattle.hurd_creds.specs.declared.name.TaskId.{TaskId}
 use Rattle.hurd_machine.specs.World.{World}
 use Rattle.hurd_machine.specs.Sound.{Sound}
@@ -9,14 +9,9 @@ use Rattle.hurd_shell.specs.Isolation.{command_calls, commands_by, parts_to, wor
 use Rattle.hurd_shell.specs.Transcript.{Maker, dialogue, parts_by}
 use Rattle.hurd_sight.specs.Reach.{among}
 use Rattle.hurd_lessons.specs.Told.{Lesson, Said}
+use Rattle.hurd_teaching.specs.Learners.{Speech}
+use Rattle.hurd_teaching.specs.Looks.{is_due}
 use Rattle.hurd_teaching.specs.Telling.{Shows}
-use Rattle.hurd_learns.specs.Looks.{is_due}
-
--- how it is written what users learn and what they see, and behind how many commands it is asked what they see
-pub record Speech : Type 0 where
-  pub learns : List ℕ
-  pub sees : List ℕ
-  pub looks : List Bool
 
 -- what is said behind each of these commands, made one after another where so many were made: nothing behind one of these users; behind one
 -- of others what these users learn between the world before and the world after it; and what they see then is shown, where that is asked

@@ -2,4 +2,3 @@ pub mod Lessons
 pub mod Steps
 pub mod Users
 pub mod Runs
-pub mod Looks

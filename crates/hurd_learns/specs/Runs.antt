@@ -1,5 +1,5 @@
 -- What is printed of a script, begun over an empty tree in memory, with what some of its users learn.
-use Rattle.std.specs.Prelude.{◌≡◌, ℕ, Bool, List, Option, Some, Err, codes, take}
+use Rattle.std.specs.Prelude.{◌≡◌, ℕ, Bool, List, Option, Some, Err, codes, drop, length, take}
 use Rattle.hurd_creds.specs.Access.{IdSets}
 use Rattle.hurd_creds.specs.declared.name.TaskId.{TaskId}
 use Rattle.hurd_trans_iface.specs.Meaning.{Meaning, begin}
@@ -13,11 +13,12 @@ use Rattle.hurd_terminal.specs.declared.fault.Fault.{Fault}
 use Rattle.hurd_terminal.specs.declared.fault.Fault.TheVariants.{Bad, Boot, Memory}
 use Rattle.hurd_terminal.specs.declared.print.Output.{Output}
 use Rattle.hurd_tmpfs.specs.Tree.{new_tmpfs}
+use Rattle.hurd_words.specs.Lines.{lines_of}
+use Rattle.hurd_teaching.specs.Learners.{Speech, speech}
+use Rattle.hurd_teaching.specs.Looks.{asks_of}
 use Rattle.hurd_teaching.specs.Programs.{Teaching}
 use Rattle.hurd_teaching.specs.Shown.{Doings}
-use Rattle.hurd_teaching.specs.declared.learners.Learners.{Learners}
-use Rattle.hurd_learns.specs.Lessons.{LessonsOf, Speech}
-use Rattle.hurd_learns.specs.Looks.{looks_of}
+use Rattle.hurd_learns.specs.Lessons.{LessonsOf}
 use Rattle.hurd_learns.specs.Users.{tasks_named}
 
 -- each command's part, and what is said and shown behind it
@@ -64,9 +65,9 @@ NotRead text (Bad line) = bad text ≡ Some line
 NotRead text Memory = Unit {0}
 NotRead text _ = ⊥
 
--- how it is written what learners learn and see
-abbrev pub speech : Learners → List Bool → Speech
-speech learners looks = record { learns = learners.who.items; sees = learners.sees.items; looks = looks }
+-- where a script asks what is seen, by how many of its commands are made: its users' lines stand first
+abbrev pub looks_of : List ℕ → List Bool
+looks_of script = drop (length (names_of script)) (asks_of (lines_of script))
 
 -- the program for those whom a word names of the users of a script
 abbrev pub learning : List ℕ → Teaching
@@ -76,6 +77,7 @@ learning word = record {
   bad = bad;
   named = λ text. tasks_named (names_of text) word;
   called = λ tasks. word;
+  looks = looks_of;
   boot = λ text. boot_of new_tmpfs (users_of text);
-  doings = λ text learners. made learners.tasks.items (speech learners (looks_of text)) (users_of text) (commands_of text);
+  doings = λ text learners. made learners.tasks.items (speech learners) (users_of text) (commands_of text);
 }

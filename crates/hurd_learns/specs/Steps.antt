@@ -17,9 +17,9 @@ use Rattle.hurd_lessons.specs.Told.{counted}
 use Rattle.hurd_lessons.specs.Watched.{SeesOr}
 use Rattle.hurd_lessons.specs.declared.tally.Tally.{Tally}
 use Rattle.hurd_terminal.specs.Faults.{AppendsFront}
+use Rattle.hurd_teaching.specs.Learners.{Speech}
+use Rattle.hurd_teaching.specs.Looks.{is_due}
 use Rattle.hurd_teaching.specs.Telling.{SaysOf, Shows}
-use Rattle.hurd_learns.specs.Lessons.{Speech}
-use Rattle.hurd_learns.specs.Looks.{is_due}
 use Rattle.hurd_learns.specs.declared.steps.Step.{Step}
 use Rattle.hurd_learns.specs.declared.steps.Step.TheVariants.{Told, Made, Done}
 

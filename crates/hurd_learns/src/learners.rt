@@ -11,17 +11,22 @@ use hurd_teaching::Learners;
 use hurd_words::users::{parts, task_of};
 use std::alloc::{AllocError, Global};
 
-/// Those whose names stand in a word between commas; none where one of them isn't a user of a script with users of these names. An error
-/// is want of memory.
-pub fn named(alloc: Global, users: &[String], word: &str) -> Result<Option<Learners>, AllocError>
+/// Those whose names stand in a word between commas, with where all that they see is to be shown; none where one of them isn't a user of a script
+/// with users of these names. An error is want of memory.
+pub fn named(
+    alloc: Global,
+    users: &[String],
+    word: &str,
+    looks: Vec<bool>,
+) -> Result<Option<Learners>, AllocError>
     requires { length users.now ≤ 64 }
-    ensures { IfOk result (λ named. Named (tasks_named (map string_bytes users.now) word.now) (λ tasks. word.now) named) }
+    ensures { IfOk result (λ named. Named (tasks_named (map string_bytes users.now) word.now) (λ tasks. word.now) looks.items named) }
 {
     let Some(tasks) = tasks_of(alloc, users, word)? else {
         return Ok(None);
     };
     let names = Vec::from_slice(alloc, word.as_bytes())?;
-    Ok(Some(Learners::called(alloc, tasks, names)?))
+    Ok(Some(Learners::called(alloc, tasks, names, looks)?))
 }
 
 /// One task more, of the user of a name; whether there is one. An error is want of memory.

@@ -10,7 +10,6 @@
 
 mod laws;
 mod learners;
-mod looks;
 mod run;
 mod steps;
 

@@ -5,18 +5,18 @@ ghost use Rattle.hurd_shell.specs.Session.{BegunWith};
 ghost use Rattle.hurd_world.specs.Boot.{boot_of};
 ghost use Rattle.hurd_script.specs.Script.{bad, commands_of, names_of, users_of};
 ghost use Rattle.hurd_terminal.specs.Runs.{Blames};
+ghost use Rattle.hurd_teaching.specs.Learners.{speech};
 ghost use Rattle.hurd_teaching.specs.Programs.{Exits, Ran, plainly};
 ghost use Rattle.hurd_teaching.specs.Shown.{NotShown, Shown, ToldAll};
-ghost use Rattle.hurd_learns.specs.Runs.{NotAll, NotBegun, NotRead, learning, made, speech};
+ghost use Rattle.hurd_learns.specs.Runs.{NotAll, NotBegun, NotRead, learning, made};
 
 use crate::learners::named;
-use crate::looks::looks;
 use crate::steps::{Step, go_on};
 use hurd_kinds::{ServerBox, empty_tree};
 use hurd_lessons::{Tally, Watch};
 use hurd_script::{Script, ScriptFault, parse_script};
 use hurd_shell::Session;
-use hurd_teaching::{Learners, finish};
+use hurd_teaching::{Learners, asked_looks, finish};
 use hurd_terminal::{Fault, Input, Output, read_text};
 use hurd_trans_iface::Server;
 use std::alloc::Global;
@@ -52,21 +52,20 @@ fn transcribe<W: Write>(
     alloc: Global,
     script: Script,
     learners: &Learners,
-    looks: &[bool],
     watch: &mut Watch,
     tally: &mut Tally,
     output: &mut Output<W>,
 ) -> Result<(), Fault>
     requires { watch.old.seen ≡ None }
-    ensures ok { OnOk result (ToldAll (made learners.now.tasks.items (speech learners.now looks.now) script.users.items script.commands.items)
+    ensures ok { OnOk result (ToldAll (made learners.now.tasks.items (speech learners.now) script.users.items script.commands.items)
         learners.now.tasks.items tally.old (W.contents output.old.writer) tally.new (W.contents output.new.writer)) }
-    ensures err { IfErr result (λ fault. NotAll learners.now.tasks.items (speech learners.now looks.now) script.users.items script.commands.items
+    ensures err { IfErr result (λ fault. NotAll learners.now.tasks.items (speech learners.now) script.users.items script.commands.items
         output.new (W.contents output.old.writer) fault (W.contents output.new.writer)) }
 {
     let root = ServerBox::Tmpfs(empty_tree(alloc)?);
     let mut session = begun(alloc, script, root)?;
     'steps: loop {
-        match go_on(alloc, &mut session, learners, looks, watch, tally, output)? {
+        match go_on(alloc, &mut session, learners, watch, tally, output)? {
             Step::Told => {}
             Step::Made(server) => session.answer(alloc, server),
             Step::Done => return Ok(()),
@@ -81,18 +80,17 @@ fn learn<W: Write>(
     alloc: Global,
     script: Script,
     learners: &Learners,
-    looks: &[bool],
     watch: &mut Watch,
     output: &mut Output<W>,
 ) -> Result<(), Fault>
     requires { watch.old.seen ≡ None }
-    ensures ok { OnOk result (Shown (made learners.now.tasks.items (speech learners.now looks.now) script.users.items script.commands.items) learners.now
+    ensures ok { OnOk result (Shown (made learners.now.tasks.items (speech learners.now) script.users.items script.commands.items) learners.now
         (W.contents output.old.writer) (W.contents output.new.writer)) }
     ensures err { IfErr result (λ fault. NotShown (boot_of new_tmpfs script.users.items)
-        (made learners.now.tasks.items (speech learners.now looks.now) script.users.items script.commands.items) learners.now output.new (W.contents output.old.writer) fault (W.contents output.new.writer)) }
+        (made learners.now.tasks.items (speech learners.now) script.users.items script.commands.items) learners.now output.new (W.contents output.old.writer) fault (W.contents output.new.writer)) }
 {
     let mut tally = Tally::new();
-    transcribe(alloc, script, learners, looks, watch, &mut tally, output)?;
+    transcribe(alloc, script, learners, watch, &mut tally, output)?;
     let line = tally.line(alloc, learners.names.as_slice(), COMMANDS)?;
     output.print(line.as_slice())
 }
@@ -102,16 +100,15 @@ fn learn_anew<W: Write>(
     alloc: Global,
     script: Script,
     learners: &Learners,
-    looks: &[bool],
     output: &mut Output<W>,
 ) -> Result<(), Fault>
-    ensures ok { OnOk result (Shown (made learners.now.tasks.items (speech learners.now looks.now) script.users.items script.commands.items) learners.now
+    ensures ok { OnOk result (Shown (made learners.now.tasks.items (speech learners.now) script.users.items script.commands.items) learners.now
         (W.contents output.old.writer) (W.contents output.new.writer)) }
     ensures err { IfErr result (λ fault. NotShown (boot_of new_tmpfs script.users.items)
-        (made learners.now.tasks.items (speech learners.now looks.now) script.users.items script.commands.items) learners.now output.new (W.contents output.old.writer) fault (W.contents output.new.writer)) }
+        (made learners.now.tasks.items (speech learners.now) script.users.items script.commands.items) learners.now output.new (W.contents output.old.writer) fault (W.contents output.new.writer)) }
 {
     let mut watch = Watch::new();
-    learn(alloc, script, learners, looks, &mut watch, output)
+    learn(alloc, script, learners, &mut watch, output)
 }
 
 /// Reads a script's text.
@@ -145,10 +142,10 @@ fn run_text<W: Write>(
     ensures write { result ≡ Err Fault.Write → output.new.failed ≡ true }
 {
     let script = parsed(alloc, text)?;
-    let looks = looks(alloc, text, script.names.as_slice().len())?;
-    match named(alloc, script.names.as_slice(), word)? {
+    let looks = asked_looks(alloc, text, script.names.as_slice().len())?;
+    match named(alloc, script.names.as_slice(), word, looks)? {
         Some(learners) => {
-            learn_anew(alloc, script, &learners, looks.as_slice(), output)?;
+            learn_anew(alloc, script, &learners, output)?;
             Ok(true)
         }
         None => Ok(false),

@@ -4,10 +4,9 @@ ghost use Rattle.std.specs.Option.{option_map};
 ghost use Rattle.hurd_creds.specs.declared.name.TaskId.{TaskId};
 ghost use Rattle.hurd_world.specs.Held.{world_of};
 ghost use Rattle.hurd_terminal.specs.Faults.{IsPrintFault};
-ghost use Rattle.hurd_learns.specs.Runs.{speech};
+ghost use Rattle.hurd_teaching.specs.Learners.{speech};
 ghost use Rattle.hurd_learns.specs.Steps.{Looked, Printed, PrintedSome, StepsTo, Stops, is_own};
 
-use crate::looks::is_due;
 use hurd_creds::{Bytes, TaskId};
 use hurd_kinds::{ServerBox, server_for};
 use hurd_lessons::{Tally, Watch};
@@ -62,21 +61,20 @@ fn tell<S: Server, W: Write>(
     alloc: Global,
     session: &Session<S>,
     learners: &Learners,
-    looks: &[bool],
     watch: &mut Watch,
     tally: &mut Tally,
     own: bool,
     part: &Bytes,
     output: &mut Output<W>,
 ) -> Result<(), Fault>
-    ensures ok { OnOk result (Printed learners.now.tasks.items (speech learners.now looks.now) own session.now.given (world_of S.meaning session.now.world) part.now
+    ensures ok { OnOk result (Printed learners.now.tasks.items (speech learners.now) own session.now.given (world_of S.meaning session.now.world) part.now
         watch.old.seen tally.old (W.contents output.old.writer) watch.new.seen tally.new (W.contents output.new.writer)) }
     ensures err { IfErr result (λ fault. IsPrintFault output.new fault
-        × PrintedSome learners.now.tasks.items (speech learners.now looks.now) own session.now.given (world_of S.meaning session.now.world) part.now
+        × PrintedSome learners.now.tasks.items (speech learners.now) own session.now.given (world_of S.meaning session.now.world) part.now
         watch.old.seen (W.contents output.old.writer) watch.new.seen (W.contents output.new.writer)) }
 {
     let said = said(alloc, session.world(), learners, watch, own)?;
-    let asked = is_due(looks, session.made());
+    let asked = learners.are_shown(session.made());
     let shown = shown(alloc, session.world(), learners, asked)?;
     print_all(part, &said, &shown, output)?;
     *tally = counted(*tally, own, &said);
@@ -90,23 +88,20 @@ pub fn go_on<S: Server, W: Write>(
     alloc: Global,
     session: &mut Session<S>,
     learners: &Learners,
-    looks: &[bool],
     watch: &mut Watch,
     tally: &mut Tally,
     output: &mut Output<W>,
 ) -> Result<Step, Fault>
-    ensures ok { IfOk result (λ step. StepsTo S.meaning learners.now.tasks.items (speech learners.now looks.now)
+    ensures ok { IfOk result (λ step. StepsTo S.meaning learners.now.tasks.items (speech learners.now)
         session.old watch.old.seen tally.old (W.contents output.old.writer) step session.new watch.new.seen tally.new (W.contents output.new.writer)) }
     ensures err { IfErr result (λ fault. IsPrintFault output.new fault
-        × Stops S.meaning learners.now.tasks.items (speech learners.now looks.now)
+        × Stops S.meaning learners.now.tasks.items (speech learners.now)
         session.old watch.old.seen (W.contents output.old.writer) session.new watch.new.seen (W.contents output.new.writer)) }
 {
     let own = looked(alloc, session, learners, watch)?;
     match session.next(alloc)? {
         Want::Output(part) => {
-            tell(
-                alloc, session, learners, looks, watch, tally, own, &part, output,
-            )?;
+            tell(alloc, session, learners, watch, tally, own, &part, output)?;
             Ok(Step::Told)
         }
         Want::Server(words) => Ok(Step::Made(server_for(alloc, &words)?)),

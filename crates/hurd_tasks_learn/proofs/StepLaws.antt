@@ -12,7 +12,9 @@ use Rattle.hurd_lessons.specs.Told.{Lesson, Taught, counted}
 use Rattle.hurd_lessons.specs.Watched.{LearnedSince, Learns, SeenOf, Sees, SeesOr}
 use Rattle.hurd_lessons.specs.declared.tally.Tally.{Tally}
 use Rattle.hurd_terminal.specs.Faults.{AppendsFront}
-use Rattle.hurd_teaching.specs.Telling.{SaysOf}
+use Rattle.hurd_teaching.specs.Learners.{Speech}
+use Rattle.hurd_teaching.specs.Looks.{is_due}
+use Rattle.hurd_teaching.specs.Telling.{SaysOf, Shows}
 use Rattle.hurd_tasks_learn.specs.Steps.{IsTold, ToldPart}
 
 -- what is kept was seen in this world, so what is kept after a look was
@@ -41,23 +43,31 @@ module _ (tasks : List TaskId) (who : List ℕ) where
   kept x true before after text says = rw says.0 tt
   kept x false before after text says = rw says.kept says.sees
 
-  module _ (c : Listed) (w x : World) (own : Bool) (before after : Option View) (text : List ℕ) (is : own ≡ among tasks c.task.0) (sees : own ≡ false → Sees tasks w before)
-      (says : SaysOf tasks who own x before after text) (next : x ≡ after_call c w) where
+  module _ (sees : List ℕ) (looks : List Bool) (made : ℕ) (c : Listed) (w x : World) (own : Bool) (before after : Option View) (text shown : List ℕ) (is : own ≡ among tasks c.task.0)
+      (sees_before : own ≡ false → Sees tasks w before) (says : SaysOf tasks who own x before after text) (shows : Shows tasks sees (is_due looks made) x shown) (next : x ≡ after_call c w) where
     here_lesson : Lesson tasks who c.task.0 w (after_call c w) text
-    here_lesson = subst (λ (y : World). Lesson tasks who c.task.0 w y text) next (lesson w x c.task.0 own before after text is sees says)
+    here_lesson = subst (λ (y : World). Lesson tasks who c.task.0 w y text) next (lesson w x c.task.0 own before after text is sees_before says)
+
+    here_shown : Shows tasks sees (is_due looks made) (after_call c w) shown
+    here_shown = subst (λ (y : World). Shows tasks sees (is_due looks made) y shown) next shows
+
+    abbrev speaking : Speech
+    speaking = record { learns = who; sees = sees; looks = looks }
 
     -- a call was made and told
-    pub is_told : (part : List ℕ) (tally count : Tally) (now later : Option (List ℕ)) → part ≡ part_of c w → Appends now later (part ++ text) → count ≡ (if own then tally else counted tally text)
-        → IsTold tasks who c w tally now x after count later
+    pub is_told : (part : List ℕ) (tally count : Tally) (now later : Option (List ℕ)) → part ≡ part_of c w → Appends now later (part ++ (text ++ shown)) → count ≡ (if own then tally else counted tally text)
+        → IsTold tasks speaking made c w tally now x after count later
     is_told part tally count now later this adds counts = record {
       said = text;
+      shown = shown;
       next = next;
       seen = kept x own before after text says;
       lesson = here_lesson;
+      shows = here_shown;
       appends = rw this at adds;
       counts = counts ∙ ap (λ (b : Bool). if b then tally else counted tally text) is;
     }
 
     -- a front of it was
-    pub is_cut : (part : List ℕ) (now later : Option (List ℕ)) → part ≡ part_of c w → AppendsFront now later (part ++ text) → ToldPart tasks who c w now later
-    is_cut part now later this front = inr (text, here_lesson, rw this at front)
+    pub is_cut : (part : List ℕ) (now later : Option (List ℕ)) → part ≡ part_of c w → AppendsFront now later (part ++ (text ++ shown)) → ToldPart tasks speaking made c w now later
+    is_cut part now later this front = inr (text, shown, here_lesson, here_shown, rw this at front)

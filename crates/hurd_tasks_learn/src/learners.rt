@@ -28,15 +28,21 @@ fn called(alloc: Global, tasks: &[TaskId], word: &str) -> Result<Vec<u8>, AllocE
     Ok(names)
 }
 
-/// Those whose numbers stand in a word between commas; none where one of them isn't below this count of tasks. An error is want of memory.
-pub fn named(alloc: Global, count: usize, word: &str) -> Result<Option<Learners>, AllocError>
-    ensures { IfOk result (λ named. Named (tasks_named count word.now) (called word.now) named) }
+/// Those whose numbers stand in a word between commas, with where all that they see is to be shown; none where one of them isn't below this count of
+/// tasks. An error is want of memory.
+pub fn named(
+    alloc: Global,
+    count: usize,
+    word: &str,
+    looks: Vec<bool>,
+) -> Result<Option<Learners>, AllocError>
+    ensures { IfOk result (λ named. Named (tasks_named count word.now) (called word.now) looks.items named) }
 {
     let Some(tasks) = tasks_of(alloc, count, word)? else {
         return Ok(None);
     };
     let names = called(alloc, tasks.as_slice(), word)?;
-    Ok(Some(Learners::called(alloc, tasks, names)?))
+    Ok(Some(Learners::called(alloc, tasks, names, looks)?))
 }
 
 /// The number of a task below this count.

@@ -6,9 +6,10 @@ ghost use Rattle.hurd_terminal.specs.Runs.{Blames};
 ghost use Rattle.hurd_tmpfs.specs.Tree.{new_tmpfs};
 ghost use Rattle.hurd_world.specs.Boot.{boot_of, first_world};
 ghost use Rattle.hurd_world.specs.Held.{world_of};
+ghost use Rattle.hurd_teaching.specs.Learners.{speech};
 ghost use Rattle.hurd_teaching.specs.Programs.{Exits, Ran, plainly};
 ghost use Rattle.hurd_teaching.specs.Shown.{NotShown, NotTold, Shown};
-ghost use Rattle.hurd_tasks_learn.specs.Runs.{learning, made};
+ghost use Rattle.hurd_tasks_learn.specs.Runs.{calling, learning};
 
 use crate::learners::named;
 use crate::steps::make_all;
@@ -17,7 +18,7 @@ use hurd_kinds::{ServerBox, empty_tree};
 use hurd_lessons::{Tally, Watch};
 use hurd_lists::{CallList, ListedCall};
 use hurd_making::{begun, parsed};
-use hurd_teaching::{Learners, finish};
+use hurd_teaching::{Learners, asked_looks, finish};
 use hurd_terminal::{Fault, Input, Output, read_text};
 use hurd_world::World;
 use std::alloc::Global;
@@ -44,9 +45,9 @@ fn tell_all<W: Write>(
     output: &mut Output<W>,
 ) -> Result<(), Fault>
     requires { watch.old.seen ≡ None }
-    ensures ok { OnOk result (Shown (made learners.now.tasks.items learners.now.who.items (map (listed_by box_meaning) calls.items) (world_of box_meaning world.old)) learners.now
+    ensures ok { OnOk result (Shown (calling learners.now.tasks.items (speech learners.now) 0 (map (listed_by box_meaning) calls.items) (world_of box_meaning world.old)) learners.now
         (W.contents output.old.writer) (W.contents output.new.writer)) }
-    ensures err { IfErr result (λ fault. NotTold (made learners.now.tasks.items learners.now.who.items (map (listed_by box_meaning) calls.items) (world_of box_meaning world.old))
+    ensures err { IfErr result (λ fault. NotTold (calling learners.now.tasks.items (speech learners.now) 0 (map (listed_by box_meaning) calls.items) (world_of box_meaning world.old))
         learners.now output.new (W.contents output.old.writer) fault (W.contents output.new.writer)) }
 {
     let mut tally = Tally::new();
@@ -63,9 +64,9 @@ fn tell_anew<W: Write>(
     learners: &Learners,
     output: &mut Output<W>,
 ) -> Result<(), Fault>
-    ensures ok { OnOk result (Shown (made learners.now.tasks.items learners.now.who.items (map (listed_by box_meaning) calls.items) (world_of box_meaning world.old)) learners.now
+    ensures ok { OnOk result (Shown (calling learners.now.tasks.items (speech learners.now) 0 (map (listed_by box_meaning) calls.items) (world_of box_meaning world.old)) learners.now
         (W.contents output.old.writer) (W.contents output.new.writer)) }
-    ensures err { IfErr result (λ fault. NotTold (made learners.now.tasks.items learners.now.who.items (map (listed_by box_meaning) calls.items) (world_of box_meaning world.old))
+    ensures err { IfErr result (λ fault. NotTold (calling learners.now.tasks.items (speech learners.now) 0 (map (listed_by box_meaning) calls.items) (world_of box_meaning world.old))
         learners.now output.new (W.contents output.old.writer) fault (W.contents output.new.writer)) }
 {
     let mut watch = Watch::new();
@@ -82,10 +83,10 @@ fn learn<W: Write>(
     learners: &Learners,
     output: &mut Output<W>,
 ) -> Result<(), Fault>
-    ensures ok { OnOk result (Shown (made learners.now.tasks.items learners.now.who.items (map (listed_by box_meaning) calls.items) (first_world new_tmpfs tasks.items)) learners.now
+    ensures ok { OnOk result (Shown (calling learners.now.tasks.items (speech learners.now) 0 (map (listed_by box_meaning) calls.items) (first_world new_tmpfs tasks.items)) learners.now
         (W.contents output.old.writer) (W.contents output.new.writer)) }
     ensures err { IfErr result (λ fault. NotShown (boot_of new_tmpfs tasks.items)
-        (made learners.now.tasks.items learners.now.who.items (map (listed_by box_meaning) calls.items) (first_world new_tmpfs tasks.items)) learners.now
+        (calling learners.now.tasks.items (speech learners.now) 0 (map (listed_by box_meaning) calls.items) (first_world new_tmpfs tasks.items)) learners.now
         output.new (W.contents output.old.writer) fault (W.contents output.new.writer)) }
 {
     let root = ServerBox::Tmpfs(empty_tree(alloc)?);
@@ -108,7 +109,8 @@ fn run_text<W: Write>(
     ensures write { result ≡ Err Fault.Write → output.new.failed ≡ true }
 {
     let CallList { tasks, calls } = parsed(alloc, text)?;
-    match named(alloc, tasks.as_slice().len(), word)? {
+    let looks = asked_looks(alloc, text, tasks.as_slice().len() + 1)?;
+    match named(alloc, tasks.as_slice().len(), word, looks)? {
         Some(learners) => {
             learn(alloc, tasks, calls, &learners, output)?;
             Ok(true)

@@ -8,8 +8,9 @@ ghost use Rattle.hurd_lists.specs.Lists.{listed_by};
 ghost use Rattle.hurd_sight.specs.Reach.{among};
 ghost use Rattle.hurd_lessons.specs.Watched.{SeenOf, Sees};
 ghost use Rattle.hurd_terminal.specs.Faults.{IsPrintFault};
+ghost use Rattle.hurd_teaching.specs.Learners.{speech};
 ghost use Rattle.hurd_teaching.specs.Shown.{ToldAll};
-ghost use Rattle.hurd_tasks_learn.specs.Runs.{ToldSome, made};
+ghost use Rattle.hurd_tasks_learn.specs.Runs.{ToldSome, calling};
 ghost use Rattle.hurd_tasks_learn.specs.Steps.{IsTold, ToldPart};
 
 use hurd_creds::TaskId;
@@ -17,7 +18,7 @@ use hurd_kinds::ServerBox;
 use hurd_lessons::{Tally, Watch};
 use hurd_lists::ListedCall;
 use hurd_making::{brought, part};
-use hurd_teaching::{Learners, counted, print_both, said};
+use hurd_teaching::{Learners, counted, print_all, said, shown};
 use hurd_terminal::{Fault, Output};
 use hurd_trans_iface::Server;
 use hurd_world::World;
@@ -44,7 +45,8 @@ fn looked<S: Server>(
     Ok(own)
 }
 
-/// Makes a call with the server that its words make, prints its part and what these tasks learn by it, and counts that.
+/// Makes a call with the server that its words make, as that of this number, prints its part, what these tasks learn by it, and what they see where
+/// that is asked for, and counts what they learn.
 ///
 /// `Write` where it can't be written: then only some first bytes of it were; `Memory` at any point.
 fn make<S: Server, W: Write>(
@@ -52,6 +54,7 @@ fn make<S: Server, W: Write>(
     alloc: Global,
     listed: ListedCall<S>,
     server: Option<S>,
+    made: usize,
     learners: &Learners,
     watch: &mut Watch,
     tally: &mut Tally,
@@ -59,16 +62,17 @@ fn make<S: Server, W: Write>(
 ) -> Result<(), Fault>
     requires brings { begun listed.server ≡ option_map S.meaning server }
     requires seen { SeenOf learners.now.tasks.items (world_of S.meaning world.old) watch.old.seen }
-    ensures ok { OnOk result (IsTold learners.now.tasks.items learners.now.who.items (listed_by S.meaning listed) (world_of S.meaning world.old)
+    ensures ok { OnOk result (IsTold learners.now.tasks.items (speech learners.now) made (listed_by S.meaning listed) (world_of S.meaning world.old)
         tally.old (W.contents output.old.writer) (world_of S.meaning world.new) watch.new.seen tally.new (W.contents output.new.writer)) }
     ensures err { IfErr result (λ fault. IsPrintFault output.new fault
-        × ToldPart learners.now.tasks.items learners.now.who.items (listed_by S.meaning listed) (world_of S.meaning world.old)
+        × ToldPart learners.now.tasks.items (speech learners.now) made (listed_by S.meaning listed) (world_of S.meaning world.old)
         (W.contents output.old.writer) (W.contents output.new.writer)) }
 {
     let own = looked(alloc, world, listed.task, learners, watch)?;
     let part = part(world, alloc, listed, server)?;
     let said = said(alloc, world, learners, watch, own)?;
-    print_both(&part, &said, output)?;
+    let shown = shown(alloc, world, learners, learners.are_shown(made))?;
+    print_all(&part, &said, &shown, output)?;
     *tally = counted(*tally, own, &said);
     Ok(())
 }
@@ -86,15 +90,19 @@ pub fn make_all<W: Write>(
     output: &mut Output<W>,
 ) -> Result<(), Fault>
     requires { SeenOf learners.now.tasks.items (world_of box_meaning world.old) watch.old.seen }
-    ensures ok { OnOk result (ToldAll (made learners.now.tasks.items learners.now.who.items (map (listed_by box_meaning) calls.items) (world_of box_meaning world.old))
+    ensures ok { OnOk result (ToldAll (calling learners.now.tasks.items (speech learners.now) 0 (map (listed_by box_meaning) calls.items) (world_of box_meaning world.old))
         learners.now.tasks.items tally.old (W.contents output.old.writer) tally.new (W.contents output.new.writer)) }
     ensures err { IfErr result (λ fault. IsPrintFault output.new fault
-        × ToldSome learners.now.tasks.items learners.now.who.items (map (listed_by box_meaning) calls.items) (world_of box_meaning world.old)
+        × ToldSome learners.now.tasks.items (speech learners.now) 0 (map (listed_by box_meaning) calls.items) (world_of box_meaning world.old)
         (W.contents output.old.writer) (W.contents output.new.writer)) }
 {
+    let mut made = 0usize;
     for listed in calls {
         let server = brought(alloc, &listed.server)?;
-        make(world, alloc, listed, server, learners, watch, tally, output)?;
+        made += 1;
+        make(
+            world, alloc, listed, server, made, learners, watch, tally, output,
+        )?;
     }
     Ok(())
 }

@@ -3,3 +3,4 @@ pub mod PrintLaws
 pub mod ProgramLaws
 pub mod ShownLaws
 pub mod SeenLaws
+pub mod LookLaws

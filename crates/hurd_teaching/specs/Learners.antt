@@ -1,5 +1,5 @@
 -- The tasks that are told what they learn.
-use Rattle.std.specs.Prelude.{◌≡◌, ℕ, List, ◌++◌, Option, Some, None, if◌then◌else◌, codes, length, map, nat_lt}
+use Rattle.std.specs.Prelude.{◌≡◌, ℕ, Bool, List, ◌++◌, Option, Some, None, if◌then◌else◌, codes, length, map, nat_lt}
 use Rattle.hurd_creds.specs.declared.name.TaskId.{TaskId}
 use Rattle.hurd_teaching.specs.declared.learners.Learners.{Learners}
 
@@ -15,21 +15,32 @@ verb_of tasks = if nat_lt 1 (length tasks) then codes " learn" else codes " lear
 abbrev pub see_of : List TaskId → List ℕ
 see_of tasks = if nat_lt 1 (length tasks) then codes " see" else codes " sees"
 
--- these tasks, under these names
-pub record AreCalled (these : List TaskId) (called : List ℕ) (learners : Learners) : Type 0 where
+-- these tasks, under these names, and these looks
+pub record AreCalled (these : List TaskId) (called : List ℕ) (asked : List Bool) (learners : Learners) : Type 0 where
   pub tasks : learners.tasks.items ≡ these
   pub who : learners.who.items ≡ called ++ verb_of these
   pub sees : learners.sees.items ≡ called ++ see_of these
   pub names : learners.names.items ≡ called
+  pub looks : learners.looks.items ≡ asked
 
--- the tasks that are named, under the names by which such tasks are called
-pub record AreNamed (named : Option (List ℕ)) (called : List TaskId → List ℕ) (learners : Learners) : Type 0 where
+-- the tasks that are named, under the names by which such tasks are called, and these looks
+pub record AreNamed (named : Option (List ℕ)) (called : List TaskId → List ℕ) (asked : List Bool) (learners : Learners) : Type 0 where
   pub tasks : named ≡ Some (numbers learners.tasks.items)
   pub who : learners.who.items ≡ called learners.tasks.items ++ verb_of learners.tasks.items
   pub sees : learners.sees.items ≡ called learners.tasks.items ++ see_of learners.tasks.items
   pub names : learners.names.items ≡ called learners.tasks.items
+  pub looks : learners.looks.items ≡ asked
 
 -- those, or none where somebody is named who isn't known
-abbrev pub Named : Option (List ℕ) → (List TaskId → List ℕ) → Option Learners → Type 0
-Named named called None = named ≡ None
-Named named called (Some learners) = AreNamed named called learners
+abbrev pub Named : Option (List ℕ) → (List TaskId → List ℕ) → List Bool → Option Learners → Type 0
+Named named called asked None = named ≡ None
+Named named called asked (Some learners) = AreNamed named called asked learners
+
+-- how it is written what tasks learn and what they see, and where it is asked what they see
+pub record Speech : Type 0 where
+  pub learns : List ℕ
+  pub sees : List ℕ
+  pub looks : List Bool
+
+abbrev pub speech : Learners → Speech
+speech learners = record { learns = learners.who.items; sees = learners.sees.items; looks = learners.looks.items }

@@ -1,3 +1,4 @@
+pub mod Looks
 pub mod Learners
 pub mod Telling
 pub mod Shown

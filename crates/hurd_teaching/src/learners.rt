@@ -2,6 +2,7 @@
 ghost use Rattle.std.specs.Prelude.{◌≡◌, IfOk};
 ghost use Rattle.hurd_sight.specs.Reach.{among};
 ghost use Rattle.hurd_teaching.specs.Learners.{AreCalled, see_of, verb_of};
+ghost use Rattle.hurd_teaching.specs.Looks.{is_due};
 
 use hurd_creds::TaskId;
 use std::alloc::{AllocError, Global};
@@ -17,6 +18,8 @@ pub struct Learners {
     pub sees: Vec<u8>,
     /// As `alice`, or `tasks 1,2`.
     pub names: Vec<u8>,
+    /// Whether all that they see is to be shown, by how many things are done.
+    pub looks: Vec<bool>,
 }
 
 /// What stands behind the names of those who learn.
@@ -38,9 +41,14 @@ fn see(tasks: &[TaskId]) -> &'static [u8]
 }
 
 impl Learners {
-    /// Tasks that are called so. An error is want of memory.
-    pub fn called(alloc: Global, tasks: Vec<TaskId>, names: Vec<u8>) -> Result<Learners, AllocError>
-        ensures { IfOk result (λ learners. AreCalled tasks.items names.items learners) }
+    /// Tasks that are called so, with where all that they see is to be shown. An error is want of memory.
+    pub fn called(
+        alloc: Global,
+        tasks: Vec<TaskId>,
+        names: Vec<u8>,
+        looks: Vec<bool>,
+    ) -> Result<Learners, AllocError>
+        ensures { IfOk result (λ learners. AreCalled tasks.items names.items looks.items learners) }
     {
         let mut who = Vec::from_slice(alloc, names.as_slice())?;
         who.extend_from_slice(verb(tasks.as_slice()))?;
@@ -51,6 +59,7 @@ impl Learners {
             who,
             sees,
             names,
+            looks,
         })
     }
 
@@ -64,5 +73,15 @@ impl Learners {
             }
         }
         false
+    }
+
+    /// Whether all that they see is to be shown where so many things are done.
+    pub fn are_shown(&self, done: usize) -> bool
+        ensures { result ≡ is_due self.now.looks.items done }
+    {
+        match self.looks.get(done) {
+            Some(look) => *look,
+            None => false,
+        }
     }
 }

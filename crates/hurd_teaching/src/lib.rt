@@ -4,9 +4,11 @@
 mod argument;
 mod ending;
 mod learners;
+mod looks;
 mod telling;
 
 pub use argument::only_argument;
 pub use ending::{finish, usage};
 pub use learners::Learners;
+pub use looks::asked_looks;
 pub use telling::{counted, print_all, print_both, said, shown};

@@ -10,7 +10,7 @@ use Rattle.hurd_learns.proofs.run.learn.Goals as goal
 pub returns-in_err-transcribe-clause-err : goal.returns-in_err-transcribe-clause-err
 returns-in_err-transcribe-clause-err g c =
     let p = err_from_is_err_and c.from_residual.result c.from_residual.ensures.1 in
-    rw (p.1, p.2) (not_all_shown c.args.learners.now _ _ _ _ c.transcribe.new.output _ c.in_err-transcribe.field-0.0 c.in_err-transcribe.ensures.err)
+    rw (p.1, p.2) (not_all_shown c.args.learners.now _ _ _ c.transcribe.new.output _ c.in_err-transcribe.field-0.0 c.in_err-transcribe.ensures.err)
 
 pub returns-in_err-line-clause-err : goal.returns-in_err-line-clause-err
 returns-in_err-line-clause-err g c =

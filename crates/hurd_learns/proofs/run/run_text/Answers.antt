@@ -1,4 +1,3 @@
-use Rattle.std.proofs.Common.{◌∙◌}
 use Rattle.std.proofs.lemmas.Result.{err_from_is_err_and}
 use Rattle.std.specs.Prelude.{string_bytes}
 use Rattle.hurd_learns.specs.Runs.{learning}
@@ -22,7 +21,7 @@ returns-in_err-learn_anew-in-Some-clause-ran g c =
     let p = err_from_is_err_and c.from_residual-in_err-learn_anew-in-Some.result c.from_residual-in_err-learn_anew-in-Some.ensures.1 in
     let (good, names, users, commands) = c.in_ok-script.ensures.ok in
     let named = rw (c.in-Some.is, c.as_slice-2.ensures.value) at c.in_ok-learners.ensures in
-    let asked = c.as_slice-in-Some.ensures.value ∙ looks_read string_bytes _ c.args.text.now _ names (rw c.as_slice.ensures.value at c.in_ok-looks.ensures) in
+    let asked = looks_read string_bytes _ c.args.text.now _ names (rw c.as_slice.ensures.value at c.in_ok-looks.ensures) in
     rw (p.1, p.2)
     (script_not_shown c.args.word.now c.args.text.now c.in-Some.learners _ _ _ _ good names asked users commands named c.learn_anew.new.output _ _ c.in_err-learn_anew-in-Some.field-0.0
     c.in_err-learn_anew-in-Some.ensures.err)
@@ -31,7 +30,7 @@ pub returns-in_ok-learn_anew-in-Some-clause-ran : goal.returns-in_ok-learn_anew-
 returns-in_ok-learn_anew-in-Some-clause-ran g c =
     let (good, names, users, commands) = c.in_ok-script.ensures.ok in
     let named = rw (c.in-Some.is, c.as_slice-2.ensures.value) at c.in_ok-learners.ensures in
-    let asked = c.as_slice-in-Some.ensures.value ∙ looks_read string_bytes _ c.args.text.now _ names (rw c.as_slice.ensures.value at c.in_ok-looks.ensures) in
+    let asked = looks_read string_bytes _ c.args.text.now _ names (rw c.as_slice.ensures.value at c.in_ok-looks.ensures) in
     script_shown c.args.word.now c.args.text.now c.in-Some.learners _ _ _ _ good names asked users commands named _ _ c.in_ok-learn_anew-in-Some.ensures.ok
 
 pub returns-in-None-clause-ran : goal.returns-in-None-clause-ran

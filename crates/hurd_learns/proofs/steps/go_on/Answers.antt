@@ -4,7 +4,7 @@ use Rattle.hurd_shell.specs.Session.{has_failed}
 use Rattle.hurd_shell.specs.declared.fault.SessionFault.TheVariants.{Memory}
 use Rattle.hurd_shell.proofs.GivenLaws.{was_fine}
 use Rattle.hurd_learns.proofs.StopLaws.{session_memory, stops_before, stops_printed}
-use Rattle.hurd_learns.specs.Runs.{speech}
+use Rattle.hurd_teaching.specs.Learners.{speech}
 use Rattle.hurd_learns.specs.Steps.{StepsTo}
 use Rattle.hurd_learns.proofs.steps.go_on.Goals as goal
 
@@ -27,7 +27,7 @@ returns-in_err-tell-in-Output-clause-err g c =
     let failed = c.in_err-tell-in-Output.ensures.err in
     rw (p.1, p.2) (
       failed.0,
-      stops_printed g.S.Server.meaning c.args.learners.now.tasks.items (speech c.args.learners.now c.args.looks.now) c.args.session.now c.next.new.self c.args.watch.now.seen c.looked.new.watch.seen c.tell.new.watch.seen _ _
+      stops_printed g.S.Server.meaning c.args.learners.now.tasks.items (speech c.args.learners.now) c.args.session.now c.next.new.self c.args.watch.now.seen c.looked.new.watch.seen c.tell.new.watch.seen _ _
           c.in_ok-own.own c.in-Output.part c.in_ok-own.ensures fine told failed.1,
     )
 

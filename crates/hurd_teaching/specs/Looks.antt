@@ -1,7 +1,6 @@
--- Where a script asks what is seen: by a line `# see`.
-use Rattle.std.specs.Prelude.{ℕ, Bool, true, false, List, [], ◌∷◌, drop, length, slice_get, Option, Some, None, if◌then◌else◌, bytes_eq, codes}
-use Rattle.hurd_words.specs.Lines.{is_skipped, lines_of}
-use Rattle.hurd_script.specs.Script.{names_of}
+-- Where a text asks what is seen: by a line `# see`.
+use Rattle.std.specs.Prelude.{ℕ, Bool, true, false, List, [], ◌∷◌, slice_get, Option, Some, None, if◌then◌else◌, bytes_eq, codes}
+use Rattle.hurd_words.specs.Lines.{is_skipped}
 
 -- the line that asks
 abbrev pub is_look : List ℕ → Bool
@@ -20,15 +19,11 @@ asks_behind (line ∷ lines) =
     else if is_skipped line then asks_behind lines
     else asks_first lines ∷ asks_behind lines
 
--- the same, behind what stands before any of them
+-- the same, and first what stands before any of them; nothing stands before that
 abbrev pub asks_of : List (List ℕ) → List Bool
 asks_of lines = false ∷ asks_first lines ∷ asks_behind lines
 
--- of a script, by how many of its commands are made: its users' lines stand first
-abbrev pub looks_of : List ℕ → List Bool
-looks_of script = drop (length (names_of script)) (asks_of (lines_of script))
-
--- whether it is asked behind so many commands
+-- whether it is asked where so many things are done
 abbrev pub is_asked : Option Bool → Bool
 is_asked None = false
 is_asked (Some b) = b

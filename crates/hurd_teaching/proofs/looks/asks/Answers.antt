@@ -1,9 +1,9 @@
 use Rattle.std.proofs.Common.{◌∙◌, ◌+◌, ◌++◌, drop, sym}
 use Rattle.hurd_words.proofs.Loops.{next_piece, piece_at}
 use Rattle.hurd_words.specs.Reading.{said}
-use Rattle.hurd_learns.proofs.LookLaws.{asks_from, look_read, said_read, skipped_read}
-use Rattle.hurd_learns.proofs.looks.asks.Goals.{then-is_look, else-is_look+then-not-is_skipped+in_ok-push-2, else-is_look+else-not-is_skipped}
-use Rattle.hurd_learns.proofs.looks.asks.Goals as goal
+use Rattle.hurd_teaching.proofs.LookLaws.{asks_from, look_read, said_read, skipped_read}
+use Rattle.hurd_teaching.proofs.looks.asks.Goals.{then-is_look, else-is_look+then-not-is_skipped+in_ok-push-2, else-is_look+else-not-is_skipped}
+use Rattle.hurd_teaching.proofs.looks.asks.Goals as goal
 
 pub loop-line-preserved : goal.loop-line-preserved
 loop-line-preserved c =

@@ -1,7 +1,7 @@
-//! Where a script asks what is seen.
+//! Where a text asks what is seen.
 ghost use Rattle.std.specs.Prelude.{◌≡◌, IfOk, drop};
 ghost use Rattle.hurd_words.specs.Lines.{lines_of};
-ghost use Rattle.hurd_learns.specs.Looks.{asks_of, is_due, is_look};
+ghost use Rattle.hurd_teaching.specs.Looks.{asks_of, is_look};
 
 use hurd_words::lines::is_skipped;
 use hurd_words::words::pieces;
@@ -15,16 +15,6 @@ fn is_look(line: &[u8]) -> bool
     ensures { result ≡ is_look line.now }
 {
     line == LOOK
-}
-
-/// Whether it is asked behind so many commands.
-pub fn is_due(looks: &[bool], made: usize) -> bool
-    ensures { result ≡ is_due looks.now made }
-{
-    match looks.get(made) {
-        Some(look) => *look,
-        None => false,
-    }
 }
 
 /// Where a text asks, by its lines that say something. An error is want of memory.
@@ -47,12 +37,12 @@ fn asks(alloc: Global, text: &[u8]) -> Result<Vec<bool>, AllocError>
     Ok(asks)
 }
 
-/// Where a script with so many users, root with them, asks what is seen: by how many of its commands are made. An error is want of memory.
-pub fn looks(alloc: Global, text: &[u8], users: usize) -> Result<Vec<bool>, AllocError>
-    ensures { IfOk result (λ looks. looks.items ≡ drop users (asks_of (lines_of text.now))) }
+/// Where a text asks what is seen, without the first so many places. An error is want of memory.
+pub fn asked_looks(alloc: Global, text: &[u8], first: usize) -> Result<Vec<bool>, AllocError>
+    ensures { IfOk result (λ looks. looks.items ≡ drop first (asks_of (lines_of text.now))) }
 {
     let asks = asks(alloc, text)?;
-    match asks.as_slice().get(users..) {
+    match asks.as_slice().get(first..) {
         Some(looks) => Vec::from_slice(alloc, looks),
         None => Ok(Vec::new(alloc)),
     }
