@@ -1,5 +1,5 @@
 -- What was told so far of the calls of a list.
-use Rattle.std.proofs.Common.{◌≡◌, ◌∙◌, ◌+◌, refl, sym, ap, subst, ℕ, List, [], ◌∷◌, ◌++◌, map, Option, None, inl, inr, append_assoc, append-nil}
+use Rattle.std.proofs.Common.{◌≡◌, ◌∙◌, ◌+◌, refl, sym, ap, subst, ℕ, List, [], ◌∷◌, ◌++◌, map, Option, inl, inr, append_assoc, append-nil}
 use Rattle.std.proofs.KnownBytes.{Appends-nil, Appends-trans}
 use Rattle.std.specs.Io.KnownBytes.{Appends}
 use Rattle.hurd_creds.specs.declared.name.TaskId.{TaskId}
@@ -9,13 +9,13 @@ use Rattle.hurd_lists.specs.declared.reader.ListedCall.{ListedCall}
 use Rattle.hurd_machine.specs.World.{World}
 use Rattle.hurd_making.specs.Making.{after_call, part_of, parts_of}
 use Rattle.hurd_sight.specs.declared.view.View.{View}
-use Rattle.hurd_lessons.specs.Told.{Lesson, Said, printed}
+use Rattle.hurd_lessons.specs.Told.{Said}
 use Rattle.hurd_lessons.specs.Watched.{SeenOf}
 use Rattle.hurd_lessons.specs.declared.tally.Tally.{Tally}
 use Rattle.hurd_terminal.specs.Faults.{AppendsFront}
 use Rattle.hurd_terminal.proofs.OutputLaws.{front_follows}
 use Rattle.hurd_teaching.specs.Shown.{ToldAll}
-use Rattle.hurd_tasks_learn.specs.Lessons.{LessonsOf, told_text}
+use Rattle.hurd_tasks_learn.specs.Lessons.{told_text}
 use Rattle.hurd_teaching.specs.Learners.{Speech}
 use Rattle.hurd_tasks_learn.specs.Runs.{ToldSome, calling}
 use Rattle.hurd_tasks_learn.specs.Steps.{IsTold, ToldPart}

@@ -1,5 +1,5 @@
 -- What comes of one call of a list that is watched.
-use Rattle.std.specs.Prelude.{◌≡◌, ◌⊎◌, ℕ, Bool, true, false, List, [], ◌++◌, Option, None, if◌then◌else◌}
+use Rattle.std.specs.Prelude.{◌≡◌, ◌⊎◌, ℕ, List, ◌++◌, Option, if◌then◌else◌}
 use Rattle.std.specs.Io.KnownBytes.{Appends}
 use Rattle.hurd_creds.specs.declared.name.TaskId.{TaskId}
 use Rattle.hurd_machine.specs.World.{World}
@@ -8,7 +8,7 @@ use Rattle.hurd_making.specs.Making.{after_call, part_of}
 use Rattle.hurd_sight.specs.Reach.{among}
 use Rattle.hurd_sight.specs.declared.view.View.{View}
 use Rattle.hurd_lessons.specs.Told.{Lesson, counted}
-use Rattle.hurd_lessons.specs.Watched.{Learns, SeenOf}
+use Rattle.hurd_lessons.specs.Watched.{SeenOf}
 use Rattle.hurd_lessons.specs.declared.tally.Tally.{Tally}
 use Rattle.hurd_terminal.specs.Faults.{AppendsFront}
 use Rattle.hurd_teaching.specs.Learners.{Speech}
