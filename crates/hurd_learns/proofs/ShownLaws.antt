@@ -1,7 +1,6 @@
 -- What is printed of the commands of a script.
 use Rattle.std.proofs.Common.{List, Option, ℕ}
 use Rattle.hurd_creds.specs.Access.{IdSets}
-use Rattle.hurd_creds.specs.declared.name.TaskId.{TaskId}
 use Rattle.hurd_script.specs.Commands.{CommandLine}
 use Rattle.hurd_terminal.specs.declared.fault.Fault.{Fault}
 use Rattle.hurd_terminal.specs.declared.fault.Fault.TheVariants.{Read, Write, Bad, Boot, Memory}
