@@ -65,7 +65,7 @@ NotRead text (Bad line) = bad text ≡ Some line
 NotRead text Memory = Unit {0}
 NotRead text _ = ⊥
 
--- where a script asks what is seen, by how many of its commands are made: its users' lines stand first
+-- where a script asks what is seen, by how many of its commands are made: its users' lines stand first, one for each but root, and one place before them
 abbrev pub looks_of : List ℕ → List Bool
 looks_of script = drop (length (names_of script)) (asks_of (lines_of script))
 

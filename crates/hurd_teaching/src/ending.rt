@@ -6,7 +6,7 @@ use hurd_terminal::{Fault, Output, finish as finish_plainly};
 use std::io::Write;
 
 /// Prints how a program is called; answers the exit status: 2 where that can't be written.
-pub fn usage<W: Write>(text: &[u8], output: &mut Output<W>) -> u8
+fn usage<W: Write>(text: &[u8], output: &mut Output<W>) -> u8
     ensures { SaysUsage W.contents output.old output.new text.now result }
 {
     match output.print(text) {

@@ -1,4 +1,5 @@
-//! What programs of learners have in common: who learns, what is said behind what each task did, and how such a program ends.
+//! What programs of learners have in common: who learns, what is said behind what each task did, where it is asked what they see,
+//! what is shown then, and how such a program ends.
 #![tactic(auto)]
 
 mod argument;
@@ -8,7 +9,7 @@ mod looks;
 mod telling;
 
 pub use argument::only_argument;
-pub use ending::{finish, usage};
+pub use ending::finish;
 pub use learners::Learners;
 pub use looks::asked_looks;
-pub use telling::{counted, print_all, print_both, said, shown};
+pub use telling::{counted, print_all, said, shown};

@@ -65,7 +65,7 @@ pub fn counted(tally: Tally, own: bool, said: &Bytes) -> Tally
 /// Prints a part, and what is said behind it.
 ///
 /// `Write`; then only some first bytes were printed.
-pub fn print_both<W: Write>(part: &Bytes, said: &Bytes, output: &mut Output<W>) -> Result<(), Fault>
+fn print_both<W: Write>(part: &Bytes, said: &Bytes, output: &mut Output<W>) -> Result<(), Fault>
     ensures ok { OnOk result (Appends (W.contents output.old.writer) (W.contents output.new.writer) (part.now ++ said.now)) }
     ensures err { IfErr result (λ fault. IsPrintFault output.new fault
         × AppendsFront (W.contents output.old.writer) (W.contents output.new.writer) (part.now ++ said.now)) }
