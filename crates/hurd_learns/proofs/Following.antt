@@ -18,7 +18,7 @@ use Rattle.hurd_shell.specs.Session.{Answers, BegunWith, TakesUnlessFailed, View
 use Rattle.hurd_shell.specs.Transcript.{AsksFor, Dialogue, ends, dialogue, parts_by}
 use Rattle.hurd_shell.proofs.IsolationLaws.{one_part_each}
 use Rattle.hurd_sight.specs.Reach.{among}
-use Rattle.hurd_sight.specs.declared.view.View as sight
+use Rattle.hurd_views.specs.declared.view.View as sight
 use Rattle.hurd_lessons.specs.Told.{Said, counted, printed, tally_from}
 use Rattle.hurd_lessons.specs.declared.tally.Tally.{Tally}
 use Rattle.hurd_terminal.specs.Faults.{IsPrintFault}

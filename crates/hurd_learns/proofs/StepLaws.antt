@@ -8,10 +8,10 @@ use Rattle.hurd_machine.specs.World.{World}
 use Rattle.hurd_world.specs.Held.{world_of}
 use Rattle.hurd_shell.specs.Session.{View, next_task}
 use Rattle.hurd_sight.specs.Reach.{among}
-use Rattle.hurd_sight.specs.Views.{Views}
-use Rattle.hurd_sight.specs.declared.view.View as sight
+use Rattle.hurd_views.specs.Views.{Views}
+use Rattle.hurd_views.specs.declared.view.View as sight
 use Rattle.hurd_lessons.specs.Told.{Lesson, Taught, counted}
-use Rattle.hurd_lessons.specs.Watched.{LearnedSince, Learns, SeenOf, SeesOr}
+use Rattle.hurd_watch.specs.Watched.{LearnedSince, Learns, SeenOf, SeesOr}
 use Rattle.hurd_lessons.specs.declared.tally.Tally.{Tally}
 use Rattle.hurd_teaching.specs.Telling.{SaysOf}
 use Rattle.hurd_teaching.specs.Learners.{Speech}

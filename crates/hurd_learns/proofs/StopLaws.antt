@@ -6,7 +6,7 @@ use Rattle.hurd_world.specs.Held.{world_of}
 use Rattle.hurd_shell.specs.Session.{Gives, View, has_failed}
 use Rattle.hurd_shell.specs.declared.fault.SessionFault.{SessionFault}
 use Rattle.hurd_shell.specs.declared.fault.SessionFault.TheVariants.{Memory}
-use Rattle.hurd_sight.specs.declared.view.View as sight
+use Rattle.hurd_views.specs.declared.view.View as sight
 use Rattle.hurd_teaching.specs.Learners.{Speech}
 use Rattle.hurd_learns.specs.Steps.{Looked, PrintedSome, Stops}
 

@@ -6,7 +6,7 @@ use Rattle.hurd_kinds.specs.Boxes.{box_meaning}
 use Rattle.hurd_kinds.specs.declared.server_box.ServerBox.{ServerBox}
 use Rattle.hurd_shell.specs.Session.{Answers, Gives, TakesUnlessFailed, View, has_failed, left_in}
 use Rattle.hurd_shell.specs.Transcript.{AsksFor, Dialogue, Maker, Part, ends, tells, wants}
-use Rattle.hurd_sight.specs.declared.view.View as sight
+use Rattle.hurd_views.specs.declared.view.View as sight
 use Rattle.hurd_creds.specs.declared.name.TaskId.{TaskId}
 use Rattle.hurd_lessons.specs.declared.tally.Tally.{Tally}
 use Rattle.hurd_teaching.specs.Learners.{Speech}

@@ -12,9 +12,9 @@ use Rattle.hurd_shell.specs.Session.{Gives, Tells, View, has_failed, left_in, ne
 use Rattle.hurd_shell.specs.Transcript.{ends}
 use Rattle.hurd_shell.specs.declared.session.Want.TheVariants.{Server}
 use Rattle.hurd_sight.specs.Reach.{among}
-use Rattle.hurd_sight.specs.declared.view.View as sight
+use Rattle.hurd_views.specs.declared.view.View as sight
 use Rattle.hurd_lessons.specs.Told.{counted}
-use Rattle.hurd_lessons.specs.Watched.{SeesOr}
+use Rattle.hurd_watch.specs.Watched.{SeesOr}
 use Rattle.hurd_lessons.specs.declared.tally.Tally.{Tally}
 use Rattle.hurd_terminal.specs.Faults.{AppendsFront}
 use Rattle.hurd_teaching.specs.Learners.{Speech}

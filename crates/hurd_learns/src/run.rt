@@ -13,12 +13,13 @@ ghost use Rattle.hurd_learns.specs.Runs.{NotAll, NotBegun, NotRead, learning, ma
 use crate::learners::named;
 use crate::steps::{Step, go_on};
 use hurd_kinds::{ServerBox, empty_tree};
-use hurd_lessons::{Tally, Watch};
+use hurd_lessons::Tally;
 use hurd_script::{Script, ScriptFault, parse_script};
 use hurd_shell::Session;
 use hurd_teaching::{Learners, asked_looks, finish};
 use hurd_terminal::{Fault, Input, Output, read_text};
 use hurd_trans_iface::Server;
+use hurd_watch::Watch;
 use std::alloc::Global;
 use std::io::{Read, Write};
 

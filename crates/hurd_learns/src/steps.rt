@@ -9,11 +9,12 @@ ghost use Rattle.hurd_learns.specs.Steps.{Looked, Printed, PrintedSome, StepsTo,
 
 use hurd_creds::{Bytes, TaskId};
 use hurd_kinds::{ServerBox, server_for};
-use hurd_lessons::{Tally, Watch};
+use hurd_lessons::Tally;
 use hurd_shell::{Session, Want};
 use hurd_teaching::{Learners, counted, print_all, said, shown};
 use hurd_terminal::{Fault, Output};
 use hurd_trans_iface::Server;
+use hurd_watch::Watch;
 use std::alloc::{AllocError, Global};
 use std::io::Write;
 

@@ -4,9 +4,9 @@ use Rattle.std.specs.Prelude.{◌||◌, ◌&&◌, Option}
 use Rattle.hurd_creds.specs.declared.name.Name.{Name}
 use Rattle.hurd_creds.specs.Names.{same_name}
 use Rattle.hurd_creds.proofs.NameLaws.{equal_if_same}
-use Rattle.hurd_sight.specs.Views.{has_row, no_row, row_at}
-use Rattle.hurd_sight.specs.declared.rows.Row.{Row}
-use Rattle.hurd_sight.specs.declared.view.View.{View}
+use Rattle.hurd_views.specs.Views.{has_row, no_row, row_at}
+use Rattle.hurd_views.specs.declared.rows.Row.{Row}
+use Rattle.hurd_views.specs.declared.view.View.{View}
 use Rattle.hurd_lessons.specs.Changes.{IsChange, Turned, is_kept, is_same}
 use Rattle.hurd_lessons.specs.Lessons.{GoneLineOf, LineOf, Lines, OneText, SilentWhereSame, Unless, count_line, line, names_of, tasks_line}
 use Rattle.hurd_lessons.specs.declared.changes.Became.{Became}

@@ -3,4 +3,3 @@ pub mod LineLaws
 pub mod LessonLaws
 pub mod SeenLaws
 pub mod TaughtLaws
-pub mod WatchLaws

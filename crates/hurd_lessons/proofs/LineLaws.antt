@@ -5,9 +5,9 @@ use Rattle.std.specs.Option.{option_map}
 use Rattle.std.proofs.lemmas.List.{append_assoc, append-nil, drop_all, drop_more}
 use Rattle.std.proofs.lemmas.Option.{get_or_from_slice_get, slice_get_cases, slice_get_within}
 use Rattle.hurd_creds.specs.declared.name.Name.{Name}
-use Rattle.hurd_sight.specs.declared.rows.Row.{Row}
-use Rattle.hurd_sight.specs.Views.{has_row, row_at}
-use Rattle.hurd_sight.specs.declared.view.View.{View}
+use Rattle.hurd_views.specs.declared.rows.Row.{Row}
+use Rattle.hurd_views.specs.Views.{has_row, row_at}
+use Rattle.hurd_views.specs.declared.view.View.{View}
 use Rattle.hurd_lessons.specs.Added.{Adds, AddsAt, AddsLines}
 use Rattle.hurd_lessons.specs.Changes.{IsChange, is_kept}
 use Rattle.hurd_lessons.specs.Lessons.{GoneLineOf, Lessons, LineOf, Lines, Unless, count_line, line, names_of, tasks_line}

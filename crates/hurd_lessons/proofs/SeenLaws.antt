@@ -5,8 +5,8 @@ use Rattle.std.specs.Option.{option_map}
 use Rattle.std.proofs.lemmas.List.{append_assoc, append-nil, drop_all}
 use Rattle.std.proofs.lemmas.Option.{slice_get_cases}
 use Rattle.hurd_creds.specs.declared.name.Name.{Name}
-use Rattle.hurd_sight.specs.declared.rows.Row.{Row}
-use Rattle.hurd_sight.specs.declared.view.View.{View}
+use Rattle.hurd_views.specs.declared.rows.Row.{Row}
+use Rattle.hurd_views.specs.declared.view.View.{View}
 use Rattle.hurd_lessons.specs.Seen.{seen_at, seen_lines}
 use Rattle.hurd_lessons.proofs.LineLaws.{beyond, here, named}
 

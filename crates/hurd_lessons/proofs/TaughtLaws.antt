@@ -1,5 +1,5 @@
 -- What others did taught nothing exactly where nothing that is seen differs.
-use Rattle.hurd_sight.proofs.ViewLaws.{rows_are_views}
+use Rattle.hurd_views.proofs.ViewLaws.{rows_are_views}
 use Rattle.hurd_lessons.specs.Told.{UntaughtWhereUnmoved}
 use Rattle.hurd_lessons.proofs.LessonLaws.{silent_where_same}
 

@@ -1,6 +1,6 @@
 -- What became of what is seen under a name, between two looks.
 use Rattle.std.specs.Prelude.{◌≡◌, ◌≢◌, ◌⊎◌, ◌&&◌, ◌||◌, Bool, true, false, Option, Some, None, is_some}
-use Rattle.hurd_sight.specs.declared.rows.Row.{Row}
+use Rattle.hurd_views.specs.declared.rows.Row.{Row}
 use Rattle.hurd_lessons.specs.declared.changes.Became.{Became}
 use Rattle.hurd_lessons.specs.declared.changes.Became.TheVariants as became
 use Rattle.hurd_lessons.specs.declared.changes.Change.{Change}

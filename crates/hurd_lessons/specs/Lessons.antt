@@ -1,11 +1,11 @@
 -- What a set of tasks learns between two looks, a line for each thing.
 use Rattle.std.specs.Prelude.{◌≡◌, ◌↔◌, ◌⊎◌, ℕ, Bool, true, false, List, [], ◌∷◌, ◌++◌, map, Option, Some, if◌then◌else◌, codes}
 use Rattle.hurd_creds.specs.declared.name.Name.{Name}
-use Rattle.hurd_sight.specs.Views.{SameRows, has_row, row_at}
-use Rattle.hurd_sight.specs.declared.rows.BodyRow.{BodyRow}
-use Rattle.hurd_sight.specs.declared.rows.BodyRow.TheVariants as body
-use Rattle.hurd_sight.specs.declared.rows.Row.{Row}
-use Rattle.hurd_sight.specs.declared.view.View.{View}
+use Rattle.hurd_views.specs.Views.{SameRows, has_row, row_at}
+use Rattle.hurd_views.specs.declared.rows.BodyRow.{BodyRow}
+use Rattle.hurd_views.specs.declared.rows.BodyRow.TheVariants as body
+use Rattle.hurd_views.specs.declared.rows.Row.{Row}
+use Rattle.hurd_views.specs.declared.view.View.{View}
 use Rattle.hurd_lessons.specs.Changes.{IsChange, is_kept, shows}
 use Rattle.hurd_lessons.specs.Places.{place_of}
 use Rattle.hurd_lessons.specs.declared.changes.Became.{Became}

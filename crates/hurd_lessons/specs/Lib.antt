@@ -3,5 +3,4 @@ pub mod Places
 pub mod Lessons
 pub mod Seen
 pub mod Added
-pub mod Watched
 pub mod Told

@@ -4,15 +4,15 @@ use Rattle.std.specs.List.{concat}
 use Rattle.hurd_creds.specs.declared.name.Name.{Name}
 use Rattle.hurd_creds.specs.Names.{same_name}
 use Rattle.hurd_sight.specs.Found.{found_from, why_of}
-use Rattle.hurd_sight.specs.Views.{row_at}
+use Rattle.hurd_views.specs.Views.{row_at}
 use Rattle.hurd_sight.specs.declared.found.Why.{Why}
 use Rattle.hurd_sight.specs.declared.found.Why.TheVariants as why
-use Rattle.hurd_sight.specs.declared.rows.BodyRow.{BodyRow}
-use Rattle.hurd_sight.specs.declared.rows.BodyRow.TheVariants as body
-use Rattle.hurd_sight.specs.declared.rows.EntryRow.{EntryRow}
-use Rattle.hurd_sight.specs.declared.rows.Row.{Row}
-use Rattle.hurd_sight.specs.declared.rows.ServerRow.{ServerRow}
-use Rattle.hurd_sight.specs.declared.view.View.{View}
+use Rattle.hurd_views.specs.declared.rows.BodyRow.{BodyRow}
+use Rattle.hurd_views.specs.declared.rows.BodyRow.TheVariants as body
+use Rattle.hurd_views.specs.declared.rows.EntryRow.{EntryRow}
+use Rattle.hurd_views.specs.declared.rows.Row.{Row}
+use Rattle.hurd_views.specs.declared.rows.ServerRow.{ServerRow}
+use Rattle.hurd_views.specs.declared.view.View.{View}
 
 -- the nodes by which a node was found, itself first, at most so many
 abbrev pub way_to : ℕ → List (Name × Why) → Option Name → List Name

@@ -10,15 +10,15 @@ use Rattle.hurd_creds.specs.declared.open_flags.OpenFlags.{OpenFlags}
 use Rattle.hurd_lines.specs.Escapes.{escaped}
 use Rattle.hurd_lines.specs.Lines.{spaced, spaced_words, stat_words, text_if}
 use Rattle.hurd_ports.specs.declared.table.Opened.{Opened}
-use Rattle.hurd_sight.specs.Views.{row_at}
-use Rattle.hurd_sight.specs.declared.rows.BodyRow.{BodyRow}
-use Rattle.hurd_sight.specs.declared.rows.BodyRow.TheVariants as body
-use Rattle.hurd_sight.specs.declared.rows.EntryRow.{EntryRow}
-use Rattle.hurd_sight.specs.declared.rows.NodeRow.{NodeRow}
-use Rattle.hurd_sight.specs.declared.rows.OpenRow.{OpenRow}
-use Rattle.hurd_sight.specs.declared.rows.Row.{Row}
-use Rattle.hurd_sight.specs.declared.rows.ServerRow.{ServerRow}
-use Rattle.hurd_sight.specs.declared.view.View.{View}
+use Rattle.hurd_views.specs.Views.{row_at}
+use Rattle.hurd_views.specs.declared.rows.BodyRow.{BodyRow}
+use Rattle.hurd_views.specs.declared.rows.BodyRow.TheVariants as body
+use Rattle.hurd_views.specs.declared.rows.EntryRow.{EntryRow}
+use Rattle.hurd_views.specs.declared.rows.NodeRow.{NodeRow}
+use Rattle.hurd_views.specs.declared.rows.OpenRow.{OpenRow}
+use Rattle.hurd_views.specs.declared.rows.Row.{Row}
+use Rattle.hurd_views.specs.declared.rows.ServerRow.{ServerRow}
+use Rattle.hurd_views.specs.declared.view.View.{View}
 use Rattle.hurd_lessons.specs.Changes.{shows}
 use Rattle.hurd_lessons.specs.Lessons.{line_from, names_of, parted}
 use Rattle.hurd_lessons.specs.Places.{place_of}

@@ -5,8 +5,8 @@ use Rattle.hurd_machine.specs.Sight.{SameView}
 use Rattle.hurd_machine.specs.Sound.{Sound}
 use Rattle.hurd_machine.specs.World.{World}
 use Rattle.hurd_sight.specs.Reach.{among}
-use Rattle.hurd_sight.specs.Views.{Views}
-use Rattle.hurd_sight.specs.declared.view.View.{View}
+use Rattle.hurd_views.specs.Views.{Views}
+use Rattle.hurd_views.specs.declared.view.View.{View}
 use Rattle.hurd_lessons.specs.Lessons.{Lessons}
 use Rattle.hurd_lessons.specs.declared.tally.Tally.{Tally}
 

@@ -1,10 +1,10 @@
 //! What became of what is seen under a name, between two looks.
 ghost use Rattle.std.specs.Prelude.{◌≡◌, Some};
-ghost use Rattle.hurd_sight.specs.Views.{no_row};
+ghost use Rattle.hurd_views.specs.Views.{no_row};
 ghost use Rattle.hurd_lessons.specs.Changes.{IsChange, Turned, is_kept, is_same, shows};
 
 use hurd_creds::Same;
-use hurd_sight::Row;
+use hurd_views::Row;
 
 /// What became of a part.
 #[derive(Clone, Copy, Debug, PartialEq, Eq)]

@@ -1,6 +1,6 @@
 //! What a set of tasks learns between two looks, a line for each thing.
 ghost use Rattle.std.specs.Prelude.{◌≡◌, ◌++◌, [], if◌then◌else◌, codes, IfOk, OnOk};
-ghost use Rattle.hurd_sight.specs.Views.{no_row, row_at};
+ghost use Rattle.hurd_views.specs.Views.{no_row, row_at};
 ghost use Rattle.hurd_lessons.specs.Added.{Adds, AddsAt, AddsLines};
 ghost use Rattle.hurd_lessons.specs.Lessons.{GoneLineOf, Lessons, LineOf, OneText, SilentWhereSame, Unless, count_line, line_from, names_of, place_in, tasks_line};
 
@@ -8,7 +8,7 @@ use crate::changes::{Change, no_row, shows};
 use crate::places::place;
 use crate::said::said;
 use hurd_creds::{Bytes, Name, all_same};
-use hurd_sight::{Row, View};
+use hurd_views::{Row, View};
 use std::alloc::{AllocError, Global};
 
 /// What is seen under a name; nothing is seen where there is no row.

@@ -4,7 +4,8 @@ ghost use Rattle.hurd_sight.specs.Found.{found_from, why_of};
 ghost use Rattle.hurd_lessons.specs.Places.{entry_name, mark_by, name_in, node_place, path_of, place_by, server_place, step_by, step_of, steps_of, way_to};
 
 use hurd_creds::{Name, NodeName};
-use hurd_sight::{BodyRow, EntryRow, Found, Row, ServerRow, View, Why};
+use hurd_sight::{Found, Why};
+use hurd_views::{BodyRow, EntryRow, Row, ServerRow, View};
 use std::alloc::{AllocError, Global};
 
 /// The node from which a node was found, if it was found from one.

@@ -3,7 +3,7 @@ ghost use Rattle.std.specs.Prelude.{◌≡◌, ◌++◌, codes, IfOk, OnOk};
 ghost use Rattle.hurd_lessons.specs.Lessons.{body_word, emptiness, is_listing, noted, parted, parts_of, said_of};
 
 use crate::changes::{Became, Change, shows};
-use hurd_sight::{BodyRow, Row};
+use hurd_views::{BodyRow, Row};
 use std::alloc::{AllocError, Global};
 
 /// Adds a comma where some words stand already.

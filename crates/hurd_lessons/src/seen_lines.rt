@@ -7,7 +7,7 @@ use crate::lines::{add_from, row_at};
 use crate::places::place;
 use crate::seen_parts::seen_of;
 use hurd_creds::{Bytes, Name};
-use hurd_sight::View;
+use hurd_views::View;
 use std::alloc::{AllocError, Global};
 
 /// Adds a name's line, where anything is seen under it.

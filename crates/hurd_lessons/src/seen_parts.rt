@@ -7,7 +7,7 @@ use crate::said::part;
 use hurd_creds::{Bytes, OpenFlags};
 use hurd_lines::{push_escaped, push_if, push_long_number, push_number, push_stat, push_words};
 use hurd_ports::Opened;
-use hurd_sight::{BodyRow, EntryRow, NodeRow, OpenRow, Row, ServerRow};
+use hurd_views::{BodyRow, EntryRow, NodeRow, OpenRow, Row, ServerRow};
 use std::alloc::{AllocError, Global};
 
 /// Adds the words of a passive translator, where it has any.

@@ -7,6 +7,3 @@ pub mod SightLaws
 pub mod NameLaws
 pub mod PartLaws
 pub mod NearLaws
-pub mod ViewLaws
-pub mod ToldLaws
-pub mod RowLaws

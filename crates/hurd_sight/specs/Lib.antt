@@ -2,4 +2,3 @@ pub mod Reach
 pub mod Found
 pub mod Parts
 pub mod Looks
-pub mod Views

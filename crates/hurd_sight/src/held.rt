@@ -16,7 +16,7 @@ use std::alloc::{AllocError, Global};
 
 /// The opens, the nodes that are open to read, and the servers that are controlled, of some rights.
 #[derive(Drop)]
-pub(crate) struct RightNames {
+pub struct RightNames {
     pub(crate) opens: NameSet,
     pub(crate) readable: NameSet,
     pub(crate) controlled: NameSet,

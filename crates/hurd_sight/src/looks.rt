@@ -26,9 +26,9 @@ pub struct Sight {
     tasks: Vec<TaskId>,
     reach: Reach,
     found: Found,
-    pub(crate) rights: RightNames,
+    rights: RightNames,
     /// The servers of seen nodes, and those that are active on them.
-    pub(crate) known: NameSet,
+    known: NameSet,
     /// Those of them that may be sent away by what is seen.
     sendable: NameSet,
 }
@@ -64,6 +64,27 @@ impl Sight {
         ensures { result.now ≡ self.now.found }
     {
         &self.found
+    }
+
+    /// The opens that the tasks' rights have.
+    pub fn opens(&self) -> &NameSet
+        ensures { result.now ≡ self.now.rights.opens }
+    {
+        &self.rights.opens
+    }
+
+    /// The servers that the tasks' rights control.
+    pub fn controlled(&self) -> &NameSet
+        ensures { result.now ≡ self.now.rights.controlled }
+    {
+        &self.rights.controlled
+    }
+
+    /// The servers of seen nodes, and those that are active on them.
+    pub fn known(&self) -> &NameSet
+        ensures { result.now ≡ self.now.known }
+    {
+        &self.known
     }
 
     /// Whether a part is seen of the nodes that were looked at.

@@ -9,7 +9,7 @@ use std::marker::Model;
 
 /// Names, each once.
 #[derive(Drop)]
-pub(crate) struct NameSet {
+pub struct NameSet {
     names: IndexSet<Name>,
 }
 
@@ -33,21 +33,21 @@ impl NameSet {
     }
 
     /// Whether a name is one of them.
-    pub(crate) fn has(&self, name: Name) -> bool
+    pub fn has(&self, name: Name) -> bool
         ensures { result ≡ is_in name self.now }
     {
         self.names.contains(&name)
     }
 
     /// How many there are.
-    pub(crate) fn len(&self) -> usize
+    pub fn len(&self) -> usize
         ensures { result ≡ length self.now }
     {
         self.names.len()
     }
 
     /// The name at an index, if there are so many.
-    pub(crate) fn get(&self, index: usize) -> Option<Name>
+    pub fn get(&self, index: usize) -> Option<Name>
         ensures { result ≡ slice_get self.now index }
     {
         self.names.get_index(index).copied()

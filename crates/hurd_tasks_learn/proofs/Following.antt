@@ -8,9 +8,9 @@ use Rattle.hurd_lists.specs.Lists.{Listed, listed_by}
 use Rattle.hurd_lists.specs.declared.reader.ListedCall.{ListedCall}
 use Rattle.hurd_machine.specs.World.{World}
 use Rattle.hurd_making.specs.Making.{after_call, part_of, parts_of}
-use Rattle.hurd_sight.specs.declared.view.View.{View}
+use Rattle.hurd_views.specs.declared.view.View.{View}
 use Rattle.hurd_lessons.specs.Told.{Said}
-use Rattle.hurd_lessons.specs.Watched.{SeenOf}
+use Rattle.hurd_watch.specs.Watched.{SeenOf}
 use Rattle.hurd_lessons.specs.declared.tally.Tally.{Tally}
 use Rattle.hurd_terminal.specs.Faults.{AppendsFront}
 use Rattle.hurd_terminal.proofs.OutputLaws.{front_follows}

@@ -7,9 +7,9 @@ use Rattle.hurd_lists.specs.Lists.{Listed}
 use Rattle.hurd_machine.specs.World.{World}
 use Rattle.hurd_making.specs.Making.{after_call, part_of}
 use Rattle.hurd_sight.specs.Reach.{among}
-use Rattle.hurd_sight.specs.declared.view.View.{View}
+use Rattle.hurd_views.specs.declared.view.View.{View}
 use Rattle.hurd_lessons.specs.Told.{Lesson, Taught, counted}
-use Rattle.hurd_lessons.specs.Watched.{LearnedSince, Learns, SeenOf, Sees, SeesOr}
+use Rattle.hurd_watch.specs.Watched.{LearnedSince, Learns, SeenOf, Sees, SeesOr}
 use Rattle.hurd_lessons.specs.declared.tally.Tally.{Tally}
 use Rattle.hurd_terminal.specs.Faults.{AppendsFront}
 use Rattle.hurd_teaching.specs.Learners.{Speech}

@@ -2,10 +2,10 @@
 use Rattle.std.specs.Prelude.{◌≡◌, ℕ, Bool, true, false, List, [], Option, None}
 use Rattle.hurd_creds.specs.declared.name.TaskId.{TaskId}
 use Rattle.hurd_machine.specs.World.{World}
-use Rattle.hurd_sight.specs.declared.view.View.{View}
-use Rattle.hurd_sight.specs.Views.{Views}
+use Rattle.hurd_views.specs.declared.view.View.{View}
+use Rattle.hurd_views.specs.Views.{Views}
 use Rattle.hurd_lessons.specs.Seen.{seen_text}
-use Rattle.hurd_lessons.specs.Watched.{Learns}
+use Rattle.hurd_watch.specs.Watched.{Learns}
 
 -- what is said behind what was done, and what is kept of what is seen: nothing where one of these tasks did it, else what these learn by it
 abbrev pub SaysOf : List TaskId → List ℕ → Bool → World → Option View → Option View → List ℕ → Type 0

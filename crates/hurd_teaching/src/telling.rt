@@ -8,10 +8,10 @@ ghost use Rattle.hurd_teaching.specs.Telling.{SaysOf, Shows};
 
 use crate::learners::Learners;
 use hurd_creds::Bytes;
-use hurd_lessons::{Tally, Watch, seen};
-use hurd_sight::view_of;
+use hurd_lessons::{Tally, seen};
 use hurd_terminal::{Fault, Output};
 use hurd_trans_iface::Server;
+use hurd_watch::{Watch, view_of};
 use hurd_world::World;
 use std::alloc::{AllocError, Global};
 use std::io::Write;

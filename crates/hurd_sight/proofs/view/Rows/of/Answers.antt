@@ -1,8 +1,0 @@
-use Rattle.hurd_core.specs.Core.{world_of}
-use Rattle.hurd_sight.proofs.RowLaws.{all_filled}
-use Rattle.hurd_sight.proofs.view.Rows.of.Goals as goal
-
-pub returns : goal.returns
-returns g c =
-    all_filled _ _ _ _ _ (world_of g.S.Server.meaning c.args.core.now) c.args.sight.now c.requires.1 c.new.ensures.empty
-    c.in_ok-fill_found.ensures c.in_ok-fill.ensures c.in_ok-fill-2.ensures c.in_ok-fill-3.ensures

@@ -1,5 +1,0 @@
-use Rattle.hurd_sight.proofs.view.rows_are_views.Goals as goal
-use Rattle.hurd_sight.proofs.ViewLaws.{rows_are_views}
-
-pub returns : goal.returns
-returns c = rows_are_views

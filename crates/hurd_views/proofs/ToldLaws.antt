@@ -1,0 +1,58 @@
+-- What is kept of entries and of opens is what the world has.
+use Rattle.std.proofs.Common.{◌≡◌, ◌∙◌, sym, refl, ap, ap₂, ℕ, ◌+◌, ◌<◌, ◌≤◌, Bool, true, false, List, [], ◌∷◌, ◌++◌, take, take_all, length, get_or}
+use Rattle.std.specs.Prelude.{Option, Some, None}
+use Rattle.std.proofs.lemmas.List.{take_more}
+use Rattle.hurd_creds.specs.declared.name.Name.{Name}
+use Rattle.hurd_trans_iface.specs.Nodes.{Body}
+use Rattle.hurd_trans_iface.specs.Answers.{entry_of}
+use Rattle.hurd_nodes.specs.Weights.{weigh_list}
+use Rattle.hurd_nodes.specs.Weights as weights
+use Rattle.hurd_ports.specs.declared.table.Opened.{Opened}
+use Rattle.hurd_ports.specs.declared.table.Right.{Right}
+use Rattle.hurd_ports.specs.Seats.{holders_in, namings, one_if}
+use Rattle.hurd_ports.specs.Tables.{Task, names_open, rights_of}
+use Rattle.hurd_machine.specs.Sight.{count_rights}
+use Rattle.hurd_views.specs.Views.{entry_before, rows_in, told_if}
+use Rattle.hurd_views.specs.declared.rows.EntryRow.{EntryRow}
+use Rattle.hurd_views.specs.declared.rows.OpenRow.{OpenRow}
+
+-- entries, one after another
+
+before_more : (name : List ℕ) (o : Option Name) (xs ys : List EntryRow) → entry_before name o (xs ++ ys) ≡ entry_before name o xs ++ ys
+before_more name None xs ys = refl
+before_more name (Some n) xs ys = refl
+
+rows_more : (b : Option Body) (ns : List (List ℕ)) (name : List ℕ) → rows_in b (ns ++ name ∷ []) ≡ rows_in b ns ++ entry_before name (entry_of name b) []
+rows_more b [] name = refl
+rows_more b (n ∷ ns) name =
+    ap (entry_before n (entry_of n b)) (rows_more b ns name)
+    ∙ before_more n (entry_of n b) (rows_in b ns) (entry_before name (entry_of name b) [])
+
+pub rows_next : {old new : List EntryRow} (b : Option Body) (ns : List (List ℕ)) (i : ℕ) (name : List ℕ) → i < length ns → name ≡ get_or ns i name
+    → old ≡ rows_in b (take i ns) → new ≡ old ++ entry_before name (entry_of name b) [] → new ≡ rows_in b (take (i + 1) ns)
+rows_next b ns i name below at before step =
+    step
+    ∙ (ap (λ (rs : List EntryRow). rs ++ entry_before name (entry_of name b) []) before
+    ∙ (sym (rows_more b (take i ns) name)
+    ∙ ap (rows_in b) (ap (λ (x : List ℕ). take i ns ++ x ∷ []) at ∙ sym (take_more ns i name below))))
+
+pub rows_all : {rows : List EntryRow} (b : Option Body) (ns : List (List ℕ)) (i : ℕ) → length ns ≤ i → rows ≡ rows_in b (take i ns) → rows ≡ rows_in b ns
+rows_all b ns i past rows = rows ∙ ap (rows_in b) (take_all i ns past)
+
+-- rights that hold an open, counted by either book
+
+ones : (t : Bool) → one_if t ≡ weights.one_if t
+ones true = refl
+ones false = refl
+
+namings_weighed : (o : Name) (rs : List Right) → namings o rs ≡ weigh_list (λ (r : Right). weights.one_if (names_open o r)) rs
+namings_weighed o [] = refl
+namings_weighed o (r ∷ rs) = ap₂ (λ (x y : ℕ). x + y) (ones (names_open o r)) (namings_weighed o rs)
+
+pub holders_counted : (o : Name) (ts : List Task) → holders_in ts o ≡ count_rights (names_open o) ts
+holders_counted o [] = refl
+holders_counted o (x ∷ xs) = ap₂ (λ (x y : ℕ). x + y) (namings_weighed o (rights_of x)) (holders_counted o xs)
+
+-- an open that is seen
+pub open_told : (b : Bool) (o p : Option Opened) (h k : ℕ) → true ≡ b → o ≡ p → h ≡ k → ◌≡◌ {A = Option OpenRow} (Some (record { opened = o; holders = h })) (told_if b (record { opened = p; holders = k }))
+open_told b o p h k on same counted = ap (λ (t : Bool). told_if t (record { opened = o; holders = h })) on ∙ rw (same, counted) refl

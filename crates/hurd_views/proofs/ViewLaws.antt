@@ -1,0 +1,336 @@
+-- Views in which nothing differs are of worlds that have the same view, and no others.
+use Rattle.std.proofs.Common.{◌≡◌, ◌∙◌, inl, inr, sym, refl, ap, subst, ℕ, Bool, true, false, true≢false, List, [], ◌∷◌, map, cond}
+use Rattle.std.specs.Prelude.{◌↔◌, Option, Some, None, nat_eq}
+use Rattle.std.specs.FinMap as fin
+use Rattle.std.specs.Option.{option_map}
+use Rattle.std.proofs.lemmas.Bool.{or_cases, or_left, or_right}
+use Rattle.std.proofs.lemmas.Slice.Eq.{bytes_eq-Decides}
+use Rattle.std.specs.Cmp.{unsigned_Decides}
+use Rattle.std.specs.Str.{bytes_eq}
+use Rattle.hurd_creds.specs.declared.name.Name.{Name}
+use Rattle.hurd_creds.specs.declared.name.TaskId.{TaskId}
+use Rattle.hurd_creds.specs.declared.attrs.Attrs.{Attrs}
+use Rattle.hurd_creds.specs.Access.{IdSets}
+use Rattle.hurd_trans_iface.specs.Nodes.{Body, Content, Listing, Entry, Header, Node, is_empty_dir}
+use Rattle.hurd_trans_iface.specs.Answers.{entry_in}
+use Rattle.hurd_trans_iface.specs.Meaning.{ServerKind, Tmpfs, Hello, Null, Zero, Symlink, behaviour_of, options_of}
+use Rattle.hurd_nodes.specs.Shown.{ServerInfo}
+use Rattle.hurd_ports.specs.Tables.{Task}
+use Rattle.hurd_machine.specs.World.{World, IsAmong, nodes_of, active_at, body_at, header_at, home_at, open_at, server_at, task_at, words_at, words_in}
+use Rattle.hurd_machine.specs.Sight.{Part, AttrOf, EmptyOf, BodyOf, OpenOf, OptionsOf, UsersOf, TaskOf, Sees, SameView, AnAttr, AnEmpty, ABody, AnOpen, AnOptions, AUsers, ATask, bare, holders, part, users}
+use Rattle.hurd_machine.specs.Sound.{AreDistinct, HasDistinctNames, Sound}
+use Rattle.hurd_sight.specs.Looks.{sees_with}
+use Rattle.hurd_sight.specs.Parts.{part_of}
+use Rattle.hurd_sight.specs.Reach.{among}
+use Rattle.hurd_views.specs.Views.{RowsAreViews, SameRows, Views, body_row, entry_before, node_row, row_of, rows_in, server_row, told_if}
+use Rattle.hurd_sight.specs.declared.parts.SeenPart.{SeenPart}
+use Rattle.hurd_sight.specs.declared.parts.SeenPart.TheVariants as seen
+use Rattle.hurd_views.specs.declared.rows.BodyRow.{BodyRow}
+use Rattle.hurd_views.specs.declared.rows.BodyRow.TheVariants as body
+use Rattle.hurd_views.specs.declared.rows.EntryRow.{EntryRow}
+use Rattle.hurd_views.specs.declared.rows.NodeRow.{NodeRow}
+use Rattle.hurd_views.specs.declared.rows.OpenRow.{OpenRow}
+use Rattle.hurd_views.specs.declared.rows.Row.{Row}
+use Rattle.hurd_views.specs.declared.rows.ServerRow.{ServerRow}
+use Rattle.hurd_views.specs.declared.view.View.{View}
+use Rattle.hurd_sight.proofs.PartLaws.{parts_are_seen}
+
+-- values that are told where tests hold
+
+pub told_test : {X : Type 0} (s t : Bool) (x y : X) → told_if s x ≡ told_if t y → s ≡ t
+told_test true true x y e = refl
+told_test true false x y e = absurd (cc)
+told_test false true x y e = absurd (cc)
+told_test false false x y e = refl
+
+pub told_value : {X : Type 0} (s t : Bool) (x y : X) → told_if s x ≡ told_if t y → s ≡ true → x ≡ y
+told_value true true x y e on = cc
+told_value true false x y e on = absurd (cc)
+told_value false t x y e on = absurd (true≢false (sym on))
+
+pub told_same : {X : Type 0} (s t : Bool) (x y : X) → s ≡ t → (s ≡ true → x ≡ y) → told_if s x ≡ told_if t y
+told_same true t x y e same = ap (told_if true) (same refl) ∙ ap (λ (b : Bool). told_if b y) e
+told_same false t x y e same = ap (λ (b : Bool). told_if b y) e
+
+test_same : (s t : Bool) → (s ≡ true → t ≡ true) → (t ≡ true → s ≡ true) → s ≡ t
+test_same true t to from = sym (to refl)
+test_same false true to from = from refl
+test_same false false to from = refl
+
+-- a header is told by its bare attributes and its words
+
+abbrev with_words : Attrs → List (List ℕ) → Header
+with_words a ws = record { kind = a.kind; owner = a.owner; group = a.group; mode = a.mode; links = a.links; size = a.size; parent = a.parent; passive = ws }
+
+abbrev headers : Option Attrs → List (List ℕ) → Option Header
+headers None ws = None
+headers (Some a) ws = Some (with_words a ws)
+
+headers_back : (o : Option Node) → headers (option_map bare (option_map (λ (x : Node). x.header) o)) (words_in o) ≡ option_map (λ (x : Node). x.header) o
+headers_back None = refl
+headers_back (Some x) = refl
+
+abbrev words_of_header : Option Header → List (List ℕ)
+words_of_header None = []
+words_of_header (Some h) = h.passive
+
+words_back : (o : Option Node) → words_of_header (option_map (λ (x : Node). x.header) o) ≡ words_in o
+words_back None = refl
+words_back (Some x) = refl
+
+-- entries of distinct names are told whole
+
+abbrev plain : Entry → EntryRow
+plain e = record { name = e.name; node = e.node }
+
+abbrev entry : EntryRow → Entry
+entry r = record { name = r.name; node = r.node }
+
+back : (es : List Entry) → map entry (map plain es) ≡ es
+back [] = refl
+back (e ∷ es) = ap (λ (xs : List Entry). e ∷ xs) (back es)
+
+-- under the name of each of some entries of distinct names stands its node
+named : (es : List Entry) → AreDistinct es → (e : Entry) → IsAmong e es → entry_in e.name es ≡ Some e.node
+named [] apart e none = absurd none
+named (x ∷ xs) apart e (inl is) =
+    ap (λ (b : Bool). cond b (Some x.node) (entry_in e.name xs)) ((bytes_eq-Decides x.name e.name).1 (ap (λ (y : Entry). y.name) is))
+    ∙ ap (λ (y : Entry). Some y.node) is
+named (x ∷ xs) apart e (inr later) = go (bytes_eq x.name e.name) refl (named xs apart.1 e later)
+  where
+    go : (b : Bool) → bytes_eq x.name e.name ≡ b → entry_in e.name xs ≡ Some e.node → cond (bytes_eq x.name e.name) (Some x.node) (entry_in e.name xs) ≡ Some e.node
+    go true is before =
+        let none : None ≡ Some e.node = sym apart.0 ∙ (ap (λ (n : List ℕ). entry_in n xs) ((bytes_eq-Decides x.name e.name).0 is) ∙ before) in
+        absurd (cc)
+    go false is before = ap (λ (b : Bool). cond b (Some x.node) (entry_in e.name xs)) is ∙ before
+
+rows_told : (all es : List Entry) → ((e : Entry) → IsAmong e es → entry_in e.name all ≡ Some e.node) → rows_in (Some (Listing all)) (map (λ (e : Entry). e.name) es) ≡ map plain es
+rows_told all [] is = refl
+rows_told all (e ∷ es) is =
+    ap (λ (o : Option Name). entry_before e.name o (rows_in (Some (Listing all)) (map (λ (x : Entry). x.name) es))) (is e (inl refl))
+    ∙ ap (λ (rs : List EntryRow). plain e ∷ rs) (rows_told all es (λ x later. is x (inr later)))
+
+listing_told : (es : List Entry) → AreDistinct es → map entry (rows_in (Some (Listing es)) (map (λ (e : Entry). e.name) es)) ≡ es
+listing_told es apart = ap (map entry) (rows_told es es (named es apart)) ∙ back es
+
+-- what is in a node is told by its row, where names are distinct
+
+abbrev body_from : BodyRow → Body
+body_from (body.Bytes bs) = Content bs
+body_from (body.Entries rs) = Listing (map entry rs)
+
+body_back : (b : Body) → HasDistinctNames b → body_from (body_row b) ≡ b
+body_back (Content bs) apart = refl
+body_back (Listing es) apart = ap Listing (listing_told es apart)
+
+bodies_back : (o : Option Node) → ((x : Node) → o ≡ Some x → HasDistinctNames x.body)
+    → option_map body_from (option_map body_row (option_map (λ (x : Node). x.body) o)) ≡ option_map (λ (x : Node). x.body) o
+bodies_back None apart = refl
+bodies_back (Some x) apart = ap Some (body_back x.body (apart x refl))
+
+-- a server is told by its options, its text, its root and its ids
+
+abbrev first : List (List ℕ) → List ℕ
+first [] = []
+first (w ∷ ws) = w
+
+-- whether the first word is the program of a kind
+abbrev names : ServerKind → List (List ℕ) → Bool
+names k ws = bytes_eq (first ws) (behaviour_of k).program
+
+kind_named : (k l : ServerKind) (s t : List ℕ) → options_of k s ≡ options_of l t → k ≡ l
+kind_named Tmpfs Tmpfs s t e = refl
+kind_named Tmpfs Hello s t e = absurd (true≢false (ap (names Tmpfs) e))
+kind_named Tmpfs Null s t e = absurd (true≢false (ap (names Tmpfs) e))
+kind_named Tmpfs Zero s t e = absurd (true≢false (ap (names Tmpfs) e))
+kind_named Tmpfs Symlink s t e = absurd (true≢false (ap (names Tmpfs) e))
+kind_named Hello Tmpfs s t e = absurd (true≢false (ap (names Hello) e))
+kind_named Hello Hello s t e = refl
+kind_named Hello Null s t e = absurd (true≢false (ap (names Hello) e))
+kind_named Hello Zero s t e = absurd (true≢false (ap (names Hello) e))
+kind_named Hello Symlink s t e = absurd (true≢false (ap (names Hello) e))
+kind_named Null Tmpfs s t e = absurd (true≢false (ap (names Null) e))
+kind_named Null Hello s t e = absurd (true≢false (ap (names Null) e))
+kind_named Null Null s t e = refl
+kind_named Null Zero s t e = absurd (true≢false (ap (names Null) e))
+kind_named Null Symlink s t e = absurd (true≢false (ap (names Null) e))
+kind_named Zero Tmpfs s t e = absurd (true≢false (ap (names Zero) e))
+kind_named Zero Hello s t e = absurd (true≢false (ap (names Zero) e))
+kind_named Zero Null s t e = absurd (true≢false (ap (names Zero) e))
+kind_named Zero Zero s t e = refl
+kind_named Zero Symlink s t e = absurd (true≢false (ap (names Zero) e))
+kind_named Symlink Tmpfs s t e = absurd (true≢false (ap (names Symlink) e))
+kind_named Symlink Hello s t e = absurd (true≢false (ap (names Symlink) e))
+kind_named Symlink Null s t e = absurd (true≢false (ap (names Symlink) e))
+kind_named Symlink Zero s t e = absurd (true≢false (ap (names Symlink) e))
+kind_named Symlink Symlink s t e = refl
+
+info_from : {k l : ServerKind} {s t : List ℕ} {n m : Name} {x y : IdSets} → k ≡ l → s ≡ t → n ≡ m → x ≡ y
+    → ◌≡◌ {A = ServerInfo} (record { kind = k; text = s; root = n; ids = x }) (record { kind = l; text = t; root = m; ids = y })
+info_from a b c d = rw (a, b, c, d) refl
+
+info_told : (i j : ServerInfo) → server_row i ≡ server_row j → i ≡ j
+info_told i j e =
+    let kind : i.kind ≡ j.kind = kind_named i.kind j.kind i.text j.text (ap (λ (r : ServerRow). r.options) e) in
+    let text : i.text ≡ j.text = ap (λ (r : ServerRow). r.text) e in
+    let root : i.root ≡ j.root = ap (λ (r : ServerRow). r.root) e in
+    let ids : i.ids ≡ j.ids = ap (λ (r : ServerRow). r.ids) e in
+    info_from kind text root ids
+
+infos_told : (o p : Option ServerInfo) → option_map server_row o ≡ option_map server_row p → o ≡ p
+infos_told None None e = refl
+infos_told None (Some j) e = absurd (cc)
+infos_told (Some i) None e = absurd (cc)
+infos_told (Some i) (Some j) e = ap Some (info_told i j (let same : Some (server_row i) ≡ Some (server_row j) = e in cc))
+
+-- a row by its fields
+row_from : {a a' : Option NodeRow} {b b' : Option (Option Bool)} {c c' : Option (Option BodyRow)} {d d' : Option OpenRow} {e e' : Option (Option ServerRow)} {f f' : Option ℕ}
+    → a ≡ a' → b ≡ b' → c ≡ c' → d ≡ d' → e ≡ e' → f ≡ f'
+    → ◌≡◌ {A = Row} (record { attributes = a; empty = b; body = c; opened = d; server = e; users = f }) (record { attributes = a'; empty = b'; body = c'; opened = d'; server = e'; users = f' })
+row_from g h i j k l = rw (g, h, i, j, k, l) refl
+
+-- tasks of a list
+
+seat_told : (v w : World) (tasks : List TaskId) (t : ℕ) → map (λ (x : TaskId). task_at v x.0) tasks ≡ map (λ (x : TaskId). task_at w x.0) tasks → among tasks t ≡ true → task_at v t ≡ task_at w t
+seat_told v w [] t e none = absurd (true≢false (sym none))
+seat_told v w (x ∷ xs) t e is = elim (or_cases (nat_eq x.0 t) (among xs t) is) [
+  | inl here ↦ subst (λ (n : ℕ). task_at v n ≡ task_at w n) ((unsigned_Decides x.0 t).0 here) first
+  | inr later ↦ seat_told v w xs t rest later
+]
+  where
+    first : task_at v x.0 ≡ task_at w x.0
+    first = let cons : task_at v x.0 ∷ map (λ (y : TaskId). task_at v y.0) xs ≡ task_at w x.0 ∷ map (λ (y : TaskId). task_at w y.0) xs = e in cc
+
+    rest : map (λ (y : TaskId). task_at v y.0) xs ≡ map (λ (y : TaskId). task_at w y.0) xs
+    rest = let cons : task_at v x.0 ∷ map (λ (y : TaskId). task_at v y.0) xs ≡ task_at w x.0 ∷ map (λ (y : TaskId). task_at w y.0) xs = e in cc
+
+seats_same : (v w : World) (tasks : List TaskId) → ((t : ℕ) → among tasks t ≡ true → task_at v t ≡ task_at w t) → map (λ (x : TaskId). task_at v x.0) tasks ≡ map (λ (x : TaskId). task_at w x.0) tasks
+seats_same v w [] same = refl
+seats_same v w (x ∷ xs) same =
+    ap (λ (o : Option Task). o ∷ map (λ (y : TaskId). task_at v y.0) xs) (same x.0 (or_left (nat_eq x.0 x.0) (among xs x.0) ((unsigned_Decides x.0 x.0).1 refl)))
+    ∙ ap (λ (os : List (Option Task)). task_at w x.0 ∷ os) (seats_same v w xs (λ t is. same t (or_right (nat_eq x.0 t) (among xs t) is)))
+
+-- two worlds, and what some tasks see of each
+
+module _ (tasks : List TaskId) (v w : World) (a b : View) (sound_v : Sound v) (sound_w : Sound w) (in_v : Views tasks v a) (in_w : Views tasks w b) where
+  abbrev S : ℕ → Bool
+  S = among tasks
+
+  abbrev sees_v : SeenPart → Bool
+  sees_v q = sees_with (nodes_of v) a.sight q
+
+  abbrev sees_w : SeenPart → Bool
+  sees_w q = sees_with (nodes_of w) b.sight q
+
+  says_v : (q : SeenPart) → (sees_v q ≡ true) ↔ Sees S v (part_of q)
+  says_v q = parts_are_seen S v a.sight q in_v.looks
+
+  says_w : (q : SeenPart) → (sees_w q ≡ true) ↔ Sees S w (part_of q)
+  says_w q = parts_are_seen S w b.sight q in_w.looks
+
+  distinct_v : (n : Name) (x : Node) → fin.get v.nodes n ≡ Some x → HasDistinctNames x.body
+  distinct_v = sound_v.coherent.tree.distinct
+
+  distinct_w : (n : Name) (x : Node) → fin.get w.nodes n ≡ Some x → HasDistinctNames x.body
+  distinct_w = sound_w.coherent.tree.distinct
+
+  -- rows that are the same tell the same
+  module _ (same : SameRows a b) where
+    row : (n : Name) → row_of v a.sight n ≡ row_of w b.sight n
+    row n = sym (in_v.rows n) ∙ (same.rows n ∙ in_w.rows n)
+
+    test : (q : SeenPart) → sees_v q ≡ sees_w q
+    test (seen.Attributes n) = told_test _ _ _ _ (ap (λ (r : Row). r.attributes) (row n))
+    test (seen.Empty n) = told_test _ _ _ _ (ap (λ (r : Row). r.empty) (row n))
+    test (seen.Body n) = told_test _ _ _ _ (ap (λ (r : Row). r.body) (row n))
+    test (seen.Open n) = told_test _ _ _ _ (ap (λ (r : Row). r.opened) (row n))
+    test (seen.Options n) = told_test _ _ _ _ (ap (λ (r : Row). r.server) (row n))
+    test (seen.Users n) = told_test (sees_v (seen.Users n)) (sees_w (seen.Users n)) (users v n) (users w n) (ap (λ (r : Row). r.users) (row n))
+    test (seen.Task t) = test_same _ _ (λ on. (says_w (seen.Task t)).1 ((says_v (seen.Task t)).0 on)) (λ on. (says_v (seen.Task t)).1 ((says_w (seen.Task t)).0 on))
+
+    sees_same : (q : SeenPart) → Sees S v (part_of q) ↔ Sees S w (part_of q)
+    sees_same q = (λ s. (says_w q).0 (sym (test q) ∙ (says_v q).1 s), λ s. (says_v q).0 (test q ∙ (says_w q).1 s))
+
+    header_same : (n : Name) → node_row v n ≡ node_row w n → header_at v n ≡ header_at w n
+    header_same n e =
+        sym (headers_back (fin.get v.nodes n))
+        ∙ (ap (λ (r : NodeRow). headers r.attrs r.words) e ∙ headers_back (fin.get w.nodes n))
+
+    attr_same : (n : Name) → node_row v n ≡ node_row w n → AnAttr (header_at w n) (home_at w n) (active_at w n) ≡ AnAttr (header_at v n) (home_at v n) (active_at v n)
+    attr_same n e =
+        let header : header_at v n ≡ header_at w n = header_same n e in
+        let home : home_at v n ≡ home_at w n = ap (λ (r : NodeRow). r.home) e in
+        let active : active_at v n ≡ active_at w n = ap (λ (r : NodeRow). r.active) e in
+        rw (header, home, active) refl
+
+    body_same : (n : Name) → option_map body_row (body_at v n) ≡ option_map body_row (body_at w n) → body_at v n ≡ body_at w n
+    body_same n e =
+        sym (bodies_back (fin.get v.nodes n) (distinct_v n))
+        ∙ (ap (option_map body_from) e ∙ bodies_back (fin.get w.nodes n) (distinct_w n))
+
+    value : (q : SeenPart) → sees_v q ≡ true → part w (part_of q) ≡ part v (part_of q)
+    value (seen.Attributes n) on = attr_same n (told_value _ _ _ _ (ap (λ (r : Row). r.attributes) (row n)) on)
+    value (seen.Empty n) on = ap AnEmpty (sym (told_value _ _ _ _ (ap (λ (r : Row). r.empty) (row n)) on))
+    value (seen.Body n) on = ap ABody (sym (body_same n (told_value _ _ _ _ (ap (λ (r : Row). r.body) (row n)) on)))
+    value (seen.Open n) on = ap (λ (r : OpenRow). AnOpen r.opened r.holders) (sym (told_value _ _ _ _ (ap (λ (r : Row). r.opened) (row n)) on))
+    value (seen.Options n) on = ap AnOptions (sym (infos_told _ _ (told_value _ _ _ _ (ap (λ (r : Row). r.server) (row n)) on)))
+    value (seen.Users n) on = ap AUsers (sym (told_value (sees_v (seen.Users n)) (sees_w (seen.Users n)) (users v n) (users w n) (ap (λ (r : Row). r.users) (row n)) on))
+    value (seen.Task t) on = ap ATask (sym (seat_told v w tasks t.0 (sym in_v.seats ∙ (same.seats ∙ in_w.seats)) ((says_v (seen.Task t)).0 on)))
+
+    all_seen : (p : Part) → Sees S v p ↔ Sees S w p
+    all_seen (AttrOf n) = sees_same (seen.Attributes n)
+    all_seen (EmptyOf n) = sees_same (seen.Empty n)
+    all_seen (BodyOf n) = sees_same (seen.Body n)
+    all_seen (OpenOf o) = sees_same (seen.Open o)
+    all_seen (OptionsOf s) = sees_same (seen.Options s)
+    all_seen (UsersOf s) = sees_same (seen.Users s)
+    all_seen (TaskOf t) = (λ s. s, λ s. s)
+
+    all_same : (p : Part) → Sees S v p → part w p ≡ part v p
+    all_same (AttrOf n) s = value (seen.Attributes n) ((says_v (seen.Attributes n)).1 s)
+    all_same (EmptyOf n) s = value (seen.Empty n) ((says_v (seen.Empty n)).1 s)
+    all_same (BodyOf n) s = value (seen.Body n) ((says_v (seen.Body n)).1 s)
+    all_same (OpenOf o) s = value (seen.Open o) ((says_v (seen.Open o)).1 s)
+    all_same (OptionsOf s) k = value (seen.Options s) ((says_v (seen.Options s)).1 k)
+    all_same (UsersOf s) k = value (seen.Users s) ((says_v (seen.Users s)).1 k)
+    all_same (TaskOf t) s = ap ATask (sym (seat_told v w tasks t (sym in_v.seats ∙ (same.seats ∙ in_w.seats)) s))
+
+    same_view : SameView S v w
+    same_view = record { tasks = sym in_w.count ∙ (sym same.count ∙ in_v.count); seen = all_seen; parts = all_same }
+
+  -- views that are the same have the same rows
+  module _ (same : SameView S v w) where
+    both : (q : SeenPart) → sees_v q ≡ sees_w q
+    both q = test_same _ _ (λ on. (says_w q).1 ((same.seen (part_of q)).0 ((says_v q).0 on))) (λ on. (says_v q).1 ((same.seen (part_of q)).1 ((says_w q).0 on)))
+
+    equal : (q : SeenPart) → sees_v q ≡ true → part w (part_of q) ≡ part v (part_of q)
+    equal q on = same.parts (part_of q) ((says_v q).0 on)
+
+    node_same : (n : Name) → AnAttr (header_at w n) (home_at w n) (active_at w n) ≡ AnAttr (header_at v n) (home_at v n) (active_at v n) → node_row v n ≡ node_row w n
+    node_same n e =
+        let header : header_at v n ≡ header_at w n = cc in
+        let home : home_at v n ≡ home_at w n = cc in
+        let active : active_at v n ≡ active_at w n = cc in
+        let words : words_at v n ≡ words_at w n = sym (words_back (fin.get v.nodes n)) ∙ (ap words_of_header header ∙ words_back (fin.get w.nodes n)) in
+        rw (header, home, active, words) refl
+
+    row_same : (n : Name) → row_of v a.sight n ≡ row_of w b.sight n
+    row_same n =
+        row_from
+        (told_same _ _ _ _ (both (seen.Attributes n)) (λ on. node_same n (equal (seen.Attributes n) on)))
+        (told_same _ _ _ _ (both (seen.Empty n)) (λ on. let e : AnEmpty (option_map is_empty_dir (body_at w n)) ≡ AnEmpty (option_map is_empty_dir (body_at v n)) = equal (seen.Empty n) on in cc))
+        (told_same _ _ _ _ (both (seen.Body n)) (λ on. ap (option_map body_row) (let e : ABody (body_at w n) ≡ ABody (body_at v n) = equal (seen.Body n) on in cc)))
+        (told_same _ _ _ _ (both (seen.Open n)) (λ on. let e : AnOpen (open_at w n) (holders w n) ≡ AnOpen (open_at v n) (holders v n) = equal (seen.Open n) on in cc))
+        (told_same _ _ _ _ (both (seen.Options n)) (λ on. ap (option_map server_row) (let e : AnOptions (server_at w n) ≡ AnOptions (server_at v n) = equal (seen.Options n) on in cc)))
+        (told_same _ _ _ _ (both (seen.Users n)) (λ on. let e : AUsers (users w n) ≡ AUsers (users v n) = equal (seen.Users n) on in cc))
+
+    same_rows : SameRows a b
+    same_rows = record {
+      rows = λ n. in_v.rows n ∙ (row_same n ∙ sym (in_w.rows n));
+      seats = in_v.seats ∙ (seats_same v w tasks (λ t is. let e : ATask (task_at w t) ≡ ATask (task_at v t) = same.parts (TaskOf t) is in cc) ∙ sym in_w.seats);
+      count = in_v.count ∙ (sym same.tasks ∙ sym in_w.count);
+    }
+
+pub rows_are_views : RowsAreViews
+rows_are_views tasks v w a b sound_v sound_w in_v in_w =
+    (same_view tasks v w a b sound_v sound_w in_v in_w, same_rows tasks v w a b sound_v sound_w in_v in_w)

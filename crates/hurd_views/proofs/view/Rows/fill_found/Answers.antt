@@ -1,0 +1,17 @@
+use Rattle.std.proofs.Common.{refl}
+use Rattle.hurd_core.specs.Core.{world_of}
+use Rattle.hurd_views.proofs.RowLaws.{fills_none, found_all, found_next}
+use Rattle.hurd_views.proofs.view.Rows.fill_found.Goals as goal
+
+pub loop-i-init : goal.loop-i-init
+loop-i-init g c = fills_none (world_of g.S.Server.meaning c.args.core.now) c.args.sight.now _ c.args.self.now (λ n. refl)
+
+pub loop-i-preserved : goal.loop-i-preserved
+loop-i-preserved g c =
+    found_next c.args.self.now c.loop-i.self c.add_found.new.self (world_of g.S.Server.meaning c.args.core.now) c.args.sight.now c.args.sight.now.found c.loop-i.i
+    (rw (c.len-i-end.ensures, c.nodes.ensures) at c.loop-i-test.true) c.loop-i.invariant c.in_ok-add_found.ensures
+
+pub returns : goal.returns
+returns g c =
+    found_all c.args.self.now c.loop-i.self (world_of g.S.Server.meaning c.args.core.now) c.args.sight.now c.args.sight.now.found c.loop-i.i
+    (rw (c.len-i-end.ensures, c.nodes.ensures) at c.loop-i-test.false) c.loop-i.invariant

@@ -1,0 +1,135 @@
+-- What a set of tasks sees of a world, as it is kept to be compared.
+use Rattle.std.specs.Prelude.{◌≡◌, ◌↔◌, ℕ, Bool, true, false, if◌then◌else◌, List, [], ◌∷◌, length, map, Option, Some, None}
+use Rattle.std.specs.List.{list_any}
+use Rattle.std.specs.Option.{option_map}
+use Rattle.hurd_creds.specs.declared.name.Name.{Name}
+use Rattle.hurd_creds.specs.declared.name.TaskId.{TaskId}
+use Rattle.hurd_creds.specs.declared.attrs.Attrs.{Attrs}
+use Rattle.hurd_creds.specs.Names.{same_name}
+use Rattle.hurd_trans_iface.specs.Nodes.{Body, Content, Listing, is_empty_dir}
+use Rattle.hurd_trans_iface.specs.Answers.{entry_of}
+use Rattle.hurd_trans_iface.specs.Meaning.{options_of}
+use Rattle.hurd_nodes.specs.Shown.{ServerInfo}
+use Rattle.hurd_machine.specs.World.{World, nodes_of, active_at, body_at, header_at, home_at, open_at, server_at, task_at, words_at}
+use Rattle.hurd_machine.specs.Sight.{SameView, bare, holders, users}
+use Rattle.hurd_machine.specs.Sound.{Sound}
+use Rattle.hurd_sight.specs.Looks.{Looks, sees_with}
+use Rattle.hurd_sight.specs.Reach.{among}
+use Rattle.hurd_sight.specs.declared.found.Why.{Why}
+use Rattle.hurd_sight.specs.declared.looks.Sight.{Sight}
+use Rattle.hurd_sight.specs.declared.parts.SeenPart.TheVariants as seen
+use Rattle.hurd_views.specs.declared.rows.BodyRow.{BodyRow}
+use Rattle.hurd_views.specs.declared.rows.BodyRow.TheVariants as body
+use Rattle.hurd_views.specs.declared.rows.EntryRow.{EntryRow}
+use Rattle.hurd_views.specs.declared.rows.NodeRow.{NodeRow}
+use Rattle.hurd_views.specs.declared.rows.Row.{Row}
+use Rattle.hurd_views.specs.declared.rows.ServerRow.{ServerRow}
+use Rattle.hurd_views.specs.declared.view.View.{View}
+
+-- a value, where the test holds
+abbrev pub told_if : {X : Type 0} → Bool → X → Option X
+told_if true x = Some x
+told_if false x = None
+
+-- attributes as if a directory had entries
+abbrev pub with_entries : Attrs → Attrs
+with_entries a = record a { empty = false }
+
+-- attributes that are the same, in three parts
+
+abbrev pub HaveSameAccess : Attrs → Attrs → Type 0
+HaveSameAccess a b = (a.kind ≡ b.kind) × (a.owner ≡ b.owner) × (a.group ≡ b.group) × (a.mode ≡ b.mode)
+
+abbrev pub HaveSamePlace : Attrs → Attrs → Type 0
+HaveSamePlace a b = (a.links ≡ b.links) × (a.size ≡ b.size) × (a.empty ≡ b.empty) × (a.parent ≡ b.parent)
+
+abbrev pub HaveSameMarks : Attrs → Attrs → Type 0
+HaveSameMarks a b = (a.readers ≡ b.readers) × (a.writers ≡ b.writers) × (a.passive ≡ b.passive) × (a.active ≡ b.active)
+
+-- a node's attributes, as if a directory had entries; its words, its server, and the one that is active on it
+abbrev pub node_row : World → Name → NodeRow
+node_row w n = record { attrs = option_map bare (header_at w n); words = words_at w n; home = home_at w n; active = active_at w n }
+
+-- an entry before others, if there is a node
+abbrev pub entry_before : List ℕ → Option Name → List EntryRow → List EntryRow
+entry_before name None rows = rows
+entry_before name (Some n) rows = record { name = name; node = n } ∷ rows
+
+-- of these names each with the first node that a body has under it
+abbrev pub rows_in : Option Body → List (List ℕ) → List EntryRow
+rows_in b [] = []
+rows_in b (name ∷ names) = entry_before name (entry_of name b) (rows_in b names)
+
+-- bytes, or entries in their order
+abbrev pub body_row : Body → BodyRow
+body_row (Content bs) = body.Bytes bs
+body_row (Listing es) = body.Entries (rows_in (Some (Listing es)) (map (λ e. e.name) es))
+
+-- a server, by what makes such a one: its program with its words, and the text that these gave it
+abbrev pub server_row : ServerInfo → ServerRow
+server_row i = record { options = options_of i.kind i.text; text = i.text; root = i.root; ids = i.ids }
+
+-- all that is seen of what has a name, by what was looked at
+abbrev pub row_of : World → Sight → Name → Row
+row_of w v n = record {
+  attributes = told_if (sees_with (nodes_of w) v (seen.Attributes n)) (node_row w n);
+  empty = told_if (sees_with (nodes_of w) v (seen.Empty n)) (option_map is_empty_dir (body_at w n));
+  body = told_if (sees_with (nodes_of w) v (seen.Body n)) (option_map body_row (body_at w n));
+  opened = told_if (sees_with (nodes_of w) v (seen.Open n)) (record { opened = open_at w n; holders = holders w n });
+  server = told_if (sees_with (nodes_of w) v (seen.Options n)) (option_map server_row (server_at w n));
+  users = told_if (sees_with (nodes_of w) v (seen.Users n)) (users w n);
+}
+
+-- nothing is seen
+abbrev pub no_row : Row
+no_row = record { attributes = None; empty = None; body = None; opened = None; server = None; users = None }
+
+-- what there is under a name; of a name that isn't there, nothing is seen
+abbrev pub row_at : List (Name × Row) → Name → Row
+row_at [] n = no_row
+row_at (e ∷ es) n = if same_name n e.0 then e.1 else row_at es n
+
+-- whether anything is kept under a name
+abbrev pub has_row : List (Name × Row) → Name → Bool
+has_row es n = list_any (λ (e : Name × Row). same_name n e.0) es
+
+-- a row, or nothing
+abbrev pub or_no_row : Option Row → Row
+or_no_row None = no_row
+or_no_row (Some r) = r
+
+-- whether a name is the one that is there, or a node's name is
+abbrev pub is_name_at : Name → Option Name → Bool
+is_name_at n None = false
+is_name_at n (Some m) = same_name n m
+
+abbrev pub is_node_at : Name → Option (Name × Why) → Bool
+is_node_at n None = false
+is_node_at n (Some e) = same_name n e.0
+
+-- it was looked at by some tasks
+abbrev pub LooksSomehow : World → Sight → Type 0
+LooksSomehow w v = (S : ℕ → Bool) × Looks S w v
+
+-- names are filled in with what is seen under them: those that p says, and no others
+abbrev pub Fills : World → Sight → (Name → Bool) → List (Name × Row) → List (Name × Row) → Type 0
+Fills w v p old new = (n : Name) → row_at new n ≡ (if p n then row_of w v n else row_at old n)
+
+-- all that some tasks see of a world
+pub record Views (tasks : List TaskId) (w : World) (v : View) : Type 0 where
+  pub looks : Looks (among tasks) w v.sight
+  pub rows : (n : Name) → row_at v.rows n ≡ row_of w v.sight n
+  -- the tasks themselves, in the order of the list, and how many there are in all
+  pub seats : v.seats.items ≡ map (λ (t : TaskId). task_at w t.0) tasks
+  pub count : v.count ≡ length w.tasks
+
+-- nothing in two views differs
+pub record SameRows (v w : View) : Type 0 where
+  pub rows : (n : Name) → row_at v.rows n ≡ row_at w.rows n
+  pub seats : v.seats.items ≡ w.seats.items
+  pub count : v.count ≡ w.count
+
+-- two views in which nothing differs are of worlds that have the same view for these tasks, and any others are not
+abbrev pub RowsAreViews : Type 0
+RowsAreViews =
+    (tasks : List TaskId) (v w : World) (a b : View) → Sound v → Sound w → Views tasks v a → Views tasks w b → SameRows a b ↔ SameView (among tasks) v w

@@ -1,0 +1,257 @@
+//! What is seen of things that have a name, as it can be kept and compared.
+ghost use Rattle.std.specs.Prelude.{◌≡◌, ◌↔◌, IsTrue};
+ghost use Rattle.hurd_views.specs.Views.{HaveSameAccess, HaveSameMarks, HaveSamePlace, no_row};
+
+use hurd_creds::{Attrs, Bytes, Ids, Name, NodeName, Same, ServerName, all_same};
+use hurd_ports::Opened;
+use hurd_trans_iface::Words;
+use std::marker::Model;
+
+/// A node beside what is in it.
+#[derive(Debug, Drop)]
+pub struct NodeRow {
+    /// Its attributes, if it is there; `empty` is never set.
+    pub attrs: Option<Attrs>,
+    /// The words of its passive translator; none where it has none.
+    pub words: Words,
+    /// Its server, if it has one.
+    pub home: Option<ServerName>,
+    /// The server that is active on it, if one is.
+    pub active: Option<ServerName>,
+}
+
+/// An entry of a directory.
+#[derive(Debug, Drop)]
+pub struct EntryRow {
+    pub name: Bytes,
+    pub node: NodeName,
+}
+
+/// The entries of a directory, in order of making.
+#[derive(Debug, Drop)]
+pub struct EntryRows {
+    pub(crate) items: Vec<EntryRow>,
+}
+
+impl Model for EntryRows {
+    ghost use Rattle.std.specs.Prelude.{List};
+    ghost use Rattle.hurd_views.specs.declared.rows.EntryRow.{EntryRow};
+
+    ghost Value = { List EntryRow };
+
+    ghost view = { λ r. r.items.items };
+}
+
+/// What is in a node.
+#[derive(Debug, Drop)]
+pub enum BodyRow {
+    Bytes(Bytes),
+    Entries(EntryRows),
+}
+
+/// An open, and how many rights hold it.
+#[derive(Clone, Copy, Debug, PartialEq, Eq)]
+pub struct OpenRow {
+    pub opened: Option<Opened>,
+    pub holders: u128,
+}
+
+/// A server.
+#[derive(Debug, Drop)]
+pub struct ServerRow {
+    /// The program and its words, as they would be given to make such a server.
+    pub options: Words,
+    /// The text that these give it.
+    pub text: Bytes,
+    pub root: NodeName,
+    pub ids: Ids,
+}
+
+/// All that is seen under a name; none of what is not seen. Within, none stands for what is not there.
+#[derive(Debug, Drop)]
+pub struct Row {
+    pub attributes: Option<NodeRow>,
+    /// Whether a directory has no entries.
+    pub empty: Option<Option<bool>>,
+    pub body: Option<Option<BodyRow>>,
+    pub opened: Option<OpenRow>,
+    pub server: Option<Option<ServerRow>>,
+    /// How many rights there are on a server's nodes.
+    pub users: Option<usize>,
+}
+
+impl EntryRows {
+    /// The entries.
+    pub fn as_slice(&self) -> &[EntryRow]
+        ensures { result.now ≡ self.now }
+    {
+        self.items.as_slice()
+    }
+
+    /// Whether these are the same entries in the same order. Takes no memory.
+    fn is_same(&self, other: &EntryRows) -> bool
+        ensures { IsTrue result ↔ (self.now ≡ other.now) }
+    {
+        all_same(self.as_slice(), other.as_slice())
+    }
+}
+
+impl EntryRow {
+    /// Whether these are the same. Takes no memory.
+    fn is_same(&self, other: &EntryRow) -> bool
+        ensures { IsTrue result ↔ (self.now ≡ other.now) }
+    {
+        self.node == other.node && self.name.is_same(&other.name)
+    }
+}
+
+impl Same for EntryRow {
+    fn same(&self, other: &EntryRow) -> bool {
+        self.is_same(other)
+    }
+}
+
+impl NodeRow {
+    /// Whether these are the same. Takes no memory.
+    fn is_same(&self, other: &NodeRow) -> bool
+        ensures { IsTrue result ↔ (self.now ≡ other.now) }
+    {
+        same_attrs(&self.attrs, &other.attrs)
+            && same_name(&self.home, &other.home)
+            && same_name(&self.active, &other.active)
+            && self.words.is_same(&other.words)
+    }
+}
+
+/// Whether these are the same attributes, if they are there.
+fn same_attrs(attrs: &Option<Attrs>, other: &Option<Attrs>) -> bool
+    ensures { IsTrue result ↔ (attrs.now ≡ other.now) }
+{
+    match (attrs, other) {
+        (Some(attrs), Some(other)) => same_attr(attrs, other),
+        (None, None) => true,
+        _ => false,
+    }
+}
+
+/// Whether these are the same attributes.
+fn same_attr(attrs: &Attrs, other: &Attrs) -> bool
+    ensures { IsTrue result ↔ (attrs.now ≡ other.now) }
+{
+    same_access(attrs, other) && same_place(attrs, other) && same_marks(attrs, other)
+}
+
+/// Whether the same may do the same with nodes of these attributes.
+fn same_access(attrs: &Attrs, other: &Attrs) -> bool
+    ensures { IsTrue result ↔ HaveSameAccess attrs.now other.now }
+{
+    attrs.kind == other.kind
+        && attrs.owner == other.owner
+        && attrs.group == other.group
+        && attrs.mode == other.mode
+}
+
+/// Whether these say the same of where a node hangs, and of its size.
+fn same_place(attrs: &Attrs, other: &Attrs) -> bool
+    ensures { IsTrue result ↔ HaveSamePlace attrs.now other.now }
+{
+    attrs.links == other.links
+        && attrs.size == other.size
+        && attrs.empty == other.empty
+        && attrs.parent == other.parent
+}
+
+/// Whether these say the same of opens and translators.
+fn same_marks(attrs: &Attrs, other: &Attrs) -> bool
+    ensures { IsTrue result ↔ HaveSameMarks attrs.now other.now }
+{
+    attrs.readers == other.readers
+        && attrs.writers == other.writers
+        && attrs.passive == other.passive
+        && attrs.active == other.active
+}
+
+/// Whether these are the same name, if they are there.
+fn same_name(name: &Option<Name>, other: &Option<Name>) -> bool
+    ensures { IsTrue result ↔ (name.now ≡ other.now) }
+{
+    *name == *other
+}
+
+impl BodyRow {
+    /// Whether these are the same. Takes no memory.
+    fn is_same(&self, other: &BodyRow) -> bool
+        ensures { IsTrue result ↔ (self.now ≡ other.now) }
+    {
+        match (self, other) {
+            (BodyRow::Bytes(bytes), BodyRow::Bytes(others)) => bytes.is_same(others),
+            (BodyRow::Entries(entries), BodyRow::Entries(others)) => entries.is_same(others),
+            (BodyRow::Bytes(_), BodyRow::Entries(_)) => false,
+            (BodyRow::Entries(_), BodyRow::Bytes(_)) => false,
+        }
+    }
+}
+
+impl ServerRow {
+    /// Whether these are the same. Takes no memory.
+    fn is_same(&self, other: &ServerRow) -> bool
+        ensures { IsTrue result ↔ (self.now ≡ other.now) }
+    {
+        self.root == other.root
+            && self.ids.is_same(&other.ids)
+            && self.text.is_same(&other.text)
+            && self.options.is_same(&other.options)
+    }
+}
+
+impl Same for NodeRow {
+    fn same(&self, other: &NodeRow) -> bool {
+        self.is_same(other)
+    }
+}
+
+impl Same for BodyRow {
+    fn same(&self, other: &BodyRow) -> bool {
+        self.is_same(other)
+    }
+}
+
+impl Same for OpenRow {
+    fn same(&self, other: &OpenRow) -> bool {
+        *self == *other
+    }
+}
+
+impl Same for ServerRow {
+    fn same(&self, other: &ServerRow) -> bool {
+        self.is_same(other)
+    }
+}
+
+impl Row {
+    /// Whether these are the same. Takes no memory.
+    pub fn is_same(&self, other: &Row) -> bool
+        ensures { IsTrue result ↔ (self.now ≡ other.now) }
+    {
+        self.attributes.same(&other.attributes)
+            && self.empty == other.empty
+            && self.body.same(&other.body)
+            && self.opened == other.opened
+            && self.server.same(&other.server)
+            && self.users == other.users
+    }
+}
+
+impl Row {
+    /// Whether nothing is seen. Takes no memory.
+    pub(crate) fn is_none(&self) -> bool
+        ensures { IsTrue result ↔ (self.now ≡ no_row) }
+    {
+        self.attributes.is_none()
+            && self.empty.is_none()
+            && self.body.is_none()
+            && self.opened.is_none()
+            && self.server.is_none()
+            && self.users.is_none()
+    }
+}

@@ -1,0 +1,84 @@
+//! What some tasks saw when they were last looked at.
+ghost use Rattle.std.specs.Prelude.{◌≡◌, None, IfErr, IfOk, OnOk};
+ghost use Rattle.hurd_world.specs.Held.{world_of};
+ghost use Rattle.hurd_watch.specs.Watched.{LearnedSince, Learns, SeesOr};
+
+use crate::looks::view_of;
+use hurd_creds::{Bytes, TaskId};
+use hurd_lessons::lessons;
+use hurd_trans_iface::Server;
+use hurd_views::View;
+use hurd_world::World;
+use std::alloc::{AllocError, Global};
+
+/// What some tasks saw when they were last looked at, if nothing came since that they did themselves.
+#[derive(Drop)]
+pub struct Watch {
+    seen: Option<View>,
+}
+
+/// What is learned since something was looked at; nothing where nothing was.
+#[tactic(auto, unfolding(crate::specs::Watched::LearnedSince))]
+fn learned_since(
+    alloc: Global,
+    who: &[u8],
+    before: &Option<View>,
+    after: &View,
+) -> Result<Bytes, AllocError>
+    ensures { IfOk result (λ text. LearnedSince who.now before.now after.now text) }
+{
+    match before {
+        Some(before) => lessons(alloc, who, before, after),
+        None => Ok(Bytes::new(Vec::new(alloc))),
+    }
+}
+
+impl Watch {
+    /// Nothing was looked at.
+    pub fn new() -> Watch
+        ensures { result ≡ record { seen = None } }
+    {
+        Watch { seen: None }
+    }
+
+    /// Looks at what these tasks see of a world, unless that was done. An error is want of memory, and then what was seen is kept.
+    pub fn look<S: Server>(
+        &mut self,
+        alloc: Global,
+        world: &World<S>,
+        tasks: &[TaskId],
+    ) -> Result<(), AllocError>
+        ensures ok { OnOk result (SeesOr tasks.now (world_of S.meaning world.now) self.old.seen self.new.seen) }
+        ensures err { IfErr result (λ e. self.new.seen ≡ self.old.seen) }
+    {
+        if self.seen.is_none() {
+            self.seen = Some(view_of(alloc, world, tasks)?);
+        }
+        Ok(())
+    }
+
+    /// These tasks do something themselves: they are to be looked at anew.
+    pub fn forget(&mut self)
+        ensures { self.new.seen ≡ None }
+    {
+        self.seen = None;
+    }
+
+    /// What these tasks learn of a world since they were looked at, a line for each thing, and looks at them. An error is want of memory,
+    /// and then what was seen is kept.
+    pub fn learned<S: Server>(
+        &mut self,
+        alloc: Global,
+        world: &World<S>,
+        tasks: &[TaskId],
+        who: &[u8],
+    ) -> Result<Bytes, AllocError>
+        ensures ok { IfOk result (λ text. Learns tasks.now who.now (world_of S.meaning world.now) self.old.seen self.new.seen text) }
+        ensures err { IfErr result (λ e. self.new.seen ≡ self.old.seen) }
+    {
+        let after = view_of(alloc, world, tasks)?;
+        let learned = learned_since(alloc, who, &self.seen, &after)?;
+        self.seen = Some(after);
+        Ok(learned)
+    }
+}
