@@ -8,3 +8,4 @@ pub mod Turns
 pub mod ShownLaws
 pub mod ScriptLaws
 pub mod LookLaws
+pub mod OneText

@@ -3,3 +3,4 @@ pub mod LineLaws
 pub mod LessonLaws
 pub mod SeenLaws
 pub mod TaughtLaws
+pub mod OneLesson

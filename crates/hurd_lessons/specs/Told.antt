@@ -8,6 +8,7 @@ use Rattle.hurd_sight.specs.Reach.{among}
 use Rattle.hurd_views.specs.Views.{Views}
 use Rattle.hurd_views.specs.declared.view.View.{View}
 use Rattle.hurd_lessons.specs.Lessons.{Lessons}
+use Rattle.hurd_lessons.specs.Seen.{seen_text}
 use Rattle.hurd_lessons.specs.declared.tally.Tally.{Tally}
 
 -- what these tasks learn by what was done between two worlds
@@ -24,6 +25,13 @@ abbrev pub UntaughtWhereUnmoved : Type 0
 UntaughtWhereUnmoved =
     (tasks : List TaskId) (who : List ℕ) (w x : World) (text : List ℕ) → Sound w → Sound x → Taught tasks who w x text
     → (text ≡ []) ↔ SameView (among tasks) w x
+
+-- one text is said of what was done between two worlds, and one of all that is seen of a world
+abbrev pub TaughtIsOne : Type 0
+TaughtIsOne = (tasks : List TaskId) (who : List ℕ) (w x : World) (s t : List ℕ) → Taught tasks who w x s → Taught tasks who w x t → s ≡ t
+
+abbrev pub SeenIsOne : Type 0
+SeenIsOne = (tasks : List TaskId) (who : List ℕ) (w : World) (a b : View) → Views tasks w a → Views tasks w b → seen_text who a ≡ seen_text who b
 
 -- who did something, what is said behind it, and what is shown behind that
 pub record Said : Type 0 where

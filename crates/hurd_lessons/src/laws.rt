@@ -1,7 +1,13 @@
-//! What it means that nothing is said.
-ghost use Rattle.hurd_lessons.specs.Told.{UntaughtWhereUnmoved};
+//! What it means that nothing is said, and that what is said is one text.
+ghost use Rattle.hurd_lessons.specs.Told.{SeenIsOne, TaughtIsOne, UntaughtWhereUnmoved};
 
 /// A law: what others did taught some tasks nothing exactly where it left what these see as it was.
 pub fn untaught_where_unmoved()
     ensures { UntaughtWhereUnmoved }
+{}
+
+/// A law: what is said of what others did is one text, and so is all that some tasks see of a world.
+pub fn said_in_one_way()
+    ensures taught { TaughtIsOne }
+    ensures seen { SeenIsOne }
 {}

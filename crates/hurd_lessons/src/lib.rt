@@ -14,7 +14,7 @@ mod seen_lines;
 mod seen_parts;
 mod tally;
 
-pub use laws::untaught_where_unmoved;
+pub use laws::{said_in_one_way, untaught_where_unmoved};
 pub use lines::{lessons, silent_where_same};
 pub use seen_lines::seen;
 pub use tally::Tally;

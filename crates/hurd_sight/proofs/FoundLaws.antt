@@ -1,23 +1,22 @@
 -- What is collected of nodes, one thing after another.
 use Rattle.std.proofs.Common.{◌≡◌, ◌∙◌, ◌⊎◌, inl, inr, sym, refl, ap, subst, ℕ, ◌+◌, ◌<◌, ◌≤◌, Bool, true, false, true≢false, List, [], ◌∷◌, ◌++◌, map, take, take_all, length, get_or, append_assoc, append-nil, if◌then◌else◌}
-use Rattle.std.specs.Prelude.{◌||◌, Result, Ok, Err, OnOk, is_some}
+use Rattle.std.specs.Prelude.{◌||◌, Option, Some, None, Result, Ok, Err, OnOk, is_some}
+use Rattle.std.specs.List.{flat_map}
 use Rattle.std.specs.Map.{lookup}
 use Rattle.indexmap.specs.IndexMap.{insert_entry}
 use Rattle.std.proofs.lemmas.Bool.{or_left, or_right}
 use Rattle.std.proofs.lemmas.List.{take_more}
+use Rattle.std.proofs.lemmas.List.Concat.{flat_map-append}
 use Rattle.std.proofs.lemmas.List.Folds.{list_any-append}
 use Rattle.hurd_creds.specs.declared.name.Name.{Name}
 use Rattle.hurd_creds.specs.Names.{same_name}
 use Rattle.hurd_creds.proofs.NameLaws.{same_name-itself}
 use Rattle.hurd_machine.specs.World.{IsAmong}
-use Rattle.hurd_sight.specs.Found.{Collects, found_more, is_found, why_of}
+use Rattle.hurd_sight.specs.Found.{found_more, gathered, is_found, why_of, with_why}
 use Rattle.hurd_sight.specs.declared.found.Why.{Why}
 
 abbrev pub Entries : Type 0
 Entries = List (Name × Why)
-
-abbrev pub Reason : Type 1
-Reason = Name → Why → Type 0
 
 -- what is among two lists
 
@@ -60,78 +59,116 @@ pub ok_map : {T E : Type 0} (r : Result T E) {P Q : Type 0} → (P → Q) → On
 ok_map (Ok x) f p = f p
 ok_map (Err e) f p = tt
 
--- one step after another
+-- what is gathered, one list after another
 
-pub collects_none : {P : Reason} (es : Entries) → ((n : Name) (y : Why) → P n y → ⊥) → Collects P es es
-collects_none es none = record { more = []; grown = sym (append-nil es); said = λ n y a. absurd a; all = λ n y p. absurd (none n y p) }
-
-pub collects_one : {es fs : Entries} (n : Name) (y : Why) → fs ≡ found_more n y es → Collects (λ m x. (x ≡ y) × (m ≡ n)) es fs
-collects_one {es} {fs} n y e = go (is_found n es) refl
+-- what was there stays, and more may come behind it
+more_grown : (n : Name) (y : Why) (es : Entries) → (more : Entries) × (found_more n y es ≡ es ++ more)
+more_grown n y es = go (is_found n es) refl
   where
-    go : (b : Bool) → is_found n es ≡ b → Collects (λ m x. (x ≡ y) × (m ≡ n)) es fs
-    go true there = record {
-      more = [];
-      grown = e ∙ (ap (λ (b : Bool). if b then es else es ++ (n, y) ∷ []) there ∙ sym (append-nil es));
-      said = λ m x a. absurd a;
-      all = λ m x p. subst (λ (q : Name). is_found q fs ≡ true) (sym p.1) (ap (is_found n) (e ∙ ap (λ (b : Bool). if b then es else es ++ (n, y) ∷ []) there) ∙ there);
-    }
-    go false absent =
-        let is : fs ≡ es ++ (n, y) ∷ [] = e ∙ ap (λ (b : Bool). if b then es else es ++ (n, y) ∷ []) absent in
-        record {
-          more = (n, y) ∷ [];
-          grown = is;
-          said = λ m x a. elim a [ inl q ↦ (ap (λ (t : Name × Why). t.1) (sym q), ap (λ (t : Name × Why). t.0) (sym q)) | inr none ↦ absurd none ];
-          all = λ m x p. subst (λ (q : Name). is_found q fs ≡ true) (sym p.1) (ap (is_found n) is ∙ found_right n es ((n, y) ∷ []) (found_one n y));
-        }
+    go : (b : Bool) → is_found n es ≡ b → (more : Entries) × (found_more n y es ≡ es ++ more)
+    go true there = ([], rw there (sym (append-nil es)))
+    go false absent = ((n, y) ∷ [], rw absent refl)
 
-pub collects_both : {P Q : Reason} {a b c : Entries} → Collects P a b → Collects Q b c → Collects (λ n y. P n y ⊎ Q n y) a c
-collects_both {P} {Q} {a} {b} {c} x y = record {
-  more = x.more ++ y.more;
-  grown = y.grown ∙ (ap (λ (es : Entries). es ++ y.more) x.grown ∙ append_assoc a x.more y.more);
-  said = λ n z i. elim (among_either (n, z) x.more y.more i) [ inl l ↦ inl (x.said n z l) | inr r ↦ inr (y.said n z r) ];
-  all = λ n z p. elim p [
-    | inl q ↦ ap (is_found n) y.grown ∙ found_left n b y.more (x.all n z q)
-    | inr q ↦ y.all n z q
-  ];
-}
+pub gathered_grown : (xs es : Entries) → (more : Entries) × (gathered xs es ≡ es ++ more)
+gathered_grown [] es = ([], sym (append-nil es))
+gathered_grown (x ∷ xs) es =
+    let one = more_grown x.0 x.1 es in
+    let rest = gathered_grown xs (found_more x.0 x.1 es) in
+    (one.0 ++ rest.0, rest.1 ∙ (ap (λ (gs : Entries). gs ++ rest.0) one.1 ∙ append_assoc es one.0 rest.0))
 
-pub collects_as : {P Q : Reason} {a b : Entries} → ((n : Name) (y : Why) → P n y → Q n y) → ((n : Name) (y : Why) → Q n y → P n y) → Collects P a b → Collects Q a b
-collects_as to from x = record { more = x.more; grown = x.grown; said = λ n y a. to n y (x.said n y a); all = λ n y q. x.all n y (from n y q) }
+pub gathered_kept : (n : Name) (xs es : Entries) → is_found n es ≡ true → is_found n (gathered xs es) ≡ true
+gathered_kept n xs es f = let it = gathered_grown xs es in ap (is_found n) it.1 ∙ found_left n es it.0 f
 
--- what one of a list shows
-abbrev pub Any : {X : Type 0} → (X → Reason) → List X → Reason
-Any {X} P xs n y = (x : X) × IsAmong x xs × P x n y
-
-pub collects_nothing : {X : Type 0} (P : X → Reason) (es : Entries) → Collects (Any P []) es es
-collects_nothing P es = collects_none es (λ n y a. a.1)
-
--- one more of a list
-pub collects_next : {X : Type 0} {a b c : Entries} (P : X → Reason) (xs : List X) (i : ℕ) (d : X) → i < length xs
-    → Collects (Any P (take i xs)) a b → Collects (P (get_or xs i d)) b c → Collects (Any P (take (i + 1) xs)) a c
-collects_next P xs i d below before step = collects_as to from (collects_both before step)
+-- what is added is found
+more_there : (n : Name) (y : Why) (es : Entries) → is_found n (found_more n y es) ≡ true
+more_there n y es = go (is_found n es) refl
   where
-    more : take (i + 1) xs ≡ take i xs ++ get_or xs i d ∷ []
-    more = take_more xs i d below
+    go : (b : Bool) → is_found n es ≡ b → is_found n (found_more n y es) ≡ true
+    go true there = rw there there
+    go false absent = rw absent (found_right n es ((n, y) ∷ []) (found_one n y))
 
-    to : (n : Name) (y : Why) → Any P (take i xs) n y ⊎ P (get_or xs i d) n y → Any P (take (i + 1) xs) n y
-    to n y (inl a) = (a.0, subst (IsAmong a.0) (sym more) (among_left a.0 (take i xs) (get_or xs i d ∷ []) a.1), a.2)
-    to n y (inr p) = (get_or xs i d, subst (IsAmong (get_or xs i d)) (sym more) (among_right (get_or xs i d) (take i xs) (get_or xs i d ∷ []) (inl refl)), p)
+pub gathered_there : (n : Name) (y : Why) (xs es : Entries) → IsAmong (n, y) xs → is_found n (gathered xs es) ≡ true
+gathered_there n y [] es a = absurd a
+gathered_there n y (x ∷ xs) es (inl e) =
+    gathered_kept n xs (found_more x.0 x.1 es) (subst (λ (z : Name × Why). is_found n (found_more z.0 z.1 es) ≡ true) (sym e) (more_there n y es))
+gathered_there n y (x ∷ xs) es (inr a) = gathered_there n y xs (found_more x.0 x.1 es) a
 
-    from : (n : Name) (y : Why) → Any P (take (i + 1) xs) n y → Any P (take i xs) n y ⊎ P (get_or xs i d) n y
-    from n y a = elim (among_either a.0 (take i xs) (get_or xs i d ∷ []) (subst (IsAmong a.0) more a.1)) [
-      | inl l ↦ inl (a.0, l, a.2)
-      | inr (inl e) ↦ inr (subst (λ x. P x n y) (sym e) a.2)
+-- and nothing else comes
+more_said : (e : Name × Why) (n : Name) (y : Why) (es : Entries) → IsAmong e (found_more n y es) → IsAmong e es ⊎ ((n, y) ≡ e)
+more_said e n y es a = go (is_found n es) refl
+  where
+    go : (b : Bool) → is_found n es ≡ b → IsAmong e es ⊎ ((n, y) ≡ e)
+    go true there = inl (subst (λ (b : Bool). IsAmong e (if b then es else es ++ (n, y) ∷ [])) there a)
+    go false absent = elim (among_either e es ((n, y) ∷ []) (subst (λ (b : Bool). IsAmong e (if b then es else es ++ (n, y) ∷ [])) absent a)) [
+      | inl old ↦ inl old
+      | inr (inl is) ↦ inr is
       | inr (inr none) ↦ absurd none
     ]
 
+pub gathered_said : (e : Name × Why) (xs es : Entries) → IsAmong e (gathered xs es) → IsAmong e es ⊎ IsAmong e xs
+gathered_said e [] es a = inl a
+gathered_said e (x ∷ xs) es a = elim (gathered_said e xs (found_more x.0 x.1 es) a) [
+  | inl b ↦ elim (more_said e x.0 x.1 es b) [ inl old ↦ inl old | inr is ↦ inr (inl is) ]
+  | inr b ↦ inr (inr b)
+]
+
+pub gathered-append : (xs ys es : Entries) → gathered (xs ++ ys) es ≡ gathered ys (gathered xs es)
+gathered-append [] ys es = refl
+gathered-append (x ∷ xs) ys es = gathered-append xs ys (found_more x.0 x.1 es)
+
+-- one after the other
+pub gathered_both : (a : Entries) {b c : Entries} (xs ys : Entries) → b ≡ gathered xs a → c ≡ gathered ys b → c ≡ gathered (xs ++ ys) a
+gathered_both a xs ys first second = second ∙ (ap (gathered ys) first ∙ sym (gathered-append xs ys a))
+
+-- of each of a list
+
+pub flat_among : {X Y : Type 0} (f : X → List Y) (y : Y) (xs : List X) → IsAmong y (flat_map f xs) → (x : X) × IsAmong x xs × IsAmong y (f x)
+flat_among f y [] a = absurd a
+flat_among f y (x ∷ xs) a = elim (among_either y (f x) (flat_map f xs) a) [
+  | inl here ↦ (x, inl refl, here)
+  | inr later ↦ let it = flat_among f y xs later in (it.0, inr it.1, it.2)
+]
+
+pub among_flat : {X Y : Type 0} (f : X → List Y) (x : X) (y : Y) (xs : List X) → IsAmong x xs → IsAmong y (f x) → IsAmong y (flat_map f xs)
+among_flat f x y [] a b = absurd a
+among_flat f x y (z ∷ xs) (inl e) b = among_left y (f z) (flat_map f xs) (subst (λ q. IsAmong y (f q)) (sym e) b)
+among_flat f x y (z ∷ xs) (inr a) b = among_right y (f z) (flat_map f xs) (among_flat f x y xs a b)
+
+pub flat_next : {X Y : Type 0} (f : X → List Y) (xs : List X) (i : ℕ) (d : X) → i < length xs → flat_map f (take (i + 1) xs) ≡ flat_map f (take i xs) ++ f (get_or xs i d)
+flat_next f xs i d below =
+    ap (flat_map f) (take_more xs i d below)
+    ∙ (flat_map-append f (take i xs) (get_or xs i d ∷ []) ∙ ap (λ ys. flat_map f (take i xs) ++ ys) (append-nil (f (get_or xs i d))))
+
+-- one more of a list
+pub gathered_next : {X : Type 0} (a : Entries) {b c : Entries} (f : X → Entries) (xs : List X) (i : ℕ) (d : X) → i < length xs
+    → b ≡ gathered (flat_map f (take i xs)) a → c ≡ gathered (f (get_or xs i d)) b → c ≡ gathered (flat_map f (take (i + 1) xs)) a
+gathered_next a f xs i d below before step =
+    gathered_both a (flat_map f (take i xs)) (f (get_or xs i d)) before step ∙ ap (λ (ys : Entries). gathered ys a) (sym (flat_next f xs i d below))
+
 -- the same where the one at the index is known by another name
-pub collects_item : {X : Type 0} {a b c : Entries} (P : X → Reason) (xs : List X) (i : ℕ) (x : X) → i < length xs → x ≡ get_or xs i x
-    → Collects (Any P (take i xs)) a b → Collects (P x) b c → Collects (Any P (take (i + 1) xs)) a c
-collects_item {a = a} {b = b} {c = c} P xs i x below at before step = collects_next P xs i x below before (subst (λ z. Collects (P z) b c) at step)
+pub gathered_item : {X : Type 0} (a : Entries) {b c : Entries} (f : X → Entries) (xs : List X) (i : ℕ) (x : X) → i < length xs → x ≡ get_or xs i x
+    → b ≡ gathered (flat_map f (take i xs)) a → c ≡ gathered (f x) b → c ≡ gathered (flat_map f (take (i + 1) xs)) a
+gathered_item a {b} {c} f xs i x below at before step = gathered_next a f xs i x below before (subst (λ z. c ≡ gathered (f z) b) at step)
 
 -- and the whole list
-pub collects_all : {X : Type 0} {a b : Entries} (P : X → Reason) (xs : List X) (i : ℕ) → length xs ≤ i → Collects (Any P (take i xs)) a b → Collects (Any P xs) a b
-collects_all {a = a} {b = b} P xs i past c = subst (λ ys. Collects (Any P ys) a b) (take_all i xs past) c
+pub gathered_whole : {X : Type 0} (a : Entries) {b : Entries} (f : X → Entries) (xs : List X) (i : ℕ) → length xs ≤ i → b ≡ gathered (flat_map f (take i xs)) a → b ≡ gathered (flat_map f xs) a
+gathered_whole a f xs i past before = before ∙ ap (λ ys. gathered (flat_map f ys) a) (take_all i xs past)
+
+-- of a thing that may not be there
+
+pub why_some : (a : Entries) {b : Entries} (o : Option Name) (n : Name) (y : Why) → Some n ≡ o → b ≡ found_more n y a → b ≡ gathered (with_why o y) a
+why_some a {b} o n y is e = subst (λ (z : Option Name). b ≡ gathered (with_why z y) a) is e
+
+pub why_none : (o : Option Name) (y : Why) (a : Entries) → None ≡ o → a ≡ gathered (with_why o y) a
+why_none o y a is = subst (λ (z : Option Name). a ≡ gathered (with_why z y) a) is refl
+
+pub among_why : (o : Option Name) (z : Why) (n : Name) (y : Why) → IsAmong (n, y) (with_why o z) → (o ≡ Some n) × (y ≡ z)
+among_why None z n y a = absurd a
+among_why (Some m) z n y (inl e) = (ap (λ (t : Name × Why). Some t.0) e, sym (ap (λ (t : Name × Why). t.1) e))
+among_why (Some m) z n y (inr none) = absurd none
+
+pub why_among : (o : Option Name) (z : Why) (n : Name) → o ≡ Some n → IsAmong (n, z) (with_why o z)
+why_among o z n is = subst (λ (p : Option Name). IsAmong (n, z) (with_why p z)) (sym is) (inl refl)
 
 -- in the map of the code
 
@@ -168,8 +205,3 @@ one_more n y es fs absent e = rw absent (e ∙ put_last n y es absent)
 
 pub as_it_was : (n : Name) (y : Why) (es : Entries) → is_found n es ≡ true → es ≡ found_more n y es
 as_it_was n y es there = rw there refl
-
--- of a thing that may not be there
-pub collects_some : {P : Reason} {a b : Entries} (n : Name) (y : Why) → P n y → ((m : Name) (x : Why) → P m x → (x ≡ y) × (m ≡ n)) → b ≡ found_more n y a → Collects P a b
-collects_some {P} n y p only e =
-    collects_as (λ m x q. subst (λ (z : Name). P z x) (sym q.1) (subst (λ (z : Why). P n z) (sym q.0) p)) only (collects_one n y e)

@@ -1,10 +1,14 @@
--- What a node, a right and a task show, of what the code asks.
-use Rattle.std.proofs.Common.{◌≡◌, ◌∙◌, ◌⊎◌, inl, inr, sym, refl, ap, subst, ℕ, Bool, true, false, true≢false, List, [], ◌∷◌, ◌++◌, map}
-use Rattle.std.specs.Prelude.{cond, Option, Some, None, Result, Ok, Err}
+-- What a node, a right and a task show: of what the code asks, and why it is shown.
+use Rattle.std.proofs.Common.{◌≡◌, ◌∙◌, ◌⊎◌, inl, inr, sym, refl, ap, subst, ℕ, Bool, true, false, true≢false, List, [], ◌∷◌, ◌++◌, map, if◌then◌else◌}
+use Rattle.std.specs.Prelude.{cond, ◌&&◌, Option, Some, None, Result, Ok, Err, option_and_then}
+use Rattle.std.specs.List.{flat_map}
 use Rattle.std.specs.Option.{option_map}
 use Rattle.std.specs.Str.{bytes_eq}
 use Rattle.std.specs.FinMap as fin
 use Rattle.std.proofs.lemmas.Bool.{and_parts}
+use Rattle.hurd_nodes.proofs.PartLaws.{and_true}
+use Rattle.std.proofs.lemmas.List.Concat.{flat_map-append}
+use Rattle.std.proofs.lemmas.List.Folds.{flat_map-map}
 use Rattle.hurd_creds.specs.declared.name.Name.{Name}
 use Rattle.hurd_creds.specs.declared.errno.Errno.{Errno}
 use Rattle.hurd_creds.specs.declared.attrs.Kind.{Kind}
@@ -17,99 +21,132 @@ use Rattle.hurd_trans_iface.specs.Answers.{entry_in, entry_of, names_of}
 use Rattle.hurd_nodes.specs.Shown.{NodeState, ServerInfo}
 use Rattle.hurd_ports.specs.declared.parents.Parent.{Parent as Pair}
 use Rattle.hurd_ports.specs.declared.table.IoRight.{IoRight}
-use Rattle.hurd_ports.specs.declared.table.PendingStart.{PendingStart}
 use Rattle.hurd_ports.specs.declared.table.Port.{Port}
 use Rattle.hurd_ports.specs.declared.table.Right.{Right}
-use Rattle.hurd_ports.specs.declared.table.Right.TheVariants.{Io, Start}
+use Rattle.hurd_ports.specs.declared.table.Right.TheVariants.{Io}
 use Rattle.hurd_ports.specs.Tables.{Task, rights_of, start_of}
 use Rattle.hurd_machine.specs.World.{IsAmong}
 use Rattle.hurd_machine.proofs.Removals.{same_exact}
 use Rattle.hurd_machine.specs.Sight.{bare}
-use Rattle.hurd_sight.specs.Reach.{Serves, could_with}
-use Rattle.hurd_sight.specs.Found.{Collects, OfActive, OfChild, OfControl, OfName, OfNames, OfNode, OfParent, OfPorts, OfRight, OfRights, OfServer, OfTask, OfWays, ServedRoot, found_more, parent_in, searched_by}
+use Rattle.hurd_sight.specs.Reach.{could_with, serves}
+use Rattle.hurd_sight.specs.Found.{found_more, gathered, names_told, of_active, of_children, of_entry, of_node, of_parent, of_right, of_server, of_task, of_way, parent_in, root_of, root_served, searched_by, served_root}
 use Rattle.hurd_sight.specs.declared.found.Why.{Why}
 use Rattle.hurd_sight.specs.declared.found.Why.TheVariants as why
-use Rattle.hurd_sight.proofs.FoundLaws.{Entries, among_either, among_left, among_map, among_right, collects_as, collects_both, collects_none, collects_one, collects_some, map_among}
+use Rattle.hurd_sight.proofs.FoundLaws.{Entries, among_flat, among_why, flat_among, gathered_both, why_among}
 
 same_some : {X : Type 0} (x y : X) → Some x ≡ Some y → x ≡ y
 same_some x y e = cc
 
--- the server of which a root is told
-told_root : (r : Name) (o : Option ServerInfo) → Some r ≡ option_map (λ (i : ServerInfo). i.root) o → (i : ServerInfo) × (o ≡ Some i) × (r ≡ i.root)
-told_root r None e = absurd (cc)
-told_root r (Some i) e = (i, refl, same_some r i.root e)
+some_none : {X : Type 0} (x : X) → None ≡ Some x → ⊥
+some_none x e = absurd (cc)
 
-pub controls : (h : NodeState) (s r : Name) (a b : Entries) → Some r ≡ option_map (λ (i : ServerInfo). i.root) (fin.get h.servers s) → b ≡ found_more r why.Controlled a
-    → Collects (OfControl h s) a b
-controls h s r a b told e =
-    let it = told_root r (fin.get h.servers s) told in
-    collects_some r why.Controlled (it.0, it.1, refl, it.2)
-    (λ m x p. (p.2, p.3 ∙ (ap (λ (i : ServerInfo). i.root) (same_some p.0 it.0 (sym p.1 ∙ it.1)) ∙ sym it.2))) e
+-- what follows of what may be there
 
-pub actives : (h : NodeState) (m s r : Name) (a b : Entries) → Some s ≡ fin.get h.actives m → Some r ≡ option_map (λ (i : ServerInfo). i.root) (fin.get h.servers s)
-    → b ≡ found_more r (why.Active m) a → Collects (OfActive h m) a b
-actives h m s r a b at told e =
-    let it = told_root r (fin.get h.servers s) told in
-    collects_some r (why.Active m) (s, it.0, sym at, it.1, refl, it.2)
-    (λ n x p. (p.4, p.5 ∙ (ap (λ (i : ServerInfo). i.root) (info p.0 p.1 p.2 p.3 it.0 it.1) ∙ sym it.2))) e
+and_then_of : {A B : Type 0} (f : A → Option B) (o : Option A) (b : B) → option_and_then f o ≡ Some b → (a : A) × (o ≡ Some a) × (f a ≡ Some b)
+and_then_of f None b e = absurd (some_none b e)
+and_then_of f (Some a) b e = (a, refl, e)
+
+pub and_then_some : {A B : Type 0} (f : A → Option B) (o : Option A) (a : A) → Some a ≡ o → f a ≡ option_and_then f o
+and_then_some f o a is = ap (option_and_then f) is
+
+pub and_then_none : {A B : Type 0} (f : A → Option B) (o : Option A) → None ≡ o → None ≡ option_and_then f o
+and_then_none f o is = ap (option_and_then f) is
+
+-- the root of a server
+
+pub root_info : (h : NodeState) (s n : Name) → root_of h s ≡ Some n → (i : ServerInfo) × (fin.get h.servers s ≡ Some i) × (n ≡ i.root)
+root_info h s n e = go (fin.get h.servers s) refl e
   where
-    info : (q : Name) (i : ServerInfo) → fin.get h.actives m ≡ Some q → fin.get h.servers q ≡ Some i → (j : ServerInfo) → fin.get h.servers s ≡ Some j → i ≡ j
-    info q i there is j mine = same_some i j (sym is ∙ (ap (fin.get h.servers) (same_some q s (sym there ∙ sym at)) ∙ mine))
+    go : (o : Option ServerInfo) → fin.get h.servers s ≡ o → option_map (λ (i : ServerInfo). i.root) o ≡ Some n → (i : ServerInfo) × (fin.get h.servers s ≡ Some i) × (n ≡ i.root)
+    go None is t = absurd (some_none n t)
+    go (Some i) is t = (i, is, sym (same_some i.root n t))
 
--- the root of a node's server
+pub info_root : (h : NodeState) (s n : Name) (i : ServerInfo) → fin.get h.servers s ≡ Some i → n ≡ i.root → root_of h s ≡ Some n
+info_root h s n i is root = ap (option_map (λ (j : ServerInfo). j.root)) is ∙ ap (λ (m : Name). Some m) (sym root)
 
--- the server of which ids are told
-pub told_ids : (ids : IdSets) (o : Option ServerInfo) → Some ids ≡ option_map (λ (i : ServerInfo). i.ids) o
-    → (i : ServerInfo) × (o ≡ Some i) × ((mine : IdSets) → Serves mine ids → Serves mine i.ids)
-told_ids ids None e = absurd (cc)
-told_ids ids (Some i) e = (i, refl, λ mine s. subst (Serves mine) (same_some ids i.ids e) s)
+-- the root of the server that is active on a node
 
-pub served : (h : NodeState) (ids : IdSets) (m s : Name) (i : ServerInfo) (r : Option Name) → Some s ≡ fin.get h.homes m → fin.get h.servers s ≡ Some i → Serves ids i.ids
-    → r ≡ option_map (λ (j : ServerInfo). j.root) (fin.get h.servers s) → ServedRoot h ids m r
-served h ids m s i r at is serves told = record {
-  found = λ n e. let it = told_root n (fin.get h.servers s) (sym e ∙ told) in (s, it.0, sym at, it.1, subst (λ (j : ServerInfo). Serves ids j.ids) (same_some i it.0 (sym is ∙ it.1)) serves, refl, it.2);
-  all = λ n y p. told ∙ (ap (option_map (λ (j : ServerInfo). j.root)) (there p.0 p.1 p.2 p.3) ∙ ap (λ (x : Name). Some x) (sym p.6));
-}
+pub active_info : (h : NodeState) (m n : Name) (y : Why) → IsAmong (n, y) (of_active h m)
+    → (s : Name) × (i : ServerInfo) × (fin.get h.actives m ≡ Some s) × (fin.get h.servers s ≡ Some i) × (n ≡ i.root) × (y ≡ why.Active m)
+active_info h m n y a =
+    let told = among_why (option_and_then (root_of h) (fin.get h.actives m)) (why.Active m) n y a in
+    let it = and_then_of (root_of h) (fin.get h.actives m) n told.0 in
+    let info = root_info h it.0 n it.2 in
+    (it.0, info.0, it.1, info.1, info.2, told.1)
+
+pub info_active : (h : NodeState) (m n s : Name) (i : ServerInfo) → fin.get h.actives m ≡ Some s → fin.get h.servers s ≡ Some i → n ≡ i.root → IsAmong (n, why.Active m) (of_active h m)
+info_active h m n s i active is root =
+    why_among (option_and_then (root_of h) (fin.get h.actives m)) (why.Active m) n (ap (option_and_then (root_of h)) active ∙ info_root h s n i is root)
+
+-- the root of a node's server that could be served
+
+served_info : (ids : IdSets) (i : ServerInfo) (n : Name) → root_served ids i ≡ Some n → (serves ids i.ids ≡ true) × (n ≡ i.root)
+served_info ids i n e = go (serves ids i.ids) refl
   where
-    there : (q : Name) (j : ServerInfo) → fin.get h.homes m ≡ Some q → fin.get h.servers q ≡ Some j → fin.get h.servers s ≡ Some j
-    there q j home got = ap (fin.get h.servers) (same_some s q (at ∙ home)) ∙ got
+    go : (b : Bool) → serves ids i.ids ≡ b → (serves ids i.ids ≡ true) × (n ≡ i.root)
+    go true is = (is, sym (same_some i.root n (sym (ap (λ (b : Bool). if b then Some i.root else None) is) ∙ e)))
+    go false is = absurd (some_none n (sym (ap (λ (b : Bool). if b then Some i.root else None) is) ∙ e))
 
-pub served_found : (h : NodeState) (ids : IdSets) (m r : Name) (a b : Entries) → ServedRoot h ids m (Some r) → b ≡ found_more r (why.ServerRoot m) a → Collects (OfServer h ids m) a b
-served_found h ids m r a b s e = collects_some r (why.ServerRoot m) (s.found r refl) (λ n x p. (p.5, same_some n r (sym (s.all n x p)))) e
+pub server_info : (h : NodeState) (ids : IdSets) (m n : Name) (y : Why) → IsAmong (n, y) (of_server h ids m)
+    → (s : Name) × (i : ServerInfo) × (fin.get h.homes m ≡ Some s) × (fin.get h.servers s ≡ Some i) × (serves ids i.ids ≡ true) × (n ≡ i.root) × (y ≡ why.ServerRoot m)
+server_info h ids m n y a =
+    let told = among_why (option_and_then (served_root h ids) (fin.get h.homes m)) (why.ServerRoot m) n y a in
+    let it = and_then_of (served_root h ids) (fin.get h.homes m) n told.0 in
+    let info = and_then_of (root_served ids) (fin.get h.servers it.0) n it.2 in
+    let served = served_info ids info.0 n info.2 in
+    (it.0, info.0, it.1, info.1, served.0, served.1, told.1)
 
-pub served_none : (h : NodeState) (ids : IdSets) (m : Name) (a : Entries) → ServedRoot h ids m None → Collects (OfServer h ids m) a a
-served_none h ids m a s = collects_none a (λ n y p. none n (s.all n y p))
+pub info_server : (h : NodeState) (ids : IdSets) (m n s : Name) (i : ServerInfo) → fin.get h.homes m ≡ Some s → fin.get h.servers s ≡ Some i → serves ids i.ids ≡ true → n ≡ i.root
+    → IsAmong (n, why.ServerRoot m) (of_server h ids m)
+info_server h ids m n s i home is served root =
+    why_among (option_and_then (served_root h ids) (fin.get h.homes m)) (why.ServerRoot m) n
+    (ap (option_and_then (served_root h ids)) home
+    ∙ (ap (option_and_then (root_served ids)) is ∙ (ap (λ (b : Bool). if b then Some i.root else None) served ∙ ap (λ (q : Name). Some q) (sym root))))
+
+-- by what the code asks
+
+pub served : (h : NodeState) (ids other : IdSets) (m s : Name) (b : Bool) (r : Option Name) → Some s ≡ fin.get h.homes m → Some other ≡ option_map (λ (i : ServerInfo). i.ids) (fin.get h.servers s)
+    → b ≡ serves ids other → b ≡ true → r ≡ option_map (λ (i : ServerInfo). i.root) (fin.get h.servers s) → r ≡ option_and_then (served_root h ids) (fin.get h.homes m)
+served h ids other m s b r home told test is root = go (fin.get h.servers s) refl told root ∙ ap (option_and_then (served_root h ids)) home
   where
-    none : (n : Name) → None ≡ Some n → ⊥
-    none n e = absurd (cc)
+    go : (o : Option ServerInfo) → fin.get h.servers s ≡ o → Some other ≡ option_map (λ (i : ServerInfo). i.ids) o → r ≡ option_map (λ (i : ServerInfo). i.root) o → r ≡ served_root h ids s
+    go None at t e = absurd (cc)
+    go (Some i) at t e =
+        e
+        ∙ (sym (ap (λ (c : Bool). if c then Some i.root else None) (ap (serves ids) (sym (same_some other i.ids t)) ∙ (sym test ∙ is)))
+        ∙ ap (option_and_then (root_served ids)) (sym at))
+
+pub unserved : (h : NodeState) (ids other : IdSets) (m s : Name) (b : Bool) → Some s ≡ fin.get h.homes m → Some other ≡ option_map (λ (i : ServerInfo). i.ids) (fin.get h.servers s)
+    → b ≡ serves ids other → b ≡ false → None ≡ option_and_then (served_root h ids) (fin.get h.homes m)
+unserved h ids other m s b home told test is = go (fin.get h.servers s) refl told ∙ ap (option_and_then (served_root h ids)) home
+  where
+    go : (o : Option ServerInfo) → fin.get h.servers s ≡ o → Some other ≡ option_map (λ (i : ServerInfo). i.ids) o → None ≡ served_root h ids s
+    go None at t = absurd (cc)
+    go (Some i) at t =
+        sym (ap (λ (c : Bool). if c then Some i.root else None) (ap (serves ids) (sym (same_some other i.ids t)) ∙ (sym test ∙ is)))
+        ∙ ap (option_and_then (root_served ids)) (sym at)
+
+pub unknown : (h : NodeState) (ids : IdSets) (m s : Name) → Some s ≡ fin.get h.homes m → None ≡ option_map (λ (i : ServerInfo). i.ids) (fin.get h.servers s)
+    → None ≡ option_and_then (served_root h ids) (fin.get h.homes m)
+unknown h ids m s home told = go (fin.get h.servers s) refl told ∙ ap (option_and_then (served_root h ids)) home
+  where
+    go : (o : Option ServerInfo) → fin.get h.servers s ≡ o → None ≡ option_map (λ (i : ServerInfo). i.ids) o → None ≡ served_root h ids s
+    go None at t = ap (option_and_then (root_served ids)) (sym at)
+    go (Some i) at t = absurd (cc)
 
 -- the parent of a directory
 
-pub parents : (h : NodeState) (d r : Name) (a b : Entries) → Some r ≡ parent_in (header_of h.nodes d) → b ≡ found_more r (why.Parent d) a → Collects (OfParent h d) a b
-parents h d r a b told e = go (header_of h.nodes d) refl told
+pub parent_info : (h : NodeState) (d n : Name) (y : Why) → IsAmong (n, y) (of_parent h d) → (x : Header) × (header_of h.nodes d ≡ Some x) × (x.parent ≡ Some n) × (y ≡ why.Parent d)
+parent_info h d n y a = let told = among_why (parent_in (header_of h.nodes d)) (why.Parent d) n y a in go (header_of h.nodes d) refl told.0 told.1
   where
-    go : (o : Option Header) → header_of h.nodes d ≡ o → Some r ≡ parent_in o → Collects (OfParent h d) a b
-    go None is t = absurd (cc)
-    go (Some x) is t =
-        collects_some r (why.Parent d) (x, is, sym t, refl)
-        (λ n y p. (p.3, same_some n r (sym p.2 ∙ (ap (λ (z : Header). z.parent) (same_some p.0 x (sym p.1 ∙ is)) ∙ sym t)))) e
+    go : (o : Option Header) → header_of h.nodes d ≡ o → parent_in o ≡ Some n → y ≡ why.Parent d → (x : Header) × (header_of h.nodes d ≡ Some x) × (x.parent ≡ Some n) × (y ≡ why.Parent d)
+    go None is t e = absurd (some_none n t)
+    go (Some x) is t e = (x, is, t, e)
 
-pub no_parent : (h : NodeState) (d : Name) (a : Entries) → None ≡ parent_in (header_of h.nodes d) → Collects (OfParent h d) a a
-no_parent h d a told = collects_none a (λ n y p. none n y p)
-  where
-    none : (n : Name) (y : Why) → OfParent h d n y → ⊥
-    none n y p = absurd (cc (told, ap parent_in p.1, p.2))
+pub info_parent : (h : NodeState) (d n : Name) (x : Header) → header_of h.nodes d ≡ Some x → x.parent ≡ Some n → IsAmong (n, why.Parent d) (of_parent h d)
+info_parent h d n x is parent = why_among (parent_in (header_of h.nodes d)) (why.Parent d) n (ap parent_in is ∙ parent)
 
 -- what entries name
-
-pub names : (h : NodeState) (d r : Name) (name : List ℕ) (a b : Entries) → Some r ≡ entry_of name (body_of h.nodes d) → b ≡ found_more r (why.Child d) a → Collects (OfName h d name) a b
-names h d r name a b told e = collects_some r (why.Child d) (refl, sym told) (λ n x p. (p.0, same_some n r (sym p.1 ∙ sym told))) e
-
-pub no_name : (h : NodeState) (d : Name) (name : List ℕ) (a : Entries) → None ≡ entry_of name (body_of h.nodes d) → Collects (OfName h d name) a a
-no_name h d name a told = collects_none a (λ n y p. none n p.1)
-  where
-    none : (n : Name) → entry_of name (body_of h.nodes d) ≡ Some n → ⊥
-    none n e = absurd (cc)
 
 -- the name of an entry is among the names
 named_entry : (name : List ℕ) (n : Name) (es : List Entry) → entry_in name es ≡ Some n → IsAmong name (map (λ (e : Entry). e.name) es)
@@ -121,21 +158,15 @@ named_entry name n (e ∷ es) is = go (bytes_eq e.name name) refl is (named_entr
     go true same here rest = inl (same_exact e.name name same)
     go false other here rest = inr (rest (sym (ap (λ (b : Bool). cond b (Some e.node) (entry_in name es)) other) ∙ here))
 
-named : (name : List ℕ) (n : Name) (b : Option Body) (ns : List (List ℕ)) → names_of b ≡ Ok ns → entry_of name b ≡ Some n → IsAmong name ns
-named name n None ns told is = absurd (cc)
-named name n (Some (Content bs)) ns told is = absurd (cc)
-named name n (Some (Listing es)) ns told is = subst (IsAmong name) (same_ok (map (λ (e : Entry). e.name) es) ns told) (named_entry name n es is)
-  where
-    wrapped : List (List ℕ) → Result (List (List ℕ)) Errno
-    wrapped xs = Ok xs
-
-    same_ok : (xs ys : List (List ℕ)) → wrapped xs ≡ wrapped ys → xs ≡ ys
-    same_ok xs ys e = cc
+named : (name : List ℕ) (n : Name) (b : Option Body) → entry_of name b ≡ Some n → IsAmong name (names_told (names_of b))
+named name n None is = absurd (cc)
+named name n (Some (Content bs)) is = absurd (cc)
+named name n (Some (Listing es)) is = named_entry name n es is
 
 -- what a directory that could be searched is
-searched_dir : (ids : IdSets) (o : Option Header) → true ≡ searched_by ids o → (x : Header) × (o ≡ Some x) × (x.kind ≡ Dir) × (could_with ids (bare x) Exec ≡ true)
-searched_dir ids None e = absurd (true≢false e)
-searched_dir ids (Some x) e = let both = and_parts (is_dir x.kind) (could_with ids (bare x) Exec) (sym e) in (x, refl, a_dir x.kind both.0, both.1)
+searched_dir : (ids : IdSets) (o : Option Header) → searched_by ids o ≡ true → (x : Header) × (o ≡ Some x) × (x.kind ≡ Dir) × (could_with ids (bare x) Exec ≡ true)
+searched_dir ids None e = absurd (true≢false (sym e))
+searched_dir ids (Some x) e = let both = and_parts (is_dir x.kind) (could_with ids (bare x) Exec) e in (x, refl, a_dir x.kind both.0, both.1)
   where
     a_dir : (k : Kind) → is_dir k ≡ true → k ≡ Dir
     a_dir Dir is = refl
@@ -144,79 +175,89 @@ searched_dir ids (Some x) e = let both = and_parts (is_dir x.kind) (could_with i
     a_dir Fifo is = absurd (true≢false (sym is))
     a_dir Char is = absurd (true≢false (sym is))
 
--- of the names of a directory that could be searched, all are asked for
-pub below : (h : NodeState) (ids : IdSets) (d : Name) (ns : List (List ℕ)) (a b : Entries) → true ≡ searched_by ids (header_of h.nodes d) → names_of (body_of h.nodes d) ≡ Ok ns
-    → Collects (OfNames h d ns) a b → Collects (OfChild h ids d) a b
-below h ids d ns a b searched told c =
-    let it = searched_dir ids (header_of h.nodes d) searched in
-    collects_as
-    (λ n y p. (it.0, it.1, it.2, it.3, (p.2.0, p.0, p.2.1)))
-    (λ n y p. (p.4.1, named p.4.1 n (body_of h.nodes d) ns told p.4.2, (p.4.0, p.4.2))) c
+abbrev if_searched : NodeState → Name → Bool → Entries
+if_searched h d b = if b then flat_map (of_entry d (body_of h.nodes d)) (names_told (names_of (body_of h.nodes d))) else []
 
-pub no_names : (h : NodeState) (ids : IdSets) (d : Name) (e : Errno) (a : Entries) → names_of (body_of h.nodes d) ≡ Err e → Collects (OfChild h ids d) a a
-no_names h ids d e a told = collects_none a (λ n y p. none n p.4.1 (body_of h.nodes d) told p.4.2)
+-- a child: its directory is there and could be searched, and an entry names it
+abbrev pub ChildOf : NodeState → IdSets → Name → Name → Type 0
+ChildOf h ids d n = (x : Header) × (name : List ℕ) × (header_of h.nodes d ≡ Some x) × (x.kind ≡ Dir) × (could_with ids (bare x) Exec ≡ true) × (entry_of name (body_of h.nodes d) ≡ Some n)
+
+pub child_info : (h : NodeState) (ids : IdSets) (d n : Name) (y : Why) → IsAmong (n, y) (of_children h ids d) → ChildOf h ids d n × (y ≡ why.Child d)
+child_info h ids d n y a = go (searched_by ids (header_of h.nodes d)) refl a
   where
-    none : (n : Name) (name : List ℕ) (b : Option Body) → names_of b ≡ Err e → entry_of name b ≡ Some n → ⊥
-    none n name None t is = absurd (cc)
-    none n name (Some (Content bs)) t is = absurd (cc)
-    none n name (Some (Listing es)) t is = absurd (cc)
+    go : (b : Bool) → searched_by ids (header_of h.nodes d) ≡ b → IsAmong (n, y) (if_searched h d b) → ChildOf h ids d n × (y ≡ why.Child d)
+    go false is i = absurd i
+    go true is i =
+        let dir = searched_dir ids (header_of h.nodes d) is in
+        let it = flat_among (of_entry d (body_of h.nodes d)) (n, y) (names_told (names_of (body_of h.nodes d))) i in
+        let told = among_why (entry_of it.0 (body_of h.nodes d)) (why.Child d) n y it.2 in
+        ((dir.0, it.0, dir.1, dir.2, dir.3, told.0), told.1)
+
+pub info_child : (h : NodeState) (ids : IdSets) (d n : Name) → ChildOf h ids d n → IsAmong (n, why.Child d) (of_children h ids d)
+info_child h ids d n c =
+    subst (λ (b : Bool). IsAmong (n, why.Child d) (if_searched h d b)) (sym searched)
+    (among_flat (of_entry d (body_of h.nodes d)) c.1 (n, why.Child d) (names_told (names_of (body_of h.nodes d))) (named c.1 n (body_of h.nodes d) c.5)
+    (why_among (entry_of c.1 (body_of h.nodes d)) (why.Child d) n c.5))
+  where
+    searched : searched_by ids (header_of h.nodes d) ≡ true
+    searched = ap (searched_by ids) c.2 ∙ and_true (is_dir c.0.kind) (could_with ids (bare c.0) Exec) (ap is_dir c.3) c.4
+
+-- by what the code asks
+
+pub searched : (a : Entries) {b : Entries} (h : NodeState) (ids : IdSets) (d : Name) (ns : List (List ℕ)) → true ≡ searched_by ids (header_of h.nodes d) → names_of (body_of h.nodes d) ≡ Ok ns → b ≡ gathered (flat_map (of_entry d (body_of h.nodes d)) ns) a → b ≡ gathered (of_children h ids d) a
+searched a {b} h ids d ns test told e =
+    e
+    ∙ (ap (λ (r : Result (List (List ℕ)) Errno). gathered (flat_map (of_entry d (body_of h.nodes d)) (names_told r)) a) (sym told)
+    ∙ ap (λ (c : Bool). gathered (if_searched h d c) a) test)
+
+pub unsearched : (h : NodeState) (ids : IdSets) (d : Name) (a : Entries) → false ≡ searched_by ids (header_of h.nodes d) → a ≡ gathered (of_children h ids d) a
+unsearched h ids d a test = ap (λ (c : Bool). gathered (if_searched h d c) a) test
+
+pub no_names : (h : NodeState) (ids : IdSets) (d : Name) (e : Errno) (a : Entries) → names_of (body_of h.nodes d) ≡ Err e → a ≡ gathered (of_children h ids d) a
+no_names h ids d e a told = go (searched_by ids (header_of h.nodes d)) refl
+  where
+    go : (b : Bool) → searched_by ids (header_of h.nodes d) ≡ b → a ≡ gathered (of_children h ids d) a
+    go true is =
+        ap (λ (r : Result (List (List ℕ)) Errno). gathered (flat_map (of_entry d (body_of h.nodes d)) (names_told r)) a) (sym told)
+        ∙ ap (λ (c : Bool). gathered (if_searched h d c) a) (sym is)
+    go false is = ap (λ (c : Bool). gathered (if_searched h d c) a) (sym is)
 
 -- an error that is not want of memory is the one that was to be answered
 pub other_error : {T : Type 0} (wanted : Result T Errno) (e : Errno) → is_no_memory e ≡ false → Meets wanted (Err e) → wanted ≡ Err e
 other_error wanted e other m = elim m [ inl is ↦ is | inr lacks ↦ absurd (true≢false (sym (ap is_no_memory lacks.0) ∙ other)) ]
 
--- rights
-
-pub starts : (h : NodeState) (s : PendingStart) (a b : Entries) → b ≡ found_more s.node why.Pending a → Collects (OfRights h (Start s.node ∷ [])) a b
-starts h s a b e = collects_some s.node why.Pending (Start s.node, inl refl, (refl, refl)) (λ n y p. only n y p.0 p.1 p.2) e
+-- the rights of a task: its start first, then those of its ports, then its inbox
+pub of_rights : (a : Entries) {b c d : Entries} (h : NodeState) (x : Task) → b ≡ gathered (flat_map (of_right h) (start_of x.pending)) a
+    → c ≡ gathered (flat_map (λ (p : Port). of_right h p.right) x.ports) b → d ≡ gathered (flat_map (of_right h) x.inbox) c → d ≡ gathered (flat_map (of_right h) (rights_of x)) a
+of_rights a {b} {c} {d} h x starting porting sent =
+    gathered_both a (flat_map (of_right h) (start_of x.pending)) (flat_map (λ (p : Port). of_right h p.right) x.ports ++ flat_map (of_right h) x.inbox) starting
+    (gathered_both b (flat_map (λ (p : Port). of_right h p.right) x.ports) (flat_map (of_right h) x.inbox) porting sent)
+    ∙ ap (λ (es : Entries). gathered es a) (sym joined)
   where
-    only : (n : Name) (y : Why) (r : Right) → IsAmong r (Start s.node ∷ []) → OfRight h r n y → (y ≡ why.Pending) × (n ≡ s.node)
-    only n y r (inl is) p = subst (λ (q : Right). OfRight h q n y) (sym is) p
-    only n y r (inr none) p = absurd none
+    joined : flat_map (of_right h) (rights_of x) ≡ flat_map (of_right h) (start_of x.pending) ++ (flat_map (λ (p : Port). of_right h p.right) x.ports ++ flat_map (of_right h) x.inbox)
+    joined =
+        flat_map-append (of_right h) (start_of x.pending) (map (λ p. p.right) x.ports ++ x.inbox)
+        ∙ ap (λ (es : Entries). flat_map (of_right h) (start_of x.pending) ++ es)
+        (flat_map-append (of_right h) (map (λ p. p.right) x.ports) x.inbox
+        ∙ ap (λ (es : Entries). es ++ flat_map (of_right h) x.inbox) (flat_map-map (of_right h) (λ (p : Port). p.right) x.ports))
 
-pub no_start : (h : NodeState) (a : Entries) → Collects (OfRights h []) a a
-no_start h a = collects_none a (λ n y p. p.1)
+pub of_io : (a : Entries) {b c : Entries} (h : NodeState) (r : IoRight) (ways : List Pair) → ways ≡ r.parents → b ≡ found_more r.node why.Held a → c ≡ gathered (flat_map of_way ways) b
+    → c ≡ gathered (of_right h (Io r)) a
+of_io a {b} h r ways is first rest =
+    rest ∙ (ap (λ (ps : List Pair). gathered (flat_map of_way ps) b) is ∙ ap (gathered (flat_map of_way r.parents)) first)
 
--- the rights of a task, its start first, then those of its ports, then its inbox
-pub of_rights : (h : NodeState) (x : Task) (a b c d : Entries) → Collects (OfRights h (start_of x.pending)) a b → Collects (OfPorts h x.ports) b c → Collects (OfRights h x.inbox) c d
-    → Collects (OfRights h (rights_of x)) a d
-of_rights h x a b c d starting porting sent = collects_as to from (collects_both starting (collects_both porting sent))
-  where
-    rest : List Right
-    rest = map (λ p. p.right) x.ports ++ x.inbox
+pub of_one : (a : Entries) {b : Entries} (h : NodeState) (q r : Right) → q ≡ r → b ≡ gathered (of_right h r) a → b ≡ gathered (of_right h q) a
+of_one a {b} h q r is e = subst (λ (z : Right). b ≡ gathered (of_right h z) a) (sym is) e
 
-    to : (n : Name) (y : Why) → OfRights h (start_of x.pending) n y ⊎ (OfPorts h x.ports n y ⊎ OfRights h x.inbox n y) → OfRights h (rights_of x) n y
-    to n y (inl p) = (p.0, among_left p.0 (start_of x.pending) (map (λ p. p.right) x.ports ++ x.inbox) p.1, p.2)
-    to n y (inr (inl p)) =
-        (p.0.right, among_right p.0.right (start_of x.pending) (map (λ p. p.right) x.ports ++ x.inbox) (among_left p.0.right (map (λ p. p.right) x.ports) x.inbox (among_map (λ (q : Port). q.right) p.0 x.ports p.1)), p.2)
-    to n y (inr (inr p)) = (p.0, among_right p.0 (start_of x.pending) (map (λ p. p.right) x.ports ++ x.inbox) (among_right p.0 (map (λ p. p.right) x.ports) x.inbox p.1), p.2)
+pub of_some : (a : Entries) {b : Entries} (h : NodeState) (x : Task) (o : Option Task) → Some x ≡ o → b ≡ gathered (flat_map (of_right h) (rights_of x)) a → b ≡ gathered (of_task h o) a
+of_some a {b} h x o is e = subst (λ (z : Option Task). b ≡ gathered (of_task h z) a) is e
 
-    from : (n : Name) (y : Why) → OfRights h (rights_of x) n y → OfRights h (start_of x.pending) n y ⊎ (OfPorts h x.ports n y ⊎ OfRights h x.inbox n y)
-    from n y p = elim (among_either p.0 (start_of x.pending) (map (λ p. p.right) x.ports ++ x.inbox) p.1) [
-      | inl s ↦ inl (p.0, s, p.2)
-      | inr r ↦ elim (among_either p.0 (map (λ p. p.right) x.ports) x.inbox r) [
-        | inl q ↦ let it = map_among (λ (z : Port). z.right) p.0 x.ports q in inr (inl (it.0, it.1, subst (λ (z : Right). OfRight h z n y) (sym it.2) p.2))
-        | inr q ↦ inr (inr (p.0, q, p.2))
-      ]
-    ]
-
--- what is shown of a right that is known
-pub of_right : (h : NodeState) (r q : Right) (a b : Entries) → q ≡ r → Collects (OfRight h r) a b → Collects (OfRight h q) a b
-of_right h r q a b is c = subst (λ z. Collects (OfRight h z) a b) (sym is) c
-
-pub of_io : (h : NodeState) (r : IoRight) (ways : List Pair) (a b c : Entries) → ways ≡ r.parents → b ≡ found_more r.node why.Held a → Collects (OfWays ways) b c → Collects (OfRight h (Io r)) a c
-of_io h r ways a b c is e ways_in = collects_both (collects_one r.node why.Held e) (subst (λ z. Collects (OfWays z) b c) is ways_in)
-
-pub of_start : (h : NodeState) (m : Name) (a b : Entries) → b ≡ found_more m why.Pending a → Collects (OfRight h (Start m)) a b
-of_start h m a b e = collects_one m why.Pending e
-
-pub of_task : (h : NodeState) (x : Task) (o : Option Task) (a b : Entries) → Some x ≡ o → Collects (OfRights h (rights_of x)) a b → Collects (OfTask h o) a b
-of_task h x o a b is c = subst (λ z. Collects (OfTask h z) a b) is c
-
-pub no_task : (h : NodeState) (o : Option Task) (a : Entries) → None ≡ o → Collects (OfTask h o) a a
-no_task h o a is = subst (λ z. Collects (OfTask h z) a a) is (collects_none a (λ n y p. p))
+pub of_none : (h : NodeState) (o : Option Task) (a : Entries) → None ≡ o → a ≡ gathered (of_task h o) a
+of_none h o a is = subst (λ (z : Option Task). a ≡ gathered (of_task h z) a) is refl
 
 -- all that a node shows
-pub of_node : (h : NodeState) (ids : IdSets) (m : Name) (a b c d e : Entries) → Collects (OfChild h ids m) a b → Collects (OfParent h m) b c → Collects (OfActive h m) c d → Collects (OfServer h ids m) d e
-    → Collects (OfNode h ids m) a e
-of_node h ids m a b c d e children parent active server = collects_both children (collects_both parent (collects_both active server))
+pub of_all : (a : Entries) {b c d e : Entries} (h : NodeState) (ids : IdSets) (m : Name) → b ≡ gathered (of_children h ids m) a → c ≡ gathered (of_parent h m) b → d ≡ gathered (of_active h m) c
+    → e ≡ gathered (of_server h ids m) d → e ≡ gathered (of_node h ids m) a
+of_all a {b} {c} h ids m children parent active server =
+    gathered_both a (of_children h ids m) (of_parent h m ++ (of_active h m ++ of_server h ids m)) children
+    (gathered_both b (of_parent h m) (of_active h m ++ of_server h ids m) parent (gathered_both c (of_active h m) (of_server h ids m) active server))

@@ -1,7 +1,8 @@
 -- Names that were gathered are those that a set of tasks has and knows, and by them its parts are told.
-use Rattle.std.proofs.Common.{◌≡◌, ◌≢◌, ◌∙◌, ◌⊎◌, inl, inr, sym, refl, ap, subst, ℕ, Bool, true, true≢false, List}
+use Rattle.std.proofs.Common.{◌≡◌, ◌≢◌, ◌∙◌, ◌⊎◌, inl, inr, sym, refl, ap, subst, ℕ, Bool, true, false, true≢false, List, [], ◌∷◌, if◌then◌else◌}
 use Rattle.std.specs.Prelude.{◌↔◌, ◌||◌, ◌&&◌, not, is_some, Option, Some, None, slice_get}
 use Rattle.std.specs.FinMap as fin
+use Rattle.std.specs.List.{flat_map}
 use Rattle.std.specs.Global.{Vec}
 use Rattle.std.proofs.lemmas.Bool.{or_cases, or_left, or_right, and_parts, and_from, not-true}
 use Rattle.hurd_creds.specs.declared.name.Name.{Name}
@@ -17,25 +18,48 @@ use Rattle.hurd_creds.proofs.NameLaws.{equal_if_same, same_name-itself, apart_if
 use Rattle.hurd_trans_iface.specs.Nodes.{Header, header_of, is_dir}
 use Rattle.hurd_nodes.specs.Shown.{ServerInfo, boot_name}
 use Rattle.hurd_ports.specs.declared.table.Opened.{Opened}
+use Rattle.hurd_ports.specs.Tables.{Task}
 use Rattle.hurd_ports.specs.declared.table.Right.{Right}
 use Rattle.hurd_ports.specs.declared.table.Right.TheVariants.{Io, Control, Start}
 use Rattle.hurd_machine.specs.World.{World, IsAmong, nodes_of, active_at, header_at, home_at, server_at}
 use Rattle.hurd_machine.specs.Sight.{Could, CouldServe, HasUid, Holds, OwnsIt, Seen, Sees, SeesBody, ToRead, ToSearch, IsOpen, SeesEmpty, ByBody, ByParent, Knows, OfNode, OfSeat, OfControl, MaySend, Sends, ByControl, ByNode, BySeat, bare}
-use Rattle.hurd_sight.specs.Reach.{Gathers, Reaches, Serves, among, could_with}
+use Rattle.hurd_sight.specs.Reach.{Gathers, Reaches, among, could_with, serves}
 use Rattle.hurd_sight.specs.Found.{FoundAll, IsSight, is_found}
 use Rattle.hurd_sight.specs.declared.found.Why.{Why}
 use Rattle.hurd_sight.specs.declared.held.RightNames.{RightNames}
 use Rattle.hurd_sight.specs.declared.looks.Sight.{Sight}
 use Rattle.hurd_sight.specs.declared.parts.SeenPart.TheVariants as seen
-use Rattle.hurd_sight.specs.Parts.{AreThose, ControlOfRight, HasOpen, HasRead, IsOf, KnownAt, KnownByNode, NamesAreSeen, OfEntries, OpenOfRight, ReadOfRight, RightOf, SendableAt, SentByNode, is_in, part_of, reads}
-use Rattle.hurd_sight.specs.Looks.{Looks, PartsAreSeen, could_write, reads_with, sees_with, tells_empty, writes_at}
+use Rattle.hurd_sight.specs.Parts.{HasOpen, HasRead, KnownByNode, SentByNode, control_of, is_in, known_at, maybe_named, named, no_names, of_found, open_of, owned_by, part_of, read_of, reads, rights_at, rights_held, sendable_at, served_by, served_in, with_rights}
+use Rattle.hurd_sight.specs.Looks.{Gathered, Looks, PartsAreSeen, could_write, reads_with, sees_with, tells_empty, writes_at}
 use Rattle.hurd_sight.proofs.CouldLaws.{could_is_enough}
-use Rattle.hurd_sight.proofs.ReachLaws.{any_found, found_any, listed_task, ours, reach_is_gathered}
+use Rattle.hurd_sight.proofs.ReachLaws.{any_found, found_any, listed_task, ours, reach_is_gathered, serves_is}
 use Rattle.hurd_sight.proofs.SightLaws.{found_is_seen}
-use Rattle.hurd_sight.proofs.FoundLaws.{Entries}
+use Rattle.hurd_sight.proofs.FoundLaws.{Entries, among_either, among_flat, among_left, among_right, flat_among}
+use Rattle.hurd_sight.proofs.NameLaws.{controls_with, named_are, opens_with, reads_with as all_read}
 
 pub both_ways : {A B C : Type 0} → (A ↔ B) → (B ↔ C) → (A ↔ C)
 both_ways x y = (λ a. y.0 (x.0 a), λ c. x.1 (y.1 c))
+
+-- names that were added to nothing are those of the list
+are_named : (ns xs : List Name) → ns ≡ named xs [] → (n : Name) → (is_in n ns ≡ true) ↔ IsAmong n xs
+are_named ns xs e n = subst (λ (ms : List Name). (is_in n ms ≡ true) ↔ IsAmong n xs) (sym e) (named_are n xs)
+
+maybe_among : (o : Option Name) (n : Name) → IsAmong n (maybe_named o) → o ≡ Some n
+maybe_among None n a = absurd a
+maybe_among (Some m) n (inl e) = ap (λ (x : Name). Some x) e
+maybe_among (Some m) n (inr none) = absurd none
+
+among_maybe : (o : Option Name) (n : Name) → o ≡ Some n → IsAmong n (maybe_named o)
+among_maybe o n is = subst (λ (x : Option Name). IsAmong n (maybe_named x)) (sym is) (inl refl)
+
+-- what is among one name, where a test holds
+if_among : (t : Bool) (m n : Name) → IsAmong n (if t then m ∷ [] else []) → (t ≡ true) × (m ≡ n)
+if_among true m n (inl e) = (refl, e)
+if_among true m n (inr none) = absurd none
+if_among false m n a = absurd a
+
+among_if : (t : Bool) (m n : Name) → t ≡ true → m ≡ n → IsAmong n (if t then m ∷ [] else [])
+among_if t m n is e = subst (λ (b : Bool). IsAmong n (if b then m ∷ [] else [])) (sym is) (inl e)
 
 module _ (w : World) (tasks : List TaskId) where
   abbrev S : ℕ → Bool
@@ -43,40 +67,62 @@ module _ (w : World) (tasks : List TaskId) where
 
   -- a right of one of the tasks is held by the set of them
 
-  held : (r : Right) → RightOf w.tasks tasks r → Holds S w r
-  held r p = record { task = p.0.0; ours = ours tasks p.0 p.2; seat = p.1; is_task = p.3; here = p.4 }
-
-  listed : (r : Right) → Holds S w r → RightOf w.tasks tasks r
-  listed r has = let it = listed_task tasks has.task has.ours in (it.0, has.seat, it.1, ap (slice_get w.tasks) it.2 ∙ has.is_task, has.here)
-
-  opens_seen : (o : Name) → ((r : Right) × RightOf w.tasks tasks r × OpenOfRight r o) ↔ HasOpen S w o
-  opens_seen o = (λ p. to p.0 p.1 p.2, λ h. (Io h.0, listed (Io h.0) h.1, sym h.2))
+  held : (q : Right) → IsAmong q (rights_held w.tasks tasks) → Holds S w q
+  held q a = let it = flat_among (λ (t : TaskId). rights_at (slice_get w.tasks t.0)) q tasks a in at it.0 it.1 (slice_get w.tasks it.0.0) refl it.2
     where
-      to : (r : Right) → RightOf w.tasks tasks r → OpenOfRight r o → HasOpen S w o
-      to (Io r) of is = (r, held (Io r) of, sym is)
-      to (Control s) of is = absurd is
-      to (Start n) of is = absurd is
+      at : (t : TaskId) → IsAmong t tasks → (o : Option Task) → slice_get w.tasks t.0 ≡ o → IsAmong q (rights_at o) → Holds S w q
+      at t here None is i = absurd i
+      at t here (Some x) is i = record { task = t.0; ours = ours tasks t here; seat = x; is_task = is; here = i }
+
+  listed : (q : Right) → Holds S w q → IsAmong q (rights_held w.tasks tasks)
+  listed q has =
+      let it = listed_task tasks has.task has.ours in
+      among_flat (λ (t : TaskId). rights_at (slice_get w.tasks t.0)) it.0 q tasks it.1
+      (subst (λ (o : Option Task). IsAmong q (rights_at o)) (sym (ap (slice_get w.tasks) it.2 ∙ has.is_task)) has.here)
+
+  opens_seen : (o : Name) → IsAmong o (flat_map open_of (rights_held w.tasks tasks)) ↔ HasOpen S w o
+  opens_seen o = (
+    λ a. let it = flat_among open_of o (rights_held w.tasks tasks) a in to it.0 (held it.0 it.1) it.2,
+    λ h. among_flat open_of (Io h.0) o (rights_held w.tasks tasks) (listed (Io h.0) h.1) (inl h.2),
+  )
+    where
+      to : (q : Right) → Holds S w q → IsAmong o (open_of q) → HasOpen S w o
+      to (Io r) has (inl e) = (r, has, e)
+      to (Io r) has (inr none) = absurd none
+      to (Control s) has a = absurd a
+      to (Start n) has a = absurd a
 
   -- an open that reads is there
   reading : (o : Option Opened) → reads o ≡ true → (x : Opened) × (o ≡ Some x) × (asks x.modes READ ≡ true)
   reading None e = absurd (true≢false (sym e))
   reading (Some x) e = (x, refl, e)
 
-  reads_seen : (n : Name) → ((r : Right) × RightOf w.tasks tasks r × ReadOfRight w.opens r n) ↔ HasRead S w n
-  reads_seen n = (λ p. to p.0 p.1 p.2, λ h. (Io h.0, listed (Io h.0) h.2, (ap reads h.4 ∙ h.5, h.3)))
+  reads_seen : (n : Name) → IsAmong n (flat_map (read_of w.opens) (rights_held w.tasks tasks)) ↔ HasRead S w n
+  reads_seen n = (
+    λ a. let it = flat_among (read_of w.opens) n (rights_held w.tasks tasks) a in to it.0 (held it.0 it.1) it.2,
+    λ h. among_flat (read_of w.opens) (Io h.0) n (rights_held w.tasks tasks) (listed (Io h.0) h.2)
+        (among_if (reads (fin.get w.opens h.0.open_name)) h.0.node n (ap reads h.4 ∙ h.5) (sym h.3)),
+  )
     where
-      to : (r : Right) → RightOf w.tasks tasks r → ReadOfRight w.opens r n → HasRead S w n
-      to (Io r) of is = let it = reading (fin.get w.opens r.open_name) is.0 in (r, it.0, held (Io r) of, is.1, it.1, it.2)
-      to (Control s) of is = absurd is
-      to (Start m) of is = absurd is
+      to : (q : Right) → Holds S w q → IsAmong n (read_of w.opens q) → HasRead S w n
+      to (Io r) has a =
+          let it = if_among (reads (fin.get w.opens r.open_name)) r.node n a in
+          let opened = reading (fin.get w.opens r.open_name) it.0 in
+          (r, opened.0, has, sym it.1, opened.1, opened.2)
+      to (Control s) has a = absurd a
+      to (Start m) has a = absurd a
 
-  controls_seen : (s : Name) → ((r : Right) × RightOf w.tasks tasks r × ControlOfRight r s) ↔ Holds S w (Control s)
-  controls_seen s = (λ p. to p.0 p.1 p.2, λ h. (Control s, listed (Control s) h, refl))
+  controls_seen : (s : Name) → IsAmong s (flat_map control_of (rights_held w.tasks tasks)) ↔ Holds S w (Control s)
+  controls_seen s = (
+    λ a. let it = flat_among control_of s (rights_held w.tasks tasks) a in to it.0 (held it.0 it.1) it.2,
+    λ h. among_flat control_of (Control s) s (rights_held w.tasks tasks) (listed (Control s) h) (inl refl),
+  )
     where
-      to : (r : Right) → RightOf w.tasks tasks r → ControlOfRight r s → Holds S w (Control s)
-      to (Io r) of is = absurd is
-      to (Control q) of is = subst (λ (z : Name). Holds S w (Control z)) (sym is) (held (Control q) of)
-      to (Start m) of is = absurd is
+      to : (q : Right) → Holds S w q → IsAmong s (control_of q) → Holds S w (Control s)
+      to (Io r) has a = absurd a
+      to (Control q) has (inl e) = subst (λ (z : Name). Holds S w (Control z)) e has
+      to (Control q) has (inr none) = absurd none
+      to (Start m) has a = absurd a
 
   module _ (ids : IdSets) (es : Entries) (r : Reaches S w ids) (sight : IsSight S w es) where
     -- a found node is a seen one
@@ -87,11 +133,28 @@ module _ (w : World) (tasks : List TaskId) where
     seen_entry : (n : Name) → Seen S w n → (e : Name × Why) × IsAmong e es × (e.0 ≡ n)
     seen_entry n sees = let it = any_found (λ (x : Name × Why). same_name n x.0) es ((sight.exact n).1 sees) in (it.0, it.1, sym (equal_if_same n it.0.0 it.2))
 
-    known_seen : (s : Name) → OfEntries es (KnownAt (nodes_of w)) s ↔ KnownByNode S w s
-    known_seen s = (
-      λ p. (p.0.0, entry_seen p.0 p.1, p.2),
-      λ k. let it = seen_entry k.0 k.1 in (it.0, it.1, subst (λ (n : Name). KnownAt (nodes_of w) n s) (sym it.2) k.2),
+    -- a name that is said of a found node is said of a seen one
+    of_seen : (f : Name → List Name) (s : Name) → IsAmong s (of_found f es) ↔ ((n : Name) × Seen S w n × IsAmong s (f n))
+    of_seen f s = (
+      λ a. let it = flat_among (λ (e : Name × Why). f e.0) s es a in (it.0.0, entry_seen it.0 it.1, it.2),
+      λ p. let it = seen_entry p.0 p.1 in among_flat (λ (e : Name × Why). f e.0) it.0 s es it.1 (subst (λ (n : Name). IsAmong s (f n)) (sym it.2) p.2),
     )
+
+    known_seen : (s : Name) → IsAmong s (of_found (known_at (nodes_of w)) es) ↔ KnownByNode S w s
+    known_seen s = (
+      λ a. let it = (of_seen (known_at (nodes_of w)) s).0 a in (it.0, it.1, to it.0 it.2),
+      λ k. (of_seen (known_at (nodes_of w)) s).1 (k.0, k.1, from k.0 k.2),
+    )
+      where
+        to : (n : Name) → IsAmong s (known_at (nodes_of w) n) → (home_at w n ≡ Some s) ⊎ (active_at w n ≡ Some s)
+        to n a = elim (among_either s (maybe_named (home_at w n)) (maybe_named (active_at w n)) a) [
+          | inl home ↦ inl (maybe_among (home_at w n) s home)
+          | inr active ↦ inr (maybe_among (active_at w n) s active)
+        ]
+
+        from : (n : Name) → (home_at w n ≡ Some s) ⊎ (active_at w n ≡ Some s) → IsAmong s (known_at (nodes_of w) n)
+        from n (inl home) = among_left s (maybe_named (home_at w n)) (maybe_named (active_at w n)) (among_maybe (home_at w n) s home)
+        from n (inr active) = among_right s (maybe_named (home_at w n)) (maybe_named (active_at w n)) (among_maybe (active_at w n) s active)
 
     owner : (h : Header) → (owns ids (bare h) ≡ true) ↔ OwnsIt S w h
     owner h = (to, from)
@@ -108,50 +171,100 @@ module _ (w : World) (tasks : List TaskId) where
           | inr root ↦ or_right (holds_uid ids h.owner) (is_root ids) ((r.uids 0).1 (subst (HasUid S w) root o.1))
         ]
 
-    serves : (i : ServerInfo) → Serves ids i.ids ↔ CouldServe S w i
-    serves i = (λ s. (s.0, (r.uids s.0).0 s.1, s.2), λ c. (c.0, (r.uids c.0).1 c.1, c.2))
-
-    sent_at : (n s : Name) → SendableAt (nodes_of w) ids n s
-        ↔ (((i : ServerInfo) × (home_at w n ≡ Some s) × (server_at w s ≡ Some i) × CouldServe S w i) ⊎ ((h : Header) × (active_at w n ≡ Some s) × (header_at w n ≡ Some h) × OwnsIt S w h))
-    sent_at n s = (
-      λ p. elim p [ inl q ↦ inl (q.0, q.1, q.2, (serves q.0).0 q.3) | inr q ↦ inr (q.0, q.2, q.1, (owner q.0).0 q.3) ],
-      λ p. elim p [ inl q ↦ inl (q.0, q.1, q.2, (serves q.0).1 q.3) | inr q ↦ inr (q.0, q.2, q.1, (owner q.0).1 q.3) ],
+    served : (i : ServerInfo) → (serves ids i.ids ≡ true) ↔ CouldServe S w i
+    served i = (
+      λ t. let s = (serves_is ids i.ids).0 t in (s.0, (r.uids s.0).0 s.1, s.2),
+      λ c. (serves_is ids i.ids).1 (c.0, (r.uids c.0).1 c.1, c.2),
     )
 
-    sent_seen : (s : Name) → OfEntries es (SendableAt (nodes_of w) ids) s ↔ SentByNode S w s
+    -- a server that may be sent away by a node
+    abbrev SentAt : Name → Name → Type 0
+    SentAt n s =
+        ((i : ServerInfo) × (home_at w n ≡ Some s) × (server_at w s ≡ Some i) × CouldServe S w i)
+        ⊎ ((h : Header) × (active_at w n ≡ Some s) × (header_at w n ≡ Some h) × OwnsIt S w h)
+
+    served_among : (n s : Name) → IsAmong s (served_in (nodes_of w) ids (home_at w n)) → (i : ServerInfo) × (home_at w n ≡ Some s) × (server_at w s ≡ Some i) × CouldServe S w i
+    served_among n s a = at (home_at w n) refl a
+      where
+        by : (q : Name) → home_at w n ≡ Some q → (p : Option ServerInfo) → server_at w q ≡ p → IsAmong s (served_by ids q p)
+            → (i : ServerInfo) × (home_at w n ≡ Some s) × (server_at w s ≡ Some i) × CouldServe S w i
+        by q home None is b = absurd b
+        by q home (Some i) is b =
+            let it = if_among (serves ids i.ids) q s b in
+            (i, home ∙ ap (λ (z : Name). Some z) it.1, ap (server_at w) (sym it.1) ∙ is, (served i).0 it.0)
+
+        at : (o : Option Name) → home_at w n ≡ o → IsAmong s (served_in (nodes_of w) ids o) → (i : ServerInfo) × (home_at w n ≡ Some s) × (server_at w s ≡ Some i) × CouldServe S w i
+        at None home b = absurd b
+        at (Some q) home b = by q home (server_at w q) refl b
+
+    owned_among : (n s : Name) → IsAmong s (owned_by ids (header_at w n) (active_at w n)) → (h : Header) × (active_at w n ≡ Some s) × (header_at w n ≡ Some h) × OwnsIt S w h
+    owned_among n s a = at (header_at w n) refl a
+      where
+        test : (h : Header) (t : Bool) → owns ids (bare h) ≡ t → IsAmong s (if t then maybe_named (active_at w n) else []) → (active_at w n ≡ Some s) × OwnsIt S w h
+        test h true is b = (maybe_among (active_at w n) s b, (owner h).0 is)
+        test h false is b = absurd b
+
+        at : (o : Option Header) → header_at w n ≡ o → IsAmong s (owned_by ids o (active_at w n)) → (h : Header) × (active_at w n ≡ Some s) × (header_at w n ≡ Some h) × OwnsIt S w h
+        at None is b = absurd b
+        at (Some h) is b = let it = test h (owns ids (bare h)) refl b in (h, it.0, is, it.1)
+
+    sent_at : (n s : Name) → IsAmong s (sendable_at (nodes_of w) ids n) ↔ SentAt n s
+    sent_at n s = (to, from)
+      where
+        to : IsAmong s (sendable_at (nodes_of w) ids n) → SentAt n s
+        to a = elim (among_either s (served_in (nodes_of w) ids (home_at w n)) (owned_by ids (header_at w n) (active_at w n)) a) [
+          | inl b ↦ inl (served_among n s b)
+          | inr b ↦ inr (owned_among n s b)
+        ]
+
+        from : SentAt n s → IsAmong s (sendable_at (nodes_of w) ids n)
+        from (inl p) =
+            among_left s (served_in (nodes_of w) ids (home_at w n)) (owned_by ids (header_at w n) (active_at w n))
+            (subst (λ (o : Option Name). IsAmong s (served_in (nodes_of w) ids o)) (sym p.1)
+            (subst (λ (o : Option ServerInfo). IsAmong s (served_by ids s o)) (sym p.2) (among_if (serves ids p.0.ids) s s ((served p.0).1 p.3) refl)))
+        from (inr p) =
+            among_right s (served_in (nodes_of w) ids (home_at w n)) (owned_by ids (header_at w n) (active_at w n))
+            (subst (λ (o : Option Header). IsAmong s (owned_by ids o (active_at w n))) (sym p.2)
+            (subst (λ (t : Bool). IsAmong s (if t then maybe_named (active_at w n) else [])) (sym ((owner p.0).1 p.3)) (among_maybe (active_at w n) s p.1)))
+
+    sent_seen : (s : Name) → IsAmong s (of_found (sendable_at (nodes_of w) ids) es) ↔ SentByNode S w s
     sent_seen s = (
-      λ p. (p.0.0, entry_seen p.0 p.1, (sent_at p.0.0 s).0 p.2),
-      λ k. let it = seen_entry k.0 k.1 in (it.0, it.1, subst (λ (n : Name). SendableAt (nodes_of w) ids n s) (sym it.2) ((sent_at k.0 s).1 k.2)),
+      λ a. let it = (of_seen (sendable_at (nodes_of w) ids) s).0 a in (it.0, it.1, (sent_at it.0 s).0 it.2),
+      λ k. (of_seen (sendable_at (nodes_of w) ids) s).1 (k.0, k.1, (sent_at k.0 s).1 k.2),
     )
-
-pub names_are_seen : NamesAreSeen
-names_are_seen w tasks ids es v known sendable r sight rights knows sends = (
-  λ o. both_ways (rights.opened o) (opens_seen w tasks o),
-  λ n. both_ways (rights.read n) (reads_seen w tasks n),
-  λ s. both_ways (rights.sent s) (controls_seen w tasks s),
-  λ s. both_ways (knows s) (known_seen w tasks ids es r sight s),
-  λ s. both_ways (sends s) (sent_seen w tasks ids es r sight s),
-)
 
 -- what was gathered of a world, all together
 pub looks_at : (w : World) (tasks : List TaskId) (kept : Vec TaskId) (ids : IdSets) (es : Entries) (v : RightNames) (known sendable : List Name) → kept.items ≡ tasks → Gathers w.tasks tasks ids
-    → FoundAll (nodes_of w) w.tasks ids tasks es → IsOf w.opens (RightOf w.tasks tasks) v
-    → AreThose known (OfEntries es (KnownAt (nodes_of w))) → AreThose sendable (OfEntries es (SendableAt (nodes_of w) ids))
+    → FoundAll (nodes_of w) w.tasks ids tasks es → v ≡ with_rights w.opens (rights_held w.tasks tasks) no_names
+    → known ≡ named (of_found (known_at (nodes_of w)) es) [] → sendable ≡ named (of_found (sendable_at (nodes_of w) ids) es) []
     → Looks (among tasks) w (record { tasks = kept; reach = ids; found = es; rights = v; known = known; sendable = sendable })
 looks_at w tasks kept ids es v known sendable same gathered all rights knows sends =
     let r = reach_is_gathered w tasks ids gathered in
     let sight = found_is_seen w tasks ids es r all in
-    let names = names_are_seen w tasks ids es v known sendable r sight rights knows sends in
+    let rs = rights_held w.tasks tasks in
     record {
       tasks = λ t. ap (λ (ts : List TaskId). among ts t) same;
       reach = r;
       found = sight;
-      opens = names.0;
-      readable = names.1;
-      controlled = names.2;
-      known = names.3;
-      sendable = names.4;
+      opens = λ o. both_ways (are_named v.opens (flat_map open_of rs) (ap (λ (x : RightNames). x.opens) rights ∙ opens_with w.opens rs no_names) o) (opens_seen w tasks o);
+      readable = λ n. both_ways (are_named v.readable (flat_map (read_of w.opens) rs) (ap (λ (x : RightNames). x.readable) rights ∙ all_read w.opens rs no_names) n) (reads_seen w tasks n);
+      controlled = λ s. both_ways (are_named v.controlled (flat_map control_of rs) (ap (λ (x : RightNames). x.controlled) rights ∙ controls_with w.opens rs no_names) s) (controls_seen w tasks s);
+      known = λ s. both_ways (are_named known (of_found (known_at (nodes_of w)) es) knows s) (known_seen w tasks ids es r sight s);
+      sendable = λ s. both_ways (are_named sendable (of_found (sendable_at (nodes_of w) ids) es) sends s) (sent_seen w tasks ids es r sight s);
     }
+
+-- and how
+pub gathered_at : (w : World) (tasks : List TaskId) (kept : Vec TaskId) (ids : IdSets) (es : Entries) (v : RightNames) (known sendable : List Name) → kept.items ≡ tasks
+    → FoundAll (nodes_of w) w.tasks ids tasks es → v ≡ with_rights w.opens (rights_held w.tasks tasks) no_names → known ≡ named (of_found (known_at (nodes_of w)) es) []
+    → (kept.items ≡ tasks) × Gathered w (record { tasks = kept; reach = ids; found = es; rights = v; known = known; sendable = sendable })
+gathered_at w tasks kept ids es v known sendable same all rights knows = (
+  same,
+  record {
+    found = subst (λ (ts : List TaskId). FoundAll (nodes_of w) w.tasks ids ts es) (sym same) all;
+    rights = rights ∙ ap (λ (ts : List TaskId). with_rights w.opens (rights_held w.tasks ts) no_names) (sym same);
+    known = knows;
+  },
+)
 
 -- which parts are seen
 

@@ -6,7 +6,8 @@ use Rattle.std.proofs.lemmas.Bool.{or_cases, or_left, or_right}
 use Rattle.std.proofs.lemmas.Bool.Decides.{nat_tests}
 use Rattle.std.proofs.lemmas.List.{take_more}
 use Rattle.std.proofs.lemmas.List.Folds.{list_any-append}
-use Rattle.std.specs.Ordering.{nat_cmp}
+use Rattle.std.specs.Ordering.{eq_by_cmp, nat_cmp}
+use Rattle.std.specs.Cmp.{unsigned_tied}
 use Rattle.std.specs.FinSet as set
 use Rattle.hurd_creds.specs.declared.name.TaskId.{TaskId}
 use Rattle.hurd_creds.specs.Access.{IdSet, IdSets, holds_gid, holds_uid, is_among}
@@ -18,7 +19,7 @@ use Rattle.hurd_ports.specs.declared.table.Right.TheVariants.{Io, Control, Start
 use Rattle.hurd_ports.specs.Tables.{Task, rights_of, start_of}
 use Rattle.hurd_machine.specs.World.{World, IsAmong, task_at}
 use Rattle.hurd_machine.specs.Sight.{HasUid, HasGid, UidOfTask, UidOfRight, GidOfTask, GidOfRight, Holds}
-use Rattle.hurd_sight.specs.Reach.{Gains, Gathers, ReachIsGathered, Serves, among, holds_at, right_holds, some_holds, task_holds}
+use Rattle.hurd_sight.specs.Reach.{Gains, Gathers, ReachIsGathered, Serves, among, holds_at, right_holds, serves, some_holds, task_holds}
 
 or_false : (a : Bool) → (a || false) ≡ a
 or_false true = refl
@@ -249,3 +250,32 @@ serves_one ids served us b same zeroless e = (to, from)
       | inl theirs ↦ by_uid s.0 s.1 theirs
       | inr zero_is ↦ absurd (true≢false (sym (ap (holds_uid ids) (sym zero_is) ∙ s.1) ∙ zeroless))
     ]
+
+-- one of a server's uids is held, or 0 is, exactly where the test says so
+pub serves_is : (ids served : IdSets) → (serves ids served ≡ true) ↔ Serves ids served
+serves_is ids served = (to, from)
+  where
+    here : (u : ℕ) → holds_uid served u ≡ list_any (eq_by_cmp nat_cmp u) (set.items served.uids)
+    here u = set.contains-items served.uids u
+
+    to : serves ids served ≡ true → Serves ids served
+    to is = elim (or_cases (holds_uid ids 0) (list_any (holds_uid ids) (set.items served.uids)) is) [
+      | inl root ↦ (0, root, inr refl)
+      | inr any ↦
+          let it = any_found (holds_uid ids) (set.items served.uids) any in
+          (it.0, it.2, inl (here it.0 ∙ found_any (eq_by_cmp nat_cmp it.0) (set.items served.uids) it.0 it.1 (unsigned_tied it.0 it.0 ∙ nat_eq-itself it.0)))
+    ]
+
+    from : Serves ids served → serves ids served ≡ true
+    from (u, holds, inr root) = or_left (holds_uid ids 0) (list_any (holds_uid ids) (set.items served.uids)) (ap (holds_uid ids) (sym root) ∙ holds)
+    from (u, holds, inl has) =
+        let it = any_found (eq_by_cmp nat_cmp u) (set.items served.uids) (sym (here u) ∙ has) in
+        let same : u ≡ it.0 = nat_eq-is u it.0 (sym (unsigned_tied u it.0) ∙ it.2) in
+        or_right (holds_uid ids 0) (list_any (holds_uid ids) (set.items served.uids))
+        (found_any (holds_uid ids) (set.items served.uids) it.0 it.1 (ap (holds_uid ids) (sym same) ∙ holds))
+
+-- two tests of one thing answer alike
+pub one_test : {P : Type 0} (a b : Bool) → (a ≡ true) ↔ P → (b ≡ true) ↔ P → a ≡ b
+one_test true b x y = sym (y.1 (x.0 refl))
+one_test false true x y = x.1 (y.0 refl)
+one_test false false x y = refl

@@ -1,25 +1,26 @@
 -- The nodes that a set of tasks sees, each with why.
-use Rattle.std.specs.Prelude.{◌≡◌, ◌⊎◌, ◌↔◌, ℕ, ◌≤◌, ◌&&◌, Bool, true, false, List, [], ◌∷◌, ◌++◌, if◌then◌else◌, Option, Some, None, slice_get, take, length}
-use Rattle.std.specs.List.{list_any}
+use Rattle.std.specs.Prelude.{◌≡◌, ◌⊎◌, ◌↔◌, ℕ, suc, ◌&&◌, Bool, true, false, List, [], ◌∷◌, ◌++◌, if◌then◌else◌, Option, Some, None, Result, Ok, Err, option_and_then, slice_get, take}
+use Rattle.std.specs.List.{flat_map, list_any}
+use Rattle.std.specs.Option.{option_map}
 use Rattle.std.specs.FinMap as fin
 use Rattle.hurd_creds.specs.declared.name.Name.{Name}
 use Rattle.hurd_creds.specs.declared.name.TaskId.{TaskId}
 use Rattle.hurd_creds.specs.declared.attrs.Kind.TheVariants.{Dir}
 use Rattle.hurd_creds.specs.declared.attrs.Want.TheVariants.{Exec}
+use Rattle.hurd_creds.specs.declared.errno.Errno.{Errno}
 use Rattle.hurd_creds.specs.Access.{IdSets}
 use Rattle.hurd_creds.specs.Names.{same_name}
-use Rattle.hurd_trans_iface.specs.Nodes.{Header, body_of, header_of, is_dir}
-use Rattle.hurd_trans_iface.specs.Answers.{entry_of}
+use Rattle.hurd_trans_iface.specs.Nodes.{Body, Header, body_of, header_of, is_dir}
+use Rattle.hurd_trans_iface.specs.Answers.{entry_of, names_of}
 use Rattle.hurd_nodes.specs.Shown.{NodeState, ServerInfo}
 use Rattle.hurd_ports.specs.declared.parents.Parent.{Parent as Pair}
 use Rattle.hurd_ports.specs.declared.table.IoRight.{IoRight}
-use Rattle.hurd_ports.specs.declared.table.Port.{Port}
 use Rattle.hurd_ports.specs.declared.table.Right.{Right}
 use Rattle.hurd_ports.specs.declared.table.Right.TheVariants.{Io, Control, Start}
 use Rattle.hurd_ports.specs.Tables.{Task, rights_of}
 use Rattle.hurd_machine.specs.World.{World, IsAmong, boot_root, nodes_of, active_at, body_at, header_at, home_at, server_at}
 use Rattle.hurd_machine.specs.Sight.{Could, CouldServe, Holds, Seen, bare}
-use Rattle.hurd_sight.specs.Reach.{Reaches, Serves, among, could_with}
+use Rattle.hurd_sight.specs.Reach.{Reaches, among, could_with, serves}
 use Rattle.hurd_sight.specs.declared.found.Why.{Why}
 use Rattle.hurd_sight.specs.declared.found.Why.TheVariants as why
 
@@ -62,112 +63,99 @@ IsBefore (Some d) es = is_found d es ≡ true
 abbrev pub found_more : Name → Why → List (Name × Why) → List (Name × Why)
 found_more n y es = if is_found n es then es else es ++ (n, y) ∷ []
 
--- nodes are added of which P says why, and all of which P says it are among those that there are then
-pub record Collects (P : Name → Why → Type 0) (old new : List (Name × Why)) : Type 0 where
-  pub more : List (Name × Why)
-  pub grown : new ≡ old ++ more
-  pub said : (n : Name) (y : Why) → IsAmong (n, y) more → P n y
-  pub all : (n : Name) (y : Why) → P n y → is_found n new ≡ true
+-- these are added, one after another
+abbrev pub gathered : List (Name × Why) → List (Name × Why) → List (Name × Why)
+gathered [] es = es
+gathered (x ∷ xs) es = gathered xs (found_more x.0 x.1 es)
+
+-- a node with why, if there is one
+abbrev pub with_why : Option Name → Why → List (Name × Why)
+with_why None y = []
+with_why (Some n) y = (n, y) ∷ []
 
 -- both nodes of a way
+abbrev pub of_way : Pair → List (Name × Why)
+of_way p = (p.at, why.Way) ∷ (p.parent, why.Way) ∷ []
 
-abbrev pub OfWay : Pair → Name → Why → Type 0
-OfWay p n y = (y ≡ why.Way) × ((n ≡ p.at) ⊎ (n ≡ p.parent))
-
-abbrev pub OfWays : List Pair → Name → Why → Type 0
-OfWays ps n y = (p : Pair) × IsAmong p ps × OfWay p n y
-
--- the root of a server that is controlled
-abbrev pub OfControl : NodeState → Name → Name → Why → Type 0
-OfControl h s n y = (i : ServerInfo) × (fin.get h.servers s ≡ Some i) × (y ≡ why.Controlled) × (n ≡ i.root)
+-- the root of a server that is there
+abbrev pub root_of : NodeState → Name → Option Name
+root_of h s = option_map (λ (i : ServerInfo). i.root) (fin.get h.servers s)
 
 -- what a right shows: its node and those of its ways; the root of the server that it controls; the node whose translator it is to start
-abbrev pub OfRight : NodeState → Right → Name → Why → Type 0
-OfRight h (Io r) n y = ((y ≡ why.Held) × (n ≡ r.node)) ⊎ OfWays r.parents n y
-OfRight h (Control s) n y = OfControl h s n y
-OfRight h (Start m) n y = (y ≡ why.Pending) × (n ≡ m)
+abbrev pub of_right : NodeState → Right → List (Name × Why)
+of_right h (Io r) = (r.node, why.Held) ∷ flat_map of_way r.parents
+of_right h (Control s) = with_why (root_of h s) why.Controlled
+of_right h (Start m) = (m, why.Pending) ∷ []
 
-abbrev pub OfRights : NodeState → List Right → Name → Why → Type 0
-OfRights h rs n y = (r : Right) × IsAmong r rs × OfRight h r n y
+-- what the rights of a task show, if it is there
+abbrev pub of_task : NodeState → Option Task → List (Name × Why)
+of_task h None = []
+of_task h (Some x) = flat_map (of_right h) (rights_of x)
 
--- what the rights of some ports show
-abbrev pub OfPorts : NodeState → List Port → Name → Why → Type 0
-OfPorts h ps n y = (p : Port) × IsAmong p ps × OfRight h p.right n y
+-- the root of the tree, and what the rights of some tasks show, one task after another
+abbrev pub of_tasks : NodeState → List Task → List TaskId → List (Name × Why)
+of_tasks h ts tasks = (boot_root, why.Root) ∷ flat_map (λ (t : TaskId). of_task h (slice_get ts t.0)) tasks
 
-abbrev pub OfTask : NodeState → Option Task → Name → Why → Type 0
-OfTask h None n y = ⊥
-OfTask h (Some x) n y = OfRights h (rights_of x) n y
+-- what the entry of this name names in a directory of this body
+abbrev pub of_entry : Name → Option Body → List ℕ → List (Name × Why)
+of_entry d b name = with_why (entry_of name b) (why.Child d)
 
--- what the rights of some tasks show
-abbrev pub OfTasks : NodeState → List Task → List TaskId → Name → Why → Type 0
-OfTasks h ts tasks n y = (t : TaskId) × IsAmong t tasks × OfTask h (slice_get ts t.0) n y
-
--- the root of the tree, and what the rights of some tasks show
-abbrev pub OfSeeds : NodeState → List Task → List TaskId → Name → Why → Type 0
-OfSeeds h ts tasks n y = ((y ≡ why.Root) × (n ≡ boot_root)) ⊎ OfTasks h ts tasks n y
-
--- what an entry of a directory names
-abbrev pub OfEntry : NodeState → Name → Name → Why → Type 0
-OfEntry h d n y = (y ≡ why.Child d) × (name : List ℕ) × (entry_of name (body_of h.nodes d) ≡ Some n)
-
--- and of a directory that could be searched with some of these ids
-abbrev pub OfChild : NodeState → IdSets → Name → Name → Why → Type 0
-OfChild h ids d n y = (x : Header) × (header_of h.nodes d ≡ Some x) × (x.kind ≡ Dir) × (could_with ids (bare x) Exec ≡ true) × OfEntry h d n y
-
--- what an entry of this name names, or one of these names
-abbrev pub OfName : NodeState → Name → List ℕ → Name → Why → Type 0
-OfName h d name n y = (y ≡ why.Child d) × (entry_of name (body_of h.nodes d) ≡ Some n)
-
-abbrev pub OfNames : NodeState → Name → List (List ℕ) → Name → Why → Type 0
-OfNames h d names n y = (name : List ℕ) × IsAmong name names × OfName h d name n y
+-- the names that are told, if any are
+abbrev pub names_told : Result (List (List ℕ)) Errno → List (List ℕ)
+names_told (Ok names) = names
+names_told (Err e) = []
 
 -- whether a node is a directory that could be searched with some of these ids
 abbrev pub searched_by : IdSets → Option Header → Bool
 searched_by ids None = false
 searched_by ids (Some x) = is_dir x.kind && could_with ids (bare x) Exec
 
+-- what the entries of a directory name that could be searched, in their order
+abbrev pub of_children : NodeState → IdSets → Name → List (Name × Why)
+of_children h ids d = if searched_by ids (header_of h.nodes d) then flat_map (of_entry d (body_of h.nodes d)) (names_told (names_of (body_of h.nodes d))) else []
+
 -- the parent that a header says
 abbrev pub parent_in : Option Header → Option Name
 parent_in None = None
 parent_in (Some x) = x.parent
 
-abbrev pub OfParent : NodeState → Name → Name → Why → Type 0
-OfParent h d n y = (x : Header) × (header_of h.nodes d ≡ Some x) × (x.parent ≡ Some n) × (y ≡ why.Parent d)
+abbrev pub of_parent : NodeState → Name → List (Name × Why)
+of_parent h d = with_why (parent_in (header_of h.nodes d)) (why.Parent d)
 
-abbrev pub OfActive : NodeState → Name → Name → Why → Type 0
-OfActive h m n y = (s : Name) × (i : ServerInfo) × (fin.get h.actives m ≡ Some s) × (fin.get h.servers s ≡ Some i) × (y ≡ why.Active m) × (n ≡ i.root)
+-- the root of the server that is active on a node
+abbrev pub of_active : NodeState → Name → List (Name × Why)
+of_active h m = with_why (option_and_then (root_of h) (fin.get h.actives m)) (why.Active m)
 
-abbrev pub OfServer : NodeState → IdSets → Name → Name → Why → Type 0
-OfServer h ids m n y =
-    (s : Name) × (i : ServerInfo) × (fin.get h.homes m ≡ Some s) × (fin.get h.servers s ≡ Some i) × Serves ids i.ids × (y ≡ why.ServerRoot m) × (n ≡ i.root)
+-- the root of a server that could be served
+abbrev pub root_served : IdSets → ServerInfo → Option Name
+root_served ids i = if serves ids i.ids then Some i.root else None
+
+abbrev pub served_root : NodeState → IdSets → Name → Option Name
+served_root h ids s = option_and_then (root_served ids) (fin.get h.servers s)
+
+-- the root of a node's server, where that could be served
+abbrev pub of_server : NodeState → IdSets → Name → List (Name × Why)
+of_server h ids m = with_why (option_and_then (served_root h ids) (fin.get h.homes m)) (why.ServerRoot m)
 
 -- what a seen node shows to those who can act with these ids
-abbrev pub OfNode : NodeState → IdSets → Name → Name → Why → Type 0
-OfNode h ids m n y = OfChild h ids m n y ⊎ (OfParent h m n y ⊎ (OfActive h m n y ⊎ OfServer h ids m n y))
+abbrev pub of_node : NodeState → IdSets → Name → List (Name × Why)
+of_node h ids m = of_children h ids m ++ (of_parent h m ++ (of_active h m ++ of_server h ids m))
 
--- the root of a node's server, where that is there and could be served, and none else
-pub record ServedRoot (h : NodeState) (ids : IdSets) (m : Name) (r : Option Name) : Type 0 where
-  pub found : (n : Name) → r ≡ Some n → OfServer h ids m n (why.ServerRoot m)
-  pub all : (n : Name) (y : Why) → OfServer h ids m n y → r ≡ Some n
+abbrev pub of_nodes : NodeState → IdSets → List (Name × Why) → List (Name × Why)
+of_nodes h ids es = flat_map (λ (e : Name × Why). of_node h ids e.0) es
 
--- nodes are added that those before them show, and whatever one of the first k of them shows is there
-pub record Following (h : NodeState) (ids : IdSets) (k : ℕ) (old new : List (Name × Why)) : Type 0 where
-  pub more : List (Name × Why)
-  pub grown : new ≡ old ++ more
-  pub said : (i : ℕ) (n : Name) (y : Why) → length old ≤ i → slice_get new i ≡ Some (n, y) → (m : Name) × (is_found m (take i new) ≡ true) × OfNode h ids m n y
-  pub closed : (m n : Name) (y : Why) → is_found m (take k new) ≡ true → OfNode h ids m n y → is_found n new ≡ true
-  pub within : k ≤ length new
+-- all that follows of some nodes: nothing else is shown by any of them, and each next one is what comes next of those that the ones before it show
+pub record Follows (h : NodeState) (ids : IdSets) (start es : List (Name × Why)) : Type 0 where
+  pub all : es ≡ gathered (of_nodes h ids es) start
+  pub next : (k : ℕ) → take (suc k) es ≡ take (suc k) (gathered (of_nodes h ids (take k es)) start)
 
--- and in the end, whatever one of them shows
-abbrev pub Follows : NodeState → IdSets → List (Name × Why) → List (Name × Why) → Type 0
-Follows h ids old new = Following h ids (length new) old new
-
--- all that is found: each is shown by a right, or is the root, or is shown by one that stands before it; and whatever is shown is there
+-- all that is found, in its order: what rights show, and what follows of that
 pub record FoundAll (h : NodeState) (ts : List Task) (ids : IdSets) (tasks : List TaskId) (es : List (Name × Why)) : Type 0 where
-  pub said : (i : ℕ) (n : Name) (y : Why) → slice_get es i ≡ Some (n, y)
-      → OfSeeds h ts tasks n y ⊎ ((m : Name) × (is_found m (take i es) ≡ true) × OfNode h ids m n y)
-  pub seeds : (n : Name) (y : Why) → OfSeeds h ts tasks n y → is_found n es ≡ true
-  pub closed : (m n : Name) (y : Why) → is_found m es ≡ true → OfNode h ids m n y → is_found n es ≡ true
+  pub follows : Follows h ids (gathered (of_tasks h ts tasks) []) es
+
+-- there is one such list
+abbrev pub FoundIsOne : Type 0
+FoundIsOne = (h : NodeState) (ids : IdSets) (start es fs : List (Name × Why)) → Follows h ids start es → Follows h ids start fs → es ≡ fs
 
 -- the nodes that S sees, and no others, each with a reason that holds, and behind the node from which it was found
 pub record IsSight (S : ℕ → Bool) (w : World) (es : List (Name × Why)) : Type 0 where

@@ -1,5 +1,5 @@
 -- Which parts of a world a set of tasks sees, by what was gathered when it was looked at.
-use Rattle.std.specs.Prelude.{◌≡◌, ◌↔◌, ℕ, ◌||◌, ◌&&◌, not, is_some, Bool, true, false, Option, Some, None}
+use Rattle.std.specs.Prelude.{◌≡◌, ◌↔◌, ℕ, [], ◌||◌, ◌&&◌, not, is_some, Bool, true, false, Option, Some, None}
 use Rattle.std.specs.FinMap as fin
 use Rattle.hurd_creds.specs.declared.name.Name.{Name}
 use Rattle.hurd_creds.specs.declared.attrs.Want.TheVariants.{Read, Write, Exec}
@@ -11,8 +11,8 @@ use Rattle.hurd_ports.specs.declared.table.Right.TheVariants.{Control}
 use Rattle.hurd_machine.specs.World.{World, nodes_of}
 use Rattle.hurd_machine.specs.Sight.{Holds, Sees, bare}
 use Rattle.hurd_sight.specs.Reach.{Reaches, among, could_with}
-use Rattle.hurd_sight.specs.Found.{IsSight, is_found}
-use Rattle.hurd_sight.specs.Parts.{AreThose, HasOpen, HasRead, KnownByNode, SentByNode, is_in, part_of}
+use Rattle.hurd_sight.specs.Found.{FoundAll, IsSight, is_found}
+use Rattle.hurd_sight.specs.Parts.{AreThose, HasOpen, HasRead, KnownByNode, SentByNode, is_in, known_at, named, no_names, of_found, part_of, rights_held, with_rights}
 use Rattle.hurd_sight.specs.declared.looks.Sight.{Sight}
 use Rattle.hurd_sight.specs.declared.parts.SeenPart.{SeenPart}
 use Rattle.hurd_sight.specs.declared.parts.SeenPart.TheVariants as seen
@@ -27,6 +27,12 @@ pub record Looks (S : ℕ → Bool) (w : World) (v : Sight) : Type 0 where
   pub controlled : AreThose v.rights.controlled (λ s. Holds S w (Control s))
   pub known : AreThose v.known (KnownByNode S w)
   pub sendable : AreThose v.sendable (SentByNode S w)
+
+-- how that was gathered: in the order of the tasks, and of what each of them has
+pub record Gathered (w : World) (v : Sight) : Type 0 where
+  pub found : FoundAll (nodes_of w) w.tasks v.reach v.tasks.items v.found
+  pub rights : v.rights ≡ with_rights w.opens (rights_held w.tasks v.tasks.items) no_names
+  pub known : v.known ≡ named (of_found (known_at (nodes_of w)) v.found) []
 
 -- whether a node of this header could be read, or searched if it is a directory, or is open to read
 abbrev pub reads_with : Sight → Name → Option Header → Bool

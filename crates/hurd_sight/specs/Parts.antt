@@ -1,6 +1,6 @@
 -- The parts of a world that a set of tasks sees, by sets of names.
-use Rattle.std.specs.Prelude.{◌≡◌, ◌⊎◌, ◌↔◌, ℕ, Bool, true, false, List, Option, Some, None, slice_get}
-use Rattle.std.specs.List.{list_any}
+use Rattle.std.specs.Prelude.{◌≡◌, ◌⊎◌, ◌↔◌, ℕ, Bool, true, false, List, [], ◌∷◌, ◌++◌, if◌then◌else◌, Option, Some, None, slice_get}
+use Rattle.std.specs.List.{flat_map, list_any}
 use Rattle.std.specs.FinMap as fin
 use Rattle.hurd_creds.specs.declared.name.Name.{Name}
 use Rattle.hurd_creds.specs.declared.name.TaskId.{TaskId}
@@ -16,8 +16,7 @@ use Rattle.hurd_ports.specs.declared.table.Right.TheVariants.{Io, Control, Start
 use Rattle.hurd_ports.specs.Tables.{OpenMap, Task, rights_of}
 use Rattle.hurd_machine.specs.World.{World, IsAmong, nodes_of, active_at, header_at, home_at, open_at, server_at}
 use Rattle.hurd_machine.specs.Sight.{CouldServe, Holds, OwnsIt, Part, AttrOf, EmptyOf, BodyOf, OpenOf, OptionsOf, UsersOf, TaskOf, Seen, bare}
-use Rattle.hurd_sight.specs.Reach.{Reaches, Serves, among}
-use Rattle.hurd_sight.specs.Found.{IsSight}
+use Rattle.hurd_sight.specs.Reach.{serves}
 use Rattle.hurd_sight.specs.declared.found.Why.{Why}
 use Rattle.hurd_sight.specs.declared.held.RightNames.{RightNames}
 use Rattle.hurd_sight.specs.declared.parts.SeenPart.{SeenPart}
@@ -41,11 +40,19 @@ is_in n ns = list_any (same_name n) ns
 abbrev pub AreThose : List Name → (Name → Type 0) → Type 0
 AreThose ns P = (n : Name) → (is_in n ns ≡ true) ↔ P n
 
--- names are added: all that P says, and no others
-pub record Adds (P : Name → Type 0) (old new : List Name) : Type 0 where
-  pub said : (n : Name) → is_in n new ≡ true → (is_in n old ≡ true) ⊎ P n
-  pub kept : (n : Name) → is_in n old ≡ true → is_in n new ≡ true
-  pub all : (n : Name) → P n → is_in n new ≡ true
+-- one name more, unless it is there
+abbrev pub named_more : Name → List Name → List Name
+named_more n ns = if is_in n ns then ns else ns ++ n ∷ []
+
+-- these names are added, one after another
+abbrev pub named : List Name → List Name → List Name
+named [] ns = ns
+named (x ∷ xs) ns = named xs (named_more x ns)
+
+-- a name, if there is one
+abbrev pub maybe_named : Option Name → List Name
+maybe_named None = []
+maybe_named (Some n) = n ∷ []
 
 -- an open that a right of S has
 abbrev pub HasOpen : (ℕ → Bool) → World → Name → Type 0
@@ -67,10 +74,10 @@ SentByNode S w s =
     ⊎ ((h : Header) × (active_at w n ≡ Some s) × (header_at w n ≡ Some h) × OwnsIt S w h))
 
 -- the open of a right
-abbrev pub OpenOfRight : Right → Name → Type 0
-OpenOfRight (Io r) o = o ≡ r.open_name
-OpenOfRight (Control s) o = ⊥
-OpenOfRight (Start n) o = ⊥
+abbrev pub open_of : Right → List Name
+open_of (Io r) = r.open_name ∷ []
+open_of (Control s) = []
+open_of (Start n) = []
 
 -- whether an open may be read from
 abbrev pub reads : Option Opened → Bool
@@ -78,69 +85,65 @@ reads None = false
 reads (Some o) = asks o.modes READ
 
 -- the node of a right that has it open to read
-abbrev pub ReadOfRight : OpenMap → Right → Name → Type 0
-ReadOfRight opens (Io r) n = (reads (fin.get opens r.open_name) ≡ true) × (n ≡ r.node)
-ReadOfRight opens (Control s) n = ⊥
-ReadOfRight opens (Start m) n = ⊥
+abbrev pub read_of : OpenMap → Right → List Name
+read_of opens (Io r) = if reads (fin.get opens r.open_name) then r.node ∷ [] else []
+read_of opens (Control s) = []
+read_of opens (Start m) = []
 
 -- the server that a right controls
-abbrev pub ControlOfRight : Right → Name → Type 0
-ControlOfRight (Io r) s = ⊥
-ControlOfRight (Control q) s = s ≡ q
-ControlOfRight (Start n) s = ⊥
+abbrev pub control_of : Right → List Name
+control_of (Io r) = []
+control_of (Control s) = s ∷ []
+control_of (Start n) = []
 
--- the names of the rights that Q picks are added
-pub record AddsRights (opens : OpenMap) (Q : Right → Type 0) (old new : RightNames) : Type 0 where
-  pub opened : Adds (λ o. (r : Right) × Q r × OpenOfRight r o) old.opens new.opens
-  pub read : Adds (λ n. (r : Right) × Q r × ReadOfRight opens r n) old.readable new.readable
-  pub sent : Adds (λ s. (r : Right) × Q r × ControlOfRight r s) old.controlled new.controlled
+-- the names of a right are added, and those of several
+abbrev pub with_right : OpenMap → Right → RightNames → RightNames
+with_right opens q v = record { opens = named (open_of q) v.opens; readable = named (read_of opens q) v.readable; controlled = named (control_of q) v.controlled }
 
--- the rights of some tasks
-abbrev pub RightOf : List Task → List TaskId → Right → Type 0
-RightOf ts tasks r = (t : TaskId) × (x : Task) × IsAmong t tasks × (slice_get ts t.0 ≡ Some x) × IsAmong r (rights_of x)
+abbrev pub with_rights : OpenMap → List Right → RightNames → RightNames
+with_rights opens [] v = v
+with_rights opens (q ∷ qs) v = with_rights opens qs (with_right opens q v)
 
--- a right of a task, if the task is there
-abbrev pub RightAt : Option Task → Right → Type 0
-RightAt None r = ⊥
-RightAt (Some x) r = IsAmong r (rights_of x)
+abbrev pub no_names : RightNames
+no_names = record { opens = []; readable = []; controlled = [] }
 
--- the names of all rights that Q picks, and no others
-pub record IsOf (opens : OpenMap) (Q : Right → Type 0) (v : RightNames) : Type 0 where
-  pub opened : AreThose v.opens (λ o. (r : Right) × Q r × OpenOfRight r o)
-  pub read : AreThose v.readable (λ n. (r : Right) × Q r × ReadOfRight opens r n)
-  pub sent : AreThose v.controlled (λ s. (r : Right) × Q r × ControlOfRight r s)
+-- the rights of a task, if it is there, and those of some tasks, one after another
+abbrev pub rights_at : Option Task → List Right
+rights_at None = []
+rights_at (Some x) = rights_of x
+
+abbrev pub rights_held : List Task → List TaskId → List Right
+rights_held ts tasks = flat_map (λ (t : TaskId). rights_at (slice_get ts t.0)) tasks
 
 -- of found nodes
 
--- what an entry says, if there is one
-abbrev pub AtEntry : Option (Name × Why) → (Name → Name → Type 0) → Name → Type 0
-AtEntry None P s = ⊥
-AtEntry (Some e) P s = P e.0 s
-
--- what one of some entries says
-abbrev pub OfEntries : List (Name × Why) → (Name → Name → Type 0) → Name → Type 0
-OfEntries es P s = (e : Name × Why) × IsAmong e es × P e.0 s
+-- what there is of an entry, if there is one
+abbrev pub at_entry : (Name → List Name) → Option (Name × Why) → List Name
+at_entry f None = []
+at_entry f (Some e) = f e.0
 
 -- the server of a node, and the one that is active on it
-abbrev pub KnownAt : NodeState → Name → Name → Type 0
-KnownAt h n s = (fin.get h.homes n ≡ Some s) ⊎ (fin.get h.actives n ≡ Some s)
+abbrev pub known_at : NodeState → Name → List Name
+known_at h n = maybe_named (fin.get h.homes n) ++ maybe_named (fin.get h.actives n)
 
--- the server of a node, where it is there and could be served with one of these uids
-abbrev pub ServedAt : NodeState → IdSets → Name → Name → Type 0
-ServedAt h ids n s = (i : ServerInfo) × (fin.get h.homes n ≡ Some s) × (fin.get h.servers s ≡ Some i) × Serves ids i.ids
+-- a server, where it is there and could be served with one of these uids
+abbrev pub served_by : IdSets → Name → Option ServerInfo → List Name
+served_by ids s None = []
+served_by ids s (Some i) = if serves ids i.ids then s ∷ [] else []
+
+abbrev pub served_in : NodeState → IdSets → Option Name → List Name
+served_in h ids None = []
+served_in h ids (Some s) = served_by ids s (fin.get h.servers s)
 
 -- the server that is active on a node whose owner is among these uids, or 0
-abbrev pub OwnedAt : NodeState → IdSets → Name → Name → Type 0
-OwnedAt h ids n s = (x : Header) × (header_of h.nodes n ≡ Some x) × (fin.get h.actives n ≡ Some s) × (owns ids (bare x) ≡ true)
+abbrev pub owned_by : IdSets → Option Header → Option Name → List Name
+owned_by ids None active = []
+owned_by ids (Some x) active = if owns ids (bare x) then maybe_named active else []
 
-abbrev pub SendableAt : NodeState → IdSets → Name → Name → Type 0
-SendableAt h ids n s = ServedAt h ids n s ⊎ OwnedAt h ids n s
+-- the servers of a node that may be sent away
+abbrev pub sendable_at : NodeState → IdSets → Name → List Name
+sendable_at h ids n = served_in h ids (fin.get h.homes n) ++ owned_by ids (header_of h.nodes n) (fin.get h.actives n)
 
--- the names of all rights, and of the servers of seen nodes, are those that S has and knows
-abbrev pub NamesAreSeen : Type 0
-NamesAreSeen =
-    (w : World) (tasks : List TaskId) (ids : IdSets) (es : List (Name × Why)) (v : RightNames) (known sendable : List Name)
-    → Reaches (among tasks) w ids → IsSight (among tasks) w es → IsOf w.opens (RightOf w.tasks tasks) v
-    → AreThose known (OfEntries es (KnownAt (nodes_of w))) → AreThose sendable (OfEntries es (SendableAt (nodes_of w) ids))
-    → AreThose v.opens (HasOpen (among tasks) w) × AreThose v.readable (HasRead (among tasks) w) × AreThose v.controlled (λ s. Holds (among tasks) w (Control s))
-    × AreThose known (KnownByNode (among tasks) w) × AreThose sendable (SentByNode (among tasks) w)
+-- those of all found nodes, one after another
+abbrev pub of_found : (Name → List Name) → List (Name × Why) → List Name
+of_found f es = flat_map (λ (e : Name × Why). f e.0) es

@@ -1,6 +1,7 @@
 -- The ids that a set of tasks may act with, and what it could do with them.
 use Rattle.std.specs.Prelude.{◌≡◌, ◌↔◌, ◌⊎◌, ℕ, ◌||◌, ◌&&◌, not, nat_eq, Bool, true, false, List, Option, Some, None, slice_get}
 use Rattle.std.specs.List.{list_any}
+use Rattle.std.specs.FinSet as set
 use Rattle.hurd_creds.specs.declared.name.TaskId.{TaskId}
 use Rattle.hurd_creds.specs.declared.attrs.Attrs.{Attrs}
 use Rattle.hurd_creds.specs.declared.attrs.Want.{Want}
@@ -49,6 +50,10 @@ pub record Gathers (ts : List Task) (tasks : List TaskId) (ids : IdSets) : Type 
 pub record Reaches (S : ℕ → Bool) (w : World) (ids : IdSets) : Type 0 where
   pub uids : (u : ℕ) → (holds_uid ids u ≡ true) ↔ HasUid S w u
   pub gids : (g : ℕ) → (holds_gid ids g ≡ true) ↔ HasGid S w g
+
+-- whether 0 is among these uids, or one of a server's
+abbrev pub serves : IdSets → IdSets → Bool
+serves ids served = holds_uid ids 0 || list_any (holds_uid ids) (set.items served.uids)
 
 -- one of these uids is a server's, or 0
 abbrev pub Serves : IdSets → IdSets → Type 0

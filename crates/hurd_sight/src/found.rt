@@ -1,13 +1,17 @@
 //! The nodes that a set of tasks sees, and why.
-ghost use Rattle.std.specs.Prelude.{◌≡◌, ◌<◌, ◌^◌, false, length, IfOk, OnOk, slice_get};
+ghost use Rattle.std.specs.Prelude.{◌≡◌, ◌<◌, ◌^◌, false, length, option_and_then, IfOk, OnOk, slice_get};
+ghost use Rattle.std.specs.FinMap as fin;
+ghost use Rattle.std.specs.List.{flat_map};
 ghost use Rattle.std.specs.Option.{option_map};
 ghost use Rattle.hurd_creds.specs.declared.name.Name.{Name};
+ghost use Rattle.hurd_creds.specs.declared.name.TaskId.{TaskId};
 ghost use Rattle.hurd_creds.specs.Memory.{is_no_memory};
-ghost use Rattle.hurd_trans_iface.specs.Nodes.{header_of, is_dir};
+ghost use Rattle.hurd_trans_iface.specs.Nodes.{body_of, header_of, is_dir};
 ghost use Rattle.hurd_nodes.specs.Shown.{shown};
 ghost use Rattle.hurd_ports.specs.Seats.{seat_task};
 ghost use Rattle.hurd_ports.specs.Tables.{rights_of, start_of};
-ghost use Rattle.hurd_sight.specs.Found.{Collects, Follows, FoundAll, FoundIsSeen, OfActive, OfChild, OfControl, OfEntry, OfName, OfNames, OfNode, OfParent, OfPorts, OfRight, OfRights, OfServer, OfTask, OfTasks, OfWay, OfWays, ServedRoot, found_more, is_found, parent_in, searched_by, why_of};
+ghost use Rattle.hurd_ports.specs.declared.table.Port.{Port};
+ghost use Rattle.hurd_sight.specs.Found.{Follows, FoundAll, FoundIsOne, FoundIsSeen, found_more, gathered, is_found, of_active, of_children, of_entry, of_node, of_parent, of_right, of_server, of_task, of_way, parent_in, root_of, searched_by, served_root, why_of, with_why};
 ghost use Rattle.hurd_sight.specs.declared.found.Why.{Why};
 
 use crate::reach::Reach;
@@ -141,7 +145,7 @@ impl Found {
         ports: &Ports,
         tasks: &[TaskId],
     ) -> Result<(), AllocError>
-        ensures { OnOk result (Collects (OfTasks (shown S.meaning nodes.now) ports.now.state.tasks tasks.now) self.old self.new) }
+        ensures { OnOk result (self.new ≡ gathered (flat_map (λ (t : TaskId). of_task (shown S.meaning nodes.now) (slice_get ports.now.state.tasks t.0)) tasks.now) self.old) }
     {
         for task in tasks {
             self.add_task(nodes, ports, *task)?;
@@ -156,7 +160,7 @@ impl Found {
         ports: &Ports,
         task: TaskId,
     ) -> Result<(), AllocError>
-        ensures { OnOk result (Collects (OfTask (shown S.meaning nodes.now) (slice_get ports.now.state.tasks task.0)) self.old self.new) }
+        ensures { OnOk result (self.new ≡ gathered (of_task (shown S.meaning nodes.now) (slice_get ports.now.state.tasks task.0)) self.old) }
     {
         match ports.seat(task) {
             Some(seat) => self.add_seat(nodes, seat),
@@ -166,7 +170,7 @@ impl Found {
 
     /// What the rights of a row show: those of its ports, those that it was sent, and its pending start.
     fn add_seat<S: Server>(&mut self, nodes: &Nodes<S>, seat: &TaskSeat) -> Result<(), AllocError>
-        ensures { OnOk result (Collects (OfRights (shown S.meaning nodes.now) (rights_of (seat_task seat.now))) self.old self.new) }
+        ensures { OnOk result (self.new ≡ gathered (flat_map (of_right (shown S.meaning nodes.now)) (rights_of (seat_task seat.now))) self.old) }
     {
         self.add_start(nodes, &seat.pending)?;
         self.add_ports(nodes, &seat.ports)?;
@@ -179,7 +183,7 @@ impl Found {
         _nodes: &Nodes<S>,
         pending: &Option<PendingStart>,
     ) -> Result<(), AllocError>
-        ensures { OnOk result (Collects (OfRights (shown S.meaning _nodes.now) (start_of pending.now)) self.old self.new) }
+        ensures { OnOk result (self.new ≡ gathered (flat_map (of_right (shown S.meaning _nodes.now)) (start_of pending.now)) self.old) }
     {
         match pending {
             Some(start) => self.add(start.node, Why::Pending),
@@ -189,7 +193,7 @@ impl Found {
 
     /// What the rights of these ports show.
     fn add_ports<S: Server>(&mut self, nodes: &Nodes<S>, ports: &[Port]) -> Result<(), AllocError>
-        ensures { OnOk result (Collects (OfPorts (shown S.meaning nodes.now) ports.now) self.old self.new) }
+        ensures { OnOk result (self.new ≡ gathered (flat_map (λ (p : Port). of_right (shown S.meaning nodes.now) p.right) ports.now) self.old) }
     {
         for port in ports {
             self.add_right(nodes, &port.right)?;
@@ -203,7 +207,7 @@ impl Found {
         nodes: &Nodes<S>,
         rights: &[Right],
     ) -> Result<(), AllocError>
-        ensures { OnOk result (Collects (OfRights (shown S.meaning nodes.now) rights.now) self.old self.new) }
+        ensures { OnOk result (self.new ≡ gathered (flat_map (of_right (shown S.meaning nodes.now)) rights.now) self.old) }
     {
         for right in rights {
             self.add_right(nodes, right)?;
@@ -213,7 +217,7 @@ impl Found {
 
     /// What a right shows.
     fn add_right<S: Server>(&mut self, nodes: &Nodes<S>, right: &Right) -> Result<(), AllocError>
-        ensures { OnOk result (Collects (OfRight (shown S.meaning nodes.now) right.now) self.old self.new) }
+        ensures { OnOk result (self.new ≡ gathered (of_right (shown S.meaning nodes.now) right.now) self.old) }
     {
         match right {
             Right::Io(right) => {
@@ -227,7 +231,7 @@ impl Found {
 
     /// Both nodes of each of these ways.
     fn add_ways(&mut self, ways: &[Parent]) -> Result<(), AllocError>
-        ensures { OnOk result (Collects (OfWays ways.now) self.old self.new) }
+        ensures { OnOk result (self.new ≡ gathered (flat_map of_way ways.now) self.old) }
     {
         for way in ways {
             self.add_way(*way)?;
@@ -237,7 +241,7 @@ impl Found {
 
     /// Both nodes of a way.
     fn add_way(&mut self, way: Parent) -> Result<(), AllocError>
-        ensures { OnOk result (Collects (OfWay way) self.old self.new) }
+        ensures { OnOk result (self.new ≡ gathered (of_way way) self.old) }
     {
         self.add(way.at, Why::Way)?;
         self.add(way.parent, Why::Way)
@@ -249,7 +253,7 @@ impl Found {
         nodes: &Nodes<S>,
         server: ServerName,
     ) -> Result<(), AllocError>
-        ensures { OnOk result (Collects (OfControl (shown S.meaning nodes.now) server) self.old self.new) }
+        ensures { OnOk result (self.new ≡ gathered (with_why (root_of (shown S.meaning nodes.now) server) Why.Controlled) self.old) }
     {
         match nodes.root_of(server) {
             Some(root) => self.add(root, Why::Controlled),
@@ -282,7 +286,7 @@ impl Found {
         reach: &Reach,
         node: NodeName,
     ) -> Result<(), AllocError>
-        ensures { OnOk result (Collects (OfNode (shown S.meaning nodes.now) reach.now node) self.old self.new) }
+        ensures { OnOk result (self.new ≡ gathered (of_node (shown S.meaning nodes.now) reach.now node) self.old) }
     {
         self.add_below(alloc, nodes, reach, node)?;
         self.add_parent(nodes, node)?;
@@ -298,7 +302,7 @@ impl Found {
         reach: &Reach,
         dir: NodeName,
     ) -> Result<(), AllocError>
-        ensures { OnOk result (Collects (OfChild (shown S.meaning nodes.now) reach.now dir) self.old self.new) }
+        ensures { OnOk result (self.new ≡ gathered (of_children (shown S.meaning nodes.now) reach.now dir) self.old) }
     {
         if !could_search(nodes, reach, dir) {
             return Ok(());
@@ -316,7 +320,7 @@ impl Found {
         dir: NodeName,
         names: &Names,
     ) -> Result<(), AllocError>
-        ensures { OnOk result (Collects (OfNames (shown S.meaning nodes.now) dir names.now) self.old self.new) }
+        ensures { OnOk result (self.new ≡ gathered (flat_map (of_entry dir (body_of (shown S.meaning nodes.now).nodes dir)) names.now) self.old) }
     {
         for name in names.as_slice() {
             self.add_entry(nodes, dir, name.as_slice())?;
@@ -331,7 +335,7 @@ impl Found {
         dir: NodeName,
         name: &[u8],
     ) -> Result<(), AllocError>
-        ensures { OnOk result (Collects (OfName (shown S.meaning nodes.now) dir name.now) self.old self.new) }
+        ensures { OnOk result (self.new ≡ gathered (of_entry dir (body_of (shown S.meaning nodes.now).nodes dir) name.now) self.old) }
     {
         match nodes.step(dir, name) {
             Some(node) => self.add(node, Why::Child(dir)),
@@ -341,7 +345,7 @@ impl Found {
 
     /// The parent of a directory that has one.
     fn add_parent<S: Server>(&mut self, nodes: &Nodes<S>, dir: NodeName) -> Result<(), AllocError>
-        ensures { OnOk result (Collects (OfParent (shown S.meaning nodes.now) dir) self.old self.new) }
+        ensures { OnOk result (self.new ≡ gathered (of_parent (shown S.meaning nodes.now) dir) self.old) }
     {
         match parent_of(nodes, dir) {
             Some(parent) => self.add(parent, Why::Parent(dir)),
@@ -351,7 +355,7 @@ impl Found {
 
     /// The root of the server that is active on a node.
     fn add_active<S: Server>(&mut self, nodes: &Nodes<S>, node: NodeName) -> Result<(), AllocError>
-        ensures { OnOk result (Collects (OfActive (shown S.meaning nodes.now) node) self.old self.new) }
+        ensures { OnOk result (self.new ≡ gathered (of_active (shown S.meaning nodes.now) node) self.old) }
     {
         let Some(server) = nodes.active(node) else {
             return Ok(());
@@ -369,7 +373,7 @@ impl Found {
         reach: &Reach,
         node: NodeName,
     ) -> Result<(), AllocError>
-        ensures { OnOk result (Collects (OfServer (shown S.meaning nodes.now) reach.now node) self.old self.new) }
+        ensures { OnOk result (self.new ≡ gathered (of_server (shown S.meaning nodes.now) reach.now node) self.old) }
     {
         match served_root(nodes, reach, node) {
             Some(root) => self.add(root, Why::ServerRoot(node)),
@@ -420,7 +424,7 @@ fn parent_of<S: Server>(nodes: &Nodes<S>, node: NodeName) -> Option<NodeName>
 
 /// The root of a node's server, if that is there, and could be served with one of these uids.
 fn served_root<S: Server>(nodes: &Nodes<S>, reach: &Reach, node: NodeName) -> Option<NodeName>
-    ensures { ServedRoot (shown S.meaning nodes.now) reach.now node result }
+    ensures { result ≡ option_and_then (served_root (shown S.meaning nodes.now) reach.now) (fin.get (shown S.meaning nodes.now).homes node) }
 {
     let server = nodes.home(node)?;
     let ids = nodes.ids_of(server)?;
@@ -431,7 +435,9 @@ fn served_root<S: Server>(nodes: &Nodes<S>, reach: &Reach, node: NodeName) -> Op
     }
 }
 
-/// A law: what is found from the rights of some tasks, with the ids that they reach, is what the set of these tasks sees.
+/// A law: what is found from the rights of some tasks, with the ids that they reach, is what the set of these tasks sees; and it is found in
+/// one way.
 pub fn found_is_seen()
-    ensures { FoundIsSeen }
+    ensures seen { FoundIsSeen }
+    ensures one { FoundIsOne }
 {}

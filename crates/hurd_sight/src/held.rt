@@ -1,13 +1,10 @@
 //! What the rights of a set of tasks name beside the nodes that they show: opens, nodes that are open to read, and servers.
 ghost use Rattle.std.specs.Prelude.{◌≡◌, IfOk, OnOk, map, slice_get};
 ghost use Rattle.std.specs.FinMap as fin;
-ghost use Rattle.hurd_creds.specs.declared.name.Name.{Name};
-ghost use Rattle.hurd_ports.specs.declared.table.Right.{Right};
 ghost use Rattle.hurd_ports.specs.declared.table.Right.TheVariants.{Io};
-ghost use Rattle.hurd_ports.specs.Tables.{Task, rights_of};
+ghost use Rattle.hurd_ports.specs.Tables.{rights_of};
 ghost use Rattle.hurd_ports.specs.Seats.{seat_task};
-ghost use Rattle.hurd_machine.specs.World.{IsAmong};
-ghost use Rattle.hurd_sight.specs.Parts.{Adds, AddsRights, IsOf, RightAt, RightOf, ReadOfRight, reads};
+ghost use Rattle.hurd_sight.specs.Parts.{named, no_names, read_of, reads, rights_at, rights_held, with_right, with_rights};
 
 use crate::names::NameSet;
 use hurd_creds::{OpenFlags, OpenName, TaskId};
@@ -29,7 +26,7 @@ impl RightNames {
         ports: &Ports,
         tasks: &[TaskId],
     ) -> Result<RightNames, AllocError>
-        ensures { IfOk result (λ names. IsOf ports.now.state.opens (RightOf ports.now.state.tasks tasks.now) names) }
+        ensures { IfOk result (λ names. names ≡ with_rights ports.now.state.opens (rights_held ports.now.state.tasks tasks.now) no_names) }
     {
         let mut names = RightNames {
             opens: NameSet::new(alloc),
@@ -44,7 +41,7 @@ impl RightNames {
 
     /// Those of a task, if it is there.
     fn add_task(&mut self, ports: &Ports, task: TaskId) -> Result<(), AllocError>
-        ensures { OnOk result (AddsRights ports.now.state.opens (RightAt (slice_get ports.now.state.tasks task.0)) self.old self.new) }
+        ensures { OnOk result (self.new ≡ with_rights ports.now.state.opens (rights_at (slice_get ports.now.state.tasks task.0)) self.old) }
     {
         match ports.seat(task) {
             Some(seat) => self.add_seat(ports, seat),
@@ -54,7 +51,7 @@ impl RightNames {
 
     /// Those of a row; a pending start names none.
     fn add_seat(&mut self, ports: &Ports, seat: &TaskSeat) -> Result<(), AllocError>
-        ensures { OnOk result (AddsRights ports.now.state.opens (λ r. IsAmong r (rights_of (seat_task seat.now))) self.old self.new) }
+        ensures { OnOk result (self.new ≡ with_rights ports.now.state.opens (rights_of (seat_task seat.now)) self.old) }
     {
         self.add_ports(ports, &seat.ports)?;
         self.add_rights(ports, &seat.inbox)
@@ -62,7 +59,7 @@ impl RightNames {
 
     /// Those of the rights of some ports.
     fn add_ports(&mut self, ports: &Ports, some: &[Port]) -> Result<(), AllocError>
-        ensures { OnOk result (AddsRights ports.now.state.opens (λ r. IsAmong r (map (λ p. p.right) some.now)) self.old self.new) }
+        ensures { OnOk result (self.new ≡ with_rights ports.now.state.opens (map (λ p. p.right) some.now) self.old) }
     {
         for port in some {
             self.add_right(ports, &port.right)?;
@@ -72,7 +69,7 @@ impl RightNames {
 
     /// Those of some rights.
     fn add_rights(&mut self, ports: &Ports, rights: &[Right]) -> Result<(), AllocError>
-        ensures { OnOk result (AddsRights ports.now.state.opens (λ r. IsAmong r rights.now) self.old self.new) }
+        ensures { OnOk result (self.new ≡ with_rights ports.now.state.opens rights.now self.old) }
     {
         for right in rights {
             self.add_right(ports, right)?;
@@ -82,7 +79,7 @@ impl RightNames {
 
     /// Those of a right.
     fn add_right(&mut self, ports: &Ports, right: &Right) -> Result<(), AllocError>
-        ensures { OnOk result (AddsRights ports.now.state.opens (λ r. right.now ≡ r) self.old self.new) }
+        ensures { OnOk result (self.new ≡ with_right ports.now.state.opens right.now self.old) }
     {
         match right {
             Right::Io(right) => {
@@ -96,7 +93,7 @@ impl RightNames {
 
     /// The node of a right, if it has that open to read.
     fn add_readable(&mut self, ports: &Ports, right: &IoRight) -> Result<(), AllocError>
-        ensures read { OnOk result (Adds (ReadOfRight ports.now.state.opens (Io right.now)) self.old.readable self.new.readable) }
+        ensures read { OnOk result (self.new.readable ≡ named (read_of ports.now.state.opens (Io right.now)) self.old.readable) }
         ensures others { OnOk result ((self.new.opens ≡ self.old.opens) × (self.new.controlled ≡ self.old.controlled)) }
     {
         if has_read(ports, right.open_name) {

@@ -4,7 +4,7 @@ ghost use Rattle.hurd_trans_iface.specs.Nodes.{Header, is_dir};
 ghost use Rattle.hurd_nodes.specs.Shown.{header_in, shown, told_header};
 ghost use Rattle.hurd_machine.specs.World.{world_from};
 ghost use Rattle.hurd_sight.specs.Parts.{is_in};
-ghost use Rattle.hurd_sight.specs.Looks.{Looks, PartsAreSeen, reads_with, sees_with, writes_at};
+ghost use Rattle.hurd_sight.specs.Looks.{Gathered, Looks, PartsAreSeen, reads_with, sees_with, writes_at};
 ghost use Rattle.hurd_sight.specs.Reach.{among};
 ghost use Rattle.hurd_sight.specs.declared.parts.SeenPart.TheVariants as seen;
 
@@ -41,7 +41,8 @@ impl Sight {
         ports: &Ports,
         tasks: &[TaskId],
     ) -> Result<Sight, AllocError>
-        ensures { IfOk result (λ sight. Looks (among tasks.now) (world_from (shown S.meaning nodes.now) ports.now.state) sight) }
+        ensures looks { IfOk result (λ sight. Looks (among tasks.now) (world_from (shown S.meaning nodes.now) ports.now.state) sight) }
+        ensures gathered { IfOk result (λ sight. (sight.tasks.items ≡ tasks.now) × Gathered (world_from (shown S.meaning nodes.now) ports.now.state) sight) }
     {
         let reach = Reach::of(alloc, ports, tasks)?;
         let found = Found::of(alloc, nodes, ports, &reach, tasks)?;

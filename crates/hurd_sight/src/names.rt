@@ -1,6 +1,6 @@
 //! Sets of names.
-ghost use Rattle.std.specs.Prelude.{◌≡◌, ◌++◌, ◌∷◌, [], if◌then◌else◌, length, slice_get, OnOk};
-ghost use Rattle.hurd_sight.specs.Parts.{is_in};
+ghost use Rattle.std.specs.Prelude.{◌≡◌, [], length, slice_get, OnOk};
+ghost use Rattle.hurd_sight.specs.Parts.{is_in, named_more};
 
 use hurd_creds::Name;
 use indexmap::IndexSet;
@@ -55,7 +55,7 @@ impl NameSet {
 
     /// One name more, unless it is there.
     pub(crate) fn add(&mut self, name: Name) -> Result<(), AllocError>
-        ensures { OnOk result (self.new ≡ (if is_in name self.old then self.old else self.old ++ name ∷ [])) }
+        ensures { OnOk result (self.new ≡ named_more name self.old) }
     {
         self.names.reserve(1)?;
         self.names.insert(name).unwrap();

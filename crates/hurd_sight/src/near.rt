@@ -1,7 +1,9 @@
 //! The servers of seen nodes: those that are known by them, and those that may be sent away by what is seen.
-ghost use Rattle.std.specs.Prelude.{◌≡◌, true, Some, IfOk, OnOk, slice_get};
+ghost use Rattle.std.specs.Prelude.{◌≡◌, [], if◌then◌else◌, IfOk, OnOk, slice_get};
+ghost use Rattle.std.specs.FinMap as fin;
+ghost use Rattle.hurd_trans_iface.specs.Nodes.{header_of};
 ghost use Rattle.hurd_nodes.specs.Shown.{shown};
-ghost use Rattle.hurd_sight.specs.Parts.{Adds, AreThose, AtEntry, KnownAt, OfEntries, OwnedAt, SendableAt, ServedAt};
+ghost use Rattle.hurd_sight.specs.Parts.{at_entry, known_at, maybe_named, named, named_more, of_found, owned_by, sendable_at, served_in};
 
 use crate::found::Found;
 use crate::names::NameSet;
@@ -17,7 +19,7 @@ pub(crate) fn known_servers<S: Server>(
     nodes: &Nodes<S>,
     found: &Found,
 ) -> Result<NameSet, AllocError>
-    ensures { IfOk result (λ names. AreThose names (OfEntries found.now (KnownAt (shown S.meaning nodes.now)))) }
+    ensures { IfOk result (λ names. names ≡ named (of_found (known_at (shown S.meaning nodes.now)) found.now) []) }
 {
     let mut names = NameSet::new(alloc);
     for i in 0..found.len() {
@@ -33,7 +35,7 @@ fn add_known<S: Server>(
     found: &Found,
     index: usize,
 ) -> Result<(), AllocError>
-    ensures { OnOk result (Adds (AtEntry (slice_get found.now index) (KnownAt (shown S.meaning nodes.now))) names.old names.new) }
+    ensures { OnOk result (names.new ≡ named (at_entry (known_at (shown S.meaning nodes.now)) (slice_get found.now index)) names.old) }
 {
     match found.get(index) {
         Some((node, _)) => add_both(names, nodes, node),
@@ -47,7 +49,7 @@ fn add_both<S: Server>(
     nodes: &Nodes<S>,
     node: NodeName,
 ) -> Result<(), AllocError>
-    ensures { OnOk result (Adds (KnownAt (shown S.meaning nodes.now) node) names.old names.new) }
+    ensures { OnOk result (names.new ≡ named (known_at (shown S.meaning nodes.now) node) names.old) }
 {
     add_maybe(names, nodes.home(node))?;
     add_maybe(names, nodes.active(node))
@@ -55,7 +57,7 @@ fn add_both<S: Server>(
 
 /// A name, if there is one.
 fn add_maybe(names: &mut NameSet, name: Option<Name>) -> Result<(), AllocError>
-    ensures { OnOk result (Adds (λ n. name ≡ Some n) names.old names.new) }
+    ensures { OnOk result (names.new ≡ named (maybe_named name) names.old) }
 {
     match name {
         Some(name) => names.add(name),
@@ -70,7 +72,7 @@ pub(crate) fn sendable_servers<S: Server>(
     reach: &Reach,
     found: &Found,
 ) -> Result<NameSet, AllocError>
-    ensures { IfOk result (λ names. AreThose names (OfEntries found.now (SendableAt (shown S.meaning nodes.now) reach.now))) }
+    ensures { IfOk result (λ names. names ≡ named (of_found (sendable_at (shown S.meaning nodes.now) reach.now) found.now) []) }
 {
     let mut names = NameSet::new(alloc);
     for i in 0..found.len() {
@@ -87,7 +89,7 @@ fn add_sendable<S: Server>(
     found: &Found,
     index: usize,
 ) -> Result<(), AllocError>
-    ensures { OnOk result (Adds (AtEntry (slice_get found.now index) (SendableAt (shown S.meaning nodes.now) reach.now)) names.old names.new) }
+    ensures { OnOk result (names.new ≡ named (at_entry (sendable_at (shown S.meaning nodes.now) reach.now) (slice_get found.now index)) names.old) }
 {
     match found.get(index) {
         Some((node, _)) => add_sent(names, nodes, reach, node),
@@ -102,7 +104,7 @@ fn add_sent<S: Server>(
     reach: &Reach,
     node: NodeName,
 ) -> Result<(), AllocError>
-    ensures { OnOk result (Adds (SendableAt (shown S.meaning nodes.now) reach.now node) names.old names.new) }
+    ensures { OnOk result (names.new ≡ named (sendable_at (shown S.meaning nodes.now) reach.now node) names.old) }
 {
     add_served(names, nodes, reach, node)?;
     add_owned(names, nodes, reach, node)
@@ -115,7 +117,7 @@ fn add_served<S: Server>(
     reach: &Reach,
     node: NodeName,
 ) -> Result<(), AllocError>
-    ensures { OnOk result (Adds (ServedAt (shown S.meaning nodes.now) reach.now node) names.old names.new) }
+    ensures { OnOk result (names.new ≡ named (served_in (shown S.meaning nodes.now) reach.now (fin.get (shown S.meaning nodes.now).homes node)) names.old) }
 {
     let Some(server) = nodes.home(node) else {
         return Ok(());
@@ -133,7 +135,7 @@ fn add_owned<S: Server>(
     reach: &Reach,
     node: NodeName,
 ) -> Result<(), AllocError>
-    ensures { OnOk result (Adds (OwnedAt (shown S.meaning nodes.now) reach.now node) names.old names.new) }
+    ensures { OnOk result (names.new ≡ named (owned_by reach.now (header_of (shown S.meaning nodes.now).nodes node) (fin.get (shown S.meaning nodes.now).actives node)) names.old) }
 {
     let Some(attrs) = nodes.attrs(node) else {
         return Ok(());
@@ -146,7 +148,7 @@ fn add_owned<S: Server>(
 
 /// A name, where the test holds.
 fn add_if(names: &mut NameSet, name: Name, test: bool) -> Result<(), AllocError>
-    ensures { OnOk result (Adds (λ n. (test ≡ true) × (n ≡ name)) names.old names.new) }
+    ensures { OnOk result (names.new ≡ (if test then named_more name names.old else names.old)) }
 {
     if test { names.add(name) } else { Ok(()) }
 }

@@ -5,7 +5,7 @@ ghost use Rattle.std.specs.FinSet as set;
 ghost use Rattle.indexmap.specs.IndexSet.{index_set_len};
 ghost use Rattle.hurd_creds.specs.Access.{has_no_uids, holds_gid, holds_uid, is_among, owns};
 ghost use Rattle.hurd_ports.specs.Seats.{seat_task};
-ghost use Rattle.hurd_sight.specs.Reach.{CouldIsEnough, Gains, Gathers, ReachIsGathered, Serves, could_with, holds_at, others_or_group, right_holds, task_holds};
+ghost use Rattle.hurd_sight.specs.Reach.{CouldIsEnough, Gains, Gathers, ReachIsGathered, Serves, could_with, holds_at, others_or_group, right_holds, serves, task_holds};
 
 use bitflags::Flags;
 use hurd_creds::{Attrs, Ids, Mode, TaskId, Want, group_bit, others_bit, unknown_bit};
@@ -143,7 +143,8 @@ impl Reach {
 
     /// Whether a uid of a server of these ids is among the uids, or 0 is.
     pub fn could_serve(&self, ids: &Ids) -> bool
-        ensures { IsTrue result ↔ Serves self.now ids.now }
+        ensures test { result ≡ serves self.now ids.now }
+        ensures means { IsTrue result ↔ Serves self.now ids.now }
     {
         self.holds_uid(0) || self.holds_any(ids.uids())
     }

@@ -2,3 +2,4 @@ pub mod LearnerLaws
 pub mod StepLaws
 pub mod Following
 pub mod ListLaws
+pub mod OneText

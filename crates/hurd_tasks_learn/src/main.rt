@@ -8,6 +8,7 @@
 //! far as that can be written.
 #![tactic(auto)]
 
+mod laws;
 mod learners;
 mod run;
 mod steps;

@@ -4,3 +4,4 @@ pub mod ProgramLaws
 pub mod ShownLaws
 pub mod SeenLaws
 pub mod LookLaws
+pub mod OneText

@@ -3,7 +3,7 @@ use Rattle.std.specs.Prelude.{◌≡◌, ◌≢◌, ◌⊎◌, ℕ, Bool, true, 
 use Rattle.std.specs.Io.KnownBytes.{Appends}
 use Rattle.hurd_creds.specs.declared.errno.Errno.{Errno}
 use Rattle.hurd_creds.specs.declared.name.TaskId.{TaskId}
-use Rattle.hurd_terminal.specs.Faults.{AppendsFront, Says, line_of, status_of}
+use Rattle.hurd_terminal.specs.Faults.{AppendsFront, IsFront, Says, line_of, status_of}
 use Rattle.hurd_terminal.specs.Runs.{Blames}
 use Rattle.hurd_terminal.specs.declared.fault.Fault.{Fault}
 use Rattle.hurd_terminal.specs.declared.fault.Fault.TheVariants.{Read, Write, Bad, Boot, Memory}
@@ -37,6 +37,11 @@ IsAll p text printed = (learners : Learners) × AreNamed (p.named text) p.called
 -- a front of it
 abbrev pub IsPart : Teaching → List ℕ → List ℕ → Type 0
 IsPart p text printed = (learners : Learners) × AreNamed (p.named text) p.called (p.looks text) learners × Front (p.doings text learners) learners printed
+
+-- such a program prints one text of each: all that is printed of a text for those who are named is one, and any part of it is a front of that
+pub record PrintsOneText (p : Teaching) : Type 0 where
+  pub one : (text s t : List ℕ) → IsAll p text s → IsAll p text t → s ≡ t
+  pub front : (text s t : List ℕ) → IsPart p text s → IsAll p text t → IsFront s t
 
 -- what is printed of a text, by how that ends: `true` where all is; nothing where somebody is named who isn't known, of a bad text, or
 -- where no world was begun

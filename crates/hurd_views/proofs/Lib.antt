@@ -1,3 +1,4 @@
+pub mod RowLaws
 pub mod ViewLaws
 pub mod ToldLaws
-pub mod RowLaws
+pub mod OneView

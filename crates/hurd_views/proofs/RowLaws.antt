@@ -6,7 +6,7 @@ use Rattle.std.specs.FinMap as fin
 use Rattle.std.specs.Map.{lookup}
 use Rattle.std.specs.Option.{option_map}
 use Rattle.std.proofs.lemmas.Bool.{or_cases, or_left, or_right}
-use Rattle.std.proofs.lemmas.List.{take_more}
+use Rattle.std.proofs.lemmas.List.{map-append, take_more}
 use Rattle.std.proofs.lemmas.Option.{get_or_from_slice_get, slice_get_cases}
 use Rattle.std.proofs.lemmas.List.Folds.{list_any-append}
 use Rattle.indexmap.specs.IndexMap.{insert_entry}
@@ -14,11 +14,14 @@ use Rattle.hurd_creds.specs.declared.name.Name.{Name}
 use Rattle.hurd_creds.specs.Names.{same_name}
 use Rattle.hurd_creds.proofs.NameLaws.{equal_if_same, same_name-itself}
 use Rattle.hurd_nodes.specs.Shown.{boot_name}
-use Rattle.hurd_machine.specs.World.{World}
+use Rattle.hurd_machine.specs.World.{World, IsAmong}
 use Rattle.hurd_sight.specs.Found.{is_found}
 use Rattle.hurd_sight.specs.Looks.{Looks}
-use Rattle.hurd_sight.specs.Parts.{is_in}
-use Rattle.hurd_views.specs.Views.{Fills, has_row, is_name_at, is_node_at, no_row, or_no_row, row_at, row_of}
+use Rattle.hurd_sight.specs.Parts.{is_in, maybe_named, named, named_more}
+use Rattle.hurd_sight.proofs.FoundLaws.{among_left, among_map, among_right}
+use Rattle.hurd_sight.proofs.NameLaws.{named-append, named_are}
+use Rattle.hurd_sight.proofs.ReachLaws.{any_found}
+use Rattle.hurd_views.specs.Views.{Fills, has_row, name_found, names_found, names_seen, no_row, or_no_row, row_at, row_of, rows_for}
 use Rattle.hurd_sight.specs.declared.found.Why.{Why}
 use Rattle.hurd_sight.specs.declared.looks.Sight.{Sight}
 use Rattle.hurd_views.specs.declared.rows.Row.{Row}
@@ -52,50 +55,34 @@ not_both n k m is apart = go (same_name n k) refl
     go true e =
         absurd (true≢false (sym (ap (λ (x : Name). same_name x m) (sym (equal_if_same n k e)) ∙ is) ∙ apart))
 
--- a row is put under its name, in the place of what was there
-row_put : (es : Kept) (k : Name) (r : Row) (n : Name) → row_at (insert_entry same_name es k r) n ≡ (if same_name n k then r else row_at es n)
-row_put [] k r n = refl
-row_put (e ∷ es) k r n = go (same_name k e.0) refl (row_put es k r n)
+-- the row of a name goes behind the others, unless it is there
+put_row : (w : World) (v : Sight) (n : Name) (ms : List Name) → insert_entry same_name (rows_for w v ms) n (row_of w v n) ≡ rows_for w v (named_more n ms)
+put_row w v n [] = refl
+put_row w v n (m ∷ ms) = go (same_name n m) refl (put_row w v n ms)
   where
-    there : (b : Bool) → (if b then r else row_at es n) ≡ (if b then r else (if b then e.1 else row_at es n))
-    there true = refl
-    there false = refl
+    past : (b : Bool) → rows_for w v (m ∷ (if b then ms else ms ++ n ∷ [])) ≡ rows_for w v (if b then m ∷ ms else (m ∷ ms) ++ n ∷ [])
+    past true = refl
+    past false = refl
 
-    past : (b c : Bool) → same_name n e.0 ≡ b → same_name n k ≡ c → same_name k e.0 ≡ false → (if b then e.1 else (if c then r else row_at es n)) ≡ (if c then r else (if b then e.1 else row_at es n))
-    past true true is at apart = absurd (true≢false (sym at ∙ not_both n k e.0 is apart))
-    past true false is at apart = refl
-    past false c is at apart = refl
+    go : (b : Bool) → same_name n m ≡ b → insert_entry same_name (rows_for w v ms) n (row_of w v n) ≡ rows_for w v (named_more n ms)
+        → insert_entry same_name (rows_for w v (m ∷ ms)) n (row_of w v n) ≡ rows_for w v (named_more n (m ∷ ms))
+    go true is rest = rw is (ap (λ (q : Name). (m, row_of w v q) ∷ rows_for w v ms) (equal_if_same n m is))
+    go false is rest = rw is (ap (λ (es : Kept). (m, row_of w v m) ∷ es) rest ∙ past (is_in n ms))
 
-    go : (b : Bool) → same_name k e.0 ≡ b → row_at (insert_entry same_name es k r) n ≡ (if same_name n k then r else row_at es n)
-        → row_at (insert_entry same_name (e ∷ es) k r) n ≡ (if same_name n k then r else row_at (e ∷ es) n)
-    go true is rest = rw is (subst (λ (m : Name). (if same_name n m then r else row_at es n) ≡ (if same_name n k then r else (if same_name n m then e.1 else row_at es n))) (equal_if_same k e.0 is) (there (same_name n k)))
-    go false is rest = rw is (ap (λ (x : Row). if same_name n e.0 then e.1 else x) rest ∙ past (same_name n e.0) (same_name n k) refl refl is)
-
--- the row of a name is put under it
-pub row_filled : (w : World) (v : Sight) (a b c : Kept) (k : Name) (r : Row) → r ≡ row_of w v k → b ≡ a → c ≡ insert_entry same_name b k r → Fills w v (λ n. same_name n k) a c
-row_filled w v a b c k r is same put n =
-    ap (λ (es : Kept). row_at es n) (put ∙ ap (λ (es : Kept). insert_entry same_name es k r) same)
-    ∙ (row_put a k r n ∙ go (same_name n k) refl)
-  where
-    go : (t : Bool) → same_name n k ≡ t → (if same_name n k then r else row_at a n) ≡ (if same_name n k then row_of w v n else row_at a n)
-    go true e = rw e (is ∙ ap (row_of w v) (sym (equal_if_same n k e)))
-    go false e = rw e refl
+pub row_filled : (w : World) (v : Sight) (a b c : Kept) (k : Name) (r : Row) → r ≡ row_of w v k → b ≡ a → c ≡ insert_entry same_name b k r → Fills w v (k ∷ []) a c
+row_filled w v a b c k r is same put ms e =
+    put ∙ (ap (λ (es : Kept). insert_entry same_name es k r) (same ∙ e) ∙ (ap (insert_entry same_name (rows_for w v ms) k) is ∙ put_row w v k ms))
 
 -- names, one after another
 
-pub fills_none : (w : World) (v : Sight) (p : Name → Bool) (a : Kept) → ((n : Name) → p n ≡ false) → Fills w v p a a
-fills_none w v p a none n = rw (none n) refl
+pub fills_none : (w : World) (v : Sight) (a : Kept) → Fills w v [] a a
+fills_none w v a ms e = e
 
-pub fills_as : (a b : Kept) (w : World) (v : Sight) (p q : Name → Bool) → ((n : Name) → p n ≡ q n) → Fills w v p a b → Fills w v q a b
-fills_as a b w v p q same fills n = fills n ∙ ap (λ (t : Bool). if t then row_of w v n else row_at a n) (same n)
+pub fills_both : (a b c : Kept) (w : World) (v : Sight) (xs ys : List Name) → Fills w v xs a b → Fills w v ys b c → Fills w v (xs ++ ys) a c
+fills_both a b c w v xs ys x y ms e = y (named xs ms) (x ms e) ∙ ap (rows_for w v) (sym (named-append xs ys ms))
 
-pub fills_both : (a b c : Kept) (w : World) (v : Sight) (p q : Name → Bool) → Fills w v p a b → Fills w v q b c → Fills w v (λ n. p n || q n) a c
-fills_both a b c w v p q x y n = y n ∙ (ap (λ (r : Row). if q n then row_of w v n else r) (x n) ∙ go (p n) (q n))
-  where
-    go : (s t : Bool) → (if t then row_of w v n else (if s then row_of w v n else row_at a n)) ≡ (if s || t then row_of w v n else row_at a n)
-    go true true = refl
-    go true false = refl
-    go false t = refl
+fills_as : (a b : Kept) (w : World) (v : Sight) (xs ys : List Name) → xs ≡ ys → Fills w v xs a b → Fills w v ys a b
+fills_as a b w v xs ys same fills ms e = fills ms e ∙ ap (λ (ns : List Name). rows_for w v (named ns ms)) same
 
 beyond : (i n : ℕ) → i < n → n ≤ i → ⊥
 beyond i n below past = omega arith
@@ -115,33 +102,51 @@ one_more f xs i x below is n =
     ap (list_any (f n)) (take_more xs i x below ∙ ap (λ (y : _). take i xs ++ y ∷ []) (get_or_from_slice_get xs i x x is))
     ∙ (list_any-append (f n) (take i xs) (x ∷ []) ∙ ap (λ (b : Bool). list_any (f n) (take i xs) || b) (or_nothing (f n x)))
 
-pub named_next : (a b c : Kept) (w : World) (v : Sight) (ns : List Name) (i : ℕ) → i < length ns → Fills w v (λ n. is_in n (take i ns)) a b → Fills w v (λ n. is_name_at n (slice_get ns i)) b c
-    → Fills w v (λ n. is_in n (take (i + 1) ns)) a c
+-- one name more of a list
+pub named_next : (a b c : Kept) (w : World) (v : Sight) (ns : List Name) (i : ℕ) → i < length ns → Fills w v (take i ns) a b → Fills w v (maybe_named (slice_get ns i)) b c
+    → Fills w v (take (i + 1) ns) a c
 named_next a b c w v ns i below x y =
-    fills_as a c w v (λ n. is_in n (take i ns) || is_name_at n (slice_get ns i)) (λ n. is_in n (take (i + 1) ns)) same
-    (fills_both a b c w v (λ n. is_in n (take i ns)) (λ n. is_name_at n (slice_get ns i)) x y)
-  where
-    same : (n : Name) → (is_in n (take i ns) || is_name_at n (slice_get ns i)) ≡ is_in n (take (i + 1) ns)
-    same n =
-        let it = there ns i below in
-        ap (λ (o : Option Name). is_in n (take i ns) || is_name_at n o) it.1 ∙ sym (one_more same_name ns i it.0 below it.1 n)
+    let it = there ns i below in
+    fills_as a c w v (take i ns ++ maybe_named (slice_get ns i)) (take (i + 1) ns)
+    (ap (λ (o : Option Name). take i ns ++ maybe_named o) it.1
+    ∙ sym (take_more ns i it.0 below ∙ ap (λ (n : Name). take i ns ++ n ∷ []) (get_or_from_slice_get ns i it.0 it.0 it.1)))
+    (fills_both a b c w v (take i ns) (maybe_named (slice_get ns i)) x y)
 
-pub found_next : (a b c : Kept) (w : World) (v : Sight) (es : List (Name × Why)) (i : ℕ) → i < length es → Fills w v (λ n. is_found n (take i es)) a b → Fills w v (λ n. is_node_at n (slice_get es i)) b c
-    → Fills w v (λ n. is_found n (take (i + 1) es)) a c
+pub named_all : (a b : Kept) (w : World) (v : Sight) (ns : List Name) (i : ℕ) → length ns ≤ i → Fills w v (take i ns) a b → Fills w v ns a b
+named_all a b w v ns i past = fills_as a b w v (take i ns) ns (take_all i ns past)
+
+-- one found node more
+pub found_next : (a b c : Kept) (w : World) (v : Sight) (es : List (Name × Why)) (i : ℕ) → i < length es → Fills w v (names_found (take i es)) a b → Fills w v (name_found (slice_get es i)) b c
+    → Fills w v (names_found (take (i + 1) es)) a c
 found_next a b c w v es i below x y =
-    fills_as a c w v (λ n. is_found n (take i es) || is_node_at n (slice_get es i)) (λ n. is_found n (take (i + 1) es)) same
-    (fills_both a b c w v (λ n. is_found n (take i es)) (λ n. is_node_at n (slice_get es i)) x y)
+    let it = there es i below in
+    fills_as a c w v (names_found (take i es) ++ name_found (slice_get es i)) (names_found (take (i + 1) es))
+    (ap (λ (o : Option (Name × Why)). names_found (take i es) ++ name_found o) it.1
+    ∙ sym (ap names_found (take_more es i it.0 below ∙ ap (λ (e : Name × Why). take i es ++ e ∷ []) (get_or_from_slice_get es i it.0 it.0 it.1))
+    ∙ map-append (λ (e : Name × Why). e.0) (take i es) (it.0 ∷ [])))
+    (fills_both a b c w v (names_found (take i es)) (name_found (slice_get es i)) x y)
+
+pub found_all : (a b : Kept) (w : World) (v : Sight) (es : List (Name × Why)) (i : ℕ) → length es ≤ i → Fills w v (names_found (take i es)) a b → Fills w v (names_found es) a b
+found_all a b w v es i past = fills_as a b w v (names_found (take i es)) (names_found es) (ap names_found (take_all i es past))
+
+-- all that was gathered is filled in
+pub all_filled : (a b c d e : Kept) (w : World) (v : Sight) → a ≡ [] → Fills w v (names_found v.found) a b → Fills w v v.rights.opens b c → Fills w v v.known c d
+    → Fills w v v.rights.controlled d e → e ≡ rows_for w v (names_seen v)
+all_filled a b c d e w v empty x y z u =
+    fills_both a b e w v (names_found v.found) (v.rights.opens ++ (v.known ++ v.rights.controlled)) x
+    (fills_both b c e w v v.rights.opens (v.known ++ v.rights.controlled) y (fills_both c d e w v v.known v.rights.controlled z u))
+    [] empty
+
+-- what is kept under a name
+
+row_among : (w : World) (v : Sight) (n : Name) (ns : List Name) → row_at (rows_for w v ns) n ≡ (if is_in n ns then row_of w v n else no_row)
+row_among w v n [] = refl
+row_among w v n (m ∷ ms) = go (same_name n m) refl (row_among w v n ms)
   where
-    same : (n : Name) → (is_found n (take i es) || is_node_at n (slice_get es i)) ≡ is_found n (take (i + 1) es)
-    same n =
-        let it = there es i below in
-        ap (λ (o : Option (Name × Why)). is_found n (take i es) || is_node_at n o) it.1 ∙ sym (one_more (λ (m : Name) (e : Name × Why). same_name m e.0) es i it.0 below it.1 n)
-
-pub named_all : (a b : Kept) (w : World) (v : Sight) (ns : List Name) (i : ℕ) → length ns ≤ i → Fills w v (λ n. is_in n (take i ns)) a b → Fills w v (λ n. is_in n ns) a b
-named_all a b w v ns i past = fills_as a b w v _ _ (λ n. ap (is_in n) (take_all i ns past))
-
-pub found_all : (a b : Kept) (w : World) (v : Sight) (es : List (Name × Why)) (i : ℕ) → length es ≤ i → Fills w v (λ n. is_found n (take i es)) a b → Fills w v (λ n. is_found n es) a b
-found_all a b w v es i past = fills_as a b w v _ _ (λ n. ap (is_found n) (take_all i es past))
+    go : (b : Bool) → same_name n m ≡ b → row_at (rows_for w v ms) n ≡ (if is_in n ms then row_of w v n else no_row)
+        → row_at (rows_for w v (m ∷ ms)) n ≡ (if is_in n (m ∷ ms) then row_of w v n else no_row)
+    go true is rest = rw is (ap (row_of w v) (sym (equal_if_same n m is)))
+    go false is rest = rw is rest
 
 -- nothing is seen under a name that was not gathered
 
@@ -169,27 +174,35 @@ module _ {S : ℕ → Bool} {w : World} {v : Sight} (looks : Looks S w v) (n : N
   pub uncovered : is_found n v.found ≡ false → is_in n v.rights.opens ≡ false → is_in n v.known ≡ false → is_in n v.rights.controlled ≡ false → row_of w v n ≡ no_row
   uncovered found opened known controlled = rw (found, opened, known, controlled, send_known known, and_none (not (same_name n boot_name)) (is_some (fin.get w.servers n))) refl
 
--- all that was gathered is filled in
-pub all_filled : {S : ℕ → Bool} (a b c d e : Kept) (w : World) (v : Sight) → Looks S w v → a ≡ [] → Fills w v (λ n. is_found n v.found) a b → Fills w v (λ n. is_in n v.rights.opens) b c
-    → Fills w v (λ n. is_in n v.known) c d → Fills w v (λ n. is_in n v.rights.controlled) d e → (n : Name) → row_at e n ≡ row_of w v n
-all_filled {S} a b c d e w v looks empty x y z u n = whole n ∙ go (is_found n v.found) (is_in n v.rights.opens) (is_in n v.known) (is_in n v.rights.controlled) refl refl refl refl
+-- under each name what is seen of it is kept
+pub row_told : {S : ℕ → Bool} {w : World} {v : Sight} → Looks S w v → (n : Name) → row_at (rows_for w v (names_seen v)) n ≡ row_of w v n
+row_told {S} {w} {v} looks n = row_among w v n (names_seen v) ∙ go (is_in n (names_seen v)) refl
   where
-    whole : Fills w v (λ n. ((is_found n v.found || is_in n v.rights.opens) || is_in n v.known) || is_in n v.rights.controlled) a e
-    whole =
-        fills_both a d e w v (λ n. (is_found n v.found || is_in n v.rights.opens) || is_in n v.known) (λ n. is_in n v.rights.controlled)
-        (fills_both a c d w v (λ n. is_found n v.found || is_in n v.rights.opens) (λ n. is_in n v.known) (fills_both a b c w v (λ n. is_found n v.found) (λ n. is_in n v.rights.opens) x y) z)
-        u
+    -- what is among these was named
+    not_in : is_in n (names_seen v) ≡ false → IsAmong n (names_found v.found ++ (v.rights.opens ++ (v.known ++ v.rights.controlled))) → ⊥
+    not_in none a = true≢false (sym ((named_are n (names_found v.found ++ (v.rights.opens ++ (v.known ++ v.rights.controlled)))).1 a) ∙ none)
 
-    go : (p q r s : Bool) → is_found n v.found ≡ p → is_in n v.rights.opens ≡ q → is_in n v.known ≡ r → is_in n v.rights.controlled ≡ s
-        → (if ((is_found n v.found || is_in n v.rights.opens) || is_in n v.known) || is_in n v.rights.controlled then row_of w v n else row_at a n) ≡ row_of w v n
-    go true q r s i j k l = rw i refl
-    go false true r s i j k l = rw (i, j) refl
-    go false false true s i j k l = rw (i, j, k) refl
-    go false false false true i j k l = rw (i, j, k, l) refl
-    go false false false false i j k l =
-        let none : (((is_found n v.found || is_in n v.rights.opens) || is_in n v.known) || is_in n v.rights.controlled) ≡ false = rw (i, j, k, l) refl in
-        ap (λ (t : Bool). if t then row_of w v n else row_at a n) none
-        ∙ (ap (λ (es : Kept). row_at es n) empty ∙ sym (uncovered looks n i j k l))
+    found_among : is_found n v.found ≡ true → IsAmong n (names_found v.found)
+    found_among f =
+        let it = any_found (λ (e : Name × Why). same_name n e.0) v.found f in
+        subst (λ (m : Name). IsAmong m (names_found v.found)) (sym (equal_if_same n it.0.0 it.2)) (among_map (λ (e : Name × Why). e.0) it.0 v.found it.1)
+
+    in_among : (ns : List Name) → is_in n ns ≡ true → IsAmong n ns
+    in_among ns i = let it = any_found (same_name n) ns i in subst (λ (m : Name). IsAmong m ns) (sym (equal_if_same n it.0 it.2)) it.1
+
+    -- a test of what can't be
+    fails : (b : Bool) → (b ≡ true → ⊥) → b ≡ false
+    fails true none = absurd (none refl)
+    fails false none = refl
+
+    go : (b : Bool) → is_in n (names_seen v) ≡ b → (if is_in n (names_seen v) then row_of w v n else no_row) ≡ row_of w v n
+    go true is = rw is refl
+    go false is = rw is (sym (uncovered looks n
+        (fails (is_found n v.found) (λ f. not_in is (among_left n (names_found v.found) _ (found_among f))))
+        (fails (is_in n v.rights.opens) (λ i. not_in is (among_right n (names_found v.found) _ (among_left n v.rights.opens _ (in_among v.rights.opens i)))))
+        (fails (is_in n v.known) (λ i. not_in is (among_right n (names_found v.found) _ (among_right n v.rights.opens _ (among_left n v.known _ (in_among v.known i))))))
+        (fails (is_in n v.rights.controlled)
+        (λ i. not_in is (among_right n (names_found v.found) _ (among_right n v.rights.opens _ (among_right n v.known _ (in_among v.rights.controlled i))))))))
 
 -- rows that are compared, one name after another
 

@@ -22,7 +22,7 @@ use Rattle.hurd_machine.specs.Sound.{AreDistinct, HasDistinctNames, Sound}
 use Rattle.hurd_sight.specs.Looks.{sees_with}
 use Rattle.hurd_sight.specs.Parts.{part_of}
 use Rattle.hurd_sight.specs.Reach.{among}
-use Rattle.hurd_views.specs.Views.{RowsAreViews, SameRows, Views, body_row, entry_before, node_row, row_of, rows_in, server_row, told_if}
+use Rattle.hurd_views.specs.Views.{RowsAreViews, SameRows, Views, body_row, entry_before, node_row, row_at, row_of, rows_in, server_row, told_if}
 use Rattle.hurd_sight.specs.declared.parts.SeenPart.{SeenPart}
 use Rattle.hurd_sight.specs.declared.parts.SeenPart.TheVariants as seen
 use Rattle.hurd_views.specs.declared.rows.BodyRow.{BodyRow}
@@ -34,6 +34,11 @@ use Rattle.hurd_views.specs.declared.rows.Row.{Row}
 use Rattle.hurd_views.specs.declared.rows.ServerRow.{ServerRow}
 use Rattle.hurd_views.specs.declared.view.View.{View}
 use Rattle.hurd_sight.proofs.PartLaws.{parts_are_seen}
+use Rattle.hurd_views.proofs.RowLaws.{row_told}
+
+-- under each name of a view, what is seen of it is kept
+row_there : {tasks : List TaskId} {w : World} {a : View} → Views tasks w a → (n : Name) → row_at a.rows n ≡ row_of w a.sight n
+row_there views n = ap (λ (es : List (Name × Row)). row_at es n) views.rows ∙ row_told views.looks n
 
 -- values that are told where tests hold
 
@@ -184,7 +189,7 @@ infos_told (Some i) None e = absurd (cc)
 infos_told (Some i) (Some j) e = ap Some (info_told i j (let same : Some (server_row i) ≡ Some (server_row j) = e in cc))
 
 -- a row by its fields
-row_from : {a a' : Option NodeRow} {b b' : Option (Option Bool)} {c c' : Option (Option BodyRow)} {d d' : Option OpenRow} {e e' : Option (Option ServerRow)} {f f' : Option ℕ}
+pub row_from : {a a' : Option NodeRow} {b b' : Option (Option Bool)} {c c' : Option (Option BodyRow)} {d d' : Option OpenRow} {e e' : Option (Option ServerRow)} {f f' : Option ℕ}
     → a ≡ a' → b ≡ b' → c ≡ c' → d ≡ d' → e ≡ e' → f ≡ f'
     → ◌≡◌ {A = Row} (record { attributes = a; empty = b; body = c; opened = d; server = e; users = f }) (record { attributes = a'; empty = b'; body = c'; opened = d'; server = e'; users = f' })
 row_from g h i j k l = rw (g, h, i, j, k, l) refl
@@ -237,7 +242,7 @@ module _ (tasks : List TaskId) (v w : World) (a b : View) (sound_v : Sound v) (s
   -- rows that are the same tell the same
   module _ (same : SameRows a b) where
     row : (n : Name) → row_of v a.sight n ≡ row_of w b.sight n
-    row n = sym (in_v.rows n) ∙ (same.rows n ∙ in_w.rows n)
+    row n = sym (row_there in_v n) ∙ (same.rows n ∙ row_there in_w n)
 
     test : (q : SeenPart) → sees_v q ≡ sees_w q
     test (seen.Attributes n) = told_test _ _ _ _ (ap (λ (r : Row). r.attributes) (row n))
@@ -326,7 +331,7 @@ module _ (tasks : List TaskId) (v w : World) (a b : View) (sound_v : Sound v) (s
 
     same_rows : SameRows a b
     same_rows = record {
-      rows = λ n. in_v.rows n ∙ (row_same n ∙ sym (in_w.rows n));
+      rows = λ n. row_there in_v n ∙ (row_same n ∙ sym (row_there in_w n));
       seats = in_v.seats ∙ (seats_same v w tasks (λ t is. let e : ATask (task_at w t) ≡ ATask (task_at v t) = same.parts (TaskOf t) is in cc) ∙ sym in_w.seats);
       count = in_v.count ∙ (sym same.tasks ∙ sym in_w.count);
     }

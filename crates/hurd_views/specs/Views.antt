@@ -1,5 +1,5 @@
 -- What a set of tasks sees of a world, as it is kept to be compared.
-use Rattle.std.specs.Prelude.{◌≡◌, ◌↔◌, ℕ, Bool, true, false, if◌then◌else◌, List, [], ◌∷◌, length, map, Option, Some, None}
+use Rattle.std.specs.Prelude.{◌≡◌, ◌↔◌, ℕ, Bool, true, false, if◌then◌else◌, List, [], ◌∷◌, ◌++◌, length, map, Option, Some, None}
 use Rattle.std.specs.List.{list_any}
 use Rattle.std.specs.Option.{option_map}
 use Rattle.hurd_creds.specs.declared.name.Name.{Name}
@@ -13,7 +13,8 @@ use Rattle.hurd_nodes.specs.Shown.{ServerInfo}
 use Rattle.hurd_machine.specs.World.{World, nodes_of, active_at, body_at, header_at, home_at, open_at, server_at, task_at, words_at}
 use Rattle.hurd_machine.specs.Sight.{SameView, bare, holders, users}
 use Rattle.hurd_machine.specs.Sound.{Sound}
-use Rattle.hurd_sight.specs.Looks.{Looks, sees_with}
+use Rattle.hurd_sight.specs.Looks.{Gathered, Looks, sees_with}
+use Rattle.hurd_sight.specs.Parts.{named}
 use Rattle.hurd_sight.specs.Reach.{among}
 use Rattle.hurd_sight.specs.declared.found.Why.{Why}
 use Rattle.hurd_sight.specs.declared.looks.Sight.{Sight}
@@ -98,30 +99,47 @@ abbrev pub or_no_row : Option Row → Row
 or_no_row None = no_row
 or_no_row (Some r) = r
 
--- whether a name is the one that is there, or a node's name is
-abbrev pub is_name_at : Name → Option Name → Bool
-is_name_at n None = false
-is_name_at n (Some m) = same_name n m
+-- the rows of these names
+abbrev pub rows_for : World → Sight → List Name → List (Name × Row)
+rows_for w v ns = map (λ (n : Name). (n, row_of w v n)) ns
 
-abbrev pub is_node_at : Name → Option (Name × Why) → Bool
-is_node_at n None = false
-is_node_at n (Some e) = same_name n e.0
+-- names are filled in with what is seen under them, each behind those that are there, unless it is one of them
+abbrev pub Fills : World → Sight → List Name → List (Name × Row) → List (Name × Row) → Type 0
+Fills w v ns old new = (ms : List Name) → old ≡ rows_for w v ms → new ≡ rows_for w v (named ns ms)
 
--- it was looked at by some tasks
-abbrev pub LooksSomehow : World → Sight → Type 0
-LooksSomehow w v = (S : ℕ → Bool) × Looks S w v
+-- the names of nodes, in the order in which they were found
+abbrev pub names_found : List (Name × Why) → List Name
+names_found es = map (λ (e : Name × Why). e.0) es
 
--- names are filled in with what is seen under them: those that p says, and no others
-abbrev pub Fills : World → Sight → (Name → Bool) → List (Name × Row) → List (Name × Row) → Type 0
-Fills w v p old new = (n : Name) → row_at new n ≡ (if p n then row_of w v n else row_at old n)
+-- the name of a found node, if there is one
+abbrev pub name_found : Option (Name × Why) → List Name
+name_found None = []
+name_found (Some e) = e.0 ∷ []
+
+-- the names of all that was gathered: nodes, opens and servers, each once
+abbrev pub names_seen : Sight → List Name
+names_seen v = named (names_found v.found ++ (v.rights.opens ++ (v.known ++ v.rights.controlled))) []
 
 -- all that some tasks see of a world
 pub record Views (tasks : List TaskId) (w : World) (v : View) : Type 0 where
   pub looks : Looks (among tasks) w v.sight
-  pub rows : (n : Name) → row_at v.rows n ≡ row_of w v.sight n
+  pub ours : v.sight.tasks.items ≡ tasks
+  pub gathered : Gathered w v.sight
+  pub rows : v.rows ≡ rows_for w v.sight (names_seen v.sight)
   -- the tasks themselves, in the order of the list, and how many there are in all
   pub seats : v.seats.items ≡ map (λ (t : TaskId). task_at w t.0) tasks
   pub count : v.count ≡ length w.tasks
+
+-- two views are one: all that was found by the same ways, and the same rows in the same order
+pub record IsOneView (v w : View) : Type 0 where
+  pub found : v.sight.found ≡ w.sight.found
+  pub rows : v.rows ≡ w.rows
+  pub seats : v.seats.items ≡ w.seats.items
+  pub count : v.count ≡ w.count
+
+-- some tasks have one view of a world
+abbrev pub ViewsAreOne : Type 0
+ViewsAreOne = (tasks : List TaskId) (w : World) (a b : View) → Views tasks w a → Views tasks w b → IsOneView a b
 
 -- nothing in two views differs
 pub record SameRows (v w : View) : Type 0 where

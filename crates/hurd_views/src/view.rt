@@ -1,13 +1,11 @@
 //! All that a set of tasks sees of a world, kept to be compared.
-ghost use Rattle.std.specs.Prelude.{◌≡◌, ◌↔◌, true, Some, length, map, slice_get, option_copied, IfOk, OnOk, IsTrue};
+ghost use Rattle.std.specs.Prelude.{◌≡◌, ◌↔◌, ◌∷◌, [], true, Some, length, map, slice_get, option_copied, IfOk, OnOk, IsTrue};
 ghost use Rattle.std.specs.Option.{option_map};
 ghost use Rattle.hurd_core.specs.Core.{world_of};
 ghost use Rattle.hurd_creds.specs.declared.name.Name.{Name};
 ghost use Rattle.hurd_creds.specs.declared.name.TaskId.{TaskId};
-ghost use Rattle.hurd_creds.specs.Names.{same_name};
-ghost use Rattle.hurd_sight.specs.Found.{is_found};
-ghost use Rattle.hurd_sight.specs.Parts.{is_in};
-ghost use Rattle.hurd_views.specs.Views.{Fills, LooksSomehow, RowsAreViews, SameRows, Views, has_row, is_name_at, is_node_at, or_no_row, row_at, row_of};
+ghost use Rattle.hurd_sight.specs.Parts.{maybe_named};
+ghost use Rattle.hurd_views.specs.Views.{Fills, RowsAreViews, SameRows, Views, ViewsAreOne, has_row, name_found, names_found, names_seen, or_no_row, row_at, rows_for};
 ghost use Rattle.hurd_views.specs.declared.rows.Row.{Row};
 
 use crate::rows::Row;
@@ -107,8 +105,7 @@ impl View {
 impl Rows {
     /// What is seen under each name of which anything is seen.
     fn of<S: Server>(alloc: Global, core: &Core<S>, sight: &Sight) -> Result<Rows, AllocError>
-        requires { LooksSomehow (world_of S.meaning core.now) sight.now }
-        ensures { IfOk result (λ rows. (n : Name) → row_at rows n ≡ row_of (world_of S.meaning core.now) sight.now n) }
+        ensures { IfOk result (λ rows. rows ≡ rows_for (world_of S.meaning core.now) sight.now (names_seen sight.now)) }
     {
         let mut rows = Rows {
             rows: IndexMap::new(alloc),
@@ -127,7 +124,7 @@ impl Rows {
         core: &Core<S>,
         sight: &Sight,
     ) -> Result<(), AllocError>
-        ensures { OnOk result (Fills (world_of S.meaning core.now) sight.now (λ n. is_found n sight.now.found) self.old self.new) }
+        ensures { OnOk result (Fills (world_of S.meaning core.now) sight.now (names_found sight.now.found) self.old self.new) }
     {
         for i in 0..sight.nodes().len() {
             self.add_found(alloc, core, sight, i)?;
@@ -143,7 +140,7 @@ impl Rows {
         sight: &Sight,
         index: usize,
     ) -> Result<(), AllocError>
-        ensures { OnOk result (Fills (world_of S.meaning core.now) sight.now (λ n. is_node_at n (slice_get sight.now.found index)) self.old self.new) }
+        ensures { OnOk result (Fills (world_of S.meaning core.now) sight.now (name_found (slice_get sight.now.found index)) self.old self.new) }
     {
         match sight.nodes().get(index) {
             Some((node, _)) => self.add(alloc, core, sight, node),
@@ -159,7 +156,7 @@ impl Rows {
         sight: &Sight,
         names: &NameSet,
     ) -> Result<(), AllocError>
-        ensures { OnOk result (Fills (world_of S.meaning core.now) sight.now (λ n. is_in n names.now) self.old self.new) }
+        ensures { OnOk result (Fills (world_of S.meaning core.now) sight.now names.now self.old self.new) }
     {
         for i in 0..names.len() {
             self.add_at(alloc, core, sight, names.get(i))?;
@@ -175,7 +172,7 @@ impl Rows {
         sight: &Sight,
         name: Option<Name>,
     ) -> Result<(), AllocError>
-        ensures { OnOk result (Fills (world_of S.meaning core.now) sight.now (λ n. is_name_at n name) self.old self.new) }
+        ensures { OnOk result (Fills (world_of S.meaning core.now) sight.now (maybe_named name) self.old self.new) }
     {
         match name {
             Some(name) => self.add(alloc, core, sight, name),
@@ -183,7 +180,7 @@ impl Rows {
         }
     }
 
-    /// What is seen under a name, in the place of what was there.
+    /// What is seen under a name, behind what is there, or in the place of what was there under it.
     fn add<S: Server>(
         &mut self,
         alloc: Global,
@@ -191,7 +188,7 @@ impl Rows {
         sight: &Sight,
         name: Name,
     ) -> Result<(), AllocError>
-        ensures { OnOk result (Fills (world_of S.meaning core.now) sight.now (λ n. same_name n name) self.old self.new) }
+        ensures { OnOk result (Fills (world_of S.meaning core.now) sight.now (name ∷ []) self.old self.new) }
     {
         let row = told::row_of(alloc, core, sight, name)?;
         self.rows.reserve(1)?;
@@ -307,7 +304,8 @@ impl Same for SeatRow {
     }
 }
 
-/// A law: two views in which nothing differs are of worlds that have the same view for these tasks.
+/// A law: two views in which nothing differs are of worlds that have the same view for these tasks; and a world has one view for them.
 pub fn rows_are_views()
-    ensures { RowsAreViews }
+    ensures same { RowsAreViews }
+    ensures one { ViewsAreOne }
 {}

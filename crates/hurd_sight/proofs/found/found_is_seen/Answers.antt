@@ -1,5 +1,6 @@
 use Rattle.hurd_sight.proofs.found.found_is_seen.Goals as goal
+use Rattle.hurd_sight.proofs.FollowLaws.{found_is_one}
 use Rattle.hurd_sight.proofs.SightLaws.{found_is_seen}
 
 pub returns : goal.returns
-returns c = found_is_seen
+returns c = record { seen = found_is_seen; one = found_is_one }

@@ -1,7 +1,13 @@
+use Rattle.std.specs.FinMap as fin
 use Rattle.hurd_nodes.specs.Shown.{shown}
-use Rattle.hurd_sight.proofs.NearLaws.{known_both}
+use Rattle.hurd_sight.specs.Parts.{maybe_named}
+use Rattle.hurd_sight.proofs.NameLaws.{named_both}
 use Rattle.hurd_sight.proofs.FoundLaws.{ok_map}
 use Rattle.hurd_sight.proofs.near.add_both.Goals as goal
 
 pub returns : goal.returns
-returns g c = ok_map c.add_maybe-2.result (λ active. known_both (shown g.S.Server.meaning c.args.nodes.now) c.args.node c.home.result c.active.result c.home.ensures c.active.ensures c.in_ok-add_maybe.ensures active) c.add_maybe-2.ensures
+returns g c =
+    ok_map c.add_maybe-2.result
+    (λ active. named_both c.args.names.now (maybe_named (fin.get (shown g.S.Server.meaning c.args.nodes.now).homes c.args.node)) (maybe_named (fin.get (shown g.S.Server.meaning c.args.nodes.now).actives c.args.node)) (rw c.home.ensures at c.in_ok-add_maybe.ensures)
+    (rw c.active.ensures at active))
+    c.add_maybe-2.ensures

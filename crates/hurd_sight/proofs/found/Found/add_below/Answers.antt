@@ -1,12 +1,12 @@
 use Rattle.hurd_nodes.specs.Shown.{shown}
-use Rattle.hurd_sight.proofs.NodeLaws.{below, no_names, other_error}
+use Rattle.hurd_sight.proofs.NodeLaws.{no_names, other_error, searched}
 use Rattle.hurd_sight.proofs.FoundLaws.{ok_map}
 use Rattle.hurd_sight.proofs.found.Found.add_below.Goals as goal
 
 pub returns-in-Ok : goal.returns-in-Ok
 returns-in-Ok g c =
     ok_map c.add_entries.result
-    (λ names. below (shown g.S.Server.meaning c.args.nodes.now) c.args.reach.now c.args.dir c.in-Ok.names c.args.self.now c.add_entries.new.self c.if-not-could_search.ensures c.in-Ok.ensures names)
+    (λ names. searched _ (shown g.S.Server.meaning c.args.nodes.now) c.args.reach.now c.args.dir c.in-Ok.names c.if-not-could_search.ensures c.in-Ok.ensures names)
     c.add_entries.ensures
 
 pub returns-in-Err : goal.returns-in-Err

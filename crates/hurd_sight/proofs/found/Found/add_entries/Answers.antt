@@ -1,15 +1,17 @@
+use Rattle.std.proofs.Common.{refl}
+use Rattle.hurd_trans_iface.specs.Nodes.{body_of}
 use Rattle.hurd_nodes.specs.Shown.{shown}
-use Rattle.hurd_sight.specs.Found.{OfName}
-use Rattle.hurd_sight.proofs.FoundLaws.{collects_all, collects_item, collects_nothing}
+use Rattle.hurd_sight.specs.Found.{of_entry}
+use Rattle.hurd_sight.proofs.FoundLaws.{gathered_item, gathered_whole}
 use Rattle.hurd_sight.proofs.found.Found.add_entries.Goals as goal
 
 pub loop-name-init : goal.loop-name-init
-loop-name-init g c = collects_nothing (OfName (shown g.S.Server.meaning c.args.nodes.now) c.args.dir) c.args.self.now
+loop-name-init g c = refl
 
 pub loop-name-preserved : goal.loop-name-preserved
 loop-name-preserved g c =
-    collects_item (OfName (shown g.S.Server.meaning c.args.nodes.now) c.args.dir) c.args.names.now c.loop-name.name-index c.name-item.result (rw c.as_slice-name-items.ensures at c.loop-name-test.true) (rw c.as_slice-name-items.ensures at c.name-item.is)
+    gathered_item _ (of_entry c.args.dir (body_of (shown g.S.Server.meaning c.args.nodes.now).nodes c.args.dir)) c.args.names.now c.loop-name.name-index c.name-item.result (rw c.as_slice-name-items.ensures at c.loop-name-test.true) (rw c.as_slice-name-items.ensures at c.name-item.is)
     c.loop-name.invariant (rw c.as_slice.ensures at c.in_ok-add_entry.ensures)
 
 pub returns : goal.returns
-returns g c = collects_all (OfName (shown g.S.Server.meaning c.args.nodes.now) c.args.dir) c.args.names.now c.loop-name.name-index (rw c.as_slice-name-items.ensures at c.loop-name-test.false) c.loop-name.invariant
+returns g c = gathered_whole _ (of_entry c.args.dir (body_of (shown g.S.Server.meaning c.args.nodes.now).nodes c.args.dir)) c.args.names.now c.loop-name.name-index (rw c.as_slice-name-items.ensures at c.loop-name-test.false) c.loop-name.invariant

@@ -1,8 +1,10 @@
-use Rattle.std.proofs.Common.{take}
+use Rattle.std.proofs.Common.{◌≡◌, take}
+use Rattle.std.specs.List.{flat_map}
+use Rattle.hurd_trans_iface.specs.Nodes.{body_of}
 use Rattle.hurd_nodes.specs.Shown.{shown}
-use Rattle.hurd_sight.specs.Found.{Collects, OfNames}
+use Rattle.hurd_sight.specs.Found.{gathered, of_entry}
 use Rattle.hurd_sight.proofs.found.Found.add_entries.Given as goal
 
--- what the names so far name
+-- what those so far show
 abbrev pub invariant-loop-name : goal.invariant-loop-name
-invariant-loop-name g l = Collects (OfNames (shown g.S.Server.meaning l.nodes) l.dir (take l.name-index l.names)) l.initial.self l.self
+invariant-loop-name g l = l.self ≡ gathered (flat_map (of_entry l.dir (body_of (shown g.S.Server.meaning l.nodes).nodes l.dir)) (take l.name-index l.names)) l.initial.self

@@ -1,8 +1,10 @@
-use Rattle.std.proofs.Common.{take}
+use Rattle.std.proofs.Common.{◌≡◌, take}
+use Rattle.std.specs.List.{flat_map}
+use Rattle.hurd_ports.specs.declared.table.Port.{Port}
 use Rattle.hurd_nodes.specs.Shown.{shown}
-use Rattle.hurd_sight.specs.Found.{Collects, OfPorts}
+use Rattle.hurd_sight.specs.Found.{gathered, of_right}
 use Rattle.hurd_sight.proofs.found.Found.add_ports.Given as goal
 
--- what the ports so far show
+-- what those so far show
 abbrev pub invariant-loop-port : goal.invariant-loop-port
-invariant-loop-port g l = Collects (OfPorts (shown g.S.Server.meaning l.nodes) (take l.port-index l.ports)) l.initial.self l.self
+invariant-loop-port g l = l.self ≡ gathered (flat_map (λ (p : Port). of_right (shown g.S.Server.meaning l.nodes) p.right) (take l.port-index l.ports)) l.initial.self

@@ -1,8 +1,9 @@
-use Rattle.std.proofs.Common.{take}
+use Rattle.std.proofs.Common.{◌≡◌, take}
+use Rattle.std.specs.List.{flat_map}
 use Rattle.hurd_nodes.specs.Shown.{shown}
-use Rattle.hurd_sight.specs.Found.{Collects, OfRights}
+use Rattle.hurd_sight.specs.Found.{gathered, of_right}
 use Rattle.hurd_sight.proofs.found.Found.add_rights.Given as goal
 
--- what the rights so far show
+-- what those so far show
 abbrev pub invariant-loop-right : goal.invariant-loop-right
-invariant-loop-right g l = Collects (OfRights (shown g.S.Server.meaning l.nodes) (take l.right-index l.rights)) l.initial.self l.self
+invariant-loop-right g l = l.self ≡ gathered (flat_map (of_right (shown g.S.Server.meaning l.nodes)) (take l.right-index l.rights)) l.initial.self

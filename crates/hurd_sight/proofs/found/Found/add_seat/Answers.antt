@@ -7,6 +7,5 @@ use Rattle.hurd_sight.proofs.found.Found.add_seat.Goals as goal
 pub returns : goal.returns
 returns g c =
     ok_map c.add_rights.result
-    (λ sent. of_rights (shown g.S.Server.meaning c.args.nodes.now) (seat_task c.args.seat.now) c.args.self.now c.add_start.new.self c.add_ports.new.self c.add_rights.new.self c.in_ok-add_start.ensures
-    (rw c.deref.ensures.value at c.in_ok-add_ports.ensures) (rw c.deref-2.ensures.value at sent))
+    (λ sent. of_rights _ (shown g.S.Server.meaning c.args.nodes.now) (seat_task c.args.seat.now) c.in_ok-add_start.ensures (rw c.deref.ensures.value at c.in_ok-add_ports.ensures) (rw c.deref-2.ensures.value at sent))
     c.add_rights.ensures

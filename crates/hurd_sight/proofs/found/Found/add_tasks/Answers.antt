@@ -1,19 +1,16 @@
+use Rattle.std.proofs.Common.{refl}
 use Rattle.std.specs.Prelude.{slice_get}
 use Rattle.hurd_creds.specs.declared.name.TaskId.{TaskId}
 use Rattle.hurd_nodes.specs.Shown.{shown}
-use Rattle.hurd_sight.specs.Found.{OfTask}
-use Rattle.hurd_sight.proofs.FoundLaws.{collects_all, collects_next, collects_nothing}
+use Rattle.hurd_sight.specs.Found.{of_task}
+use Rattle.hurd_sight.proofs.FoundLaws.{gathered_next, gathered_whole}
 use Rattle.hurd_sight.proofs.found.Found.add_tasks.Goals as goal
 
 pub loop-task-init : goal.loop-task-init
-loop-task-init g c = collects_nothing (λ (t : TaskId). OfTask (shown g.S.Server.meaning c.args.nodes.now) (slice_get c.args.ports.now.state.tasks t.0)) c.args.self.now
+loop-task-init g c = refl
 
 pub loop-task-preserved : goal.loop-task-preserved
-loop-task-preserved g c =
-    collects_next (λ (t : TaskId). OfTask (shown g.S.Server.meaning c.args.nodes.now) (slice_get c.args.ports.now.state.tasks t.0)) c.args.tasks.now c.loop-task.task-index _
-    c.loop-task-test.true c.loop-task.invariant c.in_ok-add_task.ensures
+loop-task-preserved g c = gathered_next _ (λ (t : TaskId). of_task (shown g.S.Server.meaning c.args.nodes.now) (slice_get c.args.ports.now.state.tasks t.0)) c.args.tasks.now c.loop-task.task-index _ c.loop-task-test.true c.loop-task.invariant c.in_ok-add_task.ensures
 
 pub returns : goal.returns
-returns g c =
-    collects_all (λ (t : TaskId). OfTask (shown g.S.Server.meaning c.args.nodes.now) (slice_get c.args.ports.now.state.tasks t.0)) c.args.tasks.now c.loop-task.task-index c.loop-task-test.false
-    c.loop-task.invariant
+returns g c = gathered_whole _ (λ (t : TaskId). of_task (shown g.S.Server.meaning c.args.nodes.now) (slice_get c.args.ports.now.state.tasks t.0)) c.args.tasks.now c.loop-task.task-index c.loop-task-test.false c.loop-task.invariant

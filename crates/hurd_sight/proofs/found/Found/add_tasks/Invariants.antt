@@ -1,8 +1,11 @@
-use Rattle.std.proofs.Common.{take}
+use Rattle.std.proofs.Common.{◌≡◌, take}
+use Rattle.std.specs.List.{flat_map}
+use Rattle.std.specs.Prelude.{slice_get}
+use Rattle.hurd_creds.specs.declared.name.TaskId.{TaskId}
 use Rattle.hurd_nodes.specs.Shown.{shown}
-use Rattle.hurd_sight.specs.Found.{Collects, OfTasks}
+use Rattle.hurd_sight.specs.Found.{gathered, of_task}
 use Rattle.hurd_sight.proofs.found.Found.add_tasks.Given as goal
 
--- what the rights of the tasks so far show
+-- what those so far show
 abbrev pub invariant-loop-task : goal.invariant-loop-task
-invariant-loop-task g l = Collects (OfTasks (shown g.S.Server.meaning l.nodes) l.ports.state.tasks (take l.task-index l.tasks)) l.initial.self l.self
+invariant-loop-task g l = l.self ≡ gathered (flat_map (λ (t : TaskId). of_task (shown g.S.Server.meaning l.nodes) (slice_get l.ports.state.tasks t.0)) (take l.task-index l.tasks)) l.initial.self

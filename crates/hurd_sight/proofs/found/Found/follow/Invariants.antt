@@ -1,6 +1,6 @@
 use Rattle.std.proofs.Common.{◌-◌, ◌^◌}
 use Rattle.hurd_nodes.specs.Shown.{shown}
-use Rattle.hurd_sight.specs.Found.{Following}
+use Rattle.hurd_sight.proofs.FollowLaws.{Following}
 use Rattle.hurd_sight.proofs.found.Found.follow.Given as goal
 
 -- so far the nodes before the index were followed

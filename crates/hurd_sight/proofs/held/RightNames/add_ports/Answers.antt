@@ -1,11 +1,12 @@
-use Rattle.hurd_sight.proofs.NameLaws.{ports_next, ports_whole, rights_none}
+use Rattle.std.proofs.Common.{refl}
+use Rattle.hurd_sight.proofs.NameLaws.{ports_next, ports_whole}
 use Rattle.hurd_sight.proofs.held.RightNames.add_ports.Goals as goal
 
 pub loop-port-init : goal.loop-port-init
-loop-port-init c = rights_none c.args.ports.now.state.opens _ c.args.self.now (λ r none. none)
+loop-port-init c = refl
 
 pub loop-port-preserved : goal.loop-port-preserved
-loop-port-preserved c = ports_next c.args.ports.now.state.opens c.args.some.now c.loop-port.port-index c.port-item.result c.loop-port-test.true c.port-item.is c.loop-port.invariant c.in_ok-add_right.ensures
+loop-port-preserved c = ports_next c.args.ports.now.state.opens c.args.some.now c.loop-port.port-index c.port-item.result _ c.loop-port-test.true c.port-item.is c.loop-port.invariant c.in_ok-add_right.ensures
 
 pub returns : goal.returns
-returns c = ports_whole c.args.ports.now.state.opens c.args.some.now c.loop-port.port-index c.loop-port-test.false c.loop-port.invariant
+returns c = ports_whole c.args.ports.now.state.opens c.args.some.now c.loop-port.port-index _ c.loop-port-test.false c.loop-port.invariant

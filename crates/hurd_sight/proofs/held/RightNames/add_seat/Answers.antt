@@ -6,5 +6,5 @@ use Rattle.hurd_sight.proofs.held.RightNames.add_seat.Goals as goal
 pub returns : goal.returns
 returns c =
     ok_map c.add_rights.result
-    (λ sent. seat_rights c.args.ports.now.state.opens (seat_task c.args.seat.now) (rw c.deref.ensures.value at c.in_ok-add_ports.ensures) (rw c.deref-2.ensures.value at sent))
+    (λ sent. seat_rights c.args.ports.now.state.opens (seat_task c.args.seat.now) c.args.self.now (rw c.deref.ensures.value at c.in_ok-add_ports.ensures) (rw c.deref-2.ensures.value at sent))
     c.add_rights.ensures

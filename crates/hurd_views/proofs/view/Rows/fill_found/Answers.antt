@@ -1,10 +1,9 @@
-use Rattle.std.proofs.Common.{refl}
 use Rattle.hurd_core.specs.Core.{world_of}
 use Rattle.hurd_views.proofs.RowLaws.{fills_none, found_all, found_next}
 use Rattle.hurd_views.proofs.view.Rows.fill_found.Goals as goal
 
 pub loop-i-init : goal.loop-i-init
-loop-i-init g c = fills_none (world_of g.S.Server.meaning c.args.core.now) c.args.sight.now _ c.args.self.now (λ n. refl)
+loop-i-init g c = fills_none (world_of g.S.Server.meaning c.args.core.now) c.args.sight.now c.args.self.now
 
 pub loop-i-preserved : goal.loop-i-preserved
 loop-i-preserved g c =
