@@ -1,13 +1,25 @@
 -- What is kept of what is seen.
-use Rattle.std.proofs.Common.{◌≡◌, Bool, true, List, Option, Some, None, not, refl, ap, ◌∙◌, true≢false}
-use Rattle.std.specs.Prelude.{is_some}
+use Rattle.std.proofs.Common.{◌≡◌, ℕ, Bool, true, List, [], Option, Some, None, Result, not, refl, ap, sym, subst, ◌∙◌, true≢false}
+use Rattle.std.specs.Prelude.{IfOk, is_some}
 use Rattle.hurd_creds.specs.declared.name.TaskId.{TaskId}
 use Rattle.hurd_machine.specs.World.{World}
 use Rattle.hurd_views.specs.Views.{Views}
 use Rattle.hurd_views.specs.declared.view.View.{View}
-use Rattle.hurd_watch.specs.Watched.{SeesOr}
+use Rattle.hurd_lessons.specs.Lessons.{Lessons}
+use Rattle.hurd_watch.specs.Watched.{LearnedSince, SeesOr}
 
 -- a first look
 pub sees_first : (tasks : List TaskId) (w : World) (before : Option View) (v : View) (q : Bool) → is_some before ≡ not q → q ≡ true → Views tasks w v → SeesOr tasks w before (Some v)
 sees_first tasks w None v q none is views = (v, refl, views)
 sees_first tasks w (Some u) v q some is views = absurd (true≢false (some ∙ ap not is))
+
+-- what is learned since a look, and since none
+
+pub learned_some : {E : Type 0} (who : List ℕ) (o : Option View) (v b : View) (r : Result (List ℕ) E) → o ≡ Some v → IfOk r (λ text. Lessons who v b text)
+    → IfOk r (λ text. LearnedSince who o b text)
+unfolding LearnedSince
+learned_some who o v b r is lessons = subst (λ (x : Option View). IfOk r (λ text. LearnedSince who x b text)) (sym is) lessons
+
+pub learned_none : (who : List ℕ) (o : Option View) (b : View) (text : List ℕ) → o ≡ None → text ≡ [] → LearnedSince who o b text
+unfolding LearnedSince
+learned_none who o b text is none = subst (λ (x : Option View). LearnedSince who x b text) (sym is) none
