@@ -4,7 +4,8 @@ use Rattle.std.specs.Io.KnownBytes.{Appends}
 use Rattle.std.specs.List.{concat}
 use Rattle.std.proofs.Common.{◌≡◌, length, true, nat_lt, ℕ, List, [], Ok, Err, refl, inl, ◌∙◌, ap, map}
 use Rattle.std.proofs.lemmas.Bool.{lt-ltb}
-use Rattle.hurd_lists.specs.Lists.{Standing, listed_by, most_bytes, reading_of, said_by}
+use Rattle.hurd_creds.specs.Limits.{most_script}
+use Rattle.hurd_lists.specs.Lists.{Standing, listed_by, reading_of, said_by}
 use Rattle.hurd_lists.specs.declared.reader.CallList.{CallList}
 use Rattle.hurd_making.specs.Faults.{NotBegun, NotRead}
 use Rattle.hurd_making.specs.Making.{parts_of}
@@ -23,7 +24,7 @@ use Rattle.hurd_calls.specs.Lists.{lists, output_of}
 
 -- a list that is too long is bad at line 0
 pub lists_limited : HasLimit lists
-lists_limited xs long = let test : nat_lt most_bytes (length xs) ≡ true = lt-ltb _ _ long in rw test refl
+lists_limited xs long = let test : nat_lt most_script (length xs) ≡ true = lt-ltb _ _ long in rw test refl
 
 -- nothing is printed of a list that is not read
 pub not_read : (list : List ℕ) (fault : Fault) → NotRead (reading_of list) fault → Prints lists list (Err fault) []

@@ -6,6 +6,7 @@
 //! It decides nothing: what may be asked and changed is in the plan of each call.
 #![tactic(auto)]
 
+mod asking;
 mod holds;
 mod port_node;
 mod the_core;

@@ -6,3 +6,4 @@ pub mod Names
 pub mod NameMaps
 pub mod Memory
 pub mod Stats
+pub mod Limits

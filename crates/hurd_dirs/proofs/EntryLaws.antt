@@ -7,6 +7,7 @@ use Rattle.hurd_creds.specs.declared.attrs.Kind.TheVariants.{Dir, File, Link, Fi
 use Rattle.hurd_creds.specs.declared.attrs.Want.TheVariants.{Write, Exec}
 use Rattle.hurd_creds.specs.declared.errno.Errno.TheVariants.{EACCES, EINVAL, ENAMETOOLONG, ENOENT, ENOTDIR, EROFS}
 use Rattle.hurd_creds.specs.Access.{may}
+use Rattle.hurd_creds.specs.Limits.{most_name}
 use Rattle.hurd_trans_iface.specs.Nodes.{is_dir}
 use Rattle.hurd_nodes.specs.Shown.{tree_by}
 use Rattle.hurd_ports.specs.declared.table.IoRight.{IoRight}
@@ -19,7 +20,7 @@ use Rattle.hurd_machine.specs.Sound.{Linked, LeadsUp}
 use Rattle.hurd_machine.proofs.Links.{leads_unless}
 use Rattle.hurd_machine.proofs.Views.{Agree}
 use Rattle.hurd_machine.proofs.Asks.{IsPlain, IsNamed, is_named, port_same, port_seen, port_plain, info_same, is_root_same, holds_right, first_ok, given_ok, first_same, given_same, first_plain, given_plain, ok_plain}
-use Rattle.hurd_dirs.specs.Entry.{is_name, most_name, name_asks, tree_asks, may_change, change_asks, dir_asks, entry_asks}
+use Rattle.hurd_dirs.specs.Entry.{is_name, name_asks, tree_asks, may_change, change_asks, dir_asks, entry_asks}
 
 -- names
 

@@ -7,16 +7,13 @@ use Rattle.hurd_creds.specs.declared.errno.Errno.{Errno}
 use Rattle.hurd_creds.specs.declared.errno.Errno.TheVariants.{EACCES, EINVAL, ENAMETOOLONG, ENOENT, ENOTDIR, EROFS}
 use Rattle.hurd_creds.specs.Access.{IdSets, may, is_root, holds_uid}
 use Rattle.hurd_creds.specs.Bits.{has_bits}
+use Rattle.hurd_creds.specs.Limits.{most_name}
 use Rattle.hurd_trans_iface.specs.Nodes.{Header, is_dir}
 use Rattle.hurd_nodes.specs.Shown.{tree_by}
 use Rattle.hurd_machine.specs.World.{World, info_at, is_removed}
 use Rattle.hurd_machine.specs.Plan.{given, first}
 use Rattle.hurd_machine.specs.Handle.{Named, port_asks}
 use Rattle.hurd_machine.specs.Sight.{bare}
-
--- the most bytes of a name
-abbrev pub most_name : ℕ
-most_name = 255
 
 -- some bytes, none of them a slash, and neither `.` nor `..`
 abbrev pub is_name : List ℕ → Bool

@@ -8,11 +8,8 @@ ghost use Rattle.hurd_dirs.specs.Entry.{is_name, name_asks, tree_asks, may_chang
 
 use bitflags::Flags;
 use hurd_core::{Core, PortNode};
-use hurd_creds::{Attrs, Errno, Ids, Kind, Mode, TaskId, Want};
-use hurd_trans_iface::Server;
-
-/// The most bytes of a name.
-const MOST_NAME: usize = 255;
+use hurd_creds::{Attrs, Errno, Ids, MOST_NAME, Mode, TaskId, Want};
+use hurd_trans_iface::{Server, is_dir};
 
 /// Whether these bytes can be a name: there are some, none is a slash, and they are neither `.` nor `..`.
 fn is_name(name: &[u8]) -> bool
@@ -38,16 +35,6 @@ pub(crate) fn name_asked(name: &[u8]) -> Result<(), Errno>
         return Err(Errno::ENAMETOOLONG);
     }
     Ok(())
-}
-
-/// Whether a node is a directory.
-pub(crate) fn is_dir(kind: Kind) -> bool
-    ensures { result ≡ is_dir kind }
-{
-    match kind {
-        Kind::Dir => true,
-        Kind::File | Kind::Link | Kind::Fifo | Kind::Char => false,
-    }
 }
 
 /// Whether a node is a directory of a tree.

@@ -6,10 +6,10 @@ ghost use Rattle.hurd_machine.specs.declared.call.Reply.TheVariants as reply;
 ghost use Rattle.hurd_core.specs.Core.{world_of};
 ghost use Rattle.hurd_dirs.specs.Remove.{entered, found_asks, is_empty_at, plan_rmdir, plan_unlink, rmdir_asks, taking_asks, unlink_asks};
 
-use crate::entry::{entry_asked, is_dir, may_take};
+use crate::entry::{entry_asked, may_take};
 use hurd_core::Core;
 use hurd_creds::{Attrs, Errno, NodeName, TaskId};
-use hurd_trans_iface::Server;
+use hurd_trans_iface::{Server, is_dir};
 
 /// An entry: its directory, and the node that it names, with that one's attributes.
 #[derive(Drop)]

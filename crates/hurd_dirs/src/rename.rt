@@ -7,10 +7,10 @@ ghost use Rattle.hurd_core.specs.Core.{world_of};
 ghost use Rattle.hurd_core.specs.PortNode.{named_of};
 ghost use Rattle.hurd_dirs.specs.Rename.{is_inside, trees_ask, leaves_asks, leaving, leaving_of, gives_way, old_asks, rename_asks, is_there, plan_rename};
 
-use crate::entry::{is_dir, may_change, may_take, name_asked};
+use crate::entry::{may_change, may_take, name_asked};
 use hurd_core::{Core, PortNode};
 use hurd_creds::{Attrs, Errno, NodeName, TaskId};
-use hurd_trans_iface::Server;
+use hurd_trans_iface::{Server, is_dir};
 use std::alloc::Global;
 
 /// What goes where: a node, from which directory to which, and what stands there under its new name.

@@ -28,8 +28,9 @@ use Rattle.hurd_machine.proofs.CallLaws.{CallLaws, answered_piece, looking_laws}
 use Rattle.hurd_io.specs.declared.offset.Offset.{Offset}
 use Rattle.hurd_io.specs.declared.offset.Offset.TheVariants.{Place, Cursor}
 use Rattle.hurd_io.specs.declared.offset.IoAt.{IoAt}
-use Rattle.hurd_io.specs.Io.{io_at, offset_of, past, moved, Moves, plan_io, touches_io, most_read, read_asks, reads, plan_read, touches_read, write_asks, write_cursor, writes, plan_write, touches_write, stat_asks, plan_stat, touches_stat}
+use Rattle.hurd_io.specs.Io.{io_at, offset_of, past, moved, Moves, plan_io, touches_io, read_asks, reads, plan_read, touches_read, write_asks, write_cursor, writes, plan_write, touches_write, stat_asks, plan_stat, touches_stat}
 use Rattle.hurd_creds.specs.Bits.{READ, WRITE}
+use Rattle.hurd_creds.specs.Limits.{most_read}
 use Rattle.hurd_trans_iface.proofs.Goods.{good}
 use Rattle.hurd_machine.specs.declared.handle.Handle.{Handle}
 use Rattle.hurd_machine.specs.declared.call.Reply.TheVariants.{Data, Count, Stat}

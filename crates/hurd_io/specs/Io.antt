@@ -6,6 +6,7 @@ use Rattle.hurd_creds.specs.declared.errno.Errno.TheVariants.{EINVAL, EISDIR}
 use Rattle.hurd_creds.specs.Bits.{asks, READ, WRITE, APPEND}
 use Rattle.hurd_creds.specs.Stats.{stat_of}
 use Rattle.hurd_creds.specs.declared.attrs.Stat.{Stat}
+use Rattle.hurd_creds.specs.Limits.{most_read}
 use Rattle.hurd_trans_iface.specs.Nodes.{is_dir}
 use Rattle.hurd_trans_iface.specs.Behaviour.{Did, Question, edits_of, reading, writing}
 use Rattle.hurd_nodes.specs.Shown.{NodeState}
@@ -75,10 +76,6 @@ touches_io w asks q = asked_parts asks (λ a. asked_parts (asked_at (q a.at) a.n
 -- a read or a write that needs no memory: it is refused before the server is asked, or needs none there, at the place that is asked for
 abbrev pub free_io : World → Result IoAt Errno → (ℕ → Name → NodeState → Type 0) → Type 0
 free_io w asks free = IfOk asks (λ a. free a.at a.node (nodes_of w))
-
--- the most bytes of one read
-abbrev pub most_read : ℕ
-most_read = 65536
 
 abbrev pub reads : ℕ → ℕ → Question (List ℕ)
 reads amount at = reading at (min amount most_read)

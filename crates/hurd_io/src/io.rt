@@ -7,13 +7,10 @@ ghost use Rattle.hurd_io.specs.Io.{free_read, free_write, read_asks, plan_read, 
 
 use crate::offset::{IoAt, Offset};
 use hurd_core::Core;
-use hurd_creds::{Bytes, Errno, Kind, OpenFlags, Stat, TaskId};
+use hurd_creds::{Bytes, Errno, Kind, MOST_READ, OpenFlags, Stat, TaskId};
 use hurd_machine::Handle;
 use hurd_trans_iface::Server;
 use std::alloc::Global;
-
-/// The most bytes of one read.
-const MOST_READ: u64 = 65536;
 
 /// Where a read from what a port has open begins.
 ///

@@ -2,8 +2,9 @@
 use Rattle.std.proofs.Common.{◌≡◌, refl, nat_lt, true, false, Bool, ℕ, List, length, Option, Some, None, Ok, Err}
 use Rattle.std.proofs.lemmas.Bool.{lt-ltb}
 use Rattle.hurd_creds.specs.Access.{IdSets}
+use Rattle.hurd_creds.specs.Limits.{most_script}
 use Rattle.hurd_script.specs.Commands.{CommandLine}
-use Rattle.hurd_script.specs.Script.{bad, commands_of, most_bytes, names_of, users_of}
+use Rattle.hurd_script.specs.Script.{bad, commands_of, names_of, users_of}
 use Rattle.hurd_terminal.specs.declared.fault.Fault.{Fault}
 use Rattle.hurd_terminal.specs.declared.fault.Fault.TheVariants.{Read, Write, Bad, Boot, Memory}
 use Rattle.hurd_terminal.specs.declared.print.Output.{Output}
@@ -20,7 +21,7 @@ use Rattle.hurd_learns.specs.Users.{tasks_named}
 
 -- a script that is too long is bad at line 0
 pub scripts_limited : (word : List ℕ) → HasLimit (plain (learning word))
-scripts_limited word xs long = let test : nat_lt most_bytes (length xs) ≡ true = lt-ltb _ _ long in rw test refl
+scripts_limited word xs long = let test : nat_lt most_script (length xs) ≡ true = lt-ltb _ _ long in rw test refl
 
 -- nothing is printed of a script that is not read
 pub not_read : (word text : List ℕ) (before : Option (List ℕ)) (fault : Fault) → NotRead text fault → Ran (learning word) (Some text) before before (Err fault)

@@ -11,6 +11,7 @@ use Rattle.hurd_words.specs.declared.fault.ReadFault.TheVariants as read_fault
 use Rattle.hurd_trans_iface.specs.Meaning.{Meaning}
 use Rattle.hurd_machine.specs.Calls.{Call, call_by}
 use Rattle.hurd_creds.specs.declared.name.TaskId.{TaskId}
+use Rattle.hurd_creds.specs.Limits.{most_script, most_tasks}
 use Rattle.hurd_lists.specs.Arguments.{ids_of, task_of, text_of}
 use Rattle.hurd_lists.specs.Calls.{begun, call_of, server_of, with_server}
 use Rattle.hurd_lists.specs.Reading.{◌>>=◌}
@@ -20,14 +21,6 @@ use Rattle.hurd_lists.specs.declared.reader.CallList.{CallList}
 use Rattle.hurd_lists.specs.declared.reader.ListFault.{ListFault}
 use Rattle.hurd_lists.specs.declared.reader.ListFault.TheVariants as fault
 use Rattle.hurd_lists.specs.declared.reader.ListedCall.{ListedCall}
-
--- how many bytes a list may have
-abbrev pub most_bytes : ℕ
-most_bytes = 1048576
-
--- how many tasks there may be
-abbrev pub most_tasks : ℕ
-most_tasks = 64
 
 -- `task UIDS GIDS`: the ids of a task
 abbrev pub task_from : List (List ℕ) → Option IdSets
@@ -100,7 +93,7 @@ unsaid = record { tasks = []; calls = [] }
 
 -- what a list says, its tasks and its calls, or the line at which it is bad: 0 for one that is too long, else its first bad line
 abbrev pub reading_of : List ℕ → Result Standing ℕ
-reading_of list = if nat_lt most_bytes (length list) then Err 0 else read_from 1 unsaid (lines_of list)
+reading_of list = if nat_lt most_script (length list) then Err 0 else read_from 1 unsaid (lines_of list)
 
 -- what a call says that was read, where each box means this: the server of its words is in it
 abbrev pub listed_by : {S : Type 0} → (S → Meaning) → ListedCall S → Listed

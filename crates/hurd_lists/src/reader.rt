@@ -8,19 +8,13 @@ use crate::arguments::{ids, task, text};
 use crate::calls::{call_of, server_of};
 use crate::verb::verb_of;
 use crate::words::words_of;
-use hurd_creds::{Bytes, Ids, TaskId};
+use hurd_creds::{Bytes, Ids, MOST_SCRIPT, MOST_TASKS, TaskId};
 use hurd_machine::Call;
 use hurd_trans_iface::{Server, Words};
 use hurd_words::fault::ReadFault;
 use hurd_words::lines::{is_skipped, skip_spaces, without_end};
 use hurd_words::words::pieces;
 use std::alloc::{AllocError, Global};
-
-/// How many bytes a list may have.
-const MOST_BYTES: usize = 1_048_576;
-
-/// How many tasks there may be.
-const MOST_TASKS: usize = 64;
 
 /// A call of a list. It has no server in it, and a start without one is a start that failed: who makes the call makes the
 /// server of the words first, and puts it in by `with_server`.
@@ -172,7 +166,7 @@ fn fault_at(fault: ReadFault, line: u64) -> ListFault
 pub fn parse_calls<S: Server>(alloc: Global, list: &[u8]) -> Result<CallList<S>, ListFault>
     ensures { Parses S.meaning (reading_of list.now) result }
 {
-    if list.len() > MOST_BYTES {
+    if list.len() > MOST_SCRIPT {
         return Err(ListFault::Bad { line: 0 });
     }
     let lines = pieces(alloc, list, b'\n')?;

@@ -3,7 +3,8 @@ use Rattle.std.proofs.Common.{◌≡◌, ◌∙◌, ◌<◌, ◌≤◌, ℕ, suc
 use Rattle.std.proofs.lemmas.Bool.Decides.{nat_tests}
 use Rattle.std.proofs.lemmas.List.{length-append, append_assoc, append-nil}
 use Rattle.std.specs.List.{slice_split}
-use Rattle.hurd_lookup.specs.Path.{behind_slashes, is_nil, is_slash_byte, most_path, names_in, onto, rest_of, slash}
+use Rattle.hurd_creds.specs.Limits.{most_path}
+use Rattle.hurd_lookup.specs.Path.{behind_slashes, is_nil, is_slash_byte, names_in, onto, rest_of, slash}
 use Rattle.hurd_lookup.specs.Lookup.{is_last}
 use Rattle.hurd_lookup.specs.Ends.{ending}
 

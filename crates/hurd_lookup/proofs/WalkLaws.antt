@@ -13,6 +13,7 @@ use Rattle.hurd_creds.specs.declared.errno.Errno.{Errno}
 use Rattle.hurd_creds.specs.declared.errno.Errno.TheVariants.{EACCES, EDIED, EEXIST, ELOOP, ENAMETOOLONG, ENOENT, ENOTDIR}
 use Rattle.hurd_creds.specs.Access.{may}
 use Rattle.hurd_creds.specs.Bits.{asks, CREATE, NOLINK, NOTRANS}
+use Rattle.hurd_creds.specs.Limits.{most_path}
 use Rattle.hurd_trans_iface.specs.Nodes.{Node, Header, is_dir, passive_of, some_words}
 use Rattle.hurd_trans_iface.specs.Answers.{entry_of}
 use Rattle.hurd_trans_iface.specs.Meaning.{root_of}
@@ -33,7 +34,7 @@ use Rattle.hurd_machine.proofs.Asks.{on_same, given_same, first_same, on_ok, giv
 use Rattle.hurd_lookup.specs.declared.request.Request.{Request}
 use Rattle.hurd_lookup.specs.declared.walk.Next.{Next}
 use Rattle.hurd_lookup.specs.declared.walk.Next.TheVariants.{There, Entry, Back, Absent}
-use Rattle.hurd_lookup.specs.Path.{most_path, rest_of, onto}
+use Rattle.hurd_lookup.specs.Path.{rest_of, onto}
 use Rattle.hurd_lookup.specs.Lookup as lookup
 use Rattle.hurd_lookup.specs.Lookup.{NewPort, Place, AtNode, AtName, Elsewhere, Waits, Crossed, to_parent, came_in_at, step_up, or_absent, step_asks, is_exclusive, is_last, no_ids, go_back, enter, link_place, follow, crossing, root_asks, cross, root_on, crossed_at, to_cross, across, over, stepped, walk}
 

@@ -14,6 +14,7 @@ use Rattle.hurd_creds.specs.declared.errno.Errno.TheVariants.{EACCES, EDIED, EEX
 use Rattle.hurd_creds.specs.Access.{IdSets, may, least_uid}
 use Rattle.hurd_creds.specs.Bits.{asks, known_mode, open_modes, READ, WRITE, EXEC, CREATE, EXCL, NOTRANS, NOLINK, DIRECTORY}
 use Rattle.hurd_creds.specs.Names.{same_name}
+use Rattle.hurd_creds.specs.Limits.{most_path}
 use Rattle.hurd_trans_iface.specs.Nodes.{Header, is_dir, passive_of}
 use Rattle.hurd_trans_iface.specs.Answers.{entry_of}
 use Rattle.hurd_trans_iface.specs.Meaning.{root_of}
@@ -39,7 +40,7 @@ use Rattle.hurd_core.specs.Core.{NewNodeAt, room_asks, making_open}
 use Rattle.hurd_lookup.specs.declared.request.Request.{Request}
 use Rattle.hurd_lookup.specs.declared.walk.Next.{Next}
 use Rattle.hurd_lookup.specs.declared.walk.Next.TheVariants.{There, Entry, Back, Absent}
-use Rattle.hurd_lookup.specs.Path.{names_in, ends_with_slash, is_short, most_path, rest_of, onto}
+use Rattle.hurd_lookup.specs.Path.{names_in, ends_with_slash, is_short, rest_of, onto}
 
 -- a port that a lookup makes: on which node, with which ids, and come in by which ways
 pub record NewPort : Type 0 where

@@ -15,7 +15,7 @@ use crate::walk::Place;
 use hurd_core::{Core, NodeToMake};
 use hurd_creds::{Attrs, Errno, Ids, Kind, NodeName, OpenFlags, ServerName, Want};
 use hurd_ports::Parent;
-use hurd_trans_iface::Server;
+use hurd_trans_iface::{Server, is_dir};
 
 /// What is to be done at the end of the names.
 #[derive(Clone, Copy, Debug)]
@@ -37,16 +37,6 @@ fn may_open(ids: &Ids, attrs: &Attrs, flags: OpenFlags) -> bool
     (!flags.asks(OpenFlags::READ) || ids.may(attrs, Want::Read))
         && (!flags.asks(OpenFlags::WRITE) || ids.may(attrs, Want::Write))
         && (!flags.asks(OpenFlags::EXEC) || ids.may(attrs, Want::Exec))
-}
-
-/// Whether a node is a directory.
-fn is_dir(kind: Kind) -> bool
-    ensures { result ≡ is_dir kind }
-{
-    match kind {
-        Kind::Dir => true,
-        Kind::File | Kind::Link | Kind::Fifo | Kind::Char => false,
-    }
 }
 
 /// Whether a server only gives its text: its root is a file or a link.

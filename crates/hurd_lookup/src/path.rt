@@ -3,10 +3,7 @@ ghost use Rattle.std.specs.Prelude.{◌≡◌, ◌<◌, ◌∷◌, [], length, M
 ghost use Rattle.std.specs.List.{position, position_or_len};
 ghost use Rattle.hurd_lookup.specs.Path.{names_in, is_slash_byte, from_name, ends_with_slash, has_short_names, is_short};
 
-/// The greatest lengths of a path and of a name.
-pub(crate) const MOST_PATH: usize = 1024;
-
-const MOST_NAME: usize = 255;
+use hurd_creds::{MOST_NAME, MOST_PATH};
 
 /// Where a path's first slash is, if it has one.
 fn slash_in(path: &[u8]) -> Option<usize>

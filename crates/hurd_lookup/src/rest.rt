@@ -1,10 +1,12 @@
 //! What is left of a path.
 ghost use Rattle.std.specs.Prelude.{◌≡◌, ◌++◌, ℕ, List, length, nat_le, IfOk, OnOk};
-ghost use Rattle.hurd_lookup.specs.Path.{behind_slashes, joined, most_path, names_in, onto, rest_of};
+ghost use Rattle.hurd_creds.specs.Limits.{most_path};
+ghost use Rattle.hurd_lookup.specs.Path.{behind_slashes, joined, names_in, onto, rest_of};
 ghost use Rattle.hurd_lookup.specs.Lookup.{is_last};
 ghost use Rattle.hurd_lookup.specs.Ends.{ending};
 
-use crate::path::{MOST_PATH, first_name};
+use crate::path::first_name;
+use hurd_creds::MOST_PATH;
 use std::alloc::{AllocError, Global};
 
 /// Whether no name is left.

@@ -9,7 +9,7 @@ ghost use Rattle.hurd_trans_iface.specs.Meaning.{keeps_tree};
 
 use crate::nodes::Nodes;
 use hurd_creds::{Attrs, Errno, Kind, NodeName};
-use hurd_trans_iface::{Crossing, Server};
+use hurd_trans_iface::{Crossing, Server, is_dir};
 
 impl<S: Server> Nodes<S> {
     /// Whether a node of this kind may be made in a directory under a name. Takes no memory.
@@ -229,16 +229,6 @@ pub(crate) fn has_tree<S: Server>(server: &S) -> bool
     match root.crossing {
         Crossing::Plain => is_dir(root.kind),
         Crossing::Link { .. } => false,
-    }
-}
-
-/// Whether a node of this kind is a directory.
-pub(crate) fn is_dir(kind: Kind) -> bool
-    ensures { result ≡ is_dir kind }
-{
-    match kind {
-        Kind::Dir => true,
-        Kind::File | Kind::Link | Kind::Fifo | Kind::Char => false,
     }
 }
 

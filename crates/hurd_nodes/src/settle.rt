@@ -10,7 +10,6 @@ ghost use Rattle.hurd_nodes.specs.Look.{Goes, HomedStay, IsLook, NamelessStay, S
 ghost use Rattle.hurd_nodes.specs.Settle.{node_stays, outside_of, server_stays, settle, sweep};
 ghost use Rattle.hurd_nodes.specs.Parts.{TakesOut};
 
-use crate::asking::is_dir;
 use crate::nodes::{BOOT_NAME, Nodes};
 use crate::search::{
     has_held, home_of, is_active, is_active_on, is_controlled, is_held, place_of_seat, remove_hold,
@@ -18,7 +17,7 @@ use crate::search::{
 };
 use crate::seat::{Hold, Homes, Look, Seats};
 use hurd_creds::{Attrs, NodeName, ServerName};
-use hurd_trans_iface::Server;
+use hurd_trans_iface::{Server, is_dir};
 use std::alloc::AllocError;
 
 impl<S: Server> Nodes<S> {

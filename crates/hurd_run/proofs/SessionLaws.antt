@@ -6,10 +6,10 @@ use Rattle.std.specs.Io.KnownBytes.{Appends}
 use Rattle.std.specs.List.{concat}
 use Rattle.std.specs.Option.{option_map}
 use Rattle.std.specs.Prelude.{if◌then◌else◌}
+use Rattle.hurd_creds.specs.Limits.{most_script}
 use Rattle.hurd_trans_iface.specs.Meaning.{Meaning, begin}
 use Rattle.hurd_kinds.specs.Boxes.{box_meaning}
 use Rattle.hurd_kinds.specs.declared.server_box.ServerBox.{ServerBox}
-use Rattle.hurd_script.specs.Script.{most_bytes}
 use Rattle.hurd_shell.specs.Session.{Answers, Begun, Takes, Tells, TakesUnlessFailed, View, has_failed, left_in}
 use Rattle.hurd_shell.specs.Transcript.{AsksFor, Dialogue, Maker, Part, ends, tells, wants, out_by, parts_by, parts_of}
 use Rattle.hurd_shell.specs.declared.fault.SessionFault.TheVariants as session
@@ -28,7 +28,7 @@ use Rattle.hurd_run.specs.Scripts.{scripts}
 
 -- a script that is too long is bad at line 0
 pub scripts_limited : HasLimit scripts
-scripts_limited xs long = let test : nat_lt most_bytes (length xs) ≡ true = lt-ltb _ _ long in rw test refl
+scripts_limited xs long = let test : nat_lt most_script (length xs) ≡ true = lt-ltb _ _ long in rw test refl
 
 -- nothing is printed where no session is begun
 pub not_begun : (script : List ℕ) (fault : Fault) → NotBegun new_tmpfs script fault → Prints scripts script (Err fault) []

@@ -3,16 +3,13 @@ use Rattle.std.specs.Prelude.{◌≡◌, ℕ, ◌&&◌, ◌||◌, Bool, not, Lis
 use Rattle.std.specs.List.{list_any, position_from}
 use Rattle.std.specs.FinSet as set
 use Rattle.hurd_creds.specs.Access.{IdSets}
+use Rattle.hurd_creds.specs.Limits.{most_script}
 use Rattle.hurd_words.specs.Lines.{is_skipped, lines_of, turns}
 use Rattle.hurd_words.specs.Words.{is_bad_word, text_of, words_of, written_words}
 use Rattle.hurd_words.specs.Users.{declared, declared_ids, is_bad_user, is_user_line, names_before}
 use Rattle.hurd_script.specs.Commands.{CommandLine, command_at, is_bad_command, is_command_line}
 use Rattle.hurd_script.specs.declared.reader.ScriptFault.{ScriptFault}
 use Rattle.hurd_script.specs.declared.reader.ScriptFault.TheVariants as fault
-
--- how many bytes a script may have
-abbrev pub most_bytes : ℕ
-most_bytes = 1048576
 
 -- a command came
 abbrev pub begun : List (List ℕ) → Bool
@@ -37,7 +34,7 @@ first_bad lines = position_from (λ turn. is_bad_line turn.earlier turn.line) 1 
 
 -- the line at which a script is bad, if it is: 0 for one that is too long, and else its first bad line
 abbrev pub bad : List ℕ → Option ℕ
-bad script = if nat_lt most_bytes (length script) then Some 0 else first_bad (lines_of script)
+bad script = if nat_lt most_script (length script) then Some 0 else first_bad (lines_of script)
 
 -- root's ids: user 0 and group 0
 abbrev pub root_ids : IdSets

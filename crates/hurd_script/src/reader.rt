@@ -1,27 +1,22 @@
 //! Reading a script.
 ghost use Rattle.std.specs.Prelude.{[], ◌≡◌, ◌⊎◌, ◌<◌, ◌≤◌, IfErr, IfOk, List, None, OnOk, Some, length, map, string_bytes, ℕ};
+ghost use Rattle.hurd_creds.specs.Limits.{most_tasks};
 ghost use Rattle.hurd_words.specs.Lines.{is_skipped};
 ghost use Rattle.hurd_words.specs.Reading.{Reads, said};
 ghost use Rattle.hurd_script.specs.Reading.{LineFaultOf, fault_at, standing, with_command, with_declared, with_line, with_user, with_words};
 ghost use Rattle.hurd_script.specs.Commands.{command_of};
 ghost use Rattle.hurd_script.specs.Script.{FaultOf, bad, commands_of, first_bad, names_of, users_of};
-ghost use Rattle.hurd_words.specs.Users.{Declaration, declaration_of, has_room_for, most_tasks};
+ghost use Rattle.hurd_words.specs.Users.{Declaration, declaration_of, has_room_for};
 
 use crate::command::{Command, verb_of};
 use crate::header::header;
-use hurd_creds::{Ids, TaskId};
+use hurd_creds::{Ids, MOST_SCRIPT, MOST_TASKS, TaskId};
 use hurd_words::fault::ReadFault;
 use hurd_words::lines::is_skipped;
 use hurd_words::users::{ids_from, is_taken, is_user_line, is_user_name, task_of};
 use hurd_words::words::{pieces, words_of};
 use std::alloc::{AllocError, Global};
 use std::marker::Model;
-
-/// How many bytes a script may have.
-const MOST_BYTES: usize = 1_048_576;
-
-/// How many tasks there may be, root's with them.
-const MOST_TASKS: usize = 64;
 
 /// A script that was read.
 #[derive(Debug, Drop)]
@@ -237,7 +232,7 @@ pub fn parse_script(alloc: Global, script: &[u8]) -> Result<Script, ScriptFault>
     ensures few { IfOk result (λ s. length s.names.items ≤ 64) }
     ensures fault { IfErr result (λ e. FaultOf script.now e) }
 {
-    if script.len() > MOST_BYTES {
+    if script.len() > MOST_SCRIPT {
         return Err(ScriptFault::Bad { line: 0 });
     }
     let lines = pieces(alloc, script, b'\n')?;

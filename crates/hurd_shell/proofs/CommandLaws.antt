@@ -2,11 +2,12 @@
 use Rattle.std.proofs.Common.{◌≡◌, ◌≤◌, ◌<◌, inl, inr, ℕ, zero, suc, ◌-◌, ◌++◌, ◌==◌, true, false, true≢false, List, [], ◌∷◌, length, Some, Result, Ok, Err, refl, sym, ◌∙◌, arith}
 use Rattle.std.proofs.lemmas.Bool.Decides.{eqb_tells}
 use Rattle.hurd_creds.specs.declared.errno.Errno.{Errno}
+use Rattle.hurd_creds.specs.Limits.{most_read}
 use Rattle.hurd_machine.specs.declared.call.Call.TheVariants.{FsysSetOptions, IoRead}
 use Rattle.hurd_machine.specs.World.{World}
 use Rattle.hurd_trans_iface.specs.Nodes.{has_words}
 use Rattle.hurd_shell.specs.Programs.{Prog, gives, made, data_of, done_of}
-use Rattle.hurd_shell.specs.Commands.{at_cursor, cat_from, cat_read, options, prints, read_amount, silent}
+use Rattle.hurd_shell.specs.Commands.{at_cursor, cat_from, cat_read, options, prints, silent}
 use Rattle.hurd_shell.specs.Progress.{Leads}
 use Rattle.hurd_shell.proofs.ProgramLaws.{leads_refl, tried_ends}
 
@@ -15,7 +16,7 @@ sub_one n = omega arith
 
 -- a read
 abbrev pub reading : ℕ → Prog (List ℕ)
-reading p = made (IoRead p read_amount at_cursor) data_of
+reading p = made (IoRead p most_read at_cursor) data_of
 
 cat_turn : {t : ℕ} {w x : World} (reads p : ℕ) (output : List ℕ) (r : Result (List ℕ) Errno) → 0 < reads → Leads t (reading p) w (gives r) x
     → Leads t (cat_from reads p output) w (cat_read output (cat_from (reads - 1) p) r) x

@@ -9,6 +9,7 @@ use Rattle.hurd_creds.specs.Bits.{READ, WRITE, CREATE, NOTRANS, NOLINK, DIRECTOR
 use Rattle.hurd_creds.specs.declared.trans_flags.TransFlags.{TransFlags}
 use Rattle.hurd_creds.specs.declared.trans_flags.GoawayFlags.{GoawayFlags}
 use Rattle.hurd_creds.specs.TransBits as trans
+use Rattle.hurd_creds.specs.Limits.{most_read}
 use Rattle.hurd_trans_iface.specs.Meaning.{Meaning}
 use Rattle.hurd_trans_iface.specs.Nodes.{has_words}
 use Rattle.hurd_machine.specs.declared.call.Call.TheVariants.{IoRead, IoWrite, IoStat, FileSetSize, FileChmod, FileChown, FileSetTranslator, FileGetTranslator, FileGetcontrol, FsysGetOptions, FsysSetOptions, DirReaddir, DirMkdir, DirRmdir, DirUnlink, DirLink, DirRename}
@@ -29,10 +30,6 @@ directory_mode = record { 0 = 493 }
 -- the offset that stands for the cursor: -1
 abbrev pub at_cursor : ℤ
 at_cursor = negsuc 0
-
--- how many bytes a read asks for
-abbrev pub read_amount : ℕ
-read_amount = 65536
 
 -- how many reads are made of a file at most
 abbrev pub most_reads : ℕ
@@ -59,7 +56,7 @@ cat_read output more (Ok (b ∷ bs)) = more (output ++ b ∷ bs)
 -- with so many reads left, a file's bytes from the cursor on, behind those that were read
 unfoldable pub cat_from : ℕ → ℕ → List ℕ → Prog Printed
 cat_from zero p output = gives (Ok (prints output))
-cat_from (suc reads) p output = tried (made (IoRead p read_amount at_cursor) data_of) (cat_read output (cat_from reads p))
+cat_from (suc reads) p output = tried (made (IoRead p most_read at_cursor) data_of) (cat_read output (cat_from reads p))
 
 -- cat: reads until one gives no bytes, one is refused, or no more may be made
 abbrev pub cat : ℕ → Prog Printed

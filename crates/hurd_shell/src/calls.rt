@@ -2,24 +2,22 @@
 ghost use Rattle.std.specs.Prelude.{◌≡◌, IfOk, IfErr, Ok, None, Some, IsSome};
 ghost use Rattle.hurd_creds.specs.Memory.{is_no_memory};
 ghost use Rattle.hurd_creds.specs.declared.open_flags.OpenFlags.{OpenFlags};
+ghost use Rattle.hurd_creds.specs.Limits.{most_read};
 ghost use Rattle.hurd_machine.specs.Calls.{BringsBegun, box_in, call_by, lacks_memory, refusal, reply_by};
 ghost use Rattle.hurd_laws.specs.Called.{Lacks};
 ghost use Rattle.hurd_world.specs.Held.{world_of};
 ghost use Rattle.hurd_shell.specs.Programs.{made, data_of, done_of, names_of, port_of, set_of, stat_of, unread, words_of};
-ghost use Rattle.hurd_shell.specs.Commands.{at_cursor, directory_mode, read_amount};
+ghost use Rattle.hurd_shell.specs.Commands.{at_cursor, directory_mode};
 ghost use Rattle.hurd_shell.specs.Looking.{file_mode, looked_of, looking};
 ghost use Rattle.hurd_shell.specs.Progress.{Ran, Stepped, stopped};
 
 use crate::fault::{NoMemory, Stop};
 use crate::looking::{Looked, Retry};
-use hurd_creds::{Bytes, Errno, Mode, OpenFlags, Stat, TaskId};
+use hurd_creds::{Bytes, Errno, MOST_READ, Mode, OpenFlags, Stat, TaskId};
 use hurd_machine::Setting;
 use hurd_trans_iface::{Names, Server, Words};
 use hurd_world::{Call, Lookup, Reply, RetryKind, World};
 use std::alloc::Global;
-
-/// How many bytes a read asks for.
-const READ_AMOUNT: u64 = 65_536;
 
 /// The offset that stands for the cursor.
 const AT_CURSOR: i64 = -1;
@@ -301,11 +299,11 @@ pub(crate) fn read<S: Server>(
     task: TaskId,
     port: u64,
 ) -> Result<Bytes, Stop>
-    ensures { Ran S.meaning task.0 (made (Call.IoRead port read_amount at_cursor) data_of) world.old result world.new }
+    ensures { Ran S.meaning task.0 (made (Call.IoRead port most_read at_cursor) data_of) world.old result world.new }
 {
     let call = Call::IoRead {
         port,
-        amount: READ_AMOUNT,
+        amount: MOST_READ,
         offset: AT_CURSOR,
     };
     data_of(made(world, alloc, task, call)?)

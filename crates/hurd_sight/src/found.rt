@@ -15,10 +15,10 @@ ghost use Rattle.hurd_sight.specs.Found.{Follows, FoundAll, FoundIsOne, FoundIsS
 ghost use Rattle.hurd_sight.specs.declared.found.Why.{Why};
 
 use crate::reach::Reach;
-use hurd_creds::{Attrs, Errno, Kind, NodeName, ServerName, TaskId, Want};
+use hurd_creds::{Attrs, Errno, NodeName, ServerName, TaskId, Want};
 use hurd_nodes::{BOOT_NAME, Nodes};
 use hurd_ports::{Parent, PendingStart, Port, Ports, Right, TaskSeat};
-use hurd_trans_iface::{Names, Server};
+use hurd_trans_iface::{Names, Server, is_dir};
 use indexmap::IndexMap;
 use std::alloc::{AllocError, Global};
 use std::marker::Model;
@@ -399,16 +399,6 @@ fn unless_memory(errno: Errno) -> Result<(), AllocError>
     match errno {
         Errno::ENOMEM => Err(AllocError),
         _ => Ok(()),
-    }
-}
-
-/// Whether this is a directory.
-fn is_dir(kind: Kind) -> bool
-    ensures { result ≡ is_dir kind }
-{
-    match kind {
-        Kind::Dir => true,
-        Kind::File | Kind::Link | Kind::Fifo | Kind::Char => false,
     }
 }
 

@@ -14,10 +14,10 @@ use crate::names::NameSet;
 use crate::near::{known_servers, sendable_servers};
 use crate::parts::SeenPart;
 use crate::reach::Reach;
-use hurd_creds::{Attrs, Kind, NodeName, ServerName, TaskId, Want};
+use hurd_creds::{Attrs, NodeName, ServerName, TaskId, Want};
 use hurd_nodes::{BOOT_NAME, Nodes};
 use hurd_ports::Ports;
-use hurd_trans_iface::Server;
+use hurd_trans_iface::{Server, is_dir};
 use std::alloc::{AllocError, Global};
 
 /// What a set of tasks sees of a world, as it was when it was looked at.
@@ -199,16 +199,6 @@ fn could_write<S: Server>(nodes: &Nodes<S>, reach: &Reach, node: NodeName) -> bo
     match nodes.attrs(node) {
         Some(attrs) => reach.could(&attrs, Want::Write),
         None => false,
-    }
-}
-
-/// Whether this is a directory.
-fn is_dir(kind: Kind) -> bool
-    ensures { result ≡ is_dir kind }
-{
-    match kind {
-        Kind::Dir => true,
-        Kind::File | Kind::Link | Kind::Fifo | Kind::Char => false,
     }
 }
 

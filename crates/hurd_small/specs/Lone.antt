@@ -6,9 +6,9 @@ use Rattle.hurd_creds.specs.Memory.{Meets}
 use Rattle.hurd_creds.specs.declared.name.Name.{Name}
 use Rattle.hurd_creds.specs.declared.errno.Errno.{Errno}
 use Rattle.hurd_creds.specs.declared.errno.Errno.TheVariants.{EDIED, EFBIG, ENOTDIR}
+use Rattle.hurd_creds.specs.Limits.{most_size}
 use Rattle.hurd_trans_iface.specs.Nodes.{Node, NodeMap}
 use Rattle.hurd_trans_iface.specs.Behaviour.{Effect, only, told_of}
-use Rattle.hurd_trans_iface.specs.TmpfsKind.{most_bytes}
 use Rattle.hurd_trans_iface.specs.Meaning.{Meaning, ServerKind, behaviour_of, new_root}
 use Rattle.hurd_small.specs.declared.presence.LoneNode.{LoneNode}
 use Rattle.hurd_small.specs.declared.presence.Presence.{Presence}
@@ -75,4 +75,4 @@ IsPut e bs taken = e ≡ still (count_if taken bs)
 
 -- an effect changes nothing, and takes a size up to the greatest or refuses it
 abbrev pub IsCut : Effect (Unit {0}) → ℕ → Result (Unit {0}) Errno → Type 0
-IsCut e size taken = e ≡ (if nat_lt most_bytes size then Err EFBIG else still taken)
+IsCut e size taken = e ≡ (if nat_lt most_size size then Err EFBIG else still taken)

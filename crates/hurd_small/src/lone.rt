@@ -3,12 +3,9 @@ ghost use Rattle.hurd_small.specs.Lone.{lone_meaning};
 
 use crate::presence::{LoneNode, Presence};
 use crate::single::Single;
-use hurd_creds::{Attrs, Bytes, Errno, Mode, NodeName};
+use hurd_creds::{Attrs, Bytes, Errno, MOST_SIZE, Mode, NodeName};
 use hurd_trans_iface::{Names, NewNode, Readable, Root, Server, Words};
 use std::alloc::Global;
-
-/// The greatest size that a node may be cut or grown to, in bytes.
-const MOST_BYTES: u64 = 16_777_216;
 
 /// A server of one node, which is no directory, and of which nothing changes but its options, and that it gets its name and is forgotten.
 #[derive(Drop)]
@@ -96,7 +93,7 @@ impl<S: Single> Server for Lone<S> {
         if self.presence.find(node).is_none() {
             return Err(Errno::EDIED);
         }
-        if size > MOST_BYTES {
+        if size > MOST_SIZE {
             return Err(Errno::EFBIG);
         }
         self.single.takes()

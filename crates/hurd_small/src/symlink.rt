@@ -1,20 +1,17 @@
 //! A link.
 ghost use Rattle.std.specs.Prelude.{◌≡◌, ◌≤◌, length, Some, None, IfOk, IfErr, IfSome, MatchOption};
 ghost use Rattle.std.specs.Option.{option_map};
+ghost use Rattle.hurd_creds.specs.Limits.{most_path};
 ghost use Rattle.hurd_trans_iface.specs.Meaning.{begin, begin_as, Symlink as SymlinkKind};
 ghost use Rattle.hurd_small.specs.Lone.{text_as};
-ghost use Rattle.hurd_trans_iface.specs.SymlinkKind.{most_path};
 ghost use Rattle.hurd_small.specs.Symlink.{symlink_meaning};
 
 use crate::lone::Lone;
 use crate::presence::Presence;
 use crate::target::Target;
-use hurd_creds::{Bytes, Errno};
+use hurd_creds::{Bytes, Errno, MOST_PATH};
 use hurd_trans_iface::Words;
 use std::alloc::Global;
-
-/// The most bytes of a path.
-const MOST_PATH: usize = 1024;
 
 /// A link, which leads to where its text says (the Hurd's `/hurd/symlink`).
 pub type Symlink = Lone<Target>;

@@ -1,7 +1,8 @@
 //! What a link says of itself.
 ghost use Rattle.std.specs.Prelude.{◌≡◌, ◌≤◌, length, refl};
+ghost use Rattle.hurd_creds.specs.Limits.{most_path};
 ghost use Rattle.hurd_trans_iface.specs.Meaning.{Symlink as SymlinkKind};
-ghost use Rattle.hurd_trans_iface.specs.SymlinkKind.{is_absolute, most_path};
+ghost use Rattle.hurd_trans_iface.specs.SymlinkKind.{is_absolute};
 
 use crate::single::Single;
 use crate::text;

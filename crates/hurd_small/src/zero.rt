@@ -7,12 +7,9 @@ use crate::lone::Lone;
 use crate::presence::Presence;
 use crate::single::Single;
 use crate::words::{is_alone, no_options};
-use hurd_creds::{Bytes, Errno, Kind};
+use hurd_creds::{Bytes, Errno, Kind, MOST_READ};
 use hurd_trans_iface::{Crossing, Readable, Root, Words};
 use std::alloc::Global;
-
-/// How many zero bytes there always are: as many as one read gives at most.
-const MOST_ZEROS: u64 = 65_536;
 
 /// A stream of zero bytes without end, which drops what it takes (the Hurd's `/hurd/zero`).
 pub type Zero = Lone<Zeros>;
@@ -86,7 +83,7 @@ impl Single for Zeros {
 
     fn readable(&self, _at: u64) -> Readable {
         Readable {
-            count: MOST_ZEROS,
+            count: MOST_READ,
             is_stream: true,
         }
     }

@@ -3,7 +3,8 @@ use Rattle.std.specs.Prelude.{Option, Result}
 use Rattle.std.proofs.Common.{◌≡◌, ◌∙◌, ◌+◌, ap, sym, drop, Bool, inr, refl, nat_lt, true, false, ℕ, List, length, map, Some, None, Ok, Err}
 use Rattle.std.proofs.lemmas.Bool.{lt-ltb}
 use Rattle.hurd_creds.specs.Access.{IdSets}
-use Rattle.hurd_lists.specs.Lists.{Listed, Standing, listed_by, most_bytes, reading_of, said_by}
+use Rattle.hurd_creds.specs.Limits.{most_script}
+use Rattle.hurd_lists.specs.Lists.{Listed, Standing, listed_by, reading_of, said_by}
 use Rattle.hurd_lists.specs.declared.reader.CallList.{CallList}
 use Rattle.hurd_machine.specs.World.{World}
 use Rattle.hurd_making.specs.Faults.{NotBegun, NotRead}
@@ -29,7 +30,7 @@ use Rattle.hurd_tasks_learn.proofs.Following.{some_none}
 
 -- a list that is too long is bad at line 0
 pub lists_limited : (word : List ℕ) → HasLimit (plain (learning word))
-lists_limited word xs long = let test : nat_lt most_bytes (length xs) ≡ true = lt-ltb _ _ long in rw test refl
+lists_limited word xs long = let test : nat_lt most_script (length xs) ≡ true = lt-ltb _ _ long in rw test refl
 
 module _ (learners : Learners) (calls : List Listed) (w : World) (before : Option (List ℕ)) where
   -- some first calls were made

@@ -1,10 +1,11 @@
 //! Reading a text.
+ghost use Rattle.hurd_creds.specs.Limits.{most_script};
 ghost use Rattle.std.specs.Prelude.{◌≡◌, ◌+◌, ◌<◌, ◌≤◌, ◌++◌, ◌⊎◌, ℕ, List, true, false, IfOk, IfErr, IfSome, OnOk, length, take};
 ghost use Rattle.std.specs.Io.KnownBytes.{Consumes, IsAtEnd};
 ghost use Rattle.hurd_terminal.specs.Faults.{IsReadFault};
 
 use crate::fault::Fault;
-use hurd_creds::Bytes;
+use hurd_creds::{Bytes, MOST_SCRIPT};
 use std::alloc::Global;
 use std::io::{ErrorKind, Read};
 
@@ -12,7 +13,7 @@ use std::io::{ErrorKind, Read};
 const MOST_READS: u32 = 2_097_152;
 
 /// How many bytes are read at most: one more than a text may have.
-const MOST_BYTES: usize = 1_048_577;
+const MOST_BYTES: usize = MOST_SCRIPT + 1;
 
 /// How many bytes one read asks for.
 const READ_BYTES: usize = 4096;
@@ -76,7 +77,7 @@ impl<R: Read> Input<R> {
 ///
 /// An interrupted read is made again. `Read` where a read fails, or where 2,097,152 reads don't reach the end; else `Memory`.
 pub fn read_text<R: Read>(alloc: Global, input: &mut Input<R>) -> Result<Bytes, Fault>
-    ensures ok { IfOk result (λ text. IfSome (R.remaining input.old.reader) (λ bytes. text ≡ take 1048577 bytes)) }
+    ensures ok { IfOk result (λ text. IfSome (R.remaining input.old.reader) (λ bytes. text ≡ take (most_script + 1) bytes)) }
     ensures consumed { IfOk result (λ text. Consumes (R.remaining input.old.reader) (R.remaining input.new.reader) text) }
     ensures err { IfErr result (λ fault. IsReadFault input.new fault) }
 {

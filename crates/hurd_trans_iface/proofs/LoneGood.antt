@@ -3,11 +3,11 @@ use Rattle.std.proofs.Common.{◌≡◌, ℕ, false, List, [], nat_lt, refl, sym
 use Rattle.std.specs.Prelude.{Some, None, Ok, Err}
 use Rattle.hurd_creds.specs.declared.errno.Errno.{Errno}
 use Rattle.hurd_creds.specs.Memory.{is_no_memory}
+use Rattle.hurd_creds.specs.Limits.{most_size}
 use Rattle.hurd_trans_iface.specs.Nodes.{Body, Node}
 use Rattle.hurd_trans_iface.specs.Answers.{is_tree}
 use Rattle.hurd_trans_iface.specs.Behaviour.{Did, Behaviour, Question, reading, writing, resizing}
 use Rattle.hurd_trans_iface.specs.Good.{GoodBehaviour, IsBlind, KeepsRoot, KeepsSizes}
-use Rattle.hurd_trans_iface.specs.TmpfsKind.{most_bytes}
 use Rattle.hurd_trans_iface.specs.HelloKind.{hello}
 use Rattle.hurd_trans_iface.specs.NullKind.{null}
 use Rattle.hurd_trans_iface.specs.ZeroKind.{zeros}
@@ -63,7 +63,7 @@ hello_good = good_still hello (record {
   sizes = λ text c e. refl;
   read = λ at amount text x. (refl, refl);
   write = λ at bs text x. refl;
-  set_size = λ size text x. fine_if Leaves (nat_lt most_bytes size) _ _ (λ long. refl) (λ short. refl);
+  set_size = λ size text x. fine_if Leaves (nat_lt most_size size) _ _ (λ long. refl) (λ short. refl);
   write_blind = λ at bs text h c e. refl;
   set_size_blind = λ size text h c e. refl;
   no_words = refl;
@@ -78,7 +78,7 @@ null_good = good_still null (record {
   sizes = λ text c e. refl;
   read = λ at amount text x. (refl, refl);
   write = λ at bs text x. (refl, refl);
-  set_size = λ size text x. fine_if Leaves (nat_lt most_bytes size) _ _ (λ long. refl) (λ short. (refl, refl));
+  set_size = λ size text x. fine_if Leaves (nat_lt most_size size) _ _ (λ long. refl) (λ short. (refl, refl));
   write_blind = λ at bs text h c e. refl;
   set_size_blind = λ size text h c e. refl;
   no_words = refl;
@@ -93,7 +93,7 @@ zeros_good = good_still zeros (record {
   sizes = λ text c e. refl;
   read = λ at amount text x. (refl, refl);
   write = λ at bs text x. (refl, refl);
-  set_size = λ size text x. fine_if Leaves (nat_lt most_bytes size) _ _ (λ long. refl) (λ short. (refl, refl));
+  set_size = λ size text x. fine_if Leaves (nat_lt most_size size) _ _ (λ long. refl) (λ short. (refl, refl));
   write_blind = λ at bs text h c e. refl;
   set_size_blind = λ size text h c e. refl;
   no_words = refl;
@@ -108,7 +108,7 @@ symlink_good = good_still symlink (record {
   sizes = λ text c e. refl;
   read = λ at amount text x. (refl, refl);
   write = λ at bs text x. refl;
-  set_size = λ size text x. fine_if Leaves (nat_lt most_bytes size) _ _ (λ long. refl) (λ short. refl);
+  set_size = λ size text x. fine_if Leaves (nat_lt most_size size) _ _ (λ long. refl) (λ short. refl);
   write_blind = λ at bs text h c e. refl;
   set_size_blind = λ size text h c e. refl;
   no_words = refl;

@@ -9,9 +9,9 @@ use Rattle.hurd_creds.specs.declared.errno.Errno.TheVariants.{EINVAL}
 use Rattle.hurd_creds.specs.Memory.{is_no_memory}
 use Rattle.std.specs.Option.{option_map}
 use Rattle.std.specs.Str.{bytes_eq}
+use Rattle.hurd_creds.specs.Limits.{most_path}
 use Rattle.hurd_trans_iface.specs.Meaning.{Meaning, ServerKind, Tmpfs, Hello, Null, Zero, Symlink, all_kinds, begin, begin_among, begin_as, behaviour_of, new_server, options_of}
 use Rattle.hurd_trans_iface.specs.HelloKind.{behind, most_text, says_text, short_text, text_in, hello_options}
-use Rattle.hurd_trans_iface.specs.SymlinkKind.{most_path}
 use Rattle.hurd_trans_iface.specs.Words.{IsWithinLimits}
 use Rattle.hurd_trans_iface.proofs.Goodness.{no-options-text}
 use Rattle.hurd_trans_iface.proofs.Beginnings.{first_or}

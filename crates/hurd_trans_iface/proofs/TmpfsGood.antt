@@ -4,12 +4,13 @@ use Rattle.std.specs.Prelude.{Some, None}
 use Rattle.hurd_creds.specs.declared.name.Name.{Name}
 use Rattle.hurd_creds.specs.declared.attrs.Kind.{Kind}
 use Rattle.hurd_creds.specs.declared.attrs.Kind.TheVariants.{File, Dir, Link, Fifo, Char}
+use Rattle.hurd_creds.specs.Limits.{most_size}
 use Rattle.hurd_trans_iface.specs.declared.new_node.NewNode.{NewNode}
 use Rattle.hurd_trans_iface.specs.Nodes.{Header, Body, Content, Listing, Node, is_dir, bytes_put, bytes_resized, with_entry, without_entry, new_file, new_dir}
 use Rattle.hurd_trans_iface.specs.Answers.{node_of_kind}
 use Rattle.hurd_trans_iface.specs.Behaviour.{Did}
 use Rattle.hurd_trans_iface.specs.Good.{GoodBehaviour, IsSized}
-use Rattle.hurd_trans_iface.specs.TmpfsKind.{tmpfs, most_bytes, read_bytes, put_into, write_file, cut_file}
+use Rattle.hurd_trans_iface.specs.TmpfsKind.{tmpfs, read_bytes, put_into, write_file, cut_file}
 use Rattle.hurd_trans_iface.proofs.Lengths.{put_grows, put_stays, length-resized}
 use Rattle.hurd_trans_iface.proofs.Goodness.{KeepsSize, IsFine, fine_done, fine_refused, fine_if, no-options-text, no-options-plain}
 
@@ -34,7 +35,7 @@ module _ (text : List ℕ) where
   writes_well : (h : Header) (b : Body) (at : ℕ) (bs : List ℕ) → IsFine (Keeps h b) (write_file h at bs)
   writes_well h b at bs =
       fine_if (Keeps h b) (is_dir h.kind) _ _ (λ dir. refl) (λ file.
-      fine_if (Keeps h b) (nat_lt most_bytes (at + length bs)) _ _ (λ long. refl) (λ short. put_well h b at bs file))
+      fine_if (Keeps h b) (nat_lt most_size (at + length bs)) _ _ (λ long. refl) (λ short. put_well h b at bs file))
 
   cut_well : (h : Header) (b : Body) (size : ℕ) → is_dir h.kind ≡ false → Keeps {T = Unit {0}} h b (record { told = tt; bytes = Some (bytes_resized size); size = Some size })
   cut_well h (Content old) size file = λ shaped sized. sym (length-resized size old)
@@ -42,7 +43,7 @@ module _ (text : List ℕ) where
 
   resizes_well : (h : Header) (b : Body) (size : ℕ) → IsFine (Keeps h b) (cut_file h size)
   resizes_well h b size =
-      fine_if (Keeps h b) (nat_lt most_bytes size) _ _ (λ long. refl) (λ short.
+      fine_if (Keeps h b) (nat_lt most_size size) _ _ (λ long. refl) (λ short.
       fine_if (Keeps h b) (is_dir h.kind) _ _ (λ dir. refl) (λ file. cut_well h b size file))
 
 entry_sizes : (text name : List ℕ) (n : Name) (c : Body) → tmpfs.size text (with_entry name n c) ≡ tmpfs.size text c

@@ -5,9 +5,9 @@ use Rattle.std.specs.Str.{bytes_eq}
 use Rattle.hurd_creds.specs.declared.attrs.Kind.TheVariants.{File}
 use Rattle.hurd_creds.specs.declared.errno.Errno.{Errno}
 use Rattle.hurd_creds.specs.declared.errno.Errno.TheVariants.{EINVAL, EOPNOTSUPP, EFBIG}
+use Rattle.hurd_creds.specs.Limits.{most_size}
 use Rattle.hurd_trans_iface.specs.declared.root.Crossing.TheVariants.{Plain}
 use Rattle.hurd_trans_iface.specs.Behaviour.{Behaviour, only}
-use Rattle.hurd_trans_iface.specs.TmpfsKind.{most_bytes}
 
 -- what a word has behind its first bytes, where these are so
 abbrev pub behind : List ℕ → List ℕ → Option (List ℕ)
@@ -57,6 +57,6 @@ hello = record {
   size = λ text b. length text;
   read = λ text x at amount. only (take amount (drop at text));
   write = λ text x at bs. Err EOPNOTSUPP;
-  set_size = λ text x size. if nat_lt most_bytes size then Err EFBIG else Err EOPNOTSUPP;
+  set_size = λ text x size. if nat_lt most_size size then Err EFBIG else Err EOPNOTSUPP;
   readable = λ text x at. length text - at;
 }

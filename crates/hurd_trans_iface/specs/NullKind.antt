@@ -2,9 +2,10 @@
 use Rattle.std.specs.Prelude.{true, false, if◌then◌else◌, [], ◌∷◌, length, nat_lt, codes, Err}
 use Rattle.hurd_creds.specs.declared.attrs.Kind.TheVariants.{Char}
 use Rattle.hurd_creds.specs.declared.errno.Errno.TheVariants.{EFBIG}
+use Rattle.hurd_creds.specs.Limits.{most_size}
 use Rattle.hurd_trans_iface.specs.declared.root.Crossing.TheVariants.{Plain}
 use Rattle.hurd_trans_iface.specs.Behaviour.{Behaviour, only}
-use Rattle.hurd_trans_iface.specs.TmpfsKind.{most_bytes, no_text, no_options}
+use Rattle.hurd_trans_iface.specs.TmpfsKind.{no_text, no_options}
 
 abbrev pub null : Behaviour
 null = record {
@@ -18,6 +19,6 @@ null = record {
   size = λ text b. 0;
   read = λ text x at amount. only [];
   write = λ text x at bs. only (length bs);
-  set_size = λ text x size. if nat_lt most_bytes size then Err EFBIG else only tt;
+  set_size = λ text x size. if nat_lt most_size size then Err EFBIG else only tt;
   readable = λ text x at. 0;
 }

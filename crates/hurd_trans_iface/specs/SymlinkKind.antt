@@ -1,14 +1,11 @@
 -- A link, which leads to where its text says.
 use Rattle.std.specs.Prelude.{ℕ, ◌==◌, ◌&&◌, Bool, false, if◌then◌else◌, List, [], ◌∷◌, length, nat_le, codes, Option, Some, None}
 use Rattle.hurd_creds.specs.declared.attrs.Kind.TheVariants.{Link as LinkNode}
+use Rattle.hurd_creds.specs.Limits.{most_path}
 use Rattle.hurd_trans_iface.specs.declared.root.Crossing.TheVariants.{Link}
 use Rattle.hurd_trans_iface.specs.Behaviour.{Behaviour}
 use Rattle.hurd_trans_iface.specs.TmpfsKind.{no_options}
 use Rattle.hurd_trans_iface.specs.HelloKind.{hello}
-
--- the most bytes of a path
-abbrev pub most_path : ℕ
-most_path = 1024
 
 -- the one word is where it leads, which is a path that is not empty
 abbrev pub target_text : List (List ℕ) → Option (List ℕ)

@@ -3,13 +3,10 @@ use Rattle.std.specs.Prelude.{ℕ, ◌+◌, ◌-◌, true, false, if◌then◌el
 use Rattle.hurd_creds.specs.declared.attrs.Kind.TheVariants.{Dir}
 use Rattle.hurd_creds.specs.declared.errno.Errno.{Errno}
 use Rattle.hurd_creds.specs.declared.errno.Errno.TheVariants.{EBADF, EINVAL, EISDIR, EFBIG}
+use Rattle.hurd_creds.specs.Limits.{most_size}
 use Rattle.hurd_trans_iface.specs.declared.root.Crossing.TheVariants.{Plain}
 use Rattle.hurd_trans_iface.specs.Nodes.{Body, Content, Listing, Header, is_dir, bytes_put, bytes_resized}
 use Rattle.hurd_trans_iface.specs.Behaviour.{Did, Effect, Behaviour, only}
-
--- the greatest size of a file: 16 MiB
-abbrev pub most_bytes : ℕ
-most_bytes = 16777216
 
 -- bytes of a file, or all that there are from the place on
 abbrev pub read_bytes : ℕ → ℕ → Body → Effect (List ℕ)
@@ -27,12 +24,12 @@ put_into size at (b ∷ bs) = record {
 
 -- all bytes are taken; a directory takes none, and no file grows past the limit
 abbrev pub write_file : Header → ℕ → List ℕ → Effect ℕ
-write_file h at bs = if is_dir h.kind then Err EBADF else if nat_lt most_bytes (at + length bs) then Err EFBIG else Ok (put_into h.size at bs)
+write_file h at bs = if is_dir h.kind then Err EBADF else if nat_lt most_size (at + length bs) then Err EFBIG else Ok (put_into h.size at bs)
 
 -- cut, or grown by zero bytes
 abbrev pub cut_file : Header → ℕ → Effect (Unit {0})
 cut_file h size =
-    if nat_lt most_bytes size then Err EFBIG else if is_dir h.kind then Err EBADF
+    if nat_lt most_size size then Err EFBIG else if is_dir h.kind then Err EBADF
     else Ok (record { told = tt; bytes = Some (bytes_resized size); size = Some size })
 
 -- a file has as many bytes as its size says, a directory none

@@ -6,10 +6,7 @@ ghost use Rattle.hurd_trans_iface.specs.SymlinkKind.{target_text};
 ghost use Rattle.hurd_trans_iface.specs.TmpfsKind.{no_text};
 ghost use Rattle.hurd_trans_iface.specs.Words.{IsWithinLimits};
 
-use hurd_creds::Bytes;
-
-/// The most bytes of a path.
-const MOST_PATH: usize = 1024;
+use hurd_creds::{Bytes, MOST_PATH};
 
 /// Whether there are no words behind a program's name.
 fn says_nothing(arguments: &[Bytes]) -> bool

@@ -4,6 +4,7 @@ use Rattle.std.specs.List.{list_all, slice_split, position_from}
 use Rattle.std.specs.Char.{is_ascii_digit, is_ascii_lowercase}
 use Rattle.std.specs.Result.{result_ok}
 use Rattle.hurd_creds.specs.Access.{IdSets, ids_of}
+use Rattle.hurd_creds.specs.Limits.{most_tasks}
 use Rattle.hurd_words.specs.Lines.{is_skipped}
 use Rattle.hurd_words.specs.Words.{onto, words_of}
 use Rattle.hurd_words.specs.Numbers.{number_of}
@@ -62,10 +63,6 @@ ids_from _ _ = None
 -- the ids of a user
 abbrev pub declared_ids : Declaration → Option IdSets
 declared_ids user = ids_from (listed user.uids) (listed user.gids)
-
--- how many tasks there may be, root's with them
-abbrev pub most_tasks : ℕ
-most_tasks = 64
 
 -- whether a name is a good and new one, and may still be added to these
 abbrev pub has_room_for : List (List ℕ) → List ℕ → Bool

@@ -6,6 +6,7 @@ use Rattle.hurd_creds.specs.declared.errno.Errno.TheVariants.{EINVAL, ENOTDIR}
 use Rattle.hurd_creds.specs.declared.open_flags.OpenFlags.{OpenFlags}
 use Rattle.hurd_creds.specs.Access.{IdSets}
 use Rattle.hurd_creds.specs.Names.{name_of}
+use Rattle.hurd_creds.specs.Limits.{most_tasks}
 use Rattle.hurd_trans_iface.specs.Nodes.{is_dir}
 use Rattle.hurd_trans_iface.specs.Meaning.{Meaning, root_of}
 use Rattle.hurd_nodes.specs.Shown.{state_of, booted, boot_name}
@@ -13,10 +14,6 @@ use Rattle.hurd_ports.specs.declared.table.Right.TheVariants.{Io}
 use Rattle.hurd_ports.specs.Tables.{Task, OpenMap, PortState}
 use Rattle.hurd_ports.specs.Steps.{new_open}
 use Rattle.hurd_machine.specs.World.{World, world_from}
-
--- the most tasks of a world
-abbrev pub most_tasks : ℕ
-most_tasks = 64
 
 -- whether a boot server of this meaning and tasks of these ids begin a world: ENOTDIR where its root is no directory, EINVAL
 -- for more tasks than that

@@ -1,7 +1,8 @@
 //! The first ports of tasks.
 ghost use Rattle.std.specs.Prelude.{◌≡◌, ◌≤◌, length, IfOk, IfErr, Ok};
+ghost use Rattle.hurd_creds.specs.Limits.{most_tasks};
 ghost use Rattle.hurd_ports.specs.Tables.{room_of};
-ghost use Rattle.hurd_world.specs.Boot.{boot_ports, most_tasks};
+ghost use Rattle.hurd_world.specs.Boot.{boot_ports};
 ghost use Rattle.hurd_world.specs.BootPort.{with_boot_port};
 
 use hurd_creds::{Errno, Ids, OpenFlags, TaskId};

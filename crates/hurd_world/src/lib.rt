@@ -18,4 +18,4 @@ pub use hurd_laws::{
     never_wants_memory, others_unseen, own_from_view, quiet_unmoved, stays_sound,
 };
 pub use hurd_machine::{Call, Lookup, Reply, RetryKind, Whence};
-pub use world::{MOST_TASKS, World};
+pub use world::World;

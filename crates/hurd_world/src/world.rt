@@ -11,7 +11,7 @@ ghost use Rattle.hurd_world.specs.Boot.{boot_of, first_world};
 use crate::boot::first_ports;
 use crate::replies;
 use hurd_core::Core;
-use hurd_creds::{Errno, Ids, Kind, TaskId};
+use hurd_creds::{Errno, Ids, Kind, MOST_TASKS, TaskId};
 use hurd_dirs::{file, link, make, remove, rename};
 use hurd_files::{access, files};
 use hurd_fsys::{fsys, setting, starting};
@@ -23,9 +23,6 @@ use hurd_rights::rights;
 use hurd_trans_iface::Server;
 use std::alloc::{AllocError, Global};
 use std::marker::Model;
-
-/// The most tasks of a world.
-pub const MOST_TASKS: usize = 64;
 
 /// Tasks with their ports over a tree of nodes (GNU Hurd Reference Manual).
 #[derive(Drop)]

@@ -3,10 +3,11 @@ use Rattle.std.proofs.Common.{sym, refl, length, w64}
 use Rattle.std.specs.Prelude.{min}
 use Rattle.std.proofs.lemmas.Int.{to_z-of_z}
 use Rattle.std.proofs.lemmas.Result.{err_from_is_err_and}
+use Rattle.hurd_creds.specs.Limits.{most_read}
 use Rattle.hurd_machine.specs.declared.call.Reply.TheVariants.{Data}
 use Rattle.hurd_nodes.specs.Needs.{FreeRead}
 use Rattle.hurd_core.specs.Core.{world_of}
-use Rattle.hurd_io.specs.Io.{most_read, read_asks, reads}
+use Rattle.hurd_io.specs.Io.{read_asks, reads}
 use Rattle.hurd_io.proofs.RowLaws.{io-refused, io-refused-free, io-short, io-short-free, io-done}
 use Rattle.hurd_io.proofs.io.io_read.Goals as goal
 

@@ -1,8 +1,8 @@
 use Rattle.std.proofs.Common.{◌≤◌, ◌∙◌, refl, sym, ap₂, subst, length, arith}
 use Rattle.std.proofs.lemmas.Bool.{le-leb}
+use Rattle.hurd_creds.specs.Limits.{most_tasks}
 use Rattle.hurd_machine.specs.World.{world_from}
 use Rattle.hurd_machine.specs.Sound.{Sound}
-use Rattle.hurd_world.specs.Boot.{most_tasks}
 use Rattle.hurd_world.proofs.FirstPorts.{boot_holds}
 use Rattle.hurd_world.proofs.FirstWorld.{first_sound}
 use Rattle.hurd_world.proofs.world.World.boot.Goals as goal
