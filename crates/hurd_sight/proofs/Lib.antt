@@ -1,4 +1,5 @@
 pub mod CouldLaws
+pub mod GatherLaws
 pub mod ReachLaws
 pub mod FoundLaws
 pub mod NodeLaws

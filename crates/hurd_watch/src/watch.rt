@@ -18,7 +18,6 @@ pub struct Watch {
 }
 
 /// What is learned since something was looked at; nothing where nothing was.
-#[tactic(auto, unfolding(crate::specs::Watched::LearnedSince))]
 fn learned_since(
     alloc: Global,
     who: &[u8],
