@@ -1,12 +1,9 @@
 -- What becomes of one half of the world is what the machine's changes make of all of it.
 use Rattle.std.proofs.Common.{◌≡◌, ◌∙◌, inl, inr, ℕ, Bool, true, false, option_map, List, [], ◌∷◌, ◌++◌, Option, Some, None, refl, sym, ap, subst, slice_get, true≢false}
 use Rattle.std.specs.Prelude.{Result, Ok, Err, is_ok, if◌then◌else◌}
-use Rattle.std.specs.FinMap.{retain_keys}
-use Rattle.hurd_nodes.specs.declared.seat.Hold.{Hold}
-use Rattle.hurd_nodes.specs.declared.seat.Hold.TheVariants as hold
 use Rattle.hurd_creds.specs.declared.name.Name.{Name}
 use Rattle.hurd_creds.specs.declared.errno.Errno.{Errno}
-use Rattle.hurd_creds.specs.declared.errno.Errno.TheVariants.{ENOMEM, EOVERFLOW, ESRCH}
+use Rattle.hurd_creds.specs.declared.errno.Errno.TheVariants.{EBADF, ENOMEM, EOVERFLOW, ESRCH}
 use Rattle.hurd_creds.specs.declared.open_flags.OpenFlags.{OpenFlags}
 use Rattle.hurd_creds.specs.Access.{IdSets}
 use Rattle.hurd_creds.specs.Memory.{Meets}
@@ -16,17 +13,14 @@ use Rattle.hurd_nodes.specs.Shown.{NodeState, with_edits, can_set_attrs}
 use Rattle.hurd_ports.specs.declared.parents.Parent.{Parent}
 use Rattle.hurd_ports.specs.declared.table.Right.{Right}
 use Rattle.hurd_nodes.specs.Settle as kept
-use Rattle.hurd_nodes.specs.Held.{less_all}
-use Rattle.hurd_ports.specs.Tables.{PortState, Task, can_name, naming_at, naming_of, or_refuse, is_held, is_named, is_controlled, right_of, has_room, room_at, room_of}
-use Rattle.hurd_ports.specs.Steps.{named, new_right, with_new_port, deallocate_at, deallocate_step, dropped, edit_task, without_port, insert_at, insert_step}
+use Rattle.hurd_ports.specs.Tables.{PortState, Task, can_name, naming_at, naming_of, or_refuse, IsSettled, right_at, right_in, right_of, has_room, room_at, room_of}
+use Rattle.hurd_ports.specs.Steps.{named, new_right, with_new_port, deallocate_at, deallocate_step, dropped, edit_task, settle_opens, without_port, insert_at, insert_step}
 use Rattle.hurd_machine.specs.declared.call.Reply.TheVariants.{Done}
 use Rattle.hurd_machine.specs.World.{World, world_from}
-use Rattle.hurd_machine.specs.Change.{EditHeader, apply_all, dropping, opening}
+use Rattle.hurd_machine.specs.Change.{EditHeader, apply_all, dropping, opening, outside_by}
 use Rattle.hurd_machine.specs.Plan.{Plan, Follows, answered, told, on, given}
-use Rattle.hurd_machine.proofs.Asks.{HasRight, has_right}
-use Rattle.hurd_machine.proofs.Tasks.{edit_here as task_here}
-use Rattle.hurd_core.specs.Core.{Does, HoldsRights, holds_of, holds_of_ways, naming_asks, room_asks}
-use Rattle.hurd_core.proofs.HoldLaws.{outside_named, holds_named, holds_opened, holds_dropped}
+use Rattle.hurd_core.specs.Core.{Does, naming_asks, room_asks}
+use Rattle.hurd_core.proofs.SettleLaws.{settled_if, settled_world}
 
 -- the header of a node changed, as where owner, group and mode are set, or words stored
 module _ (N : NodeState) (H : PortState) where
@@ -46,39 +40,34 @@ module _ (N : NodeState) (H : PortState) (t : ℕ) where
 
   -- a port given up
 
-  abbrev drops : ℕ → Plan
-  drops p = answered (right_of H t p) (λ q. record { reply = Done; changes = dropping t p })
+  module _ (p : ℕ) (K : PortState) (whole : IsSettled K) (z : World) where
+    abbrev drops : Result Right Errno → Plan
+    drops o = answered o (λ q. record { reply = Done; changes = dropping t p })
 
-  pub drop-refused : (p : ℕ) (e : Errno) → right_of H t p ≡ Err e → Follows w (drops p) (told (λ (u : Unit {0}). Done) (Err e)) w
-  unfolding answered
-  drop-refused p e is = rw is (refl, refl)
+    abbrev Drops : Result (Unit {0}) Errno → Result Right Errno → Result (Unit {0}) Errno × PortState → Type 0
+    Drops r o step = (r, K) ≡ step → z ≡ settled_if r (world_from N K) → Follows w (drops o) (told (λ u. Done) r) z
 
-  module _ (p : ℕ) (q : Right) (is : right_of H t p ≡ Ok q) where
-    has : HasRight w t p q
-    has = has_right w t p q is
+    refused : (e : Errno) (r : Result (Unit {0}) Errno) → Drops r (Err e) (Err e, H)
+    unfolding answered
+    refused e (Err f) h left = (ap (λ (s : Result (Unit {0}) Errno × PortState). told (λ u. Done) s.0) h, left ∙ ap (λ (s : Result (Unit {0}) Errno × PortState). world_from N s.1) h)
+    refused e (Ok u) h left = absurd (true≢false (ap (λ (s : Result (Unit {0}) Errno × PortState). is_ok s.0) h))
 
-    abbrev fewer : PortState
-    fewer = record { opens = retain_keys H.opens (is_held (edit_task t (without_port p) H.tasks)); tasks = edit_task t (without_port p) H.tasks }
+    gone : (q : Right) (r : Result (Unit {0}) Errno) → Drops r (Ok q) (Ok tt, settle_opens (record H { tasks = edit_task t (without_port p) H.tasks }))
+    unfolding answered
+    gone q (Err f) h left = absurd (true≢false (sym (ap (λ (s : Result (Unit {0}) Errno × PortState). is_ok s.0) h)))
+    gone q (Ok u) h left =
+        (refl, left ∙ sym (settled_world K whole N (kept.settle (outside_by K.tasks) N) refl) ∙ ap (λ (s : Result (Unit {0}) Errno × PortState). world_from (kept.settle (outside_by s.1.tasks) N) s.1) h)
 
-    deallocated : deallocate_step t p H ≡ (Ok tt, fewer)
-    deallocated = ap (deallocate_at H t p) has.is_task ∙ ap (dropped H t p) has.under
+    drop_by : (o : Option Right) (r : Result (Unit {0}) Errno) → Drops r (or_refuse EBADF o) (dropped H t p o)
+    drop_by None r = refused EBADF r
+    drop_by (Some q) r = gone q r
 
-    pub drop-never : (e : Errno) (K : PortState) → (Err e, K) ≡ deallocate_step t p H → ⊥
-    drop-never e K answer = true≢false (sym (ap (λ (z : Result (Unit {0}) Errno × PortState). is_ok z.0) (answer ∙ deallocated)))
+    drop_at : (o : Option Task) (r : Result (Unit {0}) Errno) → Drops r (right_at p o) (deallocate_at H t p o)
+    drop_at None r = refused ESRCH r
+    drop_at (Some x) r = drop_by (right_in p x.ports) r
 
-    left : (r : Result (Unit {0}) Errno) (K : PortState) → (r, K) ≡ deallocate_step t p H → K ≡ fewer
-    left r K answer = ap (λ (z : Result (Unit {0}) Errno × PortState). z.1) (answer ∙ deallocated)
-
-    module _ (hs : List Hold) (same : HoldsRights hs H.tasks) (r : Result (Unit {0}) Errno) (K : PortState) (answer : (r, K) ≡ deallocate_step t p H) where
-      pub drop-holds : HoldsRights (less_all (holds_of q) hs) K.tasks
-      drop-holds = subst (λ (z : PortState). HoldsRights (less_all (holds_of q) hs) z.tasks) (sym (left r K answer))
-          (holds_dropped hs H.tasks same t p has.seat q has.is_task has.under)
-
-      pub drop-follows : (M : NodeState) → M ≡ kept.settle (kept.outside_of (less_all (holds_of q) hs)) N → Follows w (drops p) Done (world_from M K)
-      unfolding answered
-      drop-follows M after =
-          let settled : M ≡ kept.settle (record { held = is_named K.tasks; controlled = is_controlled K.tasks }) N = after ∙ ap (λ o. kept.settle o N) (outside_named (less_all (holds_of q) hs) K.tasks drop-holds) in
-          rw (is, settled, left r K answer) (refl, refl)
+    pub drop-follows : (r : Result (Unit {0}) Errno) → Drops r (right_of H t p) (deallocate_step t p H)
+    drop-follows r = drop_at (slice_get H.tasks t) r
 
   -- the room of a task, asked of its tables and of the world: it has room, or both refuse alike
 
@@ -163,41 +152,3 @@ module _ (N : NodeState) (H : PortState) (t : ℕ) where
     -- where the task has room, its port is there
     pub insert-had : (x : Task) → slice_get H.tasks t ≡ Some x → has_room 1 x ≡ true → insert_step t n ids parents modes H ≡ (Ok x.next, new_ports x)
     insert-had x at e = ap (insert_at H t n ids parents modes) at ∙ ap (inserted x) e
-
-    insert_by : (o : Option Task) → slice_get H.tasks t ≡ o → (e : Errno) → room_at 1 o ≡ Err e → insert_at H t n ids parents modes o ≡ (Err e, H)
-    insert_by None at e h = let same : ESRCH ≡ e = cc in ap (λ (f : Errno). let z : Result ℕ Errno × PortState = (Err f, H) in z) same
-    insert_by (Some x) at e h = go (has_room 1 x) h
-      where
-        go : (b : Bool) → told_room b ≡ Err e → inserted x b ≡ (Err e, H)
-        go true h = absurd (cc)
-        go false h = let same : EOVERFLOW ≡ e = cc in ap (λ (f : Errno). let z : Result ℕ Errno × PortState = (Err f, H) in z) same
-
-    -- the ports with the port are the world with it
-    pub opened-world : (x : Task) → slice_get H.tasks t ≡ Some x → world_from N (new_ports x) ≡ apply_all (opening t x n ids parents modes) w
-    opened-world x at = refl
-
-    pub fill-does : (k : ℕ) (K : PortState) → insert_step t n ids parents modes H ≡ (Ok k, K) → Does w (room_asks w t 1) (λ x. opening t x n ids parents modes) (λ x. x.next) (Ok k) (world_from N K)
-    fill-does k K is = elim (room 1) [
-      | IsRefused e full asks ↦
-          let no : ◌≡◌ {A = Result ℕ Errno × PortState} (Err e, H) (Ok k, K) = sym (insert_by (slice_get H.tasks t) refl e full) ∙ is in
-          absurd (true≢false (sym (ap (λ (z : Result ℕ Errno × PortState). is_ok z.0) no)))
-      | HasRoom x at e free asks ↦
-          let had : ◌≡◌ {A = Result ℕ Errno × PortState} (Ok x.next, new_ports x) (Ok k, K) = sym (insert-had x at e) ∙ is in
-          let number : Ok x.next ≡ Ok k = ap (λ (z : Result ℕ Errno × PortState). z.0) had in
-          let same : x.next ≡ k = cc in
-          (x, asks, sym same, ap (λ (z : Result ℕ Errno × PortState). world_from N z.1) (sym had) ∙ opened-world x at)
-    ]
-
-    opened_holds : (hs : List Hold) → HoldsRights hs H.tasks → (x : Task) → slice_get H.tasks t ≡ Some x → HoldsRights (hs ++ hold.Use n ∷ holds_of_ways parents) (new_ports x).tasks
-    opened_holds hs same x at =
-        holds_opened hs (edit_task t (named 1) H.tasks) (holds_named hs H.tasks same t 1 x at) t (named 1 x) (new_right t n ids parents x) (task_here t (named 1) H.tasks x at)
-
-    -- the nodes of the new port are held once more
-    pub fill-holds : (hs : List Hold) → HoldsRights hs H.tasks → (k : ℕ) (K : PortState) → insert_step t n ids parents modes H ≡ (Ok k, K) → HoldsRights (hs ++ hold.Use n ∷ holds_of_ways parents) K.tasks
-    fill-holds hs same k K is = elim (room 1) [
-      | IsRefused e full asks ↦
-          let no : ◌≡◌ {A = Result ℕ Errno × PortState} (Err e, H) (Ok k, K) = sym (insert_by (slice_get H.tasks t) refl e full) ∙ is in
-          absurd (true≢false (sym (ap (λ (z : Result ℕ Errno × PortState). is_ok z.0) no)))
-      | HasRoom x at e free asks ↦
-          subst (λ (z : PortState). HoldsRights (hs ++ hold.Use n ∷ holds_of_ways parents) z.tasks) (ap (λ (z : Result ℕ Errno × PortState). z.1) (sym (insert-had x at e) ∙ is)) (opened_holds hs same x at)
-    ]

@@ -1,9 +1,7 @@
 pub mod PortWays
-pub mod WayLaws
-pub mod HoldLaws
+pub mod SettleLaws
 pub mod CoreLaws
 pub mod RightLaws
-pub mod StartLaws
 pub mod MakingLaws
 pub mod NamelessLaws
 pub mod DirLaws
@@ -14,4 +12,5 @@ pub mod RenameLaws
 pub mod OptionLaws
 pub mod ServerLaws
 pub mod NamedLaws
+pub mod UserLaws
 pub mod NeedLaws

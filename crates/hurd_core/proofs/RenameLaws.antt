@@ -2,21 +2,18 @@
 use Rattle.std.proofs.Common.{◌≡◌, ◌∙◌, Bool, true, false, cond, List, [], ◌∷◌, Option, Some, None, ℕ, refl, sym, ap, inl, inr}
 use Rattle.std.specs.Prelude.{Result, Ok, Err, if◌then◌else◌}
 use Rattle.std.specs.FinMap.{get}
-use Rattle.hurd_nodes.specs.declared.seat.Hold.{Hold}
 use Rattle.hurd_creds.specs.declared.name.Name.{Name}
 use Rattle.hurd_creds.specs.declared.errno.Errno.{Errno}
 use Rattle.hurd_creds.specs.NameMaps.{NameMap}
 use Rattle.hurd_creds.specs.Memory.{Meets, Steps, is_no_memory}
 use Rattle.hurd_trans_iface.specs.Nodes.{Edit, OnBody, OnHeader, AddNode, body_of, node_of_edit}
 use Rattle.hurd_trans_iface.specs.Answers.{entry_of, move_edits, is_one, rename_edits, edits_if}
-use Rattle.hurd_nodes.specs.Settle as kept
 use Rattle.hurd_nodes.specs.Shown.{NodeState, are_kin, own_edits, with_edits, can_rename, rename_edits_at, rename_at}
-use Rattle.hurd_ports.specs.Tables.{PortState, IsSettled}
+use Rattle.hurd_ports.specs.Tables.{PortState}
 use Rattle.hurd_machine.specs.World.{World, world_from, renames_at}
 use Rattle.hurd_machine.specs.Change.{Settle, apply_all, changes_of, settle}
 use Rattle.hurd_machine.proofs.Keeping.{apply_all-append}
-use Rattle.hurd_core.specs.Core.{Does, HoldsRights, renaming}
-use Rattle.hurd_core.proofs.HoldLaws.{settled_world}
+use Rattle.hurd_core.specs.Core.{Does, renaming}
 
 -- edits of nodes that are there, and no node made
 abbrev AreEdits : List Edit → Type 0
@@ -72,9 +69,9 @@ module _ (N : NodeState) (H : PortState) (d : Name) (name : List ℕ) (e : Name)
           go false = refl
       by a (inr lacks) = ap (λ z. cond (is_no_memory z) N (with_edits (edits_if a edits) N)) lacks.0
 
-  pub rename-done : (hs : List Hold) → HoldsRights hs H.tasks → IsSettled H → (u : Unit {0}) (M L : NodeState) → Steps N (rename_at d name e new N) (Ok u) M → L ≡ kept.settle (kept.outside_of hs) M
-      → Does w (renames_at w d name e) (λ u. renaming w d name e new) (λ u. tt {0}) (Ok u) (world_from L H)
-  rename-done hs same held u M L s left =
+  pub rename-done : (u : Unit {0}) (M : NodeState) (z : World) → Steps N (rename_at d name e new N) (Ok u) M → z ≡ settle (world_from M H)
+      → Does w (renames_at w d name e) (λ u. renaming w d name e new) (λ u. tt {0}) (Ok u) z
+  rename-done u M z s left =
       let are : AreEdits edits = own_are (get N.homes d) N.homes _ (renames_are d name e new (entry_of name (body_of N.nodes d)) (entry_of new (body_of N.nodes e))) in
       let shown : world_from M H ≡ apply_all (changes_of edits) w = ap (λ K. world_from K H) (s.left ∙ ap (λ r. with_edits (edits_if r edits) N) s.answered) ∙ edited H edits N are in
-      (u, s.answered, refl, ap (λ K. world_from K H) left ∙ settled_world H hs same held M ∙ ap settle shown ∙ sym (apply_all-append (changes_of edits) (Settle ∷ []) w))
+      (u, s.answered, refl, left ∙ ap settle shown ∙ sym (apply_all-append (changes_of edits) (Settle ∷ []) w))

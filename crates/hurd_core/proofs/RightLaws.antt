@@ -1,23 +1,24 @@
 -- Rights that are shared, sent and received, and other ids for a task: what the ports do is what the world's changes do.
-use Rattle.std.proofs.Common.{◌≡◌, ◌∙◌, inl, inr, ℕ, Bool, true, false, cond, List, [], ◌∷◌, ◌++◌, Option, Some, None, length, slice_get, refl, sym, ap, subst}
+use Rattle.std.proofs.Common.{◌≡◌, ◌∙◌, inl, inr, ℕ, Bool, true, false, cond, List, [], ◌∷◌, ◌++◌, Option, Some, None, length, slice_get, refl, sym, ap, subst, true≢false}
 use Rattle.std.specs.Prelude.{Result, Ok, Err, is_ok, nat_lt, if◌then◌else◌}
-use Rattle.hurd_nodes.specs.declared.seat.Hold.{Hold}
+use Rattle.hurd_creds.specs.declared.name.Name.{Name}
+use Rattle.hurd_creds.specs.declared.open_flags.OpenFlags.{OpenFlags}
 use Rattle.hurd_creds.specs.declared.errno.Errno.{Errno}
 use Rattle.hurd_creds.specs.declared.errno.Errno.TheVariants.{EOVERFLOW, ESRCH, EWOULDBLOCK}
 use Rattle.hurd_creds.specs.Access.{IdSets}
 use Rattle.hurd_creds.specs.Memory.{Steps, is_no_memory}
 use Rattle.hurd_nodes.specs.Shown.{NodeState}
+use Rattle.hurd_ports.specs.declared.parents.Parent.{Parent}
+use Rattle.hurd_ports.specs.declared.table.PendingStart.{PendingStart}
 use Rattle.hurd_ports.specs.declared.table.Right.{Right}
 use Rattle.hurd_ports.specs.Tables.{PortState, Task, first_sent, has_room, right_of, task_of, or_refuse}
-use Rattle.hurd_ports.specs.Steps.{edit_task, receive_at, receive_step, received, send_step, sent_to, share_at, share_step, take_ids_at, take_ids_step, taken_by, with_ids, with_port, with_sent}
-use Rattle.hurd_ports.proofs.EditLaws.{received-rights}
+use Rattle.hurd_ports.specs.Steps.{edit_task, insert_at, insert_step, pend_at, pend_step, with_new_port, with_pending, receive_at, receive_step, received, send_step, sent_to, share_at, share_step, take_ids_at, take_ids_step, taken_by, with_ids, with_port, with_sent}
 use Rattle.hurd_machine.specs.declared.call.Reply.TheVariants.{Done}
 use Rattle.hurd_machine.specs.World.{World, world_from}
-use Rattle.hurd_machine.specs.Change.{Change, EditTask, Send, apply_all}
+use Rattle.hurd_machine.specs.Change.{Change, EditTask, Send, apply_all, opening, pending, settle}
 use Rattle.hurd_machine.specs.Plan.{Plan, Follows, answered, told, on, given, first}
-use Rattle.hurd_core.specs.Core.{Does, HoldsRights, holds_of, receive_asks, room_asks, send_asks}
-use Rattle.hurd_core.proofs.HoldLaws.{holds_alike, holds_opened, holds_sent}
-use Rattle.hurd_core.proofs.CoreLaws.{IsRefused, HasRoom, room}
+use Rattle.hurd_core.proofs.SettleLaws.{does_settled, settled_if}
+use Rattle.hurd_core.specs.Core.{Does, receive_asks, room_asks, send_asks}
 
 -- a step of the ports is a method of the core where both refuse alike, and both change alike
 module _ {A T : Type 0} (N : NodeState) (H : PortState) (asks : Result A Errno) (changes : A → List Change) (answer : A → T) where
@@ -56,6 +57,57 @@ module _ (N : NodeState) (H : PortState) (t : ℕ) where
   abbrev changed : ℕ → (Task → Task) → PortState
   changed q f = record H { tasks = edit_task q f H.tasks }
 
+  -- a port opened
+
+  module _ (n : Name) (ids : IdSets) (parents : List Parent) (modes : OpenFlags) where
+    abbrev opens : Task → List Change
+    opens x = opening t x n ids parents modes
+
+    open_by : (o : Option Task) → Alike N H (on ESRCH o (λ x. given EOVERFLOW (has_room 1 x) (Ok x))) opens (λ x. x.next) (insert_at H t n ids parents modes o)
+    unfolding on given
+    open_by None = BothRefuse ESRCH refl refl
+    open_by (Some x) = go (has_room 1 x)
+      where
+        go : (b : Bool) → Alike N H (given EOVERFLOW b (Ok x)) opens (λ x. x.next) (if b then (Ok x.next, with_new_port t n ids parents modes x H) else (Err EOVERFLOW, H))
+        go true = BothDo x (with_new_port t n ids parents modes x H) refl refl refl
+        go false = BothRefuse EOVERFLOW refl refl
+
+    pub open-does : (got : Result ℕ Errno) (K : PortState) → Steps H (insert_step t n ids parents modes H) got K → Does w (room_asks w t 1) opens (λ x. x.next) got (world_from N K)
+    open-does got K s = alike-does N H (room_asks w t 1) opens (λ x. x.next) (insert_step t n ids parents modes H) (open_by (slice_get H.tasks t)) got K s
+
+  -- another thing to start, or nothing
+
+  module _ (p : Option PendingStart) where
+    abbrev pends : Task → List Change
+    pends x = EditTask t (with_pending p) ∷ []
+
+    pend_by : (o : Option Task) → Alike N H (or_refuse ESRCH o) pends (λ x. tt {0}) (pend_at H t p o)
+    pend_by None = BothRefuse ESRCH refl refl
+    pend_by (Some x) = BothDo x (changed t (with_pending p)) refl refl refl
+
+    -- the world settles then
+    pub pend-refused : (e : Errno) (K : PortState) → Steps H (pend_step t p H) (Err e) K → Does w (task_of H t) (λ (x : Task). pending t p) (λ x. tt {0}) (Err e) (world_from N K)
+    pend-refused e K s = alike-does N H (task_of H t) pends (λ x. tt {0}) (pend_step t p H) (pend_by (slice_get H.tasks t)) (Err e) K s
+
+    pub pend-does : (u : Unit {0}) (K : PortState) → Steps H (pend_step t p H) (Ok u) K → (z : World) → z ≡ settle (world_from N K) → Does w (task_of H t) (λ (x : Task). pending t p) (λ x. tt {0}) (Ok u) z
+    pend-does u K s z left =
+        does_settled w (task_of H t) pends (λ x. tt {0}) u (world_from N K) (alike-does N H (task_of H t) pends (λ x. tt {0}) (pend_step t p H) (pend_by (slice_get H.tasks t)) (Ok u) K s) z left
+
+    -- the same of a step that needs no memory
+
+    abbrev unpending : Result Task Errno → Plan
+    unpending o = answered o (λ x. record { reply = Done; changes = pending t p })
+
+    pub unpend-follows : (got : Result (Unit {0}) Errno) (K : PortState) (z : World) → (got, K) ≡ pend_step t p H → z ≡ settled_if got (world_from N K) → Follows w (unpending (task_of H t)) (told (λ u. Done) got) z
+    unfolding answered
+    unpend-follows got K z = go got (slice_get H.tasks t)
+      where
+        go : (got : Result (Unit {0}) Errno) (o : Option Task) → (got, K) ≡ pend_at H t p o → z ≡ settled_if got (world_from N K) → Follows w (unpending (or_refuse ESRCH o)) (told (λ u. Done) got) z
+        go (Err e) None h left = (ap (λ (s : Result (Unit {0}) Errno × PortState). told (λ u. Done) s.0) h, left ∙ ap (λ (s : Result (Unit {0}) Errno × PortState). world_from N s.1) h)
+        go (Ok u) (Some x) h left = (refl, left ∙ ap (λ (s : Result (Unit {0}) Errno × PortState). settle (world_from N s.1)) h)
+        go (Ok u) None h left = absurd (true≢false (ap (λ (s : Result (Unit {0}) Errno × PortState). is_ok s.0) h))
+        go (Err e) (Some x) h left = absurd (true≢false (sym (ap (λ (s : Result (Unit {0}) Errno × PortState). is_ok s.0) h)))
+
   -- a right shared
 
   module _ (r : Right) where
@@ -77,18 +129,6 @@ module _ (N : NodeState) (H : PortState) (t : ℕ) where
     pub share-does : (got : Result ℕ Errno) (K : PortState) → Steps H (share_step t r H) got K → Does w (room_asks w t 0) sharing (λ x. x.next) got (world_from N K)
     share-does got K s = alike-does N H (room_asks w t 0) sharing (λ x. x.next) (share_step t r H) (share_by (slice_get H.tasks t)) got K s
 
-    asked_there : (x : Task) → room_asks w t 0 ≡ Ok x → slice_get H.tasks t ≡ Some x
-    asked_there x is = elim (room N H t 0) [
-      | IsRefused e full asks ↦ absurd (cc)
-      | HasRoom y at free is_room asks ↦ let same : y ≡ x = cc in at ∙ ap Some same
-    ]
-
-    -- its node is held once more
-    pub share-holds : (hs : List Hold) → HoldsRights hs H.tasks → (k : ℕ) (K : PortState) → Steps H (share_step t r H) (Ok k) K → HoldsRights (hs ++ holds_of r) K.tasks
-    share-holds hs same k K s =
-        let d = share-does (Ok k) K s in
-        subst (HoldsRights (hs ++ holds_of r)) (sym (ap (λ (z : World). z.tasks) d.3)) (holds_opened hs H.tasks same t d.0 r (asked_there d.0 d.1))
-
   -- a right sent
 
   module _ (p q : ℕ) where
@@ -109,48 +149,6 @@ module _ (N : NodeState) (H : PortState) (t : ℕ) where
 
     pub send-does : (got : Result (Unit {0}) Errno) (K : PortState) → Steps H (send_step t p q H) got K → Does w (send_asks w t p q) sending (λ r. tt {0}) got (world_from N K)
     send-does got K s = alike-does N H (send_asks w t p q) sending (λ r. tt {0}) (send_step t p q H) (send_by (right_of H t p)) got K s
-
-    -- refused for want of the port, or of the task that it is sent to
-    pub send-no_right : (e : Errno) → right_of H t p ≡ Err e → send_asks w t p q ≡ Err e
-    unfolding first
-    send-no_right e is = ap send_after is
-
-    module _ (r : Right) (is : right_of H t p ≡ Ok r) where
-      send_asked : send_asks w t p q ≡ given ESRCH (nat_lt q (length H.tasks)) (Ok r)
-      unfolding first
-      send_asked = ap send_after is
-
-      pub send-no_task : (e : Errno) → ◌≡◌ {A = Result (Unit {0}) Errno} (Err e) (if nat_lt q (length H.tasks) then Ok tt else Err ESRCH) → send_asks w t p q ≡ Err e
-      unfolding given
-      send-no_task e told_so = send_asked ∙ go (nat_lt q (length H.tasks)) told_so
-        where
-          go : (b : Bool) → ◌≡◌ {A = Result (Unit {0}) Errno} (Err e) (if b then Ok tt else Err ESRCH) → given ESRCH b (Ok r) ≡ Err e
-          go true h = absurd (cc)
-          go false h = let same : e ≡ ESRCH = cc in ap Err (sym same)
-
-      pub send-had : (u : Unit {0}) → ◌≡◌ {A = Result (Unit {0}) Errno} (Ok u) (if nat_lt q (length H.tasks) then Ok tt else Err ESRCH) → send_asks w t p q ≡ Ok r
-      unfolding given
-      send-had u told_so = send_asked ∙ go (nat_lt q (length H.tasks)) told_so
-        where
-          go : (b : Bool) → ◌≡◌ {A = Result (Unit {0}) Errno} (Ok u) (if b then Ok tt else Err ESRCH) → given ESRCH b (Ok r) ≡ Ok r
-          go true h = refl
-          go false h = absurd (cc)
-
-      sends_it : (a : Right) → send_asks w t p q ≡ Ok a → (nat_lt q (length H.tasks) ≡ true) × (a ≡ r)
-      unfolding given
-      sends_it a asks = go (nat_lt q (length H.tasks)) (sym send_asked ∙ asks)
-        where
-          go : (b : Bool) → given ESRCH b (Ok r) ≡ Ok a → (b ≡ true) × (a ≡ r)
-          go true h = let same : r ≡ a = cc in (refl, sym same)
-          go false h = absurd (cc)
-
-      -- its node is held once more
-      pub send-holds : (hs : List Hold) → HoldsRights hs H.tasks → (u : Unit {0}) (K : PortState) → Steps H (send_step t p q H) (Ok u) K → HoldsRights (hs ++ holds_of r) K.tasks
-      send-holds hs same u K s =
-          let d = send-does (Ok u) K s in
-          let sent = sends_it d.0 d.1 in
-          let tasks : K.tasks ≡ edit_task q (with_sent d.0) H.tasks = ap (λ (z : World). z.tasks) d.3 in
-          subst (HoldsRights (hs ++ holds_of r)) (sym (tasks ∙ ap (λ (a : Right). edit_task q (with_sent a) H.tasks) sent.1)) (holds_sent hs H.tasks same q r sent.0)
 
   -- a right received
 
@@ -176,15 +174,6 @@ module _ (N : NodeState) (H : PortState) (t : ℕ) where
   pub receive-does : (got : Result ℕ Errno) (K : PortState) → Steps H (receive_step t H) got K → Does w (receive_asks w t) receiving (λ x. x.next) got (world_from N K)
   receive-does got K s = alike-does N H (receive_asks w t) receiving (λ x. x.next) (receive_step t H) (receive_by (slice_get H.tasks t)) got K s
 
-  -- what is held stays as it is
-  pub receive-holds : (hs : List Hold) → HoldsRights hs H.tasks → (got : Result ℕ Errno) (K : PortState) → Steps H (receive_step t H) got K → HoldsRights hs K.tasks
-  receive-holds hs same (Ok k) K s =
-      let d = receive-does (Ok k) K s in
-      subst (HoldsRights hs) (sym (ap (λ (z : World). z.tasks) d.3)) (holds_alike hs H.tasks same t received received-rights)
-  receive-holds hs same (Err e) K s =
-      let d = receive-does (Err e) K s in
-      subst (HoldsRights hs) (sym (ap (λ (z : World). z.tasks) d.0)) same
-
   -- other ids
 
   module _ (ids : IdSets) where
@@ -201,13 +190,3 @@ module _ (N : NodeState) (H : PortState) (t : ℕ) where
         go : (o : Option Task) → (got, K) ≡ take_ids_at H t ids o → Follows w (taking (or_refuse ESRCH o)) (told (λ u. Done) got) (world_from N K)
         go None e = (ap (λ (z : Result (Unit {0}) Errno × PortState). told (λ u. Done) z.0) e, ap world_left e)
         go (Some x) e = (ap (λ (z : Result (Unit {0}) Errno × PortState). told (λ u. Done) z.0) e, ap world_left e)
-
-    pub take_ids-holds : (hs : List Hold) → HoldsRights hs H.tasks → (got : Result (Unit {0}) Errno) (K : PortState) → (got, K) ≡ take_ids_step t ids H → HoldsRights hs K.tasks
-    take_ids-holds hs same got K = go (slice_get H.tasks t)
-      where
-        tasks_left : Result (Unit {0}) Errno × PortState → List Task
-        tasks_left z = z.1.tasks
-
-        go : (o : Option Task) → (got, K) ≡ take_ids_at H t ids o → HoldsRights hs K.tasks
-        go None e = subst (HoldsRights hs) (sym (ap tasks_left e)) same
-        go (Some x) e = subst (HoldsRights hs) (sym (ap tasks_left e)) (holds_alike hs H.tasks same t (with_ids ids) (λ y. refl))

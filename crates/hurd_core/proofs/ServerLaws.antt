@@ -3,7 +3,6 @@ use Rattle.std.proofs.Common.{◌≡◌, ◌∙◌, ◌<◌, ◌≤◌, inr, ℕ
 use Rattle.std.proofs.lemmas.Bool.Decides.{nat_tests}
 use Rattle.std.specs.Prelude.{IsSomeAnd, Result, Ok, Err, is_ok}
 use Rattle.std.specs.Option.{option_map}
-use Rattle.hurd_nodes.specs.declared.seat.Hold.{Hold}
 use Rattle.hurd_nodes.specs.declared.seat.Place.{Place}
 use Rattle.hurd_creds.specs.declared.name.Name.{Name}
 use Rattle.hurd_creds.specs.declared.errno.Errno.{Errno}
@@ -11,20 +10,15 @@ use Rattle.hurd_creds.specs.declared.errno.Errno.TheVariants.{ENOMEM}
 use Rattle.hurd_creds.specs.Access.{IdSets}
 use Rattle.hurd_trans_iface.specs.Nodes.{Node}
 use Rattle.hurd_trans_iface.specs.Meaning.{Meaning}
-use Rattle.hurd_nodes.specs.Held.{less_all}
-use Rattle.hurd_nodes.specs.Settle as kept
 use Rattle.hurd_nodes.specs.Shown.{NodeState, ServerInfo, attached, begun_info, begun_root, without_old}
-use Rattle.hurd_ports.specs.declared.table.PendingStart.{PendingStart}
-use Rattle.hurd_ports.specs.Tables.{IsSettled, PortState, Task, fresh, can_name, naming_of, pending_of, u64_greatest}
-use Rattle.hurd_ports.specs.Steps.{named, edit_task, name_step, pend_step}
+use Rattle.hurd_ports.specs.Tables.{PortState, Task, fresh, can_name, naming_of, u64_greatest}
+use Rattle.hurd_ports.specs.Steps.{named, edit_task, name_step, pend_at, pend_step, with_pending}
 use Rattle.hurd_ports.proofs.TaskLaws.{edit-edit, edit-found, edit-here}
 use Rattle.hurd_machine.specs.World.{World, world_from}
 use Rattle.hurd_machine.specs.Change.{Attach, Change, Settle, apply_all, pending, settle}
 use Rattle.hurd_core.specs.declared.to_make.ServerToMake.{ServerToMake}
-use Rattle.hurd_core.specs.Core.{Does, HoldsRights, attaching, holds_of_start, leaving, naming_asks, placed, starting}
+use Rattle.hurd_core.specs.Core.{Does, attaching, leaving, naming_asks, placed, starting}
 use Rattle.hurd_core.proofs.CoreLaws.{naming-had}
-use Rattle.hurd_core.proofs.HoldLaws.{holds_given, settled_world}
-use Rattle.hurd_core.proofs.StartLaws.{unpended-holds, unpended-world}
 
 module _ (N : NodeState) (H : PortState) (t : ℕ) where
   abbrev w : World
@@ -39,10 +33,6 @@ module _ (N : NodeState) (H : PortState) (t : ℕ) where
 
   both_named : (x : Task) → slice_get H.tasks t ≡ Some x → edit_task t (named 1) (edit_task t (named 1) H.tasks) ≡ edit_task t (named 2) H.tasks
   both_named x at = edit-edit t (named 1) (named 1) H.tasks x at ∙ ap (λ (y : Task). slice_set H.tasks t y) (two_more x) ∙ sym (edit-found t (named 2) H.tasks x at)
-
-  -- what is held stays as it is
-  pub two-holds : (hs : List Hold) → HoldsRights hs H.tasks → HoldsRights hs two_named.tasks
-  two-holds hs same = holds_given hs (name_step t H).tasks (holds_given hs H.tasks same t 1) t 1
 
   -- to settle last is one change more
   settled_last : (o : Option Name) (c : Change) → settle (apply_all (leaving o ++ c ∷ []) w) ≡ apply_all (leaving o ++ c ∷ Settle ∷ []) w
@@ -85,10 +75,9 @@ module _ (N : NodeState) (H : PortState) (t : ℕ) where
       attach-lacks = (refl, inr (refl, ap is_ok here.3))
 
       -- all of it: the server seated under the next name, the names given, and what is left
-      pub attach-done : (n : Name) → Some n ≡ option_map (fresh t) (slice_get H.tasks t) → (M L : NodeState) → M ≡ seated p ids m (placed p n)
-          → (hs : List Hold) → HoldsRights hs H.tasks → IsSettled two_named → L ≡ kept.settle (kept.outside_of hs) M
-          → Does w (naming_asks w t 2) (attaching t p ids m) (λ x. tt {0}) (Ok tt) (world_from L two_named)
-      attach-done n next M L is hs same whole left =
+      pub attach-done : (n : Name) → Some n ≡ option_map (fresh t) (slice_get H.tasks t) → (M : NodeState) (z : World) → M ≡ seated p ids m (placed p n) → z ≡ settle (world_from M two_named)
+          → Does w (naming_asks w t 2) (attaching t p ids m) (λ x. tt {0}) (Ok tt) z
+      attach-done n next M z is left =
           let x = here.0 in
           let one : Some n ≡ Some (fresh t x) = next ∙ ap (option_map (fresh t)) here.1 in
           let name : n ≡ fresh t x = cc in
@@ -99,8 +88,7 @@ module _ (N : NodeState) (H : PortState) (t : ℕ) where
             x,
             here.3,
             refl,
-            ap (λ (K : NodeState). world_from K two_named) left ∙ settled_world two_named hs (two-holds hs same) whole M
-                ∙ ap (λ (K : NodeState). settle (world_from K two_named)) nodes ∙ ap settle (seated-world p ids m p.instead x here.1 (fresh t x) info node refl)
+            left ∙ ap (λ (K : NodeState). settle (world_from K two_named)) nodes ∙ ap settle (seated-world p ids m p.instead x here.1 (fresh t x) info node refl)
                 ∙ settled_last p.instead (Attach (fresh t x) p.seat info node),
           )
 
@@ -115,21 +103,17 @@ module _ (N : NodeState) (H : PortState) (t : ℕ) where
       twice_there : slice_get two_named.tasks t ≡ Some twice
       twice_there = edit-here t (named 1) (edit_task t (named 1) H.tasks) ∙ ap (option_map (named 1)) (edit-here t (named 1) H.tasks ∙ ap (option_map (named 1)) here.1)
 
-      module _ (hs : List Hold) (same : HoldsRights hs H.tasks) (q : Option PendingStart) (was : q ≡ pending_of two_named t)
-          (r : Result (Unit {0}) Errno) (K : PortState) (answer : (r, K) ≡ pend_step t None two_named) where
-        pub start-holds : HoldsRights (less_all (holds_of_start q) hs) K.tasks
-        start-holds = unpended-holds N two_named t twice twice_there hs (two-holds hs same) q was r K answer
-
-        pub start-done : (n : Name) → Some n ≡ option_map (fresh t) (slice_get H.tasks t) → (M L : NodeState) → M ≡ seated_alone p ids m (placed p n)
-            → IsSettled K → L ≡ kept.settle (kept.outside_of (less_all (holds_of_start q) hs)) M
-            → Does w (naming_asks w t 2) (starting t p ids m) (λ x. tt {0}) (Ok tt) (world_from L K)
-        start-done n next M L is whole left =
-            let x = here.0 in
-            let one : Some n ≡ Some (fresh t x) = next ∙ ap (option_map (fresh t)) here.1 in
-            let name : n ≡ fresh t x = cc in
-            let info = begun_info m (fresh t (named 1 x)) ids in
-            let node = begun_root m p.owner p.group p.mode in
-            let nodes : M ≡ attached (fresh t x) p.seat info node (without_old None N) = is ∙ ap (λ (k : Name). seated_alone p ids m (placed p k)) name in
-            let seated_is : world_from M two_named ≡ apply_all (Attach (fresh t x) p.seat info node ∷ []) w =
-            ap (λ (k : NodeState). world_from k two_named) nodes ∙ seated-world p ids m None x here.1 (fresh t x) info node refl in
-            (x, here.3, refl, unpended-world M two_named t twice twice_there hs (two-holds hs same) q was r K answer whole L left ∙ ap (apply_all (pending t None)) seated_is)
+      pub start-done : (n : Name) → Some n ≡ option_map (fresh t) (slice_get H.tasks t) → (M : NodeState) (K : PortState) (z : World) (r : Result (Unit {0}) Errno) → M ≡ seated_alone p ids m (placed p n)
+          → (r, K) ≡ pend_step t None two_named → z ≡ settle (world_from M K) → Does w (naming_asks w t 2) (starting t p ids m) (λ x. tt {0}) (Ok tt) z
+      start-done n next M K z r is answer left =
+          let x = here.0 in
+          let one : Some n ≡ Some (fresh t x) = next ∙ ap (option_map (fresh t)) here.1 in
+          let name : n ≡ fresh t x = cc in
+          let info = begun_info m (fresh t (named 1 x)) ids in
+          let node = begun_root m p.owner p.group p.mode in
+          let nodes : M ≡ attached (fresh t x) p.seat info node (without_old None N) = is ∙ ap (λ (k : Name). seated_alone p ids m (placed p k)) name in
+          let seated_is : world_from M two_named ≡ apply_all (Attach (fresh t x) p.seat info node ∷ []) w =
+          ap (λ (k : NodeState). world_from k two_named) nodes ∙ seated-world p ids m None x here.1 (fresh t x) info node refl in
+          let pended : K ≡ record two_named { tasks = edit_task t (with_pending None) two_named.tasks } =
+          ap (λ (s : Result (Unit {0}) Errno × PortState). s.1) (answer ∙ ap (pend_at two_named t None) twice_there) in
+          (x, here.3, refl, left ∙ ap (λ (k : PortState). settle (world_from M k)) pended ∙ ap (apply_all (pending t None)) seated_is)

@@ -1,22 +1,19 @@
 -- An entry taken out of a directory by the core is what the machine's changes make of the world.
 use Rattle.std.proofs.Common.{◌≡◌, ◌∙◌, Bool, true, false, List, [], ◌∷◌, Option, Some, None, ℕ, refl, sym, ap}
 use Rattle.std.specs.Prelude.{Result, Ok, Err, if◌then◌else◌}
-use Rattle.hurd_nodes.specs.declared.seat.Hold.{Hold}
 use Rattle.hurd_creds.specs.declared.name.Name.{Name}
 use Rattle.hurd_creds.specs.declared.errno.Errno.{Errno}
 use Rattle.std.specs.FinMap.{get}
 use Rattle.hurd_trans_iface.specs.Nodes.{body_of, OnBody, OnHeader, unlinked, without_entry}
 use Rattle.hurd_trans_iface.specs.Answers.{entry_of, unlink_edits, edits_if}
-use Rattle.hurd_nodes.specs.Settle as kept
 use Rattle.hurd_nodes.specs.Shown.{NodeState, are_kin, own_edits, with_edits, can_unlink, unlink_edits_at, unlink_at}
-use Rattle.hurd_ports.specs.Tables.{PortState, IsSettled}
+use Rattle.hurd_ports.specs.Tables.{PortState}
 use Rattle.hurd_machine.specs.declared.call.Reply.TheVariants.{Done}
 use Rattle.hurd_machine.specs.World.{World, world_from}
 use Rattle.hurd_machine.specs.Change.{Settle, apply_all, changes_of, settle}
 use Rattle.hurd_machine.specs.Plan.{Plan, Follows, answered, told}
 use Rattle.hurd_machine.proofs.Keeping.{apply_all-append}
-use Rattle.hurd_core.specs.Core.{HoldsRights, unlinking}
-use Rattle.hurd_core.proofs.HoldLaws.{settled_world}
+use Rattle.hurd_core.specs.Core.{unlinking}
 
 module _ (N : NodeState) (H : PortState) (d : Name) (name : List ℕ) where
   abbrev w : World
@@ -48,15 +45,15 @@ module _ (N : NodeState) (H : PortState) (d : Name) (name : List ℕ) where
       by (Ok u) h = let no : Err e ≡ Ok u = ap (λ (z : Result (Unit {0}) Errno × NodeState). z.0) h in absurd (cc (no))
       by (Err f) h = (ap (λ (z : Result (Unit {0}) Errno × NodeState). told (λ (u : Unit {0}). Done) z.0) h, ap (λ (z : Result (Unit {0}) Errno × NodeState). world_from z.1 H) h)
 
-  pub unlink-follows : (hs : List Hold) → HoldsRights hs H.tasks → IsSettled H → (u : Unit {0}) (M L : NodeState) → (Ok u, M) ≡ unlink_at d name N → L ≡ kept.settle (kept.outside_of hs) M
-      → Follows w unlinks Done (world_from L H)
+  pub unlink-follows : (u : Unit {0}) (M : NodeState) (z : World) → (Ok u, M) ≡ unlink_at d name N → z ≡ settle (world_from M H)
+      → Follows w unlinks Done z
   unfolding answered
-  unlink-follows hs same held u M L is left = by (can_unlink d name N) is
+  unlink-follows u M z is left = by (can_unlink d name N) is
     where
       by : (a : Result (Unit {0}) Errno) → ◌≡◌ {A = Result (Unit {0}) Errno × NodeState} (Ok u, M) (a, with_edits (edits_if a (unlink_edits_at d name N)) N)
-          → Follows w (answered a (λ u. record { reply = Done; changes = unlinking w d name })) Done (world_from L H)
+          → Follows w (answered a (λ u. record { reply = Done; changes = unlinking w d name })) Done z
       by (Err f) h = let no : Ok u ≡ Err f = ap (λ (z : Result (Unit {0}) Errno × NodeState). z.0) h in absurd (cc (no))
       by (Ok k) h =
           let edits = unlink_edits_at d name N in
           let shown : world_from M H ≡ apply_all (changes_of edits) w = ap (λ (z : Result (Unit {0}) Errno × NodeState). world_from z.1 H) h ∙ edited (get N.homes d) (entry_of name (body_of N.nodes d)) in
-          (refl, ap (λ (K : NodeState). world_from K H) left ∙ settled_world H hs same held M ∙ ap settle shown ∙ sym (apply_all-append (changes_of edits) (Settle ∷ []) w))
+          (refl, left ∙ ap settle shown ∙ sym (apply_all-append (changes_of edits) (Settle ∷ []) w))

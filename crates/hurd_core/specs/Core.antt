@@ -13,8 +13,6 @@ use Rattle.hurd_trans_iface.specs.Nodes.{Node, with_entry, new_file, nameless_fi
 use Rattle.hurd_trans_iface.specs.declared.new_node.NewNode.{NewNode}
 use Rattle.hurd_trans_iface.specs.Meaning.{Meaning}
 use Rattle.hurd_nodes.specs.Held.{Held, coded_held}
-use Rattle.hurd_nodes.specs.declared.seat.Hold.{Hold}
-use Rattle.hurd_nodes.specs.declared.seat.Hold.TheVariants as hold
 use Rattle.hurd_nodes.specs.declared.seat.Place.{Place}
 use Rattle.hurd_nodes.specs.Shown.{begun_info, begun_root, shown, unlink_edits_at, can_make_nameless, rename_edits_at}
 use Rattle.hurd_ports.specs.Tables.{Task, Tables, coded_tables, fresh, can_name, has_room, first_sent, right_of}
@@ -26,8 +24,6 @@ use Rattle.hurd_ports.specs.Steps.{named}
 use Rattle.hurd_machine.specs.World.{World, world_from, nodes_of, ports_of, task_at, home_at, makes_at}
 use Rattle.hurd_machine.specs.Change.{Attach, Change, DropServer, MakeNode, EditBody, Settle, opening, pending, apply_all, changes_of}
 use Rattle.hurd_machine.specs.Plan.{on, given, first}
-use Rattle.hurd_nodes.specs.Weights.{weigh_list}
-use Rattle.hurd_machine.specs.Sight.{weigh_rights}
 use Rattle.hurd_core.specs.declared.to_make.NamelessToMake.{NamelessToMake}
 use Rattle.hurd_core.specs.declared.to_make.ServerToMake.{ServerToMake}
 
@@ -38,30 +34,6 @@ pub record Whole (S : Type 0) : Type 0 where
 
 abbrev pub coded_whole : {S : Type 0} → Coded S → Coded (Whole S)
 coded_whole {S} c = code_by (Held S × Tables) (coded× (coded_held c) coded_tables) (λ h. (h.nodes, h.ports)) (λ p. record { nodes = p.0; ports = p.1 }) (λ _. refl)
-
--- the holds of the ways that a right came in by: one for each of their nodes
-abbrev pub holds_of_ways : List Parent → List Hold
-holds_of_ways [] = []
-holds_of_ways (p ∷ ps) = hold.Way p.at ∷ (hold.Way p.parent ∷ holds_of_ways ps)
-
--- the holds that a right takes
-abbrev pub holds_of : Right → List Hold
-holds_of (Io r) = hold.Use r.node ∷ holds_of_ways r.parents
-holds_of (Control s) = hold.Control s ∷ []
-holds_of (Start n) = hold.Way n ∷ []
-
--- the holds that a pending start takes: its node is named, and not used
-abbrev pub holds_of_start : Option PendingStart → List Hold
-holds_of_start None = []
-holds_of_start (Some s) = hold.Way s.node ∷ []
-
--- what a right weighs, where a hold weighs so much
-abbrev pub weight_of : (Hold → ℕ) → Right → ℕ
-weight_of W r = weigh_list W (holds_of r)
-
--- the holds are those that the rights of all tasks take: whatever a hold weighs, they weigh the same together
-abbrev pub HoldsRights : List Hold → List Task → Type 0
-HoldsRights holds tasks = (W : Hold → ℕ) → weigh_list W holds ≡ weigh_rights (weight_of W) tasks
 
 -- the world that these stand for, where each server means this
 abbrev pub world_of : {S : Type 0} → (S → Meaning) → Whole S → World

@@ -9,7 +9,6 @@ ghost use Rattle.hurd_trans_iface.specs.Meaning.{root_of};
 ghost use Rattle.hurd_nodes.specs.Shown.{ServerInfo, are_kin, options_in, header_in, tree_by};
 ghost use Rattle.hurd_ports.specs.Tables.{ids_at, io_right_of, lent, naming_of, pending_of, room_of};
 ghost use Rattle.hurd_machine.specs.World.{ports_of, active_at, body_at, header_at, home_at, info_at, is_removed, is_server_root, links_at, makes_at, node_at, readable_at, server_at, sets_attrs_at, stream_at, task_at, words_at};
-ghost use Rattle.hurd_machine.specs.Sight.{users};
 ghost use Rattle.hurd_machine.specs.Handle.{both_asks, port_asks, handle_asks};
 ghost use Rattle.hurd_core.specs.Core.{world_of, asked_only, making_nameless_asks};
 ghost use Rattle.hurd_core.specs.Control.{control_of};
@@ -202,13 +201,6 @@ impl<S: Server> Core<S> {
         ensures { option_copied result ≡ option_map (λ (i : ServerInfo). i.ids) (server_at (world_of S.meaning self.now) server) }
     {
         self.nodes.ids_of(server)
-    }
-
-    /// How many rights there are to use nodes of a server.
-    pub fn users(&self, server: ServerName) -> usize
-        ensures { result ≡ users (world_of S.meaning self.now) server }
-    {
-        self.nodes.users(server)
     }
 
     /// Whether a node is the root of its server.

@@ -7,10 +7,11 @@
 #![tactic(auto)]
 
 mod asking;
-mod holds;
+mod named;
 mod port_node;
 mod the_core;
 mod to_make;
+mod users;
 
 pub use port_node::PortNode;
 pub use the_core::Core;

@@ -8,25 +8,25 @@ ghost use Rattle.hurd_nodes.specs.Needs.{FreeRead, FreeSize, FreeWrite};
 ghost use Rattle.hurd_ports.specs.Tables.{right_of, task_of};
 ghost use Rattle.hurd_ports.specs.Steps.{appending, at_cursor, received, with_ids, with_port};
 ghost use Rattle.hurd_machine.specs.World.{world_from, nodes_of, ports_of, asked_at, links_at, renames_at, sets_attrs_at, unlinks_at};
-ghost use Rattle.hurd_machine.specs.Change.{DropServer, EditBody, EditHeader, EditOpen, EditTask, Send, Settle, Unseat, apply, apply_all, changes_of, dropping, opening, pending};
+ghost use Rattle.hurd_machine.specs.Change.{DropServer, EditBody, EditHeader, EditOpen, EditTask, Send, Settle, Unseat, apply, apply_all, changes_of, dropping, opening, pending, settle};
 ghost use Rattle.hurd_machine.specs.Plan.{Follows, Planned, answered, told};
 ghost use Rattle.hurd_machine.specs.declared.call.Reply.TheVariants.{Done};
-ghost use Rattle.hurd_core.specs.Core.{Does, HoldsRights, attaching, naming_asks, without_box, making_asks, making_dir, making_dir_asks, making_open, receive_asks, room_asks, send_asks, unlinking, world_of, making_nameless, making_nameless_asks, renaming, starting};
+ghost use Rattle.hurd_core.specs.Core.{Does, attaching, naming_asks, without_box, making_asks, making_dir, making_dir_asks, making_open, receive_asks, room_asks, send_asks, unlinking, world_of, making_nameless, making_nameless_asks, renaming, starting};
 ghost use Rattle.hurd_core.specs.Control.{plan_options};
 ghost use Rattle.hurd_core.specs.ToMake.{new_node_of};
 
-use crate::holds::{hold_io, hold_right, holds_by, holds_of, release_right, release_start};
+use crate::named::Named;
 use crate::to_make::{NamelessToMake, NodeToMake, ServerToMake};
 use hurd_creds::{
     Bytes, Errno, Ids, Kind, Mode, NodeName, OpenFlags, OpenName, ServerName, TaskId,
 };
-use hurd_nodes::{Hold, Nodes};
+use hurd_nodes::Nodes;
 use hurd_ports::{Parents, PendingStart, Ports, Right};
 use hurd_trans_iface::{Server, Words};
 use std::alloc::Global;
 use std::marker::Model;
 
-/// Servers with their nodes, and the ports of tasks. What rights name is held, once for each time.
+/// Servers with their nodes, and the ports of tasks.
 #[derive(Drop)]
 pub struct Core<S = Box<dyn Server>> {
     pub(crate) nodes: Nodes<S>,
@@ -34,21 +34,18 @@ pub struct Core<S = Box<dyn Server>> {
 }
 
 impl<S> Model for Core<S> {
-    ghost use Rattle.hurd_core.specs.Core.{Whole, coded_whole, HoldsRights};
+    ghost use Rattle.hurd_core.specs.Core.{Whole, coded_whole};
 
     ghost Value = { Whole S };
 
     ghost coded = { coded_whole S.code };
 
     ghost view = { λ c. record { nodes = c.nodes; ports = c.ports } };
-
-    ghost invariant = { λ c. HoldsRights c.nodes.holds c.ports.state.tasks };
 }
 
 impl<S: Server> Core<S> {
-    /// These nodes, and these ports; what rights name is held, once for each time.
+    /// These nodes, and these ports.
     pub fn new(nodes: Nodes<S>, ports: Ports) -> Core<S>
-        requires { HoldsRights nodes.holds ports.state.tasks }
         ensures { world_of S.meaning result ≡ world_from (shown S.meaning nodes) ports.state }
     {
         Core { nodes, ports }
@@ -68,6 +65,14 @@ impl<S: Server> Core<S> {
         &self.ports
     }
 
+    /// What nothing keeps any more goes. Takes no memory.
+    fn settle(&mut self)
+        ensures { world_of S.meaning self.new ≡ settle (world_of S.meaning self.old) }
+    {
+        self.ports.opens_are_held();
+        self.nodes.settle(&Named { ports: &self.ports });
+    }
+
     /// Opens a node: a port of the task with these ids and an open of its own, under the task's next number.
     ///
     /// Errors, in order: `ESRCH` no such task, `EOVERFLOW`, `ENOMEM`.
@@ -82,11 +87,7 @@ impl<S: Server> Core<S> {
         ensures { let w = world_of S.meaning self.old in
             Does w (room_asks w task.0 1) (λ x. opening task.0 x node ids parents modes) (λ x. x.next) result (world_of S.meaning self.new) }
     {
-        self.ports.room(task, 1)?;
-        self.ports.reserve(task)?;
-        self.nodes.reserve_holds(holds_by(&parents))?;
-        hold_io(&mut self.nodes, node, &parents);
-        Ok(self.ports.fill(task, node, ids, parents, modes))
+        self.ports.insert(task, node, ids, parents, modes)
     }
 
     /// Makes a file in a directory, and opens it as `open` does.
@@ -108,14 +109,12 @@ impl<S: Server> Core<S> {
         self.ports.room(task, 2)?;
         self.nodes.can_make(file.dir, file.name, Kind::File)?;
         self.ports.reserve(task)?;
-        self.nodes.reserve_holds(holds_by(&parents))?;
         let Some(name) = self.ports.next_name(task) else {
             return Err(Errno::ESRCH);
         };
         self.nodes
             .make(alloc, file.dir, file.name, file.node(Kind::File, name))?;
         self.ports.take_name(task);
-        hold_io(&mut self.nodes, name, &parents);
         Ok(self.ports.fill(task, name, ids, parents, modes))
     }
 
@@ -137,13 +136,11 @@ impl<S: Server> Core<S> {
         self.ports.room(task, 2)?;
         self.nodes.can_make_nameless(file.dir, Kind::File)?;
         self.ports.reserve(task)?;
-        self.nodes.reserve_holds(holds_by(&parents))?;
         let Some(name) = self.ports.next_name(task) else {
             return Err(Errno::ESRCH);
         };
         self.nodes.make_nameless(file.dir, file.node(name))?;
         self.ports.take_name(task);
-        hold_io(&mut self.nodes, name, &parents);
         Ok(self.ports.fill(task, name, ids, parents, modes))
     }
 
@@ -174,9 +171,8 @@ impl<S: Server> Core<S> {
             Follows w (answered (right_of (ports_of w) task.0 port) (λ r. record { reply = Done; changes = dropping task.0 port }))
             (told (λ u. Done) result) (world_of S.meaning self.new) }
     {
-        release_right(&mut self.nodes, self.ports.right(task, port)?);
         self.ports.deallocate(task, port)?;
-        self.nodes.settle();
+        self.settle();
         Ok(())
     }
 
@@ -187,11 +183,7 @@ impl<S: Server> Core<S> {
         ensures { let w = world_of S.meaning self.old in
             Does w (room_asks w task.0 0) (λ x. EditTask task.0 (with_port right) ∷ []) (λ x. x.next) result (world_of S.meaning self.new) }
     {
-        self.ports.room(task, 0)?;
-        self.nodes.reserve_holds(holds_of(&right))?;
-        let port = self.ports.share(task, right)?;
-        hold_right(&mut self.nodes, self.ports.right(task, port)?);
-        Ok(port)
+        self.ports.share(task, right)
     }
 
     /// Gives a copy of a port's right to a task, last of those that it was sent.
@@ -201,12 +193,7 @@ impl<S: Server> Core<S> {
         ensures { let w = world_of S.meaning self.old in
             Does w (send_asks w task.0 port to.0) (λ r. Send r to.0 ∷ []) (λ r. tt) result (world_of S.meaning self.new) }
     {
-        let count = holds_of(self.ports.right(task, port)?);
-        self.ports.has_task(to)?;
-        self.nodes.reserve_holds(count)?;
-        self.ports.send(alloc, task, port, to)?;
-        hold_right(&mut self.nodes, self.ports.right(task, port)?);
-        Ok(())
+        self.ports.send(alloc, task, port, to)
     }
 
     /// Takes the first right that a task was sent, as a port; answers its number, the task's next.
@@ -237,12 +224,9 @@ impl<S: Server> Core<S> {
         ensures { let w = world_of S.meaning self.old in
             Does w (task_of (ports_of w) task.0) (λ x. pending task.0 (Some start)) (λ x. tt) result (world_of S.meaning self.new) }
     {
-        self.ports.has_task(task)?;
-        self.nodes.reserve_holds(1)?;
-        self.nodes.hold(Hold::Way(start.node));
-        release_start(&mut self.nodes, self.ports.pending(task));
-        self.nodes.settle();
-        self.ports.set_pending(task, Some(start))
+        self.ports.pend(task, start)?;
+        self.settle();
+        Ok(())
     }
 
     /// The task is to start nothing any more. What nothing keeps any more goes. Takes no memory.
@@ -253,10 +237,9 @@ impl<S: Server> Core<S> {
             Follows w (answered (task_of (ports_of w) task.0) (λ x. record { reply = Done; changes = pending task.0 None }))
             (told (λ u. Done) result) (world_of S.meaning self.new) }
     {
-        self.ports.has_task(task)?;
-        release_start(&mut self.nodes, self.ports.pending(task));
-        self.nodes.settle();
-        self.ports.set_pending(task, None)
+        self.ports.unpend(task)?;
+        self.settle();
+        Ok(())
     }
 
     /// Lets an open append, or not, if it is there. Takes no memory.
@@ -339,9 +322,8 @@ impl<S: Server> Core<S> {
             Follows w (answered (unlinks_at w dir name.now) (λ u. record { reply = Done; changes = unlinking w dir name.now }))
             (told (λ u. Done) result) (world_of S.meaning self.new) }
     {
-        self.ports.opens_are_held();
         self.nodes.unlink(dir, name)?;
-        self.nodes.settle();
+        self.settle();
         Ok(())
     }
 
@@ -362,9 +344,8 @@ impl<S: Server> Core<S> {
             Does w (renames_at w dir name.now to) (λ u. renaming w dir name.now to new.now) (λ u. tt) result
             (world_of S.meaning self.new) }
     {
-        self.ports.opens_are_held();
         self.nodes.rename(alloc, dir, name, to, new)?;
-        self.nodes.settle();
+        self.settle();
         Ok(())
     }
 
@@ -394,8 +375,7 @@ impl<S: Server> Core<S> {
             .attach(place.place(name), ids, place.instead, server)?;
         self.ports.take_name(task);
         self.ports.take_name(task);
-        self.ports.opens_are_held();
-        self.nodes.settle();
+        self.settle();
         Ok(())
     }
 
@@ -424,9 +404,8 @@ impl<S: Server> Core<S> {
         self.nodes.attach(place.place(name), ids, None, server)?;
         self.ports.take_name(task);
         self.ports.take_name(task);
-        release_start(&mut self.nodes, self.ports.pending(task));
-        self.nodes.settle();
-        let _ = self.ports.set_pending(task, None);
+        let _ = self.ports.unpend(task);
+        self.settle();
         Ok(())
     }
 
@@ -434,18 +413,16 @@ impl<S: Server> Core<S> {
     pub fn send_away(&mut self, server: ServerName)
         ensures { world_of S.meaning self.new ≡ apply_all (DropServer server ∷ Settle ∷ []) (world_of S.meaning self.old) }
     {
-        self.ports.opens_are_held();
         self.nodes.detach(server);
-        self.nodes.settle();
+        self.settle();
     }
 
     /// No server is active on a node any more. What nothing keeps any more goes. Takes no memory.
     pub fn unseat(&mut self, node: NodeName)
         ensures { world_of S.meaning self.new ≡ apply_all (Unseat node ∷ Settle ∷ []) (world_of S.meaning self.old) }
     {
-        self.ports.opens_are_held();
         self.nodes.unseat(node);
-        self.nodes.settle();
+        self.settle();
     }
 
     /// Sets the owner, the group and the mode of a node. Takes no memory.

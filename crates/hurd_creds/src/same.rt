@@ -29,8 +29,8 @@ impl Same for bool {
     }
 }
 
-impl Same for usize {
-    fn same(&self, other: &usize) -> bool {
+impl Same for u128 {
+    fn same(&self, other: &u128) -> bool {
         *self == *other
     }
 }

@@ -186,7 +186,7 @@ fn add_server(words: &mut Vec<u8>, server: &Option<Option<ServerRow>>) -> Result
 }
 
 /// Adds how many rights there are on a server's nodes, where that is seen.
-fn add_users(words: &mut Vec<u8>, users: Option<usize>) -> Result<(), AllocError>
+fn add_users(words: &mut Vec<u8>, users: Option<u128>) -> Result<(), AllocError>
     ensures { OnOk result (words.new.items ≡ with_part words.old.items (option_map users_text users)) }
 {
     let Some(users) = users else {
@@ -194,7 +194,7 @@ fn add_users(words: &mut Vec<u8>, users: Option<usize>) -> Result<(), AllocError
     };
     part(words)?;
     words.extend_from_slice(b"users")?;
-    push_number(words, users as u64)
+    push_long_number(words, users)
 }
 
 /// What is seen under a name, by its parts.

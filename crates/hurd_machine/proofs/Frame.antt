@@ -12,7 +12,7 @@ use Rattle.hurd_ports.specs.Tables.{Task, rights_of, names_open}
 use Rattle.hurd_ports.specs.Steps.{named, with_sent}
 use Rattle.hurd_ports.proofs.TaskLaws.{edit-apart, edit-length}
 use Rattle.hurd_machine.specs.World.{World, task_at, open_at, header_at, body_at, home_at, server_at}
-use Rattle.hurd_nodes.specs.Weights.{one_if, count_list}
+use Rattle.hurd_ports.specs.Weights.{one_if, count_list}
 use Rattle.hurd_machine.specs.Sight.{Part, AttrOf, EmptyOf, BodyOf, OpenOf, OptionsOf, UsersOf, TaskOf, Sees, part, IsGone, is_on, holders, users, AnEmpty, ABody, AnOpen, AnOptions, AUsers, ATask}
 use Rattle.hurd_machine.specs.Change.{Change, EditHeader, EditBody, MakeNode, EditOpen, MakeOpen, EditTask, Send, Attach, DropServer, Unseat, SetText, Settle, settle, apply, apply_all, next_nodes, next_homes, next_opens, next_tasks}
 use Rattle.hurd_machine.specs.Sound.{Below, Coherent, AtRest, Sound}

@@ -11,41 +11,23 @@ use Rattle.hurd_ports.specs.declared.table.Opened.{Opened}
 use Rattle.hurd_ports.specs.declared.table.IoRight.{IoRight}
 use Rattle.hurd_ports.specs.declared.table.Right.{Right}
 use Rattle.hurd_ports.specs.declared.table.Right.TheVariants.{Io, Control}
-use Rattle.hurd_ports.specs.Tables.{Task, rights_of, names_open, names_node, names_server, nodes_of, is_held, is_named, is_controlled}
+use Rattle.hurd_ports.specs.Tables.{Task, rights_of, names_open, names_node, names_server, nodes_of, count_rights, is_held, is_named, is_controlled}
 use Rattle.hurd_ports.specs.Steps.{edit_task}
 use Rattle.hurd_ports.proofs.HeldLaws.{any-at}
 use Rattle.hurd_machine.specs.World.{World, IsAmong, open_at}
-use Rattle.hurd_nodes.specs.Weights.{one_if, weigh_list, count_list}
-use Rattle.hurd_machine.specs.Sight.{weigh_rights, count_rights}
+use Rattle.hurd_ports.specs.Weights.{one_if, count_list}
+use Rattle.hurd_ports.proofs.WeightLaws.{list_weighed, tasks_weighed}
 use Rattle.hurd_machine.proofs.Retained.{retained, none_retained, was_retained}
 use Rattle.hurd_machine.proofs.Tasks.{edit_still}
 
 -- an open is held where some right counts
 
-one_counted : (b : Bool) (n : ℕ) → (b || nat_lt 0 n) ≡ nat_lt 0 (one_if b + n)
-one_counted true n = grind (arith, nat_tests)
-one_counted false n = ap (λ k. nat_lt 0 k) (omega arith)
+counted_one : (b : Bool) → b ≡ nat_lt 0 (one_if b)
+counted_one true = refl
+counted_one false = refl
 
 pub list_counted : {X : Type 0} (T : X → Bool) (xs : List X) → list_any T xs ≡ nat_lt 0 (count_list T xs)
-list_counted T [] = refl
-list_counted T (x ∷ xs) = rw (list_counted T xs) (one_counted (T x) (count_list T xs))
-
-either_counted : (a b : ℕ) → (nat_lt 0 a || nat_lt 0 b) ≡ nat_lt 0 (a + b)
-either_counted zero b = ap (λ n. nat_lt 0 n) (omega arith)
-either_counted (suc a) b = grind (arith, nat_tests)
-
--- what passes a test where it weighs anything
-list_weighed : {X : Type 0} (T : X → Bool) (W : X → ℕ) → ((x : X) → T x ≡ nat_lt 0 (W x)) → (xs : List X) → list_any T xs ≡ nat_lt 0 (weigh_list W xs)
-list_weighed T W same [] = refl
-list_weighed T W same (x ∷ xs) = rw (same x, list_weighed T W same xs) (either_counted (W x) (weigh_list W xs))
-
-pub tasks_weighed : (T : Right → Bool) (W : Right → ℕ) → ((r : Right) → T r ≡ nat_lt 0 (W r)) → (ts : List Task) → list_any (λ (x : Task). list_any T (rights_of x)) ts ≡ nat_lt 0 (weigh_rights W ts)
-tasks_weighed T W same [] = refl
-tasks_weighed T W same (x ∷ ts) = rw (list_weighed T W same (rights_of x), tasks_weighed T W same ts) (either_counted (weigh_list W (rights_of x)) (weigh_rights W ts))
-
-tasks_counted : (T : Right → Bool) (ts : List Task) → list_any (λ (x : Task). list_any T (rights_of x)) ts ≡ nat_lt 0 (count_rights T ts)
-tasks_counted T [] = refl
-tasks_counted T (x ∷ ts) = rw (list_counted T (rights_of x), tasks_counted T ts) (either_counted (count_list T (rights_of x)) (count_rights T ts))
+list_counted T xs = list_weighed T (λ x. one_if (T x)) (λ x. counted_one (T x)) xs
 
 -- some right of some task passes a test
 abbrev pub any_right : (Right → Bool) → List Task → Bool
@@ -53,7 +35,7 @@ any_right T ts = list_any (λ (x : Task). list_any T (rights_of x)) ts
 
 pub held_counted : (ts : List Task) (o : Name) → is_held ts o ≡ nat_lt 0 (count_rights (names_open o) ts)
 unfolding is_held
-held_counted ts o = tasks_counted (names_open o) ts
+held_counted ts o = tasks_weighed (names_open o) (λ r. one_if (names_open o r)) (λ r. counted_one (names_open o r)) ts
 
 -- whether some element passes a test
 

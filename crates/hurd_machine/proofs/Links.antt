@@ -14,7 +14,7 @@ use Rattle.hurd_trans_iface.specs.Nodes.{NodeMap, Node, Entry, Header, Body, Con
 use Rattle.hurd_nodes.specs.Shown.{NodeState, is_root, is_root_of, info_in, server_of, tree_by}
 use Rattle.hurd_machine.specs.World.{World, nodes_of, header_at, body_at, home_at, is_server_root, is_of, lists, lists_at}
 use Rattle.hurd_machine.specs.Change.{Change, EditHeader, EditBody, MakeNode, Attach, DropServer, Unseat, SetText, Settle, apply, apply_all}
-use Rattle.hurd_nodes.specs.Weights.{one_if}
+use Rattle.hurd_ports.specs.Weights.{one_if}
 use Rattle.hurd_machine.specs.Sound.{Below, Coherent, times_in, times_listed, LeadsUp, AtRoot, Above, Hangs, Linked}
 use Rattle.hurd_machine.proofs.Nodes.{header_in, body_in, edited_from, edit_keeps, edit_reads, header-with_header, header-with_body, body-with_header, body-with_body}
 use Rattle.hurd_machine.proofs.Tasks.{count_append}

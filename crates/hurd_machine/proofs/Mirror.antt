@@ -8,12 +8,12 @@ use Rattle.hurd_trans_iface.specs.Nodes.{with_header, with_body, is_empty_dir}
 use Rattle.hurd_nodes.specs.Shown.{with_text}
 use Rattle.hurd_ports.specs.declared.table.Right.{Right}
 use Rattle.hurd_ports.specs.declared.table.Right.TheVariants.{Io, Control, Start}
-use Rattle.hurd_ports.specs.Tables.{Task, rights_of, names_open}
+use Rattle.hurd_ports.specs.Tables.{Task, rights_of, names_open, count_rights}
 use Rattle.hurd_ports.specs.Steps.{named, with_sent, edit_task}
 use Rattle.hurd_machine.specs.World.{World, IsAmong, task_at, open_at, header_at, body_at, home_at, active_at, server_at}
-use Rattle.hurd_nodes.specs.Weights.{one_if}
+use Rattle.hurd_ports.specs.Weights.{one_if}
 use Rattle.hurd_nodes.specs.Held.{is_home}
-use Rattle.hurd_machine.specs.Sight.{Part, AttrOf, EmptyOf, BodyOf, OpenOf, OptionsOf, UsersOf, TaskOf, part, count_rights, holders, is_on, users}
+use Rattle.hurd_machine.specs.Sight.{Part, AttrOf, EmptyOf, BodyOf, OpenOf, OptionsOf, UsersOf, TaskOf, part, holders, is_on, users}
 use Rattle.hurd_machine.specs.Sight.{AnEmpty, ABody, AnOpen, AnOptions, AUsers, ATask}
 use Rattle.hurd_machine.specs.Change.{Change, EditHeader, EditBody, MakeNode, EditOpen, MakeOpen, EditTask, Send, Attach, DropServer, Unseat, SetText, Settle, apply}
 use Rattle.hurd_machine.specs.Sound.{Coherent}

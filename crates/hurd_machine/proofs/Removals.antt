@@ -17,7 +17,7 @@ use Rattle.hurd_trans_iface.specs.Good.{GoodBehaviour}
 use Rattle.hurd_trans_iface.specs.Kinds.{ServerKind, behaviour_of}
 use Rattle.hurd_nodes.specs.Shown.{tree_by}
 use Rattle.hurd_machine.specs.World.{World, nodes_of, header_at, body_at, info_at, is_of, lists, lists_at}
-use Rattle.hurd_nodes.specs.Weights.{one_if, count_list}
+use Rattle.hurd_ports.specs.Weights.{one_if, count_list}
 use Rattle.hurd_machine.specs.Sight.{Part, AttrOf, EmptyOf, BodyOf, Sees, Could, Owns, Allowed}
 use Rattle.hurd_machine.specs.Change.{Change, EditHeader, EditBody, apply, apply_all}
 use Rattle.hurd_machine.specs.Sound.{AreDistinct, HasDistinctNames, Coherent, Linked, times_in, times_listed}

@@ -9,13 +9,11 @@ use Rattle.hurd_ports.specs.declared.table.Port.{Port}
 use Rattle.hurd_ports.specs.Tables.{Task, rights_of, right_in, start_of}
 use Rattle.hurd_ports.specs.Steps.{with_ids, with_pending, with_port, without_port, ports_without, received}
 use Rattle.hurd_machine.specs.World.{World, IsAmong, task_at}
-use Rattle.hurd_nodes.specs.Weights.{one_if, weigh_list, count_list}
+use Rattle.hurd_ports.specs.Weights.{one_if, count_list}
+use Rattle.hurd_ports.proofs.WeightLaws.{right_of_port, pending_weighs, port_weighs, weigh_dropped, weigh_received}
 use Rattle.hurd_machine.specs.Sound.{Below, Coherent}
-use Rattle.hurd_machine.proofs.Tasks.{among_left, among_right, among_cases, among_behind, among_map, among_mapped, weigh_append, count_append}
+use Rattle.hurd_machine.proofs.Tasks.{among_left, among_right, among_cases, among_behind, among_map, among_mapped}
 use Rattle.hurd_machine.proofs.Coherence.{FineNew, FineRight, IsNew, Table}
-
-abbrev pub right_of_port : Port → Right
-right_of_port p = p.right
 
 -- the rights of a table and an inbox
 abbrev both_rights : List Port → List Right → List Right
@@ -62,25 +60,6 @@ without_table w c t p x is = record {
   rights = λ r h. inl (without_rights p x r h);
   numbers = λ q h. c.tables.numbers t x q is (among_without p x.ports q h);
 }
-
--- without a port the others weigh what all weigh without it
-weigh_without : (W : Right → ℕ) (p : ℕ) (ps : List Port) (r : Right) → right_in p ps ≡ Some r → weigh_list W (map right_of_port ps) ≡ W r + weigh_list W (map right_of_port (ports_without p ps))
-weigh_without W p [] r = λ h. absurd (cc)
-weigh_without W p (x ∷ ps) r = go (p == x.number) refl (weigh_without W p ps r)
-  where
-    go : (b : Bool) → (p == x.number) ≡ b → (right_in p ps ≡ Some r → weigh_list W (map right_of_port ps) ≡ W r + weigh_list W (map right_of_port (ports_without p ps)))
-        → right_in p (x ∷ ps) ≡ Some r → weigh_list W (map right_of_port (x ∷ ps)) ≡ W r + weigh_list W (map right_of_port (ports_without p (x ∷ ps)))
-    go true e ih h = let k : Some x.right ≡ Some r = rw e at h in let same : x.right ≡ r = cc in rw (e, same) refl
-    go false e ih h = let rest = ih (rw e at h) in rw e (omega (arith, rest))
-
-pub weigh_dropped : (W : Right → ℕ) (p : ℕ) (x : Task) (r : Right) → right_in p x.ports ≡ Some r → weigh_list W (rights_of x) ≡ W r + weigh_list W (rights_of (without_port p x))
-weigh_dropped W p x r is =
-    let one = weigh_without W p x.ports r is in
-    let all = weigh_append W (map right_of_port x.ports) x.inbox in
-    let left = weigh_append W (map right_of_port (ports_without p x.ports)) x.inbox in
-    let whole = weigh_append W (start_of x.pending) (both_rights x.ports x.inbox) in
-    let rest = weigh_append W (start_of x.pending) (both_rights (ports_without p x.ports) x.inbox) in
-    omega arith
 
 -- one right fewer of those that pass the test, if the one that goes does
 pub count_dropped : (T : Right → Bool) (p : ℕ) (x : Task) (r : Right) → right_in p x.ports ≡ Some r → count_list T (rights_of x) ≡ one_if (T r) + count_list T (rights_of (without_port p x))
@@ -135,16 +114,6 @@ port_has r x =
     subst (λ (rs : List Right). IsAmong r rs) (sym (port_splits r x))
     (among_right r (start_of x.pending) (behind_start r x)
     (among_left r (map right_of_port x.ports ++ r ∷ []) x.inbox (among_right r (map right_of_port x.ports) (r ∷ []) (inl refl))))
-
-pub port_weighs : (W : Right → ℕ) (r : Right) (x : Task) → weigh_list W (rights_of (with_port r x)) ≡ weigh_list W (rights_of x) + W r
-port_weighs W r x =
-    let all : weigh_list W (rights_of (with_port r x)) ≡ weigh_list W (port_split r x) = ap (weigh_list W) (port_splits r x) in
-    let more = weigh_append W (map right_of_port x.ports) (r ∷ []) in
-    let now = weigh_append W (map right_of_port x.ports ++ r ∷ []) x.inbox in
-    let was = weigh_append W (map right_of_port x.ports) x.inbox in
-    let split = weigh_append W (start_of x.pending) (behind_start r x) in
-    let whole = weigh_append W (start_of x.pending) (both_rights x.ports x.inbox) in
-    omega arith
 
 pub port_counted : (T : Right → Bool) (r : Right) (x : Task) → count_list T (rights_of (with_port r x)) ≡ count_list T (rights_of x) + one_if (T r)
 port_counted T r x = port_weighs (λ q. one_if (T q)) r x
@@ -204,17 +173,7 @@ received_keeps x q = go x.inbox
     ]
 
 pub received_counts : (T : Right → Bool) (x : Task) → count_list T (rights_of (received x)) ≡ count_list T (rights_of x)
-received_counts T x = go x.inbox
-  where
-    go : (rs : List Right) → count_list T (rights_of (received (with_inbox rs x))) ≡ count_list T (rights_of (with_inbox rs x))
-    go [] = refl
-    go (r ∷ rs) =
-        let now = port_counted T r (with_inbox rs x) in
-        let left = count_append T (map right_of_port x.ports) rs in
-        let all = count_append T (map right_of_port x.ports) (r ∷ rs) in
-        let less = count_append T (start_of x.pending) (both_rights x.ports rs) in
-        let whole = count_append T (start_of x.pending) (both_rights x.ports (r ∷ rs)) in
-        omega arith
+received_counts T x = weigh_received (λ r. one_if (T r)) x
 
 pub received_made : (x : Task) → (received x).made ≡ x.made
 received_made x = go x.inbox
@@ -249,13 +208,6 @@ pending_rights p x r h = elim (among_cases r (start_of p) (both_rights x.ports x
   | inl new ↦ inr new
   | inr old ↦ inl (among_right r (start_of x.pending) (both_rights x.ports x.inbox) old)
 ]
-
-pub pending_weighs : (W : Right → ℕ) (p : Option PendingStart) (x : Task)
-    → weigh_list W (rights_of (with_pending p x)) + weigh_list W (start_of x.pending) ≡ weigh_list W (rights_of x) + weigh_list W (start_of p)
-pending_weighs W p x =
-    let now = weigh_append W (start_of p) (both_rights x.ports x.inbox) in
-    let was = weigh_append W (start_of x.pending) (both_rights x.ports x.inbox) in
-    omega arith
 
 -- as many rights pass a test that no pending start passes
 none_started : (T : Right → Bool) → ((n : Name) → T (Start n) ≡ false) → (p : Option PendingStart) → count_list T (start_of p) ≡ 0

@@ -6,15 +6,15 @@ use Rattle.hurd_creds.specs.Names.{same_name}
 use Rattle.hurd_creds.proofs.NameLaws.{same_name-apart, equal_if_same, same_or_apart, get_apart, remove_apart, remove_here}
 use Rattle.hurd_trans_iface.specs.Nodes.{Node}
 use Rattle.hurd_nodes.specs.Held.{is_home}
-use Rattle.hurd_nodes.specs.Weights.{count_list}
+use Rattle.hurd_ports.specs.Weights.{count_list}
 use Rattle.hurd_nodes.specs.Shown.{ServerInfo, is_other, is_other_seat}
 use Rattle.hurd_ports.specs.declared.table.Right.{Right}
 use Rattle.hurd_ports.specs.declared.table.Right.TheVariants.{Io, Control, Start}
-use Rattle.hurd_ports.specs.Tables.{Task, rights_of, names_open}
+use Rattle.hurd_ports.specs.Tables.{Task, rights_of, names_open, count_rights}
 use Rattle.hurd_ports.specs.Steps.{named, edit_task}
 use Rattle.hurd_ports.proofs.TaskLaws.{edit-apart}
 use Rattle.hurd_machine.specs.World.{World, IsAmong, task_at, open_at, header_at, body_at, home_at, active_at, server_at}
-use Rattle.hurd_machine.specs.Sight.{Part, AttrOf, EmptyOf, BodyOf, OpenOf, OptionsOf, UsersOf, TaskOf, part, is_on, users, holders, count_rights, AnEmpty, ABody, AnOpen, AnOptions, AUsers, ATask}
+use Rattle.hurd_machine.specs.Sight.{Part, AttrOf, EmptyOf, BodyOf, OpenOf, OptionsOf, UsersOf, TaskOf, part, is_on, users, holders, AnEmpty, ABody, AnOpen, AnOptions, AUsers, ATask}
 use Rattle.hurd_machine.specs.Change.{DropServer, Unseat, apply}
 use Rattle.hurd_machine.specs.Touched.{Goes}
 use Rattle.hurd_machine.specs.Sound.{Below, Coherent}

@@ -3,12 +3,12 @@ use Rattle.std.proofs.Common.{◌≡◌, ◌⊎◌, ℕ, zero, suc, ◌+◌, ◌
 use Rattle.std.specs.Option.{option_map}
 use Rattle.hurd_creds.specs.declared.name.Name.{Name}
 use Rattle.hurd_ports.specs.declared.table.Right.{Right}
-use Rattle.hurd_ports.specs.Tables.{Task, rights_of, start_of}
+use Rattle.hurd_ports.specs.Tables.{Task, rights_of, start_of, weigh_rights, count_rights}
 use Rattle.hurd_ports.specs.Steps.{named, with_sent, edit_at, edit_task}
 use Rattle.hurd_ports.proofs.TaskLaws.{one_or_other, set-cases, edit-found, edit-here, edit-apart}
+use Rattle.hurd_ports.proofs.WeightLaws.{weigh_append, weigh_edit, weigh_sent}
 use Rattle.hurd_machine.specs.World.{World, IsAmong, task_at}
-use Rattle.hurd_nodes.specs.Weights.{one_if, weigh_list, count_list}
-use Rattle.hurd_machine.specs.Sight.{weigh_rights, count_rights}
+use Rattle.hurd_ports.specs.Weights.{one_if, count_list}
 use Rattle.hurd_machine.specs.Sound.{Below}
 
 -- a task afterwards is the changed one, or was there
@@ -52,16 +52,6 @@ below_edit w y q f up tasks n b u at = go (slice_get w.tasks q) refl
 
 -- counts
 
--- with the table of one task put in place of another
-weigh-set : (W : Right → ℕ) (ts : List Task) (q : ℕ) (x y : Task) → slice_get ts q ≡ Some x → weigh_rights W (slice_set ts q y) + weigh_list W (rights_of x) ≡ weigh_rights W ts + weigh_list W (rights_of y)
-weigh-set W [] q x y h = absurd (cc)
-weigh-set W (z ∷ ts) zero x y h = let e : z ≡ x = cc in rw e (omega arith)
-weigh-set W (z ∷ ts) (suc q) x y h = omega (arith, weigh-set W ts q x y h)
-
--- the rights of all tasks afterwards, and those of the changed task before, weigh as much as all before and that task's afterwards
-pub weigh_edit : (W : Right → ℕ) (q : ℕ) (f : Task → Task) (ts : List Task) (x : Task) → slice_get ts q ≡ Some x → weigh_rights W (edit_task q f ts) + weigh_list W (rights_of x) ≡ weigh_rights W ts + weigh_list W (rights_of (f x))
-weigh_edit W q f ts x at = ap (λ l. weigh_rights W l + weigh_list W (rights_of x)) (edit-found q f ts x at) ∙ weigh-set W ts q x (f x) at
-
 pub count_edit : (T : Right → Bool) (q : ℕ) (f : Task → Task) (ts : List Task) (x : Task) → slice_get ts q ≡ Some x → count_rights T (edit_task q f ts) + count_list T (rights_of x) ≡ count_rights T ts + count_list T (rights_of (f x))
 count_edit T q f ts x at = weigh_edit (λ r. one_if (T r)) q f ts x at
 
@@ -71,10 +61,6 @@ weigh_named W q k ts x at = let e = weigh_edit W q (named k) ts x at in omega ar
 
 pub count_named : (T : Right → Bool) (q k : ℕ) (ts : List Task) (x : Task) → slice_get ts q ≡ Some x → count_rights T (edit_task q (named k) ts) ≡ count_rights T ts
 count_named T q k ts x at = weigh_named (λ r. one_if (T r)) q k ts x at
-
-pub weigh_append : {X : Type 0} (W : X → ℕ) (rs ss : List X) → weigh_list W (rs ++ ss) ≡ weigh_list W rs + weigh_list W ss
-weigh_append W [] ss = omega arith
-weigh_append W (r ∷ rs) ss = omega (arith, weigh_append W rs ss)
 
 pub count_append : {X : Type 0} (T : X → Bool) (rs ss : List X) → count_list T (rs ++ ss) ≡ count_list T rs + count_list T ss
 count_append T rs ss = weigh_append (λ x. one_if (T x)) rs ss
@@ -134,12 +120,6 @@ sent_cases r x q h = elim (among_cases q (rights_of x) (r ∷ []) (subst (λ (rs
 
 pub sent_keeps : (r : Right) (x : Task) (q : Right) → IsAmong q (rights_of x) → IsAmong q (rights_of (with_sent r x))
 sent_keeps r x q h = subst (λ (rs : List Right). IsAmong q rs) (sym (sent_last r x)) (among_left q (rights_of x) (r ∷ []) h)
-
-pub weigh_sent : (W : Right → ℕ) (r : Right) (x : Task) → weigh_list W (rights_of (with_sent r x)) ≡ weigh_list W (rights_of x) + W r
-weigh_sent W r x =
-    let all : weigh_list W (rights_of (with_sent r x)) ≡ weigh_list W (rights_of x ++ r ∷ []) = ap (weigh_list W) (sent_last r x) in
-    let more = weigh_append W (rights_of x) (r ∷ []) in
-    omega arith
 
 pub count_sent : (T : Right → Bool) (r : Right) (x : Task) → count_list T (rights_of (with_sent r x)) ≡ count_list T (rights_of x) + one_if (T r)
 count_sent T r x = weigh_sent (λ q. one_if (T q)) r x

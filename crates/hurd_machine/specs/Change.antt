@@ -61,9 +61,12 @@ next_tasks (EditTask q f) ts = edit_task q f ts
 next_tasks (Send r q) ts = edit_task q (with_sent r) ts
 next_tasks c ts = ts
 
--- what rights name
+-- what the rights of tasks name from outside of the nodes
+abbrev pub outside_by : List Task → Outside
+outside_by ts = record { held = is_named ts; controlled = is_controlled ts }
+
 abbrev pub outside : World → Outside
-outside w = record { held = is_named w.tasks; controlled = is_controlled w.tasks }
+outside w = outside_by w.tasks
 
 -- whether a node stays, and whether a server does
 abbrev pub stays : World → Name → Bool

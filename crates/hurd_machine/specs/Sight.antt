@@ -11,7 +11,7 @@ use Rattle.hurd_creds.specs.Bits.{asks, READ}
 use Rattle.hurd_creds.specs.Names.{same_name}
 use Rattle.hurd_trans_iface.specs.Nodes.{Header, Body, attrs_with, is_empty_dir}
 use Rattle.hurd_trans_iface.specs.Answers.{entry_of}
-use Rattle.hurd_nodes.specs.Weights.{one_if, weigh_list, count_list}
+use Rattle.hurd_ports.specs.Weights.{count_list}
 use Rattle.hurd_nodes.specs.Held.{is_home}
 use Rattle.hurd_nodes.specs.Shown.{ServerInfo, boot_name}
 use Rattle.hurd_ports.specs.declared.table.Opened.{Opened}
@@ -19,7 +19,7 @@ use Rattle.hurd_ports.specs.declared.parents.Parent.{Parent as Pair}
 use Rattle.hurd_ports.specs.declared.table.IoRight.{IoRight}
 use Rattle.hurd_ports.specs.declared.table.Right.{Right}
 use Rattle.hurd_ports.specs.declared.table.Right.TheVariants.{Io, Control, Start}
-use Rattle.hurd_ports.specs.Tables.{Task, rights_of, names_open, nodes_of as nodes_named}
+use Rattle.hurd_ports.specs.Tables.{Task, rights_of, count_rights, names_open, nodes_of as nodes_named}
 use Rattle.hurd_machine.specs.World.{World, IsAmong, boot_root, task_at, open_at, header_at, body_at, home_at, active_at, server_at}
 
 -- a node's attributes as far as its header says them
@@ -137,15 +137,6 @@ Sees S w (OpenOf o) = (r : IoRight) × Holds S w (Io r) × (r.open_name ≡ o)
 Sees S w (OptionsOf s) = Knows S w s
 Sees S w (UsersOf s) = MaySend S w s
 Sees S w (TaskOf t) = S t ≡ true
-
--- of what all rights of all tasks weigh
-abbrev pub weigh_rights : (Right → ℕ) → List Task → ℕ
-weigh_rights W [] = 0
-weigh_rights W (t ∷ ts) = weigh_list W (rights_of t) + weigh_rights W ts
-
--- how many rights of all tasks pass a test
-abbrev pub count_rights : (Right → Bool) → List Task → ℕ
-count_rights p ts = weigh_rights (λ r. one_if (p r)) ts
 
 -- how often a right names a node
 abbrev pub naming : Name → Right → ℕ

@@ -20,7 +20,7 @@ use Rattle.hurd_ports.specs.declared.table.Port.{Port}
 use Rattle.hurd_ports.specs.Tables.{Task, rights_of, nodes_of as nodes_named, IsSettled}
 use Rattle.hurd_machine.specs.Change.{stays, server_stays}
 use Rattle.hurd_machine.specs.World.{World, IsAmong, boot_root, nodes_of, ports_of, task_at, open_at, header_at, body_at, server_at, lists_at, is_of}
-use Rattle.hurd_nodes.specs.Weights.{count_list}
+use Rattle.hurd_ports.specs.Weights.{count_list}
 
 -- the name was given already: its task has made more things than its count. No task makes the boot names.
 abbrev pub Below : World → Name → Type 0

@@ -1,4 +1,3 @@
-pub mod HoldLaws
 pub mod SeatLaws
 pub mod ShownLaws
 pub mod StepLaws

@@ -229,11 +229,6 @@ sweep-none o h nodes homes actives servers =
     same_state (sweep o h) h (kept-all h.nodes (node_stays o h) nodes) (kept-all h.homes (node_stays o h) homes)
     (kept-all h.actives (node_stays o h) actives) (kept-all h.servers (server_stays o h) servers)
 
--- where a sweep takes nothing, all stay
-module _ (o : Outside) (h : NodeState) (rests : sweep o h ≡ h) where
-  kept_passes : {X : Type 0} (m : NameMap X) (p : Name → Bool) → fin.retain_keys m p ≡ m → (n : Name) (x : X) → fin.get m n ≡ Some x → p n ≡ true
-  kept_passes m p same n x is = (kept-is m p n x (ap (λ (k : NameMap _). fin.get k n) same ∙ is)).0
-
 -- on the way: nothing was taken out that is left in the end
 pub record IsOnTheWay (o : Outside) (start now : NodeState) : Type 0 where
   pub part : IsPart now start
@@ -288,7 +283,3 @@ settle-is o h = way-end o h (sweeps o (size h) h) (sweeps-end o (size h) h (omeg
 -- and so does every other way
 pub settled : (o : Outside) (h r : NodeState) → IsSettlement o h r → r ≡ settle o h
 settled o h r is = settled-one o h r (settle o h) is (settle-is o h)
-
--- where all stay, nothing goes
-pub settle-rests : (o : Outside) (h : NodeState) → sweep o h ≡ h → settle o h ≡ h
-settle-rests o h stays = sym (settled o h h (record { part = part-itself h; stays = stays; most = λ q part all. part }))

@@ -1,4 +1,3 @@
-pub mod Weights
 pub mod Held
 pub mod Shown
 pub mod Settle

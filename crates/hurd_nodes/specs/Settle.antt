@@ -1,22 +1,17 @@
 -- What stays, and what is left when all else has gone.
-use Rattle.std.specs.Prelude.{ℕ, zero, suc, ◌+◌, Bool, false, ◌||◌, ◌&&◌, List, Option, Some, None}
+use Rattle.std.specs.Prelude.{ℕ, zero, suc, ◌+◌, Bool, false, ◌||◌, ◌&&◌, Option, Some, None}
 use Rattle.std.specs.List.{list_any}
 use Rattle.std.specs.FinMap as fin
 use Rattle.hurd_creds.specs.declared.name.Name.{Name}
 use Rattle.hurd_creds.specs.Names.{same_name}
 use Rattle.hurd_creds.specs.NameMaps.{NameMap}
 use Rattle.hurd_trans_iface.specs.Nodes.{is_entered_at}
-use Rattle.hurd_nodes.specs.declared.seat.Hold.{Hold}
-use Rattle.hurd_nodes.specs.Held.{is_held, is_controlled}
 use Rattle.hurd_nodes.specs.Shown.{NodeState, ServerInfo, boot_name}
 
 -- what is named from outside: nodes, and servers
 pub record Outside : Type 0 where
   pub held : Name → Bool
   pub controlled : Name → Bool
-
-abbrev pub outside_of : List Hold → Outside
-outside_of holds = record { held = is_held holds; controlled = is_controlled holds }
 
 abbrev pub passes : {X : Type 0} → (Name → X → Bool) → Name → Option X → Bool
 passes test n None = false

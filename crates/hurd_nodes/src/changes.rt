@@ -5,7 +5,6 @@ ghost use Rattle.hurd_creds.specs.Memory.{Steps};
 ghost use Rattle.hurd_trans_iface.specs.Behaviour.{reading, writing, resizing};
 ghost use Rattle.hurd_nodes.specs.Shown.{shown, asked_step, make_at, link_at, set_attrs_at, set_passive_at, set_options_at, HideNothing, unlink_at, rename_at, make_nameless_at};
 ghost use Rattle.hurd_nodes.specs.Needs.{FreeRead, FreeSize, FreeWrite};
-ghost use Rattle.hurd_nodes.specs.Held.{holds_of};
 
 use crate::asking::{can_make_in, can_make_nameless_in};
 use crate::nodes::Nodes;
@@ -29,7 +28,6 @@ impl<S: Server> Nodes<S> {
             Steps h (asked_step (reading at amount) node h) result (shown S.meaning self.new) }
         ensures free { let h = shown S.meaning self.old in
             FreeRead at amount node h → result ≡ (asked_step (reading at amount) node h).0 }
-        ensures holds { holds_of self.new ≡ holds_of self.old }
         ensures hidden { HideNothing S.meaning self.old → HideNothing S.meaning self.new }
     {
         match self.server_of_mut(node) {
@@ -46,7 +44,6 @@ impl<S: Server> Nodes<S> {
             Steps h (asked_step (writing at bytes.now) node h) result (shown S.meaning self.new) }
         ensures free { let h = shown S.meaning self.old in
             FreeWrite at bytes.now node h → result ≡ (asked_step (writing at bytes.now) node h).0 }
-        ensures holds { holds_of self.new ≡ holds_of self.old }
         ensures hidden { HideNothing S.meaning self.old → HideNothing S.meaning self.new }
     {
         match self.server_of_mut(node) {
@@ -63,7 +60,6 @@ impl<S: Server> Nodes<S> {
             Steps h (asked_step (resizing size) node h) result (shown S.meaning self.new) }
         ensures free { let h = shown S.meaning self.old in
             FreeSize size node h → result ≡ (asked_step (resizing size) node h).0 }
-        ensures holds { holds_of self.new ≡ holds_of self.old }
         ensures hidden { HideNothing S.meaning self.old → HideNothing S.meaning self.new }
     {
         match self.server_of_mut(node) {
@@ -84,7 +80,6 @@ impl<S: Server> Nodes<S> {
     ) -> Result<(), Errno>
         ensures shown { let h = shown S.meaning self.old in
             Steps h (make_at dir name.now new h) result (shown S.meaning self.new) }
-        ensures holds { holds_of self.new ≡ holds_of self.old }
         ensures hidden { fin.get self.old.homes new.name ≡ None → HideNothing S.meaning self.old → HideNothing S.meaning self.new }
     {
         let Some(i) = place_of_server(&self.homes, &self.seats, dir) else {
@@ -103,7 +98,6 @@ impl<S: Server> Nodes<S> {
     pub fn make_nameless(&mut self, dir: NodeName, new: NewNode) -> Result<(), Errno>
         ensures shown { let h = shown S.meaning self.old in
             Steps h (make_nameless_at dir new h) result (shown S.meaning self.new) }
-        ensures holds { holds_of self.new ≡ holds_of self.old }
         ensures hidden { fin.get self.old.homes new.name ≡ None → HideNothing S.meaning self.old → HideNothing S.meaning self.new }
     {
         let Some(i) = place_of_server(&self.homes, &self.seats, dir) else {
@@ -128,7 +122,6 @@ impl<S: Server> Nodes<S> {
     ) -> Result<(), Errno>
         ensures shown { let h = shown S.meaning self.old in
             Steps h (link_at dir name.now node h) result (shown S.meaning self.new) }
-        ensures holds { holds_of self.new ≡ holds_of self.old }
         ensures hidden { HideNothing S.meaning self.old → HideNothing S.meaning self.new }
     {
         self.can_link(dir, name, node)?;
@@ -144,7 +137,6 @@ impl<S: Server> Nodes<S> {
     /// Errors, in order: `EDIED` no such directory, `ENOTDIR`, `EROFS` its server keeps no tree, `ENOENT`.
     pub fn unlink(&mut self, dir: NodeName, name: &[u8]) -> Result<(), Errno>
         ensures shown { (result, shown S.meaning self.new) ≡ unlink_at dir name.now (shown S.meaning self.old) }
-        ensures holds { holds_of self.new ≡ holds_of self.old }
         ensures hidden { HideNothing S.meaning self.old → HideNothing S.meaning self.new }
     {
         match self.server_of_mut(dir) {
@@ -168,7 +160,6 @@ impl<S: Server> Nodes<S> {
     ) -> Result<(), Errno>
         ensures shown { let h = shown S.meaning self.old in
             Steps h (rename_at dir name.now to new.now h) result (shown S.meaning self.new) }
-        ensures holds { holds_of self.new ≡ holds_of self.old }
         ensures hidden { HideNothing S.meaning self.old → HideNothing S.meaning self.new }
     {
         self.can_rename(dir, name, to)?;
@@ -189,7 +180,6 @@ impl<S: Server> Nodes<S> {
         mode: Mode,
     ) -> Result<(), Errno>
         ensures shown { (result, shown S.meaning self.new) ≡ set_attrs_at node owner group mode (shown S.meaning self.old) }
-        ensures holds { holds_of self.new ≡ holds_of self.old }
         ensures hidden { HideNothing S.meaning self.old → HideNothing S.meaning self.new }
     {
         match self.server_of_mut(node) {
@@ -204,7 +194,6 @@ impl<S: Server> Nodes<S> {
     /// Errors, in order: those of `can_set_attrs`.
     pub fn set_passive(&mut self, node: NodeName, words: Words) -> Result<(), Errno>
         ensures shown { (result, shown S.meaning self.new) ≡ set_passive_at node words (shown S.meaning self.old) }
-        ensures holds { holds_of self.new ≡ holds_of self.old }
         ensures hidden { HideNothing S.meaning self.old → HideNothing S.meaning self.new }
     {
         match self.server_of_mut(node) {
@@ -225,7 +214,6 @@ impl<S: Server> Nodes<S> {
             Steps h (set_options_at server words.now h) result (shown S.meaning self.new) }
         ensures no_words { let h = shown S.meaning self.old in
             words.now ≡ [] → (result, shown S.meaning self.new) ≡ set_options_at server words.now h }
-        ensures holds { holds_of self.new ≡ holds_of self.old }
         ensures hidden { HideNothing S.meaning self.old → HideNothing S.meaning self.new }
     {
         match place_of_seat(&self.seats, server) {

@@ -8,22 +8,23 @@
 //! `detach` sends one away: its box is told, and goes with its nodes. `unseat` leaves a server where it is, but no longer
 //! active on a node.
 //!
-//! It knows what is named from outside, once for each naming (`hold`, `release`): nodes by rights to use them, nodes by ways
-//! that rights came in by and by starts that are pending, servers by rights to control them. A server that nothing keeps any
-//! more, no naming, seat or node of its own that is named, goes by `settle`, and so does a node that no root, entry or naming
-//! keeps, or whose server went; then its box forgets it. What is left is the greatest part in which all stay, in whatever order
-//! things go.
+//! Which nodes are named from outside, and which servers are controlled from there, it asks of a `Namings`. A server that
+//! nothing keeps any more, no control, seat or node of its own that is named, goes by `settle`, and so does a node that no root,
+//! entry or naming keeps, or whose server went; then its box forgets it. What is left is the greatest part in which all stay, in
+//! whatever order things go.
 //!
 //! It doesn't decide who may ask: that is for the calls.
 #![tactic(auto)]
 
 mod asking;
 mod changes;
+mod namings;
 mod nodes;
 mod search;
 mod seat;
 mod servers;
 mod settle;
 
+pub use namings::Namings;
 pub use nodes::{BOOT_NAME, Nodes};
-pub use seat::{Hold, Place};
+pub use seat::Place;

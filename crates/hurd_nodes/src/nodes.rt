@@ -1,19 +1,17 @@
 //! Nodes and their servers.
-ghost use Rattle.std.specs.Prelude.{◌≡◌, replicate, option_copied, IfOk, IfErr};
+ghost use Rattle.std.specs.Prelude.{◌≡◌, option_copied, IfOk, IfErr};
 ghost use Rattle.std.specs.Option.{option_map};
 ghost use Rattle.std.specs.FinMap as fin;
 ghost use Rattle.hurd_creds.specs.Memory.{Meets};
 ghost use Rattle.hurd_trans_iface.specs.Nodes.{attrs_of, header_of, body_of, content_of, passive_of};
 ghost use Rattle.hurd_trans_iface.specs.Answers.{entry_of, names_of};
-ghost use Rattle.hurd_nodes.specs.Shown.{ServerInfo, boot_name, server_of, shown, state_of, header_in, told_header, booted, is_root, are_kin, options_in, readable_at, tree_by, HideNothing};
+ghost use Rattle.hurd_nodes.specs.Shown.{ServerInfo, server_of, shown, state_of, header_in, told_header, booted, is_root, are_kin, options_in, readable_at, tree_by, HideNothing};
 ghost use Rattle.hurd_trans_iface.specs.Meaning.{Begins, root_of};
-ghost use Rattle.hurd_nodes.specs.Held.{box_by, mean, users_in};
+ghost use Rattle.hurd_nodes.specs.Held.{box_by, mean};
 
 use crate::asking::has_tree;
-use crate::search::{
-    home_of, place_of_seat, place_of_server, put_home, put_seat, repeated, users_among,
-};
-use crate::seat::{Hold, Homes, Seat, Seats};
+use crate::search::{home_of, place_of_seat, place_of_server, put_home, put_seat};
+use crate::seat::{Homes, Seat, Seats};
 use bitflags::Flags;
 use hurd_creds::{Attrs, Errno, Ids, Mode, Name, NodeName, ServerName, TaskId};
 use hurd_trans_iface::{Names, Readable, Root, Server, Words};
@@ -26,7 +24,7 @@ pub const BOOT_NAME: Name = Name {
     count: 0,
 };
 
-/// The servers of a world, their nodes, and which of these are named from outside.
+/// The servers of a world, and their nodes.
 #[derive(Drop)]
 pub struct Nodes<S = Box<dyn Server>> {
     /// Which server serves each node.
@@ -34,18 +32,16 @@ pub struct Nodes<S = Box<dyn Server>> {
     /// Which server is active on a node.
     pub(crate) actives: Homes,
     pub(crate) seats: Seats<S>,
-    /// One for each time that a node or a server is named from outside.
-    pub(crate) holds: Vec<Hold>,
 }
 
 impl<S> Model for Nodes<S> {
-    ghost use Rattle.hurd_nodes.specs.Held.{AreTables, Held, coded_held, held_of, spare_of};
+    ghost use Rattle.hurd_nodes.specs.Held.{AreTables, Held, coded_held, held_of};
 
     ghost Value = { Held S };
 
     ghost coded = { coded_held S.code };
 
-    ghost view = { λ n. held_of n.homes.entries n.actives.entries n.seats.entries n.holds.items (spare_of n.holds) };
+    ghost view = { λ n. held_of n.homes.entries n.actives.entries n.seats.entries };
 
     ghost invariant = { λ n. AreTables n.homes.entries n.actives.entries n.seats.entries };
 }
@@ -55,13 +51,12 @@ impl<S: Server> Nodes<S> {
     ghost use Rattle.std.specs.Option.{option_copied_mut};
     ghost use Rattle.hurd_nodes.specs.Lends.{lends_server};
 
-    /// The boot server alone, whose root belongs to uid 0 and gid 0, has the mode 0o755, and is named from outside so many times.
+    /// The boot server alone, whose root belongs to uid 0 and gid 0, and has the mode 0o755.
     ///
     /// `ENOMEM`, with the box back.
-    pub fn starting_with(alloc: Global, boot: S, times: usize) -> Result<Nodes<S>, (Errno, S)>
+    pub fn starting(alloc: Global, boot: S) -> Result<Nodes<S>, (Errno, S)>
         requires { Begins (S.meaning boot) }
         ensures shown { IfOk result (λ n. shown S.meaning n ≡ state_of (booted (S.meaning boot))) }
-        ensures holds { IfOk result (λ n. n.holds ≡ replicate times (Hold.Use boot_name)) }
         ensures hidden { IfOk result (λ n. HideNothing S.meaning n) }
         ensures err { IfErr result (λ e. e ≡ (Errno.ENOMEM, boot)) }
     {
@@ -72,9 +67,6 @@ impl<S: Server> Nodes<S> {
             return Err((Errno::ENOMEM, boot));
         };
         let Ok(mut seats) = Seats::with_capacity(alloc, 1) else {
-            return Err((Errno::ENOMEM, boot));
-        };
-        let Ok(holds) = repeated(alloc, Hold::Use(BOOT_NAME), times) else {
             return Err((Errno::ENOMEM, boot));
         };
         let mut server = boot;
@@ -91,7 +83,6 @@ impl<S: Server> Nodes<S> {
             homes,
             actives: Homes::new(alloc),
             seats,
-            holds,
         })
     }
 
@@ -181,13 +172,6 @@ impl<S: Server> Nodes<S> {
             Some(i) => self.seats[i].server.options(alloc),
             None => Err(Errno::EDIED),
         }
-    }
-
-    /// How many rights there are to use nodes of a server.
-    pub fn users(&self, server: ServerName) -> usize
-        ensures { result ≡ users_in (shown S.meaning self.now).homes server self.now.holds }
-    {
-        users_among(&self.homes, &self.holds, server)
     }
 
     /// Whether a node is the root of its server.

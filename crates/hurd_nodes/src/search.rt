@@ -1,18 +1,19 @@
-//! Homes, seats and holds by name.
-ghost use Rattle.std.specs.Prelude.{◌≡◌, ◌<◌, ◌≤◌, true, ◌&&◌, ℕ, List, length, replicate, IfOk, IfSome, MatchOption};
-ghost use Rattle.std.specs.List.{list_any, remove};
+//! Homes and seats by name.
+ghost use Rattle.std.specs.Prelude.{◌≡◌, ◌<◌, ◌≤◌, true, ◌&&◌, length, IfOk, IfSome};
+ghost use Rattle.std.specs.List.{list_any};
 ghost use Rattle.std.specs.FinMap as fin;
 ghost use Rattle.indexmap.specs.IndexMap.{spare};
 ghost use Rattle.hurd_creds.specs.Names.{same_name};
 ghost use Rattle.hurd_creds.specs.NameMaps.{place_by};
-ghost use Rattle.hurd_nodes.specs.Held.{AllSeated, AreApart, AreTables, held_of, home_key, homes_of, is_controlled, is_held, is_user, less_one, names_node, names_server, place_in, seat_key, seat_value, seats_of, users_in, is_home};
+ghost use Rattle.hurd_nodes.specs.Held.{AllSeated, AreApart, AreTables, held_of, home_key, homes_of, is_home, place_in, seat_key, seat_value, seats_of};
 ghost use Rattle.hurd_nodes.specs.Shown.{less_old, with_home, without_seats, without_server, without_value};
 ghost use Rattle.hurd_nodes.specs.Settle.{any_in};
 
-use crate::seat::{Hold, Homes, Seat, Seats};
+use crate::namings::Namings;
+use crate::seat::{Homes, Seat, Seats};
 use hurd_creds::{NodeName, ServerName};
 use hurd_trans_iface::Server;
-use std::alloc::{AllocError, Global};
+use std::alloc::AllocError;
 
 /// The server of a node.
 pub(crate) fn home_of(homes: &Homes, node: NodeName) -> Option<ServerName>
@@ -124,8 +125,8 @@ pub(crate) fn remove_server<S: Drop>(
     server: ServerName,
 )
     requires { AreTables homes.old.entries actives.old.entries seats.old.entries }
-    ensures is { (holds : List _) (room : ℕ) → held_of homes.new.entries actives.new.entries seats.new.entries holds room
-        ≡ without_server (held_of homes.old.entries actives.old.entries seats.old.entries holds room) server }
+    ensures is { held_of homes.new.entries actives.new.entries seats.new.entries
+        ≡ without_server (held_of homes.old.entries actives.old.entries seats.old.entries) server }
     ensures tables { AreTables homes.new.entries actives.new.entries seats.new.entries }
     ensures room { (spare homes.old ≤ spare homes.new) × (spare actives.old ≤ spare actives.new) × (spare seats.old ≤ spare seats.new) }
 {
@@ -154,8 +155,8 @@ pub(crate) fn send_away<S: Server>(
     server: ServerName,
 )
     requires { AreTables homes.old.entries actives.old.entries seats.old.entries }
-    ensures is { (holds : List _) (room : ℕ) → held_of homes.new.entries actives.new.entries seats.new.entries holds room
-        ≡ without_server (held_of homes.old.entries actives.old.entries seats.old.entries holds room) server }
+    ensures is { held_of homes.new.entries actives.new.entries seats.new.entries
+        ≡ without_server (held_of homes.old.entries actives.old.entries seats.old.entries) server }
     ensures tables { AreTables homes.new.entries actives.new.entries seats.new.entries }
     ensures room { (spare homes.old ≤ spare homes.new) × (spare actives.old ≤ spare actives.new) × (spare seats.old ≤ spare seats.new) }
 {
@@ -171,8 +172,8 @@ pub(crate) fn remove_old<S: Server>(
     old: Option<ServerName>,
 )
     requires { AreTables homes.old.entries actives.old.entries seats.old.entries }
-    ensures is { (holds : List _) (room : ℕ) → held_of homes.new.entries actives.new.entries seats.new.entries holds room
-        ≡ less_old (held_of homes.old.entries actives.old.entries seats.old.entries holds room) old }
+    ensures is { held_of homes.new.entries actives.new.entries seats.new.entries
+        ≡ less_old (held_of homes.old.entries actives.old.entries seats.old.entries) old }
     ensures tables { AreTables homes.new.entries actives.new.entries seats.new.entries }
     ensures room { (spare homes.old ≤ spare homes.new) × (spare actives.old ≤ spare actives.new) × (spare seats.old ≤ spare seats.new) }
 {
@@ -215,111 +216,10 @@ pub(crate) fn is_active(actives: &Homes, server: ServerName) -> bool
 }
 
 /// Whether a server has a node that is named from outside.
-pub(crate) fn has_held(homes: &Homes, holds: &[Hold], server: ServerName) -> bool
-    ensures { result ≡ list_any (λ x. same_name server x.1 && is_held holds.now x.0) homes.now.entries }
+pub(crate) fn has_held<N: Namings>(homes: &Homes, server: ServerName, namings: &N) -> bool
+    ensures { result ≡ list_any (λ x. same_name server x.1 && (N.outside namings.now).held x.0) homes.now.entries }
 {
     homes
         .iter()
-        .any(|(node, home)| server == *home && is_held(holds, *node))
-}
-
-/// Whether a hold names a node.
-fn names_node(hold: Hold, node: NodeName) -> bool
-    ensures { result ≡ names_node node hold }
-{
-    match hold {
-        Hold::Use(named) => node == named,
-        Hold::Way(named) => node == named,
-        Hold::Control(_) => false,
-    }
-}
-
-/// Whether a hold names a server.
-fn names_server(hold: Hold, server: ServerName) -> bool
-    ensures { result ≡ names_server server hold }
-{
-    match hold {
-        Hold::Use(_) => false,
-        Hold::Way(_) => false,
-        Hold::Control(named) => server == named,
-    }
-}
-
-/// Whether a node is named from outside.
-pub(crate) fn is_held(holds: &[Hold], node: NodeName) -> bool
-    ensures { result ≡ is_held holds.now node }
-{
-    for hold in holds {
-        if names_node(*hold, node) {
-            return true;
-        }
-    }
-    false
-}
-
-/// Whether a server is named from outside.
-pub(crate) fn is_controlled(holds: &[Hold], server: ServerName) -> bool
-    ensures { result ≡ is_controlled holds.now server }
-{
-    for hold in holds {
-        if names_server(*hold, server) {
-            return true;
-        }
-    }
-    false
-}
-
-/// The index of the first such hold.
-fn place_of_hold(holds: &[Hold], hold: Hold) -> Option<usize>
-    ensures is { MatchOption result (less_one hold holds.now ≡ holds.now) (λ i. remove holds.now i ≡ less_one hold holds.now) }
-    ensures below { IfSome result (λ i. i < length holds.now) }
-{
-    for (i, held) in holds.iter().enumerate() {
-        if hold == *held {
-            return Some(i);
-        }
-    }
-    None
-}
-
-/// Takes out one such hold.
-pub(crate) fn remove_hold(holds: &mut Vec<Hold>, hold: Hold)
-    ensures { holds.new.items ≡ less_one hold holds.old.items }
-{
-    if let Some(i) = place_of_hold(holds, hold) {
-        holds.remove(i);
-    }
-}
-
-/// A hold, so many times.
-pub(crate) fn repeated(alloc: Global, hold: Hold, times: usize) -> Result<Vec<Hold>, AllocError>
-    ensures { IfOk result (λ holds. holds.items ≡ replicate times hold) }
-{
-    let mut holds = Vec::new(alloc);
-    holds.resize(times, hold)?;
-    Ok(holds)
-}
-
-/// Whether this is a right to use a node of a server.
-fn is_user(homes: &Homes, hold: Hold, server: ServerName) -> bool
-    ensures { result ≡ is_user (homes_of homes.now.entries) server hold }
-{
-    match hold {
-        Hold::Use(node) => is_served(homes, node, server),
-        Hold::Way(_) => false,
-        Hold::Control(_) => false,
-    }
-}
-
-/// How many of these holds are rights to use nodes of a server.
-pub(crate) fn users_among(homes: &Homes, holds: &[Hold], server: ServerName) -> usize
-    ensures { result ≡ users_in (homes_of homes.now.entries) server holds.now }
-{
-    let mut count = 0;
-    for hold in holds {
-        if is_user(homes, *hold, server) {
-            count += 1;
-        }
-    }
-    count
+        .any(|(node, home)| server == *home && namings.names(*node))
 }

@@ -1,4 +1,4 @@
-//! The rows of the tables, homes of nodes and seats of servers, and what is named from outside.
+//! The rows of the tables, homes of nodes and seats of servers.
 use hurd_creds::{Ids, Mode, NodeName, ServerName};
 use indexmap::IndexMap;
 
@@ -15,15 +15,6 @@ pub(crate) struct Seat<S> {
     pub(crate) at: Option<NodeName>,
     pub(crate) ids: Ids,
     pub(crate) server: S,
-}
-
-/// What is named from outside: a node by a right to use it; a node that is named and not used, by a way that a right came in by or by a start that is pending; a server
-/// by a right to control it.
-#[derive(Clone, Copy, Debug, PartialEq, Eq)]
-pub enum Hold {
-    Use(NodeName),
-    Way(NodeName),
-    Control(ServerName),
 }
 
 /// Where a server is to stand: its name, the node on which it is active, and its root with owner, group and mode.

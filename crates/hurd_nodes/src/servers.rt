@@ -3,7 +3,6 @@ ghost use Rattle.std.specs.Prelude.{◌≡◌, None, IfErr, OnOk, OnErr};
 ghost use Rattle.std.specs.FinMap as fin;
 ghost use Rattle.hurd_nodes.specs.Shown.{attached, begun_info, begun_root, out_server, without_active, without_old, shown, HideNothing};
 ghost use Rattle.hurd_trans_iface.specs.Meaning.{Begins};
-ghost use Rattle.hurd_nodes.specs.Held.{holds_of};
 
 use crate::nodes::Nodes;
 use crate::search::{put_home, put_seat, remove_home, remove_old, reserve_rows, send_away};
@@ -26,7 +25,6 @@ impl<S: Server> Nodes<S> {
         requires { Begins (S.meaning server) }
         ensures shown { OnOk result (shown S.meaning self.new ≡ attached place.name place.seat (begun_info (S.meaning server) place.root ids)
             (begun_root (S.meaning server) place.owner place.group place.mode) (without_old instead (shown S.meaning self.old))) }
-        ensures holds { holds_of self.new ≡ holds_of self.old }
         ensures hidden { fin.get self.old.homes place.root ≡ None → HideNothing S.meaning self.old → HideNothing S.meaning self.new }
         ensures kept { OnErr result (self.new ≡ self.old) }
         ensures err { IfErr result (λ e. e ≡ (Errno.ENOMEM, server)) }
@@ -59,7 +57,6 @@ impl<S: Server> Nodes<S> {
     /// `settle`. Takes no memory.
     pub fn detach(&mut self, server: ServerName)
         ensures shown { shown S.meaning self.new ≡ out_server server (shown S.meaning self.old) }
-        ensures holds { holds_of self.new ≡ holds_of self.old }
         ensures hidden { HideNothing S.meaning self.old → HideNothing S.meaning self.new }
     {
         send_away(&mut self.homes, &mut self.actives, &mut self.seats, server);

@@ -1,75 +1,49 @@
-//! What is named from outside, and what goes when nothing keeps it any more.
-ghost use Rattle.std.specs.Prelude.{◌≡◌, ◌≤◌, ◌<◌, ◌-◌, true, false, not, ◌&&◌, ◌||◌, is_some, [], ◌∷◌, ◌++◌, None, IfSome, OnOk, OnErr};
+//! What goes when nothing keeps it any more, here or outside.
+ghost use Rattle.std.specs.Prelude.{◌≡◌, true, false, not, ◌&&◌, ◌||◌, is_some, None, IfSome};
 ghost use Rattle.std.specs.List.{All, list_any};
 ghost use Rattle.std.specs.FinMap as fin;
 ghost use Rattle.hurd_nodes.specs.Shown.{out_node, without_server, shown, header_in, HideNothing, forgotten};
 ghost use Rattle.hurd_creds.specs.Names.{same_name};
-ghost use Rattle.hurd_nodes.specs.Held.{holds_of, homes_of, is_held, less_one, mean, seats_of, with_holds, with_seats};
+ghost use Rattle.hurd_nodes.specs.Held.{homes_of, mean, seats_of, with_seats};
 ghost use Rattle.hurd_trans_iface.specs.Nodes.{is_entered, is_entered_at};
 ghost use Rattle.hurd_nodes.specs.Look.{Goes, HomedStay, IsLook, NamelessStay, ServersStay};
-ghost use Rattle.hurd_nodes.specs.Settle.{node_stays, outside_of, server_stays, settle, sweep};
+ghost use Rattle.hurd_nodes.specs.Settle.{node_stays, server_stays, settle, sweep};
 ghost use Rattle.hurd_nodes.specs.Parts.{TakesOut};
 
+use crate::namings::Namings;
 use crate::nodes::{BOOT_NAME, Nodes};
 use crate::search::{
-    has_held, home_of, is_active, is_active_on, is_controlled, is_held, place_of_seat, remove_hold,
-    remove_home, remove_server,
+    has_held, home_of, is_active, is_active_on, place_of_seat, remove_home, remove_server,
 };
-use crate::seat::{Hold, Homes, Look, Seats};
+use crate::seat::{Homes, Look, Seats};
 use hurd_creds::{Attrs, NodeName, ServerName};
 use hurd_trans_iface::{Server, is_dir};
-use std::alloc::AllocError;
 
 impl<S: Server> Nodes<S> {
-    /// Takes room in memory for so many more holds. `ENOMEM`: nothing is changed.
-    pub fn reserve_holds(&mut self, count: usize) -> Result<(), AllocError>
-        ensures ok { OnOk result ((self.new ≡ with_holds self.old self.old.holds self.new.spare) × (count ≤ self.new.spare)) }
-        ensures err { OnErr result (self.new ≡ self.old) }
-    {
-        self.holds.reserve(count)
-    }
-
-    /// A node or a server is named from outside once more. There is room for that. Takes no memory.
-    pub fn hold(&mut self, hold: Hold)
-        requires { 0 < self.old.spare }
-        ensures { self.new ≡ with_holds self.old (self.old.holds ++ hold ∷ []) (self.old.spare - 1) }
-    {
-        self.holds.push_reserved(hold);
-    }
-
-    /// A node or a server is named from outside once less. What nothing keeps any more then goes by `settle`. Takes no memory.
-    pub fn release(&mut self, hold: Hold)
-        ensures { self.new ≡ with_holds self.old (less_one hold self.old.holds) self.new.spare }
-    {
-        remove_hold(&mut self.holds, hold);
-    }
-
     /// What nothing keeps any more goes: servers with their boxes, and nodes, which their boxes forget. Takes no memory.
-    pub fn settle(&mut self)
-        ensures shown { shown S.meaning self.new ≡ settle (outside_of self.old.holds) (shown S.meaning self.old) }
-        ensures holds { holds_of self.new ≡ holds_of self.old }
+    pub fn settle<N: Namings>(&mut self, namings: &N)
+        ensures shown { shown S.meaning self.new ≡ settle (N.outside namings.now) (shown S.meaning self.old) }
         ensures hidden { HideNothing S.meaning self.old → HideNothing S.meaning self.new }
     {
-        while self.take_one() {}
+        while self.take_one(namings) {}
     }
 
     /// Takes out one node or server that doesn't stay; false where all stay.
-    fn take_one(&mut self) -> bool
-        ensures taken { result ≡ true → TakesOut (outside_of self.old.holds) (shown S.meaning self.old) (shown S.meaning self.new) }
-        ensures end { result ≡ false → sweep (outside_of self.old.holds) (shown S.meaning self.old) ≡ shown S.meaning self.old }
+    fn take_one<N: Namings>(&mut self, namings: &N) -> bool
+        ensures taken { result ≡ true → TakesOut (N.outside namings.now) (shown S.meaning self.old) (shown S.meaning self.new) }
+        ensures end { result ≡ false → sweep (N.outside namings.now) (shown S.meaning self.old) ≡ shown S.meaning self.old }
         ensures same { result ≡ false → self.new ≡ self.old }
-        ensures holds { holds_of self.new ≡ holds_of self.old }
         ensures hidden { HideNothing S.meaning self.old → HideNothing S.meaning self.new }
     {
-        if let Some(node) = self.unkept_served() {
+        if let Some(node) = self.unkept_served(namings) {
             self.take_node(node);
             return true;
         }
-        if let Some(node) = self.unkept_node(&self.actives) {
+        if let Some(node) = self.unkept_node(&self.actives, namings) {
             self.take_node(node);
             return true;
         }
-        if let Some(server) = self.unkept_server(&self.seats) {
+        if let Some(server) = self.unkept_server(&self.seats, namings) {
             self.take_server(server);
             return true;
         }
@@ -77,26 +51,26 @@ impl<S: Server> Nodes<S> {
     }
 
     /// A node that goes; where none is found, none does, if all servers stay. What servers list is looked at, and all nodes only where one of them doesn't say.
-    fn unkept_served(&self) -> Option<NodeName>
-        ensures found { IfSome result (λ n. Goes (outside_of self.now.holds) (shown S.meaning self.now) n) }
-        ensures none { let o = outside_of self.now.holds in let h = shown S.meaning self.now in
+    fn unkept_served<N: Namings>(&self, namings: &N) -> Option<NodeName>
+        ensures found { IfSome result (λ n. Goes (N.outside namings.now) (shown S.meaning self.now) n) }
+        ensures none { let o = N.outside namings.now in let h = shown S.meaning self.now in
             result ≡ None → ServersStay o h → HomedStay o h }
     {
-        match self.unkept_nameless(&self.seats) {
+        match self.unkept_nameless(&self.seats, namings) {
             Look::Leaves(node) => Some(node),
             Look::AllStay => None,
-            Look::Untold => self.unkept_node(&self.homes),
+            Look::Untold => self.unkept_node(&self.homes, namings),
         }
     }
 
     /// A look at the nodes that no entry names of the servers of these seats.
-    fn unkept_nameless(&self, seats: &Seats<S>) -> Look
-        ensures { let o = outside_of self.now.holds in let h = shown S.meaning self.now in
+    fn unkept_nameless<N: Namings>(&self, seats: &Seats<S>, namings: &N) -> Look
+        ensures { let o = N.outside namings.now in let h = shown S.meaning self.now in
             IsLook o h (All (λ x. NamelessStay o h (S.meaning x.1.server)) seats.now.entries) result }
     {
         for i in 0..seats.len() {
             if let Some((_, seat)) = seats.get_index(i) {
-                match self.unkept_of(&seat.server) {
+                match self.unkept_of(&seat.server, namings) {
                     Look::AllStay => {}
                     Look::Leaves(node) => return Look::Leaves(node),
                     Look::Untold => return Look::Untold,
@@ -107,26 +81,26 @@ impl<S: Server> Nodes<S> {
     }
 
     /// A look at the nodes of a server that no entry names.
-    fn unkept_of(&self, server: &S) -> Look
-        ensures { let o = outside_of self.now.holds in let h = shown S.meaning self.now in
+    fn unkept_of<N: Namings>(&self, server: &S, namings: &N) -> Look
+        ensures { let o = N.outside namings.now in let h = shown S.meaning self.now in
             IsLook o h (NamelessStay o h (S.meaning server.now)) result }
     {
         let Some(names) = server.nameless() else {
             return Look::Untold;
         };
-        match self.unkept_among(names) {
+        match self.unkept_among(names, namings) {
             Some(node) => Look::Leaves(node),
             None => Look::AllStay,
         }
     }
 
     /// The first of these nodes that has a home and doesn't stay.
-    fn unkept_among(&self, names: &[NodeName]) -> Option<NodeName>
-        ensures found { IfSome result (λ n. Goes (outside_of self.now.holds) (shown S.meaning self.now) n) }
-        ensures none { result ≡ None → list_any (λ n. let h = shown S.meaning self.now in is_some (fin.get h.homes n) && not (node_stays (outside_of self.now.holds) h n)) names.now ≡ false }
+    fn unkept_among<N: Namings>(&self, names: &[NodeName], namings: &N) -> Option<NodeName>
+        ensures found { IfSome result (λ n. Goes (N.outside namings.now) (shown S.meaning self.now) n) }
+        ensures none { result ≡ None → list_any (λ n. let h = shown S.meaning self.now in is_some (fin.get h.homes n) && not (node_stays (N.outside namings.now) h n)) names.now ≡ false }
     {
         for name in names {
-            if self.home(*name).is_some() && !self.node_stays(*name) {
+            if self.home(*name).is_some() && !self.node_stays(*name, namings) {
                 return Some(*name);
             }
         }
@@ -134,14 +108,14 @@ impl<S: Server> Nodes<S> {
     }
 
     /// The first node of these homes that doesn't stay.
-    fn unkept_node(&self, homes: &Homes) -> Option<NodeName>
-        ensures found { IfSome result (λ n. (node_stays (outside_of self.now.holds) (shown S.meaning self.now) n ≡ false)
+    fn unkept_node<N: Namings>(&self, homes: &Homes, namings: &N) -> Option<NodeName>
+        ensures found { IfSome result (λ n. (node_stays (N.outside namings.now) (shown S.meaning self.now) n ≡ false)
             × (is_some (fin.get (homes_of homes.now.entries) n) ≡ true)) }
-        ensures none { result ≡ None → list_any (λ x. not (node_stays (outside_of self.now.holds) (shown S.meaning self.now) x.0)) homes.now.entries ≡ false }
+        ensures none { result ≡ None → list_any (λ x. not (node_stays (N.outside namings.now) (shown S.meaning self.now) x.0)) homes.now.entries ≡ false }
     {
         for i in 0..homes.len() {
             if let Some((node, _)) = homes.get_index(i) {
-                if !self.node_stays(*node) {
+                if !self.node_stays(*node, namings) {
                     return Some(*node);
                 }
             }
@@ -150,14 +124,14 @@ impl<S: Server> Nodes<S> {
     }
 
     /// The first server of these seats that doesn't stay.
-    fn unkept_server(&self, seats: &Seats<S>) -> Option<ServerName>
-        ensures found { IfSome result (λ s. (server_stays (outside_of self.now.holds) (shown S.meaning self.now) s ≡ false)
+    fn unkept_server<N: Namings>(&self, seats: &Seats<S>, namings: &N) -> Option<ServerName>
+        ensures found { IfSome result (λ s. (server_stays (N.outside namings.now) (shown S.meaning self.now) s ≡ false)
             × (is_some (fin.get (seats_of seats.now.entries) s) ≡ true)) }
-        ensures none { result ≡ None → list_any (λ x. not (server_stays (outside_of self.now.holds) (shown S.meaning self.now) x.0)) seats.now.entries ≡ false }
+        ensures none { result ≡ None → list_any (λ x. not (server_stays (N.outside namings.now) (shown S.meaning self.now) x.0)) seats.now.entries ≡ false }
     {
         for i in 0..seats.len() {
             if let Some((name, seat)) = seats.get_index(i) {
-                if !self.server_stays(*name, seat.at) {
+                if !self.server_stays(*name, seat.at, namings) {
                     return Some(*name);
                 }
             }
@@ -166,8 +140,8 @@ impl<S: Server> Nodes<S> {
     }
 
     /// Whether a node stays: its server does, and it is that server's root, an entry names it, or it is named from outside.
-    fn node_stays(&self, node: NodeName) -> bool
-        ensures { result ≡ node_stays (outside_of self.now.holds) (shown S.meaning self.now) node }
+    fn node_stays<N: Namings>(&self, node: NodeName, namings: &N) -> bool
+        ensures { result ≡ node_stays (N.outside namings.now) (shown S.meaning self.now) node }
     {
         let Some(server) = home_of(&self.homes, node) else {
             return false;
@@ -176,15 +150,15 @@ impl<S: Server> Nodes<S> {
             return false;
         };
         let seat = &self.seats[i];
-        if !self.is_named(node, seat.root) {
+        if !self.is_named(node, seat.root, namings) {
             return false;
         }
-        self.server_stays(server, seat.at)
+        self.server_stays(server, seat.at, namings)
     }
 
     /// Whether a node is this root, an entry names it, or it is named from outside.
-    fn is_named(&self, node: NodeName, root: NodeName) -> bool
-        ensures { result ≡ (same_name node root || (is_entered_at (fin.get (shown S.meaning self.now).nodes node) || is_held self.now.holds node)) }
+    fn is_named<N: Namings>(&self, node: NodeName, root: NodeName, namings: &N) -> bool
+        ensures { result ≡ (same_name node root || (is_entered_at (fin.get (shown S.meaning self.now).nodes node) || (N.outside namings.now).held node)) }
     {
         if node == root {
             return true;
@@ -192,13 +166,18 @@ impl<S: Server> Nodes<S> {
         if self.is_entered(node) {
             return true;
         }
-        is_held(&self.holds, node)
+        namings.names(node)
     }
 
     /// Whether a server stays: the boot server, one that is active on a node, one that is controlled, and one that has a node named from outside. First is looked at the
     /// node on which it was attached, if one is given; all on which servers are active only where it isn't active there.
-    fn server_stays(&self, server: ServerName, at: Option<NodeName>) -> bool
-        ensures { result ≡ server_stays (outside_of self.now.holds) (shown S.meaning self.now) server }
+    fn server_stays<N: Namings>(
+        &self,
+        server: ServerName,
+        at: Option<NodeName>,
+        namings: &N,
+    ) -> bool
+        ensures { result ≡ server_stays (N.outside namings.now) (shown S.meaning self.now) server }
     {
         if server == BOOT_NAME {
             return true;
@@ -206,13 +185,13 @@ impl<S: Server> Nodes<S> {
         if is_active_on(&self.actives, server, at) {
             return true;
         }
-        if is_controlled(&self.holds, server) {
+        if namings.controls(server) {
             return true;
         }
         if is_active(&self.actives, server) {
             return true;
         }
-        has_held(&self.homes, &self.holds, server)
+        has_held(&self.homes, server, namings)
     }
 
     /// Whether an entry names a node, a directory has a parent, or another node a link; or there is no such node.
@@ -230,7 +209,6 @@ impl<S: Server> Nodes<S> {
         ensures shown { shown S.meaning self.new ≡ out_node node (shown S.meaning self.old) }
         ensures boxes { mean S.meaning self.new.seats ≡ forgotten node (fin.get self.old.homes node) (mean S.meaning self.old.seats) }
         ensures homes { self.new.homes ≡ fin.remove self.old.homes node }
-        ensures holds { holds_of self.new ≡ holds_of self.old }
     {
         self.forget(node);
         remove_home(&mut self.homes, node);

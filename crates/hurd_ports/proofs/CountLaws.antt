@@ -1,36 +1,39 @@
--- How many rights name an open, and what is counted of them.
-use Rattle.std.proofs.Common.{◌≡◌, inl, inr, ℕ, zero, suc, ◌+◌, ◌*◌, ◌<◌, ◌≤◌, ◌==◌, ◌||◌, List, [], ◌∷◌, ◌++◌, Bool, true, false, cond, if◌then◌else◌, map, length, refl, sym, ap, ap₂, ◌∙◌, arith}
-use Rattle.std.proofs.lemmas.Bool.Decides.{nat_tests}
-use Rattle.std.specs.Prelude.{Option, Some, None, Result, Ok, Err, IsOk, OnErr, is_ok, slice_get, slice_set, nat_lt}
-use Rattle.std.specs.List.{list_any}
-use Rattle.std.specs.Global.{Vec}
+-- What is counted of the names that rights have.
+use Rattle.std.proofs.Common.{◌≡◌, inl, inr, ℕ, zero, suc, ◌+◌, ◌*◌, ◌<◌, ◌≤◌, List, [], ◌∷◌, ◌++◌, Bool, true, false, cond, map, length, drop, refl, sym, ap, ◌∙◌, arith, add-one, length-append}
+use Rattle.std.proofs.lemmas.List.{drop_all, length-map, length-set}
+use Rattle.std.specs.Prelude.{Option, Some, None, Result, Ok, Err, IsOk, OnErr, slice_get, slice_set, slice_index_or, nat_lt}
 use Rattle.indexmap.specs.IndexMap.{IndexMap, get}
 use Rattle.hurd_creds.specs.Names.{same_name}
+use Rattle.hurd_creds.specs.Limits.{most_tasks}
 use Rattle.hurd_creds.specs.declared.name.Name.{Name}
+use Rattle.hurd_creds.specs.declared.errno.Errno.{Errno}
+use Rattle.hurd_creds.specs.Access.{IdSets}
+use Rattle.hurd_creds.specs.Memory.{Steps, is_no_memory}
 use Rattle.hurd_creds.proofs.NameLaws.{same_name-itself, same_name-apart, same_or_apart}
+use Rattle.hurd_ports.specs.declared.book.Book.{Book}
+use Rattle.hurd_ports.specs.declared.parents.Parent.{Parent}
 use Rattle.hurd_ports.specs.declared.table.PendingStart.{PendingStart}
 use Rattle.hurd_ports.specs.declared.table.Port.{Port}
 use Rattle.hurd_ports.specs.declared.table.Right.{Right}
 use Rattle.hurd_ports.specs.declared.table.Right.TheVariants.{Io, Control, Start}
 use Rattle.hurd_ports.specs.declared.table.TaskSeat.{TaskSeat}
-use Rattle.hurd_ports.specs.Tables.{Task, names_open, open_of, rights_of, right_in, start_of, is_held}
-use Rattle.hurd_creds.specs.declared.errno.Errno.{Errno}
-use Rattle.hurd_creds.specs.Access.{IdSets}
-use Rattle.hurd_creds.specs.Memory.{Steps, is_no_memory}
-use Rattle.hurd_ports.specs.Steps.{new_task, with_pending, ports_without, without_port, with_port, with_sent, received}
-use Rattle.hurd_ports.specs.Seats.{AreCounted, counted, holders_in, is_named_so, namings, one_if, or_none, seat_task, tasks_of}
+use Rattle.hurd_ports.specs.Weights.{count_list, one_if, weigh_list}
+use Rattle.hurd_ports.specs.Tables.{Task, count_rights, is_controlled, is_held, is_named, names_node, names_open, names_server, rights_of, start_of, ways_of, weigh_rights}
+use Rattle.hurd_ports.specs.Steps.{new_task}
+use Rattle.hurd_ports.specs.Counts.{AreCounted, Nodes, Opens, Servers, Sort, count_of, counted, excess, most_counted, names_of, naming, or_none}
+use Rattle.hurd_ports.specs.Seats.{seat_task, tasks_of}
 use Rattle.hurd_ports.proofs.SeatLaws.{seat-there, seat-changed}
-use Rattle.hurd_ports.proofs.EditLaws.{received-rights}
+use Rattle.hurd_ports.proofs.WeightLaws.{list_weighed, tasks_weighed, weigh_alike, weigh_append, weigh_at, weigh_bound, weigh_set}
 
 module _ {S : Type 0} (m l : IndexMap Name ℕ S) (n : Name) where
   -- one more is counted
   pub count-added : (k : ℕ) → k ≡ counted m.entries n → ((q : Name) → get same_name l q ≡ cond (same_name n q) (Some (k + 1)) (get same_name m q))
-      → (o : Name) → counted l.entries o ≡ counted m.entries o + one_if (same_name n o)
+      → (o : Name) → counted l.entries o ≡ counted m.entries o + one_if (same_name o n)
   count-added k is w o = elim (same_or_apart o n) [
     | inl e ↦ rw (e, same_name-itself n) (ap or_none (w n ∙ ap (λ (b : Bool). cond b (Some (k + 1)) (get same_name m n)) (same_name-itself n)) ∙ ap (λ (j : ℕ). j + 1) is)
     | inr apart ↦
         let other = same_name-apart n o (λ e. apart (sym e)) in
-        rw other (ap or_none (w o ∙ ap (λ (b : Bool). cond b (Some (k + 1)) (get same_name m o)) other) ∙ no_more (counted m.entries o))
+        rw (same_name-apart o n apart) (ap or_none (w o ∙ ap (λ (b : Bool). cond b (Some (k + 1)) (get same_name m o)) other) ∙ no_more (counted m.entries o))
   ]
     where
       no_more : (a : ℕ) → a ≡ a + 0
@@ -38,12 +41,12 @@ module _ {S : Type 0} (m l : IndexMap Name ℕ S) (n : Name) where
 
   -- one less is, where none is written if none is left
   pub count-less : (k : ℕ) (v : Option ℕ) → k ≡ counted m.entries n → or_none v + 1 ≡ k → ((q : Name) → get same_name l q ≡ cond (same_name n q) v (get same_name m q))
-      → (o : Name) → counted l.entries o + one_if (same_name n o) ≡ counted m.entries o
+      → (o : Name) → counted l.entries o + one_if (same_name o n) ≡ counted m.entries o
   count-less k v is less w o = elim (same_or_apart o n) [
     | inl e ↦ rw (e, same_name-itself n) (ap (λ (x : ℕ). x + 1) (ap or_none (w n ∙ ap (λ (b : Bool). cond b v (get same_name m n)) (same_name-itself n))) ∙ less ∙ is)
     | inr apart ↦
         let other = same_name-apart n o (λ e. apart (sym e)) in
-        rw other (no_less (counted l.entries o) ∙ ap or_none (w o ∙ ap (λ (b : Bool). cond b v (get same_name m o)) other))
+        rw (same_name-apart o n apart) (no_less (counted l.entries o) ∙ ap or_none (w o ∙ ap (λ (b : Bool). cond b v (get same_name m o)) other))
   ]
     where
       no_less : (a : ℕ) → a + 0 ≡ a
@@ -55,148 +58,173 @@ on_present (Ok x) o none some = refl
 on_present (Err e) None none some = absurd (omega arith)
 on_present (Err e) (Some k) none some = absurd (cc)
 
--- whether a right names an open is told by its own
-pub named_so : (o : Name) (r : Right) → names_open o r ≡ is_named_so o (open_of r)
-named_so o (Io r) = refl
-named_so o (Control s) = refl
-named_so o (Start n) = refl
+-- what ways name, from one on
+abbrev pub names_from : (Name → Bool) → ℕ → List Parent → ℕ
+names_from p i ws = count_list p (ways_of (drop i ws))
 
--- in lists
-pub namings-append : (o : Name) (xs ys : List Right) → namings o (xs ++ ys) ≡ namings o xs + namings o ys
-namings-append o [] ys = omega arith
-namings-append o (r ∷ xs) ys = let rest = namings-append o xs ys in omega arith
+next_one : (p : Name → Bool) (ws : List Parent) (i : ℕ) (d : Parent) → i < length ws → names_from p i ws ≡ one_if (p (slice_index_or ws i d).at) + (one_if (p (slice_index_or ws i d).parent) + names_from p (suc i) ws)
+next_one p [] i d below = absurd (omega arith)
+next_one p (v ∷ ws) zero d below = refl
+next_one p (v ∷ ws) (suc i) d below = next_one p ws i d (omega arith)
 
-namings-any : (o : Name) (xs : List Right) → list_any (names_open o) xs ≡ nat_lt 0 (namings o xs)
-namings-any o [] = refl
-namings-any o (r ∷ xs) = go (names_open o r) (namings-any o xs)
-  where
-    none_first : (a : ℕ) → a ≡ 0 + a
-    none_first a = omega arith
+pub ways_next : (p : Name → Bool) (ws : List Parent) (i : ℕ) (d : Parent) → i < length ws → names_from p i ws ≡ one_if (p (slice_index_or ws i d).at) + (one_if (p (slice_index_or ws i d).parent) + names_from p (i + 1) ws)
+ways_next p ws i d below = rw (add-one i) (next_one p ws i d below)
 
-    go : (b : Bool) → list_any (names_open o) xs ≡ nat_lt 0 (namings o xs) → (b || list_any (names_open o) xs) ≡ nat_lt 0 (one_if b + namings o xs)
-    go true e = grind (arith, nat_tests)
-    go false e = e ∙ ap (nat_lt 0) (none_first (namings o xs))
+-- from the end on, none
+pub ways_end : (p : Name → Bool) (ws : List Parent) (i : ℕ) → length ws ≤ i → names_from p i ws ≡ 0
+ways_end p ws i end = ap (λ (l : List Parent). count_list p (ways_of l)) (drop_all i ws end)
 
-namings-length : (o : Name) (xs : List Right) → namings o xs ≤ length xs
-namings-length o [] = omega arith
-namings-length o (r ∷ xs) = go (names_open o r) (namings-length o xs)
-  where
-    go : (b : Bool) → namings o xs ≤ length xs → one_if b + namings o xs ≤ suc (length xs)
-    go true e = omega arith
-    go false e = omega arith
+-- a name names itself once
+pub one_itself : (n : Name) → one_if (same_name n n) ≡ 1
+one_itself n = ap one_if (same_name-itself n)
 
--- an open is held where a right that names it is counted
-pub held-counted : (ts : List Task) (o : Name) → is_held ts o ≡ nat_lt 0 (holders_in ts o)
+-- ways name a thing at most twice each
+pub one_at_most : (b : Bool) → one_if b ≤ 1
+one_at_most true = omega arith
+one_at_most false = omega arith
+
+pub ways_most : (p : Name → Bool) (ws : List Parent) → count_list p (ways_of ws) ≤ length ws + length ws
+ways_most p [] = omega arith
+ways_most p (w ∷ ws) = omega (arith, ways_most p ws, one_at_most (p w.at), one_at_most (p w.parent))
+
+-- whether a right names something is told by how often it does
+
+name_turned : (a b : Name) → same_name a b ≡ same_name b a
+name_turned a b = elim (same_or_apart a b) [
+  | inl e ↦ rw e refl
+  | inr apart ↦ same_name-apart a b apart ∙ sym (same_name-apart b a (λ e. apart (sym e)))
+]
+
+one_told : (b : Bool) → b ≡ nat_lt 0 (one_if b)
+one_told true = refl
+one_told false = refl
+
+pub opens_told : (n : Name) (r : Right) → one_if (names_open n r) ≡ naming Opens n r
+opens_told n (Io r) = omega (arith, ap one_if (name_turned r.open_name n))
+opens_told n (Control s) = refl
+opens_told n (Start m) = refl
+
+named_told : (n : Name) (r : Right) → names_open n r ≡ nat_lt 0 (naming Opens n r)
+named_told n r = one_told (names_open n r) ∙ ap (nat_lt 0) (opens_told n r)
+
+nodes_told : (n : Name) (r : Right) → names_node n r ≡ nat_lt 0 (naming Nodes n r)
+nodes_told n r = list_weighed (λ m. same_name n m) (λ m. one_if (same_name n m)) (λ m. one_told (same_name n m)) (names_of Nodes r)
+
+servers_told : (n : Name) (r : Right) → names_server n r ≡ nat_lt 0 (naming Servers n r)
+servers_told n (Io r) = refl
+servers_told n (Control s) = one_told (same_name n s) ∙ ap (nat_lt 0) (omega arith)
+servers_told n (Start m) = refl
+
+-- and the same of all rights
+
+pub held-counted : (ts : List Task) (n : Name) → is_held ts n ≡ nat_lt 0 (weigh_rights (naming Opens n) ts)
 unfolding is_held
-held-counted [] o = refl
-held-counted (x ∷ xs) o = ap₂ (λ (a b : Bool). a || b) (namings-any o (rights_of x)) (held-counted xs o) ∙ either (namings o (rights_of x)) (holders_in xs o)
-  where
-    either : (a b : ℕ) → (nat_lt 0 a || nat_lt 0 b) ≡ nat_lt 0 (a + b)
-    either a b = grind (arith, nat_tests)
+held-counted ts n = tasks_weighed (names_open n) (naming Opens n) (named_told n) ts
 
--- of a task by its ports and its inbox
-pub namings_by : (o : Name) (x : Task) → namings o (rights_of x) ≡ namings o (map (λ (p : Port). p.right) x.ports) + namings o x.inbox
-namings_by o x = started x.pending ∙ namings-append o (map (λ (p : Port). p.right) x.ports) x.inbox
-  where
-    started : (s : Option PendingStart) → namings o (start_of s ++ (map (λ (p : Port). p.right) x.ports ++ x.inbox)) ≡ namings o (map (λ (p : Port). p.right) x.ports ++ x.inbox)
-    started None = refl
-    started (Some s) = omega arith
+pub named-counted : (ts : List Task) (n : Name) → is_named ts n ≡ nat_lt 0 (weigh_rights (naming Nodes n) ts)
+unfolding is_named
+named-counted ts n = tasks_weighed (names_node n) (naming Nodes n) (nodes_told n) ts
 
-pushed : (o : Name) (ps : List Port) (p : Port) → namings o (map (λ (z : Port). z.right) (ps ++ p ∷ [])) ≡ namings o (map (λ (z : Port). z.right) ps) + one_if (names_open o p.right)
-pushed o [] p = omega arith
-pushed o (x ∷ ps) p = let rest = pushed o ps p in omega arith
+pub controlled-counted : (ts : List Task) (n : Name) → is_controlled ts n ≡ nat_lt 0 (weigh_rights (naming Servers n) ts)
+unfolding is_controlled
+controlled-counted ts n = tasks_weighed (names_server n) (naming Servers n) (servers_told n) ts
 
--- a task with one port more
-pub namings-port : (o : Name) (r : Right) (x : Task) → namings o (rights_of (with_port r x)) ≡ namings o (rights_of x) + one_if (names_open o r)
-namings-port o r x =
-    let a = namings_by o (with_port r x) in
-    let b = namings_by o x in
-    let c = pushed o x.ports (record { number = x.next; right = r }) in
-    omega arith
+pub opens-counted : (ts : List Task) (n : Name) → count_rights (names_open n) ts ≡ weigh_rights (naming Opens n) ts
+opens-counted ts n = weigh_alike (λ r. one_if (names_open n r)) (naming Opens n) (opens_told n) ts
 
--- or with one right sent
-pub namings-sent : (o : Name) (r : Right) (x : Task) → namings o (rights_of (with_sent r x)) ≡ namings o (rights_of x) + one_if (names_open o r)
-namings-sent o r x =
-    let a = namings_by o (with_sent r x) in
-    let b = namings_by o x in
-    let c = namings-append o x.inbox (r ∷ []) in
-    omega arith
+-- other counts that say the same
+pub counted-as : (b l : Book) (ts : List Task) → ((k : Sort) (n : Name) → count_of k n l ≡ count_of k n b) → AreCounted b ts → AreCounted l ts
+counted-as b l ts same counts = record { all = λ k n. same k n ∙ counts.all k n; few = counts.few; short = counts.short }
 
-pub namings-received : (o : Name) (x : Task) → namings o (rights_of (received x)) ≡ namings o (rights_of x)
-namings-received o x = ap (namings o) (received-rights x)
+module _ (b l : Book) (ss : List TaskSeat) (t : ℕ) (s new : TaskSeat) (at : slice_get ss t ≡ Some s) (counts : AreCounted b (tasks_of ss)) where
+  changed : (W : Right → ℕ) → weigh_rights W (tasks_of (slice_set ss t new)) + weigh_list W (rights_of (seat_task s)) ≡ weigh_rights W (tasks_of ss) + weigh_list W (rights_of (seat_task new))
+  changed W =
+      ap (λ (ts : List Task). weigh_rights W ts + weigh_list W (rights_of (seat_task s))) (seat-changed ss t new (seat_task new) refl)
+      ∙ weigh_set W (tasks_of ss) t (seat_task s) (seat_task new) (seat-there ss t s at)
 
--- or without one port
-taken : (o : Name) (p : ℕ) (ps : List Port) (r : Right) → right_in p ps ≡ Some r → namings o (map (λ (z : Port). z.right) (ports_without p ps)) + one_if (names_open o r) ≡ namings o (map (λ (z : Port). z.right) ps)
-taken o p [] r is = absurd (cc)
-taken o p (x ∷ ps) r is = go (p == x.number) (taken o p ps r) is
-  where
-    go : (b : Bool) → (right_in p ps ≡ Some r → namings o (map (λ (z : Port). z.right) (ports_without p ps)) + one_if (names_open o r) ≡ namings o (map (λ (z : Port). z.right) ps))
-        → (if b then Some x.right else right_in p ps) ≡ Some r
-        → namings o (map (λ (z : Port). z.right) (if b then ps else x ∷ ports_without p ps)) + one_if (names_open o r) ≡ one_if (names_open o x.right) + namings o (map (λ (z : Port). z.right) ps)
-    go true rest h = let same : x.right ≡ r = cc in rw same (omega arith)
-    go false rest h = let e = rest h in omega arith
+  few_still : length (tasks_of (slice_set ss t new)) ≤ most_tasks
+  few_still = omega (arith, counts.few, length-map ss seat_task, length-map (slice_set ss t new) seat_task, length-set ss t new)
 
-pub namings-without : (o : Name) (p : ℕ) (x : Task) (r : Right) → right_in p x.ports ≡ Some r → namings o (rights_of (without_port p x)) + one_if (names_open o r) ≡ namings o (rights_of x)
-namings-without o p x r is =
-    let a = namings_by o (without_port p x) in
-    let b = namings_by o x in
-    let c = taken o p x.ports r is in
-    omega arith
-
--- a task in the place of another
-holders-set : (o : Name) (ts : List Task) (t : ℕ) (x y : Task) → slice_get ts t ≡ Some x → holders_in (slice_set ts t y) o + namings o (rights_of x) ≡ holders_in ts o + namings o (rights_of y)
-holders-set o [] t x y at = absurd (cc)
-holders-set o (z ∷ ts) zero x y at = let e : z ≡ x = cc in rw e (omega arith)
-holders-set o (z ∷ ts) (suc t) x y at = let rest = holders-set o ts t x y at in omega arith
-
--- a task's rights are among those of all
-pub holders-at : (o : Name) (ts : List Task) (t : ℕ) (x : Task) → slice_get ts t ≡ Some x → namings o (rights_of x) ≤ holders_in ts o
-holders-at o [] t x at = absurd (cc)
-holders-at o (z ∷ ts) zero x at = let e : z ≡ x = cc in rw e (omega arith)
-holders-at o (z ∷ ts) (suc t) x at = let rest = holders-at o ts t x at in omega arith
-
-module _ (es news : List (Name × ℕ)) (ss : List TaskSeat) (t : ℕ) (s new : TaskSeat) (at : slice_get ss t ≡ Some s) (counts : AreCounted es ss) where
-  changed : (o : Name) → holders_in (tasks_of (slice_set ss t new)) o + namings o (rights_of (seat_task s)) ≡ holders_in (tasks_of ss) o + namings o (rights_of (seat_task new))
-  changed o = ap (λ (ts : List Task). holders_in ts o + namings o (rights_of (seat_task s))) (seat-changed ss t new (seat_task new) refl) ∙ holders-set o (tasks_of ss) t (seat_task s) (seat_task new) (seat-there ss t s at)
+  -- where some rights of a task go and others come
+  pub counted-changed : (gone come : List Right) → ((W : Right → ℕ) → weigh_list W (rights_of (seat_task new)) + weigh_list W gone ≡ weigh_list W (rights_of (seat_task s)) + weigh_list W come) → weigh_list excess come ≡ 0
+      → ((k : Sort) (n : Name) → count_of k n l + weigh_list (naming k n) gone ≡ count_of k n b + weigh_list (naming k n) come) → AreCounted l (tasks_of (slice_set ss t new))
+  counted-changed gone come rights fine same = record {
+    all = λ k n. omega (arith, changed (naming k n), rights (naming k n), same k n, counts.all k n);
+    few = few_still;
+    short = omega (arith, changed excess, rights excess, fine, counts.short);
+  }
 
   -- as many as before
-  pub counted-same : ((o : Name) → namings o (rights_of (seat_task new)) ≡ namings o (rights_of (seat_task s))) → AreCounted es (slice_set ss t new)
-  counted-same same o = let a = changed o in let b = same o in let c = counts o in omega arith
+  pub counted-same : ((W : Right → ℕ) → weigh_list W (rights_of (seat_task new)) ≡ weigh_list W (rights_of (seat_task s))) → ((k : Sort) (n : Name) → count_of k n l ≡ count_of k n b) → AreCounted l (tasks_of (slice_set ss t new))
+  counted-same rights same = counted-changed [] [] (λ W. omega (arith, rights W)) refl (λ k n. omega (arith, same k n))
 
   -- one more
-  pub counted-more : (r : Right) → ((o : Name) → namings o (rights_of (seat_task new)) ≡ namings o (rights_of (seat_task s)) + one_if (names_open o r))
-      → ((o : Name) → counted news o ≡ counted es o + one_if (is_named_so o (open_of r))) → AreCounted news (slice_set ss t new)
-  counted-more r more added o =
-      let a = changed o in let b = more o in let c = counts o in let d = added o in let e = ap one_if (named_so o r) in omega arith
+  pub counted-more : (r : Right) → ((W : Right → ℕ) → weigh_list W (rights_of (seat_task new)) ≡ weigh_list W (rights_of (seat_task s)) + W r) → excess r ≡ 0
+      → ((k : Sort) (n : Name) → count_of k n l ≡ count_of k n b + naming k n r) → AreCounted l (tasks_of (slice_set ss t new))
+  counted-more r rights fine same = counted-changed [] (r ∷ []) (λ W. omega (arith, rights W)) (omega arith) (λ k n. omega (arith, same k n))
 
   -- one less
-  pub counted-less : (r : Right) → ((o : Name) → namings o (rights_of (seat_task new)) + one_if (names_open o r) ≡ namings o (rights_of (seat_task s)))
-      → ((o : Name) → counted news o + one_if (is_named_so o (open_of r)) ≡ counted es o) → AreCounted news (slice_set ss t new)
-  counted-less r less taken o =
-      let a = changed o in let b = less o in let c = counts o in let d = taken o in let e = ap one_if (named_so o r) in omega arith
+  pub counted-less : (r : Right) → ((W : Right → ℕ) → weigh_list W (rights_of (seat_task s)) ≡ W r + weigh_list W (rights_of (seat_task new)))
+      → ((k : Sort) (n : Name) → count_of k n l + naming k n r ≡ count_of k n b) → AreCounted l (tasks_of (slice_set ss t new))
+  counted-less r rights same = counted-changed (r ∷ []) [] (λ W. omega (arith, rights W)) refl (λ k n. omega (arith, same k n))
 
--- no tasks in memory have more rights than a count can say
-seat-few : (o : Name) (s : TaskSeat) → namings o (rights_of (seat_task s)) ≤ 18446744073709551614
-seat-few o s =
-    let a = namings_by o (seat_task s) in
-    let b = namings-length o s.inbox.items in
-    let c = mapped s.ports.items in
+-- a count fits
+
+-- a right whose ways are short names a thing 129 times at most
+naming_most : (k : Sort) (n : Name) (r : Right) → excess r ≡ 0 → naming k n r ≤ 129
+naming_most Opens n (Io r) short = omega (arith, one_at_most (same_name n r.open_name))
+naming_most Opens n (Control s) short = omega arith
+naming_most Opens n (Start m) short = omega arith
+naming_most Nodes n (Io r) short = omega (arith, one_at_most (same_name n r.node), ways_most (same_name n) r.parents)
+naming_most Nodes n (Control s) short = omega arith
+naming_most Nodes n (Start m) short = omega (arith, one_at_most (same_name n m))
+naming_most Servers n (Io r) short = omega arith
+naming_most Servers n (Control s) short = omega (arith, one_at_most (same_name n s))
+naming_most Servers n (Start m) short = omega arith
+
+-- a seat in memory has fewer than 2^64 rights
+rights_few : (s : TaskSeat) → length (rights_of (seat_task s)) ≤ 18446744073709551615
+rights_few s =
+    let ported : List Right = map (λ (p : Port). p.right) s.ports.items in
+    let all = length-append (start_of s.pending) (ported ++ s.inbox.items) in
+    let rest = length-append ported s.inbox.items in
+    let ports : length ported ≡ length s.ports.items = length-map s.ports.items (λ (p : Port). p.right) in
+    let start = started s.pending in
     omega (arith, s.inbox.ok.0, s.inbox.ok.1, s.inbox.small, s.ports.ok.0, s.ports.ok.1, s.ports.small)
   where
-    mapped : (ps : List Port) → namings o (map (λ (p : Port). p.right) ps) ≤ length ps
-    mapped [] = omega arith
-    mapped (p ∷ ps) = go (names_open o p.right) (mapped ps)
-      where
-        go : (b : Bool) → namings o (map (λ (p : Port). p.right) ps) ≤ length ps → one_if b + namings o (map (λ (p : Port). p.right) ps) ≤ suc (length ps)
-        go true e = omega arith
-        go false e = omega arith
+    started : (p : Option PendingStart) → length (start_of p) ≤ 1
+    started None = omega arith
+    started (Some x) = omega arith
 
-seats-few : (o : Name) (ss : List TaskSeat) → holders_in (tasks_of ss) o ≤ length ss * 18446744073709551614
-seats-few o [] = omega arith
-seats-few o (s ∷ ss) = let a = seat-few o s in let b = seats-few o ss in omega arith
+seats_few : (k : Sort) (n : Name) (ss : List TaskSeat) → weigh_rights excess (tasks_of ss) ≡ 0 → weigh_rights (naming k n) (tasks_of ss) ≤ length ss * 2379629985508532158464
+seats_few k n [] short = omega arith
+seats_few k n (s ∷ ss) short =
+    let one = weigh_bound (naming k n) excess 129 (naming_most k n) (rights_of (seat_task s)) (omega arith) in
+    let few = rights_few s in
+    let rest = seats_few k n ss (omega arith) in
+    omega arith
 
-pub counts-fit : (es : List (Name × ℕ)) (ss : List TaskSeat) → AreCounted es ss → length ss < 9223372036854775808 → (o : Name) → counted es o < 340282366920938463463374607431768211455
-counts-fit es ss counts few o = let a = seats-few o ss in let b = counts o in omega arith
+pub counts-fit : (b : Book) (ss : List TaskSeat) → AreCounted b (tasks_of ss) → (k : Sort) (n : Name) → count_of k n b ≤ most_counted
+counts-fit b ss counts k n = omega (arith, seats_few k n ss counts.short, counts.all k n, counts.few, length-map ss seat_task)
+
+-- the right that a pending start is, is counted
+pub start-counted : (b : Book) (ss : List TaskSeat) (t : ℕ) (s : TaskSeat) → slice_get ss t ≡ Some s → AreCounted b (tasks_of ss) → (k : Sort) (n : Name) → weigh_list (naming k n) (start_of s.pending) ≤ count_of k n b
+start-counted b ss t s at counts k n =
+    let own : List Right = map (λ (p : Port). p.right) s.ports.items ++ s.inbox.items in
+    let parts = weigh_append (naming k n) (start_of s.pending) own in
+    omega (arith, weigh_at (naming k n) (tasks_of ss) t (seat_task s) (seat-there ss t s at), counts.all k n)
+
+-- tasks that begin have no rights
+pub counted-starting : (ss : List TaskSeat) (ids : List IdSets) (next : ℕ) (b : Book) → ((k : Sort) (n : Name) → count_of k n b ≡ 0) → tasks_of ss ≡ map (new_task next) ids → length ids ≤ most_tasks → AreCounted b (tasks_of ss)
+counted-starting ss ids next b none seats few = rw seats (record {
+  all = λ k n. none k n ∙ sym (nothing (naming k n) ids);
+  few = omega (arith, few, length-map ids (new_task next));
+  short = nothing excess ids;
+})
+  where
+    nothing : (W : Right → ℕ) (ids : List IdSets) → weigh_rights W (map (new_task next) ids) ≡ 0
+    nothing W [] = refl
+    nothing W (i ∷ ids) = omega (arith, nothing W ids)
 
 -- where there was no memory a step left all as it was
 left-unchanged : {T : Type 0} (v : T) (y x z : Task) (e : Errno) → Steps x (Ok v, y) (Err e) z → z ≡ x
@@ -205,34 +233,7 @@ left-unchanged v y x z e steps = elim steps.answered [
   | inr memory ↦ steps.left ∙ ap (λ (w : Errno). cond (is_no_memory w) x y) memory.0
 ]
 
--- a right more in a task, where there was memory
-pub counted-if : {T : Type 0} (es news : List (Name × ℕ)) (ss : List TaskSeat) (t : ℕ) (s new : TaskSeat) (r : Right) (v : T) (y : Task) (got : Result T Errno) → slice_get ss t ≡ Some s → AreCounted es ss
-    → Steps (seat_task s) (Ok v, y) got (seat_task new) → ((o : Name) → namings o (rights_of y) ≡ namings o (rights_of (seat_task s)) + one_if (names_open o r))
-    → (is_ok got ≡ true → (o : Name) → counted news o ≡ counted es o + one_if (is_named_so o (open_of r))) → (is_ok got ≡ false → news ≡ es) → AreCounted news (slice_set ss t new)
-counted-if es news ss t s new r v y (Ok x) at counts steps more added same =
-    counted-more es news ss t s new at counts r (λ o. ap (λ (z : Task). namings o (rights_of z)) steps.left ∙ more o) (added refl)
-counted-if es news ss t s new r v y (Err e) at counts steps more added same =
-    rw (same refl) (counted-same es es ss t s new at counts (λ o. ap (λ (z : Task). namings o (rights_of z)) (left-unchanged v y (seat_task s) (seat_task new) e steps)))
-
 -- rights that only move, where there was memory
-pub counted-moved : {T : Type 0} (es : List (Name × ℕ)) (ss : List TaskSeat) (t : ℕ) (s new : TaskSeat) (v : T) (y : Task) (got : Result T Errno) → slice_get ss t ≡ Some s → AreCounted es ss
-    → Steps (seat_task s) (Ok v, y) got (seat_task new) → ((o : Name) → namings o (rights_of y) ≡ namings o (rights_of (seat_task s))) → AreCounted es (slice_set ss t new)
-counted-moved es ss t s new v y (Ok x) at counts steps same = counted-same es es ss t s new at counts (λ o. ap (λ (z : Task). namings o (rights_of z)) steps.left ∙ same o)
-counted-moved es ss t s new v y (Err e) at counts steps same = counted-same es es ss t s new at counts (λ o. ap (λ (z : Task). namings o (rights_of z)) (left-unchanged v y (seat_task s) (seat_task new) e steps))
-
--- a task that is to start something else
-pub namings-pending : (o : Name) (p : Option PendingStart) (x : Task) → namings o (rights_of (with_pending p x)) ≡ namings o (rights_of x)
-namings-pending o p x = namings_by o (with_pending p x) ∙ sym (namings_by o x)
-
--- tasks that begin have no rights
-pub counted-starting : (ss : List TaskSeat) (ids : List IdSets) (next : ℕ) (es : List (Name × ℕ)) → es ≡ [] → tasks_of ss ≡ map (new_task next) ids → AreCounted es ss
-counted-starting ss ids next es none seats o = rw (none, seats) (sym (none_in ids))
-  where
-    none_in : (ids : List IdSets) → holders_in (map (new_task next) ids) o ≡ 0
-    none_in [] = refl
-    none_in (i ∷ ids) = let rest = none_in ids in omega arith
-
--- a seat whose ports have other room
-pub counted-room : (es news : List (Name × ℕ)) (ss : List TaskSeat) (t : ℕ) (s : TaskSeat) (ports : Vec Port) → slice_get ss t ≡ Some s → ports.items ≡ s.ports.items → AreCounted es ss → news ≡ es → AreCounted news (slice_set ss t (record s { ports = ports }))
-counted-room es news ss t s ports at same counts kept =
-    rw kept (counted-same es es ss t s (record s { ports = ports }) at counts (λ o. ap (λ (ps : List Port). namings o (start_of s.pending ++ (map (λ (p : Port). p.right) ps ++ s.inbox.items))) same))
+pub weighed-moved : {T : Type 0} (x y z : Task) (v : T) (got : Result T Errno) → Steps x (Ok v, y) got z → ((W : Right → ℕ) → weigh_list W (rights_of y) ≡ weigh_list W (rights_of x)) → (W : Right → ℕ) → weigh_list W (rights_of z) ≡ weigh_list W (rights_of x)
+weighed-moved x y z v (Ok a) steps same W = ap (λ (u : Task). weigh_list W (rights_of u)) steps.left ∙ same W
+weighed-moved x y z v (Err e) steps same W = ap (λ (u : Task). weigh_list W (rights_of u)) (left-unchanged v y x z e steps)

@@ -9,10 +9,10 @@ use Rattle.std.specs.List.{list_any}
 use Rattle.std.specs.Option.{option_map}
 use Rattle.hurd_creds.specs.declared.name.Name.{Name}
 use Rattle.hurd_creds.specs.declared.errno.Errno.{Errno}
-use Rattle.hurd_creds.specs.declared.errno.Errno.TheVariants.{EBADF, EOVERFLOW, ESRCH}
+use Rattle.hurd_creds.specs.declared.errno.Errno.TheVariants.{EBADF, ENOMEM, EOVERFLOW, ESRCH}
 use Rattle.hurd_creds.specs.Access.{IdSets}
 use Rattle.hurd_creds.specs.Memory.{Steps, is_no_memory, lacks_memory}
-use Rattle.hurd_creds.proofs.StepLaws.{steps-inside}
+use Rattle.hurd_creds.proofs.StepLaws.{steps-inside, steps-short}
 use Rattle.hurd_ports.specs.declared.table.Right.{Right}
 use Rattle.hurd_ports.specs.declared.table.PendingStart.{PendingStart}
 use Rattle.hurd_ports.specs.declared.table.Port.{Port}
@@ -174,11 +174,32 @@ module _ (os : List OpenEntry) (ss : List TaskSeat) (t : ℕ) (a s new : TaskSea
   pub put-seat : state_of os (slice_set ss t new) ≡ put h t (seat_task new)
   put-seat = same_halves _ _ _ _ refl (seat-changed ss t new (seat_task new) refl)
 
-  pub seat-shared : (r : Right) (got : Result ℕ Errno) → has_room 0 (seat_task a) ≡ true → Steps (seat_task s) (Ok s.next, with_port r (seat_task s)) got (seat_task new)
-      → Edited h (state_of os (slice_set ss t new)) (share_step t r h) got
-  seat-shared r got room steps =
-      let did = rw same at steps in
-      rw put-seat (edited h t (seat_task a) sound there (with_port r (seat_task a)) (seat_task new) a.next (share_step t r h) got (sound-shared h t (seat_task a) sound there r) (share-done h t (seat_task a) sound there r room) did)
+  -- where the seat is as it was, but for room
+  still : (mid : TaskSeat) → seat_task mid ≡ seat_task s → seat_task mid ≡ seat_task a
+  still mid kept = kept ∙ ap seat_task same
+
+  -- a step that changes this seat, where there was memory
+  seat-answered : {T : Type 0} (v : T) (y : Task) (whole : Result T Errno × PortState) → seat_task new ≡ y → whole ≡ (Ok v, put h t y) → IsSound (put h t y) → Edited h (state_of os (slice_set ss t new)) whole (Ok v)
+  seat-answered v y whole is step fine =
+      let left : state_of os (slice_set ss t new) ≡ put h t y = put-seat ∙ ap (put h t) is in
+      rw (left, step) (record { step = record { answered = refl; left = refl }; sound = fine })
+
+  -- and where there was none
+  seat-short : {T : Type 0} (v : T) (y : PortState) (whole : Result T Errno × PortState) (e : Errno) → e ≡ ENOMEM → seat_task new ≡ seat_task s → whole ≡ (Ok v, y) → Edited h (state_of os (slice_set ss t new)) whole (Err e)
+  seat-short v y whole e is kept step =
+      let left : state_of os (slice_set ss t new) ≡ h = put-seat ∙ ap (put h t) (still new kept) ∙ put-same h t (seat_task a) sound there in
+      rw (left, is) (record { step = steps-short whole h v y step; sound = sound })
+
+  pub seat-shared : (mid : TaskSeat) (r : Right) (number : ℕ) → has_room 0 (seat_task a) ≡ true → seat_task mid ≡ seat_task s → number ≡ mid.next → seat_task new ≡ with_port r (seat_task mid)
+      → Edited h (state_of os (slice_set ss t new)) (share_step t r h) (Ok number)
+  seat-shared mid r number room kept is ported =
+      let as_was = still mid kept in
+      let step = share-done h t (seat_task a) sound there r room in
+      let same_number : number ≡ a.next = is ∙ ap (λ (x : Task). x.next) as_was in
+      rw same_number (seat-answered a.next (with_port r (seat_task a)) (share_step t r h) (ported ∙ ap (with_port r) as_was) step (sound-shared h t (seat_task a) sound there r))
+
+  pub share-short : (r : Right) (e : Errno) → has_room 0 (seat_task a) ≡ true → seat_task new ≡ seat_task s → e ≡ ENOMEM → Edited h (state_of os (slice_set ss t new)) (share_step t r h) (Err e)
+  share-short r e room kept is = seat-short a.next _ (share_step t r h) e is kept (share-done h t (seat_task a) sound there r room)
 
   pub seat-received : (got : Result ℕ Errno) → 0 < length a.inbox.items → has_room 0 (seat_task a) ≡ true → Steps (seat_task s) (Ok s.next, received (seat_task s)) got (seat_task new)
       → Edited h (state_of os (slice_set ss t new)) (receive_step t h) got
@@ -186,12 +207,15 @@ module _ (os : List OpenEntry) (ss : List TaskSeat) (t : ℕ) (a s new : TaskSea
       let did = subst (λ (z : TaskSeat). Steps (seat_task z) (Ok z.next, received (seat_task z)) got (seat_task new)) same steps in
       rw put-seat (edited h t (seat_task a) sound there (received (seat_task a)) (seat_task new) a.next (receive_step t h) got (sound-received h t (seat_task a) sound there) (receive-done h t (seat_task a) sound there some room) did)
 
-  pub seat-sent : (p q : ℕ) (r : Right) (got : Result (Unit {0}) Errno) → Ok r ≡ right_of h q p → t < length ss → Steps (seat_task s) (Ok tt, with_sent r (seat_task s)) got (seat_task new)
-      → Edited h (state_of os (slice_set ss t new)) (send_step q p t h) got
-  seat-sent p q r got right below steps =
-      let did = rw same at steps in
-      let step : send_step q p t h ≡ (Ok tt, put h t (with_sent r (seat_task a))) = ap (sent_to h t) (sym right) ∙ send-done h t (seat_task a) sound there r (let same : length h.tasks ≡ length ss = length-map ss seat_task in omega arith) in
-      rw put-seat (edited h t (seat_task a) sound there (with_sent r (seat_task a)) (seat_task new) tt (send_step q p t h) got (sound-sent h t (seat_task a) sound there r) step did)
+  sent_step : (p q : ℕ) (r : Right) → Ok r ≡ right_of h q p → t < length ss → send_step q p t h ≡ (Ok tt, put h t (with_sent r (seat_task a)))
+  sent_step p q r right below = ap (sent_to h t) (sym right) ∙ send-done h t (seat_task a) sound there r (let same : length h.tasks ≡ length ss = length-map ss seat_task in omega arith)
+
+  pub seat-sent : (mid : TaskSeat) (p q : ℕ) (r : Right) → Ok r ≡ right_of h q p → t < length ss → seat_task mid ≡ seat_task s → seat_task new ≡ with_sent r (seat_task mid) → Edited h (state_of os (slice_set ss t new)) (send_step q p t h) (Ok tt)
+  seat-sent mid p q r right below kept sent =
+      seat-answered tt (with_sent r (seat_task a)) (send_step q p t h) (sent ∙ ap (with_sent r) (still mid kept)) (sent_step p q r right below) (sound-sent h t (seat_task a) sound there r)
+
+  pub send-short : (p q : ℕ) (r : Right) (e : Errno) → Ok r ≡ right_of h q p → t < length ss → seat_task new ≡ seat_task s → e ≡ ENOMEM → Edited h (state_of os (slice_set ss t new)) (send_step q p t h) (Err e)
+  send-short p q r e right below kept is = seat-short tt _ (send_step q p t h) e is kept (sent_step p q r right below)
 
   pub seat-other_ids : (ids : IdSets) → seat_task new ≡ with_ids ids (seat_task s) → IdsTaken h (state_of os (slice_set ss t new)) t ids
   seat-other_ids ids is =

@@ -10,11 +10,15 @@ use Rattle.hurd_ports.specs.declared.table.TaskSeat.{TaskSeat}
 use Rattle.hurd_ports.specs.declared.parents.Parent.{Parent}
 use Rattle.hurd_ports.specs.declared.table.Right.{Right}
 use Rattle.hurd_ports.specs.declared.table.Right.TheVariants.{Io}
-use Rattle.hurd_ports.specs.Tables.{Task, PortState, open_of, rights_of, fresh, right_of, room_of}
+use Rattle.hurd_ports.specs.Tables.{Task, PortState, rights_of, fresh, right_of, room_of}
 use Rattle.hurd_ports.specs.Steps.{named, new_open, new_right, with_port, with_new_port, insert_step}
 use Rattle.hurd_ports.specs.Sound.{IsSound}
-use Rattle.hurd_ports.specs.Seats.{AreCounted, counted, is_named_so, namings, one_if, OpenEntry, seat_task, tasks_of, opens_of, state_of}
-use Rattle.hurd_ports.proofs.CountLaws.{counted-more, namings-port}
+use Rattle.hurd_ports.specs.Seats.{OpenEntry, seat_task, tasks_of, opens_of, state_of}
+use Rattle.hurd_ports.specs.declared.book.Book.{Book}
+use Rattle.hurd_ports.specs.Weights.{weigh_list}
+use Rattle.hurd_ports.specs.Counts.{AreCounted, Sort, count_of, excess, naming}
+use Rattle.hurd_ports.proofs.CountLaws.{counted-more}
+use Rattle.hurd_ports.proofs.WeightLaws.{port_weighs}
 use Rattle.hurd_ports.proofs.TaskLaws.{edit-edit}
 use Rattle.hurd_ports.proofs.RoomLaws.{room-is, insert-done}
 use Rattle.hurd_ports.proofs.SoundLaws.{number-new, sound-inserted}
@@ -55,10 +59,10 @@ module _ (os : List OpenEntry) (ss : List TaskSeat) (t : ℕ) (n : Name) (ids : 
         new = number-new h t x sound found.there;
       })
 
--- and its open is counted once more
-pub filled-counted : (os : List OpenEntry) (es news : List (Name × ℕ)) (ss : List TaskSeat) (t : ℕ) (old mid new : TaskSeat) (r : Right) → AreCounted es ss → room_of (state_of os ss) t 1 ≡ Ok tt → old ≡ slice_index_or ss t old
-    → seat_task mid ≡ named 1 (seat_task old) → seat_task new ≡ with_port r (seat_task mid) → ((o : Name) → counted news o ≡ counted es o + one_if (is_named_so o (open_of r))) → AreCounted news (slice_set ss t new)
-filled-counted os es news ss t old mid new r counts room read named_is ported added =
+-- and what it names is counted once more
+pub filled-counted : (os : List OpenEntry) (b l : Book) (ss : List TaskSeat) (t : ℕ) (old mid new : TaskSeat) (r : Right) → AreCounted b (tasks_of ss) → room_of (state_of os ss) t 1 ≡ Ok tt → old ≡ slice_index_or ss t old
+    → seat_task mid ≡ named 1 (seat_task old) → seat_task new ≡ with_port r (seat_task mid) → excess r ≡ 0 → ((k : Sort) (n : Name) → count_of k n l ≡ count_of k n b + naming k n r) → AreCounted l (tasks_of (slice_set ss t new))
+filled-counted os b l ss t old mid new r counts room read named_is ported short added =
     let found = room-is (state_of os ss) t 1 room in
     let at = (seat-read ss t old found.task found.there read).0 in
-    counted-more es news ss t old new at counts r (λ o. ap (λ (x : Task). namings o (rights_of x)) (ported ∙ ap (with_port r) named_is) ∙ namings-port o r (named 1 (seat_task old))) added
+    counted-more b l ss t old new at counts r (λ W. ap (λ (x : Task). weigh_list W (rights_of x)) (ported ∙ ap (with_port r) named_is) ∙ port_weighs W r (named 1 (seat_task old))) short added

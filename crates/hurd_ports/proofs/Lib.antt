@@ -7,6 +7,7 @@ pub mod RoomLaws
 pub mod SoundLaws
 pub mod SeatLaws
 pub mod EditLaws
+pub mod WeightLaws
 pub mod CountLaws
 pub mod FillLaws
 pub mod SettleLaws

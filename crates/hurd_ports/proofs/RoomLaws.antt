@@ -1,14 +1,13 @@
 -- What it says that a task has room.
-use Rattle.std.proofs.Common.{◌≡◌, List, ℕ, ◌+◌, ◌<◌, ◌≤◌, Bool, true, false, if◌then◌else◌, refl, ap, ◌∙◌, arith}
-use Rattle.std.proofs.lemmas.Bool.Decides.{nat_tests}
-use Rattle.std.specs.Prelude.{Option, Some, None, Result, Ok, Err, slice_get, nat_lt, nat_le, ◌&&◌}
+use Rattle.std.proofs.Common.{◌≡◌, List, ℕ, Bool, true, false, if◌then◌else◌, refl, ap, ◌∙◌}
+use Rattle.std.specs.Prelude.{Option, Some, None, Result, Ok, Err, slice_get}
 use Rattle.hurd_creds.specs.declared.name.Name.{Name}
 use Rattle.hurd_creds.specs.declared.errno.Errno.{Errno}
 use Rattle.hurd_creds.specs.declared.errno.Errno.TheVariants.{EOVERFLOW}
 use Rattle.hurd_creds.specs.declared.open_flags.OpenFlags.{OpenFlags}
 use Rattle.hurd_creds.specs.Access.{IdSets}
 use Rattle.hurd_ports.specs.declared.parents.Parent.{Parent}
-use Rattle.hurd_ports.specs.Tables.{Task, PortState, has_room, room_at, room_of, u64_greatest}
+use Rattle.hurd_ports.specs.Tables.{Task, PortState, has_room, room_at, room_of}
 use Rattle.hurd_ports.specs.Steps.{insert_at, insert_step, with_new_port}
 
 -- where there is room there is the task
@@ -27,27 +26,6 @@ room-is h t names = go (slice_get h.tasks t) refl
     go : (o : Option Task) → slice_get h.tasks t ≡ o → room_at names o ≡ Ok tt → Roomy h t names
     go None e is = absurd (cc)
     go (Some x) e is = record { task = x; there = e; room = roomy (has_room names x) is }
-
-pub room-there : (h : PortState) (t names : ℕ) (x : Task) → slice_get h.tasks t ≡ Some x → has_room names x ≡ true → room_of h t names ≡ Ok tt
-room-there h t names x at room = rw (at, room) refl
-
--- a test of two numbers, as bounds
-both_true : (a b : Bool) → (a && b) ≡ true → (a ≡ true) × (b ≡ true)
-both_true true b h = (refl, h)
-both_true false b h = absurd (cc)
-
-both_hold : (a b : Bool) → a ≡ true → b ≡ true → (a && b) ≡ true
-both_hold a b p q = rw (p, q) refl
-
-pub has_room-bounds : (names : ℕ) (x : Task) → has_room names x ≡ true → (x.next < u64_greatest) × (x.made + names ≤ u64_greatest)
-has_room-bounds names x room =
-    let both = both_true (nat_lt x.next u64_greatest) (nat_le (x.made + names) u64_greatest) room in
-    (grind (arith, nat_tests), grind (arith, nat_tests))
-
-pub has_room-fewer : (names fewer : ℕ) (x : Task) → fewer ≤ names → has_room names x ≡ true → has_room fewer x ≡ true
-has_room-fewer names fewer x le room =
-    let bounds = has_room-bounds names x room in
-    both_hold (nat_lt x.next u64_greatest) (nat_le (x.made + fewer) u64_greatest) (grind (arith, nat_tests)) (grind (arith, nat_tests))
 
 -- a port goes in where there is room
 pub insert-done : (h : PortState) (t : ℕ) (n : Name) (ids : IdSets) (parents : List Parent) (modes : OpenFlags) (x : Task) → slice_get h.tasks t ≡ Some x → has_room 1 x ≡ true

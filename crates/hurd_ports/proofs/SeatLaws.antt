@@ -3,19 +3,19 @@ use Rattle.std.proofs.Common.{◌≡◌, inl, inr, ℕ, ◌<◌, List, [], ◌�
 use Rattle.std.proofs.lemmas.List.{map_push, map-set}
 use Rattle.std.specs.Prelude.{Option, Some, None, IsSomeAnd, slice_get, slice_set, slice_index_or}
 use Rattle.std.specs.Option.{option_map}
-use Rattle.std.specs.Global.{Vec}
 use Rattle.std.proofs.lemmas.Option.{get_or_from_slice_get, slice_get-map}
 use Rattle.hurd_creds.specs.Access.{IdSets}
 use Rattle.hurd_creds.proofs.KeyedLaws.{keyed-nothing}
 use Rattle.hurd_creds.specs.NameMaps.{edit}
 use Rattle.hurd_creds.specs.declared.name.Name.{Name}
 use Rattle.hurd_creds.specs.declared.name.TaskId.{TaskId}
+use Rattle.hurd_ports.specs.declared.book.Book.{Book}
 use Rattle.hurd_ports.specs.declared.table.TaskSeat.{TaskSeat}
-use Rattle.hurd_ports.specs.declared.table.Port.{Port}
 use Rattle.hurd_ports.specs.declared.table.Opened.{Opened}
 use Rattle.hurd_ports.specs.Tables.{Task, PortState, OpenMap}
 use Rattle.hurd_ports.specs.Steps.{new_task, starting_at, named, name_step}
 use Rattle.hurd_ports.specs.Seats.{OpenEntry, seat_task, tasks_of, open_key, open_value, opens_of, state_of, AreInOrder, HasSpare, IsReady}
+use Rattle.hurd_ports.specs.Counts.{HasRoom}
 use Rattle.hurd_ports.specs.Sound.{IsSound}
 use Rattle.hurd_ports.proofs.TaskLaws.{map-origin, set-here, set-apart, set-same, one_or_other, edit-found}
 
@@ -67,11 +67,10 @@ seat-found ss t s P there read = go (slice_get (tasks_of ss) t) refl there
     go None e h = absurd h
     go (Some x) e h = (seat-read ss t s x e read).0
 
--- where opens and the ports of a seat have other room, nothing else changes
-pub seat-kept : (os news : List OpenEntry) (ss : List TaskSeat) (t : ℕ) (s : TaskSeat) (ports : Vec Port) → slice_get ss t ≡ Some s → ports.items ≡ s.ports.items → news ≡ os → state_of news (slice_set ss t (record s { ports = ports })) ≡ state_of os ss
-seat-kept os news ss t s ports at same kept =
-    let task : seat_task (record s { ports = ports }) ≡ seat_task s = ap (λ (ps : List Port). let x : Task = record { ids = s.ids; ports = ps; next = s.next; inbox = s.inbox.items; made = s.made; pending = s.pending } in x) same in
-    same_halves _ _ _ _ (ap opens_of kept) (seat-changed ss t (record s { ports = ports }) (seat_task s) task ∙ set-same (tasks_of ss) t (seat_task s) (seat-there ss t s at))
+-- where opens and the table of a seat have other room, nothing else changes
+pub seat-kept : (os news : List OpenEntry) (ss : List TaskSeat) (t : ℕ) (s new : TaskSeat) → slice_get ss t ≡ Some s → seat_task new ≡ seat_task s → news ≡ os → state_of news (slice_set ss t new) ≡ state_of os ss
+seat-kept os news ss t s new at same kept =
+    same_halves _ _ _ _ (ap opens_of kept) (seat-changed ss t new (seat_task s) same ∙ set-same (tasks_of ss) t (seat_task s) (seat-there ss t s at))
 
 -- a seat that named one thing
 pub seat-named : (os : List OpenEntry) (ss : List TaskSeat) (t : ℕ) (s new : TaskSeat) → slice_get ss t ≡ Some s → seat_task new ≡ named 1 (seat_task s) → state_of os (slice_set ss t new) ≡ name_step t (state_of os ss)
@@ -79,9 +78,9 @@ seat-named os ss t s new at is =
     same_halves _ _ _ _ refl (seat-changed ss t new (named 1 (seat_task s)) is ∙ sym (edit-found t (named 1) (tasks_of ss) (seat_task s) (seat-there ss t s at)))
 
 -- what is reserved stays where a seat keeps its ports
-pub ready-kept : (room places : ℕ) (ss : List TaskSeat) (ready : Option TaskId) (t : ℕ) (s new : TaskSeat) → slice_get ss t ≡ Some s → new.ports ≡ s.ports → IsReady room places ss ready → IsReady room places (slice_set ss t new) ready
-ready-kept room places ss None t s new at same h = tt
-ready-kept room places ss (Some r) t s new at same h = (
+pub ready-kept : (room : ℕ) (book : Book) (ss : List TaskSeat) (ready : Option TaskId) (t : ℕ) (s new : TaskSeat) → slice_get ss t ≡ Some s → new.ports ≡ s.ports → IsReady room book ss ready → IsReady room book (slice_set ss t new) ready
+ready-kept room book ss None t s new at same h = tt
+ready-kept room book ss (Some r) t s new at same h = (
   h.0,
   elim (one_or_other r.0 t) [
     | inl e ↦ let was = rw (e, at) at h.1 in rw (e, set-here ss t s new at, same) was
@@ -90,5 +89,10 @@ ready-kept room places ss (Some r) t s new at same h = (
 )
 
 -- and is there for a task whose seat has room for a port
-pub ready-made : (room places : ℕ) (ss : List TaskSeat) (r : TaskId) (s new : TaskSeat) → slice_get ss r.0 ≡ Some s → 0 < room → 0 < places → HasSpare new.ports → IsReady room places (slice_set ss r.0 new) (Some r)
-ready-made room places ss r s new at spare place port = ((spare, place), rw (set-here ss r.0 s new at) port)
+pub ready-made : (room : ℕ) (book : Book) (ss : List TaskSeat) (r : TaskId) (s new : TaskSeat) → slice_get ss r.0 ≡ Some s → 0 < room → HasRoom book → HasSpare new.ports → IsReady room book (slice_set ss r.0 new) (Some r)
+ready-made room book ss r s new at spare place port = ((spare, place), rw (set-here ss r.0 s new at) port)
+
+-- where a task is ready there is room for what a right names
+pub ready-room : (room : ℕ) (book : Book) (ss : List TaskSeat) (ready : Option TaskId) (q : ℕ) → IsReady room book ss ready → option_map (λ (t : TaskId). t.0) ready ≡ Some q → HasRoom book
+ready-room room book ss None q h is = absurd (cc)
+ready-room room book ss (Some t) q h is = h.0.1

@@ -1,6 +1,6 @@
 -- A port that goes, with its open where no other right names that.
-use Rattle.std.proofs.Common.{◌≡◌, ◌+◌, ◌<◌, arith, ◌≢◌, inl, inr, ℕ, List, Bool, true, false, cond, if◌then◌else◌, refl, ap, sym, ◌∙◌}
-use Rattle.std.specs.Prelude.{Option, Some, None, Result, Ok, nat_lt, slice_get, slice_set, slice_index_or}
+use Rattle.std.proofs.Common.{◌≡◌, ◌+◌, ◌≤◌, arith, ◌≢◌, inl, inr, ℕ, List, Bool, true, false, cond, if◌then◌else◌, refl, ap, sym, ◌∙◌}
+use Rattle.std.specs.Prelude.{Option, Some, None, Result, Ok, Err, nat_lt, slice_get, slice_set}
 use Rattle.std.specs.FinMap as fin
 use Rattle.hurd_creds.specs.declared.name.Name.{Name}
 use Rattle.hurd_creds.specs.declared.errno.Errno.{Errno}
@@ -9,15 +9,19 @@ use Rattle.hurd_creds.proofs.NameLaws.{same_map_by, same_or_apart, remove_here, 
 use Rattle.hurd_ports.specs.declared.table.Opened.{Opened}
 use Rattle.hurd_ports.specs.declared.table.Right.{Right}
 use Rattle.hurd_ports.specs.declared.table.TaskSeat.{TaskSeat}
-use Rattle.hurd_ports.specs.Tables.{Task, PortState, OpenMap, is_held, names_open, rights_of, open_of, right_in, right_at, right_of, or_refuse}
+use Rattle.hurd_ports.specs.Tables.{Task, PortState, OpenMap, is_held, rights_of, open_of, right_in}
 use Rattle.hurd_ports.specs.Steps.{without_port, settle_opens, deallocate_step, dropped, deallocate_at}
 use Rattle.hurd_ports.specs.Sound.{IsSound}
-use Rattle.hurd_ports.specs.Seats.{OpenEntry, AreCounted, counted, is_counted, is_named_so, namings, one_if, AreInOrder, seat_task, tasks_of, opens_of, state_of, settled_at, settled_by}
-use Rattle.hurd_ports.proofs.CountLaws.{counted-less, held-counted, holders-at, named_so, namings-without}
+use Rattle.hurd_ports.specs.declared.book.Book.{Book}
+use Rattle.hurd_ports.specs.Weights.{weigh_list}
+use Rattle.hurd_ports.specs.Counts.{AreCounted, Opens, Sort, count_of, is_counted, naming}
+use Rattle.hurd_ports.specs.Seats.{OpenEntry, seat_task, tasks_of, opens_of, state_of, settled_at, settled_by}
+use Rattle.hurd_ports.proofs.CountLaws.{counted-less, held-counted}
+use Rattle.hurd_ports.proofs.WeightLaws.{weigh_at, weigh_dropped}
 use Rattle.hurd_ports.proofs.TaskLaws.{edit-found}
 use Rattle.hurd_ports.proofs.HeldLaws.{held-without}
 use Rattle.hurd_ports.proofs.SoundLaws.{get-held, sound-settled}
-use Rattle.hurd_ports.proofs.SeatLaws.{same_halves, seat-ordered, seat-read, seat-changed}
+use Rattle.hurd_ports.proofs.SeatLaws.{same_halves, seat-there, seat-changed}
 
 -- where all other opens are held, it is enough to look at one
 settled-one : (m : OpenMap) (ts : List Task) (n : Name) → ((q : Name) (w : Opened) → fin.get m q ≡ Some w → q ≢ n → is_held ts q ≡ true) → settled_at (is_held ts) n m ≡ fin.retain_keys m (is_held ts)
@@ -59,68 +63,42 @@ settled-alike : (f g : Name → Bool) (o : Option Name) (m : OpenMap) → ((q : 
 settled-alike f g None m same = refl
 settled-alike f g (Some n) m same = ap (λ (b : Bool). if b then m else fin.remove m n) (same n)
 
--- where a right is, there are its task and its port
-record Found (h : PortState) (t p : ℕ) (r : Right) : Type 0 where
-  task : Task
-  there : slice_get h.tasks t ≡ Some task
-  right : right_in p task.ports ≡ Some r
-
-right-is : (h : PortState) (t p : ℕ) (r : Right) → Ok r ≡ right_of h t p → Found h t p r
-right-is h t p r = go (slice_get h.tasks t) refl
-  where
-    some : (o : Option Right) → Ok r ≡ or_refuse EBADF o → o ≡ Some r
-    some None h = absurd (cc)
-    some (Some s) h = let e : r ≡ s = cc in ap Some (sym e)
-
-    go : (o : Option Task) → slice_get h.tasks t ≡ o → Ok r ≡ right_at p o → Found h t p r
-    go None e is = absurd (cc)
-    go (Some x) e is = record { task = x; there = e; right = some (right_in p x.ports) is }
-
--- and the numbers of the task's ports rise
-pub right-ordered : (os : List OpenEntry) (ss : List TaskSeat) (t p : ℕ) (s : TaskSeat) (r : Right) → IsSound (state_of os ss) → Ok r ≡ right_of (state_of os ss) t p → s ≡ slice_index_or ss t s → AreInOrder s.ports.items
-right-ordered os ss t p s r sound is read =
-    let found = right-is (state_of os ss) t p r is in
-    seat-ordered os ss t s sound (seat-read ss t s found.task found.there read).0
-
--- without its port the counts are right where one less is counted
-pub right-uncounted : (os : List OpenEntry) (es news : List (Name × ℕ)) (ss : List TaskSeat) (t p : ℕ) (s new : TaskSeat) (r : Right) → AreCounted es ss → Ok r ≡ right_of (state_of os ss) t p → s ≡ slice_index_or ss t s → seat_task new ≡ without_port p (seat_task s)
-    → ((o : Name) → counted news o + one_if (is_named_so o (open_of r)) ≡ counted es o) → AreCounted news (slice_set ss t new)
-right-uncounted os es news ss t p s new r counts is read less taken =
-    let found = right-is (state_of os ss) t p r is in
-    let both = seat-read ss t s found.task found.there read in
-    let right : right_in p s.ports.items ≡ Some r = ap (λ (x : Task). right_in p x.ports) both.1 ∙ found.right in
-    counted-less es news ss t s new both.0 counts r (λ o. ap (λ (x : Task). namings o (rights_of x) + one_if (names_open o r)) less ∙ namings-without o p (seat_task s) r right) taken
-
--- where a task has a right, its open is counted
-pub right-counted : (os : List OpenEntry) (es : List (Name × ℕ)) (ss : List TaskSeat) (t p : ℕ) (r : Right) → AreCounted es ss → Ok r ≡ right_of (state_of os ss) t p → (o : Name) → is_named_so o (open_of r) ≡ true → 0 < counted es o
-right-counted os es ss t p r counts is o named =
-    let found = right-is (state_of os ss) t p r is in
-    let less = namings-without o p found.task r found.right in
-    let one = ap one_if (named_so o r ∙ named) in
-    let some = holders-at o (tasks_of ss) t found.task found.there in
-    let whole = counts o in
-    omega arith
-
 -- a port was given up
 pub record Dropped (h k : PortState) (t p : ℕ) : Type 0 where
   pub step : (Ok tt, k) ≡ deallocate_step t p h
   pub sound : IsSound k
 
--- where its seat lost it, and its open was looked at
-pub deallocated : (os news : List OpenEntry) (counts : List (Name × ℕ)) (ss : List TaskSeat) (t p : ℕ) (s new : TaskSeat) (r : Right) → IsSound (state_of os ss) → Ok r ≡ right_of (state_of os ss) t p → s ≡ slice_index_or ss t s
-    → seat_task new ≡ without_port p (seat_task s) → AreCounted counts (slice_set ss t new) → opens_of news ≡ settled_by (is_counted counts) (open_of r) (opens_of os) → Dropped (state_of os ss) (state_of news (slice_set ss t new)) t p
-deallocated os news counts ss t p s new r sound is read less are_counted opens =
-    let h : PortState = state_of os ss in
-    let found = right-is h t p r is in
-    let x : Task = found.task in
-    let left : PortState = record h { tasks = slice_set h.tasks t (without_port p x) } in
-    let tasks : tasks_of (slice_set ss t new) ≡ left.tasks = seat-changed ss t new (without_port p x) (less ∙ ap (without_port p) (seat-read ss t s x found.there read).1) in
-    let kept : opens_of news ≡ fin.retain_keys h.opens (is_held left.tasks) =
-    opens ∙ settled-alike (is_counted counts) (is_held (tasks_of (slice_set ss t new))) (open_of r) h.opens (λ q. ap (nat_lt 0) (are_counted q) ∙ sym (held-counted (tasks_of (slice_set ss t new)) q))
-    ∙ ap (λ (ts : List Task). settled_by (is_held ts) (open_of r) h.opens) tasks
-    ∙ settled-maybe h.opens left.tasks (open_of r) (λ q w e apart. held-without h.tasks t p x r q found.there found.right apart ∙ sound.settled q w e) in
-    let both : state_of news (slice_set ss t new) ≡ settle_opens left = same_halves _ _ _ _ kept tasks in
-    let step : deallocate_step t p h ≡ (Ok tt, settle_opens left) =
-    ap (deallocate_at h t p) found.there ∙ ap (dropped h t p) found.right
-    ∙ ap (λ (ts : List Task). let a : Result (Unit {0}) Errno × PortState = (Ok tt, settle_opens (record h { tasks = ts })) in a) (edit-found t (without_port p) h.tasks x found.there) in
-    rw both (record { step = sym step; sound = sound-settled h t p x sound found.there })
+-- of a seat that has a right under a number
+module _ (b : Book) (ss : List TaskSeat) (t p : ℕ) (s : TaskSeat) (r : Right) (at : slice_get ss t ≡ Some s) (right : right_in p s.ports.items ≡ Some r) where
+  -- what the right names is counted
+  pub right-counted : AreCounted b (tasks_of ss) → (k : Sort) (n : Name) → naming k n r ≤ count_of k n b
+  right-counted counts k n =
+      omega (arith, weigh_dropped (naming k n) p (seat_task s) r right, weigh_at (naming k n) (tasks_of ss) t (seat_task s) (seat-there ss t s at), counts.all k n)
+
+  -- without its port the counts are right where one less is counted
+  pub right-uncounted : (l : Book) (new : TaskSeat) → AreCounted b (tasks_of ss) → seat_task new ≡ without_port p (seat_task s) → ((k : Sort) (n : Name) → count_of k n l + naming k n r ≡ count_of k n b) → AreCounted l (tasks_of (slice_set ss t new))
+  right-uncounted l new counts less taken =
+      counted-less b l ss t s new at counts r (λ W. weigh_dropped W p (seat_task s) r right ∙ ap (λ (x : Task). W r + weigh_list W (rights_of x)) (sym less)) taken
+
+  -- where its seat lost it, and its open was looked at
+  pub deallocated : (os news : List OpenEntry) (new : TaskSeat) → IsSound (state_of os ss) → seat_task new ≡ without_port p (seat_task s) → AreCounted b (tasks_of (slice_set ss t new))
+      → opens_of news ≡ settled_by (is_counted Opens b) (open_of r) (opens_of os) → Dropped (state_of os ss) (state_of news (slice_set ss t new)) t p
+  deallocated os news new sound less counts opens =
+      let h : PortState = state_of os ss in
+      let x : Task = seat_task s in
+      let there : slice_get h.tasks t ≡ Some x = seat-there ss t s at in
+      let left : PortState = record h { tasks = slice_set h.tasks t (without_port p x) } in
+      let tasks : tasks_of (slice_set ss t new) ≡ left.tasks = seat-changed ss t new (without_port p x) less in
+      let kept : opens_of news ≡ fin.retain_keys h.opens (is_held left.tasks) =
+      opens ∙ settled-alike (is_counted Opens b) (is_held (tasks_of (slice_set ss t new))) (open_of r) h.opens (λ q. ap (nat_lt 0) (counts.all Opens q) ∙ sym (held-counted (tasks_of (slice_set ss t new)) q))
+      ∙ ap (λ (ts : List Task). settled_by (is_held ts) (open_of r) h.opens) tasks
+      ∙ settled-maybe h.opens left.tasks (open_of r) (λ q w e apart. held-without h.tasks t p x r q there right apart ∙ sound.settled q w e) in
+      let both : state_of news (slice_set ss t new) ≡ settle_opens left = same_halves _ _ _ _ kept tasks in
+      let step : deallocate_step t p h ≡ (Ok tt, settle_opens left) =
+      ap (deallocate_at h t p) there ∙ ap (dropped h t p) right
+      ∙ ap (λ (ts : List Task). let a : Result (Unit {0}) Errno × PortState = (Ok tt, settle_opens (record h { tasks = ts })) in a) (edit-found t (without_port p) h.tasks x there) in
+      rw both (record { step = sym step; sound = sound-settled h t p x sound there })
+
+-- where a seat has no right under a number
+pub no-right : (os : List OpenEntry) (ss : List TaskSeat) (t p : ℕ) (s : TaskSeat) → slice_get ss t ≡ Some s → None ≡ right_in p s.ports.items → (Err EBADF, state_of os ss) ≡ deallocate_step t p (state_of os ss)
+no-right os ss t p s at none = sym (ap (deallocate_at (state_of os ss) t p) (seat-there ss t s at) ∙ ap (dropped (state_of os ss) t p) (sym none))

@@ -1,5 +1,7 @@
 pub mod Limits
+pub mod Weights
 pub mod Tables
 pub mod Steps
 pub mod Sound
+pub mod Counts
 pub mod Seats

@@ -1,12 +1,13 @@
 -- What calls do to tasks, ports and opens.
-use Rattle.std.specs.Prelude.{ℕ, Bool, ◌+◌, ◌==◌, if◌then◌else◌, List, [], ◌∷◌, ◌++◌, map, Option, Some, None, Result, Ok, Err, length, nat_lt, slice_get, slice_set}
+use Rattle.std.specs.Prelude.{ℕ, Bool, ◌+◌, ◌==◌, if◌then◌else◌, List, [], ◌∷◌, ◌++◌, map, Option, Some, None, Result, Ok, Err, length, nat_le, nat_lt, slice_get, slice_set}
 use Rattle.std.specs.FinMap as fin
 use Rattle.hurd_creds.specs.declared.name.Name.{Name}
 use Rattle.hurd_creds.specs.declared.errno.Errno.{Errno}
-use Rattle.hurd_creds.specs.declared.errno.Errno.TheVariants.{EBADF, EOVERFLOW, ESRCH, EWOULDBLOCK}
+use Rattle.hurd_creds.specs.declared.errno.Errno.TheVariants.{EBADF, EINVAL, EOVERFLOW, ESRCH, EWOULDBLOCK}
 use Rattle.hurd_creds.specs.declared.open_flags.OpenFlags.{OpenFlags}
 use Rattle.hurd_creds.specs.Access.{IdSets}
 use Rattle.hurd_creds.specs.Bits.{with_append}
+use Rattle.hurd_creds.specs.Limits.{most_tasks}
 use Rattle.hurd_creds.specs.NameMaps.{edit}
 use Rattle.hurd_ports.specs.declared.table.Opened.{Opened}
 use Rattle.hurd_ports.specs.declared.parents.Parent.{Parent}
@@ -15,7 +16,7 @@ use Rattle.hurd_ports.specs.declared.table.Right.{Right}
 use Rattle.hurd_ports.specs.declared.table.Right.TheVariants.{Io}
 use Rattle.hurd_ports.specs.declared.table.Port.{Port}
 use Rattle.hurd_ports.specs.declared.table.PendingStart.{PendingStart}
-use Rattle.hurd_ports.specs.Tables.{Task, PortState, right_in, right_of, fresh, has_room, is_held}
+use Rattle.hurd_ports.specs.Tables.{Task, PortState, Tables, right_in, right_of, fresh, has_room, is_held}
 
 -- a task that has made nothing, with an empty table
 abbrev pub new_task : ℕ → IdSets → Task
@@ -24,6 +25,10 @@ new_task next ids = record { ids = ids; ports = []; next = next; inbox = []; mad
 -- empty tables for tasks with these ids
 abbrev pub starting_at : List IdSets → ℕ → PortState
 starting_at tasks next = record { opens = fin.empty; tasks = map (new_task next) tasks }
+
+-- the same, with nothing reserved: EINVAL more tasks than there may be
+abbrev pub begun_at : List IdSets → ℕ → Result Tables Errno
+begun_at tasks next = if nat_le (length tasks) most_tasks then Ok (record { state = starting_at tasks next; ready = None }) else Err EINVAL
 
 -- what a task becomes
 

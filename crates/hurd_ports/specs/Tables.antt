@@ -10,6 +10,7 @@ use Rattle.hurd_creds.specs.declared.errno.Errno.TheVariants.{EBADF, ESRCH, EOVE
 use Rattle.hurd_creds.specs.Access.{IdSets, coded_ids}
 use Rattle.hurd_creds.specs.Names.{name_of, coded_name, same_name}
 use Rattle.hurd_creds.specs.NameMaps.{NameMap}
+use Rattle.hurd_ports.specs.Weights.{one_if, weigh_list}
 use Rattle.hurd_ports.specs.declared.table.Opened.{Opened}
 use Rattle.hurd_ports.specs.declared.parents.Parent.{Parent}
 use Rattle.hurd_ports.specs.declared.table.IoRight.{IoRight}
@@ -191,6 +192,15 @@ names_server s (Start n) = false
 -- some right controls the server
 unfoldable pub is_controlled : List Task → Name → Bool
 is_controlled ts s = list_any (λ (x : Task). list_any (names_server s) (rights_of x)) ts
+
+-- what all rights of all tasks weigh
+abbrev pub weigh_rights : (Right → ℕ) → List Task → ℕ
+weigh_rights W [] = 0
+weigh_rights W (t ∷ ts) = weigh_list W (rights_of t) + weigh_rights W ts
+
+-- how many rights of all tasks pass a test
+abbrev pub count_rights : (Right → Bool) → List Task → ℕ
+count_rights p ts = weigh_rights (λ r. one_if (p r)) ts
 
 -- nothing is to be taken out: each open is held
 abbrev pub IsSettled : PortState → Type 0

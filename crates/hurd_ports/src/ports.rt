@@ -1,29 +1,32 @@
 //! The tables of all tasks, and the opens.
-ghost use Rattle.std.specs.Prelude.{◌≡◌, ◌<◌, Ok, Err, if◌then◌else◌, length, nat_lt, option_copied, slice_get, IfOk, IsSomeAnd};
+ghost use Rattle.std.specs.Prelude.{◌≡◌, ◌≤◌, ◌<◌, Some, None, Ok, Err, if◌then◌else◌, length, map, nat_lt, option_copied, slice_get, IfOk, IsSomeAnd};
 ghost use Rattle.std.specs.Option.{option_map};
 ghost use Rattle.std.specs.FinMap as fin;
+ghost use Rattle.hurd_creds.specs.Limits.{most_tasks};
 ghost use Rattle.hurd_creds.specs.Memory.{Meets, Steps};
 ghost use Rattle.hurd_creds.specs.declared.errno.Errno.{Errno};
-ghost use Rattle.hurd_ports.specs.Tables.{IsSettled, fresh, ids_at, io_right_of, lent, naming_of, or_refuse, pending_of, right_of, room_of};
+ghost use Rattle.hurd_ports.specs.Tables.{IsSettled, count_rights, fresh, ids_at, io_right_of, is_controlled, is_named, lent, names_open, naming_of, or_refuse, pending_of, right_of, room_of};
 ghost use Rattle.hurd_ports.specs.Steps as step;
-ghost use Rattle.hurd_ports.specs.Seats.{holders_in, is_counted, opens_of, seat_task, settled_by};
+ghost use Rattle.hurd_ports.specs.Counts as counts;
+ghost use Rattle.hurd_ports.specs.Counts.{is_counted};
+ghost use Rattle.hurd_ports.specs.Seats.{opens_of, seat_task, settled_by};
 
-use crate::holders::{self, Holders};
+use crate::book::Book;
 use crate::opens::{self, Opens};
 use crate::parents::Parents;
 use crate::table::{IoRight, Opened, PendingStart, Right, TaskSeat};
-use hurd_creds::{Errno, Ids, Name, NodeName, OpenFlags, OpenName, TaskId};
-use std::alloc::{AllocError, Global};
+use hurd_creds::{Errno, Ids, MOST_TASKS, Name, NodeName, OpenFlags, OpenName, ServerName, TaskId};
+use std::alloc::Global;
 use std::marker::Model;
 
 /// The ports of all tasks, and what is open (GNU Hurd Reference Manual, Ports).
 #[derive(Drop)]
 pub struct Ports {
     opens: Opens,
-    /// How many rights name each open.
-    holders: Holders,
+    /// How often rights name each open, node and server.
+    book: Book,
     tasks: Vec<TaskSeat>,
-    /// The task for whose next port and open there is room in memory.
+    /// The task for whose next port, its open and what it names there is room in memory.
     ready: Option<TaskId>,
 }
 
@@ -40,15 +43,15 @@ impl Model for Ports {
 
     ghost use Rattle.indexmap.specs.IndexMap.{spare};
 
-    ghost invariant = { λ p. IsKept p.opens.entries (spare p.opens) p.holders.entries (spare p.holders) p.tasks.items p.ready };
+    ghost invariant = { λ p. IsKept p.opens.entries (spare p.opens) p.book p.tasks.items p.ready };
 }
 
 /// Takes out the open that a right had, if no right is counted that names it.
-fn settle(opens: &mut Opens, holders: &Holders, name: Option<OpenName>)
-    ensures { opens_of opens.new.entries ≡ settled_by (is_counted holders.now.entries) name (opens_of opens.old.entries) }
+fn settle(opens: &mut Opens, book: &Book, name: Option<OpenName>)
+    ensures { opens_of opens.new.entries ≡ settled_by (is_counted counts.Opens book.now) name (opens_of opens.old.entries) }
 {
     if let Some(name) = name {
-        if holders::count(holders, name) == 0 {
+        if !book.names_open(name) {
             opens::remove(opens, name);
         }
     }
@@ -56,10 +59,17 @@ fn settle(opens: &mut Opens, holders: &Holders, name: Option<OpenName>)
 
 impl Ports {
     /// Empty tables for tasks with these ids, whose next number is `next`.
-    pub fn starting_at(alloc: Global, tasks: Vec<Ids>, next: u64) -> Result<Ports, AllocError>
-        ensures { IfOk result (λ p. p ≡ record { state = step.starting_at tasks.items next; ready = None }) }
+    ///
+    /// Errors, in order: `EINVAL` more than 64 tasks, `ENOMEM`.
+    pub fn starting_at(alloc: Global, tasks: Vec<Ids>, next: u64) -> Result<Ports, Errno>
+        ensures { Meets (step.begun_at tasks.items next) result }
     {
-        let mut seats = Vec::with_capacity(alloc, tasks.len())?;
+        if tasks.len() > MOST_TASKS {
+            return Err(Errno::EINVAL);
+        }
+        let Ok(mut seats) = Vec::with_capacity(alloc, tasks.len()) else {
+            return Err(Errno::ENOMEM);
+        };
         for ids in tasks {
             seats.push_reserved(TaskSeat {
                 ids,
@@ -72,7 +82,7 @@ impl Ports {
         }
         Ok(Ports {
             opens: Opens::new(alloc),
-            holders: Holders::new(alloc),
+            book: Book::new(alloc),
             tasks: seats,
             ready: None,
         })
@@ -83,6 +93,14 @@ impl Ports {
         ensures { result ≡ length self.now.state.tasks }
     {
         self.tasks.len()
+    }
+
+    /// The rows of all tasks, lent. Takes no memory.
+    pub fn seats(&self) -> &[TaskSeat]
+        ensures all { map seat_task result.now ≡ self.now.state.tasks }
+        ensures few { length result.now ≤ most_tasks }
+    {
+        self.tasks.as_slice()
     }
 
     /// The row of a task, lent, if the task is there. Takes no memory.
@@ -160,9 +178,23 @@ impl Ports {
 
     /// How many rights name the open, in tables and in inboxes.
     pub fn holders(&self, name: OpenName) -> u128
-        ensures { result ≡ holders_in self.now.state.tasks name }
+        ensures { result ≡ count_rights (names_open name) self.now.state.tasks }
     {
-        holders::count(&self.holders, name)
+        self.book.open_count(name)
+    }
+
+    /// Whether a right names the node: one to use it, one that came in by a way over it, or a start that is pending. No search.
+    pub fn names_node(&self, node: NodeName) -> bool
+        ensures { result ≡ is_named self.now.state.tasks node }
+    {
+        self.book.names_node(node)
+    }
+
+    /// Whether a right is to control the server. No search.
+    pub fn controls(&self, server: ServerName) -> bool
+        ensures { result ≡ is_controlled self.now.state.tasks server }
+    {
+        self.book.names_server(server)
     }
 
     /// Each open is held by a right.
@@ -225,8 +257,8 @@ impl Ports {
         self.tasks[task.0 as usize].take_name(task)
     }
 
-    /// Takes the memory for the task's next port and its open. It lasts until any port is filled or given up, a right is
-    /// shared, sent or received, or memory is reserved anew.
+    /// Takes the memory for the task's next port, its open and what it names. It lasts until any port is filled or given up, a right
+    /// is shared, sent or received, a start is pended or no longer so, or memory is reserved anew.
     ///
     /// Errors, in order: `ESRCH` no such task, `ENOMEM`.
     pub fn reserve(&mut self, task: TaskId) -> Result<(), Errno>
@@ -241,10 +273,10 @@ impl Ports {
         let Ok(()) = self.opens.reserve(1) else {
             return Err(Errno::ENOMEM);
         };
-        let Ok(()) = self.holders.reserve(1) else {
+        let Ok(()) = self.book.reserve() else {
             return Err(Errno::ENOMEM);
         };
-        let Ok(()) = self.tasks[task.0 as usize].ports.reserve(1) else {
+        let Ok(()) = self.tasks[task.0 as usize].reserve_port() else {
             return Err(Errno::ENOMEM);
         };
         self.ready = Some(task);
@@ -269,14 +301,15 @@ impl Ports {
     {
         let seat = &mut self.tasks[task.0 as usize];
         let name = seat.take_name(task);
-        let number = seat.add(Right::Io(IoRight {
+        let right = Right::Io(IoRight {
             node,
             ids,
             open_name: name,
             parents,
-        }));
+        });
+        self.book.add(&right);
+        let number = seat.add(right);
         opens::add(&mut self.opens, name, modes);
-        holders::hold(&mut self.holders, Some(name));
         self.ready = None;
         number
     }
@@ -316,13 +349,15 @@ impl Ports {
             return Err(Errno::EOVERFLOW);
         }
         self.ready = None;
-        let Ok(()) = self.holders.reserve(1) else {
+        let Ok(()) = self.book.reserve() else {
             return Err(Errno::ENOMEM);
         };
-        let open_name = right.open_name();
-        let shared = self.tasks[task.0 as usize].share(right);
-        holders::hold_if(&mut self.holders, shared.is_ok(), open_name);
-        shared
+        let seat = &mut self.tasks[task.0 as usize];
+        let Ok(()) = seat.reserve_port() else {
+            return Err(Errno::ENOMEM);
+        };
+        self.book.add(&right);
+        Ok(seat.add(right))
     }
 
     /// Gives a copy of a port's right to a task, last in its inbox; a task may send to itself.
@@ -340,13 +375,16 @@ impl Ports {
             return Err(Errno::ENOMEM);
         };
         self.ready = None;
-        let Ok(()) = self.holders.reserve(1) else {
+        let Ok(()) = self.book.reserve() else {
             return Err(Errno::ENOMEM);
         };
-        let open_name = right.open_name();
-        let sent = self.tasks[to.0 as usize].accept(right);
-        holders::hold_if(&mut self.holders, sent.is_ok(), open_name);
-        sent
+        let seat = &mut self.tasks[to.0 as usize];
+        let Ok(()) = seat.reserve_sent() else {
+            return Err(Errno::ENOMEM);
+        };
+        self.book.add(&right);
+        seat.accept(right);
+        Ok(())
     }
 
     /// Takes the first right of a task's inbox, as a port; answers its number, the task's next.
@@ -384,17 +422,41 @@ impl Ports {
         Ok(())
     }
 
-    /// The task is to start this from now on, in place of what it was to start before, or nothing. Takes no memory.
+    /// The task is to start this from now on, in place of what it was to start before.
     ///
-    /// `ESRCH`: no such task.
-    pub fn set_pending(&mut self, task: TaskId, pending: Option<PendingStart>) -> Result<(), Errno>
-        ensures answer { (result, self.new.state) ≡ step.pend_step task.0 pending self.old.state }
+    /// Errors, in order: `ESRCH` no such task, `ENOMEM`.
+    pub fn pend(&mut self, task: TaskId, start: PendingStart) -> Result<(), Errno>
+        ensures answer { Steps self.old.state (step.pend_step task.0 (Some start) self.old.state) result self.new.state }
         ensures settled { IsSettled self.new.state }
     {
         if task.0 as usize >= self.tasks.len() {
             return Err(Errno::ESRCH);
         }
-        self.tasks[task.0 as usize].set_pending(pending);
+        self.ready = None;
+        let Ok(()) = self.book.reserve() else {
+            return Err(Errno::ENOMEM);
+        };
+        self.book.add(&Right::Start(start.node));
+        let seat = &mut self.tasks[task.0 as usize];
+        self.book.subtract_start(&seat.pending);
+        seat.set_pending(Some(start));
+        Ok(())
+    }
+
+    /// The task is to start nothing from now on. Takes no memory.
+    ///
+    /// `ESRCH`: no such task.
+    pub fn unpend(&mut self, task: TaskId) -> Result<(), Errno>
+        ensures answer { (result, self.new.state) ≡ step.pend_step task.0 None self.old.state }
+        ensures settled { IsSettled self.new.state }
+    {
+        if task.0 as usize >= self.tasks.len() {
+            return Err(Errno::ESRCH);
+        }
+        self.ready = None;
+        let seat = &mut self.tasks[task.0 as usize];
+        self.book.subtract_start(&seat.pending);
+        seat.set_pending(None);
         Ok(())
     }
 
@@ -405,11 +467,17 @@ impl Ports {
         ensures answer { (result, self.new.state) ≡ step.deallocate_step task.0 port self.old.state }
         ensures settled { IsSettled self.new.state }
     {
-        let open_name = self.right(task, port)?.open_name();
+        let Some(seat) = self.tasks.get(task.0 as usize) else {
+            return Err(Errno::ESRCH);
+        };
+        let Some(right) = seat.find(port) else {
+            return Err(Errno::EBADF);
+        };
+        let open_name = right.open_name();
+        self.book.subtract(right);
         self.ready = None;
         self.tasks[task.0 as usize].remove(port);
-        holders::release(&mut self.holders, open_name);
-        settle(&mut self.opens, &self.holders, open_name);
+        settle(&mut self.opens, &self.book, open_name);
         Ok(())
     }
 

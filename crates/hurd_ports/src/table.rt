@@ -1,5 +1,5 @@
 //! Rights, opens, and the tables of tasks.
-ghost use Rattle.std.specs.Prelude.{◌≡◌, ◌==◌, ◌+◌, ◌<◌, Ok, length, IfOk, IfSome, option_copied};
+ghost use Rattle.std.specs.Prelude.{◌≡◌, ◌==◌, ◌+◌, ◌<◌, Ok, length, IfOk, IfSome, OnOk, option_copied};
 ghost use Rattle.std.specs.List.{position};
 ghost use Rattle.hurd_creds.specs.Memory.{Steps};
 ghost use Rattle.hurd_ports.specs.Tables.{can_name, fresh, has_room, open_of, right_in};
@@ -158,15 +158,20 @@ impl TaskSeat {
         number
     }
 
-    /// Adds a port with this right, in memory that it takes; answers its number. `ENOMEM`: no memory, and nothing changes.
-    pub(crate) fn share(&mut self, right: Right) -> Result<u64, Errno>
-        requires { self.old.next < u64.MAX }
-        ensures { Steps (seat_task self.old) (Ok self.old.next, with_port right (seat_task self.old)) result (seat_task self.new) }
+    /// Takes room for one port more.
+    pub(crate) fn reserve_port(&mut self) -> Result<(), AllocError>
+        ensures kept { seat_task self.new ≡ seat_task self.old }
+        ensures room { OnOk result (HasSpare self.new.ports) }
     {
-        let Ok(()) = self.ports.reserve(1) else {
-            return Err(Errno::ENOMEM);
-        };
-        Ok(self.add(right))
+        self.ports.reserve(1)
+    }
+
+    /// Takes room for one right more in the inbox.
+    pub(crate) fn reserve_sent(&mut self) -> Result<(), AllocError>
+        ensures kept { seat_task self.new ≡ seat_task self.old }
+        ensures room { OnOk result (HasSpare self.new.inbox) }
+    {
+        self.inbox.reserve(1)
     }
 
     /// Takes the first right of the inbox as a port; answers its number. `ENOMEM`: no memory, and nothing changes.
@@ -182,15 +187,12 @@ impl TaskSeat {
         Ok(self.add(right))
     }
 
-    /// Puts a right last into the inbox. `ENOMEM`: no memory, and nothing changes.
-    pub(crate) fn accept(&mut self, right: Right) -> Result<(), Errno>
-        ensures answer { Steps (seat_task self.old) (Ok tt, with_sent right (seat_task self.old)) result (seat_task self.new) }
-        ensures ports { self.new.ports ≡ self.old.ports }
+    /// Puts a right last into the inbox. There is room for it.
+    pub(crate) fn accept(&mut self, right: Right)
+        requires { HasSpare self.old.inbox }
+        ensures { seat_task self.new ≡ with_sent right (seat_task self.old) }
     {
-        let Ok(()) = self.inbox.push(right) else {
-            return Err(Errno::ENOMEM);
-        };
-        Ok(())
+        self.inbox.push_reserved(right);
     }
 
     /// Gives the task other ids; those of its rights stay.

@@ -1,17 +1,11 @@
 -- What is kept of entries and of opens is what the world has.
-use Rattle.std.proofs.Common.{◌≡◌, ◌∙◌, sym, refl, ap, ap₂, ℕ, ◌+◌, ◌<◌, ◌≤◌, Bool, true, false, List, [], ◌∷◌, ◌++◌, take, take_all, length, get_or}
+use Rattle.std.proofs.Common.{◌≡◌, ◌∙◌, sym, refl, ap, ℕ, ◌+◌, ◌<◌, ◌≤◌, Bool, true, false, List, [], ◌∷◌, ◌++◌, take, take_all, length, get_or}
 use Rattle.std.specs.Prelude.{Option, Some, None}
 use Rattle.std.proofs.lemmas.List.{take_more}
 use Rattle.hurd_creds.specs.declared.name.Name.{Name}
 use Rattle.hurd_trans_iface.specs.Nodes.{Body}
 use Rattle.hurd_trans_iface.specs.Answers.{entry_of}
-use Rattle.hurd_nodes.specs.Weights.{weigh_list}
-use Rattle.hurd_nodes.specs.Weights as weights
 use Rattle.hurd_ports.specs.declared.table.Opened.{Opened}
-use Rattle.hurd_ports.specs.declared.table.Right.{Right}
-use Rattle.hurd_ports.specs.Seats.{holders_in, namings, one_if}
-use Rattle.hurd_ports.specs.Tables.{Task, names_open, rights_of}
-use Rattle.hurd_machine.specs.Sight.{count_rights}
 use Rattle.hurd_views.specs.Views.{entry_before, rows_in, told_if}
 use Rattle.hurd_views.specs.declared.rows.EntryRow.{EntryRow}
 use Rattle.hurd_views.specs.declared.rows.OpenRow.{OpenRow}
@@ -38,20 +32,6 @@ rows_next b ns i name below at before step =
 
 pub rows_all : {rows : List EntryRow} (b : Option Body) (ns : List (List ℕ)) (i : ℕ) → length ns ≤ i → rows ≡ rows_in b (take i ns) → rows ≡ rows_in b ns
 rows_all b ns i past rows = rows ∙ ap (rows_in b) (take_all i ns past)
-
--- rights that hold an open, counted by either book
-
-ones : (t : Bool) → one_if t ≡ weights.one_if t
-ones true = refl
-ones false = refl
-
-namings_weighed : (o : Name) (rs : List Right) → namings o rs ≡ weigh_list (λ (r : Right). weights.one_if (names_open o r)) rs
-namings_weighed o [] = refl
-namings_weighed o (r ∷ rs) = ap₂ (λ (x y : ℕ). x + y) (ones (names_open o r)) (namings_weighed o rs)
-
-pub holders_counted : (o : Name) (ts : List Task) → holders_in ts o ≡ count_rights (names_open o) ts
-holders_counted o [] = refl
-holders_counted o (x ∷ xs) = ap₂ (λ (x y : ℕ). x + y) (namings_weighed o (rights_of x)) (holders_counted o xs)
 
 -- an open that is seen
 pub open_told : (b : Bool) (o p : Option Opened) (h k : ℕ) → true ≡ b → o ≡ p → h ≡ k → ◌≡◌ {A = Option OpenRow} (Some (record { opened = o; holders = h })) (told_if b (record { opened = p; holders = k }))

@@ -77,7 +77,7 @@ pub struct Row {
     pub opened: Option<OpenRow>,
     pub server: Option<Option<ServerRow>>,
     /// How many rights there are on a server's nodes.
-    pub users: Option<usize>,
+    pub users: Option<u128>,
 }
 
 impl EntryRows {

@@ -258,7 +258,7 @@ fn options_of<S: Server>(
 }
 
 /// How many rights there are on a server's nodes, if that is seen.
-fn users_of<S: Server>(core: &Core<S>, sight: &Sight, name: Name) -> Option<usize>
+fn users_of<S: Server>(core: &Core<S>, sight: &Sight, name: Name) -> Option<u128>
     ensures { result ≡ (row_of (world_of S.meaning core.now) sight.now name).users }
 {
     if !sight.sees(core.nodes(), SeenPart::Users(name)) {

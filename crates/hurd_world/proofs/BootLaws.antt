@@ -1,15 +1,19 @@
 -- The tables after some of the tasks have their first two ports, and what they have in the end.
-use Rattle.std.proofs.Common.{◌≡◌, ℕ, zero, suc, ◌+◌, ◌<◌, true, List, [], ◌∷◌, map, length, drop, add-one, zero-add, drop_of_length-le, refl, ap, ap₂, ◌∙◌, arith}
+use Rattle.std.proofs.Common.{◌≡◌, ◌⊎◌, inl, inr, ℕ, zero, suc, ◌+◌, ◌<◌, Bool, true, false, if◌then◌else◌, List, [], ◌∷◌, map, length, drop, add-one, zero-add, drop_of_length-le, refl, ap, ap₂, ◌∙◌, arith}
 use Rattle.std.proofs.lemmas.List.{set-set}
-use Rattle.std.specs.Prelude.{Option, Some, Ok, slice_get, slice_set}
+use Rattle.std.specs.Prelude.{Option, Some, None, Result, Ok, Err, IsOk, nat_le, slice_get, slice_set}
 use Rattle.std.specs.FinMap as fin
 use Rattle.hurd_creds.specs.Access.{IdSets}
+use Rattle.hurd_creds.specs.declared.errno.Errno.{Errno}
+use Rattle.hurd_creds.specs.declared.errno.Errno.TheVariants.{EINVAL, ENOMEM}
+use Rattle.hurd_creds.specs.Limits.{most_tasks}
+use Rattle.hurd_creds.specs.Memory.{Meets}
 use Rattle.hurd_creds.specs.Names.{name_of}
 use Rattle.hurd_nodes.specs.Shown.{boot_name}
-use Rattle.hurd_ports.specs.Tables.{PortState, OpenMap, Task, fresh, has_room, room_at, room_of}
-use Rattle.hurd_ports.specs.Steps.{insert_at, named, new_open, new_right, new_task, starting_at, with_port}
+use Rattle.hurd_ports.specs.Tables.{PortState, Tables, OpenMap, Task, fresh, has_room, room_at, room_of}
+use Rattle.hurd_ports.specs.Steps.{begun_at, insert_at, named, new_open, new_right, new_task, starting_at, with_port}
 use Rattle.hurd_ports.proofs.TaskLaws.{edit-edit, set-here}
-use Rattle.hurd_world.specs.Boot.{boot_task, boot_tasks, boot_opens, boot_ports, closed_open}
+use Rattle.hurd_world.specs.Boot.{boot_task, boot_tasks, boot_opens, boot_ports, closed_open, few_of}
 use Rattle.hurd_world.specs.BootPort.{with_boot_port}
 
 -- the tasks from number k on, of which the first t have their ports
@@ -99,3 +103,28 @@ pub begun_all : (tasks : List IdSets) (t : ℕ) (h : PortState) → t ≡ length
 begun_all tasks t h e begun =
     let done : drop t tasks ≡ [] = drop_of_length-le tasks (omega arith) in
     ap₂ (λ (m : OpenMap) (ts : List Task). let g : PortState = record { opens = m; tasks = ts } in g) (rw done at begun.opens) (begun.seats ∙ all_begun 0 t tasks e)
+
+-- tables that begin, and how many tasks may
+abbrev tables : Bool → List IdSets → Result Tables Errno
+tables b tasks = if b then Ok (record { state = starting_at tasks 1; ready = None }) else Err EINVAL
+
+abbrev few : Bool → Result (Unit {0}) Errno
+few b = if b then Ok tt else Err EINVAL
+
+-- tables that have begun: their tasks are few
+pub tables_begun : (tasks : List IdSets) (h : Tables) → begun_at tasks 1 ≡ Ok h → (few_of tasks ≡ Ok tt) × (h ≡ record { state = starting_at tasks 1; ready = None })
+tables_begun tasks h = go (nat_le (length tasks) most_tasks)
+  where
+    go : (b : Bool) → tables b tasks ≡ Ok h → (few b ≡ Ok tt) × (h ≡ record { state = starting_at tasks 1; ready = None })
+    go true e = (refl, cc)
+    go false e = absurd (cc)
+
+-- tables that don't begin: their tasks are too many, or there is no memory
+pub tables_refused : (tasks : List IdSets) (e : Errno) → Meets (begun_at tasks 1) (Err e) → (few_of tasks ≡ Err e) ⊎ ((e ≡ ENOMEM) × IsOk (few_of tasks))
+tables_refused tasks e = go (nat_le (length tasks) most_tasks)
+  where
+    go : (b : Bool) → Meets (tables b tasks) (Err e) → (few b ≡ Err e) ⊎ ((e ≡ ENOMEM) × IsOk (few b))
+    go true (inl is) = absurd (cc (is))
+    go true (inr lacks) = inr (lacks.0, refl)
+    go false (inl is) = inl (let same : EINVAL ≡ e = cc (is) in ap Err same)
+    go false (inr lacks) = absurd (cc (lacks.1))

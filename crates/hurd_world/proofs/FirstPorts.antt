@@ -20,11 +20,6 @@ use Rattle.hurd_ports.specs.declared.table.Port.{Port}
 use Rattle.hurd_ports.specs.Tables.{OpenMap, Task, IsSettled, is_held, names_open, rights_of}
 use Rattle.hurd_ports.specs.Steps.{new_open}
 use Rattle.hurd_machine.specs.World.{IsAmong}
-use Rattle.hurd_nodes.specs.Weights.{weigh_list}
-use Rattle.hurd_nodes.specs.declared.seat.Hold.{Hold}
-use Rattle.hurd_nodes.specs.declared.seat.Hold.TheVariants as hold
-use Rattle.hurd_machine.specs.Sight.{weigh_rights}
-use Rattle.hurd_core.specs.Core.{HoldsRights, weight_of}
 use Rattle.hurd_world.specs.Boot.{boot_task, boot_tasks, boot_opens, boot_ports, closed_open}
 
 -- maps with a value put in
@@ -151,15 +146,3 @@ boot_settled tasks q x h =
     let holds = λ (y : Task). list_any (names_open q) (rights_of y) in
     list_any_at holds (boot_tasks 0 tasks) one.0 task (slice_get_within (boot_tasks 0 tasks) one.0 task seat.1)
     (ap holds (get_or_from_slice_get (boot_tasks 0 tasks) one.0 task task seat.1) ∙ task_holds (0 + one.0) seat.0 q one.2)
-
--- the boot root is held twice for each task
-
-boot_weighs : (W : Hold → ℕ) (k : ℕ) (tasks : List IdSets) → weigh_list W (replicate (2 * length tasks) (hold.Use boot_name)) ≡ weigh_rights (weight_of W) (boot_tasks k tasks)
-boot_weighs W k [] = refl
-boot_weighs W k (ids ∷ tasks) =
-    let two : 2 * length (ids ∷ tasks) ≡ suc (suc (2 * length tasks)) = omega arith in
-    let rest = boot_weighs W (k + 1) tasks in
-    ap (λ (j : ℕ). weigh_list W (replicate j (hold.Use boot_name))) two ∙ omega (arith, rest)
-
-pub boot_holds : (tasks : List IdSets) → HoldsRights (replicate (2 * length tasks) (hold.Use boot_name)) (boot_ports tasks).tasks
-boot_holds tasks W = boot_weighs W 0 tasks

@@ -15,12 +15,13 @@ use Rattle.hurd_ports.specs.Tables.{Task, OpenMap, PortState}
 use Rattle.hurd_ports.specs.Steps.{new_open}
 use Rattle.hurd_machine.specs.World.{World, world_from}
 
+-- whether tasks of these ids begin together: EINVAL for more of them than that
+abbrev pub few_of : List IdSets → Result (Unit {0}) Errno
+few_of tasks = if nat_le (length tasks) most_tasks then Ok tt else Err EINVAL
+
 -- whether a boot server of this meaning and tasks of these ids begin a world: ENOTDIR where its root is no directory, EINVAL
--- for more tasks than that
 abbrev pub boot_of : Meaning → List IdSets → Result (Unit {0}) Errno
-boot_of m tasks =
-    if not (is_dir (root_of m.kind m.text).kind) then Err ENOTDIR
-    else if nat_le (length tasks) most_tasks then Ok tt else Err EINVAL
+boot_of m tasks = if not (is_dir (root_of m.kind m.text).kind) then Err ENOTDIR else few_of tasks
 
 -- an open without modes
 abbrev pub closed_open : OpenFlags

@@ -1,8 +1,7 @@
 //! The first ports of tasks.
-ghost use Rattle.std.specs.Prelude.{◌≡◌, ◌≤◌, length, IfOk, IfErr, Ok};
-ghost use Rattle.hurd_creds.specs.Limits.{most_tasks};
+ghost use Rattle.std.specs.Prelude.{◌≡◌, ◌⊎◌, IfOk, IfErr, IsOk, Ok, Err};
 ghost use Rattle.hurd_ports.specs.Tables.{room_of};
-ghost use Rattle.hurd_world.specs.Boot.{boot_ports};
+ghost use Rattle.hurd_world.specs.Boot.{boot_ports, few_of};
 ghost use Rattle.hurd_world.specs.BootPort.{with_boot_port};
 
 use hurd_creds::{Errno, Ids, OpenFlags, TaskId};
@@ -12,11 +11,10 @@ use std::alloc::Global;
 
 /// The tables of tasks of these ids: each has the boot root as port 1, its root, and as port 2, its working directory.
 ///
-/// `ENOMEM`.
+/// Errors, in order: `EINVAL` more than 64 tasks, `ENOMEM`.
 pub(crate) fn first_ports(alloc: Global, tasks: Vec<Ids>) -> Result<Ports, Errno>
-    requires { length tasks.items ≤ most_tasks }
-    ensures ok { IfOk result (λ ports. ports.state ≡ boot_ports tasks.items) }
-    ensures err { IfErr result (λ e. e ≡ Errno.ENOMEM) }
+    ensures ok { IfOk result (λ ports. (few_of tasks.items ≡ Ok tt) × (ports.state ≡ boot_ports tasks.items)) }
+    ensures err { let asked = few_of tasks.items in IfErr result (λ e. (asked ≡ Err e) ⊎ ((e ≡ Errno.ENOMEM) × IsOk asked)) }
 {
     let mut ports = Ports::starting_at(alloc, tasks, 1)?;
     for task in 0..ports.task_count() as u32 {

@@ -11,7 +11,7 @@ ghost use Rattle.hurd_world.specs.Boot.{boot_of, first_world};
 use crate::boot::first_ports;
 use crate::replies;
 use hurd_core::Core;
-use hurd_creds::{Errno, Ids, Kind, MOST_TASKS, TaskId};
+use hurd_creds::{Errno, Ids, Kind, TaskId};
 use hurd_dirs::{file, link, make, remove, rename};
 use hurd_files::{access, files};
 use hurd_fsys::{fsys, setting, starting};
@@ -57,15 +57,11 @@ impl<S: Server> World<S> {
         let Kind::Dir = boot.root().kind else {
             return Err((Errno::ENOTDIR, boot));
         };
-        if tasks.len() > MOST_TASKS {
-            return Err((Errno::EINVAL, boot));
-        }
-        let rights = 2 * tasks.len();
         let ports = match first_ports(alloc, tasks) {
             Ok(ports) => ports,
             Err(errno) => return Err((errno, boot)),
         };
-        let nodes = Nodes::starting_with(alloc, boot, rights)?;
+        let nodes = Nodes::starting(alloc, boot)?;
         Ok(World {
             core: Core::new(nodes, ports),
         })

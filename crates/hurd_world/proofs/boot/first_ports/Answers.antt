@@ -1,14 +1,16 @@
-use Rattle.std.proofs.Common.{length, arith, ap, ◌∙◌}
+use Rattle.std.proofs.Common.{length, arith, ap, ◌∙◌, inr}
+use Rattle.std.specs.Prelude.{is_ok}
+use Rattle.std.proofs.lemmas.Result.{err_from_is_err_and}
 use Rattle.std.proofs.lemmas.List.{length-map}
 use Rattle.hurd_ports.specs.Tables.{Tables}
 use Rattle.hurd_ports.specs.Steps.{new_task}
-use Rattle.hurd_world.proofs.BootLaws.{room_first, room_second, begun_next, begun_first, begun_all}
+use Rattle.hurd_world.proofs.BootLaws.{tables_begun, tables_refused, room_first, room_second, begun_next, begun_first, begun_all}
 use Rattle.hurd_world.proofs.boot.first_ports.Goals as goal
 
 pub loop-task-init : goal.loop-task-init
 loop-task-init c = record {
-  count = c.task_count-task-end.ensures ∙ ap (λ (h : Tables). length h.state.tasks) c.in_ok-ports.ensures ∙ length-map c.args.tasks.items (new_task 1);
-  begun = rw c.in_ok-ports.ensures (begun_first c.args.tasks.items);
+  count = c.task_count-task-end.ensures ∙ ap (λ (h : Tables). length h.state.tasks) (tables_begun c.args.tasks.items c.in_ok-ports.ports c.in_ok-ports.ensures).1 ∙ length-map c.args.tasks.items (new_task 1);
+  begun = rw (tables_begun c.args.tasks.items c.in_ok-ports.ports c.in_ok-ports.ensures).1 (begun_first c.args.tasks.items);
 }
 
 pub add_boot_port-requires : goal.add_boot_port-requires
@@ -24,4 +26,22 @@ loop-task-preserved c = record {
 }
 
 pub returns-clause-ok : goal.returns-clause-ok
-returns-clause-ok c = begun_all c.args.tasks.items c.loop-task.task c.loop-task.ports.state (omega arith) c.loop-task.invariant.begun
+returns-clause-ok c =
+    ((tables_begun c.args.tasks.items c.in_ok-ports.ports c.in_ok-ports.ensures).0, begun_all c.args.tasks.items c.loop-task.task c.loop-task.ports.state (omega arith) c.loop-task.invariant.begun)
+
+-- a port that isn't added found no memory
+
+pub returns-in_err-add_boot_port-clause-err : goal.returns-in_err-add_boot_port-clause-err
+returns-in_err-add_boot_port-clause-err c =
+    let p = err_from_is_err_and c.from_residual-in_err-add_boot_port.result c.from_residual-in_err-add_boot_port.ensures.1 in
+    rw (p.1, p.2) (inr (c.in_err-add_boot_port.ensures.err, ap is_ok (tables_begun c.args.tasks.items c.in_ok-ports.ports c.in_ok-ports.ensures).0))
+
+pub returns-in_err-add_boot_port-2-clause-err : goal.returns-in_err-add_boot_port-2-clause-err
+returns-in_err-add_boot_port-2-clause-err c =
+    let p = err_from_is_err_and c.from_residual-in_err-add_boot_port-2.result c.from_residual-in_err-add_boot_port-2.ensures.1 in
+    rw (p.1, p.2) (inr (c.in_err-add_boot_port-2.ensures.err, ap is_ok (tables_begun c.args.tasks.items c.in_ok-ports.ports c.in_ok-ports.ensures).0))
+
+pub returns-in_err-ports-clause-err : goal.returns-in_err-ports-clause-err
+returns-in_err-ports-clause-err c =
+    let p = err_from_is_err_and c.from_residual.result c.from_residual.ensures.1 in
+    rw (p.1, p.2) (tables_refused c.args.tasks.items _ c.in_err-ports.ensures)

@@ -1,12 +1,10 @@
 -- Two names, the nodes with the server, and what is left of them: each refusal in its place, and then the machine's attaching.
-use Rattle.std.proofs.Common.{◌≡◌, ◌∙◌, ℕ, List, Ok, refl, sym, inl, ap, subst}
+use Rattle.std.proofs.Common.{◌≡◌, ◌∙◌, Ok, refl, sym, inl, ap}
 use Rattle.std.proofs.lemmas.Result.{err_from_is_err_and}
-use Rattle.hurd_nodes.specs.declared.seat.Hold.{Hold}
 use Rattle.hurd_nodes.specs.Shown.{shown}
-use Rattle.hurd_ports.specs.Tables.{IsSettled, naming_of}
-use Rattle.hurd_core.specs.Core.{HoldsRights}
+use Rattle.hurd_ports.specs.Tables.{naming_of}
 use Rattle.hurd_core.proofs.CoreLaws.{naming-refused}
-use Rattle.hurd_core.proofs.ServerLaws.{attach-lacks, attach-done, name-left, seated, two-holds, two_named}
+use Rattle.hurd_core.proofs.ServerLaws.{attach-lacks, attach-done, name-left, seated}
 use Rattle.hurd_core.proofs.the_core.Core.attach.Goals as goal
 
 pub returns-in-Err-clause-does : goal.returns-in-Err-clause-does
@@ -24,11 +22,6 @@ pub take_name-requires-2 : goal.take_name-requires-2
 take_name-requires-2 g c =
     rw c.take_name.ensures.named (name-left (shown g.S.Server.meaning c.self.inside.nodes) c.self.inside.ports.state c.args.task.0 (sym c.naming.ensures ∙ c.in_default.is))
 
-pub invariant_of-self-2 : goal.invariant_of-self-2
-invariant_of-self-2 g c =
-    rw (ap (λ (z : List Hold × ℕ). z.0) (c.settle.ensures.holds ∙ c.in_ok-attach.ensures.holds), c.take_name-2.ensures.named, c.take_name.ensures.named)
-    (two-holds (shown g.S.Server.meaning c.self.inside.nodes) c.self.inside.ports.state c.args.task.0 c.self.inside.nodes.holds c.self.invariant)
-
 pub returns-clause-does : goal.returns-clause-does
 returns-clause-does g c =
     let f = g.S.Server.meaning in
@@ -38,8 +31,6 @@ returns-clause-does g c =
     let p = c.args.place in
     let m = f c.args.server in
     let free : naming_of H t 2 ≡ Ok tt = sym c.naming.ensures ∙ c.in_default.is in
-    let held : HoldsRights c.attach.new.self.holds H.tasks = subst (λ (h : List Hold × ℕ). HoldsRights h.0 H.tasks) (sym c.in_ok-attach.ensures.holds) c.self.invariant in
-    let whole : IsSettled (two_named N H t) = rw (c.take_name-2.ensures.named, c.take_name.ensures.named) at c.opens_are_held.ensures in
-    rw (← c.self.view_is, c.take_name-2.ensures.named, c.take_name.ensures.named)
-    (attach-done N H t free p c.args.ids m c.in-Some.name c.in-Some.ensures (shown f c.attach.new.self) (shown f c.settle.new.self)
-    (c.in_ok-attach.ensures.shown ∙ ap (seated N H t p c.args.ids m) c.place.ensures) c.attach.new.self.holds held whole c.settle.ensures.shown)
+    rw (← c.self.view_is)
+    (attach-done N H t free p c.args.ids m c.in-Some.name c.in-Some.ensures (shown f c.attach.new.self) _ (c.in_ok-attach.ensures.shown ∙ ap (seated N H t p c.args.ids m) c.place.ensures)
+    (rw (c.take_name-2.ensures.named, c.take_name.ensures.named) at c.settle.ensures))

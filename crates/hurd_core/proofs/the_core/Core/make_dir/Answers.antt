@@ -1,10 +1,8 @@
 -- Leave, a name, the server's making: each refusal in its place, and then the machine's making.
-use Rattle.std.proofs.Common.{ℕ, List, refl, sym, inl, ap}
+use Rattle.std.proofs.Common.{refl, sym, inl}
 use Rattle.std.proofs.lemmas.Result.{err_from_is_err_and}
-use Rattle.hurd_nodes.specs.declared.seat.Hold.{Hold}
 use Rattle.hurd_nodes.specs.Shown.{shown}
 use Rattle.hurd_core.specs.ToMake.{new_node_of}
-use Rattle.hurd_core.proofs.HoldLaws.{holds_given}
 use Rattle.hurd_core.proofs.DirLaws.{dir-refused, dir-unnamed, dir-lacks, dir-made}
 use Rattle.hurd_core.proofs.the_core.Core.make_dir.Goals as goal
 
@@ -33,7 +31,3 @@ returns g c =
     let N = shown g.S.Server.meaning c.self.inside.nodes in
     rw (← c.self.view_is)
     (dir-made N c.self.inside.ports.state c.args.task.0 (new_node_of c.args.dir) (sym c.in_ok-can_make.ensures) (sym c.in_ok-naming.ensures) c.in-Some.name c.node.result c.node.ensures c.take_name.new.self.state (shown g.S.Server.meaning c.make.new.self) c.in-Some.ensures c.in_ok-make.ensures.shown c.take_name.ensures.named)
-
-pub invariant_of-self-2 : goal.invariant_of-self-2
-invariant_of-self-2 g c =
-    rw (ap (λ (z : List Hold × ℕ). z.0) c.in_ok-make.ensures.holds, c.take_name.ensures.named) (holds_given c.self.inside.nodes.holds c.self.inside.ports.state.tasks c.self.invariant c.args.task.0 1)

@@ -1,13 +1,11 @@
 -- Room, leave, memory, the server's making, the port: each refusal in its place, and then the machine's making.
-use Rattle.std.proofs.Common.{◌≡◌, ◌∙◌, ℕ, List, refl, sym, inl, ap, ap₂}
+use Rattle.std.proofs.Common.{refl, sym, inl, ap, ap₂}
 use Rattle.std.proofs.lemmas.Result.{err_from_is_err_and}
-use Rattle.hurd_nodes.specs.declared.seat.Hold.{Hold}
 use Rattle.hurd_creds.specs.declared.attrs.Kind.TheVariants.{File}
 use Rattle.hurd_nodes.specs.Shown.{shown}
 use Rattle.hurd_machine.specs.World.{world_from}
 use Rattle.hurd_core.specs.ToMake.{new_node_of}
-use Rattle.hurd_core.proofs.HoldLaws.{holds_given}
-use Rattle.hurd_core.proofs.CoreLaws.{reserve-lacks, fill-holds}
+use Rattle.hurd_core.proofs.CoreLaws.{reserve-lacks}
 use Rattle.hurd_core.proofs.MakingLaws.{no-room, not-made, makes, room-left, make-lacks, lacks-memory, file-made}
 use Rattle.hurd_core.proofs.the_core.Core.make_file.Goals as goal
 
@@ -41,7 +39,7 @@ returns-in_err-make g c =
     let f = new_node_of c.args.file in
     let may = sym c.in_ok-can_make.ensures in
     let m = makes N H c.args.task.0 f (sym c.in_ok-room.ensures.room) may in
-    let l = make-lacks N H c.args.task.0 f File c.in-Some.name c.node.result c.in_err-make.field-0.0 (shown g.S.Server.meaning c.make.new.self) may c.node.ensures (rw c.in_ok-reserve_holds.ensures.ok.0 at c.in_err-make.ensures.shown) in
+    let l = make-lacks N H c.args.task.0 f File c.in-Some.name c.node.result c.in_err-make.field-0.0 (shown g.S.Server.meaning c.make.new.self) may c.node.ensures c.in_err-make.ensures.shown in
     let p = err_from_is_err_and c.from_residual-in_err-make.result c.from_residual-in_err-make.ensures.1 in
     rw (p.1, p.2, ← c.self.view_is) (lacks-memory N H c.args.task.0 f m _ _ (ap₂ world_from l.1 c.in_ok-reserve.ensures.kept) l.0 c.args.ids c.args.parents c.args.modes)
 
@@ -56,25 +54,5 @@ fill-requires-clause-room g c =
 pub returns : goal.returns
 returns g c =
     let N = shown g.S.Server.meaning c.self.inside.nodes in
-    let kept = c.hold_io.ensures in
-    rw (← c.self.view_is, kept)
-    (file-made N c.self.inside.ports.state c.args.task.0 (new_node_of c.args.file) c.args.ids c.args.parents c.args.modes c.reserve.new.self.state c.take_name.new.self.state c.fill.new.self.state (shown g.S.Server.meaning c.make.new.self) c.in-Some.name c.node.result c.fill.result (sym c.in_ok-room.ensures.room) (sym c.in_ok-can_make.ensures) c.in_ok-reserve.ensures.kept c.in-Some.ensures c.node.ensures (rw c.in_ok-reserve_holds.ensures.ok.0 at c.in_ok-make.ensures.shown) c.take_name.ensures.named c.fill.ensures.answer)
-
-pub returns-in_err-reserve_holds : goal.returns-in_err-reserve_holds
-returns-in_err-reserve_holds g c =
-    let N = shown g.S.Server.meaning c.self.inside.nodes in
-    let H = c.self.inside.ports.state in
-    let f = new_node_of c.args.file in
-    let m = makes N H c.args.task.0 f (sym c.in_ok-room.ensures.room) (sym c.in_ok-can_make.ensures) in
-    let p = err_from_is_err_and c.from_residual-in_err-reserve_holds.result c.from_residual-in_err-reserve_holds.ensures.1 in
-    rw (p.1, p.2, ← c.self.view_is, c.in_err-reserve_holds.ensures.err)
-    (lacks-memory N H c.args.task.0 f m _ _ (ap (world_from N) c.in_ok-reserve.ensures.kept) refl c.args.ids c.args.parents c.args.modes)
-
-pub invariant_of-self-2 : goal.invariant_of-self-2
-invariant_of-self-2 g c =
-    let hs = c.self.inside.nodes.holds in
-    let held : c.make.new.self.holds ≡ hs = ap (λ (z : List Hold × ℕ). z.0) c.in_ok-make.ensures.holds ∙ ap (λ h. h.holds) c.in_ok-reserve_holds.ensures.ok.0 in
-    let kept = c.hold_io.ensures in
-    rw (kept, held)
-    (fill-holds (shown g.S.Server.meaning c.self.inside.nodes) c.take_name.new.self.state c.args.task.0 c.in-Some.name c.args.ids c.args.parents c.args.modes hs
-    (rw (c.take_name.ensures.named, c.in_ok-reserve.ensures.kept) (holds_given hs c.self.inside.ports.state.tasks c.self.invariant c.args.task.0 1)) c.fill.result c.fill.new.self.state c.fill.ensures.answer)
+    rw (← c.self.view_is)
+    (file-made N c.self.inside.ports.state c.args.task.0 (new_node_of c.args.file) c.args.ids c.args.parents c.args.modes c.reserve.new.self.state c.take_name.new.self.state c.fill.new.self.state (shown g.S.Server.meaning c.make.new.self) c.in-Some.name c.node.result c.fill.result (sym c.in_ok-room.ensures.room) (sym c.in_ok-can_make.ensures) c.in_ok-reserve.ensures.kept c.in-Some.ensures c.node.ensures c.in_ok-make.ensures.shown c.take_name.ensures.named c.fill.ensures.answer)

@@ -1,9 +1,6 @@
 -- The nodes with the entry elsewhere, and what is left of them, are the world with it.
-use Rattle.std.proofs.Common.{ℕ, List, sym, subst}
 use Rattle.std.proofs.lemmas.Result.{err_from_is_err_and}
-use Rattle.hurd_nodes.specs.declared.seat.Hold.{Hold}
 use Rattle.hurd_nodes.specs.Shown.{shown}
-use Rattle.hurd_core.specs.Core.{HoldsRights}
 use Rattle.hurd_core.proofs.RenameLaws.{rename-refused, rename-done}
 use Rattle.hurd_core.proofs.the_core.Core.rename.Goals as goal
 
@@ -15,8 +12,5 @@ returns-in_err-rename g c =
 
 pub returns : goal.returns
 returns g c =
-    let held : HoldsRights c.rename.new.self.holds c.self.inside.ports.state.tasks =
-    subst (λ (h : List Hold × ℕ). HoldsRights h.0 c.self.inside.ports.state.tasks) (sym c.in_ok-rename.ensures.holds) c.self.invariant in
     rw (← c.self.view_is)
-    (rename-done (shown g.S.Server.meaning c.self.inside.nodes) c.self.inside.ports.state c.args.dir c.args.name.now c.args.to c.args.new.now c.rename.new.self.holds held c.opens_are_held.ensures
-    c.in_ok-rename.field-0 (shown g.S.Server.meaning c.rename.new.self) (shown g.S.Server.meaning c.settle.new.self) c.in_ok-rename.ensures.shown c.settle.ensures.shown)
+    (rename-done (shown g.S.Server.meaning c.self.inside.nodes) c.self.inside.ports.state c.args.dir c.args.name.now c.args.to c.args.new.now c.in_ok-rename.field-0 (shown g.S.Server.meaning c.rename.new.self) _ c.in_ok-rename.ensures.shown c.settle.ensures)

@@ -1,14 +1,11 @@
 -- Two names, the nodes with the server, the tables without the pending start, and what is left: each refusal in its place, and then the
 -- machine's attaching.
-use Rattle.std.proofs.Common.{◌≡◌, ◌∙◌, ℕ, List, Ok, refl, sym, inl, ap, subst}
-use Rattle.std.specs.Prelude.{option_copied}
+use Rattle.std.proofs.Common.{◌≡◌, ◌∙◌, Ok, refl, sym, inl, ap}
 use Rattle.std.proofs.lemmas.Result.{err_from_is_err_and}
-use Rattle.hurd_nodes.specs.declared.seat.Hold.{Hold}
 use Rattle.hurd_nodes.specs.Shown.{shown}
 use Rattle.hurd_ports.specs.Tables.{naming_of}
-use Rattle.hurd_core.specs.Core.{HoldsRights}
 use Rattle.hurd_core.proofs.CoreLaws.{naming-refused}
-use Rattle.hurd_core.proofs.ServerLaws.{name-left, seated_alone, start-done, start-holds, start-lacks}
+use Rattle.hurd_core.proofs.ServerLaws.{name-left, seated_alone, start-done, start-lacks}
 use Rattle.hurd_core.proofs.the_core.Core.start.Goals as goal
 
 pub returns-in-Err-clause-does : goal.returns-in-Err-clause-does
@@ -26,18 +23,6 @@ pub take_name-requires-2 : goal.take_name-requires-2
 take_name-requires-2 g c =
     rw c.take_name.ensures.named (name-left (shown g.S.Server.meaning c.self.inside.nodes) c.self.inside.ports.state c.args.task.0 (sym c.naming.ensures ∙ c.in_default.is))
 
-pub invariant_of-self-2 : goal.invariant_of-self-2
-invariant_of-self-2 g c =
-    let f = g.S.Server.meaning in
-    let H = c.self.inside.ports.state in
-    let free : naming_of H c.args.task.0 2 ≡ Ok tt = sym c.naming.ensures ∙ c.in_default.is in
-    let held : HoldsRights c.attach.new.self.holds H.tasks = subst (λ (h : List Hold × ℕ). HoldsRights h.0 H.tasks) (sym c.in_ok-attach.ensures.holds) c.self.invariant in
-    let was = rw (c.take_name-2.ensures.named, c.take_name.ensures.named) at c.pending.ensures in
-    let answer = rw (c.take_name-2.ensures.named, c.take_name.ensures.named) at c.set_pending.ensures.answer in
-    rw (ap (λ (z : List Hold × ℕ). z.0) c.settle.ensures.holds, c.release_start.ensures)
-    (start-holds (shown f c.self.inside.nodes) H c.args.task.0 free c.args.place c.args.ids (f c.args.server) c.attach.new.self.holds held (option_copied c.pending.result) was
-    c.set_pending.result c.set_pending.new.self.state answer)
-
 pub returns-clause-does : goal.returns-clause-does
 returns-clause-does g c =
     let f = g.S.Server.meaning in
@@ -47,11 +32,6 @@ returns-clause-does g c =
     let p = c.args.place in
     let m = f c.args.server in
     let free : naming_of H t 2 ≡ Ok tt = sym c.naming.ensures ∙ c.in_default.is in
-    let held : HoldsRights c.attach.new.self.holds H.tasks = subst (λ (h : List Hold × ℕ). HoldsRights h.0 H.tasks) (sym c.in_ok-attach.ensures.holds) c.self.invariant in
-    let was = rw (c.take_name-2.ensures.named, c.take_name.ensures.named) at c.pending.ensures in
-    let answer = rw (c.take_name-2.ensures.named, c.take_name.ensures.named) at c.set_pending.ensures.answer in
-    let left = rw c.release_start.ensures at c.settle.ensures.shown in
     rw (← c.self.view_is)
-    (start-done N H t free p c.args.ids m c.attach.new.self.holds held (option_copied c.pending.result) was c.set_pending.result c.set_pending.new.self.state answer
-    c.in-Some.name c.in-Some.ensures (shown f c.attach.new.self) (shown f c.settle.new.self)
-    (c.in_ok-attach.ensures.shown ∙ ap (seated_alone N H t p c.args.ids m) c.place.ensures) c.set_pending.ensures.settled left)
+    (start-done N H t free p c.args.ids m c.in-Some.name c.in-Some.ensures (shown f c.attach.new.self) _ _ _ (c.in_ok-attach.ensures.shown ∙ ap (seated_alone N H t p c.args.ids m) c.place.ensures)
+    (rw (c.take_name-2.ensures.named, c.take_name.ensures.named) at c.unpend.ensures.answer) c.settle.ensures)

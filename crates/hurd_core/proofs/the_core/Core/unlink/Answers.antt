@@ -1,9 +1,6 @@
 -- The nodes without the entry, and what is left of them, are the world without it.
-use Rattle.std.proofs.Common.{ℕ, List, sym, subst}
 use Rattle.std.proofs.lemmas.Result.{err_from_is_err_and}
-use Rattle.hurd_nodes.specs.declared.seat.Hold.{Hold}
 use Rattle.hurd_nodes.specs.Shown.{shown}
-use Rattle.hurd_core.specs.Core.{HoldsRights}
 use Rattle.hurd_core.proofs.UnlinkLaws.{unlink-refused, unlink-follows}
 use Rattle.hurd_core.proofs.the_core.Core.unlink.Goals as goal
 
@@ -14,8 +11,6 @@ returns-in_err-unlink g c =
 
 pub returns : goal.returns
 returns g c =
-    let held : HoldsRights c.unlink.new.self.holds c.self.inside.ports.state.tasks =
-    subst (λ (h : List Hold × ℕ). HoldsRights h.0 c.self.inside.ports.state.tasks) (sym c.in_ok-unlink.ensures.holds) c.self.invariant in
     rw (← c.self.view_is)
-    (unlink-follows (shown g.S.Server.meaning c.self.inside.nodes) c.self.inside.ports.state c.args.dir c.args.name.now c.unlink.new.self.holds held c.opens_are_held.ensures
-    c.in_ok-unlink.field-0 (shown g.S.Server.meaning c.unlink.new.self) (shown g.S.Server.meaning c.settle.new.self) c.in_ok-unlink.ensures.shown c.settle.ensures.shown)
+    (unlink-follows (shown g.S.Server.meaning c.self.inside.nodes) c.self.inside.ports.state c.args.dir c.args.name.now
+    c.in_ok-unlink.field-0 (shown g.S.Server.meaning c.unlink.new.self) _ c.in_ok-unlink.ensures.shown c.settle.ensures)

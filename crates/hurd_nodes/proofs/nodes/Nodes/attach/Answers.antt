@@ -3,7 +3,7 @@ use Rattle.std.specs.Prelude.{Some}
 use Rattle.std.specs.FinMap as fin
 use Rattle.hurd_trans_iface.proofs.Beginnings.{begun-empty, begun-rootless}
 use Rattle.hurd_nodes.specs.declared.seat.Seat.{Seat}
-use Rattle.hurd_nodes.specs.Held.{Held, held_of, homes_of, seat_value, seats_of, spare_of}
+use Rattle.hurd_nodes.specs.Held.{Held, held_of, homes_of, seat_value, seats_of}
 use Rattle.hurd_nodes.specs.Shown.{attached, begun_info, begun_root, less_old, shown, without_server}
 use Rattle.hurd_nodes.proofs.AttachLaws.{flat-same, attached-shown, attached-hides, taken-old, hides-old, none-old}
 use Rattle.hurd_nodes.proofs.SeatedLaws.{seated-more}
@@ -25,22 +25,22 @@ new g c = record { root = c.args.place.root; at = Some c.args.place.seat; ids = 
 
 -- what is held, and what is left of it without the server that leaves
 abbrev held : (g : given.Over) (c : goal.After-put_seat g) → Held g.row.S.Denot
-held g c = held_of c.self.inside.homes.entries c.self.inside.actives.entries c.self.inside.seats.entries c.self.inside.holds.items (spare_of c.self.inside.holds)
+held g c = held_of c.self.inside.homes.entries c.self.inside.actives.entries c.self.inside.seats.entries
 
 abbrev left : (g : given.Over) (c : goal.After-put_seat g) → Held g.row.S.Denot
 left g c = less_old (held g c) c.args.instead
 
 -- as the tables have it
 tables_left : (g : given.Over) (c : goal.After-put_seat g)
-    → held_of c.remove_old.new.homes.entries c.remove_old.new.actives.entries c.remove_old.new.seats.entries c.self.inside.holds.items (spare_of c.self.inside.holds) ≡ left g c
+    → held_of c.remove_old.new.homes.entries c.remove_old.new.actives.entries c.remove_old.new.seats.entries ≡ left g c
 tables_left g c =
-    c.remove_old.ensures.is c.self.inside.holds.items (spare_of c.self.inside.holds)
+    c.remove_old.ensures.is
     ∙ rw (c.reserve_rows.ensures.homes, c.reserve_rows.ensures.actives, c.reserve_rows.ensures.seats) refl
 
 tables_less : (g : given.Over) (c : goal.After-put_seat g)
-    → held_of c.send_away.new.homes.entries c.send_away.new.actives.entries c.send_away.new.seats.entries c.self.inside.holds.items (spare_of c.self.inside.holds) ≡ without_server (left g c) c.args.place.name
+    → held_of c.send_away.new.homes.entries c.send_away.new.actives.entries c.send_away.new.seats.entries ≡ without_server (left g c) c.args.place.name
 tables_less g c =
-    c.send_away.ensures.is c.self.inside.holds.items (spare_of c.self.inside.holds) ∙ ap (λ (t : Held g.row.S.Denot). without_server t c.args.place.name) (tables_left g c)
+    c.send_away.ensures.is ∙ ap (λ (t : Held g.row.S.Denot). without_server t c.args.place.name) (tables_left g c)
 
 pub invariant_of-self-2 : goal.invariant_of-self-2
 invariant_of-self-2 g c =

@@ -2,7 +2,6 @@ use Rattle.std.proofs.Common.{sym, ap, ◌∙◌}
 use Rattle.std.specs.FinMap as fin
 use Rattle.hurd_nodes.specs.Held.{homes_of, mean, place_in, seats_of}
 use Rattle.hurd_nodes.specs.Shown.{flat}
-use Rattle.hurd_nodes.specs.Settle.{outside_of}
 use Rattle.hurd_nodes.proofs.SeatLaws.{unplaced}
 use Rattle.hurd_nodes.proofs.ShownLaws.{server-untold}
 use Rattle.hurd_nodes.proofs.StayLaws.{stays-none, stays-named, stays-nameless}
@@ -14,7 +13,7 @@ returns-in_default g c =
     let homes = homes_of c.self.inside.homes.entries in
     let ss = c.self.inside.seats.entries in
     let none = unplaced f ss (fin.get homes c.args.node) (ap (place_in ss) c.in_default.ensures) in
-    rw (← c.self.view_is) (stays-none (outside_of c.self.inside.holds.items) (flat homes (homes_of c.self.inside.actives.entries) (mean f (seats_of ss))) c.args.node (server-untold homes (mean f (seats_of ss)) c.args.node none))
+    rw (← c.self.view_is) (stays-none (g.N.Namings.outside c.args.namings.now) (flat homes (homes_of c.self.inside.actives.entries) (mean f (seats_of ss))) c.args.node (server-untold homes (mean f (seats_of ss)) c.args.node none))
 
 pub returns-in_default-place_of_seat : goal.returns-in_default-place_of_seat
 returns-in_default-place_of_seat g c =
@@ -22,14 +21,14 @@ returns-in_default-place_of_seat g c =
     let homes = homes_of c.self.inside.homes.entries in
     let ss = c.self.inside.seats.entries in
     let none = unplaced f ss (fin.get homes c.args.node) (c.in_default-place_of_seat.ensures.is ∙ ap (place_in ss) c.in-Some.ensures) in
-    rw (← c.self.view_is) (stays-none (outside_of c.self.inside.holds.items) (flat homes (homes_of c.self.inside.actives.entries) (mean f (seats_of ss))) c.args.node (server-untold homes (mean f (seats_of ss)) c.args.node none))
+    rw (← c.self.view_is) (stays-none (g.N.Namings.outside c.args.namings.now) (flat homes (homes_of c.self.inside.actives.entries) (mean f (seats_of ss))) c.args.node (server-untold homes (mean f (seats_of ss)) c.args.node none))
 
 pub returns-then-not-is_named : goal.returns-then-not-is_named
 returns-then-not-is_named g c =
     let i = c.self.inside in
     let named = rw (← c.self.view_is) at (sym c.is_named.ensures ∙ c.if-not-is_named.true) in
     rw (← c.self.view_is)
-    (stays-nameless g.S.Server.meaning (homes_of i.homes.entries) (homes_of i.actives.entries) i.seats.entries (outside_of i.holds.items) c.args.node c.in-Some-place_of_seat.i c.index-seat.result.now c.in-Some.server c.in-Some.ensures c.in-Some-place_of_seat.ensures.is c.index-seat.ensures named)
+    (stays-nameless g.S.Server.meaning (homes_of i.homes.entries) (homes_of i.actives.entries) i.seats.entries (g.N.Namings.outside c.args.namings.now) c.args.node c.in-Some-place_of_seat.i c.index-seat.result.now c.in-Some.server c.in-Some.ensures c.in-Some-place_of_seat.ensures.is c.index-seat.ensures named)
 
 pub returns : goal.returns
 returns g c =
@@ -37,4 +36,4 @@ returns g c =
     let named = rw (← c.self.view_is) at (sym c.is_named.ensures ∙ c.if-not-is_named.false) in
     let serves = rw (← c.self.view_is) at c.server_stays.ensures in
     rw (← c.self.view_is)
-    (serves ∙ stays-named g.S.Server.meaning (homes_of i.homes.entries) (homes_of i.actives.entries) i.seats.entries (outside_of i.holds.items) c.args.node c.in-Some-place_of_seat.i c.index-seat.result.now c.in-Some.server c.in-Some.ensures c.in-Some-place_of_seat.ensures.is c.index-seat.ensures named)
+    (serves ∙ stays-named g.S.Server.meaning (homes_of i.homes.entries) (homes_of i.actives.entries) i.seats.entries (g.N.Namings.outside c.args.namings.now) c.args.node c.in-Some-place_of_seat.i c.index-seat.result.now c.in-Some.server c.in-Some.ensures c.in-Some-place_of_seat.ensures.is c.index-seat.ensures named)

@@ -3,7 +3,7 @@ use Rattle.std.specs.Prelude.{Option, Some}
 use Rattle.std.specs.FinMap as fin
 use Rattle.indexmap.specs.IndexMap.{set_value_at}
 use Rattle.hurd_creds.specs.declared.name.Name.{Name}
-use Rattle.hurd_nodes.specs.Held.{Held, Seated, spare_of, held_of, put_box, put_by, seat_value, seats_of, with_seats, with_server_of}
+use Rattle.hurd_nodes.specs.Held.{Held, Seated, held_of, put_box, put_by, seat_value, seats_of, with_seats, with_server_of}
 use Rattle.hurd_nodes.proofs.RowLaws.{apart-kept}
 use Rattle.hurd_nodes.proofs.SeatLaws.{box-found, placed, same_read, seat-changed, seat-found, unplaced}
 use Rattle.hurd_nodes.proofs.SeatedLaws.{seated-set}
@@ -13,13 +13,12 @@ pub returns-in-Some : goal.returns-in-Some
 returns-in-Some g c =
     let s = c.index_mut.result.now in
     let ss = c.self.inside.seats.entries in
-    let spare = spare_of c.self.inside.holds in
-    let old = held_of c.self.inside.homes.entries c.self.inside.actives.entries ss c.self.inside.holds.items spare in
+    let old = held_of c.self.inside.homes.entries c.self.inside.actives.entries ss in
     let at = c.in-Some.ensures.is in
     let p = placed ss _ _ at in
     let n = p.0 in
     let h : fin.get old.seats n ≡ Some (seat_value s) = seat-found ss n c.in-Some.i s p.2 c.index_mut.ensures.value in
-    let eq : (w : g.row.S.Denot) → held_of c.self.inside.homes.entries c.self.inside.actives.entries (set_value_at ss c.in-Some.i (record s { server = w })) c.self.inside.holds.items spare ≡ with_server_of c.args.self.now c.args.node w =
+    let eq : (w : g.row.S.Denot) → held_of c.self.inside.homes.entries c.self.inside.actives.entries (set_value_at ss c.in-Some.i (record s { server = w })) ≡ with_server_of c.args.self.now c.args.node w =
     λ w. ap (with_seats old) (seat-changed ss n c.in-Some.i s p.2 c.index_mut.ensures.value (record s { server = w }))
     ∙ sym (ap (λ (o : Option (Seated g.row.S.Denot)). with_seats old (put_box old.seats n w o)) h)
     ∙ sym (ap (λ (o : Option Name). with_seats old (put_by old.seats o w)) p.1)

@@ -2,7 +2,7 @@ use Rattle.std.proofs.Common.{◌≡◌, Bool, List, sym, ◌∙◌, ◌&&◌}
 use Rattle.std.specs.List.{list_any}
 use Rattle.hurd_creds.specs.declared.name.Name.{Name}
 use Rattle.hurd_creds.specs.Names.{same_name}
-use Rattle.hurd_nodes.specs.Held.{AreApart, home_key, homes_of, is_held}
+use Rattle.hurd_nodes.specs.Held.{AreApart, home_key, homes_of}
 use Rattle.hurd_nodes.specs.Shown.{boot_name}
 use Rattle.hurd_nodes.specs.Settle.{any_in}
 use Rattle.hurd_nodes.proofs.StayLaws.{home-told, or-third, or-4}
@@ -23,8 +23,6 @@ returns-then-is_active g c =
 pub returns : goal.returns
 returns g c =
     let told = active c.args.server c.self.inside.actives.entries c.is_active.result c.is_active.ensures c.self.invariant.actives_apart in
-    let controls = rw c.deref.ensures.value at (sym c.is_controlled.ensures ∙ c.if-is_controlled.false) in
-    let last = rw c.deref-2.ensures.value at c.has_held.ensures in
     rw (← c.self.view_is)
-    (last ∙ home-told (λ n q. same_name c.args.server q && is_held c.self.inside.holds.items n) c.self.inside.homes.entries c.self.invariant.homes_apart
-    ∙ or-4 (same_name c.args.server boot_name) _ _ _ (sym c.eq.ensures ∙ c.if-eq.false) controls (sym told ∙ c.if-is_active.false))
+    (c.has_held.ensures ∙ home-told (λ n q. same_name c.args.server q && (g.N.Namings.outside c.args.namings.now).held n) c.self.inside.homes.entries c.self.invariant.homes_apart
+    ∙ or-4 (same_name c.args.server boot_name) _ _ _ (sym c.eq.ensures ∙ c.if-eq.false) (sym c.controls.ensures ∙ c.if-controls.false) (sym told ∙ c.if-is_active.false))

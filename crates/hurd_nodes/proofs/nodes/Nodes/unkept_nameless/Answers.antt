@@ -4,7 +4,6 @@ use Rattle.hurd_creds.specs.declared.name.Name.{Name}
 use Rattle.hurd_nodes.specs.declared.seat.Seat.{Seat}
 use Rattle.hurd_nodes.specs.Look.{NamelessStay}
 use Rattle.hurd_nodes.specs.Shown.{shown}
-use Rattle.hurd_nodes.specs.Settle.{outside_of}
 use Rattle.hurd_nodes.proofs.LookLaws.{all-more}
 use Rattle.hurd_nodes.proofs.nodes.Nodes.unkept_nameless.Goals as goal
 use Rattle.hurd_nodes.proofs.nodes.Nodes.unkept_nameless.Goals.{in-Some+in-AllStay, in_default}
@@ -12,7 +11,7 @@ use Rattle.hurd_nodes.proofs.nodes.Nodes.unkept_nameless.Goals.{in-Some+in-AllSt
 pub loop-i-preserved : goal.loop-i-preserved
 loop-i-preserved g c =
     let h = shown g.S.Server.meaning c.args.self.now in
-    let o = outside_of c.args.self.now.holds in
+    let o = g.N.Namings.outside c.args.namings.now in
     elim c.match-get_index.branch [
       | in-Some+in-AllStay w ↦
           all-more (λ (x : Name × Seat _). NamelessStay o h (g.S.Server.meaning x.1.server)) c.args.seats.now.entries c.loop-i.i (w.in-Some.field-0-0.now, w.in-Some.seat.now) c.loop-i.invariant

@@ -2,7 +2,7 @@ use Rattle.std.proofs.Common.{true≢false, not, sym, ◌∙◌}
 use Rattle.hurd_creds.specs.declared.name.Name.{Name}
 use Rattle.hurd_nodes.specs.declared.seat.Seat.{Seat}
 use Rattle.hurd_nodes.specs.Shown.{shown}
-use Rattle.hurd_nodes.specs.Settle.{outside_of, server_stays}
+use Rattle.hurd_nodes.specs.Settle.{server_stays}
 use Rattle.hurd_nodes.proofs.HomeLaws.{none-more, seat-here}
 use Rattle.hurd_nodes.proofs.nodes.Nodes.unkept_server.Goals as goal
 use Rattle.hurd_nodes.proofs.nodes.Nodes.unkept_server.Goals.{in-Some+else-not-server_stays, in_default}
@@ -16,7 +16,7 @@ returns-then-not-server_stays-clause-found g c = (
 pub loop-i-preserved : goal.loop-i-preserved
 loop-i-preserved g c =
     let h = shown g.S.Server.meaning c.args.self.now in
-    let o = outside_of c.args.self.now.holds in
+    let o = g.N.Namings.outside c.args.namings.now in
     elim c.match-get_index.branch [
       | in-Some+else-not-server_stays w ↦
           none-more (λ (x : Name × Seat _). not (server_stays o h x.0)) c.args.seats.now.entries c.loop-i.i (w.in-Some.name.now, w.in-Some.seat.now) c.loop-i.invariant w.in-Some.ensures.entry

@@ -1,32 +1,35 @@
 use Rattle.hurd_ports.specs.Seats.{state_of}
 use Rattle.std.specs.Prelude.{slice_set}
 use Rattle.hurd_ports.proofs.FillLaws.{Inserted, filled, filled-counted}
+use Rattle.indexmap.specs.IndexMap.{spare}
+use Rattle.hurd_ports.proofs.SeatLaws.{ready-room}
 use Rattle.hurd_ports.proofs.CountLaws.{counts-fit}
 use Rattle.hurd_ports.specs.declared.table.Right.TheVariants.{Io}
-use Rattle.std.proofs.Common.{arith}
 use Rattle.hurd_ports.proofs.ports.Ports.fill.Goals as goal
 
 done : (c : goal.After-self-2-1)
-    → Inserted (state_of c.self.inside.opens.entries c.self.inside.tasks.items) (state_of c.add.new.opens.entries (slice_set c.self.inside.tasks.items c.args.task.0 c.add-number.new.self)) c.args.task.0 c.args.node c.args.ids c.args.parents c.args.modes c.add-number.result
+    → Inserted (state_of c.self.inside.opens.entries c.self.inside.tasks.items) (state_of c.add-2.new.opens.entries (slice_set c.self.inside.tasks.items c.args.task.0 c.add-number.new.self)) c.args.task.0 c.args.node c.args.ids c.args.parents c.args.modes c.add-number.result
 done c =
-    filled c.self.inside.opens.entries c.self.inside.tasks.items c.args.task.0 c.args.node c.args.ids c.args.parents c.args.modes c.add.new.opens.entries c.index_mut-seat.result.now c.take_name-name.new.self c.add-number.new.self
+    filled c.self.inside.opens.entries c.self.inside.tasks.items c.args.task.0 c.args.node c.args.ids c.args.parents c.args.modes c.add-2.new.opens.entries c.index_mut-seat.result.now c.take_name-name.new.self c.add-number.new.self
     c.take_name-name.result c.add-number.result c.self.invariant.sound (rw (← c.self.view_is) at c.requires.room) c.index_mut-seat.ensures.value c.take_name-name.ensures.name c.take_name-name.ensures.named
-    c.add-number.ensures.number c.add-number.ensures.added c.add.ensures
+    c.add-number.ensures.number c.add-number.ensures.added c.add-2.ensures
 
 pub invariant_of-self : goal.invariant_of-self
 invariant_of-self c = record {
   sound = (done c).sound;
   counted =
-      filled-counted c.self.inside.opens.entries c.self.inside.holders.entries c.hold.new.holders.entries c.self.inside.tasks.items c.args.task.0 c.index_mut-seat.result.now c.take_name-name.new.self c.add-number.new.self
+      filled-counted c.self.inside.opens.entries c.self.inside.book c.add.new.self c.self.inside.tasks.items c.args.task.0 c.index_mut-seat.result.now c.take_name-name.new.self c.add-number.new.self
       (Io (record { node = c.args.node; ids = c.args.ids; open_name = c.take_name-name.result; parents = c.args.parents })) c.self.invariant.counted (rw (← c.self.view_is) at c.requires.room) c.index_mut-seat.ensures.value c.take_name-name.ensures.named
-      c.add-number.ensures.added c.hold.ensures;
+      c.add-number.ensures.added c.add.ensures.short c.add.ensures.more;
   spare = tt;
 }
 
-pub hold-requires-clause-fits : goal.hold-requires-clause-fits
-hold-requires-clause-fits c =
-    let tasks = c.self.inside.tasks in
-    counts-fit c.self.inside.holders.entries tasks.items c.self.invariant.counted (omega (arith, tasks.ok.0, tasks.ok.1, tasks.small))
+pub add-requires-clause-fits : goal.add-requires-clause-fits
+add-requires-clause-fits c = counts-fit c.self.inside.book c.self.inside.tasks.items c.self.invariant.counted
+
+pub add-requires-clause-room : goal.add-requires-clause-room
+add-requires-clause-room c =
+    ready-room (spare c.self.inside.opens) c.self.inside.book c.self.inside.tasks.items c.self.inside.ready c.args.task.0 c.self.invariant.spare (rw (← c.self.view_is) at c.requires.ready)
 
 pub returns-clause-answer : goal.returns-clause-answer
 returns-clause-answer c = rw (← c.self.view_is) (done c).step

@@ -5,7 +5,8 @@ use Rattle.std.specs.Prelude.{slice_set}
 use Rattle.hurd_ports.specs.Steps.{receive_step}
 use Rattle.hurd_ports.specs.Seats.{seat_task, state_of}
 use Rattle.hurd_ports.specs.Steps.{received}
-use Rattle.hurd_ports.proofs.CountLaws.{counted-moved, namings-received}
+use Rattle.hurd_ports.proofs.CountLaws.{counted-same, weighed-moved}
+use Rattle.hurd_ports.proofs.WeightLaws.{weigh_received}
 use Rattle.hurd_ports.proofs.EditLaws.{Edited, seat-received}
 use Rattle.hurd_ports.proofs.ports.Ports.receive.Goals as goal
 
@@ -28,7 +29,7 @@ invariant_of-self c = record {
       let found = rw c.deref.ensures.value at c.in-Some.ensures.lookup in
       let s = c.index_mut.result.now in
       let seat = slice_get_read ss (length ss) c.args.task.0 s refl found.3.0 c.index_mut.ensures.value in
-      counted-moved c.self.inside.holders.entries ss c.args.task.0 s c.receive.new.self s.next (received (seat_task s)) c.receive.result seat c.self.invariant.counted c.receive.ensures (λ o. namings-received o (seat_task s));
+      counted-same c.self.inside.book c.self.inside.book ss c.args.task.0 s c.receive.new.self seat c.self.invariant.counted (weighed-moved (seat_task s) (received (seat_task s)) (seat_task c.receive.new.self) s.next c.receive.result c.receive.ensures (λ W. weigh_received W (seat_task s))) (λ k n. refl);
   spare = tt;
 }
 

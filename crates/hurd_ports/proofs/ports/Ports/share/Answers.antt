@@ -1,40 +1,80 @@
+use Rattle.std.proofs.Common.{◌≡◌, Some, Ok, Err, length, refl, sym, ap, ◌∙◌, slice_get}
 use Rattle.std.proofs.lemmas.Option.{slice_get_read}
 use Rattle.std.specs.Prelude.{slice_set}
-use Rattle.std.proofs.Common.{arith, length, refl, sym}
-use Rattle.hurd_ports.specs.Steps.{share_step}
+use Rattle.hurd_creds.specs.declared.errno.Errno.TheVariants.{ENOMEM}
+use Rattle.hurd_ports.specs.Weights.{weigh_list}
+use Rattle.hurd_ports.specs.Tables.{Task, rights_of}
+use Rattle.hurd_ports.specs.Steps.{share_step, with_port}
 use Rattle.hurd_ports.specs.Seats.{seat_task, state_of}
-use Rattle.hurd_ports.specs.Steps.{with_port}
-use Rattle.hurd_ports.proofs.CountLaws.{counted-if, counts-fit, namings-port}
-use Rattle.hurd_ports.proofs.EditLaws.{Edited, seat-shared, shared-new}
+use Rattle.hurd_ports.proofs.WeightLaws.{port_weighs}
+use Rattle.hurd_ports.proofs.CountLaws.{counted-as, counted-more, counted-same, counts-fit}
+use Rattle.hurd_ports.proofs.EditLaws.{Edited, seat-shared, share-short, shared-new}
 use Rattle.hurd_ports.proofs.ports.Ports.share.Goals as goal
 
-done : (c : goal.After-hold_if)
-    → Edited (state_of c.self.inside.opens.entries c.self.inside.tasks.items) (state_of c.self.inside.opens.entries (slice_set c.self.inside.tasks.items c.args.task.0 c.share-shared.new.self)) (share_step c.args.task.0 c.args.right (state_of c.self.inside.opens.entries c.self.inside.tasks.items)) c.share-shared.result
+-- where the ports find no room
+
+none_at : (c : goal.Joined-right-10) → slice_get c.self.inside.tasks.items c.args.task.0 ≡ Some c.index_mut-seat.result.now
+none_at c =
+    let ss = c.self.inside.tasks.items in
+    let found = rw c.deref.ensures.value at c.in-Some.ensures.lookup in
+    slice_get_read ss (length ss) c.args.task.0 c.index_mut-seat.result.now refl found.3.0 c.index_mut-seat.ensures.value
+
+none_done : (c : goal.Joined-right-10)
+    → Edited (state_of c.self.inside.opens.entries c.self.inside.tasks.items) (state_of c.self.inside.opens.entries (slice_set c.self.inside.tasks.items c.args.task.0 c.reserve_port.new.self)) (share_step c.args.task.0 c.args.right (state_of c.self.inside.opens.entries c.self.inside.tasks.items)) (Err ENOMEM)
+none_done c =
+    let ss = c.self.inside.tasks.items in
+    let found = rw c.deref.ensures.value at c.in-Some.ensures.lookup in
+    let seat = slice_get_read ss (length ss) c.args.task.0 c.in-Some.seat.now refl found.3.0 found.1 in
+    share-short c.self.inside.opens.entries ss c.args.task.0 c.in-Some.seat.now c.index_mut-seat.result.now c.reserve_port.new.self c.self.invariant.sound seat c.index_mut-seat.ensures.value c.args.right ENOMEM
+    (sym c.if-not-has_room.ensures) c.reserve_port.ensures.kept refl
+
+pub invariant_of-self-in_default-reserve_port : goal.invariant_of-self-in_default-reserve_port
+invariant_of-self-in_default-reserve_port c = record {
+  sound = (none_done c).sound;
+  counted =
+      counted-same c.self.inside.book c.reserve.new.self c.self.inside.tasks.items c.args.task.0 c.index_mut-seat.result.now c.reserve_port.new.self (none_at c) c.self.invariant.counted
+      (λ W. ap (λ (x : Task). weigh_list W (rights_of x)) c.reserve_port.ensures.kept) c.reserve.ensures.kept;
+  spare = tt;
+}
+
+pub returns-in_default-reserve_port-clause-answer : goal.returns-in_default-reserve_port-clause-answer
+returns-in_default-reserve_port-clause-answer c = rw (← c.self.view_is) (none_done c).step
+
+pub returns-in_default-reserve_port-clause-settled : goal.returns-in_default-reserve_port-clause-settled
+returns-in_default-reserve_port-clause-settled c = (none_done c).sound.settled
+
+-- and where they do
+
+at : (c : goal.After-self-2-1) → slice_get c.self.inside.tasks.items c.args.task.0 ≡ Some c.index_mut-seat.result.now
+at c =
+    let ss = c.self.inside.tasks.items in
+    let found = rw c.deref.ensures.value at c.in-Some.ensures.lookup in
+    slice_get_read ss (length ss) c.args.task.0 c.index_mut-seat.result.now refl found.3.0 c.index_mut-seat.ensures.value
+
+done : (c : goal.After-self-2-1)
+    → Edited (state_of c.self.inside.opens.entries c.self.inside.tasks.items) (state_of c.self.inside.opens.entries (slice_set c.self.inside.tasks.items c.args.task.0 c.add-2.new.self)) (share_step c.args.task.0 c.args.right (state_of c.self.inside.opens.entries c.self.inside.tasks.items)) (Ok c.add-2.result)
 done c =
     let ss = c.self.inside.tasks.items in
     let found = rw c.deref.ensures.value at c.in-Some.ensures.lookup in
     let seat = slice_get_read ss (length ss) c.args.task.0 c.in-Some.seat.now refl found.3.0 found.1 in
-    seat-shared c.self.inside.opens.entries c.self.inside.tasks.items c.args.task.0 c.in-Some.seat.now c.index_mut.result.now c.share-shared.new.self c.self.invariant.sound seat c.index_mut.ensures.value c.args.right c.share-shared.result
-    (sym c.if-not-has_room.ensures) c.share-shared.ensures
+    seat-shared c.self.inside.opens.entries ss c.args.task.0 c.in-Some.seat.now c.index_mut-seat.result.now c.add-2.new.self c.self.invariant.sound seat c.index_mut-seat.ensures.value c.reserve_port.new.self c.args.right c.add-2.result
+    (sym c.if-not-has_room.ensures) c.reserve_port.ensures.kept c.add-2.ensures.number c.add-2.ensures.added
+
+pub add-requires-clause-fits : goal.add-requires-clause-fits
+add-requires-clause-fits c = counts-fit c.reserve.new.self c.self.inside.tasks.items (counted-as c.self.inside.book c.reserve.new.self _ c.reserve.ensures.kept c.self.invariant.counted)
 
 pub invariant_of-self-2 : goal.invariant_of-self-2
-invariant_of-self-2 c = record {
-  sound = (done c).sound;
-  counted =
-      let ss = c.self.inside.tasks.items in
-      let found = rw c.deref.ensures.value at c.in-Some.ensures.lookup in
-      let seat = slice_get_read ss (length ss) c.args.task.0 c.index_mut.result.now refl found.3.0 c.index_mut.ensures.value in
-      let counts = rw (← c.reserve.ensures.entries) at c.self.invariant.counted in
-      counted-if c.reserve.new.self.entries c.hold_if.new.holders.entries ss c.args.task.0 c.index_mut.result.now c.share-shared.new.self c.args.right c.index_mut.result.now.next (with_port c.args.right (seat_task c.index_mut.result.now))
-      c.share-shared.result seat counts c.share-shared.ensures (λ o. namings-port o c.args.right (seat_task c.index_mut.result.now)) (rw (c.is_ok.ensures.value, c.open_name-open_name.ensures) at c.hold_if.ensures.more) (rw c.is_ok.ensures.value at c.hold_if.ensures.same);
-  spare = tt;
-}
-
-pub hold_if-requires-clause-fits : goal.hold_if-requires-clause-fits
-hold_if-requires-clause-fits c =
-    let tasks = c.self.inside.tasks in
-    let counts = rw (← c.reserve.ensures.entries) at c.self.invariant.counted in
-    counts-fit c.reserve.new.self.entries tasks.items counts (omega (arith, tasks.ok.0, tasks.ok.1, tasks.small))
+invariant_of-self-2 c =
+    let s = c.index_mut-seat.result.now in
+    let r = c.args.right in
+    let was = counted-as c.self.inside.book c.reserve.new.self _ c.reserve.ensures.kept c.self.invariant.counted in
+    record {
+      sound = (done c).sound;
+      counted =
+          counted-more c.reserve.new.self c.add.new.self c.self.inside.tasks.items c.args.task.0 s c.add-2.new.self (at c) was r
+          (λ W. ap (λ (x : Task). weigh_list W (rights_of x)) (c.add-2.ensures.added ∙ ap (with_port r) c.reserve_port.ensures.kept) ∙ port_weighs W r (seat_task s)) c.add.ensures.short c.add.ensures.more;
+      spare = tt;
+    }
 
 pub returns-clause-answer : goal.returns-clause-answer
 returns-clause-answer c = rw (← c.self.view_is) (done c).step
@@ -43,7 +83,4 @@ pub returns-clause-settled : goal.returns-clause-settled
 returns-clause-settled c = (done c).sound.settled
 
 pub returns-clause-new : goal.returns-clause-new
-returns-clause-new c = shared-new (state_of c.self.inside.opens.entries c.self.inside.tasks.items) _ c.self.invariant.sound c.args.task.0 c.args.right c.share-shared.result (done c).step
-
-pub invariant_of-self : goal.invariant_of-self
-invariant_of-self c = record { sound = c.self.invariant.sound; counted = rw c.reserve.ensures.entries c.self.invariant.counted; spare = tt }
+returns-clause-new c = shared-new (state_of c.self.inside.opens.entries c.self.inside.tasks.items) _ c.self.invariant.sound c.args.task.0 c.args.right (Ok c.add-2.result) (done c).step

@@ -1,8 +1,10 @@
-use Rattle.std.proofs.Common.{◌≡◌, List, [], ap, ap₂, arith}
+use Rattle.std.proofs.Common.{◌≡◌, List, [], length, true, sym, ap, ap₂, arith, length-append}
+use Rattle.std.proofs.lemmas.Bool.Decides.{nat_tests}
+use Rattle.hurd_creds.specs.declared.errno.Errno.{Errno}
 use Rattle.std.proofs.lemmas.Grind.{common_steps}
 use Rattle.std.proofs.lemmas.List.{nil_from_length}
 use Rattle.std.specs.Vec.Iter.{into_iter_items}
-use Rattle.std.specs.Prelude.{None}
+use Rattle.std.specs.Prelude.{None, Ok, Result, nat_le}
 use Rattle.hurd_ports.specs.Tables.{Task, PortState, Tables}
 use Rattle.hurd_ports.specs.Steps.{starting_at}
 use Rattle.hurd_ports.specs.Seats.{state_of}
@@ -32,11 +34,16 @@ begun c =
     started c.new-2.result.entries c.loop-ids.seats.items c.args.tasks.items c.loop-ids.yielded _ c.args.next c.new-2.ensures.empty c.loop-ids.invariant.seats c.loop-ids.invariant.all end
 
 pub returns : goal.returns
-returns c = ap (λ (h : PortState). let p : Tables = record { state = h; ready = None } in p) (begun c)
+returns c =
+    let within : nat_le (length c.args.tasks.items) 64 ≡ true = grind (arith, nat_tests, c.if-len-gt-MOST_TASKS.false, c.len.ensures, c.args.tasks.ok.0) in
+    rw within (ap (λ (h : PortState). let p : Result Tables Errno = Ok (record { state = h; ready = None }) in p) (sym (begun c)))
 
 pub invariant_of-result : goal.invariant_of-result
 invariant_of-result c = record {
   sound = rw (begun c) (sound-starting c.args.tasks.items c.args.next);
-  counted = counted-starting c.loop-ids.seats.items c.loop-ids.yielded c.args.next c.new-3.result.entries c.new-3.ensures.empty c.loop-ids.invariant.seats;
+  counted = counted-starting c.loop-ids.seats.items c.loop-ids.yielded c.args.next c.new-3.result c.new-3.ensures c.loop-ids.invariant.seats
+      (let all = ap length c.loop-ids.invariant.all in
+      let parts = length-append c.loop-ids.yielded (into_iter_items c.loop-ids.ids-iterator) in
+      omega (arith, c.if-len-gt-MOST_TASKS.false, c.len.ensures, c.args.tasks.ok.0));
   spare = tt;
 }

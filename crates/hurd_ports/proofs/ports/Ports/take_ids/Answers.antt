@@ -2,7 +2,8 @@ use Rattle.std.proofs.Common.{◌≡◌, ap, Some, length, refl, arith, slice_ge
 use Rattle.std.proofs.lemmas.Option.{slice_get_read}
 use Rattle.indexmap.specs.IndexMap.{spare}
 use Rattle.hurd_ports.specs.Tables.{Task, rights_of}
-use Rattle.hurd_ports.specs.Seats.{namings, state_of}
+use Rattle.hurd_ports.specs.Seats.{state_of}
+use Rattle.hurd_ports.specs.Weights.{weigh_list}
 use Rattle.hurd_ports.proofs.SeatLaws.{ready-kept}
 use Rattle.hurd_ports.proofs.EditLaws.{IdsTaken, seat-other_ids}
 use Rattle.hurd_ports.proofs.CountLaws.{counted-same}
@@ -22,8 +23,8 @@ done c =
 pub invariant_of-self : goal.invariant_of-self
 invariant_of-self c = record {
   sound = (done c).sound;
-  counted = counted-same c.self.inside.holders.entries c.self.inside.holders.entries c.self.inside.tasks.items c.args.task.0 c.index_mut.result.now c.take_ids.new.self (at c) c.self.invariant.counted (λ o. ap (λ (x : Task). namings o (rights_of x)) c.take_ids.ensures.ids);
-  spare = ready-kept (spare c.self.inside.opens) (spare c.self.inside.holders) c.self.inside.tasks.items c.self.inside.ready c.args.task.0 c.index_mut.result.now c.take_ids.new.self (at c) c.take_ids.ensures.ports c.self.invariant.spare;
+  counted = counted-same c.self.inside.book c.self.inside.book c.self.inside.tasks.items c.args.task.0 c.index_mut.result.now c.take_ids.new.self (at c) c.self.invariant.counted (λ W. ap (λ (x : Task). weigh_list W (rights_of x)) c.take_ids.ensures.ids) (λ k n. refl);
+  spare = ready-kept (spare c.self.inside.opens) c.self.inside.book c.self.inside.tasks.items c.self.inside.ready c.args.task.0 c.index_mut.result.now c.take_ids.new.self (at c) c.take_ids.ensures.ports c.self.invariant.spare;
 }
 
 pub returns-clause-answer : goal.returns-clause-answer

@@ -1,8 +1,9 @@
-use Rattle.std.proofs.Common.{◌≡◌, ◌<◌, Some, slice_get, ap, sym, ◌∙◌}
+use Rattle.std.proofs.Common.{◌≡◌, ◌<◌, Some, slice_get, refl, ap, sym, ◌∙◌}
 use Rattle.std.specs.Option.{option_map}
 use Rattle.indexmap.specs.IndexMap.{spare}
 use Rattle.hurd_ports.specs.Tables.{Task, rights_of, fresh, u64_greatest}
-use Rattle.hurd_ports.specs.Seats.{namings, seat_task, state_of}
+use Rattle.hurd_ports.specs.Seats.{seat_task, state_of}
+use Rattle.hurd_ports.specs.Weights.{weigh_list}
 use Rattle.hurd_ports.proofs.SeatLaws.{seat-found, seat-there, seat-named, ready-kept}
 use Rattle.hurd_ports.proofs.SoundLaws.{sound-named}
 use Rattle.hurd_ports.proofs.CountLaws.{counted-same}
@@ -23,8 +24,8 @@ invariant_of-self c =
       sound =
           rw (seat-named os ss c.args.task.0 s c.take_name.new.self (at c) c.take_name.ensures.named)
           (sound-named (state_of os ss) c.args.task.0 (seat_task s) c.self.invariant.sound (seat-there ss c.args.task.0 s (at c)));
-      counted = counted-same c.self.inside.holders.entries c.self.inside.holders.entries c.self.inside.tasks.items c.args.task.0 c.index_mut.result.now c.take_name.new.self (at c) c.self.invariant.counted (λ o. ap (λ (x : Task). namings o (rights_of x)) c.take_name.ensures.named);
-      spare = ready-kept (spare c.self.inside.opens) (spare c.self.inside.holders) ss c.self.inside.ready c.args.task.0 s c.take_name.new.self (at c) c.take_name.ensures.ports c.self.invariant.spare;
+      counted = counted-same c.self.inside.book c.self.inside.book c.self.inside.tasks.items c.args.task.0 c.index_mut.result.now c.take_name.new.self (at c) c.self.invariant.counted (λ W. ap (λ (x : Task). weigh_list W (rights_of x)) c.take_name.ensures.named) (λ k n. refl);
+      spare = ready-kept (spare c.self.inside.opens) c.self.inside.book ss c.self.inside.ready c.args.task.0 s c.take_name.new.self (at c) c.take_name.ensures.ports c.self.invariant.spare;
     }
 
 pub returns-clause-name : goal.returns-clause-name

@@ -1,0 +1,89 @@
+-- What rights name, and how often it is counted.
+use Rattle.std.specs.Prelude.{◌≡◌, ℕ, ◌-◌, ◌≤◌, Bool, List, [], ◌∷◌, length, Option, Some, None, nat_lt}
+use Rattle.std.specs.Map.{lookup}
+use Rattle.indexmap.specs.IndexMap.{spare}
+use Rattle.hurd_creds.specs.declared.name.Name.{Name}
+use Rattle.hurd_creds.specs.Names.{same_name}
+use Rattle.hurd_creds.specs.Limits.{most_tasks}
+use Rattle.hurd_ports.specs.Limits.{most_parents}
+use Rattle.hurd_ports.specs.Weights.{count_list}
+use Rattle.hurd_ports.specs.Tables.{Task, nodes_of, weigh_rights}
+use Rattle.hurd_ports.specs.declared.table.Right.{Right}
+use Rattle.hurd_ports.specs.declared.table.Right.TheVariants.{Io, Control, Start}
+use Rattle.hurd_ports.specs.declared.book.Book.{Book}
+
+-- what can be named: an open, a node, a server
+pub data Sort : Type 0 where
+  Opens : Sort
+  Nodes : Sort
+  Servers : Sort
+
+-- the names of a sort that a right has
+abbrev pub names_of : Sort → Right → List Name
+names_of Opens (Io r) = r.open_name ∷ []
+names_of Opens (Control s) = []
+names_of Opens (Start n) = []
+names_of Nodes r = nodes_of r
+names_of Servers (Io r) = []
+names_of Servers (Control s) = s ∷ []
+names_of Servers (Start n) = []
+
+-- how often a right names something
+abbrev pub naming : Sort → Name → Right → ℕ
+naming k n r = count_list (same_name n) (names_of k r)
+
+-- how many ways a right has beyond those that it can have
+abbrev pub excess : Right → ℕ
+excess (Io r) = length r.parents - most_parents
+excess (Control s) = 0
+excess (Start n) = 0
+
+-- a count; where there is none, nothing is counted
+abbrev pub or_none : Option ℕ → ℕ
+or_none None = 0
+or_none (Some k) = k
+
+-- how often the name is counted
+abbrev pub counted : List (Name × ℕ) → Name → ℕ
+counted es n = or_none (lookup (same_name n) es)
+
+-- the counts of a sort
+abbrev pub entries_of : Sort → Book → List (Name × ℕ)
+entries_of Opens b = b.opens.entries
+entries_of Nodes b = b.nodes.entries
+entries_of Servers b = b.servers.entries
+
+-- how often something is counted
+abbrev pub count_of : Sort → Name → Book → ℕ
+count_of k n b = counted (entries_of k b) n
+
+-- whether it is counted at all
+abbrev pub is_counted : Sort → Book → Name → Bool
+is_counted k b n = nat_lt 0 (count_of k n b)
+
+-- for how many names more of a sort there is room in memory
+abbrev pub room_in : Sort → Book → ℕ
+room_in Opens b = spare b.opens
+room_in Nodes b = spare b.nodes
+room_in Servers b = spare b.servers
+
+-- how many names of a sort a right can have
+abbrev pub room_for : Sort → ℕ
+room_for Opens = 1
+room_for Nodes = 129
+room_for Servers = 1
+
+-- there is room for what one right names
+abbrev pub HasRoom : Book → Type 0
+HasRoom b = (k : Sort) → room_for k ≤ room_in k b
+
+-- 2^100. Nothing is counted so often: there are 64 tasks at most, each has fewer than 2^64 rights, and a right names a thing 129 times
+-- at most
+abbrev pub most_counted : ℕ
+most_counted = 1267650600228229401496703205376
+
+-- the counts are those of the rights of all tasks; tasks are few and ways are short, so that a count fits
+pub record AreCounted (b : Book) (ts : List Task) : Type 0 where
+  pub all : (k : Sort) (n : Name) → count_of k n b ≡ weigh_rights (naming k n) ts
+  pub few : length ts ≤ most_tasks
+  pub short : weigh_rights excess ts ≡ 0
