@@ -2,7 +2,7 @@
 use Rattle.std.specs.Prelude.{Option, Result, IfErr, OnOk}
 use Rattle.std.specs.Io.KnownBytes.{Appends}
 use Rattle.std.specs.List.{concat}
-use Rattle.std.proofs.Common.{◌≡◌, length, true, nat_lt, ℕ, List, [], Ok, Err, refl, inl, ◌∙◌, ap, map}
+use Rattle.std.proofs.Common.{◌≡◌, ◌≢◌, inr, length, true, nat_lt, ℕ, List, [], Ok, Err, refl, inl, ◌∙◌, ap, map}
 use Rattle.std.proofs.lemmas.Bool.{lt-ltb}
 use Rattle.hurd_creds.specs.Limits.{most_script}
 use Rattle.hurd_lists.specs.Lists.{Standing, listed_by, reading_of, said_by}
@@ -56,3 +56,13 @@ pub all_added : {S W : Type 0} (f : S → Meaning) (output : Output W) (before a
 all_added f output before after text list w (Ok done) read here ok err = (_, ok, (ap bad_line read, rw (read, here) refl))
 all_added f output before after text list w (Err fault) read here ok err =
     front_added output before after text (said_by f list) fault read err.0 (rw read (rw here at err.1))
+
+-- a fault of printing is none of reading, and blames the output where it is one of writing
+
+pub read_nowhere : {W : Type 0} (o : Output W) (Q : Fault → Type 0) (r : Result (Unit {0}) Fault) → IfErr r (λ f. IsPrintFault o f × Q f) → r ≢ Err Read
+read_nowhere o Q (Ok u) err is = absurd (cc (is))
+read_nowhere o Q (Err f) err is = elim err.0 [ inl w ↦ absurd (cc (is, w.0)) | inr m ↦ absurd (cc (is, m)) ]
+
+pub write_blamed : {W : Type 0} (o : Output W) (Q : Fault → Type 0) (r : Result (Unit {0}) Fault) → IfErr r (λ f. IsPrintFault o f × Q f) → r ≡ Err Write → o.failed ≡ true
+write_blamed o Q (Ok u) err is = absurd (cc (is))
+write_blamed o Q (Err f) err is = elim err.0 [ inl w ↦ w.1 | inr m ↦ absurd (cc (is, m)) ]
