@@ -1,7 +1,8 @@
 -- Which opens are held, and which are left once a world is settled.
-use Rattle.std.proofs.Common.{◌≡◌, ℕ, zero, suc, ◌+◌, ◌||◌, Bool, true, false, List, [], ◌∷◌, Some, None, slice_get, nat_lt, refl, ap, inl, inr, arith}
+use Rattle.std.proofs.Common.{◌≡◌, ℕ, zero, suc, Bool, true, List, [], ◌∷◌, Some, None, slice_get, nat_lt, refl, ap, ◌∙◌, inl, inr}
 use Rattle.std.proofs.lemmas.Bool.{or_cases, or_right}
-use Rattle.std.proofs.lemmas.Bool.Decides.{nat_tests}
+use Rattle.std.proofs.lemmas.List.Folds.{list_any_at}
+use Rattle.std.proofs.lemmas.Option.{slice_get_within, get_or_from_slice_get}
 use Rattle.std.specs.List.{list_any}
 use Rattle.std.specs.FinMap.{retain_keys}
 use Rattle.hurd_creds.specs.declared.name.Name.{Name}
@@ -11,31 +12,23 @@ use Rattle.hurd_ports.specs.declared.table.Opened.{Opened}
 use Rattle.hurd_ports.specs.declared.table.IoRight.{IoRight}
 use Rattle.hurd_ports.specs.declared.table.Right.{Right}
 use Rattle.hurd_ports.specs.declared.table.Right.TheVariants.{Io, Control}
-use Rattle.hurd_ports.specs.Tables.{Task, rights_of, names_open, names_node, names_server, nodes_of, count_rights, is_held, is_named, is_controlled}
+use Rattle.hurd_ports.specs.Tables.{Task, rights_of, names_open, names_node, names_server, nodes_of, is_held, is_named, is_controlled}
 use Rattle.hurd_ports.specs.Steps.{edit_task}
-use Rattle.hurd_ports.proofs.HeldLaws.{any-at}
+use Rattle.hurd_ports.proofs.HeldLaws.{one_told}
 use Rattle.hurd_machine.specs.World.{World, IsAmong, open_at}
 use Rattle.hurd_ports.specs.Weights.{one_if, count_list}
-use Rattle.hurd_ports.proofs.WeightLaws.{list_weighed, tasks_weighed}
+use Rattle.hurd_ports.proofs.WeightLaws.{list_weighed}
 use Rattle.hurd_machine.proofs.Retained.{retained, none_retained, was_retained}
 use Rattle.hurd_machine.proofs.Tasks.{edit_still}
 
--- an open is held where some right counts
-
-counted_one : (b : Bool) → b ≡ nat_lt 0 (one_if b)
-counted_one true = refl
-counted_one false = refl
+-- a list has something that passes a test where it counts
 
 pub list_counted : {X : Type 0} (T : X → Bool) (xs : List X) → list_any T xs ≡ nat_lt 0 (count_list T xs)
-list_counted T xs = list_weighed T (λ x. one_if (T x)) (λ x. counted_one (T x)) xs
+list_counted T xs = list_weighed T (λ x. one_if (T x)) (λ x. one_told (T x)) xs
 
 -- some right of some task passes a test
 abbrev pub any_right : (Right → Bool) → List Task → Bool
 any_right T ts = list_any (λ (x : Task). list_any T (rights_of x)) ts
-
-pub held_counted : (ts : List Task) (o : Name) → is_held ts o ≡ nat_lt 0 (count_rights (names_open o) ts)
-unfolding is_held
-held_counted ts o = tasks_weighed (names_open o) (λ r. one_if (names_open o r)) (λ r. counted_one (names_open o r)) ts
 
 -- whether some element passes a test
 
@@ -67,8 +60,11 @@ held_by T ts h =
     let r = any_of T (rights_of t.1) t.3 in
     record { task = t.0; seat = t.1; is_task = t.2; right = r.0; here = r.1; passes = r.2 }
 
+any_at : {X : Type 0} (T : X → Bool) (xs : List X) (i : ℕ) (x : X) → slice_get xs i ≡ Some x → T x ≡ true → list_any T xs ≡ true
+any_at T xs i x at is = list_any_at T xs i x (slice_get_within xs i x at) (ap T (get_or_from_slice_get xs i x x at) ∙ is)
+
 pub is_any : (T : Right → Bool) (ts : List Task) → HeldBy T ts → any_right T ts ≡ true
-is_any T ts h = any-at (λ (z : Task). list_any T (rights_of z)) ts h.task h.seat h.is_task (any_among T h.right (rights_of h.seat) h.here h.passes)
+is_any T ts h = any_at (λ (z : Task). list_any T (rights_of z)) ts h.task h.seat h.is_task (any_among T h.right (rights_of h.seat) h.here h.passes)
 
 -- a task function that takes no right away
 abbrev pub KeepsRights : (Task → Task) → Type 0

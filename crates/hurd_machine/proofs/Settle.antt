@@ -26,7 +26,8 @@ use Rattle.hurd_machine.specs.Change.{Change, EditHeader, EditBody, MakeNode, Ed
 use Rattle.hurd_machine.specs.Sound.{Coherent, Linked, AtRest}
 use Rattle.hurd_machine.proofs.Nodes.{attr_same, header_in, body_in, empty_in, no_header, no_body, no_emptiness, edit_keeps, edited_from}
 use Rattle.hurd_machine.proofs.Tasks.{count_alike, sent_keeps, edit_here as task_here}
-use Rattle.hurd_machine.proofs.Holders.{let_go, held_counted, held_stays, none_stays, left_over, held_by_right, KeepsRights, held_still, named_still, controlled_still}
+use Rattle.hurd_ports.proofs.HeldLaws.{held_counted}
+use Rattle.hurd_machine.proofs.Holders.{let_go, held_stays, none_stays, left_over, held_by_right, KeepsRights, held_still, named_still, controlled_still}
 use Rattle.hurd_machine.proofs.Stays.{sweep, way_at, way_parent, server_more, kept_more, lives_at, lives_active, lives_controlled, stays_entered, stays_named, node_still, home_still, active_still, server_still, node_gone, home_gone, active_gone, server_gone, node_left, server_left, none_left, no_home_left, no_active_left, no_server_left}
 use Rattle.hurd_machine.proofs.Swept.{header_server, root_stays, boot_stays, entry_stays, parent_stays, settle_keeps}
 use Rattle.hurd_machine.proofs.Coherence.{was, entry_lists}

@@ -23,6 +23,7 @@ use Rattle.hurd_ports.specs.Steps.{new_task}
 use Rattle.hurd_ports.specs.Counts.{AreCounted, Nodes, Opens, Servers, Sort, count_of, counted, excess, most_counted, names_of, naming, or_none}
 use Rattle.hurd_ports.specs.Seats.{seat_task, tasks_of}
 use Rattle.hurd_ports.proofs.SeatLaws.{seat-there, seat-changed}
+use Rattle.hurd_ports.proofs.HeldLaws.{held_counted, one_told}
 use Rattle.hurd_ports.proofs.WeightLaws.{list_weighed, tasks_weighed, weigh_alike, weigh_append, weigh_at, weigh_bound, weigh_set}
 
 module _ {S : Type 0} (m l : IndexMap Name ℕ S) (n : Name) where
@@ -95,17 +96,10 @@ name_turned a b = elim (same_or_apart a b) [
   | inr apart ↦ same_name-apart a b apart ∙ sym (same_name-apart b a (λ e. apart (sym e)))
 ]
 
-one_told : (b : Bool) → b ≡ nat_lt 0 (one_if b)
-one_told true = refl
-one_told false = refl
-
 pub opens_told : (n : Name) (r : Right) → one_if (names_open n r) ≡ naming Opens n r
 opens_told n (Io r) = omega (arith, ap one_if (name_turned r.open_name n))
 opens_told n (Control s) = refl
 opens_told n (Start m) = refl
-
-named_told : (n : Name) (r : Right) → names_open n r ≡ nat_lt 0 (naming Opens n r)
-named_told n r = one_told (names_open n r) ∙ ap (nat_lt 0) (opens_told n r)
 
 nodes_told : (n : Name) (r : Right) → names_node n r ≡ nat_lt 0 (naming Nodes n r)
 nodes_told n r = list_weighed (λ m. same_name n m) (λ m. one_if (same_name n m)) (λ m. one_told (same_name n m)) (names_of Nodes r)
@@ -117,10 +111,6 @@ servers_told n (Start m) = refl
 
 -- and the same of all rights
 
-pub held-counted : (ts : List Task) (n : Name) → is_held ts n ≡ nat_lt 0 (weigh_rights (naming Opens n) ts)
-unfolding is_held
-held-counted ts n = tasks_weighed (names_open n) (naming Opens n) (named_told n) ts
-
 pub named-counted : (ts : List Task) (n : Name) → is_named ts n ≡ nat_lt 0 (weigh_rights (naming Nodes n) ts)
 unfolding is_named
 named-counted ts n = tasks_weighed (names_node n) (naming Nodes n) (nodes_told n) ts
@@ -131,6 +121,9 @@ controlled-counted ts n = tasks_weighed (names_server n) (naming Servers n) (ser
 
 pub opens-counted : (ts : List Task) (n : Name) → count_rights (names_open n) ts ≡ weigh_rights (naming Opens n) ts
 opens-counted ts n = weigh_alike (λ r. one_if (names_open n r)) (naming Opens n) (opens_told n) ts
+
+pub held-counted : (ts : List Task) (n : Name) → is_held ts n ≡ nat_lt 0 (weigh_rights (naming Opens n) ts)
+held-counted ts n = held_counted ts n ∙ ap (nat_lt 0) (opens-counted ts n)
 
 -- other counts that say the same
 pub counted-as : (b l : Book) (ts : List Task) → ((k : Sort) (n : Name) → count_of k n l ≡ count_of k n b) → AreCounted b ts → AreCounted l ts

@@ -1,11 +1,9 @@
--- One task that is changed, where its rights still hold what they held.
-use Rattle.std.proofs.Common.{◌≡◌, ◌⊎◌, inl, inr, ℕ, ◌<◌, ◌≤◌, List, [], ◌∷◌, ◌++◌, Bool, true, false, cond, if◌then◌else◌, map, length, refl, ap, sym, subst, ◌∙◌, append_assoc, arith}
-use Rattle.std.proofs.lemmas.List.{length-map, map_push}
+-- One task that is changed, where its rights still name the opens that they named.
+use Rattle.std.proofs.Common.{◌≡◌, ◌⊎◌, inl, inr, ℕ, ◌<◌, ◌≤◌, List, [], ◌∷◌, Bool, true, false, cond, if◌then◌else◌, length, refl, ap, sym, subst, ◌∙◌, arith}
+use Rattle.std.proofs.lemmas.List.{length-map}
 use Rattle.std.proofs.lemmas.Bool.Decides.{nat_tests}
-use Rattle.std.specs.Prelude.{IfOk, Option, Some, None, Result, Ok, Err, slice_get, slice_set, slice_index_or, nat_lt, ◌||◌}
+use Rattle.std.specs.Prelude.{IfOk, Option, Some, None, Result, Ok, Err, slice_get, slice_set, slice_index_or, nat_lt}
 use Rattle.std.proofs.lemmas.Option.{get_or_from_slice_get}
-use Rattle.std.proofs.lemmas.List.Folds.{list_any-append}
-use Rattle.std.specs.List.{list_any}
 use Rattle.std.specs.Option.{option_map}
 use Rattle.hurd_creds.specs.declared.name.Name.{Name}
 use Rattle.hurd_creds.specs.declared.errno.Errno.{Errno}
@@ -17,41 +15,34 @@ use Rattle.hurd_ports.specs.declared.table.Right.{Right}
 use Rattle.hurd_ports.specs.declared.table.PendingStart.{PendingStart}
 use Rattle.hurd_ports.specs.declared.table.Port.{Port}
 use Rattle.hurd_ports.specs.declared.table.TaskSeat.{TaskSeat}
-use Rattle.hurd_ports.specs.Tables.{Task, PortState, has_room, is_held, names_open, or_refuse, right_at, right_of, rights_of, start_of}
+use Rattle.hurd_ports.specs.Weights.{one_if, count_list}
+use Rattle.hurd_ports.specs.Tables.{Task, PortState, has_room, names_open, or_refuse, right_at, right_of, start_of}
 use Rattle.hurd_ports.specs.Steps.{edit_task, pend_at, pend_step, received, receive_at, receive_step, sent_to, send_step, share_at, share_step, take_ids_at, take_ids_step, taken_by, with_ids, with_pending, with_port, with_sent}
 use Rattle.hurd_ports.specs.Sound.{IsSound, NumbersRise}
 use Rattle.hurd_ports.specs.Seats.{OpenEntry, seat_task, tasks_of, state_of}
 use Rattle.hurd_ports.proofs.TaskLaws.{one_or_other, set-same, edit-apart, edit-found, edit-here}
-use Rattle.hurd_ports.proofs.HeldLaws.{any-grows, holds, holds_by, keeps, or_first, ported}
+use Rattle.hurd_ports.proofs.WeightLaws.{pending_weighs, port_weighs, weigh_received, weigh_sent}
+use Rattle.hurd_ports.proofs.HeldLaws.{held-grows, namings}
 use Rattle.hurd_ports.proofs.SoundLaws.{given-set, next_found, numbers-set, rise-push}
 use Rattle.hurd_ports.proofs.SeatLaws.{same_halves, seat-there, seat-changed}
 
--- the rights of a task that received are those that it had, in their order
-pub received-rights : (x : Task) → rights_of (received x) ≡ rights_of x
-received-rights x = go x.inbox refl
-  where
-    go : (l : List Right) → x.inbox ≡ l → rights_of (received x) ≡ rights_of x
-    go [] e = rw e refl
-    go (r ∷ rs) e =
-        let old : List Right = map (λ (p : Port). p.right) x.ports in
-        rw e
-        (ap (λ (l : List Right). start_of x.pending ++ l)
-        (ap (λ (l : List Right). l ++ rs) (map_push (λ (p : Port). p.right) x.ports (record { number = x.next; right = r })) ∙ append_assoc old (r ∷ []) rs))
+itself : (k : ℕ) → k ≤ k
+itself k = omega arith
+
+-- a pending start names no open
+none_opened : (n : Name) (p : Option PendingStart) → count_list (names_open n) (start_of p) ≡ 0
+none_opened n None = refl
+none_opened n (Some q) = refl
 
 -- the tables with this task in its place
 abbrev pub put : PortState → ℕ → Task → PortState
 put h t y = record h { tasks = slice_set h.tasks t y }
 
--- what a task holds that keeps all that it holds
-pub held-grows : (ts : List Task) (t : ℕ) (x y : Task) (n : Name) → slice_get ts t ≡ Some x → (holds n x ≡ true → holds n y ≡ true) → is_held ts n ≡ true → is_held (slice_set ts t y) n ≡ true
-unfolding is_held
-held-grows ts t x y n at grows h = any-grows (holds n) ts t x y at grows h
-
 module _ (h : PortState) (t : ℕ) (x : Task) (sound : IsSound h) (at : slice_get h.tasks t ≡ Some x) where
   -- such a task may stand in its place
-  pub sound-put : (y : Task) → ((n : Name) → holds n x ≡ true → holds n y ≡ true) → x.made ≤ y.made → NumbersRise 0 y.next y.ports → IsSound (put h t y)
-  sound-put y grows made rise = record {
-    settled = λ q w is. held-grows h.tasks t x y q at (grows q) (sound.settled q w is);
+  pub sound-put : (y : Task) → ((n : Name) → namings n x ≤ namings n y) → x.made ≤ y.made → NumbersRise 0 y.next y.ports → IsSound (put h t y)
+  sound-put y more made rise = record {
+    settled = λ q w is. held-grows h.tasks t x y q at (more q) (sound.settled q w is);
     given = λ q w is. given-set h.tasks t x y q at made (sound.given q w is);
     numbered = numbers-set h.tasks t x y at sound.numbered rise;
   }
@@ -83,23 +74,14 @@ module _ (h : PortState) (t : ℕ) (x : Task) (sound : IsSound h) (at : slice_ge
   pub sound-shared : (r : Right) → IsSound (put h t (with_port r x))
   sound-shared r =
       let p : Port = record { number = x.next; right = r } in
-      sound-put h t x sound at (with_port r x) (λ n. keeps x (with_port r x) p refl refl n) (omega arith) (rise-push 0 x.next x.ports p refl (sound.numbered t x at))
+      sound-put h t x sound at (with_port r x) (λ n. omega (arith, port_weighs (λ z. one_if (names_open n z)) r x)) (omega arith) (rise-push 0 x.next x.ports p refl (sound.numbered t x at))
 
   pub share-done : (r : Right) → has_room 0 x ≡ true → share_step t r h ≡ (Ok x.next, put h t (with_port r x))
   share-done r room = ap (share_at h t r) at ∙ rw room (put-found x.next (with_port r))
 
   -- one that is sent
   pub sound-sent : (r : Right) → IsSound (put h t (with_sent r x))
-  sound-sent r = sound-put h t x sound at (with_sent r x) grows (omega arith) (sound.numbered t x at)
-    where
-      grows : (n : Name) → holds n x ≡ true → holds n (with_sent r x) ≡ true
-      grows n e =
-          holds_by n (with_sent r x) ∙ ap (λ b. ported n x.ports || b) (list_any-append (names_open n) x.inbox (r ∷ []))
-          ∙ wider (ported n x.ports) (list_any (names_open n) x.inbox) (list_any (names_open n) (r ∷ [])) (sym (holds_by n x) ∙ e)
-        where
-          wider : (a b c : Bool) → (a || b) ≡ true → (a || (b || c)) ≡ true
-          wider true b c e = refl
-          wider false b c e = or_first b c e
+  sound-sent r = sound-put h t x sound at (with_sent r x) (λ n. omega (arith, weigh_sent (λ z. one_if (names_open n z)) r x)) (omega arith) (sound.numbered t x at)
 
   pub send-done : (r : Right) → t < length h.tasks → sent_to h t (Ok r) ≡ (Ok tt, put h t (with_sent r x))
   send-done r below =
@@ -108,7 +90,7 @@ module _ (h : PortState) (t : ℕ) (x : Task) (sound : IsSound h) (at : slice_ge
 
   -- the first of the inbox, as a port
   pub sound-received : IsSound (put h t (received x))
-  sound-received = sound-put h t x sound at (received x) (λ n e. ap (list_any (names_open n)) (received-rights x) ∙ e) (made x.inbox refl) (rises x.inbox refl)
+  sound-received = sound-put h t x sound at (received x) (λ n. omega (arith, weigh_received (λ z. one_if (names_open n z)) x)) (made x.inbox refl) (rises x.inbox refl)
     where
       made : (l : List Right) → x.inbox ≡ l → x.made ≤ (received x).made
       made [] e = rw e (omega arith)
@@ -127,14 +109,15 @@ module _ (h : PortState) (t : ℕ) (x : Task) (sound : IsSound h) (at : slice_ge
 
   -- other ids
   pub sound-other_ids : (ids : IdSets) → IsSound (put h t (with_ids ids x))
-  sound-other_ids ids = sound-put h t x sound at (with_ids ids x) (λ n e. e) (omega arith) (sound.numbered t x at)
+  sound-other_ids ids = sound-put h t x sound at (with_ids ids x) (λ n. itself (namings n x)) (omega arith) (sound.numbered t x at)
 
   pub take_ids-done : (ids : IdSets) → take_ids_step t ids h ≡ (Ok tt, put h t (with_ids ids x))
   take_ids-done ids = ap (take_ids_at h t ids) at ∙ put-found tt (with_ids ids)
 
   -- other things to start
   pub sound-pending : (p : Option PendingStart) → IsSound (put h t (with_pending p x))
-  sound-pending p = sound-put h t x sound at (with_pending p x) (λ n e. holds_by n (with_pending p x) ∙ sym (holds_by n x) ∙ e) (omega arith) (sound.numbered t x at)
+  sound-pending p =
+      sound-put h t x sound at (with_pending p x) (λ n. omega (arith, pending_weighs (λ z. one_if (names_open n z)) p x, none_opened n p, none_opened n x.pending)) (omega arith) (sound.numbered t x at)
 
   pub pend-done : (p : Option PendingStart) → pend_step t p h ≡ (Ok tt, put h t (with_pending p x))
   pend-done p = ap (pend_at h t p) at ∙ put-found tt (with_pending p)

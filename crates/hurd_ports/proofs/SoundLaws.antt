@@ -13,13 +13,15 @@ use Rattle.hurd_ports.specs.declared.parents.Parent.{Parent}
 use Rattle.hurd_ports.specs.declared.table.Opened.{Opened}
 use Rattle.hurd_ports.specs.declared.table.Port.{Port}
 use Rattle.hurd_ports.specs.declared.table.Right.{Right}
-use Rattle.hurd_ports.specs.Tables.{Task, PortState, OpenMap, is_held, fresh, right_in, right_of}
+use Rattle.hurd_ports.specs.Weights.{one_if}
+use Rattle.hurd_ports.specs.Tables.{Task, PortState, OpenMap, is_held, names_open, fresh, right_in, right_of}
 use Rattle.hurd_ports.specs.Steps.{new_task, starting_at, named, new_open, new_right, with_port, with_new_port, without_port, ports_without, settle_opens, name_step}
 use Rattle.hurd_ports.specs.Sound.{IsSound, IsGiven, NumbersRise}
 use Rattle.hurd_creds.specs.declared.errno.Errno.TheVariants.{EBADF}
 use Rattle.hurd_ports.proofs.PlaceLaws.{same_test, apart_test}
 use Rattle.hurd_ports.proofs.TaskLaws.{set-here, set-apart, set-cases, one_or_other, map-origin, edit-found, edit-edit}
-use Rattle.hurd_ports.proofs.HeldLaws.{held-push, held-here, held-kept}
+use Rattle.hurd_ports.proofs.WeightLaws.{port_weighs}
+use Rattle.hurd_ports.proofs.HeldLaws.{held-alike, held-grows, held-here, names_own, namings}
 
 -- numbers
 
@@ -99,7 +101,7 @@ module _ (h : PortState) (t : ℕ) (x : Task) (sound : IsSound h) (at : slice_ge
     where
       kept : IsSound (record h { tasks = slice_set h.tasks t (named 1 x) })
       kept = record {
-        settled = λ q w is. held-kept h.tasks t x (named 1 x) q at refl refl ∙ sound.settled q w is;
+        settled = λ q w is. held-alike h.tasks t x (named 1 x) q at refl ∙ sound.settled q w is;
         given = λ q w is. given-set h.tasks t x (named 1 x) q at (omega arith) (sound.given q w is);
         numbered = numbers-set h.tasks t x (named 1 x) at sound.numbered (sound.numbered t x at);
       }
@@ -117,11 +119,14 @@ module _ (h : PortState) (t : ℕ) (x : Task) (sound : IsSound h) (at : slice_ge
       y : Task
       y = with_port right (named 1 x)
 
+      more : (q : Name) → namings q y ≡ namings q x + one_if (names_open q right)
+      more q = port_weighs (λ z. one_if (names_open q z)) right (named 1 x)
+
       added : IsSound (record { opens = fin.insert h.opens (fresh t x) (new_open modes); tasks = slice_set h.tasks t y })
       added = record {
         settled = λ q w is. elim (same_or_apart q (fresh t x)) [
-          | inl e ↦ held-here x y port refl refl q h.tasks t at (ap Some (sym e))
-          | inr apart ↦ held-push x y port refl refl q h.tasks t at (sound.settled q w (sym (get_apart h.opens (fresh t x) (new_open modes) q apart) ∙ is))
+          | inl e ↦ held-here h.tasks t x y q at (omega (arith, more q, ap one_if (names_own q right (ap Some (sym e)))))
+          | inr apart ↦ held-grows h.tasks t x y q at (omega (arith, more q)) (sound.settled q w (sym (get_apart h.opens (fresh t x) (new_open modes) q apart) ∙ is))
         ];
         given = λ q w is. elim (same_or_apart q (fresh t x)) [
           | inl e ↦ rw (e, set-here h.tasks t x y at) (omega arith)

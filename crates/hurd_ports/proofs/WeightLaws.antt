@@ -1,5 +1,5 @@
 -- What rights weigh together, after each change of a task.
-use Rattle.std.proofs.Common.{◌≡◌, ℕ, zero, suc, ◌+◌, ◌*◌, ◌≤◌, ◌==◌, ◌||◌, Bool, true, false, List, [], ◌∷◌, ◌++◌, length, map, refl, ap, ◌∙◌, arith}
+use Rattle.std.proofs.Common.{◌≡◌, append_assoc, ℕ, zero, suc, ◌+◌, ◌*◌, ◌≤◌, ◌==◌, ◌||◌, Bool, true, false, List, [], ◌∷◌, ◌++◌, length, map, refl, ap, ◌∙◌, arith}
 use Rattle.std.proofs.lemmas.Bool.Decides.{nat_tests}
 use Rattle.std.proofs.lemmas.List.{map_push}
 use Rattle.std.specs.Prelude.{Option, Some, slice_get, slice_set, nat_lt}
@@ -11,7 +11,6 @@ use Rattle.hurd_ports.specs.Weights.{weigh_list}
 use Rattle.hurd_ports.specs.Tables.{Task, rights_of, right_in, start_of, weigh_rights}
 use Rattle.hurd_ports.specs.Steps.{edit_task, received, with_pending, with_port, with_sent, without_port, ports_without}
 use Rattle.hurd_ports.proofs.TaskLaws.{edit-found}
-use Rattle.hurd_ports.proofs.EditLaws.{received-rights}
 
 -- lists
 
@@ -95,7 +94,18 @@ weigh_sent W r x =
     let more = weigh_append W x.inbox (r ∷ []) in
     omega arith
 
--- the first of the inbox as a port
+-- the first of the inbox as a port: the rights are those that there were, in their order
+received-rights : (x : Task) → rights_of (received x) ≡ rights_of x
+received-rights x = go x.inbox refl
+  where
+    go : (l : List Right) → x.inbox ≡ l → rights_of (received x) ≡ rights_of x
+    go [] e = rw e refl
+    go (r ∷ rs) e =
+        let old : List Right = map (λ (p : Port). p.right) x.ports in
+        rw e
+        (ap (λ (l : List Right). start_of x.pending ++ l)
+        (ap (λ (l : List Right). l ++ rs) (map_push (λ (p : Port). p.right) x.ports (record { number = x.next; right = r })) ∙ append_assoc old (r ∷ []) rs))
+
 pub weigh_received : (W : Right → ℕ) (x : Task) → weigh_list W (rights_of (received x)) ≡ weigh_list W (rights_of x)
 weigh_received W x = ap (weigh_list W) (received-rights x)
 
