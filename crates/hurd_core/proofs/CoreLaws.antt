@@ -1,5 +1,5 @@
 -- What becomes of one half of the world is what the machine's changes make of all of it.
-use Rattle.std.proofs.Common.{◌≡◌, ◌∙◌, inl, inr, ℕ, Bool, true, false, option_map, List, [], ◌∷◌, ◌++◌, Option, Some, None, refl, sym, ap, subst, slice_get, true≢false}
+use Rattle.std.proofs.Common.{◌≡◌, ◌∙◌, inl, inr, ℕ, Bool, true, false, option_map, List, [], ◌∷◌, Option, Some, None, refl, sym, ap, slice_get, true≢false}
 use Rattle.std.specs.Prelude.{Result, Ok, Err, is_ok, if◌then◌else◌}
 use Rattle.hurd_creds.specs.declared.name.Name.{Name}
 use Rattle.hurd_creds.specs.declared.errno.Errno.{Errno}
@@ -14,12 +14,12 @@ use Rattle.hurd_ports.specs.declared.parents.Parent.{Parent}
 use Rattle.hurd_ports.specs.declared.table.Right.{Right}
 use Rattle.hurd_nodes.specs.Settle as kept
 use Rattle.hurd_ports.specs.Tables.{PortState, Task, can_name, naming_at, naming_of, or_refuse, IsSettled, right_at, right_in, right_of, has_room, room_at, room_of}
-use Rattle.hurd_ports.specs.Steps.{named, new_right, with_new_port, deallocate_at, deallocate_step, dropped, edit_task, settle_opens, without_port, insert_at, insert_step}
+use Rattle.hurd_ports.specs.Steps.{with_new_port, deallocate_at, deallocate_step, dropped, edit_task, settle_opens, without_port, insert_at, insert_step}
 use Rattle.hurd_machine.specs.declared.call.Reply.TheVariants.{Done}
 use Rattle.hurd_machine.specs.World.{World, world_from}
-use Rattle.hurd_machine.specs.Change.{EditHeader, apply_all, dropping, opening, outside_by}
+use Rattle.hurd_machine.specs.Change.{EditHeader, dropping, outside_by}
 use Rattle.hurd_machine.specs.Plan.{Plan, Follows, answered, told, on, given}
-use Rattle.hurd_core.specs.Core.{Does, naming_asks, room_asks}
+use Rattle.hurd_core.specs.Core.{naming_asks, room_asks}
 use Rattle.hurd_core.proofs.SettleLaws.{settled_if, settled_world}
 
 -- the header of a node changed, as where owner, group and mode are set, or words stored

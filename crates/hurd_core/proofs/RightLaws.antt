@@ -1,5 +1,5 @@
 -- Rights that are shared, sent and received, and other ids for a task: what the ports do is what the world's changes do.
-use Rattle.std.proofs.Common.{◌≡◌, ◌∙◌, inl, inr, ℕ, Bool, true, false, cond, List, [], ◌∷◌, ◌++◌, Option, Some, None, length, slice_get, refl, sym, ap, subst, true≢false}
+use Rattle.std.proofs.Common.{◌≡◌, ◌∙◌, inl, inr, ℕ, Bool, true, false, cond, List, [], ◌∷◌, Option, Some, None, length, slice_get, refl, sym, ap, subst, true≢false}
 use Rattle.std.specs.Prelude.{Result, Ok, Err, is_ok, nat_lt, if◌then◌else◌}
 use Rattle.hurd_creds.specs.declared.name.Name.{Name}
 use Rattle.hurd_creds.specs.declared.open_flags.OpenFlags.{OpenFlags}

@@ -1,5 +1,5 @@
 -- Rights that pass a test, counted in a table, in an inbox, and over all tasks.
-use Rattle.std.proofs.Common.{◌≡◌, ◌∙◌, ℕ, zero, suc, ◌+◌, ◌<◌, Bool, true, false, if◌then◌else◌, List, [], ◌∷◌, ◌++◌, map, filter, take, length, get_or, Option, Some, None, refl, sym, ap, ap₂, arith}
+use Rattle.std.proofs.Common.{◌≡◌, ◌∙◌, ℕ, ◌+◌, Bool, true, false, if◌then◌else◌, List, [], ◌∷◌, ◌++◌, map, filter, length, Option, Some, None, refl, ap, arith}
 use Rattle.hurd_creds.specs.declared.name.Name.{Name}
 use Rattle.hurd_ports.specs.declared.table.PendingStart.{PendingStart}
 use Rattle.hurd_ports.specs.declared.table.Port.{Port}
@@ -51,15 +51,3 @@ module _ (w : World) (s : Name) where
   pub users_summed : (xs : List TaskSeat) → weigh_list users_at xs ≡ count_rights (is_on w s) (map seat_task xs)
   users_summed [] = refl
   users_summed (x ∷ xs) = ap (λ k. users_at x + k) (users_summed xs)
-
--- a sum, as a loop finds it
-pub weigh_more : {X : Type 0} (W : X → ℕ) (xs : List X) (i : ℕ) (d : X) → i < length xs → weigh_list W (take (i + 1) xs) ≡ weigh_list W (take i xs) + W (get_or xs i d)
-weigh_more {X = X} W xs i d below = ap (λ k. weigh_list W (take k xs)) (one_more i) ∙ go xs i below
-  where
-    one_more : (k : ℕ) → k + 1 ≡ suc k
-    one_more k = omega arith
-
-    go : (xs : List X) (i : ℕ) → i < length xs → weigh_list W (take (suc i) xs) ≡ weigh_list W (take i xs) + W (get_or xs i d)
-    go [] i below = absurd (omega arith)
-    go (x ∷ xs) zero below = omega arith
-    go (x ∷ xs) (suc i) below = let rest = go xs i (omega arith) in omega arith

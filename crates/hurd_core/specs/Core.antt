@@ -17,9 +17,7 @@ use Rattle.hurd_nodes.specs.declared.seat.Place.{Place}
 use Rattle.hurd_nodes.specs.Shown.{begun_info, begun_root, shown, unlink_edits_at, can_make_nameless, rename_edits_at}
 use Rattle.hurd_ports.specs.Tables.{Task, Tables, coded_tables, fresh, can_name, has_room, first_sent, right_of}
 use Rattle.hurd_ports.specs.declared.parents.Parent.{Parent}
-use Rattle.hurd_ports.specs.declared.table.PendingStart.{PendingStart}
 use Rattle.hurd_ports.specs.declared.table.Right.{Right}
-use Rattle.hurd_ports.specs.declared.table.Right.TheVariants.{Io, Control, Start}
 use Rattle.hurd_ports.specs.Steps.{named}
 use Rattle.hurd_machine.specs.World.{World, world_from, nodes_of, ports_of, task_at, home_at, makes_at}
 use Rattle.hurd_machine.specs.Change.{Attach, Change, DropServer, MakeNode, EditBody, Settle, opening, pending, apply_all, changes_of}

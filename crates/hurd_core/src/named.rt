@@ -5,11 +5,11 @@ use hurd_ports::Ports;
 
 /// The ports of tasks, asked what their rights name.
 #[derive(Clone, Copy)]
-pub(crate) struct Named<'a> {
+pub(crate) struct NamedByRights<'a> {
     pub(crate) ports: &'a Ports,
 }
 
-impl Namings for Named<'_> {
+impl Namings for NamedByRights<'_> {
     ghost use Rattle.hurd_machine.specs.Change.{outside_by};
 
     ghost outside = { λ n. outside_by n.ports.now.state.tasks };

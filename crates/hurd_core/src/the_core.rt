@@ -15,7 +15,7 @@ ghost use Rattle.hurd_core.specs.Core.{Does, attaching, naming_asks, without_box
 ghost use Rattle.hurd_core.specs.Control.{plan_options};
 ghost use Rattle.hurd_core.specs.ToMake.{new_node_of};
 
-use crate::named::Named;
+use crate::named::NamedByRights;
 use crate::to_make::{NamelessToMake, NodeToMake, ServerToMake};
 use hurd_creds::{
     Bytes, Errno, Ids, Kind, Mode, NodeName, OpenFlags, OpenName, ServerName, TaskId,
@@ -70,7 +70,7 @@ impl<S: Server> Core<S> {
         ensures { world_of S.meaning self.new ≡ settle (world_of S.meaning self.old) }
     {
         self.ports.opens_are_held();
-        self.nodes.settle(&Named { ports: &self.ports });
+        self.nodes.settle(&NamedByRights { ports: &self.ports });
     }
 
     /// Opens a node: a port of the task with these ids and an open of its own, under the task's next number.

@@ -23,7 +23,7 @@ impl<S: Server> Core<S> {
         count
     }
 
-    /// How many of them a task has.
+    /// How many of them a task has: 2^65 at most.
     fn users_in(&self, seat: &TaskSeat, server: ServerName) -> u128
         ensures count { result ≡ count_list (is_on (world_of S.meaning self.now) server) (rights_of (seat_task seat.now)) }
         ensures few { result ≤ 36893488147419103232 }

@@ -8,10 +8,8 @@ use Rattle.hurd_creds.specs.declared.attrs.Want.TheVariants.{Read, Write, Exec}
 use Rattle.hurd_creds.specs.declared.attrs.Attrs.{Attrs}
 use Rattle.hurd_creds.specs.Access.{IdSets, holds_uid, holds_gid, may}
 use Rattle.hurd_creds.specs.Bits.{asks, READ}
-use Rattle.hurd_creds.specs.Names.{same_name}
 use Rattle.hurd_trans_iface.specs.Nodes.{Header, Body, attrs_with, is_empty_dir}
 use Rattle.hurd_trans_iface.specs.Answers.{entry_of}
-use Rattle.hurd_ports.specs.Weights.{count_list}
 use Rattle.hurd_nodes.specs.Held.{is_home}
 use Rattle.hurd_nodes.specs.Shown.{ServerInfo, boot_name}
 use Rattle.hurd_ports.specs.declared.table.Opened.{Opened}
@@ -19,7 +17,7 @@ use Rattle.hurd_ports.specs.declared.parents.Parent.{Parent as Pair}
 use Rattle.hurd_ports.specs.declared.table.IoRight.{IoRight}
 use Rattle.hurd_ports.specs.declared.table.Right.{Right}
 use Rattle.hurd_ports.specs.declared.table.Right.TheVariants.{Io, Control, Start}
-use Rattle.hurd_ports.specs.Tables.{Task, rights_of, count_rights, names_open, nodes_of as nodes_named}
+use Rattle.hurd_ports.specs.Tables.{Task, rights_of, count_rights, names_open}
 use Rattle.hurd_machine.specs.World.{World, IsAmong, boot_root, task_at, open_at, header_at, body_at, home_at, active_at, server_at}
 
 -- a node's attributes as far as its header says them
@@ -137,10 +135,6 @@ Sees S w (OpenOf o) = (r : IoRight) × Holds S w (Io r) × (r.open_name ≡ o)
 Sees S w (OptionsOf s) = Knows S w s
 Sees S w (UsersOf s) = MaySend S w s
 Sees S w (TaskOf t) = S t ≡ true
-
--- how often a right names a node
-abbrev pub naming : Name → Right → ℕ
-naming n r = count_list (λ m. same_name n m) (nodes_named r)
 
 -- whether a right is on a node of the server
 abbrev pub is_on : World → Name → Right → Bool

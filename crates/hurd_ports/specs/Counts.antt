@@ -1,5 +1,5 @@
 -- What rights name, and how often it is counted.
-use Rattle.std.specs.Prelude.{◌≡◌, ℕ, ◌-◌, ◌≤◌, Bool, List, [], ◌∷◌, length, Option, Some, None, nat_lt}
+use Rattle.std.specs.Prelude.{◌≡◌, ℕ, ◌+◌, ◌*◌, ◌-◌, ◌≤◌, Bool, List, [], ◌∷◌, length, Option, Some, None, nat_lt}
 use Rattle.std.specs.Map.{lookup}
 use Rattle.indexmap.specs.IndexMap.{spare}
 use Rattle.hurd_creds.specs.declared.name.Name.{Name}
@@ -67,10 +67,10 @@ room_in Opens b = spare b.opens
 room_in Nodes b = spare b.nodes
 room_in Servers b = spare b.servers
 
--- how many names of a sort a right can have
+-- how many names of a sort a right can have: of nodes its own, and two for each way
 abbrev pub room_for : Sort → ℕ
 room_for Opens = 1
-room_for Nodes = 129
+room_for Nodes = 1 + 2 * most_parents
 room_for Servers = 1
 
 -- there is room for what one right names

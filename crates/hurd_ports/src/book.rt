@@ -8,7 +8,7 @@ ghost use Rattle.hurd_ports.specs.Weights.{count_list, one_if, weigh_list};
 ghost use Rattle.hurd_ports.specs.Tables.{start_of, ways_of};
 ghost use Rattle.hurd_ports.specs.Counts.{HasRoom, Nodes, Opens, Servers, Sort, count_of, counted, excess, is_counted, most_counted, naming};
 
-use crate::parents::Parent;
+use crate::parents::{MOST_PARENTS, Parent};
 use crate::table::{PendingStart, Right};
 use hurd_creds::{Name, NodeName, OpenName, ServerName};
 use indexmap::IndexMap;
@@ -18,7 +18,7 @@ use std::alloc::{AllocError, Global};
 type Counts = IndexMap<Name, u128>;
 
 /// What one right can name of nodes: its own, and two for each way.
-const MOST_NODES: usize = 129;
+const MOST_NODES: usize = 1 + 2 * MOST_PARENTS;
 
 /// How often rights name each open, node and server.
 #[derive(Drop)]

@@ -7,7 +7,7 @@ use std::alloc::{AllocError, Global};
 use std::marker::Model;
 
 /// So many ways a port can have come in by.
-const MOST_PARENTS: usize = 64;
+pub(crate) const MOST_PARENTS: usize = 64;
 
 /// A way in: at the root of a translator, and from which node it was entered.
 #[derive(Clone, Copy, Debug, PartialEq, Eq)]

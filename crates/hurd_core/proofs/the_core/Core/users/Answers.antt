@@ -5,7 +5,8 @@ use Rattle.hurd_ports.specs.Tables.{Task, count_rights}
 use Rattle.hurd_ports.specs.Weights.{weigh_list}
 use Rattle.hurd_machine.specs.Sight.{is_on}
 use Rattle.hurd_core.specs.Core.{world_of}
-use Rattle.hurd_core.proofs.UserLaws.{users_at, users_summed, weigh_more}
+use Rattle.hurd_ports.proofs.WeightLaws.{weigh_more}
+use Rattle.hurd_core.proofs.UserLaws.{users_at, users_summed}
 use Rattle.hurd_core.proofs.the_core.Core.users.Goals as goal
 
 pub loop-seat-preserved : goal.loop-seat-preserved
