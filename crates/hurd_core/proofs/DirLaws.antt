@@ -10,6 +10,7 @@ use Rattle.hurd_creds.specs.declared.errno.Errno.TheVariants.{EDIED}
 use Rattle.hurd_creds.specs.Memory.{Steps}
 use Rattle.hurd_trans_iface.specs.declared.new_node.NewNode.{NewNode}
 use Rattle.hurd_trans_iface.specs.Nodes.{new_dir}
+use Rattle.hurd_trans_iface.specs.Answers.{named_by}
 use Rattle.hurd_nodes.specs.Shown.{NodeState, can_make, make_at, with_made}
 use Rattle.hurd_ports.specs.Tables.{PortState, Task, fresh, naming_of}
 use Rattle.hurd_ports.specs.Steps.{name_step}
@@ -30,11 +31,11 @@ module _ (N : NodeState) (H : PortState) (t : ℕ) (f : NewNodeAt) where
   asks_home : Result Task Errno → Option Name → Result (Task × Name) Errno
   asks_home r o = first r (λ x. on EDIED o (λ s. Ok (x, s)))
 
-  pub dir-refused : (e : Errno) → can_make f.dir f.name Dir N ≡ Err e → making_dir_asks w t f ≡ Err e
+  pub dir-refused : (e : Errno) → can_make f.dir f.entry Dir N ≡ Err e → making_dir_asks w t f ≡ Err e
   unfolding first asks_name
   dir-refused e h = ap asks_name h
 
-  pub dir-unnamed : (e : Errno) → can_make f.dir f.name Dir N ≡ Ok tt → naming_of H t 1 ≡ Err e → making_dir_asks w t f ≡ Err e
+  pub dir-unnamed : (e : Errno) → can_make f.dir f.entry Dir N ≡ Ok tt → naming_of H t 1 ≡ Err e → making_dir_asks w t f ≡ Err e
   unfolding first asks_name asks_home
   dir-unnamed e may h = ap asks_name may ∙ ap (λ r. asks_home r (home_at w f.dir)) (naming-refused N H t 1 e h)
 
@@ -46,7 +47,7 @@ module _ (N : NodeState) (H : PortState) (t : ℕ) (f : NewNodeAt) where
     pub home : get N.homes f.dir ≡ Some server
     pub asks : making_dir_asks w t f ≡ Ok (task, server)
 
-  pub makes-dir : can_make f.dir f.name Dir N ≡ Ok tt → naming_of H t 1 ≡ Ok tt → MakesDir
+  pub makes-dir : can_make f.dir f.entry Dir N ≡ Ok tt → naming_of H t 1 ≡ Ok tt → MakesDir
   unfolding first on asks_name asks_home
   makes-dir may h =
       let x = naming-had N H t 1 tt h in
@@ -59,25 +60,25 @@ module _ (N : NodeState) (H : PortState) (t : ℕ) (f : NewNodeAt) where
         asks = ap asks_name may ∙ ap (λ r. asks_home r (home_at w f.dir)) x.3 ∙ ap (asks_home (Ok x.0)) s.1;
       }
 
-  module _ (may : can_make f.dir f.name Dir N ≡ Ok tt) (h : naming_of H t 1 ≡ Ok tt) (name : Name) (new : NewNode) (is : new ≡ asked_node Dir f name) where
+  module _ (may : can_make f.dir f.entry Dir N ≡ Ok tt) (h : naming_of H t 1 ≡ Ok tt) (name : Name) (new : NewNode) (is : new ≡ asked_node Dir f name) where
     -- a making that finds no memory changes nothing
-    pub dir-lacks : (e : Errno) (M : NodeState) → Steps N (make_at f.dir f.name new N) (Err e) M → Does w (making_dir_asks w t f) (making_dir t f) (λ a. tt {0}) (Err e) (world_from M H)
+    pub dir-lacks : (e : Errno) (M : NodeState) → Steps N (make_at f.dir f.entry new N) (Err e) M → Does w (making_dir_asks w t f) (making_dir t f) (λ a. tt {0}) (Err e) (world_from M H)
     dir-lacks e M steps =
         let l = make-lacks N H t f Dir name new e M may is steps in
         (ap (λ (z : NodeState). world_from z H) l.1, inr (l.0, ap is_ok (makes-dir may h).asks))
 
     -- the name that is next, the node made under it, and the name given
-    pub dir-made : (L : PortState) (M : NodeState) → Some name ≡ option_map (fresh t) (slice_get H.tasks t) → Steps N (make_at f.dir f.name new N) (Ok tt) M → L ≡ name_step t H
+    pub dir-made : (L : PortState) (M : NodeState) → Some name ≡ option_map (fresh t) (slice_get H.tasks t) → Steps N (make_at f.dir f.entry new N) (Ok tt) M → L ≡ name_step t H
         → Does w (making_dir_asks w t f) (making_dir t f) (λ a. tt {0}) (Ok tt) (world_from M L)
     dir-made L M next steps gave =
         let m = makes-dir may h in
         let one : Some name ≡ Some (fresh t m.task) = next ∙ ap (option_map (fresh t)) m.there in
         let same : name ≡ fresh t m.task = cc in
         let wanted : new ≡ asked_node Dir f (fresh t m.task) = is ∙ ap (asked_node Dir f) same in
-        let made : M ≡ with_made f.dir f.name (asked_node Dir f (fresh t m.task)) N =
-        make-done N H t f (asked_node Dir f (fresh t m.task)) M may (subst (λ (z : NewNode). Steps N (make_at f.dir f.name z N) (Ok tt) M) wanted steps) in (
+        let made : M ≡ with_made f.dir f.entry (asked_node Dir f (fresh t m.task)) N =
+        make-done N H t f (asked_node Dir f (fresh t m.task)) M may (subst (λ (z : NewNode). Steps N (make_at f.dir f.entry z N) (Ok tt) M) wanted steps) in (
           (m.task, m.server),
           m.asks,
           refl,
-          ap (world_from M) gave ∙ made-nodes N H t f Dir (fresh t m.task) m.server m.home (new_dir f.owner f.group f.mode (Some f.dir)) refl M made refl,
+          ap (world_from M) gave ∙ made-nodes N H t f Dir (fresh t m.task) m.server m.home (named_by f.entry (new_dir f.owner f.group f.mode (Some f.dir))) refl M made refl,
         )

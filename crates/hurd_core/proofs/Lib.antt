@@ -3,7 +3,6 @@ pub mod SettleLaws
 pub mod CoreLaws
 pub mod RightLaws
 pub mod MakingLaws
-pub mod NamelessLaws
 pub mod DirLaws
 pub mod DirPieces
 pub mod PlanLaws

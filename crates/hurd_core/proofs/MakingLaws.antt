@@ -12,23 +12,24 @@ use Rattle.hurd_creds.specs.declared.open_flags.OpenFlags.{OpenFlags}
 use Rattle.hurd_creds.specs.Access.{IdSets}
 use Rattle.hurd_creds.specs.Memory.{Steps}
 use Rattle.hurd_trans_iface.specs.declared.new_node.NewNode.{NewNode}
-use Rattle.hurd_trans_iface.specs.Nodes.{Node, edit_all, with_entry, new_file}
-use Rattle.hurd_trans_iface.specs.Answers.{added, made_node}
+use Rattle.hurd_trans_iface.specs.Nodes.{AddNode, Node, edit_all, new_file}
+use Rattle.hurd_trans_iface.specs.Answers.{added, entering, made_node, named_by}
 use Rattle.hurd_nodes.specs.Shown.{NodeState, info_in, can_make, made_by, make_at, on_ok, with_home, with_made}
 use Rattle.hurd_ports.specs.declared.parents.Parent.{Parent}
 use Rattle.hurd_ports.specs.Tables.{PortState, Task, fresh, has_room, room_at, room_of, u64_greatest}
 use Rattle.hurd_ports.specs.Steps.{named, insert_step, name_step, with_new_port}
 use Rattle.hurd_ports.proofs.TaskLaws.{edit-here}
 use Rattle.hurd_machine.specs.World.{World, world_from, home_at, makes_at}
-use Rattle.hurd_machine.specs.Change.{EditBody, MakeNode, apply_all, opening}
+use Rattle.hurd_machine.specs.Change.{MakeNode, apply_all, changes_of, opening}
 use Rattle.hurd_machine.specs.Plan.{on, first}
-use Rattle.hurd_core.specs.Core.{Does, NewNodeAt, asked_node, making_asks, making_open}
+use Rattle.hurd_machine.proofs.Keeping.{apply_all-append}
+use Rattle.hurd_core.specs.Core.{Does, NewNodeAt, asked_node, asked_only, making, making_asks, making_open}
 use Rattle.hurd_core.proofs.CoreLaws.{IsRefused, HasRoom, room, insert-had}
 
 -- where a node may be made in a directory, that has a server
-home_by : (h : NodeState) (d : Name) (name : List ℕ) (kind : Kind) (o : Option Name) → get h.homes d ≡ o → made_by name kind (info_in h.servers o) (get h.nodes d) ≡ Ok tt → (s : Name) × (get h.homes d ≡ Some s)
-home_by h d name kind None at e = absurd (cc)
-home_by h d name kind (Some s) at e = (s, at)
+home_by : (h : NodeState) (d : Name) (entry : Option (List ℕ)) (kind : Kind) (o : Option Name) → get h.homes d ≡ o → made_by entry kind (info_in h.servers o) (get h.nodes d) ≡ Ok tt → (s : Name) × (get h.homes d ≡ Some s)
+home_by h d entry kind None at e = absurd (cc)
+home_by h d entry kind (Some s) at e = (s, at)
 
 -- of room for two names one is left when one is given
 pub less : (next made : ℕ) → (nat_lt next u64_greatest && nat_le (made + 2) u64_greatest) ≡ true → (nat_lt next u64_greatest && nat_le ((made + 1) + 1) u64_greatest) ≡ true
@@ -38,11 +39,11 @@ module _ (N : NodeState) (H : PortState) (t : ℕ) (f : NewNodeAt) where
   abbrev w : World
   w = world_from N H
 
-  pub making-home : (kind : Kind) → can_make f.dir f.name kind N ≡ Ok tt → (s : Name) × (get N.homes f.dir ≡ Some s)
-  making-home kind e = home_by N f.dir f.name kind (get N.homes f.dir) refl e
+  pub making-home : (kind : Kind) → can_make f.dir f.entry kind N ≡ Ok tt → (s : Name) × (get N.homes f.dir ≡ Some s)
+  making-home kind e = home_by N f.dir f.entry kind (get N.homes f.dir) refl e
 
   asks_more : Result Task Errno → Result (Task × Name) Errno
-  asks_more r = first r (λ x. first (makes_at w f.dir f.name File) (λ u. on EDIED (home_at w f.dir) (λ s. Ok (x, s))))
+  asks_more r = first r (λ x. first (makes_at w f.dir f.entry File) (λ u. on EDIED (home_at w f.dir) (λ s. Ok (x, s))))
 
   asks_home : Task → Result (Unit {0}) Errno → Option Name → Result (Task × Name) Errno
   asks_home x r o = first r (λ u. on EDIED o (λ s. Ok (x, s)))
@@ -54,7 +55,7 @@ module _ (N : NodeState) (H : PortState) (t : ℕ) (f : NewNodeAt) where
     | HasRoom x at free told asks ↦ absurd (cc)
   ]
 
-  pub not-made : (e : Errno) → room_of H t 2 ≡ Ok tt → can_make f.dir f.name File N ≡ Err e → making_asks w t f ≡ Err e
+  pub not-made : (e : Errno) → room_of H t 2 ≡ Ok tt → can_make f.dir f.entry File N ≡ Err e → making_asks w t f ≡ Err e
   unfolding first asks_more asks_home
   not-made e h m = elim (room N H t 2) [
     | IsRefused k told asks ↦ absurd (cc)
@@ -70,7 +71,7 @@ module _ (N : NodeState) (H : PortState) (t : ℕ) (f : NewNodeAt) where
     pub home : get N.homes f.dir ≡ Some server
     pub asks : making_asks w t f ≡ Ok (task, server)
 
-  pub makes : room_of H t 2 ≡ Ok tt → can_make f.dir f.name File N ≡ Ok tt → Makes
+  pub makes : room_of H t 2 ≡ Ok tt → can_make f.dir f.entry File N ≡ Ok tt → Makes
   unfolding first on asks_more asks_home
   makes h m =
       let s = making-home File m in
@@ -93,16 +94,28 @@ module _ (N : NodeState) (H : PortState) (t : ℕ) (f : NewNodeAt) where
   pub named_there : (x : Task) → slice_get H.tasks t ≡ Some x → slice_get after_name.tasks t ≡ Some (named 1 x)
   named_there x at = edit-here t (named 1) H.tasks ∙ ap (option_map (named 1)) at
 
-  -- the halves after the making are the world after it
-  module _ (kind : Kind) (n s : Name) (home : get N.homes f.dir ≡ Some s) (node : Node) (is : made_node f.dir (asked_node kind f n) ≡ Some node) where
-    abbrev made : Option Node → Option Name → NodeState
-    made x o = record N { nodes = edit_all (added f.dir f.name n x) N.nodes; homes = with_home n o N.homes }
+  -- whether it can be made is all that is asked
+  pub file-asked : room_of H t 2 ≡ Ok tt → (r : Result (Unit {0}) Errno) → r ≡ can_make f.dir f.entry File N → r ≡ asked_only (making_asks w t f)
+  file-asked h (Err e) is = sym (ap asked_only (not-made e h (sym is)))
+  file-asked h (Ok u) is = sym (ap asked_only (makes h (sym is)).asks)
 
-    pub made-nodes : (M : NodeState) → M ≡ with_made f.dir f.name (asked_node kind f n) N → n.task.0 ≡ t → world_from M after_name ≡ apply_all (MakeNode n s node ∷ EditBody f.dir (with_entry f.name n) ∷ []) w
+  -- the halves after the making are the world after it
+  module _ (kind : Kind) (n s : Name) (home : get N.homes f.dir ≡ Some s) (node : Node) (is : made_node f.dir f.entry (asked_node kind f n) ≡ Some node) where
+    abbrev made : Option Node → Option Name → NodeState
+    made x o = record N { nodes = edit_all (added f.dir f.entry n x) N.nodes; homes = with_home n o N.homes }
+
+    -- the entry, if there is one, is an edit of the machine's
+    entry-made : (o : Option (List ℕ)) → world_from (record N { nodes = edit_all (AddNode n node ∷ entering f.dir o n) N.nodes; homes = with_home n (Some s) N.homes }) (name_step n.task.0 H)
+        ≡ apply_all (MakeNode n s node ∷ changes_of (entering f.dir o n)) w
+    entry-made None = refl
+    entry-made (Some name) = refl
+
+    pub made-nodes : (M : NodeState) → M ≡ with_made f.dir f.entry (asked_node kind f n) N → n.task.0 ≡ t → world_from M after_name ≡ apply_all (MakeNode n s node ∷ changes_of (entering f.dir f.entry n)) w
     made-nodes M e own =
         ap (λ (z : NodeState). world_from z after_name) e
         ∙ ap₂ (λ (x : Option Node) (o : Option Name). world_from (made x o) after_name) is home
         ∙ ap (λ (q : ℕ). world_from (made (Some node) (Some s)) (name_step q H)) (sym own)
+        ∙ entry-made f.entry
 
   -- with room for two names there is still room for one when one is given
   pub room-left : (x : Task) → slice_get H.tasks t ≡ Some x → has_room 2 x ≡ true → room_of after_name t 1 ≡ Ok tt
@@ -118,43 +131,50 @@ module _ (N : NodeState) (H : PortState) (t : ℕ) (f : NewNodeAt) where
     abbrev n : Name
     n = fresh t m.task
 
-    pub made-opened : (M : NodeState) (K : PortState) (k : ℕ) → M ≡ with_made f.dir f.name (asked_node File f n) N → insert_step t n ids parents modes after_name ≡ (Ok k, K)
+    pub made-opened : (M : NodeState) (K : PortState) (k : ℕ) → M ≡ with_made f.dir f.entry (asked_node File f n) N → insert_step t n ids parents modes after_name ≡ (Ok k, K)
         → Does w (making_asks w t f) (making_open t f ids parents modes) (λ a. a.0.next) (Ok k) (world_from M K)
     made-opened M K k e inserted =
         let free : has_room 1 (named 1 m.task) ≡ true = less m.task.next m.task.made m.free in
         let is = sym inserted ∙ insert-had M after_name t n ids parents modes (named 1 m.task) (named_there m.task m.there) free in
         let number : Ok k ≡ Ok m.task.next = ap (λ (z : Result ℕ Errno × PortState). z.0) is in
         let ports : K ≡ with_new_port t n ids parents modes (named 1 m.task) after_name = ap (λ (z : Result ℕ Errno × PortState). z.1) is in
-        ((m.task, m.server), m.asks, cc number, ap (world_from M) ports ∙ ap (apply_all (opening t (named 1 m.task) n ids parents modes)) (made-nodes File n m.server m.home (new_file f.owner f.group f.mode) refl M e refl))
+        let file = new_file f.owner f.group f.mode in
+        let opened = opening t (named 1 m.task) n ids parents modes in (
+          (m.task, m.server),
+          m.asks,
+          cc number,
+          ap (world_from M) ports ∙ ap (apply_all opened) (made-nodes File n m.server m.home (named_by f.entry file) refl M e refl)
+              ∙ sym (apply_all-append (making t m.task m.server f file) opened w),
+        )
 
   -- a making that finds no memory changes nothing
   pub lacks-memory : Makes → (e : Errno) (y : World) → y ≡ w → e ≡ ENOMEM → (ids : IdSets) (parents : List Parent) (modes : OpenFlags) → Does w (making_asks w t f) (making_open t f ids parents modes) (λ a. a.0.next) (Err e) y
   lacks-memory m e y same lacks ids parents modes = (same, inr (lacks, ap is_ok m.asks))
 
   -- nothing but memory is refused where the server lets the node be made
-  pub make-lacks : (kind : Kind) (name : Name) (new : NewNode) (e : Errno) (M : NodeState) → can_make f.dir f.name kind N ≡ Ok tt → new ≡ asked_node kind f name → Steps N (make_at f.dir f.name new N) (Err e) M → (e ≡ ENOMEM) × (M ≡ N)
-  make-lacks kind name new e M m asked s = go (subst (λ (z : NewNode). Steps N (make_at f.dir f.name z N) (Err e) M) asked s)
+  pub make-lacks : (kind : Kind) (name : Name) (new : NewNode) (e : Errno) (M : NodeState) → can_make f.dir f.entry kind N ≡ Ok tt → new ≡ asked_node kind f name → Steps N (make_at f.dir f.entry new N) (Err e) M → (e ≡ ENOMEM) × (M ≡ N)
+  make-lacks kind name new e M m asked s = go (subst (λ (z : NewNode). Steps N (make_at f.dir f.entry z N) (Err e) M) asked s)
     where
-      go : Steps N (make_at f.dir f.name (asked_node kind f name) N) (Err e) M → (e ≡ ENOMEM) × (M ≡ N)
+      go : Steps N (make_at f.dir f.entry (asked_node kind f name) N) (Err e) M → (e ≡ ENOMEM) × (M ≡ N)
       go steps = elim steps.answered [
         | inl is ↦ absurd (cc (m, is))
         | inr lacks ↦ (lacks.0, steps.left ∙ rw lacks.0 refl)
       ]
 
-  pub make-done : (new : NewNode) (M : NodeState) → can_make f.dir f.name new.kind N ≡ Ok tt → Steps N (make_at f.dir f.name new N) (Ok tt) M → M ≡ with_made f.dir f.name new N
-  make-done new M m s = s.left ∙ ap (λ (a : Result (Unit {0}) Errno). on_ok a N (with_made f.dir f.name new N)) m
+  pub make-done : (new : NewNode) (M : NodeState) → can_make f.dir f.entry new.kind N ≡ Ok tt → Steps N (make_at f.dir f.entry new N) (Ok tt) M → M ≡ with_made f.dir f.entry new N
+  make-done new M m s = s.left ∙ ap (λ (a : Result (Unit {0}) Errno). on_ok a N (with_made f.dir f.entry new N)) m
 
   -- all of it: the name that is next, the node made under it, the name given, and the port put in
-  pub file-made : (ids : IdSets) (parents : List Parent) (modes : OpenFlags) (G L K : PortState) (M : NodeState) (name : Name) (new : NewNode) (k : ℕ) → room_of H t 2 ≡ Ok tt → can_make f.dir f.name File N ≡ Ok tt → G ≡ H
-      → Some name ≡ option_map (fresh t) (slice_get G.tasks t) → new ≡ asked_node File f name → Steps N (make_at f.dir f.name new N) (Ok tt) M → L ≡ name_step t G → insert_step t name ids parents modes L ≡ (Ok k, K)
+  pub file-made : (ids : IdSets) (parents : List Parent) (modes : OpenFlags) (G L K : PortState) (M : NodeState) (name : Name) (new : NewNode) (k : ℕ) → room_of H t 2 ≡ Ok tt → can_make f.dir f.entry File N ≡ Ok tt → G ≡ H
+      → Some name ≡ option_map (fresh t) (slice_get G.tasks t) → new ≡ asked_node File f name → Steps N (make_at f.dir f.entry new N) (Ok tt) M → L ≡ name_step t G → insert_step t name ids parents modes L ≡ (Ok k, K)
       → Does w (making_asks w t f) (making_open t f ids parents modes) (λ a. a.0.next) (Ok k) (world_from M K)
   file-made ids parents modes G L K M name new k h may kept next asked steps gave inserted =
       let m = makes h may in
       let is : Some name ≡ Some (fresh t m.task) = next ∙ ap (λ (z : PortState). option_map (fresh t) (slice_get z.tasks t)) kept ∙ ap (option_map (fresh t)) m.there in
       let same : name ≡ fresh t m.task = cc in
       let wanted : new ≡ asked_node File f (fresh t m.task) = asked ∙ ap (asked_node File f) same in
-      let made : M ≡ with_made f.dir f.name (asked_node File f (fresh t m.task)) N =
-      make-done (asked_node File f (fresh t m.task)) M may (subst (λ (z : NewNode). Steps N (make_at f.dir f.name z N) (Ok tt) M) wanted steps) in
+      let made : M ≡ with_made f.dir f.entry (asked_node File f (fresh t m.task)) N =
+      make-done (asked_node File f (fresh t m.task)) M may (subst (λ (z : NewNode). Steps N (make_at f.dir f.entry z N) (Ok tt) M) wanted steps) in
       let ports : L ≡ after_name = gave ∙ ap (name_step t) kept in
       let put : insert_step t (fresh t m.task) ids parents modes after_name ≡ (Ok k, K) =
       ap (λ (n : Name). insert_step t n ids parents modes after_name) (sym same) ∙ ap (insert_step t name ids parents modes) (sym ports) ∙ inserted in

@@ -1,15 +1,53 @@
--- Where a server needs no memory, its row answers as its plan says.
-use Rattle.std.proofs.Common.{◌≡◌, ◌∙◌, List, sym, ap, subst}
+-- What a server is asked, the core does in the world; and where a server needs no memory, its row answers as its plan says.
+use Rattle.std.proofs.Common.{◌≡◌, ◌∙◌, inl, inr, ℕ, Bool, true, false, cond, List, Option, Some, None, sym, refl, ap, subst, true≢false}
 use Rattle.std.specs.Prelude.{Result, Ok, Err}
+use Rattle.hurd_creds.specs.declared.name.Name.{Name}
 use Rattle.hurd_creds.specs.declared.errno.Errno.{Errno}
-use Rattle.hurd_trans_iface.specs.Behaviour.{Did, Effect, told_of}
+use Rattle.hurd_creds.specs.Memory.{Steps, is_no_memory}
+use Rattle.hurd_trans_iface.specs.Behaviour.{Did, Effect, Question, edit_bytes, edit_size, edits_of, told_of}
+use Rattle.hurd_nodes.specs.Shown.{NodeState, asked_step, effect_at, with_edits}
+use Rattle.hurd_ports.specs.Tables.{PortState}
 use Rattle.hurd_machine.specs.Calls.{Reply}
 use Rattle.hurd_machine.specs.declared.call.Reply.TheVariants.{Refused}
-use Rattle.hurd_machine.specs.World.{World}
-use Rattle.hurd_machine.specs.Change.{Change, apply_all}
+use Rattle.hurd_machine.specs.World.{World, world_from, asked_at}
+use Rattle.hurd_machine.specs.Change.{Change, apply_all, changes_of}
 use Rattle.hurd_machine.specs.Plan.{Plan, Follows, answered, told}
 use Rattle.hurd_core.specs.Core.{Does}
 use Rattle.hurd_core.proofs.PlanLaws.{asked-done, follows-refused}
+
+either : {A : Type 0} (b : Bool) (x y : A) → y ≡ cond b x x → y ≡ x
+either true x y same = same
+either false x y same = same
+
+-- what a server answers of a node, and does to it, is so in the world
+module _ (N : NodeState) (H : PortState) (n : Name) where
+  abbrev w : World
+  w = world_from N H
+
+  abbrev did : {T : Type 0} → Did T → List Change
+  did d = changes_of (edits_of n (Ok d))
+
+  edited : (bytes : Option (List ℕ → List ℕ)) (size : Option ℕ)
+      → (let es = edit_bytes n bytes (edit_size n size) in world_from (with_edits es N) H ≡ apply_all (changes_of es) w)
+  edited None None = refl
+  edited None (Some k) = refl
+  edited (Some f) None = refl
+  edited (Some f) (Some k) = refl
+
+  asked : {T : Type 0} (x : Effect T) (r : Result T Errno) (M : NodeState) → Steps N (told_of x, with_edits (edits_of n x) N) r M → Does w x did (λ (d : Did T). d.told) r (world_from M H)
+  asked (Ok d) (Ok v) M s = let told : Ok d.told ≡ Ok v = s.answered in (d, refl, cc, ap (λ (h : NodeState). world_from h H) s.left ∙ edited d.bytes d.size)
+  asked (Ok d) (Err e) M s = elim s.answered [
+    | inl refused ↦ absurd (cc)
+    | inr lacks ↦ (ap (λ (h : NodeState). world_from h H) (s.left ∙ rw lacks.0 refl), inr (lacks.0, refl))
+  ]
+  asked (Err f) (Ok v) M s = absurd (cc (s.answered))
+  asked (Err f) (Err e) M s = elim s.answered [
+    | inl refused ↦ (ap (λ (h : NodeState). world_from h H) (either (is_no_memory e) N M s.left), inl (cc))
+    | inr lacks ↦ absurd (true≢false (sym lacks.1))
+  ]
+
+  pub asked-does : {T : Type 0} (q : Question T) (r : Result T Errno) (M : NodeState) → Steps N (asked_step q n N) r M → Does w (asked_at q n w) did (λ (d : Did T). d.told) r (world_from M H)
+  asked-does q r M s = asked (effect_at q n N) r M s
 
 -- a server's refusal that is told is its own
 told-refused : {T : Type 0} (x : Effect T) (e : Errno) → Err e ≡ told_of x → x ≡ Err e

@@ -9,7 +9,7 @@ use Rattle.hurd_machine.specs.declared.call.Reply.TheVariants.{Refused}
 use Rattle.hurd_machine.specs.World.{World}
 use Rattle.hurd_machine.specs.Change.{Change, apply_all}
 use Rattle.hurd_machine.specs.Plan.{Plan, Planned, Follows, after_plan, answered, looks, is_refused, told}
-use Rattle.hurd_core.specs.Core.{Does}
+use Rattle.hurd_core.specs.Core.{Does, asked_only}
 
 module _ {A T : Type 0} (w : World) (asks : Result A Errno) (k : A → Plan) (f : T → Reply) where
   -- what is asked is refused
@@ -72,3 +72,12 @@ pub looked-follows : {A : Type 0} (w : World) (asks : Result A Errno) (reply : A
 unfolding answered
 looked-follows w (Ok a) reply r is = (is, refl)
 looked-follows w (Err e) reply r is = (is, refl)
+
+-- what was asked for alone, and its answer
+pub only-refused : {A : Type 0} (x : Result A Errno) (e : Errno) → Err e ≡ asked_only x → x ≡ Err e
+only-refused (Ok a) e h = absurd (cc)
+only-refused (Err d) e h = let same : e ≡ d = cc in ap Err (sym same)
+
+pub only-answered : {A : Type 0} (x : Result A Errno) (u : Unit {0}) → Ok u ≡ asked_only x → (a : A) × (x ≡ Ok a)
+only-answered (Ok a) u h = (a, refl)
+only-answered (Err d) u h = absurd (cc)

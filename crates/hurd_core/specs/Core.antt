@@ -1,5 +1,5 @@
 -- The core that the code holds, the world that it stands for, and what its methods owe.
-use Rattle.std.specs.Prelude.{◌≡◌, ◌⊎◌, ℕ, ◌+◌, List, [], ◌∷◌, ◌++◌, Option, Some, None, Result, Ok, Err, IsOk, length, nat_lt, refl}
+use Rattle.std.specs.Prelude.{◌≡◌, ◌⊎◌, ℕ, ◌+◌, Bool, true, false, List, [], ◌∷◌, ◌++◌, Option, Some, None, Result, Ok, Err, IsOk, length, nat_lt, refl}
 use Rattle.std.specs.Coded.{Coded, code_by, coded×}
 use Rattle.hurd_creds.specs.declared.name.Name.{Name}
 use Rattle.hurd_creds.specs.declared.mode.Mode.{Mode}
@@ -9,20 +9,20 @@ use Rattle.hurd_creds.specs.declared.attrs.Kind.TheVariants.{File, Dir}
 use Rattle.hurd_creds.specs.declared.errno.Errno.{Errno}
 use Rattle.hurd_creds.specs.declared.errno.Errno.TheVariants.{EDIED, ENOMEM, EOVERFLOW, ESRCH, EWOULDBLOCK}
 use Rattle.hurd_creds.specs.Access.{IdSets}
-use Rattle.hurd_trans_iface.specs.Nodes.{Node, with_entry, new_file, nameless_file, new_dir}
+use Rattle.hurd_trans_iface.specs.Nodes.{Node, new_file, new_dir}
+use Rattle.hurd_trans_iface.specs.Answers.{entering, named_by}
 use Rattle.hurd_trans_iface.specs.declared.new_node.NewNode.{NewNode}
 use Rattle.hurd_trans_iface.specs.Meaning.{Meaning}
 use Rattle.hurd_nodes.specs.Held.{Held, coded_held}
 use Rattle.hurd_nodes.specs.declared.seat.Place.{Place}
-use Rattle.hurd_nodes.specs.Shown.{begun_info, begun_root, shown, unlink_edits_at, can_make_nameless, rename_edits_at}
-use Rattle.hurd_ports.specs.Tables.{Task, Tables, coded_tables, fresh, can_name, has_room, first_sent, right_of}
+use Rattle.hurd_nodes.specs.Shown.{begun_info, begun_root, shown, unlink_edits_at, rename_edits_at}
+use Rattle.hurd_ports.specs.Tables.{PortState, Task, Tables, coded_tables, fresh, can_name, has_room, first_sent, right_of}
 use Rattle.hurd_ports.specs.declared.parents.Parent.{Parent}
 use Rattle.hurd_ports.specs.declared.table.Right.{Right}
-use Rattle.hurd_ports.specs.Steps.{named}
+use Rattle.hurd_ports.specs.Steps.{named, edit_task, with_pending}
 use Rattle.hurd_machine.specs.World.{World, world_from, nodes_of, ports_of, task_at, home_at, makes_at}
-use Rattle.hurd_machine.specs.Change.{Attach, Change, DropServer, MakeNode, EditBody, Settle, opening, pending, apply_all, changes_of}
+use Rattle.hurd_machine.specs.Change.{Attach, Change, DropServer, EditTask, MakeNode, Settle, opening, apply_all, changes_of}
 use Rattle.hurd_machine.specs.Plan.{on, given, first}
-use Rattle.hurd_core.specs.declared.to_make.NamelessToMake.{NamelessToMake}
 use Rattle.hurd_core.specs.declared.to_make.ServerToMake.{ServerToMake}
 
 -- servers with their nodes, and tables of ports
@@ -62,10 +62,10 @@ receive_asks w t =
     on EWOULDBLOCK (first_sent x.inbox) (λ r.
     given EOVERFLOW (has_room 0 x) (Ok x)))
 
--- a node that is to be made: in which directory, under which name, and whose it is
+-- a node that is to be made: in which directory, under which name, if an entry is to name it, and whose it is
 pub record NewNodeAt : Type 0 where
   pub dir : Name
-  pub name : List ℕ
+  pub entry : Option (List ℕ)
   pub owner : ℕ
   pub group : ℕ
   pub mode : Mode
@@ -74,29 +74,29 @@ pub record NewNodeAt : Type 0 where
 abbrev pub asked_node : Kind → NewNodeAt → Name → NewNode
 asked_node kind f n = record { name = n; kind = kind; owner = f.owner; group = f.group; mode = f.mode }
 
--- task t, which stands as x, makes a node of this server
+-- task t, which stands as x, makes a node of this server, with its entry
 abbrev pub making : ℕ → Task → Name → NewNodeAt → Node → List Change
-making t x s f node = MakeNode (fresh t x) s node ∷ EditBody f.dir (with_entry f.name (fresh t x)) ∷ []
+making t x s f node = MakeNode (fresh t x) s (named_by f.entry node) ∷ changes_of (entering f.dir f.entry (fresh t x))
 
 -- the task that makes a file and opens it, and the server of its directory, which lets it be made
 abbrev pub making_asks : World → ℕ → NewNodeAt → Result (Task × Name) Errno
 making_asks w t f =
     first (room_asks w t 2) (λ x.
-    first (makes_at w f.dir f.name File) (λ u.
+    first (makes_at w f.dir f.entry File) (λ u.
     on EDIED (home_at w f.dir) (λ s. Ok (x, s))))
 
--- the file made, with its entry, and opened
+-- the file made, and opened
 abbrev pub making_open : ℕ → NewNodeAt → IdSets → List Parent → OpenFlags → Task × Name → List Change
 making_open t f ids parents modes a = making t a.0 a.1 f (new_file f.owner f.group f.mode) ++ opening t (named 1 a.0) (fresh t a.0) ids parents modes
 
 -- the task that makes a directory, which needs a name and no port, and the server of the directory above it, which lets it be made
 abbrev pub making_dir_asks : World → ℕ → NewNodeAt → Result (Task × Name) Errno
 making_dir_asks w t f =
-    first (makes_at w f.dir f.name Dir) (λ u.
+    first (makes_at w f.dir f.entry Dir) (λ u.
     first (naming_asks w t 1) (λ x.
     on EDIED (home_at w f.dir) (λ s. Ok (x, s))))
 
--- the directory made, with its entry and its parent
+-- the directory made, with its parent
 abbrev pub making_dir : ℕ → NewNodeAt → Task × Name → List Change
 making_dir t f a = making t a.0 a.1 f (new_dir f.owner f.group f.mode (Some f.dir))
 
@@ -104,29 +104,10 @@ making_dir t f a = making t a.0 a.1 f (new_dir f.owner f.group f.mode (Some f.di
 abbrev pub unlinking : World → Name → List ℕ → List Change
 unlinking w d name = changes_of (unlink_edits_at d name (nodes_of w)) ++ Settle ∷ []
 
--- a file that no entry names, as its server is asked for it under this name
-abbrev pub asked_nameless : NamelessToMake → Name → NewNode
-asked_nameless f n = record { name = n; kind = File; owner = f.owner; group = f.group; mode = f.mode }
-
--- whether one may be made, of the server of a node that is there
-abbrev pub nameless_asks : World → Name → Result (Unit {0}) Errno
-nameless_asks w d = can_make_nameless d File (nodes_of w)
-
--- the task that makes it and opens it, and that server
-abbrev pub making_nameless_asks : World → ℕ → Name → Result (Task × Name) Errno
-making_nameless_asks w t d =
-    first (room_asks w t 2) (λ x.
-    first (nameless_asks w d) (λ u.
-    on EDIED (home_at w d) (λ s. Ok (x, s))))
-
 -- whether something is answered, whatever it is
 abbrev pub asked_only : {A : Type 0} → Result A Errno → Result (Unit {0}) Errno
 asked_only (Ok a) = Ok tt
 asked_only (Err e) = Err e
-
--- the file made, and opened
-abbrev pub making_nameless : ℕ → NamelessToMake → IdSets → List Parent → OpenFlags → Task × Name → List Change
-making_nameless t f ids parents modes a = MakeNode (fresh t a.0) a.1 (nameless_file f.owner f.group f.mode) ∷ opening t (named 1 a.0) (fresh t a.0) ids parents modes
 
 -- what a server does where an entry goes to another of its directories, and that what nothing keeps then goes
 abbrev pub renaming : World → Name → List ℕ → Name → List ℕ → List Change
@@ -141,15 +122,20 @@ abbrev pub leaving : Option Name → List Change
 leaving None = []
 leaving (Some q) = DropServer q ∷ []
 
--- task t, which stands as x, seats a server that means m: it gives the server a name, and then its root; what nothing keeps then goes
+-- a task that was to start a server is to start nothing any more
+abbrev pub starting_over : ℕ → Bool → List Change
+starting_over t true = EditTask t (with_pending None) ∷ []
+starting_over t false = []
+
+abbrev pub started_over : ℕ → Bool → PortState → PortState
+started_over t true h = record h { tasks = edit_task t (with_pending None) h.tasks }
+started_over t false h = h
+
+-- task t, which stands as x, seats a server that means m: it gives the server a name, and then its root; if it was to start the server, it is to start
+-- nothing any more; what nothing keeps then goes
 abbrev pub attaching : ℕ → ServerToMake → IdSets → Meaning → Task → List Change
 attaching t p ids m x =
-    leaving p.instead ++ Attach (fresh t x) p.seat (begun_info m (fresh t (named 1 x)) ids) (begun_root m p.owner p.group p.mode) ∷ Settle ∷ []
-
--- task t, which stands as x, seats a server that means m, which it was to start, as above, though none leaves for it; it then is to start nothing any more
-abbrev pub starting : ℕ → ServerToMake → IdSets → Meaning → Task → List Change
-starting t p ids m x =
-    Attach (fresh t x) p.seat (begun_info m (fresh t (named 1 x)) ids) (begun_root m p.owner p.group p.mode) ∷ pending t None
+    leaving p.instead ++ Attach (fresh t x) p.seat (begun_info m (fresh t (named 1 x)) ids) (begun_root m p.owner p.group p.mode) ∷ (starting_over t p.starts ++ Settle ∷ [])
 
 -- the answer, where what comes back with a refusal is left out
 abbrev pub without_box : {S T : Type 0} → Result T (Errno × S) → Result T Errno

@@ -10,13 +10,14 @@ ghost use Rattle.hurd_nodes.specs.Shown.{ServerInfo, are_kin, options_in, header
 ghost use Rattle.hurd_ports.specs.Tables.{ids_at, io_right_of, lent, naming_of, pending_of, room_of};
 ghost use Rattle.hurd_machine.specs.World.{ports_of, active_at, body_at, header_at, home_at, info_at, is_removed, is_server_root, links_at, makes_at, node_at, readable_at, server_at, sets_attrs_at, stream_at, task_at, words_at};
 ghost use Rattle.hurd_machine.specs.Handle.{both_asks, port_asks, handle_asks};
-ghost use Rattle.hurd_core.specs.Core.{world_of, asked_only, making_nameless_asks};
+ghost use Rattle.hurd_core.specs.Core.{world_of, asked_only, making_asks};
 ghost use Rattle.hurd_core.specs.Control.{control_of};
+ghost use Rattle.hurd_core.specs.ToMake.{new_node_of};
 ghost use Rattle.hurd_core.specs.PortNode.{IsTold, both_named, header_with, named};
 
 use crate::port_node::PortNode;
 use crate::the_core::Core;
-use crate::to_make::NamelessToMake;
+use crate::to_make::NodeToMake;
 use hurd_creds::{Attrs, Errno, Ids, Kind, NodeName, OpenFlags, ServerName, TaskId};
 use hurd_machine::Handle;
 use hurd_ports::{IoRight, PendingStart, Right};
@@ -268,38 +269,45 @@ impl<S: Server> Core<S> {
         ensures { result ≡ readable_at (world_of S.meaning self.now) node at }
     {
         match self.nodes.readable(node, at) {
-            Some(readable) => readable.count,
+            Some(count) => count,
             None => 0,
         }
     }
 
-    /// Whether a node is there, and a stream: calls leave the cursors of its opens.
+    /// Whether a node's server is there, and a stream: calls leave the cursors of its opens.
     pub fn is_stream(&self, node: NodeName) -> bool
         ensures { result ≡ stream_at (world_of S.meaning self.now) node }
     {
-        match self.nodes.readable(node, 0) {
-            Some(readable) => readable.is_stream,
+        match self.nodes.root(node) {
+            Some(root) => root.is_stream,
             None => false,
         }
     }
 
-    /// Whether a node of this kind may be made in a directory under a name.
-    ///
-    /// Errors, in order: `EDIED` no such directory, `ENOTDIR`, `EROFS` its server keeps no tree, `EEXIST`, `EOPNOTSUPP`.
-    pub fn can_make(&self, dir: NodeName, name: &[u8], kind: Kind) -> Result<(), Errno>
-        ensures { result ≡ makes_at (world_of S.meaning self.now) dir name.now kind }
+    /// The text of the server of a node, lent, if the node has a server. Takes no memory.
+    pub fn text_at(&self, node: NodeName) -> Option<&[u8]>
+        ensures { option_copied result ≡ option_map (λ (i : ServerInfo). i.text) (info_at (world_of S.meaning self.now) node) }
     {
-        self.nodes.can_make(dir, name, kind)
+        self.nodes.text_at(node)
     }
 
-    /// Whether a task can make a file that no entry names, and open it.
+    /// Whether a node of this kind may be made in a directory, under a name or without an entry.
     ///
-    /// Errors, in order: `ESRCH` no such task, `EOVERFLOW`, `EDIED` no such node, `EROFS` its server keeps no tree.
-    pub fn can_make_nameless(&self, task: TaskId, file: &NamelessToMake) -> Result<(), Errno>
-        ensures { result ≡ asked_only (making_nameless_asks (world_of S.meaning self.now) task.0 file.now.dir) }
+    /// Errors, in order: `EDIED` no such directory, `ENOTDIR`, `EROFS` its server keeps no tree, `EEXIST`, `EOPNOTSUPP`.
+    pub fn can_make(&self, dir: NodeName, entry: Option<&[u8]>, kind: Kind) -> Result<(), Errno>
+        ensures { result ≡ makes_at (world_of S.meaning self.now) dir (option_copied entry.entry) kind }
+    {
+        self.nodes.can_make(dir, entry, kind)
+    }
+
+    /// Whether a task can make a file, and open it.
+    ///
+    /// Errors, in order: `ESRCH` no such task, `EOVERFLOW`, those of `can_make`.
+    pub fn can_make_file(&self, task: TaskId, file: &NodeToMake) -> Result<(), Errno>
+        ensures { result ≡ asked_only (making_asks (world_of S.meaning self.now) task.0 (new_node_of file.now)) }
     {
         self.ports.room(task, 2)?;
-        self.nodes.can_make_nameless(file.dir, Kind::File)
+        self.nodes.can_make(file.dir, file.entry, Kind::File)
     }
 
     /// Whether a file may get another name in a directory.

@@ -15,4 +15,4 @@ mod users;
 
 pub use port_node::PortNode;
 pub use the_core::Core;
-pub use to_make::{NamelessToMake, NodeToMake, ServerToMake};
+pub use to_make::{NodeToMake, ServerToMake};

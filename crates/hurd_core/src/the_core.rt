@@ -11,12 +11,12 @@ ghost use Rattle.hurd_machine.specs.World.{world_from, nodes_of, ports_of, asked
 ghost use Rattle.hurd_machine.specs.Change.{DropServer, EditBody, EditHeader, EditOpen, EditTask, Send, Settle, Unseat, apply, apply_all, changes_of, dropping, opening, pending, settle};
 ghost use Rattle.hurd_machine.specs.Plan.{Follows, Planned, answered, told};
 ghost use Rattle.hurd_machine.specs.declared.call.Reply.TheVariants.{Done};
-ghost use Rattle.hurd_core.specs.Core.{Does, attaching, naming_asks, without_box, making_asks, making_dir, making_dir_asks, making_open, receive_asks, room_asks, send_asks, unlinking, world_of, making_nameless, making_nameless_asks, renaming, starting};
+ghost use Rattle.hurd_core.specs.Core.{Does, attaching, naming_asks, without_box, making_asks, making_dir, making_dir_asks, making_open, receive_asks, room_asks, send_asks, started_over, unlinking, world_of, renaming};
 ghost use Rattle.hurd_core.specs.Control.{plan_options};
 ghost use Rattle.hurd_core.specs.ToMake.{new_node_of};
 
 use crate::named::NamedByRights;
-use crate::to_make::{NamelessToMake, NodeToMake, ServerToMake};
+use crate::to_make::{NodeToMake, ServerToMake};
 use hurd_creds::{
     Bytes, Errno, Ids, Kind, Mode, NodeName, OpenFlags, OpenName, ServerName, TaskId,
 };
@@ -90,7 +90,7 @@ impl<S: Server> Core<S> {
         self.ports.insert(task, node, ids, parents, modes)
     }
 
-    /// Makes a file in a directory, and opens it as `open` does.
+    /// Makes a file in a directory, under a name or without an entry, and opens it as `open` does.
     ///
     /// Errors, in order: `ESRCH` no such task, `EOVERFLOW`, those of `can_make`, `ENOMEM`.
     pub fn make_file(
@@ -107,39 +107,13 @@ impl<S: Server> Core<S> {
             result (world_of S.meaning self.new) }
     {
         self.ports.room(task, 2)?;
-        self.nodes.can_make(file.dir, file.name, Kind::File)?;
+        self.nodes.can_make(file.dir, file.entry, Kind::File)?;
         self.ports.reserve(task)?;
         let Some(name) = self.ports.next_name(task) else {
             return Err(Errno::ESRCH);
         };
         self.nodes
-            .make(alloc, file.dir, file.name, file.node(Kind::File, name))?;
-        self.ports.take_name(task);
-        Ok(self.ports.fill(task, name, ids, parents, modes))
-    }
-
-    /// Makes a file that no entry names, of the server of a node, and opens it as `open` does.
-    ///
-    /// Errors, in order: `ESRCH` no such task, `EOVERFLOW`, `EDIED` no such node, `EROFS` its server keeps no tree, `ENOMEM`.
-    pub fn make_nameless(
-        &mut self,
-        task: TaskId,
-        file: NamelessToMake,
-        ids: Ids,
-        parents: Parents,
-        modes: OpenFlags,
-    ) -> Result<u64, Errno>
-        ensures { let w = world_of S.meaning self.old in
-            Does w (making_nameless_asks w task.0 file.dir) (making_nameless task.0 file ids parents modes) (λ a. a.0.next)
-            result (world_of S.meaning self.new) }
-    {
-        self.ports.room(task, 2)?;
-        self.nodes.can_make_nameless(file.dir, Kind::File)?;
-        self.ports.reserve(task)?;
-        let Some(name) = self.ports.next_name(task) else {
-            return Err(Errno::ESRCH);
-        };
-        self.nodes.make_nameless(file.dir, file.node(name))?;
+            .make(alloc, file.dir, file.entry, file.node(Kind::File, name))?;
         self.ports.take_name(task);
         Ok(self.ports.fill(task, name, ids, parents, modes))
     }
@@ -152,13 +126,13 @@ impl<S: Server> Core<S> {
             Does w (making_dir_asks w task.0 (new_node_of dir.entry)) (making_dir task.0 (new_node_of dir.entry)) (λ a. tt)
             result (world_of S.meaning self.new) }
     {
-        self.nodes.can_make(dir.dir, dir.name, Kind::Dir)?;
+        self.nodes.can_make(dir.dir, dir.entry, Kind::Dir)?;
         self.ports.naming(task, 1)?;
         let Some(name) = self.ports.next_name(task) else {
             return Err(Errno::ESRCH);
         };
         self.nodes
-            .make(alloc, dir.dir, dir.name, dir.node(Kind::Dir, name))?;
+            .make(alloc, dir.dir, dir.entry, dir.node(Kind::Dir, name))?;
         self.ports.take_name(task);
         Ok(())
     }
@@ -350,7 +324,7 @@ impl<S: Server> Core<S> {
     }
 
     /// Seats a new server on a node, after another has left for it, if one is to: the task gives it its next name, and its root
-    /// the one after. What nothing keeps any more goes.
+    /// the one after. If the task was to start it, it is to start nothing any more. What nothing keeps any more goes.
     ///
     /// Errors, in order, with the box back: `ESRCH` no such task, `EOVERFLOW`, `ENOMEM`.
     pub fn attach(
@@ -375,38 +349,19 @@ impl<S: Server> Core<S> {
             .attach(place.place(name), ids, place.instead, server)?;
         self.ports.take_name(task);
         self.ports.take_name(task);
+        self.start_over(task, place.starts);
         self.settle();
         Ok(())
     }
 
-    /// Seats a new server on a node, as `attach` does where none leaves for it, for the task that was to start it; the task then is
-    /// to start nothing any more. What nothing keeps any more goes.
-    ///
-    /// Errors, in order, with the box back: `ESRCH` no such task, `EOVERFLOW`, `ENOMEM`.
-    pub fn start(
-        &mut self,
-        task: TaskId,
-        place: ServerToMake,
-        ids: Ids,
-        server: S,
-    ) -> Result<(), (Errno, S)>
-        requires { Begins (S.meaning server) }
-        ensures does { let w = world_of S.meaning self.old in
-            Does w (naming_asks w task.0 2) (starting task.0 place ids (S.meaning server)) (λ x. tt) (without_box result) (world_of S.meaning self.new) }
-        ensures back { IfErr result (λ e. e.1 ≡ server) }
+    /// A task that was to start a server is to start nothing any more.
+    fn start_over(&mut self, task: TaskId, starts: bool)
+        ensures nodes { self.new.nodes ≡ self.old.nodes }
+        ensures ports { self.new.ports.state ≡ started_over task.0 starts self.old.ports.state }
     {
-        if let Err(refused) = self.ports.naming(task, 2) {
-            return Err((refused, server));
+        if starts {
+            let _ = self.ports.unpend(task);
         }
-        let Some(name) = self.ports.next_name(task) else {
-            return Err((Errno::ESRCH, server));
-        };
-        self.nodes.attach(place.place(name), ids, None, server)?;
-        self.ports.take_name(task);
-        self.ports.take_name(task);
-        let _ = self.ports.unpend(task);
-        self.settle();
-        Ok(())
     }
 
     /// Takes a server out with its nodes, wherever it is active. What nothing keeps any more goes. Takes no memory.

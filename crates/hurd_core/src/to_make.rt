@@ -1,17 +1,17 @@
 //! Nodes and servers that are to be made.
 ghost use Rattle.std.specs.Prelude.{◌≡◌, ◌<◌};
-ghost use Rattle.hurd_core.specs.Core.{asked_nameless, asked_node, placed};
+ghost use Rattle.hurd_core.specs.Core.{asked_node, placed};
 ghost use Rattle.hurd_core.specs.ToMake.{new_node_of};
 
 use hurd_creds::{Kind, Mode, Name, NodeName, ServerName};
 use hurd_nodes::Place;
 use hurd_trans_iface::NewNode;
 
-/// A node that is to be made: in which directory, under which name, and whose it is.
+/// A node that is to be made: in which directory, under which name, if an entry is to name it, and whose it is.
 #[derive(Clone, Copy, Debug)]
 pub struct NodeToMake<'a> {
     pub dir: NodeName,
-    pub name: &'a [u8],
+    pub entry: Option<&'a [u8]>,
     pub owner: u32,
     pub group: u32,
     pub mode: Mode,
@@ -32,37 +32,8 @@ impl NodeToMake<'_> {
     }
 }
 
-/// A file that no entry is to name: of which node's server it is to be, and whose it is.
-#[derive(Clone, Copy, Debug)]
-pub struct NamelessToMake {
-    pub dir: NodeName,
-    pub owner: u32,
-    pub group: u32,
-    pub mode: Mode,
-}
-
-impl NamelessToMake {
-    /// The file as its server is asked for it, under this name of the node.
-    pub(crate) fn node(&self, name: NodeName) -> NewNode
-        ensures { result ≡ asked_nameless self.now name }
-    {
-        let NamelessToMake {
-            owner,
-            group,
-            mode,
-            ..
-        } = *self;
-        NewNode {
-            name,
-            kind: Kind::File,
-            owner,
-            group,
-            mode,
-        }
-    }
-}
-
-/// A server that is to be made: on which node it is to be active, whose its root is, and which server leaves for it.
+/// A server that is to be made: on which node it is to be active, whose its root is, which server leaves for it, and whether the task was to
+/// start it.
 #[derive(Clone, Copy, Debug)]
 pub struct ServerToMake {
     pub seat: NodeName,
@@ -70,6 +41,7 @@ pub struct ServerToMake {
     pub group: u32,
     pub mode: Mode,
     pub instead: Option<ServerName>,
+    pub starts: bool,
 }
 
 impl ServerToMake {

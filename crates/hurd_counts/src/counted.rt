@@ -3,7 +3,7 @@ ghost use Rattle.std.specs.Prelude.{◌≡◌, IfErr, IfOk};
 ghost use Rattle.hurd_creds.specs.declared.errno.Errno.TheVariants.{ENOMEM};
 
 use hurd_creds::{Attrs, Bytes, Errno, Mode, NodeName};
-use hurd_trans_iface::{Names, NewNode, Readable, Root, Server, Words};
+use hurd_trans_iface::{Names, NewNode, Root, Server, Words};
 use std::alloc::Global;
 use std::cell::Cell;
 use std::rc::Rc;
@@ -138,7 +138,7 @@ impl<S: Server> Server for Counted<S> {
         self.server.content(node)
     }
 
-    fn readable(&self, node: NodeName, at: u64) -> Option<Readable> {
+    fn readable(&self, node: NodeName, at: u64) -> Option<u64> {
         self.server.readable(node, at)
     }
 
@@ -146,14 +146,10 @@ impl<S: Server> Server for Counted<S> {
         &mut self,
         alloc: Global,
         dir: NodeName,
-        name: &[u8],
+        entry: Option<&[u8]>,
         new: NewNode,
     ) -> Result<(), Errno> {
-        self.server.make(alloc, dir, name, new)
-    }
-
-    fn make_nameless(&mut self, new: NewNode) -> Result<(), Errno> {
-        self.server.make_nameless(new)
+        self.server.make(alloc, dir, entry, new)
     }
 
     fn link(

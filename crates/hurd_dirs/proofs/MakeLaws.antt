@@ -1,6 +1,6 @@
 -- The laws of making directories.
 use Rattle.std.proofs.Common.{◌≡◌, ◌⊎◌, ℕ, Bool, true, List, refl, sym, subst, inl, inr, ap}
-use Rattle.std.specs.Prelude.{Ok, is_none}
+use Rattle.std.specs.Prelude.{Some, Ok, is_none}
 use Rattle.hurd_creds.specs.declared.mode.Mode.{Mode}
 use Rattle.hurd_creds.specs.declared.errno.Errno.TheVariants.{EACCES, EEXIST}
 use Rattle.hurd_creds.specs.Access.{least_uid}
@@ -28,6 +28,7 @@ module _ (t p : ℕ) (name : List ℕ) (mode : Mode) where
     above : Named
     is_entry : IsEntryAt w t p above
     dir : f.dir ≡ above.right.node
+    named : f.entry ≡ Some name
 
   made_by : (w : World) (f : NewNodeAt) → mkdir_asks w t p name mode ≡ Ok f → MadeBy w f
   made_by w f is =
@@ -35,7 +36,7 @@ module _ (t p : ℕ) (name : List ℕ) (mode : Mode) where
       let o = on_ok EACCES (least_uid a.0.right.ids) _ f a.2 in
       let g = given_ok EEXIST (is_none (entry_of name (body_at w a.0.right.node))) _ f o.2 in
       let same : node_by a.0 name o.0 mode ≡ f = cc (g.1) in
-      record { above = a.0; is_entry = entry_at w t p name a.0 a.1; dir = ap (λ (n : NewNodeAt). n.dir) (sym same) }
+      record { above = a.0; is_entry = entry_at w t p name a.0 a.1; dir = ap (λ (n : NewNodeAt). n.dir) (sym same); named = ap (λ (n : NewNodeAt). n.entry) (sym same) }
 
   made_leads : (w : World) → Linked (nodes_of w) → (f : NewNodeAt) → mkdir_asks w t p name mode ≡ Ok f → LeadsUp (nodes_of w) f.dir
   made_leads w l f is = let m = made_by w f is in subst (LeadsUp (nodes_of w)) (sym m.dir) (entry_leads w l t p m.above m.is_entry)
@@ -56,7 +57,7 @@ module _ (t p : ℕ) (name : List ℕ) (mode : Mode) where
   pub mkdir_laws : CallLaws t (λ w. plan_mkdir w t p name mode) (λ w. touches_mkdir w t p name mode)
   mkdir_laws = record {
     piece = λ w s. answered_piece s (mkdir_asks w t p name mode) _ _ (λ f is. answered_piece s (making_dir_asks w t f) _ _ (λ m may.
-        dir_whole t f s m (asks_dir t f w m may) (made_leads w s.linked f is) (inl refl) (inr refl) (λ S ours. (made_seen ours f is).0)));
+        dir_whole t f s name (made_by w f is).named m (asks_dir t f w m may) (made_leads w s.linked f is) (inl refl) (inr refl) (λ S ours. (made_seen ours f is).0)));
     same = λ S v w c d a ours. answered_same _ _ _ _ (mkdir_same a ours) (λ f is.
         answered_same _ _ _ _ (making_dir_same t f a ours (made_seen ours f is)) (λ m may. refl));
     plain = λ w. answered_plain _ _ (mkdir_plain w) (λ f is. answered_plain _ _ (making_dir_plain t f w) (λ m may. done_plain Done refl));

@@ -1,5 +1,5 @@
 -- Making directories.
-use Rattle.std.specs.Prelude.{◌≡◌, ◌⊎◌, ℕ, List, is_none, Result, Ok, Err}
+use Rattle.std.specs.Prelude.{◌≡◌, ◌⊎◌, ℕ, List, is_none, Some, Result, Ok, Err}
 use Rattle.hurd_creds.specs.declared.mode.Mode.{Mode}
 use Rattle.hurd_creds.specs.declared.errno.Errno.{Errno}
 use Rattle.hurd_creds.specs.declared.errno.Errno.TheVariants.{EACCES, EEXIST}
@@ -19,7 +19,7 @@ use Rattle.hurd_dirs.specs.Entry.{entry_asks}
 
 -- a node made by a port: it belongs to the least uid of the port, and to the directory's group
 abbrev pub node_by : Named → List ℕ → ℕ → Mode → NewNodeAt
-node_by a name owner mode = record { dir = a.right.node; name = name; owner = owner; group = a.header.group; mode = known_mode mode }
+node_by a name owner mode = record { dir = a.right.node; entry = Some name; owner = owner; group = a.header.group; mode = known_mode mode }
 
 -- which directory is to be made
 abbrev pub mkdir_asks : World → ℕ → ℕ → List ℕ → Mode → Result NewNodeAt Errno

@@ -6,7 +6,7 @@ ghost use Rattle.hurd_core.specs.Core.{world_of};
 ghost use Rattle.hurd_dirs.specs.File.{mkfile_asks, plan_mkfile, by_named};
 
 use crate::entry::dir_asked;
-use hurd_core::{Core, NamelessToMake, PortNode};
+use hurd_core::{Core, NodeToMake, PortNode};
 use hurd_creds::{Errno, Mode, OpenFlags, TaskId};
 use hurd_trans_iface::Server;
 use std::alloc::Global;
@@ -15,7 +15,7 @@ use std::alloc::Global;
 #[derive(Clone, Copy, Debug)]
 struct FileToMake<'a> {
     above: PortNode<'a>,
-    file: NamelessToMake,
+    file: NodeToMake<'static>,
 }
 
 /// The file that is to be made of a port's directory's server: the least uid's of the port.
@@ -36,8 +36,9 @@ fn mkfile_asked<'a, S: Server>(
     let Some(owner) = above.right.ids.least_uid() else {
         return Err(Errno::EACCES);
     };
-    let file = NamelessToMake {
+    let file = NodeToMake {
         dir: above.right.node,
+        entry: None,
         owner,
         group: above.attrs.group,
         mode: mode.known(),
@@ -65,8 +66,8 @@ pub fn dir_mkfile<S: Server>(
 {
     let made = mkfile_asked(core, task, port, mode)?;
     let file = made.file;
-    core.can_make_nameless(task, &file)?;
+    core.can_make_file(task, &file)?;
     let ids = made.above.right.ids.copied(alloc)?;
     let parents = made.above.right.parents.copied(alloc)?;
-    core.make_nameless(task, file, ids, parents, flags.open_modes())
+    core.make_file(alloc, task, file, ids, parents, flags.open_modes())
 }

@@ -34,7 +34,7 @@ fn mkdir_asked<'n, S: Server>(
     }
     Ok(NodeToMake {
         dir,
-        name,
+        entry: Some(name),
         owner,
         group: above.attrs.group,
         mode: mode.known(),

@@ -163,7 +163,7 @@ module _ {S : Type 0} (mean : S → Meaning) (w : World) (t p : ℕ) (f : Settin
             (refl, makes ∙ ap (apply_all (emptying f n.right.node old)) stores ∙ sym (apply_all-append (storing f n.right.node words) (emptying f n.right.node old) w)))
 
         abbrev seated_with : Meaning → Task → List Change
-        seated_with m x = storing f n.right.node words ++ attaching t (seat_on n.right.node n.header m (leaver f old)) (server_ids n.header.owner) m x
+        seated_with m x = storing f n.right.node words ++ attaching t (seat_on n.right.node n.header m (leaver f old) false) (server_ids n.header.owner) m x
 
         -- with a box they are stored, and it is taken
         pub set_seated : (s : S) (r : Result (Unit {0}) Errno) (y : World) → server ≡ Some s → Does w (naming_asks w t 2) (seated_with (mean s)) (λ x. tt {0}) r y → IsPlanned r y

@@ -65,7 +65,7 @@ module _ (w : World) (c : Coherent w) (t : ℕ) (n : Named) (there : (h : Header
 
   -- the changes, for a server that goes or none
   abbrev comings : Option Name → List Change
-  comings old = attaching t (seat_on n.right.node n.header m old) ids m x
+  comings old = attaching t (seat_on n.right.node n.header m old false) ids m x
 
   -- what goes is active on the node
   abbrev IsOld : Option Name → Type 0
@@ -181,7 +181,7 @@ module _ (t p : ℕ) (f : Setting) where
     like w n k = storing_like n.right.node words sets w n.header k.is_named.is_header
 
     abbrev comings_of : Named → Meaning → Option Name → Task → List Change
-    comings_of n m old x = attaching t (seat_on n.right.node n.header m old) (server_ids n.header.owner) m x
+    comings_of n m old x = attaching t (seat_on n.right.node n.header m old false) (server_ids n.header.owner) m x
 
     module _ (w : World) (s : Sound w) (n : Named) (k : Owner t p w n) (old : Option Name) (e : active_at w n.right.node ≡ old) where
       abbrev v : World

@@ -14,7 +14,7 @@ use Rattle.hurd_machine.specs.World.{World, nodes_of, ports_of}
 use Rattle.hurd_machine.specs.Change.{apply_all, pending}
 use Rattle.hurd_machine.specs.Plan.{Plan, Follows, Tried, answered, first, on}
 use Rattle.hurd_machine.proofs.Asks.{first_ok}
-use Rattle.hurd_core.specs.Core.{Does, naming_asks, starting}
+use Rattle.hurd_core.specs.Core.{Does, attaching, naming_asks}
 use Rattle.hurd_core.proofs.CoreLaws.{naming-had, naming-refused}
 use Rattle.hurd_core.proofs.PlanLaws.{follows-from, follows-refused, follows-then}
 use Rattle.hurd_fsys.specs.Setting.{seat_on, server_ids}
@@ -123,18 +123,18 @@ module _ (w : World) (t : ℕ) where
             let same : ◌≡◌ {A = Header × Task} (f.0, x.0) (h, both.0) = cc (x.2) in
             x.1 ∙ ap (λ (z : Header × Task). let r : Result Task Errno = Ok z.1 in r) same
 
-        does_planned : (r : Result (Unit {0}) Errno) (y : World) (u : Unit {0}) → Does w (naming_asks w t 2) (starting t (seat_on s.node h m None) (server_ids h.owner) m) (λ x. u) r y
+        does_planned : (r : Result (Unit {0}) Errno) (y : World) (u : Unit {0}) → Does w (naming_asks w t 2) (attaching t (seat_on s.node h m None true) (server_ids h.owner) m) (λ x. u) r y
             → Tried w (started t s m (Ok (h, both.0))) tells r y
         does_planned (Ok v) y u d =
             let one : Ok both.0 ≡ Ok d.0 = sym naming ∙ d.1 in
             let same : both.0 ≡ d.0 = cc in
-            inl (refl, d.3 ∙ ap (λ (x : Task). apply_all (starting t (seat_on s.node h m None) (server_ids h.owner) m x) w) (sym same))
+            inl (refl, d.3 ∙ ap (λ (x : Task). apply_all (attaching t (seat_on s.node h m None true) (server_ids h.owner) m x) w) (sym same))
         does_planned (Err e) y u d = elim d.1 [
           | inl refused ↦ absurd (cc (naming, refused))
           | inr lacks ↦ inr (ap Err lacks.0, (d.0, refl))
         ]
 
         -- the server comes
-        pub starts_seated : (r : Result (Unit {0}) Errno) (y : World) (u : Unit {0}) → Does w (naming_asks w t 2) (starting t (seat_on s.node h m None) (server_ids h.owner) m) (λ x. u) r y
+        pub starts_seated : (r : Result (Unit {0}) Errno) (y : World) (u : Unit {0}) → Does w (naming_asks w t 2) (attaching t (seat_on s.node h m None true) (server_ids h.owner) m) (λ x. u) r y
             → Tried w (plan_startup w t m) tells r y
         starts_seated r y u d = subst (λ (P : Plan). Tried w P tells r y) (sym (planned (Ok (h, both.0)) both.1)) (does_planned r y u d)

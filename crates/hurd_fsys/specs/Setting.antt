@@ -87,16 +87,16 @@ root_mode kind mode = if is_dir kind then record { 0 = with_search 256 64 (with_
 abbrev pub root_kind : Meaning → Kind
 root_kind m = (root_of m.kind m.text).kind
 
--- where a server comes: on a node of this header, its root like that; for it another goes
-abbrev pub seat_on : Name → Header → Meaning → Option Name → ServerToMake
-seat_on n h m instead = record { seat = n; owner = h.owner; group = h.group; mode = root_mode (root_kind m) h.mode; instead = instead }
+-- where a server comes: on a node of this header, its root like that; for it another goes; and the task was to start it, or not
+abbrev pub seat_on : Name → Header → Meaning → Option Name → Bool → ServerToMake
+seat_on n h m instead starts = record { seat = n; owner = h.owner; group = h.group; mode = root_mode (root_kind m) h.mode; instead = instead; starts = starts }
 
 -- what is set where something is: the words; then a box, which means this, or none
 abbrev pub seating : World → ℕ → Named → Setting → List (List ℕ) → Option Meaning → Option Name → Plan
 seating w t n f words None old = record { reply = Done; changes = storing f n.right.node words ++ emptying f n.right.node old }
 seating w t n f words (Some m) old =
     answered (naming_asks w t 2) (λ x.
-    record { reply = Done; changes = storing f n.right.node words ++ attaching t (seat_on n.right.node n.header m (leaver f old)) (server_ids n.header.owner) m x })
+    record { reply = Done; changes = storing f n.right.node words ++ attaching t (seat_on n.right.node n.header m (leaver f old) false) (server_ids n.header.owner) m x })
 
 -- with neither half to be set, nothing is
 abbrev pub setting_where : Bool → World → ℕ → Setting → List (List ℕ) → Option Meaning → Named → Plan

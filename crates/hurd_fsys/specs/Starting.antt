@@ -14,7 +14,7 @@ use Rattle.hurd_machine.specs.Change.{pending}
 use Rattle.hurd_machine.specs.Plan.{Plan, on, given, first, answered}
 use Rattle.hurd_machine.specs.Sight.{Part, AttrOf}
 use Rattle.hurd_machine.specs.Touched.{asked_parts, Nothing}
-use Rattle.hurd_core.specs.Core.{naming_asks, starting}
+use Rattle.hurd_core.specs.Core.{attaching, naming_asks}
 use Rattle.hurd_core.specs.PortNode.{header_with}
 use Rattle.hurd_fsys.specs.Setting.{seat_on, server_ids}
 
@@ -60,7 +60,7 @@ header_told words (Err e) = Err e
 -- the server comes, and the task is to start nothing any more; nor is it where that is refused
 abbrev pub started : ℕ → PendingStart → Meaning → Result (Header × Task) Errno → Plan
 started t s m (Err e) = record { reply = Refused e; changes = pending t None }
-started t s m (Ok a) = record { reply = Done; changes = starting t (seat_on s.node a.0 m None) (server_ids a.0.owner) m a.1 }
+started t s m (Ok a) = record { reply = Done; changes = attaching t (seat_on s.node a.0 m None true) (server_ids a.0.owner) m a.1 }
 
 abbrev pub plan_startup : World → ℕ → Meaning → Plan
 plan_startup w t m = answered (pending_asks w t) (λ s. started t s m (startup_asks w t s))

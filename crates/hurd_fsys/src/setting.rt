@@ -88,6 +88,7 @@ pub fn file_set_translator<S: Server>(
                 group: attrs.group,
                 mode: root_mode(server.root().kind, attrs.mode),
                 instead: leaver(setting, old),
+                starts: false,
             };
             match seat_with(core, alloc, task, setting, place, words, server) {
                 Ok(()) => Ok(()),
@@ -164,7 +165,7 @@ fn may_replace<S: Server>(core: &Core<S>, setting: Setting, old: Option<ServerNa
 /// Seats a server, which runs with the uid of its root's owner. An error gives the box back.
 ///
 /// Errors, in order: `ESRCH`, `EOVERFLOW`, `ENOMEM`.
-fn seat<S: Server>(
+pub(crate) fn seat<S: Server>(
     core: &mut Core<S>,
     alloc: Global,
     task: TaskId,

@@ -7,14 +7,13 @@ ghost use Rattle.hurd_trans_iface.specs.Meaning.{Begins};
 ghost use Rattle.hurd_machine.specs.Plan.{Follows, Tried, told};
 ghost use Rattle.hurd_machine.specs.declared.call.Reply.TheVariants.{Done};
 ghost use Rattle.hurd_machine.specs.World.{words_at};
-ghost use Rattle.hurd_core.specs.Core.{Does, naming_asks, starting, without_box, world_of};
+ghost use Rattle.hurd_core.specs.Core.{without_box, world_of};
 ghost use Rattle.hurd_core.specs.PortNode.{or_no_words};
-ghost use Rattle.hurd_fsys.specs.Setting.{server_ids};
 ghost use Rattle.hurd_fsys.specs.Starting.{header_asked, header_told, plan_start_failed, plan_startup, same_words, startup_asks, waiting_asks};
 
-use crate::setting::root_mode;
+use crate::setting::{root_mode, seat};
 use hurd_core::{Core, ServerToMake};
-use hurd_creds::{Attrs, Bytes, Errno, Ids, TaskId};
+use hurd_creds::{Attrs, Bytes, Errno, TaskId};
 use hurd_ports::PendingStart;
 use hurd_trans_iface::{Server, Words};
 use std::alloc::Global;
@@ -66,29 +65,9 @@ pub fn fsys_startup<S: Server>(
         group: attrs.group,
         mode: root_mode(server.root().kind, attrs.mode),
         instead: None,
+        starts: true,
     };
     seat(core, alloc, task, place, server)
-}
-
-/// Seats the server that a task was to start, which runs with the uid of its root's owner. An error gives the box back.
-///
-/// Errors, in order: `ESRCH`, `EOVERFLOW`, `ENOMEM`.
-fn seat<S: Server>(
-    core: &mut Core<S>,
-    alloc: Global,
-    task: TaskId,
-    place: ServerToMake,
-    server: S,
-) -> Result<(), (Errno, S)>
-    requires { Begins (S.meaning server) }
-    ensures does { let w = world_of S.meaning core.old in
-        Does w (naming_asks w task.0 2) (starting task.0 place (server_ids place.owner) (S.meaning server)) (λ x. tt) (without_box result) (world_of S.meaning core.new) }
-    ensures back { IfErr result (λ e. e.1 ≡ server) }
-{
-    match Ids::new(alloc, &[place.owner], &[]) {
-        Ok(ids) => core.start(task, place, ids, server),
-        Err(errno) => Err((errno, server)),
-    }
 }
 
 /// The attributes of the node whose translator a task is to start, where that can be done, and the task can name two things more.

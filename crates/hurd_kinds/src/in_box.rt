@@ -3,7 +3,7 @@ ghost use Rattle.hurd_kinds.specs.Boxes.{box_meaning};
 
 use crate::server_box::ServerBox;
 use hurd_creds::{Attrs, Bytes, Errno, Mode, NodeName};
-use hurd_trans_iface::{Names, NewNode, Readable, Root, Server, Words};
+use hurd_trans_iface::{Names, NewNode, Root, Server, Words};
 use std::alloc::Global;
 
 /// What a call on the server in the box gives, whatever its kind is.
@@ -76,7 +76,7 @@ impl Server for ServerBox {
         in_box!(self, server => server.content(node))
     }
 
-    fn readable(&self, node: NodeName, at: u64) -> Option<Readable> {
+    fn readable(&self, node: NodeName, at: u64) -> Option<u64> {
         in_box!(self, server => server.readable(node, at))
     }
 
@@ -84,14 +84,10 @@ impl Server for ServerBox {
         &mut self,
         alloc: Global,
         dir: NodeName,
-        name: &[u8],
+        entry: Option<&[u8]>,
         new: NewNode,
     ) -> Result<(), Errno> {
-        in_box!(self, server => server.make(alloc, dir, name, new))
-    }
-
-    fn make_nameless(&mut self, new: NewNode) -> Result<(), Errno> {
-        in_box!(self, server => server.make_nameless(new))
+        in_box!(self, server => server.make(alloc, dir, entry, new))
     }
 
     fn link(

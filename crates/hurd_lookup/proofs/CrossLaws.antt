@@ -8,26 +8,18 @@ use Rattle.hurd_creds.specs.declared.errno.Errno.{Errno}
 use Rattle.hurd_creds.specs.declared.errno.Errno.TheVariants.{EDIED}
 use Rattle.hurd_creds.specs.Bits.{asks, NOLINK}
 use Rattle.hurd_trans_iface.specs.Nodes.{Header, Node}
-use Rattle.hurd_trans_iface.specs.Meaning.{ServerKind, Tmpfs, Hello, Null, Zero, Symlink, behaviour_of, root_of}
+use Rattle.hurd_trans_iface.specs.Meaning.{root_of}
 use Rattle.hurd_trans_iface.specs.declared.root.Root.{Root}
 use Rattle.hurd_trans_iface.specs.declared.root.Crossing.{Crossing}
 use Rattle.hurd_trans_iface.specs.declared.root.Crossing.TheVariants.{Plain, Link}
-use Rattle.hurd_nodes.specs.Shown.{ServerInfo, readable_by}
+use Rattle.hurd_nodes.specs.Shown.{ServerInfo}
 use Rattle.hurd_ports.specs.declared.table.IoRight.{IoRight}
-use Rattle.hurd_machine.specs.World.{World, count_in, header_at, info_at, node_at, readable_at, words_at}
+use Rattle.hurd_machine.specs.World.{World, header_at, info_at, words_at}
 use Rattle.hurd_machine.specs.Plan.{on, first}
 use Rattle.hurd_core.specs.PortNode.{header_with}
 use Rattle.hurd_lookup.specs.declared.request.Request.{Request}
 use Rattle.hurd_lookup.specs.Lookup.{Place, cross, crossing, enter, follow, is_last}
-use Rattle.hurd_lookup.specs.Ends.{IsLink, text_at, text_by}
-
--- of all kinds only links lead on
-only_symlink : (k : ServerKind) (text : List ℕ) (a : Bool) → (root_of k text).crossing ≡ Link a → k ≡ Symlink
-only_symlink Tmpfs text a is = absurd (cc)
-only_symlink Hello text a is = absurd (cc)
-only_symlink Null text a is = absurd (cc)
-only_symlink Zero text a is = absurd (cc)
-only_symlink Symlink text a is = refl
+use Rattle.hurd_lookup.specs.Ends.{text_at, text_by}
 
 -- a node whose attributes are told is there
 pub there : (w : World) (n : Name) (o : Option Attrs) (b : Bool) → is_some o ≡ not b → b ≡ false → option_map (header_with (words_at w n)) o ≡ header_at w n → (h : Header) × (header_at w n ≡ Some h)
@@ -42,13 +34,6 @@ module _ (w : World) (root : Name) (h : Header) (there : header_at w root ≡ So
       go : (o : Option ServerInfo) → info_at w root ≡ o → Some x ≡ option_map (λ (i : ServerInfo). root_of i.kind i.text) o → (i : ServerInfo) × (info_at w root ≡ Some i) × (root_of i.kind i.text ≡ x)
       go None e k = absurd (cc)
       go (Some i) e k = (i, e, let same : root_of i.kind i.text ≡ x = cc in same)
-
-  node-of : (y : Node) × (node_at w root ≡ Some y)
-  node-of = go (get w.nodes root) refl there
-    where
-      go : (o : Option Node) → get w.nodes root ≡ o → option_map (λ (y : Node). y.header) o ≡ Some h → (y : Node) × (get w.nodes root ≡ Some y)
-      go None e k = absurd (cc)
-      go (Some y) e k = (y, e)
 
   module _ (q : IoRight) (r : Request) (d : Name) (names : List (List ℕ)) where
     abbrev crossed : Option Header → Option ServerInfo → Result Place Errno
@@ -73,14 +58,3 @@ module _ (w : World) (root : Name) (h : Header) (there : header_at w root ≡ So
         served ∙ ap (λ (y : Crossing). crossing y q r d root info-of.0.text names) link
         ∙ ap (λ (b : Bool). if b then enter q r d root names else follow a q r d info-of.0.text names) (sym final)
         ∙ ap (λ (text : List ℕ). follow a q r d text names) (sym (ap text_by info-of.1))
-
-  -- such a root is a link's
-  pub is_link : (a : Bool) → x.crossing ≡ Link a → (n : ℕ) → n ≡ readable_at w root 0 → IsLink w (record { root = root; length = n })
-  is_link a link n is =
-      let i = info-of in
-      let y = node-of in
-      let kind = only_symlink i.0.kind i.0.text a (ap (λ (z : Root). z.crossing) i.2 ∙ link) in
-      let reads : readable_at w root 0 ≡ length i.0.text =
-      ap₂ (λ (o : Option ServerInfo) (z : Option Node). count_in (readable_by 0 o z)) i.1 y.1
-      ∙ ap (λ (k : ServerKind). (behaviour_of k).readable i.0.text y.0 0) kind ∙ omega arith in
-      record { info = i.0; node = y.0; served = i.1; there = y.1; kind = kind; long = sym (is ∙ reads) }

@@ -110,7 +110,7 @@ module _ (w : World) (t : ℕ) (flags : OpenFlags) where
     makes-it =
         let x = there (ending_asks w t o) ok in (
           x.0,
-          ap (λ (r : Result Task Errno). asks_more r (makes_at w f.dir f.name File) (home_at w f.dir)) x.1
+          ap (λ (r : Result Task Errno). asks_more r (makes_at w f.dir f.entry File) (home_at w f.dir)) x.1
               ∙ ap (λ (m : Result (Unit {0}) Errno). asks_more (Ok x.0) m (home_at w f.dir)) may.0
               ∙ ap (λ (h : Option Name). asks_more (Ok x.0) (Ok tt) h) may.1,
           plan-is o x.0 x.1,
@@ -150,33 +150,21 @@ module _ (w : World) (t : ℕ) (flags : OpenFlags) where
 
   -- a name is told, with a port or without one
   module _ (kind : RetryKind) (name : List ℕ) where
-    pub told-alone : IsOk (ending_asks w t (Retries kind name None)) → (y : World) → y ≡ w → Follows w (asked (Ok (Retries kind name None))) (Found (found.Retry kind name None)) y
-    told-alone ok y same = let x = there (ending_asks w t (Retries kind name None)) ok in rw (plan-is (Retries kind name None) x.0 x.1) (refl, same)
+    pub told-alone : IsOk (ending_asks w t (Retries kind name None)) → Follows w (asked (Ok (Retries kind name None))) (Found (found.Retry kind name None)) w
+    told-alone ok = let x = there (ending_asks w t (Retries kind name None)) ok in rw (plan-is (Retries kind name None) x.0 x.1) (refl, refl)
 
     module _ (e : NewPort) (ok : IsOk (ending_asks w t (Retries kind name (Some e)))) where
       abbrev p : Outcome
       p = Retries kind name (Some e)
 
-      abbrev bare_opens : OpenFlags → Task → List Change
-      bare_opens modes x = opening t x e.node e.ids e.parents modes
+      abbrev bare_opens : Task → List Change
+      bare_opens x = opening t x e.node e.ids e.parents no_modes
 
       abbrev tell : ℕ → Lookup
       tell k = found.Retry kind name (Some k)
 
-      -- in a world that is this one, with modes that are none
-      abbrev Does-bare : World → OpenFlags → Result ℕ Errno → World → Type 0
-      Does-bare v modes r y = Does v (room_asks v t 1) (bare_opens modes) (λ x. x.next) r y
+      pub told-at : (k : ℕ) (y : World) → Does w (room_asks w t 1) bare_opens (λ x. x.next) (Ok k) y → Follows w (asked (Ok p)) (Found (tell k)) y
+      told-at k y d = let x = there (ending_asks w t p) ok in does_planned w (room_asks w t 1) bare_opens (λ x. x.next) tell (asked (Ok p)) x.0 x.1 (plan-is p x.0 x.1) k y d
 
-      pub told-at : (v : World) → v ≡ w → (modes : OpenFlags) → modes ≡ no_modes → (k : ℕ) (y : World) → Does v (room_asks v t 1) (bare_opens modes) (λ x. x.next) (Ok k) y
-          → Follows w (asked (Ok p)) (Found (tell k)) y
-      told-at v same modes none k y d =
-          let x = there (ending_asks w t p) ok in
-          let here = subst (λ (u : World). Does-bare u no_modes (Ok k) y) same (subst (λ (m : OpenFlags). Does-bare v m (Ok k) y) none d) in
-          does_planned w (room_asks w t 1) (bare_opens no_modes) (λ x. x.next) tell (asked (Ok p)) x.0 x.1 (plan-is p x.0 x.1) k y here
-
-      pub untold-at : (v : World) → v ≡ w → (modes : OpenFlags) → (f : Errno) (y : World) → Does v (room_asks v t 1) (bare_opens modes) (λ x. x.next) (Err f) y
-          → Planned w (asked (Ok p)) Found (Err f) y
-      untold-at v same modes f y d =
-          let x = there (ending_asks w t p) ok in
-          does_lacks w (room_asks w t 1) (bare_opens no_modes) (λ x. x.next) tell (asked (Ok p)) x.0 x.1 (plan-is p x.0 x.1) f y
-          (subst (λ (u : World). Does-bare u no_modes (Err f) y) same d)
+      pub untold-at : (f : Errno) (y : World) → Does w (room_asks w t 1) bare_opens (λ x. x.next) (Err f) y → Planned w (asked (Ok p)) Found (Err f) y
+      untold-at f y d = let x = there (ending_asks w t p) ok in does_lacks w (room_asks w t 1) bare_opens (λ x. x.next) tell (asked (Ok p)) x.0 x.1 (plan-is p x.0 x.1) f y d

@@ -30,7 +30,7 @@ module _ {S : ℕ → Bool} {v w : World} (a : Agree S v w) (q : IoRight) (r : R
       on_same _ _ _ _ _ (header_same a n seen.0) (λ h e. given_same _ _ _ _ _ refl (λ k. given_same _ _ _ _ _ refl (λ b.
       given_same _ (not (asks r.flags WRITE && only_reads (info_at v n))) (not (asks r.flags WRITE && only_reads (info_at w n))) _ _ (rw (info_same a n seen.0) refl) (λ g. refl))))
   end_same (AtName d name) seen =
-      first_same _ _ _ _ (makes_same a d name File seen) (λ u made.
+      first_same _ _ _ _ (makes_same a d (Some name) File seen) (λ u made.
       on_same _ _ _ _ _ (header_same a d seen.0) (λ h e. given_same _ _ _ _ _ refl (λ m. on_same _ _ _ _ _ refl (λ owner least.
       given_same _ (not (is_removed v d h)) (not (is_removed w d h)) _ _ (rw (is_root_same a d seen.0) refl) (λ g.
       on_same _ _ _ _ _ (home_same a d seen.0) (λ s es. refl))))))
@@ -40,7 +40,7 @@ module _ {S : ℕ → Bool} {v w : World} (a : Agree S v w) (q : IoRight) (r : R
 pub end_plain : (w : World) (q : IoRight) (r : Request) (place : Place) → IsPlain (end_asks w q r place)
 end_plain w q r (AtNode n ways) = on_plain _ _ _ refl (λ h e. given_plain _ _ _ refl (λ k. given_plain _ _ _ refl (λ b. given_plain _ _ _ refl (λ g. given_plain _ _ _ refl (λ m. ok_plain _)))))
 end_plain w q r (AtName d name) =
-    first_plain _ _ (makes_plain w d name File) (λ u made. on_plain _ _ _ refl (λ h e. given_plain _ _ _ refl (λ m. on_plain _ _ _ refl (λ owner least.
+    first_plain _ _ (makes_plain w d (Some name) File) (λ u made. on_plain _ _ _ refl (λ h e. given_plain _ _ _ refl (λ m. on_plain _ _ _ refl (λ owner least.
     given_plain _ _ _ refl (λ g. on_plain _ _ _ refl (λ s es. ok_plain _))))))
 end_plain w q r (Elsewhere kind name at) = ok_plain _
 end_plain w q r (Waits n words) = ok_plain _
@@ -60,18 +60,20 @@ pub record OpenLeads (w : World) (flags : OpenFlags) (e : NewPort) : Type 0 wher
   pub may : may_open e.ids header flags ≡ true
   pub fits : not (is_dir header.kind && asks flags WRITE) ≡ true
 
--- a file that is made is of its directory's server, which lets it be made, and the directory isn't removed
-pub record MakeLeads (w : World) (s dir : Name) (name : List ℕ) : Type 0 where
-  pub may : makes_at w dir name File ≡ Ok tt
-  pub home : home_at w dir ≡ Some s
+-- a file that is made has a name, and is of its directory's server, which lets it be made; and the directory isn't removed
+pub record MakeLeads (w : World) (s : Name) (f : NewNodeAt) : Type 0 where
+  pub name : List ℕ
+  pub named : f.entry ≡ Some name
+  pub may : makes_at w f.dir (Some name) File ≡ Ok tt
+  pub home : home_at w f.dir ≡ Some s
   pub header : Header
-  pub is_header : header_at w dir ≡ Some header
-  pub stands : not (is_removed w dir header) ≡ true
+  pub is_header : header_at w f.dir ≡ Some header
+  pub stands : not (is_removed w f.dir header) ≡ true
 
 -- what an outcome shows of the world
 abbrev pub Leads : World → OpenFlags → Outcome → Type 0
 Leads w flags (Opens e) = OpenLeads w flags e
-Leads w flags (Makes s f ids ways) = MakeLeads w s f.dir f.name
+Leads w flags (Makes s f ids ways) = MakeLeads w s f
 Leads w flags (Retries kind name at) = Unit {0}
 Leads w flags (Starts s) = Unit {0}
 
@@ -99,16 +101,16 @@ module _ (w : World) (q : IoRight) (r : Request) where
       (cc (m.1), record { header = h.0; is_header = h.1; may = m.0; fits = b.0 })
 
   -- a file that is made
-  made : (d : Name) (name : List ℕ) (o : Outcome) → make_asks w q r d name ≡ Ok o → (s : Name) × (f : NewNodeAt) × (Makes s f q.ids q.parents ≡ o) × (f.dir ≡ d) × MakeLeads w s f.dir f.name
+  made : (d : Name) (name : List ℕ) (o : Outcome) → make_asks w q r d name ≡ Ok o → (s : Name) × (f : NewNodeAt) × (Makes s f q.ids q.parents ≡ o) × (f.dir ≡ d) × MakeLeads w s f
   made d name o is =
-      let u = first_ok (makes_at w d name File) _ o is in
+      let u = first_ok (makes_at w d (Some name) File) _ o is in
       let h = on_ok EDIED (header_at w d) _ o u.2 in
       let m = given_ok EACCES (may q.ids (bare h.0) Write) _ o h.2 in
       let l = on_ok EACCES (least_uid q.ids) _ o m.1 in
       let g = given_ok ENOENT (not (is_removed w d h.0)) _ o l.2 in
       let s = on_ok EDIED (home_at w d) _ o g.1 in
-      let f : NewNodeAt = record { dir = d; name = name; owner = l.0; group = h.0.group; mode = known_mode r.mode } in
-      (s.0, f, cc (s.2), refl, record { may = u.1; home = s.1; header = h.0; is_header = h.1; stands = g.0 })
+      let f : NewNodeAt = record { dir = d; entry = Some name; owner = l.0; group = h.0.group; mode = known_mode r.mode } in
+      (s.0, f, cc (s.2), refl, record { name = name; named = refl; may = u.1; home = s.1; header = h.0; is_header = h.1; stands = g.0 })
 
   -- a name that is looked up elsewhere
   retried : (P : Outcome → Type 0) (kind : RetryKind) (name : List ℕ) (at : Option NewPort) (o : Outcome) → end_asks w q r (Elsewhere kind name at) ≡ Ok o → P (Retries kind name at) → P o

@@ -24,9 +24,9 @@ use Rattle.hurd_machine.proofs.Confine.{NewTo}
 use Rattle.hurd_machine.proofs.Permits.{later_new, opens_may}
 use Rattle.hurd_machine.proofs.Opens as fragments
 use Rattle.hurd_machine.proofs.Opens.{own_task, fresh_new, fresh_next, opens_piece}
-use Rattle.hurd_machine.proofs.Makes.{may_make, entered_home, entered_header, entered_task, entered_below, entered_whole}
+use Rattle.hurd_machine.proofs.Makes.{may_make, entered, entered_home, entered_header, entered_task, entered_below, entered_whole}
 use Rattle.hurd_machine.proofs.Pending.{pends_whole}
-use Rattle.hurd_core.specs.Core.{asked_node, making}
+use Rattle.hurd_core.specs.Core.{asked_node}
 use Rattle.hurd_lookup.specs.Lookup.{NewPort, Outcome, Opens, Makes, Retries, Starts, may_open, no_modes, lookup_changes, lookup_parts}
 use Rattle.hurd_lookup.proofs.WalkLaws.{PortSeen, WaysGiven}
 use Rattle.hurd_lookup.proofs.EndLaws.{OutcomeSeen, OutcomeGiven, Leads}
@@ -100,20 +100,21 @@ module _ (w : World) (t : ℕ) (x : Task) (is : task_at w t ≡ Some x) (flags :
       port_whole {T = lookup_parts w (Retries kind name (Some e))} s e no_modes (header_old s.coherent e.node given.header given.is_header) given.ways (λ p on. on)
       (λ writes h eh. absurd (silent_write writes)) seen (λ S ours read h eh. absurd (silent_read read))
   outcome_whole s (Makes q f ids ways) l given seen =
-      whole_then made opened (tt, (tt, tt)) s
-      (entered_whole good s t x is q f.dir l.home f.name (may_make w f.dir f.name File tt l.may) (leads_unless w s.linked f.dir l.header l.is_header l.stands) (asked_node File f n) file refl refl
+      rw l.named
+      (whole_then made opened (tt, (tt, tt)) s
+      (entered_whole good s t x is q f.dir l.home l.name (may_make w f.dir (Some l.name) File tt l.may) (leads_unless w s.linked f.dir l.header l.is_header l.stands) (asked_node File f n) file refl refl
       (file_hangs f.dir f.owner f.group f.mode) (inr (inl refl)) (inr (inr refl)) (λ S ours. (seen S ours).0.0))
       (λ d. record {
         piece = opens_piece left t (named 1 x) seat n ids ways modes (stands d) (own_task w t (lookup_parts w o)) (inr (inr (fragments.later_new w t 1 x is)))
-            (λ p on. let same : on.0 ≡ q = cc (on.1, entered_home w n q file f.dir f.name) in inl (inl (rw (on.2, same) refl)))
-            (entered_below w n q file f.dir f.name s.coherent next) (λ k way. named_still w s.coherent n next 1 k (given k way))
-            (λ writes h e. let same : file.header ≡ h = cc (entered_header w n q file f.dir f.name, e) in rw (← same) refl)
+            (λ p on. let same : on.0 ≡ q = cc (on.1, entered_home w n q file f.dir l.name) in inl (inl (rw (on.2, same) refl)))
+            (entered_below w n q file f.dir l.name s.coherent next) (λ k way. named_still w s.coherent n next 1 k (given k way))
+            (λ writes h e. let same : file.header ≡ h = cc (entered_header w n q file f.dir l.name, e) in rw (← same) refl)
             (λ S ours.
             let new : NewTo S w n = later_new S w t x x.made ours is (omega arith) in
             let k = seen S ours in
             opens_may S w left t (named 1 x) n ids ways modes ours (later_new S w t x (x.made + 1) ours is (omega arith)) (inr new) (λ m way. inl (k.2 m way)) (inr k.1) (λ read h e. absurd (new.1 (header_old s.coherent n h e))));
         rests = rests_opening left t (named 1 x) seat n ids ways modes d.settled;
-      })
+      }))
     where
       o : Outcome
       o = Makes q f ids ways
@@ -122,7 +123,7 @@ module _ (w : World) (t : ℕ) (x : Task) (is : task_at w t ≡ Some x) (flags :
       file = new_file f.owner f.group f.mode
 
       made : List Change
-      made = making t x q f file
+      made = entered n q file f.dir l.name
 
       opened : List Change
       opened = opening t (named 1 x) n ids ways modes
@@ -134,4 +135,4 @@ module _ (w : World) (t : ℕ) (x : Task) (is : task_at w t ≡ Some x) (flags :
       next = fresh_next w t x is
 
       seat : task_at left t ≡ Some (named 1 x)
-      seat = entered_task w n q file f.dir f.name x is
+      seat = entered_task w n q file f.dir l.name x is

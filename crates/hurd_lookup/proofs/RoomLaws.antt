@@ -17,12 +17,9 @@ use Rattle.hurd_lookup.specs.Lookup.{no_ids}
 
 -- what can't be refused is want of memory, where it is no answer
 
-pub only_short : {T : Type 0} (x : T) (e : Errno) → Meets (Ok x) (Err e) → e ≡ ENOMEM
+only_short : {T : Type 0} (x : T) (e : Errno) → Meets (Ok x) (Err e) → e ≡ ENOMEM
 only_short x e (inl bars) = absurd (cc)
 only_short x e (inr short) = short.0
-
-pub told_is : {T : Type 0} (x y : T) → Meets (Ok x) (Ok y) → y ≡ x
-told_is x y is = cc
 
 -- no ids are never too many
 pub ids_none : ids_of [] [] ≡ Ok no_ids

@@ -5,8 +5,7 @@ use Rattle.hurd_creds.specs.declared.name.Name.{Name}
 use Rattle.hurd_creds.specs.declared.attrs.Kind.TheVariants.{File}
 use Rattle.hurd_creds.specs.declared.errno.Errno.{Errno}
 use Rattle.hurd_creds.specs.declared.errno.Errno.TheVariants.{ENOMEM}
-use Rattle.hurd_trans_iface.specs.Nodes.{Node, passive_of}
-use Rattle.hurd_trans_iface.specs.Meaning.{Symlink}
+use Rattle.hurd_trans_iface.specs.Nodes.{passive_of}
 use Rattle.hurd_nodes.specs.Shown.{ServerInfo}
 use Rattle.hurd_ports.specs.Limits.{most_parents}
 use Rattle.hurd_ports.specs.declared.parents.Parent.{Parent}
@@ -18,7 +17,6 @@ use Rattle.hurd_core.specs.Core.{NewNodeAt}
 use Rattle.hurd_core.specs.ToMake.{new_node_of}
 use Rattle.hurd_lookup.specs.declared.authority.Authority.{Authority}
 use Rattle.hurd_lookup.specs.declared.authority.NewPort as port
-use Rattle.hurd_lookup.specs.declared.retry.Link.{Link}
 use Rattle.hurd_lookup.specs.declared.retry.Onward.{Onward}
 use Rattle.hurd_lookup.specs.declared.retry.Onward.TheVariants.{Within, Back, Beside, FromTop}
 use Rattle.hurd_lookup.specs.declared.retry.Retry.{Retry}
@@ -76,14 +74,15 @@ ending true true = 2
 abbrev pub kind_of : Onward → RetryKind
 kind_of (Within way) = Normal
 kind_of (Back n) = Reauth
-kind_of (Beside d l) = Reauth
-kind_of (FromTop l) = Magical
+kind_of (Beside d root) = Reauth
+kind_of (FromTop root) = Magical
 
-abbrev pub link_of : Onward → Option Link
+-- the root of the link that it goes along, if it does
+abbrev pub link_of : Onward → Option Name
 link_of (Within way) = None
 link_of (Back n) = None
-link_of (Beside d l) = Some l
-link_of (FromTop l) = Some l
+link_of (Beside d root) = Some root
+link_of (FromTop root) = Some root
 
 -- the way by which a server is entered
 abbrev pub way_of : Onward → Option Parent
@@ -99,9 +98,9 @@ abbrev pub text_at : World → Name → List ℕ
 text_at w n = text_by (info_at w n)
 
 -- a rest behind the text of a link, if it goes along one
-abbrev pub behind : World → Option Link → List ℕ → List ℕ
+abbrev pub behind : World → Option Name → List ℕ → List ℕ
 behind w None rest = rest
-behind w (Some l) rest = onto (text_at w l.root) rest
+behind w (Some root) rest = onto (text_at w root) rest
 
 abbrev pub name_of : World → Retry → List ℕ
 name_of w e = behind w (link_of e.onward) (rest_of (names_in e.rest.now) e.slash)
@@ -109,25 +108,12 @@ name_of w e = behind w (link_of e.onward) (rest_of (names_in e.rest.now) e.slash
 abbrev pub port_by : IoRight → Onward → Option NewPort
 port_by q (Within way) = Some (record { node = way.at; ids = q.ids; parents = way ∷ q.parents })
 port_by q (Back n) = Some (port_without_ids n (drop 1 q.parents))
-port_by q (Beside d l) = Some (port_without_ids d q.parents)
-port_by q (FromTop l) = None
-
--- a link: the root of a symlink server that is there, with a text of so many bytes
-pub record IsLink (w : World) (l : Link) : Type 0 where
-  pub info : ServerInfo
-  pub node : Node
-  pub served : info_at w l.root ≡ Some info
-  pub there : node_at w l.root ≡ Some node
-  pub kind : info.kind ≡ Symlink
-  pub long : length info.text ≡ l.length
+port_by q (Beside d root) = Some (port_without_ids d q.parents)
+port_by q (FromTop root) = None
 
 -- a port of this right may have come in by one way more, where one is entered by
 abbrev pub HasRoom : IoRight → Option Parent → Type 0
 HasRoom q entered = IfSome entered (λ way. length q.parents < most_parents)
-
--- where a lookup goes on: what it enters it can enter, and what it goes along is a link
-abbrev pub Leads : World → IoRight → Onward → Type 0
-Leads w q o = HasRoom q (way_of o) × IfSome (link_of o) (IsLink w)
 
 -- what is crossed at a node
 abbrev pub crossed_of : World → Name → across.Crossed → Crossed
@@ -150,7 +136,7 @@ place_of w q (place.Waits n) = Waits n (words_at w n)
 abbrev pub CanGo : World → IoRight → code.Place → Type 0
 CanGo w q (place.AtNode n entered) = HasRoom q entered
 CanGo w q (place.AtName d name) = Unit {0}
-CanGo w q (place.Elsewhere e) = Leads w q e.onward
+CanGo w q (place.Elsewhere e) = HasRoom q (way_of e.onward)
 CanGo w q (place.Waits n) = HasWords w n
 
 -- an answer is the one that is wanted, by what it stands for; and this holds of it
@@ -179,13 +165,13 @@ opened e (Err f) = Err f
 
 -- a file may be made, by this server
 abbrev pub MayMake : World → Name → NewNodeAt → Type 0
-MayMake w s f = (makes_at w f.dir f.name File ≡ Ok tt) × (home_at w f.dir ≡ Some s)
+MayMake w s f = (makes_at w f.dir f.entry File ≡ Ok tt) × (home_at w f.dir ≡ Some s)
 
 -- it can be done
 abbrev pub CanEnd : World → IoRight → end.Outcome → Type 0
 CanEnd w q (outcome.Opens n entered) = HasRoom q entered
 CanEnd w q (outcome.Makes s f) = MayMake w s (new_node_of f)
-CanEnd w q (outcome.Retries e) = Leads w q e.onward
+CanEnd w q (outcome.Retries e) = HasRoom q (way_of e.onward)
 CanEnd w q (outcome.Starts n) = HasWords w n
 
 abbrev pub found_of : World → FoundAt → Outcome
@@ -194,26 +180,22 @@ found_of w f = outcome_of w (right_by f.authority) f.outcome
 abbrev pub CanBe : World → FoundAt → Type 0
 CanBe w f = CanEnd w (right_by f.authority) f.outcome
 
--- a retry with the port that is made for it
-abbrev pub retry_of : World → Retry → Option port.NewPort → Outcome
-retry_of w e at = Retries (kind_of e.onward) (name_of w e) (option_map port_of at)
-
-abbrev pub ready_of : World → Ready → Outcome
-ready_of w (ready.Opens e) = Opens (port_of e)
-ready_of w (ready.Makes s f ids ways) = Makes s (new_node_of f) ids ways
-ready_of w (ready.Retries e at) = retry_of w e at
-ready_of w (ready.Starts s words) = Starts s
+abbrev pub ready_of : Ready → Outcome
+ready_of (ready.Opens e) = Opens (port_of e)
+ready_of (ready.Makes s f ids ways) = Makes s (new_node_of f) ids ways
+ready_of (ready.Retries kind name at) = Retries kind name (option_map port_of at)
+ready_of (ready.Starts s words) = Starts s
 
 -- it can be done
 abbrev pub IsReady : World → Ready → Type 0
 IsReady w (ready.Opens e) = Unit {0}
 IsReady w (ready.Makes s f ids ways) = MayMake w s (new_node_of f)
-IsReady w (ready.Retries e at) = IfSome (link_of e.onward) (IsLink w)
+IsReady w (ready.Retries kind name at) = Unit {0}
 IsReady w (ready.Starts s words) = words ≡ s.words
 
 -- it is ready where the task has room for its port; else it is refused, or finds no memory
 abbrev pub Readies : World → ℕ → Outcome → Result Ready Errno → Type 0
-Readies w t o (Ok e) = (ready_of w e ≡ o) × IsReady w e × IsOk (ending_asks w t o)
+Readies w t o (Ok e) = (ready_of e ≡ o) × IsReady w e × IsOk (ending_asks w t o)
 Readies w t o (Err e) = (ending_asks w t o ≡ Err e) ⊎ ((e ≡ ENOMEM) × IsOk (ending_asks w t o))
 
 -- the root of a server, and the right by which it is entered

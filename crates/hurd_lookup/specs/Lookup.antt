@@ -228,13 +228,13 @@ open_asks w ids r n ways =
 -- making a file, which belongs to the least uid, and to its directory's group; it is opened without a test
 abbrev pub make_asks : World → IoRight → Request → Name → List ℕ → Result Outcome Errno
 make_asks w q r d name =
-    first (makes_at w d name File) (λ u.
+    first (makes_at w d (Some name) File) (λ u.
     on EDIED (header_at w d) (λ h.
     given EACCES (may q.ids (bare h) Write) (
     on EACCES (least_uid q.ids) (λ owner.
     given ENOENT (not (is_removed w d h)) (
     on EDIED (home_at w d) (λ s.
-    Ok (Makes s (record { dir = d; name = name; owner = owner; group = h.group; mode = known_mode r.mode }) q.ids q.parents)))))))
+    Ok (Makes s (record { dir = d; entry = Some name; owner = owner; group = h.group; mode = known_mode r.mode }) q.ids q.parents)))))))
 
 abbrev pub end_asks : World → IoRight → Request → Place → Result Outcome Errno
 end_asks w q r (AtNode n ways) = open_asks w q.ids r n ways

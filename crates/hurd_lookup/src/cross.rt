@@ -7,12 +7,12 @@ ghost use Rattle.hurd_ports.specs.declared.table.IoRight.{IoRight};
 ghost use Rattle.hurd_core.specs.Core.{world_of};
 ghost use Rattle.hurd_lookup.specs.Path.{names_in};
 ghost use Rattle.hurd_lookup.specs.Lookup.{cross, crossed_at, enter, follow, is_last, root_on, to_cross};
-ghost use Rattle.hurd_lookup.specs.Ends.{CanGo, Finds, IsLink, crossed_of, place_of, right_by, text_at};
+ghost use Rattle.hurd_lookup.specs.Ends.{CanGo, Finds, crossed_of, place_of, right_by, text_at};
 
 use crate::authority::Authority;
 use crate::request::Request;
 use crate::rest::{fits, is_last};
-use crate::retry::{Link, Onward, Retry};
+use crate::retry::{Onward, Retry, text_at};
 use crate::walk::Place;
 use hurd_core::Core;
 use hurd_creds::{Errno, NodeName, OpenFlags};
@@ -96,25 +96,26 @@ fn enter<'a>(
     }))
 }
 
-/// Along a link in a directory. `ENAMETOOLONG`: its text, with what is left of the path, is too long for a path.
+/// Along a link in a directory, by its root. `ENAMETOOLONG`: its text, with what is left of the path, is too long for a path.
 #[tactic(auto, unfolding(hurd_machine::specs::Plan::given))]
-fn follow<'a>(
+fn follow<'a, S: Server>(
+    core: &Core<S>,
     absolute: bool,
     request: Request,
     dir: NodeName,
-    link: Link,
+    root: NodeName,
     rest: &'a [u8],
 ) -> Result<Place<'a>, Errno>
-    ensures { (w : World) (q : IoRight) → IsLink w link
-        → Finds (place_of w q) (CanGo w q) (follow absolute q request dir (text_at w link.root) (names_in rest.entry.now)) result }
+    ensures { (q : IoRight) → let w = world_of S.meaning core.now in
+        Finds (place_of w q) (CanGo w q) (follow absolute q request dir (text_at w root) (names_in rest.entry.now)) result }
 {
-    if !fits(link.length, rest, request.slash) {
+    if !fits(text_at(core, root), rest, request.slash) {
         return Err(Errno::ENAMETOOLONG);
     }
     let onward = if absolute {
-        Onward::FromTop(link)
+        Onward::FromTop(root)
     } else {
-        Onward::Beside(dir, link)
+        Onward::Beside(dir, root)
     };
     Ok(Place::Elsewhere(Retry {
         onward,
@@ -158,8 +159,7 @@ pub(crate) fn cross<'a, S: Server>(
             if is_final(request, rest) {
                 return enter(authority, request, dir, root, rest);
             }
-            let length = core.readable(root, 0);
-            follow(absolute, request, dir, Link { root, length }, rest)
+            follow(core, absolute, request, dir, root, rest)
         }
     }
 }

@@ -108,7 +108,7 @@ fn make_asked<'a, S: Server>(
     ensures { let w = world_of S.meaning core.now in let q = right_by authority.entry in
         Finds (outcome_of w q) (CanEnd w q) (make_asks w q request dir name.entry.now) result }
 {
-    core.can_make(dir, name, Kind::File)?;
+    core.can_make(dir, Some(name), Kind::File)?;
     let Some(attrs) = core.attrs(dir) else {
         return Err(Errno::EDIED);
     };
@@ -126,7 +126,7 @@ fn make_asked<'a, S: Server>(
     };
     let file = NodeToMake {
         dir,
-        name,
+        entry: Some(name),
         owner,
         group: attrs.group,
         mode: request.mode.known(),

@@ -1,19 +1,20 @@
 //! Doing what a lookup found.
-ghost use Rattle.std.specs.Prelude.{◌≡◌, IfSome, IsOk, Ok};
+ghost use Rattle.std.specs.Prelude.{◌≡◌, IsOk, Ok};
+ghost use Rattle.std.specs.Option.{option_map};
 ghost use Rattle.hurd_machine.specs.Plan.{Planned};
 ghost use Rattle.hurd_machine.specs.declared.call.Reply.TheVariants.{Found};
 ghost use Rattle.hurd_creds.specs.declared.open_flags.OpenFlags.{OpenFlags};
 ghost use Rattle.hurd_core.specs.Core.{asked_only, world_of};
-ghost use Rattle.hurd_lookup.specs.Lookup.{ending_asks, finding};
-ghost use Rattle.hurd_lookup.specs.Ends.{CanBe, IsLink, IsReady, Readies, found_of, link_of, ready_of, retry_of};
+ghost use Rattle.hurd_lookup.specs.Lookup.{Retries, ending_asks, finding};
+ghost use Rattle.hurd_lookup.specs.Ends.{CanBe, IsReady, Readies, found_of, port_of, ready_of};
 
 use crate::authority::{Authority, NewPort};
 use crate::end::Outcome;
-use crate::retry::{Onward, Retry};
+use crate::retry::Onward;
 use bitflags::Flags;
 use hurd_core::{Core, NodeToMake};
-use hurd_creds::{Errno, Ids, OpenFlags, ServerName, TaskId};
-use hurd_machine::Lookup;
+use hurd_creds::{Bytes, Errno, Ids, OpenFlags, ServerName, TaskId};
+use hurd_machine::{Lookup, RetryKind};
 use hurd_ports::{Parents, PendingStart};
 use hurd_trans_iface::{Server, Words};
 use std::alloc::Global;
@@ -30,7 +31,8 @@ pub(crate) struct FoundAt<'a, 'p> {
 pub(crate) enum Ready<'p> {
     Opens(NewPort),
     Makes(ServerName, NodeToMake<'p>, Ids, Parents),
-    Retries(Retry<'p>, Option<NewPort>),
+    /// How a name is looked up elsewhere, the name, and the port at which, if at one.
+    Retries(RetryKind, Bytes, Option<NewPort>),
     /// What the task is to start, and the words that it is told.
     Starts(PendingStart, Words),
 }
@@ -59,7 +61,7 @@ impl<'p> FoundAt<'_, 'p> {
         }
     }
 
-    /// Takes room for a port of it, and the ids and ways that the port has.
+    /// Takes room for a port of it, the ids and ways that the port has, and the name that is told.
     ///
     /// Errors, in order: those of `has_room`, `ENOMEM`.
     pub(crate) fn ready<S: Server>(
@@ -83,8 +85,9 @@ impl<'p> FoundAt<'_, 'p> {
                 Ok(Ready::Makes(server, file, ids, parents))
             }
             Outcome::Retries(retry) => {
+                let name = retry.name(core, alloc)?;
                 let port = retry.onward.port(alloc, authority)?;
-                Ok(Ready::Retries(retry, port))
+                Ok(Ready::Retries(retry.onward.kind(), name, port))
             }
             Outcome::Starts(node) => {
                 let Some(words) = core.passive(node) else {
@@ -109,9 +112,9 @@ impl Ready<'_> {
         task: TaskId,
         flags: OpenFlags,
     ) -> Result<Lookup, Errno>
-        requires { let w = world_of S.meaning core.old in IsReady w self × IsOk (ending_asks w task.0 (ready_of w self)) }
+        requires { let w = world_of S.meaning core.old in IsReady w self × IsOk (ending_asks w task.0 (ready_of self)) }
         ensures { let w = world_of S.meaning core.old in
-            Planned w (finding w task.0 flags (Ok (ready_of w self.entry))) Found result (world_of S.meaning core.new) }
+            Planned w (finding w task.0 flags (Ok (ready_of self.entry))) Found result (world_of S.meaning core.new) }
     {
         let modes = flags.open_modes();
         match self {
@@ -120,7 +123,7 @@ impl Ready<'_> {
                 let port = core.make_file(alloc, task, file, ids, parents, modes)?;
                 Ok(Lookup::Done(port))
             }
-            Ready::Retries(retry, port) => retried(core, alloc, task, retry, port),
+            Ready::Retries(kind, name, port) => retried(core, task, kind, name, port),
             Ready::Starts(start, words) => {
                 core.pend(task, start)?;
                 Ok(Lookup::Start { words })
@@ -129,23 +132,20 @@ impl Ready<'_> {
     }
 }
 
-/// Makes the name of a retry, and its port, if it has one: that has no modes.
+/// Makes the port of a retry, if it has one: that has no modes.
 ///
 /// `ENOMEM`.
 fn retried<S: Server>(
     core: &mut Core<S>,
-    alloc: Global,
     task: TaskId,
-    retry: Retry,
+    kind: RetryKind,
+    name: Bytes,
     port: Option<NewPort>,
 ) -> Result<Lookup, Errno>
-    requires { let w = world_of S.meaning core.old in
-        IfSome (link_of retry.onward) (IsLink w) × IsOk (ending_asks w task.0 (retry_of w retry port)) }
+    requires { IsOk (ending_asks (world_of S.meaning core.old) task.0 (Retries kind name (option_map port_of port))) }
     ensures { (flags : OpenFlags) → let w = world_of S.meaning core.old in
-        Planned w (finding w task.0 flags (Ok (retry_of w retry.entry port))) Found result (world_of S.meaning core.new) }
+        Planned w (finding w task.0 flags (Ok (Retries kind name (option_map port_of port)))) Found result (world_of S.meaning core.new) }
 {
-    let name = retry.name(core, alloc)?;
-    let kind = retry.onward.kind();
     match port {
         None => Ok(Lookup::Retry {
             kind,

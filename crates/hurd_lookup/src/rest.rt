@@ -44,13 +44,13 @@ fn ending(is_last: bool, slash: bool) -> u64
     }
 }
 
-/// Whether what is left, with a slash behind it where the path ended with one, has room behind a text of so many bytes.
-pub(crate) fn fits(text: u64, rest: &[u8], slash: bool) -> bool
-    ensures { (bytes : List ℕ) → length bytes ≡ text
-        → result ≡ nat_le (length (onto bytes (rest_of (names_in rest.entry.now) slash))) most_path }
+/// Whether what is left, with a slash behind it where the path ended with one, has room behind a text.
+pub(crate) fn fits(text: &[u8], rest: &[u8], slash: bool) -> bool
+    ensures { result ≡ nat_le (length (onto text.now (rest_of (names_in rest.entry.now) slash))) most_path }
 {
+    let length = text.len() as u64;
     let room = MOST_PATH as u64 - ending(is_last(rest), slash);
-    text <= room && fit_behind(rest, room - text)
+    length <= room && fit_behind(rest, room - length)
 }
 
 /// Puts the names of a path behind a text, each behind a slash.

@@ -1,9 +1,9 @@
 //! Names that are left to be looked up elsewhere.
-ghost use Rattle.std.specs.Prelude.{◌≡◌, ◌<◌, length, IfSome, Ok};
+ghost use Rattle.std.specs.Prelude.{◌≡◌, ◌<◌, length, IfOk, IfSome, Ok};
 ghost use Rattle.hurd_creds.specs.Memory.{Meets};
 ghost use Rattle.hurd_ports.specs.Limits.{most_parents};
 ghost use Rattle.hurd_core.specs.Core.{world_of};
-ghost use Rattle.hurd_lookup.specs.Ends.{IsLink, kind_of, link_of, name_of, port_by, ports_told, right_by, text_at, way_of};
+ghost use Rattle.hurd_lookup.specs.Ends.{kind_of, link_of, name_of, port_by, ports_told, right_by, text_at, way_of};
 
 use crate::authority::{Authority, NewPort};
 use crate::rest::{onto, rest_of};
@@ -12,14 +12,7 @@ use hurd_creds::{Bytes, Errno, NodeName};
 use hurd_machine::RetryKind;
 use hurd_ports::Parent;
 use hurd_trans_iface::Server;
-use std::alloc::Global;
-
-/// The root of a link, and how many bytes its text has.
-#[derive(Clone, Copy, Debug)]
-pub(crate) struct Link {
-    pub(crate) root: NodeName,
-    pub(crate) length: u64,
-}
+use std::alloc::{AllocError, Global};
 
 /// Where a lookup goes on.
 #[derive(Clone, Copy, Debug)]
@@ -28,10 +21,10 @@ pub(crate) enum Onward {
     Within(Parent),
     /// At the node from which the server was entered that the port came in by.
     Back(NodeName),
-    /// Along a link, from the directory in which it stands.
-    Beside(NodeName, Link),
-    /// Along a link, from the root of the tree.
-    FromTop(Link),
+    /// From the directory in which a link stands, along that, by its root.
+    Beside(NodeName, NodeName),
+    /// From the root of the tree, along a link, by its root.
+    FromTop(NodeName),
 }
 
 /// A name that is left: where it is looked up, the names that follow in the path, and whether that ended with a slash.
@@ -42,16 +35,13 @@ pub(crate) struct Retry<'a> {
     pub(crate) slash: bool,
 }
 
-impl Link {
-    /// The text of a link.
-    ///
-    /// `ENOMEM`.
-    fn text<S: Server>(self, core: &mut Core<S>, alloc: Global) -> Result<Bytes, Errno>
-        requires { IsLink (world_of S.meaning core.old) self }
-        ensures text { Meets (Ok (text_at (world_of S.meaning core.old) self.root)) result }
-        ensures same { world_of S.meaning core.new ≡ world_of S.meaning core.old }
-    {
-        core.read(alloc, self.root, 0, self.length)
+/// The text of the server of a node; none where it has no server.
+pub(crate) fn text_at<S: Server>(core: &Core<S>, node: NodeName) -> &[u8]
+    ensures { result.now ≡ text_at (world_of S.meaning core.entry.now) node }
+{
+    match core.text_at(node) {
+        Some(text) => text,
+        None => &[],
     }
 }
 
@@ -67,12 +57,12 @@ impl Onward {
         }
     }
 
-    /// The link that it goes along, if it does.
-    fn link(self) -> Option<Link>
+    /// The root of the link that it goes along, if it does.
+    fn link(self) -> Option<NodeName>
         ensures { result ≡ link_of self }
     {
         match self {
-            Onward::Beside(_, link) | Onward::FromTop(link) => Some(link),
+            Onward::Beside(_, root) | Onward::FromTop(root) => Some(root),
             Onward::Within(_) | Onward::Back(_) => None,
         }
     }
@@ -97,16 +87,12 @@ impl Onward {
 
 impl Retry<'_> {
     /// The name: behind the text of a link, where it goes along one.
-    ///
-    /// `ENOMEM`.
-    pub(crate) fn name<S: Server>(self, core: &mut Core<S>, alloc: Global) -> Result<Bytes, Errno>
-        requires { IfSome (link_of self.onward) (IsLink (world_of S.meaning core.old)) }
-        ensures name { Meets (Ok (name_of (world_of S.meaning core.old) self.entry)) result }
-        ensures same { world_of S.meaning core.new ≡ world_of S.meaning core.old }
+    pub(crate) fn name<S: Server>(self, core: &Core<S>, alloc: Global) -> Result<Bytes, AllocError>
+        ensures { IfOk result (λ name. name ≡ name_of (world_of S.meaning core.now) self.entry) }
     {
         let rest = rest_of(alloc, self.rest, self.slash)?;
         let name = match self.onward.link() {
-            Some(link) => onto(link.text(core, alloc)?.into_vec(), &rest)?,
+            Some(root) => onto(Vec::from_slice(alloc, text_at(core, root))?, &rest)?,
             None => rest,
         };
         Ok(Bytes::new(name))

@@ -9,7 +9,7 @@ use Rattle.hurd_creds.specs.declared.attrs.Kind.{Kind}
 use Rattle.hurd_creds.specs.Bits.{asks, READ}
 use Rattle.hurd_creds.specs.Memory.{is_no_memory}
 use Rattle.hurd_trans_iface.specs.Nodes.{Node, Header, Body, is_dir}
-use Rattle.hurd_trans_iface.specs.Answers.{entry_of, is_made, link_in, most_links}
+use Rattle.hurd_trans_iface.specs.Answers.{entry_of, is_made, is_taken, link_in, most_links}
 use Rattle.hurd_trans_iface.specs.Meaning.{keeps_tree}
 use Rattle.hurd_trans_iface.specs.Behaviour.{Question}
 use Rattle.hurd_trans_iface.specs.Kinds.{ServerKind, behaviour_of}
@@ -21,7 +21,8 @@ use Rattle.hurd_ports.specs.declared.table.Right.TheVariants.{Io, Control, Start
 use Rattle.hurd_ports.specs.Tables.{Task, rights_of, or_refuse, task_of, right_in, right_at, right_of, io_right_in, io_right_of}
 use Rattle.hurd_machine.specs.Calls.{Reply, lacks_memory}
 use Rattle.hurd_machine.specs.declared.call.Reply.TheVariants.{Refused, Back}
-use Rattle.hurd_machine.specs.World.{World, IsAmong, ports_of, task_at, open_at, header_at, home_at, info_at, is_server_root, asked_at, count_in, readable_at, stream_at, stream_by, makes_at, links_at, sets_attrs_at}
+use Rattle.hurd_nodes.specs.Needs.{streams_by}
+use Rattle.hurd_machine.specs.World.{World, IsAmong, ports_of, task_at, open_at, header_at, home_at, info_at, is_server_root, asked_at, count_in, readable_at, stream_at, makes_at, links_at, sets_attrs_at}
 use Rattle.hurd_machine.specs.Plan.{Plan, refuse, is_refused, on, given, first, answered}
 use Rattle.hurd_machine.specs.declared.handle.Handle.{Handle}
 use Rattle.hurd_machine.specs.Handle.{Named, port_asks, handle_asks}
@@ -305,14 +306,6 @@ there_same (Some i) None (Some y) h = absurd (cc)
 there_same (Some i) (Some x) None h = absurd (cc)
 there_same (Some i) (Some x) (Some y) h = refl
 
--- and so is whether they are a stream
-stream_there : (i : Option ServerInfo) (o p : Option Node) → header_in p ≡ header_in o → stream_by i p ≡ stream_by i o
-stream_there None o p h = refl
-stream_there (Some i) None None h = refl
-stream_there (Some i) None (Some y) h = absurd (cc)
-stream_there (Some i) (Some x) None h = absurd (cc)
-stream_there (Some i) (Some x) (Some y) h = refl
-
 module _ {S : ℕ → Bool} {v w : World} (a : Agree S v w) (n : Name) where
   -- of a node that S sees it knows which kind of server it has, and with which text
   pub info_same : Seen S v n → info_at w n ≡ info_at v n
@@ -335,8 +328,8 @@ module _ {S : ℕ → Bool} {v w : World} (a : Agree S v w) (n : Name) where
   seen_node s = same_node (get v.nodes n) (get w.nodes n) (header_same a n s.0) (body_same a n s)
 
   -- what may be made in a directory whose entries S sees
-  pub makes_same : (name : List ℕ) (kind : Kind) → Sees S v (BodyOf n) → makes_at w n name kind ≡ makes_at v n name kind
-  makes_same name kind s = ap₂ (made_by name kind) (info_same s.0) (seen_node s)
+  pub makes_same : (entry : Option (List ℕ)) (kind : Kind) → Sees S v (BodyOf n) → makes_at w n entry kind ≡ makes_at v n entry kind
+  makes_same entry kind s = ap₂ (made_by entry kind) (info_same s.0) (seen_node s)
 
   -- whether attributes of a node that S sees may be set
   pub sets_attrs_same : Seen S v n → sets_attrs_at w n ≡ sets_attrs_at v n
@@ -344,7 +337,7 @@ module _ {S : ℕ → Bool} {v w : World} (a : Agree S v w) (n : Name) where
 
   -- whether a node that S sees is a stream
   pub stream_same : Seen S v n → stream_at w n ≡ stream_at v n
-  stream_same seen = ap (λ i. stream_by i (get w.nodes n)) (info_same seen) ∙ stream_there (info_at v n) (get v.nodes n) (get w.nodes n) (header_same a n seen)
+  stream_same seen = ap streams_by (info_same seen)
 
   -- how many bytes there are to read in one whose body it sees
   pub readable_same : (at : ℕ) → Sees S v (BodyOf n) → readable_at w n at ≡ readable_at v n at
@@ -390,16 +383,16 @@ if_plain : {A : Type 0} (b : Bool) (x y : Result A Errno) → IsPlain x → IsPl
 if_plain true x y px py = px
 if_plain false x y px py = py
 
-pub makes_plain : (w : World) (d : Name) (name : List ℕ) (kind : Kind) → IsPlain (makes_at w d name kind)
-makes_plain w d name kind = go (info_at w d) (get w.nodes d)
+pub makes_plain : (w : World) (d : Name) (entry : Option (List ℕ)) (kind : Kind) → IsPlain (makes_at w d entry kind)
+makes_plain w d entry kind = go (info_at w d) (get w.nodes d)
   where
-    go : (i : Option ServerInfo) (o : Option Node) → IsPlain (made_by name kind i o)
+    go : (i : Option ServerInfo) (o : Option Node) → IsPlain (made_by entry kind i o)
     go None o = err_plain EDIED refl
     go (Some i) None = err_plain EDIED refl
     go (Some i) (Some x) =
         if_plain (not (is_dir x.header.kind)) _ _ (err_plain ENOTDIR refl)
         (if_plain (not (keeps_tree i.kind)) _ _ (err_plain EROFS refl)
-        (if_plain (is_some (entry_of name (Some x.body))) _ _ (err_plain EEXIST refl)
+        (if_plain (is_taken entry x.body) _ _ (err_plain EEXIST refl)
         (if_plain (is_made kind) _ _ (ok_plain tt) (err_plain EOPNOTSUPP refl))))
 
 pub sets_attrs_plain : (w : World) (n : Name) → IsPlain (sets_attrs_at w n)

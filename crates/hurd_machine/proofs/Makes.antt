@@ -16,7 +16,7 @@ use Rattle.hurd_creds.specs.declared.errno.Errno.TheVariants.{EEXIST, ENOTDIR, E
 use Rattle.hurd_creds.proofs.NameLaws.{equal_if_same, get_here, get_apart}
 use Rattle.hurd_trans_iface.specs.declared.new_node.NewNode.{NewNode}
 use Rattle.hurd_trans_iface.specs.Nodes.{Node, Entry, Header, Body, Content, Listing, IsShaped, is_dir, with_body, with_entry, new_file, new_dir, is_entered}
-use Rattle.hurd_trans_iface.specs.Answers.{entry_in, entry_of, is_made, made_node, node_of_kind}
+use Rattle.hurd_trans_iface.specs.Answers.{entry_in, entry_of, is_made, is_taken, made_node, named_by, node_of_kind}
 use Rattle.hurd_trans_iface.specs.Good.{IsSized, GoodBehaviour}
 use Rattle.hurd_trans_iface.specs.Kinds.{ServerKind, behaviour_of}
 use Rattle.hurd_trans_iface.specs.Meaning.{keeps_tree}
@@ -110,36 +110,44 @@ entry_proper w c d name n absent new b is = record {
   ];
 }
 
--- where a node may be made: a directory of a tree that has no such entry
+-- where a node may be made: a directory of a tree that has no such entry, if one is to name it
 
-pub record MayMake (w : World) (d : Name) (name : List ℕ) (kind : Kind) : Type 0 where
+pub record MayMake (w : World) (d : Name) (entry : Option (List ℕ)) (kind : Kind) : Type 0 where
   pub info : ServerInfo
   pub is_info : info_at w d ≡ Some info
   pub node : Node
   pub is_node : get w.nodes d ≡ Some node
   pub dir : is_dir node.header.kind ≡ true
   pub tree : keeps_tree info.kind ≡ true
-  pub absent : entry_of name (body_at w d) ≡ None
+  pub free : is_taken entry node.body ≡ false
   pub kinds : is_made kind ≡ true
 
-may_steps : (dir grows : Bool) (o : Option Name) (made : Bool) (u : Unit {0})
-    → ◌≡◌ {A = Result (Unit {0}) Errno} (if not dir then Err ENOTDIR else if not grows then Err EROFS else if is_some o then Err EEXIST else if made then Ok tt else Err EOPNOTSUPP) (Ok u)
-    → (dir ≡ true) × (grows ≡ true) × (o ≡ None) × (made ≡ true)
-may_steps false grows o made u h = absurd (cc)
-may_steps true false o made u h = absurd (cc)
-may_steps true true (Some n) made u h = absurd (cc)
-may_steps true true None false u h = absurd (cc)
-may_steps true true None true u h = (refl, refl, refl, refl)
+may_steps : (dir grows taken made : Bool) (u : Unit {0})
+    → ◌≡◌ {A = Result (Unit {0}) Errno} (if not dir then Err ENOTDIR else if not grows then Err EROFS else if taken then Err EEXIST else if made then Ok tt else Err EOPNOTSUPP) (Ok u)
+    → (dir ≡ true) × (grows ≡ true) × (taken ≡ false) × (made ≡ true)
+may_steps false grows taken made u h = absurd (cc)
+may_steps true false taken made u h = absurd (cc)
+may_steps true true true made u h = absurd (cc)
+may_steps true true false false u h = absurd (cc)
+may_steps true true false true u h = (refl, refl, refl, refl)
 
-pub may_make : (w : World) (d : Name) (name : List ℕ) (kind : Kind) (u : Unit {0}) → makes_at w d name kind ≡ Ok u → MayMake w d name kind
-may_make w d name kind u = go (info_at w d) (get w.nodes d) refl refl
+pub may_make : (w : World) (d : Name) (entry : Option (List ℕ)) (kind : Kind) (u : Unit {0}) → makes_at w d entry kind ≡ Ok u → MayMake w d entry kind
+may_make w d entry kind u = go (info_at w d) (get w.nodes d) refl refl
   where
-    go : (o : Option ServerInfo) (x : Option Node) → info_at w d ≡ o → get w.nodes d ≡ x → made_by name kind o x ≡ Ok u → MayMake w d name kind
+    go : (o : Option ServerInfo) (x : Option Node) → info_at w d ≡ o → get w.nodes d ≡ x → made_by entry kind o x ≡ Ok u → MayMake w d entry kind
     go None x is_info is_node h = absurd (cc)
     go (Some i) None is_info is_node h = absurd (cc)
     go (Some i) (Some x) is_info is_node h =
-        let l = may_steps (is_dir x.header.kind) (keeps_tree i.kind) (entry_of name (Some x.body)) (is_made kind) u h in
-        record { info = i; is_info = is_info; node = x; is_node = is_node; dir = l.0; tree = l.1; absent = ap (λ o. entry_of name (body_in o)) is_node ∙ l.2; kinds = l.3 }
+        let l = may_steps (is_dir x.header.kind) (keeps_tree i.kind) (is_taken entry x.body) (is_made kind) u h in
+        record { info = i; is_info = is_info; node = x; is_node = is_node; dir = l.0; tree = l.1; free = l.2; kinds = l.3 }
+
+-- no entry has the name
+absent : (w : World) (d : Name) (name : List ℕ) (kind : Kind) → MayMake w d (Some name) kind → entry_of name (body_at w d) ≡ None
+absent w d name kind m = ap (λ o. entry_of name (body_in o)) m.is_node ∙ none (entry_of name (Some m.node.body)) m.free
+  where
+    none : (o : Option Name) → is_some o ≡ false → o ≡ None
+    none None h = refl
+    none (Some n) h = absurd (true≢false h)
 
 -- a node that may be made in a directory
 record NewIn (w : World) (d : Name) (node : Node) : Type 0 where
@@ -149,12 +157,15 @@ record NewIn (w : World) (d : Name) (node : Node) : Type 0 where
   pub below : node.header.kind ≡ Dir → node.header.parent ≡ Some d
 
 -- what a tree makes in a directory
-module _ (d : Name) (new : NewNode) (x : Node) (is : made_node d new ≡ Some x) where
+module _ (d : Name) (name : List ℕ) (new : NewNode) (x : Node) (is : made_node d (Some name) new ≡ Some x) where
+  abbrev made_as : Kind → Option Node
+  made_as kind = option_map (named_by (Some name)) (node_of_kind d new kind)
+
   -- its parent, if it has one, is that directory
   made_parent : (p : Name) → x.header.parent ≡ Some p → p ≡ d
   made_parent p = by new.kind is
     where
-      by : (kind : Kind) → node_of_kind d new kind ≡ Some x → x.header.parent ≡ Some p → p ≡ d
+      by : (kind : Kind) → made_as kind ≡ Some x → x.header.parent ≡ Some p → p ≡ d
       by File made e = let same : new_file new.owner new.group new.mode ≡ x = cc in let none : None ≡ Some p = rw (← same) at e in absurd (cc)
       by Dir made e = let same : new_dir new.owner new.group new.mode (Some d) ≡ x = cc in let here : Some d ≡ Some p = rw (← same) at e in cc
       by Link made e = absurd (cc)
@@ -168,7 +179,7 @@ module _ (d : Name) (new : NewNode) (x : Node) (is : made_node d new ≡ Some x)
       parent : (p : Name) → x.header.parent ≡ Some p → Below w p
       parent p e = subst (Below w) (sym (made_parent p e)) below
 
-      by : (kind : Kind) → node_of_kind d new kind ≡ Some x → NewIn w d x
+      by : (kind : Kind) → made_as kind ≡ Some x → NewIn w d x
       by File made =
           let same : new_file new.owner new.group new.mode ≡ x = cc in
           subst (NewIn w d) same (record { shape = refl; empty = tt; parent = rw (← same) at parent; below = λ e. absurd (cc) })
@@ -181,7 +192,7 @@ module _ (d : Name) (new : NewNode) (x : Node) (is : made_node d new ≡ Some x)
 
   -- and it has the size that its server says
   made_fit : ((k : ServerKind) → GoodBehaviour (behaviour_of k)) → (i : ServerInfo) → keeps_tree i.kind ≡ true → IsSized (behaviour_of i.kind) i.text x
-  made_fit good i tree = (good i.kind).newborn tree i.text d new x is
+  made_fit good i tree = (good i.kind).newborn tree i.text d (Some name) new x is
 
 -- the node, and its entry
 abbrev pub entered : Name → Name → Node → Name → List ℕ → List Change
@@ -250,7 +261,7 @@ module _ (w : World) (n s : Name) (node : Node) (d : Name) (name : List ℕ) whe
         still = ap (entry_of name) (ap body_in (get_apart w.nodes n node d apart)) ∙ absent
 
     -- it hangs in the directory, which leads up
-    module _ {kind : Kind} (m : MayMake w d name kind) (up : LeadsUp (nodes_of w) d) (empty : HasNoEntries node.body) (hangs : HangsIn d node) where
+    module _ {kind : Kind} (m : MayMake w d (Some name) kind) (up : LeadsUp (nodes_of w) d) (empty : HasNoEntries node.body) (hangs : HangsIn d node) where
       abbrev IsLoose : Name → Type 0
       IsLoose k = k ≡ n
 
@@ -310,17 +321,17 @@ module _ (w : World) (n s : Name) (node : Node) (d : Name) (name : List ℕ) whe
       entered_linked l = tied (nodes_of left) n (loosened IsLoose (entered n s node d name) w (made_loose, (entry_loose, tt)) (loose_any IsLoose (nodes_of w) l)) hung
 
 -- task t makes it, as a tree does, and it hangs in the directory, which isn't removed
-pub entered_whole : ((k : ServerKind) → GoodBehaviour (behaviour_of k)) → {T : Part → Type 0} {w : World} → Sound w → (t : ℕ) (x : Task) → task_at w t ≡ Some x → (s d : Name) → home_at w d ≡ Some s → {kind : Kind} (name : List ℕ) → MayMake w d name kind
-    → LeadsUp (nodes_of w) d → (new : NewNode) (node : Node) → made_node d new ≡ Some node → is_entered node.header ≡ true → HangsIn d node → T (BodyOf d) → T (EmptyOf d) → ((S : ℕ → Bool) → S t ≡ true → Seen S w d)
+pub entered_whole : ((k : ServerKind) → GoodBehaviour (behaviour_of k)) → {T : Part → Type 0} {w : World} → Sound w → (t : ℕ) (x : Task) → task_at w t ≡ Some x → (s d : Name) → home_at w d ≡ Some s → {kind : Kind} (name : List ℕ) → MayMake w d (Some name) kind
+    → LeadsUp (nodes_of w) d → (new : NewNode) (node : Node) → made_node d (Some name) new ≡ Some node → is_entered node.header ≡ true → HangsIn d node → T (BodyOf d) → T (EmptyOf d) → ((S : ℕ → Bool) → S t ≡ true → Seen S w d)
     → Whole t (Full w t T) w w (entered (fresh t x) s node d name)
-entered_whole good {T} {w} st t x is s d home name m up new node made_is is_in hangs body empty seen = record {
+entered_whole good {T} {w} st t x is s d home {kind} name m up new node made_is is_in hangs body empty seen = record {
   piece = record {
     within = entered_within w n s node d name (Full w t T) (own_task w t T) (inr (inr still)) (inr (inr still)) (inr (inr still)) (inl body) (inl empty);
-    proper = entered_proper w n s node d name c next home (ap tree_by m.is_info ∙ m.tree) m.absent ready;
+    proper = entered_proper w n s node d name c next home (ap tree_by m.is_info ∙ m.tree) (absent w d name kind m) ready;
     linked = entered_linked w n s node d name c next m up ready.empty hangs st.linked;
-    sized = entered_sized w n s node d name good (λ i e. let same : m.info ≡ i = cc (is_server, e) in rw (← same) (made_fit d new node made_is good m.info m.tree)) st.sizes;
+    sized = entered_sized w n s node d name good (λ i e. let same : m.info ≡ i = cc (is_server, e) in rw (← same) (made_fit d name new node made_is good m.info m.tree)) st.sizes;
     may = λ S ours. entered_may w n s node d name S w ours (later_new S w t x x.made ours is (omega arith)) (OfNode d (seen S ours) home) (λ p e.
-        subst (SeenOrNew S w) (sym (made_parent d new node made_is p e)) (inl (seen S ours)));
+        subst (SeenOrNew S w) (sym (made_parent d name new node made_is p e)) (inl (seen S ours)));
   };
   rests = entered_rests w n s node d name is_in (no_home c n (next_not w n next)) m.info is_server st.settled;
 }
@@ -338,7 +349,7 @@ entered_whole good {T} {w} st t x is s d home name m up new node made_is is_in h
     still = fresh_new w t x is
 
     ready : NewIn w d node
-    ready = made_in d new node made_is w (home_old c d s home)
+    ready = made_in d name new node made_is w (home_old c d s home)
 
     is_server : server_at w s ≡ Some m.info
     is_server = rw home at m.is_info

@@ -10,8 +10,7 @@ use Rattle.hurd_creds.specs.NameMaps.{NameMap}
 use Rattle.hurd_creds.specs.Names.{same_name}
 use Rattle.hurd_trans_iface.specs.Nodes.{NodeMap, Node, Entry, Header, Body, Content, Listing}
 use Rattle.hurd_trans_iface.specs.Behaviour.{Question, Effect}
-use Rattle.hurd_trans_iface.specs.Kinds.{behaviour_of}
-use Rattle.hurd_trans_iface.specs.declared.readable.Readable.{Readable}
+use Rattle.hurd_nodes.specs.Needs.{streams_by}
 use Rattle.hurd_nodes.specs.Shown.{NodeState, ServerInfo, boot_name, is_root, server_of, effect_at, readable_at as readable_of, can_make, can_link, can_unlink, can_rename, can_set_attrs}
 use Rattle.hurd_ports.specs.declared.table.Opened.{Opened}
 use Rattle.hurd_ports.specs.Tables.{PortState, OpenMap, Task}
@@ -91,27 +90,21 @@ abbrev pub asked_at : {T : Type 0} → Question T → Name → World → Effect 
 asked_at q n w = effect_at q n (nodes_of w)
 
 -- how many bytes these are
-abbrev pub count_in : Option Readable → ℕ
+abbrev pub count_in : Option ℕ → ℕ
 count_in None = 0
-count_in (Some r) = r.count
+count_in (Some k) = k
 
 -- how many bytes there are to read in a node at a place; none where it is gone
 abbrev pub readable_at : World → Name → ℕ → ℕ
 readable_at w n at = count_in (readable_of n at (nodes_of w))
 
--- whether a node that may not be there is of a server that is a stream
-abbrev pub stream_by : Option ServerInfo → Option Node → Bool
-stream_by None x = false
-stream_by (Some i) None = false
-stream_by (Some i) (Some x) = (behaviour_of i.kind).stream
-
--- whether a node is there, and a stream
+-- whether a node's server is there, and a stream
 abbrev pub stream_at : World → Name → Bool
-stream_at w n = stream_by (info_at w n) (node_at w n)
+stream_at w n = streams_by (info_at w n)
 
--- whether a node of a kind may be made in a directory under a name
-abbrev pub makes_at : World → Name → List ℕ → Kind → Result (Unit {0}) Errno
-makes_at w d name kind = can_make d name kind (nodes_of w)
+-- whether a node of a kind may be made in a directory, under a name or without an entry
+abbrev pub makes_at : World → Name → Option (List ℕ) → Kind → Result (Unit {0}) Errno
+makes_at w d entry kind = can_make d entry kind (nodes_of w)
 
 -- whether a file may get another name in a directory
 abbrev pub links_at : World → Name → List ℕ → Name → Result (Unit {0}) Errno

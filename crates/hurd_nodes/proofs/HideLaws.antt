@@ -9,10 +9,10 @@ use Rattle.hurd_creds.specs.Memory.{Steps, is_no_memory, lacks_memory}
 use Rattle.hurd_creds.specs.NameMaps.{NameMap, edit}
 use Rattle.hurd_creds.proofs.NameLaws.{same_or_apart, get_here, get_apart, edit_here, edit_apart}
 use Rattle.hurd_trans_iface.specs.declared.new_node.NewNode.{NewNode}
-use Rattle.hurd_trans_iface.specs.Nodes.{AddNode, Edit, Node, NodeMap, OnBody, OnHeader, edit_all, nameless_file, on_bytes, with_body, with_header, with_size}
-use Rattle.hurd_trans_iface.specs.Answers.{added, edits_if, is_one, make_edits, make_of, made_node, move_edits, nameless_edits, nameless_of, rename_edits, unlink_edits}
+use Rattle.hurd_trans_iface.specs.Nodes.{AddNode, Edit, Node, NodeMap, OnBody, OnHeader, edit_all, on_bytes, with_body, with_header, with_size}
+use Rattle.hurd_trans_iface.specs.Answers.{added, edits_if, entering, is_one, make_edits, make_of, made_node, move_edits, rename_edits, unlink_edits}
 use Rattle.hurd_trans_iface.specs.Behaviour.{Effect, Question, effect_on, edit_bytes, edit_size, edits_of}
-use Rattle.hurd_trans_iface.specs.Meaning.{Meaning, behaviour_of, edited, make_nameless_step, make_step, keeps_tree, step_of}
+use Rattle.hurd_trans_iface.specs.Meaning.{Meaning, behaviour_of, edited, make_step, keeps_tree, step_of}
 use Rattle.hurd_nodes.specs.Held.{Held, Seated, box_by, mean, with_box, with_server_of}
 use Rattle.hurd_nodes.specs.Shown.{HideNothing}
 use Rattle.hurd_nodes.proofs.SeatLaws.{lent}
@@ -148,22 +148,26 @@ pub hides-asked : {S : Type 0} (f : S → Meaning) (t : Held S) (n : Name) {T : 
 hides-asked f t n q a w got box steps = hides-kept f t n a w box (has-step q n (f a) (f w) got steps)
 
 -- making
-module _ (dir : Name) (name : List ℕ) (new : NewNode) where
-  has-added : (o : Option Node) (m : NodeMap) (q : Name) → q ≢ new.name → has (edit_all (added dir name new.name o) m) q ≡ has m q
+module _ (dir : Name) (entry : Option (List ℕ)) (new : NewNode) where
+  has-entering : (w : Option (List ℕ)) (m : NodeMap) (q : Name) → has (edit_all (entering dir w new.name) m) q ≡ has m q
+  has-entering None m q = refl
+  has-entering (Some name) m q = has-edit dir _ m q
+
+  has-added : (o : Option Node) (m : NodeMap) (q : Name) → q ≢ new.name → has (edit_all (added dir entry new.name o) m) q ≡ has m q
   has-added None m q apart = refl
-  has-added (Some x) m q apart = has-edit dir _ (fin.insert m new.name x) q ∙ ap (λ (o : Option Node). is_some o) (get_apart m new.name x q apart)
+  has-added (Some x) m q apart = has-entering entry (fin.insert m new.name x) q ∙ ap (λ (o : Option Node). is_some o) (get_apart m new.name x q apart)
 
   module _ (homes : NameMap Name) (seats : NameMap (Seated Meaning)) (s : Name) (e : Seated Meaning) (is : fin.get seats s ≡ Some e) (m : Meaning) where
     abbrev wanted : Result (Unit {0}) Errno
-    wanted = make_of (keeps_tree e.server.kind) name new.kind (fin.get e.server.nodes dir)
+    wanted = make_of (keeps_tree e.server.kind) entry new.kind (fin.get e.server.nodes dir)
 
-    made_has : (b : Bool) (r : Result (Unit {0}) Errno) → m ≡ cond b e.server (edited (edits_if r (make_edits dir name new)) e.server) → (q : Name) → q ≢ new.name → has m.nodes q ≡ has e.server.nodes q
+    made_has : (b : Bool) (r : Result (Unit {0}) Errno) → m ≡ cond b e.server (edited (edits_if r (make_edits dir entry new)) e.server) → (q : Name) → q ≢ new.name → has m.nodes q ≡ has e.server.nodes q
     made_has true r left q apart = ap (λ (x : Meaning). has x.nodes q) left
-    made_has false (Ok u) left q apart = ap (λ (x : Meaning). has x.nodes q) left ∙ has-added (made_node dir new) e.server.nodes q apart
+    made_has false (Ok u) left q apart = ap (λ (x : Meaning). has x.nodes q) left ∙ has-added (made_node dir entry new) e.server.nodes q apart
     made_has false (Err x) left q apart = ap (λ (x : Meaning). has x.nodes q) left
 
     -- made, under a name that had no home
-    pub hides-made : (u : Unit {0}) → Steps e.server (make_step dir name new e.server) (Ok u) m → fin.get homes new.name ≡ None → TellsAll homes seats → TellsAll (fin.insert homes new.name s) (fin.insert seats s (with_box e m))
+    pub hides-made : (u : Unit {0}) → Steps e.server (make_step dir entry new e.server) (Ok u) m → fin.get homes new.name ≡ None → TellsAll homes seats → TellsAll (fin.insert homes new.name s) (fin.insert seats s (with_box e m))
     hides-made u steps fresh tells =
         tells-more homes seats tells s e is m new.name fresh (λ q apart there. sym (made_has false wanted steps.left q apart) ∙ there)
 
@@ -173,32 +177,3 @@ module _ (dir : Name) (name : List ℕ) (new : NewNode) where
     -- not made: the server is as it was
     pub hides-unmade : m ≡ e.server → TellsAll homes seats → TellsAll homes (fin.insert seats s (with_box e m))
     hides-unmade same tells = tells-less homes seats tells s e is m (same_has same)
-
--- making a file that no entry names
-module _ (new : NewNode) (homes : NameMap Name) (seats : NameMap (Seated Meaning)) (s : Name) (e : Seated Meaning) (is : fin.get seats s ≡ Some e) (m : Meaning) where
-  nameless_has : (short : Bool) (r : Result (Unit {0}) Errno) → m ≡ cond short e.server (edited (edits_if r (nameless_edits new)) e.server) → (q : Name) → q ≢ new.name → has m.nodes q ≡ has e.server.nodes q
-  nameless_has true r left q apart = ap (λ (x : Meaning). has x.nodes q) left
-  nameless_has false (Ok u) left q apart =
-      ap (λ (x : Meaning). has x.nodes q) left ∙ ap (λ (o : Option Node). is_some o) (get_apart e.server.nodes new.name (nameless_file new.owner new.group new.mode) q apart)
-  nameless_has false (Err x) left q apart = ap (λ (x : Meaning). has x.nodes q) left
-
-  -- made, under a name that had no home
-  pub hides-nameless : (u : Unit {0}) → Steps e.server (make_nameless_step new e.server) (Ok u) m → fin.get homes new.name ≡ None → TellsAll homes seats → TellsAll (fin.insert homes new.name s) (fin.insert seats s (with_box e m))
-  hides-nameless u steps fresh tells =
-      tells-more homes seats tells s e is m new.name fresh (λ q apart there. sym (nameless_has false (nameless_of (keeps_tree e.server.kind) new.kind) steps.left q apart) ∙ there)
-
-  same_nameless : (short : Bool) (r : Result (Unit {0}) Errno) (x : Errno) → r ≡ Err x → m ≡ cond short e.server (edited (edits_if r (nameless_edits new)) e.server) → m ≡ e.server
-  same_nameless true r x refused left = left
-  same_nameless false (Ok u) x refused left = absurd (cc)
-  same_nameless false (Err y) x refused left = left
-
-  -- not made: the server is as it was
-  nameless-kept : (x : Errno) → Steps e.server (make_nameless_step new e.server) (Err x) m → m ≡ e.server
-  nameless-kept x steps = elim steps.answered [
-    | inl refused ↦ same_nameless (is_no_memory x) (nameless_of (keeps_tree e.server.kind) new.kind) x refused steps.left
-    | inr short ↦ steps.left ∙ rw short.0 refl
-  ]
-
-  pub hides-not_nameless : (x : Errno) → Steps e.server (make_nameless_step new e.server) (Err x) m → TellsAll homes seats → TellsAll homes (fin.insert seats s (with_box e m))
-  hides-not_nameless x steps tells =
-      tells-less homes seats tells s e is m (λ q there. sym (ap (λ (x : Meaning). has x.nodes q) (nameless-kept x steps)) ∙ there)

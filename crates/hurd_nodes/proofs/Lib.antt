@@ -3,7 +3,6 @@ pub mod ShownLaws
 pub mod StepLaws
 pub mod EditLaws
 pub mod MakeLaws
-pub mod NamelessLaws
 pub mod TableLaws
 pub mod HomeLaws
 pub mod RowLaws

@@ -7,7 +7,7 @@ use Rattle.hurd_creds.specs.declared.errno.Errno.{Errno}
 use Rattle.hurd_creds.specs.declared.errno.Errno.TheVariants.{EDIED}
 use Rattle.hurd_trans_iface.specs.Nodes.{Body, Reaches, body_of}
 use Rattle.hurd_trans_iface.specs.Behaviour.{Question, reading, resizing, told_of, writing}
-use Rattle.hurd_trans_iface.specs.Meaning.{Meaning, ServerKind, behaviour_of, step_of}
+use Rattle.hurd_trans_iface.specs.Meaning.{Meaning, ServerKind, root_of, step_of}
 use Rattle.hurd_nodes.specs.Held.{Held, box_by, mean}
 use Rattle.hurd_nodes.specs.Shown.{ServerInfo, asked_of, asked_step, server_of, shown}
 use Rattle.hurd_nodes.specs.Needs.{FreeRead, FreeSize, FreeWrite, streams_by}
@@ -28,8 +28,8 @@ module _ {S : Type 0} (f : S → Meaning) (t : Held S) (n : Name) where
         let i = server-told t.homes (mean f t.seats) n m box in
         ap told_of (ap₂ (asked_of q) i.1 (node-told t.homes (mean f t.seats) n m box)) ∙ rw (i.2, i.3) refl
 
-    streams : streams_by (server_of (shown f t) n) ≡ (behaviour_of m.kind).stream
-    streams = let i = server-told t.homes (mean f t.seats) n m box in ap streams_by i.1 ∙ ap (λ (k : ServerKind). (behaviour_of k).stream) i.2
+    streams : streams_by (server_of (shown f t) n) ≡ (root_of m.kind m.text).is_stream
+    streams = let i = server-told t.homes (mean f t.seats) n m box in ap streams_by i.1 ∙ ap₂ (λ (k : ServerKind) (text : List ℕ). (root_of k text).is_stream) i.2 i.3
 
     reaches : (size : ℕ) → Reaches (body_of (shown f t).nodes n) size → Reaches (body_of m.nodes n) size
     reaches size = subst (λ (b : Option Body). Reaches b size) (body-told t.homes (mean f t.seats) n m box)
@@ -41,7 +41,7 @@ module _ {S : Type 0} (f : S → Meaning) (t : Held S) (n : Name) where
     pub write-free : (at : ℕ) (bytes : List ℕ) (got : Result ℕ Errno)
         → (Reaches (body_of m.nodes n) (at + length bytes) → got ≡ (step_of (writing at bytes) n m).0)
         → (bytes ≡ [] → got ≡ (step_of (writing at bytes) n m).0)
-        → ((behaviour_of m.kind).stream ≡ true → got ≡ (step_of (writing at bytes) n m).0)
+        → ((root_of m.kind m.text).is_stream ≡ true → got ≡ (step_of (writing at bytes) n m).0)
         → FreeWrite at bytes n (shown f t) → got ≡ (asked_step (writing at bytes) n (shown f t)).0
     write-free at bytes got within nothing stream (inl none) = nothing none ∙ sym (told (writing at bytes))
     write-free at bytes got within nothing stream (inr (inl there)) = within (reaches (at + length bytes) there) ∙ sym (told (writing at bytes))
@@ -49,7 +49,7 @@ module _ {S : Type 0} (f : S → Meaning) (t : Held S) (n : Name) where
 
     pub size-free : (size : ℕ) (got : Result (Unit {0}) Errno)
         → (Reaches (body_of m.nodes n) size → got ≡ (step_of (resizing size) n m).0)
-        → ((behaviour_of m.kind).stream ≡ true → got ≡ (step_of (resizing size) n m).0)
+        → ((root_of m.kind m.text).is_stream ≡ true → got ≡ (step_of (resizing size) n m).0)
         → FreeSize size n (shown f t) → got ≡ (asked_step (resizing size) n (shown f t)).0
     size-free size got cut stream (inl there) = cut (reaches size there) ∙ sym (told (resizing size))
     size-free size got cut stream (inr is) = stream (sym streams ∙ is) ∙ sym (told (resizing size))

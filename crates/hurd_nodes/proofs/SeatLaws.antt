@@ -121,10 +121,3 @@ seat-at f ss o i x at read = let p = placed ss o i at in at_in f ss o i x p.0 p.
 -- what is there is one thing
 pub some_same : {A : Type 0} {a b : A} → Some a ≡ Some b → a ≡ b
 some_same h = cc
-
--- read twice, it means the same
-pub seat-twice : {S : Type 0} (f : S → Meaning) (ss : List (Name × Seat S)) (o : Option Name) (i : ℕ) (x y : Seat S) → SeatAt f ss o i x → SeatAt f ss o i y → f x.server ≡ f y.server
-seat-twice f ss o i x y p q =
-    let one : Some p.name ≡ Some q.name = sym p.home ∙ q.home in
-    let both : Some (mean_seat f (seat_value x)) ≡ Some (mean_seat f (seat_value y)) = sym p.is ∙ ap (fin.get (mean f (seats_of ss))) (some_same one) ∙ q.is in
-    ap (λ (e : Seated Meaning). e.server) (some_same both)

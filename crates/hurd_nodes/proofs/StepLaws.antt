@@ -86,11 +86,11 @@ module _ {S : Type 0} (f : S → Meaning) (t : Held S) (n : Name) where
         steps-refused (asked_step q n (shown f t)) (shown f t) EDIED (ap (λ (x : Effect T). (told_of x, with_edits (edits_of n x) (shown f t))) died)
 
 -- whether a node may be made, as the directory's server says it
-module _ (homes : NameMap Name) (seats : NameMap (Seated Meaning)) (dir : Name) (name : List ℕ) (kind : Kind) where
-  pub can_make-told : (m : Meaning) → Some m ≡ box_by seats (fin.get homes dir) → can_make dir name kind (seen homes seats) ≡ make_of (keeps_tree m.kind) name kind (fin.get m.nodes dir)
+module _ (homes : NameMap Name) (seats : NameMap (Seated Meaning)) (dir : Name) (entry : Option (List ℕ)) (kind : Kind) where
+  pub can_make-told : (m : Meaning) → Some m ≡ box_by seats (fin.get homes dir) → can_make dir entry kind (seen homes seats) ≡ make_of (keeps_tree m.kind) entry kind (fin.get m.nodes dir)
   can_make-told m box =
       let i = server-told homes seats dir m box in
-      ap₂ (made_by name kind) i.1 (node-told homes seats dir m box) ∙ ap (λ (k : ServerKind). make_of (keeps_tree k) name kind (fin.get m.nodes dir)) i.2
+      ap₂ (made_by entry kind) i.1 (node-told homes seats dir m box) ∙ ap (λ (k : ServerKind). make_of (keeps_tree k) entry kind (fin.get m.nodes dir)) i.2
 
-  pub can_make-untold : None ≡ box_by seats (fin.get homes dir) → can_make dir name kind (seen homes seats) ≡ Err EDIED
-  can_make-untold box = ap (λ (i : Option ServerInfo). made_by name kind i (fin.get (nodes_of homes seats) dir)) (server-untold homes seats dir box)
+  pub can_make-untold : None ≡ box_by seats (fin.get homes dir) → can_make dir entry kind (seen homes seats) ≡ Err EDIED
+  can_make-untold box = ap (λ (i : Option ServerInfo). made_by entry kind i (fin.get (nodes_of homes seats) dir)) (server-untold homes seats dir box)

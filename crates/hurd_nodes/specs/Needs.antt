@@ -3,13 +3,13 @@ use Rattle.std.specs.Prelude.{◌≡◌, ◌⊎◌, ℕ, ◌+◌, Bool, true, fa
 use Rattle.hurd_creds.specs.declared.name.Name.{Name}
 use Rattle.hurd_trans_iface.specs.Nodes.{Reaches, body_of}
 use Rattle.hurd_trans_iface.specs.Behaviour.{reading, told_of}
-use Rattle.hurd_trans_iface.specs.Kinds.{behaviour_of}
+use Rattle.hurd_trans_iface.specs.Meaning.{root_of}
 use Rattle.hurd_nodes.specs.Shown.{NodeState, ServerInfo, effect_at, server_of}
 
 -- whether a server that may not be there is a stream
 abbrev pub streams_by : Option ServerInfo → Bool
 streams_by None = false
-streams_by (Some i) = (behaviour_of i.kind).stream
+streams_by (Some i) = (root_of i.kind i.text).is_stream
 
 -- a read that needs no memory: it gives nothing
 abbrev pub FreeRead : ℕ → ℕ → Name → NodeState → Type 0

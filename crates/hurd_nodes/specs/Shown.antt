@@ -13,9 +13,8 @@ use Rattle.hurd_creds.specs.Access.{IdSets}
 use Rattle.hurd_creds.specs.Names.{name_of, same_name}
 use Rattle.hurd_creds.specs.NameMaps.{NameMap, edit, map_values}
 use Rattle.hurd_trans_iface.specs.declared.new_node.NewNode.{NewNode}
-use Rattle.hurd_trans_iface.specs.declared.readable.Readable.{Readable}
 use Rattle.hurd_trans_iface.specs.Nodes.{NodeMap, Node, Header, Edit, OnHeader, node_of_edit, body_of, edit_all, with_size}
-use Rattle.hurd_trans_iface.specs.Answers.{entry_of, make_of, make_edits, nameless_of, nameless_edits, link_of, link_edits, unlink_of, unlink_edits, rename_of, rename_edits, set_header_of, set_attrs_edits, set_passive_edits, edits_if}
+use Rattle.hurd_trans_iface.specs.Answers.{entry_of, make_of, make_edits, link_of, link_edits, unlink_of, unlink_edits, rename_of, rename_edits, set_header_of, set_attrs_edits, set_passive_edits, edits_if}
 use Rattle.hurd_trans_iface.specs.Behaviour.{Question, Effect, effect_on, told_of, edits_of}
 use Rattle.hurd_trans_iface.specs.Meaning.{Meaning, ServerKind, behaviour_of, keeps_tree, options_of, size_of, begin_root_after, forget_after, new_root}
 use Rattle.hurd_nodes.specs.Held.{Held, Seated, mean, box_at, with_box, is_home}
@@ -134,14 +133,13 @@ asked_of q (Some i) x = effect_on q (behaviour_of i.kind) i.text x
 abbrev pub effect_at : {T : Type 0} → Question T → Name → NodeState → Effect T
 effect_at q n h = asked_of q (server_of h n) (fin.get h.nodes n)
 
--- how many bytes there are to read in a node at a place, and whether it is a stream, as its server says it
-abbrev pub readable_by : ℕ → Option ServerInfo → Option Node → Option Readable
+-- how many bytes there are to read in a node at a place, as its server says it
+abbrev pub readable_by : ℕ → Option ServerInfo → Option Node → Option ℕ
 readable_by at None x = None
-readable_by at (Some i) x =
-    let b = behaviour_of i.kind in option_map (λ y. record { count = b.readable i.text y at; is_stream = b.stream }) x
+readable_by at (Some i) x = option_map (λ y. (behaviour_of i.kind).readable i.text y at) x
 
 -- the same of a node of the maps
-abbrev pub readable_at : Name → ℕ → NodeState → Option Readable
+abbrev pub readable_at : Name → ℕ → NodeState → Option ℕ
 readable_at n at h = readable_by at (server_of h n) (fin.get h.nodes n)
 
 -- with these edits made to nodes that are there
@@ -152,13 +150,13 @@ with_edits es h = record h { nodes = edit_all es h.nodes }
 abbrev pub asked_step : {T : Type 0} → Question T → Name → NodeState → Result T Errno × NodeState
 asked_step q n h = let e = effect_at q n h in (told_of e, with_edits (edits_of n e) h)
 
-abbrev pub made_by : List ℕ → Kind → Option ServerInfo → Option Node → Result (Unit {0}) Errno
-made_by name kind None d = Err EDIED
-made_by name kind (Some i) d = make_of (keeps_tree i.kind) name kind d
+abbrev pub made_by : Option (List ℕ) → Kind → Option ServerInfo → Option Node → Result (Unit {0}) Errno
+made_by entry kind None d = Err EDIED
+made_by entry kind (Some i) d = make_of (keeps_tree i.kind) entry kind d
 
--- whether a node of this kind may be made in a directory under a name
-abbrev pub can_make : Name → List ℕ → Kind → NodeState → Result (Unit {0}) Errno
-can_make dir name kind h = made_by name kind (server_of h dir) (fin.get h.nodes dir)
+-- whether a node of this kind may be made in a directory, under a name or without an entry
+abbrev pub can_make : Name → Option (List ℕ) → Kind → NodeState → Result (Unit {0}) Errno
+can_make dir entry kind h = made_by entry kind (server_of h dir) (fin.get h.nodes dir)
 
 abbrev pub tree_by : Option ServerInfo → Bool
 tree_by None = false
@@ -169,37 +167,16 @@ with_home n None homes = homes
 with_home n (Some s) homes = fin.insert homes n s
 
 -- with a node made in a directory, of the directory's server
-abbrev pub with_made : Name → List ℕ → NewNode → NodeState → NodeState
-with_made dir name new h =
-    record h { nodes = edit_all (make_edits dir name new) h.nodes; homes = with_home new.name (fin.get h.homes dir) h.homes }
+abbrev pub with_made : Name → Option (List ℕ) → NewNode → NodeState → NodeState
+with_made dir entry new h =
+    record h { nodes = edit_all (make_edits dir entry new) h.nodes; homes = with_home new.name (fin.get h.homes dir) h.homes }
 
 abbrev pub on_ok : {T S : Type 0} → Result T Errno → S → S → S
 on_ok (Ok x) before after = after
 on_ok (Err e) before after = before
 
-abbrev pub make_at : Name → List ℕ → NewNode → NodeState → Result (Unit {0}) Errno × NodeState
-make_at dir name new h = let answer = can_make dir name new.kind h in (answer, on_ok answer h (with_made dir name new h))
-
--- whether a node of this kind may be made that no entry names, by the server, which keeps a tree or doesn't, of a node
--- that may not be there
-abbrev pub nameless_in : Bool → Kind → Option Node → Result (Unit {0}) Errno
-nameless_in keeps kind None = Err EDIED
-nameless_in keeps kind (Some d) = nameless_of keeps kind
-
-abbrev pub nameless_by : Kind → Option ServerInfo → Option Node → Result (Unit {0}) Errno
-nameless_by kind None d = Err EDIED
-nameless_by kind (Some i) d = nameless_in (keeps_tree i.kind) kind d
-
--- whether the server of a node that is there may make a node of this kind that no entry names
-abbrev pub can_make_nameless : Name → Kind → NodeState → Result (Unit {0}) Errno
-can_make_nameless dir kind h = nameless_by kind (server_of h dir) (fin.get h.nodes dir)
-
--- with a file that no entry names, of the server of a node
-abbrev pub with_nameless : Name → NewNode → NodeState → NodeState
-with_nameless dir new h = record h { nodes = edit_all (nameless_edits new) h.nodes; homes = with_home new.name (fin.get h.homes dir) h.homes }
-
-abbrev pub make_nameless_at : Name → NewNode → NodeState → Result (Unit {0}) Errno × NodeState
-make_nameless_at dir new h = let answer = can_make_nameless dir new.kind h in (answer, on_ok answer h (with_nameless dir new h))
+abbrev pub make_at : Name → Option (List ℕ) → NewNode → NodeState → Result (Unit {0}) Errno × NodeState
+make_at dir entry new h = let answer = can_make dir entry new.kind h in (answer, on_ok answer h (with_made dir entry new h))
 
 -- whether two nodes are of one server
 abbrev pub are_kin : Option Name → Option Name → Bool

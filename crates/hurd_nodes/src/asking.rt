@@ -1,10 +1,10 @@
 //! Whether nodes may be made, linked, renamed, or given other attributes or the words of a passive translator.
-ghost use Rattle.std.specs.Prelude.{◌≡◌, Option};
+ghost use Rattle.std.specs.Prelude.{◌≡◌, Option, Some, option_copied};
 ghost use Rattle.std.specs.Option.{option_map};
 ghost use Rattle.std.specs.FinMap as fin;
 ghost use Rattle.hurd_trans_iface.specs.Nodes.{Node, attrs_of, is_dir};
-ghost use Rattle.hurd_trans_iface.specs.Answers.{is_file, is_made, make_of, link_of, rename_of, set_header_of};
-ghost use Rattle.hurd_nodes.specs.Shown.{shown, can_make, can_link, can_set_attrs, can_rename, nameless_in, can_make_nameless};
+ghost use Rattle.hurd_trans_iface.specs.Answers.{is_made, is_taken, make_of, link_of, rename_of, set_header_of};
+ghost use Rattle.hurd_nodes.specs.Shown.{shown, can_make, can_link, can_set_attrs, can_rename};
 ghost use Rattle.hurd_trans_iface.specs.Meaning.{keeps_tree};
 
 use crate::nodes::Nodes;
@@ -12,26 +12,14 @@ use hurd_creds::{Attrs, Errno, Kind, NodeName};
 use hurd_trans_iface::{Crossing, Server, is_dir};
 
 impl<S: Server> Nodes<S> {
-    /// Whether a node of this kind may be made in a directory under a name. Takes no memory.
+    /// Whether a node of this kind may be made in a directory, under a name or without an entry. Takes no memory.
     ///
     /// Errors, in order: `EDIED` no such directory, `ENOTDIR`, `EROFS` its server keeps no tree, `EEXIST`, `EOPNOTSUPP` a kind that trees don't have.
-    pub fn can_make(&self, dir: NodeName, name: &[u8], kind: Kind) -> Result<(), Errno>
-        ensures { result ≡ can_make dir name.now kind (shown S.meaning self.now) }
+    pub fn can_make(&self, dir: NodeName, entry: Option<&[u8]>, kind: Kind) -> Result<(), Errno>
+        ensures { result ≡ can_make dir (option_copied entry.entry) kind (shown S.meaning self.now) }
     {
         match self.server_of(dir) {
-            Some(server) => can_make_in(server, dir, name, kind),
-            None => Err(Errno::EDIED),
-        }
-    }
-
-    /// Whether a node of this kind may be made that no entry names, of the server of a node that is there. Takes no memory.
-    ///
-    /// Errors, in order: `EDIED` no such node, `EROFS` its server keeps no tree, `EOPNOTSUPP` any other kind than a file.
-    pub fn can_make_nameless(&self, dir: NodeName, kind: Kind) -> Result<(), Errno>
-        ensures { result ≡ can_make_nameless dir kind (shown S.meaning self.now) }
-    {
-        match self.server_of(dir) {
-            Some(server) => can_make_nameless_in(server, dir, kind),
+            Some(server) => can_make_in(server, dir, entry, kind),
             None => Err(Errno::EDIED),
         }
     }
@@ -77,16 +65,16 @@ impl<S: Server> Nodes<S> {
     }
 }
 
-/// Whether a node of this kind may be made in a directory of a server under a name.
+/// Whether a node of this kind may be made in a directory of a server, under a name or without an entry.
 ///
 /// Errors, in order: `EDIED` no such directory, `ENOTDIR`, `EROFS` the server keeps no tree, `EEXIST`, `EOPNOTSUPP` a kind that trees don't have.
 pub(crate) fn can_make_in<S: Server>(
     server: &S,
     dir: NodeName,
-    name: &[u8],
+    entry: Option<&[u8]>,
     kind: Kind,
 ) -> Result<(), Errno>
-    ensures { let m = S.meaning server.now in result ≡ make_of (keeps_tree m.kind) name.now kind (fin.get m.nodes dir) }
+    ensures { let m = S.meaning server.now in result ≡ make_of (keeps_tree m.kind) (option_copied entry.entry) kind (fin.get m.nodes dir) }
 {
     let Some(attrs) = server.attrs(dir) else {
         return Err(Errno::EDIED);
@@ -97,7 +85,7 @@ pub(crate) fn can_make_in<S: Server>(
     if !has_tree(server) {
         return Err(Errno::EROFS);
     }
-    if server.step(dir, name).is_some() {
+    if is_taken(server, dir, entry) {
         return Err(Errno::EEXIST);
     }
     if !is_made(kind) {
@@ -106,26 +94,14 @@ pub(crate) fn can_make_in<S: Server>(
     Ok(())
 }
 
-/// Whether the server of a node may make one of this kind that no entry names.
-///
-/// Errors, in order: `EDIED` no such node, `EROFS` the server keeps no tree, `EOPNOTSUPP` any other kind than a file.
-pub(crate) fn can_make_nameless_in<S: Server>(
-    server: &S,
-    dir: NodeName,
-    kind: Kind,
-) -> Result<(), Errno>
-    ensures { let m = S.meaning server.now in result ≡ nameless_in (keeps_tree m.kind) kind (fin.get m.nodes dir) }
+/// Whether a name is taken in a directory of a server; where none is given, none is.
+fn is_taken<S: Server>(server: &S, dir: NodeName, entry: Option<&[u8]>) -> bool
+    ensures { (d : Node) → fin.get (S.meaning server.now).nodes dir ≡ Some d → result ≡ is_taken (option_copied entry.entry) d.body }
 {
-    if server.attrs(dir).is_none() {
-        return Err(Errno::EDIED);
+    match entry {
+        Some(name) => server.step(dir, name).is_some(),
+        None => false,
     }
-    if !has_tree(server) {
-        return Err(Errno::EROFS);
-    }
-    if !is_file(kind) {
-        return Err(Errno::EOPNOTSUPP);
-    }
-    Ok(())
 }
 
 /// Whether a file of these attributes may get another name in a directory of a server; `kin`: it is of that server.
@@ -229,16 +205,6 @@ pub(crate) fn has_tree<S: Server>(server: &S) -> bool
     match root.crossing {
         Crossing::Plain => is_dir(root.kind),
         Crossing::Link { .. } => false,
-    }
-}
-
-/// Whether a node of this kind is a file.
-fn is_file(kind: Kind) -> bool
-    ensures { result ≡ is_file kind }
-{
-    match kind {
-        Kind::File => true,
-        Kind::Dir | Kind::Link | Kind::Fifo | Kind::Char => false,
     }
 }
 

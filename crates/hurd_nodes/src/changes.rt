@@ -1,12 +1,12 @@
 //! Changes of nodes by their servers: what is written, made, linked, renamed, taken out of directories, stored with nodes, and set as options.
-ghost use Rattle.std.specs.Prelude.{◌≡◌, [], None};
+ghost use Rattle.std.specs.Prelude.{◌≡◌, [], None, option_copied};
 ghost use Rattle.std.specs.FinMap as fin;
 ghost use Rattle.hurd_creds.specs.Memory.{Steps};
 ghost use Rattle.hurd_trans_iface.specs.Behaviour.{reading, writing, resizing};
-ghost use Rattle.hurd_nodes.specs.Shown.{shown, asked_step, make_at, link_at, set_attrs_at, set_passive_at, set_options_at, HideNothing, unlink_at, rename_at, make_nameless_at};
+ghost use Rattle.hurd_nodes.specs.Shown.{shown, asked_step, make_at, link_at, set_attrs_at, set_passive_at, set_options_at, HideNothing, unlink_at, rename_at};
 ghost use Rattle.hurd_nodes.specs.Needs.{FreeRead, FreeSize, FreeWrite};
 
-use crate::asking::{can_make_in, can_make_nameless_in};
+use crate::asking::can_make_in;
 use crate::nodes::Nodes;
 use crate::search::{place_of_seat, place_of_server, put_kin};
 use hurd_creds::{Bytes, Errno, Mode, NodeName, ServerName};
@@ -68,44 +68,26 @@ impl<S: Server> Nodes<S> {
         }
     }
 
-    /// Makes a node in a directory under a name, of the directory's server.
+    /// Makes a node in a directory, under a name or without an entry, of the directory's server.
     ///
     /// Errors, in order: those of `can_make`, `ENOMEM`.
     pub fn make(
         &mut self,
         alloc: Global,
         dir: NodeName,
-        name: &[u8],
+        entry: Option<&[u8]>,
         new: NewNode,
     ) -> Result<(), Errno>
         ensures shown { let h = shown S.meaning self.old in
-            Steps h (make_at dir name.now new h) result (shown S.meaning self.new) }
+            Steps h (make_at dir (option_copied entry.entry) new h) result (shown S.meaning self.new) }
         ensures hidden { fin.get self.old.homes new.name ≡ None → HideNothing S.meaning self.old → HideNothing S.meaning self.new }
     {
         let Some(i) = place_of_server(&self.homes, &self.seats, dir) else {
             return Err(Errno::EDIED);
         };
-        can_make_in(&self.seats[i].server, dir, name, new.kind)?;
+        can_make_in(&self.seats[i].server, dir, entry, new.kind)?;
         self.homes.reserve(1)?;
-        self.seats[i].server.make(alloc, dir, name, new)?;
-        put_kin(&mut self.homes, new.name, dir);
-        Ok(())
-    }
-
-    /// Makes a file that no entry names, of the server of a node that is there.
-    ///
-    /// Errors, in order: `EDIED` no such node, `EROFS` its server keeps no tree, `EOPNOTSUPP` any other kind than a file, `ENOMEM`.
-    pub fn make_nameless(&mut self, dir: NodeName, new: NewNode) -> Result<(), Errno>
-        ensures shown { let h = shown S.meaning self.old in
-            Steps h (make_nameless_at dir new h) result (shown S.meaning self.new) }
-        ensures hidden { fin.get self.old.homes new.name ≡ None → HideNothing S.meaning self.old → HideNothing S.meaning self.new }
-    {
-        let Some(i) = place_of_server(&self.homes, &self.seats, dir) else {
-            return Err(Errno::EDIED);
-        };
-        can_make_nameless_in(&self.seats[i].server, dir, new.kind)?;
-        self.homes.reserve(1)?;
-        self.seats[i].server.make_nameless(new)?;
+        self.seats[i].server.make(alloc, dir, entry, new)?;
         put_kin(&mut self.homes, new.name, dir);
         Ok(())
     }

@@ -14,7 +14,7 @@ use crate::search::{home_of, place_of_seat, place_of_server, put_home, put_seat}
 use crate::seat::{Homes, Seat, Seats};
 use bitflags::Flags;
 use hurd_creds::{Attrs, Errno, Ids, Mode, Name, NodeName, ServerName, TaskId};
-use hurd_trans_iface::{Names, Readable, Root, Server, Words};
+use hurd_trans_iface::{Names, Root, Server, Words};
 use std::alloc::Global;
 use std::marker::Model;
 
@@ -152,6 +152,16 @@ impl<S: Server> Nodes<S> {
         }
     }
 
+    /// The text of the server of a node, lent, if the node has a server. Takes no memory.
+    pub fn text_at(&self, node: NodeName) -> Option<&[u8]>
+        ensures { option_copied result ≡ option_map (λ (i : ServerInfo). i.text) (server_of (shown S.meaning self.now) node) }
+    {
+        match self.server_of(node) {
+            Some(server) => Some(server.text()),
+            None => None,
+        }
+    }
+
     /// The ids of a server, if the server is there.
     pub fn ids_of(&self, server: ServerName) -> Option<&Ids>
         ensures { option_copied result ≡ option_map (λ (i : ServerInfo). i.ids) (fin.get (shown S.meaning self.now).servers server) }
@@ -236,8 +246,8 @@ impl<S: Server> Nodes<S> {
         }
     }
 
-    /// How many bytes there are to read in a node at a place, and whether it is a stream; if the node is there. Takes no memory.
-    pub fn readable(&self, node: NodeName, at: u64) -> Option<Readable>
+    /// How many bytes there are to read in a node at a place, if the node is there. Takes no memory.
+    pub fn readable(&self, node: NodeName, at: u64) -> Option<u64>
         ensures { result ≡ readable_at node at (shown S.meaning self.now) }
     {
         match self.server_of(node) {

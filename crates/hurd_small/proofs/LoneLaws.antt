@@ -72,9 +72,9 @@ abbrev IsPlain : Option Node → Type 0
 IsPlain None = Unit {0}
 IsPlain (Some x) = is_dir x.header.kind ≡ false
 
-make-plain : (keeps : Bool) (name : List ℕ) (kind : Kind) (o : Option Node) → IsPlain o → make_of keeps name kind o ≡ Err (barred_by o)
-make-plain keeps name kind None plain = refl
-make-plain keeps name kind (Some d) plain = let p : is_dir d.header.kind ≡ false = plain in rw p refl
+make-plain : (keeps : Bool) (entry : Option (List ℕ)) (kind : Kind) (o : Option Node) → IsPlain o → make_of keeps entry kind o ≡ Err (barred_by o)
+make-plain keeps entry kind None plain = refl
+make-plain keeps entry kind (Some d) plain = let p : is_dir d.header.kind ≡ false = plain in rw p refl
 
 link-plain : (keeps : Bool) (name : List ℕ) (kin : Bool) (o x : Option Node) → IsPlain o → link_of keeps name kin o x ≡ Err (barred_by o)
 link-plain keeps name kin None x plain = refl
@@ -155,9 +155,9 @@ module _ (kind : ServerKind) (text : List ℕ) where
     ]
 
     module _ (e : Errno) (is : e ≡ barred_by (at p n)) where
-      pub make-barred : (name : List ℕ) (new : NewNode) → Steps m (make_step n name new m) (Err e) m
-      make-barred name new =
-          rw is (steps-refused _ m _ (refused m (make_edits n name new) _ _ (make-plain (keeps_tree kind) name new.kind (at p n) is_plain)))
+      pub make-barred : (entry : Option (List ℕ)) (new : NewNode) → Steps m (make_step n entry new m) (Err e) m
+      make-barred entry new =
+          rw is (steps-refused _ m _ (refused m (make_edits n entry new) _ _ (make-plain (keeps_tree kind) entry new.kind (at p n) is_plain)))
 
       pub link-barred : (name : List ℕ) (node : Name) → Steps m (link_step n name node m) (Err e) m
       link-barred name node =

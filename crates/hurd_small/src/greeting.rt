@@ -7,7 +7,7 @@ use crate::contents::new_text;
 use crate::single::Single;
 use crate::text;
 use hurd_creds::{Bytes, Errno, Kind};
-use hurd_trans_iface::{Crossing, Readable, Root, Words};
+use hurd_trans_iface::{Crossing, Root, Words};
 use std::alloc::Global;
 
 /// The text, which words can say.
@@ -30,6 +30,7 @@ impl Single for Greeting {
     fn root(&self) -> Root {
         Root {
             kind: Kind::File,
+            is_stream: false,
             crossing: Crossing::Plain,
         }
     }
@@ -65,10 +66,7 @@ impl Single for Greeting {
         Err(Errno::EOPNOTSUPP)
     }
 
-    fn readable(&self, at: u64) -> Readable {
-        Readable {
-            count: self.size().saturating_sub(at),
-            is_stream: false,
-        }
+    fn readable(&self, at: u64) -> u64 {
+        self.size().saturating_sub(at)
     }
 }

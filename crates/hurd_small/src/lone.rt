@@ -4,7 +4,7 @@ ghost use Rattle.hurd_small.specs.Lone.{lone_meaning};
 use crate::presence::{LoneNode, Presence};
 use crate::single::Single;
 use hurd_creds::{Attrs, Bytes, Errno, MOST_SIZE, Mode, NodeName};
-use hurd_trans_iface::{Names, NewNode, Readable, Root, Server, Words};
+use hurd_trans_iface::{Names, NewNode, Root, Server, Words};
 use std::alloc::Global;
 
 /// A server of one node, which is no directory, and of which nothing changes but its options, and that it gets its name and is forgotten.
@@ -106,7 +106,7 @@ impl<S: Single> Server for Lone<S> {
         }
     }
 
-    fn readable(&self, node: NodeName, at: u64) -> Option<Readable> {
+    fn readable(&self, node: NodeName, at: u64) -> Option<u64> {
         match self.presence.find(node) {
             Some(_) => Some(self.single.readable(at)),
             None => None,
@@ -117,14 +117,10 @@ impl<S: Single> Server for Lone<S> {
         &mut self,
         _alloc: Global,
         dir: NodeName,
-        _name: &[u8],
+        _entry: Option<&[u8]>,
         _new: NewNode,
     ) -> Result<(), Errno> {
         Err(self.presence.bars(dir))
-    }
-
-    fn make_nameless(&mut self, _new: NewNode) -> Result<(), Errno> {
-        Err(Errno::EROFS)
     }
 
     fn link(

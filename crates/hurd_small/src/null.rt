@@ -8,7 +8,7 @@ use crate::presence::Presence;
 use crate::single::Single;
 use crate::words::{is_alone, no_options};
 use hurd_creds::{Bytes, Errno, Kind};
-use hurd_trans_iface::{Crossing, Readable, Root, Words};
+use hurd_trans_iface::{Crossing, Root, Words};
 use std::alloc::Global;
 
 /// A stream without bytes, which drops what it takes (the Hurd's `/hurd/null`).
@@ -50,6 +50,7 @@ impl Single for Nothing {
     fn root(&self) -> Root {
         Root {
             kind: Kind::Char,
+            is_stream: true,
             crossing: Crossing::Plain,
         }
     }
@@ -78,10 +79,7 @@ impl Single for Nothing {
         Ok(())
     }
 
-    fn readable(&self, _at: u64) -> Readable {
-        Readable {
-            count: 0,
-            is_stream: true,
-        }
+    fn readable(&self, _at: u64) -> u64 {
+        0
     }
 }

@@ -7,7 +7,7 @@ ghost use Rattle.hurd_trans_iface.specs.Meaning.{ServerKind, behaviour_of, keeps
 ghost use Rattle.hurd_small.specs.Lone.{IsGiven, IsPut, IsCut, text_taken};
 
 use hurd_creds::{Bytes, Errno};
-use hurd_trans_iface::{Readable, Root, Words};
+use hurd_trans_iface::{Root, Words};
 use std::alloc::Global;
 
 /// What a server of one node says of it: options alone change that, and nothing else is asked where the node isn't there.
@@ -57,10 +57,9 @@ pub trait Single: Drop {
         ensures bytes { (x : Node) (at : ℕ) (bs : List ℕ) → IsPut ((behaviour_of kind).write (text self.now) x at bs) bs result }
         ensures sizes { (x : Node) (size : ℕ) → IsCut ((behaviour_of kind).set_size (text self.now) x size) size result };
 
-    /// How many bytes there are to read at a place, and whether the node is a stream.
-    fn readable(&self, at: u64) -> Readable
-        ensures count { (x : Node) → result.count ≡ (behaviour_of kind).readable (text self.now) x at }
-        ensures stream { result.is_stream ≡ (behaviour_of kind).stream };
+    /// How many bytes there are to read at a place.
+    fn readable(&self, at: u64) -> u64
+        ensures { (x : Node) → result ≡ (behaviour_of kind).readable (text self.now) x at };
 
     // The node is no directory.
     ghost no_dir: { (text : List ℕ) → is_dir (root_of kind text).kind ≡ false };

@@ -8,7 +8,7 @@ use crate::single::Single;
 use crate::text;
 use crate::words::no_options;
 use hurd_creds::{Bytes, Errno, Kind};
-use hurd_trans_iface::{Crossing, Readable, Root, Words};
+use hurd_trans_iface::{Crossing, Root, Words};
 use std::alloc::Global;
 
 /// Where a link leads.
@@ -31,6 +31,7 @@ impl Single for Target {
     fn root(&self) -> Root {
         Root {
             kind: Kind::Link,
+            is_stream: false,
             crossing: Crossing::Link {
                 absolute: is_absolute(self.path.as_slice()),
             },
@@ -61,11 +62,8 @@ impl Single for Target {
         Err(Errno::EOPNOTSUPP)
     }
 
-    fn readable(&self, at: u64) -> Readable {
-        Readable {
-            count: self.size().saturating_sub(at),
-            is_stream: false,
-        }
+    fn readable(&self, at: u64) -> u64 {
+        self.size().saturating_sub(at)
     }
 }
 

@@ -8,7 +8,7 @@ use crate::presence::Presence;
 use crate::single::Single;
 use crate::words::{is_alone, no_options};
 use hurd_creds::{Bytes, Errno, Kind, MOST_READ};
-use hurd_trans_iface::{Crossing, Readable, Root, Words};
+use hurd_trans_iface::{Crossing, Root, Words};
 use std::alloc::Global;
 
 /// A stream of zero bytes without end, which drops what it takes (the Hurd's `/hurd/zero`).
@@ -50,6 +50,7 @@ impl Single for Zeros {
     fn root(&self) -> Root {
         Root {
             kind: Kind::Char,
+            is_stream: true,
             crossing: Crossing::Plain,
         }
     }
@@ -81,10 +82,7 @@ impl Single for Zeros {
         Ok(())
     }
 
-    fn readable(&self, _at: u64) -> Readable {
-        Readable {
-            count: MOST_READ,
-            is_stream: true,
-        }
+    fn readable(&self, _at: u64) -> u64 {
+        MOST_READ
     }
 }

@@ -14,12 +14,10 @@ use Rattle.hurd_creds.specs.declared.errno.Errno.{Errno}
 use Rattle.hurd_creds.specs.declared.name.Name.{Name}
 use Rattle.hurd_creds.proofs.NameLaws.{equal_if_same, same_name-apart, same_or_apart, get_here, get_apart, remove_apart, edit_here, edit_apart}
 use Rattle.hurd_trans_iface.specs.Nodes.{AllListed, Body, Header, Node, NodeMap, edit_all, is_dir, is_entered, is_entered_at, is_listed, linked, moved_to, unlinked, with_body, with_header}
-use Rattle.hurd_trans_iface.specs.Answers.{link_edits, move_edits, unlink_edits}
+use Rattle.hurd_trans_iface.specs.Answers.{added, link_edits, move_edits, unlink_edits}
 use Rattle.hurd_trans_iface.specs.Behaviour.{Effect, left_by, size_left}
-use Rattle.hurd_tmpfs.specs.Changes.{additions, served}
+use Rattle.hurd_tmpfs.specs.Changes.{served}
 use Rattle.hurd_tmpfs.specs.Nameless.{IsAt, KeepsOthers, Relisted}
-use Rattle.hurd_tmpfs.specs.declared.inode.DirEntry.{DirEntry}
-use Rattle.hurd_tmpfs.specs.declared.inode.Inode.{Inode}
 
 -- lists
 
@@ -100,9 +98,10 @@ insert-keeps n x y m is keeps q h = elim (same_or_apart q n) [
 
 -- what whole calls do
 
--- a node is put in, and an entry of it
-pub add-else : (dir : Name) (e : DirEntry) (n : Name) (i : Inode) (m : NodeMap) → KeepsElse n m (edit_all (additions dir e n i) m)
-add-else dir e n i m q apart h = body-keeps dir _ _ q (insert-else n _ m q apart h)
+-- a node is put in, and an entry of it, if any
+pub add-else : (dir : Name) (entry : Option (List ℕ)) (n : Name) (x : Node) (m : NodeMap) → KeepsElse n m (edit_all (added dir entry n (Some x)) m)
+add-else dir None n x m = insert-else n x m
+add-else dir (Some name) n x m = λ q apart h. body-keeps dir _ _ q (insert-else n x m q apart h)
 
 pub link-else : (dir : Name) (name : List ℕ) (n : Name) (m : NodeMap) → KeepsElse n m (edit_all (link_edits dir name n) m)
 link-else dir name n m q apart h = edit-else n (with_header linked) _ q apart (body-keeps dir _ m q h)

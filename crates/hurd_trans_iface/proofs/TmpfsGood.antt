@@ -1,13 +1,14 @@
 -- A tree in memory is good.
 use Rattle.std.proofs.Common.{◌≡◌, ℕ, ◌+◌, Bool, true, false, List, [], ◌∷◌, length, nat_lt, if◌then◌else◌, refl, sym, ap, ◌∙◌, subst, true≢false}
-use Rattle.std.specs.Prelude.{Some, None}
+use Rattle.std.specs.Prelude.{Option, Some, None}
+use Rattle.std.specs.Option.{option_map}
 use Rattle.hurd_creds.specs.declared.name.Name.{Name}
 use Rattle.hurd_creds.specs.declared.attrs.Kind.{Kind}
 use Rattle.hurd_creds.specs.declared.attrs.Kind.TheVariants.{File, Dir, Link, Fifo, Char}
 use Rattle.hurd_creds.specs.Limits.{most_size}
 use Rattle.hurd_trans_iface.specs.declared.new_node.NewNode.{NewNode}
 use Rattle.hurd_trans_iface.specs.Nodes.{Header, Body, Content, Listing, Node, is_dir, bytes_put, bytes_resized, with_entry, without_entry, new_file, new_dir}
-use Rattle.hurd_trans_iface.specs.Answers.{node_of_kind}
+use Rattle.hurd_trans_iface.specs.Answers.{named_by, node_of_kind}
 use Rattle.hurd_trans_iface.specs.Behaviour.{Did}
 use Rattle.hurd_trans_iface.specs.Good.{GoodBehaviour, IsSized}
 use Rattle.hurd_trans_iface.specs.TmpfsKind.{tmpfs, read_bytes, put_into, write_file, cut_file}
@@ -54,13 +55,18 @@ removed_sizes : (text name : List ℕ) (c : Body) → tmpfs.size text (without_e
 removed_sizes text name (Content bs) = refl
 removed_sizes text name (Listing es) = refl
 
+-- an entry that isn't there changes no size
+named_sizes : (text : List ℕ) (entry : Option (List ℕ)) (y x : Node) → IsSized tmpfs text y → named_by entry y ≡ x → IsSized tmpfs text x
+named_sizes text (Some name) y x sized is = subst (IsSized tmpfs text) is sized
+named_sizes text None y x sized is = subst (IsSized tmpfs text) is sized
+
 -- a file begins without bytes, and a directory has no size
-made_sizes : (text : List ℕ) (dir : Name) (new : NewNode) (x : Node) (kind : Kind) → node_of_kind dir new kind ≡ Some x → IsSized tmpfs text x
-made_sizes text dir new x File is = let same : new_file new.owner new.group new.mode ≡ x = cc in subst (IsSized tmpfs text) same refl
-made_sizes text dir new x Dir is = let same : new_dir new.owner new.group new.mode (Some dir) ≡ x = cc in subst (IsSized tmpfs text) same refl
-made_sizes text dir new x Link is = absurd (cc)
-made_sizes text dir new x Fifo is = absurd (cc)
-made_sizes text dir new x Char is = absurd (cc)
+made_sizes : (text : List ℕ) (dir : Name) (entry : Option (List ℕ)) (new : NewNode) (x : Node) (kind : Kind) → option_map (named_by entry) (node_of_kind dir new kind) ≡ Some x → IsSized tmpfs text x
+made_sizes text dir entry new x File is = named_sizes text entry (new_file new.owner new.group new.mode) x refl (cc)
+made_sizes text dir entry new x Dir is = named_sizes text entry (new_dir new.owner new.group new.mode (Some dir)) x refl (cc)
+made_sizes text dir entry new x Link is = absurd (cc)
+made_sizes text dir entry new x Fifo is = absurd (cc)
+made_sizes text dir entry new x Char is = absurd (cc)
 
 pub tmpfs_good : GoodBehaviour tmpfs
 tmpfs_good = record {
@@ -70,7 +76,7 @@ tmpfs_good = record {
   set_size_sizes = λ size text x d shaped sized is. fine_done (Keeps text x.header x.body) _ d (resizes_well text x.header x.body size) is shaped sized;
   entered = entry_sizes;
   removed = removed_sizes;
-  newborn = λ is text dir new x. made_sizes text dir new x new.kind;
+  newborn = λ is text dir entry new x. made_sizes text dir entry new x new.kind;
   write_blind = λ at bs text h c e. refl;
   set_size_blind = λ size text h c e. refl;
   no_words = refl;

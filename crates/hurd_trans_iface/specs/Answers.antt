@@ -1,6 +1,7 @@
 -- Entries of directories, and what is made in them.
 use Rattle.std.specs.Prelude.{ℕ, nat_lt, not, Bool, true, false, cond, is_some, if◌then◌else◌, List, [], ◌∷◌, ◌++◌, map, Option, Some, None, Result, Ok, Err}
 use Rattle.std.specs.Str.{bytes_eq}
+use Rattle.std.specs.Option.{option_map}
 use Rattle.hurd_creds.specs.declared.name.Name.{Name}
 use Rattle.hurd_creds.specs.Names.{same_name}
 use Rattle.hurd_creds.specs.declared.mode.Mode.{Mode}
@@ -12,7 +13,7 @@ use Rattle.hurd_trans_iface.specs.declared.new_node.NewNode.{NewNode}
 use Rattle.hurd_trans_iface.specs.declared.root.Root.{Root}
 use Rattle.hurd_trans_iface.specs.declared.root.Crossing.{Crossing}
 use Rattle.hurd_trans_iface.specs.declared.root.Crossing.TheVariants.{Plain, Link}
-use Rattle.hurd_trans_iface.specs.Nodes.{Entry, Body, Content, Listing, Node, Edit, OnHeader, OnBody, AddNode, is_dir, linked, unlinked, moved_to, with_attrs, with_passive, with_entry, without_entry, new_file, nameless_file, new_dir}
+use Rattle.hurd_trans_iface.specs.Nodes.{Entry, Body, Content, Listing, Node, Edit, OnHeader, OnBody, AddNode, is_dir, linked, unlinked, moved_to, with_attrs, with_passive, with_entry, without_entry, new_file, new_dir, with_header}
 
 -- the node of the first entry of this name
 abbrev pub entry_in : List ℕ → List Entry → Option Name
@@ -43,8 +44,14 @@ node_of_kind dir new File = Some (new_file new.owner new.group new.mode)
 node_of_kind dir new Dir = Some (new_dir new.owner new.group new.mode (Some dir))
 node_of_kind dir new _ = None
 
-abbrev pub made_node : Name → NewNode → Option Node
-made_node dir new = node_of_kind dir new new.kind
+-- as it begins where an entry names it, or none does: then it is like one that has lost its only one
+abbrev pub named_by : Option (List ℕ) → Node → Node
+named_by (Some name) x = x
+named_by None x = with_header unlinked x
+
+-- the node that is made in a directory, under a name or without an entry
+abbrev pub made_node : Name → Option (List ℕ) → NewNode → Option Node
+made_node dir entry new = option_map (named_by entry) (node_of_kind dir new new.kind)
 
 -- whether a tree has nodes of this kind
 abbrev pub is_made : Kind → Bool
@@ -52,33 +59,30 @@ is_made File = true
 is_made Dir = true
 is_made _ = false
 
--- whether a node of this kind may be made in a directory under a name, where the directory's server keeps a tree or doesn't
-abbrev pub make_of : Bool → List ℕ → Kind → Option Node → Result (Unit {0}) Errno
-make_of keeps name kind None = Err EDIED
-make_of keeps name kind (Some d) =
-    if not (is_dir d.header.kind) then Err ENOTDIR else if not keeps then Err EROFS
-    else if is_some (entry_of name (Some d.body)) then Err EEXIST else if is_made kind then Ok tt else Err EOPNOTSUPP
+-- whether a name is taken among the entries of a directory; where none is given, none is
+abbrev pub is_taken : Option (List ℕ) → Body → Bool
+is_taken None b = false
+is_taken (Some name) b = is_some (entry_of name (Some b))
 
-abbrev pub added : Name → List ℕ → Name → Option Node → List Edit
-added dir name n None = []
-added dir name n (Some x) = AddNode n x ∷ OnBody dir (with_entry name n) ∷ []
+-- whether a node of this kind may be made in a directory, under a name or without an entry, where the directory's server keeps a tree or doesn't
+abbrev pub make_of : Bool → Option (List ℕ) → Kind → Option Node → Result (Unit {0}) Errno
+make_of keeps entry kind None = Err EDIED
+make_of keeps entry kind (Some d) =
+    if not (is_dir d.header.kind) then Err ENOTDIR else if not keeps then Err EROFS
+    else if is_taken entry d.body then Err EEXIST else if is_made kind then Ok tt else Err EOPNOTSUPP
+
+-- the entry of a node, if one is to name it
+abbrev pub entering : Name → Option (List ℕ) → Name → List Edit
+entering dir None n = []
+entering dir (Some name) n = OnBody dir (with_entry name n) ∷ []
+
+abbrev pub added : Name → Option (List ℕ) → Name → Option Node → List Edit
+added dir entry n None = []
+added dir entry n (Some x) = AddNode n x ∷ entering dir entry n
 
 -- the new node, and its entry
-abbrev pub make_edits : Name → List ℕ → NewNode → List Edit
-make_edits dir name new = added dir name new.name (made_node dir new)
-
--- whether a node of this kind is a file
-abbrev pub is_file : Kind → Bool
-is_file File = true
-is_file _ = false
-
--- whether a node of this kind may be made that no entry names, by a server that keeps a tree or doesn't
-abbrev pub nameless_of : Bool → Kind → Result (Unit {0}) Errno
-nameless_of keeps kind = if not keeps then Err EROFS else if is_file kind then Ok tt else Err EOPNOTSUPP
-
--- the file
-abbrev pub nameless_edits : NewNode → List Edit
-nameless_edits new = AddNode new.name (nameless_file new.owner new.group new.mode) ∷ []
+abbrev pub make_edits : Name → Option (List ℕ) → NewNode → List Edit
+make_edits dir entry new = added dir entry new.name (made_node dir entry new)
 
 -- the greatest number of links of a file
 abbrev pub most_links : ℕ

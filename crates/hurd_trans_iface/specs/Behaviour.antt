@@ -34,8 +34,6 @@ pub record Behaviour : Type 0 where
   pub root : List ℕ → Root
   -- whether it keeps a tree: nodes can be made in its directories
   pub tree : Bool
-  -- whether it is a stream, which has no places: offsets are ignored, and cursors stay
-  pub stream : Bool
   -- the size of a node, by the text and what is in the node
   pub size : List ℕ → Body → ℕ
   -- so many bytes from a place on

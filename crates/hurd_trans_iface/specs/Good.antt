@@ -1,5 +1,5 @@
 -- What the laws need of a kind of server.
-use Rattle.std.specs.Prelude.{◌≡◌, ℕ, true, false, List, [], Some, None, Ok, Err}
+use Rattle.std.specs.Prelude.{◌≡◌, ℕ, true, false, List, [], Option, Some, None, Ok, Err}
 use Rattle.hurd_creds.specs.declared.name.Name.{Name}
 use Rattle.hurd_creds.specs.declared.errno.Errno.{Errno}
 use Rattle.hurd_creds.specs.Memory.{is_no_memory}
@@ -42,7 +42,7 @@ pub record GoodBehaviour (b : Behaviour) : Type 0 where
   -- an entry more or less changes no size, and what is made in a tree has its size
   pub entered : (text name : List ℕ) (n : Name) (c : Body) → b.size text (with_entry name n c) ≡ b.size text c
   pub removed : (text name : List ℕ) (c : Body) → b.size text (without_entry name c) ≡ b.size text c
-  pub newborn : b.tree ≡ true → (text : List ℕ) (dir : Name) (new : NewNode) (x : Node) → made_node dir new ≡ Some x → IsSized b text x
+  pub newborn : b.tree ≡ true → (text : List ℕ) (dir : Name) (entry : Option (List ℕ)) (new : NewNode) (x : Node) → made_node dir entry new ≡ Some x → IsSized b text x
   pub write_blind : (at : ℕ) (bs : List ℕ) → IsBlind b (writing at bs)
   pub set_size_blind : (size : ℕ) → IsBlind b (resizing size)
   -- options without words change nothing

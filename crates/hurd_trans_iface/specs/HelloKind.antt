@@ -51,9 +51,8 @@ hello = record {
   begins = hello_text;
   options = λ text. codes "/hurd/hello" ∷ (codes "--contents=" ++ text) ∷ [];
   set_options = hello_options;
-  root = λ text. record { kind = File; crossing = Plain };
+  root = λ text. record { kind = File; is_stream = false; crossing = Plain };
   tree = false;
-  stream = false;
   size = λ text b. length text;
   read = λ text x at amount. only (take amount (drop at text));
   write = λ text x at bs. Err EOPNOTSUPP;

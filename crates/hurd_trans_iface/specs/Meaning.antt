@@ -10,9 +10,8 @@ use Rattle.hurd_creds.specs.declared.errno.Errno.{Errno}
 use Rattle.hurd_trans_iface.specs.declared.new_node.NewNode.{NewNode}
 use Rattle.hurd_trans_iface.specs.declared.root.Root.{Root}
 use Rattle.hurd_trans_iface.specs.Nodes.{Body, Content, Listing, Node, NodeMap, Edit, body_of, edit_all, is_dir, with_header, with_size}
-use Rattle.hurd_trans_iface.specs.Answers.{entry_of, make_of, make_edits, nameless_of, nameless_edits, link_of, link_edits, unlink_of, unlink_edits, rename_of, rename_edits, set_header_of, set_attrs_edits, set_passive_edits, edits_if}
+use Rattle.hurd_trans_iface.specs.Answers.{entry_of, make_of, make_edits, link_of, link_edits, unlink_of, unlink_edits, rename_of, rename_edits, set_header_of, set_attrs_edits, set_passive_edits, edits_if}
 use Rattle.hurd_trans_iface.specs.Behaviour.{Behaviour, Question, effect_on, told_of, edits_of}
-use Rattle.hurd_trans_iface.specs.declared.readable.Readable.{Readable}
 pub use Rattle.hurd_trans_iface.specs.Kinds.{ServerKind, Tmpfs, Hello, Null, Zero, Symlink, all_kinds, behaviour_of}
 
 -- a server: its kind, its text, the name of its root once that has one, and its own nodes
@@ -100,13 +99,10 @@ options_taken (Err e) m = (Err e, m)
 abbrev pub set_options_step : List (List ℕ) → Meaning → Result (Unit {0}) Errno × Meaning
 set_options_step ws m = options_taken ((behaviour_of m.kind).set_options ws) m
 
-abbrev pub make_step : Name → List ℕ → NewNode → Meaning → Result (Unit {0}) Errno × Meaning
-make_step dir name new m =
-    let answer = make_of (keeps_tree m.kind) name new.kind (fin.get m.nodes dir) in (answer, edited (edits_if answer (make_edits dir name new)) m)
-
--- a file that no entry names
-abbrev pub make_nameless_step : NewNode → Meaning → Result (Unit {0}) Errno × Meaning
-make_nameless_step new m = let answer = nameless_of (keeps_tree m.kind) new.kind in (answer, edited (edits_if answer (nameless_edits new)) m)
+-- a node made in a directory, under a name or without an entry
+abbrev pub make_step : Name → Option (List ℕ) → NewNode → Meaning → Result (Unit {0}) Errno × Meaning
+make_step dir entry new m =
+    let answer = make_of (keeps_tree m.kind) entry new.kind (fin.get m.nodes dir) in (answer, edited (edits_if answer (make_edits dir entry new)) m)
 
 -- another name for a file, which is one of the server's own
 abbrev pub link_step : Name → List ℕ → Name → Meaning → Result (Unit {0}) Errno × Meaning
@@ -138,7 +134,6 @@ set_passive_step n words m =
 abbrev pub forget_after : Meaning → Name → Meaning
 forget_after m n = record m { nodes = fin.remove m.nodes n }
 
--- how many bytes there are to read in a node at a place, and whether it is a stream
-abbrev pub readable_of : Meaning → Name → ℕ → Option Readable
-readable_of m n at =
-    let b = behaviour_of m.kind in option_map (λ x. record { count = b.readable m.text x at; is_stream = b.stream }) (fin.get m.nodes n)
+-- how many bytes there are to read in a node at a place
+abbrev pub readable_of : Meaning → Name → ℕ → Option ℕ
+readable_of m n at = option_map (λ x. (behaviour_of m.kind).readable m.text x at) (fin.get m.nodes n)

@@ -196,10 +196,6 @@ moved_to dir h = record h { parent = if is_dir h.kind then Some dir else h.paren
 abbrev pub with_header : (Header → Header) → Node → Node
 with_header f x = record x { header = f x.header }
 
--- an empty file that no entry names: one that has lost its only one
-abbrev pub nameless_file : ℕ → ℕ → Mode → Node
-nameless_file owner group mode = with_header unlinked (new_file owner group mode)
-
 abbrev pub with_body : (Body → Body) → Node → Node
 with_body g x = record x { body = g x.body }
 

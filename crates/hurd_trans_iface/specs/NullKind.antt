@@ -13,9 +13,8 @@ null = record {
   begins = no_text;
   options = λ text. codes "/hurd/null" ∷ [];
   set_options = no_options;
-  root = λ text. record { kind = Char; crossing = Plain };
+  root = λ text. record { kind = Char; is_stream = true; crossing = Plain };
   tree = false;
-  stream = true;
   size = λ text b. 0;
   read = λ text x at amount. only [];
   write = λ text x at bs. only (length bs);

@@ -23,5 +23,5 @@ symlink = record hello {
   begins = target_text;
   options = λ text. codes "/hurd/symlink" ∷ text ∷ [];
   set_options = no_options;
-  root = λ text. record { kind = LinkNode; crossing = Link (is_absolute text) };
+  root = λ text. record { kind = LinkNode; is_stream = false; crossing = Link (is_absolute text) };
 }

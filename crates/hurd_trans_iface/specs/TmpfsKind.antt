@@ -53,9 +53,8 @@ tmpfs = record {
   begins = no_text;
   options = λ text. codes "/hurd/tmpfs" ∷ [];
   set_options = no_options;
-  root = λ text. record { kind = Dir; crossing = Plain };
+  root = λ text. record { kind = Dir; is_stream = false; crossing = Plain };
   tree = true;
-  stream = false;
   size = λ text b. bytes_in b;
   read = λ text x at amount. read_bytes at amount x.body;
   write = λ text x at bs. write_file x.header at bs;

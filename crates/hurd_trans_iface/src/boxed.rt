@@ -1,7 +1,6 @@
 //! A boxed server is a server.
 use crate::names::Names;
 use crate::new_node::NewNode;
-use crate::readable::Readable;
 use crate::root::Root;
 use crate::server::Server;
 use crate::words::Words;
@@ -65,7 +64,7 @@ impl Server for Box<dyn Server> {
         (**self).content(node)
     }
 
-    fn readable(&self, node: NodeName, at: u64) -> Option<Readable> {
+    fn readable(&self, node: NodeName, at: u64) -> Option<u64> {
         (**self).readable(node, at)
     }
 
@@ -73,14 +72,10 @@ impl Server for Box<dyn Server> {
         &mut self,
         alloc: Global,
         dir: NodeName,
-        name: &[u8],
+        entry: Option<&[u8]>,
         new: NewNode,
     ) -> Result<(), Errno> {
-        (**self).make(alloc, dir, name, new)
-    }
-
-    fn make_nameless(&mut self, new: NewNode) -> Result<(), Errno> {
-        (**self).make_nameless(new)
+        (**self).make(alloc, dir, entry, new)
     }
 
     fn link(

@@ -6,11 +6,10 @@ ghost use Rattle.hurd_creds.specs.Memory.{Meets, Steps};
 ghost use Rattle.hurd_trans_iface.specs.Nodes.{AllListed, Reaches, attrs_of, body_of, content_of, passive_of};
 ghost use Rattle.hurd_trans_iface.specs.Answers.{entry_of, names_of};
 ghost use Rattle.hurd_trans_iface.specs.Behaviour.{reading, writing, resizing};
-ghost use Rattle.hurd_trans_iface.specs.Meaning.{Meaning, behaviour_of, root_of, options_of, begin_root_after, step_of, set_options_step, make_step, make_nameless_step, link_step, unlink_step, rename_step, set_attrs_step, set_passive_step, forget_after, readable_of};
+ghost use Rattle.hurd_trans_iface.specs.Meaning.{Meaning, root_of, options_of, begin_root_after, step_of, set_options_step, make_step, link_step, unlink_step, rename_step, set_attrs_step, set_passive_step, forget_after, readable_of};
 
 use crate::names::Names;
 use crate::new_node::NewNode;
-use crate::readable::Readable;
 use crate::root::Root;
 use crate::words::Words;
 use hurd_creds::{Attrs, Bytes, Errno, Mode, NodeName};
@@ -77,7 +76,7 @@ pub trait Server: Drop {
         ensures steps { Steps (meaning self.old) (step_of (writing at bytes.now) node (meaning self.old)) result (meaning self.new) }
         ensures within { Reaches (body_of (meaning self.old).nodes node) (at + length bytes.now) → result ≡ (step_of (writing at bytes.now) node (meaning self.old)).0 }
         ensures nothing { bytes.now ≡ [] → result ≡ (step_of (writing at bytes.now) node (meaning self.old)).0 }
-        ensures stream { (behaviour_of (meaning self.old).kind).stream ≡ true → result ≡ (step_of (writing at bytes.now) node (meaning self.old)).0 };
+        ensures stream { (root_of (meaning self.old).kind (meaning self.old).text).is_stream ≡ true → result ≡ (step_of (writing at bytes.now) node (meaning self.old)).0 };
 
     /// Cuts a file, or grows it by zero bytes. A cut takes no memory, nor does a stream.
     ///
@@ -85,27 +84,27 @@ pub trait Server: Drop {
     fn set_size(&mut self, node: NodeName, size: u64) -> Result<(), Errno>
         ensures steps { Steps (meaning self.old) (step_of (resizing size) node (meaning self.old)) result (meaning self.new) }
         ensures cut { Reaches (body_of (meaning self.old).nodes node) size → result ≡ (step_of (resizing size) node (meaning self.old)).0 }
-        ensures stream { (behaviour_of (meaning self.old).kind).stream ≡ true → result ≡ (step_of (resizing size) node (meaning self.old)).0 };
+        ensures stream { (root_of (meaning self.old).kind (meaning self.old).text).is_stream ≡ true → result ≡ (step_of (resizing size) node (meaning self.old)).0 };
 
     /// The bytes that a node holds, lent, if the server has it and it is no directory; what reads make of the server's text is none of them. Takes no memory.
     fn content(&self, node: NodeName) -> Option<&[u8]>
         ensures { option_copied result ≡ content_of (meaning self.now).nodes node };
 
-    /// How many bytes there are to read at a place, none in a directory, and whether the node is a stream; if the server has it. Takes no memory.
-    fn readable(&self, node: NodeName, at: u64) -> Option<Readable>
+    /// How many bytes there are to read at a place, none in a directory; if the server has the node. Takes no memory.
+    fn readable(&self, node: NodeName, at: u64) -> Option<u64>
         ensures { result ≡ readable_of (meaning self.now) node at };
 
-    /// Makes a node in a directory under a name.
+    /// Makes a node in a directory: under a name, or without an entry, so that it is like one that has lost its only one.
     ///
     /// Errors, in order: `EDIED` no such directory, `ENOTDIR`, `EROFS` the server keeps no tree, `EEXIST`, `EOPNOTSUPP` a kind that the server doesn't make, `ENOMEM`.
-    fn make(&mut self, alloc: Global, dir: NodeName, name: &[u8], new: NewNode) -> Result<(), Errno>
-        ensures { Steps (meaning self.old) (make_step dir name.now new (meaning self.old)) result (meaning self.new) };
-
-    /// Makes a file that no entry names: it has no links.
-    ///
-    /// Errors, in order: `EROFS` the server keeps no tree, `EOPNOTSUPP` any other kind than a file, `ENOMEM`.
-    fn make_nameless(&mut self, new: NewNode) -> Result<(), Errno>
-        ensures { Steps (meaning self.old) (make_nameless_step new (meaning self.old)) result (meaning self.new) };
+    fn make(
+        &mut self,
+        alloc: Global,
+        dir: NodeName,
+        entry: Option<&[u8]>,
+        new: NewNode,
+    ) -> Result<(), Errno>
+        ensures { Steps (meaning self.old) (make_step dir (option_copied entry.entry) new (meaning self.old)) result (meaning self.new) };
 
     /// Gives a file another name in a directory.
     ///

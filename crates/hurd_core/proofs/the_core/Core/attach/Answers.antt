@@ -33,4 +33,4 @@ returns-clause-does g c =
     let free : naming_of H t 2 ≡ Ok tt = sym c.naming.ensures ∙ c.in_default.is in
     rw (← c.self.view_is)
     (attach-done N H t free p c.args.ids m c.in-Some.name c.in-Some.ensures (shown f c.attach.new.self) _ (c.in_ok-attach.ensures.shown ∙ ap (seated N H t p c.args.ids m) c.place.ensures)
-    (rw (c.take_name-2.ensures.named, c.take_name.ensures.named) at c.settle.ensures))
+    (rw (c.start_over.ensures.nodes, c.start_over.ensures.ports, c.take_name-2.ensures.named, c.take_name.ensures.named) at c.settle.ensures))

@@ -1,6 +1,6 @@
 use Rattle.std.proofs.Common.{◌≡◌, sym, ◌∙◌, ap, List}
 use Rattle.std.proofs.lemmas.Result.{err_from_is_err_and}
-use Rattle.std.specs.Prelude.{Option}
+use Rattle.std.specs.Prelude.{Option, option_copied}
 use Rattle.std.specs.FinMap as fin
 use Rattle.hurd_nodes.specs.Shown.{with_home}
 use Rattle.hurd_nodes.specs.Held.{homes_of, mean, mean_seat, seat_value, seats_of}
@@ -18,7 +18,7 @@ returns-in_default-clause-shown g c =
     let f = g.S.Server.meaning in
     let at = c.in_default.ensures.is in
     let homes = homes_of c.self.inside.homes.entries in
-    rw (← c.self.view_is) (make-gone c.args.dir c.args.name.now c.args.new homes (homes_of c.self.inside.actives.entries) (mean f (seats_of c.self.inside.seats.entries)) (unplaced f c.self.inside.seats.entries (fin.get homes c.args.dir) at))
+    rw (← c.self.view_is) (make-gone c.args.dir (option_copied c.args.entry) c.args.new homes (homes_of c.self.inside.actives.entries) (mean f (seats_of c.self.inside.seats.entries)) (unplaced f c.self.inside.seats.entries (fin.get homes c.args.dir) at))
 
 pub returns-in_err-can_make_in-clause-shown : goal.returns-in_err-can_make_in-clause-shown
 returns-in_err-can_make_in-clause-shown g c =
@@ -30,7 +30,7 @@ returns-in_err-can_make_in-clause-shown g c =
     let s = seat-at f ss (fin.get homes c.args.dir) c.in-Some.i x at c.index.ensures in
     let p = err_from_is_err_and c.from_residual.result c.from_residual.ensures.1 in
     rw (p.1, p.2, ← c.self.view_is)
-    (make-refused c.args.dir c.args.name.now c.args.new homes (homes_of c.self.inside.actives.entries) (mean f (seats_of ss)) s.name (mean_seat f (seat_value x)) s.home s.is c.in_err-can_make_in.field-0.0 (sym c.in_err-can_make_in.ensures))
+    (make-refused c.args.dir (option_copied c.args.entry) c.args.new homes (homes_of c.self.inside.actives.entries) (mean f (seats_of ss)) s.name (mean_seat f (seat_value x)) s.home s.is c.in_err-can_make_in.field-0.0 (sym c.in_err-can_make_in.ensures))
 
 pub returns-in_err-reserve-clause-shown : goal.returns-in_err-reserve-clause-shown
 returns-in_err-reserve-clause-shown g c =
@@ -42,7 +42,7 @@ returns-in_err-reserve-clause-shown g c =
     let s = seat-at f ss (fin.get homes c.args.dir) c.in-Some.i x at c.index.ensures in
     let p = err_from_is_err_and c.from_residual-in_err-reserve.result c.from_residual-in_err-reserve.ensures.1 in
     rw (p.1, p.2, ← c.self.view_is, c.reserve.ensures.entries)
-    (make-short c.args.dir c.args.name.now c.args.new homes (homes_of c.self.inside.actives.entries) (mean f (seats_of ss)) s.name (mean_seat f (seat_value x)) s.home s.is c.in_ok-can_make_in.field-0 (sym c.in_ok-can_make_in.ensures))
+    (make-short c.args.dir (option_copied c.args.entry) c.args.new homes (homes_of c.self.inside.actives.entries) (mean f (seats_of ss)) s.name (mean_seat f (seat_value x)) s.home s.is c.in_ok-can_make_in.field-0 (sym c.in_ok-can_make_in.ensures))
 
 pub returns-in_err-make-clause-shown : goal.returns-in_err-make-clause-shown
 returns-in_err-make-clause-shown g c =
@@ -54,7 +54,7 @@ returns-in_err-make-clause-shown g c =
     let s = seat-at f ss (fin.get homes c.args.dir) c.in-Some.i x at c.index_mut.ensures.value in
     let p = err_from_is_err_and c.from_residual-in_err-make.result c.from_residual-in_err-make.ensures.1 in
     rw (p.1, p.2, ← c.self.view_is, c.reserve.ensures.entries, s.set c.make.new.self)
-    (make-not c.args.dir c.args.name.now c.args.new homes (homes_of c.self.inside.actives.entries) (mean f (seats_of ss)) s.name (mean_seat f (seat_value x)) s.home s.is (f c.make.new.self) c.in_err-make.field-0.0 (rw c.in_err-make.was at c.make.ensures))
+    (make-not c.args.dir (option_copied c.args.entry) c.args.new homes (homes_of c.self.inside.actives.entries) (mean f (seats_of ss)) s.name (mean_seat f (seat_value x)) s.home s.is (f c.make.new.self) c.in_err-make.field-0.0 (rw c.in_err-make.was at c.make.ensures))
 
 pub returns-in_err-make-clause-hidden : goal.returns-in_err-make-clause-hidden
 returns-in_err-make-clause-hidden g c =
@@ -66,9 +66,9 @@ returns-in_err-make-clause-hidden g c =
     let x = c.index_mut.result.now in
     let e = mean_seat f (seat_value x) in
     let s = seat-at f ss (fin.get homes c.args.dir) c.in-Some.i x at c.index_mut.ensures.value in
-    let same = make-kept c.args.dir c.args.name.now c.args.new homes (homes_of c.self.inside.actives.entries) seats s.name e s.home s.is (f c.make.new.self) c.in_err-make.field-0.0 (rw c.in_err-make.was at c.make.ensures) in
+    let same = make-kept c.args.dir (option_copied c.args.entry) c.args.new homes (homes_of c.self.inside.actives.entries) seats s.name e s.home s.is (f c.make.new.self) c.in_err-make.field-0.0 (rw c.in_err-make.was at c.make.ensures) in
     rw (← c.self.view_is, c.reserve.ensures.entries, s.set c.make.new.self)
-    (λ fresh hides. hides-unmade c.args.dir c.args.name.now c.args.new homes seats s.name e s.is (f c.make.new.self) same hides)
+    (λ fresh hides. hides-unmade c.args.dir (option_copied c.args.entry) c.args.new homes seats s.name e s.is (f c.make.new.self) same hides)
 
 -- made: the seat of the directory's server, and the table of homes with the new one
 
@@ -89,14 +89,14 @@ returns-clause-shown g c =
     let f = g.S.Server.meaning in
     let s = seat g c in
     rw (← c.self.view_is, home_put g c, s.set c.make.new.self)
-    (make-done c.args.dir c.args.name.now c.args.new (homes_of c.self.inside.homes.entries) (homes_of c.self.inside.actives.entries) (mean f (seats_of c.self.inside.seats.entries)) s.name (mean_seat f (seat_value c.index_mut.result.now)) s.home s.is (f c.make.new.self) c.in_ok-make.field-0 (rw c.in_ok-make.was at c.make.ensures))
+    (make-done c.args.dir (option_copied c.args.entry) c.args.new (homes_of c.self.inside.homes.entries) (homes_of c.self.inside.actives.entries) (mean f (seats_of c.self.inside.seats.entries)) s.name (mean_seat f (seat_value c.index_mut.result.now)) s.home s.is (f c.make.new.self) c.in_ok-make.field-0 (rw c.in_ok-make.was at c.make.ensures))
 
 pub returns-clause-hidden : goal.returns-clause-hidden
 returns-clause-hidden g c =
     let f = g.S.Server.meaning in
     let s = seat g c in
     rw (← c.self.view_is, home_put g c, s.set c.make.new.self)
-    (λ fresh hides. hides-made c.args.dir c.args.name.now c.args.new (homes_of c.self.inside.homes.entries) (mean f (seats_of c.self.inside.seats.entries)) s.name (mean_seat f (seat_value c.index_mut.result.now)) s.is (f c.make.new.self) c.in_ok-make.field-0 (rw c.in_ok-make.was at c.make.ensures) fresh hides)
+    (λ fresh hides. hides-made c.args.dir (option_copied c.args.entry) c.args.new (homes_of c.self.inside.homes.entries) (mean f (seats_of c.self.inside.seats.entries)) s.name (mean_seat f (seat_value c.index_mut.result.now)) s.is (f c.make.new.self) c.in_ok-make.field-0 (rw c.in_ok-make.was at c.make.ensures) fresh hides)
 
 -- no two rows are of one name
 

@@ -1,0 +1,10 @@
+-- What the server answers and does is so in the world.
+use Rattle.hurd_trans_iface.specs.Behaviour.{writing}
+use Rattle.hurd_nodes.specs.Shown.{shown}
+use Rattle.hurd_core.proofs.NeedLaws.{asked-does}
+use Rattle.hurd_core.proofs.the_core.Core.write.Goals as goal
+
+pub returns-clause-does : goal.returns-clause-does
+returns-clause-does g c =
+    let f = g.S.Server.meaning in
+    rw (← c.self.view_is) (asked-does (shown f c.self.inside.nodes) c.self.inside.ports.state c.args.node (writing c.args.at c.args.bytes.now) c.write.result (shown f c.write.new.self) c.write.ensures.shown)
