@@ -1,5 +1,5 @@
 -- A lookup that is refused, finds no memory, or is done, as its plan has it.
-use Rattle.std.proofs.Common.{◌≡◌, ◌∙◌, ◌⊎◌, inl, inr, ℕ, false, List, Option, refl, ap, subst}
+use Rattle.std.proofs.Common.{◌≡◌, ◌∙◌, ◌⊎◌, inl, inr, ℕ, false, List, Option, refl, ap}
 use Rattle.std.specs.Prelude.{Result, Ok, Err, IsOk, Some, None}
 use Rattle.hurd_creds.specs.declared.name.Name.{Name}
 use Rattle.hurd_creds.specs.declared.attrs.Kind.TheVariants.{File}

@@ -1,3 +1,4 @@
+pub mod AlikeLaws
 pub mod WalkLaws
 pub mod EndLaws
 pub mod OutcomeLaws

@@ -13,14 +13,14 @@ use Rattle.hurd_ports.specs.Tables.{Task, fresh}
 use Rattle.hurd_ports.specs.Steps.{named}
 use Rattle.hurd_machine.specs.World.{World, task_at, header_at}
 use Rattle.hurd_machine.specs.Change.{Change, apply_all, opening}
-use Rattle.hurd_machine.specs.Sight.{Part, bare, Allowed, SeesBody, ToRead}
+use Rattle.hurd_machine.specs.Sight.{Part, bare, Allowed, Seen, SeesBody, ToRead}
 use Rattle.hurd_machine.specs.Touched.{OnNode}
 use Rattle.hurd_machine.specs.Sound.{Below, Sound}
 use Rattle.hurd_machine.proofs.Coherence.{IsNext, header_old, named_still}
 use Rattle.hurd_machine.proofs.Settle.{rests_opening}
 use Rattle.hurd_machine.proofs.Frame.{Full}
 use Rattle.hurd_machine.proofs.Links.{leads_unless, file_hangs}
-use Rattle.hurd_machine.proofs.Confine.{NewTo}
+use Rattle.hurd_machine.proofs.Confine.{NewTo, seen_old}
 use Rattle.hurd_machine.proofs.Permits.{later_new, opens_may}
 use Rattle.hurd_machine.proofs.Opens as fragments
 use Rattle.hurd_machine.proofs.Opens.{own_task, fresh_new, fresh_next, opens_piece}
@@ -28,8 +28,8 @@ use Rattle.hurd_machine.proofs.Makes.{may_make, entered, entered_home, entered_h
 use Rattle.hurd_machine.proofs.Pending.{pends_whole}
 use Rattle.hurd_core.specs.Core.{asked_node}
 use Rattle.hurd_lookup.specs.Lookup.{NewPort, Outcome, Opens, Makes, Retries, Starts, may_open, no_modes, lookup_changes, lookup_parts}
-use Rattle.hurd_lookup.proofs.WalkLaws.{PortSeen, WaysGiven}
-use Rattle.hurd_lookup.proofs.EndLaws.{OutcomeSeen, OutcomeGiven, Leads}
+use Rattle.hurd_lookup.proofs.WalkLaws.{PortSeen}
+use Rattle.hurd_lookup.proofs.EndLaws.{MakeLeads, OutcomeShown}
 use Rattle.hurd_machine.proofs.Piece.{Whole, stands, whole_none, whole_then}
 
 -- an open keeps no flag that was not asked for
@@ -76,46 +76,56 @@ module _ (w : World) (t : ℕ) (x : Task) (is : task_at w t ≡ Some x) (flags :
   abbrev Writes : Outcome → Part → Type 0
   Writes o = Full w t (lookup_parts w o)
 
+  -- what tasks see was given
+  given : Sound w → (m : Name) → ((S : ℕ → Bool) → S t ≡ true → Seen S w m) → Below w m
+  given s m seen = seen_old s.coherent m (seen (λ k. true) refl)
+
   -- a port that is made
-  port_whole : {T : Part → Type 0} → Sound w → (e : NewPort) (modes : OpenFlags) → Below w e.node → WaysGiven w e.parents → ((p : Part) → OnNode w e.node p → T p)
+  port_whole : {T : Part → Type 0} → Sound w → (e : NewPort) (modes : OpenFlags) → ((p : Part) → OnNode w e.node p → T p)
       → (asks modes WRITE ≡ true → (h : Header) → header_at w e.node ≡ Some h → is_dir h.kind ≡ false) → ((S : ℕ → Bool) → S t ≡ true → PortSeen S w e)
       → ((S : ℕ → Bool) → S t ≡ true → asks modes READ ≡ true → (h : Header) → header_at w e.node ≡ Some h → SeesBody S w e.node h) → Whole t (Full w t T) w w (opening t x e.node e.ids e.parents modes)
-  port_whole {T} s e modes made up on writes seen reads = record {
-    piece = opens_piece w t x is e.node e.ids e.parents modes (stands s) (own_task w t T) (inr (inr (fresh_new w t x is))) (λ p here. inl (on p here)) made up writes (λ S ours.
+  port_whole {T} s e modes on writes seen reads = record {
+    piece = opens_piece w t x is e.node e.ids e.parents modes (stands s) (own_task w t T) (inr (inr (fresh_new w t x is))) (λ p here. inl (on p here))
+        (given s e.node (λ S ours. (seen S ours).node)) (λ m way. given s m (λ S ours. (seen S ours).ways m way)) writes (λ S ours.
         let k = seen S ours in
         opens_may S w w t x e.node e.ids e.parents modes ours (later_new S w t x x.made ours is (omega arith)) (inl k.node) (λ m way. inl (k.ways m way)) (inr k.ids) (reads S ours));
     rests = rests_opening w t x is e.node e.ids e.parents modes s.settled;
   }
 
-  pub outcome_whole : Sound w → (o : Outcome) → Leads w flags o → OutcomeGiven w o → ((S : ℕ → Bool) → S t ≡ true → OutcomeSeen S w o) → Whole t (Writes o) w w (changes o)
-  outcome_whole s (Starts p) l given seen = pends_whole (stands s) t (Some p) x is (own_task w t (lookup_parts w (Starts p))) given (λ S ours. inl (seen S ours))
-  outcome_whole s (Opens e) l given seen =
-      port_whole {T = lookup_parts w (Opens e)} s e modes (header_old s.coherent e.node l.header l.is_header) given (λ p on. on)
-      (λ writes h eh. let same : l.header ≡ h = cc (l.is_header, eh) in rw (← same) (no_dir (is_dir l.header.kind) (asks flags WRITE) l.fits (kept_write flags writes))) seen
+  pub outcome_whole : Sound w → (o : Outcome) → ((S : ℕ → Bool) → S t ≡ true → OutcomeShown S w flags o) → Whole t (Writes o) w w (changes o)
+  outcome_whole s (Starts p) shown =
+      pends_whole (stands s) t (Some p) x is (own_task w t (lookup_parts w (Starts p))) (given s p.node (λ S ours. (shown S ours).seen)) (λ S ours. inl (shown S ours).seen)
+  outcome_whole s (Opens e) shown =
+      let l = (shown (λ k. true) refl).leads in
+      port_whole {T = lookup_parts w (Opens e)} s e modes (λ p on. on)
+      (λ writes h eh. let same : l.header ≡ h = cc (l.is_header, eh) in rw (← same) (no_dir (is_dir l.header.kind) (asks flags WRITE) l.fits (kept_write flags writes))) (λ S ours. (shown S ours).seen)
       (λ S ours read h eh.
       let same : l.header ≡ h = cc (l.is_header, eh) in
-      ToRead (Allowed e.ids (seen S ours).ids (rw (← same) (reads e.ids l.header flags l.may (kept_read flags read)))))
-  outcome_whole s (Retries kind name None) l given seen = whole_none s
-  outcome_whole s (Retries kind name (Some e)) l given seen =
-      port_whole {T = lookup_parts w (Retries kind name (Some e))} s e no_modes (header_old s.coherent e.node given.header given.is_header) given.ways (λ p on. on)
-      (λ writes h eh. absurd (silent_write writes)) seen (λ S ours read h eh. absurd (silent_read read))
-  outcome_whole s (Makes q f ids ways) l given seen =
+      ToRead (Allowed e.ids (shown S ours).seen.ids (rw (← same) (reads e.ids l.header flags l.may (kept_read flags read)))))
+  outcome_whole s (Retries kind name None) shown = whole_none s
+  outcome_whole s (Retries kind name (Some e)) shown =
+      port_whole {T = lookup_parts w (Retries kind name (Some e))} s e no_modes (λ p on. on)
+      (λ writes h eh. absurd (silent_write writes)) (λ S ours. (shown S ours).seen) (λ S ours read h eh. absurd (silent_read read))
+  outcome_whole s (Makes q f ids ways) shown =
       rw l.named
       (whole_then made opened (tt, (tt, tt)) s
       (entered_whole good s t x is q f.dir l.home l.name (may_make w f.dir (Some l.name) File tt l.may) (leads_unless w s.linked f.dir l.header l.is_header l.stands) (asked_node File f n) file refl refl
-      (file_hangs f.dir f.owner f.group f.mode) (inr (inl refl)) (inr (inr refl)) (λ S ours. (seen S ours).0.0))
+      (file_hangs f.dir f.owner f.group f.mode) (inr (inl refl)) (inr (inr refl)) (λ S ours. (shown S ours).seen.0.0))
       (λ d. record {
         piece = opens_piece left t (named 1 x) seat n ids ways modes (stands d) (own_task w t (lookup_parts w o)) (inr (inr (fragments.later_new w t 1 x is)))
             (λ p on. let same : on.0 ≡ q = cc (on.1, entered_home w n q file f.dir l.name) in inl (inl (rw (on.2, same) refl)))
-            (entered_below w n q file f.dir l.name s.coherent next) (λ k way. named_still w s.coherent n next 1 k (given k way))
+            (entered_below w n q file f.dir l.name s.coherent next) (λ k way. named_still w s.coherent n next 1 k (given s k (λ S ours. (shown S ours).seen.2 k way)))
             (λ writes h e. let same : file.header ≡ h = cc (entered_header w n q file f.dir l.name, e) in rw (← same) refl)
             (λ S ours.
             let new : NewTo S w n = later_new S w t x x.made ours is (omega arith) in
-            let k = seen S ours in
+            let k = (shown S ours).seen in
             opens_may S w left t (named 1 x) n ids ways modes ours (later_new S w t x (x.made + 1) ours is (omega arith)) (inr new) (λ m way. inl (k.2 m way)) (inr k.1) (λ read h e. absurd (new.1 (header_old s.coherent n h e))));
         rests = rests_opening left t (named 1 x) seat n ids ways modes d.settled;
       }))
     where
+      l : MakeLeads w q f
+      l = (shown (λ k. true) refl).leads
+
       o : Outcome
       o = Makes q f ids ways
 

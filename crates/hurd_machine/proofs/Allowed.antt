@@ -1,14 +1,14 @@
 -- The changes that a task of S may make: each keeps a world inside what S saw.
 use Rattle.std.proofs.Common.{◌≡◌, ◌≢◌, ◌⊎◌, ℕ, ◌<◌, ◌≤◌, Bool, true, List, [], Option, Some, None, sym, refl, ◌∙◌, ap, subst, inl, inr, arith}
 use Rattle.std.specs.Option.{option_map}
-use Rattle.std.specs.FinMap.{get, insert}
+use Rattle.std.specs.FinMap.{get}
 use Rattle.hurd_creds.specs.declared.name.Name.{Name}
 use Rattle.hurd_creds.specs.Bits.{asks, READ}
 use Rattle.hurd_creds.specs.NameMaps.{edit}
-use Rattle.hurd_creds.proofs.NameLaws.{same_or_apart, get_here, get_apart, edit_here, edit_apart}
+use Rattle.hurd_creds.proofs.NameLaws.{same_or_apart, get_here, get_apart, edit_apart}
 use Rattle.hurd_trans_iface.specs.Nodes.{Node, Header, Body, Content, Listing, with_header, with_body}
 use Rattle.hurd_trans_iface.specs.Answers.{entry_in, entry_of}
-use Rattle.hurd_nodes.specs.Shown.{ServerInfo, with_text}
+use Rattle.hurd_nodes.specs.Shown.{ServerInfo, with_text, is_other}
 use Rattle.hurd_ports.specs.declared.table.Opened.{Opened}
 use Rattle.hurd_ports.specs.declared.table.IoRight.{IoRight}
 use Rattle.hurd_ports.specs.declared.table.Right.{Right}
@@ -19,15 +19,16 @@ use Rattle.hurd_machine.specs.World.{World, IsAmong, task_at, open_at, header_at
 use Rattle.hurd_machine.specs.Sight.{Holds, HasUid, Taken, SeesBody, BodyOf, OptionsOf}
 use Rattle.hurd_machine.specs.Change.{Change, EditHeader, EditBody, MakeNode, EditOpen, MakeOpen, EditTask, Send, Attach, DropServer, Unseat, SetText, Settle, apply}
 use Rattle.hurd_machine.specs.Sound.{Coherent}
-use Rattle.hurd_machine.proofs.Nodes.{header_in, body_in, header-with_header, header-with_body, body-with_header, body-with_body, edit_reads, edit_keeps, edited_from, node_of_header, ByEmptiness}
+use Rattle.hurd_machine.proofs.Nodes.{header_in, body_in, header-with_header, header-with_body, body-with_header, body-with_body, edit_reads, edit_keeps, edited_from, ByEmptiness, was_edited}
 use Rattle.hurd_machine.proofs.Tasks.{edit_cases, sent_cases}
-use Rattle.hurd_machine.proofs.Coherence.{right_old, HasNoEntries, IsNext, Comes, next_not, next_apart, was, Proper}
+use Rattle.hurd_machine.proofs.Coherence.{right_old, HasNoEntries, IsNext, Comes, next_not, next_apart, was, header_was, Proper, lister, entry_lists}
 use Rattle.hurd_machine.proofs.Comes.{attach_is, come_world}
 use Rattle.hurd_machine.proofs.Drop as drop
 use Rattle.hurd_machine.proofs.Unseated.{still_active}
 use Rattle.hurd_machine.proofs.Texts.{server_was}
 use Rattle.hurd_machine.proofs.Frame.{IsExact}
 use Rattle.hurd_machine.proofs.Confine.{NewTo, SeenOrNew, Known, Less, Less-refl, Less-trans, IoInside, RightInside, Commands, TakesLess, ServerInside, Inside}
+use Rattle.hurd_machine.proofs.Retained.{was_retained}
 
 -- a right to use a node that a task of S may get, but for its ids: where its open is to read, S sees the body
 pub record IoMay (S : ℕ → Bool) (v x : World) (r : IoRight) : Type 0 where
@@ -59,6 +60,14 @@ OwnMay S v x a z = (r : Right) → IsAmong r (rights_of z) → IsAmong r (rights
 pub record OwnTaken (S : ℕ → Bool) (v : World) (a z : Task) : Type 0 where
   pub ids : (z.ids ≡ a.ids) ⊎ Taken S v z.ids
   pub rights : (r : Right) → IsAmong r (rights_of z) → IsAmong r (rights_of a) ⊎ IdsMay S v r
+
+-- of a task z that has one right r more than a
+pub gained_may : (S : ℕ → Bool) (v x : World) (r : Right) (a z : Task) → z.ids ≡ a.ids → ((q : Right) → IsAmong q (rights_of z) → IsAmong q (rights_of a) ⊎ (r ≡ q)) → RightMay S v x r × (HasUid S v 0 ⊎ IdsMay S v r)
+    → OwnMay S v x a z × (HasUid S v 0 ⊎ OwnTaken S v a z)
+gained_may S v x r a z ids gains m = (among (RightMay S v x) m.0, elim m.1 [ inl all ↦ inl all | inr taken ↦ inr (record { ids = inl ids; rights = among (IdsMay S v) taken }) ])
+  where
+    among : (B : Right → Type 0) → B r → (q : Right) → IsAmong q (rights_of z) → IsAmong q (rights_of a) ⊎ B q
+    among B b q h = elim (gains q h) [ inl old ↦ inl old | inr e ↦ inr (subst B e b) ]
 
 -- what S saw, its ids among it, is of the world v before the call; what stands is of the world x, in which the change is made
 abbrev pub May : (ℕ → Bool) → World → World → Change → Type 0
@@ -166,18 +175,8 @@ module _ (S : ℕ → Bool) (v x : World) (coherent : Coherent x) (i : Inside S 
   stepped_named y n k next e =
       stepped_edit y n.task.0 (named k) next.seat next.is_task e (omega arith) (λ r h. inl h) (inr (record { ids = inl refl; rights = λ r h. inl h }))
 
-  -- a task that was sent a right
-  sent_taken : (r : Right) (a : Task) → HasUid S v 0 ⊎ IdsMay S v r → HasUid S v 0 ⊎ OwnTaken S v a (with_sent r a)
-  sent_taken r a (inl all) = inl all
-  sent_taken r a (inr taken) = inr (record {
-    ids = inl refl;
-    rights = λ q h. elim (sent_cases r a q h) [ inl old ↦ inl old | inr e ↦ inr (subst (IdsMay S v) e taken) ];
-  })
-
   stepped_sent : (y : World) (r : Right) (q : ℕ) (a : Task) → task_at x q ≡ Some a → y.tasks ≡ edit_task q (with_sent r) x.tasks → RightMay S v x r × (HasUid S v 0 ⊎ IdsMay S v r) → Stepped y
-  stepped_sent y r q a is e m =
-      stepped_edit y q (with_sent r) a is e (omega arith)
-      (λ p h. elim (sent_cases r a p h) [ inl old ↦ inl old | inr same ↦ inr (subst (RightMay S v x) same m.0) ]) (sent_taken r a m.1)
+  stepped_sent y r q a is e m = let own = gained_may S v x r a (with_sent r a) refl (sent_cases r a) m in stepped_edit y q (with_sent r) a is e (omega arith) own.0 own.1
 
   stepped : (c : Change) → IsExact c → Proper x c → May S v x c → Stepped (apply c x)
   stepped (MakeNode n s node) ex p m = stepped_named (apply (MakeNode n s node) x) n 1 p.0 refl
@@ -214,11 +213,9 @@ module _ (S : ℕ → Bool) (v x : World) (coherent : Coherent x) (i : Inside S 
 
   open_before : (k : Name) (f : Opened → Opened) → ((z : Opened) → asks (f z).modes READ ≡ true → asks z.modes READ ≡ true) → (q : Name) (o : Opened) → get (edit k f x.opens) q ≡ Some o
       → (z : Opened) × (open_at x q ≡ Some z) × (asks o.modes READ ≡ true → asks z.modes READ ≡ true)
-  open_before k f m q o e = elim (same_or_apart q k) [
-    | inl s ↦
-        let l = edited_from f (get x.opens k) o (sym (edit_here x.opens k f) ∙ rw s at e) in
-        (l.0, rw s l.1, λ modes. m l.0 (ap (λ (u : Opened). asks u.modes READ) l.2 ∙ modes))
-    | inr b ↦ (o, sym (edit_apart x.opens k f q b) ∙ e, λ modes. modes)
+  open_before k f m q o e = elim (was_edited x.opens k q f o e) [
+    | inl l ↦ (l.1, ap (open_at x) l.0 ∙ l.2, λ modes. m l.1 (ap (λ (u : Opened). asks u.modes READ) l.3 ∙ modes))
+    | inr h ↦ (o, h, λ modes. modes)
   ]
 
   abbrev Reads : World → Type 0
@@ -245,25 +242,14 @@ module _ (S : ℕ → Bool) (v x : World) (coherent : Coherent x) (i : Inside S 
     | inr a ↦ inl (h, sym (ap header_in (edit_apart x.nodes k (with_header f) n a)) ∙ e, Less-refl S v n h)
   ]
   headers_next (EditBody k g) ex p m n h e = inl (h, sym (edit_keeps header_in (with_body g) (header-with_body g) x.nodes k n) ∙ e, Less-refl S v n h)
-  headers_next (MakeNode a s node) ex p m n h e = elim (same_or_apart n a) [
-    | inl k ↦
-        let here : header_in (get (insert x.nodes a node) n) ≡ Some node.header = rw k (ap header_in (get_here x.nodes a node)) in
-        let same : node.header ≡ h = cc in
-        inr (subst (NewTo S v) (sym k) (next_new a p.0 m.0), λ q eq. m.2 q (ap (λ (z : Header). z.parent) same ∙ eq))
-    | inr k ↦ inl (h, sym (ap header_in (get_apart x.nodes a node n k)) ∙ e, Less-refl S v n h)
+  headers_next (MakeNode a s node) ex p m n h e = elim (header_was x.nodes a n node h e) [
+    | inl k ↦ inr (subst (NewTo S v) (sym k.0) (next_new a p.0 m.0), λ q eq. m.2 q (ap (λ (z : Header). z.parent) k.1 ∙ eq))
+    | inr k ↦ inl (h, k, Less-refl S v n h)
   ]
-  headers_next (Attach s at j node) ex p m n h e = elim (was_header s at j node n h (subst (λ (z : World). header_at z n ≡ Some h) (come_is s at j node p) e)) [
+  headers_next (Attach s at j node) ex p m n h e = elim (header_was x.nodes j.root n node h (subst (λ (z : World). header_at z n ≡ Some h) (come_is s at j node p) e)) [
     | inl k ↦ inr (subst (NewTo S v) (sym k.0) (root_new s at j node p m), λ q eq. let none : None ≡ Some q = sym p.parent ∙ ap (λ (z : Header). z.parent) k.1 ∙ eq in absurd (cc))
     | inr k ↦ inl (h, k, Less-refl S v n h)
   ]
-    where
-      was_header : (s at : Name) (j : ServerInfo) (node : Node) (n : Name) (h : Header) → header_at (come_world x s at j node) n ≡ Some h → ((n ≡ j.root) × (node.header ≡ h)) ⊎ (header_at x n ≡ Some h)
-      was_header s at j node n h e =
-          let y = node_of_header (get (come_world x s at j node).nodes n) h e in
-          elim (was x.nodes j.root n node y.0 y.1) [
-            | inl k ↦ inl (k.0, ap (λ (z : Node). z.header) k.1 ∙ y.2)
-            | inr k ↦ inr (ap header_in k.1 ∙ ap Some y.2)
-          ]
   headers_next (DropServer s) ex p m n h e = inl (h, (drop.header_was x s n h e).0, Less-refl S v n h)
   headers_next Settle ex p m n h e = absurd ex
   headers_next c ex p m n h e = inl (h, e, Less-refl S v n h)
@@ -297,14 +283,9 @@ module _ (S : ℕ → Bool) (v x : World) (coherent : Coherent x) (i : Inside S 
         | inl k ↦ absurd (no_entry node.body p.empty name n (sym (ap (entry_of name) (ap body_in (get_here x.nodes j.root node))) ∙ rw k at now))
         | inr k ↦ inl (sym (ap (entry_of name) (ap body_in (get_apart x.nodes j.root node d k))) ∙ now)
       ]
-  entries_next (DropServer s) ex p m d n name e = inl (entry_was s d n name e)
-    where
-      entry_was : (s d n : Name) (name : List ℕ) → entry_of name (body_at (apply (DropServer s) x) d) ≡ Some n → entry_of name (body_at x d) ≡ Some n
-      entry_was s d n name e = go (get (apply (DropServer s) x).nodes d) refl
-        where
-          go : (o : Option Node) → get (apply (DropServer s) x).nodes d ≡ o → entry_of name (body_at x d) ≡ Some n
-          go None k = let none : None ≡ Some n = sym (ap (λ o. entry_of name (body_in o)) k) ∙ e in absurd (cc)
-          go (Some y) k = ap (λ o. entry_of name (body_in o)) (drop.node_was x s d y k).0 ∙ sym (ap (λ o. entry_of name (body_in o)) k) ∙ e
+  entries_next (DropServer s) ex p m d n name e =
+      let y = lister (get (apply (DropServer s) x).nodes d) n (entry_lists name (body_at (apply (DropServer s) x) d) n e) in
+      inl (ap (λ o. entry_of name (body_in o)) (was_retained x.nodes (is_other s x.homes) d y.0 y.1).0 ∙ sym (ap (λ o. entry_of name (body_in o)) y.1) ∙ e)
   entries_next Settle ex p m d n name e = absurd ex
   entries_next c ex p m d n name e = inl e
 
@@ -314,7 +295,7 @@ module _ (S : ℕ → Bool) (v x : World) (coherent : Coherent x) (i : Inside S 
     | inl k ↦ inr (inr (subst (NewTo S v) k.1 (next_new q p.next m)))
     | inr k ↦ inl k.1
   ]
-  homes_next (DropServer q) ex p m n s e = inl (drop.home_was x q n s e).0
+  homes_next (DropServer q) ex p m n s e = inl (was_retained x.homes (is_other q x.homes) n s e).0
   homes_next Settle ex p m n s e = absurd ex
   homes_next c ex p m n s e = inl e
 

@@ -14,20 +14,20 @@ use Rattle.hurd_trans_iface.specs.Meaning.{keeps_tree}
 use Rattle.hurd_trans_iface.specs.Behaviour.{Question}
 use Rattle.hurd_trans_iface.specs.Kinds.{ServerKind, behaviour_of}
 use Rattle.hurd_trans_iface.specs.Good.{IsBlind, IsPlain as IsPlainAnswer}
-use Rattle.hurd_nodes.specs.Shown.{ServerInfo, info_in, asked_of, readable_by, is_root_at, is_root_of, made_by, are_kin, link_by, set_attrs_by}
+use Rattle.hurd_nodes.specs.Shown.{ServerInfo, info_in, asked_of, readable_by, is_root_at, made_by, are_kin, link_by, set_attrs_by}
 use Rattle.hurd_ports.specs.declared.table.IoRight.{IoRight}
 use Rattle.hurd_ports.specs.declared.table.Right.{Right}
-use Rattle.hurd_ports.specs.declared.table.Right.TheVariants.{Io, Control, Start}
+use Rattle.hurd_ports.specs.declared.table.Right.TheVariants.{Io}
 use Rattle.hurd_ports.specs.Tables.{Task, rights_of, or_refuse, task_of, right_in, right_at, right_of, io_right_in, io_right_of}
 use Rattle.hurd_machine.specs.Calls.{Reply, lacks_memory}
 use Rattle.hurd_machine.specs.declared.call.Reply.TheVariants.{Refused, Back}
 use Rattle.hurd_nodes.specs.Needs.{streams_by}
-use Rattle.hurd_machine.specs.World.{World, IsAmong, ports_of, task_at, open_at, header_at, home_at, info_at, is_server_root, asked_at, count_in, readable_at, stream_at, makes_at, links_at, sets_attrs_at}
+use Rattle.hurd_machine.specs.World.{World, IsAmong, ports_of, task_at, open_at, header_at, home_at, info_at, is_server_root, asked_at, count_in, readable_at, stream_at, makes_at, links_at, sets_attrs_at, nodes_of}
 use Rattle.hurd_machine.specs.Plan.{Plan, refuse, is_refused, on, given, first, answered}
 use Rattle.hurd_machine.specs.declared.handle.Handle.{Handle}
 use Rattle.hurd_machine.specs.Handle.{Named, port_asks, handle_asks}
 use Rattle.hurd_machine.specs.Sight.{Holds, Held, Seen, IsOpen, BodyOf, Sees}
-use Rattle.hurd_machine.proofs.Nodes.{header_in, body_in}
+use Rattle.hurd_machine.proofs.Nodes.{header_in, body_in, root_info}
 use Rattle.hurd_machine.proofs.Rights.{right_under}
 use Rattle.hurd_machine.proofs.Views.{Agree, same_tasks, header_same, body_same, home_same, server_same, open_same}
 
@@ -132,19 +132,19 @@ module _ {S : ℕ → Bool} {v w : World} (a : Agree S v w) (t : ℕ) (ours : S 
   pub task_same : task_of (ports_of w) t ≡ task_of (ports_of v) t
   task_same = ap (or_refuse ESRCH) (same_tasks a t ours)
 
+was_there : {A : Type 0} (e : Errno) (o : Option A) (a : A) → or_refuse e o ≡ Ok a → o ≡ Some a
+was_there e (Some b) a h = cc
+was_there e None a h = absurd (cc)
+
+or_plain : {A : Type 0} (e : Errno) (o : Option A) → is_no_memory e ≡ false → IsPlain (or_refuse e o)
+or_plain e None out = err_plain e out
+or_plain e (Some a) out = ok_plain a
+
 pub has_task : (w : World) (t : ℕ) (x : Task) → task_of (ports_of w) t ≡ Ok x → task_at w t ≡ Some x
-has_task w t x h = go (task_at w t) h
-  where
-    go : (o : Option Task) → or_refuse ESRCH o ≡ Ok x → o ≡ Some x
-    go None k = absurd (cc)
-    go (Some y) k = cc
+has_task w t x h = was_there ESRCH (task_at w t) x h
 
 pub task_plain : (w : World) (t : ℕ) → IsPlain (task_of (ports_of w) t)
-task_plain w t = go (task_at w t)
-  where
-    go : (o : Option Task) → IsPlain (or_refuse ESRCH o)
-    go None = err_plain ESRCH refl
-    go (Some x) = ok_plain x
+task_plain w t = or_plain ESRCH (task_at w t) refl
 
 -- the task whose right it is, under that number
 pub record HasRight (w : World) (t q : ℕ) (r : Right) : Type 0 where
@@ -153,17 +153,13 @@ pub record HasRight (w : World) (t q : ℕ) (r : Right) : Type 0 where
   pub under : right_in q seat.ports ≡ Some r
   pub here : IsAmong r (rights_of seat)
 
-was_there : (o : Option Right) (r : Right) → or_refuse EBADF o ≡ Ok r → o ≡ Some r
-was_there None r h = absurd (cc)
-was_there (Some k) r h = cc
-
 pub has_right : (w : World) (t q : ℕ) (r : Right) → right_of (ports_of w) t q ≡ Ok r → HasRight w t q r
 has_right w t q r h = go (task_at w t) refl h
   where
     go : (o : Option Task) → task_at w t ≡ o → right_at q o ≡ Ok r → HasRight w t q r
     go None e k = absurd (cc)
     go (Some x) e k =
-        let u : right_in q x.ports ≡ Some r = was_there (right_in q x.ports) r k in
+        let u : right_in q x.ports ≡ Some r = was_there EBADF (right_in q x.ports) r k in
         record { seat = x; is_task = e; under = u; here = right_under q x r u }
 
 pub holds_right : {S : ℕ → Bool} {v : World} (t : ℕ) → S t ≡ true → (q : ℕ) (r : Right) → right_of (ports_of v) t q ≡ Ok r → Holds S v r
@@ -174,10 +170,8 @@ pub io_right_is : (w : World) (t q : ℕ) (r : IoRight) → io_right_of (ports_o
 io_right_is w t q r h = go (right_of (ports_of w) t q) h
   where
     go : (o : Result Right Errno) → io_right_in o ≡ Ok r → o ≡ Ok (Io r)
-    go (Err e) k = absurd (cc)
-    go (Ok (Control s)) k = absurd (cc)
-    go (Ok (Start n)) k = absurd (cc)
     go (Ok (Io p)) k = let same : p ≡ r = cc in rw same refl
+    go o k = absurd (cc)
 
 pub holds_io : {S : ℕ → Bool} {v : World} (t : ℕ) → S t ≡ true → (q : ℕ) (r : IoRight) → io_right_of (ports_of v) t q ≡ Ok r → Holds S v (Io r)
 holds_io {S} {v} t ours q r is = holds_right t ours q (Io r) (io_right_is v t q r is)
@@ -185,13 +179,9 @@ holds_io {S} {v} t ours q r is = holds_right t ours q (Io r) (io_right_is v t q 
 pub right_plain : (w : World) (t q : ℕ) → IsPlain (right_of (ports_of w) t q)
 right_plain w t q = go (task_at w t)
   where
-    under : (o : Option Right) → IsPlain (or_refuse EBADF o)
-    under None = err_plain EBADF refl
-    under (Some r) = ok_plain r
-
     go : (o : Option Task) → IsPlain (right_at q o)
     go None = err_plain ESRCH refl
-    go (Some x) = under (right_in q x.ports)
+    go (Some x) = or_plain EBADF (right_in q x.ports) refl
 
 pub io_right_plain : (w : World) (t q : ℕ) → IsPlain (io_right_of (ports_of w) t q)
 io_right_plain w t q = go (right_of (ports_of w) t q) (right_plain w t q)
@@ -199,8 +189,7 @@ io_right_plain w t q = go (right_of (ports_of w) t q) (right_plain w t q)
     go : (o : Result Right Errno) → IsPlain o → IsPlain (io_right_in o)
     go (Err e) out = err_plain e (out e refl)
     go (Ok (Io r)) out = ok_plain r
-    go (Ok (Control s)) out = err_plain EBADF refl
-    go (Ok (Start n)) out = err_plain EBADF refl
+    go o out = err_plain EBADF refl
 
 -- a port on a node that is there
 
@@ -281,47 +270,40 @@ handle_plain w t q mode =
 -- a node of the same header and the same body
 same_node : (o p : Option Node) → header_in p ≡ header_in o → body_in p ≡ body_in o → p ≡ o
 same_node None None h b = refl
-same_node None (Some y) h b = absurd (cc)
-same_node (Some x) None h b = absurd (cc)
 same_node (Some x) (Some y) h b =
     let header : y.header ≡ x.header = cc in
     let body : y.body ≡ x.body = cc in
     ap₂ (λ (h : Header) (b : Body). let z : Node = record { header = h; body = b } in Some z) header body
+same_node o p h b = absurd (cc)
 
 -- what is blind to the body answers the same of nodes of the same header
 blind_same : {T : Type 0} (q : Question T) → ((k : ServerKind) → IsBlind (behaviour_of k) q) → (i : Option ServerInfo) (o p : Option Node) → header_in p ≡ header_in o → asked_of q i p ≡ asked_of q i o
 blind_same q blind None o p h = refl
 blind_same q blind (Some i) None None h = refl
-blind_same q blind (Some i) None (Some y) h = absurd (cc)
-blind_same q blind (Some i) (Some x) None h = absurd (cc)
 blind_same q blind (Some i) (Some x) (Some y) h =
     let header : y.header ≡ x.header = cc in
     ap (λ (k : Header). q (behaviour_of i.kind) i.text (record { header = k; body = y.body })) header ∙ blind i.kind i.text x.header x.body y.body
+blind_same q blind (Some i) o p h = absurd (cc)
 
 -- whether attributes may be set is the same of nodes that are there alike
 there_same : (i : Option ServerInfo) (o p : Option Node) → header_in p ≡ header_in o → set_attrs_by i p ≡ set_attrs_by i o
 there_same None o p h = refl
 there_same (Some i) None None h = refl
-there_same (Some i) None (Some y) h = absurd (cc)
-there_same (Some i) (Some x) None h = absurd (cc)
 there_same (Some i) (Some x) (Some y) h = refl
+there_same (Some i) o p h = absurd (cc)
 
 module _ {S : ℕ → Bool} {v w : World} (a : Agree S v w) (n : Name) where
   -- of a node that S sees it knows which kind of server it has, and with which text
   pub info_same : Seen S v n → info_at w n ≡ info_at v n
-  info_same seen = go (home_at v n) refl (home_same a n seen)
+  info_same seen = ap (info_in w.servers) (home_same a n seen) ∙ go (home_at v n) refl
     where
-      go : (o : Option Name) → home_at v n ≡ o → home_at w n ≡ home_at v n → info_at w n ≡ info_at v n
-      go None e h = ap (info_in w.servers) (h ∙ e) ∙ ap (info_in v.servers) (sym e)
-      go (Some s) e h = ap (info_in w.servers) (h ∙ e) ∙ server_same a n s seen e ∙ ap (info_in v.servers) (sym e)
+      go : (o : Option Name) → home_at v n ≡ o → info_in w.servers o ≡ info_in v.servers o
+      go None e = refl
+      go (Some s) e = server_same a n s seen e
 
   -- and whether it is a server's root
   pub is_root_same : Seen S v n → is_server_root w n ≡ is_server_root v n
-  is_root_same seen = go (home_at v n) refl (home_same a n seen)
-    where
-      go : (o : Option Name) → home_at v n ≡ o → home_at w n ≡ home_at v n → is_server_root w n ≡ is_server_root v n
-      go None e h = ap (is_root_of w.servers n) (h ∙ e) ∙ ap (is_root_of v.servers n) (sym e)
-      go (Some s) e h = ap (is_root_of w.servers n) (h ∙ e) ∙ ap (is_root_at n) (server_same a n s seen e) ∙ ap (is_root_of v.servers n) (sym e)
+  is_root_same seen = root_info (nodes_of w) n ∙ ap (is_root_at n) (info_same seen) ∙ sym (root_info (nodes_of v) n)
 
   -- and of one whose body it sees, the whole node
   pub seen_node : Sees S v (BodyOf n) → get w.nodes n ≡ get v.nodes n
@@ -357,11 +339,10 @@ file_same : (name : List ℕ) (kin : Bool) (i : Option ServerInfo) (d o p : Opti
 file_same name kin None d o p h = refl
 file_same name kin (Some i) None o p h = refl
 file_same name kin (Some i) (Some d) None None h = refl
-file_same name kin (Some i) (Some d) None (Some y) h = absurd (cc)
-file_same name kin (Some i) (Some d) (Some x) None h = absurd (cc)
 file_same name kin (Some i) (Some d) (Some x) (Some y) h =
     let header : y.header ≡ x.header = cc in
     ap (λ (k : Header). link_by name kin (Some i) (Some d) (Some (record { header = k; body = y.body }))) header
+file_same name kin (Some i) (Some d) o p h = absurd (cc)
 
 module _ {S : ℕ → Bool} {v w : World} (a : Agree S v w) (d n : Name) where
   -- whether a file that S sees may get another name in a directory whose entries S sees

@@ -1,20 +1,19 @@
 -- What is shown of a call, and the laws of one step that follow from it.
 use Rattle.std.proofs.Common.{◌≡◌, ◌≢◌, ℕ, Bool, true, false, Option, Some, None, refl, sym, ◌∙◌, ap, subst, inl, inr, true≢false}
 use Rattle.std.specs.Prelude.{Result, Ok, Err}
-use Rattle.std.specs.FinMap.{get}
 use Rattle.hurd_creds.specs.declared.name.Name.{Name}
 use Rattle.hurd_creds.specs.declared.errno.Errno.{Errno}
 use Rattle.hurd_ports.specs.declared.table.Right.TheVariants.{Control}
 use Rattle.hurd_ports.specs.Tables.{Task}
 use Rattle.hurd_machine.specs.World.{World, task_at}
 use Rattle.hurd_machine.specs.Calls.{Reply}
-use Rattle.hurd_machine.specs.declared.call.Reply.TheVariants.{Done, Found, Port, Data, Count, Names, Words, Stat, Modes, Same, Refused, Back}
+use Rattle.hurd_machine.specs.declared.call.Reply.TheVariants.{Refused}
 use Rattle.hurd_machine.specs.Plan.{Plan, answered, looks, is_refused, after_plan, handing_back, returning}
 use Rattle.hurd_trans_iface.specs.Meaning.{Meaning}
 use Rattle.hurd_machine.specs.Sight.{Part, AttrOf, EmptyOf, BodyOf, OpenOf, OptionsOf, UsersOf, TaskOf, Seen, Sees, Knows, OfNode, OfSeat, OfControl, SameView}
 use Rattle.hurd_machine.specs.Sound.{Below, Coherent, Sound}
 use Rattle.hurd_machine.specs.Touched.{asked_parts, Nothing}
-use Rattle.hurd_machine.proofs.Coherence.{AllProper, right_old}
+use Rattle.hurd_machine.proofs.Coherence.{AllProper, right_old, home_server}
 use Rattle.hurd_machine.proofs.Frame.{IsUnnamed, Full, untouched, unseen_from}
 use Rattle.hurd_machine.proofs.Settle.{AsBefore}
 use Rattle.hurd_machine.proofs.Views.{Agree, Agree-refl, view_of, agree_of}
@@ -59,17 +58,7 @@ looking_laws t asks reply same plain told = record {
 
 handed_plain : (m : Meaning) (r : Reply) → IsPlainReply r → IsPlainReply (handing_back m r)
 handed_plain m (Refused e) out = out
-handed_plain m Done out = out
-handed_plain m (Found found) out = out
-handed_plain m (Port p) out = out
-handed_plain m (Data bytes) out = out
-handed_plain m (Count count) out = out
-handed_plain m (Names names) out = out
-handed_plain m (Words words) out = out
-handed_plain m (Stat stat) out = out
-handed_plain m (Modes flags) out = out
-handed_plain m (Same same) out = out
-handed_plain m (Back e n) out = out
+handed_plain m r out = out
 
 pub returning_laws : (t : ℕ) (plan : World → Plan) (touches : World → Part → Type 0) (box : Option Meaning) → CallLaws t plan touches → CallLaws t (λ w. returning box (plan w)) touches
 returning_laws t plan touches None l = l
@@ -81,15 +70,8 @@ returning_laws t plan touches (Some m) l = record {
 
 -- what is seen has a name that was given
 
-server_named : (w : World) → Coherent w → (n s : Name) → get w.homes n ≡ Some s → Below w s
-server_named w c n s e =
-    let h = c.housing.housed n s e in
-    let i = c.housing.homes n h.0 h.1 in
-    let same : i.0 ≡ s = cc (i.2, e) in
-    subst (Below w) same (c.given.servers i.0 i.1 i.3)
-
 known_named : (S : ℕ → Bool) (w : World) → Coherent w → (s : Name) → Knows S w s → Below w s
-known_named S w c s (OfNode n sn en) = server_named w c n s en
+known_named S w c s (OfNode n sn en) = let i = home_server c n s en in c.given.servers s i.0 i.1
 known_named S w c s (OfSeat n sn en) = let i = c.seating.seated n s en in c.given.servers s i.1 i.2
 known_named S w c s (OfControl h) = c.given.rights h.task h.seat (Control s) h.is_task h.here
 

@@ -11,10 +11,10 @@ use Rattle.hurd_creds.specs.declared.attrs.Kind.TheVariants.{Dir}
 use Rattle.hurd_creds.specs.Bits.{asks, WRITE}
 use Rattle.hurd_creds.specs.NameMaps.{NameMap, edit}
 use Rattle.hurd_creds.proofs.NameLaws.{same_name-itself, same_or_apart, get_here, get_apart, edit_here, edit_apart}
-use Rattle.hurd_trans_iface.specs.Nodes.{NodeMap, Node, Entry, Header, Body, Content, Listing, IsShaped, is_dir, with_header, with_body}
+use Rattle.hurd_trans_iface.specs.Nodes.{NodeMap, Node, Entry, Header, Body, Content, Listing, IsShaped, is_dir, with_header, with_body, header_of}
 use Rattle.hurd_trans_iface.specs.Answers.{entry_in, entry_of}
 use Rattle.hurd_trans_iface.specs.Meaning.{keeps_tree}
-use Rattle.hurd_nodes.specs.Shown.{ServerInfo, boot_name, info_in, is_root_of, tree_by}
+use Rattle.hurd_nodes.specs.Shown.{ServerInfo, boot_name, info_in, is_root_of, tree_by, NodeState}
 use Rattle.hurd_ports.specs.declared.table.Opened.{Opened}
 use Rattle.hurd_ports.specs.declared.table.IoRight.{IoRight}
 use Rattle.hurd_ports.specs.declared.table.Right.{Right}
@@ -23,9 +23,9 @@ use Rattle.hurd_ports.specs.declared.table.Port.{Port}
 use Rattle.hurd_ports.specs.Tables.{Task, OpenMap, rights_of, nodes_of as nodes_named}
 use Rattle.hurd_ports.specs.Steps.{named, with_sent, edit_task}
 use Rattle.hurd_machine.specs.World.{World, IsAmong, boot_root, nodes_of, task_at, open_at, header_at, body_at, home_at, active_at, server_at, info_at, is_of, lists, lists_at}
-use Rattle.hurd_machine.specs.Change.{Change, EditHeader, EditBody, MakeNode, EditOpen, MakeOpen, EditTask, Send, Attach, DropServer, Unseat, SetText, Settle, apply}
+use Rattle.hurd_machine.specs.Change.{Change, EditHeader, EditBody, MakeNode, EditOpen, MakeOpen, EditTask, Send, Attach, DropServer, Unseat, SetText, Settle, apply, with_nodes}
 use Rattle.hurd_machine.specs.Sound.{Below, AreDistinct, HasDistinctNames, IsGivenRight, AreGiven, AreHoused, AreSeated, IsTree, AreTables, Coherent, Linked}
-use Rattle.hurd_machine.proofs.Nodes.{header_in, body_in, body-with_header, edit_keeps, edited_from, node_of_header}
+use Rattle.hurd_machine.proofs.Nodes.{header_in, body_in, body-with_header, edit_keeps, node_of_header, was_edited}
 use Rattle.hurd_machine.proofs.Tasks.{edit_cases, edit_here as task_here, below_edit, sent_cases}
 
 -- what a change must have to keep a world coherent
@@ -158,6 +158,14 @@ entry_old {w} c d n e = let x = lister (get w.nodes d) n e in c.given.nodes d x.
 pub home_old : {w : World} → Coherent w → (n s : Name) → home_at w n ≡ Some s → Below w n
 home_old c n s e = let h = c.housing.housed n s e in header_old c n h.0 h.1
 
+-- the server of a node is there
+pub home_server : {w : World} → Coherent w → (n s : Name) → home_at w n ≡ Some s → (i : ServerInfo) × (server_at w s ≡ Some i)
+home_server {w} c n s e =
+    let h = c.housing.housed n s e in
+    let i = c.housing.homes n h.0 h.1 in
+    let same : i.0 ≡ s = cc (i.2, e) in
+    (i.1, subst (λ q. server_at w q ≡ Some i.1) same i.3)
+
 pub right_old : {w : World} → Coherent w → (t : ℕ) (x : Task) (r : IoRight) → task_at w t ≡ Some x → IsAmong (Io r) (rights_of x) → Below w r.node × Below w r.open_name
 right_old c t x r at i = let g = c.given.rights t x (Io r) at i in (g.0 r.node (inl refl), g.1)
 
@@ -165,14 +173,11 @@ right_old c t x r at i = let g = c.given.rights t x (Io r) at i in (g.0 r.node (
 
 entry_in_lists : (name : List ℕ) (es : List Entry) (n : Name) → entry_in name es ≡ Some n → list_any (is_of n) es ≡ true
 entry_in_lists name [] n = λ h. absurd (cc)
-entry_in_lists name (e ∷ es) n = go (bytes_eq e.name name) refl (entry_in_lists name es n)
+entry_in_lists name (e ∷ es) n = go (bytes_eq e.name name) (entry_in_lists name es n)
   where
-    go : (b : Bool) → bytes_eq e.name name ≡ b → (entry_in name es ≡ Some n → list_any (is_of n) es ≡ true) → entry_in name (e ∷ es) ≡ Some n → list_any (is_of n) (e ∷ es) ≡ true
-    go true k ih h =
-        let same : Some e.node ≡ Some n = ap (λ b. cond b (Some e.node) (entry_in name es)) (sym k) ∙ h in
-        let here : e.node ≡ n = cc in
-        or_left (is_of n e) (list_any (is_of n) es) (subst (λ z. is_of z e ≡ true) here (same_name-itself e.node))
-    go false k ih h = or_right (is_of n e) (list_any (is_of n) es) (ih (ap (λ b. cond b (Some e.node) (entry_in name es)) (sym k) ∙ h))
+    go : (b : Bool) → (entry_in name es ≡ Some n → list_any (is_of n) es ≡ true) → cond b (Some e.node) (entry_in name es) ≡ Some n → list_any (is_of n) (e ∷ es) ≡ true
+    go true ih h = let here : e.node ≡ n = cc in or_left (is_of n e) (list_any (is_of n) es) (rw (← here) (same_name-itself e.node))
+    go false ih h = or_right (is_of n e) (list_any (is_of n) es) (ih h)
 
 pub entry_lists : (name : List ℕ) (o : Option Body) (n : Name) → entry_of name o ≡ Some n → lists_at n o ≡ true
 entry_lists name None n h = absurd (cc)
@@ -187,33 +192,25 @@ next_not w n i b = let low : n.count < i.seat.made = b i.seat i.is_task in let e
 pub next_apart : (w : World) (n m : Name) → IsNext w n → Below w m → m ≢ n
 next_apart w n m i b e = next_not w n i (subst (Below w) e b)
 
+-- what nothing can be is nothing
+pub none_if : {X : Type 0} (o : Option X) → ((x : X) → o ≡ Some x → ⊥) → o ≡ None
+none_if None never = refl
+none_if (Some x) never = absurd (never x refl)
+
 pub no_node : {w : World} → Coherent w → (n : Name) → (Below w n → ⊥) → get w.nodes n ≡ None
-no_node {w} c n new = go (get w.nodes n) refl
-  where
-    go : (o : Option Node) → get w.nodes n ≡ o → o ≡ None
-    go None e = refl
-    go (Some x) e = absurd (new (c.given.nodes n x e))
+no_node c n new = none_if _ (λ x e. new (c.given.nodes n x e))
 
 pub no_home : {w : World} → Coherent w → (n : Name) → (Below w n → ⊥) → home_at w n ≡ None
-no_home {w} c n new = go (home_at w n) refl
-  where
-    go : (o : Option Name) → home_at w n ≡ o → o ≡ None
-    go None e = refl
-    go (Some s) e = absurd (new (home_old c n s e))
+no_home c n new = none_if _ (λ s e. new (home_old c n s e))
 
 pub no_active : {w : World} → Coherent w → (n : Name) → (Below w n → ⊥) → active_at w n ≡ None
-no_active {w} c n new = go (active_at w n) refl
-  where
-    go : (o : Option Name) → active_at w n ≡ o → o ≡ None
-    go None e = refl
-    go (Some s) e = let h = c.seating.seats n s e in absurd (new (header_old c n h.0 h.1))
+no_active c n new = none_if _ (λ s e. let h = c.seating.seats n s e in new (header_old c n h.0 h.1))
 
 pub no_open : {w : World} → Coherent w → (o : Name) → (Below w o → ⊥) → open_at w o ≡ None
-no_open {w} c o new = go (open_at w o) refl
-  where
-    go : (z : Option Opened) → open_at w o ≡ z → z ≡ None
-    go None e = refl
-    go (Some x) e = absurd (new (c.given.opens o x e))
+no_open c o new = none_if _ (λ z e. new (c.given.opens o z e))
+
+pub no_server : {w : World} → Coherent w → (s : Name) → (Below w s → ⊥) → server_at w s ≡ None
+no_server c s new = none_if _ (λ i e. new (c.given.servers s i e))
 
 -- what a map with one thing more has: the new thing, or what was there
 pub was : {X : Type 0} (m : NameMap X) (k n : Name) (x z : X) → get (insert m k x) n ≡ Some z → ((n ≡ k) × (x ≡ z)) ⊎ ((n ≢ k) × (get m n ≡ Some z))
@@ -222,10 +219,29 @@ was m k n x z e = elim (same_or_apart n k) [
   | inr a ↦ inr (a, sym (get_apart m k x n a) ∙ e)
 ]
 
--- with nodes reworked: each stands where one stood, below the same parent, of its shape, and with entries that may be
+-- and of its headers
+pub header_was : (m : NodeMap) (k n : Name) (node : Node) (h : Header) → header_in (get (insert m k node) n) ≡ Some h → ((n ≡ k) × (node.header ≡ h)) ⊎ (header_in (get m n) ≡ Some h)
+header_was m k n node h e = elim (same_or_apart n k) [
+  | inl a ↦ let here : header_in (get (insert m k node) n) ≡ Some node.header = rw a (ap header_in (get_here m k node)) in inl (a, cc)
+  | inr a ↦ inr (sym (ap header_in (get_apart m k node n a)) ∙ e)
+]
 
-abbrev with_nodes : NodeMap → World → World
-with_nodes m w = record w { nodes = m }
+-- an entry of what stands
+pub entry_stands : {w : World} → Coherent w → (d n : Name) → lists_at n (body_at w d) ≡ true → IsEntry w d n
+entry_stands c d n e = record { made = c.given.entries d n e; kin = c.tree.kin d n e; tree = c.tree.trees d n e; below = λ h eh. c.tree.below d n h e eh }
+
+-- tables do with other nodes where the nodes of rights are of the kinds that they were of
+pub tables_by : (w : World) (h : NodeState) → AreTables w
+    → ((t : ℕ) (x : Task) (r : IoRight) → task_at w t ≡ Some x → IsAmong (Io r) (rights_of x) → (k : Header) → header_of h.nodes r.node ≡ Some k → (j : Header) × (header_at w r.node ≡ Some j) × (k.kind ≡ j.kind))
+    → AreTables (with_nodes h w)
+tables_by w h t was = record {
+  numbers = t.numbers;
+  opened = t.opened;
+  shared = t.shared;
+  written = λ q x r o k at has eo modes ek. let j = was q x r at has k ek in ap is_dir j.2 ∙ t.written q x r o j.0 at has eo modes j.1;
+}
+
+-- with nodes reworked: each stands where one stood, below the same parent, of its shape, and with entries that may be
 
 -- the node x at n, of the map m, comes from one that stands there
 pub record From (w : World) (m : NodeMap) (n : Name) (x : Node) : Type 0 where
@@ -237,80 +253,6 @@ pub record From (w : World) (m : NodeMap) (n : Name) (x : Node) : Type 0 where
   pub distinct : HasDistinctNames node.body → HasDistinctNames x.body
   pub entries : (p : Name) → lists p x.body ≡ true → IsEntry w n p
 
-pub record Reworked (w : World) (m : NodeMap) : Type 0 where
-  pub from : (n : Name) (x : Node) → get m n ≡ Some x → From w m n x
-  pub still : (n : Name) (y : Node) → get w.nodes n ≡ Some y → (x : Node) × (get m n ≡ Some x)
-
-module _ (w : World) (m : NodeMap) (c : Coherent w) (r : Reworked w m) where
-  -- a header is of a node that stood
-  header_from : (n : Name) (h : Header) → header_in (get m n) ≡ Some h → (k : Header) × (header_at w n ≡ Some k) × (h.kind ≡ k.kind) × MayMove w m n h.parent k.parent
-  header_from n h e =
-      let x = node_of_header (get m n) h e in
-      let y = r.from n x.0 x.1 in
-      (y.node.header, ap header_in y.is, ap (λ (z : Header). z.kind) (sym x.2) ∙ y.kind, subst (λ (z : Header). MayMove w m n z.parent y.node.header.parent) x.2 y.parent)
-
-  entry_from : (d n : Name) → lists_at n (body_in (get m d)) ≡ true → IsEntry w d n
-  entry_from d n e = let x = lister (get m d) n e in (r.from d x.0 x.1).entries n x.2
-
-  header_still : (n : Name) (k : Header) → header_at w n ≡ Some k → (h : Header) × (header_in (get m n) ≡ Some h)
-  header_still n k e =
-      let y = node_of_header (get w.nodes n) k e in
-      let x = r.still n y.0 y.1 in
-      (x.0.header, ap header_in x.1)
-
-  reworked_given : AreGiven (with_nodes m w)
-  reworked_given = record {
-    nodes = λ n x e. let y = r.from n x e in c.given.nodes n y.node y.is;
-    opens = c.given.opens;
-    servers = c.given.servers;
-    rights = c.given.rights;
-    entries = λ d n e. (entry_from d n e).made;
-    parents = λ n p h e ep. let k = header_from n h e in elim k.3 [ inl same ↦ c.given.parents n p k.0 k.1 (sym same ∙ ep) | inr new ↦ new.1 p ep ];
-  }
-
-  reworked_housing : AreHoused (nodes_of (with_nodes m w))
-  reworked_housing = record {
-    homes = λ n h e. let k = header_from n h e in c.housing.homes n k.0 k.1;
-    housed = λ n q e. let h = c.housing.housed n q e in header_still n h.0 h.1;
-    roots = c.housing.roots;
-    serving = c.housing.serving;
-    lone = c.housing.lone;
-  }
-
-  reworked_seating : AreSeated (nodes_of (with_nodes m w))
-  reworked_seating = record {
-    seated = c.seating.seated;
-    seats = λ n s e. let h = c.seating.seats n s e in header_still n h.0 h.1;
-    alone = c.seating.alone;
-    elsewhere = c.seating.elsewhere;
-  }
-
-  reworked_tree : IsTree (nodes_of (with_nodes m w))
-  reworked_tree = record {
-    kin = λ d n e. (entry_from d n e).kin;
-    trees = λ d n e. (entry_from d n e).tree;
-    below = λ d n h e eh is.
-        let k = header_from n h eh in
-        elim k.3 [ inl same ↦ same ∙ (entry_from d n e).below k.0 k.1 (sym k.2 ∙ is) | inr new ↦ absurd (new.0 d e) ];
-    shapes = λ n x e. let y = r.from n x e in y.shape (c.tree.shapes n y.node y.is);
-    distinct = λ n x e. let y = r.from n x e in y.distinct (c.tree.distinct n y.node y.is);
-    root = header_still boot_root c.tree.root.0 c.tree.root.1;
-    boot = c.tree.boot;
-    served = c.tree.served;
-  }
-
-  reworked_tables : AreTables (with_nodes m w)
-  reworked_tables = record {
-    numbers = c.tables.numbers;
-    opened = c.tables.opened;
-    shared = c.tables.shared;
-    written = λ t u q o h at has eo modes eh.
-        let k = header_from q.node h eh in ap is_dir k.2 ∙ c.tables.written t u q o k.0 at has eo modes k.1;
-  }
-
-  pub reworked : Coherent (with_nodes m w)
-  reworked = record { given = reworked_given; housing = reworked_housing; seating = reworked_seating; tree = reworked_tree; tables = reworked_tables }
-
 shaped_by_kind : (h k : Header) (b : Body) → k.kind ≡ h.kind → IsShaped h b → IsShaped k b
 shaped_by_kind h k (Content bs) e s = ap is_dir e ∙ s
 shaped_by_kind h k (Listing es) e s = e ∙ s
@@ -318,9 +260,7 @@ shaped_by_kind h k (Listing es) e s = e ∙ s
 module _ (w : World) (c : Coherent w) (n : Name) where
   -- an entry of a body that stands
   entry_is : (y : Node) → get w.nodes n ≡ Some y → (p : Name) → lists p y.body ≡ true → IsEntry w n p
-  entry_is y is p e =
-      let e' : lists_at p (body_at w n) ≡ true = ap (λ o. lists_at p (body_in o)) is ∙ e in
-      record { made = c.given.entries n p e'; kin = c.tree.kin n p e'; tree = c.tree.trees n p e'; below = λ h eh. c.tree.below n p h e' eh }
+  entry_is y is p e = entry_stands c n p (ap (λ o. lists_at p (body_in o)) is ∙ e)
 
   unchanged : (m : NodeMap) (x : Node) → get w.nodes n ≡ Some x → From w m n x
   unchanged m x e = record { node = x; is = e; kind = refl; parent = inl refl; shape = λ shaped. shaped; distinct = λ names. names; entries = entry_is x e }
@@ -347,22 +287,81 @@ module _ (w : World) (c : Coherent w) (n : Name) where
       record { node = y; is = is; kind = refl; parent = inl refl; shape = l.shape y.header; distinct = l.distinct; entries = l.entries }
 
 -- an edit at one node, which may be
-pub edited : (w : World) → Coherent w → (k : Name) (f : Node → Node) → ((y : Node) → get w.nodes k ≡ Some y → From w (edit k f w.nodes) k (f y)) → Reworked w (edit k f w.nodes)
-edited w c k f may = record { from = from; still = still }
-  where
-    from : (n : Name) (x : Node) → get (edit k f w.nodes) n ≡ Some x → From w (edit k f w.nodes) n x
-    from n x e = elim (same_or_apart n k) [
-      | inl a ↦
-          let l = edited_from f (get w.nodes k) x (sym (edit_here w.nodes k f) ∙ rw a at e) in
-          subst (λ z. From w (edit k f w.nodes) z x) (sym a) (subst (From w (edit k f w.nodes) k) l.2 (may l.0 l.1))
-      | inr a ↦ unchanged w c n (edit k f w.nodes) x (sym (edit_apart w.nodes k f n a) ∙ e)
-    ]
+module _ (w : World) (c : Coherent w) (k : Name) (f : Node → Node) (may : (y : Node) → get w.nodes k ≡ Some y → From w (edit k f w.nodes) k (f y)) where
+  abbrev edited_nodes : NodeMap
+  edited_nodes = edit k f w.nodes
 
-    still : (n : Name) (y : Node) → get w.nodes n ≡ Some y → (x : Node) × (get (edit k f w.nodes) n ≡ Some x)
-    still n y e = elim (same_or_apart n k) [
-      | inl a ↦ (f y, rw a (edit_here w.nodes k f ∙ ap (option_map f) (rw a at e)))
-      | inr a ↦ (y, edit_apart w.nodes k f n a ∙ e)
-    ]
+  abbrev reworked_world : World
+  reworked_world = record w { nodes = edited_nodes }
+
+  from : (n : Name) (x : Node) → get edited_nodes n ≡ Some x → From w edited_nodes n x
+  from n x e = elim (was_edited w.nodes k n f x e) [
+    | inl l ↦ subst (λ z. From w edited_nodes z x) (sym l.0) (subst (From w edited_nodes k) l.3 (may l.1 l.2))
+    | inr h ↦ unchanged w c n edited_nodes x h
+  ]
+
+  -- a header is of a node that stood
+  header_from : (n : Name) (h : Header) → header_in (get edited_nodes n) ≡ Some h → (j : Header) × (header_at w n ≡ Some j) × (h.kind ≡ j.kind) × MayMove w edited_nodes n h.parent j.parent
+  header_from n h e =
+      let x = node_of_header (get edited_nodes n) h e in
+      let y = from n x.0 x.1 in
+      (y.node.header, ap header_in y.is, ap (λ (z : Header). z.kind) (sym x.2) ∙ y.kind, subst (λ (z : Header). MayMove w edited_nodes n z.parent y.node.header.parent) x.2 y.parent)
+
+  entry_from : (d n : Name) → lists_at n (body_in (get edited_nodes d)) ≡ true → IsEntry w d n
+  entry_from d n e = let x = lister (get edited_nodes d) n e in (from d x.0 x.1).entries n x.2
+
+  header_still : (n : Name) (j : Header) → header_at w n ≡ Some j → (h : Header) × (header_in (get edited_nodes n) ≡ Some h)
+  header_still n j e = elim (same_or_apart n k) [
+    | inl a ↦ let y = node_of_header (get w.nodes k) j (rw a at e) in ((f y.0).header, rw a (ap header_in (edit_here w.nodes k f ∙ ap (option_map f) y.1)))
+    | inr a ↦ (j, ap header_in (edit_apart w.nodes k f n a) ∙ e)
+  ]
+
+  reworked_given : AreGiven reworked_world
+  reworked_given = record {
+    nodes = λ n x e. let y = from n x e in c.given.nodes n y.node y.is;
+    opens = c.given.opens;
+    servers = c.given.servers;
+    rights = c.given.rights;
+    entries = λ d n e. (entry_from d n e).made;
+    parents = λ n p h e ep. let k = header_from n h e in elim k.3 [ inl same ↦ c.given.parents n p k.0 k.1 (sym same ∙ ep) | inr new ↦ new.1 p ep ];
+  }
+
+  reworked_housing : AreHoused (nodes_of reworked_world)
+  reworked_housing = record {
+    homes = λ n h e. let k = header_from n h e in c.housing.homes n k.0 k.1;
+    housed = λ n q e. let h = c.housing.housed n q e in header_still n h.0 h.1;
+    roots = c.housing.roots;
+    serving = c.housing.serving;
+    lone = c.housing.lone;
+  }
+
+  reworked_seating : AreSeated (nodes_of reworked_world)
+  reworked_seating = record {
+    seated = c.seating.seated;
+    seats = λ n s e. let h = c.seating.seats n s e in header_still n h.0 h.1;
+    alone = c.seating.alone;
+    elsewhere = c.seating.elsewhere;
+  }
+
+  reworked_tree : IsTree (nodes_of reworked_world)
+  reworked_tree = record {
+    kin = λ d n e. (entry_from d n e).kin;
+    trees = λ d n e. (entry_from d n e).tree;
+    below = λ d n h e eh is.
+        let k = header_from n h eh in
+        elim k.3 [ inl same ↦ same ∙ (entry_from d n e).below k.0 k.1 (sym k.2 ∙ is) | inr new ↦ absurd (new.0 d e) ];
+    shapes = λ n x e. let y = from n x e in y.shape (c.tree.shapes n y.node y.is);
+    distinct = λ n x e. let y = from n x e in y.distinct (c.tree.distinct n y.node y.is);
+    root = header_still boot_root c.tree.root.0 c.tree.root.1;
+    boot = c.tree.boot;
+    served = c.tree.served;
+  }
+
+  header_kind : (n : Name) (h : Header) → header_in (get edited_nodes n) ≡ Some h → (j : Header) × (header_at w n ≡ Some j) × (h.kind ≡ j.kind)
+  header_kind n h e = let k = header_from n h e in (k.0, k.1, k.2)
+
+  pub reworked : Coherent reworked_world
+  reworked = record { given = reworked_given; housing = reworked_housing; seating = reworked_seating; tree = reworked_tree; tables = tables_by w (nodes_of reworked_world) c.tables (λ t x r at has. header_kind r.node) }
 
 -- with one task changed
 module _ (w : World) (c : Coherent w) (q : ℕ) (f : Task → Task) (up : (x : Task) → x.made ≤ (f x).made) (x : Task) (is : task_at w q ≡ Some x) (g : Table w x (f x)) where
@@ -475,8 +474,8 @@ reopened w m c r = record {
 
 pub open_edited : (w : World) → Coherent w → (k : Name) (f : Opened → Opened) → Proper w (EditOpen k f) → Reopened w (edit k f w.opens)
 open_edited w c k f p = record {
-  made = λ o z e. elim (from o z e) [ inl l ↦ subst (Below w) (sym l.0) (c.given.opens k l.1 l.2) | inr h ↦ c.given.opens o z h ];
-  writes = λ t x r z at i e modes. elim (from r.open_name z e) [
+  made = λ o z e. elim (was_edited w.opens k o f z e) [ inl l ↦ subst (Below w) (sym l.0) (c.given.opens k l.1 l.2) | inr h ↦ c.given.opens o z h ];
+  writes = λ t x r z at i e modes. elim (was_edited w.opens k r.open_name f z e) [
     | inl l ↦ (l.1, ap (open_at w) l.0 ∙ l.2, p l.1 (ap (λ (u : Opened). asks u.modes WRITE) l.3 ∙ modes))
     | inr h ↦ (z, h, modes)
   ];
@@ -485,12 +484,6 @@ open_edited w c k f p = record {
     | inr a ↦ (z, edit_apart w.opens k f r.open_name a ∙ e)
   ];
 }
-  where
-    from : (o : Name) (z : Opened) → get (edit k f w.opens) o ≡ Some z → ((o ≡ k) × (y : Opened) × (open_at w k ≡ Some y) × (f y ≡ z)) ⊎ (open_at w o ≡ Some z)
-    from o z e = elim (same_or_apart o k) [
-      | inl a ↦ let l = edited_from f (get w.opens k) z (sym (edit_here w.opens k f) ∙ rw a at e) in inl (a, l.0, l.1, l.2)
-      | inr a ↦ inr (sym (edit_apart w.opens k f o a) ∙ e)
-    ]
 
 pub open_made : (w : World) → Coherent w → (k : Name) (z : Opened) → Below w k → ((t : ℕ) (x : Task) (r : IoRight) → task_at w t ≡ Some x → IsAmong (Io r) (rights_of x) → r.open_name ≢ k) → Reopened w (insert w.opens k z)
 open_made w c k z b unnamed = record {
@@ -509,60 +502,73 @@ pub no_names : (b : Body) → HasNoEntries b → HasDistinctNames b
 no_names (Content bs) none = tt
 no_names (Listing es) none = subst AreDistinct (sym none) tt
 
+-- what stands keeps its place beside it
+module _ (w : World) (c : Coherent w) (n s : Name) (node : Node) (absent : get w.nodes n ≡ None) where
+  -- no node had the name, so none had a server
+  pub housed_apart : (m q : Name) → home_at w m ≡ Some q → m ≢ n
+  housed_apart m q e a =
+      let h = c.housing.housed m q e in
+      let none : header_at w m ≡ None = rw (a, absent) refl in
+      absurd (cc (h.1))
+
+  pub home_kept : (m q : Name) → home_at w m ≡ Some q → get (insert w.homes n s) m ≡ Some q
+  home_kept m q e = get_apart w.homes n s m (housed_apart m q e) ∙ e
+
+  pub header_kept : (m : Name) (h : Header) → header_at w m ≡ Some h → header_in (get (insert w.nodes n node) m) ≡ Some h
+  header_kept m h e = let i = c.housing.homes m h e in ap header_in (get_apart w.nodes n node m (housed_apart m i.0 i.2)) ∙ e
+
+  -- what lists something has a server, and what it lists has that too
+  pub lister_home : (d m : Name) → lists_at m (body_at w d) ≡ true → (q : Name) × (i : ServerInfo) × (home_at w d ≡ Some q) × (server_at w q ≡ Some i) × (home_at w m ≡ Some q)
+  lister_home d m e =
+      let x = lister (get w.nodes d) m e in
+      let i = c.housing.homes d x.0.header (ap header_in x.1) in
+      (i.0, i.1, i.2, i.3, c.tree.kin d m e ∙ i.2)
+
+  module _ (empty : HasNoEntries node.body) where
+    -- an entry was there before
+    pub lists_was : (d m : Name) → lists_at m (body_in (get (insert w.nodes n node) d)) ≡ true → lists_at m (body_at w d) ≡ true
+    lists_was d m e = elim (same_or_apart d n) [
+      | inl a ↦
+          let none : lists_at m (body_in (get (insert w.nodes n node) d)) ≡ false = rw a (ap (λ o. lists_at m (body_in o)) (get_here w.nodes n node) ∙ no_entry m node.body empty) in
+          absurd (true≢false (sym e ∙ none))
+      | inr a ↦ sym (ap (λ o. lists_at m (body_in o)) (get_apart w.nodes n node d a)) ∙ e
+    ]
+
+    -- and is of the server that it was of
+    pub kin_was : (d m : Name) → lists_at m (body_in (get (insert w.nodes n node) d)) ≡ true → get (insert w.homes n s) m ≡ get (insert w.homes n s) d
+    kin_was d m e = let q = lister_home d m (lists_was d m e) in home_kept m q.0 q.4 ∙ sym (home_kept d q.0 q.2)
+
+    pub below_was : (d m : Name) (h : Header) → lists_at m (body_in (get (insert w.nodes n node) d)) ≡ true → header_in (get (insert w.nodes n node) m) ≡ Some h → h.kind ≡ Dir → h.parent ≡ Some d
+    below_was d m h e eh =
+        let old = lists_was d m e in
+        let q = lister_home d m old in
+        c.tree.below d m h old (sym (ap header_in (get_apart w.nodes n node m (housed_apart m q.0 q.4))) ∙ eh)
+
+    pub shape_was : IsShaped node.header node.body → (m : Name) (x : Node) → get (insert w.nodes n node) m ≡ Some x → IsShaped x.header x.body × HasDistinctNames x.body
+    shape_was shape m x e = elim (was w.nodes n m node x e) [
+      | inl k ↦ subst (λ (z : Node). IsShaped z.header z.body × HasDistinctNames z.body) k.1 (shape, no_names node.body empty)
+      | inr k ↦ (c.tree.shapes m x k.1, c.tree.distinct m x k.1)
+    ]
+
 module _ (w : World) (c : Coherent w) (n s : Name) (node : Node) (b : Below w n) (absent : get w.nodes n ≡ None)
     (unnamed : (t : ℕ) (x : Task) (r : IoRight) → task_at w t ≡ Some x → IsAmong (Io r) (rights_of x) → r.node ≢ n) (p : GoodNode w s node) where
   abbrev made_world : World
   made_world = record w { nodes = insert w.nodes n node; homes = insert w.homes n s }
 
-  -- no node had the name, so none had a server
-  unhoused : (q : Name) → home_at w n ≡ Some q → ⊥
-  unhoused q e =
-      let h = c.housing.housed n q e in
-      let x = node_of_header (get w.nodes n) h.0 h.1 in
-      cc (x.1)
+  at_home : (m q : Name) → home_at w m ≡ Some q → home_at made_world m ≡ Some q
+  at_home = home_kept w c n s node absent
 
-  housed_apart : (m q : Name) → home_at w m ≡ Some q → m ≢ n
-  housed_apart m q e a = unhoused q (sym (ap (home_at w) a) ∙ e)
-
-  home_kept : (m q : Name) → home_at w m ≡ Some q → home_at made_world m ≡ Some q
-  home_kept m q e = get_apart w.homes n s m (housed_apart m q e) ∙ e
-
-  node_was : (m : Name) (x : Node) → get made_world.nodes m ≡ Some x → ((m ≡ n) × (node ≡ x)) ⊎ ((m ≢ n) × (get w.nodes m ≡ Some x))
-  node_was m x e = was w.nodes n m node x e
-
-  -- a header is that of the new node, or was there
-  header_was : (m : Name) (h : Header) → header_at made_world m ≡ Some h → ((m ≡ n) × (node.header ≡ h)) ⊎ (header_at w m ≡ Some h)
-  header_was m h e =
-      let x = node_of_header (get made_world.nodes m) h e in
-      elim (node_was m x.0 x.1) [
-        | inl k ↦ inl (k.0, ap (λ (z : Node). z.header) k.1 ∙ x.2)
-        | inr k ↦ inr (ap header_in k.1 ∙ ap Some x.2)
-      ]
-
-  -- an entry was there before, and names another node
-  lists_was : (d m : Name) → lists_at m (body_at made_world d) ≡ true → (d ≢ n) × (lists_at m (body_at w d) ≡ true)
-  lists_was d m e = elim (same_or_apart d n) [
-    | inl a ↦
-        let none : lists_at m (body_at made_world d) ≡ false = rw a (ap (λ o. lists_at m (body_in o)) (get_here w.nodes n node) ∙ no_entry m node.body p.empty) in
-        let bad : false ≡ true = sym none ∙ e in
-        absurd (cc)
-    | inr a ↦ (a, sym (ap (λ o. lists_at m (body_in o)) (get_apart w.nodes n node d a)) ∙ e)
-  ]
-
-  entry_apart : (d m : Name) → lists_at m (body_at w d) ≡ true → m ≢ n
-  entry_apart d m l =
-      let x = lister (get w.nodes d) m l in
-      let h = c.housing.homes d x.0.header (ap header_in x.1) in
-      housed_apart m h.0 (c.tree.kin d m l ∙ h.2)
+  stands_yet : (m : Name) (h : Header) → header_at w m ≡ Some h → header_at made_world m ≡ Some h
+  stands_yet = header_kept w c n s node absent
 
   made_given : AreGiven made_world
   made_given = record {
-    nodes = λ m x e. elim (node_was m x e) [ inl k ↦ subst (Below w) (sym k.0) b | inr k ↦ c.given.nodes m x k.1 ];
+    nodes = λ m x e. elim (was w.nodes n m node x e) [ inl k ↦ subst (Below w) (sym k.0) b | inr k ↦ c.given.nodes m x k.1 ];
     opens = c.given.opens;
     servers = c.given.servers;
     rights = c.given.rights;
-    entries = λ d m e. c.given.entries d m (lists_was d m e).1;
-    parents = λ m q h e ep. elim (header_was m h e) [
+    entries = λ d m e. c.given.entries d m (lists_was w c n s node absent p.empty d m e);
+    parents = λ m q h e ep. elim (header_was w.nodes n m node h e) [
       | inl k ↦ p.parent q (ap (λ (z : Header). z.parent) k.1 ∙ ep)
       | inr k ↦ c.given.parents m q h k ep
     ];
@@ -570,15 +576,15 @@ module _ (w : World) (c : Coherent w) (n s : Name) (node : Node) (b : Below w n)
 
   made_housing : AreHoused (nodes_of made_world)
   made_housing = record {
-    homes = λ m h e. elim (header_was m h e) [
+    homes = λ m h e. elim (header_was w.nodes n m node h e) [
       | inl k ↦ (s, p.info, rw (k.0) (get_here w.homes n s), p.is_server)
-      | inr k ↦ let i = c.housing.homes m h k in (i.0, i.1, home_kept m i.0 i.2, i.3)
+      | inr k ↦ let i = c.housing.homes m h k in (i.0, i.1, at_home m i.0 i.2, i.3)
     ];
     housed = λ m q e. elim (was w.homes n m s q e) [
       | inl k ↦ (node.header, rw (k.0) (ap header_in (get_here w.nodes n node)))
-      | inr k ↦ let h = c.housing.housed m q k.1 in (h.0, ap header_in (get_apart w.nodes n node m k.0) ∙ h.1)
+      | inr k ↦ let h = c.housing.housed m q k.1 in (h.0, stands_yet m h.0 h.1)
     ];
-    roots = λ q i e. home_kept i.root q (c.housing.roots q i e);
+    roots = λ q i e. at_home i.root q (c.housing.roots q i e);
     serving = c.housing.serving;
     lone = λ m q i e ei alone. elim (was w.homes n m s q e) [
       | inl k ↦
@@ -592,48 +598,44 @@ module _ (w : World) (c : Coherent w) (n s : Name) (node : Node) (b : Below w n)
   made_seating : AreSeated (nodes_of made_world)
   made_seating = record {
     seated = c.seating.seated;
-    seats = λ m q e.
-        let h = c.seating.seats m q e in
-        let i = c.housing.homes m h.0 h.1 in
-        (h.0, ap header_in (get_apart w.nodes n node m (housed_apart m i.0 i.2)) ∙ h.1);
+    seats = λ m q e. let h = c.seating.seats m q e in (h.0, stands_yet m h.0 h.1);
     alone = c.seating.alone;
     elsewhere = λ m q e f. elim (was w.homes n m s q f) [
       | inl k ↦
           let h = c.seating.seats m q e in
           let i = c.housing.homes m h.0 h.1 in
-          housed_apart m i.0 i.2 k.0
+          housed_apart w c n s node absent m i.0 i.2 k.0
       | inr k ↦ c.seating.elsewhere m q e k.1
     ];
   }
 
+  -- a node that has a server is of the same one
+  info_kept : (m q : Name) → home_at w m ≡ Some q → home_at made_world m ≡ home_at w m
+  info_kept m q e = at_home m q e ∙ sym e
+
   made_tree : IsTree (nodes_of made_world)
   made_tree = record {
-    kin = λ d m e. let l = lists_was d m e in get_apart w.homes n s m (entry_apart d m l.1) ∙ c.tree.kin d m l.1 ∙ sym (get_apart w.homes n s d l.0);
-    trees = λ d m e. let l = lists_was d m e in ap (λ o. tree_by (info_in w.servers o)) (get_apart w.homes n s d l.0) ∙ c.tree.trees d m l.1;
-    below = λ d m h e eh k. let l = lists_was d m e in c.tree.below d m h l.1 (sym (ap header_in (get_apart w.nodes n node m (entry_apart d m l.1))) ∙ eh) k;
-    shapes = λ m x e. elim (node_was m x e) [ inl k ↦ subst (λ (z : Node). IsShaped z.header z.body) k.1 p.shape | inr k ↦ c.tree.shapes m x k.1 ];
-    distinct = λ m x e. elim (node_was m x e) [ inl k ↦ subst (λ (z : Node). HasDistinctNames z.body) k.1 (no_names node.body p.empty) | inr k ↦ c.tree.distinct m x k.1 ];
-    root =
-        let x = node_of_header (get w.nodes boot_root) c.tree.root.0 c.tree.root.1 in
-        let apart : boot_root ≢ n = λ a. let gone : get w.nodes boot_root ≡ None = rw a absent in cc (x.1) in
-        (c.tree.root.0, ap header_in (get_apart w.nodes n node boot_root apart) ∙ c.tree.root.1);
-    boot =
-        let x = node_of_header (get w.nodes boot_root) c.tree.root.0 c.tree.root.1 in
-        let apart : boot_root ≢ n = λ a. let gone : get w.nodes boot_root ≡ None = rw a absent in cc (x.1) in
-        ap (is_root_of w.servers boot_root) (get_apart w.homes n s boot_root apart) ∙ c.tree.boot;
-    served = home_kept boot_root boot_name c.tree.served;
-  }
-
-  made_tables : AreTables made_world
-  made_tables = record {
-    numbers = c.tables.numbers;
-    opened = c.tables.opened;
-    shared = c.tables.shared;
-    written = λ t x r o h at has eo modes eh. c.tables.written t x r o h at has eo modes (sym (ap header_in (get_apart w.nodes n node r.node (unnamed t x r at has))) ∙ eh);
+    kin = kin_was w c n s node absent p.empty;
+    trees = λ d m e.
+        let old = lists_was w c n s node absent p.empty d m e in
+        let q = lister_home w c n s node absent d m old in
+        ap (λ o. tree_by (info_in w.servers o)) (info_kept d q.0 q.2) ∙ c.tree.trees d m old;
+    below = below_was w c n s node absent p.empty;
+    shapes = λ m x e. (shape_was w c n s node absent p.empty p.shape m x e).0;
+    distinct = λ m x e. (shape_was w c n s node absent p.empty p.shape m x e).1;
+    root = (c.tree.root.0, stands_yet boot_root c.tree.root.0 c.tree.root.1);
+    boot = ap (is_root_of w.servers boot_root) (info_kept boot_root boot_name c.tree.served) ∙ c.tree.boot;
+    served = at_home boot_root boot_name c.tree.served;
   }
 
   pub made_coherent : Coherent made_world
-  made_coherent = record { given = made_given; housing = made_housing; seating = made_seating; tree = made_tree; tables = made_tables }
+  made_coherent = record {
+    given = made_given;
+    housing = made_housing;
+    seating = made_seating;
+    tree = made_tree;
+    tables = tables_by w (nodes_of made_world) c.tables (λ t x r at has h eh. (h, sym (ap header_in (get_apart w.nodes n node r.node (unnamed t x r at has))) ∙ eh, refl));
+  }
 
 -- with a task that named things
 module _ (w : World) (c : Coherent w) (n : Name) (next : IsNext w n) (k : ℕ) where

@@ -66,6 +66,15 @@ pub record Less (S : ℕ → Bool) (v : World) (n : Name) (h before : Header) : 
 pub Less-refl : (S : ℕ → Bool) (v : World) (n : Name) (h : Header) → Less S v n h h
 Less-refl S v n h = record { kind = refl; parent = λ p e. inl e; could = λ want c. c; owns = λ o. o }
 
+-- a header with the same owner, group and mode opens nothing
+pub less_same : (S : ℕ → Bool) (v : World) (n : Name) (h before : Header) → h.kind ≡ before.kind → h.owner ≡ before.owner → h.group ≡ before.group → h.mode ≡ before.mode
+    → ((p : Name) → h.parent ≡ Some p → (before.parent ≡ Some p) ⊎ (SeenOrNew S v p × Known S v (EmptyOf n))) → Less S v n h before
+less_same S v n h before kind owner group mode parent = record { kind = kind; parent = parent; could = could; owns = λ o. (o.0, o.1, elim o.2 [ inl e ↦ inl (e ∙ owner) | inr zero ↦ inr zero ]) }
+  where
+    could : (want : Want) → Could S v h want → Could S v before want
+    could want (Owns u has is) = Owns u has (elim is [ inl e ↦ inl (e ∙ owner) | inr zero ↦ inr zero ])
+    could want (Allowed ids taken allows) = Allowed ids taken (cc)
+
 pub Less-trans : {S : ℕ → Bool} {v : World} (n : Name) (h k l : Header) → Less S v n h k → Less S v n k l → Less S v n h l
 Less-trans n h k l a b = record {
   kind = a.kind ∙ b.kind;
@@ -207,11 +216,11 @@ module _ {S : ℕ → Bool} {v x : World} (coherent : Coherent v) (i : Inside S 
   seat_inside n s (inl sn) (inl e) = inl (sn, e)
   seat_inside n s (inr new) (inl e) = let h = coherent.seating.seats n s e in absurd (new.1 (header_old coherent n h.0 h.1))
 
-  -- what is seen by a server: it was seen where the server was known, and is new where that is
-  by_server : (s : Name) (info : ServerInfo) (P Q : Type 0) → P ⊎ NewTo S v s → ServerInside S v s info → (P → (text : List ℕ) → server_at v s ≡ Some (with_text text info) → Q) → (NewTo S v s → NewTo S v info.root → Q) → Q
-  by_server s info P Q ok (inr new) old made = made new.0 new.1
-  by_server s info P Q (inl p) (inl e) old made = old p e.0 e.1
-  by_server s info P Q (inr new) (inl e) old made = absurd (new.1 (coherent.given.servers s (with_text e.0 info) e.1))
+  -- the root of a server was seen where that was known, and is new where that is
+  by_server : (s : Name) (info : ServerInfo) (P : Type 0) → P ⊎ NewTo S v s → ServerInside S v s info → (P → (text : List ℕ) → server_at v s ≡ Some (with_text text info) → Seen S v info.root) → SeenOrNew S v info.root
+  by_server s info P ok (inr new) root = inr new.1
+  by_server s info P (inl p) (inl e) root = inl (root p e.0 e.1)
+  by_server s info P (inr new) (inl e) root = absurd (new.1 (coherent.given.servers s (with_text e.0 info) e.1))
 
   -- the root of a server that S knows and could serve
   known_root : (s : Name) (info : ServerInfo) → server_at v s ≡ Some info → CouldServe S v info → Knows S v s → Seen S v info.root
@@ -225,10 +234,6 @@ module _ {S : ℕ → Bool} {v x : World} (coherent : Coherent v) (i : Inside S 
   known_sends s info is could (OfSeat n sn en) = ByNode info.root (Active n s info sn en is refl) (coherent.housing.roots s info is) could
   known_sends s info is could (OfControl h) = ByControl h
 
-  -- a root that is seen or new
-  abbrev is_root : (info : ServerInfo) (n : Name) → n ≡ info.root → SeenOrNew S v info.root → SeenOrNew S v n
-  is_root info n e s = subst (SeenOrNew S v) (sym e) s
-
   -- what is seen was seen, or is new
   pub seen_inside : (n : Name) → Seen S x n → SeenOrNew S v n
   seen_inside n (Root e) = inl (Root e)
@@ -237,17 +242,17 @@ module _ {S : ℕ → Bool} {v x : World} (coherent : Coherent v) (i : Inside S 
       let known = (i.held (Io r) h).nodes in
       elim e [ inl at ↦ subst (SeenOrNew S v) (sym at) (known p.at (inr (way_at p r.parents a))) | inr up ↦ subst (SeenOrNew S v) (sym up) (known p.parent (inr (way_parent p r.parents a))) ]
   seen_inside n (Controlled s info h es e) =
-      by_server s info (Commands S v s) (SeenOrNew S v n) (i.held (Control s) h) (i.servers s info es)
-      (λ k text is. is_root info n e (inl (sends_root S v s (with_text text info) is (commands_send S v s (with_text text info) is k)))) (λ new root. is_root info n e (inr root))
+      subst (SeenOrNew S v) (sym e) (by_server s info (Commands S v s) (i.held (Control s) h) (i.servers s info es)
+      (λ k text is. sends_root S v s (with_text text info) is (commands_send S v s (with_text text info) is k)))
   seen_inside n (Pending h) = i.held (Start n) h
   seen_inside n (Child d h name s eh k c en) = child_inside d n h name eh k c (seen_inside d s) (i.entries d n name en)
   seen_inside n (Parent d h s eh ep) = parent_inside d n h eh ep (seen_inside d s) (i.headers d h eh)
   seen_inside n (Active m s info sm em es e) =
-      by_server s info (Seen S v m × (active_at v m ≡ Some s)) (SeenOrNew S v n) (seat_inside m s (seen_inside m sm) (i.actives m s em)) (i.servers s info es)
-      (λ k text is. is_root info n e (inl (Active m s (with_text text info) k.0 k.1 is refl))) (λ new root. is_root info n e (inr root))
+      subst (SeenOrNew S v) (sym e) (by_server s info (Seen S v m × (active_at v m ≡ Some s)) (seat_inside m s (seen_inside m sm) (i.actives m s em)) (i.servers s info es)
+      (λ k text is. Active m s (with_text text info) k.0 k.1 is refl))
   seen_inside n (ServerRoot m s info sm em es c e) =
-      by_server s info (Knows S v s) (SeenOrNew S v n) (server_inside m s (seen_inside m sm) (i.homes m s em)) (i.servers s info es)
-      (λ k text is. is_root info n e (inl (known_root s (with_text text info) is (serve_back info c) k))) (λ new root. is_root info n e (inr root))
+      subst (SeenOrNew S v) (sym e) (by_server s info (Knows S v s) (server_inside m s (seen_inside m sm) (i.homes m s em)) (i.servers s info es)
+      (λ k text is. known_root s (with_text text info) is (serve_back info c) k))
 
   body_inside : (n : Name) (h before : Header) → header_at v n ≡ Some before → Less S v n h before → SeesBody S x n h → SeesBody S v n before
   body_inside n h before is less (ToRead c) = ToRead (less.could Read (could_back h Read c))

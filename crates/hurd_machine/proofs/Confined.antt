@@ -1,17 +1,17 @@
 -- What S sees after changes that its task may make it saw before, or it is new; and names that were given stay given.
-use Rattle.std.proofs.Common.{◌≡◌, ℕ, ◌<◌, ◌≤◌, Bool, List, [], ◌∷◌, Option, Some, None, refl, ◌∙◌, ap, inl, inr, arith}
+use Rattle.std.proofs.Common.{◌≡◌, ℕ, ◌<◌, ◌≤◌, Bool, List, [], ◌∷◌, Option, Some, None, refl, ap, inl, inr, arith}
 use Rattle.std.proofs.lemmas.Bool.{cases_lt}
 use Rattle.hurd_creds.specs.declared.name.Name.{Name}
 use Rattle.hurd_ports.specs.Tables.{Task}
 use Rattle.hurd_ports.specs.Steps.{named, with_sent, edit_task}
 use Rattle.hurd_machine.specs.World.{World, task_at}
-use Rattle.hurd_machine.specs.Sight.{Seen}
+use Rattle.hurd_machine.specs.Sight.{Seen, AttrOf}
 use Rattle.hurd_machine.specs.Change.{Change, MakeNode, MakeOpen, EditTask, Send, Attach, Settle, settle, apply, apply_all}
 use Rattle.hurd_machine.specs.Sound.{Below, Coherent}
-use Rattle.hurd_machine.proofs.Tasks.{edit_cases}
+use Rattle.hurd_machine.proofs.Tasks.{edit_was}
 use Rattle.hurd_machine.proofs.Coherence.{Proper, AllProper}
 use Rattle.hurd_machine.proofs.Keeping.{coherent_one}
-use Rattle.hurd_machine.proofs.Views.{Seen-back}
+use Rattle.hurd_machine.proofs.Views.{Sees-back}
 use Rattle.hurd_machine.proofs.Settle.{settle_agrees}
 use Rattle.hurd_machine.proofs.Confine.{NewTo, SeenOrNew, Inside, Inside-refl, seen_inside}
 use Rattle.hurd_machine.proofs.Allowed.{inside_one}
@@ -23,19 +23,21 @@ use Rattle.hurd_machine.proofs.Several.{AllMay}
 abbrev pub Grown : World → ℕ → Task → Type 0
 Grown w q y = (z : Task) × (task_at w q ≡ Some z) × (z.made ≤ y.made)
 
-edit_grown : (w : World) (t : ℕ) (f : Task → Task) (x : Task) → task_at w t ≡ Some x → x.made ≤ (f x).made → (q : ℕ) (y : Task) → task_at (record w { tasks = edit_task t f w.tasks }) q ≡ Some y → Grown w q y
-edit_grown w t f x is up q y at = elim (edit_cases t f w.tasks x is q y at) [
-  | inl k ↦ let same : y.made ≡ (f x).made = ap (λ (z : Task). z.made) k.1 in (x, ap (task_at w) k.0 ∙ is, omega arith)
-  | inr old ↦ (y, old, omega arith)
-]
+edit_grown : (w : World) (t : ℕ) (f : Task → Task) → ((x : Task) → x.made ≤ (f x).made) → (q : ℕ) (y : Task) → task_at (record w { tasks = edit_task t f w.tasks }) q ≡ Some y → Grown w q y
+edit_grown w t f up q y at =
+    let l = edit_was t f w.tasks q y at in
+    elim l.2 [
+      | inl same ↦ let e = ap (λ (z : Task). z.made) same in (l.0, l.1, omega arith)
+      | inr changed ↦ let e = ap (λ (z : Task). z.made) changed in let more : l.0.made ≤ (f l.0).made = up l.0 in (l.0, l.1, omega arith)
+    ]
 
 grown_one : (c : Change) (w : World) → Proper w c → (q : ℕ) (y : Task) → task_at (apply c w) q ≡ Some y → Grown w q y
-grown_one (MakeNode n s node) w p q y at = edit_grown w n.task.0 (named 1) p.0.seat p.0.is_task (omega arith) q y at
-grown_one (MakeOpen o z) w p q y at = edit_grown w o.task.0 (named 1) p.seat p.is_task (omega arith) q y at
-grown_one (EditTask t f) w p q y at = edit_grown w t f p.1 p.2 (p.0 p.1) q y at
-grown_one (Send r t) w p q y at = edit_grown w t (with_sent r) p.0 p.1 (omega arith) q y at
-grown_one (Attach s seat i node) w p q y at = edit_grown w s.task.0 (named 2) p.next.seat p.next.is_task (omega arith) q y at
-grown_one c w p q y at = (y, at, omega arith)
+grown_one (MakeNode n s node) w p = edit_grown w n.task.0 (named 1) (λ x. omega arith)
+grown_one (MakeOpen o z) w p = edit_grown w o.task.0 (named 1) (λ x. omega arith)
+grown_one (EditTask t f) w p = edit_grown w t f p.0
+grown_one (Send r t) w p = edit_grown w t (with_sent r) (λ x. omega arith)
+grown_one (Attach s seat i node) w p = edit_grown w s.task.0 (named 2) (λ x. omega arith)
+grown_one c w p = λ q y at. (y, at, omega arith)
 
 pub grown : (cs : List Change) (w : World) → Coherent w → AllProper w cs → (q : ℕ) (y : Task) → task_at (apply_all cs w) q ≡ Some y → Grown w q y
 grown [] w c p q y at = (y, at, omega arith)
@@ -77,7 +79,7 @@ module _ (S : ℕ → Bool) where
   confined_from (Settle ∷ cs) v x cv cx i pr m n seen =
       let next : Coherent (settle x) = coherent_one Settle x cx pr.0 in
       elim (confined_from cs (settle x) (settle x) next next (Inside-refl S (settle x)) (pr.1 next) m n seen) [
-        | inl sees ↦ seen_inside cv i n (Seen-back (settle_agrees S x cx pr.0) n sees)
+        | inl sees ↦ seen_inside cv i n (Sees-back (settle_agrees S x cx pr.0) (AttrOf n) sees)
         | inr new ↦ inr (new_back v x i n new)
       ]
   confined_from (c ∷ cs) v x cv cx i pr m n seen =

@@ -1,10 +1,10 @@
 -- A server goes with its nodes: what is left, and that the world is coherent and linked then.
-use Rattle.std.proofs.Common.{◌≡◌, ◌≢◌, ◌⊎◌, inl, inr, not, true, false, true≢false, Option, Some, None, sym, ◌∙◌, ap}
+use Rattle.std.proofs.Common.{◌≡◌, ◌≢◌, inl, inr, not, true, false, true≢false, Option, Some, None, sym, ◌∙◌, ap}
 use Rattle.std.specs.FinMap.{get}
 use Rattle.hurd_creds.specs.declared.name.Name.{Name}
 use Rattle.hurd_creds.specs.Names.{same_name}
 use Rattle.hurd_creds.proofs.NameLaws.{same_name-itself, same_name-apart, remove_apart, remove_here, same_or_apart}
-use Rattle.hurd_trans_iface.specs.Nodes.{Node, Header}
+use Rattle.hurd_trans_iface.specs.Nodes.{Header}
 use Rattle.hurd_nodes.specs.Held.{is_home}
 use Rattle.hurd_nodes.specs.Shown.{ServerInfo, boot_name, is_other, is_other_seat, out_server}
 use Rattle.hurd_nodes.proofs.PartLaws.{and_both}
@@ -31,12 +31,6 @@ module _ (w : World) (s : Name) where
 
   -- what is left was there, and is of another server
 
-  pub node_was : (n : Name) (x : Node) → get dropped.nodes n ≡ Some x → (get w.nodes n ≡ Some x) × (is_other s w.homes n ≡ true)
-  node_was n x e = was_retained w.nodes (is_other s w.homes) n x e
-
-  pub home_was : (n q : Name) → home_at dropped n ≡ Some q → (home_at w n ≡ Some q) × (is_other s w.homes n ≡ true)
-  home_was n q e = was_retained w.homes (is_other s w.homes) n q e
-
   pub active_was : (n q : Name) → active_at dropped n ≡ Some q → (active_at w n ≡ Some q) × (is_other s w.homes n ≡ true) × (is_other s w.actives n ≡ true)
   active_was n q e =
       let l = was_retained w.actives (is_other_seat s w.homes w.actives) n q e in
@@ -44,28 +38,16 @@ module _ (w : World) (s : Name) where
       (l.0, both.0, both.1)
 
   pub server_was : (q : Name) (i : ServerInfo) → server_at dropped q ≡ Some i → (server_at w q ≡ Some i) × (q ≢ s)
-  server_was q i e = go (same_or_apart q s)
-    where
-      go : (q ≡ s) ⊎ (q ≢ s) → (server_at w q ≡ Some i) × (q ≢ s)
-      go (inl same) = let none : None ≡ Some i = sym (remove_here w.servers s) ∙ rw same at e in absurd (cc)
-      go (inr apart) = (sym (remove_apart w.servers s q apart) ∙ e, apart)
+  server_was q i e = elim (same_or_apart q s) [
+    | inl same ↦ let none : None ≡ Some i = sym (remove_here w.servers s) ∙ rw same at e in absurd (cc)
+    | inr apart ↦ (sym (remove_apart w.servers s q apart) ∙ e, apart)
+  ]
 
   pub header_was : (n : Name) (h : Header) → header_at dropped n ≡ Some h → (header_at w n ≡ Some h) × (is_other s w.homes n ≡ true)
   header_was n h e =
       let x = node_of_header (get dropped.nodes n) h e in
-      let l = node_was n x.0 x.1 in
+      let l = was_retained w.nodes (is_other s w.homes) n x.0 x.1 in
       (ap header_in l.0 ∙ ap (λ (z : Header). Some z) x.2, l.1)
-
-  -- what is of another server is left
-
-  pub node_yet : (n : Name) → is_other s w.homes n ≡ true → get dropped.nodes n ≡ get w.nodes n
-  node_yet n h = retained w.nodes (is_other s w.homes) n h
-
-  pub home_yet : (n : Name) → is_other s w.homes n ≡ true → home_at dropped n ≡ home_at w n
-  home_yet n h = retained w.homes (is_other s w.homes) n h
-
-  pub server_yet : (q : Name) → q ≢ s → server_at dropped q ≡ server_at w q
-  server_yet q apart = remove_apart w.servers s q apart
 
   module _ (c : Coherent w) (not_boot : s ≢ boot_name) where
     -- an entry is of its directory's server
@@ -74,16 +56,16 @@ module _ (w : World) (s : Name) where
 
     drop_left : Left w (out_server s (nodes_of w)) (is_other s w.homes)
     drop_left = record {
-      node_was = node_was;
-      home_was = home_was;
+      node_was = was_retained w.nodes (is_other s w.homes);
+      home_was = was_retained w.homes (is_other s w.homes);
       active_was = λ n q e. let k = active_was n q e in (k.0, k.1);
       server_was = λ q i e. let k = server_was q i e in (k.0, other_home s q (home_at w i.root) (c.housing.roots q i k.0) k.1);
-      node_yet = node_yet;
-      home_yet = home_yet;
-      server_yet = λ n q e h. server_yet q (home_apart s q (home_at w n) e h);
-      seat_yet = λ n q e. let k = active_was n q e in server_yet q (home_apart s q (active_at w n) k.0 k.2);
+      node_yet = retained w.nodes (is_other s w.homes);
+      home_yet = retained w.homes (is_other s w.homes);
+      server_yet = λ n q e h. remove_apart w.servers s q (home_apart s q (home_at w n) e h);
+      seat_yet = λ n q e. let k = active_was n q e in remove_apart w.servers s q (home_apart s q (active_at w n) k.0 k.2);
       boot = other_home s boot_name (home_at w boot_root) c.tree.served (λ e. not_boot (sym e));
-      entry_yet = λ d n e h. home_yet n (entry_other d n e ∙ h);
+      entry_yet = λ d n e h. retained w.homes (is_other s w.homes) n (entry_other d n e ∙ h);
     }
 
     pub drop_world : Coherent dropped

@@ -218,13 +218,10 @@ frame T w c k ex pr p within out = ap (λ x. part x p) (next_is k w tt) ∙ next
 
 -- what is gone is not made anew by a change that doesn't write it
 pub gone_kept : (x y : World) (p : Part) → part y p ≡ part x p → IsGone x p → IsGone y p
-gone_kept x y (AttrOf n) e gone = e ∙ gone
-gone_kept x y (EmptyOf n) e gone = e ∙ gone
-gone_kept x y (BodyOf n) e gone = e ∙ gone
 gone_kept x y (OpenOf o) e gone = absurd gone
-gone_kept x y (OptionsOf s) e gone = e ∙ gone
 gone_kept x y (UsersOf s) e gone = absurd gone
 gone_kept x y (TaskOf t) e gone = absurd gone
+gone_kept x y p e gone = e ∙ gone
 
 -- changes one after another, settling among them: what they don't write, and what a settled world has, stays as that has it, or goes
 pub frame_from : (T : Part → Type 0) (p : Part) → (T p → ⊥) → (w : World) → AtRest w → (cs : List Change) (x : World) → Coherent x → AllProper x cs → AllWithin T x cs

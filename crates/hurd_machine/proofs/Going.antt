@@ -11,10 +11,10 @@ use Rattle.hurd_machine.specs.Sight.{Part, AttrOf, EmptyOf, BodyOf, OptionsOf, T
 use Rattle.hurd_machine.specs.Touched.{Goes}
 use Rattle.hurd_machine.proofs.Nodes.{header_in}
 use Rattle.hurd_machine.proofs.Coherence.{Comes}
-use Rattle.hurd_machine.proofs.Drop as drop
-use Rattle.hurd_machine.proofs.Drop.{drop_coherent, drop_linked}
+use Rattle.hurd_machine.proofs.Drop.{drop_linked}
 use Rattle.hurd_machine.proofs.Servers.{linked_come, linked_unseat, sized_come, sized_drop, sized_unseat}
 use Rattle.hurd_machine.proofs.Piece.{Stands, Piece}
+use Rattle.hurd_machine.proofs.Retained.{retained}
 
 module _ {t : ℕ} {T : Part → Type 0} {v w : World} (st : Stands w) where
   -- a server goes
@@ -53,5 +53,5 @@ comes_after w q s at i node other p = record {
   shape = p.shape;
   empty = p.empty;
   parent = p.parent;
-  seat = (p.seat.0, ap header_in (drop.node_yet w q at other) ∙ p.seat.1);
+  seat = (p.seat.0, ap header_in (retained w.nodes (is_other q w.homes) at other) ∙ p.seat.1);
 }

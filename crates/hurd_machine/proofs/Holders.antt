@@ -1,5 +1,5 @@
 -- Which opens are held, and which are left once a world is settled.
-use Rattle.std.proofs.Common.{◌≡◌, ℕ, zero, suc, Bool, true, List, [], ◌∷◌, Some, None, slice_get, nat_lt, refl, ap, ◌∙◌, inl, inr}
+use Rattle.std.proofs.Common.{◌≡◌, ℕ, zero, suc, Bool, true, List, [], ◌∷◌, Some, slice_get, nat_lt, refl, ap, ◌∙◌, inl, inr}
 use Rattle.std.proofs.lemmas.Bool.{or_cases, or_right}
 use Rattle.std.proofs.lemmas.List.Folds.{list_any_at}
 use Rattle.std.proofs.lemmas.Option.{slice_get_within, get_or_from_slice_get}
@@ -8,17 +8,15 @@ use Rattle.std.specs.FinMap.{retain_keys}
 use Rattle.hurd_creds.specs.declared.name.Name.{Name}
 use Rattle.hurd_creds.proofs.NameLaws.{same_name-itself}
 use Rattle.hurd_creds.specs.Names.{same_name}
-use Rattle.hurd_ports.specs.declared.table.Opened.{Opened}
 use Rattle.hurd_ports.specs.declared.table.IoRight.{IoRight}
 use Rattle.hurd_ports.specs.declared.table.Right.{Right}
 use Rattle.hurd_ports.specs.declared.table.Right.TheVariants.{Io, Control}
 use Rattle.hurd_ports.specs.Tables.{Task, rights_of, names_open, names_node, names_server, nodes_of, is_held, is_named, is_controlled}
 use Rattle.hurd_ports.specs.Steps.{edit_task}
 use Rattle.hurd_ports.proofs.HeldLaws.{one_told}
-use Rattle.hurd_machine.specs.World.{World, IsAmong, open_at}
+use Rattle.hurd_machine.specs.World.{World, IsAmong}
 use Rattle.hurd_ports.specs.Weights.{one_if, count_list}
 use Rattle.hurd_ports.proofs.WeightLaws.{list_weighed}
-use Rattle.hurd_machine.proofs.Retained.{retained, none_retained, was_retained}
 use Rattle.hurd_machine.proofs.Tasks.{edit_still}
 
 -- a list has something that passes a test where it counts
@@ -46,7 +44,7 @@ pub record HeldBy (T : Right → Bool) (ts : List Task) : Type 0 where
   pub here : IsAmong right (rights_of seat)
   pub passes : T right ≡ true
 
-any_of : {X : Type 0} (T : X → Bool) (xs : List X) → list_any T xs ≡ true → (x : X) × IsAmong x xs × (T x ≡ true)
+pub any_of : {X : Type 0} (T : X → Bool) (xs : List X) → list_any T xs ≡ true → (x : X) × IsAmong x xs × (T x ≡ true)
 any_of T [] h = absurd (cc)
 any_of T (x ∷ xs) h = elim (or_cases (T x) (list_any T xs) h) [ inl k ↦ (x, inl refl, k) | inr k ↦ let l = any_of T xs k in (l.0, inr l.1, l.2) ]
 
@@ -79,17 +77,22 @@ any_still q f ts T keeps h =
       | inr e ↦ is_any T (edit_task q f ts) (record { task = k.task; seat = k.seat; is_task = e; right = k.right; here = k.here; passes = k.passes })
     ]
 
-pub held_still : (q : ℕ) (f : Task → Task) (ts : List Task) (o : Name) → KeepsRights f → is_held ts o ≡ true → is_held (edit_task q f ts) o ≡ true
-unfolding is_held
-held_still q f ts o keeps h = any_still q f ts (names_open o) keeps h
+-- what some right of the one list of tasks names, one of the other does
+pub record NameMore (ts us : List Task) : Type 0 where
+  pub held : (o : Name) → is_held ts o ≡ true → is_held us o ≡ true
+  pub named : (n : Name) → is_named ts n ≡ true → is_named us n ≡ true
+  pub controlled : (s : Name) → is_controlled ts s ≡ true → is_controlled us s ≡ true
 
-pub named_still : (q : ℕ) (f : Task → Task) (ts : List Task) (n : Name) → KeepsRights f → is_named ts n ≡ true → is_named (edit_task q f ts) n ≡ true
-unfolding is_named
-named_still q f ts n keeps h = any_still q f ts (names_node n) keeps h
+pub still : (q : ℕ) (f : Task → Task) (ts : List Task) → KeepsRights f → NameMore ts (edit_task q f ts)
+unfolding is_held is_named is_controlled
+still q f ts keeps = record {
+  held = λ o. any_still q f ts (names_open o) keeps;
+  named = λ n. any_still q f ts (names_node n) keeps;
+  controlled = λ s. any_still q f ts (names_server s) keeps;
+}
 
-pub controlled_still : (q : ℕ) (f : Task → Task) (ts : List Task) (s : Name) → KeepsRights f → is_controlled ts s ≡ true → is_controlled (edit_task q f ts) s ≡ true
-unfolding is_controlled
-controlled_still q f ts s keeps h = any_still q f ts (names_server s) keeps h
+pub still_more : {ts us vs : List Task} → NameMore ts us → NameMore us vs → NameMore ts vs
+still_more a b = record { held = λ o h. b.held o (a.held o h); named = λ n h. b.named n (a.named n h); controlled = λ s h. b.controlled s (a.controlled s h) }
 
 -- the open of a right is held, each node that it names is named, and the server that it is to control is controlled
 
@@ -109,15 +112,3 @@ controlled_by_right ts t x s at i = is_any (names_server s) ts (record { task = 
 -- without opens that no right names
 abbrev pub let_go : World → World
 let_go w = record w { opens = retain_keys w.opens (is_held w.tasks) }
-
--- opens that are left are those that are held
-
-pub held_stays : (w : World) (o : Name) → is_held w.tasks o ≡ true → open_at (let_go w) o ≡ open_at w o
-held_stays w o h = retained w.opens (is_held w.tasks) o h
-
-pub none_stays : (w : World) (o : Name) → open_at w o ≡ None → open_at (let_go w) o ≡ None
-none_stays w o e = none_retained w.opens (is_held w.tasks) o e
-
--- an open that is left was there, and is held
-pub left_over : (w : World) (o : Name) (y : Opened) → open_at (let_go w) o ≡ Some y → (open_at w o ≡ Some y) × (is_held w.tasks o ≡ true)
-left_over w o y h = was_retained w.opens (is_held w.tasks) o y h

@@ -7,7 +7,7 @@ use Rattle.hurd_ports.specs.Steps.{with_sent}
 use Rattle.hurd_machine.specs.World.{World}
 use Rattle.hurd_machine.specs.Change.{Change, EditHeader, EditBody, MakeNode, EditOpen, MakeOpen, EditTask, Send, Attach, DropServer, Unseat, SetText, Settle, apply, apply_all}
 use Rattle.hurd_machine.specs.Sound.{Below, Coherent}
-use Rattle.hurd_machine.proofs.Coherence.{Proper, AllProper, next_not, no_node, reworked, edited, with_header_from, with_body_from, reopened, open_edited, open_made, task_coherent, sent_table, made_coherent, named_world, named_coherent, named_still, named_below, unopened, unnoded}
+use Rattle.hurd_machine.proofs.Coherence.{Proper, AllProper, next_not, no_node, reworked, with_header_from, with_body_from, reopened, open_edited, open_made, task_coherent, sent_table, made_coherent, named_world, named_coherent, named_still, named_below, unopened, unnoded}
 use Rattle.hurd_machine.proofs.Swept.{settle_sound}
 use Rattle.hurd_machine.proofs.Drop.{drop_coherent}
 use Rattle.hurd_machine.proofs.Comes.{come_coherent}
@@ -17,8 +17,8 @@ use Rattle.hurd_machine.proofs.Texts.{retexted_coherent}
 -- what changes keep
 
 pub coherent_one : (c : Change) (w : World) → Coherent w → Proper w c → Coherent (apply c w)
-coherent_one (EditHeader n f) w s p = reworked w (edit n (with_header f) w.nodes) s (edited w s n (with_header f) (with_header_from w s n f p))
-coherent_one (EditBody n g) w s p = reworked w (edit n (with_body g) w.nodes) s (edited w s n (with_body g) (with_body_from w s n g p))
+coherent_one (EditHeader n f) w s p = reworked w s n (with_header f) (with_header_from w s n f p)
+coherent_one (EditBody n g) w s p = reworked w s n (with_body g) (with_body_from w s n g p)
 coherent_one (MakeNode n s node) w c p =
     let new : Below w n → ⊥ = next_not w n p.0 in
     let good = p.1 in

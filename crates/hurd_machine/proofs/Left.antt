@@ -1,16 +1,17 @@
 -- What is left of a world once some nodes and servers are gone: it is coherent, and its nodes are linked.
-use Rattle.std.proofs.Common.{◌≡◌, ◌≤◌, Bool, true, false, true≢false, cond, Option, Some, None, sym, refl, ◌∙◌, ap, subst}
+use Rattle.std.proofs.Common.{◌≡◌, ◌≤◌, Bool, true, false, true≢false, cond, Option, Some, None, sym, refl, ◌∙◌, ap, subst, inl, inr}
 use Rattle.std.specs.FinMap.{get, retain_keys}
 use Rattle.hurd_creds.specs.declared.name.Name.{Name}
 use Rattle.hurd_trans_iface.specs.Nodes.{NodeMap, Node, Header, is_dir}
 use Rattle.hurd_nodes.specs.Shown.{NodeState, ServerInfo, boot_name, info_in, is_root_at, is_root_of, tree_by}
 use Rattle.hurd_machine.specs.World.{World, boot_root, nodes_of, header_at, body_at, home_at, active_at, server_at, info_at, is_server_root, lists, lists_at}
 use Rattle.hurd_machine.specs.Change.{with_nodes}
-use Rattle.hurd_machine.specs.Sound.{AreGiven, AreHoused, AreSeated, IsTree, AreTables, Coherent, times_in, times_listed, LeadsUp, AtRoot, Above, Linked}
+use Rattle.hurd_machine.specs.Sound.{AreGiven, AreHoused, AreSeated, IsTree, Coherent, times_in, times_listed, LeadsUp, AtRoot, Above, Linked}
 use Rattle.hurd_machine.proofs.Nodes.{header_in, body_in, node_of_header}
 use Rattle.hurd_machine.proofs.Sums.{total_retained}
-use Rattle.hurd_machine.proofs.Coherence.{lister}
+use Rattle.hurd_machine.proofs.Coherence.{lister, tables_by}
 use Rattle.hurd_machine.proofs.Listed.{none_in}
+use Rattle.std.proofs.lemmas.Bool.{cases_Bool}
 
 -- of the world w the nodes and servers h are left: the nodes of the names that are kept
 pub record Left (w : World) (h : NodeState) (keep : Name → Bool) : Type 0 where
@@ -93,16 +94,8 @@ module _ (w : World) (c : Coherent w) (h : NodeState) (keep : Name → Bool) (l 
     served = l.home_yet boot_root l.boot ∙ c.tree.served;
   }
 
-  left_tables : AreTables left
-  left_tables = record {
-    numbers = c.tables.numbers;
-    opened = c.tables.opened;
-    shared = c.tables.shared;
-    written = λ t x r o k at i eo modes ek. c.tables.written t x r o k at i eo modes (header_was r.node k ek).0;
-  }
-
   pub left_coherent : Coherent left
-  left_coherent = record { given = left_given; housing = left_housing; seating = left_seating; tree = left_tree; tables = left_tables }
+  left_coherent = record { given = left_given; housing = left_housing; seating = left_seating; tree = left_tree; tables = tables_by w h c.tables (λ t x r at has k ek. (k, (header_was r.node k ek).0, refl)) }
 
   -- where whoever lists what is kept is kept, as many entries name that, and each path up is still there
   module _ (linked : Linked (nodes_of w)) (lister_kept : (d n : Name) → lists_at n (body_at w d) ≡ true → keep n ≡ true → keep d ≡ true)
@@ -137,8 +130,4 @@ unfolding times_listed
 times_retained m keep n kept = total_retained (λ (x : Node). times_in n x.body) m keep none
   where
     none : (d : Name) (x : Node) → keep d ≡ false → get m d ≡ Some x → times_in n x.body ≡ 0
-    none d x out is = go (lists n x.body) refl
-      where
-        go : (b : Bool) → lists n x.body ≡ b → times_in n x.body ≡ 0
-        go true e = absurd (true≢false (sym (kept d x is e) ∙ out))
-        go false e = none_in n x.body e
+    none d x out is = elim (cases_Bool (lists n x.body)) [ inl e ↦ absurd (true≢false (sym (kept d x is e) ∙ out)) | inr e ↦ none_in n x.body e ]

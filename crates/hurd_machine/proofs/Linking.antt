@@ -4,7 +4,6 @@ use Rattle.std.specs.Prelude.{Result, Ok, Err}
 use Rattle.std.proofs.lemmas.Bool.Decides.{nat_tests}
 use Rattle.std.specs.FinMap.{get}
 use Rattle.hurd_creds.specs.declared.name.Name.{Name}
-use Rattle.hurd_creds.specs.declared.attrs.Want.{Want}
 use Rattle.hurd_creds.specs.declared.errno.Errno.{Errno}
 use Rattle.hurd_creds.specs.declared.errno.Errno.TheVariants.{EEXIST, EISDIR, ENOTDIR, EOVERFLOW, EROFS, EXDEV}
 use Rattle.hurd_creds.proofs.NameLaws.{equal_if_same}
@@ -15,14 +14,14 @@ use Rattle.hurd_trans_iface.specs.Kinds.{ServerKind, behaviour_of}
 use Rattle.hurd_trans_iface.specs.Meaning.{keeps_tree}
 use Rattle.hurd_nodes.specs.Shown.{ServerInfo, are_kin, link_by, tree_by}
 use Rattle.hurd_machine.specs.World.{World, nodes_of, body_at, home_at, info_at, links_at}
-use Rattle.hurd_machine.specs.Sight.{Part, AttrOf, EmptyOf, BodyOf, Seen, Could, Owns, Allowed}
+use Rattle.hurd_machine.specs.Sight.{Part, AttrOf, EmptyOf, BodyOf, Seen}
 use Rattle.hurd_machine.specs.Change.{Change, EditBody, EditHeader, apply}
 use Rattle.hurd_machine.specs.Sound.{Coherent}
 use Rattle.hurd_machine.proofs.Nodes.{header_in, body_in}
 use Rattle.hurd_machine.proofs.Coherence.{IsEntry, AllProper}
 use Rattle.hurd_machine.proofs.Settle.{KeepsEntered}
 use Rattle.hurd_machine.proofs.Sizes.{sized_append, sized_entry, sized_header}
-use Rattle.hurd_machine.proofs.Confine.{Less}
+use Rattle.hurd_machine.proofs.Confine.{Less, less_same}
 use Rattle.hurd_machine.proofs.Permits.{entry_may}
 use Rattle.hurd_machine.proofs.Makes.{entry_proper}
 use Rattle.hurd_machine.proofs.Links.{listing_of}
@@ -43,22 +42,18 @@ pub record MayLink (w : World) (d : Name) (name : List ℕ) (n : Name) : Type 0 
   pub absent : entry_of name (body_at w d) ≡ None
 
 pub kin_are : (s q : Option Name) → are_kin s q ≡ true → q ≡ s
-kin_are None q h = absurd (cc)
-kin_are (Some s) None h = absurd (cc)
 kin_are (Some s) (Some q) h = ap Some (sym (equal_if_same s q h))
+kin_are s q h = absurd (cc)
 
 first_tests : (dir grows : Bool) (r : Result (Unit {0}) Errno) (u : Unit {0}) → (if not dir then Err ENOTDIR else if not grows then Err EROFS else r) ≡ Ok u → (dir ≡ true) × (grows ≡ true) × (r ≡ Ok u)
-first_tests false grows r u h = absurd (cc)
-first_tests true false r u h = absurd (cc)
 first_tests true true r u h = (refl, refl, h)
+first_tests dir grows r u h = absurd (cc)
 
 last_tests : (kin dir : Bool) (o : Option Name) (free : Bool) (u : Unit {0})
     → ◌≡◌ {A = Result (Unit {0}) Errno} (if not kin then Err EXDEV else if dir then Err EISDIR else if is_some o then Err EEXIST else if free then Ok tt else Err EOVERFLOW) (Ok u)
     → (kin ≡ true) × (dir ≡ false) × (o ≡ None)
-last_tests false dir o free u h = absurd (cc)
-last_tests true true o free u h = absurd (cc)
-last_tests true false (Some n) free u h = absurd (cc)
 last_tests true false None free u h = (refl, refl, refl)
+last_tests kin dir o free u h = absurd (cc)
 
 pub may_link : (w : World) (d : Name) (name : List ℕ) (n : Name) (u : Unit {0}) → links_at w d name n ≡ Ok u → MayLink w d name n
 may_link w d name n u = go (info_at w d) (get w.nodes d) (get w.nodes n) refl refl refl
@@ -118,11 +113,7 @@ module _ (d : Name) (name : List ℕ) (n : Name) where
 
   -- a link more shows nothing
   linked_less : (S : ℕ → Bool) (v : World) (h : Header) → Less S v n (linked h) h
-  linked_less S v h = record { kind = refl; parent = λ p e. inl e; could = could; owns = λ o. o }
-    where
-      could : (want : Want) → Could S v (linked h) want → Could S v h want
-      could want (Owns u has is) = Owns u has is
-      could want (Allowed ids taken may) = Allowed ids taken may
+  linked_less S v h = less_same S v n (linked h) h refl refl refl refl (λ p e. inl e)
 
   -- in a directory that leads up
   pub link_whole : ((k : ServerKind) → GoodBehaviour (behaviour_of k)) → {t : ℕ} {T : Part → Type 0} {w : World} → Sound w → MayLink w d name n → LeadsUp (nodes_of w) d → T (BodyOf d) → T (EmptyOf d) → T (AttrOf n)

@@ -1,7 +1,6 @@
 -- Changes that keep nodes linked as a tree is, or keep them so but for some that are loose.
 use Rattle.std.proofs.Common.{◌≡◌, ◌≢◌, ◌⊎◌, ◌∙◌, ℕ, ◌+◌, ◌≤◌, Bool, true, false, not, ◌&&◌, cond, is_some, List, [], ◌∷◌, Option, Some, None, nat_lt, sym, refl, ap, ap₂, subst, inl, inr, true≢false, arith}
 use Rattle.std.proofs.lemmas.Bool.Decides.{nat_tests}
-use Rattle.std.specs.List.{list_any}
 use Rattle.std.specs.Option.{option_map}
 use Rattle.std.specs.FinMap.{get}
 use Rattle.hurd_creds.specs.declared.name.Name.{Name}
@@ -20,17 +19,14 @@ use Rattle.hurd_machine.proofs.Nodes.{header_in, body_in, edited_from, edit_keep
 use Rattle.hurd_machine.proofs.Tasks.{count_append}
 use Rattle.hurd_machine.proofs.Listed.{lists_counted, none_in}
 use Rattle.hurd_machine.proofs.Sums.{of_found, total_insert, total_kept, total_none}
-use Rattle.hurd_machine.proofs.Coherence.{HasNoEntries}
+use Rattle.hurd_machine.proofs.Coherence.{HasNoEntries, no_entry}
 use Rattle.hurd_machine.proofs.Texts.{root_kept, tree_kept}
+use Rattle.std.proofs.lemmas.Bool.{cases_Bool}
 
 -- how often a body names a node
 
 pub lists_alike : (n : Name) (b c : Body) → times_in n c ≡ times_in n b → lists n c ≡ lists n b
 lists_alike n b c e = lists_counted n c ∙ ap (nat_lt 0) e ∙ sym (lists_counted n b)
-
-no_lists : (n : Name) (b : Body) → HasNoEntries b → lists n b ≡ false
-no_lists n (Content bs) e = refl
-no_lists n (Listing es) e = ap (list_any (is_of n)) e
 
 -- a directory has entries
 pub listing_of : (h : Header) (b : Body) → IsShaped h b → is_dir h.kind ≡ true → (es : List Entry) × (b ≡ Listing es)
@@ -39,7 +35,7 @@ listing_of h (Content bs) shape dir = absurd (true≢false (sym dir ∙ shape))
 
 -- one entry more
 
-times_apart : (name : List ℕ) (n m : Name) → m ≢ n → (b : Body) → times_in m (with_entry name n b) ≡ times_in m b
+pub times_apart : (name : List ℕ) (n m : Name) → m ≢ n → (b : Body) → times_in m (with_entry name n b) ≡ times_in m b
 times_apart name n m apart (Content bs) = refl
 times_apart name n m apart (Listing es) =
     let both = count_append (is_of m) es (record { name = name; node = n } ∷ []) in
@@ -61,11 +57,10 @@ unfolding times_listed
 times_new w c n new = total_none (λ (x : Node). times_in n x.body) w.nodes none
   where
     none : (d : Name) (x : Node) → get w.nodes d ≡ Some x → times_in n x.body ≡ 0
-    none d x is = go (lists n x.body) refl
-      where
-        go : (b : Bool) → lists n x.body ≡ b → times_in n x.body ≡ 0
-        go true e = absurd (new (c.given.entries d n (ap (λ o. lists_at n (body_in o)) is ∙ e)))
-        go false e = none_in n x.body e
+    none d x is = elim (cases_Bool (lists n x.body)) [
+      | inl e ↦ absurd (new (c.given.entries d n (ap (λ o. lists_at n (body_in o)) is ∙ e)))
+      | inr e ↦ none_in n x.body e
+    ]
 
 -- how often a node is named after one edit of a header
 pub times_headed : (m : NodeMap) (a n : Name) (f : Header → Header) → times_listed (edit a (with_header f) m) n ≡ times_listed m n
@@ -85,6 +80,9 @@ pub record Keeps (h g : NodeState) (n : Name) : Type 0 where
 abbrev pub IsHung : NodeState → Name → Type 0
 IsHung h n = (k : Header) → header_of h.nodes n ≡ Some k → Hangs h n k
 
+pub hung_as : (h : NodeState) (n : Name) (k : Header) → header_of h.nodes n ≡ Some k → Hangs h n k → IsHung h n
+hung_as h n k is hangs j e = let same : k ≡ j = cc (is, e) in subst (Hangs h n) same hangs
+
 pub still_hung : (h g : NodeState) (n : Name) → Keeps h g n → IsHung h n → IsHung g n
 still_hung h g n same hung j e =
     let b = same.header j e in
@@ -97,7 +95,8 @@ still_hung h g n same hung j e =
     }
 
 -- roots stay roots, and parents parents: what led up still does
-leads_still : (h g : NodeState) → ((d : Name) → is_root h d ≡ true → is_root g d ≡ true) → ((d : Name) (k : Header) → header_of h.nodes d ≡ Some k → (j : Header) × (header_of g.nodes d ≡ Some j) × (j.parent ≡ k.parent)) → (d : Name) → LeadsUp h d → LeadsUp g d
+pub leads_still : (h g : NodeState) → ((d : Name) → is_root h d ≡ true → is_root g d ≡ true)
+    → ((d : Name) (k : Header) → header_of h.nodes d ≡ Some k → (j : Header) × (header_of g.nodes d ≡ Some j) × (j.parent ≡ k.parent)) → (d : Name) → LeadsUp h d → LeadsUp g d
 leads_still h g roots parents d (AtRoot is) = AtRoot (roots d is)
 leads_still h g roots parents d (Above p k is up rest) = let j = parents d k is in Above p j.0 j.1 (j.2 ∙ up) (leads_still h g roots parents p rest)
 
@@ -271,7 +270,7 @@ module _ (loose : Name → Type 0) (w : World) (a s : Name) (node : Node) (may :
   named_grown n =
       let e = total_insert (λ (x : Node). times_in n x.body) w.nodes a node in
       let old : of_found (λ (x : Node). times_in n x.body) (get w.nodes a) ≡ 0 = ap (of_found (λ (x : Node). times_in n x.body)) may.1 in
-      let new : times_in n node.body ≡ 0 = none_in n node.body (no_lists n node.body may.3) in
+      let new : times_in n node.body ≡ 0 = none_in n node.body (no_entry n node.body may.3) in
       omega arith
 
   lists_grown : (n p : Name) → lists_at n (body_at w p) ≡ true → lists_at n (body_at grown p) ≡ true
@@ -289,7 +288,7 @@ module _ (loose : Name → Type 0) (w : World) (a s : Name) (node : Node) (may :
 
   lists_before : (d n : Name) → lists_at n (body_at grown d) ≡ true → lists_at n (body_at w d) ≡ true
   lists_before d n e = elim (same_or_apart d a) [
-    | inl same ↦ let gone : lists n node.body ≡ true = sym (ap (λ o. lists_at n (body_in o)) (get_here w.nodes a node)) ∙ rw same at e in let none = no_lists n node.body may.3 in absurd (cc)
+    | inl same ↦ let gone : lists n node.body ≡ true = sym (ap (λ o. lists_at n (body_in o)) (get_here w.nodes a node)) ∙ rw same at e in let none = no_entry n node.body may.3 in absurd (cc)
     | inr apart ↦ sym (ap (λ o. lists_at n (body_in o)) (there d apart)) ∙ e
   ]
 

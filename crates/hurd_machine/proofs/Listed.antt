@@ -1,10 +1,10 @@
 -- How often entries name a node.
-use Rattle.std.proofs.Common.{◌≡◌, ◌∙◌, ◌+◌, ◌≤◌, Bool, true, false, cond, is_some, if◌then◌else◌, Option, Some, None, nat_lt, sym, refl, ap, arith}
+use Rattle.std.proofs.Common.{◌≡◌, ◌∙◌, ◌+◌, ◌≤◌, true, false, cond, is_some, if◌then◌else◌, Option, Some, None, nat_lt, sym, refl, ap, arith, inl, inr}
 use Rattle.std.proofs.lemmas.Bool.Decides.{nat_tests}
 use Rattle.std.specs.FinMap.{get}
 use Rattle.hurd_creds.specs.declared.name.Name.{Name}
 use Rattle.hurd_creds.specs.declared.attrs.Kind.{Kind}
-use Rattle.hurd_creds.specs.declared.attrs.Kind.TheVariants.{File, Dir, Link, Fifo, Char}
+use Rattle.hurd_creds.specs.declared.attrs.Kind.TheVariants.{Dir}
 use Rattle.hurd_creds.specs.NameMaps.{edit}
 use Rattle.hurd_trans_iface.specs.Nodes.{NodeMap, Node, Header, Body, Content, Listing, is_dir, body_of, with_body, is_entered}
 use Rattle.hurd_nodes.specs.Shown.{NodeState, server_of, tree_by}
@@ -13,6 +13,7 @@ use Rattle.hurd_machine.specs.Sound.{times_in, times_listed, Hangs}
 use Rattle.hurd_machine.proofs.Nodes.{body_in}
 use Rattle.hurd_machine.proofs.Holders.{list_counted}
 use Rattle.hurd_machine.proofs.Sums.{total_edit, total_above}
+use Rattle.std.proofs.lemmas.Bool.{cases_Bool}
 
 -- a body names a node at all where it does so some times
 pub lists_counted : (n : Name) (b : Body) → lists n b ≡ nat_lt 0 (times_in n b)
@@ -41,17 +42,13 @@ times_named m d n = go (get m d) refl
 
 pub dir_kind : (k : Kind) → is_dir k ≡ true → k ≡ Dir
 dir_kind Dir h = refl
-dir_kind File h = absurd (cc)
-dir_kind Link h = absurd (cc)
-dir_kind Fifo h = absurd (cc)
-dir_kind Char h = absurd (cc)
+dir_kind k h = absurd (cc)
 
 -- what an entry names in a tree has a link, or is a directory with a parent
 pub entered_by : (h : NodeState) (d n : Name) (k : Header) → lists_at n (body_of h.nodes d) ≡ true → Hangs h n k → tree_by (server_of h n) ≡ true → (k.kind ≡ Dir → k.parent ≡ Some d) → is_entered k ≡ true
-entered_by h d n k listed hangs tree below = go (is_dir k.kind) refl
-  where
-    go : (b : Bool) → is_dir k.kind ≡ b → is_entered k ≡ true
-    go true e = ap (λ b. if b then is_some k.parent else nat_lt 0 k.links) e ∙ ap is_some (below (dir_kind k.kind e))
-    go false e =
-        let links : k.links ≡ times_listed h.nodes n = hangs.links tree ∙ ap (λ b. cond b 1 (times_listed h.nodes n)) e in
-        ap (λ b. if b then is_some k.parent else nat_lt 0 k.links) e ∙ ap (nat_lt 0) links ∙ times_named h.nodes d n listed
+entered_by h d n k listed hangs tree below = elim (cases_Bool (is_dir k.kind)) [
+  | inl e ↦ ap (λ b. if b then is_some k.parent else nat_lt 0 k.links) e ∙ ap is_some (below (dir_kind k.kind e))
+  | inr e ↦
+      let links : k.links ≡ times_listed h.nodes n = hangs.links tree ∙ ap (λ b. cond b 1 (times_listed h.nodes n)) e in
+      ap (λ b. if b then is_some k.parent else nat_lt 0 k.links) e ∙ ap (nat_lt 0) links ∙ times_named h.nodes d n listed
+]

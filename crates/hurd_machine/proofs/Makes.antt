@@ -1,45 +1,43 @@
 -- A node made in a directory, with its entry there, as a piece of any call.
-use Rattle.std.proofs.Common.{◌≡◌, ◌≢◌, ◌⊎◌, ◌∙◌, ℕ, ◌+◌, Bool, true, false, not, ◌&&◌, ◌||◌, cond, is_some, if◌then◌else◌, List, [], ◌∷◌, ◌++◌, Option, Some, None, nat_eq, sym, refl, ap, ap₂, subst, inl, inr, true≢false, arith}
+use Rattle.std.proofs.Common.{◌≡◌, ◌≢◌, ◌⊎◌, ◌∙◌, ℕ, ◌+◌, Bool, true, false, not, cond, is_some, if◌then◌else◌, List, [], ◌∷◌, ◌++◌, Option, Some, None, sym, refl, ap, subst, inl, inr, true≢false, arith}
 use Rattle.std.specs.Prelude.{Result, Ok, Err}
-use Rattle.std.proofs.lemmas.Bool.{or_cases}
-use Rattle.std.proofs.lemmas.Bool.Decides.{nat_tests}
-use Rattle.std.proofs.lemmas.List.Folds.{list_any-append}
-use Rattle.std.specs.List.{list_any}
 use Rattle.std.specs.Option.{option_map}
 use Rattle.std.specs.Str.{bytes_eq}
 use Rattle.std.specs.FinMap.{get}
 use Rattle.hurd_creds.specs.declared.name.Name.{Name}
 use Rattle.hurd_creds.specs.declared.attrs.Kind.{Kind}
-use Rattle.hurd_creds.specs.declared.attrs.Kind.TheVariants.{File, Dir, Link, Fifo, Char}
+use Rattle.hurd_creds.specs.declared.attrs.Kind.TheVariants.{File, Dir}
 use Rattle.hurd_creds.specs.declared.errno.Errno.{Errno}
 use Rattle.hurd_creds.specs.declared.errno.Errno.TheVariants.{EEXIST, ENOTDIR, EROFS, EOPNOTSUPP}
-use Rattle.hurd_creds.proofs.NameLaws.{equal_if_same, get_here, get_apart}
+use Rattle.hurd_creds.proofs.NameLaws.{equal_if_same, get_here, get_apart, same_or_apart}
 use Rattle.hurd_trans_iface.specs.declared.new_node.NewNode.{NewNode}
 use Rattle.hurd_trans_iface.specs.Nodes.{Node, Entry, Header, Body, Content, Listing, IsShaped, is_dir, with_body, with_entry, new_file, new_dir, is_entered}
 use Rattle.hurd_trans_iface.specs.Answers.{entry_in, entry_of, is_made, is_taken, made_node, named_by, node_of_kind}
 use Rattle.hurd_trans_iface.specs.Good.{IsSized, GoodBehaviour}
 use Rattle.hurd_trans_iface.specs.Kinds.{ServerKind, behaviour_of}
 use Rattle.hurd_trans_iface.specs.Meaning.{keeps_tree}
-use Rattle.hurd_nodes.specs.Shown.{ServerInfo, info_in, made_by, is_root_at, is_root_of, tree_by}
+use Rattle.hurd_nodes.specs.Shown.{ServerInfo, info_in, made_by, tree_by}
 use Rattle.hurd_ports.specs.Tables.{Task, fresh}
 use Rattle.hurd_ports.specs.Steps.{named}
-use Rattle.hurd_machine.specs.World.{World, task_at, header_at, body_at, home_at, server_at, info_at, makes_at, is_of, lists, lists_at, nodes_of, is_server_root}
-use Rattle.hurd_machine.specs.Sight.{Part, AttrOf, EmptyOf, BodyOf, OptionsOf, TaskOf, OfNode, Seen, Sees}
+use Rattle.hurd_machine.specs.World.{World, task_at, header_at, body_at, home_at, server_at, info_at, makes_at, lists, lists_at, nodes_of, is_server_root}
+use Rattle.hurd_machine.specs.Sight.{Part, EmptyOf, BodyOf, OfNode, Seen}
 use Rattle.hurd_machine.specs.Change.{Change, EditBody, MakeNode, apply, apply_all}
-use Rattle.hurd_machine.specs.Sound.{Below, AreDistinct, HasDistinctNames, Coherent, Sound, times_in, times_listed, LeadsUp, Hangs}
+use Rattle.hurd_machine.specs.Sound.{Below, AreDistinct, HasDistinctNames, Coherent, Sound, times_in, times_listed, LeadsUp}
 use Rattle.hurd_machine.proofs.Nodes.{header_in, body_in, header-with_body, body-with_body, edit_keeps, edit_reads}
 use Rattle.hurd_machine.proofs.Tasks.{edit_here}
-use Rattle.hurd_machine.proofs.Coherence.{IsNext, IsEntry, GoodNode, HasNoEntries, Proper, AllProper, home_old, no_node, no_home, next_not, next_apart, named_below}
-use Rattle.hurd_machine.proofs.Settle.{Rests, rests_quiet}
-use Rattle.hurd_machine.proofs.Frame.{AllWithin, Full}
-use Rattle.hurd_machine.proofs.Confine.{NewTo, SeenOrNew}
-use Rattle.hurd_machine.proofs.Several.{AllMay}
-use Rattle.hurd_machine.proofs.Permits.{entry_may, later_new}
-use Rattle.hurd_machine.proofs.Sizes.{KeepsSized, sized_made, sized_entry}
+use Rattle.hurd_machine.proofs.Coherence.{IsNext, IsEntry, GoodNode, HasNoEntries, Proper, AllProper, home_old, no_node, no_home, entry_stands, next_not, next_apart, named_below, home_server, none_if}
+use Rattle.hurd_machine.proofs.Settle.{rests_quiet}
+use Rattle.hurd_machine.proofs.Frame.{Full}
+use Rattle.hurd_machine.proofs.Confine.{SeenOrNew}
+use Rattle.hurd_machine.proofs.Permits.{entry_may, later_new, entry_added}
+use Rattle.hurd_machine.proofs.Sizes.{sized_made, sized_entry}
 use Rattle.hurd_machine.proofs.Listed.{times_edited}
-use Rattle.hurd_machine.proofs.Links.{IsHung, HangsIn, Loosens, KeepsLinked, loosened, loose_any, tied, leads_grown, named_grown, times_new, times_entered, lists_entered, listing_of, relisted_entry}
+use Rattle.hurd_machine.proofs.Links.{IsHung, HangsIn, Loosens, KeepsLinked, loosened, loose_any, tied, leads_grown, named_grown, times_new, times_entered, lists_entered, listing_of, relisted_entry, hung_as, lists_alike, times_apart}
 use Rattle.hurd_machine.proofs.Opens.{own_task, fresh_new, fresh_next}
 use Rattle.hurd_machine.proofs.Piece.{Whole}
+use Rattle.hurd_nodes.proofs.PartLaws.{same_bool}
+use Rattle.std.proofs.lemmas.Slice.Eq.{bytes_eq-Decides}
+use Rattle.hurd_machine.proofs.Stays.{root_why}
 
 -- a directory with one entry more
 
@@ -47,37 +45,21 @@ entry_shape : (name : List ℕ) (n : Name) (b : Body) (h : Header) → IsShaped 
 entry_shape name n (Listing es) h s = s
 entry_shape name n (Content bs) h s = s
 
-added_lists : (name : List ℕ) (n m : Name) (es : List Entry) → list_any (is_of m) (es ++ record { name = name; node = n } ∷ []) ≡ true → (list_any (is_of m) es ≡ true) ⊎ (n ≡ m)
-added_lists name n m es h =
-    elim (or_cases (list_any (is_of m) es) (is_of m (record { name = name; node = n }) || false) (sym (list_any-append (is_of m) es (record { name = name; node = n } ∷ [])) ∙ h)) [
-      | inl old ↦ inl old
-      | inr last ↦ elim (or_cases (is_of m (record { name = name; node = n })) false last) [ inl k ↦ inr (equal_if_same n m k) | inr k ↦ absurd (cc) ]
-    ]
-
 -- an entry afterwards was there, or is the new one
 pub entry_lists_cases : (name : List ℕ) (n m : Name) (b : Body) → lists m (with_entry name n b) ≡ true → (lists m b ≡ true) ⊎ (n ≡ m)
-entry_lists_cases name n m (Content bs) h = inl h
-entry_lists_cases name n m (Listing es) h = added_lists name n m es h
+entry_lists_cases name n m b h = elim (same_or_apart m n) [
+  | inl same ↦ inr (sym same)
+  | inr apart ↦ inl (sym (lists_alike m b (with_entry name n b) (times_apart name n m apart b)) ∙ h)
+]
 
 -- names stay distinct where the new one wasn't there
 
 bytes_eq-turned : (a b : List ℕ) → bytes_eq a b ≡ bytes_eq b a
-bytes_eq-turned [] [] = refl
-bytes_eq-turned [] (y ∷ b) = refl
-bytes_eq-turned (x ∷ a) [] = refl
-bytes_eq-turned (x ∷ a) (y ∷ b) = ap₂ (λ p q. p && q) (turned x y) (bytes_eq-turned a b)
-  where
-    turned : (m n : ℕ) → nat_eq m n ≡ nat_eq n m
-    turned m n = grind (arith, nat_tests)
+bytes_eq-turned a b =
+    same_bool (bytes_eq a b) (bytes_eq b a) (λ h. (bytes_eq-Decides b a).1 (sym ((bytes_eq-Decides a b).0 h))) (λ h. (bytes_eq-Decides a b).1 (sym ((bytes_eq-Decides b a).0 h)))
 
 none_added : (name other : List ℕ) (n : Name) (es : List Entry) → bytes_eq name other ≡ false → entry_in other es ≡ None → entry_in other (es ++ record { name = name; node = n } ∷ []) ≡ None
-none_added name other n [] apart = λ none. ap (λ b. cond b (Some n) None) apart
-none_added name other n (e ∷ es) apart = go (bytes_eq e.name other) (none_added name other n es apart)
-  where
-    go : (b : Bool) → (entry_in other es ≡ None → entry_in other (es ++ record { name = name; node = n } ∷ []) ≡ None)
-        → cond b (Some e.node) (entry_in other es) ≡ None → cond b (Some e.node) (entry_in other (es ++ record { name = name; node = n } ∷ [])) ≡ None
-    go true ih h = absurd (cc)
-    go false ih h = ih h
+none_added name other n es apart none = none_if _ (λ m e. elim (entry_added name other n m es e) [ inl old ↦ cc (none, old) | inr new ↦ true≢false (sym new.0 ∙ apart) ])
 
 -- a name that isn't there is no entry's
 not_first : (name : List ℕ) (e : Entry) (es : List Entry) → entry_in name (e ∷ es) ≡ None → (bytes_eq e.name name ≡ false) × (entry_in name es ≡ None)
@@ -103,9 +85,7 @@ entry_proper w c d name n absent new b is = record {
   shape = λ h. entry_shape name n b h;
   distinct = entry_names name n b (ap (entry_of name) (sym is) ∙ absent);
   entries = λ m e. elim (entry_lists_cases name n m b e) [
-    | inl old ↦
-        let there : lists_at m (body_at w d) ≡ true = ap (lists_at m) is ∙ old in
-        record { made = c.given.entries d m there; kin = c.tree.kin d m there; tree = c.tree.trees d m there; below = λ h eh. c.tree.below d m h there eh }
+    | inl old ↦ entry_stands c d m (ap (lists_at m) is ∙ old)
     | inr same ↦ subst (IsEntry w d) same new
   ];
 }
@@ -125,29 +105,22 @@ pub record MayMake (w : World) (d : Name) (entry : Option (List ℕ)) (kind : Ki
 may_steps : (dir grows taken made : Bool) (u : Unit {0})
     → ◌≡◌ {A = Result (Unit {0}) Errno} (if not dir then Err ENOTDIR else if not grows then Err EROFS else if taken then Err EEXIST else if made then Ok tt else Err EOPNOTSUPP) (Ok u)
     → (dir ≡ true) × (grows ≡ true) × (taken ≡ false) × (made ≡ true)
-may_steps false grows taken made u h = absurd (cc)
-may_steps true false taken made u h = absurd (cc)
-may_steps true true true made u h = absurd (cc)
-may_steps true true false false u h = absurd (cc)
 may_steps true true false true u h = (refl, refl, refl, refl)
+may_steps dir grows taken made u h = absurd (cc)
 
 pub may_make : (w : World) (d : Name) (entry : Option (List ℕ)) (kind : Kind) (u : Unit {0}) → makes_at w d entry kind ≡ Ok u → MayMake w d entry kind
 may_make w d entry kind u = go (info_at w d) (get w.nodes d) refl refl
   where
     go : (o : Option ServerInfo) (x : Option Node) → info_at w d ≡ o → get w.nodes d ≡ x → made_by entry kind o x ≡ Ok u → MayMake w d entry kind
-    go None x is_info is_node h = absurd (cc)
-    go (Some i) None is_info is_node h = absurd (cc)
     go (Some i) (Some x) is_info is_node h =
         let l = may_steps (is_dir x.header.kind) (keeps_tree i.kind) (is_taken entry x.body) (is_made kind) u h in
         record { info = i; is_info = is_info; node = x; is_node = is_node; dir = l.0; tree = l.1; free = l.2; kinds = l.3 }
+    go i x is_info is_node h = absurd (cc)
 
 -- no entry has the name
 absent : (w : World) (d : Name) (name : List ℕ) (kind : Kind) → MayMake w d (Some name) kind → entry_of name (body_at w d) ≡ None
-absent w d name kind m = ap (λ o. entry_of name (body_in o)) m.is_node ∙ none (entry_of name (Some m.node.body)) m.free
-  where
-    none : (o : Option Name) → is_some o ≡ false → o ≡ None
-    none None h = refl
-    none (Some n) h = absurd (true≢false h)
+absent w d name kind m =
+    ap (λ o. entry_of name (body_in o)) m.is_node ∙ none_if (entry_of name (Some m.node.body)) (λ n e. true≢false (sym (ap is_some e) ∙ m.free))
 
 -- a node that may be made in a directory
 record NewIn (w : World) (d : Name) (node : Node) : Type 0 where
@@ -168,9 +141,7 @@ module _ (d : Name) (name : List ℕ) (new : NewNode) (x : Node) (is : made_node
       by : (kind : Kind) → made_as kind ≡ Some x → x.header.parent ≡ Some p → p ≡ d
       by File made e = let same : new_file new.owner new.group new.mode ≡ x = cc in let none : None ≡ Some p = rw (← same) at e in absurd (cc)
       by Dir made e = let same : new_dir new.owner new.group new.mode (Some d) ≡ x = cc in let here : Some d ≡ Some p = rw (← same) at e in cc
-      by Link made e = absurd (cc)
-      by Fifo made e = absurd (cc)
-      by Char made e = absurd (cc)
+      by kind made e = absurd (cc)
 
   -- it may be made where that directory's name was given
   made_in : (w : World) → Below w d → NewIn w d x
@@ -186,9 +157,7 @@ module _ (d : Name) (name : List ℕ) (new : NewNode) (x : Node) (is : made_node
       by Dir made =
           let same : new_dir new.owner new.group new.mode (Some d) ≡ x = cc in
           subst (NewIn w d) same (record { shape = refl; empty = refl; parent = rw (← same) at parent; below = λ e. refl })
-      by Link made = absurd (cc)
-      by Fifo made = absurd (cc)
-      by Char made = absurd (cc)
+      by kind made = absurd (cc)
 
   -- and it has the size that its server says
   made_fit : ((k : ServerKind) → GoodBehaviour (behaviour_of k)) → (i : ServerInfo) → keeps_tree i.kind ≡ true → IsSized (behaviour_of i.kind) i.text x
@@ -204,19 +173,6 @@ module _ (w : World) (n s : Name) (node : Node) (d : Name) (name : List ℕ) whe
 
   abbrev left : World
   left = apply_all (entered n s node d name) w
-
-  entered_within : (T : Part → Type 0) → T (TaskOf n.task.0) → T (AttrOf n) → T (EmptyOf n) → T (BodyOf n) → T (BodyOf d) → T (EmptyOf d) → AllWithin T w (entered n s node d name)
-  entered_within T task attr empty body dir_body dir_empty = ((task, attr, empty, body), ((dir_body, inl dir_empty), tt))
-
-  entered_rests : is_entered node.header ≡ true → home_at w n ≡ None → (i : ServerInfo) → server_at w s ≡ Some i → Rests w (entered n s node d name)
-  entered_rests is new i there = rests_quiet (entered n s node d name) w ((is, new, i, there), (tt, tt))
-
-  entered_sized : ((k : ServerKind) → GoodBehaviour (behaviour_of k)) → ((i : ServerInfo) → server_at w s ≡ Some i → IsSized (behaviour_of i.kind) i.text node) → KeepsSized w (entered n s node d name)
-  entered_sized good fit sized = sized_entry good made d name n (sized_made w n s node fit sized)
-
-  -- a task of S may make it where S saw the server, and the parent that it has
-  entered_may : (S : ℕ → Bool) (v : World) → S n.task.0 ≡ true → NewTo S v n → Sees S v (OptionsOf s) → ((p : Name) → node.header.parent ≡ Some p → SeenOrNew S v p) → AllMay S v w (entered n s node d name)
-  entered_may S v ours new served parent = ((ours, inl served, parent), (entry_may S v made d name n (inr new), tt))
 
   -- what is read of the new node afterwards
   pub entered_home : home_at left n ≡ Some s
@@ -240,12 +196,9 @@ module _ (w : World) (n s : Name) (node : Node) (d : Name) (name : List ℕ) whe
 
         good : GoodNode w s node
         good =
-            let there = c.housing.housed d s home in
-            let i = c.housing.homes d there.0 there.1 in
-            let same : i.0 ≡ s = cc (i.2, home) in
-            let is_server : server_at w s ≡ Some i.1 = subst (λ q. server_at w q ≡ Some i.1) same i.3 in
-            let tree : keeps_tree i.1.kind ≡ true = sym (ap tree_by (ap (info_in w.servers) home ∙ is_server)) ∙ keeps in
-            record { info = i.1; is_server = is_server; tree = tree; shape = new.shape; empty = new.empty; parent = new.parent }
+            let i = home_server c d s home in
+            let tree : keeps_tree i.0.kind ≡ true = sym (ap tree_by (ap (info_in w.servers) home ∙ i.1)) ∙ keeps in
+            record { info = i.0; is_server = i.1; tree = tree; shape = new.shape; empty = new.empty; parent = new.parent }
 
         new_entry : IsEntry made d n
         new_entry = record {
@@ -301,21 +254,17 @@ module _ (w : World) (n s : Name) (node : Node) (d : Name) (name : List ℕ) whe
 
       -- no server has a root that was never given
       no_root : is_server_root left n ≡ true → ⊥
-      no_root is = go (server_at w s) refl (sym (ap (is_root_of w.servers n) entered_home) ∙ is)
-        where
-          go : (o : Option ServerInfo) → server_at w s ≡ o → is_root_at n o ≡ true → ⊥
-          go None e h = true≢false (sym h)
-          go (Some i) e h = new (subst (Below w) (sym (equal_if_same n i.root h)) (home_old c i.root s (c.housing.roots s i e)))
+      no_root is =
+          let r = root_why (nodes_of left) n s entered_home is in
+          new (subst (Below w) (sym (equal_if_same n r.0.root r.2)) (home_old c r.0.root s (c.housing.roots s r.0 r.1)))
 
       hung : IsHung (nodes_of left) n
-      hung k e =
-          let same : node.header ≡ k = cc (entered_header, e) in
-          subst (Hangs (nodes_of left) n) same (record {
-            up = λ p ep. let u = hangs.up p ep in (u.0, subst (λ q. lists_at n (body_at left q) ≡ true) (sym u.1) listed);
-            top = λ is. absurd (no_root is);
-            once = λ dir. omega (arith, named_once);
-            links = λ tree. hangs.links ∙ one_link (is_dir node.header.kind) (times_listed left.nodes n) named_once;
-          })
+      hung = hung_as (nodes_of left) n node.header entered_header (record {
+        up = λ p ep. let u = hangs.up p ep in (u.0, subst (λ q. lists_at n (body_at left q) ≡ true) (sym u.1) listed);
+        top = λ is. absurd (no_root is);
+        once = λ dir. omega (arith, named_once);
+        links = λ tree. hangs.links ∙ one_link (is_dir node.header.kind) (times_listed left.nodes n) named_once;
+      })
 
       entered_linked : KeepsLinked w (entered n s node d name)
       entered_linked l = tied (nodes_of left) n (loosened IsLoose (entered n s node d name) w (made_loose, (entry_loose, tt)) (loose_any IsLoose (nodes_of w) l)) hung
@@ -326,14 +275,18 @@ pub entered_whole : ((k : ServerKind) → GoodBehaviour (behaviour_of k)) → {T
     → Whole t (Full w t T) w w (entered (fresh t x) s node d name)
 entered_whole good {T} {w} st t x is s d home {kind} name m up new node made_is is_in hangs body empty seen = record {
   piece = record {
-    within = entered_within w n s node d name (Full w t T) (own_task w t T) (inr (inr still)) (inr (inr still)) (inr (inr still)) (inl body) (inl empty);
+    within = ((own_task w t T, inr (inr still), inr (inr still), inr (inr still)), ((inl body, inl (inl empty)), tt));
     proper = entered_proper w n s node d name c next home (ap tree_by m.is_info ∙ m.tree) (absent w d name kind m) ready;
     linked = entered_linked w n s node d name c next m up ready.empty hangs st.linked;
-    sized = entered_sized w n s node d name good (λ i e. let same : m.info ≡ i = cc (is_server, e) in rw (← same) (made_fit d name new node made_is good m.info m.tree)) st.sizes;
-    may = λ S ours. entered_may w n s node d name S w ours (later_new S w t x x.made ours is (omega arith)) (OfNode d (seen S ours) home) (λ p e.
-        subst (SeenOrNew S w) (sym (made_parent d name new node made_is p e)) (inl (seen S ours)));
+    sized =
+        sized_entry good (made w n s node d name) d name n
+        (sized_made w n s node (λ i e. let same : m.info ≡ i = cc (is_server, e) in rw (← same) (made_fit d name new node made_is good m.info m.tree)) st.sizes);
+    may = λ S ours. (
+      (ours, inl (OfNode d (seen S ours) home), λ p e. subst (SeenOrNew S w) (sym (made_parent d name new node made_is p e)) (inl (seen S ours))),
+      (entry_may S w (made w n s node d name) d name n (inr (later_new S w t x x.made ours is (omega arith))), tt),
+    );
   };
-  rests = entered_rests w n s node d name is_in (no_home c n (next_not w n next)) m.info is_server st.settled;
+  rests = rests_quiet (entered n s node d name) w ((is_in, no_home c n still, m.info, is_server), (tt, tt)) st.settled;
 }
   where
     c : Coherent w

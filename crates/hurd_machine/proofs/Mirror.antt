@@ -10,7 +10,7 @@ use Rattle.hurd_ports.specs.declared.table.Right.{Right}
 use Rattle.hurd_ports.specs.declared.table.Right.TheVariants.{Io, Control, Start}
 use Rattle.hurd_ports.specs.Tables.{Task, rights_of, names_open, count_rights}
 use Rattle.hurd_ports.specs.Steps.{named, with_sent, edit_task}
-use Rattle.hurd_machine.specs.World.{World, IsAmong, task_at, open_at, header_at, body_at, home_at, active_at, server_at}
+use Rattle.hurd_machine.specs.World.{World, IsAmong, task_at, open_at, header_at, body_at, home_at, server_at}
 use Rattle.hurd_ports.specs.Weights.{one_if}
 use Rattle.hurd_nodes.specs.Held.{is_home}
 use Rattle.hurd_machine.specs.Sight.{Part, AttrOf, EmptyOf, BodyOf, OpenOf, OptionsOf, UsersOf, TaskOf, part, holders, is_on, users}
@@ -150,30 +150,13 @@ module _ (S : ℕ → Bool) (v x y : World) (before : Inside S v x) (cx : Cohere
   module _ (c : Change) (px : Proper x c) (py : Proper y c) (m : May S v x c) (after : Inside S v (apply c x)) where
     -- each part that S knows is alike afterwards
     next_same : (p : Part) → Known S v p → part (next_world c y) p ≡ part (next_world c x) p
-    next_same (AttrOf n) known =
-        let e = alike.parts (AttrOf n) known in
-        let h : header_at y n ≡ header_at x n = cc in
-        let k : active_at y n ≡ active_at x n = cc in
-        attr_same (header_alike x y c n h) (home_alike x y c n (home_same n known)) k
-    next_same (EmptyOf n) known =
-        let e = alike.parts (EmptyOf n) known in
-        let h : empty_in (get y.nodes n) ≡ empty_in (get x.nodes n) = cc in
-        ap AnEmpty (empty_alike x y c (emptiness c m) n h)
-    next_same (BodyOf n) known =
-        let e = alike.parts (BodyOf n) known in
-        let h : body_at y n ≡ body_at x n = cc in
-        ap ABody (body_alike x y c n h)
-    next_same (OpenOf o) known =
-        let e = alike.parts (OpenOf o) known in
-        let h : open_at y o ≡ open_at x o = cc in
-        let k : holders y o ≡ holders x o = cc in
-        ap₂ AnOpen (open_alike x y c o h) (holders_alike c px py m o k)
-    next_same (OptionsOf s) known =
-        let e = alike.parts (OptionsOf s) known in
-        let h : server_at y s ≡ server_at x s = cc in
-        ap AnOptions (server_alike x y c s h)
-    next_same (UsersOf s) known = let e = alike.parts (UsersOf s) known in let h : users y s ≡ users x s = cc in ap AUsers (users_alike c px py m after s h)
-    next_same (TaskOf q) known = let e = alike.parts (TaskOf q) known in let h : task_at y q ≡ task_at x q = cc in ap ATask (task_alike x y c q h)
+    next_same (AttrOf n) known = let e = alike.parts (AttrOf n) known in attr_same (header_alike x y c n (cc)) (home_alike x y c n (cc)) (cc)
+    next_same (EmptyOf n) known = let e = alike.parts (EmptyOf n) known in ap AnEmpty (empty_alike x y c (emptiness c m) n (cc))
+    next_same (BodyOf n) known = let e = alike.parts (BodyOf n) known in ap ABody (body_alike x y c n (cc))
+    next_same (OpenOf o) known = let e = alike.parts (OpenOf o) known in ap₂ AnOpen (open_alike x y c o (cc)) (holders_alike c px py m o (cc))
+    next_same (OptionsOf s) known = let e = alike.parts (OptionsOf s) known in ap AnOptions (server_alike x y c s (cc))
+    next_same (UsersOf s) known = let e = alike.parts (UsersOf s) known in ap AUsers (users_alike c px py m after s (cc))
+    next_same (TaskOf q) known = let e = alike.parts (TaskOf q) known in ap ATask (task_alike x y c q (cc))
 
 -- of what S knows of a node's bytes it knows the node
 attr_of : {S : ℕ → Bool} {v : World} (p : Part) (n : Name) → (p ≡ EmptyOf n) ⊎ (p ≡ BodyOf n) → Known S v p → Known S v (AttrOf n)

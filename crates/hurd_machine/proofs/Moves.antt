@@ -1,5 +1,5 @@
 -- A node moves from one directory to another, or gets another name, as a piece of any call: what lies below it still leads up.
-use Rattle.std.proofs.Common.{◌≡◌, ◌≢◌, ◌⊎◌, ◌∙◌, ℕ, ◌+◌, ◌≤◌, true, false, true≢false, cond, List, [], ◌∷◌, Option, Some, None, sym, refl, ap, ap₂, subst, inl, inr, arith}
+use Rattle.std.proofs.Common.{◌≡◌, ◌≢◌, ◌⊎◌, ◌∙◌, ℕ, ◌+◌, ◌≤◌, true, false, true≢false, cond, List, [], ◌∷◌, Some, sym, refl, ap, ap₂, subst, inl, inr, arith}
 use Rattle.std.specs.Option.{option_map}
 use Rattle.std.specs.FinMap.{get}
 use Rattle.hurd_creds.specs.declared.name.Name.{Name}
@@ -10,9 +10,9 @@ use Rattle.hurd_nodes.specs.Shown.{NodeState, is_root}
 use Rattle.hurd_machine.specs.World.{World, nodes_of, header_at, body_at, lists, lists_at}
 use Rattle.hurd_machine.specs.Change.{Change, EditHeader, EditBody, apply}
 use Rattle.hurd_machine.specs.Sound.{times_in, times_listed, LeadsUp, AtRoot, Above, Hangs}
-use Rattle.hurd_machine.proofs.Nodes.{header_in, body_in, edit_keeps, edit_reads, header-with_header, header-with_body, body-with_header, body-with_body}
+use Rattle.hurd_machine.proofs.Nodes.{header_in, body_in, edit_keeps, edit_reads, header-with_header, header-with_body, body-with_header, body-with_body, node_of_body}
 use Rattle.hurd_machine.proofs.Listed.{times_edited}
-use Rattle.hurd_machine.proofs.Links.{IsHung, Relisted, LinkedBut, KeepsLinked, loosened, loose_any, tied, still_hung, times_headed, times_entered, lists_entered, relisted_entry}
+use Rattle.hurd_machine.proofs.Links.{Relisted, LinkedBut, KeepsLinked, loosened, loose_any, tied, still_hung, times_headed, times_entered, lists_entered, relisted_entry, hung_as, leads_still}
 
 -- from a node one comes to its server's root, going up from parent to parent, and never meets n
 pub data LeadsAround (h : NodeState) (n : Name) : Name → Type 0 where
@@ -85,10 +85,6 @@ pub record Gets (w : World) (d e n : Name) (k j : Header) : Type 0 where
   pub below : k.kind ≡ Dir → k.parent ≡ Some d
   pub how : ((is_dir k.kind ≡ false) × (j.parent ≡ k.parent)) ⊎ ((k.kind ≡ Dir) × (j.parent ≡ Some e) × LeadsAround (nodes_of w) n e)
 
-pub node_of_body : (o : Option Node) (b : Body) → body_in o ≡ Some b → (x : Node) × (o ≡ Some x) × (x.body ≡ b)
-node_of_body None b h = absurd (cc)
-node_of_body (Some x) b h = (x, refl, cc)
-
 -- the node n is no entry of d any more, gets another header, and is then an entry of e, under a name that comes last
 module _ (w : World) (d e n : Name) (out : Body → Body) (f : Header → Header) (new : List ℕ) where
   abbrev pub moving : List Change
@@ -129,12 +125,8 @@ module _ (w : World) (d e n : Name) (out : Body → Body) (f : Header → Header
     turned_loose : LinkedBut IsLoose (nodes_of w) → LinkedBut IsLoose (nodes_of turned)
     turned_loose l = loose_turned taken_out n e f k (header_out n ∙ is) turns (out_loose l)
 
-    up_out : (m : Name) → LeadsUp (nodes_of w) m → LeadsUp (nodes_of taken_out) m
-    up_out m (AtRoot root) = AtRoot root
-    up_out m (Above p z h up rest) = Above p z (header_out m ∙ h) up (up_out p rest)
-
     up_turned : LeadsUp (nodes_of w) e → LeadsUp (nodes_of turned) e
-    up_turned up = led_on taken_out n e f k (header_out n ∙ is) turns e (up_out e up)
+    up_turned up = led_on taken_out n e f k (header_out n ∙ is) turns e (leads_still (nodes_of w) (nodes_of taken_out) (λ m root. root) (λ m z h. (z, header_out m ∙ h, refl)) e up)
 
     -- the directory e stands as it did, or without the entry that went
     body_e : (es : List Entry) → y.body ≡ Listing es → (zs : List Entry) × (body_at turned e ≡ Some (Listing zs))
@@ -185,13 +177,10 @@ module _ (w : World) (d e n : Name) (out : Body → Body) (f : Header → Header
         links = λ tree. gets.links ∙ h.links tree ∙ ap₂ (λ kind t. cond (is_dir kind) 1 t) (sym gets.kind) (sym counted);
       }
 
-      hung : Hangs (nodes_of w) n k → IsHung (nodes_of moved) n
-      hung h j e' = let same : f k ≡ j = cc (header_moved, e') in subst (Hangs (nodes_of moved) n) same (hangs h)
-
     pub moved_linked : LeadsUp (nodes_of w) e → (es : List Entry) → y.body ≡ Listing es → KeepsLinked w moving
     moved_linked up es shape l =
         let b = body_e es shape in
-        tied (nodes_of moved) n (loosened IsLoose (EditBody e (with_entry new n) ∷ []) turned (entry, tt) (turned_loose (loose_any IsLoose (nodes_of w) l))) (hung b.0 b.1 (l.nodes n k is))
+        tied (nodes_of moved) n (loosened IsLoose (EditBody e (with_entry new n) ∷ []) turned (entry, tt) (turned_loose (loose_any IsLoose (nodes_of w) l))) (hung_as (nodes_of moved) n (f k) header_moved (hangs b.0 b.1 (l.nodes n k is)))
       where
         entry : (b : Body) → body_at turned e ≡ Some b → Relisted IsLoose (nodes_of turned) e b (with_entry new n b)
         entry b e' = relisted_entry (nodes_of turned) e new n b (up_turned up)

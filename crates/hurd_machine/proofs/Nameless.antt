@@ -13,23 +13,23 @@ use Rattle.hurd_ports.specs.declared.parents.Parent.{Parent as Pair}
 use Rattle.hurd_ports.specs.declared.table.IoRight.{IoRight}
 use Rattle.hurd_ports.specs.declared.table.Right.{Right}
 use Rattle.hurd_ports.specs.declared.table.Right.TheVariants.{Io}
-use Rattle.hurd_ports.specs.Tables.{Task, fresh, ways_of, is_held, is_named, is_controlled}
+use Rattle.hurd_ports.specs.Tables.{Task, fresh, ways_of, is_held}
 use Rattle.hurd_ports.specs.Steps.{named, with_port, new_open, edit_task}
 use Rattle.hurd_machine.specs.World.{World, IsAmong, nodes_of, task_at, header_at, home_at, server_at}
 use Rattle.hurd_machine.specs.Sight.{Part, OptionsOf, UsersOf, TaskOf, Sees, Taken}
 use Rattle.hurd_machine.specs.Change.{Change, MakeNode, outside, stays, server_stays, apply, apply_all, opening}
-use Rattle.hurd_machine.specs.Sound.{Sound, Below, Coherent, times_listed, Hangs}
+use Rattle.hurd_machine.specs.Sound.{Sound, Below, Coherent, times_listed}
 use Rattle.hurd_machine.proofs.Nodes.{header_in}
 use Rattle.hurd_machine.proofs.Tasks.{edit_here}
-use Rattle.hurd_machine.proofs.Holders.{held_by_right, held_still, named_still, controlled_still}
+use Rattle.hurd_machine.proofs.Holders.{NameMore, still, still_more, held_by_right}
 use Rattle.hurd_machine.proofs.Stays.{server_more, kept_more, stays_named}
 use Rattle.hurd_machine.proofs.Rights.{port_keeps, port_has}
-use Rattle.hurd_machine.proofs.Coherence.{IsNext, HasNoEntries, AllProper, was, header_old, no_node, no_home, next_not, named_below}
+use Rattle.hurd_machine.proofs.Coherence.{IsNext, HasNoEntries, was, header_old, no_node, no_home, next_not, named_below}
 use Rattle.hurd_machine.proofs.Coherence as coherence
 use Rattle.hurd_machine.proofs.Settle.{Rests}
 use Rattle.hurd_machine.proofs.Frame.{Full}
 use Rattle.hurd_machine.proofs.Sizes.{sized_made}
-use Rattle.hurd_machine.proofs.Links.{IsHung, Loosens, KeepsLinked, loosened, loose_any, tied, named_grown, times_new}
+use Rattle.hurd_machine.proofs.Links.{IsHung, Loosens, KeepsLinked, loosened, loose_any, tied, named_grown, times_new, hung_as}
 use Rattle.hurd_machine.proofs.Confine.{NewTo, SeenOrNew}
 use Rattle.hurd_machine.proofs.Permits as permits
 use Rattle.hurd_machine.proofs.Permits.{opens_may}
@@ -87,14 +87,12 @@ module _ (w : World) (t : ℕ) (x : Task) (is : task_at w t ≡ Some x) (s : Nam
       unnamed = named_grown IsLoose w n s node loose n ∙ times_new w c n new
 
       hung : IsHung (nodes_of made) n
-      hung k e =
-          let same : node.header ≡ k = cc (header, e) in
-          subst (Hangs (nodes_of made) n) same (record {
-            up = λ p ep. absurd (cc (lone.alone, ep));
-            top = λ root. lone.alone;
-            once = λ dir. omega (arith, unnamed);
-            links = λ tree. lone.links ∙ sym unnamed ∙ ap (λ b. cond b 1 (times_listed made.nodes n)) (sym lone.file);
-          })
+      hung = hung_as (nodes_of made) n node.header header (record {
+        up = λ p ep. absurd (cc (lone.alone, ep));
+        top = λ root. lone.alone;
+        once = λ dir. omega (arith, unnamed);
+        links = λ tree. lone.links ∙ sym unnamed ∙ ap (λ b. cond b 1 (times_listed made.nodes n)) (sym lone.file);
+      })
 
   -- the new right names the file, and holds the new open
   abbrev io : IoRight
@@ -106,20 +104,10 @@ module _ (w : World) (t : ℕ) (x : Task) (is : task_at w t ≡ Some x) (s : Nam
   now : task_at left t ≡ Some (with_port right (named 1 (named 1 x)))
   now = edit_here t (with_port right) (edit_task t (named 1) made.tasks) (named 1 (named 1 x)) (edit_here t (named 1) made.tasks (named 1 x) seat)
 
-  named_yet : (m : Name) → is_named w.tasks m ≡ true → is_named left.tasks m ≡ true
-  named_yet m h =
-      named_still t (with_port right) (edit_task t (named 1) made.tasks) m (port_keeps right)
-      (named_still t (named 1) made.tasks m (λ y q k. k) (named_still t (named 1) w.tasks m (λ y q k. k) h))
-
-  held_yet : (o : Name) → is_held w.tasks o ≡ true → is_held left.tasks o ≡ true
-  held_yet o h =
-      held_still t (with_port right) (edit_task t (named 1) made.tasks) o (port_keeps right)
-      (held_still t (named 1) made.tasks o (λ y q k. k) (held_still t (named 1) w.tasks o (λ y q k. k) h))
-
-  controlled_yet : (q : Name) → is_controlled w.tasks q ≡ true → is_controlled left.tasks q ≡ true
-  controlled_yet q h =
-      controlled_still t (with_port right) (edit_task t (named 1) made.tasks) q (port_keeps right)
-      (controlled_still t (named 1) made.tasks q (λ y p k. k) (controlled_still t (named 1) w.tasks q (λ y p k. k) h))
+  yet : NameMore w.tasks left.tasks
+  yet =
+      still_more (still t (named 1) w.tasks (λ y q k. k))
+      (still_more (still t (named 1) made.tasks (λ y q k. k)) (still t (with_port right) (edit_task t (named 1) made.tasks) (port_keeps right)))
 
   file_stays : stays left n ≡ true
   file_stays = stays_named left t (with_port right (named 1 (named 1 x))) right n s i now (port_has right (named 1 (named 1 x))) (inl refl) home server
@@ -130,12 +118,12 @@ module _ (w : World) (t : ℕ) (x : Task) (is : task_at w t ≡ Some x) (s : Nam
       | inl new ↦ subst (λ k. stays left k ≡ true) (sym new.0) file_stays
       | inr old ↦
           kept_more (outside w) (outside left) (nodes_of w) (nodes_of left) m (λ q eh lives. (home_kept m q eh, refl, lives_yet q lives))
-          (λ k. ap is_entered_at (get_apart w.nodes n node m old.0) ∙ k) (named_yet m) (rest.nodes m y old.1)
+          (λ k. ap is_entered_at (get_apart w.nodes n node m old.0) ∙ k) (yet.named m) (rest.nodes m y old.1)
     ];
     servers = λ q j e. lives_yet q (rest.servers q j e);
     opens = λ o z e. elim (was w.opens io.open_name o (new_open modes) z e) [
       | inl new ↦ subst (λ k. is_held left.tasks k ≡ true) (sym new.0) (held_by_right left.tasks t (with_port right (named 1 (named 1 x))) io now (port_has right (named 1 (named 1 x))))
-      | inr old ↦ held_yet o (rest.opens o z old.1)
+      | inr old ↦ yet.held o (rest.opens o z old.1)
     ];
   }
     where
@@ -147,7 +135,7 @@ module _ (w : World) (t : ℕ) (x : Task) (is : task_at w t ≡ Some x) (s : Nam
 
       lives_yet : (q : Name) → server_stays w q ≡ true → server_stays left q ≡ true
       lives_yet q h =
-          server_more (outside w) (outside left) (nodes_of w) (nodes_of left) q (controlled_yet q) (λ m e. e) (λ m e held. (home_kept m q e, named_yet m held)) h
+          server_more (outside w) (outside left) (nodes_of w) (nodes_of left) q (yet.controlled q) (λ m e. e) (λ m e held. (home_kept m q e, yet.named m held)) h
 
   -- a task of S may make it where S saw the server, and open it by ids that S holds
   pub nameless_whole : {T : Part → Type 0} → Sound w → keeps_tree i.kind ≡ true → IsSized (behaviour_of i.kind) i.text node → ((m : Name) → IsAmong m (ways_of parents) → Below w m) → T (UsersOf s)
@@ -161,8 +149,8 @@ module _ (w : World) (t : ℕ) (x : Task) (is : task_at w t ≡ Some x) (s : Nam
       may = λ S ours. ((ours, inl (sees S ours).2, λ p e. absurd (cc (lone.alone, e))), tt);
     }) (λ d. opens_piece made t (named 1 x) seat n ids parents modes d own (inr (inr (later_new w t 1 x is))) (λ p on. let same : on.0 ≡ s = cc (on.1, home) in inl (rw (on.2, same) users))
         (named_below w c n next 1 n refl (omega arith)) (λ m way. coherence.named_still w c n next 1 m (up m way)) (λ writes h e. let same : node.header ≡ h = cc (header, e) in rw (← same) lone.file)
-        (λ S ours. opens_may S w made t (named 1 x) n ids parents modes ours (permits.later_new S w t x (x.made + 1) ours is (omega arith)) (inr (yet S ours)) (sees S ours).1 (inr (sees S ours).0)
-        (λ read h e. absurd ((yet S ours).1 (header_old c n h e)))));
+        (λ S ours. opens_may S w made t (named 1 x) n ids parents modes ours (permits.later_new S w t x (x.made + 1) ours is (omega arith)) (inr (fresh_yet S ours)) (sees S ours).1 (inr (sees S ours).0)
+        (λ read h e. absurd ((fresh_yet S ours).1 (header_old c n h e)))));
     rests = nameless_rests c st.settled;
   }
     where
@@ -178,5 +166,5 @@ module _ (w : World) (t : ℕ) (x : Task) (is : task_at w t ≡ Some x) (s : Nam
       own : Full w t T (TaskOf t)
       own = own_task w t T
 
-      yet : (S : ℕ → Bool) → S t ≡ true → NewTo S w n
-      yet S ours = permits.later_new S w t x x.made ours is (omega arith)
+      fresh_yet : (S : ℕ → Bool) → S t ≡ true → NewTo S w n
+      fresh_yet S ours = permits.later_new S w t x x.made ours is (omega arith)

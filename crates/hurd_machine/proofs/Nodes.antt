@@ -1,5 +1,5 @@
 -- What is read of a map of nodes after an edit, or after a node is made.
-use Rattle.std.proofs.Common.{◌≡◌, Bool, Option, Some, None, sym, refl, ◌∙◌, ap, inl, inr}
+use Rattle.std.proofs.Common.{◌≡◌, Bool, Option, Some, None, sym, refl, ◌∙◌, ap, inl, inr, ◌⊎◌}
 use Rattle.std.specs.Option.{option_map}
 use Rattle.std.specs.FinMap.{get, insert}
 use Rattle.hurd_creds.specs.declared.name.Name.{Name}
@@ -7,6 +7,7 @@ use Rattle.hurd_creds.specs.NameMaps.{NameMap, edit}
 use Rattle.hurd_creds.proofs.NameLaws.{same_or_apart, get_here, get_apart, edit_here, edit_apart}
 use Rattle.hurd_trans_iface.specs.Nodes.{Node, Header, Body, with_header, with_body, is_empty_dir}
 use Rattle.hurd_machine.specs.Sight.{AnAttr}
+use Rattle.hurd_nodes.specs.Shown.{NodeState, is_root, is_root_at, is_root_of, info_in, server_of}
 
 abbrev pub header_in : Option Node → Option Header
 header_in o = option_map (λ x. x.header) o
@@ -33,29 +34,41 @@ pub body-with_body : (g : Body → Body) (o : Option Node) → body_in (option_m
 body-with_body g None = refl
 body-with_body g (Some x) = refl
 
+-- two readings of an option are alike where they are of nothing and of something
+pub by_option : {X P : Type 0} (f g : Option X → P) → f None ≡ g None → ((x : X) → f (Some x) ≡ g (Some x)) → (o : Option X) → f o ≡ g o
+by_option f g none some None = none
+by_option f g none some (Some x) = some x
+
+-- whether a node is a server's root is settled by what is known of its server
+pub root_info : (h : NodeState) (n : Name) → is_root h n ≡ is_root_at n (server_of h n)
+root_info h n = by_option (is_root_of h.servers n) (λ o. is_root_at n (info_in h.servers o)) refl (λ s. refl) (get h.homes n)
+
 -- what comes of an edit of something was there
 pub edited_from : {X : Type 0} (f : X → X) (o : Option X) (z : X) → option_map f o ≡ Some z → (y : X) × (o ≡ Some y) × (f y ≡ z)
 edited_from f None z h = absurd (cc)
 edited_from f (Some y) z h = (y, refl, cc)
+
+-- what stands after an edit comes of what stood there, or was there
+pub was_edited : {X : Type 0} (m : NameMap X) (k n : Name) (f : X → X) (z : X) → get (edit k f m) n ≡ Some z → ((n ≡ k) × (y : X) × (get m k ≡ Some y) × (f y ≡ z)) ⊎ (get m n ≡ Some z)
+was_edited m k n f z e = elim (same_or_apart n k) [
+  | inl a ↦ let l = edited_from f (get m k) z (sym (edit_here m k f) ∙ rw a at e) in inl (a, l.0, l.1, l.2)
+  | inr a ↦ inr (sym (edit_apart m k f n a) ∙ e)
+]
 
 -- a header is of a node that stands there
 pub node_of_header : (o : Option Node) (h : Header) → header_in o ≡ Some h → (x : Node) × (o ≡ Some x) × (x.header ≡ h)
 node_of_header None h e = absurd (cc)
 node_of_header (Some x) h e = (x, refl, cc)
 
--- where no header, body or emptiness is, nothing stands
+-- and so is a body
+pub node_of_body : (o : Option Node) (b : Body) → body_in o ≡ Some b → (x : Node) × (o ≡ Some x) × (x.body ≡ b)
+node_of_body None b h = absurd (cc)
+node_of_body (Some x) b h = (x, refl, cc)
 
-pub no_header : (o : Option Node) → header_in o ≡ None → o ≡ None
-no_header None h = refl
-no_header (Some x) h = absurd (cc)
-
-pub no_body : (o : Option Node) → body_in o ≡ None → o ≡ None
-no_body None h = refl
-no_body (Some x) h = absurd (cc)
-
-pub no_emptiness : (o : Option Node) → empty_in o ≡ None → o ≡ None
-no_emptiness None h = refl
-no_emptiness (Some x) h = absurd (cc)
+-- where nothing is read, nothing stands
+pub none_mapped : {X Y : Type 0} (f : X → Y) (o : Option X) → option_map f o ≡ None → o ≡ None
+none_mapped f None h = refl
+none_mapped f (Some x) h = absurd (cc)
 
 -- what a projection reads after an edit by f, which does `act` to it
 module _ {X P : Type 0} (project : Option X → P) (act : P → P) (f : X → X) (acts : (o : Option X) → project (option_map f o) ≡ act (project o)) where

@@ -5,7 +5,6 @@ use Rattle.std.specs.Str.{bytes_eq}
 use Rattle.std.specs.FinMap.{get, insert}
 use Rattle.hurd_creds.specs.declared.name.Name.{Name}
 use Rattle.hurd_creds.specs.declared.open_flags.OpenFlags.{OpenFlags}
-use Rattle.hurd_creds.specs.declared.attrs.Want.{Want}
 use Rattle.hurd_creds.specs.Access.{IdSets}
 use Rattle.hurd_creds.specs.Bits.{asks, READ}
 use Rattle.hurd_creds.specs.Names.{name_of}
@@ -19,14 +18,14 @@ use Rattle.hurd_ports.specs.declared.table.IoRight.{IoRight}
 use Rattle.hurd_ports.specs.declared.table.Right.{Right}
 use Rattle.hurd_ports.specs.declared.table.Right.TheVariants.{Io}
 use Rattle.hurd_ports.specs.Tables.{Task, fresh, ways_of}
-use Rattle.hurd_ports.specs.Steps.{new_open}
+use Rattle.hurd_ports.specs.Steps.{new_open, with_port}
 use Rattle.hurd_machine.specs.World.{World, IsAmong, task_at, header_at}
-use Rattle.hurd_machine.specs.Sight.{HasUid, Taken, Could, Owns, Allowed, SeesBody}
+use Rattle.hurd_machine.specs.Sight.{HasUid, Taken, SeesBody}
 use Rattle.hurd_machine.specs.Change.{Change, EditBody, MakeOpen, Settle, apply, apply_all, changes_of, opening}
 use Rattle.hurd_machine.proofs.Rights.{port_rights}
 use Rattle.hurd_machine.proofs.Frame.{IsExact}
-use Rattle.hurd_machine.proofs.Confine.{NewTo, SeenOrNew, Less}
-use Rattle.hurd_machine.proofs.Allowed.{RightMay, IdsMay, May}
+use Rattle.hurd_machine.proofs.Confine.{NewTo, SeenOrNew, Less, less_same}
+use Rattle.hurd_machine.proofs.Allowed.{RightMay, May, gained_may}
 use Rattle.hurd_machine.proofs.Several.{AllMay}
 
 -- one list of changes after another
@@ -48,25 +47,7 @@ later_new S v t x k ours is up = (ours, λ b. let low : k < x.made = b x is in a
 -- a node is opened, of which S sees the body where it is opened to read
 pub opens_may : (S : ℕ → Bool) (v w : World) (t : ℕ) (x : Task) (n : Name) (ids : IdSets) (parents : List Pair) (modes : OpenFlags) → S t ≡ true → NewTo S v (fresh t x) → SeenOrNew S v n → ((m : Name) → IsAmong m (ways_of parents) → SeenOrNew S v m) → HasUid S v 0 ⊎ Taken S v ids
     → (asks modes READ ≡ true → (h : Header) → header_at v n ≡ Some h → SeesBody S v n h) → AllMay S v w (opening t x n ids parents modes)
-opens_may S v w t x n ids parents modes ours new seen ways power reads = (
-  ours,
-  (
-    (
-      ours,
-      λ a at. (
-        λ r h. elim (port_rights right a r h) [ inl old ↦ inl old | inr e ↦ inr (subst (RightMay S v opened) e may) ],
-        elim power [
-          | inl all ↦ inl all
-          | inr taken ↦ inr (record {
-            ids = inl refl;
-            rights = λ r h. elim (port_rights right a r h) [ inl old ↦ inl old | inr e ↦ inr (subst (IdsMay S v) e taken) ];
-          })
-        ],
-      ),
-    ),
-    tt,
-  ),
-)
+opens_may S v w t x n ids parents modes ours new seen ways power reads = (ours, ((ours, λ a at. gained_may S v opened right a (with_port right a) refl (port_rights right a) (may, power)), tt))
   where
     io : IoRight
     io = record { node = n; ids = ids; open_name = fresh t x; parents = parents }
@@ -100,11 +81,7 @@ bytes_may S v x n f = (inl (λ b c e. emptiness c ∙ e ∙ sym (emptiness b)), 
     entries name (Listing es) = refl
 
 pub size_may : (S : ℕ → Bool) (v : World) (n : Name) (k : ℕ) (h : Header) → Less S v n (with_size k h) h
-size_may S v n k h = record { kind = refl; parent = λ p e. inl e; could = could; owns = λ o. o }
-  where
-    could : (want : Want) → Could S v (with_size k h) want → Could S v h want
-    could want (Owns u has is) = Owns u has is
-    could want (Allowed ids taken may) = Allowed ids taken may
+size_may S v n k h = less_same S v n (with_size k h) h refl refl refl refl (λ p e. inl e)
 
 edits_may : (S : ℕ → Bool) (v x : World) (n : Name) (bytes : Option (List ℕ → List ℕ)) (size : Option ℕ) → AllMay S v x (changes_of (edit_bytes n bytes (edit_size n size)))
 edits_may S v x n None None = tt
@@ -131,23 +108,23 @@ filled name n (Content bs) = refl
 filled name n (Listing []) = refl
 filled name n (Listing (e ∷ es)) = refl
 
-entry_added : (name other : List ℕ) (n m : Name) (es : List Entry) → entry_in other (es ++ record { name = name; node = n } ∷ []) ≡ Some m → (entry_in other es ≡ Some m) ⊎ (n ≡ m)
+pub entry_added : (name other : List ℕ) (n m : Name) (es : List Entry) → entry_in other (es ++ record { name = name; node = n } ∷ []) ≡ Some m → (entry_in other es ≡ Some m) ⊎ ((bytes_eq name other ≡ true) × (n ≡ m))
 entry_added name other n m [] = go (bytes_eq name other)
   where
-    go : (b : Bool) → cond b (Some n) None ≡ Some m → (None ≡ Some m) ⊎ (n ≡ m)
-    go true h = inr cc
+    go : (b : Bool) → cond b (Some n) None ≡ Some m → (None ≡ Some m) ⊎ ((b ≡ true) × (n ≡ m))
+    go true h = inr (refl, cc)
     go false h = inl h
 entry_added name other n m (e ∷ es) = go (bytes_eq e.name other) (entry_added name other n m es)
   where
-    go : (b : Bool) → (entry_in other (es ++ record { name = name; node = n } ∷ []) ≡ Some m → (entry_in other es ≡ Some m) ⊎ (n ≡ m))
-        → cond b (Some e.node) (entry_in other (es ++ record { name = name; node = n } ∷ [])) ≡ Some m → (cond b (Some e.node) (entry_in other es) ≡ Some m) ⊎ (n ≡ m)
+    go : (b : Bool) → (entry_in other (es ++ record { name = name; node = n } ∷ []) ≡ Some m → (entry_in other es ≡ Some m) ⊎ ((bytes_eq name other ≡ true) × (n ≡ m)))
+        → cond b (Some e.node) (entry_in other (es ++ record { name = name; node = n } ∷ [])) ≡ Some m → (cond b (Some e.node) (entry_in other es) ≡ Some m) ⊎ ((bytes_eq name other ≡ true) × (n ≡ m))
     go true ih h = inl h
     go false ih h = ih h
 
 -- an entry afterwards was there, or is the new one
 entry_of_added : (name other : List ℕ) (n m : Name) (b : Body) → entry_of other (Some (with_entry name n b)) ≡ Some m → (entry_of other (Some b) ≡ Some m) ⊎ (n ≡ m)
 entry_of_added name other n m (Content bs) h = inl h
-entry_of_added name other n m (Listing es) h = entry_added name other n m es h
+entry_of_added name other n m (Listing es) h = elim (entry_added name other n m es h) [ inl old ↦ inl old | inr new ↦ inr new.1 ]
 
 pub entry_may : (S : ℕ → Bool) (v x : World) (d : Name) (name : List ℕ) (n : Name) → SeenOrNew S v n → May S v x (EditBody d (with_entry name n))
 entry_may S v x d name n known = (

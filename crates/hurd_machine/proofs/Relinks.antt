@@ -11,7 +11,7 @@ use Rattle.hurd_machine.specs.Change.{Change, EditHeader, EditBody, apply, apply
 use Rattle.hurd_machine.specs.Sound.{times_in, times_listed, LeadsUp, Hangs}
 use Rattle.hurd_machine.proofs.Nodes.{header_in, body_in, edit_keeps, edit_reads, header-with_header, header-with_body, body-with_body}
 use Rattle.hurd_machine.proofs.Listed.{times_edited}
-use Rattle.hurd_machine.proofs.Links.{IsHung, Relisted, Reheaded, Loosens, KeepsLinked, loosened, loose_any, tied, times_headed, times_entered, relisted_entry}
+use Rattle.hurd_machine.proofs.Links.{Relisted, Reheaded, Loosens, KeepsLinked, loosened, loose_any, tied, times_headed, times_entered, relisted_entry, hung_as}
 
 -- the node n is an entry of d more often or less often, and its header says so
 module _ (w : World) (d n : Name) (g : Body → Body) (f : Header → Header) (x : Node) (k : Header) where
@@ -40,13 +40,10 @@ module _ (w : World) (d n : Name) (g : Body → Body) (f : Header → Header) (x
     body_loose : Relisted IsLoose (nodes_of w) d x.body (g x.body) → Loosens IsLoose w (EditBody d g)
     body_loose may b e = let same : x.body ≡ b = cc in subst (λ z. Relisted IsLoose (nodes_of w) d z (g z)) same may
 
-    hung : Hangs (nodes_of relinked) n (f k) → IsHung (nodes_of relinked) n
-    hung hangs j e = let same : f k ≡ j = cc (header, e) in subst (Hangs (nodes_of relinked) n) same hangs
-
     -- a file has as many links more or less as entries
     pub file_linked : is_dir k.kind ≡ false → Relisted IsLoose (nodes_of w) d x.body (g x.body) → ((h : Header) → ((f h).kind ≡ h.kind) × ((f h).parent ≡ h.parent))
         → (f k).links + times_in n x.body ≡ k.links + times_in n (g x.body) → KeepsLinked w relinking
-    file_linked file may keeps links l = tied (nodes_of relinked) n (loosened IsLoose relinking w (body_loose may, (head, tt)) (loose_any IsLoose (nodes_of w) l)) (hung hangs)
+    file_linked file may keeps links l = tied (nodes_of relinked) n (loosened IsLoose relinking w (body_loose may, (head, tt)) (loose_any IsLoose (nodes_of w) l)) (hung_as (nodes_of relinked) n (f k) header hangs)
       where
         head : Reheaded IsLoose between n f
         head = record { kinds = λ h. (keeps h).0; parents = inl (λ h. (keeps h).1); links = inl refl }
@@ -72,7 +69,7 @@ module _ (w : World) (d n : Name) (g : Body → Body) (f : Header → Header) (x
         → ((m : Name) → lists m (g x.body) ≡ true → lists m x.body ≡ true) → times_in n (g x.body) ≤ times_in n x.body
         → ((h : Header) → ((f h).kind ≡ h.kind) × ((f h).links ≡ h.links)) → (f k).parent ≡ None → KeepsLinked w relinking
     dir_linked dir empty others fewer less keeps removed l =
-        tied (nodes_of relinked) n (loosened IsLoose relinking w (body_loose (record { times = others; fuller = inl fewer }), (head, tt)) (loose_any IsLoose (nodes_of w) l)) (hung hangs)
+        tied (nodes_of relinked) n (loosened IsLoose relinking w (body_loose (record { times = others; fuller = inl fewer }), (head, tt)) (loose_any IsLoose (nodes_of w) l)) (hung_as (nodes_of relinked) n (f k) header hangs)
       where
         body : body_at w d ≡ Some x.body
         body = ap body_in at

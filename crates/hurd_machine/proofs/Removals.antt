@@ -7,7 +7,6 @@ use Rattle.std.specs.Str.{bytes_eq}
 use Rattle.std.specs.FinMap.{get, insert}
 use Rattle.hurd_creds.specs.declared.name.Name.{Name}
 use Rattle.hurd_creds.specs.declared.attrs.Kind.TheVariants.{Dir}
-use Rattle.hurd_creds.specs.declared.attrs.Want.{Want}
 use Rattle.hurd_creds.specs.NameMaps.{edit}
 use Rattle.hurd_creds.specs.Names.{same_name}
 use Rattle.hurd_creds.proofs.NameLaws.{same_name-itself, same_name-apart, edit_found}
@@ -18,17 +17,19 @@ use Rattle.hurd_trans_iface.specs.Kinds.{ServerKind, behaviour_of}
 use Rattle.hurd_nodes.specs.Shown.{tree_by}
 use Rattle.hurd_machine.specs.World.{World, nodes_of, header_at, body_at, info_at, is_of, lists, lists_at}
 use Rattle.hurd_ports.specs.Weights.{one_if, count_list}
-use Rattle.hurd_machine.specs.Sight.{Part, AttrOf, EmptyOf, BodyOf, Sees, Could, Owns, Allowed}
+use Rattle.hurd_machine.specs.Sight.{Part, AttrOf, EmptyOf, BodyOf, Sees}
 use Rattle.hurd_machine.specs.Change.{Change, EditHeader, EditBody, apply, apply_all}
 use Rattle.hurd_machine.specs.Sound.{AreDistinct, HasDistinctNames, Coherent, Linked, times_in, times_listed}
-use Rattle.hurd_machine.proofs.Nodes.{header_in, body_in, node_of_header, header-with_body, edit_keeps}
+use Rattle.hurd_machine.proofs.Nodes.{header_in, body_in, node_of_header, header-with_body, edit_keeps, node_of_body}
 use Rattle.hurd_machine.proofs.Listed.{times_edited, times_named, dir_kind}
-use Rattle.hurd_machine.proofs.Coherence.{IsUnlisted, MayMove, Proper, entry_lists}
+use Rattle.hurd_machine.proofs.Coherence.{IsUnlisted, MayMove, Proper, entry_lists, entry_stands, none_if}
 use Rattle.hurd_machine.proofs.Sizes.{sized_append, sized_header, sized_removed}
-use Rattle.hurd_machine.proofs.Confine.{Less}
+use Rattle.hurd_machine.proofs.Confine.{Less, less_same}
 use Rattle.hurd_machine.proofs.Links.{Relisted}
 use Rattle.hurd_machine.proofs.Relinks.{file_linked, dir_linked}
 use Rattle.hurd_machine.proofs.Piece.{Stands, Piece}
+use Rattle.std.specs.Option.{option_map}
+use Rattle.std.proofs.lemmas.Bool.{cases_Bool}
 
 -- a directory with one entry less
 
@@ -52,17 +53,15 @@ pub entry_of_before : (name other : List ℕ) (m : Name) (b : Body) → HasDisti
 entry_of_before name other m (Content bs) d h = h
 entry_of_before name other m (Listing es) d h = entry_before name other m es d h
 
+-- a body without an entry has no entry more
+pub none_without : (name other : List ℕ) (o : Option Body) → ((b : Body) → o ≡ Some b → HasDistinctNames b) → entry_of other o ≡ None → entry_of other (option_map (without_entry name) o) ≡ None
+none_without name other None d none = none
+none_without name other (Some b) d none = none_if _ (λ m e. let old = entry_of_before name other m b (d b refl) e in cc)
+
 -- names stay distinct
 
-pub none_before : (name other : List ℕ) (es : List Entry) → entry_in other es ≡ None → entry_in other (less_entry name es) ≡ None
-none_before name other [] = λ h. h
-none_before name other (e ∷ es) = go (bytes_eq e.name name) (bytes_eq e.name other) refl (none_before name other es)
-  where
-    go : (a b : Bool) → bytes_eq e.name other ≡ b → (entry_in other es ≡ None → entry_in other (less_entry name es) ≡ None) → cond b (Some e.node) (entry_in other es) ≡ None
-        → entry_in other (if a then es else e ∷ less_entry name es) ≡ None
-    go a true eb ih h = absurd (cc)
-    go true false eb ih h = h
-    go false false eb ih h = rw eb (ih h)
+none_before : (name other : List ℕ) (es : List Entry) → AreDistinct es → entry_in other es ≡ None → entry_in other (less_entry name es) ≡ None
+none_before name other es d none = none_if _ (λ m e. let old = entry_before name other m es d e in cc)
 
 distinct_without : (name : List ℕ) (es : List Entry) → AreDistinct es → AreDistinct (less_entry name es)
 distinct_without name [] d = tt
@@ -70,7 +69,7 @@ distinct_without name (e ∷ es) d = go (bytes_eq e.name name) (distinct_without
   where
     go : (a : Bool) → AreDistinct (less_entry name es) → AreDistinct (if a then es else e ∷ less_entry name es)
     go true ih = d.1
-    go false ih = (none_before name e.name es d.0, ih)
+    go false ih = (none_before name e.name es d.1 d.0, ih)
 
 pub names_without : (name : List ℕ) (b : Body) → HasDistinctNames b → HasDistinctNames (without_entry name b)
 names_without name (Content bs) d = tt
@@ -123,11 +122,7 @@ times_others name n m b apart h = let all = times_without name n m b h in let no
 
 -- the bodies of a coherent world have distinct names
 pub distinct_at : (w : World) → Coherent w → (d : Name) (b : Body) → body_at w d ≡ Some b → HasDistinctNames b
-distinct_at w c d b is = go (get w.nodes d) refl is
-  where
-    go : (o : Option Node) → get w.nodes d ≡ o → body_in o ≡ Some b → HasDistinctNames b
-    go None at e = absurd (cc)
-    go (Some x) at e = let same : x.body ≡ b = cc in subst HasDistinctNames same (c.tree.distinct d x at)
+distinct_at w c d b is = let x = node_of_body (get w.nodes d) b is in subst HasDistinctNames x.2 (c.tree.distinct d x.0 x.1)
 
 -- what an entry less leaves of a world
 
@@ -177,9 +172,7 @@ pub cut_proper : (w : World) → Coherent w → (d : Name) (name : List ℕ) →
 cut_proper w c d name b is = record {
   shape = λ h. shape_without name b h;
   distinct = names_without name b;
-  entries = λ k e.
-      let there : lists_at k (body_at w d) ≡ true = ap (lists_at k) is ∙ lists_before name k b e in
-      record { made = c.given.entries d k there; kin = c.tree.kin d k there; tree = c.tree.trees d k there; below = λ h eh. c.tree.below d k h there eh };
+  entries = λ k e. entry_stands c d k (ap (lists_at k) is ∙ lists_before name k b e);
 }
 
 -- what was an entry once is none any more
@@ -201,11 +194,7 @@ module _ (d : Name) (name : List ℕ) (n : Name) where
 
   -- an entry less shows nothing
   unlinked_less : (S : ℕ → Bool) (v : World) (h : Header) → Less S v n (unlinked h) h
-  unlinked_less S v h = record { kind = refl; parent = λ p e. inl (parent_before h p e); could = could; owns = λ o. o }
-    where
-      could : (want : Want) → Could S v (unlinked h) want → Could S v h want
-      could want (Owns u has is) = Owns u has is
-      could want (Allowed ids taken may) = Allowed ids taken may
+  unlinked_less S v h = less_same S v n (unlinked h) h refl refl refl refl (λ p e. inl (parent_before h p e))
 
   module _ (w : World) (c : Coherent w) (m : MayRemove w d name n) where
     abbrev cut : World
@@ -249,21 +238,16 @@ module _ (d : Name) (name : List ℕ) (n : Name) where
         (dir_linked w d n (without_entry name) orphaned m.dir m.header m.is_dir m.is_header kind (m.empty kind) less.times (λ k e. lists_before name k m.dir.body e) (omega arith) (λ h. (refl, refl)) refl l)
 
     pub left_linked : Linked (nodes_of w) → Linked (nodes_of left)
-    left_linked l = go (is_dir m.header.kind) refl
-      where
-        go : (b : Bool) → is_dir m.header.kind ≡ b → Linked (nodes_of left)
-        go true e = dir_left l e
-        go false e = file_left l e
+    left_linked l = elim (cases_Bool (is_dir m.header.kind)) [ inl e ↦ dir_left l e | inr e ↦ file_left l e ]
 
     -- what was named keeps its parent, or is no entry any more and has none
     may_move : Linked (nodes_of w) → MayMove cut cut.nodes n (unlinked m.header).parent m.header.parent
-    may_move l = go (is_dir m.header.kind) refl
-      where
-        go : (b : Bool) → is_dir m.header.kind ≡ b → MayMove cut cut.nodes n (unlinked m.header).parent m.header.parent
-        go false e = inl (ap (λ (h : Header). h.parent) (file_unlinked m.header e))
-        go true e =
-            let none : (unlinked m.header).parent ≡ None = ap (λ (h : Header). h.parent) (dir_unlinked m.header e) in
-            inr (cut_unlisted w d name n m.dir m.is_dir m.entry ((l.nodes n m.header m.is_header).once (dir_kind m.header.kind e)), λ p is. absurd (cc (none, is)))
+    may_move l = elim (cases_Bool (is_dir m.header.kind)) [
+      | inl e ↦
+          let none : (unlinked m.header).parent ≡ None = ap (λ (h : Header). h.parent) (dir_unlinked m.header e) in
+          inr (cut_unlisted w d name n m.dir m.is_dir m.entry ((l.nodes n m.header m.is_header).once (dir_kind m.header.kind e)), λ p is. absurd (cc (none, is)))
+      | inr e ↦ inl (ap (λ (h : Header). h.parent) (file_unlinked m.header e))
+    ]
 
     head_proper : Linked (nodes_of w) → Proper cut (EditHeader n unlinked)
     head_proper l h is = let same : m.header ≡ h = cc (still, is) in subst (λ (k : Header). ((unlinked k).kind ≡ k.kind) × MayMove cut cut.nodes n (unlinked k).parent k.parent) same (refl, may_move l)

@@ -5,7 +5,6 @@ use Rattle.std.specs.Str.{bytes_eq}
 use Rattle.std.specs.FinMap.{get}
 use Rattle.hurd_creds.specs.declared.name.Name.{Name}
 use Rattle.hurd_creds.specs.declared.attrs.Kind.TheVariants.{Dir}
-use Rattle.hurd_creds.specs.declared.attrs.Want.{Want}
 use Rattle.hurd_creds.proofs.NameLaws.{same_or_apart, edit_apart}
 use Rattle.hurd_trans_iface.specs.Nodes.{Node, Entry, Header, Body, Content, Listing, is_dir, moved_to, with_header, with_body, with_entry, less_entry, without_entry}
 use Rattle.hurd_trans_iface.specs.Answers.{entry_in, entry_of}
@@ -13,25 +12,19 @@ use Rattle.hurd_trans_iface.specs.Good.{GoodBehaviour}
 use Rattle.hurd_trans_iface.specs.Kinds.{ServerKind, behaviour_of}
 use Rattle.hurd_nodes.specs.Shown.{info_in, tree_by}
 use Rattle.hurd_machine.specs.World.{World, nodes_of, header_at, body_at, home_at, lists_at}
-use Rattle.hurd_machine.specs.Sight.{Part, AttrOf, EmptyOf, BodyOf, Seen, Sees, Could, Owns, Allowed}
+use Rattle.hurd_machine.specs.Sight.{Part, AttrOf, EmptyOf, BodyOf, Seen, Sees}
 use Rattle.hurd_machine.specs.Change.{Change, EditHeader, EditBody, apply}
 use Rattle.hurd_machine.specs.Sound.{Below, AreDistinct, HasDistinctNames, Coherent, Linked, LeadsUp}
-use Rattle.hurd_machine.proofs.Nodes.{header_in, body_in, edit_keeps, edit_reads, header-with_header, header-with_body, body-with_header, body-with_body}
+use Rattle.hurd_machine.proofs.Nodes.{header_in, body_in, edit_keeps, edit_reads, header-with_header, header-with_body, body-with_header, body-with_body, node_of_body}
 use Rattle.hurd_machine.proofs.Listed.{dir_kind}
 use Rattle.hurd_machine.proofs.Coherence.{IsEntry, MayMove, Proper, AllProper, entry_lists, header_old}
 use Rattle.hurd_machine.proofs.Sizes.{sized_append, sized_header, sized_entry, sized_removed}
-use Rattle.hurd_machine.proofs.Confine.{SeenOrNew, Known, Less}
+use Rattle.hurd_machine.proofs.Confine.{SeenOrNew, Known, Less, less_same}
 use Rattle.hurd_machine.proofs.Permits.{entry_may}
 use Rattle.hurd_machine.proofs.Makes.{entry_proper}
-use Rattle.hurd_machine.proofs.Removals.{same_exact, none_before, entry_of_before, lists_before, times_taken, times_others, cut_proper, cut_unlisted, distinct_at}
-use Rattle.hurd_machine.proofs.Moves.{LeadsAround, Gets, TakesOne, node_of_body, moved_linked}
+use Rattle.hurd_machine.proofs.Removals.{same_exact, none_without, entry_of_before, lists_before, times_taken, times_others, cut_proper, cut_unlisted, distinct_at}
+use Rattle.hurd_machine.proofs.Moves.{LeadsAround, Gets, TakesOne, moved_linked}
 use Rattle.hurd_machine.proofs.Piece.{Stands, Piece}
-
--- a body without an entry has no entry more
-pub none_without : (name other : List ℕ) (o : Option Body) → entry_of other o ≡ None → entry_of other (option_map (without_entry name) o) ≡ None
-none_without name other None h = h
-none_without name other (Some (Content bs)) h = h
-none_without name other (Some (Listing es)) h = none_before name other es h
 
 -- the entry of a name is gone once it is taken out, and another's is still there
 
@@ -111,15 +104,11 @@ module _ (d : Name) (name : List ℕ) (n e : Name) (new : List ℕ) where
   going = EditBody d (without_entry name) ∷ EditHeader n (moved_to e) ∷ EditBody e (with_entry new n) ∷ []
 
   turned_less : (S : ℕ → Bool) (v : World) (h : Header) → Seen S v e → (is_dir h.kind ≡ true → Sees S v (EmptyOf n)) → Less S v n (moved_to e h) h
-  turned_less S v h to empty = record { kind = refl; parent = λ p is. by (is_dir h.kind) refl p is; could = could; owns = λ o. o }
+  turned_less S v h to empty = less_same S v n (moved_to e h) h refl refl refl refl (by (is_dir h.kind) refl)
     where
       by : (b : Bool) → is_dir h.kind ≡ b → (p : Name) → (if b then Some e else h.parent) ≡ Some p → (h.parent ≡ Some p) ⊎ (SeenOrNew S v p × Known S v (EmptyOf n))
       by true eb p is = let same : e ≡ p = cc in inr (inl (subst (Seen S v) same to), inl (empty eb))
       by false eb p is = inl is
-
-      could : (want : Want) → Could S v (moved_to e h) want → Could S v h want
-      could want (Owns u has is) = Owns u has is
-      could want (Allowed ids taken may) = Allowed ids taken may
 
   module _ (w : World) (c : Coherent w) (m : MayGo w d name n e new) where
     abbrev cut : World
@@ -158,7 +147,7 @@ module _ (d : Name) (name : List ℕ) (n e : Name) (new : List ℕ) where
         ∙ elim (same_or_apart e d) [
           | inl same ↦
               rw same (ap (entry_of new) (edit_reads body_in (option_map (without_entry name)) (with_body (without_entry name)) (body-with_body (without_entry name)) w.nodes d))
-              ∙ none_without name new (body_at w e) m.absent
+              ∙ none_without name new (body_at w e) (distinct_at w c e) m.absent
           | inr apart ↦ ap (λ o. entry_of new (body_in o)) (edit_apart w.nodes d (with_body (without_entry name)) e apart) ∙ m.absent
         ]
 

@@ -1,9 +1,10 @@
 -- Maps of which some names are kept.
-use Rattle.std.proofs.Common.{◌≡◌, Bool, true, false, cond, Option, Some, None, refl, sym, ◌∙◌, ap}
+use Rattle.std.proofs.Common.{◌≡◌, Bool, true, false, cond, Option, Some, None, refl, sym, ◌∙◌, ap, inl, inr}
 use Rattle.std.specs.FinMap.{get, retain_keys, get-retain_keys}
 use Rattle.hurd_creds.specs.declared.name.Name.{Name}
 use Rattle.hurd_creds.specs.NameMaps.{NameMap}
 use Rattle.hurd_creds.proofs.NameLaws.{name_exact, same_map_by}
+use Rattle.std.proofs.lemmas.Bool.{cases_Bool}
 
 module _ {X : Type 0} (m : NameMap X) (f : Name → Bool) (n : Name) where
   pub get-retained : get (retain_keys m f) n ≡ cond (f n) (get m n) None
@@ -17,23 +18,22 @@ module _ {X : Type 0} (m : NameMap X) (f : Name → Bool) (n : Name) where
 
   -- what is left was there, and is kept
   pub was_retained : (x : X) → get (retain_keys m f) n ≡ Some x → (get m n ≡ Some x) × (f n ≡ true)
-  was_retained x h = go (f n) refl
-    where
-      go : (b : Bool) → f n ≡ b → (get m n ≡ Some x) × (f n ≡ true)
-      go true k = (sym (retained k) ∙ h, k)
-      go false k = let gone : None ≡ Some x = sym (dropped k) ∙ h in absurd (cc)
+  was_retained x h = elim (cases_Bool (f n)) [
+    | inl k ↦ (sym (retained k) ∙ h, k)
+    | inr k ↦ let gone : None ≡ Some x = sym (dropped k) ∙ h in absurd (cc)
+  ]
 
   pub none_retained : get m n ≡ None → get (retain_keys m f) n ≡ None
-  none_retained e = go (f n) refl
+  none_retained e = elim (cases_Bool (f n)) [ inl k ↦ retained k ∙ e | inr k ↦ dropped k ]
+
+  -- what is kept if it stands is the same
+  pub retained_if : ((x : X) → get m n ≡ Some x → f n ≡ true) → get (retain_keys m f) n ≡ get m n
+  retained_if kept = go (get m n) refl
     where
-      go : (b : Bool) → f n ≡ b → get (retain_keys m f) n ≡ None
-      go true k = retained k ∙ e
-      go false k = dropped k
+      go : (o : Option X) → get m n ≡ o → get (retain_keys m f) n ≡ get m n
+      go (Some x) e = retained (kept x e)
+      go None e = none_retained e ∙ sym e
 
 -- where all that stands is kept, the map is the same
 pub retain_all : {X : Type 0} (m : NameMap X) (f : Name → Bool) → ((n : Name) (x : X) → get m n ≡ Some x → f n ≡ true) → retain_keys m f ≡ m
-retain_all {X} m f all = same_map_by _ _ (λ n. go n (get m n) refl)
-  where
-    go : (n : Name) (o : Option X) → get m n ≡ o → get (retain_keys m f) n ≡ get m n
-    go n (Some x) e = retained m f n (all n x e)
-    go n None e = none_retained m f n e ∙ sym e
+retain_all m f all = same_map_by _ _ (λ n. retained_if m f n (all n))

@@ -1,6 +1,5 @@
 -- A server gets another text, and its nodes their sizes, as a piece of any call.
 use Rattle.std.proofs.Common.{◌≡◌, ◌≢◌, ℕ, Bool, true, false, List, [], ◌∷◌, Option, Some, None, sym, refl, ◌∙◌, ap, subst, inl, inr}
-use Rattle.std.proofs.lemmas.Bool.{or_cases, or_left, or_right}
 use Rattle.std.specs.Prelude.{is_some}
 use Rattle.std.specs.List.{list_any}
 use Rattle.std.specs.Option.{option_map}
@@ -30,20 +29,21 @@ use Rattle.hurd_machine.proofs.Links.{AreSteady, linked_steady}
 use Rattle.hurd_machine.proofs.Several.{AllMay}
 use Rattle.hurd_machine.proofs.Permits.{size_may}
 use Rattle.hurd_machine.proofs.Piece.{Whole, whole_none, quiet}
+use Rattle.hurd_machine.proofs.Holders.{any_among, any_of}
+use Rattle.std.proofs.lemmas.Bool.{cases_Bool}
 
 -- the names in a map, as a list
 
 abbrev ties : Name → Name → Bool
 ties n m = eq_by_cmp name_cmp n m
 
-any_among : (n : Name) (ns : List Name) → IsAmong n ns → list_any (ties n) ns ≡ true
-any_among n [] i = absurd i
-any_among n (m ∷ ns) (inl e) = or_left (ties n m) (list_any (ties n) ns) (rw e (tied-itself n))
-any_among n (m ∷ ns) (inr i) = or_right (ties n m) (list_any (ties n) ns) (any_among n ns i)
-
 among_any : (n : Name) (ns : List Name) → list_any (ties n) ns ≡ true → IsAmong n ns
-among_any n [] h = absurd (cc)
-among_any n (m ∷ ns) h = elim (or_cases (ties n m) (list_any (ties n) ns) h) [ inl here ↦ inl (sym (equal_if_tied n m here)) | inr there ↦ inr (among_any n ns there) ]
+among_any n ns h = let l = any_of (ties n) ns h in subst (λ m. IsAmong m ns) (sym (equal_if_tied n l.0 l.2)) l.1
+
+-- whose server has the name s
+home_is : (s : Name) (o : Option Name) → is_home s o ≡ true → o ≡ Some s
+home_is s None h = absurd (cc)
+home_is s (Some q) h = ap Some (sym (equal_if_same s q h))
 
 -- a server's own nodes are among those of that list, and no others
 
@@ -58,14 +58,11 @@ own_home s n homes i = go (get own n) refl
     own : NameMap Name
     own = retain_keys homes (λ m. is_home s (get homes m))
 
-    here : (q : Name) → get homes n ≡ Some q → is_home s (get homes n) ≡ true → get homes n ≡ Some s
-    here q e h = e ∙ ap Some (sym (equal_if_same s q (ap (is_home s) (sym e) ∙ h)))
-
     go : (o : Option Name) → get own n ≡ o → get homes n ≡ Some s
     go None e =
-        let bad : false ≡ true = sym (ap is_some e) ∙ contains_key-keys own n ∙ any_among n (keys own) i in
+        let bad : false ≡ true = sym (ap is_some e) ∙ contains_key-keys own n ∙ any_among (ties n) n (keys own) i (tied-itself n) in
         absurd (cc)
-    go (Some q) e = let l = was_retained homes (λ m. is_home s (get homes m)) n q e in here q l.0 l.1
+    go (Some q) e = home_is s (get homes n) (was_retained homes (λ m. is_home s (get homes m)) n q e).1
 
 -- a server that has its root alone has the same nodes in both
 pub own_alone : (s r : Name) (a b : NameMap Name) → get a r ≡ Some s → get b r ≡ Some s → ((n : Name) → get a n ≡ Some s → n ≡ r) → ((n : Name) → get b n ≡ Some s → n ≡ r)
@@ -79,15 +76,10 @@ own_alone s r a b in_a in_b lone_a lone_b = ap keys (same_map_by _ _ (λ n. elim
     at_root m e = retained m (λ n. is_home s (get m n)) r (ap (is_home s) e ∙ same_name-itself s) ∙ e
 
     elsewhere : (m : NameMap Name) (n : Name) → (get m n ≡ Some s → ⊥) → get (retain_keys m (λ k. is_home s (get m k))) n ≡ None
-    elsewhere m n out = go (is_home s (get m n)) refl
-      where
-        other : (o : Option Name) → get m n ≡ o → is_home s o ≡ true → ⊥
-        other None e h = absurd (cc)
-        other (Some q) e h = out (e ∙ ap Some (sym (equal_if_same s q h)))
-
-        go : (h : Bool) → is_home s (get m n) ≡ h → get (retain_keys m (λ k. is_home s (get m k))) n ≡ None
-        go true h = absurd (other (get m n) refl h)
-        go false h = dropped m (λ k. is_home s (get m k)) n h
+    elsewhere m n out = elim (cases_Bool (is_home s (get m n))) [
+      | inl h ↦ absurd (out (home_is s (get m n) h))
+      | inr h ↦ dropped m (λ k. is_home s (get m k)) n h
+    ]
 
 -- nodes that get a size
 
@@ -126,25 +118,13 @@ module _ (k : ℕ) where
   sized_apart [] m n out = refl
   sized_apart (q ∷ ns) m n out = sized_apart ns (edit q sized m) n (λ i. out (inr i)) ∙ edit_apart m q sized n (λ e. out (inl (sym e)))
 
-  sizes_within : (T : Part → Type 0) (ns : List Name) (w : World) → ((n : Name) → IsAmong n ns → T (AttrOf n)) → AllWithin T w (sizes ns)
-  sizes_within T [] w attrs = tt
-  sizes_within T (n ∷ ns) w attrs = (attrs n (inl refl), sizes_within T ns (record w { nodes = edit n sized w.nodes }) (λ m i. attrs m (inr i)))
-
-  sizes_proper : (ns : List Name) (w : World) → AllProper w (sizes ns)
-  sizes_proper [] w = tt
-  sizes_proper (n ∷ ns) w = (λ h is. (refl, inl refl), λ one. sizes_proper ns (record w { nodes = edit n sized w.nodes }))
-
-  sizes_quiet : (ns : List Name) (w : World) → AreQuiet w (sizes ns)
-  sizes_quiet [] w = tt
-  sizes_quiet (n ∷ ns) w = (λ h e. e, sizes_quiet ns (record w { nodes = edit n sized w.nodes }))
-
-  sizes_steady : (ns : List Name) → AreSteady (sizes ns)
-  sizes_steady [] = tt
-  sizes_steady (n ∷ ns) = (λ h. (refl, refl, refl), sizes_steady ns)
-
-  sizes_may : (S : ℕ → Bool) (v x : World) (ns : List Name) → AllMay S v x (sizes ns)
-  sizes_may S v x [] = tt
-  sizes_may S v x (n ∷ ns) = (λ h is. size_may S v n k h, sizes_may S v (record x { nodes = edit n sized x.nodes }) ns)
+  -- they write headers alone, may be made, take nothing away, and leave how nodes hang
+  sizes_piece : (T : Part → Type 0) (ns : List Name) (w : World) → ((n : Name) → IsAmong n ns → T (AttrOf n))
+      → AllWithin T w (sizes ns) × AllProper w (sizes ns) × AreQuiet w (sizes ns) × AreSteady (sizes ns) × ((S : ℕ → Bool) (v : World) → AllMay S v w (sizes ns))
+  sizes_piece T [] w attrs = (tt, tt, tt, tt, λ S v. tt)
+  sizes_piece T (n ∷ ns) w attrs =
+      let l = sizes_piece T ns (record w { nodes = edit n sized w.nodes }) (λ m i. attrs m (inr i)) in
+      ((attrs n (inl refl), l.0), (λ h is. (refl, inl refl), λ one. l.1), (λ h e. e, l.2), (λ h. (refl, refl, refl), l.3), λ S v. (λ h is. size_may S v n k h, l.4 S v))
 
 -- the whole piece
 
@@ -198,12 +178,13 @@ module _ (w : World) (s : Name) (i : ServerInfo) where
   retexts_whole {t} {T} st is (Some text) keeps options attr =
       let k : ℕ = size_of i.kind text in
       let set : World = record w { servers = edit s (with_text text) w.servers } in
-      quiet (retexting w s i (Some text)) (tt, sizes_quiet k own set) st (record {
-        within = (options, sizes_within k T own set (λ n among. subst (λ m. T (AttrOf m)) (sym (root_alone st.coherent is text keeps n (own_home s n w.homes among))) attr));
-        proper = (tt, λ one. sizes_proper k own set);
-        linked = linked_steady (retexting w s i (Some text)) w (tt, sizes_steady k own) st.linked;
+      let l = sizes_piece k T own set (λ n among. subst (λ m. T (AttrOf m)) (sym (root_alone st.coherent is text keeps n (own_home s n w.homes among))) attr) in
+      quiet (retexting w s i (Some text)) (tt, l.2) st (record {
+        within = (options, l.0);
+        proper = (tt, λ one. l.1);
+        linked = linked_steady (retexting w s i (Some text)) w (tt, l.3) st.linked;
         sized = retexts_sized st.coherent is text keeps st.sizes;
-        may = λ S ours. (tt, sizes_may k S w set own);
+        may = λ S ours. (tt, l.4 S w);
       })
 
 -- in two worlds where it is known as the same server the piece is the same

@@ -12,12 +12,25 @@ use Rattle.hurd_machine.specs.World.{World, IsAmong, task_at}
 use Rattle.hurd_ports.specs.Weights.{one_if, count_list}
 use Rattle.hurd_ports.proofs.WeightLaws.{right_of_port, pending_weighs, port_weighs, weigh_dropped, weigh_received}
 use Rattle.hurd_machine.specs.Sound.{Below, Coherent}
-use Rattle.hurd_machine.proofs.Tasks.{among_left, among_right, among_cases, among_behind, among_map, among_mapped}
+use Rattle.hurd_machine.proofs.Tasks.{among_left, among_right, among_cases, among_map, among_mapped}
 use Rattle.hurd_machine.proofs.Coherence.{FineNew, FineRight, IsNew, Table}
 
--- the rights of a table and an inbox
-abbrev both_rights : List Port → List Right → List Right
-both_rights ps rs = map right_of_port ps ++ rs
+-- where a right of a task is: it is the one that it is to start, one of its table, or one of its inbox
+data Place (q : Right) (x : Task) : Type 0 where
+  Starts : IsAmong q (start_of x.pending) → Place q x
+  OfPort : IsAmong q (map right_of_port x.ports) → Place q x
+  Sent : IsAmong q x.inbox → Place q x
+
+placed : (q : Right) (x : Task) → Place q x → IsAmong q (rights_of x)
+placed q x (Starts i) = among_left q (start_of x.pending) (map right_of_port x.ports ++ x.inbox) i
+placed q x (OfPort i) = among_right q (start_of x.pending) (map right_of_port x.ports ++ x.inbox) (among_left q (map right_of_port x.ports) x.inbox i)
+placed q x (Sent i) = among_right q (start_of x.pending) (map right_of_port x.ports ++ x.inbox) (among_right q (map right_of_port x.ports) x.inbox i)
+
+places : (q : Right) (x : Task) → IsAmong q (rights_of x) → Place q x
+places q x h = elim (among_cases q (start_of x.pending) (map right_of_port x.ports ++ x.inbox) h) [
+  | inl i ↦ Starts i
+  | inr i ↦ elim (among_cases q (map right_of_port x.ports) x.inbox i) [ inl k ↦ OfPort k | inr k ↦ Sent k ]
+]
 
 -- the right under a number is one of the table
 right_among : (p : ℕ) (ps : List Port) (r : Right) → right_in p ps ≡ Some r → IsAmong r (map right_of_port ps)
@@ -29,7 +42,7 @@ right_among p (x ∷ ps) r = go (p == x.number) refl (right_among p ps r)
     go false e ih h = inr (ih (rw e at h))
 
 pub right_under : (p : ℕ) (x : Task) (r : Right) → right_in p x.ports ≡ Some r → IsAmong r (rights_of x)
-right_under p x r is = among_right r (start_of x.pending) (both_rights x.ports x.inbox) (among_left r (map right_of_port x.ports) x.inbox (right_among p x.ports r is))
+right_under p x r is = placed r x (OfPort (right_among p x.ports r is))
 
 -- a port goes
 
@@ -42,16 +55,14 @@ among_without p (x ∷ ps) q = go (p == x.number) refl (among_without p ps q)
     go false e ih h = elim (rw e at h) [ inl k ↦ inl k | inr k ↦ inr (ih k) ]
 
 pub without_rights : (p : ℕ) (x : Task) (r : Right) → IsAmong r (rights_of (without_port p x)) → IsAmong r (rights_of x)
-without_rights p x r h = among_behind r (start_of x.pending) (both_rights (ports_without p x.ports) x.inbox) (both_rights x.ports x.inbox) was h
+without_rights p x r h = placed r x (was (places r (without_port p x) h))
   where
-    was : IsAmong r (both_rights (ports_without p x.ports) x.inbox) → IsAmong r (both_rights x.ports x.inbox)
-    was i = elim (among_cases r (map right_of_port (ports_without p x.ports)) x.inbox i) [
-      | inl k ↦
-          let q = among_map right_of_port r (ports_without p x.ports) k in
-          let old = among_mapped right_of_port q.0 x.ports (among_without p x.ports q.0 q.1) in
-          among_left r (map right_of_port x.ports) x.inbox (subst (λ z. IsAmong z (map right_of_port x.ports)) q.2 old)
-      | inr k ↦ among_right r (map right_of_port x.ports) x.inbox k
-    ]
+    was : Place r (without_port p x) → Place r x
+    was (Starts i) = Starts i
+    was (Sent i) = Sent i
+    was (OfPort i) =
+        let q = among_map right_of_port r (ports_without p x.ports) i in
+        OfPort (subst (λ z. IsAmong z (map right_of_port x.ports)) q.2 (among_mapped right_of_port q.0 x.ports (among_without p x.ports q.0 q.1)))
 
 pub without_table : (w : World) → Coherent w → (t p : ℕ) (x : Task) → task_at w t ≡ Some x → Table w x (without_port p x)
 without_table w c t p x is = record {
@@ -61,12 +72,8 @@ without_table w c t p x is = record {
   numbers = λ q h. c.tables.numbers t x q is (among_without p x.ports q h);
 }
 
--- one right fewer of those that pass the test, if the one that goes does
-pub count_dropped : (T : Right → Bool) (p : ℕ) (x : Task) (r : Right) → right_in p x.ports ≡ Some r → count_list T (rights_of x) ≡ one_if (T r) + count_list T (rights_of (without_port p x))
-count_dropped T p x r is = weigh_dropped (λ q. one_if (T q)) p x r is
-
 pub without_counts : (T : Right → Bool) (p : ℕ) (x : Task) (r : Right) → right_in p x.ports ≡ Some r → T r ≡ false → count_list T (rights_of (without_port p x)) ≡ count_list T (rights_of x)
-without_counts T p x r is out = let all = count_dropped T p x r is in let none = ap one_if out in omega arith
+without_counts T p x r is out = let all = weigh_dropped (λ q. one_if (T q)) p x r is in let none = ap one_if out in omega arith
 
 -- a port comes
 
@@ -74,52 +81,37 @@ push_rights : (ps : List Port) (q : Port) → map right_of_port (ps ++ q ∷ [])
 push_rights [] q = refl
 push_rights (x ∷ ps) q = ap (λ (rs : List Right). x.right ∷ rs) (push_rights ps q)
 
--- the right of a port that comes stands before the inbox
-abbrev behind_start : Right → Task → List Right
-behind_start r x = (map right_of_port x.ports ++ r ∷ []) ++ x.inbox
-
-abbrev port_split : Right → Task → List Right
-port_split r x = start_of x.pending ++ behind_start r x
-
-port_splits : (r : Right) (x : Task) → rights_of (with_port r x) ≡ port_split r x
-port_splits r x = ap (λ (rs : List Right). start_of x.pending ++ (rs ++ x.inbox)) (push_rights x.ports (record { number = x.next; right = r }))
+-- the right of a port that comes is the last of the table
+last_right : (r : Right) (x : Task) → map right_of_port (with_port r x).ports ≡ map right_of_port x.ports ++ r ∷ []
+last_right r x = push_rights x.ports (record { number = x.next; right = r })
 
 pub port_rights : (r : Right) (x : Task) (q : Right) → IsAmong q (rights_of (with_port r x)) → IsAmong q (rights_of x) ⊎ (r ≡ q)
-port_rights r x q h =
-    elim (among_cases q (start_of x.pending) (behind_start r x) (subst (λ (rs : List Right). IsAmong q rs) (port_splits r x) h)) [
-      | inl pending ↦ inl (among_left q (start_of x.pending) (both_rights x.ports x.inbox) pending)
-      | inr behind ↦ elim (among_cases q (map right_of_port x.ports ++ r ∷ []) x.inbox behind) [
-        | inl of_ports ↦ elim (among_cases q (map right_of_port x.ports) (r ∷ []) of_ports) [
-          | inl old ↦ inl (among_right q (start_of x.pending) (both_rights x.ports x.inbox) (among_left q (map right_of_port x.ports) x.inbox old))
-          | inr new ↦ elim new [ inl e ↦ inr e | inr out ↦ absurd out ]
-        ]
-        | inr sent ↦ inl (among_right q (start_of x.pending) (both_rights x.ports x.inbox) (among_right q (map right_of_port x.ports) x.inbox sent))
-      ]
+port_rights r x q h = was (places q (with_port r x) h)
+  where
+    was : Place q (with_port r x) → IsAmong q (rights_of x) ⊎ (r ≡ q)
+    was (Starts i) = inl (placed q x (Starts i))
+    was (Sent i) = inl (placed q x (Sent i))
+    was (OfPort i) = elim (among_cases q (map right_of_port x.ports) (r ∷ []) (subst (λ (rs : List Right). IsAmong q rs) (last_right r x) i)) [
+      | inl old ↦ inl (placed q x (OfPort old))
+      | inr new ↦ elim new [ inl e ↦ inr e | inr out ↦ absurd out ]
     ]
 
 -- the rights that it had it has
 pub port_keeps : (r : Right) (x : Task) (q : Right) → IsAmong q (rights_of x) → IsAmong q (rights_of (with_port r x))
-port_keeps r x q h =
-    subst (λ (rs : List Right). IsAmong q rs) (sym (port_splits r x))
-    (among_behind q (start_of x.pending) (both_rights x.ports x.inbox) (behind_start r x)
-    (λ i. elim (among_cases q (map right_of_port x.ports) x.inbox i) [
-      | inl k ↦ among_left q (map right_of_port x.ports ++ r ∷ []) x.inbox (among_left q (map right_of_port x.ports) (r ∷ []) k)
-      | inr k ↦ among_right q (map right_of_port x.ports ++ r ∷ []) x.inbox k
-    ])
-    h)
+port_keeps r x q h = placed q (with_port r x) (yet (places q x h))
+  where
+    yet : Place q x → Place q (with_port r x)
+    yet (Starts i) = Starts i
+    yet (Sent i) = Sent i
+    yet (OfPort i) = OfPort (subst (λ (rs : List Right). IsAmong q rs) (sym (last_right r x)) (among_left q (map right_of_port x.ports) (r ∷ []) i))
 
 -- and the new one
 pub port_has : (r : Right) (x : Task) → IsAmong r (rights_of (with_port r x))
 port_has r x =
-    subst (λ (rs : List Right). IsAmong r rs) (sym (port_splits r x))
-    (among_right r (start_of x.pending) (behind_start r x)
-    (among_left r (map right_of_port x.ports ++ r ∷ []) x.inbox (among_right r (map right_of_port x.ports) (r ∷ []) (inl refl))))
-
-pub port_counted : (T : Right → Bool) (r : Right) (x : Task) → count_list T (rights_of (with_port r x)) ≡ count_list T (rights_of x) + one_if (T r)
-port_counted T r x = port_weighs (λ q. one_if (T q)) r x
+    placed r (with_port r x) (OfPort (subst (λ (rs : List Right). IsAmong r rs) (sym (last_right r x)) (among_right r (map right_of_port x.ports) (r ∷ []) (inl refl))))
 
 pub port_counts : (T : Right → Bool) (r : Right) (x : Task) → T r ≡ false → count_list T (rights_of (with_port r x)) ≡ count_list T (rights_of x)
-port_counts T r x out = let all = port_counted T r x in let none = ap one_if out in omega arith
+port_counts T r x out = let all = port_weighs (λ q. one_if (T q)) r x in let none = ap one_if out in omega arith
 
 push_numbers : (ps : List Port) (n : ℕ) (r : Right) (q : Port) → ((k : Port) → IsAmong k ps → k.number < n) → IsAmong q (ps ++ record { number = n; right = r } ∷ []) → q.number < n + 1
 push_numbers ps n r q old h = elim (among_cases q ps (record { number = n; right = r } ∷ []) h) [
@@ -147,30 +139,27 @@ received_rights x q = go x.inbox
     go : (rs : List Right) → IsAmong q (rights_of (received (with_inbox rs x))) → IsAmong q (rights_of (with_inbox rs x))
     go [] h = h
     go (r ∷ rs) h = elim (port_rights r (with_inbox rs x) q h) [
-      | inl old ↦ among_behind q (start_of x.pending) (both_rights x.ports rs) (both_rights x.ports (r ∷ rs))
-          (λ i. elim (among_cases q (map right_of_port x.ports) rs i) [
-            | inl k ↦ among_left q (map right_of_port x.ports) (r ∷ rs) k
-            | inr k ↦ among_right q (map right_of_port x.ports) (r ∷ rs) (inr k)
-          ])
-          old
-      | inr e ↦ among_right q (start_of x.pending) (both_rights x.ports (r ∷ rs)) (among_right q (map right_of_port x.ports) (r ∷ rs) (inl e))
+      | inl old ↦ placed q (with_inbox (r ∷ rs) x) (was r rs (places q (with_inbox rs x) old))
+      | inr e ↦ placed q (with_inbox (r ∷ rs) x) (Sent (inl e))
     ]
+      where
+        was : (r : Right) (rs : List Right) → Place q (with_inbox rs x) → Place q (with_inbox (r ∷ rs) x)
+        was r rs (Starts i) = Starts i
+        was r rs (OfPort i) = OfPort i
+        was r rs (Sent i) = Sent (inr i)
 
 pub received_keeps : (x : Task) (q : Right) → IsAmong q (rights_of x) → IsAmong q (rights_of (received x))
 received_keeps x q = go x.inbox
   where
     go : (rs : List Right) → IsAmong q (rights_of (with_inbox rs x)) → IsAmong q (rights_of (received (with_inbox rs x)))
     go [] h = h
-    go (r ∷ rs) h = elim (among_cases q (start_of x.pending) (both_rights x.ports (r ∷ rs)) h) [
-      | inl s ↦ port_keeps r (with_inbox rs x) q (among_left q (start_of x.pending) (both_rights x.ports rs) s)
-      | inr i ↦ elim (among_cases q (map right_of_port x.ports) (r ∷ rs) i) [
-        | inl k ↦ port_keeps r (with_inbox rs x) q (among_right q (start_of x.pending) (both_rights x.ports rs) (among_left q (map right_of_port x.ports) rs k))
-        | inr k ↦ elim k [
-          | inl e ↦ subst (λ z. IsAmong z (rights_of (with_port r (with_inbox rs x)))) e (port_has r (with_inbox rs x))
-          | inr old ↦ port_keeps r (with_inbox rs x) q (among_right q (start_of x.pending) (both_rights x.ports rs) (among_right q (map right_of_port x.ports) rs old))
-        ]
-      ]
-    ]
+    go (r ∷ rs) h = yet r rs (places q (with_inbox (r ∷ rs) x) h)
+      where
+        yet : (r : Right) (rs : List Right) → Place q (with_inbox (r ∷ rs) x) → IsAmong q (rights_of (with_port r (with_inbox rs x)))
+        yet r rs (Starts i) = port_keeps r (with_inbox rs x) q (placed q (with_inbox rs x) (Starts i))
+        yet r rs (OfPort i) = port_keeps r (with_inbox rs x) q (placed q (with_inbox rs x) (OfPort i))
+        yet r rs (Sent (inl e)) = subst (λ z. IsAmong z (rights_of (with_port r (with_inbox rs x)))) e (port_has r (with_inbox rs x))
+        yet r rs (Sent (inr i)) = port_keeps r (with_inbox rs x) q (placed q (with_inbox rs x) (Sent i))
 
 pub received_counts : (T : Right → Bool) (x : Task) → count_list T (rights_of (received x)) ≡ count_list T (rights_of x)
 received_counts T x = weigh_received (λ r. one_if (T r)) x
@@ -204,10 +193,12 @@ ids_table w c t ids x is = record { new = None; fine = tt; rights = λ r h. inl 
 -- another thing to start, or nothing: that right comes in the place of the one that was
 
 pub pending_rights : (p : Option PendingStart) (x : Task) (r : Right) → IsAmong r (rights_of (with_pending p x)) → IsAmong r (rights_of x) ⊎ IsAmong r (start_of p)
-pending_rights p x r h = elim (among_cases r (start_of p) (both_rights x.ports x.inbox) h) [
-  | inl new ↦ inr new
-  | inr old ↦ inl (among_right r (start_of x.pending) (both_rights x.ports x.inbox) old)
-]
+pending_rights p x r h = was (places r (with_pending p x) h)
+  where
+    was : Place r (with_pending p x) → IsAmong r (rights_of x) ⊎ IsAmong r (start_of p)
+    was (Starts i) = inr i
+    was (OfPort i) = inl (placed r x (OfPort i))
+    was (Sent i) = inl (placed r x (Sent i))
 
 -- as many rights pass a test that no pending start passes
 none_started : (T : Right → Bool) → ((n : Name) → T (Start n) ≡ false) → (p : Option PendingStart) → count_list T (start_of p) ≡ 0

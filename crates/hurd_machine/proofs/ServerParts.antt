@@ -13,32 +13,39 @@ use Rattle.hurd_ports.specs.declared.table.Right.TheVariants.{Io, Control, Start
 use Rattle.hurd_ports.specs.Tables.{Task, rights_of, names_open, count_rights}
 use Rattle.hurd_ports.specs.Steps.{named, edit_task}
 use Rattle.hurd_ports.proofs.TaskLaws.{edit-apart}
-use Rattle.hurd_machine.specs.World.{World, IsAmong, task_at, open_at, header_at, body_at, home_at, active_at, server_at}
+use Rattle.hurd_machine.specs.World.{World, IsAmong, open_at, home_at, active_at, server_at}
 use Rattle.hurd_machine.specs.Sight.{Part, AttrOf, EmptyOf, BodyOf, OpenOf, OptionsOf, UsersOf, TaskOf, part, is_on, users, holders, AnEmpty, ABody, AnOpen, AnOptions, AUsers, ATask}
 use Rattle.hurd_machine.specs.Change.{DropServer, Unseat, apply}
 use Rattle.hurd_machine.specs.Touched.{Goes}
 use Rattle.hurd_machine.specs.Sound.{Below, Coherent}
-use Rattle.hurd_machine.proofs.Nodes.{attr_same, header_in, body_in, empty_in, insert_alike}
+use Rattle.hurd_machine.proofs.Nodes.{attr_same, header_in, body_in, empty_in, insert_alike, by_option}
 use Rattle.hurd_machine.proofs.Retained.{get-retained}
 use Rattle.hurd_machine.proofs.Tasks.{count_named, count_alike, edit_same}
 use Rattle.hurd_machine.proofs.Coherence.{IsNext, Comes, unnoded}
 use Rattle.hurd_machine.proofs.Comes.{come_world, root_new}
+use Rattle.std.proofs.lemmas.Bool.{cases_Bool}
+use Rattle.hurd_ports.specs.declared.table.IoRight.{IoRight}
 
 pub not_home : (s : Name) (o : Option Name) → (o ≡ Some s → ⊥) → is_home s o ≡ false
 not_home s None h = refl
 not_home s (Some q) h = same_name-apart s q (λ e. h (ap Some (sym e)))
 
+-- a server has the same users where the nodes of rights have servers as they had
+pub users_by : (w y : World) (s : Name) (ts : List Task) → ((t : ℕ) (x : Task) (r : IoRight) → slice_get ts t ≡ Some x → IsAmong (Io r) (rights_of x) → is_home s (home_at y r.node) ≡ is_home s (home_at w r.node))
+    → count_rights (is_on y s) ts ≡ count_rights (is_on w s) ts
+users_by w y s ts same = count_alike (is_on y s) (is_on w s) ts on
+  where
+    on : (t : ℕ) (x : Task) (r : Right) → slice_get ts t ≡ Some x → IsAmong r (rights_of x) → is_on y s r ≡ is_on w s r
+    on t x (Io r) at i = same t x r at i
+    on t x (Control q) at i = refl
+    on t x (Start n) at i = refl
+
 -- where a task named a thing and a node got a server under a name that was not given, each server has as many users
 pub users_named : (w y : World) (c : Coherent w) (n : Name) (next : IsNext w n) (k : ℕ) (m s : Name) → (Below w m → ⊥) → y.homes ≡ insert w.homes m s → y.tasks ≡ edit_task n.task.0 (named k) w.tasks → (q : Name) → users y q ≡ users w q
 users_named w y c n next k m s new homes tasks q =
     ap (count_rights (is_on y q)) tasks
-    ∙ count_alike (is_on y q) (is_on w q) (edit_task n.task.0 (named k) w.tasks) same
+    ∙ users_by w y q (edit_task n.task.0 (named k) w.tasks) (λ t x r at i. ap (is_home q) (ap (λ h. get h r.node) homes ∙ get_apart w.homes m s r.node (unnoded w c n next k m new t x r at i)))
     ∙ count_named (is_on w q) n.task.0 k w.tasks next.seat next.is_task
-  where
-    same : (t : ℕ) (x : Task) (r : Right) → slice_get (edit_task n.task.0 (named k) w.tasks) t ≡ Some x → IsAmong r (rights_of x) → is_on y q r ≡ is_on w q r
-    same t x (Io r) at i = ap (is_home q) (ap (λ h. get h r.node) homes ∙ get_apart w.homes m s r.node (unnoded w c n next k m new t x r at i))
-    same t x (Control p) at i = refl
-    same t x (Start m) at i = refl
 
 -- nothing is counted that passes no test
 pub none_counted : (ts : List Task) → count_rights (λ r. false) ts ≡ 0
@@ -77,19 +84,15 @@ module _ (w : World) (c : Coherent w) (s at : Name) (i : ServerInfo) (node : Nod
 module _ (x y : World) (cx : Coherent x) (cy : Coherent y) (s at : Name) (i : ServerInfo) (node : Node) (px : Comes x s at i node) (py : Comes y s at i node) where
   pub come_alike : (k : Part) → part y k ≡ part x k → part (come_world y s at i node) k ≡ part (come_world x s at i node) k
   come_alike (AttrOf n) e =
-      let header : header_at y n ≡ header_at x n = cc in
-      let home : home_at y n ≡ home_at x n = cc in
-      let active : active_at y n ≡ active_at x n = cc in
-      attr_same (insert_alike header_in x.nodes y.nodes i.root n node header) (insert_alike (λ z. z) x.homes y.homes i.root n s home) (insert_alike (λ z. z) x.actives y.actives at n s active)
-  come_alike (EmptyOf n) e = let empty : empty_in (get y.nodes n) ≡ empty_in (get x.nodes n) = cc in ap AnEmpty (insert_alike empty_in x.nodes y.nodes i.root n node empty)
-  come_alike (BodyOf n) e = let body : body_at y n ≡ body_at x n = cc in ap ABody (insert_alike body_in x.nodes y.nodes i.root n node body)
+      attr_same (insert_alike header_in x.nodes y.nodes i.root n node (cc)) (insert_alike (λ z. z) x.homes y.homes i.root n s (cc)) (insert_alike (λ z. z) x.actives y.actives at n s (cc))
+  come_alike (EmptyOf n) e = ap AnEmpty (insert_alike empty_in x.nodes y.nodes i.root n node (cc))
+  come_alike (BodyOf n) e = ap ABody (insert_alike body_in x.nodes y.nodes i.root n node (cc))
   come_alike (OpenOf o) e =
-      let opened : open_at y o ≡ open_at x o = cc in
       let held : holders y o ≡ holders x o = cc in
-      ap₂ AnOpen opened (come_holders y cy s at i node py o ∙ held ∙ sym (come_holders x cx s at i node px o))
-  come_alike (OptionsOf q) e = let server : server_at y q ≡ server_at x q = cc in ap AnOptions (insert_alike (λ z. z) x.servers y.servers s q i server)
+      ap₂ AnOpen (cc) (come_holders y cy s at i node py o ∙ held ∙ sym (come_holders x cx s at i node px o))
+  come_alike (OptionsOf q) e = ap AnOptions (insert_alike (λ z. z) x.servers y.servers s q i (cc))
   come_alike (UsersOf q) e = let used : users y q ≡ users x q = cc in ap AUsers (come_users y cy s at i node py q ∙ used ∙ sym (come_users x cx s at i node px q))
-  come_alike (TaskOf t) e = let task : task_at y t ≡ task_at x t = cc in ap ATask (edit_same s.task.0 (named 2) x.tasks y.tasks t task)
+  come_alike (TaskOf t) e = ap ATask (edit_same s.task.0 (named 2) x.tasks y.tasks t (cc))
 
 -- a server that went
 
@@ -114,20 +117,13 @@ module _ (w : World) (s : Name) where
 
   -- whether a node is of another server is as it was
   same_home : (q : Name) → q ≢ s → (o : Option Name) → is_home q (cond (not (is_home s o)) o None) ≡ is_home q o
-  same_home q apart None = refl
-  same_home q apart (Some z) = go (same_name s z) refl
-    where
-      go : (b : Bool) → same_name s z ≡ b → is_home q (cond (not b) (Some z) None) ≡ same_name q z
-      go true e = let same : s ≡ z = equal_if_same s z e in sym (ap (same_name q) (sym same) ∙ same_name-apart q s apart)
-      go false e = refl
+  same_home q apart = by_option (λ o. is_home q (cond (not (is_home s o)) o None)) (is_home q) refl (λ z. elim (cases_Bool (same_name s z)) [
+    | inl e ↦ ap (λ b. is_home q (cond (not b) (Some z) None)) e ∙ sym (ap (same_name q) (sym (equal_if_same s z e)) ∙ same_name-apart q s apart)
+    | inr e ↦ ap (λ b. is_home q (cond (not b) (Some z) None)) e
+  ])
 
   users_apart : (q : Name) → q ≢ s → users dropped q ≡ users w q
-  users_apart q apart = count_alike (is_on dropped q) (is_on w q) w.tasks (λ t x r i k. on r)
-    where
-      on : (r : Right) → is_on dropped q r ≡ is_on w q r
-      on (Io r) = ap (is_home q) (home_after r.node) ∙ same_home q apart (home_at w r.node)
-      on (Control z) = refl
-      on (Start m) = refl
+  users_apart q apart = users_by w dropped q w.tasks (λ t x r at i. ap (is_home q) (home_after r.node) ∙ same_home q apart (home_at w r.node))
 
   -- what doesn't go is as it was
   pub drop_parts : (k : Part) → (Goes w s k → ⊥) → part dropped k ≡ part w k
@@ -145,12 +141,10 @@ module _ (w : World) (s : Name) where
 
   -- a server that went has no users
   gone_home : (o : Option Name) → is_home s (cond (not (is_home s o)) o None) ≡ false
-  gone_home None = refl
-  gone_home (Some q) = go (same_name s q) refl
-    where
-      go : (b : Bool) → same_name s q ≡ b → is_home s (cond (not b) (Some q) None) ≡ false
-      go true e = refl
-      go false e = e
+  gone_home = by_option (λ o. is_home s (cond (not (is_home s o)) o None)) (λ o. false) refl (λ q. elim (cases_Bool (same_name s q)) [
+    | inl e ↦ ap (λ b. is_home s (cond (not b) (Some q) None)) e
+    | inr e ↦ ap (λ b. is_home s (cond (not b) (Some q) None)) e ∙ e
+  ])
 
   users_gone : users dropped s ≡ 0
   users_gone = count_alike (is_on dropped s) (λ r. false) w.tasks (λ t x r i k. on r) ∙ none_counted w.tasks
@@ -180,14 +174,13 @@ module _ (x y : World) (s : Name) where
   -- (the home is that of the part's node)
   pub drop_alike : (k : Part) → ((n : Name) → (k ≡ EmptyOf n) ⊎ (k ≡ BodyOf n) → home_at y n ≡ home_at x n) → part y k ≡ part x k → part left_y k ≡ part left_x k
   drop_alike (AttrOf n) homes e =
-      let header : header_at y n ≡ header_at x n = cc in
       let home : home_at y n ≡ home_at x n = cc in
       let active : active_at y n ≡ active_at x n = cc in
-      attr_same (read header_in n home header)
+      attr_same (read header_in n home (cc))
       (home_after y s n ∙ ap (λ o. cond (not (is_home s o)) o None) home ∙ sym (home_after x s n))
       (active_after y s n ∙ ap₂ (λ o q. cond (not (is_home s o) && not (is_home s q)) q None) home active ∙ sym (active_after x s n))
-  drop_alike (EmptyOf n) homes e = let empty : empty_in (get y.nodes n) ≡ empty_in (get x.nodes n) = cc in ap AnEmpty (read empty_in n (homes n (inl refl)) empty)
-  drop_alike (BodyOf n) homes e = let body : body_at y n ≡ body_at x n = cc in ap ABody (read body_in n (homes n (inr refl)) body)
+  drop_alike (EmptyOf n) homes e = ap AnEmpty (read empty_in n (homes n (inl refl)) (cc))
+  drop_alike (BodyOf n) homes e = ap ABody (read body_in n (homes n (inr refl)) (cc))
   drop_alike (OpenOf o) homes e = e
   drop_alike (OptionsOf q) homes e = let server : server_at y q ≡ server_at x q = cc in ap AnOptions (go server (same_or_apart q s))
     where
@@ -205,25 +198,13 @@ module _ (x y : World) (s : Name) where
 
 pub unseated_parts : (w : World) (n : Name) (k : Part) → k ≢ AttrOf n → part (apply (Unseat n) w) k ≡ part w k
 unseated_parts w n (AttrOf m) out = attr_same refl refl (remove_apart w.actives n m (λ e. out (ap AttrOf e)))
-unseated_parts w n (EmptyOf m) out = refl
-unseated_parts w n (BodyOf m) out = refl
-unseated_parts w n (OpenOf o) out = refl
-unseated_parts w n (OptionsOf q) out = refl
-unseated_parts w n (UsersOf q) out = refl
-unseated_parts w n (TaskOf t) out = refl
+unseated_parts w n k out = refl
 
 pub unseated_alike : (x y : World) (n : Name) (k : Part) → part y k ≡ part x k → part (apply (Unseat n) y) k ≡ part (apply (Unseat n) x) k
 unseated_alike x y n (AttrOf m) e =
-    let header : header_at y m ≡ header_at x m = cc in
-    let home : home_at y m ≡ home_at x m = cc in
     let active : active_at y m ≡ active_at x m = cc in
-    attr_same header home (elim (same_or_apart m n) [
+    attr_same (cc) (cc) (elim (same_or_apart m n) [
       | inl same ↦ rw same (remove_here y.actives n ∙ sym (remove_here x.actives n))
       | inr apart ↦ remove_apart y.actives n m apart ∙ active ∙ sym (remove_apart x.actives n m apart)
     ])
-unseated_alike x y n (EmptyOf m) e = e
-unseated_alike x y n (BodyOf m) e = e
-unseated_alike x y n (OpenOf o) e = e
-unseated_alike x y n (OptionsOf q) e = e
-unseated_alike x y n (UsersOf q) e = e
-unseated_alike x y n (TaskOf t) e = e
+unseated_alike x y n k e = e

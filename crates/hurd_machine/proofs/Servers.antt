@@ -2,21 +2,21 @@
 use Rattle.std.proofs.Common.{◌≡◌, ◌≢◌, ◌∙◌, ◌≤◌, true, false, cond, [], ◌∷◌, Option, Some, None, sym, refl, ap, subst, inl, inr, arith}
 use Rattle.std.specs.FinMap.{get, insert}
 use Rattle.hurd_creds.specs.declared.name.Name.{Name}
-use Rattle.hurd_creds.proofs.NameLaws.{get_here, get_apart}
+use Rattle.hurd_creds.proofs.NameLaws.{get_here, get_apart, remove_apart}
 use Rattle.hurd_trans_iface.specs.Nodes.{Node, is_dir}
 use Rattle.hurd_trans_iface.specs.Kinds.{behaviour_of}
 use Rattle.hurd_trans_iface.specs.Good.{IsSized}
-use Rattle.hurd_nodes.specs.Shown.{ServerInfo, info_in, is_root_at, is_root_of, tree_by}
+use Rattle.hurd_nodes.specs.Shown.{ServerInfo, info_in, is_root_at, is_root_of, tree_by, is_other}
 use Rattle.hurd_machine.specs.World.{World, nodes_of, header_at, home_at, info_at, is_server_root}
 use Rattle.hurd_machine.specs.Change.{MakeNode, Attach, DropServer, Unseat, apply}
-use Rattle.hurd_machine.specs.Sound.{Coherent, AreSized, LeadsUp, AtRoot, Above, Hangs, Linked, times_listed}
+use Rattle.hurd_machine.specs.Sound.{Coherent, AreSized, LeadsUp, AtRoot, Above, Linked, times_listed}
 use Rattle.hurd_machine.proofs.Nodes.{header_in}
 use Rattle.hurd_machine.proofs.Coherence.{Comes, next_not, no_home, no_node, was}
 use Rattle.hurd_machine.proofs.Comes.{attach_is, come_world, come_new, root_new, none_served}
-use Rattle.hurd_machine.proofs.Drop as drop
-use Rattle.hurd_machine.proofs.Drop.{drop_linked, home_apart}
-use Rattle.hurd_machine.proofs.Links.{KeepsLinked, IsHung, Loosens, loosened, loose_any, tied, named_grown, times_new}
+use Rattle.hurd_machine.proofs.Drop.{home_apart}
+use Rattle.hurd_machine.proofs.Links.{KeepsLinked, IsHung, Loosens, loosened, loose_any, tied, named_grown, times_new, hung_as, leads_still}
 use Rattle.hurd_machine.proofs.Sizes.{KeepsSized}
+use Rattle.hurd_machine.proofs.Retained.{was_retained}
 
 -- a server that comes
 
@@ -77,14 +77,12 @@ module _ (w : World) (c : Coherent w) (s at : Name) (i : ServerInfo) (node : Nod
       is_info = ap (info_in (insert w.servers s i)) (get_here w.homes i.root s) ∙ get_here w.servers s i
 
       hung : IsHung (nodes_of (come_world w s at i node)) i.root
-      hung k e =
-          let same : node.header ≡ k = cc (header, e) in
-          subst (Hangs (nodes_of (come_world w s at i node)) i.root) same (record {
-            up = λ q ep. let none : None ≡ Some q = sym p.parent ∙ ep in absurd (cc);
-            top = λ root. p.parent;
-            once = λ is. subst (λ t. t ≤ 1) (sym unnamed) (omega arith);
-            links = λ tree. one ∙ sym (ap (λ b. cond b 1 (times_listed (come_world w s at i node).nodes i.root)) (dir (sym (ap tree_by is_info) ∙ tree)));
-          })
+      hung = hung_as (nodes_of (come_world w s at i node)) i.root node.header header (record {
+        up = λ q ep. let none : None ≡ Some q = sym p.parent ∙ ep in absurd (cc);
+        top = λ root. p.parent;
+        once = λ is. subst (λ t. t ≤ 1) (sym unnamed) (omega arith);
+        links = λ tree. one ∙ sym (ap (λ b. cond b 1 (times_listed (come_world w s at i node).nodes i.root)) (dir (sym (ap tree_by is_info) ∙ tree)));
+      })
 
 pub linked_come : (w : World) → Coherent w → (s at : Name) (i : ServerInfo) (node : Node) → Comes w s at i node → node.header.links ≡ 1 → (tree_by (Some i) ≡ true → is_dir node.header.kind ≡ true)
     → KeepsLinked w (Attach s at i node ∷ [])
@@ -94,12 +92,8 @@ linked_come w c s at i node p one dir l =
 pub linked_unseat : (w : World) (k : Name) → KeepsLinked w (Unseat k ∷ [])
 linked_unseat w k l = record {
   nodes = λ n h e. let b = l.nodes n h e in record { up = b.up; top = b.top; once = b.once; links = b.links };
-  rooted = λ d n e. leads d (l.rooted d n e);
+  rooted = λ d n e. leads_still (nodes_of w) (nodes_of (apply (Unseat k) w)) (λ m is. is) (λ m h is. (h, is, refl)) d (l.rooted d n e);
 }
-  where
-    leads : (d : Name) → LeadsUp (nodes_of w) d → LeadsUp (nodes_of (apply (Unseat k) w)) d
-    leads d (AtRoot is) = AtRoot is
-    leads d (Above p h is up rest) = Above p h is up (leads p rest)
 
 -- sizes
 
@@ -127,9 +121,9 @@ sized_drop w s sized n x j e ej = go (home_at (apply (DropServer s) w) n) refl
     go : (o : Option Name) → home_at (apply (DropServer s) w) n ≡ o → IsSized (behaviour_of j.kind) j.text x
     go None eh = let none : None ≡ Some j = sym (ap (info_in (apply (DropServer s) w).servers) eh) ∙ ej in absurd (cc)
     go (Some q) eh =
-        let k = drop.node_was w s n x e in
-        let h = drop.home_was w s n q eh in
-        sized n x j k.0 (ap (info_in w.servers) h.0 ∙ sym (drop.server_yet w s q (home_apart s q (home_at w n) h.0 h.1)) ∙ sym (ap (info_in (apply (DropServer s) w).servers) eh) ∙ ej)
+        let k = was_retained w.nodes (is_other s w.homes) n x e in
+        let h = was_retained w.homes (is_other s w.homes) n q eh in
+        sized n x j k.0 (ap (info_in w.servers) h.0 ∙ sym (remove_apart w.servers s q (home_apart s q (home_at w n) h.0 h.1)) ∙ sym (ap (info_in (apply (DropServer s) w).servers) eh) ∙ ej)
 
 pub sized_unseat : (w : World) (k : Name) → KeepsSized w (Unseat k ∷ [])
 sized_unseat w k sized n x j e ej = sized n x j e ej

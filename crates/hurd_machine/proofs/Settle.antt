@@ -1,5 +1,5 @@
 -- A world is settled once what nothing names is gone: who sees it sees the same; and changes that leave a world settled.
-use Rattle.std.proofs.Common.{◌≡◌, ◌⊎◌, ℕ, Bool, true, false, List, [], ◌∷◌, Option, Some, None, slice_get, nat_lt, sym, refl, ◌∙◌, ap, ap₂, subst, inl, inr}
+use Rattle.std.proofs.Common.{◌≡◌, ◌⊎◌, ℕ, Bool, true, List, [], ◌∷◌, Option, Some, None, slice_get, nat_lt, sym, refl, ◌∙◌, ap, ap₂, subst, inl, inr}
 use Rattle.std.specs.Option.{option_map}
 use Rattle.std.specs.FinMap.{get}
 use Rattle.hurd_creds.specs.declared.name.Name.{Name}
@@ -7,33 +7,34 @@ use Rattle.hurd_creds.specs.declared.open_flags.OpenFlags.{OpenFlags}
 use Rattle.hurd_creds.specs.Access.{IdSets}
 use Rattle.hurd_creds.specs.NameMaps.{edit}
 use Rattle.hurd_creds.proofs.NameLaws.{same_or_apart, get_here, get_apart, edit_here, edit_apart}
-use Rattle.hurd_trans_iface.specs.Nodes.{NodeMap, Node, Header, Body, with_header, with_body, is_entered, is_entered_at}
+use Rattle.hurd_trans_iface.specs.Nodes.{NodeMap, Node, Header, Body, with_header, with_body, is_entered, is_entered_at, is_empty_dir}
 use Rattle.hurd_nodes.specs.Shown.{NodeState, ServerInfo, with_text}
 use Rattle.hurd_nodes.specs.Settle as kept
 use Rattle.hurd_nodes.proofs.SettleLaws.{settle-is}
-use Rattle.hurd_ports.specs.declared.table.Opened.{Opened}
+use Rattle.std.proofs.lemmas.Bool.{cases_Bool}
 use Rattle.hurd_ports.specs.declared.table.IoRight.{IoRight}
-use Rattle.hurd_ports.specs.declared.table.Right.{Right}
-use Rattle.hurd_ports.specs.declared.table.Right.TheVariants.{Io, Control, Start}
+use Rattle.hurd_ports.specs.declared.table.Right.TheVariants.{Io, Start}
 use Rattle.hurd_ports.specs.declared.parents.Parent.{Parent as Pair}
-use Rattle.hurd_ports.specs.Tables.{Task, rights_of, nodes_of as nodes_named, is_held, is_named, is_controlled, IsSettled, fresh}
+use Rattle.hurd_ports.specs.Tables.{Task, nodes_of as nodes_named, is_held, is_named, is_controlled, IsSettled, fresh}
 use Rattle.hurd_ports.specs.Steps.{named, with_port, with_sent, new_open, new_right, edit_task}
 use Rattle.hurd_machine.specs.World.{World, IsAmong, world_from, nodes_of, ports_of, task_at, open_at, header_at, body_at, home_at, active_at, server_at}
 use Rattle.hurd_machine.specs.Sight.{Holds, Seen, Root, Held, Way, Controlled, Pending, Child, Parent, Active, ServerRoot, Knows, OfNode, OfSeat, OfControl}
 use Rattle.hurd_nodes.specs.Held.{is_home}
-use Rattle.hurd_machine.specs.Sight.{Part, AttrOf, EmptyOf, BodyOf, OpenOf, OptionsOf, UsersOf, TaskOf, Sees, part, IsGone, is_on, holders, users, AnEmpty, ABody, AnOpen, AnOptions, AUsers}
+use Rattle.hurd_machine.specs.Sight.{Part, AttrOf, EmptyOf, BodyOf, OpenOf, OptionsOf, UsersOf, TaskOf, Sees, part, IsGone, holders, users, AnEmpty, ABody, AnOpen, AnOptions, AUsers}
 use Rattle.hurd_machine.specs.Change.{Change, EditHeader, EditBody, MakeNode, EditOpen, MakeOpen, EditTask, Send, Attach, DropServer, Unseat, SetText, Settle, outside, stays, server_stays, settle, apply, apply_all, opening}
 use Rattle.hurd_machine.specs.Sound.{Coherent, Linked, AtRest}
-use Rattle.hurd_machine.proofs.Nodes.{attr_same, header_in, body_in, empty_in, no_header, no_body, no_emptiness, edit_keeps, edited_from}
-use Rattle.hurd_machine.proofs.Tasks.{count_alike, sent_keeps, edit_here as task_here}
+use Rattle.hurd_machine.proofs.Nodes.{attr_same, header_in, body_in, empty_in, none_mapped, edit_keeps, was_edited}
+use Rattle.hurd_machine.proofs.Tasks.{sent_keeps, edit_here as task_here}
 use Rattle.hurd_ports.proofs.HeldLaws.{held_counted}
-use Rattle.hurd_machine.proofs.Holders.{let_go, held_stays, none_stays, left_over, held_by_right, KeepsRights, held_still, named_still, controlled_still}
-use Rattle.hurd_machine.proofs.Stays.{sweep, way_at, way_parent, server_more, kept_more, lives_at, lives_active, lives_controlled, stays_entered, stays_named, node_still, home_still, active_still, server_still, node_gone, home_gone, active_gone, server_gone, node_left, server_left, none_left, no_home_left, no_active_left, no_server_left}
-use Rattle.hurd_machine.proofs.Swept.{header_server, root_stays, boot_stays, entry_stays, parent_stays, settle_keeps}
+use Rattle.hurd_machine.proofs.Holders.{let_go, held_by_right, KeepsRights, NameMore, still, still_more}
+use Rattle.hurd_machine.proofs.Retained.{retained_if, retained, dropped, was_retained, none_retained}
+use Rattle.hurd_machine.proofs.Stays.{sweep, way_at, way_parent, server_more, kept_more, lives_at, lives_active, lives_controlled, stays_entered, stays_named}
+use Rattle.hurd_machine.proofs.Swept.{root_stays, boot_stays, entry_stays, parent_stays, settle_keeps}
 use Rattle.hurd_machine.proofs.Coherence.{was, entry_lists}
 use Rattle.hurd_machine.proofs.Texts.{server_was, stays_kept}
 use Rattle.hurd_machine.proofs.Rights.{port_keeps, port_has}
 use Rattle.hurd_machine.proofs.Views.{Agree, Agree-refl, Agree-trans}
+use Rattle.hurd_machine.proofs.ServerParts.{users_by}
 
 -- what is left once a world is settled stays
 
@@ -47,40 +48,24 @@ swept_whole w = (settle-is (outside w) (nodes_of w)).stays
 
 pub settle_settled : (w : World) → AtRest (settle w)
 settle_settled w = record {
-  nodes = λ n x e. (node_left (swept w) n x (ap (λ (h : NodeState). get h.nodes n) (swept_whole w) ∙ e)).1;
-  servers = λ s i e. (server_left (swept w) s i (ap (λ (h : NodeState). get h.servers s) (swept_whole w) ∙ e)).1;
-  opens = λ o y h. (left_over (swept w) o y h).1;
+  nodes = λ n x e. (was_retained (swept w).nodes (stays (swept w)) n x (ap (λ (h : NodeState). get h.nodes n) (swept_whole w) ∙ e)).1;
+  servers = λ s i e. (was_retained (swept w).servers (server_stays (swept w)) s i (ap (λ (h : NodeState). get h.servers s) (swept_whole w) ∙ e)).1;
+  opens = λ o y h. (was_retained w.opens (is_held w.tasks) o y h).1;
 }
-
--- a node that has a server is there
-home_there : (w : World) → Coherent w → (n s : Name) → home_at w n ≡ Some s → (h : Header) × (header_at w n ≡ Some h)
-home_there w c n s e = c.housing.housed n s e
 
 -- the node of a right stays, so servers have as many users
 users_still : (w : World) → Coherent w → (s : Name) → users (sweep w) s ≡ users w s
-users_still w c s = count_alike (is_on (sweep w) s) (is_on w s) w.tasks on
-  where
-    homed : (t : ℕ) (x : Task) (r : IoRight) → task_at w t ≡ Some x → IsAmong (Io r) (rights_of x) → home_at (sweep w) r.node ≡ home_at w r.node
-    homed t x r at i = go (home_at w r.node) refl
-      where
-        go : (o : Option Name) → home_at w r.node ≡ o → home_at (sweep w) r.node ≡ home_at w r.node
-        go None e = no_home_left w r.node e ∙ sym e
-        go (Some q) e =
-            let h = home_there w c r.node q e in
-            let k = header_server w c r.node h.0 h.1 in
-            home_still w r.node (stays_named w t x (Io r) r.node k.server k.info at i (inl refl) k.is_home k.is_info)
-
-    on : (t : ℕ) (x : Task) (r : Right) → task_at w t ≡ Some x → IsAmong r (rights_of x) → is_on (sweep w) s r ≡ is_on w s r
-    on t x (Io r) at i = ap (is_home s) (homed t x r at i)
-    on t x (Control q) at i = refl
-    on t x (Start n) at i = refl
+users_still w c s = users_by w (sweep w) s w.tasks (λ t x r at i. ap (is_home s) (retained_if w.homes (stays w) r.node (λ q e.
+    let h = c.housing.housed r.node q e in
+    let k = c.housing.homes r.node h.0 h.1 in
+    stays_named w t x (Io r) r.node k.0 k.1 at i (inl refl) k.2 k.3)))
 
 -- what S sees stays
 module _ (S : ℕ → Bool) (w : World) (c : Coherent w) (l : Linked (nodes_of w)) where
   named_alive : (r : IoRight) (n m : Name) (h : Header) → Holds S w (Io r) → n ≡ m → IsAmong m (nodes_named (Io r)) → header_at w n ≡ Some h → stays w n ≡ true
   named_alive r n m h held e named eh =
-      let k = header_server w c n h eh in
-      stays_named w held.task held.seat (Io r) n k.server k.info held.is_task held.here (subst (λ z. IsAmong z (nodes_named (Io r))) (sym e) named) k.is_home k.is_info
+      let k = c.housing.homes n h eh in
+      stays_named w held.task held.seat (Io r) n k.0 k.1 held.is_task held.here (subst (λ z. IsAmong z (nodes_named (Io r))) (sym e) named) k.2 k.3
 
   root_alive : (n s : Name) (i : ServerInfo) → server_at w s ≡ Some i → server_stays w s ≡ true → n ≡ i.root → stays w n ≡ true
   root_alive n s i es lives e = subst (λ z. stays w z ≡ true) (sym e) (root_stays w c s i es lives)
@@ -94,13 +79,13 @@ module _ (S : ℕ → Bool) (w : World) (c : Coherent w) (l : Linked (nodes_of w
   ]
   alive n (Controlled s i held es e) h eh = root_alive n s i es (lives_controlled w held.task held.seat s held.is_task held.here) e
   alive n (Pending held) h eh =
-      let k = header_server w c n h eh in
-      stays_named w held.task held.seat (Start n) n k.server k.info held.is_task held.here (inl refl) k.is_home k.is_info
+      let k = c.housing.homes n h eh in
+      stays_named w held.task held.seat (Start n) n k.0 k.1 held.is_task held.here (inl refl) k.2 k.3
   alive n (Child d k name sd ed dir could en) h eh = entry_stays w c l d n h (entry_lists name (body_at w d) n en) eh (alive d sd k ed)
   alive n (Parent d k sd ed ep) h eh = parent_stays w c l d n k ed ep (alive d sd k ed)
   alive n (Active m s i sm em es e) h eh = root_alive n s i es (lives_active w m s em) e
   alive n (ServerRoot m s i sm em es could e) h eh =
-      let k = home_there w c m s em in
+      let k = c.housing.housed m s em in
       root_alive n s i es (lives_at w m s (alive m sm k.0 k.1) em) e
 
   -- a node that is seen is as it was
@@ -110,22 +95,14 @@ module _ (S : ℕ → Bool) (w : World) (c : Coherent w) (l : Linked (nodes_of w
     active : active_at (sweep w) n ≡ active_at w n
 
   seen_still : (n : Name) → Seen S w n → Still n
-  seen_still n s = go (get w.nodes n) refl
-    where
-      go : (o : Option Node) → get w.nodes n ≡ o → Still n
-      go (Some x) e = let k : stays w n ≡ true = alive n s x.header (ap header_in e) in record { node = node_still w n k; home = home_still w n k; active = active_still w n k }
-      go None e = record { node = none_left w n e ∙ sym e; home = no_home (home_at w n) refl; active = no_seat (active_at w n) refl }
-        where
-          no_home : (o : Option Name) → home_at w n ≡ o → home_at (sweep w) n ≡ home_at w n
-          no_home None k = no_home_left w n k ∙ sym k
-          no_home (Some q) k = let h = home_there w c n q k in let gone : header_at w n ≡ None = ap header_in e in absurd (cc (h.1))
-
-          no_seat : (o : Option Name) → active_at w n ≡ o → active_at (sweep w) n ≡ active_at w n
-          no_seat None k = no_active_left w n k ∙ sym k
-          no_seat (Some q) k = let h = c.seating.seats n q k in let gone : header_at w n ≡ None = ap header_in e in absurd (cc (h.1))
+  seen_still n s = record {
+    node = retained_if w.nodes (stays w) n (λ x e. alive n s x.header (ap header_in e));
+    home = retained_if w.homes (stays w) n (λ q e. let h = c.housing.housed n q e in alive n s h.0 h.1);
+    active = retained_if w.actives (stays w) n (λ q e. let h = c.seating.seats n q e in alive n s h.0 h.1);
+  }
 
   known_lives : (s : Name) → Knows S w s → server_stays w s ≡ true
-  known_lives s (OfNode n sn en) = let h = home_there w c n s en in lives_at w n s (alive n sn h.0 h.1) en
+  known_lives s (OfNode n sn en) = let h = c.housing.housed n s en in lives_at w n s (alive n sn h.0 h.1) en
   known_lives s (OfSeat n sn en) = lives_active w n s en
   known_lives s (OfControl held) = lives_controlled w held.task held.seat s held.is_task held.here
 
@@ -137,7 +114,7 @@ module _ (S : ℕ → Bool) (w : World) (c : Coherent w) (l : Linked (nodes_of w
       same (EmptyOf n) s = ap (λ (o : Option Node). AnEmpty (empty_in o)) (seen_still n s.0).node
       same (BodyOf n) s = ap (λ (o : Option Node). ABody (body_in o)) (seen_still n s.0).node
       same (OpenOf o) s = refl
-      same (OptionsOf q) s = ap AnOptions (server_still w q (known_lives q s))
+      same (OptionsOf q) s = ap AnOptions (retained w.servers (server_stays w) q (known_lives q s))
       same (UsersOf q) s = ap AUsers (users_still w c q)
       same (TaskOf t) s = refl
 
@@ -147,13 +124,8 @@ let_go_agrees S w = record { tasks = refl; parts = same }
     same : (p : Part) → Sees S w p → part (let_go w) p ≡ part w p
     same (OpenOf o) s =
         let held : is_held w.tasks o ≡ true = subst (λ z. is_held w.tasks z ≡ true) s.2 (held_by_right w.tasks s.1.task s.1.seat s.0 s.1.is_task s.1.here) in
-        ap (λ v. AnOpen v (holders w o)) (held_stays w o held)
-    same (AttrOf n) s = refl
-    same (EmptyOf n) s = refl
-    same (BodyOf n) s = refl
-    same (OptionsOf q) s = refl
-    same (UsersOf q) s = refl
-    same (TaskOf t) s = refl
+        ap (λ v. AnOpen v (holders w o)) (retained w.opens (is_held w.tasks) o held)
+    same p s = refl
 
 -- who sees a world sees the same once it is settled
 pub settle_agrees : (S : ℕ → Bool) (w : World) → Coherent w → Linked (nodes_of w) → Agree S w (settle w)
@@ -166,43 +138,32 @@ AsBefore w x p = (part x p ≡ part w p) ⊎ IsGone x p
 
 -- a sweep leaves each part, or takes its thing out
 module _ (x : World) (c : Coherent x) where
-  by_node : (p : Part) (n : Name) → (stays x n ≡ true → part (sweep x) p ≡ part x p) → (stays x n ≡ false → IsGone (sweep x) p) → (part (sweep x) p ≡ part x p) ⊎ IsGone (sweep x) p
-  by_node p n still goes = go (stays x n) refl
-    where
-      go : (b : Bool) → stays x n ≡ b → (part (sweep x) p ≡ part x p) ⊎ IsGone (sweep x) p
-      go true k = inl (still k)
-      go false k = inr (goes k)
-
   sweep_part : (p : Part) → (part (sweep x) p ≡ part x p) ⊎ IsGone (sweep x) p
-  sweep_part (AttrOf n) =
-      by_node (AttrOf n) n (λ k. attr_same (ap header_in (node_still x n k)) (home_still x n k) (active_still x n k))
-      (λ k. attr_same (ap header_in (node_gone x n k)) (home_gone x n k) (active_gone x n k))
-  sweep_part (EmptyOf n) =
-      by_node (EmptyOf n) n (λ k. ap (λ (o : Option Node). AnEmpty (empty_in o)) (node_still x n k)) (λ k. ap (λ (o : Option Node). AnEmpty (empty_in o)) (node_gone x n k))
-  sweep_part (BodyOf n) =
-      by_node (BodyOf n) n (λ k. ap (λ (o : Option Node). ABody (body_in o)) (node_still x n k)) (λ k. ap (λ (o : Option Node). ABody (body_in o)) (node_gone x n k))
+  sweep_part (AttrOf n) = elim (cases_Bool (stays x n)) [
+    | inl k ↦ inl (attr_same (ap header_in (retained x.nodes (stays x) n k)) (retained x.homes (stays x) n k) (retained x.actives (stays x) n k))
+    | inr k ↦ inr (attr_same (ap header_in (dropped x.nodes (stays x) n k)) (dropped x.homes (stays x) n k) (dropped x.actives (stays x) n k))
+  ]
+  sweep_part (EmptyOf n) = elim (cases_Bool (stays x n)) [
+    | inl k ↦ inl (ap (λ (o : Option Node). AnEmpty (empty_in o)) (retained x.nodes (stays x) n k))
+    | inr k ↦ inr (ap (λ (o : Option Node). AnEmpty (empty_in o)) (dropped x.nodes (stays x) n k))
+  ]
+  sweep_part (BodyOf n) = elim (cases_Bool (stays x n)) [
+    | inl k ↦ inl (ap (λ (o : Option Node). ABody (body_in o)) (retained x.nodes (stays x) n k))
+    | inr k ↦ inr (ap (λ (o : Option Node). ABody (body_in o)) (dropped x.nodes (stays x) n k))
+  ]
   sweep_part (OpenOf o) = inl refl
-  sweep_part (OptionsOf s) = go (server_stays x s) refl
-    where
-      go : (b : Bool) → server_stays x s ≡ b → (part (sweep x) (OptionsOf s) ≡ part x (OptionsOf s)) ⊎ IsGone (sweep x) (OptionsOf s)
-      go true k = inl (ap AnOptions (server_still x s k))
-      go false k = inr (ap AnOptions (server_gone x s k))
+  sweep_part (OptionsOf s) = elim (cases_Bool (server_stays x s)) [ inl k ↦ inl (ap AnOptions (retained x.servers (server_stays x) s k)) | inr k ↦ inr (ap AnOptions (dropped x.servers (server_stays x) s k)) ]
   sweep_part (UsersOf s) = inl (ap AUsers (users_still x c s))
   sweep_part (TaskOf t) = inl refl
 
 -- what is gone doesn't come back by it
 sweep_gone : (x : World) (p : Part) → IsGone x p → IsGone (sweep x) p
 sweep_gone x (AttrOf n) e =
-    let header : header_in (get x.nodes n) ≡ None = cc in
-    let home : home_at x n ≡ None = cc in
-    let active : active_at x n ≡ None = cc in
-    attr_same (ap header_in (none_left x n (no_header (get x.nodes n) header))) (no_home_left x n home) (no_active_left x n active)
-sweep_gone x (EmptyOf n) e = let empty : empty_in (get x.nodes n) ≡ None = cc in ap (λ (o : Option Node). AnEmpty (empty_in o)) (none_left x n (no_emptiness (get x.nodes n) empty))
-sweep_gone x (BodyOf n) e = let body : body_in (get x.nodes n) ≡ None = cc in ap (λ (o : Option Node). ABody (body_in o)) (none_left x n (no_body (get x.nodes n) body))
-sweep_gone x (OpenOf o) e = absurd e
-sweep_gone x (OptionsOf s) e = let none : server_at x s ≡ None = cc in ap AnOptions (no_server_left x s none)
-sweep_gone x (UsersOf s) e = absurd e
-sweep_gone x (TaskOf t) e = absurd e
+    attr_same (ap header_in (none_retained x.nodes (stays x) n (none_mapped (λ z. z.header) (get x.nodes n) (cc)))) (none_retained x.homes (stays x) n (cc)) (none_retained x.actives (stays x) n (cc))
+sweep_gone x (EmptyOf n) e = ap (λ (o : Option Node). AnEmpty (empty_in o)) (none_retained x.nodes (stays x) n (none_mapped (λ z. z.body) (get x.nodes n) (none_mapped is_empty_dir (body_at x n) (cc))))
+sweep_gone x (BodyOf n) e = ap (λ (o : Option Node). ABody (body_in o)) (none_retained x.nodes (stays x) n (none_mapped (λ z. z.body) (get x.nodes n) (cc)))
+sweep_gone x (OptionsOf s) e = ap AnOptions (none_retained x.servers (server_stays x) s (cc))
+sweep_gone x p e = absurd e
 
 -- letting opens go leaves each part but those, and such as a world at rest had
 module _ (w : World) (rest : AtRest w) where
@@ -211,26 +172,14 @@ module _ (w : World) (rest : AtRest w) where
       let opens : open_at x o ≡ open_at w o = cc in
       let counts : holders x o ≡ holders w o = cc in
       let held : is_held x.tasks o ≡ is_held w.tasks o = held_counted x.tasks o ∙ ap (λ n. nat_lt 0 n) counts ∙ sym (held_counted w.tasks o) in
-      ap₂ AnOpen (go (open_at w o) refl opens held) counts
-    where
-      go : (v : Option Opened) → open_at w o ≡ v → open_at x o ≡ open_at w o → is_held x.tasks o ≡ is_held w.tasks o → open_at (let_go x) o ≡ open_at w o
-      go (Some y) is opens held = held_stays x o (held ∙ rest.opens o y is) ∙ opens
-      go None is opens held = none_stays x o (opens ∙ is) ∙ sym is
-  let_go_part (AttrOf n) x e = e
-  let_go_part (EmptyOf n) x e = e
-  let_go_part (BodyOf n) x e = e
-  let_go_part (OptionsOf s) x e = e
-  let_go_part (UsersOf s) x e = e
-  let_go_part (TaskOf t) x e = e
+      ap₂ AnOpen (retained_if x.opens (is_held x.tasks) o (λ y is. held ∙ rest.opens o y (sym opens ∙ is)) ∙ opens) counts
+  let_go_part p x e = e
 
   let_go_gone : (p : Part) (x : World) → IsGone x p → IsGone (let_go x) p
-  let_go_gone (AttrOf n) x e = e
-  let_go_gone (EmptyOf n) x e = e
-  let_go_gone (BodyOf n) x e = e
   let_go_gone (OpenOf o) x e = absurd e
-  let_go_gone (OptionsOf s) x e = e
   let_go_gone (UsersOf s) x e = absurd e
   let_go_gone (TaskOf t) x e = absurd e
+  let_go_gone p x e = e
 
   -- a part that a settled world has unchanged in another keeps that value where this is settled, or its thing goes
   pub settle_part : (p : Part) (x : World) → Coherent x → Linked (nodes_of x) → AsBefore w x p → AsBefore w (settle x) p
@@ -269,10 +218,7 @@ KeepsNodes w c = Unit {0}
 
 -- what stands after an edit stood before
 stood : (m : NodeMap) (k n : Name) (f : Node → Node) (x : Node) → get (edit k f m) n ≡ Some x → (y : Node) × (get m n ≡ Some y)
-stood m k n f x e = elim (same_or_apart n k) [
-  | inl a ↦ let l = edited_from f (get m k) x (sym (edit_here m k f) ∙ rw a at e) in rw a (l.0, l.1)
-  | inr a ↦ (x, sym (edit_apart m k f n a) ∙ e)
-]
+stood m k n f x e = elim (was_edited m k n f x e) [ inl l ↦ (l.1, ap (get m) l.0 ∙ l.2) | inr h ↦ (x, h) ]
 
 entered_edit : (m : NodeMap) (k n : Name) (f : Header → Header) → KeepsEntered f → is_entered_at (get m n) ≡ true → is_entered_at (get (edit k (with_header f) m) n) ≡ true
 entered_edit m k n f keeps h = elim (same_or_apart n k) [
@@ -293,13 +239,13 @@ tasks_more : (t : ℕ) (f : Task → Task) (w : World) (s : Name) → KeepsRight
     → kept.server_stays (record { held = is_named (edit_task t f w.tasks); controlled = is_controlled (edit_task t f w.tasks) }) (nodes_of w) s ≡ true
 tasks_more t f w s keeps h =
     server_more (outside w) (record { held = is_named (edit_task t f w.tasks); controlled = is_controlled (edit_task t f w.tasks) }) (nodes_of w) (nodes_of w) s
-    (controlled_still t f w.tasks s keeps) (λ n e. e) (λ n e held. (e, named_still t f w.tasks n keeps held)) h
+    ((still t f w.tasks keeps).controlled s) (λ n e. e) (λ n e held. (e, (still t f w.tasks keeps).named n held)) h
 
 -- no server loses its reason to stay
 servers_more : (c : Change) (w : World) → KeepsNodes w c → (s : Name) → server_stays w s ≡ true → server_stays (apply c w) s ≡ true
 servers_more (MakeNode k q node) w keeps s h =
-    server_more (outside w) (outside (apply (MakeNode k q node) w)) (nodes_of w) (nodes_of (apply (MakeNode k q node) w)) s (controlled_still k.task.0 (named 1) w.tasks s (λ y r i. i)) (λ n e. e)
-    (λ n e held. (get_apart w.homes k q n (λ same. let none : home_at w n ≡ None = rw same keeps.1 in cc (e)) ∙ e, named_still k.task.0 (named 1) w.tasks n (λ y r i. i) held)) h
+    server_more (outside w) (outside (apply (MakeNode k q node) w)) (nodes_of w) (nodes_of (apply (MakeNode k q node) w)) s ((still k.task.0 (named 1) w.tasks (λ y r i. i)).controlled s) (λ n e. e)
+    (λ n e held. (get_apart w.homes k q n (λ same. let none : home_at w n ≡ None = rw same keeps.1 in cc (e)) ∙ e, (still k.task.0 (named 1) w.tasks (λ y r i. i)).named n held)) h
 servers_more (MakeOpen o z) w keeps s h = tasks_more o.task.0 (named 1) w s (λ y r i. i) h
 servers_more (EditTask t f) w keeps s h = tasks_more t f w s keeps h
 servers_more (Send r t) w keeps s h = tasks_more t (with_sent r) w s (sent_keeps r) h
@@ -307,10 +253,7 @@ servers_more (EditHeader n f) w keeps s h = h
 servers_more (EditBody n g) w keeps s h = h
 servers_more (EditOpen o f) w keeps s h = h
 servers_more (SetText k text) w keeps s h = h
-servers_more (Attach q at i node) w keeps s h = absurd keeps
-servers_more (DropServer q) w keeps s h = absurd keeps
-servers_more (Unseat n) w keeps s h = absurd keeps
-servers_more Settle w keeps s h = absurd keeps
+servers_more c w keeps s h = absurd keeps
 
 -- what stays where the server does
 same_servers : (c : Change) (w : World) → KeepsNodes w c → (n : Name) → home_at (apply c w) n ≡ home_at w n → (apply c w).servers ≡ w.servers
@@ -332,20 +275,17 @@ nodes_still (MakeNode k s node) w q rest n x e = elim (was w.nodes k n node x e)
   | inr old ↦
       kept_more (outside w) (outside (apply (MakeNode k s node) w)) (nodes_of w) (nodes_of (apply (MakeNode k s node) w)) n
       (same_servers (MakeNode k s node) w q n (get_apart w.homes k s n old.0) refl) (λ i. ap is_entered_at (get_apart w.nodes k node n old.0) ∙ i)
-      (named_still k.task.0 (named 1) w.tasks n (λ y r h. h)) (rest.nodes n x old.1)
+      ((still k.task.0 (named 1) w.tasks (λ y r h. h)).named n) (rest.nodes n x old.1)
 ]
 nodes_still (EditOpen o f) w q rest n x e = rest.nodes n x e
 nodes_still (SetText k text) w q rest n x e = stays_kept w k text n ∙ rest.nodes n x e
 nodes_still (MakeOpen o z) w q rest n x e =
-    kept_more (outside w) (outside (apply (MakeOpen o z) w)) (nodes_of w) (nodes_of w) n (same_servers (MakeOpen o z) w q n refl refl) (λ i. i) (named_still o.task.0 (named 1) w.tasks n (λ y r h. h)) (rest.nodes n x e)
+    kept_more (outside w) (outside (apply (MakeOpen o z) w)) (nodes_of w) (nodes_of w) n (same_servers (MakeOpen o z) w q n refl refl) (λ i. i) ((still o.task.0 (named 1) w.tasks (λ y r h. h)).named n) (rest.nodes n x e)
 nodes_still (EditTask t f) w q rest n x e =
-    kept_more (outside w) (outside (apply (EditTask t f) w)) (nodes_of w) (nodes_of w) n (same_servers (EditTask t f) w q n refl refl) (λ i. i) (named_still t f w.tasks n q) (rest.nodes n x e)
+    kept_more (outside w) (outside (apply (EditTask t f) w)) (nodes_of w) (nodes_of w) n (same_servers (EditTask t f) w q n refl refl) (λ i. i) ((still t f w.tasks q).named n) (rest.nodes n x e)
 nodes_still (Send r t) w q rest n x e =
-    kept_more (outside w) (outside (apply (Send r t) w)) (nodes_of w) (nodes_of w) n (same_servers (Send r t) w q n refl refl) (λ i. i) (named_still t (with_sent r) w.tasks n (sent_keeps r)) (rest.nodes n x e)
-nodes_still (Attach s at i node) w q rest n x e = absurd q
-nodes_still (DropServer s) w q rest n x e = absurd q
-nodes_still (Unseat k) w q rest n x e = absurd q
-nodes_still Settle w q rest n x e = absurd q
+    kept_more (outside w) (outside (apply (Send r t) w)) (nodes_of w) (nodes_of w) n (same_servers (Send r t) w q n refl refl) (λ i. i) ((still t (with_sent r) w.tasks (sent_keeps r)).named n) (rest.nodes n x e)
+nodes_still c w q rest n x e = absurd q
 
 -- a server that is there was there
 server_old : (c : Change) (w : World) → KeepsNodes w c → (s : Name) (i : ServerInfo) → server_at (apply c w) s ≡ Some i → (j : ServerInfo) × (server_at w s ≡ Some j)
@@ -379,21 +319,14 @@ quiet_keeps (MakeOpen o z) w q = absurd q
 quiet_keeps c w q = q
 
 opens_rest : (c : Change) (w : World) → IsQuiet w c → IsSettled (ports_of w) → IsSettled (ports_of (apply c w))
-opens_rest (MakeNode n s node) w q settled = λ o z e. held_still n.task.0 (named 1) w.tasks o (λ x r h. h) (settled o z e)
-opens_rest (EditOpen k f) w q settled = λ o z e. elim (same_or_apart o k) [
-  | inl a ↦ let l = edited_from f (get w.opens k) z (sym (edit_here w.opens k f) ∙ rw a at e) in rw a (settled k l.0 l.1)
-  | inr a ↦ settled o z (sym (edit_apart w.opens k f o a) ∙ e)
-]
-opens_rest (MakeOpen k z) w q settled = absurd q
-opens_rest (EditTask t f) w q settled = λ o z e. held_still t f w.tasks o q (settled o z e)
-opens_rest (Send r t) w q settled = λ o z e. held_still t (with_sent r) w.tasks o (sent_keeps r) (settled o z e)
-opens_rest (Attach s at i node) w q settled = absurd q
-opens_rest (DropServer s) w q settled = absurd q
-opens_rest (Unseat n) w q settled = absurd q
-opens_rest Settle w q settled = absurd q
+opens_rest (MakeNode n s node) w q settled = λ o z e. (still n.task.0 (named 1) w.tasks (λ x r h. h)).held o (settled o z e)
+opens_rest (EditOpen k f) w q settled = λ o z e. elim (was_edited w.opens k o f z e) [ inl l ↦ rw (l.0) (settled k l.1 l.2) | inr h ↦ settled o z h ]
+opens_rest (EditTask t f) w q settled = λ o z e. (still t f w.tasks q).held o (settled o z e)
+opens_rest (Send r t) w q settled = λ o z e. (still t (with_sent r) w.tasks (sent_keeps r)).held o (settled o z e)
 opens_rest (EditHeader n f) w q settled = settled
 opens_rest (EditBody n g) w q settled = settled
 opens_rest (SetText s text) w q settled = settled
+opens_rest c w q settled = absurd q
 
 pub rests_quiet : (cs : List Change) (w : World) → AreQuiet w cs → Rests w cs
 rests_quiet [] w q rest = rest
@@ -419,8 +352,8 @@ module _ (w : World) (t : ℕ) (x : Task) (is : task_at w t ≡ Some x) (n : Nam
   new_held : is_held new_tasks (fresh t x) ≡ true
   new_held = held_by_right new_tasks t new_table new_io new_seat (port_has (new_right t n ids parents x) (named 1 x))
 
-  old_held : (o : Name) → is_held w.tasks o ≡ true → is_held new_tasks o ≡ true
-  old_held o h = held_still t (with_port (new_right t n ids parents x)) (edit_task t (named 1) w.tasks) o (port_keeps (new_right t n ids parents x)) (held_still t (named 1) w.tasks o (λ y q k. k) h)
+  old_names : NameMore w.tasks new_tasks
+  old_names = still_more (still t (named 1) w.tasks (λ y q k. k)) (still t (with_port (new_right t n ids parents x)) (edit_task t (named 1) w.tasks) (port_keeps (new_right t n ids parents x)))
 
   pub rests_opening : Rests w (opening t x n ids parents modes)
   rests_opening rest =
@@ -431,6 +364,6 @@ module _ (w : World) (t : ℕ) (x : Task) (is : task_at w t ≡ Some x) (n : Nam
         servers = k.servers;
         opens = λ o z e. elim (was w.opens (fresh t x) o (new_open modes) z e) [
           | inl new ↦ subst (λ k. is_held new_tasks k ≡ true) (sym new.0) new_held
-          | inr old ↦ old_held o (rest.opens o z old.1)
+          | inr old ↦ old_names.held o (rest.opens o z old.1)
         ];
       }

@@ -14,8 +14,8 @@ use Rattle.hurd_machine.proofs.Views.{Agree, Agree-sym, Agree-trans, same_tasks}
 use Rattle.hurd_machine.proofs.Nodes.{attr_same, header_in, body_in, empty_in}
 use Rattle.hurd_machine.proofs.Tasks.{count_alike}
 use Rattle.hurd_machine.proofs.ServerParts.{none_counted, not_home}
-use Rattle.hurd_machine.proofs.Comes.{no_server, none_served}
-use Rattle.hurd_machine.proofs.Coherence.{right_old, no_node, no_open, Proper, AllProper, no_home, no_active}
+use Rattle.hurd_machine.proofs.Comes.{none_served}
+use Rattle.hurd_machine.proofs.Coherence.{right_old, no_node, no_open, no_home, no_active, no_server, Proper, AllProper}
 use Rattle.hurd_machine.proofs.Keeping.{coherent_one}
 use Rattle.hurd_machine.proofs.Frame.{IsExact, length_one}
 use Rattle.hurd_machine.proofs.Settle.{settle_agrees}
@@ -60,7 +60,7 @@ new_same cv cw a (BodyOf n) new = ap (λ (o : Option Node). ABody (body_in o)) (
 new_same {S} {v} {w} cv cw a (OpenOf o) new =
     let out = new_there a o new in
     ap₂ AnOpen (no_open cw o out ∙ sym (no_open cv o new.1)) (no_holders w cw o out ∙ sym (no_holders v cv o new.1))
-new_same {S} {v} {w} cv cw a (OptionsOf s) new = ap AnOptions (no_server w cw s (new_there a s new) ∙ sym (no_server v cv s new.1))
+new_same {S} {v} {w} cv cw a (OptionsOf s) new = ap AnOptions (no_server cw s (new_there a s new) ∙ sym (no_server cv s new.1))
 new_same {S} {v} {w} cv cw a (UsersOf s) new = ap AUsers (no_users w cw s (new_there a s new) ∙ sym (no_users v cv s new.1))
 new_same cv cw a (TaskOf t) new = absurd new
 

@@ -1,5 +1,5 @@
 -- A port more that shares the open of a right: as a piece of any call.
-use Rattle.std.proofs.Common.{◌≡◌, ◌⊎◌, ℕ, Bool, true, [], ◌∷◌, Some, refl, subst, inl, inr, arith}
+use Rattle.std.proofs.Common.{◌≡◌, ◌⊎◌, ℕ, Bool, true, [], ◌∷◌, Some, refl, inl, inr, arith}
 use Rattle.hurd_creds.specs.Access.{IdSets, restrict, may_take}
 use Rattle.hurd_creds.proofs.TakeLaws.{AreHeld, restrict_held, take_held}
 use Rattle.hurd_ports.specs.declared.table.IoRight.{IoRight}
@@ -15,7 +15,7 @@ use Rattle.hurd_machine.specs.Sound.{Coherent, Sound}
 use Rattle.hurd_machine.proofs.Coherence.{FineRight}
 use Rattle.hurd_machine.proofs.Rights.{port_rights, port_keeps, port_counts, port_table}
 use Rattle.hurd_machine.proofs.Frame.{Covers, Within, not_on, not_named}
-use Rattle.hurd_machine.proofs.Allowed.{RightMay, IdsMay, May}
+use Rattle.hurd_machine.proofs.Allowed.{RightMay, IdsMay, May, gained_may}
 use Rattle.hurd_machine.proofs.Confine.{named_seen}
 use Rattle.hurd_machine.proofs.Opens.{covers}
 use Rattle.hurd_machine.proofs.Piece.{Whole, stands, quiet, of_ports}
@@ -95,14 +95,8 @@ module _ {T : Part → Type 0} {w : World} (s : Sound w) (t : ℕ) (r : Right) w
         },
       )
 
-      among : (B : Right → Type 0) (a : Task) → B r → (q : Right) → IsAmong q (rights_of (with_port r a)) → IsAmong q (rights_of a) ⊎ B q
-      among B a b q h = elim (port_rights r a q h) [ inl old ↦ inl old | inr e ↦ inr (subst B e b) ]
-
       mine : (S : ℕ → Bool) → S t ≡ true → RightMay S w w r × (HasUid S w 0 ⊎ IdsMay S w r) → May S w w (EditTask t (with_port r))
-      mine S ours m = (
-        ours,
-        λ a at. (among (RightMay S w w) a m.0, elim m.1 [ inl all ↦ inl all | inr ids ↦ inr (record { ids = inl refl; rights = among (IdsMay S w) a ids }) ]),
-      )
+      mine S ours m = (ours, λ a at. gained_may S w w r a (with_port r a) refl (port_rights r a) m)
 
 -- one that shares the open of a right, with other ids
 

@@ -12,13 +12,14 @@ use Rattle.hurd_trans_iface.specs.Good.{IsSized, KeepsSizes, GoodBehaviour}
 use Rattle.hurd_trans_iface.specs.Kinds.{ServerKind, behaviour_of}
 use Rattle.hurd_nodes.specs.Shown.{ServerInfo, info_in, asked_of}
 use Rattle.hurd_machine.specs.World.{World, nodes_of, server_at, info_at, asked_at}
-use Rattle.hurd_machine.specs.Change.{Change, EditHeader, EditBody, MakeNode, Attach, DropServer, Unseat, SetText, Settle, apply, apply_all, changes_of}
+use Rattle.hurd_machine.specs.Change.{Change, EditHeader, EditBody, MakeNode, EditOpen, MakeOpen, EditTask, Send, Settle, apply, apply_all, changes_of, stays}
 use Rattle.hurd_machine.specs.Sound.{Coherent, AreSized}
-use Rattle.hurd_machine.proofs.Stays.{sweep, node_left, info_still}
+use Rattle.hurd_machine.proofs.Stays.{sweep, info_still}
 use Rattle.hurd_machine.proofs.Sweeps.{settle_by}
 use Rattle.hurd_machine.proofs.Nodes.{edited_from}
 use Rattle.hurd_machine.proofs.Coherence.{was}
 use Rattle.hurd_machine.proofs.Keeping.{apply_all-append}
+use Rattle.hurd_machine.proofs.Retained.{was_retained}
 
 -- a list of changes that keeps sizes right
 abbrev pub KeepsSized : World → List Change → Type 0
@@ -34,30 +35,22 @@ IsFit o x = (i : ServerInfo) → o ≡ Some i → IsSized (behaviour_of i.kind) 
 -- changes of ports alone
 
 abbrev pub IsOfPorts : Change → Type 0
-IsOfPorts (EditHeader n f) = ⊥
-IsOfPorts (EditBody n g) = ⊥
-IsOfPorts (MakeNode n s node) = ⊥
-IsOfPorts (Attach s at i node) = ⊥
-IsOfPorts (DropServer s) = ⊥
-IsOfPorts (Unseat n) = ⊥
-IsOfPorts (SetText s text) = ⊥
-IsOfPorts Settle = ⊥
-IsOfPorts c = Unit {0}
+IsOfPorts (EditOpen o f) = Unit {0}
+IsOfPorts (MakeOpen o z) = Unit {0}
+IsOfPorts (EditTask q f) = Unit {0}
+IsOfPorts (Send r q) = Unit {0}
+IsOfPorts c = ⊥
 
 abbrev pub AreOfPorts : List Change → Type 0
 AreOfPorts [] = Unit {0}
 AreOfPorts (c ∷ cs) = IsOfPorts c × AreOfPorts cs
 
 ports_one : (c : Change) (w : World) → IsOfPorts c → nodes_of (apply c w) ≡ nodes_of w
-ports_one (EditHeader n f) w p = absurd p
-ports_one (EditBody n g) w p = absurd p
-ports_one (MakeNode n s node) w p = absurd p
-ports_one (Attach s at i node) w p = absurd p
-ports_one (DropServer s) w p = absurd p
-ports_one (Unseat n) w p = absurd p
-ports_one (SetText s text) w p = absurd p
-ports_one Settle w p = absurd p
-ports_one c w p = refl
+ports_one (EditOpen o f) w p = refl
+ports_one (MakeOpen o z) w p = refl
+ports_one (EditTask q f) w p = refl
+ports_one (Send r q) w p = refl
+ports_one c w p = absurd p
 
 -- they leave all that is known of nodes
 pub nodes-ports : (cs : List Change) (w : World) → AreOfPorts cs → nodes_of (apply_all cs w) ≡ nodes_of w
@@ -72,7 +65,17 @@ pub sized_settle : (w : World) → KeepsSized w (Settle ∷ [])
 sized_settle w sized = settle_by (λ x. AreSized (nodes_of x)) each (λ x s. s) w sized
   where
     each : (x : World) → AreSized (nodes_of x) → AreSized (nodes_of (sweep x))
-    each x s n y i e ei = let l = node_left x n y e in s n y i l.0 (sym (info_still x n l.1) ∙ ei)
+    each x s n y i e ei = let l = was_retained x.nodes (stays x) n y e in s n y i l.0 (sym (info_still x n l.1) ∙ ei)
+
+-- where one node changes, to one that fits
+sized_by : (w y : World) (n : Name) (f : Node → Node) → get y.nodes n ≡ option_map f (get w.nodes n) → ((m : Name) → m ≢ n → get y.nodes m ≡ get w.nodes m) → ((m : Name) → info_at y m ≡ info_at w m)
+    → ((x : Node) → get w.nodes n ≡ Some x → IsFit (info_at w n) (f x)) → AreSized (nodes_of w) → AreSized (nodes_of y)
+sized_by w y n f here apart info fit sized m z i e ei =
+    let known : info_at w m ≡ Some i = sym (info m) ∙ ei in
+    elim (same_or_apart m n) [
+      | inl a ↦ let l = edited_from f (get w.nodes n) z (sym here ∙ rw a at e) in subst (IsSized (behaviour_of i.kind) i.text) l.2 (fit l.0 l.1 i (rw a at known))
+      | inr a ↦ sized m z i (sym (apart m a) ∙ e) known
+    ]
 
 -- what a server makes of a node
 
@@ -115,14 +118,7 @@ module _ (w : World) (n : Name) where
   left_info (Some f) (Some k) m = refl
 
   sized_left : (bytes : Option (List ℕ → List ℕ)) (size : Option ℕ) → ((x : Node) → get w.nodes n ≡ Some x → IsFit (info_at w n) (left_of bytes size x)) → AreSized (nodes_of w) → AreSized (nodes_of (left_world n bytes size w))
-  sized_left bytes size fit sized m z i e ei =
-      let known : info_at w m ≡ Some i = sym (left_info bytes size m) ∙ ei in
-      elim (same_or_apart m n) [
-        | inl a ↦
-            let l = edited_from (left_of bytes size) (get w.nodes n) z (sym (left_here bytes size) ∙ rw a at e) in
-            subst (IsSized (behaviour_of i.kind) i.text) l.2 (fit l.0 l.1 i (rw a at known))
-        | inr a ↦ sized m z i (sym (left_apart bytes size m a) ∙ e) known
-      ]
+  sized_left bytes size = sized_by w (left_world n bytes size w) n (left_of bytes size) (left_here bytes size) (left_apart bytes size) (left_info bytes size)
 
 -- the answer to a question that keeps sizes
 pub did_sized : {R : Type 0} (q : Question R) → ((k : ServerKind) → KeepsSizes (behaviour_of k) q) → (w : World) → Coherent w → (n : Name) (d : Did R) → asked_at q n w ≡ Ok d → KeepsSized w (changes_of (edits_of n (Ok d)))
@@ -133,13 +129,9 @@ did_sized q keeps w c n d told sized = sized_left w n d.bytes d.size fit sized
 
 -- a header changed, but not its size
 pub sized_header : (w : World) (n : Name) (f : Header → Header) → ((h : Header) → (f h).size ≡ h.size) → KeepsSized w (EditHeader n f ∷ [])
-sized_header w n f keeps sized m z i e ei = elim (same_or_apart m n) [
-  | inl a ↦
-      let l = edited_from (with_header f) (get w.nodes n) z (sym (edit_here w.nodes n (with_header f)) ∙ rw a at e) in
-      let old : IsSized (behaviour_of i.kind) i.text l.0 = sized n l.0 i l.1 (rw a at ei) in
-      subst (IsSized (behaviour_of i.kind) i.text) l.2 (keeps l.0.header ∙ old)
-  | inr a ↦ sized m z i (sym (edit_apart w.nodes n (with_header f) m a) ∙ e) ei
-]
+sized_header w n f keeps sized =
+    sized_by w (apply (EditHeader n f) w) n (with_header f) (edit_here w.nodes n (with_header f)) (edit_apart w.nodes n (with_header f)) (λ m. refl)
+    (λ x is i known. keeps x.header ∙ sized n x i is known) sized
 
 -- a node made, and an entry for it
 
@@ -153,13 +145,9 @@ sized_made w n s node fit sized m z i e ei = elim (was w.nodes n m node z e) [
 
 -- a body changed, but not its size
 sized_body : (w : World) (d : Name) (g : Body → Body) → ((k : ServerKind) (text : List ℕ) (b : Body) → (behaviour_of k).size text (g b) ≡ (behaviour_of k).size text b) → KeepsSized w (EditBody d g ∷ [])
-sized_body w d g keeps sized m z i e ei = elim (same_or_apart m d) [
-  | inl a ↦
-      let l = edited_from (with_body g) (get w.nodes d) z (sym (edit_here w.nodes d (with_body g)) ∙ rw a at e) in
-      let old : IsSized (behaviour_of i.kind) i.text l.0 = sized d l.0 i l.1 (rw a at ei) in
-      subst (IsSized (behaviour_of i.kind) i.text) l.2 (old ∙ sym (keeps i.kind i.text l.0.body))
-  | inr a ↦ sized m z i (sym (edit_apart w.nodes d (with_body g) m a) ∙ e) ei
-]
+sized_body w d g keeps sized =
+    sized_by w (apply (EditBody d g) w) d (with_body g) (edit_here w.nodes d (with_body g)) (edit_apart w.nodes d (with_body g)) (λ m. refl)
+    (λ x is i known. sized d x i is known ∙ sym (keeps i.kind i.text x.body)) sized
 
 pub sized_entry : ((k : ServerKind) → GoodBehaviour (behaviour_of k)) → (w : World) (d : Name) (name : List ℕ) (n : Name) → KeepsSized w (EditBody d (with_entry name n) ∷ [])
 sized_entry good w d name n = sized_body w d (with_entry name n) (λ k text b. (good k).entered text name n b)

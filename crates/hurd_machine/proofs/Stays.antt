@@ -1,12 +1,12 @@
 -- Which nodes and servers stay, and what is read of them after a sweep.
-use Rattle.std.proofs.Common.{◌≡◌, ◌⊎◌, ℕ, Bool, true, false, List, [], ◌∷◌, Option, Some, None, sym, refl, ◌∙◌, ap, subst, inl, inr}
+use Rattle.std.proofs.Common.{◌≡◌, ◌⊎◌, ℕ, Bool, true, List, [], ◌∷◌, Option, Some, None, sym, refl, ◌∙◌, ap, subst, inl, inr}
 use Rattle.std.proofs.lemmas.Bool.{or_cases, or_left, or_right}
 use Rattle.std.specs.Prelude.{◌&&◌}
 use Rattle.std.specs.FinMap.{get}
 use Rattle.hurd_creds.specs.declared.name.Name.{Name}
 use Rattle.hurd_creds.proofs.NameLaws.{same_name-itself, equal_if_same}
 use Rattle.hurd_creds.specs.Names.{same_name}
-use Rattle.hurd_trans_iface.specs.Nodes.{Node, is_entered_at}
+use Rattle.hurd_trans_iface.specs.Nodes.{is_entered_at}
 use Rattle.hurd_nodes.specs.Shown.{NodeState, ServerInfo, boot_name, is_root, is_root_at, is_root_of, info_in}
 use Rattle.hurd_nodes.specs.Settle.{Outside, any_in, node_stays, stays_by, stays_with}
 use Rattle.hurd_nodes.proofs.PartLaws.{and_both, and_true, any_in-here, any_in-found}
@@ -18,7 +18,7 @@ use Rattle.hurd_ports.specs.Tables.{Task, rights_of, nodes_of as nodes_named, wa
 use Rattle.hurd_machine.specs.World.{World, IsAmong, world_from, nodes_of, ports_of, task_at, home_at, active_at, server_at, info_at, is_server_root}
 use Rattle.hurd_machine.specs.Change.{outside, stays, server_stays}
 use Rattle.hurd_machine.proofs.Holders.{named_by_right, controlled_by_right}
-use Rattle.hurd_machine.proofs.Retained.{retained, dropped, was_retained, none_retained}
+use Rattle.hurd_machine.proofs.Retained.{retained}
 
 -- the reasons
 
@@ -137,7 +137,7 @@ stays_root w s i es eh lives = kept_by (outside w) (nodes_of w) i.root (record {
 pub root_is_root : (h : NodeState) (s : Name) (i : ServerInfo) → get h.servers s ≡ Some i → get h.homes i.root ≡ Some s → is_root h i.root ≡ true
 root_is_root h s i es eh = rw (eh, es) (same_name-itself i.root)
 
-root_why : (h : NodeState) (n s : Name) → get h.homes n ≡ Some s → is_root h n ≡ true → (i : ServerInfo) × (get h.servers s ≡ Some i) × (same_name n i.root ≡ true)
+pub root_why : (h : NodeState) (n s : Name) → get h.homes n ≡ Some s → is_root h n ≡ true → (i : ServerInfo) × (get h.servers s ≡ Some i) × (same_name n i.root ≡ true)
 root_why h n s eh is = by_info (get h.servers s) refl (sym (ap (is_root_of h.servers n) eh) ∙ is)
   where
     by_info : (o : Option ServerInfo) → get h.servers s ≡ o → is_root_at n o ≡ true → (i : ServerInfo) × (get h.servers s ≡ Some i) × (same_name n i.root ≡ true)
@@ -202,58 +202,8 @@ stays_named w t x r n s i at h named eh es =
 abbrev pub sweep : World → World
 sweep w = world_from (kept.sweep (outside w) (nodes_of w)) (ports_of w)
 
--- what is left of it
-
-module _ (w : World) (n : Name) where
-  pub node_still : stays w n ≡ true → get (sweep w).nodes n ≡ get w.nodes n
-  node_still h = retained w.nodes (stays w) n h
-
-  pub home_still : stays w n ≡ true → home_at (sweep w) n ≡ home_at w n
-  home_still h = retained w.homes (stays w) n h
-
-  pub active_still : stays w n ≡ true → active_at (sweep w) n ≡ active_at w n
-  active_still h = retained w.actives (stays w) n h
-
-  pub server_still : server_stays w n ≡ true → server_at (sweep w) n ≡ server_at w n
-  server_still h = retained w.servers (server_stays w) n h
-
-  pub info_still : stays w n ≡ true → info_at (sweep w) n ≡ info_at w n
-  info_still h =
-      let k = kept_why (outside w) (nodes_of w) n h in
-      ap (info_in (sweep w).servers) (home_still h ∙ k.is_home) ∙ retained w.servers (server_stays w) k.server k.lives ∙ sym (ap (info_in w.servers) k.is_home)
-
-  pub node_gone : stays w n ≡ false → get (sweep w).nodes n ≡ None
-  node_gone h = dropped w.nodes (stays w) n h
-
-  pub home_gone : stays w n ≡ false → home_at (sweep w) n ≡ None
-  home_gone h = dropped w.homes (stays w) n h
-
-  pub active_gone : stays w n ≡ false → active_at (sweep w) n ≡ None
-  active_gone h = dropped w.actives (stays w) n h
-
-  pub server_gone : server_stays w n ≡ false → server_at (sweep w) n ≡ None
-  server_gone h = dropped w.servers (server_stays w) n h
-
-  pub node_left : (x : Node) → get (sweep w).nodes n ≡ Some x → (get w.nodes n ≡ Some x) × (stays w n ≡ true)
-  node_left x e = was_retained w.nodes (stays w) n x e
-
-  pub home_left : (s : Name) → home_at (sweep w) n ≡ Some s → (home_at w n ≡ Some s) × (stays w n ≡ true)
-  home_left s e = was_retained w.homes (stays w) n s e
-
-  pub active_left : (s : Name) → active_at (sweep w) n ≡ Some s → (active_at w n ≡ Some s) × (stays w n ≡ true)
-  active_left s e = was_retained w.actives (stays w) n s e
-
-  pub server_left : (i : ServerInfo) → server_at (sweep w) n ≡ Some i → (server_at w n ≡ Some i) × (server_stays w n ≡ true)
-  server_left i e = was_retained w.servers (server_stays w) n i e
-
-  pub none_left : get w.nodes n ≡ None → get (sweep w).nodes n ≡ None
-  none_left e = none_retained w.nodes (stays w) n e
-
-  pub no_home_left : home_at w n ≡ None → home_at (sweep w) n ≡ None
-  no_home_left e = none_retained w.homes (stays w) n e
-
-  pub no_active_left : active_at w n ≡ None → active_at (sweep w) n ≡ None
-  no_active_left e = none_retained w.actives (stays w) n e
-
-  pub no_server_left : server_at w n ≡ None → server_at (sweep w) n ≡ None
-  no_server_left e = none_retained w.servers (server_stays w) n e
+-- what stays has the server that it had
+pub info_still : (w : World) (n : Name) → stays w n ≡ true → info_at (sweep w) n ≡ info_at w n
+info_still w n h =
+    let k = kept_why (outside w) (nodes_of w) n h in
+    ap (info_in (sweep w).servers) (retained w.homes (stays w) n h ∙ k.is_home) ∙ retained w.servers (server_stays w) k.server k.lives ∙ sym (ap (info_in w.servers) k.is_home)

@@ -1,5 +1,5 @@
 -- What stays while servers do, and that a world is coherent and linked once it is settled.
-use Rattle.std.proofs.Common.{true, ◌≡◌, is_some, nat_lt, if◌then◌else◌, Option, Some, None, sym, refl, ◌∙◌, ap}
+use Rattle.std.proofs.Common.{true, ◌≡◌, is_some, nat_lt, if◌then◌else◌, Some, sym, ◌∙◌, ap}
 use Rattle.std.specs.FinMap.{get}
 use Rattle.hurd_creds.specs.declared.name.Name.{Name}
 use Rattle.hurd_trans_iface.specs.Nodes.{Header, is_dir, is_entered, is_entered_at}
@@ -11,21 +11,13 @@ use Rattle.hurd_machine.proofs.Nodes.{body_in, node_of_header}
 use Rattle.hurd_machine.proofs.Left.{Left, left_coherent, left_linked, times_retained}
 use Rattle.hurd_machine.proofs.Coherence.{reopened}
 use Rattle.hurd_machine.proofs.Listed.{entered_by}
-use Rattle.hurd_machine.proofs.Holders.{let_go, held_by_right, held_stays, left_over}
-use Rattle.hurd_machine.proofs.Stays.{sweep, kept_why, lives_at, lives_active, lives_boot, stays_root, stays_as_root, stays_entered, node_still, home_still, server_still, node_left, home_left, active_left, server_left, no_home_left}
+use Rattle.hurd_machine.proofs.Holders.{let_go, held_by_right}
+use Rattle.hurd_machine.proofs.Retained.{retained_if, retained, was_retained}
+use Rattle.hurd_machine.proofs.Stays.{sweep, kept_why, lives_at, lives_active, lives_boot, stays_root, stays_as_root, stays_entered}
 use Rattle.hurd_machine.proofs.Sweeps.{settle_by}
+use Rattle.hurd_ports.specs.Tables.{is_held}
 
 -- what stays
-
--- a node that is there has a server
-pub record HasServer (w : World) (n : Name) : Type 0 where
-  pub server : Name
-  pub info : ServerInfo
-  pub is_home : home_at w n ≡ Some server
-  pub is_info : server_at w server ≡ Some info
-
-pub header_server : (w : World) → Coherent w → (n : Name) (h : Header) → header_at w n ≡ Some h → HasServer w n
-header_server w c n h e = let s = c.housing.homes n h e in record { server = s.0; info = s.1; is_home = s.2; is_info = s.3 }
 
 -- the root of a server that stays
 pub root_stays : (w : World) → Coherent w → (s : Name) (i : ServerInfo) → server_at w s ≡ Some i → server_stays w s ≡ true → stays w i.root ≡ true
@@ -37,9 +29,9 @@ boot_stays w c = stays_as_root w boot_root boot_name c.tree.served (lives_boot w
 -- what is entered, and is of the server of a node that stays
 pub header_stays : (w : World) → Coherent w → (n : Name) (h : Header) → header_at w n ≡ Some h → is_entered h ≡ true → (d : Name) → home_at w n ≡ home_at w d → stays w d ≡ true → stays w n ≡ true
 header_stays w c n h e is d kin stays_d =
-    let s = header_server w c n h e in
+    let s = c.housing.homes n h e in
     let x = node_of_header (get w.nodes n) h e in
-    stays_entered w n s.server s.info s.is_home s.is_info (lives_at w d s.server stays_d (sym kin ∙ s.is_home)) (ap is_entered_at x.1 ∙ ap is_entered x.2 ∙ is)
+    stays_entered w n s.0 s.1 s.2 s.3 (lives_at w d s.0 stays_d (sym kin ∙ s.2)) (ap is_entered_at x.1 ∙ ap is_entered x.2 ∙ is)
 
 -- what an entry names has a link or a parent
 pub entry_entered : (w : World) → Coherent w → Linked (nodes_of w) → (d n : Name) (h : Header) → lists_at n (body_at w d) ≡ true → header_at w n ≡ Some h → is_entered h ≡ true
@@ -68,24 +60,20 @@ parent_stays w c l d p h eh ep stays_d =
 
 -- whether what a directory that stays has is a node or not, it has a server after a sweep if it had one
 pub entry_homed : (w : World) → Linked (nodes_of w) → Coherent w → (d n : Name) → lists_at n (body_at w d) ≡ true → stays w d ≡ true → home_at (sweep w) n ≡ home_at w n
-entry_homed w l c d n e stays_d = go (home_at w n) refl
-  where
-    go : (o : Option Name) → home_at w n ≡ o → home_at (sweep w) n ≡ home_at w n
-    go None k = no_home_left w n k ∙ sym k
-    go (Some s) k = let h = c.housing.housed n s k in home_still w n (entry_stays w c l d n h.0 e h.1 stays_d)
+entry_homed w l c d n e stays_d = retained_if w.homes (stays w) n (λ s k. let h = c.housing.housed n s k in entry_stays w c l d n h.0 e h.1 stays_d)
 
 -- after a sweep
 module _ (w : World) (c : Coherent w) (l : Linked (nodes_of w)) where
   sweep_left : Left w (nodes_of (sweep w)) (stays w)
   sweep_left = record {
-    node_was = node_left w;
-    home_was = home_left w;
-    active_was = active_left w;
-    server_was = λ s i e. let k = server_left w s i e in (k.0, root_stays w c s i k.0 k.1);
-    node_yet = node_still w;
-    home_yet = home_still w;
-    server_yet = λ n s e h. server_still w s (lives_at w n s h e);
-    seat_yet = λ n s e. server_still w s (lives_active w n s (active_left w n s e).0);
+    node_was = was_retained w.nodes (stays w);
+    home_was = was_retained w.homes (stays w);
+    active_was = was_retained w.actives (stays w);
+    server_was = λ s i e. let k = was_retained w.servers (server_stays w) s i e in (k.0, root_stays w c s i k.0 k.1);
+    node_yet = retained w.nodes (stays w);
+    home_yet = retained w.homes (stays w);
+    server_yet = λ n s e h. retained w.servers (server_stays w) s (lives_at w n s h e);
+    seat_yet = λ n s e. retained w.servers (server_stays w) s (lives_active w n s (was_retained w.actives (stays w) n s e).0);
     boot = boot_stays w c;
     entry_yet = entry_homed w l c;
   }
@@ -104,9 +92,9 @@ module _ (w : World) (c : Coherent w) (l : Linked (nodes_of w)) where
 -- without opens that no right names
 pub let_go_coherent : (w : World) → Coherent w → Coherent (let_go w)
 let_go_coherent w c = reopened w (let_go w).opens c (record {
-  made = λ o z e. c.given.opens o z (left_over w o z e).0;
-  writes = λ t x r z at i e modes. (z, (left_over w r.open_name z e).0, modes);
-  still = λ t x r z at i e. (z, held_stays w r.open_name (held_by_right w.tasks t x r at i) ∙ e);
+  made = λ o z e. c.given.opens o z (was_retained w.opens (is_held w.tasks) o z e).0;
+  writes = λ t x r z at i e modes. (z, (was_retained w.opens (is_held w.tasks) r.open_name z e).0, modes);
+  still = λ t x r z at i e. (z, retained w.opens (is_held w.tasks) r.open_name (held_by_right w.tasks t x r at i) ∙ e);
 })
 
 -- a world that hangs together and is linked is so once it is settled; and what each sweep of such a world keeps, it keeps

@@ -1,15 +1,16 @@
 -- One task changed: what stands at each place, how many rights pass a test, and names that stay given.
-use Rattle.std.proofs.Common.{◌≡◌, ◌⊎◌, ℕ, zero, suc, ◌+◌, ◌<◌, ◌≤◌, Bool, List, [], ◌∷◌, ◌++◌, map, Option, Some, None, slice_get, append_assoc, sym, refl, ◌∙◌, ap, subst, inl, inr, arith}
+use Rattle.std.proofs.Common.{◌≡◌, ◌⊎◌, ℕ, zero, suc, ◌+◌, ◌<◌, ◌≤◌, Bool, List, [], ◌∷◌, ◌++◌, map, Some, slice_get, append_assoc, sym, refl, ◌∙◌, ap, subst, inl, inr, arith}
 use Rattle.std.specs.Option.{option_map}
 use Rattle.hurd_creds.specs.declared.name.Name.{Name}
 use Rattle.hurd_ports.specs.declared.table.Right.{Right}
-use Rattle.hurd_ports.specs.Tables.{Task, rights_of, start_of, weigh_rights, count_rights}
-use Rattle.hurd_ports.specs.Steps.{named, with_sent, edit_at, edit_task}
+use Rattle.hurd_ports.specs.Tables.{Task, rights_of, start_of, count_rights}
+use Rattle.hurd_ports.specs.Steps.{named, with_sent, edit_task}
 use Rattle.hurd_ports.proofs.TaskLaws.{one_or_other, set-cases, edit-found, edit-here, edit-apart}
 use Rattle.hurd_ports.proofs.WeightLaws.{weigh_append, weigh_edit, weigh_sent}
-use Rattle.hurd_machine.specs.World.{World, IsAmong, task_at}
+use Rattle.hurd_machine.specs.World.{World, IsAmong}
 use Rattle.hurd_ports.specs.Weights.{one_if, count_list}
 use Rattle.hurd_machine.specs.Sound.{Below}
+use Rattle.hurd_machine.proofs.Nodes.{edited_from}
 
 -- a task afterwards is the changed one, or was there
 pub edit_cases : (q : ℕ) (f : Task → Task) (ts : List Task) (x : Task) → slice_get ts q ≡ Some x → (p : ℕ) (z : Task) → slice_get (edit_task q f ts) p ≡ Some z → ((p ≡ q) × (z ≡ f x)) ⊎ (slice_get ts p ≡ Some z)
@@ -17,6 +18,13 @@ edit_cases q f ts x at p z e = set-cases ts q x (f x) p z at (sym (ap (λ l. sli
 
 pub edit_here : (q : ℕ) (f : Task → Task) (ts : List Task) (x : Task) → slice_get ts q ≡ Some x → slice_get (edit_task q f ts) q ≡ Some (f x)
 edit_here q f ts x at = edit-here q f ts ∙ ap (option_map f) at
+
+-- and comes from one that was there in its place
+pub edit_was : (q : ℕ) (f : Task → Task) (ts : List Task) (p : ℕ) (z : Task) → slice_get (edit_task q f ts) p ≡ Some z → (x : Task) × (slice_get ts p ≡ Some x) × ((z ≡ x) ⊎ (z ≡ f x))
+edit_was q f ts p z e = elim (one_or_other p q) [
+  | inl i ↦ let l = edited_from f (slice_get ts q) z (sym (edit-here q f ts) ∙ rw i at e) in (l.0, rw i l.1, inr (sym l.2))
+  | inr a ↦ (z, sym (edit-apart q f ts p a) ∙ e, inl refl)
+]
 
 -- a task that is there stays, or is the changed one
 pub edit_still : (q : ℕ) (f : Task → Task) (ts : List Task) (p : ℕ) (x : Task) → slice_get ts p ≡ Some x → (slice_get (edit_task q f ts) p ≡ Some (f x)) ⊎ (slice_get (edit_task q f ts) p ≡ Some x)
@@ -34,20 +42,12 @@ edit_same q f ts us p e = elim (one_or_other p q) [
 
 -- names stay given
 pub below_edit : (w y : World) (q : ℕ) (f : Task → Task) → ((x : Task) → x.made ≤ (f x).made) → y.tasks ≡ edit_task q f w.tasks → (n : Name) → Below w n → Below y n
-below_edit w y q f up tasks n b u at = go (slice_get w.tasks q) refl
-  where
-    at' : slice_get (edit_task q f w.tasks) n.task.0 ≡ Some u
-    at' = ap (λ ts. slice_get ts n.task.0) (sym tasks) ∙ at
-
-    go : (o : Option Task) → slice_get w.tasks q ≡ o → n.count < u.made
-    go None e = b u (sym (ap (λ z. slice_get (edit_at q f w.tasks z) n.task.0) e) ∙ at')
-    go (Some x) e = elim (edit_cases q f w.tasks x e n.task.0 u at') [
-      | inl k ↦
-          let low : n.count < x.made = b x (ap (task_at w) k.0 ∙ e) in
-          let more : x.made ≤ (f x).made = up x in
-          let same : u.made ≡ (f x).made = ap (λ (v : Task). v.made) k.1 in
-          omega arith
-      | inr h ↦ b u h
+below_edit w y q f up tasks n b u at =
+    let l = edit_was q f w.tasks n.task.0 u (ap (λ ts. slice_get ts n.task.0) (sym tasks) ∙ at) in
+    let low : n.count < l.0.made = b l.0 l.1 in
+    elim l.2 [
+      | inl same ↦ let e = ap (λ (v : Task). v.made) same in omega arith
+      | inr changed ↦ let e = ap (λ (v : Task). v.made) changed in let more : l.0.made ≤ (f l.0).made = up l.0 in omega arith
     ]
 
 -- counts
@@ -56,11 +56,8 @@ pub count_edit : (T : Right → Bool) (q : ℕ) (f : Task → Task) (ts : List T
 count_edit T q f ts x at = weigh_edit (λ r. one_if (T r)) q f ts x at
 
 -- where no right is gained or lost
-pub weigh_named : (W : Right → ℕ) (q k : ℕ) (ts : List Task) (x : Task) → slice_get ts q ≡ Some x → weigh_rights W (edit_task q (named k) ts) ≡ weigh_rights W ts
-weigh_named W q k ts x at = let e = weigh_edit W q (named k) ts x at in omega arith
-
 pub count_named : (T : Right → Bool) (q k : ℕ) (ts : List Task) (x : Task) → slice_get ts q ≡ Some x → count_rights T (edit_task q (named k) ts) ≡ count_rights T ts
-count_named T q k ts x at = weigh_named (λ r. one_if (T r)) q k ts x at
+count_named T q k ts x at = let e = count_edit T q (named k) ts x at in omega arith
 
 pub count_append : {X : Type 0} (T : X → Bool) (rs ss : List X) → count_list T (rs ++ ss) ≡ count_list T rs + count_list T ss
 count_append T rs ss = weigh_append (λ x. one_if (T x)) rs ss
@@ -90,10 +87,6 @@ pub among_cases : {X : Type 0} (x : X) (xs ys : List X) → IsAmong x (xs ++ ys)
 among_cases x [] ys h = inr h
 among_cases x (y ∷ xs) ys (inl e) = inl (inl e)
 among_cases x (y ∷ xs) ys (inr h) = elim (among_cases x xs ys h) [ inl k ↦ inl (inr k) | inr k ↦ inr k ]
-
--- behind others: where what follows has it, if what followed had it
-pub among_behind : {X : Type 0} (x : X) (xs ys zs : List X) → (IsAmong x ys → IsAmong x zs) → IsAmong x (xs ++ ys) → IsAmong x (xs ++ zs)
-among_behind x xs ys zs more h = elim (among_cases x xs ys h) [ inl k ↦ among_left x xs zs k | inr k ↦ among_right x xs zs (more k) ]
 
 pub among_map : {X Y : Type 0} (f : X → Y) (y : Y) (xs : List X) → IsAmong y (map f xs) → (x : X) × IsAmong x xs × (f x ≡ y)
 among_map f y [] h = absurd h

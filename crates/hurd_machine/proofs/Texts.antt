@@ -1,15 +1,15 @@
 -- A server has another text: what is read of the world then, and that it is coherent.
-use Rattle.std.proofs.Common.{◌≡◌, ℕ, List, Option, Some, None, sym, refl, ◌∙◌, ap, inl, inr}
+use Rattle.std.proofs.Common.{◌≡◌, ℕ, List, Option, Some, sym, refl, ◌∙◌, ap, inl, inr}
 use Rattle.std.specs.Option.{option_map}
 use Rattle.std.specs.FinMap.{get}
 use Rattle.hurd_creds.specs.declared.name.Name.{Name}
 use Rattle.hurd_creds.proofs.NameLaws.{same_or_apart, edit_here, edit_apart}
-use Rattle.hurd_nodes.specs.Shown.{ServerInfo, is_root_at, is_root_of, info_in, tree_by, with_text}
+use Rattle.hurd_nodes.specs.Shown.{ServerInfo, is_root_at, info_in, tree_by, with_text}
 use Rattle.hurd_nodes.specs.Settle.{stays_by, stays_with}
 use Rattle.hurd_machine.specs.World.{World, boot_root, nodes_of, home_at, server_at, info_at, is_server_root}
 use Rattle.hurd_machine.specs.Change.{SetText, apply, outside, stays}
 use Rattle.hurd_machine.specs.Sound.{Coherent}
-use Rattle.hurd_machine.proofs.Nodes.{edited_from, edit_keeps}
+use Rattle.hurd_machine.proofs.Nodes.{edit_keeps, by_option, root_info, was_edited}
 
 module _ (w : World) (s : Name) (text : List ℕ) where
   abbrev pub retexted : World
@@ -18,11 +18,9 @@ module _ (w : World) (s : Name) (text : List ℕ) where
   -- a server that is there was there, but for its text, and still is
 
   pub server_was : (q : Name) (i : ServerInfo) → server_at retexted q ≡ Some i → (old : List ℕ) × (server_at w q ≡ Some (with_text old i))
-  server_was q i e = elim (same_or_apart q s) [
-    | inl same ↦
-        let l = edited_from (with_text text) (get w.servers s) i (sym (edit_here w.servers s (with_text text)) ∙ rw same at e) in
-        (l.0.text, rw same (l.1 ∙ ap (λ (j : ServerInfo). Some (with_text l.0.text j)) l.2))
-    | inr apart ↦ (i.text, sym (edit_apart w.servers s (with_text text) q apart) ∙ e)
+  server_was q i e = elim (was_edited w.servers s q (with_text text) i e) [
+    | inl l ↦ (l.1.text, ap (get w.servers) l.0 ∙ l.2 ∙ ap (λ (j : ServerInfo). Some (with_text l.1.text j)) l.3)
+    | inr h ↦ (i.text, h)
   ]
 
   pub server_still : (q : Name) (i : ServerInfo) → server_at w q ≡ Some i → (new : List ℕ) × (server_at retexted q ≡ Some (with_text new i))
@@ -33,32 +31,20 @@ module _ (w : World) (s : Name) (text : List ℕ) where
 
   -- what is read of a server without its text is as it was
   read_kept : {P : Type 0} (read : Option ServerInfo → P) → ((i : ServerInfo) → read (Some (with_text text i)) ≡ read (Some i)) → (q : Name) → read (server_at retexted q) ≡ read (server_at w q)
-  read_kept {P} read blind q = edit_keeps read (with_text text) each w.servers s q
-    where
-      each : (o : Option ServerInfo) → read (option_map (with_text text) o) ≡ read o
-      each None = refl
-      each (Some i) = blind i
+  read_kept read blind q = edit_keeps read (with_text text) (by_option (λ o. read (option_map (with_text text) o)) read refl blind) w.servers s q
+
+  info_kept : {P : Type 0} (read : Option ServerInfo → P) → ((i : ServerInfo) → read (Some (with_text text i)) ≡ read (Some i)) → (n : Name) → read (info_at retexted n) ≡ read (info_at w n)
+  info_kept read blind n = by_option (λ o. read (info_in retexted.servers o)) (λ o. read (info_in w.servers o)) refl (read_kept read blind) (home_at w n)
 
   pub root_kept : (n : Name) → is_server_root retexted n ≡ is_server_root w n
-  root_kept n = go (home_at w n)
-    where
-      go : (o : Option Name) → is_root_of retexted.servers n o ≡ is_root_of w.servers n o
-      go None = refl
-      go (Some q) = read_kept (is_root_at n) (λ i. refl) q
+  root_kept n = root_info (nodes_of retexted) n ∙ info_kept (is_root_at n) (λ i. refl) n ∙ sym (root_info (nodes_of w) n)
 
   pub tree_kept : (n : Name) → tree_by (info_at retexted n) ≡ tree_by (info_at w n)
-  tree_kept n = go (home_at w n)
-    where
-      go : (o : Option Name) → tree_by (info_in retexted.servers o) ≡ tree_by (info_in w.servers o)
-      go None = refl
-      go (Some q) = read_kept tree_by (λ i. refl) q
+  tree_kept = info_kept tree_by (λ i. refl)
 
   pub stays_kept : (n : Name) → stays retexted n ≡ stays w n
-  stays_kept n = go (home_at w n)
-    where
-      go : (o : Option Name) → stays_by (outside w) (nodes_of retexted) n o ≡ stays_by (outside w) (nodes_of w) n o
-      go None = refl
-      go (Some q) = read_kept (stays_with (outside w) (nodes_of w) n q) (λ i. refl) q
+  stays_kept n =
+      by_option (stays_by (outside w) (nodes_of retexted) n) (stays_by (outside w) (nodes_of w) n) refl (λ q. read_kept (stays_with (outside w) (nodes_of w) n q) (λ i. refl) q) (home_at w n)
 
   pub retexted_coherent : Coherent w → Coherent retexted
   retexted_coherent c = record {

@@ -1,7 +1,6 @@
 -- What is shown after a server took its place, or went.
-use Rattle.std.proofs.Common.{◌≡◌, ◌≢◌, ◌&&◌, inl, inr, ℕ, Bool, true, false, cond, List, refl, sym, ap, ap₂, ◌∙◌, true≢false}
+use Rattle.std.proofs.Common.{◌≡◌, ◌≢◌, ◌&&◌, inl, inr, ℕ, true, cond, List, refl, sym, ap, ap₂, ◌∙◌, true≢false}
 use Rattle.std.specs.Prelude.{Option, Some, None, is_some, not, filter}
-use Rattle.std.specs.Option.{option_map}
 use Rattle.std.specs.FinMap as fin
 use Rattle.hurd_creds.specs.declared.name.Name.{Name}
 use Rattle.hurd_creds.specs.declared.mode.Mode.{Mode}
@@ -14,9 +13,9 @@ use Rattle.hurd_trans_iface.specs.Meaning.{Meaning, begin_root_after}
 use Rattle.hurd_nodes.specs.Held.{AreApart, Held, Seated, box_by, home_key, home_value, homes_of, is_home, mean, mean_seat}
 use Rattle.hurd_nodes.specs.Shown.{HideNothing, NodeState, ServerInfo, attached, begun_info, begun_root, flat, info_of, is_other, is_other_seat, less_old, without_old, without_seats, node_in, nodes_of, out_server, servers_of, shown, without_server, without_value}
 use Rattle.hurd_nodes.proofs.ShownLaws.{get-nodes}
-use Rattle.hurd_nodes.proofs.SeatLaws.{some_same}
-use Rattle.hurd_nodes.proofs.PartLaws.{get-kept, kept-is, kept-here, removed-is}
+use Rattle.hurd_nodes.proofs.PartLaws.{get-kept, kept-is, kept-here, removed-is, cond_same, inserted-is}
 use Rattle.hurd_nodes.proofs.AnyLaws.{get-filter, kept_if}
+use Rattle.hurd_nodes.proofs.SeatLaws.{}
 
 -- rows of other servers
 
@@ -26,11 +25,7 @@ kept_value s n (Some q) = refl
 
 kept_seat : (s : Name) (homes : NameMap Name) (n : Name) (o : Option Name) → kept_if (λ m q. is_other s homes m && not (same_name s q)) n o ≡ cond (is_other s homes n && not (is_home s o)) o None
 kept_seat s homes n (Some q) = refl
-kept_seat s homes n None = go (is_other s homes n && true)
-  where
-    go : (b : Bool) → ◌≡◌ {A = Option Name} None (cond b None None)
-    go true = refl
-    go false = refl
+kept_seat s homes n None = sym (cond_same (is_other s homes n && true) None)
 
 pub homes-filter : (s : Name) (hs : List (Name × Name)) → AreApart home_key hs → homes_of (filter (λ (x : Name × Name). not (same_name s x.1)) hs) ≡ without_value s (homes_of hs)
 unfolding homes_of
@@ -57,9 +52,8 @@ module _ (homes : NameMap Name) (seats : NameMap (Seated Meaning)) (s : Name) wh
 
   nodes-left : nodes_of (without_value s homes) (fin.remove seats s) ≡ fin.retain_keys (nodes_of homes seats) (is_other s homes)
   nodes-left = same_map_by _ _ (λ q.
-      get-nodes (without_value s homes) (fin.remove seats s) q ∙ ap (λ (o : Option Name). node_in q (box_by (fin.remove seats s) o)) (get-kept homes (is_other s homes) q)
-      ∙ left_at q (fin.get homes q)
-      ∙ sym (get-kept (nodes_of homes seats) (is_other s homes) q ∙ ap (λ (o : Option Node). cond (is_other s homes q) o None) (get-nodes homes seats q)))
+      rw (get-nodes (without_value s homes) (fin.remove seats s) q, get-kept homes (is_other s homes) q, get-kept (nodes_of homes seats) (is_other s homes) q, get-nodes homes seats q)
+      (left_at q (fin.get homes q)))
 
   servers-left : servers_of (fin.remove seats s) ≡ fin.remove (servers_of seats) s
   unfolding servers_of
@@ -77,14 +71,11 @@ unfolding mean
 mean-less f seats s = map_values-remove (mean_seat f) seats s
 
 pub taken-server : {S : Type 0} (f : S → Meaning) (t : Held S) (s : Name) → shown f (without_server t s) ≡ out_server s (shown f t)
-taken-server f t s =
-    ap (flat (without_value s t.homes) (without_seats s t.homes t.actives)) (mean-less f t.seats s)
-    ∙ ap₂ (λ (ns : NodeMap) (ss : NameMap ServerInfo). let h : NodeState = record { nodes = ns; homes = without_value s t.homes; actives = without_seats s t.homes t.actives; servers = ss } in h)
-    (nodes-left t.homes (mean f t.seats) s) (servers-left t.homes (mean f t.seats) s)
+taken-server f t s = rw (mean-less f t.seats s, nodes-left t.homes (mean f t.seats) s, servers-left t.homes (mean f t.seats) s) refl
 
 -- another server's nodes keep their home
 other_value : (s p : Name) (homes : NameMap Name) (q : Name) → p ≢ s → fin.get homes q ≡ Some p → fin.get (without_value s homes) q ≡ Some p
-other_value s p homes q apart is = kept-here homes (is_other s homes) q p (ap (λ (o : Option Name). not (is_home s o)) is ∙ ap not (same_name-apart s p (λ e. apart (sym e)))) is
+other_value s p homes q apart is = kept-here homes (is_other s homes) q p (rw (is, same_name-apart s p (λ e. apart (sym e))) refl) is
 
 -- its boxes hide nothing more
 pub hides-left : {S : Type 0} (f : S → Meaning) (t : Held S) (s : Name) → HideNothing f t → HideNothing f (without_server t s)
@@ -117,10 +108,7 @@ module _ (homes actives : NameMap Name) (seats : NameMap (Seated Meaning)) (s at
   seats_after = fin.insert seats s e
 
   root_here : fin.get (nodes_of (fin.insert homes root s) seats_after) root ≡ Some x
-  root_here =
-      get-nodes (fin.insert homes root s) seats_after root ∙ ap (λ (o : Option Name). node_in root (box_by seats_after o)) (get_here homes root s)
-      ∙ ap (λ (o : Option (Seated Meaning)). node_in root (option_map (λ (y : Seated Meaning). y.server) o)) (get_here seats s e)
-      ∙ ap (λ (m : NodeMap). fin.get m root) one ∙ get_here {X = Node} fin.empty root x
+  root_here = rw (get-nodes (fin.insert homes root s) seats_after root, get_here homes root s, get_here seats s e, one) (get_here {X = Node} fin.empty root x)
 
   other_at : (q : Name) (o : Option Name) → fin.get homes q ≡ o → node_in q (box_by seats_after o) ≡ node_in q (box_by seats o)
   other_at q None is = refl
@@ -130,9 +118,8 @@ module _ (homes actives : NameMap Name) (seats : NameMap (Seated Meaning)) (s at
   nodes-attached = same_map_by _ _ (λ q. elim (same_or_apart q root) [
     | inl here ↦ rw here (root_here ∙ sym (get_here (nodes_of homes seats) root x))
     | inr apart ↦
-        get-nodes (fin.insert homes root s) seats_after q ∙ ap (λ (o : Option Name). node_in q (box_by seats_after o)) (get_apart homes root s q apart)
-        ∙ other_at q (fin.get homes q) refl
-        ∙ sym (get_apart (nodes_of homes seats) root x q apart ∙ get-nodes homes seats q)
+        rw (get-nodes (fin.insert homes root s) seats_after q, get_apart homes root s q apart, get_apart (nodes_of homes seats) root x q apart, get-nodes homes seats q)
+        (other_at q (fin.get homes q) refl)
   ])
 
   servers-attached : servers_of seats_after ≡ fin.insert (servers_of seats) s (info_of e)
@@ -149,21 +136,17 @@ module _ (homes actives : NameMap Name) (seats : NameMap (Seated Meaning)) (s at
   alone q there = elim (same_or_apart q root) [
     | inl here ↦ here
     | inr apart ↦
-        absurd (true≢false (sym there ∙ ap (λ (m : NodeMap). is_some (fin.get m q)) one
-        ∙ ap (λ (o : Option Node). is_some o) (get_apart {X = Node} fin.empty root x q apart ∙ fin.get-empty name_cmp q)))
+        absurd (true≢false (sym there ∙ rw (one, get_apart {X = Node} fin.empty root x q apart, fin.get-empty {X = Node} name_cmp q) refl))
   ]
 
   -- its box has its root alone, which no other has
   tells-attached : fin.get homes root ≡ None → ((p q : Name) (y : Seated Meaning) → fin.get seats p ≡ Some y → is_some (fin.get y.server.nodes q) ≡ true → fin.get homes q ≡ Some p)
       → (p q : Name) (y : Seated Meaning) → fin.get seats_after p ≡ Some y → is_some (fin.get y.server.nodes q) ≡ true → fin.get (fin.insert homes root s) q ≡ Some p
-  tells-attached fresh tells p q y is there = elim (same_or_apart p s) [
-    | inl here ↦
-        let same : e ≡ y = some_same (sym (get_here seats s e) ∙ ap (fin.get seats_after) (sym here) ∙ is) in
-        let at_root = alone q (ap (λ (z : Seated Meaning). is_some (fin.get z.server.nodes q)) same ∙ there) in
-        ap (fin.get (fin.insert homes root s)) at_root ∙ get_here homes root s ∙ ap Some (sym here)
+  tells-attached fresh tells p q y is there = elim (inserted-is seats s e p y is) [
+    | inl here ↦ rw (alone q (rw here.1 there), here.0) (get_here homes root s)
     | inr other ↦
-        let home = tells p q y (sym (get_apart seats s e p other) ∙ is) there in
-        get_apart homes root s q (λ here. let none : None ≡ Some p = sym fresh ∙ ap (fin.get homes) (sym here) ∙ home in absurd (cc)) ∙ home
+        let home = tells p q y other.1 there in
+        get_apart homes root s q (λ here. let none : None ≡ Some p = sym fresh ∙ rw here at home in absurd (cc)) ∙ home
   ]
 
 -- of the server that takes the place of one of its name
@@ -171,7 +154,7 @@ module _ (homes actives : NameMap Name) (seats : NameMap (Seated Meaning)) (s at
 no_home : (s : Name) (homes : NameMap Name) (q : Name) → fin.get (without_value s homes) q ≢ Some s
 no_home s homes q is =
     let both = kept-is homes (is_other s homes) q s is in
-    true≢false (sym both.0 ∙ ap (λ (o : Option Name). not (is_home s o)) both.1 ∙ ap not (same_name-itself s))
+    true≢false (sym both.0 ∙ rw (both.1, same_name-itself s) refl)
 
 module _ {S : Type 0} (f : S → Meaning) (t : Held S) (s at : Name) (e : Seated S) (m : Meaning) (owner group : ℕ) (mode : Mode)
     (bare : m.nodes ≡ fin.empty) (begun : f e.server ≡ begin_root_after m e.root owner group mode) where

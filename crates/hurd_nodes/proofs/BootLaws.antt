@@ -11,8 +11,8 @@ use Rattle.hurd_creds.proofs.NameLaws.{same_map_by, same_or_apart, get_here, get
 use Rattle.hurd_creds.proofs.MapLaws.{map_values-insert, map_values-empty}
 use Rattle.hurd_trans_iface.specs.Nodes.{Node, NodeMap}
 use Rattle.hurd_trans_iface.specs.Meaning.{Meaning, behaviour_of, new_root}
-use Rattle.hurd_nodes.specs.Held.{Seated, box_by, mean, mean_seat}
-use Rattle.hurd_nodes.specs.Shown.{boot_ids, boot_mode, boot_name, booted, flat, info_of, node_in, nodes_of, state_of, servers_of}
+use Rattle.hurd_nodes.specs.Held.{Seated, mean, mean_seat}
+use Rattle.hurd_nodes.specs.Shown.{boot_ids, boot_mode, boot_name, booted, flat, info_of, nodes_of, state_of, servers_of}
 use Rattle.hurd_nodes.proofs.ShownLaws.{get-nodes}
 
 module _ {X : Type 0} (n : Name) (x : X) where
@@ -59,13 +59,8 @@ module _ (m : Meaning) (bare : m.nodes ≡ fin.empty) where
   nodes-shown : nodes_of homes seats ≡ (booted m).nodes
   nodes-shown = same_map_by _ _ (λ q. elim (same_or_apart q boot_name) [
     | inl here ↦
-        rw here
-        (get-nodes homes seats boot_name
-        ∙ ap (λ (o : Option Name). node_in boot_name (box_by seats o)) (get_here {X = Name} fin.empty boot_name boot_name)
-        ∙ ap (λ (o : Option (Seated Meaning)). node_in boot_name (Rattle.std.specs.Option.option_map (λ (e : Seated Meaning). e.server) o)) (get_here {X = Seated Meaning} fin.empty boot_name seat))
-    | inr apart ↦
-        get-nodes homes seats q ∙ ap (λ (o : Option Name). node_in q (box_by seats o)) (one-other boot_name boot_name q apart)
-        ∙ sym (ap (λ (ns : NodeMap). fin.get ns q) nodes-begun ∙ one-other boot_name root q apart)
+        rw (here, get-nodes homes seats boot_name, get_here {X = Name} fin.empty boot_name boot_name, get_here {X = Seated Meaning} fin.empty boot_name seat) refl
+    | inr apart ↦ rw (get-nodes homes seats q, one-other boot_name boot_name q apart, nodes-begun, one-other boot_name root q apart) refl
   ])
 
   homes-shown : homes ≡ map_values (λ (x : Node). boot_name) (booted m).nodes

@@ -5,18 +5,18 @@ use Rattle.std.specs.Option.{option_map}
 use Rattle.std.specs.FinMap as fin
 use Rattle.hurd_creds.specs.declared.name.Name.{Name}
 use Rattle.hurd_creds.specs.declared.errno.Errno.{Errno}
-use Rattle.hurd_creds.specs.Memory.{Steps, is_no_memory, lacks_memory}
+use Rattle.hurd_creds.specs.Memory.{Steps, lacks_memory}
 use Rattle.hurd_creds.specs.NameMaps.{NameMap, edit}
 use Rattle.hurd_creds.proofs.NameLaws.{same_or_apart, get_here, get_apart, edit_here, edit_apart}
 use Rattle.hurd_trans_iface.specs.declared.new_node.NewNode.{NewNode}
-use Rattle.hurd_trans_iface.specs.Nodes.{AddNode, Edit, Node, NodeMap, OnBody, OnHeader, edit_all, on_bytes, with_body, with_header, with_size}
-use Rattle.hurd_trans_iface.specs.Answers.{added, edits_if, entering, is_one, make_edits, make_of, made_node, move_edits, rename_edits, unlink_edits}
+use Rattle.hurd_trans_iface.specs.Nodes.{AddNode, Edit, Node, NodeMap, OnBody, OnHeader, edit_all, with_body, with_header}
+use Rattle.hurd_trans_iface.specs.Answers.{added, edits_if, entering, is_one, make_of, made_node, move_edits, rename_edits, unlink_edits}
 use Rattle.hurd_trans_iface.specs.Behaviour.{Effect, Question, effect_on, edit_bytes, edit_size, edits_of}
 use Rattle.hurd_trans_iface.specs.Meaning.{Meaning, behaviour_of, edited, make_step, keeps_tree, step_of}
 use Rattle.hurd_nodes.specs.Held.{Held, Seated, box_by, mean, with_box, with_server_of}
 use Rattle.hurd_nodes.specs.Shown.{HideNothing}
 use Rattle.hurd_nodes.proofs.SeatLaws.{lent}
-use Rattle.hurd_nodes.proofs.EditLaws.{answered}
+use Rattle.hurd_nodes.proofs.PartLaws.{inserted-is}
 
 -- what a map has under a name
 abbrev pub has : NameMap Node → Name → Bool
@@ -33,18 +33,6 @@ has-edit n f m q = elim (same_or_apart q n) [
   | inr apart ↦ ap (λ (o : Option Node). is_some o) (edit_apart m n f q apart)
 ]
 
-has-sized : (n : Name) (o : Option ℕ) (m : NodeMap) (q : Name) → has (edit_all (edit_size n o) m) q ≡ has m q
-has-sized n None m q = refl
-has-sized n (Some k) m q = has-edit n (with_header (with_size k)) m q
-
-has-edits : {T : Type 0} (n : Name) (e : Effect T) (m : NodeMap) (q : Name) → has (edit_all (edits_of n e) m) q ≡ has m q
-has-edits n (Err e) m q = refl
-has-edits n (Ok d) m q = go d.bytes
-  where
-    go : (o : Option (List ℕ → List ℕ)) → has (edit_all (edit_bytes n o (edit_size n d.size)) m) q ≡ has m q
-    go None = has-sized n d.size m q
-    go (Some f) = has-sized n d.size (edit n (with_body (on_bytes f)) m) q ∙ has-edit n (with_body (on_bytes f)) m q
-
 -- whether none of these edits adds a node
 abbrev pub adds_none : List Edit → Bool
 adds_none [] = true
@@ -58,12 +46,25 @@ has-all (OnHeader n f ∷ es) only m q = has-all es only (edit n (with_header f)
 has-all (OnBody n g ∷ es) only m q = has-all es only (edit n (with_body g) m) q ∙ has-edit n (with_body g) m q
 has-all (AddNode n x ∷ es) only m q = absurd (cc)
 
--- no more has a server that made such edits, was refused, or found no memory
-module _ (es : List Edit) (only : adds_none es ≡ true) (m after : Meaning) where
-  has-answered : (short : Bool) (answer : Result (Unit {0}) Errno) → after ≡ cond short m (edited (edits_if answer es) m) → (k : Name) → has after.nodes k ≡ has m.nodes k
-  has-answered true answer left k = ap (λ (x : Meaning). has x.nodes k) left
-  has-answered false (Ok u) left k = ap (λ (x : Meaning). has x.nodes k) left ∙ has-all es only m.nodes k
-  has-answered false (Err e) left k = ap (λ (x : Meaning). has x.nodes k) left
+-- none does an edit that is refused, or one that a question makes
+if-adds_none : {T : Type 0} (answer : Result T Errno) (es : List Edit) → adds_none es ≡ true → adds_none (edits_if answer es) ≡ true
+if-adds_none (Ok x) es only = only
+if-adds_none (Err e) es only = refl
+
+edits-add_none : {T : Type 0} (n : Name) (e : Effect T) → adds_none (edits_of n e) ≡ true
+edits-add_none n (Err e) = refl
+edits-add_none n (Ok d) = go d.bytes d.size
+  where
+    go : (bytes : Option (List ℕ → List ℕ)) (size : Option ℕ) → adds_none (edit_bytes n bytes (edit_size n size)) ≡ true
+    go None None = refl
+    go None (Some k) = refl
+    go (Some f) None = refl
+    go (Some f) (Some k) = refl
+
+-- what was found without memory, or is as before, has what it had, if what was to be has
+pub kept-or : (short : Bool) (m wanted after : Meaning) (q : Name) → after ≡ cond short m wanted → has wanted.nodes q ≡ has m.nodes q → has after.nodes q ≡ has m.nodes q
+kept-or true m wanted after q left same = rw left refl
+kept-or false m wanted after q left same = rw left same
 
 -- an entry that goes adds no node, nor does one that goes from a directory to another
 pub unlink-adds_none : (dir : Name) (name : List ℕ) (o : Option Name) → adds_none (unlink_edits dir name o) ≡ true
@@ -90,62 +91,47 @@ TellsAll homes seats = (s n : Name) (e : Seated Meaning) → fin.get seats s ≡
 module _ (homes : NameMap Name) (seats : NameMap (Seated Meaning)) (tells : TellsAll homes seats) (s : Name) (e : Seated Meaning) (is : fin.get seats s ≡ Some e) where
   -- a server that has no more than before
   pub tells-less : (m : Meaning) → ((q : Name) → has m.nodes q ≡ true → has e.server.nodes q ≡ true) → TellsAll homes (fin.insert seats s (with_box e m))
-  tells-less m less p q x at there = elim (same_or_apart p s) [
-    | inl here ↦
-        let same : with_box e m ≡ x = (let one : Some (with_box e m) ≡ Some x = sym (get_here seats s (with_box e m)) ∙ ap (fin.get (fin.insert seats s (with_box e m))) (sym here) ∙ at in cc) in
-        tells s q e is (less q (ap (λ (y : Seated Meaning). has y.server.nodes q) same ∙ there)) ∙ ap Some (sym here)
-    | inr apart ↦ tells p q x (sym (get_apart seats s (with_box e m) p apart) ∙ at) there
+  tells-less m less p q x found there = elim (inserted-is seats s (with_box e m) p x found) [
+    | inl here ↦ rw here.0 (tells s q e is (less q (rw (← here.1) at there)))
+    | inr apart ↦ tells p q x apart.1 there
   ]
 
   -- a server that has one node more, of a name that had no home
   tells-more : (m : Meaning) (n : Name) → fin.get homes n ≡ None → ((q : Name) → q ≢ n → has m.nodes q ≡ true → has e.server.nodes q ≡ true) → TellsAll (fin.insert homes n s) (fin.insert seats s (with_box e m))
-  tells-more m n new less p q x at there = elim (same_or_apart q n) [
-    | inl node ↦ elim (same_or_apart p s) [
-      | inl here ↦ ap (fin.get (fin.insert homes n s)) node ∙ get_here homes n s ∙ ap Some (sym here)
-      | inr apart ↦
-          let home = tells p q x (sym (get_apart seats s (with_box e m) p apart) ∙ at) there in
-          absurd (let none : None ≡ Some p = sym new ∙ ap (fin.get homes) (sym node) ∙ home in cc)
+  tells-more m n new less p q x found there = elim (inserted-is seats s (with_box e m) p x found) [
+    | inl here ↦ elim (same_or_apart q n) [
+      | inl node ↦ rw (node, here.0) (get_here homes n s)
+      | inr other ↦ rw (get_apart homes n s q other, here.0) (tells s q e is (less q other (rw (← here.1) at there)))
     ]
-    | inr other ↦ elim (same_or_apart p s) [
-      | inl here ↦
-          let same : with_box e m ≡ x = (let one : Some (with_box e m) ≡ Some x = sym (get_here seats s (with_box e m)) ∙ ap (fin.get (fin.insert seats s (with_box e m))) (sym here) ∙ at in cc) in
-          get_apart homes n s q other ∙ tells s q e is (less q other (ap (λ (y : Seated Meaning). has y.server.nodes q) same ∙ there)) ∙ ap Some (sym here)
-      | inr apart ↦ get_apart homes n s q other ∙ tells p q x (sym (get_apart seats s (with_box e m) p apart) ∙ at) there
-    ]
+    | inr apart ↦
+        let home = tells p q x apart.1 there in
+        get_apart homes n s q (λ node. let none : None ≡ Some p = sym new ∙ rw node at home in absurd (cc)) ∙ home
   ]
 
-module _ {T : Type 0} (q : Question T) (n : Name) (m after : Meaning) (got : Result T Errno) (steps : Steps m (step_of q n m) got after) where
-  step_has : (b : Bool) → after ≡ cond b m (edited (edits_of n (effect_on q (behaviour_of m.kind) m.text (fin.get m.nodes n))) m) → (k : Name) → has after.nodes k ≡ has m.nodes k
-  step_has true left k = ap (λ (x : Meaning). has x.nodes k) left
-  step_has false left k = ap (λ (x : Meaning). has x.nodes k) left ∙ has-edits n (effect_on q (behaviour_of m.kind) m.text (fin.get m.nodes n)) m.nodes k
-
-  has-step : (k : Name) → has after.nodes k ≡ has m.nodes k
-  has-step = step_has (lacks_memory got) steps.left
-
+-- a box that was lent, answered, and edited nodes that are there
 module _ {S : Type 0} (f : S → Meaning) (t : Held S) (n : Name) (a w : S) (box : Some (f a) ≡ box_by (mean f t.seats) (fin.get t.homes n)) where
-  -- a box that was lent, and has the nodes that it had
-  hides-kept : ((k : Name) → has (f w).nodes k ≡ has (f a).nodes k) → HideNothing f t → HideNothing f (with_server_of t n w)
-  hides-kept kept hides =
+  hides-kept : (es : List Edit) → adds_none es ≡ true → (short : Bool) → f w ≡ cond short (f a) (edited es (f a)) → HideNothing f t → HideNothing f (with_server_of t n w)
+  hides-kept es only short left hides =
       let l = lent f t n a w box in
-      let less = λ (k : Name) (there : has (f w).nodes k ≡ true). ap (λ (x : Meaning). has x.nodes k) l.was ∙ sym (kept k) ∙ there in
-      let tells = tells-less t.homes (mean f t.seats) hides l.name l.seat l.is (f w) less in
-      λ s k e is there. tells s k e (ap (λ (m : NameMap (Seated Meaning)). fin.get m s) (sym l.put) ∙ is) there
+      let less = λ (q : Name) (there : has (f w).nodes q ≡ true).
+      ap (λ (x : Meaning). has x.nodes q) l.was ∙ sym (kept-or short (f a) (edited es (f a)) (f w) q left (has-all es only (f a).nodes q)) ∙ there in
+      rw l.put (tells-less t.homes (mean f t.seats) hides l.name l.seat l.is (f w) less)
 
-  -- and edited nodes that are there, where memory may be wanted
+  -- where memory may be wanted
   pub hides-edited : (answer : Result (Unit {0}) Errno) (es : List Edit) → adds_none es ≡ true → (got : Result (Unit {0}) Errno)
-      → Steps (f a) (answered edited es (f a) answer) got (f w) → HideNothing f t → HideNothing f (with_server_of t n w)
-  hides-edited answer es only got steps = hides-kept (has-answered es only (f a) (f w) (lacks_memory got) answer steps.left)
+      → Steps (f a) (answer, edited (edits_if answer es) (f a)) got (f w) → HideNothing f t → HideNothing f (with_server_of t n w)
+  hides-edited answer es only got steps = hides-kept (edits_if answer es) (if-adds_none answer es only) (lacks_memory got) steps.left
 
   -- and where it is not
   pub hides-sure : (answer : Result (Unit {0}) Errno) (es : List Edit) → adds_none es ≡ true → (got : Result (Unit {0}) Errno)
-      → (got, f w) ≡ answered edited es (f a) answer → HideNothing f t → HideNothing f (with_server_of t n w)
-  hides-sure answer es only got steps =
-      hides-kept (has-answered es only (f a) (f w) false answer (ap (λ (z : Result (Unit {0}) Errno × Meaning). z.1) steps))
+      → ◌≡◌ {A = Result (Unit {0}) Errno × Meaning} (got, f w) (answer, edited (edits_if answer es) (f a)) → HideNothing f t → HideNothing f (with_server_of t n w)
+  hides-sure answer es only got steps = hides-kept (edits_if answer es) (if-adds_none answer es only) false (ap (λ (z : Result (Unit {0}) Errno × Meaning). z.1) steps)
 
--- and one that was asked
-pub hides-asked : {S : Type 0} (f : S → Meaning) (t : Held S) (n : Name) {T : Type 0} (q : Question T) (a w : S) (got : Result T Errno) → Some (f a) ≡ box_by (mean f t.seats) (fin.get t.homes n) → Steps (f a) (step_of q n (f a)) got (f w)
-    → HideNothing f t → HideNothing f (with_server_of t n w)
-hides-asked f t n q a w got box steps = hides-kept f t n a w box (has-step q n (f a) (f w) got steps)
+  -- and where a question was asked
+  pub hides-asked : {T : Type 0} (q : Question T) (got : Result T Errno) → Steps (f a) (step_of q n (f a)) got (f w) → HideNothing f t → HideNothing f (with_server_of t n w)
+  hides-asked q got steps =
+      let effect = effect_on q (behaviour_of (f a).kind) (f a).text (fin.get (f a).nodes n) in
+      hides-kept (edits_of n effect) (edits-add_none n effect) (lacks_memory got) steps.left
 
 -- making
 module _ (dir : Name) (entry : Option (List ℕ)) (new : NewNode) where
@@ -153,27 +139,14 @@ module _ (dir : Name) (entry : Option (List ℕ)) (new : NewNode) where
   has-entering None m q = refl
   has-entering (Some name) m q = has-edit dir _ m q
 
-  has-added : (o : Option Node) (m : NodeMap) (q : Name) → q ≢ new.name → has (edit_all (added dir entry new.name o) m) q ≡ has m q
-  has-added None m q apart = refl
-  has-added (Some x) m q apart = has-entering entry (fin.insert m new.name x) q ∙ ap (λ (o : Option Node). is_some o) (get_apart m new.name x q apart)
+  has-added : (r : Result (Unit {0}) Errno) (o : Option Node) (m : NodeMap) (q : Name) → q ≢ new.name → has (edit_all (edits_if r (added dir entry new.name o)) m) q ≡ has m q
+  has-added (Err e) o m q apart = refl
+  has-added (Ok u) None m q apart = refl
+  has-added (Ok u) (Some x) m q apart = has-entering entry (fin.insert m new.name x) q ∙ ap (λ (o : Option Node). is_some o) (get_apart m new.name x q apart)
 
-  module _ (homes : NameMap Name) (seats : NameMap (Seated Meaning)) (s : Name) (e : Seated Meaning) (is : fin.get seats s ≡ Some e) (m : Meaning) where
-    abbrev wanted : Result (Unit {0}) Errno
-    wanted = make_of (keeps_tree e.server.kind) entry new.kind (fin.get e.server.nodes dir)
-
-    made_has : (b : Bool) (r : Result (Unit {0}) Errno) → m ≡ cond b e.server (edited (edits_if r (make_edits dir entry new)) e.server) → (q : Name) → q ≢ new.name → has m.nodes q ≡ has e.server.nodes q
-    made_has true r left q apart = ap (λ (x : Meaning). has x.nodes q) left
-    made_has false (Ok u) left q apart = ap (λ (x : Meaning). has x.nodes q) left ∙ has-added (made_node dir entry new) e.server.nodes q apart
-    made_has false (Err x) left q apart = ap (λ (x : Meaning). has x.nodes q) left
-
-    -- made, under a name that had no home
-    pub hides-made : (u : Unit {0}) → Steps e.server (make_step dir entry new e.server) (Ok u) m → fin.get homes new.name ≡ None → TellsAll homes seats → TellsAll (fin.insert homes new.name s) (fin.insert seats s (with_box e m))
-    hides-made u steps fresh tells =
-        tells-more homes seats tells s e is m new.name fresh (λ q apart there. sym (made_has false wanted steps.left q apart) ∙ there)
-
-    same_has : m ≡ e.server → (q : Name) → has m.nodes q ≡ true → has e.server.nodes q ≡ true
-    same_has same q there = sym (ap (λ (x : Meaning). has x.nodes q) same) ∙ there
-
-    -- not made: the server is as it was
-    pub hides-unmade : m ≡ e.server → TellsAll homes seats → TellsAll homes (fin.insert seats s (with_box e m))
-    hides-unmade same tells = tells-less homes seats tells s e is m (same_has same)
+  -- made, under a name that had no home
+  pub hides-made : (homes : NameMap Name) (seats : NameMap (Seated Meaning)) (s : Name) (e : Seated Meaning) → fin.get seats s ≡ Some e → (m : Meaning) (u : Unit {0})
+      → Steps e.server (make_step dir entry new e.server) (Ok u) m → fin.get homes new.name ≡ None → TellsAll homes seats → TellsAll (fin.insert homes new.name s) (fin.insert seats s (with_box e m))
+  hides-made homes seats s e is m u steps fresh tells =
+      let wanted = make_of (keeps_tree e.server.kind) entry new.kind (fin.get e.server.nodes dir) in
+      tells-more homes seats tells s e is m new.name fresh (λ q apart there. sym (has-added wanted (made_node dir entry new) e.server.nodes q apart) ∙ rw steps.left at there)

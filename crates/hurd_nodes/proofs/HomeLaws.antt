@@ -1,6 +1,6 @@
 -- Homes in a map of the code, and the map that they stand for.
-use Rattle.std.proofs.Common.{◌≡◌, ◌≢◌, ◌⊎◌, ◌||◌, inl, inr, ℕ, zero, suc, ◌+◌, Bool, true, false, cond, List, [], ◌∷◌, map, take, refl, sym, ap, ◌∙◌, true≢false, add-one}
-use Rattle.std.specs.Prelude.{Option, Some, None, Result, Ok, Err, IsOk, OnOk, is_some, slice_get}
+use Rattle.std.proofs.Common.{◌≡◌, inl, inr, ℕ, ◌+◌, Bool, true, false, cond, List, [], ◌∷◌, map, take, refl, sym, ◌∙◌, true≢false}
+use Rattle.std.specs.Prelude.{Some, None, Result, Ok, Err, IsOk, OnOk, is_some, slice_get}
 use Rattle.std.specs.Option.{option_map}
 use Rattle.std.proofs.lemmas.Iterator.Adapters.{option_map_id}
 use Rattle.std.specs.List.{IsDistinct, AllByRecursion, list_any}
@@ -14,7 +14,9 @@ use Rattle.hurd_creds.proofs.KeyedLaws.{get-keyed}
 use Rattle.hurd_creds.proofs.NameLaws.{name_tied, same_name-itself, same_name-apart, same_map_by, same_or_apart, get_here, get_apart, remove_here, remove_apart}
 use Rattle.hurd_nodes.specs.declared.seat.Seat.{Seat}
 use Rattle.hurd_nodes.specs.Held.{AreApart, homes_of, seat_value, seats_of}
-use Rattle.hurd_nodes.proofs.RowLaws.{row_key}
+use Rattle.hurd_nodes.proofs.RowLaws.{row_key, got-at}
+use Rattle.std.proofs.lemmas.Bool.{cases_Bool, or_from}
+use Rattle.std.proofs.lemmas.List.Folds.{list_any_more}
 
 -- what an insert says of its success, where it has one
 pub on_success : {A E : Type 0} {P : Type 0} (r : Result A E) → IsOk r → OnOk r P → P
@@ -28,12 +30,10 @@ module _ {X V : Type 0} (value : X → V) where
 
   find-rows : (n : Name) (es : List (Name × X)) → fin.find name_cmp n (map (λ (e : Name × X). (e.0, value e.1)) es) ≡ option_map value (lookup (same_name n) es)
   find-rows n [] = refl
-  find-rows n (e ∷ es) = go (same_name n e.0) refl (find-rows n es)
-    where
-      go : (b : Bool) → same_name n e.0 ≡ b → fin.find name_cmp n (map (λ (e : Name × X). (e.0, value e.1)) es) ≡ option_map value (lookup (same_name n) es)
-          → fin.find name_cmp n (map (λ (e : Name × X). (e.0, value e.1)) (e ∷ es)) ≡ option_map value (lookup (same_name n) (e ∷ es))
-      go true is rest = rw (name_tied n e.0, is) refl
-      go false is rest = rw (name_tied n e.0, is) rest
+  find-rows n (e ∷ es) = elim (cases_Bool (same_name n e.0)) [
+    | inl is ↦ rw (name_tied n e.0, is) refl
+    | inr is ↦ rw (name_tied n e.0, is) (find-rows n es)
+  ]
 
   pub row-got : (es : List (Name × X)) (n : Name) → fin.get (rows_of es) n ≡ option_map value (lookup (same_name n) es)
   row-got es n = get-keyed (λ (e : Name × X). e.0) (λ (e : Name × X). value e.1) es n ∙ find-rows n es
@@ -41,29 +41,17 @@ module _ {X V : Type 0} (value : X → V) where
   module _ {S : Type 0} (m l : IndexMap Name X S) (n : Name) where
     -- a row is put
     pub row-put : (x : X) → ((q : Name) → get same_name l q ≡ cond (same_name n q) (Some x) (get same_name m q)) → rows_of l.entries ≡ fin.insert (rows_of m.entries) n (value x)
-    row-put x w = same_map_by _ _ (λ q. go q (same_or_apart q n))
-      where
-        go : (q : Name) → (q ≡ n) ⊎ (q ≢ n) → fin.get (rows_of l.entries) q ≡ fin.get (fin.insert (rows_of m.entries) n (value x)) q
-        go q (inl e) =
-            rw e
-            (row-got l.entries n ∙ ap (option_map value) (w n ∙ ap (λ (b : Bool). cond b (Some x) (get same_name m n)) (same_name-itself n))
-            ∙ sym (get_here (rows_of m.entries) n (value x)))
-        go q (inr apart) =
-            row-got l.entries q ∙ ap (option_map value) (w q ∙ ap (λ (b : Bool). cond b (Some x) (get same_name m q)) (same_name-apart n q (λ e. apart (sym e))))
-            ∙ sym (get_apart (rows_of m.entries) n (value x) q apart ∙ row-got m.entries q)
+    row-put x w = same_map_by _ _ (λ q. elim (same_or_apart q n) [
+      | inl here ↦ rw (here, row-got l.entries n, w n, same_name-itself n, get_here (rows_of m.entries) n (value x)) refl
+      | inr apart ↦ rw (row-got l.entries q, w q, same_name-apart n q (λ e. apart (sym e)), get_apart (rows_of m.entries) n (value x) q apart, row-got m.entries q) refl
+    ])
 
     -- a row is taken out
     pub row-out : ((q : Name) → get same_name l q ≡ cond (same_name n q) None (get same_name m q)) → rows_of l.entries ≡ fin.remove (rows_of m.entries) n
-    row-out w = same_map_by _ _ (λ q. go q (same_or_apart q n))
-      where
-        go : (q : Name) → (q ≡ n) ⊎ (q ≢ n) → fin.get (rows_of l.entries) q ≡ fin.get (fin.remove (rows_of m.entries) n) q
-        go q (inl e) =
-            rw e
-            (row-got l.entries n ∙ ap (option_map value) (w n ∙ ap (λ (b : Bool). cond b None (get same_name m n)) (same_name-itself n))
-            ∙ sym (remove_here (rows_of m.entries) n))
-        go q (inr apart) =
-            row-got l.entries q ∙ ap (option_map value) (w q ∙ ap (λ (b : Bool). cond b None (get same_name m q)) (same_name-apart n q (λ e. apart (sym e))))
-            ∙ sym (remove_apart (rows_of m.entries) n q apart ∙ row-got m.entries q)
+    row-out w = same_map_by _ _ (λ q. elim (same_or_apart q n) [
+      | inl here ↦ rw (here, row-got l.entries n, w n, same_name-itself n, remove_here (rows_of m.entries) n) refl
+      | inr apart ↦ rw (row-got l.entries q, w q, same_name-apart n q (λ e. apart (sym e)), remove_apart (rows_of m.entries) n q apart, row-got m.entries q) refl
+    ])
 
 -- the home of a node is what is found under its name
 pub home-got : (es : List (Name × Name)) (n : Name) → fin.get (homes_of es) n ≡ lookup (same_name n) es
@@ -104,26 +92,14 @@ module _ {X S : Type 0} (m l : IndexMap Name (Seat X) S) (n : Name) where
 
 -- a scan that has found none before i, and doesn't find it at i
 
-both_false : (a b : Bool) → (a || b) ≡ false → (a ≡ false) × (b ≡ false)
-both_false true b h = absurd (true≢false h)
-both_false false b h = (refl, h)
-
-none-more_suc : {X : Type 0} (p : X → Bool) (xs : List X) (i : ℕ) (x : X) → list_any p (take i xs) ≡ false → Some x ≡ slice_get xs i → p x ≡ false → list_any p (take (suc i) xs) ≡ false
-none-more_suc p [] i x none at is = refl
-none-more_suc p (y ∷ ys) zero x none at is = let e : x ≡ y = cc in rw (← e, is) refl
-none-more_suc p (y ∷ ys) (suc i) x none at is = let both = both_false (p y) (list_any p (take i ys)) none in rw both.0 (none-more_suc p ys i x both.1 at is)
-
 pub none-more : {X : Type 0} (p : X → Bool) (xs : List X) (i : ℕ) (x : X) → list_any p (take i xs) ≡ false → Some x ≡ slice_get xs i → p x ≡ false → list_any p (take (i + 1) xs) ≡ false
-none-more p xs i x none at is = rw add-one (none-more_suc p xs i x none at is)
+none-more p xs i x none at is = let r = got-at xs i x at in list_any_more p xs i x r.0 ∙ or_from (list_any p (take i xs)) _ none (rw (← r.1) is)
 
 -- what is told of the home at a place
 pub home-here : (es : List (Name × Name)) (n s : Name) → lookup (same_name n) es ≡ Some s → is_some (fin.get (homes_of es) n) ≡ true
-home-here es n s is = ap (λ (o : Option Name). is_some o) (home-got es n ∙ is)
-
-some_map : {A B : Type 0} (f : A → B) (o : Option A) (x : A) → o ≡ Some x → is_some (option_map f o) ≡ true
-some_map {A = A} f o x is = ap (λ (u : Option A). is_some (option_map f u)) is
+home-here es n s is = rw (home-got es n, is) refl
 
 -- and of the seat at one
 pub seat-here : {S : Type 0} (es : List (Name × Seat S)) (n : Name) (x : Seat S) → lookup (same_name n) es ≡ Some x → is_some (fin.get (seats_of es) n) ≡ true
 unfolding seats_of
-seat-here es n x is = ap (λ (o : Option _). is_some o) (row-got seat_value es n) ∙ some_map seat_value (lookup (same_name n) es) x is
+seat-here es n x is = rw (row-got seat_value es n, is) refl

@@ -2,8 +2,8 @@
 use Rattle.std.proofs.Common.{◌≡◌, inl, inr, ℕ, suc, ◌+◌, Bool, true, false, ◌||◌, ◌&&◌, List, [], ◌∷◌, take, refl, sym, ap, subst, ◌∙◌, true≢false, arith}
 use Rattle.std.proofs.lemmas.List.{take_more}
 use Rattle.std.proofs.lemmas.List.Elements.{All-push}
+use Rattle.std.proofs.lemmas.Bool.{and_from, cases_Bool, not_from_false, true_from_ne_false}
 use Rattle.std.specs.Prelude.{Option, Some, None, is_some, not, slice_get, slice_index_or}
-use Rattle.std.specs.Option.{option_map}
 use Rattle.std.specs.List.{All, list_any}
 use Rattle.std.specs.FinMap as fin
 use Rattle.hurd_creds.specs.declared.name.Name.{Name}
@@ -19,30 +19,18 @@ use Rattle.hurd_nodes.specs.Shown.{NodeState, flat, info_of, node_in}
 use Rattle.hurd_nodes.specs.Settle.{Outside, node_stays, server_stays, stays_by, stays_with}
 use Rattle.hurd_nodes.specs.Look.{HomedStay, NamelessStay, ServersStay}
 use Rattle.hurd_nodes.proofs.AnyLaws.{get-first, get-rest}
-use Rattle.hurd_nodes.proofs.PartLaws.{or_cases, true_or_false}
+use Rattle.hurd_nodes.proofs.PartLaws.{any-more}
 use Rattle.hurd_nodes.proofs.RowLaws.{got-at}
 use Rattle.hurd_nodes.proofs.SeatLaws.{box-found}
 use Rattle.hurd_nodes.proofs.ShownLaws.{get-nodes}
 use Rattle.hurd_nodes.proofs.StayLaws.{info-is}
+use Rattle.std.proofs.Math.Bool.{or-true}
 
 -- of a list on which none has a home and goes, one that has a home stays
-both_true : (a b : Bool) → (a && not b) ≡ false → a ≡ true → b ≡ true
-both_true true true h k = refl
-both_true true false h k = absurd (true≢false h)
-both_true false b h k = absurd (true≢false (sym k))
-
-neither : (a b : Bool) → (a || b) ≡ false → (a ≡ false) × (b ≡ false)
-neither true b h = absurd (true≢false h)
-neither false b h = (refl, h)
-
 pub listed-stays : (p q : Name → Bool) (ns : List Name) (n : Name) → is_listed n ns ≡ true → list_any (λ x. p x && not (q x)) ns ≡ false → p n ≡ true → q n ≡ true
-listed-stays p q [] n on none home = absurd (true≢false (sym on))
-listed-stays p q (m ∷ ns) n on none home =
-    let rest = neither (p m && not (q m)) (list_any (λ x. p x && not (q x)) ns) none in
-    elim (or_cases (same_name n m) (is_listed n ns) on) [
-      | inl here ↦ let e = equal_if_same n m here in both_true (p n) (q n) (rw e rest.0) home
-      | inr later ↦ listed-stays p q ns n later rest.1 home
-    ]
+listed-stays p q ns n on none home = true_from_ne_false (q n) (λ goes.
+    let goes_here = and_from (p n) (not (q n)) home (not_from_false (q n) goes) in
+    true≢false (sym (any-more (same_name n) (λ x. p x && not (q x)) ns (λ x same. rw (← equal_if_same n x same) goes_here) on) ∙ none))
 
 -- what holds of each seat of a list holds of the one of a name
 pub all-seated : {S : Type 0} (P : Name × Seat S → Type 0) (ss : List (Name × Seat S)) → All P ss → (s : Name) (e : Seated S) → fin.get (seats_of ss) s ≡ Some e → (x : Name × Seat S) × (row_value x ≡ e) × P x
@@ -66,23 +54,17 @@ module _ {S : Type 0} (f : S → Meaning) (homes actives : NameMap Name) (ss : L
     seat = some_back (fin.get (seats_of ss) s) (housed n s home)
 
     info : fin.get told.servers s ≡ Some (info_of (mean_seat f seat.0))
-    info = info-is f (seats_of ss) s ∙ ap (λ (u : Option (Seated S)). option_map info_of (option_map (mean_seat f) u)) seat.1
+    info = rw (info-is f (seats_of ss) s, seat.1) refl
 
     -- the node is what its server has
     served : fin.get told.nodes n ≡ fin.get (f seat.0.server).nodes n
-    served =
-        get-nodes homes (mean f (seats_of ss)) n ∙ ap (λ (u : Option Name). node_in n (Rattle.hurd_nodes.specs.Held.box_by (mean f (seats_of ss)) u)) home
-        ∙ ap (node_in n) (sym (box-found f (seats_of ss) s seat.0 seat.1))
+    served = rw (get-nodes homes (mean f (seats_of ss)) n, home) (ap (node_in n) (sym (box-found f (seats_of ss) s seat.0 seat.1)))
 
     stays_is : node_stays o told n ≡ (server_stays o told s && (same_name n seat.0.root || (is_entered_at (fin.get told.nodes n) || o.held n)))
     stays_is = ap (stays_by o told n) home ∙ ap (stays_with o told n s) info
 
     entered_stays : is_entered_at (fin.get told.nodes n) ≡ true → node_stays o told n ≡ true
-    entered_stays entered = stays_is ∙ rw (serves s (info_of (mean_seat f seat.0)) info, entered) (go (same_name n seat.0.root))
-      where
-        go : (b : Bool) → (b || true) ≡ true
-        go true = refl
-        go false = refl
+    entered_stays entered = stays_is ∙ rw (serves s (info_of (mean_seat f seat.0)) info, entered) (or-true (same_name n seat.0.root))
 
     nameless_stays : is_entered_at (fin.get told.nodes n) ≡ false → node_stays o told n ≡ true
     nameless_stays nameless =
@@ -91,7 +73,7 @@ module _ {S : Type 0} (f : S → Meaning) (homes actives : NameMap Name) (ss : L
         x.2 n (ap (λ (b : S). is_entered_at (fin.get (f b).nodes n)) same ∙ sym (ap is_entered_at served) ∙ nameless) (ap (λ (u : Option Name). is_some u) home)
 
     stays_by_cases : node_stays o told n ≡ true
-    stays_by_cases = elim (true_or_false (is_entered_at (fin.get told.nodes n))) [ inl entered ↦ entered_stays entered | inr nameless ↦ nameless_stays nameless ]
+    stays_by_cases = elim (cases_Bool (is_entered_at (fin.get told.nodes n))) [ inl entered ↦ entered_stays entered | inr nameless ↦ nameless_stays nameless ]
 
   pub looked-stay : All (λ (x : Name × Seat S). NamelessStay o told (f x.1.server)) ss → ServersStay o told → HomedStay o told
   looked-stay looked serves n s home = stays_by_cases looked serves n s home

@@ -9,9 +9,10 @@ use Rattle.hurd_trans_iface.specs.Nodes.{Body, Reaches, body_of}
 use Rattle.hurd_trans_iface.specs.Behaviour.{Question, reading, resizing, told_of, writing}
 use Rattle.hurd_trans_iface.specs.Meaning.{Meaning, ServerKind, root_of, step_of}
 use Rattle.hurd_nodes.specs.Held.{Held, box_by, mean}
-use Rattle.hurd_nodes.specs.Shown.{ServerInfo, asked_of, asked_step, server_of, shown}
+use Rattle.hurd_nodes.specs.Shown.{asked_step, server_of, shown}
 use Rattle.hurd_nodes.specs.Needs.{FreeRead, FreeSize, FreeWrite, streams_by}
-use Rattle.hurd_nodes.proofs.ShownLaws.{body-told, node-told, server-told, server-untold}
+use Rattle.hurd_nodes.proofs.ShownLaws.{body-told, server-told, server-untold}
+use Rattle.hurd_nodes.proofs.StepLaws.{effect-told}
 
 module _ {S : Type 0} (f : S → Meaning) (t : Held S) (n : Name) where
   abbrev served : Option Meaning
@@ -19,17 +20,15 @@ module _ {S : Type 0} (f : S → Meaning) (t : Held S) (n : Name) where
 
   -- no box serves the node
   pub free-gone : {T : Type 0} (q : Question T) → None ≡ served → Err EDIED ≡ (asked_step q n (shown f t)).0
-  free-gone q box = sym (ap (λ (i : Option ServerInfo). told_of (asked_of q i (fin.get (shown f t).nodes n))) (server-untold t.homes (mean f t.seats) n box))
+  free-gone q box = rw (server-untold t.homes (mean f t.seats) n box) refl
 
   -- a box serves it, and is asked
   module _ (m : Meaning) (box : Some m ≡ served) where
     told : {T : Type 0} (q : Question T) → (asked_step q n (shown f t)).0 ≡ (step_of q n m).0
-    told q =
-        let i = server-told t.homes (mean f t.seats) n m box in
-        ap told_of (ap₂ (asked_of q) i.1 (node-told t.homes (mean f t.seats) n m box)) ∙ rw (i.2, i.3) refl
+    told q = ap told_of (effect-told q n t.homes (mean f t.seats) m box)
 
     streams : streams_by (server_of (shown f t) n) ≡ (root_of m.kind m.text).is_stream
-    streams = let i = server-told t.homes (mean f t.seats) n m box in ap streams_by i.1 ∙ ap₂ (λ (k : ServerKind) (text : List ℕ). (root_of k text).is_stream) i.2 i.3
+    streams = let i = server-told t.homes (mean f t.seats) n m box in rw i.1 (ap₂ (λ (k : ServerKind) (text : List ℕ). (root_of k text).is_stream) i.2 i.3)
 
     reaches : (size : ℕ) → Reaches (body_of (shown f t).nodes n) size → Reaches (body_of m.nodes n) size
     reaches size = subst (λ (b : Option Body). Reaches b size) (body-told t.homes (mean f t.seats) n m box)

@@ -1,5 +1,6 @@
 -- Parts of maps, and tests over maps.
-use Rattle.std.proofs.Common.{◌≡◌, ◌≢◌, ◌⊎◌, inl, inr, ℕ, zero, suc, ◌+◌, ◌-◌, ◌<◌, ◌≤◌, arith, Bool, true, false, cond, ◌||◌, ◌&&◌, List, [], ◌∷◌, length, map, refl, sym, ap, ◌∙◌, true≢false}
+use Rattle.std.proofs.Common.{◌≡◌, ◌≢◌, ◌⊎◌, inl, inr, ℕ, zero, suc, ◌+◌, ◌-◌, ◌≤◌, arith, Bool, true, false, cond, ◌||◌, ◌&&◌, List, [], ◌∷◌, length, refl, sym, ap, ◌∙◌, true≢false}
+use Rattle.std.proofs.lemmas.Bool.{and_from, and_parts, cases_Bool, false_from_ne_true, or_cases, or_left, or_right}
 use Rattle.std.specs.Prelude.{Option, Some, None, not, is_some}
 use Rattle.std.specs.List.{list_any}
 use Rattle.std.specs.FinMap as fin
@@ -7,33 +8,18 @@ use Rattle.std.specs.Ordering.{eq_by_cmp}
 use Rattle.hurd_creds.specs.declared.name.Name.{Name}
 use Rattle.hurd_creds.specs.Names.{name_cmp}
 use Rattle.hurd_creds.specs.NameMaps.{NameMap}
-use Rattle.hurd_creds.proofs.NameLaws.{name_exact, name_total, same_map_by, same_or_apart, equal_if_tied, tied-itself, remove_here, remove_apart}
+use Rattle.hurd_creds.proofs.NameLaws.{name_exact, name_total, same_map_by, same_or_apart, equal_if_tied, get_apart, get_here, tied-itself, remove_here, remove_apart}
 use Rattle.hurd_nodes.specs.Settle.{any_in, passes}
 use Rattle.hurd_nodes.specs.Parts.{IsWithin}
+use Rattle.std.specs.Option.{option_map}
 
 -- tests
 
-pub true_or_false : (b : Bool) → (b ≡ true) ⊎ (b ≡ false)
-true_or_false true = inl refl
-true_or_false false = inr refl
-
-pub or_cases : (a b : Bool) → (a || b) ≡ true → (a ≡ true) ⊎ (b ≡ true)
-or_cases true b h = inl refl
-or_cases false b h = inr h
-
-pub or_left : (a b : Bool) → a ≡ true → (a || b) ≡ true
-or_left a b h = rw h refl
-
-pub or_right : (a b : Bool) → b ≡ true → (a || b) ≡ true
-or_right true b h = refl
-or_right false b h = h
-
 pub and_both : (a b : Bool) → (a && b) ≡ true → (a ≡ true) × (b ≡ true)
-and_both true b h = (refl, h)
-and_both false b h = absurd (true≢false (sym h))
+and_both a b h = and_parts a b h
 
 pub and_true : (a b : Bool) → a ≡ true → b ≡ true → (a && b) ≡ true
-and_true a b h k = rw (h, k) refl
+and_true a b h k = and_from a b h k
 
 -- or, where each follows
 pub or_mono : (a b c d : Bool) → (a ≡ true → c ≡ true) → (b ≡ true → d ≡ true) → (a || b) ≡ true → (c || d) ≡ true
@@ -51,21 +37,34 @@ same_bool true b f g = sym (f refl)
 same_bool false true f g = g refl
 same_bool false false f g = refl
 
+pub cond_same : {A : Type 0} (b : Bool) (x : A) → cond b x x ≡ x
+cond_same true x = refl
+cond_same false x = refl
+
+-- what there is of what was mapped was there
+
+pub mapped-some : {A B : Type 0} (f : A → B) (o : Option A) (y : B) → option_map f o ≡ Some y → (x : A) × (o ≡ Some x) × (f x ≡ y)
+mapped-some f None y h = absurd (cc)
+mapped-some f (Some x) y h = (x, refl, cc)
+
+pub mapped-none : {A B : Type 0} (f : A → B) (o : Option A) → None ≡ option_map f o → o ≡ None
+mapped-none f None h = refl
+mapped-none f (Some x) h = absurd (cc)
+
 -- whether something in a map passes
 
-module _ {X : Type 0} (p : Name → X → Bool) where
-  key_found : (es : List (Name × X)) (n : Name) (x : X) (q : Name → Bool) → fin.find name_cmp n es ≡ Some x → q n ≡ true → list_any q (map (λ e. e.0) es) ≡ true
-  key_found [] n x q is holds = absurd (cc)
-  key_found (e ∷ es) n x q is holds = by (eq_by_cmp name_cmp n e.0) refl is (λ rest. key_found es n x q rest holds)
-    where
-      by : (b : Bool) → eq_by_cmp name_cmp n e.0 ≡ b → cond b (Some e.1) (fin.find name_cmp n es) ≡ Some x → (fin.find name_cmp n es ≡ Some x → list_any q (map (λ e. e.0) es) ≡ true) → (q e.0 || list_any q (map (λ e. e.0) es)) ≡ true
-      by true tied h go = or_left (q e.0) (list_any q (map (λ e. e.0) es)) (ap q (sym (equal_if_tied n e.0 tied)) ∙ holds)
-      by false tied h go = or_right (q e.0) (list_any q (map (λ e. e.0) es)) (go h)
+-- what passes a test on a list passes one that follows from it
+pub any-more : {X : Type 0} (p q : X → Bool) (xs : List X) → ((x : X) → p x ≡ true → q x ≡ true) → list_any p xs ≡ true → list_any q xs ≡ true
+any-more p q [] follows some = some
+any-more p q (x ∷ xs) follows some = or_mono (p x) (list_any p xs) (q x) (list_any q xs) (follows x) (any-more p q xs follows) some
 
+module _ {X : Type 0} (p : Name → X → Bool) where
   -- what stands in the map and passes
   pub any_in-here : (m : NameMap X) (n : Name) (x : X) → fin.get m n ≡ Some x → p n x ≡ true → any_in p m ≡ true
   unfolding any_in
-  any_in-here m n x is holds = key_found (fin.entries m) n x (λ k. passes p k (fin.get m k)) (sym (fin.get-entries m n) ∙ is) (ap (passes p n) is ∙ holds)
+  any_in-here m n x is holds =
+      any-more (eq_by_cmp name_cmp n) (λ q. passes p q (fin.get m q)) (fin.keys m) (λ q tied. rw (← equal_if_tied n q tied, is) holds)
+      (sym (fin.contains_key-keys m n) ∙ rw is refl)
 
   -- something that stands in the map and passes
   pub record Found (m : NameMap X) : Type 0 where
@@ -89,13 +88,9 @@ module _ {X : Type 0} (p : Name → X → Bool) where
   unfolding any_in
   any_in-found m h = found_in m (fin.keys m) h
 
-  not_true : (b : Bool) → (b ≡ true → ⊥) → b ≡ false
-  not_true true h = absurd (h refl)
-  not_true false h = refl
-
   -- where nothing passes, this doesn't
   pub any_in-none : (m : NameMap X) → any_in p m ≡ false → (n : Name) (x : X) → fin.get m n ≡ Some x → p n x ≡ false
-  any_in-none m none n x is = not_true (p n x) (λ h. true≢false (sym (any_in-here m n x is h) ∙ none))
+  any_in-none m none n x is = false_from_ne_true (p n x) (λ h. true≢false (sym (any_in-here m n x is h) ∙ none))
 
 -- what passes in a part passes in the whole
 pub any_in-mono : {X : Type 0} (p q : Name → X → Bool) (a b : NameMap X) → IsWithin a b → ((n : Name) (x : X) → p n x ≡ true → q n x ≡ true) → any_in p a ≡ true → any_in q b ≡ true
@@ -137,6 +132,13 @@ module _ {X : Type 0} (m : NameMap X) (p : Name → Bool) where
   -- where all pass, all are kept
   pub kept-all : ((n : Name) (x : X) → fin.get m n ≡ Some x → p n ≡ true) → fin.retain_keys m p ≡ m
   kept-all all = within-both _ m kept-within (λ n x h. kept-here n x (all n x h) h)
+
+-- a map with another thing under a name: what it has is that, or has another name and stood there
+pub inserted-is : {X : Type 0} (m : NameMap X) (n : Name) (x : X) (q : Name) (y : X) → fin.get (fin.insert m n x) q ≡ Some y → ((q ≡ n) × (x ≡ y)) ⊎ ((q ≢ n) × (fin.get m q ≡ Some y))
+inserted-is m n x q y is = elim (same_or_apart q n) [
+  | inl here ↦ inl (here, let one : Some x ≡ Some y = sym (get_here m n x) ∙ rw here at is in cc)
+  | inr apart ↦ inr (apart, sym (get_apart m n x q apart) ∙ is)
+]
 
 -- a map without a name
 
@@ -203,13 +205,13 @@ module _ {X : Type 0} where
       by None e h = absurd (cc)
       by (Some x) e h = e ∙ sym (within n x e) ∙ is
 
-  -- it is the whole, or shorter
-  pub within-or : (a b : NameMap X) → IsWithin a b → (a ≡ b) ⊎ (fin.len a < fin.len b)
-  within-or a b within = elim (true_or_false (any_in (λ n x. not (is_some (fin.get a n))) b)) [
+  -- a part as long as the whole is the whole
+  pub within-same : (a b : NameMap X) → IsWithin a b → fin.len b ≤ fin.len a → a ≡ b
+  within-same a b within long = elim (cases_Bool (any_in (λ n x. not (is_some (fin.get a n))) b)) [
     | inl some ↦
         let f = any_in-found (λ n x. not (is_some (fin.get a n))) b some in
         let less = within-len a (fin.remove b f.name) (within-other a b f.name within (absent (fin.get a f.name) f.holds)) in
         let one = removed-len b f.name (ap is_some f.is) in
-        inr (omega arith)
-    | inr none ↦ inl (within-both a b within (back a b within none))
+        absurd (omega arith)
+    | inr none ↦ within-both a b within (back a b within none)
   ]

@@ -11,7 +11,7 @@ use Rattle.hurd_creds.proofs.MapLaws.{get-map_values, map_values-insert}
 use Rattle.hurd_creds.proofs.KeyedLaws.{get-absent, get-found, keyed-changed}
 use Rattle.hurd_trans_iface.specs.Meaning.{Meaning}
 use Rattle.hurd_nodes.specs.declared.seat.Seat.{Seat}
-use Rattle.hurd_nodes.specs.Held.{Held, Seated, mean, mean_seat, box_at, box_by, with_box, put_box, put_by, with_server_of, place_in, row_value, seat_key, seat_value, seats_of}
+use Rattle.hurd_nodes.specs.Held.{Held, Seated, mean, mean_seat, box_at, box_by, with_box, with_server_of, place_in, row_value, seat_key, seat_value, seats_of}
 use Rattle.hurd_nodes.specs.Shown.{shown, flat}
 use Rattle.hurd_nodes.proofs.RowLaws.{row-at}
 
@@ -67,10 +67,7 @@ module _ {S : Type 0} (f : S → Meaning) (t : Held S) (n : Name) (a w : S) wher
   lent_in s home None is there = let k = there ∙ sym (box-gone f t.seats s is) in absurd (cc)
   lent_in s home (Some e) is there =
       let k : Some (f a) ≡ Some (f e.server) = there ∙ sym (box-found f t.seats s e is) in
-      let put : mean f (with_server_of t n w).seats ≡ fin.insert (mean f t.seats) s (with_box (mean_seat f e) (f w)) =
-      ap (λ (o : Option Name). mean f (put_by t.seats o w)) home
-      ∙ ap (λ (o : Option (Seated S)). mean f (put_box t.seats s w o)) is
-      ∙ mean-put f t.seats s e w in
+      let put : mean f (with_server_of t n w).seats ≡ fin.insert (mean f t.seats) s (with_box (mean_seat f e) (f w)) = rw (home, is) (mean-put f t.seats s e w) in
       record { name = s; home = home; seat = mean_seat f e; is = mean-at f t.seats s e is; was = cc; put = put; after = ap (flat t.homes t.actives) put }
 
   lent_by : (o : Option Name) → fin.get t.homes n ≡ o → Some (f a) ≡ box_by (mean f t.seats) o → Lent f t n a w
@@ -107,17 +104,7 @@ module _ {S : Type 0} (f : S → Meaning) (ss : List (Name × Seat S)) (s : Name
   pub seat-put : (w : S) → mean f (seats_of (set_value_at ss i (record x { server = w }))) ≡ fin.insert (mean f (seats_of ss)) s (with_box (mean_seat f (seat_value x)) (f w))
   seat-put w = ap (mean f) (seat-changed ss s i x at read (record x { server = w })) ∙ mean-put f (seats_of ss) s (seat_value x) w
 
-at_in : {S : Type 0} (f : S → Meaning) (ss : List (Name × Seat S)) (o : Option Name) (i : ℕ) (x : Seat S) → (s : Name) → o ≡ Some s → Some i ≡ place_by seat_key s ss → slice_get (values_of ss) i ≡ Some x → SeatAt f ss o i x
-at_in f ss o i x s home at read = record {
-  name = s;
-  home = home;
-  is = seat-is f ss s i x at read;
-  set = seat-put f ss s i x at read;
-}
-
 pub seat-at : {S : Type 0} (f : S → Meaning) (ss : List (Name × Seat S)) (o : Option Name) (i : ℕ) (x : Seat S) → Some i ≡ place_in ss o → slice_get (values_of ss) i ≡ Some x → SeatAt f ss o i x
-seat-at f ss o i x at read = let p = placed ss o i at in at_in f ss o i x p.0 p.1 p.2 read
-
--- what is there is one thing
-pub some_same : {A : Type 0} {a b : A} → Some a ≡ Some b → a ≡ b
-some_same h = cc
+seat-at f ss o i x at read =
+    let p = placed ss o i at in
+    record { name = p.0; home = p.1; is = seat-is f ss p.0 i x p.2 read; set = seat-put f ss p.0 i x p.2 read }

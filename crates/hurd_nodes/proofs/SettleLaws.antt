@@ -1,5 +1,6 @@
 -- No take-out makes another thing stay; so what is left in the end is the same in every order.
 use Rattle.std.proofs.Common.{◌≡◌, ◌≢◌, ◌⊎◌, inl, inr, ℕ, zero, suc, ◌<◌, ◌≤◌, arith, Bool, true, false, ◌&&◌, refl, sym, ap, ◌∙◌, true≢false}
+use Rattle.std.proofs.lemmas.Bool.{or_left, or_right, cases_lt}
 use Rattle.std.specs.Prelude.{Option, Some, None, not, is_some}
 use Rattle.std.specs.FinMap as fin
 use Rattle.hurd_creds.specs.declared.name.Name.{Name}
@@ -11,7 +12,7 @@ use Rattle.hurd_nodes.specs.Held.{is_home}
 use Rattle.hurd_nodes.specs.Shown.{NodeState, ServerInfo, boot_name, is_other, is_other_seat, out_node, out_server}
 use Rattle.hurd_nodes.specs.Settle.{Outside, any_in, server_stays, node_stays, stays_by, stays_with, size, sweep, sweeps, settle}
 use Rattle.hurd_nodes.specs.Parts.{IsWithin, IsPart, IsSettlement, TakesOut}
-use Rattle.hurd_nodes.proofs.PartLaws.{and_true, or_left, or_right, or_mono, and_mono, and_both, any_in-here, any_in-mono, within-both, within-len, within-or, kept-is, kept-here, kept-within, kept-all, removed-is, removed-within}
+use Rattle.hurd_nodes.proofs.PartLaws.{and_true, or_mono, and_mono, and_both, any_in-here, any_in-mono, within-both, within-len, kept-is, kept-here, kept-within, kept-all, removed-is, removed-within, within-same}
 
 -- parts
 
@@ -43,18 +44,10 @@ part-or a b part =
     let hs = within-len a.homes b.homes part.homes in
     let ats = within-len a.actives b.actives part.actives in
     let ss = within-len a.servers b.servers part.servers in
-    elim (within-or a.nodes b.nodes part.nodes) [
-      | inr less ↦ inr (omega arith)
-      | inl nodes ↦ elim (within-or a.homes b.homes part.homes) [
-        | inr less ↦ inr (omega arith)
-        | inl homes ↦ elim (within-or a.actives b.actives part.actives) [
-          | inr less ↦ inr (omega arith)
-          | inl actives ↦ elim (within-or a.servers b.servers part.servers) [
-            | inr less ↦ inr (omega arith)
-            | inl servers ↦ inl (same_state a b nodes homes actives servers)
-          ]
-        ]
-      ]
+    elim (cases_lt (size a) (size b)) [
+      | inl less ↦ inr less
+      | inr more ↦ inl (same_state a b (within-same a.nodes b.nodes part.nodes (omega arith)) (within-same a.homes b.homes part.homes (omega arith))
+          (within-same a.actives b.actives part.actives (omega arith)) (within-same a.servers b.servers part.servers (omega arith)))
     ]
 
 -- what stays in a part stays in the whole
@@ -64,11 +57,9 @@ module _ (o : Outside) (a b : NodeState) (part : IsPart a b) where
   server-mono s h =
       let seated = λ (n q : Name). same_name s q in
       let named = λ (n q : Name). same_name s q && o.held n in
-      or_mono (same_name s boot_name) _ (same_name s boot_name) _ (λ x. x)
-      (λ x. or_mono (o.controlled s) _ (o.controlled s) _ (λ y. y)
-      (λ y. or_mono (any_in seated a.actives) (any_in named a.homes) (any_in seated b.actives) (any_in named b.homes)
-      (λ z. any_in-mono seated seated a.actives b.actives part.actives (λ n q w. w) z)
-      (λ z. any_in-mono named named a.homes b.homes part.homes (λ n q w. w) z) y) x) h
+      or_mono (same_name s boot_name) _ (same_name s boot_name) _ (λ x. x) (or_mono (o.controlled s) _ (o.controlled s) _ (λ x. x)
+      (or_mono (any_in seated a.actives) (any_in named a.homes) (any_in seated b.actives) (any_in named b.homes)
+      (any_in-mono seated seated a.actives b.actives part.actives (λ n q x. x)) (any_in-mono named named a.homes b.homes part.homes (λ n q x. x)))) h
 
   -- what is no node in a part that has its home is none in the whole
   absent-mono : (n s : Name) → fin.get a.homes n ≡ Some s → fin.get a.nodes n ≡ None → (v : Option Node) → fin.get b.nodes n ≡ v → is_entered_at v ≡ true
@@ -83,9 +74,8 @@ module _ (o : Outside) (a b : NodeState) (part : IsPart a b) where
   with-mono n s home None is h = absurd (true≢false (sym h))
   with-mono n s home (Some i) is h =
       rw (part.servers s i is)
-      (and_mono (server_stays o a s) _ (server_stays o b s) _ (server-mono s)
-      (λ x. or_mono (same_name n i.root) _ (same_name n i.root) _ (λ y. y)
-      (λ y. or_mono (is_entered_at (fin.get a.nodes n)) (o.held n) (is_entered_at (fin.get b.nodes n)) (o.held n) (entered-mono n s home (fin.get a.nodes n) refl) (λ z. z) y) x) h)
+      (and_mono (server_stays o a s) _ (server_stays o b s) _ (server-mono s) (or_mono (same_name n i.root) _ (same_name n i.root) _ (λ x. x)
+      (or_mono (is_entered_at (fin.get a.nodes n)) (o.held n) (is_entered_at (fin.get b.nodes n)) (o.held n) (entered-mono n s home (fin.get a.nodes n) refl) (λ x. x))) h)
 
   by-mono : (n : Name) (u : Option Name) → fin.get a.homes n ≡ u → stays_by o a n u ≡ true → stays_by o b n (fin.get b.homes n) ≡ true
   by-mono n None is h = absurd (true≢false (sym h))

@@ -1,18 +1,18 @@
 -- What is shown of boxes, and after a server changed its own nodes.
-use Rattle.std.proofs.Common.{◌≡◌, ◌≢◌, inl, inr, ℕ, Bool, true, false, if◌then◌else◌, List, [], ◌∷◌, sym, refl, ◌∙◌, ap, ap₂}
+use Rattle.std.proofs.Common.{◌≡◌, ◌≢◌, inl, inr, Bool, true, false, if◌then◌else◌, List, [], ◌∷◌, sym, refl, ◌∙◌, ap}
 use Rattle.std.specs.Prelude.{Option, Some, None}
 use Rattle.std.specs.Option.{option_map}
 use Rattle.std.specs.FinMap as fin
 use Rattle.hurd_creds.specs.declared.name.Name.{Name}
-use Rattle.hurd_creds.specs.declared.attrs.Attrs.{Attrs}
-use Rattle.hurd_creds.specs.Names.{name_cmp, same_name}
+use Rattle.hurd_creds.specs.Names.{name_cmp}
 use Rattle.hurd_creds.specs.NameMaps.{NameMap, edit}
 use Rattle.hurd_creds.proofs.NameLaws.{get_here, get_apart, remove_here, remove_apart, edit_here, edit_apart, insert_same, insert-insert, same_map_by, same_or_apart, same_name-itself, equal_if_same, apart_if_not_same, tied-itself, tied-apart}
 use Rattle.hurd_creds.proofs.MapLaws.{get-map_values, map_values-insert}
-use Rattle.hurd_trans_iface.specs.Nodes.{NodeMap, Node, Edit, OnHeader, OnBody, AddNode, attrs_of, body_of, passive_of, node_of_edit, edit_one, edit_all, with_header, with_body}
-use Rattle.hurd_trans_iface.specs.Meaning.{Meaning, edited, readable_of}
+use Rattle.hurd_trans_iface.specs.Nodes.{NodeMap, Node, Edit, OnHeader, OnBody, AddNode, attrs_of, body_of, node_of_edit, edit_one, edit_all, with_header, with_body}
+use Rattle.hurd_trans_iface.specs.Meaning.{Meaning, edited}
 use Rattle.hurd_nodes.specs.Held.{Seated, box_at, box_by, with_box}
-use Rattle.hurd_nodes.specs.Shown.{NodeState, ServerInfo, header_in, told_header, set_at, picked, pick_values, node_in, nodes_of, info_in, info_of, is_root, is_root_at, is_root_of, server_of, servers_of, readable_at, readable_by, flat, are_kin, own_edits, with_edits}
+use Rattle.hurd_nodes.specs.Shown.{NodeState, ServerInfo, header_in, told_header, set_at, picked, pick_values, node_in, nodes_of, info_in, info_of, is_root_at, is_root_of, server_of, servers_of, flat, are_kin, own_edits, with_edits}
+use Rattle.hurd_nodes.proofs.PartLaws.{mapped-none, mapped-some}
 
 -- maps of what is picked
 
@@ -78,27 +78,11 @@ module _ (homes : NameMap Name) (seats : NameMap (Seated Meaning)) (n : Name) wh
   pub body-untold : None ≡ served → body_of (nodes_of homes seats) n ≡ None
   body-untold box = ap (option_map (λ (x : Node). x.body)) (node-untold box)
 
-  -- its attributes
-  pub attrs-told : (m : Meaning) (a : Option Attrs) → Some m ≡ served → a ≡ option_map attrs_of (fin.get m.nodes n) → a ≡ option_map attrs_of (fin.get (nodes_of homes seats) n)
-  attrs-told m a box is = is ∙ sym (ap (option_map attrs_of) (node-told m box))
-
-  pub attrs-untold : None ≡ served → None ≡ option_map attrs_of (fin.get (nodes_of homes seats) n)
-  attrs-untold box = sym (ap (option_map attrs_of) (node-untold box))
-
-  -- the words of its passive translator
-  pub passive-told : (m : Meaning) (ws : Option (List (List ℕ))) → Some m ≡ served → ws ≡ passive_of (fin.get m.nodes n) → ws ≡ passive_of (fin.get (nodes_of homes seats) n)
-  passive-told m ws box is = is ∙ sym (ap passive_of (node-told m box))
-
-  pub passive-untold : None ≡ served → None ≡ passive_of (fin.get (nodes_of homes seats) n)
-  passive-untold box = sym (ap passive_of (node-untold box))
-
   info_by : (o : Option Name) (m : Meaning) → Some m ≡ box_by seats o → (i : ServerInfo) × (info_in (servers_of seats) o ≡ Some i) × (i.kind ≡ m.kind) × (i.text ≡ m.text)
   info_by None m box = absurd (cc)
-  info_by (Some s) m box = go (fin.get seats s) refl box
-    where
-      go : (o : Option (Seated Meaning)) → fin.get seats s ≡ o → Some m ≡ option_map (λ (e : Seated Meaning). e.server) o → (i : ServerInfo) × (fin.get (servers_of seats) s ≡ Some i) × (i.kind ≡ m.kind) × (i.text ≡ m.text)
-      go None is h = absurd (cc)
-      go (Some e) is h = let same : e.server ≡ m = cc in (info_of e, get-servers seats s ∙ ap (option_map info_of) is, ap (λ (x : Meaning). x.kind) same, ap (λ (x : Meaning). x.text) same)
+  info_by (Some s) m box =
+      let e = mapped-some (λ (e : Seated Meaning). e.server) (fin.get seats s) m (sym box) in
+      (info_of e.0, get-servers seats s ∙ ap (option_map info_of) e.1, ap (λ (x : Meaning). x.kind) e.2, ap (λ (x : Meaning). x.text) e.2)
 
   -- what is known of its server
   pub server-told : (m : Meaning) → Some m ≡ served → (i : ServerInfo) × (server_of (seen homes seats) n ≡ Some i) × (i.kind ≡ m.kind) × (i.text ≡ m.text)
@@ -106,44 +90,20 @@ module _ (homes : NameMap Name) (seats : NameMap (Seated Meaning)) (n : Name) wh
 
   uninfo_by : (o : Option Name) → None ≡ box_by seats o → info_in (servers_of seats) o ≡ None
   uninfo_by None box = refl
-  uninfo_by (Some s) box = go (fin.get seats s) refl box
-    where
-      go : (o : Option (Seated Meaning)) → fin.get seats s ≡ o → None ≡ option_map (λ (e : Seated Meaning). e.server) o → fin.get (servers_of seats) s ≡ None
-      go None is h = get-servers seats s ∙ ap (option_map info_of) is
-      go (Some e) is h = absurd (cc)
+  uninfo_by (Some s) box = get-servers seats s ∙ ap (option_map info_of) (mapped-none (λ (e : Seated Meaning). e.server) (fin.get seats s) box)
 
   pub server-untold : None ≡ served → server_of (seen homes seats) n ≡ None
   server-untold box = uninfo_by (fin.get homes n) box
-
-module _ (homes : NameMap Name) (seats : NameMap (Seated Meaning)) (n : Name) (at : ℕ) where
-  -- what there is to read in it
-  pub readable-told : (m : Meaning) → Some m ≡ box_by seats (fin.get homes n) → readable_at n at (seen homes seats) ≡ readable_of m n at
-  readable-told m box =
-      let i = server-told homes seats n m box in
-      ap₂ (readable_by at) i.1 (node-told homes seats n m box) ∙ rw (i.2, i.3) refl
-
-  pub readable-untold : None ≡ box_by seats (fin.get homes n) → readable_at n at (seen homes seats) ≡ None
-  readable-untold box = ap (λ (i : Option ServerInfo). readable_by at i (fin.get (nodes_of homes seats) n)) (server-untold homes seats n box)
 
 -- the header among a node's attributes
 pub header_in-attrs_of : (o : Option Node) → option_map header_in (option_map attrs_of o) ≡ option_map told_header (option_map (λ (x : Node). x.header) o)
 header_in-attrs_of None = refl
 header_in-attrs_of (Some x) = refl
 
--- the root of its server
-pub root-told : (h : NodeState) (n : Name) (i : ServerInfo) → server_of h n ≡ Some i → is_root h n ≡ same_name n i.root
-root-told h n i is = by (fin.get h.homes n) is
-  where
-    by : (o : Option Name) → info_in h.servers o ≡ Some i → is_root_of h.servers n o ≡ same_name n i.root
-    by None e = absurd (cc)
-    by (Some s) e = ap (is_root_at n) e
-
-pub root-untold : (h : NodeState) (n : Name) → server_of h n ≡ None → is_root h n ≡ Rattle.std.specs.Prelude.false
-root-untold h n is = by (fin.get h.homes n) is
-  where
-    by : (o : Option Name) → info_in h.servers o ≡ None → is_root_of h.servers n o ≡ Rattle.std.specs.Prelude.false
-    by None e = refl
-    by (Some s) e = ap (is_root_at n) e
+-- whether it is the root of its server
+pub root-of : (servers : NameMap ServerInfo) (n : Name) (o : Option Name) → is_root_of servers n o ≡ is_root_at n (info_in servers o)
+root-of servers n None = refl
+root-of servers n (Some s) = refl
 
 -- edits by a server of its own nodes
 
@@ -163,10 +123,10 @@ own-all s homes (e ∷ es) own =
     rw kin (ap (λ (xs : List Edit). e ∷ xs) (own-all s homes es own.1))
 
 -- kin of a node of a server is of that server
-pub kin-home : (o p : Option Name) (s : Name) → o ≡ Some s → are_kin o p ≡ true → p ≡ Some s
-kin-home None p s here kin = absurd (cc)
-kin-home (Some q) None s here kin = absurd (cc)
-kin-home (Some q) (Some r) s here kin = let same : q ≡ s = cc in ap Some (sym (equal_if_same q r kin) ∙ same)
+pub kin-home : (o p : Option Name) → are_kin o p ≡ true → p ≡ o
+kin-home None p kin = absurd (cc)
+kin-home (Some q) None kin = absurd (cc)
+kin-home (Some q) (Some r) kin = ap Some (sym (equal_if_same q r kin))
 
 module _ (homes : NameMap Name) (s : Name) where
   module _ (seats : NameMap (Seated Meaning)) (e f : Seated Meaning) (is : fin.get seats s ≡ Some e) where
@@ -190,22 +150,14 @@ module _ (homes : NameMap Name) (s : Name) where
 
     nodes-edited : (n : Name) (F : Node → Node) → fin.get homes n ≡ Some s → f.server.nodes ≡ edit n F e.server.nodes → nodes_of homes (fin.insert seats s f) ≡ edit n F (nodes_of homes seats)
     nodes-edited n F home same = same_map_by _ _ (λ q. elim (same_or_apart q n) [
-      | inl here ↦
-          rw here
-          (node-own n home ∙ ap (λ (m : NodeMap). fin.get m n) same ∙ edit_here e.server.nodes n F
-          ∙ ap (option_map F) (node-was n home) ∙ sym (edit_here (nodes_of homes seats) n F))
-      | inr apart ↦
-          node-other q (ap (λ (m : NodeMap). fin.get m q) same ∙ edit_apart e.server.nodes n F q apart)
-          ∙ sym (edit_apart (nodes_of homes seats) n F q apart)
+      | inl here ↦ rw (here, node-own n home, same, edit_here e.server.nodes n F, edit_here (nodes_of homes seats) n F, node-was n home) refl
+      | inr apart ↦ rw (edit_apart (nodes_of homes seats) n F q apart) (node-other q (rw (same, edit_apart e.server.nodes n F q apart) refl))
     ])
 
     nodes-added : (n : Name) (x : Node) → fin.get homes n ≡ Some s → f.server.nodes ≡ fin.insert e.server.nodes n x → nodes_of homes (fin.insert seats s f) ≡ fin.insert (nodes_of homes seats) n x
     nodes-added n x home same = same_map_by _ _ (λ q. elim (same_or_apart q n) [
-      | inl here ↦
-          rw here (node-own n home ∙ ap (λ (m : NodeMap). fin.get m n) same ∙ get_here e.server.nodes n x ∙ sym (get_here (nodes_of homes seats) n x))
-      | inr apart ↦
-          node-other q (ap (λ (m : NodeMap). fin.get m q) same ∙ get_apart e.server.nodes n x q apart)
-          ∙ sym (get_apart (nodes_of homes seats) n x q apart)
+      | inl here ↦ rw (here, node-own n home, same, get_here e.server.nodes n x, get_here (nodes_of homes seats) n x) refl
+      | inr apart ↦ rw (get_apart (nodes_of homes seats) n x q apart) (node-other q (rw (same, get_apart e.server.nodes n x q apart) refl))
     ])
 
     -- a node of another server is not shown of this one
@@ -235,7 +187,7 @@ module _ (homes : NameMap Name) (s : Name) where
 
     nodes-one : (i : Edit) (es : List Edit) (kin : Bool) → are_kin (Some s) (fin.get homes (node_of_edit i)) ≡ kin
         → edit_all es (nodes_of homes (fin.insert seats s (edited_seat (i ∷ []) e))) ≡ edit_all (if kin then i ∷ es else es) (nodes_of homes seats)
-    nodes-one i es true is_kin = ap (edit_all es) (nodes-own_one i (kin-home (Some s) (fin.get homes (node_of_edit i)) s refl is_kin))
+    nodes-one i es true is_kin = ap (edit_all es) (nodes-own_one i (kin-home (Some s) (fin.get homes (node_of_edit i)) is_kin))
     nodes-one i es false is_kin =
         ap (edit_all es) (nodes-foreign seats e (edited_seat (i ∷ []) e) is (node_of_edit i) is_kin (λ q apart. edit_one-apart i e.server.nodes q apart))
 
@@ -259,11 +211,9 @@ servers-kept seats s e f is same =
 -- what a server does is done to its own nodes among those that are shown
 pub flat-own : (es : List Edit) (homes actives : NameMap Name) (seats : NameMap (Seated Meaning)) (s : Name) (e : Seated Meaning) → fin.get seats s ≡ Some e
     → flat homes actives (fin.insert seats s (edited_seat es e)) ≡ with_edits (own_edits (Some s) homes es) (flat homes actives seats)
-flat-own es homes actives seats s e is =
-    ap₂ (λ (nodes : NodeMap) (servers : NameMap ServerInfo). let h : NodeState = record { nodes = nodes; homes = homes; actives = actives; servers = servers } in h)
-    (nodes-all homes s es seats e is) (servers-kept seats s e (edited_seat es e) is refl)
+flat-own es homes actives seats s e is = rw (nodes-all homes s es seats e is, servers-kept seats s e (edited_seat es e) is refl) refl
 
 -- where all that it does is done to its own nodes, nothing is left out
 pub flat-edited : (es : List Edit) (homes actives : NameMap Name) (seats : NameMap (Seated Meaning)) (s : Name) (e : Seated Meaning) → fin.get seats s ≡ Some e → AreOwn s homes es
     → flat homes actives (fin.insert seats s (edited_seat es e)) ≡ with_edits es (flat homes actives seats)
-flat-edited es homes actives seats s e is own = flat-own es homes actives seats s e is ∙ ap (λ (xs : List Edit). with_edits xs (flat homes actives seats)) (own-all s homes es own)
+flat-edited es homes actives seats s e is own = rw (flat-own es homes actives seats s e is, own-all s homes es own) refl

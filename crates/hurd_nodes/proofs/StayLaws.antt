@@ -20,17 +20,15 @@ use Rattle.hurd_nodes.specs.Look.{HomedStay, ServersStay}
 use Rattle.hurd_nodes.proofs.SeatLaws.{seat-found, seat-is}
 use Rattle.hurd_nodes.proofs.ShownLaws.{get-nodes, get-servers, seen}
 use Rattle.hurd_nodes.proofs.SettleLaws.{sweep-none}
-use Rattle.hurd_nodes.proofs.PartLaws.{any_in-here}
+use Rattle.hurd_nodes.proofs.PartLaws.{any_in-here, mapped-some}
 use Rattle.hurd_nodes.proofs.AnyLaws.{all-listed, any-keyed}
+use Rattle.std.proofs.Math.Bool.{and-false, and-true}
+use Rattle.std.proofs.lemmas.Bool.{or_left, or_right}
 
 -- a test of a list of homes is one of their map
 pub home-told : (p : Name → Name → Bool) (hs : List (Name × Name)) → AreApart home_key hs → list_any (λ (x : Name × Name). p x.0 x.1) hs ≡ any_in p (homes_of hs)
 unfolding homes_of
 home-told p hs apart = any-keyed home_key home_value p hs apart
-
-some_back : {A B : Type 0} (f : A → B) (o : Option A) (y : B) → option_map f o ≡ Some y → (x : A) × (o ≡ Some x) × (f x ≡ y)
-some_back f None y h = absurd (cc)
-some_back f (Some x) y h = (x, refl, cc)
 
 some_map : {A B : Type 0} (f : A → B) (o : Option A) → is_some (option_map f o) ≡ is_some o
 some_map f None = refl
@@ -43,12 +41,12 @@ module _ {S : Type 0} (f : S → Meaning) (seats : NameMap (Seated S)) (s : Name
   info-is = get-servers (mean f seats) s ∙ ap (option_map info_of) (get-map_values (mean_seat f) seats s)
 
   pub server-there : is_some (fin.get seats s) ≡ true → is_some (fin.get (servers_of (mean f seats)) s) ≡ true
-  server-there there = ap (λ (o : Option ServerInfo). is_some o) info-is ∙ some_map info_of (option_map (mean_seat f) (fin.get seats s)) ∙ some_map (mean_seat f) (fin.get seats s) ∙ there
+  server-there there = rw (info-is, some_map info_of (option_map (mean_seat f) (fin.get seats s)), some_map (mean_seat f) (fin.get seats s)) there
 
   seat-of : (i : ServerInfo) → fin.get (servers_of (mean f seats)) s ≡ Some i → (e : Seated S) × (fin.get seats s ≡ Some e)
   seat-of i is =
-      let a = some_back info_of (option_map (mean_seat f) (fin.get seats s)) i (sym info-is ∙ is) in
-      let b = some_back (mean_seat f) (fin.get seats s) a.0 a.1 in
+      let a = mapped-some info_of (option_map (mean_seat f) (fin.get seats s)) i (sym info-is ∙ is) in
+      let b = mapped-some (mean_seat f) (fin.get seats s) a.0 a.1 in
       (b.0, b.1)
 
 -- a server that is found by its place, or not found
@@ -103,14 +101,6 @@ module _ {S : Type 0} (f : S → Meaning) (homes actives : NameMap Name) (ss : L
   abbrev told : NodeState
   told = flat homes actives (mean f (seats_of ss))
 
-  and_true : (b : Bool) → (b && true) ≡ b
-  and_true true = refl
-  and_true false = refl
-
-  and_false : (b : Bool) → (b && false) ≡ false
-  and_false true = refl
-  and_false false = refl
-
   abbrev tests : Bool → Bool → Bool
   tests serves root = serves && (root || (is_entered_at (fin.get told.nodes n) || o.held n))
 
@@ -124,10 +114,10 @@ module _ {S : Type 0} (f : S → Meaning) (homes actives : NameMap Name) (ss : L
 
   -- it stays while its server does, if it is the root, entered or held
   pub stays-named : named ≡ true → server_stays o told s ≡ node_stays o told n
-  stays-named is = sym (stays-is ∙ ap (λ (b : Bool). server_stays o told s && b) is ∙ and_true (server_stays o told s))
+  stays-named is = sym (stays-is ∙ rw is (and-true (server_stays o told s)))
 
   pub stays-nameless : named ≡ false → false ≡ node_stays o told n
-  stays-nameless is = sym (stays-is ∙ ap (λ (b : Bool). server_stays o told s && b) is ∙ and_false (server_stays o told s))
+  stays-nameless is = sym (stays-is ∙ rw is (and-false (server_stays o told s)))
 
 -- the last of four tests, where none before it holds
 pub or-4 : (a b c d : Bool) → a ≡ false → b ≡ false → c ≡ false → d ≡ (a || (b || (c || d)))
@@ -135,9 +125,7 @@ or-4 a b c d h k l = rw (h, k, l) refl
 
 -- the third of them, whatever the two before it say
 pub or-third : (a b c d : Bool) → c ≡ true → true ≡ (a || (b || (c || d)))
-or-third true b c d h = refl
-or-third false true c d h = refl
-or-third false false c d h = rw h refl
+or-third a b c d h = sym (or_right a _ (or_right b _ (or_left c d h)))
 
 -- a server that is active on a node
 pub active-here : (hs : NameMap Name) (server node : Name) → is_home server (fin.get hs node) ≡ true → any_in (λ n q. same_name server q) hs ≡ true

@@ -1,7 +1,6 @@
 -- What a box that serves a node answers and leaves, the flat maps do.
-use Rattle.std.proofs.Common.{◌≡◌, ℕ, List, sym, ◌∙◌, ap, ap₂, subst}
+use Rattle.std.proofs.Common.{◌≡◌, ℕ, List, refl, sym, ◌∙◌, ap, subst}
 use Rattle.std.specs.Prelude.{Option, Some, None, Result, Ok, Err}
-use Rattle.std.specs.Option.{option_map}
 use Rattle.std.specs.FinMap as fin
 use Rattle.hurd_creds.specs.declared.name.Name.{Name}
 use Rattle.hurd_creds.specs.declared.attrs.Kind.{Kind}
@@ -11,13 +10,14 @@ use Rattle.hurd_creds.specs.NameMaps.{NameMap}
 use Rattle.hurd_creds.specs.Memory.{Steps}
 use Rattle.hurd_creds.proofs.NameLaws.{insert_same}
 use Rattle.hurd_creds.proofs.StepLaws.{steps-inside, steps-refused}
-use Rattle.hurd_trans_iface.specs.Answers.{make_of}
+use Rattle.hurd_trans_iface.specs.Nodes.{Edit}
+use Rattle.hurd_trans_iface.specs.Answers.{edits_if, make_of}
 use Rattle.hurd_trans_iface.specs.Behaviour.{Effect, Question, effect_on, told_of, edit_bytes, edit_size, edits_of}
-use Rattle.hurd_trans_iface.specs.Meaning.{Meaning, ServerKind, behaviour_of, keeps_tree, edited, step_of}
+use Rattle.hurd_trans_iface.specs.Meaning.{Meaning, behaviour_of, keeps_tree, edited, step_of}
 use Rattle.hurd_nodes.specs.Held.{Held, Seated, box_by, mean, with_box, with_server_of}
-use Rattle.hurd_nodes.specs.Shown.{NodeState, ServerInfo, info_in, info_of, nodes_of, server_of, servers_of, flat, shown, with_edits, asked_of, asked_step, effect_at, made_by, can_make}
-use Rattle.hurd_nodes.proofs.SeatLaws.{lent}
-use Rattle.hurd_nodes.proofs.ShownLaws.{AreOwn, node-told, server-told, server-untold, flat-edited, get-servers, seen}
+use Rattle.hurd_nodes.specs.Shown.{NodeState, flat, shown, own_edits, with_edits, asked_step, effect_at, can_make}
+use Rattle.hurd_nodes.proofs.SeatLaws.{Lent, lent}
+use Rattle.hurd_nodes.proofs.ShownLaws.{AreOwn, flat-own, node-told, own-all, server-told, server-untold, seen}
 
 -- the edits of a question are of its node
 edits-own : {T : Type 0} (s n : Name) (homes : NameMap Name) (e : Effect T) → fin.get homes n ≡ Some s → AreOwn s homes (edits_of n e)
@@ -32,65 +32,60 @@ edits-own s n homes (Ok d) home = go d.bytes
     go None = sized d.size
     go (Some f) = (home, sized d.size)
 
-module _ (homes : NameMap Name) (seats : NameMap (Seated Meaning)) (n s : Name) (e : Seated Meaning) (home : fin.get homes n ≡ Some s) (is : fin.get seats s ≡ Some e) where
-  -- the box that serves the node
-  pub box-here : Some e.server ≡ box_by seats (fin.get homes n)
-  box-here = sym (ap (box_by seats) home ∙ ap (option_map (λ (x : Seated Meaning). x.server)) is)
+-- a box that serves a node, was lent, answers and edits; `gs` are those of its edits that are of its own nodes
+module _ {S : Type 0} (f : S → Meaning) (t : Held S) (n : Name) (a w : S) (box : Some (f a) ≡ box_by (mean f t.seats) (fin.get t.homes n)) {T : Type 0} (answer : Result T Errno) (es gs : List Edit)
+    (own : (s : Name) → fin.get t.homes n ≡ Some s → own_edits (Some s) t.homes es ≡ gs) (wanted : Result T Errno × NodeState) (is : wanted ≡ (answer, with_edits gs (shown f t))) (got : Result T Errno) where
+  abbrev l : Lent f t n a w
+  l = lent f t n a w box
 
-  info-here : server_of (seen homes seats) n ≡ Some (info_of e)
-  info-here = ap (info_in (servers_of seats)) home ∙ get-servers seats s ∙ ap (option_map info_of) is
+  -- with what the box means in the end
+  abbrev left : Meaning → NodeState
+  left m = flat t.homes t.actives (fin.insert (mean f t.seats) l.name (with_box l.seat m))
 
-  module _ {T : Type 0} (q : Question T) where
-    abbrev effect : Effect T
-    effect = effect_on q (behaviour_of e.server.kind) e.server.text (fin.get e.server.nodes n)
+  whole : wanted ≡ (answer, left (edited es l.seat.server))
+  whole =
+      is ∙ ap (λ (h : NodeState). (answer, h))
+      (sym (flat-own es t.homes t.actives (mean f t.seats) l.name l.seat l.is ∙ ap (λ (xs : List Edit). with_edits xs (shown f t)) (own l.name l.home)))
 
-    effect-shown : effect_at q n (seen homes seats) ≡ effect
-    effect-shown = ap₂ (asked_of q) info-here (node-told homes seats n e.server box-here)
+  -- a step of it, where memory may be wanted, is one of what is shown
+  pub steps-shown : Steps (f a) (answer, edited es (f a)) got (f w) → Steps (shown f t) wanted got (shown f (with_server_of t n w))
+  steps-shown steps =
+      rw l.after
+      (subst (λ (h : NodeState). Steps h wanted got (left (f w))) (ap (flat t.homes t.actives) (insert_same (mean f t.seats) l.name l.seat l.is))
+      (steps-inside left l.seat.server (f w) (answer, edited es l.seat.server) wanted got whole (rw l.was steps)))
 
-    module _ (actives : NameMap Name) where
-      abbrev before : NodeState
-      before = flat homes actives seats
+  -- and one that wants none
+  pub sure-shown : ◌≡◌ {A = Result T Errno × Meaning} (got, f w) (answer, edited es (f a)) → (got, shown f (with_server_of t n w)) ≡ wanted
+  sure-shown steps =
+      let told : ◌≡◌ {A = Result T Errno × Meaning} (got, f w) (answer, edited es l.seat.server) = rw l.was steps in
+      rw l.after (ap (λ (z : Result T Errno × Meaning). let y : Result T Errno × NodeState = (z.0, left z.1) in y) told ∙ sym whole)
 
-      -- with what the server means in the end
-      abbrev after : Meaning → NodeState
-      after m = flat homes actives (fin.insert seats s (with_box e m))
+-- what is refused edits nothing
+pub own-if : {T : Type 0} (answer : Result T Errno) (o : Option Name) (homes : NameMap Name) (es gs : List Edit) → own_edits o homes es ≡ gs → own_edits o homes (edits_if answer es) ≡ edits_if answer gs
+own-if (Ok x) o homes es gs own = own
+own-if (Err e) o homes es gs own = refl
 
-      after-same : after e.server ≡ before
-      after-same = ap (flat homes actives) (insert_same seats s e is)
+-- a question about a node, as its server answers it
+module _ {T : Type 0} (q : Question T) (n : Name) where
+  abbrev effect : Meaning → Effect T
+  effect m = effect_on q (behaviour_of m.kind) m.text (fin.get m.nodes n)
 
-      -- a question about a node, of its server and of what is shown
-      step-flat : (m : Meaning) (got : Result T Errno) → Steps e.server (step_of q n e.server) got m → Steps before (asked_step q n before) got (after m)
-      step-flat m got steps =
-          let whole : asked_step q n before ≡ (told_of effect, after (edited (edits_of n effect) e.server)) =
-          ap (λ (x : Effect T). (told_of x, with_edits (edits_of n x) before)) effect-shown
-          ∙ ap (λ (h : NodeState). (told_of effect, h)) (sym (flat-edited (edits_of n effect) homes actives seats s e is (edits-own s n homes effect home))) in
-          subst (λ (h : NodeState). Steps h (asked_step q n before) got (after m)) after-same
-          (steps-inside after e.server m (step_of q n e.server) (asked_step q n before) got whole steps)
+  pub effect-told : (homes : NameMap Name) (seats : NameMap (Seated Meaning)) (m : Meaning) → Some m ≡ box_by seats (fin.get homes n) → effect_at q n (seen homes seats) ≡ effect m
+  effect-told homes seats m box = let i = server-told homes seats n m box in rw (i.1, i.2, i.3, node-told homes seats n m box) refl
 
-module _ {S : Type 0} (f : S → Meaning) (t : Held S) (n : Name) where
-  abbrev served : Option Meaning
-  served = box_by (mean f t.seats) (fin.get t.homes n)
+  -- a box that was lent is asked
+  pub step-shown : {S : Type 0} (f : S → Meaning) (t : Held S) (a w : S) (got : Result T Errno) → Some (f a) ≡ box_by (mean f t.seats) (fin.get t.homes n) → Steps (f a) (step_of q n (f a)) got (f w)
+      → Steps (shown f t) (asked_step q n (shown f t)) got (shown f (with_server_of t n w))
+  step-shown f t a w got box =
+      let edits = edits_of n (effect (f a)) in
+      steps-shown f t n a w box (told_of (effect (f a))) edits edits (λ s home. own-all s t.homes edits (edits-own s n t.homes (effect (f a)) home)) _
+      (rw (effect-told t.homes (mean f t.seats) (f a) box) refl) got
 
-  module _ {T : Type 0} (q : Question T) where
-    -- a box that was lent is asked
-    pub step-shown : (a w : S) (got : Result T Errno) → Some (f a) ≡ served → Steps (f a) (step_of q n (f a)) got (f w)
-        → Steps (shown f t) (asked_step q n (shown f t)) got (shown f (with_server_of t n w))
-    step-shown a w got box steps =
-        let l = lent f t n a w box in
-        rw l.after (step-flat t.homes (mean f t.seats) n l.name l.seat l.home l.is q t.actives (f w) got (rw l.was steps))
-
-    -- no box serves the node
-    pub step-gone : None ≡ served → Steps (shown f t) (asked_step q n (shown f t)) (Err EDIED) (shown f t)
-    step-gone box =
-        let died : effect_at q n (shown f t) ≡ Err EDIED = ap (λ (i : Option ServerInfo). asked_of q i (fin.get (shown f t).nodes n)) (server-untold t.homes (mean f t.seats) n box) in
-        steps-refused (asked_step q n (shown f t)) (shown f t) EDIED (ap (λ (x : Effect T). (told_of x, with_edits (edits_of n x) (shown f t))) died)
+  -- no box serves the node
+  pub step-gone : {S : Type 0} (f : S → Meaning) (t : Held S) → None ≡ box_by (mean f t.seats) (fin.get t.homes n) → Steps (shown f t) (asked_step q n (shown f t)) (Err EDIED) (shown f t)
+  step-gone f t box = steps-refused (asked_step q n (shown f t)) (shown f t) EDIED (rw (server-untold t.homes (mean f t.seats) n box) refl)
 
 -- whether a node may be made, as the directory's server says it
-module _ (homes : NameMap Name) (seats : NameMap (Seated Meaning)) (dir : Name) (entry : Option (List ℕ)) (kind : Kind) where
-  pub can_make-told : (m : Meaning) → Some m ≡ box_by seats (fin.get homes dir) → can_make dir entry kind (seen homes seats) ≡ make_of (keeps_tree m.kind) entry kind (fin.get m.nodes dir)
-  can_make-told m box =
-      let i = server-told homes seats dir m box in
-      ap₂ (made_by entry kind) i.1 (node-told homes seats dir m box) ∙ ap (λ (k : ServerKind). make_of (keeps_tree k) entry kind (fin.get m.nodes dir)) i.2
-
-  pub can_make-untold : None ≡ box_by seats (fin.get homes dir) → can_make dir entry kind (seen homes seats) ≡ Err EDIED
-  can_make-untold box = ap (λ (i : Option ServerInfo). made_by entry kind i (fin.get (nodes_of homes seats) dir)) (server-untold homes seats dir box)
+pub can_make-told : (homes : NameMap Name) (seats : NameMap (Seated Meaning)) (dir : Name) (entry : Option (List ℕ)) (kind : Kind) (m : Meaning) → Some m ≡ box_by seats (fin.get homes dir)
+    → can_make dir entry kind (seen homes seats) ≡ make_of (keeps_tree m.kind) entry kind (fin.get m.nodes dir)
+can_make-told homes seats dir entry kind m box = let i = server-told homes seats dir m box in rw (i.1, i.2, node-told homes seats dir m box) refl

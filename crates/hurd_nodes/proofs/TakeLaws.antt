@@ -1,5 +1,5 @@
 -- What is shown after a node was taken out, and what boxes have then.
-use Rattle.std.proofs.Common.{◌≡◌, ◌≢◌, inl, inr, true, true≢false, refl, sym, ap, ap₂, ◌∙◌}
+use Rattle.std.proofs.Common.{◌≡◌, ◌≢◌, inl, inr, true, true≢false, refl, sym, ap, ◌∙◌}
 use Rattle.std.specs.Prelude.{Option, Some, None, is_some}
 use Rattle.std.specs.Option.{option_map}
 use Rattle.std.specs.FinMap as fin
@@ -7,12 +7,12 @@ use Rattle.hurd_creds.specs.declared.name.Name.{Name}
 use Rattle.hurd_creds.specs.NameMaps.{NameMap, edit}
 use Rattle.hurd_creds.proofs.NameLaws.{same_map_by, same_or_apart, remove_here, remove_apart, edit_here, edit_apart, edit_found, edit_absent}
 use Rattle.hurd_creds.proofs.MapLaws.{map_values-edit_kept}
-use Rattle.hurd_trans_iface.specs.Nodes.{NodeMap, Node}
 use Rattle.hurd_trans_iface.specs.Meaning.{Meaning, forget_after}
 use Rattle.hurd_nodes.specs.Held.{Held, Seated, mean, box_by, with_box, with_server_of}
-use Rattle.hurd_nodes.specs.Shown.{HideNothing, NodeState, ServerInfo, flat, nodes_of, out_node, servers_of, info_of, node_in, forgotten}
+use Rattle.hurd_nodes.specs.Shown.{HideNothing, flat, nodes_of, out_node, servers_of, info_of, node_in, forgotten}
 use Rattle.hurd_nodes.proofs.SeatLaws.{lent}
 use Rattle.hurd_nodes.proofs.ShownLaws.{get-nodes}
+use Rattle.hurd_nodes.proofs.PartLaws.{mapped-none, mapped-some}
 
 -- a box has forgotten a node
 abbrev forget : Name → Seated Meaning → Seated Meaning
@@ -34,13 +34,9 @@ module _ {S : Type 0} (f : S → Meaning) (t : Held S) (n : Name) where
   pub forget-none : None ≡ served → mean f t.seats ≡ forgotten n (fin.get t.homes n) (mean f t.seats)
   forget-none box = none_at (fin.get t.homes n) box
     where
-      none_there : (o : Option (Seated Meaning)) → None ≡ option_map (λ (e : Seated Meaning). e.server) o → o ≡ None
-      none_there None h = refl
-      none_there (Some e) h = absurd (cc)
-
       none_at : (o : Option Name) → None ≡ box_by (mean f t.seats) o → mean f t.seats ≡ forgotten n o (mean f t.seats)
       none_at None h = refl
-      none_at (Some s) h = sym (edit_absent (mean f t.seats) s (forget n) (none_there (fin.get (mean f t.seats) s) h))
+      none_at (Some s) h = sym (edit_absent (mean f t.seats) s (forget n) (mapped-none (λ (e : Seated Meaning). e.server) (fin.get (mean f t.seats) s) h))
 
 module _ (homes : NameMap Name) (seats : NameMap (Seated Meaning)) (n : Name) where
   less_one : (q : Name) → q ≢ n → (o : Option (Seated Meaning)) → node_in q (option_map (λ (e : Seated Meaning). e.server) (option_map (forget n) o)) ≡ node_in q (option_map (λ (e : Seated Meaning). e.server) o)
@@ -51,8 +47,8 @@ module _ (homes : NameMap Name) (seats : NameMap (Seated Meaning)) (n : Name) wh
   other_at : (q s : Name) → q ≢ n → (p : Option Name) → node_in q (box_by (edit s (forget n) seats) p) ≡ node_in q (box_by seats p)
   other_at q s apart None = refl
   other_at q s apart (Some p) = elim (same_or_apart p s) [
-    | inl here ↦ rw here (ap (λ (o : Option (Seated Meaning)). node_in q (option_map (λ (e : Seated Meaning). e.server) o)) (edit_here seats s (forget n)) ∙ less_one q apart (fin.get seats s))
-    | inr other ↦ ap (λ (o : Option (Seated Meaning)). node_in q (option_map (λ (e : Seated Meaning). e.server) o)) (edit_apart seats s (forget n) p other)
+    | inl here ↦ rw (here, edit_here seats s (forget n)) (less_one q apart (fin.get seats s))
+    | inr other ↦ rw (edit_apart seats s (forget n) p other) refl
   ]
 
   other_by : (q : Name) → q ≢ n → (o p : Option Name) → node_in q (box_by (forgotten n o seats) p) ≡ node_in q (box_by seats p)
@@ -61,15 +57,10 @@ module _ (homes : NameMap Name) (seats : NameMap (Seated Meaning)) (n : Name) wh
 
   nodes-taken : nodes_of (fin.remove homes n) (forgotten n (fin.get homes n) seats) ≡ fin.remove (nodes_of homes seats) n
   nodes-taken = same_map_by _ _ (λ q. elim (same_or_apart q n) [
-    | inl here ↦
-        rw here
-        (get-nodes (fin.remove homes n) (forgotten n (fin.get homes n) seats) n ∙ ap (λ (o : Option Name). node_in n (box_by (forgotten n (fin.get homes n) seats) o)) (remove_here homes n)
-        ∙ sym (remove_here (nodes_of homes seats) n))
+    | inl here ↦ rw (here, get-nodes (fin.remove homes n) (forgotten n (fin.get homes n) seats) n, remove_here homes n, remove_here (nodes_of homes seats) n) refl
     | inr apart ↦
-        get-nodes (fin.remove homes n) (forgotten n (fin.get homes n) seats) q
-        ∙ ap (λ (o : Option Name). node_in q (box_by (forgotten n (fin.get homes n) seats) o)) (remove_apart homes n q apart)
-        ∙ other_by q apart (fin.get homes n) (fin.get homes q)
-        ∙ sym (remove_apart (nodes_of homes seats) n q apart ∙ get-nodes homes seats q)
+        rw (get-nodes (fin.remove homes n) (forgotten n (fin.get homes n) seats) q, remove_apart homes n q apart, remove_apart (nodes_of homes seats) n q apart, get-nodes homes seats q)
+        (other_by q apart (fin.get homes n) (fin.get homes q))
   ])
 
   servers-same : (o : Option Name) → servers_of (forgotten n o seats) ≡ servers_of seats
@@ -79,27 +70,20 @@ module _ (homes : NameMap Name) (seats : NameMap (Seated Meaning)) (n : Name) wh
 
   -- without a node's home, once its box has forgotten it
   pub flat-taken : (actives : NameMap Name) → flat (fin.remove homes n) (fin.remove actives n) (forgotten n (fin.get homes n) seats) ≡ out_node n (flat homes actives seats)
-  flat-taken actives =
-      ap₂ (λ (nodes : NodeMap) (servers : NameMap ServerInfo). let h : NodeState = record { nodes = nodes; homes = fin.remove homes n; actives = fin.remove actives n; servers = servers } in h)
-      nodes-taken (servers-same (fin.get homes n))
+  flat-taken actives = rw (nodes-taken, servers-same (fin.get homes n)) refl
 
 -- boxes hide nothing after a node was taken out, where they hid nothing before
 module _ (homes : NameMap Name) (seats : NameMap (Seated Meaning)) (n : Name) (open_before : (s q : Name) (e : Seated Meaning) → fin.get seats s ≡ Some e → is_some (fin.get e.server.nodes q) ≡ true → fin.get homes q ≡ Some s) where
-  some_there : (o : Option (Seated Meaning)) (e : Seated Meaning) → option_map (forget n) o ≡ Some e → (x : Seated Meaning) × (o ≡ Some x) × (forget n x ≡ e)
-  some_there None e h = absurd (cc)
-  some_there (Some x) e h = (x, refl, cc)
-
   not_here : (x e : Seated Meaning) (q : Name) → forget n x ≡ e → is_some (fin.get e.server.nodes q) ≡ true → q ≢ n
-  not_here x e q is there here =
-      true≢false (sym there ∙ ap (λ (y : Seated Meaning). is_some (fin.get y.server.nodes q)) (sym is) ∙ ap (λ (o : Option Node). is_some o) (ap (fin.get (fin.remove x.server.nodes n)) here ∙ remove_here x.server.nodes n))
+  not_here x e q is there here = true≢false (sym there ∙ rw (← is, here, remove_here x.server.nodes n) refl)
 
   shown_at : (b s q : Name) (e : Seated Meaning) → fin.get homes n ≡ Some b → fin.get (edit b (forget n) seats) s ≡ Some e → is_some (fin.get e.server.nodes q) ≡ true → fin.get (fin.remove homes n) q ≡ Some s
   shown_at b s q e home is there = elim (same_or_apart s b) [
     | inl here ↦
-        let x = some_there (fin.get seats b) e (sym (edit_here seats b (forget n)) ∙ ap (fin.get (edit b (forget n) seats)) (sym here) ∙ is) in
+        let x = mapped-some (forget n) (fin.get seats b) e (sym (edit_here seats b (forget n)) ∙ rw here at is) in
         let apart = not_here x.0 e q x.2 there in
-        let was = sym (remove_apart x.0.server.nodes n q apart) ∙ ap (λ (y : Seated Meaning). fin.get y.server.nodes q) x.2 in
-        remove_apart homes n q apart ∙ open_before b q x.0 x.1 (ap (λ (o : Option Node). is_some o) was ∙ there) ∙ ap Some (sym here)
+        let was : is_some (fin.get x.0.server.nodes q) ≡ true = rw (← x.2, remove_apart x.0.server.nodes n q apart) at there in
+        rw (remove_apart homes n q apart, here) (open_before b q x.0 x.1 was)
     | inr other ↦
         let home_is = open_before s q e (sym (edit_apart seats b (forget n) s other) ∙ is) there in
         remove_apart homes n q (λ here. other (let one : Some s ≡ Some b = sym home_is ∙ ap (fin.get homes) here ∙ home in cc)) ∙ home_is

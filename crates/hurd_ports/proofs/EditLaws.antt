@@ -25,6 +25,7 @@ use Rattle.hurd_ports.proofs.WeightLaws.{pending_weighs, port_weighs, weigh_rece
 use Rattle.hurd_ports.proofs.HeldLaws.{held-grows, namings}
 use Rattle.hurd_ports.proofs.SoundLaws.{given-set, next_found, numbers-set, rise-push}
 use Rattle.hurd_ports.proofs.SeatLaws.{same_halves, seat-there, seat-changed}
+use Rattle.std.proofs.lemmas.Bool.{cases_cond}
 
 itself : (k : ℕ) → k ≤ k
 itself k = omega arith
@@ -213,11 +214,7 @@ module _ (os : List OpenEntry) (ss : List TaskSeat) (t : ℕ) (a s new : TaskSea
 -- what stands after a step that may find no memory: what stood, or what the step leaves
 left-either : {T : Type 0} (h x k : PortState) (a got : Result T Errno) → Steps h (a, x) got k → (k ≡ h) ⊎ (k ≡ x)
 left-either h x k a (Ok v) s = inr s.left
-left-either h x k a (Err e) s = go (is_no_memory e) s.left
-  where
-    go : (b : Bool) → k ≡ cond b h x → (k ≡ h) ⊎ (k ≡ x)
-    go true l = inl l
-    go false l = inr l
+left-either h x k a (Err e) s = cases_cond (is_no_memory e) h x k s.left
 
 -- a right that was shared stands under its number
 shared-found : (h k : PortState) → IsSound h → (t : ℕ) (r : Right) (n : ℕ) → Steps h (share_step t r h) (Ok n) k → right_of k t n ≡ Ok r

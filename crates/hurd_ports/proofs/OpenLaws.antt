@@ -1,5 +1,5 @@
 -- Opens in the map of the code, and the map that they stand for.
-use Rattle.std.proofs.Common.{◌≡◌, ◌≢◌, ◌⊎◌, inl, inr, Bool, true, false, cond, List, [], ◌∷◌, map, refl, sym, ap, ◌∙◌, true≢false}
+use Rattle.std.proofs.Common.{◌≡◌, inl, inr, cond, List, [], ◌∷◌, map, refl, sym, ap, ◌∙◌, true≢false}
 use Rattle.std.specs.Prelude.{Some, None, Result, Ok, Err, IsOk, OnOk}
 use Rattle.std.specs.Map.{lookup}
 use Rattle.std.specs.FinMap as fin
@@ -11,6 +11,7 @@ use Rattle.hurd_creds.proofs.KeyedLaws.{get-keyed}
 use Rattle.hurd_creds.proofs.NameLaws.{name_tied, same_name-itself, same_name-apart, same_map_by, same_or_apart, get_here, get_apart, remove_here, remove_apart, edit_found, edit_absent}
 use Rattle.hurd_ports.specs.declared.table.Opened.{Opened}
 use Rattle.hurd_ports.specs.Seats.{OpenEntry, open_key, open_value, opens_of}
+use Rattle.std.proofs.lemmas.Bool.{cases_Bool}
 
 -- what an insert says of its success, where it has one
 pub on_success : {A E : Type 0} {P : Type 0} (r : Result A E) → IsOk r → OnOk r P → P
@@ -19,12 +20,10 @@ on_success (Err e) ok is = absurd (true≢false (sym ok))
 
 find-opens : (n : Name) (es : List OpenEntry) → fin.find name_cmp n (map (λ e. (open_key e, open_value e)) es) ≡ lookup (same_name n) es
 find-opens n [] = refl
-find-opens n (e ∷ es) = go (same_name n e.0) refl (find-opens n es)
-  where
-    go : (b : Bool) → same_name n e.0 ≡ b → fin.find name_cmp n (map (λ e. (open_key e, open_value e)) es) ≡ lookup (same_name n) es
-        → fin.find name_cmp n (map (λ e. (open_key e, open_value e)) (e ∷ es)) ≡ lookup (same_name n) (e ∷ es)
-    go true is rest = rw (name_tied n e.0, is) refl
-    go false is rest = rw (name_tied n e.0, is) rest
+find-opens n (e ∷ es) = elim (cases_Bool (same_name n e.0)) [
+  | inl is ↦ rw (name_tied n e.0, is) refl
+  | inr is ↦ rw (name_tied n e.0, is) (find-opens n es)
+]
 
 -- what is open under a name is what is found there
 pub open-got : (es : List OpenEntry) (n : Name) → fin.get (opens_of es) n ≡ lookup (same_name n) es
@@ -33,23 +32,17 @@ open-got es n = get-keyed open_key open_value es n ∙ find-opens n es
 module _ {S : Type 0} (m l : IndexMap Name Opened S) (n : Name) where
   -- an open is put
   pub open-put : (o : Opened) → ((q : Name) → get same_name l q ≡ cond (same_name n q) (Some o) (get same_name m q)) → opens_of l.entries ≡ fin.insert (opens_of m.entries) n o
-  open-put o w = same_map_by _ _ (λ q. go q (same_or_apart q n))
-    where
-      go : (q : Name) → (q ≡ n) ⊎ (q ≢ n) → fin.get (opens_of l.entries) q ≡ fin.get (fin.insert (opens_of m.entries) n o) q
-      go q (inl e) = rw e (open-got l.entries n ∙ w n ∙ ap (λ (b : Bool). cond b (Some o) (get same_name m n)) (same_name-itself n) ∙ sym (get_here (opens_of m.entries) n o))
-      go q (inr apart) =
-          open-got l.entries q ∙ w q ∙ ap (λ (b : Bool). cond b (Some o) (get same_name m q)) (same_name-apart n q (λ e. apart (sym e)))
-          ∙ sym (get_apart (opens_of m.entries) n o q apart ∙ open-got m.entries q)
+  open-put o w = same_map_by _ _ (λ q. elim (same_or_apart q n) [
+    | inl here ↦ rw (here, open-got l.entries n, w n, same_name-itself n, get_here (opens_of m.entries) n o) refl
+    | inr apart ↦ rw (open-got l.entries q, w q, same_name-apart n q (λ e. apart (sym e)), get_apart (opens_of m.entries) n o q apart, open-got m.entries q) refl
+  ])
 
   -- an open is taken out
   pub open-out : ((q : Name) → get same_name l q ≡ cond (same_name n q) None (get same_name m q)) → opens_of l.entries ≡ fin.remove (opens_of m.entries) n
-  open-out w = same_map_by _ _ (λ q. go q (same_or_apart q n))
-    where
-      go : (q : Name) → (q ≡ n) ⊎ (q ≢ n) → fin.get (opens_of l.entries) q ≡ fin.get (fin.remove (opens_of m.entries) n) q
-      go q (inl e) = rw e (open-got l.entries n ∙ w n ∙ ap (λ (b : Bool). cond b None (get same_name m n)) (same_name-itself n) ∙ sym (remove_here (opens_of m.entries) n))
-      go q (inr apart) =
-          open-got l.entries q ∙ w q ∙ ap (λ (b : Bool). cond b None (get same_name m q)) (same_name-apart n q (λ e. apart (sym e)))
-          ∙ sym (remove_apart (opens_of m.entries) n q apart ∙ open-got m.entries q)
+  open-out w = same_map_by _ _ (λ q. elim (same_or_apart q n) [
+    | inl here ↦ rw (here, open-got l.entries n, w n, same_name-itself n, remove_here (opens_of m.entries) n) refl
+    | inr apart ↦ rw (open-got l.entries q, w q, same_name-apart n q (λ e. apart (sym e)), remove_apart (opens_of m.entries) n q apart, open-got m.entries q) refl
+  ])
 
   -- one that is there is changed
   pub open-edited : (f : Opened → Opened) (o : Opened) → get same_name m n ≡ Some o → ((q : Name) → get same_name l q ≡ cond (same_name n q) (Some (f o)) (get same_name m q)) → opens_of l.entries ≡ edit n f (opens_of m.entries)

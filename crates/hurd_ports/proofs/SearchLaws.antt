@@ -1,5 +1,5 @@
 -- What a binary search finds among ports whose numbers rise.
-use Rattle.std.proofs.Common.{◌≡◌, ◌⊎◌, inl, inr, ℕ, zero, suc, ◌+◌, ◌<◌, ◌≤◌, List, [], ◌∷◌, length, get_or, refl, ap, sym, ◌∙◌, arith, add-one}
+use Rattle.std.proofs.Common.{◌≡◌, inl, inr, ℕ, zero, suc, ◌+◌, ◌<◌, ◌≤◌, List, [], ◌∷◌, length, get_or, refl, sym, ◌∙◌, arith, add-one}
 use Rattle.std.proofs.lemmas.Bool.Decides.{nat_tests}
 use Rattle.std.proofs.lemmas.Cmp.{ranked}
 use Rattle.std.specs.Prelude.{Some, None, Result, Ok, Err}
@@ -12,6 +12,7 @@ use Rattle.hurd_ports.specs.declared.table.Port.{Port}
 use Rattle.hurd_ports.specs.Sound.{NumbersRise}
 use Rattle.hurd_ports.specs.Seats.{AreInOrder}
 use Rattle.hurd_ports.proofs.PlaceLaws.{apart_test, numbered_so, position-cons, same_test}
+use Rattle.std.proofs.lemmas.Bool.{cases_eq, cases_lt}
 
 -- each number is as great as the bound
 number-low : (low next : ℕ) (ps : List Port) (i : ℕ) (d : Port) → NumbersRise low next ps → i < length ps → low ≤ (get_or ps i d).number
@@ -43,17 +44,11 @@ position-nowhere n (x ∷ ps) none =
 module _ (n : ℕ) (ps : List Port) (order : AreInOrder ps) where
   -- the comparisons with the number rise along the ports, as the search asks
   comparisons-rise : IsNonDecreasingBy (λ (p : Port). ordering_index (nat_cmp p.number n)) ps
-  comparisons-rise i j d le below = elim (at_or_below i j le) [
+  comparisons-rise i j d le below = elim (cases_eq i j) [
     | inl e ↦ rw e (omega arith)
-    | inr lt ↦ let rise = number-rises 0 order.0 ps i j d order.1 lt below in ranks_rise (get_or ps i d).number (get_or ps j d).number rise
+    | inr apart ↦ let rise = number-rises 0 order.0 ps i j d order.1 (omega arith) below in ranks_rise (get_or ps i d).number (get_or ps j d).number rise
   ]
     where
-      at_or_below : (i j : ℕ) → i ≤ j → (i ≡ j) ⊎ (i < j)
-      at_or_below zero zero le = inl refl
-      at_or_below zero (suc j) le = inr (omega arith)
-      at_or_below (suc i) zero le = absurd (omega arith)
-      at_or_below (suc i) (suc j) le = elim (at_or_below i j (omega arith)) [ inl e ↦ inl (ap suc e) | inr lt ↦ inr (omega arith) ]
-
       ranks_rise : (a b : ℕ) → a < b → ordering_index (nat_cmp a n) ≤ ordering_index (nat_cmp b n)
       ranks_rise a b lt = grind (arith, nat_tests)
 
@@ -62,12 +57,7 @@ module _ (n : ℕ) (ps : List Port) (order : AreInOrder ps) where
   searched (Ok i) below equal =
       let d : Port = record { number = 0; right = Start (record { task = record { 0 = 0 }; count = 0 }) } in
       sym (position-here 0 order.0 n ps i d order.1 below (ranked (get_or ps i d).number n _ (sym (equal d))))
-  searched (Err i) below parted = sym (position-nowhere n ps (λ k d at is. elim (under_or_past k i) [
+  searched (Err i) below parted = sym (position-nowhere n ps (λ k d at is. elim (cases_lt k i) [
     | inl lt ↦ let less = ranked (get_or ps k d).number n _ (sym ((parted comparisons-rise).0 k d (omega arith) lt)) in omega arith
     | inr le ↦ let more = ranked (get_or ps k d).number n _ (sym ((parted comparisons-rise).1 k d le at)) in omega arith
   ]))
-    where
-      under_or_past : (k i : ℕ) → (k < i) ⊎ (i ≤ k)
-      under_or_past k zero = inr (omega arith)
-      under_or_past zero (suc i) = inl (omega arith)
-      under_or_past (suc k) (suc i) = elim (under_or_past k i) [ inl lt ↦ inl (omega arith) | inr le ↦ inr (omega arith) ]

@@ -22,41 +22,31 @@ use Rattle.hurd_ports.proofs.TaskLaws.{edit-found}
 use Rattle.hurd_ports.proofs.HeldLaws.{held-without}
 use Rattle.hurd_ports.proofs.SoundLaws.{get-held, sound-settled}
 use Rattle.hurd_ports.proofs.SeatLaws.{same_halves, seat-there, seat-changed}
+use Rattle.std.proofs.lemmas.Bool.{cases_Bool}
+
+-- what is open under a name that is held, or not at all, is kept
+kept-as_was : (m : OpenMap) (ts : List Task) (q : Name) → ((w : Opened) → fin.get m q ≡ Some w → is_held ts q ≡ true) → fin.get m q ≡ fin.get (fin.retain_keys m (is_held ts)) q
+kept-as_was m ts q held = go (fin.get m q) refl ∙ sym (get-held m ts q)
+  where
+    go : (o : Option Opened) → fin.get m q ≡ o → o ≡ cond (is_held ts q) o None
+    go None e = elim (cases_Bool (is_held ts q)) [ inl b ↦ rw b refl | inr b ↦ rw b refl ]
+    go (Some w) e = rw (held w e) refl
 
 -- where all other opens are held, it is enough to look at one
 settled-one : (m : OpenMap) (ts : List Task) (n : Name) → ((q : Name) (w : Opened) → fin.get m q ≡ Some w → q ≢ n → is_held ts q ≡ true) → settled_at (is_held ts) n m ≡ fin.retain_keys m (is_held ts)
 settled-one m ts n others = go (is_held ts n) refl
   where
-    apart_from : (q : Name) → q ≢ n → (o : Option Opened) → fin.get m q ≡ o → o ≡ cond (is_held ts q) o None
-    apart_from q apart None e = both (is_held ts q)
-      where
-        both : (b : Bool) → ◌≡◌ {A = Option Opened} None (cond b None None)
-        both true = refl
-        both false = refl
-    apart_from q apart (Some w) e = rw (others q w e apart) refl
-
     go : (b : Bool) → is_held ts n ≡ b → (if b then m else fin.remove m n) ≡ fin.retain_keys m (is_held ts)
-    go true e = same_map_by m _ (λ q. elim (same_or_apart q n) [
-      | inl here ↦ rw (get-held m ts q, here, e) refl
-      | inr apart ↦ apart_from q apart (fin.get m q) refl ∙ sym (get-held m ts q)
-    ])
+    go true e = same_map_by m _ (λ q. kept-as_was m ts q (λ w is. elim (same_or_apart q n) [ inl here ↦ rw here e | inr apart ↦ others q w is apart ]))
     go false e = same_map_by (fin.remove m n) _ (λ q. elim (same_or_apart q n) [
       | inl here ↦ rw (get-held m ts q, here, e, remove_here m n) refl
-      | inr apart ↦ remove_apart m n q apart ∙ apart_from q apart (fin.get m q) refl ∙ sym (get-held m ts q)
+      | inr apart ↦ remove_apart m n q apart ∙ kept-as_was m ts q (λ w is. others q w is apart)
     ])
 
 -- the same of an open that may not be there
 settled-maybe : (m : OpenMap) (ts : List Task) (o : Option Name) → ((q : Name) (w : Opened) → fin.get m q ≡ Some w → o ≢ Some q → is_held ts q ≡ true) → settled_by (is_held ts) o m ≡ fin.retain_keys m (is_held ts)
 settled-maybe m ts (Some n) others = settled-one m ts n (λ q w e apart. others q w e (λ same. apart (cc)))
-settled-maybe m ts None others = same_map_by m _ (λ q. kept q (fin.get m q) refl ∙ sym (get-held m ts q))
-  where
-    kept : (q : Name) (o : Option Opened) → fin.get m q ≡ o → o ≡ cond (is_held ts q) o None
-    kept q None e = both (is_held ts q)
-      where
-        both : (b : Bool) → ◌≡◌ {A = Option Opened} None (cond b None None)
-        both true = refl
-        both false = refl
-    kept q (Some w) e = rw (others q w e (λ same. absurd (cc))) refl
+settled-maybe m ts None others = same_map_by m _ (λ q. kept-as_was m ts q (λ w is. others q w is (λ same. absurd (cc))))
 
 -- what is held may be told in another way
 settled-alike : (f g : Name → Bool) (o : Option Name) (m : OpenMap) → ((q : Name) → f q ≡ g q) → settled_by f o m ≡ settled_by g o m

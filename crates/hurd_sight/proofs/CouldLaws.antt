@@ -1,7 +1,7 @@
 -- Which ids, taken from those that a set of tasks reaches, may do something: no more than a few of them need be tried.
 use Rattle.std.proofs.Common.{◌≡◌, ◌∙◌, inl, inr, sym, refl, ap, subst, ℕ, zero, suc, ◌==◌, Bool, true, false, true≢false, if◌then◌else◌, arith}
 use Rattle.std.specs.Prelude.{◌||◌, ◌&&◌, not}
-use Rattle.std.proofs.lemmas.Bool.{or_cases, or_left, or_right, and_parts, not-true}
+use Rattle.std.proofs.lemmas.Bool.{or_cases, or_left, or_right, and_parts, not-true, or_parts, false_from_ne_true, and_from, cases_Bool}
 use Rattle.std.proofs.lemmas.Bool.Decides.{nat_tests}
 use Rattle.std.specs.Ordering.{nat_cmp, eq_by_cmp, is_eq}
 use Rattle.std.specs.Cmp.{nat_cmp_total, tied_itself, Equal-is}
@@ -13,12 +13,9 @@ use Rattle.hurd_creds.specs.Access.{IdSet, IdSets, USE_UNK, group_bit, has_no_ui
 use Rattle.hurd_creds.specs.Bits.{has_bits}
 use Rattle.hurd_trans_iface.specs.Nodes.{Header}
 use Rattle.hurd_machine.specs.World.{World}
-use Rattle.hurd_machine.specs.Sight.{HasUid, HasGid, Taken, Could, Owns, Allowed, bare}
+use Rattle.hurd_machine.specs.Sight.{HasGid, Taken, Could, Owns, Allowed, bare}
 use Rattle.hurd_sight.specs.Reach.{CouldIsEnough, Reaches, could_with, others_or_group}
-
-or_false : (a b : Bool) → (a || b) ≡ false → (a ≡ false) × (b ≡ false)
-or_false true b e = absurd (true≢false e)
-or_false false b e = (refl, e)
+use Rattle.hurd_sight.proofs.ReachLaws.{owns_is}
 
 -- a set that holds something isn't empty
 some_held : (s : IdSet) (u : ℕ) → set.contains s u ≡ true → (set.len s == 0) ≡ false
@@ -80,11 +77,7 @@ module _ (S : ℕ → Bool) (w : World) (ids : IdSets) (r : Reaches S w ids) whe
 
   -- ids that are taken hold what is reached alone
   taken_uid : (got : IdSets) (u : ℕ) → Taken S w got → holds_uid ids u ≡ false → holds_uid got u ≡ false
-  taken_uid got u t none = go (holds_uid got u) refl
-    where
-      go : (b : Bool) → holds_uid got u ≡ b → holds_uid got u ≡ false
-      go true e = absurd (true≢false (sym ((r.uids u).1 (t.uids u e)) ∙ none))
-      go false e = e
+  taken_uid got u t none = false_from_ne_true (holds_uid got u) (λ e. true≢false (sym ((r.uids u).1 (t.uids u e)) ∙ none))
 
   taken_gid : (got : IdSets) (g : ℕ) → Taken S w got → holds_gid got g ≡ true → holds_gid ids g ≡ true
   taken_gid got g t held = (r.gids g).1 (t.gids g held)
@@ -92,15 +85,9 @@ module _ (S : ℕ → Bool) (w : World) (ids : IdSets) (r : Reaches S w ids) whe
   -- where none is reached, none is taken
   none_taken : (got : IdSets) → Taken S w got → has_no_uids ids ≡ true → has_no_uids got ≡ true
   none_taken got t none =
+      let not_held : (q : ℕ) → holds_uid ids q ≡ false = λ q. false_from_ne_true (holds_uid ids q) (none_in ids q none) in
       let same = set.same_set nat_cmp_total nat_cmp-IsAntisymmetric got.uids set.empty (λ q. taken_uid got q t (not_held q) ∙ sym (set.contains-empty nat_cmp q)) in
       ap (λ (s : IdSet). set.len s == 0) same ∙ no_len
-    where
-      not_held : (q : ℕ) → holds_uid ids q ≡ false
-      not_held q = go (holds_uid ids q) refl
-        where
-          go : (b : Bool) → holds_uid ids q ≡ b → b ≡ false
-          go true e = absurd (none_in ids q none e)
-          go false e = refl
 
   module _ (h : Header) (want : Want) where
     abbrev unknown : Bool
@@ -152,11 +139,7 @@ module _ (S : ℕ → Bool) (w : World) (ids : IdSets) (r : Reaches S w ids) whe
           or_right (unknown && has_bits h.mode.0 (unknown_bit want)) (not (has_no_uids ids && unknown) && others_or_group ids (bare h) want) (rw (some, by_member member g bit) refl)
         where
           some : (has_no_uids ids && unknown) ≡ false
-          some = go (has_no_uids ids) refl
-            where
-              go : (b : Bool) → has_no_uids ids ≡ b → (b && unknown) ≡ false
-              go true e = ap (λ (b : Bool). b && unknown) (sym (none_taken got t e)) ∙ n
-              go false e = refl
+          some = false_from_ne_true (has_no_uids ids && unknown) (λ e. let p = and_parts (has_no_uids ids) unknown e in true≢false (sym (and_from (has_no_uids got) unknown (none_taken got t p.0) p.1) ∙ n))
 
           by_member : (b : Bool) → holds_gid got h.group ≡ b → (if b then has_bits h.mode.0 (group_bit want) else has_bits h.mode.0 (others_bit want)) ≡ true
               → others_or_group ids (bare h) want ≡ true
@@ -164,34 +147,22 @@ module _ (S : ℕ → Bool) (w : World) (ids : IdSets) (r : Reaches S w ids) whe
           by_member false held bit = rw bit refl
 
     could_from : could_with ids (bare h) want ≡ true → Could S w h want
-    could_from e = elim (or_cases (owns ids (bare h)) _ e) [
-      | inl own ↦ by_owner own
-      | inr rest ↦ by_rest (owns ids (bare h)) refl rest
+    could_from e = elim (cases_Bool (owns ids (bare h))) [
+      | inl own ↦ let o = (owns_is r h).0 own in Owns o.0 o.1 o.2
+      | inr own ↦ elim (or_cases (owns ids (bare h)) _ e) [
+        | inl other ↦ absurd (true≢false (sym other ∙ own))
+        | inr rest ↦ let none = or_parts (holds_uid ids h.owner) (is_root ids) own in by_some none.0 none.1 rest
+      ]
     ]
-      where
-        by_owner : owns ids (bare h) ≡ true → Could S w h want
-        by_owner own = elim (or_cases (holds_uid ids h.owner) (is_root ids) own) [
-          | inl held ↦ Owns h.owner ((r.uids h.owner).0 held) (inl refl)
-          | inr root ↦ Owns 0 ((r.uids 0).0 root) (inr refl)
-        ]
-
-        by_rest : (b : Bool) → owns ids (bare h) ≡ b
-            → ((unknown && has_bits h.mode.0 (unknown_bit want)) || (not (has_no_uids ids && unknown) && others_or_group ids (bare h) want)) ≡ true → Could S w h want
-        by_rest true own rest = by_owner own
-        by_rest false own rest = let none = or_false (holds_uid ids h.owner) (is_root ids) own in by_some none.0 none.1 rest
 
     could_to : Could S w h want → could_with ids (bare h) want ≡ true
-    could_to (Owns u has which) = or_left (owns ids (bare h)) _ (elim which [
-      | inl owner ↦ or_left (holds_uid ids h.owner) (is_root ids) ((r.uids h.owner).1 (subst (HasUid S w) owner has))
-      | inr root ↦ or_right (holds_uid ids h.owner) (is_root ids) ((r.uids 0).1 (subst (HasUid S w) root has))
-    ])
-    could_to (Allowed got t m) = go (owns ids (bare h)) refl
-      where
-        go : (b : Bool) → owns ids (bare h) ≡ b → could_with ids (bare h) want ≡ true
-        go true own = or_left (owns ids (bare h)) _ own
-        go false own =
-            let none = or_false (holds_uid ids h.owner) (is_root ids) own in
-            or_right (owns ids (bare h)) _ (told none.0 none.1 (has_no_uids got && unknown) (holds_gid got h.group) got t refl refl m)
+    could_to (Owns u has which) = or_left (owns ids (bare h)) _ ((owns_is r h).1 (u, has, which))
+    could_to (Allowed got t m) = elim (cases_Bool (owns ids (bare h))) [
+      | inl own ↦ or_left (owns ids (bare h)) _ own
+      | inr own ↦
+          let none = or_parts (holds_uid ids h.owner) (is_root ids) own in
+          or_right (owns ids (bare h)) _ (told none.0 none.1 (has_no_uids got && unknown) (holds_gid got h.group) got t refl refl m)
+    ]
 
 pub could_is_enough : CouldIsEnough
 could_is_enough S w ids h want r = (could_from S w ids r h want, could_to S w ids r h want)

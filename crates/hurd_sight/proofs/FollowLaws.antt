@@ -1,5 +1,5 @@
 -- Nodes are followed in their order, until all that they show is there.
-use Rattle.std.proofs.Common.{◌≡◌, ◌∙◌, ◌⊎◌, inl, inr, sym, refl, ap, subst, ℕ, zero, suc, ◌+◌, ◌<◌, ◌≤◌, arith, List, [], ◌∷◌, ◌++◌, take, take_all, length, length-append, ltb, Bool, true, false}
+use Rattle.std.proofs.Common.{◌≡◌, ◌∙◌, ◌⊎◌, inl, inr, sym, refl, ap, subst, ℕ, zero, suc, ◌+◌, ◌<◌, ◌≤◌, arith, [], ◌∷◌, ◌++◌, take, take_all, length, length-append, ltb, Bool, true, false}
 use Rattle.std.specs.Prelude.{Option, Some, None, slice_get}
 use Rattle.std.specs.Option.{option_map}
 use Rattle.std.proofs.lemmas.Bool.{ltb-false, ltb-true}
@@ -8,7 +8,6 @@ use Rattle.std.proofs.lemmas.Option.{get_or_from_slice_get, slice_get_within}
 use Rattle.hurd_creds.specs.declared.name.Name.{Name}
 use Rattle.hurd_creds.specs.Access.{IdSets}
 use Rattle.hurd_nodes.specs.Shown.{NodeState}
-use Rattle.hurd_machine.specs.World.{IsAmong}
 use Rattle.hurd_sight.specs.Found.{Follows, FoundIsOne, gathered, of_node, of_nodes}
 use Rattle.hurd_sight.specs.declared.found.Why.{Why}
 use Rattle.hurd_sight.proofs.FoundLaws.{Entries, flat_next, gathered_both, gathered_grown}

@@ -6,14 +6,7 @@ use Rattle.std.specs.Prelude.{nat_eq}
 use Rattle.std.specs.List.{list_any}
 use Rattle.indexmap.specs.IndexSet.{insert_key}
 use Rattle.hurd_creds.specs.Access.{is_among}
-
-or_nothing : (a : Bool) → (a || false) ≡ a
-or_nothing true = refl
-or_nothing false = refl
-
-or_grouped : (a b c : Bool) → ((a || b) || c) ≡ (a || (b || c))
-or_grouped true b c = refl
-or_grouped false b c = refl
+use Rattle.std.proofs.Math.Bool.{or-false, or_assoc}
 
 -- an id that is equal to one of a list is among these
 among_equal : (x : ℕ) (ks : List ℕ) → list_any (nat_eq x) ks ≡ is_among ks x
@@ -27,12 +20,12 @@ among_inserted : (ks : List ℕ) (x id : ℕ) → is_among (insert_key nat_eq ks
 among_inserted ks x id = go (list_any (nat_eq x) ks) refl (nat_eq x id) refl
   where
     go : (there : Bool) → list_any (nat_eq x) ks ≡ there → (same : Bool) → nat_eq x id ≡ same → is_among (if there then ks else ks ++ x ∷ []) id ≡ (is_among ks id || same)
-    go true e false f = sym (or_nothing (is_among ks id))
+    go true e false f = sym (or-false (is_among ks id))
     go true e true f =
         let one : x ≡ id = grind (arith, nat_tests) in
         let has : is_among ks id ≡ true = ap (is_among ks) (sym one) ∙ sym (among_equal x ks) ∙ e in
         rw has refl
-    go false e b f = list_any-append (λ y. nat_eq y id) ks (x ∷ []) ∙ ap (λ (d : Bool). is_among ks id || d) (or_nothing (nat_eq x id) ∙ f)
+    go false e b f = list_any-append (λ y. nat_eq y id) ks (x ∷ []) ∙ ap (λ (d : Bool). is_among ks id || d) (or-false (nat_eq x id) ∙ f)
 
 -- with the next id of a list, what was there and the ids before it
 pub gathered_next : (old ks ids new : List ℕ) (i : ℕ) → i < length ids → ((id : ℕ) → is_among ks id ≡ (is_among old id || is_among (take i ids) id))
@@ -41,5 +34,5 @@ gathered_next old ks ids new i below before is id =
     ap (λ (l : List ℕ). is_among l id) is
     ∙ among_inserted ks (get_or ids i 0) id
     ∙ ap (λ (b : Bool). b || nat_eq (get_or ids i 0) id) (before id)
-    ∙ or_grouped (is_among old id) (is_among (take i ids) id) (nat_eq (get_or ids i 0) id)
+    ∙ or_assoc (is_among old id) (is_among (take i ids) id) (nat_eq (get_or ids i 0) id)
     ∙ ap (λ (b : Bool). is_among old id || b) (sym (list_any_more (λ y. nat_eq y id) ids i 0 below))

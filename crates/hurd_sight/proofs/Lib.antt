@@ -1,3 +1,4 @@
+pub mod WalkLaws
 pub mod CouldLaws
 pub mod GatherLaws
 pub mod ReachLaws

@@ -1,6 +1,6 @@
 -- What a node, a right and a task show: of what the code asks, and why it is shown.
-use Rattle.std.proofs.Common.{◌≡◌, ◌∙◌, ◌⊎◌, inl, inr, sym, refl, ap, subst, ℕ, Bool, true, false, true≢false, List, [], ◌∷◌, ◌++◌, map, if◌then◌else◌}
-use Rattle.std.specs.Prelude.{cond, ◌&&◌, Option, Some, None, Result, Ok, Err, option_and_then}
+use Rattle.std.proofs.Common.{◌≡◌, ◌∙◌, inl, inr, sym, refl, ap, subst, ℕ, Bool, true, false, true≢false, List, [], ◌∷◌, ◌++◌, map, if◌then◌else◌}
+use Rattle.std.specs.Prelude.{cond, Option, Some, None, Result, Ok, Err, option_and_then}
 use Rattle.std.specs.List.{flat_map}
 use Rattle.std.specs.Option.{option_map}
 use Rattle.std.specs.Str.{bytes_eq}
@@ -11,46 +11,33 @@ use Rattle.std.proofs.lemmas.List.Concat.{flat_map-append}
 use Rattle.std.proofs.lemmas.List.Folds.{flat_map-map}
 use Rattle.hurd_creds.specs.declared.name.Name.{Name}
 use Rattle.hurd_creds.specs.declared.errno.Errno.{Errno}
-use Rattle.hurd_creds.specs.declared.attrs.Kind.{Kind}
-use Rattle.hurd_creds.specs.declared.attrs.Kind.TheVariants.{File, Dir, Link, Fifo, Char}
+use Rattle.hurd_creds.specs.declared.attrs.Kind.TheVariants.{Dir}
 use Rattle.hurd_creds.specs.declared.attrs.Want.TheVariants.{Exec}
 use Rattle.hurd_creds.specs.Access.{IdSets}
 use Rattle.hurd_creds.specs.Memory.{Meets, is_no_memory}
 use Rattle.hurd_trans_iface.specs.Nodes.{Header, Body, Content, Listing, Entry, body_of, header_of, is_dir}
 use Rattle.hurd_trans_iface.specs.Answers.{entry_in, entry_of, names_of}
 use Rattle.hurd_nodes.specs.Shown.{NodeState, ServerInfo}
-use Rattle.hurd_ports.specs.declared.parents.Parent.{Parent as Pair}
-use Rattle.hurd_ports.specs.declared.table.IoRight.{IoRight}
 use Rattle.hurd_ports.specs.declared.table.Port.{Port}
-use Rattle.hurd_ports.specs.declared.table.Right.{Right}
-use Rattle.hurd_ports.specs.declared.table.Right.TheVariants.{Io}
 use Rattle.hurd_ports.specs.Tables.{Task, rights_of, start_of}
 use Rattle.hurd_machine.specs.World.{IsAmong}
 use Rattle.hurd_machine.proofs.Removals.{same_exact}
 use Rattle.hurd_machine.specs.Sight.{bare}
 use Rattle.hurd_sight.specs.Reach.{could_with, serves}
-use Rattle.hurd_sight.specs.Found.{found_more, gathered, names_told, of_active, of_children, of_entry, of_node, of_parent, of_right, of_server, of_task, of_way, parent_in, root_of, root_served, searched_by, served_root}
+use Rattle.hurd_sight.specs.Found.{gathered, names_told, of_active, of_children, of_entry, of_node, of_parent, of_right, of_server, parent_in, root_of, root_served, searched_by, served_root}
 use Rattle.hurd_sight.specs.declared.found.Why.{Why}
 use Rattle.hurd_sight.specs.declared.found.Why.TheVariants as why
 use Rattle.hurd_sight.proofs.FoundLaws.{Entries, among_flat, among_why, flat_among, gathered_both, why_among}
+use Rattle.hurd_machine.proofs.Listed.{dir_kind}
 
 same_some : {X : Type 0} (x y : X) → Some x ≡ Some y → x ≡ y
 same_some x y e = cc
 
-some_none : {X : Type 0} (x : X) → None ≡ Some x → ⊥
-some_none x e = absurd (cc)
-
 -- what follows of what may be there
 
 and_then_of : {A B : Type 0} (f : A → Option B) (o : Option A) (b : B) → option_and_then f o ≡ Some b → (a : A) × (o ≡ Some a) × (f a ≡ Some b)
-and_then_of f None b e = absurd (some_none b e)
+and_then_of f None b e = absurd (cc)
 and_then_of f (Some a) b e = (a, refl, e)
-
-pub and_then_some : {A B : Type 0} (f : A → Option B) (o : Option A) (a : A) → Some a ≡ o → f a ≡ option_and_then f o
-and_then_some f o a is = ap (option_and_then f) is
-
-pub and_then_none : {A B : Type 0} (f : A → Option B) (o : Option A) → None ≡ o → None ≡ option_and_then f o
-and_then_none f o is = ap (option_and_then f) is
 
 -- the root of a server
 
@@ -58,7 +45,7 @@ pub root_info : (h : NodeState) (s n : Name) → root_of h s ≡ Some n → (i :
 root_info h s n e = go (fin.get h.servers s) refl e
   where
     go : (o : Option ServerInfo) → fin.get h.servers s ≡ o → option_map (λ (i : ServerInfo). i.root) o ≡ Some n → (i : ServerInfo) × (fin.get h.servers s ≡ Some i) × (n ≡ i.root)
-    go None is t = absurd (some_none n t)
+    go None is t = absurd (cc)
     go (Some i) is t = (i, is, sym (same_some i.root n t))
 
 pub info_root : (h : NodeState) (s n : Name) (i : ServerInfo) → fin.get h.servers s ≡ Some i → n ≡ i.root → root_of h s ≡ Some n
@@ -85,7 +72,7 @@ served_info ids i n e = go (serves ids i.ids) refl
   where
     go : (b : Bool) → serves ids i.ids ≡ b → (serves ids i.ids ≡ true) × (n ≡ i.root)
     go true is = (is, sym (same_some i.root n (sym (ap (λ (b : Bool). if b then Some i.root else None) is) ∙ e)))
-    go false is = absurd (some_none n (sym (ap (λ (b : Bool). if b then Some i.root else None) is) ∙ e))
+    go false is = absurd (let none : None ≡ Some n = sym (ap (λ (b : Bool). if b then Some i.root else None) is) ∙ e in cc)
 
 pub server_info : (h : NodeState) (ids : IdSets) (m n : Name) (y : Why) → IsAmong (n, y) (of_server h ids m)
     → (s : Name) × (i : ServerInfo) × (fin.get h.homes m ≡ Some s) × (fin.get h.servers s ≡ Some i) × (serves ids i.ids ≡ true) × (n ≡ i.root) × (y ≡ why.ServerRoot m)
@@ -105,34 +92,10 @@ info_server h ids m n s i home is served root =
 
 -- by what the code asks
 
-pub served : (h : NodeState) (ids other : IdSets) (m s : Name) (b : Bool) (r : Option Name) → Some s ≡ fin.get h.homes m → Some other ≡ option_map (λ (i : ServerInfo). i.ids) (fin.get h.servers s)
-    → b ≡ serves ids other → b ≡ true → r ≡ option_map (λ (i : ServerInfo). i.root) (fin.get h.servers s) → r ≡ option_and_then (served_root h ids) (fin.get h.homes m)
-served h ids other m s b r home told test is root = go (fin.get h.servers s) refl told root ∙ ap (option_and_then (served_root h ids)) home
-  where
-    go : (o : Option ServerInfo) → fin.get h.servers s ≡ o → Some other ≡ option_map (λ (i : ServerInfo). i.ids) o → r ≡ option_map (λ (i : ServerInfo). i.root) o → r ≡ served_root h ids s
-    go None at t e = absurd (cc)
-    go (Some i) at t e =
-        e
-        ∙ (sym (ap (λ (c : Bool). if c then Some i.root else None) (ap (serves ids) (sym (same_some other i.ids t)) ∙ (sym test ∙ is)))
-        ∙ ap (option_and_then (root_served ids)) (sym at))
-
-pub unserved : (h : NodeState) (ids other : IdSets) (m s : Name) (b : Bool) → Some s ≡ fin.get h.homes m → Some other ≡ option_map (λ (i : ServerInfo). i.ids) (fin.get h.servers s)
-    → b ≡ serves ids other → b ≡ false → None ≡ option_and_then (served_root h ids) (fin.get h.homes m)
-unserved h ids other m s b home told test is = go (fin.get h.servers s) refl told ∙ ap (option_and_then (served_root h ids)) home
-  where
-    go : (o : Option ServerInfo) → fin.get h.servers s ≡ o → Some other ≡ option_map (λ (i : ServerInfo). i.ids) o → None ≡ served_root h ids s
-    go None at t = absurd (cc)
-    go (Some i) at t =
-        sym (ap (λ (c : Bool). if c then Some i.root else None) (ap (serves ids) (sym (same_some other i.ids t)) ∙ (sym test ∙ is)))
-        ∙ ap (option_and_then (root_served ids)) (sym at)
-
-pub unknown : (h : NodeState) (ids : IdSets) (m s : Name) → Some s ≡ fin.get h.homes m → None ≡ option_map (λ (i : ServerInfo). i.ids) (fin.get h.servers s)
-    → None ≡ option_and_then (served_root h ids) (fin.get h.homes m)
-unknown h ids m s home told = go (fin.get h.servers s) refl told ∙ ap (option_and_then (served_root h ids)) home
-  where
-    go : (o : Option ServerInfo) → fin.get h.servers s ≡ o → None ≡ option_map (λ (i : ServerInfo). i.ids) o → None ≡ served_root h ids s
-    go None at t = ap (option_and_then (root_served ids)) (sym at)
-    go (Some i) at t = absurd (cc)
+pub root_told : (ids other : IdSets) (o : Option ServerInfo) → Some other ≡ option_map (λ (i : ServerInfo). i.ids) o
+    → option_and_then (root_served ids) o ≡ (if serves ids other then option_map (λ (i : ServerInfo). i.root) o else None)
+root_told ids other None told = absurd (cc)
+root_told ids other (Some i) told = let same : other ≡ i.ids = cc in rw same refl
 
 -- the parent of a directory
 
@@ -140,7 +103,7 @@ pub parent_info : (h : NodeState) (d n : Name) (y : Why) → IsAmong (n, y) (of_
 parent_info h d n y a = let told = among_why (parent_in (header_of h.nodes d)) (why.Parent d) n y a in go (header_of h.nodes d) refl told.0 told.1
   where
     go : (o : Option Header) → header_of h.nodes d ≡ o → parent_in o ≡ Some n → y ≡ why.Parent d → (x : Header) × (header_of h.nodes d ≡ Some x) × (x.parent ≡ Some n) × (y ≡ why.Parent d)
-    go None is t e = absurd (some_none n t)
+    go None is t e = absurd (cc)
     go (Some x) is t e = (x, is, t, e)
 
 pub info_parent : (h : NodeState) (d n : Name) (x : Header) → header_of h.nodes d ≡ Some x → x.parent ≡ Some n → IsAmong (n, why.Parent d) (of_parent h d)
@@ -166,14 +129,7 @@ named name n (Some (Listing es)) is = named_entry name n es is
 -- what a directory that could be searched is
 searched_dir : (ids : IdSets) (o : Option Header) → searched_by ids o ≡ true → (x : Header) × (o ≡ Some x) × (x.kind ≡ Dir) × (could_with ids (bare x) Exec ≡ true)
 searched_dir ids None e = absurd (true≢false (sym e))
-searched_dir ids (Some x) e = let both = and_parts (is_dir x.kind) (could_with ids (bare x) Exec) e in (x, refl, a_dir x.kind both.0, both.1)
-  where
-    a_dir : (k : Kind) → is_dir k ≡ true → k ≡ Dir
-    a_dir Dir is = refl
-    a_dir File is = absurd (true≢false (sym is))
-    a_dir Link is = absurd (true≢false (sym is))
-    a_dir Fifo is = absurd (true≢false (sym is))
-    a_dir Char is = absurd (true≢false (sym is))
+searched_dir ids (Some x) e = let both = and_parts (is_dir x.kind) (could_with ids (bare x) Exec) e in (x, refl, dir_kind x.kind both.0, both.1)
 
 abbrev if_searched : NodeState → Name → Bool → Entries
 if_searched h d b = if b then flat_map (of_entry d (body_of h.nodes d)) (names_told (names_of (body_of h.nodes d))) else []
@@ -210,9 +166,6 @@ searched a {b} h ids d ns test told e =
     ∙ (ap (λ (r : Result (List (List ℕ)) Errno). gathered (flat_map (of_entry d (body_of h.nodes d)) (names_told r)) a) (sym told)
     ∙ ap (λ (c : Bool). gathered (if_searched h d c) a) test)
 
-pub unsearched : (h : NodeState) (ids : IdSets) (d : Name) (a : Entries) → false ≡ searched_by ids (header_of h.nodes d) → a ≡ gathered (of_children h ids d) a
-unsearched h ids d a test = ap (λ (c : Bool). gathered (if_searched h d c) a) test
-
 pub no_names : (h : NodeState) (ids : IdSets) (d : Name) (e : Errno) (a : Entries) → names_of (body_of h.nodes d) ≡ Err e → a ≡ gathered (of_children h ids d) a
 no_names h ids d e a told = go (searched_by ids (header_of h.nodes d)) refl
   where
@@ -240,20 +193,6 @@ of_rights a {b} {c} {d} h x starting porting sent =
         ∙ ap (λ (es : Entries). flat_map (of_right h) (start_of x.pending) ++ es)
         (flat_map-append (of_right h) (map (λ p. p.right) x.ports) x.inbox
         ∙ ap (λ (es : Entries). es ++ flat_map (of_right h) x.inbox) (flat_map-map (of_right h) (λ (p : Port). p.right) x.ports))
-
-pub of_io : (a : Entries) {b c : Entries} (h : NodeState) (r : IoRight) (ways : List Pair) → ways ≡ r.parents → b ≡ found_more r.node why.Held a → c ≡ gathered (flat_map of_way ways) b
-    → c ≡ gathered (of_right h (Io r)) a
-of_io a {b} h r ways is first rest =
-    rest ∙ (ap (λ (ps : List Pair). gathered (flat_map of_way ps) b) is ∙ ap (gathered (flat_map of_way r.parents)) first)
-
-pub of_one : (a : Entries) {b : Entries} (h : NodeState) (q r : Right) → q ≡ r → b ≡ gathered (of_right h r) a → b ≡ gathered (of_right h q) a
-of_one a {b} h q r is e = subst (λ (z : Right). b ≡ gathered (of_right h z) a) (sym is) e
-
-pub of_some : (a : Entries) {b : Entries} (h : NodeState) (x : Task) (o : Option Task) → Some x ≡ o → b ≡ gathered (flat_map (of_right h) (rights_of x)) a → b ≡ gathered (of_task h o) a
-of_some a {b} h x o is e = subst (λ (z : Option Task). b ≡ gathered (of_task h z) a) is e
-
-pub of_none : (h : NodeState) (o : Option Task) (a : Entries) → None ≡ o → a ≡ gathered (of_task h o) a
-of_none h o a is = subst (λ (z : Option Task). a ≡ gathered (of_task h z) a) is refl
 
 -- all that a node shows
 pub of_all : (a : Entries) {b c d e : Entries} (h : NodeState) (ids : IdSets) (m : Name) → b ≡ gathered (of_children h ids m) a → c ≡ gathered (of_parent h m) b → d ≡ gathered (of_active h m) c

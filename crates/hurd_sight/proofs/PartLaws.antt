@@ -7,11 +7,9 @@ use Rattle.std.specs.Global.{Vec}
 use Rattle.std.proofs.lemmas.Bool.{or_cases, or_left, or_right, and_parts, and_from, not-true}
 use Rattle.hurd_creds.specs.declared.name.Name.{Name}
 use Rattle.hurd_creds.specs.declared.name.TaskId.{TaskId}
-use Rattle.hurd_creds.specs.declared.attrs.Kind.{Kind}
-use Rattle.hurd_creds.specs.declared.attrs.Kind.TheVariants.{File, Dir, Link, Fifo, Char}
 use Rattle.hurd_creds.specs.declared.attrs.Want.{Want}
 use Rattle.hurd_creds.specs.declared.attrs.Want.TheVariants.{Read, Write, Exec}
-use Rattle.hurd_creds.specs.Access.{IdSets, holds_uid, is_root, owns}
+use Rattle.hurd_creds.specs.Access.{IdSets, owns}
 use Rattle.hurd_creds.specs.Bits.{asks, READ}
 use Rattle.hurd_creds.specs.Names.{same_name}
 use Rattle.hurd_creds.proofs.NameLaws.{equal_if_same, same_name-itself, apart_if_not_same, same_name-apart}
@@ -22,7 +20,7 @@ use Rattle.hurd_ports.specs.Tables.{Task}
 use Rattle.hurd_ports.specs.declared.table.Right.{Right}
 use Rattle.hurd_ports.specs.declared.table.Right.TheVariants.{Io, Control, Start}
 use Rattle.hurd_machine.specs.World.{World, IsAmong, nodes_of, active_at, header_at, home_at, server_at}
-use Rattle.hurd_machine.specs.Sight.{Could, CouldServe, HasUid, Holds, OwnsIt, Seen, Sees, SeesBody, ToRead, ToSearch, IsOpen, SeesEmpty, ByBody, ByParent, Knows, OfNode, OfSeat, OfControl, MaySend, Sends, ByControl, ByNode, BySeat, bare}
+use Rattle.hurd_machine.specs.Sight.{Could, CouldServe, Holds, OwnsIt, Seen, Sees, SeesBody, ToRead, ToSearch, IsOpen, SeesEmpty, ByBody, ByParent, Knows, OfNode, OfSeat, OfControl, MaySend, Sends, ByControl, ByNode, BySeat, bare}
 use Rattle.hurd_sight.specs.Reach.{Gathers, Reaches, among, could_with, serves}
 use Rattle.hurd_sight.specs.Found.{FoundAll, IsSight, is_found}
 use Rattle.hurd_sight.specs.declared.found.Why.{Why}
@@ -32,10 +30,15 @@ use Rattle.hurd_sight.specs.declared.parts.SeenPart.TheVariants as seen
 use Rattle.hurd_sight.specs.Parts.{HasOpen, HasRead, KnownByNode, SentByNode, control_of, is_in, known_at, maybe_named, named, no_names, of_found, open_of, owned_by, part_of, read_of, reads, rights_at, rights_held, sendable_at, served_by, served_in, with_rights}
 use Rattle.hurd_sight.specs.Looks.{Gathered, Looks, PartsAreSeen, could_write, reads_with, sees_with, tells_empty, writes_at}
 use Rattle.hurd_sight.proofs.CouldLaws.{could_is_enough}
-use Rattle.hurd_sight.proofs.ReachLaws.{any_found, found_any, listed_task, ours, reach_is_gathered, serves_is}
+use Rattle.hurd_sight.proofs.ReachLaws.{any_found, listed_task, ours, reach_is_gathered, owns_is, served_is}
 use Rattle.hurd_sight.proofs.SightLaws.{found_is_seen}
-use Rattle.hurd_sight.proofs.FoundLaws.{Entries, among_either, among_flat, among_left, among_right, flat_among}
+use Rattle.hurd_sight.proofs.FoundLaws.{Entries, among_flat, flat_among}
 use Rattle.hurd_sight.proofs.NameLaws.{controls_with, named_are, opens_with, reads_with as all_read}
+use Rattle.hurd_machine.proofs.Tasks.{among_cases, among_left, among_right}
+use Rattle.hurd_machine.proofs.Listed.{dir_kind}
+use Rattle.hurd_creds.specs.declared.attrs.Kind.TheVariants.{Dir}
+use Rattle.hurd_machine.proofs.Holders.{any_among}
+use Rattle.std.proofs.Math.Bool.{or-true}
 
 pub both_ways : {A B C : Type 0} → (A ↔ B) → (B ↔ C) → (A ↔ C)
 both_ways x y = (λ a. y.0 (x.0 a), λ c. x.1 (y.1 c))
@@ -128,7 +131,7 @@ module _ (w : World) (tasks : List TaskId) where
     -- a found node is a seen one
 
     entry_seen : (e : Name × Why) → IsAmong e es → Seen S w e.0
-    entry_seen e here = (sight.exact e.0).0 (found_any (λ (x : Name × Why). same_name e.0 x.0) es e here (same_name-itself e.0))
+    entry_seen e here = (sight.exact e.0).0 (any_among (λ (x : Name × Why). same_name e.0 x.0) e es here (same_name-itself e.0))
 
     seen_entry : (n : Name) → Seen S w n → (e : Name × Why) × IsAmong e es × (e.0 ≡ n)
     seen_entry n sees = let it = any_found (λ (x : Name × Why). same_name n x.0) es ((sight.exact n).1 sees) in (it.0, it.1, sym (equal_if_same n it.0.0 it.2))
@@ -147,7 +150,7 @@ module _ (w : World) (tasks : List TaskId) where
     )
       where
         to : (n : Name) → IsAmong s (known_at (nodes_of w) n) → (home_at w n ≡ Some s) ⊎ (active_at w n ≡ Some s)
-        to n a = elim (among_either s (maybe_named (home_at w n)) (maybe_named (active_at w n)) a) [
+        to n a = elim (among_cases s (maybe_named (home_at w n)) (maybe_named (active_at w n)) a) [
           | inl home ↦ inl (maybe_among (home_at w n) s home)
           | inr active ↦ inr (maybe_among (active_at w n) s active)
         ]
@@ -155,27 +158,6 @@ module _ (w : World) (tasks : List TaskId) where
         from : (n : Name) → (home_at w n ≡ Some s) ⊎ (active_at w n ≡ Some s) → IsAmong s (known_at (nodes_of w) n)
         from n (inl home) = among_left s (maybe_named (home_at w n)) (maybe_named (active_at w n)) (among_maybe (home_at w n) s home)
         from n (inr active) = among_right s (maybe_named (home_at w n)) (maybe_named (active_at w n)) (among_maybe (active_at w n) s active)
-
-    owner : (h : Header) → (owns ids (bare h) ≡ true) ↔ OwnsIt S w h
-    owner h = (to, from)
-      where
-        to : owns ids (bare h) ≡ true → OwnsIt S w h
-        to e = elim (or_cases (holds_uid ids h.owner) (is_root ids) e) [
-          | inl own ↦ (h.owner, (r.uids h.owner).0 own, inl refl)
-          | inr root ↦ (0, (r.uids 0).0 root, inr refl)
-        ]
-
-        from : OwnsIt S w h → owns ids (bare h) ≡ true
-        from o = elim o.2 [
-          | inl own ↦ or_left (holds_uid ids h.owner) (is_root ids) ((r.uids h.owner).1 (subst (HasUid S w) own o.1))
-          | inr root ↦ or_right (holds_uid ids h.owner) (is_root ids) ((r.uids 0).1 (subst (HasUid S w) root o.1))
-        ]
-
-    served : (i : ServerInfo) → (serves ids i.ids ≡ true) ↔ CouldServe S w i
-    served i = (
-      λ t. let s = (serves_is ids i.ids).0 t in (s.0, (r.uids s.0).0 s.1, s.2),
-      λ c. (serves_is ids i.ids).1 (c.0, (r.uids c.0).1 c.1, c.2),
-    )
 
     -- a server that may be sent away by a node
     abbrev SentAt : Name → Name → Type 0
@@ -191,7 +173,7 @@ module _ (w : World) (tasks : List TaskId) where
         by q home None is b = absurd b
         by q home (Some i) is b =
             let it = if_among (serves ids i.ids) q s b in
-            (i, home ∙ ap (λ (z : Name). Some z) it.1, ap (server_at w) (sym it.1) ∙ is, (served i).0 it.0)
+            (i, home ∙ ap (λ (z : Name). Some z) it.1, ap (server_at w) (sym it.1) ∙ is, (served_is r i).0 it.0)
 
         at : (o : Option Name) → home_at w n ≡ o → IsAmong s (served_in (nodes_of w) ids o) → (i : ServerInfo) × (home_at w n ≡ Some s) × (server_at w s ≡ Some i) × CouldServe S w i
         at None home b = absurd b
@@ -201,7 +183,7 @@ module _ (w : World) (tasks : List TaskId) where
     owned_among n s a = at (header_at w n) refl a
       where
         test : (h : Header) (t : Bool) → owns ids (bare h) ≡ t → IsAmong s (if t then maybe_named (active_at w n) else []) → (active_at w n ≡ Some s) × OwnsIt S w h
-        test h true is b = (maybe_among (active_at w n) s b, (owner h).0 is)
+        test h true is b = (maybe_among (active_at w n) s b, (owns_is r h).0 is)
         test h false is b = absurd b
 
         at : (o : Option Header) → header_at w n ≡ o → IsAmong s (owned_by ids o (active_at w n)) → (h : Header) × (active_at w n ≡ Some s) × (header_at w n ≡ Some h) × OwnsIt S w h
@@ -212,7 +194,7 @@ module _ (w : World) (tasks : List TaskId) where
     sent_at n s = (to, from)
       where
         to : IsAmong s (sendable_at (nodes_of w) ids n) → SentAt n s
-        to a = elim (among_either s (served_in (nodes_of w) ids (home_at w n)) (owned_by ids (header_at w n) (active_at w n)) a) [
+        to a = elim (among_cases s (served_in (nodes_of w) ids (home_at w n)) (owned_by ids (header_at w n) (active_at w n)) a) [
           | inl b ↦ inl (served_among n s b)
           | inr b ↦ inr (owned_among n s b)
         ]
@@ -221,11 +203,11 @@ module _ (w : World) (tasks : List TaskId) where
         from (inl p) =
             among_left s (served_in (nodes_of w) ids (home_at w n)) (owned_by ids (header_at w n) (active_at w n))
             (subst (λ (o : Option Name). IsAmong s (served_in (nodes_of w) ids o)) (sym p.1)
-            (subst (λ (o : Option ServerInfo). IsAmong s (served_by ids s o)) (sym p.2) (among_if (serves ids p.0.ids) s s ((served p.0).1 p.3) refl)))
+            (subst (λ (o : Option ServerInfo). IsAmong s (served_by ids s o)) (sym p.2) (among_if (serves ids p.0.ids) s s ((served_is r p.0).1 p.3) refl)))
         from (inr p) =
             among_right s (served_in (nodes_of w) ids (home_at w n)) (owned_by ids (header_at w n) (active_at w n))
             (subst (λ (o : Option Header). IsAmong s (owned_by ids o (active_at w n))) (sym p.2)
-            (subst (λ (t : Bool). IsAmong s (if t then maybe_named (active_at w n) else [])) (sym ((owner p.0).1 p.3)) (among_maybe (active_at w n) s p.1)))
+            (subst (λ (t : Bool). IsAmong s (if t then maybe_named (active_at w n) else [])) (sym ((owns_is r p.0).1 p.3)) (among_maybe (active_at w n) s p.1)))
 
     sent_seen : (s : Name) → IsAmong s (of_found (sendable_at (nodes_of w) ids) es) ↔ SentByNode S w s
     sent_seen s = (
@@ -272,34 +254,19 @@ module _ (S : ℕ → Bool) (w : World) (v : Sight) (l : Looks S w v) where
   could : (h : Header) (want : Want) → (could_with v.reach (bare h) want ≡ true) ↔ Could S w h want
   could h want = could_is_enough S w v.reach h want l.reach
 
-  dir_is : (k : Kind) → is_dir k ≡ true → k ≡ Dir
-  dir_is Dir e = refl
-  dir_is File e = absurd (true≢false (sym e))
-  dir_is Link e = absurd (true≢false (sym e))
-  dir_is Fifo e = absurd (true≢false (sym e))
-  dir_is Char e = absurd (true≢false (sym e))
-
-  is_dir_of : (k : Kind) → k ≡ Dir → is_dir k ≡ true
-  is_dir_of k e = ap is_dir e
-
   read_to : (n : Name) (h : Header) → reads_with v n (Some h) ≡ true → SeesBody S w n h
   read_to n h e = elim (or_cases (could_with v.reach (bare h) Read) ((is_dir h.kind && could_with v.reach (bare h) Exec) || is_in n v.rights.readable) e) [
     | inl may ↦ ToRead ((could h Read).0 may)
     | inr rest ↦ elim (or_cases (is_dir h.kind && could_with v.reach (bare h) Exec) (is_in n v.rights.readable) rest) [
-      | inl both ↦ let p = and_parts (is_dir h.kind) (could_with v.reach (bare h) Exec) both in ToSearch (dir_is h.kind p.0) ((could h Exec).0 p.1)
+      | inl both ↦ let p = and_parts (is_dir h.kind) (could_with v.reach (bare h) Exec) both in ToSearch (dir_kind h.kind p.0) ((could h Exec).0 p.1)
       | inr among ↦ let it = (l.readable n).0 among in IsOpen it.0 it.2 it.3 it.1 it.4 it.5
     ]
   ]
 
   read_from : (n : Name) (h : Header) → SeesBody S w n h → reads_with v n (Some h) ≡ true
-  read_from n h (ToRead may) = or_left (could_with v.reach (bare h) Read) ((is_dir h.kind && could_with v.reach (bare h) Exec) || is_in n v.rights.readable) ((could h Read).1 may)
-  read_from n h (ToSearch dir may) =
-      or_right (could_with v.reach (bare h) Read) ((is_dir h.kind && could_with v.reach (bare h) Exec) || is_in n v.rights.readable)
-      (or_left (is_dir h.kind && could_with v.reach (bare h) Exec) (is_in n v.rights.readable)
-      (and_from (is_dir h.kind) (could_with v.reach (bare h) Exec) (is_dir_of h.kind dir) ((could h Exec).1 may)))
-  read_from n h (IsOpen r has is o there may) =
-      or_right (could_with v.reach (bare h) Read) ((is_dir h.kind && could_with v.reach (bare h) Exec) || is_in n v.rights.readable)
-      (or_right (is_dir h.kind && could_with v.reach (bare h) Exec) (is_in n v.rights.readable) ((l.readable n).1 (r, o, has, is, there, may)))
+  read_from n h (ToRead may) = rw ((could h Read).1 may) refl
+  read_from n h (ToSearch dir may) = rw ((could h Exec).1 may, ap is_dir dir) (or-true (could_with v.reach (bare h) Read))
+  read_from n h (IsOpen r has is o there may) = rw ((l.readable n).1 (r, o, has, is, there, may), or-true (is_dir h.kind && could_with v.reach (bare h) Exec)) (or-true (could_with v.reach (bare h) Read))
 
   body_to : (n : Name) (o : Option Header) → header_at w n ≡ o → reads_with v n o ≡ true → (h : Header) × (header_at w n ≡ Some h) × SeesBody S w n h
   body_to n None is e = absurd (true≢false (sym e))
@@ -326,7 +293,7 @@ module _ (S : ℕ → Bool) (w : World) (v : Sight) (l : Looks S w v) where
       let p = and_parts (is_dir h.kind) (reads_with v n (Some h) || writes_at (nodes_of w) v.reach h.parent) e in (
         h,
         is,
-        dir_is h.kind p.0,
+        dir_kind h.kind p.0,
         elim (or_cases (reads_with v n (Some h)) (writes_at (nodes_of w) v.reach h.parent) p.1) [
           | inl body ↦ ByBody (read_to n h body)
           | inr above ↦ let it = parent_to h.parent above in ByParent it.0 it.1 it.2 it.3 it.4
@@ -344,7 +311,7 @@ module _ (S : ℕ → Bool) (w : World) (v : Sight) (l : Looks S w v) where
         let b = empty_to n (header_at w n) refl p.1 in ((l.found.exact n).0 p.0, b.0, b.1, b.2, b.3),
     λ s. and_from (is_found n v.found) (tells_empty (nodes_of w) v n (header_of w.nodes n)) ((l.found.exact n).1 s.0)
         (ap (tells_empty (nodes_of w) v n) s.2
-        ∙ and_from (is_dir s.1.kind) (reads_with v n (Some s.1) || writes_at (nodes_of w) v.reach s.1.parent) (is_dir_of s.1.kind s.3) (empty_from n s.1 s.4)),
+        ∙ and_from (is_dir s.1.kind) (reads_with v n (Some s.1) || writes_at (nodes_of w) v.reach s.1.parent) (ap is_dir s.3) (empty_from n s.1 s.4)),
   )
 
   knows_seen : (s : Name) → (sees_with (nodes_of w) v (seen.Options s) ≡ true) ↔ Knows S w s

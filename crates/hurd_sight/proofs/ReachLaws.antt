@@ -1,16 +1,15 @@
 -- What is gathered of ids, one thing after another, and that it is what a set of tasks can act with.
-use Rattle.std.proofs.Common.{◌≡◌, ◌∙◌, inl, inr, sym, refl, ap, ap₂, ℕ, zero, suc, ◌+◌, ◌<◌, ◌==◌, arith, Bool, true, false, true≢false, List, [], ◌∷◌, ◌++◌, map, take, take_all, length, get_or, ◌≤◌}
-use Rattle.std.specs.Prelude.{◌↔◌, ◌||◌, Option, Some, None, Result, Ok, Err, IfOk, OnOk, slice_get, nat_eq}
+use Rattle.std.proofs.Common.{◌≡◌, ◌∙◌, inl, inr, sym, refl, ap, ap₂, ℕ, zero, suc, ◌==◌, arith, Bool, true, false, true≢false, List, [], ◌∷◌, ◌++◌, map, subst}
+use Rattle.std.specs.Prelude.{◌↔◌, ◌||◌, Option, Some, None, Result, Ok, Err, IfOk, slice_get, nat_eq}
 use Rattle.std.specs.List.{list_any}
 use Rattle.std.proofs.lemmas.Bool.{or_cases, or_left, or_right}
 use Rattle.std.proofs.lemmas.Bool.Decides.{nat_tests}
-use Rattle.std.proofs.lemmas.List.{take_more}
 use Rattle.std.proofs.lemmas.List.Folds.{list_any-append}
 use Rattle.std.specs.Ordering.{eq_by_cmp, nat_cmp}
 use Rattle.std.specs.Cmp.{unsigned_tied}
 use Rattle.std.specs.FinSet as set
 use Rattle.hurd_creds.specs.declared.name.TaskId.{TaskId}
-use Rattle.hurd_creds.specs.Access.{IdSet, IdSets, holds_gid, holds_uid, is_among}
+use Rattle.hurd_creds.specs.Access.{IdSet, IdSets, holds_gid, holds_uid, is_among, is_root, owns}
 use Rattle.hurd_ports.specs.declared.table.IoRight.{IoRight}
 use Rattle.hurd_ports.specs.declared.table.Port.{Port}
 use Rattle.hurd_ports.specs.declared.table.PendingStart.{PendingStart}
@@ -18,20 +17,13 @@ use Rattle.hurd_ports.specs.declared.table.Right.{Right}
 use Rattle.hurd_ports.specs.declared.table.Right.TheVariants.{Io, Control, Start}
 use Rattle.hurd_ports.specs.Tables.{Task, rights_of, start_of}
 use Rattle.hurd_machine.specs.World.{World, IsAmong, task_at}
-use Rattle.hurd_machine.specs.Sight.{HasUid, HasGid, UidOfTask, UidOfRight, GidOfTask, GidOfRight, Holds}
-use Rattle.hurd_sight.specs.Reach.{Gains, Gathers, ReachIsGathered, Serves, among, holds_at, right_holds, serves, some_holds, task_holds}
-
-or_false : (a : Bool) → (a || false) ≡ a
-or_false true = refl
-or_false false = refl
-
-or_join : (a b c : Bool) → ((a || b) || c) ≡ (a || (b || c))
-or_join true b c = refl
-or_join false b c = refl
-
-pub ok_then : {T E : Type 0} (r : Result T E) {P Q : Type 0} → (P → Q) → OnOk r P → OnOk r Q
-ok_then (Ok x) f p = f p
-ok_then (Err e) f p = tt
+use Rattle.hurd_machine.specs.Sight.{HasUid, HasGid, UidOfTask, UidOfRight, GidOfTask, GidOfRight, Holds, CouldServe, OwnsIt, bare}
+use Rattle.hurd_sight.specs.Reach.{Gains, Gathers, ReachIsGathered, Serves, among, holds_at, right_holds, serves, some_holds, task_holds, Reaches}
+use Rattle.std.proofs.Math.Bool.{or-false, or_assoc}
+use Rattle.hurd_sight.proofs.WalkLaws.{Walk}
+use Rattle.hurd_machine.proofs.Holders.{any_among}
+use Rattle.hurd_trans_iface.specs.Nodes.{Header}
+use Rattle.hurd_nodes.specs.Shown.{ServerInfo}
 
 pub if_ok : {T E : Type 0} (r : Result T E) {P Q : T → Type 0} → ((x : T) → P x → Q x) → IfOk r P → IfOk r Q
 if_ok (Ok x) f p = f x p
@@ -46,12 +38,12 @@ is_none false (suc n) iff = sym (grind (arith, nat_tests))
 -- one step after another
 
 pub gains_none : (ids : IdSets) → Gains ids ids (λ holds. false)
-gains_none ids = record { uids = λ u. sym (or_false (holds_uid ids u)); gids = λ g. sym (or_false (holds_gid ids g)) }
+gains_none ids = record { uids = λ u. sym (or-false (holds_uid ids u)); gids = λ g. sym (or-false (holds_gid ids g)) }
 
 pub gains_both : {a b c : IdSets} {P Q : (IdSets → Bool) → Bool} → Gains a b P → Gains b c Q → Gains a c (λ holds. P holds || Q holds)
 gains_both {a} {b} {c} {P} {Q} x y = record {
-  uids = λ u. y.uids u ∙ (ap (λ (t : Bool). t || Q (λ i. holds_uid i u)) (x.uids u) ∙ or_join (holds_uid a u) (P (λ i. holds_uid i u)) (Q (λ i. holds_uid i u)));
-  gids = λ g. y.gids g ∙ (ap (λ (t : Bool). t || Q (λ i. holds_gid i g)) (x.gids g) ∙ or_join (holds_gid a g) (P (λ i. holds_gid i g)) (Q (λ i. holds_gid i g)));
+  uids = λ u. y.uids u ∙ (ap (λ (t : Bool). t || Q (λ i. holds_uid i u)) (x.uids u) ∙ or_assoc (holds_uid a u) (P (λ i. holds_uid i u)) (Q (λ i. holds_uid i u)));
+  gids = λ g. y.gids g ∙ (ap (λ (t : Bool). t || Q (λ i. holds_gid i g)) (x.gids g) ∙ or_assoc (holds_gid a g) (P (λ i. holds_gid i g)) (Q (λ i. holds_gid i g)));
 }
 
 pub gains_as : {a b : IdSets} {P : (IdSets → Bool) → Bool} (Q : (IdSets → Bool) → Bool) → ((holds : IdSets → Bool) → P holds ≡ Q holds) → Gains a b P → Gains a b Q
@@ -78,34 +70,12 @@ gains_ids us vs gs hs uids gids ids eu eg pu pg = record { uids = λ u. told us 
         ∙ (p
         ∙ ap₂ (λ (a b : Bool). a || b) (sym (set.contains-from_list_nat xs u)) (sym (set.contains-from_list_nat zs u) ∙ ap (λ (t : IdSet). set.contains t u) e))
 
-any_more : {X : Type 0} (f : X → Bool) (xs : List X) (i : ℕ) (x : X) → i < length xs → x ≡ get_or xs i x → list_any f (take (i + 1) xs) ≡ (list_any f (take i xs) || f x)
-any_more f xs i x below at =
-    ap (list_any f) (take_more xs i x below)
-    ∙ (list_any-append f (take i xs) (get_or xs i x ∷ [])
-    ∙ ap (λ (b : Bool). list_any f (take i xs) || b) (or_false (f (get_or xs i x)) ∙ ap f (sym at)))
-
--- what one more of a list adds
-pub gains_more : {X : Type 0} {a b c : IdSets} (f : (IdSets → Bool) → X → Bool) (xs : List X) (i : ℕ) (x : X) → i < length xs → x ≡ get_or xs i x
-    → Gains a b (λ holds. list_any (f holds) (take i xs)) → Gains b c (λ holds. f holds x)
-    → Gains a c (λ holds. list_any (f holds) (take (i + 1) xs))
-gains_more f xs i x below at before step = gains_as (λ holds. list_any (f holds) (take (i + 1) xs)) (λ holds. sym (any_more (f holds) xs i x below at)) (gains_both before step)
-
--- the same of the one at an index
-pub gains_at : {X : Type 0} {a b c : IdSets} (f : (IdSets → Bool) → X → Bool) (xs : List X) (i : ℕ) (d : X) → i < length xs
-    → Gains a b (λ holds. list_any (f holds) (take i xs)) → Gains b c (λ holds. f holds (get_or xs i d))
-    → Gains a c (λ holds. list_any (f holds) (take (i + 1) xs))
-gains_at f xs i d below before step = gains_as (λ holds. list_any (f holds) (take (i + 1) xs)) same (gains_both before step)
-  where
-    same : (holds : IdSets → Bool) → (list_any (f holds) (take i xs) || f holds (get_or xs i d)) ≡ list_any (f holds) (take (i + 1) xs)
-    same holds =
-        sym (ap (list_any (f holds)) (take_more xs i d below)
-        ∙ (list_any-append (f holds) (take i xs) (get_or xs i d ∷ [])
-        ∙ ap (λ (b : Bool). list_any (f holds) (take i xs) || b) (or_false (f holds (get_or xs i d)))))
-
--- and the whole list
-pub gains_all : {X : Type 0} {a b : IdSets} (f : (IdSets → Bool) → X → Bool) (xs : List X) (i : ℕ) → length xs ≤ i
-    → Gains a b (λ holds. list_any (f holds) (take i xs)) → Gains a b (λ holds. list_any (f holds) xs)
-gains_all f xs i past g = gains_as (λ holds. list_any (f holds) xs) (λ holds. ap (list_any (f holds)) (take_all i xs past)) g
+-- a walk that adds what each of a list holds
+pub gains_each : {X : Type 0} (f : (IdSets → Bool) → X → Bool) → Walk (λ (xs : List X) (a b : IdSets). Gains a b (λ holds. list_any (f holds) xs)) (λ (x : X) (b c : IdSets). Gains b c (λ holds. f holds x))
+gains_each f = record {
+  more = λ xs x a b c before step.
+      gains_as (λ holds. list_any (f holds) (xs ++ x ∷ [])) (λ holds. sym (list_any-append (f holds) xs (x ∷ []) ∙ ap (λ (t : Bool). list_any (f holds) xs || t) (or-false (f holds x)))) (gains_both before step);
+}
 
 -- all rights of a task: its pending start holds no id
 pub task_gains : {a b : IdSets} (x : Task)
@@ -116,7 +86,7 @@ task_gains x g = gains_as (λ holds. task_holds holds x) same g
     any_rights : (holds : IdSets → Bool) (ps : List Port) (rs : List Right)
         → list_any (right_holds holds) (map (λ p. p.right) ps ++ rs) ≡ (list_any (λ (p : Port). right_holds holds p.right) ps || list_any (right_holds holds) rs)
     any_rights holds [] rs = refl
-    any_rights holds (p ∷ ps) rs = ap (λ (b : Bool). right_holds holds p.right || b) (any_rights holds ps rs) ∙ sym (or_join (right_holds holds p.right) _ _)
+    any_rights holds (p ∷ ps) rs = ap (λ (b : Bool). right_holds holds p.right || b) (any_rights holds ps rs) ∙ sym (or_assoc (right_holds holds p.right) _ _)
 
     no_start : (holds : IdSets → Bool) (s : Option PendingStart) (rs : List Right) → list_any (right_holds holds) (start_of s ++ rs) ≡ list_any (right_holds holds) rs
     no_start holds None rs = refl
@@ -124,7 +94,7 @@ task_gains x g = gains_as (λ holds. task_holds holds x) same g
 
     same : (holds : IdSets → Bool) → ((holds x.ids || list_any (λ (p : Port). right_holds holds p.right) x.ports) || list_any (right_holds holds) x.inbox) ≡ task_holds holds x
     same holds =
-        or_join (holds x.ids) _ _
+        or_assoc (holds x.ids) _ _
         ∙ ap (λ (b : Bool). holds x.ids || b) (sym (no_start holds x.pending (map (λ p. p.right) x.ports ++ x.inbox) ∙ any_rights holds x.ports x.inbox))
 
 -- one found, and one to be found
@@ -135,11 +105,6 @@ any_found f (x ∷ xs) e = elim (or_cases (f x) (list_any f xs) e) [
   | inl here ↦ (x, inl refl, here)
   | inr there ↦ let rest = any_found f xs there in (rest.0, inr rest.1, rest.2)
 ]
-
-pub found_any : {X : Type 0} (f : X → Bool) (xs : List X) (x : X) → IsAmong x xs → f x ≡ true → list_any f xs ≡ true
-found_any f [] x among e = absurd among
-found_any f (y ∷ ys) x (inl same) e = or_left (f y) (list_any f ys) (ap f same ∙ e)
-found_any f (y ∷ ys) x (inr there) e = or_right (f y) (list_any f ys) (found_any f ys x there e)
 
 nat_eq-is : (a b : ℕ) → nat_eq a b ≡ true → a ≡ b
 nat_eq-is a b e = grind (arith, nat_tests)
@@ -152,7 +117,7 @@ pub listed_task : (tasks : List TaskId) (t : ℕ) → among tasks t ≡ true →
 listed_task tasks t e = let found = any_found (λ (x : TaskId). nat_eq x.0 t) tasks e in (found.0, found.1, nat_eq-is found.0.0 t found.2)
 
 pub ours : (tasks : List TaskId) (x : TaskId) → IsAmong x tasks → among tasks x.0 ≡ true
-ours tasks x here = found_any (λ (y : TaskId). nat_eq y.0 x.0) tasks x here (nat_eq-itself x.0)
+ours tasks x here = any_among (λ (y : TaskId). nat_eq y.0 x.0) x tasks here (nat_eq-itself x.0)
 
 -- who of some tasks passes a test of ids: a task itself, or a right of one
 data Holder (S : ℕ → Bool) (w : World) (holds : IdSets → Bool) : Type 0 where
@@ -182,13 +147,13 @@ module _ (w : World) (tasks : List TaskId) (holds : IdSets → Bool) where
   there t mine x is h =
       let found = listed_task tasks t mine in
       let at : slice_get w.tasks found.0.0 ≡ Some x = ap (slice_get w.tasks) found.2 ∙ is in
-      found_any (λ (q : TaskId). holds_at holds (slice_get w.tasks q.0)) tasks found.0 found.1 (ap (holds_at holds) at ∙ h)
+      any_among (λ (q : TaskId). holds_at holds (slice_get w.tasks q.0)) found.0 tasks found.1 (ap (holds_at holds) at ∙ h)
 
   holder_to : Holder (among tasks) w holds → some_holds holds w.tasks tasks ≡ true
   holder_to (ByTask t mine x is h) = there t mine x is (or_left (holds x.ids) (list_any (right_holds holds) (rights_of x)) h)
   holder_to (ByRight r has h) =
       there has.task has.ours has.seat has.is_task
-      (or_right (holds has.seat.ids) (list_any (right_holds holds) (rights_of has.seat)) (found_any (right_holds holds) (rights_of has.seat) (Io r) has.here h))
+      (or_right (holds has.seat.ids) (list_any (right_holds holds) (rights_of has.seat)) (any_among (right_holds holds) (Io r) (rights_of has.seat) has.here h))
 
 pub reach_is_gathered : ReachIsGathered
 reach_is_gathered w tasks ids g = record {
@@ -238,12 +203,12 @@ serves_one ids served us b same zeroless e = (to, from)
     to : b ≡ true → Serves ids served
     to is =
         let found = any_found (holds_uid ids) us (sym e ∙ is) in
-        (found.0, found.2, inl (among_them found.0 ∙ found_any (λ (y : ℕ). nat_eq y found.0) us found.0 found.1 (nat_eq-itself found.0)))
+        (found.0, found.2, inl (among_them found.0 ∙ any_among (λ (y : ℕ). nat_eq y found.0) found.0 us found.1 (nat_eq-itself found.0)))
 
     by_uid : (u : ℕ) → holds_uid ids u ≡ true → holds_uid served u ≡ true → b ≡ true
     by_uid u held theirs =
         let found = any_found (λ (y : ℕ). nat_eq y u) us (sym (among_them u) ∙ theirs) in
-        e ∙ found_any (holds_uid ids) us found.0 found.1 (ap (holds_uid ids) (nat_eq-is found.0 u found.2) ∙ held)
+        e ∙ any_among (holds_uid ids) found.0 us found.1 (ap (holds_uid ids) (nat_eq-is found.0 u found.2) ∙ held)
 
     from : Serves ids served → b ≡ true
     from s = elim s.2 [
@@ -263,7 +228,7 @@ serves_is ids served = (to, from)
       | inl root ↦ (0, root, inr refl)
       | inr any ↦
           let it = any_found (holds_uid ids) (set.items served.uids) any in
-          (it.0, it.2, inl (here it.0 ∙ found_any (eq_by_cmp nat_cmp it.0) (set.items served.uids) it.0 it.1 (unsigned_tied it.0 it.0 ∙ nat_eq-itself it.0)))
+          (it.0, it.2, inl (here it.0 ∙ any_among (eq_by_cmp nat_cmp it.0) it.0 (set.items served.uids) it.1 (unsigned_tied it.0 it.0 ∙ nat_eq-itself it.0)))
     ]
 
     from : Serves ids served → serves ids served ≡ true
@@ -272,7 +237,21 @@ serves_is ids served = (to, from)
         let it = any_found (eq_by_cmp nat_cmp u) (set.items served.uids) (sym (here u) ∙ has) in
         let same : u ≡ it.0 = nat_eq-is u it.0 (sym (unsigned_tied u it.0) ∙ it.2) in
         or_right (holds_uid ids 0) (list_any (holds_uid ids) (set.items served.uids))
-        (found_any (holds_uid ids) (set.items served.uids) it.0 it.1 (ap (holds_uid ids) (sym same) ∙ holds))
+        (any_among (holds_uid ids) it.0 (set.items served.uids) it.1 (ap (holds_uid ids) (sym same) ∙ holds))
+
+-- by what is reached: who owns a node, and which servers could be served
+
+pub owns_is : {S : ℕ → Bool} {w : World} {ids : IdSets} → Reaches S w ids → (h : Header) → (owns ids (bare h) ≡ true) ↔ OwnsIt S w h
+owns_is {S} {w} {ids} r h = (
+  λ e. elim (or_cases (holds_uid ids h.owner) (is_root ids) e) [ inl own ↦ (h.owner, (r.uids h.owner).0 own, inl refl) | inr root ↦ (0, (r.uids 0).0 root, inr refl) ],
+  λ o. elim o.2 [
+    | inl own ↦ or_left (holds_uid ids h.owner) (is_root ids) ((r.uids h.owner).1 (subst (HasUid S w) own o.1))
+    | inr root ↦ or_right (holds_uid ids h.owner) (is_root ids) ((r.uids 0).1 (subst (HasUid S w) root o.1))
+  ],
+)
+
+pub served_is : {S : ℕ → Bool} {w : World} {ids : IdSets} → Reaches S w ids → (i : ServerInfo) → (serves ids i.ids ≡ true) ↔ CouldServe S w i
+served_is {S} {w} {ids} r i = (λ t. let s = (serves_is ids i.ids).0 t in (s.0, (r.uids s.0).0 s.1, s.2), λ c. (serves_is ids i.ids).1 (c.0, (r.uids c.0).1 c.1, c.2))
 
 -- two tests of one thing answer alike
 pub one_test : {P : Type 0} (a b : Bool) → (a ≡ true) ↔ P → (b ≡ true) ↔ P → a ≡ b

@@ -1,29 +1,29 @@
 -- What is found from the rights of some tasks is what they see.
 use Rattle.std.proofs.Common.{◌≡◌, ◌∙◌, ◌⊎◌, inl, inr, sym, refl, ap, subst, ℕ, zero, suc, arith, Bool, true, true≢false, List, [], ◌∷◌, take, take_all, length}
 use Rattle.std.specs.Prelude.{Option, Some, None, slice_get}
-use Rattle.std.specs.List.{flat_map}
 use Rattle.hurd_creds.specs.declared.name.Name.{Name}
 use Rattle.hurd_creds.specs.declared.name.TaskId.{TaskId}
 use Rattle.hurd_creds.specs.declared.attrs.Want.TheVariants.{Exec}
 use Rattle.hurd_creds.specs.Access.{IdSets}
 use Rattle.hurd_creds.specs.Names.{same_name}
 use Rattle.hurd_creds.proofs.NameLaws.{equal_if_same, same_name-itself}
-use Rattle.hurd_nodes.specs.Shown.{ServerInfo}
 use Rattle.hurd_ports.specs.declared.parents.Parent.{Parent as Pair}
 use Rattle.hurd_ports.specs.declared.table.IoRight.{IoRight}
 use Rattle.hurd_ports.specs.declared.table.Right.{Right}
 use Rattle.hurd_ports.specs.declared.table.Right.TheVariants.{Io, Control, Start}
 use Rattle.hurd_ports.specs.Tables.{Task, rights_of}
 use Rattle.hurd_machine.specs.World.{World, IsAmong, boot_root, nodes_of}
-use Rattle.hurd_machine.specs.Sight.{CouldServe, Holds, Seen, Root, Held, Way, Controlled, Pending, Child, Parent, Active, ServerRoot}
-use Rattle.hurd_sight.specs.Reach.{Reaches, among, serves}
-use Rattle.hurd_sight.specs.Found.{FoundAll, FoundIsSeen, IsBefore, IsSight, IsWhy, found_from, gathered, is_found, of_active, of_children, of_node, of_nodes, of_parent, of_right, of_server, of_task, of_tasks, of_way, root_of}
+use Rattle.hurd_machine.specs.Sight.{Holds, Seen, Root, Held, Way, Controlled, Pending, Child, Parent, Active, ServerRoot}
+use Rattle.hurd_sight.specs.Reach.{Reaches, among}
+use Rattle.hurd_sight.specs.Found.{FoundAll, FoundIsSeen, IsBefore, IsSight, IsWhy, found_from, gathered, is_found, of_active, of_children, of_node, of_nodes, of_parent, of_right, of_task, of_tasks, of_way, root_of}
 use Rattle.hurd_sight.specs.declared.found.Why.{Why}
 use Rattle.hurd_sight.specs.declared.found.Why.TheVariants as why
 use Rattle.hurd_sight.proofs.CouldLaws.{could_is_enough}
-use Rattle.hurd_sight.proofs.ReachLaws.{any_found, found_any, listed_task, ours, serves_is}
-use Rattle.hurd_sight.proofs.FoundLaws.{Entries, among_either, among_flat, among_left, among_right, among_why, flat_among, gathered_kept, gathered_said, gathered_there, why_among}
+use Rattle.hurd_sight.proofs.ReachLaws.{any_found, listed_task, ours, served_is}
+use Rattle.hurd_sight.proofs.FoundLaws.{Entries, among_flat, among_why, flat_among, gathered_kept, gathered_said, gathered_there, why_among}
 use Rattle.hurd_sight.proofs.NodeLaws.{active_info, child_info, info_active, info_child, info_parent, info_root, info_server, parent_info, root_info, server_info}
+use Rattle.hurd_machine.proofs.Tasks.{among_cases, among_left, among_right}
+use Rattle.hurd_machine.proofs.Holders.{any_among}
 
 -- what is among the first of a list
 
@@ -40,11 +40,17 @@ taken_among x (suc k) (y ∷ ys) (inr a) = inr (taken_among x k ys a)
 
 -- what is among some entries is found
 among_found : (e : Name × Why) (es : Entries) → IsAmong e es → is_found e.0 es ≡ true
-among_found e es a = found_any (λ (x : Name × Why). same_name e.0 x.0) es e a (same_name-itself e.0)
+among_found e es a = any_among (λ (x : Name × Why). same_name e.0 x.0) e es a (same_name-itself e.0)
 
 -- and what is found is among them
 found_among : (n : Name) (es : Entries) → is_found n es ≡ true → (e : Name × Why) × IsAmong e es × (n ≡ e.0)
 found_among n es f = let it = any_found (λ (x : Name × Why). same_name n x.0) es f in (it.0, it.1, equal_if_same n it.0.0 it.2)
+
+-- what a way shows is one of its two nodes
+among_way : (n : Name) (y : Why) (p : Pair) → IsAmong (n, y) (of_way p) → (y ≡ why.Way) × ((n ≡ p.at) ⊎ (n ≡ p.parent))
+among_way n y p (inl e) = (sym (ap (λ (t : Name × Why). t.1) e), inl (sym (ap (λ (t : Name × Why). t.0) e)))
+among_way n y p (inr (inl e)) = (sym (ap (λ (t : Name × Why). t.1) e), inr (sym (ap (λ (t : Name × Why). t.0) e)))
+among_way n y p (inr (inr none)) = absurd none
 
 module _ (w : World) (tasks : List TaskId) (ids : IdSets) (es : Entries) (r : Reaches (among tasks) w ids) (all : FoundAll (nodes_of w) w.tasks ids tasks es) where
   abbrev S : ℕ → Bool
@@ -74,26 +80,12 @@ module _ (w : World) (tasks : List TaskId) (ids : IdSets) (es : Entries) (r : Re
       here : IsAmong (n, y) (gathered (of_nodes (nodes_of w) ids (take i es)) (gathered (of_tasks (nodes_of w) w.tasks tasks) []))
       here = taken_among (n, y) (suc i) _ (subst (IsAmong (n, y)) (all.follows.next i) (among_taken (n, y) es i at))
 
-  could_serve : (i : ServerInfo) → serves ids i.ids ≡ true → CouldServe S w i
-  could_serve i s = let it = (serves_is ids i.ids).0 s in (it.0, (r.uids it.0).0 it.1, it.2)
-
-  served : (i : ServerInfo) → CouldServe S w i → serves ids i.ids ≡ true
-  served i c = (serves_is ids i.ids).1 (c.0, (r.uids c.0).1 c.1, c.2)
-
   -- why something is shown, if this is why
   abbrev Shows : Name → Why → Type 0
   Shows n y = IsWhy S w n y × Seen S w n × (found_from y ≡ None)
 
   by_way : (n : Name) (y : Why) (q : IoRight) (p : Pair) → Holds S w (Io q) → IsAmong p q.parents → IsAmong (n, y) (of_way p) → Shows n y
-  by_way n y q p has here (inl e) = rw (sym (ap (λ (t : Name × Why). t.1) e)) (way (inl (sym (ap (λ (t : Name × Why). t.0) e))))
-    where
-      way : (n ≡ p.at) ⊎ (n ≡ p.parent) → Shows n why.Way
-      way is = ((q, p, has, here, is), Way q p has here is, refl)
-  by_way n y q p has here (inr (inl e)) = rw (sym (ap (λ (t : Name × Why). t.1) e)) (way (inr (sym (ap (λ (t : Name × Why). t.0) e))))
-    where
-      way : (n ≡ p.at) ⊎ (n ≡ p.parent) → Shows n why.Way
-      way is = ((q, p, has, here, is), Way q p has here is, refl)
-  by_way n y q p has here (inr (inr none)) = absurd none
+  by_way n y q p has here a = let it = among_way n y p a in rw it.0 ((q, p, has, here, it.1), Way q p has here it.1, refl)
 
   -- a right that shows something is held, and says why
   by_right : (n : Name) (y : Why) (q : Right) → Holds S w q → IsAmong (n, y) (of_right (nodes_of w) q) → Shows n y
@@ -130,18 +122,18 @@ module _ (w : World) (tasks : List TaskId) (ids : IdSets) (es : Entries) (r : Re
   by_node : (m n : Name) (y : Why) → Seen S w m → IsAmong (n, y) (of_node (nodes_of w) ids m) → IsWhy S w n y × Seen S w n × (found_from y ≡ Some m)
   by_node m n y seen a =
       let h = nodes_of w in
-      elim (among_either (n, y) (of_children h ids m) _ a) [
+      elim (among_cases (n, y) (of_children h ids m) _ a) [
         | inl c ↦
             let it = child_info h ids m n y c in
             let could = (could_is_enough S w ids it.0.0 Exec r).0 it.0.4 in
             rw it.1 ((it.0.0, it.0.1, it.0.2, it.0.3, could, it.0.5), Child m it.0.0 it.0.1 seen it.0.2 it.0.3 could it.0.5, refl)
-        | inr b ↦ elim (among_either (n, y) (of_parent h m) _ b) [
+        | inr b ↦ elim (among_cases (n, y) (of_parent h m) _ b) [
           | inl p ↦ let it = parent_info h m n y p in rw it.3 ((it.0, it.1, it.2), Parent m it.0 seen it.1 it.2, refl)
-          | inr c ↦ elim (among_either (n, y) (of_active h m) _ c) [
+          | inr c ↦ elim (among_cases (n, y) (of_active h m) _ c) [
             | inl p ↦ let it = active_info h m n y p in rw it.5 ((it.0, it.1, it.2, it.3, it.4), Active m it.0 it.1 seen it.2 it.3 it.4, refl)
             | inr p ↦
                 let it = server_info h ids m n y p in
-                let could = could_serve it.1 it.4 in
+                let could = (served_is r it.1).0 it.4 in
                 rw it.6 ((it.0, it.1, it.2, it.3, could, it.5), ServerRoot m it.0 it.1 seen it.2 it.3 could it.5, refl)
           ]
         ]
@@ -196,7 +188,7 @@ module _ (w : World) (tasks : List TaskId) (ids : IdSets) (es : Entries) (r : Re
   found_of n (ServerRoot m s i seen home there could is) =
       closed m n (why.ServerRoot m) (found_of m seen)
       (among_right _ (of_children (nodes_of w) ids m) _
-      (among_right _ (of_parent (nodes_of w) m) _ (among_right _ (of_active (nodes_of w) m) _ (info_server (nodes_of w) ids m n s i home there (served i could) is))))
+      (among_right _ (of_parent (nodes_of w) m) _ (among_right _ (of_active (nodes_of w) m) _ (info_server (nodes_of w) ids m n s i home there ((served_is r i).1 could) is))))
 
   sight : IsSight S w es
   sight = record {

@@ -14,7 +14,7 @@ use Rattle.hurd_ports.specs.declared.table.IoRight.{IoRight}
 use Rattle.hurd_ports.specs.declared.table.Right.{Right}
 use Rattle.hurd_ports.specs.declared.table.Right.TheVariants.{Io, Control, Start}
 use Rattle.hurd_ports.specs.Tables.{OpenMap, Task, rights_of}
-use Rattle.hurd_machine.specs.World.{World, IsAmong, nodes_of, active_at, header_at, home_at, open_at, server_at}
+use Rattle.hurd_machine.specs.World.{World, active_at, header_at, home_at, open_at, server_at}
 use Rattle.hurd_machine.specs.Sight.{CouldServe, Holds, OwnsIt, Part, AttrOf, EmptyOf, BodyOf, OpenOf, OptionsOf, UsersOf, TaskOf, Seen, bare}
 use Rattle.hurd_sight.specs.Reach.{serves}
 use Rattle.hurd_sight.specs.declared.found.Why.{Why}

@@ -18,13 +18,13 @@ use Rattle.hurd_machine.specs.World.{World, IsAmong}
 use Rattle.hurd_sight.specs.Found.{is_found}
 use Rattle.hurd_sight.specs.Looks.{Looks}
 use Rattle.hurd_sight.specs.Parts.{is_in, maybe_named, named, named_more}
-use Rattle.hurd_sight.proofs.FoundLaws.{among_left, among_map, among_right}
 use Rattle.hurd_sight.proofs.NameLaws.{named-append, named_are}
 use Rattle.hurd_sight.proofs.ReachLaws.{any_found}
 use Rattle.hurd_views.specs.Views.{Fills, has_row, name_found, names_found, names_seen, no_row, or_no_row, row_at, row_of, rows_for}
 use Rattle.hurd_sight.specs.declared.found.Why.{Why}
 use Rattle.hurd_sight.specs.declared.looks.Sight.{Sight}
 use Rattle.hurd_views.specs.declared.rows.Row.{Row}
+use Rattle.hurd_machine.proofs.Tasks.{among_left, among_mapped, among_right}
 
 abbrev pub Kept : Type 0
 Kept = List (Name × Row)
@@ -185,7 +185,7 @@ row_told {S} {w} {v} looks n = row_among w v n (names_seen v) ∙ go (is_in n (n
     found_among : is_found n v.found ≡ true → IsAmong n (names_found v.found)
     found_among f =
         let it = any_found (λ (e : Name × Why). same_name n e.0) v.found f in
-        subst (λ (m : Name). IsAmong m (names_found v.found)) (sym (equal_if_same n it.0.0 it.2)) (among_map (λ (e : Name × Why). e.0) it.0 v.found it.1)
+        subst (λ (m : Name). IsAmong m (names_found v.found)) (sym (equal_if_same n it.0.0 it.2)) (among_mapped (λ (e : Name × Why). e.0) it.0 v.found it.1)
 
     in_among : (ns : List Name) → is_in n ns ≡ true → IsAmong n ns
     in_among ns i = let it = any_found (same_name n) ns i in subst (λ (m : Name). IsAmong m ns) (sym (equal_if_same n it.0 it.2)) it.1

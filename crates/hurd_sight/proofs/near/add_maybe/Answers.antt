@@ -1,9 +1,8 @@
-use Rattle.hurd_sight.proofs.NearLaws.{maybe_none, maybe_some}
-use Rattle.hurd_sight.proofs.FoundLaws.{ok_map}
+use Rattle.std.proofs.Common.{refl}
 use Rattle.hurd_sight.proofs.near.add_maybe.Goals as goal
 
 pub returns-in-Some : goal.returns-in-Some
-returns-in-Some c = ok_map c.add.result (λ e. maybe_some c.args.name c.in-Some.name c.args.names.now c.in-Some.is e) c.add.ensures
+returns-in-Some c = rw c.in-Some.is c.add.ensures
 
 pub returns-in-None : goal.returns-in-None
-returns-in-None c = maybe_none c.args.name c.args.names.now c.in-None.is
+returns-in-None c = rw c.in-None.is refl

@@ -8,7 +8,7 @@ pub loop-i-init : goal.loop-i-init
 loop-i-init g c = refl
 
 pub loop-i-preserved : goal.loop-i-preserved
-loop-i-preserved g c = entries_next (sendable_at (shown g.S.Server.meaning c.args.nodes.now) c.args.reach.now) c.args.found.now c.loop-i.i _ (rw c.len-i-end.ensures at c.loop-i-test.true) c.loop-i.invariant c.in_ok-add_sendable.ensures
+loop-i-preserved g c = entries_next (sendable_at (shown g.S.Server.meaning c.args.nodes.now) c.args.reach.now) c.args.found.now c.loop-i.i _ _ _ (rw c.len-i-end.ensures at c.loop-i-test.true) c.loop-i.invariant c.in_ok-add_sendable.ensures
 
 pub returns : goal.returns
-returns g c = entries_all (sendable_at (shown g.S.Server.meaning c.args.nodes.now) c.args.reach.now) c.args.found.now c.loop-i.i _ (rw c.len-i-end.ensures at c.loop-i-test.false) c.new-names.ensures c.loop-i.invariant
+returns g c = entries_all (sendable_at (shown g.S.Server.meaning c.args.nodes.now) c.args.reach.now) c.args.found.now c.loop-i.i _ _ (rw c.len-i-end.ensures at c.loop-i-test.false) c.new-names.ensures c.loop-i.invariant

@@ -1,9 +1,10 @@
-use Rattle.std.proofs.Common.{sym, ap, ◌∙◌}
+use Rattle.std.proofs.Common.{refl, sym, ap, ◌∙◌}
 use Rattle.std.specs.FinMap as fin
 use Rattle.hurd_trans_iface.specs.Answers.{link_of}
 use Rattle.hurd_trans_iface.specs.Meaning.{keeps_tree}
 use Rattle.hurd_nodes.specs.Shown.{shown}
-use Rattle.hurd_nodes.proofs.EditLaws.{can_link-told, can_link-untold}
+use Rattle.hurd_nodes.proofs.EditLaws.{can_link-told}
+use Rattle.hurd_nodes.proofs.ShownLaws.{server-untold}
 use Rattle.hurd_nodes.proofs.nodes.Nodes.can_link.Goals as goal
 
 pub returns-in-Some : goal.returns-in-Some
@@ -17,4 +18,4 @@ returns-in-Some g c =
     ∙ sym (can_link-told _ _ _ _ _ _ c.in-Some.ensures)
 
 pub returns-in-None : goal.returns-in-None
-returns-in-None g c = sym (can_link-untold _ _ _ _ _ c.in-None.ensures)
+returns-in-None g c = rw (server-untold _ _ _ c.in-None.ensures) refl

@@ -1,9 +1,10 @@
-use Rattle.std.proofs.Common.{sym, ◌∙◌}
-use Rattle.hurd_nodes.proofs.StepLaws.{can_make-told, can_make-untold}
+use Rattle.std.proofs.Common.{refl, sym, ◌∙◌}
+use Rattle.hurd_nodes.proofs.StepLaws.{can_make-told}
+use Rattle.hurd_nodes.proofs.ShownLaws.{server-untold}
 use Rattle.hurd_nodes.proofs.nodes.Nodes.can_make.Goals as goal
 
 pub returns-in-Some : goal.returns-in-Some
 returns-in-Some g c = c.can_make_in.ensures ∙ sym (can_make-told _ _ _ _ _ _ c.in-Some.ensures)
 
 pub returns-in-None : goal.returns-in-None
-returns-in-None g c = sym (can_make-untold _ _ _ _ _ c.in-None.ensures)
+returns-in-None g c = rw (server-untold _ _ _ c.in-None.ensures) refl

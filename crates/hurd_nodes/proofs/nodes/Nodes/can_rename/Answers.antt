@@ -1,8 +1,9 @@
-use Rattle.std.proofs.Common.{sym, ap, ◌∙◌}
+use Rattle.std.proofs.Common.{refl, sym, ap, ◌∙◌}
 use Rattle.std.specs.FinMap as fin
 use Rattle.hurd_trans_iface.specs.Answers.{rename_of}
 use Rattle.hurd_trans_iface.specs.Meaning.{keeps_tree}
-use Rattle.hurd_nodes.proofs.EditLaws.{can_rename-told, can_rename-untold}
+use Rattle.hurd_nodes.proofs.EditLaws.{can_rename-told}
+use Rattle.hurd_nodes.proofs.ShownLaws.{server-untold}
 use Rattle.hurd_nodes.proofs.nodes.Nodes.can_rename.Goals as goal
 
 pub returns-in-Some : goal.returns-in-Some
@@ -13,4 +14,4 @@ returns-in-Some g c =
     ∙ sym (can_rename-told _ _ _ _ _ _ c.in-Some.ensures)
 
 pub returns-in-None : goal.returns-in-None
-returns-in-None g c = sym (can_rename-untold _ _ _ _ _ c.in-None.ensures)
+returns-in-None g c = rw (server-untold _ _ _ c.in-None.ensures) refl

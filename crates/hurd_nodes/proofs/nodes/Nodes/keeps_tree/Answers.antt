@@ -1,9 +1,10 @@
-use Rattle.std.proofs.Common.{sym, ◌∙◌}
-use Rattle.hurd_nodes.proofs.EditLaws.{tree-told, tree-untold}
+use Rattle.std.proofs.Common.{refl, sym, ◌∙◌}
+use Rattle.hurd_nodes.proofs.EditLaws.{tree-told}
+use Rattle.hurd_nodes.proofs.ShownLaws.{server-untold}
 use Rattle.hurd_nodes.proofs.nodes.Nodes.keeps_tree.Goals as goal
 
 pub returns-in-Some : goal.returns-in-Some
 returns-in-Some g c = c.has_tree.ensures ∙ sym (tree-told _ _ _ _ c.in-Some.ensures)
 
 pub returns-in-None : goal.returns-in-None
-returns-in-None g c = sym (tree-untold _ _ _ c.in-None.ensures)
+returns-in-None g c = rw (server-untold _ _ _ c.in-None.ensures) refl

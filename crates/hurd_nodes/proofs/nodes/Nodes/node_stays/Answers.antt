@@ -1,7 +1,5 @@
 use Rattle.std.proofs.Common.{sym, ap, ◌∙◌}
-use Rattle.std.specs.FinMap as fin
-use Rattle.hurd_nodes.specs.Held.{homes_of, mean, place_in, seats_of}
-use Rattle.hurd_nodes.specs.Shown.{flat}
+use Rattle.hurd_nodes.specs.Held.{homes_of, place_in}
 use Rattle.hurd_nodes.proofs.SeatLaws.{unplaced}
 use Rattle.hurd_nodes.proofs.ShownLaws.{server-untold}
 use Rattle.hurd_nodes.proofs.StayLaws.{stays-none, stays-named, stays-nameless}
@@ -9,19 +7,15 @@ use Rattle.hurd_nodes.proofs.nodes.Nodes.node_stays.Goals as goal
 
 pub returns-in_default : goal.returns-in_default
 returns-in_default g c =
-    let f = g.S.Server.meaning in
-    let homes = homes_of c.self.inside.homes.entries in
     let ss = c.self.inside.seats.entries in
-    let none = unplaced f ss (fin.get homes c.args.node) (ap (place_in ss) c.in_default.ensures) in
-    rw (← c.self.view_is) (stays-none (g.N.Namings.outside c.args.namings.now) (flat homes (homes_of c.self.inside.actives.entries) (mean f (seats_of ss))) c.args.node (server-untold homes (mean f (seats_of ss)) c.args.node none))
+    let none = unplaced g.S.Server.meaning ss _ (ap (place_in ss) c.in_default.ensures) in
+    rw (← c.self.view_is) (stays-none _ _ _ (server-untold _ _ _ none))
 
 pub returns-in_default-place_of_seat : goal.returns-in_default-place_of_seat
 returns-in_default-place_of_seat g c =
-    let f = g.S.Server.meaning in
-    let homes = homes_of c.self.inside.homes.entries in
     let ss = c.self.inside.seats.entries in
-    let none = unplaced f ss (fin.get homes c.args.node) (c.in_default-place_of_seat.ensures.is ∙ ap (place_in ss) c.in-Some.ensures) in
-    rw (← c.self.view_is) (stays-none (g.N.Namings.outside c.args.namings.now) (flat homes (homes_of c.self.inside.actives.entries) (mean f (seats_of ss))) c.args.node (server-untold homes (mean f (seats_of ss)) c.args.node none))
+    let none = unplaced g.S.Server.meaning ss _ (c.in_default-place_of_seat.ensures.is ∙ ap (place_in ss) c.in-Some.ensures) in
+    rw (← c.self.view_is) (stays-none _ _ _ (server-untold _ _ _ none))
 
 pub returns-then-not-is_named : goal.returns-then-not-is_named
 returns-then-not-is_named g c =

@@ -1,12 +1,10 @@
-use Rattle.std.proofs.Common.{◌≡◌, sym, ◌∙◌, ap, inr}
-use Rattle.std.specs.Prelude.{Option, Some}
+use Rattle.std.proofs.Common.{◌≡◌, ap, inr, refl}
+use Rattle.std.specs.Prelude.{Some}
 use Rattle.std.specs.FinMap as fin
 use Rattle.indexmap.specs.IndexMap.{set_value_at}
-use Rattle.hurd_creds.specs.declared.name.Name.{Name}
-use Rattle.hurd_nodes.specs.Held.{Held, Seated, held_of, put_box, put_by, seat_value, seats_of, with_seats, with_server_of}
-use Rattle.hurd_nodes.proofs.RowLaws.{apart-kept}
+use Rattle.hurd_nodes.specs.Held.{held_of, seat_value, seats_of, with_server_of}
 use Rattle.hurd_nodes.proofs.SeatLaws.{box-found, placed, same_read, seat-changed, seat-found, unplaced}
-use Rattle.hurd_nodes.proofs.SeatedLaws.{seated-set}
+use Rattle.hurd_nodes.proofs.SeatedLaws.{tables-set}
 use Rattle.hurd_nodes.proofs.nodes.Nodes.server_of_mut.Goals as goal
 
 pub returns-in-Some : goal.returns-in-Some
@@ -19,10 +17,7 @@ returns-in-Some g c =
     let n = p.0 in
     let h : fin.get old.seats n ≡ Some (seat_value s) = seat-found ss n c.in-Some.i s p.2 c.index_mut.ensures.value in
     let eq : (w : g.row.S.Denot) → held_of c.self.inside.homes.entries c.self.inside.actives.entries (set_value_at ss c.in-Some.i (record s { server = w })) ≡ with_server_of c.args.self.now c.args.node w =
-    λ w. ap (with_seats old) (seat-changed ss n c.in-Some.i s p.2 c.index_mut.ensures.value (record s { server = w }))
-    ∙ sym (ap (λ (o : Option (Seated g.row.S.Denot)). with_seats old (put_box old.seats n w o)) h)
-    ∙ sym (ap (λ (o : Option Name). with_seats old (put_by old.seats o w)) p.1)
-    ∙ ap (λ (t : Held g.row.S.Denot). with_server_of t c.args.node w) c.self.view_is in (
+    λ w. rw (← c.self.view_is, p.1, h, seat-changed ss n c.in-Some.i s p.2 c.index_mut.ensures.value (record s { server = w })) refl in (
       same_read _ _ _ eq,
       record {
         lends = tt;
@@ -41,9 +36,4 @@ returns-in-None g c =
     )
 
 pub invariant_of-self-lent : goal.invariant_of-self-lent
-invariant_of-self-lent g c = λ w. record {
-  homes_apart = c.self.invariant.homes_apart;
-  actives_apart = c.self.invariant.actives_apart;
-  seats_apart = apart-kept c.self.inside.seats.entries c.in-Some.i (record c.index_mut.result.now { server = w }) c.self.invariant.seats_apart;
-  housed = seated-set _ c.self.inside.seats.entries c.in-Some.i (record c.index_mut.result.now { server = w }) c.self.invariant.housed;
-}
+invariant_of-self-lent g c = λ w. tables-set _ _ _ _ _ c.self.invariant

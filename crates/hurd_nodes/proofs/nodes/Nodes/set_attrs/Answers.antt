@@ -1,10 +1,11 @@
 use Rattle.std.proofs.Common.{refl}
+use Rattle.hurd_trans_iface.specs.Nodes.{with_attrs}
 use Rattle.std.specs.FinMap as fin
 use Rattle.hurd_trans_iface.specs.Answers.{set_attrs_edits, set_header_of}
-use Rattle.hurd_trans_iface.specs.Nodes.{with_attrs}
 use Rattle.hurd_trans_iface.specs.Meaning.{keeps_tree}
+use Rattle.hurd_nodes.proofs.ShownLaws.{server-untold}
 use Rattle.hurd_nodes.proofs.HideLaws.{hides-sure}
-use Rattle.hurd_nodes.proofs.EditLaws.{set_header-shown, set_header-gone}
+use Rattle.hurd_nodes.proofs.EditLaws.{set_header-shown}
 use Rattle.hurd_nodes.proofs.nodes.Nodes.set_attrs.Goals as goal
 
 pub returns-in-Some-clause-shown : goal.returns-in-Some-clause-shown
@@ -12,12 +13,10 @@ returns-in-Some-clause-shown g c =
     set_header-shown g.S.Server.meaning c.args.self.now c.args.node (with_attrs c.args.owner c.args.group c.args.mode) c.in-Some.server.now c.set_attrs.new.self c.set_attrs.result c.in-Some.ensures.there c.set_attrs.ensures
 
 pub returns-in-None-clause-shown : goal.returns-in-None-clause-shown
-returns-in-None-clause-shown g c = set_header-gone g.S.Server.meaning c.args.self.now c.args.node (with_attrs c.args.owner c.args.group c.args.mode) c.in-None.ensures.there
+returns-in-None-clause-shown g c = rw (server-untold _ _ _ c.in-None.ensures.there) refl
 
 pub returns-in-Some-clause-hidden : goal.returns-in-Some-clause-hidden
 returns-in-Some-clause-hidden g c =
-    let f = g.S.Server.meaning in
-    let m = f c.in-Some.server.now in
+    let m = g.S.Server.meaning c.in-Some.server.now in
     let answer = set_header_of (keeps_tree m.kind) (fin.get m.nodes c.args.node) in
-    let edits = set_attrs_edits c.args.node c.args.owner c.args.group c.args.mode in
-    hides-sure f c.args.self.now c.args.node c.in-Some.server.now c.set_attrs.new.self c.in-Some.ensures.there answer edits refl c.set_attrs.result c.set_attrs.ensures
+    hides-sure g.S.Server.meaning c.args.self.now c.args.node _ _ c.in-Some.ensures.there answer (set_attrs_edits c.args.node c.args.owner c.args.group c.args.mode) refl _ c.set_attrs.ensures

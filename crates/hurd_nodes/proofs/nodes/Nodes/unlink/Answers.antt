@@ -1,9 +1,11 @@
+use Rattle.std.proofs.Common.{refl}
 use Rattle.std.specs.FinMap as fin
 use Rattle.hurd_trans_iface.specs.Nodes.{body_of}
 use Rattle.hurd_trans_iface.specs.Answers.{entry_of, unlink_edits, unlink_of}
 use Rattle.hurd_trans_iface.specs.Meaning.{keeps_tree}
+use Rattle.hurd_nodes.proofs.ShownLaws.{server-untold}
 use Rattle.hurd_nodes.proofs.HideLaws.{hides-sure, unlink-adds_none}
-use Rattle.hurd_nodes.proofs.EditLaws.{unlink-shown, unlink-gone}
+use Rattle.hurd_nodes.proofs.EditLaws.{unlink-shown}
 use Rattle.hurd_nodes.proofs.nodes.Nodes.unlink.Goals as goal
 
 pub returns-in-Some-clause-shown : goal.returns-in-Some-clause-shown
@@ -11,14 +13,12 @@ returns-in-Some-clause-shown g c =
     unlink-shown g.S.Server.meaning c.args.self.now c.args.dir c.args.name.now c.in-Some.server.now c.unlink.new.self c.unlink.result c.in-Some.ensures.there c.unlink.ensures
 
 pub returns-in-None-clause-shown : goal.returns-in-None-clause-shown
-returns-in-None-clause-shown g c = unlink-gone g.S.Server.meaning c.args.self.now c.args.dir c.args.name.now c.in-None.ensures.there
+returns-in-None-clause-shown g c = rw (server-untold _ _ _ c.in-None.ensures.there) refl
 
 pub returns-in-Some-clause-hidden : goal.returns-in-Some-clause-hidden
 returns-in-Some-clause-hidden g c =
-    let f = g.S.Server.meaning in
-    let m = f c.in-Some.server.now in
-    let dir = c.args.dir in
-    let name = c.args.name.now in
-    let entry = entry_of name (body_of m.nodes dir) in
-    let answer = unlink_of (keeps_tree m.kind) name (fin.get m.nodes dir) in
-    hides-sure f c.args.self.now dir c.in-Some.server.now c.unlink.new.self c.in-Some.ensures.there answer (unlink_edits dir name entry) (unlink-adds_none dir name entry) c.unlink.result c.unlink.ensures
+    let m = g.S.Server.meaning c.in-Some.server.now in
+    let entry = entry_of c.args.name.now (body_of m.nodes c.args.dir) in
+    let answer = unlink_of (keeps_tree m.kind) c.args.name.now (fin.get m.nodes c.args.dir) in
+    let edits = unlink_edits c.args.dir c.args.name.now entry in
+    hides-sure g.S.Server.meaning c.args.self.now c.args.dir _ _ c.in-Some.ensures.there answer edits (unlink-adds_none c.args.dir c.args.name.now entry) _ c.unlink.ensures

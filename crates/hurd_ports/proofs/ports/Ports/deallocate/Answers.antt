@@ -7,27 +7,24 @@ use Rattle.hurd_ports.specs.Seats.{state_of, tasks_of}
 use Rattle.hurd_ports.proofs.SeatLaws.{seat-ordered}
 use Rattle.hurd_ports.proofs.SettleLaws.{Dropped, deallocated, no-right, right-counted, right-uncounted}
 use Rattle.hurd_ports.proofs.ports.Ports.deallocate.Goals as goal
+use Rattle.hurd_ports.proofs.ports.Ports.deallocate.Goals.{In-Some}
 
-pub find-requires : goal.find-requires
-find-requires c =
+-- the seat that was found
+found_seat : (c : In-Some) → slice_get c.self.inside.tasks.items c.args.task.0 ≡ Some c.in-Some.seat.now
+found_seat c =
     let ss = c.self.inside.tasks.items in
     let found = rw c.deref.ensures.value at c.in-Some.ensures.lookup in
-    let seat = slice_get_read ss (length ss) c.args.task.0 c.in-Some.seat.now refl found.3.0 found.1 in
-    seat-ordered c.self.inside.opens.entries ss c.args.task.0 c.in-Some.seat.now c.self.invariant.sound seat
+    slice_get_read ss (length ss) c.args.task.0 c.in-Some.seat.now refl found.3.0 found.1
+
+pub find-requires : goal.find-requires
+find-requires c = seat-ordered _ _ c.args.task.0 _ c.self.invariant.sound (found_seat (goal.at.find-requires c).In-Some)
 
 pub returns-in_default-find-clause-answer : goal.returns-in_default-find-clause-answer
 returns-in_default-find-clause-answer c =
-    let ss = c.self.inside.tasks.items in
-    let found = rw c.deref.ensures.value at c.in-Some.ensures.lookup in
-    let seat = slice_get_read ss (length ss) c.args.task.0 c.in-Some.seat.now refl found.3.0 found.1 in
-    rw (← c.self.view_is) (no-right c.self.inside.opens.entries ss c.args.task.0 c.args.port c.in-Some.seat.now seat c.in_default-find.ensures)
+    rw (← c.self.view_is) (no-right _ _ c.args.task.0 c.args.port _ (found_seat (goal.at.returns-in_default-find-clause-answer c).In-Some) c.in_default-find.ensures)
 
 pub subtract-requires : goal.subtract-requires
-subtract-requires c =
-    let ss = c.self.inside.tasks.items in
-    let found = rw c.deref.ensures.value at c.in-Some.ensures.lookup in
-    let seat = slice_get_read ss (length ss) c.args.task.0 c.in-Some.seat.now refl found.3.0 found.1 in
-    right-counted c.self.inside.book ss c.args.task.0 c.args.port c.in-Some.seat.now c.in-Some-find.right.now seat (sym c.in-Some-find.ensures) c.self.invariant.counted
+subtract-requires c = right-counted _ _ c.args.task.0 c.args.port _ _ (found_seat (goal.at.subtract-requires c).In-Some) (sym c.in-Some-find.ensures) c.self.invariant.counted
 
 pub remove-requires : goal.remove-requires
 remove-requires c =
@@ -45,10 +42,8 @@ at c =
 
 right : (c : goal.After-settle) → right_in c.args.port c.index_mut.result.now.ports.items ≡ Some c.in-Some-find.right.now
 right c =
-    let ss = c.self.inside.tasks.items in
-    let found = rw c.deref.ensures.value at c.in-Some.ensures.lookup in
-    let seat = slice_get_read ss (length ss) c.args.task.0 c.in-Some.seat.now refl found.3.0 found.1 in
     let again = at c in
+    let found = found_seat (goal.at.returns-clause-answer c).In-Some in
     let same : c.index_mut.result.now ≡ c.in-Some.seat.now = cc in
     rw same (sym c.in-Some-find.ensures)
 

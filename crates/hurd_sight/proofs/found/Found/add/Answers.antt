@@ -1,15 +1,15 @@
-use Rattle.std.proofs.Common.{◌∙◌, ap, sym}
+use Rattle.std.proofs.Common.{◌∙◌, ap, sym, refl}
 use Rattle.hurd_creds.specs.Names.{same_name}
 use Rattle.indexmap.specs.IndexMap.{insert_entry}
 use Rattle.hurd_nodes.proofs.HomeLaws.{on_success}
-use Rattle.hurd_sight.proofs.FoundLaws.{Entries, one_more, as_it_was}
+use Rattle.hurd_sight.proofs.FoundLaws.{Entries, one_more}
 use Rattle.hurd_sight.proofs.found.Found.add.Goals as goal
 
 pub unwrap-requires : goal.unwrap-requires
 unwrap-requires c = c.insert.ensures.succeeds c.in_ok-reserve.ensures.ok
 
 pub returns-then-has : goal.returns-then-has
-returns-then-has c = as_it_was c.args.node c.args.why c.args.self.now (sym c.has.ensures ∙ c.if-has.true)
+returns-then-has c = rw (sym c.has.ensures ∙ c.if-has.true) refl
 
 pub returns : goal.returns
 returns c =

@@ -1,9 +1,8 @@
 use Rattle.std.proofs.Common.{refl}
-use Rattle.hurd_sight.proofs.FoundLaws.{ok_map}
 use Rattle.hurd_sight.proofs.found.Found.add_start.Goals as goal
 
 pub returns-in-Some : goal.returns-in-Some
-returns-in-Some g c = rw c.in-Some.is (ok_map c.add.result (λ e. e) c.add.ensures)
+returns-in-Some g c = rw c.in-Some.is c.add.ensures
 
 pub returns-in-None : goal.returns-in-None
 returns-in-None g c = rw c.in-None.is refl

@@ -3,15 +3,16 @@ use Rattle.std.specs.Prelude.{slice_get}
 use Rattle.hurd_creds.specs.declared.name.TaskId.{TaskId}
 use Rattle.hurd_creds.specs.Access.{IdSets}
 use Rattle.hurd_sight.specs.Reach.{holds_at}
-use Rattle.hurd_sight.proofs.ReachLaws.{gains_all, gains_at, gains_none, gathered, none_listed}
+use Rattle.hurd_sight.proofs.ReachLaws.{gains_none, gathered, none_listed, gains_each}
 use Rattle.hurd_sight.proofs.reach.Reach.of.Goals as goal
+use Rattle.hurd_sight.proofs.WalkLaws.{walk_all, walk_next}
 
 pub loop-task-init : goal.loop-task-init
 loop-task-init c = gains_none _
 
 pub loop-task-preserved : goal.loop-task-preserved
 loop-task-preserved c =
-    gains_at (λ (holds : IdSets → Bool) (t : TaskId). holds_at holds (slice_get c.args.ports.now.state.tasks t.0)) c.args.tasks.now c.loop-task.task-index _
+    walk_next (gains_each (λ (holds : IdSets → Bool) (t : TaskId). holds_at holds (slice_get c.args.ports.now.state.tasks t.0))) c.args.tasks.now c.loop-task.task-index _ _ _ _
     c.loop-task-test.true c.loop-task.invariant c.in_ok-add_of.ensures
 
 pub returns : goal.returns
@@ -19,4 +20,4 @@ returns c =
     gathered c.args.ports.now.state.tasks c.args.tasks.now _ c.loop-task.reach
     (none_listed c.new.result.keys c.new.ensures.empty)
     (none_listed c.new-2.result.keys c.new-2.ensures.empty)
-    (gains_all (λ (holds : IdSets → Bool) (t : TaskId). holds_at holds (slice_get c.args.ports.now.state.tasks t.0)) c.args.tasks.now c.loop-task.task-index c.loop-task-test.false c.loop-task.invariant)
+    (walk_all (gains_each (λ (holds : IdSets → Bool) (t : TaskId). holds_at holds (slice_get c.args.ports.now.state.tasks t.0))) c.args.tasks.now c.loop-task.task-index _ _ c.loop-task-test.false c.loop-task.invariant)
