@@ -90,9 +90,11 @@ function translate(flags, path, words) {
 }
 
 function server(kind) {
-    kind = one("hello hello hello null zero tmpfs tmpfs tmpfs symlink symlink symlink")
+    kind = one("hello hello hello null zero tmpfs tmpfs tmpfs symlink symlink symlink firmlink firmlink union")
     if (kind == "hello" && often(60)) return " /hurd/hello --contents=" text()
     if (kind == "symlink") return " /hurd/symlink " old()
+    if (kind == "firmlink") return " /hurd/firmlink " (often(50) ? old() : directory())
+    if (kind == "union") return " /hurd/union " directory() " " directory()
     return " /hurd/" kind
 }
 

@@ -13,3 +13,4 @@ pub mod ServerLaws
 pub mod NamedLaws
 pub mod UserLaws
 pub mod NeedLaws
+pub mod AimedLaws

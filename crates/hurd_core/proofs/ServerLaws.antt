@@ -42,10 +42,10 @@ module _ (N : NodeState) (H : PortState) (t : ℕ) where
   settled_last (Some q) c true M K is = ap (λ (z : World). apply_all (pending t None) z) is
   settled_last (Some q) c false M K is = ap settle is
 
-  module _ (p : ServerToMake) (ids : IdSets) (m : Meaning) where
+  module _ (p : ServerToMake) (ids : IdSets) (targets : List Name) (m : Meaning) where
     -- the nodes with the server that stands at a place
     abbrev pub seated : Place → NodeState
-    seated at = attached at.name at.seat (begun_info m at.root ids) (begun_root m at.owner at.group at.mode) (without_old p.instead N)
+    seated at = attached at.name at.seat (begun_info m at.root ids targets) (begun_root m at.owner at.group at.mode) (without_old p.instead N)
 
     -- with them the tables that gave two names are the world in which it was attached
     seated-world : (o : Option Name) (x : Task) → slice_get H.tasks t ≡ Some x → (s : Name) (i : ServerInfo) (node : Node) → s.task.0 ≡ t
@@ -68,20 +68,20 @@ module _ (N : NodeState) (H : PortState) (t : ℕ) where
         let more : here.0.made + 2 ≤ u64_greatest = grind (arith, nat_tests, here.2) in
         rw (edit-here t (named 1) H.tasks, here.1) (omega (arith, more))
 
-    module _ (p : ServerToMake) (ids : IdSets) (m : Meaning) where
+    module _ (p : ServerToMake) (ids : IdSets) (targets : List Name) (m : Meaning) where
       -- a task that finds no memory changes nothing
-      pub attach-lacks : Does w (naming_asks w t 2) (attaching t p ids m) (λ x. tt {0}) (Err ENOMEM) w
+      pub attach-lacks : Does w (naming_asks w t 2) (attaching t p ids targets m) (λ x. tt {0}) (Err ENOMEM) w
       attach-lacks = (refl, inr (refl, ap is_ok here.3))
 
       -- all of it: the server seated under the next name, the names given, the start over if there was one, and what is left
-      pub attach-done : (n : Name) → Some n ≡ option_map (fresh t) (slice_get H.tasks t) → (M : NodeState) (z : World) → M ≡ seated p ids m (placed p n) → z ≡ settle (world_from M (started_over t p.starts two_named))
-          → Does w (naming_asks w t 2) (attaching t p ids m) (λ x. tt {0}) (Ok tt) z
+      pub attach-done : (n : Name) → Some n ≡ option_map (fresh t) (slice_get H.tasks t) → (M : NodeState) (z : World) → M ≡ seated p ids targets m (placed p n) → z ≡ settle (world_from M (started_over t p.starts two_named))
+          → Does w (naming_asks w t 2) (attaching t p ids targets m) (λ x. tt {0}) (Ok tt) z
       attach-done n next M z is left =
           let x = here.0 in
           let one : Some n ≡ Some (fresh t x) = next ∙ ap (option_map (fresh t)) here.1 in
           let name : n ≡ fresh t x = cc in
-          let info = begun_info m (fresh t (named 1 x)) ids in
+          let info = begun_info m (fresh t (named 1 x)) ids targets in
           let node = begun_root m p.owner p.group p.mode in
-          let nodes : M ≡ attached (fresh t x) p.seat info node (without_old p.instead N) = is ∙ ap (λ (k : Name). seated p ids m (placed p k)) name in
-          let world = ap (λ (k : NodeState). world_from k two_named) nodes ∙ seated-world p ids m p.instead x here.1 (fresh t x) info node refl in
+          let nodes : M ≡ attached (fresh t x) p.seat info node (without_old p.instead N) = is ∙ ap (λ (k : Name). seated p ids targets m (placed p k)) name in
+          let world = ap (λ (k : NodeState). world_from k two_named) nodes ∙ seated-world p ids targets m p.instead x here.1 (fresh t x) info node refl in
           (x, here.3, refl, left ∙ settled_last p.instead (Attach (fresh t x) p.seat info node) p.starts M two_named world)

@@ -131,11 +131,11 @@ abbrev pub started_over : ℕ → Bool → PortState → PortState
 started_over t true h = record h { tasks = edit_task t (with_pending None) h.tasks }
 started_over t false h = h
 
--- task t, which stands as x, seats a server that means m: it gives the server a name, and then its root; if it was to start the server, it is to start
+-- task t, which stands as x, seats a server that means m, with these ids and targets: it gives the server a name, and then its root; if it was to start the server, it is to start
 -- nothing any more; what nothing keeps then goes
-abbrev pub attaching : ℕ → ServerToMake → IdSets → Meaning → Task → List Change
-attaching t p ids m x =
-    leaving p.instead ++ Attach (fresh t x) p.seat (begun_info m (fresh t (named 1 x)) ids) (begun_root m p.owner p.group p.mode) ∷ (starting_over t p.starts ++ Settle ∷ [])
+abbrev pub attaching : ℕ → ServerToMake → IdSets → List Name → Meaning → Task → List Change
+attaching t p ids targets m x =
+    leaving p.instead ++ Attach (fresh t x) p.seat (begun_info m (fresh t (named 1 x)) ids targets) (begun_root m p.owner p.group p.mode) ∷ (starting_over t p.starts ++ Settle ∷ [])
 
 -- the answer, where what comes back with a refusal is left out
 abbrev pub without_box : {S T : Type 0} → Result T (Errno × S) → Result T Errno

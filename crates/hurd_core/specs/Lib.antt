@@ -2,3 +2,4 @@ pub mod Core
 pub mod Control
 pub mod ToMake
 pub mod PortNode
+pub mod Branches

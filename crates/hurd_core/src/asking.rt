@@ -8,8 +8,9 @@ ghost use Rattle.hurd_trans_iface.specs.Answers.{entry_of, names_of};
 ghost use Rattle.hurd_trans_iface.specs.Meaning.{root_of};
 ghost use Rattle.hurd_nodes.specs.Shown.{ServerInfo, are_kin, options_in, header_in, tree_by};
 ghost use Rattle.hurd_ports.specs.Tables.{ids_at, io_right_of, lent, naming_of, pending_of, room_of};
-ghost use Rattle.hurd_machine.specs.World.{ports_of, active_at, body_at, header_at, home_at, info_at, is_removed, is_server_root, links_at, makes_at, node_at, readable_at, server_at, sets_attrs_at, stream_at, task_at, words_at};
+ghost use Rattle.hurd_machine.specs.World.{ports_of, active_at, body_at, header_at, home_at, info_at, is_removed, is_server_root, links_at, makes_at, node_at, readable_at, server_at, sets_attrs_at, stream_at, task_at, words_at, targets_at};
 ghost use Rattle.hurd_machine.specs.Handle.{both_asks, port_asks, handle_asks};
+ghost use Rattle.hurd_core.specs.Branches.{branches_at};
 ghost use Rattle.hurd_core.specs.Core.{world_of, asked_only, making_asks};
 ghost use Rattle.hurd_core.specs.Control.{control_of};
 ghost use Rattle.hurd_core.specs.ToMake.{new_node_of};
@@ -21,7 +22,7 @@ use crate::to_make::NodeToMake;
 use hurd_creds::{Attrs, Errno, Ids, Kind, NodeName, OpenFlags, ServerName, TaskId};
 use hurd_machine::Handle;
 use hurd_ports::{IoRight, PendingStart, Right};
-use hurd_trans_iface::{Names, Root, Server, Words};
+use hurd_trans_iface::{Crossing, Names, Root, Server, Words};
 use std::alloc::Global;
 
 impl<S: Server> Core<S> {
@@ -289,6 +290,29 @@ impl<S: Server> Core<S> {
         ensures { option_copied result ≡ option_map (λ (i : ServerInfo). i.text) (info_at (world_of S.meaning self.now) node) }
     {
         self.nodes.text_at(node)
+    }
+
+    /// The targets of the server of a node, in order, lent: none where it has no server. Takes no memory.
+    pub fn targets_at(&self, node: NodeName) -> &[NodeName]
+        ensures { result.now ≡ targets_at (world_of S.meaning self.entry.now) node }
+    {
+        match self.nodes.targets_at(node) {
+            Some(targets) => targets,
+            None => &[],
+        }
+    }
+
+    /// The directories that a node shows as one, in order, lent: the targets of a union, whose root it is; none of any other. Takes no memory.
+    pub fn branches_at(&self, node: NodeName) -> &[NodeName]
+        ensures { result.now ≡ branches_at (world_of S.meaning self.entry.now) node }
+    {
+        let Some(root) = self.root(node) else {
+            return &[];
+        };
+        match root.crossing {
+            Crossing::Union => self.targets_at(node),
+            Crossing::Plain | Crossing::Link { .. } | Crossing::Firm => &[],
+        }
     }
 
     /// Whether a node of this kind may be made in a directory, under a name or without an entry.

@@ -323,7 +323,7 @@ impl<S: Server> Core<S> {
         Ok(())
     }
 
-    /// Seats a new server on a node, after another has left for it, if one is to: the task gives it its next name, and its root
+    /// Seats a new server on a node, with these targets, after another has left for it, if one is to: the task gives it its next name, and its root
     /// the one after. If the task was to start it, it is to start nothing any more. What nothing keeps any more goes.
     ///
     /// Errors, in order, with the box back: `ESRCH` no such task, `EOVERFLOW`, `ENOMEM`.
@@ -332,11 +332,12 @@ impl<S: Server> Core<S> {
         task: TaskId,
         place: ServerToMake,
         ids: Ids,
+        targets: Vec<NodeName>,
         server: S,
     ) -> Result<(), (Errno, S)>
         requires { Begins (S.meaning server) }
         ensures does { let w = world_of S.meaning self.old in
-            Does w (naming_asks w task.0 2) (attaching task.0 place ids (S.meaning server)) (λ x. tt) (without_box result) (world_of S.meaning self.new) }
+            Does w (naming_asks w task.0 2) (attaching task.0 place ids targets.items (S.meaning server)) (λ x. tt) (without_box result) (world_of S.meaning self.new) }
         ensures back { IfErr result (λ e. e.1 ≡ server) }
     {
         if let Err(refused) = self.ports.naming(task, 2) {
@@ -346,7 +347,7 @@ impl<S: Server> Core<S> {
             return Err((Errno::ESRCH, server));
         };
         self.nodes
-            .attach(place.place(name), ids, place.instead, server)?;
+            .attach(place.place(name), ids, targets, place.instead, server)?;
         self.ports.take_name(task);
         self.ports.take_name(task);
         self.start_over(task, place.starts);

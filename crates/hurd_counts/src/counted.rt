@@ -104,6 +104,10 @@ impl<S: Server> Server for Counted<S> {
         self.server.set_options(alloc, words)
     }
 
+    fn targets(&self, alloc: Global) -> Result<Names, Errno> {
+        self.server.targets(alloc)
+    }
+
     fn attrs(&self, node: NodeName) -> Option<Attrs> {
         self.server.attrs(node)
     }

@@ -8,13 +8,16 @@ use Rattle.hurd_trans_iface.specs.Nodes.{is_dir}
 use Rattle.hurd_trans_iface.specs.Answers.{names_of}
 use Rattle.hurd_trans_iface.specs.Behaviour.{edits_of, resizing}
 use Rattle.hurd_nodes.specs.Needs.{FreeSize}
+use Rattle.hurd_ports.specs.Tables.{io_right_of}
 use Rattle.hurd_machine.specs.declared.call.Reply.TheVariants.{Done, Names}
-use Rattle.hurd_machine.specs.World.{World, asked_at, body_at, nodes_of}
+use Rattle.hurd_machine.specs.World.{World, asked_at, body_at, nodes_of, ports_of}
 use Rattle.hurd_machine.specs.Change.{changes_of}
 use Rattle.hurd_machine.specs.Plan.{Plan, given, first, answered, looks}
 use Rattle.hurd_machine.specs.Handle.{handle_asks}
 use Rattle.hurd_machine.specs.Sight.{Part}
 use Rattle.hurd_machine.specs.Touched.{asked_parts, Nothing, OnDid}
+use Rattle.hurd_core.specs.Branches.{branches_at}
+use Rattle.hurd_files.specs.Listing.{all_names}
 
 -- the node of a port that is open to write
 abbrev pub set_size_asks : World → ℕ → ℕ → Result Name Errno
@@ -37,9 +40,11 @@ abbrev pub readdir_asks : World → ℕ → ℕ → Result (List (List ℕ)) Err
 readdir_asks w t p =
     first (handle_asks w t p READ) (λ a.
     given ENOTDIR (is_dir a.kind) (
-    names_of (body_at w a.node)))
+    first (io_right_of (ports_of w) t p) (λ q.
+    first (names_of (body_at w a.node)) (λ own.
+    Ok (all_names w q.ids (branches_at w a.node) own)))))
 
--- dir_readdir: `.`, `..`, and the names of the entries in order
+-- dir_readdir: `.`, `..`, and the names of the entries in order; of a union, its own and behind these those of its branches
 abbrev pub plan_readdir : World → ℕ → ℕ → Plan
 plan_readdir w t p = looks (readdir_asks w t p) (λ names. Names (codes "." ∷ codes ".." ∷ names))
 

@@ -6,6 +6,7 @@ ghost use Rattle.hurd_machine.specs.declared.call.Reply.TheVariants as reply;
 ghost use Rattle.hurd_core.specs.Core.{world_of};
 ghost use Rattle.hurd_files.specs.Files.{free_set_size, set_size_asks, plan_set_size, readdir_asks, plan_readdir};
 
+use crate::listing::all_names;
 use hurd_core::Core;
 use hurd_creds::{Bytes, Errno, Kind, NodeName, OpenFlags, TaskId};
 use hurd_trans_iface::{Names, Server};
@@ -41,7 +42,7 @@ pub fn file_set_size<S: Server>(
     core.set_size(node, size)
 }
 
-/// The names of the entries of a directory that a port has open to read.
+/// The names of the entries of a directory that a port has open to read, and those of its branches that its ids may read.
 ///
 /// Errors, in order: `ESRCH`, `EBADF`, `EDIED`, `ENOTDIR`, `ENOMEM`.
 #[tactic(auto, unfolding(hurd_machine::specs::Plan::given, hurd_machine::specs::Plan::first))]
@@ -57,7 +58,10 @@ fn readdir_asked<S: Server>(
     let Kind::Dir = handle.kind else {
         return Err(Errno::ENOTDIR);
     };
-    core.names(alloc, handle.node)
+    let right = core.io_right(task, port)?;
+    let own = core.names(alloc, handle.node)?;
+    let branches = core.branches_at(handle.node);
+    Ok(all_names(core, alloc, &right.ids, branches, own)?)
 }
 
 /// These names behind `.` and `..`.
@@ -70,6 +74,9 @@ fn with_dots(alloc: Global, mut names: Names) -> Result<Names, AllocError>
 }
 
 /// The names in the directory that a port has open: `.`, `..`, and those of its entries, in order of making (`fs.defs`).
+///
+/// Of a union they are followed by the names in its branches, in order, each name once: the first of those that are the same
+/// stays. A branch that is gone, is no directory, or that the port's ids may not read, has no names.
 ///
 /// Errors, in order: `ESRCH` no such task, `EBADF` no such port, or not opened to read, `EDIED` no such node, `ENOTDIR`,
 /// `ENOMEM`.

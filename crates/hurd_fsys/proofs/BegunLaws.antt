@@ -1,5 +1,5 @@
 -- The root of a server that begins: its shape, its size, and how it hangs.
-use Rattle.std.proofs.Common.{Some, ◌≡◌, ◌∙◌, ℕ, Bool, true, false, true≢false, if◌then◌else◌, refl, sym}
+use Rattle.std.proofs.Common.{Some, ◌≡◌, ◌∙◌, ℕ, Bool, true, false, true≢false, if◌then◌else◌, List, refl, sym}
 use Rattle.hurd_creds.specs.declared.name.Name.{Name}
 use Rattle.hurd_creds.specs.declared.mode.Mode.{Mode}
 use Rattle.hurd_creds.specs.declared.attrs.Kind.{Kind}
@@ -15,9 +15,11 @@ use Rattle.hurd_machine.proofs.Coherence.{Comes, HasNoEntries}
 use Rattle.hurd_machine.proofs.Going.{Begun}
 use Rattle.hurd_ports.specs.Tables.{Task, fresh}
 use Rattle.hurd_ports.specs.Steps.{named}
-use Rattle.hurd_machine.specs.World.{World, task_at, header_at}
+use Rattle.hurd_machine.specs.World.{World, IsAmong, task_at, header_at}
+use Rattle.hurd_machine.specs.Sound.{Below}
 use Rattle.hurd_machine.proofs.Opens.{fresh_next}
-use Rattle.hurd_fsys.specs.Setting.{root_kind, root_mode, server_ids}
+use Rattle.hurd_fsys.specs.Aims.{server_ids}
+use Rattle.hurd_fsys.specs.Setting.{root_kind, root_mode}
 
 empty_shaped : (k : Kind) (h : Header) → h.kind ≡ k → IsShaped h (empty_body (is_dir k))
 empty_shaped Dir h e = e
@@ -41,19 +43,20 @@ module _ (m : Meaning) (root : Name) (ids : IdSets) (owner group : ℕ) (mode : 
   begun_bare : HasNoEntries (begun_root m owner group mode).body
   begun_bare = empty_bare (is_dir (root_of m.kind m.text).kind)
 
-  begun : Begun (begun_info m root ids) (begun_root m owner group mode)
-  begun = record { links = refl; tree = λ tree. plain_dir (root_of m.kind m.text) (tree-told m.kind m.text ∙ tree); size = refl }
+  begun : (targets : List Name) → Begun (begun_info m root ids targets) (begun_root m owner group mode)
+  begun targets = record { links = refl; tree = λ tree. plain_dir (root_of m.kind m.text) (tree-told m.kind m.text ∙ tree); size = refl }
 
 -- one that task t makes comes to a node that is there, for the owner of this header
 
-module _ (w : World) (t : ℕ) (n : Name) (h : Header) (there : (k : Header) × (header_at w n ≡ Some k)) (m : Meaning) (x : Task) (is : task_at w t ≡ Some x) where
+module _ (w : World) (t : ℕ) (n : Name) (h : Header) (there : (k : Header) × (header_at w n ≡ Some k)) (m : Meaning) (x : Task) (is : task_at w t ≡ Some x)
+    (targets : List Name) (below : (q : Name) → IsAmong q targets → Below w q) where
   abbrev its_root : Name
   its_root = fresh t (named 1 x)
 
   abbrev its_mode : Mode
   its_mode = root_mode (root_kind m) h.mode
 
-  pub newcomer : Comes w (fresh t x) n (begun_info m its_root (server_ids h.owner)) (begun_root m h.owner h.group its_mode)
+  pub newcomer : Comes w (fresh t x) n (begun_info m its_root (server_ids h.owner) targets) (begun_root m h.owner h.group its_mode)
   newcomer = record {
     next = fresh_next w t x is;
     task = refl;
@@ -62,8 +65,9 @@ module _ (w : World) (t : ℕ) (n : Name) (h : Header) (there : (k : Header) × 
     shape = begun_shaped m its_root (server_ids h.owner) h.owner h.group its_mode;
     empty = begun_bare m its_root (server_ids h.owner) h.owner h.group its_mode;
     parent = refl;
+    targets = below;
     seat = there;
   }
 
-  pub begins : Begun (begun_info m its_root (server_ids h.owner)) (begun_root m h.owner h.group its_mode)
-  begins = begun m its_root (server_ids h.owner) h.owner h.group its_mode
+  pub begins : Begun (begun_info m its_root (server_ids h.owner) targets) (begun_root m h.owner h.group its_mode)
+  begins = begun m its_root (server_ids h.owner) h.owner h.group its_mode targets

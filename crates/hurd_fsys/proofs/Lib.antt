@@ -2,6 +2,7 @@ pub mod OwnedLaws
 pub mod ControlLaws
 pub mod FsysLaws
 pub mod OptionsLaws
+pub mod AimsLaws
 pub mod BegunLaws
 pub mod StoringLaws
 pub mod SettingLaws

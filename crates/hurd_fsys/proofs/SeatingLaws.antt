@@ -2,13 +2,9 @@
 use Rattle.std.proofs.Common.{◌≡◌, ◌≢◌, ◌∙◌, ◌≤◌, ◌⊎◌, ℕ, arith, Bool, true, false, not, if◌then◌else◌, List, [], ◌∷◌, ◌++◌, Option, Some, None, inl, inr, refl, sym, ap, ap₂, subst, true≢false}
 use Rattle.std.specs.Prelude.{Result, Ok, Err, IsOk, is_some, length, nat_le}
 use Rattle.std.specs.Option.{option_map}
-use Rattle.std.proofs.lemmas.Bool.Decides.{nat_tests}
-use Rattle.std.specs.FinSet as set
-use Rattle.std.specs.Ordering.{nat_cmp}
 use Rattle.hurd_creds.specs.declared.errno.Errno.{Errno}
 use Rattle.hurd_creds.specs.declared.errno.Errno.TheVariants.{ENOMEM, EOPNOTSUPP}
 use Rattle.hurd_creds.specs.declared.name.Name.{Name}
-use Rattle.hurd_creds.specs.Access.{IdSets, ids_of, most_ids}
 use Rattle.hurd_creds.specs.Memory.{Meets}
 use Rattle.hurd_creds.specs.TransBits.{asks_trans, SET}
 use Rattle.hurd_trans_iface.specs.Nodes.{has_words, passive_of, with_passive}
@@ -20,32 +16,19 @@ use Rattle.hurd_machine.specs.Calls.{Reply}
 use Rattle.hurd_machine.specs.declared.call.Reply.TheVariants.{Done, Refused}
 use Rattle.hurd_machine.specs.World.{World, header_at, info_at, is_server_root, node_at, nodes_of, ports_of, sets_attrs_at, words_at}
 use Rattle.hurd_machine.specs.Change.{Change, EditHeader, apply_all}
-use Rattle.hurd_machine.specs.Plan.{Follows, Planned, answered, told}
+use Rattle.hurd_machine.specs.Plan.{Follows, Plan, Planned, answered, first, told}
 use Rattle.hurd_machine.specs.Handle.{Named}
 use Rattle.hurd_core.specs.Core.{Does, attaching, naming_asks}
-use Rattle.hurd_creds.proofs.IdLaws.{len-listed}
 use Rattle.hurd_machine.proofs.Keeping.{apply_all-append}
 use Rattle.hurd_machine.proofs.Asks.{given_ok}
 use Rattle.hurd_core.proofs.CoreLaws.{naming-had}
 use Rattle.hurd_core.proofs.PlanLaws.{asked-refused, does-planned, follows-from, follows-refused, follows-then, planned-then}
 use Rattle.hurd_machine.specs.declared.call.Setting.{Setting}
-use Rattle.hurd_fsys.specs.Setting.{emptying, leaver, plan_set_translator, seat_asks, seat_on, seating, server_ids, sets_nothing, setter_asks, setting, setting_where, storing}
+use Rattle.hurd_fsys.specs.Aims.{FindsAims, HasTargets, PlannedOr, aims_asks, lent, server_ids}
+use Rattle.hurd_fsys.specs.Setting as spec
+use Rattle.hurd_fsys.specs.Setting.{SetLacks, box_aims, emptying, leaver, plan_set_translator, seat_asks, seat_on, seating, sets_nothing, setter_asks, setting, setting_where, storing}
 use Rattle.hurd_fsys.proofs.StoringLaws.{some_has, storing_back, storing_names, storing_sets, tree_sets, words_told}
 use Rattle.hurd_fsys.proofs.SettingLaws.{setter}
-
--- so few are never too many
-few_fit : (us : List ℕ) → length us ≤ 1 → nat_le (set.len (set.from_list {R = nat_cmp} us)) most_ids ≡ true
-few_fit us few =
-    let fits : set.len (set.from_list {R = nat_cmp} us) ≤ 32 = omega (arith, few, len-listed us) in
-    grind (arith, nat_tests)
-
-ids_fit : (o : ℕ) → IsOk (ids_of (o ∷ []) [])
-ids_fit o = rw (few_fit (o ∷ []) (omega arith), few_fit [] (omega arith)) refl
-
--- one uid is never too many, and needs no memory
-pub one_is_held : (o : ℕ) (e : Errno) → Meets (ids_of (o ∷ []) []) (Err e) → e ≢ ENOMEM → ⊥
-one_is_held o e (inl is) has = true≢false (sym (subst (λ (r : Result IdSets Errno). IsOk r) is (ids_fit o)))
-one_is_held o e (inr lacks) has = has lacks.0
 
 -- what becomes of something is there where that is
 pub means_some : {S T : Type 0} (f : S → T) (o : Option S) → is_some (option_map f o) ≡ is_some o
@@ -93,6 +76,17 @@ module _ (w : World) (t : ℕ) (n : Name) (f : Setting) (words : List (List ℕ)
         why (inl short) = inl (sym named_there ∙ short)
         why (inr lacks) = inr (lacks.0, subst (λ (r : Result Task Errno). IsOk r) named_there lacks.1)
 
+-- what is as planned is so where memory may be wanting too
+weaker : {T : Type 0} (Lacks : Type 0) (w : World) (P : Plan) (f : T → Reply) (r : Result T Errno) (y : World) → Planned w P f r y → PlannedOr Lacks w P f r y
+weaker Lacks w P f (Ok a) y h = h
+weaker Lacks w P f (Err e) y h = (
+  h.0,
+  elim h.1 [
+    | inl refused ↦ inl refused
+    | inr lacks ↦ inr (lacks.0, inl lacks.1)
+  ],
+)
+
 -- of a port that may set, on what it names
 module _ {S : Type 0} (mean : S → Meaning) (w : World) (t p : ℕ) (f : Setting) (words : List (List ℕ)) (server : Option S) (b : Bool) (brings : b ≡ is_some server) where
   abbrev box : Option Meaning
@@ -105,7 +99,10 @@ module _ {S : Type 0} (mean : S → Meaning) (w : World) (t p : ℕ) (f : Settin
   tells u = Done
 
   abbrev IsPlanned : Result (Unit {0}) Errno → World → Type 0
-  IsPlanned r y = Planned w (plan_set_translator w t p f words box) tells r y
+  IsPlanned r y = PlannedOr (SetLacks w t p f box) w (plan_set_translator w t p f words box) tells r y
+
+  as_planned : (r : Result (Unit {0}) Errno) (y : World) → Planned w (plan_set_translator w t p f words box) tells r y → IsPlanned r y
+  as_planned r y h = weaker (SetLacks w t p f box) w (plan_set_translator w t p f words box) tells r y h
 
   abbrev IsFollowed : Result (Unit {0}) Errno → World → Type 0
   IsFollowed r y = Follows w (plan_set_translator w t p f words box) (told tells r) y
@@ -114,11 +111,11 @@ module _ {S : Type 0} (mean : S → Meaning) (w : World) (t p : ℕ) (f : Settin
   refused_freely e is = follows-refused w (setter_asks w t p f (is_some box)) (setting w t f words box) e (asked_by (Err e) is)
 
   pub set_refused : (e : Errno) → Err e ≡ setter_asks w t p f b → IsPlanned (Err e) w
-  set_refused e is = asked-refused w (setter_asks w t p f (is_some box)) (setting w t f words box) tells e (asked_by (Err e) is)
+  set_refused e is = as_planned (Err e) w (asked-refused w (setter_asks w t p f (is_some box)) (setting w t f words box) tells e (asked_by (Err e) is))
 
   module _ (n : Named) (is : Ok n ≡ setter_asks w t p f b) where
     then_set : (r : Result (Unit {0}) Errno) (y : World) → Planned w (setting w t f words box n) tells r y → IsPlanned r y
-    then_set r y h = planned-then w (setter_asks w t p f (is_some box)) (setting w t f words box) tells n r y (asked_by (Ok n) is) h
+    then_set r y h = as_planned r y (planned-then w (setter_asks w t p f (is_some box)) (setting w t f words box) tells n r y (asked_by (Ok n) is) h)
 
     -- with neither half to be set
     pub set_nothing : (u : Unit {0}) → true ≡ sets_nothing f → IsPlanned (Ok u) w
@@ -158,15 +155,38 @@ module _ {S : Type 0} (mean : S → Meaning) (w : World) (t p : ℕ) (f : Settin
 
         -- without a box the words are stored, and the seat is emptied
         pub set_emptied : (u : Unit {0}) (v y : World) → server ≡ None → v ≡ apply_all (storing f n.right.node words) w → y ≡ apply_all (emptying f n.right.node old) v → IsPlanned (Ok u) y
+        unfolding answered
         set_emptied u v y none stores makes =
             then_old (Ok u) y (subst (λ (b : Option Meaning). Planned w (seating w t n f words b old) tells (Ok u) y) (sym (ap (option_map mean) none))
             (refl, makes ∙ ap (apply_all (emptying f n.right.node old)) stores ∙ sym (apply_all-append (storing f n.right.node words) (emptying f n.right.node old) w)))
 
-        abbrev seated_with : Meaning → Task → List Change
-        seated_with m x = storing f n.right.node words ++ attaching t (seat_on n.right.node n.header m (leaver f old) false) (server_ids n.header.owner) m x
+        abbrev seated_with : Meaning → List Name → Task → List Change
+        seated_with m targets x = storing f n.right.node words ++ attaching t (seat_on n.right.node n.header m (leaver f old) false) (server_ids n.header.owner) targets m x
 
-        -- with a box they are stored, and it is taken
-        pub set_seated : (s : S) (r : Result (Unit {0}) Errno) (y : World) → server ≡ Some s → Does w (naming_asks w t 2) (seated_with (mean s)) (λ x. tt {0}) r y → IsPlanned r y
-        set_seated s r y some does =
-            then_old r y (subst (λ (b : Option Meaning). Planned w (seating w t n f words b old) tells r y) (sym (ap (option_map mean) some))
-            (does-planned w (naming_asks w t 2) (seated_with (mean s)) (λ x. tt {0}) (λ x. record { reply = Done; changes = seated_with (mean s) x }) tells r y (λ x. (refl, refl)) (λ x. refl) does))
+        module _ (s : S) (some : server ≡ Some s) where
+          abbrev m : Meaning
+          m = mean s
+
+          -- with a box
+          brought : (r : Result (Unit {0}) Errno) (y : World) → Planned w (seating w t n f words (Some m) old) tells r y → IsPlanned r y
+          brought r y h = then_old r y (subst (λ (b : Option Meaning). Planned w (seating w t n f words b old) tells r y) (sym (ap (option_map mean) some)) h)
+
+          -- a box may come
+          box_may_come : IsOk (first (setter_asks w t p f true) (seat_asks w f))
+          unfolding first
+          box_may_come =
+              let asked : Ok n ≡ setter_asks w t p f true = is ∙ ap (setter_asks w t p f) (brings ∙ ap is_some some) in
+              subst (λ (r : Result Named Errno). IsOk (first r (seat_asks w f))) asked (subst (λ (r : Result (Option Name) Errno). IsOk r) at refl)
+
+          -- its targets are not found
+          pub set_aimless : (e : Errno) → FindsAims {B = List Name} m (λ ns. ns) (aims_asks w (lent n.right.ids n.header.owner) m) (Err e) → IsPlanned (Err e) w
+          set_aimless e (inl refused) = brought (Err e) w (asked-refused w (box_aims w n (Some m)) (spec.seated w t n f words (Some m) old) tells e refused)
+          set_aimless e (inr lacks) = (refl, inr (lacks.0, inr (subst (λ (b : Option Meaning). SetLacks w t p f b) (sym (ap (option_map mean) some)) (lacks.1, box_may_come))))
+
+          -- they are: the words are stored, and it is taken
+          pub set_seated : (targets : List Name) → aims_asks w (lent n.right.ids n.header.owner) m ≡ Ok targets → (r : Result (Unit {0}) Errno) (y : World)
+              → Does w (naming_asks w t 2) (seated_with m targets) (λ x. tt {0}) r y → IsPlanned r y
+          set_seated targets found r y does =
+              brought r y
+              (planned-then w (box_aims w n (Some m)) (spec.seated w t n f words (Some m) old) tells targets r y found
+              (does-planned w (naming_asks w t 2) (seated_with m targets) (λ x. tt {0}) (λ x. record { reply = Done; changes = seated_with m targets x }) tells r y (λ x. (refl, refl)) (λ x. refl) does))

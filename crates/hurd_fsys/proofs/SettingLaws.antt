@@ -16,32 +16,37 @@ use Rattle.hurd_ports.specs.declared.table.Right.TheVariants.{Io}
 use Rattle.hurd_ports.specs.Tables.{Task, fresh, can_name}
 use Rattle.hurd_ports.specs.Steps.{named}
 use Rattle.hurd_machine.specs.declared.call.Reply.TheVariants.{Done, Words}
-use Rattle.hurd_machine.specs.World.{World, task_at, header_at, home_at, active_at}
+use Rattle.hurd_machine.specs.World.{World, IsAmong, task_at, header_at, home_at, active_at}
 use Rattle.hurd_machine.specs.Change.{Change, Attach, DropServer, Unseat, Settle, apply, apply_all}
 use Rattle.hurd_machine.specs.Handle.{Named}
-use Rattle.hurd_machine.specs.Sight.{Part, AttrOf, EmptyOf, BodyOf, OptionsOf, UsersOf, TaskOf, Holds, Seen, BySeat, users}
-use Rattle.hurd_machine.specs.Sound.{Coherent, Sound}
+use Rattle.hurd_machine.specs.Sight.{Part, AttrOf, EmptyOf, BodyOf, OptionsOf, UsersOf, TaskOf, Holds, UidOfRight, GidOfRight, Taken, Seen, BySeat, users}
+use Rattle.hurd_machine.specs.Sound.{Below, Coherent, Sound}
 use Rattle.hurd_machine.specs.Touched.{Goes}
-use Rattle.hurd_machine.proofs.Views.{Agree, same_tasks, active_same}
+use Rattle.hurd_machine.proofs.Views.{Agree, Agree-refl, same_tasks, active_same}
+use Rattle.hurd_machine.proofs.Confine.{seen_old}
 use Rattle.hurd_machine.proofs.Coherence.{Comes}
 use Rattle.hurd_machine.proofs.Frame.{Full}
 use Rattle.hurd_machine.proofs.Opens.{own_task, fresh_new, later_new}
-use Rattle.hurd_machine.proofs.Going.{Begun, goes_piece, unseats_piece, comes_piece, comes_after}
+use Rattle.hurd_machine.proofs.Going.{AimsAtSeen, Begun, goes_piece, unseats_piece, comes_piece, comes_after}
 use Rattle.hurd_machine.proofs.Asks.{IsPlain, IsPlainReply, port_same, port_plain, info_same, is_root_same, first_ok, given_ok, on_ok, first_same, given_same, on_same, first_plain, given_plain, on_plain, ok_plain, answered_same, answered_plain, done_plain}
 use Rattle.hurd_machine.proofs.CallLaws.{CallLaws, answered_piece, answered_whole, looking_laws}
 use Rattle.hurd_core.specs.Core.{attaching, naming_asks}
 use Rattle.hurd_machine.specs.declared.call.Setting.{Setting}
-use Rattle.hurd_fsys.specs.Setting.{sets_nothing, setter_asks, is_excluded, may_replace, may_set, seat_asks, leaver, emptying, storing, server_ids, seat_on, seating, setting_where, plan_set_translator, GoesFor, seat_parts, parts_where, touches_set_translator, root_mode, root_kind, stored_asks, plan_get_translator, touches_get_translator}
+use Rattle.hurd_fsys.specs.Aims.{server_ids}
+use Rattle.hurd_fsys.specs.Setting.{sets_nothing, setter_asks, is_excluded, may_replace, may_set, seat_asks, leaver, emptying, storing, seat_on, box_aims, seating, setting_where, plan_set_translator, GoesFor, seat_parts, parts_where, touches_set_translator, root_mode, root_kind, stored_asks, plan_get_translator, touches_get_translator}
 use Rattle.hurd_fsys.specs.Owned.{owned_asks}
 use Rattle.hurd_fsys.proofs.OwnedLaws.{Owner, owner, owner_right, owner_sees, owned_same, owned_plain}
 use Rattle.hurd_fsys.proofs.ControlLaws.{owner_holds}
 use Rattle.hurd_fsys.proofs.StoringLaws.{IsLike, goes_like, storing_like, storing_exact, storing_whole}
+use Rattle.hurd_fsys.specs.Setting as spec
+use Rattle.hurd_fsys.proofs.AimsLaws.{aims_alike, aims_seen}
 use Rattle.hurd_fsys.proofs.BegunLaws as begun
 use Rattle.hurd_machine.proofs.Piece.{Stands, Whole, stands, whole_none, piece_then, whole_then, settled}
 
 -- a server comes to a node, and another goes for it, which is active there
 
-module _ (w : World) (c : Coherent w) (t : ℕ) (n : Named) (there : (h : Header) × (header_at w n.right.node ≡ Some h)) (m : Meaning) (x : Task) (is : task_at w t ≡ Some x) where
+module _ (w : World) (c : Coherent w) (t : ℕ) (n : Named) (there : (h : Header) × (header_at w n.right.node ≡ Some h)) (m : Meaning) (x : Task) (is : task_at w t ≡ Some x)
+    (targets : List Name) (below : (q : Name) → IsAmong q targets → Below w q) where
   abbrev s : Name
   s = fresh t x
 
@@ -52,20 +57,20 @@ module _ (w : World) (c : Coherent w) (t : ℕ) (n : Named) (there : (h : Header
   ids = server_ids n.header.owner
 
   abbrev info : ServerInfo
-  info = begun_info m root ids
+  info = begun_info m root ids targets
 
   abbrev node : Node
   node = begun_root m n.header.owner n.header.group (root_mode (root_kind m) n.header.mode)
 
   newcomer : Comes w s n.right.node info node
-  newcomer = begun.newcomer w t n.right.node n.header there m x is
+  newcomer = begun.newcomer w t n.right.node n.header there m x is targets below
 
   begins : Begun info node
-  begins = begun.begins w t n.right.node n.header there m x is
+  begins = begun.begins w t n.right.node n.header there m x is targets below
 
   -- the changes, for a server that goes or none
   abbrev comings : Option Name → List Change
-  comings old = attaching t (seat_on n.right.node n.header m old false) ids m x
+  comings old = attaching t (seat_on n.right.node n.header m old false) ids targets m x
 
   -- what goes is active on the node
   abbrev IsOld : Option Name → Type 0
@@ -87,13 +92,17 @@ module _ (w : World) (c : Coherent w) (t : ℕ) (n : Named) (there : (h : Header
 
   -- it writes what may be parts of a world like this one
   pub comings_whole : {T : Part → Type 0} {v : World} → Stands w → T (TaskOf t) → T (AttrOf root) → T (EmptyOf root) → T (BodyOf root) → T (OptionsOf s) → T (AttrOf n.right.node)
-      → (old : Option Name) → IsOld old → ((q : Name) → old ≡ Some q → (p : Part) → Goes w q p → T p) → Whole t T v w (comings old)
-  comings_whole st task attr empty body options seat None is_old parts =
-      settled (Attach s n.right.node info node ∷ []) (tt, tt) st (comes_piece st s n.right.node info node newcomer begins task attr empty body seat options)
-  comings_whole st task attr empty body options seat (Some q) is_old parts =
+      → (old : Option Name) → IsOld old → ((q : Name) → old ≡ Some q → (p : Part) → Goes w q p → T p) → AimsAtSeen t v info → Whole t T v w (comings old)
+  comings_whole st task attr empty body options seat None is_old parts aims =
+      settled (Attach s n.right.node info node ∷ []) (tt, tt) st (comes_piece st s n.right.node info node newcomer begins task attr empty body seat options aims)
+  comings_whole st task attr empty body options seat (Some q) is_old parts aims =
       let e = is_old q refl in
       settled (DropServer q ∷ Attach s n.right.node info node ∷ []) (tt, (tt, tt)) st (piece_then (DropServer q ∷ []) (Attach s n.right.node info node ∷ []) (tt, tt) st (goes_piece st q (not_boot q e) (parts q refl))
-      (λ d. comes_piece d s n.right.node info node (after q e) begins task attr empty body seat options))
+      (λ d. comes_piece d s n.right.node info node (after q e) begins task attr empty body seat options aims))
+
+-- S has the ids of its right
+right_taken : (S : ℕ → Bool) (w : World) (n : Named) → Holds S w (Io n.right) → Taken S w n.right.ids
+right_taken S w n held = record { uids = λ u h. UidOfRight n.right held h; gids = λ g h. GidOfRight n.right held h }
 
 -- what is asked
 
@@ -180,8 +189,8 @@ module _ (t p : ℕ) (f : Setting) where
     like : (w : World) (n : Named) → Owner t p w n → IsLike w (stored n.right.node w) n.right.node
     like w n k = storing_like n.right.node words sets w n.header k.is_named.is_header
 
-    abbrev comings_of : Named → Meaning → Option Name → Task → List Change
-    comings_of n m old x = attaching t (seat_on n.right.node n.header m old false) (server_ids n.header.owner) m x
+    abbrev comings_of : Named → Meaning → Option Name → List Name → Task → List Change
+    comings_of n m old targets x = attaching t (seat_on n.right.node n.header m old false) (server_ids n.header.owner) targets m x
 
     module _ (w : World) (s : Sound w) (n : Named) (k : Owner t p w n) (old : Option Name) (e : active_at w n.right.node ≡ old) where
       abbrev v : World
@@ -213,40 +222,52 @@ module _ (t p : ℕ) (f : Setting) where
           by_seat x None is = whole_none x
           by_seat x (Some q) is = by_flags x q is (not (asks_trans f.active SET)) (asks_trans f.active ORPHAN) refl refl
 
-      box_whole : (o : Option Meaning) → Whole t Written w w (seating w t n f words o old).changes
-      box_whole None = emptied_whole
-      box_whole (Some m) = answered_whole s (naming_asks w t 2) _ (λ x at.
+      -- the targets of a box that are found, a task of S saw
+      targets_seen : (S : ℕ → Bool) → S t ≡ true → (o : Option Meaning) (targets : List Name) → box_aims w n o ≡ Ok targets → (q : Name) → IsAmong q targets → Seen S w q
+      targets_seen S ours None targets is q among = absurd (let none : [] ≡ targets = cc in subst (IsAmong q) (sym none) among)
+      targets_seen S ours (Some m) targets is q among = aims_seen S w n.right.ids (right_taken S w n (owner_right t p ours n k)) n.header.owner m targets is q among
+
+      box_whole : (o : Option Meaning) (targets : List Name) → box_aims w n o ≡ Ok targets → Whole t Written w w (spec.seated w t n f words o old targets).changes
+      box_whole None targets found = emptied_whole
+      box_whole (Some m) targets found = answered_whole s (naming_asks w t 2) _ (λ x at.
           let is = namer w x at in
           let later = later_new w t 1 x is in
-          with_words (comings_of n m (leaver f old) x) (λ y.
-          comings_whole v y.coherent t n (like w n k).there m x (ap (λ (ts : List Task). slice_get ts t) (like w n k).tasks ∙ is) (stands y) (own_task w t (seat_parts w f n.right.node old)) (inr (inr later)) (inr (inr later))
-          (inr (inr later)) (inr (inr (fresh_new w t x is))) (inl (inl refl)) (leaver f old) (λ q is. ap (λ (m : NameMap Name). get m n.right.node) (like w n k).actives ∙ (e ∙ leaver_is old q is)) left_here))
+          let tasks = (like w n k).tasks in
+          let below = λ (q : Name) (among : IsAmong q targets).
+          subst (λ (ts : List Task). Below (record v { tasks = ts }) q) (sym tasks) (seen_old s.coherent q (targets_seen (λ u. true) refl (Some m) targets found q among)) in
+          with_words (comings_of n m (leaver f old) targets x) (λ y.
+          comings_whole v y.coherent t n (like w n k).there m x (ap (λ (ts : List Task). slice_get ts t) tasks ∙ is) targets below (stands y) (own_task w t (seat_parts w f n.right.node old)) (inr (inr later)) (inr (inr later))
+          (inr (inr later)) (inr (inr (fresh_new w t x is))) (inl (inl refl)) (leaver f old) (λ q is. ap (λ (m : NameMap Name). get m n.right.node) (like w n k).actives ∙ (e ∙ leaver_is old q is)) left_here (λ S ours q among. inl (targets_seen S ours (Some m) targets found q among))))
 
-    half_whole : (w : World) → Sound w → (n : Named) → Owner t p w n → (b : Bool) → Whole t (Full w t (parts_where b w f n)) w w (setting_where b w t f words box n).changes
+    half_whole : (w : World) → Sound w → (n : Named) → Owner t p w n → (b : Bool) → Whole t (Full w t (parts_where b w f box n)) w w (setting_where b w t f words box n).changes
     half_whole w s n k true = whole_none s
-    half_whole w s n k false = answered_piece s (seat_asks w f n) (seating w t n f words box) (seat_parts w f n.right.node) (λ old is. box_whole w s n k old (seated w n old is) box)
+    half_whole w s n k false = answered_piece s (seat_asks w f n) (seating w t n f words box) _ (λ old is.
+        answered_piece s (box_aims w n box) (spec.seated w t n f words box old) (λ targets. seat_parts w f n.right.node old) (λ targets found. box_whole w s n k old (seated w n old is) box targets found))
 
     half_same : {S : ℕ → Bool} {v w : World} → Coherent v → Agree S v w → S t ≡ true → (n : Named) → Owner t p v n → (b : Bool) → setting_where b w t f words box n ≡ setting_where b v t f words box n
     half_same c a ours n k true = refl
     half_same {S} {v} {w} c a ours n k false = answered_same _ _ _ _ (seat_same c a ours n k) (λ old is. of_box box old)
       where
         of_box : (o : Option Meaning) (old : Option Name) → seating w t n f words o old ≡ seating v t n f words o old
-        of_box None old = refl
-        of_box (Some m) old = answered_same _ _ _ _ (naming_same a ours) (λ x at. refl)
+        of_box None old = answered_same _ _ _ _ refl (λ targets found. refl)
+        of_box (Some m) old =
+            answered_same _ _ _ _ (aims_alike a n.right.ids (right_taken S v n (owner_right t p ours n k)) n.header.owner m).same (λ targets found. answered_same _ _ _ _ (naming_same a ours) (λ x at. refl))
 
-    half_plain : (w : World) (n : Named) (b : Bool) → IsPlainReply (setting_where b w t f words box n).reply
-    half_plain w n true = done_plain Done refl
-    half_plain w n false = answered_plain _ _ (seat_plain w n) (λ old is. of_box box old)
+    half_plain : (w : World) (n : Named) → Owner t p w n → (b : Bool) → IsPlainReply (setting_where b w t f words box n).reply
+    half_plain w n k true = done_plain Done refl
+    half_plain w n k false = answered_plain _ _ (seat_plain w n) (λ old is. of_box box old)
       where
         of_box : (o : Option Meaning) (old : Option Name) → IsPlainReply (seating w t n f words o old).reply
-        of_box None old = done_plain Done refl
-        of_box (Some m) old = answered_plain _ _ (naming_plain w) (λ x at. done_plain Done refl)
+        of_box None old = answered_plain _ _ (ok_plain _) (λ targets found. done_plain Done refl)
+        of_box (Some m) old =
+            answered_plain _ _ (aims_alike (Agree-refl (λ u. true) w) n.right.ids (right_taken (λ u. true) w n (owner_right t p refl n k)) n.header.owner m).plain
+            (λ targets found. answered_plain _ _ (naming_plain w) (λ x at. done_plain Done refl))
 
-    pub set_translator_laws : CallLaws t (λ w. plan_set_translator w t p f words box) (λ w. touches_set_translator w t p f (is_some box))
+    pub set_translator_laws : CallLaws t (λ w. plan_set_translator w t p f words box) (λ w. touches_set_translator w t p f box)
     set_translator_laws = record {
       piece = λ w s. answered_piece s (setter_asks w t p f (is_some box)) _ _ (λ n is. half_whole w s n (setter w (is_some box) n is) (sets_nothing f));
       same = λ S v w c d a ours. answered_same _ _ _ _ (setter_same a ours (is_some box)) (λ n is. half_same c a ours n (setter v (is_some box) n is) (sets_nothing f));
-      plain = λ w. answered_plain _ _ (setter_plain w (is_some box)) (λ n is. half_plain w n (sets_nothing f));
+      plain = λ w. answered_plain _ _ (setter_plain w (is_some box)) (λ n is. half_plain w n (setter w (is_some box) n is) (sets_nothing f));
     }
 
 -- file_get_translator: what it asks is the same in worlds that agree, whose header the caller sees

@@ -1,6 +1,7 @@
 -- The laws of starting a translator, and of giving that up.
-use Rattle.std.proofs.Common.{◌≡◌, ◌∙◌, ℕ, Bool, true, ◌++◌, map, Option, Some, None, not, is_some, ◌&&◌, refl, ap, subst, inl, inr}
+use Rattle.std.proofs.Common.{◌≡◌, ◌∙◌, ℕ, Bool, true, List, ◌++◌, map, Option, Some, None, not, is_some, ◌&&◌, refl, ap, subst, inl, inr}
 use Rattle.std.specs.Prelude.{Result, Ok, Err}
+use Rattle.hurd_creds.specs.declared.name.Name.{Name}
 use Rattle.hurd_creds.specs.declared.errno.Errno.{Errno}
 use Rattle.hurd_creds.specs.declared.errno.Errno.TheVariants.{EBUSY, EDIED, EOVERFLOW, ESRCH}
 use Rattle.hurd_trans_iface.specs.Nodes.{Header}
@@ -10,7 +11,7 @@ use Rattle.hurd_ports.specs.declared.table.Right.TheVariants.{Start}
 use Rattle.hurd_ports.specs.Tables.{Task, can_name, fresh, pending_at, pending_of, start_of}
 use Rattle.hurd_machine.specs.declared.call.Reply.TheVariants.{Done}
 use Rattle.hurd_machine.specs.World.{World, IsAmong, ports_of, task_at, header_at, active_at}
-use Rattle.hurd_machine.specs.Sight.{Part, AttrOf, Seen, Pending}
+use Rattle.hurd_machine.specs.Sight.{Part, AttrOf, Seen, Pending, Taken, UidOfTask, GidOfTask}
 use Rattle.hurd_machine.specs.Sound.{Sound}
 use Rattle.hurd_machine.specs.Touched.{Nothing, asked_parts}
 use Rattle.hurd_machine.proofs.Asks.{IsPlain, IsPlainReply, first_ok, given_ok, on_ok, first_same, given_same, on_same, first_plain, given_plain, on_plain, ok_plain, answered_same, answered_plain, done_plain, refused_plain}
@@ -18,9 +19,11 @@ use Rattle.hurd_machine.proofs.CallLaws.{CallLaws, answered_piece, answered_whol
 use Rattle.hurd_machine.proofs.Frame.{Full}
 use Rattle.hurd_machine.proofs.Opens.{own_task, fresh_new, later_new}
 use Rattle.hurd_machine.proofs.Pending.{pends_whole, starts_whole}
-use Rattle.hurd_machine.proofs.Views.{Agree, same_tasks, header_same, active_same}
+use Rattle.hurd_machine.proofs.Confine.{seen_old}
+use Rattle.hurd_machine.proofs.Views.{Agree, Agree-refl, same_tasks, header_same, active_same}
 use Rattle.hurd_core.specs.Core.{naming_asks}
-use Rattle.hurd_fsys.specs.Starting.{pending_asks, plan_start_failed, plan_startup, same_words, started, startup_asks, touches_start_failed, touches_startup, waiting_asks}
+use Rattle.hurd_fsys.specs.Starting.{Startup, pending_asks, plan_start_failed, plan_startup, same_words, start_aims, started, startup_asks, touches_start_failed, touches_startup, waiting_asks}
+use Rattle.hurd_fsys.proofs.AimsLaws.{aims_alike, aims_seen}
 use Rattle.hurd_fsys.proofs.BegunLaws.{newcomer, begins}
 use Rattle.hurd_machine.proofs.Piece.{Whole, stands}
 
@@ -67,65 +70,81 @@ module _ (t : ℕ) where
     plain = λ w. answered_plain _ _ (pending_plain w) (λ q is. done_plain Done refl);
   }
 
+-- a task of S has its own ids
+task_taken : (S : ℕ → Bool) (w : World) (t : ℕ) (x : Task) → S t ≡ true → task_at w t ≡ Some x → Taken S w x.ids
+task_taken S w t x ours at = record { uids = λ u h. UidOfTask t ours x at h; gids = λ g h. GidOfTask t ours x at h }
+
 -- fsys_startup
 
 module _ (t : ℕ) (m : Meaning) where
   -- where it starts, the node is there, and so is the task
-  record Startable (w : World) (s : PendingStart) (a : Header × Task) : Type 0 where
-    there : header_at w s.node ≡ Some a.0
-    is_task : task_at w t ≡ Some a.1
+  record Startable (w : World) (s : PendingStart) (a : Startup) : Type 0 where
+    there : header_at w s.node ≡ Some a.header
+    is_task : task_at w t ≡ Some a.task
+    aims : start_aims w t m a.header.owner ≡ Ok a.targets
 
-  startable : (w : World) (s : PendingStart) (a : Header × Task) → startup_asks w t s ≡ Ok a → Startable w s a
+  startable : (w : World) (s : PendingStart) (a : Startup) → startup_asks w t m s ≡ Ok a → Startable w s a
   startable w s a is =
       let h = first_ok (waiting_asks w s) _ a is in
-      let x = first_ok (naming_asks w t 2) _ a h.2 in
+      let ns = first_ok (start_aims w t m h.0.owner) _ a h.2 in
+      let x = first_ok (naming_asks w t 2) _ a ns.2 in
       let k = on_ok EDIED (header_at w s.node) _ h.0 h.1 in
       let b = given_ok EBUSY (not (is_some (active_at w s.node)) && same_words k.0.passive s.words) _ h.0 k.2 in
       let y = on_ok ESRCH (task_at w t) _ x.0 x.1 in
       let z = given_ok EOVERFLOW (can_name 2 y.0) _ x.0 y.2 in
       let header : k.0 ≡ h.0 = cc (b.1) in
       let task : y.0 ≡ x.0 = cc (z.1) in
-      let same : ◌≡◌ {A = Header × Task} (h.0, x.0) a = cc (x.2) in
-      subst (Startable w s) same (record { there = k.1 ∙ ap Some header; is_task = y.1 ∙ ap Some task })
+      let same : ◌≡◌ {A = Startup} (record { header = h.0; targets = ns.0; task = x.0 }) a = cc (x.2) in
+      subst (Startable w s) same (record { there = k.1 ∙ ap Some header; is_task = y.1 ∙ ap Some task; aims = ns.1 })
 
-  abbrev parts : PendingStart → Result (Header × Task) Errno → Part → Type 0
+  -- the targets that are found, a task of S saw
+  targets_seen : {S : ℕ → Bool} {w : World} (ours : S t ≡ true) (x : Task) → task_at w t ≡ Some x → (owner : ℕ) (ns : List Name) → start_aims w t m owner ≡ Ok ns → (n : Name) → IsAmong n ns → Seen S w n
+  targets_seen {S} {w} ours x at owner ns is =
+      let y = on_ok ESRCH (task_at w t) _ ns is in
+      aims_seen S w y.0.ids (task_taken S w t y.0 ours y.1) owner m ns y.2
+
+  abbrev parts : PendingStart → Result Startup Errno → Part → Type 0
   parts s r = asked_parts r (λ a p. p ≡ AttrOf s.node)
 
   -- the task is to start nothing any more, or the server comes
-  started_whole : (w : World) → Sound w → (s : PendingStart) → Starter t w s → Whole t (Full w t (parts s (startup_asks w t s))) w w (started t s m (startup_asks w t s)).changes
+  started_whole : (w : World) → Sound w → (s : PendingStart) → Starter t w s → Whole t (Full w t (parts s (startup_asks w t m s))) w w (started t s m (startup_asks w t m s)).changes
   unfolding asked_parts
-  started_whole w st s k = go (startup_asks w t s) refl
+  started_whole w st s k = go (startup_asks w t m s) refl
     where
-      go : (r : Result (Header × Task) Errno) → startup_asks w t s ≡ r → Whole t (Full w t (parts s r)) w w (started t s m r).changes
+      go : (r : Result Startup Errno) → startup_asks w t m s ≡ r → Whole t (Full w t (parts s r)) w w (started t s m r).changes
       go (Err e) is = pends_whole (stands st) t None k.seat k.is_task (own_task w t (parts s (Err e))) tt (λ S ours. tt)
       go (Ok a) is =
           let b = startable w s a is in
-          let later = later_new w t 1 a.1 b.is_task in
-          starts_whole (stands st) (fresh t a.1) s.node _ _ (newcomer w t s.node a.0 (a.0, b.there) m a.1 b.is_task) (begins w t s.node a.0 (a.0, b.there) m a.1 b.is_task)
-          (own_task w t (parts s (Ok a))) (inr (inr later)) (inr (inr later)) (inr (inr later)) (inl refl) (inr (inr (fresh_new w t a.1 b.is_task)))
+          let later = later_new w t 1 a.task b.is_task in
+          let below = λ (q : Name) (among : IsAmong q a.targets). seen_old st.coherent q (targets_seen {S = λ u. true} refl a.task b.is_task a.header.owner a.targets b.aims q among) in
+          starts_whole (stands st) (fresh t a.task) s.node _ _ (newcomer w t s.node a.header (a.header, b.there) m a.task b.is_task a.targets below) (begins w t s.node a.header (a.header, b.there) m a.task b.is_task a.targets below)
+          (own_task w t (parts s (Ok a))) (inr (inr later)) (inr (inr later)) (inr (inr later)) (inl refl) (inr (inr (fresh_new w t a.task b.is_task)))
+          (λ S ours q among. inl (targets_seen ours a.task b.is_task a.header.owner a.targets b.aims q among))
 
   -- in worlds that agree
-  startup_same : {S : ℕ → Bool} {v w : World} → Agree S v w → S t ≡ true → (s : PendingStart) → Starter t v s → startup_asks w t s ≡ startup_asks v t s
+  startup_same : {S : ℕ → Bool} {v w : World} → Agree S v w → S t ≡ true → (s : PendingStart) → Starter t v s → startup_asks w t m s ≡ startup_asks v t m s
   startup_same {S} {v} {w} a ours s k =
       let seen : Seen S v s.node = starter_sees t ours s k in
       first_same _ _ _ _
       (on_same _ _ _ _ _ (header_same a s.node seen) (λ h at. given_same _ _ _ _ _ (ap (λ o. not (is_some o) && same_words h.passive s.words) (active_same a s.node seen)) (λ e. refl)))
-      (λ h is. first_same _ _ _ _ (on_same _ _ _ _ _ (same_tasks a t ours) (λ x at. refl)) (λ x at. refl))
+      (λ h is. first_same _ _ _ _ (on_same _ _ _ _ _ (same_tasks a t ours) (λ x at. (aims_alike a x.ids (task_taken S v t x ours at) h.owner m).same)) (λ ns aims.
+      first_same _ _ _ _ (on_same _ _ _ _ _ (same_tasks a t ours) (λ x at. refl)) (λ x at. refl)))
 
   -- of memory nothing is known
-  startup_plain : (w : World) (s : PendingStart) → IsPlain (startup_asks w t s)
+  pub startup_plain : (w : World) (s : PendingStart) → IsPlain (startup_asks w t m s)
   startup_plain w s =
       first_plain _ _ (on_plain _ _ _ refl (λ h at. given_plain _ _ _ refl (λ e. ok_plain _)))
-      (λ h is. first_plain _ _ (on_plain _ _ _ refl (λ x at. given_plain _ _ _ refl (λ room. ok_plain _))) (λ x at. ok_plain _))
+      (λ h is. first_plain _ _ (on_plain _ _ _ refl (λ x at. (aims_alike (Agree-refl (λ u. true) w) x.ids (task_taken (λ u. true) w t x refl at) h.owner m).plain)) (λ ns aims.
+      first_plain _ _ (on_plain _ _ _ refl (λ x at. given_plain _ _ _ refl (λ room. ok_plain _))) (λ x at. ok_plain _)))
 
-  started_plain : (w : World) (s : PendingStart) → IsPlainReply (started t s m (startup_asks w t s)).reply
-  started_plain w s = go (startup_asks w t s) refl
+  started_plain : (w : World) (s : PendingStart) → IsPlainReply (started t s m (startup_asks w t m s)).reply
+  started_plain w s = go (startup_asks w t m s) refl
     where
-      go : (r : Result (Header × Task) Errno) → startup_asks w t s ≡ r → IsPlainReply (started t s m r).reply
+      go : (r : Result Startup Errno) → startup_asks w t m s ≡ r → IsPlainReply (started t s m r).reply
       go (Err e) is = refused_plain e (startup_plain w s e is)
       go (Ok a) is = done_plain Done refl
 
-  pub startup_laws : CallLaws t (λ w. plan_startup w t m) (λ w. touches_startup w t)
+  pub startup_laws : CallLaws t (λ w. plan_startup w t m) (λ w. touches_startup w t m)
   startup_laws = record {
     piece = λ w s. answered_piece s (pending_asks w t) _ _ (λ q is. started_whole w s q (starter t w q is));
     same = λ S v w c d a ours. answered_same _ _ _ _ (pending_same t a ours) (λ s is. ap (started t s m) (startup_same a ours s (starter t v s is)));

@@ -1,25 +1,29 @@
 -- When starting a translator, or giving that up, answers, and leaves, what its plan says.
-use Rattle.std.proofs.Common.{◌≡◌, ◌∙◌, ℕ, true, false, true≢false, Option, Some, None, inl, inr, refl, sym, ap, subst}
-use Rattle.std.specs.Prelude.{Result, Ok, Err, is_some, option_copied}
+use Rattle.std.proofs.Common.{◌≡◌, ◌∙◌, ℕ, List, true, false, true≢false, Option, Some, None, inl, inr, refl, sym, ap, subst}
+use Rattle.std.specs.Prelude.{Result, Ok, Err, IsOk, is_some, option_copied}
 use Rattle.std.specs.Borrow.{Bor}
 use Rattle.hurd_creds.specs.declared.errno.Errno.{Errno}
-use Rattle.hurd_creds.specs.declared.errno.Errno.TheVariants.{ESRCH}
+use Rattle.hurd_creds.specs.declared.errno.Errno.TheVariants.{ENOMEM, ESRCH}
+use Rattle.hurd_creds.specs.declared.name.Name.{Name}
 use Rattle.hurd_trans_iface.specs.Nodes.{Header}
 use Rattle.hurd_trans_iface.specs.Meaning.{Meaning}
 use Rattle.hurd_ports.specs.declared.table.PendingStart.{PendingStart}
-use Rattle.hurd_ports.specs.Tables.{Task, naming_of, or_refuse, pending_of, task_of}
+use Rattle.hurd_creds.specs.Access.{IdSets}
+use Rattle.hurd_creds.specs.Memory.{is_no_memory}
+use Rattle.hurd_ports.specs.Tables.{Task, ids_at, naming_of, or_refuse, pending_of, task_of}
 use Rattle.hurd_machine.specs.Calls.{Reply}
 use Rattle.hurd_machine.specs.declared.call.Reply.TheVariants.{Done, Refused}
 use Rattle.hurd_machine.specs.World.{World, nodes_of, ports_of}
-use Rattle.hurd_machine.specs.Change.{apply_all, pending}
-use Rattle.hurd_machine.specs.Plan.{Plan, Follows, Tried, answered, first, on}
+use Rattle.hurd_machine.specs.Change.{Change, apply_all, pending}
+use Rattle.hurd_machine.specs.Plan.{Plan, Follows, answered, first, on}
 use Rattle.hurd_machine.proofs.Asks.{first_ok}
 use Rattle.hurd_core.specs.Core.{Does, attaching, naming_asks}
 use Rattle.hurd_core.proofs.CoreLaws.{naming-had, naming-refused}
 use Rattle.hurd_core.proofs.PlanLaws.{follows-from, follows-refused, follows-then}
-use Rattle.hurd_fsys.specs.Setting.{seat_on, server_ids}
-use Rattle.hurd_fsys.specs.Starting.{header_asked, pending_asks, plan_start_failed, plan_startup, started, startup_asks, waiting_asks}
-use Rattle.hurd_fsys.proofs.StartingLaws.{Starter, starter}
+use Rattle.hurd_fsys.specs.Aims.{TriedOr, server_ids}
+use Rattle.hurd_fsys.specs.Setting.{seat_on}
+use Rattle.hurd_fsys.specs.Starting.{StartFinds, StartLacks, Startup, pending_asks, plan_start_failed, plan_startup, start_aims, started, startup_asks, waiting_asks}
+use Rattle.hurd_fsys.proofs.StartingLaws.{Starter, starter, startup_plain}
 
 -- whether something is lent, and what
 
@@ -31,38 +35,55 @@ pub lent_some : {A : Type 0} (o : Option (Bor A)) → is_some o ≡ true → (a 
 lent_some None h = absurd (true≢false (sym h))
 lent_some (Some b) h = (b.now, refl)
 
--- a refusal is one of what is asked
-pub refused_asks : (r : Result (Header × Task) Errno) (e : Errno) → Err e ≡ header_asked r → r ≡ Err e
-refused_asks (Ok a) e h = absurd (cc)
-refused_asks (Err f) e h = cc
+-- with the ids of a task, if it is there
 
--- an answer is one of what is asked, which has a task too
-pub told_asks : (r : Result (Header × Task) Errno) (h : Header) → Ok h ≡ header_asked r → (x : Task) × (r ≡ Ok (h, x))
-told_asks (Err f) h e = absurd (cc)
-told_asks (Ok a) h e = let same : h ≡ a.0 = cc in (a.1, ap (λ (k : Header). let z : Result (Header × Task) Errno = Ok (k, a.1) in z) (sym same))
+pub ids_not : {B : Type 0} (f : IdSets → Result B Errno) (o : Option Task) (e : Errno) → Err e ≡ ids_at o → on ESRCH o (λ x. f x.ids) ≡ Err e
+unfolding on
+ids_not f None e is = cc
+ids_not f (Some x) e is = absurd (cc)
 
--- of a start that waits, and names that are left, to what is asked
+pub ids_had : {B : Type 0} (f : IdSets → Result B Errno) (o : Option Task) (ids : IdSets) → Ok ids ≡ ids_at o → f ids ≡ on ESRCH o (λ x. f x.ids)
+unfolding on
+ids_had f None ids is = absurd (cc)
+ids_had f (Some x) ids is = let same : ids ≡ x.ids = cc in ap f same
 
-module _ (w : World) (t : ℕ) (s : PendingStart) where
-  abbrev then_named : Result Header Errno → Result (Header × Task) Errno
-  then_named r = first r (λ h. first (naming_asks w t 2) (λ x. Ok (h, x)))
+-- of a start that waits, targets that are found, and names that are left, to what is asked
 
-  pub waits_not : (e : Errno) → Err e ≡ waiting_asks w s → Err e ≡ header_asked (startup_asks w t s)
+module _ (w : World) (t : ℕ) (m : Meaning) (s : PendingStart) where
+  abbrev Asked : Type 0
+  Asked = Result Startup Errno
+
+  abbrev then_named : Header → List Name → Result Task Errno → Asked
+  then_named h ns r = first r (λ x. Ok (record { header = h; targets = ns; task = x }))
+
+  abbrev then_aimed : Header → Result (List Name) Errno → Asked
+  then_aimed h r = first r (λ ns. then_named h ns (naming_asks w t 2))
+
+  pub waits_not : (e : Errno) → Err e ≡ waiting_asks w s → startup_asks w t m s ≡ Err e
   unfolding first
-  waits_not e is = ap (λ (r : Result Header Errno). header_asked (then_named r)) is
+  waits_not e is = ap (λ (r : Result Header Errno). first r (λ h. then_aimed h (start_aims w t m h.owner))) (sym is)
 
   module _ (h : Header) (is : Ok h ≡ waiting_asks w s) where
-    waits : (n : Result Task Errno) → naming_asks w t 2 ≡ n → header_asked (first n (λ x. Ok (h, x))) ≡ header_asked (startup_asks w t s)
+    waits : startup_asks w t m s ≡ then_aimed h (start_aims w t m h.owner)
     unfolding first
-    waits n at = ap (λ (n : Result Task Errno). header_asked (first n (λ x. Ok (h, x)))) (sym at) ∙ ap (λ (r : Result Header Errno). header_asked (then_named r)) is
+    waits = ap (λ (r : Result Header Errno). first r (λ h. then_aimed h (start_aims w t m h.owner))) (sym is)
 
-    pub waits_full : (e : Errno) → Err e ≡ naming_of (ports_of w) t 2 → Err e ≡ header_asked (startup_asks w t s)
+    pub aims_not : (e : Errno) → start_aims w t m h.owner ≡ Err e → startup_asks w t m s ≡ Err e
     unfolding first
-    waits_full e full = waits (Err e) (naming-refused (nodes_of w) (ports_of w) t 2 e (sym full))
+    aims_not e none = waits ∙ ap (then_aimed h) none
 
-    pub waits_free : (u : Unit {0}) → Ok u ≡ naming_of (ports_of w) t 2 → Ok h ≡ header_asked (startup_asks w t s)
-    unfolding first
-    waits_free u free = let x = naming-had (nodes_of w) (ports_of w) t 2 u (sym free) in waits (Ok x.0) x.3
+    module _ (ns : List Name) (found : start_aims w t m h.owner ≡ Ok ns) where
+      aimed : startup_asks w t m s ≡ then_named h ns (naming_asks w t 2)
+      unfolding first
+      aimed = waits ∙ ap (then_aimed h) found
+
+      pub waits_full : (e : Errno) → Err e ≡ naming_of (ports_of w) t 2 → startup_asks w t m s ≡ Err e
+      unfolding first
+      waits_full e full = aimed ∙ ap (then_named h ns) (naming-refused (nodes_of w) (ports_of w) t 2 e (sym full))
+
+      pub waits_free : (u : Unit {0}) → Ok u ≡ naming_of (ports_of w) t 2 → (x : Task) × (startup_asks w t m s ≡ Ok (record { header = h; targets = ns; task = x }))
+      unfolding first
+      waits_free u free = let x = naming-had (nodes_of w) (ports_of w) t 2 u (sym free) in (x.0, aimed ∙ ap (then_named h ns) x.3)
 
 module _ (w : World) (t : ℕ) where
   -- it is to start nothing
@@ -75,7 +96,7 @@ module _ (w : World) (t : ℕ) where
   fails_none is = follows-refused w (pending_asks w t) (λ s. record { reply = Done; changes = pending t None }) ESRCH (none_pending is)
 
   pub starts_none : (m : Meaning) → None ≡ pending_of (ports_of w) t → Follows w (plan_startup w t m) (Refused ESRCH) w
-  starts_none m is = follows-refused w (pending_asks w t) (λ s. started t s m (startup_asks w t s)) ESRCH (none_pending is)
+  starts_none m is = follows-refused w (pending_asks w t) (λ s. started t s m (startup_asks w t m s)) ESRCH (none_pending is)
 
   -- it is to start something
 
@@ -98,43 +119,52 @@ module _ (w : World) (t : ℕ) where
     fails_some r y h = follows-then w (pending_asks w t) (λ s. quiet) s r y is_pending (unpended r y h)
 
     module _ (m : Meaning) where
-      planned : (r : Result (Header × Task) Errno) → startup_asks w t s ≡ r → plan_startup w t m ≡ started t s m r
+      planned : (r : Result Startup Errno) → startup_asks w t m s ≡ r → plan_startup w t m ≡ started t s m r
       unfolding answered
-      planned r asks = ap (λ (q : Result PendingStart Errno). answered q (λ s. started t s m (startup_asks w t s))) is_pending ∙ ap (started t s m) asks
+      planned r asks = ap (λ (q : Result PendingStart Errno). answered q (λ s. started t s m (startup_asks w t m s))) is_pending ∙ ap (started t s m) asks
 
       abbrev tells : Unit {0} → Reply
       tells u = Done
 
+      abbrev IsTried : Result (Unit {0}) Errno → World → Type 0
+      IsTried r y = TriedOr (StartLacks w t m) w (plan_startup w t m) tells r y
+
       -- that is refused, and the task is to start nothing any more
-      pub starts_refused : (e : Errno) (r : Reply) (y : World) → Err e ≡ header_asked (startup_asks w t s) → Follows w (answered (task_of (ports_of w) t) (λ x. quiet)) r y
-          → Tried w (plan_startup w t m) tells (Err e) y
-      starts_refused e r y asks h =
-          subst (λ (P : Plan). Tried w P tells (Err e) y) (sym (planned (Err e) (refused_asks (startup_asks w t s) e asks)))
-          (inl (refl, (unpended r y h).1))
+      pub starts_refused : (e : Errno) (r : Reply) (y : World) → false ≡ is_no_memory e → StartFinds w t m s (Err e) → Follows w (answered (task_of (ports_of w) t) (λ x. quiet)) r y → IsTried (Err e) y
+      starts_refused e r y other (inr lacks) h = absurd (true≢false (sym (ap is_no_memory lacks.0) ∙ sym other))
+      starts_refused e r y other (inl asks) h = inl (subst (λ (P : Plan). Follows w P (Refused e) y) (sym (planned (Err e) asks)) (refl, (unpended r y h).1))
 
-      module _ (h : Header) (asks : Ok h ≡ header_asked (startup_asks w t s)) where
-        abbrev both : (x : Task) × (startup_asks w t s ≡ Ok (h, x))
-        both = told_asks (startup_asks w t s) h asks
+      -- memory was wanting for its targets
+      pub starts_lacks : (e : Errno) → true ≡ is_no_memory e → StartFinds w t m s (Err e) → IsTried (Err e) w
+      unfolding first
+      starts_lacks e none (inl never) = absurd (true≢false (none ∙ startup_plain t m w s e never))
+      starts_lacks e none (inr lacks) = inr (ap Err lacks.0, (refl, inr (lacks.1.0, waits_there lacks.1.1)))
+        where
+          waits_there : IsOk (waiting_asks w s) → IsOk (first (pending_asks w t) (waiting_asks w))
+          waits_there there = subst (λ (r : Result PendingStart Errno). IsOk (first r (waiting_asks w))) (sym is_pending) there
 
-        naming : naming_asks w t 2 ≡ Ok both.0
+      module _ (a : Startup) (asks : startup_asks w t m s ≡ Ok a) where
+        abbrev comes : Task → List Change
+        comes = attaching t (seat_on s.node a.header m None true) (server_ids a.header.owner) a.targets m
+
+        naming : naming_asks w t 2 ≡ Ok a.task
         naming =
-            let f = first_ok (waiting_asks w s) _ (h, both.0) both.1 in
-            let x = first_ok (naming_asks w t 2) _ (h, both.0) f.2 in
-            let same : ◌≡◌ {A = Header × Task} (f.0, x.0) (h, both.0) = cc (x.2) in
-            x.1 ∙ ap (λ (z : Header × Task). let r : Result Task Errno = Ok z.1 in r) same
+            let f = first_ok (waiting_asks w s) _ a asks in
+            let ns = first_ok (start_aims w t m f.0.owner) _ a f.2 in
+            let x = first_ok (naming_asks w t 2) _ a ns.2 in
+            let same : ◌≡◌ {A = Startup} (record { header = f.0; targets = ns.0; task = x.0 }) a = cc (x.2) in
+            x.1 ∙ ap (λ (z : Startup). let r : Result Task Errno = Ok z.task in r) same
 
-        does_planned : (r : Result (Unit {0}) Errno) (y : World) (u : Unit {0}) → Does w (naming_asks w t 2) (attaching t (seat_on s.node h m None true) (server_ids h.owner) m) (λ x. u) r y
-            → Tried w (started t s m (Ok (h, both.0))) tells r y
+        does_planned : (r : Result (Unit {0}) Errno) (y : World) (u : Unit {0}) → Does w (naming_asks w t 2) comes (λ x. u) r y → TriedOr (StartLacks w t m) w (started t s m (Ok a)) tells r y
         does_planned (Ok v) y u d =
-            let one : Ok both.0 ≡ Ok d.0 = sym naming ∙ d.1 in
-            let same : both.0 ≡ d.0 = cc in
-            inl (refl, d.3 ∙ ap (λ (x : Task). apply_all (attaching t (seat_on s.node h m None true) (server_ids h.owner) m x) w) (sym same))
+            let one : Ok a.task ≡ Ok d.0 = sym naming ∙ d.1 in
+            let same : a.task ≡ d.0 = cc in
+            inl (refl, d.3 ∙ ap (λ (x : Task). apply_all (comes x) w) (sym same))
         does_planned (Err e) y u d = elim d.1 [
           | inl refused ↦ absurd (cc (naming, refused))
-          | inr lacks ↦ inr (ap Err lacks.0, (d.0, refl))
+          | inr lacks ↦ inr (ap Err lacks.0, (d.0, inl refl))
         ]
 
         -- the server comes
-        pub starts_seated : (r : Result (Unit {0}) Errno) (y : World) (u : Unit {0}) → Does w (naming_asks w t 2) (attaching t (seat_on s.node h m None true) (server_ids h.owner) m) (λ x. u) r y
-            → Tried w (plan_startup w t m) tells r y
-        starts_seated r y u d = subst (λ (P : Plan). Tried w P tells r y) (sym (planned (Ok (h, both.0)) both.1)) (does_planned r y u d)
+        pub starts_seated : (r : Result (Unit {0}) Errno) (y : World) (u : Unit {0}) → Does w (naming_asks w t 2) comes (λ x. u) r y → IsTried r y
+        starts_seated r y u d = subst (λ (P : Plan). TriedOr (StartLacks w t m) w P tells r y) (sym (planned (Ok a) asks)) (does_planned r y u d)

@@ -1,5 +1,6 @@
 pub mod Owned
 pub mod Controls
 pub mod Fsys
+pub mod Aims
 pub mod Setting
 pub mod Starting

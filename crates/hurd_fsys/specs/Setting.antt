@@ -1,13 +1,11 @@
 -- Setting a translator: who may, what goes for it, and what it is given.
-use Rattle.std.specs.Prelude.{◌≡◌, ◌⊎◌, ◌==◌, ◌||◌, ◌&&◌, not, is_some, ℕ, Bool, true, false, if◌then◌else◌, List, [], ◌∷◌, ◌++◌, Option, Some, None, Result, Ok}
-use Rattle.std.specs.FinSet as set
+use Rattle.std.specs.Prelude.{◌≡◌, ◌⊎◌, ◌==◌, ◌||◌, ◌&&◌, not, is_some, ℕ, Bool, true, false, if◌then◌else◌, List, [], ◌∷◌, ◌++◌, Option, Some, None, Result, Ok, IsOk}
 use Rattle.std.specs.Int.RustNames.{bit_and, bit_or}
 use Rattle.hurd_creds.specs.declared.name.Name.{Name}
 use Rattle.hurd_creds.specs.declared.mode.Mode.{Mode}
 use Rattle.hurd_creds.specs.declared.attrs.Kind.{Kind}
 use Rattle.hurd_creds.specs.declared.errno.Errno.{Errno}
 use Rattle.hurd_creds.specs.declared.errno.Errno.TheVariants.{EBUSY, EINVAL, EOPNOTSUPP}
-use Rattle.hurd_creds.specs.Access.{IdSets}
 use Rattle.hurd_creds.specs.declared.trans_flags.TransFlags.{TransFlags}
 use Rattle.hurd_creds.specs.TransBits.{asks_goaway, asks_trans, SET, EXCL, ORPHAN, FORCE}
 use Rattle.hurd_trans_iface.specs.Nodes.{Header, is_dir, has_words, some_words, with_passive}
@@ -23,6 +21,7 @@ use Rattle.hurd_machine.specs.Touched.{asked_parts, Nothing, Goes}
 use Rattle.hurd_core.specs.declared.to_make.ServerToMake.{ServerToMake}
 use Rattle.hurd_machine.specs.declared.call.Setting.{Setting}
 use Rattle.hurd_core.specs.Core.{attaching, naming_asks}
+use Rattle.hurd_fsys.specs.Aims.{HasTargets, aims_asks, lent, server_ids}
 use Rattle.hurd_fsys.specs.Owned.{owned_asks}
 
 -- whether neither half is to be set
@@ -71,10 +70,6 @@ emptying f n (Some q) = if not (asks_trans f.active SET) then [] else if asks_tr
 abbrev pub storing : Setting → Name → List (List ℕ) → List Change
 storing f n words = if asks_trans f.passive SET then EditHeader n (with_passive words) ∷ [] else []
 
--- a server runs with the uid of the node's owner, and no gids
-abbrev pub server_ids : ℕ → IdSets
-server_ids owner = record { uids = set.from_list (owner ∷ []); gids = set.from_list [] }
-
 -- a class of a mode that may read may search too
 abbrev pub with_search : ℕ → ℕ → ℕ → ℕ
 with_search read search m = if bit_and m read == read then bit_or m search else m
@@ -91,12 +86,20 @@ root_kind m = (root_of m.kind m.text).kind
 abbrev pub seat_on : Name → Header → Meaning → Option Name → Bool → ServerToMake
 seat_on n h m instead starts = record { seat = n; owner = h.owner; group = h.group; mode = root_mode (root_kind m) h.mode; instead = instead; starts = starts }
 
--- what is set where something is: the words; then a box, which means this, or none
-abbrev pub seating : World → ℕ → Named → Setting → List (List ℕ) → Option Meaning → Option Name → Plan
-seating w t n f words None old = record { reply = Done; changes = storing f n.right.node words ++ emptying f n.right.node old }
-seating w t n f words (Some m) old =
+-- the targets of a box that is brought, found with what is lent of the port's ids
+abbrev pub box_aims : World → Named → Option Meaning → Result (List Name) Errno
+box_aims w n None = Ok []
+box_aims w n (Some m) = aims_asks w (lent n.right.ids n.header.owner) m
+
+-- what is set where something is: the words; then a box, which means this and has these targets, or none
+abbrev pub seated : World → ℕ → Named → Setting → List (List ℕ) → Option Meaning → Option Name → List Name → Plan
+seated w t n f words None old targets = record { reply = Done; changes = storing f n.right.node words ++ emptying f n.right.node old }
+seated w t n f words (Some m) old targets =
     answered (naming_asks w t 2) (λ x.
-    record { reply = Done; changes = storing f n.right.node words ++ attaching t (seat_on n.right.node n.header m (leaver f old) false) (server_ids n.header.owner) m x })
+    record { reply = Done; changes = storing f n.right.node words ++ attaching t (seat_on n.right.node n.header m (leaver f old) false) (server_ids n.header.owner) targets m x })
+
+abbrev pub seating : World → ℕ → Named → Setting → List (List ℕ) → Option Meaning → Option Name → Plan
+seating w t n f words box old = answered (box_aims w n box) (seated w t n f words box old)
 
 -- with neither half to be set, nothing is
 abbrev pub setting_where : Bool → World → ℕ → Setting → List (List ℕ) → Option Meaning → Named → Plan
@@ -110,6 +113,11 @@ setting w t f words box n = setting_where (sets_nothing f) w t f words box n
 abbrev pub plan_set_translator : World → ℕ → ℕ → Setting → List (List ℕ) → Option Meaning → Plan
 plan_set_translator w t p f words box = answered (setter_asks w t p f (is_some box)) (setting w t f words box)
 
+-- it may want memory for the targets of a box that is brought, where a box may come
+abbrev pub SetLacks : World → ℕ → ℕ → Setting → Option Meaning → Type 0
+SetLacks w t p f None = ⊥
+SetLacks w t p f (Some m) = HasTargets m × IsOk (first (setter_asks w t p f true) (seat_asks w f))
+
 -- a server that goes, if one does
 abbrev pub GoesFor : World → Option Name → Part → Type 0
 GoesFor w None p = ⊥
@@ -119,15 +127,15 @@ GoesFor w (Some q) p = Goes w q p
 abbrev pub seat_parts : World → Setting → Name → Option Name → Part → Type 0
 seat_parts w f n old p = (p ≡ AttrOf n) ⊎ GoesFor w (leaver f old) p
 
-abbrev pub parts_where : Bool → World → Setting → Named → Part → Type 0
-parts_where true w f n = Nothing
-parts_where false w f n = asked_parts (seat_asks w f n) (seat_parts w f n.right.node)
+abbrev pub parts_where : Bool → World → Setting → Option Meaning → Named → Part → Type 0
+parts_where true w f box n = Nothing
+parts_where false w f box n = asked_parts (seat_asks w f n) (λ old. asked_parts (box_aims w n box) (λ targets. seat_parts w f n.right.node old))
 
-abbrev pub setting_parts : World → Setting → Named → Part → Type 0
-setting_parts w f n = parts_where (sets_nothing f) w f n
+abbrev pub setting_parts : World → Setting → Option Meaning → Named → Part → Type 0
+setting_parts w f box n = parts_where (sets_nothing f) w f box n
 
-abbrev pub touches_set_translator : World → ℕ → ℕ → Setting → Bool → Part → Type 0
-touches_set_translator w t p f brings = asked_parts (setter_asks w t p f brings) (setting_parts w f)
+abbrev pub touches_set_translator : World → ℕ → ℕ → Setting → Option Meaning → Part → Type 0
+touches_set_translator w t p f box = asked_parts (setter_asks w t p f (is_some box)) (setting_parts w f box)
 
 -- file_get_translator: the words that are stored with a port's node: EBADF, EDIED, EINVAL
 abbrev pub stored_asks : World → ℕ → ℕ → Result (List (List ℕ)) Errno

@@ -3,6 +3,7 @@
 //! What each answers and changes is its plan in `specs`.
 #![tactic(auto)]
 
+mod aims;
 pub mod fsys;
 mod owned;
 pub mod setting;

@@ -1,5 +1,5 @@
 //! Setting a translator, and telling the words of a passive one (`fs.defs`).
-ghost use Rattle.std.specs.Prelude.{◌≡◌, ◌++◌, IfErr, IfSome, IsNone, Ok};
+ghost use Rattle.std.specs.Prelude.{◌≡◌, ◌++◌, [], IfErr, IfSome, IsNone, Ok};
 ghost use Rattle.std.specs.Option.{option_map};
 ghost use Rattle.hurd_creds.specs.Memory.{Meets};
 ghost use Rattle.hurd_trans_iface.specs.Nodes.{has_words};
@@ -11,8 +11,10 @@ ghost use Rattle.hurd_machine.specs.Plan.{Follows, Planned, told};
 ghost use Rattle.hurd_machine.specs.declared.call.Reply.TheVariants as reply;
 ghost use Rattle.hurd_core.specs.Core.{Does, attaching, naming_asks, without_box, world_of};
 ghost use Rattle.hurd_core.specs.PortNode.{named};
-ghost use Rattle.hurd_fsys.specs.Setting.{emptying, is_excluded, leaver, may_replace, plan_get_translator, plan_set_translator, root_mode, seat_asks, server_ids, sets_nothing, setter_asks, storing, with_search};
+ghost use Rattle.hurd_fsys.specs.Aims.{PlannedOr, server_ids};
+ghost use Rattle.hurd_fsys.specs.Setting.{SetLacks, emptying, is_excluded, leaver, may_replace, plan_get_translator, plan_set_translator, root_mode, seat_asks, sets_nothing, setter_asks, storing, with_search};
 
+use crate::aims::aims;
 use crate::owned::owned;
 use bitflags::Flags;
 use hurd_core::{Core, PortNode, ServerToMake};
@@ -46,7 +48,9 @@ fn leaver(setting: Setting, old: Option<ServerName>) -> Option<ServerName>
 /// Errors, in order, with the box back: `ESRCH` no such task, `EBADF` no such port, or one that controls a server, `EDIED` no such node,
 /// `EPERM` the port's ids don't own it, `EINVAL` a box without active `SET`; with neither `SET` nothing is done; `EOPNOTSUPP` a server's
 /// root, or a node of a server that keeps no tree, `EBUSY` words that are there with passive `EXCL`, an old server with active `EXCL`, or with
-/// active `SET` one with users, without `ORPHAN` and `FORCE`, `EOVERFLOW`, `ENOMEM`. Without a box it takes no memory.
+/// active `SET` one with users, without `ORPHAN` and `FORCE`; of each target of the box in order those of `resolve`, with the uid of the
+/// node's owner where the port's ids hold it or 0, else with no ids; `ENOTDIR` a union's target is no directory, `EOVERFLOW`, `ENOMEM`, which
+/// may come in place of what is asked of targets, or behind that. Without a box it takes no memory.
 pub fn file_set_translator<S: Server>(
     core: &mut Core<S>,
     alloc: Global,
@@ -57,16 +61,18 @@ pub fn file_set_translator<S: Server>(
     server: Option<S>,
 ) -> Result<(), (Errno, Option<S>)>
     requires { IfSome server (λ s. Begins (S.meaning s)) }
-    ensures planned { let w = world_of S.meaning core.old in
-        Planned w (plan_set_translator w task.0 port setting words (option_map S.meaning server)) (λ u. reply.Done) (without_box result) (world_of S.meaning core.new) }
+    ensures planned { let w = world_of S.meaning core.old in let box = option_map S.meaning server in
+        PlannedOr (SetLacks w task.0 port setting box) w (plan_set_translator w task.0 port setting words box) (λ u. reply.Done) (without_box result) (world_of S.meaning core.new) }
     ensures free { let w = world_of S.meaning core.old in
         IsNone server → Follows w (plan_set_translator w task.0 port setting words (option_map S.meaning server)) (told (λ u. reply.Done) (without_box result)) (world_of S.meaning core.new) }
     ensures back { IfErr result (λ e. e.1 ≡ server) }
 {
-    let (node, attrs) = match setter(core, task, port, setting, server.is_some()) {
-        Ok(named) => (named.right.node, named.attrs),
+    let named = match setter(core, task, port, setting, server.is_some()) {
+        Ok(named) => named,
         Err(errno) => return Err((errno, server)),
     };
+    let node = named.right.node;
+    let attrs = named.attrs;
     if sets_nothing(setting) {
         return Ok(());
     }
@@ -82,6 +88,10 @@ pub fn file_set_translator<S: Server>(
             Ok(())
         }
         Some(server) => {
+            let targets = match aims(core, alloc, &named.right.ids, attrs.owner, &server) {
+                Ok(targets) => targets,
+                Err(errno) => return Err((errno, Some(server))),
+            };
             let place = ServerToMake {
                 seat: node,
                 owner: attrs.owner,
@@ -90,7 +100,7 @@ pub fn file_set_translator<S: Server>(
                 instead: leaver(setting, old),
                 starts: false,
             };
-            match seat_with(core, alloc, task, setting, place, words, server) {
+            match seat_with(core, alloc, task, setting, place, words, targets, server) {
                 Ok(()) => Ok(()),
                 Err((errno, server)) => Err((errno, Some(server))),
             }
@@ -170,15 +180,16 @@ pub(crate) fn seat<S: Server>(
     alloc: Global,
     task: TaskId,
     place: ServerToMake,
+    targets: Vec<NodeName>,
     server: S,
 ) -> Result<(), (Errno, S)>
     requires { Begins (S.meaning server) }
     ensures does { let w = world_of S.meaning core.old in
-        Does w (naming_asks w task.0 2) (attaching task.0 place (server_ids place.owner) (S.meaning server)) (λ x. tt) (without_box result) (world_of S.meaning core.new) }
+        Does w (naming_asks w task.0 2) (attaching task.0 place (server_ids place.owner) targets.items (S.meaning server)) (λ x. tt) (without_box result) (world_of S.meaning core.new) }
     ensures back { IfErr result (λ e. e.1 ≡ server) }
 {
     match Ids::new(alloc, &[place.owner], &[]) {
-        Ok(ids) => core.attach(task, place, ids, server),
+        Ok(ids) => core.attach(task, place, ids, targets, server),
         Err(errno) => Err((errno, server)),
     }
 }
@@ -203,12 +214,13 @@ fn seat_with<S: Server>(
     setting: Setting,
     place: ServerToMake,
     words: Words,
+    targets: Vec<NodeName>,
     server: S,
 ) -> Result<(), (Errno, S)>
     requires begins { Begins (S.meaning server) }
     requires may { sets_attrs_at (world_of S.meaning core.old) place.seat ≡ Ok tt }
     ensures does { let w = world_of S.meaning core.old in
-        Does w (naming_asks w task.0 2) (λ x. storing setting place.seat words ++ attaching task.0 place (server_ids place.owner) (S.meaning server) x) (λ x. tt) (without_box result) (world_of S.meaning core.new) }
+        Does w (naming_asks w task.0 2) (λ x. storing setting place.seat words ++ attaching task.0 place (server_ids place.owner) targets.items (S.meaning server) x) (λ x. tt) (without_box result) (world_of S.meaning core.new) }
     ensures back { IfErr result (λ e. e.1 ≡ server) }
 {
     if let Err(errno) = core.naming(task, 2) {
@@ -219,7 +231,7 @@ fn seat_with<S: Server>(
         Err(errno) => return Err((errno, server)),
     };
     store(core, place.seat, setting, words);
-    match seat(core, alloc, task, place, server) {
+    match seat(core, alloc, task, place, targets, server) {
         Ok(()) => Ok(()),
         Err(refused) => {
             store(core, place.seat, setting, kept);

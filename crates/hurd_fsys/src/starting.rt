@@ -3,17 +3,20 @@
 //! In the Hurd the server that has a node starts its passive translator, and that one calls `fsys_startup`. Here both are done by the
 //! task whose lookup came there.
 ghost use Rattle.std.specs.Prelude.{◌≡◌, IfErr, option_copied};
+ghost use Rattle.hurd_creds.specs.Memory.{is_no_memory};
 ghost use Rattle.hurd_trans_iface.specs.Meaning.{Begins};
-ghost use Rattle.hurd_machine.specs.Plan.{Follows, Tried, told};
+ghost use Rattle.hurd_machine.specs.Plan.{Follows, told};
 ghost use Rattle.hurd_machine.specs.declared.call.Reply.TheVariants.{Done};
 ghost use Rattle.hurd_machine.specs.World.{words_at};
 ghost use Rattle.hurd_core.specs.Core.{without_box, world_of};
 ghost use Rattle.hurd_core.specs.PortNode.{or_no_words};
-ghost use Rattle.hurd_fsys.specs.Starting.{header_asked, header_told, plan_start_failed, plan_startup, same_words, startup_asks, waiting_asks};
+ghost use Rattle.hurd_fsys.specs.Aims.{FindsAims, TriedOr};
+ghost use Rattle.hurd_fsys.specs.Starting.{StartFinds, StartLacks, header_told, plan_start_failed, plan_startup, same_words, start_aims, waiting_asks};
 
+use crate::aims::aims;
 use crate::setting::{root_mode, seat};
 use hurd_core::{Core, ServerToMake};
-use hurd_creds::{Attrs, Bytes, Errno, TaskId};
+use hurd_creds::{Attrs, Bytes, Errno, NodeName, TaskId};
 use hurd_ports::PendingStart;
 use hurd_trans_iface::{Server, Words};
 use std::alloc::Global;
@@ -36,7 +39,8 @@ pub fn start_failed<S: Server>(core: &mut Core<S>, task: TaskId) -> Result<(), E
 /// want of memory.
 ///
 /// Errors, in order, with the box back: `ESRCH` no such task, or it is to start nothing, `EDIED` the node is gone, `EBUSY` a server is
-/// active on it, or its words are others than those that the lookup found, `EOVERFLOW`, `ENOMEM`.
+/// active on it, or its words are others than those that the lookup found; of each target in order those of `resolve`, with the uid of the node's owner where the task
+/// holds it or 0, else with no ids; `ENOTDIR` a union's target is no directory, `EOVERFLOW`, `ENOMEM`, which may come in place of what is asked of targets, or behind that.
 pub fn fsys_startup<S: Server>(
     core: &mut Core<S>,
     alloc: Global,
@@ -44,16 +48,17 @@ pub fn fsys_startup<S: Server>(
     server: S,
 ) -> Result<(), (Errno, S)>
     requires { Begins (S.meaning server) }
-    ensures tried { let w = world_of S.meaning core.old in
-        Tried w (plan_startup w task.0 (S.meaning server)) (λ u. Done) (without_box result) (world_of S.meaning core.new) }
+    ensures tried { let w = world_of S.meaning core.old in let m = S.meaning server in
+        TriedOr (StartLacks w task.0 m) w (plan_startup w task.0 m) (λ u. Done) (without_box result) (world_of S.meaning core.new) }
     ensures back { IfErr result (λ e. e.1 ≡ server) }
 {
     let Some(start) = core.pending(task) else {
         return Err((Errno::ESRCH, server));
     };
     let node = start.node;
-    let attrs = match startup_asked(core, task, start) {
-        Ok(attrs) => attrs,
+    let (attrs, targets) = match startup_asked(core, alloc, task, start, &server) {
+        Ok(found) => found,
+        Err(errno) if is_no_memory(errno) => return Err((errno, server)),
         Err(errno) => {
             let _ = core.unpend(task);
             return Err((errno, server));
@@ -67,22 +72,52 @@ pub fn fsys_startup<S: Server>(
         instead: None,
         starts: true,
     };
-    seat(core, alloc, task, place, server)
+    seat(core, alloc, task, place, targets, server)
 }
 
-/// The attributes of the node whose translator a task is to start, where that can be done, and the task can name two things more.
+/// Whether an error is want of memory.
+fn is_no_memory(errno: Errno) -> bool
+    ensures { result ≡ is_no_memory errno }
+{
+    match errno {
+        Errno::ENOMEM => true,
+        _ => false,
+    }
+}
+
+/// The attributes of the node whose translator a task is to start, and the targets of its server, where that can be done, and the task can name two things more.
 ///
-/// Errors, in order: `EDIED`, `EBUSY`, `EOVERFLOW`.
+/// Errors, in order: `EDIED`, `EBUSY`, those of `aims`, `EOVERFLOW`.
 fn startup_asked<S: Server>(
     core: &Core<S>,
+    alloc: Global,
     task: TaskId,
     start: &PendingStart,
-) -> Result<Attrs, Errno>
-    ensures { let w = world_of S.meaning core.now in header_told (words_at w start.now.node) result ≡ header_asked (startup_asks w task.0 start.now) }
+    server: &S,
+) -> Result<(Attrs, Vec<NodeName>), Errno>
+    ensures { StartFinds (world_of S.meaning core.now) task.0 (S.meaning server.now) start.now result }
 {
     let attrs = waiting(core, start)?;
+    let targets = start_aims(core, alloc, task, attrs.owner, server)?;
     core.naming(task, 2)?;
-    Ok(attrs)
+    Ok((attrs, targets))
+}
+
+/// The targets of a server that a task starts for a node of this owner.
+///
+/// Errors: `ESRCH` no such task, those of `aims`.
+fn start_aims<S: Server>(
+    core: &Core<S>,
+    alloc: Global,
+    task: TaskId,
+    owner: u32,
+    server: &S,
+) -> Result<Vec<NodeName>, Errno>
+    ensures { let m = S.meaning server.now in
+        FindsAims m (λ nodes. nodes.items) (start_aims (world_of S.meaning core.now) task.0 m owner) result }
+{
+    let ids = core.ids(task)?;
+    aims(core, alloc, ids, owner, server)
 }
 
 /// The attributes of a node that is there, with nothing active on it, and with the words that a lookup found.

@@ -4,9 +4,11 @@ use Rattle.hurd_small.specs.Hello.{hello_meaning}
 use Rattle.hurd_small.specs.Null.{null_meaning}
 use Rattle.hurd_small.specs.Zero.{zero_meaning}
 use Rattle.hurd_small.specs.Symlink.{symlink_meaning}
+use Rattle.hurd_small.specs.Firmlink.{firmlink_meaning}
+use Rattle.hurd_union.specs.Union.{union_meaning}
 use Rattle.hurd_tmpfs.specs.Tree.{tree}
 use Rattle.hurd_kinds.specs.declared.server_box.ServerBox.{ServerBox}
-use Rattle.hurd_kinds.specs.declared.server_box.ServerBox.TheVariants.{Tmpfs, Hello, Null, Zero, Symlink}
+use Rattle.hurd_kinds.specs.declared.server_box.ServerBox.TheVariants.{Tmpfs, Hello, Null, Zero, Symlink, Firmlink, Union}
 
 -- what the server in the box means
 abbrev pub box_meaning : ServerBox → Meaning
@@ -15,3 +17,5 @@ box_meaning (Hello s) = hello_meaning s.value
 box_meaning (Null s) = null_meaning s.value
 box_meaning (Zero s) = zero_meaning s.value
 box_meaning (Symlink s) = symlink_meaning s.value
+box_meaning (Firmlink s) = firmlink_meaning s.value
+box_meaning (Union s) = union_meaning s.value

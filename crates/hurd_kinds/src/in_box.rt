@@ -15,6 +15,8 @@ macro_rules! in_box {
             ServerBox::Null($server) => $call,
             ServerBox::Zero($server) => $call,
             ServerBox::Symlink($server) => $call,
+            ServerBox::Firmlink($server) => $call,
+            ServerBox::Union($server) => $call,
         }
     };
 }
@@ -40,6 +42,10 @@ impl Server for ServerBox {
 
     fn set_options(&mut self, alloc: Global, words: &Words) -> Result<(), Errno> {
         in_box!(self, server => server.set_options(alloc, words))
+    }
+
+    fn targets(&self, alloc: Global) -> Result<Names, Errno> {
+        in_box!(self, server => server.targets(alloc))
     }
 
     fn attrs(&self, node: NodeName) -> Option<Attrs> {

@@ -7,9 +7,10 @@ ghost use Rattle.hurd_tmpfs.specs.Tree.{new_tmpfs, tree};
 ghost use Rattle.hurd_kinds.specs.Boxes.{box_meaning};
 
 use hurd_creds::Errno;
-use hurd_small::{Hello, Null, Symlink, Zero};
+use hurd_small::{Firmlink, Hello, Null, Symlink, Zero};
 use hurd_tmpfs::Tmpfs;
 use hurd_trans_iface::Words;
+use hurd_union::{Union, new_union};
 use std::alloc::{AllocError, Global};
 
 /// A server of some kind, in a box of its own type, which any of them gives as a `Box<dyn Server>`.
@@ -20,6 +21,8 @@ pub enum ServerBox {
     Null(Box<Null>),
     Zero(Box<Zero>),
     Symlink(Box<Symlink>),
+    Firmlink(Box<Firmlink>),
+    Union(Box<Union>),
 }
 
 /// The server that was made, in a box; none where its kind doesn't take the words.
@@ -51,6 +54,12 @@ pub fn server_for(alloc: Global, words: &Words) -> Result<Option<ServerBox>, All
     }
     if let Some(link) = boxed(alloc, Symlink::new(alloc, words))? {
         return Ok(Some(ServerBox::Symlink(link)));
+    }
+    if let Some(link) = boxed(alloc, Firmlink::new(alloc, words))? {
+        return Ok(Some(ServerBox::Firmlink(link)));
+    }
+    if let Some(union) = boxed(alloc, new_union(alloc, words))? {
+        return Ok(Some(ServerBox::Union(union)));
     }
     Ok(None)
 }

@@ -3,16 +3,26 @@ use Rattle.std.specs.Prelude.{◌≡◌, ◌⊎◌, ℕ, true, false}
 use Rattle.hurd_creds.specs.declared.errno.Errno.TheVariants.{ENOMEM}
 pub use Rattle.hurd_machine.specs.Calls.{lacks_memory}
 use Rattle.hurd_machine.specs.Calls.{Call, Reply, box_in, refusal}
+use Rattle.hurd_machine.specs.declared.call.Call.TheVariants.{FileSetTranslator, FsysStartup}
 use Rattle.hurd_machine.specs.World.{World}
 use Rattle.hurd_machine.specs.Plan.{is_refused}
+use Rattle.hurd_fsys.specs.Setting.{SetLacks}
+use Rattle.hurd_fsys.specs.Starting.{StartLacks}
 use Rattle.hurd_laws.specs.Step.{NeedsNone, reply_of, takes_memory, step}
 
--- want of memory: of a call that takes some, and needs some as the world stands, and that the machine doesn't refuse; nothing is changed, and a box comes back
+-- a call that brings a box that aims at targets, where these are to be found
+abbrev pub FindsTargets : World → ℕ → Call → Type 0
+FindsTargets w t (FileSetTranslator p setting words box) = SetLacks w t p setting box
+FindsTargets w t (FsysStartup box) = StartLacks w t box
+FindsTargets w t _ = ⊥
+
+-- want of memory: of a call that takes some, and needs some as the world stands, and that the machine doesn't refuse, or not before the targets of a box are found;
+-- nothing is changed, and a box comes back
 pub record Lacks (w : World) (t : ℕ) (c : Call) (reply : Reply) (x : World) : Type 0 where
   pub told : reply ≡ refusal (box_in c) ENOMEM
   pub takes : takes_memory c ≡ true
   pub needs : NeedsNone w t c → ⊥
-  pub wanted : is_refused (reply_of w t c) ≡ false
+  pub wanted : (is_refused (reply_of w t c) ≡ false) ⊎ FindsTargets w t c
   pub same : x ≡ w
 
 -- what a call of task t is told, and the world that it leaves: those of the step, or want of memory

@@ -42,6 +42,7 @@ step_by v n (Some (why.Child d)) = 47 ∷ name_in (row_at v.rows d).body n
 step_by v n (Some (why.Parent d)) = codes "/.."
 step_by v n (Some (why.Active m)) = []
 step_by v n (Some (why.ServerRoot m)) = codes "//"
+step_by v n (Some (why.Target m)) = codes "//(target)"
 
 abbrev pub step_of : View → Name → List ℕ
 step_of v n = step_by v n (why_of n v.sight.found)

@@ -21,7 +21,7 @@ use Rattle.hurd_views.specs.declared.rows.ServerRow.{ServerRow}
 use Rattle.hurd_views.specs.declared.view.View.{View}
 use Rattle.hurd_lessons.specs.Changes.{shows}
 use Rattle.hurd_lessons.specs.Lessons.{line_from, names_of, parted}
-use Rattle.hurd_lessons.specs.Places.{place_of}
+use Rattle.hurd_lessons.specs.Places.{node_place, place_of}
 
 -- the words of a passive translator, where it has any
 abbrev pub passive_text : List (List ℕ) → List ℕ
@@ -90,10 +90,20 @@ opened_text (Some o) holders = held_text o holders
 abbrev pub open_text : OpenRow → List ℕ
 open_text r = opened_text r.opened r.holders
 
--- the words by which a server would be made, or that it is gone
-abbrev pub server_text : Option ServerRow → List ℕ
-server_text None = codes "gone"
-server_text (Some s) = codes "options" ++ spaced_words s.options
+-- the places of nodes, each behind a space
+abbrev pub node_places : View → List Name → List ℕ
+node_places v [] = []
+node_places v (n ∷ ns) = (32 ∷ node_place v n) ++ node_places v ns
+
+-- where the nodes are that a server aims at, if it aims at any
+abbrev pub targets_text : View → List Name → List ℕ
+targets_text v [] = []
+targets_text v (n ∷ ns) = codes " targets" ++ node_places v (n ∷ ns)
+
+-- the words by which a server would be made, and what it aims at; or that it is gone
+abbrev pub server_text : View → Option ServerRow → List ℕ
+server_text v None = codes "gone"
+server_text v (Some s) = codes "options" ++ (spaced_words s.options ++ targets_text v s.targets)
 
 -- how many rights there are on a server's nodes
 abbrev pub users_text : ℕ → List ℕ
@@ -105,19 +115,19 @@ with_part words None = words
 with_part words (Some part) = parted words ++ part
 
 -- all that is seen under a name, by its parts
-abbrev pub seen_of : Row → List ℕ
-seen_of r =
+abbrev pub seen_of : View → Row → List ℕ
+seen_of v r =
     with_part (with_part (with_part (with_part (with_part (with_part []
     (option_map node_text r.attributes))
     (body_part r.body))
     (empty_part r.body r.empty))
     (option_map open_text r.opened))
-    (option_map server_text r.server))
+    (option_map (server_text v) r.server))
     (option_map users_text r.users)
 
 -- a name's line, where anything is seen under it
 abbrev pub seen_line : List ℕ → View → Name → List ℕ
-seen_line who v n = if shows (row_at v.rows n) then line_from who (place_of v n) (seen_of (row_at v.rows n)) else []
+seen_line who v n = if shows (row_at v.rows n) then line_from who (place_of v n) (seen_of v (row_at v.rows n)) else []
 
 -- a name's line, if there is a name
 abbrev pub seen_at : List ℕ → View → Option Name → List ℕ

@@ -13,9 +13,11 @@ fn found_from(found: &Found, node: NodeName) -> Option<NodeName>
     ensures { result ≡ option_and_then found_from (why_of node found.now) }
 {
     match found.why(node)? {
-        Why::Child(from) | Why::Parent(from) | Why::Active(from) | Why::ServerRoot(from) => Some(
-            from,
-        ),
+        Why::Child(from)
+        | Why::Parent(from)
+        | Why::Active(from)
+        | Why::ServerRoot(from)
+        | Why::Target(from) => Some(from),
         Why::Root | Why::Held | Why::Way | Why::Controlled | Why::Pending => None,
     }
 }
@@ -90,6 +92,7 @@ fn add_step(text: &mut Vec<u8>, view: &View, node: NodeName) -> Result<(), Alloc
         Some(Why::Child(directory)) => return add_entry(text, view, directory, node),
         Some(Why::Parent(_)) => b"/..",
         Some(Why::ServerRoot(_)) => b"//",
+        Some(Why::Target(_)) => b"//(target)",
     };
     text.extend_from_slice(step)?;
     Ok(())
@@ -130,7 +133,7 @@ fn mark(why: Option<Why>) -> &'static [u8]
 }
 
 /// Where a node is.
-fn node_place(alloc: Global, view: &View, node: NodeName) -> Result<Vec<u8>, AllocError>
+pub(crate) fn node_place(alloc: Global, view: &View, node: NodeName) -> Result<Vec<u8>, AllocError>
     ensures { IfOk result (λ place. place.items ≡ node_place view.now node) }
 {
     let mut place = path(alloc, view, node)?;

@@ -26,7 +26,7 @@ fn add_line(
         return Ok(());
     }
     let place = place(alloc, view, name, row)?;
-    let words = seen_of(alloc, row)?;
+    let words = seen_of(alloc, view, row)?;
     add_from(text, who, place.as_slice(), words.as_slice())
 }
 

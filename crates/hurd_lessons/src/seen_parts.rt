@@ -1,13 +1,15 @@
 //! What is seen under a name, by its parts, in words.
-ghost use Rattle.std.specs.Prelude.{◌≡◌, ◌++◌, IfOk, OnOk};
+ghost use Rattle.std.specs.Prelude.{◌≡◌, ◌∷◌, ◌++◌, IfOk, OnOk};
 ghost use Rattle.std.specs.Option.{option_map};
-ghost use Rattle.hurd_lessons.specs.Seen.{body_part, body_text, bytes_text, empty_part, entry_names, held_text, listing_text, modes_text, node_text, open_text, passive_text, seen_of, server_text, users_text, with_part};
+ghost use Rattle.hurd_lessons.specs.Places.{node_place};
+ghost use Rattle.hurd_lessons.specs.Seen.{body_part, body_text, bytes_text, empty_part, entry_names, held_text, listing_text, modes_text, node_places, node_text, open_text, passive_text, seen_of, server_text, targets_text, users_text, with_part};
 
+use crate::places::node_place;
 use crate::said::part;
-use hurd_creds::{Bytes, OpenFlags};
+use hurd_creds::{Bytes, NodeName, OpenFlags};
 use hurd_lines::{push_escaped, push_if, push_long_number, push_number, push_stat, push_words};
 use hurd_ports::Opened;
-use hurd_views::{BodyRow, EntryRow, NodeRow, OpenRow, Row, ServerRow};
+use hurd_views::{BodyRow, EntryRow, NodeRow, OpenRow, Row, ServerRow, View};
 use std::alloc::{AllocError, Global};
 
 /// Adds the words of a passive translator, where it has any.
@@ -113,16 +115,68 @@ fn push_held(words: &mut Vec<u8>, opened: &Opened, holders: u128) -> Result<(), 
     Ok(())
 }
 
-/// Adds the words by which a server would be made, or that it is gone.
-fn push_server(words: &mut Vec<u8>, server: &Option<ServerRow>) -> Result<(), AllocError>
-    ensures { OnOk result (words.new.items ≡ words.old.items ++ server_text server.now) }
+/// Adds the place of a node, behind a space.
+fn push_place(
+    alloc: Global,
+    words: &mut Vec<u8>,
+    view: &View,
+    node: NodeName,
+) -> Result<(), AllocError>
+    ensures { OnOk result (words.new.items ≡ words.old.items ++ (32 ∷ node_place view.now node)) }
+{
+    words.push(b' ')?;
+    let place = node_place(alloc, view, node)?;
+    words.extend_from_slice(place.as_slice())?;
+    Ok(())
+}
+
+/// Adds the places of these nodes, each behind a space.
+fn push_places(
+    alloc: Global,
+    words: &mut Vec<u8>,
+    view: &View,
+    nodes: &[NodeName],
+) -> Result<(), AllocError>
+    ensures { OnOk result (words.new.items ≡ words.old.items ++ node_places view.now nodes.now) }
+{
+    for node in nodes {
+        push_place(alloc, words, view, *node)?;
+    }
+    Ok(())
+}
+
+/// Adds where the nodes are that a server aims at, if it aims at any.
+fn push_targets(
+    alloc: Global,
+    words: &mut Vec<u8>,
+    view: &View,
+    targets: &[NodeName],
+) -> Result<(), AllocError>
+    ensures { OnOk result (words.new.items ≡ words.old.items ++ targets_text view.now targets.now) }
+{
+    if targets.is_empty() {
+        return Ok(());
+    }
+    words.extend_from_slice(b" targets")?;
+    push_places(alloc, words, view, targets)
+}
+
+/// Adds the words by which a server would be made, and what it aims at; or that it is gone.
+fn push_server(
+    alloc: Global,
+    words: &mut Vec<u8>,
+    view: &View,
+    server: &Option<ServerRow>,
+) -> Result<(), AllocError>
+    ensures { OnOk result (words.new.items ≡ words.old.items ++ server_text view.now server.now) }
 {
     let Some(server) = server else {
         words.extend_from_slice(b"gone")?;
         return Ok(());
     };
     words.extend_from_slice(b"options")?;
-    push_words(words, server.options.as_slice())
+    push_words(words, server.options.as_slice())?;
+    push_targets(alloc, words, view, server.targets.as_slice())
 }
 
 /// Adds the part of a node's attributes, where they are seen.
@@ -175,14 +229,19 @@ fn add_open(words: &mut Vec<u8>, row: &Option<OpenRow>) -> Result<(), AllocError
 }
 
 /// Adds the part of a server, where it is seen.
-fn add_server(words: &mut Vec<u8>, server: &Option<Option<ServerRow>>) -> Result<(), AllocError>
-    ensures { OnOk result (words.new.items ≡ with_part words.old.items (option_map server_text server.now)) }
+fn add_server(
+    alloc: Global,
+    words: &mut Vec<u8>,
+    view: &View,
+    server: &Option<Option<ServerRow>>,
+) -> Result<(), AllocError>
+    ensures { OnOk result (words.new.items ≡ with_part words.old.items (option_map (server_text view.now) server.now)) }
 {
     let Some(server) = server else {
         return Ok(());
     };
     part(words)?;
-    push_server(words, server)
+    push_server(alloc, words, view, server)
 }
 
 /// Adds how many rights there are on a server's nodes, where that is seen.
@@ -198,15 +257,15 @@ fn add_users(words: &mut Vec<u8>, users: Option<u128>) -> Result<(), AllocError>
 }
 
 /// What is seen under a name, by its parts.
-pub(crate) fn seen_of(alloc: Global, row: &Row) -> Result<Vec<u8>, AllocError>
-    ensures { IfOk result (λ words. words.items ≡ seen_of row.now) }
+pub(crate) fn seen_of(alloc: Global, view: &View, row: &Row) -> Result<Vec<u8>, AllocError>
+    ensures { IfOk result (λ words. words.items ≡ seen_of view.now row.now) }
 {
     let mut words = Vec::new(alloc);
     add_node(&mut words, &row.attributes)?;
     add_body(&mut words, &row.body)?;
     add_empty(&mut words, &row.body, row.empty)?;
     add_open(&mut words, &row.opened)?;
-    add_server(&mut words, &row.server)?;
+    add_server(alloc, &mut words, view, &row.server)?;
     add_users(&mut words, row.users)?;
     Ok(words)
 }

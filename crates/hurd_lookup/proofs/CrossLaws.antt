@@ -1,6 +1,6 @@
 -- Crossing the root of a server, by what the server is.
 use Rattle.std.proofs.Common.{◌≡◌, ◌∙◌, ℕ, Bool, true, false, not, ◌&&◌, is_some, if◌then◌else◌, List, Option, Some, None, option_map, refl, sym, ap, ap₂}
-use Rattle.std.specs.Prelude.{Result, Ok}
+use Rattle.std.specs.Prelude.{Result, Ok, slice_get}
 use Rattle.hurd_creds.specs.declared.name.Name.{Name}
 use Rattle.hurd_creds.specs.declared.attrs.Attrs.{Attrs}
 use Rattle.hurd_creds.specs.declared.errno.Errno.{Errno}
@@ -10,14 +10,14 @@ use Rattle.hurd_trans_iface.specs.Nodes.{Header}
 use Rattle.hurd_trans_iface.specs.Meaning.{root_of}
 use Rattle.hurd_trans_iface.specs.declared.root.Root.{Root}
 use Rattle.hurd_trans_iface.specs.declared.root.Crossing.{Crossing}
-use Rattle.hurd_trans_iface.specs.declared.root.Crossing.TheVariants.{Plain, Link}
+use Rattle.hurd_trans_iface.specs.declared.root.Crossing.TheVariants.{Plain, Link, Firm, Union}
 use Rattle.hurd_nodes.specs.Shown.{ServerInfo}
 use Rattle.hurd_ports.specs.declared.table.IoRight.{IoRight}
-use Rattle.hurd_machine.specs.World.{World, header_at, info_at, words_at}
+use Rattle.hurd_machine.specs.World.{World, header_at, info_at, targets_at, targets_in, words_at}
 use Rattle.hurd_machine.specs.Plan.{on, first}
 use Rattle.hurd_core.specs.PortNode.{header_with}
 use Rattle.hurd_lookup.specs.declared.request.Request.{Request}
-use Rattle.hurd_lookup.specs.Lookup.{Place, cross, crossing, enter, follow, is_last}
+use Rattle.hurd_lookup.specs.Lookup.{Place, cross, crossing, enter, follow, hold_on, is_last}
 use Rattle.hurd_lookup.specs.Ends.{text_at, text_by}
 
 -- a node whose attributes are told is there
@@ -36,24 +36,32 @@ module _ (w : World) (root : Name) (h : Header) (there : header_at w root ≡ So
 
   module _ (q : IoRight) (r : Request) (d : Name) (names : List (List ℕ)) where
     abbrev crossed : Option Header → Option ServerInfo → Result Place Errno
-    crossed o s = first (on EDIED o (λ g. on EDIED s (λ i. Ok i))) (λ i. crossing (root_of i.kind i.text).crossing q r d root i.text names)
+    crossed o s = first (on EDIED o (λ g. on EDIED s (λ i. Ok i))) (λ i. crossing w (root_of i.kind i.text).crossing q r d root i names)
 
-    served : let i = info-of.0 in cross w q r d root names ≡ crossing x.crossing q r d root i.text names
+    abbrev by_crossing : Crossing → Result Place Errno
+    by_crossing y = crossing w y q r d root info-of.0 names
+
+    served : (y : Crossing) → x.crossing ≡ y → cross w q r d root names ≡ by_crossing y
     unfolding on first
-    served =
+    served y is =
         let i = info-of in
-        ap₂ crossed there i.1 ∙ ap (λ (y : Root). crossing y.crossing q r d root i.0.text names) i.2
+        ap₂ crossed there i.1 ∙ ap (λ (z : Root). by_crossing z.crossing) i.2 ∙ ap by_crossing is
 
     pub cross-plain : x.crossing ≡ Plain → cross w q r d root names ≡ enter q r d root names
-    cross-plain plain = served ∙ ap (λ (y : Crossing). crossing y q r d root info-of.0.text names) plain
+    cross-plain plain = served Plain plain
+
+    pub cross-union : x.crossing ≡ Union → cross w q r d root names ≡ enter q r d root names
+    cross-union union = served Union union
+
+    pub cross-firm : (targets : List Name) (o : Option Name) → x.crossing ≡ Firm → targets ≡ targets_at w root → o ≡ slice_get targets 0 → cross w q r d root names ≡ hold_on w q r d o names
+    cross-firm targets o firm told first_is =
+        served Firm firm ∙ ap (λ (n : Option Name). hold_on w q r d n names) (sym (first_is ∙ ap (λ (ns : List Name). slice_get ns 0) (told ∙ ap targets_in info-of.1)))
 
     pub cross-final : (a : Bool) → x.crossing ≡ Link a → true ≡ (is_last names && asks r.flags NOLINK) → cross w q r d root names ≡ enter q r d root names
-    cross-final a link final =
-        served ∙ ap (λ (y : Crossing). crossing y q r d root info-of.0.text names) link
-        ∙ ap (λ (b : Bool). if b then enter q r d root names else follow a q r d info-of.0.text names) (sym final)
+    cross-final a link final = served (Link a) link ∙ ap (λ (b : Bool). if b then enter q r d root names else follow a q r d info-of.0.text names) (sym final)
 
     pub cross-along : (a : Bool) → x.crossing ≡ Link a → false ≡ (is_last names && asks r.flags NOLINK) → cross w q r d root names ≡ follow a q r d (text_at w root) names
     cross-along a link final =
-        served ∙ ap (λ (y : Crossing). crossing y q r d root info-of.0.text names) link
+        served (Link a) link
         ∙ ap (λ (b : Bool). if b then enter q r d root names else follow a q r d info-of.0.text names) (sym final)
         ∙ ap (λ (text : List ℕ). follow a q r d text names) (sym (ap text_by info-of.1))

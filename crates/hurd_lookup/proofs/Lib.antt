@@ -1,5 +1,7 @@
 pub mod AlikeLaws
 pub mod WalkLaws
+pub mod ResolveLaws
+pub mod LegLaws
 pub mod EndLaws
 pub mod OutcomeLaws
 pub mod FoundLaws

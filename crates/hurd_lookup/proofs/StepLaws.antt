@@ -8,9 +8,9 @@ use Rattle.hurd_machine.specs.World.{World}
 use Rattle.hurd_machine.specs.Plan.{first}
 use Rattle.hurd_lookup.specs.declared.request.Request.{Request}
 use Rattle.hurd_lookup.specs.declared.walk.Next.{Next}
-use Rattle.hurd_lookup.specs.declared.walk.Next.TheVariants.{Absent}
+use Rattle.hurd_lookup.specs.declared.walk.Next.TheVariants.{Absent, Branch}
 use Rattle.hurd_lookup.specs.Path.{names_in}
-use Rattle.hurd_lookup.specs.Lookup.{Place, arrive, is_last, miss, step_asks, stepped, walk}
+use Rattle.hurd_lookup.specs.Lookup.{Place, arrive, go_into, is_last, miss, step_asks, stepped, walk}
 
 module _ (w : World) (q : IoRight) (r : Request) (here : Name) where
   -- a name that no entry has
@@ -19,6 +19,13 @@ module _ (w : World) (q : IoRight) (r : Request) (here : Name) where
   unfolding first
   step-missed name names last asked is onward =
       ap (λ (s : Result Next Errno). first s (stepped w q r here name names onward)) (sym asked) ∙ ap (miss r here name) (sym is)
+
+  -- one that a branch shows
+  pub step-branch : (name : List ℕ) (names path : List (List ℕ)) (b : Name) → Ok (Branch b) ≡ step_asks w q here name → path ≡ name ∷ names → (onward : Name → Result Place Errno)
+      → first (step_asks w q here name) (stepped w q r here name names onward) ≡ Ok (go_into q r b path)
+  unfolding first
+  step-branch name names path b asked is onward =
+      ap (λ (s : Result Next Errno). first s (stepped w q r here name names onward)) (sym asked) ∙ ap (λ (ns : List (List ℕ)). Ok (go_into q r b ns)) (sym is)
 
   -- from here on, by the first name
 

@@ -1,4 +1,6 @@
 pub mod Path
 pub mod Lookup
 pub mod Getroot
+pub mod Resolve
+pub mod Legs
 pub mod Ends

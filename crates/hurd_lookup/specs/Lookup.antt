@@ -1,5 +1,5 @@
 -- One lookup: where the names lead, and what is opened or made there, looked up elsewhere, or to be started first.
-use Rattle.std.specs.Prelude.{◌≡◌, ◌⊎◌, ℕ, ◌&&◌, ◌||◌, not, Bool, true, false, if◌then◌else◌, List, [], ◌∷◌, codes, Option, Some, None, Result, Ok, Err, length, nat_le, is_some, option_and_then}
+use Rattle.std.specs.Prelude.{◌≡◌, ◌⊎◌, ℕ, ◌&&◌, ◌||◌, not, Bool, true, false, if◌then◌else◌, List, [], ◌∷◌, codes, Option, Some, None, Result, Ok, Err, length, nat_le, is_some, slice_get, option_and_then}
 use Rattle.std.specs.Str.{bytes_eq}
 use Rattle.std.specs.Option.{option_map}
 use Rattle.std.specs.FinSet as set
@@ -19,7 +19,7 @@ use Rattle.hurd_trans_iface.specs.Nodes.{Header, is_dir, passive_of}
 use Rattle.hurd_trans_iface.specs.Answers.{entry_of}
 use Rattle.hurd_trans_iface.specs.Meaning.{root_of}
 use Rattle.hurd_trans_iface.specs.declared.root.Crossing.{Crossing}
-use Rattle.hurd_trans_iface.specs.declared.root.Crossing.TheVariants.{Plain, Link}
+use Rattle.hurd_trans_iface.specs.declared.root.Crossing.TheVariants.{Plain, Link, Firm, Union}
 use Rattle.hurd_nodes.specs.Shown.{ServerInfo}
 use Rattle.hurd_ports.specs.Limits.{most_parents}
 use Rattle.hurd_ports.specs.declared.parents.Parent.{Parent}
@@ -36,10 +36,11 @@ use Rattle.hurd_machine.specs.Change.{Change, opening, pending}
 use Rattle.hurd_machine.specs.Plan.{Plan, on, given, first, answered}
 use Rattle.hurd_machine.specs.Sight.{Part, EmptyOf, BodyOf, UsersOf, bare}
 use Rattle.hurd_machine.specs.Touched.{asked_parts, OnNode}
+use Rattle.hurd_core.specs.Branches.{branches_at}
 use Rattle.hurd_core.specs.Core.{NewNodeAt, room_asks, making_open}
 use Rattle.hurd_lookup.specs.declared.request.Request.{Request}
 use Rattle.hurd_lookup.specs.declared.walk.Next.{Next}
-use Rattle.hurd_lookup.specs.declared.walk.Next.TheVariants.{There, Entry, Back, Absent}
+use Rattle.hurd_lookup.specs.declared.walk.Next.TheVariants.{There, Entry, Branch, Back, Absent}
 use Rattle.hurd_lookup.specs.Path.{names_in, ends_with_slash, is_short, rest_of, onto}
 
 -- a port that a lookup makes: on which node, with which ids, and come in by which ways
@@ -73,23 +74,34 @@ step_up w ways d h =
     else if is_server_root w d then Ok (There d)
     else to_parent h.parent
 
-abbrev pub or_absent : Option Name → Next
-or_absent None = Absent
-or_absent (Some n) = Entry n
+-- whether a node, by its header, is a directory that these ids may search, and has the name
+abbrev pub shows_name : World → IdSets → List ℕ → Name → Option Header → Bool
+shows_name w ids name b None = false
+shows_name w ids name b (Some h) = if is_dir h.kind then may ids (bare h) Exec && is_some (entry_of name (body_at w b)) else false
 
--- where a name leads from a directory: `.` stays, `..` goes up, any other name is an entry's
-abbrev pub step_by : World → List Parent → Name → Header → List ℕ → Result Next Errno
-step_by w ways d h name =
+-- the first of these directories that shows a name
+abbrev pub branch_in : World → IdSets → List ℕ → List Name → Next
+branch_in w ids name [] = Absent
+branch_in w ids name (b ∷ bs) = if shows_name w ids name b (header_at w b) then Branch b else branch_in w ids name bs
+
+-- an entry's node, or else what follows
+abbrev pub entry_or : Option Name → Next → Next
+entry_or None next = next
+entry_or (Some n) next = Entry n
+
+-- where a name leads from a directory: `.` stays, `..` goes up, any other name is an entry's, or one of a branch
+abbrev pub step_by : World → IoRight → Name → Header → List ℕ → Result Next Errno
+step_by w q d h name =
     if bytes_eq name (codes ".") then Ok (There d)
-    else if bytes_eq name (codes "..") then step_up w ways d h
-    else Ok (or_absent (entry_of name (body_at w d)))
+    else if bytes_eq name (codes "..") then step_up w q.parents d h
+    else Ok (entry_or (entry_of name (body_at w d)) (branch_in w q.ids name (branches_at w d)))
 
 -- one name, looked up in a node by a port's right: the node is a directory, which the ids may search
 abbrev pub step_asks : World → IoRight → Name → List ℕ → Result Next Errno
 step_asks w q d name =
     on EDIED (header_at w d) (λ h.
     given ENOTDIR (is_dir h.kind) (
-    given EACCES (may q.ids (bare h) Exec) (step_by w q.parents d h name)))
+    given EACCES (may q.ids (bare h) Exec) (step_by w q d h name)))
 
 -- whether a node that is there is refused
 abbrev pub is_exclusive : Request → Bool
@@ -118,6 +130,15 @@ go_back w r names (way ∷ ways) =
     on EDIED (header_at w way.parent) (λ h.
     Ok (Elsewhere Reauth (rest_of names r.slash) (Some (record { node = way.parent; ids = no_ids; parents = ways }))))
 
+-- the ways of a port in a union, into one of its branches: that stands in the union's place
+abbrev pub ways_into : Name → List Parent → List Parent
+ways_into b [] = []
+ways_into b (way ∷ ways) = record way { at = b } ∷ ways
+
+-- on at a branch of a union, with the name that it shows, by a port without ids
+abbrev pub go_into : IoRight → Request → Name → List (List ℕ) → Place
+go_into q r b names = Elsewhere Reauth (rest_of names r.slash) (Some (record { node = b; ids = no_ids; parents = ways_into b q.parents }))
+
 -- into a server, which is active on a node of this directory, by its root: ELOOP past the ways that a port may have. The last node is opened there, and more names are
 -- looked up there
 abbrev pub enter : IoRight → Request → Name → Name → List (List ℕ) → Result Place Errno
@@ -137,10 +158,21 @@ abbrev pub follow : Bool → IoRight → Request → Name → List ℕ → List 
 follow absolute q r d text names =
     let name = onto text (rest_of names r.slash) in given ENAMETOOLONG (nat_le (length name) most_path) (Ok (link_place absolute q d name))
 
--- by what the root of a server is: a link leads on, unless it is the last and NOLINK is set, and any other is entered
-abbrev pub crossing : Crossing → IoRight → Request → Name → Name → List ℕ → List (List ℕ) → Result Place Errno
-crossing Plain q r d root text names = enter q r d root names
-crossing (Link absolute) q r d root text names = if is_last names && asks r.flags NOLINK then enter q r d root names else follow absolute q r d text names
+-- on at the node at which a server aims that is active on a node of this directory, by a port without ids: EDIED where it is gone, ELOOP past the ways that a port may have
+abbrev pub hold_on : World → IoRight → Request → Name → Option Name → List (List ℕ) → Result Place Errno
+hold_on w q r d None names = Err EDIED
+hold_on w q r d (Some n) names =
+    on EDIED (header_at w n) (λ h.
+    let ways = record { at = n; parent = d } ∷ q.parents in
+    given ELOOP (nat_le (length ways) most_parents) (
+    Ok (Elsewhere Reauth (rest_of names r.slash) (Some (record { node = n; ids = no_ids; parents = ways })))))
+
+-- by what the root of a server is: a link leads on, unless it is the last and NOLINK is set, a firm link to its target, and any other is entered
+abbrev pub crossing : World → Crossing → IoRight → Request → Name → Name → ServerInfo → List (List ℕ) → Result Place Errno
+crossing w Plain q r d root i names = enter q r d root names
+crossing w (Link absolute) q r d root i names = if is_last names && asks r.flags NOLINK then enter q r d root names else follow absolute q r d i.text names
+crossing w Firm q r d root i names = hold_on w q r d (slice_get i.targets 0) names
+crossing w Union q r d root i names = enter q r d root names
 
 -- the server of a root that is there
 abbrev pub root_asks : World → Name → Result ServerInfo Errno
@@ -150,7 +182,7 @@ root_asks w root =
 
 -- across the root of a server that is active on a node of this directory
 abbrev pub cross : World → IoRight → Request → Name → Name → List (List ℕ) → Result Place Errno
-cross w q r d root names = first (root_asks w root) (λ i. crossing (root_of i.kind i.text).crossing q r d root i.text names)
+cross w q r d root names = first (root_asks w root) (λ i. crossing w (root_of i.kind i.text).crossing q r d root i names)
 
 -- the root of the server that is active on a node, if one is
 abbrev pub root_on : World → Name → Option Name
@@ -184,6 +216,7 @@ abbrev pub stepped : World → IoRight → Request → Name → List ℕ → Lis
 stepped w q r d name names onward (There n) = onward n
 stepped w q r d name names onward (Entry n) = over w q r d n (to_cross w r n names) names (onward n)
 stepped w q r d name names onward Back = go_back w r names q.parents
+stepped w q r d name names onward (Branch b) = Ok (go_into q r b (name ∷ names))
 stepped w q r d name names onward Absent = miss r d name (is_last names)
 
 -- from a directory along the names, by a port's right

@@ -4,7 +4,7 @@ ghost use Rattle.hurd_creds.specs.Memory.{Meets};
 ghost use Rattle.hurd_ports.specs.Limits.{most_parents};
 ghost use Rattle.hurd_core.specs.Core.{Does, room_asks, world_of};
 ghost use Rattle.hurd_machine.specs.Change.{opening};
-ghost use Rattle.hurd_lookup.specs.Lookup.{no_ids};
+ghost use Rattle.hurd_lookup.specs.Lookup.{no_ids, ways_into};
 ghost use Rattle.hurd_lookup.specs.Ends.{right_by, ways_by, port_of, port_told, port_without_ids};
 
 use hurd_core::Core;
@@ -38,6 +38,21 @@ impl Authority<'_> {
             Some(way) => self.right.parents.entered(alloc, way),
             None => self.right.parents.copied(alloc),
         }
+    }
+
+    /// The port's ways, where the latest leads into a branch of the union that it came in by.
+    pub(crate) fn ways_into(&self, alloc: Global, branch: NodeName) -> Result<Parents, AllocError>
+        ensures { IfOk result (λ ways. ways ≡ ways_into branch (right_by self.now).parents) }
+    {
+        let ways = self.right.parents.as_slice();
+        let Some(way) = ways.first() else {
+            return Ok(Parents::none(alloc));
+        };
+        let way = Parent {
+            at: branch,
+            parent: way.parent,
+        };
+        self.right.parents.left(alloc)?.entered(alloc, way)
     }
 
     /// A port with the ids that this goes by.

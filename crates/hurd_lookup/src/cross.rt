@@ -6,7 +6,7 @@ ghost use Rattle.hurd_machine.specs.World.{World};
 ghost use Rattle.hurd_ports.specs.declared.table.IoRight.{IoRight};
 ghost use Rattle.hurd_core.specs.Core.{world_of};
 ghost use Rattle.hurd_lookup.specs.Path.{names_in};
-ghost use Rattle.hurd_lookup.specs.Lookup.{cross, crossed_at, enter, follow, is_last, root_on, to_cross};
+ghost use Rattle.hurd_lookup.specs.Lookup.{cross, crossed_at, enter, follow, hold_on, is_last, root_on, to_cross};
 ghost use Rattle.hurd_lookup.specs.Ends.{CanGo, Finds, crossed_of, place_of, right_by, text_at};
 
 use crate::authority::Authority;
@@ -124,6 +124,41 @@ fn follow<'a, S: Server>(
     }))
 }
 
+/// On at the node at which a server aims that is active on a node of this directory.
+///
+/// Errors, in order: `EDIED` there is none, or it is gone, `ELOOP` a port came in by 64 ways.
+#[tactic(auto, unfolding(hurd_machine::specs::Plan::on, hurd_machine::specs::Plan::given))]
+fn hold_on<'a, S: Server>(
+    core: &Core<S>,
+    authority: Authority,
+    request: Request,
+    dir: NodeName,
+    target: Option<NodeName>,
+    rest: &'a [u8],
+) -> Result<Place<'a>, Errno>
+    ensures { let w = world_of S.meaning core.now in let q = right_by authority.entry in
+        Finds (place_of w q) (CanGo w q) (hold_on w q request dir target (names_in rest.entry.now)) result }
+{
+    let Some(node) = target else {
+        return Err(Errno::EDIED);
+    };
+    if core.attrs(node).is_none() {
+        return Err(Errno::EDIED);
+    }
+    if authority.right.parents.is_full() {
+        return Err(Errno::ELOOP);
+    }
+    let way = Parent {
+        at: node,
+        parent: dir,
+    };
+    Ok(Place::Elsewhere(Retry {
+        onward: Onward::Aimed(way),
+        rest,
+        slash: request.slash,
+    }))
+}
+
 /// Whether a link is not followed: it is the last node, and `NOLINK` is set.
 fn is_final(request: Request, rest: &[u8]) -> bool
     ensures { result ≡ (is_last (names_in rest.now) && asks request.flags NOLINK) }
@@ -132,9 +167,9 @@ fn is_final(request: Request, rest: &[u8]) -> bool
 }
 
 /// Across the root of a server that is active on a node of this directory: a link leads on, unless it is the last and
-/// `NOLINK` is set, and any other is entered.
+/// `NOLINK` is set, a firm link leads to its target, and any other is entered.
 ///
-/// Errors, in order: `EDIED` the root is gone, `ENAMETOOLONG` along a link, `ELOOP` into any other.
+/// Errors, in order: `EDIED` the root is gone, or a firm link's target, `ENAMETOOLONG` along a link, `ELOOP` along a firm link or into any other.
 #[tactic(auto, unfolding(hurd_machine::specs::Plan::on, hurd_machine::specs::Plan::first))]
 pub(crate) fn cross<'a, S: Server>(
     core: &Core<S>,
@@ -155,6 +190,11 @@ pub(crate) fn cross<'a, S: Server>(
     };
     match served.crossing {
         Crossing::Plain => enter(authority, request, dir, root, rest),
+        Crossing::Union => enter(authority, request, dir, root, rest),
+        Crossing::Firm => {
+            let target = core.targets_at(root).first().copied();
+            hold_on(core, authority, request, dir, target, rest)
+        }
         Crossing::Link { absolute } => {
             if is_final(request, rest) {
                 return enter(authority, request, dir, root, rest);

@@ -52,7 +52,11 @@ impl<'p> FoundAt<'_, 'p> {
                     core.ids(task)?;
                     Ok(())
                 }
-                Onward::Within(_) | Onward::Back(_) | Onward::Beside(_, _) => core.room(task, 1),
+                Onward::Within(_)
+                | Onward::Aimed(_)
+                | Onward::Into(_)
+                | Onward::Back(_)
+                | Onward::Beside(_, _) => core.room(task, 1),
             },
             Outcome::Starts(_) => {
                 core.ids(task)?;

@@ -5,7 +5,7 @@
 //! a retry; at a translator that waits on a node, what is to be started first. What it answers and changes is `plan_lookup` of
 //! `specs/Lookup`. `fsys_getroot` opens the root of a server that a port controls, as where that is crossed.
 //!
-//! They follow no retries: that is the client's loop.
+//! They follow no retries: that is the client's loop. `resolve` is that loop inside the core, for the targets of servers.
 #![tactic(auto)]
 
 mod authority;
@@ -16,6 +16,7 @@ pub mod getroot;
 pub mod lookup;
 mod path;
 mod request;
+pub mod resolve;
 mod rest;
 mod retry;
 mod walk;

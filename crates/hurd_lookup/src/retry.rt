@@ -19,6 +19,10 @@ use std::alloc::{AllocError, Global};
 pub(crate) enum Onward {
     /// In a server, entered by this way.
     Within(Parent),
+    /// At the node at which a server aims, come to by this way.
+    Aimed(Parent),
+    /// In a branch of the union that the port came in by.
+    Into(NodeName),
     /// At the node from which the server was entered that the port came in by.
     Back(NodeName),
     /// From the directory in which a link stands, along that, by its root.
@@ -52,7 +56,9 @@ impl Onward {
     {
         match self {
             Onward::Within(_) => RetryKind::Normal,
-            Onward::Back(_) | Onward::Beside(_, _) => RetryKind::Reauth,
+            Onward::Aimed(_) | Onward::Into(_) | Onward::Back(_) | Onward::Beside(_, _) => {
+                RetryKind::Reauth
+            }
             Onward::FromTop(_) => RetryKind::Magical,
         }
     }
@@ -63,7 +69,7 @@ impl Onward {
     {
         match self {
             Onward::Beside(_, root) | Onward::FromTop(root) => Some(root),
-            Onward::Within(_) | Onward::Back(_) => None,
+            Onward::Within(_) | Onward::Aimed(_) | Onward::Into(_) | Onward::Back(_) => None,
         }
     }
 
@@ -77,6 +83,12 @@ impl Onward {
         let parents = &authority.right.parents;
         let port = match self {
             Onward::Within(way) => authority.port(alloc, way.at, Some(way))?,
+            Onward::Aimed(way) => {
+                NewPort::without_ids(alloc, way.at, authority.ways(alloc, Some(way))?)?
+            }
+            Onward::Into(node) => {
+                NewPort::without_ids(alloc, node, authority.ways_into(alloc, node)?)?
+            }
             Onward::Back(node) => NewPort::without_ids(alloc, node, parents.left(alloc)?)?,
             Onward::Beside(dir, _) => NewPort::without_ids(alloc, dir, parents.copied(alloc)?)?,
             Onward::FromTop(_) => return Ok(None),

@@ -1,12 +1,12 @@
 //! Going along the names of a path.
-ghost use Rattle.std.specs.Prelude.{◌≡◌};
+ghost use Rattle.std.specs.Prelude.{◌≡◌, ◌∷◌};
 ghost use Rattle.hurd_nodes.specs.Shown.{header_in};
-ghost use Rattle.hurd_machine.specs.World.{World};
+ghost use Rattle.hurd_machine.specs.World.{World, header_at};
 ghost use Rattle.hurd_machine.specs.Plan.{first};
 ghost use Rattle.hurd_ports.specs.declared.table.IoRight.{IoRight};
 ghost use Rattle.hurd_core.specs.Core.{world_of};
 ghost use Rattle.hurd_lookup.specs.Path.{names_in};
-ghost use Rattle.hurd_lookup.specs.Lookup.{arrive, came_in_at, go_back, is_exclusive, miss, over, step_asks, step_by, step_up, stepped, to_cross, walk};
+ghost use Rattle.hurd_lookup.specs.Lookup.{arrive, branch_in, came_in_at, go_back, go_into, is_exclusive, miss, over, shows_name, step_asks, step_by, step_up, stepped, to_cross, walk};
 ghost use Rattle.hurd_lookup.specs.Ends.{CanGo, Finds, Goes, place_of, right_by};
 
 use crate::authority::Authority;
@@ -16,9 +16,9 @@ use crate::request::Request;
 use crate::rest::is_last;
 use crate::retry::{Onward, Retry};
 use hurd_core::Core;
-use hurd_creds::{Attrs, Errno, Kind, NodeName, OpenFlags, Want};
+use hurd_creds::{Attrs, Errno, Ids, Kind, NodeName, OpenFlags, Want};
 use hurd_ports::{Parent, Parents};
-use hurd_trans_iface::Server;
+use hurd_trans_iface::{Server, is_dir};
 
 /// Where one name leads from a directory.
 #[derive(Clone, Copy, Debug, PartialEq, Eq)]
@@ -27,6 +27,8 @@ pub(crate) enum Next {
     There(NodeName),
     /// The node of an entry.
     Entry(NodeName),
+    /// A branch of a union, which shows the name.
+    Branch(NodeName),
     /// Out of a server's tree, by the way that the port came in.
     Back,
     /// No entry has the name.
@@ -85,25 +87,47 @@ fn step_up<S: Server>(
     }
 }
 
+/// Whether a node is a directory that these ids may search, and has the name.
+fn shows_name<S: Server>(core: &Core<S>, ids: &Ids, branch: NodeName, name: &[u8]) -> bool
+    ensures { let w = world_of S.meaning core.now in result ≡ shows_name w ids.now name.now branch (header_at w branch) }
+{
+    let Some(attrs) = core.attrs(branch) else {
+        return false;
+    };
+    is_dir(attrs.kind) && ids.may(&attrs, Want::Exec) && core.step(branch, name).is_some()
+}
+
+/// The first of these directories that shows a name.
+fn branch_in<S: Server>(core: &Core<S>, ids: &Ids, branches: &[NodeName], name: &[u8]) -> Next
+    ensures { result ≡ branch_in (world_of S.meaning core.now) ids.now name.now branches.now }
+{
+    for branch in branches {
+        if shows_name(core, ids, *branch, name) {
+            return Next::Branch(*branch);
+        }
+    }
+    Next::Absent
+}
+
 /// Where a name leads from a directory of these attributes.
 fn step_by<S: Server>(
     core: &Core<S>,
-    parents: &Parents,
+    authority: Authority,
     dir: NodeName,
     attrs: &Attrs,
     name: &[u8],
 ) -> Result<Next, Errno>
-    ensures { result ≡ step_by (world_of S.meaning core.now) parents.now dir (header_in attrs.now) name.now }
+    ensures { result ≡ step_by (world_of S.meaning core.now) (right_by authority.entry) dir (header_in attrs.now) name.now }
 {
     if name == b".".as_slice() {
         return Ok(Next::There(dir));
     }
     if name == b"..".as_slice() {
-        return step_up(core, parents, dir, attrs);
+        return step_up(core, &authority.right.parents, dir, attrs);
     }
     match core.step(dir, name) {
         Some(node) => Ok(Next::Entry(node)),
-        None => Ok(Next::Absent),
+        None => Ok(branch_in(core, authority.ids, core.branches_at(dir), name)),
     }
 }
 
@@ -129,7 +153,7 @@ fn step_asked<S: Server>(
     if !authority.ids.may(&attrs, Want::Exec) {
         return Err(Errno::EACCES);
     }
-    step_by(core, &authority.right.parents, dir, &attrs, name)
+    step_by(core, authority, dir, &attrs, name)
 }
 
 impl Request {
@@ -220,7 +244,19 @@ fn over<'a, S: Server>(
     }
 }
 
-/// From a directory by one name, behind which the rest of the path follows.
+/// On at a branch of a union, with what is left of the path.
+fn go_into<'a>(request: Request, branch: NodeName, path: &'a [u8]) -> Place<'a>
+    ensures place { (w : World) (q : IoRight) → place_of w q result ≡ go_into q request branch (names_in path.entry.now) }
+    ensures can { (w : World) (q : IoRight) → CanGo w q result }
+{
+    Place::Elsewhere(Retry {
+        onward: Onward::Into(branch),
+        rest: path,
+        slash: request.slash,
+    })
+}
+
+/// From a directory by the first name of a path, behind which its rest follows.
 ///
 /// Errors, in order: those of `step_asked`, those of `over`, of `go_back`, or `ENOENT` where the name is missed.
 #[tactic(auto, unfolding(hurd_machine::specs::Plan::first))]
@@ -229,15 +265,18 @@ fn stepped<'a, S: Server>(
     authority: Authority,
     request: Request,
     dir: NodeName,
+    path: &'a [u8],
     name: &'a [u8],
     rest: &'a [u8],
 ) -> Result<Step<'a>, Errno>
+    requires { names_in path.now ≡ name.now ∷ names_in rest.now }
     ensures { let w = world_of S.meaning core.now in let q = right_by authority.entry in
         Goes w q (λ onward. first (step_asks w q dir name.entry.now) (stepped w q request dir name.entry.now (names_in rest.entry.now) onward)) result }
 {
     match step_asked(core, authority, dir, name)? {
         Next::There(node) => Ok(Step::On(node)),
         Next::Entry(node) => over(core, authority, request, dir, node, rest),
+        Next::Branch(branch) => Ok(Step::To(go_into(request, branch, path))),
         Next::Back => Ok(Step::To(go_back(core, authority, request, rest)?)),
         Next::Absent => Ok(Step::To(request.miss(dir, name, is_last(rest))?)),
     }
@@ -259,7 +298,7 @@ pub(crate) fn walk<'a, S: Server>(
     let mut here = start;
     let mut rest = path;
     while let Some((name, after)) = first_name(rest) {
-        match stepped(core, authority, request, here, name, after)? {
+        match stepped(core, authority, request, here, rest, name, after)? {
             Step::On(node) => here = node,
             Step::To(place) => return Ok(place),
         }

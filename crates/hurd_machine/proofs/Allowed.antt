@@ -79,7 +79,7 @@ May S v x (EditOpen o f) = (z : Opened) → asks (f z).modes READ ≡ true → a
 May S v x (MakeOpen o z) = S o.task.0 ≡ true
 May S v x (EditTask q f) = (S q ≡ true) × ((a : Task) → task_at x q ≡ Some a → OwnMay S v x a (f a) × (HasUid S v 0 ⊎ OwnTaken S v a (f a)))
 May S v x (Send r q) = RightMay S v x r × (HasUid S v 0 ⊎ IdsMay S v r)  -- to any task
-May S v x (Attach s at i node) = S s.task.0 ≡ true
+May S v x (Attach s at i node) = (S s.task.0 ≡ true) × ((n : Name) → IsAmong n i.targets → SeenOrNew S v n)
 May S v x (DropServer s) = Unit {0}
 May S v x (Unseat n) = Unit {0}
 May S v x (SetText s text) = Unit {0}
@@ -247,7 +247,7 @@ module _ (S : ℕ → Bool) (v x : World) (coherent : Coherent x) (i : Inside S 
     | inr k ↦ inl (h, k, Less-refl S v n h)
   ]
   headers_next (Attach s at j node) ex p m n h e = elim (header_was x.nodes j.root n node h (subst (λ (z : World). header_at z n ≡ Some h) (come_is s at j node p) e)) [
-    | inl k ↦ inr (subst (NewTo S v) (sym k.0) (root_new s at j node p m), λ q eq. let none : None ≡ Some q = sym p.parent ∙ ap (λ (z : Header). z.parent) k.1 ∙ eq in absurd (cc))
+    | inl k ↦ inr (subst (NewTo S v) (sym k.0) (root_new s at j node p m.0), λ q eq. let none : None ≡ Some q = sym p.parent ∙ ap (λ (z : Header). z.parent) k.1 ∙ eq in absurd (cc))
     | inr k ↦ inl (h, k, Less-refl S v n h)
   ]
   headers_next (DropServer s) ex p m n h e = inl (h, (drop.header_was x s n h e).0, Less-refl S v n h)
@@ -292,7 +292,7 @@ module _ (S : ℕ → Bool) (v x : World) (coherent : Coherent x) (i : Inside S 
   homes_next : (c : Change) → IsExact c → Proper x c → May S v x c → (n s : Name) → home_at (apply c x) n ≡ Some s → (home_at x n ≡ Some s) ⊎ Known S v (OptionsOf s)
   homes_next (MakeNode a q node) ex p m n s e = elim (was x.homes a n q s e) [ inl k ↦ inr (subst (λ z. Known S v (OptionsOf z)) k.1 m.1) | inr k ↦ inl k.1 ]
   homes_next (Attach q at j node) ex p m n s e = elim (was x.homes j.root n q s (subst (λ (z : World). home_at z n ≡ Some s) (come_is q at j node p) e)) [
-    | inl k ↦ inr (inr (subst (NewTo S v) k.1 (next_new q p.next m)))
+    | inl k ↦ inr (inr (subst (NewTo S v) k.1 (next_new q p.next m.0)))
     | inr k ↦ inl k.1
   ]
   homes_next (DropServer q) ex p m n s e = inl (was_retained x.homes (is_other q x.homes) n s e).0
@@ -301,7 +301,7 @@ module _ (S : ℕ → Bool) (v x : World) (coherent : Coherent x) (i : Inside S 
 
   servers_next : (c : Change) → IsExact c → Proper x c → May S v x c → (s : Name) (k : ServerInfo) → server_at (apply c x) s ≡ Some k → ServerInside S v s k
   servers_next (Attach q at j node) ex p m s k e = elim (was x.servers q s j k (subst (λ (z : World). server_at z s ≡ Some k) (come_is q at j node p) e)) [
-    | inl a ↦ inr (subst (NewTo S v) (sym a.0) (next_new q p.next m), subst (λ (z : ServerInfo). NewTo S v z.root) a.1 (root_new q at j node p m))
+    | inl a ↦ inr (subst (NewTo S v) (sym a.0) (next_new q p.next m.0), subst (λ (z : ServerInfo). NewTo S v z.root) a.1 (root_new q at j node p m.0), subst (λ (z : ServerInfo). (t : Name) → IsAmong t z.targets → SeenOrNew S v t) a.1 m.1)
     | inr a ↦ i.servers s k a.1
   ]
   servers_next (SetText q text) ex p m s k e = let l = server_was x q text s k e in i.servers s (with_text l.0 k) l.1
@@ -311,7 +311,7 @@ module _ (S : ℕ → Bool) (v x : World) (coherent : Coherent x) (i : Inside S 
 
   actives_next : (c : Change) → IsExact c → Proper x c → May S v x c → (n s : Name) → active_at (apply c x) n ≡ Some s → (active_at v n ≡ Some s) ⊎ NewTo S v s
   actives_next (Attach q at j node) ex p m n s e = elim (was x.actives at n q s (subst (λ (z : World). active_at z n ≡ Some s) (come_is q at j node p) e)) [
-    | inl a ↦ inr (subst (NewTo S v) a.1 (next_new q p.next m))
+    | inl a ↦ inr (subst (NewTo S v) a.1 (next_new q p.next m.0))
     | inr a ↦ i.actives n s a.1
   ]
   actives_next (DropServer q) ex p m n s e = i.actives n s (drop.active_was x q n s e).0

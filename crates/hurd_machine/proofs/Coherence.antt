@@ -62,7 +62,7 @@ pub record GoodNode (w : World) (s : Name) (node : Node) : Type 0 where
   pub empty : HasNoEntries node.body
   pub parent : (p : Name) → node.header.parent ≡ Some p → Below w p
 
--- a server that comes, under the next name of its task, and becomes active on a node: its root has the name after that
+-- a server that comes, under the next name of its task, and becomes active on a node: its root has the name after that, and it aims at what was given
 pub record Comes (w : World) (s at : Name) (i : ServerInfo) (node : Node) : Type 0 where
   pub next : IsNext w s
   pub task : i.root.task ≡ s.task
@@ -71,6 +71,7 @@ pub record Comes (w : World) (s at : Name) (i : ServerInfo) (node : Node) : Type
   pub shape : IsShaped node.header node.body
   pub empty : HasNoEntries node.body
   pub parent : node.header.parent ≡ None
+  pub targets : (n : Name) → IsAmong n i.targets → Below w n
   pub seat : (h : Header) × (header_at w at ≡ Some h)
 
 -- a right to use a node that a task may get: what it names was made, its open is there and on one node with it, and what is open to write is no directory
@@ -324,6 +325,7 @@ module _ (w : World) (c : Coherent w) (k : Name) (f : Node → Node) (may : (y :
     rights = c.given.rights;
     entries = λ d n e. (entry_from d n e).made;
     parents = λ n p h e ep. let k = header_from n h e in elim k.3 [ inl same ↦ c.given.parents n p k.0 k.1 (sym same ∙ ep) | inr new ↦ new.1 p ep ];
+    targets = c.given.targets;
   }
 
   reworked_housing : AreHoused (nodes_of reworked_world)
@@ -413,6 +415,7 @@ module _ (w : World) (c : Coherent w) (q : ℕ) (f : Task → Task) (up : (x : T
     ];
     entries = λ d n e. raised n (c.given.entries d n e);
     parents = λ n p h e ep. raised p (c.given.parents n p h e ep);
+    targets = λ s n i e aim. raised n (c.given.targets s n i e aim);
   }
 
   task_tables : AreTables retabled
@@ -460,6 +463,7 @@ reopened w m c r = record {
     rights = c.given.rights;
     entries = c.given.entries;
     parents = c.given.parents;
+    targets = c.given.targets;
   };
   housing = c.housing;
   seating = c.seating;
@@ -572,6 +576,7 @@ module _ (w : World) (c : Coherent w) (n s : Name) (node : Node) (b : Below w n)
       | inl k ↦ p.parent q (ap (λ (z : Header). z.parent) k.1 ∙ ep)
       | inr k ↦ c.given.parents m q h k ep
     ];
+    targets = c.given.targets;
   }
 
   made_housing : AreHoused (nodes_of made_world)

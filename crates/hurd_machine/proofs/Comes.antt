@@ -8,7 +8,7 @@ use Rattle.hurd_nodes.specs.Held.{is_home}
 use Rattle.hurd_nodes.specs.Shown.{ServerInfo, boot_name, info_in, is_root_at, is_other, is_other_seat, tree_by}
 use Rattle.hurd_nodes.proofs.PartLaws.{and_true}
 use Rattle.hurd_ports.specs.Steps.{named, edit_task}
-use Rattle.hurd_machine.specs.World.{World, boot_root, nodes_of, task_at, header_at, home_at, active_at, server_at, info_at}
+use Rattle.hurd_machine.specs.World.{World, IsAmong, boot_root, nodes_of, task_at, header_at, home_at, active_at, server_at, info_at}
 use Rattle.hurd_machine.specs.Change.{Attach, apply}
 use Rattle.hurd_machine.specs.Sound.{Below, AreGiven, AreHoused, AreSeated, IsTree, AreTables, Coherent}
 use Rattle.hurd_machine.proofs.Nodes.{header_in, root_info}
@@ -117,6 +117,10 @@ module _ (w : World) (c : Coherent w) (s at : Name) (i : ServerInfo) (node : Nod
     parents = λ n q h e ep. elim (header_was w.nodes i.root n node h e) [
       | inl k ↦ let none : None ≡ Some q = sym p.parent ∙ ap (λ (z : Header). z.parent) k.1 ∙ ep in absurd (cc)
       | inr k ↦ come_still q (c.given.parents n q h k ep)
+    ];
+    targets = λ q n j e aim. elim (was w.servers s q i j e) [
+      | inl k ↦ come_still n (p.targets n (subst (λ (z : ServerInfo). IsAmong n z.targets) (sym k.1) aim))
+      | inr k ↦ come_still n (c.given.targets q n j k.1 aim)
     ];
   }
 

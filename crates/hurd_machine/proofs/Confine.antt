@@ -15,7 +15,7 @@ use Rattle.hurd_ports.specs.declared.table.Right.TheVariants.{Io, Control, Start
 use Rattle.hurd_ports.specs.Tables.{Task, nodes_of as nodes_named}
 use Rattle.hurd_machine.specs.World.{World, IsAmong, boot_root, task_at, open_at, header_at, body_at, home_at, active_at, server_at}
 use Rattle.hurd_machine.specs.Sight.{Holds, HasUid, UidOfTask, UidOfRight, HasGid, GidOfTask, GidOfRight, Taken, Could, Owns, OwnsIt, Allowed, CouldServe}
-use Rattle.hurd_machine.specs.Sight.{Seen, Root, Held, Way, Controlled, Pending, Child, Parent, Active, ServerRoot, Sends, ByControl, ByNode, BySeat, Knows, OfNode, OfSeat, OfControl, SeesBody, ToRead, ToSearch, IsOpen, SeesEmpty, ByBody, ByParent}
+use Rattle.hurd_machine.specs.Sight.{Seen, Root, Held, Way, Controlled, Pending, Child, Parent, Active, ServerRoot, Target, Sends, ByControl, ByNode, BySeat, Knows, OfNode, OfSeat, OfControl, SeesBody, ToRead, ToSearch, IsOpen, SeesEmpty, ByBody, ByParent}
 use Rattle.hurd_machine.specs.Sight.{Part, AttrOf, EmptyOf, BodyOf, OpenOf, OptionsOf, UsersOf, TaskOf, Sees, MaySend}
 use Rattle.hurd_machine.specs.Sound.{Below, Coherent}
 use Rattle.hurd_machine.proofs.Coherence.{header_old, entry_old, home_old, right_old, entry_lists}
@@ -35,6 +35,7 @@ seen_old {S} {w} c n (Child d h name s eh k could en) = c.given.entries d n (ent
 seen_old c n (Parent d h s eh ep) = c.given.parents d n h eh ep
 seen_old {S} {w} c n (Active m s i sm em es e) = subst (Below w) (sym e) (home_old c i.root s (c.housing.roots s i es))
 seen_old {S} {w} c n (ServerRoot m s i sm em es could e) = subst (Below w) (sym e) (home_old c i.root s (c.housing.roots s i es))
+seen_old c n (Target m s i sm em es aim) = c.given.targets s n i es aim
 
 -- a name that a task of S had not given yet
 abbrev pub NewTo : (ℕ → Bool) → World → Name → Type 0
@@ -127,9 +128,9 @@ pub record TakesLess (S : ℕ → Bool) (v x : World) : Type 0 where
   pub tasks : (q : ℕ) (y : Task) → S q ≡ true → task_at x q ≡ Some y → Taken S v y.ids
   pub rights : (r : IoRight) → Holds S x (Io r) → Taken S v r.ids
 
--- a server that was, but for its text, or a new one of S, with its root
+-- a server that was, but for its text, or a new one of S, with its root, which aims at nothing beyond what S saw or made
 abbrev pub ServerInside : (ℕ → Bool) → World → Name → ServerInfo → Type 0
-ServerInside S v s i = ((text : List ℕ) × (server_at v s ≡ Some (with_text text i))) ⊎ (NewTo S v s × NewTo S v i.root)
+ServerInside S v s i = ((text : List ℕ) × (server_at v s ≡ Some (with_text text i))) ⊎ (NewTo S v s × NewTo S v i.root × ((n : Name) → IsAmong n i.targets → SeenOrNew S v n))
 
 -- the world x holds nothing for S beyond what S saw in v
 pub record Inside (S : ℕ → Bool) (v x : World) : Type 0 where
@@ -234,6 +235,25 @@ module _ {S : ℕ → Bool} {v x : World} (coherent : Coherent v) (i : Inside S 
   known_sends s info is could (OfSeat n sn en) = ByNode info.root (Active n s info sn en is refl) (coherent.housing.roots s info is) could
   known_sends s info is could (OfControl h) = ByControl h
 
+  -- what a server aims at that S knows
+  known_target : (s n : Name) (info : ServerInfo) → server_at v s ≡ Some info → Knows S v s → IsAmong n info.targets → Seen S v n
+  known_target s n info is (OfNode m sm em) aim = Target m s info sm (inl em) is aim
+  known_target s n info is (OfSeat m sm em) aim = Target m s info sm (inr em) is aim
+  known_target s n info is (OfControl h) aim = Target info.root s info (Controlled s info h is refl) (inl (coherent.housing.roots s info is)) is aim
+
+  target_by : (s n : Name) (info : ServerInfo) → IsAmong n info.targets → Known S v (OptionsOf s) → ServerInside S v s info → SeenOrNew S v n
+  target_by s n info aim known (inr new) = new.2 n aim
+  target_by s n info aim (inl knows) (inl e) = inl (known_target s n (with_text e.0 info) e.1 knows aim)
+  target_by s n info aim (inr new) (inl e) = absurd (new.1 (coherent.given.servers s (with_text e.0 info) e.1))
+
+  by_inside : (m s : Name) → (home_at x m ≡ Some s) ⊎ (active_at x m ≡ Some s) → ((home_at v m ≡ Some s) ⊎ Known S v (OptionsOf s)) ⊎ ((active_at v m ≡ Some s) ⊎ NewTo S v s)
+  by_inside m s (inl e) = inl (i.homes m s e)
+  by_inside m s (inr e) = inr (i.actives m s e)
+
+  known_inside : (m s : Name) → SeenOrNew S v m → ((home_at v m ≡ Some s) ⊎ Known S v (OptionsOf s)) ⊎ ((active_at v m ≡ Some s) ⊎ NewTo S v s) → Known S v (OptionsOf s)
+  known_inside m s ok (inl home) = server_inside m s ok home
+  known_inside m s ok (inr active) = elim (seat_inside m s ok active) [ inl k ↦ inl (OfSeat m k.0 k.1) | inr new ↦ inr new ]
+
   -- what is seen was seen, or is new
   pub seen_inside : (n : Name) → Seen S x n → SeenOrNew S v n
   seen_inside n (Root e) = inl (Root e)
@@ -253,6 +273,7 @@ module _ {S : ℕ → Bool} {v x : World} (coherent : Coherent v) (i : Inside S 
   seen_inside n (ServerRoot m s info sm em es c e) =
       subst (SeenOrNew S v) (sym e) (by_server s info (Knows S v s) (server_inside m s (seen_inside m sm) (i.homes m s em)) (i.servers s info es)
       (λ k text is. known_root s (with_text text info) is (serve_back info c) k))
+  seen_inside n (Target m s info sm em es aim) = target_by s n info aim (known_inside m s (seen_inside m sm) (by_inside m s em)) (i.servers s info es)
 
   body_inside : (n : Name) (h before : Header) → header_at v n ≡ Some before → Less S v n h before → SeesBody S x n h → SeesBody S v n before
   body_inside n h before is less (ToRead c) = ToRead (less.could Read (could_back h Read c))

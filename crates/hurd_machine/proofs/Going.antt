@@ -1,16 +1,17 @@
 -- A server goes, or comes, with what settles then: as pieces of any call.
-use Rattle.std.proofs.Common.{◌≡◌, ◌≢◌, ℕ, true, [], ◌∷◌, Some, ◌∙◌, ap}
+use Rattle.std.proofs.Common.{◌≡◌, ◌≢◌, ℕ, Bool, true, [], ◌∷◌, Some, ◌∙◌, ap}
 use Rattle.hurd_creds.specs.declared.name.Name.{Name}
 use Rattle.hurd_trans_iface.specs.Nodes.{Node, is_dir}
 use Rattle.hurd_trans_iface.specs.Kinds.{behaviour_of}
 use Rattle.hurd_trans_iface.specs.Good.{IsSized}
 use Rattle.hurd_nodes.specs.Shown.{ServerInfo, boot_name, is_other, tree_by}
-use Rattle.hurd_machine.specs.World.{World}
+use Rattle.hurd_machine.specs.World.{World, IsAmong}
 use Rattle.hurd_machine.specs.Change.{Attach, DropServer, Unseat, apply}
 use Rattle.hurd_machine.specs.Sight.{Part, AttrOf, EmptyOf, BodyOf, OptionsOf, TaskOf}
 use Rattle.hurd_machine.specs.Touched.{Goes}
 use Rattle.hurd_machine.proofs.Nodes.{header_in}
 use Rattle.hurd_machine.proofs.Coherence.{Comes}
+use Rattle.hurd_machine.proofs.Confine.{SeenOrNew}
 use Rattle.hurd_machine.proofs.Drop.{drop_linked}
 use Rattle.hurd_machine.proofs.Servers.{linked_come, linked_unseat, sized_come, sized_drop, sized_unseat}
 use Rattle.hurd_machine.proofs.Piece.{Stands, Piece}
@@ -33,14 +34,19 @@ pub record Begun (i : ServerInfo) (node : Node) : Type 0 where
   pub tree : tree_by (Some i) ≡ true → is_dir node.header.kind ≡ true
   pub size : IsSized (behaviour_of i.kind) i.text node
 
+-- whoever has the task saw each node that the server aims at, or it is new
+abbrev pub AimsAtSeen : ℕ → World → ServerInfo → Type 0
+AimsAtSeen t v i = (S : ℕ → Bool) → S t ≡ true → (n : Name) → IsAmong n i.targets → SeenOrNew S v n
+
 pub comes_piece : {T : Part → Type 0} {v w : World} → Stands w → (s at : Name) (i : ServerInfo) (node : Node) → Comes w s at i node → Begun i node
-    → T (TaskOf s.task.0) → T (AttrOf i.root) → T (EmptyOf i.root) → T (BodyOf i.root) → T (AttrOf at) → T (OptionsOf s) → Piece s.task.0 T v w (Attach s at i node ∷ [])
-comes_piece {T} {v} {w} st s at i node p b task attr empty body seat options = record {
+    → T (TaskOf s.task.0) → T (AttrOf i.root) → T (EmptyOf i.root) → T (BodyOf i.root) → T (AttrOf at) → T (OptionsOf s) → AimsAtSeen s.task.0 v i
+    → Piece s.task.0 T v w (Attach s at i node ∷ [])
+comes_piece {T} {v} {w} st s at i node p b task attr empty body seat options aims = record {
   within = ((task, attr, empty, body, seat, options), tt);
   proper = (p, λ d. tt);
   linked = linked_come w st.coherent s at i node p b.links b.tree st.linked;
   sized = sized_come w st.coherent s at i node p b.size st.sizes;
-  may = λ S ours. (ours, tt);
+  may = λ S ours. ((ours, aims S ours), tt);
 }
 
 -- it may come also where another server went, which had not the seat for a node
@@ -53,5 +59,6 @@ comes_after w q s at i node other p = record {
   shape = p.shape;
   empty = p.empty;
   parent = p.parent;
+  targets = p.targets;
   seat = (p.seat.0, ap header_in (retained w.nodes (is_other q w.homes) at other) ∙ p.seat.1);
 }

@@ -59,6 +59,7 @@ module _ (w : World) (c : Coherent w) (h : NodeState) (keep : Name → Bool) (l 
     rights = c.given.rights;
     entries = λ d n e. c.given.entries d n (lists_was d n e).0;
     parents = λ n p k e ep. c.given.parents n p k (header_was n k e).0 ep;
+    targets = λ s n i e aim. c.given.targets s n i (l.server_was s i e).0 aim;
   }
 
   left_housing : AreHoused (nodes_of left)

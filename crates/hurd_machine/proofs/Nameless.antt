@@ -17,12 +17,12 @@ use Rattle.hurd_ports.specs.Tables.{Task, fresh, ways_of, is_held}
 use Rattle.hurd_ports.specs.Steps.{named, with_port, new_open, edit_task}
 use Rattle.hurd_machine.specs.World.{World, IsAmong, nodes_of, task_at, header_at, home_at, server_at}
 use Rattle.hurd_machine.specs.Sight.{Part, OptionsOf, UsersOf, TaskOf, Sees, Taken}
-use Rattle.hurd_machine.specs.Change.{Change, MakeNode, outside, stays, server_stays, apply, apply_all, opening}
+use Rattle.hurd_machine.specs.Change.{Change, MakeNode, namings, stays, server_stays, apply, apply_all, opening}
 use Rattle.hurd_machine.specs.Sound.{Sound, Below, Coherent, times_listed}
 use Rattle.hurd_machine.proofs.Nodes.{header_in}
 use Rattle.hurd_machine.proofs.Tasks.{edit_here}
 use Rattle.hurd_machine.proofs.Holders.{NameMore, still, still_more, held_by_right}
-use Rattle.hurd_machine.proofs.Stays.{server_more, kept_more, stays_named}
+use Rattle.hurd_machine.proofs.Stays.{server_more, kept_more, stays_named, held_more}
 use Rattle.hurd_machine.proofs.Rights.{port_keeps, port_has}
 use Rattle.hurd_machine.proofs.Coherence.{IsNext, HasNoEntries, was, header_old, no_node, no_home, next_not, named_below}
 use Rattle.hurd_machine.proofs.Coherence as coherence
@@ -117,8 +117,8 @@ module _ (w : World) (t : ℕ) (x : Task) (is : task_at w t ≡ Some x) (s : Nam
     nodes = λ m y e. elim (was w.nodes n m node y e) [
       | inl new ↦ subst (λ k. stays left k ≡ true) (sym new.0) file_stays
       | inr old ↦
-          kept_more (outside w) (outside left) (nodes_of w) (nodes_of left) m (λ q eh lives. (home_kept m q eh, refl, lives_yet q lives))
-          (λ k. ap is_entered_at (get_apart w.nodes n node m old.0) ∙ k) (yet.named m) (rest.nodes m y old.1)
+          kept_more (namings w) (namings left) (nodes_of w) (nodes_of left) m (λ q eh lives. (home_kept m q eh, refl, lives_yet q lives))
+          (λ k. ap is_entered_at (get_apart w.nodes n node m old.0) ∙ k) (held_more w left.tasks m (yet.named m)) (rest.nodes m y old.1)
     ];
     servers = λ q j e. lives_yet q (rest.servers q j e);
     opens = λ o z e. elim (was w.opens io.open_name o (new_open modes) z e) [
@@ -135,7 +135,7 @@ module _ (w : World) (t : ℕ) (x : Task) (is : task_at w t ≡ Some x) (s : Nam
 
       lives_yet : (q : Name) → server_stays w q ≡ true → server_stays left q ≡ true
       lives_yet q h =
-          server_more (outside w) (outside left) (nodes_of w) (nodes_of left) q (yet.controlled q) (λ m e. e) (λ m e held. (home_kept m q e, yet.named m held)) h
+          server_more (namings w) (namings left) (nodes_of w) (nodes_of left) q (yet.controlled q) (λ m e. e) (λ m e held. (home_kept m q e, held_more w left.tasks m (yet.named m) held)) h
 
   -- a task of S may make it where S saw the server, and open it by ids that S holds
   pub nameless_whole : {T : Part → Type 0} → Sound w → keeps_tree i.kind ≡ true → IsSized (behaviour_of i.kind) i.text node → ((m : Name) → IsAmong m (ways_of parents) → Below w m) → T (UsersOf s)

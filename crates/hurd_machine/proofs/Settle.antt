@@ -15,23 +15,23 @@ use Rattle.std.proofs.lemmas.Bool.{cases_Bool}
 use Rattle.hurd_ports.specs.declared.table.IoRight.{IoRight}
 use Rattle.hurd_ports.specs.declared.table.Right.TheVariants.{Io, Start}
 use Rattle.hurd_ports.specs.declared.parents.Parent.{Parent as Pair}
-use Rattle.hurd_ports.specs.Tables.{Task, nodes_of as nodes_named, is_held, is_named, is_controlled, IsSettled, fresh}
+use Rattle.hurd_ports.specs.Tables.{Task, nodes_of as nodes_named, is_held, IsSettled, fresh}
 use Rattle.hurd_ports.specs.Steps.{named, with_port, with_sent, new_open, new_right, edit_task}
 use Rattle.hurd_machine.specs.World.{World, IsAmong, world_from, nodes_of, ports_of, task_at, open_at, header_at, body_at, home_at, active_at, server_at}
-use Rattle.hurd_machine.specs.Sight.{Holds, Seen, Root, Held, Way, Controlled, Pending, Child, Parent, Active, ServerRoot, Knows, OfNode, OfSeat, OfControl}
+use Rattle.hurd_machine.specs.Sight.{Holds, Seen, Root, Held, Way, Controlled, Pending, Child, Parent, Active, ServerRoot, Target, Knows, OfNode, OfSeat, OfControl}
 use Rattle.hurd_nodes.specs.Held.{is_home}
 use Rattle.hurd_machine.specs.Sight.{Part, AttrOf, EmptyOf, BodyOf, OpenOf, OptionsOf, UsersOf, TaskOf, Sees, part, IsGone, holders, users, AnEmpty, ABody, AnOpen, AnOptions, AUsers}
-use Rattle.hurd_machine.specs.Change.{Change, EditHeader, EditBody, MakeNode, EditOpen, MakeOpen, EditTask, Send, Attach, DropServer, Unseat, SetText, Settle, outside, stays, server_stays, settle, apply, apply_all, opening}
+use Rattle.hurd_machine.specs.Change.{Change, EditHeader, EditBody, MakeNode, EditOpen, MakeOpen, EditTask, Send, Attach, DropServer, Unseat, SetText, Settle, namings, outside, stays, server_stays, settle, apply, apply_all, opening}
 use Rattle.hurd_machine.specs.Sound.{Coherent, Linked, AtRest}
 use Rattle.hurd_machine.proofs.Nodes.{attr_same, header_in, body_in, empty_in, none_mapped, edit_keeps, was_edited}
 use Rattle.hurd_machine.proofs.Tasks.{sent_keeps, edit_here as task_here}
 use Rattle.hurd_ports.proofs.HeldLaws.{held_counted}
 use Rattle.hurd_machine.proofs.Holders.{let_go, held_by_right, KeepsRights, NameMore, still, still_more}
 use Rattle.hurd_machine.proofs.Retained.{retained_if, retained, dropped, was_retained, none_retained}
-use Rattle.hurd_machine.proofs.Stays.{sweep, way_at, way_parent, server_more, kept_more, lives_at, lives_active, lives_controlled, stays_entered, stays_named}
+use Rattle.hurd_machine.proofs.Stays.{sweep, way_at, way_parent, server_more, kept_more, lives_at, lives_active, lives_controlled, stays_entered, stays_named, stays_target, held_more}
 use Rattle.hurd_machine.proofs.Swept.{root_stays, boot_stays, entry_stays, parent_stays, settle_keeps}
 use Rattle.hurd_machine.proofs.Coherence.{was, entry_lists}
-use Rattle.hurd_machine.proofs.Texts.{server_was, stays_kept}
+use Rattle.hurd_machine.proofs.Texts.{server_was, held_yet, stays_kept}
 use Rattle.hurd_machine.proofs.Rights.{port_keeps, port_has}
 use Rattle.hurd_machine.proofs.Views.{Agree, Agree-refl, Agree-trans}
 use Rattle.hurd_machine.proofs.ServerParts.{users_by}
@@ -87,6 +87,9 @@ module _ (S : ℕ → Bool) (w : World) (c : Coherent w) (l : Linked (nodes_of w
   alive n (ServerRoot m s i sm em es could e) h eh =
       let k = c.housing.housed m s em in
       root_alive n s i es (lives_at w m s (alive m sm k.0 k.1) em) e
+  alive n (Target m s i sm em es aim) h eh =
+      let k = c.housing.homes n h eh in
+      stays_target w s n k.0 i k.1 es aim k.2 k.3
 
   -- a node that is seen is as it was
   record Still (n : Name) : Type 0 where
@@ -236,23 +239,24 @@ entered_body g (Some x) = refl
 
 -- tasks that keep their rights
 tasks_more : (t : ℕ) (f : Task → Task) (w : World) (s : Name) → KeepsRights f → server_stays w s ≡ true
-    → kept.server_stays (record { held = is_named (edit_task t f w.tasks); controlled = is_controlled (edit_task t f w.tasks) }) (nodes_of w) s ≡ true
+    → server_stays (record w { tasks = edit_task t f w.tasks }) s ≡ true
 tasks_more t f w s keeps h =
-    server_more (outside w) (record { held = is_named (edit_task t f w.tasks); controlled = is_controlled (edit_task t f w.tasks) }) (nodes_of w) (nodes_of w) s
-    ((still t f w.tasks keeps).controlled s) (λ n e. e) (λ n e held. (e, (still t f w.tasks keeps).named n held)) h
+    server_more (namings w) (namings (record w { tasks = edit_task t f w.tasks })) (nodes_of w) (nodes_of w) s
+    ((still t f w.tasks keeps).controlled s) (λ n e. e) (λ n e held. (e, held_more w (edit_task t f w.tasks) n ((still t f w.tasks keeps).named n) held)) h
 
 -- no server loses its reason to stay
 servers_more : (c : Change) (w : World) → KeepsNodes w c → (s : Name) → server_stays w s ≡ true → server_stays (apply c w) s ≡ true
 servers_more (MakeNode k q node) w keeps s h =
-    server_more (outside w) (outside (apply (MakeNode k q node) w)) (nodes_of w) (nodes_of (apply (MakeNode k q node) w)) s ((still k.task.0 (named 1) w.tasks (λ y r i. i)).controlled s) (λ n e. e)
-    (λ n e held. (get_apart w.homes k q n (λ same. let none : home_at w n ≡ None = rw same keeps.1 in cc (e)) ∙ e, (still k.task.0 (named 1) w.tasks (λ y r i. i)).named n held)) h
+    server_more (namings w) (namings (apply (MakeNode k q node) w)) (nodes_of w) (nodes_of (apply (MakeNode k q node) w)) s ((still k.task.0 (named 1) w.tasks (λ y r i. i)).controlled s) (λ n e. e)
+    (λ n e held. (get_apart w.homes k q n (λ same. let none : home_at w n ≡ None = rw same keeps.1 in cc (e)) ∙ e, held_more w (edit_task k.task.0 (named 1) w.tasks) n ((still k.task.0 (named 1) w.tasks (λ y r i. i)).named n) held)) h
 servers_more (MakeOpen o z) w keeps s h = tasks_more o.task.0 (named 1) w s (λ y r i. i) h
 servers_more (EditTask t f) w keeps s h = tasks_more t f w s keeps h
 servers_more (Send r t) w keeps s h = tasks_more t (with_sent r) w s (sent_keeps r) h
 servers_more (EditHeader n f) w keeps s h = h
 servers_more (EditBody n g) w keeps s h = h
 servers_more (EditOpen o f) w keeps s h = h
-servers_more (SetText k text) w keeps s h = h
+servers_more (SetText k text) w keeps s h =
+    server_more (namings w) (namings (apply (SetText k text) w)) (nodes_of w) (nodes_of (apply (SetText k text) w)) s (λ k. k) (λ n e. e) (λ n e held. (e, held_yet w k text n held)) h
 servers_more c w keeps s h = absurd keeps
 
 -- what stays where the server does
@@ -263,28 +267,28 @@ same_servers c w keeps n homes servers s eh lives = (homes ∙ eh, ap (λ m. get
 nodes_still : (c : Change) (w : World) → KeepsNodes w c → NodesRest w → (n : Name) (x : Node) → get (apply c w).nodes n ≡ Some x → stays (apply c w) n ≡ true
 nodes_still (EditHeader k f) w q rest n x e =
     let y = stood w.nodes k n (with_header f) x e in
-    kept_more (outside w) (outside w) (nodes_of w) (nodes_of (apply (EditHeader k f) w)) n (same_servers (EditHeader k f) w q n refl refl) (entered_edit w.nodes k n f q) (λ o. o) (rest.nodes n y.0 y.1)
+    kept_more (namings w) (namings w) (nodes_of w) (nodes_of (apply (EditHeader k f) w)) n (same_servers (EditHeader k f) w q n refl refl) (entered_edit w.nodes k n f q) (λ o. o) (rest.nodes n y.0 y.1)
 nodes_still (EditBody k g) w q rest n x e =
     let y = stood w.nodes k n (with_body g) x e in
-    kept_more (outside w) (outside w) (nodes_of w) (nodes_of (apply (EditBody k g) w)) n (same_servers (EditBody k g) w q n refl refl)
+    kept_more (namings w) (namings w) (nodes_of w) (nodes_of (apply (EditBody k g) w)) n (same_servers (EditBody k g) w q n refl refl)
     (λ i. edit_keeps is_entered_at (with_body g) (entered_body g) w.nodes k n ∙ i) (λ o. o) (rest.nodes n y.0 y.1)
 nodes_still (MakeNode k s node) w q rest n x e = elim (was w.nodes k n node x e) [
   | inl new ↦
       subst (λ z. stays (apply (MakeNode k s node) w) z ≡ true) (sym new.0)
       (stays_entered (apply (MakeNode k s node) w) k s q.2 (get_here w.homes k s) q.3 (servers_more (MakeNode k s node) w q s (rest.servers s q.2 q.3)) (ap is_entered_at (get_here w.nodes k node) ∙ q.0))
   | inr old ↦
-      kept_more (outside w) (outside (apply (MakeNode k s node) w)) (nodes_of w) (nodes_of (apply (MakeNode k s node) w)) n
+      kept_more (namings w) (namings (apply (MakeNode k s node) w)) (nodes_of w) (nodes_of (apply (MakeNode k s node) w)) n
       (same_servers (MakeNode k s node) w q n (get_apart w.homes k s n old.0) refl) (λ i. ap is_entered_at (get_apart w.nodes k node n old.0) ∙ i)
-      ((still k.task.0 (named 1) w.tasks (λ y r h. h)).named n) (rest.nodes n x old.1)
+      (held_more w (edit_task k.task.0 (named 1) w.tasks) n ((still k.task.0 (named 1) w.tasks (λ y r h. h)).named n)) (rest.nodes n x old.1)
 ]
 nodes_still (EditOpen o f) w q rest n x e = rest.nodes n x e
 nodes_still (SetText k text) w q rest n x e = stays_kept w k text n ∙ rest.nodes n x e
 nodes_still (MakeOpen o z) w q rest n x e =
-    kept_more (outside w) (outside (apply (MakeOpen o z) w)) (nodes_of w) (nodes_of w) n (same_servers (MakeOpen o z) w q n refl refl) (λ i. i) ((still o.task.0 (named 1) w.tasks (λ y r h. h)).named n) (rest.nodes n x e)
+    kept_more (namings w) (namings (apply (MakeOpen o z) w)) (nodes_of w) (nodes_of w) n (same_servers (MakeOpen o z) w q n refl refl) (λ i. i) (held_more w (edit_task o.task.0 (named 1) w.tasks) n ((still o.task.0 (named 1) w.tasks (λ y r h. h)).named n)) (rest.nodes n x e)
 nodes_still (EditTask t f) w q rest n x e =
-    kept_more (outside w) (outside (apply (EditTask t f) w)) (nodes_of w) (nodes_of w) n (same_servers (EditTask t f) w q n refl refl) (λ i. i) ((still t f w.tasks q).named n) (rest.nodes n x e)
+    kept_more (namings w) (namings (apply (EditTask t f) w)) (nodes_of w) (nodes_of w) n (same_servers (EditTask t f) w q n refl refl) (λ i. i) (held_more w (edit_task t f w.tasks) n ((still t f w.tasks q).named n)) (rest.nodes n x e)
 nodes_still (Send r t) w q rest n x e =
-    kept_more (outside w) (outside (apply (Send r t) w)) (nodes_of w) (nodes_of w) n (same_servers (Send r t) w q n refl refl) (λ i. i) ((still t (with_sent r) w.tasks (sent_keeps r)).named n) (rest.nodes n x e)
+    kept_more (namings w) (namings (apply (Send r t) w)) (nodes_of w) (nodes_of w) n (same_servers (Send r t) w q n refl refl) (λ i. i) (held_more w (edit_task t (with_sent r) w.tasks) n ((still t (with_sent r) w.tasks (sent_keeps r)).named n)) (rest.nodes n x e)
 nodes_still c w q rest n x e = absurd q
 
 -- a server that is there was there

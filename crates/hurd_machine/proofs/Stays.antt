@@ -6,17 +6,17 @@ use Rattle.std.specs.FinMap.{get}
 use Rattle.hurd_creds.specs.declared.name.Name.{Name}
 use Rattle.hurd_creds.proofs.NameLaws.{same_name-itself, equal_if_same}
 use Rattle.hurd_creds.specs.Names.{same_name}
-use Rattle.hurd_trans_iface.specs.Nodes.{is_entered_at}
+use Rattle.hurd_trans_iface.specs.Nodes.{is_entered_at, is_listed}
 use Rattle.hurd_nodes.specs.Shown.{NodeState, ServerInfo, boot_name, is_root, is_root_at, is_root_of, info_in}
 use Rattle.hurd_nodes.specs.Settle.{Outside, any_in, node_stays, stays_by, stays_with}
-use Rattle.hurd_nodes.proofs.PartLaws.{and_both, and_true, any_in-here, any_in-found}
+use Rattle.hurd_nodes.proofs.PartLaws.{and_both, and_true, any_in-here, any_in-found, or_mono}
 use Rattle.hurd_nodes.specs.Settle as kept
 use Rattle.hurd_ports.specs.declared.parents.Parent.{Parent as Pair}
 use Rattle.hurd_ports.specs.declared.table.Right.{Right}
 use Rattle.hurd_ports.specs.declared.table.Right.TheVariants.{Control}
-use Rattle.hurd_ports.specs.Tables.{Task, rights_of, nodes_of as nodes_named, ways_of}
+use Rattle.hurd_ports.specs.Tables.{Task, rights_of, nodes_of as nodes_named, ways_of, is_named}
 use Rattle.hurd_machine.specs.World.{World, IsAmong, world_from, nodes_of, ports_of, task_at, home_at, active_at, server_at, info_at, is_server_root}
-use Rattle.hurd_machine.specs.Change.{outside, stays, server_stays}
+use Rattle.hurd_machine.specs.Change.{namings, outside, stays, server_stays}
 use Rattle.hurd_machine.proofs.Holders.{named_by_right, controlled_by_right}
 use Rattle.hurd_machine.proofs.Retained.{retained}
 
@@ -126,13 +126,13 @@ kept_more o p h k n server entered held e =
 -- the server of a node that stays does
 pub lives_at : (w : World) (n s : Name) → stays w n ≡ true → home_at w n ≡ Some s → server_stays w s ≡ true
 lives_at w n s is eh =
-    let k = kept_why (outside w) (nodes_of w) n is in
+    let k = kept_why (namings w) (nodes_of w) n is in
     let same : k.server ≡ s = cc (k.is_home, eh) in
     subst (λ (q : Name). server_stays w q ≡ true) same k.lives
 
 -- a server's root, which is a node of its own
 pub stays_root : (w : World) (s : Name) (i : ServerInfo) → server_at w s ≡ Some i → home_at w i.root ≡ Some s → server_stays w s ≡ true → stays w i.root ≡ true
-stays_root w s i es eh lives = kept_by (outside w) (nodes_of w) i.root (record { server = s; info = i; is_home = eh; is_info = es; lives = lives; why = inl (same_name-itself i.root) })
+stays_root w s i es eh lives = kept_by (namings w) (nodes_of w) i.root (record { server = s; info = i; is_home = eh; is_info = es; lives = lives; why = inl (same_name-itself i.root) })
 
 pub root_is_root : (h : NodeState) (s : Name) (i : ServerInfo) → get h.servers s ≡ Some i → get h.homes i.root ≡ Some s → is_root h i.root ≡ true
 root_is_root h s i es eh = rw (eh, es) (same_name-itself i.root)
@@ -147,7 +147,7 @@ root_why h n s eh is = by_info (get h.servers s) refl (sym (ap (is_root_of h.ser
 pub stays_as_root : (w : World) (n s : Name) → home_at w n ≡ Some s → server_stays w s ≡ true → is_server_root w n ≡ true → stays w n ≡ true
 stays_as_root w n s eh lives is =
     let r = root_why (nodes_of w) n s eh is in
-    kept_by (outside w) (nodes_of w) n (record { server = s; info = r.0; is_home = eh; is_info = r.1; lives = lives; why = inl r.2 })
+    kept_by (namings w) (nodes_of w) n (record { server = s; info = r.0; is_home = eh; is_info = r.1; lives = lives; why = inl r.2 })
 
 -- both nodes of a way are among those of its list
 pub way_at : (p : Pair) (ps : List Pair) → IsAmong p ps → IsAmong p.at (ways_of ps)
@@ -167,35 +167,65 @@ way_with n (q ∷ ps) (inl e) = (q, inl refl, inl (sym e))
 way_with n (q ∷ ps) (inr (inl e)) = (q, inl refl, inr (sym e))
 way_with n (q ∷ ps) (inr (inr i)) = let p = way_with n ps i in (p.0, inr p.1, p.2)
 
+-- what a right names is named
+held_by_right : (w : World) (t : ℕ) (x : Task) (r : Right) (n : Name) → task_at w t ≡ Some x → IsAmong r (rights_of x) → IsAmong n (nodes_named r) → (namings w).held n ≡ true
+held_by_right w t x r n at h named = or_left ((outside w).held n) _ (named_by_right w.tasks t x r n at h named)
+
+-- so is what a server aims at that is there
+pub aimed_at : (n : Name) (ns : List Name) → IsAmong n ns → is_listed n ns ≡ true
+aimed_at n [] i = absurd i
+aimed_at n (m ∷ ns) (inl e) = or_left (same_name n m) _ (rw e (same_name-itself n))
+aimed_at n (m ∷ ns) (inr i) = or_right (same_name n m) _ (aimed_at n ns i)
+
+held_as_target : (w : World) (s n : Name) (i : ServerInfo) → server_at w s ≡ Some i → IsAmong n i.targets → (namings w).held n ≡ true
+held_as_target w s n i es aim =
+    or_right ((outside w).held n) _ (any_in-here (λ q (j : ServerInfo). is_listed n j.targets) w.servers s i es (aimed_at n i.targets aim))
+
+-- and a node that one aims at stays
+pub stays_target : (w : World) (q n s : Name) (j i : ServerInfo) → server_at w q ≡ Some j → IsAmong n j.targets → home_at w n ≡ Some s → server_at w s ≡ Some i → stays w n ≡ true
+stays_target w q n s j i ej aim eh es =
+    kept_by (namings w) (nodes_of w) n (record {
+      server = s;
+      info = i;
+      is_home = eh;
+      is_info = es;
+      lives = server_by (namings w) (nodes_of w) s (HasHeld n eh (held_as_target w q n j ej aim));
+      why = inr (inr (held_as_target w q n j ej aim));
+    })
+
 -- a node that a right names keeps its server
 pub lives_named : (w : World) (t : ℕ) (x : Task) (r : Right) (n s : Name) → task_at w t ≡ Some x → IsAmong r (rights_of x) → IsAmong n (nodes_named r) → home_at w n ≡ Some s → server_stays w s ≡ true
-lives_named w t x r n s at h named eh = server_by (outside w) (nodes_of w) s (HasHeld n eh (named_by_right w.tasks t x r n at h named))
+lives_named w t x r n s at h named eh = server_by (namings w) (nodes_of w) s (HasHeld n eh (held_by_right w t x r n at h named))
+
+-- what is named stays so with other tasks, where what rights name does
+pub held_more : (w : World) (ts : List Task) (n : Name) → (is_named w.tasks n ≡ true → is_named ts n ≡ true) → (namings w).held n ≡ true → (namings (record w { tasks = ts })).held n ≡ true
+held_more w ts n more = or_mono (is_named w.tasks n) _ (is_named ts n) _ more (λ k. k)
 
 -- so does a node that it is active on
 pub lives_active : (w : World) (n s : Name) → active_at w n ≡ Some s → server_stays w s ≡ true
-lives_active w n s e = server_by (outside w) (nodes_of w) s (IsActive n e)
+lives_active w n s e = server_by (namings w) (nodes_of w) s (IsActive n e)
 
 pub lives_controlled : (w : World) (t : ℕ) (x : Task) (s : Name) → task_at w t ≡ Some x → IsAmong (Control s) (rights_of x) → server_stays w s ≡ true
-lives_controlled w t x s at h = server_by (outside w) (nodes_of w) s (IsControlled (controlled_by_right w.tasks t x s at h))
+lives_controlled w t x s at h = server_by (namings w) (nodes_of w) s (IsControlled (controlled_by_right w.tasks t x s at h))
 
 pub lives_boot : (w : World) → server_stays w boot_name ≡ true
-lives_boot w = server_by (outside w) (nodes_of w) boot_name (IsBoot refl)
+lives_boot w = server_by (namings w) (nodes_of w) boot_name (IsBoot refl)
 
 -- what is entered, and whose server stays
 pub stays_entered : (w : World) (n s : Name) (i : ServerInfo) → home_at w n ≡ Some s → server_at w s ≡ Some i → server_stays w s ≡ true → is_entered_at (get w.nodes n) ≡ true → stays w n ≡ true
-stays_entered w n s i eh es lives e = kept_by (outside w) (nodes_of w) n (record { server = s; info = i; is_home = eh; is_info = es; lives = lives; why = inr (inl e) })
+stays_entered w n s i eh es lives e = kept_by (namings w) (nodes_of w) n (record { server = s; info = i; is_home = eh; is_info = es; lives = lives; why = inr (inl e) })
 
 -- what a right names, and has a server
 pub stays_named : (w : World) (t : ℕ) (x : Task) (r : Right) (n s : Name) (i : ServerInfo) → task_at w t ≡ Some x → IsAmong r (rights_of x) → IsAmong n (nodes_named r)
     → home_at w n ≡ Some s → server_at w s ≡ Some i → stays w n ≡ true
 stays_named w t x r n s i at h named eh es =
-    kept_by (outside w) (nodes_of w) n (record {
+    kept_by (namings w) (nodes_of w) n (record {
       server = s;
       info = i;
       is_home = eh;
       is_info = es;
       lives = lives_named w t x r n s at h named eh;
-      why = inr (inr (named_by_right w.tasks t x r n at h named));
+      why = inr (inr (held_by_right w t x r n at h named));
     })
 
 -- the world after one sweep: without what doesn't stay, though with what stayed for the sake of that
@@ -205,5 +235,5 @@ sweep w = world_from (kept.sweep (outside w) (nodes_of w)) (ports_of w)
 -- what stays has the server that it had
 pub info_still : (w : World) (n : Name) → stays w n ≡ true → info_at (sweep w) n ≡ info_at w n
 info_still w n h =
-    let k = kept_why (outside w) (nodes_of w) n h in
+    let k = kept_why (namings w) (nodes_of w) n h in
     ap (info_in (sweep w).servers) (retained w.homes (stays w) n h ∙ k.is_home) ∙ retained w.servers (server_stays w) k.server k.lives ∙ sym (ap (info_in w.servers) k.is_home)

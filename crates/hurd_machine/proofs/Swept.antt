@@ -5,7 +5,7 @@ use Rattle.hurd_creds.specs.declared.name.Name.{Name}
 use Rattle.hurd_trans_iface.specs.Nodes.{Header, is_dir, is_entered, is_entered_at}
 use Rattle.hurd_nodes.specs.Shown.{ServerInfo, boot_name, info_in, tree_by}
 use Rattle.hurd_machine.specs.World.{World, boot_root, nodes_of, header_at, body_at, home_at, server_at, lists_at}
-use Rattle.hurd_machine.specs.Change.{outside, stays, server_stays, settle}
+use Rattle.hurd_machine.specs.Change.{namings, stays, server_stays, settle}
 use Rattle.hurd_machine.specs.Sound.{Coherent, LeadsUp, AtRoot, Above, Linked}
 use Rattle.hurd_machine.proofs.Nodes.{body_in, node_of_header}
 use Rattle.hurd_machine.proofs.Left.{Left, left_coherent, left_linked, times_retained}
@@ -46,7 +46,7 @@ entry_stays w c l d n h e eh stays_d = header_stays w c n h eh (entry_entered w 
 -- a directory with entries stays while what is of its server does: it is a root, or has a parent
 pub leads_stays : (w : World) → Coherent w → Linked (nodes_of w) → (d : Name) → LeadsUp (nodes_of w) d → (n : Name) → home_at w d ≡ home_at w n → stays w n ≡ true → stays w d ≡ true
 leads_stays w c l d (AtRoot is) n kin stays_n =
-    let k = kept_why (outside w) (nodes_of w) n stays_n in
+    let k = kept_why (namings w) (nodes_of w) n stays_n in
     stays_as_root w d k.server (kin ∙ k.is_home) k.lives is
 leads_stays w c l d (Above p k is up rest) n kin stays_n =
     let dir = ((l.nodes d k is).up p up).0 in

@@ -1,13 +1,16 @@
 -- A server has another text: what is read of the world then, and that it is coherent.
-use Rattle.std.proofs.Common.{◌≡◌, ℕ, List, Option, Some, sym, refl, ◌∙◌, ap, inl, inr}
+use Rattle.std.proofs.Common.{◌≡◌, ℕ, Bool, true, ◌||◌, List, Option, Some, sym, refl, ◌∙◌, ap, inl, inr}
 use Rattle.std.specs.Option.{option_map}
 use Rattle.std.specs.FinMap.{get}
 use Rattle.hurd_creds.specs.declared.name.Name.{Name}
 use Rattle.hurd_creds.proofs.NameLaws.{same_or_apart, edit_here, edit_apart}
+use Rattle.hurd_trans_iface.specs.Nodes.{is_listed}
 use Rattle.hurd_nodes.specs.Shown.{ServerInfo, is_root_at, info_in, tree_by, with_text}
-use Rattle.hurd_nodes.specs.Settle.{stays_by, stays_with}
+use Rattle.hurd_nodes.specs.Settle.{Outside, is_target, node_stays, stays_by, stays_with}
+use Rattle.hurd_nodes.proofs.PartLaws.{same_bool, any_in-found, any_in-here}
+use Rattle.hurd_nodes.proofs.SettleLaws.{IsLess, node-mono, part-itself}
 use Rattle.hurd_machine.specs.World.{World, boot_root, nodes_of, home_at, server_at, info_at, is_server_root}
-use Rattle.hurd_machine.specs.Change.{SetText, apply, outside, stays}
+use Rattle.hurd_machine.specs.Change.{SetText, apply, namings, outside, stays}
 use Rattle.hurd_machine.specs.Sound.{Coherent}
 use Rattle.hurd_machine.proofs.Nodes.{edit_keeps, by_option, root_info, was_edited}
 
@@ -42,9 +45,42 @@ module _ (w : World) (s : Name) (text : List ℕ) where
   pub tree_kept : (n : Name) → tree_by (info_at retexted n) ≡ tree_by (info_at w n)
   tree_kept = info_kept tree_by (λ i. refl)
 
+  -- what servers aim at is so as well
+  aims_kept : (n : Name) → is_target retexted.servers n ≡ is_target w.servers n
+  aims_kept n =
+      let aims = λ (q : Name) (i : ServerInfo). is_listed n i.targets in
+      same_bool _ _
+      (λ h.
+      let f = any_in-found aims retexted.servers h in
+      let l = server_was f.name f.item f.is in
+      any_in-here aims w.servers f.name (with_text l.0 f.item) l.1 f.holds)
+      (λ h.
+      let f = any_in-found aims w.servers h in
+      let l = server_still f.name f.item f.is in
+      any_in-here aims retexted.servers f.name (with_text l.0 f.item) l.1 f.holds)
+
+  held_kept : (n : Name) → (namings retexted).held n ≡ (namings w).held n
+  held_kept n = ap (λ (b : Bool). (outside w).held n || b) (aims_kept n)
+
+  pub held_yet : (n : Name) → (namings w).held n ≡ true → (namings retexted).held n ≡ true
+  held_yet n h = held_kept n ∙ h
+
+  named_less : IsLess (namings retexted) (namings w)
+  named_less = record { held = λ n h. sym (held_kept n) ∙ h; controlled = λ n h. h }
+
+  named_more : IsLess (namings w) (namings retexted)
+  named_more = record { held = held_yet; controlled = λ n h. h }
+
+  -- with these named, a node of the one stays as one of the other
+  by_kept : (o : Outside) (n : Name) → node_stays o (nodes_of retexted) n ≡ node_stays o (nodes_of w) n
+  by_kept o n = by_option (stays_by o (nodes_of retexted) n) (stays_by o (nodes_of w) n) refl (λ q. read_kept (stays_with o (nodes_of w) n q) (λ i. refl) q) (home_at w n)
+
   pub stays_kept : (n : Name) → stays retexted n ≡ stays w n
   stays_kept n =
-      by_option (stays_by (outside w) (nodes_of retexted) n) (stays_by (outside w) (nodes_of w) n) refl (λ q. read_kept (stays_with (outside w) (nodes_of w) n q) (λ i. refl) q) (home_at w n)
+      let itself = part-itself (nodes_of w) in
+      same_bool _ _
+      (λ h. node-mono (namings retexted) (namings w) named_less (nodes_of w) (nodes_of w) itself n (sym (by_kept (namings retexted) n) ∙ h))
+      (λ h. by_kept (namings retexted) n ∙ node-mono (namings w) (namings retexted) named_more (nodes_of w) (nodes_of w) itself n h)
 
   pub retexted_coherent : Coherent w → Coherent retexted
   retexted_coherent c = record {
@@ -55,6 +91,7 @@ module _ (w : World) (s : Name) (text : List ℕ) where
       rights = c.given.rights;
       entries = c.given.entries;
       parents = c.given.parents;
+      targets = λ q n i e aim. let l = server_was q i e in c.given.targets q n (with_text l.0 i) l.1 aim;
     };
     housing = record {
       homes = λ n h e.

@@ -1,6 +1,6 @@
 -- What a set of tasks sees is settled by the parts that it sees: where those are the same in two worlds, it sees the same
 -- parts in both.
-use Rattle.std.proofs.Common.{◌≡◌, ℕ, Bool, true, Some, sym, refl, ◌∙◌, ap, length}
+use Rattle.std.proofs.Common.{◌≡◌, ◌⊎◌, inl, inr, ℕ, Bool, true, Some, sym, refl, ◌∙◌, ap, length}
 use Rattle.hurd_creds.specs.declared.name.Name.{Name}
 use Rattle.hurd_creds.specs.declared.attrs.Want.{Want}
 use Rattle.hurd_creds.specs.declared.attrs.Want.TheVariants.{Read, Write, Exec}
@@ -13,7 +13,7 @@ use Rattle.hurd_ports.specs.declared.table.Right.{Right}
 use Rattle.hurd_ports.specs.declared.table.Right.TheVariants.{Io, Control, Start}
 use Rattle.hurd_machine.specs.World.{World, task_at, open_at, header_at, body_at, home_at, active_at, server_at}
 use Rattle.hurd_machine.specs.Sight.{Holds, HasUid, UidOfTask, UidOfRight, HasGid, GidOfTask, GidOfRight, Taken, Could, Owns, Allowed, CouldServe}
-use Rattle.hurd_machine.specs.Sight.{Seen, Root, Held, Way, Controlled, Pending, Child, Parent, Active, ServerRoot, Sends, ByControl, ByNode, BySeat, Knows, OfNode, OfSeat, OfControl, SeesBody, ToRead, ToSearch, IsOpen, SeesEmpty, ByBody, ByParent}
+use Rattle.hurd_machine.specs.Sight.{Seen, Root, Held, Way, Controlled, Pending, Child, Parent, Active, ServerRoot, Target, Sends, ByControl, ByNode, BySeat, Knows, OfNode, OfSeat, OfControl, SeesBody, ToRead, ToSearch, IsOpen, SeesEmpty, ByBody, ByParent}
 use Rattle.hurd_machine.specs.Sight.{Part, AttrOf, EmptyOf, BodyOf, OpenOf, OptionsOf, UsersOf, TaskOf, Sees, part, SameView}
 
 -- a server that S may send away it knows
@@ -96,6 +96,12 @@ module _ (S : ℕ → Bool) (v w : World) (tasks : SameTasks S v w) (equal : (p 
       let sm' = Seen-moved m sm in
       let em' = home_moved sm sm' em in
       ServerRoot m s i sm' em' (server_moved (OfNode m sm em) (OfNode m sm' em') es) (served i c) e
+  Seen-moved n (Target m s i sm em es aim) =
+      let sm' = Seen-moved m sm in
+      elim em [
+        | inl h ↦ let h' = home_moved sm sm' h in Target m s i sm' (inl h') (server_moved (OfNode m sm h) (OfNode m sm' h') es) aim
+        | inr a ↦ let a' = active_moved sm sm' a in Target m s i sm' (inr a') (server_moved (OfSeat m sm a) (OfSeat m sm' a') es) aim
+      ]
 
   SeesBody-moved : (n : Name) (h : Header) → SeesBody S v n h → SeesBody S w n h
   SeesBody-moved n h (ToRead c) = ToRead (could h Read c)

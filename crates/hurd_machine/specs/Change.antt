@@ -68,12 +68,16 @@ outside_by ts = record { held = is_named ts; controlled = is_controlled ts }
 abbrev pub outside : World → Outside
 outside w = outside_by w.tasks
 
+-- what is named, by rights or as a target
+abbrev pub namings : World → Outside
+namings w = kept.named (outside w) (nodes_of w)
+
 -- whether a node stays, and whether a server does
 abbrev pub stays : World → Name → Bool
-stays w n = kept.node_stays (outside w) (nodes_of w) n
+stays w n = kept.node_stays (namings w) (nodes_of w) n
 
 abbrev pub server_stays : World → Name → Bool
-server_stays w s = kept.server_stays (outside w) (nodes_of w) s
+server_stays w s = kept.server_stays (namings w) (nodes_of w) s
 
 -- the world without what nothing keeps any more: nodes, servers, and opens that no right names
 abbrev pub settle : World → World

@@ -83,6 +83,9 @@ pub data Seen (S : ℕ → Bool) (w : World) : Name → Type 0 where
   -- the root of the server of a seen node, where S could serve it
   ServerRoot : {n : Name} (m s : Name) (i : ServerInfo) → Seen S w m → home_at w m ≡ Some s → server_at w s ≡ Some i
       → CouldServe S w i → n ≡ i.root → Seen S w n
+  -- what the server of a seen node aims at, and the one that is active on it
+  Target : {n : Name} (m s : Name) (i : ServerInfo) → Seen S w m → (home_at w m ≡ Some s) ⊎ (active_at w m ≡ Some s) → server_at w s ≡ Some i
+      → IsAmong n i.targets → Seen S w n
 
 -- why S may send a server away: it controls it, it sees a node of it and could serve it, or it sees and owns the node on
 -- which it is active

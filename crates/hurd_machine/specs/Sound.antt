@@ -42,7 +42,7 @@ IsGivenRight w (Io r) = ((n : Name) → IsAmong n (nodes_named (Io r)) → Below
 IsGivenRight w (Control s) = Below w s
 IsGivenRight w (Start n) = Below w n
 
--- what stands in the world was made: nodes, opens, servers, and what rights, entries and parents name
+-- what stands in the world was made: nodes, opens, servers, and what rights, entries, parents and servers name
 pub record AreGiven (w : World) : Type 0 where
   pub nodes : (n : Name) (x : Node) → get w.nodes n ≡ Some x → Below w n
   pub opens : (o : Name) (x : Opened) → open_at w o ≡ Some x → Below w o
@@ -50,6 +50,7 @@ pub record AreGiven (w : World) : Type 0 where
   pub rights : (t : ℕ) (x : Task) (r : Right) → task_at w t ≡ Some x → IsAmong r (rights_of x) → IsGivenRight w r
   pub entries : (d n : Name) → lists_at n (body_at w d) ≡ true → Below w n
   pub parents : (n p : Name) (h : Header) → header_at w n ≡ Some h → h.parent ≡ Some p → Below w p
+  pub targets : (s n : Name) (i : ServerInfo) → server_at w s ≡ Some i → IsAmong n i.targets → Below w n
 
 -- nodes and their servers
 pub record AreHoused (h : NodeState) : Type 0 where

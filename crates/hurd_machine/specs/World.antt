@@ -77,6 +77,14 @@ server_at w s = get w.servers s
 abbrev pub info_at : World → Name → Option ServerInfo
 info_at w n = server_of (nodes_of w) n
 
+-- the nodes that the server of a node aims at
+abbrev pub targets_in : Option ServerInfo → List Name
+targets_in None = []
+targets_in (Some i) = i.targets
+
+abbrev pub targets_at : World → Name → List Name
+targets_at w n = targets_in (info_at w n)
+
 -- whether a node is the root of its server
 abbrev pub is_server_root : World → Name → Bool
 is_server_root w n = is_root (nodes_of w) n

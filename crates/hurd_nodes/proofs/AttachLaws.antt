@@ -164,15 +164,15 @@ module _ {S : Type 0} (f : S → Meaning) (t : Held S) (s at : Name) (e : Seated
   one_node : (f e.server).nodes ≡ fin.insert fin.empty e.root (begun_root m owner group mode)
   one_node = ap (λ (y : Meaning). y.nodes) begun ∙ ap (λ (ns : NodeMap). fin.insert ns e.root (begun_root m owner group mode)) bare
 
-  info_is : info_of (mean_seat f e) ≡ begun_info m e.root e.ids
-  info_is = ap (λ (y : Meaning). begun_info y e.root e.ids) begun
+  info_is : info_of (mean_seat f e) ≡ begun_info m e.root e.ids e.targets
+  info_is = ap (λ (y : Meaning). begun_info y e.root e.ids e.targets) begun
 
   mean-more : mean f (fin.insert left.seats s e) ≡ fin.insert (mean f left.seats) s (mean_seat f e)
   unfolding mean
   mean-more = map_values-insert (mean_seat f) left.seats s e
 
   pub attached-shown : flat (fin.insert left.homes e.root s) (fin.insert left.actives at s) (mean f (fin.insert left.seats s e))
-      ≡ attached s at (begun_info m e.root e.ids) (begun_root m owner group mode) (shown f t)
+      ≡ attached s at (begun_info m e.root e.ids e.targets) (begun_root m owner group mode) (shown f t)
   attached-shown =
       ap (flat (fin.insert left.homes e.root s) (fin.insert left.actives at s)) mean-more
       ∙ flat-attached left.homes left.actives (mean f left.seats) s at e.root (begun_root m owner group mode) (mean_seat f e) one_node (no_home s t.homes)

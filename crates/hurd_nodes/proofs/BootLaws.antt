@@ -51,7 +51,7 @@ module _ (m : Meaning) (bare : m.nodes ≡ fin.empty) where
   homes = fin.insert fin.empty boot_name boot_name
 
   abbrev seat : Seated Meaning
-  seat = record { server = booted m; root = boot_name; ids = boot_ids }
+  seat = record { server = booted m; root = boot_name; ids = boot_ids; targets = [] }
 
   abbrev seats : NameMap (Seated Meaning)
   seats = fin.insert fin.empty boot_name seat
@@ -72,13 +72,13 @@ module _ (m : Meaning) (bare : m.nodes ≡ fin.empty) where
 
   module _ {S : Type 0} (f : S → Meaning) (w : S) (ids : IdSets) (begun : f w ≡ booted m) (same : ids ≡ boot_ids) where
     abbrev boxes : NameMap (Seated S)
-    boxes = fin.insert fin.empty boot_name (let e : Seated S = record { server = w; root = boot_name; ids = ids } in e)
+    boxes = fin.insert fin.empty boot_name (let e : Seated S = record { server = w; root = boot_name; ids = ids; targets = [] } in e)
 
     mean-boxes : mean f boxes ≡ seats
     unfolding mean
     mean-boxes =
         one-mapped (mean_seat f) boot_name _
-        ∙ ap₂ (λ (x : Meaning) (i : IdSets). fin.insert {R = name_cmp} fin.empty boot_name (let e : Seated Meaning = record { server = x; root = boot_name; ids = i } in e)) begun same
+        ∙ ap₂ (λ (x : Meaning) (i : IdSets). fin.insert {R = name_cmp} fin.empty boot_name (let e : Seated Meaning = record { server = x; root = boot_name; ids = i; targets = [] } in e)) begun same
 
     -- the boot server alone
     pub boot-shown : flat homes fin.empty (mean f boxes) ≡ state_of (booted m)

@@ -7,10 +7,10 @@ use Rattle.hurd_creds.specs.declared.name.Name.{Name}
 use Rattle.hurd_creds.specs.Names.{same_name}
 use Rattle.hurd_creds.specs.NameMaps.{NameMap}
 use Rattle.hurd_creds.proofs.NameLaws.{equal_if_same, remove_here, remove_apart}
-use Rattle.hurd_trans_iface.specs.Nodes.{Node, is_entered_at}
+use Rattle.hurd_trans_iface.specs.Nodes.{Node, is_entered_at, is_listed}
 use Rattle.hurd_nodes.specs.Held.{is_home}
 use Rattle.hurd_nodes.specs.Shown.{NodeState, ServerInfo, boot_name, is_other, is_other_seat, out_node, out_server}
-use Rattle.hurd_nodes.specs.Settle.{Outside, any_in, server_stays, node_stays, stays_by, stays_with, size, sweep, sweeps, settle}
+use Rattle.hurd_nodes.specs.Settle.{Outside, any_in, server_stays, node_stays, stays_by, stays_with, size, named, sweep, sweeps, settle}
 use Rattle.hurd_nodes.specs.Parts.{IsWithin, IsPart, IsSettlement, TakesOut}
 use Rattle.hurd_nodes.proofs.PartLaws.{and_true, or_mono, and_mono, and_both, any_in-here, any_in-mono, within-both, within-len, kept-is, kept-here, kept-within, kept-all, removed-is, removed-within, within-same}
 
@@ -52,14 +52,30 @@ part-or a b part =
 
 -- what stays in a part stays in the whole
 
-module _ (o : Outside) (a b : NodeState) (part : IsPart a b) where
-  pub server-mono : (s : Name) → server_stays o a s ≡ true → server_stays o b s ≡ true
+-- what is named here is named there
+pub record IsLess (o p : Outside) : Type 0 where
+  pub held : (n : Name) → o.held n ≡ true → p.held n ≡ true
+  pub controlled : (n : Name) → o.controlled n ≡ true → p.controlled n ≡ true
+
+-- what is aimed at in a part is so in the whole
+pub named-less : (o : Outside) (a b : NodeState) → IsPart a b → IsLess (named o a) (named o b)
+named-less o a b part = record {
+  held = λ n.
+      let aims = λ (s : Name) (i : ServerInfo). is_listed n i.targets in
+      or_mono (o.held n) _ (o.held n) _ (λ x. x) (any_in-mono aims aims a.servers b.servers part.servers (λ s i x. x));
+  controlled = λ n h. h;
+}
+
+module _ (o p : Outside) (less : IsLess o p) (a b : NodeState) (part : IsPart a b) where
+  pub server-mono : (s : Name) → server_stays o a s ≡ true → server_stays p b s ≡ true
   server-mono s h =
       let seated = λ (n q : Name). same_name s q in
-      let named = λ (n q : Name). same_name s q && o.held n in
-      or_mono (same_name s boot_name) _ (same_name s boot_name) _ (λ x. x) (or_mono (o.controlled s) _ (o.controlled s) _ (λ x. x)
-      (or_mono (any_in seated a.actives) (any_in named a.homes) (any_in seated b.actives) (any_in named b.homes)
-      (any_in-mono seated seated a.actives b.actives part.actives (λ n q x. x)) (any_in-mono named named a.homes b.homes part.homes (λ n q x. x)))) h
+      let users = λ (n q : Name). same_name s q && o.held n in
+      let others = λ (n q : Name). same_name s q && p.held n in
+      or_mono (same_name s boot_name) _ (same_name s boot_name) _ (λ x. x) (or_mono (o.controlled s) _ (p.controlled s) _ (less.controlled s)
+      (or_mono (any_in seated a.actives) (any_in users a.homes) (any_in seated b.actives) (any_in others b.homes)
+      (any_in-mono seated seated a.actives b.actives part.actives (λ n q x. x))
+      (any_in-mono users others a.homes b.homes part.homes (λ n q. and_mono (same_name s q) (o.held n) (same_name s q) (p.held n) (λ x. x) (less.held n))))) h
 
   -- what is no node in a part that has its home is none in the whole
   absent-mono : (n s : Name) → fin.get a.homes n ≡ Some s → fin.get a.nodes n ≡ None → (v : Option Node) → fin.get b.nodes n ≡ v → is_entered_at v ≡ true
@@ -70,19 +86,33 @@ module _ (o : Outside) (a b : NodeState) (part : IsPart a b) where
   entered-mono n s home None is h = absent-mono n s home is (fin.get b.nodes n) refl
   entered-mono n s home (Some x) is h = rw (part.nodes n x is) h
 
-  with-mono : (n s : Name) → fin.get a.homes n ≡ Some s → (u : Option ServerInfo) → fin.get a.servers s ≡ u → stays_with o a n s u ≡ true → stays_with o b n s (fin.get b.servers s) ≡ true
+  with-mono : (n s : Name) → fin.get a.homes n ≡ Some s → (u : Option ServerInfo) → fin.get a.servers s ≡ u → stays_with o a n s u ≡ true → stays_with p b n s (fin.get b.servers s) ≡ true
   with-mono n s home None is h = absurd (true≢false (sym h))
   with-mono n s home (Some i) is h =
       rw (part.servers s i is)
-      (and_mono (server_stays o a s) _ (server_stays o b s) _ (server-mono s) (or_mono (same_name n i.root) _ (same_name n i.root) _ (λ x. x)
-      (or_mono (is_entered_at (fin.get a.nodes n)) (o.held n) (is_entered_at (fin.get b.nodes n)) (o.held n) (entered-mono n s home (fin.get a.nodes n) refl) (λ x. x))) h)
+      (and_mono (server_stays o a s) _ (server_stays p b s) _ (server-mono s) (or_mono (same_name n i.root) _ (same_name n i.root) _ (λ x. x)
+      (or_mono (is_entered_at (fin.get a.nodes n)) (o.held n) (is_entered_at (fin.get b.nodes n)) (p.held n) (entered-mono n s home (fin.get a.nodes n) refl) (less.held n))) h)
 
-  by-mono : (n : Name) (u : Option Name) → fin.get a.homes n ≡ u → stays_by o a n u ≡ true → stays_by o b n (fin.get b.homes n) ≡ true
+  by-mono : (n : Name) (u : Option Name) → fin.get a.homes n ≡ u → stays_by o a n u ≡ true → stays_by p b n (fin.get b.homes n) ≡ true
   by-mono n None is h = absurd (true≢false (sym h))
   by-mono n (Some s) is h = rw (part.homes n s is) (with-mono n s is (fin.get a.servers s) refl h)
 
-  pub node-mono : (n : Name) → node_stays o a n ≡ true → node_stays o b n ≡ true
+  pub node-mono : (n : Name) → node_stays o a n ≡ true → node_stays p b n ≡ true
   node-mono n h = by-mono n (fin.get a.homes n) refl h
+
+module _ (o : Outside) (a b : NodeState) (part : IsPart a b) where
+  -- the tests of a sweep
+  abbrev here : Outside
+  here = named o a
+
+  abbrev there : Outside
+  there = named o b
+
+  node_test : (n : Name) → node_stays here a n ≡ true → node_stays there b n ≡ true
+  node_test = node-mono here there (named-less o a b part) a b part
+
+  server_test : (s : Name) → server_stays here a s ≡ true → server_stays there b s ≡ true
+  server_test = server-mono here there (named-less o a b part) a b part
 
   sweep-within : {X : Type 0} (p q : Name → Bool) → ((n : Name) → p n ≡ true → q n ≡ true) → (m k : NameMap X) → IsWithin m k → IsWithin (fin.retain_keys m p) (fin.retain_keys k q)
   sweep-within p q follows m k within n x is =
@@ -92,19 +122,22 @@ module _ (o : Outside) (a b : NodeState) (part : IsPart a b) where
   -- no take-out makes another thing stay
   pub sweep-mono : IsPart (sweep o a) (sweep o b)
   sweep-mono = record {
-    nodes = sweep-within (node_stays o a) (node_stays o b) node-mono a.nodes b.nodes part.nodes;
-    homes = sweep-within (node_stays o a) (node_stays o b) node-mono a.homes b.homes part.homes;
-    actives = sweep-within (node_stays o a) (node_stays o b) node-mono a.actives b.actives part.actives;
-    servers = sweep-within (server_stays o a) (server_stays o b) server-mono a.servers b.servers part.servers;
+    nodes = sweep-within (node_stays here a) (node_stays there b) node_test a.nodes b.nodes part.nodes;
+    homes = sweep-within (node_stays here a) (node_stays there b) node_test a.homes b.homes part.homes;
+    actives = sweep-within (node_stays here a) (node_stays there b) node_test a.actives b.actives part.actives;
+    servers = sweep-within (server_stays here a) (server_stays there b) server_test a.servers b.servers part.servers;
     whole = λ n s x home is.
-        let kept = kept-is a.homes (node_stays o a) n s home in
-        kept-here a.nodes (node_stays o a) n x kept.0 (part.whole n s x kept.1 (kept-is b.nodes (node_stays o b) n x is).1);
+        let kept = kept-is a.homes (node_stays here a) n s home in
+        kept-here a.nodes (node_stays here a) n x kept.0 (part.whole n s x kept.1 (kept-is b.nodes (node_stays there b) n x is).1);
   }
 
 -- what goes
 
-module _ (o : Outside) (h : NodeState) where
-  pub sweep-part : IsPart (sweep o h) h
+module _ (z : Outside) (h : NodeState) where
+  abbrev o : Outside
+  o = named z h
+
+  pub sweep-part : IsPart (sweep z h) h
   sweep-part = record {
     nodes = kept-within h.nodes (node_stays o h);
     homes = kept-within h.homes (node_stays o h);
@@ -117,7 +150,7 @@ module _ (o : Outside) (h : NodeState) where
   left_apart p n gone m q x is = let both = kept-is m p q x is in remove_apart m n q (λ e. true≢false (sym both.0 ∙ ap p e ∙ gone)) ∙ both.1
 
   -- a node that doesn't stay can be taken out
-  pub out_node-part : (n : Name) → node_stays o h n ≡ false → IsPart (sweep o h) (out_node n h)
+  pub out_node-part : (n : Name) → node_stays o h n ≡ false → IsPart (sweep z h) (out_node n h)
   out_node-part n gone = record {
     nodes = left_apart (node_stays o h) n gone h.nodes;
     homes = left_apart (node_stays o h) n gone h.homes;
@@ -160,7 +193,7 @@ module _ (o : Outside) (h : NodeState) where
     other_active n = other_server s gone (fin.get h.actives n) (active-serves n)
 
     -- so can a server, with its nodes
-    pub out_server-part : IsPart (sweep o h) (out_server s h)
+    pub out_server-part : IsPart (sweep z h) (out_server s h)
     out_server-part = record {
       nodes = λ q x is. let both = kept-is h.nodes (node_stays o h) q x is in kept-here h.nodes (is_other s h.homes) q x (other_home q both.0) both.1;
       homes = λ q x is. let both = kept-is h.homes (node_stays o h) q x is in kept-here h.homes (is_other s h.homes) q x (other_home q both.0) both.1;
@@ -189,7 +222,7 @@ module _ (o : Outside) (h : NodeState) where
     whole = λ q p x home is. kept-here h.nodes (is_other s h.homes) q x (kept-is h.homes (is_other s h.homes) q p home).0 is;
   }
 
-  takes : (k : NodeState) → IsPart k h → IsPart (sweep o h) k → k ≢ h → TakesOut o h k
+  takes : (k : NodeState) → IsPart k h → IsPart (sweep z h) k → k ≢ h → TakesOut z h k
   takes k less kept other = record {
     less = less;
     kept = kept;
@@ -202,22 +235,22 @@ module _ (o : Outside) (h : NodeState) where
   not_there : {X : Type 0} (m : NameMap X) (n : Name) → is_some (fin.get m n) ≡ true → fin.remove m n ≢ m
   not_there m n there same = true≢false (sym there ∙ ap (λ (k : NameMap _). is_some (fin.get k n)) (sym same) ∙ ap is_some (remove_here m n))
 
-  pub takes-home : (n : Name) → node_stays o h n ≡ false → is_some (fin.get h.homes n) ≡ true → TakesOut o h (out_node n h)
-  takes-home n gone there = takes (out_node n h) (out_node-less n) (out_node-part n gone) (λ same. not_there h.homes n there (ap (λ (k : NodeState). k.homes) same))
+  pub takes-node : (n : Name) → node_stays o h n ≡ false → (is_some (fin.get h.homes n) ≡ true) ⊎ (is_some (fin.get h.actives n) ≡ true) → TakesOut z h (out_node n h)
+  takes-node n gone there = takes (out_node n h) (out_node-less n) (out_node-part n gone) (λ same. elim there [
+    | inl home ↦ not_there h.homes n home (ap (λ (k : NodeState). k.homes) same)
+    | inr active ↦ not_there h.actives n active (ap (λ (k : NodeState). k.actives) same)
+  ])
 
-  pub takes-active : (n : Name) → node_stays o h n ≡ false → is_some (fin.get h.actives n) ≡ true → TakesOut o h (out_node n h)
-  takes-active n gone there = takes (out_node n h) (out_node-less n) (out_node-part n gone) (λ same. not_there h.actives n there (ap (λ (k : NodeState). k.actives) same))
-
-  pub takes-server : (s : Name) → server_stays o h s ≡ false → is_some (fin.get h.servers s) ≡ true → TakesOut o h (out_server s h)
+  pub takes-server : (s : Name) → server_stays o h s ≡ false → is_some (fin.get h.servers s) ≡ true → TakesOut z h (out_server s h)
   takes-server s gone there = takes (out_server s h) (out_server-less s) (out_server-part s gone) (λ same. not_there h.servers s there (ap (λ (k : NodeState). k.servers) same))
 
 -- where all stay, a sweep takes nothing
-pub sweep-none : (o : Outside) (h : NodeState) → ((n : Name) (x : Node) → fin.get h.nodes n ≡ Some x → node_stays o h n ≡ true)
-    → ((n s : Name) → fin.get h.homes n ≡ Some s → node_stays o h n ≡ true) → ((n s : Name) → fin.get h.actives n ≡ Some s → node_stays o h n ≡ true)
-    → ((s : Name) (i : ServerInfo) → fin.get h.servers s ≡ Some i → server_stays o h s ≡ true) → sweep o h ≡ h
+pub sweep-none : (o : Outside) (h : NodeState) → ((n : Name) (x : Node) → fin.get h.nodes n ≡ Some x → node_stays (named o h) h n ≡ true)
+    → ((n s : Name) → fin.get h.homes n ≡ Some s → node_stays (named o h) h n ≡ true) → ((n s : Name) → fin.get h.actives n ≡ Some s → node_stays (named o h) h n ≡ true)
+    → ((s : Name) (i : ServerInfo) → fin.get h.servers s ≡ Some i → server_stays (named o h) h s ≡ true) → sweep o h ≡ h
 sweep-none o h nodes homes actives servers =
-    same_state (sweep o h) h (kept-all h.nodes (node_stays o h) nodes) (kept-all h.homes (node_stays o h) homes)
-    (kept-all h.actives (node_stays o h) actives) (kept-all h.servers (server_stays o h) servers)
+    same_state (sweep o h) h (kept-all h.nodes (node_stays (named o h) h) nodes) (kept-all h.homes (node_stays (named o h) h) homes)
+    (kept-all h.actives (node_stays (named o h) h) actives) (kept-all h.servers (server_stays (named o h) h) servers)
 
 -- on the way: nothing was taken out that is left in the end
 pub record IsOnTheWay (o : Outside) (start now : NodeState) : Type 0 where

@@ -10,20 +10,21 @@ use Rattle.hurd_creds.specs.Names.{same_name}
 use Rattle.hurd_creds.specs.NameMaps.{NameMap, place_by}
 use Rattle.hurd_creds.proofs.KeyedLaws.{get-absent}
 use Rattle.hurd_creds.proofs.MapLaws.{get-map_values}
-use Rattle.hurd_trans_iface.specs.Nodes.{Node, is_entered_at}
+use Rattle.hurd_trans_iface.specs.Nodes.{Node, is_entered_at, is_listed}
 use Rattle.hurd_trans_iface.specs.Meaning.{Meaning}
 use Rattle.hurd_nodes.specs.declared.seat.Seat.{Seat}
-use Rattle.hurd_nodes.specs.Held.{AreApart, Seated, box_by, home_key, home_value, homes_of, is_home, mean, mean_seat, row_value, seat_key, seat_value, seats_of}
-use Rattle.hurd_nodes.specs.Shown.{NodeState, ServerInfo, flat, info_in, info_of, node_in, server_of, servers_of}
-use Rattle.hurd_nodes.specs.Settle.{Outside, any_in, node_stays, server_stays, stays_by, stays_with, sweep}
-use Rattle.hurd_nodes.specs.Look.{HomedStay, ServersStay}
+use Rattle.hurd_nodes.specs.Held.{AreApart, Held, Seated, box_by, home_key, home_value, homes_of, is_home, mean, mean_seat, row_value, seat_key, seat_value, seats_of}
+use Rattle.hurd_nodes.specs.Shown.{NodeState, ServerInfo, flat, info_in, info_of, node_in, server_of, servers_of, shown}
+use Rattle.hurd_nodes.specs.Settle.{Outside, any_in, is_target, named, node_stays, server_stays, stays_by, stays_with, sweep}
+use Rattle.hurd_nodes.specs.Look.{HomedStay, SeatsStay, ServersStay}
 use Rattle.hurd_nodes.proofs.SeatLaws.{seat-found, seat-is}
 use Rattle.hurd_nodes.proofs.ShownLaws.{get-nodes, get-servers, seen}
 use Rattle.hurd_nodes.proofs.SettleLaws.{sweep-none}
-use Rattle.hurd_nodes.proofs.PartLaws.{any_in-here, mapped-some}
+use Rattle.hurd_nodes.proofs.PartLaws.{any_in-found, any_in-here, mapped-some, same_bool}
 use Rattle.hurd_nodes.proofs.AnyLaws.{all-listed, any-keyed}
 use Rattle.std.proofs.Math.Bool.{and-false, and-true}
 use Rattle.std.proofs.lemmas.Bool.{or_left, or_right}
+use Rattle.std.proofs.lemmas.Option.{same_Some}
 
 -- a test of a list of homes is one of their map
 pub home-told : (p : Name → Name → Bool) (hs : List (Name × Name)) → AreApart home_key hs → list_any (λ (x : Name × Name). p x.0 x.1) hs ≡ any_in p (homes_of hs)
@@ -48,6 +49,9 @@ module _ {S : Type 0} (f : S → Meaning) (seats : NameMap (Seated S)) (s : Name
       let a = mapped-some info_of (option_map (mean_seat f) (fin.get seats s)) i (sym info-is ∙ is) in
       let b = mapped-some (mean_seat f) (fin.get seats s) a.0 a.1 in
       (b.0, b.1)
+
+  shown_seat : (e : Seated S) → fin.get seats s ≡ Some e → fin.get (servers_of (mean f seats)) s ≡ Some (info_of (mean_seat f e))
+  shown_seat e is = info-is ∙ ap (λ (o : Option (Seated S)). option_map info_of (option_map (mean_seat f) o)) is
 
 -- a server that is found by its place, or not found
 module _ {S : Type 0} (f : S → Meaning) (ss : List (Name × Seat S)) (s : Name) where
@@ -74,14 +78,29 @@ pub seats-stay : {S : Type 0} (f : S → Meaning) (ss : List (Name × Seat S)) (
 unfolding seats_of
 seats-stay f ss p none s i is = let e = seat-of f (seats_of ss) s i is in all-listed seat_key row_value p ss none s e.0 e.1
 
-pub all-kept : {S : Type 0} (f : S → Meaning) (homes actives : List (Name × Name)) (ss : List (Name × Seat S)) (o : Outside) → (let h = flat (homes_of homes) (homes_of actives) (mean f (seats_of ss)) in
-    HomedStay o h → list_any (λ (x : Name × Name). not (node_stays o h x.0)) actives ≡ false → ServersStay o h → sweep o h ≡ h)
-all-kept f homes actives ss o kept no_active serves =
-    let seats = mean f (seats_of ss) in
-    let h = flat (homes_of homes) (homes_of actives) seats in
-    sweep-none o h
-    (λ n x is. let at = node_home seats n (fin.get (homes_of homes) n) x (sym (get-nodes (homes_of homes) seats n) ∙ is) in kept n at.0 at.1)
-    kept (homes-stay actives (node_stays o h) no_active) serves
+pub all-kept : {S : Type 0} (f : S → Meaning) (t : Held S) (o : Outside)
+    → (let h = shown f t in HomedStay (named o h) h → SeatsStay (named o h) h → ServersStay (named o h) h → sweep o h ≡ h)
+all-kept f t o kept seated serves =
+    let seats = mean f t.seats in
+    sweep-none o (shown f t) (λ n x is. let at = node_home seats n (fin.get t.homes n) x (sym (get-nodes t.homes seats n) ∙ is) in kept n at.0 at.1) kept seated serves
+
+-- whether a node is a target, as the seats tell it
+pub aims-told : {S : Type 0} (f : S → Meaning) (ss : List (Name × Seat S)) (n : Name) → AreApart seat_key ss
+    → list_any (λ (x : Name × Seat S). is_listed n x.1.targets.items) ss ≡ is_target (servers_of (mean f (seats_of ss))) n
+unfolding seats_of
+aims-told {S} f ss n apart =
+    let told = λ (s : Name) (e : Seated S). is_listed n e.targets in
+    let aims = λ (s : Name) (i : ServerInfo). is_listed n i.targets in
+    any-keyed seat_key row_value told ss apart
+    ∙ same_bool _ _
+    (λ h.
+    let k = any_in-found told (seats_of ss) h in
+    any_in-here aims (servers_of (mean f (seats_of ss))) k.name (info_of (mean_seat f k.item)) (shown_seat f (seats_of ss) k.name k.item k.is) k.holds)
+    (λ h.
+    let k = any_in-found aims (servers_of (mean f (seats_of ss))) h in
+    let e = seat-of f (seats_of ss) k.name k.item k.is in
+    let same = same_Some (info_of (mean_seat f e.0)) k.item (sym (shown_seat f (seats_of ss) k.name e.0 e.1) ∙ k.is) in
+    any_in-here told (seats_of ss) k.name e.0 e.1 (ap (λ (i : ServerInfo). is_listed n i.targets) same ∙ k.holds))
 
 -- what is known of a node's server
 pub info-seated : (homes : NameMap Name) (seats : NameMap (Seated Meaning)) (n s : Name) (e : Seated Meaning) → fin.get homes n ≡ Some s → fin.get seats s ≡ Some e → server_of (seen homes seats) n ≡ Some (info_of e)
@@ -109,14 +128,14 @@ module _ {S : Type 0} (f : S → Meaning) (homes actives : NameMap Name) (ss : L
       ap (stays_by o told n) (sym home)
       ∙ ap (stays_with o told n s) (get-servers (mean f (seats_of ss)) s ∙ ap (option_map info_of) (seat-is f ss s i x at read))
 
-  abbrev named : Bool
-  named = same_name n x.root || (is_entered_at (fin.get told.nodes n) || o.held n)
+  abbrev has_reason : Bool
+  has_reason = same_name n x.root || (is_entered_at (fin.get told.nodes n) || o.held n)
 
   -- it stays while its server does, if it is the root, entered or held
-  pub stays-named : named ≡ true → server_stays o told s ≡ node_stays o told n
+  pub stays-named : has_reason ≡ true → server_stays o told s ≡ node_stays o told n
   stays-named is = sym (stays-is ∙ rw is (and-true (server_stays o told s)))
 
-  pub stays-nameless : named ≡ false → false ≡ node_stays o told n
+  pub stays-nameless : has_reason ≡ false → false ≡ node_stays o told n
   stays-nameless is = sym (stays-is ∙ rw is (and-false (server_stays o told s)))
 
 -- the last of four tests, where none before it holds

@@ -2,18 +2,19 @@
 use Rattle.std.specs.Prelude.{◌≡◌, Bool, true, false, is_some, List, [], ◌∷◌, Option, Some, None, ℕ, refl}
 use Rattle.std.specs.Option.{option_map}
 use Rattle.std.specs.FinMap as fin
-use Rattle.std.specs.Coded.{Coded, code_by, coded×}
+use Rattle.std.specs.Coded.{Coded, code_by, coded×, coded_list}
 use Rattle.hurd_creds.specs.declared.name.Name.{Name}
 use Rattle.hurd_creds.specs.Access.{IdSets, coded_ids}
 use Rattle.hurd_creds.specs.Names.{coded_name, same_name}
 use Rattle.hurd_creds.specs.NameMaps.{NameMap, keyed, map_values, place_by}
 use Rattle.hurd_nodes.specs.declared.seat.Seat.{Seat}
 
--- a server in its place: its box, the name of its root, and its ids
+-- a server in its place: its box, the name of its root, its ids, and the nodes that it aims at
 pub record Seated (S : Type 0) : Type 0 where
   pub server : S
   pub root : Name
   pub ids : IdSets
+  pub targets : List Name
 
 -- of each node its server; of each node the server that is active on it; and the servers
 pub record Held (S : Type 0) : Type 0 where
@@ -23,8 +24,8 @@ pub record Held (S : Type 0) : Type 0 where
 
 abbrev pub coded_seated : {S : Type 0} → Coded S → Coded (Seated S)
 coded_seated {S} c =
-    code_by (S × (Name × IdSets)) (coded× c (coded× coded_name coded_ids)) (λ e. (e.server, (e.root, e.ids)))
-    (λ p. record { server = p.0; root = p.1.0; ids = p.1.1 }) (λ _. refl)
+    code_by (S × (Name × (IdSets × List Name))) (coded× c (coded× coded_name (coded× coded_ids (coded_list coded_name)))) (λ e. (e.server, (e.root, (e.ids, e.targets))))
+    (λ p. record { server = p.0; root = p.1.0; ids = p.1.1.0; targets = p.1.1.1 }) (λ _. refl)
 
 abbrev pub coded_held : {S : Type 0} → Coded S → Coded (Held S)
 coded_held {S} c =
@@ -47,7 +48,7 @@ abbrev pub seat_key : {S : Type 0} → Name × Seat S → Name
 seat_key e = e.0
 
 abbrev pub seat_value : {S : Type 0} → Seat S → Seated S
-seat_value s = record { server = s.server; root = s.root; ids = s.ids }
+seat_value s = record { server = s.server; root = s.root; ids = s.ids; targets = s.targets.items }
 
 -- a seat as its row has it, under the name of its server
 abbrev pub row_value : {S : Type 0} → Name × Seat S → Seated S
@@ -78,7 +79,7 @@ pub record AreTables {S : Type 0} (homes actives : List (Name × Name)) (seats :
 -- each box as what it means
 
 abbrev pub mean_seat : {A B : Type 0} → (A → B) → Seated A → Seated B
-mean_seat f e = record { server = f e.server; root = e.root; ids = e.ids }
+mean_seat f e = record { server = f e.server; root = e.root; ids = e.ids; targets = e.targets }
 
 unfoldable pub mean : {A B : Type 0} → (A → B) → NameMap (Seated A) → NameMap (Seated B)
 mean f seats = map_values (mean_seat f) seats

@@ -5,7 +5,7 @@ use Rattle.std.specs.FinMap as fin
 use Rattle.hurd_creds.specs.declared.name.Name.{Name}
 use Rattle.hurd_creds.specs.Names.{same_name}
 use Rattle.hurd_creds.specs.NameMaps.{NameMap}
-use Rattle.hurd_trans_iface.specs.Nodes.{is_entered_at}
+use Rattle.hurd_trans_iface.specs.Nodes.{is_entered_at, is_listed}
 use Rattle.hurd_nodes.specs.Shown.{NodeState, ServerInfo, boot_name}
 
 -- what is named from outside: nodes, and servers
@@ -21,7 +21,18 @@ passes test n (Some x) = test n x
 unfoldable pub any_in : {X : Type 0} → (Name → X → Bool) → NameMap X → Bool
 any_in test m = list_any (λ n. passes test n (fin.get m n)) (fin.keys m)
 
--- a server stays: the boot server, one that is controlled, one that is active on a node, and one that has a node named from outside
+-- whether a server that is there aims at a node
+abbrev pub is_target : NameMap ServerInfo → Name → Bool
+is_target servers n = any_in (λ s i. is_listed n i.targets) servers
+
+-- what is named: from outside, or as a target
+abbrev pub with_targets : NameMap ServerInfo → Outside → Outside
+with_targets servers o = record { held = λ n. o.held n || is_target servers n; controlled = o.controlled }
+
+abbrev pub named : Outside → NodeState → Outside
+named o h = with_targets h.servers o
+
+-- a server stays: the boot server, one that is controlled, one that is active on a node, and one that has a node that is named
 abbrev pub server_stays : Outside → NodeState → Name → Bool
 server_stays o h s =
     same_name s boot_name || (o.controlled s || (any_in (λ n q. same_name s q) h.actives || any_in (λ n q. same_name s q && o.held n) h.homes))
@@ -34,17 +45,17 @@ abbrev pub stays_by : Outside → NodeState → Name → Option Name → Bool
 stays_by o h n None = false
 stays_by o h n (Some s) = stays_with o h n s (fin.get h.servers s)
 
--- a node stays while its server does, and it is that server's root, entered, or named from outside
+-- a node stays while its server does, and it is that server's root, entered, or named
 abbrev pub node_stays : Outside → NodeState → Name → Bool
 node_stays o h n = stays_by o h n (fin.get h.homes n)
 
 -- without all that doesn't stay
 abbrev pub sweep : Outside → NodeState → NodeState
 sweep o h = record {
-  nodes = fin.retain_keys h.nodes (node_stays o h);
-  homes = fin.retain_keys h.homes (node_stays o h);
-  actives = fin.retain_keys h.actives (node_stays o h);
-  servers = fin.retain_keys h.servers (server_stays o h);
+  nodes = fin.retain_keys h.nodes (node_stays (named o h) h);
+  homes = fin.retain_keys h.homes (node_stays (named o h) h);
+  actives = fin.retain_keys h.actives (node_stays (named o h) h);
+  servers = fin.retain_keys h.servers (server_stays (named o h) h);
 }
 
 abbrev pub sweeps : Outside → ℕ → NodeState → NodeState

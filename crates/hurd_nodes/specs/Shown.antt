@@ -27,12 +27,13 @@ boot_name = name_of 4294967295 0
 abbrev pub boot_ids : IdSets
 boot_ids = record { uids = set.from_list (0 ∷ []); gids = set.from_list [] }
 
--- what the core knows and shows of a server: its kind and text, the name of its root, and its ids
+-- what the core knows and shows of a server: its kind and text, the name of its root, its ids, and its targets: the nodes that it aims at
 pub record ServerInfo : Type 0 where
   pub kind : ServerKind
   pub text : List ℕ
   pub root : Name
   pub ids : IdSets
+  pub targets : List Name
 
 -- nodes by name; of each node its server; of each node the server that is active on it; and the servers
 pub record NodeState : Type 0 where
@@ -72,7 +73,7 @@ unfoldable pub nodes_of : NameMap Name → NameMap (Seated Meaning) → NodeMap
 nodes_of homes seats = pick_values (λ n s. node_in n (box_at seats s)) homes
 
 abbrev pub info_of : Seated Meaning → ServerInfo
-info_of e = record { kind = e.server.kind; text = e.server.text; root = e.root; ids = e.ids }
+info_of e = record { kind = e.server.kind; text = e.server.text; root = e.root; ids = e.ids; targets = e.targets }
 
 unfoldable pub servers_of : NameMap (Seated Meaning) → NameMap ServerInfo
 servers_of seats = map_values info_of seats
@@ -94,7 +95,7 @@ forgotten n None seats = seats
 forgotten n (Some s) seats = edit s (λ e. with_box e (forget_after e.server n)) seats
 
 abbrev pub boot_info : Meaning → ServerInfo
-boot_info m = record { kind = m.kind; text = m.text; root = boot_name; ids = boot_ids }
+boot_info m = record { kind = m.kind; text = m.text; root = boot_name; ids = boot_ids; targets = [] }
 
 -- the boot server alone, which serves every node
 abbrev pub state_of : Meaning → NodeState
@@ -355,9 +356,9 @@ attached s at i root h =
       servers = fin.insert k.servers s i;
     }
 
--- what is known of a server that begins, under the name of its root, with these ids
-abbrev pub begun_info : Meaning → Name → IdSets → ServerInfo
-begun_info m root ids = record { kind = m.kind; text = m.text; root = root; ids = ids }
+-- what is known of a server that begins, under the name of its root, with these ids and targets
+abbrev pub begun_info : Meaning → Name → IdSets → List Name → ServerInfo
+begun_info m root ids targets = record { kind = m.kind; text = m.text; root = root; ids = ids; targets = targets }
 
 -- its root, which belongs to these
 abbrev pub begun_root : Meaning → ℕ → ℕ → Mode → Node

@@ -204,7 +204,7 @@ pub(crate) fn has_tree<S: Server>(server: &S) -> bool
     let root = server.root();
     match root.crossing {
         Crossing::Plain => is_dir(root.kind),
-        Crossing::Link { .. } => false,
+        Crossing::Link { .. } | Crossing::Firm | Crossing::Union => false,
     }
 }
 

@@ -76,6 +76,7 @@ impl<S: Server> Nodes<S> {
             root: BOOT_NAME,
             at: None,
             ids,
+            targets: Vec::new(alloc),
             server,
         };
         put_seat(&mut seats, BOOT_NAME, seat);
@@ -170,6 +171,24 @@ impl<S: Server> Nodes<S> {
             Some(i) => Some(&self.seats[i].ids),
             None => None,
         }
+    }
+
+    /// The targets of a server, lent, if the server is there: the nodes that it aims at, in order. Takes no memory.
+    pub fn targets_of(&self, server: ServerName) -> Option<&[NodeName]>
+        ensures { option_copied result ≡ option_map (λ (i : ServerInfo). i.targets) (fin.get (shown S.meaning self.now).servers server) }
+    {
+        match place_of_seat(&self.seats, server) {
+            Some(i) => Some(&self.seats[i].targets),
+            None => None,
+        }
+    }
+
+    /// The targets of the server of a node, lent, if the node has a server. Takes no memory.
+    pub fn targets_at(&self, node: NodeName) -> Option<&[NodeName]>
+        ensures { option_copied result ≡ option_map (λ (i : ServerInfo). i.targets) (server_of (shown S.meaning self.now) node) }
+    {
+        let server = self.home(node)?;
+        self.targets_of(server)
     }
 
     /// The program and its words, as they would be given to make such a server now.

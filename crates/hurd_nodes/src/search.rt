@@ -4,6 +4,7 @@ ghost use Rattle.std.specs.List.{list_any};
 ghost use Rattle.std.specs.FinMap as fin;
 ghost use Rattle.indexmap.specs.IndexMap.{spare};
 ghost use Rattle.hurd_creds.specs.Names.{same_name};
+ghost use Rattle.hurd_trans_iface.specs.Nodes.{is_listed};
 ghost use Rattle.hurd_creds.specs.NameMaps.{place_by};
 ghost use Rattle.hurd_nodes.specs.Held.{AllSeated, AreApart, AreTables, held_of, home_key, homes_of, is_home, place_in, seat_key, seat_value, seats_of};
 ghost use Rattle.hurd_nodes.specs.Shown.{less_old, with_home, without_seats, without_server, without_value};
@@ -215,7 +216,21 @@ pub(crate) fn is_active(actives: &Homes, server: ServerName) -> bool
     actives.iter().any(|(_, active)| server == *active)
 }
 
-/// Whether a server has a node that is named from outside.
+/// Whether a node is a target of a server.
+pub(crate) fn is_target<S>(seats: &Seats<S>, node: NodeName) -> bool
+    ensures { result ≡ list_any (λ x. is_listed node x.1.targets.items) seats.now.entries }
+{
+    seats.iter().any(|(_, seat)| is_among(&seat.targets, node))
+}
+
+/// Whether a node is one of these.
+fn is_among(nodes: &[NodeName], node: NodeName) -> bool
+    ensures { result ≡ is_listed node nodes.now }
+{
+    nodes.iter().any(|name| node == *name)
+}
+
+/// Whether a server has a node that is named.
 pub(crate) fn has_held<N: Namings>(homes: &Homes, server: ServerName, namings: &N) -> bool
     ensures { result ≡ list_any (λ x. same_name server x.1 && (N.outside namings.now).held x.0) homes.now.entries }
 {

@@ -8,12 +8,13 @@ pub(crate) type Homes = IndexMap<NodeName, ServerName>;
 /// The seat of each server.
 pub(crate) type Seats<S> = IndexMap<ServerName, Seat<S>>;
 
-/// A server in its place: the name of its root, the node on which it was attached, if on one, its ids, and its box.
+/// A server in its place: the name of its root, the node on which it was attached, if on one, its ids, its targets, and its box.
 #[derive(Drop)]
 pub(crate) struct Seat<S> {
     pub(crate) root: NodeName,
     pub(crate) at: Option<NodeName>,
     pub(crate) ids: Ids,
+    pub(crate) targets: Vec<NodeName>,
     pub(crate) server: S,
 }
 
@@ -26,6 +27,13 @@ pub struct Place {
     pub owner: u32,
     pub group: u32,
     pub mode: Mode,
+}
+
+/// What doesn't stay.
+#[derive(Clone, Copy, Debug, PartialEq, Eq)]
+pub(crate) enum Unkept {
+    Node(NodeName),
+    Server(ServerName),
 }
 
 /// What a look at the nodes that no entry names comes to.

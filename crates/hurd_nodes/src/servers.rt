@@ -11,7 +11,7 @@ use hurd_creds::{Errno, Ids, NodeName, ServerName};
 use hurd_trans_iface::Server;
 
 impl<S: Server> Nodes<S> {
-    /// A new server takes its place: active on a node, with a root of its own, which may be a node that is there. The server that leaves for it goes first, as by
+    /// A new server takes its place: active on a node, with a root of its own, which may be a node that is there, and with these targets, which need not be there. The server that leaves for it goes first, as by
     /// `detach`, and so does one of its own name; one that was active on the node is so no more.
     ///
     /// `ENOMEM`, with the box back: nothing is changed.
@@ -19,11 +19,12 @@ impl<S: Server> Nodes<S> {
         &mut self,
         place: Place,
         ids: Ids,
+        targets: Vec<NodeName>,
         instead: Option<ServerName>,
         server: S,
     ) -> Result<(), (Errno, S)>
         requires { Begins (S.meaning server) }
-        ensures shown { OnOk result (shown S.meaning self.new ≡ attached place.name place.seat (begun_info (S.meaning server) place.root ids)
+        ensures shown { OnOk result (shown S.meaning self.new ≡ attached place.name place.seat (begun_info (S.meaning server) place.root ids targets.items)
             (begun_root (S.meaning server) place.owner place.group place.mode) (without_old instead (shown S.meaning self.old))) }
         ensures hidden { fin.get self.old.homes place.root ≡ None → HideNothing S.meaning self.old → HideNothing S.meaning self.new }
         ensures kept { OnErr result (self.new ≡ self.old) }
@@ -47,6 +48,7 @@ impl<S: Server> Nodes<S> {
             root: place.root,
             at: Some(place.seat),
             ids,
+            targets,
             server,
         };
         put_seat(&mut self.seats, place.name, seat);

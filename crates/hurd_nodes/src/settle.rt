@@ -1,4 +1,6 @@
 //! What goes when nothing keeps it any more, here or outside.
+//!
+//! A node is named from outside, or as a target of a server: `Named` asks both.
 ghost use Rattle.std.specs.Prelude.{◌≡◌, true, false, not, ◌&&◌, ◌||◌, is_some, None, IfSome};
 ghost use Rattle.std.specs.List.{All, list_any};
 ghost use Rattle.std.specs.FinMap as fin;
@@ -6,18 +8,40 @@ ghost use Rattle.hurd_nodes.specs.Shown.{out_node, without_server, shown, header
 ghost use Rattle.hurd_creds.specs.Names.{same_name};
 ghost use Rattle.hurd_nodes.specs.Held.{homes_of, mean, seats_of, with_seats};
 ghost use Rattle.hurd_trans_iface.specs.Nodes.{is_entered, is_entered_at};
-ghost use Rattle.hurd_nodes.specs.Look.{Goes, HomedStay, IsLook, NamelessStay, ServersStay};
-ghost use Rattle.hurd_nodes.specs.Settle.{node_stays, server_stays, settle, sweep};
+ghost use Rattle.hurd_nodes.specs.Look.{Goes, HomedStay, IsLook, IsUnkept, NamelessStay, SeatsStay, ServersStay};
+ghost use Rattle.hurd_nodes.specs.Settle.{is_target, node_stays, server_stays, settle, sweep};
 ghost use Rattle.hurd_nodes.specs.Parts.{TakesOut};
 
 use crate::namings::Namings;
 use crate::nodes::{BOOT_NAME, Nodes};
 use crate::search::{
-    has_held, home_of, is_active, is_active_on, place_of_seat, remove_home, remove_server,
+    has_held, home_of, is_active, is_active_on, is_target, place_of_seat, remove_home,
+    remove_server,
 };
-use crate::seat::{Homes, Look, Seats};
+use crate::seat::{Homes, Look, Seats, Unkept};
 use hurd_creds::{Attrs, NodeName, ServerName};
 use hurd_trans_iface::{Server, is_dir};
+
+/// What is named from outside of the nodes, or as a target.
+#[derive(Clone, Copy)]
+pub(crate) struct Named<'a, S, N> {
+    nodes: &'a Nodes<S>,
+    namings: &'a N,
+}
+
+impl<S: Server, N: Namings> Namings for Named<'_, S, N> {
+    ghost use Rattle.hurd_nodes.specs.Settle.{named};
+
+    ghost outside = { λ n. named (N.outside n.namings.now) (shown S.meaning n.nodes.now) };
+
+    fn names(&self, node: NodeName) -> bool {
+        self.namings.names(node) || self.nodes.is_target(node)
+    }
+
+    fn controls(&self, server: ServerName) -> bool {
+        self.namings.controls(server)
+    }
+}
 
 impl<S: Server> Nodes<S> {
     /// What nothing keeps any more goes: servers with their boxes, and nodes, which their boxes forget. Takes no memory.
@@ -35,19 +59,34 @@ impl<S: Server> Nodes<S> {
         ensures same { result ≡ false → self.new ≡ self.old }
         ensures hidden { HideNothing S.meaning self.old → HideNothing S.meaning self.new }
     {
+        let named = Named {
+            nodes: &*self,
+            namings,
+        };
+        let Some(unkept) = named.nodes.unkept(&named) else {
+            return false;
+        };
+        match unkept {
+            Unkept::Node(node) => self.take_node(node),
+            Unkept::Server(server) => self.take_server(server),
+        }
+        true
+    }
+
+    /// A node or server that doesn't stay; where none is found, all stay.
+    fn unkept<N: Namings>(&self, namings: &N) -> Option<Unkept>
+        ensures found { IfSome result (λ u. IsUnkept (N.outside namings.now) (shown S.meaning self.now) u) }
+        ensures none { let o = N.outside namings.now in let h = shown S.meaning self.now in
+            result ≡ None → HomedStay o h × SeatsStay o h × ServersStay o h }
+    {
         if let Some(node) = self.unkept_served(namings) {
-            self.take_node(node);
-            return true;
+            return Some(Unkept::Node(node));
         }
         if let Some(node) = self.unkept_node(&self.actives, namings) {
-            self.take_node(node);
-            return true;
+            return Some(Unkept::Node(node));
         }
-        if let Some(server) = self.unkept_server(&self.seats, namings) {
-            self.take_server(server);
-            return true;
-        }
-        false
+        let server = self.unkept_server(&self.seats, namings)?;
+        Some(Unkept::Server(server))
     }
 
     /// A node that goes; where none is found, none does, if all servers stay. What servers list is looked at, and all nodes only where one of them doesn't say.
@@ -139,7 +178,7 @@ impl<S: Server> Nodes<S> {
         None
     }
 
-    /// Whether a node stays: its server does, and it is that server's root, an entry names it, or it is named from outside.
+    /// Whether a node stays: its server does, and it is that server's root, an entry names it, or it is named.
     fn node_stays<N: Namings>(&self, node: NodeName, namings: &N) -> bool
         ensures { result ≡ node_stays (N.outside namings.now) (shown S.meaning self.now) node }
     {
@@ -156,7 +195,14 @@ impl<S: Server> Nodes<S> {
         self.server_stays(server, seat.at, namings)
     }
 
-    /// Whether a node is this root, an entry names it, or it is named from outside.
+    /// Whether a node is a target of a server.
+    fn is_target(&self, node: NodeName) -> bool
+        ensures { result ≡ is_target (shown S.meaning self.now).servers node }
+    {
+        is_target(&self.seats, node)
+    }
+
+    /// Whether a node is this root, an entry names it, or it is named.
     fn is_named<N: Namings>(&self, node: NodeName, root: NodeName, namings: &N) -> bool
         ensures { result ≡ (same_name node root || (is_entered_at (fin.get (shown S.meaning self.now).nodes node) || (N.outside namings.now).held node)) }
     {
@@ -169,7 +215,7 @@ impl<S: Server> Nodes<S> {
         namings.names(node)
     }
 
-    /// Whether a server stays: the boot server, one that is active on a node, one that is controlled, and one that has a node named from outside. First is looked at the
+    /// Whether a server stays: the boot server, one that is active on a node, one that is controlled, and one that has a node that is named. First is looked at the
     /// node on which it was attached, if one is given; all on which servers are active only where it isn't active there.
     fn server_stays<N: Namings>(
         &self,

@@ -1,5 +1,5 @@
 -- What a node, a right and a task show: of what the code asks, and why it is shown.
-use Rattle.std.proofs.Common.{◌≡◌, ◌∙◌, inl, inr, sym, refl, ap, subst, ℕ, Bool, true, false, true≢false, List, [], ◌∷◌, ◌++◌, map, if◌then◌else◌}
+use Rattle.std.proofs.Common.{◌≡◌, ◌∙◌, ◌⊎◌, inl, inr, sym, refl, ap, subst, ℕ, Bool, true, false, true≢false, List, [], ◌∷◌, ◌++◌, map, if◌then◌else◌}
 use Rattle.std.specs.Prelude.{cond, Option, Some, None, Result, Ok, Err, option_and_then}
 use Rattle.std.specs.List.{flat_map}
 use Rattle.std.specs.Option.{option_map}
@@ -24,11 +24,12 @@ use Rattle.hurd_machine.specs.World.{IsAmong}
 use Rattle.hurd_machine.proofs.Removals.{same_exact}
 use Rattle.hurd_machine.specs.Sight.{bare}
 use Rattle.hurd_sight.specs.Reach.{could_with, serves}
-use Rattle.hurd_sight.specs.Found.{gathered, names_told, of_active, of_children, of_entry, of_node, of_parent, of_right, of_server, parent_in, root_of, root_served, searched_by, served_root}
+use Rattle.hurd_sight.specs.Found.{all_of, gathered, names_told, of_active, of_children, of_entry, of_node, of_parent, of_right, of_server, of_target, of_targets, parent_in, root_of, root_served, searched_by, served_root, targets_of}
 use Rattle.hurd_sight.specs.declared.found.Why.{Why}
 use Rattle.hurd_sight.specs.declared.found.Why.TheVariants as why
 use Rattle.hurd_sight.proofs.FoundLaws.{Entries, among_flat, among_why, flat_among, gathered_both, why_among}
 use Rattle.hurd_machine.proofs.Listed.{dir_kind}
+use Rattle.hurd_machine.proofs.Tasks.{among_cases, among_left, among_right}
 
 same_some : {X : Type 0} (x y : X) → Some x ≡ Some y → x ≡ y
 same_some x y e = cc
@@ -89,6 +90,55 @@ info_server h ids m n s i home is served root =
     why_among (option_and_then (served_root h ids) (fin.get h.homes m)) (why.ServerRoot m) n
     (ap (option_and_then (served_root h ids)) home
     ∙ (ap (option_and_then (root_served ids)) is ∙ (ap (λ (b : Bool). if b then Some i.root else None) served ∙ ap (λ (q : Name). Some q) (sym root))))
+
+-- the targets of a node's server, and of the one that is active on it
+
+targets_info : (h : NodeState) (o : Option Name) (n : Name) → IsAmong n (targets_of h o) → (s : Name) × (i : ServerInfo) × (o ≡ Some s) × (fin.get h.servers s ≡ Some i) × IsAmong n i.targets
+targets_info h None n a = absurd a
+targets_info h (Some s) n a = go (fin.get h.servers s) refl a
+  where
+    go : (p : Option ServerInfo) → fin.get h.servers s ≡ p → IsAmong n (all_of (option_map (λ (i : ServerInfo). i.targets) p))
+        → (q : Name) × (i : ServerInfo) × (Some s ≡ Some q) × (fin.get h.servers q ≡ Some i) × IsAmong n i.targets
+    go None is t = absurd t
+    go (Some i) is t = (s, i, refl, is, t)
+
+info_targets : (h : NodeState) (o : Option Name) (n s : Name) (i : ServerInfo) → o ≡ Some s → fin.get h.servers s ≡ Some i → IsAmong n i.targets → IsAmong n (targets_of h o)
+info_targets h o n s i at is aim =
+    subst (λ (p : Option Name). IsAmong n (targets_of h p)) (sym at) (subst (λ (p : Option ServerInfo). IsAmong n (all_of (option_map (λ (j : ServerInfo). j.targets) p))) (sym is) aim)
+
+-- a target of either of two servers
+abbrev pub TargetOf : NodeState → Name → Name → Type 0
+TargetOf h m n = (s : Name) × (i : ServerInfo) × ((fin.get h.homes m ≡ Some s) ⊎ (fin.get h.actives m ≡ Some s)) × (fin.get h.servers s ≡ Some i) × IsAmong n i.targets
+
+-- what is among targets is one, and this is why
+aimed : (m n : Name) (y : Why) (ns : List Name) → IsAmong (n, y) (flat_map (of_target m) ns) → IsAmong n ns × (y ≡ why.Target m)
+aimed m n y ns a = let it = flat_among (of_target m) (n, y) ns a in one it.0 it.1 it.2
+  where
+    one : (q : Name) → IsAmong q ns → IsAmong (n, y) (of_target m q) → IsAmong n ns × (y ≡ why.Target m)
+    one q here (inl e) = (subst (λ (z : Name). IsAmong z ns) (ap (λ (t : Name × Why). t.0) e) here, sym (ap (λ (t : Name × Why). t.1) e))
+    one q here (inr none) = absurd none
+
+pub target_info : (h : NodeState) (m n : Name) (y : Why) → IsAmong (n, y) (of_targets h m) → TargetOf h m n × (y ≡ why.Target m)
+target_info h m n y a = elim (among_cases (n, y) (flat_map (of_target m) (targets_of h (fin.get h.homes m))) _ a) [
+  | inl b ↦
+      let told = aimed m n y (targets_of h (fin.get h.homes m)) b in
+      let it = targets_info h (fin.get h.homes m) n told.0 in
+      ((it.0, it.1, inl it.2, it.3, it.4), told.1)
+  | inr b ↦
+      let told = aimed m n y (targets_of h (fin.get h.actives m)) b in
+      let it = targets_info h (fin.get h.actives m) n told.0 in
+      ((it.0, it.1, inr it.2, it.3, it.4), told.1)
+]
+
+pub info_target : (h : NodeState) (m n : Name) → TargetOf h m n → IsAmong (n, why.Target m) (of_targets h m)
+info_target h m n t = at t.2
+  where
+    among : (o : Option Name) → o ≡ Some t.0 → IsAmong (n, why.Target m) (flat_map (of_target m) (targets_of h o))
+    among o is = among_flat (of_target m) n (n, why.Target m) (targets_of h o) (info_targets h o n t.0 t.1 is t.3 t.4) (inl refl)
+
+    at : (fin.get h.homes m ≡ Some t.0) ⊎ (fin.get h.actives m ≡ Some t.0) → IsAmong (n, why.Target m) (of_targets h m)
+    at (inl is) = among_left _ (flat_map (of_target m) (targets_of h (fin.get h.homes m))) _ (among (fin.get h.homes m) is)
+    at (inr is) = among_right _ (flat_map (of_target m) (targets_of h (fin.get h.homes m))) _ (among (fin.get h.actives m) is)
 
 -- by what the code asks
 
@@ -195,8 +245,9 @@ of_rights a {b} {c} {d} h x starting porting sent =
         ∙ ap (λ (es : Entries). es ++ flat_map (of_right h) x.inbox) (flat_map-map (of_right h) (λ (p : Port). p.right) x.ports))
 
 -- all that a node shows
-pub of_all : (a : Entries) {b c d e : Entries} (h : NodeState) (ids : IdSets) (m : Name) → b ≡ gathered (of_children h ids m) a → c ≡ gathered (of_parent h m) b → d ≡ gathered (of_active h m) c
-    → e ≡ gathered (of_server h ids m) d → e ≡ gathered (of_node h ids m) a
-of_all a {b} {c} h ids m children parent active server =
-    gathered_both a (of_children h ids m) (of_parent h m ++ (of_active h m ++ of_server h ids m)) children
-    (gathered_both b (of_parent h m) (of_active h m ++ of_server h ids m) parent (gathered_both c (of_active h m) (of_server h ids m) active server))
+pub of_all : (a : Entries) {b c d e f : Entries} (h : NodeState) (ids : IdSets) (m : Name) → b ≡ gathered (of_children h ids m) a → c ≡ gathered (of_parent h m) b → d ≡ gathered (of_active h m) c
+    → e ≡ gathered (of_server h ids m) d → f ≡ gathered (of_targets h m) e → f ≡ gathered (of_node h ids m) a
+of_all a {b} {c} {d} h ids m children parent active server targets =
+    gathered_both a (of_children h ids m) (of_parent h m ++ (of_active h m ++ (of_server h ids m ++ of_targets h m))) children
+    (gathered_both b (of_parent h m) (of_active h m ++ (of_server h ids m ++ of_targets h m)) parent
+    (gathered_both c (of_active h m) (of_server h ids m ++ of_targets h m) active (gathered_both d (of_server h ids m) (of_targets h m) server targets)))

@@ -13,15 +13,15 @@ use Rattle.hurd_ports.specs.declared.table.Right.{Right}
 use Rattle.hurd_ports.specs.declared.table.Right.TheVariants.{Io, Control, Start}
 use Rattle.hurd_ports.specs.Tables.{Task, rights_of}
 use Rattle.hurd_machine.specs.World.{World, IsAmong, boot_root, nodes_of}
-use Rattle.hurd_machine.specs.Sight.{Holds, Seen, Root, Held, Way, Controlled, Pending, Child, Parent, Active, ServerRoot}
+use Rattle.hurd_machine.specs.Sight.{Holds, Seen, Root, Held, Way, Controlled, Pending, Child, Parent, Active, ServerRoot, Target}
 use Rattle.hurd_sight.specs.Reach.{Reaches, among}
-use Rattle.hurd_sight.specs.Found.{FoundAll, FoundIsSeen, IsBefore, IsSight, IsWhy, found_from, gathered, is_found, of_active, of_children, of_node, of_nodes, of_parent, of_right, of_task, of_tasks, of_way, root_of}
+use Rattle.hurd_sight.specs.Found.{FoundAll, FoundIsSeen, IsBefore, IsSight, IsWhy, found_from, gathered, is_found, of_active, of_children, of_node, of_nodes, of_parent, of_right, of_server, of_task, of_tasks, of_way, root_of}
 use Rattle.hurd_sight.specs.declared.found.Why.{Why}
 use Rattle.hurd_sight.specs.declared.found.Why.TheVariants as why
 use Rattle.hurd_sight.proofs.CouldLaws.{could_is_enough}
 use Rattle.hurd_sight.proofs.ReachLaws.{any_found, listed_task, ours, served_is}
 use Rattle.hurd_sight.proofs.FoundLaws.{Entries, among_flat, among_why, flat_among, gathered_kept, gathered_said, gathered_there, why_among}
-use Rattle.hurd_sight.proofs.NodeLaws.{active_info, child_info, info_active, info_child, info_parent, info_root, info_server, parent_info, root_info, server_info}
+use Rattle.hurd_sight.proofs.NodeLaws.{active_info, child_info, info_active, info_child, info_parent, info_root, info_server, info_target, parent_info, root_info, server_info, target_info}
 use Rattle.hurd_machine.proofs.Tasks.{among_cases, among_left, among_right}
 use Rattle.hurd_machine.proofs.Holders.{any_among}
 
@@ -131,10 +131,13 @@ module _ (w : World) (tasks : List TaskId) (ids : IdSets) (es : Entries) (r : Re
           | inl p ↦ let it = parent_info h m n y p in rw it.3 ((it.0, it.1, it.2), Parent m it.0 seen it.1 it.2, refl)
           | inr c ↦ elim (among_cases (n, y) (of_active h m) _ c) [
             | inl p ↦ let it = active_info h m n y p in rw it.5 ((it.0, it.1, it.2, it.3, it.4), Active m it.0 it.1 seen it.2 it.3 it.4, refl)
-            | inr p ↦
-                let it = server_info h ids m n y p in
-                let could = (served_is r it.1).0 it.4 in
-                rw it.6 ((it.0, it.1, it.2, it.3, could, it.5), ServerRoot m it.0 it.1 seen it.2 it.3 could it.5, refl)
+            | inr d ↦ elim (among_cases (n, y) (of_server h ids m) _ d) [
+              | inl p ↦
+                  let it = server_info h ids m n y p in
+                  let could = (served_is r it.1).0 it.4 in
+                  rw it.6 ((it.0, it.1, it.2, it.3, could, it.5), ServerRoot m it.0 it.1 seen it.2 it.3 could it.5, refl)
+              | inr p ↦ let it = target_info h m n y p in rw it.1 (it.0, Target m it.0.0 it.0.1 seen it.0.2 it.0.3 it.0.4, refl)
+            ]
           ]
         ]
       ]
@@ -188,7 +191,15 @@ module _ (w : World) (tasks : List TaskId) (ids : IdSets) (es : Entries) (r : Re
   found_of n (ServerRoot m s i seen home there could is) =
       closed m n (why.ServerRoot m) (found_of m seen)
       (among_right _ (of_children (nodes_of w) ids m) _
-      (among_right _ (of_parent (nodes_of w) m) _ (among_right _ (of_active (nodes_of w) m) _ (info_server (nodes_of w) ids m n s i home there ((served_is r i).1 could) is))))
+      (among_right _ (of_parent (nodes_of w) m) _
+      (among_right _ (of_active (nodes_of w) m) _
+      (among_left _ (of_server (nodes_of w) ids m) _ (info_server (nodes_of w) ids m n s i home there ((served_is r i).1 could) is)))))
+  found_of n (Target m s i seen by there aim) =
+      closed m n (why.Target m) (found_of m seen)
+      (among_right _ (of_children (nodes_of w) ids m) _
+      (among_right _ (of_parent (nodes_of w) m) _
+      (among_right _ (of_active (nodes_of w) m) _
+      (among_right _ (of_server (nodes_of w) ids m) _ (info_target (nodes_of w) m n (s, i, by, there, aim))))))
 
   sight : IsSight S w es
   sight = record {

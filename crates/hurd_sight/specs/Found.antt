@@ -45,6 +45,7 @@ IsWhy S w n (why.Child d) =
 IsWhy S w n (why.Parent d) = (h : Header) × (header_at w d ≡ Some h) × (h.parent ≡ Some n)
 IsWhy S w n (why.Active m) = (s : Name) × (i : ServerInfo) × (active_at w m ≡ Some s) × (server_at w s ≡ Some i) × (n ≡ i.root)
 IsWhy S w n (why.ServerRoot m) = (s : Name) × (i : ServerInfo) × (home_at w m ≡ Some s) × (server_at w s ≡ Some i) × CouldServe S w i × (n ≡ i.root)
+IsWhy S w n (why.Target m) = (s : Name) × (i : ServerInfo) × ((home_at w m ≡ Some s) ⊎ (active_at w m ≡ Some s)) × (server_at w s ≡ Some i) × IsAmong n i.targets
 
 -- the node from which it was found, if it was found from one
 abbrev pub found_from : Why → Option Name
@@ -52,6 +53,7 @@ found_from (why.Child d) = Some d
 found_from (why.Parent d) = Some d
 found_from (why.Active m) = Some m
 found_from (why.ServerRoot m) = Some m
+found_from (why.Target m) = Some m
 found_from _ = None
 
 -- a node from which another was found is among those before it
@@ -137,9 +139,27 @@ served_root h ids s = option_and_then (root_served ids) (fin.get h.servers s)
 abbrev pub of_server : NodeState → IdSets → Name → List (Name × Why)
 of_server h ids m = with_why (option_and_then (served_root h ids) (fin.get h.homes m)) (why.ServerRoot m)
 
+-- all that are in a list, if there is one
+abbrev pub all_of : Option (List Name) → List Name
+all_of None = []
+all_of (Some ns) = ns
+
+-- the targets of a server, if it is there
+abbrev pub targets_of : NodeState → Option Name → List Name
+targets_of h None = []
+targets_of h (Some s) = all_of (option_map (λ (i : ServerInfo). i.targets) (fin.get h.servers s))
+
+-- a target of a server of a node
+abbrev pub of_target : Name → Name → List (Name × Why)
+of_target m n = (n, why.Target m) ∷ []
+
+-- the targets of a node's server, and of the one that is active on it
+abbrev pub of_targets : NodeState → Name → List (Name × Why)
+of_targets h m = flat_map (of_target m) (targets_of h (fin.get h.homes m)) ++ flat_map (of_target m) (targets_of h (fin.get h.actives m))
+
 -- what a seen node shows to those who can act with these ids
 abbrev pub of_node : NodeState → IdSets → Name → List (Name × Why)
-of_node h ids m = of_children h ids m ++ (of_parent h m ++ (of_active h m ++ of_server h ids m))
+of_node h ids m = of_children h ids m ++ (of_parent h m ++ (of_active h m ++ (of_server h ids m ++ of_targets h m)))
 
 abbrev pub of_nodes : NodeState → IdSets → List (Name × Why) → List (Name × Why)
 of_nodes h ids es = flat_map (λ (e : Name × Why). of_node h ids e.0) es

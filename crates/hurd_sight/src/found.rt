@@ -11,7 +11,7 @@ ghost use Rattle.hurd_nodes.specs.Shown.{shown};
 ghost use Rattle.hurd_ports.specs.Seats.{seat_task};
 ghost use Rattle.hurd_ports.specs.Tables.{rights_of, start_of};
 ghost use Rattle.hurd_ports.specs.declared.table.Port.{Port};
-ghost use Rattle.hurd_sight.specs.Found.{Follows, FoundAll, FoundIsOne, FoundIsSeen, found_more, gathered, is_found, of_active, of_children, of_entry, of_node, of_parent, of_right, of_server, of_task, of_way, parent_in, root_of, searched_by, served_root, why_of, with_why};
+ghost use Rattle.hurd_sight.specs.Found.{Follows, FoundAll, FoundIsOne, FoundIsSeen, found_more, gathered, is_found, of_active, of_children, of_entry, of_node, of_parent, of_right, of_server, of_target, of_targets, of_task, of_way, parent_in, root_of, searched_by, served_root, targets_of, why_of, with_why};
 ghost use Rattle.hurd_sight.specs.declared.found.Why.{Why};
 
 use crate::reach::Reach;
@@ -44,6 +44,8 @@ pub enum Why {
     Active(NodeName),
     /// It is the root of this node's server, which could be served.
     ServerRoot(NodeName),
+    /// A target of the server of this node, or of the one that is active on it.
+    Target(NodeName),
 }
 
 /// Nodes in the order in which they were found, each once, with why.
@@ -291,7 +293,8 @@ impl Found {
         self.add_below(alloc, nodes, reach, node)?;
         self.add_parent(nodes, node)?;
         self.add_active(nodes, node)?;
-        self.add_server(nodes, reach, node)
+        self.add_server(nodes, reach, node)?;
+        self.add_targets(nodes, node)
     }
 
     /// What the entries of a directory name that could be searched.
@@ -379,6 +382,42 @@ impl Found {
             Some(root) => self.add(root, Why::ServerRoot(node)),
             None => Ok(()),
         }
+    }
+
+    /// The targets of a node's server, and of the one that is active on it.
+    fn add_targets<S: Server>(&mut self, nodes: &Nodes<S>, node: NodeName) -> Result<(), AllocError>
+        ensures { OnOk result (self.new ≡ gathered (of_targets (shown S.meaning nodes.now) node) self.old) }
+    {
+        self.add_aims(nodes, node, nodes.home(node))?;
+        self.add_aims(nodes, node, nodes.active(node))
+    }
+
+    /// The targets of a server of a node, if there is one.
+    fn add_aims<S: Server>(
+        &mut self,
+        nodes: &Nodes<S>,
+        node: NodeName,
+        server: Option<ServerName>,
+    ) -> Result<(), AllocError>
+        ensures { OnOk result (self.new ≡ gathered (flat_map (of_target node) (targets_of (shown S.meaning nodes.now) server)) self.old) }
+    {
+        let Some(server) = server else {
+            return Ok(());
+        };
+        match nodes.targets_of(server) {
+            Some(targets) => self.add_each(targets, node),
+            None => Ok(()),
+        }
+    }
+
+    /// Each of these, as a target of a server of a node.
+    fn add_each(&mut self, targets: &[NodeName], node: NodeName) -> Result<(), AllocError>
+        ensures { OnOk result (self.new ≡ gathered (flat_map (of_target node) targets.now) self.old) }
+    {
+        for target in targets {
+            self.add(*target, Why::Target(node))?;
+        }
+        Ok(())
     }
 }
 

@@ -1,5 +1,5 @@
 -- The one node of a server, and what its server answers of it.
-use Rattle.std.proofs.Common.{◌≡◌, ◌⊎◌, inl, inr, ℕ, Bool, true, false, true≢false, List, [], refl, ap, sym, ◌∙◌, is_some}
+use Rattle.std.proofs.Common.{◌≡◌, ◌⊎◌, inl, inr, ℕ, Bool, true, false, true≢false, List, [], refl, ap, sym, ◌∙◌, is_some, not, if◌then◌else◌}
 use Rattle.std.specs.Prelude.{Option, Some, None, Result, Ok, Err}
 use Rattle.std.specs.Option.{option_map}
 use Rattle.std.specs.FinMap as fin
@@ -9,13 +9,14 @@ use Rattle.hurd_creds.specs.Names.{name_cmp, same_name}
 use Rattle.hurd_creds.specs.declared.name.Name.{Name}
 use Rattle.hurd_creds.specs.declared.attrs.Kind.{Kind}
 use Rattle.hurd_creds.specs.declared.errno.Errno.{Errno}
+use Rattle.hurd_creds.specs.declared.errno.Errno.TheVariants.{ENOTDIR, EROFS}
 use Rattle.hurd_creds.proofs.NameLaws.{equal_if_same, apart_if_not_same, same_or_apart, same_map_by, get_here, get_apart, remove_here, remove_apart}
 use Rattle.hurd_creds.proofs.MapLaws.{map_values-empty, map_values-insert}
 use Rattle.hurd_creds.proofs.StepLaws.{steps-inside, steps-refused}
 use Rattle.hurd_trans_iface.specs.declared.new_node.NewNode.{NewNode}
 use Rattle.hurd_trans_iface.specs.Nodes.{AllListed, Node, NodeMap, Edit, body_of, is_dir, is_entered_at, passive_of, with_header, with_size}
-use Rattle.hurd_trans_iface.specs.Answers.{entry_of, names_of, make_of, make_edits, link_of, link_edits, unlink_of, unlink_edits, rename_of, rename_edits, edits_if}
-use Rattle.hurd_trans_iface.specs.Meaning.{Meaning, ServerKind, behaviour_of, root_of, keeps_tree, edited, options_taken, set_options_step, size_of, make_step, link_step, unlink_step, rename_step, forget_after}
+use Rattle.hurd_trans_iface.specs.Answers.{entry_of, make_of, make_edits, link_of, link_edits, unlink_of, unlink_edits, rename_of, rename_edits, edits_if}
+use Rattle.hurd_trans_iface.specs.Meaning.{Meaning, ServerKind, behaviour_of, root_of, keeps_tree, empty_body, edited, options_taken, set_options_step, size_of, make_step, link_step, unlink_step, rename_step, forget_after}
 use Rattle.hurd_trans_iface.specs.Good.{KeepsRoot}
 use Rattle.hurd_trans_iface.proofs.Goods.{good}
 use Rattle.hurd_small.specs.declared.presence.LoneNode.{LoneNode}
@@ -66,27 +67,37 @@ answered_by m es answer = (answer, edited (edits_if answer es) m)
 refused : (m : Meaning) (es : List Edit) (answer : Result (Unit {0}) Errno) (e : Errno) → answer ≡ Err e → answered_by m es answer ≡ (Err e, m)
 refused m es answer e is = ap (answered_by m es) is
 
--- what is no directory
+-- where no tree is kept nothing is made
 
-abbrev IsPlain : Option Node → Type 0
-IsPlain None = Unit {0}
-IsPlain (Some x) = is_dir x.header.kind ≡ false
+abbrev IsBarred : Bool → Type 0
+IsBarred b = (let r : Result (Unit {0}) Errno = if not b then Err ENOTDIR else Err EROFS in r) ≡ Err (if b then EROFS else ENOTDIR)
 
-make-plain : (keeps : Bool) (entry : Option (List ℕ)) (kind : Kind) (o : Option Node) → IsPlain o → make_of keeps entry kind o ≡ Err (barred_by o)
-make-plain keeps entry kind None plain = refl
-make-plain keeps entry kind (Some d) plain = let p : is_dir d.header.kind ≡ false = plain in rw p refl
+barred_if : (b : Bool) → IsBarred b
+barred_if true = refl
+barred_if false = refl
 
-link-plain : (keeps : Bool) (name : List ℕ) (kin : Bool) (o x : Option Node) → IsPlain o → link_of keeps name kin o x ≡ Err (barred_by o)
-link-plain keeps name kin None x plain = refl
-link-plain keeps name kin (Some d) x plain = let p : is_dir d.header.kind ≡ false = plain in rw p refl
+module _ (keeps : Bool) (no_tree : keeps ≡ false) where
+  make-plain : (entry : Option (List ℕ)) (kind : Kind) (o : Option Node) → make_of keeps entry kind o ≡ Err (barred_by o)
+  make-plain entry kind None = refl
+  make-plain entry kind (Some d) = rw no_tree (barred_if (is_dir d.header.kind))
 
-unlink-plain : (keeps : Bool) (name : List ℕ) (o : Option Node) → IsPlain o → unlink_of keeps name o ≡ Err (barred_by o)
-unlink-plain keeps name None plain = refl
-unlink-plain keeps name (Some d) plain = let p : is_dir d.header.kind ≡ false = plain in rw p refl
+  link-plain : (name : List ℕ) (kin : Bool) (o x : Option Node) → link_of keeps name kin o x ≡ Err (barred_by o)
+  link-plain name kin None x = refl
+  link-plain name kin (Some d) x = rw no_tree (barred_if (is_dir d.header.kind))
 
-rename-plain : (keeps : Bool) (name : List ℕ) (kin : Bool) (o t : Option Node) → IsPlain o → rename_of keeps name kin o t ≡ Err (barred_by o)
-rename-plain keeps name kin None t plain = refl
-rename-plain keeps name kin (Some d) t plain = let p : is_dir d.header.kind ≡ false = plain in rw p refl
+  unlink-plain : (name : List ℕ) (o : Option Node) → unlink_of keeps name o ≡ Err (barred_by o)
+  unlink-plain name None = refl
+  unlink-plain name (Some d) = rw no_tree (barred_if (is_dir d.header.kind))
+
+  rename-plain : (name : List ℕ) (kin : Bool) (o t : Option Node) → rename_of keeps name kin o t ≡ Err (barred_by o)
+  rename-plain name kin None t = refl
+  rename-plain name kin (Some d) t = rw no_tree (barred_if (is_dir d.header.kind))
+
+-- a directory without entries, or no directory
+
+no_entry : (name : List ℕ) (b : Bool) → None ≡ entry_of name (Some (empty_body b))
+no_entry name true = refl
+no_entry name false = refl
 
 module _ (kind : ServerKind) (text : List ℕ) where
   abbrev at : Presence → Name → Option Node
@@ -119,7 +130,7 @@ module _ (kind : ServerKind) (text : List ℕ) where
   entered plain o (inl none) = rw none refl
   entered plain o (inr (r, is)) = rw (is, plain) refl
 
-  -- the node is no directory and has a link, so no node is without an entry
+  -- a node that is no directory has a link, so no node is without an entry
   pub all-entered : is_dir (root_of kind text).kind ≡ false → (p : Presence) → AllListed (nodes_of kind text p) []
   all-entered plain p n nameless = absurd (true≢false (sym (entered plain (at p n) (found p n)) ∙ nameless))
 
@@ -130,47 +141,36 @@ module _ (kind : ServerKind) (text : List ℕ) where
     | inr there ↦ rw there.1 refl
   ]
 
-  -- where it is no directory
+  -- it has no entries
+  pub step-none : (p : Presence) (n : Name) (name : List ℕ) → None ≡ entry_of name (body_of (nodes_of kind text p) n)
+  step-none p n name = elim (found p n) [
+    | inl none ↦ rw none refl
+    | inr there ↦ rw there.1 (no_entry name (is_dir (root_of kind text).kind))
+  ]
 
-  module _ (p : Presence) (n : Name) (plain : is_dir (root_of kind text).kind ≡ false) where
+  -- where no tree is kept
+
+  module _ (p : Presence) (n : Name) (no_tree : keeps_tree kind ≡ false) where
     abbrev m : Meaning
     m = lone_meaning kind text p
-
-    is_plain : IsPlain (at p n)
-    is_plain = elim (found p n) [
-      | inl none ↦ rw none tt
-      | inr there ↦ rw there.1 plain
-    ]
-
-    pub names-barred : names_of (body_of (nodes_of kind text p) n) ≡ Err (barred_by (at p n))
-    names-barred = elim (found p n) [
-      | inl none ↦ rw none refl
-      | inr there ↦ rw (there.1, plain) refl
-    ]
-
-    pub step-barred : (name : List ℕ) → None ≡ entry_of name (body_of (nodes_of kind text p) n)
-    step-barred name = elim (found p n) [
-      | inl none ↦ rw none refl
-      | inr there ↦ rw (there.1, plain) refl
-    ]
 
     module _ (e : Errno) (is : e ≡ barred_by (at p n)) where
       pub make-barred : (entry : Option (List ℕ)) (new : NewNode) → Steps m (make_step n entry new m) (Err e) m
       make-barred entry new =
-          rw is (steps-refused _ m _ (refused m (make_edits n entry new) _ _ (make-plain (keeps_tree kind) entry new.kind (at p n) is_plain)))
+          rw is (steps-refused _ m _ (refused m (make_edits n entry new) _ _ (make-plain (keeps_tree kind) no_tree entry new.kind (at p n))))
 
       pub link-barred : (name : List ℕ) (node : Name) → Steps m (link_step n name node m) (Err e) m
       link-barred name node =
-          rw is (steps-refused _ m _ (refused m (link_edits n name node) _ _ (link-plain (keeps_tree kind) name true (at p n) (at p node) is_plain)))
+          rw is (steps-refused _ m _ (refused m (link_edits n name node) _ _ (link-plain (keeps_tree kind) no_tree name true (at p n) (at p node))))
 
       pub unlink-barred : (name : List ℕ) → (Err e, m) ≡ unlink_step n name m
       unlink-barred name =
-          rw is (sym (refused m (unlink_edits n name (entry_of name (body_of m.nodes n))) _ _ (unlink-plain (keeps_tree kind) name (at p n) is_plain)))
+          rw is (sym (refused m (unlink_edits n name (entry_of name (body_of m.nodes n))) _ _ (unlink-plain (keeps_tree kind) no_tree name (at p n))))
 
       pub rename-barred : (name : List ℕ) (to : Name) (new : List ℕ) → Steps m (rename_step n name to new m) (Err e) m
       rename-barred name to new =
           rw is (steps-refused _ m _ (refused m (rename_edits n name to new (entry_of name (body_of m.nodes n)) (entry_of new (body_of m.nodes to))) _ _
-          (rename-plain (keeps_tree kind) name true (at p n) (at p to) is_plain)))
+          (rename-plain (keeps_tree kind) no_tree name true (at p n) (at p to))))
 
   -- the node goes when it is forgotten, and not when another one is
 
@@ -199,7 +199,7 @@ module _ (kind : ServerKind) (text : List ℕ) where
 
 -- options that are taken
 
-module _ (kind : ServerKind) (no_dir : (text : List ℕ) → is_dir (root_of kind text).kind ≡ false) (old : List ℕ) (p : Presence) where
+module _ (kind : ServerKind) (old : List ℕ) (p : Presence) where
   abbrev meant : List ℕ → Meaning
   meant text = lone_meaning kind text p
 
@@ -208,7 +208,7 @@ module _ (kind : ServerKind) (no_dir : (text : List ℕ) → is_dir (root_of kin
     resized x = with_header (with_size (size_of kind new)) x
 
     node-retexted : (n : LoneNode) → resized (node_of kind old n) ≡ node_of kind new n
-    node-retexted n = rw (kept.rooted old, no_dir new) refl
+    node-retexted n = rw (kept.rooted old, kept.sized (empty_body (is_dir (root_of kind new).kind))) refl
 
     nodes-retexted : (q : Presence) → map_values resized (nodes_of kind old q) ≡ nodes_of kind new q
     nodes-retexted Nameless = map_values-empty resized

@@ -3,3 +3,5 @@ pub mod Hello
 pub mod Null
 pub mod Zero
 pub mod Symlink
+pub mod Firmlink
+pub mod Meanings

@@ -1,13 +1,13 @@
--- Servers of one node, which is no directory.
+-- Servers of one node, which is a directory without entries or no directory.
 use Rattle.std.specs.Prelude.{◌≡◌, ℕ, Bool, false, cond, if◌then◌else◌, List, [], ◌∷◌, length, nat_lt, Option, Some, None, Result, Ok, Err}
 use Rattle.std.specs.FinMap as fin
 use Rattle.std.specs.Str.{bytes_eq}
 use Rattle.hurd_creds.specs.Memory.{Meets}
 use Rattle.hurd_creds.specs.declared.name.Name.{Name}
 use Rattle.hurd_creds.specs.declared.errno.Errno.{Errno}
-use Rattle.hurd_creds.specs.declared.errno.Errno.TheVariants.{EDIED, EFBIG, ENOTDIR}
+use Rattle.hurd_creds.specs.declared.errno.Errno.TheVariants.{EDIED, EFBIG, ENOTDIR, EROFS}
 use Rattle.hurd_creds.specs.Limits.{most_size}
-use Rattle.hurd_trans_iface.specs.Nodes.{Node, NodeMap}
+use Rattle.hurd_trans_iface.specs.Nodes.{Node, NodeMap, is_dir}
 use Rattle.hurd_trans_iface.specs.Behaviour.{Effect, only, told_of}
 use Rattle.hurd_trans_iface.specs.Meaning.{Meaning, ServerKind, behaviour_of, new_root}
 use Rattle.hurd_small.specs.declared.presence.LoneNode.{LoneNode}
@@ -50,10 +50,10 @@ abbrev pub is_alone : List ℕ → List (List ℕ) → Bool
 is_alone program (w ∷ []) = bytes_eq w program
 is_alone program _ = false
 
--- why a node, which may not be there, is no directory
+-- why nothing changes in a directory, which may not be there, where its server keeps no tree
 abbrev pub barred_by : Option Node → Errno
 barred_by None = EDIED
-barred_by (Some x) = ENOTDIR
+barred_by (Some x) = if is_dir x.header.kind then EROFS else ENOTDIR
 
 -- the effect that changes nothing and answers so
 abbrev pub still : {T : Type 0} → Result T Errno → Effect T

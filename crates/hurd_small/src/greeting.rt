@@ -7,7 +7,7 @@ use crate::contents::new_text;
 use crate::single::Single;
 use crate::text;
 use hurd_creds::{Bytes, Errno, Kind};
-use hurd_trans_iface::{Crossing, Root, Words};
+use hurd_trans_iface::{Crossing, Names, Root, Words};
 use std::alloc::Global;
 
 /// The text, which words can say.
@@ -22,8 +22,6 @@ impl Single for Greeting {
     ghost kind = { HelloKind };
 
     ghost text = { λ s. s.text };
-
-    ghost no_dir = { λ _. refl };
 
     ghost no_tree = { refl };
 
@@ -52,6 +50,10 @@ impl Single for Greeting {
             };
         }
         Ok(())
+    }
+
+    fn targets(&self, alloc: Global) -> Result<Names, Errno> {
+        Ok(Names::new(alloc))
     }
 
     fn size(&self) -> u64 {

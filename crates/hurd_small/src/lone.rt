@@ -1,17 +1,52 @@
 //! A server of one node.
-ghost use Rattle.hurd_small.specs.Lone.{lone_meaning};
+ghost use Rattle.std.specs.Prelude.{◌≡◌, ℕ, List};
+ghost use Rattle.std.specs.FinMap as fin;
+ghost use Rattle.hurd_trans_iface.specs.Nodes.{is_dir};
+ghost use Rattle.hurd_trans_iface.specs.Meaning.{ServerKind, new_server, root_of};
+ghost use Rattle.hurd_small.specs.Lone.{barred_by, lone_meaning, nodes_of};
+ghost use Rattle.hurd_small.specs.Meanings.{meaning_as};
 
 use crate::presence::{LoneNode, Presence};
 use crate::single::Single;
 use hurd_creds::{Attrs, Bytes, Errno, MOST_SIZE, Mode, NodeName};
-use hurd_trans_iface::{Names, NewNode, Root, Server, Words};
+use hurd_trans_iface::{Names, NewNode, Root, Server, Words, is_dir};
 use std::alloc::Global;
 
-/// A server of one node, which is no directory, and of which nothing changes but its options, and that it gets its name and is forgotten.
+/// A server of one node, a directory without entries or no directory, of which nothing changes but its options, and that it gets its name and is forgotten.
 #[derive(Drop)]
 pub struct Lone<S> {
     pub(crate) single: S,
     pub(crate) presence: Presence,
+}
+
+impl<S: Single> Lone<S> {
+    /// The server of a node that has no name yet.
+    pub fn unnamed(single: S) -> Lone<S>
+        ensures { (kind : ServerKind) (text : S → List ℕ) → meaning_as kind text result ≡ new_server kind (text single) }
+    {
+        Lone {
+            single,
+            presence: Presence::Nameless,
+        }
+    }
+
+    /// Whether its node is a directory.
+    fn has_dir(&self) -> bool
+        ensures { result ≡ is_dir (root_of S.kind (S.text self.now.single)).kind }
+    {
+        is_dir(self.single.root().kind)
+    }
+
+    /// Why nothing changes in a directory of this name: `EDIED` no such node, `ENOTDIR`, `EROFS`.
+    fn bars(&self, dir: NodeName) -> Errno
+        ensures { result ≡ barred_by (fin.get (nodes_of S.kind (S.text self.now.single) self.now.presence) dir) }
+    {
+        match self.presence.find(dir) {
+            Some(_) if self.has_dir() => Errno::EROFS,
+            Some(_) => Errno::ENOTDIR,
+            None => Errno::EDIED,
+        }
+    }
 }
 
 impl<S: Single> Server for Lone<S> {
@@ -42,6 +77,10 @@ impl<S: Single> Server for Lone<S> {
         self.single.set_options(alloc, words)
     }
 
+    fn targets(&self, alloc: Global) -> Result<Names, Errno> {
+        self.single.targets(alloc)
+    }
+
     fn attrs(&self, node: NodeName) -> Option<Attrs> {
         let lone = self.presence.find(node)?;
         Some(Attrs {
@@ -51,7 +90,7 @@ impl<S: Single> Server for Lone<S> {
             mode: lone.mode,
             links: 1,
             size: self.single.size(),
-            empty: false,
+            empty: self.has_dir(),
             readers: 0,
             writers: 0,
             passive: false,
@@ -64,8 +103,12 @@ impl<S: Single> Server for Lone<S> {
         None
     }
 
-    fn names(&self, _alloc: Global, dir: NodeName) -> Result<Names, Errno> {
-        Err(self.presence.bars(dir))
+    fn names(&self, alloc: Global, dir: NodeName) -> Result<Names, Errno> {
+        match self.presence.find(dir) {
+            Some(_) if self.has_dir() => Ok(Names::new(alloc)),
+            Some(_) => Err(Errno::ENOTDIR),
+            None => Err(Errno::EDIED),
+        }
     }
 
     fn read(
@@ -101,8 +144,8 @@ impl<S: Single> Server for Lone<S> {
 
     fn content(&self, node: NodeName) -> Option<&[u8]> {
         match self.presence.find(node) {
-            Some(_) => Some(&[]),
-            None => None,
+            Some(_) if !self.has_dir() => Some(&[]),
+            _ => None,
         }
     }
 
@@ -120,7 +163,7 @@ impl<S: Single> Server for Lone<S> {
         _entry: Option<&[u8]>,
         _new: NewNode,
     ) -> Result<(), Errno> {
-        Err(self.presence.bars(dir))
+        Err(self.bars(dir))
     }
 
     fn link(
@@ -130,11 +173,11 @@ impl<S: Single> Server for Lone<S> {
         _name: &[u8],
         _node: NodeName,
     ) -> Result<(), Errno> {
-        Err(self.presence.bars(dir))
+        Err(self.bars(dir))
     }
 
     fn unlink(&mut self, dir: NodeName, _name: &[u8]) -> Result<(), Errno> {
-        Err(self.presence.bars(dir))
+        Err(self.bars(dir))
     }
 
     fn rename(
@@ -145,7 +188,7 @@ impl<S: Single> Server for Lone<S> {
         _to: NodeName,
         _new: &[u8],
     ) -> Result<(), Errno> {
-        Err(self.presence.bars(dir))
+        Err(self.bars(dir))
     }
 
     fn set_attrs(
@@ -179,6 +222,9 @@ impl<S: Single> Server for Lone<S> {
     }
 
     fn nameless(&self) -> Option<&[NodeName]> {
+        if self.has_dir() {
+            return None;
+        }
         Some(&[])
     }
 

@@ -3,9 +3,9 @@ ghost use Rattle.std.specs.Prelude.{◌≡◌, ℕ, List};
 ghost use Rattle.std.specs.Option.{option_map};
 ghost use Rattle.std.specs.FinMap as fin;
 ghost use Rattle.hurd_trans_iface.specs.Meaning.{ServerKind};
-ghost use Rattle.hurd_small.specs.Lone.{barred_by, node_of, nodes_of};
+ghost use Rattle.hurd_small.specs.Lone.{node_of, nodes_of};
 
-use hurd_creds::{Errno, Mode, NodeName};
+use hurd_creds::{Mode, NodeName};
 
 /// A node with its name, owner, group and mode.
 #[derive(Clone, Copy, Debug)]
@@ -33,16 +33,6 @@ impl Presence {
             Presence::Nameless => None,
             Presence::There(lone) => { if lone.name == node { Some(*lone) } else { None } }
             Presence::Forgotten(_) => None,
-        }
-    }
-
-    /// Why there is no directory of a name: `EDIED` no such node, `ENOTDIR`.
-    pub(crate) fn bars(&self, dir: NodeName) -> Errno
-        ensures { (kind : ServerKind) (text : List ℕ) → result ≡ barred_by (fin.get (nodes_of kind text self.now) dir) }
-    {
-        match self.find(dir) {
-            Some(_) => Errno::ENOTDIR,
-            None => Errno::EDIED,
         }
     }
 }

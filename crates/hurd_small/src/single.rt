@@ -1,13 +1,13 @@
 //! What a server of one node says itself.
 ghost use Rattle.std.specs.Prelude.{◌≡◌, ℕ, false, List, [], Ok};
 ghost use Rattle.hurd_creds.specs.Memory.{Meets, Steps};
-ghost use Rattle.hurd_trans_iface.specs.Nodes.{Content, Node, is_dir};
+ghost use Rattle.hurd_trans_iface.specs.Nodes.{Node, is_dir};
 ghost use Rattle.hurd_trans_iface.specs.Behaviour.{told_of};
-ghost use Rattle.hurd_trans_iface.specs.Meaning.{ServerKind, behaviour_of, keeps_tree, options_of, root_of};
+ghost use Rattle.hurd_trans_iface.specs.Meaning.{ServerKind, behaviour_of, empty_body, keeps_tree, options_of, root_of, targets_of};
 ghost use Rattle.hurd_small.specs.Lone.{IsGiven, IsPut, IsCut, text_taken};
 
 use hurd_creds::{Bytes, Errno};
-use hurd_trans_iface::{Root, Words};
+use hurd_trans_iface::{Names, Root, Words};
 use std::alloc::Global;
 
 /// What a server of one node says of it: options alone change that, and nothing else is asked where the node isn't there.
@@ -18,7 +18,7 @@ pub trait Single: Drop {
     // The text of its server.
     ghost text: { Self → List ℕ };
 
-    /// What the node is, which is no directory.
+    /// What the node is.
     fn root(&self) -> Root
         ensures { result ≡ root_of kind (text self.now) };
 
@@ -39,20 +39,27 @@ pub trait Single: Drop {
         ensures steps { Steps (text self.old) (text_taken ((behaviour_of kind).set_options words.now) (text self.old)) result (text self.new) }
         ensures no_words { words.now ≡ [] → result ≡ Ok tt };
 
+    /// The paths of the nodes that it aims at, in order. Where there are none, no memory is taken.
+    ///
+    /// Errors: `ENOMEM`.
+    fn targets(&self, alloc: Global) -> Result<Names, Errno>
+        ensures meets { Meets (Ok (targets_of kind (text self.now))) result }
+        ensures nothing { targets_of kind (text self.now) ≡ [] → result ≡ Ok [] };
+
     /// The node's size, in bytes.
     fn size(&self) -> u64
-        ensures { result ≡ (behaviour_of kind).size (text self.now) (Content []) };
+        ensures { result ≡ (behaviour_of kind).size (text self.now) (empty_body (is_dir (root_of kind (text self.now)).kind)) };
 
     /// At most `amount` bytes from `at` on; where there are none, no memory is taken.
     ///
-    /// Errors: `ENOMEM`.
+    /// Errors: `EISDIR` of a directory, else `ENOMEM`.
     fn read(&self, alloc: Global, at: u64, amount: u64) -> Result<Bytes, Errno>
         ensures given { (x : Node) → IsGiven ((behaviour_of kind).read (text self.now) x at amount) result }
         ensures nothing { (x : Node) → told_of ((behaviour_of kind).read (text self.now) x at amount) ≡ Ok [] → result ≡ Ok [] };
 
     /// Whether bytes that are written are taken, and dropped; so are sizes up to 16,777,216.
     ///
-    /// Errors: `EOPNOTSUPP`.
+    /// Errors: `EOPNOTSUPP`, or `EBADF` of a directory.
     fn takes(&self) -> Result<(), Errno>
         ensures bytes { (x : Node) (at : ℕ) (bs : List ℕ) → IsPut ((behaviour_of kind).write (text self.now) x at bs) bs result }
         ensures sizes { (x : Node) (size : ℕ) → IsCut ((behaviour_of kind).set_size (text self.now) x size) size result };
@@ -60,9 +67,6 @@ pub trait Single: Drop {
     /// How many bytes there are to read at a place.
     fn readable(&self, at: u64) -> u64
         ensures { (x : Node) → result ≡ (behaviour_of kind).readable (text self.now) x at };
-
-    // The node is no directory.
-    ghost no_dir: { (text : List ℕ) → is_dir (root_of kind text).kind ≡ false };
 
     // Nothing is made in it.
     ghost no_tree: { keeps_tree kind ≡ false };

@@ -8,7 +8,7 @@ use crate::single::Single;
 use crate::text;
 use crate::words::no_options;
 use hurd_creds::{Bytes, Errno, Kind};
-use hurd_trans_iface::{Crossing, Root, Words};
+use hurd_trans_iface::{Crossing, Names, Root, Words};
 use std::alloc::Global;
 
 /// Where a link leads.
@@ -23,8 +23,6 @@ impl Single for Target {
     ghost kind = { SymlinkKind };
 
     ghost text = { λ s. s.path };
-
-    ghost no_dir = { λ _. refl };
 
     ghost no_tree = { refl };
 
@@ -48,6 +46,10 @@ impl Single for Target {
 
     fn set_options(&mut self, _alloc: Global, words: &Words) -> Result<(), Errno> {
         no_options(words)
+    }
+
+    fn targets(&self, alloc: Global) -> Result<Names, Errno> {
+        Ok(Names::new(alloc))
     }
 
     fn size(&self) -> u64 {

@@ -17,7 +17,7 @@ pub(crate) fn is_alone(words: &Words, program: &[u8]) -> bool
 }
 
 /// Takes no options: `EINVAL` for any word.
-pub(crate) fn no_options(words: &Words) -> Result<(), Errno>
+pub fn no_options(words: &Words) -> Result<(), Errno>
     ensures ok { IfOk result (λ u. no_options words.now ≡ Ok None) }
     ensures err { IfErr result (λ e. no_options words.now ≡ Err e) }
     ensures no_words { words.now ≡ [] → result ≡ Ok tt }

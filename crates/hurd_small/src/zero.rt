@@ -8,7 +8,7 @@ use crate::presence::Presence;
 use crate::single::Single;
 use crate::words::{is_alone, no_options};
 use hurd_creds::{Bytes, Errno, Kind, MOST_READ};
-use hurd_trans_iface::{Crossing, Root, Words};
+use hurd_trans_iface::{Crossing, Names, Root, Words};
 use std::alloc::Global;
 
 /// A stream of zero bytes without end, which drops what it takes (the Hurd's `/hurd/zero`).
@@ -43,8 +43,6 @@ impl Single for Zeros {
 
     ghost text = { λ _. [] };
 
-    ghost no_dir = { λ _. refl };
-
     ghost no_tree = { refl };
 
     fn root(&self) -> Root {
@@ -65,6 +63,10 @@ impl Single for Zeros {
 
     fn set_options(&mut self, _alloc: Global, words: &Words) -> Result<(), Errno> {
         no_options(words)
+    }
+
+    fn targets(&self, alloc: Global) -> Result<Names, Errno> {
+        Ok(Names::new(alloc))
     }
 
     fn size(&self) -> u64 {

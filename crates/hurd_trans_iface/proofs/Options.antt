@@ -1,5 +1,5 @@
 -- The words that a server says of itself make it again.
-use Rattle.std.proofs.Common.{◌≡◌, ◌≤◌, ◌+◌, ◌-◌, inl, inr, ◌&&◌, Bool, true, false, cond, if◌then◌else◌, List, ℕ, [], ◌∷◌, ◌++◌, length, nat_le, codes, slice_get, refl, subst, arith}
+use Rattle.std.proofs.Common.{◌≡◌, ◌≤◌, ◌+◌, ◌-◌, inl, inr, ◌&&◌, Bool, true, false, cond, if◌then◌else◌, List, ℕ, [], ◌∷◌, ◌++◌, length, zero, suc, nat_le, codes, slice_get, refl, ap, ◌∙◌, subst, arith}
 use Rattle.std.proofs.lemmas.Bool.Decides.{nat_tests}
 use Rattle.std.proofs.lemmas.List.{length-append}
 use Rattle.std.specs.Prelude.{Option, Some, None, Result, Ok, Err}
@@ -10,8 +10,10 @@ use Rattle.hurd_creds.specs.Memory.{is_no_memory}
 use Rattle.std.specs.Option.{option_map}
 use Rattle.std.specs.Str.{bytes_eq}
 use Rattle.hurd_creds.specs.Limits.{most_path}
-use Rattle.hurd_trans_iface.specs.Meaning.{Meaning, ServerKind, Tmpfs, Hello, Null, Zero, Symlink, all_kinds, begin, begin_among, begin_as, behaviour_of, new_server, options_of}
+use Rattle.hurd_trans_iface.specs.Meaning.{Meaning, ServerKind, Tmpfs, Hello, Null, Zero, Symlink, Firmlink, Union, all_kinds, begin, begin_among, begin_as, behaviour_of, new_server, options_of}
 use Rattle.hurd_trans_iface.specs.HelloKind.{behind, most_text, says_text, short_text, text_in, hello_options}
+use Rattle.hurd_trans_iface.specs.FirmlinkKind.{is_firm}
+use Rattle.hurd_trans_iface.specs.UnionKind.{marked, text_of, onto_first, words_of, most_branches}
 use Rattle.hurd_trans_iface.specs.Words.{IsWithinLimits}
 use Rattle.hurd_trans_iface.proofs.Goodness.{no-options-text}
 use Rattle.hurd_trans_iface.proofs.Beginnings.{first_or}
@@ -23,6 +25,29 @@ link_remade : (b : Bool) (w text : List ℕ) → (nat_le 1 (length w) && nat_le 
     → (let o : Option (List ℕ) = if b then Some w else None in o) ≡ Some text → Remakes (new_server Symlink text)
 link_remade false w text is h = absurd (cc)
 link_remade true w text is h = let same : w ≡ text = cc in subst (λ (t : List ℕ). Remakes (new_server Symlink t)) same (rw is refl)
+
+firm_remade : (b : Bool) (w text : List ℕ) → is_firm w ≡ b → (let o : Option (List ℕ) = if b then Some w else None in o) ≡ Some text → Remakes (new_server Firmlink text)
+firm_remade false w text is h = absurd (cc)
+firm_remade true w text is h = let same : w ≡ text = cc in subst (λ (t : List ℕ). Remakes (new_server Firmlink t)) same (rw is refl)
+
+-- the words of a text are those that it was made of
+
+word_back : (w rest : List ℕ) → words_of (marked w ++ 0 ∷ rest) ≡ w ∷ words_of rest
+word_back [] rest = refl
+word_back (zero ∷ w) rest = ap (onto_first 0) (word_back w rest)
+word_back (suc zero ∷ w) rest = ap (onto_first 1) (word_back w rest)
+word_back (suc (suc b) ∷ w) rest = ap (onto_first (suc (suc b))) (word_back w rest)
+
+pub words_back : (ws : List (List ℕ)) → words_of (text_of ws) ≡ ws
+words_back [] = refl
+words_back (w ∷ ws) = word_back w (text_of ws) ∙ ap (λ vs. w ∷ vs) (words_back ws)
+
+union_remade : (b : Bool) (w : List ℕ) (ws : List (List ℕ)) (text : List ℕ) → (nat_le (length (w ∷ ws)) most_branches && list_all is_firm (w ∷ ws)) ≡ b
+    → (let o : Option (List ℕ) = if b then Some (text_of (w ∷ ws)) else None in o) ≡ Some text → Remakes (new_server Union text)
+union_remade false w ws text is h = absurd (cc)
+union_remade true w ws text is h =
+    let same : text_of (w ∷ ws) ≡ text = cc in
+    subst (λ (t : List ℕ). Remakes (new_server Union t)) same (rw (words_back (w ∷ ws)) (rw is refl))
 
 -- a text that words said
 remade : (k : ServerKind) (ws : List (List ℕ)) (text : List ℕ) → (behaviour_of k).begins ws ≡ Some text → Remakes (new_server k text)
@@ -36,6 +61,11 @@ remade Zero (w ∷ ws) text h = absurd (cc)
 remade Symlink [] text h = absurd (cc)
 remade Symlink (w ∷ []) text h = link_remade (nat_le 1 (length w) && nat_le (length w) most_path) w text refl h
 remade Symlink (w ∷ v ∷ ws) text h = absurd (cc)
+remade Firmlink [] text h = absurd (cc)
+remade Firmlink (w ∷ []) text h = firm_remade (is_firm w) w text refl h
+remade Firmlink (w ∷ v ∷ ws) text h = absurd (cc)
+remade Union [] text h = absurd (cc)
+remade Union (w ∷ ws) text h = union_remade (nat_le (length (w ∷ ws)) most_branches && list_all is_firm (w ∷ ws)) w ws text refl h
 
 abbrev AgainIs : Meaning → Type 0
 AgainIs m = begin (options_of m.kind m.text) ≡ Some m
@@ -107,6 +137,8 @@ set-again Hello ws text is = refl
 set-again Null ws text is = absurd (no-options-text ws text is)
 set-again Zero ws text is = absurd (no-options-text ws text is)
 set-again Symlink ws text is = absurd (no-options-text ws text is)
+set-again Firmlink ws text is = absurd (no-options-text ws text is)
+set-again Union ws text is = absurd (no-options-text ws text is)
 
 pub set-within : (k : ServerKind) (ws : List (List ℕ)) (text : List ℕ) → (behaviour_of k).set_options ws ≡ Ok (Some text) → IsWithinLimits (options_of k text)
 set-within Tmpfs ws text is = absurd (no-options-text ws text is)
@@ -114,3 +146,5 @@ set-within Hello ws text is = hello-within text (hello-options-short ws text is)
 set-within Null ws text is = absurd (no-options-text ws text is)
 set-within Zero ws text is = absurd (no-options-text ws text is)
 set-within Symlink ws text is = absurd (no-options-text ws text is)
+set-within Firmlink ws text is = absurd (no-options-text ws text is)
+set-within Union ws text is = absurd (no-options-text ws text is)

@@ -12,7 +12,7 @@ use Rattle.hurd_creds.specs.declared.errno.Errno.TheVariants.{EEXIST, ENOENT, EX
 use Rattle.hurd_trans_iface.specs.declared.new_node.NewNode.{NewNode}
 use Rattle.hurd_trans_iface.specs.declared.root.Root.{Root}
 use Rattle.hurd_trans_iface.specs.declared.root.Crossing.{Crossing}
-use Rattle.hurd_trans_iface.specs.declared.root.Crossing.TheVariants.{Plain, Link}
+use Rattle.hurd_trans_iface.specs.declared.root.Crossing.TheVariants.{Plain, Link, Firm, Union}
 use Rattle.hurd_trans_iface.specs.Nodes.{Entry, Body, Content, Listing, Node, Edit, OnHeader, OnBody, AddNode, is_dir, linked, unlinked, moved_to, with_attrs, with_passive, with_entry, without_entry, new_file, new_dir, with_header}
 
 -- the node of the first entry of this name
@@ -33,6 +33,8 @@ names_of None = Err EDIED
 abbrev pub is_plain : Crossing → Bool
 is_plain Plain = true
 is_plain (Link absolute) = false
+is_plain Firm = false
+is_plain Union = false
 
 -- a server whose root is a plain directory keeps a tree: nodes can be made in its directories
 abbrev pub is_tree : Root → Bool

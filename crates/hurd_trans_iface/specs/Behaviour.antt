@@ -30,6 +30,8 @@ pub record Behaviour : Type 0 where
   pub options : List ℕ → List (List ℕ)
   -- the text that these options give it in place of its own, if any
   pub set_options : List (List ℕ) → Result (Option (List ℕ)) Errno
+  -- the paths of the nodes that it aims at, by the text
+  pub targets : List ℕ → List (List ℕ)
   -- what its root is, by the text
   pub root : List ℕ → Root
   -- whether it keeps a tree: nodes can be made in its directories

@@ -51,6 +51,7 @@ hello = record {
   begins = hello_text;
   options = λ text. codes "/hurd/hello" ∷ (codes "--contents=" ++ text) ∷ [];
   set_options = hello_options;
+  targets = λ text. [];
   root = λ text. record { kind = File; is_stream = false; crossing = Plain };
   tree = false;
   size = λ text b. length text;

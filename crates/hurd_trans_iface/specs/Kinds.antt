@@ -6,6 +6,8 @@ use Rattle.hurd_trans_iface.specs.HelloKind.{hello}
 use Rattle.hurd_trans_iface.specs.NullKind.{null}
 use Rattle.hurd_trans_iface.specs.ZeroKind.{zeros}
 use Rattle.hurd_trans_iface.specs.SymlinkKind.{symlink}
+use Rattle.hurd_trans_iface.specs.FirmlinkKind.{firmlink}
+use Rattle.hurd_trans_iface.specs.UnionKind.{union}
 
 pub data ServerKind : Type 0 where
   Tmpfs : ServerKind
@@ -13,6 +15,8 @@ pub data ServerKind : Type 0 where
   Null : ServerKind
   Zero : ServerKind
   Symlink : ServerKind
+  Firmlink : ServerKind
+  Union : ServerKind
 
 abbrev pub behaviour_of : ServerKind → Behaviour
 behaviour_of Tmpfs = tmpfs
@@ -20,6 +24,8 @@ behaviour_of Hello = hello
 behaviour_of Null = null
 behaviour_of Zero = zeros
 behaviour_of Symlink = symlink
+behaviour_of Firmlink = firmlink
+behaviour_of Union = union
 
 abbrev pub all_kinds : List ServerKind
-all_kinds = Tmpfs ∷ Hello ∷ Null ∷ Zero ∷ Symlink ∷ []
+all_kinds = Tmpfs ∷ Hello ∷ Null ∷ Zero ∷ Symlink ∷ Firmlink ∷ Union ∷ []

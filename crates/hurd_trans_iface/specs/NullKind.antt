@@ -13,6 +13,7 @@ null = record {
   begins = no_text;
   options = λ text. codes "/hurd/null" ∷ [];
   set_options = no_options;
+  targets = λ text. [];
   root = λ text. record { kind = Char; is_stream = true; crossing = Plain };
   tree = false;
   size = λ text b. 0;

@@ -53,6 +53,7 @@ tmpfs = record {
   begins = no_text;
   options = λ text. codes "/hurd/tmpfs" ∷ [];
   set_options = no_options;
+  targets = λ text. [];
   root = λ text. record { kind = Dir; is_stream = false; crossing = Plain };
   tree = true;
   size = λ text b. bytes_in b;

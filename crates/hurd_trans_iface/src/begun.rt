@@ -1,12 +1,18 @@
 //! Which words make a server.
+ghost use Rattle.std.specs.List.{list_all};
 ghost use Rattle.std.specs.Prelude.{◌≡◌, ℕ, List, Some, Ok, codes, is_some};
 ghost use Rattle.hurd_trans_iface.specs.HelloKind.{behind, hello_text};
-ghost use Rattle.hurd_trans_iface.specs.Meaning.{Meaning, ServerKind, Tmpfs, Hello, Null, Zero, Symlink, behaviour_of, begin, begin_as, new_server, options_of};
+ghost use Rattle.hurd_trans_iface.specs.Meaning.{Meaning, ServerKind, Tmpfs, Hello, Null, Zero, Symlink, Firmlink, Union, behaviour_of, begin, begin_as, new_server, options_of};
 ghost use Rattle.hurd_trans_iface.specs.SymlinkKind.{target_text};
+ghost use Rattle.hurd_trans_iface.specs.FirmlinkKind.{firm_text, is_firm};
+ghost use Rattle.hurd_trans_iface.specs.UnionKind.{union_text};
 ghost use Rattle.hurd_trans_iface.specs.TmpfsKind.{no_text};
 ghost use Rattle.hurd_trans_iface.specs.Words.{IsWithinLimits};
 
 use hurd_creds::{Bytes, MOST_PATH};
+
+/// The most directories of a union.
+const MOST_BRANCHES: usize = 16;
 
 /// Whether there are no words behind a program's name.
 fn says_nothing(arguments: &[Bytes]) -> bool
@@ -93,6 +99,60 @@ fn makes_symlink(words: &[Bytes]) -> bool
     }
 }
 
+/// Whether this is a path from the root of the tree, of at most 1,024 bytes.
+pub fn is_firm(path: &Bytes) -> bool
+    ensures { result ≡ is_firm path.now }
+{
+    path.as_slice().first() == Some(&b'/') && path.len() <= MOST_PATH
+}
+
+/// Whether the words behind `/hurd/firmlink` make a firm link: one path from the root of the tree.
+fn says_target(arguments: &[Bytes]) -> bool
+    ensures { result ≡ is_some (firm_text arguments.now) }
+{
+    match arguments {
+        [path] => is_firm(path),
+        _ => false,
+    }
+}
+
+/// Whether these words make a firm link.
+fn makes_firmlink(words: &[Bytes]) -> bool
+    ensures { result ≡ is_some (begin_as Firmlink words.now) }
+{
+    match words {
+        [program, arguments @ ..] => program.is(b"/hurd/firmlink") && says_target(arguments),
+        [] => false,
+    }
+}
+
+/// Whether each is such a path.
+fn are_firm(paths: &[Bytes]) -> bool
+    ensures { result ≡ list_all is_firm paths.now }
+{
+    paths.iter().all(|path| is_firm(path))
+}
+
+/// Whether the words behind `/hurd/union` make a union: 1 to 16 such paths.
+pub fn says_targets(arguments: &[Bytes]) -> bool
+    ensures { result ≡ is_some (union_text arguments.now) }
+{
+    match arguments {
+        [] => false,
+        [_first, ..] => arguments.len() <= MOST_BRANCHES && are_firm(arguments),
+    }
+}
+
+/// Whether these words make a union.
+fn makes_union(words: &[Bytes]) -> bool
+    ensures { result ≡ is_some (begin_as Union words.now) }
+{
+    match words {
+        [program, arguments @ ..] => program.is(b"/hurd/union") && says_targets(arguments),
+        [] => false,
+    }
+}
+
 /// Whether some kind of server takes these words.
 pub fn words_ok(words: &[Bytes]) -> bool
     ensures { result ≡ is_some (begin words.now) }
@@ -102,6 +162,8 @@ pub fn words_ok(words: &[Bytes]) -> bool
         || makes_null(words)
         || makes_zero(words)
         || makes_symlink(words)
+        || makes_firmlink(words)
+        || makes_union(words)
 }
 
 /// The words that a server says of itself make it again, as it was when it began.

@@ -30,6 +30,10 @@ impl Server for Box<dyn Server> {
         (**self).set_options(alloc, words)
     }
 
+    fn targets(&self, alloc: Global) -> Result<Names, Errno> {
+        (**self).targets(alloc)
+    }
+
     fn attrs(&self, node: NodeName) -> Option<Attrs> {
         (**self).attrs(node)
     }

@@ -6,7 +6,7 @@ ghost use Rattle.hurd_creds.specs.Memory.{Meets, Steps};
 ghost use Rattle.hurd_trans_iface.specs.Nodes.{AllListed, Reaches, attrs_of, body_of, content_of, passive_of};
 ghost use Rattle.hurd_trans_iface.specs.Answers.{entry_of, names_of};
 ghost use Rattle.hurd_trans_iface.specs.Behaviour.{reading, writing, resizing};
-ghost use Rattle.hurd_trans_iface.specs.Meaning.{Meaning, root_of, options_of, begin_root_after, step_of, set_options_step, make_step, link_step, unlink_step, rename_step, set_attrs_step, set_passive_step, forget_after, readable_of};
+ghost use Rattle.hurd_trans_iface.specs.Meaning.{Meaning, root_of, options_of, targets_of, begin_root_after, step_of, set_options_step, make_step, link_step, unlink_step, rename_step, set_attrs_step, set_passive_step, forget_after, readable_of};
 
 use crate::names::Names;
 use crate::new_node::NewNode;
@@ -46,6 +46,13 @@ pub trait Server: Drop {
     fn set_options(&mut self, alloc: Global, words: &Words) -> Result<(), Errno>
         ensures steps { Steps (meaning self.old) (set_options_step words.now (meaning self.old)) result (meaning self.new) }
         ensures no_words { words.now ≡ [] → result ≡ Ok tt };
+
+    /// The paths of the nodes that it aims at, in order: what they lead to when the server is attached are its targets. Where there are none, no memory is taken.
+    ///
+    /// Errors: `ENOMEM`.
+    fn targets(&self, alloc: Global) -> Result<Names, Errno>
+        ensures meets { Meets (Ok (targets_of (meaning self.now).kind (meaning self.now).text)) result }
+        ensures nothing { targets_of (meaning self.now).kind (meaning self.now).text ≡ [] → result ≡ Ok [] };
 
     /// The attributes of a node, if the server has it.
     fn attrs(&self, node: NodeName) -> Option<Attrs>

@@ -13,7 +13,7 @@ use Rattle.hurd_creds.specs.declared.attrs.Attrs.{Attrs}
 use Rattle.hurd_creds.specs.Access.{IdSets}
 use Rattle.hurd_trans_iface.specs.Nodes.{Body, Content, Listing, Entry, Header, Node, is_empty_dir}
 use Rattle.hurd_trans_iface.specs.Answers.{entry_in}
-use Rattle.hurd_trans_iface.specs.Meaning.{ServerKind, Tmpfs, Hello, Null, Zero, Symlink, behaviour_of, options_of}
+use Rattle.hurd_trans_iface.specs.Meaning.{ServerKind, Tmpfs, Hello, Null, Zero, Symlink, Firmlink, Union, all_kinds, behaviour_of, options_of}
 use Rattle.hurd_nodes.specs.Shown.{ServerInfo}
 use Rattle.hurd_ports.specs.Tables.{Task}
 use Rattle.hurd_machine.specs.World.{World, IsAmong, nodes_of, active_at, body_at, header_at, home_at, open_at, server_at, task_at, words_at, words_in}
@@ -133,46 +133,36 @@ bodies_back : (o : Option Node) → ((x : Node) → o ≡ Some x → HasDistinct
 bodies_back None apart = refl
 bodies_back (Some x) apart = ap Some (body_back x.body (apart x refl))
 
--- a server is told by its options, its text, its root and its ids
+-- a server is told by its options, its text, its root, its ids and its targets
 
 abbrev first : List (List ℕ) → List ℕ
 first [] = []
 first (w ∷ ws) = w
 
--- whether the first word is the program of a kind
-abbrev names : ServerKind → List (List ℕ) → Bool
-names k ws = bytes_eq (first ws) (behaviour_of k).program
+-- the first of these kinds whose program has this name
+abbrev kind_among : List ServerKind → List ℕ → Option ServerKind
+kind_among [] w = None
+kind_among (k ∷ ks) w = cond (bytes_eq w (behaviour_of k).program) (Some k) (kind_among ks w)
+
+-- the kind that the first word says
+abbrev kind_of : List (List ℕ) → Option ServerKind
+kind_of ws = kind_among all_kinds (first ws)
+
+kind_said : (k : ServerKind) (text : List ℕ) → kind_of (options_of k text) ≡ Some k
+kind_said Tmpfs text = refl
+kind_said Hello text = refl
+kind_said Null text = refl
+kind_said Zero text = refl
+kind_said Symlink text = refl
+kind_said Firmlink text = refl
+kind_said Union text = refl
 
 kind_named : (k l : ServerKind) (s t : List ℕ) → options_of k s ≡ options_of l t → k ≡ l
-kind_named Tmpfs Tmpfs s t e = refl
-kind_named Tmpfs Hello s t e = absurd (true≢false (ap (names Tmpfs) e))
-kind_named Tmpfs Null s t e = absurd (true≢false (ap (names Tmpfs) e))
-kind_named Tmpfs Zero s t e = absurd (true≢false (ap (names Tmpfs) e))
-kind_named Tmpfs Symlink s t e = absurd (true≢false (ap (names Tmpfs) e))
-kind_named Hello Tmpfs s t e = absurd (true≢false (ap (names Hello) e))
-kind_named Hello Hello s t e = refl
-kind_named Hello Null s t e = absurd (true≢false (ap (names Hello) e))
-kind_named Hello Zero s t e = absurd (true≢false (ap (names Hello) e))
-kind_named Hello Symlink s t e = absurd (true≢false (ap (names Hello) e))
-kind_named Null Tmpfs s t e = absurd (true≢false (ap (names Null) e))
-kind_named Null Hello s t e = absurd (true≢false (ap (names Null) e))
-kind_named Null Null s t e = refl
-kind_named Null Zero s t e = absurd (true≢false (ap (names Null) e))
-kind_named Null Symlink s t e = absurd (true≢false (ap (names Null) e))
-kind_named Zero Tmpfs s t e = absurd (true≢false (ap (names Zero) e))
-kind_named Zero Hello s t e = absurd (true≢false (ap (names Zero) e))
-kind_named Zero Null s t e = absurd (true≢false (ap (names Zero) e))
-kind_named Zero Zero s t e = refl
-kind_named Zero Symlink s t e = absurd (true≢false (ap (names Zero) e))
-kind_named Symlink Tmpfs s t e = absurd (true≢false (ap (names Symlink) e))
-kind_named Symlink Hello s t e = absurd (true≢false (ap (names Symlink) e))
-kind_named Symlink Null s t e = absurd (true≢false (ap (names Symlink) e))
-kind_named Symlink Zero s t e = absurd (true≢false (ap (names Symlink) e))
-kind_named Symlink Symlink s t e = refl
+kind_named k l s t e = let same : Some k ≡ Some l = sym (kind_said k s) ∙ ap kind_of e ∙ kind_said l t in cc
 
-info_from : {k l : ServerKind} {s t : List ℕ} {n m : Name} {x y : IdSets} → k ≡ l → s ≡ t → n ≡ m → x ≡ y
-    → ◌≡◌ {A = ServerInfo} (record { kind = k; text = s; root = n; ids = x }) (record { kind = l; text = t; root = m; ids = y })
-info_from a b c d = rw (a, b, c, d) refl
+info_from : {k l : ServerKind} {s t : List ℕ} {n m : Name} {x y : IdSets} {p q : List Name} → k ≡ l → s ≡ t → n ≡ m → x ≡ y → p ≡ q
+    → ◌≡◌ {A = ServerInfo} (record { kind = k; text = s; root = n; ids = x; targets = p }) (record { kind = l; text = t; root = m; ids = y; targets = q })
+info_from a b c d e = rw (a, b, c, d, e) refl
 
 info_told : (i j : ServerInfo) → server_row i ≡ server_row j → i ≡ j
 info_told i j e =
@@ -180,7 +170,8 @@ info_told i j e =
     let text : i.text ≡ j.text = ap (λ (r : ServerRow). r.text) e in
     let root : i.root ≡ j.root = ap (λ (r : ServerRow). r.root) e in
     let ids : i.ids ≡ j.ids = ap (λ (r : ServerRow). r.ids) e in
-    info_from kind text root ids
+    let targets : i.targets ≡ j.targets = ap (λ (r : ServerRow). r.targets) e in
+    info_from kind text root ids targets
 
 infos_told : (o p : Option ServerInfo) → option_map server_row o ≡ option_map server_row p → o ≡ p
 infos_told None None e = refl

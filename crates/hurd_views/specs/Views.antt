@@ -66,9 +66,9 @@ abbrev pub body_row : Body → BodyRow
 body_row (Content bs) = body.Bytes bs
 body_row (Listing es) = body.Entries (rows_in (Some (Listing es)) (map (λ e. e.name) es))
 
--- a server, by what makes such a one: its program with its words, and the text that these gave it
+-- a server, by what makes such a one, its program with its words and the text that these gave it, and by what it aims at
 abbrev pub server_row : ServerInfo → ServerRow
-server_row i = record { options = options_of i.kind i.text; text = i.text; root = i.root; ids = i.ids }
+server_row i = record { options = options_of i.kind i.text; text = i.text; root = i.root; ids = i.ids; targets = i.targets }
 
 -- all that is seen of what has a name, by what was looked at
 abbrev pub row_of : World → Sight → Name → Row

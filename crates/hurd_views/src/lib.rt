@@ -7,5 +7,5 @@ mod rows;
 mod told;
 mod view;
 
-pub use rows::{BodyRow, EntryRow, EntryRows, NodeRow, OpenRow, Row, ServerRow};
+pub use rows::{BodyRow, EntryRow, EntryRows, NodeNames, NodeRow, OpenRow, Row, ServerRow};
 pub use view::{Rows, SeatRow, View, rows_are_views};

@@ -1,10 +1,11 @@
 //! What is seen of things that have a name, as it can be kept and compared.
-ghost use Rattle.std.specs.Prelude.{◌≡◌, ◌↔◌, IsTrue};
+ghost use Rattle.std.specs.Prelude.{◌≡◌, ◌↔◌, IfOk, IsTrue};
 ghost use Rattle.hurd_views.specs.Views.{HaveSameAccess, HaveSameMarks, HaveSamePlace, no_row};
 
 use hurd_creds::{Attrs, Bytes, Ids, Name, NodeName, Same, ServerName, all_same};
 use hurd_ports::Opened;
 use hurd_trans_iface::Words;
+use std::alloc::{AllocError, Global};
 use std::marker::Model;
 
 /// A node beside what is in it.
@@ -56,6 +57,21 @@ pub struct OpenRow {
     pub holders: u128,
 }
 
+/// Names of nodes, in their order.
+#[derive(Debug, Drop)]
+pub struct NodeNames {
+    items: Vec<NodeName>,
+}
+
+impl Model for NodeNames {
+    ghost use Rattle.std.specs.Prelude.{List};
+    ghost use Rattle.hurd_creds.specs.declared.name.Name.{Name};
+
+    ghost Value = { List Name };
+
+    ghost view = { λ n. n.items.items };
+}
+
 /// A server.
 #[derive(Debug, Drop)]
 pub struct ServerRow {
@@ -65,6 +81,8 @@ pub struct ServerRow {
     pub text: Bytes,
     pub root: NodeName,
     pub ids: Ids,
+    /// The nodes that it aims at.
+    pub targets: NodeNames,
 }
 
 /// All that is seen under a name; none of what is not seen. Within, none stands for what is not there.
@@ -108,6 +126,31 @@ impl EntryRow {
 impl Same for EntryRow {
     fn same(&self, other: &EntryRow) -> bool {
         self.is_same(other)
+    }
+}
+
+impl NodeNames {
+    /// A copy of these names.
+    pub(crate) fn copied(alloc: Global, names: &[NodeName]) -> Result<NodeNames, AllocError>
+        ensures { IfOk result (λ copy. copy ≡ names.now) }
+    {
+        Ok(NodeNames {
+            items: Vec::from_slice(alloc, names)?,
+        })
+    }
+
+    /// The names.
+    pub fn as_slice(&self) -> &[NodeName]
+        ensures { result.now ≡ self.now }
+    {
+        self.items.as_slice()
+    }
+
+    /// Whether these are the same names in the same order. Takes no memory.
+    fn is_same(&self, other: &NodeNames) -> bool
+        ensures { IsTrue result ↔ (self.now ≡ other.now) }
+    {
+        self.as_slice() == other.as_slice()
     }
 }
 
@@ -199,6 +242,7 @@ impl ServerRow {
     {
         self.root == other.root
             && self.ids.is_same(&other.ids)
+            && self.targets.is_same(&other.targets)
             && self.text.is_same(&other.text)
             && self.options.is_same(&other.options)
     }

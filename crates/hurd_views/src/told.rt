@@ -10,7 +10,7 @@ ghost use Rattle.hurd_nodes.specs.Shown.{ServerInfo, shown};
 ghost use Rattle.hurd_machine.specs.World.{words_at};
 ghost use Rattle.hurd_views.specs.Views.{body_row, entry_before, node_row, row_of, rows_in, server_row, with_entries};
 
-use crate::rows::{BodyRow, EntryRow, EntryRows, NodeRow, OpenRow, Row, ServerRow};
+use crate::rows::{BodyRow, EntryRow, EntryRows, NodeNames, NodeRow, OpenRow, Row, ServerRow};
 use hurd_core::Core;
 use hurd_creds::{Attrs, Bytes, Errno, Name, NodeName, ServerName};
 use hurd_nodes::Nodes;
@@ -234,11 +234,15 @@ fn server_row<S: Server>(
     let Some(ids) = nodes.ids_of(server) else {
         return Ok(None);
     };
+    let Some(targets) = nodes.targets_of(server) else {
+        return Ok(None);
+    };
     Ok(Some(ServerRow {
         options,
         text: Bytes::copied(alloc, text)?,
         root,
         ids: ids.copied(alloc)?,
+        targets: NodeNames::copied(alloc, targets)?,
     }))
 }
 

@@ -199,6 +199,7 @@ module _ (kind : ServerKind) (text : List ℕ) where
       rights = λ t x r at has. right_given t r (right_is t x r at has).0;
       entries = λ d n is. absurd (no_entry d n is);
       parents = λ n p k is up. absurd (let none = ap (λ (j : Header). j.parent) (header_only n k is).1 in cc);
+      targets = λ s n i is among. absurd (subst (λ (j : ServerInfo). IsAmong n j.targets) (server_only s i is).1 among);
     }
 
     tables : AreTables w

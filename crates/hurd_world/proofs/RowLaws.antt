@@ -1,7 +1,7 @@
 -- What a row answers is what its call owes.
 use Rattle.std.specs.Prelude.{IfErr, IfSome, IsNone}
 use Rattle.std.specs.Option.{option_map}
-use Rattle.std.proofs.Common.{◌≡◌, inl, inr, ℕ, true, false, true≢false, List, [], ◌∷◌, Result, Ok, Err, Option, Some, None, refl, ap, sym, ◌∙◌}
+use Rattle.std.proofs.Common.{◌≡◌, ◌⊎◌, inl, inr, ℕ, true, false, true≢false, List, [], ◌∷◌, Result, Ok, Err, Option, Some, None, refl, ap, sym, ◌∙◌}
 use Rattle.hurd_creds.specs.declared.errno.Errno.{Errno}
 use Rattle.hurd_creds.specs.declared.errno.Errno.TheVariants.{ENOMEM}
 use Rattle.hurd_trans_iface.specs.Meaning.{Meaning, Begins}
@@ -12,11 +12,12 @@ use Rattle.hurd_machine.specs.declared.call.Reply.TheVariants.{Done, Found, Port
 use Rattle.hurd_machine.specs.declared.call.Setting.{Setting}
 use Rattle.hurd_machine.specs.Calls.{Call, Reply, box_in, call_by, refusal, reply_by}
 use Rattle.hurd_machine.specs.World.{World}
-use Rattle.hurd_machine.specs.Plan.{Plan, Follows, Planned, Tried, after_plan, handing_back, is_refused, told}
+use Rattle.hurd_machine.specs.Plan.{Plan, Follows, Planned, after_plan, handing_back, is_refused, told}
 use Rattle.hurd_core.specs.Core.{without_box}
 use Rattle.hurd_fsys.specs.Fsys.{plan_set_options}
-use Rattle.hurd_fsys.specs.Setting.{plan_set_translator}
-use Rattle.hurd_fsys.specs.Starting.{plan_startup}
+use Rattle.hurd_fsys.specs.Aims.{PlannedOr, TriedOr}
+use Rattle.hurd_fsys.specs.Setting.{SetLacks, plan_set_translator}
+use Rattle.hurd_fsys.specs.Starting.{StartLacks, plan_startup}
 use Rattle.hurd_laws.specs.Called.{Called}
 use Rattle.hurd_laws.specs.Step.{NeedsNone, after, plan, reply_of, takes_memory}
 use Rattle.hurd_world.specs.Held.{ComesBack, set_told, start_told, told_of}
@@ -54,7 +55,7 @@ module _ {S : Type 0} (f : S → Meaning) (v w : World) (t : ℕ) (call : code.C
         told = ap (λ (n : Errno). Refused n) lacks.0 ∙ ap (λ (o : Option Meaning). refusal o ENOMEM) (sym none);
         takes = takes;
         needs = λ n. true≢false (ap is_refused (free n).0 ∙ lacks.1);
-        wanted = lacks.1;
+        wanted = inl lacks.1;
         same = back;
       })) tt
 
@@ -80,6 +81,10 @@ module _ {S : Type 0} (f : S → Meaning) (v w : World) (t : ℕ) (call : code.C
   kept_refused m (Same same) is = is
   kept_refused m (Back e n) is = is
 
+  wants : (m : Meaning) (r : Reply) {L : Type 0} → (is_refused r ≡ false) ⊎ L → (is_refused (handing_back m r) ≡ false) ⊎ L
+  wants m r (inl is) = inl (kept_refused m r is)
+  wants m r (inr finds) = inr finds
+
   module _ (p : ℕ) (setting : Setting) (words : List (List ℕ)) where
     abbrev asked : Option S → code.Call S
     asked server = FileSetTranslator p setting words server
@@ -94,20 +99,23 @@ module _ {S : Type 0} (f : S → Meaning) (v w : World) (t : ℕ) (call : code.C
     set_done None u x h = stepped w x t _ Done h.0 h.1
     set_done (Some s) u x h = stepped w x t _ Done (ap (handing_back (f s)) h.0) h.1
 
-    set_refused : (server : Option S) (e : Errno) (x : World) → Planned w (planned server) tells (Err e) x → (IsNone server → Follows w (planned server) (Refused e) x)
+    abbrev Met : Option S → Result (Unit {0}) Errno → World → Type 0
+    Met server r x = PlannedOr (SetLacks w t p setting (option_map f server)) w (planned server) tells r x
+
+    set_refused : (server : Option S) (e : Errno) (x : World) → Met server (Err e) x → (IsNone server → Follows w (planned server) (Refused e) x)
         → Called w t (call_by f (asked server)) (reply_by f (refusal server e)) x
     set_refused None e x h free = let l = free refl in stepped w x t _ (Refused e) l.0 l.1
     set_refused (Some s) e x (back, inl bars) free =
         stepped w x t _ (Back e (f s)) (ap (λ (P : Plan). handing_back (f s) P.reply) (sym bars)) (back ∙ ap (λ (P : Plan). after_plan w P) (sym bars))
     set_refused (Some s) e x (back, inr lacks) free =
-        inr (record { told = ap (λ (n : Errno). Back n (f s)) lacks.0; takes = refl; needs = λ n. n; wanted = kept_refused (f s) (planned (Some s)).reply lacks.1; same = back })
+        inr (record { told = ap (λ (n : Errno). Back n (f s)) lacks.0; takes = refl; needs = λ n. n; wanted = wants (f s) (planned (Some s)).reply lacks.1; same = back })
 
     comes_back : (server : Option S) (e : Errno) → ComesBack (asked server) (refusal server e)
     comes_back None e = tt
     comes_back (Some s) e = refl
 
     pub set_row : (server : Option S) (r : Result (Unit {0}) (Errno × Option S)) (got : code_reply.Reply S) (x : World) → call ≡ asked server → reply ≡ got → y ≡ x → got ≡ set_told r
-        → Planned w (planned server) tells (without_box r) x → (IsNone server → Follows w (planned server) (told tells (without_box r)) x) → IfErr r (λ e. e.1 ≡ server) → Owes
+        → Met server (without_box r) x → (IsNone server → Follows w (planned server) (told tells (without_box r)) x) → IfErr r (λ e. e.1 ≡ server) → Owes
     set_row server (Ok u) got x is same left so planned free back = owed (asked server) Done x is (same ∙ so) left (set_done server u x planned) tt
     set_row server (Err e) got x is same left so planned free back =
         owed (asked server) (refusal server e.0) x is (same ∙ so ∙ ap (λ (o : Option S). refusal o e.0) back) left (set_refused server e.0 x planned free) (comes_back server e.0)
@@ -121,7 +129,7 @@ module _ {S : Type 0} (f : S → Meaning) (v w : World) (t : ℕ) (call : code.C
   starts_done u = Done
 
   pub start_row : (server : S) (r : Result (Unit {0}) (Errno × S)) (got : code_reply.Reply S) (x : World) → call ≡ FsysStartup server → reply ≡ got → y ≡ x → got ≡ start_told r
-      → Tried w (starts server) starts_done (without_box r) x → IfErr r (λ e. e.1 ≡ server) → Owes
+      → TriedOr (StartLacks w t (f server)) w (starts server) starts_done (without_box r) x → IfErr r (λ e. e.1 ≡ server) → Owes
   start_row server (Ok u) got x is same left so (inl p) back =
       owed (FsysStartup server) Done x is (same ∙ so) left (stepped w x t (call_by f (FsysStartup server)) Done (ap (handing_back (f server)) p.0) p.1) tt
   start_row server (Ok u) got x is same left so (inr lacks) back = let out = lacks.0 in absurd (cc)
@@ -131,7 +139,7 @@ module _ {S : Type 0} (f : S → Meaning) (v w : World) (t : ℕ) (call : code.C
   start_row server (Err e) got x is same left so (inr lacks) back =
       let none : e.0 ≡ ENOMEM = cc (lacks.0) in
       owed (FsysStartup server) (Back e.0 server) x is (same ∙ so ∙ ap (λ (s : S). Back e.0 s) back) left
-      (inr (record { told = ap (λ (n : Errno). Back n (f server)) none; takes = refl; needs = λ n. n; wanted = kept_refused (f server) (starts server).reply lacks.1.1; same = lacks.1.0 })) refl
+      (inr (record { told = ap (λ (n : Errno). Back n (f server)) none; takes = refl; needs = λ n. n; wanted = wants (f server) (starts server).reply lacks.1.1; same = lacks.1.0 })) refl
 
 -- the condition on a box, as the row wants it
 pub begun_box : {S : Type 0} (f : S → Meaning) (server : Option S) → IfSome (option_map f server) Begins → IfSome server (λ s. Begins (f s))

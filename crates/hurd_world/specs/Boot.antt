@@ -1,5 +1,5 @@
 -- The first world.
-use Rattle.std.specs.Prelude.{ℕ, ◌+◌, not, if◌then◌else◌, List, [], ◌∷◌, None, length, nat_le, Result, Ok, Err}
+use Rattle.std.specs.Prelude.{ℕ, Bool, true, false, ◌+◌, not, if◌then◌else◌, List, [], ◌∷◌, None, length, nat_le, Result, Ok, Err}
 use Rattle.std.specs.FinMap as fin
 use Rattle.hurd_creds.specs.declared.errno.Errno.{Errno}
 use Rattle.hurd_creds.specs.declared.errno.Errno.TheVariants.{EINVAL, ENOTDIR}
@@ -8,6 +8,8 @@ use Rattle.hurd_creds.specs.Access.{IdSets}
 use Rattle.hurd_creds.specs.Names.{name_of}
 use Rattle.hurd_creds.specs.Limits.{most_tasks}
 use Rattle.hurd_trans_iface.specs.Nodes.{is_dir}
+use Rattle.hurd_trans_iface.specs.declared.root.Crossing.{Crossing}
+use Rattle.hurd_trans_iface.specs.declared.root.Crossing.TheVariants.{Firm, Union}
 use Rattle.hurd_trans_iface.specs.Meaning.{Meaning, root_of}
 use Rattle.hurd_nodes.specs.Shown.{state_of, booted, boot_name}
 use Rattle.hurd_ports.specs.declared.table.Right.TheVariants.{Io}
@@ -19,9 +21,15 @@ use Rattle.hurd_machine.specs.World.{World, world_from}
 abbrev pub few_of : List IdSets → Result (Unit {0}) Errno
 few_of tasks = if nat_le (length tasks) most_tasks then Ok tt else Err EINVAL
 
--- whether a boot server of this meaning and tasks of these ids begin a world: ENOTDIR where its root is no directory, EINVAL
+-- a root that is crossed to the targets of its server: there is nothing yet that these could be
+abbrev pub is_aimed : Crossing → Bool
+is_aimed Firm = true
+is_aimed Union = true
+is_aimed _ = false
+
+-- whether a boot server of this meaning and tasks of these ids begin a world: ENOTDIR where its root is no directory, EINVAL where it wants targets, EINVAL
 abbrev pub boot_of : Meaning → List IdSets → Result (Unit {0}) Errno
-boot_of m tasks = if not (is_dir (root_of m.kind m.text).kind) then Err ENOTDIR else few_of tasks
+boot_of m tasks = if not (is_dir (root_of m.kind m.text).kind) then Err ENOTDIR else if is_aimed (root_of m.kind m.text).crossing then Err EINVAL else few_of tasks
 
 -- an open without modes
 abbrev pub closed_open : OpenFlags

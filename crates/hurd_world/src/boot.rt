@@ -1,13 +1,24 @@
 //! The first ports of tasks.
 ghost use Rattle.std.specs.Prelude.{◌≡◌, ◌⊎◌, IfOk, IfErr, IsOk, Ok, Err};
 ghost use Rattle.hurd_ports.specs.Tables.{room_of};
-ghost use Rattle.hurd_world.specs.Boot.{boot_ports, few_of};
+ghost use Rattle.hurd_world.specs.Boot.{boot_ports, few_of, is_aimed};
 ghost use Rattle.hurd_world.specs.BootPort.{with_boot_port};
 
 use hurd_creds::{Errno, Ids, OpenFlags, TaskId};
 use hurd_nodes::BOOT_NAME;
 use hurd_ports::{Parents, Ports};
+use hurd_trans_iface::Crossing;
 use std::alloc::Global;
+
+/// Whether a root that is crossed like this leads to the targets of its server: there is nothing yet that these could be.
+pub(crate) fn is_aimed(crossing: Crossing) -> bool
+    ensures { result ≡ is_aimed crossing }
+{
+    match crossing {
+        Crossing::Firm | Crossing::Union => true,
+        Crossing::Plain | Crossing::Link { .. } => false,
+    }
+}
 
 /// The tables of tasks of these ids: each has the boot root as port 1, its root, and as port 2, its working directory.
 ///

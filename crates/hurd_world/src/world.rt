@@ -8,7 +8,7 @@ ghost use Rattle.hurd_laws.specs.Served.{Served, IsolatedRun};
 ghost use Rattle.hurd_world.specs.Held.{AllBegun, AllComeBack, ComesBack, made_by, world_of};
 ghost use Rattle.hurd_world.specs.Boot.{boot_of, first_world};
 
-use crate::boot::first_ports;
+use crate::boot::{first_ports, is_aimed};
 use crate::replies;
 use hurd_core::Core;
 use hurd_creds::{Errno, Ids, Kind, TaskId};
@@ -44,8 +44,8 @@ impl<S: Server> World<S> {
     /// Begins a world over a boot server, which some words made, for tasks of these ids; each has the boot root as port 1,
     /// its root, and as port 2, its working directory.
     ///
-    /// Errors, in order, each with the box back: `ENOTDIR` the server's root is no directory, `EINVAL` more than 64 tasks,
-    /// `ENOMEM`.
+    /// Errors, in order, each with the box back: `ENOTDIR` the server's root is no directory, `EINVAL` it aims at targets, `EINVAL` more
+    /// than 64 tasks, `ENOMEM`.
     pub fn boot(alloc: Global, boot: S, tasks: Vec<Ids>) -> Result<World<S>, (Errno, S)>
         requires { Begins (S.meaning boot) }
         ensures ok { IfOk result (λ w. (boot_of (S.meaning boot) tasks.items ≡ Ok tt)
@@ -54,9 +54,13 @@ impl<S: Server> World<S> {
         ensures err { let asked = boot_of (S.meaning boot) tasks.items in
             IfErr result (λ e. (e.1 ≡ boot) × ((asked ≡ Err e.0) ⊎ ((e.0 ≡ Errno.ENOMEM) × IsOk asked))) }
     {
-        let Kind::Dir = boot.root().kind else {
+        let root = boot.root();
+        let Kind::Dir = root.kind else {
             return Err((Errno::ENOTDIR, boot));
         };
+        if is_aimed(root.crossing) {
+            return Err((Errno::EINVAL, boot));
+        }
         let ports = match first_ports(alloc, tasks) {
             Ok(ports) => ports,
             Err(errno) => return Err((errno, boot)),

@@ -3,7 +3,7 @@ use Rattle.std.proofs.Common.{◌∙◌, refl, sym}
 use Rattle.std.specs.Prelude.{Err, Ok, option_copied}
 use Rattle.hurd_core.specs.Core.{world_of}
 use Rattle.hurd_core.specs.PortNode.{named_of}
-use Rattle.hurd_fsys.proofs.SeatingLaws.{kept_freely, may_store, means_some, refused_freely, set_emptied, set_kept, set_nothing, set_refused, set_seated, told_stored}
+use Rattle.hurd_fsys.proofs.SeatingLaws.{kept_freely, may_store, means_some, refused_freely, set_aimless, set_emptied, set_kept, set_nothing, set_refused, set_seated, told_stored}
 use Rattle.hurd_fsys.proofs.setting.file_set_translator.Goals as goal
 
 pub returns-in-Err-clause-planned : goal.returns-in-Err-clause-planned
@@ -76,6 +76,15 @@ returns-in-None-clause-free g c none =
     (c.is_some-is_stored.ensures ∙ sym (means_some (λ x. x.now) c.passive.result))))
     (tt {0}) (world_of g.S.Server.meaning c.store.new.core) _ c.in-None.is c.store.ensures c.empty_seat.ensures
 
+pub returns-in-Err-aims-clause-planned : goal.returns-in-Err-aims-clause-planned
+returns-in-Err-aims-clause-planned g c =
+    let w = world_of g.S.Server.meaning c.args.core.now in
+    set_aimless g.S.Server.meaning w c.args.task.0 c.args.port c.args.setting c.args.words c.args.server c.is_some.result c.is_some.ensures (named_of c.in-Ok.named) c.in-Ok.ensures c.if-sets_nothing.ensures c.in-Ok-old_server.old
+    (c.in-Ok-old_server.ensures (named_of c.in-Ok.named) refl
+    (told_stored g.S.Server.meaning w c.args.task.0 c.args.port c.args.setting c.args.words c.args.server c.is_some.result c.is_some.ensures (named_of c.in-Ok.named) c.in-Ok.ensures c.if-sets_nothing.ensures (option_copied c.passive.result) c.passive.ensures c.is_some-is_stored.result
+    (c.is_some-is_stored.ensures ∙ sym (means_some (λ x. x.now) c.passive.result))))
+    c.in-Some.server c.in-Some.is c.in-Err-aims.errno c.in-Err-aims.ensures
+
 pub returns-in-Ok-seat_with-clause-planned : goal.returns-in-Ok-seat_with-clause-planned
 returns-in-Ok-seat_with-clause-planned g c =
     let w = world_of g.S.Server.meaning c.args.core.now in
@@ -83,7 +92,8 @@ returns-in-Ok-seat_with-clause-planned g c =
     (c.in-Ok-old_server.ensures (named_of c.in-Ok.named) refl
     (told_stored g.S.Server.meaning w c.args.task.0 c.args.port c.args.setting c.args.words c.args.server c.is_some.result c.is_some.ensures (named_of c.in-Ok.named) c.in-Ok.ensures c.if-sets_nothing.ensures (option_copied c.passive.result) c.passive.ensures c.is_some-is_stored.result
     (c.is_some-is_stored.ensures ∙ sym (means_some (λ x. x.now) c.passive.result))))
-    c.in-Some.server (Ok c.in-Ok-seat_with.field-0) _ c.in-Some.is (rw (c.leaver.ensures, c.root_mode.ensures, c.root.ensures) at c.in-Ok-seat_with.ensures.does)
+    c.in-Some.server c.in-Some.is
+    c.in-Ok-aims.targets.items c.in-Ok-aims.ensures (Ok c.in-Ok-seat_with.field-0) _ (rw (c.leaver.ensures, c.root_mode.ensures, c.root.ensures) at c.in-Ok-seat_with.ensures.does)
 
 pub returns-in-Err-seat_with-clause-planned : goal.returns-in-Err-seat_with-clause-planned
 returns-in-Err-seat_with-clause-planned g c =
@@ -92,4 +102,5 @@ returns-in-Err-seat_with-clause-planned g c =
     (c.in-Ok-old_server.ensures (named_of c.in-Ok.named) refl
     (told_stored g.S.Server.meaning w c.args.task.0 c.args.port c.args.setting c.args.words c.args.server c.is_some.result c.is_some.ensures (named_of c.in-Ok.named) c.in-Ok.ensures c.if-sets_nothing.ensures (option_copied c.passive.result) c.passive.ensures c.is_some-is_stored.result
     (c.is_some-is_stored.ensures ∙ sym (means_some (λ x. x.now) c.passive.result))))
-    c.in-Some.server (Err c.in-Err-seat_with.errno) _ c.in-Some.is c.in-Err-seat_with.ensures.does
+    c.in-Some.server c.in-Some.is
+    c.in-Ok-aims.targets.items c.in-Ok-aims.ensures (Err c.in-Err-seat_with.errno) _ c.in-Err-seat_with.ensures.does

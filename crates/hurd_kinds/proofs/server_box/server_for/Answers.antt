@@ -9,3 +9,5 @@ returns c =
     (refused_words c.new-3.result _ c.new-3.ensures.err (rw c.in_default-3.is at c.in_ok-stream.ensures))
     (refused_words c.new-4.result _ c.new-4.ensures.err (rw c.in_default-4.is at c.in_ok-stream-2.ensures))
     (refused c.new-5.result _ c.new-5.ensures.err (rw c.in_default-5.is at c.in_ok-link.ensures))
+    (refused c.new-6.result _ c.new-6.ensures.err (rw c.in_default-6.is at c.in_ok-link-2.ensures))
+    (refused c.new_union.result _ c.new_union.ensures.err (rw c.in_default-7.is at c.in_ok-union.ensures))

@@ -1,10 +1,11 @@
--- A name that is missed; any other step follows from what was asked.
-use Rattle.std.proofs.Common.{◌∙◌}
+-- A name that is missed, or that a branch shows; any other step follows from what was asked.
+use Rattle.std.proofs.Common.{◌∙◌, ap, sym}
+use Rattle.std.specs.Prelude.{Ok}
 use Rattle.std.proofs.lemmas.Result.{err_from_is_err_and}
 use Rattle.hurd_core.specs.Core.{world_of}
 use Rattle.hurd_lookup.specs.Path.{names_in}
 use Rattle.hurd_lookup.specs.Ends.{right_by}
-use Rattle.hurd_lookup.proofs.StepLaws.{step-missed}
+use Rattle.hurd_lookup.proofs.StepLaws.{step-branch, step-missed}
 use Rattle.hurd_lookup.proofs.walk.stepped.Goals as goal
 
 pub returns-in_err-miss-in-Absent : goal.returns-in_err-miss-in-Absent
@@ -22,3 +23,14 @@ returns-in_ok-miss-in-Absent g c =
     let asked = rw c.in-Absent.is at c.in_ok-node.ensures in
     let missed = c.in_ok-miss-in-Absent.ensures w q in
     (λ onward. step-missed w q c.args.request c.args.dir c.args.name.now (names_in c.args.rest.now) c.is_last.result asked c.is_last.ensures onward ∙ missed.0, missed.1)
+
+pub returns-in-Branch : goal.returns-in-Branch
+returns-in-Branch g c =
+    let w = world_of g.S.Server.meaning c.args.core.now in
+    let q = right_by c.args.authority in
+    let asked = rw c.in-Branch.is at c.in_ok-node.ensures in (
+      λ onward.
+          step-branch w q c.args.request c.args.dir c.args.name.now (names_in c.args.rest.now) (names_in c.args.path.now) c.in-Branch.branch asked c.requires onward
+          ∙ ap Ok (sym (c.go_into.ensures.place w q)),
+      c.go_into.ensures.can w q,
+    )

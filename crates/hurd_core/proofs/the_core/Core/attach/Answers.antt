@@ -16,7 +16,7 @@ returns-in_err-attach-clause-does g c =
     let f = g.S.Server.meaning in
     let p = err_from_is_err_and c.from_residual.result c.from_residual.ensures.1 in
     rw (p.1, p.2, ← c.self.view_is, c.in_err-attach.ensures.err, c.in_err-attach.ensures.kept)
-    (attach-lacks (shown f c.self.inside.nodes) c.self.inside.ports.state c.args.task.0 (sym c.naming.ensures ∙ c.in_default.is) c.args.place c.args.ids (f c.args.server))
+    (attach-lacks (shown f c.self.inside.nodes) c.self.inside.ports.state c.args.task.0 (sym c.naming.ensures ∙ c.in_default.is) c.args.place c.args.ids c.args.targets.items (f c.args.server))
 
 pub take_name-requires-2 : goal.take_name-requires-2
 take_name-requires-2 g c =
@@ -32,5 +32,5 @@ returns-clause-does g c =
     let m = f c.args.server in
     let free : naming_of H t 2 ≡ Ok tt = sym c.naming.ensures ∙ c.in_default.is in
     rw (← c.self.view_is)
-    (attach-done N H t free p c.args.ids m c.in-Some.name c.in-Some.ensures (shown f c.attach.new.self) _ (c.in_ok-attach.ensures.shown ∙ ap (seated N H t p c.args.ids m) c.place.ensures)
+    (attach-done N H t free p c.args.ids c.args.targets.items m c.in-Some.name c.in-Some.ensures (shown f c.attach.new.self) _ (c.in_ok-attach.ensures.shown ∙ ap (seated N H t p c.args.ids c.args.targets.items m) c.place.ensures)
     (rw (c.start_over.ensures.nodes, c.start_over.ensures.ports, c.take_name-2.ensures.named, c.take_name.ensures.named) at c.settle.ensures))

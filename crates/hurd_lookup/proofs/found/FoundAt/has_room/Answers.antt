@@ -32,5 +32,11 @@ returns-in-Within g c =
     let room = c.room-in-Within.ensures ∙ room_asked (shown g.S.Server.meaning c.args.core.now.nodes) c.args.core.now.ports.state c.args.task.0 1 in
     elim c.in-Within.is [
       | inl x ↦ rw (c.in-Retries.is, x.1) room
-      | inr y ↦ elim y [ inl x ↦ rw (c.in-Retries.is, x.1) room | inr x ↦ rw (c.in-Retries.is, x.2) room ]
+      | inr aimed ↦ elim aimed [
+        | inl x ↦ rw (c.in-Retries.is, x.1) room
+        | inr into ↦ elim into [
+          | inl x ↦ rw (c.in-Retries.is, x.1) room
+          | inr back ↦ elim back [ inl x ↦ rw (c.in-Retries.is, x.1) room | inr x ↦ rw (c.in-Retries.is, x.2) room ]
+        ]
+      ]
     ]

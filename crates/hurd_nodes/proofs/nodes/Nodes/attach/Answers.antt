@@ -21,7 +21,7 @@ remove_old-requires g c = rw (c.reserve_rows.ensures.homes, c.reserve_rows.ensur
 
 -- the new seat
 abbrev new : (g : given.Over) (c : goal.After-put_seat g) → Seat g.row.S.Denot
-new g c = record { root = c.args.place.root; at = Some c.args.place.seat; ids = c.args.ids; server = c.begin_root.new.self }
+new g c = record { root = c.args.place.root; at = Some c.args.place.seat; ids = c.args.ids; targets = c.args.targets; server = c.begin_root.new.self }
 
 -- what is held, and what is left of it without the server that leaves
 abbrev held : (g : given.Over) (c : goal.After-put_seat g) → Held g.row.S.Denot
@@ -68,7 +68,7 @@ returns-clause-shown g c =
     let place = c.args.place in
     flat-same f (housed g c) (seated g c) (pushed g c)
     ∙ attached-shown f (left g c) place.name place.seat (seat_value (new g c)) (f c.args.server) place.owner place.group place.mode (begun-empty c.requires.0 (f c.args.server) c.requires.1) c.begin_root.ensures
-    ∙ ap (attached place.name place.seat (begun_info (f c.args.server) place.root c.args.ids) (begun_root (f c.args.server) place.owner place.group place.mode))
+    ∙ ap (attached place.name place.seat (begun_info (f c.args.server) place.root c.args.ids c.args.targets.items) (begun_root (f c.args.server) place.owner place.group place.mode))
     (ap (λ (t : Held g.row.S.Denot). shown f (less_old t c.args.instead)) c.self.view_is ∙ taken-old f c.args.self.now c.args.instead)
 
 pub returns-clause-hidden : goal.returns-clause-hidden

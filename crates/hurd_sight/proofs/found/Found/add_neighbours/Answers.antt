@@ -5,6 +5,6 @@ use Rattle.std.proofs.lemmas.Result.{on_ok_weaker}
 
 pub returns : goal.returns
 returns g c =
-    on_ok_weaker c.add_server.result
-    (λ server. of_all _ (shown g.S.Server.meaning c.args.nodes.now) c.args.reach.now c.args.node c.in_ok-add_below.ensures c.in_ok-add_parent.ensures c.in_ok-add_active.ensures server)
-    c.add_server.ensures
+    on_ok_weaker c.add_targets.result
+    (λ targets. of_all _ (shown g.S.Server.meaning c.args.nodes.now) c.args.reach.now c.args.node c.in_ok-add_below.ensures c.in_ok-add_parent.ensures c.in_ok-add_active.ensures c.in_ok-add_server.ensures targets)
+    c.add_targets.ensures

@@ -7,4 +7,4 @@ returns g c =
     let s = c.args.self.now in
     let kind = g.S.Single.kind in
     let text = g.S.Single.text s.single in
-    make-barred kind text s.presence c.args.dir (g.met.S.Single.no_dir text) c.bars.result (c.bars.ensures kind text) (option_copied c.args._entry) c.args._new
+    make-barred kind text s.presence c.args.dir g.met.S.Single.no_tree c.bars.result c.bars.ensures (option_copied c.args._entry) c.args._new

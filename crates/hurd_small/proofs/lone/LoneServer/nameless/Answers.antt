@@ -1,5 +1,8 @@
+use Rattle.std.proofs.Common.{sym, ◌∙◌}
 use Rattle.hurd_small.proofs.LoneLaws.{all-entered}
 use Rattle.hurd_small.proofs.lone.LoneServer.nameless.Goals as goal
 
 pub returns : goal.returns
-returns g c = let s = c.args.self.now in all-entered g.S.Single.kind (g.S.Single.text s.single) (g.met.S.Single.no_dir (g.S.Single.text s.single)) s.presence
+returns g c =
+    let s = c.args.self.now in
+    all-entered g.S.Single.kind (g.S.Single.text s.single) (sym c.has_dir.ensures ∙ c.if-has_dir.false) s.presence

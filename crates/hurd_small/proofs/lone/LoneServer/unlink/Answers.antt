@@ -6,4 +6,4 @@ returns g c =
     let s = c.args.self.now in
     let kind = g.S.Single.kind in
     let text = g.S.Single.text s.single in
-    unlink-barred kind text s.presence c.args.dir (g.met.S.Single.no_dir text) c.bars.result (c.bars.ensures kind text) c.args._name.now
+    unlink-barred kind text s.presence c.args.dir g.met.S.Single.no_tree c.bars.result c.bars.ensures c.args._name.now

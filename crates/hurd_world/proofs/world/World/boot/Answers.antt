@@ -9,4 +9,4 @@ returns-clause-sound g c =
     subst Sound (sym (c.new.ensures ∙ ap₂ world_from c.in_ok-nodes.ensures.shown c.in-Ok.ensures.ok.1)) (first_sound (g.S.Server.meaning c.args.boot) c.args.tasks.items c.requires)
 
 pub returns-clause-ok : goal.returns-clause-ok
-returns-clause-ok g c = (rw (← c.root.ensures, c.in-Dir.is) c.in-Ok.ensures.ok.0, c.new.ensures ∙ ap₂ world_from c.in_ok-nodes.ensures.shown c.in-Ok.ensures.ok.1)
+returns-clause-ok g c = (rw (← c.root-root.ensures, c.in-Dir.is, ← c.if-is_aimed.ensures) c.in-Ok.ensures.ok.0, c.new.ensures ∙ ap₂ world_from c.in_ok-nodes.ensures.shown c.in-Ok.ensures.ok.1)

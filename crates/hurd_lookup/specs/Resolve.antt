@@ -1,0 +1,71 @@
+-- Paths that the core follows for itself, to the targets of servers.
+use Rattle.std.specs.Prelude.{◌≡◌, ◌⊎◌, ℕ, zero, suc, ◌||◌, not, List, [], ◌∷◌, Option, Some, None, Result, Ok, Err}
+use Rattle.hurd_creds.specs.declared.name.Name.{Name}
+use Rattle.hurd_creds.specs.declared.mode.Mode.{Mode}
+use Rattle.hurd_creds.specs.declared.errno.Errno.{Errno}
+use Rattle.hurd_creds.specs.declared.errno.Errno.TheVariants.{EDIED, ELOOP, ENAMETOOLONG, ENOENT, ENOTDIR, ENXIO}
+use Rattle.hurd_creds.specs.Access.{IdSets}
+use Rattle.hurd_trans_iface.specs.Nodes.{is_dir}
+use Rattle.hurd_trans_iface.specs.SymlinkKind.{is_absolute}
+use Rattle.hurd_ports.specs.declared.parents.Parent.{Parent}
+use Rattle.hurd_ports.specs.declared.table.IoRight.{IoRight}
+use Rattle.hurd_machine.specs.World.{World, boot_root, header_at}
+use Rattle.hurd_machine.specs.Plan.{on, given, first}
+use Rattle.hurd_lookup.specs.declared.request.Request.{Request}
+use Rattle.hurd_lookup.specs.Path.{names_in, is_short}
+use Rattle.hurd_lookup.specs.Lookup.{NewPort, Place, AtNode, AtName, Elsewhere, Waits, no_modes, request, walk}
+
+-- from which node, come in by which ways, and along which path it goes on
+pub record Leg : Type 0 where
+  pub node : Name
+  pub ways : List Parent
+  pub path : List ℕ
+
+-- along a path from the root of the tree: ENOENT where it is none
+abbrev pub from_top : List ℕ → Result Leg Errno
+from_top path = given ENOENT (is_absolute path) (Ok (record { node = boot_root; ways = []; path = path }))
+
+-- along a name that is looked up elsewhere: at a node, or from the top
+abbrev pub leg_at : List ℕ → Option NewPort → Result Leg Errno
+leg_at name None = from_top name
+leg_at name (Some e) = Ok (record { node = e.node; ways = e.parents; path = name })
+
+-- it opens nothing and makes nothing: no flags and no mode
+abbrev pub leg_request : List ℕ → Request
+leg_request path = request path no_modes (record { 0 = 0 })
+
+-- by which right it goes with these ids; its open is not asked for
+abbrev pub right_of : IdSets → Leg → IoRight
+right_of ids l = record { node = l.node; ids = ids; open_name = boot_root; parents = l.ways }
+
+-- at the end of a walk: the node is there, and a directory if one is asked for; or it goes on elsewhere; what waits to be started is not started
+abbrev pub landed : World → Request → (Leg → Result Name Errno) → Place → Result Name Errno
+landed w r onward (AtNode n ways) = on EDIED (header_at w n) (λ h. given ENOTDIR (not r.wants_dir || is_dir h.kind) (Ok n))
+landed w r onward (AtName d name) = Err ENOENT
+landed w r onward (Elsewhere kind name at) = first (leg_at name at) onward
+landed w r onward (Waits n words) = Err ENXIO
+
+-- one look, with these ids
+abbrev pub leg_asks : World → IdSets → Leg → (Leg → Result Name Errno) → Result Name Errno
+leg_asks w ids l onward =
+    on EDIED (header_at w l.node) (λ h.
+    given ENAMETOOLONG (is_short l.path) (
+    first (walk w (right_of ids l) (leg_request l.path) l.node (names_in l.path)) (landed w (leg_request l.path) onward)))
+
+-- with so many looks: ELOOP where one more is wanted
+abbrev pub legs : ℕ → World → IdSets → Leg → Result Name Errno
+legs zero w ids l = Err ELOOP
+legs (suc k) w ids l = leg_asks w ids l (legs k w ids)
+
+-- the first look, and 32 retries
+abbrev pub most_looks : ℕ
+most_looks = 33
+
+-- where a path from the root of the tree leads who has these ids, whatever a retry's port has
+abbrev pub resolve : World → IdSets → List ℕ → Result Name Errno
+resolve w ids path = first (from_top path) (legs most_looks w ids)
+
+-- where several lead, in order, up to the first that is refused
+abbrev pub resolve_all : World → IdSets → List (List ℕ) → Result (List Name) Errno
+resolve_all w ids [] = Ok []
+resolve_all w ids (path ∷ paths) = first (resolve w ids path) (λ n. first (resolve_all w ids paths) (λ ns. Ok (n ∷ ns)))

@@ -1,0 +1,222 @@
+//! Following a path inside the core, to the targets of servers.
+ghost use Rattle.std.specs.Prelude.{◌≡◌, ◌<◌, [], ◌∷◌, List, Result, IfSome, IsOk, OnOk, length};
+ghost use Rattle.hurd_creds.specs.declared.name.Name.{Name};
+ghost use Rattle.hurd_creds.specs.declared.errno.Errno.{Errno as Refusal};
+ghost use Rattle.hurd_trans_iface.specs.SymlinkKind.{is_absolute};
+ghost use Rattle.hurd_ports.specs.Limits.{most_parents};
+ghost use Rattle.hurd_ports.specs.declared.parents.Parent.{Parent};
+ghost use Rattle.hurd_core.specs.Core.{world_of};
+ghost use Rattle.hurd_lookup.specs.Ends.{CanGo, name_of, place_of, port_by, right_by, way_of};
+ghost use Rattle.hurd_lookup.specs.Lookup.{AtNode};
+ghost use Rattle.hurd_lookup.specs.Resolve.{Leg as LegAt, from_top, landed, leg_asks, leg_at, resolve, resolve_all};
+ghost use Rattle.hurd_lookup.specs.Legs.{Leads, OrLacks, leg_of};
+
+use crate::authority::{Authority, NewPort};
+use crate::path::is_short;
+use crate::request::Request;
+use crate::retry::Retry;
+use crate::walk::{Place, walk};
+use bitflags::Flags;
+use hurd_core::Core;
+use hurd_creds::{Bytes, Errno, Ids, Mode, NodeName, OpenFlags};
+use hurd_nodes::BOOT_NAME;
+use hurd_ports::{IoRight, Parents};
+use hurd_trans_iface::{Server, is_dir};
+use std::alloc::{AllocError, Global};
+
+/// So many looks are made along a path at most: the first, and 32 retries.
+const MOST_LOOKS: u64 = 33;
+
+/// From which node, come in by which ways, and along which path it goes on.
+#[derive(Debug, Drop)]
+pub(crate) struct Leg {
+    pub(crate) node: NodeName,
+    pub(crate) ways: Parents,
+    pub(crate) path: Bytes,
+}
+
+/// After one look: at the end, or on.
+#[derive(Debug, Drop)]
+pub(crate) enum Looked {
+    Ends(NodeName),
+    Goes(Leg),
+}
+
+/// Whether a path leads on from the root of the tree.
+fn is_absolute(path: &[u8]) -> bool
+    ensures { result ≡ is_absolute path.now }
+{
+    match path {
+        [first, ..] => *first == b'/',
+        [] => false,
+    }
+}
+
+/// Along a path from the root of the tree.
+///
+/// Errors, in order: `ENOENT` it is no such path, `ENOMEM`.
+#[tactic(auto, unfolding(hurd_machine::specs::Plan::given))]
+fn from_top(alloc: Global, path: &[u8]) -> Result<Leg, Errno>
+    ensures { OrLacks leg_of (from_top path.now) result }
+{
+    if !is_absolute(path) {
+        return Err(Errno::ENOENT);
+    }
+    Ok(Leg {
+        node: BOOT_NAME,
+        ways: Parents::none(alloc),
+        path: Bytes::copied(alloc, path)?,
+    })
+}
+
+/// Along a name that is left by a look: at the port of its retry, or from the root of the tree.
+///
+/// Errors: `ENOENT` it is no path from the root; `ENOMEM`.
+fn onward<S: Server>(
+    core: &Core<S>,
+    alloc: Global,
+    authority: Authority,
+    retry: Retry,
+) -> Result<Leg, Errno>
+    requires { IfSome (way_of retry.onward) (λ way. length (right_by authority).parents < most_parents) }
+    ensures { let w = world_of S.meaning core.now in
+        OrLacks leg_of (leg_at (name_of w retry.entry) (port_by (right_by authority.entry) retry.entry.onward)) result }
+{
+    let name = retry.name(core, alloc)?;
+    match retry.onward.port(alloc, authority)? {
+        None => from_top(alloc, name.as_slice()),
+        Some(
+            NewPort {
+                node,
+                ids: _,
+                parents,
+            },
+        ) => Ok(Leg {
+            node,
+            ways: parents,
+            path: name,
+        }),
+    }
+}
+
+/// A node at the end of a walk.
+///
+/// Errors, in order: `EDIED` it is gone, `ENOTDIR` a directory is asked for.
+#[tactic(auto, unfolding(hurd_machine::specs::Plan::on, hurd_machine::specs::Plan::given))]
+fn landed<S: Server>(core: &Core<S>, request: Request, node: NodeName) -> Result<NodeName, Errno>
+    ensures { (onward : LegAt → Result Name Refusal) (ways : List Parent) → result ≡ landed (world_of S.meaning core.now) request onward (AtNode node ways) }
+{
+    let Some(attrs) = core.attrs(node) else {
+        return Err(Errno::EDIED);
+    };
+    if request.wants_dir && !is_dir(attrs.kind) {
+        return Err(Errno::ENOTDIR);
+    }
+    Ok(node)
+}
+
+/// Where a walk by a right ended.
+///
+/// Errors: those of `landed`, `ENOENT` no such entry, `ENXIO` a translator waits to be started, those of `onward`.
+#[tactic(auto, unfolding(hurd_machine::specs::Plan::first))]
+fn ended<S: Server>(
+    core: &Core<S>,
+    alloc: Global,
+    authority: Authority,
+    request: Request,
+    place: Place,
+) -> Result<Looked, Errno>
+    requires { CanGo (world_of S.meaning core.now) (right_by authority) place }
+    ensures { let w = world_of S.meaning core.now in
+        Leads (λ onward. landed w request onward (place_of w (right_by authority.entry) place.entry)) result }
+{
+    match place {
+        Place::AtNode(node, _) => Ok(Looked::Ends(landed(core, request, node)?)),
+        Place::AtName(_, _) => Err(Errno::ENOENT),
+        Place::Elsewhere(retry) => Ok(Looked::Goes(onward(core, alloc, authority, retry)?)),
+        Place::Waits(_) => Err(Errno::ENXIO),
+    }
+}
+
+/// One look, with these ids: nothing is opened, made or started.
+///
+/// Errors, in order: `EDIED` no such node, `ENAMETOOLONG`, those of `walk`, those of `ended`; `ENOMEM`.
+#[tactic(auto, unfolding(hurd_machine::specs::Plan::on, hurd_machine::specs::Plan::given, hurd_machine::specs::Plan::first))]
+fn look<S: Server>(core: &Core<S>, alloc: Global, ids: &Ids, leg: Leg) -> Result<Looked, Errno>
+    ensures { Leads (leg_asks (world_of S.meaning core.now) ids.now (leg_of leg)) result }
+{
+    let Leg { node, ways, path } = leg;
+    if core.attrs(node).is_none() {
+        return Err(Errno::EDIED);
+    }
+    if !is_short(path.as_slice()) {
+        return Err(Errno::ENAMETOOLONG);
+    }
+    let right = IoRight {
+        node,
+        ids: ids.copied(alloc)?,
+        open_name: BOOT_NAME,
+        parents: ways,
+    };
+    let authority = Authority { right: &right, ids };
+    let request = Request::new(path.as_slice(), OpenFlags::empty(), Mode::empty());
+    let place = walk(core, authority, request, node, path.as_slice())?;
+    ended(core, alloc, authority, request, place)
+}
+
+/// Where a path from the root of the tree leads who has these ids, along links and across servers: the client's loop inside the core, with the same ids throughout.
+/// Nothing is opened, made or started.
+///
+/// Errors: `ENOENT` no path from the root of the tree; at each look `EDIED`, `ENAMETOOLONG`, those of a lookup without flags along the path, `ENXIO` a translator waits to be
+/// started; `ELOOP` a retry past the 32nd; at the end `EDIED`, `ENOTDIR` the path asks for a directory. `ENOMEM`, where a retry's name or ways find no memory.
+pub fn resolve<S: Server>(
+    core: &Core<S>,
+    alloc: Global,
+    ids: &Ids,
+    path: &[u8],
+) -> Result<NodeName, Errno>
+    ensures { OrLacks (λ n. n) (resolve (world_of S.meaning core.now) ids.now path.now) result }
+{
+    let mut leg = from_top(alloc, path)?;
+    let mut left = MOST_LOOKS;
+    while left > 0 {
+        left -= 1;
+        match look(core, alloc, ids, leg)? {
+            Looked::Ends(node) => return Ok(node),
+            Looked::Goes(next) => leg = next,
+        }
+    }
+    Err(Errno::ELOOP)
+}
+
+/// One node more, before the others. `ENOMEM`.
+fn push_front(nodes: &mut Vec<NodeName>, node: NodeName) -> Result<(), AllocError>
+    ensures { OnOk result (nodes.new.items ≡ node ∷ nodes.old.items) }
+{
+    nodes.insert(0, node)?;
+    Ok(())
+}
+
+/// Where several paths lead, in order.
+///
+/// Errors: those of `resolve`, of the first path that is refused. Where there is none, no memory is taken.
+#[tactic(auto, unfolding(hurd_machine::specs::Plan::first))]
+pub fn resolve_all<S: Server>(
+    core: &Core<S>,
+    alloc: Global,
+    ids: &Ids,
+    paths: &[Bytes],
+) -> Result<Vec<NodeName>, Errno>
+    ensures found { OrLacks (λ nodes. nodes.items) (resolve_all (world_of S.meaning core.now) ids.now paths.now) result }
+    ensures nothing { paths.now ≡ [] → IsOk result }
+{
+    match paths {
+        [] => Ok(Vec::new(alloc)),
+        [path, paths @ ..] => {
+            let node = resolve(core, alloc, ids, path.as_slice())?;
+            let mut nodes = resolve_all(core, alloc, ids, paths)?;
+            push_front(&mut nodes, node)?;
+            Ok(nodes)
+        }
+    }
+}

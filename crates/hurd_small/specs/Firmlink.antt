@@ -1,0 +1,9 @@
+-- What a firm link means.
+use Rattle.hurd_trans_iface.specs.Meaning.{Meaning, Firmlink as FirmlinkKind}
+use Rattle.hurd_small.specs.declared.lone.Lone.{Lone}
+use Rattle.hurd_small.specs.declared.aim.Aim.{Aim}
+use Rattle.hurd_small.specs.Lone.{lone_meaning}
+
+-- a server of this kind and its text
+abbrev pub firmlink_meaning : Lone Aim → Meaning
+firmlink_meaning s = lone_meaning FirmlinkKind s.single.path s.presence

@@ -1,0 +1,61 @@
+-- A directory that shows what several others have.
+use Rattle.std.specs.Prelude.{ℕ, zero, suc, ◌&&◌, false, if◌then◌else◌, List, [], ◌∷◌, ◌++◌, length, nat_lt, nat_le, codes, Option, Some, None, Err}
+use Rattle.std.specs.List.{list_all}
+use Rattle.hurd_creds.specs.declared.attrs.Kind.TheVariants.{Dir}
+use Rattle.hurd_creds.specs.declared.errno.Errno.TheVariants.{EBADF, EFBIG, EISDIR}
+use Rattle.hurd_creds.specs.Limits.{most_size}
+use Rattle.hurd_trans_iface.specs.declared.root.Crossing.TheVariants.{Union}
+use Rattle.hurd_trans_iface.specs.Behaviour.{Behaviour}
+use Rattle.hurd_trans_iface.specs.TmpfsKind.{no_options}
+use Rattle.hurd_trans_iface.specs.HelloKind.{hello}
+use Rattle.hurd_trans_iface.specs.FirmlinkKind.{is_firm}
+
+-- several words as one text: a byte 0 ends each word, and in a word a byte 1 stands before each 0 and 1
+
+abbrev pub marked : List ℕ → List ℕ
+marked [] = []
+marked (zero ∷ bs) = 1 ∷ 0 ∷ marked bs
+marked (suc zero ∷ bs) = 1 ∷ 1 ∷ marked bs
+marked (suc (suc b) ∷ bs) = suc (suc b) ∷ marked bs
+
+abbrev pub text_of : List (List ℕ) → List ℕ
+text_of [] = []
+text_of (w ∷ ws) = marked w ++ 0 ∷ text_of ws
+
+-- the words of such a text
+
+abbrev pub onto_first : ℕ → List (List ℕ) → List (List ℕ)
+onto_first b [] = (b ∷ []) ∷ []
+onto_first b (w ∷ ws) = (b ∷ w) ∷ ws
+
+abbrev pub words_of : List ℕ → List (List ℕ)
+words_of [] = []
+words_of (zero ∷ bs) = [] ∷ words_of bs
+words_of (suc zero ∷ []) = []
+words_of (suc zero ∷ b ∷ bs) = onto_first b (words_of bs)
+words_of (suc (suc b) ∷ bs) = onto_first (suc (suc b)) (words_of bs)
+
+-- the most directories of a union
+abbrev pub most_branches : ℕ
+most_branches = 16
+
+-- the words are 1 to 16 paths from the root of the tree
+abbrev pub union_text : List (List ℕ) → Option (List ℕ)
+union_text [] = None
+union_text (w ∷ ws) = if nat_le (length (w ∷ ws)) most_branches && list_all is_firm (w ∷ ws) then Some (text_of (w ∷ ws)) else None
+
+-- what it shows is no entry of its own, and it takes none
+abbrev pub union : Behaviour
+union = record hello {
+  program = codes "/hurd/union";
+  begins = union_text;
+  options = λ text. codes "/hurd/union" ∷ words_of text;
+  set_options = no_options;
+  targets = words_of;
+  root = λ text. record { kind = Dir; is_stream = false; crossing = Union };
+  size = λ text b. 0;
+  read = λ text x at amount. Err EISDIR;
+  write = λ text x at bs. Err EBADF;
+  set_size = λ text x size. if nat_lt most_size size then Err EFBIG else Err EBADF;
+  readable = λ text x at. 0;
+}

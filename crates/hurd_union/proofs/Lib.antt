@@ -1,0 +1,2 @@
+pub mod ThereLaws
+pub mod Said

@@ -1,0 +1,3 @@
+pub mod Merge
+pub mod There
+pub mod Union

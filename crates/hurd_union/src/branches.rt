@@ -1,0 +1,82 @@
+//! What a union says of itself.
+ghost use Rattle.std.specs.Prelude.{◌≡◌, [], Ok, IfOk, refl};
+ghost use Rattle.hurd_trans_iface.specs.Meaning.{Union as UnionKind, options_of};
+
+use hurd_creds::{Bytes, Errno, Kind};
+use hurd_small::{Single, no_options};
+use hurd_trans_iface::{Crossing, Names, Root, Words};
+use std::alloc::{AllocError, Global};
+
+/// The paths of the directories that a union shows.
+#[derive(Debug, Drop)]
+pub struct Branches {
+    /// The program and the paths.
+    pub(crate) words: Words,
+    /// The paths as one text.
+    pub(crate) text: Bytes,
+    /// The text says the words.
+    ghost same: { words ≡ options_of UnionKind text },
+}
+
+impl Single for Branches {
+    ghost kind = { UnionKind };
+
+    ghost text = { λ s. s.text };
+
+    ghost no_tree = { refl };
+
+    fn root(&self) -> Root {
+        Root {
+            kind: Kind::Dir,
+            is_stream: false,
+            crossing: Crossing::Union,
+        }
+    }
+
+    fn said(&self) -> &[u8] {
+        self.text.as_slice()
+    }
+
+    fn options(&self, alloc: Global) -> Result<Words, Errno> {
+        Ok(self.words.copied(alloc)?)
+    }
+
+    fn set_options(&mut self, _alloc: Global, words: &Words) -> Result<(), Errno> {
+        no_options(words)
+    }
+
+    fn targets(&self, alloc: Global) -> Result<Names, Errno> {
+        match self.words.as_slice() {
+            [_program, paths @ ..] => Ok(copies(alloc, paths)?),
+            [] => Ok(Names::new(alloc)),
+        }
+    }
+
+    fn size(&self) -> u64 {
+        0
+    }
+
+    fn read(&self, _alloc: Global, _at: u64, _amount: u64) -> Result<Bytes, Errno> {
+        Err(Errno::EISDIR)
+    }
+
+    fn takes(&self) -> Result<(), Errno> {
+        Err(Errno::EBADF)
+    }
+
+    fn readable(&self, _at: u64) -> u64 {
+        0
+    }
+}
+
+/// A copy of each of these paths; of none it takes no memory.
+fn copies(alloc: Global, paths: &[Bytes]) -> Result<Names, AllocError>
+    ensures is { IfOk result (λ copies. copies ≡ paths.now) }
+    ensures nothing { paths.now ≡ [] → result ≡ Ok [] }
+{
+    let mut copies = Names::new(alloc);
+    for path in paths {
+        copies.push(Bytes::copied(alloc, path.as_slice())?)?;
+    }
+    Ok(copies)
+}
