@@ -5,10 +5,11 @@ use Rattle.hurd_small.specs.Null.{null_meaning}
 use Rattle.hurd_small.specs.Zero.{zero_meaning}
 use Rattle.hurd_small.specs.Symlink.{symlink_meaning}
 use Rattle.hurd_small.specs.Firmlink.{firmlink_meaning}
+use Rattle.hurd_small.specs.Magic.{magic_meaning}
 use Rattle.hurd_union.specs.Union.{union_meaning}
 use Rattle.hurd_tmpfs.specs.Tree.{tree}
 use Rattle.hurd_kinds.specs.declared.server_box.ServerBox.{ServerBox}
-use Rattle.hurd_kinds.specs.declared.server_box.ServerBox.TheVariants.{Tmpfs, Hello, Null, Zero, Symlink, Firmlink, Union}
+use Rattle.hurd_kinds.specs.declared.server_box.ServerBox.TheVariants.{Tmpfs, Hello, Null, Zero, Symlink, Firmlink, Union, Magic}
 
 -- what the server in the box means
 abbrev pub box_meaning : ServerBox → Meaning
@@ -19,3 +20,4 @@ box_meaning (Zero s) = zero_meaning s.value
 box_meaning (Symlink s) = symlink_meaning s.value
 box_meaning (Firmlink s) = firmlink_meaning s.value
 box_meaning (Union s) = union_meaning s.value
+box_meaning (Magic s) = magic_meaning s.value

@@ -17,6 +17,7 @@ macro_rules! in_box {
             ServerBox::Symlink($server) => $call,
             ServerBox::Firmlink($server) => $call,
             ServerBox::Union($server) => $call,
+            ServerBox::Magic($server) => $call,
         }
     };
 }

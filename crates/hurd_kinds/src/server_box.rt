@@ -7,7 +7,7 @@ ghost use Rattle.hurd_tmpfs.specs.Tree.{new_tmpfs, tree};
 ghost use Rattle.hurd_kinds.specs.Boxes.{box_meaning};
 
 use hurd_creds::Errno;
-use hurd_small::{Firmlink, Hello, Null, Symlink, Zero};
+use hurd_small::{Firmlink, Hello, Magic, Null, Symlink, Zero};
 use hurd_tmpfs::Tmpfs;
 use hurd_trans_iface::Words;
 use hurd_union::{Union, new_union};
@@ -23,6 +23,7 @@ pub enum ServerBox {
     Symlink(Box<Symlink>),
     Firmlink(Box<Firmlink>),
     Union(Box<Union>),
+    Magic(Box<Magic>),
 }
 
 /// The server that was made, in a box; none where its kind doesn't take the words.
@@ -60,6 +61,9 @@ pub fn server_for(alloc: Global, words: &Words) -> Result<Option<ServerBox>, All
     }
     if let Some(union) = boxed(alloc, new_union(alloc, words))? {
         return Ok(Some(ServerBox::Union(union)));
+    }
+    if let Some(link) = boxed(alloc, Magic::new(alloc, words))? {
+        return Ok(Some(ServerBox::Magic(link)));
     }
     Ok(None)
 }

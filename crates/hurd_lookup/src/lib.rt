@@ -20,3 +20,5 @@ pub mod resolve;
 mod rest;
 mod retry;
 mod walk;
+
+pub use path::first_slash;

@@ -13,7 +13,7 @@ fn slash_in(path: &[u8]) -> Option<usize>
 }
 
 /// Where a path's first slash is, or its length where it has none.
-fn first_slash(path: &[u8]) -> usize
+pub fn first_slash(path: &[u8]) -> usize
     ensures { result ≡ position_or_len is_slash_byte path.now }
 {
     match slash_in(path) {

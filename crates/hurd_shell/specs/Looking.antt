@@ -1,10 +1,16 @@
 -- The client's loop: a lookup that follows retries, and starts translators.
-use Rattle.std.specs.Prelude.{ℕ, zero, suc, ◌==◌, if◌then◌else◌, List, [], ◌∷◌, Option, Some, None, Result, Ok, Err}
+use Rattle.std.specs.Prelude.{ℕ, zero, suc, ◌==◌, if◌then◌else◌, List, [], ◌∷◌, length, take, drop, nat_le, codes, Option, Some, None, option_and_then, Result, Ok, Err}
+use Rattle.std.specs.List.{position_or_len}
+use Rattle.std.specs.Option.{option_map}
 use Rattle.hurd_creds.specs.declared.errno.Errno.{Errno}
 use Rattle.hurd_creds.specs.declared.errno.Errno.TheVariants.{EIO, ENOENT, ELOOP}
 use Rattle.hurd_creds.specs.declared.mode.Mode.{Mode}
 use Rattle.hurd_creds.specs.declared.open_flags.OpenFlags.{OpenFlags}
 use Rattle.hurd_trans_iface.specs.Meaning.{Meaning}
+use Rattle.hurd_trans_iface.specs.HelloKind.{behind}
+use Rattle.hurd_trans_iface.specs.SymlinkKind.{is_absolute}
+use Rattle.hurd_lookup.specs.Path.{is_slash_byte}
+use Rattle.hurd_words.specs.Numbers.{long_number_of}
 use Rattle.hurd_machine.specs.declared.call.Call.TheVariants.{DirLookup, IoReauthenticate, FsysStartup, StartFailed}
 use Rattle.hurd_machine.specs.declared.call.Lookup.TheVariants as found
 use Rattle.hurd_machine.specs.Calls.{Reply}
@@ -55,11 +61,29 @@ looking flags dir name = made (DirLookup dir name flags file_mode) looked_of
 abbrev pub Opener : Type 0
 Opener = ℕ → List ℕ → Prog ℕ
 
--- following a retry: its name is opened at its port, at the port that the task's own ids give, or at the root, and then its ports are given up
+-- a port of the task's own: 1 to 20 decimal digits of a number below 2 to the 64th
+abbrev pub own_port : List ℕ → Option ℕ
+own_port digits = if nat_le (length digits) 20 then long_number_of digits else None
+
+-- what is behind `fd/`: a port of the task's own, and from the first slash on what is opened at it
+abbrev pub own_place : List ℕ → Option (ℕ × List ℕ)
+own_place bytes =
+    let slash = position_or_len is_slash_byte bytes in option_map (λ port. (port, drop slash bytes)) (own_port (take slash bytes))
+
+-- where a magical name is opened: a path at the root, and any other where it says `fd/` and a port of the task's own
+abbrev pub magical_place : List ℕ → Option (ℕ × List ℕ)
+magical_place name = if is_absolute name then Some (root_port, name) else option_and_then own_place (behind (codes "fd/") name)
+
+-- opening what there is at a place, or there is nothing
+abbrev pub placed : Opener → Option (ℕ × List ℕ) → Prog ℕ
+placed opener None = gives (Err ENOENT)
+placed opener (Some place) = opener place.0 place.1
+
+-- following a retry: its name is opened at its port, at the port that the task's own ids give, or where the magical name says, and then its ports are given up
 abbrev pub followed : Opener → Retry → Prog ℕ
 followed opener (Normal name p) = closing p (opener p name)
 followed opener (Reauth name p) = closing p (bind (made (IoReauthenticate p) port_of) (λ own. closing own (opener own name)))
-followed opener (Magical name) = opener root_port name
+followed opener (Magical name) = placed opener (magical_place name)
 
 -- a retry too many: it is ELOOP, and its port is given up
 abbrev pub too_many : Retry → Prog ℕ

@@ -1,21 +1,29 @@
 //! Opening what a path leads to: a lookup, the retries that it is answered, and the translators that are started on the way.
-ghost use Rattle.std.specs.Prelude.{◌≡◌, ◌++◌, ◌∷◌, [], ℕ, suc, Result, Ok, Err, IfOk, OnOk};
+ghost use Rattle.std.specs.Prelude.{◌≡◌, ◌++◌, ◌∷◌, [], ℕ, List, suc, codes, Result, Ok, Err, IfOk, OnOk};
+ghost use Rattle.std.specs.Option.{option_map};
 ghost use Rattle.hurd_creds.specs.declared.errno.Errno.{Errno};
+ghost use Rattle.hurd_trans_iface.specs.HelloKind.{behind};
+ghost use Rattle.hurd_machine.specs.World.{World as Seen};
 ghost use Rattle.hurd_world.specs.Held.{world_of};
 ghost use Rattle.hurd_shell.specs.Programs.{gives};
 ghost use Rattle.hurd_shell.specs.Looking as written;
-ghost use Rattle.hurd_shell.specs.Progress.{Arrived, Leads, Went, found_on, opening, opening_on, releasing};
+ghost use Rattle.hurd_shell.specs.Progress.{Arrived, Comes, Leads, Went, found_on, opening, opening_on, releasing};
 ghost use Rattle.hurd_shell.specs.Stages.{opening_behind, reached_on};
 
 use crate::calls;
 use crate::fault::{NoMemory, Stop};
 use hurd_creds::{Bytes, Errno, OpenFlags, TaskId};
+use hurd_lookup::first_slash;
 use hurd_trans_iface::{Server, Words};
+use hurd_words::numbers::long_number;
 use hurd_world::World;
 use std::alloc::{AllocError, Global};
 
 /// The port of a task's root.
 const ROOT_PORT: u64 = 1;
+
+/// The most digits of a port's number in a magical name.
+const MOST_DIGITS: usize = 20;
 
 /// The port of a task's working directory.
 const DIRECTORY_PORT: u64 = 2;
@@ -30,7 +38,7 @@ pub(crate) enum Retry {
     Normal { name: Bytes, port: u64 },
     /// At the port that `io_reauthenticate` makes of this one.
     Reauth { name: Bytes, port: u64 },
-    /// At the root.
+    /// At the root, or where the name says.
     Magical { name: Bytes },
 }
 
@@ -155,14 +163,56 @@ fn reauthenticated<S: Server>(
     Ok(Target { dir: own, name })
 }
 
-/// Follows a magical retry: its name is opened at the root.
-fn magical(name: Bytes) -> Target
-    ensures { (opener : written.Opener) → opening opener result ≡ written.followed opener (Retry.Magical name) }
+/// The port of the task's own that these digits number.
+fn own_port(digits: &[u8]) -> Option<u64>
+    ensures { result ≡ written.own_port digits.now }
 {
-    Target {
-        dir: ROOT_PORT,
-        name,
+    if digits.len() > MOST_DIGITS {
+        return None;
     }
+    match str::from_utf8(digits) {
+        Ok(digits) => long_number(digits),
+        Err(_) => None,
+    }
+}
+
+/// The port of the task's own that stands behind `fd/`, and what is opened at it.
+fn own_place(bytes: &[u8]) -> Option<(u64, &[u8])>
+    ensures { option_map (λ place. (place.0, place.1.now)) result ≡ written.own_place bytes.now }
+{
+    let (digits, name) = bytes.split_at(first_slash(bytes));
+    Some((own_port(digits)?, name))
+}
+
+/// What stands behind `fd/` in a name, if it begins so.
+fn behind_fd(name: &[u8]) -> Option<&[u8]>
+    ensures { option_map (λ rest. rest.now) result ≡ behind (codes "fd/") name.now }
+{
+    name.strip_prefix(b"fd/".as_slice())
+}
+
+/// Where a magical name is opened.
+fn magical_place(name: &[u8]) -> Option<(u64, &[u8])>
+    ensures { option_map (λ place. (place.0, place.1.now)) result ≡ written.magical_place name.now }
+{
+    if name.first() == Some(&b'/') {
+        return Some((ROOT_PORT, name));
+    }
+    own_place(behind_fd(name)?)
+}
+
+/// Follows a magical retry: its name is opened at the root, or at a port of the task's own.
+fn magical(alloc: Global, name: Bytes) -> Result<Target, Stop>
+    ensures { (t : ℕ) (held : List ℕ) (w : Seen) (opener : written.Opener)
+        → Comes t (releasing held (written.followed opener (Retry.Magical name))) w (opening opener) held result w }
+{
+    let Some((dir, rest)) = magical_place(name.as_slice()) else {
+        return Err(Stop::Refused(Errno::ENOENT));
+    };
+    Ok(Target {
+        dir,
+        name: Bytes::copied(alloc, rest)?,
+    })
 }
 
 /// Follows a retry.
@@ -179,7 +229,7 @@ fn follow<S: Server>(
     match retry {
         Retry::Normal { name, port } => Ok(normal(name, port, held)?),
         Retry::Reauth { name, port } => reauthenticated(world, alloc, task, name, port, held),
-        Retry::Magical { name } => Ok(magical(name)),
+        Retry::Magical { name } => magical(alloc, name),
     }
 }
 

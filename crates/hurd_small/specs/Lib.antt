@@ -4,4 +4,5 @@ pub mod Null
 pub mod Zero
 pub mod Symlink
 pub mod Firmlink
+pub mod Magic
 pub mod Meanings

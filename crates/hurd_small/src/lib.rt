@@ -1,4 +1,4 @@
-//! Servers of one node: a text, nothing, zero bytes without end, a link, a firm link.
+//! Servers of one node: a text, nothing, zero bytes without end, a link, a firm link, a magical link.
 //!
 //! Each is a `Lone` of what it says itself, a `Single`; `Lone` has the node, and answers every call on it.
 #![tactic(auto)]
@@ -9,6 +9,7 @@ mod firmlink;
 mod greeting;
 mod hello;
 mod lone;
+mod magic;
 mod null;
 mod presence;
 mod single;
@@ -23,6 +24,7 @@ pub use firmlink::Firmlink;
 pub use greeting::Greeting;
 pub use hello::Hello;
 pub use lone::Lone;
+pub use magic::{Magic, OwnPorts};
 pub use null::{Nothing, Null};
 pub use single::Single;
 pub use symlink::Symlink;

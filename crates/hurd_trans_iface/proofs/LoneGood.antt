@@ -14,6 +14,7 @@ use Rattle.hurd_trans_iface.specs.ZeroKind.{zeros}
 use Rattle.hurd_trans_iface.specs.SymlinkKind.{symlink}
 use Rattle.hurd_trans_iface.specs.FirmlinkKind.{firmlink}
 use Rattle.hurd_trans_iface.specs.UnionKind.{union}
+use Rattle.hurd_trans_iface.specs.MagicKind.{magic}
 use Rattle.hurd_trans_iface.proofs.Goodness.{IsFine, fine_done, fine_refused, fine_if, no-options-text, no-options-plain}
 use Rattle.hurd_trans_iface.proofs.Options.{hello-options-plain}
 
@@ -139,6 +140,21 @@ union_good = good_still union (record {
   treeless = refl;
   sizes = λ text c e. refl;
   read = λ at amount text x. refl;
+  write = λ at bs text x. refl;
+  set_size = λ size text x. fine_if Leaves (nat_lt most_size size) _ _ (λ long. refl) (λ short. refl);
+  write_blind = λ at bs text h c e. refl;
+  set_size_blind = λ size text h c e. refl;
+  no_words = refl;
+  options_root = λ ws new is. absurd (no-options-text ws new is);
+  options_plain = no-options-plain;
+})
+
+pub magic_good : GoodBehaviour magic
+magic_good = good_still magic (record {
+  rooted = λ text. refl;
+  treeless = refl;
+  sizes = λ text c e. refl;
+  read = λ at amount text x. (refl, refl);
   write = λ at bs text x. refl;
   set_size = λ size text x. fine_if Leaves (nat_lt most_size size) _ _ (λ long. refl) (λ short. refl);
   write_blind = λ at bs text h c e. refl;

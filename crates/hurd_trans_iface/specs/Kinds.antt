@@ -8,6 +8,7 @@ use Rattle.hurd_trans_iface.specs.ZeroKind.{zeros}
 use Rattle.hurd_trans_iface.specs.SymlinkKind.{symlink}
 use Rattle.hurd_trans_iface.specs.FirmlinkKind.{firmlink}
 use Rattle.hurd_trans_iface.specs.UnionKind.{union}
+use Rattle.hurd_trans_iface.specs.MagicKind.{magic}
 
 pub data ServerKind : Type 0 where
   Tmpfs : ServerKind
@@ -17,6 +18,7 @@ pub data ServerKind : Type 0 where
   Symlink : ServerKind
   Firmlink : ServerKind
   Union : ServerKind
+  Magic : ServerKind
 
 abbrev pub behaviour_of : ServerKind → Behaviour
 behaviour_of Tmpfs = tmpfs
@@ -26,6 +28,7 @@ behaviour_of Zero = zeros
 behaviour_of Symlink = symlink
 behaviour_of Firmlink = firmlink
 behaviour_of Union = union
+behaviour_of Magic = magic
 
 abbrev pub all_kinds : List ServerKind
-all_kinds = Tmpfs ∷ Hello ∷ Null ∷ Zero ∷ Symlink ∷ Firmlink ∷ Union ∷ []
+all_kinds = Tmpfs ∷ Hello ∷ Null ∷ Zero ∷ Symlink ∷ Firmlink ∷ Union ∷ Magic ∷ []

@@ -1,11 +1,12 @@
 //! Which words make a server.
 ghost use Rattle.std.specs.List.{list_all};
-ghost use Rattle.std.specs.Prelude.{◌≡◌, ℕ, List, Some, Ok, codes, is_some};
+ghost use Rattle.std.specs.Prelude.{◌≡◌, ◌∷◌, [], ℕ, List, Some, Ok, codes, is_some};
 ghost use Rattle.hurd_trans_iface.specs.HelloKind.{behind, hello_text};
-ghost use Rattle.hurd_trans_iface.specs.Meaning.{Meaning, ServerKind, Tmpfs, Hello, Null, Zero, Symlink, Firmlink, Union, behaviour_of, begin, begin_as, new_server, options_of};
+ghost use Rattle.hurd_trans_iface.specs.Meaning.{Meaning, ServerKind, Tmpfs, Hello, Null, Zero, Symlink, Firmlink, Union, Magic, behaviour_of, begin, begin_among, begin_as, new_server, options_of};
 ghost use Rattle.hurd_trans_iface.specs.SymlinkKind.{target_text};
 ghost use Rattle.hurd_trans_iface.specs.FirmlinkKind.{firm_text, is_firm};
 ghost use Rattle.hurd_trans_iface.specs.UnionKind.{union_text};
+ghost use Rattle.hurd_trans_iface.specs.MagicKind.{magic_text};
 ghost use Rattle.hurd_trans_iface.specs.TmpfsKind.{no_text};
 ghost use Rattle.hurd_trans_iface.specs.Words.{IsWithinLimits};
 
@@ -153,6 +154,33 @@ fn makes_union(words: &[Bytes]) -> bool
     }
 }
 
+/// Whether the words behind `/hurd/magic` make a magical link: `fd` alone.
+fn says_magic(arguments: &[Bytes]) -> bool
+    ensures { result ≡ is_some (magic_text arguments.now) }
+{
+    match arguments {
+        [what] => what.is(b"fd"),
+        _ => false,
+    }
+}
+
+/// Whether these words make a magical link.
+fn makes_magic(words: &[Bytes]) -> bool
+    ensures { result ≡ is_some (begin_as Magic words.now) }
+{
+    match words {
+        [program, arguments @ ..] => program.is(b"/hurd/magic") && says_magic(arguments),
+        [] => false,
+    }
+}
+
+/// Whether these words make a server that leads to other nodes.
+fn leads_on(words: &[Bytes]) -> bool
+    ensures { result ≡ is_some (begin_among (Symlink ∷ Firmlink ∷ Union ∷ Magic ∷ []) words.now) }
+{
+    makes_symlink(words) || makes_firmlink(words) || makes_union(words) || makes_magic(words)
+}
+
 /// Whether some kind of server takes these words.
 pub fn words_ok(words: &[Bytes]) -> bool
     ensures { result ≡ is_some (begin words.now) }
@@ -161,9 +189,7 @@ pub fn words_ok(words: &[Bytes]) -> bool
         || makes_hello(words)
         || makes_null(words)
         || makes_zero(words)
-        || makes_symlink(words)
-        || makes_firmlink(words)
-        || makes_union(words)
+        || leads_on(words)
 }
 
 /// The words that a server says of itself make it again, as it was when it began.

@@ -11,3 +11,4 @@ returns c =
     (refused c.new-5.result _ c.new-5.ensures.err (rw c.in_default-5.is at c.in_ok-link.ensures))
     (refused c.new-6.result _ c.new-6.ensures.err (rw c.in_default-6.is at c.in_ok-link-2.ensures))
     (refused c.new_union.result _ c.new_union.ensures.err (rw c.in_default-7.is at c.in_ok-union.ensures))
+    (refused_words c.new-7.result _ c.new-7.ensures.err (rw c.in_default-8.is at c.in_ok-link-3.ensures))
