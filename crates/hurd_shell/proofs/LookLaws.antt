@@ -101,10 +101,6 @@ pub last_err : {B : Type 0} {t : ℕ} {s : Stop} {r : Result B Stop} {w x : Worl
 unfolding look
 last_err flags dir name held gone d = held_err held (arrived too_many not_started) gone d
 
--- a program is another one
-pub same_comes : {B : Type 0} {t : ℕ} {p : Prog ℕ} {w : World} (left : B → Prog ℕ) (held : List ℕ) (b : B) → releasing held (left b) ≡ p → Comes t p w left held (Ok b) w
-same_comes left held b same = record { comes = rw (← same) (leads_refl _ _ _) }
-
 -- a retry's port was reauthenticated
 pub reauth_leads : {t : ℕ} {w x : World} (opener : Opener) (name held : List ℕ) (port own : ℕ) → Does t (made (IoReauthenticate port) port_of) w (Ok own) x
     → Leads t (releasing held (followed opener (Reauth name port))) w (releasing ((held ++ port ∷ []) ++ own ∷ []) (opener own name)) x
