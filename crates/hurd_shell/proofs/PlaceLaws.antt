@@ -1,5 +1,5 @@
 -- Where a magical name is opened.
-use Rattle.std.proofs.Common.{◌≡◌, ℕ, ◌<◌, ◌&&◌, Bool, true, false, if◌then◌else◌, nat_le, length, List, [], ◌∷◌, refl, arith}
+use Rattle.std.proofs.Common.{◌≡◌, ℕ, ◌<◌, Bool, true, false, if◌then◌else◌, nat_le, length, List, [], ◌∷◌, refl, arith}
 use Rattle.std.specs.Prelude.{Option, None}
 use Rattle.std.specs.List.{list_all}
 use Rattle.std.specs.Char.{is_ascii_digit}
@@ -7,12 +7,9 @@ use Rattle.std.specs.Str.{IsAscii, IsUtf8}
 use Rattle.std.proofs.lemmas.Bool.Decides.{nat_tests}
 use Rattle.std.proofs.lemmas.Str.{IsUtf8-from_ascii}
 use Rattle.std.proofs.lemmas.Str.Ascii.{IsAscii-nil, IsAscii-cons}
+use Rattle.hurd_nodes.proofs.PartLaws.{and_both}
 use Rattle.hurd_words.specs.Numbers.{long_number_of}
 use Rattle.hurd_shell.specs.Looking.{own_port}
-
-both : (a b : Bool) → (a && b) ≡ true → (a ≡ true) × (b ≡ true)
-both true b h = (refl, h)
-both false b h = absurd (cc)
 
 small : (b : ℕ) → is_ascii_digit b ≡ true → b < 128
 small b h = grind (arith, nat_tests)
@@ -20,7 +17,7 @@ small b h = grind (arith, nat_tests)
 -- digits are ASCII
 digits_ascii : (bs : List ℕ) → list_all is_ascii_digit bs ≡ true → IsAscii bs
 digits_ascii [] h = IsAscii-nil
-digits_ascii (b ∷ bs) h = let two = both (is_ascii_digit b) (list_all is_ascii_digit bs) h in IsAscii-cons b bs (small b two.0) (digits_ascii bs two.1)
+digits_ascii (b ∷ bs) h = let two = and_both (is_ascii_digit b) (list_all is_ascii_digit bs) h in IsAscii-cons b bs (small b two.0) (digits_ascii bs two.1)
 
 no_digits : (bs : List ℕ) → list_all is_ascii_digit bs ≡ false → long_number_of bs ≡ None
 no_digits [] h = refl
