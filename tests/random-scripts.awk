@@ -90,10 +90,12 @@ function translate(flags, path, words) {
 }
 
 function server(kind) {
-    kind = one("hello hello hello null zero tmpfs tmpfs tmpfs symlink symlink symlink firmlink firmlink union")
+    kind = one("hello hello hello null zero tmpfs tmpfs tmpfs symlink symlink symlink firmlink firmlink union drip fifo magic")
     if (kind == "hello" && often(60)) return " /hurd/hello --contents=" text()
     if (kind == "symlink") return " /hurd/symlink " old()
     if (kind == "firmlink") return " /hurd/firmlink " (often(50) ? old() : directory())
+    if (kind == "drip") return " /hurd/drip " one("0 1 3 20")
+    if (kind == "magic") return " /hurd/magic fd"
     if (kind == "union") return " /hurd/union " directory() " " directory()
     return " /hurd/" kind
 }
@@ -120,8 +122,14 @@ function fresh(names, path) {
     return path "/" one(names)
 }
 
+# a path that some command may have made, or one at a port of the task's own below it, as a magical link has them
+function old(path) {
+    path = made_before()
+    return often(4) ? path "/" one("1 2 3") : path
+}
+
 # a path that some command may have made: for bob and carol sooner one at home
-function old(path, try) {
+function made_before(path, try) {
     if (made == 0 || often(6)) {
         path = place()
         return path "/" one("a b c d e f")

@@ -17,9 +17,11 @@ use Rattle.hurd_ports.specs.Tables.{PortState, Task, can_name, naming_at, naming
 use Rattle.hurd_ports.specs.Steps.{with_new_port, deallocate_at, deallocate_step, dropped, edit_task, settle_opens, without_port, insert_at, insert_step}
 use Rattle.hurd_machine.specs.declared.call.Reply.TheVariants.{Done}
 use Rattle.hurd_machine.specs.World.{World, world_from}
-use Rattle.hurd_machine.specs.Change.{EditHeader, dropping, outside_by}
+use Rattle.hurd_machine.specs.Change.{EditHeader, EditTask, Settle, apply, apply_all, closes, closing, dropping, outside_by, settle}
+use Rattle.hurd_machine.proofs.Keeping.{apply_all-append}
 use Rattle.hurd_machine.specs.Plan.{Plan, Follows, answered, told, on, given}
-use Rattle.hurd_core.specs.Core.{naming_asks, room_asks}
+use Rattle.hurd_core.specs.Core.{closed_with, naming_asks, room_asks}
+use Rattle.hurd_core.proofs.CountLaws.{closed_nodes, closed-world}
 use Rattle.hurd_core.proofs.SettleLaws.{settled_if, settled_world}
 
 -- the header of a node changed, as where owner, group and mode are set, or words stored
@@ -34,6 +36,11 @@ module _ (N : NodeState) (H : PortState) where
       by (Err g) h = (ap (λ (z : Result (Unit {0}) Errno × NodeState). told (λ u. Done) z.0) h, ap (λ (z : Result (Unit {0}) Errno × NodeState). world_from z.1 H) h)
       by (Ok u) h = (ap (λ (z : Result (Unit {0}) Errno × NodeState). told (λ u. Done) z.0) h, ap (λ (z : Result (Unit {0}) Errno × NodeState). world_from z.1 H) h)
 
+-- the nodes without the open that goes, where the right is given up
+abbrev pub closed_if : Result (Unit {0}) Errno → Option (Name × OpenFlags) → NodeState → NodeState
+closed_if (Ok u) e N = closed_nodes e N
+closed_if (Err f) e N = N
+
 module _ (N : NodeState) (H : PortState) (t : ℕ) where
   abbrev w : World
   w = world_from N H
@@ -42,10 +49,10 @@ module _ (N : NodeState) (H : PortState) (t : ℕ) where
 
   module _ (p : ℕ) (K : PortState) (whole : IsSettled K) (z : World) where
     abbrev drops : Result Right Errno → Plan
-    drops o = answered o (λ q. record { reply = Done; changes = dropping t p })
+    drops o = answered o (λ q. record { reply = Done; changes = dropping w t p q })
 
     abbrev Drops : Result (Unit {0}) Errno → Result Right Errno → Result (Unit {0}) Errno × PortState → Type 0
-    Drops r o step = (r, K) ≡ step → z ≡ settled_if r (world_from N K) → Follows w (drops o) (told (λ u. Done) r) z
+    Drops r o step = (r, K) ≡ step → z ≡ settled_if r (world_from (closed_if r (closed_with w o) N) K) → Follows w (drops o) (told (λ u. Done) r) z
 
     refused : (e : Errno) (r : Result (Unit {0}) Errno) → Drops r (Err e) (Err e, H)
     unfolding answered
@@ -56,7 +63,15 @@ module _ (N : NodeState) (H : PortState) (t : ℕ) where
     unfolding answered
     gone q (Err f) h left = absurd (true≢false (sym (ap (λ (s : Result (Unit {0}) Errno × PortState). is_ok s.0) h)))
     gone q (Ok u) h left =
-        (refl, left ∙ sym (settled_world K whole N (kept.settle (outside_by K.tasks) N) refl) ∙ ap (λ (s : Result (Unit {0}) Errno × PortState). world_from (kept.settle (outside_by s.1.tasks) N) s.1) h)
+        let e = closes w q in
+        let M = closed_nodes e N in (
+          refl,
+          left
+              ∙ sym (settled_world K whole M (kept.settle (outside_by K.tasks) M) refl)
+              ∙ ap (λ (s : Result (Unit {0}) Errno × PortState). world_from (kept.settle (outside_by s.1.tasks) M) s.1) h
+              ∙ ap settle (sym (closed-world N H (record H { tasks = edit_task t (without_port p) H.tasks }) e))
+              ∙ sym (apply_all-append (closing w e) (Settle ∷ []) (apply (EditTask t (without_port p)) w)),
+        )
 
     drop_by : (o : Option Right) (r : Result (Unit {0}) Errno) → Drops r (or_refuse EBADF o) (dropped H t p o)
     drop_by None r = refused EBADF r
@@ -68,6 +83,12 @@ module _ (N : NodeState) (H : PortState) (t : ℕ) where
 
     pub drop-follows : (r : Result (Unit {0}) Errno) → Drops r (right_of H t p) (deallocate_step t p H)
     drop-follows r = drop_at (slice_get H.tasks t) r
+
+    -- and the same where the world without the open is given
+    pub drop-closes : (e : Option (Name × OpenFlags)) (x : World) → e ≡ closed_with w (right_of H t p) → x ≡ apply_all (closing (world_from N K) e) (world_from N K) → z ≡ settle x → (u : Unit {0}) → (Ok u, K) ≡ deallocate_step t p H
+        → Follows w (drops (right_of H t p)) (told (λ u. Done) (Ok u)) z
+    drop-closes e x is left last u step =
+        drop-follows (Ok u) step (last ∙ ap settle (left ∙ closed-world N K K e ∙ ap (λ (f : Option (Name × OpenFlags)). world_from (closed_nodes f N) K) is))
 
   -- the room of a task, asked of its tables and of the world: it has room, or both refuse alike
 

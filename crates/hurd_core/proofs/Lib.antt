@@ -1,5 +1,6 @@
 pub mod PortWays
 pub mod SettleLaws
+pub mod CountLaws
 pub mod CoreLaws
 pub mod RightLaws
 pub mod MakingLaws

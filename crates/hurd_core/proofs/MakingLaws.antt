@@ -20,7 +20,7 @@ use Rattle.hurd_ports.specs.Tables.{PortState, Task, fresh, has_room, room_at, r
 use Rattle.hurd_ports.specs.Steps.{named, insert_step, name_step, with_new_port}
 use Rattle.hurd_ports.proofs.TaskLaws.{edit-here}
 use Rattle.hurd_machine.specs.World.{World, world_from, home_at, makes_at}
-use Rattle.hurd_machine.specs.Change.{MakeNode, apply_all, changes_of, opening}
+use Rattle.hurd_machine.specs.Change.{MakeNode, apply_all, changes_of, porting}
 use Rattle.hurd_machine.specs.Plan.{on, first}
 use Rattle.hurd_machine.proofs.Keeping.{apply_all-append}
 use Rattle.hurd_core.specs.Core.{Does, NewNodeAt, asked_node, asked_only, making, making_asks, making_open}
@@ -139,7 +139,7 @@ module _ (N : NodeState) (H : PortState) (t : ℕ) (f : NewNodeAt) where
         let number : Ok k ≡ Ok m.task.next = ap (λ (z : Result ℕ Errno × PortState). z.0) is in
         let ports : K ≡ with_new_port t n ids parents modes (named 1 m.task) after_name = ap (λ (z : Result ℕ Errno × PortState). z.1) is in
         let file = new_file f.owner f.group f.mode in
-        let opened = opening t (named 1 m.task) n ids parents modes in (
+        let opened = porting t (named 1 m.task) n ids parents modes in (
           (m.task, m.server),
           m.asks,
           cc number,

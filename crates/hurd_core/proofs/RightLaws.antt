@@ -15,7 +15,10 @@ use Rattle.hurd_ports.specs.Tables.{PortState, Task, first_sent, has_room, right
 use Rattle.hurd_ports.specs.Steps.{edit_task, insert_at, insert_step, pend_at, pend_step, with_new_port, with_pending, receive_at, receive_step, received, send_step, sent_to, share_at, share_step, take_ids_at, take_ids_step, taken_by, with_ids, with_port, with_sent}
 use Rattle.hurd_machine.specs.declared.call.Reply.TheVariants.{Done}
 use Rattle.hurd_machine.specs.World.{World, world_from}
-use Rattle.hurd_machine.specs.Change.{Change, EditTask, Send, apply_all, opening, pending, settle}
+use Rattle.hurd_machine.specs.Change.{Change, EditTask, Send, apply_all, counted, opening, pending, porting, settle}
+use Rattle.hurd_machine.proofs.Keeping.{apply_all-append}
+use Rattle.hurd_trans_iface.specs.Nodes.{opened_by}
+use Rattle.hurd_core.proofs.CountLaws.{counted_nodes, counted-world}
 use Rattle.hurd_machine.specs.Plan.{Plan, Follows, answered, told, on, given, first}
 use Rattle.hurd_core.proofs.SettleLaws.{does_settled, settled_if}
 use Rattle.hurd_core.specs.Core.{Does, receive_asks, room_asks, send_asks}
@@ -61,7 +64,7 @@ module _ (N : NodeState) (H : PortState) (t : ℕ) where
 
   module _ (n : Name) (ids : IdSets) (parents : List Parent) (modes : OpenFlags) where
     abbrev opens : Task → List Change
-    opens x = opening t x n ids parents modes
+    opens x = porting t x n ids parents modes
 
     open_by : (o : Option Task) → Alike N H (on ESRCH o (λ x. given EOVERFLOW (has_room 1 x) (Ok x))) opens (λ x. x.next) (insert_at H t n ids parents modes o)
     unfolding on given
@@ -74,6 +77,20 @@ module _ (N : NodeState) (H : PortState) (t : ℕ) where
 
     pub open-does : (got : Result ℕ Errno) (K : PortState) → Steps H (insert_step t n ids parents modes H) got K → Does w (room_asks w t 1) opens (λ x. x.next) got (world_from N K)
     open-does got K s = alike-does N H (room_asks w t 1) opens (λ x. x.next) (insert_step t n ids parents modes H) (open_by (slice_get H.tasks t)) got K s
+
+    -- and counted, where the node's server counts that
+    pub opened-does : (k : ℕ) (K : PortState) (M : NodeState) → Steps H (insert_step t n ids parents modes H) (Ok k) K → M ≡ counted_nodes n (opened_by modes) N
+        → Does w (room_asks w t 1) (λ (x : Task). opening w t x n ids parents modes) (λ x. x.next) (Ok k) (world_from M K)
+    opened-does k K M s left =
+        let d = open-does (Ok k) K s in (
+          d.0,
+          d.1,
+          d.2,
+          ap (λ (L : NodeState). world_from L K) left
+              ∙ sym (counted-world N H K n (opened_by modes))
+              ∙ ap (apply_all (counted w n (opened_by modes))) d.3
+              ∙ sym (apply_all-append (porting t d.0 n ids parents modes) (counted w n (opened_by modes)) w),
+        )
 
   -- another thing to start, or nothing
 

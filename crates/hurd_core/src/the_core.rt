@@ -1,5 +1,6 @@
 //! The core.
 ghost use Rattle.std.specs.Prelude.{◌≡◌, [], ◌∷◌, Some, None, Ok, IfErr};
+ghost use Rattle.std.specs.Option.{option_map};
 ghost use Rattle.hurd_trans_iface.specs.Nodes.{linked, with_attrs, with_entry, with_passive};
 ghost use Rattle.hurd_trans_iface.specs.Behaviour.{edits_of, reading, told_of, writing, resizing};
 ghost use Rattle.hurd_trans_iface.specs.Meaning.{Begins};
@@ -8,10 +9,10 @@ ghost use Rattle.hurd_nodes.specs.Needs.{FreeRead, FreeSize, FreeWrite};
 ghost use Rattle.hurd_ports.specs.Tables.{right_of, task_of};
 ghost use Rattle.hurd_ports.specs.Steps.{appending, at_cursor, received, with_ids, with_port};
 ghost use Rattle.hurd_machine.specs.World.{world_from, nodes_of, ports_of, asked_at, links_at, renames_at, sets_attrs_at, unlinks_at};
-ghost use Rattle.hurd_machine.specs.Change.{DropServer, EditBody, EditHeader, EditOpen, EditTask, Send, Settle, Unseat, apply, apply_all, changes_of, dropping, opening, pending, settle};
+ghost use Rattle.hurd_machine.specs.Change.{DropServer, EditBody, EditHeader, EditOpen, EditTask, Send, Settle, Unseat, apply, apply_all, changes_of, closing, dropping, opening, pending, settle};
 ghost use Rattle.hurd_machine.specs.Plan.{Follows, Planned, answered, told};
 ghost use Rattle.hurd_machine.specs.declared.call.Reply.TheVariants.{Done};
-ghost use Rattle.hurd_core.specs.Core.{Does, attaching, naming_asks, without_box, making_asks, making_dir, making_dir_asks, making_open, receive_asks, room_asks, send_asks, started_over, unlinking, world_of, renaming};
+ghost use Rattle.hurd_core.specs.Core.{Does, attaching, naming_asks, without_box, making_asks, closed_with, making_dir, making_dir_asks, making_open, receive_asks, room_asks, send_asks, started_over, unlinking, world_of, renaming};
 ghost use Rattle.hurd_core.specs.Control.{plan_options};
 ghost use Rattle.hurd_core.specs.ToMake.{new_node_of};
 
@@ -25,6 +26,13 @@ use hurd_ports::{Parents, PendingStart, Ports, Right};
 use hurd_trans_iface::{Server, Words};
 use std::alloc::Global;
 use std::marker::Model;
+
+/// An open that is about to go.
+#[derive(Clone, Copy, Debug)]
+struct ClosingOpen {
+    node: NodeName,
+    modes: OpenFlags,
+}
 
 /// Servers with their nodes, and the ports of tasks.
 #[derive(Drop)]
@@ -85,9 +93,11 @@ impl<S: Server> Core<S> {
         modes: OpenFlags,
     ) -> Result<u64, Errno>
         ensures { let w = world_of S.meaning self.old in
-            Does w (room_asks w task.0 1) (λ x. opening task.0 x node ids parents modes) (λ x. x.next) result (world_of S.meaning self.new) }
+            Does w (room_asks w task.0 1) (λ x. opening w task.0 x node ids parents modes) (λ x. x.next) result (world_of S.meaning self.new) }
     {
-        self.ports.insert(task, node, ids, parents, modes)
+        let port = self.ports.insert(task, node, ids, parents, modes)?;
+        self.nodes.opened(node, modes);
+        Ok(port)
     }
 
     /// Makes a file in a directory, under a name or without an entry, and opens it as `open` does.
@@ -137,15 +147,43 @@ impl<S: Server> Core<S> {
         Ok(())
     }
 
+    /// The open that goes with a port, where no other right names it. Takes no memory.
+    fn closing(&self, task: TaskId, port: u64) -> Option<ClosingOpen>
+        ensures { let w = world_of S.meaning self.now in option_map (λ e. (e.node, e.modes)) result ≡ closed_with w (right_of (ports_of w) task.0 port) }
+    {
+        let Ok(right) = self.ports.io_right(task, port) else {
+            return None;
+        };
+        if self.ports.holders(right.open_name) != 1 {
+            return None;
+        }
+        let opened = self.ports.opened(right.open_name)?;
+        Some(ClosingOpen {
+            node: right.node,
+            modes: opened.modes,
+        })
+    }
+
+    /// Lets the server of an open's node know that it is gone, if one is. Takes no memory.
+    fn close(&mut self, gone: Option<ClosingOpen>)
+        ensures { let w = world_of S.meaning self.old in world_of S.meaning self.new ≡ apply_all (closing w (option_map (λ e. (e.node, e.modes)) gone)) w }
+    {
+        if let Some(open) = gone {
+            self.nodes.closed(open.node, open.modes);
+        }
+    }
+
     /// Gives up a port. Its open goes where no other right names it, and its node where nothing else keeps it. Takes no memory.
     ///
     /// Errors, in order: `ESRCH` no such task, `EBADF` no such port.
     pub fn drop_port(&mut self, task: TaskId, port: u64) -> Result<(), Errno>
         ensures { let w = world_of S.meaning self.old in
-            Follows w (answered (right_of (ports_of w) task.0 port) (λ r. record { reply = Done; changes = dropping task.0 port }))
+            Follows w (answered (right_of (ports_of w) task.0 port) (λ r. record { reply = Done; changes = dropping w task.0 port r }))
             (told (λ u. Done) result) (world_of S.meaning self.new) }
     {
+        let closing = self.closing(task, port);
         self.ports.deallocate(task, port)?;
+        self.close(closing);
         self.settle();
         Ok(())
     }

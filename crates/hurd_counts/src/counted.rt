@@ -2,7 +2,7 @@
 ghost use Rattle.std.specs.Prelude.{◌≡◌, IfErr, IfOk};
 ghost use Rattle.hurd_creds.specs.declared.errno.Errno.TheVariants.{ENOMEM};
 
-use hurd_creds::{Attrs, Bytes, Errno, Mode, NodeName};
+use hurd_creds::{Attrs, Bytes, Errno, Mode, NodeName, OpenFlags};
 use hurd_trans_iface::{Names, NewNode, Root, Server, Words};
 use std::alloc::Global;
 use std::cell::Cell;
@@ -205,6 +205,18 @@ impl<S: Server> Server for Counted<S> {
 
     fn nameless(&self) -> Option<&[NodeName]> {
         self.server.nameless()
+    }
+
+    fn counts(&self) -> bool {
+        self.server.counts()
+    }
+
+    fn opened(&mut self, node: NodeName, modes: OpenFlags) {
+        self.server.opened(node, modes)
+    }
+
+    fn closed(&mut self, node: NodeName, modes: OpenFlags) {
+        self.server.closed(node, modes)
     }
 
     fn goaway(&mut self) {

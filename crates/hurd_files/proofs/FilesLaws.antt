@@ -40,7 +40,7 @@ set_size_laws t p size = record {
   same = λ S v w c d a ours. answered_same _ _ _ _ (first_same _ _ _ _ (handle_same a t ours p WRITE) (λ h is. refl)) (λ n is.
       let h = resized_by v t p n is in
       let seen : Seen S v n = subst (Seen S v) h.2 (handle_seen t ours p WRITE h.0 h.1) in
-      answered_same _ _ _ _ (asked_same a n (resizing size) (λ k. (good k).set_size_blind size) seen) (λ d told. refl));
+      answered_same _ _ _ _ (asked_same a n (resizing size) (λ k text. (good k).set_size_blind text size) seen) (λ d told. refl));
   plain = λ w. answered_plain _ _ (first_plain _ _ (handle_plain w t p WRITE) (λ h is. ok_plain _)) (λ n is.
       answered_plain _ _ (asked_plain (resizing size) (λ k. (good k).set_size_plain size) n w) (λ d told. done_plain Done refl));
 }

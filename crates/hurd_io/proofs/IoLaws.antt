@@ -1,5 +1,5 @@
 -- The laws of reading and writing, and of what is told of a node.
-use Rattle.std.proofs.Common.{◌≡◌, ◌⊎◌, ℕ, ℤ, pos, negsuc, zero, suc, Bool, true, false, List, refl, inl, inr, ap, subst, min}
+use Rattle.std.proofs.Common.{◌≡◌, ◌⊎◌, sym, ℕ, ℤ, pos, negsuc, zero, suc, Bool, true, false, List, refl, inl, inr, ap, subst, min}
 use Rattle.std.specs.Prelude.{Result, Ok, length}
 use Rattle.hurd_creds.specs.declared.name.Name.{Name}
 use Rattle.hurd_creds.specs.declared.errno.Errno.{Errno}
@@ -7,7 +7,7 @@ use Rattle.hurd_trans_iface.specs.Behaviour.{Did, Question, edits_of}
 use Rattle.hurd_trans_iface.specs.Kinds.{ServerKind, behaviour_of}
 use Rattle.hurd_trans_iface.specs.Good.{KeepsSizes, IsPlain as IsPlainAnswer}
 use Rattle.hurd_machine.specs.Calls.{Reply}
-use Rattle.hurd_machine.specs.World.{World, asked_at, stream_at}
+use Rattle.hurd_machine.specs.World.{World, asked_at, counts_at, stream_at}
 use Rattle.hurd_machine.specs.Change.{Change, apply_all, changes_of}
 use Rattle.hurd_machine.specs.Plan.{is_refused}
 use Rattle.hurd_machine.specs.Sight.{Part, BodyOf, Sees, Seen}
@@ -23,7 +23,7 @@ use Rattle.hurd_machine.proofs.Several.{AllMay}
 use Rattle.hurd_machine.proofs.Permits.{did_exact}
 use Rattle.hurd_machine.proofs.Opens.{cursor_whole}
 use Rattle.hurd_machine.proofs.Edits.{did_whole}
-use Rattle.hurd_machine.proofs.Asks.{IsPlain, ok_plain, err_plain, asked_plain, answered_same, answered_plain, done_plain, first_same, first_ok, given_ok, given_same, stream_same, first_plain, given_plain, handle_same, handle_read, handle_plain, asked_seen, handle_seen, asked_same, port_same, port_plain, port_seen}
+use Rattle.hurd_machine.proofs.Asks.{IsPlain, ok_plain, err_plain, asked_plain, answered_same, answered_plain, done_plain, first_same, first_ok, given_ok, given_same, stream_same, first_plain, given_plain, handle_same, handle_put, handle_read, handle_plain, asked_seen, handle_seen, written_same, port_same, port_plain, port_seen}
 use Rattle.hurd_machine.proofs.CallLaws.{CallLaws, answered_piece, looking_laws}
 use Rattle.hurd_io.specs.declared.offset.Offset.{Offset}
 use Rattle.hurd_io.specs.declared.offset.Offset.TheVariants.{Place, Cursor}
@@ -113,7 +113,7 @@ read_laws t p amount offset = io_laws t (λ w. read_asks w t p offset) (reads am
   sizes = λ at k. (good k).read_sizes at (min amount most_read);
 })
 
--- io_write: it asks of a node that the caller has open to write, and is told nothing of its body.
+-- io_write: it asks of a node that the caller has open to write, and is told nothing of its body, unless its server counts who reads: then it sees that.
 
 -- the port that is written by
 written_by : (w : World) (t p : ℕ) (offset : ℤ) (a : IoAt) → write_asks w t p offset ≡ Ok a → (h : Handle) × (handle_asks w t p WRITE ≡ Ok h) × (h.node ≡ a.node)
@@ -128,7 +128,8 @@ write_laws t p bytes offset = io_laws t (λ w. write_asks w t p offset) (writes 
       first_same _ _ _ _ refl (λ o e. begins_same a h (handle_seen t ours p WRITE h is) (write_cursor h) o));
   told_same = λ S v w a ours x is.
       let h = written_by v t p offset x is in
-      asked_same a x.node (writes bytes x.at) (λ k. (good k).write_blind x.at bytes) (subst (Seen S v) h.2 (handle_seen t ours p WRITE h.0 h.1));
+      written_same a x.node x.at bytes (subst (Seen S v) h.2 (handle_seen t ours p WRITE h.0 h.1)) (λ counts.
+      subst (λ n. Sees S v (BodyOf n)) h.2 (handle_put t ours p h.0 h.1 (subst (λ n. counts_at v n ≡ true) (sym h.2) counts)));
   asks_plain = λ w. first_plain _ _ (handle_plain w t p WRITE) (λ h is. first_plain _ _ (offset_plain offset) (λ o e. ok_plain _));
   told_plain = λ at k. (good k).write_plain at bytes;
   reply_plain = λ taken. refl;

@@ -3,7 +3,7 @@ use Rattle.std.proofs.Common.{◌≡◌, ◌≢◌, List, ℕ, refl}
 use Rattle.std.specs.Prelude.{Option, Some, None, MatchOption, Result, Ok, Err, IfErr, IsErrAnd}
 use Rattle.hurd_creds.specs.declared.errno.Errno.{Errno}
 use Rattle.hurd_creds.specs.declared.errno.Errno.TheVariants.{EINVAL, ENOMEM}
-use Rattle.hurd_trans_iface.specs.Meaning.{Meaning, Tmpfs, Hello, Null, Zero, Symlink, Firmlink, Union, Magic, begin, begin_as}
+use Rattle.hurd_trans_iface.specs.Meaning.{Meaning, Tmpfs, Hello, Null, Zero, Symlink, Firmlink, Union, Magic, Drip, Fifo, begin, begin_as}
 
 -- a kind that refused words, and not for want of memory, doesn't take them
 
@@ -20,5 +20,6 @@ module _ {T : Type 0} where
 
 -- words that none takes make no server
 pub begin_none : (ws : List (List ℕ)) → begin_as Tmpfs ws ≡ None → begin_as Hello ws ≡ None → begin_as Null ws ≡ None → begin_as Zero ws ≡ None → begin_as Symlink ws ≡ None
-    → begin_as Firmlink ws ≡ None → begin_as Union ws ≡ None → begin_as Magic ws ≡ None → None ≡ begin ws
-begin_none ws no_tree no_text no_stream no_zeros no_link no_firm no_union no_magic = rw (no_tree, no_text, no_stream, no_zeros, no_link, no_firm, no_union, no_magic) refl
+    → begin_as Firmlink ws ≡ None → begin_as Union ws ≡ None → begin_as Magic ws ≡ None → begin_as Drip ws ≡ None → begin_as Fifo ws ≡ None → None ≡ begin ws
+begin_none ws no_tree no_text no_stream no_zeros no_link no_firm no_union no_magic no_drip no_pipe =
+    rw (no_tree, no_text, no_stream, no_zeros, no_link, no_firm, no_union, no_magic, no_drip, no_pipe) refl

@@ -6,10 +6,12 @@ use Rattle.hurd_small.specs.Zero.{zero_meaning}
 use Rattle.hurd_small.specs.Symlink.{symlink_meaning}
 use Rattle.hurd_small.specs.Firmlink.{firmlink_meaning}
 use Rattle.hurd_small.specs.Magic.{magic_meaning}
+use Rattle.hurd_small.specs.Drip.{drip_meaning}
+use Rattle.hurd_small.specs.Fifo.{fifo_meaning}
 use Rattle.hurd_union.specs.Union.{union_meaning}
 use Rattle.hurd_tmpfs.specs.Tree.{tree}
 use Rattle.hurd_kinds.specs.declared.server_box.ServerBox.{ServerBox}
-use Rattle.hurd_kinds.specs.declared.server_box.ServerBox.TheVariants.{Tmpfs, Hello, Null, Zero, Symlink, Firmlink, Union, Magic}
+use Rattle.hurd_kinds.specs.declared.server_box.ServerBox.TheVariants.{Tmpfs, Hello, Null, Zero, Symlink, Firmlink, Union, Magic, Drip, Fifo}
 
 -- what the server in the box means
 abbrev pub box_meaning : ServerBox → Meaning
@@ -21,3 +23,5 @@ box_meaning (Symlink s) = symlink_meaning s.value
 box_meaning (Firmlink s) = firmlink_meaning s.value
 box_meaning (Union s) = union_meaning s.value
 box_meaning (Magic s) = magic_meaning s.value
+box_meaning (Drip s) = drip_meaning s.value
+box_meaning (Fifo s) = fifo_meaning s.value

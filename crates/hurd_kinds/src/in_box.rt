@@ -2,7 +2,7 @@
 ghost use Rattle.hurd_kinds.specs.Boxes.{box_meaning};
 
 use crate::server_box::ServerBox;
-use hurd_creds::{Attrs, Bytes, Errno, Mode, NodeName};
+use hurd_creds::{Attrs, Bytes, Errno, Mode, NodeName, OpenFlags};
 use hurd_trans_iface::{Names, NewNode, Root, Server, Words};
 use std::alloc::Global;
 
@@ -18,6 +18,8 @@ macro_rules! in_box {
             ServerBox::Firmlink($server) => $call,
             ServerBox::Union($server) => $call,
             ServerBox::Magic($server) => $call,
+            ServerBox::Drip($server) => $call,
+            ServerBox::Fifo($server) => $call,
         }
     };
 }
@@ -146,6 +148,18 @@ impl Server for ServerBox {
 
     fn nameless(&self) -> Option<&[NodeName]> {
         in_box!(self, server => server.nameless())
+    }
+
+    fn counts(&self) -> bool {
+        in_box!(self, server => server.counts())
+    }
+
+    fn opened(&mut self, node: NodeName, modes: OpenFlags) {
+        in_box!(self, server => server.opened(node, modes))
+    }
+
+    fn closed(&mut self, node: NodeName, modes: OpenFlags) {
+        in_box!(self, server => server.closed(node, modes))
     }
 
     fn goaway(&mut self) {

@@ -7,7 +7,7 @@ ghost use Rattle.hurd_tmpfs.specs.Tree.{new_tmpfs, tree};
 ghost use Rattle.hurd_kinds.specs.Boxes.{box_meaning};
 
 use hurd_creds::Errno;
-use hurd_small::{Firmlink, Hello, Magic, Null, Symlink, Zero};
+use hurd_small::{Drip, Fifo, Firmlink, Hello, Magic, Null, Symlink, Zero};
 use hurd_tmpfs::Tmpfs;
 use hurd_trans_iface::Words;
 use hurd_union::{Union, new_union};
@@ -24,6 +24,8 @@ pub enum ServerBox {
     Firmlink(Box<Firmlink>),
     Union(Box<Union>),
     Magic(Box<Magic>),
+    Drip(Box<Drip>),
+    Fifo(Box<Fifo>),
 }
 
 /// The server that was made, in a box; none where its kind doesn't take the words.
@@ -64,6 +66,12 @@ pub fn server_for(alloc: Global, words: &Words) -> Result<Option<ServerBox>, All
     }
     if let Some(link) = boxed(alloc, Magic::new(alloc, words))? {
         return Ok(Some(ServerBox::Magic(link)));
+    }
+    if let Some(drip) = boxed(alloc, Drip::new(alloc, words))? {
+        return Ok(Some(ServerBox::Drip(drip)));
+    }
+    if let Some(pipe) = boxed(alloc, Fifo::new(alloc, words))? {
+        return Ok(Some(ServerBox::Fifo(pipe)));
     }
     Ok(None)
 }

@@ -52,7 +52,7 @@ pub fn long_number(word: &[u8]) -> Result<u64, ReadFault>
     ensures { Finds (λ n. n) (long_number_of word.now) result }
 {
     let digits = text(word)?;
-    wanted(numbers::long_number(digits))
+    wanted(numbers::long_number(digits.as_bytes()))
 }
 
 /// A number that may be below zero.

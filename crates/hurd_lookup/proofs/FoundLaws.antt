@@ -1,5 +1,5 @@
 -- The laws of a call that makes of what it found a port, a file or a retry, or is to start it.
-use Rattle.std.proofs.Common.{◌≡◌, ℕ, Bool, true, Some, None, refl}
+use Rattle.std.proofs.Common.{◌≡◌, ℕ, Bool, true, Some, None, refl, List, ap}
 use Rattle.std.specs.Prelude.{Result, Ok}
 use Rattle.hurd_creds.specs.declared.errno.Errno.{Errno}
 use Rattle.hurd_creds.specs.declared.errno.Errno.TheVariants.{ESRCH}
@@ -7,15 +7,18 @@ use Rattle.hurd_creds.specs.declared.open_flags.OpenFlags.{OpenFlags}
 use Rattle.hurd_ports.specs.Tables.{Task}
 use Rattle.hurd_machine.specs.declared.call.Reply.TheVariants.{Found}
 use Rattle.hurd_machine.specs.World.{World, task_at}
-use Rattle.hurd_machine.specs.Plan.{on}
+use Rattle.hurd_machine.specs.Plan.{on, Plan}
 use Rattle.hurd_machine.proofs.Views.{Agree, Agree-refl, same_tasks}
 use Rattle.hurd_machine.proofs.Asks.{answered_same, answered_plain, done_plain}
 use Rattle.hurd_machine.proofs.CallLaws.{CallLaws, answered_piece}
 use Rattle.hurd_core.specs.Core.{room_asks}
-use Rattle.hurd_lookup.specs.Lookup.{Outcome, Opens, Makes, Retries, Starts, ending_asks, whole_asks, lookup_told, finding, finding_parts}
+use Rattle.hurd_lookup.specs.Lookup.{Outcome, Opens, Makes, Retries, Starts, ending_asks, whole_asks, lookup_told, finding, finding_parts, lookup_changes, no_modes}
 use Rattle.hurd_lookup.proofs.AlikeLaws.{Alike, ok_alike, on_alike, given_alike, first_alike}
 use Rattle.hurd_lookup.proofs.EndLaws.{OutcomeShown}
 use Rattle.hurd_lookup.proofs.OutcomeLaws.{outcome_whole}
+use Rattle.hurd_creds.specs.Bits.{open_modes}
+use Rattle.hurd_machine.specs.Change.{Change}
+use Rattle.hurd_machine.proofs.Opens.{opening_same}
 
 -- what task t finds, which is to be opened by these flags, is the same in worlds that agree, where S has t; and what is shown of it
 abbrev pub FoundLaws : ℕ → OpenFlags → (World → Result Outcome Errno) → Type 0
@@ -39,6 +42,14 @@ module _ {S : ℕ → Bool} {v w : World} (a : Agree S v w) (t : ℕ) (ours : S 
   ending_alike (Retries kind name None) = there_alike
   ending_alike (Starts s) = there_alike
 
+-- what was found changes the same in worlds that agree
+changes_same : {S : ℕ → Bool} {v w : World} → Agree S v w → (t : ℕ) (x : Task) (flags : OpenFlags) (o : Outcome) → OutcomeShown S v flags o → lookup_changes w t x (open_modes flags) o ≡ lookup_changes v t x (open_modes flags) o
+changes_same a t x flags (Opens e) shown = opening_same a t x e.node e.ids e.parents (open_modes flags) shown.seen.node
+changes_same a t x flags (Makes s f ids ways) shown = refl
+changes_same a t x flags (Retries kind name None) shown = refl
+changes_same a t x flags (Retries kind name (Some e)) shown = opening_same a t x e.node e.ids e.parents no_modes shown.seen.node
+changes_same a t x flags (Starts s) shown = refl
+
 module _ (t : ℕ) (flags : OpenFlags) (found : World → Result Outcome Errno) (l : FoundLaws t flags found) where
   abbrev asked : World → Result (Outcome × Task) Errno
   asked w = whole_asks w t (found w)
@@ -60,6 +71,8 @@ module _ (t : ℕ) (flags : OpenFlags) (found : World → Result Outcome Errno) 
   finding_laws = record {
     piece = λ w s. answered_piece s (asked w) _ _ (λ got is.
         outcome_whole w t got.1 ((alone (λ k. true) w refl).has got is).is_task flags s got.0 (λ S ours. ((alone S w ours).has got is).shown));
-    same = λ S v w c d a ours. answered_same _ _ _ _ (asked_alike S v w a ours).same (λ got is. refl);
+    same = λ S v w c d a ours. answered_same _ _ _ _ (asked_alike S v w a ours).same (λ got is.
+        let shown = ((alone S v ours).has got is).shown in
+        ap (λ (cs : List Change). let P : Plan = record { reply = Found (lookup_told got.1 got.0); changes = cs } in P) (changes_same a t got.1 flags got.0 shown));
     plain = λ w. answered_plain (asked w) _ (alone (λ k. true) w refl).plain (λ got is. done_plain (Found (lookup_told got.1 got.0)) refl);
   }

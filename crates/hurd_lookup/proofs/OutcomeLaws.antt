@@ -1,6 +1,7 @@
 -- What a lookup does at its end: it opens a node, makes a file and opens that, makes the port of a retry, or has the task start a translator.
 use Rattle.std.proofs.Common.{◌≡◌, ℕ, ◌+◌, Bool, true, false, not, ◌&&◌, ◌||◌, List, Some, None, refl, inl, inr, arith}
 use Rattle.std.proofs.lemmas.Nat.{and_assoc}
+use Rattle.std.proofs.lemmas.Bool.{or_cases, and_parts}
 use Rattle.hurd_creds.specs.declared.name.Name.{Name}
 use Rattle.hurd_creds.specs.declared.open_flags.OpenFlags.{OpenFlags}
 use Rattle.hurd_creds.specs.declared.attrs.Kind.TheVariants.{File}
@@ -11,10 +12,10 @@ use Rattle.hurd_trans_iface.specs.Nodes.{Node, Header, is_dir, new_file}
 use Rattle.hurd_trans_iface.proofs.Goods.{good}
 use Rattle.hurd_ports.specs.Tables.{Task, fresh}
 use Rattle.hurd_ports.specs.Steps.{named}
-use Rattle.hurd_machine.specs.World.{World, task_at, header_at}
-use Rattle.hurd_machine.specs.Change.{Change, apply_all, opening}
-use Rattle.hurd_machine.specs.Sight.{Part, bare, Allowed, Seen, SeesBody, ToRead}
-use Rattle.hurd_machine.specs.Touched.{OnNode}
+use Rattle.hurd_machine.specs.World.{World, counts_at, task_at, header_at}
+use Rattle.hurd_machine.specs.Change.{Change, apply_all, opening, porting}
+use Rattle.hurd_machine.specs.Sight.{Part, AttrOf, bare, tells, Allowed, Seen, SeesBody, ToRead, ToPut}
+use Rattle.hurd_machine.specs.Touched.{OnOpen}
 use Rattle.hurd_machine.specs.Sound.{Below, Sound}
 use Rattle.hurd_machine.proofs.Coherence.{IsNext, header_old, named_still}
 use Rattle.hurd_machine.proofs.Settle.{rests_opening}
@@ -23,7 +24,7 @@ use Rattle.hurd_machine.proofs.Links.{leads_unless, file_hangs}
 use Rattle.hurd_machine.proofs.Confine.{NewTo, seen_old}
 use Rattle.hurd_machine.proofs.Permits.{later_new, opens_may}
 use Rattle.hurd_machine.proofs.Opens as fragments
-use Rattle.hurd_machine.proofs.Opens.{own_task, fresh_new, fresh_next, opens_piece}
+use Rattle.hurd_machine.proofs.Opens.{own_task, fresh_new, fresh_next, opens_piece, opening_whole}
 use Rattle.hurd_machine.proofs.Makes.{may_make, entered, entered_home, entered_header, entered_task, entered_below, entered_whole}
 use Rattle.hurd_machine.proofs.Pending.{pends_whole}
 use Rattle.hurd_core.specs.Core.{asked_node}
@@ -49,6 +50,16 @@ reads ids h flags m r = go (asks flags READ) (may ids (bare h) Read) r m
     go true false e k = absurd (cc)
     go false b e k = absurd (cc)
 
+-- and what is to be written may be written
+writes : (ids : IdSets) (h : Header) (flags : OpenFlags) → may_open ids h flags ≡ true → asks flags WRITE ≡ true → may ids (bare h) Write ≡ true
+writes ids h flags m r = go (not (asks flags READ) || may ids (bare h) Read) (asks flags WRITE) (may ids (bare h) Write) r m
+  where
+    go : (c a b : Bool) → a ≡ true → (c && ((not a || b) && (not (asks flags EXEC) || may ids (bare h) Exec))) ≡ true → b ≡ true
+    go c true true e k = refl
+    go true true false e k = absurd (cc)
+    go false true false e k = absurd (cc)
+    go c false b e k = absurd (cc)
+
 no_dir : (a b : Bool) → not (a && b) ≡ true → b ≡ true → a ≡ false
 no_dir true true h k = absurd (cc)
 no_dir false b h k = refl
@@ -59,8 +70,9 @@ no_dir true false h k = absurd (cc)
 silent_write : asks no_modes WRITE ≡ true → ⊥
 silent_write h = absurd (cc)
 
-silent_read : asks no_modes READ ≡ true → ⊥
-silent_read h = absurd (cc)
+silent_tells : (counts : Bool) → tells counts no_modes ≡ true → ⊥
+silent_tells true h = absurd (cc)
+silent_tells false h = absurd (cc)
 
 module _ (w : World) (t : ℕ) (x : Task) (is : task_at w t ≡ Some x) (flags : OpenFlags) where
   abbrev modes : OpenFlags
@@ -70,7 +82,7 @@ module _ (w : World) (t : ℕ) (x : Task) (is : task_at w t ≡ Some x) (flags :
   n = fresh t x
 
   abbrev changes : Outcome → List Change
-  changes o = lookup_changes t x modes o
+  changes o = lookup_changes w t x modes o
 
   -- the parts that it may write
   abbrev Writes : Outcome → Part → Type 0
@@ -81,16 +93,17 @@ module _ (w : World) (t : ℕ) (x : Task) (is : task_at w t ≡ Some x) (flags :
   given s m seen = seen_old s.coherent m (seen (λ k. true) refl)
 
   -- a port that is made
-  port_whole : {T : Part → Type 0} → Sound w → (e : NewPort) (modes : OpenFlags) → ((p : Part) → OnNode w e.node p → T p)
+  port_whole : {T : Part → Type 0} → Sound w → (e : NewPort) (modes : OpenFlags) → ((p : Part) → OnOpen w e.node p → T p)
       → (asks modes WRITE ≡ true → (h : Header) → header_at w e.node ≡ Some h → is_dir h.kind ≡ false) → ((S : ℕ → Bool) → S t ≡ true → PortSeen S w e)
-      → ((S : ℕ → Bool) → S t ≡ true → asks modes READ ≡ true → (h : Header) → header_at w e.node ≡ Some h → SeesBody S w e.node h) → Whole t (Full w t T) w w (opening t x e.node e.ids e.parents modes)
-  port_whole {T} s e modes on writes seen reads = record {
-    piece = opens_piece w t x is e.node e.ids e.parents modes (stands s) (own_task w t T) (inr (inr (fresh_new w t x is))) (λ p here. inl (on p here))
-        (given s e.node (λ S ours. (seen S ours).node)) (λ m way. given s m (λ S ours. (seen S ours).ways m way)) writes (λ S ours.
-        let k = seen S ours in
-        opens_may S w w t x e.node e.ids e.parents modes ours (later_new S w t x x.made ours is (omega arith)) (inl k.node) (λ m way. inl (k.ways m way)) (inr k.ids) (reads S ours));
-    rests = rests_opening w t x is e.node e.ids e.parents modes s.settled;
-  }
+      → ((S : ℕ → Bool) → S t ≡ true → tells (counts_at w e.node) modes ≡ true → (h : Header) → header_at w e.node ≡ Some h → SeesBody S w e.node h) → Whole t (Full w t T) w w (opening w t x e.node e.ids e.parents modes)
+  port_whole {T} s e modes on writes seen reads =
+      opening_whole x e.node e.ids e.parents modes (stands s)
+      (opens_piece w t x is e.node e.ids e.parents modes (stands s) (own_task w t T) (inr (inr (fresh_new w t x is))) (λ p here. inl (on p (inl here)))
+      (given s e.node (λ S ours. (seen S ours).node)) (λ m way. given s m (λ S ours. (seen S ours).ways m way)) writes (λ S ours.
+      let k = seen S ours in
+      opens_may S w w t x e.node e.ids e.parents modes ours (later_new S w t x x.made ours is (omega arith)) (inl k.node) (λ m way. inl (k.ways m way)) (inr k.ids) (reads S ours)))
+      (rests_opening w t x is e.node e.ids e.parents modes s.settled)
+      (λ counts. inl (on (AttrOf e.node) (inr (counts, refl))))
 
   pub outcome_whole : Sound w → (o : Outcome) → ((S : ℕ → Bool) → S t ≡ true → OutcomeShown S w flags o) → Whole t (Writes o) w w (changes o)
   outcome_whole s (Starts p) shown =
@@ -99,13 +112,19 @@ module _ (w : World) (t : ℕ) (x : Task) (is : task_at w t ≡ Some x) (flags :
       let l = (shown (λ k. true) refl).leads in
       port_whole {T = lookup_parts w (Opens e)} s e modes (λ p on. on)
       (λ writes h eh. let same : l.header ≡ h = cc (l.is_header, eh) in rw (← same) (no_dir (is_dir l.header.kind) (asks flags WRITE) l.fits (kept_write flags writes))) (λ S ours. (shown S ours).seen)
-      (λ S ours read h eh.
+      (λ S ours told h eh.
       let same : l.header ≡ h = cc (l.is_header, eh) in
-      ToRead (Allowed e.ids (shown S ours).seen.ids (rw (← same) (reads e.ids l.header flags l.may (kept_read flags read)))))
+      let ids = (shown S ours).seen.ids in
+      elim (or_cases (asks modes READ) (counts_at w e.node && asks modes WRITE) told) [
+        | inl read ↦ ToRead (Allowed e.ids ids (rw (← same) (reads e.ids l.header flags l.may (kept_read flags read))))
+        | inr put ↦
+            let two = and_parts (counts_at w e.node) (asks modes WRITE) put in
+            ToPut two.0 (Allowed e.ids ids (rw (← same) (writes e.ids l.header flags l.may (kept_write flags two.1))))
+      ])
   outcome_whole s (Retries kind name None) shown = whole_none s
   outcome_whole s (Retries kind name (Some e)) shown =
       port_whole {T = lookup_parts w (Retries kind name (Some e))} s e no_modes (λ p on. on)
-      (λ writes h eh. absurd (silent_write writes)) (λ S ours. (shown S ours).seen) (λ S ours read h eh. absurd (silent_read read))
+      (λ writes h eh. absurd (silent_write writes)) (λ S ours. (shown S ours).seen) (λ S ours told h eh. absurd (silent_tells (counts_at w e.node) told))
   outcome_whole s (Makes q f ids ways) shown =
       rw l.named
       (whole_then made opened (tt, (tt, tt)) s
@@ -136,7 +155,7 @@ module _ (w : World) (t : ℕ) (x : Task) (is : task_at w t ≡ Some x) (flags :
       made = entered n q file f.dir l.name
 
       opened : List Change
-      opened = opening t (named 1 x) n ids ways modes
+      opened = porting t (named 1 x) n ids ways modes
 
       left : World
       left = apply_all made w

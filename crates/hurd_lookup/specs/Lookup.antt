@@ -35,7 +35,7 @@ use Rattle.hurd_machine.specs.World.{World, ports_of, task_at, node_at, header_a
 use Rattle.hurd_machine.specs.Change.{Change, opening, pending}
 use Rattle.hurd_machine.specs.Plan.{Plan, on, given, first, answered}
 use Rattle.hurd_machine.specs.Sight.{Part, EmptyOf, BodyOf, UsersOf, bare}
-use Rattle.hurd_machine.specs.Touched.{asked_parts, OnNode}
+use Rattle.hurd_machine.specs.Touched.{asked_parts, OnOpen}
 use Rattle.hurd_core.specs.Branches.{branches_at}
 use Rattle.hurd_core.specs.Core.{NewNodeAt, room_asks, making_open}
 use Rattle.hurd_lookup.specs.declared.request.Request.{Request}
@@ -309,16 +309,16 @@ whole_asks w t found = first found (λ o. first (ending_asks w t o) (λ x. Ok (o
 abbrev pub no_modes : OpenFlags
 no_modes = record { 0 = 0 }
 
-abbrev pub retry_changes : ℕ → Task → Option NewPort → List Change
-retry_changes t x None = []
-retry_changes t x (Some e) = opening t x e.node e.ids e.parents no_modes
+abbrev pub retry_changes : World → ℕ → Task → Option NewPort → List Change
+retry_changes w t x None = []
+retry_changes w t x (Some e) = opening w t x e.node e.ids e.parents no_modes
 
 -- what is opened, or made and opened, or what the task is to start from now on
-abbrev pub lookup_changes : ℕ → Task → OpenFlags → Outcome → List Change
-lookup_changes t x modes (Opens e) = opening t x e.node e.ids e.parents modes
-lookup_changes t x modes (Makes s f ids ways) = making_open t f ids ways modes (x, s)
-lookup_changes t x modes (Retries kind name at) = retry_changes t x at
-lookup_changes t x modes (Starts s) = pending t (Some s)
+abbrev pub lookup_changes : World → ℕ → Task → OpenFlags → Outcome → List Change
+lookup_changes w t x modes (Opens e) = opening w t x e.node e.ids e.parents modes
+lookup_changes w t x modes (Makes s f ids ways) = making_open t f ids ways modes (x, s)
+lookup_changes w t x modes (Retries kind name at) = retry_changes w t x at
+lookup_changes w t x modes (Starts s) = pending t (Some s)
 
 -- what is told: the port, the name that is looked up elsewhere, or the words of what is to be started
 abbrev pub lookup_told : Task → Outcome → Lookup
@@ -326,21 +326,21 @@ lookup_told x (Retries kind name at) = found.Retry kind name (option_map (λ e. 
 lookup_told x (Starts s) = found.Start s.words
 lookup_told x o = found.Done x.next
 
--- the users of the server of what gets a port; what is made also changes its directory
+-- the users of the server of what gets a port, and how often that is open, where its server counts it; what is made also changes its directory
 
 abbrev pub port_parts : World → Option NewPort → Part → Type 0
 port_parts w None p = ⊥
-port_parts w (Some e) p = OnNode w e.node p
+port_parts w (Some e) p = OnOpen w e.node p
 
 abbrev pub lookup_parts : World → Outcome → Part → Type 0
-lookup_parts w (Opens e) p = OnNode w e.node p
+lookup_parts w (Opens e) p = OnOpen w e.node p
 lookup_parts w (Makes s f ids ways) p = (p ≡ UsersOf s) ⊎ ((p ≡ BodyOf f.dir) ⊎ (p ≡ EmptyOf f.dir))
 lookup_parts w (Retries kind name at) p = port_parts w at p
 lookup_parts w (Starts s) p = ⊥
 
 -- the plan of what a lookup found
 abbrev pub finding : World → ℕ → OpenFlags → Result Outcome Errno → Plan
-finding w t flags found = answered (whole_asks w t found) (λ l. record { reply = Found (lookup_told l.1 l.0); changes = lookup_changes t l.1 (open_modes flags) l.0 })
+finding w t flags found = answered (whole_asks w t found) (λ l. record { reply = Found (lookup_told l.1 l.0); changes = lookup_changes w t l.1 (open_modes flags) l.0 })
 
 abbrev pub finding_parts : World → ℕ → Result Outcome Errno → Part → Type 0
 finding_parts w t found = asked_parts (whole_asks w t found) (λ l. lookup_parts w l.0)

@@ -100,7 +100,7 @@ impl NewPort {
         modes: OpenFlags,
     ) -> Result<u64, Errno>
         ensures { let w = world_of S.meaning core.old in let e = port_of self in
-            Does w (room_asks w task.0 1) (λ x. opening task.0 x e.node e.ids e.parents modes) (λ x. x.next) result (world_of S.meaning core.new) }
+            Does w (room_asks w task.0 1) (λ x. opening w task.0 x e.node e.ids e.parents modes) (λ x. x.next) result (world_of S.meaning core.new) }
     {
         let NewPort { node, ids, parents } = self;
         core.open(task, node, ids, parents, modes)

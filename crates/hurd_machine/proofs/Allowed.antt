@@ -15,8 +15,8 @@ use Rattle.hurd_ports.specs.declared.table.Right.{Right}
 use Rattle.hurd_ports.specs.declared.table.Right.TheVariants.{Io, Control, Start}
 use Rattle.hurd_ports.specs.Tables.{Task, rights_of}
 use Rattle.hurd_ports.specs.Steps.{named, with_sent, edit_task}
-use Rattle.hurd_machine.specs.World.{World, IsAmong, task_at, open_at, header_at, body_at, home_at, active_at, server_at}
-use Rattle.hurd_machine.specs.Sight.{Holds, HasUid, Taken, SeesBody, BodyOf, OptionsOf}
+use Rattle.hurd_machine.specs.World.{World, IsAmong, task_at, open_at, header_at, body_at, home_at, active_at, server_at, counts_at}
+use Rattle.hurd_machine.specs.Sight.{Holds, HasUid, Taken, SeesBody, BodyOf, OptionsOf, tells}
 use Rattle.hurd_machine.specs.Change.{Change, EditHeader, EditBody, MakeNode, EditOpen, MakeOpen, EditTask, Send, Attach, DropServer, Unseat, SetText, Settle, apply}
 use Rattle.hurd_machine.specs.Sound.{Coherent}
 use Rattle.hurd_machine.proofs.Nodes.{header_in, body_in, header-with_header, header-with_body, body-with_header, body-with_body, edit_reads, edit_keeps, edited_from, ByEmptiness, was_edited}
@@ -33,7 +33,7 @@ use Rattle.hurd_machine.proofs.Retained.{was_retained}
 -- a right to use a node that a task of S may get, but for its ids: where its open is to read, S sees the body
 pub record IoMay (S : ℕ → Bool) (v x : World) (r : IoRight) : Type 0 where
   pub inside : IoInside S v r
-  pub reads : (o : Opened) → open_at x r.open_name ≡ Some o → asks o.modes READ ≡ true → (h : Header) → header_at v r.node ≡ Some h → SeesBody S v r.node h
+  pub reads : (o : Opened) → open_at x r.open_name ≡ Some o → tells (counts_at v r.node) o.modes ≡ true → (h : Header) → header_at v r.node ≡ Some h → SeesBody S v r.node h
 
 -- of each kind
 abbrev pub RightMay : (ℕ → Bool) → World → World → Right → Type 0
@@ -69,13 +69,17 @@ gained_may S v x r a z ids gains m = (among (RightMay S v x) m.0, elim m.1 [ inl
     among : (B : Right → Type 0) → B r → (q : Right) → IsAmong q (rights_of z) → IsAmong q (rights_of a) ⊎ B q
     among B b q h = elim (gains q h) [ inl old ↦ inl old | inr e ↦ inr (subst B e b) ]
 
+-- an open that tells of a node's body afterwards told of it before
+abbrev pub TellsNoMore : (Opened → Opened) → Type 0
+TellsNoMore f = (counts : Bool) (z : Opened) → tells counts (f z).modes ≡ true → tells counts z.modes ≡ true
+
 -- what S saw, its ids among it, is of the world v before the call; what stands is of the world x, in which the change is made
 abbrev pub May : (ℕ → Bool) → World → World → Change → Type 0
 May S v x (EditHeader n f) = (h : Header) → header_at x n ≡ Some h → Less S v n (f h) h
 May S v x (EditBody n g) =
     (ByEmptiness g ⊎ Known S v (BodyOf n)) × ((b : Body) (name : List ℕ) (m : Name) → body_at x n ≡ Some b → entry_of name (Some (g b)) ≡ Some m → (entry_of name (Some b) ≡ Some m) ⊎ SeenOrNew S v m)
 May S v x (MakeNode n s node) = (S n.task.0 ≡ true) × Known S v (OptionsOf s) × ((p : Name) → node.header.parent ≡ Some p → SeenOrNew S v p)
-May S v x (EditOpen o f) = (z : Opened) → asks (f z).modes READ ≡ true → asks z.modes READ ≡ true
+May S v x (EditOpen o f) = TellsNoMore f
 May S v x (MakeOpen o z) = S o.task.0 ≡ true
 May S v x (EditTask q f) = (S q ≡ true) × ((a : Task) → task_at x q ≡ Some a → OwnMay S v x a (f a) × (HasUid S v 0 ⊎ OwnTaken S v a (f a)))
 May S v x (Send r q) = RightMay S v x r × (HasUid S v 0 ⊎ IdsMay S v r)  -- to any task
@@ -204,22 +208,22 @@ module _ (S : ℕ → Bool) (v x : World) (coherent : Coherent x) (i : Inside S 
   ]
 
   -- a right that is held afterwards and open to read shows its body
-  reads_by : (y : World) → Stepped y → (r : IoRight) (o : Opened) → Holds S y (Io r) → (z : Opened) × (open_at x r.open_name ≡ Some z) × (asks o.modes READ ≡ true → asks z.modes READ ≡ true)
-      → asks o.modes READ ≡ true → (h : Header) → header_at v r.node ≡ Some h → SeesBody S v r.node h
+  reads_by : (y : World) → Stepped y → (r : IoRight) (o : Opened) → Holds S y (Io r) → (z : Opened) × (open_at x r.open_name ≡ Some z) × ((counts : Bool) → tells counts o.modes ≡ true → tells counts z.modes ≡ true)
+      → tells (counts_at v r.node) o.modes ≡ true → (h : Header) → header_at v r.node ≡ Some h → SeesBody S v r.node h
   reads_by y st r o held l modes = elim (holder y st (Io r) held) [
-    | inl old ↦ i.reads r l.0 old l.1 (l.2 modes)
-    | inr new ↦ new.reads l.0 l.1 (l.2 modes)
+    | inl old ↦ i.reads r l.0 old l.1 (l.2 (counts_at v r.node) modes)
+    | inr new ↦ new.reads l.0 l.1 (l.2 (counts_at v r.node) modes)
   ]
 
-  open_before : (k : Name) (f : Opened → Opened) → ((z : Opened) → asks (f z).modes READ ≡ true → asks z.modes READ ≡ true) → (q : Name) (o : Opened) → get (edit k f x.opens) q ≡ Some o
-      → (z : Opened) × (open_at x q ≡ Some z) × (asks o.modes READ ≡ true → asks z.modes READ ≡ true)
+  open_before : (k : Name) (f : Opened → Opened) → TellsNoMore f → (q : Name) (o : Opened) → get (edit k f x.opens) q ≡ Some o
+      → (z : Opened) × (open_at x q ≡ Some z) × ((counts : Bool) → tells counts o.modes ≡ true → tells counts z.modes ≡ true)
   open_before k f m q o e = elim (was_edited x.opens k q f o e) [
-    | inl l ↦ (l.1, ap (open_at x) l.0 ∙ l.2, λ modes. m l.1 (ap (λ (u : Opened). asks u.modes READ) l.3 ∙ modes))
-    | inr h ↦ (o, h, λ modes. modes)
+    | inl l ↦ (l.1, ap (open_at x) l.0 ∙ l.2, λ counts modes. m counts l.1 (ap (λ (u : Opened). tells counts u.modes) l.3 ∙ modes))
+    | inr h ↦ (o, h, λ counts modes. modes)
   ]
 
   abbrev Reads : World → Type 0
-  Reads y = (r : IoRight) (o : Opened) → Holds S y (Io r) → open_at y r.open_name ≡ Some o → asks o.modes READ ≡ true → (h : Header) → header_at v r.node ≡ Some h → SeesBody S v r.node h
+  Reads y = (r : IoRight) (o : Opened) → Holds S y (Io r) → open_at y r.open_name ≡ Some o → tells (counts_at v r.node) o.modes ≡ true → (h : Header) → header_at v r.node ≡ Some h → SeesBody S v r.node h
 
   reads_next : (c : Change) → IsExact c → Proper x c → May S v x c → Stepped (apply c x) → Reads (apply c x)
   reads_next (EditOpen k f) ex p m st r o held e modes = reads_by (apply (EditOpen k f) x) st r o held (open_before k f m r.open_name o e) modes
@@ -228,7 +232,7 @@ module _ (S : ℕ → Bool) (v x : World) (coherent : Coherent x) (i : Inside S 
       let apart : r.open_name ≢ k = next_apart x k r.open_name p (right_old coherent old.task old.seat r old.is_task old.here).1 in
       i.reads r o old (sym (get_apart x.opens k z r.open_name apart) ∙ e) modes
   reads_next Settle ex p m st r o held e modes = absurd ex
-  reads_next c ex p m st r o held e modes = reads_by (apply c x) st r o held (o, e, λ k. k) modes
+  reads_next c ex p m st r o held e modes = reads_by (apply c x) st r o held (o, e, λ counts k. k) modes
 
   -- a header afterwards is one that stood there, with less, or a new node's
   abbrev Headers : World → Type 0
@@ -289,10 +293,10 @@ module _ (S : ℕ → Bool) (v x : World) (coherent : Coherent x) (i : Inside S 
   entries_next Settle ex p m d n name e = absurd ex
   entries_next c ex p m d n name e = inl e
 
-  homes_next : (c : Change) → IsExact c → Proper x c → May S v x c → (n s : Name) → home_at (apply c x) n ≡ Some s → (home_at x n ≡ Some s) ⊎ Known S v (OptionsOf s)
-  homes_next (MakeNode a q node) ex p m n s e = elim (was x.homes a n q s e) [ inl k ↦ inr (subst (λ z. Known S v (OptionsOf z)) k.1 m.1) | inr k ↦ inl k.1 ]
+  homes_next : (c : Change) → IsExact c → Proper x c → May S v x c → (n s : Name) → home_at (apply c x) n ≡ Some s → (home_at x n ≡ Some s) ⊎ (NewTo S v n × Known S v (OptionsOf s))
+  homes_next (MakeNode a q node) ex p m n s e = elim (was x.homes a n q s e) [ inl k ↦ inr (subst (NewTo S v) (sym k.0) (next_new a p.0 m.0), subst (λ z. Known S v (OptionsOf z)) k.1 m.1) | inr k ↦ inl k.1 ]
   homes_next (Attach q at j node) ex p m n s e = elim (was x.homes j.root n q s (subst (λ (z : World). home_at z n ≡ Some s) (come_is q at j node p) e)) [
-    | inl k ↦ inr (inr (subst (NewTo S v) k.1 (next_new q p.next m.0)))
+    | inl k ↦ inr (subst (NewTo S v) (sym k.0) (root_new q at j node p m.0), inr (subst (NewTo S v) k.1 (next_new q p.next m.0)))
     | inr k ↦ inl k.1
   ]
   homes_next (DropServer q) ex p m n s e = inl (was_retained x.homes (is_other q x.homes) n s e).0
@@ -341,6 +345,6 @@ module _ (S : ℕ → Bool) (v x : World) (coherent : Coherent x) (i : Inside S 
           ]
           | inr new ↦ inr new
         ];
-        entries = λ d n name e. elim (entries_next c ex p m d n name e) [ inl k ↦ i.entries d n name k | inr known ↦ inr known ];
-        homes = λ n s e. elim (homes_next c ex p m n s e) [ inl k ↦ i.homes n s k | inr known ↦ inr known ];
+        entries = λ d n name e. elim (entries_next c ex p m d n name e) [ inl k ↦ i.entries d n name k | inr new ↦ inr new ];
+        homes = λ n s e. elim (homes_next c ex p m n s e) [ inl k ↦ i.homes n s k | inr new ↦ inr new ];
       }

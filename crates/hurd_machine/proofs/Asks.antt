@@ -1,19 +1,19 @@
 -- What a call asks: the same in worlds that answer the same, what an answer shows, and that no answer is want of memory.
-use Rattle.std.proofs.Common.{List, ◌≡◌, ℕ, Bool, true, false, Option, Some, None, refl, sym, ◌∙◌, ap, ap₂, subst, true≢false}
+use Rattle.std.proofs.Common.{List, ◌≡◌, ℕ, Bool, true, false, Option, Some, None, refl, sym, ◌∙◌, ap, ap₂, subst, true≢false, ◌&&◌}
 use Rattle.std.specs.Prelude.{if◌then◌else◌, not, is_some, nat_lt, Result, Ok, Err}
 use Rattle.std.specs.FinMap.{get}
 use Rattle.hurd_creds.specs.declared.name.Name.{Name}
 use Rattle.hurd_creds.specs.declared.errno.Errno.{Errno}
 use Rattle.hurd_creds.specs.declared.errno.Errno.TheVariants.{EBADF, EDIED, EEXIST, EISDIR, ENOTDIR, EOPNOTSUPP, EOVERFLOW, EROFS, ESRCH, EXDEV}
 use Rattle.hurd_creds.specs.declared.attrs.Kind.{Kind}
-use Rattle.hurd_creds.specs.Bits.{asks, READ}
+use Rattle.hurd_creds.specs.Bits.{asks, READ, WRITE}
 use Rattle.hurd_creds.specs.Memory.{is_no_memory}
 use Rattle.hurd_trans_iface.specs.Nodes.{Node, Header, Body, is_dir}
 use Rattle.hurd_trans_iface.specs.Answers.{entry_of, is_made, is_taken, link_in, most_links}
 use Rattle.hurd_trans_iface.specs.Meaning.{keeps_tree}
-use Rattle.hurd_trans_iface.specs.Behaviour.{Question}
+use Rattle.hurd_trans_iface.specs.Behaviour.{Question, writing}
 use Rattle.hurd_trans_iface.specs.Kinds.{ServerKind, behaviour_of}
-use Rattle.hurd_trans_iface.specs.Good.{IsBlind, IsPlain as IsPlainAnswer}
+use Rattle.hurd_trans_iface.specs.Good.{IsBlindAt, IsPlain as IsPlainAnswer}
 use Rattle.hurd_nodes.specs.Shown.{ServerInfo, info_in, asked_of, readable_by, is_root_at, made_by, are_kin, link_by, set_attrs_by}
 use Rattle.hurd_ports.specs.declared.table.IoRight.{IoRight}
 use Rattle.hurd_ports.specs.declared.table.Right.{Right}
@@ -21,15 +21,18 @@ use Rattle.hurd_ports.specs.declared.table.Right.TheVariants.{Io}
 use Rattle.hurd_ports.specs.Tables.{Task, rights_of, or_refuse, task_of, right_in, right_at, right_of, io_right_in, io_right_of}
 use Rattle.hurd_machine.specs.Calls.{Reply, lacks_memory}
 use Rattle.hurd_machine.specs.declared.call.Reply.TheVariants.{Refused, Back}
-use Rattle.hurd_nodes.specs.Needs.{streams_by}
-use Rattle.hurd_machine.specs.World.{World, IsAmong, ports_of, task_at, open_at, header_at, home_at, info_at, is_server_root, asked_at, count_in, readable_at, stream_at, makes_at, links_at, sets_attrs_at, nodes_of}
+use Rattle.hurd_nodes.specs.Needs.{streams_by, counts_by}
+use Rattle.hurd_machine.specs.World.{World, IsAmong, ports_of, task_at, open_at, header_at, home_at, info_at, is_server_root, asked_at, count_in, readable_at, stream_at, makes_at, links_at, sets_attrs_at, nodes_of, counts_at}
 use Rattle.hurd_machine.specs.Plan.{Plan, refuse, is_refused, on, given, first, answered}
 use Rattle.hurd_machine.specs.declared.handle.Handle.{Handle}
 use Rattle.hurd_machine.specs.Handle.{Named, port_asks, handle_asks}
-use Rattle.hurd_machine.specs.Sight.{Holds, Held, Seen, IsOpen, BodyOf, Sees}
+use Rattle.hurd_machine.specs.Sight.{Holds, Held, Seen, IsOpen, BodyOf, Sees, tells}
 use Rattle.hurd_machine.proofs.Nodes.{header_in, body_in, root_info}
 use Rattle.hurd_machine.proofs.Rights.{right_under}
 use Rattle.hurd_machine.proofs.Views.{Agree, same_tasks, header_same, body_same, home_same, server_same, open_same}
+use Rattle.hurd_creds.specs.declared.open_flags.OpenFlags.{OpenFlags}
+use Rattle.hurd_trans_iface.proofs.Goods.{good}
+use Rattle.std.proofs.lemmas.Bool.{or_left, or_right}
 
 -- asked of two worlds, y of the second
 
@@ -254,12 +257,18 @@ module _ {S : ℕ → Bool} {v : World} (t : ℕ) (ours : S t ≡ true) where
   pub handle_seen : (q mode : ℕ) (a : Handle) → handle_asks v t q mode ≡ Ok a → Seen S v a.node
   handle_seen q mode a is = let h = handled v t q mode a is in Held h.right (holds_right t ours q (Io h.right) h.is_right) h.node
 
-  -- and its body, where it has it open to read
-  pub handle_read : (q : ℕ) (a : Handle) → handle_asks v t q READ ≡ Ok a → Sees S v (BodyOf a.node)
-  handle_read q a is =
-      let h = handled v t q READ a is in
+  -- and its body, where it has it open to read, or to write and its server counts who reads
+  handle_told : (q mode : ℕ) (a : Handle) → handle_asks v t q mode ≡ Ok a → ((n : Name) (modes : OpenFlags) → n ≡ a.node → asks modes mode ≡ true → tells (counts_at v n) modes ≡ true) → Sees S v (BodyOf a.node)
+  handle_told q mode a is told =
+      let h = handled v t q mode a is in
       let held : Holds S v (Io h.right) = holds_right t ours q (Io h.right) h.is_right in
-      (Held h.right held h.node, h.header, ap (header_at v) h.node ∙ h.is_header, IsOpen h.right held h.node a.opened h.opened h.modes)
+      (Held h.right held h.node, h.header, ap (header_at v) h.node ∙ h.is_header, IsOpen h.right held h.node a.opened h.opened (told a.node a.opened.modes refl h.modes))
+
+  pub handle_put : (q : ℕ) (a : Handle) → handle_asks v t q WRITE ≡ Ok a → counts_at v a.node ≡ true → Sees S v (BodyOf a.node)
+  handle_put q a is counts = handle_told q WRITE a is (λ n modes same asked. rw (same, counts) (or_right (asks modes READ) (asks modes WRITE) asked))
+
+  pub handle_read : (q : ℕ) (a : Handle) → handle_asks v t q READ ≡ Ok a → Sees S v (BodyOf a.node)
+  handle_read q a is = handle_told q READ a is (λ n modes same asked. or_left (asks modes READ) (counts_at v n && asks modes WRITE) asked)
 
 pub handle_plain : (w : World) (t q mode : ℕ) → IsPlain (handle_asks w t q mode)
 handle_plain w t q mode =
@@ -277,7 +286,7 @@ same_node (Some x) (Some y) h b =
 same_node o p h b = absurd (cc)
 
 -- what is blind to the body answers the same of nodes of the same header
-blind_same : {T : Type 0} (q : Question T) → ((k : ServerKind) → IsBlind (behaviour_of k) q) → (i : Option ServerInfo) (o p : Option Node) → header_in p ≡ header_in o → asked_of q i p ≡ asked_of q i o
+blind_same : {T : Type 0} (q : Question T) → ((k : ServerKind) (text : List ℕ) → IsBlindAt (behaviour_of k) text q) → (i : Option ServerInfo) (o p : Option Node) → header_in p ≡ header_in o → asked_of q i p ≡ asked_of q i o
 blind_same q blind None o p h = refl
 blind_same q blind (Some i) None None h = refl
 blind_same q blind (Some i) (Some x) (Some y) h =
@@ -317,6 +326,10 @@ module _ {S : ℕ → Bool} {v w : World} (a : Agree S v w) (n : Name) where
   pub sets_attrs_same : Seen S v n → sets_attrs_at w n ≡ sets_attrs_at v n
   sets_attrs_same seen = ap (λ i. set_attrs_by i (get w.nodes n)) (info_same seen) ∙ there_same (info_at v n) (get v.nodes n) (get w.nodes n) (header_same a n seen)
 
+  -- whether the server of a node that S sees counts who reads
+  pub counts_same : Seen S v n → counts_at w n ≡ counts_at v n
+  counts_same seen = ap counts_by (info_same seen)
+
   -- whether a node that S sees is a stream
   pub stream_same : Seen S v n → stream_at w n ≡ stream_at v n
   stream_same seen = ap streams_by (info_same seen)
@@ -330,9 +343,26 @@ module _ {S : ℕ → Bool} {v w : World} (a : Agree S v w) (n : Name) where
   asked_seen q s = ap₂ (asked_of q) (info_same s.0) (seen_node s)
 
   -- what is blind to the body, of any node that S sees
-  pub asked_same : {T : Type 0} (q : Question T) → ((k : ServerKind) → IsBlind (behaviour_of k) q) → Seen S v n → asked_at q n w ≡ asked_at q n v
+  pub asked_same : {T : Type 0} (q : Question T) → ((k : ServerKind) (text : List ℕ) → IsBlindAt (behaviour_of k) text q) → Seen S v n → asked_at q n w ≡ asked_at q n v
   asked_same q blind s =
       ap (λ i. asked_of q i (get w.nodes n)) (info_same s) ∙ blind_same q blind (info_at v n) (get v.nodes n) (get w.nodes n) (header_same a n s)
+
+  -- what is written into a node that S sees, of which S sees what is in it where its server counts who reads
+  pub written_same : (at : ℕ) (bs : List ℕ) → Seen S v n → (counts_at v n ≡ true → Sees S v (BodyOf n)) → asked_at (writing at bs) n w ≡ asked_at (writing at bs) n v
+  written_same at bs s sees = go (counts_at v n) refl
+    where
+      blind : (i : Option ServerInfo) (o p : Option Node) → header_in p ≡ header_in o → counts_by i ≡ false → asked_of (writing at bs) i p ≡ asked_of (writing at bs) i o
+      blind None o p h out = refl
+      blind (Some i) None None h out = refl
+      blind (Some i) (Some x) (Some y) h out =
+          let header : y.header ≡ x.header = cc in
+          ap (λ (k : Header). writing at bs (behaviour_of i.kind) i.text (record { header = k; body = y.body })) header
+          ∙ (good i.kind).write_blind out i.text at bs x.header x.body y.body
+      blind (Some i) o p h out = absurd (cc)
+
+      go : (b : Bool) → counts_at v n ≡ b → asked_at (writing at bs) n w ≡ asked_at (writing at bs) n v
+      go true e = asked_seen (writing at bs) (sees e)
+      go false e = ap (λ i. asked_of (writing at bs) i (get w.nodes n)) (info_same s) ∙ blind (info_at v n) (get v.nodes n) (get w.nodes n) (header_same a n s) e
 
 -- whether a node may get another name is the same of nodes of one header
 file_same : (name : List ℕ) (kin : Bool) (i : Option ServerInfo) (d o p : Option Node) → header_in p ≡ header_in o → link_by name kin i d p ≡ link_by name kin i d o

@@ -1,26 +1,30 @@
 -- What S sees in a world that stays inside what it saw: parts that it saw, and new things of its own tasks.
-use Rattle.std.proofs.Common.{◌≡◌, ◌⊎◌, ℕ, ◌≤◌, Bool, true, List, Some, sym, refl, ◌∙◌, subst, inl, inr, arith}
+use Rattle.std.proofs.Common.{true≢false, ◌≡◌, ◌⊎◌, ℕ, ◌≤◌, Bool, true, List, Some, sym, refl, ◌∙◌, subst, inl, inr, arith, false, Option, None}
 use Rattle.hurd_creds.specs.declared.name.Name.{Name}
 use Rattle.hurd_creds.specs.declared.attrs.Kind.TheVariants.{Dir}
 use Rattle.hurd_creds.specs.declared.attrs.Want.{Want}
 use Rattle.hurd_creds.specs.declared.attrs.Want.TheVariants.{Read, Write, Exec}
-use Rattle.hurd_creds.specs.Bits.{asks, READ}
+use Rattle.hurd_creds.specs.Bits.{asks, READ, WRITE}
 use Rattle.hurd_trans_iface.specs.Nodes.{Header}
 use Rattle.hurd_trans_iface.specs.Answers.{entry_of}
-use Rattle.hurd_nodes.specs.Shown.{ServerInfo, with_text}
+use Rattle.hurd_nodes.specs.Shown.{ServerInfo, with_text, info_in}
 use Rattle.hurd_ports.specs.declared.table.Opened.{Opened}
 use Rattle.hurd_ports.specs.declared.table.IoRight.{IoRight}
 use Rattle.hurd_ports.specs.declared.table.Right.{Right}
 use Rattle.hurd_ports.specs.declared.table.Right.TheVariants.{Io, Control, Start}
 use Rattle.hurd_ports.specs.Tables.{Task, nodes_of as nodes_named}
-use Rattle.hurd_machine.specs.World.{World, IsAmong, boot_root, task_at, open_at, header_at, body_at, home_at, active_at, server_at}
-use Rattle.hurd_machine.specs.Sight.{Holds, HasUid, UidOfTask, UidOfRight, HasGid, GidOfTask, GidOfRight, Taken, Could, Owns, OwnsIt, Allowed, CouldServe}
+use Rattle.hurd_machine.specs.World.{World, IsAmong, boot_root, task_at, open_at, header_at, body_at, home_at, active_at, server_at, counts_at}
+use Rattle.hurd_machine.specs.Sight.{Holds, HasUid, UidOfTask, UidOfRight, HasGid, GidOfTask, GidOfRight, Taken, Could, Owns, OwnsIt, Allowed, CouldServe, ToPut, tells}
 use Rattle.hurd_machine.specs.Sight.{Seen, Root, Held, Way, Controlled, Pending, Child, Parent, Active, ServerRoot, Target, Sends, ByControl, ByNode, BySeat, Knows, OfNode, OfSeat, OfControl, SeesBody, ToRead, ToSearch, IsOpen, SeesEmpty, ByBody, ByParent}
 use Rattle.hurd_machine.specs.Sight.{Part, AttrOf, EmptyOf, BodyOf, OpenOf, OptionsOf, UsersOf, TaskOf, Sees, MaySend}
 use Rattle.hurd_machine.specs.Sound.{Below, Coherent}
-use Rattle.hurd_machine.proofs.Coherence.{header_old, entry_old, home_old, right_old, entry_lists}
+use Rattle.hurd_machine.proofs.Coherence.{header_old, entry_old, home_old, right_old, entry_lists, home_server}
 use Rattle.hurd_machine.proofs.Stays.{way_at, way_parent, way_with}
 use Rattle.hurd_machine.proofs.Views.{knows_of}
+use Rattle.hurd_trans_iface.specs.Meaning.{counts_opens}
+use Rattle.hurd_nodes.specs.Needs.{counts_by}
+use Rattle.hurd_creds.specs.declared.open_flags.OpenFlags.{OpenFlags}
+use Rattle.std.proofs.lemmas.Bool.{or_cases, or_left}
 
 -- what is seen has a name that was given
 pub seen_old : {S : ℕ → Bool} {w : World} → Coherent w → (n : Name) → Seen S w n → Below w n
@@ -132,6 +136,10 @@ pub record TakesLess (S : ℕ → Bool) (v x : World) : Type 0 where
 abbrev pub ServerInside : (ℕ → Bool) → World → Name → ServerInfo → Type 0
 ServerInside S v s i = ((text : List ℕ) × (server_at v s ≡ Some (with_text text i))) ⊎ (NewTo S v s × NewTo S v i.root × ((n : Name) → IsAmong n i.targets → SeenOrNew S v n))
 
+-- the server of a node that was its server, or the node is a new one of S, of a server that S knew or made
+abbrev pub HomeInside : (ℕ → Bool) → World → Name → Name → Type 0
+HomeInside S v n s = (home_at v n ≡ Some s) ⊎ (NewTo S v n × Known S v (OptionsOf s))
+
 -- the world x holds nothing for S beyond what S saw in v
 pub record Inside (S : ℕ → Bool) (v x : World) : Type 0 where
   pub servers : (s : Name) (i : ServerInfo) → server_at x s ≡ Some i → ServerInside S v s i
@@ -140,10 +148,10 @@ pub record Inside (S : ℕ → Bool) (v x : World) : Type 0 where
   -- S held uid 0, and so could do all, or has no more ids
   pub power : HasUid S v 0 ⊎ TakesLess S v x
   pub held : (r : Right) → Holds S x r → RightInside S v r
-  pub reads : (r : IoRight) (o : Opened) → Holds S x (Io r) → open_at x r.open_name ≡ Some o → asks o.modes READ ≡ true → (h : Header) → header_at v r.node ≡ Some h → SeesBody S v r.node h
+  pub reads : (r : IoRight) (o : Opened) → Holds S x (Io r) → open_at x r.open_name ≡ Some o → tells (counts_at v r.node) o.modes ≡ true → (h : Header) → header_at v r.node ≡ Some h → SeesBody S v r.node h
   pub headers : (n : Name) (h : Header) → header_at x n ≡ Some h → HeaderInside S v n h
   pub entries : (d n : Name) (name : List ℕ) → entry_of name (body_at x d) ≡ Some n → (entry_of name (body_at v d) ≡ Some n) ⊎ SeenOrNew S v n
-  pub homes : (n s : Name) → home_at x n ≡ Some s → (home_at v n ≡ Some s) ⊎ Known S v (OptionsOf s)
+  pub homes : (n s : Name) → home_at x n ≡ Some s → HomeInside S v n s
 
 held_inside : (S : ℕ → Bool) (v : World) (r : Right) → Holds S v r → RightInside S v r
 held_inside S v (Io r) h = record { nodes = λ n i. inl (named_seen S v r h n i); opened = inl (r, h, refl) }
@@ -180,6 +188,12 @@ module _ {S : ℕ → Bool} {v x : World} (less : TakesLess S v x) where
   could_less h want (Allowed ids taken may) =
       Allowed ids (record { uids = λ u k. uid_back u (taken.uids u k); gids = λ g k. gid_back g (taken.gids g k) }) may
 
+-- an open tells of a body where the server counts, if it does where that doesn't
+tells_more : (b c : Bool) (modes : OpenFlags) → (b ≡ true → c ≡ true) → tells b modes ≡ true → tells c modes ≡ true
+tells_more true c modes more told = rw (more refl) told
+tells_more false true modes more told = elim (or_cases (asks modes READ) false told) [ inl reads ↦ or_left (asks modes READ) (asks modes WRITE) reads | inr never ↦ absurd (true≢false (sym never)) ]
+tells_more false false modes more told = told
+
 module _ {S : ℕ → Bool} {v x : World} (coherent : Coherent v) (i : Inside S v x) where
   could_back : (h : Header) (want : Want) → Could S x h want → Could S v h want
   could_back h want c = elim i.power [ inl all ↦ Owns 0 all (inr refl) | inr less ↦ could_less less h want c ]
@@ -207,8 +221,8 @@ module _ {S : ℕ → Bool} {v x : World} (coherent : Coherent v) (i : Inside S 
   parent_inside d n h eh ep (inr new) (inl l) = absurd (new.1 (header_old coherent d l.0 l.1))
 
   -- the server of a node, and the one that is active on it, is known where the node is
-  server_inside : (n s : Name) → SeenOrNew S v n → (home_at v n ≡ Some s) ⊎ Known S v (OptionsOf s) → Known S v (OptionsOf s)
-  server_inside n s ok (inr known) = known
+  server_inside : (n s : Name) → SeenOrNew S v n → HomeInside S v n s → Known S v (OptionsOf s)
+  server_inside n s ok (inr new) = new.1
   server_inside n s (inl sn) (inl e) = inl (OfNode n sn e)
   server_inside n s (inr new) (inl e) = absurd (new.1 (home_old coherent n s e))
 
@@ -246,11 +260,11 @@ module _ {S : ℕ → Bool} {v x : World} (coherent : Coherent v) (i : Inside S 
   target_by s n info aim (inl knows) (inl e) = inl (known_target s n (with_text e.0 info) e.1 knows aim)
   target_by s n info aim (inr new) (inl e) = absurd (new.1 (coherent.given.servers s (with_text e.0 info) e.1))
 
-  by_inside : (m s : Name) → (home_at x m ≡ Some s) ⊎ (active_at x m ≡ Some s) → ((home_at v m ≡ Some s) ⊎ Known S v (OptionsOf s)) ⊎ ((active_at v m ≡ Some s) ⊎ NewTo S v s)
+  by_inside : (m s : Name) → (home_at x m ≡ Some s) ⊎ (active_at x m ≡ Some s) → HomeInside S v m s ⊎ ((active_at v m ≡ Some s) ⊎ NewTo S v s)
   by_inside m s (inl e) = inl (i.homes m s e)
   by_inside m s (inr e) = inr (i.actives m s e)
 
-  known_inside : (m s : Name) → SeenOrNew S v m → ((home_at v m ≡ Some s) ⊎ Known S v (OptionsOf s)) ⊎ ((active_at v m ≡ Some s) ⊎ NewTo S v s) → Known S v (OptionsOf s)
+  known_inside : (m s : Name) → SeenOrNew S v m → HomeInside S v m s ⊎ ((active_at v m ≡ Some s) ⊎ NewTo S v s) → Known S v (OptionsOf s)
   known_inside m s ok (inl home) = server_inside m s ok home
   known_inside m s ok (inr active) = elim (seat_inside m s ok active) [ inl k ↦ inl (OfSeat m k.0 k.1) | inr new ↦ inr new ]
 
@@ -275,11 +289,29 @@ module _ {S : ℕ → Bool} {v x : World} (coherent : Coherent v) (i : Inside S 
       (λ k text is. known_root s (with_text text info) is (serve_back info c) k))
   seen_inside n (Target m s info sm em es aim) = target_by s n info aim (known_inside m s (seen_inside m sm) (by_inside m s em)) (i.servers s info es)
 
+  -- where the server of a node that was there counts who reads, it did
+  counts_by_server : (n s : Name) (info : ServerInfo) → counts_opens info.kind ≡ true → home_at v n ≡ Some s → ServerInside S v s info → counts_at v n ≡ true
+  counts_by_server n s info counts home (inl was) = rw (home, was.1) counts
+  counts_by_server n s info counts home (inr new) = let j = home_server coherent n s home in absurd (new.0.1 (coherent.given.servers s j.0 j.1))
+
+  counts_inside : (n : Name) (before : Header) → header_at v n ≡ Some before → counts_at x n ≡ true → counts_at v n ≡ true
+  counts_inside n before was = by_home (home_at x n) refl
+    where
+      by_info : (s : Name) (o : Option ServerInfo) → server_at x s ≡ o → home_at v n ≡ Some s → counts_by o ≡ true → counts_at v n ≡ true
+      by_info s None e home counts = absurd (cc)
+      by_info s (Some info) e home counts = counts_by_server n s info counts home (i.servers s info e)
+
+      by_home : (o : Option Name) → home_at x n ≡ o → counts_by (info_in x.servers o) ≡ true → counts_at v n ≡ true
+      by_home None e counts = absurd (cc)
+      by_home (Some s) e counts = elim (i.homes n s e) [ inl home ↦ by_info s (server_at x s) refl home counts | inr new ↦ absurd (new.0.1 (header_old coherent n before was)) ]
+
   body_inside : (n : Name) (h before : Header) → header_at v n ≡ Some before → Less S v n h before → SeesBody S x n h → SeesBody S v n before
   body_inside n h before is less (ToRead c) = ToRead (less.could Read (could_back h Read c))
   body_inside n h before is less (ToSearch k c) = ToSearch (sym less.kind ∙ k) (less.could Exec (could_back h Exec c))
+  body_inside n h before is less (ToPut counts c) = ToPut (counts_inside n before is counts) (less.could Write (could_back h Write c))
   body_inside n h before is less (IsOpen r held e o at modes) =
-      subst (λ z. SeesBody S v z before) (sym e) (i.reads r o held at modes before (subst (λ z. header_at v z ≡ Some before) e is))
+      let told : tells (counts_at v n) o.modes ≡ true = tells_more (counts_at x n) (counts_at v n) o.modes (counts_inside n before is) modes in
+      subst (λ z. SeesBody S v z before) (sym e) (i.reads r o held at (subst (λ z. tells (counts_at v z) o.modes ≡ true) e told) before (subst (λ z. header_at v z ≡ Some before) e is))
 
   empty_inside : (n : Name) (h before : Header) → Seen S v n → header_at v n ≡ Some before → Less S v n h before → SeesEmpty S x n h → SeesEmpty S v n before ⊎ Known S v (EmptyOf n)
   empty_inside n h before s is less (ByBody b) = inl (ByBody (body_inside n h before is less b))

@@ -17,7 +17,7 @@ use Rattle.hurd_ports.specs.Tables.{Task, fresh, ways_of, is_held}
 use Rattle.hurd_ports.specs.Steps.{named, with_port, new_open, edit_task}
 use Rattle.hurd_machine.specs.World.{World, IsAmong, nodes_of, task_at, header_at, home_at, server_at}
 use Rattle.hurd_machine.specs.Sight.{Part, OptionsOf, UsersOf, TaskOf, Sees, Taken}
-use Rattle.hurd_machine.specs.Change.{Change, MakeNode, namings, stays, server_stays, apply, apply_all, opening}
+use Rattle.hurd_machine.specs.Change.{Change, MakeNode, namings, stays, server_stays, apply, apply_all, porting}
 use Rattle.hurd_machine.specs.Sound.{Sound, Below, Coherent, times_listed}
 use Rattle.hurd_machine.proofs.Nodes.{header_in}
 use Rattle.hurd_machine.proofs.Tasks.{edit_here}
@@ -46,7 +46,7 @@ pub record IsNameless (node : Node) : Type 0 where
 
 -- task t makes it, of this server, and opens it
 abbrev pub nameless : ℕ → Task → Name → Node → IdSets → List Pair → OpenFlags → List Change
-nameless t x s node ids parents modes = MakeNode (fresh t x) s node ∷ opening t (named 1 x) (fresh t x) ids parents modes
+nameless t x s node ids parents modes = MakeNode (fresh t x) s node ∷ porting t (named 1 x) (fresh t x) ids parents modes
 
 module _ (w : World) (t : ℕ) (x : Task) (is : task_at w t ≡ Some x) (s : Name) (i : ServerInfo) (server : server_at w s ≡ Some i) (node : Node) (lone : IsNameless node) (ids : IdSets) (parents : List Pair) (modes : OpenFlags) where
   abbrev n : Name
@@ -56,7 +56,7 @@ module _ (w : World) (t : ℕ) (x : Task) (is : task_at w t ≡ Some x) (s : Nam
   made = apply (MakeNode n s node) w
 
   abbrev file_opened : List Change
-  file_opened = opening t (named 1 x) n ids parents modes
+  file_opened = porting t (named 1 x) n ids parents modes
 
   abbrev left : World
   left = apply_all (nameless t x s node ids parents modes) w

@@ -1,5 +1,5 @@
 -- A port on a node with a new open, and a port that goes: as pieces of any call.
-use Rattle.std.proofs.Common.{◌≡◌, ℕ, ◌<◌, ◌≤◌, Bool, true, false, List, [], ◌∷◌, Some, sym, refl, subst, ◌∙◌, ap, subst, inl, inr, arith}
+use Rattle.std.proofs.Common.{◌≡◌, ℕ, ◌<◌, ◌≤◌, Bool, true, false, List, [], ◌∷◌, Some, sym, refl, subst, ◌∙◌, ap, subst, inl, inr, arith, ap₂, ◌++◌, ◌||◌, ◌&&◌, ◌==◌, Option, None}
 use Rattle.std.specs.FinMap.{get, insert}
 use Rattle.hurd_creds.specs.declared.name.Name.{Name}
 use Rattle.hurd_creds.specs.declared.open_flags.OpenFlags.{OpenFlags}
@@ -7,24 +7,34 @@ use Rattle.hurd_creds.specs.Access.{IdSets}
 use Rattle.hurd_creds.specs.Bits.{asks, READ, WRITE}
 use Rattle.hurd_creds.proofs.NameLaws.{get_here}
 use Rattle.hurd_creds.proofs.AppendLaws.{append_read, append_write}
-use Rattle.hurd_trans_iface.specs.Nodes.{Header, is_dir}
+use Rattle.hurd_trans_iface.specs.Nodes.{Header, is_dir, counting, opened_by, closed_by}
 use Rattle.hurd_ports.specs.declared.table.Opened.{Opened}
 use Rattle.hurd_ports.specs.declared.parents.Parent.{Parent as Pair}
 use Rattle.hurd_ports.specs.declared.table.Right.{Right}
 use Rattle.hurd_ports.specs.declared.table.Right.TheVariants.{Io, Control, Start}
-use Rattle.hurd_ports.specs.Tables.{Task, names_open, right_in, fresh, ways_of}
+use Rattle.hurd_ports.specs.Tables.{Task, names_open, right_in, fresh, ways_of, count_rights}
 use Rattle.hurd_ports.specs.Steps.{named, without_port, new_open, new_right, at_cursor, appending}
-use Rattle.hurd_machine.specs.World.{World, IsAmong, task_at, header_at}
-use Rattle.hurd_machine.specs.Sight.{Part, OpenOf, UsersOf, TaskOf, is_on}
-use Rattle.hurd_machine.specs.Touched.{OnNode, OnRight}
-use Rattle.hurd_machine.specs.Change.{Change, EditTask, MakeOpen, EditOpen, apply, opening, dropping}
-use Rattle.hurd_machine.specs.Sound.{Below, Coherent, Sound}
+use Rattle.hurd_machine.specs.World.{World, IsAmong, task_at, header_at, counts_at}
+use Rattle.hurd_machine.specs.Sight.{Part, OpenOf, UsersOf, TaskOf, is_on, AttrOf, Seen, Held, Holds}
+use Rattle.hurd_machine.specs.Touched.{OnNode, OnRight, OnDrop}
+use Rattle.hurd_machine.specs.Change.{Change, EditTask, MakeOpen, EditOpen, apply, porting, dropping, EditHeader, Settle, apply_all, changes_of, counted, opening, closes, closing}
+use Rattle.hurd_machine.specs.Sound.{Below, Coherent, Sound, AtRest}
 use Rattle.hurd_machine.proofs.Tasks.{edit_here}
 use Rattle.hurd_machine.proofs.Coherence.{IsNext, FineRight, AllProper, named_below, named_still, unopened}
 use Rattle.hurd_machine.proofs.Rights.{port_counts, port_table, without_counts, without_rights, without_table}
 use Rattle.hurd_machine.proofs.Frame.{Covers, Within, AllWithin, Full, not_on, not_named}
 use Rattle.hurd_machine.proofs.Several.{AllMay}
-use Rattle.hurd_machine.proofs.Piece.{Stands, Piece, Whole, stands, settled, quiet, of_ports}
+use Rattle.hurd_machine.proofs.Piece.{Stands, Piece, Whole, stands, settled, quiet, of_ports, of_header, piece_then}
+use Rattle.std.specs.Prelude.{if◌then◌else◌}
+use Rattle.std.specs.Option.{option_map}
+use Rattle.hurd_ports.specs.declared.table.IoRight.{IoRight}
+use Rattle.hurd_machine.proofs.Permits.{AllExact}
+use Rattle.hurd_machine.proofs.Confine.{less_same}
+use Rattle.hurd_machine.proofs.Allowed.{TellsNoMore}
+use Rattle.hurd_machine.proofs.Settle.{Rests, KeepsEntered, rests_quiet}
+use Rattle.hurd_machine.proofs.Keeping.{apply_all-append}
+use Rattle.hurd_machine.proofs.Views.{Agree}
+use Rattle.hurd_machine.proofs.Asks.{counts_same}
 
 -- what a call of task t may write anyway: its own task, and what has a name that it has still to give
 
@@ -65,7 +75,7 @@ module _ (w : World) (t : ℕ) (x : Task) (is : task_at w t ≡ Some x) (n : Nam
   there : get (insert w.opens (fresh t x) (new_open modes)) (fresh t x) ≡ Some (new_open modes)
   there = get_here w.opens (fresh t x) (new_open modes)
 
-  opens_within : (T : Part → Type 0) → T (TaskOf t) → T (OpenOf (fresh t x)) → ((p : Part) → OnNode w n p → T p) → AllWithin T w (opening t x n ids parents modes)
+  opens_within : (T : Part → Type 0) → T (TaskOf t) → T (OpenOf (fresh t x)) → ((p : Part) → OnNode w n p → T p) → AllWithin T w (porting t x n ids parents modes)
   opens_within T task open_part users =
       let cover : Covers T opened new_one = (open_part, λ s e. users (UsersOf s) (s, e, refl)) in (
         (task, open_part),
@@ -81,7 +91,7 @@ module _ (w : World) (t : ℕ) (x : Task) (is : task_at w t ≡ Some x) (n : Nam
         ),
       )
 
-  opens_proper : Coherent w → Below w n → ((m : Name) → IsAmong m (ways_of parents) → Below w m) → (asks modes WRITE ≡ true → (h : Header) → header_at w n ≡ Some h → is_dir h.kind ≡ false) → AllProper w (opening t x n ids parents modes)
+  opens_proper : Coherent w → Below w n → ((m : Name) → IsAmong m (ways_of parents) → Below w m) → (asks modes WRITE ≡ true → (h : Header) → header_at w n ≡ Some h → is_dir h.kind ≡ false) → AllProper w (porting t x n ids parents modes)
   opens_proper c made up writes = (fresh_next w t x is, λ d. ((λ z. omega arith, named 1 x, here, port_table opened d t new_one (named 1 x) here fine), λ e. tt))
     where
       next : IsNext w (fresh t x)
@@ -97,9 +107,62 @@ module _ (w : World) (t : ℕ) (x : Task) (is : task_at w t ≡ Some x) (n : Nam
       }
 
   pub opens_piece : {T : Part → Type 0} {v : World} → Stands w → T (TaskOf t) → T (OpenOf (fresh t x)) → ((p : Part) → OnNode w n p → T p) → Below w n → ((m : Name) → IsAmong m (ways_of parents) → Below w m)
-      → (asks modes WRITE ≡ true → (h : Header) → header_at w n ≡ Some h → is_dir h.kind ≡ false) → ((S : ℕ → Bool) → S t ≡ true → AllMay S v w (opening t x n ids parents modes)) → Piece t T v w (opening t x n ids parents modes)
+      → (asks modes WRITE ≡ true → (h : Header) → header_at w n ≡ Some h → is_dir h.kind ≡ false) → ((S : ℕ → Bool) → S t ≡ true → AllMay S v w (porting t x n ids parents modes)) → Piece t T v w (porting t x n ids parents modes)
   opens_piece {T} s task open_part users made up writes may =
-      of_ports (opening t x n ids parents modes) (tt, (tt, tt)) s (opens_within T task open_part users) (opens_proper s.coherent made up writes) may
+      of_ports (porting t x n ids parents modes) (tt, (tt, tt)) s (opens_within T task open_part users) (opens_proper s.coherent made up writes) may
+
+-- how often a node is open, where its server counts that
+
+-- what is counted is all that changes in a header
+pub record Counts (f : Header → Header) : Type 0 where
+  pub kind : (h : Header) → (f h).kind ≡ h.kind
+  pub owner : (h : Header) → (f h).owner ≡ h.owner
+  pub group : (h : Header) → (f h).group ≡ h.group
+  pub mode : (h : Header) → (f h).mode ≡ h.mode
+  pub links : (h : Header) → (f h).links ≡ h.links
+  pub size : (h : Header) → (f h).size ≡ h.size
+  pub parent : (h : Header) → (f h).parent ≡ h.parent
+
+pub opened_counts : (modes : OpenFlags) → Counts (opened_by modes)
+opened_counts modes = record { kind = λ h. refl; owner = λ h. refl; group = λ h. refl; mode = λ h. refl; links = λ h. refl; size = λ h. refl; parent = λ h. refl }
+
+pub closed_counts : (modes : OpenFlags) → Counts (closed_by modes)
+closed_counts modes = record { kind = λ h. refl; owner = λ h. refl; group = λ h. refl; mode = λ h. refl; links = λ h. refl; size = λ h. refl; parent = λ h. refl }
+
+module _ (n : Name) (f : Header → Header) (counts : Counts f) where
+  abbrev counted_if : Bool → List Change
+  counted_if b = changes_of (counting b n f)
+
+  counted_may : (S : ℕ → Bool) (v x : World) → AllMay S v x (EditHeader n f ∷ [])
+  counted_may S v x = (λ h is. less_same S v n (f h) h (counts.kind h) (counts.owner h) (counts.group h) (counts.mode h) (λ p e. inl (sym (counts.parent h) ∙ e)), tt)
+
+  pub counted_piece : {t : ℕ} {T : Part → Type 0} {v x : World} (b : Bool) → Stands x → (b ≡ true → T (AttrOf n)) → Piece t T v x (counted_if b)
+  counted_piece {t} {T} {v} {x} true s attr = of_header n f (λ h. (counts.kind h, counts.parent h, counts.links h)) counts.size s (attr refl) (λ S ours. counted_may S v x)
+  counted_piece false s attr = record { within = tt; proper = tt; linked = s.linked; sized = s.sizes; may = λ S ours. tt }
+
+  pub counted_exact : (b : Bool) → AllExact (counted_if b)
+  counted_exact true = (tt, tt)
+  counted_exact false = tt
+
+  -- nothing comes to be taken out by it
+  pub counted_rests : (b : Bool) (x : World) → Rests x (counted_if b)
+  counted_rests true x = rests_quiet (EditHeader n f ∷ []) x (entered_same, tt)
+    where
+      entered_same : KeepsEntered f
+      entered_same h e = rw (counts.kind h, counts.parent h, counts.links h) e
+  counted_rests false x = λ rest. rest
+
+-- a node is opened, and that is counted
+module _ {t : ℕ} {T : Part → Type 0} {v w : World} (x : Task) (n : Name) (ids : IdSets) (parents : List Pair) (modes : OpenFlags) where
+  pub opening_whole : Stands w → Piece t T v w (porting t x n ids parents modes) → AtRest (apply_all (porting t x n ids parents modes) w) → (counts_at w n ≡ true → T (AttrOf n))
+      → Whole t T v w (opening w t x n ids parents modes)
+  opening_whole s piece rests attr =
+      let ports = porting t x n ids parents modes in
+      let counts = counted w n (opened_by modes) in
+      record {
+        piece = piece_then ports counts (tt, (tt, tt)) s piece (λ c. counted_piece n (opened_by modes) (opened_counts modes) (counts_at w n) c attr);
+        rests = subst AtRest (sym (apply_all-append ports counts w)) (counted_rests n (opened_by modes) (opened_counts modes) (counts_at w n) (apply_all ports w) rests);
+      }
 
 -- a port goes
 
@@ -116,23 +179,79 @@ drops_within T w t p x r is under task parts = (
       },
 )
 
-pub drops_whole : {T : Part → Type 0} {v w : World} → Stands w → (t p : ℕ) (x : Task) (r : Right) → task_at w t ≡ Some x → right_in p x.ports ≡ Some r → T (TaskOf t) → ((q : Part) → OnRight w r q → T q) → Whole t T v w (dropping t p)
-drops_whole {T} {v} {w} s t p x r is under task parts =
-    settled given (tt, tt) s (of_ports given (tt, tt) s (drops_within T w t p x r is under task parts, tt) ((λ z. omega arith, x, is, without_table w s.coherent t p x is), λ d. tt) (λ S ours. ((ours, λ a at. (λ q h. inl (without_rights p a q h), inr (record { ids = inl refl; rights = λ q h. inl (without_rights p a q h) }))), tt)))
+-- and with it its open, which is counted
+closing_piece : {t : ℕ} {T : Part → Type 0} {v x : World} (w : World) (e : Option (Name × OpenFlags)) → Stands x → ((n : Name) (modes : OpenFlags) → e ≡ Some (n, modes) → counts_at w n ≡ true → T (AttrOf n)) → Piece t T v x (closing w e)
+closing_piece w None s attr = record { within = tt; proper = tt; linked = s.linked; sized = s.sizes; may = λ S ours. tt }
+closing_piece w (Some e) s attr = counted_piece e.0 (closed_by e.1) (closed_counts e.1) (counts_at w e.0) s (attr e.0 e.1 refl)
+
+closing_exact : (w : World) (e : Option (Name × OpenFlags)) → AllExact (closing w e)
+closing_exact w None = tt
+closing_exact w (Some e) = counted_exact e.0 (closed_by e.1) (closed_counts e.1) (counts_at w e.0)
+
+-- what closes is an open of the right's node
+closes_node : (w : World) (r : IoRight) (n : Name) (modes : OpenFlags) → closes w (Io r) ≡ Some (n, modes) → n ≡ r.node
+closes_node w r n modes = go (count_rights (names_open r.open_name) w.tasks == 1) (get w.opens r.open_name)
+  where
+    go : (b : Bool) (o : Option Opened) → (if b then option_map {U = Name × OpenFlags} (λ z. (r.node, z.modes)) o else None) ≡ Some (n, modes) → n ≡ r.node
+    go true None e = absurd (cc)
+    go true (Some z) e = let pair : ◌≡◌ {A = Name × OpenFlags} (r.node, z.modes) (n, modes) = cc in sym (ap (λ (q : Name × OpenFlags). q.0) pair)
+    go false o e = absurd (cc)
+
+closes_attr : (T : Part → Type 0) (w : World) (r : Right) → ((q : Part) → OnDrop w r q → T q) → (n : Name) (modes : OpenFlags) → closes w r ≡ Some (n, modes) → counts_at w n ≡ true → T (AttrOf n)
+closes_attr T w (Io r) parts n modes e counts = let same = closes_node w r n modes e in parts (AttrOf n) (inr (subst (λ z. counts_at w z ≡ true) same counts, ap AttrOf same))
+closes_attr T w (Control s) parts n modes e counts = absurd (cc (e))
+closes_attr T w (Start m) parts n modes e counts = absurd (cc (e))
+
+drop_rights : (w : World) (r : Right) (q : Part) → OnRight w r q → OnDrop w r q
+drop_rights w (Io r) q on = inl on
+drop_rights w (Control s) q on = on
+drop_rights w (Start n) q on = on
+
+pub drops_whole : {T : Part → Type 0} {v w : World} → Stands w → (t p : ℕ) (x : Task) (r : Right) → task_at w t ≡ Some x → right_in p x.ports ≡ Some r → T (TaskOf t) → ((q : Part) → OnDrop w r q → T q) → Whole t T v w (dropping w t p r)
+drops_whole {T} {v} {w} s t p x r is under task parts = settled (given ++ closed) exact s (piece_then given closed (tt, tt) s
+    (of_ports given (tt, tt) s (drops_within T w t p x r is under task (λ q on. parts q (drop_rights w r q on)), tt) ((λ z. omega arith, x, is, without_table w s.coherent t p x is), λ d. tt) (λ S ours. ((ours, λ a at. (λ q h. inl (without_rights p a q h), inr (record { ids = inl refl; rights = λ q h. inl (without_rights p a q h) }))), tt)))
+    (λ c. closing_piece w (closes w r) c (closes_attr T w r parts)))
   where
     given : List Change
     given = EditTask t (without_port p) ∷ []
 
+    closed : List Change
+    closed = closing w (closes w r)
+
+    exact : AllExact (given ++ closed)
+    exact = (tt, closing_exact w (closes w r))
+
+-- worlds that agree plan the same, where S has the right
+
+pub opening_same : {S : ℕ → Bool} {v w : World} → Agree S v w → (t : ℕ) (x : Task) (n : Name) (ids : IdSets) (parents : List Pair) (modes : OpenFlags) → Seen S v n → opening w t x n ids parents modes ≡ opening v t x n ids parents modes
+opening_same a t x n ids parents modes seen = ap (λ (b : Bool). porting t x n ids parents modes ++ changes_of (counting b n (opened_by modes))) (counts_same a n seen)
+
+closing_same : {S : ℕ → Bool} {v w : World} → Agree S v w → (e : Option (Name × OpenFlags)) → ((n : Name) (modes : OpenFlags) → e ≡ Some (n, modes) → Seen S v n) → closing w e ≡ closing v e
+closing_same a None seen = refl
+closing_same a (Some e) seen = ap (λ (b : Bool). changes_of (counting b e.0 (closed_by e.1))) (counts_same a e.0 (seen e.0 e.1 refl))
+
+pub dropping_same : {S : ℕ → Bool} {v w : World} → Agree S v w → (t p : ℕ) (r : Right) → Holds S v r → dropping w t p r ≡ dropping v t p r
+dropping_same {S} {v} {w} a t p (Io r) held =
+    let opens = a.parts (OpenOf r.open_name) (r, held, refl) in
+    let same_open : get w.opens r.open_name ≡ get v.opens r.open_name = cc in
+    let same_count : count_rights (names_open r.open_name) w.tasks ≡ count_rights (names_open r.open_name) v.tasks = cc in
+    let closes_too : closes w (Io r) ≡ closes v (Io r) = ap₂ (λ (k : ℕ) (o : Option Opened). let none : Option (Name × OpenFlags) = None in if k == 1 then option_map {U = Name × OpenFlags} (λ z. (r.node, z.modes)) o else none) same_count same_open in
+    ap (λ (cs : List Change). EditTask t (without_port p) ∷ (cs ++ Settle ∷ []))
+    (ap (closing w) closes_too ∙ closing_same a (closes v (Io r)) (λ n modes e. Held r held (closes_node v r n modes e)))
+dropping_same a t p (Control s) held = refl
+dropping_same a t p (Start n) held = refl
+
 -- an open changes, which then is for no more than before
 
 module _ {t : ℕ} {T : Part → Type 0} {v w : World} (s : Sound w) (o : Name) (part : T (OpenOf o)) where
-  opened_whole : (f : Opened → Opened) → ((z : Opened) → asks (f z).modes WRITE ≡ true → asks z.modes WRITE ≡ true) → ((z : Opened) → asks (f z).modes READ ≡ true → asks z.modes READ ≡ true) → Whole t T v w (EditOpen o f ∷ [])
+  opened_whole : (f : Opened → Opened) → ((z : Opened) → asks (f z).modes WRITE ≡ true → asks z.modes WRITE ≡ true) → TellsNoMore f → Whole t T v w (EditOpen o f ∷ [])
   opened_whole f writes reads = quiet (EditOpen o f ∷ []) (tt, tt) s (of_ports (EditOpen o f ∷ []) (tt, tt) (stands s) (part, tt) (writes, λ c. tt) (λ S ours. (reads, tt)))
 
   -- its cursor moves
   pub cursor_whole : (k : ℕ) → Whole t T v w (EditOpen o (at_cursor k) ∷ [])
-  cursor_whole k = opened_whole (at_cursor k) (λ z h. h) (λ z h. h)
+  cursor_whole k = opened_whole (at_cursor k) (λ z h. h) (λ counts z h. h)
 
   -- it gets APPEND, or loses it
   pub append_whole : (append : Bool) → Whole t T v w (EditOpen o (appending append) ∷ [])
-  append_whole append = opened_whole (appending append) (λ z h. sym (append_write append z.modes) ∙ h) (λ z h. sym (append_read append z.modes) ∙ h)
+  append_whole append = opened_whole (appending append) (λ z h. sym (append_write append z.modes) ∙ h)
+      (λ counts z h. sym (ap₂ (λ (r w : Bool). r || (counts && w)) (append_read append z.modes) (append_write append z.modes)) ∙ h)

@@ -19,9 +19,9 @@ use Rattle.hurd_ports.specs.declared.table.Right.{Right}
 use Rattle.hurd_ports.specs.declared.table.Right.TheVariants.{Io}
 use Rattle.hurd_ports.specs.Tables.{Task, fresh, ways_of}
 use Rattle.hurd_ports.specs.Steps.{new_open, with_port}
-use Rattle.hurd_machine.specs.World.{World, IsAmong, task_at, header_at}
-use Rattle.hurd_machine.specs.Sight.{HasUid, Taken, SeesBody}
-use Rattle.hurd_machine.specs.Change.{Change, EditBody, MakeOpen, Settle, apply, apply_all, changes_of, opening}
+use Rattle.hurd_machine.specs.World.{World, IsAmong, task_at, header_at, counts_at}
+use Rattle.hurd_machine.specs.Sight.{HasUid, Taken, SeesBody, tells}
+use Rattle.hurd_machine.specs.Change.{Change, EditBody, MakeOpen, Settle, apply, apply_all, changes_of, porting}
 use Rattle.hurd_machine.proofs.Rights.{port_rights}
 use Rattle.hurd_machine.proofs.Frame.{IsExact}
 use Rattle.hurd_machine.proofs.Confine.{NewTo, SeenOrNew, Less, less_same}
@@ -46,7 +46,7 @@ later_new S v t x k ours is up = (ours, λ b. let low : k < x.made = b x is in a
 
 -- a node is opened, of which S sees the body where it is opened to read
 pub opens_may : (S : ℕ → Bool) (v w : World) (t : ℕ) (x : Task) (n : Name) (ids : IdSets) (parents : List Pair) (modes : OpenFlags) → S t ≡ true → NewTo S v (fresh t x) → SeenOrNew S v n → ((m : Name) → IsAmong m (ways_of parents) → SeenOrNew S v m) → HasUid S v 0 ⊎ Taken S v ids
-    → (asks modes READ ≡ true → (h : Header) → header_at v n ≡ Some h → SeesBody S v n h) → AllMay S v w (opening t x n ids parents modes)
+    → (tells (counts_at v n) modes ≡ true → (h : Header) → header_at v n ≡ Some h → SeesBody S v n h) → AllMay S v w (porting t x n ids parents modes)
 opens_may S v w t x n ids parents modes ours new seen ways power reads = (ours, ((ours, λ a at. gained_may S v opened right a (with_port right a) refl (port_rights right a) (may, power)), tt))
   where
     io : IoRight
@@ -64,7 +64,7 @@ opens_may S v w t x n ids parents modes ours new seen ways power reads = (ours, 
       reads = λ o e asked h eh.
           let here : get (insert w.opens (fresh t x) (new_open modes)) (fresh t x) ≡ Some (new_open modes) = get_here w.opens (fresh t x) (new_open modes) in
           let same : new_open modes ≡ o = cc in
-          reads (ap (λ (z : Opened). asks z.modes READ) same ∙ asked) h eh;
+          reads (ap (λ (z : Opened). tells (counts_at v n) z.modes) same ∙ asked) h eh;
     }
 
 -- a server's edits of a node's bytes and size: they add no entry, empty no directory and open nothing

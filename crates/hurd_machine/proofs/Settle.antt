@@ -21,7 +21,7 @@ use Rattle.hurd_machine.specs.World.{World, IsAmong, world_from, nodes_of, ports
 use Rattle.hurd_machine.specs.Sight.{Holds, Seen, Root, Held, Way, Controlled, Pending, Child, Parent, Active, ServerRoot, Target, Knows, OfNode, OfSeat, OfControl}
 use Rattle.hurd_nodes.specs.Held.{is_home}
 use Rattle.hurd_machine.specs.Sight.{Part, AttrOf, EmptyOf, BodyOf, OpenOf, OptionsOf, UsersOf, TaskOf, Sees, part, IsGone, holders, users, AnEmpty, ABody, AnOpen, AnOptions, AUsers}
-use Rattle.hurd_machine.specs.Change.{Change, EditHeader, EditBody, MakeNode, EditOpen, MakeOpen, EditTask, Send, Attach, DropServer, Unseat, SetText, Settle, namings, outside, stays, server_stays, settle, apply, apply_all, opening}
+use Rattle.hurd_machine.specs.Change.{Change, EditHeader, EditBody, MakeNode, EditOpen, MakeOpen, EditTask, Send, Attach, DropServer, Unseat, SetText, Settle, namings, outside, stays, server_stays, settle, apply, apply_all, porting}
 use Rattle.hurd_machine.specs.Sound.{Coherent, Linked, AtRest}
 use Rattle.hurd_machine.proofs.Nodes.{attr_same, header_in, body_in, empty_in, none_mapped, edit_keeps, was_edited}
 use Rattle.hurd_machine.proofs.Tasks.{sent_keeps, edit_here as task_here}
@@ -359,7 +359,7 @@ module _ (w : World) (t : ℕ) (x : Task) (is : task_at w t ≡ Some x) (n : Nam
   old_names : NameMore w.tasks new_tasks
   old_names = still_more (still t (named 1) w.tasks (λ y q k. k)) (still t (with_port (new_right t n ids parents x)) (edit_task t (named 1) w.tasks) (port_keeps (new_right t n ids parents x)))
 
-  pub rests_opening : Rests w (opening t x n ids parents modes)
+  pub rests_opening : Rests w (porting t x n ids parents modes)
   rests_opening rest =
       let k = nodes_rest (EditTask t (with_port (new_right t n ids parents x))) (apply (MakeOpen (fresh t x) (new_open modes)) w) (port_keeps (new_right t n ids parents x))
       (nodes_rest (MakeOpen (fresh t x) (new_open modes)) w tt (nodes_of_rest rest)) in

@@ -1,20 +1,21 @@
 -- What a set of tasks sees is settled by the parts that it sees: where those are the same in two worlds, it sees the same
 -- parts in both.
-use Rattle.std.proofs.Common.{◌≡◌, ◌⊎◌, inl, inr, ℕ, Bool, true, Some, sym, refl, ◌∙◌, ap, length}
+use Rattle.std.proofs.Common.{◌≡◌, ◌⊎◌, inl, inr, ℕ, Bool, true, Some, sym, refl, ◌∙◌, ap, length, Option, None}
 use Rattle.hurd_creds.specs.declared.name.Name.{Name}
 use Rattle.hurd_creds.specs.declared.attrs.Want.{Want}
 use Rattle.hurd_creds.specs.declared.attrs.Want.TheVariants.{Read, Write, Exec}
 use Rattle.hurd_creds.specs.Access.{IdSets}
 use Rattle.hurd_trans_iface.specs.Nodes.{Header}
 use Rattle.hurd_trans_iface.specs.Answers.{entry_of}
-use Rattle.hurd_nodes.specs.Shown.{ServerInfo}
+use Rattle.hurd_nodes.specs.Shown.{ServerInfo, info_in}
 use Rattle.hurd_ports.specs.declared.table.IoRight.{IoRight}
 use Rattle.hurd_ports.specs.declared.table.Right.{Right}
 use Rattle.hurd_ports.specs.declared.table.Right.TheVariants.{Io, Control, Start}
-use Rattle.hurd_machine.specs.World.{World, task_at, open_at, header_at, body_at, home_at, active_at, server_at}
-use Rattle.hurd_machine.specs.Sight.{Holds, HasUid, UidOfTask, UidOfRight, HasGid, GidOfTask, GidOfRight, Taken, Could, Owns, Allowed, CouldServe}
+use Rattle.hurd_machine.specs.World.{World, task_at, open_at, header_at, body_at, home_at, active_at, server_at, counts_at}
+use Rattle.hurd_machine.specs.Sight.{Holds, HasUid, UidOfTask, UidOfRight, HasGid, GidOfTask, GidOfRight, Taken, Could, Owns, Allowed, CouldServe, ToPut, tells}
 use Rattle.hurd_machine.specs.Sight.{Seen, Root, Held, Way, Controlled, Pending, Child, Parent, Active, ServerRoot, Target, Sends, ByControl, ByNode, BySeat, Knows, OfNode, OfSeat, OfControl, SeesBody, ToRead, ToSearch, IsOpen, SeesEmpty, ByBody, ByParent}
 use Rattle.hurd_machine.specs.Sight.{Part, AttrOf, EmptyOf, BodyOf, OpenOf, OptionsOf, UsersOf, TaskOf, Sees, part, SameView}
+use Rattle.hurd_nodes.specs.Needs.{counts_by}
 
 -- a server that S may send away it knows
 pub knows_of : (S : ℕ → Bool) (w : World) (s : Name) (i : ServerInfo) → Sends S w s i → Knows S w s
@@ -103,17 +104,30 @@ module _ (S : ℕ → Bool) (v w : World) (tasks : SameTasks S v w) (equal : (p 
         | inr a ↦ let a' = active_moved sm sm' a in Target m s i sm' (inr a') (server_moved (OfSeat m sm a) (OfSeat m sm' a') es) aim
       ]
 
-  SeesBody-moved : (n : Name) (h : Header) → SeesBody S v n h → SeesBody S w n h
-  SeesBody-moved n h (ToRead c) = ToRead (could h Read c)
-  SeesBody-moved n h (ToSearch k c) = ToSearch k (could h Exec c)
-  SeesBody-moved n h (IsOpen r holds e o is modes) =
+  -- whether the server of a node that S sees counts who reads
+  counts_moved : (n : Name) → Seen S v n → Seen S w n → counts_at w n ≡ counts_at v n
+  counts_moved n s s' = let same = equal (AttrOf n) s s' in let home : home_at w n ≡ home_at v n = cc in ap (λ o. counts_by (info_in w.servers o)) home ∙ go (home_at v n) refl
+    where
+      go : (o : Option Name) → home_at v n ≡ o → counts_by (info_in w.servers o) ≡ counts_by (info_in v.servers o)
+      go None e = refl
+      go (Some q) e =
+          let known = OfNode n s e in
+          let same = equal (OptionsOf q) known (OfNode n s' (home_moved s s' e)) in
+          let server : server_at w q ≡ server_at v q = cc in
+          ap counts_by server
+
+  SeesBody-moved : (n : Name) (h : Header) → Seen S v n → SeesBody S v n h → SeesBody S w n h
+  SeesBody-moved n h s (ToRead c) = ToRead (could h Read c)
+  SeesBody-moved n h s (ToSearch k c) = ToSearch k (could h Exec c)
+  SeesBody-moved n h s (ToPut counts c) = ToPut (counts_moved n s (Seen-moved n s) ∙ counts) (could h Write c)
+  SeesBody-moved n h s (IsOpen r holds e o is modes) =
       let holds' = held (Io r) holds in
       let same = equal (OpenOf r.open_name) (r, holds, refl) (r, holds', refl) in
       let opened : open_at w r.open_name ≡ Some o = cc in
-      IsOpen r holds' e o opened modes
+      IsOpen r holds' e o opened (ap (λ (b : Bool). tells b o.modes) (counts_moved n s (Seen-moved n s)) ∙ modes)
 
   SeesEmpty-moved : (n : Name) (h : Header) → Seen S v n → header_at v n ≡ Some h → SeesEmpty S v n h → SeesEmpty S w n h
-  SeesEmpty-moved n h s eh (ByBody b) = ByBody (SeesBody-moved n h b)
+  SeesEmpty-moved n h s eh (ByBody b) = ByBody (SeesBody-moved n h s b)
   SeesEmpty-moved n h s eh (ByParent p x ep ex c) = let sp = Parent n h s eh ep in ByParent p x ep (header_moved sp (Seen-moved p sp) ex) (could x Write c)
 
   Knows-moved : (s : Name) → Knows S v s → Knows S w s
@@ -131,7 +145,7 @@ module _ (S : ℕ → Bool) (v w : World) (tasks : SameTasks S v w) (equal : (p 
   Sees-moved : (p : Part) → Sees S v p → Sees S w p
   Sees-moved (AttrOf n) s = Seen-moved n s
   Sees-moved (EmptyOf n) s = let s' = Seen-moved n s.0 in (s', s.1, header_moved s.0 s' s.2, s.3, SeesEmpty-moved n s.1 s.0 s.2 s.4)
-  Sees-moved (BodyOf n) s = let s' = Seen-moved n s.0 in (s', s.1, header_moved s.0 s' s.2, SeesBody-moved n s.1 s.3)
+  Sees-moved (BodyOf n) s = let s' = Seen-moved n s.0 in (s', s.1, header_moved s.0 s' s.2, SeesBody-moved n s.1 s.0 s.3)
   Sees-moved (OpenOf o) s = (s.0, held (Io s.0) s.1, s.2)
   Sees-moved (OptionsOf q) s = Knows-moved q s
   Sees-moved (UsersOf q) s =

@@ -1,22 +1,24 @@
 -- What a call changes, as data.
-use Rattle.std.specs.Prelude.{ℕ, Bool, List, [], ◌∷◌, Option, Some, None}
-use Rattle.std.specs.FinMap.{insert, retain_keys}
+use Rattle.std.specs.Prelude.{ℕ, ◌==◌, Bool, if◌then◌else◌, List, [], ◌∷◌, ◌++◌, Option, Some, None}
+use Rattle.std.specs.Option.{option_map}
+use Rattle.std.specs.FinMap.{get, insert, retain_keys}
 use Rattle.hurd_creds.specs.declared.name.Name.{Name}
 use Rattle.hurd_creds.specs.declared.open_flags.OpenFlags.{OpenFlags}
 use Rattle.hurd_creds.specs.Access.{IdSets}
 use Rattle.hurd_creds.specs.NameMaps.{NameMap, edit}
-use Rattle.hurd_trans_iface.specs.Nodes.{NodeMap, Node, Header, Body, Edit, OnHeader, OnBody, AddNode, with_header, with_body}
+use Rattle.hurd_trans_iface.specs.Nodes.{NodeMap, Node, Header, Body, Edit, OnHeader, OnBody, AddNode, counting, opened_by, closed_by, with_header, with_body}
 use Rattle.hurd_trans_iface.specs.Meaning.{size_of}
 use Rattle.hurd_ports.specs.declared.table.Opened.{Opened}
 use Rattle.hurd_ports.specs.declared.table.PendingStart.{PendingStart}
 use Rattle.hurd_ports.specs.declared.parents.Parent.{Parent}
 use Rattle.hurd_ports.specs.declared.table.Right.{Right}
+use Rattle.hurd_ports.specs.declared.table.Right.TheVariants.{Io, Control, Start}
 use Rattle.hurd_nodes.specs.Settle as kept
 use Rattle.hurd_nodes.specs.Settle.{Outside}
 use Rattle.hurd_nodes.specs.Shown.{NodeState, ServerInfo, attached, out_server, own_nodes, sizing, unseated, with_text}
-use Rattle.hurd_ports.specs.Tables.{Task, OpenMap, fresh, is_held, is_named, is_controlled}
+use Rattle.hurd_ports.specs.Tables.{Task, OpenMap, count_rights, fresh, names_open, is_held, is_named, is_controlled}
 use Rattle.hurd_ports.specs.Steps.{named, edit_task, with_pending, with_port, without_port, with_sent, new_open, new_right}
-use Rattle.hurd_machine.specs.World.{World, world_from, nodes_of, ports_of}
+use Rattle.hurd_machine.specs.World.{World, counts_at, world_from, nodes_of, ports_of}
 
 pub data Change : Type 0 where
   -- of a node
@@ -122,13 +124,31 @@ abbrev pub retexting : World → Name → ServerInfo → Option (List ℕ) → L
 retexting w s i None = []
 retexting w s i (Some text) = SetText s text ∷ changes_of (sizing (size_of i.kind text) (own_nodes s w.homes))
 
--- task t, which stands as x, opens a node: a new open, and a port with it
-abbrev pub opening : ℕ → Task → Name → IdSets → List Parent → OpenFlags → List Change
-opening t x n ids parents modes = MakeOpen (fresh t x) (new_open modes) ∷ EditTask t (with_port (new_right t n ids parents x)) ∷ []
+-- a new open of a node, and a port of task t with it, which stands as x
+abbrev pub porting : ℕ → Task → Name → IdSets → List Parent → OpenFlags → List Change
+porting t x n ids parents modes = MakeOpen (fresh t x) (new_open modes) ∷ EditTask t (with_port (new_right t n ids parents x)) ∷ []
 
--- task t gives up a port
-abbrev pub dropping : ℕ → ℕ → List Change
-dropping t p = EditTask t (without_port p) ∷ Settle ∷ []
+-- how often a node is open changes, where its server counts that
+abbrev pub counted : World → Name → (Header → Header) → List Change
+counted w n f = changes_of (counting (counts_at w n) n f)
+
+-- task t, which stands as x, opens a node
+abbrev pub opening : World → ℕ → Task → Name → IdSets → List Parent → OpenFlags → List Change
+opening w t x n ids parents modes = porting t x n ids parents modes ++ counted w n (opened_by modes)
+
+-- the open that goes with this right, whose only one it is: its node and its modes
+abbrev pub closes : World → Right → Option (Name × OpenFlags)
+closes w (Io r) = if count_rights (names_open r.open_name) w.tasks == 1 then option_map (λ o. (r.node, o.modes)) (get w.opens r.open_name) else None
+closes w (Control s) = None
+closes w (Start n) = None
+
+abbrev pub closing : World → Option (Name × OpenFlags) → List Change
+closing w None = []
+closing w (Some e) = counted w e.0 (closed_by e.1)
+
+-- task t gives up a port, which has this right
+abbrev pub dropping : World → ℕ → ℕ → Right → List Change
+dropping w t p r = EditTask t (without_port p) ∷ (closing w (closes w r) ++ Settle ∷ [])
 
 -- task t is to start this from now on, or nothing
 abbrev pub pending : ℕ → Option PendingStart → List Change

@@ -1,13 +1,14 @@
 -- Whom a set of tasks may act for, which nodes it sees, and which parts of a world.
-use Rattle.std.specs.Prelude.{◌≡◌, ◌≢◌, ◌⊎◌, ◌↔◌, ℕ, Bool, true, false, List, Option, Some, None, length}
+use Rattle.std.specs.Prelude.{◌≡◌, ◌≢◌, ◌⊎◌, ◌↔◌, ◌&&◌, ◌||◌, ℕ, Bool, true, false, List, Option, Some, None, length}
 use Rattle.std.specs.Option.{option_map}
 use Rattle.hurd_creds.specs.declared.name.Name.{Name}
 use Rattle.hurd_creds.specs.declared.attrs.Kind.TheVariants.{Dir}
 use Rattle.hurd_creds.specs.declared.attrs.Want.{Want}
 use Rattle.hurd_creds.specs.declared.attrs.Want.TheVariants.{Read, Write, Exec}
 use Rattle.hurd_creds.specs.declared.attrs.Attrs.{Attrs}
+use Rattle.hurd_creds.specs.declared.open_flags.OpenFlags.{OpenFlags}
 use Rattle.hurd_creds.specs.Access.{IdSets, holds_uid, holds_gid, may}
-use Rattle.hurd_creds.specs.Bits.{asks, READ}
+use Rattle.hurd_creds.specs.Bits.{asks, READ, WRITE}
 use Rattle.hurd_trans_iface.specs.Nodes.{Header, Body, attrs_with, is_empty_dir}
 use Rattle.hurd_trans_iface.specs.Answers.{entry_of}
 use Rattle.hurd_nodes.specs.Held.{is_home}
@@ -18,7 +19,7 @@ use Rattle.hurd_ports.specs.declared.table.IoRight.{IoRight}
 use Rattle.hurd_ports.specs.declared.table.Right.{Right}
 use Rattle.hurd_ports.specs.declared.table.Right.TheVariants.{Io, Control, Start}
 use Rattle.hurd_ports.specs.Tables.{Task, rights_of, count_rights, names_open}
-use Rattle.hurd_machine.specs.World.{World, IsAmong, boot_root, task_at, open_at, header_at, body_at, home_at, active_at, server_at}
+use Rattle.hurd_machine.specs.World.{World, IsAmong, boot_root, task_at, open_at, header_at, body_at, home_at, active_at, counts_at, server_at}
 
 -- a node's attributes as far as its header says them
 abbrev pub bare : Header → Attrs
@@ -117,11 +118,17 @@ pub data Part : Type 0 where
   UsersOf : Name → Part  -- how many rights there are on a server's nodes
   TaskOf : ℕ → Part  -- a task
 
+-- whether an open with these modes tells what is in a node, whose server counts who reads and who writes or doesn't
+abbrev pub tells : Bool → OpenFlags → Bool
+tells counts modes = asks modes READ || (counts && asks modes WRITE)
+
 -- why S sees a body
 pub data SeesBody (S : ℕ → Bool) (w : World) (n : Name) (h : Header) : Type 0 where
   ToRead : Could S w h Read → SeesBody S w n h
   ToSearch : h.kind ≡ Dir → Could S w h Exec → SeesBody S w n h
-  IsOpen : (r : IoRight) → Holds S w (Io r) → n ≡ r.node → (o : Opened) → open_at w r.open_name ≡ Some o → asks o.modes READ ≡ true
+  -- what a fifo takes tells what is in it
+  ToPut : counts_at w n ≡ true → Could S w h Write → SeesBody S w n h
+  IsOpen : (r : IoRight) → Holds S w (Io r) → n ≡ r.node → (o : Opened) → open_at w r.open_name ≡ Some o → tells (counts_at w n) o.modes ≡ true
       → SeesBody S w n h
 
 -- why S sees whether a directory is empty: it sees the entries, or could write the parent

@@ -1,11 +1,11 @@
 -- How the parts that a call touches are said.
-use Rattle.std.specs.Prelude.{◌≡◌, ◌⊎◌, Option, Some, None, Result, Ok, Err}
+use Rattle.std.specs.Prelude.{◌≡◌, ◌⊎◌, true, Option, Some, None, Result, Ok, Err}
 use Rattle.hurd_creds.specs.declared.name.Name.{Name}
 use Rattle.hurd_creds.specs.declared.errno.Errno.{Errno}
 use Rattle.hurd_trans_iface.specs.Behaviour.{Did}
 use Rattle.hurd_ports.specs.declared.table.Right.{Right}
 use Rattle.hurd_ports.specs.declared.table.Right.TheVariants.{Io, Control, Start}
-use Rattle.hurd_machine.specs.World.{World, home_at, active_at}
+use Rattle.hurd_machine.specs.World.{World, home_at, active_at, counts_at}
 use Rattle.hurd_machine.specs.Sight.{Part, AttrOf, EmptyOf, BodyOf, OpenOf, OptionsOf, UsersOf}
 
 -- the parts that follow from what a call asks; a refused call touches none
@@ -26,6 +26,19 @@ abbrev pub OnRight : World → Right → Part → Type 0
 OnRight w (Io r) p = (p ≡ OpenOf r.open_name) ⊎ OnNode w r.node p
 OnRight w (Control s) p = ⊥
 OnRight w (Start n) p = ⊥
+
+-- how often a node is open, where its server counts that
+abbrev pub OnCount : World → Name → Part → Type 0
+OnCount w n p = (counts_at w n ≡ true) × (p ≡ AttrOf n)
+
+-- a node is opened
+abbrev pub OnOpen : World → Name → Part → Type 0
+OnOpen w n p = OnNode w n p ⊎ OnCount w n p
+
+-- a right goes, and with it maybe its open
+abbrev pub OnDrop : World → Right → Part → Type 0
+OnDrop w (Io r) p = OnRight w (Io r) p ⊎ OnCount w r.node p
+OnDrop w q p = OnRight w q p
 
 -- a server goes with its nodes, and leaves its seat
 abbrev pub Goes : World → Name → Part → Type 0

@@ -10,7 +10,7 @@ use Rattle.hurd_creds.specs.NameMaps.{NameMap}
 use Rattle.hurd_creds.specs.Names.{same_name}
 use Rattle.hurd_trans_iface.specs.Nodes.{NodeMap, Node, Entry, Header, Body, Content, Listing}
 use Rattle.hurd_trans_iface.specs.Behaviour.{Question, Effect}
-use Rattle.hurd_nodes.specs.Needs.{streams_by}
+use Rattle.hurd_nodes.specs.Needs.{counts_by, streams_by}
 use Rattle.hurd_nodes.specs.Shown.{NodeState, ServerInfo, boot_name, is_root, server_of, effect_at, readable_at as readable_of, can_make, can_link, can_unlink, can_rename, can_set_attrs}
 use Rattle.hurd_ports.specs.declared.table.Opened.{Opened}
 use Rattle.hurd_ports.specs.Tables.{PortState, OpenMap, Task}
@@ -109,6 +109,10 @@ readable_at w n at = count_in (readable_of n at (nodes_of w))
 -- whether a node's server is there, and a stream
 abbrev pub stream_at : World → Name → Bool
 stream_at w n = streams_by (info_at w n)
+
+-- whether a node's server is there, and counts who reads and who writes
+abbrev pub counts_at : World → Name → Bool
+counts_at w n = counts_by (info_at w n)
 
 -- whether a node of a kind may be made in a directory, under a name or without an entry
 abbrev pub makes_at : World → Name → Option (List ℕ) → Kind → Result (Unit {0}) Errno

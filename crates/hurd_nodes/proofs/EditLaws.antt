@@ -1,5 +1,5 @@
 -- What is shown after a call that a server answers, and that changes nodes of its own.
-use Rattle.std.proofs.Common.{◌≡◌, ℕ, Bool, true, false, if◌then◌else◌, not, List, [], ◌∷◌, refl, sym, ◌∙◌}
+use Rattle.std.proofs.Common.{◌≡◌, ℕ, Bool, true, false, if◌then◌else◌, not, List, [], ◌∷◌, refl, sym, ap, ◌∙◌}
 use Rattle.std.specs.Prelude.{Option, Some, None, Result, Ok, Err}
 use Rattle.std.specs.FinMap as fin
 use Rattle.hurd_creds.specs.declared.name.Name.{Name}
@@ -7,13 +7,14 @@ use Rattle.hurd_creds.specs.declared.errno.Errno.{Errno}
 use Rattle.hurd_creds.specs.declared.errno.Errno.TheVariants.{EXDEV, ENOTDIR, EROFS}
 use Rattle.hurd_creds.specs.NameMaps.{NameMap}
 use Rattle.hurd_creds.specs.Memory.{Steps}
-use Rattle.hurd_trans_iface.specs.Nodes.{Header, Node, OnHeader, body_of, is_dir}
+use Rattle.hurd_trans_iface.specs.Nodes.{Header, Node, OnHeader, body_of, counting, is_dir}
 use Rattle.hurd_trans_iface.specs.Answers.{entry_of, link_in, link_of, link_edits, unlink_of, unlink_edits, rename_of, rename_edits, set_header_of, edits_if}
-use Rattle.hurd_trans_iface.specs.Meaning.{Meaning, keeps_tree, edited, link_step, rename_step, unlink_step}
+use Rattle.hurd_trans_iface.specs.Meaning.{Meaning, counts_opens, keeps_tree, edited, link_step, rename_step, unlink_step}
 use Rattle.hurd_nodes.specs.Held.{Held, Seated, box_by, mean, with_server_of}
-use Rattle.hurd_nodes.specs.Shown.{NodeState, shown, nodes_of, with_edits, are_kin, can_link, can_set_attrs, link_at, unlink_at, unlink_edits_at, can_rename, rename_at, rename_edits_at, server_of, tree_by}
+use Rattle.hurd_nodes.specs.Shown.{NodeState, shown, nodes_of, own_edits, with_edits, are_kin, can_link, can_set_attrs, link_at, unlink_at, unlink_edits_at, can_rename, rename_at, rename_edits_at, server_of, tree_by}
+use Rattle.hurd_nodes.specs.Needs.{counts_by}
 use Rattle.hurd_nodes.proofs.StepLaws.{own-if, steps-shown, sure-shown}
-use Rattle.hurd_nodes.proofs.ShownLaws.{body-told, kin-home, node-told, own-all, seen, server-told}
+use Rattle.hurd_nodes.proofs.ShownLaws.{body-told, kin-home, node-told, own-all, seen, server-told, server-untold}
 
 -- what the header of a node says
 
@@ -34,6 +35,31 @@ set_header-shown f t n k a w got box =
     let edits = OnHeader n k ∷ [] in
     sure-shown f t n a w box answer (edits_if answer edits) (edits_if answer edits) (λ s home. own-if answer (Some s) t.homes edits edits (own-all s t.homes edits (home, tt))) _
     (rw (can_set_attrs-told t.homes (mean f t.seats) n (f a) box) refl) got
+
+-- how often a node is open, where its server counts that
+
+pub counted-own : (counts : Bool) (s n : Name) (homes : NameMap Name) (k : Header → Header) → fin.get homes n ≡ Some s → own_edits (Some s) homes (counting counts n k) ≡ counting counts n k
+counted-own true s n homes k home = own-all s homes (OnHeader n k ∷ []) (home, tt)
+counted-own false s n homes k home = refl
+
+-- a box that was lent counts, or doesn't
+pub counted-shown : {S : Type 0} (f : S → Meaning) (t : Held S) (n : Name) (k : Header → Header) (a w : S) → Some (f a) ≡ box_by (mean f t.seats) (fin.get t.homes n)
+    → f w ≡ edited (counting (counts_opens (f a).kind) n k) (f a) → shown f (with_server_of t n w) ≡ with_edits (counting (counts_by (server_of (shown f t) n)) n k) (shown f t)
+counted-shown f t n k a w box is =
+    let i = server-told t.homes (mean f t.seats) n (f a) box in
+    let counts = counts_opens (f a).kind in
+    let es = counting counts n k in
+    let told : counts_by (server_of (shown f t) n) ≡ counts = rw (i.1, i.2) refl in
+    let done : Result (Unit {0}) Errno = Ok tt in
+    let wanted : Result (Unit {0}) Errno × NodeState = (done, with_edits (counting (counts_by (server_of (shown f t) n)) n k) (shown f t)) in
+    ap (λ (z : Result (Unit {0}) Errno × NodeState). z.1)
+    (sure-shown f t n a w box done es es (λ s home. counted-own counts s n t.homes k home) wanted (rw told refl) done
+    (ap (λ (m : Meaning). let z : Result (Unit {0}) Errno × Meaning = (done, m) in z) is))
+
+-- no box serves the node, so none counts
+pub uncounted : {S : Type 0} (f : S → Meaning) (t : Held S) (n : Name) (k : Header → Header) → None ≡ box_by (mean f t.seats) (fin.get t.homes n)
+    → shown f t ≡ with_edits (counting (counts_by (server_of (shown f t) n)) n k) (shown f t)
+uncounted f t n k box = let none : counts_by (server_of (shown f t) n) ≡ false = rw (server-untold t.homes (mean f t.seats) n box) refl in rw none refl
 
 -- a directory passes the first two tests of an entry's change
 pub passes_dir : (is_dir keeps : Bool) (r : Result (Unit {0}) Errno) (u : Unit {0}) → (if not is_dir then Err ENOTDIR else if not keeps then Err EROFS else r) ≡ Ok u → r ≡ Ok u

@@ -9,10 +9,10 @@ use Rattle.hurd_creds.specs.Memory.{Steps, lacks_memory}
 use Rattle.hurd_creds.specs.NameMaps.{NameMap, edit}
 use Rattle.hurd_creds.proofs.NameLaws.{same_or_apart, get_here, get_apart, edit_here, edit_apart}
 use Rattle.hurd_trans_iface.specs.declared.new_node.NewNode.{NewNode}
-use Rattle.hurd_trans_iface.specs.Nodes.{AddNode, Edit, Node, NodeMap, OnBody, OnHeader, edit_all, with_body, with_header}
+use Rattle.hurd_trans_iface.specs.Nodes.{AddNode, Edit, Header, Node, NodeMap, OnBody, OnHeader, counting, edit_all, with_body, with_header}
 use Rattle.hurd_trans_iface.specs.Answers.{added, edits_if, entering, is_one, make_of, made_node, move_edits, rename_edits, unlink_edits}
 use Rattle.hurd_trans_iface.specs.Behaviour.{Effect, Question, effect_on, edit_bytes, edit_size, edits_of}
-use Rattle.hurd_trans_iface.specs.Meaning.{Meaning, behaviour_of, edited, make_step, keeps_tree, step_of}
+use Rattle.hurd_trans_iface.specs.Meaning.{Meaning, counts_opens, behaviour_of, edited, make_step, keeps_tree, step_of}
 use Rattle.hurd_nodes.specs.Held.{Held, Seated, box_by, mean, with_box, with_server_of}
 use Rattle.hurd_nodes.specs.Shown.{HideNothing}
 use Rattle.hurd_nodes.proofs.SeatLaws.{lent}
@@ -108,6 +108,10 @@ module _ (homes : NameMap Name) (seats : NameMap (Seated Meaning)) (tells : Tell
         get_apart homes n s q (λ node. let none : None ≡ Some p = sym new ∙ rw node at home in absurd (cc)) ∙ home
   ]
 
+counted-adds_none : (counts : Bool) (n : Name) (k : Header → Header) → adds_none (counting counts n k) ≡ true
+counted-adds_none true n k = refl
+counted-adds_none false n k = refl
+
 -- a box that was lent, answered, and edited nodes that are there
 module _ {S : Type 0} (f : S → Meaning) (t : Held S) (n : Name) (a w : S) (box : Some (f a) ≡ box_by (mean f t.seats) (fin.get t.homes n)) where
   hides-kept : (es : List Edit) → adds_none es ≡ true → (short : Bool) → f w ≡ cond short (f a) (edited es (f a)) → HideNothing f t → HideNothing f (with_server_of t n w)
@@ -126,6 +130,10 @@ module _ {S : Type 0} (f : S → Meaning) (t : Held S) (n : Name) (a w : S) (box
   pub hides-sure : (answer : Result (Unit {0}) Errno) (es : List Edit) → adds_none es ≡ true → (got : Result (Unit {0}) Errno)
       → ◌≡◌ {A = Result (Unit {0}) Errno × Meaning} (got, f w) (answer, edited (edits_if answer es) (f a)) → HideNothing f t → HideNothing f (with_server_of t n w)
   hides-sure answer es only got steps = hides-kept (edits_if answer es) (if-adds_none answer es only) false (ap (λ (z : Result (Unit {0}) Errno × Meaning). z.1) steps)
+
+  -- and where the server counts who reads and who writes, or doesn't
+  pub hides-counted : (k : Header → Header) → f w ≡ edited (counting (counts_opens (f a).kind) n k) (f a) → HideNothing f t → HideNothing f (with_server_of t n w)
+  hides-counted k = hides-kept (counting (counts_opens (f a).kind) n k) (counted-adds_none (counts_opens (f a).kind) n k) false
 
   -- and where a question was asked
   pub hides-asked : {T : Type 0} (q : Question T) (got : Result T Errno) → Steps (f a) (step_of q n (f a)) got (f w) → HideNothing f t → HideNothing f (with_server_of t n w)

@@ -44,7 +44,7 @@ pub record NodeState : Type 0 where
 
 -- the header that attributes tell, which is all of it but for the words of a passive translator
 abbrev pub header_in : Attrs → Header
-header_in a = record { kind = a.kind; owner = a.owner; group = a.group; mode = a.mode; links = a.links; size = a.size; parent = a.parent; passive = [] }
+header_in a = record { kind = a.kind; owner = a.owner; group = a.group; mode = a.mode; links = a.links; size = a.size; readers = a.readers; writers = a.writers; parent = a.parent; passive = [] }
 
 -- what attributes tell of a header
 abbrev pub told_header : Header → Header

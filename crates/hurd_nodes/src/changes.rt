@@ -2,14 +2,15 @@
 ghost use Rattle.std.specs.Prelude.{◌≡◌, [], None, option_copied};
 ghost use Rattle.std.specs.FinMap as fin;
 ghost use Rattle.hurd_creds.specs.Memory.{Steps};
+ghost use Rattle.hurd_trans_iface.specs.Nodes.{counting, opened_by, closed_by};
 ghost use Rattle.hurd_trans_iface.specs.Behaviour.{reading, writing, resizing};
-ghost use Rattle.hurd_nodes.specs.Shown.{shown, asked_step, make_at, link_at, set_attrs_at, set_passive_at, set_options_at, HideNothing, unlink_at, rename_at};
-ghost use Rattle.hurd_nodes.specs.Needs.{FreeRead, FreeSize, FreeWrite};
+ghost use Rattle.hurd_nodes.specs.Shown.{shown, asked_step, make_at, link_at, set_attrs_at, set_passive_at, set_options_at, server_of, with_edits, HideNothing, unlink_at, rename_at};
+ghost use Rattle.hurd_nodes.specs.Needs.{FreeRead, FreeSize, FreeWrite, counts_by};
 
 use crate::asking::can_make_in;
 use crate::nodes::Nodes;
 use crate::search::{place_of_seat, place_of_server, put_kin};
-use hurd_creds::{Bytes, Errno, Mode, NodeName, ServerName};
+use hurd_creds::{Bytes, Errno, Mode, NodeName, OpenFlags, ServerName};
 use hurd_trans_iface::{NewNode, Server, Words};
 use std::alloc::Global;
 
@@ -183,6 +184,29 @@ impl<S: Server> Nodes<S> {
             None => Err(Errno::EDIED),
         }
     }
+
+    /// A node is opened with these modes: its server counts that, if it counts who reads and who writes. Takes no memory.
+    pub fn opened(&mut self, node: NodeName, modes: OpenFlags)
+        ensures shown { let h = shown S.meaning self.old in
+            shown S.meaning self.new ≡ with_edits (counting (counts_by (server_of h node)) node (opened_by modes)) h }
+        ensures hidden { HideNothing S.meaning self.old → HideNothing S.meaning self.new }
+    {
+        if let Some(server) = self.server_of_mut(node) {
+            server.opened(node, modes);
+        }
+    }
+
+    /// An open of a node is gone, which had these modes: its server counts that, if it counts who reads and who writes. Takes no memory.
+    pub fn closed(&mut self, node: NodeName, modes: OpenFlags)
+        ensures shown { let h = shown S.meaning self.old in
+            shown S.meaning self.new ≡ with_edits (counting (counts_by (server_of h node)) node (closed_by modes)) h }
+        ensures hidden { HideNothing S.meaning self.old → HideNothing S.meaning self.new }
+    {
+        if let Some(server) = self.server_of_mut(node) {
+            server.closed(node, modes);
+        }
+    }
+
     /// Gives a server other options in place of those that it has; without words nothing changes, and no memory is taken.
     ///
     /// Errors, in order: `EDIED` no such server, `EINVAL` words that it doesn't take, `ENOMEM`.

@@ -7,6 +7,7 @@ ghost use Rattle.hurd_trans_iface.specs.Nodes.{attrs_of, header_of, body_of, con
 ghost use Rattle.hurd_trans_iface.specs.Answers.{entry_of, names_of};
 ghost use Rattle.hurd_nodes.specs.Shown.{ServerInfo, server_of, shown, state_of, header_in, told_header, booted, is_root, are_kin, options_in, readable_at, tree_by, HideNothing};
 ghost use Rattle.hurd_trans_iface.specs.Meaning.{Begins, root_of};
+ghost use Rattle.hurd_nodes.specs.Needs.{counts_by};
 ghost use Rattle.hurd_nodes.specs.Held.{box_by, mean};
 
 use crate::asking::has_tree;
@@ -252,6 +253,16 @@ impl<S: Server> Nodes<S> {
         match self.server_of(node) {
             Some(server) => Some(server.root()),
             None => None,
+        }
+    }
+
+    /// Whether a node's server is there, and counts who reads and who writes each of its nodes. Takes no memory.
+    pub fn counts(&self, node: NodeName) -> bool
+        ensures { result ≡ counts_by (server_of (shown S.meaning self.now) node) }
+    {
+        match self.server_of(node) {
+            Some(server) => server.counts(),
+            None => false,
         }
     }
 

@@ -10,15 +10,15 @@ use Rattle.hurd_machine.specs.World.{World, ports_of}
 use Rattle.hurd_machine.specs.Change.{EditTask, Send, dropping}
 use Rattle.hurd_machine.specs.Plan.{Plan, given, first, answered}
 use Rattle.hurd_machine.specs.Sight.{Part, TaskOf}
-use Rattle.hurd_machine.specs.Touched.{asked_parts, Nothing, OnRight}
+use Rattle.hurd_machine.specs.Touched.{asked_parts, Nothing, OnRight, OnDrop}
 use Rattle.hurd_core.specs.Core.{send_asks, receive_asks}
 
--- port_deallocate: the right goes
+-- port_deallocate: the right goes, and its open where no other right names that
 abbrev pub plan_deallocate : World → ℕ → ℕ → Plan
-plan_deallocate w t p = answered (right_of (ports_of w) t p) (λ r. record { reply = Done; changes = dropping t p })
+plan_deallocate w t p = answered (right_of (ports_of w) t p) (λ r. record { reply = Done; changes = dropping w t p r })
 
 abbrev pub touches_deallocate : World → ℕ → ℕ → Part → Type 0
-touches_deallocate w t p = asked_parts (right_of (ports_of w) t p) (λ r. OnRight w r)
+touches_deallocate w t p = asked_parts (right_of (ports_of w) t p) (λ r. OnDrop w r)
 
 -- port_send: a copy of the right, last in the inbox of task q
 abbrev pub plan_send : World → ℕ → ℕ → ℕ → Plan

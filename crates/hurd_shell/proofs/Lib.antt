@@ -1,6 +1,5 @@
 pub mod ProgramLaws
 pub mod LookLaws
-pub mod PlaceLaws
 pub mod CommandLaws
 pub mod SoundLaws
 pub mod AnswerLaws

@@ -170,10 +170,7 @@ fn own_port(digits: &[u8]) -> Option<u64>
     if digits.len() > MOST_DIGITS {
         return None;
     }
-    match str::from_utf8(digits) {
-        Ok(digits) => long_number(digits),
-        Err(_) => None,
-    }
+    long_number(digits)
 }
 
 /// The port of the task's own that stands behind `fd/`, and what is opened at it.

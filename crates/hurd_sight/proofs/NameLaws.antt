@@ -1,11 +1,12 @@
 -- Names that are added, one thing after another.
 use Rattle.std.proofs.Common.{◌≡◌, ◌∙◌, ◌⊎◌, inl, inr, sym, refl, ap, subst, true, false, true≢false, List, [], ◌∷◌, ◌++◌, map}
-use Rattle.std.specs.Prelude.{◌||◌, ◌↔◌, Option, Some, None, Result, Ok, Err, OnOk}
+use Rattle.std.specs.Prelude.{◌||◌, ◌↔◌, Option, Some, None}
 use Rattle.std.specs.List.{flat_map}
 use Rattle.std.proofs.lemmas.Bool.{or_cases, or_left, or_right, cases_Bool}
 use Rattle.std.proofs.lemmas.List.{map-append}
 use Rattle.std.proofs.lemmas.List.Folds.{list_any-append}
 use Rattle.hurd_creds.specs.declared.name.Name.{Name}
+use Rattle.hurd_creds.specs.Bits.{READ, WRITE}
 use Rattle.hurd_creds.specs.Names.{same_name}
 use Rattle.hurd_creds.proofs.NameLaws.{equal_if_same, same_name-itself}
 use Rattle.hurd_ports.specs.declared.table.IoRight.{IoRight}
@@ -16,7 +17,7 @@ use Rattle.hurd_ports.specs.declared.table.Right.TheVariants.{Io}
 use Rattle.hurd_ports.specs.Tables.{OpenMap, Task, rights_of, start_of}
 use Rattle.hurd_machine.specs.World.{IsAmong}
 use Rattle.hurd_sight.specs.declared.held.RightNames.{RightNames}
-use Rattle.hurd_sight.specs.Parts.{control_of, is_in, named, named_more, no_names, open_of, read_of, reads, with_right, with_rights}
+use Rattle.hurd_sight.specs.Parts.{control_of, is_in, named, named_more, no_names, node_for, open_of, with_right, with_rights}
 use Rattle.hurd_sight.proofs.WalkLaws.{Walk}
 use Rattle.std.proofs.Math.Bool.{or-false}
 
@@ -97,9 +98,13 @@ pub opens_with : (opens : OpenMap) (qs : List Right) (v : RightNames) → (with_
 opens_with opens [] v = refl
 opens_with opens (q ∷ qs) v = opens_with opens qs (with_right opens q v) ∙ sym (named-append (open_of q) (flat_map open_of qs) v.opens)
 
-pub reads_with : (opens : OpenMap) (qs : List Right) (v : RightNames) → (with_rights opens qs v).readable ≡ named (flat_map (read_of opens) qs) v.readable
+pub reads_with : (opens : OpenMap) (qs : List Right) (v : RightNames) → (with_rights opens qs v).readable ≡ named (flat_map (node_for READ opens) qs) v.readable
 reads_with opens [] v = refl
-reads_with opens (q ∷ qs) v = reads_with opens qs (with_right opens q v) ∙ sym (named-append (read_of opens q) (flat_map (read_of opens) qs) v.readable)
+reads_with opens (q ∷ qs) v = reads_with opens qs (with_right opens q v) ∙ sym (named-append (node_for READ opens q) (flat_map (node_for READ opens) qs) v.readable)
+
+pub writes_with : (opens : OpenMap) (qs : List Right) (v : RightNames) → (with_rights opens qs v).writable ≡ named (flat_map (node_for WRITE opens) qs) v.writable
+writes_with opens [] v = refl
+writes_with opens (q ∷ qs) v = writes_with opens qs (with_right opens q v) ∙ sym (named-append (node_for WRITE opens q) (flat_map (node_for WRITE opens) qs) v.writable)
 
 pub controls_with : (opens : OpenMap) (qs : List Right) (v : RightNames) → (with_rights opens qs v).controlled ≡ named (flat_map control_of qs) v.controlled
 controls_with opens [] v = refl
@@ -118,16 +123,12 @@ seat_rights opens x a ports sent =
 
 -- one right by itself
 
-pub io_right : (opens : OpenMap) (r : IoRight) (q : Right) (a : RightNames) (b : Names) (c : RightNames) → q ≡ Io r → b ≡ named_more r.open_name a.opens
-    → c.readable ≡ named (read_of opens (Io r)) a.readable → c.opens ≡ b → c.controlled ≡ a.controlled → c ≡ with_right opens q a
-io_right opens r q a b c is opened read kept still =
-    (λ i. record { opens = (kept ∙ opened) i; readable = read i; controlled = still i }) ∙ ap (λ (z : Right). with_right opens z a) (sym is)
-
--- both that are said of a success
-pub ok_both : {T E : Type 0} (r : Result T E) (P Q : Type 0) → OnOk r P → OnOk r Q → OnOk r (P × Q)
-ok_both (Ok x) P Q p q = (p, q)
-ok_both (Err e) P Q p q = tt
+pub io_right : (opens : OpenMap) (r : IoRight) (q : Right) (a : RightNames) {os rs ws : Names} → q ≡ Io r → os ≡ named_more r.open_name a.opens
+    → rs ≡ named (node_for READ opens (Io r)) a.readable → ws ≡ named (node_for WRITE opens (Io r)) a.writable
+    → record { opens = os; readable = rs; writable = ws; controlled = a.controlled } ≡ with_right opens q a
+io_right opens r q a is opened read written =
+    (λ i. record { opens = opened i; readable = read i; writable = written i; controlled = a.controlled }) ∙ ap (λ (z : Right). with_right opens z a) (sym is)
 
 -- no names at first
-pub all_empty : {a : RightNames} → a.opens ≡ [] → a.readable ≡ [] → a.controlled ≡ [] → a ≡ no_names
-all_empty opens reads controls = λ i. record { opens = opens i; readable = reads i; controlled = controls i }
+pub all_empty : {a : RightNames} → a.opens ≡ [] → a.readable ≡ [] → a.writable ≡ [] → a.controlled ≡ [] → a ≡ no_names
+all_empty opens reads writes controls = λ i. record { opens = opens i; readable = reads i; writable = writes i; controlled = controls i }

@@ -10,30 +10,31 @@ use Rattle.hurd_creds.specs.declared.name.TaskId.{TaskId}
 use Rattle.hurd_creds.specs.declared.attrs.Want.{Want}
 use Rattle.hurd_creds.specs.declared.attrs.Want.TheVariants.{Read, Write, Exec}
 use Rattle.hurd_creds.specs.Access.{IdSets, owns}
-use Rattle.hurd_creds.specs.Bits.{asks, READ}
+use Rattle.hurd_creds.specs.Bits.{asks, READ, WRITE}
 use Rattle.hurd_creds.specs.Names.{same_name}
 use Rattle.hurd_creds.proofs.NameLaws.{equal_if_same, same_name-itself, apart_if_not_same, same_name-apart}
 use Rattle.hurd_trans_iface.specs.Nodes.{Header, header_of, is_dir}
 use Rattle.hurd_nodes.specs.Shown.{ServerInfo, boot_name}
 use Rattle.hurd_ports.specs.declared.table.Opened.{Opened}
+use Rattle.hurd_ports.specs.declared.table.IoRight.{IoRight}
 use Rattle.hurd_ports.specs.Tables.{Task}
 use Rattle.hurd_ports.specs.declared.table.Right.{Right}
 use Rattle.hurd_ports.specs.declared.table.Right.TheVariants.{Io, Control, Start}
-use Rattle.hurd_machine.specs.World.{World, IsAmong, nodes_of, active_at, header_at, home_at, server_at}
-use Rattle.hurd_machine.specs.Sight.{Could, CouldServe, Holds, OwnsIt, Seen, Sees, SeesBody, ToRead, ToSearch, IsOpen, SeesEmpty, ByBody, ByParent, Knows, OfNode, OfSeat, OfControl, MaySend, Sends, ByControl, ByNode, BySeat, bare}
+use Rattle.hurd_machine.specs.World.{World, IsAmong, nodes_of, active_at, counts_at, header_at, home_at, open_at, server_at}
+use Rattle.hurd_machine.specs.Sight.{Could, CouldServe, Holds, OwnsIt, Seen, Sees, SeesBody, ToRead, ToSearch, ToPut, IsOpen, SeesEmpty, ByBody, ByParent, Knows, OfNode, OfSeat, OfControl, MaySend, Sends, ByControl, ByNode, BySeat, bare}
 use Rattle.hurd_sight.specs.Reach.{Gathers, Reaches, among, could_with, serves}
 use Rattle.hurd_sight.specs.Found.{FoundAll, IsSight, is_found}
 use Rattle.hurd_sight.specs.declared.found.Why.{Why}
 use Rattle.hurd_sight.specs.declared.held.RightNames.{RightNames}
 use Rattle.hurd_sight.specs.declared.looks.Sight.{Sight}
 use Rattle.hurd_sight.specs.declared.parts.SeenPart.TheVariants as seen
-use Rattle.hurd_sight.specs.Parts.{HasOpen, HasRead, KnownByNode, SentByNode, control_of, is_in, known_at, maybe_named, named, no_names, of_found, open_of, owned_by, part_of, read_of, reads, rights_at, rights_held, sendable_at, served_by, served_in, with_rights}
-use Rattle.hurd_sight.specs.Looks.{Gathered, Looks, PartsAreSeen, could_write, reads_with, sees_with, tells_empty, writes_at}
+use Rattle.hurd_sight.specs.Parts.{HasFor, HasOpen, KnownByNode, SentByNode, control_of, is_for, is_in, known_at, maybe_named, named, no_names, node_for, of_found, open_of, owned_by, part_of, rights_at, rights_held, sendable_at, served_by, served_in, with_rights}
+use Rattle.hurd_sight.specs.Looks.{Gathered, Looks, PartsAreSeen, could_write, puts_with, reads_with, sees_with, tells_empty, writes_at}
 use Rattle.hurd_sight.proofs.CouldLaws.{could_is_enough}
 use Rattle.hurd_sight.proofs.ReachLaws.{any_found, listed_task, ours, reach_is_gathered, owns_is, served_is}
 use Rattle.hurd_sight.proofs.SightLaws.{found_is_seen}
 use Rattle.hurd_sight.proofs.FoundLaws.{Entries, among_flat, flat_among}
-use Rattle.hurd_sight.proofs.NameLaws.{controls_with, named_are, opens_with, reads_with as all_read}
+use Rattle.hurd_sight.proofs.NameLaws.{controls_with, named_are, opens_with, reads_with as all_read, writes_with as all_written}
 use Rattle.hurd_machine.proofs.Tasks.{among_cases, among_left, among_right}
 use Rattle.hurd_machine.proofs.Listed.{dir_kind}
 use Rattle.hurd_creds.specs.declared.attrs.Kind.TheVariants.{Dir}
@@ -95,22 +96,22 @@ module _ (w : World) (tasks : List TaskId) where
       to (Control s) has a = absurd a
       to (Start n) has a = absurd a
 
-  -- an open that reads is there
-  reading : (o : Option Opened) → reads o ≡ true → (x : Opened) × (o ≡ Some x) × (asks x.modes READ ≡ true)
-  reading None e = absurd (true≢false (sym e))
-  reading (Some x) e = (x, refl, e)
+  -- an open that is in a mode is there
+  opened_for : (mode : ℕ) (o : Option Opened) → is_for mode o ≡ true → (x : Opened) × (o ≡ Some x) × (asks x.modes mode ≡ true)
+  opened_for mode None e = absurd (true≢false (sym e))
+  opened_for mode (Some x) e = (x, refl, e)
 
-  reads_seen : (n : Name) → IsAmong n (flat_map (read_of w.opens) (rights_held w.tasks tasks)) ↔ HasRead S w n
-  reads_seen n = (
-    λ a. let it = flat_among (read_of w.opens) n (rights_held w.tasks tasks) a in to it.0 (held it.0 it.1) it.2,
-    λ h. among_flat (read_of w.opens) (Io h.0) n (rights_held w.tasks tasks) (listed (Io h.0) h.2)
-        (among_if (reads (fin.get w.opens h.0.open_name)) h.0.node n (ap reads h.4 ∙ h.5) (sym h.3)),
+  nodes_seen : (mode : ℕ) (n : Name) → IsAmong n (flat_map (node_for mode w.opens) (rights_held w.tasks tasks)) ↔ HasFor mode S w n
+  nodes_seen mode n = (
+    λ a. let it = flat_among (node_for mode w.opens) n (rights_held w.tasks tasks) a in to it.0 (held it.0 it.1) it.2,
+    λ h. among_flat (node_for mode w.opens) (Io h.0) n (rights_held w.tasks tasks) (listed (Io h.0) h.2)
+        (among_if (is_for mode (fin.get w.opens h.0.open_name)) h.0.node n (ap (is_for mode) h.4 ∙ h.5) (sym h.3)),
   )
     where
-      to : (q : Right) → Holds S w q → IsAmong n (read_of w.opens q) → HasRead S w n
+      to : (q : Right) → Holds S w q → IsAmong n (node_for mode w.opens q) → HasFor mode S w n
       to (Io r) has a =
-          let it = if_among (reads (fin.get w.opens r.open_name)) r.node n a in
-          let opened = reading (fin.get w.opens r.open_name) it.0 in
+          let it = if_among (is_for mode (fin.get w.opens r.open_name)) r.node n a in
+          let opened = opened_for mode (fin.get w.opens r.open_name) it.0 in
           (r, opened.0, has, sym it.1, opened.1, opened.2)
       to (Control s) has a = absurd a
       to (Start m) has a = absurd a
@@ -229,7 +230,8 @@ looks_at w tasks kept ids es v known sendable same gathered all rights knows sen
       reach = r;
       found = sight;
       opens = λ o. both_ways (are_named v.opens (flat_map open_of rs) (ap (λ (x : RightNames). x.opens) rights ∙ opens_with w.opens rs no_names) o) (opens_seen w tasks o);
-      readable = λ n. both_ways (are_named v.readable (flat_map (read_of w.opens) rs) (ap (λ (x : RightNames). x.readable) rights ∙ all_read w.opens rs no_names) n) (reads_seen w tasks n);
+      readable = λ n. both_ways (are_named v.readable (flat_map (node_for READ w.opens) rs) (ap (λ (x : RightNames). x.readable) rights ∙ all_read w.opens rs no_names) n) (nodes_seen w tasks READ n);
+      writable = λ n. both_ways (are_named v.writable (flat_map (node_for WRITE w.opens) rs) (ap (λ (x : RightNames). x.writable) rights ∙ all_written w.opens rs no_names) n) (nodes_seen w tasks WRITE n);
       controlled = λ s. both_ways (are_named v.controlled (flat_map control_of rs) (ap (λ (x : RightNames). x.controlled) rights ∙ controls_with w.opens rs no_names) s) (controls_seen w tasks s);
       known = λ s. both_ways (are_named known (of_found (known_at (nodes_of w)) es) knows s) (known_seen w tasks ids es r sight s);
       sendable = λ s. both_ways (are_named sendable (of_found (sendable_at (nodes_of w) ids) es) sends s) (sent_seen w tasks ids es r sight s);
@@ -254,29 +256,65 @@ module _ (S : ℕ → Bool) (w : World) (v : Sight) (l : Looks S w v) where
   could : (h : Header) (want : Want) → (could_with v.reach (bare h) want ≡ true) ↔ Could S w h want
   could h want = could_is_enough S w v.reach h want l.reach
 
-  read_to : (n : Name) (h : Header) → reads_with v n (Some h) ≡ true → SeesBody S w n h
-  read_to n h e = elim (or_cases (could_with v.reach (bare h) Read) ((is_dir h.kind && could_with v.reach (bare h) Exec) || is_in n v.rights.readable) e) [
-    | inl may ↦ ToRead ((could h Read).0 may)
-    | inr rest ↦ elim (or_cases (is_dir h.kind && could_with v.reach (bare h) Exec) (is_in n v.rights.readable) rest) [
-      | inl both ↦ let p = and_parts (is_dir h.kind) (could_with v.reach (bare h) Exec) both in ToSearch (dir_kind h.kind p.0) ((could h Exec).0 p.1)
-      | inr among ↦ let it = (l.readable n).0 among in IsOpen it.0 it.2 it.3 it.1 it.4 it.5
-    ]
+  put_to : (n : Name) (h : Header) → counts_at w n ≡ true → puts_with v n h ≡ true → SeesBody S w n h
+  put_to n h counts e = elim (or_cases (could_with v.reach (bare h) Write) (is_in n v.rights.writable) e) [
+    | inl may ↦ ToPut counts ((could h Write).0 may)
+    | inr among ↦ let it = (l.writable n).0 among in
+        IsOpen it.0 it.2 it.3 it.1 it.4 (or_right (asks it.1.modes READ) (counts_at w n && asks it.1.modes WRITE) (and_from (counts_at w n) (asks it.1.modes WRITE) counts it.5))
   ]
 
-  read_from : (n : Name) (h : Header) → SeesBody S w n h → reads_with v n (Some h) ≡ true
+  open_to : (n : Name) (h : Header) → (is_in n v.rights.readable || (counts_at w n && puts_with v n h)) ≡ true → SeesBody S w n h
+  open_to n h e = elim (or_cases (is_in n v.rights.readable) (counts_at w n && puts_with v n h) e) [
+    | inl among ↦ let it = (l.readable n).0 among in
+        IsOpen it.0 it.2 it.3 it.1 it.4 (or_left (asks it.1.modes READ) (counts_at w n && asks it.1.modes WRITE) it.5)
+    | inr put ↦ let p = and_parts (counts_at w n) (puts_with v n h) put in put_to n h p.0 p.1
+  ]
+
+  read_to : (n : Name) (h : Header) → reads_with (nodes_of w) v n (Some h) ≡ true → SeesBody S w n h
+  read_to n h e =
+      let searched = is_dir h.kind && could_with v.reach (bare h) Exec in
+      let opened = is_in n v.rights.readable || (counts_at w n && puts_with v n h) in
+      elim (or_cases (could_with v.reach (bare h) Read) (searched || opened) e) [
+        | inl may ↦ ToRead ((could h Read).0 may)
+        | inr rest ↦ elim (or_cases searched opened rest) [
+          | inl both ↦ let p = and_parts (is_dir h.kind) (could_with v.reach (bare h) Exec) both in ToSearch (dir_kind h.kind p.0) ((could h Exec).0 p.1)
+          | inr among ↦ open_to n h among
+        ]
+      ]
+
+  -- what tells by an open, or by one that could be made to write
+  opened_from : (n : Name) (h : Header) → (is_in n v.rights.readable || (counts_at w n && puts_with v n h)) ≡ true → reads_with (nodes_of w) v n (Some h) ≡ true
+  opened_from n h e =
+      let searched = is_dir h.kind && could_with v.reach (bare h) Exec in
+      let opened = is_in n v.rights.readable || (counts_at w n && puts_with v n h) in
+      or_right (could_with v.reach (bare h) Read) (searched || opened) (or_right searched opened e)
+
+  put_from : (n : Name) (h : Header) → counts_at w n ≡ true → puts_with v n h ≡ true → reads_with (nodes_of w) v n (Some h) ≡ true
+  put_from n h counts puts =
+      opened_from n h (or_right (is_in n v.rights.readable) (counts_at w n && puts_with v n h) (and_from (counts_at w n) (puts_with v n h) counts puts))
+
+  told_from : (n : Name) (h : Header) (r : IoRight) → Holds S w (Io r) → n ≡ r.node → (o : Opened) → open_at w r.open_name ≡ Some o
+      → (asks o.modes READ ≡ true) ⊎ ((counts_at w n && asks o.modes WRITE) ≡ true) → reads_with (nodes_of w) v n (Some h) ≡ true
+  told_from n h r has is o there (inl read) = opened_from n h (or_left (is_in n v.rights.readable) (counts_at w n && puts_with v n h) ((l.readable n).1 (r, o, has, is, there, read)))
+  told_from n h r has is o there (inr put) =
+      let p = and_parts (counts_at w n) (asks o.modes WRITE) put in
+      put_from n h p.0 (or_right (could_with v.reach (bare h) Write) (is_in n v.rights.writable) ((l.writable n).1 (r, o, has, is, there, p.1)))
+
+  read_from : (n : Name) (h : Header) → SeesBody S w n h → reads_with (nodes_of w) v n (Some h) ≡ true
   read_from n h (ToRead may) = rw ((could h Read).1 may) refl
   read_from n h (ToSearch dir may) = rw ((could h Exec).1 may, ap is_dir dir) (or-true (could_with v.reach (bare h) Read))
-  read_from n h (IsOpen r has is o there may) = rw ((l.readable n).1 (r, o, has, is, there, may), or-true (is_dir h.kind && could_with v.reach (bare h) Exec)) (or-true (could_with v.reach (bare h) Read))
+  read_from n h (ToPut counts may) = put_from n h counts (or_left (could_with v.reach (bare h) Write) (is_in n v.rights.writable) ((could h Write).1 may))
+  read_from n h (IsOpen r has is o there told) = told_from n h r has is o there (or_cases (asks o.modes READ) (counts_at w n && asks o.modes WRITE) told)
 
-  body_to : (n : Name) (o : Option Header) → header_at w n ≡ o → reads_with v n o ≡ true → (h : Header) × (header_at w n ≡ Some h) × SeesBody S w n h
+  body_to : (n : Name) (o : Option Header) → header_at w n ≡ o → reads_with (nodes_of w) v n o ≡ true → (h : Header) × (header_at w n ≡ Some h) × SeesBody S w n h
   body_to n None is e = absurd (true≢false (sym e))
   body_to n (Some h) is e = (h, is, read_to n h e)
 
   body_seen : (n : Name) → (sees_with (nodes_of w) v (seen.Body n) ≡ true) ↔ Sees S w (part_of (seen.Body n))
   body_seen n = (
-    λ e. let p = and_parts (is_found n v.found) (reads_with v n (header_of w.nodes n)) e in
+    λ e. let p = and_parts (is_found n v.found) (reads_with (nodes_of w) v n (header_of w.nodes n)) e in
         let b = body_to n (header_at w n) refl p.1 in ((l.found.exact n).0 p.0, b.0, b.1, b.2),
-    λ s. and_from (is_found n v.found) (reads_with v n (header_of w.nodes n)) ((l.found.exact n).1 s.0) (ap (reads_with v n) s.2 ∙ read_from n s.1 s.3),
+    λ s. and_from (is_found n v.found) (reads_with (nodes_of w) v n (header_of w.nodes n)) ((l.found.exact n).1 s.0) (ap (reads_with (nodes_of w) v n) s.2 ∙ read_from n s.1 s.3),
   )
 
   parent_to : (p : Option Name) → writes_at (nodes_of w) v.reach p ≡ true → (q : Name) × (a : Header) × (p ≡ Some q) × (header_at w q ≡ Some a) × Could S w a Write
@@ -290,20 +328,20 @@ module _ (S : ℕ → Bool) (w : World) (v : Sight) (l : Looks S w v) where
   empty_to : (n : Name) (o : Option Header) → header_at w n ≡ o → tells_empty (nodes_of w) v n o ≡ true → (h : Header) × (header_at w n ≡ Some h) × (h.kind ≡ Dir) × SeesEmpty S w n h
   empty_to n None is e = absurd (true≢false (sym e))
   empty_to n (Some h) is e =
-      let p = and_parts (is_dir h.kind) (reads_with v n (Some h) || writes_at (nodes_of w) v.reach h.parent) e in (
+      let p = and_parts (is_dir h.kind) (reads_with (nodes_of w) v n (Some h) || writes_at (nodes_of w) v.reach h.parent) e in (
         h,
         is,
         dir_kind h.kind p.0,
-        elim (or_cases (reads_with v n (Some h)) (writes_at (nodes_of w) v.reach h.parent) p.1) [
+        elim (or_cases (reads_with (nodes_of w) v n (Some h)) (writes_at (nodes_of w) v.reach h.parent) p.1) [
           | inl body ↦ ByBody (read_to n h body)
           | inr above ↦ let it = parent_to h.parent above in ByParent it.0 it.1 it.2 it.3 it.4
         ],
       )
 
-  empty_from : (n : Name) (h : Header) → SeesEmpty S w n h → (reads_with v n (Some h) || writes_at (nodes_of w) v.reach h.parent) ≡ true
-  empty_from n h (ByBody body) = or_left (reads_with v n (Some h)) (writes_at (nodes_of w) v.reach h.parent) (read_from n h body)
+  empty_from : (n : Name) (h : Header) → SeesEmpty S w n h → (reads_with (nodes_of w) v n (Some h) || writes_at (nodes_of w) v.reach h.parent) ≡ true
+  empty_from n h (ByBody body) = or_left (reads_with (nodes_of w) v n (Some h)) (writes_at (nodes_of w) v.reach h.parent) (read_from n h body)
   empty_from n h (ByParent p a above there may) =
-      or_right (reads_with v n (Some h)) (writes_at (nodes_of w) v.reach h.parent) (ap (writes_at (nodes_of w) v.reach) above ∙ (ap (could_write v.reach) there ∙ (could a Write).1 may))
+      or_right (reads_with (nodes_of w) v n (Some h)) (writes_at (nodes_of w) v.reach h.parent) (ap (writes_at (nodes_of w) v.reach) above ∙ (ap (could_write v.reach) there ∙ (could a Write).1 may))
 
   empty_seen : (n : Name) → (sees_with (nodes_of w) v (seen.Empty n) ≡ true) ↔ Sees S w (part_of (seen.Empty n))
   empty_seen n = (
@@ -311,7 +349,7 @@ module _ (S : ℕ → Bool) (w : World) (v : Sight) (l : Looks S w v) where
         let b = empty_to n (header_at w n) refl p.1 in ((l.found.exact n).0 p.0, b.0, b.1, b.2, b.3),
     λ s. and_from (is_found n v.found) (tells_empty (nodes_of w) v n (header_of w.nodes n)) ((l.found.exact n).1 s.0)
         (ap (tells_empty (nodes_of w) v n) s.2
-        ∙ and_from (is_dir s.1.kind) (reads_with v n (Some s.1) || writes_at (nodes_of w) v.reach s.1.parent) (ap is_dir s.3) (empty_from n s.1 s.4)),
+        ∙ and_from (is_dir s.1.kind) (reads_with (nodes_of w) v n (Some s.1) || writes_at (nodes_of w) v.reach s.1.parent) (ap is_dir s.3) (empty_from n s.1 s.4)),
   )
 
   knows_seen : (s : Name) → (sees_with (nodes_of w) v (seen.Options s) ≡ true) ↔ Knows S w s

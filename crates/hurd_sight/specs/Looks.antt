@@ -4,15 +4,17 @@ use Rattle.std.specs.FinMap as fin
 use Rattle.hurd_creds.specs.declared.name.Name.{Name}
 use Rattle.hurd_creds.specs.declared.attrs.Want.TheVariants.{Read, Write, Exec}
 use Rattle.hurd_creds.specs.Access.{IdSets}
+use Rattle.hurd_creds.specs.Bits.{READ, WRITE}
 use Rattle.hurd_creds.specs.Names.{same_name}
 use Rattle.hurd_trans_iface.specs.Nodes.{Header, header_of, is_dir}
-use Rattle.hurd_nodes.specs.Shown.{NodeState, boot_name}
+use Rattle.hurd_nodes.specs.Shown.{NodeState, boot_name, server_of}
+use Rattle.hurd_nodes.specs.Needs.{counts_by}
 use Rattle.hurd_ports.specs.declared.table.Right.TheVariants.{Control}
 use Rattle.hurd_machine.specs.World.{World, nodes_of}
 use Rattle.hurd_machine.specs.Sight.{Holds, Sees, bare}
 use Rattle.hurd_sight.specs.Reach.{Reaches, among, could_with}
 use Rattle.hurd_sight.specs.Found.{FoundAll, IsSight, is_found}
-use Rattle.hurd_sight.specs.Parts.{AreThose, HasOpen, HasRead, KnownByNode, SentByNode, is_in, known_at, named, no_names, of_found, part_of, rights_held, with_rights}
+use Rattle.hurd_sight.specs.Parts.{AreThose, HasFor, HasOpen, KnownByNode, SentByNode, is_in, known_at, named, no_names, of_found, part_of, rights_held, with_rights}
 use Rattle.hurd_sight.specs.declared.looks.Sight.{Sight}
 use Rattle.hurd_sight.specs.declared.parts.SeenPart.{SeenPart}
 use Rattle.hurd_sight.specs.declared.parts.SeenPart.TheVariants as seen
@@ -23,7 +25,8 @@ pub record Looks (S : ℕ → Bool) (w : World) (v : Sight) : Type 0 where
   pub reach : Reaches S w v.reach
   pub found : IsSight S w v.found
   pub opens : AreThose v.rights.opens (HasOpen S w)
-  pub readable : AreThose v.rights.readable (HasRead S w)
+  pub readable : AreThose v.rights.readable (HasFor READ S w)
+  pub writable : AreThose v.rights.writable (HasFor WRITE S w)
   pub controlled : AreThose v.rights.controlled (λ s. Holds S w (Control s))
   pub known : AreThose v.known (KnownByNode S w)
   pub sendable : AreThose v.sendable (SentByNode S w)
@@ -34,10 +37,17 @@ pub record Gathered (w : World) (v : Sight) : Type 0 where
   pub rights : v.rights ≡ with_rights w.opens (rights_held w.tasks v.tasks.items) no_names
   pub known : v.known ≡ named (of_found (known_at (nodes_of w)) v.found) []
 
--- whether a node of this header could be read, or searched if it is a directory, or is open to read
-abbrev pub reads_with : Sight → Name → Option Header → Bool
-reads_with v n None = false
-reads_with v n (Some x) = could_with v.reach (bare x) Read || ((is_dir x.kind && could_with v.reach (bare x) Exec) || is_in n v.rights.readable)
+-- whether a node of this header could be written, or is open to write
+abbrev pub puts_with : Sight → Name → Header → Bool
+puts_with v n x = could_with v.reach (bare x) Write || is_in n v.rights.writable
+
+-- whether it is told what is in a node of this header: it could be read, or searched if it is a directory, or is open to read;
+-- or its server counts who reads and who writes, and it could be written or is open to write
+abbrev pub reads_with : NodeState → Sight → Name → Option Header → Bool
+reads_with h v n None = false
+reads_with h v n (Some x) =
+    could_with v.reach (bare x) Read
+    || ((is_dir x.kind && could_with v.reach (bare x) Exec) || (is_in n v.rights.readable || (counts_by (server_of h n) && puts_with v n x)))
 
 -- whether a node of this header could be written
 abbrev pub could_write : IdSets → Option Header → Bool
@@ -52,13 +62,13 @@ writes_at h ids (Some p) = could_write ids (header_of h.nodes p)
 -- whether it is told if a directory of this header is empty
 abbrev pub tells_empty : NodeState → Sight → Name → Option Header → Bool
 tells_empty h v n None = false
-tells_empty h v n (Some x) = is_dir x.kind && (reads_with v n (Some x) || writes_at h v.reach x.parent)
+tells_empty h v n (Some x) = is_dir x.kind && (reads_with h v n (Some x) || writes_at h v.reach x.parent)
 
 -- whether a part is seen
 abbrev pub sees_with : NodeState → Sight → SeenPart → Bool
 sees_with h v (seen.Attributes n) = is_found n v.found
 sees_with h v (seen.Empty n) = is_found n v.found && tells_empty h v n (header_of h.nodes n)
-sees_with h v (seen.Body n) = is_found n v.found && reads_with v n (header_of h.nodes n)
+sees_with h v (seen.Body n) = is_found n v.found && reads_with h v n (header_of h.nodes n)
 sees_with h v (seen.Open o) = is_in o v.rights.opens
 sees_with h v (seen.Options s) = is_in s v.known || is_in s v.rights.controlled
 sees_with h v (seen.Users s) = not (same_name s boot_name) && (is_some (fin.get h.servers s) && (is_in s v.sendable || is_in s v.rights.controlled))

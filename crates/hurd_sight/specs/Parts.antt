@@ -5,7 +5,7 @@ use Rattle.std.specs.FinMap as fin
 use Rattle.hurd_creds.specs.declared.name.Name.{Name}
 use Rattle.hurd_creds.specs.declared.name.TaskId.{TaskId}
 use Rattle.hurd_creds.specs.Access.{IdSets, owns}
-use Rattle.hurd_creds.specs.Bits.{asks, READ}
+use Rattle.hurd_creds.specs.Bits.{asks, READ, WRITE}
 use Rattle.hurd_creds.specs.Names.{same_name}
 use Rattle.hurd_trans_iface.specs.Nodes.{Header, header_of}
 use Rattle.hurd_nodes.specs.Shown.{NodeState, ServerInfo}
@@ -58,9 +58,9 @@ maybe_named (Some n) = n ∷ []
 abbrev pub HasOpen : (ℕ → Bool) → World → Name → Type 0
 HasOpen S w o = (r : IoRight) × Holds S w (Io r) × (r.open_name ≡ o)
 
--- a node that a right of S has open to read
-abbrev pub HasRead : (ℕ → Bool) → World → Name → Type 0
-HasRead S w n = (r : IoRight) × (o : Opened) × Holds S w (Io r) × (n ≡ r.node) × (open_at w r.open_name ≡ Some o) × (asks o.modes READ ≡ true)
+-- a node that a right of S has open in this mode
+abbrev pub HasFor : ℕ → (ℕ → Bool) → World → Name → Type 0
+HasFor mode S w n = (r : IoRight) × (o : Opened) × Holds S w (Io r) × (n ≡ r.node) × (open_at w r.open_name ≡ Some o) × (asks o.modes mode ≡ true)
 
 -- a server of a seen node, or one that is active on one
 abbrev pub KnownByNode : (ℕ → Bool) → World → Name → Type 0
@@ -79,16 +79,16 @@ open_of (Io r) = r.open_name ∷ []
 open_of (Control s) = []
 open_of (Start n) = []
 
--- whether an open may be read from
-abbrev pub reads : Option Opened → Bool
-reads None = false
-reads (Some o) = asks o.modes READ
+-- whether an open is there, and in this mode
+abbrev pub is_for : ℕ → Option Opened → Bool
+is_for mode None = false
+is_for mode (Some o) = asks o.modes mode
 
--- the node of a right that has it open to read
-abbrev pub read_of : OpenMap → Right → List Name
-read_of opens (Io r) = if reads (fin.get opens r.open_name) then r.node ∷ [] else []
-read_of opens (Control s) = []
-read_of opens (Start m) = []
+-- the node of a right that has it open in this mode
+abbrev pub node_for : ℕ → OpenMap → Right → List Name
+node_for mode opens (Io r) = if is_for mode (fin.get opens r.open_name) then r.node ∷ [] else []
+node_for mode opens (Control s) = []
+node_for mode opens (Start m) = []
 
 -- the server that a right controls
 abbrev pub control_of : Right → List Name
@@ -98,14 +98,19 @@ control_of (Start n) = []
 
 -- the names of a right are added, and those of several
 abbrev pub with_right : OpenMap → Right → RightNames → RightNames
-with_right opens q v = record { opens = named (open_of q) v.opens; readable = named (read_of opens q) v.readable; controlled = named (control_of q) v.controlled }
+with_right opens q v = record {
+  opens = named (open_of q) v.opens;
+  readable = named (node_for READ opens q) v.readable;
+  writable = named (node_for WRITE opens q) v.writable;
+  controlled = named (control_of q) v.controlled;
+}
 
 abbrev pub with_rights : OpenMap → List Right → RightNames → RightNames
 with_rights opens [] v = v
 with_rights opens (q ∷ qs) v = with_rights opens qs (with_right opens q v)
 
 abbrev pub no_names : RightNames
-no_names = record { opens = []; readable = []; controlled = [] }
+no_names = record { opens = []; readable = []; writable = []; controlled = [] }
 
 -- the rights of a task, if it is there, and those of some tasks, one after another
 abbrev pub rights_at : Option Task → List Right

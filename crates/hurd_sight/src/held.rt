@@ -1,21 +1,22 @@
-//! What the rights of a set of tasks name beside the nodes that they show: opens, nodes that are open to read, and servers.
+//! What the rights of a set of tasks name beside the nodes that they show: opens, nodes that are open to read or to write, and servers.
 ghost use Rattle.std.specs.Prelude.{◌≡◌, IfOk, OnOk, map, slice_get};
 ghost use Rattle.std.specs.FinMap as fin;
 ghost use Rattle.hurd_ports.specs.declared.table.Right.TheVariants.{Io};
 ghost use Rattle.hurd_ports.specs.Tables.{rights_of};
 ghost use Rattle.hurd_ports.specs.Seats.{seat_task};
-ghost use Rattle.hurd_sight.specs.Parts.{named, no_names, read_of, reads, rights_at, rights_held, with_right, with_rights};
+ghost use Rattle.hurd_sight.specs.Parts.{is_for, named, no_names, node_for, rights_at, rights_held, with_right, with_rights};
 
 use crate::names::NameSet;
 use hurd_creds::{OpenFlags, OpenName, TaskId};
 use hurd_ports::{IoRight, Port, Ports, Right, TaskSeat};
 use std::alloc::{AllocError, Global};
 
-/// The opens, the nodes that are open to read, and the servers that are controlled, of some rights.
+/// The opens, the nodes that are open to read and to write, and the servers that are controlled, of some rights.
 #[derive(Drop)]
 pub struct RightNames {
     pub(crate) opens: NameSet,
     pub(crate) readable: NameSet,
+    pub(crate) writable: NameSet,
     pub(crate) controlled: NameSet,
 }
 
@@ -31,6 +32,7 @@ impl RightNames {
         let mut names = RightNames {
             opens: NameSet::new(alloc),
             readable: NameSet::new(alloc),
+            writable: NameSet::new(alloc),
             controlled: NameSet::new(alloc),
         };
         for task in tasks {
@@ -84,32 +86,37 @@ impl RightNames {
         match right {
             Right::Io(right) => {
                 self.opens.add(right.open_name)?;
-                self.add_readable(ports, right)
+                add_node(&mut self.readable, ports, right, OpenFlags::READ)?;
+                add_node(&mut self.writable, ports, right, OpenFlags::WRITE)
             }
             Right::Control(server) => self.controlled.add(*server),
             Right::Start(_) => Ok(()),
         }
     }
+}
 
-    /// The node of a right, if it has that open to read.
-    fn add_readable(&mut self, ports: &Ports, right: &IoRight) -> Result<(), AllocError>
-        ensures read { OnOk result (self.new.readable ≡ named (read_of ports.now.state.opens (Io right.now)) self.old.readable) }
-        ensures others { OnOk result ((self.new.opens ≡ self.old.opens) × (self.new.controlled ≡ self.old.controlled)) }
-    {
-        if has_read(ports, right.open_name) {
-            self.readable.add(right.node)
-        } else {
-            Ok(())
-        }
+/// One name more, the node of a right, if that has it open in this mode.
+fn add_node(
+    names: &mut NameSet,
+    ports: &Ports,
+    right: &IoRight,
+    mode: OpenFlags,
+) -> Result<(), AllocError>
+    ensures { OnOk result (names.new ≡ named (node_for mode.0 ports.now.state.opens (Io right.now)) names.old) }
+{
+    if has_mode(ports, right.open_name, mode) {
+        names.add(right.node)
+    } else {
+        Ok(())
     }
 }
 
-/// Whether an open is there, and may be read from.
-fn has_read(ports: &Ports, open_name: OpenName) -> bool
-    ensures { result ≡ reads (fin.get ports.now.state.opens open_name) }
+/// Whether an open is there, and in this mode.
+fn has_mode(ports: &Ports, open_name: OpenName, mode: OpenFlags) -> bool
+    ensures { result ≡ is_for mode.0 (fin.get ports.now.state.opens open_name) }
 {
     match ports.opened(open_name) {
-        Some(opened) => opened.modes.asks(OpenFlags::READ),
+        Some(opened) => opened.modes.asks(mode),
         None => false,
     }
 }

@@ -4,7 +4,7 @@ ghost use Rattle.hurd_trans_iface.specs.Nodes.{Header, is_dir};
 ghost use Rattle.hurd_nodes.specs.Shown.{header_in, shown, told_header};
 ghost use Rattle.hurd_machine.specs.World.{world_from};
 ghost use Rattle.hurd_sight.specs.Parts.{is_in};
-ghost use Rattle.hurd_sight.specs.Looks.{Gathered, Looks, PartsAreSeen, reads_with, sees_with, writes_at};
+ghost use Rattle.hurd_sight.specs.Looks.{Gathered, Looks, PartsAreSeen, puts_with, reads_with, sees_with, writes_at};
 ghost use Rattle.hurd_sight.specs.Reach.{among};
 ghost use Rattle.hurd_sight.specs.declared.parts.SeenPart.TheVariants as seen;
 
@@ -111,7 +111,7 @@ impl Sight {
             return false;
         }
         match nodes.attrs(node) {
-            Some(attrs) => self.reads(node, &attrs),
+            Some(attrs) => self.reads(nodes, node, &attrs),
             None => false,
         }
     }
@@ -131,14 +131,15 @@ impl Sight {
 
     /// Whether a directory's entries are seen, or its parent could be written.
     fn tells_empty<S: Server>(&self, nodes: &Nodes<S>, node: NodeName, attrs: &Attrs) -> bool
-        ensures { (x : Header) → header_in attrs.now ≡ told_header x → result ≡ (reads_with self.now node (Some x) || writes_at (shown S.meaning nodes.now) self.now.reach x.parent) }
+        ensures { (x : Header) → header_in attrs.now ≡ told_header x → result ≡ (reads_with (shown S.meaning nodes.now) self.now node (Some x) || writes_at (shown S.meaning nodes.now) self.now.reach x.parent) }
     {
-        self.reads(node, attrs) || self.writes(nodes, attrs.parent)
+        self.reads(nodes, node, attrs) || self.writes(nodes, attrs.parent)
     }
 
-    /// Whether a node of these attributes could be read, or searched if it is a directory, or is open to read.
-    fn reads(&self, node: NodeName, attrs: &Attrs) -> bool
-        ensures { (x : Header) → header_in attrs.now ≡ told_header x → result ≡ reads_with self.now node (Some x) }
+    /// Whether a node of these attributes could be read, or searched if it is a directory, or is open to read; or its server counts who reads and who writes, and it
+    /// could be written or is open to write.
+    fn reads<S: Server>(&self, nodes: &Nodes<S>, node: NodeName, attrs: &Attrs) -> bool
+        ensures { (x : Header) → header_in attrs.now ≡ told_header x → result ≡ reads_with (shown S.meaning nodes.now) self.now node (Some x) }
     {
         if self.reach.could(attrs, Want::Read) {
             return true;
@@ -146,7 +147,17 @@ impl Sight {
         if is_dir(attrs.kind) && self.reach.could(attrs, Want::Exec) {
             return true;
         }
-        self.rights.readable.has(node)
+        if self.rights.readable.has(node) {
+            return true;
+        }
+        nodes.counts(node) && self.puts(node, attrs)
+    }
+
+    /// Whether a node of these attributes could be written, or is open to write.
+    fn puts(&self, node: NodeName, attrs: &Attrs) -> bool
+        ensures { (x : Header) → header_in attrs.now ≡ told_header x → result ≡ puts_with self.now node x }
+    {
+        self.reach.could(attrs, Want::Write) || self.rights.writable.has(node)
     }
 
     /// Whether a node could be written, if there is one.

@@ -4,7 +4,7 @@ use Rattle.std.specs.Prelude.{Option, Some, None}
 use Rattle.std.specs.Option.{option_map, option_or}
 use Rattle.std.specs.Str.{bytes_eq}
 use Rattle.std.proofs.lemmas.Slice.Eq.{bytes_eq-Decides}
-use Rattle.hurd_trans_iface.specs.Meaning.{Meaning, ServerKind, Tmpfs, Hello, Null, Zero, Symlink, Firmlink, Union, Magic, begin, begin_as, behaviour_of, new_server}
+use Rattle.hurd_trans_iface.specs.Meaning.{Meaning, ServerKind, Tmpfs, Hello, Null, Zero, Symlink, Firmlink, Union, Magic, Drip, Fifo, begin, begin_as, behaviour_of, new_server}
 use Rattle.hurd_trans_iface.specs.TmpfsKind.{no_text}
 use Rattle.hurd_small.specs.Lone.{is_alone, text_as}
 
@@ -21,6 +21,8 @@ begin-named Symlink w ws is = rw is (or_none _)
 begin-named Firmlink w ws is = rw is (or_none _)
 begin-named Union w ws is = rw is (or_none _)
 begin-named Magic w ws is = rw is (or_none _)
+begin-named Drip w ws is = rw is (or_none _)
+begin-named Fifo w ws is = rw is (or_none _)
 
 pub said_if : (b : Bool) (o : Option (List ℕ)) (text : List ℕ) → cond b o None ≡ Some text → (b ≡ true) × (o ≡ Some text)
 said_if true o text h = (refl, h)

@@ -1,5 +1,5 @@
 -- The one node of a server, and what its server answers of it.
-use Rattle.std.proofs.Common.{◌≡◌, ◌⊎◌, inl, inr, ℕ, Bool, true, false, true≢false, List, [], refl, ap, sym, ◌∙◌, is_some, not, if◌then◌else◌}
+use Rattle.std.proofs.Common.{◌≡◌, ◌⊎◌, inl, inr, ℕ, Bool, true, false, true≢false, List, [], refl, ap, sym, subst, ◌∙◌, is_some, not, if◌then◌else◌}
 use Rattle.std.specs.Prelude.{Option, Some, None, Result, Ok, Err}
 use Rattle.std.specs.Option.{option_map}
 use Rattle.std.specs.FinMap as fin
@@ -9,20 +9,23 @@ use Rattle.hurd_creds.specs.Names.{name_cmp, same_name}
 use Rattle.hurd_creds.specs.declared.name.Name.{Name}
 use Rattle.hurd_creds.specs.declared.attrs.Kind.{Kind}
 use Rattle.hurd_creds.specs.declared.errno.Errno.{Errno}
+use Rattle.hurd_creds.specs.declared.open_flags.OpenFlags.{OpenFlags}
 use Rattle.hurd_creds.specs.declared.errno.Errno.TheVariants.{ENOTDIR, EROFS}
-use Rattle.hurd_creds.proofs.NameLaws.{equal_if_same, apart_if_not_same, same_or_apart, same_map_by, get_here, get_apart, remove_here, remove_apart}
+use Rattle.hurd_creds.proofs.NameLaws.{equal_if_same, apart_if_not_same, same_or_apart, same_map_by, get_here, get_apart, remove_here, remove_apart, insert-insert, edit_found, edit_absent}
 use Rattle.hurd_creds.proofs.MapLaws.{map_values-empty, map_values-insert}
 use Rattle.hurd_creds.proofs.StepLaws.{steps-inside, steps-refused}
 use Rattle.hurd_trans_iface.specs.declared.new_node.NewNode.{NewNode}
-use Rattle.hurd_trans_iface.specs.Nodes.{AllListed, Node, NodeMap, Edit, body_of, is_dir, is_entered_at, passive_of, with_header, with_size}
+use Rattle.hurd_trans_iface.specs.Nodes.{AllListed, Body, Node, NodeMap, Edit, body_of, is_dir, is_entered_at, Header, counting, opened_by, closed_by, passive_of, with_header, with_size}
 use Rattle.hurd_trans_iface.specs.Answers.{entry_of, make_of, make_edits, link_of, link_edits, unlink_of, unlink_edits, rename_of, rename_edits, edits_if}
-use Rattle.hurd_trans_iface.specs.Meaning.{Meaning, ServerKind, behaviour_of, root_of, keeps_tree, empty_body, edited, options_taken, set_options_step, size_of, make_step, link_step, unlink_step, rename_step, forget_after}
+use Rattle.hurd_trans_iface.specs.Meaning.{Meaning, ServerKind, behaviour_of, root_of, keeps_tree, empty_body, new_root, begin_root_after, edited, step_of, options_taken, set_options_step, size_of, make_step, link_step, unlink_step, rename_step, forget_after, counts_opens, opened_after, closed_after}
+use Rattle.hurd_trans_iface.specs.Behaviour.{Effect, Question, told_of, served}
 use Rattle.hurd_trans_iface.specs.Good.{KeepsRoot}
 use Rattle.hurd_trans_iface.proofs.Goods.{good}
+use Rattle.hurd_trans_iface.proofs.NodeSteps.{step-node, told-here, with_nodes}
 use Rattle.hurd_small.specs.declared.presence.LoneNode.{LoneNode}
 use Rattle.hurd_small.specs.declared.presence.Presence.{Presence}
 use Rattle.hurd_small.specs.declared.presence.Presence.TheVariants.{Nameless, There, Forgotten}
-use Rattle.hurd_small.specs.Lone.{node_of, nodes_of, lone_meaning, barred_by, text_taken}
+use Rattle.hurd_small.specs.Lone.{Kept, nothing_kept, opened_kept, closed_kept, filled, body_with, node_of, nodes_of, root_name, lone_meaning, barred_by, text_taken}
 
 -- maps of one value, and of none
 
@@ -95,43 +98,43 @@ module _ (keeps : Bool) (no_tree : keeps ≡ false) where
 
 -- a directory without entries, or no directory
 
-no_entry : (name : List ℕ) (b : Bool) → None ≡ entry_of name (Some (empty_body b))
-no_entry name true = refl
-no_entry name false = refl
+no_entry : (name : List ℕ) (b : Bool) (held : List ℕ) → None ≡ entry_of name (Some (filled b held))
+no_entry name true held = refl
+no_entry name false held = refl
 
-module _ (kind : ServerKind) (text : List ℕ) where
+module _ (kind : ServerKind) (text : List ℕ) (held : Kept) where
   abbrev at : Presence → Name → Option Node
-  at p n = fin.get (nodes_of kind text p) n
+  at p n = fin.get (nodes_of kind text held p) n
 
   -- the node is found under its name, and under no other
 
-  pub find-there : (p : Presence) (r : LoneNode) (n : Name) → p ≡ There r → same_name r.name n ≡ true → Some (node_of kind text r) ≡ at p n
+  pub find-there : (p : Presence) (r : LoneNode) (n : Name) → p ≡ There r → same_name r.name n ≡ true → Some (node_of kind text held r) ≡ at p n
   find-there p r n is same =
       let e : r.name ≡ n = equal_if_same r.name n same in
-      rw (is, ← e) (sym (get-one r.name (node_of kind text r)))
+      rw (is, ← e) (sym (get-one r.name (node_of kind text held r)))
 
   pub find-apart : (p : Presence) (r : LoneNode) (n : Name) → p ≡ There r → same_name r.name n ≡ false → None ≡ at p n
-  find-apart p r n is other = rw is (sym (get-other r.name (node_of kind text r) n (λ e. apart_if_not_same r.name n other (sym e))))
+  find-apart p r n is other = rw is (sym (get-other r.name (node_of kind text held r) n (λ e. apart_if_not_same r.name n other (sym e))))
 
   -- whatever is found is the node
 
   abbrev Found : Presence → Name → Type 0
-  Found p n = (at p n ≡ None) ⊎ ((r : LoneNode) × (at p n ≡ Some (node_of kind text r)))
+  Found p n = (at p n ≡ None) ⊎ ((r : LoneNode) × (at p n ≡ Some (node_of kind text held r)))
 
   found : (p : Presence) (n : Name) → Found p n
   found Nameless n = inl (fin.get-empty {X = Node} name_cmp n)
   found (Forgotten name) n = inl (fin.get-empty {X = Node} name_cmp n)
   found (There r) n = elim (same_or_apart n r.name) [
-    | inl e ↦ inr (r, rw e (get-one r.name (node_of kind text r)))
-    | inr apart ↦ inl (get-other r.name (node_of kind text r) n apart)
+    | inl e ↦ inr (r, rw e (get-one r.name (node_of kind text held r)))
+    | inr apart ↦ inl (get-other r.name (node_of kind text held r) n apart)
   ]
 
-  entered : is_dir (root_of kind text).kind ≡ false → (o : Option Node) → (o ≡ None) ⊎ ((r : LoneNode) × (o ≡ Some (node_of kind text r))) → is_entered_at o ≡ true
+  entered : is_dir (root_of kind text).kind ≡ false → (o : Option Node) → (o ≡ None) ⊎ ((r : LoneNode) × (o ≡ Some (node_of kind text held r))) → is_entered_at o ≡ true
   entered plain o (inl none) = rw none refl
   entered plain o (inr (r, is)) = rw (is, plain) refl
 
   -- a node that is no directory has a link, so no node is without an entry
-  pub all-entered : is_dir (root_of kind text).kind ≡ false → (p : Presence) → AllListed (nodes_of kind text p) []
+  pub all-entered : is_dir (root_of kind text).kind ≡ false → (p : Presence) → AllListed (nodes_of kind text held p) []
   all-entered plain p n nameless = absurd (true≢false (sym (entered plain (at p n) (found p n)) ∙ nameless))
 
   -- no words are stored with it
@@ -142,17 +145,17 @@ module _ (kind : ServerKind) (text : List ℕ) where
   ]
 
   -- it has no entries
-  pub step-none : (p : Presence) (n : Name) (name : List ℕ) → None ≡ entry_of name (body_of (nodes_of kind text p) n)
+  pub step-none : (p : Presence) (n : Name) (name : List ℕ) → None ≡ entry_of name (body_of (nodes_of kind text held p) n)
   step-none p n name = elim (found p n) [
     | inl none ↦ rw none refl
-    | inr there ↦ rw there.1 (no_entry name (is_dir (root_of kind text).kind))
+    | inr there ↦ rw there.1 (no_entry name (is_dir (root_of kind text).kind) held.bytes)
   ]
 
   -- where no tree is kept
 
   module _ (p : Presence) (n : Name) (no_tree : keeps_tree kind ≡ false) where
     abbrev m : Meaning
-    m = lone_meaning kind text p
+    m = lone_meaning kind text held p
 
     module _ (e : Errno) (is : e ≡ barred_by (at p n)) where
       pub make-barred : (entry : Option (List ℕ)) (new : NewNode) → Steps m (make_step n entry new m) (Err e) m
@@ -175,47 +178,47 @@ module _ (kind : ServerKind) (text : List ℕ) where
   -- the node goes when it is forgotten, and not when another one is
 
   abbrev Finds : Presence → Name → Option LoneNode → Type 0
-  Finds p n o = option_map (node_of kind text) o ≡ at p n
+  Finds p n o = option_map (node_of kind text held) o ≡ at p n
 
-  some_is_none : (o : Option LoneNode) → is_some o ≡ true → option_map (node_of kind text) o ≡ None → ⊥
+  some_is_none : (o : Option LoneNode) → is_some o ≡ true → option_map (node_of kind text held) o ≡ None → ⊥
   some_is_none None some none = absurd (cc)
   some_is_none (Some r) some none = absurd (cc)
 
-  none_if_none : (o : Option LoneNode) → is_some o ≡ false → option_map (node_of kind text) o ≡ None
+  none_if_none : (o : Option LoneNode) → is_some o ≡ false → option_map (node_of kind text held) o ≡ None
   none_if_none None none = refl
   none_if_none (Some r) none = absurd (cc)
 
-  pub forget-there : (p : Presence) (n : Name) (o : Option LoneNode) → Finds p n o → is_some o ≡ true → lone_meaning kind text (Forgotten n) ≡ forget_after (lone_meaning kind text p) n
+  pub forget-there : (p : Presence) (n : Name) (o : Option LoneNode) → Finds p n o → is_some o ≡ true → lone_meaning kind text held (Forgotten n) ≡ forget_after (lone_meaning kind text held p) n
   forget-there Nameless n o finds some = absurd (some_is_none o some (finds ∙ fin.get-empty {X = Node} name_cmp n))
   forget-there (Forgotten name) n o finds some = absurd (some_is_none o some (finds ∙ fin.get-empty {X = Node} name_cmp n))
   forget-there (There r) n o finds some = elim (same_or_apart n r.name) [
-    | inl e ↦ rw (e, remove-one r.name (node_of kind text r)) refl
-    | inr apart ↦ absurd (some_is_none o some (finds ∙ get-other r.name (node_of kind text r) n apart))
+    | inl e ↦ rw (e, remove-one r.name (node_of kind text held r)) refl
+    | inr apart ↦ absurd (some_is_none o some (finds ∙ get-other r.name (node_of kind text held r) n apart))
   ]
 
-  pub forget-absent : (p : Presence) (n : Name) (o : Option LoneNode) → Finds p n o → is_some o ≡ false → lone_meaning kind text p ≡ forget_after (lone_meaning kind text p) n
+  pub forget-absent : (p : Presence) (n : Name) (o : Option LoneNode) → Finds p n o → is_some o ≡ false → lone_meaning kind text held p ≡ forget_after (lone_meaning kind text held p) n
   forget-absent p n o finds none =
-      rw (remove-absent n (nodes_of kind text p) (sym finds ∙ none_if_none o none)) refl
+      rw (remove-absent n (nodes_of kind text held p) (sym finds ∙ none_if_none o none)) refl
 
 -- options that are taken
 
-module _ (kind : ServerKind) (old : List ℕ) (p : Presence) where
+module _ (kind : ServerKind) (old : List ℕ) (held : Kept) (p : Presence) where
   abbrev meant : List ℕ → Meaning
-  meant text = lone_meaning kind text p
+  meant text = lone_meaning kind text held p
 
   module _ (new : List ℕ) (kept : KeepsRoot (behaviour_of kind) new) where
     abbrev resized : Node → Node
     resized x = with_header (with_size (size_of kind new)) x
 
-    node-retexted : (n : LoneNode) → resized (node_of kind old n) ≡ node_of kind new n
-    node-retexted n = rw (kept.rooted old, kept.sized (empty_body (is_dir (root_of kind new).kind))) refl
+    node-retexted : (n : LoneNode) → resized (node_of kind old held n) ≡ node_of kind new held n
+    node-retexted n = rw (kept.rooted old, kept.sized (body_with kind new held.bytes)) refl
 
-    nodes-retexted : (q : Presence) → map_values resized (nodes_of kind old q) ≡ nodes_of kind new q
+    nodes-retexted : (q : Presence) → map_values resized (nodes_of kind old held q) ≡ nodes_of kind new held q
     nodes-retexted Nameless = map_values-empty resized
     nodes-retexted (Forgotten name) = map_values-empty resized
     nodes-retexted (There n) =
-        map_values-insert resized no_nodes n.name (node_of kind old n)
-        ∙ ap (λ (m : NodeMap). fin.insert m n.name (resized (node_of kind old n))) (map_values-empty resized)
+        map_values-insert resized no_nodes n.name (node_of kind old held n)
+        ∙ ap (λ (m : NodeMap). fin.insert m n.name (resized (node_of kind old held n))) (map_values-empty resized)
         ∙ ap (λ (x : Node). fin.insert no_nodes n.name x) (node-retexted n)
 
   taken : (r : Result (Option (List ℕ)) Errno) → ((new : List ℕ) → r ≡ Ok (Some new) → KeepsRoot (behaviour_of kind) new)
@@ -231,3 +234,76 @@ module _ (kind : ServerKind) (old : List ℕ) (p : Presence) where
   options-taken ws got new steps =
       let r = (behaviour_of kind).set_options ws in
       steps-inside meant old new (text_taken r old) (set_options_step ws (meant old)) got (taken r (λ text. (good kind).options_root ws text)) steps
+
+-- the root begins, and holds nothing
+
+begun_empty : (b : Bool) → filled b [] ≡ empty_body b
+begun_empty true = refl
+begun_empty false = refl
+
+module _ (kind : ServerKind) (n : LoneNode) where
+  node-begun : (text : List ℕ) → node_of kind text nothing_kept n ≡ new_root (behaviour_of kind) text n.owner n.group n.mode
+  node-begun text =
+      let x = new_root (behaviour_of kind) text n.owner n.group n.mode in
+      ap (λ (c : Body). let y : Node = record { header = with_size ((behaviour_of kind).size text c) x.header; body = c } in y) (begun_empty (is_dir (root_of kind text).kind))
+
+  pub root-begun : (p : Presence) (text : List ℕ) (held : Kept) (text' : List ℕ) (held' : Kept) → root_name p ≡ None → text' ≡ text → held' ≡ nothing_kept
+      → lone_meaning kind text' held' (There n) ≡ begin_root_after (lone_meaning kind text held p) n.name n.owner n.group n.mode
+  root-begun Nameless text held text' held' none same empty =
+      rw (same, empty)
+      (ap (λ (x : Node). let m : Meaning = record { kind = kind; text = text; root = Some n.name; nodes = fin.insert no_nodes n.name x } in m) (node-begun text))
+  root-begun (There r) text held text' held' none same empty = absurd (cc)
+  root-begun (Forgotten name) text held text' held' none same empty = absurd (cc)
+
+-- a call that takes no memory does what it is to, or refuses and changes nothing
+pub steps-told : {T : Type 0} (e : Effect T) (x y : Node) (got : Result T Errno) → (got, y) ≡ served e x → Steps x (served e x) got y
+steps-told (Ok d) x y got is = rw (ap (λ s. s.0) is, ap (λ s. s.1) is) (record { answered = refl; left = refl })
+steps-told (Err f) x y got is = rw (ap (λ s. s.0) is, ap (λ s. s.1) is) (steps-refused (served (Err f) x) x f refl)
+
+-- what is done to what is kept of the node
+
+module _ (kind : ServerKind) (text : List ℕ) (held : Kept) (p : Presence) (r : LoneNode) (n : Name) (is : p ≡ There r) (name : r.name ≡ n) where
+  pub at-there : fin.get (nodes_of kind text held p) n ≡ Some (node_of kind text held r)
+  at-there = rw (is, ← name) (get-one r.name (node_of kind text held r))
+
+  nodes-kept : (new : Kept) → nodes_of kind text new p ≡ fin.insert (nodes_of kind text held p) n (node_of kind text new r)
+  nodes-kept new = rw (is, ← name) (sym (insert-insert no_nodes r.name (node_of kind text held r) (node_of kind text new r)))
+
+  abbrev meaning : Meaning
+  meaning = lone_meaning kind text held p
+
+  module _ {T : Type 0} (q : Question T) (got : Result T Errno) where
+    abbrev effect : Effect T
+    effect = q (behaviour_of kind) text (node_of kind text held r)
+
+    pub told-kept : told_of effect ≡ (step_of q n meaning).0
+    told-kept = told-here meaning n (node_of kind text held r) at-there q (told_of effect) refl
+
+    pub step-kept : (same_text : List ℕ) (new : Kept) → same_text ≡ text → Steps (node_of kind text held r) (served effect (node_of kind text held r)) got (node_of kind same_text new r)
+        → Steps meaning (step_of q n meaning) got (lone_meaning kind same_text new p)
+    step-kept same_text new same =
+        subst (λ (t : List ℕ). Steps (node_of kind text held r) (served effect (node_of kind text held r)) got (node_of kind t new r) → Steps meaning (step_of q n meaning) got (lone_meaning kind t new p)) (sym same)
+        (λ steps. step-node meaning n (node_of kind text held r) at-there q got (node_of kind text new r) (nodes_of kind text new p) steps (nodes-kept new))
+
+  -- a change of how many opens there are is an edit of the node's header, where they are counted
+  recounted : (new : Bool → Kept) (f : Header → Header) → new false ≡ held → node_of kind text (new true) r ≡ with_header f (node_of kind text held r)
+      → (counted : Bool) → lone_meaning kind text (new counted) p ≡ edited (counting counted n f) meaning
+  recounted new f same once false = ap (λ (k : Kept). lone_meaning kind text k p) same
+  recounted new f same once true =
+      ap (with_nodes meaning)
+      (nodes-kept (new true)
+      ∙ ap (λ (x : Node). fin.insert (nodes_of kind text held p) n x) once
+      ∙ sym (edit_found (nodes_of kind text held p) n (with_header f) (node_of kind text held r) at-there))
+
+  pub opened-kept : (modes : OpenFlags) (same_text : List ℕ) (new : Kept) → same_text ≡ text → new ≡ opened_kept (counts_opens kind) modes held
+      → lone_meaning kind same_text new p ≡ opened_after n modes meaning
+  opened-kept modes same_text new same is = rw (same, is) (recounted (λ counted. opened_kept counted modes held) (opened_by modes) refl refl (counts_opens kind))
+
+  pub closed-kept : (modes : OpenFlags) (same_text : List ℕ) (new : Kept) → same_text ≡ text → new ≡ closed_kept (counts_opens kind) modes held
+      → lone_meaning kind same_text new p ≡ closed_after n modes meaning
+  closed-kept modes same_text new same is = rw (same, is) (recounted (λ counted. closed_kept counted modes held) (closed_by modes) refl refl (counts_opens kind))
+
+-- nothing counts the opens of a node that isn't there
+pub uncounted : (counted : Bool) (m : Meaning) (n : Name) (f : Header → Header) → fin.get m.nodes n ≡ None → m ≡ edited (counting counted n f) m
+uncounted false m n f absent = refl
+uncounted true m n f absent = ap (with_nodes m) (sym (edit_absent m.nodes n (with_header f) absent))

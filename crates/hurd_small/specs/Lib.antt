@@ -5,4 +5,6 @@ pub mod Zero
 pub mod Symlink
 pub mod Firmlink
 pub mod Magic
+pub mod Drip
+pub mod Fifo
 pub mod Meanings

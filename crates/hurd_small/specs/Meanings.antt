@@ -1,9 +1,10 @@
--- What a server of one node means, of any kind.
+-- What a server of one node means, of any kind of which nothing changes.
 use Rattle.std.specs.Prelude.{ℕ, List}
 use Rattle.hurd_trans_iface.specs.Meaning.{Meaning, ServerKind}
 use Rattle.hurd_small.specs.declared.lone.Lone.{Lone}
-use Rattle.hurd_small.specs.Lone.{lone_meaning}
+use Rattle.hurd_small.specs.declared.still.Still.{Still}
+use Rattle.hurd_small.specs.Lone.{lone_meaning, nothing_kept}
 
 -- of this kind, with the text that it says of itself
-abbrev pub meaning_as : {S : Type 0} → ServerKind → (S → List ℕ) → Lone S → Meaning
-meaning_as kind text_of s = lone_meaning kind (text_of s.single) s.presence
+abbrev pub meaning_as : {S : Type 0} → ServerKind → (S → List ℕ) → Lone (Still S) → Meaning
+meaning_as kind text_of s = lone_meaning kind (text_of s.keeper.single) nothing_kept s.presence

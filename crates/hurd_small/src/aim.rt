@@ -24,6 +24,8 @@ impl Single for Aim {
 
     ghost no_tree = { refl };
 
+    ghost no_count = { refl };
+
     fn root(&self) -> Root {
         Root {
             kind: Kind::File,

@@ -9,14 +9,15 @@ ghost use Rattle.hurd_small.specs.Firmlink.{firmlink_meaning};
 use crate::aim::Aim;
 use crate::lone::Lone;
 use crate::presence::Presence;
+use crate::still::Still;
 use hurd_creds::{Bytes, Errno};
 use hurd_trans_iface::{Words, is_firm};
 use std::alloc::Global;
 
 /// A firm link, which leads to the node that its path led to when it began (the Hurd's `/hurd/firmlink`).
-pub type Firmlink = Lone<Aim>;
+pub type Firmlink = Lone<Still<Aim>>;
 
-impl Lone<Aim> {
+impl Lone<Still<Aim>> {
     /// The server that these words make: `/hurd/firmlink` and a path from the root of the tree, of at most 1,024 bytes. It has no root until one is named.
     ///
     /// Errors, in order: `EINVAL` other words; `ENOMEM`.
@@ -31,8 +32,10 @@ impl Lone<Aim> {
             return Err(Errno::EINVAL);
         };
         Ok(Lone {
-            single: Aim {
-                path: Bytes::copied(alloc, path)?,
+            keeper: Still {
+                single: Aim {
+                    path: Bytes::copied(alloc, path)?,
+                },
             },
             presence: Presence::Nameless,
         })

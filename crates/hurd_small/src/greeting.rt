@@ -25,6 +25,8 @@ impl Single for Greeting {
 
     ghost no_tree = { refl };
 
+    ghost no_count = { refl };
+
     fn root(&self) -> Root {
         Root {
             kind: Kind::File,

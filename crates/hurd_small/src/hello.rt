@@ -10,14 +10,15 @@ use crate::contents::contents_in;
 use crate::greeting::Greeting;
 use crate::lone::Lone;
 use crate::presence::Presence;
+use crate::still::Still;
 use hurd_creds::{Bytes, Errno};
 use hurd_trans_iface::Words;
 use std::alloc::Global;
 
 /// A file that gives a text, and takes nothing (the Hurd's `/hurd/hello`).
-pub type Hello = Lone<Greeting>;
+pub type Hello = Lone<Still<Greeting>>;
 
-impl Lone<Greeting> {
+impl Lone<Still<Greeting>> {
     /// The server that these words make: `/hurd/hello`, alone or with one word `--contents=` and the text behind it.
     /// It has no root until one is named.
     ///
@@ -34,8 +35,10 @@ impl Lone<Greeting> {
             return Err(Errno::EINVAL);
         };
         Ok(Lone {
-            single: Greeting {
-                text: Bytes::copied(alloc, text)?,
+            keeper: Still {
+                single: Greeting {
+                    text: Bytes::copied(alloc, text)?,
+                },
             },
             presence: Presence::Nameless,
         })

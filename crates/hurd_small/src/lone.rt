@@ -1,45 +1,34 @@
 //! A server of one node.
-ghost use Rattle.std.specs.Prelude.{◌≡◌, ℕ, List};
+ghost use Rattle.std.specs.Prelude.{◌≡◌};
 ghost use Rattle.std.specs.FinMap as fin;
 ghost use Rattle.hurd_trans_iface.specs.Nodes.{is_dir};
-ghost use Rattle.hurd_trans_iface.specs.Meaning.{ServerKind, new_server, root_of};
+ghost use Rattle.hurd_trans_iface.specs.Meaning.{root_of};
 ghost use Rattle.hurd_small.specs.Lone.{barred_by, lone_meaning, nodes_of};
-ghost use Rattle.hurd_small.specs.Meanings.{meaning_as};
 
+use crate::keeper::Keeper;
 use crate::presence::{LoneNode, Presence};
-use crate::single::Single;
-use hurd_creds::{Attrs, Bytes, Errno, MOST_SIZE, Mode, NodeName};
+use hurd_creds::{Attrs, Bytes, Errno, Mode, NodeName, OpenFlags};
 use hurd_trans_iface::{Names, NewNode, Root, Server, Words, is_dir};
 use std::alloc::Global;
 
-/// A server of one node, a directory without entries or no directory, of which nothing changes but its options, and that it gets its name and is forgotten.
+/// A server of one node, a directory without entries or no directory, of which nothing changes but its options, what it keeps of the node, and that it gets its name and is forgotten.
 #[derive(Drop)]
-pub struct Lone<S> {
-    pub(crate) single: S,
+pub struct Lone<K> {
+    pub(crate) keeper: K,
     pub(crate) presence: Presence,
 }
 
-impl<S: Single> Lone<S> {
-    /// The server of a node that has no name yet.
-    pub fn unnamed(single: S) -> Lone<S>
-        ensures { (kind : ServerKind) (text : S → List ℕ) → meaning_as kind text result ≡ new_server kind (text single) }
-    {
-        Lone {
-            single,
-            presence: Presence::Nameless,
-        }
-    }
-
+impl<K: Keeper> Lone<K> {
     /// Whether its node is a directory.
     fn has_dir(&self) -> bool
-        ensures { result ≡ is_dir (root_of S.kind (S.text self.now.single)).kind }
+        ensures { result ≡ is_dir (root_of K.kind (K.text self.now.keeper)).kind }
     {
-        is_dir(self.single.root().kind)
+        is_dir(self.keeper.root().kind)
     }
 
     /// Why nothing changes in a directory of this name: `EDIED` no such node, `ENOTDIR`, `EROFS`.
     fn bars(&self, dir: NodeName) -> Errno
-        ensures { result ≡ barred_by (fin.get (nodes_of S.kind (S.text self.now.single) self.now.presence) dir) }
+        ensures { result ≡ barred_by (fin.get (nodes_of K.kind (K.text self.now.keeper) (K.held self.now.keeper) self.now.presence) dir) }
     {
         match self.presence.find(dir) {
             Some(_) if self.has_dir() => Errno::EROFS,
@@ -49,10 +38,11 @@ impl<S: Single> Lone<S> {
     }
 }
 
-impl<S: Single> Server for Lone<S> {
-    ghost meaning = { λ s. lone_meaning S.kind (S.text s.single) s.presence };
+impl<K: Keeper> Server for Lone<K> {
+    ghost meaning = { λ s. lone_meaning K.kind (K.text s.keeper) (K.held s.keeper) s.presence };
 
     fn begin_root(&mut self, root: NodeName, owner: u32, group: u32, mode: Mode) {
+        self.keeper.begin();
         self.presence = Presence::There(LoneNode {
             name: root,
             owner,
@@ -62,37 +52,37 @@ impl<S: Single> Server for Lone<S> {
     }
 
     fn root(&self) -> Root {
-        self.single.root()
+        self.keeper.root()
     }
 
     fn text(&self) -> &[u8] {
-        self.single.said()
+        self.keeper.said()
     }
 
     fn options(&self, alloc: Global) -> Result<Words, Errno> {
-        self.single.options(alloc)
+        self.keeper.options(alloc)
     }
 
     fn set_options(&mut self, alloc: Global, words: &Words) -> Result<(), Errno> {
-        self.single.set_options(alloc, words)
+        self.keeper.set_options(alloc, words)
     }
 
     fn targets(&self, alloc: Global) -> Result<Names, Errno> {
-        self.single.targets(alloc)
+        self.keeper.targets(alloc)
     }
 
     fn attrs(&self, node: NodeName) -> Option<Attrs> {
         let lone = self.presence.find(node)?;
         Some(Attrs {
-            kind: self.single.root().kind,
+            kind: self.keeper.root().kind,
             owner: lone.owner,
             group: lone.group,
             mode: lone.mode,
             links: 1,
-            size: self.single.size(),
+            size: self.keeper.size(),
             empty: self.has_dir(),
-            readers: 0,
-            writers: 0,
+            readers: self.keeper.readers(),
+            writers: self.keeper.writers(),
             passive: false,
             active: false,
             parent: None,
@@ -119,39 +109,35 @@ impl<S: Single> Server for Lone<S> {
         amount: u64,
     ) -> Result<Bytes, Errno> {
         match self.presence.find(node) {
-            Some(_) => self.single.read(alloc, at, amount),
+            Some(_) => self.keeper.read(alloc, at, amount),
             None => Err(Errno::EDIED),
         }
     }
 
-    fn write(&mut self, node: NodeName, _at: u64, bytes: &[u8]) -> Result<u64, Errno> {
-        if self.presence.find(node).is_none() {
-            return Err(Errno::EDIED);
+    fn write(&mut self, node: NodeName, at: u64, bytes: &[u8]) -> Result<u64, Errno> {
+        match self.presence.find(node) {
+            Some(_) => self.keeper.write(at, bytes),
+            None => Err(Errno::EDIED),
         }
-        self.single.takes()?;
-        Ok(bytes.len() as u64)
     }
 
     fn set_size(&mut self, node: NodeName, size: u64) -> Result<(), Errno> {
-        if self.presence.find(node).is_none() {
-            return Err(Errno::EDIED);
+        match self.presence.find(node) {
+            Some(_) => self.keeper.set_size(size),
+            None => Err(Errno::EDIED),
         }
-        if size > MOST_SIZE {
-            return Err(Errno::EFBIG);
-        }
-        self.single.takes()
     }
 
     fn content(&self, node: NodeName) -> Option<&[u8]> {
         match self.presence.find(node) {
-            Some(_) if !self.has_dir() => Some(&[]),
+            Some(_) if !self.has_dir() => Some(self.keeper.bytes()),
             _ => None,
         }
     }
 
     fn readable(&self, node: NodeName, at: u64) -> Option<u64> {
         match self.presence.find(node) {
-            Some(_) => Some(self.single.readable(at)),
+            Some(_) => Some(self.keeper.readable(at)),
             None => None,
         }
     }
@@ -226,6 +212,24 @@ impl<S: Single> Server for Lone<S> {
             return None;
         }
         Some(&[])
+    }
+
+    fn counts(&self) -> bool {
+        self.keeper.counts()
+    }
+
+    fn opened(&mut self, node: NodeName, modes: OpenFlags) {
+        match self.presence.find(node) {
+            Some(_) => self.keeper.opened(modes),
+            None => {}
+        }
+    }
+
+    fn closed(&mut self, node: NodeName, modes: OpenFlags) {
+        match self.presence.find(node) {
+            Some(_) => self.keeper.closed(modes),
+            None => {}
+        }
     }
 
     fn goaway(&mut self) {}

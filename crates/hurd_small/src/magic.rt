@@ -7,6 +7,7 @@ ghost use Rattle.hurd_small.specs.Magic.{magic_meaning};
 use crate::lone::Lone;
 use crate::presence::Presence;
 use crate::single::Single;
+use crate::still::Still;
 use crate::text;
 use crate::words::no_options;
 use hurd_creds::{Bytes, Errno, Kind};
@@ -14,13 +15,13 @@ use hurd_trans_iface::{Crossing, Names, Root, Words};
 use std::alloc::Global;
 
 /// A link to the ports of whoever follows it, by their numbers (the Hurd's `/hurd/magic fd`, as on `/dev/fd`).
-pub type Magic = Lone<OwnPorts>;
+pub type Magic = Lone<Still<OwnPorts>>;
 
 /// The ports of whoever looks.
 #[derive(Clone, Copy, Debug)]
 pub struct OwnPorts;
 
-impl Lone<OwnPorts> {
+impl Lone<Still<OwnPorts>> {
     /// The server that these words make: `/hurd/magic` and `fd`. It has no root until one is named.
     ///
     /// Errors: `EINVAL` other words.
@@ -34,7 +35,7 @@ impl Lone<OwnPorts> {
             return Err(Errno::EINVAL);
         }
         Ok(Lone {
-            single: OwnPorts,
+            keeper: Still { single: OwnPorts },
             presence: Presence::Nameless,
         })
     }
@@ -56,6 +57,8 @@ impl Single for OwnPorts {
     ghost text = { λ _. codes "fd" };
 
     ghost no_tree = { refl };
+
+    ghost no_count = { refl };
 
     fn root(&self) -> Root {
         Root {

@@ -6,19 +6,20 @@ ghost use Rattle.hurd_small.specs.Null.{null_meaning};
 use crate::lone::Lone;
 use crate::presence::Presence;
 use crate::single::Single;
+use crate::still::Still;
 use crate::words::{is_alone, no_options};
 use hurd_creds::{Bytes, Errno, Kind};
 use hurd_trans_iface::{Crossing, Names, Root, Words};
 use std::alloc::Global;
 
 /// A stream without bytes, which drops what it takes (the Hurd's `/hurd/null`).
-pub type Null = Lone<Nothing>;
+pub type Null = Lone<Still<Nothing>>;
 
 /// No bytes.
 #[derive(Clone, Copy, Debug)]
 pub struct Nothing;
 
-impl Lone<Nothing> {
+impl Lone<Still<Nothing>> {
     /// The server that these words make: `/hurd/null` alone. It has no root until one is named.
     ///
     /// Errors: `EINVAL` other words.
@@ -32,7 +33,7 @@ impl Lone<Nothing> {
             return Err(Errno::EINVAL);
         }
         Ok(Lone {
-            single: Nothing,
+            keeper: Still { single: Nothing },
             presence: Presence::Nameless,
         })
     }
@@ -44,6 +45,8 @@ impl Single for Nothing {
     ghost text = { λ _. [] };
 
     ghost no_tree = { refl };
+
+    ghost no_count = { refl };
 
     fn root(&self) -> Root {
         Root {

@@ -1,9 +1,9 @@
 //! The one node of a server, and whether it is there.
-ghost use Rattle.std.specs.Prelude.{◌≡◌, ℕ, List};
+ghost use Rattle.std.specs.Prelude.{◌≡◌, ℕ, List, IfSome};
 ghost use Rattle.std.specs.Option.{option_map};
 ghost use Rattle.std.specs.FinMap as fin;
 ghost use Rattle.hurd_trans_iface.specs.Meaning.{ServerKind};
-ghost use Rattle.hurd_small.specs.Lone.{node_of, nodes_of};
+ghost use Rattle.hurd_small.specs.Lone.{Kept, node_of, nodes_of};
 
 use hurd_creds::{Mode, NodeName};
 
@@ -27,7 +27,8 @@ pub(crate) enum Presence {
 impl Presence {
     /// The node of a name, if it is there.
     pub(crate) fn find(&self, node: NodeName) -> Option<LoneNode>
-        ensures { (kind : ServerKind) (text : List ℕ) → option_map (node_of kind text) result ≡ fin.get (nodes_of kind text self.now) node }
+        ensures found { (kind : ServerKind) (text : List ℕ) (kept : Kept) → option_map (node_of kind text kept) result ≡ fin.get (nodes_of kind text kept self.now) node }
+        ensures there { IfSome result (λ lone. (self.now ≡ Presence.There lone) × (lone.name ≡ node)) }
     {
         match self {
             Presence::Nameless => None,

@@ -3,7 +3,7 @@ ghost use Rattle.std.specs.Prelude.{◌≡◌, ℕ, false, List, [], Ok};
 ghost use Rattle.hurd_creds.specs.Memory.{Meets, Steps};
 ghost use Rattle.hurd_trans_iface.specs.Nodes.{Node, is_dir};
 ghost use Rattle.hurd_trans_iface.specs.Behaviour.{told_of};
-ghost use Rattle.hurd_trans_iface.specs.Meaning.{ServerKind, behaviour_of, empty_body, keeps_tree, options_of, root_of, targets_of};
+ghost use Rattle.hurd_trans_iface.specs.Meaning.{ServerKind, behaviour_of, counts_opens, empty_body, keeps_tree, options_of, root_of, targets_of};
 ghost use Rattle.hurd_small.specs.Lone.{IsGiven, IsPut, IsCut, text_taken};
 
 use hurd_creds::{Bytes, Errno};
@@ -70,4 +70,7 @@ pub trait Single: Drop {
 
     // Nothing is made in it.
     ghost no_tree: { keeps_tree kind ≡ false };
+
+    // Nothing counts who reads it and who writes it.
+    ghost no_count: { counts_opens kind ≡ false };
 }

@@ -8,15 +8,16 @@ ghost use Rattle.hurd_small.specs.Symlink.{symlink_meaning};
 
 use crate::lone::Lone;
 use crate::presence::Presence;
+use crate::still::Still;
 use crate::target::Target;
 use hurd_creds::{Bytes, Errno, MOST_PATH};
 use hurd_trans_iface::Words;
 use std::alloc::Global;
 
 /// A link, which leads to where its text says (the Hurd's `/hurd/symlink`).
-pub type Symlink = Lone<Target>;
+pub type Symlink = Lone<Still<Target>>;
 
-impl Lone<Target> {
+impl Lone<Still<Target>> {
     /// The server that these words make: `/hurd/symlink` and a path of 1 to 1,024 bytes. It has no root until one is named.
     ///
     /// Errors, in order: `EINVAL` other words; `ENOMEM`.
@@ -31,8 +32,10 @@ impl Lone<Target> {
             return Err(Errno::EINVAL);
         };
         Ok(Lone {
-            single: Target {
-                path: Bytes::copied(alloc, path)?,
+            keeper: Still {
+                single: Target {
+                    path: Bytes::copied(alloc, path)?,
+                },
             },
             presence: Presence::Nameless,
         })

@@ -26,6 +26,8 @@ impl Single for Target {
 
     ghost no_tree = { refl };
 
+    ghost no_count = { refl };
+
     fn root(&self) -> Root {
         Root {
             kind: Kind::Link,

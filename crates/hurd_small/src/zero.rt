@@ -6,19 +6,20 @@ ghost use Rattle.hurd_small.specs.Zero.{zero_meaning};
 use crate::lone::Lone;
 use crate::presence::Presence;
 use crate::single::Single;
+use crate::still::Still;
 use crate::words::{is_alone, no_options};
 use hurd_creds::{Bytes, Errno, Kind, MOST_READ};
 use hurd_trans_iface::{Crossing, Names, Root, Words};
 use std::alloc::Global;
 
 /// A stream of zero bytes without end, which drops what it takes (the Hurd's `/hurd/zero`).
-pub type Zero = Lone<Zeros>;
+pub type Zero = Lone<Still<Zeros>>;
 
 /// Zero bytes without end.
 #[derive(Clone, Copy, Debug)]
 pub struct Zeros;
 
-impl Lone<Zeros> {
+impl Lone<Still<Zeros>> {
     /// The server that these words make: `/hurd/zero` alone. It has no root until one is named.
     ///
     /// Errors: `EINVAL` other words.
@@ -32,7 +33,7 @@ impl Lone<Zeros> {
             return Err(Errno::EINVAL);
         }
         Ok(Lone {
-            single: Zeros,
+            keeper: Still { single: Zeros },
             presence: Presence::Nameless,
         })
     }
@@ -44,6 +45,8 @@ impl Single for Zeros {
     ghost text = { λ _. [] };
 
     ghost no_tree = { refl };
+
+    ghost no_count = { refl };
 
     fn root(&self) -> Root {
         Root {

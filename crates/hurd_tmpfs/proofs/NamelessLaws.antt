@@ -15,8 +15,7 @@ use Rattle.hurd_creds.specs.declared.name.Name.{Name}
 use Rattle.hurd_creds.proofs.NameLaws.{equal_if_same, same_name-apart, same_or_apart, get_here, get_apart, remove_apart, edit_here, edit_apart}
 use Rattle.hurd_trans_iface.specs.Nodes.{AllListed, Body, Header, Node, NodeMap, edit_all, is_dir, is_entered, is_entered_at, is_listed, linked, moved_to, unlinked, with_body, with_header}
 use Rattle.hurd_trans_iface.specs.Answers.{added, link_edits, move_edits, unlink_edits}
-use Rattle.hurd_trans_iface.specs.Behaviour.{Effect, left_by, size_left}
-use Rattle.hurd_tmpfs.specs.Changes.{served}
+use Rattle.hurd_trans_iface.specs.Behaviour.{Effect, left_by, served, size_left}
 use Rattle.hurd_tmpfs.specs.Nameless.{IsAt, KeepsOthers, Relisted}
 
 -- lists

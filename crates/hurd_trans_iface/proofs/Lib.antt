@@ -4,4 +4,7 @@ pub mod Goodness
 pub mod Options
 pub mod TmpfsGood
 pub mod LoneGood
+pub mod DripGood
+pub mod FifoGood
 pub mod Goods
+pub mod NodeSteps

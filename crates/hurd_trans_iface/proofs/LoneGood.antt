@@ -7,7 +7,7 @@ use Rattle.hurd_creds.specs.Limits.{most_size}
 use Rattle.hurd_trans_iface.specs.Nodes.{Body, Node}
 use Rattle.hurd_trans_iface.specs.Answers.{is_tree}
 use Rattle.hurd_trans_iface.specs.Behaviour.{Did, Behaviour, Question, reading, writing, resizing}
-use Rattle.hurd_trans_iface.specs.Good.{GoodBehaviour, IsBlind, KeepsRoot, KeepsSizes}
+use Rattle.hurd_trans_iface.specs.Good.{GoodBehaviour, IsBlindAt, KeepsRoot, KeepsSizes}
 use Rattle.hurd_trans_iface.specs.HelloKind.{hello}
 use Rattle.hurd_trans_iface.specs.NullKind.{null}
 use Rattle.hurd_trans_iface.specs.ZeroKind.{zeros}
@@ -19,7 +19,7 @@ use Rattle.hurd_trans_iface.proofs.Goodness.{IsFine, fine_done, fine_refused, fi
 use Rattle.hurd_trans_iface.proofs.Options.{hello-options-plain}
 
 -- an answer that leaves the node as it is
-abbrev Leaves : {T : Type 0} → Did T → Type 0
+abbrev pub Leaves : {T : Type 0} → Did T → Type 0
 Leaves d = (d.bytes ≡ None) × (d.size ≡ None)
 
 -- a kind whose answers change nothing, and whose sizes no node says
@@ -30,14 +30,14 @@ record IsStill (b : Behaviour) : Type 0 where
   read : (at amount : ℕ) (text : List ℕ) (x : Node) → IsFine Leaves (b.read text x at amount)
   write : (at : ℕ) (bs text : List ℕ) (x : Node) → IsFine Leaves (b.write text x at bs)
   set_size : (size : ℕ) (text : List ℕ) (x : Node) → IsFine Leaves (b.set_size text x size)
-  write_blind : (at : ℕ) (bs : List ℕ) → IsBlind b (writing at bs)
-  set_size_blind : (size : ℕ) → IsBlind b (resizing size)
+  write_blind : (text : List ℕ) (at : ℕ) (bs : List ℕ) → IsBlindAt b text (writing at bs)
+  set_size_blind : (text : List ℕ) (size : ℕ) → IsBlindAt b text (resizing size)
   no_words : b.set_options [] ≡ Ok None
   options_root : (ws : List (List ℕ)) (new : List ℕ) → b.set_options ws ≡ Ok (Some new) → KeepsRoot b new
   options_plain : (ws : List (List ℕ)) (e : Errno) → b.set_options ws ≡ Err e → is_no_memory e ≡ false
 
 -- an answer that leaves the node as it is leaves its size right
-still_sized : {T : Type 0} (b : Behaviour) (q : Question T) → ((text : List ℕ) (x : Node) → IsFine Leaves (q b text x)) → KeepsSizes b q
+pub still_sized : {T : Type 0} (b : Behaviour) (q : Question T) → ((text : List ℕ) (x : Node) → IsFine Leaves (q b text x)) → KeepsSizes b q
 still_sized b q fine text x d shaped sized is = let l = fine_done Leaves (q b text x) d (fine text x) is in rw (l.0, l.1) sized
 
 good_still : (b : Behaviour) → IsStill b → GoodBehaviour b
@@ -49,7 +49,7 @@ good_still b s = record {
   entered = λ text name n c. s.sizes text c _;
   removed = λ text name c. s.sizes text c _;
   newborn = λ is text dir entry new x made. absurd (true≢false (sym is ∙ s.treeless));
-  write_blind = s.write_blind;
+  write_blind = λ other. s.write_blind;
   set_size_blind = s.set_size_blind;
   no_words = s.no_words;
   options_root = s.options_root;
@@ -67,8 +67,8 @@ hello_good = good_still hello (record {
   read = λ at amount text x. (refl, refl);
   write = λ at bs text x. refl;
   set_size = λ size text x. fine_if Leaves (nat_lt most_size size) _ _ (λ long. refl) (λ short. refl);
-  write_blind = λ at bs text h c e. refl;
-  set_size_blind = λ size text h c e. refl;
+  write_blind = λ text at bs h c e. refl;
+  set_size_blind = λ text size h c e. refl;
   no_words = refl;
   options_root = λ ws new is. record { lone = refl; rooted = λ text. refl; sized = λ c. refl };
   options_plain = hello-options-plain;
@@ -82,8 +82,8 @@ null_good = good_still null (record {
   read = λ at amount text x. (refl, refl);
   write = λ at bs text x. (refl, refl);
   set_size = λ size text x. fine_if Leaves (nat_lt most_size size) _ _ (λ long. refl) (λ short. (refl, refl));
-  write_blind = λ at bs text h c e. refl;
-  set_size_blind = λ size text h c e. refl;
+  write_blind = λ text at bs h c e. refl;
+  set_size_blind = λ text size h c e. refl;
   no_words = refl;
   options_root = λ ws new is. absurd (no-options-text ws new is);
   options_plain = no-options-plain;
@@ -97,8 +97,8 @@ zeros_good = good_still zeros (record {
   read = λ at amount text x. (refl, refl);
   write = λ at bs text x. (refl, refl);
   set_size = λ size text x. fine_if Leaves (nat_lt most_size size) _ _ (λ long. refl) (λ short. (refl, refl));
-  write_blind = λ at bs text h c e. refl;
-  set_size_blind = λ size text h c e. refl;
+  write_blind = λ text at bs h c e. refl;
+  set_size_blind = λ text size h c e. refl;
   no_words = refl;
   options_root = λ ws new is. absurd (no-options-text ws new is);
   options_plain = no-options-plain;
@@ -112,8 +112,8 @@ symlink_good = good_still symlink (record {
   read = λ at amount text x. (refl, refl);
   write = λ at bs text x. refl;
   set_size = λ size text x. fine_if Leaves (nat_lt most_size size) _ _ (λ long. refl) (λ short. refl);
-  write_blind = λ at bs text h c e. refl;
-  set_size_blind = λ size text h c e. refl;
+  write_blind = λ text at bs h c e. refl;
+  set_size_blind = λ text size h c e. refl;
   no_words = refl;
   options_root = λ ws new is. absurd (no-options-text ws new is);
   options_plain = no-options-plain;
@@ -127,8 +127,8 @@ firmlink_good = good_still firmlink (record {
   read = λ at amount text x. (refl, refl);
   write = λ at bs text x. refl;
   set_size = λ size text x. fine_if Leaves (nat_lt most_size size) _ _ (λ long. refl) (λ short. refl);
-  write_blind = λ at bs text h c e. refl;
-  set_size_blind = λ size text h c e. refl;
+  write_blind = λ text at bs h c e. refl;
+  set_size_blind = λ text size h c e. refl;
   no_words = refl;
   options_root = λ ws new is. absurd (no-options-text ws new is);
   options_plain = no-options-plain;
@@ -142,8 +142,8 @@ union_good = good_still union (record {
   read = λ at amount text x. refl;
   write = λ at bs text x. refl;
   set_size = λ size text x. fine_if Leaves (nat_lt most_size size) _ _ (λ long. refl) (λ short. refl);
-  write_blind = λ at bs text h c e. refl;
-  set_size_blind = λ size text h c e. refl;
+  write_blind = λ text at bs h c e. refl;
+  set_size_blind = λ text size h c e. refl;
   no_words = refl;
   options_root = λ ws new is. absurd (no-options-text ws new is);
   options_plain = no-options-plain;
@@ -157,8 +157,8 @@ magic_good = good_still magic (record {
   read = λ at amount text x. (refl, refl);
   write = λ at bs text x. refl;
   set_size = λ size text x. fine_if Leaves (nat_lt most_size size) _ _ (λ long. refl) (λ short. refl);
-  write_blind = λ at bs text h c e. refl;
-  set_size_blind = λ size text h c e. refl;
+  write_blind = λ text at bs h c e. refl;
+  set_size_blind = λ text size h c e. refl;
   no_words = refl;
   options_root = λ ws new is. absurd (no-options-text ws new is);
   options_plain = no-options-plain;

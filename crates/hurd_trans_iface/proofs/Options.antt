@@ -10,9 +10,10 @@ use Rattle.hurd_creds.specs.Memory.{is_no_memory}
 use Rattle.std.specs.Option.{option_map}
 use Rattle.std.specs.Str.{bytes_eq}
 use Rattle.hurd_creds.specs.Limits.{most_path}
-use Rattle.hurd_trans_iface.specs.Meaning.{Meaning, ServerKind, Tmpfs, Hello, Null, Zero, Symlink, Firmlink, Union, Magic, all_kinds, begin, begin_among, begin_as, behaviour_of, new_server, options_of}
+use Rattle.hurd_trans_iface.specs.Meaning.{Meaning, ServerKind, Tmpfs, Hello, Null, Zero, Symlink, Firmlink, Union, Magic, Drip, Fifo, all_kinds, begin, begin_among, begin_as, behaviour_of, new_server, options_of}
 use Rattle.hurd_trans_iface.specs.HelloKind.{behind, most_text, says_text, short_text, text_in, hello_options}
 use Rattle.hurd_trans_iface.specs.FirmlinkKind.{is_firm}
+use Rattle.hurd_trans_iface.specs.DripKind.{says_drops}
 use Rattle.hurd_trans_iface.specs.UnionKind.{marked, text_of, onto_first, words_of, most_branches}
 use Rattle.hurd_trans_iface.specs.Words.{IsWithinLimits}
 use Rattle.hurd_trans_iface.proofs.Goodness.{no-options-text}
@@ -33,6 +34,10 @@ firm_remade true w text is h = let same : w ≡ text = cc in subst (λ (t : List
 magic_remade : (b : Bool) (text : List ℕ) → (let o : Option (List ℕ) = if b then Some (codes "fd") else None in o) ≡ Some text → Remakes (new_server Magic text)
 magic_remade false text h = absurd (cc)
 magic_remade true text h = let same : codes "fd" ≡ text = cc in subst (λ (t : List ℕ). Remakes (new_server Magic t)) same refl
+
+drip_remade : (b : Bool) (w text : List ℕ) → says_drops w ≡ b → (let o : Option (List ℕ) = if b then Some w else None in o) ≡ Some text → Remakes (new_server Drip text)
+drip_remade false w text is h = absurd (cc)
+drip_remade true w text is h = let same : w ≡ text = cc in subst (λ (t : List ℕ). Remakes (new_server Drip t)) same (rw is refl)
 
 -- the words of a text are those that it was made of
 
@@ -73,6 +78,11 @@ remade Union (w ∷ ws) text h = union_remade (nat_le (length (w ∷ ws)) most_b
 remade Magic [] text h = absurd (cc)
 remade Magic (w ∷ []) text h = magic_remade (bytes_eq w (codes "fd")) text h
 remade Magic (w ∷ v ∷ ws) text h = absurd (cc)
+remade Drip [] text h = absurd (cc)
+remade Drip (w ∷ []) text h = drip_remade (says_drops w) w text refl h
+remade Drip (w ∷ v ∷ ws) text h = absurd (cc)
+remade Fifo [] text h = let same : [] ≡ text = cc in subst (λ (t : List ℕ). Remakes (new_server Fifo t)) same refl
+remade Fifo (w ∷ ws) text h = absurd (cc)
 
 abbrev AgainIs : Meaning → Type 0
 AgainIs m = begin (options_of m.kind m.text) ≡ Some m
@@ -147,6 +157,8 @@ set-again Symlink ws text is = absurd (no-options-text ws text is)
 set-again Firmlink ws text is = absurd (no-options-text ws text is)
 set-again Union ws text is = absurd (no-options-text ws text is)
 set-again Magic ws text is = absurd (no-options-text ws text is)
+set-again Drip ws text is = absurd (no-options-text ws text is)
+set-again Fifo ws text is = absurd (no-options-text ws text is)
 
 pub set-within : (k : ServerKind) (ws : List (List ℕ)) (text : List ℕ) → (behaviour_of k).set_options ws ≡ Ok (Some text) → IsWithinLimits (options_of k text)
 set-within Tmpfs ws text is = absurd (no-options-text ws text is)
@@ -157,3 +169,5 @@ set-within Symlink ws text is = absurd (no-options-text ws text is)
 set-within Firmlink ws text is = absurd (no-options-text ws text is)
 set-within Union ws text is = absurd (no-options-text ws text is)
 set-within Magic ws text is = absurd (no-options-text ws text is)
+set-within Drip ws text is = absurd (no-options-text ws text is)
+set-within Fifo ws text is = absurd (no-options-text ws text is)

@@ -36,6 +36,8 @@ pub record Behaviour : Type 0 where
   pub root : List ℕ → Root
   -- whether it keeps a tree: nodes can be made in its directories
   pub tree : Bool
+  -- whether it counts who reads its root and who writes it, whom it then tells of each other
+  pub counts : Bool
   -- the size of a node, by the text and what is in the node
   pub size : List ℕ → Body → ℕ
   -- so many bytes from a place on
@@ -95,6 +97,10 @@ node_left d x = record { header = size_left d.size x.header; body = bytes_left d
 abbrev pub left_by : {T : Type 0} → Effect T → Node → Node
 left_by (Ok d) x = node_left d x
 left_by (Err e) x = x
+
+-- the answer of a call about one node, and the node that it leaves
+abbrev pub served : {T : Type 0} → Effect T → Node → Result T Errno × Node
+served e x = (told_of e, left_by e x)
 
 -- the effect on a node that may not be there
 abbrev pub effect_on : {T : Type 0} → Question T → Behaviour → List ℕ → Option Node → Effect T

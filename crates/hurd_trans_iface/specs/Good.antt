@@ -17,10 +17,10 @@ abbrev pub KeepsSizes : {T : Type 0} → Behaviour → Question T → Type 0
 KeepsSizes {T} b q =
     (text : List ℕ) (x : Node) (d : Did T) → IsShaped x.header x.body → IsSized b text x → q b text x ≡ Ok d → IsSized b text (node_left d x)
 
--- nothing is told of what is in the node, and what it makes of it doesn't depend on that
-abbrev pub IsBlind : {T : Type 0} → Behaviour → Question T → Type 0
-IsBlind b q =
-    (text : List ℕ) (h : Header) (c e : Body)
+-- nothing is told of what is in a node of a server of this text, and what it makes of it doesn't depend on that
+abbrev pub IsBlindAt : {T : Type 0} → Behaviour → List ℕ → Question T → Type 0
+IsBlindAt b text q =
+    (h : Header) (c e : Body)
     → let x : Node = record { header = h; body = c } in let y : Node = record { header = h; body = e } in q b text y ≡ q b text x
 
 -- no refusal is want of memory: of memory a meaning knows nothing
@@ -43,8 +43,9 @@ pub record GoodBehaviour (b : Behaviour) : Type 0 where
   pub entered : (text name : List ℕ) (n : Name) (c : Body) → b.size text (with_entry name n c) ≡ b.size text c
   pub removed : (text name : List ℕ) (c : Body) → b.size text (without_entry name c) ≡ b.size text c
   pub newborn : b.tree ≡ true → (text : List ℕ) (dir : Name) (entry : Option (List ℕ)) (new : NewNode) (x : Node) → made_node dir entry new ≡ Some x → IsSized b text x
-  pub write_blind : (at : ℕ) (bs : List ℕ) → IsBlind b (writing at bs)
-  pub set_size_blind : (size : ℕ) → IsBlind b (resizing size)
+  -- what a kind takes that counts who reads may depend on what is in the node, and of no other kind does it
+  pub write_blind : b.counts ≡ false → (text : List ℕ) (at : ℕ) (bs : List ℕ) → IsBlindAt b text (writing at bs)
+  pub set_size_blind : (text : List ℕ) (size : ℕ) → IsBlindAt b text (resizing size)
   -- options without words change nothing
   pub no_words : b.set_options [] ≡ Ok None
   pub options_root : (ws : List (List ℕ)) (new : List ℕ) → b.set_options ws ≡ Ok (Some new) → KeepsRoot b new

@@ -54,6 +54,7 @@ hello = record {
   targets = λ text. [];
   root = λ text. record { kind = File; is_stream = false; crossing = Plain };
   tree = false;
+  counts = false;
   size = λ text b. length text;
   read = λ text x at amount. only (take amount (drop at text));
   write = λ text x at bs. Err EOPNOTSUPP;

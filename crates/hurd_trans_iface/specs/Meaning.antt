@@ -6,13 +6,14 @@ use Rattle.std.specs.FinMap as fin
 use Rattle.hurd_creds.specs.declared.name.Name.{Name}
 use Rattle.hurd_creds.specs.NameMaps.{map_values}
 use Rattle.hurd_creds.specs.declared.mode.Mode.{Mode}
+use Rattle.hurd_creds.specs.declared.open_flags.OpenFlags.{OpenFlags}
 use Rattle.hurd_creds.specs.declared.errno.Errno.{Errno}
 use Rattle.hurd_trans_iface.specs.declared.new_node.NewNode.{NewNode}
 use Rattle.hurd_trans_iface.specs.declared.root.Root.{Root}
-use Rattle.hurd_trans_iface.specs.Nodes.{Body, Content, Listing, Node, NodeMap, Edit, body_of, edit_all, is_dir, with_header, with_size}
+use Rattle.hurd_trans_iface.specs.Nodes.{Body, Content, Listing, Node, NodeMap, Edit, body_of, edit_all, is_dir, with_header, with_size, counting, opened_by, closed_by}
 use Rattle.hurd_trans_iface.specs.Answers.{entry_of, make_of, make_edits, link_of, link_edits, unlink_of, unlink_edits, rename_of, rename_edits, set_header_of, set_attrs_edits, set_passive_edits, edits_if}
 use Rattle.hurd_trans_iface.specs.Behaviour.{Behaviour, Question, effect_on, told_of, edits_of}
-pub use Rattle.hurd_trans_iface.specs.Kinds.{ServerKind, Tmpfs, Hello, Null, Zero, Symlink, Firmlink, Union, Magic, all_kinds, behaviour_of}
+pub use Rattle.hurd_trans_iface.specs.Kinds.{ServerKind, Tmpfs, Hello, Null, Zero, Symlink, Firmlink, Union, Magic, Drip, Fifo, all_kinds, behaviour_of}
 
 -- a server: its kind, its text, the name of its root once that has one, and its own nodes
 pub record Meaning : Type 0 where
@@ -55,6 +56,10 @@ options_of k text = (behaviour_of k).options text
 abbrev pub targets_of : ServerKind → List ℕ → List (List ℕ)
 targets_of k text = (behaviour_of k).targets text
 
+-- whether servers of a kind count who reads and who writes
+abbrev pub counts_opens : ServerKind → Bool
+counts_opens k = (behaviour_of k).counts
+
 -- whether servers of a kind keep trees
 abbrev pub keeps_tree : ServerKind → Bool
 keeps_tree k = (behaviour_of k).tree
@@ -68,7 +73,7 @@ abbrev pub new_root : Behaviour → List ℕ → ℕ → ℕ → Mode → Node
 new_root b text owner group mode =
     let body = empty_body (is_dir (b.root text).kind) in
     record {
-      header = record { kind = (b.root text).kind; owner = owner; group = group; mode = mode; links = 1; size = b.size text body; parent = None; passive = [] };
+      header = record { kind = (b.root text).kind; owner = owner; group = group; mode = mode; links = 1; size = b.size text body; readers = 0; writers = 0; parent = None; passive = [] };
       body = body;
     }
 
@@ -133,6 +138,14 @@ set_attrs_step n owner group mode m =
 abbrev pub set_passive_step : Name → List (List ℕ) → Meaning → Result (Unit {0}) Errno × Meaning
 set_passive_step n words m =
     let answer = set_header_of (keeps_tree m.kind) (fin.get m.nodes n) in (answer, edited (edits_if answer (set_passive_edits n words)) m)
+
+-- a node opened with these modes
+abbrev pub opened_after : Name → OpenFlags → Meaning → Meaning
+opened_after n modes m = edited (counting (counts_opens m.kind) n (opened_by modes)) m
+
+-- an open of a node gone, which had these modes
+abbrev pub closed_after : Name → OpenFlags → Meaning → Meaning
+closed_after n modes m = edited (counting (counts_opens m.kind) n (closed_by modes)) m
 
 -- the server without a node; entries that name it stay
 abbrev pub forget_after : Meaning → Name → Meaning

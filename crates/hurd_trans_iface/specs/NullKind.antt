@@ -16,6 +16,7 @@ null = record {
   targets = λ text. [];
   root = λ text. record { kind = Char; is_stream = true; crossing = Plain };
   tree = false;
+  counts = false;
   size = λ text b. 0;
   read = λ text x at amount. only [];
   write = λ text x at bs. only (length bs);

@@ -56,6 +56,7 @@ tmpfs = record {
   targets = λ text. [];
   root = λ text. record { kind = Dir; is_stream = false; crossing = Plain };
   tree = true;
+  counts = false;
   size = λ text b. bytes_in b;
   read = λ text x at amount. read_bytes at amount x.body;
   write = λ text x at bs. write_file x.header at bs;

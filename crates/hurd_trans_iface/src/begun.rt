@@ -2,18 +2,26 @@
 ghost use Rattle.std.specs.List.{list_all};
 ghost use Rattle.std.specs.Prelude.{◌≡◌, ◌∷◌, [], ℕ, List, Some, Ok, codes, is_some};
 ghost use Rattle.hurd_trans_iface.specs.HelloKind.{behind, hello_text};
-ghost use Rattle.hurd_trans_iface.specs.Meaning.{Meaning, ServerKind, Tmpfs, Hello, Null, Zero, Symlink, Firmlink, Union, Magic, behaviour_of, begin, begin_among, begin_as, new_server, options_of};
+ghost use Rattle.hurd_trans_iface.specs.Meaning.{Meaning, ServerKind, Tmpfs, Hello, Null, Zero, Symlink, Firmlink, Union, Magic, Drip, Fifo, behaviour_of, begin, begin_among, begin_as, new_server, options_of};
 ghost use Rattle.hurd_trans_iface.specs.SymlinkKind.{target_text};
 ghost use Rattle.hurd_trans_iface.specs.FirmlinkKind.{firm_text, is_firm};
 ghost use Rattle.hurd_trans_iface.specs.UnionKind.{union_text};
 ghost use Rattle.hurd_trans_iface.specs.MagicKind.{magic_text};
+ghost use Rattle.hurd_trans_iface.specs.DripKind.{drip_text, is_bare, says_drops};
 ghost use Rattle.hurd_trans_iface.specs.TmpfsKind.{no_text};
 ghost use Rattle.hurd_trans_iface.specs.Words.{IsWithinLimits};
 
 use hurd_creds::{Bytes, MOST_PATH};
+use hurd_words::numbers::long_number;
 
 /// The most directories of a union.
 const MOST_BRANCHES: usize = 16;
+
+/// The most bytes of a drip.
+const MOST_DROPS: u64 = 1000;
+
+/// The most digits that say how many those are.
+const MOST_DROP_DIGITS: usize = 4;
 
 /// Whether there are no words behind a program's name.
 fn says_nothing(arguments: &[Bytes]) -> bool
@@ -174,11 +182,74 @@ fn makes_magic(words: &[Bytes]) -> bool
     }
 }
 
-/// Whether these words make a server that leads to other nodes.
-fn leads_on(words: &[Bytes]) -> bool
-    ensures { result ≡ is_some (begin_among (Symlink ∷ Firmlink ∷ Union ∷ Magic ∷ []) words.now) }
+/// Whether no zero stands before other digits.
+fn is_bare(digits: &[u8]) -> bool
+    ensures { result ≡ is_bare digits.now }
 {
-    makes_symlink(words) || makes_firmlink(words) || makes_union(words) || makes_magic(words)
+    match digits {
+        [first, _, ..] => *first != b'0',
+        _ => true,
+    }
+}
+
+/// Whether a word says how many bytes a drip has: 0 to 1,000 in decimal digits, the first no zero but where it is alone.
+pub fn says_drops(digits: &[u8]) -> bool
+    ensures { result ≡ says_drops digits.now }
+{
+    digits.len() <= MOST_DROP_DIGITS
+        && is_bare(digits)
+        && match long_number(digits) {
+            Some(count) => count <= MOST_DROPS,
+            None => false,
+        }
+}
+
+/// Whether the words behind `/hurd/drip` make a drip: one that says how many bytes it has.
+fn says_count(arguments: &[Bytes]) -> bool
+    ensures { result ≡ is_some (drip_text arguments.now) }
+{
+    match arguments {
+        [count] => says_drops(count.as_slice()),
+        _ => false,
+    }
+}
+
+/// Whether these words make a drip.
+fn makes_drip(words: &[Bytes]) -> bool
+    ensures { result ≡ is_some (begin_as Drip words.now) }
+{
+    match words {
+        [program, arguments @ ..] => program.is(b"/hurd/drip") && says_count(arguments),
+        [] => false,
+    }
+}
+
+/// Whether these words make a pipe: `/hurd/fifo` alone.
+fn makes_fifo(words: &[Bytes]) -> bool
+    ensures { result ≡ is_some (begin_as Fifo words.now) }
+{
+    match words {
+        [program, arguments @ ..] => program.is(b"/hurd/fifo") && says_nothing(arguments),
+        [] => false,
+    }
+}
+
+/// Whether these words make a drip or a pipe.
+fn makes_source(words: &[Bytes]) -> bool
+    ensures { result ≡ is_some (begin_among (Drip ∷ Fifo ∷ []) words.now) }
+{
+    makes_drip(words) || makes_fifo(words)
+}
+
+/// Whether these words make a server that leads to other nodes, or a drip or a pipe.
+fn leads_on_or_gives(words: &[Bytes]) -> bool
+    ensures { result ≡ is_some (begin_among (Symlink ∷ Firmlink ∷ Union ∷ Magic ∷ Drip ∷ Fifo ∷ []) words.now) }
+{
+    makes_symlink(words)
+        || makes_firmlink(words)
+        || makes_union(words)
+        || makes_magic(words)
+        || makes_source(words)
 }
 
 /// Whether some kind of server takes these words.
@@ -189,7 +260,7 @@ pub fn words_ok(words: &[Bytes]) -> bool
         || makes_hello(words)
         || makes_null(words)
         || makes_zero(words)
-        || leads_on(words)
+        || leads_on_or_gives(words)
 }
 
 /// The words that a server says of itself make it again, as it was when it began.

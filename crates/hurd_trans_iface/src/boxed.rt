@@ -4,7 +4,7 @@ use crate::new_node::NewNode;
 use crate::root::Root;
 use crate::server::Server;
 use crate::words::Words;
-use hurd_creds::{Attrs, Bytes, Errno, Mode, NodeName};
+use hurd_creds::{Attrs, Bytes, Errno, Mode, NodeName, OpenFlags};
 use std::alloc::Global;
 
 impl Server for Box<dyn Server> {
@@ -131,6 +131,18 @@ impl Server for Box<dyn Server> {
 
     fn nameless(&self) -> Option<&[NodeName]> {
         (**self).nameless()
+    }
+
+    fn counts(&self) -> bool {
+        (**self).counts()
+    }
+
+    fn opened(&mut self, node: NodeName, modes: OpenFlags) {
+        (**self).opened(node, modes)
+    }
+
+    fn closed(&mut self, node: NodeName, modes: OpenFlags) {
+        (**self).closed(node, modes)
     }
 
     fn goaway(&mut self) {

@@ -6,13 +6,13 @@ ghost use Rattle.hurd_creds.specs.Memory.{Meets, Steps};
 ghost use Rattle.hurd_trans_iface.specs.Nodes.{AllListed, Reaches, attrs_of, body_of, content_of, passive_of};
 ghost use Rattle.hurd_trans_iface.specs.Answers.{entry_of, names_of};
 ghost use Rattle.hurd_trans_iface.specs.Behaviour.{reading, writing, resizing};
-ghost use Rattle.hurd_trans_iface.specs.Meaning.{Meaning, root_of, options_of, targets_of, begin_root_after, step_of, set_options_step, make_step, link_step, unlink_step, rename_step, set_attrs_step, set_passive_step, forget_after, readable_of};
+ghost use Rattle.hurd_trans_iface.specs.Meaning.{Meaning, root_of, options_of, targets_of, begin_root_after, step_of, set_options_step, make_step, link_step, unlink_step, rename_step, set_attrs_step, set_passive_step, forget_after, readable_of, counts_opens, opened_after, closed_after};
 
 use crate::names::Names;
 use crate::new_node::NewNode;
 use crate::root::Root;
 use crate::words::Words;
-use hurd_creds::{Attrs, Bytes, Errno, Mode, NodeName};
+use hurd_creds::{Attrs, Bytes, Errno, Mode, NodeName, OpenFlags};
 use std::alloc::Global;
 
 /// A server of nodes, as a boxed object that the core owns (GNU Hurd Reference Manual, Translators; `fs.defs`, `io.defs`).
@@ -172,6 +172,18 @@ pub trait Server: Drop {
     /// itself whenever something may have gone, so a short one serves best. Takes no memory.
     fn nameless(&self) -> Option<&[NodeName]>
         ensures { IfSome (option_copied result) (λ names. AllListed (meaning self.now).nodes names) };
+
+    /// Whether it counts who reads and who writes each of its nodes. Takes no memory.
+    fn counts(&self) -> bool
+        ensures { result ≡ counts_opens (meaning self.now).kind };
+
+    /// A node is opened with these modes: a server that counts who reads and who writes has one more of each that the modes ask for. Takes no memory.
+    fn opened(&mut self, node: NodeName, modes: OpenFlags)
+        ensures { meaning self.new ≡ opened_after node modes (meaning self.old) };
+
+    /// The last right to an open of a node is gone, which had these modes: a server that counts has one fewer of each. Takes no memory.
+    fn closed(&mut self, node: NodeName, modes: OpenFlags)
+        ensures { meaning self.new ≡ closed_after node modes (meaning self.old) };
 
     /// The server is about to be sent away (`fsys_goaway`, `fsys.defs`). Takes no memory.
     fn goaway(&mut self)

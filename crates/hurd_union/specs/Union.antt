@@ -1,9 +1,10 @@
 -- What a union means.
 use Rattle.hurd_trans_iface.specs.Meaning.{Meaning, Union as UnionKind}
 use Rattle.hurd_small.specs.declared.lone.Lone.{Lone}
+use Rattle.hurd_small.specs.declared.still.Still.{Still}
 use Rattle.hurd_small.specs.Meanings.{meaning_as}
 use Rattle.hurd_union.specs.declared.branches.Branches.{Branches}
 
 -- a server of this kind and its text
-abbrev pub union_meaning : Lone Branches → Meaning
+abbrev pub union_meaning : Lone (Still Branches) → Meaning
 union_meaning s = meaning_as UnionKind (λ b. b.text) s

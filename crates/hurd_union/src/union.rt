@@ -9,12 +9,12 @@ ghost use Rattle.hurd_union.specs.Union.{union_meaning};
 use crate::branches::Branches;
 use crate::coded::coded;
 use hurd_creds::{Bytes, Errno};
-use hurd_small::Lone;
+use hurd_small::{Lone, Still};
 use hurd_trans_iface::{Words, says_targets};
 use std::alloc::Global;
 
 /// A directory that shows what several others have (the Hurd's `/hurd/unionfs`).
-pub type Union = Lone<Branches>;
+pub type Union = Lone<Still<Branches>>;
 
 /// The server that these words make: `/hurd/union` and 1 to 16 paths from the root of the tree, each of at most 1,024 bytes. It has no root until one is named.
 ///

@@ -1,7 +1,5 @@
 -- Some tasks have one view of a world.
-use Rattle.std.proofs.Common.{◌≡◌, ◌∙◌, sym, refl, ap, subst, ℕ, Bool, true, List, [], ◌∷◌, ◌++◌, map}
-use Rattle.std.specs.Prelude.{◌↔◌}
-use Rattle.std.specs.Ordering.{nat_cmp}
+use Rattle.std.proofs.Common.{◌≡◌, ◌∙◌, sym, refl, ap, subst, ℕ, Bool, List, [], ◌∷◌, ◌++◌, map}
 use Rattle.std.specs.Cmp.{nat_cmp_total}
 use Rattle.std.specs.FinMap.{nat_cmp-IsAntisymmetric}
 use Rattle.std.specs.FinSet as set
@@ -9,13 +7,11 @@ use Rattle.hurd_creds.specs.declared.name.Name.{Name}
 use Rattle.hurd_creds.specs.declared.name.TaskId.{TaskId}
 use Rattle.hurd_creds.specs.Access.{IdSets}
 use Rattle.hurd_machine.specs.World.{World, nodes_of}
-use Rattle.hurd_machine.specs.Sight.{Sees}
 use Rattle.hurd_sight.specs.Found.{FoundAll}
 use Rattle.hurd_sight.specs.Looks.{sees_with}
-use Rattle.hurd_sight.specs.Parts.{known_at, named, no_names, of_found, part_of, rights_held, with_rights}
+use Rattle.hurd_sight.specs.Parts.{known_at, named, no_names, of_found, rights_held, with_rights}
 use Rattle.hurd_sight.specs.Reach.{Reaches, among}
 use Rattle.hurd_sight.specs.declared.found.Why.{Why}
-use Rattle.hurd_sight.specs.declared.held.RightNames.{RightNames}
 use Rattle.hurd_sight.specs.declared.parts.SeenPart.{SeenPart}
 use Rattle.hurd_sight.specs.declared.parts.SeenPart.TheVariants as seen
 use Rattle.hurd_sight.proofs.FollowLaws.{found_is_one}

@@ -13,7 +13,7 @@ use Rattle.hurd_creds.specs.declared.attrs.Attrs.{Attrs}
 use Rattle.hurd_creds.specs.Access.{IdSets}
 use Rattle.hurd_trans_iface.specs.Nodes.{Body, Content, Listing, Entry, Header, Node, is_empty_dir}
 use Rattle.hurd_trans_iface.specs.Answers.{entry_in}
-use Rattle.hurd_trans_iface.specs.Meaning.{ServerKind, Tmpfs, Hello, Null, Zero, Symlink, Firmlink, Union, Magic, all_kinds, behaviour_of, options_of}
+use Rattle.hurd_trans_iface.specs.Meaning.{ServerKind, Tmpfs, Hello, Null, Zero, Symlink, Firmlink, Union, Magic, Drip, Fifo, all_kinds, behaviour_of, options_of}
 use Rattle.hurd_nodes.specs.Shown.{ServerInfo}
 use Rattle.hurd_ports.specs.Tables.{Task}
 use Rattle.hurd_machine.specs.World.{World, IsAmong, nodes_of, active_at, body_at, header_at, home_at, open_at, server_at, task_at, words_at, words_in}
@@ -65,7 +65,7 @@ test_same false false to from = refl
 -- a header is told by its bare attributes and its words
 
 abbrev with_words : Attrs → List (List ℕ) → Header
-with_words a ws = record { kind = a.kind; owner = a.owner; group = a.group; mode = a.mode; links = a.links; size = a.size; parent = a.parent; passive = ws }
+with_words a ws = record { kind = a.kind; owner = a.owner; group = a.group; mode = a.mode; links = a.links; size = a.size; readers = a.readers; writers = a.writers; parent = a.parent; passive = ws }
 
 abbrev headers : Option Attrs → List (List ℕ) → Option Header
 headers None ws = None
@@ -156,6 +156,8 @@ kind_said Zero text = refl
 kind_said Symlink text = refl
 kind_said Firmlink text = refl
 kind_said Magic text = refl
+kind_said Drip text = refl
+kind_said Fifo text = refl
 kind_said Union text = refl
 
 kind_named : (k l : ServerKind) (s t : List ℕ) → options_of k s ≡ options_of l t → k ≡ l

@@ -3,8 +3,12 @@ use Rattle.std.proofs.Common.{IfSome, IsSome, nat_eq, nat_le, ◌↔◌, ◌^◌
 use Rattle.std.specs.Char.{is_ascii_digit}
 use Rattle.std.specs.List.{list_all}
 use Rattle.std.specs.Result.{result_ok, OkIff}
+use Rattle.std.specs.Str.{IsAscii, IsUtf8}
 use Rattle.std.specs.Str.Parse.{AllDigits, IsNumeral, ParsesUnsigned, digits_value, without_leading_plus}
 use Rattle.std.proofs.Math.Nat.{pow-le-pow_right}
+use Rattle.std.proofs.lemmas.Bool.Decides.{nat_tests}
+use Rattle.std.proofs.lemmas.Str.{IsUtf8-from_ascii}
+use Rattle.std.proofs.lemmas.Str.Ascii.{IsAscii-nil, IsAscii-cons}
 use Rattle.std.proofs.lemmas.Bool.{and_from, and_parts, eq-eqb, eqb-true, le-leb, le-ltb, leb-true, lt-ltb}
 use Rattle.std.proofs.lemmas.Int.Digits.{digits_value-lt}
 use Rattle.std.proofs.lemmas.Result.{OkIff-at_ok, OkIff-at_err}
@@ -40,6 +44,18 @@ number_read {E} bits (c ∷ cs) (Err x) o d p e =
     let q = OkIff-at_err {T = ℕ} {E = E} (Err x) _ (digits_value 10 (c ∷ cs)) x (parse_digits digits {E = E} bits (c ∷ cs) (Err x) p d) refl in
     let b : nat_lt (digits_value 10 (c ∷ cs)) (2 ^ bits) ≡ false = le-ltb (digits_value 10 (c ∷ cs)) (2 ^ bits) (not_below _ _ (λ l. q (one_or_more c cs, l))) in
     e ∙ rw (d, b) refl
+
+-- digits are text
+
+low_byte : (b : ℕ) → is_ascii_digit b ≡ true → b < 128
+low_byte b h = grind (arith, nat_tests)
+
+digits_ascii : (bs : List ℕ) → list_all is_ascii_digit bs ≡ true → IsAscii bs
+digits_ascii [] h = IsAscii-nil
+digits_ascii (b ∷ bs) h = let two = and_parts (is_ascii_digit b) (list_all is_ascii_digit bs) h in IsAscii-cons b bs (low_byte b two.0) (digits_ascii bs two.1)
+
+pub digits_text : (bs : List ℕ) → list_all is_ascii_digit bs ≡ true → IsUtf8 bs
+digits_text bs h = IsUtf8-from_ascii bs (digits_ascii bs h)
 
 -- octal digits, as `from_str_radix` has them
 octal_digits : (ds : List ℕ) → list_all is_octal_digit ds ≡ true → AllDigits 8 ds

@@ -27,14 +27,16 @@ pub fn number(digits: &str) -> Option<u32>
     }
 }
 
-/// A number below 2 to the 64th in decimal digits, without a sign; zeros may lead.
-pub fn long_number(digits: &str) -> Option<u64>
+/// A number below 2 to the 64th in decimal digits, without a sign; zeros may lead. What is no text is none.
+pub fn long_number(digits: &[u8]) -> Option<u64>
     ensures { result ≡ long_number_of digits.now }
 {
-    if are_digits(digits.as_bytes()) {
-        digits.parse::<u64>().ok()
-    } else {
-        None
+    if !are_digits(digits) {
+        return None;
+    }
+    match str::from_utf8(digits) {
+        Ok(digits) => digits.parse::<u64>().ok(),
+        Err(_) => None,
     }
 }
 

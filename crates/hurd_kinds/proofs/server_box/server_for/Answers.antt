@@ -12,3 +12,5 @@ returns c =
     (refused c.new-6.result _ c.new-6.ensures.err (rw c.in_default-6.is at c.in_ok-link-2.ensures))
     (refused c.new_union.result _ c.new_union.ensures.err (rw c.in_default-7.is at c.in_ok-union.ensures))
     (refused_words c.new-7.result _ c.new-7.ensures.err (rw c.in_default-8.is at c.in_ok-link-3.ensures))
+    (refused c.new-8.result _ c.new-8.ensures.err (rw c.in_default-9.is at c.in_ok-drip.ensures))
+    (refused_words c.new-9.result _ c.new-9.ensures.err (rw c.in_default-10.is at c.in_ok-pipe.ensures))

@@ -1,9 +1,16 @@
--- The ports with a port more are the world with it.
+-- The ports with a port more are the world with it, and its node is counted.
+use Rattle.std.proofs.lemmas.Result.{err_from_is_err_and}
 use Rattle.hurd_nodes.specs.Shown.{shown}
-use Rattle.hurd_core.proofs.RightLaws.{open-does}
+use Rattle.hurd_core.proofs.RightLaws.{open-does, opened-does}
 use Rattle.hurd_core.proofs.the_core.Core.open.Goals as goal
+
+pub returns-in_err-port : goal.returns-in_err-port
+returns-in_err-port g c =
+    let p = err_from_is_err_and c.from_residual.result c.from_residual.ensures.1 in
+    rw (p.1, p.2, ← c.self.view_is)
+    (open-does (shown g.S.Server.meaning c.self.inside.nodes) c.self.inside.ports.state c.args.task.0 c.args.node c.args.ids c.args.parents c.args.modes _ _ c.in_err-port.ensures.answer)
 
 pub returns : goal.returns
 returns g c =
     rw (← c.self.view_is)
-    (open-does (shown g.S.Server.meaning c.self.inside.nodes) c.self.inside.ports.state c.args.task.0 c.args.node c.args.ids c.args.parents c.args.modes _ _ c.insert.ensures.answer)
+    (opened-does (shown g.S.Server.meaning c.self.inside.nodes) c.self.inside.ports.state c.args.task.0 c.args.node c.args.ids c.args.parents c.args.modes _ _ _ c.in_ok-port.ensures.answer c.opened.ensures.shown)

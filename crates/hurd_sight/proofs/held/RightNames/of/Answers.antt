@@ -18,4 +18,4 @@ pub returns : goal.returns
 returns c =
     walk_all (each (with_rights c.args.ports.now.state.opens) (with-append c.args.ports.now.state.opens) (λ (t : TaskId). rights_at (slice_get c.args.ports.now.state.tasks t.0)))
     c.args.tasks.now c.loop-task.task-index _ _ c.loop-task-test.false c.loop-task.invariant
-    ∙ ap (with_rights c.args.ports.now.state.opens (rights_held c.args.ports.now.state.tasks c.args.tasks.now)) (all_empty c.new.ensures c.new-2.ensures c.new-3.ensures)
+    ∙ ap (with_rights c.args.ports.now.state.opens (rights_held c.args.ports.now.state.tasks c.args.tasks.now)) (all_empty c.new.ensures c.new-2.ensures c.new-3.ensures c.new-4.ensures)

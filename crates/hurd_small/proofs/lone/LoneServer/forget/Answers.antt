@@ -5,13 +5,15 @@ use Rattle.hurd_small.proofs.lone.LoneServer.forget.Goals as goal
 pub returns-then-is_some : goal.returns-then-is_some
 returns-then-is_some g c =
     let s = c.args.self.now in
-    let kind = g.S.Single.kind in
-    let text = g.S.Single.text s.single in
-    forget-there kind text s.presence c.args.node c.find.result (c.find.ensures kind text) (sym c.is_some.ensures ∙ c.if-is_some.true)
+    let kind = g.K.Keeper.kind in
+    let text = g.K.Keeper.text s.keeper in
+    let held = g.K.Keeper.held s.keeper in
+    forget-there kind text held s.presence c.args.node c.find.result (c.find.ensures.found kind text held) (sym c.is_some.ensures ∙ c.if-is_some.true)
 
 pub returns-else-is_some : goal.returns-else-is_some
 returns-else-is_some g c =
     let s = c.args.self.now in
-    let kind = g.S.Single.kind in
-    let text = g.S.Single.text s.single in
-    forget-absent kind text s.presence c.args.node c.find.result (c.find.ensures kind text) (sym c.is_some.ensures ∙ c.if-is_some.false)
+    let kind = g.K.Keeper.kind in
+    let text = g.K.Keeper.text s.keeper in
+    let held = g.K.Keeper.held s.keeper in
+    forget-absent kind text held s.presence c.args.node c.find.result (c.find.ensures.found kind text held) (sym c.is_some.ensures ∙ c.if-is_some.false)

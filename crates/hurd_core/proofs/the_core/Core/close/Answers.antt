@@ -1,0 +1,13 @@
+use Rattle.std.proofs.Common.{◌∙◌, ap, sym}
+use Rattle.hurd_trans_iface.specs.Nodes.{closed_by}
+use Rattle.hurd_nodes.specs.Shown.{NodeState, shown}
+use Rattle.hurd_machine.specs.World.{world_from}
+use Rattle.hurd_core.proofs.CountLaws.{counted-world}
+use Rattle.hurd_core.proofs.the_core.Core.close.Goals as goal
+
+pub returns-in-Some : goal.returns-in-Some
+returns-in-Some g c =
+    let N = shown g.S.Server.meaning c.self.inside.nodes in
+    let K = c.self.inside.ports.state in
+    rw (← c.self.view_is, c.in-Some.is)
+    (ap (λ (M : NodeState). world_from M K) c.closed.ensures.shown ∙ sym (counted-world N K K c.in-Some.open.node (closed_by c.in-Some.open.modes)))

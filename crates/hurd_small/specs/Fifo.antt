@@ -1,0 +1,11 @@
+-- What a pipe means.
+use Rattle.std.specs.Prelude.{[]}
+use Rattle.hurd_trans_iface.specs.Meaning.{Meaning, Fifo as FifoKind}
+use Rattle.hurd_small.specs.declared.lone.Lone.{Lone}
+use Rattle.hurd_small.specs.declared.pipe.Pipe.{Pipe}
+use Rattle.hurd_small.specs.Lone.{lone_meaning}
+
+-- a server of this kind, which has no text, and whose node holds the bytes that were written and not read yet
+abbrev pub fifo_meaning : Lone Pipe → Meaning
+fifo_meaning s =
+    lone_meaning FifoKind [] (record { bytes = s.keeper.held.items; readers = s.keeper.readers; writers = s.keeper.writers }) s.presence

@@ -1,0 +1,118 @@
+//! What a drip says of itself, and the bytes that it gave.
+ghost use Rattle.std.specs.Prelude.{◌≡◌, ◌≤◌, length, replicate, refl};
+ghost use Rattle.hurd_trans_iface.specs.DripKind.{drop_byte, drops_of, most_drops};
+ghost use Rattle.hurd_trans_iface.specs.Meaning.{Drip as DripKind};
+ghost use Rattle.hurd_small.specs.Lone.{bytes_kept};
+
+use crate::keeper::Keeper;
+use crate::words::no_options;
+use hurd_creds::{Bytes, Errno, Kind, MOST_SIZE, OpenFlags};
+use hurd_trans_iface::{Crossing, Names, Root, Words};
+use std::alloc::Global;
+
+/// The most bytes that a drip has, all of them.
+const DROPS: [u8; 1000] = [b'.'; 1000];
+
+/// How many bytes there are, and how many of them were given.
+#[derive(Debug, Drop)]
+pub struct Drops {
+    /// The word that says how many there are.
+    pub(crate) digits: Bytes,
+    pub(crate) count: usize,
+    pub(crate) given: usize,
+    /// The word says the number.
+    ghost counted: { drops_of digits ≡ count },
+    ghost few: { count ≤ most_drops },
+    ghost within: { given ≤ count },
+    /// With the program's name it is within the limits of words.
+    ghost short: { length digits ≤ 4 },
+}
+
+impl Keeper for Drops {
+    ghost kind = { DripKind };
+
+    ghost text = { λ s. s.digits };
+
+    ghost held = { λ s. bytes_kept (replicate s.given drop_byte) };
+
+    ghost no_tree = { refl };
+
+    fn root(&self) -> Root {
+        Root {
+            kind: Kind::File,
+            is_stream: true,
+            crossing: Crossing::Plain,
+        }
+    }
+
+    fn said(&self) -> &[u8] {
+        self.digits.as_slice()
+    }
+
+    fn options(&self, alloc: Global) -> Result<Words, Errno> {
+        Words::with_argument(alloc, b"/hurd/drip", self.digits.as_slice())
+    }
+
+    fn set_options(&mut self, _alloc: Global, words: &Words) -> Result<(), Errno> {
+        no_options(words)
+    }
+
+    fn targets(&self, alloc: Global) -> Result<Names, Errno> {
+        Ok(Names::new(alloc))
+    }
+
+    fn begin(&mut self) {
+        self.given = 0;
+    }
+
+    fn size(&self) -> u64 {
+        (self.count - self.given) as u64
+    }
+
+    fn bytes(&self) -> &[u8] {
+        &DROPS[..self.given]
+    }
+
+    fn read(&mut self, alloc: Global, _at: u64, amount: u64) -> Result<Bytes, Errno> {
+        if self.given == self.count {
+            return Err(Errno::EIO);
+        }
+        if amount == 0 {
+            return Ok(Bytes::new(Vec::new(alloc)));
+        }
+        let drop = Bytes::copied(alloc, b".")?;
+        self.given += 1;
+        Ok(drop)
+    }
+
+    fn write(&mut self, _at: u64, _bytes: &[u8]) -> Result<u64, Errno> {
+        Err(Errno::EOPNOTSUPP)
+    }
+
+    fn set_size(&mut self, size: u64) -> Result<(), Errno> {
+        if size > MOST_SIZE {
+            return Err(Errno::EFBIG);
+        }
+        Err(Errno::EOPNOTSUPP)
+    }
+
+    fn readable(&self, _at: u64) -> u64 {
+        u64::from(self.given < self.count)
+    }
+
+    fn readers(&self) -> u128 {
+        0
+    }
+
+    fn writers(&self) -> u128 {
+        0
+    }
+
+    fn counts(&self) -> bool {
+        false
+    }
+
+    fn opened(&mut self, _modes: OpenFlags) {}
+
+    fn closed(&mut self, _modes: OpenFlags) {}
+}

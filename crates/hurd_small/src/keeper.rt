@@ -1,0 +1,121 @@
+//! What a server of one node says itself, and what it keeps of the node.
+ghost use Rattle.std.specs.Prelude.{◌≡◌, ℕ, false, List, [], Ok};
+ghost use Rattle.hurd_creds.specs.Memory.{Meets, Steps};
+ghost use Rattle.hurd_trans_iface.specs.Behaviour.{served, told_of};
+ghost use Rattle.hurd_trans_iface.specs.Meaning.{ServerKind, behaviour_of, counts_opens, keeps_tree, options_of, root_of, targets_of};
+ghost use Rattle.hurd_small.specs.declared.presence.LoneNode.{LoneNode};
+ghost use Rattle.hurd_small.specs.Lone.{Kept, body_with, closed_kept, node_of, nothing_kept, opened_kept, text_taken};
+
+use hurd_creds::{Bytes, Errno, OpenFlags};
+use hurd_trans_iface::{Names, Root, Words};
+use std::alloc::Global;
+
+/// What a server of one node says of it, and what it keeps: options change the one; reads, writes and opens the other. Nothing but options, and what says what
+/// the node is, is asked where the node isn't there.
+pub trait Keeper: Drop {
+    // The kind of its server.
+    ghost kind: { ServerKind };
+
+    // The text of its server.
+    ghost text: { Self → List ℕ };
+
+    // What it keeps of the node: the bytes in it, none where that is a directory, and how many opens read it and write it.
+    ghost held: { Self → Kept };
+
+    /// What the node is.
+    fn root(&self) -> Root
+        ensures { result ≡ root_of kind (text self.now) };
+
+    /// The text, lent: none where its kind takes none.
+    fn said(&self) -> &[u8]
+        ensures { result.now ≡ text self.now };
+
+    /// The program and its words, as they would be given to make such a server.
+    ///
+    /// Errors: `ENOMEM`.
+    fn options(&self, alloc: Global) -> Result<Words, Errno>
+        ensures { Meets (Ok (options_of kind (text self.now))) result };
+
+    /// Takes other options in place of those that it has, which may give it another text; without words nothing changes, and no memory is taken.
+    ///
+    /// Errors, in order: `EINVAL` words that this kind doesn't take, or options past the limits of words; `ENOMEM`.
+    fn set_options(&mut self, alloc: Global, words: &Words) -> Result<(), Errno>
+        ensures steps { Steps (text self.old) (text_taken ((behaviour_of kind).set_options words.now) (text self.old)) result (text self.new) }
+        ensures held { held self.new ≡ held self.old }
+        ensures no_words { words.now ≡ [] → result ≡ Ok tt };
+
+    /// The paths of the nodes that it aims at, in order. Where there are none, no memory is taken.
+    ///
+    /// Errors: `ENOMEM`.
+    fn targets(&self, alloc: Global) -> Result<Names, Errno>
+        ensures meets { Meets (Ok (targets_of kind (text self.now))) result }
+        ensures nothing { targets_of kind (text self.now) ≡ [] → result ≡ Ok [] };
+
+    /// The node begins: it holds nothing, and nothing has it open.
+    fn begin(&mut self)
+        ensures text { text self.new ≡ text self.old }
+        ensures held { held self.new ≡ nothing_kept };
+
+    /// The node's size, in bytes.
+    fn size(&self) -> u64
+        ensures { result ≡ (behaviour_of kind).size (text self.now) (body_with kind (text self.now) (held self.now).bytes) };
+
+    /// The bytes in the node, lent.
+    fn bytes(&self) -> &[u8]
+        ensures { result.now ≡ (held self.now).bytes };
+
+    /// At most `amount` bytes from `at` on; where there are none, no memory is taken.
+    ///
+    /// Errors: what its kind says, else `ENOMEM`.
+    fn read(&mut self, alloc: Global, at: u64, amount: u64) -> Result<Bytes, Errno>
+        ensures steps { (n : LoneNode) → let x = node_of kind (text self.old) (held self.old) n in
+            Steps x (served ((behaviour_of kind).read (text self.old) x at amount) x) result (node_of kind (text self.new) (held self.new) n) }
+        ensures nothing { (n : LoneNode) → let x = node_of kind (text self.old) (held self.old) n in
+            told_of ((behaviour_of kind).read (text self.old) x at amount) ≡ Ok [] → result ≡ Ok [] }
+        ensures text { text self.new ≡ text self.old };
+
+    /// Puts bytes at a place, and answers how many are taken. Takes no memory.
+    ///
+    /// Errors: what its kind says.
+    fn write(&mut self, at: u64, bytes: &[u8]) -> Result<u64, Errno>
+        ensures steps { (n : LoneNode) → let x = node_of kind (text self.old) (held self.old) n in
+            (result, node_of kind (text self.new) (held self.new) n) ≡ served ((behaviour_of kind).write (text self.old) x at bytes.now) x }
+        ensures text { text self.new ≡ text self.old };
+
+    /// Cuts the bytes to a size, or grows them. Takes no memory.
+    ///
+    /// Errors: what its kind says.
+    fn set_size(&mut self, size: u64) -> Result<(), Errno>
+        ensures steps { (n : LoneNode) → let x = node_of kind (text self.old) (held self.old) n in
+            (result, node_of kind (text self.new) (held self.new) n) ≡ served ((behaviour_of kind).set_size (text self.old) x size) x }
+        ensures text { text self.new ≡ text self.old };
+
+    /// How many bytes there are to read at a place.
+    fn readable(&self, at: u64) -> u64
+        ensures { (n : LoneNode) → result ≡ (behaviour_of kind).readable (text self.now) (node_of kind (text self.now) (held self.now) n) at };
+
+    /// How many opens read the node, where its kind counts that.
+    fn readers(&self) -> u128
+        ensures { result ≡ (held self.now).readers };
+
+    /// How many opens write the node, where its kind counts that.
+    fn writers(&self) -> u128
+        ensures { result ≡ (held self.now).writers };
+
+    /// Whether its kind counts who reads and who writes.
+    fn counts(&self) -> bool
+        ensures { result ≡ counts_opens kind };
+
+    /// The node is opened with these modes: one more of each that they ask for, where its kind counts that. Takes no memory.
+    fn opened(&mut self, modes: OpenFlags)
+        ensures held { held self.new ≡ opened_kept (counts_opens kind) modes (held self.old) }
+        ensures text { text self.new ≡ text self.old };
+
+    /// An open of the node with these modes has gone: one fewer of each, where its kind counts that. Takes no memory.
+    fn closed(&mut self, modes: OpenFlags)
+        ensures held { held self.new ≡ closed_kept (counts_opens kind) modes (held self.old) }
+        ensures text { text self.new ≡ text self.old };
+
+    // Nothing is made in it.
+    ghost no_tree: { keeps_tree kind ≡ false };
+}

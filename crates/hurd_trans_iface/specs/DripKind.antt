@@ -1,0 +1,74 @@
+-- A stream of as many bytes as its word says, one for each read, after which reads fail.
+use Rattle.std.specs.Prelude.{ℕ, zero, suc, ◌==◌, ◌-◌, ◌&&◌, Bool, true, false, not, if◌then◌else◌, List, [], ◌∷◌, ◌++◌, length, nat_le, codes, Option, Some, None, Ok, Err}
+use Rattle.hurd_creds.specs.declared.attrs.Kind.TheVariants.{File}
+use Rattle.hurd_creds.specs.declared.errno.Errno.TheVariants.{EIO}
+use Rattle.hurd_words.specs.Numbers.{long_number_of}
+use Rattle.hurd_trans_iface.specs.declared.root.Crossing.TheVariants.{Plain}
+use Rattle.hurd_trans_iface.specs.Nodes.{Body, Content, Listing}
+use Rattle.hurd_trans_iface.specs.Behaviour.{Effect, Behaviour, only}
+use Rattle.hurd_trans_iface.specs.TmpfsKind.{no_options}
+use Rattle.hurd_trans_iface.specs.HelloKind.{hello}
+
+-- the most bytes that a drip has
+abbrev pub most_drops : ℕ
+most_drops = 1000
+
+-- no zero stands before other digits
+abbrev pub is_bare : List ℕ → Bool
+is_bare (b ∷ c ∷ ds) = not (b == 48)
+is_bare ds = true
+
+-- a number that is no greater than the most
+abbrev pub is_few : Option ℕ → Bool
+is_few None = false
+is_few (Some count) = nat_le count most_drops
+
+-- whether a word says how many bytes there are: at most four decimal digits, the first no zero but where it is alone
+abbrev pub says_drops : List ℕ → Bool
+says_drops w = nat_le (length w) 4 && (is_bare w && is_few (long_number_of w))
+
+-- the one word says how many
+abbrev pub drip_text : List (List ℕ) → Option (List ℕ)
+drip_text (w ∷ []) = if says_drops w then Some w else None
+drip_text _ = None
+
+abbrev pub or_zero : Option ℕ → ℕ
+or_zero None = 0
+or_zero (Some count) = count
+
+-- how many bytes a drip of this text has at first
+abbrev pub drops_of : List ℕ → ℕ
+drops_of text = or_zero (long_number_of text)
+
+-- how many are left where these have been given; it keeps those
+abbrev pub drops_left : List ℕ → Body → ℕ
+drops_left text (Content given) = drops_of text - length given
+drops_left text (Listing es) = 0
+
+-- the byte `.`
+abbrev pub drop_byte : ℕ
+drop_byte = 46
+
+-- a read where so many are left: it fails where there are none, gives nothing where nothing is asked for, else one byte
+abbrev pub dripped : ℕ → ℕ → Effect (List ℕ)
+dripped zero amount = Err EIO
+dripped (suc left) zero = only []
+dripped (suc left) (suc amount) = Ok (record { told = drop_byte ∷ []; bytes = Some (λ given. given ++ drop_byte ∷ []); size = Some left })
+
+-- one byte for the next read, where any are left
+abbrev pub next_drop : ℕ → ℕ
+next_drop zero = 0
+next_drop (suc left) = 1
+
+-- as a file that gives a text it takes no bytes
+abbrev pub drip : Behaviour
+drip = record hello {
+  program = codes "/hurd/drip";
+  begins = drip_text;
+  options = λ text. codes "/hurd/drip" ∷ text ∷ [];
+  set_options = no_options;
+  root = λ text. record { kind = File; is_stream = true; crossing = Plain };
+  size = drops_left;
+  read = λ text x at amount. dripped x.header.size amount;
+  readable = λ text x at. next_drop x.header.size;
+}
