@@ -142,6 +142,7 @@ closes w (Io r) = if count_rights (names_open r.open_name) w.tasks == 1 then opt
 closes w (Control s) = None
 closes w (Start n) = None
 
+-- what its node's server counts, if an open goes
 abbrev pub closing : World → Option (Name × OpenFlags) → List Change
 closing w None = []
 closing w (Some e) = counted w e.0 (closed_by e.1)
