@@ -70,7 +70,7 @@ pub trait Server: Drop {
 
     /// At most `amount` bytes of a file from `at` on; where there are none, no memory is taken.
     ///
-    /// Errors, in order: `EDIED` no such node, `EISDIR`, `ENOMEM`.
+    /// Errors, in order: `EDIED` no such node, `EISDIR`, of a pipe `EWOULDBLOCK`, of a drip `EIO`, `ENOMEM`.
     fn read(&mut self, alloc: Global, node: NodeName, at: u64, amount: u64) -> Result<Bytes, Errno>
         ensures steps { Steps (meaning self.old) (step_of (reading at amount) node (meaning self.old)) result (meaning self.new) }
         ensures nothing { (step_of (reading at amount) node (meaning self.old)).0 ≡ Ok [] → result ≡ Ok [] };
@@ -78,7 +78,7 @@ pub trait Server: Drop {
     /// Puts bytes into a file at `at`, and answers how many; a gap becomes zero bytes, no data grows nothing. Takes no memory where
     /// there is no data, where the file has the bytes that are written over, and in a stream.
     ///
-    /// Errors, in order: `EDIED` no such node, `EBADF` a directory, `EFBIG` an end past 16,777,216, `ENOMEM`.
+    /// Errors, in order: `EDIED` no such node, `EBADF` a directory, `EFBIG` an end past 16,777,216, of a pipe `EPIPE` and `EWOULDBLOCK`, `ENOMEM`.
     fn write(&mut self, node: NodeName, at: u64, bytes: &[u8]) -> Result<u64, Errno>
         ensures steps { Steps (meaning self.old) (step_of (writing at bytes.now) node (meaning self.old)) result (meaning self.new) }
         ensures within { Reaches (body_of (meaning self.old).nodes node) (at + length bytes.now) → result ≡ (step_of (writing at bytes.now) node (meaning self.old)).0 }
