@@ -32,6 +32,7 @@ abbrev pub drip_text : List (List ℕ) → Option (List ℕ)
 drip_text (w ∷ []) = if says_drops w then Some w else None
 drip_text _ = None
 
+-- a number, or zero where there is none
 abbrev pub or_zero : Option ℕ → ℕ
 or_zero None = 0
 or_zero (Some count) = count
