@@ -12,13 +12,14 @@ use Rattle.hurd_creds.specs.Access.{least_uid}
 use Rattle.hurd_creds.specs.Bits.{open_modes}
 use Rattle.hurd_trans_iface.specs.Nodes.{Node, new_file}
 use Rattle.hurd_trans_iface.specs.Answers.{named_by}
-use Rattle.hurd_trans_iface.specs.Good.{IsSized}
+use Rattle.hurd_trans_iface.proofs.BodyLaws.{tree_holds}
 use Rattle.hurd_trans_iface.specs.Kinds.{behaviour_of}
 use Rattle.hurd_trans_iface.specs.Meaning.{keeps_tree}
 use Rattle.hurd_trans_iface.proofs.Goods.{good}
 use Rattle.hurd_nodes.specs.Shown.{ServerInfo}
 use Rattle.hurd_ports.specs.Tables.{Task, has_room}
 use Rattle.hurd_machine.specs.declared.call.Reply.TheVariants.{Port}
+use Rattle.hurd_machine.specs.Sound.{IsFilled}
 use Rattle.hurd_machine.specs.World.{World, task_at, home_at, makes_at, server_at}
 use Rattle.hurd_machine.specs.Plan.{Planned}
 use Rattle.hurd_machine.specs.Handle.{Named, port_asks}
@@ -29,7 +30,7 @@ use Rattle.hurd_machine.proofs.Makes.{MayMake, may_make}
 use Rattle.hurd_machine.proofs.Nameless.{IsNameless, nameless_whole}
 use Rattle.hurd_machine.proofs.CallLaws.{CallLaws, answered_piece}
 use Rattle.hurd_core.specs.Core.{Does, NewNodeAt, room_asks, making_asks, making_open, asked_only}
-use Rattle.hurd_core.proofs.PortWays.{ways_given, ways_seen}
+use Rattle.hurd_core.proofs.PortWays.{ways_named, ways_seen}
 use Rattle.hurd_core.proofs.PlanLaws.{only-refused, only-answered, asked-refused, asked-lacks, does-planned, planned-then}
 use Rattle.hurd_dirs.specs.Entry.{dir_asks}
 use Rattle.hurd_dirs.specs.File.{file_by, making_file, mkfile, mkfile_asks, plan_mkfile, touches_mkfile}
@@ -58,8 +59,8 @@ module _ (f : NewNodeAt) where
   file_nameless : IsNameless file
   file_nameless = record { shape = refl; empty = tt; file = refl; alone = refl; links = refl }
 
-  file_fits : (i : ServerInfo) → keeps_tree i.kind ≡ true → IsSized (behaviour_of i.kind) i.text file
-  file_fits i tree = (good i.kind).newborn tree i.text f.dir None (record { name = f.dir; kind = File; owner = f.owner; group = f.group; mode = f.mode }) file refl
+  file_fits : (i : ServerInfo) → keeps_tree i.kind ≡ true → IsFilled i file
+  file_fits i tree = ((good i.kind).newborn tree i.text f.dir None (record { name = f.dir; kind = File; owner = f.owner; group = f.group; mode = f.mode }) file refl, tree_holds i.kind file.body tree)
 
 making_same : {S : ℕ → Bool} {v w : World} → Agree S v w → (t : ℕ) → S t ≡ true → (f : NewNodeAt) → Sees S v (BodyOf f.dir) → making_asks w t f ≡ making_asks v t f
 making_same a t ours f sees =
@@ -113,7 +114,7 @@ module _ (t p : ℕ) (flags : OpenFlags) (mode : Mode) where
         let server : server_at w m.1 ≡ Some k.may.info = rw k.home at k.may.is_info in
         rw b.unnamed
         (nameless_whole w t m.0 k.is_task m.1 k.may.info server (file a.1) (file_nameless a.1) a.0.right.ids a.0.right.parents modes s k.may.tree (file_fits a.1 k.may.info k.may.tree)
-        (ways_given w t p a.0.right right s.coherent) refl (λ S ours. (right_taken t ours p a.0.right right, ways_seen w t p a.0.right right S ours, OfNode a.1.dir (mkfile_seen ours a b).0 k.home)))));
+        (ways_named w t p a.0.right right s.coherent) refl (λ S ours. (right_taken t ours p a.0.right right, ways_seen w t p a.0.right right S ours, OfNode a.1.dir (mkfile_seen ours a b).0 k.home)))));
     same = λ S v w c d a ours. answered_same _ _ _ _ (mkfile_same a ours) (λ b is.
         answered_same _ _ _ _ (making_same a t ours b.1 (mkfile_seen ours b (file_made_by v b is))) (λ m may. refl));
     plain = λ w. answered_plain _ _ (mkfile_plain w) (λ a is. answered_plain _ _ (making_plain w t a.1) (λ m may. done_plain (Port m.0.next) refl));

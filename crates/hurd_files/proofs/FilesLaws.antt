@@ -19,6 +19,7 @@ use Rattle.hurd_machine.specs.World.{World, IsAmong, asked_at, header_at, body_a
 use Rattle.hurd_machine.specs.Handle.{handle_asks}
 use Rattle.hurd_machine.specs.Sight.{Seen, Holds, Taken, UidOfRight, GidOfRight, Allowed, ToRead, bare}
 use Rattle.hurd_machine.proofs.Views.{Agree, header_same, body_same}
+use Rattle.hurd_trans_iface.proofs.BodyLaws.{cut_holds}
 use Rattle.hurd_machine.proofs.Edits.{did_whole}
 use Rattle.hurd_machine.proofs.Asks.{first_same, answered_same, first_ok, first_plain, ok_plain, answered_plain, done_plain, handle_same, handle_seen, handle_plain, handle_read, asked_same, asked_plain, info_same, io_right_same, io_right_plain, holds_io, IsPlain, given_same, given_plain, err_plain}
 use Rattle.hurd_machine.proofs.CallLaws.{CallLaws, answered_piece, looking_laws}
@@ -36,7 +37,7 @@ resized_by w t p n is = let h = first_ok _ _ n is in (h.0, h.1, cc (h.2))
 pub set_size_laws : (t p size : ℕ) → CallLaws t (λ w. plan_set_size w t p size) (λ w. touches_set_size w t p size)
 set_size_laws t p size = record {
   piece = λ w s. answered_piece s (set_size_asks w t p) _ _ (λ n is. answered_piece s (asked_at (resizing size) n w) _ _ (λ d told.
-      did_whole s (resizing size) (λ k. (good k).set_size_sizes size) n d told (λ q on. inl on)));
+      did_whole s (resizing size) (λ k. ((good k).set_size_sizes size, cut_holds size k)) n d told (λ q on. inl on)));
   same = λ S v w c d a ours. answered_same _ _ _ _ (first_same _ _ _ _ (handle_same a t ours p WRITE) (λ h is. refl)) (λ n is.
       let h = resized_by v t p n is in
       let seen : Seen S v n = subst (Seen S v) h.2 (handle_seen t ours p WRITE h.0 h.1) in

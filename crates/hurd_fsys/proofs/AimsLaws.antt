@@ -1,10 +1,11 @@
 -- The targets of a server are found alike in worlds that agree, where S has the ids of who starts it; S sees them, and no refusal is want of memory.
-use Rattle.std.proofs.Common.{◌≡◌, ◌≢◌, ◌≤◌, ℕ, ◌||◌, ◌&&◌, Bool, true, false, true≢false, if◌then◌else◌, List, [], ◌∷◌, Option, Some, None, nat_eq, refl, sym, ◌∙◌, ap, ap₂, inl, inr, arith}
-use Rattle.std.proofs.lemmas.Bool.{or_cases}
+use Rattle.std.proofs.Common.{◌≡◌, ◌≢◌, ◌≤◌, ℕ, ◌||◌, ◌&&◌, Bool, true, false, true≢false, if◌then◌else◌, List, [], ◌∷◌, Option, Some, nat_eq, refl, sym, ◌∙◌, ap, ap₂, inl, inr, arith}
+use Rattle.std.proofs.lemmas.Bool.{and_parts, or_cases}
 use Rattle.std.proofs.lemmas.Bool.Decides.{nat_tests}
 use Rattle.std.specs.Prelude.{Result, Ok, Err, length, nat_le}
 use Rattle.hurd_creds.specs.declared.errno.Errno.{Errno}
-use Rattle.hurd_creds.specs.declared.errno.Errno.TheVariants.{ENOMEM}
+use Rattle.hurd_creds.specs.declared.attrs.Kind.TheVariants.{Dir}
+use Rattle.hurd_creds.specs.declared.errno.Errno.TheVariants.{ENOMEM, ENOTDIR}
 use Rattle.hurd_creds.specs.Memory.{Meets}
 use Rattle.hurd_creds.proofs.IdLaws.{len-listed}
 use Rattle.hurd_creds.specs.declared.name.Name.{Name}
@@ -18,9 +19,15 @@ use Rattle.hurd_trans_iface.specs.declared.root.Crossing.TheVariants.{Plain, Lin
 use Rattle.hurd_machine.specs.World.{World, IsAmong, header_at}
 use Rattle.hurd_machine.specs.Sight.{Taken, Seen, Owns}
 use Rattle.hurd_machine.proofs.Views.{Agree, Agree-refl, header_same}
+use Rattle.hurd_machine.proofs.Asks.{first_ok, given_ok}
+use Rattle.hurd_machine.proofs.Coherence.{CanBeNamed}
+use Rattle.hurd_machine.proofs.Confine.{seen_old}
+use Rattle.hurd_machine.proofs.Piece.{Stands}
+use Rattle.hurd_lookup.specs.Resolve.{resolve_all}
 use Rattle.hurd_lookup.specs.Lookup.{no_ids}
 use Rattle.hurd_lookup.proofs.AlikeLaws.{Alike, ok_alike, given_alike, first_alike}
-use Rattle.hurd_lookup.proofs.WalkLaws.{Powers, no_ids_taken, taken_powers}
+use Rattle.hurd_lookup.proofs.HeldLaws.{resolve_all_gives}
+use Rattle.hurd_lookup.proofs.WalkLaws.{Powers, dir_is, no_ids_taken, taken_powers}
 use Rattle.hurd_lookup.proofs.ResolveLaws.{AllSeen, resolve_all_alike}
 use Rattle.hurd_fsys.specs.Aims.{aims_asks, are_dirs, fits, is_dir_there, lent, server_ids}
 
@@ -78,6 +85,34 @@ module _ {S : ℕ → Bool} {v w : World} (a : Agree S v w) (ids : IdSets) (take
   aims_alike =
       first_alike _ _ _ _ _ _ (resolve_all_alike a (lent ids owner) powers (targets_of m.kind m.text)) (λ ns is seen.
       given_alike _ _ _ _ _ _ refl (fits_same (root_of m.kind m.text).crossing ns seen) (λ k. ok_alike _ ns seen))
+
+-- targets that a server that means this may have: it may name each, they are as many as its paths, and directories if it is a union
+pub record Aims (w : World) (m : Meaning) (ns : List Name) : Type 0 where
+  pub named : (n : Name) → IsAmong n ns → CanBeNamed w n
+  pub count : length ns ≡ length (targets_of m.kind m.text)
+  pub dirs : (root_of m.kind m.text).crossing ≡ Union → (n : Name) (h : Header) → IsAmong n ns → header_at w n ≡ Some h → h.kind ≡ Dir
+
+dir_there : (w : World) (ns : List Name) → are_dirs w ns ≡ true → (n : Name) (h : Header) → IsAmong n ns → header_at w n ≡ Some h → h.kind ≡ Dir
+dir_there w [] all n h i is = absurd i
+dir_there w (m ∷ ns) all n h i is =
+    let both = and_parts (is_dir_there (header_at w m)) (are_dirs w ns) all in
+    elim i [
+      | inl same ↦ dir_is h.kind (sym (ap is_dir_there (ap (header_at w) same ∙ is)) ∙ both.0)
+      | inr rest ↦ dir_there w ns both.1 n h rest is
+    ]
+
+-- those that are found are such, if they were seen by all
+pub aims_fit : (w : World) → Stands w → (ids : IdSets) (m : Meaning) (ns : List Name) → aims_asks w ids m ≡ Ok ns → ((n : Name) → IsAmong n ns → Seen (λ t. true) w n) → Aims w m ns
+aims_fit w st ids m ns is seen =
+    let l = first_ok (resolve_all w ids (targets_of m.kind m.text)) _ ns is in
+    let k = given_ok ENOTDIR (fits w (root_of m.kind m.text).crossing l.0) _ ns l.2 in
+    let same : l.0 ≡ ns = cc (k.1) in
+    let held = (resolve_all_gives w st ids (targets_of m.kind m.text)).has ns (l.1 ∙ ap Ok same) in
+    record {
+      named = λ n among. (seen_old st.coherent n (seen n among), held.0 n among);
+      count = held.1;
+      dirs = λ union n h among. dir_there w ns (sym (ap₂ (fits w) union same) ∙ k.0) n h among;
+    }
 
 -- S saw each target that is found
 pub aims_seen : (S : ℕ → Bool) (w : World) (ids : IdSets) → Taken S w ids → (owner : ℕ) (m : Meaning) (ns : List Name) → aims_asks w (lent ids owner) m ≡ Ok ns → (n : Name) → IsAmong n ns → Seen S w n

@@ -9,17 +9,18 @@ use Rattle.hurd_trans_iface.specs.Nodes.{Header, IsShaped, is_dir}
 use Rattle.hurd_trans_iface.specs.declared.root.Root.{Root}
 use Rattle.hurd_trans_iface.specs.Answers.{is_plain, is_tree}
 use Rattle.hurd_trans_iface.specs.Meaning.{Meaning, empty_body, root_of}
+use Rattle.hurd_trans_iface.proofs.BodyLaws.{begun_holds}
 use Rattle.hurd_trans_iface.proofs.Goods.{tree-told}
 use Rattle.hurd_nodes.specs.Shown.{begun_info, begun_root}
 use Rattle.hurd_machine.proofs.Coherence.{Comes, HasNoEntries}
 use Rattle.hurd_machine.proofs.Going.{Begun}
 use Rattle.hurd_ports.specs.Tables.{Task, fresh}
 use Rattle.hurd_ports.specs.Steps.{named}
-use Rattle.hurd_machine.specs.World.{World, IsAmong, task_at, header_at}
-use Rattle.hurd_machine.specs.Sound.{Below}
+use Rattle.hurd_machine.specs.World.{World, task_at, header_at}
 use Rattle.hurd_machine.proofs.Opens.{fresh_next}
 use Rattle.hurd_fsys.specs.Aims.{server_ids}
 use Rattle.hurd_fsys.specs.Setting.{root_kind, root_mode}
+use Rattle.hurd_fsys.proofs.AimsLaws.{Aims}
 
 empty_shaped : (k : Kind) (h : Header) → h.kind ≡ k → IsShaped h (empty_body (is_dir k))
 empty_shaped Dir h e = e
@@ -44,12 +45,12 @@ module _ (m : Meaning) (root : Name) (ids : IdSets) (owner group : ℕ) (mode : 
   begun_bare = empty_bare (is_dir (root_of m.kind m.text).kind)
 
   begun : (targets : List Name) → Begun (begun_info m root ids targets) (begun_root m owner group mode)
-  begun targets = record { links = refl; tree = λ tree. plain_dir (root_of m.kind m.text) (tree-told m.kind m.text ∙ tree); size = refl }
+  begun targets = record { links = refl; tree = λ tree. plain_dir (root_of m.kind m.text) (tree-told m.kind m.text ∙ tree); filled = (refl, begun_holds m.kind m.text) }
 
 -- one that task t makes comes to a node that is there, for the owner of this header
 
 module _ (w : World) (t : ℕ) (n : Name) (h : Header) (there : (k : Header) × (header_at w n ≡ Some k)) (m : Meaning) (x : Task) (is : task_at w t ≡ Some x)
-    (targets : List Name) (below : (q : Name) → IsAmong q targets → Below w q) where
+    (targets : List Name) (aims : Aims w m targets) where
   abbrev its_root : Name
   its_root = fresh t (named 1 x)
 
@@ -65,7 +66,10 @@ module _ (w : World) (t : ℕ) (n : Name) (h : Header) (there : (k : Header) × 
     shape = begun_shaped m its_root (server_ids h.owner) h.owner h.group its_mode;
     empty = begun_bare m its_root (server_ids h.owner) h.owner h.group its_mode;
     parent = refl;
-    targets = below;
+    kind = refl;
+    aims = aims.count;
+    targets = aims.named;
+    branches = aims.dirs;
     seat = there;
   }
 

@@ -1,6 +1,6 @@
 -- When setting a translator answers, and leaves, what its plan says.
-use Rattle.std.proofs.Common.{◌≡◌, ◌≢◌, ◌∙◌, ◌≤◌, ◌⊎◌, ℕ, arith, Bool, true, false, not, if◌then◌else◌, List, [], ◌∷◌, ◌++◌, Option, Some, None, inl, inr, refl, sym, ap, ap₂, subst, true≢false}
-use Rattle.std.specs.Prelude.{Result, Ok, Err, IsOk, is_some, length, nat_le}
+use Rattle.std.proofs.Common.{◌≡◌, ◌∙◌, ◌⊎◌, ℕ, Bool, true, false, not, if◌then◌else◌, List, [], ◌∷◌, ◌++◌, Option, Some, None, inl, inr, refl, sym, ap, ap₂, subst}
+use Rattle.std.specs.Prelude.{Result, Ok, Err, IsOk, is_some}
 use Rattle.std.specs.Option.{option_map}
 use Rattle.hurd_creds.specs.declared.errno.Errno.{Errno}
 use Rattle.hurd_creds.specs.declared.errno.Errno.TheVariants.{ENOMEM, EOPNOTSUPP}
@@ -24,7 +24,7 @@ use Rattle.hurd_machine.proofs.Asks.{given_ok}
 use Rattle.hurd_core.proofs.CoreLaws.{naming-had}
 use Rattle.hurd_core.proofs.PlanLaws.{asked-refused, does-planned, follows-from, follows-refused, follows-then, planned-then}
 use Rattle.hurd_machine.specs.declared.call.Setting.{Setting}
-use Rattle.hurd_fsys.specs.Aims.{FindsAims, HasTargets, PlannedOr, aims_asks, lent, server_ids}
+use Rattle.hurd_fsys.specs.Aims.{FindsAims, PlannedOr, aims_asks, lent, server_ids}
 use Rattle.hurd_fsys.specs.Setting as spec
 use Rattle.hurd_fsys.specs.Setting.{SetLacks, box_aims, emptying, leaver, plan_set_translator, seat_asks, seat_on, seating, sets_nothing, setter_asks, setting, setting_where, storing}
 use Rattle.hurd_fsys.proofs.StoringLaws.{some_has, storing_back, storing_names, storing_sets, tree_sets, words_told}

@@ -20,10 +20,9 @@ use Rattle.hurd_machine.specs.World.{World, IsAmong, task_at, header_at, home_at
 use Rattle.hurd_machine.specs.Change.{Change, Attach, DropServer, Unseat, Settle, apply, apply_all}
 use Rattle.hurd_machine.specs.Handle.{Named}
 use Rattle.hurd_machine.specs.Sight.{Part, AttrOf, EmptyOf, BodyOf, OptionsOf, UsersOf, TaskOf, Holds, UidOfRight, GidOfRight, Taken, Seen, BySeat, users}
-use Rattle.hurd_machine.specs.Sound.{Below, Coherent, Sound}
+use Rattle.hurd_machine.specs.Sound.{Coherent, Sound}
 use Rattle.hurd_machine.specs.Touched.{Goes}
 use Rattle.hurd_machine.proofs.Views.{Agree, Agree-refl, same_tasks, active_same}
-use Rattle.hurd_machine.proofs.Confine.{seen_old}
 use Rattle.hurd_machine.proofs.Coherence.{Comes}
 use Rattle.hurd_machine.proofs.Frame.{Full}
 use Rattle.hurd_machine.proofs.Opens.{own_task, fresh_new, later_new}
@@ -32,21 +31,21 @@ use Rattle.hurd_machine.proofs.Asks.{IsPlain, IsPlainReply, port_same, port_plai
 use Rattle.hurd_machine.proofs.CallLaws.{CallLaws, answered_piece, answered_whole, looking_laws}
 use Rattle.hurd_core.specs.Core.{attaching, naming_asks}
 use Rattle.hurd_machine.specs.declared.call.Setting.{Setting}
-use Rattle.hurd_fsys.specs.Aims.{server_ids}
+use Rattle.hurd_fsys.specs.Aims.{lent, server_ids}
 use Rattle.hurd_fsys.specs.Setting.{sets_nothing, setter_asks, is_excluded, may_replace, may_set, seat_asks, leaver, emptying, storing, seat_on, box_aims, seating, setting_where, plan_set_translator, GoesFor, seat_parts, parts_where, touches_set_translator, root_mode, root_kind, stored_asks, plan_get_translator, touches_get_translator}
 use Rattle.hurd_fsys.specs.Owned.{owned_asks}
 use Rattle.hurd_fsys.proofs.OwnedLaws.{Owner, owner, owner_right, owner_sees, owned_same, owned_plain}
 use Rattle.hurd_fsys.proofs.ControlLaws.{owner_holds}
-use Rattle.hurd_fsys.proofs.StoringLaws.{IsLike, goes_like, storing_like, storing_exact, storing_whole}
+use Rattle.hurd_fsys.proofs.StoringLaws.{IsLike, aims_like, goes_like, storing_like, storing_exact, storing_whole}
 use Rattle.hurd_fsys.specs.Setting as spec
-use Rattle.hurd_fsys.proofs.AimsLaws.{aims_alike, aims_seen}
+use Rattle.hurd_fsys.proofs.AimsLaws.{Aims, aims_alike, aims_fit, aims_seen}
 use Rattle.hurd_fsys.proofs.BegunLaws as begun
 use Rattle.hurd_machine.proofs.Piece.{Stands, Whole, stands, whole_none, piece_then, whole_then, settled}
 
 -- a server comes to a node, and another goes for it, which is active there
 
 module _ (w : World) (c : Coherent w) (t : ℕ) (n : Named) (there : (h : Header) × (header_at w n.right.node ≡ Some h)) (m : Meaning) (x : Task) (is : task_at w t ≡ Some x)
-    (targets : List Name) (below : (q : Name) → IsAmong q targets → Below w q) where
+    (targets : List Name) (aims : Aims w m targets) where
   abbrev s : Name
   s = fresh t x
 
@@ -63,10 +62,10 @@ module _ (w : World) (c : Coherent w) (t : ℕ) (n : Named) (there : (h : Header
   node = begun_root m n.header.owner n.header.group (root_mode (root_kind m) n.header.mode)
 
   newcomer : Comes w s n.right.node info node
-  newcomer = begun.newcomer w t n.right.node n.header there m x is targets below
+  newcomer = begun.newcomer w t n.right.node n.header there m x is targets aims
 
   begins : Begun info node
-  begins = begun.begins w t n.right.node n.header there m x is targets below
+  begins = begun.begins w t n.right.node n.header there m x is targets aims
 
   -- the changes, for a server that goes or none
   abbrev comings : Option Name → List Change
@@ -233,10 +232,9 @@ module _ (t p : ℕ) (f : Setting) where
           let is = namer w x at in
           let later = later_new w t 1 x is in
           let tasks = (like w n k).tasks in
-          let below = λ (q : Name) (among : IsAmong q targets).
-          subst (λ (ts : List Task). Below (record v { tasks = ts }) q) (sym tasks) (seen_old s.coherent q (targets_seen (λ u. true) refl (Some m) targets found q among)) in
+          let aims = aims_like w v n.right.node (like w n k) m targets (aims_fit w (stands s) (lent n.right.ids n.header.owner) m targets found (targets_seen (λ u. true) refl (Some m) targets found)) in
           with_words (comings_of n m (leaver f old) targets x) (λ y.
-          comings_whole v y.coherent t n (like w n k).there m x (ap (λ (ts : List Task). slice_get ts t) tasks ∙ is) targets below (stands y) (own_task w t (seat_parts w f n.right.node old)) (inr (inr later)) (inr (inr later))
+          comings_whole v y.coherent t n (like w n k).there m x (ap (λ (ts : List Task). slice_get ts t) tasks ∙ is) targets aims (stands y) (own_task w t (seat_parts w f n.right.node old)) (inr (inr later)) (inr (inr later))
           (inr (inr later)) (inr (inr (fresh_new w t x is))) (inl (inl refl)) (leaver f old) (λ q is. ap (λ (m : NameMap Name). get m n.right.node) (like w n k).actives ∙ (e ∙ leaver_is old q is)) left_here (λ S ours q among. inl (targets_seen S ours (Some m) targets found q among))))
 
     half_whole : (w : World) → Sound w → (n : Named) → Owner t p w n → (b : Bool) → Whole t (Full w t (parts_where b w f box n)) w w (setting_where b w t f words box n).changes

@@ -4,7 +4,6 @@ use Rattle.std.specs.Prelude.{Result, Ok, Err}
 use Rattle.hurd_creds.specs.declared.name.Name.{Name}
 use Rattle.hurd_creds.specs.declared.errno.Errno.{Errno}
 use Rattle.hurd_creds.specs.declared.errno.Errno.TheVariants.{EBUSY, EDIED, EOVERFLOW, ESRCH}
-use Rattle.hurd_trans_iface.specs.Nodes.{Header}
 use Rattle.hurd_trans_iface.specs.Meaning.{Meaning}
 use Rattle.hurd_ports.specs.declared.table.PendingStart.{PendingStart}
 use Rattle.hurd_ports.specs.declared.table.Right.TheVariants.{Start}
@@ -19,11 +18,11 @@ use Rattle.hurd_machine.proofs.CallLaws.{CallLaws, answered_piece, answered_whol
 use Rattle.hurd_machine.proofs.Frame.{Full}
 use Rattle.hurd_machine.proofs.Opens.{own_task, fresh_new, later_new}
 use Rattle.hurd_machine.proofs.Pending.{pends_whole, starts_whole}
-use Rattle.hurd_machine.proofs.Confine.{seen_old}
 use Rattle.hurd_machine.proofs.Views.{Agree, Agree-refl, same_tasks, header_same, active_same}
 use Rattle.hurd_core.specs.Core.{naming_asks}
+use Rattle.hurd_fsys.specs.Aims.{lent}
 use Rattle.hurd_fsys.specs.Starting.{Startup, pending_asks, plan_start_failed, plan_startup, same_words, start_aims, started, startup_asks, touches_start_failed, touches_startup, waiting_asks}
-use Rattle.hurd_fsys.proofs.AimsLaws.{aims_alike, aims_seen}
+use Rattle.hurd_fsys.proofs.AimsLaws.{Aims, aims_alike, aims_fit, aims_seen}
 use Rattle.hurd_fsys.proofs.BegunLaws.{newcomer, begins}
 use Rattle.hurd_machine.proofs.Piece.{Whole, stands}
 
@@ -103,6 +102,9 @@ module _ (t : ℕ) (m : Meaning) where
       let y = on_ok ESRCH (task_at w t) _ ns is in
       aims_seen S w y.0.ids (task_taken S w t y.0 ours y.1) owner m ns y.2
 
+  targets_fit : {w : World} → Sound w → (owner : ℕ) (ns : List Name) → start_aims w t m owner ≡ Ok ns → ((n : Name) → IsAmong n ns → Seen (λ u. true) w n) → Aims w m ns
+  targets_fit {w} st owner ns is seen = let y = on_ok ESRCH (task_at w t) _ ns is in aims_fit w (stands st) (lent y.0.ids owner) m ns y.2 seen
+
   abbrev parts : PendingStart → Result Startup Errno → Part → Type 0
   parts s r = asked_parts r (λ a p. p ≡ AttrOf s.node)
 
@@ -116,8 +118,8 @@ module _ (t : ℕ) (m : Meaning) where
       go (Ok a) is =
           let b = startable w s a is in
           let later = later_new w t 1 a.task b.is_task in
-          let below = λ (q : Name) (among : IsAmong q a.targets). seen_old st.coherent q (targets_seen {S = λ u. true} refl a.task b.is_task a.header.owner a.targets b.aims q among) in
-          starts_whole (stands st) (fresh t a.task) s.node _ _ (newcomer w t s.node a.header (a.header, b.there) m a.task b.is_task a.targets below) (begins w t s.node a.header (a.header, b.there) m a.task b.is_task a.targets below)
+          let aims = targets_fit st a.header.owner a.targets b.aims (targets_seen {S = λ u. true} refl a.task b.is_task a.header.owner a.targets b.aims) in
+          starts_whole (stands st) (fresh t a.task) s.node _ _ (newcomer w t s.node a.header (a.header, b.there) m a.task b.is_task a.targets aims) (begins w t s.node a.header (a.header, b.there) m a.task b.is_task a.targets aims)
           (own_task w t (parts s (Ok a))) (inr (inr later)) (inr (inr later)) (inr (inr later)) (inl refl) (inr (inr (fresh_new w t a.task b.is_task)))
           (λ S ours q among. inl (targets_seen ours a.task b.is_task a.header.owner a.targets b.aims q among))
 

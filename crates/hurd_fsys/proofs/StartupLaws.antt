@@ -3,7 +3,7 @@ use Rattle.std.proofs.Common.{◌≡◌, ◌∙◌, ℕ, List, true, false, true
 use Rattle.std.specs.Prelude.{Result, Ok, Err, IsOk, is_some, option_copied}
 use Rattle.std.specs.Borrow.{Bor}
 use Rattle.hurd_creds.specs.declared.errno.Errno.{Errno}
-use Rattle.hurd_creds.specs.declared.errno.Errno.TheVariants.{ENOMEM, ESRCH}
+use Rattle.hurd_creds.specs.declared.errno.Errno.TheVariants.{ESRCH}
 use Rattle.hurd_creds.specs.declared.name.Name.{Name}
 use Rattle.hurd_trans_iface.specs.Nodes.{Header}
 use Rattle.hurd_trans_iface.specs.Meaning.{Meaning}

@@ -1,5 +1,5 @@
 -- The words of a passive translator stored with a node, or not: a piece of a call, the world that it leaves, and that the old words make it what it was.
-use Rattle.std.proofs.Common.{◌≡◌, ◌≢◌, ◌⊎◌, ◌∙◌, ℕ, Bool, true, false, if◌then◌else◌, List, [], ◌∷◌, Option, Some, None, refl, sym, ap, inl, inr}
+use Rattle.std.proofs.Common.{◌≡◌, ◌≢◌, ◌⊎◌, ◌∙◌, ℕ, Bool, true, false, if◌then◌else◌, List, [], ◌∷◌, Option, Some, None, refl, sym, ap, ap₂, subst, inl, inr}
 use Rattle.std.specs.Prelude.{Result, Ok, Err, is_some}
 use Rattle.std.specs.Option.{option_map}
 use Rattle.std.specs.FinMap.{get}
@@ -9,28 +9,35 @@ use Rattle.hurd_creds.specs.declared.errno.Errno.TheVariants.{EINVAL}
 use Rattle.hurd_creds.specs.NameMaps.{NameMap, edit}
 use Rattle.hurd_creds.proofs.NameLaws.{same_map_by, same_or_apart, edit_here, edit_apart}
 use Rattle.hurd_trans_iface.specs.Nodes.{Header, Node, NodeMap, has_words, passive_of, some_words, with_header, with_passive}
-use Rattle.hurd_nodes.specs.Shown.{ServerInfo, set_attrs_by, tree_by}
-use Rattle.hurd_machine.specs.World.{World, header_at, info_at, node_at, sets_attrs_at, words_at, words_in}
+use Rattle.hurd_trans_iface.specs.Meaning.{Meaning}
+use Rattle.hurd_nodes.specs.Shown.{ServerInfo, info_in, set_attrs_by, tree_by}
+use Rattle.hurd_ports.specs.Tables.{Task}
+use Rattle.hurd_machine.specs.World.{World, header_at, info_at, node_at, sets_attrs_at, words_at, words_in, nodes_of, shape_by}
 use Rattle.hurd_machine.specs.Change.{Change, EditHeader, apply_all}
 use Rattle.hurd_machine.specs.Plan.{on, first}
 use Rattle.hurd_machine.specs.Handle.{Named, port_asks}
 use Rattle.hurd_machine.specs.Sight.{Part, AttrOf, EmptyOf, BodyOf, OptionsOf, UsersOf, OwnsIt, Owns}
 use Rattle.hurd_machine.specs.Touched.{Goes}
 use Rattle.hurd_machine.proofs.Asks.{is_named}
-use Rattle.hurd_machine.proofs.Nodes.{header_in, header-with_header, edit_keeps, edit_reads}
+use Rattle.hurd_machine.proofs.Nodes.{header_in, header-with_header, edit_keeps, edit_reads, node_of_header, was_edited}
+use Rattle.hurd_machine.proofs.Coherence.{be_same}
 use Rattle.hurd_machine.proofs.Confine.{Less}
 use Rattle.hurd_core.specs.Core.{naming_asks}
 use Rattle.hurd_fsys.specs.Setting.{stored_asks}
+use Rattle.hurd_fsys.proofs.AimsLaws.{Aims}
 use Rattle.hurd_machine.proofs.Piece.{Whole, stands, whole_none, quiet, of_header}
-use Rattle.hurd_machine.specs.Sound.{Sound}
+use Rattle.hurd_machine.specs.Sound.{Below, Sound}
 use Rattle.hurd_machine.proofs.Permits.{AllExact}
 
 -- a world like another, but for the headers of its nodes; this node is there
 pub record IsLike (w v : World) (n : Name) : Type 0 where
   pub homes : v.homes ≡ w.homes
+  pub servers : v.servers ≡ w.servers
   pub actives : v.actives ≡ w.actives
   pub tasks : v.tasks ≡ w.tasks
   pub there : (h : Header) × (header_at v n ≡ Some h)
+  -- each is of the kind that it was of
+  pub kinds : (m : Name) (h : Header) → header_at v m ≡ Some h → (k : Header) × (header_at w m ≡ Some k) × (h.kind ≡ k.kind)
 
 -- the same goes with a server
 pub goes_like : (w v : World) (n : Name) → IsLike w v n → (q : Name) (p : Part) → Goes v q p → Goes w q p
@@ -42,6 +49,18 @@ goes_like w v n k q (OptionsOf s) e = e
 goes_like w v n k q (UsersOf s) e = e
 goes_like w v n k q _ e = absurd e
 
+-- targets that a server may have in the one it may have in the other
+pub aims_like : (w v : World) (n : Name) → IsLike w v n → (m : Meaning) (ns : List Name) → Aims w m ns → Aims v m ns
+aims_like w v n k m ns a = record {
+  named = λ q among.
+      let l = a.named q among in (
+        subst (λ (ts : List Task). Below (record v { tasks = ts }) q) (sym k.tasks) l.0,
+        be_same (nodes_of v) (nodes_of w) q (ap₂ (λ (hs : NameMap Name) (ss : NameMap ServerInfo). shape_by (info_in ss (get hs q))) k.homes k.servers) l.1,
+      );
+  count = a.count;
+  dirs = λ union q h among e. let z = k.kinds q h e in z.2 ∙ a.dirs union q z.0 among z.1;
+}
+
 module _ (n : Name) (words : List (List ℕ)) where
   abbrev pub storing_if : Bool → List Change
   storing_if b = if b then EditHeader n (with_passive words) ∷ [] else []
@@ -49,11 +68,18 @@ module _ (n : Name) (words : List (List ℕ)) where
   pub storing_like : (b : Bool) (w : World) (h : Header) → header_at w n ≡ Some h → IsLike w (apply_all (storing_if b) w) n
   storing_like true w h at = record {
     homes = refl;
+    servers = refl;
     actives = refl;
     tasks = refl;
+    kinds = λ m k e.
+        let x = node_of_header (get (edit n (with_header (with_passive words)) w.nodes) m) k e in
+        elim (was_edited w.nodes n m (with_header (with_passive words)) x.0 x.1) [
+          | inl l ↦ (l.1.header, ap header_in (ap (get w.nodes) l.0 ∙ l.2), ap (λ (z : Header). z.kind) (sym x.2) ∙ ap (λ (z : Node). z.header.kind) (sym l.3))
+          | inr l ↦ (x.0.header, ap header_in l, ap (λ (z : Header). z.kind) (sym x.2))
+        ];
     there = (with_passive words h, edit_reads header_in (option_map (with_passive words)) (with_header (with_passive words)) (header-with_header (with_passive words)) w.nodes n ∙ ap (option_map (with_passive words)) at);
   }
-  storing_like false w h at = record { homes = refl; actives = refl; tasks = refl; there = (h, at) }
+  storing_like false w h at = record { homes = refl; servers = refl; actives = refl; tasks = refl; there = (h, at); kinds = λ m k e. (k, e, refl) }
 
   -- a task has as many names left
   pub storing_names : (b : Bool) (w : World) (t k : ℕ) → naming_asks (apply_all (storing_if b) w) t k ≡ naming_asks w t k

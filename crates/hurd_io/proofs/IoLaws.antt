@@ -5,7 +5,8 @@ use Rattle.hurd_creds.specs.declared.name.Name.{Name}
 use Rattle.hurd_creds.specs.declared.errno.Errno.{Errno}
 use Rattle.hurd_trans_iface.specs.Behaviour.{Did, Question, edits_of}
 use Rattle.hurd_trans_iface.specs.Kinds.{ServerKind, behaviour_of}
-use Rattle.hurd_trans_iface.specs.Good.{KeepsSizes, IsPlain as IsPlainAnswer}
+use Rattle.hurd_trans_iface.specs.Good.{IsPlain as IsPlainAnswer}
+use Rattle.hurd_trans_iface.proofs.BodyLaws.{read_holds, write_holds}
 use Rattle.hurd_machine.specs.Calls.{Reply}
 use Rattle.hurd_machine.specs.World.{World, asked_at, counts_at, stream_at}
 use Rattle.hurd_machine.specs.Change.{Change, apply_all, changes_of}
@@ -17,7 +18,7 @@ use Rattle.hurd_machine.proofs.Frame.{AllWithin, Full, within_append}
 use Rattle.hurd_machine.proofs.Coherence.{AllProper}
 use Rattle.hurd_machine.proofs.Keeping.{proper_append}
 use Rattle.hurd_machine.proofs.Settle.{Rests}
-use Rattle.hurd_machine.proofs.Sizes.{KeepsSized, did_sized, sized_append}
+use Rattle.hurd_machine.proofs.Sizes.{KeepsNodes}
 use Rattle.hurd_machine.proofs.Links.{KeepsLinked}
 use Rattle.hurd_machine.proofs.Several.{AllMay}
 use Rattle.hurd_machine.proofs.Permits.{did_exact}
@@ -66,8 +67,8 @@ pub record IoLaws {T : Type 0} (t : ℕ) (asks : World → Result IoAt Errno) (q
   pub asks_plain : (w : World) → IsPlain (asks w)
   pub told_plain : (at : ℕ) (k : ServerKind) → IsPlainAnswer (behaviour_of k) (q at)
   pub reply_plain : (x : T) → is_refused (reply x) ≡ false
-  -- and sizes stay right
-  pub sizes : (at : ℕ) (k : ServerKind) → KeepsSizes (behaviour_of k) (q at)
+  -- and sizes stay right, and in nodes is what may be there
+  pub keeps : (at : ℕ) → KeepsNodes (q at)
 
 module _ {T : Type 0} (t : ℕ) (asks : World → Result IoAt Errno) (q : ℕ → Question T) (reply : T → Reply) (count : T → ℕ) (l : IoLaws t asks q reply) where
   -- what the server does to the node, and then the cursor
@@ -83,7 +84,7 @@ module _ {T : Type 0} (t : ℕ) (asks : World → Result IoAt Errno) (q : ℕ �
   pub io_laws : CallLaws t (λ w. plan_io w (asks w) q reply count) (λ w. touches_io w (asks w) q)
   io_laws = record {
     piece = λ w s. answered_piece s (asks w) _ _ (λ a is. answered_piece s (asked_at (q a.at) a.node w) _ (λ d p. parts a d p) (λ d told.
-        whole_then (edits a d) (moves a d) (did_exact a.node d) s (did_whole s (q a.at) (l.sizes a.at) a.node d told (λ p on. inl (inl on)))
+        whole_then (edits a d) (moves a d) (did_exact a.node d) s (did_whole s (q a.at) (l.keeps a.at) a.node d told (λ p on. inl (inl on)))
         (λ x. moved_whole x a.offset a.is_stream a.open_name _ (λ p on. inl (inr on)))));
     same = λ S v w c d a ours. answered_same _ _ _ _ (l.asks_same S v w a ours) (λ x is. answered_same _ _ _ _ (l.told_same S v w a ours x is) (λ d told. refl));
     plain = λ w. answered_plain _ _ (l.asks_plain w) (λ a is.
@@ -110,7 +111,7 @@ read_laws t p amount offset = io_laws t (λ w. read_asks w t p offset) (reads am
   asks_plain = λ w. first_plain _ _ (handle_plain w t p READ) (λ h is. given_plain _ _ _ refl (λ file. first_plain _ _ (offset_plain offset) (λ o e. ok_plain _)));
   told_plain = λ at k. (good k).read_plain at (min amount most_read);
   reply_plain = λ bytes. refl;
-  sizes = λ at k. (good k).read_sizes at (min amount most_read);
+  keeps = λ at k. ((good k).read_sizes at (min amount most_read), read_holds at (min amount most_read) k);
 })
 
 -- io_write: it asks of a node that the caller has open to write, and is told nothing of its body, unless its server counts who reads: then it sees that.
@@ -133,7 +134,7 @@ write_laws t p bytes offset = io_laws t (λ w. write_asks w t p offset) (writes 
   asks_plain = λ w. first_plain _ _ (handle_plain w t p WRITE) (λ h is. first_plain _ _ (offset_plain offset) (λ o e. ok_plain _));
   told_plain = λ at k. (good k).write_plain at bytes;
   reply_plain = λ taken. refl;
-  sizes = λ at k. (good k).write_sizes at bytes;
+  keeps = λ at k. ((good k).write_sizes at bytes, write_holds at bytes k);
 })
 
 -- io_stat: it asks for a node that the caller has a port on, and so sees.

@@ -7,13 +7,13 @@ use Rattle.hurd_creds.specs.declared.attrs.Kind.TheVariants.{File}
 use Rattle.hurd_creds.specs.Bits.{asks, WRITE}
 use Rattle.hurd_trans_iface.specs.Nodes.{Header, is_dir}
 use Rattle.hurd_ports.specs.declared.table.IoRight.{IoRight}
-use Rattle.hurd_machine.specs.World.{World, header_at, home_at, info_at, makes_at, is_removed}
+use Rattle.hurd_machine.specs.World.{World, header_at, home_at, info_at, makes_at, is_removed, only_reads}
 use Rattle.hurd_machine.specs.Sight.{BodyOf, Seen, Sees, Taken}
 use Rattle.hurd_machine.proofs.Views.{Agree, header_same, home_same}
 use Rattle.hurd_machine.proofs.Asks.{info_same, is_root_same, makes_same, makes_plain}
 use Rattle.hurd_core.specs.Core.{NewNodeAt}
 use Rattle.hurd_lookup.specs.declared.request.Request.{Request}
-use Rattle.hurd_lookup.specs.Lookup.{NewPort, Place, AtNode, AtName, Elsewhere, Waits, Outcome, Opens, Makes, Retries, Starts, may_open, only_reads, end_asks}
+use Rattle.hurd_lookup.specs.Lookup.{NewPort, Place, AtNode, AtName, Elsewhere, Waits, Outcome, Opens, Makes, Retries, Starts, may_open, end_asks}
 use Rattle.hurd_lookup.proofs.AlikeLaws.{Alike, ok_alike, on_alike, given_alike, first_alike}
 use Rattle.hurd_lookup.proofs.WalkLaws.{WaysSeen, PortSeen, PlaceSeen}
 

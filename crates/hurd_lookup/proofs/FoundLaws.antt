@@ -1,5 +1,5 @@
 -- The laws of a call that makes of what it found a port, a file or a retry, or is to start it.
-use Rattle.std.proofs.Common.{◌≡◌, ℕ, Bool, true, Some, None, refl, List, ap}
+use Rattle.std.proofs.Common.{◌≡◌, ℕ, Bool, true, Some, None, refl, ◌∙◌, List, ap}
 use Rattle.std.specs.Prelude.{Result, Ok}
 use Rattle.hurd_creds.specs.declared.errno.Errno.{Errno}
 use Rattle.hurd_creds.specs.declared.errno.Errno.TheVariants.{ESRCH}
@@ -9,12 +9,14 @@ use Rattle.hurd_machine.specs.declared.call.Reply.TheVariants.{Found}
 use Rattle.hurd_machine.specs.World.{World, task_at}
 use Rattle.hurd_machine.specs.Plan.{on, Plan}
 use Rattle.hurd_machine.proofs.Views.{Agree, Agree-refl, same_tasks}
-use Rattle.hurd_machine.proofs.Asks.{answered_same, answered_plain, done_plain}
+use Rattle.hurd_machine.proofs.Asks.{answered_same, answered_plain, done_plain, first_ok}
+use Rattle.hurd_machine.proofs.Piece.{Stands, stands}
 use Rattle.hurd_machine.proofs.CallLaws.{CallLaws, answered_piece}
 use Rattle.hurd_core.specs.Core.{room_asks}
 use Rattle.hurd_lookup.specs.Lookup.{Outcome, Opens, Makes, Retries, Starts, ending_asks, whole_asks, lookup_told, finding, finding_parts, lookup_changes, no_modes}
 use Rattle.hurd_lookup.proofs.AlikeLaws.{Alike, ok_alike, on_alike, given_alike, first_alike}
 use Rattle.hurd_lookup.proofs.EndLaws.{OutcomeShown}
+use Rattle.hurd_lookup.proofs.HeldLaws.{Gives, OutcomeHeld}
 use Rattle.hurd_lookup.proofs.OutcomeLaws.{outcome_whole}
 use Rattle.hurd_creds.specs.Bits.{open_modes}
 use Rattle.hurd_machine.specs.Change.{Change}
@@ -23,6 +25,10 @@ use Rattle.hurd_machine.proofs.Opens.{opening_same}
 -- what task t finds, which is to be opened by these flags, is the same in worlds that agree, where S has t; and what is shown of it
 abbrev pub FoundLaws : ℕ → OpenFlags → (World → Result Outcome Errno) → Type 0
 FoundLaws t flags found = (S : ℕ → Bool) (v w : World) → Agree S v w → S t ≡ true → Alike (OutcomeShown S v flags) (found v) (found w)
+
+-- and in a world that stands one can be wherever it leads
+abbrev pub FoundHeld : OpenFlags → (World → Result Outcome Errno) → Type 0
+FoundHeld flags found = (w : World) → Stands w → Gives (OutcomeHeld w flags) (found w)
 
 -- the task that makes a port of what was found
 module _ {S : ℕ → Bool} {v w : World} (a : Agree S v w) (t : ℕ) (ours : S t ≡ true) where
@@ -50,7 +56,7 @@ changes_same a t x flags (Retries kind name None) shown = refl
 changes_same a t x flags (Retries kind name (Some e)) shown = opening_same a t x e.node e.ids e.parents no_modes shown.seen.node
 changes_same a t x flags (Starts s) shown = refl
 
-module _ (t : ℕ) (flags : OpenFlags) (found : World → Result Outcome Errno) (l : FoundLaws t flags found) where
+module _ (t : ℕ) (flags : OpenFlags) (found : World → Result Outcome Errno) (l : FoundLaws t flags found) (held : FoundHeld flags found) where
   abbrev asked : World → Result (Outcome × Task) Errno
   asked w = whole_asks w t (found w)
 
@@ -67,10 +73,18 @@ module _ (t : ℕ) (flags : OpenFlags) (found : World → Result Outcome Errno) 
   alone : (S : ℕ → Bool) (w : World) → S t ≡ true → Alike (Answered S w) (asked w) (asked w)
   alone S w ours = asked_alike S w w (Agree-refl S w) ours
 
+  -- what it found
+  asked_found : (w : World) (got : Outcome × Task) → asked w ≡ Ok got → found w ≡ Ok got.0
+  asked_found w got is =
+      let o = first_ok (found w) _ got is in
+      let x = first_ok (ending_asks w t o.0) _ got o.2 in
+      let same : ◌≡◌ {A = Outcome × Task} (o.0, x.0) got = cc (x.2) in
+      o.1 ∙ ap (λ (z : Outcome × Task). Ok z.0) same
+
   pub finding_laws : CallLaws t (λ w. finding w t flags (found w)) (λ w. finding_parts w t (found w))
   finding_laws = record {
     piece = λ w s. answered_piece s (asked w) _ _ (λ got is.
-        outcome_whole w t got.1 ((alone (λ k. true) w refl).has got is).is_task flags s got.0 (λ S ours. ((alone S w ours).has got is).shown));
+        outcome_whole w t got.1 ((alone (λ k. true) w refl).has got is).is_task flags s got.0 ((held w (stands s)).has got.0 (asked_found w got is)) (λ S ours. ((alone S w ours).has got is).shown));
     same = λ S v w c d a ours. answered_same _ _ _ _ (asked_alike S v w a ours).same (λ got is.
         let shown = ((alone S v ours).has got is).shown in
         ap (λ (cs : List Change). let P : Plan = record { reply = Found (lookup_told got.1 got.0); changes = cs } in P) (changes_same a t got.1 flags got.0 shown));

@@ -1,5 +1,5 @@
 -- The laws of fsys_getroot.
-use Rattle.std.proofs.Common.{◌≡◌, ℕ, Bool, true, [], refl, ap}
+use Rattle.std.proofs.Common.{◌≡◌, ℕ, Bool, true, [], refl, ap, inl, inr}
 use Rattle.std.specs.Prelude.{Result, Ok, Err}
 use Rattle.hurd_creds.specs.declared.name.Name.{Name}
 use Rattle.hurd_creds.specs.declared.open_flags.OpenFlags.{OpenFlags}
@@ -8,7 +8,8 @@ use Rattle.hurd_creds.specs.declared.errno.Errno.TheVariants.{EBADF}
 use Rattle.hurd_ports.specs.declared.table.Right.{Right}
 use Rattle.hurd_ports.specs.declared.table.Right.TheVariants.{Io, Control, Start}
 use Rattle.hurd_ports.specs.Tables.{right_of}
-use Rattle.hurd_machine.specs.World.{World, ports_of}
+use Rattle.hurd_machine.specs.World.{World, nodes_of, ports_of}
+use Rattle.hurd_machine.specs.Sound.{CanBeAt, Coherent}
 use Rattle.hurd_machine.specs.Sight.{Holds, UidOfTask, GidOfTask, Taken, Seen, Controlled, OfControl}
 use Rattle.hurd_machine.proofs.Views.{Agree, same_tasks, header_same, server_known}
 use Rattle.hurd_machine.proofs.Asks.{IsPlain, ok_plain, err_plain, right_same, right_plain, holds_right, io_right_same, io_right_plain, holds_io}
@@ -20,8 +21,9 @@ use Rattle.hurd_lookup.specs.Getroot.{Entrance, root_request, entrance_asks, get
 use Rattle.hurd_lookup.proofs.AlikeLaws.{Alike, ok_alike, on_alike, given_alike, first_alike}
 use Rattle.hurd_lookup.proofs.WalkLaws.{WaysSeen, cross_alike}
 use Rattle.hurd_lookup.proofs.EndLaws.{end_alike}
-use Rattle.hurd_lookup.proofs.FoundLaws.{FoundLaws, finding_laws}
-use Rattle.hurd_lookup.proofs.LookupLaws.{held_seen, held_ways}
+use Rattle.hurd_lookup.proofs.HeldLaws.{Gives, WaysHeld, ok_gives, on_gives, given_gives, first_gives, cross_gives, end_gives}
+use Rattle.hurd_lookup.proofs.FoundLaws.{FoundLaws, FoundHeld, finding_laws}
+use Rattle.hurd_lookup.proofs.LookupLaws.{held_seen, held_ways, port_held}
 
 -- a port that controls a server
 
@@ -71,6 +73,17 @@ module _ (t c dir : ℕ) where
         ways = held_ways q held;
       })))))))
 
+  -- one can be where it is entered
+  record EntranceHeld (w : World) (e : Entrance) : Type 0 where
+    node : CanBeAt (nodes_of w) e.right.node
+    ways : WaysHeld w e.right.parents
+
+  entrance_gives : (w : World) → Coherent w → Gives (EntranceHeld w) (entrance_asks w t c dir)
+  entrance_gives w coherent =
+      first_gives _ _ _ (λ s controls. first_gives _ _ _ (λ q is. on_gives _ _ _ _ (λ i there. on_gives _ _ _ _ (λ h eh. given_gives _ _ _ _ (λ k. on_gives _ _ _ _ (λ x ex.
+      let held = port_held w coherent t dir q is in
+      ok_gives _ _ (record { node = held q.node (inl refl); ways = λ m way. held m (inr way) })))))))
+
   module _ (flags : OpenFlags) where
     abbrev r : Request
     r = root_request flags
@@ -83,5 +96,11 @@ module _ (t c dir : ℕ) where
         first_alike _ _ _ _ _ _ (entrance_alike S v w a ours) (λ e is s.
         first_alike _ _ _ _ _ _ (cross_alike a e.right s.ids s.ways r e.right.node e.root s.node s.root []) (λ place crossed seen. end_alike a e.right s.ids s.ways r place seen))
 
+    found_held : FoundHeld flags found
+    found_held w s =
+        first_gives _ _ _ (λ e is. first_gives _ _ _ (λ place crossed.
+        let held = (entrance_gives w s.coherent).has e is in
+        end_gives w s e.right held.ways r place ((cross_gives w s e.right held.ways r e.right.node e.root held.node []).has place crossed)))
+
     pub getroot_laws : CallLaws t (λ w. plan_getroot w t c dir flags) (λ w. touches_getroot w t c dir flags)
-    getroot_laws = finding_laws t flags found found_alike
+    getroot_laws = finding_laws t flags found found_alike found_held

@@ -1,5 +1,6 @@
 pub mod AlikeLaws
 pub mod WalkLaws
+pub mod HeldLaws
 pub mod ResolveLaws
 pub mod LegLaws
 pub mod EndLaws

@@ -1,5 +1,5 @@
 -- What a lookup does at its end: it opens a node, makes a file and opens that, makes the port of a retry, or has the task start a translator.
-use Rattle.std.proofs.Common.{◌≡◌, ℕ, ◌+◌, Bool, true, false, not, ◌&&◌, ◌||◌, List, Some, None, refl, inl, inr, arith}
+use Rattle.std.proofs.Common.{◌≡◌, ℕ, ◌+◌, Bool, true, false, not, ◌&&◌, ◌||◌, List, Some, None, refl, sym, ◌∙◌, ap, inl, inr, arith}
 use Rattle.std.proofs.lemmas.Nat.{and_assoc}
 use Rattle.std.proofs.lemmas.Bool.{or_cases, and_parts}
 use Rattle.hurd_creds.specs.declared.name.Name.{Name}
@@ -8,16 +8,19 @@ use Rattle.hurd_creds.specs.declared.attrs.Kind.TheVariants.{File}
 use Rattle.hurd_creds.specs.declared.attrs.Want.TheVariants.{Read, Write, Exec}
 use Rattle.hurd_creds.specs.Access.{IdSets, may}
 use Rattle.hurd_creds.specs.Bits.{asks, open_modes, READ, WRITE, EXEC}
+use Rattle.hurd_creds.proofs.NameLaws.{get_apart}
 use Rattle.hurd_trans_iface.specs.Nodes.{Node, Header, is_dir, new_file}
 use Rattle.hurd_trans_iface.proofs.Goods.{good}
-use Rattle.hurd_ports.specs.Tables.{Task, fresh}
+use Rattle.hurd_nodes.specs.Shown.{info_in, tree_by}
+use Rattle.hurd_ports.specs.Tables.{Task, fresh, ways_of}
 use Rattle.hurd_ports.specs.Steps.{named}
-use Rattle.hurd_machine.specs.World.{World, counts_at, task_at, header_at}
+use Rattle.hurd_machine.specs.World.{World, IsAmong, nodes_of, counts_at, task_at, header_at, server_at, info_at, shape_by, shape_at, leads_on, gives_text}
 use Rattle.hurd_machine.specs.Change.{Change, apply_all, opening, porting}
 use Rattle.hurd_machine.specs.Sight.{Part, AttrOf, bare, tells, Allowed, Seen, SeesBody, ToRead, ToPut}
 use Rattle.hurd_machine.specs.Touched.{OnOpen}
-use Rattle.hurd_machine.specs.Sound.{Below, Sound}
-use Rattle.hurd_machine.proofs.Coherence.{IsNext, header_old, named_still}
+use Rattle.hurd_machine.specs.Sound.{Below, CanBeWritten, Sound}
+use Rattle.hurd_machine.proofs.Coherence.{IsNext, CanBeNamed, be_same, header_old, named_still, next_apart}
+use Rattle.hurd_machine.proofs.Shapes.{tree_shape}
 use Rattle.hurd_machine.proofs.Settle.{rests_opening}
 use Rattle.hurd_machine.proofs.Frame.{Full}
 use Rattle.hurd_machine.proofs.Links.{leads_unless, file_hangs}
@@ -30,6 +33,7 @@ use Rattle.hurd_machine.proofs.Pending.{pends_whole}
 use Rattle.hurd_core.specs.Core.{asked_node}
 use Rattle.hurd_lookup.specs.Lookup.{NewPort, Outcome, Opens, Makes, Retries, Starts, may_open, no_modes, lookup_changes, lookup_parts}
 use Rattle.hurd_lookup.proofs.WalkLaws.{PortSeen}
+use Rattle.hurd_lookup.proofs.HeldLaws.{PortHeld, OutcomeHeld}
 use Rattle.hurd_lookup.proofs.EndLaws.{MakeLeads, OutcomeShown}
 use Rattle.hurd_machine.proofs.Piece.{Whole, stands, whole_none, whole_then}
 
@@ -94,24 +98,25 @@ module _ (w : World) (t : ℕ) (x : Task) (is : task_at w t ≡ Some x) (flags :
 
   -- a port that is made
   port_whole : {T : Part → Type 0} → Sound w → (e : NewPort) (modes : OpenFlags) → ((p : Part) → OnOpen w e.node p → T p)
-      → (asks modes WRITE ≡ true → (h : Header) → header_at w e.node ≡ Some h → is_dir h.kind ≡ false) → ((S : ℕ → Bool) → S t ≡ true → PortSeen S w e)
+      → (asks modes WRITE ≡ true → CanBeWritten w e.node) → PortHeld w e → ((S : ℕ → Bool) → S t ≡ true → PortSeen S w e)
       → ((S : ℕ → Bool) → S t ≡ true → tells (counts_at w e.node) modes ≡ true → (h : Header) → header_at w e.node ≡ Some h → SeesBody S w e.node h) → Whole t (Full w t T) w w (opening w t x e.node e.ids e.parents modes)
-  port_whole {T} s e modes on writes seen reads =
+  port_whole {T} s e modes on writes held seen reads =
       opening_whole x e.node e.ids e.parents modes (stands s)
       (opens_piece w t x is e.node e.ids e.parents modes (stands s) (own_task w t T) (inr (inr (fresh_new w t x is))) (λ p here. inl (on p (inl here)))
-      (given s e.node (λ S ours. (seen S ours).node)) (λ m way. given s m (λ S ours. (seen S ours).ways m way)) writes (λ S ours.
+      (given s e.node (λ S ours. (seen S ours).node), held.node) (λ m way. (given s m (λ S ours. (seen S ours).ways m way), held.ways m way)) writes (λ S ours.
       let k = seen S ours in
       opens_may S w w t x e.node e.ids e.parents modes ours (later_new S w t x x.made ours is (omega arith)) (inl k.node) (λ m way. inl (k.ways m way)) (inr k.ids) (reads S ours)))
       (rests_opening w t x is e.node e.ids e.parents modes s.settled)
       (λ counts. inl (on (AttrOf e.node) (inr (counts, refl))))
 
-  pub outcome_whole : Sound w → (o : Outcome) → ((S : ℕ → Bool) → S t ≡ true → OutcomeShown S w flags o) → Whole t (Writes o) w w (changes o)
-  outcome_whole s (Starts p) shown =
-      pends_whole (stands s) t (Some p) x is (own_task w t (lookup_parts w (Starts p))) (given s p.node (λ S ours. (shown S ours).seen)) (λ S ours. inl (shown S ours).seen)
-  outcome_whole s (Opens e) shown =
+  pub outcome_whole : Sound w → (o : Outcome) → OutcomeHeld w flags o → ((S : ℕ → Bool) → S t ≡ true → OutcomeShown S w flags o) → Whole t (Writes o) w w (changes o)
+  outcome_whole s (Starts p) held shown =
+      pends_whole (stands s) t (Some p) x is (own_task w t (lookup_parts w (Starts p))) (given s p.node (λ S ours. (shown S ours).seen), held) (λ S ours. inl (shown S ours).seen)
+  outcome_whole s (Opens e) held shown =
       let l = (shown (λ k. true) refl).leads in
       port_whole {T = lookup_parts w (Opens e)} s e modes (λ p on. on)
-      (λ writes h eh. let same : l.header ≡ h = cc (l.is_header, eh) in rw (← same) (no_dir (is_dir l.header.kind) (asks flags WRITE) l.fits (kept_write flags writes))) (λ S ours. (shown S ours).seen)
+      (λ writes. (λ h eh. let same : l.header ≡ h = cc (l.is_header, eh) in rw (← same) (no_dir (is_dir l.header.kind) (asks flags WRITE) l.fits (kept_write flags writes)), held.1 (kept_write flags writes)))
+      held.0 (λ S ours. (shown S ours).seen)
       (λ S ours told h eh.
       let same : l.header ≡ h = cc (l.is_header, eh) in
       let ids = (shown S ours).seen.ids in
@@ -121,11 +126,11 @@ module _ (w : World) (t : ℕ) (x : Task) (is : task_at w t ≡ Some x) (flags :
             let two = and_parts (counts_at w e.node) (asks modes WRITE) put in
             ToPut two.0 (Allowed e.ids ids (rw (← same) (writes e.ids l.header flags l.may (kept_write flags two.1))))
       ])
-  outcome_whole s (Retries kind name None) shown = whole_none s
-  outcome_whole s (Retries kind name (Some e)) shown =
+  outcome_whole s (Retries kind name None) held shown = whole_none s
+  outcome_whole s (Retries kind name (Some e)) held shown =
       port_whole {T = lookup_parts w (Retries kind name (Some e))} s e no_modes (λ p on. on)
-      (λ writes h eh. absurd (silent_write writes)) (λ S ours. (shown S ours).seen) (λ S ours told h eh. absurd (silent_tells (counts_at w e.node) told))
-  outcome_whole s (Makes q f ids ways) shown =
+      (λ writes. absurd (silent_write writes)) held (λ S ours. (shown S ours).seen) (λ S ours told h eh. absurd (silent_tells (counts_at w e.node) told))
+  outcome_whole s (Makes q f ids ways) held shown =
       rw l.named
       (whole_then made opened (tt, (tt, tt)) s
       (entered_whole good s t x is q f.dir l.home l.name (may_make w f.dir (Some l.name) File tt l.may) (leads_unless w s.linked f.dir l.header l.is_header l.stands) (asked_node File f n) file refl refl
@@ -133,8 +138,7 @@ module _ (w : World) (t : ℕ) (x : Task) (is : task_at w t ≡ Some x) (flags :
       (λ d. record {
         piece = opens_piece left t (named 1 x) seat n ids ways modes (stands d) (own_task w t (lookup_parts w o)) (inr (inr (fragments.later_new w t 1 x is)))
             (λ p on. let same : on.0 ≡ q = cc (on.1, entered_home w n q file f.dir l.name) in inl (inl (rw (on.2, same) refl)))
-            (entered_below w n q file f.dir l.name s.coherent next) (λ k way. named_still w s.coherent n next 1 k (given s k (λ S ours. (shown S ours).seen.2 k way)))
-            (λ writes h e. let same : file.header ≡ h = cc (entered_header w n q file f.dir l.name, e) in rw (← same) refl)
+            (entered_below w n q file f.dir l.name s.coherent next, inr shape.0) ways_yet (λ writes. (λ h e. let same : file.header ≡ h = cc (entered_header w n q file f.dir l.name, e) in rw (← same) refl, shape.1))
             (λ S ours.
             let new : NewTo S w n = later_new S w t x x.made ours is (omega arith) in
             let k = (shown S ours).seen in
@@ -165,3 +169,15 @@ module _ (w : World) (t : ℕ) (x : Task) (is : task_at w t ≡ Some x) (flags :
 
       seat : task_at left t ≡ Some (named 1 x)
       seat = entered_task w n q file f.dir l.name x is
+
+      -- the directory's server keeps a tree, and so leads nobody on
+      shape : (leads_on (shape_at (nodes_of left) n) ≡ false) × (gives_text (shape_at (nodes_of left) n) ≡ false)
+      shape =
+          let m = may_make w f.dir (Some l.name) File tt l.may in
+          let server : server_at w q ≡ Some m.info = sym (ap (info_in w.servers) l.home) ∙ m.is_info in
+          tree_shape (info_at left n) (ap tree_by (ap (info_in left.servers) (entered_home w n q file f.dir l.name) ∙ server) ∙ m.tree)
+
+      ways_yet : (k : Name) → IsAmong k (ways_of ways) → CanBeNamed left k
+      ways_yet k way =
+          let below : Below w k = given s k (λ S ours. (shown S ours).seen.2 k way) in
+          (named_still w s.coherent n next 1 k below, be_same (nodes_of left) (nodes_of w) k (ap (λ o. shape_by (info_in w.servers o)) (get_apart w.homes n q k (next_apart w n k next below))) (held k way))

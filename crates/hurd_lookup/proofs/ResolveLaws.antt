@@ -1,6 +1,6 @@
 -- What is resolved is the same in worlds that agree, where S could do what the ids may; S sees where it leads, and no refusal is want of memory.
-use Rattle.std.proofs.Common.{◌≡◌, ℕ, zero, suc, Bool, List, [], ◌∷◌, Some, None, refl, inl, inr, subst}
-use Rattle.std.specs.Prelude.{Result, Ok}
+use Rattle.std.proofs.Common.{ℕ, zero, suc, Bool, List, [], ◌∷◌, Some, None, refl, inl, inr, subst}
+use Rattle.std.specs.Prelude.{Result}
 use Rattle.hurd_creds.specs.declared.name.Name.{Name}
 use Rattle.hurd_creds.specs.declared.errno.Errno.TheVariants.{ELOOP, ENOENT, ENXIO}
 use Rattle.hurd_creds.specs.Access.{IdSets}
@@ -8,8 +8,8 @@ use Rattle.hurd_machine.specs.World.{World, IsAmong}
 use Rattle.hurd_machine.specs.Sight.{Seen, Root}
 use Rattle.hurd_machine.proofs.Views.{Agree, header_same}
 use Rattle.hurd_lookup.specs.declared.request.Request.{Request}
-use Rattle.hurd_lookup.specs.Lookup.{NewPort, Place, AtNode, AtName, Elsewhere, Waits, no_ids}
-use Rattle.hurd_lookup.specs.Resolve.{Leg, from_top, leg_at, landed, leg_request, legs, most_looks, resolve, resolve_all, right_of}
+use Rattle.hurd_lookup.specs.Lookup.{Place, AtNode, AtName, Elsewhere, Waits, no_ids}
+use Rattle.hurd_lookup.specs.Resolve.{Leg, from_top, landed, leg_request, legs, most_looks, resolve, resolve_all, right_of}
 use Rattle.hurd_lookup.proofs.AlikeLaws.{Alike, ok_alike, err_alike, on_alike, given_alike, first_alike}
 use Rattle.hurd_lookup.proofs.WalkLaws.{Powers, PlaceWith, WaysSeen, no_ids_taken, taken_powers, walk_with}
 

@@ -82,12 +82,12 @@ abbrev root_in : World → Option Name → Option Name
 root_in w o = option_and_then (λ s. option_map (λ (i : ServerInfo). i.root) (server_at w s)) o
 
 -- what is got from a list is among it
-got_among : (n : Name) (ns : List Name) → slice_get ns 0 ≡ Some n → IsAmong n ns
+pub got_among : (n : Name) (ns : List Name) → slice_get ns 0 ≡ Some n → IsAmong n ns
 got_among n [] is = absurd (cc)
 got_among n (m ∷ ns) is = inl (let same : m ≡ n = cc in same)
 
 -- a branch is a target
-branch_aimed : (o : Option ServerInfo) (b : Name) → IsAmong b (branches_by o) → IsAmong b (targets_in o)
+pub branch_aimed : (o : Option ServerInfo) (b : Name) → IsAmong b (branches_by o) → IsAmong b (targets_in o)
 branch_aimed None b among = absurd among
 branch_aimed (Some i) b among = by (root_of i.kind i.text).crossing among
   where
@@ -99,7 +99,7 @@ branch_aimed (Some i) b among = by (root_of i.kind i.text).crossing among
 
 -- what S sees
 
-dir_is : (k : Kind) → is_dir k ≡ true → k ≡ Dir
+pub dir_is : (k : Kind) → is_dir k ≡ true → k ≡ Dir
 dir_is Dir h = refl
 dir_is File h = absurd (cc)
 dir_is LinkKind h = absurd (cc)

@@ -6,8 +6,7 @@ use Rattle.std.specs.FinSet as set
 use Rattle.hurd_creds.specs.declared.name.Name.{Name}
 use Rattle.hurd_creds.specs.declared.mode.Mode.{Mode}
 use Rattle.hurd_creds.specs.declared.open_flags.OpenFlags.{OpenFlags}
-use Rattle.hurd_creds.specs.declared.attrs.Kind.{Kind}
-use Rattle.hurd_creds.specs.declared.attrs.Kind.TheVariants.{File, Link as LinkKind}
+use Rattle.hurd_creds.specs.declared.attrs.Kind.TheVariants.{File}
 use Rattle.hurd_creds.specs.declared.attrs.Want.TheVariants.{Read, Write, Exec}
 use Rattle.hurd_creds.specs.declared.errno.Errno.{Errno}
 use Rattle.hurd_creds.specs.declared.errno.Errno.TheVariants.{EACCES, EDIED, EEXIST, EISDIR, ELOOP, ENAMETOOLONG, ENOENT, ENOTDIR, EROFS, ESRCH}
@@ -31,7 +30,7 @@ use Rattle.hurd_machine.specs.declared.call.Lookup.TheVariants as found
 use Rattle.hurd_machine.specs.declared.call.RetryKind.{RetryKind}
 use Rattle.hurd_machine.specs.declared.call.RetryKind.TheVariants.{Normal, Reauth, Magical}
 use Rattle.hurd_machine.specs.declared.call.Reply.TheVariants.{Found}
-use Rattle.hurd_machine.specs.World.{World, ports_of, task_at, node_at, header_at, body_at, home_at, active_at, server_at, info_at, is_removed, is_server_root, makes_at}
+use Rattle.hurd_machine.specs.World.{World, ports_of, task_at, node_at, header_at, body_at, home_at, active_at, server_at, info_at, is_removed, is_server_root, makes_at, only_reads}
 use Rattle.hurd_machine.specs.Change.{Change, opening, pending}
 use Rattle.hurd_machine.specs.Plan.{Plan, on, given, first, answered}
 use Rattle.hurd_machine.specs.Sight.{Part, EmptyOf, BodyOf, UsersOf, bare}
@@ -238,16 +237,6 @@ pub data Outcome : Type 0 where
 abbrev pub may_open : IdSets → Header → OpenFlags → Bool
 may_open ids h flags =
     (not (asks flags READ) || may ids (bare h) Read) && ((not (asks flags WRITE) || may ids (bare h) Write) && (not (asks flags EXEC) || may ids (bare h) Exec))
-
--- whether a server only gives its text: its root is a file or a link
-abbrev pub is_text : Kind → Bool
-is_text File = true
-is_text LinkKind = true
-is_text _ = false
-
-abbrev pub only_reads : Option ServerInfo → Bool
-only_reads None = false
-only_reads (Some i) = is_text (root_of i.kind i.text).kind
 
 -- opening the last node
 abbrev pub open_asks : World → IdSets → Request → Name → List Parent → Result Outcome Errno

@@ -1,7 +1,6 @@
 -- Paths that the core follows for itself, to the targets of servers.
-use Rattle.std.specs.Prelude.{◌≡◌, ◌⊎◌, ℕ, zero, suc, ◌||◌, not, List, [], ◌∷◌, Option, Some, None, Result, Ok, Err}
+use Rattle.std.specs.Prelude.{ℕ, zero, suc, ◌||◌, not, List, [], ◌∷◌, Option, Some, None, Result, Ok, Err}
 use Rattle.hurd_creds.specs.declared.name.Name.{Name}
-use Rattle.hurd_creds.specs.declared.mode.Mode.{Mode}
 use Rattle.hurd_creds.specs.declared.errno.Errno.{Errno}
 use Rattle.hurd_creds.specs.declared.errno.Errno.TheVariants.{EDIED, ELOOP, ENAMETOOLONG, ENOENT, ENOTDIR, ENXIO}
 use Rattle.hurd_creds.specs.Access.{IdSets}

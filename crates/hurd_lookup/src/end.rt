@@ -3,9 +3,9 @@ ghost use Rattle.std.specs.Prelude.{◌≡◌, List};
 ghost use Rattle.hurd_nodes.specs.Shown.{header_in};
 ghost use Rattle.hurd_ports.specs.declared.parents.Parent.{Parent};
 ghost use Rattle.hurd_trans_iface.specs.Nodes.{is_dir};
-ghost use Rattle.hurd_machine.specs.World.{info_at};
+ghost use Rattle.hurd_machine.specs.World.{info_at, is_text, only_reads};
 ghost use Rattle.hurd_core.specs.Core.{world_of};
-ghost use Rattle.hurd_lookup.specs.Lookup.{end_asks, is_text, make_asks, may_open, only_reads, open_asks};
+ghost use Rattle.hurd_lookup.specs.Lookup.{end_asks, make_asks, may_open, open_asks};
 ghost use Rattle.hurd_lookup.specs.Ends.{CanEnd, CanGo, Finds, opened, outcome_of, place_of, right_by};
 
 use crate::authority::Authority;

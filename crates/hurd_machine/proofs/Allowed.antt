@@ -3,7 +3,6 @@ use Rattle.std.proofs.Common.{◌≡◌, ◌≢◌, ◌⊎◌, ℕ, ◌<◌, ◌
 use Rattle.std.specs.Option.{option_map}
 use Rattle.std.specs.FinMap.{get}
 use Rattle.hurd_creds.specs.declared.name.Name.{Name}
-use Rattle.hurd_creds.specs.Bits.{asks, READ}
 use Rattle.hurd_creds.specs.NameMaps.{edit}
 use Rattle.hurd_creds.proofs.NameLaws.{same_or_apart, get_here, get_apart, edit_apart}
 use Rattle.hurd_trans_iface.specs.Nodes.{Node, Header, Body, Content, Listing, with_header, with_body}

@@ -1,5 +1,5 @@
 -- Changes that keep a coherent world so.
-use Rattle.std.proofs.Common.{true, false, true≢false, ◌≡◌, ◌≢◌, ◌⊎◌, ℕ, ◌+◌, ◌<◌, ◌≤◌, cond, Bool, List, [], ◌∷◌, Option, Some, None, sym, refl, ◌∙◌, ap, subst, inl, inr, arith}
+use Rattle.std.proofs.Common.{true, false, true≢false, ◌≡◌, ◌≢◌, ◌⊎◌, ℕ, ◌+◌, ◌<◌, ◌≤◌, cond, length, Bool, List, [], ◌∷◌, Option, Some, None, sym, refl, ◌∙◌, ap, subst, inl, inr, arith}
 use Rattle.std.proofs.lemmas.Bool.{or_left, or_right}
 use Rattle.std.specs.List.{list_any}
 use Rattle.std.specs.Option.{option_map}
@@ -13,7 +13,8 @@ use Rattle.hurd_creds.specs.NameMaps.{NameMap, edit}
 use Rattle.hurd_creds.proofs.NameLaws.{same_name-itself, same_or_apart, get_here, get_apart, edit_here, edit_apart}
 use Rattle.hurd_trans_iface.specs.Nodes.{NodeMap, Node, Entry, Header, Body, Content, Listing, IsShaped, is_dir, with_header, with_body, header_of}
 use Rattle.hurd_trans_iface.specs.Answers.{entry_in, entry_of}
-use Rattle.hurd_trans_iface.specs.Meaning.{keeps_tree}
+use Rattle.hurd_trans_iface.specs.declared.root.Crossing.TheVariants.{Union}
+use Rattle.hurd_trans_iface.specs.Meaning.{keeps_tree, root_of, targets_of}
 use Rattle.hurd_nodes.specs.Shown.{ServerInfo, boot_name, info_in, is_root_of, tree_by, NodeState}
 use Rattle.hurd_ports.specs.declared.table.Opened.{Opened}
 use Rattle.hurd_ports.specs.declared.table.IoRight.{IoRight}
@@ -22,9 +23,9 @@ use Rattle.hurd_ports.specs.declared.table.Right.TheVariants.{Io, Control, Start
 use Rattle.hurd_ports.specs.declared.table.Port.{Port}
 use Rattle.hurd_ports.specs.Tables.{Task, OpenMap, rights_of, nodes_of as nodes_named}
 use Rattle.hurd_ports.specs.Steps.{named, with_sent, edit_task}
-use Rattle.hurd_machine.specs.World.{World, IsAmong, boot_root, nodes_of, task_at, open_at, header_at, body_at, home_at, active_at, server_at, info_at, is_of, lists, lists_at}
+use Rattle.hurd_machine.specs.World.{World, IsAmong, boot_root, nodes_of, task_at, open_at, header_at, body_at, home_at, active_at, server_at, info_at, is_of, lists, lists_at, shape_by, shape_at, leads_on, gives_text}
 use Rattle.hurd_machine.specs.Change.{Change, EditHeader, EditBody, MakeNode, EditOpen, MakeOpen, EditTask, Send, Attach, DropServer, Unseat, SetText, Settle, apply, with_nodes}
-use Rattle.hurd_machine.specs.Sound.{Below, AreDistinct, HasDistinctNames, IsGivenRight, AreGiven, AreHoused, AreSeated, IsTree, AreTables, Coherent, Linked}
+use Rattle.hurd_machine.specs.Sound.{Below, AreDistinct, HasDistinctNames, IsGivenRight, AreGiven, AreHoused, AreSeated, IsTree, CanBeAt, CanBeWritten, AreOfKind, AreTables, Coherent, Linked}
 use Rattle.hurd_machine.proofs.Nodes.{header_in, body_in, body-with_header, edit_keeps, node_of_header, was_edited}
 use Rattle.hurd_machine.proofs.Tasks.{edit_cases, edit_here as task_here, below_edit, sent_cases}
 
@@ -35,6 +36,10 @@ pub record IsNext (w : World) (n : Name) : Type 0 where
   pub seat : Task
   pub is_task : task_at w n.task.0 ≡ Some seat
   pub next : n.count ≡ seat.made
+
+-- a node that a right or a server may name: it was given, and one can be there
+abbrev pub CanBeNamed : World → Name → Type 0
+CanBeNamed w n = Below w n × CanBeAt (nodes_of w) n
 
 -- an entry that a directory d, of a server that keeps a tree, may have
 pub record IsEntry (w : World) (d n : Name) : Type 0 where
@@ -62,7 +67,8 @@ pub record GoodNode (w : World) (s : Name) (node : Node) : Type 0 where
   pub empty : HasNoEntries node.body
   pub parent : (p : Name) → node.header.parent ≡ Some p → Below w p
 
--- a server that comes, under the next name of its task, and becomes active on a node: its root has the name after that, and it aims at what was given
+-- a server that comes, under the next name of its task, and becomes active on a node: its root has the name after that and is of its kind, and it aims at as many
+-- nodes as its text names, which were given, at which one can be, and which are directories if it is a union
 pub record Comes (w : World) (s at : Name) (i : ServerInfo) (node : Node) : Type 0 where
   pub next : IsNext w s
   pub task : i.root.task ≡ s.task
@@ -71,28 +77,45 @@ pub record Comes (w : World) (s at : Name) (i : ServerInfo) (node : Node) : Type
   pub shape : IsShaped node.header node.body
   pub empty : HasNoEntries node.body
   pub parent : node.header.parent ≡ None
-  pub targets : (n : Name) → IsAmong n i.targets → Below w n
+  pub kind : node.header.kind ≡ (root_of i.kind i.text).kind
+  pub aims : length i.targets ≡ length (targets_of i.kind i.text)
+  pub targets : (n : Name) → IsAmong n i.targets → CanBeNamed w n
+  pub branches : (root_of i.kind i.text).crossing ≡ Union → (n : Name) (h : Header) → IsAmong n i.targets → header_at w n ≡ Some h → h.kind ≡ Dir
   pub seat : (h : Header) × (header_at w at ≡ Some h)
 
--- a right to use a node that a task may get: what it names was made, its open is there and on one node with it, and what is open to write is no directory
+-- a right to use a node that a task may get: it names what it may, its open is there and on one node with it, and what is open to write can be written
 pub record FineIo (w : World) (r : IoRight) : Type 0 where
-  pub nodes : (n : Name) → IsAmong n (nodes_named (Io r)) → Below w n
+  pub nodes : (n : Name) → IsAmong n (nodes_named (Io r)) → CanBeNamed w n
   pub open_name : Below w r.open_name
   pub opened : (o : Opened) × (open_at w r.open_name ≡ Some o)
   pub shared : (t : ℕ) (x : Task) (p : IoRight) → task_at w t ≡ Some x → IsAmong (Io p) (rights_of x) → p.open_name ≡ r.open_name → p.node ≡ r.node
-  pub written : (o : Opened) (h : Header) → open_at w r.open_name ≡ Some o → asks o.modes WRITE ≡ true → header_at w r.node ≡ Some h → is_dir h.kind ≡ false
+  pub written : (o : Opened) → open_at w r.open_name ≡ Some o → asks o.modes WRITE ≡ true → CanBeWritten w r.node
 
 -- of each kind
 abbrev pub FineRight : World → Right → Type 0
 FineRight w (Io r) = FineIo w r
 FineRight w (Control s) = Below w s
-FineRight w (Start n) = Below w n
+FineRight w (Start n) = CanBeNamed w n
 
 -- what it names was given
 pub fine_given : (w : World) (r : Right) → FineRight w r → IsGivenRight w r
-fine_given w (Io r) f = (f.nodes, f.open_name)
+fine_given w (Io r) f = (λ n i. (f.nodes n i).0, f.open_name)
 fine_given w (Control s) f = f
-fine_given w (Start n) f = f
+fine_given w (Start n) f = f.0
+
+-- and one can be at each node of it
+fine_held : (w : World) (r : Right) → FineRight w r → (n : Name) → IsAmong n (nodes_named r) → CanBeAt (nodes_of w) n
+fine_held w (Io r) f n i = (f.nodes n i).1
+fine_held w (Control s) f n i = absurd i
+fine_held w (Start m) f n (inl e) = subst (CanBeAt (nodes_of w)) e f.1
+fine_held w (Start m) f n (inr out) = absurd out
+
+-- each node of a right was given
+given_node : (w : World) (r : Right) → IsGivenRight w r → (n : Name) → IsAmong n (nodes_named r) → Below w n
+given_node w (Io r) g n i = g.0 n i
+given_node w (Control s) g n i = absurd i
+given_node w (Start m) g n (inl e) = subst (Below w) e g
+given_node w (Start m) g n (inr out) = absurd out
 
 -- and is wherever the names of this world are
 pub given_raised : (w y : World) → ((n : Name) → Below w n → Below y n) → (r : Right) → IsGivenRight w r → IsGivenRight y r
@@ -123,6 +146,10 @@ IsUnlisted m n = (d : Name) → lists_at n (body_in (get m d)) ≡ true → ⊥
 abbrev pub MayMove : World → NodeMap → Name → Option Name → Option Name → Type 0
 MayMove w m n new old = (new ≡ old) ⊎ (IsUnlisted m n × ((p : Name) → new ≡ Some p → Below w p))
 
+-- a text that a server may get: its root stays what it is, and it aims at what it aimed at
+abbrev pub KeepsShape : World → Name → List ℕ → Type 0
+KeepsShape w s text = (i : ServerInfo) → server_at w s ≡ Some i → (root_of i.kind text ≡ root_of i.kind i.text) × (targets_of i.kind text ≡ targets_of i.kind i.text)
+
 -- a change that keeps a coherent world so
 abbrev pub Proper : World → Change → Type 0
 Proper w (EditHeader n f) = (h : Header) → header_at w n ≡ Some h → ((f h).kind ≡ h.kind) × MayMove w w.nodes n (f h).parent h.parent
@@ -135,7 +162,7 @@ Proper w (Send r q) = (x : Task) × (task_at w q ≡ Some x) × FineRight w r
 Proper w (Attach s at i node) = Comes w s at i node
 Proper w (DropServer s) = s ≢ boot_name
 Proper w (Unseat n) = Unit {0}
-Proper w (SetText s text) = Unit {0}
+Proper w (SetText s text) = KeepsShape w s text
 Proper w Settle = Linked (nodes_of w)
 
 -- each change is proper in the world that the ones before it leave
@@ -231,15 +258,38 @@ header_was m k n node h e = elim (same_or_apart n k) [
 pub entry_stands : {w : World} → Coherent w → (d n : Name) → lists_at n (body_at w d) ≡ true → IsEntry w d n
 entry_stands c d n e = record { made = c.given.entries d n e; kin = c.tree.kin d n e; tree = c.tree.trees d n e; below = λ h eh. c.tree.below d n h e eh }
 
--- tables do with other nodes where the nodes of rights are of the kinds that they were of
+-- one can be at a node wherever its server is the same
+pub be_same : (h k : NodeState) (n : Name) → shape_at h n ≡ shape_at k n → CanBeAt k n → CanBeAt h n
+be_same h k n same (inl top) = inl top
+be_same h k n same (inr stays) = inr (ap leads_on same ∙ stays)
+
+-- among other nodes the server of a node is as it was, or gone
+abbrev pub ShapeKept : World → NodeState → Name → Type 0
+ShapeKept w h n = (shape_at h n ≡ shape_at (nodes_of w) n) ⊎ (shape_at h n ≡ None)
+
+module _ (w : World) (h : NodeState) (n : Name) (kept : ShapeKept w h n) where
+  -- so one can be at it yet, and it gives no more than it gave
+
+  pub be_kept : CanBeAt (nodes_of w) n → CanBeAt h n
+  be_kept (inl top) = inl top
+  be_kept (inr stays) = inr (elim kept [ inl same ↦ ap leads_on same ∙ stays | inr gone ↦ ap leads_on gone ])
+
+  gives_kept : gives_text (shape_at (nodes_of w) n) ≡ false → gives_text (shape_at h n) ≡ false
+  gives_kept p = elim kept [ inl same ↦ ap gives_text same ∙ p | inr gone ↦ ap gives_text gone ]
+
+-- tables do with other nodes where the nodes of rights are of the kinds that they were of, and their servers as they were, or gone
 pub tables_by : (w : World) (h : NodeState) → AreTables w
     → ((t : ℕ) (x : Task) (r : IoRight) → task_at w t ≡ Some x → IsAmong (Io r) (rights_of x) → (k : Header) → header_of h.nodes r.node ≡ Some k → (j : Header) × (header_at w r.node ≡ Some j) × (k.kind ≡ j.kind))
+    → ((t : ℕ) (x : Task) (r : Right) (n : Name) → task_at w t ≡ Some x → IsAmong r (rights_of x) → IsAmong n (nodes_named r) → ShapeKept w h n)
     → AreTables (with_nodes h w)
-tables_by w h t was = record {
+tables_by w h t was kept = record {
   numbers = t.numbers;
   opened = t.opened;
   shared = t.shared;
-  written = λ q x r o k at has eo modes ek. let j = was q x r at has k ek in ap is_dir j.2 ∙ t.written q x r o j.0 at has eo modes j.1;
+  written = λ q x r o at has eo modes.
+      let p = t.written q x r o at has eo modes in
+      (λ k ek. let j = was q x r at has k ek in ap is_dir j.2 ∙ p.0 j.0 j.1, gives_kept w h r.node (kept q x (Io r) r.node at has (inl refl)) p.1);
+  held = λ q x r n at has named. be_kept w h n (kept q x r n at has named) (t.held q x r n at has named);
 }
 
 -- with nodes reworked: each stands where one stood, below the same parent, of its shape, and with entries that may be
@@ -359,11 +409,19 @@ module _ (w : World) (c : Coherent w) (k : Name) (f : Node → Node) (may : (y :
     served = c.tree.served;
   }
 
+  reworked_kinds : AreOfKind (nodes_of reworked_world)
+  reworked_kinds = record {
+    aims = c.kinds.aims;
+    ends = c.kinds.ends;
+    branches = λ s n i h e union aim eh. let k = header_from n h eh in k.2 ∙ c.kinds.branches s n i k.0 e union aim k.1;
+    roots = λ s i h e eh. let k = header_from i.root h eh in k.2 ∙ c.kinds.roots s i k.0 e k.1;
+  }
+
   header_kind : (n : Name) (h : Header) → header_in (get edited_nodes n) ≡ Some h → (j : Header) × (header_at w n ≡ Some j) × (h.kind ≡ j.kind)
   header_kind n h e = let k = header_from n h e in (k.0, k.1, k.2)
 
   pub reworked : Coherent reworked_world
-  reworked = record { given = reworked_given; housing = reworked_housing; seating = reworked_seating; tree = reworked_tree; tables = tables_by w (nodes_of reworked_world) c.tables (λ t x r at has. header_kind r.node) }
+  reworked = record { given = reworked_given; housing = reworked_housing; seating = reworked_seating; tree = reworked_tree; kinds = reworked_kinds; tables = tables_by w (nodes_of reworked_world) c.tables (λ t x r at has. header_kind r.node) (λ t x r n at has named. inl refl) }
 
 -- with one task changed
 module _ (w : World) (c : Coherent w) (q : ℕ) (f : Task → Task) (up : (x : Task) → x.made ≤ (f x).made) (x : Task) (is : task_at w q ≡ Some x) (g : Table w x (f x)) where
@@ -429,14 +487,18 @@ module _ (w : World) (c : Coherent w) (q : ℕ) (f : Task → Task) (up : (x : T
       | inr new ↦ (new_fine g.new g.fine (Io r) new).opened
     ];
     shared = λ p k z u r s e h e' h' same. one_node r s (right_now p z (Io r) e h) (right_now k u (Io s) e' h') same;
-    written = λ p z r o k e h eo modes ek. elim (right_now p z (Io r) e h) [
-      | inl old ↦ c.tables.written old.task old.seat r o k old.at old.has eo modes ek
-      | inr new ↦ (new_fine g.new g.fine (Io r) new).written o k eo modes ek
+    written = λ p z r o e h eo modes. elim (right_now p z (Io r) e h) [
+      | inl old ↦ c.tables.written old.task old.seat r o old.at old.has eo modes
+      | inr new ↦ (new_fine g.new g.fine (Io r) new).written o eo modes
+    ];
+    held = λ p z r n e h named. elim (right_now p z r e h) [
+      | inl old ↦ c.tables.held old.task old.seat r n old.at old.has named
+      | inr new ↦ fine_held w r (new_fine g.new g.fine r new) n named
     ];
   }
 
   pub task_coherent : Coherent retabled
-  task_coherent = record { given = task_given; housing = c.housing; seating = c.seating; tree = c.tree; tables = task_tables }
+  task_coherent = record { given = task_given; housing = c.housing; seating = c.seating; tree = c.tree; kinds = c.kinds; tables = task_tables }
 
 -- with a right more in an inbox
 pub sent_table : (w : World) → Coherent w → (q : ℕ) (r : Right) (x : Task) → task_at w q ≡ Some x → FineRight w r → Table w x (with_sent r x)
@@ -468,11 +530,13 @@ reopened w m c r = record {
   housing = c.housing;
   seating = c.seating;
   tree = c.tree;
+  kinds = c.kinds;
   tables = record {
     numbers = c.tables.numbers;
     opened = λ t x q at i. let o = c.tables.opened t x q at i in r.still t x q o.0 at i o.1;
     shared = c.tables.shared;
-    written = λ t x q o h at i eo modes eh. let y = r.writes t x q o at i eo modes in c.tables.written t x q y.0 h at i y.1 y.2 eh;
+    written = λ t x q o at i eo modes. let y = r.writes t x q o at i eo modes in c.tables.written t x q y.0 at i y.1 y.2;
+    held = c.tables.held;
   };
 }
 
@@ -555,7 +619,8 @@ module _ (w : World) (c : Coherent w) (n s : Name) (node : Node) (absent : get w
     ]
 
 module _ (w : World) (c : Coherent w) (n s : Name) (node : Node) (b : Below w n) (absent : get w.nodes n ≡ None)
-    (unnamed : (t : ℕ) (x : Task) (r : IoRight) → task_at w t ≡ Some x → IsAmong (Io r) (rights_of x) → r.node ≢ n) (p : GoodNode w s node) where
+    (unnamed : (t : ℕ) (x : Task) (r : Right) (m : Name) → task_at w t ≡ Some x → IsAmong r (rights_of x) → IsAmong m (nodes_named r) → m ≢ n)
+    (unaimed : (q m : Name) (i : ServerInfo) → server_at w q ≡ Some i → IsAmong m i.targets → m ≢ n) (p : GoodNode w s node) where
   abbrev made_world : World
   made_world = record w { nodes = insert w.nodes n node; homes = insert w.homes n s }
 
@@ -633,13 +698,27 @@ module _ (w : World) (c : Coherent w) (n s : Name) (node : Node) (b : Below w n)
     served = at_home boot_root boot_name c.tree.served;
   }
 
+  -- the server of another node is as it was
+  shape_yet : (m : Name) → m ≢ n → shape_at (nodes_of made_world) m ≡ shape_at (nodes_of w) m
+  shape_yet m apart = ap (λ o. shape_by (info_in w.servers o)) (get_apart w.homes n s m apart)
+
+  made_kinds : AreOfKind (nodes_of made_world)
+  made_kinds = record {
+    aims = c.kinds.aims;
+    ends = λ q m i e aim. be_same (nodes_of made_world) (nodes_of w) m (shape_yet m (unaimed q m i e aim)) (c.kinds.ends q m i e aim);
+    branches = λ q m i h e union aim eh. c.kinds.branches q m i h e union aim (sym (ap header_in (get_apart w.nodes n node m (unaimed q m i e aim))) ∙ eh);
+    roots = λ q i h e eh. c.kinds.roots q i h e (sym (ap header_in (get_apart w.nodes n node i.root (housed_apart w c n s node absent i.root q (c.housing.roots q i e)))) ∙ eh);
+  }
+
   pub made_coherent : Coherent made_world
   made_coherent = record {
     given = made_given;
     housing = made_housing;
     seating = made_seating;
     tree = made_tree;
-    tables = tables_by w (nodes_of made_world) c.tables (λ t x r at has h eh. (h, sym (ap header_in (get_apart w.nodes n node r.node (unnamed t x r at has))) ∙ eh, refl));
+    kinds = made_kinds;
+    tables = tables_by w (nodes_of made_world) c.tables (λ t x r at has h eh. (h, sym (ap header_in (get_apart w.nodes n node r.node (unnamed t x (Io r) r.node at has (inl refl)))) ∙ eh, refl))
+        (λ t x r m at has named. inl (shape_yet m (unnamed t x r m at has named)));
   }
 
 -- with a task that named things
@@ -669,9 +748,12 @@ module _ (w : World) (c : Coherent w) (n : Name) (next : IsNext w n) (k : ℕ) w
     | inr e ↦ (x, e, h)
   ]
 
-  -- what was not given is no open's or node's of a right
+  -- what was not given is no open's or node's of a right, and no server aims at it
   pub unopened : (m : Name) → (Below w m → ⊥) → (t : ℕ) (x : Task) (r : IoRight) → task_at named_world t ≡ Some x → IsAmong (Io r) (rights_of x) → r.open_name ≢ m
   unopened m new t x r at h e = let y = named_right t x (Io r) at h in new (subst (Below w) e (right_old c t y.0 r y.1 y.2).1)
 
-  pub unnoded : (m : Name) → (Below w m → ⊥) → (t : ℕ) (x : Task) (r : IoRight) → task_at named_world t ≡ Some x → IsAmong (Io r) (rights_of x) → r.node ≢ m
-  unnoded m new t x r at h e = let y = named_right t x (Io r) at h in new (subst (Below w) e (right_old c t y.0 r y.1 y.2).0)
+  pub unnoded : (m : Name) → (Below w m → ⊥) → (t : ℕ) (x : Task) (r : Right) (k : Name) → task_at named_world t ≡ Some x → IsAmong r (rights_of x) → IsAmong k (nodes_named r) → k ≢ m
+  unnoded m new t x r k at h named e = let y = named_right t x r at h in new (subst (Below w) e (given_node w r (c.given.rights t y.0 r y.1 y.2) k named))
+
+  pub unaimed : (m : Name) → (Below w m → ⊥) → (q k : Name) (i : ServerInfo) → server_at named_world q ≡ Some i → IsAmong k i.targets → k ≢ m
+  unaimed m new q k i is aim e = new (subst (Below w) e (c.given.targets q k i is aim))

@@ -1,19 +1,22 @@
 -- A server comes, and is active on a node: what the world is then, and that it is coherent.
-use Rattle.std.proofs.Common.{◌≡◌, ◌≢◌, ◌⊎◌, ◌<◌, not, true, Option, Some, None, sym, refl, ◌∙◌, ap, subst, inl, inr, arith}
+use Rattle.std.proofs.Common.{◌≡◌, ◌≢◌, ◌⊎◌, ◌<◌, not, if◌then◌else◌, length, true, false, Option, Some, None, sym, refl, ◌∙◌, ap, subst, inl, inr, arith}
 use Rattle.std.specs.FinMap.{get, insert, remove}
 use Rattle.hurd_creds.specs.declared.name.Name.{Name}
+use Rattle.hurd_creds.specs.Names.{same_name}
 use Rattle.hurd_creds.proofs.NameLaws.{same_name-apart, same_map_by, same_or_apart, get_here, get_apart, remove_here, remove_apart}
 use Rattle.hurd_trans_iface.specs.Nodes.{Node, Header}
+use Rattle.hurd_trans_iface.specs.Meaning.{root_of, targets_of}
 use Rattle.hurd_nodes.specs.Held.{is_home}
 use Rattle.hurd_nodes.specs.Shown.{ServerInfo, boot_name, info_in, is_root_at, is_other, is_other_seat, tree_by}
 use Rattle.hurd_nodes.proofs.PartLaws.{and_true}
+use Rattle.hurd_ports.specs.declared.table.Right.TheVariants.{Io}
 use Rattle.hurd_ports.specs.Steps.{named, edit_task}
-use Rattle.hurd_machine.specs.World.{World, IsAmong, boot_root, nodes_of, task_at, header_at, home_at, active_at, server_at, info_at}
+use Rattle.hurd_machine.specs.World.{World, IsAmong, boot_root, nodes_of, task_at, header_at, home_at, active_at, server_at, info_at, shape_by, shape_at}
 use Rattle.hurd_machine.specs.Change.{Attach, apply}
-use Rattle.hurd_machine.specs.Sound.{Below, AreGiven, AreHoused, AreSeated, IsTree, AreTables, Coherent}
+use Rattle.hurd_machine.specs.Sound.{Below, AreGiven, AreHoused, AreSeated, IsTree, AreOfKind, AreTables, Coherent}
 use Rattle.hurd_machine.proofs.Nodes.{header_in, root_info}
 use Rattle.hurd_machine.proofs.Retained.{retain_all}
-use Rattle.hurd_machine.proofs.Coherence.{Comes, next_not, no_node, no_server, was, header_was, home_kept, header_kept, lister_home, lists_was, kin_was, below_was, shape_was, header_old, named_coherent, named_still, named_below, unnoded, home_server, tables_by, named_world}
+use Rattle.hurd_machine.proofs.Coherence.{Comes, next_not, no_node, no_server, was, header_was, home_kept, header_kept, lister_home, lists_was, kin_was, below_was, shape_was, header_old, home_old, be_same, named_coherent, named_still, named_below, unnoded, home_server, tables_by, named_world}
 
 -- a world that was given no server's name has nothing of that server
 module _ (w : World) (c : Coherent w) (s : Name) (new : Below w s → ⊥) where
@@ -119,7 +122,7 @@ module _ (w : World) (c : Coherent w) (s at : Name) (i : ServerInfo) (node : Nod
       | inr k ↦ come_still q (c.given.parents n q h k ep)
     ];
     targets = λ q n j e aim. elim (was w.servers s q i j e) [
-      | inl k ↦ come_still n (p.targets n (subst (λ (z : ServerInfo). IsAmong n z.targets) (sym k.1) aim))
+      | inl k ↦ come_still n (p.targets n (subst (λ (z : ServerInfo). IsAmong n z.targets) (sym k.1) aim)).0
       | inr k ↦ come_still n (c.given.targets q n j k.1 aim)
     ];
   }
@@ -198,12 +201,63 @@ module _ (w : World) (c : Coherent w) (s at : Name) (i : ServerInfo) (node : Nod
     served = at_home boot_root boot_name c.tree.served;
   }
 
+  -- what was given is not its root
+  given_apart : (n : Name) → Below w n → n ≢ i.root
+  given_apart n b same = root_new (subst (Below w) same b)
+
+  -- and has the server that it had
+  shape_yet : (n : Name) → n ≢ i.root → shape_at (nodes_of y) n ≡ shape_at (nodes_of w) n
+  shape_yet n apart = go (home_at w n) refl
+    where
+      go : (o : Option Name) → home_at w n ≡ o → shape_at (nodes_of y) n ≡ shape_at (nodes_of w) n
+      go None e = ap (λ q. shape_by (info_in y.servers q)) (get_apart w.homes i.root s n apart ∙ e) ∙ sym (ap (λ q. shape_by (info_in w.servers q)) e)
+      go (Some q) e = let j = home_server c n q e in ap shape_by (info_yet n q j.0 e j.1)
+
+  header_yet : (n : Name) (h : Header) → n ≢ i.root → header_at y n ≡ Some h → header_at w n ≡ Some h
+  header_yet n h apart e = sym (ap header_in (get_apart w.nodes i.root node n apart)) ∙ e
+
+  -- a server is the new one, or was there
+  server_is : (q : Name) (j : ServerInfo) → server_at y q ≡ Some j → (i ≡ j) ⊎ (server_at w q ≡ Some j)
+  server_is q j e = elim (was w.servers s q i j e) [ inl k ↦ inl k.1 | inr k ↦ inr k.1 ]
+
+  aims_new : (n : Name) (j : ServerInfo) → i ≡ j → IsAmong n j.targets → IsAmong n i.targets
+  aims_new n j same aim = subst (λ (z : ServerInfo). IsAmong n z.targets) (sym same) aim
+
+  come_kinds : AreOfKind (nodes_of y)
+  come_kinds = record {
+    aims = λ q j e. elim (was w.servers s q i j e) [
+      | inl k ↦
+          let other : same_name q boot_name ≡ false = same_name-apart q boot_name (λ boot. come_new (subst (Below w) (sym (sym k.0 ∙ boot)) boot_below)) in
+          subst (λ (z : ServerInfo). length z.targets ≡ (if same_name q boot_name then 0 else length (targets_of z.kind z.text))) k.1
+          (p.aims ∙ sym (ap (λ b. if b then 0 else length (targets_of i.kind i.text)) other))
+      | inr k ↦ c.kinds.aims q j k.1
+    ];
+    ends = λ q n j e aim. elim (server_is q j e) [
+      | inl k ↦ let t = p.targets n (aims_new n j k aim) in be_same (nodes_of y) (nodes_of w) n (shape_yet n (given_apart n t.0)) t.1
+      | inr k ↦ be_same (nodes_of y) (nodes_of w) n (shape_yet n (given_apart n (c.given.targets q n j k aim))) (c.kinds.ends q n j k aim)
+    ];
+    branches = λ q n j h e union aim eh. elim (server_is q j e) [
+      | inl k ↦
+          let mine = aims_new n j k aim in
+          p.branches (ap (λ (z : ServerInfo). (root_of z.kind z.text).crossing) k ∙ union) n h mine (header_yet n h (given_apart n (p.targets n mine).0) eh)
+      | inr k ↦ c.kinds.branches q n j h k union aim (header_yet n h (given_apart n (c.given.targets q n j k aim)) eh)
+    ];
+    roots = λ q j h e eh. elim (server_is q j e) [
+      | inl k ↦
+          let here : header_at y j.root ≡ Some node.header = subst (λ (z : ServerInfo). header_at y z.root ≡ Some node.header) k (ap header_in (get_here w.nodes i.root node)) in
+          let same : node.header ≡ h = cc (here, eh) in
+          ap (λ (z : Header). z.kind) (sym same) ∙ p.kind ∙ ap (λ (z : ServerInfo). (root_of z.kind z.text).kind) k
+      | inr k ↦ c.kinds.roots q j h k (header_yet j.root h (given_apart j.root (home_old c j.root q (c.housing.roots q j k))) eh)
+    ];
+  }
+
   come_tables : AreTables y
   come_tables = tables_by (named_world w c s p.next 2) (nodes_of y) (named_coherent w c s p.next 2).tables
-      (λ t x r at has h eh. (h, sym (ap header_in (get_apart w.nodes i.root node r.node (unnoded w c s p.next 2 i.root root_new t x r at has))) ∙ eh, refl))
+      (λ t x r at has h eh. (h, sym (ap header_in (get_apart w.nodes i.root node r.node (unnoded w c s p.next 2 i.root root_new t x (Io r) r.node at has (inl refl)))) ∙ eh, refl))
+      (λ t x r n at has named. inl (shape_yet n (unnoded w c s p.next 2 i.root root_new t x r n at has named)))
 
   pub come_whole : Coherent y
-  come_whole = record { given = come_given; housing = come_housing; seating = come_seating; tree = come_tree; tables = come_tables }
+  come_whole = record { given = come_given; housing = come_housing; seating = come_seating; tree = come_tree; kinds = come_kinds; tables = come_tables }
 
 pub come_coherent : (w : World) → Coherent w → (s at : Name) (i : ServerInfo) (node : Node) → Comes w s at i node → Coherent (apply (Attach s at i node) w)
 come_coherent w c s at i node p = subst Coherent (sym (attach_is w s at i node c (next_not w s p.next))) (come_whole w c s at i node p)

@@ -1,17 +1,18 @@
 -- A server goes with its nodes: what is left, and that the world is coherent and linked then.
-use Rattle.std.proofs.Common.{◌≡◌, ◌≢◌, inl, inr, not, true, false, true≢false, Option, Some, None, sym, ◌∙◌, ap}
+use Rattle.std.proofs.Common.{◌≡◌, ◌≢◌, inl, inr, not, true, false, true≢false, Option, Some, None, refl, sym, ◌∙◌, ap}
 use Rattle.std.specs.FinMap.{get}
 use Rattle.hurd_creds.specs.declared.name.Name.{Name}
 use Rattle.hurd_creds.specs.Names.{same_name}
 use Rattle.hurd_creds.proofs.NameLaws.{same_name-itself, same_name-apart, remove_apart, remove_here, same_or_apart}
 use Rattle.hurd_trans_iface.specs.Nodes.{Header}
 use Rattle.hurd_nodes.specs.Held.{is_home}
-use Rattle.hurd_nodes.specs.Shown.{ServerInfo, boot_name, is_other, is_other_seat, out_server}
+use Rattle.hurd_nodes.specs.Shown.{ServerInfo, boot_name, info_in, is_other, is_other_seat, out_server}
 use Rattle.hurd_nodes.proofs.PartLaws.{and_both}
-use Rattle.hurd_machine.specs.World.{World, boot_root, nodes_of, header_at, body_at, home_at, active_at, server_at, lists_at}
+use Rattle.hurd_machine.specs.World.{World, boot_root, nodes_of, header_at, body_at, home_at, active_at, server_at, lists_at, shape_by}
 use Rattle.hurd_machine.specs.Change.{DropServer, apply}
 use Rattle.hurd_machine.specs.Sound.{Coherent, Linked}
 use Rattle.hurd_machine.proofs.Nodes.{header_in, body_in, node_of_header}
+use Rattle.hurd_machine.proofs.Coherence.{ShapeKept}
 use Rattle.hurd_machine.proofs.Left.{Left, left_coherent, left_linked, times_retained}
 use Rattle.hurd_machine.proofs.Retained.{retained, was_retained}
 
@@ -48,6 +49,17 @@ module _ (w : World) (s : Name) where
       let x = node_of_header (get dropped.nodes n) h e in
       let l = was_retained w.nodes (is_other s w.homes) n x.0 x.1 in
       (ap header_in l.0 ∙ ap (λ (z : Header). Some z) x.2, l.1)
+
+  -- the server of a node is as it was, or gone
+  pub shape_left : (n : Name) → ShapeKept w (out_server s (nodes_of w)) n
+  shape_left n = go (home_at dropped n) refl
+    where
+      go : (o : Option Name) → home_at dropped n ≡ o → ShapeKept w (out_server s (nodes_of w)) n
+      go None e = inr (ap (λ q. shape_by (info_in dropped.servers q)) e)
+      go (Some q) e =
+          let was = was_retained w.homes (is_other s w.homes) n q e in
+          inl (ap (λ z. shape_by (info_in dropped.servers z)) e ∙ ap shape_by (remove_apart w.servers s q (home_apart s q (home_at w n) was.0 was.1))
+          ∙ sym (ap (λ z. shape_by (info_in w.servers z)) was.0))
 
   module _ (c : Coherent w) (not_boot : s ≢ boot_name) where
     -- an entry is of its directory's server

@@ -14,9 +14,7 @@ use Rattle.hurd_machine.proofs.Coherence.{Proper, AllProper, entry_stands}
 use Rattle.hurd_machine.proofs.Settle.{AreQuiet}
 use Rattle.hurd_machine.proofs.Frame.{AllWithin}
 use Rattle.hurd_machine.proofs.Links.{AreSteady, linked_steady}
-use Rattle.hurd_trans_iface.specs.Kinds.{ServerKind, behaviour_of}
-use Rattle.hurd_trans_iface.specs.Good.{KeepsSizes}
-use Rattle.hurd_machine.proofs.Sizes.{did_sized}
+use Rattle.hurd_machine.proofs.Sizes.{KeepsNodes, did_filled}
 use Rattle.hurd_machine.proofs.Permits.{did_may}
 use Rattle.hurd_machine.proofs.Piece.{Whole, quiet}
 
@@ -61,8 +59,8 @@ left_piece T w c n (Some f) None body attr = (((body tt, inr (bytes_emptiness f)
 left_piece T w c n (Some f) (Some k) body attr =
     (((body tt, inr (bytes_emptiness f)), (attr tt, tt)), (bytes_proper f w c n, λ d. (λ h is. (refl, inl refl), λ e. tt)), (tt, (λ h e. e, tt)), (bytes_times f, (λ h. (refl, refl, refl), tt)))
 
--- what is answered to a question that keeps sizes
-pub did_whole : {R : Type 0} {t : ℕ} {T : Part → Type 0} {w : World} → Sound w → (q : Question R) → ((k : ServerKind) → KeepsSizes (behaviour_of k) q) → (n : Name) (d : Did R) → asked_at q n w ≡ Ok d → ((p : Part) → OnDid n d p → T p)
+-- what is answered to a question that keeps sizes, and what may be in a node
+pub did_whole : {R : Type 0} {t : ℕ} {T : Part → Type 0} {w : World} → Sound w → (q : Question R) → KeepsNodes q → (n : Name) (d : Did R) → asked_at q n w ≡ Ok d → ((p : Part) → OnDid n d p → T p)
     → Whole t T w w (changes_of (edits_of n (Ok d)))
 did_whole {T} {w} s q keeps n d told parts =
     let l = left_piece T w s.coherent n d.bytes d.size (λ b. parts (BodyOf n) (inl (b, refl))) (λ z. parts (AttrOf n) (inr (z, refl))) in
@@ -70,6 +68,6 @@ did_whole {T} {w} s q keeps n d told parts =
       within = l.0;
       proper = l.1;
       linked = linked_steady (left_changes n d.bytes d.size) w l.3 s.linked;
-      sized = did_sized q keeps w s.coherent n d told s.sizes;
+      sized = did_filled q keeps w s.coherent n d told s.sizes;
       may = λ S ours. did_may S w w n d;
     })

@@ -2,18 +2,17 @@
 use Rattle.std.proofs.Common.{◌≡◌, ◌≢◌, ℕ, Bool, true, [], ◌∷◌, Some, ◌∙◌, ap}
 use Rattle.hurd_creds.specs.declared.name.Name.{Name}
 use Rattle.hurd_trans_iface.specs.Nodes.{Node, is_dir}
-use Rattle.hurd_trans_iface.specs.Kinds.{behaviour_of}
-use Rattle.hurd_trans_iface.specs.Good.{IsSized}
-use Rattle.hurd_nodes.specs.Shown.{ServerInfo, boot_name, is_other, tree_by}
-use Rattle.hurd_machine.specs.World.{World, IsAmong}
+use Rattle.hurd_nodes.specs.Shown.{ServerInfo, boot_name, is_other, out_server, tree_by}
+use Rattle.hurd_machine.specs.World.{World, IsAmong, nodes_of}
+use Rattle.hurd_machine.specs.Sound.{IsFilled}
 use Rattle.hurd_machine.specs.Change.{Attach, DropServer, Unseat, apply}
 use Rattle.hurd_machine.specs.Sight.{Part, AttrOf, EmptyOf, BodyOf, OptionsOf, TaskOf}
 use Rattle.hurd_machine.specs.Touched.{Goes}
 use Rattle.hurd_machine.proofs.Nodes.{header_in}
-use Rattle.hurd_machine.proofs.Coherence.{Comes}
+use Rattle.hurd_machine.proofs.Coherence.{Comes, be_kept}
 use Rattle.hurd_machine.proofs.Confine.{SeenOrNew}
-use Rattle.hurd_machine.proofs.Drop.{drop_linked}
-use Rattle.hurd_machine.proofs.Servers.{linked_come, linked_unseat, sized_come, sized_drop, sized_unseat}
+use Rattle.hurd_machine.proofs.Drop.{drop_linked, header_was, shape_left}
+use Rattle.hurd_machine.proofs.Servers.{linked_come, linked_unseat, filled_come, filled_drop, filled_unseat}
 use Rattle.hurd_machine.proofs.Piece.{Stands, Piece}
 use Rattle.hurd_machine.proofs.Retained.{retained}
 
@@ -21,18 +20,18 @@ module _ {t : ℕ} {T : Part → Type 0} {v w : World} (st : Stands w) where
   -- a server goes
   pub goes_piece : (s : Name) → s ≢ boot_name → ((p : Part) → Goes w s p → T p) → Piece t T v w (DropServer s ∷ [])
   goes_piece s not_boot parts =
-      record { within = (parts, tt); proper = (not_boot, λ d. tt); linked = drop_linked w st.coherent st.linked s not_boot; sized = sized_drop w s st.sizes; may = λ S ours. (tt, tt) }
+      record { within = (parts, tt); proper = (not_boot, λ d. tt); linked = drop_linked w st.coherent st.linked s not_boot; sized = filled_drop w s st.sizes; may = λ S ours. (tt, tt) }
 
   -- a server loses its seat
   pub unseats_piece : (n : Name) → T (AttrOf n) → Piece t T v w (Unseat n ∷ [])
-  unseats_piece n attr = record { within = (attr, tt); proper = (tt, λ d. tt); linked = linked_unseat w n st.linked; sized = sized_unseat w n st.sizes; may = λ S ours. (tt, tt) }
+  unseats_piece n attr = record { within = (attr, tt); proper = (tt, λ d. tt); linked = linked_unseat w n st.linked; sized = filled_unseat w n st.sizes; may = λ S ours. (tt, tt) }
 
 -- a server comes, whose root is like one that begins
 
 pub record Begun (i : ServerInfo) (node : Node) : Type 0 where
   pub links : node.header.links ≡ 1
   pub tree : tree_by (Some i) ≡ true → is_dir node.header.kind ≡ true
-  pub size : IsSized (behaviour_of i.kind) i.text node
+  pub filled : IsFilled i node
 
 -- whoever has the task saw each node that the server aims at, or it is new
 abbrev pub AimsAtSeen : ℕ → World → ServerInfo → Type 0
@@ -45,7 +44,7 @@ comes_piece {T} {v} {w} st s at i node p b task attr empty body seat options aim
   within = ((task, attr, empty, body, seat, options), tt);
   proper = (p, λ d. tt);
   linked = linked_come w st.coherent s at i node p b.links b.tree st.linked;
-  sized = sized_come w st.coherent s at i node p b.size st.sizes;
+  sized = filled_come w st.coherent s at i node p b.filled st.sizes;
   may = λ S ours. ((ours, aims S ours), tt);
 }
 
@@ -59,6 +58,9 @@ comes_after w q s at i node other p = record {
   shape = p.shape;
   empty = p.empty;
   parent = p.parent;
-  targets = p.targets;
+  kind = p.kind;
+  aims = p.aims;
+  targets = λ n aim. let k = p.targets n aim in (k.0, be_kept w (out_server q (nodes_of w)) n (shape_left w q n) k.1);
+  branches = λ union n h aim eh. p.branches union n h aim (header_was w q n h eh).0;
   seat = (p.seat.0, ap header_in (retained w.nodes (is_other q w.homes) at other) ∙ p.seat.1);
 }

@@ -7,7 +7,7 @@ use Rattle.hurd_ports.specs.Steps.{with_sent}
 use Rattle.hurd_machine.specs.World.{World}
 use Rattle.hurd_machine.specs.Change.{Change, EditHeader, EditBody, MakeNode, EditOpen, MakeOpen, EditTask, Send, Attach, DropServer, Unseat, SetText, Settle, apply, apply_all}
 use Rattle.hurd_machine.specs.Sound.{Below, Coherent}
-use Rattle.hurd_machine.proofs.Coherence.{Proper, AllProper, next_not, no_node, reworked, with_header_from, with_body_from, reopened, open_edited, open_made, task_coherent, sent_table, made_coherent, named_world, named_coherent, named_still, named_below, unopened, unnoded}
+use Rattle.hurd_machine.proofs.Coherence.{Proper, AllProper, next_not, no_node, reworked, with_header_from, with_body_from, reopened, open_edited, open_made, task_coherent, sent_table, made_coherent, named_world, named_coherent, named_still, named_below, unopened, unnoded, unaimed}
 use Rattle.hurd_machine.proofs.Swept.{settle_sound}
 use Rattle.hurd_machine.proofs.Drop.{drop_coherent}
 use Rattle.hurd_machine.proofs.Comes.{come_coherent}
@@ -22,7 +22,7 @@ coherent_one (EditBody n g) w s p = reworked w s n (with_body g) (with_body_from
 coherent_one (MakeNode n s node) w c p =
     let new : Below w n → ⊥ = next_not w n p.0 in
     let good = p.1 in
-    made_coherent (named_world w c n p.0 1) (named_coherent w c n p.0 1) n s node (named_below w c n p.0 1 n refl (omega arith)) (no_node c n new) (unnoded w c n p.0 1 n new)
+    made_coherent (named_world w c n p.0 1) (named_coherent w c n p.0 1) n s node (named_below w c n p.0 1 n refl (omega arith)) (no_node c n new) (unnoded w c n p.0 1 n new) (unaimed w c n p.0 1 n new)
     (record { info = good.info; is_server = good.is_server; tree = good.tree; shape = good.shape; empty = good.empty; parent = λ q e. named_still w c n p.0 1 q (good.parent q e) })
 coherent_one (EditOpen o f) w s p = reopened w (edit o f w.opens) s (open_edited w s o f p)
 coherent_one (MakeOpen o z) w c p =
@@ -33,7 +33,7 @@ coherent_one (Send r q) w s p = task_coherent w s q (with_sent r) (λ x. omega a
 coherent_one (Attach s at i node) w c p = come_coherent w c s at i node p
 coherent_one (DropServer s) w c p = drop_coherent w c s p
 coherent_one (Unseat n) w c p = unseated_coherent w c n
-coherent_one (SetText s text) w c p = retexted_coherent w s text c
+coherent_one (SetText s text) w c p = retexted_coherent w s text c p
 coherent_one Settle w c p = (settle_sound w c p).0
 
 pub coherent_all : (cs : List Change) (w : World) → Coherent w → AllProper w cs → Coherent (apply_all cs w)

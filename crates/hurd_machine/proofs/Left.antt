@@ -4,12 +4,12 @@ use Rattle.std.specs.FinMap.{get, retain_keys}
 use Rattle.hurd_creds.specs.declared.name.Name.{Name}
 use Rattle.hurd_trans_iface.specs.Nodes.{NodeMap, Node, Header, is_dir}
 use Rattle.hurd_nodes.specs.Shown.{NodeState, ServerInfo, boot_name, info_in, is_root_at, is_root_of, tree_by}
-use Rattle.hurd_machine.specs.World.{World, boot_root, nodes_of, header_at, body_at, home_at, active_at, server_at, info_at, is_server_root, lists, lists_at}
+use Rattle.hurd_machine.specs.World.{World, boot_root, nodes_of, header_at, body_at, home_at, active_at, server_at, info_at, is_server_root, lists, lists_at, shape_by}
 use Rattle.hurd_machine.specs.Change.{with_nodes}
-use Rattle.hurd_machine.specs.Sound.{AreGiven, AreHoused, AreSeated, IsTree, Coherent, times_in, times_listed, LeadsUp, AtRoot, Above, Linked}
+use Rattle.hurd_machine.specs.Sound.{AreGiven, AreHoused, AreSeated, IsTree, AreOfKind, Coherent, times_in, times_listed, LeadsUp, AtRoot, Above, Linked}
 use Rattle.hurd_machine.proofs.Nodes.{header_in, body_in, node_of_header}
 use Rattle.hurd_machine.proofs.Sums.{total_retained}
-use Rattle.hurd_machine.proofs.Coherence.{lister, tables_by}
+use Rattle.hurd_machine.proofs.Coherence.{lister, tables_by, ShapeKept, be_kept}
 use Rattle.hurd_machine.proofs.Listed.{none_in}
 use Rattle.std.proofs.lemmas.Bool.{cases_Bool}
 
@@ -95,8 +95,24 @@ module _ (w : World) (c : Coherent w) (h : NodeState) (keep : Name → Bool) (l 
     served = l.home_yet boot_root l.boot ∙ c.tree.served;
   }
 
+  -- the server of a node is as it was, or gone
+  shape_left : (n : Name) → ShapeKept w h n
+  shape_left n = go (get h.homes n) refl
+    where
+      go : (o : Option Name) → get h.homes n ≡ o → ShapeKept w h n
+      go None e = inr (ap (λ q. shape_by (info_in h.servers q)) e)
+      go (Some q) e = let was = l.home_was n q e in inl (ap shape_by (info_yet n q was.0 was.1))
+
+  left_kinds : AreOfKind (nodes_of left)
+  left_kinds = record {
+    aims = λ s i e. c.kinds.aims s i (l.server_was s i e).0;
+    ends = λ s n i e aim. be_kept w h n (shape_left n) (c.kinds.ends s n i (l.server_was s i e).0 aim);
+    branches = λ s n i k e union aim ek. c.kinds.branches s n i k (l.server_was s i e).0 union aim (header_was n k ek).0;
+    roots = λ s i k e ek. c.kinds.roots s i k (l.server_was s i e).0 (header_was i.root k ek).0;
+  }
+
   pub left_coherent : Coherent left
-  left_coherent = record { given = left_given; housing = left_housing; seating = left_seating; tree = left_tree; tables = tables_by w h c.tables (λ t x r at has k ek. (k, (header_was r.node k ek).0, refl)) }
+  left_coherent = record { given = left_given; housing = left_housing; seating = left_seating; tree = left_tree; kinds = left_kinds; tables = tables_by w h c.tables (λ t x r at has k ek. (k, (header_was r.node k ek).0, refl)) (λ t x r n at has named. shape_left n) }
 
   -- where whoever lists what is kept is kept, as many entries name that, and each path up is still there
   module _ (linked : Linked (nodes_of w)) (lister_kept : (d n : Name) → lists_at n (body_at w d) ≡ true → keep n ≡ true → keep d ≡ true)

@@ -40,6 +40,7 @@ pub mod Edits
 pub mod Attrs
 pub mod Retexting
 pub mod Makes
+pub mod Shapes
 pub mod Nameless
 pub mod Left
 pub mod Linking

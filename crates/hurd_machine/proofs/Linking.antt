@@ -20,7 +20,7 @@ use Rattle.hurd_machine.specs.Sound.{Coherent}
 use Rattle.hurd_machine.proofs.Nodes.{header_in, body_in}
 use Rattle.hurd_machine.proofs.Coherence.{IsEntry, AllProper}
 use Rattle.hurd_machine.proofs.Settle.{KeepsEntered}
-use Rattle.hurd_machine.proofs.Sizes.{sized_append, sized_entry, sized_header}
+use Rattle.hurd_machine.proofs.Sizes.{filled_append, filled_entry, filled_header}
 use Rattle.hurd_machine.proofs.Confine.{Less, less_same}
 use Rattle.hurd_machine.proofs.Permits.{entry_may}
 use Rattle.hurd_machine.proofs.Makes.{entry_proper}
@@ -124,6 +124,6 @@ module _ (d : Name) (name : List ℕ) (n : Name) where
         within = ((body, inl empty), (attr, tt));
         proper = link_proper w s.coherent m;
         linked = again_linked w d n name linked m.node listing.0 m.file.header m.is_node listing.1 (ap header_in m.is_file) m.no_dir up (λ h. (refl, refl)) refl s.linked;
-        sized = sized_append added counted w (sized_entry good w d name n) (sized_header (apply (EditBody d (with_entry name n)) w) n linked (λ h. refl)) s.sizes;
+        sized = filled_append added counted w (filled_entry good w d name n m.tree) (filled_header (apply (EditBody d (with_entry name n)) w) n linked (λ h. refl)) s.sizes;
         may = λ S ours. (entry_may S w w d name n (inl (seen S ours)), (λ h at. linked_less S w h, tt));
       })

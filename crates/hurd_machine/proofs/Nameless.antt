@@ -5,30 +5,29 @@ use Rattle.hurd_creds.specs.declared.open_flags.OpenFlags.{OpenFlags}
 use Rattle.hurd_creds.specs.Access.{IdSets}
 use Rattle.hurd_creds.proofs.NameLaws.{get_here, get_apart}
 use Rattle.hurd_trans_iface.specs.Nodes.{Node, IsShaped, is_dir, is_entered_at}
-use Rattle.hurd_trans_iface.specs.Good.{IsSized}
-use Rattle.hurd_trans_iface.specs.Kinds.{behaviour_of}
 use Rattle.hurd_trans_iface.specs.Meaning.{keeps_tree}
-use Rattle.hurd_nodes.specs.Shown.{ServerInfo}
+use Rattle.hurd_nodes.specs.Shown.{ServerInfo, info_in, tree_by}
 use Rattle.hurd_ports.specs.declared.parents.Parent.{Parent as Pair}
 use Rattle.hurd_ports.specs.declared.table.IoRight.{IoRight}
 use Rattle.hurd_ports.specs.declared.table.Right.{Right}
 use Rattle.hurd_ports.specs.declared.table.Right.TheVariants.{Io}
 use Rattle.hurd_ports.specs.Tables.{Task, fresh, ways_of, is_held}
 use Rattle.hurd_ports.specs.Steps.{named, with_port, new_open, edit_task}
-use Rattle.hurd_machine.specs.World.{World, IsAmong, nodes_of, task_at, header_at, home_at, server_at}
+use Rattle.hurd_machine.specs.World.{World, IsAmong, nodes_of, task_at, header_at, home_at, server_at, info_at, shape_by, shape_at, leads_on, gives_text}
 use Rattle.hurd_machine.specs.Sight.{Part, OptionsOf, UsersOf, TaskOf, Sees, Taken}
 use Rattle.hurd_machine.specs.Change.{Change, MakeNode, namings, stays, server_stays, apply, apply_all, porting}
-use Rattle.hurd_machine.specs.Sound.{Sound, Below, Coherent, times_listed}
+use Rattle.hurd_machine.specs.Sound.{Sound, Below, IsFilled, Coherent, times_listed}
 use Rattle.hurd_machine.proofs.Nodes.{header_in}
 use Rattle.hurd_machine.proofs.Tasks.{edit_here}
 use Rattle.hurd_machine.proofs.Holders.{NameMore, still, still_more, held_by_right}
 use Rattle.hurd_machine.proofs.Stays.{server_more, kept_more, stays_named, held_more}
 use Rattle.hurd_machine.proofs.Rights.{port_keeps, port_has}
-use Rattle.hurd_machine.proofs.Coherence.{IsNext, HasNoEntries, was, header_old, no_node, no_home, next_not, named_below}
+use Rattle.hurd_machine.proofs.Coherence.{IsNext, CanBeNamed, be_same, HasNoEntries, was, header_old, no_node, no_home, next_not, next_apart, named_below}
+use Rattle.hurd_machine.proofs.Shapes.{tree_shape}
 use Rattle.hurd_machine.proofs.Coherence as coherence
 use Rattle.hurd_machine.proofs.Settle.{Rests}
 use Rattle.hurd_machine.proofs.Frame.{Full}
-use Rattle.hurd_machine.proofs.Sizes.{sized_made}
+use Rattle.hurd_machine.proofs.Sizes.{filled_made}
 use Rattle.hurd_machine.proofs.Links.{IsHung, Loosens, KeepsLinked, loosened, loose_any, tied, named_grown, times_new, hung_as}
 use Rattle.hurd_machine.proofs.Confine.{NewTo, SeenOrNew}
 use Rattle.hurd_machine.proofs.Permits as permits
@@ -138,17 +137,17 @@ module _ (w : World) (t : ℕ) (x : Task) (is : task_at w t ≡ Some x) (s : Nam
           server_more (namings w) (namings left) (nodes_of w) (nodes_of left) q (yet.controlled q) (λ m e. e) (λ m e held. (home_kept m q e, held_more w left.tasks m (yet.named m) held)) h
 
   -- a task of S may make it where S saw the server, and open it by ids that S holds
-  pub nameless_whole : {T : Part → Type 0} → Sound w → keeps_tree i.kind ≡ true → IsSized (behaviour_of i.kind) i.text node → ((m : Name) → IsAmong m (ways_of parents) → Below w m) → T (UsersOf s)
+  pub nameless_whole : {T : Part → Type 0} → Sound w → keeps_tree i.kind ≡ true → IsFilled i node → ((m : Name) → IsAmong m (ways_of parents) → CanBeNamed w m) → T (UsersOf s)
       → ((S : ℕ → Bool) → S t ≡ true → Taken S w ids × ((m : Name) → IsAmong m (ways_of parents) → SeenOrNew S w m) × Sees S w (OptionsOf s)) → Whole t (Full w t T) w w (nameless t x s node ids parents modes)
   nameless_whole {T} st tree fit up users sees = record {
     piece = piece_then (MakeNode n s node ∷ []) file_opened (tt, tt) (stands st) (record {
       within = ((own, inr (inr new), inr (inr new), inr (inr new)), tt);
       proper = ((next, record { info = i; is_server = server; tree = tree; shape = lone.shape; empty = lone.empty; parent = λ p e. absurd (cc (lone.alone, e)) }), λ one. tt);
       linked = made_linked c st.linked;
-      sized = sized_made w n s node (λ j e. let same : i ≡ j = cc (server, e) in rw (← same) fit) st.sizes;
+      sized = filled_made w n s node (λ j e. let same : i ≡ j = cc (server, e) in rw (← same) fit) st.sizes;
       may = λ S ours. ((ours, inl (sees S ours).2, λ p e. absurd (cc (lone.alone, e))), tt);
     }) (λ d. opens_piece made t (named 1 x) seat n ids parents modes d own (inr (inr (later_new w t 1 x is))) (λ p on. let same : on.0 ≡ s = cc (on.1, home) in inl (rw (on.2, same) users))
-        (named_below w c n next 1 n refl (omega arith)) (λ m way. coherence.named_still w c n next 1 m (up m way)) (λ writes h e. let same : node.header ≡ h = cc (header, e) in rw (← same) lone.file)
+        (named_below w c n next 1 n refl (omega arith), inr shape.0) ways_yet (λ writes. (λ h e. let same : node.header ≡ h = cc (header, e) in rw (← same) lone.file, shape.1))
         (λ S ours. opens_may S w made t (named 1 x) n ids parents modes ours (permits.later_new S w t x (x.made + 1) ours is (omega arith)) (inr (fresh_yet S ours)) (sees S ours).1 (inr (sees S ours).0)
         (λ read h e. absurd ((fresh_yet S ours).1 (header_old c n h e)))));
     rests = nameless_rests c st.settled;
@@ -162,6 +161,15 @@ module _ (w : World) (t : ℕ) (x : Task) (is : task_at w t ≡ Some x) (s : Nam
 
       new : Below w n → ⊥
       new = fresh_new w t x is
+
+      -- what keeps a tree leads nobody on
+      shape : (leads_on (shape_at (nodes_of made) n) ≡ false) × (gives_text (shape_at (nodes_of made) n) ≡ false)
+      shape = tree_shape (info_at made n) (ap tree_by (ap (info_in made.servers) home ∙ server) ∙ tree)
+
+      ways_yet : (m : Name) → IsAmong m (ways_of parents) → CanBeNamed made m
+      ways_yet m way =
+          let k = up m way in
+          (coherence.named_still w c n next 1 m k.0, be_same (nodes_of made) (nodes_of w) m (ap (λ o. shape_by (info_in w.servers o)) (get_apart w.homes n s m (next_apart w n m next k.0))) k.1)
 
       own : Full w t T (TaskOf t)
       own = own_task w t T

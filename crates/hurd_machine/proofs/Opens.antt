@@ -4,23 +4,23 @@ use Rattle.std.specs.FinMap.{get, insert}
 use Rattle.hurd_creds.specs.declared.name.Name.{Name}
 use Rattle.hurd_creds.specs.declared.open_flags.OpenFlags.{OpenFlags}
 use Rattle.hurd_creds.specs.Access.{IdSets}
-use Rattle.hurd_creds.specs.Bits.{asks, READ, WRITE}
+use Rattle.hurd_creds.specs.Bits.{asks, WRITE}
 use Rattle.hurd_creds.proofs.NameLaws.{get_here}
 use Rattle.hurd_creds.proofs.AppendLaws.{append_read, append_write}
-use Rattle.hurd_trans_iface.specs.Nodes.{Header, is_dir, counting, opened_by, closed_by}
+use Rattle.hurd_trans_iface.specs.Nodes.{Header, counting, opened_by, closed_by}
 use Rattle.hurd_ports.specs.declared.table.Opened.{Opened}
 use Rattle.hurd_ports.specs.declared.parents.Parent.{Parent as Pair}
 use Rattle.hurd_ports.specs.declared.table.Right.{Right}
 use Rattle.hurd_ports.specs.declared.table.Right.TheVariants.{Io, Control, Start}
 use Rattle.hurd_ports.specs.Tables.{Task, names_open, right_in, fresh, ways_of, count_rights}
 use Rattle.hurd_ports.specs.Steps.{named, without_port, new_open, new_right, at_cursor, appending}
-use Rattle.hurd_machine.specs.World.{World, IsAmong, task_at, header_at, counts_at}
+use Rattle.hurd_machine.specs.World.{World, IsAmong, task_at, counts_at}
 use Rattle.hurd_machine.specs.Sight.{Part, OpenOf, UsersOf, TaskOf, is_on, AttrOf, Seen, Held, Holds}
 use Rattle.hurd_machine.specs.Touched.{OnNode, OnRight, OnDrop}
 use Rattle.hurd_machine.specs.Change.{Change, EditTask, MakeOpen, EditOpen, apply, porting, dropping, EditHeader, Settle, apply_all, changes_of, counted, opening, closes, closing}
-use Rattle.hurd_machine.specs.Sound.{Below, Coherent, Sound, AtRest}
+use Rattle.hurd_machine.specs.Sound.{Below, CanBeWritten, Coherent, Sound, AtRest}
 use Rattle.hurd_machine.proofs.Tasks.{edit_here}
-use Rattle.hurd_machine.proofs.Coherence.{IsNext, FineRight, AllProper, named_below, named_still, unopened}
+use Rattle.hurd_machine.proofs.Coherence.{IsNext, CanBeNamed, FineRight, AllProper, named_below, named_still, unopened}
 use Rattle.hurd_machine.proofs.Rights.{port_counts, port_table, without_counts, without_rights, without_table}
 use Rattle.hurd_machine.proofs.Frame.{Covers, Within, AllWithin, Full, not_on, not_named}
 use Rattle.hurd_machine.proofs.Several.{AllMay}
@@ -91,7 +91,7 @@ module _ (w : World) (t : ℕ) (x : Task) (is : task_at w t ≡ Some x) (n : Nam
         ),
       )
 
-  opens_proper : Coherent w → Below w n → ((m : Name) → IsAmong m (ways_of parents) → Below w m) → (asks modes WRITE ≡ true → (h : Header) → header_at w n ≡ Some h → is_dir h.kind ≡ false) → AllProper w (porting t x n ids parents modes)
+  opens_proper : Coherent w → CanBeNamed w n → ((m : Name) → IsAmong m (ways_of parents) → CanBeNamed w m) → (asks modes WRITE ≡ true → CanBeWritten w n) → AllProper w (porting t x n ids parents modes)
   opens_proper c made up writes = (fresh_next w t x is, λ d. ((λ z. omega arith, named 1 x, here, port_table opened d t new_one (named 1 x) here fine), λ e. tt))
     where
       next : IsNext w (fresh t x)
@@ -99,15 +99,15 @@ module _ (w : World) (t : ℕ) (x : Task) (is : task_at w t ≡ Some x) (n : Nam
 
       fine : FineRight opened new_one
       fine = record {
-        nodes = λ m i. named_still w c (fresh t x) next 1 m (elim i [ inl e ↦ subst (Below w) e made | inr way ↦ up m way ]);
+        nodes = λ m i. let k : CanBeNamed w m = elim i [ inl e ↦ subst (CanBeNamed w) e made | inr way ↦ up m way ] in (named_still w c (fresh t x) next 1 m k.0, k.1);
         open_name = named_below w c (fresh t x) next 1 (fresh t x) refl (omega arith);
         opened = (new_open modes, there);
         shared = λ q u k at has e. absurd (unopened w c (fresh t x) next 1 (fresh t x) (fresh_new w t x is) q u k at has e);
-        written = λ z h e asked eh. let same : new_open modes ≡ z = cc (there, e) in writes (ap (λ (k : Opened). asks k.modes WRITE) same ∙ asked) h eh;
+        written = λ z e asked. let same : new_open modes ≡ z = cc (there, e) in writes (ap (λ (k : Opened). asks k.modes WRITE) same ∙ asked);
       }
 
-  pub opens_piece : {T : Part → Type 0} {v : World} → Stands w → T (TaskOf t) → T (OpenOf (fresh t x)) → ((p : Part) → OnNode w n p → T p) → Below w n → ((m : Name) → IsAmong m (ways_of parents) → Below w m)
-      → (asks modes WRITE ≡ true → (h : Header) → header_at w n ≡ Some h → is_dir h.kind ≡ false) → ((S : ℕ → Bool) → S t ≡ true → AllMay S v w (porting t x n ids parents modes)) → Piece t T v w (porting t x n ids parents modes)
+  pub opens_piece : {T : Part → Type 0} {v : World} → Stands w → T (TaskOf t) → T (OpenOf (fresh t x)) → ((p : Part) → OnNode w n p → T p) → CanBeNamed w n → ((m : Name) → IsAmong m (ways_of parents) → CanBeNamed w m)
+      → (asks modes WRITE ≡ true → CanBeWritten w n) → ((S : ℕ → Bool) → S t ≡ true → AllMay S v w (porting t x n ids parents modes)) → Piece t T v w (porting t x n ids parents modes)
   opens_piece {T} s task open_part users made up writes may =
       of_ports (porting t x n ids parents modes) (tt, (tt, tt)) s (opens_within T task open_part users) (opens_proper s.coherent made up writes) may
 

@@ -6,7 +6,6 @@ use Rattle.std.specs.FinMap.{get, insert}
 use Rattle.hurd_creds.specs.declared.name.Name.{Name}
 use Rattle.hurd_creds.specs.declared.open_flags.OpenFlags.{OpenFlags}
 use Rattle.hurd_creds.specs.Access.{IdSets}
-use Rattle.hurd_creds.specs.Bits.{asks, READ}
 use Rattle.hurd_creds.specs.Names.{name_of}
 use Rattle.hurd_creds.proofs.NameLaws.{get_here}
 use Rattle.hurd_trans_iface.specs.Nodes.{Entry, Header, Body, Content, Listing, is_empty_dir, on_bytes, with_entry, with_size}

@@ -5,12 +5,12 @@ use Rattle.hurd_trans_iface.specs.Nodes.{Header}
 use Rattle.hurd_machine.specs.World.{World, nodes_of}
 use Rattle.hurd_machine.specs.Sight.{Part, AttrOf}
 use Rattle.hurd_machine.specs.Change.{Change, EditHeader, Settle, apply_all}
-use Rattle.hurd_machine.specs.Sound.{Coherent, AreSized, Linked, AtRest, Sound}
+use Rattle.hurd_machine.specs.Sound.{Coherent, AreFilled, Linked, AtRest, Sound}
 use Rattle.hurd_machine.proofs.Coherence.{AllProper}
 use Rattle.hurd_machine.proofs.Keeping.{apply_all-append, coherent_all, proper_append}
 use Rattle.hurd_machine.proofs.Settle.{AreQuiet, rests_quiet, settle_settled}
 use Rattle.hurd_machine.proofs.Frame.{AllWithin, within_append}
-use Rattle.hurd_machine.proofs.Sizes.{AreOfPorts, nodes-ports, sized_ports, sized_header, sized_settle}
+use Rattle.hurd_machine.proofs.Sizes.{AreOfPorts, nodes-ports, filled_ports, filled_header, filled_settle}
 use Rattle.hurd_machine.proofs.Links.{linked_steady}
 use Rattle.hurd_machine.proofs.Swept.{linked_settle}
 use Rattle.hurd_machine.proofs.Several.{AllMay}
@@ -20,7 +20,7 @@ use Rattle.hurd_machine.proofs.Permits.{AllExact, may_append}
 pub record Stands (w : World) : Type 0 where
   pub coherent : Coherent w
   pub linked : Linked (nodes_of w)
-  pub sizes : AreSized (nodes_of w)
+  pub sizes : AreFilled (nodes_of w)
 
 pub stands : {w : World} → Sound w → Stands w
 stands s = record { coherent = s.coherent; linked = s.linked; sizes = s.sizes }
@@ -30,7 +30,7 @@ pub record Piece (t : ℕ) (T : Part → Type 0) (v w : World) (cs : List Change
   pub within : AllWithin T w cs
   pub proper : AllProper w cs
   pub linked : Linked (nodes_of (apply_all cs w))
-  pub sized : AreSized (nodes_of (apply_all cs w))
+  pub sized : AreFilled (nodes_of (apply_all cs w))
   pub may : (S : ℕ → Bool) → S t ≡ true → AllMay S v w cs
 
 -- the last ones: from the world that they leave nothing is to be taken out
@@ -50,7 +50,7 @@ module _ {t : ℕ} {T : Part → Type 0} {v w : World} where
         within = within_append T cs ds w p.within q.within;
         proper = proper_append cs ds w s.coherent p.proper (λ c. q.proper);
         linked = subst (λ x. Linked (nodes_of x)) (sym (apply_all-append cs ds w)) q.linked;
-        sized = subst (λ x. AreSized (nodes_of x)) (sym (apply_all-append cs ds w)) q.sized;
+        sized = subst (λ x. AreFilled (nodes_of x)) (sym (apply_all-append cs ds w)) q.sized;
         may = λ S ours. may_append S v cs ds w exact (p.may S ours) (q.may S ours);
       }
 
@@ -74,7 +74,7 @@ module _ {t : ℕ} {T : Part → Type 0} {v w : World} where
       within = (tt, tt);
       proper = (x.linked, λ one. tt);
       linked = linked_settle (apply_all cs w) x.coherent x.linked;
-      sized = sized_settle (apply_all cs w) x.sizes;
+      sized = filled_settle (apply_all cs w) x.sizes;
       may = λ S ours. tt;
     });
     rests = subst AtRest (sym (apply_all-append cs (Settle ∷ []) w)) (settle_settled (apply_all cs w));
@@ -90,7 +90,7 @@ module _ {t : ℕ} {T : Part → Type 0} {v w : World} where
     within = within;
     proper = proper;
     linked = subst Linked (sym (nodes-ports cs w ports)) s.linked;
-    sized = sized_ports cs w ports s.sizes;
+    sized = filled_ports cs w ports s.sizes;
     may = may;
   }
 
@@ -101,6 +101,6 @@ module _ {t : ℕ} {T : Part → Type 0} {v w : World} where
     within = (attr, tt);
     proper = (λ h is. ((keeps h).0, inl (keeps h).1), λ one. tt);
     linked = linked_steady (EditHeader n f ∷ []) w (keeps, tt) s.linked;
-    sized = sized_header w n f size s.sizes;
+    sized = filled_header w n f size s.sizes;
     may = may;
   }

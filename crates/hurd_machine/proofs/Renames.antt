@@ -11,14 +11,14 @@ use Rattle.hurd_trans_iface.specs.Answers.{entry_in, entry_of}
 use Rattle.hurd_trans_iface.specs.Good.{GoodBehaviour}
 use Rattle.hurd_trans_iface.specs.Kinds.{ServerKind, behaviour_of}
 use Rattle.hurd_nodes.specs.Shown.{info_in, tree_by}
-use Rattle.hurd_machine.specs.World.{World, nodes_of, header_at, body_at, home_at, lists_at}
+use Rattle.hurd_machine.specs.World.{World, nodes_of, header_at, body_at, home_at, info_at, lists_at}
 use Rattle.hurd_machine.specs.Sight.{Part, AttrOf, EmptyOf, BodyOf, Seen, Sees}
 use Rattle.hurd_machine.specs.Change.{Change, EditHeader, EditBody, apply}
 use Rattle.hurd_machine.specs.Sound.{Below, AreDistinct, HasDistinctNames, Coherent, Linked, LeadsUp}
 use Rattle.hurd_machine.proofs.Nodes.{header_in, body_in, edit_keeps, edit_reads, header-with_header, header-with_body, body-with_header, body-with_body, node_of_body}
 use Rattle.hurd_machine.proofs.Listed.{dir_kind}
 use Rattle.hurd_machine.proofs.Coherence.{IsEntry, MayMove, Proper, AllProper, entry_lists, header_old}
-use Rattle.hurd_machine.proofs.Sizes.{sized_append, sized_header, sized_entry, sized_removed}
+use Rattle.hurd_machine.proofs.Sizes.{filled_append, filled_header, filled_entry, filled_removed}
 use Rattle.hurd_machine.proofs.Confine.{SeenOrNew, Known, Less, less_same}
 use Rattle.hurd_machine.proofs.Permits.{entry_may}
 use Rattle.hurd_machine.proofs.Makes.{entry_proper}
@@ -196,12 +196,14 @@ module _ (d : Name) (name : List ℕ) (n e : Name) (new : List ℕ) where
   going_piece good {t} {T} {v} {w} s m body empty attr to to_empty sees =
       let one : World = cut w s.coherent m in
       let two : World = turned w s.coherent m in
+      let listed = entry_lists name (body_at w d) n (ap (λ o. entry_of name (body_in o)) m.is_dir ∙ m.entry) in
+      let into : tree_by (info_at w e) ≡ true = ap (λ o. tree_by (info_in w.servers o)) (sym m.kin) ∙ s.coherent.tree.trees d n listed in
       record {
         within = ((body, inl empty), (attr, ((to, inl to_empty), tt)));
         proper = going_proper w s.coherent m s.linked;
         linked = arrived_linked w s.coherent m s.linked;
-        sized = sized_append (EditBody d (without_entry name) ∷ []) (EditHeader n (moved_to e) ∷ EditBody e (with_entry new n) ∷ []) w (sized_removed good w d name)
-            (sized_append (EditHeader n (moved_to e) ∷ []) (EditBody e (with_entry new n) ∷ []) one (sized_header one n (moved_to e) (λ h. refl)) (sized_entry good two e new n)) s.sizes;
+        sized = filled_append (EditBody d (without_entry name) ∷ []) (EditHeader n (moved_to e) ∷ EditBody e (with_entry new n) ∷ []) w (filled_removed good w d name)
+            (filled_append (EditHeader n (moved_to e) ∷ []) (EditBody e (with_entry new n) ∷ []) one (filled_header one n (moved_to e) (λ h. refl)) (filled_entry good two e new n into)) s.sizes;
         may = λ S ours. let k = sees S ours in (
           (inr (inl k.0), λ b other m is h. inl (entry_of_before name other m b (distinct_at w s.coherent d b is) h)),
           ((λ h at. turned_less S v h k.2 (λ dir. k.3 h (sym (edit_keeps header_in (with_body (without_entry name)) (header-with_body (without_entry name)) w.nodes d n) ∙ at) dir)), (entry_may S v two e new n (inl k.1), tt)),

@@ -11,20 +11,20 @@ use Rattle.hurd_creds.specs.Names.{name_cmp}
 use Rattle.hurd_creds.proofs.NameLaws.{same_map_by, tied-itself, equal_if_tied, same_name-itself, equal_if_same, same_or_apart, edit_here, edit_apart}
 use Rattle.hurd_trans_iface.specs.Nodes.{NodeMap, Node, with_header, with_size, edit_all}
 use Rattle.hurd_trans_iface.specs.Kinds.{behaviour_of}
-use Rattle.hurd_trans_iface.specs.Meaning.{size_of}
-use Rattle.hurd_trans_iface.specs.Good.{IsSized, KeepsRoot}
+use Rattle.hurd_trans_iface.specs.Meaning.{root_of, size_of, targets_of}
+use Rattle.hurd_trans_iface.specs.Good.{KeepsRoot}
 use Rattle.hurd_nodes.specs.Held.{is_home}
 use Rattle.hurd_nodes.specs.Shown.{ServerInfo, info_in, own_nodes, sizing, with_text}
 use Rattle.hurd_machine.specs.World.{World, IsAmong, nodes_of, home_at, server_at}
 use Rattle.hurd_machine.specs.Sight.{Part, AttrOf, OptionsOf}
 use Rattle.hurd_machine.specs.Change.{Change, SetText, changes_of, retexting, apply_all}
-use Rattle.hurd_machine.specs.Sound.{Coherent, AreSized, Sound}
+use Rattle.hurd_machine.specs.Sound.{Coherent, IsFilled, AreFilled, Sound}
 use Rattle.hurd_machine.proofs.Nodes.{edited_from}
-use Rattle.hurd_machine.proofs.Coherence.{AllProper}
+use Rattle.hurd_machine.proofs.Coherence.{AllProper, KeepsShape}
 use Rattle.hurd_machine.proofs.Retained.{retained, dropped, was_retained}
 use Rattle.hurd_machine.proofs.Frame.{AllWithin}
 use Rattle.hurd_machine.proofs.Settle.{AreQuiet}
-use Rattle.hurd_machine.proofs.Sizes.{KeepsSized}
+use Rattle.hurd_machine.proofs.Sizes.{KeepsFilled}
 use Rattle.hurd_machine.proofs.Links.{AreSteady, linked_steady}
 use Rattle.hurd_machine.proofs.Several.{AllMay}
 use Rattle.hurd_machine.proofs.Permits.{size_may}
@@ -140,8 +140,8 @@ module _ (w : World) (s : Name) (i : ServerInfo) where
   root_alone c is text keeps n home = c.housing.lone n s i home is (keeps text refl).lone
 
   -- which gets the size that the text says
-  retexts_sized : Coherent w → server_at w s ≡ Some i → (text : List ℕ) → MayGet (Some text) → KeepsSized w (retexting w s i (Some text))
-  retexts_sized c is text keeps fit = subst (λ (x : World). AreSized (nodes_of x)) (sym done) now
+  retexts_filled : Coherent w → server_at w s ≡ Some i → (text : List ℕ) → MayGet (Some text) → KeepsFilled w (retexting w s i (Some text))
+  retexts_filled c is text keeps fit = subst (λ (x : World). AreFilled (nodes_of x)) (sym done) now
     where
       left : World
       left = record w { servers = edit s (with_text text) w.servers; nodes = edit_all (sizing (size_of i.kind text) own) w.nodes }
@@ -149,27 +149,27 @@ module _ (w : World) (s : Name) (i : ServerInfo) where
       done : apply_all (retexting w s i (Some text)) w ≡ left
       done = sizes_done (size_of i.kind text) own (record w { servers = edit s (with_text text) w.servers })
 
-      now : AreSized (nodes_of left)
+      now : AreFilled (nodes_of left)
       now n x j e ej = go (home_at w n) refl
         where
           -- a node of this server
-          here : home_at w n ≡ Some s → IsSized (behaviour_of j.kind) j.text x
+          here : home_at w n ≡ Some s → IsFilled j x
           here home =
               let known : Some (with_text text i) ≡ Some j =
               sym (ap (info_in left.servers) home ∙ edit_here w.servers s (with_text text) ∙ ap (option_map (with_text text)) is) ∙ ej in
               let same : with_text text i ≡ j = cc in
               let l = edited_from (sized (size_of i.kind text)) (get w.nodes n) x (sym (sized_here (size_of i.kind text) own w.nodes n (own_here s n w.homes home)) ∙ e) in
-              subst (λ (z : ServerInfo). IsSized (behaviour_of z.kind) z.text x) same
-              (subst (IsSized (behaviour_of i.kind) text) l.2 (sym ((keeps text refl).sized l.0.body)))
+              let old = fit n l.0 i l.1 (ap (info_in w.servers) home ∙ is) in
+              subst (λ (z : ServerInfo). IsFilled z x) same (subst (IsFilled (with_text text i)) l.2 (sym ((keeps text refl).sized l.0.body), old.1))
 
           -- or of another
-          there : (q : Name) → home_at w n ≡ Some q → q ≢ s → IsSized (behaviour_of j.kind) j.text x
+          there : (q : Name) → home_at w n ≡ Some q → q ≢ s → IsFilled j x
           there q home apart =
               let other : IsAmong n own → ⊥ = λ among. let it : home_at w n ≡ Some s = own_home s n w.homes among in apart (cc (home, it)) in
               fit n x j (sym (sized_apart (size_of i.kind text) own w.nodes n other) ∙ e)
               (ap (info_in w.servers) home ∙ sym (edit_apart w.servers s (with_text text) q apart) ∙ sym (ap (info_in left.servers) home) ∙ ej)
 
-          go : (o : Option Name) → home_at w n ≡ o → IsSized (behaviour_of j.kind) j.text x
+          go : (o : Option Name) → home_at w n ≡ o → IsFilled j x
           go None home = let none : None ≡ Some j = sym (ap (info_in left.servers) home) ∙ ej in absurd (cc)
           go (Some q) home = elim (same_or_apart q s) [ inl same ↦ here (home ∙ ap Some same) | inr apart ↦ there q home apart ]
 
@@ -181,11 +181,17 @@ module _ (w : World) (s : Name) (i : ServerInfo) where
       let l = sizes_piece k T own set (λ n among. subst (λ m. T (AttrOf m)) (sym (root_alone st.coherent is text keeps n (own_home s n w.homes among))) attr) in
       quiet (retexting w s i (Some text)) (tt, l.2) st (record {
         within = (options, l.0);
-        proper = (tt, λ one. l.1);
+        proper = (fits, λ one. l.1);
         linked = linked_steady (retexting w s i (Some text)) w (tt, l.3) st.linked;
-        sized = retexts_sized st.coherent is text keeps st.sizes;
+        sized = retexts_filled st.coherent is text keeps st.sizes;
         may = λ S ours. (tt, l.4 S w);
       })
+    where
+      fits : KeepsShape w s text
+      fits j e =
+          let same : i ≡ j = cc (is, e) in
+          let k = keeps text refl in
+          subst (λ (z : ServerInfo). (root_of z.kind text ≡ root_of z.kind z.text) × (targets_of z.kind text ≡ targets_of z.kind z.text)) same (sym (k.rooted i.text), sym (k.aimed i.text))
 
 -- in two worlds where it is known as the same server the piece is the same
 pub retexts_same : (v w : World) → Coherent v → Coherent w → (s : Name) (i : ServerInfo) → server_at v s ≡ Some i → server_at w s ≡ Some i → (o : Option (List ℕ)) → MayGet v s i o → retexting w s i o ≡ retexting v s i o

@@ -11,9 +11,9 @@ use Rattle.hurd_ports.specs.Steps.{with_ids, with_pending, with_port, without_po
 use Rattle.hurd_machine.specs.World.{World, IsAmong, task_at}
 use Rattle.hurd_ports.specs.Weights.{one_if, count_list}
 use Rattle.hurd_ports.proofs.WeightLaws.{right_of_port, pending_weighs, port_weighs, weigh_dropped, weigh_received}
-use Rattle.hurd_machine.specs.Sound.{Below, Coherent}
+use Rattle.hurd_machine.specs.Sound.{Coherent}
 use Rattle.hurd_machine.proofs.Tasks.{among_left, among_right, among_cases, among_map, among_mapped}
-use Rattle.hurd_machine.proofs.Coherence.{FineNew, FineRight, IsNew, Table}
+use Rattle.hurd_machine.proofs.Coherence.{CanBeNamed, FineNew, FineRight, IsNew, Table}
 
 -- where a right of a task is: it is the one that it is to start, one of its table, or one of its inbox
 data Place (q : Right) (x : Task) : Type 0 where
@@ -212,10 +212,10 @@ pending_counts T out p x =
     let was = none_started T out x.pending in
     omega arith
 
--- the node of what is to start was given
+-- the node of what is to start may be named
 abbrev pub IsGivenStart : World → Option PendingStart → Type 0
 IsGivenStart w None = Unit {0}
-IsGivenStart w (Some s) = Below w s.node
+IsGivenStart w (Some s) = CanBeNamed w s.node
 
 pub pending_table : (w : World) → Coherent w → (t : ℕ) (p : Option PendingStart) (x : Task) → task_at w t ≡ Some x → IsGivenStart w p → Table w x (with_pending p x)
 pending_table w c t p x is given = record { new = new p; fine = fine p given; rights = λ r h. elim (pending_rights p x r h) [ inl old ↦ inl old | inr s ↦ inr (is_new p r s) ]; numbers = λ q h. c.tables.numbers t x q is h }

@@ -44,7 +44,7 @@ users_by w y s ts same = count_alike (is_on y s) (is_on w s) ts on
 pub users_named : (w y : World) (c : Coherent w) (n : Name) (next : IsNext w n) (k : ℕ) (m s : Name) → (Below w m → ⊥) → y.homes ≡ insert w.homes m s → y.tasks ≡ edit_task n.task.0 (named k) w.tasks → (q : Name) → users y q ≡ users w q
 users_named w y c n next k m s new homes tasks q =
     ap (count_rights (is_on y q)) tasks
-    ∙ users_by w y q (edit_task n.task.0 (named k) w.tasks) (λ t x r at i. ap (is_home q) (ap (λ h. get h r.node) homes ∙ get_apart w.homes m s r.node (unnoded w c n next k m new t x r at i)))
+    ∙ users_by w y q (edit_task n.task.0 (named k) w.tasks) (λ t x r at i. ap (is_home q) (ap (λ h. get h r.node) homes ∙ get_apart w.homes m s r.node (unnoded w c n next k m new t x (Io r) r.node at i (inl refl))))
     ∙ count_named (is_on w q) n.task.0 k w.tasks next.seat next.is_task
 
 -- nothing is counted that passes no test

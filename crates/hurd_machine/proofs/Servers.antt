@@ -4,18 +4,16 @@ use Rattle.std.specs.FinMap.{get, insert}
 use Rattle.hurd_creds.specs.declared.name.Name.{Name}
 use Rattle.hurd_creds.proofs.NameLaws.{get_here, get_apart, remove_apart}
 use Rattle.hurd_trans_iface.specs.Nodes.{Node, is_dir}
-use Rattle.hurd_trans_iface.specs.Kinds.{behaviour_of}
-use Rattle.hurd_trans_iface.specs.Good.{IsSized}
 use Rattle.hurd_nodes.specs.Shown.{ServerInfo, info_in, is_root_at, is_root_of, tree_by, is_other}
 use Rattle.hurd_machine.specs.World.{World, nodes_of, header_at, home_at, info_at, is_server_root}
 use Rattle.hurd_machine.specs.Change.{MakeNode, Attach, DropServer, Unseat, apply}
-use Rattle.hurd_machine.specs.Sound.{Coherent, AreSized, LeadsUp, AtRoot, Above, Linked, times_listed}
+use Rattle.hurd_machine.specs.Sound.{Coherent, IsFilled, AreFilled, LeadsUp, AtRoot, Above, Linked, times_listed}
 use Rattle.hurd_machine.proofs.Nodes.{header_in}
 use Rattle.hurd_machine.proofs.Coherence.{Comes, next_not, no_home, no_node, was}
 use Rattle.hurd_machine.proofs.Comes.{attach_is, come_world, come_new, root_new, none_served}
 use Rattle.hurd_machine.proofs.Drop.{home_apart}
 use Rattle.hurd_machine.proofs.Links.{KeepsLinked, IsHung, Loosens, loosened, loose_any, tied, named_grown, times_new, hung_as, leads_still}
-use Rattle.hurd_machine.proofs.Sizes.{KeepsSized}
+use Rattle.hurd_machine.proofs.Sizes.{KeepsFilled}
 use Rattle.hurd_machine.proofs.Retained.{was_retained}
 
 -- a server that comes
@@ -95,35 +93,35 @@ linked_unseat w k l = record {
   rooted = λ d n e. leads_still (nodes_of w) (nodes_of (apply (Unseat k) w)) (λ m is. is) (λ m h is. (h, is, refl)) d (l.rooted d n e);
 }
 
--- sizes
+-- sizes, and what is in nodes
 
-pub sized_come : (w : World) → Coherent w → (s at : Name) (i : ServerInfo) (node : Node) → Comes w s at i node → IsSized (behaviour_of i.kind) i.text node → KeepsSized w (Attach s at i node ∷ [])
-sized_come w c s at i node p fit sized = subst (λ (x : World). AreSized (nodes_of x)) (sym (attach_is w s at i node c (next_not w s p.next))) now
+pub filled_come : (w : World) → Coherent w → (s at : Name) (i : ServerInfo) (node : Node) → Comes w s at i node → IsFilled i node → KeepsFilled w (Attach s at i node ∷ [])
+filled_come w c s at i node p fit sized = subst (λ (x : World). AreFilled (nodes_of x)) (sym (attach_is w s at i node c (next_not w s p.next))) now
   where
-    now : AreSized (nodes_of (come_world w s at i node))
+    now : AreFilled (nodes_of (come_world w s at i node))
     now n x j e ej = elim (was w.nodes i.root n node x e) [
       | inl k ↦
           let here : info_at (come_world w s at i node) n ≡ Some i = rw (k.0) (ap (info_in (insert w.servers s i)) (get_here w.homes i.root s) ∙ get_here w.servers s i) in
           let same : i ≡ j = cc (here, ej) in
-          subst (λ (z : ServerInfo). IsSized (behaviour_of z.kind) z.text x) same (subst (IsSized (behaviour_of i.kind) i.text) k.1 fit)
+          subst (λ (z : ServerInfo). IsFilled z x) same (subst (IsFilled i) k.1 fit)
       | inr k ↦ old k.0 k.1 (home_at w n) refl
     ]
       where
-        old : n ≢ i.root → get w.nodes n ≡ Some x → (o : Option Name) → home_at w n ≡ o → IsSized (behaviour_of j.kind) j.text x
+        old : n ≢ i.root → get w.nodes n ≡ Some x → (o : Option Name) → home_at w n ≡ o → IsFilled j x
         old apart at_n None eh = let h = c.housing.homes n x.header (ap header_in at_n) in let none : home_at w n ≡ None = eh in absurd (cc (h.2))
         old apart at_n (Some q) eh =
             let there : home_at (come_world w s at i node) n ≡ Some q = get_apart w.homes i.root s n apart ∙ eh in
             sized n x j at_n (ap (info_in w.servers) eh ∙ sym (get_apart w.servers s i q (none_served w c s (next_not w s p.next) n q eh)) ∙ sym (ap (info_in (insert w.servers s i)) there) ∙ ej)
 
-pub sized_drop : (w : World) (s : Name) → KeepsSized w (DropServer s ∷ [])
-sized_drop w s sized n x j e ej = go (home_at (apply (DropServer s) w) n) refl
+pub filled_drop : (w : World) (s : Name) → KeepsFilled w (DropServer s ∷ [])
+filled_drop w s sized n x j e ej = go (home_at (apply (DropServer s) w) n) refl
   where
-    go : (o : Option Name) → home_at (apply (DropServer s) w) n ≡ o → IsSized (behaviour_of j.kind) j.text x
+    go : (o : Option Name) → home_at (apply (DropServer s) w) n ≡ o → IsFilled j x
     go None eh = let none : None ≡ Some j = sym (ap (info_in (apply (DropServer s) w).servers) eh) ∙ ej in absurd (cc)
     go (Some q) eh =
         let k = was_retained w.nodes (is_other s w.homes) n x e in
         let h = was_retained w.homes (is_other s w.homes) n q eh in
         sized n x j k.0 (ap (info_in w.servers) h.0 ∙ sym (remove_apart w.servers s q (home_apart s q (home_at w n) h.0 h.1)) ∙ sym (ap (info_in (apply (DropServer s) w).servers) eh) ∙ ej)
 
-pub sized_unseat : (w : World) (k : Name) → KeepsSized w (Unseat k ∷ [])
-sized_unseat w k sized n x j e ej = sized n x j e ej
+pub filled_unseat : (w : World) (k : Name) → KeepsFilled w (Unseat k ∷ [])
+filled_unseat w k sized n x j e ej = sized n x j e ej

@@ -24,15 +24,15 @@ use Rattle.hurd_machine.proofs.Piece.{Whole, stands, quiet, of_ports}
 
 pub fine_right : (w : World) → Coherent w → (t : ℕ) (x : Task) (r : Right) → task_at w t ≡ Some x → IsAmong r (rights_of x) → FineRight w r
 fine_right w c t x (Control s) is i = c.given.rights t x (Control s) is i
-fine_right w c t x (Start n) is i = c.given.rights t x (Start n) is i
+fine_right w c t x (Start n) is i = (c.given.rights t x (Start n) is i, c.tables.held t x (Start n) n is i (inl refl))
 fine_right w c t x (Io r) is i =
     let given = c.given.rights t x (Io r) is i in
     record {
-      nodes = given.0;
+      nodes = λ n named. (given.0 n named, c.tables.held t x (Io r) n is i named);
       open_name = given.1;
       opened = c.tables.opened t x r is i;
       shared = λ q y p at has e. c.tables.shared q t y x p r at has is i e;
-      written = λ o h eo modes eh. c.tables.written t x r o h is i eo modes eh;
+      written = λ o eo modes. c.tables.written t x r o is i eo modes;
     }
 
 -- also with other ids

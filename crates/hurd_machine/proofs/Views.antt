@@ -1,6 +1,6 @@
 -- What a set of tasks sees is settled by the parts that it sees: where those are the same in two worlds, it sees the same
 -- parts in both.
-use Rattle.std.proofs.Common.{◌≡◌, ◌⊎◌, inl, inr, ℕ, Bool, true, Some, sym, refl, ◌∙◌, ap, length, Option, None}
+use Rattle.std.proofs.Common.{◌≡◌, inl, inr, ℕ, Bool, true, Some, sym, refl, ◌∙◌, ap, length, Option, None}
 use Rattle.hurd_creds.specs.declared.name.Name.{Name}
 use Rattle.hurd_creds.specs.declared.attrs.Want.{Want}
 use Rattle.hurd_creds.specs.declared.attrs.Want.TheVariants.{Read, Write, Exec}

@@ -1,16 +1,19 @@
 -- Worlds that hang together.
-use Rattle.std.specs.Prelude.{◌≡◌, ◌≢◌, ℕ, ◌<◌, ◌≤◌, true, false, List, [], ◌∷◌, Some, None, cond}
+use Rattle.std.specs.Prelude.{◌≡◌, ◌≢◌, ◌⊎◌, ℕ, ◌<◌, ◌≤◌, true, false, if◌then◌else◌, List, [], ◌∷◌, Some, None, cond, length}
 use Rattle.std.specs.FinMap.{get, values}
 use Rattle.std.specs.List.{sum_by}
 use Rattle.std.specs.FinSet as set
 use Rattle.hurd_creds.specs.declared.name.Name.{Name}
 use Rattle.hurd_creds.specs.declared.attrs.Kind.TheVariants.{Dir}
 use Rattle.hurd_creds.specs.Bits.{asks, WRITE}
+use Rattle.hurd_creds.specs.Names.{same_name}
 use Rattle.hurd_trans_iface.specs.Nodes.{NodeMap, Node, Entry, Header, Body, Content, Listing, IsShaped, is_dir, header_of, body_of}
 use Rattle.hurd_trans_iface.specs.Answers.{entry_in}
 use Rattle.hurd_trans_iface.specs.Kinds.{behaviour_of}
-use Rattle.hurd_trans_iface.specs.Meaning.{keeps_tree}
+use Rattle.hurd_trans_iface.specs.declared.root.Crossing.TheVariants.{Union}
+use Rattle.hurd_trans_iface.specs.Meaning.{keeps_tree, root_of, targets_of}
 use Rattle.hurd_trans_iface.specs.Good.{IsSized}
+use Rattle.hurd_trans_iface.specs.Bodies.{MayHold}
 use Rattle.hurd_nodes.specs.Shown.{NodeState, ServerInfo, boot_name, is_root, server_of, tree_by}
 use Rattle.hurd_ports.specs.declared.table.Opened.{Opened}
 use Rattle.hurd_ports.specs.declared.table.IoRight.{IoRight}
@@ -19,7 +22,7 @@ use Rattle.hurd_ports.specs.declared.table.Right.TheVariants.{Io, Control, Start
 use Rattle.hurd_ports.specs.declared.table.Port.{Port}
 use Rattle.hurd_ports.specs.Tables.{Task, rights_of, nodes_of as nodes_named, IsSettled}
 use Rattle.hurd_machine.specs.Change.{stays, server_stays}
-use Rattle.hurd_machine.specs.World.{World, IsAmong, boot_root, nodes_of, ports_of, task_at, open_at, header_at, body_at, server_at, lists_at, is_of}
+use Rattle.hurd_machine.specs.World.{World, IsAmong, boot_root, nodes_of, ports_of, task_at, open_at, header_at, body_at, server_at, lists_at, is_of, shape_at, leads_on, gives_text}
 use Rattle.hurd_ports.specs.Weights.{count_list}
 
 -- the name was given already: its task has made more things than its count. No task makes the boot names.
@@ -89,6 +92,25 @@ pub record IsTree (h : NodeState) : Type 0 where
   pub boot : is_root h boot_root ≡ true
   pub served : get h.homes boot_root ≡ Some boot_name
 
+-- one can be at the root of the tree, and at a node whose server doesn't lead whoever comes there away from it
+abbrev pub CanBeAt : NodeState → Name → Type 0
+CanBeAt h n = (n ≡ boot_root) ⊎ (leads_on (shape_at h n) ≡ false)
+
+-- a node that can be written: it is no directory, and its server doesn't only give its text
+abbrev pub CanBeWritten : World → Name → Type 0
+CanBeWritten w n = ((k : Header) → header_at w n ≡ Some k → is_dir k.kind ≡ false) × (gives_text (shape_at (nodes_of w) n) ≡ false)
+
+-- servers are what their kinds and texts say
+pub record AreOfKind (h : NodeState) : Type 0 where
+  -- each aims at one node for each path that its text names, but the boot server, which aims at none; and at none from which it would be led on
+  pub aims : (s : Name) (i : ServerInfo) → get h.servers s ≡ Some i → length i.targets ≡ (if same_name s boot_name then 0 else length (targets_of i.kind i.text))
+  pub ends : (s n : Name) (i : ServerInfo) → get h.servers s ≡ Some i → IsAmong n i.targets → CanBeAt h n
+  -- where a union aims, there are directories, if they are there yet
+  pub branches : (s n : Name) (i : ServerInfo) (k : Header) → get h.servers s ≡ Some i → (root_of i.kind i.text).crossing ≡ Union
+      → IsAmong n i.targets → header_of h.nodes n ≡ Some k → k.kind ≡ Dir
+  -- each has such a root
+  pub roots : (s : Name) (i : ServerInfo) (k : Header) → get h.servers s ≡ Some i → header_of h.nodes i.root ≡ Some k → k.kind ≡ (root_of i.kind i.text).kind
+
 -- tables of ports, and opens
 pub record AreTables (w : World) : Type 0 where
   -- port numbers are below the next one
@@ -98,9 +120,11 @@ pub record AreTables (w : World) : Type 0 where
   -- the rights of an open are on one node
   pub shared : (t q : ℕ) (x y : Task) (r p : IoRight) → task_at w t ≡ Some x → IsAmong (Io r) (rights_of x)
       → task_at w q ≡ Some y → IsAmong (Io p) (rights_of y) → r.open_name ≡ p.open_name → r.node ≡ p.node
-  -- what is open to write is no directory
-  pub written : (t : ℕ) (x : Task) (r : IoRight) (o : Opened) (k : Header) → task_at w t ≡ Some x → IsAmong (Io r) (rights_of x)
-      → open_at w r.open_name ≡ Some o → asks o.modes WRITE ≡ true → header_at w r.node ≡ Some k → is_dir k.kind ≡ false
+  -- what is open to write can be written
+  pub written : (t : ℕ) (x : Task) (r : IoRight) (o : Opened) → task_at w t ≡ Some x → IsAmong (Io r) (rights_of x)
+      → open_at w r.open_name ≡ Some o → asks o.modes WRITE ≡ true → CanBeWritten w r.node
+  -- one can be at each node that a right names
+  pub held : (t : ℕ) (x : Task) (r : Right) (n : Name) → task_at w t ≡ Some x → IsAmong r (rights_of x) → IsAmong n (nodes_named r) → CanBeAt (nodes_of w) n
 
 -- what holds of every world, also between the changes of a call
 pub record Coherent (w : World) : Type 0 where
@@ -108,11 +132,16 @@ pub record Coherent (w : World) : Type 0 where
   pub housing : AreHoused (nodes_of w)
   pub seating : AreSeated (nodes_of w)
   pub tree : IsTree (nodes_of w)
+  pub kinds : AreOfKind (nodes_of w)
   pub tables : AreTables w
 
--- each node has the size that its server says
-abbrev pub AreSized : NodeState → Type 0
-AreSized h = (n : Name) (x : Node) (i : ServerInfo) → get h.nodes n ≡ Some x → server_of h n ≡ Some i → IsSized (behaviour_of i.kind) i.text x
+-- a node has the size that its server says, and holds what may be in it
+abbrev pub IsFilled : ServerInfo → Node → Type 0
+IsFilled i x = IsSized (behaviour_of i.kind) i.text x × MayHold i.kind x.body
+
+-- each node does, whose server is there
+abbrev pub AreFilled : NodeState → Type 0
+AreFilled h = (n : Name) (x : Node) (i : ServerInfo) → get h.nodes n ≡ Some x → server_of h n ≡ Some i → IsFilled i x
 
 -- how many entries of a body name a node
 abbrev pub times_in : Name → Body → ℕ
@@ -151,9 +180,9 @@ pub record AtRest (w : World) : Type 0 where
   pub servers : (s : Name) (i : ServerInfo) → server_at w s ≡ Some i → server_stays w s ≡ true
   pub opens : IsSettled (ports_of w)
 
--- a world that hangs together, whose nodes are linked as a tree is, in which sizes are right, and from which nothing is to be taken out
+-- a world that hangs together, whose nodes are linked as a tree is, and hold what their sizes say and their servers may have in them, and from which nothing is to be taken out
 pub record Sound (w : World) : Type 0 where
   pub coherent : Coherent w
   pub linked : Linked (nodes_of w)
-  pub sizes : AreSized (nodes_of w)
+  pub sizes : AreFilled (nodes_of w)
   pub settled : AtRest w

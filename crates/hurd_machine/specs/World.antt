@@ -1,15 +1,19 @@
 -- The world as a value, and what is read of it.
-use Rattle.std.specs.Prelude.{◌≡◌, ◌⊎◌, ◌&&◌, not, is_some, ℕ, Bool, false, List, [], ◌∷◌, Option, Some, None, Result, slice_get}
+use Rattle.std.specs.Prelude.{◌≡◌, ◌⊎◌, ◌&&◌, not, is_some, ℕ, Bool, true, false, List, [], ◌∷◌, Option, Some, None, Result, slice_get}
 use Rattle.std.specs.List.{list_any}
 use Rattle.std.specs.Option.{option_map}
 use Rattle.std.specs.FinMap.{get}
 use Rattle.hurd_creds.specs.declared.name.Name.{Name}
 use Rattle.hurd_creds.specs.declared.attrs.Kind.{Kind}
+use Rattle.hurd_creds.specs.declared.attrs.Kind.TheVariants.{File, Link}
 use Rattle.hurd_creds.specs.declared.errno.Errno.{Errno}
 use Rattle.hurd_creds.specs.NameMaps.{NameMap}
 use Rattle.hurd_creds.specs.Names.{same_name}
 use Rattle.hurd_trans_iface.specs.Nodes.{NodeMap, Node, Entry, Header, Body, Content, Listing}
+use Rattle.hurd_trans_iface.specs.declared.root.Root.{Root}
+use Rattle.hurd_trans_iface.specs.Answers.{leads_away}
 use Rattle.hurd_trans_iface.specs.Behaviour.{Question, Effect}
+use Rattle.hurd_trans_iface.specs.Meaning.{root_of}
 use Rattle.hurd_nodes.specs.Needs.{counts_by, streams_by}
 use Rattle.hurd_nodes.specs.Shown.{NodeState, ServerInfo, boot_name, is_root, server_of, effect_at, readable_at as readable_of, can_make, can_link, can_unlink, can_rename, can_set_attrs}
 use Rattle.hurd_ports.specs.declared.table.Opened.{Opened}
@@ -84,6 +88,36 @@ targets_in (Some i) = i.targets
 
 abbrev pub targets_at : World → Name → List Name
 targets_at w n = targets_in (info_at w n)
+
+-- what the root of a server is by its kind and text, if the server is there
+
+abbrev pub shape_by : Option ServerInfo → Option Root
+shape_by None = None
+shape_by (Some i) = Some (root_of i.kind i.text)
+
+-- the same of the server of a node
+abbrev pub shape_at : NodeState → Name → Option Root
+shape_at h n = shape_by (server_of h n)
+
+-- whether a server leads whoever comes to its root to the one node that it aims at
+
+abbrev pub leads_on : Option Root → Bool
+leads_on None = false
+leads_on (Some r) = leads_away r.crossing
+
+-- whether a server only gives its text: its root is a file or a link
+
+abbrev pub is_text : Kind → Bool
+is_text File = true
+is_text Link = true
+is_text _ = false
+
+abbrev pub gives_text : Option Root → Bool
+gives_text None = false
+gives_text (Some r) = is_text r.kind
+
+abbrev pub only_reads : Option ServerInfo → Bool
+only_reads o = gives_text (shape_by o)
 
 -- whether a node is the root of its server
 abbrev pub is_server_root : World → Name → Bool

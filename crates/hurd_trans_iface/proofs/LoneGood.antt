@@ -70,7 +70,7 @@ hello_good = good_still hello (record {
   write_blind = λ text at bs h c e. refl;
   set_size_blind = λ text size h c e. refl;
   no_words = refl;
-  options_root = λ ws new is. record { lone = refl; rooted = λ text. refl; sized = λ c. refl };
+  options_root = λ ws new is. record { lone = refl; rooted = λ text. refl; aimed = λ text. refl; sized = λ c. refl };
   options_plain = hello-options-plain;
 })
 

@@ -36,6 +36,13 @@ is_plain (Link absolute) = false
 is_plain Firm = false
 is_plain Union = false
 
+-- nobody comes to be at such a root: whoever crosses it is led to the one node that its server aims at
+abbrev pub leads_away : Crossing → Bool
+leads_away Firm = true
+leads_away Plain = false
+leads_away (Link absolute) = false
+leads_away Union = false
+
 -- a server whose root is a plain directory keeps a tree: nodes can be made in its directories
 abbrev pub is_tree : Root → Bool
 is_tree root = if is_dir root.kind then is_plain root.crossing else false

@@ -27,10 +27,11 @@ IsBlindAt b text q =
 abbrev pub IsPlain : {T : Type 0} → Behaviour → Question T → Type 0
 IsPlain b q = (text : List ℕ) (x : Node) (e : Errno) → q b text x ≡ Err e → is_no_memory e ≡ false
 
--- what another text leaves as it is: the server keeps no tree, and its root stays what it is, with the size that the text says
+-- what another text leaves as it is: the server keeps no tree, its root stays what it is, with the size that the text says, and it aims at what it aimed at
 pub record KeepsRoot (b : Behaviour) (new : List ℕ) : Type 0 where
   pub lone : b.tree ≡ false
   pub rooted : (text : List ℕ) → b.root text ≡ b.root new
+  pub aimed : (text : List ℕ) → b.targets text ≡ b.targets new
   pub sized : (c : Body) → b.size new c ≡ b.size new (Content [])
 
 pub record GoodBehaviour (b : Behaviour) : Type 0 where

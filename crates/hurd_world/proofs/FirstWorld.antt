@@ -9,13 +9,13 @@ use Rattle.hurd_creds.specs.declared.attrs.Kind.TheVariants.{Dir}
 use Rattle.hurd_creds.specs.Access.{IdSets}
 use Rattle.hurd_creds.specs.Bits.{asks, WRITE}
 use Rattle.hurd_creds.specs.Names.{name_of, name_cmp}
-use Rattle.hurd_creds.proofs.NameLaws.{get_here}
+use Rattle.hurd_creds.proofs.NameLaws.{get_here, same_name-itself}
 use Rattle.hurd_creds.proofs.MapLaws.{get-map_values}
 use Rattle.hurd_trans_iface.specs.Nodes.{Node, Header, IsShaped, is_dir, header_of, body_of}
 use Rattle.hurd_trans_iface.specs.declared.root.Root.{Root}
 use Rattle.hurd_trans_iface.specs.Answers.{is_plain, is_tree}
-use Rattle.hurd_trans_iface.specs.Good.{IsSized}
-use Rattle.hurd_trans_iface.specs.Meaning.{Meaning, Begins, ServerKind, behaviour_of, empty_body, new_root, new_server, root_of}
+use Rattle.hurd_trans_iface.proofs.BodyLaws.{begun_holds}
+use Rattle.hurd_trans_iface.specs.Meaning.{Meaning, Begins, ServerKind, behaviour_of, empty_body, new_root, new_server, root_of, targets_of}
 use Rattle.hurd_trans_iface.proofs.Beginnings.{begun-new}
 use Rattle.hurd_trans_iface.proofs.Goods.{tree-told}
 use Rattle.hurd_nodes.specs.Shown.{NodeState, ServerInfo, boot_name, boot_mode, boot_info, booted, info_in, server_of, state_of, tree_by}
@@ -23,9 +23,9 @@ use Rattle.hurd_ports.specs.declared.table.Opened.{Opened}
 use Rattle.hurd_ports.specs.declared.parents.Parent.{Parent}
 use Rattle.hurd_ports.specs.declared.table.Right.{Right}
 use Rattle.hurd_ports.specs.declared.table.Right.TheVariants.{Io, Control, Start}
-use Rattle.hurd_ports.specs.Tables.{Task, rights_of, ways_of}
+use Rattle.hurd_ports.specs.Tables.{Task, rights_of, nodes_of as nodes_named, ways_of}
 use Rattle.hurd_machine.specs.World.{World, IsAmong, lists, lists_at, task_at}
-use Rattle.hurd_machine.specs.Sound.{IsGivenRight, Sound, Below, HasDistinctNames, AreGiven, AreHoused, AreSeated, IsTree, AreTables, Hangs, Linked, AreSized, AtRest, times_in, times_listed}
+use Rattle.hurd_machine.specs.Sound.{IsGivenRight, Sound, Below, HasDistinctNames, AreGiven, AreHoused, AreSeated, IsTree, AreOfKind, AreTables, Hangs, Linked, IsFilled, AreFilled, AtRest, times_in, times_listed}
 use Rattle.hurd_machine.proofs.Stays.{root_is_root, stays_root, lives_boot}
 use Rattle.hurd_machine.proofs.Sums.{total_none}
 use Rattle.hurd_world.specs.Boot.{first_world}
@@ -127,6 +127,17 @@ module _ (kind : ServerKind) (text : List ℕ) where
     served = root_home;
   }
 
+  -- the boot server aims at nothing, and its root is what its kind and text say
+  kinds : AreOfKind state
+  kinds = record {
+    aims = λ s i is.
+        let e = server_only s i is in
+        rw (e.0, e.1) (ap (λ (b : Bool). if b then 0 else length (targets_of kind text)) (sym (same_name-itself boot_name)));
+    ends = λ s n i is aim. absurd (subst (λ (j : ServerInfo). IsAmong n j.targets) (server_only s i is).1 aim);
+    branches = λ s n i k is union aim ek. absurd (subst (λ (j : ServerInfo). IsAmong n j.targets) (server_only s i is).1 aim);
+    roots = λ s i k is ek. ap (λ (h : Header). h.kind) (header_only i.root k ek).1 ∙ ap (λ (j : ServerInfo). (root_of j.kind j.text).kind) (sym (server_only s i is).1);
+  }
+
   -- nothing names the root
   root_unnamed : times_listed state.nodes boot_name ≡ 0
   unfolding times_listed
@@ -156,12 +167,12 @@ module _ (kind : ServerKind) (text : List ℕ) where
     rooted = λ d n is. absurd (no_entry d n is);
   }
 
-  sized : AreSized state
+  sized : AreFilled state
   sized n x i is there =
       let e = node_only n x is in
       let served : server_of state n ≡ Some info = ap (server_of state) e.0 ∙ ap (info_in state.servers) root_home ∙ root_server in
       let same : info ≡ i = cc in
-      subst (λ (j : ServerInfo). IsSized (behaviour_of j.kind) j.text x) same (rw e.1 refl)
+      subst (λ (j : ServerInfo). IsFilled j x) same (rw e.1 (refl, begun_holds kind text))
 
   -- with the ports of tasks
   module _ (tasks : List IdSets) where
@@ -191,6 +202,13 @@ module _ (kind : ServerKind) (text : List ℕ) where
     right_given t (Control s) is = absurd is
     right_given t (Start n) is = absurd is
 
+    -- which is the root of the tree
+    right_root : (t : ℕ) (r : Right) (n : Name) → IsFirst t r → IsAmong n (nodes_named r) → n ≡ boot_name
+    right_root t (Io r) n is (inl e) = sym e ∙ is.node
+    right_root t (Io r) n is (inr way) = absurd (subst (λ (ps : List Parent). IsAmong n (ways_of ps)) is.parents way)
+    right_root t (Control s) n is named = absurd is
+    right_root t (Start m) n is named = absurd is
+
     given : AreGiven w
     given = record {
       nodes = λ n x is. named_root n (node_only n x is).0;
@@ -207,7 +225,8 @@ module _ (kind : ServerKind) (text : List ℕ) where
       numbers = λ t x p at has. let seat = boot_seat 0 tasks t x at in rw seat.1 (boot_number (0 + t) seat.0 p (rw seat.1 at has));
       opened = λ t x r at has. let is = right_is t x (Io r) at has in (closed, opens_there 0 tasks fin.empty t r.open_name is.1 (rw (← zero-add t) at is.0.open_name));
       shared = λ t q x y r p at has there holds same. (right_is t x (Io r) at has).0.node ∙ sym (right_is q y (Io p) there holds).0.node;
-      written = λ t x r o k at has is asked there. absurd (true≢false (sym asked ∙ ap (λ (y : Opened). asks y.modes WRITE) (boot_open tasks r.open_name o is).3));
+      written = λ t x r o at has is asked. absurd (true≢false (sym asked ∙ ap (λ (y : Opened). asks y.modes WRITE) (boot_open tasks r.open_name o is).3));
+      held = λ t x r n at has named. inl (right_root t r n (right_is t x r at has).0 named);
     }
 
     -- the boot server stays, and with it the one node, which is its root
@@ -219,7 +238,7 @@ module _ (kind : ServerKind) (text : List ℕ) where
     }
 
     sound : Sound w
-    sound = record { coherent = record { given = given; housing = housed; seating = seated; tree = tree; tables = tables }; linked = linked; sizes = sized; settled = rest }
+    sound = record { coherent = record { given = given; housing = housed; seating = seated; tree = tree; kinds = kinds; tables = tables }; linked = linked; sizes = sized; settled = rest }
 
 pub first_sound : (m : Meaning) (tasks : List IdSets) → Begins m → Sound (first_world m tasks)
 first_sound m tasks b = let new = begun-new b.0 m b.1 in rw new.2 (sound new.0 new.1 tasks)

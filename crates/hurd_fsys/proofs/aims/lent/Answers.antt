@@ -1,5 +1,5 @@
 -- So few ids are held without memory.
-use Rattle.std.proofs.Common.{ℕ, ◌≡◌, ◌∙◌, [], ◌∷◌, if◌then◌else◌, Bool, arith, refl, sym, ap}
+use Rattle.std.proofs.Common.{ℕ, ◌∙◌, [], ◌∷◌, if◌then◌else◌, Bool, arith, ap}
 use Rattle.std.specs.Prelude.{Result, Ok}
 use Rattle.hurd_creds.specs.Access.{IdSets}
 use Rattle.hurd_creds.specs.declared.errno.Errno.{Errno}

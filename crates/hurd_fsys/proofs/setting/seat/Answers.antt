@@ -1,5 +1,5 @@
 -- One uid is never too many, and needs no memory.
-use Rattle.std.proofs.Common.{[], ◌∷◌, arith, refl}
+use Rattle.std.proofs.Common.{[], ◌∷◌, arith}
 use Rattle.std.specs.Prelude.{Err}
 use Rattle.hurd_fsys.proofs.AimsLaws.{few_are_held}
 use Rattle.hurd_fsys.proofs.setting.seat.Goals as goal

@@ -1,6 +1,6 @@
 -- What waits, then the targets, and then what can be named.
-use Rattle.std.proofs.Common.{◌⊎◌, ◌≡◌, inl, inr, refl, sym, subst}
-use Rattle.std.specs.Prelude.{IsOk, Result, Ok, Err}
+use Rattle.std.proofs.Common.{inl, inr, refl, subst}
+use Rattle.std.specs.Prelude.{IsOk, Result}
 use Rattle.std.proofs.lemmas.Result.{err_from_is_err_and}
 use Rattle.hurd_creds.specs.declared.errno.Errno.{Errno}
 use Rattle.hurd_trans_iface.specs.Nodes.{Header}

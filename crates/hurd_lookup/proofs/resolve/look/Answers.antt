@@ -1,13 +1,11 @@
 -- The walk's refusals, and its ends.
-use Rattle.std.proofs.Common.{◌≡◌, ◌∙◌, ℕ, true, ap, sym}
+use Rattle.std.proofs.Common.{◌≡◌, ◌∙◌, ℕ, ap, sym}
 use Rattle.std.proofs.lemmas.Result.{err_from_is_err_and}
 use Rattle.hurd_creds.specs.declared.mode.Mode.{Mode}
 use Rattle.hurd_creds.specs.declared.open_flags.OpenFlags.{OpenFlags}
 use Rattle.hurd_core.specs.Core.{world_of}
-use Rattle.hurd_lookup.specs.Lookup.{no_modes, request}
-use Rattle.hurd_lookup.specs.Path.{is_short}
+use Rattle.hurd_lookup.specs.Lookup.{no_modes}
 use Rattle.hurd_lookup.specs.Legs.{leg_of}
-use Rattle.hurd_lookup.specs.Resolve.{leg_request}
 use Rattle.hurd_lookup.proofs.CrossLaws.{there}
 use Rattle.hurd_lookup.proofs.LegLaws.{leg_led, leg_refused}
 use Rattle.hurd_lookup.proofs.resolve.look.Goals as goal

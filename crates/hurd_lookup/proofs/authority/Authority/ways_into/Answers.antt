@@ -1,5 +1,5 @@
 -- With the latest way left out there is room for another.
-use Rattle.std.proofs.Common.{◌≡◌, ◌∙◌, ◌<◌, ◌≤◌, List, [], ◌∷◌, length, drop, sym, subst, arith}
+use Rattle.std.proofs.Common.{◌≡◌, ◌<◌, ◌≤◌, List, [], ◌∷◌, length, drop, sym, subst, arith}
 use Rattle.std.specs.Prelude.{Some, slice_get}
 use Rattle.hurd_ports.specs.Limits.{most_parents}
 use Rattle.hurd_ports.specs.declared.parents.Parent.{Parent as Pair}
