@@ -45,7 +45,7 @@ module _ (m : Meaning) (root : Name) (ids : IdSets) (owner group : ℕ) (mode : 
   begun_bare = empty_bare (is_dir (root_of m.kind m.text).kind)
 
   begun : (targets : List Name) → Begun (begun_info m root ids targets) (begun_root m owner group mode)
-  begun targets = record { links = refl; tree = λ tree. plain_dir (root_of m.kind m.text) (tree-told m.kind m.text ∙ tree); filled = (refl, begun_holds m.kind m.text) }
+  begun targets = record { links = refl; tree = λ tree. plain_dir (root_of m.kind m.text) (tree-told m.kind m.text ∙ tree); filled = (refl, begun_holds m.kind m.text); unread = (refl, refl) }
 
 -- one that task t makes comes to a node that is there, for the owner of this header
 

@@ -78,7 +78,7 @@ module _ (t c : ℕ) (flags : GoawayFlags) where
 
   pub goaway_laws : CallLaws t (λ w. plan_goaway w t c flags) (λ w. touches_goaway w t c flags)
   goaway_laws = record {
-    piece = λ w s. answered_piece s (goaway_asks w t c flags) _ _ (λ q is. settled (DropServer q ∷ []) (tt, tt) (stands s) (goes_piece (stands s) q (goer w q is).other (λ p g. inl g)));
+    piece = λ w s. answered_piece s (goaway_asks w t c flags) _ _ (λ q is. settled (DropServer q ∷ []) (tt, tt) (tt, λ one. tt) (stands s) (goes_piece (stands s) q (goer w q is).other (λ p g. inl g)));
     same = λ S v w c' d a ours. answered_same _ _ _ _ (goaway_same S v w a ours) (λ q is. refl);
     plain = λ w. answered_plain _ _ (goaway_plain w) (λ q is. done_plain Done refl);
   }
@@ -110,7 +110,7 @@ module _ (t : ℕ) where
   control_laws asks l = record {
     piece = λ w s. answered_whole s (asks w) _ (λ q is. answered_whole s (room_asks w t 0) _ (λ x at.
         let i = l.there w s.coherent q is in
-        port_whole s t (Control q) x (roomy w x at) (own_task w t Nothing) tt (s.coherent.given.servers q i.0 i.1) (λ S ours. (l.commanded S w s.coherent ours q is, inr tt))));
+        port_whole s t (Control q) x (roomy w x at) (own_task w t Nothing) tt (s.coherent.given.servers q i.0 i.1) tt (λ S ours. (l.commanded S w s.coherent ours q is, inr tt))));
     same = λ S v w c d a ours. answered_same _ _ _ _ (l.same S v w a ours) (λ q is. answered_same _ _ _ _ (room_same S v w a ours) (λ x at. refl));
     plain = λ w. answered_plain _ _ (l.plain w) (λ q is. answered_plain _ _ (room_plain w) (λ x at. done_plain (Port x.next) refl));
   }

@@ -93,10 +93,10 @@ module _ (w : World) (c : Coherent w) (t : ℕ) (n : Named) (there : (h : Header
   pub comings_whole : {T : Part → Type 0} {v : World} → Stands w → T (TaskOf t) → T (AttrOf root) → T (EmptyOf root) → T (BodyOf root) → T (OptionsOf s) → T (AttrOf n.right.node)
       → (old : Option Name) → IsOld old → ((q : Name) → old ≡ Some q → (p : Part) → Goes w q p → T p) → AimsAtSeen t v info → Whole t T v w (comings old)
   comings_whole st task attr empty body options seat None is_old parts aims =
-      settled (Attach s n.right.node info node ∷ []) (tt, tt) st (comes_piece st s n.right.node info node newcomer begins task attr empty body seat options aims)
+      settled (Attach s n.right.node info node ∷ []) (tt, tt) (begins.unread, λ one. tt) st (comes_piece st s n.right.node info node newcomer begins task attr empty body seat options aims)
   comings_whole st task attr empty body options seat (Some q) is_old parts aims =
       let e = is_old q refl in
-      settled (DropServer q ∷ Attach s n.right.node info node ∷ []) (tt, (tt, tt)) st (piece_then (DropServer q ∷ []) (Attach s n.right.node info node ∷ []) (tt, tt) st (goes_piece st q (not_boot q e) (parts q refl))
+      settled (DropServer q ∷ Attach s n.right.node info node ∷ []) (tt, (tt, tt)) (tt, λ one. (begins.unread, λ two. tt)) st (piece_then (DropServer q ∷ []) (Attach s n.right.node info node ∷ []) (tt, tt) st (goes_piece st q (not_boot q e) (parts q refl))
       (λ d. comes_piece d s n.right.node info node (after q e) begins task attr empty body seat options aims))
 
 -- S has the ids of its right
@@ -213,9 +213,9 @@ module _ (t p : ℕ) (f : Setting) where
           by_flags : Sound v → (q : Name) → old ≡ Some q → (b z : Bool) → asks_trans f.active ORPHAN ≡ z → not (asks_trans f.active SET) ≡ b
               → Whole t Written w v (if b then [] else if z then Unseat n.right.node ∷ Settle ∷ [] else DropServer q ∷ Settle ∷ [])
           by_flags x q is true z orphan set = whole_none x
-          by_flags x q is false true orphan set = settled (Unseat n.right.node ∷ []) (tt, tt) (stands x) (unseats_piece (stands x) n.right.node (inl (inl refl)))
+          by_flags x q is false true orphan set = settled (Unseat n.right.node ∷ []) (tt, tt) (tt, λ one. tt) (stands x) (unseats_piece (stands x) n.right.node (inl (inl refl)))
           by_flags x q is false false orphan set =
-              settled (DropServer q ∷ []) (tt, tt) (stands x) (goes_piece (stands x) q (s.coherent.seating.seated n.right.node q (e ∙ is)).0 (left_here q (ap₂ (λ (b z : Bool). if b || z then None else old) set orphan ∙ is)))
+              settled (DropServer q ∷ []) (tt, tt) (tt, λ one. tt) (stands x) (goes_piece (stands x) q (s.coherent.seating.seated n.right.node q (e ∙ is)).0 (left_here q (ap₂ (λ (b z : Bool). if b || z then None else old) set orphan ∙ is)))
 
           by_seat : Sound v → (o : Option Name) → old ≡ o → Whole t Written w v (emptying f n.right.node o)
           by_seat x None is = whole_none x

@@ -94,7 +94,7 @@ module _ (n : Name) (words : List (List ℕ)) where
   pub storing_whole : {t : ℕ} {T : Part → Type 0} {w : World} → Sound w → (h : Header) → header_at w n ≡ Some h → T (AttrOf n) → ((S : ℕ → Bool) → S t ≡ true → OwnsIt S w h) → (b : Bool) → Whole t T w w (storing_if b)
   storing_whole {t} {T} {w} s h at attr owns false = whole_none s
   storing_whole {t} {T} {w} s h at attr owns true =
-      quiet (storing_if true) (λ k e. e, tt) s (of_header n (with_passive words) (λ k. (refl, refl, refl)) (λ k. refl) (stands s) attr (λ S ours. (λ k there. less S (owns S ours) k (cc (at, there)), tt)))
+      quiet (storing_if true) (λ k e. e, tt) (λ k. (refl, refl), λ c. tt) s (of_header n (with_passive words) (λ k. (refl, refl, refl)) (λ k. refl) (stands s) attr (λ S ours. (λ k there. less S (owns S ours) k (cc (at, there)), tt)))
     where
       less : (S : ℕ → Bool) → OwnsIt S w h → (k : Header) → h ≡ k → Less S w n (with_passive words k) k
       less S o k same = rw (← same) (record { kind = refl; parent = λ p e. inl e; could = λ want c. Owns o.0 o.1 o.2; owns = λ z. o })

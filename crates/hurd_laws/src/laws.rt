@@ -1,5 +1,5 @@
 //! The laws.
-ghost use Rattle.hurd_laws.specs.Laws.{ChangesTouched, Confined, ConfinedRun, GoneUnseen, Isolated, IsolatedByView, NeverWantsMemory, OthersUnseen, OwnFromView, QuietUnmoved, StaysSound};
+ghost use Rattle.hurd_laws.specs.Laws.{ChangesTouched, Confined, ConfinedRun, CountedRun, GoneUnseen, Isolated, IsolatedByView, NeverWantsMemory, OthersUnseen, OwnFromView, QuietUnmoved, StaysCounted, StaysSound};
 
 /// A step changes touched parts, its caller's own task and new things alone; what of the others doesn't stay is gone.
 pub fn changes_touched()
@@ -24,6 +24,16 @@ pub fn own_from_view()
 /// A sound world stays sound: nothing is left to take out after any call.
 pub fn stays_sound()
     ensures { StaysSound }
+{}
+
+/// Where the readers and writers of each node whose server counts them are as many as its opens that read and write, they stay so, as long as no count is at its most.
+pub fn stays_counted()
+    ensures { StaysCounted }
+{}
+
+/// The same after a run.
+pub fn counted_run()
+    ensures { CountedRun }
 {}
 
 /// No call is refused for want of memory by the written machine.

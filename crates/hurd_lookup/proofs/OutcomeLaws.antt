@@ -11,9 +11,10 @@ use Rattle.hurd_creds.specs.Bits.{asks, open_modes, READ, WRITE, EXEC}
 use Rattle.hurd_creds.proofs.NameLaws.{get_apart}
 use Rattle.hurd_trans_iface.specs.Nodes.{Node, Header, is_dir, new_file}
 use Rattle.hurd_trans_iface.proofs.Goods.{good}
+use Rattle.hurd_nodes.specs.Needs.{counts_by}
 use Rattle.hurd_nodes.specs.Shown.{info_in, tree_by}
 use Rattle.hurd_ports.specs.Tables.{Task, fresh, ways_of}
-use Rattle.hurd_ports.specs.Steps.{named}
+use Rattle.hurd_ports.specs.Steps.{named, new_right}
 use Rattle.hurd_machine.specs.World.{World, IsAmong, nodes_of, counts_at, task_at, header_at, server_at, info_at, shape_by, shape_at, leads_on, gives_text}
 use Rattle.hurd_machine.specs.Change.{Change, apply_all, opening, porting}
 use Rattle.hurd_machine.specs.Sight.{Part, AttrOf, bare, tells, Allowed, Seen, SeesBody, ToRead, ToPut}
@@ -35,7 +36,9 @@ use Rattle.hurd_lookup.specs.Lookup.{NewPort, Outcome, Opens, Makes, Retries, St
 use Rattle.hurd_lookup.proofs.WalkLaws.{PortSeen}
 use Rattle.hurd_lookup.proofs.HeldLaws.{PortHeld, OutcomeHeld}
 use Rattle.hurd_lookup.proofs.EndLaws.{MakeLeads, OutcomeShown}
-use Rattle.hurd_machine.proofs.Piece.{Whole, stands, whole_none, whole_then}
+use Rattle.hurd_machine.proofs.Counting.{AllCalm, port_calm, tree_counts}
+use Rattle.hurd_machine.proofs.OpenCounts.{opening_counted}
+use Rattle.hurd_machine.proofs.Piece.{Whole, stands, resting, whole_none, whole_then}
 
 -- an open keeps no flag that was not asked for
 
@@ -107,7 +110,7 @@ module _ (w : World) (t : ℕ) (x : Task) (is : task_at w t ≡ Some x) (flags :
       let k = seen S ours in
       opens_may S w w t x e.node e.ids e.parents modes ours (later_new S w t x x.made ours is (omega arith)) (inl k.node) (λ m way. inl (k.ways m way)) (inr k.ids) (reads S ours)))
       (rests_opening w t x is e.node e.ids e.parents modes s.settled)
-      (λ counts. inl (on (AttrOf e.node) (inr (counts, refl))))
+      (λ counts. inl (on (AttrOf e.node) (inr (counts, refl)))) (opening_counted w s.coherent t x is (fresh_next w t x is) e.node e.ids e.parents modes)
 
   pub outcome_whole : Sound w → (o : Outcome) → OutcomeHeld w flags o → ((S : ℕ → Bool) → S t ≡ true → OutcomeShown S w flags o) → Whole t (Writes o) w w (changes o)
   outcome_whole s (Starts p) held shown =
@@ -135,16 +138,14 @@ module _ (w : World) (t : ℕ) (x : Task) (is : task_at w t ≡ Some x) (flags :
       (whole_then made opened (tt, (tt, tt)) s
       (entered_whole good s t x is q f.dir l.home l.name (may_make w f.dir (Some l.name) File tt l.may) (leads_unless w s.linked f.dir l.header l.is_header l.stands) (asked_node File f n) file refl refl
       (file_hangs f.dir f.owner f.group f.mode) (inr (inl refl)) (inr (inr refl)) (λ S ours. (shown S ours).seen.0.0))
-      (λ d. record {
-        piece = opens_piece left t (named 1 x) seat n ids ways modes (stands d) (own_task w t (lookup_parts w o)) (inr (inr (fragments.later_new w t 1 x is)))
-            (λ p on. let same : on.0 ≡ q = cc (on.1, entered_home w n q file f.dir l.name) in inl (inl (rw (on.2, same) refl)))
-            (entered_below w n q file f.dir l.name s.coherent next, inr shape.0) ways_yet (λ writes. (λ h e. let same : file.header ≡ h = cc (entered_header w n q file f.dir l.name, e) in rw (← same) refl, shape.1))
-            (λ S ours.
-            let new : NewTo S w n = later_new S w t x x.made ours is (omega arith) in
-            let k = (shown S ours).seen in
-            opens_may S w left t (named 1 x) n ids ways modes ours (later_new S w t x (x.made + 1) ours is (omega arith)) (inr new) (λ m way. inl (k.2 m way)) (inr k.1) (λ read h e. absurd (new.1 (header_old s.coherent n h e))));
-        rests = rests_opening left t (named 1 x) seat n ids ways modes d.settled;
-      }))
+      (λ d. resting (porting t (named 1 x) n ids ways modes) calm (stands d) (opens_piece left t (named 1 x) seat n ids ways modes (stands d) (own_task w t (lookup_parts w o)) (inr (inr (fragments.later_new w t 1 x is)))
+      (λ p on. let same : on.0 ≡ q = cc (on.1, entered_home w n q file f.dir l.name) in inl (inl (rw (on.2, same) refl)))
+      (entered_below w n q file f.dir l.name s.coherent next, inr shape.0) ways_yet (λ writes. (λ h e. let same : file.header ≡ h = cc (entered_header w n q file f.dir l.name, e) in rw (← same) refl, shape.1))
+      (λ S ours.
+      let new : NewTo S w n = later_new S w t x x.made ours is (omega arith) in
+      let k = (shown S ours).seen in
+      opens_may S w left t (named 1 x) n ids ways modes ours (later_new S w t x (x.made + 1) ours is (omega arith)) (inr new) (λ m way. inl (k.2 m way)) (inr k.1) (λ read h e. absurd (new.1 (header_old s.coherent n h e)))))
+      (rests_opening left t (named 1 x) seat n ids ways modes d.settled)))
     where
       l : MakeLeads w q f
       l = (shown (λ k. true) refl).leads
@@ -170,12 +171,21 @@ module _ (w : World) (t : ℕ) (x : Task) (is : task_at w t ≡ Some x) (flags :
       seat : task_at left t ≡ Some (named 1 x)
       seat = entered_task w n q file f.dir l.name x is
 
-      -- the directory's server keeps a tree, and so leads nobody on
+      -- the directory's server keeps a tree, and so counts nothing
+      its_info : info_at left n ≡ Some (may_make w f.dir (Some l.name) File tt l.may).info
+      its_info =
+          let server : server_at w q ≡ Some (may_make w f.dir (Some l.name) File tt l.may).info = sym (ap (info_in w.servers) l.home) ∙ (may_make w f.dir (Some l.name) File tt l.may).is_info in
+          ap (info_in left.servers) (entered_home w n q file f.dir l.name) ∙ server
+
+      calm : AllCalm left opened
+      calm =
+          let m = may_make w f.dir (Some l.name) File tt l.may in
+          (tt, λ one. (port_calm _ t (new_right t n ids ways (named 1 x)) (inr (ap counts_by its_info ∙ tree_counts m.info.kind m.tree)), λ two. tt))
+
+      -- and leads nobody on
       shape : (leads_on (shape_at (nodes_of left) n) ≡ false) × (gives_text (shape_at (nodes_of left) n) ≡ false)
       shape =
-          let m = may_make w f.dir (Some l.name) File tt l.may in
-          let server : server_at w q ≡ Some m.info = sym (ap (info_in w.servers) l.home) ∙ m.is_info in
-          tree_shape (info_at left n) (ap tree_by (ap (info_in left.servers) (entered_home w n q file f.dir l.name) ∙ server) ∙ m.tree)
+          tree_shape (info_at left n) (ap tree_by its_info ∙ (may_make w f.dir (Some l.name) File tt l.may).tree)
 
       ways_yet : (k : Name) → IsAmong k (ways_of ways) → CanBeNamed left k
       ways_yet k way =

@@ -12,6 +12,7 @@ use Rattle.hurd_machine.specs.Plan.{Plan, answered, looks, is_refused, after_pla
 use Rattle.hurd_trans_iface.specs.Meaning.{Meaning}
 use Rattle.hurd_machine.specs.Sight.{Part, AttrOf, EmptyOf, BodyOf, OpenOf, OptionsOf, UsersOf, TaskOf, Seen, Sees, Knows, OfNode, OfSeat, OfControl, SameView}
 use Rattle.hurd_machine.specs.Sound.{Below, Coherent, Sound}
+use Rattle.hurd_machine.specs.Counted.{CanCount, Counted}
 use Rattle.hurd_machine.specs.Touched.{asked_parts, Nothing}
 use Rattle.hurd_machine.proofs.Coherence.{AllProper, right_old, home_server}
 use Rattle.hurd_machine.proofs.Frame.{IsUnnamed, Full, untouched, unseen_from}
@@ -118,6 +119,10 @@ module _ (t : ℕ) (plan : World → Plan) (touches : World → Part → Type 0)
       let q = l.piece w s in
       let left = left_stands (stands s) q.piece in
       record { coherent = left.coherent; linked = left.linked; sizes = left.sizes; settled = q.rests }
+
+  -- where no count is at its most, readers and writers stay as many as the opens that read and write
+  pub stays_counted : (w : World) → Sound w → CanCount w → Counted w → Counted (after w)
+  stays_counted w s can counted = (l.piece w s).counts can counted
 
   -- where S has its task, S sees afterwards what it saw, and what its task made
   pub confined : (S : ℕ → Bool) (w : World) → Sound w → S t ≡ true → (n : Name) → Seen S (after w) n → SeenOrNew S w n

@@ -206,14 +206,17 @@ module _ (w : World) (c : Coherent w) (s at : Name) (i : ServerInfo) (node : Nod
   given_apart n b same = root_new (subst (Below w) same b)
 
   -- and has the server that it had
-  shape_yet : (n : Name) → n ≢ i.root → shape_at (nodes_of y) n ≡ shape_at (nodes_of w) n
-  shape_yet n apart = go (home_at w n) refl
+  pub info_same : (n : Name) → n ≢ i.root → info_at y n ≡ info_at w n
+  info_same n apart = go (home_at w n) refl
     where
-      go : (o : Option Name) → home_at w n ≡ o → shape_at (nodes_of y) n ≡ shape_at (nodes_of w) n
-      go None e = ap (λ q. shape_by (info_in y.servers q)) (get_apart w.homes i.root s n apart ∙ e) ∙ sym (ap (λ q. shape_by (info_in w.servers q)) e)
-      go (Some q) e = let j = home_server c n q e in ap shape_by (info_yet n q j.0 e j.1)
+      go : (o : Option Name) → home_at w n ≡ o → info_at y n ≡ info_at w n
+      go None e = ap (info_in y.servers) (get_apart w.homes i.root s n apart ∙ e) ∙ sym (ap (info_in w.servers) e)
+      go (Some q) e = let j = home_server c n q e in info_yet n q j.0 e j.1
 
-  header_yet : (n : Name) (h : Header) → n ≢ i.root → header_at y n ≡ Some h → header_at w n ≡ Some h
+  shape_yet : (n : Name) → n ≢ i.root → shape_at (nodes_of y) n ≡ shape_at (nodes_of w) n
+  shape_yet n apart = ap shape_by (info_same n apart)
+
+  pub header_yet : (n : Name) (h : Header) → n ≢ i.root → header_at y n ≡ Some h → header_at w n ≡ Some h
   header_yet n h apart e = sym (ap header_in (get_apart w.nodes i.root node n apart)) ∙ e
 
   -- a server is the new one, or was there

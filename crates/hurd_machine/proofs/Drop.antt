@@ -66,7 +66,7 @@ module _ (w : World) (s : Name) where
     entry_other : (d n : Name) → lists_at n (body_at w d) ≡ true → is_other s w.homes n ≡ is_other s w.homes d
     entry_other d n e = ap (λ o. not (is_home s o)) (c.tree.kin d n e)
 
-    drop_left : Left w (out_server s (nodes_of w)) (is_other s w.homes)
+    pub drop_left : Left w (out_server s (nodes_of w)) (is_other s w.homes)
     drop_left = record {
       node_was = was_retained w.nodes (is_other s w.homes);
       home_was = was_retained w.homes (is_other s w.homes);

@@ -15,6 +15,7 @@ use Rattle.hurd_machine.proofs.Settle.{AreQuiet}
 use Rattle.hurd_machine.proofs.Frame.{AllWithin}
 use Rattle.hurd_machine.proofs.Links.{AreSteady, linked_steady}
 use Rattle.hurd_machine.proofs.Sizes.{KeepsNodes, did_filled}
+use Rattle.hurd_machine.proofs.Counting.{AllCalm}
 use Rattle.hurd_machine.proofs.Permits.{did_may}
 use Rattle.hurd_machine.proofs.Piece.{Whole, quiet}
 
@@ -59,12 +60,19 @@ left_piece T w c n (Some f) None body attr = (((body tt, inr (bytes_emptiness f)
 left_piece T w c n (Some f) (Some k) body attr =
     (((body tt, inr (bytes_emptiness f)), (attr tt, tt)), (bytes_proper f w c n, λ d. (λ h is. (refl, inl refl), λ e. tt)), (tt, (λ h e. e, tt)), (bytes_times f, (λ h. (refl, refl, refl), tt)))
 
+-- they count nothing
+left_calm : (w : World) (n : Name) (bytes : Option (List ℕ → List ℕ)) (size : Option ℕ) → AllCalm w (left_changes n bytes size)
+left_calm w n None None = tt
+left_calm w n None (Some k) = (λ h. (refl, refl), λ c. tt)
+left_calm w n (Some f) None = (tt, λ c. tt)
+left_calm w n (Some f) (Some k) = (tt, λ c. (λ h. (refl, refl), λ d. tt))
+
 -- what is answered to a question that keeps sizes, and what may be in a node
 pub did_whole : {R : Type 0} {t : ℕ} {T : Part → Type 0} {w : World} → Sound w → (q : Question R) → KeepsNodes q → (n : Name) (d : Did R) → asked_at q n w ≡ Ok d → ((p : Part) → OnDid n d p → T p)
     → Whole t T w w (changes_of (edits_of n (Ok d)))
 did_whole {T} {w} s q keeps n d told parts =
     let l = left_piece T w s.coherent n d.bytes d.size (λ b. parts (BodyOf n) (inl (b, refl))) (λ z. parts (AttrOf n) (inr (z, refl))) in
-    quiet (left_changes n d.bytes d.size) l.2 s (record {
+    quiet (left_changes n d.bytes d.size) l.2 (left_calm w n d.bytes d.size) s (record {
       within = l.0;
       proper = l.1;
       linked = linked_steady (left_changes n d.bytes d.size) w l.3 s.linked;

@@ -32,6 +32,8 @@ pub record Begun (i : ServerInfo) (node : Node) : Type 0 where
   pub links : node.header.links ≡ 1
   pub tree : tree_by (Some i) ≡ true → is_dir node.header.kind ≡ true
   pub filled : IsFilled i node
+  -- nobody reads or writes it yet
+  pub unread : (node.header.readers ≡ 0) × (node.header.writers ≡ 0)
 
 -- whoever has the task saw each node that the server aims at, or it is new
 abbrev pub AimsAtSeen : ℕ → World → ServerInfo → Type 0

@@ -33,7 +33,7 @@ module _ (w : World) (c : Coherent w) (h : NodeState) (keep : Name → Bool) (l 
   abbrev left : World
   left = with_nodes h w
 
-  header_was : (n : Name) (k : Header) → header_at left n ≡ Some k → (header_at w n ≡ Some k) × (keep n ≡ true)
+  pub header_was : (n : Name) (k : Header) → header_at left n ≡ Some k → (header_at w n ≡ Some k) × (keep n ≡ true)
   header_was n k e =
       let x = node_of_header (get h.nodes n) k e in
       let was = l.node_was n x.0 x.1 in
@@ -45,7 +45,7 @@ module _ (w : World) (c : Coherent w) (h : NodeState) (keep : Name → Bool) (l 
       let was = l.node_was d x.0 x.1 in
       (ap (λ o. lists_at m (body_in o)) was.0 ∙ x.2, was.1)
 
-  info_yet : (n q : Name) → home_at w n ≡ Some q → keep n ≡ true → info_at left n ≡ info_at w n
+  pub info_yet : (n q : Name) → home_at w n ≡ Some q → keep n ≡ true → info_at left n ≡ info_at w n
   info_yet n q e k = ap (info_in h.servers) (l.home_yet n k ∙ e) ∙ l.server_yet n q e k ∙ sym (ap (info_in w.servers) e)
 
   root_yet : (n q : Name) → home_at w n ≡ Some q → keep n ≡ true → is_server_root left n ≡ is_server_root w n

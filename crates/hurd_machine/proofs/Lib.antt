@@ -41,6 +41,8 @@ pub mod Attrs
 pub mod Retexting
 pub mod Makes
 pub mod Shapes
+pub mod Counting
+pub mod OpenCounts
 pub mod Nameless
 pub mod Left
 pub mod Linking

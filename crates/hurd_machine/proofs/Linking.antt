@@ -120,7 +120,7 @@ module _ (d : Name) (name : List ℕ) (n : Name) where
       → ((S : ℕ → Bool) → S t ≡ true → Seen S w n) → Whole t T w w linking
   link_whole good {t} {T} {w} s m up body empty attr seen =
       let listing = listing_of m.node.header m.node.body (s.coherent.tree.shapes d m.node m.is_node) m.dir in
-      quiet linking (tt, (linked_entered, tt)) s (record {
+      quiet linking (tt, (linked_entered, tt)) (tt, λ one. (λ h. (refl, refl), λ two. tt)) s (record {
         within = ((body, inl empty), (attr, tt));
         proper = link_proper w s.coherent m;
         linked = again_linked w d n name linked m.node listing.0 m.file.header m.is_node listing.1 (ap header_in m.is_file) m.no_dir up (λ h. (refl, refl)) refl s.linked;

@@ -35,7 +35,7 @@ use Rattle.hurd_machine.proofs.Sizes.{filled_made, filled_entry}
 use Rattle.hurd_machine.proofs.Listed.{times_edited}
 use Rattle.hurd_machine.proofs.Links.{IsHung, HangsIn, Loosens, KeepsLinked, loosened, loose_any, tied, leads_grown, named_grown, times_new, times_entered, lists_entered, listing_of, relisted_entry, hung_as, lists_alike, times_apart}
 use Rattle.hurd_machine.proofs.Opens.{own_task, fresh_new, fresh_next}
-use Rattle.hurd_machine.proofs.Piece.{Whole}
+use Rattle.hurd_machine.proofs.Piece.{Whole, stands, resting}
 use Rattle.hurd_nodes.proofs.PartLaws.{same_bool}
 use Rattle.std.proofs.lemmas.Slice.Eq.{bytes_eq-Decides}
 use Rattle.hurd_machine.proofs.Stays.{root_why}
@@ -274,21 +274,19 @@ module _ (w : World) (n s : Name) (node : Node) (d : Name) (name : List ℕ) whe
 pub entered_whole : ((k : ServerKind) → GoodBehaviour (behaviour_of k)) → {T : Part → Type 0} {w : World} → Sound w → (t : ℕ) (x : Task) → task_at w t ≡ Some x → (s d : Name) → home_at w d ≡ Some s → {kind : Kind} (name : List ℕ) → MayMake w d (Some name) kind
     → LeadsUp (nodes_of w) d → (new : NewNode) (node : Node) → made_node d (Some name) new ≡ Some node → is_entered node.header ≡ true → HangsIn d node → T (BodyOf d) → T (EmptyOf d) → ((S : ℕ → Bool) → S t ≡ true → Seen S w d)
     → Whole t (Full w t T) w w (entered (fresh t x) s node d name)
-entered_whole good {T} {w} st t x is s d home {kind} name m up new node made_is is_in hangs body empty seen = record {
-  piece = record {
-    within = ((own_task w t T, inr (inr still), inr (inr still), inr (inr still)), ((inl body, inl (inl empty)), tt));
-    proper = entered_proper w n s node d name c next home (ap tree_by m.is_info ∙ m.tree) (absent w d name kind m) ready;
-    linked = entered_linked w n s node d name c next m up ready.empty hangs st.linked;
-    sized =
-        filled_entry good (made w n s node d name) d name n (ap (λ o. tree_by (info_in w.servers o)) (get_apart w.homes n s d (next_apart w n d next (home_old c d s home))) ∙ (ap tree_by m.is_info ∙ m.tree))
-        (filled_made w n s node (λ i e. let same : m.info ≡ i = cc (is_server, e) in rw (← same) (made_fit d name new node made_is good m.info m.tree)) st.sizes);
-    may = λ S ours. (
-      (ours, inl (OfNode d (seen S ours) home), λ p e. subst (SeenOrNew S w) (sym (made_parent d name new node made_is p e)) (inl (seen S ours))),
-      (entry_may S w (made w n s node d name) d name n (inr (later_new S w t x x.made ours is (omega arith))), tt),
-    );
-  };
-  rests = rests_quiet (entered n s node d name) w ((is_in, no_home c n still, m.info, is_server), (tt, tt)) st.settled;
-}
+entered_whole good {T} {w} st t x is s d home {kind} name m up new node made_is is_in hangs body empty seen =
+    resting (entered n s node d name) (tt, λ one. (tt, λ two. tt)) (stands st) (record {
+      within = ((own_task w t T, inr (inr still), inr (inr still), inr (inr still)), ((inl body, inl (inl empty)), tt));
+      proper = entered_proper w n s node d name c next home (ap tree_by m.is_info ∙ m.tree) (absent w d name kind m) ready;
+      linked = entered_linked w n s node d name c next m up ready.empty hangs st.linked;
+      sized =
+          filled_entry good (made w n s node d name) d name n (ap (λ o. tree_by (info_in w.servers o)) (get_apart w.homes n s d (next_apart w n d next (home_old c d s home))) ∙ (ap tree_by m.is_info ∙ m.tree))
+          (filled_made w n s node (λ i e. let same : m.info ≡ i = cc (is_server, e) in rw (← same) (made_fit d name new node made_is good m.info m.tree)) st.sizes);
+      may = λ S ours. (
+        (ours, inl (OfNode d (seen S ours) home), λ p e. subst (SeenOrNew S w) (sym (made_parent d name new node made_is p e)) (inl (seen S ours))),
+        (entry_may S w (made w n s node d name) d name n (inr (later_new S w t x x.made ours is (omega arith))), tt),
+      );
+    }) (rests_quiet (entered n s node d name) w ((is_in, no_home c n still, m.info, is_server), (tt, tt)) st.settled)
   where
     c : Coherent w
     c = st.coherent

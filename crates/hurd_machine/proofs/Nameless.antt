@@ -6,6 +6,7 @@ use Rattle.hurd_creds.specs.Access.{IdSets}
 use Rattle.hurd_creds.proofs.NameLaws.{get_here, get_apart}
 use Rattle.hurd_trans_iface.specs.Nodes.{Node, IsShaped, is_dir, is_entered_at}
 use Rattle.hurd_trans_iface.specs.Meaning.{keeps_tree}
+use Rattle.hurd_nodes.specs.Needs.{counts_by}
 use Rattle.hurd_nodes.specs.Shown.{ServerInfo, info_in, tree_by}
 use Rattle.hurd_ports.specs.declared.parents.Parent.{Parent as Pair}
 use Rattle.hurd_ports.specs.declared.table.IoRight.{IoRight}
@@ -33,7 +34,8 @@ use Rattle.hurd_machine.proofs.Confine.{NewTo, SeenOrNew}
 use Rattle.hurd_machine.proofs.Permits as permits
 use Rattle.hurd_machine.proofs.Permits.{opens_may}
 use Rattle.hurd_machine.proofs.Opens.{own_task, fresh_new, fresh_next, later_new, opens_piece}
-use Rattle.hurd_machine.proofs.Piece.{Whole, stands, piece_then}
+use Rattle.hurd_machine.proofs.Counting.{AllCalm, port_calm, tree_counts}
+use Rattle.hurd_machine.proofs.Piece.{Whole, stands, resting, piece_then}
 
 -- a node that is no directory, has no parent and no links
 pub record IsNameless (node : Node) : Type 0 where
@@ -139,20 +141,22 @@ module _ (w : World) (t : ℕ) (x : Task) (is : task_at w t ≡ Some x) (s : Nam
   -- a task of S may make it where S saw the server, and open it by ids that S holds
   pub nameless_whole : {T : Part → Type 0} → Sound w → keeps_tree i.kind ≡ true → IsFilled i node → ((m : Name) → IsAmong m (ways_of parents) → CanBeNamed w m) → T (UsersOf s)
       → ((S : ℕ → Bool) → S t ≡ true → Taken S w ids × ((m : Name) → IsAmong m (ways_of parents) → SeenOrNew S w m) × Sees S w (OptionsOf s)) → Whole t (Full w t T) w w (nameless t x s node ids parents modes)
-  nameless_whole {T} st tree fit up users sees = record {
-    piece = piece_then (MakeNode n s node ∷ []) file_opened (tt, tt) (stands st) (record {
-      within = ((own, inr (inr new), inr (inr new), inr (inr new)), tt);
-      proper = ((next, record { info = i; is_server = server; tree = tree; shape = lone.shape; empty = lone.empty; parent = λ p e. absurd (cc (lone.alone, e)) }), λ one. tt);
-      linked = made_linked c st.linked;
-      sized = filled_made w n s node (λ j e. let same : i ≡ j = cc (server, e) in rw (← same) fit) st.sizes;
-      may = λ S ours. ((ours, inl (sees S ours).2, λ p e. absurd (cc (lone.alone, e))), tt);
-    }) (λ d. opens_piece made t (named 1 x) seat n ids parents modes d own (inr (inr (later_new w t 1 x is))) (λ p on. let same : on.0 ≡ s = cc (on.1, home) in inl (rw (on.2, same) users))
-        (named_below w c n next 1 n refl (omega arith), inr shape.0) ways_yet (λ writes. (λ h e. let same : node.header ≡ h = cc (header, e) in rw (← same) lone.file, shape.1))
-        (λ S ours. opens_may S w made t (named 1 x) n ids parents modes ours (permits.later_new S w t x (x.made + 1) ours is (omega arith)) (inr (fresh_yet S ours)) (sees S ours).1 (inr (sees S ours).0)
-        (λ read h e. absurd ((fresh_yet S ours).1 (header_old c n h e)))));
-    rests = nameless_rests c st.settled;
-  }
+  nameless_whole {T} st tree fit up users sees =
+      resting (nameless t x s node ids parents modes) calm (stands st) (piece_then (MakeNode n s node ∷ []) file_opened (tt, tt) (stands st) (record {
+        within = ((own, inr (inr new), inr (inr new), inr (inr new)), tt);
+        proper = ((next, record { info = i; is_server = server; tree = tree; shape = lone.shape; empty = lone.empty; parent = λ p e. absurd (cc (lone.alone, e)) }), λ one. tt);
+        linked = made_linked c st.linked;
+        sized = filled_made w n s node (λ j e. let same : i ≡ j = cc (server, e) in rw (← same) fit) st.sizes;
+        may = λ S ours. ((ours, inl (sees S ours).2, λ p e. absurd (cc (lone.alone, e))), tt);
+      }) (λ d. opens_piece made t (named 1 x) seat n ids parents modes d own (inr (inr (later_new w t 1 x is))) (λ p on. let same : on.0 ≡ s = cc (on.1, home) in inl (rw (on.2, same) users))
+      (named_below w c n next 1 n refl (omega arith), inr shape.0) ways_yet (λ writes. (λ h e. let same : node.header ≡ h = cc (header, e) in rw (← same) lone.file, shape.1))
+      (λ S ours. opens_may S w made t (named 1 x) n ids parents modes ours (permits.later_new S w t x (x.made + 1) ours is (omega arith)) (inr (fresh_yet S ours)) (sees S ours).1 (inr (sees S ours).0)
+      (λ read h e. absurd ((fresh_yet S ours).1 (header_old c n h e)))))) (nameless_rests c st.settled)
     where
+      -- its server counts nothing
+      calm : AllCalm w (nameless t x s node ids parents modes)
+      calm = (tt, λ one. (tt, λ two. (port_calm _ t right (inr (ap counts_by (ap (info_in made.servers) home ∙ server) ∙ tree_counts i.kind tree)), λ three. tt)))
+
       c : Coherent w
       c = st.coherent
 

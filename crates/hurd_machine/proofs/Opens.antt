@@ -24,7 +24,10 @@ use Rattle.hurd_machine.proofs.Coherence.{IsNext, CanBeNamed, FineRight, AllProp
 use Rattle.hurd_machine.proofs.Rights.{port_counts, port_table, without_counts, without_rights, without_table}
 use Rattle.hurd_machine.proofs.Frame.{Covers, Within, AllWithin, Full, not_on, not_named}
 use Rattle.hurd_machine.proofs.Several.{AllMay}
-use Rattle.hurd_machine.proofs.Piece.{Stands, Piece, Whole, stands, settled, quiet, of_ports, of_header, piece_then}
+use Rattle.hurd_machine.proofs.Piece.{Stands, Piece, Whole, stands, settled_as, quiet, of_ports, of_header, piece_then}
+use Rattle.hurd_machine.specs.Counted.{CanCount, Counted}
+use Rattle.hurd_machine.proofs.Counting.{KeepsModes}
+use Rattle.hurd_machine.proofs.OpenCounts.{dropping_counted}
 use Rattle.std.specs.Prelude.{if◌then◌else◌}
 use Rattle.std.specs.Option.{option_map}
 use Rattle.hurd_ports.specs.declared.table.IoRight.{IoRight}
@@ -155,13 +158,14 @@ module _ (n : Name) (f : Header → Header) (counts : Counts f) where
 -- a node is opened, and that is counted
 module _ {t : ℕ} {T : Part → Type 0} {v w : World} (x : Task) (n : Name) (ids : IdSets) (parents : List Pair) (modes : OpenFlags) where
   pub opening_whole : Stands w → Piece t T v w (porting t x n ids parents modes) → AtRest (apply_all (porting t x n ids parents modes) w) → (counts_at w n ≡ true → T (AttrOf n))
-      → Whole t T v w (opening w t x n ids parents modes)
-  opening_whole s piece rests attr =
+      → (CanCount v → Counted w → Counted (apply_all (opening w t x n ids parents modes) w)) → Whole t T v w (opening w t x n ids parents modes)
+  opening_whole s piece rests attr counting =
       let ports = porting t x n ids parents modes in
       let counts = counted w n (opened_by modes) in
       record {
         piece = piece_then ports counts (tt, (tt, tt)) s piece (λ c. counted_piece n (opened_by modes) (opened_counts modes) (counts_at w n) c attr);
         rests = subst AtRest (sym (apply_all-append ports counts w)) (counted_rests n (opened_by modes) (opened_counts modes) (counts_at w n) (apply_all ports w) rests);
+        counts = counting;
       }
 
 -- a port goes
@@ -208,9 +212,9 @@ drop_rights w (Control s) q on = on
 drop_rights w (Start n) q on = on
 
 pub drops_whole : {T : Part → Type 0} {v w : World} → Stands w → (t p : ℕ) (x : Task) (r : Right) → task_at w t ≡ Some x → right_in p x.ports ≡ Some r → T (TaskOf t) → ((q : Part) → OnDrop w r q → T q) → Whole t T v w (dropping w t p r)
-drops_whole {T} {v} {w} s t p x r is under task parts = settled (given ++ closed) exact s (piece_then given closed (tt, tt) s
+drops_whole {T} {v} {w} s t p x r is under task parts = settled_as (given ++ closed) exact s (piece_then given closed (tt, tt) s
     (of_ports given (tt, tt) s (drops_within T w t p x r is under task (λ q on. parts q (drop_rights w r q on)), tt) ((λ z. omega arith, x, is, without_table w s.coherent t p x is), λ d. tt) (λ S ours. ((ours, λ a at. (λ q h. inl (without_rights p a q h), inr (record { ids = inl refl; rights = λ q h. inl (without_rights p a q h) }))), tt)))
-    (λ c. closing_piece w (closes w r) c (closes_attr T w r parts)))
+    (λ c. closing_piece w (closes w r) c (closes_attr T w r parts))) (λ can counted. dropping_counted w s.coherent t p x r is under counted)
   where
     given : List Change
     given = EditTask t (without_port p) ∷ []
@@ -244,14 +248,18 @@ dropping_same a t p (Start n) held = refl
 -- an open changes, which then is for no more than before
 
 module _ {t : ℕ} {T : Part → Type 0} {v w : World} (s : Sound w) (o : Name) (part : T (OpenOf o)) where
-  opened_whole : (f : Opened → Opened) → ((z : Opened) → asks (f z).modes WRITE ≡ true → asks z.modes WRITE ≡ true) → TellsNoMore f → Whole t T v w (EditOpen o f ∷ [])
-  opened_whole f writes reads = quiet (EditOpen o f ∷ []) (tt, tt) s (of_ports (EditOpen o f ∷ []) (tt, tt) (stands s) (part, tt) (writes, λ c. tt) (λ S ours. (reads, tt)))
+  opened_whole : (f : Opened → Opened) → ((z : Opened) → asks (f z).modes WRITE ≡ true → asks z.modes WRITE ≡ true) → TellsNoMore f → KeepsModes f → Whole t T v w (EditOpen o f ∷ [])
+  opened_whole f writes reads keeps = quiet (EditOpen o f ∷ []) (tt, tt) (keeps, λ c. tt) s (of_ports (EditOpen o f ∷ []) (tt, tt) (stands s) (part, tt) (writes, λ c. tt) (λ S ours. (reads, tt)))
 
   -- its cursor moves
   pub cursor_whole : (k : ℕ) → Whole t T v w (EditOpen o (at_cursor k) ∷ [])
-  cursor_whole k = opened_whole (at_cursor k) (λ z h. h) (λ counts z h. h)
+  cursor_whole k = opened_whole (at_cursor k) (λ z h. h) (λ counts z h. h) (λ mode end z. refl)
 
   -- it gets APPEND, or loses it
   pub append_whole : (append : Bool) → Whole t T v w (EditOpen o (appending append) ∷ [])
   append_whole append = opened_whole (appending append) (λ z h. sym (append_write append z.modes) ∙ h)
       (λ counts z h. sym (ap₂ (λ (r w : Bool). r || (counts && w)) (append_read append z.modes) (append_write append z.modes)) ∙ h)
+      (λ mode end z. elim end [
+        | inl e ↦ subst (λ (m : ℕ). asks (appending append z).modes m ≡ asks z.modes m) (sym e) (append_read append z.modes)
+        | inr e ↦ subst (λ (m : ℕ). asks (appending append z).modes m ≡ asks z.modes m) (sym e) (append_write append z.modes)
+      ])

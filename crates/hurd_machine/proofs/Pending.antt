@@ -13,6 +13,7 @@ use Rattle.hurd_machine.specs.Change.{Attach, EditTask, pending}
 use Rattle.hurd_machine.proofs.Tasks.{edit_here}
 use Rattle.hurd_machine.proofs.Coherence.{Comes}
 use Rattle.hurd_machine.proofs.Rights.{IsGivenStart, pending_counts, pending_rights, pending_table}
+use Rattle.hurd_machine.proofs.Counting.{pending_calm}
 use Rattle.hurd_machine.proofs.Going.{AimsAtSeen, Begun, comes_piece}
 use Rattle.hurd_machine.proofs.Frame.{AllWithin}
 use Rattle.hurd_machine.proofs.Confine.{SeenOrNew}
@@ -54,12 +55,12 @@ module _ {T : Part → Type 0} {v w : World} (s : Stands w) (t : ℕ) (p : Optio
       )
 
   pub pends_whole : Whole t T v w (pending t p)
-  pends_whole = settled (EditTask t (with_pending p) ∷ []) (tt, tt) s pends_piece
+  pends_whole = settled (EditTask t (with_pending p) ∷ []) (tt, tt) (pending_calm w t p, λ c. tt) s pends_piece
 
 -- a server comes, whose root is like one that begins, for the task that was to start it, which then is to start nothing any more
 pub starts_whole : {T : Part → Type 0} {w : World} → Stands w → (s at : Name) (i : ServerInfo) (node : Node) → Comes w s at i node → Begun i node
     → T (TaskOf s.task.0) → T (AttrOf i.root) → T (EmptyOf i.root) → T (BodyOf i.root) → T (AttrOf at) → T (OptionsOf s) → AimsAtSeen s.task.0 w i → Whole s.task.0 T w w (Attach s at i node ∷ pending s.task.0 None)
 starts_whole st s at i node p b task attr empty body seat options aims =
-    settled (Attach s at i node ∷ EditTask s.task.0 (with_pending None) ∷ []) (tt, (tt, tt)) st
+    settled (Attach s at i node ∷ EditTask s.task.0 (with_pending None) ∷ []) (tt, (tt, tt)) (b.unread, λ c. (pending_calm _ s.task.0 None, λ d. tt)) st
     (piece_then (Attach s at i node ∷ []) (EditTask s.task.0 (with_pending None) ∷ []) (tt, tt) st (comes_piece st s at i node p b task attr empty body seat options aims)
     (λ d. pends_piece d s.task.0 None (named 2 p.next.seat) (edit_here s.task.0 (named 2) _ p.next.seat p.next.is_task) task tt (λ S ours. tt)))

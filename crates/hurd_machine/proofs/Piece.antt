@@ -6,6 +6,8 @@ use Rattle.hurd_machine.specs.World.{World, nodes_of}
 use Rattle.hurd_machine.specs.Sight.{Part, AttrOf}
 use Rattle.hurd_machine.specs.Change.{Change, EditHeader, Settle, apply_all}
 use Rattle.hurd_machine.specs.Sound.{Coherent, AreFilled, Linked, AtRest, Sound}
+use Rattle.hurd_machine.specs.Counted.{CanCount, Counted}
+use Rattle.hurd_machine.proofs.Counting.{AllCalm, counted_all, counted_settle}
 use Rattle.hurd_machine.proofs.Coherence.{AllProper}
 use Rattle.hurd_machine.proofs.Keeping.{apply_all-append, coherent_all, proper_append}
 use Rattle.hurd_machine.proofs.Settle.{AreQuiet, rests_quiet, settle_settled}
@@ -33,10 +35,11 @@ pub record Piece (t : ℕ) (T : Part → Type 0) (v w : World) (cs : List Change
   pub sized : AreFilled (nodes_of (apply_all cs w))
   pub may : (S : ℕ → Bool) → S t ≡ true → AllMay S v w cs
 
--- the last ones: from the world that they leave nothing is to be taken out
+-- the last ones: from the world that they leave nothing is to be taken out, and readers and writers are counted there as opens are, if they were, and could be
 pub record Whole (t : ℕ) (T : Part → Type 0) (v w : World) (cs : List Change) : Type 0 where
   pub piece : Piece t T v w cs
   pub rests : AtRest (apply_all cs w)
+  pub counts : CanCount v → Counted w → Counted (apply_all cs w)
 
 module _ {t : ℕ} {T : Part → Type 0} {v w : World} where
   pub left_stands : {cs : List Change} → Stands w → Piece t T v w cs → Stands (apply_all cs w)
@@ -56,7 +59,11 @@ module _ {t : ℕ} {T : Part → Type 0} {v w : World} where
 
   -- none
   pub whole_none : Sound w → Whole t T v w []
-  whole_none s = record { piece = record { within = tt; proper = tt; linked = s.linked; sized = s.sizes; may = λ S ours. tt }; rests = s.settled }
+  whole_none s = record { piece = record { within = tt; proper = tt; linked = s.linked; sized = s.sizes; may = λ S ours. tt }; rests = s.settled; counts = λ can counted. counted }
+
+  -- changes that count nothing
+  pub resting : (cs : List Change) → AllCalm w cs → Stands w → Piece t T v w cs → AtRest (apply_all cs w) → Whole t T v w cs
+  resting cs calm s p rests = record { piece = p; rests = rests; counts = λ can counted. counted_all cs w s.coherent p.proper calm counted }
 
   -- also where nothing is to be taken out between them
   pub whole_then : (cs ds : List Change) → AllExact cs → Sound w → Whole t T v w cs → (Sound (apply_all cs w) → Whole t T v (apply_all cs w) ds) → Whole t T v w (cs ++ ds)
@@ -65,11 +72,12 @@ module _ {t : ℕ} {T : Part → Type 0} {v w : World} where
       record {
         piece = piece_then cs ds exact (stands s) p.piece (λ x. (then (sound x)).piece);
         rests = subst AtRest (sym (apply_all-append cs ds w)) (then (sound (left_stands (stands s) p.piece))).rests;
+        counts = λ can counted. subst Counted (sym (apply_all-append cs ds w)) ((then (sound (left_stands (stands s) p.piece))).counts can (p.counts can counted));
       }
 
   -- changes after which the world settles
-  pub settled : (cs : List Change) → AllExact cs → Stands w → Piece t T v w cs → Whole t T v w (cs ++ Settle ∷ [])
-  settled cs exact s p = record {
+  pub settled_as : (cs : List Change) → AllExact cs → Stands w → Piece t T v w cs → (CanCount v → Counted w → Counted (apply_all cs w)) → Whole t T v w (cs ++ Settle ∷ [])
+  settled_as cs exact s p counts = record {
     piece = piece_then cs (Settle ∷ []) exact s p (λ x. record {
       within = (tt, tt);
       proper = (x.linked, λ one. tt);
@@ -78,11 +86,16 @@ module _ {t : ℕ} {T : Part → Type 0} {v w : World} where
       may = λ S ours. tt;
     });
     rests = subst AtRest (sym (apply_all-append cs (Settle ∷ []) w)) (settle_settled (apply_all cs w));
+    counts = λ can counted. let left = left_stands s p in subst Counted (sym (apply_all-append cs (Settle ∷ []) w)) (counted_settle (apply_all cs w) left.coherent left.linked (counts can counted));
   }
 
+  -- those that count nothing
+  pub settled : (cs : List Change) → AllExact cs → AllCalm w cs → Stands w → Piece t T v w cs → Whole t T v w (cs ++ Settle ∷ [])
+  settled cs exact calm s p = settled_as cs exact s p (λ can counted. counted_all cs w s.coherent p.proper calm counted)
+
   -- changes by which nothing comes to be taken out
-  pub quiet : (cs : List Change) → AreQuiet w cs → Sound w → Piece t T v w cs → Whole t T v w cs
-  quiet cs calm s p = record { piece = p; rests = rests_quiet cs w calm s.settled }
+  pub quiet : (cs : List Change) → AreQuiet w cs → AllCalm w cs → Sound w → Piece t T v w cs → Whole t T v w cs
+  quiet cs still calm s p = resting cs calm (stands s) p (rests_quiet cs w still s.settled)
 
   -- changes of ports alone
   pub of_ports : (cs : List Change) → AreOfPorts cs → Stands w → AllWithin T w cs → AllProper w cs → ((S : ℕ → Bool) → S t ≡ true → AllMay S v w cs) → Piece t T v w cs

@@ -27,6 +27,7 @@ use Rattle.hurd_machine.proofs.Settle.{AreQuiet}
 use Rattle.hurd_machine.proofs.Sizes.{KeepsFilled}
 use Rattle.hurd_machine.proofs.Links.{AreSteady, linked_steady}
 use Rattle.hurd_machine.proofs.Several.{AllMay}
+use Rattle.hurd_machine.proofs.Counting.{AllCalm}
 use Rattle.hurd_machine.proofs.Permits.{size_may}
 use Rattle.hurd_machine.proofs.Piece.{Whole, whole_none, quiet}
 use Rattle.hurd_machine.proofs.Holders.{any_among, any_of}
@@ -118,6 +119,11 @@ module _ (k : ℕ) where
   sized_apart [] m n out = refl
   sized_apart (q ∷ ns) m n out = sized_apart ns (edit q sized m) n (λ i. out (inr i)) ∙ edit_apart m q sized n (λ e. out (inl (sym e)))
 
+  -- they count nothing
+  sizes_calm : (ns : List Name) (w : World) → AllCalm w (sizes ns)
+  sizes_calm [] w = tt
+  sizes_calm (n ∷ ns) w = (λ h. (refl, refl), λ c. sizes_calm ns (record w { nodes = edit n sized w.nodes }))
+
   -- they write headers alone, may be made, take nothing away, and leave how nodes hang
   sizes_piece : (T : Part → Type 0) (ns : List Name) (w : World) → ((n : Name) → IsAmong n ns → T (AttrOf n))
       → AllWithin T w (sizes ns) × AllProper w (sizes ns) × AreQuiet w (sizes ns) × AreSteady (sizes ns) × ((S : ℕ → Bool) (v : World) → AllMay S v w (sizes ns))
@@ -179,7 +185,7 @@ module _ (w : World) (s : Name) (i : ServerInfo) where
       let k : ℕ = size_of i.kind text in
       let set : World = record w { servers = edit s (with_text text) w.servers } in
       let l = sizes_piece k T own set (λ n among. subst (λ m. T (AttrOf m)) (sym (root_alone st.coherent is text keeps n (own_home s n w.homes among))) attr) in
-      quiet (retexting w s i (Some text)) (tt, l.2) st (record {
+      quiet (retexting w s i (Some text)) (tt, l.2) (tt, λ c. sizes_calm k own set) st (record {
         within = (options, l.0);
         proper = (fits, λ one. l.1);
         linked = linked_steady (retexting w s i (Some text)) w (tt, l.3) st.linked;

@@ -4,7 +4,8 @@ use Rattle.hurd_creds.specs.declared.name.Name.{Name}
 use Rattle.hurd_creds.specs.Access.{IdSets}
 use Rattle.hurd_ports.specs.declared.table.PendingStart.{PendingStart}
 use Rattle.hurd_ports.specs.declared.table.Right.{Right}
-use Rattle.hurd_ports.specs.declared.table.Right.TheVariants.{Start}
+use Rattle.hurd_ports.specs.declared.table.IoRight.{IoRight}
+use Rattle.hurd_ports.specs.declared.table.Right.TheVariants.{Io, Start}
 use Rattle.hurd_ports.specs.declared.table.Port.{Port}
 use Rattle.hurd_ports.specs.Tables.{Task, rights_of, right_in, start_of}
 use Rattle.hurd_ports.specs.Steps.{with_ids, with_pending, with_port, without_port, ports_without, received}
@@ -192,6 +193,12 @@ ids_table w c t ids x is = record { new = None; fine = tt; rights = λ r h. inl 
 
 -- another thing to start, or nothing: that right comes in the place of the one that was
 
+-- which is no right to use a node
+pub no_start : (p : Option PendingStart) (r : IoRight) → IsAmong (Io r) (start_of p) → ⊥
+no_start None r i = absurd i
+no_start (Some s) r (inl e) = absurd (cc (e))
+no_start (Some s) r (inr out) = absurd out
+
 pub pending_rights : (p : Option PendingStart) (x : Task) (r : Right) → IsAmong r (rights_of (with_pending p x)) → IsAmong r (rights_of x) ⊎ IsAmong r (start_of p)
 pending_rights p x r h = was (places r (with_pending p x) h)
   where
@@ -211,6 +218,15 @@ pending_counts T out p x =
     let now = none_started T out p in
     let was = none_started T out x.pending in
     omega arith
+
+-- its rights to use nodes stay
+pub pending_keeps : (p : Option PendingStart) (x : Task) (r : IoRight) → IsAmong (Io r) (rights_of x) → IsAmong (Io r) (rights_of (with_pending p x))
+pending_keeps p x r h = placed (Io r) (with_pending p x) (yet (places (Io r) x h))
+  where
+    yet : Place (Io r) x → Place (Io r) (with_pending p x)
+    yet (Starts i) = absurd (no_start x.pending r i)
+    yet (OfPort i) = OfPort i
+    yet (Sent i) = Sent i
 
 -- the node of what is to start may be named
 abbrev pub IsGivenStart : World → Option PendingStart → Type 0

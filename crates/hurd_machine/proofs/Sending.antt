@@ -10,6 +10,7 @@ use Rattle.hurd_machine.specs.Touched.{OnRight}
 use Rattle.hurd_machine.specs.Change.{EditTask, Send}
 use Rattle.hurd_machine.specs.Sound.{Sound}
 use Rattle.hurd_machine.proofs.Rights.{received_rights, received_keeps, received_counts, received_made, received_ids, received_table}
+use Rattle.hurd_machine.proofs.Counting.{known_right, received_calm}
 use Rattle.hurd_machine.proofs.Opens.{covers}
 use Rattle.hurd_machine.proofs.Sharing.{fine_right, held_may, ids_held}
 use Rattle.hurd_machine.proofs.Piece.{Whole, stands, quiet, of_ports}
@@ -28,13 +29,13 @@ pub sends_whole : {T : Part → Type 0} {w : World} → Sound w → (r : Right) 
     → ((S : ℕ → Bool) → S t ≡ true → Holds S w r) → Whole t T w w (Send r q ∷ [])
 sends_whole {T} {w} s r q t x is here below task parts held =
     let y = task_there w q below in
-    quiet (Send r q ∷ []) (tt, tt) s (of_ports (Send r q ∷ []) (tt, tt) (stands s) ((task, covers T w r parts), tt) ((y.0, y.1, fine_right w s.coherent t x r is here), λ d. tt)
+    quiet (Send r q ∷ []) (tt, tt) (known_right w t x r is here, λ c. tt) s (of_ports (Send r q ∷ []) (tt, tt) (stands s) ((task, covers T w r parts), tt) ((y.0, y.1, fine_right w s.coherent t x r is here), λ d. tt)
     (λ S ours. let h = held S ours in ((held_may S w r h, inr (ids_held S w r h)), tt)))
 
 -- the first of the inbox becomes a port
 pub receives_whole : {T : Part → Type 0} {w : World} → Sound w → (t : ℕ) (x : Task) → task_at w t ≡ Some x → T (TaskOf t) → Whole t T w w (EditTask t received ∷ [])
 receives_whole {T} {w} s t x is task =
-    quiet (EditTask t received ∷ []) (received_keeps, tt) s (of_ports (EditTask t received ∷ []) (tt, tt) (stands s)
+    quiet (EditTask t received ∷ []) (received_keeps, tt) (received_calm w t, λ c. tt) s (of_ports (EditTask t received ∷ []) (tt, tt) (stands s)
     ((task, λ z at. record { opens = λ o out. received_counts (names_open o) z; users = λ q out. received_counts (is_on w q) z }), tt)
     ((λ z. let e = received_made z in omega arith, x, is, received_table w s.coherent t x is), λ d. tt)
     (λ S ours. ((ours, λ a at. (λ r h. inl (received_rights a r h), inr (record { ids = inl (received_ids a); rights = λ r h. inl (received_rights a r h) }))), tt)))

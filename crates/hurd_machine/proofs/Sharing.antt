@@ -13,6 +13,7 @@ use Rattle.hurd_machine.specs.Touched.{OnRight}
 use Rattle.hurd_machine.specs.Change.{EditTask}
 use Rattle.hurd_machine.specs.Sound.{Coherent, Sound}
 use Rattle.hurd_machine.proofs.Coherence.{FineRight}
+use Rattle.hurd_machine.proofs.Counting.{IsKnown, has_right, port_calm}
 use Rattle.hurd_machine.proofs.Rights.{port_rights, port_keeps, port_counts, port_table}
 use Rattle.hurd_machine.proofs.Frame.{Covers, Within, not_on, not_named}
 use Rattle.hurd_machine.proofs.Allowed.{RightMay, IdsMay, May, gained_may}
@@ -82,9 +83,9 @@ module _ (S : ℕ → Bool) (v : World) where
 -- a port more with a right, which does what it names no harm, and which S may get
 
 module _ {T : Part → Type 0} {w : World} (s : Sound w) (t : ℕ) (r : Right) where
-  pub port_whole : (x : Task) → task_at w t ≡ Some x → T (TaskOf t) → Covers T w r → FineRight w r → ((S : ℕ → Bool) → S t ≡ true → RightMay S w w r × (HasUid S w 0 ⊎ IdsMay S w r)) → Whole t T w w (EditTask t (with_port r) ∷ [])
-  port_whole x is task cover fine may =
-      quiet (EditTask t (with_port r) ∷ []) (port_keeps r, tt) s (of_ports (EditTask t (with_port r) ∷ []) (tt, tt) (stands s) (within, tt) ((λ z. omega arith, x, is, port_table w s.coherent t r x is fine), λ d. tt) (λ S ours. (mine S ours (may S ours), tt)))
+  pub port_whole : (x : Task) → task_at w t ≡ Some x → T (TaskOf t) → Covers T w r → FineRight w r → IsKnown w r → ((S : ℕ → Bool) → S t ≡ true → RightMay S w w r × (HasUid S w 0 ⊎ IdsMay S w r)) → Whole t T w w (EditTask t (with_port r) ∷ [])
+  port_whole x is task cover fine known may =
+      quiet (EditTask t (with_port r) ∷ []) (port_keeps r, tt) (port_calm w t r known, λ c. tt) s (of_ports (EditTask t (with_port r) ∷ []) (tt, tt) (stands s) (within, tt) ((λ z. omega arith, x, is, port_table w s.coherent t r x is fine), λ d. tt) (λ S ours. (mine S ours (may S ours), tt)))
     where
       within : Within T w (EditTask t (with_port r))
       within = (
@@ -103,5 +104,5 @@ module _ {T : Part → Type 0} {w : World} (s : Sound w) (t : ℕ) (r : Right) w
 pub shares_whole : {T : Part → Type 0} {w : World} → Sound w → (t : ℕ) (r : IoRight) (ids : IdSets) (x : Task) → task_at w t ≡ Some x → IsAmong (Io r) (rights_of x) → T (TaskOf t) → ((p : Part) → OnRight w (Io r) p → T p)
     → ((S : ℕ → Bool) → S t ≡ true → Holds S w (Io r) × (HasUid S w 0 ⊎ Taken S w ids)) → Whole t T w w (EditTask t (with_port (Io (with_ids_for ids r))) ∷ [])
 shares_whole {T} {w} s t r ids x is here task parts power =
-    port_whole s t (Io (with_ids_for ids r)) x is task (covers T w (Io (with_ids_for ids r)) parts) (fine_ids w r ids (fine_right w s.coherent t x (Io r) is here))
+    port_whole s t (Io (with_ids_for ids r)) x is task (covers T w (Io (with_ids_for ids r)) parts) (fine_ids w r ids (fine_right w s.coherent t x (Io r) is here)) (inl (has_right w t x r is here))
     (λ S ours. let p = power S ours in (held_may_ids S w r ids p.0, p.1))

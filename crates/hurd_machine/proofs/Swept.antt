@@ -64,7 +64,7 @@ entry_homed w l c d n e stays_d = retained_if w.homes (stays w) n (λ s k. let h
 
 -- after a sweep
 module _ (w : World) (c : Coherent w) (l : Linked (nodes_of w)) where
-  sweep_left : Left w (nodes_of (sweep w)) (stays w)
+  pub sweep_left : Left w (nodes_of (sweep w)) (stays w)
   sweep_left = record {
     node_was = was_retained w.nodes (stays w);
     home_was = was_retained w.homes (stays w);

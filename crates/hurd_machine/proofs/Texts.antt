@@ -40,7 +40,7 @@ module _ (w : World) (s : Name) (text : List ℕ) where
   read_kept : {P : Type 0} (read : Option ServerInfo → P) → ((i : ServerInfo) → read (Some (with_text text i)) ≡ read (Some i)) → (q : Name) → read (server_at retexted q) ≡ read (server_at w q)
   read_kept read blind q = edit_keeps read (with_text text) (by_option (λ o. read (option_map (with_text text) o)) read refl blind) w.servers s q
 
-  info_kept : {P : Type 0} (read : Option ServerInfo → P) → ((i : ServerInfo) → read (Some (with_text text i)) ≡ read (Some i)) → (n : Name) → read (info_at retexted n) ≡ read (info_at w n)
+  pub info_kept : {P : Type 0} (read : Option ServerInfo → P) → ((i : ServerInfo) → read (Some (with_text text i)) ≡ read (Some i)) → (n : Name) → read (info_at retexted n) ≡ read (info_at w n)
   info_kept read blind n = by_option (λ o. read (info_in retexted.servers o)) (λ o. read (info_in w.servers o)) refl (read_kept read blind) (home_at w n)
 
   pub root_kept : (n : Name) → is_server_root retexted n ≡ is_server_root w n

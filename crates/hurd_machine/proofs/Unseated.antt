@@ -4,7 +4,7 @@ use Rattle.hurd_creds.specs.declared.name.Name.{Name}
 use Rattle.hurd_creds.proofs.NameLaws.{remove_apart, remove_here, same_or_apart}
 use Rattle.hurd_machine.specs.World.{World, nodes_of, active_at}
 use Rattle.hurd_nodes.specs.Shown.{unseated}
-use Rattle.hurd_machine.proofs.Left.{left_coherent}
+use Rattle.hurd_machine.proofs.Left.{Left, left_coherent}
 use Rattle.hurd_machine.specs.Change.{Unseat, apply}
 use Rattle.hurd_machine.specs.Sound.{Coherent}
 
@@ -14,8 +14,8 @@ still_active w k n s e = elim (same_or_apart n k) [
   | inr apart ↦ sym (remove_apart w.actives k n apart) ∙ e
 ]
 
-pub unseated_coherent : (w : World) → Coherent w → (k : Name) → Coherent (apply (Unseat k) w)
-unseated_coherent w c k = left_coherent w c (unseated k (nodes_of w)) (λ n. true) (record {
+pub unseated_left : (w : World) (k : Name) → Left w (unseated k (nodes_of w)) (λ n. true)
+unseated_left w k = record {
   node_was = λ n x e. (e, refl);
   home_was = λ n s e. (e, refl);
   active_was = λ n s e. (still_active w k n s e, refl);
@@ -26,4 +26,7 @@ unseated_coherent w c k = left_coherent w c (unseated k (nodes_of w)) (λ n. tru
   seat_yet = λ n s e. refl;
   boot = refl;
   entry_yet = λ d n e h. refl;
-})
+}
+
+pub unseated_coherent : (w : World) → Coherent w → (k : Name) → Coherent (apply (Unseat k) w)
+unseated_coherent w c k = left_coherent w c (unseated k (nodes_of w)) (λ n. true) (unseated_left w k)

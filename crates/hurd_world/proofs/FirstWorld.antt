@@ -1,5 +1,5 @@
 -- The first world is sound, whatever the kind of the boot server.
-use Rattle.std.proofs.Common.{◌≡◌, inl, inr, ℕ, ◌+◌, ◌<◌, Bool, true, false, true≢false, if◌then◌else◌, List, length, refl, ap, sym, subst, zero-add, ◌∙◌, arith}
+use Rattle.std.proofs.Common.{◌≡◌, inl, inr, ℕ, ◌+◌, ◌<◌, Bool, true, false, true≢false, if◌then◌else◌, List, [], length, refl, ap, sym, subst, zero-add, ◌∙◌, arith}
 use Rattle.std.specs.Prelude.{Option, Some, None, cond}
 use Rattle.std.specs.Option.{option_map}
 use Rattle.std.specs.FinMap as fin
@@ -7,7 +7,7 @@ use Rattle.hurd_creds.specs.declared.name.Name.{Name}
 use Rattle.hurd_creds.specs.declared.attrs.Kind.{Kind}
 use Rattle.hurd_creds.specs.declared.attrs.Kind.TheVariants.{Dir}
 use Rattle.hurd_creds.specs.Access.{IdSets}
-use Rattle.hurd_creds.specs.Bits.{asks, WRITE}
+use Rattle.hurd_creds.specs.Bits.{asks, READ, WRITE}
 use Rattle.hurd_creds.specs.Names.{name_of, name_cmp}
 use Rattle.hurd_creds.proofs.NameLaws.{get_here, same_name-itself}
 use Rattle.hurd_creds.proofs.MapLaws.{get-map_values}
@@ -24,11 +24,12 @@ use Rattle.hurd_ports.specs.declared.parents.Parent.{Parent}
 use Rattle.hurd_ports.specs.declared.table.Right.{Right}
 use Rattle.hurd_ports.specs.declared.table.Right.TheVariants.{Io, Control, Start}
 use Rattle.hurd_ports.specs.Tables.{Task, rights_of, nodes_of as nodes_named, ways_of}
-use Rattle.hurd_machine.specs.World.{World, IsAmong, lists, lists_at, task_at}
+use Rattle.hurd_machine.specs.World.{World, IsAmong, lists, lists_at, open_at, task_at}
 use Rattle.hurd_machine.specs.Sound.{IsGivenRight, Sound, Below, HasDistinctNames, AreGiven, AreHoused, AreSeated, IsTree, AreOfKind, AreTables, Hangs, Linked, IsFilled, AreFilled, AtRest, times_in, times_listed}
 use Rattle.hurd_machine.proofs.Stays.{root_is_root, stays_root, lives_boot}
 use Rattle.hurd_machine.proofs.Sums.{total_none}
-use Rattle.hurd_world.specs.Boot.{first_world}
+use Rattle.hurd_machine.specs.Counted.{Counted, HasOpens, has_mode}
+use Rattle.hurd_world.specs.Boot.{FirstCounted, closed_open, first_world}
 use Rattle.hurd_world.proofs.FirstPorts.{IsFirst, OfTask, boot_seat, boot_right, boot_number, boot_open, boot_settled, closed, only, opens_there}
 
 -- what a function of what is there comes from
@@ -239,6 +240,24 @@ module _ (kind : ServerKind) (text : List ℕ) where
 
     sound : Sound w
     sound = record { coherent = record { given = given; housing = housed; seating = seated; tree = tree; kinds = kinds; tables = tables }; linked = linked; sizes = sized; settled = rest }
+
+    -- no open reads or writes
+    no_mode : (mode : ℕ) → asks closed_open mode ≡ false → (n : Name) → HasOpens w n mode 0
+    no_mode mode closed n = record { names = []; apart = tt; each = λ q i. absurd i; all = λ q p. none q (open_at w q) refl p.1; count = refl }
+      where
+        none : (q : Name) (o : Option Opened) → open_at w q ≡ o → has_mode mode o ≡ true → IsAmong q []
+        none q None e is = absurd (true≢false (sym is))
+        none q (Some z) e is = absurd (true≢false (sym is ∙ ap (λ (y : Opened). asks y.modes mode) (boot_open tasks q z e).3 ∙ closed))
+
+    counted : Counted w
+    counted n h counts is =
+        let root_is = (header_only n h is).1 in (
+          subst (HasOpens w n READ) (ap (λ (j : Header). j.readers) (sym root_is)) (no_mode READ refl n),
+          subst (HasOpens w n WRITE) (ap (λ (j : Header). j.writers) (sym root_is)) (no_mode WRITE refl n),
+        )
+
+pub first_counted : FirstCounted
+first_counted m tasks b = let new = begun-new b.0 m b.1 in rw new.2 (counted new.0 new.1 tasks)
 
 pub first_sound : (m : Meaning) (tasks : List IdSets) → Begins m → Sound (first_world m tasks)
 first_sound m tasks b = let new = begun-new b.0 m b.1 in rw new.2 (sound new.0 new.1 tasks)

@@ -10,12 +10,13 @@ use Rattle.hurd_creds.specs.Limits.{most_tasks}
 use Rattle.hurd_trans_iface.specs.Nodes.{is_dir}
 use Rattle.hurd_trans_iface.specs.declared.root.Crossing.{Crossing}
 use Rattle.hurd_trans_iface.specs.declared.root.Crossing.TheVariants.{Firm, Union}
-use Rattle.hurd_trans_iface.specs.Meaning.{Meaning, root_of}
+use Rattle.hurd_trans_iface.specs.Meaning.{Meaning, Begins, root_of}
 use Rattle.hurd_nodes.specs.Shown.{state_of, booted, boot_name}
 use Rattle.hurd_ports.specs.declared.table.Right.TheVariants.{Io}
 use Rattle.hurd_ports.specs.Tables.{Task, OpenMap, PortState}
 use Rattle.hurd_ports.specs.Steps.{new_open}
 use Rattle.hurd_machine.specs.World.{World, world_from}
+use Rattle.hurd_machine.specs.Counted.{Counted}
 
 -- whether tasks of these ids begin together: EINVAL for more of them than that
 abbrev pub few_of : List IdSets → Result (Unit {0}) Errno
@@ -67,3 +68,7 @@ boot_ports tasks = record { opens = boot_opens 0 tasks fin.empty; tasks = boot_t
 -- the world that a boot server of this meaning and tasks of these ids begin
 abbrev pub first_world : Meaning → List IdSets → World
 first_world m tasks = world_from (state_of (booted m)) (boot_ports tasks)
+
+-- in a first world readers and writers are as many as the opens that read and write: none
+abbrev pub FirstCounted : Type 0
+FirstCounted = (m : Meaning) (tasks : List IdSets) → Begins m → Counted (first_world m tasks)
