@@ -4,7 +4,7 @@ use Rattle.hurd_machine.specs.World.{World}
 use Rattle.hurd_machine.specs.Sight.{SameView}
 use Rattle.hurd_machine.specs.Sound.{Sound}
 use Rattle.hurd_laws.specs.Step.{after}
-use Rattle.hurd_laws.specs.Runs.{TaskCall, run, calls_of, replies_to, Quiet, Unmoved}
+use Rattle.hurd_laws.specs.Runs.{TaskCall, run, calls_of, replies_to, Unmoved}
 use Rattle.hurd_laws.specs.Laws.{Isolated, IsolatedByView, QuietUnmoved}
 use Rattle.hurd_laws.proofs.Assembled.{others_unseen, own_from_view, stays_sound}
 

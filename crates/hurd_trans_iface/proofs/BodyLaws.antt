@@ -1,10 +1,8 @@
 -- What a server makes of a node is what may be in it.
-use Rattle.std.proofs.Common.{◌≡◌, ◌≤◌, ℕ, ◌-◌, ◌==◌, zero, suc, ◌&&◌, Bool, true, false, true≢false, if◌then◌else◌, List, [], ◌∷◌, ◌++◌, length, take, nat_lt, refl, sym, ◌∙◌, ap, arith}
+use Rattle.std.proofs.Common.{◌≡◌, ◌≤◌, ℕ, ◌-◌, ◌==◌, zero, suc, ◌&&◌, true, true≢false, if◌then◌else◌, List, [], ◌∷◌, ◌++◌, length, take, nat_lt, refl, sym, ◌∙◌, ap, arith}
 use Rattle.std.specs.Prelude.{None, Ok}
-use Rattle.std.specs.List.{list_all}
 use Rattle.std.proofs.lemmas.List.{length-append, length-drop, length-take}
 use Rattle.std.proofs.lemmas.List.Folds.{list_all-append}
-use Rattle.hurd_creds.specs.declared.name.Name.{Name}
 use Rattle.hurd_creds.specs.Limits.{most_size}
 use Rattle.hurd_trans_iface.specs.Nodes.{Body, Content, Listing, Node, is_dir, less_entry, on_bytes, without_entry}
 use Rattle.hurd_trans_iface.specs.Behaviour.{Did, Effect, Question, reading, writing, resizing, bytes_left}
@@ -13,7 +11,7 @@ use Rattle.hurd_trans_iface.specs.Kinds.{ServerKind, Tmpfs, Hello, Null, Zero, S
 use Rattle.hurd_trans_iface.specs.TmpfsKind.{bytes_in}
 use Rattle.hurd_trans_iface.specs.DripKind.{dripped, drop_byte}
 use Rattle.hurd_trans_iface.specs.FifoKind.{most_held, fifo_read, fifo_write, room_in, taken_in}
-use Rattle.hurd_trans_iface.specs.Bodies.{HoldsNothing, HoldsDrops, MayHold}
+use Rattle.hurd_trans_iface.specs.Bodies.{HoldsDrops, MayHold}
 use Rattle.hurd_trans_iface.proofs.Goodness.{IsFine, fine_done, fine_if}
 
 -- a question after which only what may be is in the node

@@ -1,5 +1,5 @@
 -- What may be in a node, by the kind of its server.
-use Rattle.std.specs.Prelude.{◌≡◌, ◌≤◌, ℕ, ◌==◌, true, List, []}
+use Rattle.std.specs.Prelude.{◌≡◌, ◌≤◌, ◌==◌, true, []}
 use Rattle.std.specs.List.{list_all}
 use Rattle.hurd_trans_iface.specs.Nodes.{Body, Content, Listing}
 use Rattle.hurd_trans_iface.specs.Kinds.{ServerKind, Tmpfs, Drip, Fifo}
