@@ -12,7 +12,7 @@ use Rattle.hurd_creds.specs.Access.{least_uid}
 use Rattle.hurd_creds.specs.Bits.{open_modes}
 use Rattle.hurd_trans_iface.specs.Nodes.{Node, new_file}
 use Rattle.hurd_trans_iface.specs.Answers.{named_by}
-use Rattle.hurd_trans_iface.proofs.BodyLaws.{tree_holds}
+use Rattle.hurd_trans_iface.proofs.BodyLaws.{made_has, tree_holds}
 use Rattle.hurd_trans_iface.specs.Kinds.{behaviour_of}
 use Rattle.hurd_trans_iface.specs.Meaning.{keeps_tree}
 use Rattle.hurd_trans_iface.proofs.Goods.{good}
@@ -60,7 +60,7 @@ module _ (f : NewNodeAt) where
   file_nameless = record { shape = refl; empty = tt; file = refl; alone = refl; links = refl }
 
   file_fits : (i : ServerInfo) → keeps_tree i.kind ≡ true → IsFilled i file
-  file_fits i tree = ((good i.kind).newborn tree i.text f.dir None (record { name = f.dir; kind = File; owner = f.owner; group = f.group; mode = f.mode }) file refl, tree_holds i.kind file.body tree)
+  file_fits i tree = ((good i.kind).newborn tree i.text f.dir None (record { name = f.dir; kind = File; owner = f.owner; group = f.group; mode = f.mode }) file refl, tree_holds i.kind file.body tree, made_has i.kind tree f.dir None (record { name = f.dir; kind = File; owner = f.owner; group = f.group; mode = f.mode }) file refl)
 
 making_same : {S : ℕ → Bool} {v w : World} → Agree S v w → (t : ℕ) → S t ≡ true → (f : NewNodeAt) → Sees S v (BodyOf f.dir) → making_asks w t f ≡ making_asks v t f
 making_same a t ours f sees =

@@ -29,7 +29,7 @@ use Rattle.hurd_machine.proofs.Coherence.{AllProper, entry_lists}
 use Rattle.hurd_machine.proofs.Keeping.{coherent_all, proper_append}
 use Rattle.hurd_machine.proofs.Settle.{Rests}
 use Rattle.hurd_machine.proofs.Frame.{AllWithin, Full}
-use Rattle.hurd_machine.proofs.Sizes.{KeepsFilled, filled_append, filled_header, filled_removed}
+use Rattle.hurd_machine.proofs.Filled.{KeepsFilled, filled_append, filled_header, filled_removed}
 use Rattle.hurd_machine.proofs.Several.{AllMay}
 use Rattle.hurd_machine.proofs.Links.{leads_unless, listing_of}
 use Rattle.hurd_machine.proofs.Linking.{kin_are}

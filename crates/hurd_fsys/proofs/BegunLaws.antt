@@ -9,7 +9,7 @@ use Rattle.hurd_trans_iface.specs.Nodes.{Header, IsShaped, is_dir}
 use Rattle.hurd_trans_iface.specs.declared.root.Root.{Root}
 use Rattle.hurd_trans_iface.specs.Answers.{is_plain, is_tree}
 use Rattle.hurd_trans_iface.specs.Meaning.{Meaning, empty_body, root_of}
-use Rattle.hurd_trans_iface.proofs.BodyLaws.{begun_holds}
+use Rattle.hurd_trans_iface.proofs.BodyLaws.{begun_has, begun_holds}
 use Rattle.hurd_trans_iface.proofs.Goods.{tree-told}
 use Rattle.hurd_nodes.specs.Shown.{begun_info, begun_root}
 use Rattle.hurd_machine.proofs.Coherence.{Comes, HasNoEntries}
@@ -45,7 +45,7 @@ module _ (m : Meaning) (root : Name) (ids : IdSets) (owner group : ℕ) (mode : 
   begun_bare = empty_bare (is_dir (root_of m.kind m.text).kind)
 
   begun : (targets : List Name) → Begun (begun_info m root ids targets) (begun_root m owner group mode)
-  begun targets = record { links = refl; tree = λ tree. plain_dir (root_of m.kind m.text) (tree-told m.kind m.text ∙ tree); filled = (refl, begun_holds m.kind m.text); unread = (refl, refl) }
+  begun targets = record { links = refl; tree = λ tree. plain_dir (root_of m.kind m.text) (tree-told m.kind m.text ∙ tree); filled = (refl, begun_holds m.kind m.text, begun_has m.kind m.text owner group mode); unread = (refl, refl) }
 
 -- one that task t makes comes to a node that is there, for the owner of this header
 

@@ -10,13 +10,14 @@ use Rattle.hurd_creds.specs.TransBits.{asks_goaway, asks_trans, SET, ORPHAN, FOR
 use Rattle.hurd_trans_iface.specs.Nodes.{Node, Header, has_words}
 use Rattle.hurd_trans_iface.specs.Meaning.{Meaning}
 use Rattle.hurd_creds.proofs.NameLaws.{same_name-apart}
+use Rattle.hurd_nodes.proofs.PartLaws.{and_both}
 use Rattle.hurd_nodes.specs.Held.{is_home}
 use Rattle.hurd_nodes.specs.Shown.{ServerInfo, boot_name, begun_info, begun_root, is_other, tree_by}
 use Rattle.hurd_ports.specs.declared.table.Right.TheVariants.{Io}
 use Rattle.hurd_ports.specs.Tables.{Task, fresh, can_name}
 use Rattle.hurd_ports.specs.Steps.{named}
 use Rattle.hurd_machine.specs.declared.call.Reply.TheVariants.{Done, Words}
-use Rattle.hurd_machine.specs.World.{World, IsAmong, task_at, header_at, home_at, active_at}
+use Rattle.hurd_machine.specs.World.{World, IsAmong, task_at, header_at, home_at, active_at, info_at, is_server_root}
 use Rattle.hurd_machine.specs.Change.{Change, Attach, DropServer, Unseat, Settle, apply, apply_all}
 use Rattle.hurd_machine.specs.Handle.{Named}
 use Rattle.hurd_machine.specs.Sight.{Part, AttrOf, EmptyOf, BodyOf, OptionsOf, UsersOf, TaskOf, Holds, UidOfRight, GidOfRight, Taken, Seen, BySeat, users}
@@ -32,7 +33,7 @@ use Rattle.hurd_machine.proofs.CallLaws.{CallLaws, answered_piece, answered_whol
 use Rattle.hurd_core.specs.Core.{attaching, naming_asks}
 use Rattle.hurd_machine.specs.declared.call.Setting.{Setting}
 use Rattle.hurd_fsys.specs.Aims.{lent, server_ids}
-use Rattle.hurd_fsys.specs.Setting.{sets_nothing, setter_asks, is_excluded, may_replace, may_set, seat_asks, leaver, emptying, storing, seat_on, box_aims, seating, setting_where, plan_set_translator, GoesFor, seat_parts, parts_where, touches_set_translator, root_mode, root_kind, stored_asks, plan_get_translator, touches_get_translator}
+use Rattle.hurd_fsys.specs.Setting.{sets_nothing, setter_asks, may_seat, is_excluded, may_replace, may_set, seat_asks, leaver, emptying, storing, seat_on, box_aims, seating, setting_where, plan_set_translator, GoesFor, seat_parts, parts_where, touches_set_translator, root_mode, root_kind, stored_asks, plan_get_translator, touches_get_translator}
 use Rattle.hurd_fsys.specs.Owned.{owned_asks}
 use Rattle.hurd_fsys.proofs.OwnedLaws.{Owner, owner, owner_right, owner_sees, owned_same, owned_plain}
 use Rattle.hurd_fsys.proofs.ControlLaws.{owner_holds}
@@ -113,11 +114,12 @@ module _ (t p : ℕ) (f : Setting) where
       let same : k.0 ≡ n = cc (h.1) in
       subst (Owner t p w) same (owner t p w k.0 k.1)
 
-  seated : (w : World) (n : Named) (old : Option Name) → seat_asks w f n ≡ Ok old → active_at w n.right.node ≡ old
+  -- a server may sit there, and what is active there is this
+  seated : (w : World) (n : Named) (old : Option Name) → seat_asks w f n ≡ Ok old → (may_seat w n.right.node ≡ true) × (active_at w n.right.node ≡ old)
   seated w n old is =
       let g = given_ok EOPNOTSUPP _ _ old is in
       let h = given_ok EBUSY _ _ old g.1 in
-      cc (h.1)
+      (g.0, cc (h.1))
 
   namer : (w : World) (x : Task) → naming_asks w t 2 ≡ Ok x → task_at w t ≡ Some x
   namer w x is =
@@ -191,7 +193,7 @@ module _ (t p : ℕ) (f : Setting) where
     abbrev comings_of : Named → Meaning → Option Name → List Name → Task → List Change
     comings_of n m old targets x = attaching t (seat_on n.right.node n.header m old false) (server_ids n.header.owner) targets m x
 
-    module _ (w : World) (s : Sound w) (n : Named) (k : Owner t p w n) (old : Option Name) (e : active_at w n.right.node ≡ old) where
+    module _ (w : World) (s : Sound w) (n : Named) (k : Owner t p w n) (seats : may_seat w n.right.node ≡ true) (old : Option Name) (e : active_at w n.right.node ≡ old) where
       abbrev v : World
       v = stored n.right.node w
 
@@ -201,7 +203,7 @@ module _ (t p : ℕ) (f : Setting) where
       -- the words stored, and then what is done in that world
       with_words : (cs : List Change) → (Sound v → Whole t Written w v cs) → Whole t Written w w (storing f n.right.node words ++ cs)
       with_words cs done = whole_then (storing f n.right.node words) cs (storing_exact n.right.node words sets) s
-          (storing_whole n.right.node words s n.header k.is_named.is_header (inl (inl refl)) (λ S ours. owner_holds S w n (owner_right t p ours n k) k.owned) sets) done
+          (storing_whole n.right.node words s (and_both (tree_by (info_at w n.right.node)) (not (is_server_root w n.right.node)) seats).0 n.header k.is_named.is_header (inl (inl refl)) (λ S ours. owner_holds S w n (owner_right t p ours n k) k.owned) sets) done
 
       -- what goes there goes here
       left_here : (q : Name) → leaver f old ≡ Some q → (r : Part) → Goes v q r → Written r
@@ -240,7 +242,7 @@ module _ (t p : ℕ) (f : Setting) where
     half_whole : (w : World) → Sound w → (n : Named) → Owner t p w n → (b : Bool) → Whole t (Full w t (parts_where b w f box n)) w w (setting_where b w t f words box n).changes
     half_whole w s n k true = whole_none s
     half_whole w s n k false = answered_piece s (seat_asks w f n) (seating w t n f words box) _ (λ old is.
-        answered_piece s (box_aims w n box) (spec.seated w t n f words box old) (λ targets. seat_parts w f n.right.node old) (λ targets found. box_whole w s n k old (seated w n old is) box targets found))
+        answered_piece s (box_aims w n box) (spec.seated w t n f words box old) (λ targets. seat_parts w f n.right.node old) (λ targets found. let seat = seated w n old is in box_whole w s n k seat.0 old seat.1 box targets found))
 
     half_same : {S : ℕ → Bool} {v w : World} → Coherent v → Agree S v w → S t ≡ true → (n : Named) → Owner t p v n → (b : Bool) → setting_where b w t f words box n ≡ setting_where b v t f words box n
     half_same c a ours n k true = refl

@@ -25,6 +25,7 @@ use Rattle.hurd_machine.proofs.Confine.{Less}
 use Rattle.hurd_core.specs.Core.{naming_asks}
 use Rattle.hurd_fsys.specs.Setting.{stored_asks}
 use Rattle.hurd_fsys.proofs.AimsLaws.{Aims}
+use Rattle.hurd_machine.proofs.Filled.{tree_header}
 use Rattle.hurd_machine.proofs.Piece.{Whole, stands, whole_none, quiet, of_header}
 use Rattle.hurd_machine.specs.Sound.{Below, Sound}
 use Rattle.hurd_machine.proofs.Permits.{AllExact}
@@ -91,10 +92,10 @@ module _ (n : Name) (words : List (List ℕ)) where
   storing_exact false = tt
 
   -- whoever holds the owner's uid, or 0, could do all with the node before
-  pub storing_whole : {t : ℕ} {T : Part → Type 0} {w : World} → Sound w → (h : Header) → header_at w n ≡ Some h → T (AttrOf n) → ((S : ℕ → Bool) → S t ≡ true → OwnsIt S w h) → (b : Bool) → Whole t T w w (storing_if b)
-  storing_whole {t} {T} {w} s h at attr owns false = whole_none s
-  storing_whole {t} {T} {w} s h at attr owns true =
-      quiet (storing_if true) (λ k e. e, tt) (λ k. (refl, refl), λ c. tt) s (of_header n (with_passive words) (λ k. (refl, refl, refl)) (λ k. refl) (stands s) attr (λ S ours. (λ k there. less S (owns S ours) k (cc (at, there)), tt)))
+  pub storing_whole : {t : ℕ} {T : Part → Type 0} {w : World} → Sound w → tree_by (info_at w n) ≡ true → (h : Header) → header_at w n ≡ Some h → T (AttrOf n) → ((S : ℕ → Bool) → S t ≡ true → OwnsIt S w h) → (b : Bool) → Whole t T w w (storing_if b)
+  storing_whole {t} {T} {w} s tree h at attr owns false = whole_none s
+  storing_whole {t} {T} {w} s tree h at attr owns true =
+      quiet (storing_if true) (λ k e. e, tt) (λ k. (refl, refl), λ c. tt) s (of_header n (with_passive words) (λ k. (refl, refl, refl)) (λ k. refl) (tree_header w n (with_passive words) tree (λ k. (refl, refl))) (stands s) attr (λ S ours. (λ k there. less S (owns S ours) k (cc (at, there)), tt)))
     where
       less : (S : ℕ → Bool) → OwnsIt S w h → (k : Header) → h ≡ k → Less S w n (with_passive words k) k
       less S o k same = rw (← same) (record { kind = refl; parent = λ p e. inl e; could = λ want c. Owns o.0 o.1 o.2; owns = λ z. o })

@@ -18,7 +18,7 @@ use Rattle.hurd_machine.proofs.Frame.{AllWithin, Full, within_append}
 use Rattle.hurd_machine.proofs.Coherence.{AllProper}
 use Rattle.hurd_machine.proofs.Keeping.{proper_append}
 use Rattle.hurd_machine.proofs.Settle.{Rests}
-use Rattle.hurd_machine.proofs.Sizes.{KeepsNodes}
+use Rattle.hurd_machine.proofs.Filled.{KeepsNodes}
 use Rattle.hurd_machine.proofs.Links.{KeepsLinked}
 use Rattle.hurd_machine.proofs.Several.{AllMay}
 use Rattle.hurd_machine.proofs.Permits.{did_exact}

@@ -11,7 +11,6 @@ use hurd_creds::{Bytes, Errno, GoawayFlags, Ids, Mode, OpenFlags, TaskId, TransF
 use hurd_machine::Whence;
 use hurd_trans_iface::Words;
 use hurd_words::fault::ReadFault;
-use hurd_words::numbers;
 use hurd_words::users::{ids_from, parts};
 use hurd_words::words::is;
 use std::alloc::Global;
@@ -44,7 +43,7 @@ pub fn number(word: &[u8]) -> Result<u32, ReadFault>
     ensures { Finds (λ n. n) (number_of word.now) result }
 {
     let digits = text(word)?;
-    wanted(numbers::number(digits))
+    wanted(hurd_numbers::number(digits))
 }
 
 /// A number below 2 to the 64th.
@@ -52,7 +51,7 @@ pub fn long_number(word: &[u8]) -> Result<u64, ReadFault>
     ensures { Finds (λ n. n) (long_number_of word.now) result }
 {
     let digits = text(word)?;
-    wanted(numbers::long_number(digits.as_bytes()))
+    wanted(hurd_numbers::long_number(digits.as_bytes()))
 }
 
 /// A number that may be below zero.
@@ -106,7 +105,7 @@ pub fn mode(word: &[u8]) -> Result<Mode, ReadFault>
     ensures { Finds (λ m. m) (mode_of word.now) result }
 {
     let digits = text(word)?;
-    let bits = wanted(numbers::octal_number(digits))?;
+    let bits = wanted(hurd_numbers::octal_number(digits))?;
     Ok(<Mode as Flags>::from_bits_retain(bits))
 }
 

@@ -118,7 +118,7 @@ module _ (t : ℕ) (plan : World → Plan) (touches : World → Part → Type 0)
   stays_sound w s =
       let q = l.piece w s in
       let left = left_stands (stands s) q.piece in
-      record { coherent = left.coherent; linked = left.linked; sizes = left.sizes; settled = q.rests }
+      record { coherent = left.coherent; linked = left.linked; filled = left.filled; settled = q.rests }
 
   -- where no count is at its most, readers and writers stay as many as the opens that read and write
   pub stays_counted : (w : World) → Sound w → CanCount w → Counted w → Counted (after w)

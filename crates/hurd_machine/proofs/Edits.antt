@@ -14,7 +14,7 @@ use Rattle.hurd_machine.proofs.Coherence.{Proper, AllProper, entry_stands}
 use Rattle.hurd_machine.proofs.Settle.{AreQuiet}
 use Rattle.hurd_machine.proofs.Frame.{AllWithin}
 use Rattle.hurd_machine.proofs.Links.{AreSteady, linked_steady}
-use Rattle.hurd_machine.proofs.Sizes.{KeepsNodes, did_filled}
+use Rattle.hurd_machine.proofs.Filled.{KeepsNodes, did_filled}
 use Rattle.hurd_machine.proofs.Counting.{AllCalm}
 use Rattle.hurd_machine.proofs.Permits.{did_may}
 use Rattle.hurd_machine.proofs.Piece.{Whole, quiet}
@@ -76,6 +76,6 @@ did_whole {T} {w} s q keeps n d told parts =
       within = l.0;
       proper = l.1;
       linked = linked_steady (left_changes n d.bytes d.size) w l.3 s.linked;
-      sized = did_filled q keeps w s.coherent n d told s.sizes;
+      filled = did_filled q keeps w s.coherent n d told s.filled;
       may = λ S ours. did_may S w w n d;
     })

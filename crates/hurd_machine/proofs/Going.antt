@@ -20,11 +20,11 @@ module _ {t : ℕ} {T : Part → Type 0} {v w : World} (st : Stands w) where
   -- a server goes
   pub goes_piece : (s : Name) → s ≢ boot_name → ((p : Part) → Goes w s p → T p) → Piece t T v w (DropServer s ∷ [])
   goes_piece s not_boot parts =
-      record { within = (parts, tt); proper = (not_boot, λ d. tt); linked = drop_linked w st.coherent st.linked s not_boot; sized = filled_drop w s st.sizes; may = λ S ours. (tt, tt) }
+      record { within = (parts, tt); proper = (not_boot, λ d. tt); linked = drop_linked w st.coherent st.linked s not_boot; filled = filled_drop w s st.filled; may = λ S ours. (tt, tt) }
 
   -- a server loses its seat
   pub unseats_piece : (n : Name) → T (AttrOf n) → Piece t T v w (Unseat n ∷ [])
-  unseats_piece n attr = record { within = (attr, tt); proper = (tt, λ d. tt); linked = linked_unseat w n st.linked; sized = filled_unseat w n st.sizes; may = λ S ours. (tt, tt) }
+  unseats_piece n attr = record { within = (attr, tt); proper = (tt, λ d. tt); linked = linked_unseat w n st.linked; filled = filled_unseat w n st.filled; may = λ S ours. (tt, tt) }
 
 -- a server comes, whose root is like one that begins
 
@@ -46,7 +46,7 @@ comes_piece {T} {v} {w} st s at i node p b task attr empty body seat options aim
   within = ((task, attr, empty, body, seat, options), tt);
   proper = (p, λ d. tt);
   linked = linked_come w st.coherent s at i node p b.links b.tree st.linked;
-  sized = filled_come w st.coherent s at i node p b.filled st.sizes;
+  filled = filled_come w st.coherent s at i node p b.filled st.filled;
   may = λ S ours. ((ours, aims S ours), tt);
 }
 

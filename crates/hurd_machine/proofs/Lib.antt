@@ -28,7 +28,7 @@ pub mod Confined
 pub mod Permits
 pub mod Piece
 pub mod CallLaws
-pub mod Sizes
+pub mod Filled
 pub mod Links
 pub mod Relinks
 pub mod Moves

@@ -12,7 +12,7 @@ use Rattle.hurd_trans_iface.specs.Answers.{entry_of, link_in, most_links}
 use Rattle.hurd_trans_iface.specs.Good.{GoodBehaviour}
 use Rattle.hurd_trans_iface.specs.Kinds.{ServerKind, behaviour_of}
 use Rattle.hurd_trans_iface.specs.Meaning.{keeps_tree}
-use Rattle.hurd_nodes.specs.Shown.{ServerInfo, are_kin, link_by, tree_by}
+use Rattle.hurd_nodes.specs.Shown.{ServerInfo, are_kin, info_in, link_by, tree_by}
 use Rattle.hurd_machine.specs.World.{World, nodes_of, body_at, home_at, info_at, links_at}
 use Rattle.hurd_machine.specs.Sight.{Part, AttrOf, EmptyOf, BodyOf, Seen}
 use Rattle.hurd_machine.specs.Change.{Change, EditBody, EditHeader, apply}
@@ -20,7 +20,7 @@ use Rattle.hurd_machine.specs.Sound.{Coherent}
 use Rattle.hurd_machine.proofs.Nodes.{header_in, body_in}
 use Rattle.hurd_machine.proofs.Coherence.{IsEntry, AllProper}
 use Rattle.hurd_machine.proofs.Settle.{KeepsEntered}
-use Rattle.hurd_machine.proofs.Sizes.{filled_append, filled_entry, filled_header}
+use Rattle.hurd_machine.proofs.Filled.{filled_append, filled_entry, filled_header, tree_header}
 use Rattle.hurd_machine.proofs.Confine.{Less, less_same}
 use Rattle.hurd_machine.proofs.Permits.{entry_may}
 use Rattle.hurd_machine.proofs.Makes.{entry_proper}
@@ -119,11 +119,12 @@ module _ (d : Name) (name : List ℕ) (n : Name) where
   pub link_whole : ((k : ServerKind) → GoodBehaviour (behaviour_of k)) → {t : ℕ} {T : Part → Type 0} {w : World} → Sound w → MayLink w d name n → LeadsUp (nodes_of w) d → T (BodyOf d) → T (EmptyOf d) → T (AttrOf n)
       → ((S : ℕ → Bool) → S t ≡ true → Seen S w n) → Whole t T w w linking
   link_whole good {t} {T} {w} s m up body empty attr seen =
+      let grown : World = apply (EditBody d (with_entry name n)) w in
       let listing = listing_of m.node.header m.node.body (s.coherent.tree.shapes d m.node m.is_node) m.dir in
       quiet linking (tt, (linked_entered, tt)) (tt, λ one. (λ h. (refl, refl), λ two. tt)) s (record {
         within = ((body, inl empty), (attr, tt));
         proper = link_proper w s.coherent m;
         linked = again_linked w d n name linked m.node listing.0 m.file.header m.is_node listing.1 (ap header_in m.is_file) m.no_dir up (λ h. (refl, refl)) refl s.linked;
-        sized = filled_append added counted w (filled_entry good w d name n m.tree) (filled_header (apply (EditBody d (with_entry name n)) w) n linked (λ h. refl)) s.sizes;
+        filled = filled_append added counted w (filled_entry good w d name n m.tree) (filled_header grown n linked (λ h. refl) (tree_header grown n linked (ap (λ o. tree_by (info_in w.servers o)) m.kin ∙ m.tree) (λ h. (refl, refl)))) s.filled;
         may = λ S ours. (entry_may S w w d name n (inl (seen S ours)), (λ h at. linked_less S w h, tt));
       })

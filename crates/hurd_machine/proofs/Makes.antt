@@ -14,7 +14,7 @@ use Rattle.hurd_trans_iface.specs.declared.new_node.NewNode.{NewNode}
 use Rattle.hurd_trans_iface.specs.Nodes.{Node, Entry, Header, Body, Content, Listing, IsShaped, is_dir, with_body, with_entry, new_file, new_dir, is_entered}
 use Rattle.hurd_trans_iface.specs.Answers.{entry_in, entry_of, is_made, is_taken, made_node, named_by, node_of_kind}
 use Rattle.hurd_trans_iface.specs.Good.{GoodBehaviour}
-use Rattle.hurd_trans_iface.proofs.BodyLaws.{tree_holds}
+use Rattle.hurd_trans_iface.proofs.BodyLaws.{made_has, tree_holds}
 use Rattle.hurd_trans_iface.specs.Kinds.{ServerKind, behaviour_of}
 use Rattle.hurd_trans_iface.specs.Meaning.{keeps_tree}
 use Rattle.hurd_nodes.specs.Shown.{ServerInfo, info_in, made_by, tree_by}
@@ -31,7 +31,7 @@ use Rattle.hurd_machine.proofs.Settle.{rests_quiet}
 use Rattle.hurd_machine.proofs.Frame.{Full}
 use Rattle.hurd_machine.proofs.Confine.{SeenOrNew}
 use Rattle.hurd_machine.proofs.Permits.{entry_may, later_new, entry_added}
-use Rattle.hurd_machine.proofs.Sizes.{filled_made, filled_entry}
+use Rattle.hurd_machine.proofs.Filled.{filled_made, filled_entry}
 use Rattle.hurd_machine.proofs.Listed.{times_edited}
 use Rattle.hurd_machine.proofs.Links.{IsHung, HangsIn, Loosens, KeepsLinked, loosened, loose_any, tied, leads_grown, named_grown, times_new, times_entered, lists_entered, listing_of, relisted_entry, hung_as, lists_alike, times_apart}
 use Rattle.hurd_machine.proofs.Opens.{own_task, fresh_new, fresh_next}
@@ -160,9 +160,9 @@ module _ (d : Name) (name : List ℕ) (new : NewNode) (x : Node) (is : made_node
           subst (NewIn w d) same (record { shape = refl; empty = refl; parent = rw (← same) at parent; below = λ e. refl })
       by kind made = absurd (cc)
 
-  -- and it has the size that its server says, and holds what may be there
+  -- and it has the size that its server says, and in it and its header what may be there
   made_fit : ((k : ServerKind) → GoodBehaviour (behaviour_of k)) → (i : ServerInfo) → keeps_tree i.kind ≡ true → IsFilled i x
-  made_fit good i tree = ((good i.kind).newborn tree i.text d (Some name) new x is, tree_holds i.kind x.body tree)
+  made_fit good i tree = ((good i.kind).newborn tree i.text d (Some name) new x is, tree_holds i.kind x.body tree, made_has i.kind tree d (Some name) new x is)
 
 -- the node, and its entry
 abbrev pub entered : Name → Name → Node → Name → List ℕ → List Change
@@ -279,9 +279,9 @@ entered_whole good {T} {w} st t x is s d home {kind} name m up new node made_is 
       within = ((own_task w t T, inr (inr still), inr (inr still), inr (inr still)), ((inl body, inl (inl empty)), tt));
       proper = entered_proper w n s node d name c next home (ap tree_by m.is_info ∙ m.tree) (absent w d name kind m) ready;
       linked = entered_linked w n s node d name c next m up ready.empty hangs st.linked;
-      sized =
+      filled =
           filled_entry good (made w n s node d name) d name n (ap (λ o. tree_by (info_in w.servers o)) (get_apart w.homes n s d (next_apart w n d next (home_old c d s home))) ∙ (ap tree_by m.is_info ∙ m.tree))
-          (filled_made w n s node (λ i e. let same : m.info ≡ i = cc (is_server, e) in rw (← same) (made_fit d name new node made_is good m.info m.tree)) st.sizes);
+          (filled_made w n s node (λ i e. let same : m.info ≡ i = cc (is_server, e) in rw (← same) (made_fit d name new node made_is good m.info m.tree)) st.filled);
       may = λ S ours. (
         (ours, inl (OfNode d (seen S ours) home), λ p e. subst (SeenOrNew S w) (sym (made_parent d name new node made_is p e)) (inl (seen S ours))),
         (entry_may S w (made w n s node d name) d name n (inr (later_new S w t x x.made ours is (omega arith))), tt),

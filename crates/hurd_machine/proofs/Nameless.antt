@@ -28,7 +28,7 @@ use Rattle.hurd_machine.proofs.Shapes.{tree_shape}
 use Rattle.hurd_machine.proofs.Coherence as coherence
 use Rattle.hurd_machine.proofs.Settle.{Rests}
 use Rattle.hurd_machine.proofs.Frame.{Full}
-use Rattle.hurd_machine.proofs.Sizes.{filled_made}
+use Rattle.hurd_machine.proofs.Filled.{filled_made}
 use Rattle.hurd_machine.proofs.Links.{IsHung, Loosens, KeepsLinked, loosened, loose_any, tied, named_grown, times_new, hung_as}
 use Rattle.hurd_machine.proofs.Confine.{NewTo, SeenOrNew}
 use Rattle.hurd_machine.proofs.Permits as permits
@@ -146,7 +146,7 @@ module _ (w : World) (t : ℕ) (x : Task) (is : task_at w t ≡ Some x) (s : Nam
         within = ((own, inr (inr new), inr (inr new), inr (inr new)), tt);
         proper = ((next, record { info = i; is_server = server; tree = tree; shape = lone.shape; empty = lone.empty; parent = λ p e. absurd (cc (lone.alone, e)) }), λ one. tt);
         linked = made_linked c st.linked;
-        sized = filled_made w n s node (λ j e. let same : i ≡ j = cc (server, e) in rw (← same) fit) st.sizes;
+        filled = filled_made w n s node (λ j e. let same : i ≡ j = cc (server, e) in rw (← same) fit) st.filled;
         may = λ S ours. ((ours, inl (sees S ours).2, λ p e. absurd (cc (lone.alone, e))), tt);
       }) (λ d. opens_piece made t (named 1 x) seat n ids parents modes d own (inr (inr (later_new w t 1 x is))) (λ p on. let same : on.0 ≡ s = cc (on.1, home) in inl (rw (on.2, same) users))
       (named_below w c n next 1 n refl (omega arith), inr shape.0) ways_yet (λ writes. (λ h e. let same : node.header ≡ h = cc (header, e) in rw (← same) lone.file, shape.1))

@@ -8,13 +8,15 @@ use Rattle.hurd_creds.specs.Bits.{asks, WRITE}
 use Rattle.hurd_creds.proofs.NameLaws.{get_here}
 use Rattle.hurd_creds.proofs.AppendLaws.{append_read, append_write}
 use Rattle.hurd_trans_iface.specs.Nodes.{Header, counting, opened_by, closed_by}
+use Rattle.hurd_nodes.specs.Needs.{counts_by}
+use Rattle.hurd_nodes.specs.Shown.{NodeState, server_of}
 use Rattle.hurd_ports.specs.declared.table.Opened.{Opened}
 use Rattle.hurd_ports.specs.declared.parents.Parent.{Parent as Pair}
 use Rattle.hurd_ports.specs.declared.table.Right.{Right}
 use Rattle.hurd_ports.specs.declared.table.Right.TheVariants.{Io, Control, Start}
 use Rattle.hurd_ports.specs.Tables.{Task, names_open, right_in, fresh, ways_of, count_rights}
 use Rattle.hurd_ports.specs.Steps.{named, without_port, new_open, new_right, at_cursor, appending}
-use Rattle.hurd_machine.specs.World.{World, IsAmong, task_at, counts_at}
+use Rattle.hurd_machine.specs.World.{World, IsAmong, nodes_of, task_at, counts_at}
 use Rattle.hurd_machine.specs.Sight.{Part, OpenOf, UsersOf, TaskOf, is_on, AttrOf, Seen, Held, Holds}
 use Rattle.hurd_machine.specs.Touched.{OnNode, OnRight, OnDrop}
 use Rattle.hurd_machine.specs.Change.{Change, EditTask, MakeOpen, EditOpen, apply, porting, dropping, EditHeader, Settle, apply_all, changes_of, counted, opening, closes, closing}
@@ -24,6 +26,7 @@ use Rattle.hurd_machine.proofs.Coherence.{IsNext, CanBeNamed, FineRight, AllProp
 use Rattle.hurd_machine.proofs.Rights.{port_counts, port_table, without_counts, without_rights, without_table}
 use Rattle.hurd_machine.proofs.Frame.{Covers, Within, AllWithin, Full, not_on, not_named}
 use Rattle.hurd_machine.proofs.Several.{AllMay}
+use Rattle.hurd_machine.proofs.Filled.{counts_header}
 use Rattle.hurd_machine.proofs.Piece.{Stands, Piece, Whole, stands, settled_as, quiet, of_ports, of_header, piece_then}
 use Rattle.hurd_machine.specs.Counted.{CanCount, Counted}
 use Rattle.hurd_machine.proofs.Counting.{KeepsModes}
@@ -125,12 +128,13 @@ pub record Counts (f : Header → Header) : Type 0 where
   pub links : (h : Header) → (f h).links ≡ h.links
   pub size : (h : Header) → (f h).size ≡ h.size
   pub parent : (h : Header) → (f h).parent ≡ h.parent
+  pub passive : (h : Header) → (f h).passive ≡ h.passive
 
 pub opened_counts : (modes : OpenFlags) → Counts (opened_by modes)
-opened_counts modes = record { kind = λ h. refl; owner = λ h. refl; group = λ h. refl; mode = λ h. refl; links = λ h. refl; size = λ h. refl; parent = λ h. refl }
+opened_counts modes = record { kind = λ h. refl; owner = λ h. refl; group = λ h. refl; mode = λ h. refl; links = λ h. refl; size = λ h. refl; parent = λ h. refl; passive = λ h. refl }
 
 pub closed_counts : (modes : OpenFlags) → Counts (closed_by modes)
-closed_counts modes = record { kind = λ h. refl; owner = λ h. refl; group = λ h. refl; mode = λ h. refl; links = λ h. refl; size = λ h. refl; parent = λ h. refl }
+closed_counts modes = record { kind = λ h. refl; owner = λ h. refl; group = λ h. refl; mode = λ h. refl; links = λ h. refl; size = λ h. refl; parent = λ h. refl; passive = λ h. refl }
 
 module _ (n : Name) (f : Header → Header) (counts : Counts f) where
   abbrev counted_if : Bool → List Change
@@ -139,9 +143,10 @@ module _ (n : Name) (f : Header → Header) (counts : Counts f) where
   counted_may : (S : ℕ → Bool) (v x : World) → AllMay S v x (EditHeader n f ∷ [])
   counted_may S v x = (λ h is. less_same S v n (f h) h (counts.kind h) (counts.owner h) (counts.group h) (counts.mode h) (λ p e. inl (sym (counts.parent h) ∙ e)), tt)
 
-  pub counted_piece : {t : ℕ} {T : Part → Type 0} {v x : World} (b : Bool) → Stands x → (b ≡ true → T (AttrOf n)) → Piece t T v x (counted_if b)
-  counted_piece {t} {T} {v} {x} true s attr = of_header n f (λ h. (counts.kind h, counts.parent h, counts.links h)) counts.size s (attr refl) (λ S ours. counted_may S v x)
-  counted_piece false s attr = record { within = tt; proper = tt; linked = s.linked; sized = s.sizes; may = λ S ours. tt }
+  pub counted_piece : {t : ℕ} {T : Part → Type 0} {v x : World} (b : Bool) → counts_at x n ≡ b → Stands x → (b ≡ true → T (AttrOf n)) → Piece t T v x (counted_if b)
+  counted_piece {t} {T} {v} {x} true known s attr =
+      of_header n f (λ h. (counts.kind h, counts.parent h, counts.links h)) counts.size (counts_header x n f known (λ h. (counts.links h, counts.passive h))) s (attr refl) (λ S ours. counted_may S v x)
+  counted_piece false known s attr = record { within = tt; proper = tt; linked = s.linked; filled = s.filled; may = λ S ours. tt }
 
   pub counted_exact : (b : Bool) → AllExact (counted_if b)
   counted_exact true = (tt, tt)
@@ -163,7 +168,7 @@ module _ {t : ℕ} {T : Part → Type 0} {v w : World} (x : Task) (n : Name) (id
       let ports = porting t x n ids parents modes in
       let counts = counted w n (opened_by modes) in
       record {
-        piece = piece_then ports counts (tt, (tt, tt)) s piece (λ c. counted_piece n (opened_by modes) (opened_counts modes) (counts_at w n) c attr);
+        piece = piece_then ports counts (tt, (tt, tt)) s piece (λ c. counted_piece n (opened_by modes) (opened_counts modes) (counts_at w n) refl c attr);
         rests = subst AtRest (sym (apply_all-append ports counts w)) (counted_rests n (opened_by modes) (opened_counts modes) (counts_at w n) (apply_all ports w) rests);
         counts = counting;
       }
@@ -184,9 +189,9 @@ drops_within T w t p x r is under task parts = (
 )
 
 -- and with it its open, which is counted
-closing_piece : {t : ℕ} {T : Part → Type 0} {v x : World} (w : World) (e : Option (Name × OpenFlags)) → Stands x → ((n : Name) (modes : OpenFlags) → e ≡ Some (n, modes) → counts_at w n ≡ true → T (AttrOf n)) → Piece t T v x (closing w e)
-closing_piece w None s attr = record { within = tt; proper = tt; linked = s.linked; sized = s.sizes; may = λ S ours. tt }
-closing_piece w (Some e) s attr = counted_piece e.0 (closed_by e.1) (closed_counts e.1) (counts_at w e.0) s (attr e.0 e.1 refl)
+closing_piece : {t : ℕ} {T : Part → Type 0} {v x : World} (w : World) (e : Option (Name × OpenFlags)) → nodes_of x ≡ nodes_of w → Stands x → ((n : Name) (modes : OpenFlags) → e ≡ Some (n, modes) → counts_at w n ≡ true → T (AttrOf n)) → Piece t T v x (closing w e)
+closing_piece w None same s attr = record { within = tt; proper = tt; linked = s.linked; filled = s.filled; may = λ S ours. tt }
+closing_piece w (Some e) same s attr = counted_piece e.0 (closed_by e.1) (closed_counts e.1) (counts_at w e.0) (ap (λ (h : NodeState). counts_by (server_of h e.0)) same) s (attr e.0 e.1 refl)
 
 closing_exact : (w : World) (e : Option (Name × OpenFlags)) → AllExact (closing w e)
 closing_exact w None = tt
@@ -214,7 +219,7 @@ drop_rights w (Start n) q on = on
 pub drops_whole : {T : Part → Type 0} {v w : World} → Stands w → (t p : ℕ) (x : Task) (r : Right) → task_at w t ≡ Some x → right_in p x.ports ≡ Some r → T (TaskOf t) → ((q : Part) → OnDrop w r q → T q) → Whole t T v w (dropping w t p r)
 drops_whole {T} {v} {w} s t p x r is under task parts = settled_as (given ++ closed) exact s (piece_then given closed (tt, tt) s
     (of_ports given (tt, tt) s (drops_within T w t p x r is under task (λ q on. parts q (drop_rights w r q on)), tt) ((λ z. omega arith, x, is, without_table w s.coherent t p x is), λ d. tt) (λ S ours. ((ours, λ a at. (λ q h. inl (without_rights p a q h), inr (record { ids = inl refl; rights = λ q h. inl (without_rights p a q h) }))), tt)))
-    (λ c. closing_piece w (closes w r) c (closes_attr T w r parts))) (λ can counted. dropping_counted w s.coherent t p x r is under counted)
+    (λ c. closing_piece w (closes w r) refl c (closes_attr T w r parts))) (λ can counted. dropping_counted w s.coherent t p x r is under counted)
   where
     given : List Change
     given = EditTask t (without_port p) ∷ []

@@ -23,7 +23,7 @@ use Rattle.hurd_machine.specs.Sound.{AreDistinct, HasDistinctNames, Coherent, Li
 use Rattle.hurd_machine.proofs.Nodes.{header_in, body_in, node_of_header, header-with_body, edit_keeps, node_of_body}
 use Rattle.hurd_machine.proofs.Listed.{times_edited, times_named, dir_kind}
 use Rattle.hurd_machine.proofs.Coherence.{IsUnlisted, MayMove, Proper, entry_lists, entry_stands, none_if}
-use Rattle.hurd_machine.proofs.Sizes.{filled_append, filled_header, filled_removed}
+use Rattle.hurd_machine.proofs.Filled.{filled_append, filled_header, filled_removed, tree_header}
 use Rattle.hurd_machine.proofs.Confine.{Less, less_same}
 use Rattle.hurd_machine.proofs.Links.{Relisted}
 use Rattle.hurd_machine.proofs.Relinks.{file_linked, dir_linked}
@@ -259,6 +259,6 @@ module _ (d : Name) (name : List ℕ) (n : Name) where
     within = ((body, inl empty), (attr, tt));
     proper = (cut_proper w s.coherent d name, λ one. (head_proper w s.coherent m s.linked, λ two. tt));
     linked = left_linked w s.coherent m s.linked;
-    sized = filled_append cutting (EditHeader n unlinked ∷ []) w (filled_removed good w d name) (filled_header (apply_all cutting w) n unlinked (λ h. refl)) s.sizes;
+    filled = filled_append cutting (EditHeader n unlinked ∷ []) w (filled_removed good w d name) (filled_header (apply_all cutting w) n unlinked (λ h. refl) (tree_header (apply_all cutting w) n unlinked m.tree (λ h. (refl, refl)))) s.filled;
     may = λ S ours. ((inr (inl (sees S ours)), λ b other m is e. inl (entry_of_before name other m b (distinct_at w s.coherent d b is) e)), ((λ h at. unlinked_less S w h), tt));
   }

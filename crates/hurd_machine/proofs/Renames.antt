@@ -18,7 +18,7 @@ use Rattle.hurd_machine.specs.Sound.{Below, AreDistinct, HasDistinctNames, Coher
 use Rattle.hurd_machine.proofs.Nodes.{header_in, body_in, edit_keeps, edit_reads, header-with_header, header-with_body, body-with_header, body-with_body, node_of_body}
 use Rattle.hurd_machine.proofs.Listed.{dir_kind}
 use Rattle.hurd_machine.proofs.Coherence.{IsEntry, MayMove, Proper, AllProper, entry_lists, header_old}
-use Rattle.hurd_machine.proofs.Sizes.{filled_append, filled_header, filled_entry, filled_removed}
+use Rattle.hurd_machine.proofs.Filled.{filled_append, filled_header, filled_entry, filled_removed, keeps_header}
 use Rattle.hurd_machine.proofs.Confine.{SeenOrNew, Known, Less, less_same}
 use Rattle.hurd_machine.proofs.Permits.{entry_may}
 use Rattle.hurd_machine.proofs.Makes.{entry_proper}
@@ -202,8 +202,8 @@ module _ (d : Name) (name : List ℕ) (n e : Name) (new : List ℕ) where
         within = ((body, inl empty), (attr, ((to, inl to_empty), tt)));
         proper = going_proper w s.coherent m s.linked;
         linked = arrived_linked w s.coherent m s.linked;
-        sized = filled_append (EditBody d (without_entry name) ∷ []) (EditHeader n (moved_to e) ∷ EditBody e (with_entry new n) ∷ []) w (filled_removed good w d name)
-            (filled_append (EditHeader n (moved_to e) ∷ []) (EditBody e (with_entry new n) ∷ []) one (filled_header one n (moved_to e) (λ h. refl)) (filled_entry good two e new n into)) s.sizes;
+        filled = filled_append (EditBody d (without_entry name) ∷ []) (EditHeader n (moved_to e) ∷ EditBody e (with_entry new n) ∷ []) w (filled_removed good w d name)
+            (filled_append (EditHeader n (moved_to e) ∷ []) (EditBody e (with_entry new n) ∷ []) one (filled_header one n (moved_to e) (λ h. refl) (keeps_header one n (moved_to e) (λ h. (refl, refl, refl, refl)))) (filled_entry good two e new n into)) s.filled;
         may = λ S ours. let k = sees S ours in (
           (inr (inl k.0), λ b other m is h. inl (entry_of_before name other m b (distinct_at w s.coherent d b is) h)),
           ((λ h at. turned_less S v h k.2 (λ dir. k.3 h (sym (edit_keeps header_in (with_body (without_entry name)) (header-with_body (without_entry name)) w.nodes d n) ∙ at) dir)), (entry_may S v two e new n (inl k.1), tt)),

@@ -14,6 +14,7 @@ use Rattle.hurd_trans_iface.specs.Kinds.{behaviour_of}
 use Rattle.hurd_trans_iface.specs.Meaning.{root_of, size_of, targets_of}
 use Rattle.hurd_trans_iface.specs.Good.{KeepsRoot}
 use Rattle.hurd_nodes.specs.Held.{is_home}
+use Rattle.hurd_trans_iface.proofs.BodyLaws.{size_has}
 use Rattle.hurd_nodes.specs.Shown.{ServerInfo, info_in, own_nodes, sizing, with_text}
 use Rattle.hurd_machine.specs.World.{World, IsAmong, nodes_of, home_at, server_at}
 use Rattle.hurd_machine.specs.Sight.{Part, AttrOf, OptionsOf}
@@ -24,7 +25,7 @@ use Rattle.hurd_machine.proofs.Coherence.{AllProper, KeepsShape}
 use Rattle.hurd_machine.proofs.Retained.{retained, dropped, was_retained}
 use Rattle.hurd_machine.proofs.Frame.{AllWithin}
 use Rattle.hurd_machine.proofs.Settle.{AreQuiet}
-use Rattle.hurd_machine.proofs.Sizes.{KeepsFilled}
+use Rattle.hurd_machine.proofs.Filled.{KeepsFilled}
 use Rattle.hurd_machine.proofs.Links.{AreSteady, linked_steady}
 use Rattle.hurd_machine.proofs.Several.{AllMay}
 use Rattle.hurd_machine.proofs.Counting.{AllCalm}
@@ -166,7 +167,7 @@ module _ (w : World) (s : Name) (i : ServerInfo) where
               let same : with_text text i ≡ j = cc in
               let l = edited_from (sized (size_of i.kind text)) (get w.nodes n) x (sym (sized_here (size_of i.kind text) own w.nodes n (own_here s n w.homes home)) ∙ e) in
               let old = fit n l.0 i l.1 (ap (info_in w.servers) home ∙ is) in
-              subst (λ (z : ServerInfo). IsFilled z x) same (subst (IsFilled (with_text text i)) l.2 (sym ((keeps text refl).sized l.0.body), old.1))
+              subst (λ (z : ServerInfo). IsFilled z x) same (subst (IsFilled (with_text text i)) l.2 (sym ((keeps text refl).sized l.0.body), old.1, size_has (Some (size_of i.kind text)) i.kind l.0.header old.2))
 
           -- or of another
           there : (q : Name) → home_at w n ≡ Some q → q ≢ s → IsFilled j x
@@ -189,7 +190,7 @@ module _ (w : World) (s : Name) (i : ServerInfo) where
         within = (options, l.0);
         proper = (fits, λ one. l.1);
         linked = linked_steady (retexting w s i (Some text)) w (tt, l.3) st.linked;
-        sized = retexts_filled st.coherent is text keeps st.sizes;
+        filled = retexts_filled st.coherent is text keeps st.filled;
         may = λ S ours. (tt, l.4 S w);
       })
     where

@@ -13,7 +13,7 @@ use Rattle.hurd_machine.proofs.Coherence.{Comes, next_not, no_home, no_node, was
 use Rattle.hurd_machine.proofs.Comes.{attach_is, come_world, come_new, root_new, none_served}
 use Rattle.hurd_machine.proofs.Drop.{home_apart}
 use Rattle.hurd_machine.proofs.Links.{KeepsLinked, IsHung, Loosens, loosened, loose_any, tied, named_grown, times_new, hung_as, leads_still}
-use Rattle.hurd_machine.proofs.Sizes.{KeepsFilled}
+use Rattle.hurd_machine.proofs.Filled.{KeepsFilled}
 use Rattle.hurd_machine.proofs.Retained.{was_retained}
 
 -- a server that comes

@@ -13,7 +13,7 @@ use Rattle.hurd_trans_iface.specs.Kinds.{behaviour_of}
 use Rattle.hurd_trans_iface.specs.declared.root.Crossing.TheVariants.{Union}
 use Rattle.hurd_trans_iface.specs.Meaning.{keeps_tree, root_of, targets_of}
 use Rattle.hurd_trans_iface.specs.Good.{IsSized}
-use Rattle.hurd_trans_iface.specs.Bodies.{MayHold}
+use Rattle.hurd_trans_iface.specs.Bodies.{MayHold, MayHave}
 use Rattle.hurd_nodes.specs.Shown.{NodeState, ServerInfo, boot_name, is_root, server_of, tree_by}
 use Rattle.hurd_ports.specs.declared.table.Opened.{Opened}
 use Rattle.hurd_ports.specs.declared.table.IoRight.{IoRight}
@@ -135,9 +135,9 @@ pub record Coherent (w : World) : Type 0 where
   pub kinds : AreOfKind (nodes_of w)
   pub tables : AreTables w
 
--- a node has the size that its server says, and holds what may be in it
+-- a node has the size that its server says, holds what may be in it, and has in its header what may be there
 abbrev pub IsFilled : ServerInfo → Node → Type 0
-IsFilled i x = IsSized (behaviour_of i.kind) i.text x × MayHold i.kind x.body
+IsFilled i x = IsSized (behaviour_of i.kind) i.text x × MayHold i.kind x.body × MayHave i.kind x.header
 
 -- each node does, whose server is there
 abbrev pub AreFilled : NodeState → Type 0
@@ -180,9 +180,9 @@ pub record AtRest (w : World) : Type 0 where
   pub servers : (s : Name) (i : ServerInfo) → server_at w s ≡ Some i → server_stays w s ≡ true
   pub opens : IsSettled (ports_of w)
 
--- a world that hangs together, whose nodes are linked as a tree is, and hold what their sizes say and their servers may have in them, and from which nothing is to be taken out
+-- a world that hangs together, whose nodes are linked as a tree is, and are filled as their servers may have them, and from which nothing is to be taken out
 pub record Sound (w : World) : Type 0 where
   pub coherent : Coherent w
   pub linked : Linked (nodes_of w)
-  pub sizes : AreFilled (nodes_of w)
+  pub filled : AreFilled (nodes_of w)
   pub settled : AtRest w

@@ -7,8 +7,9 @@ use crate::places::place_of;
 use crate::settrans::setting_of;
 use crate::usage::{listed_of, node_of, pair_of, triple_of};
 use hurd_creds::{Bytes, Errno};
+use hurd_numbers::number;
 use hurd_trans_iface::Words;
-use hurd_words::numbers::{mode, number};
+use hurd_words::modes::mode;
 use std::alloc::{AllocError, Global};
 
 /// The bytes of a text.

@@ -14,8 +14,8 @@ use crate::calls;
 use crate::fault::{NoMemory, Stop};
 use hurd_creds::{Bytes, Errno, OpenFlags, TaskId};
 use hurd_lookup::first_slash;
+use hurd_numbers::long_number;
 use hurd_trans_iface::{Server, Words};
-use hurd_words::numbers::long_number;
 use hurd_world::World;
 use std::alloc::{AllocError, Global};
 

@@ -10,8 +10,8 @@ use crate::drops::Drops;
 use crate::lone::Lone;
 use crate::presence::Presence;
 use hurd_creds::{Bytes, Errno};
+use hurd_numbers::long_number;
 use hurd_trans_iface::{Words, says_drops};
-use hurd_words::numbers::long_number;
 use std::alloc::Global;
 
 /// A stream of as many bytes as its word says, one for each read, after which reads fail (this project's own).

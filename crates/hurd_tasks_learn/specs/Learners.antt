@@ -2,7 +2,7 @@
 use Rattle.std.specs.Prelude.{◌==◌, ℕ, Bool, true, false, List, [], ◌∷◌, ◌++◌, Option, Some, None, if◌then◌else◌, codes, length, nat_lt, option_and_then}
 use Rattle.std.specs.List.{slice_split}
 use Rattle.hurd_creds.specs.declared.name.TaskId.{TaskId}
-use Rattle.hurd_words.specs.Numbers.{number_of}
+use Rattle.hurd_numbers.specs.Numbers.{number_of}
 use Rattle.hurd_words.specs.Reading.{Refuses, Takes}
 use Rattle.hurd_words.specs.Words.{onto}
 

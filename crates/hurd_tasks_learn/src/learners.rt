@@ -7,8 +7,8 @@ ghost use Rattle.hurd_teaching.specs.Learners.{Named, numbers};
 ghost use Rattle.hurd_tasks_learn.specs.Learners.{Finds, called, noun_of, task_of, tasks_named};
 
 use hurd_creds::TaskId;
+use hurd_numbers::number;
 use hurd_teaching::Learners;
-use hurd_words::numbers::number;
 use hurd_words::users::parts;
 use std::alloc::{AllocError, Global};
 

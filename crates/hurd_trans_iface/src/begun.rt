@@ -12,7 +12,7 @@ ghost use Rattle.hurd_trans_iface.specs.TmpfsKind.{no_text};
 ghost use Rattle.hurd_trans_iface.specs.Words.{IsWithinLimits};
 
 use hurd_creds::{Bytes, MOST_PATH};
-use hurd_words::numbers::long_number;
+use hurd_numbers::long_number;
 
 /// The most directories of a union.
 const MOST_BRANCHES: usize = 16;

@@ -1,4 +1,4 @@
 pub mod Loops
-pub mod NumberLemmas
+pub mod ModeLemmas
 pub mod UserLemmas
 pub mod WordLemmas

@@ -1,5 +1,5 @@
 pub mod Words
 pub mod Lines
-pub mod Numbers
+pub mod Modes
 pub mod Users
 pub mod Reading

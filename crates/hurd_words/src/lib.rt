@@ -1,14 +1,14 @@
-//! Texts by their parts: lines, words with escapes, numbers, and lists of ids and users.
+//! Texts by their parts: lines, words with escapes, modes, and lists of ids and users.
 //!
 //! A text is lines, each ended by a newline; lines that are empty, only spaces or begin with `#` are skipped. Words are of
-//! printable ASCII, between spaces; in a word `\s` is a space, `\n` a newline and `\\` a backslash. Numbers are decimal or octal
-//! digits without a sign; ids are decimal numbers joined by commas, or `-` for none.
+//! printable ASCII, between spaces; in a word `\s` is a space, `\n` a newline and `\\` a backslash. Modes are octal digits without a
+//! sign; ids are decimal numbers joined by commas, or `-` for none.
 //!
 //! It knows no script and no list of calls: those are read by the crates above.
 #![tactic(auto)]
 
 pub mod fault;
 pub mod lines;
-pub mod numbers;
+pub mod modes;
 pub mod users;
 pub mod words;

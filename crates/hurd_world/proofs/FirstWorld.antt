@@ -14,7 +14,7 @@ use Rattle.hurd_creds.proofs.MapLaws.{get-map_values}
 use Rattle.hurd_trans_iface.specs.Nodes.{Node, Header, IsShaped, is_dir, header_of, body_of}
 use Rattle.hurd_trans_iface.specs.declared.root.Root.{Root}
 use Rattle.hurd_trans_iface.specs.Answers.{is_plain, is_tree}
-use Rattle.hurd_trans_iface.proofs.BodyLaws.{begun_holds}
+use Rattle.hurd_trans_iface.proofs.BodyLaws.{begun_has, begun_holds}
 use Rattle.hurd_trans_iface.specs.Meaning.{Meaning, Begins, ServerKind, behaviour_of, empty_body, new_root, new_server, root_of, targets_of}
 use Rattle.hurd_trans_iface.proofs.Beginnings.{begun-new}
 use Rattle.hurd_trans_iface.proofs.Goods.{tree-told}
@@ -173,7 +173,7 @@ module _ (kind : ServerKind) (text : List ℕ) where
       let e = node_only n x is in
       let served : server_of state n ≡ Some info = ap (server_of state) e.0 ∙ ap (info_in state.servers) root_home ∙ root_server in
       let same : info ≡ i = cc in
-      subst (λ (j : ServerInfo). IsFilled j x) same (rw e.1 (refl, begun_holds kind text))
+      subst (λ (j : ServerInfo). IsFilled j x) same (rw e.1 (refl, begun_holds kind text, begun_has kind text _ _ _))
 
   -- with the ports of tasks
   module _ (tasks : List IdSets) where
@@ -239,7 +239,7 @@ module _ (kind : ServerKind) (text : List ℕ) where
     }
 
     sound : Sound w
-    sound = record { coherent = record { given = given; housing = housed; seating = seated; tree = tree; kinds = kinds; tables = tables }; linked = linked; sizes = sized; settled = rest }
+    sound = record { coherent = record { given = given; housing = housed; seating = seated; tree = tree; kinds = kinds; tables = tables }; linked = linked; filled = sized; settled = rest }
 
     -- no open reads or writes
     no_mode : (mode : ℕ) → asks closed_open mode ≡ false → (n : Name) → HasOpens w n mode 0

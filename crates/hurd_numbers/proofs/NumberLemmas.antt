@@ -1,30 +1,21 @@
 -- Numbers in words.
-use Rattle.std.proofs.Common.{IfSome, IsSome, nat_eq, nat_le, ◌↔◌, ◌^◌, ℕ, ◌≡◌, ◌<◌, ◌≤◌, ◌∷◌, ◌&&◌, [], List, Option, Some, None, Result, Ok, Err, true, false, refl, subst, ◌∙◌, ap, arith, length, rules, nat_lt, bit_and}
+use Rattle.std.proofs.Common.{nat_le, ◌^◌, ℕ, ◌≡◌, ◌<◌, ◌≤◌, ◌∷◌, ◌&&◌, [], List, Option, Some, None, Result, Ok, Err, true, false, refl, subst, ◌∙◌, ap, arith, length, rules, nat_lt}
 use Rattle.std.specs.Char.{is_ascii_digit}
 use Rattle.std.specs.List.{list_all}
 use Rattle.std.specs.Result.{result_ok, OkIff}
 use Rattle.std.specs.Str.{IsAscii, IsUtf8}
 use Rattle.std.specs.Str.Parse.{AllDigits, IsNumeral, ParsesUnsigned, digits_value, without_leading_plus}
-use Rattle.std.proofs.Math.Nat.{pow-le-pow_right}
 use Rattle.std.proofs.lemmas.Bool.Decides.{nat_tests}
 use Rattle.std.proofs.lemmas.Str.{IsUtf8-from_ascii}
 use Rattle.std.proofs.lemmas.Str.Ascii.{IsAscii-nil, IsAscii-cons}
-use Rattle.std.proofs.lemmas.Bool.{and_from, and_parts, eq-eqb, eqb-true, le-leb, le-ltb, leb-true, lt-ltb}
-use Rattle.std.proofs.lemmas.Int.Digits.{digits_value-lt}
+use Rattle.std.proofs.lemmas.Bool.{and_from, and_parts, le-ltb, leb-true, lt-ltb}
 use Rattle.std.proofs.lemmas.Result.{OkIff-at_ok, OkIff-at_err}
 use Rattle.std.proofs.lemmas.Str.{digit_value_digit}
 use Rattle.std.proofs.lemmas.Str.Parse.{IsNumeralModel, numerals_by_value, parse_digits, without_leading_plus_none}
-use Rattle.hurd_creds.specs.declared.mode.Mode.{Mode}
-use Rattle.hurd_creds.specs.Bits.{known_modes}
-use Rattle.hurd_words.specs.Words.{has_bytes}
-use Rattle.hurd_words.specs.Numbers.{decimal_of, is_octal_digit, mode_from, octal_number_of, octal_of}
+use Rattle.hurd_numbers.specs.Numbers.{decimal_of, is_octal_digit, octal_number_of}
 
 digits : IsNumeralModel (λ ds. list_all is_ascii_digit ds ≡ true) (digits_value 10)
 digits = numerals_by_value (λ ds. list_all is_ascii_digit ds ≡ true) (search rules)
-
-some_bytes : (ds : List ℕ) → 0 < length ds → has_bytes ds ≡ true
-some_bytes [] h = absurd (omega arith)
-some_bytes (c ∷ cs) h = refl
 
 one_or_more : (c : ℕ) (cs : List ℕ) → 0 < length (c ∷ cs)
 one_or_more c cs = omega arith
@@ -36,14 +27,14 @@ not_below a b h = omega arith
 pub number_read : {E : Type 0} (bits : ℕ) (ds : List ℕ) (r : Result ℕ E) (o : Option ℕ) → list_all is_ascii_digit ds ≡ true → ParsesUnsigned bits 10 ds r → o ≡ result_ok r → o ≡ decimal_of bits ds
 number_read {E} bits ds (Ok n) o d p e =
     let q = OkIff-at_ok {T = ℕ} {E = E} (Ok n) _ (digits_value 10 ds) n (parse_digits digits {E = E} bits ds (Ok n) p d) refl in
-    let t : (has_bytes ds && (list_all is_ascii_digit ds && nat_lt (digits_value 10 ds) (2 ^ bits))) ≡ true =
-    and_from _ _ (some_bytes ds q.0.0) (and_from _ _ d (lt-ltb (digits_value 10 ds) (2 ^ bits) q.0.1)) in
+    let t : (nat_lt 0 (length ds) && (list_all is_ascii_digit ds && nat_lt (digits_value 10 ds) (2 ^ bits))) ≡ true =
+    and_from _ _ (lt-ltb 0 (length ds) q.0.0) (and_from _ _ d (lt-ltb (digits_value 10 ds) (2 ^ bits) q.0.1)) in
     e ∙ rw t (ap Some q.1)
 number_read {E} bits [] (Err x) o d p e = e
 number_read {E} bits (c ∷ cs) (Err x) o d p e =
     let q = OkIff-at_err {T = ℕ} {E = E} (Err x) _ (digits_value 10 (c ∷ cs)) x (parse_digits digits {E = E} bits (c ∷ cs) (Err x) p d) refl in
     let b : nat_lt (digits_value 10 (c ∷ cs)) (2 ^ bits) ≡ false = le-ltb (digits_value 10 (c ∷ cs)) (2 ^ bits) (not_below _ _ (λ l. q (one_or_more c cs, l))) in
-    e ∙ rw (d, b) refl
+    e ∙ rw (lt-ltb 0 (length (c ∷ cs)) (one_or_more c cs), d, b) refl
 
 -- digits are text
 
@@ -74,9 +65,6 @@ unsigned (c ∷ cs) h =
     let low = leb-true 48 c (and_parts (nat_le 48 c) (nat_le c 55) p.0).0 in
     without_leading_plus_none (c ∷ cs) (λ e. omega (arith, low, e))
 
-small : (ds : List ℕ) → length ds ≤ 6 → list_all is_octal_digit ds ≡ true → digits_value 8 ds < 2 ^ 32
-small ds l h = omega (arith, digits_value-lt 8 ds (octal_digits ds h), pow-le-pow_right {n = 8} (omega arith) l)
-
 octal_parse : {E : Type 0} (ds : List ℕ) (r : Result ℕ E) → list_all is_octal_digit ds ≡ true → ParsesUnsigned 32 8 ds r
     → OkIff r (IsNumeral 8 ds × (digits_value 8 ds < 2 ^ 32)) (digits_value 8 ds)
 octal_parse ds r h p = subst (λ (l : List ℕ). OkIff r (IsNumeral 8 l × (digits_value 8 l < 2 ^ 32)) (digits_value 8 l)) (unsigned ds h) p
@@ -85,32 +73,11 @@ octal_parse ds r h p = subst (λ (l : List ℕ). OkIff r (IsNumeral 8 l × (digi
 pub octal_number_read : {E : Type 0} (ds : List ℕ) (r : Result ℕ E) (o : Option ℕ) → list_all is_octal_digit ds ≡ true → ParsesUnsigned 32 8 ds r → o ≡ result_ok r → o ≡ octal_number_of ds
 octal_number_read {E} ds (Ok n) o d p e =
     let q = OkIff-at_ok {T = ℕ} {E = E} (Ok n) _ (digits_value 8 ds) n (octal_parse {E = E} ds (Ok n) d p) refl in
-    let t : (has_bytes ds && (list_all is_octal_digit ds && nat_lt (digits_value 8 ds) (2 ^ 32))) ≡ true =
-    and_from _ _ (some_bytes ds q.0.0.0) (and_from _ _ d (lt-ltb (digits_value 8 ds) (2 ^ 32) q.0.1)) in
+    let t : (nat_lt 0 (length ds) && (list_all is_octal_digit ds && nat_lt (digits_value 8 ds) (2 ^ 32))) ≡ true =
+    and_from _ _ (lt-ltb 0 (length ds) q.0.0.0) (and_from _ _ d (lt-ltb (digits_value 8 ds) (2 ^ 32) q.0.1)) in
     e ∙ rw t (ap Some q.1)
 octal_number_read {E} [] (Err x) o d p e = e
 octal_number_read {E} (c ∷ cs) (Err x) o d p e =
     let q = OkIff-at_err {T = ℕ} {E = E} (Err x) _ (digits_value 8 (c ∷ cs)) x (octal_parse {E = E} (c ∷ cs) (Err x) d p) refl in
     let b : nat_lt (digits_value 8 (c ∷ cs)) (2 ^ 32) ≡ false = le-ltb (digits_value 8 (c ∷ cs)) (2 ^ 32) (not_below _ _ (λ l. q ((one_or_more c cs, octal_digits (c ∷ cs) d), l))) in
-    e ∙ rw (d, b) refl
-
--- what `from_str_radix` makes of octal digits
-pub octal_read : {E : Type 0} (ds : List ℕ) (r : Result ℕ E) (o : Option ℕ) → length ds ≤ 6 → list_all is_octal_digit ds ≡ true → ParsesUnsigned 32 8 ds r
-    → o ≡ result_ok r → o ≡ octal_of ds
-octal_read {E} ds (Ok n) o l h p e =
-    let q = OkIff-at_ok {T = ℕ} {E = E} (Ok n) _ (digits_value 8 ds) n (octal_parse {E = E} ds (Ok n) h p) refl in
-    let t : (has_bytes ds && (nat_le (length ds) 6 && list_all is_octal_digit ds)) ≡ true =
-    and_from _ _ (some_bytes ds q.0.0.0) (and_from _ _ (le-leb (length ds) 6 l) h) in
-    e ∙ rw t (ap Some q.1)
-octal_read {E} [] (Err x) o l h p e = e
-octal_read {E} (c ∷ cs) (Err x) o l h p e =
-    let q = OkIff-at_err {T = ℕ} {E = E} (Err x) _ (digits_value 8 (c ∷ cs)) x (octal_parse {E = E} (c ∷ cs) (Err x) h p) refl in
-    absurd (q ((one_or_more c cs, octal_digits (c ∷ cs) h), small (c ∷ cs) l h))
-
--- the mode of bits, where `from_bits` makes one
-pub mode_read : (bits : ℕ) (o : Option Mode) → IfSome o (λ m. m.0 ≡ bits) → (IsSome o ↔ (bit_and bits known_modes ≡ bits)) → o ≡ mode_from bits
-mode_read bits (Some m) v k = rw (eq-eqb (bit_and bits known_modes) bits (k.0 refl)) (let of_bits : ℕ → Mode = λ n. record { 0 = n } in ap (λ n. Some (of_bits n)) v)
-mode_read bits None v k = elim (nat_eq (bit_and bits known_modes) bits) as (λ is. nat_eq (bit_and bits known_modes) bits ≡ is → None ≡ mode_from bits) [
-  | true ↦ λ e. let some : false ≡ true = k.1 (eqb-true _ _ e) in absurd (cc)
-  | false ↦ λ e. rw e refl
-] refl
+    e ∙ rw (lt-ltb 0 (length (c ∷ cs)) (one_or_more c cs), d, b) refl

@@ -1,6 +1,6 @@
 use Rattle.std.proofs.Common.{◌∙◌, sym}
-use Rattle.hurd_words.proofs.NumberLemmas.{number_read}
-use Rattle.hurd_words.proofs.numbers.number.Goals as goal
+use Rattle.hurd_numbers.proofs.NumberLemmas.{number_read}
+use Rattle.hurd_numbers.proofs.decimal.number.Goals as goal
 
 pub returns-then-are_digits : goal.returns-then-are_digits
 returns-then-are_digits c =

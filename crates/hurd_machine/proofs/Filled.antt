@@ -1,5 +1,5 @@
--- Changes that keep the sizes of nodes those that their servers say, and what is in them what may be there.
-use Rattle.std.proofs.Common.{◌≡◌, ◌≢◌, ℕ, true, List, [], ◌∷◌, ◌++◌, Option, Some, None, sym, refl, ◌∙◌, ap, ap₂, subst, inl, inr}
+-- Changes after which nodes still have the sizes that their servers say, and in them and in their headers what may be there.
+use Rattle.std.proofs.Common.{◌≡◌, ◌≢◌, ℕ, true, true≢false, List, [], ◌∷◌, ◌++◌, Option, Some, None, sym, refl, ◌∙◌, ap, ap₂, subst, inl, inr}
 use Rattle.std.specs.Prelude.{Ok}
 use Rattle.std.specs.Option.{option_map}
 use Rattle.std.specs.FinMap.{get}
@@ -9,11 +9,12 @@ use Rattle.hurd_creds.proofs.NameLaws.{same_or_apart, get_here, get_apart, edit_
 use Rattle.hurd_trans_iface.specs.Nodes.{Node, Header, Body, with_header, with_body, on_bytes, with_size, with_entry, without_entry}
 use Rattle.hurd_trans_iface.specs.Behaviour.{Did, Question, edits_of, edit_bytes, edit_size, bytes_left, size_left}
 use Rattle.hurd_trans_iface.specs.Good.{KeepsSizes, GoodBehaviour}
-use Rattle.hurd_trans_iface.specs.Bodies.{MayHold}
-use Rattle.hurd_trans_iface.proofs.BodyLaws.{KeepsBody, less_holds, tree_holds}
+use Rattle.hurd_trans_iface.specs.Bodies.{MayHold, MayHave}
+use Rattle.hurd_trans_iface.proofs.BodyLaws.{KeepsBody, have_as, less_holds, size_has, tree_holds}
 use Rattle.hurd_trans_iface.specs.Kinds.{ServerKind, behaviour_of}
+use Rattle.hurd_nodes.specs.Needs.{counts_by}
 use Rattle.hurd_nodes.specs.Shown.{ServerInfo, info_in, asked_of, tree_by}
-use Rattle.hurd_machine.specs.World.{World, nodes_of, server_at, info_at, asked_at}
+use Rattle.hurd_machine.specs.World.{World, nodes_of, server_at, info_at, asked_at, counts_at}
 use Rattle.hurd_machine.specs.Change.{Change, EditHeader, EditBody, MakeNode, EditOpen, MakeOpen, EditTask, Send, Settle, apply, apply_all, changes_of, stays}
 use Rattle.hurd_machine.specs.Sound.{Coherent, IsFilled, AreFilled}
 use Rattle.hurd_machine.proofs.Stays.{sweep, info_still}
@@ -62,7 +63,7 @@ nodes-ports (c ∷ cs) w p = nodes-ports cs (apply c w) p.1 ∙ ports_one c w p.
 pub filled_ports : (cs : List Change) (w : World) → AreOfPorts cs → KeepsFilled w cs
 filled_ports cs w p sized = subst AreFilled (sym (nodes-ports cs w p)) sized
 
--- what is left once a world is settled has the size that it had
+-- what is left once a world is settled is as it was
 pub filled_settle : (w : World) → KeepsFilled w (Settle ∷ [])
 filled_settle w sized = settle_by (λ x. AreFilled (nodes_of x)) each (λ x s. s) w sized
   where
@@ -134,13 +135,28 @@ did_filled q keeps w c n d told sized = filled_left w n d.bytes d.size fit sized
     fit x is i known =
         let old = sized n x i is known in
         let said = sym (ap₂ (asked_of q) known is) ∙ told in
-        ((keeps i.kind).0 i.text x d (c.tree.shapes n x is) old.0 said, (keeps i.kind).1 i.text x d old.1 said)
+        ((keeps i.kind).0 i.text x d (c.tree.shapes n x is) old.0 said, (keeps i.kind).1 i.text x d old.1 said, size_has d.size i.kind x.header old.2)
 
--- a header changed, but not its size
-pub filled_header : (w : World) (n : Name) (f : Header → Header) → ((h : Header) → (f h).size ≡ h.size) → KeepsFilled w (EditHeader n f ∷ [])
-filled_header w n f keeps sized =
+-- a change of a header that leaves in it what may be there
+abbrev pub KeepsHeader : World → Name → (Header → Header) → Type 0
+KeepsHeader w n f = (i : ServerInfo) (h : Header) → info_at w n ≡ Some i → MayHave i.kind h → MayHave i.kind (f h)
+
+-- which it does if it sets none of what few nodes may have; or if it sets links and words in a tree; or counts where opens are counted
+
+pub keeps_header : (w : World) (n : Name) (f : Header → Header) → ((h : Header) → ((f h).readers ≡ h.readers) × ((f h).writers ≡ h.writers) × ((f h).links ≡ h.links) × ((f h).passive ≡ h.passive)) → KeepsHeader w n f
+keeps_header w n f same i h known may = have_as i.kind h (f h) (λ none. ((same h).0, (same h).1)) (λ none. ((same h).2, (same h).3)) may
+
+pub tree_header : (w : World) (n : Name) (f : Header → Header) → tree_by (info_at w n) ≡ true → ((h : Header) → ((f h).readers ≡ h.readers) × ((f h).writers ≡ h.writers)) → KeepsHeader w n f
+tree_header w n f tree same i h known may = have_as i.kind h (f h) (λ none. same h) (λ none. absurd (true≢false (sym tree ∙ ap tree_by known ∙ none))) may
+
+pub counts_header : (w : World) (n : Name) (f : Header → Header) → counts_at w n ≡ true → ((h : Header) → ((f h).links ≡ h.links) × ((f h).passive ≡ h.passive)) → KeepsHeader w n f
+counts_header w n f counts same i h known may = have_as i.kind h (f h) (λ none. absurd (true≢false (sym counts ∙ ap counts_by known ∙ none))) (λ none. same h) may
+
+-- a header changed so, but not its size
+pub filled_header : (w : World) (n : Name) (f : Header → Header) → ((h : Header) → (f h).size ≡ h.size) → KeepsHeader w n f → KeepsFilled w (EditHeader n f ∷ [])
+filled_header w n f keeps has sized =
     filled_by w (apply (EditHeader n f) w) n (with_header f) (edit_here w.nodes n (with_header f)) (edit_apart w.nodes n (with_header f)) (λ m. refl)
-    (λ x is i known. let old = sized n x i is known in (keeps x.header ∙ old.0, old.1)) sized
+    (λ x is i known. let old = sized n x i is known in (keeps x.header ∙ old.0, old.1, has i x.header known old.2)) sized
 
 -- a node made, and an entry for it
 
@@ -157,7 +173,7 @@ filled_body : (w : World) (d : Name) (g : Body → Body) → ((k : ServerKind) (
     → ((i : ServerInfo) (b : Body) → info_at w d ≡ Some i → MayHold i.kind b → MayHold i.kind (g b)) → KeepsFilled w (EditBody d g ∷ [])
 filled_body w d g keeps holds sized =
     filled_by w (apply (EditBody d g) w) d (with_body g) (edit_here w.nodes d (with_body g)) (edit_apart w.nodes d (with_body g)) (λ m. refl)
-    (λ x is i known. let old = sized d x i is known in (old.0 ∙ sym (keeps i.kind i.text x.body), holds i x.body known old.1)) sized
+    (λ x is i known. let old = sized d x i is known in (old.0 ∙ sym (keeps i.kind i.text x.body), holds i x.body known old.1, old.2)) sized
 
 -- an entry comes into a directory of a tree
 pub filled_entry : ((k : ServerKind) → GoodBehaviour (behaviour_of k)) → (w : World) (d : Name) (name : List ℕ) (n : Name) → tree_by (info_at w d) ≡ true → KeepsFilled w (EditBody d (with_entry name n) ∷ [])

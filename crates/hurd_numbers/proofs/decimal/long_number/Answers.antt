@@ -1,6 +1,6 @@
 use Rattle.std.proofs.Common.{◌≡◌, ◌∙◌, sym}
-use Rattle.hurd_words.proofs.NumberLemmas.{digits_text, number_read}
-use Rattle.hurd_words.proofs.numbers.long_number.Goals as goal
+use Rattle.hurd_numbers.proofs.NumberLemmas.{digits_text, number_read}
+use Rattle.hurd_numbers.proofs.decimal.long_number.Goals as goal
 
 pub returns-in-Ok : goal.returns-in-Ok
 returns-in-Ok c = let same : c.in-Ok.digits.now ≡ c.args.digits.now = c.in-Ok.ensures.cases.0 in number_read 64 c.args.digits.now c.parse.result c.ok.result (sym c.are_digits.ensures ∙ c.if-not-are_digits.false) (rw same at c.parse.ensures.value.0) c.ok.ensures.value

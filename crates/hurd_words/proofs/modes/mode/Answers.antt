@@ -1,8 +1,8 @@
 use Rattle.std.proofs.Common.{◌∙◌, ap, option_and_then}
 use Rattle.bitflags.proofs.OnLiterals.{bitflags_on_literals}
-use Rattle.hurd_words.specs.Numbers.{mode_from}
-use Rattle.hurd_words.proofs.NumberLemmas.{mode_read}
-use Rattle.hurd_words.proofs.numbers.mode.Goals as goal
+use Rattle.hurd_words.specs.Modes.{mode_from}
+use Rattle.hurd_words.proofs.ModeLemmas.{mode_read}
+use Rattle.hurd_words.proofs.modes.mode.Goals as goal
 
 pub returns : goal.returns
 unfolding bitflags_on_literals
