@@ -14,13 +14,13 @@ use Rattle.hurd_creds.specs.Bits.{asks, READ, WRITE}
 use Rattle.hurd_creds.specs.Names.{same_name}
 use Rattle.hurd_creds.proofs.NameLaws.{equal_if_same, same_name-itself, apart_if_not_same, same_name-apart}
 use Rattle.hurd_trans_iface.specs.Nodes.{Header, header_of, is_dir}
-use Rattle.hurd_nodes.specs.Shown.{ServerInfo, boot_name}
+use Rattle.hurd_nodes.specs.Shown.{NodeState, ServerInfo, boot_name}
 use Rattle.hurd_ports.specs.declared.table.Opened.{Opened}
 use Rattle.hurd_ports.specs.declared.table.IoRight.{IoRight}
-use Rattle.hurd_ports.specs.Tables.{Task}
+use Rattle.hurd_ports.specs.Tables.{PortState, Task}
 use Rattle.hurd_ports.specs.declared.table.Right.{Right}
 use Rattle.hurd_ports.specs.declared.table.Right.TheVariants.{Io, Control, Start}
-use Rattle.hurd_machine.specs.World.{World, IsAmong, nodes_of, active_at, counts_at, header_at, home_at, open_at, server_at}
+use Rattle.hurd_machine.specs.World.{World, IsAmong, world_from, nodes_of, active_at, counts_at, header_at, home_at, open_at, server_at}
 use Rattle.hurd_machine.specs.Sight.{Could, CouldServe, Holds, OwnsIt, Seen, Sees, SeesBody, ToRead, ToSearch, ToPut, IsOpen, SeesEmpty, ByBody, ByParent, Knows, OfNode, OfSeat, OfControl, MaySend, Sends, ByControl, ByNode, BySeat, bare}
 use Rattle.hurd_sight.specs.Reach.{Gathers, Reaches, among, could_with, serves}
 use Rattle.hurd_sight.specs.Found.{FoundAll, IsSight, is_found}
@@ -249,6 +249,16 @@ gathered_at w tasks kept ids es v known sendable same all rights knows = (
     known = knows;
   },
 )
+
+-- the same of nodes and ports that are such a world together
+pub seen_of : (N : NodeState) (H : PortState) (tasks : List TaskId) (kept : Vec TaskId) (ids : IdSets) (es : Entries) (v : RightNames) (known sendable : List Name) → kept.items ≡ tasks → Gathers H.tasks tasks ids
+    → FoundAll N H.tasks ids tasks es → v ≡ with_rights H.opens (rights_held H.tasks tasks) no_names → known ≡ named (of_found (known_at N) es) [] → sendable ≡ named (of_found (sendable_at N ids) es) []
+    → let sight : Sight = record { tasks = kept; reach = ids; found = es; rights = v; known = known; sendable = sendable } in
+      Looks (among tasks) (world_from N H) sight × (kept.items ≡ tasks) × Gathered (world_from N H) sight
+seen_of N H tasks kept ids es v known sendable same gathered all rights knows sends =
+    let w = world_from N H in
+    let how = gathered_at w tasks kept ids es v known sendable same all rights knows in
+    (looks_at w tasks kept ids es v known sendable same gathered all rights knows sends, how.0, how.1)
 
 -- which parts are seen
 

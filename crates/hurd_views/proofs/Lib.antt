@@ -1,3 +1,4 @@
+pub mod LentLaws
 pub mod RowLaws
 pub mod ViewLaws
 pub mod ToldLaws

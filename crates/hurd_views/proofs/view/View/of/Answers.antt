@@ -1,12 +1,16 @@
-use Rattle.std.proofs.Common.{◌∙◌, ap, length}
+use Rattle.std.proofs.Common.{◌≡◌, ◌∙◌, ap, length}
 use Rattle.hurd_ports.specs.Tables.{Tables}
+use Rattle.hurd_sight.specs.Reach.{among}
+use Rattle.hurd_sight.specs.Looks.{Gathered, Looks}
+use Rattle.hurd_views.proofs.LentLaws.{of_lent}
 use Rattle.hurd_views.proofs.view.View.of.Goals as goal
 
 pub returns : goal.returns
 returns g c =
-    let gathered = rw (c.nodes.ensures, c.ports.ensures) at c.in_ok-sight.ensures.gathered in
+    let lent = of_lent g.S.Server.meaning c.args.core.now c.nodes.result.now c.ports.result.now c.nodes.ensures c.ports.ensures in
+    let gathered = lent (λ w. (c.in_ok-sight.sight.tasks.items ≡ c.args.tasks.now) × Gathered w c.in_ok-sight.sight) c.in_ok-sight.ensures.gathered in
     record {
-      looks = rw (c.nodes.ensures, c.ports.ensures) at c.in_ok-sight.ensures.looks;
+      looks = lent (λ w. Looks (among c.args.tasks.now) w c.in_ok-sight.sight) c.in_ok-sight.ensures.looks;
       ours = gathered.0;
       gathered = gathered.1;
       rows = c.in_ok-rows.ensures;
