@@ -254,7 +254,7 @@ gathered_at w tasks kept ids es v known sendable same all rights knows = (
 pub seen_of : (N : NodeState) (H : PortState) (tasks : List TaskId) (kept : Vec TaskId) (ids : IdSets) (es : Entries) (v : RightNames) (known sendable : List Name) → kept.items ≡ tasks → Gathers H.tasks tasks ids
     → FoundAll N H.tasks ids tasks es → v ≡ with_rights H.opens (rights_held H.tasks tasks) no_names → known ≡ named (of_found (known_at N) es) [] → sendable ≡ named (of_found (sendable_at N ids) es) []
     → let sight : Sight = record { tasks = kept; reach = ids; found = es; rights = v; known = known; sendable = sendable } in
-      Looks (among tasks) (world_from N H) sight × (kept.items ≡ tasks) × Gathered (world_from N H) sight
+    Looks (among tasks) (world_from N H) sight × (kept.items ≡ tasks) × Gathered (world_from N H) sight
 seen_of N H tasks kept ids es v known sendable same gathered all rights knows sends =
     let w = world_from N H in
     let how = gathered_at w tasks kept ids es v known sendable same all rights knows in

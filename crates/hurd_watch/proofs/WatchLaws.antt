@@ -1,5 +1,5 @@
 -- What is kept of what is seen.
-use Rattle.std.proofs.Common.{◌≡◌, ℕ, Bool, true, List, [], Option, Some, None, Result, not, refl, ap, sym, subst, ◌∙◌, true≢false}
+use Rattle.std.proofs.Common.{◌≡◌, ℕ, Bool, true, List, [], Option, Some, None, Result, not, ap, sym, subst, ◌∙◌, true≢false}
 use Rattle.std.specs.Prelude.{IfOk, is_some}
 use Rattle.hurd_creds.specs.declared.name.TaskId.{TaskId}
 use Rattle.hurd_machine.specs.World.{World}
@@ -9,9 +9,9 @@ use Rattle.hurd_lessons.specs.Lessons.{Lessons}
 use Rattle.hurd_watch.specs.Watched.{LearnedSince, SeesOr}
 
 -- a first look
-pub sees_first : (tasks : List TaskId) (w : World) (before : Option View) (v : View) (q : Bool) → is_some before ≡ not q → q ≡ true → Views tasks w v → SeesOr tasks w before (Some v)
-sees_first tasks w None v q none is views = (v, refl, views)
-sees_first tasks w (Some u) v q some is views = absurd (true≢false (some ∙ ap not is))
+pub sees_first : (tasks : List TaskId) (w : World) (before now : Option View) (v : View) (q : Bool) → is_some before ≡ not q → q ≡ true → now ≡ Some v → Views tasks w v → SeesOr tasks w before now
+sees_first tasks w None now v q none is kept views = (v, kept, views)
+sees_first tasks w (Some u) now v q some is kept views = absurd (true≢false (some ∙ ap not is))
 
 -- what is learned since a look, and since none
 

@@ -1,5 +1,5 @@
 //! What some tasks saw when they were last looked at.
-ghost use Rattle.std.specs.Prelude.{◌≡◌, None, IfErr, IfOk, OnOk};
+ghost use Rattle.std.specs.Prelude.{◌≡◌, None, Some, IfErr, IfOk, OnOk};
 ghost use Rattle.hurd_world.specs.Held.{world_of};
 ghost use Rattle.hurd_watch.specs.Watched.{LearnedSince, Learns, SeesOr};
 
@@ -51,7 +51,8 @@ impl Watch {
         ensures err { IfErr result (λ e. self.new.seen ≡ self.old.seen) }
     {
         if self.seen.is_none() {
-            self.seen = Some(view_of(alloc, world, tasks)?);
+            let view = view_of(alloc, world, tasks)?;
+            self.keep(view);
         }
         Ok(())
     }
@@ -77,7 +78,14 @@ impl Watch {
     {
         let after = view_of(alloc, world, tasks)?;
         let learned = learned_since(alloc, who, &self.seen, &after)?;
-        self.seen = Some(after);
+        self.keep(after);
         Ok(learned)
+    }
+
+    /// What is seen now is kept, in place of what was.
+    fn keep(&mut self, view: View)
+        ensures { self.new.seen ≡ Some view }
+    {
+        self.seen = Some(view);
     }
 }
