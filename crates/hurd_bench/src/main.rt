@@ -87,6 +87,7 @@ fn serve_one<S: Server>(
 }
 
 /// Puts servers behind files of which the work takes one after another.
+#[tactic(auto, unfolding(hurd_kinds::specs::Boxes::box_meaning))]
 fn serve_all(
     rt: &impl Clock,
     alloc: Global,
@@ -116,10 +117,16 @@ fn measure_in(
     work_on(rt, tree, &[Work::Unlink], asked)
 }
 
+/// A tree in a box.
+fn boxed<S: Server>(alloc: Global, tree: Tree<S>) -> Result<Box<Tree<S>>, Errno> {
+    Box::new(alloc, tree).map_err(|_| Errno::ENOMEM)
+}
+
 /// Begins a tree, and measures the work in it.
+#[tactic(auto, unfolding(hurd_kinds::specs::Boxes::box_meaning))]
 fn measure(rt: &(impl Clock + Print), alloc: Global, asked: Asked) -> Result<(), Fault> {
     let boot = ServerBox::Tmpfs(empty_tree(alloc).map_err(Errno::from)?);
-    let mut tree = Tree::begin(alloc, boot)?;
+    let mut tree = boxed(alloc, Tree::begin(alloc, boot)?)?;
     measure_in(rt, alloc, &mut tree, asked)
 }
 

@@ -45,6 +45,7 @@ fn make_all<W: Write>(
 }
 
 /// Makes the calls of a list over an empty tree in memory, and prints each with its reply.
+#[tactic(auto, unfolding(hurd_kinds::specs::Boxes::box_meaning))]
 fn answer<W: Write>(alloc: Global, text: &[u8], output: &mut Output<W>) -> Result<(), Fault>
     ensures adds { Adds lists text.now (W.contents output.old.writer) (W.contents output.new.writer) result }
     ensures read { result ≢ Err Fault.Read }

@@ -38,7 +38,7 @@ fn boot<S: Server>(
     boxes: &mut Boxes,
     root: S,
     tasks: Vec<Ids>,
-) -> Result<World<Counted<S>>, Fault>
+) -> Result<Box<World<Counted<S>>>, Fault>
     requires { S.meaning root ≡ new_tmpfs }
 {
     let root = boxes.follow(alloc, root)?;
@@ -84,6 +84,7 @@ fn make_all<W: Write>(
 /// Makes the calls of a list over an empty tree in memory, and says behind each what became of boxes.
 ///
 /// `Bad`, `Boot`, `Write`, `Memory`.
+#[tactic(auto, unfolding(hurd_kinds::specs::Boxes::box_meaning))]
 fn answer<W: Write>(
     alloc: Global,
     text: &[u8],

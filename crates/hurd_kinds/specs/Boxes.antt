@@ -14,7 +14,7 @@ use Rattle.hurd_kinds.specs.declared.server_box.ServerBox.{ServerBox}
 use Rattle.hurd_kinds.specs.declared.server_box.ServerBox.TheVariants.{Tmpfs, Hello, Null, Zero, Symlink, Firmlink, Union, Magic, Drip, Fifo}
 
 -- what the server in the box means
-abbrev pub box_meaning : ServerBox → Meaning
+unfoldable pub box_meaning : ServerBox → Meaning
 box_meaning (Tmpfs s) = tree s.value
 box_meaning (Hello s) = hello_meaning s.value
 box_meaning (Null s) = null_meaning s.value

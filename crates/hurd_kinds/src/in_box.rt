@@ -24,6 +24,7 @@ macro_rules! in_box {
     };
 }
 
+#[tactic(auto, unfolding(crate::specs::Boxes::box_meaning))]
 impl Server for ServerBox {
     ghost meaning = { box_meaning };
 

@@ -40,6 +40,7 @@ fn boxed<T: Drop>(alloc: Global, made: Result<T, Errno>) -> Result<Option<Box<T>
 }
 
 /// The server that these words make; none where no kind takes them.
+#[tactic(auto, unfolding(crate::specs::Boxes::box_meaning))]
 pub fn server_for(alloc: Global, words: &Words) -> Result<Option<ServerBox>, AllocError>
     ensures { IfOk result (λ server. option_map box_meaning server ≡ begin words.now) }
 {

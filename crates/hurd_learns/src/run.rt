@@ -1,7 +1,10 @@
 //! A script from its reading to its transcript, with what is learned on the way.
-ghost use Rattle.std.specs.Prelude.{◌≡◌, ◌≢◌, ◌≤◌, true, None, Ok, Err, Some, IfErr, IfOk, OnOk, length, map, string_bytes};
+ghost use Rattle.std.specs.Prelude.{◌≡◌, ◌≢◌, ◌≤◌, true, None, Ok, Err, Some, IfErr, IfOk, List, OnOk, length, map, string_bytes};
+ghost use Rattle.hurd_creds.specs.Access.{IdSets};
 ghost use Rattle.hurd_tmpfs.specs.Tree.{new_tmpfs};
 ghost use Rattle.hurd_shell.specs.Session.{BegunWith};
+ghost use Rattle.hurd_kinds.specs.Boxes.{box_meaning};
+ghost use Rattle.hurd_script.specs.Commands.{CommandLine};
 ghost use Rattle.hurd_world.specs.Boot.{boot_of};
 ghost use Rattle.hurd_script.specs.Script.{bad, commands_of, names_of, users_of};
 ghost use Rattle.hurd_terminal.specs.Runs.{Blames};
@@ -20,7 +23,7 @@ use hurd_teaching::{Learners, asked_looks, finish};
 use hurd_terminal::{Fault, Input, Output, read_text};
 use hurd_trans_iface::Server;
 use hurd_watch::Watch;
-use std::alloc::Global;
+use std::alloc::{AllocError, Global};
 use std::io::{Read, Write};
 
 /// What stands behind the number of a bad line.
@@ -32,23 +35,59 @@ pub const USAGE: &[u8] = b"usage: hurd_learns USER[,USER..] < script\n";
 /// What was learned from, in the last line.
 const COMMANDS: &[u8] = b" commands of others\n";
 
+/// A session in a box.
+fn boxed<S: Server>(alloc: Global, session: Session<S>) -> Result<Box<Session<S>>, AllocError>
+    ensures { IfOk result (λ boxed. boxed.value ≡ session) }
+{
+    Ok(Box::new(alloc, session)?)
+}
+
 /// A session of a script over an empty tree.
 ///
 /// Errors, in order: `Boot` with the world's refusal, `Memory`.
 #[tactic(auto, using(hurd_tmpfs::proofs::Beginning::begins_tree))]
-fn begun<S: Server>(alloc: Global, script: Script, root: S) -> Result<Session<S>, Fault>
+fn begun<S: Server>(alloc: Global, script: Script, root: S) -> Result<Box<Session<S>>, Fault>
     requires { S.meaning root ≡ new_tmpfs }
     ensures ok { IfOk result (λ session. (boot_of new_tmpfs script.users.items ≡ Ok tt)
-        × BegunWith S.meaning new_tmpfs script.users.items script.commands.items session) }
+        × BegunWith S.meaning new_tmpfs script.users.items script.commands.items session.value) }
     ensures err { IfErr result (λ fault. NotBegun new_tmpfs script.users.items fault) }
 {
-    Ok(Session::begin(alloc, script, root)?)
+    Ok(boxed(alloc, Session::begin(alloc, script, root)?)?)
+}
+
+/// Prints the transcript of a session that is begun, with what is learned on the way by users of whom nothing was seen yet.
+///
+/// `Write` where something can't be written, `Memory` at any point: then the first commands are printed, the last of them as far as it was.
+fn play<W: Write>(
+    alloc: Global,
+    session: &mut Session<ServerBox>,
+    learners: &Learners,
+    watch: &mut Watch,
+    tally: &mut Tally,
+    output: &mut Output<W>,
+) -> Result<(), Fault>
+    requires { watch.old.seen ≡ None }
+    ensures ok { (users : List IdSets) (commands : List CommandLine) → BegunWith box_meaning new_tmpfs users commands session.old
+        → OnOk result (ToldAll (made learners.now.tasks.items (speech learners.now) users commands)
+        learners.now.tasks.items tally.old (W.contents output.old.writer) tally.new (W.contents output.new.writer)) }
+    ensures err { (users : List IdSets) (commands : List CommandLine) → BegunWith box_meaning new_tmpfs users commands session.old
+        → IfErr result (λ fault. NotAll learners.now.tasks.items (speech learners.now) users commands
+        output.new (W.contents output.old.writer) fault (W.contents output.new.writer)) }
+{
+    'steps: loop {
+        match go_on(alloc, session, learners, watch, tally, output)? {
+            Step::Told => {}
+            Step::Made(server) => session.answer(alloc, server),
+            Step::Done => return Ok(()),
+        }
+    }
 }
 
 /// Prints the transcript of a script, begun over an empty tree, with what is learned on the way by users of whom nothing was seen yet.
 ///
 /// `Boot` with the world's refusal, and then nothing is printed; `Write` where something can't be written, `Memory` at any point: then
 /// the first commands are printed, the last of them as far as it was.
+#[tactic(auto, unfolding(hurd_kinds::specs::Boxes::box_meaning))]
 fn transcribe<W: Write>(
     alloc: Global,
     script: Script,
@@ -65,13 +104,7 @@ fn transcribe<W: Write>(
 {
     let root = ServerBox::Tmpfs(empty_tree(alloc)?);
     let mut session = begun(alloc, script, root)?;
-    'steps: loop {
-        match go_on(alloc, &mut session, learners, watch, tally, output)? {
-            Step::Told => {}
-            Step::Made(server) => session.answer(alloc, server),
-            Step::Done => return Ok(()),
-        }
-    }
+    play(alloc, &mut session, learners, watch, tally, output)
 }
 
 /// Prints all that is told and learned of a script by users of whom nothing was seen yet, and the last line.

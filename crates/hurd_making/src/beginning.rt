@@ -11,18 +11,25 @@ use hurd_lists::{CallList, ListFault, parse_calls};
 use hurd_terminal::Fault;
 use hurd_trans_iface::Server;
 use hurd_world::World;
-use std::alloc::Global;
+use std::alloc::{AllocError, Global};
+
+/// A world in a box: what owns one drops it by a call.
+fn boxed<S: Server>(alloc: Global, world: World<S>) -> Result<Box<World<S>>, AllocError>
+    ensures { IfOk result (λ boxed. boxed.value ≡ world) }
+{
+    Ok(Box::new(alloc, world)?)
+}
 
 /// A world of tasks over an empty tree in memory.
 ///
 /// Errors, in order: `Boot` with the world's refusal, `Memory`.
-pub fn begun<S: Server>(alloc: Global, root: S, tasks: Vec<Ids>) -> Result<World<S>, Fault>
+pub fn begun<S: Server>(alloc: Global, root: S, tasks: Vec<Ids>) -> Result<Box<World<S>>, Fault>
     requires { S.meaning root ≡ new_tmpfs }
-    ensures ok { IfOk result (λ world. world_of S.meaning world ≡ first_world new_tmpfs tasks.items) }
+    ensures ok { IfOk result (λ world. world_of S.meaning world.value ≡ first_world new_tmpfs tasks.items) }
     ensures err { IfErr result (λ fault. NotBegun new_tmpfs tasks.items fault) }
 {
     match World::boot(alloc, root, tasks) {
-        Ok(world) => Ok(world),
+        Ok(world) => Ok(boxed(alloc, world)?),
         Err((Errno::ENOMEM, _)) => Err(Fault::Memory),
         Err((errno, _)) => Err(Fault::Boot(errno)),
     }

@@ -12,7 +12,6 @@ use Rattle.hurd_kinds.specs.Boxes.{box_meaning}
 use Rattle.hurd_kinds.specs.declared.server_box.ServerBox.{ServerBox}
 use Rattle.hurd_shell.specs.Session.{Answers, Begun, Takes, Tells, TakesUnlessFailed, View, has_failed, left_in}
 use Rattle.hurd_shell.specs.Transcript.{AsksFor, Dialogue, Maker, Part, ends, tells, wants, out_by, parts_by, parts_of}
-use Rattle.hurd_shell.specs.declared.fault.SessionFault.TheVariants as session
 use Rattle.hurd_shell.specs.declared.session.Want.TheVariants as want
 use Rattle.hurd_terminal.specs.Faults.{AppendsFront, IsFront, IsPrintFault}
 use Rattle.hurd_terminal.specs.Runs.{Prints}

@@ -2,6 +2,7 @@
 ghost use Rattle.std.specs.Prelude.{◌≡◌, ◌≢◌, true, Err, None, IfErr, IfOk};
 ghost use Rattle.std.specs.Io.KnownBytes.{Appends};
 ghost use Rattle.hurd_tmpfs.specs.Tree.{new_tmpfs};
+ghost use Rattle.hurd_kinds.specs.Boxes.{box_meaning};
 ghost use Rattle.hurd_script.specs.Script.{bad};
 ghost use Rattle.hurd_shell.specs.Session.{Begun};
 ghost use Rattle.hurd_terminal.specs.Faults.{AppendsFront, IsPrintFault};
@@ -14,22 +15,29 @@ use hurd_kinds::{ServerBox, empty_tree, server_for};
 use hurd_shell::{Session, Want};
 use hurd_terminal::{Fault, Input, Output, finish, read_text};
 use hurd_trans_iface::{Server, Words};
-use std::alloc::Global;
+use std::alloc::{AllocError, Global};
 use std::io::{Read, Write};
 
 /// What stands behind the number of a bad line.
 const COMPLAINT: &str = ": bad script\n";
 
+/// A session in a box.
+fn boxed<S: Server>(alloc: Global, session: Session<S>) -> Result<Box<Session<S>>, AllocError>
+    ensures { IfOk result (λ boxed. boxed.value ≡ session) }
+{
+    Ok(Box::new(alloc, session)?)
+}
+
 /// A session of a script over an empty tree.
 ///
 /// Errors, in order: `Bad` with the first bad line, `Boot` with the world's refusal; `Memory` at any point.
 #[tactic(auto, using(hurd_tmpfs::proofs::Beginning::begins_tree))]
-fn begun<S: Server>(alloc: Global, script: &[u8], root: S) -> Result<Session<S>, Fault>
+fn begun<S: Server>(alloc: Global, script: &[u8], root: S) -> Result<Box<Session<S>>, Fault>
     requires { S.meaning root ≡ new_tmpfs }
-    ensures ok { IfOk result (λ session. (bad script.now ≡ None) × Begun S.meaning new_tmpfs script.now session) }
+    ensures ok { IfOk result (λ session. (bad script.now ≡ None) × Begun S.meaning new_tmpfs script.now session.value) }
     ensures err { IfErr result (λ fault. NotBegun new_tmpfs script.now fault) }
 {
-    Ok(Session::new(alloc, script, root)?)
+    Ok(boxed(alloc, Session::new(alloc, script, root)?)?)
 }
 
 /// Prints the parts that a session gives, up to the next server that it asks for, and gives the words of that; none at the end.
@@ -70,7 +78,27 @@ fn wanted<S: Server, W: Write>(
     }
 }
 
+/// Prints the transcript of a session that is begun, with the servers that its words make.
+fn play<W: Write>(
+    alloc: Global,
+    script: &[u8],
+    session: &mut Session<ServerBox>,
+    output: &mut Output<W>,
+) -> Result<(), Fault>
+    requires good { bad script.now ≡ None }
+    requires begun { Begun box_meaning new_tmpfs script.now session.old }
+    ensures adds { Adds scripts script.now (W.contents output.old.writer) (W.contents output.new.writer) result }
+    ensures read { result ≢ Err Fault.Read }
+    ensures write { result ≡ Err Fault.Write → output.new.failed ≡ true }
+{
+    while let Some(server) = wanted(alloc, session, output)? {
+        session.answer(alloc, server);
+    }
+    Ok(())
+}
+
 /// Prints the transcript of a script, begun over an empty tree, with the servers that its words make.
+#[tactic(auto, unfolding(hurd_kinds::specs::Boxes::box_meaning))]
 fn transcribe<W: Write>(alloc: Global, script: &[u8], output: &mut Output<W>) -> Result<(), Fault>
     ensures adds { Adds scripts script.now (W.contents output.old.writer) (W.contents output.new.writer) result }
     ensures read { result ≢ Err Fault.Read }
@@ -78,10 +106,7 @@ fn transcribe<W: Write>(alloc: Global, script: &[u8], output: &mut Output<W>) ->
 {
     let root = ServerBox::Tmpfs(empty_tree(alloc)?);
     let mut session = begun(alloc, script, root)?;
-    while let Some(server) = wanted(alloc, &mut session, output)? {
-        session.answer(alloc, server);
-    }
-    Ok(())
+    play(alloc, script, &mut session, output)
 }
 
 /// Reads a script, and prints its transcript, begun over an empty tree in memory.

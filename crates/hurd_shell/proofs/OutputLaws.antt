@@ -1,5 +1,5 @@
 -- What a session gave and was answered, along its transcript.
-use Rattle.std.proofs.Common.{◌≡◌, ℕ, List, [], ◌∷◌, ◌++◌, Option, Some, None, Ok, refl, sym, ◌∙◌, ap, subst, append-nil}
+use Rattle.std.proofs.Common.{◌≡◌, ℕ, List, [], ◌∷◌, ◌++◌, Option, Ok, refl, sym, ◌∙◌, ap, append-nil}
 use Rattle.hurd_trans_iface.specs.Meaning.{Meaning}
 use Rattle.hurd_shell.specs.Session.{Answers, Tells, View, left_in}
 use Rattle.hurd_shell.specs.Outputs.{Came, Event, answered, answers_in, asked, told, told_in}

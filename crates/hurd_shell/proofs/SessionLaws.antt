@@ -1,5 +1,5 @@
 -- What a session has still to tell.
-use Rattle.std.proofs.Common.{◌≡◌, ◌≤◌, ◌<◌, ◌+◌, ◌&&◌, ℕ, zero, suc, Bool, true, false, List, [], ◌∷◌, length, drop, get_or, slice_get, Option, Some, None, Result, Ok, Err, nat_lt, refl, sym, ◌∙◌, ap, subst, arith}
+use Rattle.std.proofs.Common.{◌≡◌, ◌≤◌, ◌<◌, ◌+◌, ◌&&◌, ℕ, zero, suc, true, List, [], ◌∷◌, length, drop, get_or, slice_get, Option, Some, Result, Ok, Err, nat_lt, refl, sym, ◌∙◌, ap, subst, arith}
 use Rattle.std.specs.Prelude.{IfOk, OnOk}
 use Rattle.std.specs.Option.{option_map}
 use Rattle.std.proofs.lemmas.Bool.{and_parts, lt-ltb, ltb-true}
@@ -10,7 +10,6 @@ use Rattle.hurd_machine.specs.World.{World}
 use Rattle.hurd_machine.specs.Sound.{Sound}
 use Rattle.hurd_laws.specs.Step.{reply_of, after}
 use Rattle.hurd_world.specs.Held.{Whole, world_of}
-use Rattle.hurd_script.specs.Actions.{action_of}
 use Rattle.hurd_script.specs.Commands.{CommandLine}
 use Rattle.hurd_shell.specs.declared.commands.Printed.{Printed}
 use Rattle.hurd_shell.specs.declared.fault.Stop.{Stop}
@@ -26,10 +25,9 @@ use Rattle.hurd_shell.specs.declared.stages.Stage.TheVariants.{Opens, Enters, Se
 use Rattle.hurd_shell.specs.declared.stages.Waiting.{Waiting}
 use Rattle.hurd_shell.specs.declared.transcript.Turn.{Turn}
 use Rattle.hurd_shell.specs.declared.transcript.Turn.TheVariants.{Told, Waits}
-use Rattle.hurd_shell.specs.Programs.{Pause, Prog, gives, calls, asks, tried, bind, on_ok, closing, go}
-use Rattle.hurd_shell.specs.Commands.{program_of}
+use Rattle.hurd_shell.specs.Programs.{Pause, Prog, gives, calls, asks, bind, on_ok, go}
 use Rattle.hurd_shell.specs.Progress.{Does, Leads, Reaches, stopped}
-use Rattle.hurd_shell.specs.Stages.{answer_with, answered_on, opening_behind, progress_on, stage_behind, waiting_on}
+use Rattle.hurd_shell.specs.Stages.{answer_with, progress_on, stage_behind, waiting_on}
 use Rattle.hurd_shell.specs.Session.{Answers, HangsTogether, Takes, Tells, command_on, is_failed, left_of, waits_by}
 use Rattle.hurd_shell.specs.Transcript.{Dialogue, ends, tells, dialogue, part_by, part_of, played, AsksFor}
 use Rattle.hurd_shell.specs.Turns.{Stands, turn_of, turn_on}

@@ -10,7 +10,7 @@ ghost use Rattle.hurd_shell.specs.Stages.{answer_with, offer_of, read_at};
 
 use crate::calls::{offered, start_failed};
 use crate::fault::NoMemory;
-use crate::stages::{Stage, Waiting};
+use crate::stages::{KeptStage, Stage, Waiting};
 use hurd_creds::{Errno, TaskId};
 use hurd_trans_iface::{Server, Words};
 use hurd_world::{Call, World};
@@ -58,7 +58,7 @@ pub(crate) fn bring<S: Server>(
     task: TaskId,
     waiting: Waiting,
     server: S,
-) -> Result<(Stage, Result<(), Errno>), S>
+) -> Result<(KeptStage, Result<(), Errno>), S>
     requires { Begins (S.meaning server) }
     ensures ok { IfOk result (λ answered. (answered.0 ≡ waiting.stage)
         × Ran S.meaning task.0 (answer_with waiting.stage waiting.words (Some (S.meaning server))) world.old (stopped answered.1) world.new) }
@@ -66,10 +66,10 @@ pub(crate) fn bring<S: Server>(
     ensures sound { Sound (world_of S.meaning world.old) → Sound (world_of S.meaning world.new) }
 {
     let Waiting { words, stage } = waiting;
-    let call = offer(&stage, words, server);
+    let call = offer(stage.as_stage(), words, server);
     match offered(world, alloc, task, call) {
         Ok(answer) => {
-            let answer = read_at(&stage, answer);
+            let answer = read_at(stage.as_stage(), answer);
             Ok((stage, answer))
         }
         Err(server) => Err(server),
@@ -98,11 +98,11 @@ pub(crate) fn go_without<S: Server>(
     alloc: Global,
     task: TaskId,
     waiting: Waiting,
-) -> Result<(Stage, Result<(), Errno>), NoMemory>
+) -> Result<(KeptStage, Result<(), Errno>), NoMemory>
     ensures { IfOk result (λ answered. (answered.0 ≡ waiting.stage)
         × Ran S.meaning task.0 (answer_with waiting.stage waiting.words None) world.old (stopped answered.1) world.new) }
 {
     let Waiting { words: _, stage } = waiting;
-    give_up_start(world, alloc, task, &stage)?;
+    give_up_start(world, alloc, task, stage.as_stage())?;
     Ok((stage, Err(Errno::ENOENT)))
 }

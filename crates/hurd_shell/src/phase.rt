@@ -1,5 +1,5 @@
 //! How far a session is with the command that it is at.
-use crate::stages::{Stage, Waiting};
+use crate::stages::{KeptStage, Waiting};
 use hurd_creds::Errno;
 
 /// How far a session is with the command that it is at.
@@ -10,7 +10,7 @@ pub(crate) enum Phase {
     /// It waits for a server.
     Waiting(Waiting),
     /// It waited at this stage, and was answered: with a server, or with this refusal.
-    Answered(Stage, Result<(), Errno>),
+    Answered(KeptStage, Result<(), Errno>),
     /// Memory was refused, and nothing more is told.
     Failed,
 }

@@ -73,7 +73,7 @@ fn take_turn<S: Server>(
         Phase::Between => told(alloc, command, begin(world, alloc, command)),
         Phase::Waiting(waiting) => Ok(Turn::Waits(waiting)),
         Phase::Answered(stage, answer) => {
-            let progress = resume(world, alloc, command.task(), stage, answer);
+            let progress = resume(world, alloc, command.task(), stage.into_stage(), answer);
             told(alloc, command, progress)
         }
         Phase::Failed => Err(AllocError),

@@ -1,5 +1,5 @@
 //! A command from its opening to its end, and where it stops for a server.
-ghost use Rattle.std.specs.Prelude.{◌≡◌, None, Err};
+ghost use Rattle.std.specs.Prelude.{◌≡◌, None, Err, IfOk};
 ghost use Rattle.hurd_creds.specs.declared.errno.Errno.{Errno};
 ghost use Rattle.hurd_script.specs.Actions.{action_of};
 ghost use Rattle.hurd_shell.specs.Commands as written;
@@ -18,7 +18,8 @@ use hurd_machine::Setting;
 use hurd_script::{Action, Command, Place};
 use hurd_trans_iface::{Server, Words};
 use hurd_world::World;
-use std::alloc::Global;
+use std::alloc::{AllocError, Global};
+use std::marker::Model;
 
 /// What a command does with its open node.
 #[derive(Debug, Drop)]
@@ -57,11 +58,61 @@ pub(crate) enum Stage {
     },
 }
 
+/// A stage in a box: what is kept of a command is moved, and dropped by a call.
+#[derive(Debug, Drop)]
+pub(crate) struct KeptStage {
+    stage: Box<Stage>,
+}
+
+impl Model for KeptStage {
+    ghost use Rattle.hurd_shell.specs.declared.stages.Stage.{Stage};
+    ghost use Rattle.hurd_shell.specs.contracts.stages.Stage as code;
+
+    ghost Value = { Stage };
+
+    ghost coded = { code.the_row.coded };
+
+    ghost view = { λ k. k.stage.value };
+}
+
+impl KeptStage {
+    /// A stage, kept.
+    fn keep(alloc: Global, stage: Stage) -> Result<KeptStage, AllocError>
+        ensures { IfOk result (λ kept. kept ≡ stage) }
+    {
+        Ok(KeptStage {
+            stage: Box::new(alloc, stage)?,
+        })
+    }
+
+    pub(crate) fn as_stage(&self) -> &Stage
+        ensures { result.now ≡ self.now }
+    {
+        &self.stage
+    }
+
+    pub(crate) fn into_stage(self) -> Stage
+        ensures { result ≡ self }
+    {
+        Box::into_inner(self.stage)
+    }
+}
+
 /// A command that waits for a server of these words.
 #[derive(Debug, Drop)]
 pub(crate) struct Waiting {
     pub(crate) words: Words,
-    pub(crate) stage: Stage,
+    pub(crate) stage: KeptStage,
+}
+
+impl Waiting {
+    /// A command that waits at a stage.
+    fn at(alloc: Global, words: Words, stage: Stage) -> Result<Waiting, AllocError>
+        ensures { IfOk result (λ waiting. waiting ≡ record { words = words; stage = stage }) }
+    {
+        let stage = KeptStage::keep(alloc, stage)?;
+        Ok(Waiting { words, stage })
+    }
 }
 
 /// What a command comes to.
@@ -142,7 +193,7 @@ fn entered<S: Server>(
                 name,
                 work,
             };
-            Ok(Progress::Waits(Waiting { words, stage }))
+            Ok(Progress::Waits(Waiting::at(alloc, words, stage)?))
         }
     }
 }
@@ -232,7 +283,7 @@ fn set<S: Server>(
 {
     if active && words.has_any() {
         let stage = Stage::Sets { port, setting };
-        Ok(Progress::Waits(Waiting { words, stage }))
+        Ok(Progress::Waits(Waiting::at(alloc, words, stage)?))
     } else {
         set_and_close(world, alloc, task, port, setting, words)
     }
@@ -273,7 +324,7 @@ fn opened<S: Server>(
         Reached::Opened(port) => work_at_node(world, alloc, task, port, work),
         Reached::Waits { words, opening } => {
             let stage = Stage::Opens { opening, work };
-            Ok(Progress::Waits(Waiting { words, stage }))
+            Ok(Progress::Waits(Waiting::at(alloc, words, stage)?))
         }
     }
 }

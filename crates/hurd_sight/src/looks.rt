@@ -11,7 +11,7 @@ ghost use Rattle.hurd_sight.specs.declared.parts.SeenPart.TheVariants as seen;
 use crate::found::Found;
 use crate::held::RightNames;
 use crate::names::NameSet;
-use crate::near::{known_servers, sendable_servers};
+use crate::near::Near;
 use crate::parts::SeenPart;
 use crate::reach::Reach;
 use hurd_creds::{Attrs, NodeName, ServerName, TaskId, Want};
@@ -44,19 +44,16 @@ impl Sight {
         ensures looks { IfOk result (λ sight. Looks (among tasks.now) (world_from (shown S.meaning nodes.now) ports.now.state) sight) }
         ensures gathered { IfOk result (λ sight. (sight.tasks.items ≡ tasks.now) × Gathered (world_from (shown S.meaning nodes.now) ports.now.state) sight) }
     {
-        let reach = Reach::of(alloc, ports, tasks)?;
-        let found = Found::of(alloc, nodes, ports, &reach, tasks)?;
+        let near = Near::of(alloc, nodes, ports, tasks)?;
         let rights = RightNames::of(alloc, ports, tasks)?;
-        let known = known_servers(alloc, nodes, &found)?;
-        let sendable = sendable_servers(alloc, nodes, &reach, &found)?;
         let tasks = Vec::from_slice(alloc, tasks)?;
         Ok(Sight {
             tasks,
-            reach,
-            found,
+            reach: near.reach,
+            found: near.found,
             rights,
-            known,
-            sendable,
+            known: near.known,
+            sendable: near.sendable,
         })
     }
 

@@ -1,20 +1,73 @@
-//! The servers of seen nodes: those that are known by them, and those that may be sent away by what is seen.
+//! The nodes that are seen, and their servers: those that are known by them, and those that may be sent away by what is seen.
 ghost use Rattle.std.specs.Prelude.{◌≡◌, [], if◌then◌else◌, IfOk, OnOk, slice_get};
 ghost use Rattle.std.specs.FinMap as fin;
 ghost use Rattle.hurd_trans_iface.specs.Nodes.{header_of};
 ghost use Rattle.hurd_nodes.specs.Shown.{shown};
+ghost use Rattle.hurd_sight.specs.Reach.{Gathers};
+ghost use Rattle.hurd_sight.specs.Found.{FoundAll};
 ghost use Rattle.hurd_sight.specs.Parts.{at_entry, known_at, maybe_named, named, named_more, of_found, owned_by, sendable_at, served_in};
 
 use crate::found::Found;
 use crate::names::NameSet;
 use crate::reach::Reach;
-use hurd_creds::{Name, NodeName};
+use hurd_creds::{Name, NodeName, TaskId};
 use hurd_nodes::Nodes;
+use hurd_ports::Ports;
 use hurd_trans_iface::Server;
 use std::alloc::{AllocError, Global};
 
+/// The nodes that a set of tasks sees, with the ids by which it finds them, and their servers.
+#[derive(Drop)]
+pub(crate) struct Near {
+    pub(crate) reach: Reach,
+    pub(crate) found: Found,
+    /// The servers of seen nodes, and those that are active on them.
+    pub(crate) known: NameSet,
+    /// Those of them that may be sent away by what is seen.
+    pub(crate) sendable: NameSet,
+}
+
+impl Near {
+    /// What these tasks see of the nodes.
+    pub(crate) fn of<S: Server>(
+        alloc: Global,
+        nodes: &Nodes<S>,
+        ports: &Ports,
+        tasks: &[TaskId],
+    ) -> Result<Near, AllocError>
+        ensures reach { IfOk result (λ near. Gathers ports.now.state.tasks tasks.now near.reach) }
+        ensures found { IfOk result (λ near. FoundAll (shown S.meaning nodes.now) ports.now.state.tasks near.reach tasks.now near.found) }
+        ensures known { IfOk result (λ near. near.known ≡ named (of_found (known_at (shown S.meaning nodes.now)) near.found) []) }
+        ensures sendable { IfOk result (λ near. near.sendable ≡ named (of_found (sendable_at (shown S.meaning nodes.now) near.reach) near.found) []) }
+    {
+        let reach = Reach::of(alloc, ports, tasks)?;
+        let found = Found::of(alloc, nodes, ports, &reach, tasks)?;
+        let (known, sendable) = near_servers(alloc, nodes, &reach, &found)?;
+        Ok(Near {
+            reach,
+            found,
+            known,
+            sendable,
+        })
+    }
+}
+
+/// The servers of these nodes that are known, and those that may be sent away.
+fn near_servers<S: Server>(
+    alloc: Global,
+    nodes: &Nodes<S>,
+    reach: &Reach,
+    found: &Found,
+) -> Result<(NameSet, NameSet), AllocError>
+    ensures known { IfOk result (λ near. near.0 ≡ named (of_found (known_at (shown S.meaning nodes.now)) found.now) []) }
+    ensures sendable { IfOk result (λ near. near.1 ≡ named (of_found (sendable_at (shown S.meaning nodes.now) reach.now) found.now) []) }
+{
+    let known = known_servers(alloc, nodes, found)?;
+    Ok((known, sendable_servers(alloc, nodes, reach, found)?))
+}
+
 /// The servers of these nodes, and those that are active on them.
-pub(crate) fn known_servers<S: Server>(
+fn known_servers<S: Server>(
     alloc: Global,
     nodes: &Nodes<S>,
     found: &Found,
@@ -66,7 +119,7 @@ fn add_maybe(names: &mut NameSet, name: Option<Name>) -> Result<(), AllocError>
 }
 
 /// The servers of these nodes that could be served, and those that are active on one that is owned.
-pub(crate) fn sendable_servers<S: Server>(
+fn sendable_servers<S: Server>(
     alloc: Global,
     nodes: &Nodes<S>,
     reach: &Reach,

@@ -77,6 +77,7 @@ fn tell_anew<W: Write>(
 /// Makes the calls of a list over an empty tree in memory, and prints all that is told and learned of them, and the last line.
 ///
 /// `Boot` with the world's refusal, and then nothing is printed; else as `tell_all`.
+#[tactic(auto, unfolding(hurd_kinds::specs::Boxes::box_meaning))]
 fn learn<W: Write>(
     alloc: Global,
     tasks: Vec<Ids>,

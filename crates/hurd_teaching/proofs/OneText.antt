@@ -1,6 +1,6 @@
 -- A program of learners prints one text of each.
-use Rattle.std.proofs.Common.{◌≡◌, ◌∙◌, inl, inr, sym, refl, ap, subst, ℕ, Bool, true, false, List, [], ◌∷◌, ◌++◌, map, append_assoc}
-use Rattle.std.specs.Prelude.{Option, Some, None}
+use Rattle.std.proofs.Common.{◌≡◌, ◌∙◌, inl, inr, sym, refl, ap, ℕ, Bool, true, false, List, [], ◌∷◌, ◌++◌, map, append_assoc}
+use Rattle.std.specs.Prelude.{Option, Some}
 use Rattle.hurd_creds.specs.declared.name.TaskId.{TaskId}
 use Rattle.hurd_machine.specs.World.{World}
 use Rattle.hurd_sight.specs.Reach.{among}

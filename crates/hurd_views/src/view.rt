@@ -81,9 +81,9 @@ impl View {
     ) -> Result<View, AllocError>
         ensures { IfOk result (λ view. Views tasks.now (world_of S.meaning core.now) view) }
     {
+        let seats = seats_of(alloc, core.ports(), tasks)?;
         let sight = Sight::of(alloc, core.nodes(), core.ports(), tasks)?;
         let rows = Rows::of(alloc, core, &sight)?;
-        let seats = seats_of(alloc, core.ports(), tasks)?;
         Ok(View {
             sight,
             rows,

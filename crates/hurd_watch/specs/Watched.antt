@@ -1,10 +1,19 @@
 -- What tasks saw when they were last looked at, and what they learn since.
-use Rattle.std.specs.Prelude.{◌≡◌, ℕ, List, [], Option, Some, None}
+use Rattle.std.specs.Prelude.{◌≡◌, ℕ, List, [], Option, Some, None, refl}
+use Rattle.std.specs.Coded.{Coded, code_by, coded_option}
 use Rattle.hurd_creds.specs.declared.name.TaskId.{TaskId}
 use Rattle.hurd_machine.specs.World.{World}
 use Rattle.hurd_views.specs.Views.{Views}
 use Rattle.hurd_views.specs.declared.view.View.{View}
+use Rattle.hurd_views.specs.contracts.view.View as view
 use Rattle.hurd_lessons.specs.Lessons.{Lessons}
+
+-- what tasks saw when they were last looked at, if nothing came since that they did themselves
+pub record Watched : Type 0 where
+  pub seen : Option View
+
+abbrev pub coded_watched : Coded Watched
+coded_watched = code_by (Option View) (coded_option view.the_row.coded) (λ w. w.seen) (λ o. record { seen = o }) (λ _. refl)
 
 -- what is seen is this world's
 abbrev pub Sees : List TaskId → World → Option View → Type 0

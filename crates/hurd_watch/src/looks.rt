@@ -55,8 +55,8 @@ pub fn view_of<S: Server>(
     alloc: Global,
     world: &World<S>,
     tasks: &[TaskId],
-) -> Result<View, AllocError>
-    ensures { IfOk result (λ view. Views tasks.now (world_of S.meaning world.now) view) }
+) -> Result<Box<View>, AllocError>
+    ensures { IfOk result (λ view. Views tasks.now (world_of S.meaning world.now) view.value) }
 {
-    View::of(alloc, world.core(), tasks)
+    Ok(Box::new(alloc, View::of(alloc, world.core(), tasks)?)?)
 }

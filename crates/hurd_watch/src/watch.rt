@@ -1,5 +1,6 @@
 //! What some tasks saw when they were last looked at.
 ghost use Rattle.std.specs.Prelude.{◌≡◌, None, Some, IfErr, IfOk, OnOk};
+ghost use Rattle.std.specs.Option.{option_map};
 ghost use Rattle.hurd_world.specs.Held.{world_of};
 ghost use Rattle.hurd_watch.specs.Watched.{LearnedSince, Learns, SeesOr};
 
@@ -10,21 +11,33 @@ use hurd_trans_iface::Server;
 use hurd_views::View;
 use hurd_world::World;
 use std::alloc::{AllocError, Global};
+use std::marker::Model;
 
 /// What some tasks saw when they were last looked at, if nothing came since that they did themselves.
 #[derive(Drop)]
 pub struct Watch {
-    seen: Option<View>,
+    seen: Option<Box<View>>,
+}
+
+impl Model for Watch {
+    ghost use Rattle.std.specs.Option.{option_map};
+    ghost use Rattle.hurd_watch.specs.Watched.{Watched, coded_watched};
+
+    ghost Value = { Watched };
+
+    ghost coded = { coded_watched };
+
+    ghost view = { λ w. record { seen = option_map (λ v. v.value) w.seen } };
 }
 
 /// What is learned since something was looked at; nothing where nothing was.
 fn learned_since(
     alloc: Global,
     who: &[u8],
-    before: &Option<View>,
+    before: &Option<Box<View>>,
     after: &View,
 ) -> Result<Bytes, AllocError>
-    ensures { IfOk result (λ text. LearnedSince who.now before.now after.now text) }
+    ensures { IfOk result (λ text. LearnedSince who.now (option_map (λ v. v.value) before.now) after.now text) }
 {
     match before {
         Some(before) => lessons(alloc, who, before, after),
@@ -83,8 +96,8 @@ impl Watch {
     }
 
     /// What is seen now is kept, in place of what was.
-    fn keep(&mut self, view: View)
-        ensures { self.new.seen ≡ Some view }
+    fn keep(&mut self, view: Box<View>)
+        ensures { self.new.seen ≡ Some view.value }
     {
         self.seen = Some(view);
     }

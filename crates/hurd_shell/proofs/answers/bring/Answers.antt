@@ -5,16 +5,16 @@ use Rattle.hurd_shell.proofs.answers.bring.Goals as goal
 
 pub returns-in-Ok : goal.returns-in-Ok
 returns-in-Ok g c =
-    let made = rw c.offer-call.ensures at c.in-Ok.ensures.ok in
+    let made = rw (c.offer-call.ensures, c.as_stage.ensures) at c.in-Ok.ensures.ok in
     record {
-      ok = (refl, rw c.read_at-answer.ensures (brought g.S.Server.meaning c.args.waiting.stage c.args.waiting.words c.args.server c.in-Ok.answer made));
+      ok = (refl, rw (c.read_at-answer.ensures, c.as_stage-in-Ok.ensures) (brought g.S.Server.meaning c.args.waiting.stage c.args.waiting.words c.args.server c.in-Ok.answer made));
       err = tt;
       sound = does_sound c.in-Ok.answer c.in-Ok.ensures.ok;
     }
 
 pub returns-in-Err : goal.returns-in-Err
 returns-in-Err g c =
-    let back = rw c.offer-call.ensures at c.in-Err.ensures.err.0 in
+    let back = rw (c.offer-call.ensures, c.as_stage.ensures) at c.in-Err.ensures.err.0 in
     record {
       ok = tt;
       err = offer_back c.args.waiting.stage c.args.waiting.words _ _ back;
@@ -22,7 +22,7 @@ returns-in-Err g c =
     }
 
 pub offered-requires : goal.offered-requires
-offered-requires g c = rw c.offer-call.ensures (record {
+offered-requires g c = rw (c.offer-call.ensures, c.as_stage.ensures) (record {
   begun = offer_begun g.S.Server.meaning c.args.waiting.stage c.args.waiting.words c.args.server c.requires;
   brings = offer_brings c.args.waiting.stage c.args.waiting.words c.args.server;
 })

@@ -14,7 +14,7 @@ returns-in-Waiting-clause-ok g c = rw c.in-Waiting.is (λ next. refl)
 pub returns-in-Answered-clause-ok : goal.returns-in-Answered-clause-ok
 returns-in-Answered-clause-ok g c =
     rw c.in-Answered.is
-    (told_turn c.args.command.now _ _ _ _ c.told-in-Answered.result (rw c.task.ensures at c.resume-progress.ensures) c.told-in-Answered.ensures)
+    (told_turn c.args.command.now _ _ _ _ c.told-in-Answered.result (rw (c.task.ensures, c.into_stage.ensures) at c.resume-progress.ensures) c.told-in-Answered.ensures)
 
 pub returns-in-Answered-clause-sound : goal.returns-in-Answered-clause-sound
 returns-in-Answered-clause-sound g c =

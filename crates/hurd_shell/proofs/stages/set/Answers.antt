@@ -3,8 +3,8 @@ use Rattle.hurd_shell.proofs.StageLaws.{asks_server, no_words, not_active}
 use Rattle.hurd_shell.proofs.stages.set.Goals as goal
 use Rattle.hurd_shell.proofs.stages.set.Goals.{else-active-via-then-active+else-has_any, else-active-via-else-active}
 
-pub returns-then-has_any : goal.returns-then-has_any
-returns-then-has_any g c = asks_server _ _ _ _ _ _ c.if-active.true (sym c.has_any.ensures ∙ c.if-has_any.true)
+pub returns-in_ok-at : goal.returns-in_ok-at
+returns-in_ok-at g c = rw c.in_ok-at.ensures (asks_server _ _ _ _ _ _ c.if-active.true (sym c.has_any.ensures ∙ c.if-has_any.true))
 
 pub returns-else-active : goal.returns-else-active
 returns-else-active g c = elim c.else-active.branch [

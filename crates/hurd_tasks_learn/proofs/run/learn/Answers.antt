@@ -17,7 +17,7 @@ returns-in_err-world-clause-err g c =
     rw (p.1, p.2) (world_not_begun c.args.learners.now _ _ c.args.output.now _ c.in_err-world.field-0.0 c.in_err-world.ensures.err)
 
 pub returns-clause-ok : goal.returns-clause-ok
-returns-clause-ok g c = rw c.in_ok-world.ensures.ok at c.tell_anew.ensures.ok
+returns-clause-ok g c = rw (rw (← c.deref_mut.ensures.value) at c.in_ok-world.ensures.ok) at c.tell_anew.ensures.ok
 
 pub returns-clause-err : goal.returns-clause-err
-returns-clause-err g c = none_shown _ c.args.learners.now _ (boot_of new_tmpfs c.args.tasks.items) c.tell_anew.new.output _ c.tell_anew.result (rw c.in_ok-world.ensures.ok at c.tell_anew.ensures.err)
+returns-clause-err g c = none_shown _ c.args.learners.now _ (boot_of new_tmpfs c.args.tasks.items) c.tell_anew.new.output _ c.tell_anew.result (rw (rw (← c.deref_mut.ensures.value) at c.in_ok-world.ensures.ok) at c.tell_anew.ensures.err)
