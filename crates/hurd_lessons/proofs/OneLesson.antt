@@ -1,9 +1,9 @@
 -- What is said is one text, since some tasks have one view of a world.
-use Rattle.std.proofs.Common.{◌≡◌, ◌∙◌, ◌⊎◌, inl, inr, sym, refl, ap, subst, ℕ, Bool, true, false, List}
+use Rattle.std.proofs.Common.{◌≡◌, ◌∙◌, inl, inr, sym, refl, ap, subst, ℕ, Bool, true, false, List}
 use Rattle.hurd_creds.specs.declared.name.TaskId.{TaskId}
 use Rattle.hurd_machine.specs.World.{World}
 use Rattle.hurd_sight.specs.Reach.{among}
-use Rattle.hurd_views.specs.Views.{IsOneView, Views}
+use Rattle.hurd_views.specs.Views.{IsOneView}
 use Rattle.hurd_views.specs.declared.view.View.{View}
 use Rattle.hurd_views.proofs.OneView.{views_are_one}
 use Rattle.hurd_lessons.specs.Lessons.{GoneLineOf, Lessons, LineOf, Lines, Unless, names_of}

@@ -53,6 +53,30 @@ pub(crate) fn add_from(
     Ok(())
 }
 
+/// Adds the line of a name, unless nothing changed under it; where a view has no row of it, this one stands for that.
+fn add_line_by(
+    alloc: Global,
+    text: &mut Vec<u8>,
+    who: &[u8],
+    before: &View,
+    after: &View,
+    name: Name,
+    nothing: &Row,
+) -> Result<(), AllocError>
+    requires { nothing.now ≡ no_row }
+    ensures { OnOk result (Adds (LineOf who.now before.now after.now name) text.old.items text.new.items) }
+{
+    let old = row_at(before, name, nothing);
+    let new = row_at(after, name, nothing);
+    let change = Change::of(old, new);
+    if change.is_kept() {
+        return Ok(());
+    }
+    let place = place_in(alloc, before, after, name)?;
+    let said = said(alloc, old, new, &change)?;
+    add_from(text, who, place.as_slice(), said.as_slice())
+}
+
 /// Adds the line of a name, unless nothing changed under it.
 fn add_line(
     alloc: Global,
@@ -64,16 +88,7 @@ fn add_line(
 ) -> Result<(), AllocError>
     ensures { OnOk result (Adds (LineOf who.now before.now after.now name) text.old.items text.new.items) }
 {
-    let nothing = no_row();
-    let old = row_at(before, name, &nothing);
-    let new = row_at(after, name, &nothing);
-    let change = Change::of(old, new);
-    if change.is_kept() {
-        return Ok(());
-    }
-    let place = place_in(alloc, before, after, name)?;
-    let said = said(alloc, old, new, &change)?;
-    add_from(text, who, place.as_slice(), said.as_slice())
+    add_line_by(alloc, text, who, before, after, name, &no_row())
 }
 
 /// Adds the line of a name that is only in the view before; one that is in both has its line already.

@@ -1,5 +1,6 @@
 //! All that a set of tasks sees, a line for each thing.
 ghost use Rattle.std.specs.Prelude.{◌≡◌, ◌++◌, IfOk, OnOk};
+ghost use Rattle.hurd_views.specs.Views.{no_row};
 ghost use Rattle.hurd_lessons.specs.Seen.{seen_at, seen_line, seen_text};
 
 use crate::changes::{no_row, shows};
@@ -7,8 +8,29 @@ use crate::lines::{add_from, row_at};
 use crate::places::place;
 use crate::seen_parts::seen_of;
 use hurd_creds::{Bytes, Name};
-use hurd_views::View;
+use hurd_views::{Row, View};
 use std::alloc::{AllocError, Global};
+
+/// Adds a name's line, where anything is seen under it; where the view has no row of it, this one stands for that.
+fn add_line_by(
+    alloc: Global,
+    text: &mut Vec<u8>,
+    who: &[u8],
+    view: &View,
+    name: Name,
+    nothing: &Row,
+) -> Result<(), AllocError>
+    requires { nothing.now ≡ no_row }
+    ensures { OnOk result (text.new.items ≡ text.old.items ++ seen_line who.now view.now name) }
+{
+    let row = row_at(view, name, nothing);
+    if !shows(row) {
+        return Ok(());
+    }
+    let place = place(alloc, view, name, row)?;
+    let words = seen_of(alloc, view, row)?;
+    add_from(text, who, place.as_slice(), words.as_slice())
+}
 
 /// Adds a name's line, where anything is seen under it.
 fn add_line(
@@ -20,14 +42,7 @@ fn add_line(
 ) -> Result<(), AllocError>
     ensures { OnOk result (text.new.items ≡ text.old.items ++ seen_line who.now view.now name) }
 {
-    let nothing = no_row();
-    let row = row_at(view, name, &nothing);
-    if !shows(row) {
-        return Ok(());
-    }
-    let place = place(alloc, view, name, row)?;
-    let words = seen_of(alloc, view, row)?;
-    add_from(text, who, place.as_slice(), words.as_slice())
+    add_line_by(alloc, text, who, view, name, &no_row())
 }
 
 /// Adds a name's line, if there is a name.

@@ -1,5 +1,5 @@
 use Rattle.hurd_lessons.proofs.LineLaws.{kept_line}
-use Rattle.hurd_lessons.proofs.lines.add_line.Goals as goal
+use Rattle.hurd_lessons.proofs.lines.add_line_by.Goals as goal
 
 pub returns-then-is_kept : goal.returns-then-is_kept
 returns-then-is_kept c =
