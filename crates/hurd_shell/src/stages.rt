@@ -85,12 +85,14 @@ impl KeptStage {
         })
     }
 
+    /// The stage, lent.
     pub(crate) fn as_stage(&self) -> &Stage
         ensures { result.now ≡ self.now }
     {
         &self.stage
     }
 
+    /// The stage, out of its box.
     pub(crate) fn into_stage(self) -> Stage
         ensures { result ≡ self }
     {
