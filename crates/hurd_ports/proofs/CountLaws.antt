@@ -6,9 +6,7 @@ use Rattle.indexmap.specs.IndexMap.{IndexMap, get}
 use Rattle.hurd_creds.specs.Names.{same_name}
 use Rattle.hurd_creds.specs.Limits.{most_tasks}
 use Rattle.hurd_creds.specs.declared.name.Name.{Name}
-use Rattle.hurd_creds.specs.declared.errno.Errno.{Errno}
 use Rattle.hurd_creds.specs.Access.{IdSets}
-use Rattle.hurd_creds.specs.Memory.{Steps, is_no_memory}
 use Rattle.hurd_creds.proofs.NameLaws.{same_name-itself, same_name-apart, same_or_apart}
 use Rattle.hurd_ports.specs.declared.book.Book.{Book}
 use Rattle.hurd_ports.specs.declared.parents.Parent.{Parent}
@@ -125,10 +123,6 @@ opens-counted ts n = weigh_alike (λ r. one_if (names_open n r)) (naming Opens n
 pub held-counted : (ts : List Task) (n : Name) → is_held ts n ≡ nat_lt 0 (weigh_rights (naming Opens n) ts)
 held-counted ts n = held_counted ts n ∙ ap (nat_lt 0) (opens-counted ts n)
 
--- other counts that say the same
-pub counted-as : (b l : Book) (ts : List Task) → ((k : Sort) (n : Name) → count_of k n l ≡ count_of k n b) → AreCounted b ts → AreCounted l ts
-counted-as b l ts same counts = record { all = λ k n. same k n ∙ counts.all k n; few = counts.few; short = counts.short }
-
 module _ (b l : Book) (ss : List TaskSeat) (t : ℕ) (s new : TaskSeat) (at : slice_get ss t ≡ Some s) (counts : AreCounted b (tasks_of ss)) where
   changed : (W : Right → ℕ) → weigh_rights W (tasks_of (slice_set ss t new)) + weigh_list W (rights_of (seat_task s)) ≡ weigh_rights W (tasks_of ss) + weigh_list W (rights_of (seat_task new))
   changed W =
@@ -146,20 +140,6 @@ module _ (b l : Book) (ss : List TaskSeat) (t : ℕ) (s new : TaskSeat) (at : sl
     few = few_still;
     short = omega (arith, changed excess, rights excess, fine, counts.short);
   }
-
-  -- as many as before
-  pub counted-same : ((W : Right → ℕ) → weigh_list W (rights_of (seat_task new)) ≡ weigh_list W (rights_of (seat_task s))) → ((k : Sort) (n : Name) → count_of k n l ≡ count_of k n b) → AreCounted l (tasks_of (slice_set ss t new))
-  counted-same rights same = counted-changed [] [] (λ W. omega (arith, rights W)) refl (λ k n. omega (arith, same k n))
-
-  -- one more
-  pub counted-more : (r : Right) → ((W : Right → ℕ) → weigh_list W (rights_of (seat_task new)) ≡ weigh_list W (rights_of (seat_task s)) + W r) → excess r ≡ 0
-      → ((k : Sort) (n : Name) → count_of k n l ≡ count_of k n b + naming k n r) → AreCounted l (tasks_of (slice_set ss t new))
-  counted-more r rights fine same = counted-changed [] (r ∷ []) (λ W. omega (arith, rights W)) (omega arith) (λ k n. omega (arith, same k n))
-
-  -- one less
-  pub counted-less : (r : Right) → ((W : Right → ℕ) → weigh_list W (rights_of (seat_task s)) ≡ W r + weigh_list W (rights_of (seat_task new)))
-      → ((k : Sort) (n : Name) → count_of k n l + naming k n r ≡ count_of k n b) → AreCounted l (tasks_of (slice_set ss t new))
-  counted-less r rights same = counted-changed (r ∷ []) [] (λ W. omega (arith, rights W)) refl (λ k n. omega (arith, same k n))
 
 -- a count fits
 
@@ -218,15 +198,3 @@ counted-starting ss ids next b none seats few = rw seats (record {
     nothing : (W : Right → ℕ) (ids : List IdSets) → weigh_rights W (map (new_task next) ids) ≡ 0
     nothing W [] = refl
     nothing W (i ∷ ids) = omega (arith, nothing W ids)
-
--- where there was no memory a step left all as it was
-left-unchanged : {T : Type 0} (v : T) (y x z : Task) (e : Errno) → Steps x (Ok v, y) (Err e) z → z ≡ x
-left-unchanged v y x z e steps = elim steps.answered [
-  | inl no_answer ↦ absurd (cc)
-  | inr memory ↦ steps.left ∙ ap (λ (w : Errno). cond (is_no_memory w) x y) memory.0
-]
-
--- rights that only move, where there was memory
-pub weighed-moved : {T : Type 0} (x y z : Task) (v : T) (got : Result T Errno) → Steps x (Ok v, y) got z → ((W : Right → ℕ) → weigh_list W (rights_of y) ≡ weigh_list W (rights_of x)) → (W : Right → ℕ) → weigh_list W (rights_of z) ≡ weigh_list W (rights_of x)
-weighed-moved x y z v (Ok a) steps same W = ap (λ (u : Task). weigh_list W (rights_of u)) steps.left ∙ same W
-weighed-moved x y z v (Err e) steps same W = ap (λ (u : Task). weigh_list W (rights_of u)) (left-unchanged v y x z e steps)

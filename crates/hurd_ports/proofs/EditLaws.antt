@@ -1,137 +1,87 @@
 -- One task that is changed, where its rights still name the opens that they named.
-use Rattle.std.proofs.Common.{◌≡◌, ◌⊎◌, inl, inr, ℕ, ◌<◌, ◌≤◌, List, [], ◌∷◌, Bool, true, false, cond, if◌then◌else◌, length, refl, ap, sym, subst, ◌∙◌, arith}
+use Rattle.std.proofs.Common.{◌≡◌, inl, inr, ℕ, ◌+◌, ◌<◌, ◌≤◌, List, [], ◌∷◌, Bool, true, false, cond, if◌then◌else◌, length, refl, ap, sym, ◌∙◌, arith}
 use Rattle.std.proofs.lemmas.List.{length-map}
 use Rattle.std.proofs.lemmas.Bool.Decides.{nat_tests}
-use Rattle.std.specs.Prelude.{IfOk, Option, Some, None, Result, Ok, Err, slice_get, slice_set, slice_index_or, nat_lt}
-use Rattle.std.proofs.lemmas.Option.{get_or_from_slice_get}
-use Rattle.std.specs.Option.{option_map}
+use Rattle.std.specs.Prelude.{Option, Some, None, Result, Ok, Err, slice_get, slice_set, nat_lt}
 use Rattle.hurd_creds.specs.declared.name.Name.{Name}
 use Rattle.hurd_creds.specs.declared.errno.Errno.{Errno}
-use Rattle.hurd_creds.specs.declared.errno.Errno.TheVariants.{EBADF, ENOMEM, EOVERFLOW, ESRCH}
+use Rattle.hurd_creds.specs.declared.errno.Errno.TheVariants.{EBADF, ENOMEM, ESRCH}
+use Rattle.hurd_creds.specs.declared.name.TaskId.{TaskId}
 use Rattle.hurd_creds.specs.Access.{IdSets}
-use Rattle.hurd_creds.specs.Memory.{Steps, is_no_memory, lacks_memory}
+use Rattle.hurd_creds.specs.Memory.{Steps}
 use Rattle.hurd_creds.proofs.StepLaws.{steps-inside, steps-short}
+use Rattle.hurd_ports.specs.declared.book.Book.{Book}
+use Rattle.hurd_ports.specs.declared.table.Port.{Port}
 use Rattle.hurd_ports.specs.declared.table.Right.{Right}
 use Rattle.hurd_ports.specs.declared.table.PendingStart.{PendingStart}
-use Rattle.hurd_ports.specs.declared.table.Port.{Port}
 use Rattle.hurd_ports.specs.declared.table.TaskSeat.{TaskSeat}
-use Rattle.hurd_ports.specs.Weights.{one_if, count_list}
-use Rattle.hurd_ports.specs.Tables.{Task, PortState, has_room, names_open, or_refuse, right_at, right_of, start_of}
-use Rattle.hurd_ports.specs.Steps.{edit_task, pend_at, pend_step, received, receive_at, receive_step, sent_to, send_step, share_at, share_step, take_ids_at, take_ids_step, taken_by, with_ids, with_pending, with_port, with_sent}
+use Rattle.hurd_ports.specs.Weights.{one_if, count_list, weigh_list}
+use Rattle.hurd_ports.specs.Tables.{Task, PortState, has_room, names_open, or_refuse, right_at, right_in, right_of, rights_of, start_of}
+use Rattle.hurd_ports.specs.Steps.{edit_task, name_step, named, pend_at, pend_step, received, receive_at, receive_step, sent_to, send_step, share_at, share_step, take_ids_at, take_ids_step, taken_by, with_ids, with_pending, with_port, with_sent}
 use Rattle.hurd_ports.specs.Sound.{IsSound, NumbersRise}
-use Rattle.hurd_ports.specs.Seats.{OpenEntry, seat_task, tasks_of, state_of}
-use Rattle.hurd_ports.proofs.TaskLaws.{one_or_other, set-same, edit-apart, edit-found, edit-here}
+use Rattle.hurd_ports.specs.Counts.{Sort, count_of, excess, naming}
+use Rattle.hurd_ports.specs.Seats.{IsKept, IsReady, OpenEntry, seat_task, tasks_of, state_of}
+use Rattle.hurd_ports.proofs.TaskLaws.{one_or_other, set-apart, set-here, set-same, edit-found}
 use Rattle.hurd_ports.proofs.WeightLaws.{pending_weighs, port_weighs, weigh_received, weigh_sent}
-use Rattle.hurd_ports.proofs.HeldLaws.{held-grows, namings}
+use Rattle.hurd_ports.proofs.HeldLaws.{held-grows}
 use Rattle.hurd_ports.proofs.SoundLaws.{given-set, next_found, numbers-set, rise-push}
 use Rattle.hurd_ports.proofs.SeatLaws.{same_halves, seat-there, seat-changed}
-use Rattle.std.proofs.lemmas.Bool.{cases_cond}
-
-itself : (k : ℕ) → k ≤ k
-itself k = omega arith
+use Rattle.hurd_ports.proofs.CountLaws.{counted-changed}
 
 -- a pending start names no open
 none_opened : (n : Name) (p : Option PendingStart) → count_list (names_open n) (start_of p) ≡ 0
 none_opened n None = refl
 none_opened n (Some q) = refl
 
--- the tables with this task in its place
-abbrev pub put : PortState → ℕ → Task → PortState
-put h t y = record h { tasks = slice_set h.tasks t y }
+-- a task that becomes another: its pending start may go, and rights may come
+pub record Becomes (x y : Task) (gone : Option PendingStart) (come : List Right) : Type 0 where
+  pub weighs : (W : Right → ℕ) → weigh_list W (rights_of y) + weigh_list W (start_of gone) ≡ weigh_list W (rights_of x) + weigh_list W come
+  pub made : x.made ≤ y.made
+  pub rises : NumbersRise 0 x.next x.ports → NumbersRise 0 y.next y.ports
 
-module _ (h : PortState) (t : ℕ) (x : Task) (sound : IsSound h) (at : slice_get h.tasks t ≡ Some x) where
-  -- such a task may stand in its place
-  pub sound-put : (y : Task) → ((n : Name) → namings n x ≤ namings n y) → x.made ≤ y.made → NumbersRise 0 y.next y.ports → IsSound (put h t y)
-  sound-put y more made rise = record {
-    settled = λ q w is. held-grows h.tasks t x y q at (more q) (sound.settled q w is);
-    given = λ q w is. given-set h.tasks t x y q at made (sound.given q w is);
-    numbered = numbers-set h.tasks t x y at sound.numbered rise;
-  }
+module _ (x : Task) where
+  pub as_it_was : Becomes x x None []
+  as_it_was = record { weighs = λ W. refl; made = omega arith; rises = λ h. h }
 
--- a call that may need memory did its step, and left the tables sound
-pub record Edited {T : Type 0} (h k : PortState) (whole : Result T Errno × PortState) (got : Result T Errno) : Type 0 where
-  pub step : Steps h whole got k
-  pub sound : IsSound k
+  pub naming_more : Becomes x (named 1 x) None []
+  naming_more = record { weighs = λ W. refl; made = omega arith; rises = λ h. h }
 
-module _ (h : PortState) (t : ℕ) (x : Task) (sound : IsSound h) (at : slice_get h.tasks t ≡ Some x) where
-  put-same : put h t x ≡ h
-  put-same = ap (λ (ts : List Task). record h { tasks = ts }) (set-same h.tasks t x at)
+  pub taking_ids : (ids : IdSets) → Becomes x (with_ids ids x) None []
+  taking_ids ids = record { weighs = λ W. refl; made = omega arith; rises = λ h. h }
 
-  put-found : {T : Type 0} (v : T) (f : Task → Task) → ◌≡◌ {A = Result T Errno × PortState} (Ok v, record h { tasks = edit_task t f h.tasks }) (Ok v, put h t (f x))
-  put-found {T} v f = ap (λ (ts : List Task). let a : Result T Errno × PortState = (Ok v, record h { tasks = ts }) in a) (edit-found t f h.tasks x at)
+  pub ported : (r : Right) → Becomes x (with_port r x) None (r ∷ [])
+  ported r = record { weighs = λ W. omega (arith, port_weighs W r x); made = omega arith; rises = rise-push 0 x.next x.ports (record { number = x.next; right = r }) refl }
 
-  either_sound : (b : Bool) (y : Task) → IsSound (put h t y) → IsSound (put h t (cond b x y))
-  either_sound true y fine = rw put-same sound
-  either_sound false y fine = fine
+  pub sent : (r : Right) → Becomes x (with_sent r x) None (r ∷ [])
+  sent r = record { weighs = λ W. omega (arith, weigh_sent W r x); made = omega arith; rises = λ h. h }
 
-  -- where the one task did
-  pub edited : {T : Type 0} (y z : Task) (v : T) (whole : Result T Errno × PortState) (got : Result T Errno) → IsSound (put h t y) → whole ≡ (Ok v, put h t y) → Steps x (Ok v, y) got z → Edited h (put h t z) whole got
-  edited y z v whole got fine is s = record {
-    step = rw put-same at (steps-inside (put h t) x z (Ok v, y) whole got is s);
-    sound = rw s.left (either_sound (lacks_memory got) y fine);
-  }
+  pub pended : (p : Option PendingStart) → Becomes x (with_pending p x) x.pending (start_of p)
+  pended p = record { weighs = λ W. pending_weighs W p x; made = omega arith; rises = λ h. h }
 
-  -- a right that is shared
-  pub sound-shared : (r : Right) → IsSound (put h t (with_port r x))
-  sound-shared r =
-      let p : Port = record { number = x.next; right = r } in
-      sound-put h t x sound at (with_port r x) (λ n. omega (arith, port_weighs (λ z. one_if (names_open n z)) r x)) (omega arith) (rise-push 0 x.next x.ports p refl (sound.numbered t x at))
-
-  pub share-done : (r : Right) → has_room 0 x ≡ true → share_step t r h ≡ (Ok x.next, put h t (with_port r x))
-  share-done r room = ap (share_at h t r) at ∙ rw room (put-found x.next (with_port r))
-
-  -- one that is sent
-  pub sound-sent : (r : Right) → IsSound (put h t (with_sent r x))
-  sound-sent r = sound-put h t x sound at (with_sent r x) (λ n. omega (arith, weigh_sent (λ z. one_if (names_open n z)) r x)) (omega arith) (sound.numbered t x at)
-
-  pub send-done : (r : Right) → t < length h.tasks → sent_to h t (Ok r) ≡ (Ok tt, put h t (with_sent r x))
-  send-done r below =
-      let there : nat_lt t (length h.tasks) ≡ true = grind (arith, nat_tests) in
-      rw there (put-found tt (with_sent r))
-
-  -- the first of the inbox, as a port
-  pub sound-received : IsSound (put h t (received x))
-  sound-received = sound-put h t x sound at (received x) (λ n. omega (arith, weigh_received (λ z. one_if (names_open n z)) x)) (made x.inbox refl) (rises x.inbox refl)
+  -- the first of the inbox as a port, unless there was no memory
+  pub receiving : (b : Bool) → Becomes x (cond b x (received x)) None []
+  receiving true = as_it_was
+  receiving false = record { weighs = λ W. omega (arith, weigh_received W x); made = made x.inbox refl; rises = rises x.inbox refl }
     where
       made : (l : List Right) → x.inbox ≡ l → x.made ≤ (received x).made
       made [] e = rw e (omega arith)
       made (r ∷ rs) e = rw e (omega arith)
 
-      rises : (l : List Right) → x.inbox ≡ l → NumbersRise 0 (received x).next (received x).ports
-      rises [] e = rw e (sound.numbered t x at)
-      rises (r ∷ rs) e = rw e (rise-push 0 x.next x.ports (record { number = x.next; right = r }) refl (sound.numbered t x at))
+      rises : (l : List Right) → x.inbox ≡ l → NumbersRise 0 x.next x.ports → NumbersRise 0 (received x).next (received x).ports
+      rises [] e = rw e (λ h. h)
+      rises (r ∷ rs) e = rw e (rise-push 0 x.next x.ports (record { number = x.next; right = r }) refl)
 
-  pub receive-done : 0 < length x.inbox → has_room 0 x ≡ true → receive_step t h ≡ (Ok x.next, put h t (received x))
-  receive-done some room = ap (receive_at h t) at ∙ go x.inbox some
-    where
-      go : (rs : List Right) → 0 < length rs → taken_by h t x rs ≡ (Ok x.next, put h t (received x))
-      go [] e = absurd (omega arith)
-      go (r ∷ rs) e = rw room (put-found x.next received)
+-- the tables with this task in its place
+abbrev pub put : PortState → ℕ → Task → PortState
+put h t y = record h { tasks = slice_set h.tasks t y }
 
-  -- other ids
-  pub sound-other_ids : (ids : IdSets) → IsSound (put h t (with_ids ids x))
-  sound-other_ids ids = sound-put h t x sound at (with_ids ids x) (λ n. itself (namings n x)) (omega arith) (sound.numbered t x at)
-
-  pub take_ids-done : (ids : IdSets) → take_ids_step t ids h ≡ (Ok tt, put h t (with_ids ids x))
-  take_ids-done ids = ap (take_ids_at h t ids) at ∙ put-found tt (with_ids ids)
-
-  -- other things to start
-  pub sound-pending : (p : Option PendingStart) → IsSound (put h t (with_pending p x))
-  sound-pending p =
-      sound-put h t x sound at (with_pending p x) (λ n. omega (arith, pending_weighs (λ z. one_if (names_open n z)) p x, none_opened n p, none_opened n x.pending)) (omega arith) (sound.numbered t x at)
-
-  pub pend-done : (p : Option PendingStart) → pend_step t p h ≡ (Ok tt, put h t (with_pending p x))
-  pend-done p = ap (pend_at h t p) at ∙ put-found tt (with_pending p)
-
--- a task is to start something, or nothing
-pub record Pended (h k : PortState) (t : ℕ) (p : Option PendingStart) : Type 0 where
-  pub step : (Ok tt, k) ≡ pend_step t p h
-  pub sound : IsSound k
-
--- a task took ids
-pub record IdsTaken (h k : PortState) (t : ℕ) (ids : IdSets) : Type 0 where
-  pub step : (Ok tt, k) ≡ take_ids_step t ids h
-  pub sound : IsSound k
+-- such a task may stand in its place
+sound-put : (h : PortState) (t : ℕ) (x y : Task) (gone : Option PendingStart) (come : List Right) → IsSound h → slice_get h.tasks t ≡ Some x → Becomes x y gone come → IsSound (put h t y)
+sound-put h t x y gone come sound at now = record {
+  settled = λ q w is. held-grows h.tasks t x y q at (omega (arith, now.weighs (λ r. one_if (names_open q r)), none_opened q gone)) (sound.settled q w is);
+  given = λ q w is. given-set h.tasks t x y q at now.made (sound.given q w is);
+  numbered = numbers-set h.tasks t x y at sound.numbered (now.rises (sound.numbered t x at));
+}
 
 -- a task is there where the test says so
 pub task-there : (os : List OpenEntry) (ss : List TaskSeat) (t : ℕ) (u : Unit {0}) → ◌≡◌ {A = Result (Unit {0}) Errno} (Ok u) (if nat_lt t (length (state_of os ss).tasks) then Ok tt else Err ESRCH) → t < length ss
@@ -144,118 +94,93 @@ task-there os ss t u is =
     go true h = refl
     go false h = absurd (cc)
 
--- in the code
-module _ (os : List OpenEntry) (ss : List TaskSeat) (t : ℕ) (a s new : TaskSeat) (sound : IsSound (state_of os ss)) (found : slice_get ss t ≡ Some a) (read : s ≡ slice_index_or ss t s) where
-  abbrev pub h : PortState
-  h = state_of os ss
+-- in the code, the seat of a task
+pub record SeatAt (os : List OpenEntry) (ss : List TaskSeat) (t : ℕ) (s : TaskSeat) : Type 0 where
+  pub is : slice_get ss t ≡ Some s
 
-  there : slice_get h.tasks t ≡ Some (seat_task a)
-  there = seat-there ss t a found
+module _ {os : List OpenEntry} {ss : List TaskSeat} {t : ℕ} {s : TaskSeat} (seat : SeatAt os ss t s) where
+  pub there : slice_get (tasks_of ss) t ≡ Some (seat_task s)
+  there = seat-there ss t s seat.is
 
-  same : s ≡ a
-  same = read ∙ get_or_from_slice_get ss t a s found
+  seat-put : (new : TaskSeat) (y : Task) → seat_task new ≡ y → state_of os (slice_set ss t new) ≡ put (state_of os ss) t y
+  seat-put new y is = same_halves _ _ _ _ refl (seat-changed ss t new y is)
 
-  pub put-seat : state_of os (slice_set ss t new) ≡ put h t (seat_task new)
-  put-seat = same_halves _ _ _ _ refl (seat-changed ss t new (seat_task new) refl)
+  put-same : put (state_of os ss) t (seat_task s) ≡ state_of os ss
+  put-same = same_halves _ _ _ _ refl (set-same (tasks_of ss) t (seat_task s) there)
 
-  -- where the seat is as it was, but for room
-  still : (mid : TaskSeat) → seat_task mid ≡ seat_task s → seat_task mid ≡ seat_task a
-  still mid kept = kept ∙ ap seat_task same
+  -- where opens and the table of the seat have other room, nothing else changes
+  pub seat-kept : (news : List OpenEntry) (new : TaskSeat) → seat_task new ≡ seat_task s → news ≡ os → state_of news (slice_set ss t new) ≡ state_of os ss
+  seat-kept news new same kept = rw kept (seat-put new (seat_task s) same ∙ put-same)
+
+  -- what is reserved stays where the seat keeps its ports
+  pub ready-kept : {room : ℕ} {b : Book} (ready : Option TaskId) (new : TaskSeat) → IsKept os room b ss ready → new.ports ≡ s.ports → IsReady room b (slice_set ss t new) ready
+  ready-kept None new kept same = tt
+  ready-kept (Some r) new kept same = (
+    kept.spare.0,
+    elim (one_or_other r.0 t) [
+      | inl e ↦ let was = rw (e, seat.is) at kept.spare.1 in rw (e, set-here ss t s new seat.is, same) was
+      | inr apart ↦ rw (set-apart ss t new r.0 apart) kept.spare.1
+    ],
+  )
+
+  -- what holds of the tables holds of them still
+  pub kept-changed : {room now_room : ℕ} {b : Book} {ready now : Option TaskId} {y : Task} {gone : Option PendingStart} {come : List Right} (l : Book) (new : TaskSeat) → IsKept os room b ss ready → Becomes (seat_task s) y gone come → seat_task new ≡ y → weigh_list excess come ≡ 0
+      → ((k : Sort) (n : Name) → count_of k n l + weigh_list (naming k n) (start_of gone) ≡ count_of k n b + weigh_list (naming k n) come) → IsReady now_room l (slice_set ss t new) now → IsKept os now_room l (slice_set ss t new) now
+  kept-changed {b = b} {y = y} {gone = gone} {come = come} l new kept becomes is fine counts spare = record {
+    sound = rw (seat-put new y is) (sound-put (state_of os ss) t (seat_task s) y gone come kept.sound there becomes);
+    counted = counted-changed b l ss t s new seat.is kept.counted (start_of gone) come (λ W. ap (λ (z : Task). weigh_list W (rights_of z) + weigh_list W (start_of gone)) is ∙ becomes.weighs W) fine counts;
+    spare = spare;
+  }
 
   -- a step that changes this seat, where there was memory
-  seat-answered : {T : Type 0} (v : T) (y : Task) (whole : Result T Errno × PortState) → seat_task new ≡ y → whole ≡ (Ok v, put h t y) → IsSound (put h t y) → Edited h (state_of os (slice_set ss t new)) whole (Ok v)
-  seat-answered v y whole is step fine =
-      let left : state_of os (slice_set ss t new) ≡ put h t y = put-seat ∙ ap (put h t) is in
-      rw (left, step) (record { step = record { answered = refl; left = refl }; sound = fine })
+  pub seat-did : {A : Type 0} (v : A) (whole : A × PortState) (new : TaskSeat) (y : Task) → whole ≡ (v, put (state_of os ss) t y) → seat_task new ≡ y → (v, state_of os (slice_set ss t new)) ≡ whole
+  seat-did v whole new y step is = ap (λ (k : PortState). (v, k)) (seat-put new y is) ∙ sym step
+
+  pub seat-answered : {T : Type 0} (v : T) (whole : Result T Errno × PortState) (new : TaskSeat) (y : Task) → whole ≡ (Ok v, put (state_of os ss) t y) → seat_task new ≡ y → Steps (state_of os ss) whole (Ok v) (state_of os (slice_set ss t new))
+  seat-answered v whole new y step is = rw (← seat-did (Ok v) whole new y step is) (record { answered = refl; left = refl })
 
   -- and where there was none
-  seat-short : {T : Type 0} (v : T) (y : PortState) (whole : Result T Errno × PortState) (e : Errno) → e ≡ ENOMEM → seat_task new ≡ seat_task s → whole ≡ (Ok v, y) → Edited h (state_of os (slice_set ss t new)) whole (Err e)
-  seat-short v y whole e is kept step =
-      let left : state_of os (slice_set ss t new) ≡ h = put-seat ∙ ap (put h t) (still new kept) ∙ put-same h t (seat_task a) sound there in
-      rw (left, is) (record { step = steps-short whole h v y step; sound = sound })
+  pub seat-short : {T : Type 0} (v : T) (whole : Result T Errno × PortState) (new : TaskSeat) (y : PortState) → whole ≡ (Ok v, y) → seat_task new ≡ seat_task s → Steps (state_of os ss) whole (Err ENOMEM) (state_of os (slice_set ss t new))
+  seat-short v whole new y step kept = rw (seat-put new (seat_task s) kept, put-same) (steps-short whole (state_of os ss) v y step)
 
-  pub seat-shared : (mid : TaskSeat) (r : Right) (number : ℕ) → has_room 0 (seat_task a) ≡ true → seat_task mid ≡ seat_task s → number ≡ mid.next → seat_task new ≡ with_port r (seat_task mid)
-      → Edited h (state_of os (slice_set ss t new)) (share_step t r h) (Ok number)
-  seat-shared mid r number room kept is ported =
-      let as_was = still mid kept in
-      let step = share-done h t (seat_task a) sound there r room in
-      let same_number : number ≡ a.next = is ∙ ap (λ (x : Task). x.next) as_was in
-      rw same_number (seat-answered a.next (with_port r (seat_task a)) (share_step t r h) (ported ∙ ap (with_port r) as_was) step (sound-shared h t (seat_task a) sound there r))
+  put-found : {T : Type 0} (v : T) (f : Task → Task) → ◌≡◌ {A = Result T Errno × PortState} (Ok v, record (state_of os ss) { tasks = edit_task t f (tasks_of ss) }) (Ok v, put (state_of os ss) t (f (seat_task s)))
+  put-found {T} v f = ap (λ (ts : List Task). let a : Result T Errno × PortState = (Ok v, record (state_of os ss) { tasks = ts }) in a) (edit-found t f (tasks_of ss) (seat_task s) there)
 
-  pub share-short : (r : Right) (e : Errno) → has_room 0 (seat_task a) ≡ true → seat_task new ≡ seat_task s → e ≡ ENOMEM → Edited h (state_of os (slice_set ss t new)) (share_step t r h) (Err e)
-  share-short r e room kept is = seat-short a.next _ (share_step t r h) e is kept (share-done h t (seat_task a) sound there r room)
+  -- the steps
 
-  pub seat-received : (got : Result ℕ Errno) → 0 < length a.inbox.items → has_room 0 (seat_task a) ≡ true → Steps (seat_task s) (Ok s.next, received (seat_task s)) got (seat_task new)
-      → Edited h (state_of os (slice_set ss t new)) (receive_step t h) got
-  seat-received got some room steps =
-      let did = subst (λ (z : TaskSeat). Steps (seat_task z) (Ok z.next, received (seat_task z)) got (seat_task new)) same steps in
-      rw put-seat (edited h t (seat_task a) sound there (received (seat_task a)) (seat_task new) a.next (receive_step t h) got (sound-received h t (seat_task a) sound there) (receive-done h t (seat_task a) sound there some room) did)
+  pub share-done : (r : Right) → has_room 0 (seat_task s) ≡ true → share_step t r (state_of os ss) ≡ (Ok s.next, put (state_of os ss) t (with_port r (seat_task s)))
+  share-done r room = ap (share_at (state_of os ss) t r) there ∙ rw room (put-found s.next (with_port r))
 
-  sent_step : (p q : ℕ) (r : Right) → Ok r ≡ right_of h q p → t < length ss → send_step q p t h ≡ (Ok tt, put h t (with_sent r (seat_task a)))
-  sent_step p q r right below = ap (sent_to h t) (sym right) ∙ send-done h t (seat_task a) sound there r (let same : length h.tasks ≡ length ss = length-map ss seat_task in omega arith)
+  pub send-done : (q p : ℕ) (r : Right) → right_of (state_of os ss) q p ≡ Ok r → t < length ss → send_step q p t (state_of os ss) ≡ (Ok tt, put (state_of os ss) t (with_sent r (seat_task s)))
+  send-done q p r right below =
+      let same : length (tasks_of ss) ≡ length ss = length-map ss seat_task in
+      let is : nat_lt t (length (tasks_of ss)) ≡ true = grind (arith, nat_tests) in
+      ap (sent_to (state_of os ss) t) right ∙ rw is (put-found tt (with_sent r))
 
-  pub seat-sent : (mid : TaskSeat) (p q : ℕ) (r : Right) → Ok r ≡ right_of h q p → t < length ss → seat_task mid ≡ seat_task s → seat_task new ≡ with_sent r (seat_task mid) → Edited h (state_of os (slice_set ss t new)) (send_step q p t h) (Ok tt)
-  seat-sent mid p q r right below kept sent =
-      seat-answered tt (with_sent r (seat_task a)) (send_step q p t h) (sent ∙ ap (with_sent r) (still mid kept)) (sent_step p q r right below) (sound-sent h t (seat_task a) sound there r)
+  pub take_ids-done : (ids : IdSets) → take_ids_step t ids (state_of os ss) ≡ (Ok tt, put (state_of os ss) t (with_ids ids (seat_task s)))
+  take_ids-done ids = ap (take_ids_at (state_of os ss) t ids) there ∙ put-found tt (with_ids ids)
 
-  pub send-short : (p q : ℕ) (r : Right) (e : Errno) → Ok r ≡ right_of h q p → t < length ss → seat_task new ≡ seat_task s → e ≡ ENOMEM → Edited h (state_of os (slice_set ss t new)) (send_step q p t h) (Err e)
-  send-short p q r e right below kept is = seat-short tt _ (send_step q p t h) e is kept (sent_step p q r right below)
+  pub pend-done : (p : Option PendingStart) → pend_step t p (state_of os ss) ≡ (Ok tt, put (state_of os ss) t (with_pending p (seat_task s)))
+  pend-done p = ap (pend_at (state_of os ss) t p) there ∙ put-found tt (with_pending p)
 
-  pub seat-other_ids : (ids : IdSets) → seat_task new ≡ with_ids ids (seat_task s) → IdsTaken h (state_of os (slice_set ss t new)) t ids
-  seat-other_ids ids is =
-      let left : state_of os (slice_set ss t new) ≡ put h t (with_ids ids (seat_task a)) = put-seat ∙ ap (put h t) (is ∙ ap (λ (z : TaskSeat). with_ids ids (seat_task z)) same) in
-      rw left (record { step = sym (take_ids-done h t (seat_task a) sound there ids); sound = sound-other_ids h t (seat_task a) sound there ids })
+  pub seat-received : (new : TaskSeat) (got : Result ℕ Errno) → 0 < length s.inbox.items → has_room 0 (seat_task s) ≡ true → Steps (seat_task s) (Ok s.next, received (seat_task s)) got (seat_task new) → Steps (state_of os ss) (receive_step t (state_of os ss)) got (state_of os (slice_set ss t new))
+  seat-received new got some room steps = rw (seat-put new (seat_task new) refl) (rw put-same at (steps-inside (put (state_of os ss) t) (seat_task s) (seat_task new) (Ok s.next, received (seat_task s)) (receive_step t (state_of os ss)) got (ap (receive_at (state_of os ss) t) there ∙ go s.inbox.items some) steps))
+    where
+      go : (rs : List Right) → 0 < length rs → taken_by (state_of os ss) t (seat_task s) rs ≡ (Ok s.next, put (state_of os ss) t (received (seat_task s)))
+      go [] e = absurd (omega arith)
+      go (r ∷ rs) e = rw room (put-found s.next received)
 
-  pub seat-pending : (p : Option PendingStart) → seat_task new ≡ with_pending p (seat_task s) → Pended h (state_of os (slice_set ss t new)) t p
-  seat-pending p is =
-      let left : state_of os (slice_set ss t new) ≡ put h t (with_pending p (seat_task a)) = put-seat ∙ ap (put h t) (is ∙ ap (λ (z : TaskSeat). with_pending p (seat_task z)) same) in
-      rw left (record { step = sym (pend-done h t (seat_task a) sound there p); sound = sound-pending h t (seat_task a) sound there p })
+  pub seat-named : (new : TaskSeat) → seat_task new ≡ named 1 (seat_task s) → state_of os (slice_set ss t new) ≡ name_step t (state_of os ss)
+  seat-named new is = seat-put new (named 1 (seat_task s)) is ∙ sym (same_halves _ _ _ _ refl (edit-found t (named 1) (tasks_of ss) (seat_task s) there))
 
--- what stands after a step that may find no memory: what stood, or what the step leaves
-left-either : {T : Type 0} (h x k : PortState) (a got : Result T Errno) → Steps h (a, x) got k → (k ≡ h) ⊎ (k ≡ x)
-left-either h x k a (Ok v) s = inr s.left
-left-either h x k a (Err e) s = cases_cond (is_no_memory e) h x k s.left
+  -- a right that was shared stands under its number
+  pub shared-new : (new : TaskSeat) (r : Right) → IsSound (state_of os ss) → seat_task new ≡ with_port r (seat_task s) → right_of (state_of os (slice_set ss t new)) t s.next ≡ Ok r
+  shared-new new r sound is =
+      ap (right_at s.next) (seat-there (slice_set ss t new) t new (set-here ss t s new seat.is) ∙ ap Some is) ∙ ap (or_refuse EBADF) (next_found 0 s.next s.ports.items r (sound.numbered t (seat_task s) there))
 
--- a right that was shared stands under its number
-shared-found : (h k : PortState) → IsSound h → (t : ℕ) (r : Right) (n : ℕ) → Steps h (share_step t r h) (Ok n) k → right_of k t n ≡ Ok r
-shared-found h k sound t r n = go (slice_get h.tasks t) refl
-  where
-    roomy : (x : Task) → slice_get h.tasks t ≡ Some x → (b : Bool) → Steps h (if b then (Ok x.next, record h { tasks = edit_task t (with_port r) h.tasks }) else (Err EOVERFLOW, h)) (Ok n) k → right_of k t n ≡ Ok r
-    roomy x at false s = absurd (cc (s.answered))
-    roomy x at true s =
-        let same : x.next ≡ n = cc (s.answered) in
-        let here : slice_get (edit_task t (with_port r) h.tasks) t ≡ Some (with_port r x) = edit-here t (with_port r) h.tasks ∙ ap (option_map (with_port r)) at in
-        rw (s.left, ← same) (ap (right_at x.next) here ∙ ap (or_refuse EBADF) (next_found 0 x.next x.ports r (sound.numbered t x at)))
-
-    go : (o : Option Task) → slice_get h.tasks t ≡ o → Steps h (share_at h t r o) (Ok n) k → right_of k t n ≡ Ok r
-    go None at s = absurd (cc (s.answered))
-    go (Some x) at s = roomy x at (has_room 0 x) s
-
-pub shared-new : (h k : PortState) → IsSound h → (t : ℕ) (r : Right) (got : Result ℕ Errno) → Steps h (share_step t r h) got k → IfOk got (λ n. right_of k t n ≡ Ok r)
-shared-new h k sound t r (Ok n) s = shared-found h k sound t r n s
-shared-new h k sound t r (Err e) s = tt
-
--- a right that is sent stands where it stood
-pub sent-kept : (h k : PortState) (t p q : ℕ) (got : Result (Unit {0}) Errno) → Steps h (send_step t p q h) got k → right_of k t p ≡ right_of h t p
-sent-kept h k t p q got = go (right_of h t p)
-  where
-    inboxed : (r : Right) (o : Option Task) → right_at p (option_map (with_sent r) o) ≡ right_at p o
-    inboxed r None = refl
-    inboxed r (Some x) = refl
-
-    after : (r : Right) → right_of (record h { tasks = edit_task q (with_sent r) h.tasks }) t p ≡ right_of h t p
-    after r = elim (one_or_other t q) [
-      | inl e ↦ rw e (ap (right_at p) (edit-here q (with_sent r) h.tasks) ∙ inboxed r (slice_get h.tasks q))
-      | inr a ↦ ap (right_at p) (edit-apart q (with_sent r) h.tasks t a)
-    ]
-
-    kept : (x : PortState) (a : Result (Unit {0}) Errno) → right_of x t p ≡ right_of h t p → Steps h (a, x) got k → right_of k t p ≡ right_of h t p
-    kept x a is s = elim (left-either h x k a got s) [ inl e ↦ rw e refl | inr e ↦ rw e is ]
-
-    there : (r : Right) (b : Bool) → Steps h (if b then (Ok tt, record h { tasks = edit_task q (with_sent r) h.tasks }) else (Err ESRCH, h)) got k → right_of k t p ≡ right_of h t p
-    there r true s = kept (record h { tasks = edit_task q (with_sent r) h.tasks }) (Ok tt) (after r) s
-    there r false s = kept h (Err ESRCH) refl s
-
-    go : (o : Result Right Errno) → Steps h (sent_to h q o) got k → right_of k t p ≡ right_of h t p
-    go (Err e) s = kept h (Err e) refl s
-    go (Ok r) s = there r (nat_lt q (length h.tasks)) s
+  -- where the seat keeps its ports, each right stands where it stood
+  pub right-kept : (new : TaskSeat) (q p : ℕ) → (seat_task new).ports ≡ s.ports.items → right_of (state_of os (slice_set ss t new)) q p ≡ right_of (state_of os ss) q p
+  right-kept new q p same = ap (λ (h : PortState). right_of h q p) (seat-put new (seat_task new) refl) ∙ elim (one_or_other q t) [
+    | inl e ↦ rw e (ap (right_at p) (set-here (tasks_of ss) t (seat_task s) (seat_task new) there) ∙ ap (λ (ps : List Port). or_refuse EBADF (right_in p ps)) same ∙ sym (ap (right_at p) there))
+    | inr apart ↦ ap (right_at p) (set-apart (tasks_of ss) t (seat_task new) q apart)
+  ]

@@ -1,5 +1,5 @@
 -- A port that is filled in, with its open.
-use Rattle.std.proofs.Common.{◌≡◌, ◌+◌, ℕ, List, ap, sym, ◌∙◌}
+use Rattle.std.proofs.Common.{◌≡◌, ◌+◌, ℕ, List, [], ◌∷◌, ap, sym, ◌∙◌, arith}
 use Rattle.std.specs.Prelude.{Some, Ok, Err, slice_get, slice_set, slice_index_or}
 use Rattle.std.specs.FinMap as fin
 use Rattle.hurd_creds.specs.declared.name.Name.{Name}
@@ -17,7 +17,7 @@ use Rattle.hurd_ports.specs.Seats.{OpenEntry, seat_task, tasks_of, opens_of, sta
 use Rattle.hurd_ports.specs.declared.book.Book.{Book}
 use Rattle.hurd_ports.specs.Weights.{weigh_list}
 use Rattle.hurd_ports.specs.Counts.{AreCounted, Sort, count_of, excess, naming}
-use Rattle.hurd_ports.proofs.CountLaws.{counted-more}
+use Rattle.hurd_ports.proofs.CountLaws.{counted-changed}
 use Rattle.hurd_ports.proofs.WeightLaws.{port_weighs}
 use Rattle.hurd_ports.proofs.TaskLaws.{edit-edit}
 use Rattle.hurd_ports.proofs.RoomLaws.{room-is, insert-done}
@@ -65,4 +65,4 @@ pub filled-counted : (os : List OpenEntry) (b l : Book) (ss : List TaskSeat) (t 
 filled-counted os b l ss t old mid new r counts room read named_is ported short added =
     let found = room-is (state_of os ss) t 1 room in
     let at = (seat-read ss t old found.task found.there read).0 in
-    counted-more b l ss t old new at counts r (λ W. ap (λ (x : Task). weigh_list W (rights_of x)) (ported ∙ ap (with_port r) named_is) ∙ port_weighs W r (named 1 (seat_task old))) short added
+    counted-changed b l ss t old new at counts [] (r ∷ []) (λ W. let now = ap (λ (x : Task). weigh_list W (rights_of x)) (ported ∙ ap (with_port r) named_is) in omega (arith, port_weighs W r (named 1 (seat_task old)))) (omega arith) (λ k n. omega (arith, added k n))

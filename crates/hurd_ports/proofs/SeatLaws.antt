@@ -1,5 +1,5 @@
 -- The tables in the code and those that they stand for.
-use Rattle.std.proofs.Common.{◌≡◌, inl, inr, ℕ, ◌<◌, List, [], ◌∷◌, ◌++◌, map, refl, ap, ap₂, sym, ◌∙◌, append-nil}
+use Rattle.std.proofs.Common.{◌≡◌, ℕ, ◌<◌, List, [], ◌∷◌, ◌++◌, map, refl, ap, ap₂, sym, ◌∙◌, append-nil}
 use Rattle.std.proofs.lemmas.List.{map_push, map-set}
 use Rattle.std.specs.Prelude.{Option, Some, None, IsSomeAnd, slice_get, slice_set, slice_index_or}
 use Rattle.std.specs.Option.{option_map}
@@ -13,11 +13,11 @@ use Rattle.hurd_ports.specs.declared.book.Book.{Book}
 use Rattle.hurd_ports.specs.declared.table.TaskSeat.{TaskSeat}
 use Rattle.hurd_ports.specs.declared.table.Opened.{Opened}
 use Rattle.hurd_ports.specs.Tables.{Task, PortState, OpenMap}
-use Rattle.hurd_ports.specs.Steps.{new_task, starting_at, named, name_step}
+use Rattle.hurd_ports.specs.Steps.{new_task, starting_at}
 use Rattle.hurd_ports.specs.Seats.{OpenEntry, seat_task, tasks_of, open_key, open_value, opens_of, state_of, AreInOrder, HasSpare, IsReady}
 use Rattle.hurd_ports.specs.Counts.{HasRoom}
 use Rattle.hurd_ports.specs.Sound.{IsSound}
-use Rattle.hurd_ports.proofs.TaskLaws.{map-origin, set-here, set-apart, set-same, one_or_other, edit-found}
+use Rattle.hurd_ports.proofs.TaskLaws.{map-origin, set-here}
 
 -- the tables with an open changed, where it is there
 abbrev pub edit_open : Name → (Opened → Opened) → PortState → PortState
@@ -67,28 +67,7 @@ seat-found ss t s P there read = go (slice_get (tasks_of ss) t) refl there
     go None e h = absurd h
     go (Some x) e h = (seat-read ss t s x e read).0
 
--- where opens and the table of a seat have other room, nothing else changes
-pub seat-kept : (os news : List OpenEntry) (ss : List TaskSeat) (t : ℕ) (s new : TaskSeat) → slice_get ss t ≡ Some s → seat_task new ≡ seat_task s → news ≡ os → state_of news (slice_set ss t new) ≡ state_of os ss
-seat-kept os news ss t s new at same kept =
-    same_halves _ _ _ _ (ap opens_of kept) (seat-changed ss t new (seat_task s) same ∙ set-same (tasks_of ss) t (seat_task s) (seat-there ss t s at))
-
--- a seat that named one thing
-pub seat-named : (os : List OpenEntry) (ss : List TaskSeat) (t : ℕ) (s new : TaskSeat) → slice_get ss t ≡ Some s → seat_task new ≡ named 1 (seat_task s) → state_of os (slice_set ss t new) ≡ name_step t (state_of os ss)
-seat-named os ss t s new at is =
-    same_halves _ _ _ _ refl (seat-changed ss t new (named 1 (seat_task s)) is ∙ sym (edit-found t (named 1) (tasks_of ss) (seat_task s) (seat-there ss t s at)))
-
--- what is reserved stays where a seat keeps its ports
-pub ready-kept : (room : ℕ) (book : Book) (ss : List TaskSeat) (ready : Option TaskId) (t : ℕ) (s new : TaskSeat) → slice_get ss t ≡ Some s → new.ports ≡ s.ports → IsReady room book ss ready → IsReady room book (slice_set ss t new) ready
-ready-kept room book ss None t s new at same h = tt
-ready-kept room book ss (Some r) t s new at same h = (
-  h.0,
-  elim (one_or_other r.0 t) [
-    | inl e ↦ let was = rw (e, at) at h.1 in rw (e, set-here ss t s new at, same) was
-    | inr apart ↦ rw (set-apart ss t new r.0 apart) h.1
-  ],
-)
-
--- and is there for a task whose seat has room for a port
+-- what is reserved is there for a task whose seat has room for a port
 pub ready-made : (room : ℕ) (book : Book) (ss : List TaskSeat) (r : TaskId) (s new : TaskSeat) → slice_get ss r.0 ≡ Some s → 0 < room → HasRoom book → HasSpare new.ports → IsReady room book (slice_set ss r.0 new) (Some r)
 ready-made room book ss r s new at spare place port = ((spare, place), rw (set-here ss r.0 s new at) port)
 

@@ -1,5 +1,5 @@
 -- A port that goes, with its open where no other right names that.
-use Rattle.std.proofs.Common.{◌≡◌, ◌+◌, ◌≤◌, arith, ◌≢◌, inl, inr, ℕ, List, Bool, true, false, cond, if◌then◌else◌, refl, ap, sym, ◌∙◌}
+use Rattle.std.proofs.Common.{◌≡◌, ◌+◌, ◌≤◌, arith, ◌≢◌, inl, inr, ℕ, List, [], ◌∷◌, Bool, true, false, cond, if◌then◌else◌, refl, ap, sym, ◌∙◌}
 use Rattle.std.specs.Prelude.{Option, Some, None, Result, Ok, Err, nat_lt, slice_get, slice_set}
 use Rattle.std.specs.FinMap as fin
 use Rattle.hurd_creds.specs.declared.name.Name.{Name}
@@ -16,7 +16,7 @@ use Rattle.hurd_ports.specs.declared.book.Book.{Book}
 use Rattle.hurd_ports.specs.Weights.{weigh_list}
 use Rattle.hurd_ports.specs.Counts.{AreCounted, Opens, Sort, count_of, is_counted, naming}
 use Rattle.hurd_ports.specs.Seats.{OpenEntry, seat_task, tasks_of, opens_of, state_of, settled_at, settled_by}
-use Rattle.hurd_ports.proofs.CountLaws.{counted-less, held-counted}
+use Rattle.hurd_ports.proofs.CountLaws.{counted-changed, held-counted}
 use Rattle.hurd_ports.proofs.WeightLaws.{weigh_at, weigh_dropped}
 use Rattle.hurd_ports.proofs.TaskLaws.{edit-found}
 use Rattle.hurd_ports.proofs.HeldLaws.{held-without}
@@ -68,7 +68,7 @@ module _ (b : Book) (ss : List TaskSeat) (t p : ℕ) (s : TaskSeat) (r : Right) 
   -- without its port the counts are right where one less is counted
   pub right-uncounted : (l : Book) (new : TaskSeat) → AreCounted b (tasks_of ss) → seat_task new ≡ without_port p (seat_task s) → ((k : Sort) (n : Name) → count_of k n l + naming k n r ≡ count_of k n b) → AreCounted l (tasks_of (slice_set ss t new))
   right-uncounted l new counts less taken =
-      counted-less b l ss t s new at counts r (λ W. weigh_dropped W p (seat_task s) r right ∙ ap (λ (x : Task). W r + weigh_list W (rights_of x)) (sym less)) taken
+      counted-changed b l ss t s new at counts (r ∷ []) [] (λ W. let now = ap (λ (x : Task). weigh_list W (rights_of x)) less in omega (arith, weigh_dropped W p (seat_task s) r right)) refl (λ k n. omega (arith, taken k n))
 
   -- where its seat lost it, and its open was looked at
   pub deallocated : (os news : List OpenEntry) (new : TaskSeat) → IsSound (state_of os ss) → seat_task new ≡ without_port p (seat_task s) → AreCounted b (tasks_of (slice_set ss t new))

@@ -15,13 +15,13 @@ use Rattle.hurd_ports.specs.declared.table.Port.{Port}
 use Rattle.hurd_ports.specs.declared.table.Right.{Right}
 use Rattle.hurd_ports.specs.Weights.{one_if}
 use Rattle.hurd_ports.specs.Tables.{Task, PortState, OpenMap, is_held, names_open, fresh, right_in, right_of}
-use Rattle.hurd_ports.specs.Steps.{new_task, starting_at, named, new_open, new_right, with_port, with_new_port, without_port, ports_without, settle_opens, name_step}
+use Rattle.hurd_ports.specs.Steps.{new_task, starting_at, named, new_open, new_right, with_port, with_new_port, without_port, ports_without, settle_opens}
 use Rattle.hurd_ports.specs.Sound.{IsSound, IsGiven, NumbersRise}
 use Rattle.hurd_creds.specs.declared.errno.Errno.TheVariants.{EBADF}
 use Rattle.hurd_ports.proofs.PlaceLaws.{same_test, apart_test}
-use Rattle.hurd_ports.proofs.TaskLaws.{set-here, set-apart, set-cases, one_or_other, map-origin, edit-found, edit-edit}
+use Rattle.hurd_ports.proofs.TaskLaws.{set-here, set-apart, set-cases, one_or_other, map-origin, edit-edit}
 use Rattle.hurd_ports.proofs.WeightLaws.{port_weighs}
-use Rattle.hurd_ports.proofs.HeldLaws.{held-alike, held-grows, held-here, names_own, namings}
+use Rattle.hurd_ports.proofs.HeldLaws.{held-grows, held-here, names_own, namings}
 
 -- numbers
 
@@ -95,18 +95,7 @@ module _ (h : PortState) (t : ℕ) (x : Task) (sound : IsSound h) (at : slice_ge
   pub number-new : right_of h t x.next ≡ Err EBADF
   number-new = rw (at, next_absent 0 x.next x.ports (sound.numbered t x at)) refl
 
-  -- it may name one thing
-  pub sound-named : IsSound (name_step t h)
-  sound-named = rw (edit-found t (named 1) h.tasks x at) kept
-    where
-      kept : IsSound (record h { tasks = slice_set h.tasks t (named 1 x) })
-      kept = record {
-        settled = λ q w is. held-alike h.tasks t x (named 1 x) q at refl ∙ sound.settled q w is;
-        given = λ q w is. given-set h.tasks t x (named 1 x) q at (omega arith) (sound.given q w is);
-        numbered = numbers-set h.tasks t x (named 1 x) at sound.numbered (sound.numbered t x at);
-      }
-
-  -- or have one more port, with an open of its own
+  -- it may have one more port, with an open of its own
   pub sound-inserted : (n : Name) (ids : IdSets) (parents : List Parent) (modes : OpenFlags) → IsSound (with_new_port t n ids parents modes x h)
   sound-inserted n ids parents modes = rw (edit-edit t (with_port right) (named 1) h.tasks x at) added
     where

@@ -54,10 +54,6 @@ module _ (q : ℕ) (f : Task → Task) (ts : List Task) where
   pub edit-found : (x : Task) → slice_get ts q ≡ Some x → edit_task q f ts ≡ slice_set ts q (f x)
   edit-found x at = ap (edit_at q f ts) at
 
-  -- where it isn't there, all stay
-  pub edit-absent : slice_get ts q ≡ None → edit_task q f ts ≡ ts
-  edit-absent none = ap (edit_at q f ts) none
-
   pub edit-here : slice_get (edit_task q f ts) q ≡ option_map f (slice_get ts q)
   edit-here = go (slice_get ts q) refl
     where

@@ -62,25 +62,15 @@ pub record IsFront (ws : List Text) (node : Text) (words : List Text) : Type 0 w
   pub front : take (flag_count ws + 1) ws ≡ leading_flags ws ++ node ∷ []
   pub behind : drop (flag_count ws + 1) ws ≡ words
 
-drop_one : (n : ℕ) (w : Text) (ws : List Text) → drop (1 + n) (w ∷ ws) ≡ drop n ws
-drop_one n w ws = let e : 1 + n ≡ suc n = omega arith in rw e refl
-
-take_one : (n : ℕ) (w : Text) (ws : List Text) → take (1 + n) (w ∷ ws) ≡ w ∷ take n ws
-take_one n w ws = let e : 1 + n ≡ suc n = omega arith in rw e refl
+flag_counted : (w : Text) (ws : List Text) → is_flag_word w ≡ true → flag_count (w ∷ ws) ≡ suc (flag_count ws)
+flag_counted w ws e = let step : flag_count (w ∷ ws) ≡ 1 + flag_count ws = rw e refl in omega (arith, step)
 
 -- one flag more in front of the front
 flag_first : (w : Text) (ws : List Text) (node : Text) (words : List Text) → is_flag_word w ≡ true → IsFront ws node words → IsFront (w ∷ ws) node words
 flag_first w ws node words e t =
-    let n = flag_count ws in
-    let count : flag_count (w ∷ ws) ≡ 1 + n = rw e refl in
-    let leading : leading_flags (w ∷ ws) ≡ w ∷ leading_flags ws = rw count (take_one n w ws) in
-    let more : flag_count (w ∷ ws) + 1 ≡ 1 + (n + 1) = omega (arith, count) in
-    record {
-      flags = ap (list_all is_flag_word) leading ∙ rw (e, t.flags) refl;
-      plain = t.plain;
-      front = rw (more, leading) (take_one (n + 1) w ws ∙ ap (λ (x : List Text). w ∷ x) t.front);
-      behind = rw more (drop_one (n + 1) w ws ∙ t.behind);
-    }
+    let count = flag_counted w ws e in
+    let more : flag_count (w ∷ ws) + 1 ≡ suc (flag_count ws + 1) = omega (arith, count) in
+    record { flags = rw (count, e) t.flags; plain = t.plain; front = rw (more, count) (ap (λ (x : List Text). w ∷ x) t.front); behind = rw more t.behind }
 
 node_first : (w : Text) (ws : List Text) → is_flag_word w ≡ false → IsFront (w ∷ ws) w ws
 node_first w ws e = record { flags = rw e refl; plain = e; front = rw e refl; behind = rw e refl }
@@ -88,9 +78,7 @@ node_first w ws e = record { flags = rw e refl; plain = e; front = rw e refl; be
 pub front_of : (ws : List Text) (node : Text) (words : List Text) → from_node ws ≡ node ∷ words → IsFront ws node words
 front_of [] node words h = absurd (cc)
 front_of (w ∷ ws) node words h = elim (is_flag_word w) as (λ is. is_flag_word w ≡ is → IsFront (w ∷ ws) node words) [
-  | true ↦ λ e.
-      let count : flag_count (w ∷ ws) ≡ 1 + flag_count ws = rw e refl in
-      flag_first w ws node words e (front_of ws node words (sym (ap (λ n. drop n (w ∷ ws)) count ∙ drop_one (flag_count ws) w ws) ∙ h))
+  | true ↦ λ e. flag_first w ws node words e (front_of ws node words (sym (ap (λ n. drop n (w ∷ ws)) (flag_counted w ws e)) ∙ h))
   | false ↦ λ e.
       let count : flag_count (w ∷ ws) ≡ 0 = rw e refl in
       let t : w ∷ ws ≡ node ∷ words = sym (ap (λ n. drop n (w ∷ ws)) count) ∙ h in

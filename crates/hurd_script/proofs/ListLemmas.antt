@@ -9,29 +9,26 @@ use Rattle.clap.proofs.OnLiterals.{clap_on_literals}
 use Rattle.clap.specs.declared.error.kind.ErrorKind.TheVariants.{ArgumentConflict, MissingRequiredArgument, UnknownArgument}
 use Rattle.hurd_script.specs.Flags.{flags_of, is_flag_word, operands_of}
 use Rattle.hurd_script.specs.Usage.{Answer, HasListed, flag_text, is_other_flag, list_app, listed}
-use Rattle.hurd_script.proofs.UsageLemmas.{IsPlain, faulty, hyphen, is_plain, no_flag, nothing, other}
+use Rattle.hurd_script.proofs.UsageLemmas.{IsNoFlag, faulty, no_flag}
 
--- a word that is no flag, or `-d`
-data IsListWord : Text → Type 0 where
-  plain : (w : Text) → IsPlain w → IsListWord w
-  itself : IsListWord (45 ∷ 100 ∷ [])
+-- words of which none is a flag but `-d`
+data AreListed : List Text → Type 0 where
+  end : AreListed []
+  plain : (w : Text) (ws : List Text) → is_flag_word w ≡ false → IsNoFlag w → AreListed ws → AreListed (w ∷ ws)
+  itself : (ws : List Text) → AreListed ws → AreListed ((45 ∷ 100 ∷ []) ∷ ws)
 
-plain_word : (w : Text) → IsPlain w → is_flag_word w ≡ false
-plain_word _ nothing = refl
-plain_word _ hyphen = refl
-plain_word _ (other b bs e) = rw e refl
-
-is_list_word : (w : Text) → is_other_flag w ≡ false → IsListWord w
-is_list_word w h = elim (is_flag_word w) as (λ is. is_flag_word w ≡ is → IsListWord w) [
-  | false ↦ λ e. plain w (is_plain w e)
-  | true ↦ λ e. elim (bytes_eq w (codes "-d")) as (λ is. bytes_eq w (codes "-d") ≡ is → IsListWord w) [
-    | true ↦ λ d. subst IsListWord (sym ((bytes_eq-Decides w (codes "-d")).0 d)) itself
+one_listed : (w : Text) (ws : List Text) → is_other_flag w ≡ false → AreListed ws → AreListed (w ∷ ws)
+one_listed w ws h rest = elim (is_flag_word w) as (λ is. is_flag_word w ≡ is → AreListed (w ∷ ws)) [
+  | false ↦ λ e. plain w ws e (no_flag w e) rest
+  | true ↦ λ e. elim (bytes_eq w (codes "-d")) as (λ is. bytes_eq w (codes "-d") ≡ is → AreListed (w ∷ ws)) [
+    | true ↦ λ d. subst (λ (x : Text). AreListed (x ∷ ws)) (sym ((bytes_eq-Decides w (codes "-d")).0 d)) (itself ws rest)
     | false ↦ λ d. let clash : true ≡ false = rw (e, d) at h in absurd (cc)
   ] refl
 ] refl
 
-first_listed : (w : Text) (ws : List Text) → list_any is_other_flag (w ∷ ws) ≡ false → IsListWord w × (list_any is_other_flag ws ≡ false)
-first_listed w ws h = let p = or_parts (is_other_flag w) (list_any is_other_flag ws) h in (is_list_word w p.0, p.1)
+are_listed : (ws : List Text) → list_any is_other_flag ws ≡ false → AreListed ws
+are_listed [] h = end
+are_listed (w ∷ ws) h = let p = or_parts (is_other_flag w) (list_any is_other_flag ws) h in one_listed w ws p.0 (are_listed ws p.1)
 
 -- words are read as a node, and perhaps the flag
 abbrev ListAnswer : Text → List Text → Type 0
@@ -43,66 +40,25 @@ many_nodes [] w v operands = refl
 many_nodes (f ∷ []) w v operands = refl
 many_nodes (f ∷ g ∷ flags) w v operands = refl
 
-list_none : (name : Text) → ListAnswer name []
+list_read : (name : Text) (ws : List Text) → AreListed ws → ListAnswer name ws
 unfolding clap_on_literals
-list_none name = faulty {k = MissingRequiredArgument} refl
-
-list_one : (name w : Text) → IsListWord w → ListAnswer name (w ∷ [])
-unfolding clap_on_literals
-list_one name _ itself = faulty {k = MissingRequiredArgument} refl
-list_one name w (plain _ p) =
-    let first = no_flag w p in
-    rw (plain_word w p, first.0, first.1, first.2) (refl, (refl, refl))
-
-list_two : (name w v : Text) → IsListWord w → IsListWord v → ListAnswer name (w ∷ v ∷ [])
-unfolding clap_on_literals
-list_two name _ _ itself itself = faulty {k = ArgumentConflict} refl
-list_two name _ v itself (plain _ q) =
-    let second = no_flag v q in
-    rw (plain_word v q, second.0, second.1, second.2) (refl, (refl, refl))
-list_two name w _ (plain _ p) itself =
-    let first = no_flag w p in
-    rw (plain_word w p, first.0, first.1, first.2) (refl, (refl, refl))
-list_two name w v (plain _ p) (plain _ q) =
-    let first = no_flag w p in
-    let second = no_flag v q in
-    rw (plain_word w p, plain_word v q, first.0, first.1, first.2, second.0, second.1, second.2) (faulty {k = UnknownArgument} refl)
-
-list_more : (name w v u : Text) (rest : List Text) → IsListWord w → IsListWord v → IsListWord u → ListAnswer name (w ∷ v ∷ u ∷ rest)
-unfolding clap_on_literals
-list_more name _ _ u rest itself itself r = faulty {k = ArgumentConflict} refl
-list_more name w v u rest (plain _ p) (plain _ q) r =
-    let first = no_flag w p in
-    let second = no_flag v q in
-    rw (plain_word w p, plain_word v q, many_nodes (flags_of (u ∷ rest)) w v (operands_of (u ∷ rest)), first.0, first.1, first.2, second.0, second.1, second.2)
-    (faulty {k = UnknownArgument} refl)
-list_more name _ v _ rest itself (plain _ q) itself =
-    let second = no_flag v q in
-    rw (plain_word v q, second.0, second.1, second.2) (faulty {k = ArgumentConflict} refl)
-list_more name _ v u rest itself (plain _ q) (plain _ r) =
-    let second = no_flag v q in
-    let third = no_flag u r in
-    rw (plain_word v q, plain_word u r, many_nodes (codes "-d" ∷ flags_of rest) v u (operands_of rest), second.0, second.1, second.2, third.0, third.1, third.2)
-    (faulty {k = UnknownArgument} refl)
-list_more name w _ _ rest (plain _ p) itself itself =
-    let first = no_flag w p in
-    rw (plain_word w p, first.0, first.1, first.2) (faulty {k = ArgumentConflict} refl)
-list_more name w _ u rest (plain _ p) itself (plain _ r) =
-    let first = no_flag w p in
-    let third = no_flag u r in
-    rw (plain_word w p, plain_word u r, many_nodes (codes "-d" ∷ flags_of rest) w u (operands_of rest), first.0, first.1, first.2, third.0, third.1, third.2)
-    (faulty {k = UnknownArgument} refl)
+list_read name _ end = faulty {k = MissingRequiredArgument} refl
+list_read name _ (itself _ end) = faulty {k = MissingRequiredArgument} refl
+list_read name _ (plain w _ z (a, b, c) end) = rw (z, a, b, c) (refl, (refl, refl))
+list_read name _ (itself _ (itself _ rest)) = faulty {k = ArgumentConflict} refl
+list_read name _ (itself _ (plain v _ z (a, b, c) end)) = rw (z, a, b, c) (refl, (refl, refl))
+list_read name _ (itself _ (plain v _ z (a, b, c) (itself _ rest))) = rw (z, a, b, c) (faulty {k = ArgumentConflict} refl)
+list_read name _ (itself _ (plain v _ z (a, b, c) (plain u us y (d, e, f) rest))) =
+    rw (z, y, many_nodes (codes "-d" ∷ flags_of us) v u (operands_of us), a, b, c, d, e, f) (faulty {k = UnknownArgument} refl)
+list_read name _ (plain w _ z (a, b, c) (itself _ end)) = rw (z, a, b, c) (refl, (refl, refl))
+list_read name _ (plain w _ z (a, b, c) (itself _ (itself _ rest))) = rw (z, a, b, c) (faulty {k = ArgumentConflict} refl)
+list_read name _ (plain w _ z (a, b, c) (itself _ (plain u us y (d, e, f) rest))) =
+    rw (z, y, many_nodes (codes "-d" ∷ flags_of us) w u (operands_of us), a, b, c, d, e, f) (faulty {k = UnknownArgument} refl)
+list_read name _ (plain w _ z (a, b, c) (plain v vs y (d, e, f) rest)) =
+    rw (z, y, many_nodes (flags_of vs) w v (operands_of vs), a, b, c, d, e, f) (faulty {k = UnknownArgument} refl)
 
 pub list_answer : (name : Text) (ws : List Text) → list_any is_other_flag ws ≡ false → ListAnswer name ws
-list_answer name [] h = list_none name
-list_answer name (w ∷ []) h = list_one name w (first_listed w [] h).0
-list_answer name (w ∷ v ∷ []) h =
-    let p = first_listed w (v ∷ []) h in
-    list_two name w v p.0 (first_listed v [] p.1).0
-list_answer name (w ∷ v ∷ u ∷ rest) h =
-    let p = first_listed w (v ∷ u ∷ rest) h in
-    let q = first_listed v (u ∷ rest) p.1 in
-    list_more name w v u rest p.0 q.0 (first_listed u rest q.1).0
+list_answer name ws h = list_read name ws (are_listed ws h)
 
 -- another flag than `-d` is among the flags, and then nothing is read
 abbrev is_other : Text → Bool

@@ -93,34 +93,21 @@ decided false holds fails = fails refl
 abbrev LineIs : List (List ℕ) → List ℕ → Type 0
 LineIs earlier line = with_line (standing earlier) line ≡ (if is_bad_line earlier line then None else Some (standing (earlier ++ line ∷ [])))
 
-at_skipped : (earlier : List (List ℕ)) (line : List ℕ) → is_skipped line ≡ true → LineIs earlier line
-at_skipped earlier line h =
-    let e : standing (earlier ++ line ∷ []) ≡ standing earlier = standing-push earlier line ∙ rw h (with_nothing (standing earlier)) in
-    rw (h, e) refl
-
-at_bad_word : (earlier : List (List ℕ)) (line : List ℕ) → is_skipped line ≡ false → list_any (is_bad_word text_of) (written_words line) ≡ true → LineIs earlier line
-at_bad_word earlier line h w = rw (h, w) refl
-
-at_user : (earlier : List (List ℕ)) (line : List ℕ) → is_skipped line ≡ false → list_any (is_bad_word text_of) (written_words line) ≡ false
-    → begins_with (codes "user") (words_of line) ≡ true → LineIs earlier line
-at_user earlier line h w u =
-    let d = declaration_of (words_of line) in
-    let e : standing (earlier ++ line ∷ []) ≡ with_parts (standing earlier) (option_map (λ user. user.name) d) (option_and_then declared_ids d) None false =
-    standing-push earlier line ∙ rw (h, u) refl in
-    rw (h, w, u, e) (with_declared-is (standing earlier) d)
-
-at_command : (earlier : List (List ℕ)) (line : List ℕ) → is_skipped line ≡ false → list_any (is_bad_word text_of) (written_words line) ≡ false
-    → begins_with (codes "user") (words_of line) ≡ false → LineIs earlier line
-at_command earlier line h w u =
-    let command = command_of (standing earlier).names line (words_of line) in
-    let e : standing (earlier ++ line ∷ []) ≡ with_parts (standing earlier) None None command true = standing-push earlier line ∙ rw (h, u) refl in
-    rw (h, w, u, e, command-is (standing earlier).names line (words_of line)) (with_command-is (standing earlier) command)
-
 pub line-is : (earlier : List (List ℕ)) (line : List ℕ) → LineIs earlier line
 line-is earlier line =
-    decided (is_skipped line) (at_skipped earlier line) (λ h.
-    decided (list_any (is_bad_word text_of) (written_words line)) (at_bad_word earlier line h) (λ w.
-    decided (begins_with (codes "user") (words_of line)) (at_user earlier line h w) (at_command earlier line h w)))
+    let s = standing earlier in
+    let d = declaration_of (words_of line) in
+    let command = command_of s.names line (words_of line) in
+    decided (is_skipped line)
+    (λ h. let e : standing (earlier ++ line ∷ []) ≡ s = standing-push earlier line ∙ rw h (with_nothing s) in rw (h, e) refl)
+    (λ h. decided (list_any (is_bad_word text_of) (written_words line)) (λ w. rw (h, w) refl) (λ w.
+    decided (begins_with (codes "user") (words_of line))
+    (λ u.
+    let e : standing (earlier ++ line ∷ []) ≡ with_parts s (option_map (λ user. user.name) d) (option_and_then declared_ids d) None false = standing-push earlier line ∙ rw (h, u) refl in
+    rw (h, w, u, e) (with_declared-is s d))
+    (λ u.
+    let e : standing (earlier ++ line ∷ []) ≡ with_parts s None None command true = standing-push earlier line ∙ rw (h, u) refl in
+    rw (h, w, u, e, command-is s.names line (words_of line)) (with_command-is s command))))
 
 some_unless : {X : Type 0} (b : Bool) (x y : X) → (if b then None else Some x) ≡ Some y → (b ≡ false) × (x ≡ y)
 some_unless true x y h = absurd (cc)

@@ -18,7 +18,7 @@ use Rattle.hurd_script.specs.Settrans.{are_known_once, has_letter, is_known, let
 use Rattle.hurd_script.specs.Flags.{is_flag_word}
 use Rattle.hurd_script.specs.Usage.{Answer, HasNode, flag_text, operand, own_flag, settrans_app}
 use Rattle.hurd_script.proofs.LetterLemmas.{IsFlag, each_letter, flag, is_flag, known_front, letter_next}
-use Rattle.hurd_script.proofs.UsageLemmas.{is_plain, no_flag}
+use Rattle.hurd_script.proofs.UsageLemmas.{no_flag}
 
 -- the rules that clap builds
 abbrev built_flag : ℕ → Rule
@@ -103,45 +103,31 @@ letter_passes l ls seen k known new =
     rw (first_char l ls known, by_letter l known, one_byte l known, unused seen l new) (ap (flags_fault rules false k ls 0) (used_flag rules seen l new))
 
 -- the letters of a word, one by one
-letters_met : (ls seen : Text) → are_known_once (seen ++ ls) ≡ true → bundle_met rules (length ls) ls 0 done (held seen) ≡ (held (seen ++ ls), done)
+letters_met : (ls seen : Text) → are_known_once (seen ++ ls) ≡ true
+    → (bundle_met rules (length ls) ls 0 done (held seen) ≡ (held (seen ++ ls), done)) × (flags_fault rules false (length ls) ls 0 (held seen) ≡ [])
 unfolding clap_on_literals
-letters_met [] seen h = ap (λ (x : Text). (held x, done)) (sym (append-nil seen))
+letters_met [] seen h = (ap (λ (x : Text). (held x, done)) (sym (append-nil seen)), refl)
 letters_met (l ∷ ls) seen h =
     let p = letter_next seen ls l h in
     let e = append_assoc seen (l ∷ []) ls in
-    letter_met l ls seen (length ls) done p.0 p.1 ∙ (letters_met ls (seen ++ l ∷ []) (ap are_known_once e ∙ h) ∙ ap (λ (x : Text). (held x, done)) e)
-
-letters_pass : (ls seen : Text) → are_known_once (seen ++ ls) ≡ true → flags_fault rules false (length ls) ls 0 (held seen) ≡ []
-unfolding clap_on_literals
-letters_pass [] seen h = refl
-letters_pass (l ∷ ls) seen h =
-    let p = letter_next seen ls l h in
-    let e = append_assoc seen (l ∷ []) ls in
-    letter_passes l ls seen (length ls) p.0 p.1 ∙ letters_pass ls (seen ++ l ∷ []) (ap are_known_once e ∙ h)
+    let rest = letters_met ls (seen ++ l ∷ []) (ap are_known_once e ∙ h) in
+    (letter_met l ls seen (length ls) done p.0 p.1 ∙ (rest.0 ∙ ap (λ (x : Text). (held x, done)) e), letter_passes l ls seen (length ls) p.0 p.1 ∙ rest.1)
 
 flag_met : (l : ℕ) (ls seen : Text) → are_known_once (seen ++ l ∷ ls) ≡ true → bundle_met rules (length (l ∷ ls)) (l ∷ ls) 0 plain (held seen) ≡ (held (seen ++ l ∷ ls), done)
 flag_met l ls seen h =
     let p = letter_next seen ls l h in
     let e = append_assoc seen (l ∷ []) ls in
-    letter_met l ls seen (length ls) plain p.0 p.1 ∙ (letters_met ls (seen ++ l ∷ []) (ap are_known_once e ∙ h) ∙ ap (λ (x : Text). (held x, done)) e)
+    letter_met l ls seen (length ls) plain p.0 p.1 ∙ ((letters_met ls (seen ++ l ∷ []) (ap are_known_once e ∙ h)).0 ∙ ap (λ (x : Text). (held x, done)) e)
 
 -- a flag word
-flag_walked : (l : ℕ) (ls seen : Text) → are_known_once (seen ++ l ∷ ls) ≡ true → walked rules [] (standing seen) (45 ∷ l ∷ ls) ≡ standing (seen ++ l ∷ ls)
-unfolding walked
-flag_walked l ls seen h =
-    let other = no_hyphen l (letter_next seen ls l h).0 in
-    rw (other, other, flag_met l ls seen h) refl
-
-flag_passes : (l : ℕ) (ls seen : Text) → are_known_once (seen ++ l ∷ ls) ≡ true → turn_fault shape [] (standing seen) (45 ∷ l ∷ ls) ≡ []
-flag_passes l ls seen h =
-    let other = no_hyphen l (letter_next seen ls l h).0 in
-    rw (other, other, letters_pass (l ∷ ls) seen h, flag_met l ls seen h) refl
-
 word_turns : (word seen more : Text) → IsFlag word → are_known_once (seen ++ (drop 1 word ++ more)) ≡ true
     → (walked rules [] (standing seen) word ≡ standing (seen ++ drop 1 word)) × (turn_fault shape [] (standing seen) word ≡ [])
+unfolding walked
 word_turns _ seen more (flag l ls) h =
     let k = known_front (seen ++ l ∷ ls) more (ap are_known_once (append_assoc seen (l ∷ ls) more) ∙ h) in
-    (flag_walked l ls seen k, flag_passes l ls seen k)
+    let other = no_hyphen l (letter_next seen ls l k).0 in
+    let met = flag_met l ls seen k in
+    (rw (other, other, met) refl, rw (other, other, (letters_met (l ∷ ls) seen k).1, met) refl)
 
 -- flag words in front of others
 flags_walked : (flags tail : List Text) (seen : Text) → list_all is_flag_word flags ≡ true → are_known_once (seen ++ letters_of flags) ≡ true
@@ -173,22 +159,17 @@ pending_node seen node = record { rows = map true_row seen; pending = Some (code
 abbrev at_end : Text → Text → Walk
 at_end seen node = record { held = pending_node seen node; waiting = idle; position = 2; is_trailing = false; stopped = None }
 
-node_walked : (node seen : Text) → is_flag_word node ≡ false → walked rules [] (standing seen) node ≡ at_end seen node
+node_turns : (node seen : Text) → is_flag_word node ≡ false → (walked rules [] (standing seen) node ≡ at_end seen node) × (turn_fault shape [] (standing seen) node ≡ [])
 unfolding walked
-node_walked node seen h = let first = no_flag node (is_plain node h) in rw (first.0, first.1, first.2) refl
-
-node_passes : (node seen : Text) → is_flag_word node ≡ false → turn_fault shape [] (standing seen) node ≡ []
-node_passes node seen h = let first = no_flag node (is_plain node h) in rw (first.0, first.1, first.2) refl
+node_turns node seen h = let first = no_flag node h in rw (first.0, first.1, first.2) (refl, refl)
 
 -- the whole walk
 all_walked : (flags : List Text) (node : Text) → list_all is_flag_word flags ≡ true → is_flag_word node ≡ false → are_known_once (letters_of flags) ≡ true
-    → walk rules [] nothing_held (flags ++ node ∷ []) ≡ at_end (letters_of flags) node
-all_walked flags node h n k = flags_walked flags (node ∷ []) [] h k ∙ node_walked node (letters_of flags) n
-
-all_pass : (flags : List Text) (node : Text) → list_all is_flag_word flags ≡ true → is_flag_word node ≡ false → are_known_once (letters_of flags) ≡ true
-    → walk_fault shape [] (walk_from nothing_held) (flags ++ node ∷ []) ≡ []
+    → (walk rules [] nothing_held (flags ++ node ∷ []) ≡ at_end (letters_of flags) node) × (walk_fault shape [] (walk_from nothing_held) (flags ++ node ∷ []) ≡ [])
 unfolding walk_fault
-all_pass flags node h n k = flags_pass flags (node ∷ []) [] h k ∙ rw (node_passes node (letters_of flags) n) refl
+all_walked flags node h n k =
+    let turn = node_turns node (letters_of flags) n in
+    (flags_walked flags (node ∷ []) [] h k ∙ turn.0, flags_pass flags (node ∷ []) [] h k ∙ rw turn.1 refl)
 
 -- the row of the node, which no flag has
 abbrev node_row : Text → Row
@@ -205,22 +186,7 @@ no_node_row (m ∷ seen) = rw (and_right (nat_eq m 110) false refl, no_node_row 
 settled_node : (seen node : Text) → settled rules (pending_node seen node) ≡ with_rows (rows_given seen node)
 settled_node seen node = ap with_rows (new_use (codes "node") (more_values CommandLine (node ∷ [])) (node_row node ∷ []) (map true_row seen) (no_node_row seen))
 
-settle_passes : (seen node : Text) → settle_fault rules false (pending_node seen node) ≡ []
-settle_passes seen node = rw (no_node_row seen) refl
-
 -- what stands in for the flags that are not there
-default_passes : (l : ℕ) (rows : List Row) → default_fault rows (built_flag l) ≡ []
-unfolding clap_on_literals
-default_passes l rows = elim (has_row (l ∷ []) rows) as (λ is. has_row (l ∷ []) rows ≡ is → default_fault rows (built_flag l) ≡ []) [
-  | true ↦ λ e. rw e refl
-  | false ↦ λ e. rw e refl
-] refl
-
-defaults_pass : (letters : Text) (rows : List Row) → defaults_fault rows (map built_flag letters) ≡ []
-unfolding defaults_fault
-defaults_pass [] rows = refl
-defaults_pass (l ∷ letters) rows = rw (default_passes l rows) (defaults_pass letters (with_default rows (built_flag l)))
-
 -- the first row of an id
 abbrev row_at : Text → List Row → Option Row
 row_at id rows = find (λ r. bytes_eq r.id id) rows
@@ -240,11 +206,17 @@ abbrev default_row : Bool → ℕ → List Row
 default_row true l = []
 default_row false l = false_row l ∷ []
 
-with_default-is : (l : ℕ) (rows : List Row) → with_default rows (built_flag l) ≡ rows ++ default_row (has_row (l ∷ []) rows) l
-with_default-is l rows = elim (has_row (l ∷ []) rows) as (λ is. has_row (l ∷ []) rows ≡ is → with_default rows (built_flag l) ≡ rows ++ default_row (has_row (l ∷ []) rows) l) [
-  | true ↦ λ e. rw e (sym (append-nil rows))
-  | false ↦ λ e. rw e (last_row (l ∷ []) (more_values DefaultValue (codes "false" ∷ [])) (false_row l ∷ []) rows e)
+with_default-is : (l : ℕ) (rows : List Row) → (with_default rows (built_flag l) ≡ rows ++ default_row (has_row (l ∷ []) rows) l) × (default_fault rows (built_flag l) ≡ [])
+unfolding clap_on_literals
+with_default-is l rows = elim (has_row (l ∷ []) rows) as (λ is. has_row (l ∷ []) rows ≡ is → (with_default rows (built_flag l) ≡ rows ++ default_row (has_row (l ∷ []) rows) l) × (default_fault rows (built_flag l) ≡ [])) [
+  | true ↦ λ e. rw e (sym (append-nil rows), refl)
+  | false ↦ λ e. rw e (last_row (l ∷ []) (more_values DefaultValue (codes "false" ∷ [])) (false_row l ∷ []) rows e, refl)
 ] refl
+
+defaults_pass : (letters : Text) (rows : List Row) → defaults_fault rows (map built_flag letters) ≡ []
+unfolding defaults_fault
+defaults_pass [] rows = refl
+defaults_pass (l ∷ letters) rows = rw (with_default-is l rows).1 (defaults_pass letters (with_default rows (built_flag l)))
 
 abbrev with_defaults : Text → List Row → List Row
 with_defaults letters rows = fold with_default rows (map built_flag letters)
@@ -254,17 +226,17 @@ row_kept id [] rows r h = h
 row_kept id (l ∷ letters) rows r h =
     let more = default_row (has_row (l ∷ []) rows) l in
     row_kept id letters (with_default rows (built_flag l)) r
-    (ap (row_at id) (with_default-is l rows) ∙ (row_at-append id rows more ∙ ap (λ (x : Option Row). option_or x (row_at id more)) h))
+    (ap (row_at id) (with_default-is l rows).0 ∙ (row_at-append id rows more ∙ ap (λ (x : Option Row). option_or x (row_at id more)) h))
 
 row_new : (l : ℕ) (rows : List Row) → row_at (l ∷ []) rows ≡ None → row_at (l ∷ []) (with_default rows (built_flag l)) ≡ Some (false_row l)
 row_new l rows h =
-    ap (row_at (l ∷ [])) (with_default-is l rows)
+    ap (row_at (l ∷ [])) (with_default-is l rows).0
     ∙ (row_at-append (l ∷ []) rows (default_row (has_row (l ∷ []) rows) l) ∙ rw (h, missing_row (l ∷ []) rows h, eq-eqb l l refl) refl)
 
 row_other : (m l : ℕ) (rows : List Row) → nat_eq m l ≡ false → row_at (l ∷ []) rows ≡ None → row_at (l ∷ []) (with_default rows (built_flag m)) ≡ None
 row_other m l rows e h =
     let more = elim (has_row (m ∷ []) rows) as (λ is. row_at (l ∷ []) (default_row is m) ≡ None) [ true ↦ refl | false ↦ rw e refl ] in
-    ap (row_at (l ∷ [])) (with_default-is m rows) ∙ (row_at-append (l ∷ []) rows (default_row (has_row (m ∷ []) rows) m) ∙ rw (h, more) refl)
+    ap (row_at (l ∷ [])) (with_default-is m rows).0 ∙ (row_at-append (l ∷ []) rows (default_row (has_row (m ∷ []) rows) m) ∙ rw (h, more) refl)
 
 row_added : (l : ℕ) (letters : Text) (rows : List Row) → has_letter letters l ≡ true → row_at (l ∷ []) rows ≡ None → row_at (l ∷ []) (with_defaults letters rows) ≡ Some (false_row l)
 row_added l [] rows k h = absurd (cc)
@@ -320,9 +292,6 @@ node_told : (seen node : Text) → row_at (codes "node") (rows_left seen node) �
 node_told seen node = row_kept (codes "node") letters (rows_given seen node) (node_row node) (row_of_node seen node)
 
 -- the checks at the end
-check_passes : (seen node : Text) → check_fault shape (finished rules (pending_node seen node)) false ≡ []
-check_passes seen node = rw (finished-is seen node, node_told seen node) refl
-
 abbrev app : App
 app = built settrans_app
 
@@ -340,7 +309,7 @@ rules_pass rows = rw (node_default rows).1 (defaults_pass letters (with_default 
 end_passes : (seen node : Text) → fault_at_end (at_end seen node) [] ≡ []
 end_passes seen node =
     let given = ap (λ (h : Held). defaults_fault h.rows rules) (settled_node seen node) ∙ rules_pass (rows_given seen node) in
-    rw (settle_passes seen node, given, check_passes seen node) refl
+    rw (no_node_row seen, given, finished-is seen node, node_told seen node) refl
 
 -- what the matches have: the node, and whether the letter of each flag is among these
 abbrev pub HasFlags : Text → List Row → Text → Type 0
@@ -350,7 +319,8 @@ pub settrans_answer : (flags : List Text) (node : Text) → list_all is_flag_wor
     → Answer settrans_app (flags ++ node ∷ []) (HasFlags (letters_of flags)) (Some node)
 settrans_answer flags node h n k =
     let seen = letters_of flags in
-    let end = all_walked flags node h n k in
-    let clear = ap (λ (w : Walk). fault_at_end w (walk_fault shape [] (walk_from nothing_held) (flags ++ node ∷ []))) end ∙ (ap (fault_at_end (at_end seen node)) (all_pass flags node h n k) ∙ end_passes seen node) in
+    let turns = all_walked flags node h n k in
+    let end = turns.0 in
+    let clear = ap (λ (w : Walk). fault_at_end w (walk_fault shape [] (walk_from nothing_held) (flags ++ node ∷ []))) end ∙ (ap (fault_at_end (at_end seen node)) turns.1 ∙ end_passes seen node) in
     let left : matches_of settrans_app (flags ++ node ∷ []) ≡ rows_left seen node = ap (λ (w : Walk). finished rules w.held) end ∙ finished-is seen node in
     (clear, subst (λ (rows : List Row). HasFlags seen rows node) (sym left) (ap (option_and_then (λ (r : Row). slice_get r.values 0)) (node_told seen node), flag_told seen node))

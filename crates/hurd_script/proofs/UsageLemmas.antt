@@ -13,28 +13,26 @@ use Rattle.clap.specs.declared.error.kind.ErrorKind.TheVariants.{MissingRequired
 use Rattle.hurd_script.specs.Flags.{flags_of, is_flag_word, operands_of}
 use Rattle.hurd_script.specs.Usage.{Answer, HasNode, HasPair, HasTriple, both, lone, node_app, pair_app, three, triple_app}
 
--- a word that is no flag
-pub data IsPlain : List ℕ → Type 0 where
-  nothing : IsPlain []
-  hyphen : IsPlain (45 ∷ [])
-  other : (b : ℕ) (bs : List ℕ) → nat_eq b 45 ≡ false → IsPlain (b ∷ bs)
-
-pub is_plain : (word : List ℕ) → is_flag_word word ≡ false → IsPlain word
-is_plain [] h = nothing
-is_plain (b ∷ []) h = elim (nat_eq b 45) as (λ is. nat_eq b 45 ≡ is → IsPlain (b ∷ [])) [
-  | true ↦ λ e. subst (λ (x : ℕ). IsPlain (x ∷ [])) (sym (eqb-true b 45 e)) hyphen
-  | false ↦ λ e. other b [] e
-] refl
-is_plain (b ∷ c ∷ cs) h = other b (c ∷ cs) (rw and-true at h)
-
--- to clap it is no flag either: no end of flags, no long one, no short one
+-- to clap a word that is no flag is none either: no end of flags, no long one, no short one
 abbrev pub IsNoFlag : List ℕ → Type 0
 IsNoFlag word = (bytes_eq word (45 ∷ 45 ∷ []) ≡ false) × (long_of word ≡ None) × (short_of word ≡ None)
 
-pub no_flag : (word : List ℕ) → IsPlain word → IsNoFlag word
-no_flag _ nothing = (refl, refl, refl)
-no_flag _ hyphen = (refl, refl, refl)
-no_flag _ (other b bs e) = rw e (refl, refl, refl)
+pub no_flag : (word : List ℕ) → is_flag_word word ≡ false → IsNoFlag word
+no_flag [] h = (refl, refl, refl)
+no_flag (b ∷ []) h = elim (nat_eq b 45) as (λ is. nat_eq b 45 ≡ is → IsNoFlag (b ∷ [])) [
+  | true ↦ λ e. subst (λ (x : ℕ). IsNoFlag (x ∷ [])) (sym (eqb-true b 45 e)) (refl, refl, refl)
+  | false ↦ λ e. rw e (refl, refl, refl)
+] refl
+no_flag (b ∷ c ∷ cs) h = let e : nat_eq b 45 ≡ false = rw and-true at h in rw e (refl, refl, refl)
+
+-- words of which none is a flag
+data ArePlain : List Text → Type 0 where
+  end : ArePlain []
+  next : (w : Text) (ws : List Text) → IsNoFlag w → ArePlain ws → ArePlain (w ∷ ws)
+
+are_plain : (ws : List Text) → list_any is_flag_word ws ≡ false → ArePlain ws
+are_plain [] h = end
+are_plain (w ∷ ws) h = let p = or_parts (is_flag_word w) (list_any is_flag_word ws) h in next w ws (no_flag w p.0) (are_plain ws p.1)
 
 -- words without flags are operands
 flagless : (ws : List Text) → list_any is_flag_word ws ≡ false → (flags_of ws ≡ []) × (operands_of ws ≡ ws)
@@ -63,137 +61,44 @@ takes_operands : {X : Type 0} (read : List Text → List Text → Option X) (ws 
     → read [] ws ≡ read (flags_of ws) (operands_of ws)
 takes_operands read ws h = let r = flagless ws h in rw (r.0, r.1) refl
 
--- the first of words that are no flags
-first_plain : (w : Text) (ws : List Text) → list_any is_flag_word (w ∷ ws) ≡ false → IsPlain w × (list_any is_flag_word ws ≡ false)
-first_plain w ws h = let p = or_parts (is_flag_word w) (list_any is_flag_word ws) h in (is_plain w p.0, p.1)
-
 -- kinds of fault
 pub faulty : {ks : Kinds} {k : ErrorKind} → ks ≡ k ∷ [] → ks ≢ []
 faulty {ks} {k} f e = let clash : k ∷ [] ≡ [] = sym f ∙ e in absurd (cc)
 
 -- `NODE`: no word, one, two or more
-node_none : (name : Text) → fault_of (node_app name) [] ≡ MissingRequiredArgument ∷ []
+node_plain : (name : Text) (ws : List Text) → ArePlain ws → Answer (node_app name) ws HasNode (lone [] ws)
 unfolding clap_on_literals
-node_none name = refl
-
-node_one : (name w : Text) → IsPlain w → Answer (node_app name) (w ∷ []) HasNode (Some w)
-unfolding clap_on_literals
-node_one name w p =
-    let first = no_flag w p in
-    rw (first.0, first.1, first.2) (refl, refl)
-
-node_more : (name w v : Text) (rest : List Text) → IsPlain w → IsPlain v → fault_of (node_app name) (w ∷ v ∷ rest) ≡ UnknownArgument ∷ []
-unfolding clap_on_literals
-node_more name w v rest p q =
-    let first = no_flag w p in
-    let second = no_flag v q in
-    rw (first.0, first.1, first.2, second.0, second.1, second.2) refl
-
-node_plain : (name : Text) (ws : List Text) → list_any is_flag_word ws ≡ false → Answer (node_app name) ws HasNode (lone [] ws)
-node_plain name [] h = faulty (node_none name)
-node_plain name (w ∷ []) h = node_one name w (first_plain w [] h).0
-node_plain name (w ∷ v ∷ rest) h =
-    let p = first_plain w (v ∷ rest) h in
-    faulty (node_more name w v rest p.0 (first_plain v rest p.1).0)
+node_plain name _ end = faulty {k = MissingRequiredArgument} refl
+node_plain name _ (next w _ (a, b, c) end) = rw (a, b, c) (refl, refl)
+node_plain name _ (next w _ (a, b, c) (next v _ (d, e, f) rest)) = rw (a, b, c, d, e, f) (faulty {k = UnknownArgument} refl)
 
 -- two words: none, one, two, three or more
-pair_none : (name : Text) → fault_of (pair_app name) [] ≡ MissingRequiredArgument ∷ []
+pair_plain : (name : Text) (ws : List Text) → ArePlain ws → Answer (pair_app name) ws HasPair (both [] ws)
 unfolding clap_on_literals
-pair_none name = refl
-
-pair_one : (name w : Text) → IsPlain w → fault_of (pair_app name) (w ∷ []) ≡ MissingRequiredArgument ∷ []
-unfolding clap_on_literals
-pair_one name w p =
-    let first = no_flag w p in
-    rw (first.0, first.1, first.2) refl
-
-pair_two : (name w v : Text) → IsPlain w → IsPlain v → Answer (pair_app name) (w ∷ v ∷ []) HasPair (Some (w, v))
-unfolding clap_on_literals
-pair_two name w v p q =
-    let first = no_flag w p in
-    let second = no_flag v q in
-    rw (first.0, first.1, first.2, second.0, second.1, second.2) (refl, (refl, refl))
-
-pair_more : (name w v u : Text) (rest : List Text) → IsPlain w → IsPlain v → IsPlain u → fault_of (pair_app name) (w ∷ v ∷ u ∷ rest) ≡ UnknownArgument ∷ []
-unfolding clap_on_literals
-pair_more name w v u rest p q r =
-    let first = no_flag w p in
-    let second = no_flag v q in
-    let third = no_flag u r in
-    rw (first.0, first.1, first.2, second.0, second.1, second.2, third.0, third.1, third.2) refl
-
-pair_plain : (name : Text) (ws : List Text) → list_any is_flag_word ws ≡ false → Answer (pair_app name) ws HasPair (both [] ws)
-pair_plain name [] h = faulty (pair_none name)
-pair_plain name (w ∷ []) h = faulty (pair_one name w (first_plain w [] h).0)
-pair_plain name (w ∷ v ∷ []) h =
-    let p = first_plain w (v ∷ []) h in
-    pair_two name w v p.0 (first_plain v [] p.1).0
-pair_plain name (w ∷ v ∷ u ∷ rest) h =
-    let p = first_plain w (v ∷ u ∷ rest) h in
-    let q = first_plain v (u ∷ rest) p.1 in
-    faulty (pair_more name w v u rest p.0 q.0 (first_plain u rest q.1).0)
+pair_plain name _ end = faulty {k = MissingRequiredArgument} refl
+pair_plain name _ (next w _ (a, b, c) end) = rw (a, b, c) (faulty {k = MissingRequiredArgument} refl)
+pair_plain name _ (next w _ (a, b, c) (next v _ (d, e, f) end)) = rw (a, b, c, d, e, f) (refl, (refl, refl))
+pair_plain name _ (next w _ (a, b, c) (next v _ (d, e, f) (next u _ (g, h, i) rest))) = rw (a, b, c, d, e, f, g, h, i) (faulty {k = UnknownArgument} refl)
 
 -- three words: none, one, two, three, four or more
-triple_none : (name : Text) → fault_of (triple_app name) [] ≡ MissingRequiredArgument ∷ []
+triple_plain : (name : Text) (ws : List Text) → ArePlain ws → Answer (triple_app name) ws HasTriple (three [] ws)
 unfolding clap_on_literals
-triple_none name = refl
-
-triple_one : (name w : Text) → IsPlain w → fault_of (triple_app name) (w ∷ []) ≡ MissingRequiredArgument ∷ []
-unfolding clap_on_literals
-triple_one name w p =
-    let first = no_flag w p in
-    rw (first.0, first.1, first.2) refl
-
-triple_two : (name w v : Text) → IsPlain w → IsPlain v → fault_of (triple_app name) (w ∷ v ∷ []) ≡ MissingRequiredArgument ∷ []
-unfolding clap_on_literals
-triple_two name w v p q =
-    let first = no_flag w p in
-    let second = no_flag v q in
-    rw (first.0, first.1, first.2, second.0, second.1, second.2) refl
-
-triple_three : (name w v u : Text) → IsPlain w → IsPlain v → IsPlain u → Answer (triple_app name) (w ∷ v ∷ u ∷ []) HasTriple (Some (w, (v, u)))
-unfolding clap_on_literals
-triple_three name w v u p q r =
-    let first = no_flag w p in
-    let second = no_flag v q in
-    let third = no_flag u r in
-    rw (first.0, first.1, first.2, second.0, second.1, second.2, third.0, third.1, third.2) (refl, ((refl, refl), refl))
-
-triple_more : (name w v u t : Text) (rest : List Text) → IsPlain w → IsPlain v → IsPlain u → IsPlain t
-    → fault_of (triple_app name) (w ∷ v ∷ u ∷ t ∷ rest) ≡ UnknownArgument ∷ []
-unfolding clap_on_literals
-triple_more name w v u t rest p q r s =
-    let first = no_flag w p in
-    let second = no_flag v q in
-    let third = no_flag u r in
-    let fourth = no_flag t s in
-    rw (first.0, first.1, first.2, second.0, second.1, second.2, third.0, third.1, third.2, fourth.0, fourth.1, fourth.2) refl
-
-triple_plain : (name : Text) (ws : List Text) → list_any is_flag_word ws ≡ false → Answer (triple_app name) ws HasTriple (three [] ws)
-triple_plain name [] h = faulty (triple_none name)
-triple_plain name (w ∷ []) h = faulty (triple_one name w (first_plain w [] h).0)
-triple_plain name (w ∷ v ∷ []) h =
-    let p = first_plain w (v ∷ []) h in
-    faulty (triple_two name w v p.0 (first_plain v [] p.1).0)
-triple_plain name (w ∷ v ∷ u ∷ []) h =
-    let p = first_plain w (v ∷ u ∷ []) h in
-    let q = first_plain v (u ∷ []) p.1 in
-    triple_three name w v u p.0 q.0 (first_plain u [] q.1).0
-triple_plain name (w ∷ v ∷ u ∷ t ∷ rest) h =
-    let p = first_plain w (v ∷ u ∷ t ∷ rest) h in
-    let q = first_plain v (u ∷ t ∷ rest) p.1 in
-    let r = first_plain u (t ∷ rest) q.1 in
-    faulty (triple_more name w v u t rest p.0 q.0 r.0 (first_plain t rest r.1).0)
+triple_plain name _ end = faulty {k = MissingRequiredArgument} refl
+triple_plain name _ (next w _ (a, b, c) end) = rw (a, b, c) (faulty {k = MissingRequiredArgument} refl)
+triple_plain name _ (next w _ (a, b, c) (next v _ (d, e, f) end)) = rw (a, b, c, d, e, f) (faulty {k = MissingRequiredArgument} refl)
+triple_plain name _ (next w _ (a, b, c) (next v _ (d, e, f) (next u _ (g, h, i) end))) = rw (a, b, c, d, e, f, g, h, i) (refl, ((refl, refl), refl))
+triple_plain name _ (next w _ (a, b, c) (next v _ (d, e, f) (next u _ (g, h, i) (next t _ (j, k, l) rest)))) =
+    rw (a, b, c, d, e, f, g, h, i, j, k, l) (faulty {k = UnknownArgument} refl)
 
 -- the same of what is read of flags and operands
 pub node_answer : (name : Text) (ws : List Text) → list_any is_flag_word ws ≡ false → Answer (node_app name) ws HasNode (lone (flags_of ws) (operands_of ws))
-node_answer name ws h = subst (Answer (node_app name) ws HasNode) (takes_operands lone ws h) (node_plain name ws h)
+node_answer name ws h = subst (Answer (node_app name) ws HasNode) (takes_operands lone ws h) (node_plain name ws (are_plain ws h))
 
 pub pair_answer : (name : Text) (ws : List Text) → list_any is_flag_word ws ≡ false → Answer (pair_app name) ws HasPair (both (flags_of ws) (operands_of ws))
-pair_answer name ws h = subst (Answer (pair_app name) ws HasPair) (takes_operands both ws h) (pair_plain name ws h)
+pair_answer name ws h = subst (Answer (pair_app name) ws HasPair) (takes_operands both ws h) (pair_plain name ws (are_plain ws h))
 
 pub triple_answer : (name : Text) (ws : List Text) → list_any is_flag_word ws ≡ false → Answer (triple_app name) ws HasTriple (three (flags_of ws) (operands_of ws))
-triple_answer name ws h = subst (Answer (triple_app name) ws HasTriple) (takes_operands three ws h) (triple_plain name ws h)
+triple_answer name ws h = subst (Answer (triple_app name) ws HasTriple) (takes_operands three ws h) (triple_plain name ws (are_plain ws h))
 
 -- what the matches of a command hold, where it was built as it should be
 pub read : {X : Type 0} (app wanted : App) (ws : List Text) (rows : List Row) (Has : List Row → X → Type 0) (o : Option X) → app ≡ wanted → Answer wanted ws Has o

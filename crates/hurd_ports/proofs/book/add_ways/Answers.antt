@@ -8,9 +8,6 @@ use Rattle.hurd_ports.proofs.book.add_ways.Goals as goal
 abbrev none : Parent
 none = record { at = record { task = record { 0 = 0 }; count = 0 }; parent = record { task = record { 0 = 0 }; count = 0 } }
 
-pub loop-way-init : goal.loop-way-init
-loop-way-init c = record { more = λ n. omega arith; room = omega (arith, c.requires.room) }
-
 pub add-requires-clause-room : goal.add-requires-clause-room
 add-requires-clause-room c = omega (arith, c.loop-way.invariant.room, c.loop-way-test.true)
 

@@ -8,9 +8,6 @@ use Rattle.hurd_ports.proofs.book.subtract_ways.Goals as goal
 abbrev none : Parent
 none = record { at = record { task = record { 0 = 0 }; count = 0 }; parent = record { task = record { 0 = 0 }; count = 0 } }
 
-pub loop-way-init : goal.loop-way-init
-loop-way-init c = record { less = λ n. omega arith }
-
 pub subtract-requires : goal.subtract-requires
 subtract-requires c =
     let ws = c.args.ways.now in

@@ -1,8 +1,7 @@
-use Rattle.std.proofs.Common.{◌≡◌, ◌∙◌, codes, false, map, string_bytes, sym, Global}
-use Rattle.std.specs.List.{list_any}
+use Rattle.std.proofs.Common.{◌∙◌, codes, map, string_bytes, sym, Global}
 use Rattle.clap.specs.Words.{found_of, rows_of}
 use Rattle.clap.proofs.WalkLemmas.{first_value-rows, one_text-rows}
-use Rattle.hurd_script.specs.Usage.{HasListed, is_other_flag}
+use Rattle.hurd_script.specs.Usage.{HasListed}
 use Rattle.hurd_script.proofs.ListLemmas.{list_answer, listed_value, not_listed, other_listed}
 use Rattle.hurd_script.proofs.UsageLemmas.{read, unread}
 use Rattle.hurd_script.proofs.usage.listed_of.Goals as goal
@@ -12,24 +11,18 @@ returns-then-has_other_flag c = other_listed (map (string_bytes {Z = Global}) c.
 
 pub returns-in_default : goal.returns-in_default
 returns-in_default c =
-    let ws = map (string_bytes {Z = Global}) c.args.words.now in
-    let h : list_any is_other_flag ws ≡ false = sym c.has_other_flag.ensures ∙ c.if-has_other_flag.false in
-    unread _ _ _ HasListed _ c.in_ok-list_command.ensures (list_answer c.args.name.now ws h) (rw c.in_default.is at c.in_ok-matches.ensures)
+    unread _ _ _ HasListed _ c.in_ok-list_command.ensures (list_answer c.args.name.now (map (string_bytes {Z = Global}) c.args.words.now) (sym c.has_other_flag.ensures ∙ c.if-has_other_flag.false)) (rw c.in_default.is at c.in_ok-matches.ensures)
 
 pub returns-in-Some-get_str : goal.returns-in-Some-get_str
 returns-in-Some-get_str c =
-    let ws = map (string_bytes {Z = Global}) c.args.words.now in
-    let h : list_any is_other_flag ws ≡ false = sym c.has_other_flag.ensures ∙ c.if-has_other_flag.false in
     let p = rw c.in-Some.is at c.in_ok-matches.ensures in
-    let r = read _ _ _ _ HasListed _ c.in_ok-list_command.ensures (list_answer c.args.name.now ws h) p.0 p.1 in
+    let r = read _ _ _ _ HasListed _ c.in_ok-list_command.ensures (list_answer c.args.name.now (map (string_bytes {Z = Global}) c.args.words.now) (sym c.has_other_flag.ensures ∙ c.if-has_other_flag.false)) p.0 p.1 in
     let said = sym (one_text-rows (found_of c.in-Some.matches) (codes "itself")) in
     listed_value c.in-Some-get_str.node.now c.get_flag-itself.result (rows_of (found_of c.in-Some.matches)) r.0 _ (c.in-Some-get_str.ensures ∙ first_value-rows (found_of c.in-Some.matches) (codes "node"))
     (λ t. c.get_flag-itself.ensures.value (sym said ∙ t)) (λ t. c.get_flag-itself.ensures.other (sym said ∙ t)) r.1
 
 pub returns : goal.returns
 returns c =
-    let ws = map (string_bytes {Z = Global}) c.args.words.now in
-    let h : list_any is_other_flag ws ≡ false = sym c.has_other_flag.ensures ∙ c.if-has_other_flag.false in
     let p = rw c.in-Some.is at c.in_ok-matches.ensures in
-    let r = read _ _ _ _ HasListed _ c.in_ok-list_command.ensures (list_answer c.args.name.now ws h) p.0 p.1 in
+    let r = read _ _ _ _ HasListed _ c.in_ok-list_command.ensures (list_answer c.args.name.now (map (string_bytes {Z = Global}) c.args.words.now) (sym c.has_other_flag.ensures ∙ c.if-has_other_flag.false)) p.0 p.1 in
     not_listed (rows_of (found_of c.in-Some.matches)) r.0 _ (c.in-None.ensures ∙ first_value-rows (found_of c.in-Some.matches) (codes "node")) r.1

@@ -12,6 +12,3 @@ pub returns-in-None : goal.returns-in-None
 returns-in-None c =
     let none = rw c.deref.ensures.value at c.in-None.ensures.is in
     sym (right-absent c.args.number c.args.self.now.ports.items (sym none))
-
-pub place-requires : goal.place-requires
-place-requires c = rw c.deref.ensures.value c.requires

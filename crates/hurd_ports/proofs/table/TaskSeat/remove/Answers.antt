@@ -15,6 +15,3 @@ returns-in_default c =
     let none = rw c.deref.ensures.value at c.in_default.ensures.is in
     ap (λ (ps : List Port). let x : Task = record { ids = c.args.self.now.ids; ports = ps; next = c.args.self.now.next; inbox = c.args.self.now.inbox.items; made = c.args.self.now.made; pending = c.args.self.now.pending } in x)
     (sym (without-absent c.args.number c.args.self.now.ports.items (sym none)))
-
-pub place-requires : goal.place-requires
-place-requires c = rw c.deref.ensures.value c.requires
