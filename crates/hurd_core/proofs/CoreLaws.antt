@@ -21,18 +21,21 @@ use Rattle.hurd_machine.specs.Change.{EditHeader, EditTask, Settle, apply, apply
 use Rattle.hurd_machine.proofs.Keeping.{apply_all-append}
 use Rattle.hurd_machine.specs.Plan.{Plan, Follows, answered, told, on, given}
 use Rattle.hurd_core.specs.Core.{closed_with, naming_asks, room_asks}
+use Rattle.hurd_trans_iface.specs.declared.header_edit.HeaderEdit.{HeaderEdit}
+use Rattle.hurd_trans_iface.specs.Answers.{header_after, header_edits}
+use Rattle.hurd_nodes.specs.Shown.{can_edit_header, edit_header_at}
 use Rattle.hurd_core.proofs.CountLaws.{closed_nodes, closed-world}
 use Rattle.hurd_core.proofs.SettleLaws.{settled_if, settled_world}
 
--- the header of a node changed, as where owner, group and mode are set, or words stored
+-- the header of a node edited
 module _ (N : NodeState) (H : PortState) where
-  pub header-follow : (n : Name) (f : Header → Header) (r : Result (Unit {0}) Errno) (M : NodeState) → ◌≡◌ {A = Result (Unit {0}) Errno × NodeState} (r, M) (can_set_attrs n N, with_edits (edits_if (can_set_attrs n N) (OnHeader n f ∷ [])) N)
-      → Follows (world_from N H) (answered (can_set_attrs n N) (λ u. record { reply = Done; changes = EditHeader n f ∷ [] })) (told (λ u. Done) r) (world_from M H)
+  pub header-follow : (n : Name) (h : HeaderEdit) (r : Result (Unit {0}) Errno) (M : NodeState) → ◌≡◌ {A = Result (Unit {0}) Errno × NodeState} (r, M) (edit_header_at n h N)
+      → Follows (world_from N H) (answered (can_edit_header n h N) (λ u. record { reply = Done; changes = EditHeader n (header_after h) ∷ [] })) (told (λ u. Done) r) (world_from M H)
   unfolding answered
-  header-follow n f r M e = by (can_set_attrs n N) e
+  header-follow n h r M e = by (can_edit_header n h N) e
     where
-      by : (a : Result (Unit {0}) Errno) → ◌≡◌ {A = Result (Unit {0}) Errno × NodeState} (r, M) (a, with_edits (edits_if a (OnHeader n f ∷ [])) N)
-          → Follows (world_from N H) (answered a (λ u. record { reply = Done; changes = EditHeader n f ∷ [] })) (told (λ u. Done) r) (world_from M H)
+      by : (a : Result (Unit {0}) Errno) → ◌≡◌ {A = Result (Unit {0}) Errno × NodeState} (r, M) (a, with_edits (edits_if a (header_edits n h)) N)
+          → Follows (world_from N H) (answered a (λ u. record { reply = Done; changes = EditHeader n (header_after h) ∷ [] })) (told (λ u. Done) r) (world_from M H)
       by (Err g) h = (ap (λ (z : Result (Unit {0}) Errno × NodeState). told (λ u. Done) z.0) h, ap (λ (z : Result (Unit {0}) Errno × NodeState). world_from z.1 H) h)
       by (Ok u) h = (ap (λ (z : Result (Unit {0}) Errno × NodeState). told (λ u. Done) z.0) h, ap (λ (z : Result (Unit {0}) Errno × NodeState). world_from z.1 H) h)
 

@@ -1,12 +1,16 @@
 -- How often nodes are open, in the nodes and in the world.
-use Rattle.std.proofs.Common.{◌≡◌, ◌==◌, ℕ, Bool, true, false, Option, Some, None, refl, sym, ◌∙◌}
-use Rattle.std.specs.Prelude.{Ok}
+use Rattle.std.proofs.Common.{◌≡◌, ◌==◌, ℕ, Bool, true, false, Option, Some, None, refl, sym, ap, ◌∙◌}
+use Rattle.std.specs.Prelude.{Ok, Result}
 use Rattle.std.specs.FinMap.{get}
 use Rattle.std.proofs.lemmas.Bool.{eqb-true}
 use Rattle.hurd_creds.specs.declared.name.Name.{Name}
 use Rattle.hurd_creds.specs.declared.open_flags.OpenFlags.{OpenFlags}
 use Rattle.hurd_trans_iface.specs.Nodes.{Header, counting, closed_by}
-use Rattle.hurd_nodes.specs.Shown.{NodeState, server_of, with_edits}
+use Rattle.hurd_creds.specs.declared.errno.Errno.{Errno}
+use Rattle.hurd_trans_iface.specs.declared.header_edit.HeaderEdit.{HeaderEdit}
+use Rattle.hurd_trans_iface.specs.Answers.{header_after, makes_edit}
+use Rattle.hurd_nodes.specs.Shown.{NodeState, edit_header_at, server_of, with_edits}
+use Rattle.hurd_nodes.proofs.EditLaws.{opens-counted}
 use Rattle.hurd_nodes.specs.Needs.{counts_by}
 use Rattle.hurd_ports.specs.Tables.{PortState, count_rights, io_right_of, names_open, right_of}
 use Rattle.hurd_ports.specs.declared.table.IoRight.{IoRight}
@@ -25,6 +29,11 @@ counted_nodes n f N = with_edits (counting (counts_by (server_of N n)) n f) N
 abbrev pub closed_nodes : Option (Name × OpenFlags) → NodeState → NodeState
 closed_nodes None N = N
 closed_nodes (Some e) N = counted_nodes e.0 (closed_by e.1) N
+
+-- an open that a server is told of is counted, where it counts opens
+pub told-counted : (N M : NodeState) (n : Name) (e : HeaderEdit) (got : Result (Unit {0}) Errno) → ((k c : Bool) → makes_edit k c e ≡ c)
+    → ◌≡◌ {A = Result (Unit {0}) Errno × NodeState} (got, M) (edit_header_at n e N) → M ≡ counted_nodes n (header_after e) N
+told-counted N M n e got counts is = ap (λ (z : Result (Unit {0}) Errno × NodeState). z.1) is ∙ opens-counted N n e counts
 
 -- that is what the machine makes of the world, whatever its ports are by then
 

@@ -3,6 +3,7 @@ use Rattle.std.proofs.Common.{◌≡◌, ◌∙◌, inr, ℕ, Option, Some, refl
 use Rattle.std.specs.Prelude.{Result, Ok, Err, is_ok}
 use Rattle.std.specs.Option.{option_map}
 use Rattle.std.specs.FinMap.{get}
+use Rattle.hurd_nodes.specs.Held.{home_in}
 use Rattle.hurd_creds.specs.declared.name.Name.{Name}
 use Rattle.hurd_creds.specs.declared.attrs.Kind.TheVariants.{Dir}
 use Rattle.hurd_creds.specs.declared.errno.Errno.{Errno}
@@ -44,7 +45,7 @@ module _ (N : NodeState) (H : PortState) (t : ℕ) (f : NewNodeAt) where
     pub task : Task
     pub there : slice_get H.tasks t ≡ Some task
     pub server : Name
-    pub home : get N.homes f.dir ≡ Some server
+    pub home : home_in N.sites f.dir ≡ Some server
     pub asks : making_dir_asks w t f ≡ Ok (task, server)
 
   pub makes-dir : can_make f.dir f.entry Dir N ≡ Ok tt → naming_of H t 1 ≡ Ok tt → MakesDir

@@ -1,6 +1,7 @@
 -- A directory made by the core, as a piece of any call: what it asks, and what its changes keep.
 use Rattle.std.proofs.Common.{◌≡◌, ℕ, Bool, true, List, Some, refl, subst}
 use Rattle.std.specs.Prelude.{Ok}
+use Rattle.std.specs.FinMap.{empty}
 use Rattle.hurd_creds.specs.declared.name.Name.{Name}
 use Rattle.hurd_creds.specs.declared.attrs.Kind.TheVariants.{Dir}
 use Rattle.hurd_creds.specs.declared.errno.Errno.TheVariants.{EDIED, EOVERFLOW, ESRCH}

@@ -2,7 +2,8 @@
 use Rattle.std.proofs.Common.{◌≡◌, ◌∙◌, inl, inr, ℕ, ◌+◌, Bool, true, List, [], ◌∷◌, Option, Some, None, refl, sym, ap, ap₂, subst, slice_get, nat_lt, nat_le, arith}
 use Rattle.std.specs.Prelude.{Result, Ok, Err, is_ok, ◌&&◌, if◌then◌else◌}
 use Rattle.std.specs.Option.{option_map}
-use Rattle.std.specs.FinMap.{get}
+use Rattle.std.specs.FinMap.{get, put}
+use Rattle.hurd_nodes.specs.Held.{home_in}
 use Rattle.hurd_creds.specs.declared.name.Name.{Name}
 use Rattle.hurd_creds.specs.declared.attrs.Kind.{Kind}
 use Rattle.hurd_creds.specs.declared.attrs.Kind.TheVariants.{File}
@@ -27,7 +28,7 @@ use Rattle.hurd_core.specs.Core.{Does, NewNodeAt, asked_node, asked_only, making
 use Rattle.hurd_core.proofs.CoreLaws.{IsRefused, HasRoom, room, insert-had}
 
 -- where a node may be made in a directory, that has a server
-home_by : (h : NodeState) (d : Name) (entry : Option (List ℕ)) (kind : Kind) (o : Option Name) → get h.homes d ≡ o → made_by entry kind (info_in h.servers o) (get h.nodes d) ≡ Ok tt → (s : Name) × (get h.homes d ≡ Some s)
+home_by : (h : NodeState) (d : Name) (entry : Option (List ℕ)) (kind : Kind) (o : Option Name) → home_in h.sites d ≡ o → made_by entry kind (info_in h.servers o) (get h.nodes d) ≡ Ok tt → (s : Name) × (home_in h.sites d ≡ Some s)
 home_by h d entry kind None at e = absurd (cc)
 home_by h d entry kind (Some s) at e = (s, at)
 
@@ -39,8 +40,8 @@ module _ (N : NodeState) (H : PortState) (t : ℕ) (f : NewNodeAt) where
   abbrev w : World
   w = world_from N H
 
-  pub making-home : (kind : Kind) → can_make f.dir f.entry kind N ≡ Ok tt → (s : Name) × (get N.homes f.dir ≡ Some s)
-  making-home kind e = home_by N f.dir f.entry kind (get N.homes f.dir) refl e
+  pub making-home : (kind : Kind) → can_make f.dir f.entry kind N ≡ Ok tt → (s : Name) × (home_in N.sites f.dir ≡ Some s)
+  making-home kind e = home_by N f.dir f.entry kind (home_in N.sites f.dir) refl e
 
   asks_more : Result Task Errno → Result (Task × Name) Errno
   asks_more r = first r (λ x. first (makes_at w f.dir f.entry File) (λ u. on EDIED (home_at w f.dir) (λ s. Ok (x, s))))
@@ -68,7 +69,7 @@ module _ (N : NodeState) (H : PortState) (t : ℕ) (f : NewNodeAt) where
     pub there : slice_get H.tasks t ≡ Some task
     pub free : has_room 2 task ≡ true
     pub server : Name
-    pub home : get N.homes f.dir ≡ Some server
+    pub home : home_in N.sites f.dir ≡ Some server
     pub asks : making_asks w t f ≡ Ok (task, server)
 
   pub makes : room_of H t 2 ≡ Ok tt → can_make f.dir f.entry File N ≡ Ok tt → Makes
@@ -100,12 +101,12 @@ module _ (N : NodeState) (H : PortState) (t : ℕ) (f : NewNodeAt) where
   file-asked h (Ok u) is = sym (ap asked_only (makes h (sym is)).asks)
 
   -- the halves after the making are the world after it
-  module _ (kind : Kind) (n s : Name) (home : get N.homes f.dir ≡ Some s) (node : Node) (is : made_node f.dir f.entry (asked_node kind f n) ≡ Some node) where
+  module _ (kind : Kind) (n s : Name) (home : home_in N.sites f.dir ≡ Some s) (node : Node) (is : made_node f.dir f.entry (asked_node kind f n) ≡ Some node) where
     abbrev made : Option Node → Option Name → NodeState
-    made x o = record N { nodes = edit_all (added f.dir f.entry n x) N.nodes; homes = with_home n o N.homes }
+    made x o = record N { nodes = edit_all (added f.dir f.entry n x) N.nodes; sites = with_home n o N.sites }
 
     -- the entry, if there is one, is an edit of the machine's
-    entry-made : (o : Option (List ℕ)) → world_from (record N { nodes = edit_all (AddNode n node ∷ entering f.dir o n) N.nodes; homes = with_home n (Some s) N.homes }) (name_step n.task.0 H)
+    entry-made : (o : Option (List ℕ)) → world_from (record N { nodes = edit_all (AddNode n node ∷ entering f.dir o n) N.nodes; sites = with_home n (Some s) N.sites }) (name_step n.task.0 H)
         ≡ apply_all (MakeNode n s node ∷ changes_of (entering f.dir o n)) w
     entry-made None = refl
     entry-made (Some name) = refl

@@ -42,7 +42,7 @@ module _ (N : NodeState) (H : PortState) (s : Name) (words : List (List ℕ)) wh
 
   retexted_world : (i : ServerInfo) (o : Option (List ℕ)) → world_from (retexted s i o N) H ≡ apply_all (retexting w s i o) w
   retexted_world i None = refl
-  retexted_world i (Some text) = sized H (size_of i.kind text) (own_nodes s N.homes) (record N { servers = edit s (with_text text) N.servers })
+  retexted_world i (Some text) = sized H (size_of i.kind text) (own_nodes s N.sites) (record N { servers = edit s (with_text text) N.servers })
 
   planned_by : (a : Result (ServerInfo × Option (List ℕ)) Errno) → asks ≡ a → (r : Result (Unit {0}) Errno) (M : NodeState) → Steps N (retexted_if s a N) r M
       → Planned w (plan_options w s words) tells r (world_from M H)

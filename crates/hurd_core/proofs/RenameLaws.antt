@@ -2,6 +2,8 @@
 use Rattle.std.proofs.Common.{◌≡◌, ◌∙◌, Bool, true, false, cond, List, [], ◌∷◌, Option, Some, None, ℕ, refl, sym, ap, inl, inr}
 use Rattle.std.specs.Prelude.{Result, Ok, Err, if◌then◌else◌}
 use Rattle.std.specs.FinMap.{get}
+use Rattle.hurd_nodes.specs.declared.seat.Site.{Site}
+use Rattle.hurd_nodes.specs.Held.{home_in}
 use Rattle.hurd_creds.specs.declared.name.Name.{Name}
 use Rattle.hurd_creds.specs.declared.errno.Errno.{Errno}
 use Rattle.hurd_creds.specs.NameMaps.{NameMap}
@@ -29,17 +31,17 @@ edited H (OnHeader n f ∷ es) N are = edited H es (with_edits (OnHeader n f ∷
 edited H (OnBody n g ∷ es) N are = edited H es (with_edits (OnBody n g ∷ []) N) are
 edited H (AddNode n x ∷ es) N are = absurd are
 
-own_one : (s : Option Name) (homes : NameMap Name) (b : Bool) (e : Edit) (es : List Edit) → AreEdits (e ∷ es) → (AreEdits es → AreEdits (own_edits s homes es)) → AreEdits (if b then e ∷ own_edits s homes es else own_edits s homes es)
-own_one s homes true (OnHeader n f) es are ih = ih are
-own_one s homes true (OnBody n g) es are ih = ih are
-own_one s homes true (AddNode n x) es are ih = absurd are
-own_one s homes false (OnHeader n f) es are ih = ih are
-own_one s homes false (OnBody n g) es are ih = ih are
-own_one s homes false (AddNode n x) es are ih = absurd are
+own_one : (s : Option Name) (sites : NameMap Site) (b : Bool) (e : Edit) (es : List Edit) → AreEdits (e ∷ es) → (AreEdits es → AreEdits (own_edits s sites es)) → AreEdits (if b then e ∷ own_edits s sites es else own_edits s sites es)
+own_one s sites true (OnHeader n f) es are ih = ih are
+own_one s sites true (OnBody n g) es are ih = ih are
+own_one s sites true (AddNode n x) es are ih = absurd are
+own_one s sites false (OnHeader n f) es are ih = ih are
+own_one s sites false (OnBody n g) es are ih = ih are
+own_one s sites false (AddNode n x) es are ih = absurd are
 
-own_are : (s : Option Name) (homes : NameMap Name) (es : List Edit) → AreEdits es → AreEdits (own_edits s homes es)
-own_are s homes [] are = tt
-own_are s homes (e ∷ es) are = own_one s homes (are_kin s (get homes (node_of_edit e))) e es are (own_are s homes es)
+own_are : (s : Option Name) (sites : NameMap Site) (es : List Edit) → AreEdits es → AreEdits (own_edits s sites es)
+own_are s sites [] are = tt
+own_are s sites (e ∷ es) are = own_one s sites (are_kin s (home_in sites (node_of_edit e))) e es are (own_are s sites es)
 
 renames_are : (d : Name) (name : List ℕ) (e : Name) (new : List ℕ) (n m : Option Name) → AreEdits (rename_edits d name e new n m)
 renames_are d name e new None m = tt
@@ -72,6 +74,6 @@ module _ (N : NodeState) (H : PortState) (d : Name) (name : List ℕ) (e : Name)
   pub rename-done : (u : Unit {0}) (M : NodeState) (z : World) → Steps N (rename_at d name e new N) (Ok u) M → z ≡ settle (world_from M H)
       → Does w (renames_at w d name e) (λ u. renaming w d name e new) (λ u. tt {0}) (Ok u) z
   rename-done u M z s left =
-      let are : AreEdits edits = own_are (get N.homes d) N.homes _ (renames_are d name e new (entry_of name (body_of N.nodes d)) (entry_of new (body_of N.nodes e))) in
+      let are : AreEdits edits = own_are (home_in N.sites d) N.sites _ (renames_are d name e new (entry_of name (body_of N.nodes d)) (entry_of new (body_of N.nodes e))) in
       let shown : world_from M H ≡ apply_all (changes_of edits) w = ap (λ K. world_from K H) (s.left ∙ ap (λ r. with_edits (edits_if r edits) N) s.answered) ∙ edited H edits N are in
       (u, s.answered, refl, left ∙ ap settle shown ∙ sym (apply_all-append (changes_of edits) (Settle ∷ []) w))

@@ -1,6 +1,7 @@
 -- An entry taken out of a directory by the core is what the machine's changes make of the world.
 use Rattle.std.proofs.Common.{◌≡◌, ◌∙◌, Bool, true, false, List, [], ◌∷◌, Option, Some, None, ℕ, refl, sym, ap}
 use Rattle.std.specs.Prelude.{Result, Ok, Err, if◌then◌else◌}
+use Rattle.hurd_nodes.specs.Held.{home_in}
 use Rattle.hurd_creds.specs.declared.name.Name.{Name}
 use Rattle.hurd_creds.specs.declared.errno.Errno.{Errno}
 use Rattle.std.specs.FinMap.{get}
@@ -23,9 +24,9 @@ module _ (N : NodeState) (H : PortState) (d : Name) (name : List ℕ) where
   unlinks = answered (can_unlink d name N) (λ u. record { reply = Done; changes = unlinking w d name })
 
   -- the edits of nodes, as changes of the world
-  edited : (s : Option Name) (o : Option Name) → let es = own_edits s N.homes (unlink_edits d name o) in world_from (with_edits es N) H ≡ apply_all (changes_of es) w
+  edited : (s : Option Name) (o : Option Name) → let es = own_edits s N.sites (unlink_edits d name o) in world_from (with_edits es N) H ≡ apply_all (changes_of es) w
   edited s None = refl
-  edited s (Some n) = go (are_kin s (get N.homes d)) (are_kin s (get N.homes n))
+  edited s (Some n) = go (are_kin s (home_in N.sites d)) (are_kin s (home_in N.sites n))
     where
       go : (a b : Bool)
           → let es = if a then OnBody d (without_entry name) ∷ (if b then OnHeader n unlinked ∷ [] else []) else (if b then OnHeader n unlinked ∷ [] else []) in
@@ -55,5 +56,5 @@ module _ (N : NodeState) (H : PortState) (d : Name) (name : List ℕ) where
       by (Err f) h = let no : Ok u ≡ Err f = ap (λ (z : Result (Unit {0}) Errno × NodeState). z.0) h in absurd (cc (no))
       by (Ok k) h =
           let edits = unlink_edits_at d name N in
-          let shown : world_from M H ≡ apply_all (changes_of edits) w = ap (λ (z : Result (Unit {0}) Errno × NodeState). world_from z.1 H) h ∙ edited (get N.homes d) (entry_of name (body_of N.nodes d)) in
+          let shown : world_from M H ≡ apply_all (changes_of edits) w = ap (λ (z : Result (Unit {0}) Errno × NodeState). world_from z.1 H) h ∙ edited (home_in N.sites d) (entry_of name (body_of N.nodes d)) in
           (refl, left ∙ ap settle shown ∙ sym (apply_all-append (changes_of edits) (Settle ∷ []) w))

@@ -1,14 +1,15 @@
 //! The core.
 ghost use Rattle.std.specs.Prelude.{◌≡◌, [], ◌∷◌, Some, None, Ok, IfErr};
 ghost use Rattle.std.specs.Option.{option_map};
-ghost use Rattle.hurd_trans_iface.specs.Nodes.{linked, with_attrs, with_entry, with_passive};
+ghost use Rattle.hurd_trans_iface.specs.Answers.{header_after};
+ghost use Rattle.hurd_trans_iface.specs.Nodes.{linked, with_entry};
 ghost use Rattle.hurd_trans_iface.specs.Behaviour.{edits_of, reading, told_of, writing, resizing};
 ghost use Rattle.hurd_trans_iface.specs.Meaning.{Begins};
 ghost use Rattle.hurd_nodes.specs.Shown.{shown};
 ghost use Rattle.hurd_nodes.specs.Needs.{FreeRead, FreeSize, FreeWrite};
 ghost use Rattle.hurd_ports.specs.Tables.{right_of, task_of};
 ghost use Rattle.hurd_ports.specs.Steps.{appending, at_cursor, received, with_ids, with_port};
-ghost use Rattle.hurd_machine.specs.World.{world_from, nodes_of, ports_of, asked_at, links_at, renames_at, sets_attrs_at, unlinks_at};
+ghost use Rattle.hurd_machine.specs.World.{world_from, nodes_of, ports_of, asked_at, links_at, edits_header_at, renames_at, unlinks_at};
 ghost use Rattle.hurd_machine.specs.Change.{DropServer, EditBody, EditHeader, EditOpen, EditTask, Send, Settle, Unseat, apply, apply_all, changes_of, closing, dropping, opening, pending, settle};
 ghost use Rattle.hurd_machine.specs.Plan.{Follows, Planned, answered, told};
 ghost use Rattle.hurd_machine.specs.declared.call.Reply.TheVariants.{Done};
@@ -18,12 +19,10 @@ ghost use Rattle.hurd_core.specs.ToMake.{new_node_of};
 
 use crate::named::NamedByRights;
 use crate::to_make::{NodeToMake, ServerToMake};
-use hurd_creds::{
-    Bytes, Errno, Ids, Kind, Mode, NodeName, OpenFlags, OpenName, ServerName, TaskId,
-};
+use hurd_creds::{Bytes, Errno, Ids, Kind, NodeName, OpenFlags, OpenName, ServerName, TaskId};
 use hurd_nodes::Nodes;
 use hurd_ports::{Parents, PendingStart, Ports, Right};
-use hurd_trans_iface::{Server, Words};
+use hurd_trans_iface::{HeaderEdit, Server, Words};
 use std::alloc::Global;
 use std::marker::Model;
 
@@ -96,7 +95,7 @@ impl<S: Server> Core<S> {
             Does w (room_asks w task.0 1) (λ x. opening w task.0 x node ids parents modes) (λ x. x.next) result (world_of S.meaning self.new) }
     {
         let port = self.ports.insert(task, node, ids, parents, modes)?;
-        self.nodes.opened(node, modes);
+        let _ = self.nodes.edit_header(node, HeaderEdit::CountOpen(modes));
         Ok(port)
     }
 
@@ -169,7 +168,9 @@ impl<S: Server> Core<S> {
         ensures { let w = world_of S.meaning self.old in world_of S.meaning self.new ≡ apply_all (closing w (option_map (λ e. (e.node, e.modes)) gone)) w }
     {
         if let Some(open) = gone {
-            self.nodes.closed(open.node, open.modes);
+            let _ = self
+                .nodes
+                .edit_header(open.node, HeaderEdit::CountClose(open.modes));
         }
     }
 
@@ -419,32 +420,15 @@ impl<S: Server> Core<S> {
         self.settle();
     }
 
-    /// Sets the owner, the group and the mode of a node. Takes no memory.
+    /// Edits what the header of a node says. Takes no memory.
     ///
-    /// Errors, in order: those of `can_set_attrs`.
-    pub fn set_attrs(
-        &mut self,
-        node: NodeName,
-        owner: u32,
-        group: u32,
-        mode: Mode,
-    ) -> Result<(), Errno>
+    /// Errors, in order: `EDIED` no such node, `EOPNOTSUPP` its server makes no such edit.
+    pub fn edit_header(&mut self, node: NodeName, edit: HeaderEdit) -> Result<(), Errno>
         ensures { let w = world_of S.meaning self.old in
-            Follows w (answered (sets_attrs_at w node) (λ u. record { reply = Done; changes = EditHeader node (with_attrs owner group mode) ∷ [] }))
+            Follows w (answered (edits_header_at w node edit) (λ u. record { reply = Done; changes = EditHeader node (header_after edit) ∷ [] }))
             (told (λ u. Done) result) (world_of S.meaning self.new) }
     {
-        self.nodes.set_attrs(node, owner, group, mode)
-    }
-
-    /// Stores the words of a passive translator with a node, in place of those that were there; with no words there are none any more. Takes no memory.
-    ///
-    /// Errors, in order: those of `can_set_attrs`.
-    pub fn set_passive(&mut self, node: NodeName, words: Words) -> Result<(), Errno>
-        ensures { let w = world_of S.meaning self.old in
-            Follows w (answered (sets_attrs_at w node) (λ u. record { reply = Done; changes = EditHeader node (with_passive words) ∷ [] }))
-            (told (λ u. Done) result) (world_of S.meaning self.new) }
-    {
-        self.nodes.set_passive(node, words)
+        self.nodes.edit_header(node, edit)
     }
 
     /// Gives a server other options in place of those that it has. Without words nothing changes, and no memory is taken.

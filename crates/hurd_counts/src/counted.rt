@@ -2,8 +2,8 @@
 ghost use Rattle.std.specs.Prelude.{◌≡◌, IfErr, IfOk};
 ghost use Rattle.hurd_creds.specs.declared.errno.Errno.TheVariants.{ENOMEM};
 
-use hurd_creds::{Attrs, Bytes, Errno, Mode, NodeName, OpenFlags};
-use hurd_trans_iface::{Names, NewNode, Root, Server, Words};
+use hurd_creds::{Attrs, Bytes, Errno, Mode, NodeName};
+use hurd_trans_iface::{HeaderEdit, Names, NewNode, Root, Server, Words};
 use std::alloc::Global;
 use std::cell::Cell;
 use std::rc::Rc;
@@ -181,22 +181,12 @@ impl<S: Server> Server for Counted<S> {
         self.server.rename(alloc, dir, name, to, new)
     }
 
-    fn set_attrs(
-        &mut self,
-        node: NodeName,
-        owner: u32,
-        group: u32,
-        mode: Mode,
-    ) -> Result<(), Errno> {
-        self.server.set_attrs(node, owner, group, mode)
-    }
-
     fn passive(&self, node: NodeName) -> Option<&Words> {
         self.server.passive(node)
     }
 
-    fn set_passive(&mut self, node: NodeName, words: Words) -> Result<(), Errno> {
-        self.server.set_passive(node, words)
+    fn edit_header(&mut self, node: NodeName, edit: HeaderEdit) -> Result<(), Errno> {
+        self.server.edit_header(node, edit)
     }
 
     fn forget(&mut self, node: NodeName) {
@@ -209,14 +199,6 @@ impl<S: Server> Server for Counted<S> {
 
     fn counts(&self) -> bool {
         self.server.counts()
-    }
-
-    fn opened(&mut self, node: NodeName, modes: OpenFlags) {
-        self.server.opened(node, modes)
-    }
-
-    fn closed(&mut self, node: NodeName, modes: OpenFlags) {
-        self.server.closed(node, modes)
     }
 
     fn goaway(&mut self) {

@@ -1,5 +1,6 @@
 -- Whether a directory is another, or below it.
 use Rattle.std.proofs.Common.{◌≡◌, ◌⊎◌, ◌∙◌, ℕ, zero, suc, ◌+◌, ◌-◌, ◌<◌, ◌≤◌, ◌||◌, Bool, true, false, true≢false, Option, Some, None, sym, refl, ap, inl, inr, arith}
+use Rattle.std.proofs.lemmas.Bool.{or_parts}
 use Rattle.hurd_creds.specs.declared.name.Name.{Name}
 use Rattle.hurd_creds.specs.Names.{same_name}
 use Rattle.hurd_creds.proofs.NameLaws.{apart_if_not_same}
@@ -10,10 +11,6 @@ use Rattle.hurd_machine.specs.Sound.{LeadsUp, AtRoot, Above}
 use Rattle.hurd_machine.proofs.Views.{Agree, header_same}
 use Rattle.hurd_machine.proofs.Moves.{LeadsAround, RootApart, AboveApart}
 use Rattle.hurd_dirs.specs.Rename.{parent_in, above, met_within, is_inside}
-
-neither : (a b : Bool) → (a || b) ≡ false → (a ≡ false) × (b ≡ false)
-neither true b h = absurd (true≢false h)
-neither false b h = (refl, h)
 
 -- it is the same in worlds that agree: all above a seen directory is seen
 
@@ -42,9 +39,9 @@ module _ {S : ℕ → Bool} {v w : World} (a : Agree S v w) (n : Name) where
 around : (w : World) (n : Name) (k : ℕ) (d : Name) → met_within k w n d ≡ false → LeadsUp (nodes_of w) d → LeadsAround (nodes_of w) n d
 unfolding met_within
 around w n zero d out up = absurd (true≢false out)
-around w n (suc k) d out (AtRoot is) = let l = neither (same_name d n) _ out in RootApart (apart_if_not_same d n l.0) is
+around w n (suc k) d out (AtRoot is) = let l = or_parts (same_name d n) _ out in RootApart (apart_if_not_same d n l.0) is
 around w n (suc k) d out (Above p h is up rest) =
-    let l = neither (same_name d n) _ out in
+    let l = or_parts (same_name d n) _ out in
     AboveApart p h (apart_if_not_same d n l.0) is up (around w n k p (sym (ap (above (met_within k w n)) (ap parent_in is ∙ up)) ∙ l.1) rest)
 
 pub inside_around : (w : World) (n d : Name) → is_inside w n d ≡ false → LeadsUp (nodes_of w) d → LeadsAround (nodes_of w) n d
@@ -58,7 +55,7 @@ module _ (w x : World) (fewer : (d : Name) → (parent_in (header_at x d) ≡ pa
   unfolding met_within
   met_fewer zero d out = out
   met_fewer (suc k) d out =
-      let l = neither (same_name d n) _ out in
+      let l = or_parts (same_name d n) _ out in
       ap (λ b. b || above (met_within k x n) (parent_in (header_at x d))) l.0
       ∙ elim (fewer d) [
         | inl same ↦ ap (above (met_within k x n)) same ∙ by_parent (parent_in (header_at w d)) (λ p. met_fewer k p) l.1

@@ -3,24 +3,28 @@ use Rattle.std.proofs.Common.{◌≡◌, ℕ, Bool, true, not, List, Some, refl}
 use Rattle.std.specs.Prelude.{Ok, nat_le, length}
 use Rattle.std.proofs.lemmas.Bool.{and_parts}
 use Rattle.hurd_creds.specs.declared.attrs.Kind.{Kind}
-use Rattle.hurd_creds.specs.declared.attrs.Kind.TheVariants.{Dir, File, Link, Fifo, Char}
+use Rattle.hurd_creds.specs.declared.attrs.Kind.TheVariants.{Dir}
+use Rattle.hurd_creds.specs.declared.attrs.Want.{Want}
 use Rattle.hurd_creds.specs.declared.attrs.Want.TheVariants.{Write, Exec}
+use Rattle.hurd_creds.specs.declared.name.Name.{Name}
 use Rattle.hurd_creds.specs.declared.errno.Errno.TheVariants.{EACCES, EINVAL, ENAMETOOLONG, ENOENT, ENOTDIR, EROFS}
 use Rattle.hurd_creds.specs.Access.{may}
 use Rattle.hurd_creds.specs.Limits.{most_name}
-use Rattle.hurd_trans_iface.specs.Nodes.{is_dir}
+use Rattle.hurd_trans_iface.specs.Nodes.{Header, is_dir}
+use Rattle.hurd_trans_iface.specs.Answers.{entry_of}
 use Rattle.hurd_nodes.specs.Shown.{tree_by}
 use Rattle.hurd_ports.specs.declared.table.IoRight.{IoRight}
 use Rattle.hurd_ports.specs.declared.table.Right.TheVariants.{Io}
 use Rattle.hurd_ports.specs.Tables.{right_of}
-use Rattle.hurd_machine.specs.World.{World, nodes_of, ports_of, header_at, info_at, is_removed}
+use Rattle.hurd_machine.specs.World.{World, nodes_of, ports_of, header_at, body_at, info_at, is_removed}
 use Rattle.hurd_machine.specs.Handle.{Named, port_asks}
-use Rattle.hurd_machine.specs.Sight.{BodyOf, Sees, Seen, Held, Holds, Taken, UidOfRight, GidOfRight, Could, Allowed, ToSearch, bare}
-use Rattle.hurd_machine.specs.Sound.{Linked, LeadsUp}
+use Rattle.hurd_machine.specs.Sight.{BodyOf, EmptyOf, Sees, Seen, Held, Holds, Child, ByParent, Taken, UidOfRight, GidOfRight, Could, Allowed, ToSearch, bare}
+use Rattle.hurd_machine.specs.Sound.{Coherent, Linked, LeadsUp}
+use Rattle.hurd_machine.proofs.Coherence.{entry_lists}
 use Rattle.hurd_machine.proofs.Links.{leads_unless}
 use Rattle.hurd_machine.proofs.Views.{Agree}
 use Rattle.hurd_machine.proofs.Asks.{IsPlain, IsNamed, is_named, port_same, port_seen, port_plain, info_same, is_root_same, holds_right, first_ok, given_ok, first_same, given_same, first_plain, given_plain, ok_plain}
-use Rattle.hurd_dirs.specs.Entry.{is_name, name_asks, tree_asks, may_change, change_asks, dir_asks, entry_asks}
+use Rattle.hurd_dirs.specs.Entry.{is_name, name_asks, tree_asks, may_change, dir_asks, entry_asks}
 
 -- names
 
@@ -31,69 +35,42 @@ name_plain name = given_plain EINVAL (is_name name) _ refl (λ n. given_plain EN
 
 pub dir_kind : (k : Kind) → is_dir k ≡ true → k ≡ Dir
 dir_kind Dir h = refl
-dir_kind File h = absurd (cc)
-dir_kind Link h = absurd (cc)
-dir_kind Fifo h = absurd (cc)
-dir_kind Char h = absurd (cc)
+dir_kind _ h = absurd (cc)
 
-pub record IsTreeDir (w : World) (a : Named) : Type 0 where
+-- a directory of a tree, which its port's ids may search and write
+pub record IsOpenTree (w : World) (a : Named) : Type 0 where
   pub dir : a.header.kind ≡ Dir
   pub tree : tree_by (info_at w a.right.node) ≡ true
-
-pub tree_dir : (w : World) (a : Named) (u : Unit {0}) → tree_asks w a ≡ Ok u → IsTreeDir w a
-tree_dir w a u is =
-    let d = given_ok ENOTDIR (is_dir a.header.kind) _ u is in
-    let t = given_ok EROFS (tree_by (info_at w a.right.node)) _ u d.1 in
-    record { dir = dir_kind a.header.kind d.0; tree = t.0 }
-
--- whose entries may be changed
-
-pub record IsOpenDir (w : World) (a : Named) : Type 0 where
   pub search : may a.right.ids (bare a.header) Exec ≡ true
   pub write : may a.right.ids (bare a.header) Write ≡ true
-  pub here : not (is_removed w a.right.node a.header) ≡ true
 
-pub open_dir : (w : World) (a : Named) (u : Unit {0}) → change_asks w a ≡ Ok u → IsOpenDir w a
-open_dir w a u is =
-    let m = given_ok EACCES (may_change a) _ u is in
-    let r = given_ok ENOENT (not (is_removed w a.right.node a.header)) _ u m.1 in
-    let both = and_parts _ _ m.0 in
-    record { search = both.0; write = both.1; here = r.0 }
+pub open_tree : (w : World) (a : Named) → is_dir a.header.kind ≡ true → tree_by (info_at w a.right.node) ≡ true → may_change a ≡ true → IsOpenTree w a
+open_tree w a dir tree can = let both = and_parts _ _ can in record { dir = dir_kind a.header.kind dir; tree = tree; search = both.0; write = both.1 }
 
--- a directory in which entries may be made, changed and taken away
+-- a directory in which entries may be made, changed and taken away: it isn't removed
 pub record IsEntryDir (w : World) (a : Named) : Type 0 where
-  pub tree : IsTreeDir w a
-  pub opened : IsOpenDir w a
+  pub opened : IsOpenTree w a
+  pub here : not (is_removed w a.right.node a.header) ≡ true
 
 pub entry_dir : (w : World) (a : Named) (u : Unit {0}) → dir_asks w a ≡ Ok u → IsEntryDir w a
 entry_dir w a u is =
     let t = first_ok (tree_asks w a) _ u is in
-    record { tree = tree_dir w a t.0 t.1; opened = open_dir w a u t.2 }
+    let d = given_ok ENOTDIR (is_dir a.header.kind) _ t.0 t.1 in
+    let k = given_ok EROFS (tree_by (info_at w a.right.node)) _ t.0 d.1 in
+    let m = given_ok EACCES (may_change a) _ u t.2 in
+    let r = given_ok ENOENT (not (is_removed w a.right.node a.header)) _ u m.1 in
+    record { opened = open_tree w a d.0 k.0 m.0; here = r.0 }
 
--- from a directory that isn't removed the parents lead to its server's root
-pub dir_leads : (w : World) → Linked (nodes_of w) → (a : Named) → header_at w a.right.node ≡ Some a.header → IsOpenDir w a → LeadsUp (nodes_of w) a.right.node
-dir_leads w l a at d = leads_unless w l a.right.node a.header at d.here
-
-module _ {S : ℕ → Bool} {v w : World} (agree : Agree S v w) (a : Named) (seen : Seen S v a.right.node) where
-  pub tree_same : tree_asks w a ≡ tree_asks v a
-  tree_same = given_same _ _ _ _ _ refl (λ dir. given_same _ _ _ _ _ (rw (info_same agree a.right.node seen) refl) (λ tree. refl))
-
-  pub change_same : change_asks w a ≡ change_asks v a
-  change_same =
-      given_same _ _ _ _ _ refl (λ m.
-      given_same _ (not (is_removed v a.right.node a.header)) (not (is_removed w a.right.node a.header)) _ _ (rw (is_root_same agree a.right.node seen) refl) (λ here. refl))
-
-  pub dir_same : dir_asks w a ≡ dir_asks v a
-  dir_same = first_same _ _ _ _ tree_same (λ u is. change_same)
-
-pub tree_plain : (w : World) (a : Named) → IsPlain (tree_asks w a)
-tree_plain w a = given_plain _ _ _ refl (λ dir. given_plain _ _ _ refl (λ tree. ok_plain tt))
-
-pub change_plain : (w : World) (a : Named) → IsPlain (change_asks w a)
-change_plain w a = given_plain _ _ _ refl (λ m. given_plain _ _ _ refl (λ here. ok_plain tt))
+pub dir_same : {S : ℕ → Bool} {v w : World} → Agree S v w → (a : Named) → Seen S v a.right.node → dir_asks w a ≡ dir_asks v a
+dir_same {S} {v} {w} agree a seen =
+    first_same _ _ _ _ (given_same _ _ _ _ _ refl (λ dir. given_same _ _ _ _ _ (rw (info_same agree a.right.node seen) refl) (λ tree. refl))) (λ u is.
+    given_same _ _ _ _ _ refl (λ m.
+    given_same _ (not (is_removed v a.right.node a.header)) (not (is_removed w a.right.node a.header)) _ _ (rw (is_root_same agree a.right.node seen) refl) (λ here. refl)))
 
 pub dir_plain : (w : World) (a : Named) → IsPlain (dir_asks w a)
-dir_plain w a = first_plain _ _ (tree_plain w a) (λ u is. change_plain w a)
+dir_plain w a =
+    first_plain _ _ (given_plain _ _ _ refl (λ dir. given_plain _ _ _ refl (λ tree. ok_plain tt))) (λ u is.
+    given_plain _ _ _ refl (λ m. given_plain _ _ _ refl (λ here. ok_plain tt)))
 
 -- a port on such a directory
 
@@ -109,8 +86,9 @@ entry_at w t p name a is =
     let same : n.0 ≡ a = cc (d.2) in
     rw (← same) (record { is_named = is_named w t p n.0 n.1; dir = entry_dir w n.0 d.0 d.1 })
 
+-- from a directory that isn't removed the parents lead to its server's root
 pub entry_leads : (w : World) → Linked (nodes_of w) → (t p : ℕ) (a : Named) → IsEntryAt w t p a → LeadsUp (nodes_of w) a.right.node
-entry_leads w l t p a e = dir_leads w l a e.is_named.is_header e.dir.opened
+entry_leads w l t p a e = leads_unless w l a.right.node a.header e.is_named.is_header e.dir.here
 
 module _ {S : ℕ → Bool} {v : World} (t : ℕ) (ours : S t ≡ true) (p : ℕ) where
   -- S holds the ids of its rights
@@ -123,14 +101,24 @@ module _ {S : ℕ → Bool} {v : World} (t : ℕ) (ours : S t ≡ true) (p : ℕ
     pub named_seen : Seen S v a.right.node
     named_seen = Held a.right (holds_right t ours p (Io a.right) n.is_right) refl
 
-    -- and sees what is in a directory that they may search
-    pub entries_seen : IsEntryDir v a → Sees S v (BodyOf a.right.node)
-    entries_seen d =
-        let could : Could S v a.header Exec = Allowed a.right.ids (right_taken a.right n.is_right) d.opened.search in
-        (named_seen, a.header, n.is_header, ToSearch d.tree.dir could)
+    could : (want : Want) → may a.right.ids (bare a.header) want ≡ true → Could S v a.header want
+    could want allowed = Allowed a.right.ids (right_taken a.right n.is_right) allowed
+
+    -- and sees what is in a directory that they may search, what its entries name, and whether a directory there is empty
+    module _ (o : IsOpenTree v a) where
+      pub entries_seen : Sees S v (BodyOf a.right.node)
+      entries_seen = (named_seen, a.header, n.is_header, ToSearch o.dir (could Exec o.search))
+
+      pub child_seen : (name : List ℕ) (m : Name) → entry_of name (body_at v a.right.node) ≡ Some m → Seen S v m
+      child_seen name m is = Child a.right.node a.header name named_seen n.is_header o.dir (could Exec o.search) is
+
+      pub child_empty : Coherent v → (name : List ℕ) (m : Name) (k : Header) → entry_of name (body_at v a.right.node) ≡ Some m → header_at v m ≡ Some k → k.kind ≡ Dir → Sees S v (EmptyOf m)
+      child_empty c name m k is at dir =
+          let up : k.parent ≡ Some a.right.node = c.tree.below a.right.node m k (entry_lists name (body_at v a.right.node) m is) at dir in
+          (child_seen name m is, k, at, dir, ByParent a.right.node a.header up n.is_header (could Write o.write))
 
 pub entry_seen : {S : ℕ → Bool} {v : World} (t : ℕ) → S t ≡ true → (p : ℕ) (a : Named) → IsEntryAt v t p a → Sees S v (BodyOf a.right.node)
-entry_seen t ours p a e = entries_seen t ours p a e.is_named e.dir
+entry_seen t ours p a e = entries_seen t ours p a e.is_named e.dir.opened
 
 pub entry_same : {S : ℕ → Bool} {v w : World} → Agree S v w → (t : ℕ) → S t ≡ true → (p : ℕ) (name : List ℕ) → entry_asks w t p name ≡ entry_asks v t p name
 entry_same a t ours p name =

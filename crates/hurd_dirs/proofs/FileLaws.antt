@@ -1,19 +1,17 @@
 -- The laws of making files that no entry names.
-use Rattle.std.proofs.Common.{◌≡◌, ◌∙◌, ℕ, Bool, true, false, not, if◌then◌else◌, Option, Some, None, refl, sym, subst, ap}
+use Rattle.std.proofs.Common.{◌≡◌, ℕ, Bool, true, Some, None, refl, sym, subst}
 use Rattle.std.specs.Prelude.{Result, Ok, Err}
-use Rattle.std.specs.FinMap.{get}
 use Rattle.hurd_creds.specs.declared.name.Name.{Name}
 use Rattle.hurd_creds.specs.declared.mode.Mode.{Mode}
 use Rattle.hurd_creds.specs.declared.open_flags.OpenFlags.{OpenFlags}
 use Rattle.hurd_creds.specs.declared.attrs.Kind.TheVariants.{File}
 use Rattle.hurd_creds.specs.declared.errno.Errno.{Errno}
-use Rattle.hurd_creds.specs.declared.errno.Errno.TheVariants.{EACCES, EDIED, ENOMEM, EOVERFLOW, EROFS, ESRCH}
+use Rattle.hurd_creds.specs.declared.errno.Errno.TheVariants.{EACCES, EDIED, ENOMEM, EOVERFLOW, ESRCH}
 use Rattle.hurd_creds.specs.Access.{least_uid}
 use Rattle.hurd_creds.specs.Bits.{open_modes}
 use Rattle.hurd_trans_iface.specs.Nodes.{Node, new_file}
 use Rattle.hurd_trans_iface.specs.Answers.{named_by}
 use Rattle.hurd_trans_iface.proofs.BodyLaws.{made_has, tree_holds}
-use Rattle.hurd_trans_iface.specs.Kinds.{behaviour_of}
 use Rattle.hurd_trans_iface.specs.Meaning.{keeps_tree}
 use Rattle.hurd_trans_iface.proofs.Goods.{good}
 use Rattle.hurd_nodes.specs.Shown.{ServerInfo}
@@ -23,9 +21,9 @@ use Rattle.hurd_machine.specs.Sound.{IsFilled}
 use Rattle.hurd_machine.specs.World.{World, task_at, home_at, makes_at, server_at}
 use Rattle.hurd_machine.specs.Plan.{Planned}
 use Rattle.hurd_machine.specs.Handle.{Named, port_asks}
-use Rattle.hurd_machine.specs.Sight.{UsersOf, OfNode, BodyOf, Sees}
+use Rattle.hurd_machine.specs.Sight.{OfNode, BodyOf, Sees}
 use Rattle.hurd_machine.proofs.Views.{Agree, same_tasks, home_same}
-use Rattle.hurd_machine.proofs.Asks.{IsPlain, IsNamed, is_named, port_same, port_seen, port_plain, makes_same, makes_plain, on_ok, given_ok, first_ok, on_same, first_same, on_plain, given_plain, first_plain, ok_plain, err_plain, answered_same, answered_plain, done_plain}
+use Rattle.hurd_machine.proofs.Asks.{IsPlain, is_named, port_same, port_seen, port_plain, makes_same, makes_plain, on_ok, given_ok, first_ok, on_same, first_same, on_plain, given_plain, first_plain, ok_plain, answered_same, answered_plain, done_plain}
 use Rattle.hurd_machine.proofs.Makes.{MayMake, may_make}
 use Rattle.hurd_machine.proofs.Nameless.{IsNameless, nameless_whole}
 use Rattle.hurd_machine.proofs.CallLaws.{CallLaws, answered_piece}
@@ -34,7 +32,7 @@ use Rattle.hurd_core.proofs.PortWays.{ways_named, ways_seen}
 use Rattle.hurd_core.proofs.PlanLaws.{only-refused, only-answered, asked-refused, asked-lacks, does-planned, planned-then}
 use Rattle.hurd_dirs.specs.Entry.{dir_asks}
 use Rattle.hurd_dirs.specs.File.{file_by, making_file, mkfile, mkfile_asks, plan_mkfile, touches_mkfile}
-use Rattle.hurd_dirs.proofs.EntryLaws.{IsEntryDir, entry_dir, dir_same, dir_plain, right_taken, entries_seen}
+use Rattle.hurd_dirs.proofs.EntryLaws.{IsEntryAt, entry_dir, entry_seen, dir_same, dir_plain, right_taken}
 
 -- who makes it, and the server
 record MakesFile (w : World) (t : ℕ) (f : NewNodeAt) (m : Task × Name) : Type 0 where
@@ -78,8 +76,7 @@ making_plain w t f =
 module _ (t p : ℕ) (flags : OpenFlags) (mode : Mode) where
   -- the port by which one is made
   record FileBy (w : World) (a : Named × NewNodeAt) : Type 0 where
-    is_port : IsNamed w t p a.0
-    opened : IsEntryDir w a.0
+    is_entry : IsEntryAt w t p a.0
     dir : a.1.dir ≡ a.0.right.node
     unnamed : a.1.entry ≡ None
 
@@ -89,10 +86,10 @@ module _ (t p : ℕ) (flags : OpenFlags) (mode : Mode) where
       let d = first_ok (dir_asks w n.0) _ a n.2 in
       let o = on_ok EACCES (least_uid n.0.right.ids) _ a d.2 in
       let same : (n.0, file_by n.0 o.0 mode) ≡ a = cc (o.2) in
-      subst (FileBy w) same (record { is_port = is_named w t p n.0 n.1; opened = entry_dir w n.0 d.0 d.1; dir = refl; unnamed = refl })
+      subst (FileBy w) same (record { is_entry = record { is_named = is_named w t p n.0 n.1; dir = entry_dir w n.0 d.0 d.1 }; dir = refl; unnamed = refl })
 
   mkfile_seen : {S : ℕ → Bool} {v : World} → S t ≡ true → (a : Named × NewNodeAt) → FileBy v a → Sees S v (BodyOf a.1.dir)
-  mkfile_seen {S} {v} ours a b = subst (λ n. Sees S v (BodyOf n)) (sym b.dir) (entries_seen t ours p a.0 b.is_port b.opened)
+  mkfile_seen {S} {v} ours a b = subst (λ n. Sees S v (BodyOf n)) (sym b.dir) (entry_seen t ours p a.0 b.is_entry)
 
   mkfile_same : {S : ℕ → Bool} {v w : World} → Agree S v w → S t ≡ true → mkfile_asks w t p mode ≡ mkfile_asks v t p mode
   mkfile_same a ours =
@@ -110,7 +107,7 @@ module _ (t p : ℕ) (flags : OpenFlags) (mode : Mode) where
     piece = λ w s. answered_piece s (mkfile_asks w t p mode) _ _ (λ a is. answered_piece s (making_asks w t a.1) _ _ (λ m may.
         let k = makes_file w t a.1 m may in
         let b = file_made_by w a is in
-        let right = b.is_port.is_right in
+        let right = b.is_entry.is_named.is_right in
         let server : server_at w m.1 ≡ Some k.may.info = rw k.home at k.may.is_info in
         rw b.unnamed
         (nameless_whole w t m.0 k.is_task m.1 k.may.info server (file a.1) (file_nameless a.1) a.0.right.ids a.0.right.parents modes s k.may.tree (file_fits a.1 k.may.info k.may.tree)

@@ -1,27 +1,21 @@
 -- The laws of naming files.
-use Rattle.std.proofs.Common.{◌≡◌, ℕ, Bool, true, List, [], ◌∷◌, refl, sym, subst, inl, inr, ap}
+use Rattle.std.proofs.Common.{◌≡◌, ℕ, Bool, true, List, refl, sym, subst, inl, inr}
 use Rattle.std.specs.Prelude.{Ok}
-use Rattle.hurd_trans_iface.specs.Nodes.{linked, with_entry}
 use Rattle.hurd_trans_iface.proofs.Goods.{good}
 use Rattle.hurd_machine.specs.declared.call.Reply.TheVariants.{Done}
 use Rattle.hurd_machine.specs.World.{World, nodes_of, links_at}
-use Rattle.hurd_machine.specs.Change.{EditBody, EditHeader}
 use Rattle.hurd_machine.specs.Handle.{Named, both_asks}
 use Rattle.hurd_machine.specs.Sight.{BodyOf, Seen, Sees}
-use Rattle.hurd_machine.specs.Sound.{Coherent, Linked, LeadsUp}
-use Rattle.hurd_machine.proofs.Nodes.{header_in}
-use Rattle.hurd_machine.proofs.Frame.{Full}
+use Rattle.hurd_machine.specs.Sound.{Linked, LeadsUp}
 use Rattle.hurd_machine.proofs.Views.{Agree}
-use Rattle.hurd_machine.proofs.Asks.{IsPlain, first_ok, first_same, first_plain, ok_plain, answered_same, answered_plain, done_plain, links_same, links_plain}
-use Rattle.hurd_machine.proofs.Links.{KeepsLinked, listing_of}
+use Rattle.hurd_machine.proofs.Asks.{IsNamed, first_ok, first_same, first_plain, ok_plain, answered_same, answered_plain, done_plain, links_same, links_plain}
 use Rattle.hurd_machine.proofs.Linking.{may_link, link_whole}
-use Rattle.hurd_machine.proofs.Relinks.{again_linked}
 use Rattle.hurd_machine.proofs.CallLaws.{CallLaws, answered_piece}
 use Rattle.hurd_dirs.specs.declared.link.FileToName.{FileToName}
 use Rattle.hurd_dirs.specs.Entry.{name_asks, dir_asks}
-use Rattle.hurd_dirs.specs.Link.{OnName, link_asks, plan_link, touches_link}
-use Rattle.hurd_machine.proofs.BothLaws.{AreNamed, are_named, both_same, both_plain}
-use Rattle.hurd_dirs.proofs.EntryLaws.{IsEntryDir, entry_dir, dir_leads, dir_same, dir_plain, name_plain, named_seen, entries_seen}
+use Rattle.hurd_dirs.specs.Link.{link_asks, plan_link, touches_link}
+use Rattle.hurd_machine.proofs.BothLaws.{are_named, both_same, both_plain}
+use Rattle.hurd_dirs.proofs.EntryLaws.{IsEntryAt, entry_dir, entry_leads, entry_seen, dir_same, dir_plain, name_plain, named_seen}
 
 -- dir_link: it asks for a directory whose entries the caller sees, and a file that it has a port on
 
@@ -29,8 +23,8 @@ module _ (t p : ℕ) (name : List ℕ) (q : ℕ) where
   -- the ports on the directory, and on the file
   record NamedBy (w : World) (f : FileToName) : Type 0 where
     both : Named × Named
-    are_named : AreNamed w t p q both
-    opened : IsEntryDir w both.0
+    is_entry : IsEntryAt w t p both.0
+    other : IsNamed w t q both.1
     dir : f.dir ≡ both.0.right.node
     file : f.file ≡ both.1.right.node
 
@@ -40,32 +34,24 @@ module _ (t p : ℕ) (name : List ℕ) (q : ℕ) where
       let u = first_ok (name_asks name) _ f a.2 in
       let d = first_ok (dir_asks w a.0.0) _ f u.2 in
       let same : record { dir = a.0.0.right.node; file = a.0.1.right.node } ≡ f = cc (d.2) in
-      record {
-        both = a.0;
-        are_named = are_named w t p q a.0 a.1;
-        opened = entry_dir w a.0.0 d.0 d.1;
-        dir = ap (λ (n : FileToName). n.dir) (sym same);
-        file = ap (λ (n : FileToName). n.file) (sym same);
-      }
+      let n = are_named w t p q a.0 a.1 in
+      subst (NamedBy w) same (record { both = a.0; is_entry = record { is_named = n.one; dir = entry_dir w a.0.0 d.0 d.1 }; other = n.other; dir = refl; file = refl })
 
   link_leads : (w : World) → Linked (nodes_of w) → (f : FileToName) → NamedBy w f → LeadsUp (nodes_of w) f.dir
-  link_leads w l f n = subst (LeadsUp (nodes_of w)) (sym n.dir) (dir_leads w l n.both.0 n.are_named.one.is_header n.opened.opened)
+  link_leads w l f n = rw n.dir (entry_leads w l t p n.both.0 n.is_entry)
 
   module _ {S : ℕ → Bool} {v : World} (ours : S t ≡ true) (f : FileToName) (n : NamedBy v f) where
     dir_seen : Sees S v (BodyOf f.dir)
-    dir_seen = subst (λ d. Sees S v (BodyOf d)) (sym n.dir) (entries_seen t ours p n.both.0 n.are_named.one n.opened)
+    dir_seen = subst (λ d. Sees S v (BodyOf d)) (sym n.dir) (entry_seen t ours p n.both.0 n.is_entry)
 
     file_seen : Seen S v f.file
-    file_seen = subst (Seen S v) (sym n.file) (named_seen t ours q n.both.1 n.are_named.other)
+    file_seen = subst (Seen S v) (sym n.file) (named_seen t ours q n.both.1 n.other)
 
   link_same : {S : ℕ → Bool} {v w : World} → Agree S v w → S t ≡ true → link_asks w t p name q ≡ link_asks v t p name q
   link_same {S} {v} {w} a ours =
       first_same _ _ _ _ (both_same a t ours p q) (λ b is.
       first_same _ _ _ _ refl (λ u known.
       first_same _ _ _ _ (dir_same a b.0 (named_seen t ours p b.0 (are_named v t p q b is).one)) (λ d may. refl)))
-
-  link_plain : (w : World) → IsPlain (link_asks w t p name q)
-  link_plain w = first_plain _ _ (both_plain w t p q) (λ b is. first_plain _ _ (name_plain name) (λ u known. first_plain _ _ (dir_plain w b.0) (λ d may. ok_plain _)))
 
   pub link_laws : CallLaws t (λ w. plan_link w t p name q) (λ w. touches_link w t p name q)
   link_laws = record {
@@ -75,5 +61,5 @@ module _ (t p : ℕ) (name : List ℕ) (q : ℕ) where
     same = λ S v w c d a ours. answered_same _ _ _ _ (link_same a ours) (λ f is.
         let n = named_by v f is in
         answered_same _ _ _ _ (links_same a f.dir f.file name (dir_seen ours f n) (file_seen ours f n)) (λ u may. refl));
-    plain = λ w. answered_plain _ _ (link_plain w) (λ f is. answered_plain _ _ (links_plain w f.dir name f.file) (λ u may. done_plain Done refl));
+    plain = λ w. answered_plain _ _ (first_plain _ _ (both_plain w t p q) (λ b is. first_plain _ _ (name_plain name) (λ u known. first_plain _ _ (dir_plain w b.0) (λ d may. ok_plain _)))) (λ f is. answered_plain _ _ (links_plain w f.dir name f.file) (λ u may. done_plain Done refl));
   }

@@ -1,18 +1,17 @@
 -- The laws of making directories.
-use Rattle.std.proofs.Common.{◌≡◌, ◌⊎◌, ℕ, Bool, true, List, refl, sym, subst, inl, inr, ap}
+use Rattle.std.proofs.Common.{◌≡◌, ℕ, Bool, true, List, refl, sym, subst, inl, inr, ap}
 use Rattle.std.specs.Prelude.{Some, Ok, is_none}
 use Rattle.hurd_creds.specs.declared.mode.Mode.{Mode}
 use Rattle.hurd_creds.specs.declared.errno.Errno.TheVariants.{EACCES, EEXIST}
 use Rattle.hurd_creds.specs.Access.{least_uid}
 use Rattle.hurd_trans_iface.specs.Answers.{entry_of}
-use Rattle.hurd_trans_iface.proofs.Goods.{good}
 use Rattle.hurd_machine.specs.declared.call.Reply.TheVariants.{Done}
 use Rattle.hurd_machine.specs.World.{World, nodes_of, body_at}
 use Rattle.hurd_machine.specs.Handle.{Named}
-use Rattle.hurd_machine.specs.Sight.{EmptyOf, BodyOf, Sees}
+use Rattle.hurd_machine.specs.Sight.{BodyOf, Sees}
 use Rattle.hurd_machine.specs.Sound.{Linked, LeadsUp}
 use Rattle.hurd_machine.proofs.Views.{Agree, body_same}
-use Rattle.hurd_machine.proofs.Asks.{IsPlain, on_ok, given_ok, first_ok, on_same, given_same, first_same, on_plain, given_plain, first_plain, ok_plain, answered_same, answered_plain, done_plain}
+use Rattle.hurd_machine.proofs.Asks.{on_ok, given_ok, first_ok, on_same, given_same, first_same, on_plain, given_plain, first_plain, ok_plain, answered_same, answered_plain, done_plain}
 use Rattle.hurd_machine.proofs.CallLaws.{CallLaws, answered_piece}
 use Rattle.hurd_core.specs.Core.{NewNodeAt, making_dir_asks}
 use Rattle.hurd_core.proofs.DirPieces.{asks_dir, dir_whole, making_dir_same, making_dir_plain}
@@ -51,14 +50,11 @@ module _ (t p : ℕ) (name : List ℕ) (mode : Mode) where
       on_same _ _ _ _ _ refl (λ owner least.
       given_same _ _ _ _ _ (ap (λ b. is_none (entry_of name b)) (body_same a n.right.node sees)) (λ free. refl)))
 
-  mkdir_plain : (w : World) → IsPlain (mkdir_asks w t p name mode)
-  mkdir_plain w = first_plain _ _ (entry_plain w t p name) (λ n is. on_plain _ _ _ refl (λ owner least. given_plain _ _ _ refl (λ free. ok_plain _)))
-
   pub mkdir_laws : CallLaws t (λ w. plan_mkdir w t p name mode) (λ w. touches_mkdir w t p name mode)
   mkdir_laws = record {
     piece = λ w s. answered_piece s (mkdir_asks w t p name mode) _ _ (λ f is. answered_piece s (making_dir_asks w t f) _ _ (λ m may.
         dir_whole t f s name (made_by w f is).named m (asks_dir t f w m may) (made_leads w s.linked f is) (inl refl) (inr refl) (λ S ours. (made_seen ours f is).0)));
     same = λ S v w c d a ours. answered_same _ _ _ _ (mkdir_same a ours) (λ f is.
         answered_same _ _ _ _ (making_dir_same t f a ours (made_seen ours f is)) (λ m may. refl));
-    plain = λ w. answered_plain _ _ (mkdir_plain w) (λ f is. answered_plain _ _ (making_dir_plain t f w) (λ m may. done_plain Done refl));
+    plain = λ w. answered_plain _ _ (first_plain _ _ (entry_plain w t p name) (λ n is. on_plain _ _ _ refl (λ owner least. given_plain _ _ _ refl (λ free. ok_plain _)))) (λ f is. answered_plain _ _ (making_dir_plain t f w) (λ m may. done_plain Done refl));
   }

@@ -1,17 +1,16 @@
 -- Edits of nodes in another order: the server's own order of a rename, and the plan's, leave one world.
-use Rattle.std.proofs.Common.{◌≡◌, ◌∙◌, ℕ, not, Bool, true, false, if◌then◌else◌, is_some, List, [], ◌∷◌, ◌++◌, Option, Some, None, refl, sym, ap, subst, inl, inr}
-use Rattle.std.specs.Prelude.{Result, Ok, Err}
+use Rattle.std.proofs.Common.{◌≡◌, ◌∙◌, ℕ, Bool, true, false, if◌then◌else◌, List, [], ◌∷◌, ◌++◌, Option, Some, None, refl, sym, ap, subst, inl, inr}
+use Rattle.std.specs.Prelude.{Ok}
 use Rattle.std.specs.Option.{option_map}
 use Rattle.std.specs.Str.{bytes_eq}
 use Rattle.std.specs.FinMap.{get}
+use Rattle.hurd_nodes.specs.declared.seat.Site.{Site}
+use Rattle.hurd_nodes.specs.Held.{home_in}
 use Rattle.hurd_creds.specs.declared.name.Name.{Name}
-use Rattle.hurd_creds.specs.declared.errno.Errno.{Errno}
-use Rattle.hurd_creds.specs.declared.errno.Errno.TheVariants.{ENOENT, ENOTDIR, EROFS}
 use Rattle.hurd_creds.specs.NameMaps.{NameMap, edit}
 use Rattle.hurd_creds.proofs.NameLaws.{same_map_by, same_or_apart, edit_here, edit_apart}
 use Rattle.hurd_trans_iface.specs.Nodes.{NodeMap, Node, Entry, Header, Body, Content, Listing, Edit, is_dir, less_entry, without_entry, with_entry, moved_to, unlinked, with_header, with_body, node_of_edit}
 use Rattle.hurd_trans_iface.specs.Answers.{entry_of, move_edits, is_one, rename_edits}
-use Rattle.hurd_trans_iface.specs.Meaning.{keeps_tree}
 use Rattle.hurd_nodes.specs.Shown.{ServerInfo, are_kin, own_edits, tree_by, rename_by}
 use Rattle.hurd_machine.specs.World.{World, header_at, body_at, home_at, info_at, renames_at}
 use Rattle.hurd_machine.specs.Change.{EditHeader, EditBody, Settle, settle, apply_all, changes_of}
@@ -67,13 +66,13 @@ head_turned m a b f g = edits_turned m a b (with_header f) (with_body g) (λ x. 
 
 -- where all nodes are of one server, it makes all edits
 
-abbrev AllKin : Option Name → NameMap Name → List Edit → Type 0
-AllKin s homes [] = Unit {0}
-AllKin s homes (e ∷ es) = (are_kin s (get homes (node_of_edit e)) ≡ true) × AllKin s homes es
+abbrev pub AllKin : Option Name → NameMap Site → List Edit → Type 0
+AllKin s sites [] = Unit {0}
+AllKin s sites (e ∷ es) = (are_kin s (home_in sites (node_of_edit e)) ≡ true) × AllKin s sites es
 
-all_own : (s : Option Name) (homes : NameMap Name) (es : List Edit) → AllKin s homes es → own_edits s homes es ≡ es
-all_own s homes [] kin = refl
-all_own s homes (e ∷ es) kin = ap (λ b. if b then e ∷ own_edits s homes es else own_edits s homes es) kin.0 ∙ ap (λ z. e ∷ z) (all_own s homes es kin.1)
+pub own_all : (s : Option Name) (sites : NameMap Site) (es : List Edit) → AllKin s sites es → own_edits s sites es ≡ es
+own_all s sites [] kin = refl
+own_all s sites (e ∷ es) kin = ap (λ b. if b then e ∷ own_edits s sites es else own_edits s sites es) kin.0 ∙ ap (λ z. e ∷ z) (own_all s sites es kin.1)
 
 module _ (w : World) (d : Name) (name : List ℕ) (n e : Name) (new : List ℕ) where
   abbrev with_nodes : NodeMap → World
@@ -84,9 +83,9 @@ module _ (w : World) (d : Name) (name : List ℕ) (n e : Name) (new : List ℕ) 
     pub goes-alone : entry_of new (body_at w e) ≡ None → apply_all (renaming w d name e new) w ≡ apply_all (going d name n e new ++ Settle ∷ []) w
     goes-alone none =
         ap (λ z. apply_all (changes_of z ++ Settle ∷ []) w)
-        (ap (λ o. own_edits (home_at w d) w.homes (rename_edits d name e new o (entry_of new (body_at w e)))) entry
-        ∙ ap (λ o. own_edits (home_at w d) w.homes (rename_edits d name e new (Some n) o)) none
-        ∙ all_own (home_at w d) w.homes (move_edits d name e new n None) (own, (to, (node, tt))))
+        (ap (λ o. own_edits (home_at w d) w.sites (rename_edits d name e new o (entry_of new (body_at w e)))) entry
+        ∙ ap (λ o. own_edits (home_at w d) w.sites (rename_edits d name e new (Some n) o)) none
+        ∙ own_all (home_at w d) w.sites (move_edits d name e new n None) (own, (to, (node, tt))))
         ∙ ap (λ m. settle (with_nodes m)) (head_turned (edit d (with_body (without_entry name)) w.nodes) n e (moved_to e) (with_entry new n))
 
     -- another node does
@@ -96,10 +95,10 @@ module _ (w : World) (d : Name) (name : List ℕ) (n e : Name) (new : List ℕ) 
         let base : NodeMap = w.nodes in
         let taken : NodeMap = edit e (with_body (without_entry new)) base in
         ap (λ z. apply_all (changes_of z ++ Settle ∷ []) w)
-        (ap (λ o. own_edits (home_at w d) w.homes (rename_edits d name e new o (entry_of new (body_at w e)))) entry
-        ∙ ap (λ o. own_edits (home_at w d) w.homes (rename_edits d name e new (Some n) o)) some
-        ∙ ap (λ b. own_edits (home_at w d) w.homes (if b then [] else move_edits d name e new n (Some m))) other
-        ∙ all_own (home_at w d) w.homes (move_edits d name e new n (Some m)) (own, (to, (kin, (to, (node, tt))))))
+        (ap (λ o. own_edits (home_at w d) w.sites (rename_edits d name e new o (entry_of new (body_at w e)))) entry
+        ∙ ap (λ o. own_edits (home_at w d) w.sites (rename_edits d name e new (Some n) o)) some
+        ∙ ap (λ b. own_edits (home_at w d) w.sites (if b then [] else move_edits d name e new n (Some m))) other
+        ∙ own_all (home_at w d) w.sites (move_edits d name e new n (Some m)) (own, (to, (kin, (to, (node, tt))))))
         ∙ ap (λ k. settle (with_nodes k))
         (head_turned (edit m (with_header unlinked) (edit e (with_body (without_entry new)) (edit d (with_body (without_entry name)) base))) n e (moved_to e) (with_entry new n)
         ∙ ap (λ k. edit e (with_body (with_entry new n)) (edit n (with_header (moved_to e)) k))
@@ -112,21 +111,9 @@ pub may_rename : (w : World) (d : Name) (name : List ℕ) (n e : Name) (h k : He
 may_rename w d name n e h k at dir tree kin to to_dir is =
     ap (λ b. rename_by name b (info_at w d) (get w.nodes d) (get w.nodes e)) kin ∙ go (info_at w d) (get w.nodes d) (get w.nodes e) at tree to is
   where
-    last : (a : Bool) (o : Option Name) → a ≡ true → o ≡ Some n → (if not a then Err ENOTDIR else if is_some o then Ok tt else Err ENOENT) ≡ Ok (tt {0})
-    last true o ea eo = ap (λ z. if is_some z then Ok tt else Err ENOENT) eo
-    last false o ea eo = absurd (cc)
-
-    begins : (a b : Bool) (r : Result (Unit {0}) Errno) → a ≡ true → b ≡ true → r ≡ Ok tt → (if not a then Err ENOTDIR else if not b then Err EROFS else r) ≡ Ok (tt {0})
-    begins true true r ea eb er = er
-    begins false b r ea eb er = absurd (cc)
-    begins true false r ea eb er = absurd (cc)
-
     go : (i : Option ServerInfo) (o p : Option Node) → header_in o ≡ Some h → tree_by i ≡ true → header_in p ≡ Some k → entry_of name (body_in o) ≡ Some n → rename_by name true i o p ≡ Ok tt
-    go None o p eh et ek en = absurd (cc)
-    go (Some i) None p eh et ek en = absurd (cc)
-    go (Some i) (Some x) None eh et ek en = absurd (cc)
     go (Some i) (Some x) (Some y) eh et ek en =
         let one : x.header ≡ h = cc (eh) in
         let two : y.header ≡ k = cc (ek) in
-        begins (is_dir x.header.kind) (keeps_tree i.kind) _ (ap (λ (z : Header). is_dir z.kind) one ∙ dir) et
-        (last (is_dir y.header.kind) (entry_of name (Some x.body)) (ap (λ (z : Header). is_dir z.kind) two ∙ to_dir) en)
+        rw (one, two, dir, et, to_dir, en) refl
+    go _ _ _ eh et ek en = absurd (cc)

@@ -1,17 +1,16 @@
 -- The laws of taking entries out of directories.
-use Rattle.std.proofs.Common.{◌≡◌, ◌∙◌, ℕ, Bool, true, false, not, true≢false, if◌then◌else◌, List, [], ◌∷◌, ◌++◌, Option, Some, None, refl, sym, ap, ap₂, subst, inl, inr}
-use Rattle.std.specs.Prelude.{Result, Ok, Err, is_some}
+use Rattle.std.proofs.Common.{◌≡◌, ◌∙◌, ℕ, Bool, true, false, not, true≢false, List, [], ◌∷◌, ◌++◌, Option, Some, None, refl, sym, ap, ap₂, subst, inl, inr}
+use Rattle.std.specs.Prelude.{Result, Ok, is_some}
 use Rattle.std.specs.Option.{option_map}
 use Rattle.std.specs.FinMap.{get}
+use Rattle.std.proofs.lemmas.Bool.{not-true}
 use Rattle.hurd_creds.specs.declared.name.Name.{Name}
 use Rattle.hurd_creds.specs.declared.attrs.Kind.TheVariants.{Dir}
-use Rattle.hurd_creds.specs.declared.attrs.Want.TheVariants.{Write, Exec}
 use Rattle.hurd_creds.specs.declared.errno.Errno.{Errno}
-use Rattle.hurd_creds.specs.declared.errno.Errno.TheVariants.{EACCES, EBUSY, EDIED, EISDIR, ENOENT, ENOTDIR, EROFS, ENOTEMPTY}
+use Rattle.hurd_creds.specs.declared.errno.Errno.TheVariants.{EACCES, EBUSY, EDIED, EISDIR, ENOENT, ENOTDIR, ENOTEMPTY}
 use Rattle.hurd_creds.proofs.NameLaws.{same_name-itself}
-use Rattle.hurd_trans_iface.specs.Nodes.{Node, Header, Body, Content, Listing, is_dir, is_empty_dir, unlinked, without_entry, OnBody, OnHeader}
+use Rattle.hurd_trans_iface.specs.Nodes.{Node, Header, Body, Content, Listing, is_dir, is_empty_dir, unlinked, without_entry}
 use Rattle.hurd_trans_iface.specs.Answers.{entry_of, unlink_edits}
-use Rattle.hurd_trans_iface.specs.Meaning.{keeps_tree}
 use Rattle.hurd_trans_iface.proofs.Goods.{good}
 use Rattle.hurd_nodes.specs.Shown.{ServerInfo, are_kin, info_in, own_edits, tree_by, unlink_by}
 use Rattle.hurd_machine.specs.Calls.{Reply}
@@ -20,13 +19,12 @@ use Rattle.hurd_machine.specs.World.{World, header_at, body_at, home_at, active_
 use Rattle.hurd_machine.specs.Change.{Change, EditBody, EditHeader, Settle, changes_of}
 use Rattle.hurd_machine.specs.Plan.{Follows, answered}
 use Rattle.hurd_machine.specs.Handle.{Named}
-use Rattle.hurd_machine.specs.Sight.{EmptyOf, BodyOf, Sees, Seen, Child, Could, Allowed, ByParent}
+use Rattle.hurd_machine.specs.Sight.{EmptyOf, BodyOf, Sees, Seen}
 use Rattle.hurd_machine.specs.Sound.{Coherent}
 use Rattle.hurd_machine.specs.Touched.{asked_parts}
 use Rattle.hurd_machine.proofs.Nodes.{header_in, body_in, node_of_header}
 use Rattle.hurd_machine.proofs.Coherence.{entry_lists}
 use Rattle.hurd_machine.proofs.Views.{Agree, header_same, body_same, home_same, active_same}
-use Rattle.hurd_machine.proofs.Frame.{Full}
 use Rattle.hurd_machine.proofs.Removals.{MayRemove, unlinking_piece}
 use Rattle.hurd_machine.proofs.Asks.{IsPlain, on_ok, given_ok, first_ok, on_same, given_same, first_same, on_plain, given_plain, first_plain, ok_plain, answered_same, answered_plain, done_plain}
 use Rattle.hurd_machine.proofs.CallLaws.{CallLaws, answered_piece}
@@ -34,38 +32,30 @@ use Rattle.hurd_core.specs.Core.{unlinking}
 use Rattle.hurd_core.proofs.PlanLaws.{follows-then, follows-from}
 use Rattle.hurd_dirs.specs.Entry.{entry_asks, may_take}
 use Rattle.hurd_dirs.specs.Remove.{Entered, OnEntry, is_empty_at, found_asks, taking_asks, removing, unlink_asks, plan_unlink, touches_unlink, rmdir_asks, plan_rmdir, touches_rmdir}
-use Rattle.hurd_dirs.proofs.EntryLaws.{IsEntryAt, dir_kind, entry_at, entry_seen, entry_same, entry_plain, right_taken}
+use Rattle.hurd_dirs.proofs.EntryLaws.{IsEntryAt, dir_kind, entry_at, entry_seen, entry_same, entry_plain, child_seen, child_empty}
+use Rattle.hurd_dirs.proofs.OrderLaws.{own_all}
 use Rattle.hurd_machine.proofs.Removals as gone
 use Rattle.hurd_machine.proofs.Piece.{stands, settled}
 
--- an entry of a name, which names a node of the directory's server
-pub record IsFound (w : World) (d : Name) (name : List ℕ) (x : Entered) : Type 0 where
-  pub on_dir : d ≡ x.dir
-  pub entry : entry_of name (body_at w d) ≡ Some x.node
-  pub is_header : header_at w x.node ≡ Some x.header
-  pub kin : are_kin (home_at w d) (home_at w x.node) ≡ true
-
-found : (w : World) (d : Name) (name : List ℕ) (x : Entered) → found_asks w d name ≡ Ok x → IsFound w d name x
-found w d name x is =
-    let n = on_ok ENOENT (entry_of name (body_at w d)) _ x is in
-    let h = on_ok EDIED (header_at w n.0) _ x n.2 in
-    let k = given_ok EDIED (are_kin (home_at w d) (home_at w n.0)) _ x h.2 in
-    let same : record { dir = d; node = n.0; header = h.0 } ≡ x = cc (k.1) in
-    subst (IsFound w d name) same (record { on_dir = refl; entry = n.1; is_header = h.1; kin = k.0 })
-
--- of a port's directory
+-- an entry of a port's directory, which names a node of the directory's server
 pub record IsTaking (w : World) (t p : ℕ) (name : List ℕ) (x : Entered) : Type 0 where
   pub at : Named
   pub is_entry : IsEntryAt w t p at
-  pub is_found : IsFound w at.right.node name x
+  pub on_dir : at.right.node ≡ x.dir
+  pub entry : entry_of name (body_at w at.right.node) ≡ Some x.node
+  pub is_header : header_at w x.node ≡ Some x.header
+  pub kin : are_kin (home_at w at.right.node) (home_at w x.node) ≡ true
 
 taking : (w : World) (t p : ℕ) (name : List ℕ) (x : Entered) → taking_asks w t p name ≡ Ok x → IsTaking w t p name x
 taking w t p name x is =
     let a = first_ok (entry_asks w t p name) _ x is in
     let f = first_ok (found_asks w a.0.right.node name) _ x a.2 in
     let g = given_ok EACCES (may_take a.0.right.ids a.0.header f.0.header) _ x f.2 in
-    let same : f.0 ≡ x = cc (g.1) in
-    record { at = a.0; is_entry = entry_at w t p name a.0 a.1; is_found = subst (IsFound w a.0.right.node name) same (found w a.0.right.node name f.0 f.1) }
+    let n = on_ok ENOENT (entry_of name (body_at w a.0.right.node)) _ f.0 f.1 in
+    let h = on_ok EDIED (header_at w n.0) _ f.0 n.2 in
+    let k = given_ok EDIED (are_kin (home_at w a.0.right.node) (home_at w n.0)) _ f.0 h.2 in
+    let same : record { dir = a.0.right.node; node = n.0; header = h.0 } ≡ x = cc (k.1, g.1) in
+    subst (IsTaking w t p name) same (record { at = a.0; is_entry = entry_at w t p name a.0 a.1; on_dir = refl; entry = n.1; is_header = h.1; kin = k.0 })
 
 -- the core does what is asked
 
@@ -74,109 +64,86 @@ kin_itself None q h = absurd (cc)
 kin_itself (Some s) q h = same_name-itself s
 
 -- where all edits are of the directory's server, it makes all of them
-all_own : (w : World) (d : Name) (name : List ℕ) (x : Entered) → IsFound w d name x → unlinking w d name ≡ EditBody d (without_entry name) ∷ EditHeader x.node unlinked ∷ Settle ∷ []
-all_own w d name x f =
-    ap (λ o. changes_of (own_edits (home_at w d) w.homes (unlink_edits d name o)) ++ Settle ∷ []) f.entry
-    ∙ go (are_kin (home_at w d) (home_at w d)) (are_kin (home_at w d) (home_at w x.node)) (kin_itself (home_at w d) (home_at w x.node) f.kin) f.kin
-  where
-    go : (a b : Bool) → a ≡ true → b ≡ true
-        → changes_of (if a then OnBody d (without_entry name) ∷ (if b then OnHeader x.node unlinked ∷ [] else []) else (if b then OnHeader x.node unlinked ∷ [] else [])) ++ Settle ∷ [] ≡ EditBody d (without_entry name) ∷ EditHeader x.node unlinked ∷ Settle ∷ []
-    go true true e f = refl
-    go false b e f = absurd (cc)
-    go true false e f = absurd (cc)
+all_own : (w : World) (t p : ℕ) (name : List ℕ) (x : Entered) (k : IsTaking w t p name x) → unlinking w x.dir name ≡ EditBody x.dir (without_entry name) ∷ EditHeader x.node unlinked ∷ Settle ∷ []
+all_own w t p name x k =
+    let d = k.at.right.node in
+    rw (← k.on_dir)
+    (ap (λ o. changes_of (own_edits (home_at w d) w.sites (unlink_edits d name o)) ++ Settle ∷ []) k.entry
+    ∙ ap (λ es. changes_of es ++ Settle ∷ []) (own_all (home_at w d) w.sites (unlink_edits d name (Some x.node)) (kin_itself (home_at w d) (home_at w x.node) k.kin, (k.kin, tt))))
 
 -- an entry that is there in a directory of a tree is taken out
 unlinks : (w : World) (d : Name) (name : List ℕ) (n : Name) (h : Header) → header_at w d ≡ Some h → h.kind ≡ Dir → tree_by (info_at w d) ≡ true → entry_of name (body_at w d) ≡ Some n → unlinks_at w d name ≡ Ok tt
 unlinks w d name n h at dir tree is = go (info_at w d) (get w.nodes d) at tree is
   where
-    answers : (a b : Bool) (o : Option Name) → a ≡ true → b ≡ true → o ≡ Some n
-        → (if not a then Err ENOTDIR else if not b then Err EROFS else if is_some o then Ok tt else Err ENOENT) ≡ Ok (tt {0})
-    answers true true o ea eb eo = ap (λ z. if is_some z then Ok tt else Err ENOENT) eo
-    answers false b o ea eb eo = absurd (cc)
-    answers true false o ea eb eo = absurd (cc)
-
     go : (i : Option ServerInfo) (o : Option Node) → header_in o ≡ Some h → tree_by i ≡ true → entry_of name (body_in o) ≡ Some n → unlink_by name i o ≡ Ok tt
-    go None o eh et en = absurd (cc)
-    go (Some i) None eh et en = absurd (cc)
-    go (Some i) (Some y) eh et en =
-        let same : y.header ≡ h = cc (eh) in
-        answers (is_dir y.header.kind) (keeps_tree i.kind) (entry_of name (Some y.body)) (ap (λ (k : Header). is_dir k.kind) same ∙ ap is_dir dir) et en
+    go (Some i) (Some y) eh et en = let same : y.header ≡ h = cc (eh) in rw (same, dir, et, en) refl
+    go _ _ eh et en = absurd (cc)
 
 pub removing-follows : (w : World) (t p : ℕ) (name : List ℕ) (asks : Result Entered Errno) (x : Entered) (r : Reply) (y : World) → asks ≡ Ok x → IsTaking w t p name x
     → Follows w (answered (unlinks_at w x.dir name) (λ u. record { reply = Done; changes = unlinking w x.dir name })) r y → Follows w (answered asks (removing name)) r y
 removing-follows w t p name asks x r y is k f =
-    let d = k.at.right.node in
     let e = k.is_entry in
-    let may : unlinks_at w x.dir name ≡ Ok tt = subst (λ z. unlinks_at w z name ≡ Ok tt) k.is_found.on_dir (unlinks w d name x.node k.at.header e.is_named.is_header e.dir.tree.dir e.dir.tree.tree k.is_found.entry) in
-    let own : unlinking w x.dir name ≡ EditBody x.dir (without_entry name) ∷ EditHeader x.node unlinked ∷ Settle ∷ [] =
-    subst (λ z. unlinking w z name ≡ EditBody z (without_entry name) ∷ EditHeader x.node unlinked ∷ Settle ∷ []) k.is_found.on_dir (all_own w d name x k.is_found) in
+    let may : unlinks_at w x.dir name ≡ Ok tt = rw (← k.on_dir) (unlinks w k.at.right.node name x.node k.at.header e.is_named.is_header e.dir.opened.dir e.dir.opened.tree k.entry) in
     follows-then w asks (removing name) x r y is
-    (subst (λ (cs : List Change). Follows w (record { reply = Done; changes = cs }) r y) own
+    (subst (λ (cs : List Change). Follows w (record { reply = Done; changes = cs }) r y) (all_own w t p name x k)
     (follows-from w (unlinks_at w x.dir name) (λ u. record { reply = Done; changes = unlinking w x.dir name }) tt r y may f))
 
 -- what the two calls know of their entry: a directory has no entries itself
 
-empty_none : (o : Option Body) (m : Name) → is_empty_at o ≡ true → lists_at m o ≡ false
-empty_none None m h = absurd (cc)
+pub empty_none : (o : Option Body) (m : Name) → is_empty_at o ≡ true → lists_at m o ≡ false
 empty_none (Some (Content bs)) m h = refl
 empty_none (Some (Listing [])) m h = refl
-empty_none (Some (Listing (e ∷ es))) m h = absurd (cc)
+empty_none _ m h = absurd (cc)
 
 pub record MayTake (w : World) (t p : ℕ) (name : List ℕ) (x : Entered) : Type 0 where
   pub is_taking : IsTaking w t p name x
   pub empty : x.header.kind ≡ Dir → is_empty_at (body_at w x.node) ≡ true
 
+-- an entry of a directory of a tree may be taken out; if it is of a directory, of one without entries
+pub removable : (w : World) → Coherent w → (d : Name) (k : Header) (name : List ℕ) (n : Name) (h : Header) → header_at w d ≡ Some k → tree_by (info_at w d) ≡ true → entry_of name (body_at w d) ≡ Some n → header_at w n ≡ Some h
+    → (h.kind ≡ Dir → (m : Name) → lists_at m (body_at w n) ≡ false) → MayRemove w d name n
+removable w c d k name n h at tree entry is empty =
+    let x = node_of_header (get w.nodes d) k at in
+    record {
+      dir = x.0;
+      is_dir = x.1;
+      entry = sym (ap (λ (o : Option Node). entry_of name (body_in o)) x.1) ∙ entry;
+      header = h;
+      is_header = is;
+      tree = ap (λ o. tree_by (info_in w.servers o)) (c.tree.kin d n (entry_lists name (body_at w d) n entry)) ∙ tree;
+      empty = empty;
+    }
+
 may_remove : (w : World) → Coherent w → (t p : ℕ) (name : List ℕ) (x : Entered) → MayTake w t p name x → MayRemove w x.dir name x.node
 may_remove w c t p name x m =
     let k = m.is_taking in
     let e = k.is_entry in
-    let y = node_of_header (get w.nodes k.at.right.node) k.at.header e.is_named.is_header in
-    let home : home_at w x.node ≡ home_at w k.at.right.node = c.tree.kin k.at.right.node x.node (entry_lists name (body_at w k.at.right.node) x.node k.is_found.entry) in
-    subst (λ d. MayRemove w d name x.node) k.is_found.on_dir
-    (record {
-      dir = y.0;
-      is_dir = y.1;
-      entry = sym (ap (λ (o : Option Node). entry_of name (body_in o)) y.1) ∙ k.is_found.entry;
-      header = x.header;
-      is_header = k.is_found.is_header;
-      tree = ap (λ o. tree_by (info_in w.servers o)) home ∙ e.dir.tree.tree;
-      empty = λ dir q. empty_none (body_at w x.node) q (m.empty dir);
-    })
+    subst (λ d. MayRemove w d name x.node) k.on_dir
+    (removable w c k.at.right.node k.at.header name x.node x.header e.is_named.is_header e.dir.opened.tree k.entry k.is_header (λ dir q. empty_none (body_at w x.node) q (m.empty dir)))
 
 -- what S sees of the entry
 
 module _ {S : ℕ → Bool} {v : World} (t : ℕ) (ours : S t ≡ true) (p : ℕ) (name : List ℕ) where
-  child_seen : (a : Named) → IsEntryAt v t p a → (n : Name) → entry_of name (body_at v a.right.node) ≡ Some n → Seen S v n
-  child_seen a e n is =
-      let could : Could S v a.header Exec = Allowed a.right.ids (right_taken t ours p a.right e.is_named.is_right) e.dir.opened.search in
-      Child a.right.node a.header name (entry_seen t ours p a e).0 e.is_named.is_header e.dir.tree.dir could is
-
   body_seen : (x : Entered) → IsTaking v t p name x → Sees S v (BodyOf x.dir)
-  body_seen x k = subst (λ d. Sees S v (BodyOf d)) k.is_found.on_dir (entry_seen t ours p k.at k.is_entry)
+  body_seen x k = subst (λ d. Sees S v (BodyOf d)) k.on_dir (entry_seen t ours p k.at k.is_entry)
 
   -- whether a directory below one that S could write is empty
   empty_seen : Coherent v → (x : Entered) → IsTaking v t p name x → x.header.kind ≡ Dir → Sees S v (EmptyOf x.node)
-  empty_seen c x k dir =
-      let a = k.at in
-      let e = k.is_entry in
-      let could : Could S v a.header Write = Allowed a.right.ids (right_taken t ours p a.right e.is_named.is_right) e.dir.opened.write in
-      let up : x.header.parent ≡ Some a.right.node = c.tree.below a.right.node x.node x.header (entry_lists name (body_at v a.right.node) x.node k.is_found.entry) k.is_found.is_header dir in
-      (child_seen a e x.node k.is_found.entry, x.header, k.is_found.is_header, dir, ByParent a.right.node a.header up e.is_named.is_header could)
+  empty_seen c x k dir = child_empty t ours p k.at k.is_entry.is_named k.is_entry.dir.opened c name x.node x.header k.entry k.is_header dir
 
 -- it asks the same in worlds that agree
 
-empty_by : (o q : Option Body) → option_map is_empty_dir q ≡ option_map is_empty_dir o → is_empty_at q ≡ is_empty_at o
+pub empty_by : (o q : Option Body) → option_map is_empty_dir q ≡ option_map is_empty_dir o → is_empty_at q ≡ is_empty_at o
 empty_by None None h = refl
-empty_by None (Some b) h = absurd (cc)
-empty_by (Some b) None h = absurd (cc)
 empty_by (Some b) (Some c) h = cc
+empty_by _ _ h = absurd (cc)
 
 module _ {S : ℕ → Bool} {v w : World} (a : Agree S v w) (t : ℕ) (ours : S t ≡ true) (p : ℕ) (name : List ℕ) where
   found_same : (n : Named) → IsEntryAt v t p n → found_asks w n.right.node name ≡ found_asks v n.right.node name
   found_same n e =
       let sees : Sees S v (BodyOf n.right.node) = entry_seen t ours p n e in
       on_same _ _ _ _ _ (ap (entry_of name) (body_same a n.right.node sees)) (λ m is.
-      let seen : Seen S v m = child_seen t ours p name n e m is in
+      let seen : Seen S v m = child_seen t ours p n e.is_named e.dir.opened name m is in
       on_same _ _ _ _ _ (header_same a m seen) (λ h eh.
       given_same _ _ _ _ _ (ap₂ are_kin (home_same a n.right.node sees.0) (home_same a m seen)) (λ kin. refl)))
 
@@ -218,17 +185,13 @@ module _ (t p : ℕ) (name : List ℕ) (asks : World → Result Entered Errno) w
 
 -- dir_unlink: no directory
 
-not_dir : (b : Bool) → not b ≡ true → b ≡ false
-not_dir false h = refl
-not_dir true h = absurd (cc)
-
 pub unlink_takes : (w : World) (t p : ℕ) (name : List ℕ) (x : Entered) → unlink_asks w t p name ≡ Ok x → MayTake w t p name x
 unlink_takes w t p name x is =
     let k = first_ok (taking_asks w t p name) _ x is in
     let g = given_ok EISDIR (not (is_dir k.0.header.kind)) _ x k.2 in
     let same : k.0 ≡ x = cc (g.1) in
     subst (MayTake w t p name) same
-    (record { is_taking = taking w t p name k.0 k.1; empty = λ dir. absurd (true≢false (sym (ap is_dir dir) ∙ not_dir (is_dir k.0.header.kind) g.0)) })
+    (record { is_taking = taking w t p name k.0 k.1; empty = λ dir. absurd (true≢false (sym (ap is_dir dir) ∙ not-true (is_dir k.0.header.kind) g.0)) })
 
 pub unlink_laws : (t p : ℕ) (name : List ℕ) → CallLaws t (λ w. plan_unlink w t p name) (λ w. touches_unlink w t p name)
 unlink_laws t p name =

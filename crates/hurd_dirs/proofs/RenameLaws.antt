@@ -3,39 +3,34 @@ use Rattle.std.proofs.Common.{◌≡◌, ◌≢◌, ◌⊎◌, ◌∙◌, ℕ, �
 use Rattle.std.specs.Prelude.{Result, Ok, Err, is_some}
 use Rattle.std.specs.Option.{option_map}
 use Rattle.std.specs.FinMap.{get}
-use Rattle.std.proofs.lemmas.Bool.{and_parts}
+use Rattle.std.proofs.lemmas.Bool.{and_parts, not-true}
 use Rattle.hurd_creds.specs.declared.name.Name.{Name}
 use Rattle.hurd_creds.specs.declared.attrs.Kind.TheVariants.{Dir}
-use Rattle.hurd_creds.specs.declared.attrs.Want.TheVariants.{Write, Exec}
 use Rattle.hurd_creds.specs.declared.errno.Errno.{Errno}
 use Rattle.hurd_creds.specs.declared.errno.Errno.TheVariants.{EACCES, EBUSY, EDIED, EINVAL, EISDIR, ENOENT, ENOTDIR, ENOTEMPTY, EROFS, EXDEV}
 use Rattle.hurd_creds.specs.Access.{may}
 use Rattle.hurd_creds.specs.Names.{same_name}
 use Rattle.hurd_creds.proofs.NameLaws.{same_or_apart, apart_if_not_same, same_name-apart, edit_apart}
-use Rattle.hurd_trans_iface.specs.Nodes.{Entry, Header, Body, Content, Listing, is_dir, is_empty_dir, less_entry, unlinked, with_header, with_body, without_entry}
+use Rattle.hurd_trans_iface.specs.Nodes.{Entry, Header, Body, Listing, is_dir, is_empty_dir, less_entry, unlinked, with_header, with_body, without_entry}
 use Rattle.hurd_trans_iface.specs.Answers.{entry_of}
 use Rattle.hurd_trans_iface.proofs.Goods.{good}
-use Rattle.hurd_nodes.specs.Shown.{are_kin, tree_by, info_in}
+use Rattle.hurd_nodes.specs.Shown.{are_kin, tree_by}
 use Rattle.hurd_machine.specs.declared.call.Reply.TheVariants.{Done}
 use Rattle.hurd_machine.specs.World.{World, nodes_of, header_at, body_at, home_at, active_at, info_at, is_removed, lists_at, renames_at}
 use Rattle.hurd_machine.specs.Plan.{Plan, Planned}
 use Rattle.hurd_machine.specs.Handle.{Named, both_asks}
 use Rattle.hurd_machine.specs.Change.{Change, EditHeader, EditBody, apply, apply_all}
-use Rattle.hurd_machine.specs.Sight.{Part, AttrOf, EmptyOf, BodyOf, Seen, Child, Sees, Could, Allowed, ToSearch, ByParent, bare, AnEmpty}
-use Rattle.hurd_machine.specs.Sound.{HasDistinctNames, Sound, Coherent, Linked, LeadsUp}
+use Rattle.hurd_machine.specs.Sight.{Part, AttrOf, EmptyOf, BodyOf, Seen, Sees, AnEmpty}
+use Rattle.hurd_machine.specs.Sound.{Sound, Coherent, Linked, LeadsUp}
 use Rattle.hurd_machine.proofs.Nodes.{header_in, body_in, node_of_header, edit_keeps, edit_reads, header-with_header, header-with_body, body-with_header, body-with_body}
 use Rattle.hurd_machine.proofs.Views.{Agree, header_same, home_same, active_same, body_same}
-use Rattle.hurd_machine.proofs.Coherence.{AllProper, entry_lists}
-use Rattle.hurd_machine.proofs.Keeping.{coherent_all, proper_append}
-use Rattle.hurd_machine.proofs.Settle.{Rests}
-use Rattle.hurd_machine.proofs.Frame.{AllWithin, Full}
-use Rattle.hurd_machine.proofs.Filled.{KeepsFilled, filled_append, filled_header, filled_removed}
-use Rattle.hurd_machine.proofs.Several.{AllMay}
+use Rattle.hurd_machine.proofs.Coherence.{entry_lists}
+use Rattle.hurd_machine.proofs.Frame.{Full}
 use Rattle.hurd_machine.proofs.Links.{leads_unless, listing_of}
 use Rattle.hurd_machine.proofs.Linking.{kin_are}
 use Rattle.hurd_machine.proofs.Removals.{MayRemove, unlinking, distinct_at, left_linked, unlinking_piece}
 use Rattle.hurd_machine.proofs.Renames.{MayGo, may_go, going, taken_none, taken_other, going_piece}
-use Rattle.hurd_machine.proofs.Asks.{IsPlain, IsNamed, info_same, is_root_same, on_ok, given_ok, first_ok, on_same, given_same, first_same, on_plain, given_plain, first_plain, ok_plain, answered_same, answered_plain, done_plain}
+use Rattle.hurd_machine.proofs.Asks.{IsPlain, info_same, is_root_same, on_ok, given_ok, first_ok, on_same, given_same, first_same, on_plain, given_plain, first_plain, ok_plain, answered_same, answered_plain, done_plain}
 use Rattle.hurd_machine.proofs.CallLaws.{CallLaws, answered_piece}
 use Rattle.hurd_core.specs.Core as core
 use Rattle.hurd_core.specs.Core.{Does}
@@ -44,9 +39,9 @@ use Rattle.hurd_dirs.specs.declared.rename.Renaming.{Renaming}
 use Rattle.hurd_dirs.specs.Entry.{name_asks, may_change, may_take}
 use Rattle.hurd_dirs.specs.Remove.{is_empty_at}
 use Rattle.hurd_dirs.specs.Rename.{parent_in, is_inside, trees_ask, leaves_asks, gives_way, old_asks, rename_asks, is_there, moves, renames, plan_rename, touches_rename}
-use Rattle.hurd_dirs.proofs.EntryLaws.{dir_kind, name_plain, right_taken, named_seen}
+use Rattle.hurd_dirs.proofs.EntryLaws.{IsOpenTree, open_tree, dir_kind, name_plain, named_seen, entries_seen, child_seen, child_empty}
 use Rattle.hurd_machine.proofs.BothLaws.{AreNamed, are_named, both_same, both_plain}
-use Rattle.hurd_dirs.proofs.RemoveLaws.{kin_itself}
+use Rattle.hurd_dirs.proofs.RemoveLaws.{kin_itself, empty_none, empty_by, removable}
 use Rattle.hurd_dirs.proofs.OrderLaws.{goes-alone, goes-over, may_rename}
 use Rattle.hurd_dirs.proofs.ClimbLaws.{inside_same, inside_around, inside_fewer}
 use Rattle.hurd_machine.proofs.Counting.{AllCalm}
@@ -56,15 +51,9 @@ use Rattle.hurd_machine.proofs.Piece.{Stands, Piece, Whole, stands, whole_none, 
 
 -- two directories of one tree that may be searched and written
 record AreTrees (w : World) (a b : Named) : Type 0 where
-  from_dir : a.header.kind ≡ Dir
-  to_dir : b.header.kind ≡ Dir
-  from_tree : tree_by (info_at w a.right.node) ≡ true
-  to_tree : tree_by (info_at w b.right.node) ≡ true
+  from : IsOpenTree w a
+  to : IsOpenTree w b
   kin : home_at w a.right.node ≡ home_at w b.right.node
-  from_search : may a.right.ids (bare a.header) Exec ≡ true
-  from_write : may a.right.ids (bare a.header) Write ≡ true
-  to_search : may b.right.ids (bare b.header) Exec ≡ true
-  to_write : may b.right.ids (bare b.header) Write ≡ true
 
 are_trees : (w : World) (a b : Named) (u : Unit {0}) → trees_ask w a b ≡ Ok u → AreTrees w a b
 are_trees w a b u is =
@@ -75,19 +64,7 @@ are_trees w a b u is =
     let dirs = and_parts _ _ d.0 in
     let trees = and_parts _ _ t.0 in
     let both = and_parts _ _ m.0 in
-    let from = and_parts _ _ both.0 in
-    let to = and_parts _ _ both.1 in
-    record {
-      from_dir = dir_kind a.header.kind dirs.0;
-      to_dir = dir_kind b.header.kind dirs.1;
-      from_tree = trees.0;
-      to_tree = trees.1;
-      kin = sym (kin_are (home_at w a.right.node) (home_at w b.right.node) k.0);
-      from_search = from.0;
-      from_write = from.1;
-      to_search = to.0;
-      to_write = to.1;
-    }
+    record { from = open_tree w a dirs.0 trees.0 both.0; to = open_tree w b dirs.1 trees.1 both.1; kin = sym (kin_are (home_at w a.right.node) (home_at w b.right.node) k.0) }
 
 -- what goes, to a directory that isn't removed, and isn't below it
 record Leaves (w : World) (name : List ℕ) (a b : Named) (l : Name × Header) : Type 0 where
@@ -148,12 +125,12 @@ asked_all w t p q name new P each r is =
     subst P same (each a.0.0 a.0.1 l.0 (record { named = are_named w t p q a.0 a.1; trees = are_trees w a.0.0 a.0.1 d.0 d.1; leaving = leaves w name a.0.0 a.0.1 l.0 l.1; old = o.1 }))
 
 -- what holds of each list of changes that it may make
-by_old : (w : World) (b : Named) (l : Name × Header) (r : Renaming) (name new : List ℕ) (P : List Change → Type 0) → r.node ≡ l.0 → old_asks w b l r.old ≡ Ok tt → P [] → (r.old ≡ None → P (moves name new r))
+by_old : (w : World) (b : Named) (l : Name × Header) (r : Renaming) (name new : List ℕ) (P : List Change → Type 0) → r.node ≡ l.0 → old_asks w b l r.old ≡ Ok tt → (is_there r.node r.old ≡ true → P []) → (r.old ≡ None → P (moves name new r))
     → ((m : Name) → r.old ≡ Some m → m ≢ r.node → Way w b.right.node m → P (EditBody r.to (without_entry new) ∷ EditHeader m unlinked ∷ moves name new r)) → P (renames name new r r.old)
 by_old w b l r name new P node asks nothing none some = go r.old refl
   where
     by : (m : Name) → r.old ≡ Some m → (s : Bool) → same_name m r.node ≡ s → P (if s then [] else EditBody r.to (without_entry new) ∷ EditHeader m unlinked ∷ moves name new r)
-    by m e true es = nothing
+    by m e true es = nothing (ap (is_there r.node) e ∙ es)
     by m e false es =
         let other : same_name m l.0 ≡ false = ap (same_name m) (sym node) ∙ es in
         let gives : gives_way w b l.1 m ≡ Ok tt = ap (λ s. if s then Ok tt else gives_way w b l.1 m) (sym other) ∙ ap (old_asks w b l) (sym e) ∙ asks in
@@ -165,14 +142,8 @@ by_old w b l r name new P node asks nothing none some = go r.old refl
 
 -- what gives way is unlinked first, and nothing else of the world goes with it
 
-none_listed : (m : Name) (o : Option Body) → is_empty_at o ≡ true → lists_at m o ≡ false
-none_listed m None h = refl
-none_listed m (Some (Content bs)) h = refl
-none_listed m (Some (Listing [])) h = refl
-none_listed m (Some (Listing (e ∷ es))) h = absurd (true≢false (sym h))
-
 empty_dir : (k : Header) (o : Option Body) → (not (is_dir k.kind) || is_empty_at o) ≡ true → k.kind ≡ Dir → (m : Name) → lists_at m o ≡ false
-empty_dir k o h dir m = none_listed m o (ap (λ kind. not (is_dir kind) || is_empty_at o) (sym dir) ∙ h)
+empty_dir k o h dir m = empty_none o m (ap (λ kind. not (is_dir kind) || is_empty_at o) (sym dir) ∙ h)
 
 module _ (w : World) (e : Name) (new : List ℕ) (m : Name) where
   abbrev unlinked_world : World
@@ -198,7 +169,7 @@ module _ (w : World) (e : Name) (new : List ℕ) (m : Name) where
   -- each node keeps its parent, or loses it
   left_parent : (d : Name) → (parent_in (header_at unlinked_world d) ≡ parent_in (header_at w d)) ⊎ (parent_in (header_at unlinked_world d) ≡ None)
   left_parent d = elim (same_or_apart d m) [
-    | inl same ↦ by (header_at w m) refl same
+    | inl same ↦ rw (same, read) (lost (header_at w m))
     | inr apart ↦ inl (ap parent_in (left_header d apart))
   ]
     where
@@ -207,17 +178,13 @@ module _ (w : World) (e : Name) (new : List ℕ) (m : Name) where
           edit_reads header_in (option_map unlinked) (with_header unlinked) (header-with_header unlinked) cut_world.nodes m
           ∙ ap (option_map unlinked) (edit_keeps header_in (with_body (without_entry new)) (header-with_body (without_entry new)) w.nodes e m)
 
-      lost : (h : Header) (b : Bool) → is_dir h.kind ≡ b → ((unlinked h).parent ≡ h.parent) ⊎ ((unlinked h).parent ≡ None)
-      lost h true dir = inr (ap (λ z. if z then None else h.parent) dir)
-      lost h false dir = inl (ap (λ z. if z then None else h.parent) dir)
+      orphaned : (p : Option Name) (b : Bool) → ((if b then None else p) ≡ p) ⊎ ((if b then None else p) ≡ None)
+      orphaned p true = inr refl
+      orphaned p false = inl refl
 
-      by : (o : Option Header) → header_at w m ≡ o → d ≡ m → (parent_in (header_at unlinked_world d) ≡ parent_in (header_at w d)) ⊎ (parent_in (header_at unlinked_world d) ≡ None)
-      by None is same = inr (rw same (ap parent_in (read ∙ ap (option_map unlinked) is)))
-      by (Some h) is same =
-          elim (lost h (is_dir h.kind) refl) [
-            | inl keeps ↦ inl (rw same (ap parent_in (read ∙ ap (option_map unlinked) is) ∙ keeps ∙ sym (ap parent_in is)))
-            | inr none ↦ inr (rw same (ap parent_in (read ∙ ap (option_map unlinked) is) ∙ none))
-          ]
+      lost : (o : Option Header) → (parent_in (option_map unlinked o) ≡ parent_in o) ⊎ (parent_in (option_map unlinked o) ≡ None)
+      lost None = inl refl
+      lost (Some h) = orphaned h.parent (is_dir h.kind)
 
 -- in a world in which it is asked
 module _ (w : World) (t p q : ℕ) (name new : List ℕ) (a b : Named) (l : Name × Header) (f : Asked w t p q name new a b l) where
@@ -233,21 +200,14 @@ module _ (w : World) (t p q : ℕ) (name new : List ℕ) (a b : Named) (l : Name
   abbrev k : Header
   k = l.1
 
-  listed : lists_at n (body_at w d) ≡ true
-  listed = entry_lists name (body_at w d) n f.leaving.entry
-
   not_inside : k.kind ≡ Dir → is_inside w n e ≡ false
-  not_inside dir = by (is_inside w n e) (ap (λ kind. not (is_dir kind && is_inside w n e)) (sym dir) ∙ f.leaving.out)
-    where
-      by : (z : Bool) → not z ≡ true → z ≡ false
-      by true h = sym h
-      by false h = refl
+  not_inside dir = not-true (is_inside w n e) (ap (λ kind. not (is_dir kind && is_inside w n e)) (sym dir) ∙ f.leaving.out)
 
   module _ (c : Coherent w) (linked : Linked (nodes_of w)) where
     target : (es : List Entry) × (body_at w e ≡ Some (Listing es))
     target =
         let x = node_of_header (get w.nodes e) b.header f.named.other.is_header in
-        let dir : is_dir x.0.header.kind ≡ true = ap (λ (h : Header). is_dir h.kind) x.2 ∙ ap is_dir f.trees.to_dir in
+        let dir : is_dir x.0.header.kind ≡ true = ap (λ (h : Header). is_dir h.kind) x.2 ∙ ap is_dir f.trees.to.dir in
         let z = listing_of x.0.header x.0.body (c.tree.shapes e x.0 x.1) dir in
         (z.0, ap body_in x.1 ∙ ap (λ y. Some y) z.1)
 
@@ -264,17 +224,7 @@ module _ (w : World) (t p q : ℕ) (name new : List ℕ) (a b : Named) (l : Name
       old_listed = entry_lists new (body_at w e) m old
 
       removes : MayRemove w e new m
-      removes =
-          let x = node_of_header (get w.nodes e) b.header f.named.other.is_header in
-          record {
-            dir = x.0;
-            is_dir = x.1;
-            entry = sym (ap (λ o. entry_of new (body_in o)) x.1) ∙ old;
-            header = gives.header;
-            is_header = gives.is_header;
-            tree = ap (λ o. tree_by (info_in w.servers o)) (c.tree.kin e m old_listed) ∙ f.trees.to_tree;
-            empty = empty_dir gives.header (body_at w m) gives.empty;
-          }
+      removes = removable w c e b.header new m gives.header f.named.other.is_header f.trees.to.tree old gives.is_header (empty_dir gives.header (body_at w m) gives.empty)
 
       abbrev left : World
       left = unlinked_world w e new m
@@ -286,7 +236,7 @@ module _ (w : World) (t p q : ℕ) (name new : List ℕ) (a b : Named) (l : Name
       apart : e ≢ m
       apart same =
           let one : gives.header ≡ b.header = cc (gives.is_header, f.named.other.is_header, same) in
-          let none : lists_at m (body_at w m) ≡ false = empty_dir gives.header (body_at w m) gives.empty (ap (λ (h : Header). h.kind) one ∙ f.trees.to_dir) m in
+          let none : lists_at m (body_at w m) ≡ false = empty_dir gives.header (body_at w m) gives.empty (ap (λ (h : Header). h.kind) one ∙ f.trees.to.dir) m in
           true≢false (sym old_listed ∙ rw same none)
 
       left_leads : LeadsUp (nodes_of left) e
@@ -306,28 +256,6 @@ module _ (w : World) (t p q : ℕ) (name new : List ℕ) (a b : Named) (l : Name
           (ap (entry_of new) (left_here w e new m) ∙ taken_none new (body_at w e) (distinct_at w c e)) left_leads
           (λ dir. inside_around left n e (inside_fewer w left (left_parent w e new m) n e (not_inside dir)) left_leads)
 
--- what S sees of it
-
-module _ {S : ℕ → Bool} {v : World} (t : ℕ) (ours : S t ≡ true) (p : ℕ) (a : Named) (is : IsNamed v t p a) (dir : a.header.kind ≡ Dir) where
-  -- the entries of a directory that the port's ids may search, and what they name
-  searched : may a.right.ids (bare a.header) Exec ≡ true → Sees S v (BodyOf a.right.node)
-  searched search =
-      let could : Could S v a.header Exec = Allowed a.right.ids (right_taken t ours p a.right is.is_right) search in
-      (named_seen t ours p a is, a.header, is.is_header, ToSearch dir could)
-
-  child_seen : may a.right.ids (bare a.header) Exec ≡ true → (name : List ℕ) (n : Name) → entry_of name (body_at v a.right.node) ≡ Some n → Seen S v n
-  child_seen search name n entry =
-      let could : Could S v a.header Exec = Allowed a.right.ids (right_taken t ours p a.right is.is_right) search in
-      Child a.right.node a.header name (named_seen t ours p a is) is.is_header dir could entry
-
-  -- whether a directory there is empty, where they may write
-  child_empty : Coherent v → may a.right.ids (bare a.header) Exec ≡ true → may a.right.ids (bare a.header) Write ≡ true → (name : List ℕ) (n : Name) (k : Header) → entry_of name (body_at v a.right.node) ≡ Some n
-      → header_at v n ≡ Some k → k.kind ≡ Dir → Sees S v (EmptyOf n)
-  child_empty c search write name n k entry at kind =
-      let could : Could S v a.header Write = Allowed a.right.ids (right_taken t ours p a.right is.is_right) write in
-      let above : k.parent ≡ Some a.right.node = c.tree.below a.right.node n k (entry_lists name (body_at v a.right.node) n entry) at kind in
-      (child_seen search name n entry, k, at, kind, ByParent a.right.node a.header above is.is_header could)
-
 -- all that it asks is the same in worlds that agree
 
 module _ {S : ℕ → Bool} {v w : World} (agree : Agree S v w) (c : Coherent v) (t : ℕ) (ours : S t ≡ true) (p q : ℕ) (a b : Named) (named : AreNamed v t p q (a, b)) where
@@ -345,39 +273,33 @@ module _ {S : ℕ → Bool} {v w : World} (agree : Agree S v w) (c : Coherent v)
 
   module _ (trees : AreTrees v a b) (name new : List ℕ) where
     from_sees : Sees S v (BodyOf a.right.node)
-    from_sees = searched t ours p a named.one trees.from_dir trees.from_search
+    from_sees = entries_seen t ours p a named.one trees.from
 
     to_sees : Sees S v (BodyOf b.right.node)
-    to_sees = searched t ours q b named.other trees.to_dir trees.to_search
+    to_sees = entries_seen t ours q b named.other trees.to
 
     leaves_same : leaves_asks w name a b ≡ leaves_asks v name a b
     leaves_same =
         given_same _ (not (is_removed v b.right.node b.header)) (not (is_removed w b.right.node b.header)) _ _ (rw (is_root_same agree b.right.node to_seen) refl) (λ here.
         on_same _ _ _ _ _ (ap (entry_of name) (body_same agree a.right.node from_sees)) (λ n entry.
-        on_same _ _ _ _ _ (header_same agree n (child_seen t ours p a named.one trees.from_dir trees.from_search name n entry)) (λ k at.
-        given_same _ _ _ _ _ (ap₂ are_kin (home_same agree a.right.node from_seen) (home_same agree n (child_seen t ours p a named.one trees.from_dir trees.from_search name n entry))) (λ kin.
+        on_same _ _ _ _ _ (header_same agree n (child_seen t ours p a named.one trees.from name n entry)) (λ k at.
+        given_same _ _ _ _ _ (ap₂ are_kin (home_same agree a.right.node from_seen) (home_same agree n (child_seen t ours p a named.one trees.from name n entry))) (λ kin.
         given_same _ _ _ _ _ refl (λ take.
         given_same _ _ _ _ _ (ap (λ z. not (is_dir k.kind && z)) (inside_same agree n b.right.node to_seen)) (λ out. refl))))))
 
     empty_same : (m : Name) (j : Header) → entry_of new (body_at v b.right.node) ≡ Some m → header_at v m ≡ Some j → (not (is_dir j.kind) || is_empty_at (body_at w m)) ≡ (not (is_dir j.kind) || is_empty_at (body_at v m))
     empty_same m j entry at = by (is_dir j.kind) refl
       where
-        emptied : (o r : Option Body) → option_map is_empty_dir r ≡ option_map is_empty_dir o → is_empty_at r ≡ is_empty_at o
-        emptied None None h = refl
-        emptied None (Some y) h = absurd (cc)
-        emptied (Some x) None h = absurd (cc)
-        emptied (Some x) (Some y) h = cc
-
         by : (z : Bool) → is_dir j.kind ≡ z → (not z || is_empty_at (body_at w m)) ≡ (not z || is_empty_at (body_at v m))
         by false dir = refl
         by true dir =
-            let sees : Sees S v (EmptyOf m) = child_empty t ours q b named.other trees.to_dir c trees.to_search trees.to_write new m j entry at (dir_kind j.kind dir) in
+            let sees : Sees S v (EmptyOf m) = child_empty t ours q b named.other trees.to c new m j entry at (dir_kind j.kind dir) in
             let same : AnEmpty (option_map is_empty_dir (body_at w m)) ≡ AnEmpty (option_map is_empty_dir (body_at v m)) = agree.parts (EmptyOf m) sees in
-            emptied (body_at v m) (body_at w m) cc
+            empty_by (body_at v m) (body_at w m) cc
 
     way_same : (k : Header) (m : Name) → entry_of new (body_at v b.right.node) ≡ Some m → gives_way w b k m ≡ gives_way v b k m
     way_same k m entry =
-        let seen : Seen S v m = child_seen t ours q b named.other trees.to_dir trees.to_search new m entry in
+        let seen : Seen S v m = child_seen t ours q b named.other trees.to new m entry in
         on_same _ _ _ _ _ (header_same agree m seen) (λ j at.
         given_same _ _ _ _ _ (ap₂ are_kin (home_same agree b.right.node to_seen) (home_same agree m seen)) (λ kin.
         given_same _ _ _ _ _ refl (λ take.
@@ -407,18 +329,14 @@ module _ (t p q : ℕ) (name new : List ℕ) where
       ap (λ body. let r : Renaming = record { from = a.0.right.node; to = a.1.right.node; node = l.0; old = entry_of new body } in Ok r)
       (body_same agree a.1.right.node (to_sees agree c t ours p q a.0 a.1 named found name new))))))))
 
-  way_plain : (w : World) (b : Named) (k : Header) (m : Name) → IsPlain (gives_way w b k m)
-  way_plain w b k m =
-      on_plain _ _ _ refl (λ j at. given_plain _ _ _ refl (λ kin.
-      given_plain _ _ _ refl (λ take. given_plain _ _ _ refl (λ over. given_plain _ _ _ refl (λ under. given_plain _ _ _ refl (λ idle. given_plain _ _ _ refl (λ empty. ok_plain tt)))))))
-
   old_plain : (w : World) (b : Named) (l : Name × Header) (o : Option Name) → IsPlain (old_asks w b l o)
   old_plain w b l None = ok_plain tt
   old_plain w b l (Some m) = by (same_name m l.0)
     where
       by : (s : Bool) → IsPlain (if s then Ok tt else gives_way w b l.1 m)
       by true = ok_plain tt
-      by false = way_plain w b l.1 m
+      by false = on_plain _ _ _ refl (λ j at. given_plain _ _ _ refl (λ kin.
+          given_plain _ _ _ refl (λ take. given_plain _ _ _ refl (λ over. given_plain _ _ _ refl (λ under. given_plain _ _ _ refl (λ idle. given_plain _ _ _ refl (λ empty. ok_plain tt)))))))
 
   rename_plain : (w : World) → IsPlain (rename_asks w t p name q new)
   rename_plain w =
@@ -439,7 +357,7 @@ module _ (t p q : ℕ) (name new : List ℕ) where
       c = s.coherent
 
       each : (a b : Named) (l : Name × Header) → Asked w t p q name new a b l → let r : Renaming = renaming w new a b l in Whole t (Full w t (touched r)) w w (renames name new r r.old)
-      each a b l f = by_old w b l r name new (Whole t T w w) refl f.old (whole_none s) (λ none. settled goings (tt, (tt, (tt, tt))) (moves_calm w) (stands s) (onward (stands s) (goes w t p q name new a b l f c s.linked none) (λ h at. at))) (λ m old other gives.
+      each a b l f = by_old w b l r name new (Whole t T w w) refl f.old (λ there. whole_none s) (λ none. settled goings (tt, (tt, (tt, tt))) (moves_calm w) (stands s) (onward (stands s) (goes w t p q name new a b l f c s.linked none) (λ h at. at))) (λ m old other gives.
           settled (unlinking r.to new m ++ goings) (tt, (tt, (tt, (tt, (tt, tt))))) (tt, λ one. (λ h. (refl, refl), λ two. moves_calm _)) (stands s)
           (piece_then (unlinking r.to new m) goings (tt, (tt, tt)) (stands s) (unlinking_piece r.to new m good (stands s) (removes w t p q name new a b l f c s.linked m old other gives) body empty (inl (inr (inr (inr (m, old, refl))))) (λ S ours. to S ours))
           (λ d. onward d (left_goes w t p q name new a b l f c s.linked m old other gives) (λ h at. sym (left_header w r.to new m r.node (λ same. other (sym same))) ∙ at))))
@@ -464,15 +382,15 @@ module _ (t p q : ℕ) (name new : List ℕ) where
           empty = inl (inr (inl (inr refl)))
 
           to : (S : ℕ → Bool) → S t ≡ true → Sees S w (BodyOf r.to)
-          to S ours = searched t ours q b f.named.other f.trees.to_dir f.trees.to_search
+          to S ours = entries_seen t ours q b f.named.other f.trees.to
 
           -- in a world where the node has the header that it had
           onward : {x : World} → Stands x → MayGo x r.from name r.node r.to new → ((h : Header) → header_at x r.node ≡ Some h → header_at w r.node ≡ Some h) → Piece t T w x goings
           onward st may was = going_piece r.from name r.node r.to new good st may (inl (inl (inl refl))) (inl (inl (inr refl))) (inl (inr (inr (inl refl)))) body empty (λ S ours. (
-            searched t ours p a f.named.one f.trees.from_dir f.trees.from_search,
-            child_seen t ours p a f.named.one f.trees.from_dir f.trees.from_search name r.node f.leaving.entry,
+            entries_seen t ours p a f.named.one f.trees.from,
+            child_seen t ours p a f.named.one f.trees.from name r.node f.leaving.entry,
             (to S ours).0,
-            λ h at dir. child_empty t ours p a f.named.one f.trees.from_dir c f.trees.from_search f.trees.from_write name l.0 h f.leaving.entry (was h at) (dir_kind h.kind dir),
+            λ h at dir. child_empty t ours p a f.named.one f.trees.from c name l.0 h f.leaving.entry (was h at) (dir_kind h.kind dir),
           ))
 
   pub rename_laws : CallLaws t (λ w. plan_rename w t p name q new) (λ w. touches_rename w t p name q new)
@@ -497,18 +415,12 @@ module _ (t p q : ℕ) (name new : List ℕ) where
     to : are_kin (home_at w r.from) (home_at w r.to) ≡ true
     to = sym (ap (are_kin (home_at w r.from)) f.trees.kin) ∙ own
 
-    by_entry : (o : Option Name) → r.old ≡ o → is_there r.node o ≡ false → apply_all (core.renaming w r.from name r.to new) w ≡ apply_all (renames name new r o) w
-    by_entry None none other = goes-alone w r.from name r.node r.to new f.leaving.entry own to f.leaving.kin none
-    by_entry (Some m) some other =
-        let gives : gives_way w b l.1 m ≡ Ok tt = ap (λ s. if s then Ok tt else gives_way w b l.1 m) (sym other) ∙ ap (old_asks w b l) (sym some) ∙ f.old in
-        let kin : are_kin (home_at w r.from) (home_at w m) ≡ true = ap (λ z. are_kin z (home_at w m)) f.trees.kin ∙ (way w b l.1 m tt gives).kin in
-        goes-over w r.from name r.node r.to new f.leaving.entry own to f.leaving.kin m some (same_name-apart r.node m (λ e. apart_if_not_same m r.node other (sym e))) kin
-        ∙ ap (λ s. apply_all (if s then [] else EditBody r.to (without_entry new) ∷ EditHeader m unlinked ∷ moves name new r) w) (sym other)
-
     done_as_asked : is_there r.node r.old ≡ false → IsDone w r
     done_as_asked other = (
-      may_rename w r.from name r.node r.to a.header b.header f.named.one.is_header (ap is_dir f.trees.from_dir) f.trees.from_tree to f.named.other.is_header (ap is_dir f.trees.to_dir) f.leaving.entry,
-      by_entry r.old refl other,
+      may_rename w r.from name r.node r.to a.header b.header f.named.one.is_header (ap is_dir f.trees.from.dir) f.trees.from.tree to f.named.other.is_header (ap is_dir f.trees.to.dir) f.leaving.entry,
+      by_old w b l r name new (λ cs. apply_all (core.renaming w r.from name r.to new) w ≡ apply_all cs w) refl f.old (λ there. absurd (true≢false (sym there ∙ other)))
+          (λ none. goes-alone w r.from name r.node r.to new f.leaving.entry own to f.leaving.kin none)
+          (λ m some apart gives. goes-over w r.from name r.node r.to new f.leaving.entry own to f.leaving.kin m some (same_name-apart r.node m (λ e. apart (sym e))) (ap (λ z. are_kin z (home_at w m)) f.trees.kin ∙ gives.kin)),
     )
 
   is_done : (w : World) (r : Renaming) → rename_asks w t p name q new ≡ Ok r → is_there r.node r.old ≡ false → IsDone w r

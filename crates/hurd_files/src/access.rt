@@ -9,7 +9,7 @@ ghost use Rattle.hurd_files.specs.Access.{plan_check_access, setting_asks, plan_
 
 use hurd_core::{Core, PortNode};
 use hurd_creds::{Errno, Mode, OpenFlags, TaskId};
-use hurd_trans_iface::Server;
+use hurd_trans_iface::{HeaderEdit, Server};
 
 /// Those of `READ`, `WRITE` and `EXEC` that the ids of a port may, of its node, whatever the port has it open for
 /// (`fs.defs`). Takes no memory.
@@ -57,7 +57,12 @@ pub fn file_chmod<S: Server>(
 {
     let named = chmod_asked(core, task, port)?;
     let (node, attrs) = (named.right.node, named.attrs);
-    core.set_attrs(node, attrs.owner, attrs.group, mode.known())
+    let edit = HeaderEdit::SetAttrs {
+        owner: attrs.owner,
+        group: attrs.group,
+        mode: mode.known(),
+    };
+    core.edit_header(node, edit)
 }
 
 /// The node of a port whose attributes may be set, by ids that may give it to this owner and group.
@@ -98,5 +103,5 @@ pub fn file_chown<S: Server>(
 {
     let named = chown_asked(core, task, port, owner, group)?;
     let (node, mode) = (named.right.node, named.attrs.mode);
-    core.set_attrs(node, owner, group, mode)
+    core.edit_header(node, HeaderEdit::SetAttrs { owner, group, mode })
 }

@@ -15,7 +15,7 @@ use Rattle.hurd_creds.specs.Access.{IdSets, holds_gid, holds_uid, ids_of, most_i
 use Rattle.hurd_trans_iface.specs.Nodes.{Header}
 use Rattle.hurd_trans_iface.specs.Meaning.{Meaning, root_of, targets_of}
 use Rattle.hurd_trans_iface.specs.declared.root.Crossing.{Crossing}
-use Rattle.hurd_trans_iface.specs.declared.root.Crossing.TheVariants.{Plain, Link, Firm, Union}
+use Rattle.hurd_trans_iface.specs.declared.root.Crossing.TheVariants.{Union}
 use Rattle.hurd_machine.specs.World.{World, IsAmong, header_at}
 use Rattle.hurd_machine.specs.Sight.{Taken, Seen, Owns}
 use Rattle.hurd_machine.proofs.Views.{Agree, Agree-refl, header_same}
@@ -77,9 +77,7 @@ module _ {S : ℕ → Bool} {v w : World} (a : Agree S v w) (ids : IdSets) (take
 
   fits_same : (c : Crossing) (ns : List Name) → AllSeen a (lent ids owner) powers ns → fits w c ns ≡ fits v c ns
   fits_same Union ns seen = dirs_same ns seen
-  fits_same Plain ns seen = refl
-  fits_same Firm ns seen = refl
-  fits_same (Link absolute) ns seen = refl
+  fits_same _ ns seen = refl
 
   pub aims_alike : Alike (AllSeen a (lent ids owner) powers) (aims_asks v (lent ids owner) m) (aims_asks w (lent ids owner) m)
   aims_alike =

@@ -10,7 +10,7 @@ use Rattle.hurd_creds.specs.declared.errno.Errno.{Errno}
 use Rattle.hurd_creds.specs.declared.errno.Errno.TheVariants.{EBADF, EDIED}
 use Rattle.hurd_ports.specs.declared.table.IoRight.{IoRight}
 use Rattle.hurd_ports.specs.declared.table.Right.{Right}
-use Rattle.hurd_ports.specs.declared.table.Right.TheVariants.{Io, Control, Start}
+use Rattle.hurd_ports.specs.declared.table.Right.TheVariants.{Io, Control}
 use Rattle.hurd_ports.specs.Tables.{right_of}
 use Rattle.hurd_machine.specs.World.{World, ports_of, server_at}
 use Rattle.std.proofs.lemmas.Bool.{or_cases}
@@ -31,10 +31,8 @@ pub control_is : (w : World) (t c : ℕ) (s : Name) → control_of (ports_of w) 
 control_is w t c s h = go (right_of (ports_of w) t c) h
   where
     go : (o : Result Right Errno) → control_in o ≡ Ok s → o ≡ Ok (Control s)
-    go (Err e) k = absurd (cc)
-    go (Ok (Io r)) k = absurd (cc)
-    go (Ok (Start n)) k = absurd (cc)
     go (Ok (Control q)) k = let same : q ≡ s = cc in ap (λ (z : Name). Ok (Control z)) same
+    go _ k = absurd (cc)
 
 pub control_same : {S : ℕ → Bool} {v w : World} → Agree S v w → (t : ℕ) → S t ≡ true → (c : ℕ) → control_of (ports_of w) t c ≡ control_of (ports_of v) t c
 control_same a t ours c = ap control_in (right_same a t ours c)
@@ -44,9 +42,8 @@ control_plain w t c = go (right_of (ports_of w) t c) (right_plain w t c)
   where
     go : (o : Result Right Errno) → IsPlain o → IsPlain (control_in o)
     go (Err e) p = err_plain e (p e refl)
-    go (Ok (Io r)) p = err_plain EBADF refl
     go (Ok (Control q)) p = ok_plain q
-    go (Ok (Start n)) p = err_plain EBADF refl
+    go _ p = err_plain EBADF refl
 
 -- a server that a port controls
 pub record IsControlled (w : World) (t c : ℕ) (k : Controlled) : Type 0 where

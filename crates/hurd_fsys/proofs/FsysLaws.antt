@@ -4,16 +4,16 @@ use Rattle.std.specs.Prelude.{Result, Ok}
 use Rattle.hurd_creds.specs.declared.name.Name.{Name}
 use Rattle.hurd_creds.specs.declared.trans_flags.GoawayFlags.{GoawayFlags}
 use Rattle.hurd_creds.specs.declared.errno.Errno.{Errno}
-use Rattle.hurd_creds.specs.declared.errno.Errno.TheVariants.{EBUSY, EDIED, ENXIO, EOVERFLOW, EPERM, ESRCH}
+use Rattle.hurd_creds.specs.declared.errno.Errno.TheVariants.{EBUSY, EDIED, ENXIO, EPERM}
 use Rattle.hurd_creds.specs.Names.{same_name}
 use Rattle.hurd_creds.specs.TransBits.{asks_goaway, FORCE}
 use Rattle.hurd_creds.proofs.NameLaws.{same_name-itself}
 use Rattle.hurd_nodes.specs.Shown.{ServerInfo, boot_name}
 use Rattle.hurd_nodes.proofs.PartLaws.{and_both}
 use Rattle.hurd_ports.specs.declared.table.Right.TheVariants.{Io, Control}
-use Rattle.hurd_ports.specs.Tables.{Task, has_room}
+use Rattle.hurd_ports.specs.Tables.{has_room}
 use Rattle.hurd_machine.specs.declared.call.Reply.TheVariants.{Done, Port, Words}
-use Rattle.hurd_machine.specs.World.{World, task_at, home_at, active_at, server_at}
+use Rattle.hurd_machine.specs.World.{World, home_at, active_at, server_at}
 use Rattle.hurd_machine.specs.Handle.{Named, port_asks}
 use Rattle.hurd_machine.specs.Sight.{Holds, Seen, Held, UsersOf, ByControl, ByNode, BySeat, users}
 use Rattle.hurd_machine.specs.Sound.{Coherent}
@@ -21,17 +21,16 @@ use Rattle.hurd_machine.specs.Touched.{Nothing}
 use Rattle.hurd_machine.proofs.Views.{Agree, same_tasks, home_same, active_same, server_same}
 use Rattle.hurd_machine.proofs.Opens.{own_task}
 use Rattle.hurd_machine.proofs.Going.{goes_piece}
-use Rattle.hurd_machine.proofs.Asks.{IsPlain, IsNamed, is_named, port_same, port_seen, port_plain, holds_right, first_ok, given_ok}
-use Rattle.hurd_machine.proofs.Asks.{on_ok, first_same, given_same, on_same, first_plain, given_plain, on_plain, ok_plain, answered_same, answered_plain, done_plain}
+use Rattle.hurd_machine.proofs.Asks.{IsPlain, IsNamed, is_named, port_same, port_seen, port_plain, holds_right, first_ok, given_ok, on_ok, first_same, given_same, on_same, first_plain, given_plain, on_plain, ok_plain, answered_same, answered_plain, done_plain}
 use Rattle.hurd_machine.proofs.CallLaws.{CallLaws, looking_laws, answered_piece, answered_whole}
 use Rattle.hurd_machine.proofs.Confine.{Commands}
 use Rattle.hurd_core.specs.Core.{room_asks}
 use Rattle.hurd_fsys.specs.Controls.{Controlled, control_asks}
-use Rattle.hurd_fsys.specs.Fsys.{may_go, goaway_asks, plan_goaway, touches_goaway, plan_control, seated_asks, plan_cntl, touches_cntl}
-use Rattle.hurd_fsys.specs.Fsys.{may_control, served_asks, plan_getcontrol, touches_getcontrol, options_asks, plan_get_options, touches_get_options}
+use Rattle.hurd_fsys.specs.Fsys.{may_go, goaway_asks, plan_goaway, touches_goaway, plan_control, seated_asks, plan_cntl, touches_cntl, may_control, served_asks, plan_getcontrol, touches_getcontrol, options_asks, plan_get_options, touches_get_options}
 use Rattle.hurd_fsys.specs.Owned.{owned_asks}
 use Rattle.hurd_fsys.proofs.OwnedLaws.{Owner, owner, owner_right, owner_sees, owned_same, owned_plain}
 use Rattle.hurd_fsys.proofs.ControlLaws.{IsControlled, is_controlled, controlled_same, controlled_plain, owner_holds, controller_holds}
+use Rattle.hurd_fsys.proofs.BegunLaws.{counted_task}
 use Rattle.hurd_machine.proofs.Piece.{stands, settled}
 use Rattle.hurd_machine.proofs.Sharing.{port_whole}
 use Rattle.hurd_machine.specs.Change.{DropServer}
@@ -43,44 +42,32 @@ module _ (t c : ℕ) (flags : GoawayFlags) where
   force = asks_goaway flags FORCE
 
   -- the server that goes isn't the boot server
-  record Goer (w : World) (s : Name) : Type 0 where
-    other : s ≢ boot_name
-
-  goer : (w : World) (s : Name) → goaway_asks w t c flags ≡ Ok s → Goer w s
-  goer w s is =
+  goer : (w : World) (s : Name) → goaway_asks w t c flags ≡ Ok s → s ≢ boot_name
+  goer w s is e =
       let k = first_ok (control_asks w t c) _ s is in
       let g = given_ok EBUSY (may_go w k.0.server force) _ s k.2 in
       let same : k.0.server ≡ s = cc (g.1) in
       let both = and_both (not (same_name k.0.server boot_name)) (force || (users w k.0.server == 0)) g.0 in
-      record { other = λ e. true≢false (sym both.0 ∙ ap (λ (z : Name). not (same_name k.0.server z)) (sym (same ∙ e)) ∙ ap not (same_name-itself k.0.server)) }
+      true≢false (sym both.0 ∙ ap (λ (z : Name). not (same_name k.0.server z)) (sym (same ∙ e)) ∙ ap not (same_name-itself k.0.server))
 
   -- whether it may go is the same for who controls it
   may_go_same : {S : ℕ → Bool} {v w : World} → Agree S v w → (k : Controlled) → IsControlled v t c k → S t ≡ true → may_go w k.server force ≡ may_go v k.server force
   may_go_same {S} {v} {w} a k is ours = by (same_name k.server boot_name) refl
     where
-      same_users : k.server ≢ boot_name → users w k.server ≡ users v k.server
-      same_users other =
-          let e = a.parts (UsersOf k.server) (record { info = k.info; is_server = is.is_server; other = other; why = ByControl (holds_right t ours c (Control k.server) is.is_right) }) in cc
-
       by : (b : Bool) → same_name k.server boot_name ≡ b → may_go w k.server force ≡ may_go v k.server force
-      by true e = ap (λ z. not z && (force || (users w k.server == 0))) e ∙ sym (ap (λ z. not z && (force || (users v k.server == 0))) e)
+      by true e = rw e refl
       by false e =
-          let other : k.server ≢ boot_name = λ same. true≢false (sym (ap (λ (z : Name). same_name k.server z) (sym same) ∙ same_name-itself k.server) ∙ e) in
-          ap (λ n. not (same_name k.server boot_name) && (force || (n == 0))) (same_users other)
-
-  goaway_same : (S : ℕ → Bool) (v w : World) → Agree S v w → S t ≡ true → goaway_asks w t c flags ≡ goaway_asks v t c flags
-  goaway_same S v w a ours =
-      first_same _ _ _ _ (controlled_same a t ours c) (λ k is.
-      given_same _ _ _ _ _ (may_go_same a k (is_controlled v t c k is) ours) (λ e. refl))
-
-  goaway_plain : (w : World) → IsPlain (goaway_asks w t c flags)
-  goaway_plain w = first_plain _ _ (controlled_plain w t c) (λ k is. given_plain _ _ _ refl (λ e. ok_plain _))
+          let other : k.server ≢ boot_name = λ same. true≢false (sym (same_name-itself k.server) ∙ ap (λ (z : Name). same_name k.server z) same ∙ e) in
+          let used = a.parts (UsersOf k.server) (record { info = k.info; is_server = is.is_server; other = other; why = ByControl (holds_right t ours c (Control k.server) is.is_right) }) in
+          let same : users w k.server ≡ users v k.server = cc (used) in
+          ap (λ n. not (same_name k.server boot_name) && (force || (n == 0))) same
 
   pub goaway_laws : CallLaws t (λ w. plan_goaway w t c flags) (λ w. touches_goaway w t c flags)
   goaway_laws = record {
-    piece = λ w s. answered_piece s (goaway_asks w t c flags) _ _ (λ q is. settled (DropServer q ∷ []) (tt, tt) (tt, λ one. tt) (stands s) (goes_piece (stands s) q (goer w q is).other (λ p g. inl g)));
-    same = λ S v w c' d a ours. answered_same _ _ _ _ (goaway_same S v w a ours) (λ q is. refl);
-    plain = λ w. answered_plain _ _ (goaway_plain w) (λ q is. done_plain Done refl);
+    piece = λ w s. answered_piece s (goaway_asks w t c flags) _ _ (λ q is. settled (DropServer q ∷ []) (tt, tt) (tt, λ one. tt) (stands s) (goes_piece (stands s) q (goer w q is) (λ p g. inl g)));
+    same = λ S v w c' d a ours. answered_same _ _ _ _ (first_same _ _ _ _ (controlled_same a t ours c) (λ k is.
+        given_same _ _ _ _ _ (may_go_same a k (is_controlled v t c k is) ours) (λ e. refl))) (λ q is. refl);
+    plain = λ w. answered_plain _ _ (first_plain _ _ (controlled_plain w t c) (λ k is. given_plain _ _ _ refl (λ e. ok_plain _))) (λ q is. done_plain Done refl);
   }
 
 -- a port to control a server that was asked for
@@ -93,26 +80,13 @@ pub record AskedServer (t : ℕ) (asks : World → Result Name Errno) : Type 0 w
   pub plain : (w : World) → IsPlain (asks w)
 
 module _ (t : ℕ) where
-  roomy : (w : World) (x : Task) → room_asks w t 0 ≡ Ok x → task_at w t ≡ Some x
-  roomy w x is =
-      let y = on_ok ESRCH (task_at w t) _ x is in
-      let r = given_ok EOVERFLOW (has_room 0 y.0) _ x y.2 in
-      let same : y.0 ≡ x = cc (r.1) in
-      y.1 ∙ ap Some same
-
-  room_same : (S : ℕ → Bool) (v w : World) → Agree S v w → S t ≡ true → room_asks w t 0 ≡ room_asks v t 0
-  room_same S v w a ours = on_same _ _ _ _ _ (same_tasks a t ours) (λ x k. refl)
-
-  room_plain : (w : World) → IsPlain (room_asks w t 0)
-  room_plain w = on_plain _ _ _ refl (λ x k. given_plain _ _ _ refl (λ room. ok_plain _))
-
   pub control_laws : (asks : World → Result Name Errno) → AskedServer t asks → CallLaws t (λ w. plan_control w t (asks w)) (λ w. Nothing)
   control_laws asks l = record {
     piece = λ w s. answered_whole s (asks w) _ (λ q is. answered_whole s (room_asks w t 0) _ (λ x at.
         let i = l.there w s.coherent q is in
-        port_whole s t (Control q) x (roomy w x at) (own_task w t Nothing) tt (s.coherent.given.servers q i.0 i.1) tt (λ S ours. (l.commanded S w s.coherent ours q is, inr tt))));
-    same = λ S v w c d a ours. answered_same _ _ _ _ (l.same S v w a ours) (λ q is. answered_same _ _ _ _ (room_same S v w a ours) (λ x at. refl));
-    plain = λ w. answered_plain _ _ (l.plain w) (λ q is. answered_plain _ _ (room_plain w) (λ x at. done_plain (Port x.next) refl));
+        port_whole s t (Control q) x (counted_task w t (has_room 0) x at) (own_task w t Nothing) tt (s.coherent.given.servers q i.0 i.1) tt (λ S ours. (l.commanded S w s.coherent ours q is, inr tt))));
+    same = λ S v w c d a ours. answered_same _ _ _ _ (l.same S v w a ours) (λ q is. answered_same _ _ _ _ (on_same _ _ _ _ _ (same_tasks a t ours) (λ x k. refl)) (λ x at. refl));
+    plain = λ w. answered_plain _ _ (l.plain w) (λ q is. answered_plain _ _ (on_plain _ _ _ refl (λ x k. given_plain _ _ _ refl (λ room. ok_plain _))) (λ x at. done_plain (Port x.next) refl));
   }
 
 -- file_get_translator_cntl
@@ -131,27 +105,16 @@ module _ (t p : ℕ) where
       let same : q.0 ≡ s = cc (q.2) in
       subst (Seated w) same (record { named = n.0; owner = owner t p w n.0 n.1; active = q.1 })
 
-  seated_same : (S : ℕ → Bool) (v w : World) → Agree S v w → S t ≡ true → seated_asks w t p ≡ seated_asks v t p
-  seated_same S v w a ours =
-      first_same _ _ _ _ (owned_same t p a ours) (λ n is.
-      on_same _ _ _ _ _ (active_same a n.right.node (owner_sees t p ours n (owner t p v n is))) (λ s at. refl))
-
-  seated_plain : (w : World) → IsPlain (seated_asks w t p)
-  seated_plain w = first_plain _ _ (owned_plain t p w) (λ n is. on_plain _ _ _ refl (λ s at. ok_plain _))
-
-  -- a task of S may control it
-  seated_commanded : (S : ℕ → Bool) (v : World) → Coherent v → S t ≡ true → (s : Name) → Seated v s → Commands S v s
-  seated_commanded S v c ours s k =
-      let i = c.seating.seated k.named.right.node s k.active in
-      let held = owner_right t p ours k.named k.owner in
-      inr (i.1, i.2, BySeat k.named.right.node k.named.header (owner_sees t p ours k.named k.owner) k.active k.owner.is_named.is_header (owner_holds S v k.named held k.owner.owned))
-
   pub cntl_laws : CallLaws t (λ w. plan_cntl w t p) (λ w. touches_cntl w t p)
   cntl_laws = control_laws t (λ w. seated_asks w t p) (record {
     there = λ w c s is. let k = seated w s is in let i = c.seating.seated k.named.right.node s k.active in (i.1, i.2);
-    commanded = λ S v c ours s is. seated_commanded S v c ours s (seated v s is);
-    same = seated_same;
-    plain = seated_plain;
+    commanded = λ S v c ours s is.
+        let k = seated v s is in
+        let i = c.seating.seated k.named.right.node s k.active in
+        let held = owner_right t p ours k.named k.owner in
+        inr (i.1, i.2, BySeat k.named.right.node k.named.header (owner_sees t p ours k.named k.owner) k.active k.owner.is_named.is_header (owner_holds S v k.named held k.owner.owned));
+    same = λ S v w a ours. first_same _ _ _ _ (owned_same t p a ours) (λ n is. on_same _ _ _ _ _ (active_same a n.right.node (owner_sees t p ours n (owner t p v n is))) (λ s at. refl));
+    plain = λ w. first_plain _ _ (owned_plain t p w) (λ n is. on_plain _ _ _ refl (λ s at. ok_plain _));
   })
 
 -- file_getcontrol
@@ -175,30 +138,18 @@ module _ (t p : ℕ) where
       let same : q.0 ≡ s = cc (g.1) in
       subst (Served w) same (record { named = n.0; is_named = is_named w t p n.0 n.1; home = q.1; info = i.0; is_server = i.1; may = g.0 })
 
-  served_same : (S : ℕ → Bool) (v w : World) → Agree S v w → S t ≡ true → served_asks w t p ≡ served_asks v t p
-  served_same S v w a ours =
-      first_same _ _ _ _ (port_same a t ours p) (λ n is.
-      let seen : Seen S v n.right.node = port_seen t ours p n is in
-      on_same _ _ _ _ _ (home_same a n.right.node seen) (λ s home.
-      on_same _ _ _ _ _ (server_same a n.right.node s seen home) (λ i at. refl)))
-
-  served_plain : (w : World) → IsPlain (served_asks w t p)
-  served_plain w =
-      first_plain _ _ (port_plain w t p) (λ n is.
-      on_plain _ _ _ refl (λ s home. on_plain _ _ _ refl (λ i at. given_plain _ _ _ refl (λ may. ok_plain _))))
-
-  -- a task of S may control it: it sees a node of the server, and could serve it
-  served_commanded : (S : ℕ → Bool) (v : World) → Coherent v → S t ≡ true → (s : Name) → Served v s → Commands S v s
-  served_commanded S v c ours s k =
-      let held : Holds S v (Io k.named.right) = holds_right t ours p (Io k.named.right) k.is_named.is_right in
-      inr (k.info, k.is_server, ByNode k.named.right.node (Held k.named.right held refl) k.home (controller_holds S v c k.named.right held s k.info k.is_server k.may))
-
+  -- a task of S sees a node of the server, and could serve it
   pub getcontrol_laws : CallLaws t (λ w. plan_getcontrol w t p) (λ w. touches_getcontrol w t p)
   getcontrol_laws = control_laws t (λ w. served_asks w t p) (record {
     there = λ w c s is. let k = served w s is in (k.info, k.is_server);
-    commanded = λ S v c ours s is. served_commanded S v c ours s (served v s is);
-    same = served_same;
-    plain = served_plain;
+    commanded = λ S v c ours s is.
+        let k = served v s is in
+        let held : Holds S v (Io k.named.right) = holds_right t ours p (Io k.named.right) k.is_named.is_right in
+        inr (k.info, k.is_server, ByNode k.named.right.node (Held k.named.right held refl) k.home (controller_holds S v c k.named.right held s k.info k.is_server k.may));
+    same = λ S v w a ours. first_same _ _ _ _ (port_same a t ours p) (λ n is.
+        let seen : Seen S v n.right.node = port_seen t ours p n is in
+        on_same _ _ _ _ _ (home_same a n.right.node seen) (λ s home. on_same _ _ _ _ _ (server_same a n.right.node s seen home) (λ i at. refl)));
+    plain = λ w. first_plain _ _ (port_plain w t p) (λ n is. on_plain _ _ _ refl (λ s home. on_plain _ _ _ refl (λ i at. given_plain _ _ _ refl (λ may. ok_plain _))));
   })
 
 -- fsys_get_options: what it asks for is known to who controls the server, and nothing changes

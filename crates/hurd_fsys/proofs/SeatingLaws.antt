@@ -1,6 +1,7 @@
 -- When setting a translator answers, and leaves, what its plan says.
 use Rattle.std.proofs.Common.{◌≡◌, ◌∙◌, ◌⊎◌, ℕ, Bool, true, false, not, if◌then◌else◌, List, [], ◌∷◌, ◌++◌, Option, Some, None, inl, inr, refl, sym, ap, ap₂, subst}
-use Rattle.std.specs.Prelude.{Result, Ok, Err, IsOk, is_some}
+use Rattle.std.specs.Prelude.{Result, Ok, Err, IsOk, is_some, option_copied}
+use Rattle.std.specs.Borrow.{Bor}
 use Rattle.std.specs.Option.{option_map}
 use Rattle.hurd_creds.specs.declared.errno.Errno.{Errno}
 use Rattle.hurd_creds.specs.declared.errno.Errno.TheVariants.{ENOMEM, EOPNOTSUPP}
@@ -31,7 +32,7 @@ use Rattle.hurd_fsys.proofs.StoringLaws.{some_has, storing_back, storing_names, 
 use Rattle.hurd_fsys.proofs.SettingLaws.{setter}
 
 -- what becomes of something is there where that is
-pub means_some : {S T : Type 0} (f : S → T) (o : Option S) → is_some (option_map f o) ≡ is_some o
+means_some : {S T : Type 0} (f : S → T) (o : Option S) → is_some (option_map f o) ≡ is_some o
 means_some f None = refl
 means_some f (Some x) = refl
 
@@ -64,17 +65,11 @@ module _ (w : World) (t : ℕ) (n : Name) (f : Setting) (words : List (List ℕ)
 
     pub seat_refused : (e : Errno) (x y : World) (kept : List (List ℕ)) → Does v (naming_asks v t 2) changes (λ x. tt {0}) (Err e) x → Meets (Ok (words_at w n)) (Ok kept)
         → y ≡ apply_all (storing f n kept) x → Does w (naming_asks w t 2) (λ x. storing f n words ++ changes x) (λ x. tt {0}) (Err e) y
-    seat_refused e x y kept d copied back = (whole, why d.1)
-      where
-        same : words_at w n ≡ kept
-        same = cc (copied)
-
-        whole : y ≡ w
-        whole = back ∙ ap₂ (λ (k : List (List ℕ)) (z : World). apply_all (storing f n k) z) (sym same) (d.0 ∙ is) ∙ storing_back n words (asks_trans f.passive SET) w
-
-        why : (naming_asks v t 2 ≡ Err e) ⊎ ((e ≡ ENOMEM) × IsOk (naming_asks v t 2)) → (naming_asks w t 2 ≡ Err e) ⊎ ((e ≡ ENOMEM) × IsOk (naming_asks w t 2))
-        why (inl short) = inl (sym named_there ∙ short)
-        why (inr lacks) = inr (lacks.0, subst (λ (r : Result Task Errno). IsOk r) named_there lacks.1)
+    seat_refused e x y kept d copied back =
+        let same : words_at w n ≡ kept = cc (copied) in (
+          back ∙ ap₂ (λ (k : List (List ℕ)) (z : World). apply_all (storing f n k) z) (sym same) (d.0 ∙ is) ∙ storing_back n words (asks_trans f.passive SET) w,
+          subst (λ (r : Result Task Errno). (r ≡ Err e) ⊎ ((e ≡ ENOMEM) × IsOk r)) named_there d.1,
+        )
 
 -- what is as planned is so where memory may be wanting too
 weaker : {T : Type 0} (Lacks : Type 0) (w : World) (P : Plan) (f : T → Reply) (r : Result T Errno) (y : World) → Planned w P f r y → PlannedOr Lacks w P f r y
@@ -130,63 +125,67 @@ module _ {S : Type 0} (mean : S → Meaning) (w : World) (t p : ℕ) (f : Settin
       there : header_at w n.right.node ≡ Some n.header
       there = (setter t p f w b n (sym is)).is_named.is_header
 
-      module _ (z : Option (List (List ℕ))) (passive : z ≡ passive_of (node_at w n.right.node)) (e : Bool) (stored : e ≡ is_some z) where
-        pub told_stored : has_words n.header.passive ≡ e
-        told_stored = sym (some_has n.header.passive) ∙ ap is_some (sym (words_told w n.right.node n.header there) ∙ sym passive) ∙ sym stored
+      module _ (held : Option (Bor (List (List ℕ)))) (passive : option_copied held ≡ passive_of (node_at w n.right.node)) (has : Bool) (stored : has ≡ is_some held) where
+        told_stored : has_words n.header.passive ≡ has
+        told_stored = sym (some_has n.header.passive) ∙ ap is_some (sym (words_told w n.right.node n.header there) ∙ sym passive) ∙ means_some (λ x. x.now) held ∙ sym stored
 
-      pub set_kept : (e : Errno) → Err e ≡ seat_asks w f n → IsPlanned (Err e) w
-      set_kept e at = then_seat (Err e) w (asked-refused w (seat_asks w f n) (seating w t n f words box) tells e (sym at))
+        module _ (e : Errno) (asked : has_words n.header.passive ≡ has → Err e ≡ seat_asks w f n) where
+          pub set_kept : IsPlanned (Err e) w
+          set_kept = then_seat (Err e) w (asked-refused w (seat_asks w f n) (seating w t n f words box) tells e (sym (asked told_stored)))
 
-      pub kept_freely : (e : Errno) → Err e ≡ seat_asks w f n → IsFollowed (Err e) w
-      kept_freely e at =
-          follows-then w (setter_asks w t p f (is_some box)) (setting w t f words box) n (Refused e) w (asked_by (Ok n) is)
-          (subst (λ (b : Bool). Follows w (setting_where b w t f words box n) (Refused e) w) half
-          (follows-refused w (seat_asks w f n) (seating w t n f words box) e (sym at)))
+          pub kept_freely : IsFollowed (Err e) w
+          kept_freely =
+              follows-then w (setter_asks w t p f (is_some box)) (setting w t f words box) n (Refused e) w (asked_by (Ok n) is)
+              (subst (λ (b : Bool). Follows w (setting_where b w t f words box n) (Refused e) w) half
+              (follows-refused w (seat_asks w f n) (seating w t n f words box) e (sym (asked told_stored))))
 
-      module _ (old : Option Name) (at : Ok old ≡ seat_asks w f n) where
-        then_old : (r : Result (Unit {0}) Errno) (y : World) → Planned w (seating w t n f words box old) tells r y → IsPlanned r y
-        then_old r y h = then_seat r y (planned-then w (seat_asks w f n) (seating w t n f words box) tells old r y (sym at) h)
+        module _ (old : Option Name) (asked : has_words n.header.passive ≡ has → Ok old ≡ seat_asks w f n) where
+          at : Ok old ≡ seat_asks w f n
+          at = asked told_stored
 
-        -- words may be stored
-        pub may_store : sets_attrs_at w n.right.node ≡ Ok tt
-        may_store =
-            let seats = (given_ok EOPNOTSUPP _ _ old (sym at)).0 in
-            tree_sets w n.right.node n.header there (and_both (tree_by (info_at w n.right.node)) (not (is_server_root w n.right.node)) seats).0
+          then_old : (r : Result (Unit {0}) Errno) (y : World) → Planned w (seating w t n f words box old) tells r y → IsPlanned r y
+          then_old r y h = then_seat r y (planned-then w (seat_asks w f n) (seating w t n f words box) tells old r y (sym at) h)
 
-        -- without a box the words are stored, and the seat is emptied
-        pub set_emptied : (u : Unit {0}) (v y : World) → server ≡ None → v ≡ apply_all (storing f n.right.node words) w → y ≡ apply_all (emptying f n.right.node old) v → IsPlanned (Ok u) y
-        unfolding answered
-        set_emptied u v y none stores makes =
-            then_old (Ok u) y (subst (λ (b : Option Meaning). Planned w (seating w t n f words b old) tells (Ok u) y) (sym (ap (option_map mean) none))
-            (refl, makes ∙ ap (apply_all (emptying f n.right.node old)) stores ∙ sym (apply_all-append (storing f n.right.node words) (emptying f n.right.node old) w)))
+          -- words may be stored
+          pub may_store : sets_attrs_at w n.right.node ≡ Ok tt
+          may_store =
+              let seats = (given_ok EOPNOTSUPP _ _ old (sym at)).0 in
+              tree_sets w n.right.node n.header there (and_both (tree_by (info_at w n.right.node)) (not (is_server_root w n.right.node)) seats).0
 
-        abbrev seated_with : Meaning → List Name → Task → List Change
-        seated_with m targets x = storing f n.right.node words ++ attaching t (seat_on n.right.node n.header m (leaver f old) false) (server_ids n.header.owner) targets m x
+          -- without a box the words are stored, and the seat is emptied
+          pub set_emptied : (u : Unit {0}) (v y : World) → server ≡ None → v ≡ apply_all (storing f n.right.node words) w → y ≡ apply_all (emptying f n.right.node old) v → IsPlanned (Ok u) y
+          unfolding answered
+          set_emptied u v y none stores makes =
+              then_old (Ok u) y (subst (λ (b : Option Meaning). Planned w (seating w t n f words b old) tells (Ok u) y) (sym (ap (option_map mean) none))
+              (refl, makes ∙ ap (apply_all (emptying f n.right.node old)) stores ∙ sym (apply_all-append (storing f n.right.node words) (emptying f n.right.node old) w)))
 
-        module _ (s : S) (some : server ≡ Some s) where
-          abbrev m : Meaning
-          m = mean s
+          abbrev seated_with : Meaning → List Name → Task → List Change
+          seated_with m targets x = storing f n.right.node words ++ attaching t (seat_on n.right.node n.header m (leaver f old) false) (server_ids n.header.owner) targets m x
 
-          -- with a box
-          brought : (r : Result (Unit {0}) Errno) (y : World) → Planned w (seating w t n f words (Some m) old) tells r y → IsPlanned r y
-          brought r y h = then_old r y (subst (λ (b : Option Meaning). Planned w (seating w t n f words b old) tells r y) (sym (ap (option_map mean) some)) h)
+          module _ (s : S) (some : server ≡ Some s) where
+            abbrev m : Meaning
+            m = mean s
 
-          -- a box may come
-          box_may_come : IsOk (first (setter_asks w t p f true) (seat_asks w f))
-          unfolding first
-          box_may_come =
-              let asked : Ok n ≡ setter_asks w t p f true = is ∙ ap (setter_asks w t p f) (brings ∙ ap is_some some) in
-              subst (λ (r : Result Named Errno). IsOk (first r (seat_asks w f))) asked (subst (λ (r : Result (Option Name) Errno). IsOk r) at refl)
+            -- with a box
+            brought : (r : Result (Unit {0}) Errno) (y : World) → Planned w (seating w t n f words (Some m) old) tells r y → IsPlanned r y
+            brought r y h = then_old r y (subst (λ (b : Option Meaning). Planned w (seating w t n f words b old) tells r y) (sym (ap (option_map mean) some)) h)
 
-          -- its targets are not found
-          pub set_aimless : (e : Errno) → FindsAims {B = List Name} m (λ ns. ns) (aims_asks w (lent n.right.ids n.header.owner) m) (Err e) → IsPlanned (Err e) w
-          set_aimless e (inl refused) = brought (Err e) w (asked-refused w (box_aims w n (Some m)) (spec.seated w t n f words (Some m) old) tells e refused)
-          set_aimless e (inr lacks) = (refl, inr (lacks.0, inr (subst (λ (b : Option Meaning). SetLacks w t p f b) (sym (ap (option_map mean) some)) (lacks.1, box_may_come))))
+            -- a box may come
+            box_may_come : IsOk (first (setter_asks w t p f true) (seat_asks w f))
+            unfolding first
+            box_may_come =
+                let asked : Ok n ≡ setter_asks w t p f true = is ∙ ap (setter_asks w t p f) (brings ∙ ap is_some some) in
+                subst (λ (r : Result Named Errno). IsOk (first r (seat_asks w f))) asked (subst (λ (r : Result (Option Name) Errno). IsOk r) at refl)
 
-          -- they are: the words are stored, and it is taken
-          pub set_seated : (targets : List Name) → aims_asks w (lent n.right.ids n.header.owner) m ≡ Ok targets → (r : Result (Unit {0}) Errno) (y : World)
-              → Does w (naming_asks w t 2) (seated_with m targets) (λ x. tt {0}) r y → IsPlanned r y
-          set_seated targets found r y does =
-              brought r y
-              (planned-then w (box_aims w n (Some m)) (spec.seated w t n f words (Some m) old) tells targets r y found
-              (does-planned w (naming_asks w t 2) (seated_with m targets) (λ x. tt {0}) (λ x. record { reply = Done; changes = seated_with m targets x }) tells r y (λ x. (refl, refl)) (λ x. refl) does))
+            -- its targets are not found
+            pub set_aimless : (e : Errno) → FindsAims {B = List Name} m (λ ns. ns) (aims_asks w (lent n.right.ids n.header.owner) m) (Err e) → IsPlanned (Err e) w
+            set_aimless e (inl refused) = brought (Err e) w (asked-refused w (box_aims w n (Some m)) (spec.seated w t n f words (Some m) old) tells e refused)
+            set_aimless e (inr lacks) = (refl, inr (lacks.0, inr (subst (λ (b : Option Meaning). SetLacks w t p f b) (sym (ap (option_map mean) some)) (lacks.1, box_may_come))))
+
+            -- they are: the words are stored, and it is taken
+            pub set_seated : (targets : List Name) → aims_asks w (lent n.right.ids n.header.owner) m ≡ Ok targets → (r : Result (Unit {0}) Errno) (y : World)
+                → Does w (naming_asks w t 2) (seated_with m targets) (λ x. tt {0}) r y → IsPlanned r y
+            set_seated targets found r y does =
+                brought r y
+                (planned-then w (box_aims w n (Some m)) (spec.seated w t n f words (Some m) old) tells targets r y found
+                (does-planned w (naming_asks w t 2) (seated_with m targets) (λ x. tt {0}) (λ x. record { reply = Done; changes = seated_with m targets x }) tells r y (λ x. (refl, refl)) (λ x. refl) does))

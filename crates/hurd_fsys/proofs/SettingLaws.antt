@@ -1,34 +1,30 @@
 -- The laws of setting a translator.
-use Rattle.std.proofs.Common.{◌≡◌, ◌≢◌, ◌∙◌, ◌||◌, ◌&&◌, ◌==◌, not, slice_get, ℕ, Bool, true, false, if◌then◌else◌, List, [], ◌∷◌, ◌++◌, Option, Some, None, refl, sym, ap, ap₂, subst, inl, inr}
+use Rattle.std.proofs.Common.{◌≡◌, ◌∙◌, ◌||◌, ◌&&◌, ◌==◌, not, slice_get, ℕ, Bool, true, false, if◌then◌else◌, List, [], ◌∷◌, ◌++◌, Option, Some, None, refl, sym, ap, ap₂, subst, inl, inr}
 use Rattle.std.specs.Prelude.{Ok, is_some}
-use Rattle.std.specs.FinMap.{get}
+use Rattle.hurd_nodes.specs.declared.seat.Site.{Site}
 use Rattle.hurd_creds.specs.declared.name.Name.{Name}
 use Rattle.hurd_creds.specs.NameMaps.{NameMap}
-use Rattle.hurd_creds.specs.declared.errno.Errno.TheVariants.{EBUSY, EINVAL, EOPNOTSUPP, EOVERFLOW, ESRCH}
-use Rattle.hurd_creds.specs.Access.{IdSets}
+use Rattle.hurd_creds.specs.declared.errno.Errno.TheVariants.{EBUSY, EINVAL, EOPNOTSUPP}
 use Rattle.hurd_creds.specs.TransBits.{asks_goaway, asks_trans, SET, ORPHAN, FORCE}
-use Rattle.hurd_trans_iface.specs.Nodes.{Node, Header, has_words}
+use Rattle.hurd_trans_iface.specs.Nodes.{has_words}
 use Rattle.hurd_trans_iface.specs.Meaning.{Meaning}
-use Rattle.hurd_creds.proofs.NameLaws.{same_name-apart}
 use Rattle.hurd_nodes.proofs.PartLaws.{and_both}
-use Rattle.hurd_nodes.specs.Held.{is_home}
-use Rattle.hurd_nodes.specs.Shown.{ServerInfo, boot_name, begun_info, begun_root, is_other, tree_by}
+use Rattle.hurd_nodes.specs.Held.{active_in}
+use Rattle.hurd_nodes.specs.Shown.{tree_by}
 use Rattle.hurd_ports.specs.declared.table.Right.TheVariants.{Io}
-use Rattle.hurd_ports.specs.Tables.{Task, fresh, can_name}
-use Rattle.hurd_ports.specs.Steps.{named}
+use Rattle.hurd_ports.specs.Tables.{can_name, Task}
 use Rattle.hurd_machine.specs.declared.call.Reply.TheVariants.{Done, Words}
-use Rattle.hurd_machine.specs.World.{World, IsAmong, task_at, header_at, home_at, active_at, info_at, is_server_root}
-use Rattle.hurd_machine.specs.Change.{Change, Attach, DropServer, Unseat, Settle, apply, apply_all}
+use Rattle.hurd_machine.specs.World.{World, IsAmong, active_at, info_at, is_server_root}
+use Rattle.hurd_machine.specs.Change.{Change, DropServer, Unseat, Settle, apply_all}
 use Rattle.hurd_machine.specs.Handle.{Named}
-use Rattle.hurd_machine.specs.Sight.{Part, AttrOf, EmptyOf, BodyOf, OptionsOf, UsersOf, TaskOf, Holds, UidOfRight, GidOfRight, Taken, Seen, BySeat, users}
+use Rattle.hurd_machine.specs.Sight.{Part, UsersOf, Holds, UidOfRight, GidOfRight, Taken, Seen, BySeat, users}
 use Rattle.hurd_machine.specs.Sound.{Coherent, Sound}
 use Rattle.hurd_machine.specs.Touched.{Goes}
-use Rattle.hurd_machine.proofs.Views.{Agree, Agree-refl, same_tasks, active_same}
-use Rattle.hurd_machine.proofs.Coherence.{Comes}
+use Rattle.hurd_machine.proofs.Views.{Agree, Agree-refl, active_same}
 use Rattle.hurd_machine.proofs.Frame.{Full}
 use Rattle.hurd_machine.proofs.Opens.{own_task, fresh_new, later_new}
-use Rattle.hurd_machine.proofs.Going.{AimsAtSeen, Begun, goes_piece, unseats_piece, comes_piece, comes_after}
-use Rattle.hurd_machine.proofs.Asks.{IsPlain, IsPlainReply, port_same, port_plain, info_same, is_root_same, first_ok, given_ok, on_ok, first_same, given_same, on_same, first_plain, given_plain, on_plain, ok_plain, answered_same, answered_plain, done_plain}
+use Rattle.hurd_machine.proofs.Going.{goes_piece, unseats_piece}
+use Rattle.hurd_machine.proofs.Asks.{IsPlainReply, port_same, port_plain, info_same, is_root_same, first_ok, given_ok, first_same, given_same, first_plain, given_plain, on_plain, ok_plain, answered_same, answered_plain, done_plain}
 use Rattle.hurd_machine.proofs.CallLaws.{CallLaws, answered_piece, answered_whole, looking_laws}
 use Rattle.hurd_core.specs.Core.{attaching, naming_asks}
 use Rattle.hurd_machine.specs.declared.call.Setting.{Setting}
@@ -39,66 +35,9 @@ use Rattle.hurd_fsys.proofs.OwnedLaws.{Owner, owner, owner_right, owner_sees, ow
 use Rattle.hurd_fsys.proofs.ControlLaws.{owner_holds}
 use Rattle.hurd_fsys.proofs.StoringLaws.{IsLike, aims_like, goes_like, storing_like, storing_exact, storing_whole}
 use Rattle.hurd_fsys.specs.Setting as spec
-use Rattle.hurd_fsys.proofs.AimsLaws.{Aims, aims_alike, aims_fit, aims_seen}
-use Rattle.hurd_fsys.proofs.BegunLaws as begun
-use Rattle.hurd_machine.proofs.Piece.{Stands, Whole, stands, whole_none, piece_then, whole_then, settled}
-
--- a server comes to a node, and another goes for it, which is active there
-
-module _ (w : World) (c : Coherent w) (t : ℕ) (n : Named) (there : (h : Header) × (header_at w n.right.node ≡ Some h)) (m : Meaning) (x : Task) (is : task_at w t ≡ Some x)
-    (targets : List Name) (aims : Aims w m targets) where
-  abbrev s : Name
-  s = fresh t x
-
-  abbrev root : Name
-  root = fresh t (named 1 x)
-
-  abbrev ids : IdSets
-  ids = server_ids n.header.owner
-
-  abbrev info : ServerInfo
-  info = begun_info m root ids targets
-
-  abbrev node : Node
-  node = begun_root m n.header.owner n.header.group (root_mode (root_kind m) n.header.mode)
-
-  newcomer : Comes w s n.right.node info node
-  newcomer = begun.newcomer w t n.right.node n.header there m x is targets aims
-
-  begins : Begun info node
-  begins = begun.begins w t n.right.node n.header there m x is targets aims
-
-  -- the changes, for a server that goes or none
-  abbrev comings : Option Name → List Change
-  comings old = attaching t (seat_on n.right.node n.header m old false) ids targets m x
-
-  -- what goes is active on the node
-  abbrev IsOld : Option Name → Type 0
-  IsOld old = (q : Name) → old ≡ Some q → active_at w n.right.node ≡ Some q
-
-  not_boot : (q : Name) → active_at w n.right.node ≡ Some q → q ≢ boot_name
-  not_boot q e = (c.seating.seated n.right.node q e).0
-
-  -- no server is active on a node of its own
-  other : (q : Name) → active_at w n.right.node ≡ Some q → is_other q w.homes n.right.node ≡ true
-  other q e = go (home_at w n.right.node) refl
-    where
-      go : (o : Option Name) → home_at w n.right.node ≡ o → is_other q w.homes n.right.node ≡ true
-      go None h = ap (λ z. not (is_home q z)) h
-      go (Some z) h = ap (λ z. not (is_home q z)) h ∙ ap not (same_name-apart q z (λ same. c.seating.elsewhere n.right.node q e (h ∙ ap Some (sym same))))
-
-  after : (q : Name) → active_at w n.right.node ≡ Some q → Comes (apply (DropServer q) w) s n.right.node info node
-  after q e = comes_after w q s n.right.node info node (other q e) newcomer
-
-  -- it writes what may be parts of a world like this one
-  pub comings_whole : {T : Part → Type 0} {v : World} → Stands w → T (TaskOf t) → T (AttrOf root) → T (EmptyOf root) → T (BodyOf root) → T (OptionsOf s) → T (AttrOf n.right.node)
-      → (old : Option Name) → IsOld old → ((q : Name) → old ≡ Some q → (p : Part) → Goes w q p → T p) → AimsAtSeen t v info → Whole t T v w (comings old)
-  comings_whole st task attr empty body options seat None is_old parts aims =
-      settled (Attach s n.right.node info node ∷ []) (tt, tt) (begins.unread, λ one. tt) st (comes_piece st s n.right.node info node newcomer begins task attr empty body seat options aims)
-  comings_whole st task attr empty body options seat (Some q) is_old parts aims =
-      let e = is_old q refl in
-      settled (DropServer q ∷ Attach s n.right.node info node ∷ []) (tt, (tt, tt)) (tt, λ one. (begins.unread, λ two. tt)) st (piece_then (DropServer q ∷ []) (Attach s n.right.node info node ∷ []) (tt, tt) st (goes_piece st q (not_boot q e) (parts q refl))
-      (λ d. comes_piece d s n.right.node info node (after q e) begins task attr empty body seat options aims))
+use Rattle.hurd_fsys.proofs.AimsLaws.{aims_alike, aims_fit, aims_seen}
+use Rattle.hurd_fsys.proofs.BegunLaws.{comings_whole, counted_task, naming_same, naming_plain}
+use Rattle.hurd_machine.proofs.Piece.{Whole, stands, whole_none, whole_then, settled}
 
 -- S has the ids of its right
 right_taken : (S : ℕ → Bool) (w : World) (n : Named) → Holds S w (Io n.right) → Taken S w n.right.ids
@@ -121,13 +60,6 @@ module _ (t p : ℕ) (f : Setting) where
       let h = given_ok EBUSY _ _ old g.1 in
       (g.0, cc (h.1))
 
-  namer : (w : World) (x : Task) → naming_asks w t 2 ≡ Ok x → task_at w t ≡ Some x
-  namer w x is =
-      let y = on_ok ESRCH (task_at w t) _ x is in
-      let r = given_ok EOVERFLOW (can_name 2 y.0) _ x y.2 in
-      let same : y.0 ≡ x = cc (r.1) in
-      y.1 ∙ ap Some same
-
   leaver_is : (old : Option Name) (q : Name) → leaver f old ≡ Some q → old ≡ Some q
   leaver_is old q = go (not (asks_trans f.active SET) || asks_trans f.active ORPHAN)
     where
@@ -136,9 +68,6 @@ module _ (t p : ℕ) (f : Setting) where
       go false e = e
 
   -- in worlds that agree
-
-  setter_same : {S : ℕ → Bool} {v w : World} → Agree S v w → S t ≡ true → (b : Bool) → setter_asks w t p f b ≡ setter_asks v t p f b
-  setter_same a ours b = first_same _ _ _ _ (owned_same t p a ours) (λ n is. refl)
 
   module _ {S : ℕ → Bool} {v w : World} (c : Coherent v) (a : Agree S v w) (ours : S t ≡ true) (n : Named) (k : Owner t p v n) where
     held : Holds S v (Io n.right)
@@ -165,20 +94,6 @@ module _ (t p : ℕ) (f : Setting) where
         given_same _ _ _ _ _ (ap₂ (λ i b. tree_by i && not b) (info_same a n.right.node seen) (is_root_same a n.right.node seen)) (λ e.
         given_same _ _ _ _ _ set_same (λ e. ap Ok (active_same a n.right.node seen)))
 
-  naming_same : {S : ℕ → Bool} {v w : World} → Agree S v w → S t ≡ true → naming_asks w t 2 ≡ naming_asks v t 2
-  naming_same a ours = on_same _ _ _ _ _ (same_tasks a t ours) (λ x k. refl)
-
-  -- of memory nothing is known
-
-  setter_plain : (w : World) (b : Bool) → IsPlain (setter_asks w t p f b)
-  setter_plain w b = first_plain _ _ (owned_plain t p w) (λ n is. given_plain _ _ _ refl (λ h. ok_plain _))
-
-  seat_plain : (w : World) (n : Named) → IsPlain (seat_asks w f n)
-  seat_plain w n = given_plain _ _ _ refl (λ e. given_plain _ _ _ refl (λ h. ok_plain _))
-
-  naming_plain : (w : World) → IsPlain (naming_asks w t 2)
-  naming_plain w = on_plain _ _ _ refl (λ x k. given_plain _ _ _ refl (λ room. ok_plain _))
-
   module _ (words : List (List ℕ)) (box : Option Meaning) where
     abbrev sets : Bool
     sets = asks_trans f.passive SET
@@ -189,9 +104,6 @@ module _ (t p : ℕ) (f : Setting) where
 
     like : (w : World) (n : Named) → Owner t p w n → IsLike w (stored n.right.node w) n.right.node
     like w n k = storing_like n.right.node words sets w n.header k.is_named.is_header
-
-    abbrev comings_of : Named → Meaning → Option Name → List Name → Task → List Change
-    comings_of n m old targets x = attaching t (seat_on n.right.node n.header m old false) (server_ids n.header.owner) targets m x
 
     module _ (w : World) (s : Sound w) (n : Named) (k : Owner t p w n) (seats : may_seat w n.right.node ≡ true) (old : Option Name) (e : active_at w n.right.node ≡ old) where
       abbrev v : World
@@ -224,20 +136,19 @@ module _ (t p : ℕ) (f : Setting) where
           by_seat x (Some q) is = by_flags x q is (not (asks_trans f.active SET)) (asks_trans f.active ORPHAN) refl refl
 
       -- the targets of a box that are found, a task of S saw
-      targets_seen : (S : ℕ → Bool) → S t ≡ true → (o : Option Meaning) (targets : List Name) → box_aims w n o ≡ Ok targets → (q : Name) → IsAmong q targets → Seen S w q
-      targets_seen S ours None targets is q among = absurd (let none : [] ≡ targets = cc in subst (IsAmong q) (sym none) among)
-      targets_seen S ours (Some m) targets is q among = aims_seen S w n.right.ids (right_taken S w n (owner_right t p ours n k)) n.header.owner m targets is q among
+      targets_seen : (S : ℕ → Bool) → S t ≡ true → (m : Meaning) (targets : List Name) → box_aims w n (Some m) ≡ Ok targets → (q : Name) → IsAmong q targets → Seen S w q
+      targets_seen S ours m targets is q among = aims_seen S w n.right.ids (right_taken S w n (owner_right t p ours n k)) n.header.owner m targets is q among
 
       box_whole : (o : Option Meaning) (targets : List Name) → box_aims w n o ≡ Ok targets → Whole t Written w w (spec.seated w t n f words o old targets).changes
       box_whole None targets found = emptied_whole
       box_whole (Some m) targets found = answered_whole s (naming_asks w t 2) _ (λ x at.
-          let is = namer w x at in
+          let is = counted_task w t (can_name 2) x at in
           let later = later_new w t 1 x is in
           let tasks = (like w n k).tasks in
-          let aims = aims_like w v n.right.node (like w n k) m targets (aims_fit w (stands s) (lent n.right.ids n.header.owner) m targets found (targets_seen (λ u. true) refl (Some m) targets found)) in
-          with_words (comings_of n m (leaver f old) targets x) (λ y.
-          comings_whole v y.coherent t n (like w n k).there m x (ap (λ (ts : List Task). slice_get ts t) tasks ∙ is) targets aims (stands y) (own_task w t (seat_parts w f n.right.node old)) (inr (inr later)) (inr (inr later))
-          (inr (inr later)) (inr (inr (fresh_new w t x is))) (inl (inl refl)) (leaver f old) (λ q is. ap (λ (m : NameMap Name). get m n.right.node) (like w n k).actives ∙ (e ∙ leaver_is old q is)) left_here (λ S ours q among. inl (targets_seen S ours (Some m) targets found q among))))
+          let aims = aims_like w v n.right.node (like w n k) m targets (aims_fit w (stands s) (lent n.right.ids n.header.owner) m targets found (targets_seen (λ u. true) refl m targets found)) in
+          with_words (attaching t (seat_on n.right.node n.header m (leaver f old) false) (server_ids n.header.owner) targets m x) (λ y.
+          comings_whole v t n.right.node n.header (like w n k).there m x (ap (λ (ts : List Task). slice_get ts t) tasks ∙ is) targets aims (stands y) (own_task w t (seat_parts w f n.right.node old)) (inr (inr later)) (inr (inr later))
+          (inr (inr later)) (inr (inr (fresh_new w t x is))) (inl (inl refl)) (leaver f old) (λ q is. ap (λ (rs : NameMap Site). active_in rs n.right.node) (like w n k).sites ∙ (e ∙ leaver_is old q is)) left_here (λ S ours q among. inl (targets_seen S ours m targets found q among))))
 
     half_whole : (w : World) → Sound w → (n : Named) → Owner t p w n → (b : Bool) → Whole t (Full w t (parts_where b w f box n)) w w (setting_where b w t f words box n).changes
     half_whole w s n k true = whole_none s
@@ -251,23 +162,23 @@ module _ (t p : ℕ) (f : Setting) where
         of_box : (o : Option Meaning) (old : Option Name) → seating w t n f words o old ≡ seating v t n f words o old
         of_box None old = answered_same _ _ _ _ refl (λ targets found. refl)
         of_box (Some m) old =
-            answered_same _ _ _ _ (aims_alike a n.right.ids (right_taken S v n (owner_right t p ours n k)) n.header.owner m).same (λ targets found. answered_same _ _ _ _ (naming_same a ours) (λ x at. refl))
+            answered_same _ _ _ _ (aims_alike a n.right.ids (right_taken S v n (owner_right t p ours n k)) n.header.owner m).same (λ targets found. answered_same _ _ _ _ (naming_same a t ours) (λ x at. refl))
 
     half_plain : (w : World) (n : Named) → Owner t p w n → (b : Bool) → IsPlainReply (setting_where b w t f words box n).reply
     half_plain w n k true = done_plain Done refl
-    half_plain w n k false = answered_plain _ _ (seat_plain w n) (λ old is. of_box box old)
+    half_plain w n k false = answered_plain _ _ (given_plain _ _ _ refl (λ e. given_plain _ _ _ refl (λ h. ok_plain _))) (λ old is. of_box box old)
       where
         of_box : (o : Option Meaning) (old : Option Name) → IsPlainReply (seating w t n f words o old).reply
         of_box None old = answered_plain _ _ (ok_plain _) (λ targets found. done_plain Done refl)
         of_box (Some m) old =
             answered_plain _ _ (aims_alike (Agree-refl (λ u. true) w) n.right.ids (right_taken (λ u. true) w n (owner_right t p refl n k)) n.header.owner m).plain
-            (λ targets found. answered_plain _ _ (naming_plain w) (λ x at. done_plain Done refl))
+            (λ targets found. answered_plain _ _ (naming_plain w t) (λ x at. done_plain Done refl))
 
     pub set_translator_laws : CallLaws t (λ w. plan_set_translator w t p f words box) (λ w. touches_set_translator w t p f box)
     set_translator_laws = record {
       piece = λ w s. answered_piece s (setter_asks w t p f (is_some box)) _ _ (λ n is. half_whole w s n (setter w (is_some box) n is) (sets_nothing f));
-      same = λ S v w c d a ours. answered_same _ _ _ _ (setter_same a ours (is_some box)) (λ n is. half_same c a ours n (setter v (is_some box) n is) (sets_nothing f));
-      plain = λ w. answered_plain _ _ (setter_plain w (is_some box)) (λ n is. half_plain w n (setter w (is_some box) n is) (sets_nothing f));
+      same = λ S v w c d a ours. answered_same _ _ _ _ (first_same _ _ _ _ (owned_same t p a ours) (λ n is. refl)) (λ n is. half_same c a ours n (setter v (is_some box) n is) (sets_nothing f));
+      plain = λ w. answered_plain _ _ (first_plain _ _ (owned_plain t p w) (λ n is. given_plain _ _ _ refl (λ h. ok_plain _))) (λ n is. half_plain w n (setter w (is_some box) n is) (sets_nothing f));
     }
 
 -- file_get_translator: what it asks is the same in worlds that agree, whose header the caller sees

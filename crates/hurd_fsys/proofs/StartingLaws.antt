@@ -3,11 +3,11 @@ use Rattle.std.proofs.Common.{◌≡◌, ◌∙◌, ℕ, Bool, true, List, ◌++
 use Rattle.std.specs.Prelude.{Result, Ok, Err}
 use Rattle.hurd_creds.specs.declared.name.Name.{Name}
 use Rattle.hurd_creds.specs.declared.errno.Errno.{Errno}
-use Rattle.hurd_creds.specs.declared.errno.Errno.TheVariants.{EBUSY, EDIED, EOVERFLOW, ESRCH}
+use Rattle.hurd_creds.specs.declared.errno.Errno.TheVariants.{EBUSY, EDIED, ESRCH}
 use Rattle.hurd_trans_iface.specs.Meaning.{Meaning}
 use Rattle.hurd_ports.specs.declared.table.PendingStart.{PendingStart}
 use Rattle.hurd_ports.specs.declared.table.Right.TheVariants.{Start}
-use Rattle.hurd_ports.specs.Tables.{Task, can_name, fresh, pending_at, pending_of, start_of}
+use Rattle.hurd_ports.specs.Tables.{can_name, Task, fresh, pending_at, pending_of, start_of}
 use Rattle.hurd_machine.specs.declared.call.Reply.TheVariants.{Done}
 use Rattle.hurd_machine.specs.World.{World, IsAmong, ports_of, task_at, header_at, active_at}
 use Rattle.hurd_machine.specs.Sight.{Part, AttrOf, Seen, Pending, Taken, UidOfTask, GidOfTask}
@@ -23,7 +23,7 @@ use Rattle.hurd_core.specs.Core.{naming_asks}
 use Rattle.hurd_fsys.specs.Aims.{lent}
 use Rattle.hurd_fsys.specs.Starting.{Startup, pending_asks, plan_start_failed, plan_startup, same_words, start_aims, started, startup_asks, touches_start_failed, touches_startup, waiting_asks}
 use Rattle.hurd_fsys.proofs.AimsLaws.{Aims, aims_alike, aims_fit, aims_seen}
-use Rattle.hurd_fsys.proofs.BegunLaws.{newcomer, begins}
+use Rattle.hurd_fsys.proofs.BegunLaws.{newcomer, begins, counted_task, naming_same, naming_plain}
 use Rattle.hurd_machine.proofs.Piece.{Whole, stands}
 
 -- what is asked first
@@ -77,24 +77,21 @@ task_taken S w t x ours at = record { uids = λ u h. UidOfTask t ours x at h; gi
 
 module _ (t : ℕ) (m : Meaning) where
   -- where it starts, the node is there, and so is the task
-  record Startable (w : World) (s : PendingStart) (a : Startup) : Type 0 where
-    there : header_at w s.node ≡ Some a.header
-    is_task : task_at w t ≡ Some a.task
-    aims : start_aims w t m a.header.owner ≡ Ok a.targets
+  pub record Startable (w : World) (s : PendingStart) (a : Startup) : Type 0 where
+    pub there : header_at w s.node ≡ Some a.header
+    pub named : naming_asks w t 2 ≡ Ok a.task
+    pub aims : start_aims w t m a.header.owner ≡ Ok a.targets
 
-  startable : (w : World) (s : PendingStart) (a : Startup) → startup_asks w t m s ≡ Ok a → Startable w s a
+  pub startable : (w : World) (s : PendingStart) (a : Startup) → startup_asks w t m s ≡ Ok a → Startable w s a
   startable w s a is =
       let h = first_ok (waiting_asks w s) _ a is in
       let ns = first_ok (start_aims w t m h.0.owner) _ a h.2 in
       let x = first_ok (naming_asks w t 2) _ a ns.2 in
       let k = on_ok EDIED (header_at w s.node) _ h.0 h.1 in
       let b = given_ok EBUSY (not (is_some (active_at w s.node)) && same_words k.0.passive s.words) _ h.0 k.2 in
-      let y = on_ok ESRCH (task_at w t) _ x.0 x.1 in
-      let z = given_ok EOVERFLOW (can_name 2 y.0) _ x.0 y.2 in
       let header : k.0 ≡ h.0 = cc (b.1) in
-      let task : y.0 ≡ x.0 = cc (z.1) in
       let same : ◌≡◌ {A = Startup} (record { header = h.0; targets = ns.0; task = x.0 }) a = cc (x.2) in
-      subst (Startable w s) same (record { there = k.1 ∙ ap Some header; is_task = y.1 ∙ ap Some task; aims = ns.1 })
+      subst (Startable w s) same (record { there = k.1 ∙ ap Some header; named = x.1; aims = ns.1 })
 
   -- the targets that are found, a task of S saw
   targets_seen : {S : ℕ → Bool} {w : World} (ours : S t ≡ true) (x : Task) → task_at w t ≡ Some x → (owner : ℕ) (ns : List Name) → start_aims w t m owner ≡ Ok ns → (n : Name) → IsAmong n ns → Seen S w n
@@ -117,11 +114,12 @@ module _ (t : ℕ) (m : Meaning) where
       go (Err e) is = pends_whole (stands st) t None k.seat k.is_task (own_task w t (parts s (Err e))) tt (λ S ours. tt)
       go (Ok a) is =
           let b = startable w s a is in
-          let later = later_new w t 1 a.task b.is_task in
-          let aims = targets_fit st a.header.owner a.targets b.aims (targets_seen {S = λ u. true} refl a.task b.is_task a.header.owner a.targets b.aims) in
-          starts_whole (stands st) (fresh t a.task) s.node _ _ (newcomer w t s.node a.header (a.header, b.there) m a.task b.is_task a.targets aims) (begins w t s.node a.header (a.header, b.there) m a.task b.is_task a.targets aims)
-          (own_task w t (parts s (Ok a))) (inr (inr later)) (inr (inr later)) (inr (inr later)) (inl refl) (inr (inr (fresh_new w t a.task b.is_task)))
-          (λ S ours q among. inl (targets_seen ours a.task b.is_task a.header.owner a.targets b.aims q among))
+          let at = counted_task w t (can_name 2) a.task b.named in
+          let later = later_new w t 1 a.task at in
+          let aims = targets_fit st a.header.owner a.targets b.aims (targets_seen {S = λ u. true} refl a.task at a.header.owner a.targets b.aims) in
+          starts_whole (stands st) (fresh t a.task) s.node _ _ (newcomer w t s.node a.header (a.header, b.there) m a.task at a.targets aims) (begins w t s.node a.header (a.header, b.there) m a.task at a.targets aims)
+          (own_task w t (parts s (Ok a))) (inr (inr later)) (inr (inr later)) (inr (inr later)) (inl refl) (inr (inr (fresh_new w t a.task at)))
+          (λ S ours q among. inl (targets_seen ours a.task at a.header.owner a.targets b.aims q among))
 
   -- in worlds that agree
   startup_same : {S : ℕ → Bool} {v w : World} → Agree S v w → S t ≡ true → (s : PendingStart) → Starter t v s → startup_asks w t m s ≡ startup_asks v t m s
@@ -130,14 +128,14 @@ module _ (t : ℕ) (m : Meaning) where
       first_same _ _ _ _
       (on_same _ _ _ _ _ (header_same a s.node seen) (λ h at. given_same _ _ _ _ _ (ap (λ o. not (is_some o) && same_words h.passive s.words) (active_same a s.node seen)) (λ e. refl)))
       (λ h is. first_same _ _ _ _ (on_same _ _ _ _ _ (same_tasks a t ours) (λ x at. (aims_alike a x.ids (task_taken S v t x ours at) h.owner m).same)) (λ ns aims.
-      first_same _ _ _ _ (on_same _ _ _ _ _ (same_tasks a t ours) (λ x at. refl)) (λ x at. refl)))
+      first_same _ _ _ _ (naming_same a t ours) (λ x at. refl)))
 
   -- of memory nothing is known
   pub startup_plain : (w : World) (s : PendingStart) → IsPlain (startup_asks w t m s)
   startup_plain w s =
       first_plain _ _ (on_plain _ _ _ refl (λ h at. given_plain _ _ _ refl (λ e. ok_plain _)))
       (λ h is. first_plain _ _ (on_plain _ _ _ refl (λ x at. (aims_alike (Agree-refl (λ u. true) w) x.ids (task_taken (λ u. true) w t x refl at) h.owner m).plain)) (λ ns aims.
-      first_plain _ _ (on_plain _ _ _ refl (λ x at. given_plain _ _ _ refl (λ room. ok_plain _))) (λ x at. ok_plain _)))
+      first_plain _ _ (naming_plain w t) (λ x at. ok_plain _)))
 
   started_plain : (w : World) (s : PendingStart) → IsPlainReply (started t s m (startup_asks w t m s)).reply
   started_plain w s = go (startup_asks w t m s) refl

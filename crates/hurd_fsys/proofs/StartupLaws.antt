@@ -16,14 +16,13 @@ use Rattle.hurd_machine.specs.declared.call.Reply.TheVariants.{Done, Refused}
 use Rattle.hurd_machine.specs.World.{World, nodes_of, ports_of}
 use Rattle.hurd_machine.specs.Change.{Change, apply_all, pending}
 use Rattle.hurd_machine.specs.Plan.{Plan, Follows, answered, first, on}
-use Rattle.hurd_machine.proofs.Asks.{first_ok}
 use Rattle.hurd_core.specs.Core.{Does, attaching, naming_asks}
 use Rattle.hurd_core.proofs.CoreLaws.{naming-had, naming-refused}
 use Rattle.hurd_core.proofs.PlanLaws.{follows-from, follows-refused, follows-then}
 use Rattle.hurd_fsys.specs.Aims.{TriedOr, server_ids}
 use Rattle.hurd_fsys.specs.Setting.{seat_on}
 use Rattle.hurd_fsys.specs.Starting.{StartFinds, StartLacks, Startup, pending_asks, plan_start_failed, plan_startup, start_aims, started, startup_asks, waiting_asks}
-use Rattle.hurd_fsys.proofs.StartingLaws.{Starter, starter, startup_plain}
+use Rattle.hurd_fsys.proofs.StartingLaws.{Starter, starter, startable, startup_plain}
 
 -- whether something is lent, and what
 
@@ -50,40 +49,23 @@ ids_had f (Some x) ids is = let same : ids ≡ x.ids = cc in ap f same
 -- of a start that waits, targets that are found, and names that are left, to what is asked
 
 module _ (w : World) (t : ℕ) (m : Meaning) (s : PendingStart) where
-  abbrev Asked : Type 0
-  Asked = Result Startup Errno
-
-  abbrev then_named : Header → List Name → Result Task Errno → Asked
-  then_named h ns r = first r (λ x. Ok (record { header = h; targets = ns; task = x }))
-
-  abbrev then_aimed : Header → Result (List Name) Errno → Asked
-  then_aimed h r = first r (λ ns. then_named h ns (naming_asks w t 2))
-
   pub waits_not : (e : Errno) → Err e ≡ waiting_asks w s → startup_asks w t m s ≡ Err e
   unfolding first
-  waits_not e is = ap (λ (r : Result Header Errno). first r (λ h. then_aimed h (start_aims w t m h.owner))) (sym is)
+  waits_not e is = rw (← is) refl
 
   module _ (h : Header) (is : Ok h ≡ waiting_asks w s) where
-    waits : startup_asks w t m s ≡ then_aimed h (start_aims w t m h.owner)
-    unfolding first
-    waits = ap (λ (r : Result Header Errno). first r (λ h. then_aimed h (start_aims w t m h.owner))) (sym is)
-
     pub aims_not : (e : Errno) → start_aims w t m h.owner ≡ Err e → startup_asks w t m s ≡ Err e
     unfolding first
-    aims_not e none = waits ∙ ap (then_aimed h) none
+    aims_not e none = rw (← is, none) refl
 
     module _ (ns : List Name) (found : start_aims w t m h.owner ≡ Ok ns) where
-      aimed : startup_asks w t m s ≡ then_named h ns (naming_asks w t 2)
-      unfolding first
-      aimed = waits ∙ ap (then_aimed h) found
-
       pub waits_full : (e : Errno) → Err e ≡ naming_of (ports_of w) t 2 → startup_asks w t m s ≡ Err e
       unfolding first
-      waits_full e full = aimed ∙ ap (then_named h ns) (naming-refused (nodes_of w) (ports_of w) t 2 e (sym full))
+      waits_full e full = let none = naming-refused (nodes_of w) (ports_of w) t 2 e (sym full) in rw (← is, found, none) refl
 
       pub waits_free : (u : Unit {0}) → Ok u ≡ naming_of (ports_of w) t 2 → (x : Task) × (startup_asks w t m s ≡ Ok (record { header = h; targets = ns; task = x }))
       unfolding first
-      waits_free u free = let x = naming-had (nodes_of w) (ports_of w) t 2 u (sym free) in (x.0, aimed ∙ ap (then_named h ns) x.3)
+      waits_free u free = let x = naming-had (nodes_of w) (ports_of w) t 2 u (sym free) in (x.0, rw (← is, found, x.3) refl)
 
 module _ (w : World) (t : ℕ) where
   -- it is to start nothing
@@ -148,12 +130,7 @@ module _ (w : World) (t : ℕ) where
         comes = attaching t (seat_on s.node a.header m None true) (server_ids a.header.owner) a.targets m
 
         naming : naming_asks w t 2 ≡ Ok a.task
-        naming =
-            let f = first_ok (waiting_asks w s) _ a asks in
-            let ns = first_ok (start_aims w t m f.0.owner) _ a f.2 in
-            let x = first_ok (naming_asks w t 2) _ a ns.2 in
-            let same : ◌≡◌ {A = Startup} (record { header = f.0; targets = ns.0; task = x.0 }) a = cc (x.2) in
-            x.1 ∙ ap (λ (z : Startup). let r : Result Task Errno = Ok z.task in r) same
+        naming = (startable t m w s a asks).named
 
         does_planned : (r : Result (Unit {0}) Errno) (y : World) (u : Unit {0}) → Does w (naming_asks w t 2) comes (λ x. u) r y → TriedOr (StartLacks w t m) w (started t s m (Ok a)) tells r y
         does_planned (Ok v) y u d =

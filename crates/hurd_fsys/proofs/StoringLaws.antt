@@ -1,16 +1,18 @@
 -- The words of a passive translator stored with a node, or not: a piece of a call, the world that it leaves, and that the old words make it what it was.
 use Rattle.std.proofs.Common.{◌≡◌, ◌≢◌, ◌⊎◌, ◌∙◌, ℕ, Bool, true, false, if◌then◌else◌, List, [], ◌∷◌, Option, Some, None, refl, sym, ap, ap₂, subst, inl, inr}
-use Rattle.std.specs.Prelude.{Result, Ok, Err, is_some}
+use Rattle.std.specs.Prelude.{Ok, Err, is_some}
 use Rattle.std.specs.Option.{option_map}
 use Rattle.std.specs.FinMap.{get}
+use Rattle.hurd_nodes.specs.declared.seat.Site.{Site}
+use Rattle.hurd_nodes.specs.Held.{home_in, active_in}
 use Rattle.hurd_creds.specs.declared.name.Name.{Name}
 use Rattle.hurd_creds.specs.declared.errno.Errno.{Errno}
 use Rattle.hurd_creds.specs.declared.errno.Errno.TheVariants.{EINVAL}
 use Rattle.hurd_creds.specs.NameMaps.{NameMap, edit}
 use Rattle.hurd_creds.proofs.NameLaws.{same_map_by, same_or_apart, edit_here, edit_apart}
 use Rattle.hurd_trans_iface.specs.Nodes.{Header, Node, NodeMap, has_words, passive_of, some_words, with_header, with_passive}
-use Rattle.hurd_trans_iface.specs.Meaning.{Meaning}
-use Rattle.hurd_nodes.specs.Shown.{ServerInfo, info_in, set_attrs_by, tree_by}
+use Rattle.hurd_trans_iface.specs.Meaning.{Meaning, keeps_tree}
+use Rattle.hurd_nodes.specs.Shown.{ServerInfo, info_in, edit_by, tree_by}
 use Rattle.hurd_ports.specs.Tables.{Task}
 use Rattle.hurd_machine.specs.World.{World, header_at, info_at, node_at, sets_attrs_at, words_at, words_in, nodes_of, shape_by}
 use Rattle.hurd_machine.specs.Change.{Change, EditHeader, apply_all}
@@ -32,9 +34,8 @@ use Rattle.hurd_machine.proofs.Permits.{AllExact}
 
 -- a world like another, but for the headers of its nodes; this node is there
 pub record IsLike (w v : World) (n : Name) : Type 0 where
-  pub homes : v.homes ≡ w.homes
+  pub sites : v.sites ≡ w.sites
   pub servers : v.servers ≡ w.servers
-  pub actives : v.actives ≡ w.actives
   pub tasks : v.tasks ≡ w.tasks
   pub there : (h : Header) × (header_at v n ≡ Some h)
   -- each is of the kind that it was of
@@ -42,10 +43,10 @@ pub record IsLike (w v : World) (n : Name) : Type 0 where
 
 -- the same goes with a server
 pub goes_like : (w v : World) (n : Name) → IsLike w v n → (q : Name) (p : Part) → Goes v q p → Goes w q p
-goes_like w v n k q (AttrOf m) (inl e) = inl (ap (λ (h : NameMap Name). get h m) (sym k.homes) ∙ e)
-goes_like w v n k q (AttrOf m) (inr e) = inr (ap (λ (h : NameMap Name). get h m) (sym k.actives) ∙ e)
-goes_like w v n k q (EmptyOf m) e = ap (λ (h : NameMap Name). get h m) (sym k.homes) ∙ e
-goes_like w v n k q (BodyOf m) e = ap (λ (h : NameMap Name). get h m) (sym k.homes) ∙ e
+goes_like w v n k q (AttrOf m) (inl e) = inl (ap (λ (rs : NameMap Site). home_in rs m) (sym k.sites) ∙ e)
+goes_like w v n k q (AttrOf m) (inr e) = inr (ap (λ (rs : NameMap Site). active_in rs m) (sym k.sites) ∙ e)
+goes_like w v n k q (EmptyOf m) e = ap (λ (rs : NameMap Site). home_in rs m) (sym k.sites) ∙ e
+goes_like w v n k q (BodyOf m) e = ap (λ (rs : NameMap Site). home_in rs m) (sym k.sites) ∙ e
 goes_like w v n k q (OptionsOf s) e = e
 goes_like w v n k q (UsersOf s) e = e
 goes_like w v n k q _ e = absurd e
@@ -56,7 +57,7 @@ aims_like w v n k m ns a = record {
   named = λ q among.
       let l = a.named q among in (
         subst (λ (ts : List Task). Below (record v { tasks = ts }) q) (sym k.tasks) l.0,
-        be_same (nodes_of v) (nodes_of w) q (ap₂ (λ (hs : NameMap Name) (ss : NameMap ServerInfo). shape_by (info_in ss (get hs q))) k.homes k.servers) l.1,
+        be_same (nodes_of v) (nodes_of w) q (ap₂ (λ (rs : NameMap Site) (ss : NameMap ServerInfo). shape_by (info_in ss (home_in rs q))) k.sites k.servers) l.1,
       );
   count = a.count;
   dirs = λ union q h among e. let z = k.kinds q h e in z.2 ∙ a.dirs union q z.0 among z.1;
@@ -68,9 +69,8 @@ module _ (n : Name) (words : List (List ℕ)) where
 
   pub storing_like : (b : Bool) (w : World) (h : Header) → header_at w n ≡ Some h → IsLike w (apply_all (storing_if b) w) n
   storing_like true w h at = record {
-    homes = refl;
+    sites = refl;
     servers = refl;
-    actives = refl;
     tasks = refl;
     kinds = λ m k e.
         let x = node_of_header (get (edit n (with_header (with_passive words)) w.nodes) m) k e in
@@ -80,7 +80,7 @@ module _ (n : Name) (words : List (List ℕ)) where
         ];
     there = (with_passive words h, edit_reads header_in (option_map (with_passive words)) (with_header (with_passive words)) (header-with_header (with_passive words)) w.nodes n ∙ ap (option_map (with_passive words)) at);
   }
-  storing_like false w h at = record { homes = refl; servers = refl; actives = refl; tasks = refl; there = (h, at); kinds = λ m k e. (k, e, refl) }
+  storing_like false w h at = record { sites = refl; servers = refl; tasks = refl; there = (h, at); kinds = λ m k e. (k, e, refl) }
 
   -- a task has as many names left
   pub storing_names : (b : Bool) (w : World) (t k : ℕ) → naming_asks (apply_all (storing_if b) w) t k ≡ naming_asks w t k
@@ -102,9 +102,9 @@ module _ (n : Name) (words : List (List ℕ)) where
 
   -- whether attributes may be set stays
   pub storing_sets : (b : Bool) (w : World) (m : Name) → sets_attrs_at (apply_all (storing_if b) w) m ≡ sets_attrs_at w m
-  storing_sets true w m = edit_keeps (set_attrs_by (info_at w m)) (with_header (with_passive words)) (still (info_at w m)) w.nodes n m
+  storing_sets true w m = edit_keeps (edit_by keeps_tree (info_at w m)) (with_header (with_passive words)) (still (info_at w m)) w.nodes n m
     where
-      still : (i : Option ServerInfo) (o : Option Node) → set_attrs_by i (option_map (with_header (with_passive words)) o) ≡ set_attrs_by i o
+      still : (i : Option ServerInfo) (o : Option Node) → edit_by keeps_tree i (option_map (with_header (with_passive words)) o) ≡ edit_by keeps_tree i o
       still None o = refl
       still (Some i) None = refl
       still (Some i) (Some x) = refl
@@ -133,18 +133,13 @@ module _ (n : Name) (words : List (List ℕ)) where
 pub tree_sets : (w : World) (n : Name) (h : Header) → header_at w n ≡ Some h → tree_by (info_at w n) ≡ true → sets_attrs_at w n ≡ Ok tt
 tree_sets w n h at tree = go (info_at w n) (get w.nodes n) tree at
   where
-    go : (i : Option ServerInfo) (o : Option Node) → tree_by i ≡ true → header_in o ≡ Some h → set_attrs_by i o ≡ Ok tt
-    go None o t e = absurd (cc)
-    go (Some i) None t e = absurd (cc)
+    go : (i : Option ServerInfo) (o : Option Node) → tree_by i ≡ true → header_in o ≡ Some h → edit_by keeps_tree i o ≡ Ok tt
     go (Some i) (Some x) t e = rw t refl
+    go _ _ t e = absurd (cc)
 
 -- whether a node that is there has words stored, as the core tells it
 pub words_told : (w : World) (n : Name) (h : Header) → header_at w n ≡ Some h → passive_of (node_at w n) ≡ some_words h.passive
-words_told w n h at = go (get w.nodes n) at
-  where
-    go : (o : Option Node) → header_in o ≡ Some h → passive_of o ≡ some_words h.passive
-    go None e = absurd (cc)
-    go (Some x) e = let same : x.header ≡ h = cc in ap (λ (k : Header). some_words k.passive) same
+words_told w n h at = let x = node_of_header (get w.nodes n) h at in ap passive_of x.1 ∙ ap (λ (k : Header). some_words k.passive) x.2
 
 pub some_has : (words : List (List ℕ)) → is_some (some_words words) ≡ has_words words
 some_has [] = refl
@@ -155,17 +150,12 @@ some_has (w ∷ ws) = refl
 module _ (w : World) (t p : ℕ) where
   pub stored_refused : (e : Errno) → port_asks w t p ≡ Err e → stored_asks w t p ≡ Err e
   unfolding first
-  stored_refused e is = ap (λ (r : Result Named Errno). first r (λ n. on EINVAL (some_words n.header.passive) (λ words. Ok words))) is
+  stored_refused e is = rw is refl
 
   module _ (n : Named) (is : port_asks w t p ≡ Ok n) where
-    told : passive_of (node_at w n.right.node) ≡ some_words n.header.passive
-    told = words_told w n.right.node n.header (is_named w t p n is).is_header
-
     asks_words : (o : Option (List (List ℕ))) → passive_of (node_at w n.right.node) ≡ o → stored_asks w t p ≡ on EINVAL o (λ words. Ok words)
     unfolding first
-    asks_words o e =
-        ap (λ (r : Result Named Errno). first r (λ n. on EINVAL (some_words n.header.passive) (λ words. Ok words))) is
-        ∙ ap (λ (o : Option (List (List ℕ))). on EINVAL o (λ words. Ok words)) (sym told ∙ e)
+    asks_words o e = let told = words_told w n.right.node n.header (is_named w t p n is).is_header in rw (is, ← told, e) refl
 
     pub stored_none : passive_of (node_at w n.right.node) ≡ None → stored_asks w t p ≡ Err EINVAL
     unfolding on

@@ -20,7 +20,7 @@ use bitflags::Flags;
 use hurd_core::{Core, PortNode, ServerToMake};
 use hurd_creds::{Errno, GoawayFlags, Ids, Kind, Mode, NodeName, ServerName, TaskId, TransFlags};
 use hurd_machine::Setting;
-use hurd_trans_iface::{Server, Words};
+use hurd_trans_iface::{HeaderEdit, Server, Words};
 use std::alloc::Global;
 
 /// Whether neither half is to be set.
@@ -200,7 +200,7 @@ fn store<S: Server>(core: &mut Core<S>, node: NodeName, setting: Setting, words:
     ensures { world_of S.meaning core.new ≡ apply_all (storing setting node words) (world_of S.meaning core.old) }
 {
     if setting.passive.asks(TransFlags::SET) {
-        let _ = core.set_passive(node, words);
+        let _ = core.edit_header(node, HeaderEdit::SetPassive(words));
     }
 }
 

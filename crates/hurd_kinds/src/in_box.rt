@@ -2,8 +2,8 @@
 ghost use Rattle.hurd_kinds.specs.Boxes.{box_meaning};
 
 use crate::server_box::ServerBox;
-use hurd_creds::{Attrs, Bytes, Errno, Mode, NodeName, OpenFlags};
-use hurd_trans_iface::{Names, NewNode, Root, Server, Words};
+use hurd_creds::{Attrs, Bytes, Errno, Mode, NodeName};
+use hurd_trans_iface::{HeaderEdit, Names, NewNode, Root, Server, Words};
 use std::alloc::Global;
 
 /// What a call on the server in the box gives, whatever its kind is.
@@ -125,22 +125,12 @@ impl Server for ServerBox {
         in_box!(self, server => server.rename(alloc, dir, name, to, new))
     }
 
-    fn set_attrs(
-        &mut self,
-        node: NodeName,
-        owner: u32,
-        group: u32,
-        mode: Mode,
-    ) -> Result<(), Errno> {
-        in_box!(self, server => server.set_attrs(node, owner, group, mode))
-    }
-
     fn passive(&self, node: NodeName) -> Option<&Words> {
         in_box!(self, server => server.passive(node))
     }
 
-    fn set_passive(&mut self, node: NodeName, words: Words) -> Result<(), Errno> {
-        in_box!(self, server => server.set_passive(node, words))
+    fn edit_header(&mut self, node: NodeName, edit: HeaderEdit) -> Result<(), Errno> {
+        in_box!(self, server => server.edit_header(node, edit))
     }
 
     fn forget(&mut self, node: NodeName) {
@@ -153,14 +143,6 @@ impl Server for ServerBox {
 
     fn counts(&self) -> bool {
         in_box!(self, server => server.counts())
-    }
-
-    fn opened(&mut self, node: NodeName, modes: OpenFlags) {
-        in_box!(self, server => server.opened(node, modes))
-    }
-
-    fn closed(&mut self, node: NodeName, modes: OpenFlags) {
-        in_box!(self, server => server.closed(node, modes))
     }
 
     fn goaway(&mut self) {

@@ -1,5 +1,5 @@
 -- Crossing the root of a server, by what the server is.
-use Rattle.std.proofs.Common.{◌≡◌, ◌∙◌, ℕ, Bool, true, false, not, ◌&&◌, is_some, if◌then◌else◌, List, Option, Some, None, option_map, refl, sym, ap, ap₂}
+use Rattle.std.proofs.Common.{◌≡◌, ◌∙◌, ℕ, Bool, true, false, not, ◌&&◌, is_some, if◌then◌else◌, List, Option, Some, None, option_map, sym, ap, ap₂}
 use Rattle.std.specs.Prelude.{Result, Ok, slice_get}
 use Rattle.hurd_creds.specs.declared.name.Name.{Name}
 use Rattle.hurd_creds.specs.declared.attrs.Attrs.{Attrs}
@@ -10,8 +10,9 @@ use Rattle.hurd_trans_iface.specs.Nodes.{Header}
 use Rattle.hurd_trans_iface.specs.Meaning.{root_of}
 use Rattle.hurd_trans_iface.specs.declared.root.Root.{Root}
 use Rattle.hurd_trans_iface.specs.declared.root.Crossing.{Crossing}
-use Rattle.hurd_trans_iface.specs.declared.root.Crossing.TheVariants.{Plain, Link, Firm, Union}
+use Rattle.hurd_trans_iface.specs.declared.root.Crossing.TheVariants.{Link, Firm}
 use Rattle.hurd_nodes.specs.Shown.{ServerInfo}
+use Rattle.hurd_nodes.proofs.PartLaws.{mapped-some}
 use Rattle.hurd_ports.specs.declared.table.IoRight.{IoRight}
 use Rattle.hurd_machine.specs.World.{World, header_at, info_at, targets_at, targets_in, words_at}
 use Rattle.hurd_machine.specs.Plan.{on, first}
@@ -27,12 +28,8 @@ there w n (Some a) b some off told = (header_with (words_at w n) a, sym told)
 
 module _ (w : World) (root : Name) (h : Header) (there : header_at w root ≡ Some h) (x : Root) (is : Some x ≡ option_map (λ (i : ServerInfo). root_of i.kind i.text) (info_at w root)) where
   -- the server whose root it is
-  info-of : (i : ServerInfo) × (info_at w root ≡ Some i) × (root_of i.kind i.text ≡ x)
-  info-of = go (info_at w root) refl is
-    where
-      go : (o : Option ServerInfo) → info_at w root ≡ o → Some x ≡ option_map (λ (i : ServerInfo). root_of i.kind i.text) o → (i : ServerInfo) × (info_at w root ≡ Some i) × (root_of i.kind i.text ≡ x)
-      go None e k = absurd (cc)
-      go (Some i) e k = (i, e, let same : root_of i.kind i.text ≡ x = cc in same)
+  pub info-of : (i : ServerInfo) × (info_at w root ≡ Some i) × (root_of i.kind i.text ≡ x)
+  info-of = mapped-some _ (info_at w root) x (sym is)
 
   module _ (q : IoRight) (r : Request) (d : Name) (names : List (List ℕ)) where
     abbrev crossed : Option Header → Option ServerInfo → Result Place Errno
@@ -41,17 +38,11 @@ module _ (w : World) (root : Name) (h : Header) (there : header_at w root ≡ So
     abbrev by_crossing : Crossing → Result Place Errno
     by_crossing y = crossing w y q r d root info-of.0 names
 
-    served : (y : Crossing) → x.crossing ≡ y → cross w q r d root names ≡ by_crossing y
+    pub served : (y : Crossing) → x.crossing ≡ y → cross w q r d root names ≡ by_crossing y
     unfolding on first
     served y is =
         let i = info-of in
         ap₂ crossed there i.1 ∙ ap (λ (z : Root). by_crossing z.crossing) i.2 ∙ ap by_crossing is
-
-    pub cross-plain : x.crossing ≡ Plain → cross w q r d root names ≡ enter q r d root names
-    cross-plain plain = served Plain plain
-
-    pub cross-union : x.crossing ≡ Union → cross w q r d root names ≡ enter q r d root names
-    cross-union union = served Union union
 
     pub cross-firm : (targets : List Name) (o : Option Name) → x.crossing ≡ Firm → targets ≡ targets_at w root → o ≡ slice_get targets 0 → cross w q r d root names ≡ hold_on w q r d o names
     cross-firm targets o firm told first_is =

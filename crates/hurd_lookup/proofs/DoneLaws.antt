@@ -1,5 +1,5 @@
 -- A lookup that is refused, finds no memory, or is done, as its plan has it.
-use Rattle.std.proofs.Common.{◌≡◌, ◌∙◌, ◌⊎◌, inl, inr, ℕ, false, List, Option, refl, ap}
+use Rattle.std.proofs.Common.{◌≡◌, ◌∙◌, ◌⊎◌, inl, inr, ℕ, List, Option, refl, ap}
 use Rattle.std.specs.Prelude.{Result, Ok, Err, IsOk, Some, None}
 use Rattle.hurd_creds.specs.declared.name.Name.{Name}
 use Rattle.hurd_creds.specs.declared.attrs.Kind.TheVariants.{File}
@@ -28,14 +28,12 @@ abbrev done : {A T : Type 0} → (A → List Change) → (A → T) → (T → Lo
 done changes answer tell a = record { reply = Found (tell (answer a)); changes = changes a }
 
 module _ {A T : Type 0} (w : World) (asks : Result A Errno) (changes : A → List Change) (answer : A → T) (tell : T → Lookup) (P : Plan) (a : A) (is : asks ≡ Ok a) (plan : P ≡ done changes answer tell a) where
-  does_planned : (k : T) (y : World) → Does w asks changes answer (Ok k) y → Follows w P (Found (tell k)) y
-  does_planned k y (b, asked, told, left) =
+  does_planned : (k : Result T Errno) (y : World) → Does w asks changes answer k y → Planned w P (λ n. Found (tell n)) k y
+  does_planned (Ok k) y (b, asked, told, left) =
       let same : b ≡ a = cc (asked, is) in
       rw plan (ap (λ (n : T). Found (tell n)) (told ∙ ap answer same), left ∙ ap (λ (c : A). apply_all (changes c) w) same)
-
-  does_lacks : (e : Errno) (y : World) → Does w asks changes answer (Err e) y → Planned w P Found (Err e) y
-  does_lacks e y (left, inl refused) = absurd (cc (is, refused))
-  does_lacks e y (left, inr lacks) = (left, inr (lacks.0, rw plan refl))
+  does_planned (Err e) y (left, inl refused) = absurd (cc (is, refused))
+  does_planned (Err e) y (left, inr lacks) = (left, inr (lacks.0, rw plan refl))
 
 -- an answer that there is
 there : {A : Type 0} (r : Result A Errno) → IsOk r → (a : A) × (r ≡ Ok a)
@@ -66,32 +64,18 @@ module _ (w : World) (t : ℕ) (flags : OpenFlags) where
     unfolding first answered
     plan-is x is = ap (planned_in o) is
 
-  answers : (o : Outcome) (x : Task) → is_refused (told (o, x)).reply ≡ false
-  answers o x = refl
-
-  -- no memory for what it makes
-  pub lacks : (o : Outcome) → IsOk (ending_asks w t o) → (e : Errno) → e ≡ ENOMEM → (y : World) → y ≡ w → Planned w (asked (Ok o)) Found (Err e) y
-  lacks o ok e is y same = let x = there (ending_asks w t o) ok in (same, inr (is, ap (λ (P : Plan). is_refused P.reply) (plan-is o x.0 x.1)))
-
   -- it can't be made ready
   pub unready : (f : Result Outcome Errno) (o : Outcome) → f ≡ Ok o → (e : Errno) → (ending_asks w t o ≡ Err e) ⊎ ((e ≡ ENOMEM) × IsOk (ending_asks w t o)) → Planned w (asked f) Found (Err e) w
   unready f o is e (inl bars) = (refl, inl (ap asked is ∙ full o e bars))
-  unready f o is e (inr short) = rw is (lacks o short.1 e short.0 w refl)
+  unready f o is e (inr short) = let x = there (ending_asks w t o) short.1 in (refl, inr (short.0, ap (λ (P : Plan). is_refused P.reply) (ap asked is ∙ plan-is o x.0 x.1)))
 
   -- a node that is there is opened
   module _ (e : NewPort) (ok : IsOk (ending_asks w t (Opens e))) where
     abbrev opens : Task → List Change
     opens x = opening w t x e.node e.ids e.parents (open_modes flags)
 
-    pub opened : (k : ℕ) (y : World) → Does w (room_asks w t 1) opens (λ x. x.next) (Ok k) y → Follows w (asked (Ok (Opens e))) (Found (found.Done k)) y
-    opened k y d =
-        let x = there (ending_asks w t (Opens e)) ok in
-        does_planned w (room_asks w t 1) opens (λ x. x.next) found.Done (asked (Ok (Opens e))) x.0 x.1 (plan-is (Opens e) x.0 x.1) k y d
-
-    pub unopened : (f : Errno) (y : World) → Does w (room_asks w t 1) opens (λ x. x.next) (Err f) y → Planned w (asked (Ok (Opens e))) Found (Err f) y
-    unopened f y d =
-        let x = there (ending_asks w t (Opens e)) ok in
-        does_lacks w (room_asks w t 1) opens (λ x. x.next) found.Done (asked (Ok (Opens e))) x.0 x.1 (plan-is (Opens e) x.0 x.1) f y d
+    pub opened : (k : Result ℕ Errno) (y : World) → Does w (room_asks w t 1) opens (λ x. x.next) k y → Planned w (asked (Ok (Opens e))) (λ n. Found (found.Done n)) k y
+    opened = let x = there (ending_asks w t (Opens e)) ok in does_planned w (room_asks w t 1) opens (λ x. x.next) found.Done (asked (Ok (Opens e))) x.0 x.1 (plan-is (Opens e) x.0 x.1)
 
   -- a file is made, and opened
   module _ (s : Name) (f : NewNodeAt) (ids : IdSets) (ways : List Parent) (may : MayMake w s f) (ok : IsOk (ending_asks w t (Makes s f ids ways))) where
@@ -116,11 +100,8 @@ module _ (w : World) (t : ℕ) (flags : OpenFlags) where
           plan-is o x.0 x.1,
         )
 
-    pub made : (k : ℕ) (y : World) → Does w (making_asks w t f) makes (λ a. a.0.next) (Ok k) y → Follows w (asked (Ok o)) (Found (found.Done k)) y
-    made k y d = let x = makes-it in does_planned w (making_asks w t f) makes (λ a. a.0.next) found.Done (asked (Ok o)) (x.0, s) x.1 x.2 k y d
-
-    pub unmade : (e : Errno) (y : World) → Does w (making_asks w t f) makes (λ a. a.0.next) (Err e) y → Planned w (asked (Ok o)) Found (Err e) y
-    unmade e y d = let x = makes-it in does_lacks w (making_asks w t f) makes (λ a. a.0.next) found.Done (asked (Ok o)) (x.0, s) x.1 x.2 e y d
+    pub made : (k : Result ℕ Errno) (y : World) → Does w (making_asks w t f) makes (λ a. a.0.next) k y → Planned w (asked (Ok o)) (λ n. Found (found.Done n)) k y
+    made = let x = makes-it in does_planned w (making_asks w t f) makes (λ a. a.0.next) found.Done (asked (Ok o)) (x.0, s) x.1 x.2
 
   -- a translator is to be started
   module _ (s : PendingStart) (ok : IsOk (ending_asks w t (Starts s))) where
@@ -142,11 +123,8 @@ module _ (w : World) (t : ℕ) (flags : OpenFlags) where
         had None x is = absurd (cc)
         had (Some y) x is = is
 
-    pub started : (y : World) → Does w (task_of (ports_of w) t) pends nothing (Ok tt) y → Follows w (asked (Ok (Starts s))) (Found (found.Start s.words)) y
-    started y d = let x = starter in does_planned w (task_of (ports_of w) t) pends nothing words_told (asked (Ok (Starts s))) x.0 x.1 x.2 tt y d
-
-    pub unstarted : (e : Errno) (y : World) → Does w (task_of (ports_of w) t) pends nothing (Err e) y → Planned w (asked (Ok (Starts s))) Found (Err e) y
-    unstarted e y d = let x = starter in does_lacks w (task_of (ports_of w) t) pends nothing words_told (asked (Ok (Starts s))) x.0 x.1 x.2 e y d
+    pub started : (k : Result (Unit {0}) Errno) (y : World) → Does w (task_of (ports_of w) t) pends nothing k y → Planned w (asked (Ok (Starts s))) (λ u. Found (words_told u)) k y
+    started = let x = starter in does_planned w (task_of (ports_of w) t) pends nothing words_told (asked (Ok (Starts s))) x.0 x.1 x.2
 
   -- a name is told, with a port or without one
   module _ (kind : RetryKind) (name : List ℕ) where
@@ -163,8 +141,5 @@ module _ (w : World) (t : ℕ) (flags : OpenFlags) where
       abbrev tell : ℕ → Lookup
       tell k = found.Retry kind name (Some k)
 
-      pub told-at : (k : ℕ) (y : World) → Does w (room_asks w t 1) bare_opens (λ x. x.next) (Ok k) y → Follows w (asked (Ok p)) (Found (tell k)) y
-      told-at k y d = let x = there (ending_asks w t p) ok in does_planned w (room_asks w t 1) bare_opens (λ x. x.next) tell (asked (Ok p)) x.0 x.1 (plan-is p x.0 x.1) k y d
-
-      pub untold-at : (f : Errno) (y : World) → Does w (room_asks w t 1) bare_opens (λ x. x.next) (Err f) y → Planned w (asked (Ok p)) Found (Err f) y
-      untold-at f y d = let x = there (ending_asks w t p) ok in does_lacks w (room_asks w t 1) bare_opens (λ x. x.next) tell (asked (Ok p)) x.0 x.1 (plan-is p x.0 x.1) f y d
+      pub told-at : (k : Result ℕ Errno) (y : World) → Does w (room_asks w t 1) bare_opens (λ x. x.next) k y → Planned w (asked (Ok p)) (λ n. Found (tell n)) k y
+      told-at = let x = there (ending_asks w t p) ok in does_planned w (room_asks w t 1) bare_opens (λ x. x.next) tell (asked (Ok p)) x.0 x.1 (plan-is p x.0 x.1)

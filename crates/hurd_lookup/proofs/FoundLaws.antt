@@ -1,45 +1,47 @@
 -- The laws of a call that makes of what it found a port, a file or a retry, or is to start it.
-use Rattle.std.proofs.Common.{◌≡◌, ℕ, Bool, true, Some, None, refl, ◌∙◌, List, ap}
+use Rattle.std.proofs.Common.{◌≡◌, ℕ, Bool, true, Some, None, refl, List, ap}
 use Rattle.std.specs.Prelude.{Result, Ok}
+use Rattle.hurd_creds.specs.declared.name.Name.{Name}
 use Rattle.hurd_creds.specs.declared.errno.Errno.{Errno}
 use Rattle.hurd_creds.specs.declared.errno.Errno.TheVariants.{ESRCH}
 use Rattle.hurd_creds.specs.declared.open_flags.OpenFlags.{OpenFlags}
+use Rattle.hurd_creds.specs.Access.{IdSets}
+use Rattle.hurd_creds.specs.Bits.{open_modes}
 use Rattle.hurd_ports.specs.Tables.{Task}
 use Rattle.hurd_machine.specs.declared.call.Reply.TheVariants.{Found}
 use Rattle.hurd_machine.specs.World.{World, task_at}
+use Rattle.hurd_machine.specs.Change.{Change}
+use Rattle.hurd_machine.specs.Sight.{Taken, Seen, Sees, BodyOf}
 use Rattle.hurd_machine.specs.Plan.{on, Plan}
-use Rattle.hurd_machine.proofs.Views.{Agree, Agree-refl, same_tasks}
-use Rattle.hurd_machine.proofs.Asks.{answered_same, answered_plain, done_plain, first_ok}
-use Rattle.hurd_machine.proofs.Piece.{Stands, stands}
+use Rattle.hurd_machine.proofs.Views.{Agree, Agree-refl}
+use Rattle.hurd_machine.proofs.Asks.{answered_same, answered_plain, done_plain}
+use Rattle.hurd_machine.proofs.Opens.{opening_same}
+use Rattle.hurd_machine.proofs.Piece.{stands}
 use Rattle.hurd_machine.proofs.CallLaws.{CallLaws, answered_piece}
 use Rattle.hurd_core.specs.Core.{room_asks}
 use Rattle.hurd_lookup.specs.Lookup.{Outcome, Opens, Makes, Retries, Starts, ending_asks, whole_asks, lookup_told, finding, finding_parts, lookup_changes, no_modes}
 use Rattle.hurd_lookup.proofs.AlikeLaws.{Alike, ok_alike, on_alike, given_alike, first_alike}
-use Rattle.hurd_lookup.proofs.EndLaws.{OutcomeShown}
-use Rattle.hurd_lookup.proofs.HeldLaws.{Gives, OutcomeHeld}
+use Rattle.hurd_lookup.proofs.WalkLaws.{Ground, no_ids_taken, seen_ground, taken_powers}
+use Rattle.hurd_lookup.proofs.BeginLaws.{Begins, held_begins, seen_begins}
+use Rattle.hurd_lookup.proofs.EndLaws.{OutcomeShown, OutcomeSeen}
+use Rattle.hurd_lookup.proofs.HeldLaws.{held_ground}
 use Rattle.hurd_lookup.proofs.OutcomeLaws.{outcome_whole}
-use Rattle.hurd_creds.specs.Bits.{open_modes}
-use Rattle.hurd_machine.specs.Change.{Change}
-use Rattle.hurd_machine.proofs.Opens.{opening_same}
 
--- what task t finds, which is to be opened by these flags, is the same in worlds that agree, where S has t; and what is shown of it
-abbrev pub FoundLaws : ℕ → OpenFlags → (World → Result Outcome Errno) → Type 0
-FoundLaws t flags found = (S : ℕ → Bool) (v w : World) → Agree S v w → S t ≡ true → Alike (OutcomeShown S v flags) (found v) (found w)
-
--- and in a world that stands one can be wherever it leads
-abbrev pub FoundHeld : OpenFlags → (World → Result Outcome Errno) → Type 0
-FoundHeld flags found = (w : World) → Stands w → Gives (OutcomeHeld w flags) (found w)
+-- what task t finds, which is to be opened by these flags, is the same in both worlds, where the task begins on their ground; and what is known of it
+abbrev pub FoundLaws : ℕ → OpenFlags → (World → Result Outcome Errno) → Type 1
+FoundLaws t flags found = (v w : World) (At Near Entries : Name → Type 0) (T : IdSets → Type 0) → Ground v w At Near Entries T → Begins t v w At Near T
+    → Alike (OutcomeShown At Entries T v flags) (found v) (found w)
 
 -- the task that makes a port of what was found
-module _ {S : ℕ → Bool} {v w : World} (a : Agree S v w) (t : ℕ) (ours : S t ≡ true) where
+module _ (v w : World) (t : ℕ) (same : task_at w t ≡ task_at v t) where
   abbrev IsTask : Task → Type 0
   IsTask x = task_at v t ≡ Some x
 
   room_alike : (names : ℕ) → Alike IsTask (room_asks v t names) (room_asks w t names)
-  room_alike names = on_alike _ _ _ _ _ _ refl (same_tasks a t ours) (λ x is. given_alike _ _ _ _ _ _ refl refl (λ room. ok_alike _ x is))
+  room_alike names = on_alike _ _ _ _ _ _ refl same (λ x is. given_alike _ _ _ _ _ _ refl refl (λ room. ok_alike _ x is))
 
   there_alike : Alike IsTask (on ESRCH (task_at v t) (λ x. Ok x)) (on ESRCH (task_at w t) (λ x. Ok x))
-  there_alike = on_alike _ _ _ _ _ _ refl (same_tasks a t ours) (λ x is. ok_alike _ x is)
+  there_alike = on_alike _ _ _ _ _ _ refl same (λ x is. ok_alike _ x is)
 
   ending_alike : (o : Outcome) → Alike IsTask (ending_asks v t o) (ending_asks w t o)
   ending_alike (Opens e) = room_alike 1
@@ -49,43 +51,40 @@ module _ {S : ℕ → Bool} {v w : World} (a : Agree S v w) (t : ℕ) (ours : S 
   ending_alike (Starts s) = there_alike
 
 -- what was found changes the same in worlds that agree
-changes_same : {S : ℕ → Bool} {v w : World} → Agree S v w → (t : ℕ) (x : Task) (flags : OpenFlags) (o : Outcome) → OutcomeShown S v flags o → lookup_changes w t x (open_modes flags) o ≡ lookup_changes v t x (open_modes flags) o
-changes_same a t x flags (Opens e) shown = opening_same a t x e.node e.ids e.parents (open_modes flags) shown.seen.node
+changes_same : {S : ℕ → Bool} {v w : World} → Agree S v w → (t : ℕ) (x : Task) (flags : OpenFlags) (o : Outcome) → OutcomeSeen S v flags o → lookup_changes w t x (open_modes flags) o ≡ lookup_changes v t x (open_modes flags) o
+changes_same a t x flags (Opens e) shown = opening_same a t x e.node e.ids e.parents (open_modes flags) shown.on.node
 changes_same a t x flags (Makes s f ids ways) shown = refl
 changes_same a t x flags (Retries kind name None) shown = refl
-changes_same a t x flags (Retries kind name (Some e)) shown = opening_same a t x e.node e.ids e.parents no_modes shown.seen.node
+changes_same a t x flags (Retries kind name (Some e)) shown = opening_same a t x e.node e.ids e.parents no_modes shown.on.node
 changes_same a t x flags (Starts s) shown = refl
 
-module _ (t : ℕ) (flags : OpenFlags) (found : World → Result Outcome Errno) (l : FoundLaws t flags found) (held : FoundHeld flags found) where
+module _ (t : ℕ) (flags : OpenFlags) (found : World → Result Outcome Errno) (l : FoundLaws t flags found) where
   abbrev asked : World → Result (Outcome × Task) Errno
   asked w = whole_asks w t (found w)
 
   -- a call that is answered: what was found, and who called
-  record Answered (S : ℕ → Bool) (v : World) (got : Outcome × Task) : Type 0 where
-    shown : OutcomeShown S v flags got.0
+  record Answered (At Entries : Name → Type 0) (T : IdSets → Type 0) (v : World) (got : Outcome × Task) : Type 0 where
+    shown : OutcomeShown At Entries T v flags got.0
     is_task : task_at v t ≡ Some got.1
 
-  asked_alike : (S : ℕ → Bool) (v w : World) → Agree S v w → S t ≡ true → Alike (Answered S v) (asked v) (asked w)
-  asked_alike S v w a ours =
-      first_alike _ _ _ _ _ _ (l S v w a ours) (λ o is shown. first_alike _ _ _ _ _ _ (ending_alike a t ours o) (λ x there is_task. ok_alike _ (o, x) (record { shown = shown; is_task = is_task })))
+  asked_alike : {v w : World} {At Near Entries : Name → Type 0} {T : IdSets → Type 0} → Ground v w At Near Entries T → Begins t v w At Near T → Alike (Answered At Entries T v) (asked v) (asked w)
+  asked_alike {v} {w} g b =
+      first_alike _ _ _ _ _ _ (l v w _ _ _ _ g b) (λ o is shown.
+      first_alike _ _ _ _ _ _ (ending_alike v w t b.task o) (λ x there is_task. ok_alike _ (o, x) (record { shown = shown; is_task = is_task })))
 
-  -- as each set of tasks sees it, and as all do
-  alone : (S : ℕ → Bool) (w : World) → S t ≡ true → Alike (Answered S w) (asked w) (asked w)
-  alone S w ours = asked_alike S w w (Agree-refl S w) ours
+  -- as a set of tasks sees it
+  seen_alike : (S : ℕ → Bool) (v w : World) → Agree S v w → S t ≡ true → Alike (Answered (Seen S v) (λ d. Sees S v (BodyOf d)) (Taken S v) v) (asked v) (asked w)
+  seen_alike S v w a ours = asked_alike (seen_ground a (Taken S v) (taken_powers S v) (no_ids_taken S v)) (seen_begins a t ours)
 
-  -- what it found
-  asked_found : (w : World) (got : Outcome × Task) → asked w ≡ Ok got → found w ≡ Ok got.0
-  asked_found w got is =
-      let o = first_ok (found w) _ got is in
-      let x = first_ok (ending_asks w t o.0) _ got o.2 in
-      let same : ◌≡◌ {A = Outcome × Task} (o.0, x.0) got = cc (x.2) in
-      o.1 ∙ ap (λ (z : Outcome × Task). Ok z.0) same
+  -- in one world, and as all do
+  alone : (S : ℕ → Bool) (w : World) → S t ≡ true → Alike (Answered (Seen S w) (λ d. Sees S w (BodyOf d)) (Taken S w) w) (asked w) (asked w)
+  alone S w ours = seen_alike S w w (Agree-refl S w) ours
 
   pub finding_laws : CallLaws t (λ w. finding w t flags (found w)) (λ w. finding_parts w t (found w))
   finding_laws = record {
     piece = λ w s. answered_piece s (asked w) _ _ (λ got is.
-        outcome_whole w t got.1 ((alone (λ k. true) w refl).has got is).is_task flags s got.0 ((held w (stands s)).has got.0 (asked_found w got is)) (λ S ours. ((alone S w ours).has got is).shown));
-    same = λ S v w c d a ours. answered_same _ _ _ _ (asked_alike S v w a ours).same (λ got is.
+        outcome_whole w t got.1 ((alone (λ k. true) w refl).has got is).is_task flags s got.0 ((asked_alike (held_ground w (stands s)) (held_begins w s.coherent t)).has got is).shown.on (λ S ours. ((alone S w ours).has got is).shown));
+    same = λ S v w c d a ours. answered_same _ _ _ _ (seen_alike S v w a ours).same (λ got is.
         let shown = ((alone S v ours).has got is).shown in
         ap (λ (cs : List Change). let P : Plan = record { reply = Found (lookup_told got.1 got.0); changes = cs } in P) (changes_same a t got.1 flags got.0 shown));
     plain = λ w. answered_plain (asked w) _ (alone (λ k. true) w refl).plain (λ got is. done_plain (Found (lookup_told got.1 got.0)) refl);

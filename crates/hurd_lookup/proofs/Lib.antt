@@ -5,6 +5,7 @@ pub mod ResolveLaws
 pub mod LegLaws
 pub mod EndLaws
 pub mod OutcomeLaws
+pub mod BeginLaws
 pub mod FoundLaws
 pub mod LookupLaws
 pub mod GetrootLaws

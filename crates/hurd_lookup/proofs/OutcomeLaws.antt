@@ -2,20 +2,22 @@
 use Rattle.std.proofs.Common.{◌≡◌, ℕ, ◌+◌, Bool, true, false, not, ◌&&◌, ◌||◌, List, Some, None, refl, sym, ◌∙◌, ap, inl, inr, arith}
 use Rattle.std.proofs.lemmas.Nat.{and_assoc}
 use Rattle.std.proofs.lemmas.Bool.{or_cases, and_parts}
+use Rattle.std.specs.FinMap.{put}
+use Rattle.hurd_nodes.proofs.Sites.{home-apart}
+use Rattle.hurd_nodes.specs.Held.{new_site}
 use Rattle.hurd_creds.specs.declared.name.Name.{Name}
 use Rattle.hurd_creds.specs.declared.open_flags.OpenFlags.{OpenFlags}
 use Rattle.hurd_creds.specs.declared.attrs.Kind.TheVariants.{File}
 use Rattle.hurd_creds.specs.declared.attrs.Want.TheVariants.{Read, Write, Exec}
 use Rattle.hurd_creds.specs.Access.{IdSets, may}
 use Rattle.hurd_creds.specs.Bits.{asks, open_modes, READ, WRITE, EXEC}
-use Rattle.hurd_creds.proofs.NameLaws.{get_apart}
 use Rattle.hurd_trans_iface.specs.Nodes.{Node, Header, is_dir, new_file}
 use Rattle.hurd_trans_iface.proofs.Goods.{good}
 use Rattle.hurd_nodes.specs.Needs.{counts_by}
 use Rattle.hurd_nodes.specs.Shown.{info_in, tree_by}
 use Rattle.hurd_ports.specs.Tables.{Task, fresh, ways_of}
 use Rattle.hurd_ports.specs.Steps.{named, new_right}
-use Rattle.hurd_machine.specs.World.{World, IsAmong, nodes_of, counts_at, task_at, header_at, server_at, info_at, shape_by, shape_at, leads_on, gives_text}
+use Rattle.hurd_machine.specs.World.{World, IsAmong, nodes_of, counts_at, task_at, header_at, server_at, info_at, shape_by, shape_at, leads_on, gives_text, only_reads}
 use Rattle.hurd_machine.specs.Change.{Change, apply_all, opening, porting}
 use Rattle.hurd_machine.specs.Sight.{Part, AttrOf, bare, tells, Allowed, Seen, SeesBody, ToRead, ToPut}
 use Rattle.hurd_machine.specs.Touched.{OnOpen}
@@ -35,7 +37,7 @@ use Rattle.hurd_core.specs.Core.{asked_node}
 use Rattle.hurd_lookup.specs.Lookup.{NewPort, Outcome, Opens, Makes, Retries, Starts, may_open, no_modes, lookup_changes, lookup_parts}
 use Rattle.hurd_lookup.proofs.WalkLaws.{PortSeen}
 use Rattle.hurd_lookup.proofs.HeldLaws.{PortHeld, OutcomeHeld}
-use Rattle.hurd_lookup.proofs.EndLaws.{MakeLeads, OutcomeShown}
+use Rattle.hurd_lookup.proofs.EndLaws.{MakeLeads, OutcomeSeen}
 use Rattle.hurd_machine.proofs.Counting.{AllCalm, port_calm, tree_counts}
 use Rattle.hurd_machine.proofs.OpenCounts.{opening_counted}
 use Rattle.hurd_machine.proofs.Piece.{Whole, stands, resting, whole_none, whole_then}
@@ -48,29 +50,24 @@ kept_write flags h = rw (and_assoc 2 flags.0 15) at h
 kept_read : (flags : OpenFlags) → asks (open_modes flags) READ ≡ true → asks flags READ ≡ true
 kept_read flags h = rw (and_assoc 1 flags.0 15) at h
 
--- what may be opened, and is to be read, may be read
-reads : (ids : IdSets) (h : Header) (flags : OpenFlags) → may_open ids h flags ≡ true → asks flags READ ≡ true → may ids (bare h) Read ≡ true
-reads ids h flags m r = go (asks flags READ) (may ids (bare h) Read) r m
-  where
-    go : (a b : Bool) → a ≡ true → ((not a || b) && ((not (asks flags WRITE) || may ids (bare h) Write) && (not (asks flags EXEC) || may ids (bare h) Exec))) ≡ true → b ≡ true
-    go true true e k = refl
-    go true false e k = absurd (cc)
-    go false b e k = absurd (cc)
+-- what is asked for may be done
+may_asked : (a b : Bool) → (not a || b) ≡ true → a ≡ true → b ≡ true
+may_asked true b k h = k
+may_asked false b k h = absurd (cc)
 
--- and what is to be written may be written
-writes : (ids : IdSets) (h : Header) (flags : OpenFlags) → may_open ids h flags ≡ true → asks flags WRITE ≡ true → may ids (bare h) Write ≡ true
-writes ids h flags m r = go (not (asks flags READ) || may ids (bare h) Read) (asks flags WRITE) (may ids (bare h) Write) r m
-  where
-    go : (c a b : Bool) → a ≡ true → (c && ((not a || b) && (not (asks flags EXEC) || may ids (bare h) Exec))) ≡ true → b ≡ true
-    go c true true e k = refl
-    go true true false e k = absurd (cc)
-    go false true false e k = absurd (cc)
-    go c false b e k = absurd (cc)
+-- what may be opened, and is to be read, may be read; and what is to be written may be written
+module _ (ids : IdSets) (h : Header) (flags : OpenFlags) (m : may_open ids h flags ≡ true) where
+  reads : asks flags READ ≡ true → may ids (bare h) Read ≡ true
+  reads = may_asked _ _ (and_parts (not (asks flags READ) || may ids (bare h) Read) _ m).0
 
-no_dir : (a b : Bool) → not (a && b) ≡ true → b ≡ true → a ≡ false
-no_dir true true h k = absurd (cc)
-no_dir false b h k = refl
-no_dir true false h k = absurd (cc)
+  writes : asks flags WRITE ≡ true → may ids (bare h) Write ≡ true
+  writes = may_asked _ _ (and_parts _ (not (asks flags EXEC) || may ids (bare h) Exec) (and_parts (not (asks flags READ) || may ids (bare h) Read) _ m).1).0
+
+-- of two that are not both so, the one isn't where the other is
+not_both : (a b : Bool) → not (a && b) ≡ true → (a ≡ true → b ≡ false) × (b ≡ true → a ≡ false)
+not_both true true h = absurd (cc)
+not_both true false h = (λ k. refl, λ k. absurd (cc))
+not_both false b h = (λ k. absurd (cc), λ k. refl)
 
 -- a port without modes neither reads nor writes
 
@@ -112,17 +109,17 @@ module _ (w : World) (t : ℕ) (x : Task) (is : task_at w t ≡ Some x) (flags :
       (rests_opening w t x is e.node e.ids e.parents modes s.settled)
       (λ counts. inl (on (AttrOf e.node) (inr (counts, refl)))) (opening_counted w s.coherent t x is (fresh_next w t x is) e.node e.ids e.parents modes)
 
-  pub outcome_whole : Sound w → (o : Outcome) → OutcomeHeld w flags o → ((S : ℕ → Bool) → S t ≡ true → OutcomeShown S w flags o) → Whole t (Writes o) w w (changes o)
+  pub outcome_whole : Sound w → (o : Outcome) → OutcomeHeld w o → ((S : ℕ → Bool) → S t ≡ true → OutcomeSeen S w flags o) → Whole t (Writes o) w w (changes o)
   outcome_whole s (Starts p) held shown =
-      pends_whole (stands s) t (Some p) x is (own_task w t (lookup_parts w (Starts p))) (given s p.node (λ S ours. (shown S ours).seen), held) (λ S ours. inl (shown S ours).seen)
+      pends_whole (stands s) t (Some p) x is (own_task w t (lookup_parts w (Starts p))) (given s p.node (λ S ours. (shown S ours).on), held) (λ S ours. inl (shown S ours).on)
   outcome_whole s (Opens e) held shown =
       let l = (shown (λ k. true) refl).leads in
       port_whole {T = lookup_parts w (Opens e)} s e modes (λ p on. on)
-      (λ writes. (λ h eh. let same : l.header ≡ h = cc (l.is_header, eh) in rw (← same) (no_dir (is_dir l.header.kind) (asks flags WRITE) l.fits (kept_write flags writes)), held.1 (kept_write flags writes)))
-      held.0 (λ S ours. (shown S ours).seen)
+      (λ writes. let asked = kept_write flags writes in (λ h eh. let same : l.header ≡ h = cc (l.is_header, eh) in rw (← same) ((not_both (is_dir l.header.kind) (asks flags WRITE) l.fits).1 asked), (not_both (asks flags WRITE) (only_reads (info_at w e.node)) l.more).0 asked))
+      held (λ S ours. (shown S ours).on)
       (λ S ours told h eh.
       let same : l.header ≡ h = cc (l.is_header, eh) in
-      let ids = (shown S ours).seen.ids in
+      let ids = (shown S ours).on.ids in
       elim (or_cases (asks modes READ) (counts_at w e.node && asks modes WRITE) told) [
         | inl read ↦ ToRead (Allowed e.ids ids (rw (← same) (reads e.ids l.header flags l.may (kept_read flags read))))
         | inr put ↦
@@ -132,18 +129,18 @@ module _ (w : World) (t : ℕ) (x : Task) (is : task_at w t ≡ Some x) (flags :
   outcome_whole s (Retries kind name None) held shown = whole_none s
   outcome_whole s (Retries kind name (Some e)) held shown =
       port_whole {T = lookup_parts w (Retries kind name (Some e))} s e no_modes (λ p on. on)
-      (λ writes. absurd (silent_write writes)) held (λ S ours. (shown S ours).seen) (λ S ours told h eh. absurd (silent_tells (counts_at w e.node) told))
+      (λ writes. absurd (silent_write writes)) held (λ S ours. (shown S ours).on) (λ S ours told h eh. absurd (silent_tells (counts_at w e.node) told))
   outcome_whole s (Makes q f ids ways) held shown =
       rw l.named
       (whole_then made opened (tt, (tt, tt)) s
       (entered_whole good s t x is q f.dir l.home l.name (may_make w f.dir (Some l.name) File tt l.may) (leads_unless w s.linked f.dir l.header l.is_header l.stands) (asked_node File f n) file refl refl
-      (file_hangs f.dir f.owner f.group f.mode) (inr (inl refl)) (inr (inr refl)) (λ S ours. (shown S ours).seen.0.0))
+      (file_hangs f.dir f.owner f.group f.mode) (inr (inl refl)) (inr (inr refl)) (λ S ours. (shown S ours).on.0.0))
       (λ d. resting (porting t (named 1 x) n ids ways modes) calm (stands d) (opens_piece left t (named 1 x) seat n ids ways modes (stands d) (own_task w t (lookup_parts w o)) (inr (inr (fragments.later_new w t 1 x is)))
       (λ p on. let same : on.0 ≡ q = cc (on.1, entered_home w n q file f.dir l.name) in inl (inl (rw (on.2, same) refl)))
       (entered_below w n q file f.dir l.name s.coherent next, inr shape.0) ways_yet (λ writes. (λ h e. let same : file.header ≡ h = cc (entered_header w n q file f.dir l.name, e) in rw (← same) refl, shape.1))
       (λ S ours.
       let new : NewTo S w n = later_new S w t x x.made ours is (omega arith) in
-      let k = (shown S ours).seen in
+      let k = (shown S ours).on in
       opens_may S w left t (named 1 x) n ids ways modes ours (later_new S w t x (x.made + 1) ours is (omega arith)) (inr new) (λ m way. inl (k.2 m way)) (inr k.1) (λ read h e. absurd (new.1 (header_old s.coherent n h e)))))
       (rests_opening left t (named 1 x) seat n ids ways modes d.settled)))
     where
@@ -189,5 +186,5 @@ module _ (w : World) (t : ℕ) (x : Task) (is : task_at w t ≡ Some x) (flags :
 
       ways_yet : (k : Name) → IsAmong k (ways_of ways) → CanBeNamed left k
       ways_yet k way =
-          let below : Below w k = given s k (λ S ours. (shown S ours).seen.2 k way) in
-          (named_still w s.coherent n next 1 k below, be_same (nodes_of left) (nodes_of w) k (ap (λ o. shape_by (info_in w.servers o)) (get_apart w.homes n q k (next_apart w n k next below))) (held k way))
+          let below : Below w k = given s k (λ S ours. (shown S ours).on.2 k way) in
+          (named_still w s.coherent n next 1 k below, be_same (nodes_of left) (nodes_of w) k (ap (λ o. shape_by (info_in w.servers o)) (home-apart w.sites n (new_site q) k (next_apart w n k next below))) (held.2 k way))

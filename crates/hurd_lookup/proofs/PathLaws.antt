@@ -11,59 +11,37 @@ is_name part = not (is_nil part)
 abbrev parts : List ℕ → List (List ℕ)
 parts path = slice_split is_slash_byte path
 
--- the slashes that a path begins with are no names
-pub names_in-from_name : (path : List ℕ) → names_in (from_name path) ≡ names_in path
-names_in-from_name [] = refl
-names_in-from_name (b ∷ bs) = go (is_slash_byte b) refl (names_in-from_name bs)
-  where
-    go : (s : Bool) → is_slash_byte b ≡ s → names_in (from_name bs) ≡ names_in bs → names_in (cond s (from_name bs) (b ∷ bs)) ≡ names_in (b ∷ bs)
-    go true e ih = ih ∙ sym (ap (λ (z : Bool). filter is_name (cond z ([] ∷ parts bs) (onto_first b (parts bs)))) e)
-    go false e ih = refl
+-- behind the slashes that a path begins with its names are the same, it is no longer, and it is empty or begins with a byte of a name
+record Bare (path rest : List ℕ) : Type 0 where
+  names : names_in rest ≡ names_in path
+  short : length rest ≤ length path
+  begins : (rest ≡ []) ⊎ ((y : ℕ) × (ys : List ℕ) × (rest ≡ y ∷ ys) × (is_slash_byte y ≡ false))
 
--- behind it the path is empty or begins with a name
-pub length-from_name : (path : List ℕ) → length (from_name path) ≤ length path
-length-from_name [] = omega arith
-length-from_name (b ∷ bs) = go (is_slash_byte b) (length-from_name bs)
+bare : (path : List ℕ) → Bare path (from_name path)
+bare [] = record { names = refl; short = omega arith; begins = inl refl }
+bare (b ∷ bs) = go (is_slash_byte b) refl (bare bs)
   where
-    go : (s : Bool) → length (from_name bs) ≤ length bs → length (cond s (from_name bs) (b ∷ bs)) ≤ length (b ∷ bs)
-    go true ih = omega arith
-    go false ih = omega arith
+    go : (s : Bool) → is_slash_byte b ≡ s → Bare bs (from_name bs) → Bare (b ∷ bs) (cond s (from_name bs) (b ∷ bs))
+    go true e ih = record { names = rw e ih.names; short = omega arith; begins = ih.begins }
+    go false e ih = record { names = refl; short = omega arith; begins = inr (b, bs, refl, e) }
 
 -- the first part, and the names behind it
 record Cut (path : List ℕ) : Type 0 where
-  first : parts path ≡ take (position_or_len is_slash_byte path) path ∷ drop 1 (parts path)
-  rest : filter is_name (drop 1 (parts path)) ≡ names_in (drop (position_or_len is_slash_byte path) path)
+  behind : List (List ℕ)
+  first : parts path ≡ take (position_or_len is_slash_byte path) path ∷ behind
+  rest : filter is_name behind ≡ names_in (drop (position_or_len is_slash_byte path) path)
 
-drop_onto : (b : ℕ) (ps : List (List ℕ)) → drop 1 (onto_first b ps) ≡ drop 1 ps
-drop_onto b [] = refl
-drop_onto b (p ∷ ps) = refl
-
--- a byte in front, which is a slash or isn't
-module _ (b : ℕ) (bs : List ℕ) (c : Cut bs) where
-  abbrev k : ℕ
-  k = position_or_len is_slash_byte bs
-
-  cut_slash : is_slash_byte b ≡ true → Cut (b ∷ bs)
-  cut_slash e = record { first = rw e refl; rest = rw e (rw (names-cons e) refl) }
-    where
-      names-cons : is_slash_byte b ≡ true → names_in (b ∷ bs) ≡ names_in bs
-      names-cons h = rw h refl
-
-  cut_other : is_slash_byte b ≡ false → Cut (b ∷ bs)
-  cut_other e =
-      let one : 1 + k ≡ suc k = omega arith in
-      record {
-        first = rw (e, one) (ap (onto_first b) c.first ∙ ap (λ ps. (b ∷ take k bs) ∷ ps) (sym (drop_onto b (parts bs))));
-        rest = rw (e, one) (ap (filter is_name) (drop_onto b (parts bs)) ∙ c.rest);
-      }
-
+-- a byte in front is a slash or isn't
 cut : (path : List ℕ) → Cut path
-cut [] = record { first = refl; rest = refl }
+cut [] = record { behind = []; first = refl; rest = refl }
 cut (b ∷ bs) = go (is_slash_byte b) refl (cut bs)
   where
+    one : 1 + position_or_len is_slash_byte bs ≡ suc (position_or_len is_slash_byte bs)
+    one = omega arith
+
     go : (s : Bool) → is_slash_byte b ≡ s → Cut bs → Cut (b ∷ bs)
-    go true e c = cut_slash b bs c e
-    go false e c = cut_other b bs c e
+    go true e c = record { behind = parts bs; first = rw e refl; rest = rw e (rw e refl) }
+    go false e c = record { behind = c.behind; first = rw (e, one) (ap (onto_first b) c.first); rest = rw (e, one) c.rest }
 
 -- where the first part ends
 pub position_some : (path : List ℕ) (i : ℕ) → position is_slash_byte path ≡ Some i → i ≡ position_or_len is_slash_byte path
@@ -82,16 +60,6 @@ position_none path = go (nat_lt (position_or_len is_slash_byte path) (length pat
         let low : position_or_len is_slash_byte path ≤ length path = prefix_len-le-length _ path in
         grind (arith, nat_tests)
 
--- behind its slashes a path is empty, or begins with a byte of a name
-pub begins : (path : List ℕ) → (from_name path ≡ []) ⊎ ((y : ℕ) × (ys : List ℕ) × (from_name path ≡ y ∷ ys) × (is_slash_byte y ≡ false))
-begins [] = inl refl
-begins (b ∷ bs) = go (is_slash_byte b) refl (begins bs)
-  where
-    go : (s : Bool) → is_slash_byte b ≡ s → (from_name bs ≡ []) ⊎ ((y : ℕ) × (ys : List ℕ) × (from_name bs ≡ y ∷ ys) × (is_slash_byte y ≡ false))
-        → (cond s (from_name bs) (b ∷ bs) ≡ []) ⊎ ((y : ℕ) × (ys : List ℕ) × (cond s (from_name bs) (b ∷ bs) ≡ y ∷ ys) × (is_slash_byte y ≡ false))
-    go true e ih = ih
-    go false e ih = inr (b, bs, refl, e)
-
 -- a path that begins with a name: that name, and the names behind it
 pub first_of : (y : ℕ) (ys : List ℕ) → is_slash_byte y ≡ false → let k = position_or_len is_slash_byte (y ∷ ys) in (names_in (y ∷ ys) ≡ take k (y ∷ ys) ∷ names_in (drop k (y ∷ ys))) × (length (drop k (y ∷ ys)) ≤ length ys)
 first_of y ys e =
@@ -105,18 +73,18 @@ first_of y ys e =
 -- the same of any path
 
 pub none_in : (path : List ℕ) → length (from_name path) ≡ 0 → names_in path ≡ []
-none_in path h = elim (begins path) [
-  | inl e ↦ sym (names_in-from_name path) ∙ ap names_in e
+none_in path h = elim (bare path).begins [
+  | inl e ↦ sym (bare path).names ∙ ap names_in e
   | inr b ↦ absurd (let more : length (from_name path) ≡ length b.1 + 1 = ap length b.2 ∙ omega arith in omega arith)
 ]
 
 pub one_in : (path : List ℕ) → (length (from_name path) ≡ 0 → ⊥) → let k = position_or_len is_slash_byte (from_name path) in (names_in path ≡ take k (from_name path) ∷ names_in (drop k (from_name path))) × (length (drop k (from_name path)) < length path)
-one_in path h = elim (begins path) [
+one_in path h = elim (bare path).begins [
   | inl e ↦ absurd (h (ap length e))
   | inr b ↦
       let f = first_of b.0 b.1 b.3 in
-      let short = length-from_name path in
+      let short = (bare path).short in
       let long : length (from_name path) ≡ length b.1 + 1 = ap length b.2 ∙ omega arith in
       let back : length (drop (position_or_len is_slash_byte (from_name path)) (from_name path)) ≤ length b.1 = rw b.2 (f.1) in
-      (sym (names_in-from_name path) ∙ rw b.2 f.0, omega arith)
+      (sym (bare path).names ∙ rw b.2 f.0, omega arith)
 ]

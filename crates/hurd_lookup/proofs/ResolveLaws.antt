@@ -1,55 +1,63 @@
--- What is resolved is the same in worlds that agree, where S could do what the ids may; S sees where it leads, and no refusal is want of memory.
-use Rattle.std.proofs.Common.{ℕ, zero, suc, Bool, List, [], ◌∷◌, Some, None, refl, inl, inr, subst}
+-- What is resolved is the same in both worlds, leads to where a walk can be, and no refusal is want of memory.
+use Rattle.std.proofs.Common.{◌≡◌, ℕ, zero, suc, length, Bool, List, [], ◌∷◌, Some, None, refl, ap, inl, inr, subst}
 use Rattle.std.specs.Prelude.{Result}
 use Rattle.hurd_creds.specs.declared.name.Name.{Name}
 use Rattle.hurd_creds.specs.declared.errno.Errno.TheVariants.{ELOOP, ENOENT, ENXIO}
 use Rattle.hurd_creds.specs.Access.{IdSets}
 use Rattle.hurd_machine.specs.World.{World, IsAmong}
-use Rattle.hurd_machine.specs.Sight.{Seen, Root}
-use Rattle.hurd_machine.proofs.Views.{Agree, header_same}
+use Rattle.hurd_machine.specs.Sight.{Seen}
+use Rattle.hurd_machine.proofs.Views.{Agree}
 use Rattle.hurd_lookup.specs.declared.request.Request.{Request}
 use Rattle.hurd_lookup.specs.Lookup.{Place, AtNode, AtName, Elsewhere, Waits, no_ids}
 use Rattle.hurd_lookup.specs.Resolve.{Leg, from_top, landed, leg_request, legs, most_looks, resolve, resolve_all, right_of}
 use Rattle.hurd_lookup.proofs.AlikeLaws.{Alike, ok_alike, err_alike, on_alike, given_alike, first_alike}
-use Rattle.hurd_lookup.proofs.WalkLaws.{Powers, PlaceWith, WaysSeen, no_ids_taken, taken_powers, walk_with}
+use Rattle.hurd_lookup.proofs.WalkLaws.{Ground, Powers, PlaceOn, WaysOn, no_ids_taken, seen_ground, taken_powers, walk_alike}
+
+module _ {v w : World} {At Near Entries : Name → Type 0} {T : IdSets → Type 0} (g : Ground v w At Near Entries T) (ids : IdSets) (taken : T ids) where
+  -- from where it goes on
+  record LegOn (l : Leg) : Type 0 where
+    node : At l.node
+    ways : WaysOn At l.ways
+
+  top_alike : (path : List ℕ) → Alike LegOn (from_top path) (from_top path)
+  top_alike path = given_alike _ _ _ _ _ _ refl refl (λ k. ok_alike _ _ (record { node = g.top; ways = λ m i. absurd i }))
+
+  landed_alike : (r : Request) (j k : Leg → Result Name _) → ((l : Leg) → LegOn l → Alike At (j l) (k l)) → (place : Place) → PlaceOn At Entries T place → Alike At (landed v r j place) (landed w r k place)
+  landed_alike r j k onward (AtNode n ways) at = on_alike _ _ _ _ _ _ refl (g.header n (g.near n at.0)) (λ h e. given_alike _ _ _ _ _ _ refl refl (λ is. ok_alike _ n at.0))
+  landed_alike r j k onward (AtName d name) at = err_alike _ ENOENT refl
+  landed_alike r j k onward (Elsewhere kind name None) at = first_alike LegOn _ _ _ _ _ (top_alike name) (λ l is there. onward l there)
+  landed_alike r j k onward (Elsewhere kind name (Some e)) at =
+      let l : Leg = record { node = e.node; ways = e.parents; path = name } in
+      first_alike LegOn _ _ _ _ _ (ok_alike _ l (record { node = at.node; ways = at.ways })) (λ m is there. onward m there)
+  landed_alike r j k onward (Waits n words) at = err_alike _ ENXIO refl
+
+  legs_alike : (k : ℕ) (l : Leg) → LegOn l → Alike At (legs k v ids l) (legs k w ids l)
+  legs_alike zero l at = err_alike _ ELOOP refl
+  legs_alike (suc k) l at =
+      on_alike _ _ _ _ _ _ refl (g.header l.node (g.near l.node at.node)) (λ h e. given_alike _ _ _ _ _ _ refl refl (λ short.
+      first_alike (PlaceOn At Entries T) _ _ _ _ _ (walk_alike g (right_of ids l) taken at.ways (leg_request l.path) l.node _ at.node)
+      (λ place is there. landed_alike (leg_request l.path) (legs k v ids) (legs k w ids) (legs_alike k) place there)))
+
+  resolve_alike : (path : List ℕ) → Alike At (resolve v ids path) (resolve w ids path)
+  resolve_alike path = first_alike LegOn _ _ _ _ _ (top_alike path) (λ l is at. legs_alike most_looks l at)
+
+  -- it can be at each of these, and they are as many as the paths
+  abbrev AllOn : List (List ℕ) → List Name → Type 0
+  AllOn paths ns = ((n : Name) → IsAmong n ns → At n) × (length ns ≡ length paths)
+
+  pub each_alike : (paths : List (List ℕ)) → Alike (AllOn paths) (resolve_all v ids paths) (resolve_all w ids paths)
+  each_alike [] = ok_alike _ [] (λ n i. absurd i, refl)
+  each_alike (path ∷ paths) =
+      first_alike At _ _ _ _ _ (resolve_alike path) (λ m is at.
+      first_alike (AllOn paths) _ _ _ _ _ (each_alike paths) (λ ns also rest.
+      ok_alike _ (m ∷ ns) (λ n i. elim i [ inl e ↦ subst At e at | inr j ↦ rest.0 n j ], ap (λ k. suc k) rest.1)))
 
 module _ {S : ℕ → Bool} {v w : World} (a : Agree S v w) (ids : IdSets) (powers : Powers S v ids) where
-  -- S sees from where it goes on
-  record LegSeen (l : Leg) : Type 0 where
-    node : Seen S v l.node
-    ways : WaysSeen S v l.ways
-
-  top_alike : (path : List ℕ) → Alike LegSeen (from_top path) (from_top path)
-  top_alike path = given_alike _ _ _ _ _ _ refl refl (λ k. ok_alike _ _ (record { node = Root refl; ways = λ m i. absurd i }))
-
-  landed_alike : (r : Request) (j k : Leg → Result Name _) → ((l : Leg) → LegSeen l → Alike (Seen S v) (j l) (k l)) → (place : Place) → PlaceWith (Powers S v) S v place
-      → Alike (Seen S v) (landed v r j place) (landed w r k place)
-  landed_alike r j k onward (AtNode n ways) seen = on_alike _ _ _ _ _ _ refl (header_same a n seen.0) (λ h e. given_alike _ _ _ _ _ _ refl refl (λ g. ok_alike _ n seen.0))
-  landed_alike r j k onward (AtName d name) seen = err_alike _ ENOENT refl
-  landed_alike r j k onward (Elsewhere kind name None) seen = first_alike LegSeen _ _ _ _ _ (top_alike name) (λ l is sees. onward l sees)
-  landed_alike r j k onward (Elsewhere kind name (Some e)) seen =
-      let l : Leg = record { node = e.node; ways = e.parents; path = name } in
-      first_alike LegSeen _ _ _ _ _ (ok_alike _ l (record { node = seen.node; ways = seen.ways })) (λ m is sees. onward m sees)
-  landed_alike r j k onward (Waits n words) seen = err_alike _ ENXIO refl
-
-  legs_alike : (k : ℕ) (l : Leg) → LegSeen l → Alike (Seen S v) (legs k v ids l) (legs k w ids l)
-  legs_alike zero l seen = err_alike _ ELOOP refl
-  legs_alike (suc k) l seen =
-      on_alike _ _ _ _ _ _ refl (header_same a l.node seen.node) (λ h e. given_alike _ _ _ _ _ _ refl refl (λ short.
-      first_alike (PlaceWith (Powers S v) S v) _ _ _ _ _
-      (walk_with a (Powers S v) (λ i p. p) (taken_powers S v no_ids (no_ids_taken S v)) (right_of ids l) powers seen.ways (leg_request l.path) l.node _ seen.node)
-      (λ place is sees. landed_alike (leg_request l.path) (legs k v ids) (legs k w ids) (legs_alike k) place sees)))
-
-  pub resolve_alike : (path : List ℕ) → Alike (Seen S v) (resolve v ids path) (resolve w ids path)
-  resolve_alike path = first_alike LegSeen _ _ _ _ _ (top_alike path) (λ l is seen. legs_alike most_looks l seen)
-
   -- S sees each of these
   abbrev pub AllSeen : List Name → Type 0
   AllSeen ns = (n : Name) → IsAmong n ns → Seen S v n
 
   pub resolve_all_alike : (paths : List (List ℕ)) → Alike AllSeen (resolve_all v ids paths) (resolve_all w ids paths)
-  resolve_all_alike [] = ok_alike _ [] (λ n i. absurd i)
-  resolve_all_alike (path ∷ paths) =
-      first_alike (Seen S v) _ _ _ _ _ (resolve_alike path) (λ m is seen.
-      first_alike AllSeen _ _ _ _ _ (resolve_all_alike paths) (λ ns also sees.
-      ok_alike _ (m ∷ ns) (λ n i. elim i [ inl e ↦ subst (Seen S v) e seen | inr j ↦ sees n j ])))
+  resolve_all_alike paths =
+      let l = each_alike (seen_ground a (Powers S v) (λ i p. p) (taken_powers S v no_ids (no_ids_taken S v))) ids powers paths in
+      record { same = l.same; has = λ ns is. (l.has ns is).0; plain = l.plain }

@@ -1,8 +1,9 @@
 -- How long what is left of a path is, and how it is put behind a text.
-use Rattle.std.proofs.Common.{◌≡◌, ◌∙◌, ◌<◌, ◌≤◌, ℕ, suc, ◌+◌, ◌-◌, not, Bool, true, false, cond, List, [], ◌∷◌, ◌++◌, length, filter, nat_le, refl, sym, ap, arith}
+use Rattle.std.proofs.Common.{◌≡◌, ◌∙◌, ◌<◌, ◌≤◌, ℕ, suc, ◌+◌, ◌-◌, not, Bool, true, false, List, [], ◌∷◌, ◌++◌, length, nat_le, refl, sym, ap, arith}
 use Rattle.std.proofs.lemmas.Bool.Decides.{nat_tests}
 use Rattle.std.proofs.lemmas.List.{length-append, append_assoc, append-nil}
-use Rattle.std.specs.List.{slice_split}
+use Rattle.std.proofs.lemmas.List.Elements.{filter_passes}
+use Rattle.std.specs.List.{All, slice_split}
 use Rattle.hurd_creds.specs.Limits.{most_path}
 use Rattle.hurd_lookup.specs.Path.{behind_slashes, is_nil, is_slash_byte, names_in, onto, rest_of, slash}
 use Rattle.hurd_lookup.specs.Lookup.{is_last}
@@ -52,27 +53,13 @@ pub at-end : (path : List ℕ) (room : ℕ) → names_in path ≡ [] → nat_le 
 at-end path room is =
     ap (λ (ns : List (List ℕ)). nat_le (length (behind_slashes ns)) room) is ∙ ap (λ (bs : List ℕ). nat_le (length bs) room) behind-none ∙ grind (arith, nat_tests)
 
--- a name has a byte
-
-abbrev is_name : List ℕ → Bool
-is_name part = not (is_nil part)
-
-has_bytes : (ps : List (List ℕ)) (y : List ℕ) (ys : List (List ℕ)) → filter is_name ps ≡ y ∷ ys → is_nil y ≡ false
-has_bytes [] y ys h = absurd (cc)
-has_bytes (p ∷ ps) y ys h = go (is_nil p) refl (λ k. has_bytes ps y ys k) h
-  where
-    go : (b : Bool) → is_nil p ≡ b → (filter is_name ps ≡ y ∷ ys → is_nil y ≡ false) → cond (not b) (p ∷ filter is_name ps) (filter is_name ps) ≡ y ∷ ys → is_nil y ≡ false
-    go true e more k = more k
-    go false e more k = let same : p ≡ y = cc in rw (← same) e
-
 -- how long a rest behind a text is
 
 module _ (bytes : List ℕ) where
-  long : (names : List (List ℕ)) (ended : Bool) → ((y : List ℕ) (ys : List (List ℕ)) → names ≡ y ∷ ys → is_nil y ≡ false)
-      → length (onto bytes (rest_of names ended)) ≡ length bytes + (length (behind_slashes names) + ending (is_last names) ended)
+  long : (names : List (List ℕ)) (ended : Bool) → All (λ (name : List ℕ). not (is_nil name) ≡ true) names → length (onto bytes (rest_of names ended)) ≡ length bytes + (length (behind_slashes names) + ending (is_last names) ended)
   long [] false f = omega (arith, ap length behind-none)
   long [] true f = omega (arith, ap length behind-none, length-append bytes (slash ∷ slash ∷ []))
-  long ([] ∷ ns) ended f = absurd (let no : true ≡ false = f [] ns refl in cc)
+  long ([] ∷ ns) ended f = absurd (let no : false ≡ true = f 0 [] (omega arith) in cc)
   long ((b ∷ bs) ∷ ns) false f =
       let rest = (bs ++ behind_slashes ns) ++ [] in
       omega (arith, length-append bytes (slash ∷ b ∷ rest), length-append (bs ++ behind_slashes ns) [], length-append bs (behind_slashes ns), long-one (b ∷ bs) ns)
@@ -82,7 +69,7 @@ module _ (bytes : List ℕ) where
 
   pub onto-long : (path : List ℕ) (ended : Bool)
       → length (onto bytes (rest_of (names_in path) ended)) ≡ length bytes + (length (behind_slashes (names_in path)) + ending (is_last (names_in path)) ended)
-  onto-long path ended = long (names_in path) ended (λ y ys is. has_bytes (slice_split is_slash_byte path) y ys is)
+  onto-long path ended = long (names_in path) ended (filter_passes _ (slice_split is_slash_byte path))
 
 small : (last ended : Bool) → ending last ended ≤ 2
 small last false = omega arith

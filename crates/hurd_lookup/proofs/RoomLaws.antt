@@ -15,18 +15,12 @@ use Rattle.hurd_core.specs.Core.{asked_only, room_asks}
 use Rattle.hurd_core.proofs.CoreLaws.{IsRefused, HasRoom, room}
 use Rattle.hurd_lookup.specs.Lookup.{no_ids}
 
--- what can't be refused is want of memory, where it is no answer
-
-only_short : {T : Type 0} (x : T) (e : Errno) → Meets (Ok x) (Err e) → e ≡ ENOMEM
-only_short x e (inl bars) = absurd (cc)
-only_short x e (inr short) = short.0
-
--- no ids are never too many
+-- no ids are never too many: if they are refused, it is for want of memory
 pub ids_none : ids_of [] [] ≡ Ok no_ids
 ids_none = rw (set.len-empty nat_cmp) refl
 
 pub ids_short : (e : Errno) → Meets (ids_of [] []) (Err e) → e ≡ ENOMEM
-ids_short e short = only_short no_ids e (subst (λ (r : Result IdSets Errno). Meets r (Err e)) ids_none short)
+ids_short e short = elim (subst (λ (r : Result IdSets Errno). Meets r (Err e)) ids_none short) [ inl bars ↦ absurd (cc) | inr lacks ↦ lacks.0 ]
 
 -- what the tables say of it is what the plan asks
 pub room_asked : (N : NodeState) (H : PortState) (t names : ℕ) → room_of H t names ≡ asked_only (room_asks (world_from N H) t names)

@@ -2,6 +2,9 @@
 use Rattle.std.proofs.Common.{◌≡◌, ◌≢◌, ◌⊎◌, ℕ, ◌<◌, ◌≤◌, Bool, true, List, [], Option, Some, None, sym, refl, ◌∙◌, ap, subst, inl, inr, arith}
 use Rattle.std.specs.Option.{option_map}
 use Rattle.std.specs.FinMap.{get}
+use Rattle.hurd_machine.proofs.Sites.{active_out_was, active_put}
+use Rattle.hurd_nodes.proofs.Sites.{home-inserted, home-edited, home-was}
+use Rattle.hurd_nodes.specs.Held.{new_site}
 use Rattle.hurd_creds.specs.declared.name.Name.{Name}
 use Rattle.hurd_creds.specs.NameMaps.{edit}
 use Rattle.hurd_creds.proofs.NameLaws.{same_or_apart, get_here, get_apart, edit_apart}
@@ -21,8 +24,9 @@ use Rattle.hurd_machine.specs.Sound.{Coherent}
 use Rattle.hurd_machine.proofs.Nodes.{header_in, body_in, header-with_header, header-with_body, body-with_header, body-with_body, edit_reads, edit_keeps, edited_from, ByEmptiness, was_edited}
 use Rattle.hurd_machine.proofs.Tasks.{edit_cases, sent_cases}
 use Rattle.hurd_machine.proofs.Coherence.{right_old, HasNoEntries, IsNext, Comes, next_not, next_apart, was, header_was, Proper, lister, entry_lists}
-use Rattle.hurd_machine.proofs.Comes.{attach_is, come_world}
-use Rattle.hurd_machine.proofs.Drop as drop
+use Rattle.hurd_machine.proofs.Comes.{attach_is, come_world, come_home_is, come_seat_was}
+use Rattle.hurd_machine.proofs.Drop.{drop_left, server_was as dropped_was}
+use Rattle.hurd_machine.proofs.Left as left
 use Rattle.hurd_machine.proofs.Unseated.{still_active}
 use Rattle.hurd_machine.proofs.Texts.{server_was}
 use Rattle.hurd_machine.proofs.Frame.{IsExact}
@@ -178,14 +182,11 @@ module _ (S : ℕ → Bool) (v x : World) (coherent : Coherent x) (i : Inside S 
   stepped_named y n k next e =
       stepped_edit y n.task.0 (named k) next.seat next.is_task e (omega arith) (λ r h. inl h) (inr (record { ids = inl refl; rights = λ r h. inl h }))
 
-  stepped_sent : (y : World) (r : Right) (q : ℕ) (a : Task) → task_at x q ≡ Some a → y.tasks ≡ edit_task q (with_sent r) x.tasks → RightMay S v x r × (HasUid S v 0 ⊎ IdsMay S v r) → Stepped y
-  stepped_sent y r q a is e m = let own = gained_may S v x r a (with_sent r a) refl (sent_cases r a) m in stepped_edit y q (with_sent r) a is e (omega arith) own.0 own.1
-
   stepped : (c : Change) → IsExact c → Proper x c → May S v x c → Stepped (apply c x)
   stepped (MakeNode n s node) ex p m = stepped_named (apply (MakeNode n s node) x) n 1 p.0 refl
   stepped (MakeOpen o z) ex p m = stepped_named (apply (MakeOpen o z) x) o 1 p refl
   stepped (EditTask q f) ex p m = let o = m.1 p.1 p.2 in stepped_edit (apply (EditTask q f) x) q f p.1 p.2 refl (p.0 p.1) o.0 o.1
-  stepped (Send r q) ex p m = stepped_sent (apply (Send r q) x) r q p.0 p.1 refl m
+  stepped (Send r q) ex p m = let o = gained_may S v x r p.0 (with_sent r p.0) refl (sent_cases r p.0) m in stepped_edit (apply (Send r q) x) q (with_sent r) p.0 p.1 refl (omega arith) o.0 o.1
   stepped (Attach s at j node) ex p m = stepped_named (apply (Attach s at j node) x) s 2 p.next refl
   stepped Settle ex p m = absurd ex
   stepped c ex p m = stepped_same (apply c x) refl
@@ -253,7 +254,7 @@ module _ (S : ℕ → Bool) (v x : World) (coherent : Coherent x) (i : Inside S 
     | inl k ↦ inr (subst (NewTo S v) (sym k.0) (root_new s at j node p m.0), λ q eq. let none : None ≡ Some q = sym p.parent ∙ ap (λ (z : Header). z.parent) k.1 ∙ eq in absurd (cc))
     | inr k ↦ inl (h, k, Less-refl S v n h)
   ]
-  headers_next (DropServer s) ex p m n h e = inl (h, (drop.header_was x s n h e).0, Less-refl S v n h)
+  headers_next (DropServer s) ex p m n h e = inl (h, (left.header_was x coherent _ _ (drop_left x s coherent p) n h e).0, Less-refl S v n h)
   headers_next Settle ex p m n h e = absurd ex
   headers_next c ex p m n h e = inl (h, e, Less-refl S v n h)
 
@@ -288,17 +289,18 @@ module _ (S : ℕ → Bool) (v x : World) (coherent : Coherent x) (i : Inside S 
       ]
   entries_next (DropServer s) ex p m d n name e =
       let y = lister (get (apply (DropServer s) x).nodes d) n (entry_lists name (body_at (apply (DropServer s) x) d) n e) in
-      inl (ap (λ o. entry_of name (body_in o)) (was_retained x.nodes (is_other s x.homes) d y.0 y.1).0 ∙ sym (ap (λ o. entry_of name (body_in o)) y.1) ∙ e)
+      inl (ap (λ o. entry_of name (body_in o)) (was_retained x.nodes (is_other s x.sites) d y.0 y.1).0 ∙ sym (ap (λ o. entry_of name (body_in o)) y.1) ∙ e)
   entries_next Settle ex p m d n name e = absurd ex
   entries_next c ex p m d n name e = inl e
 
   homes_next : (c : Change) → IsExact c → Proper x c → May S v x c → (n s : Name) → home_at (apply c x) n ≡ Some s → (home_at x n ≡ Some s) ⊎ (NewTo S v n × Known S v (OptionsOf s))
-  homes_next (MakeNode a q node) ex p m n s e = elim (was x.homes a n q s e) [ inl k ↦ inr (subst (NewTo S v) (sym k.0) (next_new a p.0 m.0), subst (λ z. Known S v (OptionsOf z)) k.1 m.1) | inr k ↦ inl k.1 ]
-  homes_next (Attach q at j node) ex p m n s e = elim (was x.homes j.root n q s (subst (λ (z : World). home_at z n ≡ Some s) (come_is q at j node p) e)) [
+  homes_next (MakeNode a q node) ex p m n s e = elim (home-inserted x.sites a (new_site q) n s e) [ inl k ↦ inr (subst (NewTo S v) (sym k.0) (next_new a p.0 m.0), subst (λ z. Known S v (OptionsOf z)) k.1 m.1) | inr k ↦ inl k.1 ]
+  homes_next (Attach q at j node) ex p m n s e = elim (come_home_is x coherent q at j node p n s (subst (λ (z : World). home_at z n ≡ Some s) (come_is q at j node p) e)) [
     | inl k ↦ inr (subst (NewTo S v) (sym k.0) (root_new q at j node p m.0), inr (subst (NewTo S v) k.1 (next_new q p.next m.0)))
     | inr k ↦ inl k.1
   ]
-  homes_next (DropServer q) ex p m n s e = inl (was_retained x.homes (is_other q x.homes) n s e).0
+  homes_next (DropServer q) ex p m n s e = inl (home-was x.sites q n s e)
+  homes_next (Unseat k) ex p m n s e = inl (sym (home-edited x.sites k None n) ∙ e)
   homes_next Settle ex p m n s e = absurd ex
   homes_next c ex p m n s e = inl e
 
@@ -308,16 +310,17 @@ module _ (S : ℕ → Bool) (v x : World) (coherent : Coherent x) (i : Inside S 
     | inr a ↦ i.servers s k a.1
   ]
   servers_next (SetText q text) ex p m s k e = let l = server_was x q text s k e in i.servers s (with_text l.0 k) l.1
-  servers_next (DropServer q) ex p m s k e = i.servers s k (drop.server_was x q s k e).0
+  servers_next (DropServer q) ex p m s k e = i.servers s k (dropped_was x q s k e).0
   servers_next Settle ex p m s k e = absurd ex
   servers_next c ex p m s k e = i.servers s k e
 
   actives_next : (c : Change) → IsExact c → Proper x c → May S v x c → (n s : Name) → active_at (apply c x) n ≡ Some s → (active_at v n ≡ Some s) ⊎ NewTo S v s
-  actives_next (Attach q at j node) ex p m n s e = elim (was x.actives at n q s (subst (λ (z : World). active_at z n ≡ Some s) (come_is q at j node p) e)) [
+  actives_next (Attach q at j node) ex p m n s e = elim (come_seat_was x coherent q at j node p n s (subst (λ (z : World). active_at z n ≡ Some s) (come_is q at j node p) e)) [
     | inl a ↦ inr (subst (NewTo S v) a.1 (next_new q p.next m.0))
-    | inr a ↦ i.actives n s a.1
+    | inr a ↦ i.actives n s a
   ]
-  actives_next (DropServer q) ex p m n s e = i.actives n s (drop.active_was x q n s e).0
+  actives_next (MakeNode a q node) ex p m n s e = i.actives n s (active_put x.sites a q n s e).1
+  actives_next (DropServer q) ex p m n s e = i.actives n s (active_out_was q x.sites n s e).0
   actives_next (Unseat k) ex p m n s e = i.actives n s (still_active x k n s e)
   actives_next Settle ex p m n s e = absurd ex
   actives_next c ex p m n s e = i.actives n s e

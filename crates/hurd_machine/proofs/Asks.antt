@@ -14,7 +14,7 @@ use Rattle.hurd_trans_iface.specs.Meaning.{keeps_tree}
 use Rattle.hurd_trans_iface.specs.Behaviour.{Question, writing}
 use Rattle.hurd_trans_iface.specs.Kinds.{ServerKind, behaviour_of}
 use Rattle.hurd_trans_iface.specs.Good.{IsBlindAt, IsPlain as IsPlainAnswer}
-use Rattle.hurd_nodes.specs.Shown.{ServerInfo, info_in, asked_of, readable_by, is_root_at, made_by, are_kin, link_by, set_attrs_by}
+use Rattle.hurd_nodes.specs.Shown.{ServerInfo, info_in, asked_of, readable_by, is_root_at, made_by, are_kin, link_by, edit_by}
 use Rattle.hurd_ports.specs.declared.table.IoRight.{IoRight}
 use Rattle.hurd_ports.specs.declared.table.Right.{Right}
 use Rattle.hurd_ports.specs.declared.table.Right.TheVariants.{Io}
@@ -295,7 +295,7 @@ blind_same q blind (Some i) (Some x) (Some y) h =
 blind_same q blind (Some i) o p h = absurd (cc)
 
 -- whether attributes may be set is the same of nodes that are there alike
-there_same : (i : Option ServerInfo) (o p : Option Node) → header_in p ≡ header_in o → set_attrs_by i p ≡ set_attrs_by i o
+there_same : (i : Option ServerInfo) (o p : Option Node) → header_in p ≡ header_in o → edit_by keeps_tree i p ≡ edit_by keeps_tree i o
 there_same None o p h = refl
 there_same (Some i) None None h = refl
 there_same (Some i) (Some x) (Some y) h = refl
@@ -324,7 +324,7 @@ module _ {S : ℕ → Bool} {v w : World} (a : Agree S v w) (n : Name) where
 
   -- whether attributes of a node that S sees may be set
   pub sets_attrs_same : Seen S v n → sets_attrs_at w n ≡ sets_attrs_at v n
-  sets_attrs_same seen = ap (λ i. set_attrs_by i (get w.nodes n)) (info_same seen) ∙ there_same (info_at v n) (get v.nodes n) (get w.nodes n) (header_same a n seen)
+  sets_attrs_same seen = ap (λ i. edit_by keeps_tree i (get w.nodes n)) (info_same seen) ∙ there_same (info_at v n) (get v.nodes n) (get w.nodes n) (header_same a n seen)
 
   -- whether the server of a node that S sees counts who reads
   pub counts_same : Seen S v n → counts_at w n ≡ counts_at v n
@@ -409,7 +409,7 @@ makes_plain w d entry kind = go (info_at w d) (get w.nodes d)
 pub sets_attrs_plain : (w : World) (n : Name) → IsPlain (sets_attrs_at w n)
 sets_attrs_plain w n = go (info_at w n) (get w.nodes n)
   where
-    go : (i : Option ServerInfo) (o : Option Node) → IsPlain (set_attrs_by i o)
+    go : (i : Option ServerInfo) (o : Option Node) → IsPlain (edit_by keeps_tree i o)
     go None o = err_plain EDIED refl
     go (Some i) None = err_plain EDIED refl
     go (Some i) (Some x) = if_plain (keeps_tree i.kind) _ _ (ok_plain tt) (err_plain EOPNOTSUPP refl)

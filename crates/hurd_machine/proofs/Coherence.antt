@@ -1,21 +1,25 @@
 -- Changes that keep a coherent world so.
-use Rattle.std.proofs.Common.{true, false, true≢false, ◌≡◌, ◌≢◌, ◌⊎◌, ℕ, ◌+◌, ◌<◌, ◌≤◌, cond, length, Bool, List, [], ◌∷◌, Option, Some, None, sym, refl, ◌∙◌, ap, subst, inl, inr, arith}
+use Rattle.std.proofs.Common.{if◌then◌else◌, true, false, true≢false, ◌≡◌, ◌≢◌, ◌⊎◌, ℕ, ◌+◌, ◌<◌, ◌≤◌, cond, length, Bool, List, [], ◌∷◌, Option, Some, None, sym, refl, ◌∙◌, ap, subst, inl, inr, arith}
 use Rattle.std.proofs.lemmas.Bool.{or_left, or_right}
 use Rattle.std.specs.List.{list_any}
 use Rattle.std.specs.Option.{option_map}
 use Rattle.std.specs.Str.{bytes_eq}
 use Rattle.std.specs.FinMap.{get, insert}
 use Rattle.std.specs.FinSet as set
+use Rattle.hurd_machine.proofs.Sites.{active_put}
+use Rattle.hurd_nodes.proofs.Sites.{seat-home, home-here, home-apart, home-inserted, home_by}
+use Rattle.hurd_nodes.specs.Held.{home_in, new_site}
 use Rattle.hurd_creds.specs.declared.name.Name.{Name}
+use Rattle.hurd_creds.specs.Names.{same_name}
 use Rattle.hurd_creds.specs.declared.attrs.Kind.TheVariants.{Dir}
 use Rattle.hurd_creds.specs.Bits.{asks, WRITE}
 use Rattle.hurd_creds.specs.NameMaps.{NameMap, edit}
-use Rattle.hurd_creds.proofs.NameLaws.{same_name-itself, same_or_apart, get_here, get_apart, edit_here, edit_apart}
+use Rattle.hurd_creds.proofs.NameLaws.{same_name-apart, same_name-itself, same_or_apart, get_here, get_apart, edit_here, edit_apart}
 use Rattle.hurd_trans_iface.specs.Nodes.{NodeMap, Node, Entry, Header, Body, Content, Listing, IsShaped, is_dir, with_header, with_body, header_of}
 use Rattle.hurd_trans_iface.specs.Answers.{entry_in, entry_of}
 use Rattle.hurd_trans_iface.specs.declared.root.Crossing.TheVariants.{Union}
 use Rattle.hurd_trans_iface.specs.Meaning.{keeps_tree, root_of, targets_of}
-use Rattle.hurd_nodes.specs.Shown.{ServerInfo, boot_name, info_in, is_root_of, tree_by, NodeState}
+use Rattle.hurd_nodes.specs.Shown.{ServerInfo, boot_name, info_in, is_root_at, tree_by, NodeState}
 use Rattle.hurd_ports.specs.declared.table.Opened.{Opened}
 use Rattle.hurd_ports.specs.declared.table.IoRight.{IoRight}
 use Rattle.hurd_ports.specs.declared.table.Right.{Right}
@@ -23,10 +27,10 @@ use Rattle.hurd_ports.specs.declared.table.Right.TheVariants.{Io, Control, Start
 use Rattle.hurd_ports.specs.declared.table.Port.{Port}
 use Rattle.hurd_ports.specs.Tables.{Task, OpenMap, rights_of, nodes_of as nodes_named}
 use Rattle.hurd_ports.specs.Steps.{named, with_sent, edit_task}
-use Rattle.hurd_machine.specs.World.{World, IsAmong, boot_root, nodes_of, task_at, open_at, header_at, body_at, home_at, active_at, server_at, info_at, is_of, lists, lists_at, shape_by, shape_at, leads_on, gives_text}
+use Rattle.hurd_machine.specs.World.{World, site_at, IsAmong, boot_root, nodes_of, task_at, open_at, header_at, body_at, home_at, active_at, server_at, info_at, is_of, lists, lists_at, shape_by, shape_at, leads_on, gives_text}
 use Rattle.hurd_machine.specs.Change.{Change, EditHeader, EditBody, MakeNode, EditOpen, MakeOpen, EditTask, Send, Attach, DropServer, Unseat, SetText, Settle, apply, with_nodes}
-use Rattle.hurd_machine.specs.Sound.{Below, AreDistinct, HasDistinctNames, IsGivenRight, AreGiven, AreHoused, AreSeated, IsTree, CanBeAt, CanBeWritten, AreOfKind, AreTables, Coherent, Linked}
-use Rattle.hurd_machine.proofs.Nodes.{header_in, body_in, body-with_header, edit_keeps, node_of_header, was_edited}
+use Rattle.hurd_machine.specs.Sound.{Below, AreDistinct, HasDistinctNames, IsGivenRight, CanBeAt, CanBeWritten, AreTables, Coherent, Linked}
+use Rattle.hurd_machine.proofs.Nodes.{header_in, body_in, root_info, body-with_header, edit_keeps, node_of_header, was_edited}
 use Rattle.hurd_machine.proofs.Tasks.{edit_cases, edit_here as task_here, below_edit, sent_cases}
 
 -- what a change must have to keep a world coherent
@@ -231,8 +235,12 @@ no_node c n new = none_if _ (λ x e. new (c.given.nodes n x e))
 pub no_home : {w : World} → Coherent w → (n : Name) → (Below w n → ⊥) → home_at w n ≡ None
 no_home c n new = none_if _ (λ s e. new (home_old c n s e))
 
-pub no_active : {w : World} → Coherent w → (n : Name) → (Below w n → ⊥) → active_at w n ≡ None
-no_active c n new = none_if _ (λ s e. let h = c.seating.seats n s e in new (header_old c n h.0 h.1))
+-- a server is active on nodes alone
+pub seat_there : {w : World} → Coherent w → (n s : Name) → active_at w n ≡ Some s → (h : Header) × (header_at w n ≡ Some h)
+seat_there {w} c n s e = let q = seat-home w.sites n s e in c.housing.housed n q.0 q.1
+
+pub no_site : {w : World} → Coherent w → (n : Name) → (Below w n → ⊥) → site_at w n ≡ None
+no_site c n new = none_if _ (λ r e. new (home_old c n r.home (ap home_by e)))
 
 pub no_open : {w : World} → Coherent w → (o : Name) → (Below w o → ⊥) → open_at w o ≡ None
 no_open c o new = none_if _ (λ z e. new (c.given.opens o z e))
@@ -367,61 +375,45 @@ module _ (w : World) (c : Coherent w) (k : Name) (f : Node → Node) (may : (y :
     | inr a ↦ (j, ap header_in (edit_apart w.nodes k f n a) ∙ e)
   ]
 
-  reworked_given : AreGiven reworked_world
-  reworked_given = record {
-    nodes = λ n x e. let y = from n x e in c.given.nodes n y.node y.is;
-    opens = c.given.opens;
-    servers = c.given.servers;
-    rights = c.given.rights;
-    entries = λ d n e. (entry_from d n e).made;
-    parents = λ n p h e ep. let k = header_from n h e in elim k.3 [ inl same ↦ c.given.parents n p k.0 k.1 (sym same ∙ ep) | inr new ↦ new.1 p ep ];
-    targets = c.given.targets;
-  }
-
-  reworked_housing : AreHoused (nodes_of reworked_world)
-  reworked_housing = record {
-    homes = λ n h e. let k = header_from n h e in c.housing.homes n k.0 k.1;
-    housed = λ n q e. let h = c.housing.housed n q e in header_still n h.0 h.1;
-    roots = c.housing.roots;
-    serving = c.housing.serving;
-    lone = c.housing.lone;
-  }
-
-  reworked_seating : AreSeated (nodes_of reworked_world)
-  reworked_seating = record {
-    seated = c.seating.seated;
-    seats = λ n s e. let h = c.seating.seats n s e in header_still n h.0 h.1;
-    alone = c.seating.alone;
-    elsewhere = c.seating.elsewhere;
-  }
-
-  reworked_tree : IsTree (nodes_of reworked_world)
-  reworked_tree = record {
-    kin = λ d n e. (entry_from d n e).kin;
-    trees = λ d n e. (entry_from d n e).tree;
-    below = λ d n h e eh is.
-        let k = header_from n h eh in
-        elim k.3 [ inl same ↦ same ∙ (entry_from d n e).below k.0 k.1 (sym k.2 ∙ is) | inr new ↦ absurd (new.0 d e) ];
-    shapes = λ n x e. let y = from n x e in y.shape (c.tree.shapes n y.node y.is);
-    distinct = λ n x e. let y = from n x e in y.distinct (c.tree.distinct n y.node y.is);
-    root = header_still boot_root c.tree.root.0 c.tree.root.1;
-    boot = c.tree.boot;
-    served = c.tree.served;
-  }
-
-  reworked_kinds : AreOfKind (nodes_of reworked_world)
-  reworked_kinds = record {
-    aims = c.kinds.aims;
-    ends = c.kinds.ends;
-    branches = λ s n i h e union aim eh. let k = header_from n h eh in k.2 ∙ c.kinds.branches s n i k.0 e union aim k.1;
-    roots = λ s i h e eh. let k = header_from i.root h eh in k.2 ∙ c.kinds.roots s i k.0 e k.1;
-  }
-
-  header_kind : (n : Name) (h : Header) → header_in (get edited_nodes n) ≡ Some h → (j : Header) × (header_at w n ≡ Some j) × (h.kind ≡ j.kind)
-  header_kind n h e = let k = header_from n h e in (k.0, k.1, k.2)
-
   pub reworked : Coherent reworked_world
-  reworked = record { given = reworked_given; housing = reworked_housing; seating = reworked_seating; tree = reworked_tree; kinds = reworked_kinds; tables = tables_by w (nodes_of reworked_world) c.tables (λ t x r at has. header_kind r.node) (λ t x r n at has named. inl refl) }
+  reworked = record {
+    given = record {
+      nodes = λ n x e. let y = from n x e in c.given.nodes n y.node y.is;
+      opens = c.given.opens;
+      servers = c.given.servers;
+      rights = c.given.rights;
+      entries = λ d n e. (entry_from d n e).made;
+      parents = λ n p h e ep. let k = header_from n h e in elim k.3 [ inl same ↦ c.given.parents n p k.0 k.1 (sym same ∙ ep) | inr new ↦ new.1 p ep ];
+      targets = c.given.targets;
+    };
+    housing = record {
+      homes = λ n h e. let k = header_from n h e in c.housing.homes n k.0 k.1;
+      housed = λ n q e. let h = c.housing.housed n q e in header_still n h.0 h.1;
+      roots = c.housing.roots;
+      serving = c.housing.serving;
+      lone = c.housing.lone;
+    };
+    seating = search;
+    tree = record {
+      kin = λ d n e. (entry_from d n e).kin;
+      trees = λ d n e. (entry_from d n e).tree;
+      below = λ d n h e eh is.
+          let k = header_from n h eh in
+          elim k.3 [ inl same ↦ same ∙ (entry_from d n e).below k.0 k.1 (sym k.2 ∙ is) | inr new ↦ absurd (new.0 d e) ];
+      shapes = λ n x e. let y = from n x e in y.shape (c.tree.shapes n y.node y.is);
+      distinct = λ n x e. let y = from n x e in y.distinct (c.tree.distinct n y.node y.is);
+      root = header_still boot_root c.tree.root.0 c.tree.root.1;
+      boot = c.tree.boot;
+      served = c.tree.served;
+    };
+    kinds = record {
+      aims = c.kinds.aims;
+      ends = c.kinds.ends;
+      branches = λ s n i h e union aim eh. let k = header_from n h eh in k.2 ∙ c.kinds.branches s n i k.0 e union aim k.1;
+      roots = λ s i h e eh. let k = header_from i.root h eh in k.2 ∙ c.kinds.roots s i k.0 e k.1;
+    };
+    tables = tables_by w (nodes_of reworked_world) c.tables (λ t x r at has h e. let k = header_from r.node h e in (k.0, k.1, k.2)) (λ t x r n at has named. inl refl);
+  }
 
 -- with one task changed
 module _ (w : World) (c : Coherent w) (q : ℕ) (f : Task → Task) (up : (x : Task) → x.made ≤ (f x).made) (x : Task) (is : task_at w q ≡ Some x) (g : Table w x (f x)) where
@@ -462,43 +454,44 @@ module _ (w : World) (c : Coherent w) (q : ℕ) (f : Task → Task) (up : (x : T
   one_node r p (inr a) (inl b) e = sym ((new_fine g.new g.fine (Io r) a).shared b.task b.seat p b.at b.has (sym e))
   one_node r p (inr a) (inr b) e = let one : Io r ≡ Io p = new_one g.new (Io r) (Io p) a b in let same : r ≡ p = cc in ap (λ (k : IoRight). k.node) same
 
-  task_given : AreGiven retabled
-  task_given = record {
-    nodes = λ n y e. raised n (c.given.nodes n y e);
-    opens = λ o y e. raised o (c.given.opens o y e);
-    servers = λ s i e. raised s (c.given.servers s i e);
-    rights = λ p z r e h. elim (right_now p z r e h) [
-      | inl old ↦ given_raised w retabled raised r (c.given.rights old.task old.seat r old.at old.has)
-      | inr new ↦ given_raised w retabled raised r (fine_given w r (new_fine g.new g.fine r new))
-    ];
-    entries = λ d n e. raised n (c.given.entries d n e);
-    parents = λ n p h e ep. raised p (c.given.parents n p h e ep);
-    targets = λ s n i e aim. raised n (c.given.targets s n i e aim);
-  }
-
-  task_tables : AreTables retabled
-  task_tables = record {
-    numbers = λ p z k e h. elim (edit_cases q f w.tasks x is p z e) [
-      | inl a ↦ subst (λ (u : Task). k.number < u.next) (sym a.1) (g.numbers k (subst (λ (u : Task). IsAmong k u.ports) a.1 h))
-      | inr old ↦ c.tables.numbers p z k old h
-    ];
-    opened = λ p z r e h. elim (right_now p z (Io r) e h) [
-      | inl old ↦ c.tables.opened old.task old.seat r old.at old.has
-      | inr new ↦ (new_fine g.new g.fine (Io r) new).opened
-    ];
-    shared = λ p k z u r s e h e' h' same. one_node r s (right_now p z (Io r) e h) (right_now k u (Io s) e' h') same;
-    written = λ p z r o e h eo modes. elim (right_now p z (Io r) e h) [
-      | inl old ↦ c.tables.written old.task old.seat r o old.at old.has eo modes
-      | inr new ↦ (new_fine g.new g.fine (Io r) new).written o eo modes
-    ];
-    held = λ p z r n e h named. elim (right_now p z r e h) [
-      | inl old ↦ c.tables.held old.task old.seat r n old.at old.has named
-      | inr new ↦ fine_held w r (new_fine g.new g.fine r new) n named
-    ];
-  }
-
   pub task_coherent : Coherent retabled
-  task_coherent = record { given = task_given; housing = c.housing; seating = c.seating; tree = c.tree; kinds = c.kinds; tables = task_tables }
+  task_coherent = record {
+    given = record {
+      nodes = λ n y e. raised n (c.given.nodes n y e);
+      opens = λ o y e. raised o (c.given.opens o y e);
+      servers = λ s i e. raised s (c.given.servers s i e);
+      rights = λ p z r e h. elim (right_now p z r e h) [
+        | inl old ↦ given_raised w retabled raised r (c.given.rights old.task old.seat r old.at old.has)
+        | inr new ↦ given_raised w retabled raised r (fine_given w r (new_fine g.new g.fine r new))
+      ];
+      entries = λ d n e. raised n (c.given.entries d n e);
+      parents = λ n p h e ep. raised p (c.given.parents n p h e ep);
+      targets = λ s n i e aim. raised n (c.given.targets s n i e aim);
+    };
+    housing = c.housing;
+    seating = c.seating;
+    tree = c.tree;
+    kinds = c.kinds;
+    tables = record {
+      numbers = λ p z k e h. elim (edit_cases q f w.tasks x is p z e) [
+        | inl a ↦ subst (λ (u : Task). k.number < u.next) (sym a.1) (g.numbers k (subst (λ (u : Task). IsAmong k u.ports) a.1 h))
+        | inr old ↦ c.tables.numbers p z k old h
+      ];
+      opened = λ p z r e h. elim (right_now p z (Io r) e h) [
+        | inl old ↦ c.tables.opened old.task old.seat r old.at old.has
+        | inr new ↦ (new_fine g.new g.fine (Io r) new).opened
+      ];
+      shared = λ p k z u r s e h e' h' same. one_node r s (right_now p z (Io r) e h) (right_now k u (Io s) e' h') same;
+      written = λ p z r o e h eo modes. elim (right_now p z (Io r) e h) [
+        | inl old ↦ c.tables.written old.task old.seat r o old.at old.has eo modes
+        | inr new ↦ (new_fine g.new g.fine (Io r) new).written o eo modes
+      ];
+      held = λ p z r n e h named. elim (right_now p z r e h) [
+        | inl old ↦ c.tables.held old.task old.seat r n old.at old.has named
+        | inr new ↦ fine_held w r (new_fine g.new g.fine r new) n named
+      ];
+    };
+  }
 
 -- with a right more in an inbox
 pub sent_table : (w : World) → Coherent w → (q : ℕ) (r : Right) (x : Task) → task_at w q ≡ Some x → FineRight w r → Table w x (with_sent r x)
@@ -571,153 +564,171 @@ no_names (Content bs) none = tt
 no_names (Listing es) none = subst AreDistinct (sym none) tt
 
 -- what stands keeps its place beside it
-module _ (w : World) (c : Coherent w) (n s : Name) (node : Node) (absent : get w.nodes n ≡ None) where
+module _ (w : World) (c : Coherent w) (n s : Name) (absent : get w.nodes n ≡ None) where
   -- no node had the name, so none had a server
-  pub housed_apart : (m q : Name) → home_at w m ≡ Some q → m ≢ n
+  housed_apart : (m q : Name) → home_at w m ≡ Some q → m ≢ n
   housed_apart m q e a =
       let h = c.housing.housed m q e in
       let none : header_at w m ≡ None = rw (a, absent) refl in
       absurd (cc (h.1))
 
-  pub home_kept : (m q : Name) → home_at w m ≡ Some q → get (insert w.homes n s) m ≡ Some q
-  home_kept m q e = get_apart w.homes n s m (housed_apart m q e) ∙ e
+  pub home_kept : (m q : Name) → home_at w m ≡ Some q → home_in (insert w.sites n (new_site s)) m ≡ Some q
+  home_kept m q e = home-apart w.sites n (new_site s) m (housed_apart m q e) ∙ e
 
-  pub header_kept : (m : Name) (h : Header) → header_at w m ≡ Some h → header_in (get (insert w.nodes n node) m) ≡ Some h
-  header_kept m h e = let i = c.housing.homes m h e in ap header_in (get_apart w.nodes n node m (housed_apart m i.0 i.2)) ∙ e
+-- a server that comes with the node n, its root: its name was given, and nothing had it; it aims where it may
+pub record Newcomer (w : World) (n : Name) (node : Node) (q : Name) (j : ServerInfo) : Type 0 where
+  pub given : Below w q
+  pub none : server_at w q ≡ None
+  pub root : n ≡ j.root
+  pub serving : (u : ℕ) × (j.ids ≡ record { uids = set.from_list (u ∷ []); gids = set.from_list [] })
+  pub kind : node.header.kind ≡ (root_of j.kind j.text).kind
+  pub aims : length j.targets ≡ length (targets_of j.kind j.text)
+  pub targets : (m : Name) → IsAmong m j.targets → (m ≢ n) × CanBeNamed w m
+  pub branches : (root_of j.kind j.text).crossing ≡ Union → (m : Name) (h : Header) → IsAmong m j.targets → header_at w m ≡ Some h → h.kind ≡ Dir
 
-  -- what lists something has a server, and what it lists has that too
-  pub lister_home : (d m : Name) → lists_at m (body_at w d) ≡ true → (q : Name) × (i : ServerInfo) × (home_at w d ≡ Some q) × (server_at w q ≡ Some i) × (home_at w m ≡ Some q)
+-- the server s of a new node n is one of these servers: it keeps a tree, or comes with the node; all others were there
+pub record Serves (w : World) (n s : Name) (node : Node) (servers : NameMap ServerInfo) : Type 0 where
+  pub here : (i : ServerInfo) × (get servers s ≡ Some i) × ((keeps_tree i.kind ≡ true) ⊎ (n ≡ i.root))
+  pub yet : (q : Name) (j : ServerInfo) → server_at w q ≡ Some j → get servers q ≡ Some j
+  pub was : (q : Name) (j : ServerInfo) → get servers q ≡ Some j → ((s ≡ q) × Newcomer w n node q j) ⊎ (server_at w q ≡ Some j)
+
+module _ (w : World) (c : Coherent w) (n s : Name) (node : Node) (servers : NameMap ServerInfo) (b : Below w n) (absent : get w.nodes n ≡ None)
+    (unnamed : (t : ℕ) (x : Task) (r : Right) (m : Name) → task_at w t ≡ Some x → IsAmong r (rights_of x) → IsAmong m (nodes_named r) → m ≢ n)
+    (unaimed : (q m : Name) (i : ServerInfo) → server_at w q ≡ Some i → IsAmong m i.targets → m ≢ n)
+    (shape : IsShaped node.header node.body) (empty : HasNoEntries node.body) (parent : (p : Name) → node.header.parent ≡ Some p → Below w p) (serves : Serves w n s node servers) where
+  abbrev pub made_world : World
+  made_world = record w { nodes = insert w.nodes n node; sites = insert w.sites n (new_site s); servers = servers }
+
+  at_home : (m q : Name) → home_at w m ≡ Some q → home_at made_world m ≡ Some q
+  at_home = home_kept w c n s absent
+
+  stands_yet : (m : Name) (h : Header) → header_at w m ≡ Some h → header_at made_world m ≡ Some h
+  stands_yet m h e = let i = c.housing.homes m h e in ap header_in (get_apart w.nodes n node m (housed_apart w c n s absent m i.0 i.2)) ∙ e
+
+  header_before : (m : Name) (h : Header) → m ≢ n → header_at made_world m ≡ Some h → header_at w m ≡ Some h
+  header_before m h apart e = sym (ap header_in (get_apart w.nodes n node m apart)) ∙ e
+
+  -- an entry was there before, in a directory that has a server, of which it is too
+  lists_was : (d m : Name) → lists_at m (body_at made_world d) ≡ true → lists_at m (body_at w d) ≡ true
+  lists_was d m e = elim (same_or_apart d n) [
+    | inl a ↦
+        let none : lists_at m (body_at made_world d) ≡ false = rw a (ap (λ o. lists_at m (body_in o)) (get_here w.nodes n node) ∙ no_entry m node.body empty) in
+        absurd (true≢false (sym e ∙ none))
+    | inr a ↦ sym (ap (λ o. lists_at m (body_in o)) (get_apart w.nodes n node d a)) ∙ e
+  ]
+
+  lister_home : (d m : Name) → lists_at m (body_at w d) ≡ true → (q : Name) × (home_at w d ≡ Some q) × (home_at w m ≡ Some q)
   lister_home d m e =
       let x = lister (get w.nodes d) m e in
       let i = c.housing.homes d x.0.header (ap header_in x.1) in
-      (i.0, i.1, i.2, i.3, c.tree.kin d m e ∙ i.2)
+      (i.0, i.2, c.tree.kin d m e ∙ i.2)
 
-  module _ (empty : HasNoEntries node.body) where
-    -- an entry was there before
-    pub lists_was : (d m : Name) → lists_at m (body_in (get (insert w.nodes n node) d)) ≡ true → lists_at m (body_at w d) ≡ true
-    lists_was d m e = elim (same_or_apart d n) [
-      | inl a ↦
-          let none : lists_at m (body_in (get (insert w.nodes n node) d)) ≡ false = rw a (ap (λ o. lists_at m (body_in o)) (get_here w.nodes n node) ∙ no_entry m node.body empty) in
-          absurd (true≢false (sym e ∙ none))
-      | inr a ↦ sym (ap (λ o. lists_at m (body_in o)) (get_apart w.nodes n node d a)) ∙ e
-    ]
-
-    -- and is of the server that it was of
-    pub kin_was : (d m : Name) → lists_at m (body_in (get (insert w.nodes n node) d)) ≡ true → get (insert w.homes n s) m ≡ get (insert w.homes n s) d
-    kin_was d m e = let q = lister_home d m (lists_was d m e) in home_kept m q.0 q.4 ∙ sym (home_kept d q.0 q.2)
-
-    pub below_was : (d m : Name) (h : Header) → lists_at m (body_in (get (insert w.nodes n node) d)) ≡ true → header_in (get (insert w.nodes n node) m) ≡ Some h → h.kind ≡ Dir → h.parent ≡ Some d
-    below_was d m h e eh =
-        let old = lists_was d m e in
-        let q = lister_home d m old in
-        c.tree.below d m h old (sym (ap header_in (get_apart w.nodes n node m (housed_apart m q.0 q.4))) ∙ eh)
-
-    pub shape_was : IsShaped node.header node.body → (m : Name) (x : Node) → get (insert w.nodes n node) m ≡ Some x → IsShaped x.header x.body × HasDistinctNames x.body
-    shape_was shape m x e = elim (was w.nodes n m node x e) [
-      | inl k ↦ subst (λ (z : Node). IsShaped z.header z.body × HasDistinctNames z.body) k.1 (shape, no_names node.body empty)
-      | inr k ↦ (c.tree.shapes m x k.1, c.tree.distinct m x k.1)
-    ]
-
-module _ (w : World) (c : Coherent w) (n s : Name) (node : Node) (b : Below w n) (absent : get w.nodes n ≡ None)
-    (unnamed : (t : ℕ) (x : Task) (r : Right) (m : Name) → task_at w t ≡ Some x → IsAmong r (rights_of x) → IsAmong m (nodes_named r) → m ≢ n)
-    (unaimed : (q m : Name) (i : ServerInfo) → server_at w q ≡ Some i → IsAmong m i.targets → m ≢ n) (p : GoodNode w s node) where
-  abbrev made_world : World
-  made_world = record w { nodes = insert w.nodes n node; homes = insert w.homes n s }
-
-  at_home : (m q : Name) → home_at w m ≡ Some q → home_at made_world m ≡ Some q
-  at_home = home_kept w c n s node absent
-
-  stands_yet : (m : Name) (h : Header) → header_at w m ≡ Some h → header_at made_world m ≡ Some h
-  stands_yet = header_kept w c n s node absent
-
-  made_given : AreGiven made_world
-  made_given = record {
-    nodes = λ m x e. elim (was w.nodes n m node x e) [ inl k ↦ subst (Below w) (sym k.0) b | inr k ↦ c.given.nodes m x k.1 ];
-    opens = c.given.opens;
-    servers = c.given.servers;
-    rights = c.given.rights;
-    entries = λ d m e. c.given.entries d m (lists_was w c n s node absent p.empty d m e);
-    parents = λ m q h e ep. elim (header_was w.nodes n m node h e) [
-      | inl k ↦ p.parent q (ap (λ (z : Header). z.parent) k.1 ∙ ep)
-      | inr k ↦ c.given.parents m q h k ep
-    ];
-    targets = c.given.targets;
-  }
-
-  made_housing : AreHoused (nodes_of made_world)
-  made_housing = record {
-    homes = λ m h e. elim (header_was w.nodes n m node h e) [
-      | inl k ↦ (s, p.info, rw (k.0) (get_here w.homes n s), p.is_server)
-      | inr k ↦ let i = c.housing.homes m h k in (i.0, i.1, at_home m i.0 i.2, i.3)
-    ];
-    housed = λ m q e. elim (was w.homes n m s q e) [
-      | inl k ↦ (node.header, rw (k.0) (ap header_in (get_here w.nodes n node)))
-      | inr k ↦ let h = c.housing.housed m q k.1 in (h.0, stands_yet m h.0 h.1)
-    ];
-    roots = λ q i e. at_home i.root q (c.housing.roots q i e);
-    serving = c.housing.serving;
-    lone = λ m q i e ei alone. elim (was w.homes n m s q e) [
-      | inl k ↦
-          let here : server_at w s ≡ Some i = rw (k.1) ei in
-          let same : p.info ≡ i = cc (p.is_server, here) in
-          absurd (true≢false (sym p.tree ∙ ap (λ (j : ServerInfo). keeps_tree j.kind) same ∙ alone))
-      | inr k ↦ c.housing.lone m q i k.1 ei alone
-    ];
-  }
-
-  made_seating : AreSeated (nodes_of made_world)
-  made_seating = record {
-    seated = c.seating.seated;
-    seats = λ m q e. let h = c.seating.seats m q e in (h.0, stands_yet m h.0 h.1);
-    alone = c.seating.alone;
-    elsewhere = λ m q e f. elim (was w.homes n m s q f) [
-      | inl k ↦
-          let h = c.seating.seats m q e in
-          let i = c.housing.homes m h.0 h.1 in
-          housed_apart w c n s node absent m i.0 i.2 k.0
-      | inr k ↦ c.seating.elsewhere m q e k.1
-    ];
-  }
-
-  -- a node that has a server is of the same one
-  info_kept : (m q : Name) → home_at w m ≡ Some q → home_at made_world m ≡ home_at w m
-  info_kept m q e = at_home m q e ∙ sym e
-
-  made_tree : IsTree (nodes_of made_world)
-  made_tree = record {
-    kin = kin_was w c n s node absent p.empty;
-    trees = λ d m e.
-        let old = lists_was w c n s node absent p.empty d m e in
-        let q = lister_home w c n s node absent d m old in
-        ap (λ o. tree_by (info_in w.servers o)) (info_kept d q.0 q.2) ∙ c.tree.trees d m old;
-    below = below_was w c n s node absent p.empty;
-    shapes = λ m x e. (shape_was w c n s node absent p.empty p.shape m x e).0;
-    distinct = λ m x e. (shape_was w c n s node absent p.empty p.shape m x e).1;
-    root = (c.tree.root.0, stands_yet boot_root c.tree.root.0 c.tree.root.1);
-    boot = ap (is_root_of w.servers boot_root) (info_kept boot_root boot_name c.tree.served) ∙ c.tree.boot;
-    served = at_home boot_root boot_name c.tree.served;
-  }
+  fits : (m : Name) (x : Node) → get made_world.nodes m ≡ Some x → IsShaped x.header x.body × HasDistinctNames x.body
+  fits m x e = elim (was w.nodes n m node x e) [
+    | inl k ↦ subst (λ (z : Node). IsShaped z.header z.body × HasDistinctNames z.body) k.1 (shape, no_names node.body empty)
+    | inr k ↦ (c.tree.shapes m x k.1, c.tree.distinct m x k.1)
+  ]
 
   -- the server of another node is as it was
-  shape_yet : (m : Name) → m ≢ n → shape_at (nodes_of made_world) m ≡ shape_at (nodes_of w) m
-  shape_yet m apart = ap (λ o. shape_by (info_in w.servers o)) (get_apart w.homes n s m apart)
+  pub info_apart : (m : Name) → m ≢ n → info_at made_world m ≡ info_at w m
+  info_apart m apart = ap (info_in servers) (home-apart w.sites n (new_site s) m apart) ∙ by (home_at w m) refl
+    where
+      by : (o : Option Name) → home_at w m ≡ o → info_in servers o ≡ info_in w.servers o
+      by None e = refl
+      by (Some q) e = let j = home_server c m q e in serves.yet q j.0 j.1 ∙ sym j.1
 
-  made_kinds : AreOfKind (nodes_of made_world)
-  made_kinds = record {
-    aims = c.kinds.aims;
-    ends = λ q m i e aim. be_same (nodes_of made_world) (nodes_of w) m (shape_yet m (unaimed q m i e aim)) (c.kinds.ends q m i e aim);
-    branches = λ q m i h e union aim eh. c.kinds.branches q m i h e union aim (sym (ap header_in (get_apart w.nodes n node m (unaimed q m i e aim))) ∙ eh);
-    roots = λ q i h e eh. c.kinds.roots q i h e (sym (ap header_in (get_apart w.nodes n node i.root (housed_apart w c n s node absent i.root q (c.housing.roots q i e)))) ∙ eh);
-  }
+  shape_yet : (m : Name) → m ≢ n → shape_at (nodes_of made_world) m ≡ shape_at (nodes_of w) m
+  shape_yet m apart = ap shape_by (info_apart m apart)
+
+  -- a server that comes is none that a node had
+  had_none : (m q : Name) → home_at w m ≡ Some q → server_at w q ≡ None → ⊥
+  had_none m q e none = let j = home_server c m q e in cc (none, j.1)
 
   pub made_coherent : Coherent made_world
   made_coherent = record {
-    given = made_given;
-    housing = made_housing;
-    seating = made_seating;
-    tree = made_tree;
-    kinds = made_kinds;
-    tables = tables_by w (nodes_of made_world) c.tables (λ t x r at has h eh. (h, sym (ap header_in (get_apart w.nodes n node r.node (unnamed t x (Io r) r.node at has (inl refl)))) ∙ eh, refl))
+    given = record {
+      nodes = λ m x e. elim (was w.nodes n m node x e) [ inl k ↦ subst (Below w) (sym k.0) b | inr k ↦ c.given.nodes m x k.1 ];
+      opens = c.given.opens;
+      servers = λ q j e. elim (serves.was q j e) [ inl new ↦ new.1.given | inr old ↦ c.given.servers q j old ];
+      rights = c.given.rights;
+      entries = λ d m e. c.given.entries d m (lists_was d m e);
+      parents = λ m q h e ep. elim (header_was w.nodes n m node h e) [
+        | inl k ↦ parent q (ap (λ (z : Header). z.parent) k.1 ∙ ep)
+        | inr k ↦ c.given.parents m q h k ep
+      ];
+      targets = λ q m j e aim. elim (serves.was q j e) [ inl new ↦ (new.1.targets m aim).1.0 | inr old ↦ c.given.targets q m j old aim ];
+    };
+    housing = record {
+      homes = λ m h e. elim (header_was w.nodes n m node h e) [
+        | inl k ↦ (s, serves.here.0, rw (k.0) (home-here w.sites n (new_site s)), serves.here.1)
+        | inr k ↦ let i = c.housing.homes m h k in (i.0, i.1, at_home m i.0 i.2, serves.yet i.0 i.1 i.3)
+      ];
+      housed = λ m q e. elim (home-inserted w.sites n (new_site s) m q e) [
+        | inl k ↦ (node.header, rw (k.0) (ap header_in (get_here w.nodes n node)))
+        | inr k ↦ let h = c.housing.housed m q k.1 in (h.0, stands_yet m h.0 h.1)
+      ];
+      roots = λ q j e. elim (serves.was q j e) [
+        | inl new ↦ subst (λ z. home_at made_world z ≡ Some q) new.1.root (home-here w.sites n (new_site s) ∙ ap Some new.0)
+        | inr old ↦ at_home j.root q (c.housing.roots q j old)
+      ];
+      serving = λ q j e. elim (serves.was q j e) [ inl new ↦ new.1.serving | inr old ↦ c.housing.serving q j old ];
+      lone = λ m q j e ej alone. elim (home-inserted w.sites n (new_site s) m q e) [
+        | inl k ↦
+            let here : get servers s ≡ Some j = rw (k.1) ej in
+            let same : serves.here.0 ≡ j = cc (serves.here.1, here) in
+            elim serves.here.2 [
+              | inl tree ↦ absurd (true≢false (sym tree ∙ ap (λ (z : ServerInfo). keeps_tree z.kind) same ∙ alone))
+              | inr root ↦ k.0 ∙ root ∙ ap (λ (z : ServerInfo). z.root) same
+            ]
+        | inr k ↦ elim (serves.was q j ej) [ inl new ↦ absurd (had_none m q k.1 new.1.none) | inr old ↦ c.housing.lone m q j k.1 old alone ]
+      ];
+    };
+    seating = record {
+      seated = λ m q e. let j = c.seating.seated m q (active_put w.sites n s m q e).1 in (j.0, j.1, serves.yet q j.1 j.2);
+      alone = λ m k q e f. c.seating.alone m k q (active_put w.sites n s m q e).1 (active_put w.sites n s k q f).1;
+      elsewhere = λ m q e f. let was = active_put w.sites n s m q e in c.seating.elsewhere m q was.1 (sym (home-apart w.sites n (new_site s) m was.0) ∙ f);
+    };
+    tree = record {
+      kin = λ d m e. let q = lister_home d m (lists_was d m e) in at_home m q.0 q.2 ∙ sym (at_home d q.0 q.1);
+      trees = λ d m e.
+          let old = lists_was d m e in
+          let q = lister_home d m old in
+          ap tree_by (info_apart d (housed_apart w c n s absent d q.0 q.1)) ∙ c.tree.trees d m old;
+      below = λ d m h e eh.
+          let old = lists_was d m e in
+          let q = lister_home d m old in
+          c.tree.below d m h old (header_before m h (housed_apart w c n s absent m q.0 q.2) eh);
+      shapes = λ m x e. (fits m x e).0;
+      distinct = λ m x e. (fits m x e).1;
+      root = (c.tree.root.0, stands_yet boot_root c.tree.root.0 c.tree.root.1);
+      boot = root_info (nodes_of made_world) boot_root ∙ ap (is_root_at boot_root) (info_apart boot_root (housed_apart w c n s absent boot_root boot_name c.tree.served))
+          ∙ sym (root_info (nodes_of w) boot_root) ∙ c.tree.boot;
+      served = at_home boot_root boot_name c.tree.served;
+    };
+    kinds = record {
+      aims = λ q j e. elim (serves.was q j e) [
+        | inl new ↦
+            let other : same_name q boot_name ≡ false = same_name-apart q boot_name (λ boot. had_none boot_root q (c.tree.served ∙ ap Some (sym boot)) new.1.none) in
+            new.1.aims ∙ sym (ap (λ b. if b then 0 else length (targets_of j.kind j.text)) other)
+        | inr old ↦ c.kinds.aims q j old
+      ];
+      ends = λ q m j e aim. elim (serves.was q j e) [
+        | inl new ↦ let t = new.1.targets m aim in be_same (nodes_of made_world) (nodes_of w) m (shape_yet m t.0) t.1.1
+        | inr old ↦ be_same (nodes_of made_world) (nodes_of w) m (shape_yet m (unaimed q m j old aim)) (c.kinds.ends q m j old aim)
+      ];
+      branches = λ q m j h e union aim eh. elim (serves.was q j e) [
+        | inl new ↦ new.1.branches union m h aim (header_before m h (new.1.targets m aim).0 eh)
+        | inr old ↦ c.kinds.branches q m j h old union aim (header_before m h (unaimed q m j old aim) eh)
+      ];
+      roots = λ q j h e eh. elim (serves.was q j e) [
+        | inl new ↦
+            let here : header_at made_world j.root ≡ Some node.header = rw (← new.1.root) (ap header_in (get_here w.nodes n node)) in
+            let same : node.header ≡ h = cc (here, eh) in
+            ap (λ (z : Header). z.kind) (sym same) ∙ new.1.kind
+        | inr old ↦ c.kinds.roots q j h old (header_before j.root h (housed_apart w c n s absent j.root q (c.housing.roots q j old)) eh)
+      ];
+    };
+    tables = tables_by w (nodes_of made_world) c.tables (λ t x r at has h eh. (h, header_before r.node h (unnamed t x (Io r) r.node at has (inl refl)) eh, refl))
         (λ t x r m at has named. inl (shape_yet m (unnamed t x r m at has named)));
   }
 

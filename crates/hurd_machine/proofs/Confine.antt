@@ -18,7 +18,7 @@ use Rattle.hurd_machine.specs.Sight.{Holds, HasUid, UidOfTask, UidOfRight, HasGi
 use Rattle.hurd_machine.specs.Sight.{Seen, Root, Held, Way, Controlled, Pending, Child, Parent, Active, ServerRoot, Target, Sends, ByControl, ByNode, BySeat, Knows, OfNode, OfSeat, OfControl, SeesBody, ToRead, ToSearch, IsOpen, SeesEmpty, ByBody, ByParent}
 use Rattle.hurd_machine.specs.Sight.{Part, AttrOf, EmptyOf, BodyOf, OpenOf, OptionsOf, UsersOf, TaskOf, Sees, MaySend}
 use Rattle.hurd_machine.specs.Sound.{Below, Coherent}
-use Rattle.hurd_machine.proofs.Coherence.{header_old, entry_old, home_old, right_old, entry_lists, home_server}
+use Rattle.hurd_machine.proofs.Coherence.{header_old, entry_old, home_old, right_old, entry_lists, home_server, seat_there}
 use Rattle.hurd_machine.proofs.Stays.{way_at, way_parent, way_with}
 use Rattle.hurd_machine.proofs.Views.{knows_of}
 use Rattle.hurd_trans_iface.specs.Meaning.{counts_opens}
@@ -229,7 +229,7 @@ module _ {S : ℕ → Bool} {v x : World} (coherent : Coherent v) (i : Inside S 
   seat_inside : (n s : Name) → SeenOrNew S v n → (active_at v n ≡ Some s) ⊎ NewTo S v s → (Seen S v n × (active_at v n ≡ Some s)) ⊎ NewTo S v s
   seat_inside n s ok (inr new) = inr new
   seat_inside n s (inl sn) (inl e) = inl (sn, e)
-  seat_inside n s (inr new) (inl e) = let h = coherent.seating.seats n s e in absurd (new.1 (header_old coherent n h.0 h.1))
+  seat_inside n s (inr new) (inl e) = let h = seat_there coherent n s e in absurd (new.1 (header_old coherent n h.0 h.1))
 
   -- the root of a server was seen where that was known, and is new where that is
   by_server : (s : Name) (info : ServerInfo) (P : Type 0) → P ⊎ NewTo S v s → ServerInside S v s info → (P → (text : List ℕ) → server_at v s ≡ Some (with_text text info) → Seen S v info.root) → SeenOrNew S v info.root
@@ -260,13 +260,9 @@ module _ {S : ℕ → Bool} {v x : World} (coherent : Coherent v) (i : Inside S 
   target_by s n info aim (inl knows) (inl e) = inl (known_target s n (with_text e.0 info) e.1 knows aim)
   target_by s n info aim (inr new) (inl e) = absurd (new.1 (coherent.given.servers s (with_text e.0 info) e.1))
 
-  by_inside : (m s : Name) → (home_at x m ≡ Some s) ⊎ (active_at x m ≡ Some s) → HomeInside S v m s ⊎ ((active_at v m ≡ Some s) ⊎ NewTo S v s)
-  by_inside m s (inl e) = inl (i.homes m s e)
-  by_inside m s (inr e) = inr (i.actives m s e)
-
-  known_inside : (m s : Name) → SeenOrNew S v m → HomeInside S v m s ⊎ ((active_at v m ≡ Some s) ⊎ NewTo S v s) → Known S v (OptionsOf s)
-  known_inside m s ok (inl home) = server_inside m s ok home
-  known_inside m s ok (inr active) = elim (seat_inside m s ok active) [ inl k ↦ inl (OfSeat m k.0 k.1) | inr new ↦ inr new ]
+  known_by : (m s : Name) → SeenOrNew S v m → (home_at x m ≡ Some s) ⊎ (active_at x m ≡ Some s) → Known S v (OptionsOf s)
+  known_by m s ok (inl e) = server_inside m s ok (i.homes m s e)
+  known_by m s ok (inr e) = elim (seat_inside m s ok (i.actives m s e)) [ inl k ↦ inl (OfSeat m k.0 k.1) | inr new ↦ inr new ]
 
   -- what is seen was seen, or is new
   pub seen_inside : (n : Name) → Seen S x n → SeenOrNew S v n
@@ -287,7 +283,7 @@ module _ {S : ℕ → Bool} {v x : World} (coherent : Coherent v) (i : Inside S 
   seen_inside n (ServerRoot m s info sm em es c e) =
       subst (SeenOrNew S v) (sym e) (by_server s info (Knows S v s) (server_inside m s (seen_inside m sm) (i.homes m s em)) (i.servers s info es)
       (λ k text is. known_root s (with_text text info) is (serve_back info c) k))
-  seen_inside n (Target m s info sm em es aim) = target_by s n info aim (known_inside m s (seen_inside m sm) (by_inside m s em)) (i.servers s info es)
+  seen_inside n (Target m s info sm em es aim) = target_by s n info aim (known_by m s (seen_inside m sm) em) (i.servers s info es)
 
   -- where the server of a node that was there counts who reads, it did
   counts_by_server : (n s : Name) (info : ServerInfo) → counts_opens info.kind ≡ true → home_at v n ≡ Some s → ServerInside S v s info → counts_at v n ≡ true
@@ -321,8 +317,8 @@ module _ {S : ℕ → Bool} {v x : World} (coherent : Coherent v) (i : Inside S 
   ]
 
   knows_inside : (q : Name) → Knows S x q → Known S v (OptionsOf q)
-  knows_inside q (OfNode n sn en) = server_inside n q (seen_inside n sn) (i.homes n q en)
-  knows_inside q (OfSeat n sn en) = elim (seat_inside n q (seen_inside n sn) (i.actives n q en)) [ inl k ↦ inl (OfSeat n k.0 k.1) | inr new ↦ inr new ]
+  knows_inside q (OfNode n sn en) = known_by n q (seen_inside n sn) (inl en)
+  knows_inside q (OfSeat n sn en) = known_by n q (seen_inside n sn) (inr en)
   knows_inside q (OfControl h) = elim (i.held (Control q) h) [ inl k ↦ inl (commands_known S v q k) | inr new ↦ inr new ]
 
   sends_inside : (q : Name) (info : ServerInfo) (text : List ℕ) → server_at v q ≡ Some (with_text text info) → Sends S x q info → Sends S v q (with_text text info) ⊎ NewTo S v q

@@ -1,7 +1,9 @@
 -- Changes that leave readers and writers as many as there are opens that read and write.
-use Rattle.std.proofs.Common.{◌≡◌, ◌⊎◌, ◌∙◌, ℕ, Bool, true, false, true≢false, List, [], ◌∷◌, Option, Some, None, slice_get, refl, sym, ap, subst, inl, inr}
+use Rattle.std.proofs.Common.{◌≡◌, ◌≢◌, ◌⊎◌, ◌∙◌, ℕ, Bool, true, false, true≢false, List, [], ◌∷◌, Option, Some, None, slice_get, refl, sym, ap, subst, inl, inr}
 use Rattle.std.specs.Option.{option_map}
 use Rattle.std.specs.FinMap.{get}
+use Rattle.hurd_nodes.proofs.Sites.{home-here, home-apart}
+use Rattle.hurd_nodes.specs.Held.{new_site}
 use Rattle.hurd_creds.specs.declared.name.Name.{Name}
 use Rattle.hurd_creds.specs.Bits.{asks, READ, WRITE}
 use Rattle.hurd_creds.proofs.NameLaws.{same_or_apart, get_here, get_apart, edit_apart}
@@ -14,7 +16,7 @@ use Rattle.hurd_ports.specs.declared.table.Opened.{Opened}
 use Rattle.hurd_ports.specs.declared.table.IoRight.{IoRight}
 use Rattle.hurd_ports.specs.declared.table.Right.{Right}
 use Rattle.hurd_ports.specs.declared.table.Right.TheVariants.{Io, Control, Start}
-use Rattle.hurd_ports.specs.Tables.{Task, rights_of, is_held}
+use Rattle.hurd_ports.specs.Tables.{Task, OpenMap, rights_of, is_held}
 use Rattle.hurd_ports.specs.Steps.{edit_task, named, received, with_ids, with_pending, with_port, with_sent}
 use Rattle.hurd_ports.specs.declared.table.PendingStart.{PendingStart}
 use Rattle.hurd_creds.specs.Access.{IdSets}
@@ -28,11 +30,10 @@ use Rattle.hurd_machine.proofs.Tasks.{edit_cases, edit_still, sent_cases, sent_k
 use Rattle.hurd_machine.proofs.Retained.{retained}
 use Rattle.hurd_machine.proofs.Holders.{let_go, held_by_right}
 use Rattle.hurd_machine.proofs.Coherence.{IsNext, GoodNode, Comes, Proper, AllProper, next_not, unopened, unnoded}
-use Rattle.hurd_machine.proofs.Left.{Left, header_was, info_yet}
+use Rattle.hurd_machine.proofs.Left.{Left, seat_left, header_was, read_yet}
 use Rattle.hurd_machine.proofs.Drop.{drop_left}
-use Rattle.hurd_machine.proofs.Unseated.{unseated_left}
 use Rattle.hurd_machine.proofs.Comes.{attach_is, come_world, info_same, header_yet, root_new}
-use Rattle.hurd_machine.proofs.Texts.{info_kept}
+use Rattle.hurd_machine.proofs.Texts.{retexted_left}
 use Rattle.hurd_machine.proofs.Swept.{sweep_left, settle_keeps}
 use Rattle.hurd_machine.proofs.Stays.{sweep}
 use Rattle.hurd_machine.proofs.Keeping.{coherent_one}
@@ -96,6 +97,20 @@ opens_same w y tasks opens n = record {
 abbrev pub KeepsIo : (Task → Task) → Type 0
 KeepsIo f = (x : Task) (r : IoRight) → IsAmong (Io r) (rights_of x) → IsAmong (Io r) (rights_of (f x))
 
+-- an open of a node is one yet where its rights stay; afterwards it was one, or is of a right of the task
+module _ (w y : World) (q : ℕ) (f : Task → Task) (tasks : y.tasks ≡ edit_task q f w.tasks) where
+  pub open_yet : KeepsIo f → (n o : Name) → HasOpen w n o → HasOpen y n o
+  open_yet keeps n o h = elim (edit_still q f w.tasks h.task h.seat h.is_task) [
+    | inl e ↦ record { task = h.task; seat = f h.seat; is_task = ap (λ (us : List Task). slice_get us h.task) tasks ∙ e; right = h.right; here = keeps h.seat h.right h.here; opens = h.opens; on = h.on }
+    | inr e ↦ record { task = h.task; seat = h.seat; is_task = ap (λ (us : List Task). slice_get us h.task) tasks ∙ e; right = h.right; here = h.here; opens = h.opens; on = h.on }
+  ]
+
+  pub open_was : (x : Task) → task_at w q ≡ Some x → (n o : Name) → HasOpen y n o → HasOpen w n o ⊎ ((r : IoRight) × IsAmong (Io r) (rights_of (f x)) × (r.open_name ≡ o) × (r.node ≡ n))
+  open_was x is n o h = elim (edit_cases q f w.tasks x is h.task h.seat (ap (λ (us : List Task). slice_get us h.task) (sym tasks) ∙ h.is_task)) [
+    | inl k ↦ inr (h.right, subst (λ (u : Task). IsAmong (Io h.right) (rights_of u)) k.1 h.here, h.opens, h.on)
+    | inr old ↦ inl (record { task = h.task; seat = h.seat; is_task = old; right = h.right; here = h.here; opens = h.opens; on = h.on })
+  ]
+
 -- a right that tells nothing new of what is counted
 abbrev pub IsKnown : World → Right → Type 0
 IsKnown w (Io r) = HasOpen w r.node r.open_name ⊎ (counts_at w r.node ≡ false)
@@ -107,26 +122,20 @@ pub record CalmTask (w : World) (q : ℕ) (f : Task → Task) : Type 0 where
   pub gets : (x : Task) → task_at w q ≡ Some x → (r : IoRight) → IsAmong (Io r) (rights_of (f x)) → IsAmong (Io r) (rights_of x) ⊎ IsKnown w (Io r)
 
 module _ (w : World) (q : ℕ) (f : Task → Task) (x : Task) (is : task_at w q ≡ Some x) (n : Name) (counts : counts_at w n ≡ true) (calm : CalmTask w q f) (y : World) (tasks : y.tasks ≡ edit_task q f w.tasks) where
-  has_yet : (o : Name) → HasOpen w n o → HasOpen y n o
-  has_yet o h = elim (edit_still q f w.tasks h.task h.seat h.is_task) [
-    | inl e ↦ record { task = h.task; seat = f h.seat; is_task = ap (λ (us : List Task). slice_get us h.task) tasks ∙ e; right = h.right; here = calm.keeps h.seat h.right h.here; opens = h.opens; on = h.on }
-    | inr e ↦ record { task = h.task; seat = h.seat; is_task = ap (λ (us : List Task). slice_get us h.task) tasks ∙ e; right = h.right; here = h.here; opens = h.opens; on = h.on }
-  ]
-
   has_was : (o : Name) → HasOpen y n o → HasOpen w n o
-  has_was o h = elim (edit_cases q f w.tasks x is h.task h.seat (ap (λ (us : List Task). slice_get us h.task) (sym tasks) ∙ h.is_task)) [
-    | inl k ↦ elim (calm.gets x is h.right (subst (λ (u : Task). IsAmong (Io h.right) (rights_of u)) k.1 h.here)) [
-      | inl old ↦ record { task = q; seat = x; is_task = is; right = h.right; here = old; opens = h.opens; on = h.on }
+  has_was o h = elim (open_was w y q f tasks x is n o h) [
+    | inl old ↦ old
+    | inr new ↦ elim (calm.gets x is new.0 new.1) [
+      | inl had ↦ record { task = q; seat = x; is_task = is; right = new.0; here = had; opens = new.2; on = new.3 }
       | inr known ↦ elim known [
-        | inl has ↦ subst (HasOpen w n) h.opens (subst (λ (m : Name). HasOpen w m h.right.open_name) h.on has)
-        | inr uncounted ↦ absurd (true≢false (sym counts ∙ ap (counts_at w) (sym h.on) ∙ uncounted))
+        | inl has ↦ subst (HasOpen w n) new.2 (subst (λ (m : Name). HasOpen w m new.0.open_name) new.3 has)
+        | inr uncounted ↦ absurd (true≢false (sym counts ∙ ap (counts_at w) (sym new.3) ∙ uncounted))
       ]
     ]
-    | inr old ↦ record { task = h.task; seat = h.seat; is_task = old; right = h.right; here = h.here; opens = h.opens; on = h.on }
   ]
 
   pub task_opens : ((o : Name) → HasOpen y n o → open_at y o ≡ open_at w o) → SameOpens w y n
-  task_opens same = record { yet = has_yet; was = has_was; modes = λ mode end o h. ap (has_mode mode) (same o h) }
+  task_opens same = record { yet = λ o h. open_yet w y q f tasks calm.keeps n o h; was = has_was; modes = λ mode end o h. ap (has_mode mode) (same o h) }
 
 -- a task that names things keeps its rights
 pub named_calm : (w : World) (q k : ℕ) → CalmTask w q (named k)
@@ -181,6 +190,29 @@ steady_header w n f keeps m h counts is = elim (same_or_apart m n) [
   | inr a ↦ Same counts h (sym (ap header_in (edit_apart w.nodes n (with_header f) m a)) ∙ is) refl refl (opens_same w (apply (EditHeader n f) w) refl refl m)
 ]
 
+-- where one header counts otherwise, since its node has other opens than it had
+module _ (w : World) (os : OpenMap) (ts : List Task) (n : Name) (f : Header → Header) where
+  abbrev reopened : World
+  reopened = record w { opens = os; tasks = ts }
+
+  abbrev recounted : World
+  recounted = apply (EditHeader n f) reopened
+
+  pub counted_headed : ((m : Name) → counts_at w m ≡ true → m ≢ n → SameOpens w reopened m) → ((h : Header) → header_at w n ≡ Some h → HasOpens reopened n READ (f h).readers × HasOpens reopened n WRITE (f h).writers)
+      → Counted w → Counted recounted
+  counted_headed others here known m h counts is = elim (same_or_apart m n) [
+    | inl a ↦
+        let l = edited_from f (header_at w n) h (sym (edit_reads header_in (option_map f) (with_header f) (header-with_header f) w.nodes n) ∙ rw a at is) in
+        let now = subst (λ (k : Header). HasOpens reopened n READ k.readers × HasOpens reopened n WRITE k.writers) l.2 (here l.0 l.1) in
+        let s = opens_same reopened recounted refl refl n in
+        subst (λ (q : Name). HasOpens recounted q READ h.readers × HasOpens recounted q WRITE h.writers) (sym a) (opens_to s READ h.readers (inl refl) now.0, opens_to s WRITE h.writers (inr refl) now.1)
+    | inr a ↦
+        let old = known m h counts (sym (ap header_in (edit_apart w.nodes n (with_header f) m a)) ∙ is) in
+        let s = others m counts a in
+        let t = opens_same reopened recounted refl refl m in
+        (opens_to t READ h.readers (inl refl) (opens_to s READ h.readers (inl refl) old.0), opens_to t WRITE h.writers (inr refl) (opens_to s WRITE h.writers (inr refl) old.1))
+  ]
+
 steady_body : (w : World) (n : Name) (g : Body → Body) → Steady w (apply (EditBody n g) w)
 steady_body w n g m h counts is =
     Same counts h (sym (edit_keeps header_in (with_body g) (header-with_body g) w.nodes n m) ∙ is) refl refl (opens_same w (apply (EditBody n g) w) refl refl m)
@@ -188,10 +220,10 @@ steady_body w n g m h counts is =
 steady_made : (w : World) → Coherent w → (n s : Name) (node : Node) → IsNext w n → GoodNode w s node → Steady w (apply (MakeNode n s node) w)
 steady_made w c n s node next good m h counts is = elim (same_or_apart m n) [
   | inl a ↦
-      let here : info_at y m ≡ Some good.info = rw a (ap (info_in w.servers) (get_here w.homes n s) ∙ good.is_server) in
+      let here : info_at y m ≡ Some good.info = rw a (ap (info_in w.servers) (home-here w.sites n (new_site s)) ∙ good.is_server) in
       absurd (true≢false (sym counts ∙ ap counts_by here ∙ tree_counts good.info.kind good.tree))
   | inr a ↦
-      let was : counts_at w m ≡ true = sym (ap (λ o. counts_by (info_in w.servers o)) (get_apart w.homes n s m a)) ∙ counts in
+      let was : counts_at w m ≡ true = sym (ap (λ o. counts_by (info_in w.servers o)) (home-apart w.sites n (new_site s) m a)) ∙ counts in
       Same was h (sym (ap header_in (get_apart w.nodes n node m a)) ∙ is) refl refl
       (task_opens w n.task.0 (named 1) next.seat next.is_task m was (named_calm w n.task.0 1) y refl (λ o has. refl))
 ]
@@ -252,19 +284,9 @@ steady_come w c s at i node p readers writers m h counts is = elim (same_or_apar
 
 -- what is left was counted, where it is
 steady_left : (w : World) (c : Coherent w) (h : NodeState) (keep : Name → Bool) → Left w h keep → Steady w (with_nodes h w)
-steady_left w c h keep l n k counts is = go (get h.homes n) refl
-  where
-    y : World
-    y = with_nodes h w
-
-    go : (o : Option Name) → get h.homes n ≡ o → Head w y n k
-    go None e = absurd (true≢false (sym counts ∙ ap (λ q. counts_by (info_in h.servers q)) e))
-    go (Some q) e =
-        let was = l.home_was n q e in
-        Same (sym (ap counts_by (info_yet w c h keep l n q was.0 was.1)) ∙ counts) k (header_was w c h keep l n k is).0 refl refl (opens_same w y refl refl n)
-
-steady_text : (w : World) (s : Name) (text : List ℕ) → Steady w (apply (SetText s text) w)
-steady_text w s text n h counts is = Same (sym (info_kept w s text counts_by (λ i. refl) n) ∙ counts) h is refl refl (opens_same w (apply (SetText s text) w) refl refl n)
+steady_left w c h keep l n k counts is =
+    let was = header_was w c h keep l n k is in
+    Same (sym (read_yet w c h keep l counts_by (λ i new same. refl) n was.1) ∙ counts) k was.0 refl refl (opens_same w (with_nodes h w) refl refl n)
 
 -- opens that nothing has are let go
 steady_let_go : (w : World) → Steady w (let_go w)
@@ -303,8 +325,8 @@ counted_one (Send r q) w c p calm = counted_steady w _ (steady_sent w r q p.0 p.
 counted_one (Attach s at i node) w c p calm = λ counted.
     subst Counted (sym (attach_is w s at i node c (next_not w s p.next))) (counted_steady w _ (steady_come w c s at i node p calm.0 calm.1) counted)
 counted_one (DropServer s) w c p calm = counted_steady w _ (steady_left w c _ _ (drop_left w s c p))
-counted_one (Unseat n) w c p calm = counted_steady w _ (steady_left w c _ _ (unseated_left w n))
-counted_one (SetText s text) w c p calm = counted_steady w _ (steady_text w s text)
+counted_one (Unseat n) w c p calm = counted_steady w _ (steady_left w c _ _ (seat_left w n None))
+counted_one (SetText s text) w c p calm = counted_steady w _ (steady_left w c _ _ (retexted_left w s text p))
 counted_one Settle w c p calm = counted_settle w c p
 
 pub counted_all : (cs : List Change) (w : World) → Coherent w → AllProper w cs → AllCalm w cs → Counted w → Counted (apply_all cs w)

@@ -3,9 +3,11 @@ use Rattle.std.proofs.Common.{◌≡◌, ◌≢◌, ℕ, true, true≢false, Lis
 use Rattle.std.specs.Prelude.{Ok}
 use Rattle.std.specs.Option.{option_map}
 use Rattle.std.specs.FinMap.{get}
+use Rattle.hurd_nodes.proofs.Sites.{home-here, home-apart}
+use Rattle.hurd_nodes.specs.Held.{new_site}
 use Rattle.hurd_creds.specs.declared.name.Name.{Name}
 use Rattle.hurd_creds.specs.NameMaps.{edit}
-use Rattle.hurd_creds.proofs.NameLaws.{same_or_apart, get_here, get_apart, edit_here, edit_apart}
+use Rattle.hurd_creds.proofs.NameLaws.{same_or_apart, edit_here, edit_apart}
 use Rattle.hurd_trans_iface.specs.Nodes.{Node, Header, Body, with_header, with_body, on_bytes, with_size, with_entry, without_entry}
 use Rattle.hurd_trans_iface.specs.Behaviour.{Did, Question, edits_of, edit_bytes, edit_size, bytes_left, size_left}
 use Rattle.hurd_trans_iface.specs.Good.{KeepsSizes, GoodBehaviour}
@@ -163,9 +165,9 @@ filled_header w n f keeps has sized =
 pub filled_made : (w : World) (n s : Name) (node : Node) → IsFit (server_at w s) node → KeepsFilled w (MakeNode n s node ∷ [])
 filled_made w n s node fit sized m z i e ei = elim (was w.nodes n m node z e) [
   | inl k ↦
-      let here : info_at (apply (MakeNode n s node) w) m ≡ server_at w s = rw (k.0) (ap (info_in w.servers) (get_here w.homes n s)) in
+      let here : info_at (apply (MakeNode n s node) w) m ≡ server_at w s = rw (k.0) (ap (info_in w.servers) (home-here w.sites n (new_site s))) in
       subst (IsFilled i) k.1 (fit i (sym here ∙ ei))
-  | inr k ↦ sized m z i k.1 (sym (ap (info_in w.servers) (get_apart w.homes n s m k.0)) ∙ ei)
+  | inr k ↦ sized m z i k.1 (sym (ap (info_in w.servers) (home-apart w.sites n (new_site s) m k.0)) ∙ ei)
 ]
 
 -- a body changed, but not its size, to one that may be there

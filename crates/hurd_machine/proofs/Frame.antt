@@ -1,6 +1,8 @@
 -- What changes leave as it was.
 use Rattle.std.proofs.Common.{◌≡◌, ◌≢◌, ◌⊎◌, ℕ, Bool, false, List, [], ◌∷◌, ◌++◌, Some, length, sym, refl, ◌∙◌, ap, ap₂, subst, inl, inr, arith}
 use Rattle.std.specs.Option.{option_map}
+use Rattle.hurd_nodes.proofs.Sites.{home-apart}
+use Rattle.hurd_nodes.specs.Held.{new_site}
 use Rattle.hurd_creds.specs.declared.name.Name.{Name}
 use Rattle.hurd_creds.proofs.NameLaws.{same_name-apart, get_apart, edit_apart as edit_other}
 use Rattle.hurd_trans_iface.specs.Nodes.{with_header, with_body, is_empty_dir}
@@ -11,10 +13,10 @@ use Rattle.hurd_ports.specs.declared.table.Right.TheVariants.{Io, Control, Start
 use Rattle.hurd_ports.specs.Tables.{Task, rights_of, names_open}
 use Rattle.hurd_ports.specs.Steps.{named, with_sent}
 use Rattle.hurd_ports.proofs.TaskLaws.{edit-apart, edit-length}
-use Rattle.hurd_machine.specs.World.{World, task_at, open_at, header_at, body_at, home_at, server_at}
+use Rattle.hurd_machine.specs.World.{World, site_at, task_at, open_at, header_at, body_at, home_at, server_at}
 use Rattle.hurd_ports.specs.Weights.{one_if, count_list}
 use Rattle.hurd_machine.specs.Sight.{Part, AttrOf, EmptyOf, BodyOf, OpenOf, OptionsOf, UsersOf, TaskOf, Sees, part, IsGone, is_on, holders, users, AnEmpty, ABody, AnOpen, AnOptions, AUsers, ATask}
-use Rattle.hurd_machine.specs.Change.{Change, EditHeader, EditBody, MakeNode, EditOpen, MakeOpen, EditTask, Send, Attach, DropServer, Unseat, SetText, Settle, settle, apply, apply_all, next_nodes, next_homes, next_opens, next_tasks}
+use Rattle.hurd_machine.specs.Change.{Change, EditHeader, EditBody, MakeNode, EditOpen, MakeOpen, EditTask, Send, Attach, DropServer, Unseat, SetText, Settle, settle, apply, apply_all, next_nodes, next_sites, next_opens, next_tasks}
 use Rattle.hurd_machine.specs.Sound.{Below, Coherent, AtRest, Sound}
 use Rattle.hurd_machine.proofs.Nodes.{attr_same, header_in, body_in, empty_in, header-with_body, body-with_header, edit_keeps, KeepsEmptiness, empty-kept}
 use Rattle.hurd_machine.proofs.Tasks.{count_edit, count_named, count_sent}
@@ -23,7 +25,8 @@ use Rattle.hurd_machine.proofs.Keeping.{coherent_one}
 use Rattle.hurd_machine.proofs.Views.{Agree, Agree-trans}
 use Rattle.hurd_machine.specs.Touched.{Goes}
 use Rattle.hurd_machine.proofs.Comes.{attach_is}
-use Rattle.hurd_machine.proofs.ServerParts.{not_home, users_named, come_parts, drop_parts, unseated_parts}
+use Rattle.hurd_machine.proofs.Sites.{not_home}
+use Rattle.hurd_machine.proofs.ServerParts.{users_named, come_parts, drop_parts, unseated_parts}
 use Rattle.hurd_machine.proofs.Settle.{AsBefore, settle_part, settle_agrees}
 
 -- of a task z in place of x, as many rights name each open, and are on each server's nodes, but for those of T
@@ -96,8 +99,7 @@ next_servers c m = m
 abbrev pub next_world : Change → World → World
 next_world c w = record {
   nodes = next_nodes c w.nodes;
-  homes = next_homes c w.homes;
-  actives = w.actives;
+  sites = next_sites c w.sites;
   servers = next_servers c w.servers;
   opens = next_opens c w.opens;
   tasks = next_tasks c w.tasks;
@@ -130,9 +132,9 @@ module _ (w : World) (coherent : Coherent w) (T : Part → Type 0) where
   header_kept (MakeNode k s node) n i h = ap header_in (get_apart w.nodes k node n (λ e. avoids (AttrOf n) (AttrOf k) i.1 h (ap AttrOf e)))
   header_kept c n i h = refl
 
-  home_kept : (c : Change) → (n : Name) → Within T w c → (T (AttrOf n) → ⊥) → home_at (next_world c w) n ≡ home_at w n
-  home_kept (MakeNode k s node) n i h = get_apart w.homes k s n (λ e. avoids (AttrOf n) (AttrOf k) i.1 h (ap AttrOf e))
-  home_kept c n i h = refl
+  site_kept : (c : Change) → (n : Name) → Within T w c → (T (AttrOf n) → ⊥) → site_at (next_world c w) n ≡ site_at w n
+  site_kept (MakeNode k s node) n i h = get_apart w.sites k (new_site s) n (λ e. avoids (AttrOf n) (AttrOf k) i.1 h (ap AttrOf e))
+  site_kept c n i h = refl
 
   body_kept : (c : Change) → (n : Name) → Within T w c → (T (BodyOf n) → ⊥) → body_at (next_world c w) n ≡ body_at w n
   body_kept (EditHeader k f) n i h = edit_keeps body_in (with_header f) (body-with_header f) w.nodes k n
@@ -183,7 +185,7 @@ module _ (w : World) (coherent : Coherent w) (T : Part → Type 0) where
       let more = count_sent (is_on w s) r p.0 in
       let none = ap one_if (not_on w s r T i.1 h) in
       omega arith
-  users_kept (MakeNode n q node) p s i h = users_named w (apply (MakeNode n q node) w) coherent n p.0 1 n q (next_not w n p.0) refl refl s
+  users_kept (MakeNode n q node) p s i h = users_named w (apply (MakeNode n q node) w) coherent n p.0 1 n (next_not w n p.0) (λ m apart. home-apart w.sites n (new_site q) m apart) refl s
   users_kept (MakeOpen n z) p s i h = count_named (is_on w s) n.task.0 1 w.tasks p.seat p.is_task
   users_kept (Attach q at j node) p s i h = count_named (is_on w s) q.task.0 2 w.tasks p.next.seat p.next.is_task
   users_kept c p s i h = refl
@@ -197,7 +199,7 @@ module _ (w : World) (coherent : Coherent w) (T : Part → Type 0) where
   task_kept c q i h = refl
 
   next_frame : (c : Change) → Proper w c → (p : Part) → Within T w c → (T p → ⊥) → part (next_world c w) p ≡ part w p
-  next_frame c pr (AttrOf n) i h = attr_same (header_kept c n i h) (home_kept c n i h) refl
+  next_frame c pr (AttrOf n) i h = attr_same (header_kept c n i h) (site_kept c n i h)
   next_frame c pr (EmptyOf n) i h = ap AnEmpty (empty_kept c n i h)
   next_frame c pr (BodyOf n) i h = ap ABody (body_kept c n i h)
   next_frame c pr (OpenOf o) i h = ap₂ AnOpen (open_kept c o i h) (holders_kept c pr o i h)

@@ -1,18 +1,21 @@
 -- A server goes, or comes, with what settles then: as pieces of any call.
 use Rattle.std.proofs.Common.{◌≡◌, ◌≢◌, ℕ, Bool, true, [], ◌∷◌, Some, ◌∙◌, ap}
+use Rattle.std.specs.FinMap.{empty}
 use Rattle.hurd_creds.specs.declared.name.Name.{Name}
 use Rattle.hurd_trans_iface.specs.Nodes.{Node, is_dir}
 use Rattle.hurd_nodes.specs.Shown.{ServerInfo, boot_name, is_other, out_server, tree_by}
 use Rattle.hurd_machine.specs.World.{World, IsAmong, nodes_of}
-use Rattle.hurd_machine.specs.Sound.{IsFilled}
+use Rattle.hurd_machine.specs.Sound.{Coherent, IsFilled}
 use Rattle.hurd_machine.specs.Change.{Attach, DropServer, Unseat, apply}
 use Rattle.hurd_machine.specs.Sight.{Part, AttrOf, EmptyOf, BodyOf, OptionsOf, TaskOf}
 use Rattle.hurd_machine.specs.Touched.{Goes}
 use Rattle.hurd_machine.proofs.Nodes.{header_in}
 use Rattle.hurd_machine.proofs.Coherence.{Comes, be_kept}
 use Rattle.hurd_machine.proofs.Confine.{SeenOrNew}
-use Rattle.hurd_machine.proofs.Drop.{drop_linked, header_was, shape_left}
-use Rattle.hurd_machine.proofs.Servers.{linked_come, linked_unseat, filled_come, filled_drop, filled_unseat}
+use Rattle.hurd_machine.proofs.Left.{header_was, shape_left}
+use Rattle.hurd_machine.proofs.Drop.{drop_left, drop_linked, drop_filled}
+use Rattle.hurd_machine.proofs.Unseated.{unseated_linked, unseated_filled}
+use Rattle.hurd_machine.proofs.Servers.{linked_come, filled_come}
 use Rattle.hurd_machine.proofs.Piece.{Stands, Piece}
 use Rattle.hurd_machine.proofs.Retained.{retained}
 
@@ -20,11 +23,11 @@ module _ {t : ℕ} {T : Part → Type 0} {v w : World} (st : Stands w) where
   -- a server goes
   pub goes_piece : (s : Name) → s ≢ boot_name → ((p : Part) → Goes w s p → T p) → Piece t T v w (DropServer s ∷ [])
   goes_piece s not_boot parts =
-      record { within = (parts, tt); proper = (not_boot, λ d. tt); linked = drop_linked w st.coherent st.linked s not_boot; filled = filled_drop w s st.filled; may = λ S ours. (tt, tt) }
+      record { within = (parts, tt); proper = (not_boot, λ d. tt); linked = drop_linked w s st.coherent not_boot st.linked; filled = drop_filled w s st.coherent not_boot st.filled; may = λ S ours. (tt, tt) }
 
   -- a server loses its seat
   pub unseats_piece : (n : Name) → T (AttrOf n) → Piece t T v w (Unseat n ∷ [])
-  unseats_piece n attr = record { within = (attr, tt); proper = (tt, λ d. tt); linked = linked_unseat w n st.linked; filled = filled_unseat w n st.filled; may = λ S ours. (tt, tt) }
+  unseats_piece n attr = record { within = (attr, tt); proper = (tt, λ d. tt); linked = unseated_linked w st.coherent n st.linked; filled = unseated_filled w st.coherent n st.filled; may = λ S ours. (tt, tt) }
 
 -- a server comes, whose root is like one that begins
 
@@ -51,8 +54,8 @@ comes_piece {T} {v} {w} st s at i node p b task attr empty body seat options aim
 }
 
 -- it may come also where another server went, which had not the seat for a node
-pub comes_after : (w : World) (q s at : Name) (i : ServerInfo) (node : Node) → is_other q w.homes at ≡ true → Comes w s at i node → Comes (apply (DropServer q) w) s at i node
-comes_after w q s at i node other p = record {
+pub comes_after : (w : World) → Coherent w → (q : Name) → q ≢ boot_name → (s at : Name) (i : ServerInfo) (node : Node) → is_other q w.sites at ≡ true → Comes w s at i node → Comes (apply (DropServer q) w) s at i node
+comes_after w c q not_boot s at i node other p = record {
   next = record { seat = p.next.seat; is_task = p.next.is_task; next = p.next.next };
   task = p.task;
   count = p.count;
@@ -62,7 +65,7 @@ comes_after w q s at i node other p = record {
   parent = p.parent;
   kind = p.kind;
   aims = p.aims;
-  targets = λ n aim. let k = p.targets n aim in (k.0, be_kept w (out_server q (nodes_of w)) n (shape_left w q n) k.1);
-  branches = λ union n h aim eh. p.branches union n h aim (header_was w q n h eh).0;
-  seat = (p.seat.0, ap header_in (retained w.nodes (is_other q w.homes) at other) ∙ p.seat.1);
+  targets = λ n aim. let k = p.targets n aim in (k.0, be_kept w (out_server q (nodes_of w)) n (shape_left w c _ _ (drop_left w q c not_boot) n) k.1);
+  branches = λ union n h aim eh. p.branches union n h aim (header_was w c _ _ (drop_left w q c not_boot) n h eh).0;
+  seat = (p.seat.0, ap header_in (retained w.nodes (is_other q w.sites) at other) ∙ p.seat.1);
 }

@@ -1,5 +1,5 @@
 -- Changes one after another keep a coherent world so.
-use Rattle.std.proofs.Common.{◌≡◌, List, [], ◌∷◌, ◌++◌, refl, arith}
+use Rattle.std.proofs.Common.{◌≡◌, List, [], ◌∷◌, ◌++◌, refl, inl, inr, arith}
 use Rattle.hurd_creds.specs.NameMaps.{edit}
 use Rattle.std.specs.FinMap.{insert}
 use Rattle.hurd_trans_iface.specs.Nodes.{with_header, with_body}
@@ -22,8 +22,8 @@ coherent_one (EditBody n g) w s p = reworked w s n (with_body g) (with_body_from
 coherent_one (MakeNode n s node) w c p =
     let new : Below w n → ⊥ = next_not w n p.0 in
     let good = p.1 in
-    made_coherent (named_world w c n p.0 1) (named_coherent w c n p.0 1) n s node (named_below w c n p.0 1 n refl (omega arith)) (no_node c n new) (unnoded w c n p.0 1 n new) (unaimed w c n p.0 1 n new)
-    (record { info = good.info; is_server = good.is_server; tree = good.tree; shape = good.shape; empty = good.empty; parent = λ q e. named_still w c n p.0 1 q (good.parent q e) })
+    made_coherent (named_world w c n p.0 1) (named_coherent w c n p.0 1) n s node w.servers (named_below w c n p.0 1 n refl (omega arith)) (no_node c n new) (unnoded w c n p.0 1 n new) (unaimed w c n p.0 1 n new)
+    good.shape good.empty (λ q e. named_still w c n p.0 1 q (good.parent q e)) (record { here = (good.info, good.is_server, inl good.tree); yet = λ q j e. e; was = λ q j e. inr e })
 coherent_one (EditOpen o f) w s p = reopened w (edit o f w.opens) s (open_edited w s o f p)
 coherent_one (MakeOpen o z) w c p =
     reopened (named_world w c o p 1) (insert w.opens o z) (named_coherent w c o p 1)
@@ -31,9 +31,9 @@ coherent_one (MakeOpen o z) w c p =
 coherent_one (EditTask q f) w s p = task_coherent w s q f p.0 p.1 p.2 p.3
 coherent_one (Send r q) w s p = task_coherent w s q (with_sent r) (λ x. omega arith) p.0 p.1 (sent_table w s q r p.0 p.1 p.2)
 coherent_one (Attach s at i node) w c p = come_coherent w c s at i node p
-coherent_one (DropServer s) w c p = drop_coherent w c s p
+coherent_one (DropServer s) w c p = drop_coherent w s c p
 coherent_one (Unseat n) w c p = unseated_coherent w c n
-coherent_one (SetText s text) w c p = retexted_coherent w s text c p
+coherent_one (SetText s text) w c p = retexted_coherent w s text p c
 coherent_one Settle w c p = (settle_sound w c p).0
 
 pub coherent_all : (cs : List Change) (w : World) → Coherent w → AllProper w cs → Coherent (apply_all cs w)

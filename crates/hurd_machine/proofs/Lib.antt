@@ -1,6 +1,7 @@
 pub mod Tasks
 pub mod Nodes
 pub mod Retained
+pub mod Sites
 pub mod Holders
 pub mod Sums
 pub mod Listed

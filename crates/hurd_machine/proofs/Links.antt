@@ -3,6 +3,8 @@ use Rattle.std.proofs.Common.{◌≡◌, ◌≢◌, ◌⊎◌, ◌∙◌, ℕ, �
 use Rattle.std.proofs.lemmas.Bool.Decides.{nat_tests}
 use Rattle.std.specs.Option.{option_map}
 use Rattle.std.specs.FinMap.{get}
+use Rattle.hurd_nodes.proofs.Sites.{home-apart}
+use Rattle.hurd_nodes.specs.Held.{new_site}
 use Rattle.hurd_creds.specs.declared.name.Name.{Name}
 use Rattle.hurd_creds.specs.declared.mode.Mode.{Mode}
 use Rattle.hurd_creds.specs.declared.attrs.Kind.TheVariants.{Dir}
@@ -281,7 +283,7 @@ module _ (loose : Name → Type 0) (w : World) (a s : Name) (node : Node) (may :
   root_grown : (d : Name) → is_server_root w d ≡ true → is_server_root grown d ≡ true
   root_grown d is =
       let apart : d ≢ a = λ same. let gone : is_server_root w d ≡ false = rw (same) (ap (is_root_of w.servers a) may.2) in absurd (cc) in
-      ap (is_root_of w.servers d) (get_apart w.homes a s d apart) ∙ is
+      ap (is_root_of w.servers d) (home-apart w.sites a (new_site s) d apart) ∙ is
 
   parent_grown : (d : Name) (k : Header) → header_at w d ≡ Some k → (j : Header) × (header_at grown d ≡ Some j) × (j.parent ≡ k.parent)
   parent_grown d k e = (k, ap header_in (there d (stands header_in refl d k e)) ∙ e, refl)
@@ -301,8 +303,8 @@ module _ (loose : Name → Type 0) (w : World) (a s : Name) (node : Node) (may :
       header = λ j e. (j, sym (ap header_in (there n (other n out))) ∙ e, refl, refl, refl);
       times = named_grown n;
       lists = lists_grown n;
-      tree = ap (λ o. tree_by (info_in w.servers o)) (get_apart w.homes a s n (other n out));
-      root = λ is. sym (ap (is_root_of w.servers n) (get_apart w.homes a s n (other n out))) ∙ is;
+      tree = ap (λ o. tree_by (info_in w.servers o)) (home-apart w.sites a (new_site s) n (other n out));
+      root = λ is. sym (ap (is_root_of w.servers n) (home-apart w.sites a (new_site s) n (other n out))) ∙ is;
     }) (l.nodes n out);
     rooted = λ d n e. leads_grown d (l.rooted d n (lists_before d n e));
   }
@@ -386,11 +388,7 @@ linked_steady cs w p l =
     let all = loosened (λ n. ⊥) cs w (steady_all cs w p) (loose_any (λ n. ⊥) (nodes_of w) l) in
     record { nodes = λ n. all.nodes n (λ no. no); rooted = all.rooted }
 
--- a directory that is an entry leads up
-pub entry_leads : (w : World) → Coherent w → Linked (nodes_of w) → (d n : Name) (k : Header) → lists_at n (body_at w d) ≡ true → header_at w n ≡ Some k → k.kind ≡ Dir → LeadsUp (nodes_of w) n
-entry_leads w c l d n k e is dir = Above d k is (c.tree.below d n k e is dir) (l.rooted d n e)
-
--- and so does one that isn't removed
+-- a directory that isn't removed leads up
 pub leads_unless : (w : World) → Linked (nodes_of w) → (d : Name) (h : Header) → header_at w d ≡ Some h → not (not (is_server_root w d) && not (is_some h.parent)) ≡ true → LeadsUp (nodes_of w) d
 leads_unless w l d h is = go (is_server_root w d) h.parent refl refl
   where

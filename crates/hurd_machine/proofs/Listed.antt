@@ -1,5 +1,5 @@
 -- How often entries name a node.
-use Rattle.std.proofs.Common.{◌≡◌, ◌∙◌, ◌+◌, ◌≤◌, true, false, cond, is_some, if◌then◌else◌, Option, Some, None, nat_lt, sym, refl, ap, arith, inl, inr}
+use Rattle.std.proofs.Common.{if◌then◌else◌, ◌≡◌, ◌∙◌, ◌+◌, ◌≤◌, true, false, cond, is_some, Option, Some, None, nat_lt, sym, refl, ap, arith, inl, inr}
 use Rattle.std.proofs.lemmas.Bool.Decides.{nat_tests}
 use Rattle.std.specs.FinMap.{get}
 use Rattle.hurd_creds.specs.declared.name.Name.{Name}

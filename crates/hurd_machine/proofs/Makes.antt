@@ -1,9 +1,11 @@
 -- A node made in a directory, with its entry there, as a piece of any call.
-use Rattle.std.proofs.Common.{◌≡◌, ◌≢◌, ◌⊎◌, ◌∙◌, ℕ, ◌+◌, Bool, true, false, not, cond, is_some, if◌then◌else◌, List, [], ◌∷◌, ◌++◌, Option, Some, None, sym, refl, ap, subst, inl, inr, true≢false, arith}
+use Rattle.std.proofs.Common.{if◌then◌else◌, ◌≡◌, ◌≢◌, ◌⊎◌, ◌∙◌, ℕ, ◌+◌, Bool, true, false, not, cond, is_some, List, [], ◌∷◌, ◌++◌, Option, Some, None, sym, refl, ap, subst, inl, inr, true≢false, arith}
 use Rattle.std.specs.Prelude.{Result, Ok, Err}
 use Rattle.std.specs.Option.{option_map}
 use Rattle.std.specs.Str.{bytes_eq}
 use Rattle.std.specs.FinMap.{get}
+use Rattle.hurd_nodes.proofs.Sites.{home-here, home-apart}
+use Rattle.hurd_nodes.specs.Held.{new_site}
 use Rattle.hurd_creds.specs.declared.name.Name.{Name}
 use Rattle.hurd_creds.specs.declared.attrs.Kind.{Kind}
 use Rattle.hurd_creds.specs.declared.attrs.Kind.TheVariants.{File, Dir}
@@ -177,7 +179,7 @@ module _ (w : World) (n s : Name) (node : Node) (d : Name) (name : List ℕ) whe
 
   -- what is read of the new node afterwards
   pub entered_home : home_at left n ≡ Some s
-  entered_home = get_here w.homes n s
+  entered_home = home-here w.sites n (new_site s)
 
   pub entered_header : header_at left n ≡ Some node.header
   entered_header = edit_keeps header_in (with_body (with_entry name n)) (header-with_body (with_entry name n)) made.nodes d n ∙ ap header_in (get_here w.nodes n node)
@@ -204,8 +206,8 @@ module _ (w : World) (n s : Name) (node : Node) (d : Name) (name : List ℕ) whe
         new_entry : IsEntry made d n
         new_entry = record {
           made = named_below w c n next 1 n refl (omega arith);
-          kin = get_here w.homes n s ∙ sym home ∙ sym (get_apart w.homes n s d apart);
-          tree = ap (λ o. tree_by (info_in w.servers o)) (get_apart w.homes n s d apart) ∙ keeps;
+          kin = home-here w.sites n (new_site s) ∙ sym home ∙ sym (home-apart w.sites n (new_site s) d apart);
+          tree = ap (λ o. tree_by (info_in w.servers o)) (home-apart w.sites n (new_site s) d apart) ∙ keeps;
           below = λ h eh dir.
               let same : node.header ≡ h = cc (ap header_in (get_here w.nodes n node), eh) in
               ap (λ (k : Header). k.parent) (sym same) ∙ new.below (ap (λ (k : Header). k.kind) same ∙ dir);
@@ -280,7 +282,7 @@ entered_whole good {T} {w} st t x is s d home {kind} name m up new node made_is 
       proper = entered_proper w n s node d name c next home (ap tree_by m.is_info ∙ m.tree) (absent w d name kind m) ready;
       linked = entered_linked w n s node d name c next m up ready.empty hangs st.linked;
       filled =
-          filled_entry good (made w n s node d name) d name n (ap (λ o. tree_by (info_in w.servers o)) (get_apart w.homes n s d (next_apart w n d next (home_old c d s home))) ∙ (ap tree_by m.is_info ∙ m.tree))
+          filled_entry good (made w n s node d name) d name n (ap (λ o. tree_by (info_in w.servers o)) (home-apart w.sites n (new_site s) d (next_apart w n d next (home_old c d s home))) ∙ (ap tree_by m.is_info ∙ m.tree))
           (filled_made w n s node (λ i e. let same : m.info ≡ i = cc (is_server, e) in rw (← same) (made_fit d name new node made_is good m.info m.tree)) st.filled);
       may = λ S ours. (
         (ours, inl (OfNode d (seen S ours) home), λ p e. subst (SeenOrNew S w) (sym (made_parent d name new node made_is p e)) (inl (seen S ours))),

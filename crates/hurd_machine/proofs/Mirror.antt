@@ -2,6 +2,7 @@
 use Rattle.std.proofs.Common.{◌≡◌, ◌⊎◌, ℕ, Bool, true, Some, length, sym, refl, ◌∙◌, ap, ap₂, subst, inl, inr, arith}
 use Rattle.std.specs.Option.{option_map}
 use Rattle.std.specs.FinMap.{get}
+use Rattle.hurd_nodes.proofs.Sites.{home-apart}
 use Rattle.hurd_creds.specs.declared.name.Name.{Name}
 use Rattle.hurd_creds.proofs.NameLaws.{same_or_apart, edit_apart}
 use Rattle.hurd_trans_iface.specs.Nodes.{with_header, with_body, is_empty_dir}
@@ -10,9 +11,9 @@ use Rattle.hurd_ports.specs.declared.table.Right.{Right}
 use Rattle.hurd_ports.specs.declared.table.Right.TheVariants.{Io, Control, Start}
 use Rattle.hurd_ports.specs.Tables.{Task, rights_of, names_open, count_rights}
 use Rattle.hurd_ports.specs.Steps.{named, with_sent, edit_task}
-use Rattle.hurd_machine.specs.World.{World, IsAmong, task_at, open_at, header_at, body_at, home_at, server_at}
+use Rattle.hurd_machine.specs.World.{World, site_at, IsAmong, task_at, open_at, header_at, body_at, home_at, server_at}
 use Rattle.hurd_ports.specs.Weights.{one_if}
-use Rattle.hurd_nodes.specs.Held.{is_home}
+use Rattle.hurd_nodes.specs.Held.{is_home, new_site}
 use Rattle.hurd_machine.specs.Sight.{Part, AttrOf, EmptyOf, BodyOf, OpenOf, OptionsOf, UsersOf, TaskOf, part, holders, is_on, users}
 use Rattle.hurd_machine.specs.Sight.{AnEmpty, ABody, AnOpen, AnOptions, AUsers, ATask}
 use Rattle.hurd_machine.specs.Change.{Change, EditHeader, EditBody, MakeNode, EditOpen, MakeOpen, EditTask, Send, Attach, DropServer, Unseat, SetText, Settle, apply}
@@ -38,9 +39,9 @@ module _ (x y : World) where
   header_alike (MakeNode k s node) n h = insert_alike header_in x.nodes y.nodes k n node h
   header_alike c n h = h
 
-  home_alike : (c : Change) → (n : Name) → home_at y n ≡ home_at x n → home_at (next_world c y) n ≡ home_at (next_world c x) n
-  home_alike (MakeNode k s node) n o = insert_alike (λ z. z) x.homes y.homes k n s o
-  home_alike c n o = o
+  site_alike : (c : Change) → (n : Name) → site_at y n ≡ site_at x n → site_at (next_world c y) n ≡ site_at (next_world c x) n
+  site_alike (MakeNode k s node) n o = insert_alike (λ z. z) x.sites y.sites k n (new_site s) o
+  site_alike c n o = o
 
   body_alike : (c : Change) → (n : Name) → body_at y n ≡ body_at x n → body_at (next_world c y) n ≡ body_at (next_world c x) n
   body_alike (EditHeader k f) n h = edit_alike body_in (λ z. z) (with_header f) (body-with_header f) x.nodes y.nodes k n h
@@ -139,8 +140,8 @@ module _ (S : ℕ → Bool) (v x y : World) (before : Inside S v x) (cx : Cohere
       e
   users_alike (Send r q) px py m after s e = counts_sent q r (is_on x s) (is_on y s) px.0 py.0 px.1 py.1 (same_side s r (may_inside S v x r m.0)) e
   users_alike (MakeNode n q node) px py m after s e =
-      users_named y (apply (MakeNode n q node) y) cy n py.0 1 n q (next_not y n py.0) refl refl s ∙ e
-      ∙ sym (users_named x (apply (MakeNode n q node) x) cx n px.0 1 n q (next_not x n px.0) refl refl s)
+      users_named y (apply (MakeNode n q node) y) cy n py.0 1 n (next_not y n py.0) (λ m apart. home-apart y.sites n (new_site q) m apart) refl s ∙ e
+      ∙ sym (users_named x (apply (MakeNode n q node) x) cx n px.0 1 n (next_not x n px.0) (λ m apart. home-apart x.sites n (new_site q) m apart) refl s)
   users_alike (MakeOpen n z) px py m after s e =
       count_named (is_on y s) n.task.0 1 y.tasks py.seat py.is_task ∙ e ∙ sym (count_named (is_on x s) n.task.0 1 x.tasks px.seat px.is_task)
   users_alike (Attach q at j node) px py m after s e =
@@ -150,7 +151,7 @@ module _ (S : ℕ → Bool) (v x y : World) (before : Inside S v x) (cx : Cohere
   module _ (c : Change) (px : Proper x c) (py : Proper y c) (m : May S v x c) (after : Inside S v (apply c x)) where
     -- each part that S knows is alike afterwards
     next_same : (p : Part) → Known S v p → part (next_world c y) p ≡ part (next_world c x) p
-    next_same (AttrOf n) known = let e = alike.parts (AttrOf n) known in attr_same (header_alike x y c n (cc)) (home_alike x y c n (cc)) (cc)
+    next_same (AttrOf n) known = let e = alike.parts (AttrOf n) known in attr_same (header_alike x y c n (cc)) (site_alike x y c n (cc))
     next_same (EmptyOf n) known = let e = alike.parts (EmptyOf n) known in ap AnEmpty (empty_alike x y c (emptiness c m) n (cc))
     next_same (BodyOf n) known = let e = alike.parts (BodyOf n) known in ap ABody (body_alike x y c n (cc))
     next_same (OpenOf o) known = let e = alike.parts (OpenOf o) known in ap₂ AnOpen (open_alike x y c o (cc)) (holders_alike c px py m o (cc))

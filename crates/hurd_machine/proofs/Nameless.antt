@@ -1,5 +1,8 @@
 -- A file that no entry names, made and opened, as a piece of any call: it stays, since the new right names it.
 use Rattle.std.proofs.Common.{◌≡◌, ◌∙◌, ℕ, ◌+◌, Bool, true, false, cond, List, [], ◌∷◌, Some, None, sym, refl, ap, subst, inl, inr, arith}
+use Rattle.hurd_machine.proofs.Sites.{seat_kept}
+use Rattle.hurd_nodes.proofs.Sites.{home-here, home-apart}
+use Rattle.hurd_nodes.specs.Held.{new_site}
 use Rattle.hurd_creds.specs.declared.name.Name.{Name}
 use Rattle.hurd_creds.specs.declared.open_flags.OpenFlags.{OpenFlags}
 use Rattle.hurd_creds.specs.Access.{IdSets}
@@ -66,7 +69,7 @@ module _ (w : World) (t : ℕ) (x : Task) (is : task_at w t ≡ Some x) (s : Nam
   seat = edit_here t (named 1) w.tasks x is
 
   home : home_at made n ≡ Some s
-  home = get_here w.homes n s
+  home = home-here w.sites n (new_site s)
 
   header : header_at made n ≡ Some node.header
   header = ap header_in (get_here w.nodes n node)
@@ -132,11 +135,11 @@ module _ (w : World) (t : ℕ) (x : Task) (is : task_at w t ≡ Some x) (s : Nam
       none = no_home c n (next_not w n (fresh_next w t x is))
 
       home_kept : (m q : Name) → home_at w m ≡ Some q → home_at left m ≡ Some q
-      home_kept m q e = get_apart w.homes n s m (λ same. let gone : home_at w m ≡ None = rw same none in cc (e)) ∙ e
+      home_kept m q e = home-apart w.sites n (new_site s) m (λ same. let gone : home_at w m ≡ None = rw same none in cc (e)) ∙ e
 
       lives_yet : (q : Name) → server_stays w q ≡ true → server_stays left q ≡ true
       lives_yet q h =
-          server_more (namings w) (namings left) (nodes_of w) (nodes_of left) q (yet.controlled q) (λ m e. e) (λ m e held. (home_kept m q e, held_more w left.tasks m (yet.named m) held)) h
+          server_more (namings w) (namings left) (nodes_of w) (nodes_of left) q (yet.controlled q) (λ m e. seat_kept w.sites n s m q none e) (λ m e held. (home_kept m q e, held_more w left.tasks m (yet.named m) held)) h
 
   -- a task of S may make it where S saw the server, and open it by ids that S holds
   pub nameless_whole : {T : Part → Type 0} → Sound w → keeps_tree i.kind ≡ true → IsFilled i node → ((m : Name) → IsAmong m (ways_of parents) → CanBeNamed w m) → T (UsersOf s)
@@ -173,7 +176,7 @@ module _ (w : World) (t : ℕ) (x : Task) (is : task_at w t ≡ Some x) (s : Nam
       ways_yet : (m : Name) → IsAmong m (ways_of parents) → CanBeNamed made m
       ways_yet m way =
           let k = up m way in
-          (coherence.named_still w c n next 1 m k.0, be_same (nodes_of made) (nodes_of w) m (ap (λ o. shape_by (info_in w.servers o)) (get_apart w.homes n s m (next_apart w n m next k.0))) k.1)
+          (coherence.named_still w c n next 1 m k.0, be_same (nodes_of made) (nodes_of w) m (ap (λ o. shape_by (info_in w.servers o)) (home-apart w.sites n (new_site s) m (next_apart w n m next k.0))) k.1)
 
       own : Full w t T (TaskOf t)
       own = own_task w t T

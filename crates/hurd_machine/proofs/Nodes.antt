@@ -2,12 +2,14 @@
 use Rattle.std.proofs.Common.{◌≡◌, Bool, Option, Some, None, sym, refl, ◌∙◌, ap, inl, inr, ◌⊎◌}
 use Rattle.std.specs.Option.{option_map}
 use Rattle.std.specs.FinMap.{get, insert}
+use Rattle.hurd_nodes.specs.declared.seat.Site.{Site}
+use Rattle.hurd_nodes.specs.Held.{home_in}
 use Rattle.hurd_creds.specs.declared.name.Name.{Name}
 use Rattle.hurd_creds.specs.NameMaps.{NameMap, edit}
 use Rattle.hurd_creds.proofs.NameLaws.{same_or_apart, get_here, get_apart, edit_here, edit_apart}
 use Rattle.hurd_trans_iface.specs.Nodes.{Node, Header, Body, with_header, with_body, is_empty_dir}
 use Rattle.hurd_machine.specs.Sight.{AnAttr}
-use Rattle.hurd_nodes.specs.Shown.{NodeState, is_root, is_root_at, is_root_of, info_in, server_of}
+use Rattle.hurd_nodes.specs.Shown.{NodeState, ServerInfo, is_root, is_root_at, is_root_of, info_in, server_of}
 
 abbrev pub header_in : Option Node → Option Header
 header_in o = option_map (λ x. x.header) o
@@ -41,7 +43,15 @@ by_option f g none some (Some x) = some x
 
 -- whether a node is a server's root is settled by what is known of its server
 pub root_info : (h : NodeState) (n : Name) → is_root h n ≡ is_root_at n (server_of h n)
-root_info h n = by_option (is_root_of h.servers n) (λ o. is_root_at n (info_in h.servers o)) refl (λ s. refl) (get h.homes n)
+root_info h n = by_option (is_root_of h.servers n) (λ o. is_root_at n (info_in h.servers o)) refl (λ s. refl) (home_in h.sites n)
+
+-- what is known of a node's server is known under the name that the node's site has
+pub server_home : (h : NodeState) (n : Name) (i : ServerInfo) → server_of h n ≡ Some i → (s : Name) × (home_in h.sites n ≡ Some s) × (get h.servers s ≡ Some i)
+server_home h n i = by (home_in h.sites n) refl
+  where
+    by : (o : Option Name) → home_in h.sites n ≡ o → info_in h.servers o ≡ Some i → (s : Name) × (home_in h.sites n ≡ Some s) × (get h.servers s ≡ Some i)
+    by None e k = absurd (cc)
+    by (Some s) e k = (s, e, k)
 
 -- what comes of an edit of something was there
 pub edited_from : {X : Type 0} (f : X → X) (o : Option X) (z : X) → option_map f o ≡ Some z → (y : X) × (o ≡ Some y) × (f y ≡ z)
@@ -118,5 +128,5 @@ pub empty-kept : (g : Body → Body) → KeepsEmptiness g → (o : Option Node) 
 empty-kept g keeps None = refl
 empty-kept g keeps (Some x) = ap Some (keeps x.body)
 
-pub attr_same : {h k : Option Header} {s q a b : Option Name} → h ≡ k → s ≡ q → a ≡ b → AnAttr h s a ≡ AnAttr k q b
-attr_same e f g = λ i. AnAttr (e i) (f i) (g i)
+pub attr_same : {h k : Option Header} {r s : Option Site} → h ≡ k → r ≡ s → AnAttr h r ≡ AnAttr k s
+attr_same e f = λ i. AnAttr (e i) (f i)

@@ -1,5 +1,5 @@
 -- A node that is opened has one open more, and one that is closed one fewer, and so its server counts.
-use Rattle.std.proofs.Common.{◌≡◌, ◌≢◌, ◌⊎◌, ◌∙◌, ℕ, suc, ◌+◌, ◌-◌, ◌<◌, ◌^◌, ◌==◌, Bool, true, false, true≢false, if◌then◌else◌, List, [], ◌∷◌, length, Option, Some, None, nat_lt, refl, sym, ap, subst, inl, inr, arith}
+use Rattle.std.proofs.Common.{if◌then◌else◌, ◌≡◌, ◌≢◌, ◌⊎◌, ◌∙◌, ℕ, suc, ◌+◌, ◌-◌, ◌<◌, ◌^◌, ◌==◌, Bool, true, false, true≢false, List, [], ◌∷◌, length, Option, Some, None, nat_lt, refl, sym, ap, subst, inl, inr, arith}
 use Rattle.std.proofs.lemmas.Bool.Decides.{nat_tests}
 use Rattle.std.proofs.lemmas.Bool.{cases_Bool}
 use Rattle.std.specs.Option.{option_map}
@@ -8,8 +8,8 @@ use Rattle.hurd_creds.specs.declared.open_flags.OpenFlags.{OpenFlags}
 use Rattle.hurd_creds.specs.Access.{IdSets}
 use Rattle.hurd_creds.specs.Bits.{asks, READ, WRITE}
 use Rattle.hurd_creds.specs.Names.{same_name}
-use Rattle.hurd_creds.proofs.NameLaws.{equal_if_same, same_name-apart, same_name-itself, same_or_apart, get_here, get_apart, edit_apart}
-use Rattle.hurd_trans_iface.specs.Nodes.{Header, counting, opened_by, closed_by, one_more, one_fewer, with_header}
+use Rattle.hurd_creds.proofs.NameLaws.{equal_if_same, same_name-apart, same_name-itself, same_or_apart, get_here, get_apart}
+use Rattle.hurd_trans_iface.specs.Nodes.{counting, opened_by, closed_by, one_more, one_fewer}
 use Rattle.hurd_ports.specs.declared.table.Opened.{Opened}
 use Rattle.hurd_ports.specs.declared.parents.Parent.{Parent as Pair}
 use Rattle.hurd_ports.specs.declared.table.IoRight.{IoRight}
@@ -20,17 +20,16 @@ use Rattle.hurd_ports.specs.Steps.{named, new_open, new_right, with_port, withou
 use Rattle.hurd_ports.proofs.HeldLaws.{held_counted}
 use Rattle.hurd_ports.proofs.WeightLaws.{weigh_dropped}
 use Rattle.hurd_ports.specs.Weights.{one_if}
-use Rattle.hurd_machine.specs.World.{World, IsAmong, task_at, open_at, header_at, counts_at}
-use Rattle.hurd_machine.specs.Change.{EditHeader, EditTask, MakeOpen, apply, apply_all, changes_of, closes, closing, counted, opening, porting}
+use Rattle.hurd_machine.specs.World.{World, IsAmong, task_at, open_at, counts_at}
+use Rattle.hurd_machine.specs.Change.{EditTask, MakeOpen, apply, apply_all, changes_of, closes, closing, counted, opening, porting}
 use Rattle.hurd_machine.specs.Sound.{Below, Coherent}
 use Rattle.hurd_machine.specs.Counted.{HasOpen, has_mode, AreApart, HasOpens, Counted, CanCount}
-use Rattle.hurd_machine.proofs.Nodes.{header_in, header-with_header, edit_reads, edited_from}
-use Rattle.hurd_machine.proofs.Tasks.{count_edit, edit_cases, edit_here, edit_still}
+use Rattle.hurd_machine.proofs.Tasks.{count_edit, edit_here}
 use Rattle.hurd_machine.proofs.Holders.{HeldBy, held_by, held_by_right}
 use Rattle.hurd_machine.proofs.Keeping.{apply_all-append}
 use Rattle.hurd_machine.proofs.Coherence.{IsNext, next_not, right_old, unopened}
 use Rattle.hurd_machine.proofs.Rights.{port_has, port_keeps, port_rights, right_under, without_rights}
-use Rattle.hurd_machine.proofs.Counting.{IsEnd, Same, has_right, SameOpens, counted_steady, named_calm, opens_same, opens_to, task_opens}
+use Rattle.hurd_machine.proofs.Counting.{open_yet, open_was, counted_headed, IsEnd, Same, has_right, SameOpens, counted_steady, named_calm, task_opens}
 
 -- counts that may still rise do
 abbrev more : Bool → ℕ → ℕ
@@ -74,33 +73,22 @@ module _ (w : World) (c : Coherent w) (t : ℕ) (x : Task) (is : task_at w t ≡
   -- what a task had it has, and the new right
 
   yet : (m o : Name) → HasOpen mid m o → HasOpen z m o
-  yet m o h = elim (edit_still t (with_port right) mid.tasks h.task h.seat h.is_task) [
-    | inl e ↦ record { task = h.task; seat = with_port right h.seat; is_task = e; right = h.right; here = port_keeps right h.seat (Io h.right) h.here; opens = h.opens; on = h.on }
-    | inr e ↦ record { task = h.task; seat = h.seat; is_task = e; right = h.right; here = h.here; opens = h.opens; on = h.on }
-  ]
+  yet = open_yet mid z t (with_port right) refl (λ y r. port_keeps right y (Io r))
 
   new_is : (r : IoRight) → right ≡ Io r → (new ≡ r.open_name) × (n ≡ r.node)
   new_is r e = let same : record { node = n; ids = ids; open_name = new; parents = parents } ≡ r = cc (e) in (ap (λ (q : IoRight). q.open_name) same, ap (λ (q : IoRight). q.node) same)
 
   was : (m o : Name) → HasOpen z m o → HasOpen mid m o ⊎ ((new ≡ o) × (n ≡ m))
-  was m o h = elim (edit_cases t (with_port right) mid.tasks (named 1 x) mid_is h.task h.seat h.is_task) [
-    | inl k ↦ elim (port_rights right (named 1 x) (Io h.right) (subst (λ (u : Task). IsAmong (Io h.right) (rights_of u)) k.1 h.here)) [
-      | inl old ↦ inl (record { task = t; seat = named 1 x; is_task = mid_is; right = h.right; here = old; opens = h.opens; on = h.on })
-      | inr e ↦ let k = new_is h.right e in inr (k.0 ∙ h.opens, k.1 ∙ h.on)
+  was m o h = elim (open_was mid z t (with_port right) refl (named 1 x) mid_is m o h) [
+    | inl old ↦ inl old
+    | inr new ↦ elim (port_rights right (named 1 x) (Io new.0) new.1) [
+      | inl had ↦ inl (record { task = t; seat = named 1 x; is_task = mid_is; right = new.0; here = had; opens = new.2; on = new.3 })
+      | inr e ↦ let k = new_is new.0 e in inr (k.0 ∙ new.2, k.1 ∙ new.3)
     ]
-    | inr old ↦ inl (record { task = h.task; seat = h.seat; is_task = old; right = h.right; here = h.here; opens = h.opens; on = h.on })
   ]
 
   has_new : HasOpen z n new
-  has_new = record {
-    task = t;
-    seat = with_port right (named 1 x);
-    is_task = edit_here t (with_port right) mid.tasks (named 1 x) mid_is;
-    right = record { node = n; ids = ids; open_name = new; parents = parents };
-    here = port_has right (named 1 x);
-    opens = refl;
-    on = refl;
-  }
+  has_new = has_right z t (with_port right (named 1 x)) (record { node = n; ids = ids; open_name = new; parents = parents }) (edit_here t (with_port right) mid.tasks (named 1 x) mid_is) (port_has right (named 1 x))
 
   new_mode : (mode : ℕ) → has_mode mode (open_at z new) ≡ asks modes mode
   new_mode mode = ap (has_mode mode) (get_here w.opens new (new_open modes))
@@ -121,7 +109,7 @@ module _ (w : World) (c : Coherent w) (t : ℕ) (x : Task) (is : task_at w t ≡
   -- and of this one there is one more with each of its modes
   opens_more : counts_at w n ≡ true → (mode k : ℕ) → IsEnd mode → HasOpens w n mode k → HasOpens z n mode (more (asks modes mode) k)
   opens_more counts mode k end h = elim (cases_Bool (asks modes mode)) [
-    | inl asked ↦ subst (HasOpens z n mode) (sym (one asked)) (record {
+    | inl asked ↦ subst (λ (b : Bool). HasOpens z n mode (more b k)) (sym asked) (record {
       names = new ∷ h.names;
       apart = (λ i. old_apart n new (h.each new i).0 refl, h.apart);
       each = λ o i. elim i [
@@ -131,7 +119,7 @@ module _ (w : World) (c : Coherent w) (t : ℕ) (x : Task) (is : task_at w t ≡
       all = λ o p. elim (was n o p.0) [ inl k ↦ inr (old_all o k p.1) | inr k ↦ inl k.0 ];
       count = let e = h.count in omega (arith, e);
     })
-    | inr unasked ↦ subst (HasOpens z n mode) (sym (none unasked)) (record {
+    | inr unasked ↦ subst (λ (b : Bool). HasOpens z n mode (more b k)) (sym unasked) (record {
       names = h.names;
       apart = h.apart;
       each = old_each;
@@ -146,12 +134,6 @@ module _ (w : World) (c : Coherent w) (t : ℕ) (x : Task) (is : task_at w t ≡
       s : SameOpens w mid n
       s = mid_same n counts
 
-      one : asks modes mode ≡ true → more (asks modes mode) k ≡ k + 1
-      one is_asked = ap (λ b. if b then k + 1 else k) is_asked
-
-      none : asks modes mode ≡ false → more (asks modes mode) k ≡ k
-      none is_not = ap (λ b. if b then k + 1 else k) is_not
-
       old_each : (o : Name) → IsAmong o h.names → HasOpen z n o × (has_mode mode (open_at z o) ≡ true)
       old_each o i = let p = h.each o i in let q = s.yet o p.0 in (yet n o q, s.modes mode end o q ∙ p.1)
 
@@ -162,27 +144,13 @@ module _ (w : World) (c : Coherent w) (t : ℕ) (x : Task) (is : task_at w t ≡
   opening_counted can known = subst Counted (sym (apply_all-append (porting t x n ids parents modes) (counted w n (opened_by modes)) w)) (go (counts_at w n) refl)
     where
       go : (b : Bool) → counts_at w n ≡ b → Counted (apply_all (changes_of (counting b n (opened_by modes))) z)
-      go false e m h counts is = counted_steady w z (λ q k there at. Same there k at refl refl (other_same q there (λ same. true≢false (sym there ∙ ap (counts_at w) (sym same) ∙ e)))) known m h counts is
-      go true e m h counts is = elim (same_or_apart m n) [
-        | inl a ↦
-            let l = edited_from (opened_by modes) (header_at w n) h (sym (edit_reads header_in (option_map (opened_by modes)) (with_header (opened_by modes)) (header-with_header (opened_by modes)) w.nodes n) ∙ rw a at is) in
-            let old = known n l.0 e l.1 in
-            let room = can n l.0 e l.1 in
-            subst (λ (q : Name). HasOpens y q READ h.readers × HasOpens y q WRITE h.writers) (sym a) (
-              subst (HasOpens y n READ) (sym (rises (asks modes READ) l.0.readers room.0) ∙ ap (λ (k : Header). k.readers) l.2) (opens_to (opens_same z y refl refl n) READ _ (inl refl) (opens_more e READ l.0.readers (inl refl) old.0)),
-              subst (HasOpens y n WRITE) (sym (rises (asks modes WRITE) l.0.writers room.1) ∙ ap (λ (k : Header). k.writers) l.2) (opens_to (opens_same z y refl refl n) WRITE _ (inr refl) (opens_more e WRITE l.0.writers (inr refl) old.1)),
-            )
-        | inr a ↦
-            let there : header_at w m ≡ Some h = sym (ap header_in (edit_apart w.nodes n (with_header (opened_by modes)) m a)) ∙ is in
-            let old = known m h counts there in
-            let s = other_same m counts (λ same. a (sym same)) in (
-              opens_to (opens_same z y refl refl m) READ h.readers (inl refl) (opens_to s READ h.readers (inl refl) old.0),
-              opens_to (opens_same z y refl refl m) WRITE h.writers (inr refl) (opens_to s WRITE h.writers (inr refl) old.1),
-            )
-      ]
-        where
-          y : World
-          y = apply (EditHeader n (opened_by modes)) z
+      go false e = counted_steady w z (λ q k there at. Same there k at refl refl (other_same q there (λ same. true≢false (sym there ∙ ap (counts_at w) (sym same) ∙ e)))) known
+      go true e = counted_headed w z.opens z.tasks n (opened_by modes) (λ m counts apart. other_same m counts (λ same. apart (sym same))) (λ h is.
+          let old = known n h e is in
+          let room = can n h e is in (
+            subst (HasOpens z n READ) (sym (rises (asks modes READ) h.readers room.0)) (opens_more e READ h.readers (inl refl) old.0),
+            subst (HasOpens z n WRITE) (sym (rises (asks modes WRITE) h.writers room.1)) (opens_more e WRITE h.writers (inr refl) old.1),
+          )) known
 
 -- names without one of them
 
@@ -247,9 +215,9 @@ module _ (w : World) (c : Coherent w) (t p : ℕ) (x : Task) (r : Right) (is : t
 
   -- what is left was there
   was_there : (m o : Name) → HasOpen dropped m o → HasOpen w m o
-  was_there m o h = elim (edit_cases t (without_port p) w.tasks x is h.task h.seat h.is_task) [
-    | inl k ↦ record { task = t; seat = x; is_task = is; right = h.right; here = without_rights p x (Io h.right) (subst (λ (u : Task). IsAmong (Io h.right) (rights_of u)) k.1 h.here); opens = h.opens; on = h.on }
-    | inr old ↦ record { task = h.task; seat = h.seat; is_task = old; right = h.right; here = h.here; opens = h.opens; on = h.on }
+  was_there m o h = elim (open_was w dropped t (without_port p) refl x is m o h) [
+    | inl old ↦ old
+    | inr new ↦ record { task = t; seat = x; is_task = is; right = new.0; here = without_rights p x (Io new.0) new.1; opens = new.2; on = new.3 }
   ]
 
   -- an open that some right still names is of the node that it was of
@@ -259,20 +227,17 @@ module _ (w : World) (c : Coherent w) (t p : ℕ) (x : Task) (r : Right) (is : t
   some_right o held = held_by (names_open o) dropped.tasks held
 
   held_yet : (m o : Name) → HasOpen w m o → is_held dropped.tasks o ≡ true → HasOpen dropped m o
-  held_yet m o h held = by (some_right o held)
+  held_yet m o h held = let k = some_right o held in by k k.right k.here k.passes
     where
-      of : (k : HeldBy (names_open o) dropped.tasks) (q : Right) → k.right ≡ q → IsAmong q (rights_of k.seat) → names_open o q ≡ true → HasOpen dropped m o
-      of k (Io q) e here passes =
+      by : (k : HeldBy (names_open o) dropped.tasks) (q : Right) → IsAmong q (rights_of k.seat) → names_open o q ≡ true → HasOpen dropped m o
+      by k (Io q) here passes =
           let name = equal_if_same q.open_name o passes in
           let one : HasOpen dropped q.node o = record { task = k.task; seat = k.seat; is_task = k.is_task; right = q; here = here; opens = name; on = refl } in
           let old = was_there q.node o one in
           let node = c.tables.shared old.task h.task old.seat h.seat old.right h.right old.is_task old.here h.is_task h.here (old.opens ∙ sym h.opens) in
           record { task = k.task; seat = k.seat; is_task = k.is_task; right = q; here = here; opens = name; on = sym old.on ∙ node ∙ h.on }
-      of k (Control s) e here passes = absurd (true≢false (sym passes))
-      of k (Start n) e here passes = absurd (true≢false (sym passes))
-
-      by : HeldBy (names_open o) dropped.tasks → HasOpen dropped m o
-      by k = of k k.right refl k.here k.passes
+      by k (Control s) here passes = absurd (true≢false (sym passes))
+      by k (Start n) here passes = absurd (true≢false (sym passes))
 
   is_held_before : (m o : Name) → HasOpen w m o → is_held w.tasks o ≡ true
   is_held_before m o h = subst (λ (q : Name). is_held w.tasks q ≡ true) h.opens (held_by_right w.tasks h.task h.seat h.right h.is_task h.here)
@@ -376,26 +341,10 @@ module _ (w : World) (c : Coherent w) (t p : ℕ) (x : Task) (r : IoRight) (is :
     ]
 
     closed_counted : (b : Bool) → counts_at w r.node ≡ b → Counted w → Counted (apply_all (changes_of (counting b r.node (closed_by opened.modes))) left)
-    closed_counted false e known m h counts at = still_counted w c t p x (Io r) is under (λ q o there has. other_held q o (λ same. true≢false (sym there ∙ ap (counts_at w) same ∙ e)) has) known m h counts at
-    closed_counted true e known m h counts at = elim (same_or_apart m r.node) [
-      | inl a ↦
-          let l = edited_from (closed_by opened.modes) (header_at w r.node) h (sym (edit_reads header_in (option_map (closed_by opened.modes)) (with_header (closed_by opened.modes)) (header-with_header (closed_by opened.modes)) w.nodes r.node) ∙ rw a at at) in
-          let old = known r.node l.0 e l.1 in
-          subst (λ (q : Name). HasOpens y q READ h.readers × HasOpens y q WRITE h.writers) (sym a) (
-            subst (HasOpens y r.node READ) (ap (λ (k : Header). k.readers) l.2) (opens_to (opens_same left y refl refl r.node) READ _ (inl refl) (opens_fewer READ l.0.readers old.0)),
-            subst (HasOpens y r.node WRITE) (ap (λ (k : Header). k.writers) l.2) (opens_to (opens_same left y refl refl r.node) WRITE _ (inr refl) (opens_fewer WRITE l.0.writers old.1)),
-          )
-      | inr a ↦
-          let there : header_at w m ≡ Some h = sym (ap header_in (edit_apart w.nodes r.node (with_header (closed_by opened.modes)) m a)) ∙ at in
-          let old = known m h counts there in
-          let s : SameOpens w left m = record { yet = λ o has. other_held m o a has; was = λ o has. was_there w c t p x (Io r) is under m o has; modes = λ mode end o has. refl } in (
-            opens_to (opens_same left y refl refl m) READ h.readers (inl refl) (opens_to s READ h.readers (inl refl) old.0),
-            opens_to (opens_same left y refl refl m) WRITE h.writers (inr refl) (opens_to s WRITE h.writers (inr refl) old.1),
-          )
-    ]
-      where
-        y : World
-        y = apply (EditHeader r.node (closed_by opened.modes)) left
+    closed_counted false e known = still_counted w c t p x (Io r) is under (λ q o there has. other_held q o (λ same. true≢false (sym there ∙ ap (counts_at w) same ∙ e)) has) known
+    closed_counted true e known = counted_headed w w.opens left.tasks r.node (closed_by opened.modes)
+        (λ m counts apart. record { yet = λ o has. other_held m o apart has; was = λ o has. was_there w c t p x (Io r) is under m o has; modes = λ mode end o has. refl })
+        (λ h at. let old = known r.node h e at in (opens_fewer READ h.readers old.0, opens_fewer WRITE h.writers old.1)) known
 
   io_counted : Counted w → Counted (apply_all (closing w (closes w (Io r))) left)
   io_counted known = go (count_rights (names_open r.open_name) w.tasks == 1) refl (open_at w r.open_name) refl

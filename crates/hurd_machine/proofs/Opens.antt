@@ -1,4 +1,5 @@
 -- A port on a node with a new open, and a port that goes: as pieces of any call.
+use Rattle.std.specs.Prelude.{if◌then◌else◌}
 use Rattle.std.proofs.Common.{◌≡◌, ℕ, ◌<◌, ◌≤◌, Bool, true, false, List, [], ◌∷◌, Some, sym, refl, subst, ◌∙◌, ap, subst, inl, inr, arith, ap₂, ◌++◌, ◌||◌, ◌&&◌, ◌==◌, Option, None}
 use Rattle.std.specs.FinMap.{get, insert}
 use Rattle.hurd_creds.specs.declared.name.Name.{Name}
@@ -31,7 +32,6 @@ use Rattle.hurd_machine.proofs.Piece.{Stands, Piece, Whole, stands, settled_as, 
 use Rattle.hurd_machine.specs.Counted.{CanCount, Counted}
 use Rattle.hurd_machine.proofs.Counting.{KeepsModes}
 use Rattle.hurd_machine.proofs.OpenCounts.{dropping_counted}
-use Rattle.std.specs.Prelude.{if◌then◌else◌}
 use Rattle.std.specs.Option.{option_map}
 use Rattle.hurd_ports.specs.declared.table.IoRight.{IoRight}
 use Rattle.hurd_machine.proofs.Permits.{AllExact}

@@ -1,5 +1,6 @@
 -- What a task is to start, as a piece of any call: alone, and where a server comes for it.
 use Rattle.std.proofs.Common.{◌≡◌, ℕ, Bool, true, [], ◌∷◌, Option, Some, None, refl, subst, inl, inr, arith}
+use Rattle.std.specs.FinMap.{empty}
 use Rattle.hurd_creds.specs.declared.name.Name.{Name}
 use Rattle.hurd_trans_iface.specs.Nodes.{Node}
 use Rattle.hurd_nodes.specs.Shown.{ServerInfo}

@@ -14,7 +14,7 @@ use Rattle.hurd_machine.proofs.Settle.{AreQuiet, rests_quiet, settle_settled}
 use Rattle.hurd_machine.proofs.Frame.{AllWithin, within_append}
 use Rattle.hurd_machine.proofs.Filled.{AreOfPorts, KeepsHeader, nodes-ports, filled_ports, filled_header, filled_settle}
 use Rattle.hurd_machine.proofs.Links.{linked_steady}
-use Rattle.hurd_machine.proofs.Swept.{linked_settle}
+use Rattle.hurd_machine.proofs.Swept.{settle_sound}
 use Rattle.hurd_machine.proofs.Several.{AllMay}
 use Rattle.hurd_machine.proofs.Permits.{AllExact, may_append}
 
@@ -81,7 +81,7 @@ module _ {t : ℕ} {T : Part → Type 0} {v w : World} where
     piece = piece_then cs (Settle ∷ []) exact s p (λ x. record {
       within = (tt, tt);
       proper = (x.linked, λ one. tt);
-      linked = linked_settle (apply_all cs w) x.coherent x.linked;
+      linked = (settle_sound (apply_all cs w) x.coherent x.linked).1;
       filled = filled_settle (apply_all cs w) x.filled;
       may = λ S ours. tt;
     });

@@ -1,7 +1,7 @@
 -- An entry more or less for a node that is there, as a piece of any call: it hangs as its links and its parent say.
 use Rattle.std.proofs.Common.{◌≡◌, ◌∙◌, ℕ, ◌+◌, ◌≤◌, Bool, true, false, true≢false, cond, List, [], ◌∷◌, Some, None, sym, refl, ap, subst, inl, inr, arith}
 use Rattle.std.specs.Option.{option_map}
-use Rattle.std.specs.FinMap.{get}
+use Rattle.std.specs.FinMap.{get, empty}
 use Rattle.hurd_creds.specs.declared.name.Name.{Name}
 use Rattle.hurd_creds.specs.declared.attrs.Kind.TheVariants.{Dir}
 use Rattle.hurd_creds.proofs.NameLaws.{same_or_apart, edit_apart}

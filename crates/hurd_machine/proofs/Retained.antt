@@ -6,6 +6,11 @@ use Rattle.hurd_creds.specs.NameMaps.{NameMap}
 use Rattle.hurd_creds.proofs.NameLaws.{name_exact, same_map_by}
 use Rattle.std.proofs.lemmas.Bool.{cases_Bool}
 
+-- what is left where something is kept was there
+pub kept_was : {X : Type 0} (b : Bool) (o : Option X) (x : X) → cond b o None ≡ Some x → (o ≡ Some x) × (b ≡ true)
+kept_was true o x e = (e, refl)
+kept_was false o x e = absurd (cc)
+
 module _ {X : Type 0} (m : NameMap X) (f : Name → Bool) (n : Name) where
   pub get-retained : get (retain_keys m f) n ≡ cond (f n) (get m n) None
   get-retained = get-retain_keys m f n (λ q e. ap f (sym (name_exact n q e)))
@@ -18,10 +23,7 @@ module _ {X : Type 0} (m : NameMap X) (f : Name → Bool) (n : Name) where
 
   -- what is left was there, and is kept
   pub was_retained : (x : X) → get (retain_keys m f) n ≡ Some x → (get m n ≡ Some x) × (f n ≡ true)
-  was_retained x h = elim (cases_Bool (f n)) [
-    | inl k ↦ (sym (retained k) ∙ h, k)
-    | inr k ↦ let gone : None ≡ Some x = sym (dropped k) ∙ h in absurd (cc)
-  ]
+  was_retained x h = kept_was (f n) (get m n) x (sym get-retained ∙ h)
 
   pub none_retained : get m n ≡ None → get (retain_keys m f) n ≡ None
   none_retained e = elim (cases_Bool (f n)) [ inl k ↦ retained k ∙ e | inr k ↦ dropped k ]

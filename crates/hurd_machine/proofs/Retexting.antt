@@ -1,26 +1,29 @@
 -- A server gets another text, and its nodes their sizes, as a piece of any call.
-use Rattle.std.proofs.Common.{◌≡◌, ◌≢◌, ℕ, Bool, true, false, List, [], ◌∷◌, Option, Some, None, sym, refl, ◌∙◌, ap, subst, inl, inr}
+use Rattle.std.proofs.Common.{◌≡◌, ◌≢◌, arith, length, map, ℕ, Bool, true, false, List, [], ◌∷◌, Option, Some, None, sym, refl, ◌∙◌, ap, subst, inl, inr}
 use Rattle.std.specs.Prelude.{is_some}
 use Rattle.std.specs.List.{list_any}
 use Rattle.std.specs.Option.{option_map}
 use Rattle.std.specs.Ordering.{eq_by_cmp}
-use Rattle.std.specs.FinMap.{get, keys, retain_keys, contains_key-keys}
+use Rattle.std.specs.FinMap.{get, keys, retain_keys, contains_key-keys, entries, entries-insert, empty, insert, put, len-entries, len-empty, get-empty}
+use Rattle.hurd_nodes.proofs.Sites.{site-of}
+use Rattle.hurd_nodes.specs.declared.seat.Site.{Site}
 use Rattle.hurd_creds.specs.declared.name.Name.{Name}
 use Rattle.hurd_creds.specs.NameMaps.{NameMap, edit}
 use Rattle.hurd_creds.specs.Names.{name_cmp}
-use Rattle.hurd_creds.proofs.NameLaws.{same_map_by, tied-itself, equal_if_tied, same_name-itself, equal_if_same, same_or_apart, edit_here, edit_apart}
+use Rattle.hurd_creds.proofs.NameLaws.{same_map_by, tied-itself, equal_if_tied, same_name-itself, same_or_apart, edit_here, edit_apart, name_total, get_here, get_apart}
 use Rattle.hurd_trans_iface.specs.Nodes.{NodeMap, Node, with_header, with_size, edit_all}
 use Rattle.hurd_trans_iface.specs.Kinds.{behaviour_of}
 use Rattle.hurd_trans_iface.specs.Meaning.{root_of, size_of, targets_of}
 use Rattle.hurd_trans_iface.specs.Good.{KeepsRoot}
-use Rattle.hurd_nodes.specs.Held.{is_home}
+use Rattle.hurd_nodes.specs.Held.{is_home, home_in}
 use Rattle.hurd_trans_iface.proofs.BodyLaws.{size_has}
 use Rattle.hurd_nodes.specs.Shown.{ServerInfo, info_in, own_nodes, sizing, with_text}
 use Rattle.hurd_machine.specs.World.{World, IsAmong, nodes_of, home_at, server_at}
 use Rattle.hurd_machine.specs.Sight.{Part, AttrOf, OptionsOf}
 use Rattle.hurd_machine.specs.Change.{Change, SetText, changes_of, retexting, apply_all}
 use Rattle.hurd_machine.specs.Sound.{Coherent, IsFilled, AreFilled, Sound}
-use Rattle.hurd_machine.proofs.Nodes.{edited_from}
+use Rattle.hurd_machine.proofs.Nodes.{edited_from, server_home}
+use Rattle.hurd_machine.proofs.Sites.{home_is}
 use Rattle.hurd_machine.proofs.Coherence.{AllProper, KeepsShape}
 use Rattle.hurd_machine.proofs.Retained.{retained, dropped, was_retained}
 use Rattle.hurd_machine.proofs.Frame.{AllWithin}
@@ -42,46 +45,50 @@ ties n m = eq_by_cmp name_cmp n m
 among_any : (n : Name) (ns : List Name) → list_any (ties n) ns ≡ true → IsAmong n ns
 among_any n ns h = let l = any_of (ties n) ns h in subst (λ m. IsAmong m ns) (sym (equal_if_tied n l.0 l.2)) l.1
 
--- whose server has the name s
-home_is : (s : Name) (o : Option Name) → is_home s o ≡ true → o ≡ Some s
-home_is s None h = absurd (cc)
-home_is s (Some q) h = ap Some (sym (equal_if_same s q h))
-
 -- a server's own nodes are among those of that list, and no others
 
-pub own_here : (s n : Name) (homes : NameMap Name) → get homes n ≡ Some s → IsAmong n (own_nodes s homes)
-own_here s n homes e =
-    among_any n _ (sym (contains_key-keys (retain_keys homes (λ m. is_home s (get homes m))) n)
-    ∙ ap is_some (retained homes (λ m. is_home s (get homes m)) n (ap (is_home s) e ∙ same_name-itself s) ∙ e))
+pub own_here : (s n : Name) (sites : NameMap Site) → home_in sites n ≡ Some s → IsAmong n (own_nodes s sites)
+own_here s n sites e =
+    let r = site-of sites n s e in
+    among_any n _ (sym (contains_key-keys (retain_keys sites (λ m. is_home s (home_in sites m))) n)
+    ∙ ap is_some (retained sites (λ m. is_home s (home_in sites m)) n (ap (is_home s) e ∙ same_name-itself s) ∙ r.1))
 
-pub own_home : (s n : Name) (homes : NameMap Name) → IsAmong n (own_nodes s homes) → get homes n ≡ Some s
-own_home s n homes i = go (get own n) refl
+pub own_home : (s n : Name) (sites : NameMap Site) → IsAmong n (own_nodes s sites) → home_in sites n ≡ Some s
+own_home s n sites i = go (get own n) refl
   where
-    own : NameMap Name
-    own = retain_keys homes (λ m. is_home s (get homes m))
+    own : NameMap Site
+    own = retain_keys sites (λ m. is_home s (home_in sites m))
 
-    go : (o : Option Name) → get own n ≡ o → get homes n ≡ Some s
+    go : (o : Option Site) → get own n ≡ o → home_in sites n ≡ Some s
     go None e =
         let bad : false ≡ true = sym (ap is_some e) ∙ contains_key-keys own n ∙ any_among (ties n) n (keys own) i (tied-itself n) in
         absurd (cc)
-    go (Some q) e = home_is s (get homes n) (was_retained homes (λ m. is_home s (get homes m)) n q e).1
+    go (Some q) e = home_is s (home_in sites n) (was_retained sites (λ m. is_home s (home_in sites m)) n q e).1
+
+none_long : {A : Type 0} (xs : List A) → 0 ≡ length xs → xs ≡ []
+none_long [] e = refl
+none_long (x ∷ xs) e = absurd (omega arith)
+
+-- a map that has one name has that name
+one_key : (m : NameMap Site) (r : Name) (x : Site) → get m r ≡ Some x → ((n : Name) → n ≢ r → get m n ≡ None) → keys m ≡ r ∷ []
+one_key m r x here none =
+    ap keys (same_map_by m (insert empty r x) (λ n. elim (same_or_apart n r) [
+      | inl e ↦ rw e (here ∙ sym (get_here {X = Site} empty r x))
+      | inr apart ↦ none n apart ∙ sym (get_apart {X = Site} empty r x n apart ∙ get-empty name_cmp n)
+    ]))
+    ∙ ap (map (λ (e : Name × Site). e.0)) (entries-insert name_total empty r x ∙ ap (put name_cmp r x) (none_long (entries (empty {X = Site})) (sym (len-empty name_cmp Site) ∙ len-entries (empty {X = Site} {R = name_cmp}))))
 
 -- a server that has its root alone has the same nodes in both
-pub own_alone : (s r : Name) (a b : NameMap Name) → get a r ≡ Some s → get b r ≡ Some s → ((n : Name) → get a n ≡ Some s → n ≡ r) → ((n : Name) → get b n ≡ Some s → n ≡ r)
-    → own_nodes s a ≡ own_nodes s b
-own_alone s r a b in_a in_b lone_a lone_b = ap keys (same_map_by _ _ (λ n. elim (same_or_apart n r) [
-  | inl e ↦ rw e (at_root a in_a ∙ sym (at_root b in_b))
-  | inr apart ↦ elsewhere a n (λ h. apart (lone_a n h)) ∙ sym (elsewhere b n (λ h. apart (lone_b n h)))
-]))
+own_one : (s r : Name) (sites : NameMap Site) → home_in sites r ≡ Some s → ((n : Name) → home_in sites n ≡ Some s → n ≡ r) → own_nodes s sites ≡ r ∷ []
+own_one s r sites at lone =
+    let x = site-of sites r s at in
+    one_key (retain_keys sites own) r x.0 (retained sites own r (ap (is_home s) at ∙ same_name-itself s) ∙ x.1) (λ n apart. elim (cases_Bool (own n)) [
+      | inl h ↦ absurd (apart (lone n (home_is s (home_in sites n) h)))
+      | inr h ↦ dropped sites own n h
+    ])
   where
-    at_root : (m : NameMap Name) → get m r ≡ Some s → get (retain_keys m (λ n. is_home s (get m n))) r ≡ Some s
-    at_root m e = retained m (λ n. is_home s (get m n)) r (ap (is_home s) e ∙ same_name-itself s) ∙ e
-
-    elsewhere : (m : NameMap Name) (n : Name) → (get m n ≡ Some s → ⊥) → get (retain_keys m (λ k. is_home s (get m k))) n ≡ None
-    elsewhere m n out = elim (cases_Bool (is_home s (get m n))) [
-      | inl h ↦ absurd (out (home_is s (get m n) h))
-      | inr h ↦ dropped m (λ k. is_home s (get m k)) n h
-    ]
+    own : Name → Bool
+    own n = is_home s (home_in sites n)
 
 -- nodes that get a size
 
@@ -120,24 +127,19 @@ module _ (k : ℕ) where
   sized_apart [] m n out = refl
   sized_apart (q ∷ ns) m n out = sized_apart ns (edit q sized m) n (λ i. out (inr i)) ∙ edit_apart m q sized n (λ e. out (inl (sym e)))
 
-  -- they count nothing
-  sizes_calm : (ns : List Name) (w : World) → AllCalm w (sizes ns)
-  sizes_calm [] w = tt
-  sizes_calm (n ∷ ns) w = (λ h. (refl, refl), λ c. sizes_calm ns (record w { nodes = edit n sized w.nodes }))
-
-  -- they write headers alone, may be made, take nothing away, and leave how nodes hang
+  -- they write headers alone, may be made, take nothing away, leave how nodes hang, and count nothing
   sizes_piece : (T : Part → Type 0) (ns : List Name) (w : World) → ((n : Name) → IsAmong n ns → T (AttrOf n))
-      → AllWithin T w (sizes ns) × AllProper w (sizes ns) × AreQuiet w (sizes ns) × AreSteady (sizes ns) × ((S : ℕ → Bool) (v : World) → AllMay S v w (sizes ns))
-  sizes_piece T [] w attrs = (tt, tt, tt, tt, λ S v. tt)
+      → AllWithin T w (sizes ns) × AllProper w (sizes ns) × AreQuiet w (sizes ns) × AreSteady (sizes ns) × ((S : ℕ → Bool) (v : World) → AllMay S v w (sizes ns)) × AllCalm w (sizes ns)
+  sizes_piece T [] w attrs = (tt, tt, tt, tt, λ S v. tt, tt)
   sizes_piece T (n ∷ ns) w attrs =
       let l = sizes_piece T ns (record w { nodes = edit n sized w.nodes }) (λ m i. attrs m (inr i)) in
-      ((attrs n (inl refl), l.0), (λ h is. (refl, inl refl), λ one. l.1), (λ h e. e, l.2), (λ h. (refl, refl, refl), l.3), λ S v. (λ h is. size_may S v n k h, l.4 S v))
+      ((attrs n (inl refl), l.0), (λ h is. (refl, inl refl), λ one. l.1), (λ h e. e, l.2), (λ h. (refl, refl, refl), l.3), λ S v. (λ h is. size_may S v n k h, l.4 S v), (λ h. (refl, refl), λ c. l.5))
 
 -- the whole piece
 
 module _ (w : World) (s : Name) (i : ServerInfo) where
   abbrev own : List Name
-  own = own_nodes s w.homes
+  own = own_nodes s w.sites
 
   -- a text that the server may get: it has its root alone
   abbrev pub MayGet : Option (List ℕ) → Type 0
@@ -157,7 +159,7 @@ module _ (w : World) (s : Name) (i : ServerInfo) where
       done = sizes_done (size_of i.kind text) own (record w { servers = edit s (with_text text) w.servers })
 
       now : AreFilled (nodes_of left)
-      now n x j e ej = go (home_at w n) refl
+      now n x j e ej = let q = server_home (nodes_of left) n j ej in elim (same_or_apart q.0 s) [ inl same ↦ here (q.1 ∙ ap Some same) | inr apart ↦ there q.0 q.1 apart ]
         where
           -- a node of this server
           here : home_at w n ≡ Some s → IsFilled j x
@@ -165,28 +167,24 @@ module _ (w : World) (s : Name) (i : ServerInfo) where
               let known : Some (with_text text i) ≡ Some j =
               sym (ap (info_in left.servers) home ∙ edit_here w.servers s (with_text text) ∙ ap (option_map (with_text text)) is) ∙ ej in
               let same : with_text text i ≡ j = cc in
-              let l = edited_from (sized (size_of i.kind text)) (get w.nodes n) x (sym (sized_here (size_of i.kind text) own w.nodes n (own_here s n w.homes home)) ∙ e) in
+              let l = edited_from (sized (size_of i.kind text)) (get w.nodes n) x (sym (sized_here (size_of i.kind text) own w.nodes n (own_here s n w.sites home)) ∙ e) in
               let old = fit n l.0 i l.1 (ap (info_in w.servers) home ∙ is) in
               subst (λ (z : ServerInfo). IsFilled z x) same (subst (IsFilled (with_text text i)) l.2 (sym ((keeps text refl).sized l.0.body), old.1, size_has (Some (size_of i.kind text)) i.kind l.0.header old.2))
 
           -- or of another
           there : (q : Name) → home_at w n ≡ Some q → q ≢ s → IsFilled j x
           there q home apart =
-              let other : IsAmong n own → ⊥ = λ among. let it : home_at w n ≡ Some s = own_home s n w.homes among in apart (cc (home, it)) in
+              let other : IsAmong n own → ⊥ = λ among. let it : home_at w n ≡ Some s = own_home s n w.sites among in apart (cc (home, it)) in
               fit n x j (sym (sized_apart (size_of i.kind text) own w.nodes n other) ∙ e)
               (ap (info_in w.servers) home ∙ sym (edit_apart w.servers s (with_text text) q apart) ∙ sym (ap (info_in left.servers) home) ∙ ej)
-
-          go : (o : Option Name) → home_at w n ≡ o → IsFilled j x
-          go None home = let none : None ≡ Some j = sym (ap (info_in left.servers) home) ∙ ej in absurd (cc)
-          go (Some q) home = elim (same_or_apart q s) [ inl same ↦ here (home ∙ ap Some same) | inr apart ↦ there q home apart ]
 
   pub retexts_whole : {t : ℕ} {T : Part → Type 0} → Sound w → server_at w s ≡ Some i → (o : Option (List ℕ)) → MayGet o → T (OptionsOf s) → T (AttrOf i.root) → Whole t T w w (retexting w s i o)
   retexts_whole {t} {T} st is None keeps options attr = whole_none st
   retexts_whole {t} {T} st is (Some text) keeps options attr =
       let k : ℕ = size_of i.kind text in
       let set : World = record w { servers = edit s (with_text text) w.servers } in
-      let l = sizes_piece k T own set (λ n among. subst (λ m. T (AttrOf m)) (sym (root_alone st.coherent is text keeps n (own_home s n w.homes among))) attr) in
-      quiet (retexting w s i (Some text)) (tt, l.2) (tt, λ c. sizes_calm k own set) st (record {
+      let l = sizes_piece k T own set (λ n among. subst (λ m. T (AttrOf m)) (sym (root_alone st.coherent is text keeps n (own_home s n w.sites among))) attr) in
+      quiet (retexting w s i (Some text)) (tt, l.2) (tt, λ c. l.5) st (record {
         within = (options, l.0);
         proper = (fits, λ one. l.1);
         linked = linked_steady (retexting w s i (Some text)) w (tt, l.3) st.linked;
@@ -204,8 +202,7 @@ module _ (w : World) (s : Name) (i : ServerInfo) where
 pub retexts_same : (v w : World) → Coherent v → Coherent w → (s : Name) (i : ServerInfo) → server_at v s ≡ Some i → server_at w s ≡ Some i → (o : Option (List ℕ)) → MayGet v s i o → retexting w s i o ≡ retexting v s i o
 retexts_same v w cv cw s i in_v in_w None keeps = refl
 retexts_same v w cv cw s i in_v in_w (Some text) keeps =
-    ap retexted_by (own_alone s i.root w.homes v.homes (cw.housing.roots s i in_w) (cv.housing.roots s i in_v)
-    (root_alone w s i cw in_w text keeps) (root_alone v s i cv in_v text keeps))
+    ap retexted_by (own_one s i.root w.sites (cw.housing.roots s i in_w) (root_alone w s i cw in_w text keeps) ∙ sym (own_one s i.root v.sites (cv.housing.roots s i in_v) (root_alone v s i cv in_v text keeps)))
   where
     retexted_by : List Name → List Change
     retexted_by ns = SetText s text ∷ changes_of (sizing (size_of i.kind text) ns)

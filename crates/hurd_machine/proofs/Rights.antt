@@ -165,19 +165,12 @@ received_keeps x q = go x.inbox
 pub received_counts : (T : Right → Bool) (x : Task) → count_list T (rights_of (received x)) ≡ count_list T (rights_of x)
 received_counts T x = weigh_received (λ r. one_if (T r)) x
 
-pub received_made : (x : Task) → (received x).made ≡ x.made
-received_made x = go x.inbox
+pub received_same : (x : Task) → ((received x).made ≡ x.made) × ((received x).ids ≡ x.ids)
+received_same x = go x.inbox
   where
-    go : (rs : List Right) → (received (with_inbox rs x)).made ≡ x.made
-    go [] = refl
-    go (r ∷ rs) = refl
-
-pub received_ids : (x : Task) → (received x).ids ≡ x.ids
-received_ids x = go x.inbox
-  where
-    go : (rs : List Right) → (received (with_inbox rs x)).ids ≡ x.ids
-    go [] = refl
-    go (r ∷ rs) = refl
+    go : (rs : List Right) → ((received (with_inbox rs x)).made ≡ x.made) × ((received (with_inbox rs x)).ids ≡ x.ids)
+    go [] = (refl, refl)
+    go (r ∷ rs) = (refl, refl)
 
 pub received_table : (w : World) → Coherent w → (t : ℕ) (x : Task) → task_at w t ≡ Some x → Table w x (received x)
 received_table w c t x is = record { new = None; fine = tt; rights = λ r h. inl (received_rights x r h); numbers = numbers x.inbox }

@@ -9,7 +9,7 @@ use Rattle.hurd_machine.specs.Sight.{Part, TaskOf, Holds, is_on}
 use Rattle.hurd_machine.specs.Touched.{OnRight}
 use Rattle.hurd_machine.specs.Change.{EditTask, Send}
 use Rattle.hurd_machine.specs.Sound.{Sound}
-use Rattle.hurd_machine.proofs.Rights.{received_rights, received_keeps, received_counts, received_made, received_ids, received_table}
+use Rattle.hurd_machine.proofs.Rights.{received_rights, received_keeps, received_counts, received_same, received_table}
 use Rattle.hurd_machine.proofs.Counting.{known_right, received_calm}
 use Rattle.hurd_machine.proofs.Opens.{covers}
 use Rattle.hurd_machine.proofs.Sharing.{fine_right, held_may, ids_held}
@@ -37,5 +37,5 @@ pub receives_whole : {T : Part → Type 0} {w : World} → Sound w → (t : ℕ)
 receives_whole {T} {w} s t x is task =
     quiet (EditTask t received ∷ []) (received_keeps, tt) (received_calm w t, λ c. tt) s (of_ports (EditTask t received ∷ []) (tt, tt) (stands s)
     ((task, λ z at. record { opens = λ o out. received_counts (names_open o) z; users = λ q out. received_counts (is_on w q) z }), tt)
-    ((λ z. let e = received_made z in omega arith, x, is, received_table w s.coherent t x is), λ d. tt)
-    (λ S ours. ((ours, λ a at. (λ r h. inl (received_rights a r h), inr (record { ids = inl (received_ids a); rights = λ r h. inl (received_rights a r h) }))), tt)))
+    ((λ z. let e = (received_same z).0 in omega arith, x, is, received_table w s.coherent t x is), λ d. tt)
+    (λ S ours. ((ours, λ a at. (λ r h. inl (received_rights a r h), inr (record { ids = inl (received_same a).1; rights = λ r h. inl (received_rights a r h) }))), tt)))

@@ -2,6 +2,9 @@
 use Rattle.std.proofs.Common.{◌≡◌, ◌⊎◌, ℕ, Bool, true, List, [], ◌∷◌, Option, Some, None, slice_get, nat_lt, sym, refl, ◌∙◌, ap, ap₂, subst, inl, inr}
 use Rattle.std.specs.Option.{option_map}
 use Rattle.std.specs.FinMap.{get}
+use Rattle.hurd_machine.proofs.Sites.{seat_kept}
+use Rattle.hurd_nodes.proofs.Sites.{home-here, home-apart, home_by}
+use Rattle.hurd_nodes.specs.declared.seat.Site.{Site}
 use Rattle.hurd_creds.specs.declared.name.Name.{Name}
 use Rattle.hurd_creds.specs.declared.open_flags.OpenFlags.{OpenFlags}
 use Rattle.hurd_creds.specs.Access.{IdSets}
@@ -17,10 +20,10 @@ use Rattle.hurd_ports.specs.declared.table.Right.TheVariants.{Io, Start}
 use Rattle.hurd_ports.specs.declared.parents.Parent.{Parent as Pair}
 use Rattle.hurd_ports.specs.Tables.{Task, nodes_of as nodes_named, is_held, IsSettled, fresh}
 use Rattle.hurd_ports.specs.Steps.{named, with_port, with_sent, new_open, new_right, edit_task}
-use Rattle.hurd_machine.specs.World.{World, IsAmong, world_from, nodes_of, ports_of, task_at, open_at, header_at, body_at, home_at, active_at, server_at}
+use Rattle.hurd_machine.specs.World.{World, IsAmong, world_from, nodes_of, ports_of, task_at, open_at, header_at, body_at, home_at, server_at, site_at}
 use Rattle.hurd_machine.specs.Sight.{Holds, Seen, Root, Held, Way, Controlled, Pending, Child, Parent, Active, ServerRoot, Target, Knows, OfNode, OfSeat, OfControl}
-use Rattle.hurd_nodes.specs.Held.{is_home}
-use Rattle.hurd_machine.specs.Sight.{Part, AttrOf, EmptyOf, BodyOf, OpenOf, OptionsOf, UsersOf, TaskOf, Sees, part, IsGone, holders, users, AnEmpty, ABody, AnOpen, AnOptions, AUsers}
+use Rattle.hurd_nodes.specs.Held.{is_home, new_site}
+use Rattle.hurd_machine.specs.Sight.{Part, AttrOf, EmptyOf, BodyOf, OpenOf, OptionsOf, UsersOf, TaskOf, Sees, part, IsGone, holders, users, Value, AnAttr, AnEmpty, ABody, AnOpen, AnOptions, AUsers}
 use Rattle.hurd_machine.specs.Change.{Change, EditHeader, EditBody, MakeNode, EditOpen, MakeOpen, EditTask, Send, Attach, DropServer, Unseat, SetText, Settle, namings, outside, stays, server_stays, settle, apply, apply_all, porting}
 use Rattle.hurd_machine.specs.Sound.{Coherent, Linked, AtRest}
 use Rattle.hurd_machine.proofs.Nodes.{attr_same, header_in, body_in, empty_in, none_mapped, edit_keeps, was_edited}
@@ -30,7 +33,7 @@ use Rattle.hurd_machine.proofs.Holders.{let_go, held_by_right, KeepsRights, Name
 use Rattle.hurd_machine.proofs.Retained.{retained_if, retained, dropped, was_retained, none_retained}
 use Rattle.hurd_machine.proofs.Stays.{sweep, way_at, way_parent, server_more, kept_more, lives_at, lives_active, lives_controlled, stays_entered, stays_named, stays_target, held_more}
 use Rattle.hurd_machine.proofs.Swept.{root_stays, boot_stays, entry_stays, parent_stays, settle_keeps}
-use Rattle.hurd_machine.proofs.Coherence.{was, entry_lists}
+use Rattle.hurd_machine.proofs.Coherence.{was, entry_lists, home_server}
 use Rattle.hurd_machine.proofs.Texts.{server_was, held_yet, stays_kept}
 use Rattle.hurd_machine.proofs.Rights.{port_keeps, port_has}
 use Rattle.hurd_machine.proofs.Views.{Agree, Agree-refl, Agree-trans}
@@ -55,10 +58,10 @@ settle_settled w = record {
 
 -- the node of a right stays, so servers have as many users
 users_still : (w : World) → Coherent w → (s : Name) → users (sweep w) s ≡ users w s
-users_still w c s = users_by w (sweep w) s w.tasks (λ t x r at i. ap (is_home s) (retained_if w.homes (stays w) r.node (λ q e.
-    let h = c.housing.housed r.node q e in
-    let k = c.housing.homes r.node h.0 h.1 in
-    stays_named w t x (Io r) r.node k.0 k.1 at i (inl refl) k.2 k.3)))
+users_still w c s = users_by w (sweep w) s w.tasks (λ t x r at i. ap (λ o. is_home s (home_by o)) (retained_if w.sites (stays w) r.node (λ site e.
+    let home = ap home_by e in
+    let k = home_server c r.node site.home home in
+    stays_named w t x (Io r) r.node site.home k.0 at i (inl refl) home k.1)))
 
 -- what S sees stays
 module _ (S : ℕ → Bool) (w : World) (c : Coherent w) (l : Linked (nodes_of w)) where
@@ -91,18 +94,11 @@ module _ (S : ℕ → Bool) (w : World) (c : Coherent w) (l : Linked (nodes_of w
       let k = c.housing.homes n h eh in
       stays_target w s n k.0 i k.1 es aim k.2 k.3
 
-  -- a node that is seen is as it was
-  record Still (n : Name) : Type 0 where
-    node : get (sweep w).nodes n ≡ get w.nodes n
-    home : home_at (sweep w) n ≡ home_at w n
-    active : active_at (sweep w) n ≡ active_at w n
-
-  seen_still : (n : Name) → Seen S w n → Still n
-  seen_still n s = record {
-    node = retained_if w.nodes (stays w) n (λ x e. alive n s x.header (ap header_in e));
-    home = retained_if w.homes (stays w) n (λ q e. let h = c.housing.housed n q e in alive n s h.0 h.1);
-    active = retained_if w.actives (stays w) n (λ q e. let h = c.seating.seats n q e in alive n s h.0 h.1);
-  }
+  -- a node that is seen is as it was, and so is its site
+  seen_still : (read : Option Node → Option Site → Value) (n : Name) → Seen S w n → read (get (sweep w).nodes n) (site_at (sweep w) n) ≡ read (get w.nodes n) (site_at w n)
+  seen_still read n s =
+      ap₂ read (retained_if w.nodes (stays w) n (λ x e. alive n s x.header (ap header_in e)))
+      (retained_if w.sites (stays w) n (λ r e. let h = c.housing.housed n r.home (ap home_by e) in alive n s h.0 h.1))
 
   known_lives : (s : Name) → Knows S w s → server_stays w s ≡ true
   known_lives s (OfNode n sn en) = let h = c.housing.housed n s en in lives_at w n s (alive n sn h.0 h.1) en
@@ -113,9 +109,9 @@ module _ (S : ℕ → Bool) (w : World) (c : Coherent w) (l : Linked (nodes_of w
   sweep_agrees = record { tasks = refl; parts = same }
     where
       same : (p : Part) → Sees S w p → part (sweep w) p ≡ part w p
-      same (AttrOf n) s = let k = seen_still n s in attr_same (ap header_in k.node) k.home k.active
-      same (EmptyOf n) s = ap (λ (o : Option Node). AnEmpty (empty_in o)) (seen_still n s.0).node
-      same (BodyOf n) s = ap (λ (o : Option Node). ABody (body_in o)) (seen_still n s.0).node
+      same (AttrOf n) s = seen_still (λ o r. AnAttr (header_in o) r) n s
+      same (EmptyOf n) s = seen_still (λ o r. AnEmpty (empty_in o)) n s.0
+      same (BodyOf n) s = seen_still (λ o r. ABody (body_in o)) n s.0
       same (OpenOf o) s = refl
       same (OptionsOf q) s = ap AnOptions (retained w.servers (server_stays w) q (known_lives q s))
       same (UsersOf q) s = ap AUsers (users_still w c q)
@@ -141,19 +137,17 @@ AsBefore w x p = (part x p ≡ part w p) ⊎ IsGone x p
 
 -- a sweep leaves each part, or takes its thing out
 module _ (x : World) (c : Coherent x) where
+  -- what is read of a node and of its site
+  sweep_node : (read : Option Node → Option Site → Value) (n : Name) → let after = read (get (sweep x).nodes n) (site_at (sweep x) n) in (after ≡ read (get x.nodes n) (site_at x n)) ⊎ (after ≡ read None None)
+  sweep_node read n = elim (cases_Bool (stays x n)) [
+    | inl k ↦ inl (ap₂ read (retained x.nodes (stays x) n k) (retained x.sites (stays x) n k))
+    | inr k ↦ inr (ap₂ read (dropped x.nodes (stays x) n k) (dropped x.sites (stays x) n k))
+  ]
+
   sweep_part : (p : Part) → (part (sweep x) p ≡ part x p) ⊎ IsGone (sweep x) p
-  sweep_part (AttrOf n) = elim (cases_Bool (stays x n)) [
-    | inl k ↦ inl (attr_same (ap header_in (retained x.nodes (stays x) n k)) (retained x.homes (stays x) n k) (retained x.actives (stays x) n k))
-    | inr k ↦ inr (attr_same (ap header_in (dropped x.nodes (stays x) n k)) (dropped x.homes (stays x) n k) (dropped x.actives (stays x) n k))
-  ]
-  sweep_part (EmptyOf n) = elim (cases_Bool (stays x n)) [
-    | inl k ↦ inl (ap (λ (o : Option Node). AnEmpty (empty_in o)) (retained x.nodes (stays x) n k))
-    | inr k ↦ inr (ap (λ (o : Option Node). AnEmpty (empty_in o)) (dropped x.nodes (stays x) n k))
-  ]
-  sweep_part (BodyOf n) = elim (cases_Bool (stays x n)) [
-    | inl k ↦ inl (ap (λ (o : Option Node). ABody (body_in o)) (retained x.nodes (stays x) n k))
-    | inr k ↦ inr (ap (λ (o : Option Node). ABody (body_in o)) (dropped x.nodes (stays x) n k))
-  ]
+  sweep_part (AttrOf n) = sweep_node (λ o r. AnAttr (header_in o) r) n
+  sweep_part (EmptyOf n) = sweep_node (λ o r. AnEmpty (empty_in o)) n
+  sweep_part (BodyOf n) = sweep_node (λ o r. ABody (body_in o)) n
   sweep_part (OpenOf o) = inl refl
   sweep_part (OptionsOf s) = elim (cases_Bool (server_stays x s)) [ inl k ↦ inl (ap AnOptions (retained x.servers (server_stays x) s k)) | inr k ↦ inr (ap AnOptions (dropped x.servers (server_stays x) s k)) ]
   sweep_part (UsersOf s) = inl (ap AUsers (users_still x c s))
@@ -162,7 +156,7 @@ module _ (x : World) (c : Coherent x) where
 -- what is gone doesn't come back by it
 sweep_gone : (x : World) (p : Part) → IsGone x p → IsGone (sweep x) p
 sweep_gone x (AttrOf n) e =
-    attr_same (ap header_in (none_retained x.nodes (stays x) n (none_mapped (λ z. z.header) (get x.nodes n) (cc)))) (none_retained x.homes (stays x) n (cc)) (none_retained x.actives (stays x) n (cc))
+    attr_same (ap header_in (none_retained x.nodes (stays x) n (none_mapped (λ z. z.header) (get x.nodes n) (cc)))) (none_retained x.sites (stays x) n (cc))
 sweep_gone x (EmptyOf n) e = ap (λ (o : Option Node). AnEmpty (empty_in o)) (none_retained x.nodes (stays x) n (none_mapped (λ z. z.body) (get x.nodes n) (none_mapped is_empty_dir (body_at x n) (cc))))
 sweep_gone x (BodyOf n) e = ap (λ (o : Option Node). ABody (body_in o)) (none_retained x.nodes (stays x) n (none_mapped (λ z. z.body) (get x.nodes n) (cc)))
 sweep_gone x (OptionsOf s) e = ap AnOptions (none_retained x.servers (server_stays x) s (cc))
@@ -247,8 +241,9 @@ tasks_more t f w s keeps h =
 -- no server loses its reason to stay
 servers_more : (c : Change) (w : World) → KeepsNodes w c → (s : Name) → server_stays w s ≡ true → server_stays (apply c w) s ≡ true
 servers_more (MakeNode k q node) w keeps s h =
-    server_more (namings w) (namings (apply (MakeNode k q node) w)) (nodes_of w) (nodes_of (apply (MakeNode k q node) w)) s ((still k.task.0 (named 1) w.tasks (λ y r i. i)).controlled s) (λ n e. e)
-    (λ n e held. (get_apart w.homes k q n (λ same. let none : home_at w n ≡ None = rw same keeps.1 in cc (e)) ∙ e, held_more w (edit_task k.task.0 (named 1) w.tasks) n ((still k.task.0 (named 1) w.tasks (λ y r i. i)).named n) held)) h
+    server_more (namings w) (namings (apply (MakeNode k q node) w)) (nodes_of w) (nodes_of (apply (MakeNode k q node) w)) s ((still k.task.0 (named 1) w.tasks (λ y r i. i)).controlled s)
+    (λ n e. seat_kept w.sites k q n s keeps.1 e)
+    (λ n e held. (home-apart w.sites k (new_site q) n (λ same. let none : home_at w n ≡ None = rw same keeps.1 in cc (e)) ∙ e, held_more w (edit_task k.task.0 (named 1) w.tasks) n ((still k.task.0 (named 1) w.tasks (λ y r i. i)).named n) held)) h
 servers_more (MakeOpen o z) w keeps s h = tasks_more o.task.0 (named 1) w s (λ y r i. i) h
 servers_more (EditTask t f) w keeps s h = tasks_more t f w s keeps h
 servers_more (Send r t) w keeps s h = tasks_more t (with_sent r) w s (sent_keeps r) h
@@ -259,36 +254,34 @@ servers_more (SetText k text) w keeps s h =
     server_more (namings w) (namings (apply (SetText k text) w)) (nodes_of w) (nodes_of (apply (SetText k text) w)) s (λ k. k) (λ n e. e) (λ n e held. (e, held_yet w k text n held)) h
 servers_more c w keeps s h = absurd keeps
 
--- what stays where the server does
-same_servers : (c : Change) (w : World) → KeepsNodes w c → (n : Name) → home_at (apply c w) n ≡ home_at w n → (apply c w).servers ≡ w.servers
-    → (s : Name) → home_at w n ≡ Some s → server_stays w s ≡ true → (home_at (apply c w) n ≡ Some s) × (server_at (apply c w) s ≡ server_at w s) × (server_stays (apply c w) s ≡ true)
-same_servers c w keeps n homes servers s eh lives = (homes ∙ eh, ap (λ m. get m s) servers, servers_more c w keeps s lives)
+-- what stays where its server does
+still_there : (c : Change) (w : World) → KeepsNodes w c → (n : Name) → home_at (apply c w) n ≡ home_at w n → (apply c w).servers ≡ w.servers → (is_entered_at (get w.nodes n) ≡ true → is_entered_at (get (apply c w).nodes n) ≡ true)
+    → ((namings w).held n ≡ true → (namings (apply c w)).held n ≡ true) → stays w n ≡ true → stays (apply c w) n ≡ true
+still_there c w keeps n home servers = kept_more (namings w) (namings (apply c w)) (nodes_of w) (nodes_of (apply c w)) n (λ s eh lives. (home ∙ eh, ap (λ m. get m s) servers, servers_more c w keeps s lives))
 
 nodes_still : (c : Change) (w : World) → KeepsNodes w c → NodesRest w → (n : Name) (x : Node) → get (apply c w).nodes n ≡ Some x → stays (apply c w) n ≡ true
 nodes_still (EditHeader k f) w q rest n x e =
     let y = stood w.nodes k n (with_header f) x e in
-    kept_more (namings w) (namings w) (nodes_of w) (nodes_of (apply (EditHeader k f) w)) n (same_servers (EditHeader k f) w q n refl refl) (entered_edit w.nodes k n f q) (λ o. o) (rest.nodes n y.0 y.1)
+    still_there (EditHeader k f) w q n refl refl (entered_edit w.nodes k n f q) (λ o. o) (rest.nodes n y.0 y.1)
 nodes_still (EditBody k g) w q rest n x e =
     let y = stood w.nodes k n (with_body g) x e in
-    kept_more (namings w) (namings w) (nodes_of w) (nodes_of (apply (EditBody k g) w)) n (same_servers (EditBody k g) w q n refl refl)
-    (λ i. edit_keeps is_entered_at (with_body g) (entered_body g) w.nodes k n ∙ i) (λ o. o) (rest.nodes n y.0 y.1)
+    still_there (EditBody k g) w q n refl refl (λ i. edit_keeps is_entered_at (with_body g) (entered_body g) w.nodes k n ∙ i) (λ o. o) (rest.nodes n y.0 y.1)
 nodes_still (MakeNode k s node) w q rest n x e = elim (was w.nodes k n node x e) [
   | inl new ↦
       subst (λ z. stays (apply (MakeNode k s node) w) z ≡ true) (sym new.0)
-      (stays_entered (apply (MakeNode k s node) w) k s q.2 (get_here w.homes k s) q.3 (servers_more (MakeNode k s node) w q s (rest.servers s q.2 q.3)) (ap is_entered_at (get_here w.nodes k node) ∙ q.0))
+      (stays_entered (apply (MakeNode k s node) w) k s q.2 (home-here w.sites k (new_site s)) q.3 (servers_more (MakeNode k s node) w q s (rest.servers s q.2 q.3)) (ap is_entered_at (get_here w.nodes k node) ∙ q.0))
   | inr old ↦
-      kept_more (namings w) (namings (apply (MakeNode k s node) w)) (nodes_of w) (nodes_of (apply (MakeNode k s node) w)) n
-      (same_servers (MakeNode k s node) w q n (get_apart w.homes k s n old.0) refl) (λ i. ap is_entered_at (get_apart w.nodes k node n old.0) ∙ i)
+      still_there (MakeNode k s node) w q n (home-apart w.sites k (new_site s) n old.0) refl (λ i. ap is_entered_at (get_apart w.nodes k node n old.0) ∙ i)
       (held_more w (edit_task k.task.0 (named 1) w.tasks) n ((still k.task.0 (named 1) w.tasks (λ y r h. h)).named n)) (rest.nodes n x old.1)
 ]
 nodes_still (EditOpen o f) w q rest n x e = rest.nodes n x e
 nodes_still (SetText k text) w q rest n x e = stays_kept w k text n ∙ rest.nodes n x e
 nodes_still (MakeOpen o z) w q rest n x e =
-    kept_more (namings w) (namings (apply (MakeOpen o z) w)) (nodes_of w) (nodes_of w) n (same_servers (MakeOpen o z) w q n refl refl) (λ i. i) (held_more w (edit_task o.task.0 (named 1) w.tasks) n ((still o.task.0 (named 1) w.tasks (λ y r h. h)).named n)) (rest.nodes n x e)
+    still_there (MakeOpen o z) w q n refl refl (λ i. i) (held_more w (edit_task o.task.0 (named 1) w.tasks) n ((still o.task.0 (named 1) w.tasks (λ y r h. h)).named n)) (rest.nodes n x e)
 nodes_still (EditTask t f) w q rest n x e =
-    kept_more (namings w) (namings (apply (EditTask t f) w)) (nodes_of w) (nodes_of w) n (same_servers (EditTask t f) w q n refl refl) (λ i. i) (held_more w (edit_task t f w.tasks) n ((still t f w.tasks q).named n)) (rest.nodes n x e)
+    still_there (EditTask t f) w q n refl refl (λ i. i) (held_more w (edit_task t f w.tasks) n ((still t f w.tasks q).named n)) (rest.nodes n x e)
 nodes_still (Send r t) w q rest n x e =
-    kept_more (namings w) (namings (apply (Send r t) w)) (nodes_of w) (nodes_of w) n (same_servers (Send r t) w q n refl refl) (λ i. i) (held_more w (edit_task t (with_sent r) w.tasks) n ((still t (with_sent r) w.tasks (sent_keeps r)).named n)) (rest.nodes n x e)
+    still_there (Send r t) w q n refl refl (λ i. i) (held_more w (edit_task t (with_sent r) w.tasks) n ((still t (with_sent r) w.tasks (sent_keeps r)).named n)) (rest.nodes n x e)
 nodes_still c w q rest n x e = absurd q
 
 -- a server that is there was there

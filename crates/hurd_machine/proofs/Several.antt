@@ -6,16 +6,16 @@ use Rattle.hurd_trans_iface.specs.Nodes.{Node}
 use Rattle.hurd_ports.specs.declared.table.Right.{Right}
 use Rattle.hurd_ports.specs.declared.table.Right.TheVariants.{Io, Control, Start}
 use Rattle.hurd_ports.specs.Tables.{Task, rights_of, names_open}
-use Rattle.hurd_machine.specs.World.{World, IsAmong, nodes_of, task_at, home_at}
-use Rattle.hurd_machine.specs.Sight.{Part, AttrOf, EmptyOf, BodyOf, OpenOf, OptionsOf, UsersOf, TaskOf, part, holders, is_on, users, AnEmpty, ABody, AnOpen, AnOptions, AUsers}
+use Rattle.hurd_machine.specs.World.{World, IsAmong, nodes_of, task_at}
+use Rattle.hurd_machine.specs.Sight.{Part, AttrOf, EmptyOf, BodyOf, OpenOf, OptionsOf, UsersOf, TaskOf, part, holders, users, AnEmpty, ABody, AnOpen, AnOptions, AUsers}
 use Rattle.hurd_machine.specs.Change.{Change, Settle, settle, apply, apply_all}
 use Rattle.hurd_machine.specs.Sound.{Below, Coherent, Linked}
 use Rattle.hurd_machine.proofs.Views.{Agree, Agree-sym, Agree-trans, same_tasks}
 use Rattle.hurd_machine.proofs.Nodes.{attr_same, header_in, body_in, empty_in}
 use Rattle.hurd_machine.proofs.Tasks.{count_alike}
-use Rattle.hurd_machine.proofs.ServerParts.{none_counted, not_home}
+use Rattle.hurd_machine.proofs.ServerParts.{none_counted, unused}
 use Rattle.hurd_machine.proofs.Comes.{none_served}
-use Rattle.hurd_machine.proofs.Coherence.{right_old, no_node, no_open, no_home, no_active, no_server, Proper, AllProper}
+use Rattle.hurd_machine.proofs.Coherence.{right_old, no_node, no_open, no_server, Proper, AllProper, no_site}
 use Rattle.hurd_machine.proofs.Keeping.{coherent_one}
 use Rattle.hurd_machine.proofs.Frame.{IsExact, length_one}
 use Rattle.hurd_machine.proofs.Settle.{settle_agrees}
@@ -44,17 +44,12 @@ no_holders w c o new =
     unnamed t x (Start n) at h = refl
 
 no_users : (w : World) → Coherent w → (s : Name) → (Below w s → ⊥) → users w s ≡ 0
-no_users w c s new = count_alike (is_on w s) (λ r. false) w.tasks (λ t x r at i. on r) ∙ none_counted w.tasks
-  where
-    on : (r : Right) → is_on w s r ≡ false
-    on (Io r) = not_home s (home_at w r.node) (λ e. none_served w c s new r.node s e refl)
-    on (Control q) = refl
-    on (Start n) = refl
+no_users w c s new = unused w s (λ n e. none_served w c s new n s e refl)
 
 new_same : {S : ℕ → Bool} {v w : World} → Coherent v → Coherent w → Agree S v w → (p : Part) → NewPart S v p → part w p ≡ part v p
 new_same {S} {v} {w} cv cw a (AttrOf n) new =
     let out = new_there a n new in
-    attr_same (ap header_in (no_node cw n out ∙ sym (no_node cv n new.1))) (no_home cw n out ∙ sym (no_home cv n new.1)) (no_active cw n out ∙ sym (no_active cv n new.1))
+    attr_same (ap header_in (no_node cw n out ∙ sym (no_node cv n new.1))) (no_site cw n out ∙ sym (no_site cv n new.1))
 new_same cv cw a (EmptyOf n) new = ap (λ (o : Option Node). AnEmpty (empty_in o)) (no_node cw n (new_there a n new) ∙ sym (no_node cv n new.1))
 new_same cv cw a (BodyOf n) new = ap (λ (o : Option Node). ABody (body_in o)) (no_node cw n (new_there a n new) ∙ sym (no_node cv n new.1))
 new_same {S} {v} {w} cv cw a (OpenOf o) new =

@@ -1,5 +1,5 @@
 -- At which nodes one can be.
-use Rattle.std.proofs.Common.{◌≡◌, ◌∙◌, Bool, true, false, true≢false, if◌then◌else◌, Option, Some, None, List, ℕ, refl, sym, ap, inr}
+use Rattle.std.proofs.Common.{if◌then◌else◌, ◌≡◌, ◌∙◌, Bool, true, false, true≢false, Option, Some, None, List, ℕ, refl, sym, ap, inr}
 use Rattle.hurd_creds.specs.declared.name.Name.{Name}
 use Rattle.hurd_creds.specs.declared.attrs.Kind.{Kind}
 use Rattle.hurd_creds.specs.declared.attrs.Kind.TheVariants.{Dir, File, Link, Fifo, Char}

@@ -3,6 +3,9 @@ use Rattle.std.proofs.Common.{◌≡◌, ◌⊎◌, ℕ, Bool, true, List, [], �
 use Rattle.std.proofs.lemmas.Bool.{or_cases, or_left, or_right}
 use Rattle.std.specs.Prelude.{◌&&◌}
 use Rattle.std.specs.FinMap.{get}
+use Rattle.hurd_nodes.proofs.Sites.{site-of, seat-site, home_by, active_by}
+use Rattle.hurd_nodes.specs.declared.seat.Site.{Site}
+use Rattle.hurd_nodes.specs.Held.{is_home, home_in, active_in}
 use Rattle.hurd_creds.specs.declared.name.Name.{Name}
 use Rattle.hurd_creds.proofs.NameLaws.{same_name-itself, equal_if_same}
 use Rattle.hurd_creds.specs.Names.{same_name}
@@ -19,6 +22,7 @@ use Rattle.hurd_machine.specs.World.{World, IsAmong, world_from, nodes_of, ports
 use Rattle.hurd_machine.specs.Change.{namings, outside, stays, server_stays}
 use Rattle.hurd_machine.proofs.Holders.{named_by_right, controlled_by_right}
 use Rattle.hurd_machine.proofs.Retained.{retained}
+use Rattle.hurd_machine.proofs.Sites.{home_is}
 
 -- the reasons
 
@@ -26,26 +30,26 @@ use Rattle.hurd_machine.proofs.Retained.{retained}
 pub data Keeps (o : Outside) (h : NodeState) (s : Name) : Type 0 where
   IsBoot : s ≡ boot_name → Keeps o h s
   IsControlled : o.controlled s ≡ true → Keeps o h s
-  IsActive : (n : Name) → get h.actives n ≡ Some s → Keeps o h s
-  HasHeld : (n : Name) → get h.homes n ≡ Some s → o.held n ≡ true → Keeps o h s
+  IsActive : (n : Name) → active_in h.sites n ≡ Some s → Keeps o h s
+  HasHeld : (n : Name) → home_in h.sites n ≡ Some s → o.held n ≡ true → Keeps o h s
 
-abbrev names_it : Name → Name → Name → Bool
-names_it s n q = same_name s q
+abbrev names_it : Name → Name → Site → Bool
+names_it s n r = is_home s r.active
 
-abbrev names_held : Outside → Name → Name → Name → Bool
-names_held o s n q = same_name s q && o.held n
+abbrev names_held : Outside → Name → Name → Site → Bool
+names_held o s n r = same_name s r.home && o.held n
 
 pub server_why : (o : Outside) (h : NodeState) (s : Name) → kept.server_stays o h s ≡ true → Keeps o h s
 server_why o h s is = elim (or_cases (same_name s boot_name) _ is) [
   | inl boot ↦ IsBoot (equal_if_same s boot_name boot)
   | inr more ↦ elim (or_cases (o.controlled s) _ more) [
     | inl c ↦ IsControlled c
-    | inr most ↦ elim (or_cases (any_in (names_it s) h.actives) _ most) [
-      | inl a ↦ let f = any_in-found (names_it s) h.actives a in IsActive f.name (f.is ∙ ap Some (sym (equal_if_same s f.item f.holds)))
+    | inr most ↦ elim (or_cases (any_in (names_it s) h.sites) _ most) [
+      | inl a ↦ let f = any_in-found (names_it s) h.sites a in IsActive f.name (ap active_by f.is ∙ home_is s f.item.active f.holds)
       | inr u ↦
-          let f = any_in-found (names_held o s) h.homes u in
-          let both = and_both (same_name s f.item) (o.held f.name) f.holds in
-          HasHeld f.name (f.is ∙ ap Some (sym (equal_if_same s f.item both.0))) both.1
+          let f = any_in-found (names_held o s) h.sites u in
+          let both = and_both (same_name s f.item.home) (o.held f.name) f.holds in
+          HasHeld f.name (ap home_by f.is ∙ ap Some (sym (equal_if_same s f.item.home both.0))) both.1
     ]
   ]
 ]
@@ -54,14 +58,16 @@ pub server_by : (o : Outside) (h : NodeState) (s : Name) → Keeps o h s → kep
 server_by o h s (IsBoot e) = or_left (same_name s boot_name) _ (rw e (same_name-itself boot_name))
 server_by o h s (IsControlled c) = or_right (same_name s boot_name) _ (or_left (o.controlled s) _ c)
 server_by o h s (IsActive n e) =
-    or_right (same_name s boot_name) _ (or_right (o.controlled s) _ (or_left (any_in (names_it s) h.actives) _ (any_in-here (names_it s) h.actives n s e (same_name-itself s))))
+    let r = seat-site h.sites n s e in
+    or_right (same_name s boot_name) _ (or_right (o.controlled s) _ (or_left (any_in (names_it s) h.sites) _ (any_in-here (names_it s) h.sites n r.0 r.1 (ap (is_home s) r.2 ∙ same_name-itself s))))
 server_by o h s (HasHeld n e k) =
-    or_right (same_name s boot_name) _ (or_right (o.controlled s) _ (or_right (any_in (names_it s) h.actives) _
-    (any_in-here (names_held o s) h.homes n s e (and_true (same_name s s) (o.held n) (same_name-itself s) k))))
+    let r = site-of h.sites n s e in
+    or_right (same_name s boot_name) _ (or_right (o.controlled s) _ (or_right (any_in (names_it s) h.sites) _
+    (any_in-here (names_held o s) h.sites n r.0 r.1 (and_true (same_name s r.0.home) (o.held n) (ap (same_name s) r.2 ∙ same_name-itself s) k))))
 
 -- a server that stays here stays there, where each reason is one there
 pub server_more : (o p : Outside) (h k : NodeState) (s : Name) → (o.controlled s ≡ true → p.controlled s ≡ true)
-    → ((n : Name) → get h.actives n ≡ Some s → get k.actives n ≡ Some s) → ((n : Name) → get h.homes n ≡ Some s → o.held n ≡ true → (get k.homes n ≡ Some s) × (p.held n ≡ true))
+    → ((n : Name) → active_in h.sites n ≡ Some s → active_in k.sites n ≡ Some s) → ((n : Name) → home_in h.sites n ≡ Some s → o.held n ≡ true → (home_in k.sites n ≡ Some s) × (p.held n ≡ true))
     → kept.server_stays o h s ≡ true → kept.server_stays p k s ≡ true
 server_more o p h k s controlled active used is = go (server_why o h s is)
   where
@@ -75,15 +81,15 @@ server_more o p h k s controlled active used is = go (server_why o h s is)
 pub record IsKept (o : Outside) (h : NodeState) (n : Name) : Type 0 where
   pub server : Name
   pub info : ServerInfo
-  pub is_home : get h.homes n ≡ Some server
+  pub is_home : home_in h.sites n ≡ Some server
   pub is_info : get h.servers server ≡ Some info
   pub lives : kept.server_stays o h server ≡ true
   pub why : (same_name n info.root ≡ true) ⊎ ((is_entered_at (get h.nodes n) ≡ true) ⊎ (o.held n ≡ true))
 
 pub kept_why : (o : Outside) (h : NodeState) (n : Name) → node_stays o h n ≡ true → IsKept o h n
-kept_why o h n = by_home (get h.homes n) refl
+kept_why o h n = by_home (home_in h.sites n) refl
   where
-    by_info : (s : Name) → get h.homes n ≡ Some s → (i : Option ServerInfo) → get h.servers s ≡ i → stays_with o h n s i ≡ true → IsKept o h n
+    by_info : (s : Name) → home_in h.sites n ≡ Some s → (i : Option ServerInfo) → get h.servers s ≡ i → stays_with o h n s i ≡ true → IsKept o h n
     by_info s eh None ei is = absurd (cc)
     by_info s eh (Some i) ei is =
         let both = and_both (kept.server_stays o h s) _ is in
@@ -96,7 +102,7 @@ kept_why o h n = by_home (get h.homes n) refl
           why = elim (or_cases (same_name n i.root) _ both.1) [ inl k ↦ inl k | inr k ↦ inr (or_cases (is_entered_at (get h.nodes n)) (o.held n) k) ];
         }
 
-    by_home : (z : Option Name) → get h.homes n ≡ z → stays_by o h n z ≡ true → IsKept o h n
+    by_home : (z : Option Name) → home_in h.sites n ≡ z → stays_by o h n z ≡ true → IsKept o h n
     by_home None e is = absurd (cc)
     by_home (Some s) e is = by_info s e (get h.servers s) refl is
 
@@ -108,7 +114,7 @@ kept_by o h n k = ap (stays_by o h n) k.is_home ∙ ap (stays_with o h n k.serve
 
 -- what is kept here is kept there, where its server is the same and stays, and each other reason is one there
 pub kept_more : (o p : Outside) (h k : NodeState) (n : Name)
-    → ((s : Name) → get h.homes n ≡ Some s → kept.server_stays o h s ≡ true → (get k.homes n ≡ Some s) × (get k.servers s ≡ get h.servers s) × (kept.server_stays p k s ≡ true))
+    → ((s : Name) → home_in h.sites n ≡ Some s → kept.server_stays o h s ≡ true → (home_in k.sites n ≡ Some s) × (get k.servers s ≡ get h.servers s) × (kept.server_stays p k s ≡ true))
     → (is_entered_at (get h.nodes n) ≡ true → is_entered_at (get k.nodes n) ≡ true) → (o.held n ≡ true → p.held n ≡ true)
     → node_stays o h n ≡ true → node_stays p k n ≡ true
 kept_more o p h k n server entered held e =
@@ -130,14 +136,18 @@ lives_at w n s is eh =
     let same : k.server ≡ s = cc (k.is_home, eh) in
     subst (λ (q : Name). server_stays w q ≡ true) same k.lives
 
+-- a node of a server that stays, for one more reason
+stays_for : (w : World) (n s : Name) (i : ServerInfo) → home_at w n ≡ Some s → server_at w s ≡ Some i → server_stays w s ≡ true → (same_name n i.root ≡ true) ⊎ ((is_entered_at (get w.nodes n) ≡ true) ⊎ ((namings w).held n ≡ true)) → stays w n ≡ true
+stays_for w n s i eh es lives why = kept_by (namings w) (nodes_of w) n (record { server = s; info = i; is_home = eh; is_info = es; lives = lives; why = why })
+
 -- a server's root, which is a node of its own
 pub stays_root : (w : World) (s : Name) (i : ServerInfo) → server_at w s ≡ Some i → home_at w i.root ≡ Some s → server_stays w s ≡ true → stays w i.root ≡ true
-stays_root w s i es eh lives = kept_by (namings w) (nodes_of w) i.root (record { server = s; info = i; is_home = eh; is_info = es; lives = lives; why = inl (same_name-itself i.root) })
+stays_root w s i es eh lives = stays_for w i.root s i eh es lives (inl (same_name-itself i.root))
 
-pub root_is_root : (h : NodeState) (s : Name) (i : ServerInfo) → get h.servers s ≡ Some i → get h.homes i.root ≡ Some s → is_root h i.root ≡ true
+pub root_is_root : (h : NodeState) (s : Name) (i : ServerInfo) → get h.servers s ≡ Some i → home_in h.sites i.root ≡ Some s → is_root h i.root ≡ true
 root_is_root h s i es eh = rw (eh, es) (same_name-itself i.root)
 
-pub root_why : (h : NodeState) (n s : Name) → get h.homes n ≡ Some s → is_root h n ≡ true → (i : ServerInfo) × (get h.servers s ≡ Some i) × (same_name n i.root ≡ true)
+pub root_why : (h : NodeState) (n s : Name) → home_in h.sites n ≡ Some s → is_root h n ≡ true → (i : ServerInfo) × (get h.servers s ≡ Some i) × (same_name n i.root ≡ true)
 root_why h n s eh is = by_info (get h.servers s) refl (sym (ap (is_root_of h.servers n) eh) ∙ is)
   where
     by_info : (o : Option ServerInfo) → get h.servers s ≡ o → is_root_at n o ≡ true → (i : ServerInfo) × (get h.servers s ≡ Some i) × (same_name n i.root ≡ true)
@@ -145,9 +155,7 @@ root_why h n s eh is = by_info (get h.servers s) refl (sym (ap (is_root_of h.ser
     by_info (Some i) es is = (i, es, is)
 
 pub stays_as_root : (w : World) (n s : Name) → home_at w n ≡ Some s → server_stays w s ≡ true → is_server_root w n ≡ true → stays w n ≡ true
-stays_as_root w n s eh lives is =
-    let r = root_why (nodes_of w) n s eh is in
-    kept_by (namings w) (nodes_of w) n (record { server = s; info = r.0; is_home = eh; is_info = r.1; lives = lives; why = inl r.2 })
+stays_as_root w n s eh lives is = let r = root_why (nodes_of w) n s eh is in stays_for w n s r.0 eh r.1 lives (inl r.2)
 
 -- both nodes of a way are among those of its list
 pub way_at : (p : Pair) (ps : List Pair) → IsAmong p ps → IsAmong p.at (ways_of ps)
@@ -184,18 +192,7 @@ held_as_target w s n i es aim =
 -- and a node that one aims at stays
 pub stays_target : (w : World) (q n s : Name) (j i : ServerInfo) → server_at w q ≡ Some j → IsAmong n j.targets → home_at w n ≡ Some s → server_at w s ≡ Some i → stays w n ≡ true
 stays_target w q n s j i ej aim eh es =
-    kept_by (namings w) (nodes_of w) n (record {
-      server = s;
-      info = i;
-      is_home = eh;
-      is_info = es;
-      lives = server_by (namings w) (nodes_of w) s (HasHeld n eh (held_as_target w q n j ej aim));
-      why = inr (inr (held_as_target w q n j ej aim));
-    })
-
--- a node that a right names keeps its server
-pub lives_named : (w : World) (t : ℕ) (x : Task) (r : Right) (n s : Name) → task_at w t ≡ Some x → IsAmong r (rights_of x) → IsAmong n (nodes_named r) → home_at w n ≡ Some s → server_stays w s ≡ true
-lives_named w t x r n s at h named eh = server_by (namings w) (nodes_of w) s (HasHeld n eh (held_by_right w t x r n at h named))
+    let held = held_as_target w q n j ej aim in stays_for w n s i eh es (server_by (namings w) (nodes_of w) s (HasHeld n eh held)) (inr (inr held))
 
 -- what is named stays so with other tasks, where what rights name does
 pub held_more : (w : World) (ts : List Task) (n : Name) → (is_named w.tasks n ≡ true → is_named ts n ≡ true) → (namings w).held n ≡ true → (namings (record w { tasks = ts })).held n ≡ true
@@ -213,20 +210,13 @@ lives_boot w = server_by (namings w) (nodes_of w) boot_name (IsBoot refl)
 
 -- what is entered, and whose server stays
 pub stays_entered : (w : World) (n s : Name) (i : ServerInfo) → home_at w n ≡ Some s → server_at w s ≡ Some i → server_stays w s ≡ true → is_entered_at (get w.nodes n) ≡ true → stays w n ≡ true
-stays_entered w n s i eh es lives e = kept_by (namings w) (nodes_of w) n (record { server = s; info = i; is_home = eh; is_info = es; lives = lives; why = inr (inl e) })
+stays_entered w n s i eh es lives e = stays_for w n s i eh es lives (inr (inl e))
 
 -- what a right names, and has a server
 pub stays_named : (w : World) (t : ℕ) (x : Task) (r : Right) (n s : Name) (i : ServerInfo) → task_at w t ≡ Some x → IsAmong r (rights_of x) → IsAmong n (nodes_named r)
     → home_at w n ≡ Some s → server_at w s ≡ Some i → stays w n ≡ true
 stays_named w t x r n s i at h named eh es =
-    kept_by (namings w) (nodes_of w) n (record {
-      server = s;
-      info = i;
-      is_home = eh;
-      is_info = es;
-      lives = lives_named w t x r n s at h named eh;
-      why = inr (inr (held_by_right w t x r n at h named));
-    })
+    let held = held_by_right w t x r n at h named in stays_for w n s i eh es (server_by (namings w) (nodes_of w) s (HasHeld n eh held)) (inr (inr held))
 
 -- the world after one sweep: without what doesn't stay, though with what stayed for the sake of that
 abbrev pub sweep : World → World
@@ -236,4 +226,4 @@ sweep w = world_from (kept.sweep (outside w) (nodes_of w)) (ports_of w)
 pub info_still : (w : World) (n : Name) → stays w n ≡ true → info_at (sweep w) n ≡ info_at w n
 info_still w n h =
     let k = kept_why (namings w) (nodes_of w) n h in
-    ap (info_in (sweep w).servers) (retained w.homes (stays w) n h ∙ k.is_home) ∙ retained w.servers (server_stays w) k.server k.lives ∙ sym (ap (info_in w.servers) k.is_home)
+    ap (info_in (sweep w).servers) (ap home_by (retained w.sites (stays w) n h) ∙ k.is_home) ∙ retained w.servers (server_stays w) k.server k.lives ∙ sym (ap (info_in w.servers) k.is_home)

@@ -1,18 +1,19 @@
 -- What stays while servers do, and that a world is coherent and linked once it is settled.
-use Rattle.std.proofs.Common.{true, ◌≡◌, is_some, nat_lt, if◌then◌else◌, Some, sym, ◌∙◌, ap}
+use Rattle.std.proofs.Common.{if◌then◌else◌, refl, true, ◌≡◌, is_some, nat_lt, Some, sym, ◌∙◌, ap}
 use Rattle.std.specs.FinMap.{get}
+use Rattle.hurd_nodes.proofs.Sites.{home-kept, active-kept}
 use Rattle.hurd_creds.specs.declared.name.Name.{Name}
 use Rattle.hurd_trans_iface.specs.Nodes.{Header, is_dir, is_entered, is_entered_at}
 use Rattle.hurd_nodes.specs.Shown.{ServerInfo, boot_name, info_in, tree_by}
-use Rattle.hurd_machine.specs.World.{World, boot_root, nodes_of, header_at, body_at, home_at, server_at, lists_at}
+use Rattle.hurd_machine.specs.World.{World, boot_root, nodes_of, header_at, body_at, home_at, active_at, server_at, lists_at}
 use Rattle.hurd_machine.specs.Change.{namings, stays, server_stays, settle}
 use Rattle.hurd_machine.specs.Sound.{Coherent, LeadsUp, AtRoot, Above, Linked}
-use Rattle.hurd_machine.proofs.Nodes.{body_in, node_of_header}
-use Rattle.hurd_machine.proofs.Left.{Left, left_coherent, left_linked, times_retained}
+use Rattle.hurd_machine.proofs.Nodes.{node_of_header}
+use Rattle.hurd_machine.proofs.Left.{Left, was_same, left_seating, left_coherent, left_linked}
 use Rattle.hurd_machine.proofs.Coherence.{reopened}
 use Rattle.hurd_machine.proofs.Listed.{entered_by}
 use Rattle.hurd_machine.proofs.Holders.{let_go, held_by_right}
-use Rattle.hurd_machine.proofs.Retained.{retained_if, retained, was_retained}
+use Rattle.hurd_machine.proofs.Retained.{get-retained, retained, kept_was, was_retained}
 use Rattle.hurd_machine.proofs.Stays.{sweep, kept_why, lives_at, lives_active, lives_boot, stays_root, stays_as_root, stays_entered}
 use Rattle.hurd_machine.proofs.Sweeps.{settle_by}
 use Rattle.hurd_ports.specs.Tables.{is_held}
@@ -58,36 +59,26 @@ parent_stays w c l d p h eh ep stays_d =
     let e = ((l.nodes d h eh).up p ep).1 in
     leads_stays w c l p (l.rooted p d e) d (sym (c.tree.kin p d e)) stays_d
 
--- whether what a directory that stays has is a node or not, it has a server after a sweep if it had one
-pub entry_homed : (w : World) → Linked (nodes_of w) → Coherent w → (d n : Name) → lists_at n (body_at w d) ≡ true → stays w d ≡ true → home_at (sweep w) n ≡ home_at w n
-entry_homed w l c d n e stays_d = retained_if w.homes (stays w) n (λ s k. let h = c.housing.housed n s k in entry_stays w c l d n h.0 e h.1 stays_d)
-
 -- after a sweep
 module _ (w : World) (c : Coherent w) (l : Linked (nodes_of w)) where
   pub sweep_left : Left w (nodes_of (sweep w)) (stays w)
   sweep_left = record {
-    node_was = was_retained w.nodes (stays w);
-    home_was = was_retained w.homes (stays w);
-    active_was = was_retained w.actives (stays w);
-    server_was = λ s i e. let k = was_retained w.servers (server_stays w) s i e in (k.0, root_stays w c s i k.0 k.1);
-    node_yet = retained w.nodes (stays w);
-    home_yet = retained w.homes (stays w);
-    server_yet = λ n s e h. retained w.servers (server_stays w) s (lives_at w n s h e);
-    seat_yet = λ n s e. retained w.servers (server_stays w) s (lives_active w n s (was_retained w.actives (stays w) n s e).0);
+    nodes = get-retained w.nodes (stays w);
+    homes = home-kept w.sites (stays w);
+    server_was = λ s i e. let k = was_retained w.servers (server_stays w) s i e in (was_same w s i k.0, root_stays w c s i k.0 k.1);
+    server_yet = λ n s i e h is. (i.text, retained w.servers (server_stays w) s (lives_at w n s h e) ∙ is, refl);
     boot = boot_stays w c;
-    entry_yet = entry_homed w l c;
+    entry_yet = λ d n s e h eh. let k = c.housing.housed n s eh in entry_stays w c l d n k.0 e k.1 h;
   }
 
   pub sweep_coherent : Coherent (sweep w)
-  sweep_coherent = left_coherent w c (nodes_of (sweep w)) (stays w) sweep_left
+  sweep_coherent = left_coherent w c _ _ sweep_left (left_seating w c _ _ sweep_left (λ n s e.
+      let was = kept_was (stays w n) (active_at w n) s (sym (active-kept w.sites (stays w) n) ∙ e) in
+      (was.0, λ i is. (i, retained w.servers (server_stays w) s (lives_active w n s was.0) ∙ is))))
 
   -- what lists a node that stays does so too
   pub sweep_linked : Linked (nodes_of (sweep w))
-  sweep_linked = left_linked w c (nodes_of (sweep w)) (stays w) sweep_left l kept (λ n h.
-      times_retained w.nodes (stays w) n (λ d x is e. kept d n (ap (λ o. lists_at n (body_in o)) is ∙ e) h))
-    where
-      kept : (d n : Name) → lists_at n (body_at w d) ≡ true → stays w n ≡ true → stays w d ≡ true
-      kept d n e h = leads_stays w c l d (l.rooted d n e) n (sym (c.tree.kin d n e)) h
+  sweep_linked = left_linked w c _ _ sweep_left l (λ d n e h. leads_stays w c l d (l.rooted d n e) n (sym (c.tree.kin d n e)) h)
 
 -- without opens that no right names
 pub let_go_coherent : (w : World) → Coherent w → Coherent (let_go w)
@@ -109,6 +100,3 @@ module _ (P : World → Type 0) (each : (x : World) → Coherent x → Linked (n
 pub settle_sound : (w : World) → Coherent w → Linked (nodes_of w) → Coherent (settle w) × Linked (nodes_of (settle w))
 settle_sound w c l =
     settle_by (λ x. Coherent x × Linked (nodes_of x)) (λ x f. (sweep_coherent x f.0 f.1, sweep_linked x f.0 f.1)) (λ x f. (let_go_coherent x f.0, f.1)) w (c, l)
-
-pub linked_settle : (w : World) → Coherent w → Linked (nodes_of w) → Linked (nodes_of (settle w))
-linked_settle w c l = (settle_sound w c l).1

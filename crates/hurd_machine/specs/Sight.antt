@@ -11,6 +11,7 @@ use Rattle.hurd_creds.specs.Access.{IdSets, holds_uid, holds_gid, may}
 use Rattle.hurd_creds.specs.Bits.{asks, READ, WRITE}
 use Rattle.hurd_trans_iface.specs.Nodes.{Header, Body, attrs_with, is_empty_dir}
 use Rattle.hurd_trans_iface.specs.Answers.{entry_of}
+use Rattle.hurd_nodes.specs.declared.seat.Site.{Site}
 use Rattle.hurd_nodes.specs.Held.{is_home}
 use Rattle.hurd_nodes.specs.Shown.{ServerInfo, boot_name}
 use Rattle.hurd_ports.specs.declared.table.Opened.{Opened}
@@ -19,7 +20,7 @@ use Rattle.hurd_ports.specs.declared.table.IoRight.{IoRight}
 use Rattle.hurd_ports.specs.declared.table.Right.{Right}
 use Rattle.hurd_ports.specs.declared.table.Right.TheVariants.{Io, Control, Start}
 use Rattle.hurd_ports.specs.Tables.{Task, rights_of, count_rights, names_open}
-use Rattle.hurd_machine.specs.World.{World, IsAmong, boot_root, task_at, open_at, header_at, body_at, home_at, active_at, counts_at, server_at}
+use Rattle.hurd_machine.specs.World.{World, IsAmong, boot_root, task_at, open_at, header_at, body_at, site_at, home_at, active_at, counts_at, server_at}
 
 -- a node's attributes as far as its header says them
 abbrev pub bare : Header → Attrs
@@ -162,7 +163,7 @@ users w s = count_rights (is_on w s) w.tasks
 
 -- what a part is
 pub data Value : Type 0 where
-  AnAttr : Option Header → Option Name → Option Name → Value
+  AnAttr : Option Header → Option Site → Value
   AnEmpty : Option Bool → Value
   ABody : Option Body → Value
   AnOpen : Option Opened → ℕ → Value
@@ -172,7 +173,7 @@ pub data Value : Type 0 where
 
 -- the value of each part in a world
 abbrev pub part : World → Part → Value
-part w (AttrOf n) = AnAttr (header_at w n) (home_at w n) (active_at w n)
+part w (AttrOf n) = AnAttr (header_at w n) (site_at w n)
 part w (EmptyOf n) = AnEmpty (option_map is_empty_dir (body_at w n))
 part w (BodyOf n) = ABody (body_at w n)
 part w (OpenOf o) = AnOpen (open_at w o) (holders w o)
@@ -182,7 +183,7 @@ part w (TaskOf t) = ATask (task_at w t)
 
 -- what the part is of is gone: it shows nothing
 abbrev pub IsGone : World → Part → Type 0
-IsGone w (AttrOf n) = part w (AttrOf n) ≡ AnAttr None None None
+IsGone w (AttrOf n) = part w (AttrOf n) ≡ AnAttr None None
 IsGone w (EmptyOf n) = part w (EmptyOf n) ≡ AnEmpty None
 IsGone w (BodyOf n) = part w (BodyOf n) ≡ ABody None
 IsGone w (OptionsOf s) = part w (OptionsOf s) ≡ AnOptions None

@@ -10,30 +10,32 @@ use Rattle.hurd_creds.specs.declared.errno.Errno.{Errno}
 use Rattle.hurd_creds.specs.NameMaps.{NameMap}
 use Rattle.hurd_creds.specs.Names.{same_name}
 use Rattle.hurd_trans_iface.specs.Nodes.{NodeMap, Node, Entry, Header, Body, Content, Listing}
+use Rattle.hurd_trans_iface.specs.declared.header_edit.HeaderEdit.{HeaderEdit}
 use Rattle.hurd_trans_iface.specs.declared.root.Root.{Root}
 use Rattle.hurd_trans_iface.specs.Answers.{leads_away}
 use Rattle.hurd_trans_iface.specs.Behaviour.{Question, Effect}
 use Rattle.hurd_trans_iface.specs.Meaning.{root_of}
+use Rattle.hurd_nodes.specs.declared.seat.Site.{Site}
+use Rattle.hurd_nodes.specs.Held.{active_in, home_in}
 use Rattle.hurd_nodes.specs.Needs.{counts_by, streams_by}
-use Rattle.hurd_nodes.specs.Shown.{NodeState, ServerInfo, boot_name, is_root, server_of, effect_at, readable_at as readable_of, can_make, can_link, can_unlink, can_rename, can_set_attrs}
+use Rattle.hurd_nodes.specs.Shown.{NodeState, ServerInfo, boot_name, is_root, server_of, effect_at, readable_at as readable_of, can_make, can_link, can_unlink, can_rename, can_set_attrs, can_edit_header}
 use Rattle.hurd_ports.specs.declared.table.Opened.{Opened}
 use Rattle.hurd_ports.specs.Tables.{PortState, OpenMap, Task}
 
--- nodes by name, of each node its server, and the server that is active on it; servers, opens, and the tasks in order
+-- nodes by name; of each node its site: its server, and the one that is active on it; servers, opens, and the tasks in order
 pub record World : Type 0 where
   pub nodes : NodeMap
-  pub homes : NameMap Name
-  pub actives : NameMap Name
+  pub sites : NameMap Site
   pub servers : NameMap ServerInfo
   pub opens : OpenMap
   pub tasks : List Task
 
 -- the world that nodes and ports make together
 abbrev pub world_from : NodeState → PortState → World
-world_from n p = record { nodes = n.nodes; homes = n.homes; actives = n.actives; servers = n.servers; opens = p.opens; tasks = p.tasks }
+world_from n p = record { nodes = n.nodes; sites = n.sites; servers = n.servers; opens = p.opens; tasks = p.tasks }
 
 abbrev pub nodes_of : World → NodeState
-nodes_of w = record { nodes = w.nodes; homes = w.homes; actives = w.actives; servers = w.servers }
+nodes_of w = record { nodes = w.nodes; sites = w.sites; servers = w.servers }
 
 abbrev pub ports_of : World → PortState
 ports_of w = record { opens = w.opens; tasks = w.tasks }
@@ -66,13 +68,17 @@ words_in (Some x) = x.header.passive
 abbrev pub words_at : World → Name → List (List ℕ)
 words_at w n = words_in (get w.nodes n)
 
+-- the site of a node
+abbrev pub site_at : World → Name → Option Site
+site_at w n = get w.sites n
+
 -- the server of a node
 abbrev pub home_at : World → Name → Option Name
-home_at w n = get w.homes n
+home_at w n = home_in w.sites n
 
 -- the server that is active on a node
 abbrev pub active_at : World → Name → Option Name
-active_at w n = get w.actives n
+active_at w n = active_in w.sites n
 
 abbrev pub server_at : World → Name → Option ServerInfo
 server_at w s = get w.servers s
@@ -167,6 +173,10 @@ renames_at w d name e = can_rename d name e (nodes_of w)
 -- whether owner, group and mode of a node may be set
 abbrev pub sets_attrs_at : World → Name → Result (Unit {0}) Errno
 sets_attrs_at w n = can_set_attrs n (nodes_of w)
+
+-- whether the header of a node may be edited so
+abbrev pub edits_header_at : World → Name → HeaderEdit → Result (Unit {0}) Errno
+edits_header_at w n e = can_edit_header n e (nodes_of w)
 
 -- whether a body has an entry for a node
 

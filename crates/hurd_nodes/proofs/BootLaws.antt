@@ -1,5 +1,6 @@
 -- What is shown of the boot server alone.
-use Rattle.std.proofs.Common.{◌≡◌, ◌≢◌, inl, inr, Bool, true, false, cond, true≢false, [], ◌∷◌, refl, sym, ap, ap₂, ◌∙◌}
+use Rattle.std.proofs.Common.{arith, ◌≡◌, ◌≢◌, inl, inr, Bool, true, cond, [], ◌∷◌, refl, sym, ap, ap₂, ◌∙◌}
+use Rattle.std.proofs.lemmas.Grind.{common_steps}
 use Rattle.std.specs.Prelude.{Option, Some, None, Ok, Err, is_some}
 use Rattle.std.specs.FinMap as fin
 use Rattle.hurd_creds.specs.declared.name.Name.{Name}
@@ -11,8 +12,10 @@ use Rattle.hurd_creds.proofs.NameLaws.{same_map_by, same_or_apart, get_here, get
 use Rattle.hurd_creds.proofs.MapLaws.{map_values-insert, map_values-empty}
 use Rattle.hurd_trans_iface.specs.Nodes.{Node, NodeMap}
 use Rattle.hurd_trans_iface.specs.Meaning.{Meaning, behaviour_of, new_root}
-use Rattle.hurd_nodes.specs.Held.{Seated, mean, mean_seat}
+use Rattle.hurd_nodes.specs.declared.seat.Site.{Site}
+use Rattle.hurd_nodes.specs.Held.{Seated, home_in, mean, mean_seat, new_site}
 use Rattle.hurd_nodes.specs.Shown.{boot_ids, boot_mode, boot_name, booted, flat, info_of, nodes_of, state_of, servers_of}
+use Rattle.hurd_nodes.proofs.Sites.{home-here, home_by}
 use Rattle.hurd_nodes.proofs.ShownLaws.{get-nodes}
 
 module _ {X : Type 0} (n : Name) (x : X) where
@@ -23,17 +26,13 @@ module _ {X : Type 0} (n : Name) (x : X) where
   one-other q apart = get_apart {X = X} fin.empty n x q apart ∙ fin.get-empty name_cmp q
 
   one-is : (q : Name) (y : X) → fin.get one q ≡ Some y → (q ≡ n) × (y ≡ x)
-  one-is q y is = elim (same_or_apart q n) [
-    | inl here ↦ (here, let same : Some x ≡ Some y = sym (get_here {X = X} fin.empty n x) ∙ ap (fin.get one) (sym here) ∙ is in cc)
-    | inr apart ↦ absurd (let none : None ≡ Some y = sym (one-other q apart) ∙ is in cc)
-  ]
+  one-is q y is = grind (arith, common_steps, get_here, get_apart, one-other)
 
 one-mapped : {A B : Type 0} (f : A → B) (n : Name) (x : A) → map_values f (fin.insert {R = name_cmp} fin.empty n x) ≡ fin.insert fin.empty n (f x)
 one-mapped f n x = map_values-insert f fin.empty n x ∙ ap (λ (m : NameMap _). fin.insert m n (f x)) (map_values-empty f)
 
 ids_if : (b : Bool) (r ids : IdSets) (e : Errno) → cond b (Ok r) (Err e) ≡ Ok ids → ids ≡ r
-ids_if true r ids e h = cc
-ids_if false r ids e h = absurd (cc)
+ids_if b r ids e h = grind (arith, common_steps)
 
 -- the ids of the boot server
 pub boot-ids : (ids : IdSets) → ids_of (0 ∷ []) [] ≡ Ok ids → ids ≡ boot_ids
@@ -47,8 +46,8 @@ module _ (m : Meaning) (bare : m.nodes ≡ fin.empty) where
   nodes-begun : (booted m).nodes ≡ fin.insert fin.empty boot_name root
   nodes-begun = ap (λ (ns : NodeMap). fin.insert ns boot_name root) bare
 
-  abbrev homes : NameMap Name
-  homes = fin.insert fin.empty boot_name boot_name
+  abbrev sites : NameMap Site
+  sites = fin.insert fin.empty boot_name (new_site boot_name)
 
   abbrev seat : Seated Meaning
   seat = record { server = booted m; root = boot_name; ids = boot_ids; targets = [] }
@@ -56,19 +55,19 @@ module _ (m : Meaning) (bare : m.nodes ≡ fin.empty) where
   abbrev seats : NameMap (Seated Meaning)
   seats = fin.insert fin.empty boot_name seat
 
-  nodes-shown : nodes_of homes seats ≡ (booted m).nodes
+  nodes-shown : nodes_of sites seats ≡ (booted m).nodes
   nodes-shown = same_map_by _ _ (λ q. elim (same_or_apart q boot_name) [
     | inl here ↦
-        rw (here, get-nodes homes seats boot_name, get_here {X = Name} fin.empty boot_name boot_name, get_here {X = Seated Meaning} fin.empty boot_name seat) refl
-    | inr apart ↦ rw (get-nodes homes seats q, one-other boot_name boot_name q apart, nodes-begun, one-other boot_name root q apart) refl
+        rw (here, get-nodes sites seats boot_name, home-here fin.empty boot_name (new_site boot_name), get_here {X = Seated Meaning} fin.empty boot_name seat) refl
+    | inr apart ↦ rw (get-nodes sites seats q, ap home_by (one-other boot_name (new_site boot_name) q apart), nodes-begun, one-other boot_name root q apart) refl
   ])
 
-  homes-shown : homes ≡ map_values (λ (x : Node). boot_name) (booted m).nodes
-  homes-shown = sym (ap (map_values (λ (x : Node). boot_name)) nodes-begun ∙ one-mapped (λ (x : Node). boot_name) boot_name root)
+  sites-shown : sites ≡ map_values (λ (x : Node). new_site boot_name) (booted m).nodes
+  sites-shown = sym (ap (map_values (λ (x : Node). new_site boot_name)) nodes-begun ∙ one-mapped (λ (x : Node). new_site boot_name) boot_name root)
 
-  flat-boot : flat homes fin.empty seats ≡ state_of (booted m)
+  flat-boot : flat sites seats ≡ state_of (booted m)
   unfolding servers_of
-  flat-boot i = record { nodes = nodes-shown i; homes = homes-shown i; actives = fin.empty; servers = one-mapped info_of boot_name seat i }
+  flat-boot i = record { nodes = nodes-shown i; sites = sites-shown i; servers = one-mapped info_of boot_name seat i }
 
   module _ {S : Type 0} (f : S → Meaning) (w : S) (ids : IdSets) (begun : f w ≡ booted m) (same : ids ≡ boot_ids) where
     abbrev boxes : NameMap (Seated S)
@@ -81,16 +80,15 @@ module _ (m : Meaning) (bare : m.nodes ≡ fin.empty) where
         ∙ ap₂ (λ (x : Meaning) (i : IdSets). fin.insert {R = name_cmp} fin.empty boot_name (let e : Seated Meaning = record { server = x; root = boot_name; ids = i; targets = [] } in e)) begun same
 
     -- the boot server alone
-    pub boot-shown : flat homes fin.empty (mean f boxes) ≡ state_of (booted m)
-    boot-shown = ap (flat homes fin.empty) mean-boxes ∙ flat-boot
+    pub boot-shown : flat sites (mean f boxes) ≡ state_of (booted m)
+    boot-shown = ap (flat sites) mean-boxes ∙ flat-boot
 
     root_at : (n : Name) (o : Option Node) → fin.get (booted m).nodes n ≡ o → is_some o ≡ true → n ≡ boot_name
-    root_at n None is there = absurd (true≢false (sym there))
-    root_at n (Some x) is there = (one-is boot_name root n x (sym (ap (λ (ns : NodeMap). fin.get ns n) nodes-begun) ∙ is)).0
+    root_at n o is there = grind (arith, common_steps, one-is boot_name root, nodes-begun)
 
     -- it has its root, and nothing else
-    pub boot-hides : (s n : Name) (e : Seated Meaning) → fin.get (mean f boxes) s ≡ Some e → is_some (fin.get e.server.nodes n) ≡ true → fin.get homes n ≡ Some s
+    pub boot-hides : (s n : Name) (e : Seated Meaning) → fin.get (mean f boxes) s ≡ Some e → is_some (fin.get e.server.nodes n) ≡ true → home_in sites n ≡ Some s
     boot-hides s n e is there =
         let at = one-is boot_name seat s e (sym (ap (λ (ss : NameMap (Seated Meaning)). fin.get ss s) mean-boxes) ∙ is) in
         let here = root_at n (fin.get (booted m).nodes n) refl (sym (ap (λ (x : Seated Meaning). is_some (fin.get x.server.nodes n)) at.1) ∙ there) in
-        ap (fin.get homes) here ∙ get_here {X = Name} fin.empty boot_name boot_name ∙ ap Some (sym at.0)
+        ap (home_in sites) here ∙ home-here fin.empty boot_name (new_site boot_name) ∙ ap Some (sym at.0)

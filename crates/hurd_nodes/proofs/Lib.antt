@@ -6,6 +6,7 @@ pub mod MakeLaws
 pub mod TableLaws
 pub mod HomeLaws
 pub mod RowLaws
+pub mod Sites
 pub mod PartLaws
 pub mod SettleLaws
 pub mod AnyLaws

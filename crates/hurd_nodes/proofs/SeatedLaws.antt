@@ -1,70 +1,60 @@
 -- The server of each node is there.
-use Rattle.std.proofs.Common.{◌≡◌, ◌≢◌, inl, inr, ℕ, true, List, [], refl, sym, ap, ◌∙◌, true≢false}
+use Rattle.std.proofs.Common.{arith, ◌≡◌, ◌≢◌, ℕ, List, [], sym, ap, ◌∙◌}
+use Rattle.std.proofs.lemmas.Grind.{common_steps}
 use Rattle.std.specs.Prelude.{Option, Some, None, is_some}
 use Rattle.std.specs.FinMap as fin
 use Rattle.indexmap.specs.IndexMap.{set_value_at}
 use Rattle.hurd_creds.specs.declared.name.Name.{Name}
-use Rattle.hurd_creds.specs.NameMaps.{NameMap}
-use Rattle.hurd_creds.proofs.NameLaws.{same_or_apart, same_name-itself, get_here, get_apart, remove_apart}
+use Rattle.hurd_creds.specs.NameMaps.{NameMap, edit}
+use Rattle.hurd_creds.proofs.NameLaws.{same_or_apart, get_here, get_apart, remove_apart}
 use Rattle.hurd_creds.proofs.KeyedLaws.{contains-place, get-keyed}
 use Rattle.hurd_nodes.specs.declared.seat.Seat.{Seat}
-use Rattle.hurd_nodes.specs.Held.{AllSeated, AreTables, Seated, home_key, home_value, homes_of, row_value, seat_key, seats_of}
-use Rattle.hurd_nodes.specs.Shown.{is_other, without_value}
-use Rattle.hurd_nodes.proofs.PartLaws.{inserted-is, kept-is, removed-is}
+use Rattle.hurd_nodes.specs.declared.seat.Site.{Site}
+use Rattle.hurd_nodes.specs.Held.{home_in, new_site, AllSeated, AreTables, Seated, row_key, row_value, sites_of, seated_in, seat_key, seats_of}
+use Rattle.hurd_nodes.specs.Shown.{with_active, without_sites}
+use Rattle.hurd_nodes.proofs.Sites.{home-edited, home-inserted, home-less, home-less_apart, home-was, home_by, none-left}
 use Rattle.hurd_nodes.proofs.RowLaws.{apart-kept, place-kept}
 
 -- a seat with another box is there as before
 kept_there : {S : Type 0} (ss : List (Name × Seat S)) (i : ℕ) (y : Seat S) (s : Name) → is_some (fin.get (seats_of (set_value_at ss i y)) s) ≡ is_some (fin.get (seats_of ss) s)
 unfolding seats_of
 kept_there ss i y s =
-    sym (contains-place seat_key row_value s (set_value_at ss i y)) ∙ ap (λ (o : Option ℕ). is_some o) (place-kept ss i y s) ∙ contains-place seat_key row_value s ss
+    sym (contains-place seat_key seated_in s (set_value_at ss i y)) ∙ ap (λ (o : Option ℕ). is_some o) (place-kept ss i y s) ∙ contains-place seat_key seated_in s ss
 
-pub seated-set : {S : Type 0} (homes : NameMap Name) (ss : List (Name × Seat S)) (i : ℕ) (y : Seat S) → AllSeated homes (seats_of ss) → AllSeated homes (seats_of (set_value_at ss i y))
-seated-set homes ss i y all n s home = kept_there ss i y s ∙ all n s home
+pub seated-set : {S : Type 0} (sites : NameMap Site) (ss : List (Name × Seat S)) (i : ℕ) (y : Seat S) → AllSeated sites (seats_of ss) → AllSeated sites (seats_of (set_value_at ss i y))
+seated-set sites ss i y all n s home = kept_there ss i y s ∙ all n s home
 
 -- so are the tables what they were, with another box in a seat
-pub tables-set : {S : Type 0} (homes actives : List (Name × Name)) (ss : List (Name × Seat S)) (i : ℕ) (y : Seat S) → AreTables homes actives ss → AreTables homes actives (set_value_at ss i y)
-tables-set homes actives ss i y t = record {
-  homes_apart = t.homes_apart;
-  actives_apart = t.actives_apart;
-  seats_apart = apart-kept ss i y t.seats_apart;
-  housed = seated-set (homes_of homes) ss i y t.housed;
-}
+pub tables-set : {S : Type 0} (sites : List (Name × Site)) (ss : List (Name × Seat S)) (i : ℕ) (y : Seat S) → AreTables sites ss → AreTables sites (set_value_at ss i y)
+tables-set sites ss i y t = record { sites_apart = t.sites_apart; seats_apart = apart-kept ss i y t.seats_apart; housed = seated-set (sites_of sites) ss i y t.housed }
 
-module _ {S : Type 0} (homes : NameMap Name) (seats : NameMap (Seated S)) (all : AllSeated homes seats) where
-  -- one more home, of a server that is there
-  pub seated-put : (n s : Name) → is_some (fin.get seats s) ≡ true → AllSeated (fin.insert homes n s) seats
-  seated-put n s there q p is = elim (inserted-is homes n s q p is) [
-    | inl here ↦ rw (← here.1) there
-    | inr apart ↦ all q p apart.1
-  ]
+module _ {S : Type 0} (sites : NameMap Site) (seats : NameMap (Seated S)) (all : AllSeated sites seats) where
+  -- one more site, with the server of another node
+  pub seated-kin : (n d s : Name) → home_in sites d ≡ Some s → AllSeated (fin.insert sites n (new_site s)) seats
+  seated-kin n d s home q p is = grind (arith, common_steps, home-inserted, all)
 
-  -- a home of the server of another node
-  pub seated-kin : (n d s : Name) → fin.get homes d ≡ Some s → AllSeated (fin.insert homes n s) seats
-  seated-kin n d s home = seated-put n s (all d s home)
+  -- one site less
+  pub seated-less : (n : Name) → AllSeated (fin.remove sites n) seats
+  seated-less n q p is = grind (arith, common_steps, home-less, home-less_apart, all, same_or_apart)
 
-  -- one home less
-  pub seated-less : (n : Name) → AllSeated (fin.remove homes n) seats
-  seated-less n q p is = all q p (removed-is homes n q p is).1
+  -- another server active on a node, or none
+  pub seated-active : (n : Name) (o : Option Name) → AllSeated (edit n (with_active o) sites) seats
+  seated-active n o q p is = all q p (sym (home-edited sites n o q) ∙ is)
 
-  -- without a server and its homes
-  pub seated-left : (s : Name) → AllSeated (without_value s homes) (fin.remove seats s)
+  -- without a server and its sites
+  pub seated-left : (s : Name) → AllSeated (without_sites s sites) (fin.remove seats s)
   seated-left s q p is =
-      let kept = kept-is homes (is_other s homes) q p is in
-      let other : p ≢ s = λ e. true≢false (sym kept.0 ∙ rw (kept.1, e, same_name-itself s) refl) in
-      rw (remove_apart seats s p other) (all q p kept.1)
+      let other : p ≢ s = λ same. none-left sites s q (is ∙ ap Some same) in
+      rw (remove_apart seats s p other) (all q p (home-was sites s q p is))
 
-  -- a server more, with its root's home
-  pub seated-more : (root s : Name) (e : Seated S) → AllSeated (fin.insert homes root s) (fin.insert seats s e)
-  seated-more root s e q p is = elim (same_or_apart p s) [
-    | inl here ↦ rw (here, get_here seats s e) refl
-    | inr apart ↦ rw (get_apart seats s e p apart) (elim (inserted-is homes root s q p is) [
-      | inl home ↦ absurd (apart (sym home.1))
-      | inr other ↦ all q p other.1
-    ])
-  ]
+  -- a server more, with its root's site
+  pub seated-more : (root s : Name) (e : Seated S) → AllSeated (fin.insert sites root (new_site s)) (fin.insert seats s e)
+  seated-more root s e q p is = grind (arith, common_steps, home-inserted, all, get_here, get_apart, same_or_apart)
 
--- of no home the server is missing
-pub seated-none : {S : Type 0} (seats : NameMap (Seated S)) → AllSeated (homes_of []) seats
-unfolding homes_of
-seated-none seats n s is = let c : None ≡ Some s = sym (get-keyed home_key home_value [] n) ∙ is in absurd (cc)
+-- of no site the server is missing
+pub seated-none : {S : Type 0} (seats : NameMap (Seated S)) → AllSeated (sites_of []) seats
+unfolding sites_of
+seated-none seats n s is = let c : None ≡ Some s = sym (ap home_by (get-keyed row_key row_value [] n)) ∙ is in absurd (cc)
+
+-- what keeps the tables
+pub ruleset seated = (seated-left, seated-set, seated-active, tables-set, apart-kept)

@@ -1,5 +1,5 @@
--- What the core holds: which server serves each node, which one is active on it, and the servers as boxes.
-use Rattle.std.specs.Prelude.{◌≡◌, Bool, true, false, is_some, List, [], ◌∷◌, Option, Some, None, ℕ, refl}
+-- What the core holds: of each node which server serves it and which one is active on it, and the servers as boxes.
+use Rattle.std.specs.Prelude.{◌≡◌, Bool, true, false, is_some, List, [], ◌∷◌, Option, Some, None, ℕ, option_and_then, refl}
 use Rattle.std.specs.Option.{option_map}
 use Rattle.std.specs.FinMap as fin
 use Rattle.std.specs.Coded.{Coded, code_by, coded×, coded_list}
@@ -7,6 +7,8 @@ use Rattle.hurd_creds.specs.declared.name.Name.{Name}
 use Rattle.hurd_creds.specs.Access.{IdSets, coded_ids}
 use Rattle.hurd_creds.specs.Names.{coded_name, same_name}
 use Rattle.hurd_creds.specs.NameMaps.{NameMap, keyed, map_values, place_by}
+use Rattle.hurd_nodes.specs.contracts.seat.Site as site
+use Rattle.hurd_nodes.specs.declared.seat.Site.{Site}
 use Rattle.hurd_nodes.specs.declared.seat.Seat.{Seat}
 
 -- a server in its place: its box, the name of its root, its ids, and the nodes that it aims at
@@ -16,11 +18,22 @@ pub record Seated (S : Type 0) : Type 0 where
   pub ids : IdSets
   pub targets : List Name
 
--- of each node its server; of each node the server that is active on it; and the servers
+-- of each node its site: its server, and the one that is active on it; and the servers
 pub record Held (S : Type 0) : Type 0 where
-  pub homes : NameMap Name
-  pub actives : NameMap Name
+  pub sites : NameMap Site
   pub seats : NameMap (Seated S)
+
+-- the site of a node that a server comes to serve: none is active on it yet
+abbrev pub new_site : Name → Site
+new_site s = record { home = s; active = None }
+
+-- the server of a node
+abbrev pub home_in : NameMap Site → Name → Option Name
+home_in sites n = option_map (λ (r : Site). r.home) (fin.get sites n)
+
+-- the server that is active on a node
+abbrev pub active_in : NameMap Site → Name → Option Name
+active_in sites n = option_and_then (λ (r : Site). r.active) (fin.get sites n)
 
 abbrev pub coded_seated : {S : Type 0} → Coded S → Coded (Seated S)
 coded_seated {S} c =
@@ -29,20 +42,19 @@ coded_seated {S} c =
 
 abbrev pub coded_held : {S : Type 0} → Coded S → Coded (Held S)
 coded_held {S} c =
-    code_by (NameMap Name × (NameMap Name × NameMap (Seated S)))
-    (coded× (fin.code coded_name coded_name) (coded× (fin.code coded_name coded_name) (fin.code coded_name (coded_seated c))))
-    (λ h. (h.homes, (h.actives, h.seats))) (λ p. record { homes = p.0; actives = p.1.0; seats = p.1.1 }) (λ _. refl)
+    code_by (NameMap Site × NameMap (Seated S)) (coded× (fin.code coded_name site.the_row.coded) (fin.code coded_name (coded_seated c)))
+    (λ h. (h.sites, h.seats)) (λ p. record { sites = p.0; seats = p.1 }) (λ _. refl)
 
 -- the lists of the code as maps
 
-abbrev pub home_key : Name × Name → Name
-home_key h = h.0
+abbrev pub row_key : {X : Type 0} → Name × X → Name
+row_key e = e.0
 
-abbrev pub home_value : Name × Name → Name
-home_value h = h.1
+abbrev pub row_value : {X : Type 0} → Name × X → X
+row_value e = e.1
 
-unfoldable pub homes_of : List (Name × Name) → NameMap Name
-homes_of hs = keyed home_key home_value hs
+unfoldable pub sites_of : List (Name × Site) → NameMap Site
+sites_of rs = keyed row_key row_value rs
 
 abbrev pub seat_key : {S : Type 0} → Name × Seat S → Name
 seat_key e = e.0
@@ -50,15 +62,15 @@ seat_key e = e.0
 abbrev pub seat_value : {S : Type 0} → Seat S → Seated S
 seat_value s = record { server = s.server; root = s.root; ids = s.ids; targets = s.targets.items }
 
--- a seat as its row has it, under the name of its server
-abbrev pub row_value : {S : Type 0} → Name × Seat S → Seated S
-row_value e = seat_value e.1
+-- a seat as it stands under the name of its server
+abbrev pub seated_in : {S : Type 0} → Name × Seat S → Seated S
+seated_in e = seat_value e.1
 
 unfoldable pub seats_of : {S : Type 0} → List (Name × Seat S) → NameMap (Seated S)
-seats_of ss = keyed seat_key row_value ss
+seats_of ss = keyed seat_key seated_in ss
 
-abbrev pub held_of : {S : Type 0} → List (Name × Name) → List (Name × Name) → List (Name × Seat S) → Held S
-held_of homes actives seats = record { homes = homes_of homes; actives = homes_of actives; seats = seats_of seats }
+abbrev pub held_of : {S : Type 0} → List (Name × Site) → List (Name × Seat S) → Held S
+held_of sites seats = record { sites = sites_of sites; seats = seats_of seats }
 
 -- no two of a list have one name
 abbrev pub AreApart : {X : Type 0} → (X → Name) → List X → Type 0
@@ -66,15 +78,14 @@ AreApart key [] = Unit {0}
 AreApart key (x ∷ xs) = (place_by key (key x) xs ≡ None) × AreApart key xs
 
 -- the server of each node is there
-abbrev pub AllSeated : {S : Type 0} → NameMap Name → NameMap (Seated S) → Type 0
-AllSeated homes seats = (n s : Name) → fin.get homes n ≡ Some s → is_some (fin.get seats s) ≡ true
+abbrev pub AllSeated : {S : Type 0} → NameMap Site → NameMap (Seated S) → Type 0
+AllSeated sites seats = (n s : Name) → home_in sites n ≡ Some s → is_some (fin.get seats s) ≡ true
 
--- a node has one server, which is there, and one that is active on it, and a server one seat
-pub record AreTables {S : Type 0} (homes actives : List (Name × Name)) (seats : List (Name × Seat S)) : Type 0 where
-  pub homes_apart : AreApart home_key homes
-  pub actives_apart : AreApart home_key actives
+-- a node has one site, whose server is there, and a server one seat
+pub record AreTables {S : Type 0} (sites : List (Name × Site)) (seats : List (Name × Seat S)) : Type 0 where
+  pub sites_apart : AreApart row_key sites
   pub seats_apart : AreApart seat_key seats
-  pub housed : AllSeated (homes_of homes) (seats_of seats)
+  pub housed : AllSeated (sites_of sites) (seats_of seats)
 
 -- each box as what it means
 
@@ -116,7 +127,7 @@ with_seats h seats = record h { seats = seats }
 
 -- with this box in the place of the one that serves a node
 abbrev pub with_server_of : {S : Type 0} → Held S → Name → S → Held S
-with_server_of h n w = with_seats h (put_by h.seats (fin.get h.homes n) w)
+with_server_of h n w = with_seats h (put_by h.seats (home_in h.sites n) w)
 
 -- whether a node's server is s
 abbrev pub is_home : Name → Option Name → Bool

@@ -6,6 +6,8 @@ use Rattle.hurd_creds.specs.declared.name.Name.{Name}
 use Rattle.hurd_creds.specs.Names.{same_name}
 use Rattle.hurd_creds.specs.NameMaps.{NameMap}
 use Rattle.hurd_trans_iface.specs.Nodes.{is_entered_at, is_listed}
+use Rattle.hurd_nodes.specs.declared.seat.Site.{Site}
+use Rattle.hurd_nodes.specs.Held.{home_in, is_home}
 use Rattle.hurd_nodes.specs.Shown.{NodeState, ServerInfo, boot_name}
 
 -- what is named from outside: nodes, and servers
@@ -35,7 +37,7 @@ named o h = with_targets h.servers o
 -- a server stays: the boot server, one that is controlled, one that is active on a node, and one that has a node that is named
 abbrev pub server_stays : Outside → NodeState → Name → Bool
 server_stays o h s =
-    same_name s boot_name || (o.controlled s || (any_in (λ n q. same_name s q) h.actives || any_in (λ n q. same_name s q && o.held n) h.homes))
+    same_name s boot_name || (o.controlled s || (any_in (λ n (r : Site). is_home s r.active) h.sites || any_in (λ n (r : Site). same_name s r.home && o.held n) h.sites))
 
 abbrev pub stays_with : Outside → NodeState → Name → Name → Option ServerInfo → Bool
 stays_with o h n s None = false
@@ -47,14 +49,13 @@ stays_by o h n (Some s) = stays_with o h n s (fin.get h.servers s)
 
 -- a node stays while its server does, and it is that server's root, entered, or named
 abbrev pub node_stays : Outside → NodeState → Name → Bool
-node_stays o h n = stays_by o h n (fin.get h.homes n)
+node_stays o h n = stays_by o h n (home_in h.sites n)
 
 -- without all that doesn't stay
 abbrev pub sweep : Outside → NodeState → NodeState
 sweep o h = record {
   nodes = fin.retain_keys h.nodes (node_stays (named o h) h);
-  homes = fin.retain_keys h.homes (node_stays (named o h) h);
-  actives = fin.retain_keys h.actives (node_stays (named o h) h);
+  sites = fin.retain_keys h.sites (node_stays (named o h) h);
   servers = fin.retain_keys h.servers (server_stays (named o h) h);
 }
 
@@ -64,7 +65,7 @@ sweeps o (suc k) h = sweeps o k (sweep o h)
 
 -- how many things there are that can go
 abbrev pub size : NodeState → ℕ
-size h = fin.len h.nodes + (fin.len h.homes + (fin.len h.actives + fin.len h.servers))
+size h = fin.len h.nodes + (fin.len h.sites + fin.len h.servers)
 
 -- what is left when all has gone that doesn't stay: what goes can take with it what else nothing keeps
 unfoldable pub settle : Outside → NodeState → NodeState

@@ -2,22 +2,22 @@
 ghost use Rattle.std.specs.Prelude.{◌≡◌, [], None, option_copied};
 ghost use Rattle.std.specs.FinMap as fin;
 ghost use Rattle.hurd_creds.specs.Memory.{Steps};
-ghost use Rattle.hurd_trans_iface.specs.Nodes.{counting, opened_by, closed_by};
 ghost use Rattle.hurd_trans_iface.specs.Behaviour.{reading, writing, resizing};
-ghost use Rattle.hurd_nodes.specs.Shown.{shown, asked_step, make_at, link_at, set_attrs_at, set_passive_at, set_options_at, server_of, with_edits, HideNothing, unlink_at, rename_at};
-ghost use Rattle.hurd_nodes.specs.Needs.{FreeRead, FreeSize, FreeWrite, counts_by};
+ghost use Rattle.hurd_nodes.specs.Shown.{shown, asked_step, make_at, link_at, edit_header_at, set_options_at, HideNothing, unlink_at, rename_at};
+ghost use Rattle.hurd_nodes.specs.Needs.{FreeRead, FreeSize, FreeWrite};
 
 use crate::asking::can_make_in;
 use crate::nodes::Nodes;
 use crate::search::{place_of_seat, place_of_server, put_kin};
-use hurd_creds::{Bytes, Errno, Mode, NodeName, OpenFlags, ServerName};
-use hurd_trans_iface::{NewNode, Server, Words};
+use hurd_creds::{Bytes, Errno, NodeName, ServerName};
+use hurd_trans_iface::{HeaderEdit, NewNode, Server, Words};
 use std::alloc::Global;
 
 impl<S: Server> Nodes<S> {
     /// At most `amount` bytes of a node from `at` on; where there are none, no memory is taken.
     ///
     /// Errors, in order: `EDIED` no such node, the server's own refusals, `ENOMEM`.
+    #[tactic(auto, using(crate::proofs::ShownLaws::refusals))]
     pub fn read(
         &mut self,
         alloc: Global,
@@ -40,6 +40,7 @@ impl<S: Server> Nodes<S> {
     /// Puts bytes into a node at `at`, and answers how many. Takes no memory where there is no data, where the bytes that are written over are there, and in a stream.
     ///
     /// Errors, in order: `EDIED` no such node, the server's own refusals, `ENOMEM`.
+    #[tactic(auto, using(crate::proofs::ShownLaws::refusals))]
     pub fn write(&mut self, node: NodeName, at: u64, bytes: &[u8]) -> Result<u64, Errno>
         ensures shown { let h = shown S.meaning self.old in
             Steps h (asked_step (writing at bytes.now) node h) result (shown S.meaning self.new) }
@@ -56,6 +57,7 @@ impl<S: Server> Nodes<S> {
     /// Cuts a node's bytes, or grows them by zero bytes. A cut takes no memory, nor does a stream.
     ///
     /// Errors, in order: `EDIED` no such node, the server's own refusals, `ENOMEM`.
+    #[tactic(auto, using(crate::proofs::ShownLaws::refusals))]
     pub fn set_size(&mut self, node: NodeName, size: u64) -> Result<(), Errno>
         ensures shown { let h = shown S.meaning self.old in
             Steps h (asked_step (resizing size) node h) result (shown S.meaning self.new) }
@@ -72,6 +74,7 @@ impl<S: Server> Nodes<S> {
     /// Makes a node in a directory, under a name or without an entry, of the directory's server.
     ///
     /// Errors, in order: those of `can_make`, `ENOMEM`.
+    #[tactic(auto, using(crate::proofs::ShownLaws::refusals, crate::proofs::SeatLaws::boxes))]
     pub fn make(
         &mut self,
         alloc: Global,
@@ -81,21 +84,22 @@ impl<S: Server> Nodes<S> {
     ) -> Result<(), Errno>
         ensures shown { let h = shown S.meaning self.old in
             Steps h (make_at dir (option_copied entry.entry) new h) result (shown S.meaning self.new) }
-        ensures hidden { fin.get self.old.homes new.name ≡ None → HideNothing S.meaning self.old → HideNothing S.meaning self.new }
+        ensures hidden { fin.get self.old.sites new.name ≡ None → HideNothing S.meaning self.old → HideNothing S.meaning self.new }
     {
-        let Some(i) = place_of_server(&self.homes, &self.seats, dir) else {
+        let Some(i) = place_of_server(&self.sites, &self.seats, dir) else {
             return Err(Errno::EDIED);
         };
         can_make_in(&self.seats[i].server, dir, entry, new.kind)?;
-        self.homes.reserve(1)?;
+        self.sites.reserve(1)?;
         self.seats[i].server.make(alloc, dir, entry, new)?;
-        put_kin(&mut self.homes, new.name, dir);
+        put_kin(&mut self.sites, new.name, dir);
         Ok(())
     }
 
     /// Gives a file another name in a directory.
     ///
     /// Errors, in order: those of `can_link`, `ENOMEM`.
+    #[tactic(auto, using(crate::proofs::ShownLaws::refusals))]
     pub fn link(
         &mut self,
         alloc: Global,
@@ -118,6 +122,7 @@ impl<S: Server> Nodes<S> {
     /// whether it is empty, is for who asks. Takes no memory.
     ///
     /// Errors, in order: `EDIED` no such directory, `ENOTDIR`, `EROFS` its server keeps no tree, `ENOENT`.
+    #[tactic(auto, using(crate::proofs::ShownLaws::refusals))]
     pub fn unlink(&mut self, dir: NodeName, name: &[u8]) -> Result<(), Errno>
         ensures shown { (result, shown S.meaning self.new) ≡ unlink_at dir name.now (shown S.meaning self.old) }
         ensures hidden { HideNothing S.meaning self.old → HideNothing S.meaning self.new }
@@ -133,6 +138,7 @@ impl<S: Server> Nodes<S> {
     ///
     /// Errors, in order: `EDIED` no such directory, `ENOTDIR`, `EROFS` its server keeps no tree, `EXDEV` the two are of different servers, `EDIED` no such directory
     /// `to`, `ENOTDIR`, `ENOENT`, `ENOMEM`.
+    #[tactic(auto, using(crate::proofs::ShownLaws::refusals))]
     pub fn rename(
         &mut self,
         alloc: Global,
@@ -152,64 +158,24 @@ impl<S: Server> Nodes<S> {
         }
     }
 
-    /// Sets the owner, the group and the mode of a node. Takes no memory.
+    /// Edits what the header of a node says. Whether words may be stored with the node is for who asks. Takes no memory.
     ///
-    /// Errors, in order: those of `can_set_attrs`.
-    pub fn set_attrs(
-        &mut self,
-        node: NodeName,
-        owner: u32,
-        group: u32,
-        mode: Mode,
-    ) -> Result<(), Errno>
-        ensures shown { (result, shown S.meaning self.new) ≡ set_attrs_at node owner group mode (shown S.meaning self.old) }
+    /// Errors, in order: `EDIED` no such node, `EOPNOTSUPP` its server makes no such edit.
+    #[tactic(auto, using(crate::proofs::ShownLaws::refusals))]
+    pub fn edit_header(&mut self, node: NodeName, edit: HeaderEdit) -> Result<(), Errno>
+        ensures shown { (result, shown S.meaning self.new) ≡ edit_header_at node edit (shown S.meaning self.old) }
         ensures hidden { HideNothing S.meaning self.old → HideNothing S.meaning self.new }
     {
         match self.server_of_mut(node) {
-            Some(server) => server.set_attrs(node, owner, group, mode),
+            Some(server) => server.edit_header(node, edit),
             None => Err(Errno::EDIED),
-        }
-    }
-
-    /// Stores the words of a passive translator with a node, in place of those that were there; with no words there are none any more. Whether the node is its server's
-    /// root is for who asks. Takes no memory.
-    ///
-    /// Errors, in order: those of `can_set_attrs`.
-    pub fn set_passive(&mut self, node: NodeName, words: Words) -> Result<(), Errno>
-        ensures shown { (result, shown S.meaning self.new) ≡ set_passive_at node words (shown S.meaning self.old) }
-        ensures hidden { HideNothing S.meaning self.old → HideNothing S.meaning self.new }
-    {
-        match self.server_of_mut(node) {
-            Some(server) => server.set_passive(node, words),
-            None => Err(Errno::EDIED),
-        }
-    }
-
-    /// A node is opened with these modes: its server counts that, if it counts who reads and who writes. Takes no memory.
-    pub fn opened(&mut self, node: NodeName, modes: OpenFlags)
-        ensures shown { let h = shown S.meaning self.old in
-            shown S.meaning self.new ≡ with_edits (counting (counts_by (server_of h node)) node (opened_by modes)) h }
-        ensures hidden { HideNothing S.meaning self.old → HideNothing S.meaning self.new }
-    {
-        if let Some(server) = self.server_of_mut(node) {
-            server.opened(node, modes);
-        }
-    }
-
-    /// An open of a node is gone, which had these modes: its server counts that, if it counts who reads and who writes. Takes no memory.
-    pub fn closed(&mut self, node: NodeName, modes: OpenFlags)
-        ensures shown { let h = shown S.meaning self.old in
-            shown S.meaning self.new ≡ with_edits (counting (counts_by (server_of h node)) node (closed_by modes)) h }
-        ensures hidden { HideNothing S.meaning self.old → HideNothing S.meaning self.new }
-    {
-        if let Some(server) = self.server_of_mut(node) {
-            server.closed(node, modes);
         }
     }
 
     /// Gives a server other options in place of those that it has; without words nothing changes, and no memory is taken.
     ///
     /// Errors, in order: `EDIED` no such server, `EINVAL` words that it doesn't take, `ENOMEM`.
+    #[tactic(auto, using(crate::proofs::TextLaws::sets))]
     pub fn set_options(
         &mut self,
         alloc: Global,

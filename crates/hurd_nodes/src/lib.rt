@@ -1,7 +1,7 @@
 //! The servers that the core owns, and the nodes that they serve.
 //!
-//! `Nodes` holds servers as boxes, with one table that says which serves each node and one that says which is active on it,
-//! and passes on what is asked of nodes. Its contracts show servers and nodes as flat finite maps by name; nobody above this
+//! `Nodes` holds servers as boxes, with a table that says of each node which serves it and which is active on it, and passes on
+//! what is asked of nodes. Its contracts show servers and nodes as flat finite maps by name; nobody above this
 //! crate speaks of boxes.
 //!
 //! Servers come and go: `attach` seats one on a node, under a root of its own, after another has left for it, if one is to;
@@ -27,4 +27,4 @@ mod settle;
 
 pub use namings::Namings;
 pub use nodes::{BOOT_NAME, Nodes};
-pub use seat::Place;
+pub use seat::{Place, Site};

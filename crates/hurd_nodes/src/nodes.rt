@@ -8,11 +8,11 @@ ghost use Rattle.hurd_trans_iface.specs.Answers.{entry_of, names_of};
 ghost use Rattle.hurd_nodes.specs.Shown.{ServerInfo, server_of, shown, state_of, header_in, told_header, booted, is_root, are_kin, options_in, readable_at, tree_by, HideNothing};
 ghost use Rattle.hurd_trans_iface.specs.Meaning.{Begins, root_of};
 ghost use Rattle.hurd_nodes.specs.Needs.{counts_by};
-ghost use Rattle.hurd_nodes.specs.Held.{box_by, mean};
+ghost use Rattle.hurd_nodes.specs.Held.{active_in, box_by, home_in, mean};
 
 use crate::asking::has_tree;
-use crate::search::{home_of, place_of_seat, place_of_server, put_home, put_seat};
-use crate::seat::{Homes, Seat, Seats};
+use crate::search::{home_of, place_of_seat, place_of_server, put_seat, put_site};
+use crate::seat::{Seat, Seats, Sites};
 use bitflags::Flags;
 use hurd_creds::{Attrs, Errno, Ids, Mode, Name, NodeName, ServerName, TaskId};
 use hurd_trans_iface::{Names, Root, Server, Words};
@@ -28,10 +28,7 @@ pub const BOOT_NAME: Name = Name {
 /// The servers of a world, and their nodes.
 #[derive(Drop)]
 pub struct Nodes<S = Box<dyn Server>> {
-    /// Which server serves each node.
-    pub(crate) homes: Homes,
-    /// Which server is active on a node.
-    pub(crate) actives: Homes,
+    pub(crate) sites: Sites,
     pub(crate) seats: Seats<S>,
 }
 
@@ -42,9 +39,9 @@ impl<S> Model for Nodes<S> {
 
     ghost coded = { coded_held S.code };
 
-    ghost view = { λ n. held_of n.homes.entries n.actives.entries n.seats.entries };
+    ghost view = { λ n. held_of n.sites.entries n.seats.entries };
 
-    ghost invariant = { λ n. AreTables n.homes.entries n.actives.entries n.seats.entries };
+    ghost invariant = { λ n. AreTables n.sites.entries n.seats.entries };
 }
 
 impl<S: Server> Nodes<S> {
@@ -64,7 +61,7 @@ impl<S: Server> Nodes<S> {
         let Ok(ids) = Ids::new(alloc, &[0], &[]) else {
             return Err((Errno::ENOMEM, boot));
         };
-        let Ok(mut homes) = Homes::with_capacity(alloc, 1) else {
+        let Ok(mut sites) = Sites::with_capacity(alloc, 1) else {
             return Err((Errno::ENOMEM, boot));
         };
         let Ok(mut seats) = Seats::with_capacity(alloc, 1) else {
@@ -72,7 +69,7 @@ impl<S: Server> Nodes<S> {
         };
         let mut server = boot;
         server.begin_root(BOOT_NAME, 0, 0, Mode::from_bits_retain(0o755));
-        put_home(&mut homes, BOOT_NAME, BOOT_NAME);
+        put_site(&mut sites, BOOT_NAME, BOOT_NAME);
         let seat = Seat {
             root: BOOT_NAME,
             at: None,
@@ -81,18 +78,15 @@ impl<S: Server> Nodes<S> {
             server,
         };
         put_seat(&mut seats, BOOT_NAME, seat);
-        Ok(Nodes {
-            homes,
-            actives: Homes::new(alloc),
-            seats,
-        })
+        Ok(Nodes { sites, seats })
     }
 
     /// The box that serves a node.
+    #[tactic(auto, using(crate::proofs::SeatLaws::boxes))]
     pub(crate) fn server_of(&self, node: NodeName) -> Option<&S>
-        ensures { option_map S.meaning (option_copied result) ≡ box_by (mean S.meaning self.now.seats) (fin.get self.now.homes node) }
+        ensures { option_map S.meaning (option_copied result) ≡ box_by (mean S.meaning self.now.seats) (home_in self.now.sites node) }
     {
-        match place_of_server(&self.homes, &self.seats, node) {
+        match place_of_server(&self.sites, &self.seats, node) {
             Some(i) => Some(&self.seats[i].server),
             None => None,
         }
@@ -101,15 +95,16 @@ impl<S: Server> Nodes<S> {
     /// The box that serves a node, to be changed.
     pub(crate) fn server_of_mut(&mut self, node: NodeName) -> Option<&mut S>
         ensures* lends { sem 𝓛 (lends_server S.row self.entry node result) }
-        ensures there { option_map S.meaning (option_copied_mut result) ≡ box_by (mean S.meaning self.old.seats) (fin.get self.old.homes node) }
+        ensures there { option_map S.meaning (option_copied_mut result) ≡ box_by (mean S.meaning self.old.seats) (home_in self.old.sites node) }
     {
-        match place_of_server(&self.homes, &self.seats, node) {
+        match place_of_server(&self.sites, &self.seats, node) {
             Some(i) => Some(&mut self.seats[i].server),
             None => None,
         }
     }
 
     /// The attributes of a node, if it is there.
+    #[tactic(auto, using(crate::proofs::ShownLaws::by_box))]
     pub fn attrs(&self, node: NodeName) -> Option<Attrs>
         ensures all { result ≡ option_map attrs_of (fin.get (shown S.meaning self.now).nodes node) }
         ensures header { option_map header_in result ≡ option_map told_header (header_of (shown S.meaning self.now).nodes node) }
@@ -122,19 +117,21 @@ impl<S: Server> Nodes<S> {
 
     /// The server of a node, if it has one.
     pub fn home(&self, node: NodeName) -> Option<ServerName>
-        ensures { result ≡ fin.get (shown S.meaning self.now).homes node }
+        ensures { result ≡ home_in (shown S.meaning self.now).sites node }
     {
-        home_of(&self.homes, node)
+        home_of(&self.sites, node)
     }
 
     /// The server that is active on a node, if one is.
+    #[tactic(auto, using(crate::proofs::HomeLaws::by_map))]
     pub fn active(&self, node: NodeName) -> Option<ServerName>
-        ensures { result ≡ fin.get (shown S.meaning self.now).actives node }
+        ensures { result ≡ active_in (shown S.meaning self.now).sites node }
     {
-        home_of(&self.actives, node)
+        self.sites.get(&node)?.active
     }
 
     /// The root of a server, if the server is there.
+    #[tactic(auto, using(crate::proofs::StayLaws::by_place))]
     pub fn root_of(&self, server: ServerName) -> Option<NodeName>
         ensures { result ≡ option_map (λ (i : ServerInfo). i.root) (fin.get (shown S.meaning self.now).servers server) }
     {
@@ -145,6 +142,7 @@ impl<S: Server> Nodes<S> {
     }
 
     /// The text of a server, lent, if the server is there. Takes no memory.
+    #[tactic(auto, using(crate::proofs::StayLaws::by_place))]
     pub fn text_of(&self, server: ServerName) -> Option<&[u8]>
         ensures { option_copied result ≡ option_map (λ (i : ServerInfo). i.text) (fin.get (shown S.meaning self.now).servers server) }
     {
@@ -155,6 +153,7 @@ impl<S: Server> Nodes<S> {
     }
 
     /// The text of the server of a node, lent, if the node has a server. Takes no memory.
+    #[tactic(auto, using(crate::proofs::ShownLaws::by_box))]
     pub fn text_at(&self, node: NodeName) -> Option<&[u8]>
         ensures { option_copied result ≡ option_map (λ (i : ServerInfo). i.text) (server_of (shown S.meaning self.now) node) }
     {
@@ -165,6 +164,7 @@ impl<S: Server> Nodes<S> {
     }
 
     /// The ids of a server, if the server is there.
+    #[tactic(auto, using(crate::proofs::StayLaws::by_place))]
     pub fn ids_of(&self, server: ServerName) -> Option<&Ids>
         ensures { option_copied result ≡ option_map (λ (i : ServerInfo). i.ids) (fin.get (shown S.meaning self.now).servers server) }
     {
@@ -175,6 +175,7 @@ impl<S: Server> Nodes<S> {
     }
 
     /// The targets of a server, lent, if the server is there: the nodes that it aims at, in order. Takes no memory.
+    #[tactic(auto, using(crate::proofs::StayLaws::by_place))]
     pub fn targets_of(&self, server: ServerName) -> Option<&[NodeName]>
         ensures { option_copied result ≡ option_map (λ (i : ServerInfo). i.targets) (fin.get (shown S.meaning self.now).servers server) }
     {
@@ -195,6 +196,7 @@ impl<S: Server> Nodes<S> {
     /// The program and its words, as they would be given to make such a server now.
     ///
     /// Errors, in order: `EDIED` no such server, `ENOMEM`.
+    #[tactic(auto, using(crate::proofs::StayLaws::by_place))]
     pub fn options(&self, alloc: Global, server: ServerName) -> Result<Words, Errno>
         ensures { Meets (options_in (fin.get (shown S.meaning self.now).servers server)) result }
     {
@@ -205,16 +207,18 @@ impl<S: Server> Nodes<S> {
     }
 
     /// Whether a node is the root of its server.
+    #[tactic(auto, using(crate::proofs::StayLaws::by_place))]
     pub fn is_root(&self, node: NodeName) -> bool
         ensures { result ≡ is_root (shown S.meaning self.now) node }
     {
-        match place_of_server(&self.homes, &self.seats, node) {
+        match place_of_server(&self.sites, &self.seats, node) {
             Some(i) => node == self.seats[i].root,
             None => false,
         }
     }
 
     /// The node of this name in a directory.
+    #[tactic(auto, using(crate::proofs::ShownLaws::by_box))]
     pub fn step(&self, dir: NodeName, name: &[u8]) -> Option<NodeName>
         ensures { result ≡ entry_of name.now (body_of (shown S.meaning self.now).nodes dir) }
     {
@@ -227,6 +231,7 @@ impl<S: Server> Nodes<S> {
     /// The names in a directory.
     ///
     /// Errors, in order: `EDIED` no such node, `ENOTDIR`, `ENOMEM`.
+    #[tactic(auto, using(crate::proofs::ShownLaws::by_box))]
     pub fn names(&self, alloc: Global, dir: NodeName) -> Result<Names, Errno>
         ensures { Meets (names_of (body_of (shown S.meaning self.now).nodes dir)) result }
     {
@@ -237,6 +242,7 @@ impl<S: Server> Nodes<S> {
     }
 
     /// Whether a node has a server, and that keeps a tree.
+    #[tactic(auto, using(crate::proofs::ShownLaws::by_box))]
     pub fn keeps_tree(&self, node: NodeName) -> bool
         ensures { result ≡ tree_by (server_of (shown S.meaning self.now) node) }
     {
@@ -247,6 +253,7 @@ impl<S: Server> Nodes<S> {
     }
 
     /// What the root of a node's server is, if the node has a server.
+    #[tactic(auto, using(crate::proofs::ShownLaws::by_box))]
     pub fn root(&self, node: NodeName) -> Option<Root>
         ensures { result ≡ option_map (λ (i : ServerInfo). root_of i.kind i.text) (server_of (shown S.meaning self.now) node) }
     {
@@ -257,6 +264,7 @@ impl<S: Server> Nodes<S> {
     }
 
     /// Whether a node's server is there, and counts who reads and who writes each of its nodes. Takes no memory.
+    #[tactic(auto, using(crate::proofs::ShownLaws::by_box))]
     pub fn counts(&self, node: NodeName) -> bool
         ensures { result ≡ counts_by (server_of (shown S.meaning self.now) node) }
     {
@@ -268,15 +276,16 @@ impl<S: Server> Nodes<S> {
 
     /// Whether two nodes are of one server.
     pub fn are_kin(&self, node: NodeName, other: NodeName) -> bool
-        ensures { result ≡ are_kin (fin.get self.now.homes node) (fin.get self.now.homes other) }
+        ensures { result ≡ are_kin (home_in self.now.sites node) (home_in self.now.sites other) }
     {
-        match (home_of(&self.homes, node), home_of(&self.homes, other)) {
+        match (home_of(&self.sites, node), home_of(&self.sites, other)) {
             (Some(server), Some(kin)) => server == kin,
             _ => false,
         }
     }
 
     /// How many bytes there are to read in a node at a place, if the node is there. Takes no memory.
+    #[tactic(auto, using(crate::proofs::ShownLaws::by_box))]
     pub fn readable(&self, node: NodeName, at: u64) -> Option<u64>
         ensures { result ≡ readable_at node at (shown S.meaning self.now) }
     {
@@ -287,6 +296,7 @@ impl<S: Server> Nodes<S> {
     }
 
     /// The bytes that a node holds, lent, if it is there and no directory. Takes no memory.
+    #[tactic(auto, using(crate::proofs::ShownLaws::by_box))]
     pub fn content(&self, node: NodeName) -> Option<&[u8]>
         ensures { option_copied result ≡ content_of (shown S.meaning self.now).nodes node }
     {
@@ -297,6 +307,7 @@ impl<S: Server> Nodes<S> {
     }
 
     /// The words of the passive translator of a node, lent, if the node is there and has any. Takes no memory.
+    #[tactic(auto, using(crate::proofs::ShownLaws::by_box))]
     pub fn passive(&self, node: NodeName) -> Option<&Words>
         ensures { option_copied result ≡ passive_of (fin.get (shown S.meaning self.now).nodes node) }
     {

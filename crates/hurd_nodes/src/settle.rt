@@ -6,19 +6,19 @@ ghost use Rattle.std.specs.List.{All, list_any};
 ghost use Rattle.std.specs.FinMap as fin;
 ghost use Rattle.hurd_nodes.specs.Shown.{out_node, without_server, shown, header_in, HideNothing, forgotten};
 ghost use Rattle.hurd_creds.specs.Names.{same_name};
-ghost use Rattle.hurd_nodes.specs.Held.{homes_of, mean, seats_of, with_seats};
+ghost use Rattle.hurd_nodes.specs.Held.{home_in, mean, sites_of, seats_of, with_seats};
 ghost use Rattle.hurd_trans_iface.specs.Nodes.{is_entered, is_entered_at};
-ghost use Rattle.hurd_nodes.specs.Look.{Goes, HomedStay, IsLook, IsUnkept, NamelessStay, SeatsStay, ServersStay};
+ghost use Rattle.hurd_nodes.specs.Look.{Goes, HomedStay, IsLook, IsUnkept, NamelessStay, ServersStay};
 ghost use Rattle.hurd_nodes.specs.Settle.{is_target, node_stays, server_stays, settle, sweep};
 ghost use Rattle.hurd_nodes.specs.Parts.{TakesOut};
 
 use crate::namings::Namings;
 use crate::nodes::{BOOT_NAME, Nodes};
 use crate::search::{
-    has_held, home_of, is_active, is_active_on, is_target, place_of_seat, remove_home,
-    remove_server,
+    has_held, home_of, is_active, is_active_on, is_target, place_of_seat, remove_server,
+    remove_site,
 };
-use crate::seat::{Homes, Look, Seats, Unkept};
+use crate::seat::{Look, Seats, Sites, Unkept};
 use hurd_creds::{Attrs, NodeName, ServerName};
 use hurd_trans_iface::{Server, is_dir};
 
@@ -53,6 +53,7 @@ impl<S: Server> Nodes<S> {
     }
 
     /// Takes out one node or server that doesn't stay; false where all stay.
+    #[tactic(auto, using(crate::proofs::TakeLaws::takings))]
     fn take_one<N: Namings>(&mut self, namings: &N) -> bool
         ensures taken { result ≡ true → TakesOut (N.outside namings.now) (shown S.meaning self.old) (shown S.meaning self.new) }
         ensures end { result ≡ false → sweep (N.outside namings.now) (shown S.meaning self.old) ≡ shown S.meaning self.old }
@@ -74,15 +75,13 @@ impl<S: Server> Nodes<S> {
     }
 
     /// A node or server that doesn't stay; where none is found, all stay.
+    #[tactic(auto, using(crate::proofs::StayLaws::unkepts))]
     fn unkept<N: Namings>(&self, namings: &N) -> Option<Unkept>
         ensures found { IfSome result (λ u. IsUnkept (N.outside namings.now) (shown S.meaning self.now) u) }
         ensures none { let o = N.outside namings.now in let h = shown S.meaning self.now in
-            result ≡ None → HomedStay o h × SeatsStay o h × ServersStay o h }
+            result ≡ None → HomedStay o h × ServersStay o h }
     {
         if let Some(node) = self.unkept_served(namings) {
-            return Some(Unkept::Node(node));
-        }
-        if let Some(node) = self.unkept_node(&self.actives, namings) {
             return Some(Unkept::Node(node));
         }
         let server = self.unkept_server(&self.seats, namings)?;
@@ -90,6 +89,7 @@ impl<S: Server> Nodes<S> {
     }
 
     /// A node that goes; where none is found, none does, if all servers stay. What servers list is looked at, and all nodes only where one of them doesn't say.
+    #[tactic(auto, using(crate::proofs::LookLaws::looks))]
     fn unkept_served<N: Namings>(&self, namings: &N) -> Option<NodeName>
         ensures found { IfSome result (λ n. Goes (N.outside namings.now) (shown S.meaning self.now) n) }
         ensures none { let o = N.outside namings.now in let h = shown S.meaning self.now in
@@ -98,7 +98,7 @@ impl<S: Server> Nodes<S> {
         match self.unkept_nameless(&self.seats, namings) {
             Look::Leaves(node) => Some(node),
             Look::AllStay => None,
-            Look::Untold => self.unkept_node(&self.homes, namings),
+            Look::Untold => self.unkept_node(&self.sites, namings),
         }
     }
 
@@ -133,10 +133,10 @@ impl<S: Server> Nodes<S> {
         }
     }
 
-    /// The first of these nodes that has a home and doesn't stay.
+    /// The first of these nodes that has a site and doesn't stay.
     fn unkept_among<N: Namings>(&self, names: &[NodeName], namings: &N) -> Option<NodeName>
         ensures found { IfSome result (λ n. Goes (N.outside namings.now) (shown S.meaning self.now) n) }
-        ensures none { result ≡ None → list_any (λ n. let h = shown S.meaning self.now in is_some (fin.get h.homes n) && not (node_stays (N.outside namings.now) h n)) names.now ≡ false }
+        ensures none { result ≡ None → list_any (λ n. let h = shown S.meaning self.now in is_some (fin.get h.sites n) && not (node_stays (N.outside namings.now) h n)) names.now ≡ false }
     {
         for name in names {
             if self.home(*name).is_some() && !self.node_stays(*name, namings) {
@@ -146,14 +146,15 @@ impl<S: Server> Nodes<S> {
         None
     }
 
-    /// The first node of these homes that doesn't stay.
-    fn unkept_node<N: Namings>(&self, homes: &Homes, namings: &N) -> Option<NodeName>
+    /// The first node of these sites that doesn't stay.
+    #[tactic(auto, using(crate::proofs::HomeLaws::scans))]
+    fn unkept_node<N: Namings>(&self, sites: &Sites, namings: &N) -> Option<NodeName>
         ensures found { IfSome result (λ n. (node_stays (N.outside namings.now) (shown S.meaning self.now) n ≡ false)
-            × (is_some (fin.get (homes_of homes.now.entries) n) ≡ true)) }
-        ensures none { result ≡ None → list_any (λ x. not (node_stays (N.outside namings.now) (shown S.meaning self.now) x.0)) homes.now.entries ≡ false }
+            × (is_some (fin.get (sites_of sites.now.entries) n) ≡ true)) }
+        ensures none { result ≡ None → list_any (λ x. not (node_stays (N.outside namings.now) (shown S.meaning self.now) x.0)) sites.now.entries ≡ false }
     {
-        for i in 0..homes.len() {
-            if let Some((node, _)) = homes.get_index(i) {
+        for i in 0..sites.len() {
+            if let Some((node, _)) = sites.get_index(i) {
                 if !self.node_stays(*node, namings) {
                     return Some(*node);
                 }
@@ -163,6 +164,7 @@ impl<S: Server> Nodes<S> {
     }
 
     /// The first server of these seats that doesn't stay.
+    #[tactic(auto, using(crate::proofs::HomeLaws::scans))]
     fn unkept_server<N: Namings>(&self, seats: &Seats<S>, namings: &N) -> Option<ServerName>
         ensures found { IfSome result (λ s. (server_stays (N.outside namings.now) (shown S.meaning self.now) s ≡ false)
             × (is_some (fin.get (seats_of seats.now.entries) s) ≡ true)) }
@@ -179,10 +181,11 @@ impl<S: Server> Nodes<S> {
     }
 
     /// Whether a node stays: its server does, and it is that server's root, an entry names it, or it is named.
+    #[tactic(auto, using(crate::proofs::StayLaws::node_tests))]
     fn node_stays<N: Namings>(&self, node: NodeName, namings: &N) -> bool
         ensures { result ≡ node_stays (N.outside namings.now) (shown S.meaning self.now) node }
     {
-        let Some(server) = home_of(&self.homes, node) else {
+        let Some(server) = home_of(&self.sites, node) else {
             return false;
         };
         let Some(i) = place_of_seat(&self.seats, server) else {
@@ -196,6 +199,7 @@ impl<S: Server> Nodes<S> {
     }
 
     /// Whether a node is a target of a server.
+    #[tactic(auto, using(crate::proofs::StayLaws::by_list))]
     fn is_target(&self, node: NodeName) -> bool
         ensures { result ≡ is_target (shown S.meaning self.now).servers node }
     {
@@ -217,6 +221,7 @@ impl<S: Server> Nodes<S> {
 
     /// Whether a server stays: the boot server, one that is active on a node, one that is controlled, and one that has a node that is named. First is looked at the
     /// node on which it was attached, if one is given; all on which servers are active only where it isn't active there.
+    #[tactic(auto, using(crate::proofs::StayLaws::four_tests))]
     fn server_stays<N: Namings>(
         &self,
         server: ServerName,
@@ -228,16 +233,16 @@ impl<S: Server> Nodes<S> {
         if server == BOOT_NAME {
             return true;
         }
-        if is_active_on(&self.actives, server, at) {
+        if is_active_on(&self.sites, server, at) {
             return true;
         }
         if namings.controls(server) {
             return true;
         }
-        if is_active(&self.actives, server) {
+        if is_active(&self.sites, server) {
             return true;
         }
-        has_held(&self.homes, server, namings)
+        has_held(&self.sites, server, namings)
     }
 
     /// Whether an entry names a node, a directory has a parent, or another node a link; or there is no such node.
@@ -251,26 +256,27 @@ impl<S: Server> Nodes<S> {
     }
 
     /// Takes a node out, and has its box forget it.
+    #[tactic(auto, using(crate::proofs::TakeLaws::takings))]
     fn take_node(&mut self, node: NodeName)
         ensures shown { shown S.meaning self.new ≡ out_node node (shown S.meaning self.old) }
-        ensures boxes { mean S.meaning self.new.seats ≡ forgotten node (fin.get self.old.homes node) (mean S.meaning self.old.seats) }
-        ensures homes { self.new.homes ≡ fin.remove self.old.homes node }
+        ensures boxes { mean S.meaning self.new.seats ≡ forgotten node (home_in self.old.sites node) (mean S.meaning self.old.seats) }
+        ensures sites { self.new.sites ≡ fin.remove self.old.sites node }
     {
         self.forget(node);
-        remove_home(&mut self.homes, node);
-        remove_home(&mut self.actives, node);
+        remove_site(&mut self.sites, node);
     }
 
     /// Takes a server out, with its nodes, wherever it is active, and its box.
     fn take_server(&mut self, server: ServerName)
         ensures { self.new ≡ without_server self.old server }
     {
-        remove_server(&mut self.homes, &mut self.actives, &mut self.seats, server);
+        remove_server(&mut self.sites, &mut self.seats, server);
     }
 
-    /// Lets the box of a node's server forget it. The node's home stays for now.
+    /// Lets the box of a node's server forget it. The node's site stays for now.
+    #[tactic(auto, using(crate::proofs::TakeLaws::takings))]
     fn forget(&mut self, node: NodeName)
-        ensures boxes { mean S.meaning self.new.seats ≡ forgotten node (fin.get self.old.homes node) (mean S.meaning self.old.seats) }
+        ensures boxes { mean S.meaning self.new.seats ≡ forgotten node (home_in self.old.sites node) (mean S.meaning self.old.seats) }
         ensures others { with_seats self.new self.old.seats ≡ self.old }
     {
         match self.server_of_mut(node) {

@@ -1,5 +1,5 @@
 -- What is collected of nodes, one thing after another.
-use Rattle.std.proofs.Common.{◌≡◌, ◌∙◌, ◌⊎◌, inl, inr, sym, refl, ap, subst, ℕ, ◌+◌, ◌<◌, true, false, List, [], ◌∷◌, ◌++◌, take, length, get_or, append_assoc, append-nil}
+use Rattle.std.proofs.Common.{◌≡◌, ◌∙◌, ◌⊎◌, inl, inr, sym, refl, ap, subst, ℕ, ◌+◌, ◌<◌, Bool, true, false, true≢false, if◌then◌else◌, List, [], ◌∷◌, ◌++◌, take, length, get_or, append_assoc, append-nil}
 use Rattle.std.specs.Prelude.{Option, Some, None, is_some}
 use Rattle.std.specs.List.{flat_map, list_any}
 use Rattle.std.specs.Map.{lookup}
@@ -102,7 +102,29 @@ flat_next f xs i d below =
     ap (flat_map f) (take_more xs i d below)
     ∙ (flat_map-append f (take i xs) (get_or xs i d ∷ []) ∙ ap (λ ys. flat_map f (take i xs) ++ ys) (append-nil (f (get_or xs i d))))
 
+-- of one thing
+pub among_one : {X : Type 0} (x y : X) → IsAmong x (y ∷ []) → y ≡ x
+among_one x y (inl e) = e
+among_one x y (inr none) = absurd none
+
+-- where a test holds
+pub among_tested : {X : Type 0} (t : Bool) (x : X) (xs : List X) → IsAmong x (if t then xs else []) → (t ≡ true) × IsAmong x xs
+among_tested true x xs a = (refl, a)
+among_tested false x xs a = absurd a
+
 -- of a thing that may not be there
+
+pub among_there : {A X : Type 0} (f : Option A → List X) → f None ≡ [] → (o : Option A) (x : X) → IsAmong x (f o) → (a : A) × (o ≡ Some a) × IsAmong x (f (Some a))
+among_there f none None x a = absurd (subst (IsAmong x) none a)
+among_there f none (Some s) x a = (s, refl, a)
+
+pub tested : {A : Type 0} (test : Option A → Bool) → test None ≡ false → (o : Option A) → test o ≡ true → (a : A) × (o ≡ Some a) × (test (Some a) ≡ true)
+tested test none None e = absurd (true≢false (sym e ∙ none))
+tested test none (Some a) e = (a, refl, e)
+
+pub some_of : {A B : Type 0} (f : Option A → Option B) → f None ≡ None → (o : Option A) (b : B) → f o ≡ Some b → (a : A) × (o ≡ Some a) × (f (Some a) ≡ Some b)
+some_of f none None b e = absurd (cc)
+some_of f none (Some a) b e = (a, refl, e)
 
 pub among_why : (o : Option Name) (z : Why) (n : Name) (y : Why) → IsAmong (n, y) (with_why o z) → (o ≡ Some n) × (y ≡ z)
 among_why None z n y a = absurd a

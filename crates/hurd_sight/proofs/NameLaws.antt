@@ -6,18 +6,15 @@ use Rattle.std.proofs.lemmas.Bool.{or_cases, or_left, or_right, cases_Bool}
 use Rattle.std.proofs.lemmas.List.{map-append}
 use Rattle.std.proofs.lemmas.List.Folds.{list_any-append}
 use Rattle.hurd_creds.specs.declared.name.Name.{Name}
-use Rattle.hurd_creds.specs.Bits.{READ, WRITE}
 use Rattle.hurd_creds.specs.Names.{same_name}
 use Rattle.hurd_creds.proofs.NameLaws.{equal_if_same, same_name-itself}
-use Rattle.hurd_ports.specs.declared.table.IoRight.{IoRight}
 use Rattle.hurd_ports.specs.declared.table.PendingStart.{PendingStart}
 use Rattle.hurd_ports.specs.declared.table.Port.{Port}
 use Rattle.hurd_ports.specs.declared.table.Right.{Right}
-use Rattle.hurd_ports.specs.declared.table.Right.TheVariants.{Io}
 use Rattle.hurd_ports.specs.Tables.{OpenMap, Task, rights_of, start_of}
 use Rattle.hurd_machine.specs.World.{IsAmong}
 use Rattle.hurd_sight.specs.declared.held.RightNames.{RightNames}
-use Rattle.hurd_sight.specs.Parts.{control_of, is_in, named, named_more, no_names, node_for, open_of, with_right, with_rights}
+use Rattle.hurd_sight.specs.Parts.{is_in, named, named_more, no_names, with_right, with_rights}
 use Rattle.hurd_sight.proofs.WalkLaws.{Walk}
 use Rattle.std.proofs.Math.Bool.{or-false}
 
@@ -71,10 +68,6 @@ pub named-append : (xs ys ns : Names) → named (xs ++ ys) ns ≡ named ys (name
 named-append [] ys ns = refl
 named-append (x ∷ xs) ys ns = named-append xs ys (named_more x ns)
 
--- one after the other
-pub named_both : (a : Names) {b c : Names} (xs ys : Names) → b ≡ named xs a → c ≡ named ys b → c ≡ named (xs ++ ys) a
-named_both a xs ys first second = second ∙ (ap (named ys) first ∙ sym (named-append xs ys a))
-
 -- the names of rights, one after another
 
 pub with-append : (opens : OpenMap) (qs rs : List Right) (v : RightNames) → with_rights opens (qs ++ rs) v ≡ with_rights opens rs (with_rights opens qs v)
@@ -94,21 +87,10 @@ ports_each opens = record { more = λ ps p a b c before step. rw (map-append (λ
 
 -- each kind of name by itself
 
-pub opens_with : (opens : OpenMap) (qs : List Right) (v : RightNames) → (with_rights opens qs v).opens ≡ named (flat_map open_of qs) v.opens
-opens_with opens [] v = refl
-opens_with opens (q ∷ qs) v = opens_with opens qs (with_right opens q v) ∙ sym (named-append (open_of q) (flat_map open_of qs) v.opens)
-
-pub reads_with : (opens : OpenMap) (qs : List Right) (v : RightNames) → (with_rights opens qs v).readable ≡ named (flat_map (node_for READ opens) qs) v.readable
-reads_with opens [] v = refl
-reads_with opens (q ∷ qs) v = reads_with opens qs (with_right opens q v) ∙ sym (named-append (node_for READ opens q) (flat_map (node_for READ opens) qs) v.readable)
-
-pub writes_with : (opens : OpenMap) (qs : List Right) (v : RightNames) → (with_rights opens qs v).writable ≡ named (flat_map (node_for WRITE opens) qs) v.writable
-writes_with opens [] v = refl
-writes_with opens (q ∷ qs) v = writes_with opens qs (with_right opens q v) ∙ sym (named-append (node_for WRITE opens q) (flat_map (node_for WRITE opens) qs) v.writable)
-
-pub controls_with : (opens : OpenMap) (qs : List Right) (v : RightNames) → (with_rights opens qs v).controlled ≡ named (flat_map control_of qs) v.controlled
-controls_with opens [] v = refl
-controls_with opens (q ∷ qs) v = controls_with opens qs (with_right opens q v) ∙ sym (named-append (control_of q) (flat_map control_of qs) v.controlled)
+pub kind_with : (opens : OpenMap) (kind : RightNames → Names) (f : Right → Names) → ((q : Right) (v : RightNames) → kind (with_right opens q v) ≡ named (f q) (kind v))
+    → (qs : List Right) (v : RightNames) → kind (with_rights opens qs v) ≡ named (flat_map f qs) (kind v)
+kind_with opens kind f one [] v = refl
+kind_with opens kind f one (q ∷ qs) v = kind_with opens kind f one qs (with_right opens q v) ∙ (ap (named (flat_map f qs)) (one q v) ∙ sym (named-append (f q) (flat_map f qs) (kind v)))
 
 -- all rights of a task; its start names nothing
 pub seat_rights : (opens : OpenMap) (x : Task) (a : RightNames) {b c : RightNames} → b ≡ with_rights opens (map (λ z. z.right) x.ports) a → c ≡ with_rights opens x.inbox b
@@ -120,14 +102,6 @@ seat_rights opens x a ports sent =
     starting : (s : Option PendingStart) → a ≡ with_rights opens (start_of s) a
     starting None = refl
     starting (Some s) = refl
-
--- one right by itself
-
-pub io_right : (opens : OpenMap) (r : IoRight) (q : Right) (a : RightNames) {os rs ws : Names} → q ≡ Io r → os ≡ named_more r.open_name a.opens
-    → rs ≡ named (node_for READ opens (Io r)) a.readable → ws ≡ named (node_for WRITE opens (Io r)) a.writable
-    → record { opens = os; readable = rs; writable = ws; controlled = a.controlled } ≡ with_right opens q a
-io_right opens r q a is opened read written =
-    (λ i. record { opens = opened i; readable = read i; writable = written i; controlled = a.controlled }) ∙ ap (λ (z : Right). with_right opens z a) (sym is)
 
 -- no names at first
 pub all_empty : {a : RightNames} → a.opens ≡ [] → a.readable ≡ [] → a.writable ≡ [] → a.controlled ≡ [] → a ≡ no_names

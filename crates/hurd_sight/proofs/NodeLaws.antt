@@ -1,20 +1,19 @@
 -- What a node, a right and a task show: of what the code asks, and why it is shown.
 use Rattle.std.proofs.Common.{◌≡◌, ◌∙◌, ◌⊎◌, inl, inr, sym, refl, ap, subst, ℕ, Bool, true, false, true≢false, List, [], ◌∷◌, ◌++◌, map, if◌then◌else◌}
-use Rattle.std.specs.Prelude.{cond, Option, Some, None, Result, Ok, Err, option_and_then}
+use Rattle.std.specs.Prelude.{cond, Option, Some, None, option_and_then}
 use Rattle.std.specs.List.{flat_map}
 use Rattle.std.specs.Option.{option_map}
 use Rattle.std.specs.Str.{bytes_eq}
 use Rattle.std.specs.FinMap as fin
 use Rattle.std.proofs.lemmas.Bool.{and_parts}
+use Rattle.hurd_nodes.specs.Held.{home_in, active_in}
 use Rattle.hurd_nodes.proofs.PartLaws.{and_true}
 use Rattle.std.proofs.lemmas.List.Concat.{flat_map-append}
 use Rattle.std.proofs.lemmas.List.Folds.{flat_map-map}
 use Rattle.hurd_creds.specs.declared.name.Name.{Name}
-use Rattle.hurd_creds.specs.declared.errno.Errno.{Errno}
 use Rattle.hurd_creds.specs.declared.attrs.Kind.TheVariants.{Dir}
 use Rattle.hurd_creds.specs.declared.attrs.Want.TheVariants.{Exec}
 use Rattle.hurd_creds.specs.Access.{IdSets}
-use Rattle.hurd_creds.specs.Memory.{Meets, is_no_memory}
 use Rattle.hurd_trans_iface.specs.Nodes.{Header, Body, Content, Listing, Entry, body_of, header_of, is_dir}
 use Rattle.hurd_trans_iface.specs.Answers.{entry_in, entry_of, names_of}
 use Rattle.hurd_nodes.specs.Shown.{NodeState, ServerInfo}
@@ -27,27 +26,22 @@ use Rattle.hurd_sight.specs.Reach.{could_with, serves}
 use Rattle.hurd_sight.specs.Found.{all_of, gathered, names_told, of_active, of_children, of_entry, of_node, of_parent, of_right, of_server, of_target, of_targets, parent_in, root_of, root_served, searched_by, served_root, targets_of}
 use Rattle.hurd_sight.specs.declared.found.Why.{Why}
 use Rattle.hurd_sight.specs.declared.found.Why.TheVariants as why
-use Rattle.hurd_sight.proofs.FoundLaws.{Entries, among_flat, among_why, flat_among, gathered_both, why_among}
+use Rattle.hurd_sight.proofs.FoundLaws.{Entries, among_flat, among_one, among_tested, among_there, among_why, flat_among, gathered_both, some_of, why_among}
 use Rattle.hurd_machine.proofs.Listed.{dir_kind}
 use Rattle.hurd_machine.proofs.Tasks.{among_cases, among_left, among_right}
 
-same_some : {X : Type 0} (x y : X) → Some x ≡ Some y → x ≡ y
-same_some x y e = cc
-
--- what follows of what may be there
-
-and_then_of : {A B : Type 0} (f : A → Option B) (o : Option A) (b : B) → option_and_then f o ≡ Some b → (a : A) × (o ≡ Some a) × (f a ≡ Some b)
-and_then_of f None b e = absurd (cc)
-and_then_of f (Some a) b e = (a, refl, e)
+-- what is there where a test holds
+if_is : {X : Type 0} (t : Bool) (x y : X) → (if t then Some x else None) ≡ Some y → (t ≡ true) × (y ≡ x)
+if_is true x y e = (refl, cc)
+if_is false x y e = absurd (cc)
 
 -- the root of a server
 
 pub root_info : (h : NodeState) (s n : Name) → root_of h s ≡ Some n → (i : ServerInfo) × (fin.get h.servers s ≡ Some i) × (n ≡ i.root)
-root_info h s n e = go (fin.get h.servers s) refl e
-  where
-    go : (o : Option ServerInfo) → fin.get h.servers s ≡ o → option_map (λ (i : ServerInfo). i.root) o ≡ Some n → (i : ServerInfo) × (fin.get h.servers s ≡ Some i) × (n ≡ i.root)
-    go None is t = absurd (cc)
-    go (Some i) is t = (i, is, sym (same_some i.root n t))
+root_info h s n e =
+    let it = some_of (option_map (λ (i : ServerInfo). i.root)) refl (fin.get h.servers s) n e in
+    let is : n ≡ it.0.root = cc (it.2) in
+    (it.0, it.1, is)
 
 pub info_root : (h : NodeState) (s n : Name) (i : ServerInfo) → fin.get h.servers s ≡ Some i → n ≡ i.root → root_of h s ≡ Some n
 info_root h s n i is root = ap (option_map (λ (j : ServerInfo). j.root)) is ∙ ap (λ (m : Name). Some m) (sym root)
@@ -55,52 +49,42 @@ info_root h s n i is root = ap (option_map (λ (j : ServerInfo). j.root)) is ∙
 -- the root of the server that is active on a node
 
 pub active_info : (h : NodeState) (m n : Name) (y : Why) → IsAmong (n, y) (of_active h m)
-    → (s : Name) × (i : ServerInfo) × (fin.get h.actives m ≡ Some s) × (fin.get h.servers s ≡ Some i) × (n ≡ i.root) × (y ≡ why.Active m)
+    → (s : Name) × (i : ServerInfo) × (active_in h.sites m ≡ Some s) × (fin.get h.servers s ≡ Some i) × (n ≡ i.root) × (y ≡ why.Active m)
 active_info h m n y a =
-    let told = among_why (option_and_then (root_of h) (fin.get h.actives m)) (why.Active m) n y a in
-    let it = and_then_of (root_of h) (fin.get h.actives m) n told.0 in
+    let told = among_why (option_and_then (root_of h) (active_in h.sites m)) (why.Active m) n y a in
+    let it = some_of (option_and_then (root_of h)) refl (active_in h.sites m) n told.0 in
     let info = root_info h it.0 n it.2 in
     (it.0, info.0, it.1, info.1, info.2, told.1)
 
-pub info_active : (h : NodeState) (m n s : Name) (i : ServerInfo) → fin.get h.actives m ≡ Some s → fin.get h.servers s ≡ Some i → n ≡ i.root → IsAmong (n, why.Active m) (of_active h m)
+pub info_active : (h : NodeState) (m n s : Name) (i : ServerInfo) → active_in h.sites m ≡ Some s → fin.get h.servers s ≡ Some i → n ≡ i.root → IsAmong (n, why.Active m) (of_active h m)
 info_active h m n s i active is root =
-    why_among (option_and_then (root_of h) (fin.get h.actives m)) (why.Active m) n (ap (option_and_then (root_of h)) active ∙ info_root h s n i is root)
+    why_among (option_and_then (root_of h) (active_in h.sites m)) (why.Active m) n (ap (option_and_then (root_of h)) active ∙ info_root h s n i is root)
 
 -- the root of a node's server that could be served
 
-served_info : (ids : IdSets) (i : ServerInfo) (n : Name) → root_served ids i ≡ Some n → (serves ids i.ids ≡ true) × (n ≡ i.root)
-served_info ids i n e = go (serves ids i.ids) refl
-  where
-    go : (b : Bool) → serves ids i.ids ≡ b → (serves ids i.ids ≡ true) × (n ≡ i.root)
-    go true is = (is, sym (same_some i.root n (sym (ap (λ (b : Bool). if b then Some i.root else None) is) ∙ e)))
-    go false is = absurd (let none : None ≡ Some n = sym (ap (λ (b : Bool). if b then Some i.root else None) is) ∙ e in cc)
-
 pub server_info : (h : NodeState) (ids : IdSets) (m n : Name) (y : Why) → IsAmong (n, y) (of_server h ids m)
-    → (s : Name) × (i : ServerInfo) × (fin.get h.homes m ≡ Some s) × (fin.get h.servers s ≡ Some i) × (serves ids i.ids ≡ true) × (n ≡ i.root) × (y ≡ why.ServerRoot m)
+    → (s : Name) × (i : ServerInfo) × (home_in h.sites m ≡ Some s) × (fin.get h.servers s ≡ Some i) × (serves ids i.ids ≡ true) × (n ≡ i.root) × (y ≡ why.ServerRoot m)
 server_info h ids m n y a =
-    let told = among_why (option_and_then (served_root h ids) (fin.get h.homes m)) (why.ServerRoot m) n y a in
-    let it = and_then_of (served_root h ids) (fin.get h.homes m) n told.0 in
-    let info = and_then_of (root_served ids) (fin.get h.servers it.0) n it.2 in
-    let served = served_info ids info.0 n info.2 in
+    let told = among_why (option_and_then (served_root h ids) (home_in h.sites m)) (why.ServerRoot m) n y a in
+    let it = some_of (option_and_then (served_root h ids)) refl (home_in h.sites m) n told.0 in
+    let info = some_of (option_and_then (root_served ids)) refl (fin.get h.servers it.0) n it.2 in
+    let served = if_is (serves ids info.0.ids) info.0.root n info.2 in
     (it.0, info.0, it.1, info.1, served.0, served.1, told.1)
 
-pub info_server : (h : NodeState) (ids : IdSets) (m n s : Name) (i : ServerInfo) → fin.get h.homes m ≡ Some s → fin.get h.servers s ≡ Some i → serves ids i.ids ≡ true → n ≡ i.root
+pub info_server : (h : NodeState) (ids : IdSets) (m n s : Name) (i : ServerInfo) → home_in h.sites m ≡ Some s → fin.get h.servers s ≡ Some i → serves ids i.ids ≡ true → n ≡ i.root
     → IsAmong (n, why.ServerRoot m) (of_server h ids m)
 info_server h ids m n s i home is served root =
-    why_among (option_and_then (served_root h ids) (fin.get h.homes m)) (why.ServerRoot m) n
+    why_among (option_and_then (served_root h ids) (home_in h.sites m)) (why.ServerRoot m) n
     (ap (option_and_then (served_root h ids)) home
     ∙ (ap (option_and_then (root_served ids)) is ∙ (ap (λ (b : Bool). if b then Some i.root else None) served ∙ ap (λ (q : Name). Some q) (sym root))))
 
 -- the targets of a node's server, and of the one that is active on it
 
 targets_info : (h : NodeState) (o : Option Name) (n : Name) → IsAmong n (targets_of h o) → (s : Name) × (i : ServerInfo) × (o ≡ Some s) × (fin.get h.servers s ≡ Some i) × IsAmong n i.targets
-targets_info h None n a = absurd a
-targets_info h (Some s) n a = go (fin.get h.servers s) refl a
-  where
-    go : (p : Option ServerInfo) → fin.get h.servers s ≡ p → IsAmong n (all_of (option_map (λ (i : ServerInfo). i.targets) p))
-        → (q : Name) × (i : ServerInfo) × (Some s ≡ Some q) × (fin.get h.servers q ≡ Some i) × IsAmong n i.targets
-    go None is t = absurd t
-    go (Some i) is t = (s, i, refl, is, t)
+targets_info h o n a =
+    let s = among_there (targets_of h) refl o n a in
+    let i = among_there (λ (p : Option ServerInfo). all_of (option_map (λ (i : ServerInfo). i.targets) p)) refl (fin.get h.servers s.0) n s.2 in
+    (s.0, i.0, s.1, i.1, i.2)
 
 info_targets : (h : NodeState) (o : Option Name) (n s : Name) (i : ServerInfo) → o ≡ Some s → fin.get h.servers s ≡ Some i → IsAmong n i.targets → IsAmong n (targets_of h o)
 info_targets h o n s i at is aim =
@@ -108,25 +92,24 @@ info_targets h o n s i at is aim =
 
 -- a target of either of two servers
 abbrev pub TargetOf : NodeState → Name → Name → Type 0
-TargetOf h m n = (s : Name) × (i : ServerInfo) × ((fin.get h.homes m ≡ Some s) ⊎ (fin.get h.actives m ≡ Some s)) × (fin.get h.servers s ≡ Some i) × IsAmong n i.targets
+TargetOf h m n = (s : Name) × (i : ServerInfo) × ((home_in h.sites m ≡ Some s) ⊎ (active_in h.sites m ≡ Some s)) × (fin.get h.servers s ≡ Some i) × IsAmong n i.targets
 
 -- what is among targets is one, and this is why
 aimed : (m n : Name) (y : Why) (ns : List Name) → IsAmong (n, y) (flat_map (of_target m) ns) → IsAmong n ns × (y ≡ why.Target m)
-aimed m n y ns a = let it = flat_among (of_target m) (n, y) ns a in one it.0 it.1 it.2
-  where
-    one : (q : Name) → IsAmong q ns → IsAmong (n, y) (of_target m q) → IsAmong n ns × (y ≡ why.Target m)
-    one q here (inl e) = (subst (λ (z : Name). IsAmong z ns) (ap (λ (t : Name × Why). t.0) e) here, sym (ap (λ (t : Name × Why). t.1) e))
-    one q here (inr none) = absurd none
+aimed m n y ns a =
+    let it = flat_among (of_target m) (n, y) ns a in
+    let e = among_one (n, y) (it.0, why.Target m) it.2 in
+    (subst (λ (z : Name). IsAmong z ns) (ap (λ (t : Name × Why). t.0) e) it.1, sym (ap (λ (t : Name × Why). t.1) e))
 
 pub target_info : (h : NodeState) (m n : Name) (y : Why) → IsAmong (n, y) (of_targets h m) → TargetOf h m n × (y ≡ why.Target m)
-target_info h m n y a = elim (among_cases (n, y) (flat_map (of_target m) (targets_of h (fin.get h.homes m))) _ a) [
+target_info h m n y a = elim (among_cases (n, y) (flat_map (of_target m) (targets_of h (home_in h.sites m))) _ a) [
   | inl b ↦
-      let told = aimed m n y (targets_of h (fin.get h.homes m)) b in
-      let it = targets_info h (fin.get h.homes m) n told.0 in
+      let told = aimed m n y (targets_of h (home_in h.sites m)) b in
+      let it = targets_info h (home_in h.sites m) n told.0 in
       ((it.0, it.1, inl it.2, it.3, it.4), told.1)
   | inr b ↦
-      let told = aimed m n y (targets_of h (fin.get h.actives m)) b in
-      let it = targets_info h (fin.get h.actives m) n told.0 in
+      let told = aimed m n y (targets_of h (active_in h.sites m)) b in
+      let it = targets_info h (active_in h.sites m) n told.0 in
       ((it.0, it.1, inr it.2, it.3, it.4), told.1)
 ]
 
@@ -136,25 +119,17 @@ info_target h m n t = at t.2
     among : (o : Option Name) → o ≡ Some t.0 → IsAmong (n, why.Target m) (flat_map (of_target m) (targets_of h o))
     among o is = among_flat (of_target m) n (n, why.Target m) (targets_of h o) (info_targets h o n t.0 t.1 is t.3 t.4) (inl refl)
 
-    at : (fin.get h.homes m ≡ Some t.0) ⊎ (fin.get h.actives m ≡ Some t.0) → IsAmong (n, why.Target m) (of_targets h m)
-    at (inl is) = among_left _ (flat_map (of_target m) (targets_of h (fin.get h.homes m))) _ (among (fin.get h.homes m) is)
-    at (inr is) = among_right _ (flat_map (of_target m) (targets_of h (fin.get h.homes m))) _ (among (fin.get h.actives m) is)
-
--- by what the code asks
-
-pub root_told : (ids other : IdSets) (o : Option ServerInfo) → Some other ≡ option_map (λ (i : ServerInfo). i.ids) o
-    → option_and_then (root_served ids) o ≡ (if serves ids other then option_map (λ (i : ServerInfo). i.root) o else None)
-root_told ids other None told = absurd (cc)
-root_told ids other (Some i) told = let same : other ≡ i.ids = cc in rw same refl
+    at : (home_in h.sites m ≡ Some t.0) ⊎ (active_in h.sites m ≡ Some t.0) → IsAmong (n, why.Target m) (of_targets h m)
+    at (inl is) = among_left _ (flat_map (of_target m) (targets_of h (home_in h.sites m))) _ (among (home_in h.sites m) is)
+    at (inr is) = among_right _ (flat_map (of_target m) (targets_of h (home_in h.sites m))) _ (among (active_in h.sites m) is)
 
 -- the parent of a directory
 
 pub parent_info : (h : NodeState) (d n : Name) (y : Why) → IsAmong (n, y) (of_parent h d) → (x : Header) × (header_of h.nodes d ≡ Some x) × (x.parent ≡ Some n) × (y ≡ why.Parent d)
-parent_info h d n y a = let told = among_why (parent_in (header_of h.nodes d)) (why.Parent d) n y a in go (header_of h.nodes d) refl told.0 told.1
-  where
-    go : (o : Option Header) → header_of h.nodes d ≡ o → parent_in o ≡ Some n → y ≡ why.Parent d → (x : Header) × (header_of h.nodes d ≡ Some x) × (x.parent ≡ Some n) × (y ≡ why.Parent d)
-    go None is t e = absurd (cc)
-    go (Some x) is t e = (x, is, t, e)
+parent_info h d n y a =
+    let told = among_why (parent_in (header_of h.nodes d)) (why.Parent d) n y a in
+    let it = some_of parent_in refl (header_of h.nodes d) n told.0 in
+    (it.0, it.1, it.2, told.1)
 
 pub info_parent : (h : NodeState) (d n : Name) (x : Header) → header_of h.nodes d ≡ Some x → x.parent ≡ Some n → IsAmong (n, why.Parent d) (of_parent h d)
 info_parent h d n x is parent = why_among (parent_in (header_of h.nodes d)) (why.Parent d) n (ap parent_in is ∙ parent)
@@ -189,15 +164,12 @@ abbrev pub ChildOf : NodeState → IdSets → Name → Name → Type 0
 ChildOf h ids d n = (x : Header) × (name : List ℕ) × (header_of h.nodes d ≡ Some x) × (x.kind ≡ Dir) × (could_with ids (bare x) Exec ≡ true) × (entry_of name (body_of h.nodes d) ≡ Some n)
 
 pub child_info : (h : NodeState) (ids : IdSets) (d n : Name) (y : Why) → IsAmong (n, y) (of_children h ids d) → ChildOf h ids d n × (y ≡ why.Child d)
-child_info h ids d n y a = go (searched_by ids (header_of h.nodes d)) refl a
-  where
-    go : (b : Bool) → searched_by ids (header_of h.nodes d) ≡ b → IsAmong (n, y) (if_searched h d b) → ChildOf h ids d n × (y ≡ why.Child d)
-    go false is i = absurd i
-    go true is i =
-        let dir = searched_dir ids (header_of h.nodes d) is in
-        let it = flat_among (of_entry d (body_of h.nodes d)) (n, y) (names_told (names_of (body_of h.nodes d))) i in
-        let told = among_why (entry_of it.0 (body_of h.nodes d)) (why.Child d) n y it.2 in
-        ((dir.0, it.0, dir.1, dir.2, dir.3, told.0), told.1)
+child_info h ids d n y a =
+    let i = among_tested (searched_by ids (header_of h.nodes d)) (n, y) _ a in
+    let dir = searched_dir ids (header_of h.nodes d) i.0 in
+    let it = flat_among (of_entry d (body_of h.nodes d)) (n, y) (names_told (names_of (body_of h.nodes d))) i.1 in
+    let told = among_why (entry_of it.0 (body_of h.nodes d)) (why.Child d) n y it.2 in
+    ((dir.0, it.0, dir.1, dir.2, dir.3, told.0), told.1)
 
 pub info_child : (h : NodeState) (ids : IdSets) (d n : Name) → ChildOf h ids d n → IsAmong (n, why.Child d) (of_children h ids d)
 info_child h ids d n c =
@@ -207,27 +179,6 @@ info_child h ids d n c =
   where
     searched : searched_by ids (header_of h.nodes d) ≡ true
     searched = ap (searched_by ids) c.2 ∙ and_true (is_dir c.0.kind) (could_with ids (bare c.0) Exec) (ap is_dir c.3) c.4
-
--- by what the code asks
-
-pub searched : (a : Entries) {b : Entries} (h : NodeState) (ids : IdSets) (d : Name) (ns : List (List ℕ)) → true ≡ searched_by ids (header_of h.nodes d) → names_of (body_of h.nodes d) ≡ Ok ns → b ≡ gathered (flat_map (of_entry d (body_of h.nodes d)) ns) a → b ≡ gathered (of_children h ids d) a
-searched a {b} h ids d ns test told e =
-    e
-    ∙ (ap (λ (r : Result (List (List ℕ)) Errno). gathered (flat_map (of_entry d (body_of h.nodes d)) (names_told r)) a) (sym told)
-    ∙ ap (λ (c : Bool). gathered (if_searched h d c) a) test)
-
-pub no_names : (h : NodeState) (ids : IdSets) (d : Name) (e : Errno) (a : Entries) → names_of (body_of h.nodes d) ≡ Err e → a ≡ gathered (of_children h ids d) a
-no_names h ids d e a told = go (searched_by ids (header_of h.nodes d)) refl
-  where
-    go : (b : Bool) → searched_by ids (header_of h.nodes d) ≡ b → a ≡ gathered (of_children h ids d) a
-    go true is =
-        ap (λ (r : Result (List (List ℕ)) Errno). gathered (flat_map (of_entry d (body_of h.nodes d)) (names_told r)) a) (sym told)
-        ∙ ap (λ (c : Bool). gathered (if_searched h d c) a) (sym is)
-    go false is = ap (λ (c : Bool). gathered (if_searched h d c) a) (sym is)
-
--- an error that is not want of memory is the one that was to be answered
-pub other_error : {T : Type 0} (wanted : Result T Errno) (e : Errno) → is_no_memory e ≡ false → Meets wanted (Err e) → wanted ≡ Err e
-other_error wanted e other m = elim m [ inl is ↦ is | inr lacks ↦ absurd (true≢false (sym (ap is_no_memory lacks.0) ∙ other)) ]
 
 -- the rights of a task: its start first, then those of its ports, then its inbox
 pub of_rights : (a : Entries) {b c d : Entries} (h : NodeState) (x : Task) → b ≡ gathered (flat_map (of_right h) (start_of x.pending)) a

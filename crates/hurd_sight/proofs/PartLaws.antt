@@ -1,10 +1,11 @@
 -- Names that were gathered are those that a set of tasks has and knows, and by them its parts are told.
-use Rattle.std.proofs.Common.{◌≡◌, ◌≢◌, ◌∙◌, ◌⊎◌, inl, inr, sym, refl, ap, subst, ℕ, Bool, true, false, true≢false, List, [], ◌∷◌, if◌then◌else◌}
-use Rattle.std.specs.Prelude.{◌↔◌, ◌||◌, ◌&&◌, not, is_some, Option, Some, None, slice_get}
+use Rattle.std.proofs.Common.{◌≡◌, ◌∙◌, ◌⊎◌, inl, inr, sym, refl, ap, subst, ℕ, Bool, true, List, [], ◌∷◌, if◌then◌else◌}
+use Rattle.std.specs.Prelude.{◌↔◌, ◌||◌, ◌&&◌, not, is_some, Option, Some, slice_get}
 use Rattle.std.specs.FinMap as fin
 use Rattle.std.specs.List.{flat_map}
 use Rattle.std.specs.Global.{Vec}
 use Rattle.std.proofs.lemmas.Bool.{or_cases, or_left, or_right, and_parts, and_from, not-true}
+use Rattle.std.specs.FinMap.{put}
 use Rattle.hurd_creds.specs.declared.name.Name.{Name}
 use Rattle.hurd_creds.specs.declared.name.TaskId.{TaskId}
 use Rattle.hurd_creds.specs.declared.attrs.Want.{Want}
@@ -28,13 +29,13 @@ use Rattle.hurd_sight.specs.declared.found.Why.{Why}
 use Rattle.hurd_sight.specs.declared.held.RightNames.{RightNames}
 use Rattle.hurd_sight.specs.declared.looks.Sight.{Sight}
 use Rattle.hurd_sight.specs.declared.parts.SeenPart.TheVariants as seen
-use Rattle.hurd_sight.specs.Parts.{HasFor, HasOpen, KnownByNode, SentByNode, control_of, is_for, is_in, known_at, maybe_named, named, no_names, node_for, of_found, open_of, owned_by, part_of, rights_at, rights_held, sendable_at, served_by, served_in, with_rights}
+use Rattle.hurd_sight.specs.Parts.{HasFor, HasOpen, KnownByNode, SentByNode, control_of, is_for, is_in, known_at, maybe_named, named, no_names, node_for, of_found, open_of, owned_by, part_of, rights_at, rights_held, sendable_at, served_by, served_in, with_right, with_rights}
 use Rattle.hurd_sight.specs.Looks.{Gathered, Looks, PartsAreSeen, could_write, puts_with, reads_with, sees_with, tells_empty, writes_at}
 use Rattle.hurd_sight.proofs.CouldLaws.{could_is_enough}
 use Rattle.hurd_sight.proofs.ReachLaws.{any_found, listed_task, ours, reach_is_gathered, owns_is, served_is}
 use Rattle.hurd_sight.proofs.SightLaws.{found_is_seen}
-use Rattle.hurd_sight.proofs.FoundLaws.{Entries, among_flat, flat_among}
-use Rattle.hurd_sight.proofs.NameLaws.{controls_with, named_are, opens_with, reads_with as all_read, writes_with as all_written}
+use Rattle.hurd_sight.proofs.FoundLaws.{Entries, among_flat, among_one, among_tested, among_there, flat_among, tested}
+use Rattle.hurd_sight.proofs.NameLaws.{kind_with, named_are}
 use Rattle.hurd_machine.proofs.Tasks.{among_cases, among_left, among_right}
 use Rattle.hurd_machine.proofs.Listed.{dir_kind}
 use Rattle.hurd_creds.specs.declared.attrs.Kind.TheVariants.{Dir}
@@ -49,18 +50,14 @@ are_named : (ns xs : List Name) → ns ≡ named xs [] → (n : Name) → (is_in
 are_named ns xs e n = subst (λ (ms : List Name). (is_in n ms ≡ true) ↔ IsAmong n xs) (sym e) (named_are n xs)
 
 maybe_among : (o : Option Name) (n : Name) → IsAmong n (maybe_named o) → o ≡ Some n
-maybe_among None n a = absurd a
-maybe_among (Some m) n (inl e) = ap (λ (x : Name). Some x) e
-maybe_among (Some m) n (inr none) = absurd none
+maybe_among o n a = let it = among_there maybe_named refl o n a in it.1 ∙ ap (λ (x : Name). Some x) (among_one n it.0 it.2)
 
 among_maybe : (o : Option Name) (n : Name) → o ≡ Some n → IsAmong n (maybe_named o)
 among_maybe o n is = subst (λ (x : Option Name). IsAmong n (maybe_named x)) (sym is) (inl refl)
 
 -- what is among one name, where a test holds
 if_among : (t : Bool) (m n : Name) → IsAmong n (if t then m ∷ [] else []) → (t ≡ true) × (m ≡ n)
-if_among true m n (inl e) = (refl, e)
-if_among true m n (inr none) = absurd none
-if_among false m n a = absurd a
+if_among t m n a = let it = among_tested t n (m ∷ []) a in (it.0, among_one n m it.1)
 
 among_if : (t : Bool) (m n : Name) → t ≡ true → m ≡ n → IsAmong n (if t then m ∷ [] else [])
 among_if t m n is e = subst (λ (b : Bool). IsAmong n (if b then m ∷ [] else [])) (sym is) (inl e)
@@ -72,11 +69,10 @@ module _ (w : World) (tasks : List TaskId) where
   -- a right of one of the tasks is held by the set of them
 
   held : (q : Right) → IsAmong q (rights_held w.tasks tasks) → Holds S w q
-  held q a = let it = flat_among (λ (t : TaskId). rights_at (slice_get w.tasks t.0)) q tasks a in at it.0 it.1 (slice_get w.tasks it.0.0) refl it.2
-    where
-      at : (t : TaskId) → IsAmong t tasks → (o : Option Task) → slice_get w.tasks t.0 ≡ o → IsAmong q (rights_at o) → Holds S w q
-      at t here None is i = absurd i
-      at t here (Some x) is i = record { task = t.0; ours = ours tasks t here; seat = x; is_task = is; here = i }
+  held q a =
+      let it = flat_among (λ (t : TaskId). rights_at (slice_get w.tasks t.0)) q tasks a in
+      let at = among_there rights_at refl (slice_get w.tasks it.0.0) q it.2 in
+      record { task = it.0.0; ours = ours tasks it.0 it.1; seat = at.0; is_task = at.1; here = at.2 }
 
   listed : (q : Right) → Holds S w q → IsAmong q (rights_held w.tasks tasks)
   listed q has =
@@ -84,48 +80,39 @@ module _ (w : World) (tasks : List TaskId) where
       among_flat (λ (t : TaskId). rights_at (slice_get w.tasks t.0)) it.0 q tasks it.1
       (subst (λ (o : Option Task). IsAmong q (rights_at o)) (sym (ap (slice_get w.tasks) it.2 ∙ has.is_task)) has.here)
 
-  opens_seen : (o : Name) → IsAmong o (flat_map open_of (rights_held w.tasks tasks)) ↔ HasOpen S w o
-  opens_seen o = (
-    λ a. let it = flat_among open_of o (rights_held w.tasks tasks) a in to it.0 (held it.0 it.1) it.2,
-    λ h. among_flat open_of (Io h.0) o (rights_held w.tasks tasks) (listed (Io h.0) h.1) (inl h.2),
+  -- what rights name is said of those that are held
+  rights_seen : (f : Right → List Name) (n : Name) {P : Type 0} → ((q : Right) → Holds S w q → IsAmong n (f q) → P) → (P → (q : Right) × Holds S w q × IsAmong n (f q))
+      → IsAmong n (flat_map f (rights_held w.tasks tasks)) ↔ P
+  rights_seen f n to from = (
+    λ a. let it = flat_among f n (rights_held w.tasks tasks) a in to it.0 (held it.0 it.1) it.2,
+    λ p. let it = from p in among_flat f it.0 n (rights_held w.tasks tasks) (listed it.0 it.1) it.2,
   )
+
+  opens_seen : (o : Name) → IsAmong o (flat_map open_of (rights_held w.tasks tasks)) ↔ HasOpen S w o
+  opens_seen o = rights_seen open_of o to (λ h. (Io h.0, h.1, inl h.2))
     where
       to : (q : Right) → Holds S w q → IsAmong o (open_of q) → HasOpen S w o
-      to (Io r) has (inl e) = (r, has, e)
-      to (Io r) has (inr none) = absurd none
+      to (Io r) has a = (r, has, among_one o r.open_name a)
       to (Control s) has a = absurd a
       to (Start n) has a = absurd a
 
-  -- an open that is in a mode is there
-  opened_for : (mode : ℕ) (o : Option Opened) → is_for mode o ≡ true → (x : Opened) × (o ≡ Some x) × (asks x.modes mode ≡ true)
-  opened_for mode None e = absurd (true≢false (sym e))
-  opened_for mode (Some x) e = (x, refl, e)
-
   nodes_seen : (mode : ℕ) (n : Name) → IsAmong n (flat_map (node_for mode w.opens) (rights_held w.tasks tasks)) ↔ HasFor mode S w n
-  nodes_seen mode n = (
-    λ a. let it = flat_among (node_for mode w.opens) n (rights_held w.tasks tasks) a in to it.0 (held it.0 it.1) it.2,
-    λ h. among_flat (node_for mode w.opens) (Io h.0) n (rights_held w.tasks tasks) (listed (Io h.0) h.2)
-        (among_if (is_for mode (fin.get w.opens h.0.open_name)) h.0.node n (ap (is_for mode) h.4 ∙ h.5) (sym h.3)),
-  )
+  nodes_seen mode n = rights_seen (node_for mode w.opens) n to (λ h. (Io h.0, h.2, among_if (is_for mode (fin.get w.opens h.0.open_name)) h.0.node n (ap (is_for mode) h.4 ∙ h.5) (sym h.3)))
     where
       to : (q : Right) → Holds S w q → IsAmong n (node_for mode w.opens q) → HasFor mode S w n
       to (Io r) has a =
           let it = if_among (is_for mode (fin.get w.opens r.open_name)) r.node n a in
-          let opened = opened_for mode (fin.get w.opens r.open_name) it.0 in
+          let opened = tested (is_for mode) refl (fin.get w.opens r.open_name) it.0 in
           (r, opened.0, has, sym it.1, opened.1, opened.2)
       to (Control s) has a = absurd a
       to (Start m) has a = absurd a
 
   controls_seen : (s : Name) → IsAmong s (flat_map control_of (rights_held w.tasks tasks)) ↔ Holds S w (Control s)
-  controls_seen s = (
-    λ a. let it = flat_among control_of s (rights_held w.tasks tasks) a in to it.0 (held it.0 it.1) it.2,
-    λ h. among_flat control_of (Control s) s (rights_held w.tasks tasks) (listed (Control s) h) (inl refl),
-  )
+  controls_seen s = rights_seen control_of s to (λ h. (Control s, h, inl refl))
     where
       to : (q : Right) → Holds S w q → IsAmong s (control_of q) → Holds S w (Control s)
       to (Io r) has a = absurd a
-      to (Control q) has (inl e) = subst (λ (z : Name). Holds S w (Control z)) e has
-      to (Control q) has (inr none) = absurd none
+      to (Control q) has a = subst (λ (z : Name). Holds S w (Control z)) (among_one s q a) has
       to (Start m) has a = absurd a
 
   module _ (ids : IdSets) (es : Entries) (r : Reaches S w ids) (sight : IsSight S w es) where
@@ -167,29 +154,17 @@ module _ (w : World) (tasks : List TaskId) where
         ⊎ ((h : Header) × (active_at w n ≡ Some s) × (header_at w n ≡ Some h) × OwnsIt S w h)
 
     served_among : (n s : Name) → IsAmong s (served_in (nodes_of w) ids (home_at w n)) → (i : ServerInfo) × (home_at w n ≡ Some s) × (server_at w s ≡ Some i) × CouldServe S w i
-    served_among n s a = at (home_at w n) refl a
-      where
-        by : (q : Name) → home_at w n ≡ Some q → (p : Option ServerInfo) → server_at w q ≡ p → IsAmong s (served_by ids q p)
-            → (i : ServerInfo) × (home_at w n ≡ Some s) × (server_at w s ≡ Some i) × CouldServe S w i
-        by q home None is b = absurd b
-        by q home (Some i) is b =
-            let it = if_among (serves ids i.ids) q s b in
-            (i, home ∙ ap (λ (z : Name). Some z) it.1, ap (server_at w) (sym it.1) ∙ is, (served_is r i).0 it.0)
-
-        at : (o : Option Name) → home_at w n ≡ o → IsAmong s (served_in (nodes_of w) ids o) → (i : ServerInfo) × (home_at w n ≡ Some s) × (server_at w s ≡ Some i) × CouldServe S w i
-        at None home b = absurd b
-        at (Some q) home b = by q home (server_at w q) refl b
+    served_among n s a =
+        let home = among_there (served_in (nodes_of w) ids) refl (home_at w n) s a in
+        let server = among_there (served_by ids home.0) refl (server_at w home.0) s home.2 in
+        let it = if_among (serves ids server.0.ids) home.0 s server.2 in
+        (server.0, home.1 ∙ ap (λ (z : Name). Some z) it.1, ap (server_at w) (sym it.1) ∙ server.1, (served_is r server.0).0 it.0)
 
     owned_among : (n s : Name) → IsAmong s (owned_by ids (header_at w n) (active_at w n)) → (h : Header) × (active_at w n ≡ Some s) × (header_at w n ≡ Some h) × OwnsIt S w h
-    owned_among n s a = at (header_at w n) refl a
-      where
-        test : (h : Header) (t : Bool) → owns ids (bare h) ≡ t → IsAmong s (if t then maybe_named (active_at w n) else []) → (active_at w n ≡ Some s) × OwnsIt S w h
-        test h true is b = (maybe_among (active_at w n) s b, (owns_is r h).0 is)
-        test h false is b = absurd b
-
-        at : (o : Option Header) → header_at w n ≡ o → IsAmong s (owned_by ids o (active_at w n)) → (h : Header) × (active_at w n ≡ Some s) × (header_at w n ≡ Some h) × OwnsIt S w h
-        at None is b = absurd b
-        at (Some h) is b = let it = test h (owns ids (bare h)) refl b in (h, it.0, is, it.1)
+    owned_among n s a =
+        let at = among_there (λ (o : Option Header). owned_by ids o (active_at w n)) refl (header_at w n) s a in
+        let it = among_tested (owns ids (bare at.0)) s (maybe_named (active_at w n)) at.2 in
+        (at.0, maybe_among (active_at w n) s it.1, at.1, (owns_is r at.0).0 it.0)
 
     sent_at : (n s : Name) → IsAmong s (sendable_at (nodes_of w) ids n) ↔ SentAt n s
     sent_at n s = (to, from)
@@ -224,18 +199,20 @@ pub looks_at : (w : World) (tasks : List TaskId) (kept : Vec TaskId) (ids : IdSe
 looks_at w tasks kept ids es v known sendable same gathered all rights knows sends =
     let r = reach_is_gathered w tasks ids gathered in
     let sight = found_is_seen w tasks ids es r all in
-    let rs = rights_held w.tasks tasks in
     record {
       tasks = λ t. ap (λ (ts : List TaskId). among ts t) same;
       reach = r;
       found = sight;
-      opens = λ o. both_ways (are_named v.opens (flat_map open_of rs) (ap (λ (x : RightNames). x.opens) rights ∙ opens_with w.opens rs no_names) o) (opens_seen w tasks o);
-      readable = λ n. both_ways (are_named v.readable (flat_map (node_for READ w.opens) rs) (ap (λ (x : RightNames). x.readable) rights ∙ all_read w.opens rs no_names) n) (nodes_seen w tasks READ n);
-      writable = λ n. both_ways (are_named v.writable (flat_map (node_for WRITE w.opens) rs) (ap (λ (x : RightNames). x.writable) rights ∙ all_written w.opens rs no_names) n) (nodes_seen w tasks WRITE n);
-      controlled = λ s. both_ways (are_named v.controlled (flat_map control_of rs) (ap (λ (x : RightNames). x.controlled) rights ∙ controls_with w.opens rs no_names) s) (controls_seen w tasks s);
+      opens = λ o. both_ways (kind (λ v. v.opens) open_of (λ q x. refl) refl o) (opens_seen w tasks o);
+      readable = λ n. both_ways (kind (λ v. v.readable) (node_for READ w.opens) (λ q x. refl) refl n) (nodes_seen w tasks READ n);
+      writable = λ n. both_ways (kind (λ v. v.writable) (node_for WRITE w.opens) (λ q x. refl) refl n) (nodes_seen w tasks WRITE n);
+      controlled = λ s. both_ways (kind (λ v. v.controlled) control_of (λ q x. refl) refl s) (controls_seen w tasks s);
       known = λ s. both_ways (are_named known (of_found (known_at (nodes_of w)) es) knows s) (known_seen w tasks ids es r sight s);
       sendable = λ s. both_ways (are_named sendable (of_found (sendable_at (nodes_of w) ids) es) sends s) (sent_seen w tasks ids es r sight s);
     }
+  where
+    kind : (of : RightNames → List Name) (f : Right → List Name) → ((q : Right) (x : RightNames) → of (with_right w.opens q x) ≡ named (f q) (of x)) → of no_names ≡ [] → (n : Name) → (is_in n (of v) ≡ true) ↔ IsAmong n (flat_map f (rights_held w.tasks tasks))
+    kind of f one none n = are_named (of v) (flat_map f (rights_held w.tasks tasks)) (ap of rights ∙ kind_with w.opens of f one (rights_held w.tasks tasks) no_names ∙ ap (named (flat_map f (rights_held w.tasks tasks))) none) n
 
 -- and how
 pub gathered_at : (w : World) (tasks : List TaskId) (kept : Vec TaskId) (ids : IdSets) (es : Entries) (v : RightNames) (known sendable : List Name) → kept.items ≡ tasks
@@ -316,31 +293,22 @@ module _ (S : ℕ → Bool) (w : World) (v : Sight) (l : Looks S w v) where
   read_from n h (ToPut counts may) = put_from n h counts (or_left (could_with v.reach (bare h) Write) (is_in n v.rights.writable) ((could h Write).1 may))
   read_from n h (IsOpen r has is o there told) = told_from n h r has is o there (or_cases (asks o.modes READ) (counts_at w n && asks o.modes WRITE) told)
 
-  body_to : (n : Name) (o : Option Header) → header_at w n ≡ o → reads_with (nodes_of w) v n o ≡ true → (h : Header) × (header_at w n ≡ Some h) × SeesBody S w n h
-  body_to n None is e = absurd (true≢false (sym e))
-  body_to n (Some h) is e = (h, is, read_to n h e)
-
   body_seen : (n : Name) → (sees_with (nodes_of w) v (seen.Body n) ≡ true) ↔ Sees S w (part_of (seen.Body n))
   body_seen n = (
     λ e. let p = and_parts (is_found n v.found) (reads_with (nodes_of w) v n (header_of w.nodes n)) e in
-        let b = body_to n (header_at w n) refl p.1 in ((l.found.exact n).0 p.0, b.0, b.1, b.2),
+        let b = tested (reads_with (nodes_of w) v n) refl (header_at w n) p.1 in ((l.found.exact n).0 p.0, b.0, b.1, read_to n b.0 b.2),
     λ s. and_from (is_found n v.found) (reads_with (nodes_of w) v n (header_of w.nodes n)) ((l.found.exact n).1 s.0) (ap (reads_with (nodes_of w) v n) s.2 ∙ read_from n s.1 s.3),
   )
 
   parent_to : (p : Option Name) → writes_at (nodes_of w) v.reach p ≡ true → (q : Name) × (a : Header) × (p ≡ Some q) × (header_at w q ≡ Some a) × Could S w a Write
-  parent_to None e = absurd (true≢false (sym e))
-  parent_to (Some q) e = go (header_at w q) refl e
-    where
-      go : (o : Option Header) → header_at w q ≡ o → could_write v.reach o ≡ true → (z : Name) × (a : Header) × (Some q ≡ Some z) × (header_at w z ≡ Some a) × Could S w a Write
-      go None is t = absurd (true≢false (sym t))
-      go (Some a) is t = (q, a, refl, is, (could a Write).0 t)
+  parent_to p e =
+      let q = tested (writes_at (nodes_of w) v.reach) refl p e in
+      let a = tested (could_write v.reach) refl (header_at w q.0) q.2 in
+      (q.0, a.0, q.1, a.1, (could a.0 Write).0 a.2)
 
-  empty_to : (n : Name) (o : Option Header) → header_at w n ≡ o → tells_empty (nodes_of w) v n o ≡ true → (h : Header) × (header_at w n ≡ Some h) × (h.kind ≡ Dir) × SeesEmpty S w n h
-  empty_to n None is e = absurd (true≢false (sym e))
-  empty_to n (Some h) is e =
+  empty_to : (n : Name) (h : Header) → tells_empty (nodes_of w) v n (Some h) ≡ true → (h.kind ≡ Dir) × SeesEmpty S w n h
+  empty_to n h e =
       let p = and_parts (is_dir h.kind) (reads_with (nodes_of w) v n (Some h) || writes_at (nodes_of w) v.reach h.parent) e in (
-        h,
-        is,
         dir_kind h.kind p.0,
         elim (or_cases (reads_with (nodes_of w) v n (Some h)) (writes_at (nodes_of w) v.reach h.parent) p.1) [
           | inl body ↦ ByBody (read_to n h body)
@@ -356,7 +324,8 @@ module _ (S : ℕ → Bool) (w : World) (v : Sight) (l : Looks S w v) where
   empty_seen : (n : Name) → (sees_with (nodes_of w) v (seen.Empty n) ≡ true) ↔ Sees S w (part_of (seen.Empty n))
   empty_seen n = (
     λ e. let p = and_parts (is_found n v.found) (tells_empty (nodes_of w) v n (header_of w.nodes n)) e in
-        let b = empty_to n (header_at w n) refl p.1 in ((l.found.exact n).0 p.0, b.0, b.1, b.2, b.3),
+        let b = tested (tells_empty (nodes_of w) v n) refl (header_at w n) p.1 in
+        let d = empty_to n b.0 b.2 in ((l.found.exact n).0 p.0, b.0, b.1, d.0, d.1),
     λ s. and_from (is_found n v.found) (tells_empty (nodes_of w) v n (header_of w.nodes n)) ((l.found.exact n).1 s.0)
         (ap (tells_empty (nodes_of w) v n) s.2
         ∙ and_from (is_dir s.1.kind) (reads_with (nodes_of w) v n (Some s.1) || writes_at (nodes_of w) v.reach s.1.parent) (ap is_dir s.3) (empty_from n s.1 s.4)),
@@ -393,15 +362,12 @@ module _ (S : ℕ → Bool) (w : World) (v : Sight) (l : Looks S w v) where
   sends_from s i is (ByNode n sees home may) = or_left (is_in s v.sendable) (is_in s v.rights.controlled) ((l.sendable s).1 (n, sees, inl (i, home, is, may)))
   sends_from s i is (BySeat n h sees seat there own) = or_left (is_in s v.sendable) (is_in s v.rights.controlled) ((l.sendable s).1 (n, sees, inr (h, seat, there, own)))
 
-  users_to : (s : Name) (o : Option ServerInfo) → server_at w s ≡ o → s ≢ boot_name → is_some o ≡ true → (is_in s v.sendable || is_in s v.rights.controlled) ≡ true → MaySend S w s
-  users_to s None is other there e = absurd (true≢false (sym there))
-  users_to s (Some i) is other there e = record { info = i; is_server = is; other = other; why = sends_to s i is e }
-
   users_seen : (s : Name) → (sees_with (nodes_of w) v (seen.Users s) ≡ true) ↔ MaySend S w s
   users_seen s = (
     λ e. let p = and_parts (not (same_name s boot_name)) (is_some (fin.get w.servers s) && (is_in s v.sendable || is_in s v.rights.controlled)) e in
         let q = and_parts (is_some (fin.get w.servers s)) (is_in s v.sendable || is_in s v.rights.controlled) p.1 in
-        users_to s (server_at w s) refl (apart_if_not_same s boot_name (not-true (same_name s boot_name) p.0)) q.0 q.1,
+        let i = tested is_some refl (server_at w s) q.0 in
+        record { info = i.0; is_server = i.1; other = apart_if_not_same s boot_name (not-true (same_name s boot_name) p.0); why = sends_to s i.0 i.1 q.1 },
     λ m. and_from (not (same_name s boot_name)) (is_some (fin.get w.servers s) && (is_in s v.sendable || is_in s v.rights.controlled)) (ap not (same_name-apart s boot_name m.other))
         (and_from (is_some (fin.get w.servers s)) (is_in s v.sendable || is_in s v.rights.controlled) (ap is_some m.is_server) (sends_from s m.info m.is_server m.why)),
   )

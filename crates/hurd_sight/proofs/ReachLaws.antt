@@ -188,56 +188,37 @@ gathered ts tasks a b no_uid no_gid g = record {
 pub none_listed : (ks : List ℕ) → ks ≡ [] → (u : ℕ) → set.contains (set.from_list {R = nat_cmp} ks) u ≡ false
 none_listed ks e u = ap (λ (xs : List ℕ). set.contains (set.from_list {R = nat_cmp} xs) u) e ∙ set.contains-empty nat_cmp u
 
--- where uid 0 is held, any server could be served
-pub serves_zero : (ids served : IdSets) (b : Bool) → b ≡ true → b ≡ holds_uid ids 0 → (b ≡ true) ↔ Serves ids served
-serves_zero ids served b is e = (λ h. (0, sym e ∙ is, inr refl), λ s. is)
+-- uids that are a server's serve it where one of them is held, or 0
+serves_by : (ids served : IdSets) (us : List ℕ) → ((u : ℕ) → holds_uid served u ≡ is_among us u) → ((holds_uid ids 0 || list_any (holds_uid ids) us) ≡ true) ↔ Serves ids served
+serves_by ids served us same = (to, from)
+  where
+    to : (holds_uid ids 0 || list_any (holds_uid ids) us) ≡ true → Serves ids served
+    to is = elim (or_cases (holds_uid ids 0) (list_any (holds_uid ids) us) is) [
+      | inl root ↦ (0, root, inr refl)
+      | inr any ↦ let it = any_found (holds_uid ids) us any in (it.0, it.2, inl (same it.0 ∙ any_among (λ (y : ℕ). nat_eq y it.0) it.0 us it.1 (nat_eq-itself it.0)))
+    ]
 
--- else one of its uids has to be
+    from : Serves ids served → (holds_uid ids 0 || list_any (holds_uid ids) us) ≡ true
+    from (u, holds, inr root) = or_left (holds_uid ids 0) (list_any (holds_uid ids) us) (ap (holds_uid ids) (sym root) ∙ holds)
+    from (u, holds, inl has) =
+        let it = any_found (λ (y : ℕ). nat_eq y u) us (sym (same u) ∙ has) in
+        or_right (holds_uid ids 0) (list_any (holds_uid ids) us) (any_among (holds_uid ids) it.0 us it.1 (ap (holds_uid ids) (nat_eq-is it.0 u it.2) ∙ holds))
+
+-- where uid 0 isn't held, one of a server's has to be
 pub serves_one : (ids served : IdSets) (us : List ℕ) (b : Bool) → set.from_list {R = nat_cmp} us ≡ served.uids → holds_uid ids 0 ≡ false → b ≡ list_any (holds_uid ids) us
     → (b ≡ true) ↔ Serves ids served
-serves_one ids served us b same zeroless e = (to, from)
-  where
-    among_them : (u : ℕ) → holds_uid served u ≡ is_among us u
-    among_them u = ap (λ (s : IdSet). set.contains s u) (sym same) ∙ set.contains-from_list_nat us u
-
-    to : b ≡ true → Serves ids served
-    to is =
-        let found = any_found (holds_uid ids) us (sym e ∙ is) in
-        (found.0, found.2, inl (among_them found.0 ∙ any_among (λ (y : ℕ). nat_eq y found.0) found.0 us found.1 (nat_eq-itself found.0)))
-
-    by_uid : (u : ℕ) → holds_uid ids u ≡ true → holds_uid served u ≡ true → b ≡ true
-    by_uid u held theirs =
-        let found = any_found (λ (y : ℕ). nat_eq y u) us (sym (among_them u) ∙ theirs) in
-        e ∙ any_among (holds_uid ids) found.0 us found.1 (ap (holds_uid ids) (nat_eq-is found.0 u found.2) ∙ held)
-
-    from : Serves ids served → b ≡ true
-    from s = elim s.2 [
-      | inl theirs ↦ by_uid s.0 s.1 theirs
-      | inr zero_is ↦ absurd (true≢false (sym (ap (holds_uid ids) (sym zero_is) ∙ s.1) ∙ zeroless))
-    ]
+serves_one ids served us b same zeroless e =
+    let by = serves_by ids served us (λ u. ap (λ (s : IdSet). set.contains s u) (sym same) ∙ set.contains-from_list_nat us u) in
+    let told : b ≡ (holds_uid ids 0 || list_any (holds_uid ids) us) = rw zeroless e in
+    (λ is. by.0 (sym told ∙ is), λ s. told ∙ by.1 s)
 
 -- one of a server's uids is held, or 0 is, exactly where the test says so
 pub serves_is : (ids served : IdSets) → (serves ids served ≡ true) ↔ Serves ids served
-serves_is ids served = (to, from)
+serves_is ids served = serves_by ids served (set.items served.uids) (λ u. set.contains-items served.uids u ∙ tied u (set.items served.uids))
   where
-    here : (u : ℕ) → holds_uid served u ≡ list_any (eq_by_cmp nat_cmp u) (set.items served.uids)
-    here u = set.contains-items served.uids u
-
-    to : serves ids served ≡ true → Serves ids served
-    to is = elim (or_cases (holds_uid ids 0) (list_any (holds_uid ids) (set.items served.uids)) is) [
-      | inl root ↦ (0, root, inr refl)
-      | inr any ↦
-          let it = any_found (holds_uid ids) (set.items served.uids) any in
-          (it.0, it.2, inl (here it.0 ∙ any_among (eq_by_cmp nat_cmp it.0) it.0 (set.items served.uids) it.1 (unsigned_tied it.0 it.0 ∙ nat_eq-itself it.0)))
-    ]
-
-    from : Serves ids served → serves ids served ≡ true
-    from (u, holds, inr root) = or_left (holds_uid ids 0) (list_any (holds_uid ids) (set.items served.uids)) (ap (holds_uid ids) (sym root) ∙ holds)
-    from (u, holds, inl has) =
-        let it = any_found (eq_by_cmp nat_cmp u) (set.items served.uids) (sym (here u) ∙ has) in
-        let same : u ≡ it.0 = nat_eq-is u it.0 (sym (unsigned_tied u it.0) ∙ it.2) in
-        or_right (holds_uid ids 0) (list_any (holds_uid ids) (set.items served.uids))
-        (any_among (holds_uid ids) it.0 (set.items served.uids) it.1 (ap (holds_uid ids) (sym same) ∙ holds))
+    tied : (u : ℕ) (us : List ℕ) → list_any (eq_by_cmp nat_cmp u) us ≡ is_among us u
+    tied u [] = refl
+    tied u (y ∷ us) = let turned : nat_eq u y ≡ nat_eq y u = grind (arith, nat_tests) in ap₂ (λ (a b : Bool). a || b) (unsigned_tied u y ∙ turned) (tied u us)
 
 -- by what is reached: who owns a node, and which servers could be served
 

@@ -3,6 +3,7 @@ use Rattle.std.specs.Prelude.{◌≡◌, ◌⊎◌, ◌↔◌, ℕ, suc, ◌&&�
 use Rattle.std.specs.List.{flat_map, list_any}
 use Rattle.std.specs.Option.{option_map}
 use Rattle.std.specs.FinMap as fin
+use Rattle.hurd_nodes.specs.Held.{home_in, active_in}
 use Rattle.hurd_creds.specs.declared.name.Name.{Name}
 use Rattle.hurd_creds.specs.declared.name.TaskId.{TaskId}
 use Rattle.hurd_creds.specs.declared.attrs.Kind.TheVariants.{Dir}
@@ -126,7 +127,7 @@ of_parent h d = with_why (parent_in (header_of h.nodes d)) (why.Parent d)
 
 -- the root of the server that is active on a node
 abbrev pub of_active : NodeState → Name → List (Name × Why)
-of_active h m = with_why (option_and_then (root_of h) (fin.get h.actives m)) (why.Active m)
+of_active h m = with_why (option_and_then (root_of h) (active_in h.sites m)) (why.Active m)
 
 -- the root of a server that could be served
 abbrev pub root_served : IdSets → ServerInfo → Option Name
@@ -137,7 +138,7 @@ served_root h ids s = option_and_then (root_served ids) (fin.get h.servers s)
 
 -- the root of a node's server, where that could be served
 abbrev pub of_server : NodeState → IdSets → Name → List (Name × Why)
-of_server h ids m = with_why (option_and_then (served_root h ids) (fin.get h.homes m)) (why.ServerRoot m)
+of_server h ids m = with_why (option_and_then (served_root h ids) (home_in h.sites m)) (why.ServerRoot m)
 
 -- all that are in a list, if there is one
 abbrev pub all_of : Option (List Name) → List Name
@@ -155,7 +156,7 @@ of_target m n = (n, why.Target m) ∷ []
 
 -- the targets of a node's server, and of the one that is active on it
 abbrev pub of_targets : NodeState → Name → List (Name × Why)
-of_targets h m = flat_map (of_target m) (targets_of h (fin.get h.homes m)) ++ flat_map (of_target m) (targets_of h (fin.get h.actives m))
+of_targets h m = flat_map (of_target m) (targets_of h (home_in h.sites m)) ++ flat_map (of_target m) (targets_of h (active_in h.sites m))
 
 -- what a seen node shows to those who can act with these ids
 abbrev pub of_node : NodeState → IdSets → Name → List (Name × Why)

@@ -2,6 +2,7 @@
 use Rattle.std.specs.Prelude.{◌≡◌, ◌⊎◌, ◌↔◌, ℕ, Bool, true, false, List, [], ◌∷◌, ◌++◌, if◌then◌else◌, Option, Some, None, slice_get}
 use Rattle.std.specs.List.{flat_map, list_any}
 use Rattle.std.specs.FinMap as fin
+use Rattle.hurd_nodes.specs.Held.{home_in, active_in}
 use Rattle.hurd_creds.specs.declared.name.Name.{Name}
 use Rattle.hurd_creds.specs.declared.name.TaskId.{TaskId}
 use Rattle.hurd_creds.specs.Access.{IdSets, owns}
@@ -129,7 +130,7 @@ at_entry f (Some e) = f e.0
 
 -- the server of a node, and the one that is active on it
 abbrev pub known_at : NodeState → Name → List Name
-known_at h n = maybe_named (fin.get h.homes n) ++ maybe_named (fin.get h.actives n)
+known_at h n = maybe_named (home_in h.sites n) ++ maybe_named (active_in h.sites n)
 
 -- a server, where it is there and could be served with one of these uids
 abbrev pub served_by : IdSets → Name → Option ServerInfo → List Name
@@ -147,7 +148,7 @@ owned_by ids (Some x) active = if owns ids (bare x) then maybe_named active else
 
 -- the servers of a node that may be sent away
 abbrev pub sendable_at : NodeState → IdSets → Name → List Name
-sendable_at h ids n = served_in h ids (fin.get h.homes n) ++ owned_by ids (header_of h.nodes n) (fin.get h.actives n)
+sendable_at h ids n = served_in h ids (home_in h.sites n) ++ owned_by ids (header_of h.nodes n) (active_in h.sites n)
 
 -- those of all found nodes, one after another
 abbrev pub of_found : (Name → List Name) → List (Name × Why) → List Name

@@ -7,6 +7,7 @@ ghost use Rattle.hurd_creds.specs.declared.name.Name.{Name};
 ghost use Rattle.hurd_creds.specs.declared.name.TaskId.{TaskId};
 ghost use Rattle.hurd_creds.specs.Memory.{is_no_memory};
 ghost use Rattle.hurd_trans_iface.specs.Nodes.{body_of, header_of, is_dir};
+ghost use Rattle.hurd_nodes.specs.Held.{home_in};
 ghost use Rattle.hurd_nodes.specs.Shown.{shown};
 ghost use Rattle.hurd_ports.specs.Seats.{seat_task};
 ghost use Rattle.hurd_ports.specs.Tables.{rights_of, start_of};
@@ -453,7 +454,7 @@ fn parent_of<S: Server>(nodes: &Nodes<S>, node: NodeName) -> Option<NodeName>
 
 /// The root of a node's server, if that is there, and could be served with one of these uids.
 fn served_root<S: Server>(nodes: &Nodes<S>, reach: &Reach, node: NodeName) -> Option<NodeName>
-    ensures { result ≡ option_and_then (served_root (shown S.meaning nodes.now) reach.now) (fin.get (shown S.meaning nodes.now).homes node) }
+    ensures { result ≡ option_and_then (served_root (shown S.meaning nodes.now) reach.now) (home_in (shown S.meaning nodes.now).sites node) }
 {
     let server = nodes.home(node)?;
     let ids = nodes.ids_of(server)?;

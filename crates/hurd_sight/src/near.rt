@@ -2,6 +2,7 @@
 ghost use Rattle.std.specs.Prelude.{◌≡◌, [], if◌then◌else◌, IfOk, OnOk, slice_get};
 ghost use Rattle.std.specs.FinMap as fin;
 ghost use Rattle.hurd_trans_iface.specs.Nodes.{header_of};
+ghost use Rattle.hurd_nodes.specs.Held.{active_in, home_in};
 ghost use Rattle.hurd_nodes.specs.Shown.{shown};
 ghost use Rattle.hurd_sight.specs.Reach.{Gathers};
 ghost use Rattle.hurd_sight.specs.Found.{FoundAll};
@@ -170,7 +171,7 @@ fn add_served<S: Server>(
     reach: &Reach,
     node: NodeName,
 ) -> Result<(), AllocError>
-    ensures { OnOk result (names.new ≡ named (served_in (shown S.meaning nodes.now) reach.now (fin.get (shown S.meaning nodes.now).homes node)) names.old) }
+    ensures { OnOk result (names.new ≡ named (served_in (shown S.meaning nodes.now) reach.now (home_in (shown S.meaning nodes.now).sites node)) names.old) }
 {
     let Some(server) = nodes.home(node) else {
         return Ok(());
@@ -188,7 +189,7 @@ fn add_owned<S: Server>(
     reach: &Reach,
     node: NodeName,
 ) -> Result<(), AllocError>
-    ensures { OnOk result (names.new ≡ named (owned_by reach.now (header_of (shown S.meaning nodes.now).nodes node) (fin.get (shown S.meaning nodes.now).actives node)) names.old) }
+    ensures { OnOk result (names.new ≡ named (owned_by reach.now (header_of (shown S.meaning nodes.now).nodes node) (active_in (shown S.meaning nodes.now).sites node)) names.old) }
 {
     let Some(attrs) = nodes.attrs(node) else {
         return Ok(());

@@ -9,23 +9,23 @@ use Rattle.hurd_creds.specs.Names.{name_cmp, same_name}
 use Rattle.hurd_creds.specs.declared.name.Name.{Name}
 use Rattle.hurd_creds.specs.declared.attrs.Kind.{Kind}
 use Rattle.hurd_creds.specs.declared.errno.Errno.{Errno}
-use Rattle.hurd_creds.specs.declared.open_flags.OpenFlags.{OpenFlags}
 use Rattle.hurd_creds.specs.declared.errno.Errno.TheVariants.{ENOTDIR, EROFS}
-use Rattle.hurd_creds.proofs.NameLaws.{equal_if_same, apart_if_not_same, same_or_apart, same_map_by, get_here, get_apart, remove_here, remove_apart, insert-insert, edit_found, edit_absent}
+use Rattle.hurd_creds.proofs.NameLaws.{equal_if_same, apart_if_not_same, same_or_apart, same_map_by, get_here, get_apart, remove_here, remove_apart, insert-insert}
 use Rattle.hurd_creds.proofs.MapLaws.{map_values-empty, map_values-insert}
 use Rattle.hurd_creds.proofs.StepLaws.{steps-inside, steps-refused}
+use Rattle.hurd_trans_iface.specs.declared.header_edit.HeaderEdit.{HeaderEdit}
 use Rattle.hurd_trans_iface.specs.declared.new_node.NewNode.{NewNode}
-use Rattle.hurd_trans_iface.specs.Nodes.{AllListed, Body, Node, NodeMap, Edit, body_of, is_dir, is_entered_at, Header, counting, opened_by, closed_by, passive_of, with_header, with_size}
-use Rattle.hurd_trans_iface.specs.Answers.{entry_of, make_of, make_edits, link_of, link_edits, unlink_of, unlink_edits, rename_of, rename_edits, edits_if}
-use Rattle.hurd_trans_iface.specs.Meaning.{Meaning, ServerKind, behaviour_of, root_of, keeps_tree, empty_body, new_root, begin_root_after, edited, step_of, options_taken, set_options_step, size_of, make_step, link_step, unlink_step, rename_step, forget_after, counts_opens, opened_after, closed_after}
+use Rattle.hurd_trans_iface.specs.Nodes.{AllListed, Body, Node, NodeMap, Edit, body_of, is_dir, is_entered_at, passive_of, with_header, with_size}
+use Rattle.hurd_trans_iface.specs.Answers.{entry_of, make_of, make_edits, link_of, link_edits, unlink_of, unlink_edits, rename_of, rename_edits, edits_if, header_edited}
+use Rattle.hurd_trans_iface.specs.Meaning.{Meaning, ServerKind, behaviour_of, root_of, keeps_tree, empty_body, new_root, begin_root_after, edited, step_of, options_taken, set_options_step, size_of, make_step, link_step, unlink_step, rename_step, forget_after, edits_header, edit_header_step}
 use Rattle.hurd_trans_iface.specs.Behaviour.{Effect, Question, told_of, served}
 use Rattle.hurd_trans_iface.specs.Good.{KeepsRoot}
 use Rattle.hurd_trans_iface.proofs.Goods.{good}
-use Rattle.hurd_trans_iface.proofs.NodeSteps.{step-node, told-here, with_nodes}
+use Rattle.hurd_trans_iface.proofs.NodeSteps.{header-here, step-node, told-here}
 use Rattle.hurd_small.specs.declared.presence.LoneNode.{LoneNode}
 use Rattle.hurd_small.specs.declared.presence.Presence.{Presence}
 use Rattle.hurd_small.specs.declared.presence.Presence.TheVariants.{Nameless, There, Forgotten}
-use Rattle.hurd_small.specs.Lone.{Kept, nothing_kept, opened_kept, closed_kept, filled, body_with, node_of, nodes_of, root_name, lone_meaning, barred_by, text_taken}
+use Rattle.hurd_small.specs.Lone.{Kept, nothing_kept, filled, body_with, node_of, nodes_of, root_name, lone_meaning, barred_by, text_taken}
 
 -- maps of one value, and of none
 
@@ -285,25 +285,9 @@ module _ (kind : ServerKind) (text : List ℕ) (held : Kept) (p : Presence) (r :
         subst (λ (t : List ℕ). Steps (node_of kind text held r) (served effect (node_of kind text held r)) got (node_of kind t new r) → Steps meaning (step_of q n meaning) got (lone_meaning kind t new p)) (sym same)
         (λ steps. step-node meaning n (node_of kind text held r) at-there q got (node_of kind text new r) (nodes_of kind text new p) steps (nodes-kept new))
 
-  -- a change of how many opens there are is an edit of the node's header, where they are counted
-  recounted : (new : Bool → Kept) (f : Header → Header) → new false ≡ held → node_of kind text (new true) r ≡ with_header f (node_of kind text held r)
-      → (counted : Bool) → lone_meaning kind text (new counted) p ≡ edited (counting counted n f) meaning
-  recounted new f same once false = ap (λ (k : Kept). lone_meaning kind text k p) same
-  recounted new f same once true =
-      ap (with_nodes meaning)
-      (nodes-kept (new true)
-      ∙ ap (λ (x : Node). fin.insert (nodes_of kind text held p) n x) once
-      ∙ sym (edit_found (nodes_of kind text held p) n (with_header f) (node_of kind text held r) at-there))
-
-  pub opened-kept : (modes : OpenFlags) (same_text : List ℕ) (new : Kept) → same_text ≡ text → new ≡ opened_kept (counts_opens kind) modes held
-      → lone_meaning kind same_text new p ≡ opened_after n modes meaning
-  opened-kept modes same_text new same is = rw (same, is) (recounted (λ counted. opened_kept counted modes held) (opened_by modes) refl refl (counts_opens kind))
-
-  pub closed-kept : (modes : OpenFlags) (same_text : List ℕ) (new : Kept) → same_text ≡ text → new ≡ closed_kept (counts_opens kind) modes held
-      → lone_meaning kind same_text new p ≡ closed_after n modes meaning
-  closed-kept modes same_text new same is = rw (same, is) (recounted (λ counted. closed_kept counted modes held) (closed_by modes) refl refl (counts_opens kind))
-
--- nothing counts the opens of a node that isn't there
-pub uncounted : (counted : Bool) (m : Meaning) (n : Name) (f : Header → Header) → fin.get m.nodes n ≡ None → m ≡ edited (counting counted n f) m
-uncounted false m n f absent = refl
-uncounted true m n f absent = ap (with_nodes m) (sym (edit_absent m.nodes n (with_header f) absent))
+  -- an edit of what the node's header says
+  pub header-kept : (e : HeaderEdit) (got : Result (Unit {0}) Errno) (same_text : List ℕ) (new : Kept) → same_text ≡ text → (got, node_of kind same_text new r) ≡ header_edited (edits_header kind e) e (node_of kind text held r)
+      → (got, lone_meaning kind same_text new p) ≡ edit_header_step n e meaning
+  header-kept e got same_text new same =
+      subst (λ (t : List ℕ). (got, node_of kind t new r) ≡ header_edited (edits_header kind e) e (node_of kind text held r) → (got, lone_meaning kind t new p) ≡ edit_header_step n e meaning) (sym same)
+      (λ edited. header-here meaning n (node_of kind text held r) at-there e got (node_of kind text new r) (nodes_of kind text new p) edited (nodes-kept new))

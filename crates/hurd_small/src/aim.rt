@@ -28,9 +28,8 @@ impl Single for Aim {
 
     fn root(&self) -> Root {
         Root {
-            kind: Kind::File,
-            is_stream: false,
             crossing: Crossing::Firm,
+            ..Root::plain(Kind::File)
         }
     }
 

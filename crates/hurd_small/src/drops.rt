@@ -7,7 +7,7 @@ ghost use Rattle.hurd_small.specs.Lone.{bytes_kept};
 use crate::keeper::Keeper;
 use crate::words::no_options;
 use hurd_creds::{Bytes, Errno, Kind, MOST_SIZE, OpenFlags};
-use hurd_trans_iface::{Crossing, Names, Root, Words};
+use hurd_trans_iface::{Names, Root, Words};
 use std::alloc::Global;
 
 /// The most bytes that a drip has, all of them.
@@ -39,9 +39,8 @@ impl Keeper for Drops {
 
     fn root(&self) -> Root {
         Root {
-            kind: Kind::File,
             is_stream: true,
-            crossing: Crossing::Plain,
+            ..Root::plain(Kind::File)
         }
     }
 

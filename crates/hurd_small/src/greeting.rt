@@ -7,7 +7,7 @@ use crate::contents::new_text;
 use crate::single::Single;
 use crate::text;
 use hurd_creds::{Bytes, Errno, Kind};
-use hurd_trans_iface::{Crossing, Names, Root, Words};
+use hurd_trans_iface::{Names, Root, Words};
 use std::alloc::Global;
 
 /// The text, which words can say.
@@ -28,11 +28,7 @@ impl Single for Greeting {
     ghost no_count = { refl };
 
     fn root(&self) -> Root {
-        Root {
-            kind: Kind::File,
-            is_stream: false,
-            crossing: Crossing::Plain,
-        }
+        Root::plain(Kind::File)
     }
 
     fn said(&self) -> &[u8] {

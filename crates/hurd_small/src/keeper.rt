@@ -1,13 +1,14 @@
 //! What a server of one node says itself, and what it keeps of the node.
 ghost use Rattle.std.specs.Prelude.{◌≡◌, ℕ, false, List, [], Ok};
 ghost use Rattle.hurd_creds.specs.Memory.{Meets, Steps};
+ghost use Rattle.hurd_trans_iface.specs.Answers.{header_edited};
 ghost use Rattle.hurd_trans_iface.specs.Behaviour.{served, told_of};
-ghost use Rattle.hurd_trans_iface.specs.Meaning.{ServerKind, behaviour_of, counts_opens, keeps_tree, options_of, root_of, targets_of};
+ghost use Rattle.hurd_trans_iface.specs.Meaning.{ServerKind, behaviour_of, counts_opens, edits_header, keeps_tree, options_of, root_of, targets_of};
 ghost use Rattle.hurd_small.specs.declared.presence.LoneNode.{LoneNode};
 ghost use Rattle.hurd_small.specs.Lone.{Kept, body_with, closed_kept, node_of, nothing_kept, opened_kept, text_taken};
 
 use hurd_creds::{Bytes, Errno, OpenFlags};
-use hurd_trans_iface::{Names, Root, Words};
+use hurd_trans_iface::{HeaderEdit, Names, Root, Words};
 use std::alloc::Global;
 
 /// What a server of one node says of it, and what it keeps: options change the one; reads, writes and opens the other. Nothing but options, and what says what
@@ -118,4 +119,23 @@ pub trait Keeper: Drop {
 
     // Nothing is made in it.
     ghost no_tree: { keeps_tree kind ≡ false };
+}
+
+/// Edits what the header of the node says: opens are counted, where its kind counts them, and nothing else changes.
+///
+/// Errors: `EOPNOTSUPP` no open and no close, or the kind doesn't count them.
+pub(crate) fn recount<K: Keeper>(keeper: &mut K, edit: HeaderEdit) -> Result<(), Errno>
+    ensures is { (n : LoneNode) → let x = node_of K.kind (K.text keeper.old) (K.held keeper.old) n in
+        (result, node_of K.kind (K.text keeper.new) (K.held keeper.new) n) ≡ header_edited (edits_header K.kind edit) edit x }
+    ensures text { K.text keeper.new ≡ K.text keeper.old }
+{
+    if !edit.is_made(false, keeper.counts()) {
+        return Err(Errno::EOPNOTSUPP);
+    }
+    match edit {
+        HeaderEdit::CountOpen(modes) => keeper.opened(modes),
+        HeaderEdit::CountClose(modes) => keeper.closed(modes),
+        HeaderEdit::SetAttrs { .. } | HeaderEdit::SetPassive(_) => {}
+    }
+    Ok(())
 }

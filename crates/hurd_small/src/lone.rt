@@ -5,10 +5,10 @@ ghost use Rattle.hurd_trans_iface.specs.Nodes.{is_dir};
 ghost use Rattle.hurd_trans_iface.specs.Meaning.{root_of};
 ghost use Rattle.hurd_small.specs.Lone.{barred_by, lone_meaning, nodes_of};
 
-use crate::keeper::Keeper;
+use crate::keeper::{Keeper, recount};
 use crate::presence::{LoneNode, Presence};
-use hurd_creds::{Attrs, Bytes, Errno, Mode, NodeName, OpenFlags};
-use hurd_trans_iface::{Names, NewNode, Root, Server, Words, is_dir};
+use hurd_creds::{Attrs, Bytes, Errno, Mode, NodeName};
+use hurd_trans_iface::{HeaderEdit, Names, NewNode, Root, Server, Words, is_dir};
 use std::alloc::Global;
 
 /// A server of one node, a directory without entries or no directory, of which nothing changes but its options, what it keeps of the node, and that it gets its name and is forgotten.
@@ -177,26 +177,13 @@ impl<K: Keeper> Server for Lone<K> {
         Err(self.bars(dir))
     }
 
-    fn set_attrs(
-        &mut self,
-        node: NodeName,
-        _owner: u32,
-        _group: u32,
-        _mode: Mode,
-    ) -> Result<(), Errno> {
-        match self.presence.find(node) {
-            Some(_) => Err(Errno::EOPNOTSUPP),
-            None => Err(Errno::EDIED),
-        }
-    }
-
     fn passive(&self, _node: NodeName) -> Option<&Words> {
         None
     }
 
-    fn set_passive(&mut self, node: NodeName, _words: Words) -> Result<(), Errno> {
+    fn edit_header(&mut self, node: NodeName, edit: HeaderEdit) -> Result<(), Errno> {
         match self.presence.find(node) {
-            Some(_) => Err(Errno::EOPNOTSUPP),
+            Some(_) => recount(&mut self.keeper, edit),
             None => Err(Errno::EDIED),
         }
     }
@@ -216,20 +203,6 @@ impl<K: Keeper> Server for Lone<K> {
 
     fn counts(&self) -> bool {
         self.keeper.counts()
-    }
-
-    fn opened(&mut self, node: NodeName, modes: OpenFlags) {
-        match self.presence.find(node) {
-            Some(_) => self.keeper.opened(modes),
-            None => {}
-        }
-    }
-
-    fn closed(&mut self, node: NodeName, modes: OpenFlags) {
-        match self.presence.find(node) {
-            Some(_) => self.keeper.closed(modes),
-            None => {}
-        }
     }
 
     fn goaway(&mut self) {}

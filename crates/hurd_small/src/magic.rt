@@ -62,9 +62,8 @@ impl Single for OwnPorts {
 
     fn root(&self) -> Root {
         Root {
-            kind: Kind::Link,
-            is_stream: false,
             crossing: Crossing::Link { absolute: true },
+            ..Root::plain(Kind::Link)
         }
     }
 

@@ -9,7 +9,7 @@ use crate::single::Single;
 use crate::still::Still;
 use crate::words::{is_alone, no_options};
 use hurd_creds::{Bytes, Errno, Kind};
-use hurd_trans_iface::{Crossing, Names, Root, Words};
+use hurd_trans_iface::{Names, Root, Words};
 use std::alloc::Global;
 
 /// A stream without bytes, which drops what it takes (the Hurd's `/hurd/null`).
@@ -50,9 +50,8 @@ impl Single for Nothing {
 
     fn root(&self) -> Root {
         Root {
-            kind: Kind::Char,
             is_stream: true,
-            crossing: Crossing::Plain,
+            ..Root::plain(Kind::Char)
         }
     }
 

@@ -8,7 +8,7 @@ use crate::keeper::Keeper;
 use crate::words::no_options;
 use arrayvec::ArrayVec;
 use hurd_creds::{Bytes, Errno, Kind, MOST_SIZE, OpenFlags};
-use hurd_trans_iface::{Crossing, Names, Root, Words};
+use hurd_trans_iface::{Names, Root, Words};
 use std::alloc::Global;
 
 /// The bytes between those who write and those who read, and how many do.
@@ -71,9 +71,8 @@ impl Keeper for Pipe {
 
     fn root(&self) -> Root {
         Root {
-            kind: Kind::Fifo,
             is_stream: true,
-            crossing: Crossing::Plain,
+            ..Root::plain(Kind::Fifo)
         }
     }
 

@@ -30,11 +30,10 @@ impl Single for Target {
 
     fn root(&self) -> Root {
         Root {
-            kind: Kind::Link,
-            is_stream: false,
             crossing: Crossing::Link {
                 absolute: is_absolute(self.path.as_slice()),
             },
+            ..Root::plain(Kind::Link)
         }
     }
 

@@ -9,7 +9,7 @@ use crate::single::Single;
 use crate::still::Still;
 use crate::words::{is_alone, no_options};
 use hurd_creds::{Bytes, Errno, Kind, MOST_READ};
-use hurd_trans_iface::{Crossing, Names, Root, Words};
+use hurd_trans_iface::{Names, Root, Words};
 use std::alloc::Global;
 
 /// A stream of zero bytes without end, which drops what it takes (the Hurd's `/hurd/zero`).
@@ -50,9 +50,8 @@ impl Single for Zeros {
 
     fn root(&self) -> Root {
         Root {
-            kind: Kind::Char,
             is_stream: true,
-            crossing: Crossing::Plain,
+            ..Root::plain(Kind::Char)
         }
     }
 

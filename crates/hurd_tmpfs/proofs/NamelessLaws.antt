@@ -1,5 +1,5 @@
 -- Which nodes an entry names, before and after changes of the nodes, and what is on a list.
-use Rattle.std.proofs.Common.{◌≡◌, ◌≢◌, inl, inr, ◌||◌, ℕ, Bool, true, false, true≢false, List, ◌∷◌, get_or, is_some, refl, ap, sym, ◌∙◌, if◌then◌else◌}
+use Rattle.std.proofs.Common.{◌≡◌, ◌≢◌, inl, inr, ◌||◌, ◌<◌, ◌-◌, min, ℕ, Bool, true, false, true≢false, List, ◌∷◌, get_or, is_some, refl, ap, sym, ◌∙◌, if◌then◌else◌}
 use Rattle.std.specs.Prelude.{Option, Some, None, IfSome, Result, Ok, Err, nat_lt, cond}
 use Rattle.std.specs.Option.{option_map}
 use Rattle.std.specs.Global.{Vec}
@@ -7,6 +7,9 @@ use Rattle.std.specs.List.{swap_remove}
 use Rattle.std.specs.FinMap as fin
 use Rattle.std.proofs.lemmas.List.{get_or_default}
 use Rattle.std.proofs.lemmas.List.Sorted.{IsPermutation-swap_remove, list_any-IsPermutation}
+use Rattle.slab.specs.Slab as slab
+use Rattle.slab.specs.Slab.{slab_len, with_value}
+use Rattle.indexmap.specs.IndexMap.{get, spare}
 use Rattle.hurd_creds.specs.Memory.{Steps, lacks_memory}
 use Rattle.hurd_creds.specs.Names.{name_cmp, same_name}
 use Rattle.hurd_creds.specs.NameMaps.{edit}
@@ -16,7 +19,13 @@ use Rattle.hurd_creds.proofs.NameLaws.{equal_if_same, same_name-apart, same_or_a
 use Rattle.hurd_trans_iface.specs.Nodes.{AllListed, Body, Header, Node, NodeMap, edit_all, is_dir, is_entered, is_entered_at, is_listed, linked, moved_to, unlinked, with_body, with_header}
 use Rattle.hurd_trans_iface.specs.Answers.{added, link_edits, move_edits, unlink_edits}
 use Rattle.hurd_trans_iface.specs.Behaviour.{Effect, left_by, served, size_left}
+use Rattle.hurd_tmpfs.specs.declared.inode.Inode.{Inode}
+use Rattle.hurd_tmpfs.specs.declared.inodes.Inodes.{Inodes}
 use Rattle.hurd_tmpfs.specs.Nameless.{IsAt, KeepsOthers, Relisted}
+use Rattle.hurd_tmpfs.specs.Room.{room}
+use Rattle.hurd_tmpfs.specs.Stored.{IsStored}
+use Rattle.hurd_tmpfs.specs.Tree.{node_of, nodes_in, nodes_of}
+use Rattle.hurd_tmpfs.proofs.StoredLaws.{stored-in, room-in, changed-in, found-in}
 
 -- lists
 
@@ -51,13 +60,6 @@ KeepsElse n m k = (q : Name) → q ≢ n → is_entered_at (fin.get m q) ≡ tru
 -- the same for each name
 abbrev pub Keeps : NodeMap → NodeMap → Type 0
 Keeps m k = (q : Name) → is_entered_at (fin.get m q) ≡ true → is_entered_at (fin.get k q) ≡ true
-
--- where another map is the same
-pub keeps-as : (m k l : NodeMap) → l ≡ k → Keeps m k → Keeps m l
-keeps-as m k l same keeps q h = rw same (keeps q h)
-
-pub else-as : (n : Name) (m k l : NodeMap) → l ≡ k → KeepsElse n m k → KeepsElse n m l
-else-as n m k l same keeps q apart h = rw same (keeps q apart h)
 
 edited-enters : (f : Node → Node) → ((x : Node) → is_entered x.header ≡ true → is_entered (f x).header ≡ true) → (o : Option Node) → is_entered_at o ≡ true → is_entered_at (option_map f o) ≡ true
 edited-enters f keeps None h = refl
@@ -121,13 +123,9 @@ move-else dir name to new n (Some r) p m is = λ q apart h.
     header-keeps n (moved_to to) _ (moved-enters to) q
     (body-keeps to _ _ q (edit-else r (with_header unlinked) _ q (λ f. apart (f ∙ e)) (body-keeps to _ _ q (body-keeps dir _ m q h))))
 
-left-header : (s : Option ℕ) (h : Header) → is_entered (size_left s h) ≡ is_entered h
-left-header None h = refl
-left-header (Some k) h = refl
-
 -- what is done to bytes and sizes
-pub left-entered : {T : Type 0} (e : Effect T) (x : Node) → is_entered (left_by e x).header ≡ is_entered x.header
-left-entered (Ok d) x = left-header d.size x.header
+left-entered : {T : Type 0} (e : Effect T) (x : Node) → is_entered (left_by e x).header ≡ is_entered x.header
+left-entered (Ok d) x = elim d.size as (λ s. is_entered (size_left s x.header) ≡ is_entered x.header) [ None ↦ refl | Some k ↦ refl ]
 left-entered (Err e) x = refl
 
 -- such a call
@@ -149,18 +147,28 @@ before true b keeps h = absurd (true≢false (sym (keeps refl) ∙ h))
 before false b keeps h = refl
 
 -- a list stays right where entered nodes stay entered
-pub list-kept : (m k : NodeMap) (o : Option (Vec Name)) → Keeps m k → IsListOf m o → IsListOf k o
-list-kept m k None keeps list = tt
-list-kept m k (Some ns) keeps list = λ q nameless. list q (before (is_entered_at (fin.get m q)) (is_entered_at (fin.get k q)) (keeps q) nameless)
+pub list-kept : (m k l : NodeMap) (o : Option (Vec Name)) → l ≡ k → Keeps m k → IsListOf m o → IsListOf l o
+list-kept m k l None same keeps list = tt
+list-kept m k l (Some ns) same keeps list = λ q nameless. list q (before (is_entered_at (fin.get m q)) (is_entered_at (fin.get k q)) (keeps q) (rw same at nameless))
 
 -- and where one node was looked at, and the others stay entered
-pub list-after : (n : Name) (m k : NodeMap) (old new : Option (Vec Name)) → KeepsElse n m k → IsListOf m old → Relisted k n old new → IsListOf k new
-list-after n m k old None keeps list looked = tt
-list-after n m k None (Some ns) keeps list looked = absurd looked
-list-after n m k (Some os) (Some ns) keeps list looked = λ q nameless. elim (same_or_apart q n) [
+pub list-after : (n : Name) (m k l : NodeMap) (old new : Option (Vec Name)) → l ≡ k → KeepsElse n m k → IsListOf m old → Relisted l n old new → IsListOf l new
+list-after n m k l old None same keeps list looked = tt
+list-after n m k l None (Some ns) same keeps list looked = absurd looked
+list-after n m k l (Some os) (Some ns) same keeps list looked = λ q nameless. elim (same_or_apart q n) [
   | inl e ↦ rw e (looked.1 (rw e at nameless))
-  | inr apart ↦ looked.0 q apart (list q (before (is_entered_at (fin.get m q)) (is_entered_at (fin.get k q)) (keeps q apart) nameless))
+  | inr apart ↦ looked.0 q apart (list q (before (is_entered_at (fin.get m q)) (is_entered_at (fin.get k q)) (keeps q apart) (rw same at nameless)))
 ]
+
+-- a tree of which a node changes in its slot, and stays entered
+module _ (t : Inodes) (n : Name) (k : ℕ) (x : Inode) (at : Some k ≡ get same_name t.keys n) (is : slab.get t.slots k ≡ Some x) (root : Option Name) (o : Option (Vec Name)) where
+  pub tree-kept : (root ≡ None → 0 < room t) → IsListOf (nodes_of t) o → (y : Inode) → (is_entered (node_of x).header ≡ true → is_entered (node_of y).header ≡ true)
+      → (IsStored (with_value t.slots k y) t.keys × Unit {0})
+      × ((root ≡ None → 0 < min ((with_value t.slots k y).capacity - slab_len (with_value t.slots k y)) (spare t.keys)) × (IsListOf (nodes_in (with_value t.slots k y) t.keys) o × Unit {0}))
+  tree-kept free list y keeps = (
+    ((stored-in t n k x at is y).stored, tt),
+    (λ none. rw (room-in t n k x at is y) (free none), (list-kept (nodes_of t) _ _ o (changed-in t n k x at is y) (insert-keeps n (node_of x) (node_of y) (nodes_of t) (found-in t n k x at is) keeps) list, tt)),
+  )
 
 -- of no nodes
 pub list-nothing : (m : NodeMap) (ns : List Name) → m ≡ fin.empty → AllListed m ns

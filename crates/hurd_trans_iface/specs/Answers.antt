@@ -4,16 +4,17 @@ use Rattle.std.specs.Str.{bytes_eq}
 use Rattle.std.specs.Option.{option_map}
 use Rattle.hurd_creds.specs.declared.name.Name.{Name}
 use Rattle.hurd_creds.specs.Names.{same_name}
-use Rattle.hurd_creds.specs.declared.mode.Mode.{Mode}
 use Rattle.hurd_creds.specs.declared.attrs.Kind.{Kind}
 use Rattle.hurd_creds.specs.declared.attrs.Kind.TheVariants.{File, Dir}
 use Rattle.hurd_creds.specs.declared.errno.Errno.{Errno}
 use Rattle.hurd_creds.specs.declared.errno.Errno.TheVariants.{EEXIST, ENOENT, EXDEV, ENOTDIR, EISDIR, EROFS, EOPNOTSUPP, EDIED, EOVERFLOW}
+use Rattle.hurd_trans_iface.specs.declared.header_edit.HeaderEdit.{HeaderEdit}
+use Rattle.hurd_trans_iface.specs.declared.header_edit.HeaderEdit.TheVariants.{SetAttrs, SetPassive, CountOpen, CountClose}
 use Rattle.hurd_trans_iface.specs.declared.new_node.NewNode.{NewNode}
 use Rattle.hurd_trans_iface.specs.declared.root.Root.{Root}
 use Rattle.hurd_trans_iface.specs.declared.root.Crossing.{Crossing}
 use Rattle.hurd_trans_iface.specs.declared.root.Crossing.TheVariants.{Plain, Link, Firm, Union}
-use Rattle.hurd_trans_iface.specs.Nodes.{Entry, Body, Content, Listing, Node, Edit, OnHeader, OnBody, AddNode, is_dir, linked, unlinked, moved_to, with_attrs, with_passive, with_entry, without_entry, new_file, new_dir, with_header}
+use Rattle.hurd_trans_iface.specs.Nodes.{Entry, Header, Body, Content, Listing, Node, Edit, OnHeader, OnBody, AddNode, is_dir, linked, unlinked, moved_to, with_attrs, with_passive, opened_by, closed_by, with_entry, without_entry, new_file, new_dir, with_header}
 
 -- the node of the first entry of this name
 abbrev pub entry_in : List ℕ → List Entry → Option Name
@@ -154,17 +155,33 @@ abbrev pub rename_edits : Name → List ℕ → Name → List ℕ → Option Nam
 rename_edits dir name to new None m = []
 rename_edits dir name to new (Some n) m = if is_one n m then [] else move_edits dir name to new n m
 
--- whether what the header of a node says may be set, its owner, group and mode, and the words of its passive translator, where its server
--- keeps a tree or doesn't: in trees it may
+-- the header after an edit of it
+abbrev pub header_after : HeaderEdit → Header → Header
+header_after (SetAttrs owner group mode) = with_attrs owner group mode
+header_after (SetPassive words) = with_passive words
+header_after (CountOpen modes) = opened_by modes
+header_after (CountClose modes) = closed_by modes
+
+-- whether a server makes such an edit: owner, group and mode, and the words of a passive translator, are for one that keeps a tree, and
+-- opens for one that counts them
+abbrev pub makes_edit : Bool → Bool → HeaderEdit → Bool
+makes_edit keeps counts (SetAttrs owner group mode) = keeps
+makes_edit keeps counts (SetPassive words) = keeps
+makes_edit keeps counts (CountOpen modes) = counts
+makes_edit keeps counts (CountClose modes) = counts
+
+-- whether the header of a node may be edited, where its server makes such edits or doesn't
 abbrev pub set_header_of : Bool → Option Node → Result (Unit {0}) Errno
-set_header_of keeps None = Err EDIED
-set_header_of keeps (Some x) = if keeps then Ok tt else Err EOPNOTSUPP
+set_header_of makes None = Err EDIED
+set_header_of makes (Some x) = if makes then Ok tt else Err EOPNOTSUPP
 
-abbrev pub set_attrs_edits : Name → ℕ → ℕ → Mode → List Edit
-set_attrs_edits n owner group mode = OnHeader n (with_attrs owner group mode) ∷ []
+abbrev pub header_edits : Name → HeaderEdit → List Edit
+header_edits n e = OnHeader n (header_after e) ∷ []
 
-abbrev pub set_passive_edits : Name → List (List ℕ) → List Edit
-set_passive_edits n words = OnHeader n (with_passive words) ∷ []
+-- the answer of such an edit of one node, and the node that it leaves
+abbrev pub header_edited : Bool → HeaderEdit → Node → Result (Unit {0}) Errno × Node
+header_edited true e x = (Ok tt, with_header (header_after e) x)
+header_edited false e x = (Err EOPNOTSUPP, x)
 
 -- the edits of a call that isn't refused
 abbrev pub edits_if : {T : Type 0} → Result T Errno → List Edit → List Edit

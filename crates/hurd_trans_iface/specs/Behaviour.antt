@@ -1,10 +1,16 @@
 -- What a kind of server does: of each call that asks about a node, what it answers and what it makes of that node.
-use Rattle.std.specs.Prelude.{ℕ, Bool, List, [], ◌∷◌, Option, Some, None, Result, Ok, Err}
+use Rattle.std.specs.Prelude.{ℕ, Bool, false, List, [], ◌∷◌, Option, Some, None, Result, Ok, Err}
 use Rattle.hurd_creds.specs.declared.name.Name.{Name}
 use Rattle.hurd_creds.specs.declared.errno.Errno.{Errno}
 use Rattle.hurd_creds.specs.declared.errno.Errno.TheVariants.{EDIED}
+use Rattle.hurd_creds.specs.declared.attrs.Kind.{Kind}
 use Rattle.hurd_trans_iface.specs.declared.root.Root.{Root}
+use Rattle.hurd_trans_iface.specs.declared.root.Crossing.TheVariants.{Plain}
 use Rattle.hurd_trans_iface.specs.Nodes.{Header, Body, Node, Edit, OnHeader, OnBody, on_bytes, with_size}
+
+-- a root of this kind that is no stream, and at which a lookup goes on
+abbrev pub plain_root : Kind → Root
+plain_root kind = record { kind = kind; is_stream = false; crossing = Plain }
 
 -- an answer, and what becomes of the node's bytes and of its size, where they change
 pub record Did (T : Type 0) : Type 0 where

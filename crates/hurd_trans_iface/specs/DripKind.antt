@@ -3,9 +3,8 @@ use Rattle.std.specs.Prelude.{ℕ, zero, suc, ◌==◌, ◌-◌, ◌&&◌, Bool,
 use Rattle.hurd_creds.specs.declared.attrs.Kind.TheVariants.{File}
 use Rattle.hurd_creds.specs.declared.errno.Errno.TheVariants.{EIO}
 use Rattle.hurd_numbers.specs.Numbers.{long_number_of}
-use Rattle.hurd_trans_iface.specs.declared.root.Crossing.TheVariants.{Plain}
 use Rattle.hurd_trans_iface.specs.Nodes.{Body, Content, Listing}
-use Rattle.hurd_trans_iface.specs.Behaviour.{Effect, Behaviour, only}
+use Rattle.hurd_trans_iface.specs.Behaviour.{Effect, Behaviour, only, plain_root}
 use Rattle.hurd_trans_iface.specs.TmpfsKind.{no_options}
 use Rattle.hurd_trans_iface.specs.HelloKind.{hello}
 
@@ -68,7 +67,7 @@ drip = record hello {
   begins = drip_text;
   options = λ text. codes "/hurd/drip" ∷ text ∷ [];
   set_options = no_options;
-  root = λ text. record { kind = File; is_stream = true; crossing = Plain };
+  root = λ text. record (plain_root File) { is_stream = true };
   size = drops_left;
   read = λ text x at amount. dripped x.header.size amount;
   readable = λ text x at. next_drop x.header.size;

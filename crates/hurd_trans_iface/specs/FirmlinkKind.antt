@@ -1,9 +1,9 @@
 -- A firm link, which leads to the node that its path led to when it began.
-use Rattle.std.specs.Prelude.{ℕ, ◌&&◌, Bool, false, if◌then◌else◌, List, [], ◌∷◌, length, nat_le, codes, Option, Some, None}
+use Rattle.std.specs.Prelude.{ℕ, ◌&&◌, Bool, if◌then◌else◌, List, [], ◌∷◌, length, nat_le, codes, Option, Some, None}
 use Rattle.hurd_creds.specs.declared.attrs.Kind.TheVariants.{File}
 use Rattle.hurd_creds.specs.Limits.{most_path}
 use Rattle.hurd_trans_iface.specs.declared.root.Crossing.TheVariants.{Firm}
-use Rattle.hurd_trans_iface.specs.Behaviour.{Behaviour, only}
+use Rattle.hurd_trans_iface.specs.Behaviour.{Behaviour, only, plain_root}
 use Rattle.hurd_trans_iface.specs.TmpfsKind.{no_options}
 use Rattle.hurd_trans_iface.specs.HelloKind.{hello}
 use Rattle.hurd_trans_iface.specs.SymlinkKind.{is_absolute}
@@ -25,7 +25,7 @@ firmlink = record hello {
   options = λ text. codes "/hurd/firmlink" ∷ text ∷ [];
   set_options = no_options;
   targets = λ text. text ∷ [];
-  root = λ text. record { kind = File; is_stream = false; crossing = Firm };
+  root = λ text. record (plain_root File) { crossing = Firm };
   size = λ text b. 0;
   read = λ text x at amount. only [];
   readable = λ text x at. 0;

@@ -6,8 +6,7 @@ use Rattle.hurd_creds.specs.declared.attrs.Kind.TheVariants.{File}
 use Rattle.hurd_creds.specs.declared.errno.Errno.{Errno}
 use Rattle.hurd_creds.specs.declared.errno.Errno.TheVariants.{EINVAL, EOPNOTSUPP, EFBIG}
 use Rattle.hurd_creds.specs.Limits.{most_size}
-use Rattle.hurd_trans_iface.specs.declared.root.Crossing.TheVariants.{Plain}
-use Rattle.hurd_trans_iface.specs.Behaviour.{Behaviour, only}
+use Rattle.hurd_trans_iface.specs.Behaviour.{Behaviour, only, plain_root}
 
 -- what a word has behind its first bytes, where these are so
 abbrev pub behind : List ℕ → List ℕ → Option (List ℕ)
@@ -52,7 +51,7 @@ hello = record {
   options = λ text. codes "/hurd/hello" ∷ (codes "--contents=" ++ text) ∷ [];
   set_options = hello_options;
   targets = λ text. [];
-  root = λ text. record { kind = File; is_stream = false; crossing = Plain };
+  root = λ text. plain_root File;
   tree = false;
   counts = false;
   size = λ text b. length text;

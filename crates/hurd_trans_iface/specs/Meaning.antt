@@ -6,12 +6,12 @@ use Rattle.std.specs.FinMap as fin
 use Rattle.hurd_creds.specs.declared.name.Name.{Name}
 use Rattle.hurd_creds.specs.NameMaps.{map_values}
 use Rattle.hurd_creds.specs.declared.mode.Mode.{Mode}
-use Rattle.hurd_creds.specs.declared.open_flags.OpenFlags.{OpenFlags}
 use Rattle.hurd_creds.specs.declared.errno.Errno.{Errno}
+use Rattle.hurd_trans_iface.specs.declared.header_edit.HeaderEdit.{HeaderEdit}
 use Rattle.hurd_trans_iface.specs.declared.new_node.NewNode.{NewNode}
 use Rattle.hurd_trans_iface.specs.declared.root.Root.{Root}
-use Rattle.hurd_trans_iface.specs.Nodes.{Body, Content, Listing, Node, NodeMap, Edit, body_of, edit_all, is_dir, with_header, with_size, counting, opened_by, closed_by}
-use Rattle.hurd_trans_iface.specs.Answers.{entry_of, make_of, make_edits, link_of, link_edits, unlink_of, unlink_edits, rename_of, rename_edits, set_header_of, set_attrs_edits, set_passive_edits, edits_if}
+use Rattle.hurd_trans_iface.specs.Nodes.{Body, Content, Listing, Node, NodeMap, Edit, body_of, edit_all, is_dir, with_header, with_size}
+use Rattle.hurd_trans_iface.specs.Answers.{entry_of, make_of, make_edits, link_of, link_edits, unlink_of, unlink_edits, rename_of, rename_edits, makes_edit, set_header_of, header_edits, edits_if}
 use Rattle.hurd_trans_iface.specs.Behaviour.{Behaviour, Question, effect_on, told_of, edits_of}
 pub use Rattle.hurd_trans_iface.specs.Kinds.{ServerKind, Tmpfs, Hello, Null, Zero, Symlink, Firmlink, Union, Magic, Drip, Fifo, all_kinds, behaviour_of}
 
@@ -63,6 +63,10 @@ counts_opens k = (behaviour_of k).counts
 -- whether servers of a kind keep trees
 abbrev pub keeps_tree : ServerKind → Bool
 keeps_tree k = (behaviour_of k).tree
+
+-- whether servers of a kind make such an edit of a header
+abbrev pub edits_header : ServerKind → HeaderEdit → Bool
+edits_header k e = makes_edit (keeps_tree k) (counts_opens k) e
 
 abbrev pub empty_body : Bool → Body
 empty_body true = Listing []
@@ -129,23 +133,10 @@ rename_step dir name to new m =
     let answer = rename_of (keeps_tree m.kind) name true (fin.get m.nodes dir) (fin.get m.nodes to) in
     (answer, edited (edits_if answer (rename_edits dir name to new (entry_of name (body_of m.nodes dir)) (entry_of new (body_of m.nodes to)))) m)
 
--- owner, group and mode of a node
-abbrev pub set_attrs_step : Name → ℕ → ℕ → Mode → Meaning → Result (Unit {0}) Errno × Meaning
-set_attrs_step n owner group mode m =
-    let answer = set_header_of (keeps_tree m.kind) (fin.get m.nodes n) in (answer, edited (edits_if answer (set_attrs_edits n owner group mode)) m)
-
--- the words of a node's passive translator, or none
-abbrev pub set_passive_step : Name → List (List ℕ) → Meaning → Result (Unit {0}) Errno × Meaning
-set_passive_step n words m =
-    let answer = set_header_of (keeps_tree m.kind) (fin.get m.nodes n) in (answer, edited (edits_if answer (set_passive_edits n words)) m)
-
--- a node opened with these modes
-abbrev pub opened_after : Name → OpenFlags → Meaning → Meaning
-opened_after n modes m = edited (counting (counts_opens m.kind) n (opened_by modes)) m
-
--- an open of a node gone, which had these modes
-abbrev pub closed_after : Name → OpenFlags → Meaning → Meaning
-closed_after n modes m = edited (counting (counts_opens m.kind) n (closed_by modes)) m
+-- an edit of what a node's header says
+abbrev pub edit_header_step : Name → HeaderEdit → Meaning → Result (Unit {0}) Errno × Meaning
+edit_header_step n e m =
+    let answer = set_header_of (edits_header m.kind e) (fin.get m.nodes n) in (answer, edited (edits_if answer (header_edits n e)) m)
 
 -- the server without a node; entries that name it stay
 abbrev pub forget_after : Meaning → Name → Meaning

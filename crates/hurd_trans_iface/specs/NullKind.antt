@@ -3,8 +3,7 @@ use Rattle.std.specs.Prelude.{true, false, if◌then◌else◌, [], ◌∷◌, l
 use Rattle.hurd_creds.specs.declared.attrs.Kind.TheVariants.{Char}
 use Rattle.hurd_creds.specs.declared.errno.Errno.TheVariants.{EFBIG}
 use Rattle.hurd_creds.specs.Limits.{most_size}
-use Rattle.hurd_trans_iface.specs.declared.root.Crossing.TheVariants.{Plain}
-use Rattle.hurd_trans_iface.specs.Behaviour.{Behaviour, only}
+use Rattle.hurd_trans_iface.specs.Behaviour.{Behaviour, only, plain_root}
 use Rattle.hurd_trans_iface.specs.TmpfsKind.{no_text, no_options}
 
 abbrev pub null : Behaviour
@@ -14,7 +13,7 @@ null = record {
   options = λ text. codes "/hurd/null" ∷ [];
   set_options = no_options;
   targets = λ text. [];
-  root = λ text. record { kind = Char; is_stream = true; crossing = Plain };
+  root = λ text. record (plain_root Char) { is_stream = true };
   tree = false;
   counts = false;
   size = λ text b. 0;

@@ -3,7 +3,7 @@ use Rattle.std.specs.Prelude.{ℕ, ◌==◌, ◌&&◌, Bool, false, if◌then◌
 use Rattle.hurd_creds.specs.declared.attrs.Kind.TheVariants.{Link as LinkNode}
 use Rattle.hurd_creds.specs.Limits.{most_path}
 use Rattle.hurd_trans_iface.specs.declared.root.Crossing.TheVariants.{Link}
-use Rattle.hurd_trans_iface.specs.Behaviour.{Behaviour}
+use Rattle.hurd_trans_iface.specs.Behaviour.{Behaviour, plain_root}
 use Rattle.hurd_trans_iface.specs.TmpfsKind.{no_options}
 use Rattle.hurd_trans_iface.specs.HelloKind.{hello}
 
@@ -23,5 +23,5 @@ symlink = record hello {
   begins = target_text;
   options = λ text. codes "/hurd/symlink" ∷ text ∷ [];
   set_options = no_options;
-  root = λ text. record { kind = LinkNode; is_stream = false; crossing = Link (is_absolute text) };
+  root = λ text. record (plain_root LinkNode) { crossing = Link (is_absolute text) };
 }

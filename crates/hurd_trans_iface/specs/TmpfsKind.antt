@@ -4,9 +4,8 @@ use Rattle.hurd_creds.specs.declared.attrs.Kind.TheVariants.{Dir}
 use Rattle.hurd_creds.specs.declared.errno.Errno.{Errno}
 use Rattle.hurd_creds.specs.declared.errno.Errno.TheVariants.{EBADF, EINVAL, EISDIR, EFBIG}
 use Rattle.hurd_creds.specs.Limits.{most_size}
-use Rattle.hurd_trans_iface.specs.declared.root.Crossing.TheVariants.{Plain}
 use Rattle.hurd_trans_iface.specs.Nodes.{Body, Content, Listing, Header, is_dir, bytes_put, bytes_resized}
-use Rattle.hurd_trans_iface.specs.Behaviour.{Did, Effect, Behaviour, only}
+use Rattle.hurd_trans_iface.specs.Behaviour.{Did, Effect, Behaviour, only, plain_root}
 
 -- bytes of a file, or all that there are from the place on
 abbrev pub read_bytes : ℕ → ℕ → Body → Effect (List ℕ)
@@ -54,7 +53,7 @@ tmpfs = record {
   options = λ text. codes "/hurd/tmpfs" ∷ [];
   set_options = no_options;
   targets = λ text. [];
-  root = λ text. record { kind = Dir; is_stream = false; crossing = Plain };
+  root = λ text. plain_root Dir;
   tree = true;
   counts = false;
   size = λ text b. bytes_in b;

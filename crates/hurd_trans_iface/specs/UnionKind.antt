@@ -1,11 +1,11 @@
 -- A directory that shows what several others have.
-use Rattle.std.specs.Prelude.{ℕ, zero, suc, ◌&&◌, false, if◌then◌else◌, List, [], ◌∷◌, ◌++◌, length, nat_lt, nat_le, codes, Option, Some, None, Err}
+use Rattle.std.specs.Prelude.{ℕ, zero, suc, ◌&&◌, if◌then◌else◌, List, [], ◌∷◌, ◌++◌, length, nat_lt, nat_le, codes, Option, Some, None, Err}
 use Rattle.std.specs.List.{list_all}
 use Rattle.hurd_creds.specs.declared.attrs.Kind.TheVariants.{Dir}
 use Rattle.hurd_creds.specs.declared.errno.Errno.TheVariants.{EBADF, EFBIG, EISDIR}
 use Rattle.hurd_creds.specs.Limits.{most_size}
 use Rattle.hurd_trans_iface.specs.declared.root.Crossing.TheVariants.{Union}
-use Rattle.hurd_trans_iface.specs.Behaviour.{Behaviour}
+use Rattle.hurd_trans_iface.specs.Behaviour.{Behaviour, plain_root}
 use Rattle.hurd_trans_iface.specs.TmpfsKind.{no_options}
 use Rattle.hurd_trans_iface.specs.HelloKind.{hello}
 use Rattle.hurd_trans_iface.specs.FirmlinkKind.{is_firm}
@@ -52,7 +52,7 @@ union = record hello {
   options = λ text. codes "/hurd/union" ∷ words_of text;
   set_options = no_options;
   targets = words_of;
-  root = λ text. record { kind = Dir; is_stream = false; crossing = Union };
+  root = λ text. record (plain_root Dir) { crossing = Union };
   size = λ text b. 0;
   read = λ text x at amount. Err EISDIR;
   write = λ text x at bs. Err EBADF;

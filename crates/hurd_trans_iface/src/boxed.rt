@@ -1,10 +1,11 @@
 //! A boxed server is a server.
+use crate::header_edit::HeaderEdit;
 use crate::names::Names;
 use crate::new_node::NewNode;
 use crate::root::Root;
 use crate::server::Server;
 use crate::words::Words;
-use hurd_creds::{Attrs, Bytes, Errno, Mode, NodeName, OpenFlags};
+use hurd_creds::{Attrs, Bytes, Errno, Mode, NodeName};
 use std::alloc::Global;
 
 impl Server for Box<dyn Server> {
@@ -107,22 +108,12 @@ impl Server for Box<dyn Server> {
         (**self).rename(alloc, dir, name, to, new)
     }
 
-    fn set_attrs(
-        &mut self,
-        node: NodeName,
-        owner: u32,
-        group: u32,
-        mode: Mode,
-    ) -> Result<(), Errno> {
-        (**self).set_attrs(node, owner, group, mode)
-    }
-
     fn passive(&self, node: NodeName) -> Option<&Words> {
         (**self).passive(node)
     }
 
-    fn set_passive(&mut self, node: NodeName, words: Words) -> Result<(), Errno> {
-        (**self).set_passive(node, words)
+    fn edit_header(&mut self, node: NodeName, edit: HeaderEdit) -> Result<(), Errno> {
+        (**self).edit_header(node, edit)
     }
 
     fn forget(&mut self, node: NodeName) {
@@ -135,14 +126,6 @@ impl Server for Box<dyn Server> {
 
     fn counts(&self) -> bool {
         (**self).counts()
-    }
-
-    fn opened(&mut self, node: NodeName, modes: OpenFlags) {
-        (**self).opened(node, modes)
-    }
-
-    fn closed(&mut self, node: NodeName, modes: OpenFlags) {
-        (**self).closed(node, modes)
     }
 
     fn goaway(&mut self) {

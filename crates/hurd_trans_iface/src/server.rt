@@ -6,13 +6,14 @@ ghost use Rattle.hurd_creds.specs.Memory.{Meets, Steps};
 ghost use Rattle.hurd_trans_iface.specs.Nodes.{AllListed, Reaches, attrs_of, body_of, content_of, passive_of};
 ghost use Rattle.hurd_trans_iface.specs.Answers.{entry_of, names_of};
 ghost use Rattle.hurd_trans_iface.specs.Behaviour.{reading, writing, resizing};
-ghost use Rattle.hurd_trans_iface.specs.Meaning.{Meaning, root_of, options_of, targets_of, begin_root_after, step_of, set_options_step, make_step, link_step, unlink_step, rename_step, set_attrs_step, set_passive_step, forget_after, readable_of, counts_opens, opened_after, closed_after};
+ghost use Rattle.hurd_trans_iface.specs.Meaning.{Meaning, root_of, options_of, targets_of, begin_root_after, step_of, set_options_step, make_step, link_step, unlink_step, rename_step, edit_header_step, forget_after, readable_of, counts_opens};
 
+use crate::header_edit::HeaderEdit;
 use crate::names::Names;
 use crate::new_node::NewNode;
 use crate::root::Root;
 use crate::words::Words;
-use hurd_creds::{Attrs, Bytes, Errno, Mode, NodeName, OpenFlags};
+use hurd_creds::{Attrs, Bytes, Errno, Mode, NodeName};
 use std::alloc::Global;
 
 /// A server of nodes, as a boxed object that the core owns (GNU Hurd Reference Manual, Translators; `fs.defs`, `io.defs`).
@@ -147,22 +148,16 @@ pub trait Server: Drop {
     ) -> Result<(), Errno>
         ensures { Steps (meaning self.old) (rename_step dir name.now to new.now (meaning self.old)) result (meaning self.new) };
 
-    /// Sets the owner, the group and the mode of a node. Takes no memory.
-    ///
-    /// Errors, in order: `EDIED` no such node, `EOPNOTSUPP` the server keeps no tree.
-    fn set_attrs(&mut self, node: NodeName, owner: u32, group: u32, mode: Mode) -> Result<(), Errno>
-        ensures { (result, meaning self.new) ≡ set_attrs_step node owner group mode (meaning self.old) };
-
     /// The words of the passive translator of a node, lent, if the server has the node and there are any. Takes no memory.
     fn passive(&self, node: NodeName) -> Option<&Words>
         ensures { option_copied result ≡ passive_of (fin.get (meaning self.now).nodes node) };
 
-    /// Stores the words of a passive translator with a node, in place of those that were there; with no words there are none any more. Whether the node is the server's
-    /// root is for who asks. Takes no memory.
+    /// Edits what the header of a node says: a server that keeps a tree stores owner, group and mode, and the words of passive translators; one that counts who reads and
+    /// who writes counts opens. Whether words may be stored with the node is for who asks. Takes no memory.
     ///
-    /// Errors, in order: `EDIED` no such node, `EOPNOTSUPP` the server keeps no tree.
-    fn set_passive(&mut self, node: NodeName, words: Words) -> Result<(), Errno>
-        ensures { (result, meaning self.new) ≡ set_passive_step node words (meaning self.old) };
+    /// Errors, in order: `EDIED` no such node, `EOPNOTSUPP` the server makes no such edit.
+    fn edit_header(&mut self, node: NodeName, edit: HeaderEdit) -> Result<(), Errno>
+        ensures { (result, meaning self.new) ≡ edit_header_step node edit (meaning self.old) };
 
     /// Lets a node go that nothing keeps any more, if the server has it; what entries name it stays. Takes no memory.
     fn forget(&mut self, node: NodeName)
@@ -176,14 +171,6 @@ pub trait Server: Drop {
     /// Whether it counts who reads and who writes each of its nodes. Takes no memory.
     fn counts(&self) -> bool
         ensures { result ≡ counts_opens (meaning self.now).kind };
-
-    /// A node is opened with these modes: a server that counts who reads and who writes has one more of each that the modes ask for. Takes no memory.
-    fn opened(&mut self, node: NodeName, modes: OpenFlags)
-        ensures { meaning self.new ≡ opened_after node modes (meaning self.old) };
-
-    /// The last right to an open of a node is gone, which had these modes: a server that counts has one fewer of each. Takes no memory.
-    fn closed(&mut self, node: NodeName, modes: OpenFlags)
-        ensures { meaning self.new ≡ closed_after node modes (meaning self.old) };
 
     /// The server is about to be sent away (`fsys_goaway`, `fsys.defs`). Takes no memory.
     fn goaway(&mut self)

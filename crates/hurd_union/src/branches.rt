@@ -29,9 +29,8 @@ impl Single for Branches {
 
     fn root(&self) -> Root {
         Root {
-            kind: Kind::Dir,
-            is_stream: false,
             crossing: Crossing::Union,
+            ..Root::plain(Kind::Dir)
         }
     }
 

@@ -7,6 +7,8 @@ use Rattle.std.proofs.lemmas.Bool.{or_cases, or_left, or_right}
 use Rattle.std.proofs.lemmas.Slice.Eq.{bytes_eq-Decides}
 use Rattle.std.specs.Cmp.{unsigned_Decides}
 use Rattle.std.specs.Str.{bytes_eq}
+use Rattle.std.specs.FinMap.{empty}
+use Rattle.hurd_nodes.proofs.Sites.{home_by, active_by, site_by}
 use Rattle.hurd_creds.specs.declared.name.Name.{Name}
 use Rattle.hurd_creds.specs.declared.name.TaskId.{TaskId}
 use Rattle.hurd_creds.specs.declared.attrs.Attrs.{Attrs}
@@ -16,7 +18,7 @@ use Rattle.hurd_trans_iface.specs.Answers.{entry_in}
 use Rattle.hurd_trans_iface.specs.Meaning.{ServerKind, Tmpfs, Hello, Null, Zero, Symlink, Firmlink, Union, Magic, Drip, Fifo, all_kinds, behaviour_of, options_of}
 use Rattle.hurd_nodes.specs.Shown.{ServerInfo}
 use Rattle.hurd_ports.specs.Tables.{Task}
-use Rattle.hurd_machine.specs.World.{World, IsAmong, nodes_of, active_at, body_at, header_at, home_at, open_at, server_at, task_at, words_at, words_in}
+use Rattle.hurd_machine.specs.World.{World, IsAmong, nodes_of, active_at, body_at, header_at, home_at, open_at, server_at, task_at, words_at, words_in, site_at}
 use Rattle.hurd_machine.specs.Sight.{Part, AttrOf, EmptyOf, BodyOf, OpenOf, OptionsOf, UsersOf, TaskOf, Sees, SameView, AnAttr, AnEmpty, ABody, AnOpen, AnOptions, AUsers, ATask, bare, holders, part, users}
 use Rattle.hurd_machine.specs.Sound.{AreDistinct, HasDistinctNames, Sound}
 use Rattle.hurd_sight.specs.Looks.{sees_with}
@@ -255,12 +257,11 @@ module _ (tasks : List TaskId) (v w : World) (a b : View) (sound_v : Sound v) (s
         sym (headers_back (fin.get v.nodes n))
         ∙ (ap (λ (r : NodeRow). headers r.attrs r.words) e ∙ headers_back (fin.get w.nodes n))
 
-    attr_same : (n : Name) → node_row v n ≡ node_row w n → AnAttr (header_at w n) (home_at w n) (active_at w n) ≡ AnAttr (header_at v n) (home_at v n) (active_at v n)
+    attr_same : (n : Name) → node_row v n ≡ node_row w n → AnAttr (header_at w n) (site_at w n) ≡ AnAttr (header_at v n) (site_at v n)
     attr_same n e =
         let header : header_at v n ≡ header_at w n = header_same n e in
-        let home : home_at v n ≡ home_at w n = ap (λ (r : NodeRow). r.home) e in
-        let active : active_at v n ≡ active_at w n = ap (λ (r : NodeRow). r.active) e in
-        rw (header, home, active) refl
+        let site : site_at v n ≡ site_at w n = site_by (site_at v n) (site_at w n) (ap (λ (r : NodeRow). r.home) e) (ap (λ (r : NodeRow). r.active) e) in
+        rw (header, site) refl
 
     body_same : (n : Name) → option_map body_row (body_at v n) ≡ option_map body_row (body_at w n) → body_at v n ≡ body_at w n
     body_same n e =
@@ -305,13 +306,12 @@ module _ (tasks : List TaskId) (v w : World) (a b : View) (sound_v : Sound v) (s
     equal : (q : SeenPart) → sees_v q ≡ true → part w (part_of q) ≡ part v (part_of q)
     equal q on = same.parts (part_of q) ((says_v q).0 on)
 
-    node_same : (n : Name) → AnAttr (header_at w n) (home_at w n) (active_at w n) ≡ AnAttr (header_at v n) (home_at v n) (active_at v n) → node_row v n ≡ node_row w n
+    node_same : (n : Name) → AnAttr (header_at w n) (site_at w n) ≡ AnAttr (header_at v n) (site_at v n) → node_row v n ≡ node_row w n
     node_same n e =
         let header : header_at v n ≡ header_at w n = cc in
-        let home : home_at v n ≡ home_at w n = cc in
-        let active : active_at v n ≡ active_at w n = cc in
+        let site : site_at v n ≡ site_at w n = cc in
         let words : words_at v n ≡ words_at w n = sym (words_back (fin.get v.nodes n)) ∙ (ap words_of_header header ∙ words_back (fin.get w.nodes n)) in
-        rw (header, home, active, words) refl
+        rw (header, ap home_by site, ap active_by site, words) refl
 
     row_same : (n : Name) → row_of v a.sight n ≡ row_of w b.sight n
     row_same n =

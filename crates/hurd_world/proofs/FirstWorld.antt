@@ -3,6 +3,10 @@ use Rattle.std.proofs.Common.{◌≡◌, inl, inr, ℕ, ◌+◌, ◌<◌, Bool, 
 use Rattle.std.specs.Prelude.{Option, Some, None, cond}
 use Rattle.std.specs.Option.{option_map}
 use Rattle.std.specs.FinMap as fin
+use Rattle.std.specs.FinMap.{entries}
+use Rattle.hurd_nodes.proofs.Sites.{site-of, seat-site, home_by}
+use Rattle.hurd_nodes.specs.declared.seat.Site.{Site}
+use Rattle.hurd_nodes.specs.Held.{home_in, active_in, new_site}
 use Rattle.hurd_creds.specs.declared.name.Name.{Name}
 use Rattle.hurd_creds.specs.declared.attrs.Kind.{Kind}
 use Rattle.hurd_creds.specs.declared.attrs.Kind.TheVariants.{Dir}
@@ -72,8 +76,12 @@ module _ (kind : ServerKind) (text : List ℕ) where
   root_header : header_of state.nodes boot_name ≡ Some root.header
   root_header = ap (option_map (λ (x : Node). x.header)) root_node
 
-  root_home : fin.get state.homes boot_name ≡ Some boot_name
-  root_home = get-map_values (λ (x : Node). boot_name) state.nodes boot_name ∙ ap (option_map (λ (x : Node). boot_name)) root_node
+  root_home : home_in state.sites boot_name ≡ Some boot_name
+  root_home = ap home_by (get-map_values (λ (x : Node). new_site boot_name) state.nodes boot_name ∙ ap (option_map (λ (x : Node). new_site boot_name)) root_node)
+
+  -- what has a row is a node, on which none is active
+  site_is : (n : Name) (r : Site) → fin.get state.sites n ≡ Some r → (x : Node) × (fin.get state.nodes n ≡ Some x) × (new_site boot_name ≡ r)
+  site_is n r is = option_map-origin _ (fin.get state.nodes n) r (sym (get-map_values (λ (x : Node). new_site boot_name) state.nodes n) ∙ is)
 
   root_server : fin.get state.servers boot_name ≡ Some info
   root_server = get_here fin.empty boot_name info
@@ -97,21 +105,25 @@ module _ (kind : ServerKind) (text : List ℕ) where
   housed : AreHoused state
   housed = record {
     homes = λ n k is. let e = header_only n k is in (boot_name, info, rw e.0 root_home, root_server);
-    housed = λ n s is. let x = option_map-origin _ (fin.get state.nodes n) s (sym (get-map_values (λ (x : Node). boot_name) state.nodes n) ∙ is) in (x.0.header, ap (option_map (λ (y : Node). y.header)) x.1);
+    housed = λ n s is. let r = site-of state.sites n s is in let x = site_is n r.0 r.1 in (x.0.header, ap (option_map (λ (y : Node). y.header)) x.1);
     roots = λ s i is. let e = server_only s i is in rw (e.0, e.1) root_home;
     serving = λ s i is. (0, ap (λ (j : ServerInfo). j.ids) (server_only s i is).1);
     lone = λ n s i is there alone.
-        let x = option_map-origin _ (fin.get state.nodes n) s (sym (get-map_values (λ (x : Node). boot_name) state.nodes n) ∙ is) in
+        let r = site-of state.sites n s is in
+        let x = site_is n r.0 r.1 in
         (node_only n x.0 x.1).0 ∙ sym (ap (λ (j : ServerInfo). j.root) (server_only s i there).1);
   }
 
-  no_active : (n s : Name) → fin.get state.actives n ≡ Some s → ⊥
-  no_active n s is = let none : None ≡ Some s = sym (fin.get-empty name_cmp n) ∙ is in cc
+  no_active : (n s : Name) → active_in state.sites n ≡ Some s → ⊥
+  no_active n s is =
+      let r = seat-site state.sites n s is in
+      let x = site_is n r.0 r.1 in
+      let none : None ≡ Some s = ap (λ (y : Site). y.active) x.2 ∙ r.2 in
+      absurd (cc)
 
   seated : AreSeated state
   seated = record {
     seated = λ n s is. absurd (no_active n s is);
-    seats = λ n s is. absurd (no_active n s is);
     alone = λ n m s is there. absurd (no_active n s is);
     elsewhere = λ n s is at. no_active n s is;
   }

@@ -20,4 +20,4 @@ pub returns : goal.returns
 returns g c =
     let w = world_of g.S.Server.meaning c.args.core.now in
     setting-follows c.args.task.0 c.args.port owns (λ n. n.header.owner) (λ n. n.header.group) (λ n. known_mode c.args.mode)
-    w (named_of c.in_ok-named.named) _ _ (sym c.in_ok-named.ensures) (rw c.known.ensures at c.set_attrs.ensures)
+    w (named_of c.in_ok-named.named) _ _ (sym c.in_ok-named.ensures) (rw c.known.ensures at c.edit_header.ensures)

@@ -18,4 +18,4 @@ pub returns : goal.returns
 returns g c =
     let w = world_of g.S.Server.meaning c.args.core.now in
     setting-follows c.args.task.0 c.args.port (gives c.args.owner c.args.group) (λ n. c.args.owner) (λ n. c.args.group) (λ n. n.header.mode)
-    w (named_of c.in_ok-named.named) _ _ (sym c.in_ok-named.ensures) c.set_attrs.ensures
+    w (named_of c.in_ok-named.named) _ _ (sym c.in_ok-named.ensures) c.edit_header.ensures

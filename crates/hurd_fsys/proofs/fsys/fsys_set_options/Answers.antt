@@ -2,30 +2,23 @@
 use Rattle.std.proofs.Common.{sym}
 use Rattle.std.proofs.lemmas.Result.{err_from_is_err_and}
 use Rattle.hurd_machine.specs.declared.call.Reply.TheVariants.{Done}
-use Rattle.hurd_machine.specs.World.{ports_of}
-use Rattle.hurd_core.specs.Control.{control_of}
-use Rattle.hurd_core.specs.Core.{world_of}
 use Rattle.hurd_core.proofs.PlanLaws.{asked-refused, planned-then, follows-refused, follows-then}
 use Rattle.hurd_fsys.proofs.fsys.fsys_set_options.Goals as goal
 
 pub returns-in_err-server-clause-planned : goal.returns-in_err-server-clause-planned
 returns-in_err-server-clause-planned g c =
-    let w = world_of g.S.Server.meaning c.args.core.now in
     let p = err_from_is_err_and c.from_residual.result c.from_residual.ensures.1 in
-    rw (p.1, p.2) (asked-refused w (control_of (ports_of w) c.args.task.0 c.args.control) _ (λ (u : Unit {0}). Done) _ (sym c.in_err-server.ensures))
+    rw (p.1, p.2) (asked-refused _ _ _ (λ (u : Unit {0}). Done) _ (sym c.in_err-server.ensures))
 
 pub returns-in_err-server-clause-free : goal.returns-in_err-server-clause-free
 returns-in_err-server-clause-free g c none =
-    let w = world_of g.S.Server.meaning c.args.core.now in
     let p = err_from_is_err_and c.from_residual.result c.from_residual.ensures.1 in
-    rw (p.1, p.2) (follows-refused w (control_of (ports_of w) c.args.task.0 c.args.control) _ _ (sym c.in_err-server.ensures))
+    rw (p.1, p.2) (follows-refused _ _ _ _ (sym c.in_err-server.ensures))
 
 pub returns-clause-planned : goal.returns-clause-planned
 returns-clause-planned g c =
-    let w = world_of g.S.Server.meaning c.args.core.now in
-    planned-then w (control_of (ports_of w) c.args.task.0 c.args.control) _ (λ (u : Unit {0}). Done) c.in_ok-server.server c.set_options.result _ (sym c.in_ok-server.ensures) c.set_options.ensures.planned
+    planned-then _ _ _ (λ (u : Unit {0}). Done) _ _ _ (sym c.in_ok-server.ensures) c.set_options.ensures.planned
 
 pub returns-clause-free : goal.returns-clause-free
 returns-clause-free g c none =
-    let w = world_of g.S.Server.meaning c.args.core.now in
-    follows-then w (control_of (ports_of w) c.args.task.0 c.args.control) _ c.in_ok-server.server _ _ (sym c.in_ok-server.ensures) (c.set_options.ensures.free none)
+    follows-then _ _ _ _ _ _ (sym c.in_ok-server.ensures) (c.set_options.ensures.free none)

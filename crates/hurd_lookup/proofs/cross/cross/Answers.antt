@@ -3,21 +3,21 @@ use Rattle.std.proofs.Common.{◌∙◌}
 use Rattle.hurd_core.specs.Core.{world_of}
 use Rattle.hurd_lookup.specs.Path.{names_in}
 use Rattle.hurd_lookup.specs.Ends.{right_by}
-use Rattle.hurd_lookup.proofs.CrossLaws.{cross-along, cross-final, cross-firm, cross-plain, cross-union, there}
+use Rattle.hurd_lookup.proofs.CrossLaws.{cross-along, cross-final, cross-firm, served, there}
 use Rattle.hurd_lookup.proofs.cross.cross.Goals as goal
 
 pub returns-in-Plain : goal.returns-in-Plain
 returns-in-Plain g c =
     let w = world_of g.S.Server.meaning c.args.core.now in
     let h = there w c.args.root c.attrs.result c.is_none.result c.is_none.ensures c.if-is_none.false c.attrs.ensures.header in
-    rw (cross-plain w c.args.root h.0 h.1 c.in-Some.served c.in-Some.ensures (right_by c.args.authority) c.args.request c.args.dir (names_in c.args.rest.now) c.in-Plain.is)
+    rw (served w c.args.root h.0 h.1 c.in-Some.served c.in-Some.ensures (right_by c.args.authority) c.args.request c.args.dir (names_in c.args.rest.now) _ c.in-Plain.is)
     (c.enter.ensures w)
 
 pub returns-in-Union : goal.returns-in-Union
 returns-in-Union g c =
     let w = world_of g.S.Server.meaning c.args.core.now in
     let h = there w c.args.root c.attrs.result c.is_none.result c.is_none.ensures c.if-is_none.false c.attrs.ensures.header in
-    rw (cross-union w c.args.root h.0 h.1 c.in-Some.served c.in-Some.ensures (right_by c.args.authority) c.args.request c.args.dir (names_in c.args.rest.now) c.in-Union.is)
+    rw (served w c.args.root h.0 h.1 c.in-Some.served c.in-Some.ensures (right_by c.args.authority) c.args.request c.args.dir (names_in c.args.rest.now) _ c.in-Union.is)
     (c.enter-in-Union.ensures w)
 
 pub returns-in-Firm : goal.returns-in-Firm

@@ -1,10 +1,10 @@
 -- Each name leads on, to an end, or is refused; and what is left gets shorter.
-use Rattle.std.proofs.Common.{◌∙◌, sym}
+use Rattle.std.proofs.Common.{◌∙◌, ap, sym}
 use Rattle.std.proofs.lemmas.Result.{err_from_is_err_and}
 use Rattle.hurd_core.specs.Core.{world_of}
 use Rattle.hurd_lookup.specs.Path.{names_in}
 use Rattle.hurd_lookup.specs.Ends.{right_by}
-use Rattle.hurd_lookup.proofs.StepLaws.{on_along, walk-none, walk-one}
+use Rattle.hurd_lookup.specs.Lookup.{walk}
 use Rattle.hurd_lookup.proofs.walk.walk.Goals as goal
 
 pub returns-in_err-node : goal.returns-in_err-node
@@ -14,8 +14,8 @@ returns-in_err-node g c =
     let p = err_from_is_err_and c.from_residual.result c.from_residual.ensures.1 in
     rw (p.1, p.2)
     (sym c.loop-name.invariant
-    ∙ walk-one w q c.args.request c.loop-name.here c.loop-name.rest.now c.in-Some.name.now c.in-Some.after.now c.in-Some.ensures.0
-    ∙ c.in_err-node.ensures (on_along w q c.args.request c.loop-name.here (names_in c.in-Some.after.now)))
+    ∙ ap (walk w q c.args.request c.loop-name.here) c.in-Some.ensures.0
+    ∙ c.in_err-node.ensures (λ n. walk w q c.args.request n (names_in c.in-Some.after.now)))
 
 pub returns-in-To : goal.returns-in-To
 returns-in-To g c =
@@ -23,8 +23,8 @@ returns-in-To g c =
     let q = right_by c.args.authority in
     let goes = rw c.in-To.is at c.in_ok-node.ensures in (
       sym c.loop-name.invariant
-          ∙ walk-one w q c.args.request c.loop-name.here c.loop-name.rest.now c.in-Some.name.now c.in-Some.after.now c.in-Some.ensures.0
-          ∙ goes.0 (on_along w q c.args.request c.loop-name.here (names_in c.in-Some.after.now)),
+          ∙ ap (walk w q c.args.request c.loop-name.here) c.in-Some.ensures.0
+          ∙ goes.0 (λ n. walk w q c.args.request n (names_in c.in-Some.after.now)),
       goes.1,
     )
 
@@ -33,12 +33,12 @@ loop-name-preserved g c =
     let w = world_of g.S.Server.meaning c.args.core.now in
     let q = right_by c.args.authority in
     let goes = rw c.in-On.is at c.in_ok-node.ensures in
-    sym (goes (on_along w q c.args.request c.loop-name.here (names_in c.in-Some.after.now)))
-    ∙ sym (walk-one w q c.args.request c.loop-name.here c.loop-name.rest.now c.in-Some.name.now c.in-Some.after.now c.in-Some.ensures.0)
+    sym (goes (λ n. walk w q c.args.request n (names_in c.in-Some.after.now)))
+    ∙ sym (ap (walk w q c.args.request c.loop-name.here) c.in-Some.ensures.0)
     ∙ c.loop-name.invariant
 
 pub returns : goal.returns
 returns g c =
     let w = world_of g.S.Server.meaning c.args.core.now in
     let q = right_by c.args.authority in
-    rw (sym c.loop-name.invariant ∙ walk-none w q c.args.request c.loop-name.here c.loop-name.rest.now c.in_default.ensures) (c.arrive.ensures w q)
+    rw (sym c.loop-name.invariant ∙ ap (walk w q c.args.request c.loop-name.here) c.in_default.ensures) (c.arrive.ensures w q)

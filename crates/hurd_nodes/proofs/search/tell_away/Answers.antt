@@ -4,9 +4,7 @@ use Rattle.hurd_creds.specs.NameMaps.{NameMap}
 use Rattle.hurd_nodes.specs.declared.seat.Seat.{Seat}
 use Rattle.hurd_nodes.specs.Held.{Seated, seat_value, seats_of}
 use Rattle.hurd_nodes.proofs.AttachLaws.{removed-put}
-use Rattle.hurd_nodes.proofs.RowLaws.{apart-kept}
 use Rattle.hurd_nodes.proofs.SeatLaws.{seat-changed}
-use Rattle.hurd_nodes.proofs.SeatedLaws.{seated-set}
 use Rattle.hurd_nodes.proofs.search.tell_away.Goals as goal
 
 pub returns-in-Some-clause-others : goal.returns-in-Some-clause-others
@@ -16,9 +14,3 @@ returns-in-Some-clause-others g c =
     let told : Seat g.row.S.Denot = record c.index_mut.result.now { server = c.goaway.new.self } in
     ap (λ (m : NameMap (Seated g.row.S.Denot)). fin.remove m s) (seat-changed ss s c.in-Some.i c.index_mut.result.now c.in-Some.ensures.is c.index_mut.ensures.value told)
     ∙ removed-put (seats_of ss) s (seat_value told)
-
-pub returns-in-Some-clause-apart : goal.returns-in-Some-clause-apart
-returns-in-Some-clause-apart g c = apart-kept c.args.seats.now.entries c.in-Some.i (record c.index_mut.result.now { server = c.goaway.new.self })
-
-pub returns-in-Some-clause-housed : goal.returns-in-Some-clause-housed
-returns-in-Some-clause-housed g c homes = seated-set homes c.args.seats.now.entries c.in-Some.i (record c.index_mut.result.now { server = c.goaway.new.self })

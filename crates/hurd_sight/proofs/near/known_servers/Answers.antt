@@ -1,11 +1,7 @@
-use Rattle.std.proofs.Common.{refl}
 use Rattle.hurd_nodes.specs.Shown.{shown}
 use Rattle.hurd_sight.specs.Parts.{known_at}
 use Rattle.hurd_sight.proofs.NearLaws.{entries_all, entries_next}
 use Rattle.hurd_sight.proofs.near.known_servers.Goals as goal
-
-pub loop-i-init : goal.loop-i-init
-loop-i-init g c = refl
 
 pub loop-i-preserved : goal.loop-i-preserved
 loop-i-preserved g c = entries_next (known_at (shown g.S.Server.meaning c.args.nodes.now)) c.args.found.now c.loop-i.i _ _ _ (rw c.len-i-end.ensures at c.loop-i-test.true) c.loop-i.invariant c.in_ok-add_known.ensures

@@ -11,12 +11,12 @@ pub returns-in-Some : goal.returns-in-Some
 returns-in-Some g c =
     let s = c.index_mut.result.now in
     let ss = c.self.inside.seats.entries in
-    let old = held_of c.self.inside.homes.entries c.self.inside.actives.entries ss in
+    let old = held_of c.self.inside.sites.entries ss in
     let at = c.in-Some.ensures.is in
     let p = placed ss _ _ at in
     let n = p.0 in
     let h : fin.get old.seats n ≡ Some (seat_value s) = seat-found ss n c.in-Some.i s p.2 c.index_mut.ensures.value in
-    let eq : (w : g.row.S.Denot) → held_of c.self.inside.homes.entries c.self.inside.actives.entries (set_value_at ss c.in-Some.i (record s { server = w })) ≡ with_server_of c.args.self.now c.args.node w =
+    let eq : (w : g.row.S.Denot) → held_of c.self.inside.sites.entries (set_value_at ss c.in-Some.i (record s { server = w })) ≡ with_server_of c.args.self.now c.args.node w =
     λ w. rw (← c.self.view_is, p.1, h, seat-changed ss n c.in-Some.i s p.2 c.index_mut.ensures.value (record s { server = w })) refl in (
       same_read _ _ _ eq,
       record {
@@ -36,4 +36,4 @@ returns-in-None g c =
     )
 
 pub invariant_of-self-lent : goal.invariant_of-self-lent
-invariant_of-self-lent g c = λ w. tables-set _ _ _ _ _ c.self.invariant
+invariant_of-self-lent g c = λ w. tables-set _ _ _ _ c.self.invariant

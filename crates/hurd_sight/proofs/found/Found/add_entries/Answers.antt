@@ -1,13 +1,9 @@
-use Rattle.std.proofs.Common.{refl}
 use Rattle.hurd_trans_iface.specs.Nodes.{body_of}
 use Rattle.hurd_nodes.specs.Shown.{shown}
 use Rattle.hurd_sight.specs.Found.{of_entry}
 use Rattle.hurd_sight.proofs.FoundLaws.{gathered_each}
 use Rattle.hurd_sight.proofs.WalkLaws.{walk_all, walk_item}
 use Rattle.hurd_sight.proofs.found.Found.add_entries.Goals as goal
-
-pub loop-name-init : goal.loop-name-init
-loop-name-init g c = refl
 
 pub loop-name-preserved : goal.loop-name-preserved
 loop-name-preserved g c =

@@ -1,6 +1,6 @@
-use Rattle.std.specs.FinMap as fin
 use Rattle.std.specs.List.{flat_map}
 use Rattle.std.proofs.lemmas.Result.{on_ok_weaker}
+use Rattle.hurd_nodes.specs.Held.{home_in, active_in}
 use Rattle.hurd_nodes.specs.Shown.{NodeState, shown}
 use Rattle.hurd_sight.specs.Found.{of_target, targets_of}
 use Rattle.hurd_sight.proofs.FoundLaws.{gathered_both}
@@ -11,6 +11,6 @@ returns g c =
     let h : NodeState = shown g.S.Server.meaning c.args.nodes.now in
     let m = c.args.node in
     on_ok_weaker c.add_aims-2.result
-    (λ actives. gathered_both _ (flat_map (of_target m) (targets_of h (fin.get h.homes m))) (flat_map (of_target m) (targets_of h (fin.get h.actives m)))
+    (λ actives. gathered_both _ (flat_map (of_target m) (targets_of h (home_in h.sites m))) (flat_map (of_target m) (targets_of h (active_in h.sites m)))
     (rw c.home.ensures at c.in_ok-add_aims.ensures) (rw c.active.ensures at actives))
     c.add_aims-2.ensures

@@ -1,10 +1,6 @@
-use Rattle.std.proofs.Common.{refl}
 use Rattle.hurd_sight.proofs.NameLaws.{rights_each}
 use Rattle.hurd_sight.proofs.WalkLaws.{walk_all, walk_item}
 use Rattle.hurd_sight.proofs.held.RightNames.add_rights.Goals as goal
-
-pub loop-right-init : goal.loop-right-init
-loop-right-init c = refl
 
 pub loop-right-preserved : goal.loop-right-preserved
 loop-right-preserved c = walk_item (rights_each c.args.ports.now.state.opens) c.args.rights.now c.loop-right.right-index c.right-item.result _ _ _ c.loop-right-test.true c.right-item.is c.loop-right.invariant c.in_ok-add_right.ensures

@@ -1,13 +1,10 @@
-use Rattle.std.proofs.Common.{◌∙◌, ap, refl}
+use Rattle.std.proofs.Common.{◌∙◌, ap}
 use Rattle.std.specs.Prelude.{slice_get}
 use Rattle.hurd_creds.specs.declared.name.TaskId.{TaskId}
 use Rattle.hurd_sight.specs.Parts.{rights_at, rights_held, with_rights}
 use Rattle.hurd_sight.proofs.NameLaws.{all_empty, with-append}
 use Rattle.hurd_sight.proofs.WalkLaws.{each, walk_all, walk_next}
 use Rattle.hurd_sight.proofs.held.RightNames.of.Goals as goal
-
-pub loop-task-init : goal.loop-task-init
-loop-task-init c = refl
 
 pub loop-task-preserved : goal.loop-task-preserved
 loop-task-preserved c =

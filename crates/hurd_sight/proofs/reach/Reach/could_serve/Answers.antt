@@ -1,11 +1,6 @@
 use Rattle.std.proofs.Common.{◌∙◌, sym}
-use Rattle.hurd_sight.proofs.ReachLaws.{one_test, serves_is, serves_one, serves_zero}
+use Rattle.hurd_sight.proofs.ReachLaws.{one_test, serves_is, serves_one}
 use Rattle.hurd_sight.proofs.reach.Reach.could_serve.Goals as goal
-
-pub returns-then-holds_uid : goal.returns-then-holds_uid
-returns-then-holds_uid c =
-    let means = serves_zero c.args.self.now c.args.ids.now c.holds_uid.result c.if-holds_uid.true c.holds_uid.ensures in
-    record { test = one_test _ _ means (serves_is c.args.self.now c.args.ids.now); means = means }
 
 pub returns-else-holds_uid : goal.returns-else-holds_uid
 returns-else-holds_uid c =

@@ -1,8 +1,0 @@
-use Rattle.std.proofs.Common.{refl}
-use Rattle.hurd_sight.proofs.near.add_known.Goals as goal
-
-pub returns-in-Some : goal.returns-in-Some
-returns-in-Some g c = rw (← c.in-Some.ensures) c.add_both.ensures
-
-pub returns-in-None : goal.returns-in-None
-returns-in-None g c = rw (← c.in-None.ensures) refl
