@@ -14,5 +14,5 @@ pub made_as : (server : Option ServerBox) (some kind : ServerBox) (m : Meaning) 
 made_as server some kind m is same means = ap (option_map box_meaning) (is ∙ ap (λ (s : ServerBox). Some s) same) ∙ ap (λ (n : Meaning). Some n) (sym means)
 
 -- an edit of a header by the server in a box is one by the box
-pub edited_as : (whole part after : Meaning) (n : Name) (e : HeaderEdit) (got : Result (Unit {0}) Errno) → whole ≡ part → (got, after) ≡ edit_header_step n e part → (got, after) ≡ edit_header_step n e whole
-edited_as whole part after n e got same edited = edited ∙ ap (λ (m : Meaning). edit_header_step n e m) (sym same)
+pub edited_as : {whole part after : Meaning} (n : Name) (e : HeaderEdit) {got : Result (Unit {0}) Errno} → whole ≡ part → (got, after) ≡ edit_header_step n e part → (got, after) ≡ edit_header_step n e whole
+edited_as n e same edited = edited ∙ ap (λ (m : Meaning). edit_header_step n e m) (sym same)

@@ -15,60 +15,40 @@ use Rattle.hurd_kinds.proofs.in_box.ServerBoxServer.edit_header.Goals as goal
 
 pub returns-in-Tmpfs : goal.returns-in-Tmpfs
 unfolding box_meaning
-returns-in-Tmpfs c =
-    edited_as (box_meaning c.args.self.now) (tree c.deref_mut.result.now) (tree c.edit_header.new.self) c.args.node c.args.edit c.edit_header.result
-    (ap box_meaning c.in-Tmpfs.is ∙ ap tree (sym c.deref_mut.ensures.value)) c.edit_header.ensures
+returns-in-Tmpfs c = edited_as _ _ (ap box_meaning c.in-Tmpfs.is ∙ ap tree (sym c.deref_mut.ensures.value)) c.edit_header.ensures
 
 pub returns-in-Hello : goal.returns-in-Hello
 unfolding box_meaning
-returns-in-Hello c =
-    edited_as (box_meaning c.args.self.now) (hello_meaning c.deref_mut-in-Hello.result.now) (hello_meaning c.edit_header-in-Hello.new.self) c.args.node c.args.edit c.edit_header-in-Hello.result
-    (ap box_meaning c.in-Hello.is ∙ ap hello_meaning (sym c.deref_mut-in-Hello.ensures.value)) c.edit_header-in-Hello.ensures
+returns-in-Hello c = edited_as _ _ (ap box_meaning c.in-Hello.is ∙ ap hello_meaning (sym c.deref_mut-in-Hello.ensures.value)) c.edit_header-in-Hello.ensures
 
 pub returns-in-Null : goal.returns-in-Null
 unfolding box_meaning
-returns-in-Null c =
-    edited_as (box_meaning c.args.self.now) (null_meaning c.deref_mut-in-Null.result.now) (null_meaning c.edit_header-in-Null.new.self) c.args.node c.args.edit c.edit_header-in-Null.result
-    (ap box_meaning c.in-Null.is ∙ ap null_meaning (sym c.deref_mut-in-Null.ensures.value)) c.edit_header-in-Null.ensures
+returns-in-Null c = edited_as _ _ (ap box_meaning c.in-Null.is ∙ ap null_meaning (sym c.deref_mut-in-Null.ensures.value)) c.edit_header-in-Null.ensures
 
 pub returns-in-Zero : goal.returns-in-Zero
 unfolding box_meaning
-returns-in-Zero c =
-    edited_as (box_meaning c.args.self.now) (zero_meaning c.deref_mut-in-Zero.result.now) (zero_meaning c.edit_header-in-Zero.new.self) c.args.node c.args.edit c.edit_header-in-Zero.result
-    (ap box_meaning c.in-Zero.is ∙ ap zero_meaning (sym c.deref_mut-in-Zero.ensures.value)) c.edit_header-in-Zero.ensures
+returns-in-Zero c = edited_as _ _ (ap box_meaning c.in-Zero.is ∙ ap zero_meaning (sym c.deref_mut-in-Zero.ensures.value)) c.edit_header-in-Zero.ensures
 
 pub returns-in-Symlink : goal.returns-in-Symlink
 unfolding box_meaning
-returns-in-Symlink c =
-    edited_as (box_meaning c.args.self.now) (symlink_meaning c.deref_mut-in-Symlink.result.now) (symlink_meaning c.edit_header-in-Symlink.new.self) c.args.node c.args.edit c.edit_header-in-Symlink.result
-    (ap box_meaning c.in-Symlink.is ∙ ap symlink_meaning (sym c.deref_mut-in-Symlink.ensures.value)) c.edit_header-in-Symlink.ensures
+returns-in-Symlink c = edited_as _ _ (ap box_meaning c.in-Symlink.is ∙ ap symlink_meaning (sym c.deref_mut-in-Symlink.ensures.value)) c.edit_header-in-Symlink.ensures
 
 pub returns-in-Firmlink : goal.returns-in-Firmlink
 unfolding box_meaning
-returns-in-Firmlink c =
-    edited_as (box_meaning c.args.self.now) (firmlink_meaning c.deref_mut-in-Firmlink.result.now) (firmlink_meaning c.edit_header-in-Firmlink.new.self) c.args.node c.args.edit c.edit_header-in-Firmlink.result
-    (ap box_meaning c.in-Firmlink.is ∙ ap firmlink_meaning (sym c.deref_mut-in-Firmlink.ensures.value)) c.edit_header-in-Firmlink.ensures
+returns-in-Firmlink c = edited_as _ _ (ap box_meaning c.in-Firmlink.is ∙ ap firmlink_meaning (sym c.deref_mut-in-Firmlink.ensures.value)) c.edit_header-in-Firmlink.ensures
 
 pub returns-in-Union : goal.returns-in-Union
 unfolding box_meaning
-returns-in-Union c =
-    edited_as (box_meaning c.args.self.now) (union_meaning c.deref_mut-in-Union.result.now) (union_meaning c.edit_header-in-Union.new.self) c.args.node c.args.edit c.edit_header-in-Union.result
-    (ap box_meaning c.in-Union.is ∙ ap union_meaning (sym c.deref_mut-in-Union.ensures.value)) c.edit_header-in-Union.ensures
+returns-in-Union c = edited_as _ _ (ap box_meaning c.in-Union.is ∙ ap union_meaning (sym c.deref_mut-in-Union.ensures.value)) c.edit_header-in-Union.ensures
 
 pub returns-in-Magic : goal.returns-in-Magic
 unfolding box_meaning
-returns-in-Magic c =
-    edited_as (box_meaning c.args.self.now) (magic_meaning c.deref_mut-in-Magic.result.now) (magic_meaning c.edit_header-in-Magic.new.self) c.args.node c.args.edit c.edit_header-in-Magic.result
-    (ap box_meaning c.in-Magic.is ∙ ap magic_meaning (sym c.deref_mut-in-Magic.ensures.value)) c.edit_header-in-Magic.ensures
+returns-in-Magic c = edited_as _ _ (ap box_meaning c.in-Magic.is ∙ ap magic_meaning (sym c.deref_mut-in-Magic.ensures.value)) c.edit_header-in-Magic.ensures
 
 pub returns-in-Drip : goal.returns-in-Drip
 unfolding box_meaning
-returns-in-Drip c =
-    edited_as (box_meaning c.args.self.now) (drip_meaning c.deref_mut-in-Drip.result.now) (drip_meaning c.edit_header-in-Drip.new.self) c.args.node c.args.edit c.edit_header-in-Drip.result
-    (ap box_meaning c.in-Drip.is ∙ ap drip_meaning (sym c.deref_mut-in-Drip.ensures.value)) c.edit_header-in-Drip.ensures
+returns-in-Drip c = edited_as _ _ (ap box_meaning c.in-Drip.is ∙ ap drip_meaning (sym c.deref_mut-in-Drip.ensures.value)) c.edit_header-in-Drip.ensures
 
 pub returns-in-Fifo : goal.returns-in-Fifo
 unfolding box_meaning
-returns-in-Fifo c =
-    edited_as (box_meaning c.args.self.now) (fifo_meaning c.deref_mut-in-Fifo.result.now) (fifo_meaning c.edit_header-in-Fifo.new.self) c.args.node c.args.edit c.edit_header-in-Fifo.result
-    (ap box_meaning c.in-Fifo.is ∙ ap fifo_meaning (sym c.deref_mut-in-Fifo.ensures.value)) c.edit_header-in-Fifo.ensures
+returns-in-Fifo c = edited_as _ _ (ap box_meaning c.in-Fifo.is ∙ ap fifo_meaning (sym c.deref_mut-in-Fifo.ensures.value)) c.edit_header-in-Fifo.ensures
