@@ -7,9 +7,8 @@ use Rattle.hurd_creds.specs.declared.errno.Errno.TheVariants.{EBADF, ENOMEM, EOV
 use Rattle.hurd_creds.specs.declared.open_flags.OpenFlags.{OpenFlags}
 use Rattle.hurd_creds.specs.Access.{IdSets}
 use Rattle.hurd_creds.specs.Memory.{Meets}
-use Rattle.hurd_trans_iface.specs.Nodes.{Header, OnHeader}
 use Rattle.hurd_trans_iface.specs.Answers.{edits_if}
-use Rattle.hurd_nodes.specs.Shown.{NodeState, with_edits, can_set_attrs}
+use Rattle.hurd_nodes.specs.Shown.{NodeState, with_edits}
 use Rattle.hurd_ports.specs.declared.parents.Parent.{Parent}
 use Rattle.hurd_ports.specs.declared.table.Right.{Right}
 use Rattle.hurd_nodes.specs.Settle as kept

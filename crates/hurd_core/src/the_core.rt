@@ -95,6 +95,7 @@ impl<S: Server> Core<S> {
             Does w (room_asks w task.0 1) (λ x. opening w task.0 x node ids parents modes) (λ x. x.next) result (world_of S.meaning self.new) }
     {
         let port = self.ports.insert(task, node, ids, parents, modes)?;
+        // A server that counts no opens makes no such edit.
         let _ = self.nodes.edit_header(node, HeaderEdit::CountOpen(modes));
         Ok(port)
     }

@@ -1,15 +1,14 @@
 -- A list of things, each with its name and its value, and the map that it stands for.
-use Rattle.std.proofs.Common.{◌≡◌, ◌⊎◌, inl, inr, ℕ, zero, suc, ◌+◌, ◌<◌, Bool, true, false, cond, List, [], ◌∷◌, ◌++◌, map, length, get_or, take, ◌≤◌, refl, ap, sym, ◌∙◌, arith, add-one}
-use Rattle.std.proofs.lemmas.Bool.{cases_Bool}
+use Rattle.std.proofs.Common.{◌≡◌, ◌⊎◌, inl, inr, ℕ, suc, ◌+◌, ◌<◌, Bool, true, false, cond, List, [], ◌∷◌, map, length, get_or, take, ◌≤◌, refl, ap, sym, ◌∙◌, arith}
 use Rattle.std.proofs.lemmas.List.{take_all}
-use Rattle.std.specs.Prelude.{Option, Some, None, slice_set, slice_index_or, filter, not, is_some}
+use Rattle.std.specs.Prelude.{Option, Some, None, slice_set, slice_index_or, is_some}
 use Rattle.std.specs.Option.{option_map}
 use Rattle.std.specs.Ordering.{eq_by_cmp}
 use Rattle.std.specs.FinMap as fin
 use Rattle.hurd_creds.specs.Names.{name_cmp, same_name}
-use Rattle.hurd_creds.specs.NameMaps.{keyed, place_by, edit}
+use Rattle.hurd_creds.specs.NameMaps.{keyed, place_by}
 use Rattle.hurd_creds.specs.declared.name.Name.{Name}
-use Rattle.hurd_creds.proofs.NameLaws.{name_total, name_exact, name_tied, equal_if_same, same_map_by, edit_absent}
+use Rattle.hurd_creds.proofs.NameLaws.{name_total, name_tied, equal_if_same, same_map_by}
 
 -- the first of a list has the name, or it is looked for in the rest
 no_place : (b : Bool) (o : Option ℕ) → cond b (Some 0) (option_map (λ i. i + 1) o) ≡ None → (b ≡ false) × (o ≡ None)
@@ -32,10 +31,6 @@ shadowed : {A : Type 0} (b : Bool) (x y z : A) → cond b x z ≡ cond b x (cond
 shadowed true x y z = refl
 shadowed false x y z = refl
 
-none_anyway : {A : Type 0} (b : Bool) → ◌≡◌ {A = Option A} None (cond b None None)
-none_anyway true = refl
-none_anyway false = refl
-
 -- a name that ties with two ties them
 ties_both : (q a b : Name) → eq_by_cmp name_cmp q a ≡ true → eq_by_cmp name_cmp q b ≡ true → same_name a b ≡ true
 ties_both q a b h k =
@@ -45,31 +40,6 @@ ties_both q a b h k =
 module _ {X V : Type 0} (key : X → Name) (value : X → V) where
   abbrev entry_of : X → Name × V
   entry_of x = (key x, value x)
-
-  -- a scan that has found none before i, and finds the name at i
-  pub place-found : (n : Name) (xs : List X) (i : ℕ) (d : X) → i < length xs → place_by key n (take i xs) ≡ None → same_name n (key (get_or xs i d)) ≡ true → Some i ≡ place_by key n xs
-  place-found n [] i d h none is = absurd (omega arith)
-  place-found n (x ∷ xs) zero d h none is = sym (ap (λ b. cond b (Some 0) (option_map (λ i. i + 1) (place_by key n xs))) is)
-  place-found n (x ∷ xs) (suc i) d h none is =
-      let both = no_place (same_name n (key x)) (place_by key n (take i xs)) none in
-      let rest = place-found n xs i d (omega arith) both.1 is in
-      rw (both.0, ← rest, add-one)
-
-  place-more_suc : (n : Name) (xs : List X) (i : ℕ) (d : X) → i < length xs → place_by key n (take i xs) ≡ None → same_name n (key (get_or xs i d)) ≡ false → place_by key n (take (suc i) xs) ≡ None
-  place-more_suc n [] i d h none is = refl
-  place-more_suc n (x ∷ xs) zero d h none is = rw is
-  place-more_suc n (x ∷ xs) (suc i) d h none is =
-      let both = no_place (same_name n (key x)) (place_by key n (take i xs)) none in
-      let rest = place-more_suc n xs i d (omega arith) both.1 is in
-      rw (both.0, rest)
-
-  -- a scan that has found none before i, and doesn't find the name at i
-  pub place-more : (n : Name) (xs : List X) (i : ℕ) (d : X) → i < length xs → place_by key n (take i xs) ≡ None → same_name n (key (get_or xs i d)) ≡ false → place_by key n (take (i + 1) xs) ≡ None
-  place-more n xs i d below none is = rw add-one (place-more_suc n xs i d below none is)
-
-  -- the same two of a thing x that was read at i
-  pub place-found_read : (n : Name) (xs : List X) (i : ℕ) (x : X) → i < length xs → place_by key n (take i xs) ≡ None → x ≡ slice_index_or xs i x → same_name n (key x) ≡ true → Some i ≡ place_by key n xs
-  place-found_read n xs i x below none read is = place-found n xs i x below none (ap (λ (t : X). same_name n (key t)) (sym read) ∙ is)
 
   -- a scan that has found none in the whole list
   pub place-none : (n : Name) (xs : List X) (i : ℕ) → length xs ≤ i → place_by key n (take i xs) ≡ None → None ≡ place_by key n xs
@@ -118,10 +88,6 @@ module _ {X V : Type 0} (key : X → Name) (value : X → V) where
       let at = found_at n xs i h in
       record { below = at.below; named = at.named; finds = λ d. get-keyed xs n ∙ at.finds d }
 
-  -- the value of the first thing of a name, at index i
-  pub get-placed : (n : Name) (xs : List X) (i : ℕ) (d : X) → Some i ≡ place_by key n xs → fin.get (keyed key value xs) n ≡ Some (value (get_or xs i d))
-  get-placed n xs i d at = (place-is n xs i (sym at)).finds d
-
   -- the value of a thing of the name that was read at its place
   pub get-found : (n : Name) (xs : List X) (i : ℕ) (x : X) → Some i ≡ place_by key n xs → x ≡ slice_index_or xs i x → fin.get (keyed key value xs) n ≡ Some (value x)
   get-found n xs i x at is = (place-is n xs i (sym at)).finds x ∙ ap (λ (t : X). Some (value t)) (sym is)
@@ -157,28 +123,6 @@ module _ {X V : Type 0} (key : X → Name) (value : X → V) where
   pub keyed-changed : (n : Name) (xs : List X) (i : ℕ) (old new : X) → Some i ≡ place_by key n xs → old ≡ slice_index_or xs i old → key new ≡ key old → keyed key value (slice_set xs i new) ≡ fin.insert (keyed key value xs) n (value new)
   keyed-changed n xs i old new at is same = keyed-set n xs i new (sym at) (same ∙ ap key is ∙ (place-is n xs i (sym at)).named old)
 
-  -- where nothing has the name, an edit changes nothing
-  pub edit-absent : (n : Name) (xs : List X) (f : V → V) → None ≡ place_by key n xs → edit n f (keyed key value xs) ≡ keyed key value xs
-  edit-absent n xs f at = edit_absent (keyed key value xs) n f (get-absent n xs at)
-
-  map-append : (xs ys : List X) → map entry_of (xs ++ ys) ≡ map entry_of xs ++ map entry_of ys
-  map-append [] ys = refl
-  map-append (x ∷ xs) ys = ap (λ (r : List (Name × V)). entry_of x ∷ r) (map-append xs ys)
-
   pub keyed-nothing : keyed key value [] ≡ fin.empty
   unfolding keyed
   keyed-nothing = refl
-
-  -- a thing of a new name at the end
-  pub keyed-push : (xs : List X) (x : X) → fin.get (keyed key value xs) (key x) ≡ None → keyed key value (xs ++ x ∷ []) ≡ fin.insert (keyed key value xs) (key x) (value x)
-  unfolding keyed
-  keyed-push xs x none =
-      ap (λ (es : List (Name × V)). fin.from_entries {R = name_cmp} es) (map-append xs (x ∷ []))
-      ∙ fin.from_entries_push name_total name_exact (map entry_of xs) (key x) (value x) (sym (get-keyed xs (key x)) ∙ none)
-
-  find-filter : (n : Name) (xs : List X) (q : Name) → fin.find name_cmp q (map entry_of (filter (λ (x : X). not (same_name n (key x))) xs)) ≡ cond (eq_by_cmp name_cmp q n) None (fin.find name_cmp q (map entry_of xs))
-  find-filter n [] q = none_anyway (eq_by_cmp name_cmp q n)
-  find-filter n (x ∷ xs) q = elim (cases_Bool (same_name n (key x))) [
-    | inl y ↦ rw (y, ← equal_if_same n (key x) y, find-filter n xs q) (shadowed (eq_by_cmp name_cmp q n) None (Some (value x)) (fin.find name_cmp q (map entry_of xs)))
-    | inr f ↦ rw (f, find-filter n xs q) (swapped (eq_by_cmp name_cmp q (key x)) (eq_by_cmp name_cmp q n) (Some (value x)) None (fin.find name_cmp q (map entry_of xs)) (λ a b. let k = ties_both q n (key x) b a in cc))
-  ]

@@ -129,7 +129,7 @@ with_seats h seats = record h { seats = seats }
 abbrev pub with_server_of : {S : Type 0} → Held S → Name → S → Held S
 with_server_of h n w = with_seats h (put_by h.seats (home_in h.sites n) w)
 
--- whether a node's server is s
+-- whether the server of a node, or the one that is active on it, is s
 abbrev pub is_home : Name → Option Name → Bool
 is_home s None = false
 is_home s (Some q) = same_name s q

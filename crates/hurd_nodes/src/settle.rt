@@ -220,7 +220,7 @@ impl<S: Server> Nodes<S> {
     }
 
     /// Whether a server stays: the boot server, one that is active on a node, one that is controlled, and one that has a node that is named. First is looked at the
-    /// node on which it was attached, if one is given; all on which servers are active only where it isn't active there.
+    /// node on which it was attached, if one is given; all sites only where it isn't active there.
     #[tactic(auto, using(crate::proofs::StayLaws::four_tests))]
     fn server_stays<N: Namings>(
         &self,

@@ -1,6 +1,5 @@
 //! The nodes that a set of tasks sees, and why.
 ghost use Rattle.std.specs.Prelude.{◌≡◌, ◌<◌, ◌^◌, false, length, option_and_then, IfOk, OnOk, slice_get};
-ghost use Rattle.std.specs.FinMap as fin;
 ghost use Rattle.std.specs.List.{flat_map};
 ghost use Rattle.std.specs.Option.{option_map};
 ghost use Rattle.hurd_creds.specs.declared.name.Name.{Name};

@@ -1,6 +1,5 @@
 //! The nodes that are seen, and their servers: those that are known by them, and those that may be sent away by what is seen.
 ghost use Rattle.std.specs.Prelude.{◌≡◌, [], if◌then◌else◌, IfOk, OnOk, slice_get};
-ghost use Rattle.std.specs.FinMap as fin;
 ghost use Rattle.hurd_trans_iface.specs.Nodes.{header_of};
 ghost use Rattle.hurd_nodes.specs.Held.{active_in, home_in};
 ghost use Rattle.hurd_nodes.specs.Shown.{shown};

@@ -18,7 +18,7 @@ use Rattle.hurd_trans_iface.specs.Answers.{entry_in}
 use Rattle.hurd_trans_iface.specs.Meaning.{ServerKind, Tmpfs, Hello, Null, Zero, Symlink, Firmlink, Union, Magic, Drip, Fifo, all_kinds, behaviour_of, options_of}
 use Rattle.hurd_nodes.specs.Shown.{ServerInfo}
 use Rattle.hurd_ports.specs.Tables.{Task}
-use Rattle.hurd_machine.specs.World.{World, IsAmong, nodes_of, active_at, body_at, header_at, home_at, open_at, server_at, task_at, words_at, words_in, site_at}
+use Rattle.hurd_machine.specs.World.{World, IsAmong, nodes_of, body_at, header_at, open_at, server_at, task_at, words_at, words_in, site_at}
 use Rattle.hurd_machine.specs.Sight.{Part, AttrOf, EmptyOf, BodyOf, OpenOf, OptionsOf, UsersOf, TaskOf, Sees, SameView, AnAttr, AnEmpty, ABody, AnOpen, AnOptions, AUsers, ATask, bare, holders, part, users}
 use Rattle.hurd_machine.specs.Sound.{AreDistinct, HasDistinctNames, Sound}
 use Rattle.hurd_sight.specs.Looks.{sees_with}
