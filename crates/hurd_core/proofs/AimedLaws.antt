@@ -1,12 +1,8 @@
 -- What the server of a seen node aims at is seen, and so are the directories that the node shows as one.
 use Rattle.std.proofs.Common.{◌≡◌, ℕ, Bool, Option, Some, None, refl, inl}
-use Rattle.hurd_creds.specs.declared.name.Name.{Name}
+use Rattle.hurd_machine.proofs.Common.{Crossing, Firm, IsAmong, Name, Plain, Seen, ServerInfo, Target, World, home_at, info_at, info_in, server_at, targets_at, targets_in}
 use Rattle.hurd_trans_iface.specs.Meaning.{root_of}
-use Rattle.hurd_trans_iface.specs.declared.root.Crossing.{Crossing}
-use Rattle.hurd_trans_iface.specs.declared.root.Crossing.TheVariants.{Plain, Link, Firm, Union}
-use Rattle.hurd_nodes.specs.Shown.{ServerInfo, info_in}
-use Rattle.hurd_machine.specs.World.{World, IsAmong, home_at, server_at, info_at, targets_at, targets_in}
-use Rattle.hurd_machine.specs.Sight.{Seen, Target}
+use Rattle.hurd_trans_iface.specs.declared.root.Crossing.TheVariants.{Link, Union}
 use Rattle.hurd_core.specs.Branches.{branches, branches_at, branches_by}
 
 -- a branch is a target

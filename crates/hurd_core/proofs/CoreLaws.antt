@@ -1,28 +1,18 @@
 -- What becomes of one half of the world is what the machine's changes make of all of it.
 use Rattle.std.proofs.Common.{◌≡◌, ◌∙◌, inl, inr, ℕ, Bool, true, false, option_map, List, [], ◌∷◌, Option, Some, None, refl, sym, ap, slice_get, true≢false}
 use Rattle.std.specs.Prelude.{Result, Ok, Err, is_ok, if◌then◌else◌}
-use Rattle.hurd_creds.specs.declared.name.Name.{Name}
-use Rattle.hurd_creds.specs.declared.errno.Errno.{Errno}
-use Rattle.hurd_creds.specs.declared.errno.Errno.TheVariants.{EBADF, ENOMEM, EOVERFLOW, ESRCH}
-use Rattle.hurd_creds.specs.declared.open_flags.OpenFlags.{OpenFlags}
-use Rattle.hurd_creds.specs.Access.{IdSets}
-use Rattle.hurd_creds.specs.Memory.{Meets}
-use Rattle.hurd_trans_iface.specs.Answers.{edits_if}
-use Rattle.hurd_nodes.specs.Shown.{NodeState, with_edits}
+use Rattle.hurd_machine.proofs.Common.{EBADF, ENOMEM, EOVERFLOW, ESRCH, EditHeader, EditTask, Errno, HeaderEdit, IdSets, IsSettled, Meets, Name, NodeState, OpenFlags, Plan, PortState, Right, Settle, Task, World, answered, apply, apply_all, can_name, closes, closing, deallocate_at, deallocate_step, dropping, edit_header_at, edit_task, edits_if, given, has_room, header_after, insert_at, insert_step, naming_of, on, or_refuse, outside_by, right_at, right_in, room_at, room_of, told, with_edits, with_new_port, without_port, world_from}
 use Rattle.hurd_ports.specs.declared.parents.Parent.{Parent}
-use Rattle.hurd_ports.specs.declared.table.Right.{Right}
 use Rattle.hurd_nodes.specs.Settle as kept
-use Rattle.hurd_ports.specs.Tables.{PortState, Task, can_name, naming_at, naming_of, or_refuse, IsSettled, right_at, right_in, right_of, has_room, room_at, room_of}
-use Rattle.hurd_ports.specs.Steps.{with_new_port, deallocate_at, deallocate_step, dropped, edit_task, settle_opens, without_port, insert_at, insert_step}
+use Rattle.hurd_ports.specs.Tables.{naming_at, right_of}
+use Rattle.hurd_ports.specs.Steps.{dropped, settle_opens}
 use Rattle.hurd_machine.specs.declared.call.Reply.TheVariants.{Done}
-use Rattle.hurd_machine.specs.World.{World, world_from}
-use Rattle.hurd_machine.specs.Change.{EditHeader, EditTask, Settle, apply, apply_all, closes, closing, dropping, outside_by, settle}
+use Rattle.hurd_machine.specs.Change.{settle}
 use Rattle.hurd_machine.proofs.Keeping.{apply_all-append}
-use Rattle.hurd_machine.specs.Plan.{Plan, Follows, answered, told, on, given}
+use Rattle.hurd_machine.specs.Plan.{Follows}
 use Rattle.hurd_core.specs.Core.{closed_with, naming_asks, room_asks}
-use Rattle.hurd_trans_iface.specs.declared.header_edit.HeaderEdit.{HeaderEdit}
-use Rattle.hurd_trans_iface.specs.Answers.{header_after, header_edits}
-use Rattle.hurd_nodes.specs.Shown.{can_edit_header, edit_header_at}
+use Rattle.hurd_trans_iface.specs.Answers.{header_edits}
+use Rattle.hurd_nodes.specs.Shown.{can_edit_header}
 use Rattle.hurd_core.proofs.CountLaws.{closed_nodes, closed-world}
 use Rattle.hurd_core.proofs.SettleLaws.{settled_if, settled_world}
 

@@ -1,23 +1,12 @@
 -- How often nodes are open, in the nodes and in the world.
 use Rattle.std.proofs.Common.{◌≡◌, ◌==◌, ℕ, Bool, true, false, Option, Some, None, refl, sym, ap, ◌∙◌}
 use Rattle.std.specs.Prelude.{Ok, Result}
-use Rattle.std.specs.FinMap.{get}
+use Rattle.hurd_machine.proofs.Common.{Errno, Header, HeaderEdit, Io, IoRight, Name, NodeState, OpenFlags, Opened, PortState, apply_all, changes_of, closed_by, closes, closing, count_rights, counting, counts_by, edit_header_at, get, header_after, io_right_of, names_open, server_of, with_edits, world_from}
 use Rattle.std.proofs.lemmas.Bool.{eqb-true}
-use Rattle.hurd_creds.specs.declared.name.Name.{Name}
-use Rattle.hurd_creds.specs.declared.open_flags.OpenFlags.{OpenFlags}
-use Rattle.hurd_trans_iface.specs.Nodes.{Header, counting, closed_by}
-use Rattle.hurd_creds.specs.declared.errno.Errno.{Errno}
-use Rattle.hurd_trans_iface.specs.declared.header_edit.HeaderEdit.{HeaderEdit}
-use Rattle.hurd_trans_iface.specs.Answers.{header_after, makes_edit}
-use Rattle.hurd_nodes.specs.Shown.{NodeState, edit_header_at, server_of, with_edits}
+use Rattle.hurd_trans_iface.specs.Answers.{makes_edit}
 use Rattle.hurd_nodes.proofs.EditLaws.{opens-counted}
-use Rattle.hurd_nodes.specs.Needs.{counts_by}
-use Rattle.hurd_ports.specs.Tables.{PortState, count_rights, io_right_of, names_open, right_of}
-use Rattle.hurd_ports.specs.declared.table.IoRight.{IoRight}
-use Rattle.hurd_ports.specs.declared.table.Opened.{Opened}
-use Rattle.hurd_ports.specs.declared.table.Right.TheVariants.{Io}
-use Rattle.hurd_machine.specs.World.{World, world_from}
-use Rattle.hurd_machine.specs.Change.{apply_all, changes_of, closes, closing, counted}
+use Rattle.hurd_ports.specs.Tables.{right_of}
+use Rattle.hurd_machine.specs.Change.{counted}
 use Rattle.hurd_machine.proofs.Asks.{io_right_is}
 use Rattle.hurd_core.specs.Core.{closed_with}
 

@@ -2,21 +2,7 @@
 use Rattle.std.proofs.Common.{◌≡◌, ◌∙◌, inr, ℕ, Option, Some, refl, ap, subst, slice_get}
 use Rattle.std.specs.Prelude.{Result, Ok, Err, is_ok}
 use Rattle.std.specs.Option.{option_map}
-use Rattle.std.specs.FinMap.{get}
-use Rattle.hurd_nodes.specs.Held.{home_in}
-use Rattle.hurd_creds.specs.declared.name.Name.{Name}
-use Rattle.hurd_creds.specs.declared.attrs.Kind.TheVariants.{Dir}
-use Rattle.hurd_creds.specs.declared.errno.Errno.{Errno}
-use Rattle.hurd_creds.specs.declared.errno.Errno.TheVariants.{EDIED}
-use Rattle.hurd_creds.specs.Memory.{Steps}
-use Rattle.hurd_trans_iface.specs.declared.new_node.NewNode.{NewNode}
-use Rattle.hurd_trans_iface.specs.Nodes.{new_dir}
-use Rattle.hurd_trans_iface.specs.Answers.{named_by}
-use Rattle.hurd_nodes.specs.Shown.{NodeState, can_make, make_at, with_made}
-use Rattle.hurd_ports.specs.Tables.{PortState, Task, fresh, naming_of}
-use Rattle.hurd_ports.specs.Steps.{name_step}
-use Rattle.hurd_machine.specs.World.{World, world_from, home_at}
-use Rattle.hurd_machine.specs.Plan.{on, first}
+use Rattle.hurd_machine.proofs.Common.{Dir, EDIED, Errno, Name, NewNode, NodeState, PortState, Steps, Task, World, can_make, first, fresh, home_at, home_in, make_at, name_step, named_by, naming_of, new_dir, on, with_made, world_from}
 use Rattle.hurd_core.specs.Core.{Does, NewNodeAt, asked_node, naming_asks, making_dir_asks, making_dir}
 use Rattle.hurd_core.proofs.CoreLaws.{naming-refused, naming-had}
 use Rattle.hurd_core.proofs.MakingLaws.{making-home, make-lacks, make-done, made-nodes}

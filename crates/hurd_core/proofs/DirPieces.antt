@@ -1,15 +1,8 @@
 -- A directory made by the core, as a piece of any call: what it asks, and what its changes keep.
 use Rattle.std.proofs.Common.{◌≡◌, ℕ, Bool, true, List, Some, refl, subst}
 use Rattle.std.specs.Prelude.{Ok}
-use Rattle.std.specs.FinMap.{empty}
-use Rattle.hurd_creds.specs.declared.name.Name.{Name}
-use Rattle.hurd_creds.specs.declared.attrs.Kind.TheVariants.{Dir}
-use Rattle.hurd_creds.specs.declared.errno.Errno.TheVariants.{EDIED, EOVERFLOW, ESRCH}
-use Rattle.hurd_trans_iface.specs.Nodes.{Node, new_dir}
-use Rattle.hurd_ports.specs.Tables.{Task, fresh, can_name}
-use Rattle.hurd_machine.specs.World.{World, nodes_of, task_at, home_at, makes_at}
-use Rattle.hurd_machine.specs.Sight.{Part, EmptyOf, BodyOf, Seen, Sees}
-use Rattle.hurd_machine.specs.Sound.{LeadsUp, Sound}
+use Rattle.hurd_machine.proofs.Common.{BodyOf, Dir, EDIED, EOVERFLOW, ESRCH, EmptyOf, LeadsUp, Name, Node, Part, Seen, Sees, Sound, Task, World, can_name, empty, fresh, home_at, makes_at, new_dir, task_at}
+use Rattle.hurd_machine.specs.World.{nodes_of}
 use Rattle.hurd_machine.proofs.Frame.{Full}
 use Rattle.hurd_machine.proofs.Links.{dir_hangs}
 use Rattle.hurd_machine.proofs.Views.{Agree, same_tasks, home_same}

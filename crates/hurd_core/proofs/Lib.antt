@@ -12,6 +12,7 @@ pub mod RenameLaws
 pub mod OptionLaws
 pub mod ServerLaws
 pub mod NamedLaws
-pub mod UserLaws
 pub mod NeedLaws
 pub mod AimedLaws
+pub mod UsedLaws
+pub mod UserLaws

@@ -1,31 +1,17 @@
 -- A node made, and a file opened with it, half by half, is the machine's making.
-use Rattle.std.proofs.Common.{◌≡◌, ◌∙◌, inl, inr, ℕ, ◌+◌, Bool, true, List, [], ◌∷◌, Option, Some, None, refl, sym, ap, ap₂, subst, slice_get, nat_lt, nat_le, arith}
+use Rattle.std.proofs.Common.{◌≡◌, ◌≢◌, ◌∙◌, inl, inr, ℕ, ◌+◌, Bool, true, List, ◌∷◌, Option, Some, None, refl, sym, ap, ap₂, subst, slice_get, nat_lt, nat_le, arith}
 use Rattle.std.specs.Prelude.{Result, Ok, Err, is_ok, ◌&&◌, if◌then◌else◌}
 use Rattle.std.specs.Option.{option_map}
-use Rattle.std.specs.FinMap.{get, put}
-use Rattle.hurd_nodes.specs.Held.{home_in}
-use Rattle.hurd_creds.specs.declared.name.Name.{Name}
-use Rattle.hurd_creds.specs.declared.attrs.Kind.{Kind}
-use Rattle.hurd_creds.specs.declared.attrs.Kind.TheVariants.{File}
-use Rattle.hurd_creds.specs.declared.errno.Errno.{Errno}
-use Rattle.hurd_creds.specs.declared.errno.Errno.TheVariants.{EDIED, ENOMEM, EOVERFLOW}
-use Rattle.hurd_creds.specs.declared.open_flags.OpenFlags.{OpenFlags}
-use Rattle.hurd_creds.specs.Access.{IdSets}
-use Rattle.hurd_creds.specs.Memory.{Steps}
-use Rattle.hurd_trans_iface.specs.declared.new_node.NewNode.{NewNode}
-use Rattle.hurd_trans_iface.specs.Nodes.{AddNode, Node, edit_all, new_file}
-use Rattle.hurd_trans_iface.specs.Answers.{added, entering, made_node, named_by}
-use Rattle.hurd_nodes.specs.Shown.{NodeState, info_in, can_make, made_by, make_at, on_ok, with_home, with_made}
+use Rattle.hurd_machine.proofs.Common.{AddNode, EDIED, ENOMEM, EOVERFLOW, Errno, File, IdSets, Kind, MakeNode, Name, NewNode, Node, NodeState, OpenFlags, PortState, Steps, Task, World, apply_all, can_make, changes_of, edit_all, first, fresh, get, has_room, home_at, home_in, info_in, insert_step, made_node, make_at, makes_at, name_step, named_by, new_file, on, porting, room_at, room_of, u64_greatest, with_home, with_made, with_new_port, world_from}
+use Rattle.hurd_trans_iface.specs.Answers.{added, entering}
+use Rattle.hurd_nodes.specs.Shown.{made_by, on_ok}
 use Rattle.hurd_ports.specs.declared.parents.Parent.{Parent}
-use Rattle.hurd_ports.specs.Tables.{PortState, Task, fresh, has_room, room_at, room_of, u64_greatest}
-use Rattle.hurd_ports.specs.Steps.{named, insert_step, name_step, with_new_port}
+use Rattle.hurd_ports.specs.Steps.{named}
 use Rattle.hurd_ports.proofs.TaskLaws.{edit-here}
-use Rattle.hurd_machine.specs.World.{World, world_from, home_at, makes_at}
-use Rattle.hurd_machine.specs.Change.{MakeNode, apply_all, changes_of, porting}
-use Rattle.hurd_machine.specs.Plan.{on, first}
 use Rattle.hurd_machine.proofs.Keeping.{apply_all-append}
 use Rattle.hurd_core.specs.Core.{Does, NewNodeAt, asked_node, asked_only, making, making_asks, making_open}
 use Rattle.hurd_core.proofs.CoreLaws.{IsRefused, HasRoom, room, insert-had}
+use Rattle.hurd_core.proofs.UserLaws.{made_apart}
 
 -- where a node may be made in a directory, that has a server
 home_by : (h : NodeState) (d : Name) (entry : Option (List ℕ)) (kind : Kind) (o : Option Name) → home_in h.sites d ≡ o → made_by entry kind (info_in h.servers o) (get h.nodes d) ≡ Ok tt → (s : Name) × (home_in h.sites d ≡ Some s)
@@ -164,6 +150,13 @@ module _ (N : NodeState) (H : PortState) (t : ℕ) (f : NewNodeAt) where
 
   pub make-done : (new : NewNode) (M : NodeState) → can_make f.dir f.entry new.kind N ≡ Ok tt → Steps N (make_at f.dir f.entry new N) (Ok tt) M → M ≡ with_made f.dir f.entry new N
   make-done new M m s = s.left ∙ ap (λ (a : Result (Unit {0}) Errno). on_ok a N (with_made f.dir f.entry new N)) m
+
+  -- the other sites stay
+  pub made-apart : (kind : Kind) (name : Name) (new : NewNode) (M : NodeState) → can_make f.dir f.entry kind N ≡ Ok tt → new ≡ asked_node kind f name → Steps N (make_at f.dir f.entry new N) (Ok tt) M
+      → (m : Name) → m ≢ name → home_in M.sites m ≡ home_in N.sites m
+  made-apart kind name new M may is steps m apart =
+      let made = make-done (asked_node kind f name) M may (subst (λ (z : NewNode). Steps N (make_at f.dir f.entry z N) (Ok tt) M) is steps) in
+      ap (λ (K : NodeState). home_in K.sites m) made ∙ made_apart name (home_in N.sites f.dir) N.sites m apart
 
   -- all of it: the name that is next, the node made under it, the name given, and the port put in
   pub file-made : (ids : IdSets) (parents : List Parent) (modes : OpenFlags) (G L K : PortState) (M : NodeState) (name : Name) (new : NewNode) (k : ℕ) → room_of H t 2 ≡ Ok tt → can_make f.dir f.entry File N ≡ Ok tt → G ≡ H

@@ -1,13 +1,8 @@
 -- What a port names, from the attributes and the words of its node.
 use Rattle.std.proofs.Common.{◌≡◌, ℕ, List, [], ◌∷◌, Option, Some, None, refl, option_map}
 use Rattle.std.specs.Prelude.{Ok}
-use Rattle.hurd_creds.specs.declared.attrs.Attrs.{Attrs}
-use Rattle.hurd_trans_iface.specs.Nodes.{Node, attrs_of, passive_of, some_words}
-use Rattle.hurd_ports.specs.declared.table.IoRight.{IoRight}
-use Rattle.hurd_ports.specs.Tables.{io_right_of}
-use Rattle.hurd_machine.specs.World.{World, ports_of, node_at, words_in}
-use Rattle.hurd_machine.specs.Handle.{port_asks, both_asks}
-use Rattle.hurd_machine.specs.Plan.{on, first}
+use Rattle.hurd_machine.proofs.Common.{Attrs, IoRight, Node, World, both_asks, first, io_right_of, node_at, on, passive_of, port_asks, ports_of, some_words, words_in}
+use Rattle.hurd_trans_iface.specs.Nodes.{attrs_of}
 use Rattle.hurd_core.specs.PortNode.{header_with, or_no_words}
 
 -- words that are there, or none, are the list that is stored

@@ -1,17 +1,11 @@
 -- What a server is asked, the core does in the world; and where a server needs no memory, its row answers as its plan says.
 use Rattle.std.proofs.Common.{◌≡◌, ◌∙◌, inl, inr, ℕ, Bool, true, false, cond, List, Option, Some, None, sym, refl, ap, subst, true≢false}
 use Rattle.std.specs.Prelude.{Result, Ok, Err}
-use Rattle.hurd_creds.specs.declared.name.Name.{Name}
-use Rattle.hurd_creds.specs.declared.errno.Errno.{Errno}
-use Rattle.hurd_creds.specs.Memory.{Steps, is_no_memory}
-use Rattle.hurd_trans_iface.specs.Behaviour.{Did, Effect, Question, edit_bytes, edit_size, edits_of, told_of}
-use Rattle.hurd_nodes.specs.Shown.{NodeState, asked_step, effect_at, with_edits}
-use Rattle.hurd_ports.specs.Tables.{PortState}
-use Rattle.hurd_machine.specs.Calls.{Reply}
+use Rattle.hurd_machine.proofs.Common.{Change, Did, Errno, Name, NodeState, Plan, PortState, Question, Reply, Steps, World, answered, apply_all, asked_at, changes_of, edit_bytes, edit_size, edits_of, is_no_memory, told, with_edits, world_from}
+use Rattle.hurd_trans_iface.specs.Behaviour.{Effect, told_of}
+use Rattle.hurd_nodes.specs.Shown.{asked_step, effect_at}
 use Rattle.hurd_machine.specs.declared.call.Reply.TheVariants.{Refused}
-use Rattle.hurd_machine.specs.World.{World, world_from, asked_at}
-use Rattle.hurd_machine.specs.Change.{Change, apply_all, changes_of}
-use Rattle.hurd_machine.specs.Plan.{Plan, Follows, answered, told}
+use Rattle.hurd_machine.specs.Plan.{Follows}
 use Rattle.hurd_core.specs.Core.{Does}
 use Rattle.hurd_core.proofs.PlanLaws.{asked-done, follows-refused}
 

@@ -1,20 +1,10 @@
 -- What options make of a server is what the machine's changes make of the world.
 use Rattle.std.proofs.Common.{◌≡◌, ◌∙◌, ℕ, Bool, true, false, cond, List, [], ◌∷◌, Option, Some, None, refl, sym, ap, subst, true≢false, inl, inr}
 use Rattle.std.specs.Prelude.{Result, Ok, Err}
-use Rattle.std.specs.FinMap.{get}
-use Rattle.hurd_creds.specs.declared.name.Name.{Name}
-use Rattle.hurd_creds.specs.declared.errno.Errno.{Errno}
-use Rattle.hurd_creds.specs.Memory.{Steps, is_no_memory}
-use Rattle.hurd_creds.specs.NameMaps.{edit}
-use Rattle.hurd_trans_iface.specs.Nodes.{OnHeader, with_size}
-use Rattle.hurd_trans_iface.specs.Meaning.{size_of}
-use Rattle.hurd_nodes.specs.Shown.{NodeState, ServerInfo, own_nodes, retexted, retexted_if, set_options_at, sizing, takes_options, with_edits, with_text}
-use Rattle.hurd_ports.specs.Tables.{PortState}
+use Rattle.hurd_machine.proofs.Common.{Errno, Name, NodeState, OnHeader, Plan, Planned, PortState, Reply, ServerInfo, Steps, World, apply_all, changes_of, edit, get, is_no_memory, own_nodes, retexting, size_of, sizing, takes_options, told, with_edits, with_size, with_text, world_from}
+use Rattle.hurd_nodes.specs.Shown.{retexted, retexted_if, set_options_at}
 use Rattle.hurd_machine.specs.declared.call.Reply.TheVariants.{Done}
-use Rattle.hurd_machine.specs.World.{World, world_from}
-use Rattle.hurd_machine.specs.Change.{apply_all, changes_of, retexting}
-use Rattle.hurd_machine.specs.Calls.{Reply}
-use Rattle.hurd_machine.specs.Plan.{Plan, Follows, Planned, told}
+use Rattle.hurd_machine.specs.Plan.{Follows}
 use Rattle.hurd_core.specs.Control.{plan_options}
 use Rattle.hurd_core.proofs.PlanLaws.{asked-refused, asked-lacks, asked-done, follows-refused, follows-then}
 
@@ -77,3 +67,12 @@ module _ (N : NodeState) (H : PortState) (s : Name) (words : List (List ℕ)) wh
   pub options-follow : (r : Result (Unit {0}) Errno) (M : NodeState) → ◌≡◌ {A = Result (Unit {0}) Errno × NodeState} (r, M) (set_options_at s words N)
       → Follows w (plan_options w s words) (told tells r) (world_from M H)
   options-follow r M h = follows_by asks refl r M h
+
+  -- the sites stay
+  pub options-sites : (set_options_at s words N).1.sites ≡ N.sites
+  options-sites = by (takes_options words (get N.servers s))
+    where
+      by : (a : Result (ServerInfo × Option (List ℕ)) Errno) → (retexted_if s a N).1.sites ≡ N.sites
+      by (Ok (i, None)) = refl
+      by (Ok (i, Some text)) = refl
+      by (Err e) = refl

@@ -1,14 +1,9 @@
 -- When a row's answer, and the world that it leaves, are those of its plan.
 use Rattle.std.proofs.Common.{◌≡◌, ◌∙◌, inl, inr, false, true≢false, List, sym, refl, ap, subst}
 use Rattle.std.specs.Prelude.{Result, Ok, Err, IsOk}
-use Rattle.hurd_creds.specs.declared.errno.Errno.{Errno}
-use Rattle.hurd_creds.specs.declared.errno.Errno.TheVariants.{ENOMEM}
-use Rattle.hurd_creds.specs.Memory.{Meets}
-use Rattle.hurd_machine.specs.Calls.{Reply}
+use Rattle.hurd_machine.proofs.Common.{Change, ENOMEM, Errno, Meets, Plan, Planned, Reply, World, after_plan, answered, apply_all, is_refused, looks, told}
 use Rattle.hurd_machine.specs.declared.call.Reply.TheVariants.{Refused}
-use Rattle.hurd_machine.specs.World.{World}
-use Rattle.hurd_machine.specs.Change.{Change, apply_all}
-use Rattle.hurd_machine.specs.Plan.{Plan, Planned, Follows, after_plan, answered, looks, is_refused, told}
+use Rattle.hurd_machine.specs.Plan.{Follows}
 use Rattle.hurd_core.specs.Core.{Does, asked_only}
 
 module _ {A T : Type 0} (w : World) (asks : Result A Errno) (k : A → Plan) (f : T → Reply) where

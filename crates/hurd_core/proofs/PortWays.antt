@@ -1,11 +1,7 @@
 -- The ways that a port came in by: a right may name them, and its task sees them.
 use Rattle.std.proofs.Common.{◌≡◌, ℕ, Bool, true, Ok, inl, inr}
-use Rattle.hurd_creds.specs.declared.name.Name.{Name}
-use Rattle.hurd_ports.specs.declared.table.IoRight.{IoRight}
-use Rattle.hurd_ports.specs.declared.table.Right.TheVariants.{Io}
-use Rattle.hurd_ports.specs.Tables.{right_of, ways_of}
-use Rattle.hurd_machine.specs.World.{World, IsAmong, ports_of}
-use Rattle.hurd_machine.specs.Sound.{Coherent}
+use Rattle.hurd_machine.proofs.Common.{Coherent, Io, IoRight, IsAmong, Name, World, ports_of, ways_of}
+use Rattle.hurd_ports.specs.Tables.{right_of}
 use Rattle.hurd_machine.proofs.Coherence.{CanBeNamed}
 use Rattle.hurd_machine.proofs.Asks.{has_right, holds_right}
 use Rattle.hurd_machine.proofs.Confine.{SeenOrNew, named_seen}

@@ -1,19 +1,9 @@
 -- An entry that the core has go to another directory is what the machine's changes make of the world.
 use Rattle.std.proofs.Common.{◌≡◌, ◌∙◌, Bool, true, false, cond, List, [], ◌∷◌, Option, Some, None, ℕ, refl, sym, ap, inl, inr}
 use Rattle.std.specs.Prelude.{Result, Ok, Err, if◌then◌else◌}
-use Rattle.std.specs.FinMap.{get}
-use Rattle.hurd_nodes.specs.declared.seat.Site.{Site}
-use Rattle.hurd_nodes.specs.Held.{home_in}
-use Rattle.hurd_creds.specs.declared.name.Name.{Name}
-use Rattle.hurd_creds.specs.declared.errno.Errno.{Errno}
-use Rattle.hurd_creds.specs.NameMaps.{NameMap}
-use Rattle.hurd_creds.specs.Memory.{Meets, Steps, is_no_memory}
-use Rattle.hurd_trans_iface.specs.Nodes.{Edit, OnBody, OnHeader, AddNode, body_of, node_of_edit}
-use Rattle.hurd_trans_iface.specs.Answers.{entry_of, move_edits, is_one, rename_edits, edits_if}
-use Rattle.hurd_nodes.specs.Shown.{NodeState, are_kin, own_edits, with_edits, can_rename, rename_edits_at, rename_at}
-use Rattle.hurd_ports.specs.Tables.{PortState}
-use Rattle.hurd_machine.specs.World.{World, world_from, renames_at}
-use Rattle.hurd_machine.specs.Change.{Settle, apply_all, changes_of, settle}
+use Rattle.hurd_machine.proofs.Common.{AddNode, Edit, Errno, Meets, Name, NameMap, NodeState, OnBody, OnHeader, PortState, Settle, Site, Steps, World, apply_all, are_kin, body_of, changes_of, edits_if, entry_of, home_in, is_no_memory, is_one, move_edits, node_of_edit, own_edits, rename_edits, renames_at, with_edits, world_from}
+use Rattle.hurd_nodes.specs.Shown.{can_rename, rename_edits_at, rename_at}
+use Rattle.hurd_machine.specs.Change.{settle}
 use Rattle.hurd_machine.proofs.Keeping.{apply_all-append}
 use Rattle.hurd_core.specs.Core.{Does, renaming}
 

@@ -1,25 +1,14 @@
 -- Rights that are shared, sent and received, and other ids for a task: what the ports do is what the world's changes do.
 use Rattle.std.proofs.Common.{◌≡◌, ◌∙◌, inl, inr, ℕ, Bool, true, false, cond, List, [], ◌∷◌, Option, Some, None, length, slice_get, refl, sym, ap, subst, true≢false}
 use Rattle.std.specs.Prelude.{Result, Ok, Err, is_ok, nat_lt, if◌then◌else◌}
-use Rattle.hurd_creds.specs.declared.name.Name.{Name}
-use Rattle.hurd_creds.specs.declared.open_flags.OpenFlags.{OpenFlags}
-use Rattle.hurd_creds.specs.declared.errno.Errno.{Errno}
-use Rattle.hurd_creds.specs.declared.errno.Errno.TheVariants.{EOVERFLOW, ESRCH, EWOULDBLOCK}
-use Rattle.hurd_creds.specs.Access.{IdSets}
-use Rattle.hurd_creds.specs.Memory.{Steps, is_no_memory}
-use Rattle.hurd_nodes.specs.Shown.{NodeState}
+use Rattle.hurd_machine.proofs.Common.{Change, EOVERFLOW, ESRCH, EWOULDBLOCK, EditTask, Errno, IdSets, Name, NodeState, OpenFlags, PendingStart, Plan, PortState, Right, Send, Steps, Task, World, answered, apply_all, edit_task, first, first_sent, given, has_room, insert_at, insert_step, is_no_memory, on, opened_by, opening, or_refuse, pend_at, pend_step, pending, porting, receive_at, receive_step, received, send_step, sent_to, share_at, share_step, take_ids_at, take_ids_step, taken_by, task_of, told, with_ids, with_new_port, with_pending, with_port, with_sent, world_from}
 use Rattle.hurd_ports.specs.declared.parents.Parent.{Parent}
-use Rattle.hurd_ports.specs.declared.table.PendingStart.{PendingStart}
-use Rattle.hurd_ports.specs.declared.table.Right.{Right}
-use Rattle.hurd_ports.specs.Tables.{PortState, Task, first_sent, has_room, right_of, task_of, or_refuse}
-use Rattle.hurd_ports.specs.Steps.{edit_task, insert_at, insert_step, pend_at, pend_step, with_new_port, with_pending, receive_at, receive_step, received, send_step, sent_to, share_at, share_step, take_ids_at, take_ids_step, taken_by, with_ids, with_port, with_sent}
+use Rattle.hurd_ports.specs.Tables.{right_of}
 use Rattle.hurd_machine.specs.declared.call.Reply.TheVariants.{Done}
-use Rattle.hurd_machine.specs.World.{World, world_from}
-use Rattle.hurd_machine.specs.Change.{Change, EditTask, Send, apply_all, counted, opening, pending, porting, settle}
+use Rattle.hurd_machine.specs.Change.{counted, settle}
 use Rattle.hurd_machine.proofs.Keeping.{apply_all-append}
-use Rattle.hurd_trans_iface.specs.Nodes.{opened_by}
 use Rattle.hurd_core.proofs.CountLaws.{counted_nodes, counted-world}
-use Rattle.hurd_machine.specs.Plan.{Plan, Follows, answered, told, on, given, first}
+use Rattle.hurd_machine.specs.Plan.{Follows}
 use Rattle.hurd_core.proofs.SettleLaws.{does_settled, settled_if}
 use Rattle.hurd_core.specs.Core.{Does, receive_asks, room_asks, send_asks}
 
@@ -163,6 +152,31 @@ module _ (N : NodeState) (H : PortState) (t : ℕ) where
         go : (b : Bool) → Alike N H (given ESRCH b (Ok r)) sending (λ r. tt {0}) (if b then (Ok tt, changed q (with_sent r)) else (Err ESRCH, H))
         go true = BothDo r (changed q (with_sent r)) refl refl refl
         go false = BothRefuse ESRCH refl refl
+
+    -- refused, and asked, in their order
+
+    abbrev told_there : Bool → Result (Unit {0}) Errno
+    told_there b = if b then Ok tt else Err ESRCH
+
+    pub send-unnamed : (e : Errno) → right_of H t p ≡ Err e → send_asks w t p q ≡ Err e
+    unfolding first
+    send-unnamed e is = ap send_after is
+
+    pub send-nobody : (r : Right) (e : Errno) → right_of H t p ≡ Ok r → told_there (nat_lt q (length H.tasks)) ≡ Err e → send_asks w t p q ≡ Err e
+    unfolding first given
+    send-nobody r e is none = ap send_after is ∙ by (nat_lt q (length H.tasks)) none
+      where
+        by : (b : Bool) → told_there b ≡ Err e → given ESRCH b (Ok r) ≡ Err e
+        by true h = absurd (cc)
+        by false h = cc
+
+    pub send-asked : (r : Right) (u : Unit {0}) → right_of H t p ≡ Ok r → told_there (nat_lt q (length H.tasks)) ≡ Ok u → send_asks w t p q ≡ Ok r
+    unfolding first given
+    send-asked r u is there = ap send_after is ∙ by (nat_lt q (length H.tasks)) there
+      where
+        by : (b : Bool) → told_there b ≡ Ok u → given ESRCH b (Ok r) ≡ Ok r
+        by true h = refl
+        by false h = absurd (cc)
 
     pub send-does : (got : Result (Unit {0}) Errno) (K : PortState) → Steps H (send_step t p q H) got K → Does w (send_asks w t p q) sending (λ r. tt {0}) got (world_from N K)
     send-does got K s = alike-does N H (send_asks w t p q) sending (λ r. tt {0}) (send_step t p q H) (send_by (right_of H t p)) got K s

@@ -1,21 +1,13 @@
 -- A server that the core seats is the machine's attaching of it.
 use Rattle.std.proofs.Common.{◌≡◌, ◌∙◌, ◌<◌, ◌≤◌, inr, ℕ, ◌+◌, Bool, true, false, List, [], ◌∷◌, ◌++◌, Option, Some, None, refl, sym, ap, slice_get, slice_set, arith}
 use Rattle.std.proofs.lemmas.Bool.Decides.{nat_tests}
-use Rattle.std.specs.Prelude.{IsSomeAnd, Result, Ok, Err, is_ok}
+use Rattle.std.specs.Prelude.{IsSomeAnd, Ok, Err, is_ok}
 use Rattle.std.specs.Option.{option_map}
 use Rattle.hurd_nodes.specs.declared.seat.Place.{Place}
-use Rattle.hurd_creds.specs.declared.name.Name.{Name}
-use Rattle.hurd_creds.specs.declared.errno.Errno.{Errno}
-use Rattle.hurd_creds.specs.declared.errno.Errno.TheVariants.{ENOMEM}
-use Rattle.hurd_creds.specs.Access.{IdSets}
-use Rattle.hurd_trans_iface.specs.Nodes.{Node}
-use Rattle.hurd_trans_iface.specs.Meaning.{Meaning}
-use Rattle.hurd_nodes.specs.Shown.{NodeState, ServerInfo, attached, begun_info, begun_root, without_old}
-use Rattle.hurd_ports.specs.Tables.{PortState, Task, fresh, can_name, naming_of, u64_greatest}
-use Rattle.hurd_ports.specs.Steps.{named, edit_task, name_step}
+use Rattle.hurd_machine.proofs.Common.{Attach, Change, ENOMEM, IdSets, Meaning, Name, Node, NodeState, PortState, ServerInfo, Settle, Task, World, apply_all, attached, begun_info, begun_root, can_name, edit_task, fresh, name_step, naming_of, pending, u64_greatest, without_old, world_from}
+use Rattle.hurd_ports.specs.Steps.{named}
 use Rattle.hurd_ports.proofs.TaskLaws.{edit-edit, edit-found, edit-here}
-use Rattle.hurd_machine.specs.World.{World, world_from}
-use Rattle.hurd_machine.specs.Change.{Attach, Change, Settle, apply_all, pending, settle}
+use Rattle.hurd_machine.specs.Change.{settle}
 use Rattle.hurd_core.specs.declared.to_make.ServerToMake.{ServerToMake}
 use Rattle.hurd_core.specs.Core.{Does, attaching, leaving, naming_asks, placed, started_over, starting_over}
 use Rattle.hurd_core.proofs.CoreLaws.{naming-had}

@@ -1,12 +1,9 @@
 -- A change of the core that settles is the machine's changes with one more, which settles.
 use Rattle.std.proofs.Common.{◌≡◌, ◌∙◌, List, [], ◌∷◌, ◌++◌, sym, ap}
 use Rattle.std.specs.Prelude.{Result, Ok, Err}
-use Rattle.hurd_creds.specs.declared.errno.Errno.{Errno}
+use Rattle.hurd_machine.proofs.Common.{Change, Errno, IsSettled, NodeState, OpenMap, PortState, Settle, World, is_held, outside_by, world_from}
 use Rattle.hurd_nodes.specs.Settle as kept
-use Rattle.hurd_nodes.specs.Shown.{NodeState}
-use Rattle.hurd_ports.specs.Tables.{IsSettled, OpenMap, PortState, is_held}
-use Rattle.hurd_machine.specs.World.{World, world_from}
-use Rattle.hurd_machine.specs.Change.{Change, Settle, outside_by, settle}
+use Rattle.hurd_machine.specs.Change.{settle}
 use Rattle.hurd_machine.proofs.Keeping.{apply_all-append}
 use Rattle.hurd_machine.proofs.Retained.{retain_all}
 use Rattle.hurd_core.specs.Core.{Does}

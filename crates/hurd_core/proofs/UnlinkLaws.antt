@@ -1,18 +1,11 @@
 -- An entry taken out of a directory by the core is what the machine's changes make of the world.
 use Rattle.std.proofs.Common.{◌≡◌, ◌∙◌, Bool, true, false, List, [], ◌∷◌, Option, Some, None, ℕ, refl, sym, ap}
 use Rattle.std.specs.Prelude.{Result, Ok, Err, if◌then◌else◌}
-use Rattle.hurd_nodes.specs.Held.{home_in}
-use Rattle.hurd_creds.specs.declared.name.Name.{Name}
-use Rattle.hurd_creds.specs.declared.errno.Errno.{Errno}
-use Rattle.std.specs.FinMap.{get}
-use Rattle.hurd_trans_iface.specs.Nodes.{body_of, OnBody, OnHeader, unlinked, without_entry}
-use Rattle.hurd_trans_iface.specs.Answers.{entry_of, unlink_edits, edits_if}
-use Rattle.hurd_nodes.specs.Shown.{NodeState, are_kin, own_edits, with_edits, can_unlink, unlink_edits_at, unlink_at}
-use Rattle.hurd_ports.specs.Tables.{PortState}
+use Rattle.hurd_machine.proofs.Common.{Errno, Name, NodeState, OnBody, OnHeader, Plan, PortState, Settle, World, answered, apply_all, are_kin, body_of, changes_of, edits_if, entry_of, home_in, own_edits, told, unlink_edits, unlinked, with_edits, without_entry, world_from}
+use Rattle.hurd_nodes.specs.Shown.{can_unlink, unlink_edits_at, unlink_at}
 use Rattle.hurd_machine.specs.declared.call.Reply.TheVariants.{Done}
-use Rattle.hurd_machine.specs.World.{World, world_from}
-use Rattle.hurd_machine.specs.Change.{Settle, apply_all, changes_of, settle}
-use Rattle.hurd_machine.specs.Plan.{Plan, Follows, answered, told}
+use Rattle.hurd_machine.specs.Change.{settle}
+use Rattle.hurd_machine.specs.Plan.{Follows}
 use Rattle.hurd_machine.proofs.Keeping.{apply_all-append}
 use Rattle.hurd_core.specs.Core.{unlinking}
 

@@ -3,3 +3,4 @@ pub mod Control
 pub mod ToMake
 pub mod PortNode
 pub mod Branches
+pub mod Users

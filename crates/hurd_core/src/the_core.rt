@@ -1,11 +1,11 @@
 //! The core.
-ghost use Rattle.std.specs.Prelude.{◌≡◌, [], ◌∷◌, Some, None, Ok, IfErr};
+ghost use Rattle.std.specs.Prelude.{◌≡◌, [], ◌∷◌, Some, None, Ok, IfErr, IfOk};
 ghost use Rattle.std.specs.Option.{option_map};
 ghost use Rattle.hurd_trans_iface.specs.Answers.{header_after};
 ghost use Rattle.hurd_trans_iface.specs.Nodes.{linked, with_entry};
 ghost use Rattle.hurd_trans_iface.specs.Behaviour.{edits_of, reading, told_of, writing, resizing};
 ghost use Rattle.hurd_trans_iface.specs.Meaning.{Begins};
-ghost use Rattle.hurd_nodes.specs.Shown.{shown};
+ghost use Rattle.hurd_nodes.specs.Shown.{booted, shown, state_of};
 ghost use Rattle.hurd_nodes.specs.Needs.{FreeRead, FreeSize, FreeWrite};
 ghost use Rattle.hurd_ports.specs.Tables.{right_of, task_of};
 ghost use Rattle.hurd_ports.specs.Steps.{appending, at_cursor, received, with_ids, with_port};
@@ -16,11 +16,13 @@ ghost use Rattle.hurd_machine.specs.declared.call.Reply.TheVariants.{Done};
 ghost use Rattle.hurd_core.specs.Core.{Does, attaching, naming_asks, without_box, making_asks, closed_with, making_dir, making_dir_asks, making_open, receive_asks, room_asks, send_asks, started_over, unlinking, world_of, renaming};
 ghost use Rattle.hurd_core.specs.Control.{plan_options};
 ghost use Rattle.hurd_core.specs.ToMake.{new_node_of};
+ghost use Rattle.hurd_core.specs.Users.{home_of};
 
 use crate::named::NamedByRights;
 use crate::to_make::{NodeToMake, ServerToMake};
+use crate::users::{self, NodeUse, Users};
 use hurd_creds::{Bytes, Errno, Ids, Kind, NodeName, OpenFlags, OpenName, ServerName, TaskId};
-use hurd_nodes::Nodes;
+use hurd_nodes::{BOOT_NAME, Nodes};
 use hurd_ports::{Parents, PendingStart, Ports, Right};
 use hurd_trans_iface::{HeaderEdit, Server, Words};
 use std::alloc::Global;
@@ -38,6 +40,8 @@ struct ClosingOpen {
 pub struct Core<S = Box<dyn Server>> {
     pub(crate) nodes: Nodes<S>,
     pub(crate) ports: Ports,
+    /// How many rights there are to use nodes of each server.
+    pub(crate) users: Users,
 }
 
 impl<S> Model for Core<S> {
@@ -48,14 +52,32 @@ impl<S> Model for Core<S> {
     ghost coded = { coded_whole S.code };
 
     ghost view = { λ c. record { nodes = c.nodes; ports = c.ports } };
+
+    ghost use Rattle.hurd_core.specs.Users.{AreUsers};
+
+    ghost invariant = { λ c. AreUsers c.users.entries c.nodes.sites c.ports.state.tasks };
 }
 
 impl<S: Server> Core<S> {
-    /// These nodes, and these ports.
-    pub fn new(nodes: Nodes<S>, ports: Ports) -> Core<S>
-        ensures { world_of S.meaning result ≡ world_from (shown S.meaning nodes) ports.state }
+    /// A boot server alone, whose root belongs to uid 0 and gid 0 and has the mode 0o755, and these ports.
+    ///
+    /// `ENOMEM`, with the box back.
+    pub fn starting(alloc: Global, boot: S, ports: Ports) -> Result<Core<S>, (Errno, S)>
+        requires { Begins (S.meaning boot) }
+        ensures ok { IfOk result (λ c. world_of S.meaning c ≡ world_from (state_of (booted (S.meaning boot))) ports.state) }
+        ensures err { IfErr result (λ e. e ≡ (Errno.ENOMEM, boot)) }
     {
-        Core { nodes, ports }
+        let Ok(mut users) = Users::with_capacity(alloc, 1) else {
+            return Err((Errno::ENOMEM, boot));
+        };
+        let nodes = Nodes::starting(alloc, boot)?;
+        ports.rights_are_few();
+        users::add(&mut users, Some(BOOT_NAME), ports.uses(BOOT_NAME));
+        Ok(Core {
+            nodes,
+            ports,
+            users,
+        })
     }
 
     /// The servers with their nodes, to be looked at. Takes no memory.
@@ -77,6 +99,7 @@ impl<S: Server> Core<S> {
         ensures { world_of S.meaning self.new ≡ settle (world_of S.meaning self.old) }
     {
         self.ports.opens_are_held();
+        self.nodes.nodes_are_served();
         self.nodes.settle(&NamedByRights { ports: &self.ports });
     }
 
@@ -94,7 +117,11 @@ impl<S: Server> Core<S> {
         ensures { let w = world_of S.meaning self.old in
             Does w (room_asks w task.0 1) (λ x. opening w task.0 x node ids parents modes) (λ x. x.next) result (world_of S.meaning self.new) }
     {
+        self.ports.room(task, 1)?;
+        self.users.reserve(1)?;
         let port = self.ports.insert(task, node, ids, parents, modes)?;
+        self.ports.rights_are_few();
+        users::add(&mut self.users, self.nodes.home(node), 1);
         // A server that counts no opens makes no such edit.
         let _ = self.nodes.edit_header(node, HeaderEdit::CountOpen(modes));
         Ok(port)
@@ -119,13 +146,18 @@ impl<S: Server> Core<S> {
         self.ports.room(task, 2)?;
         self.nodes.can_make(file.dir, file.entry, Kind::File)?;
         self.ports.reserve(task)?;
+        self.users.reserve(1)?;
         let Some(name) = self.ports.next_name(task) else {
             return Err(Errno::ESRCH);
         };
+        let before = NodeUse::of(&self.nodes, &self.ports, name);
         self.nodes
             .make(alloc, file.dir, file.entry, file.node(Kind::File, name))?;
         self.ports.take_name(task);
-        Ok(self.ports.fill(task, name, ids, parents, modes))
+        let port = self.ports.fill(task, name, ids, parents, modes);
+        let now = NodeUse::of(&self.nodes, &self.ports, name);
+        users::rehouse(&mut self.users, before, now);
+        Ok(port)
     }
 
     /// Makes a directory in a directory.
@@ -138,12 +170,16 @@ impl<S: Server> Core<S> {
     {
         self.nodes.can_make(dir.dir, dir.entry, Kind::Dir)?;
         self.ports.naming(task, 1)?;
+        self.users.reserve(1)?;
         let Some(name) = self.ports.next_name(task) else {
             return Err(Errno::ESRCH);
         };
+        let before = NodeUse::of(&self.nodes, &self.ports, name);
         self.nodes
             .make(alloc, dir.dir, dir.entry, dir.node(Kind::Dir, name))?;
         self.ports.take_name(task);
+        let now = NodeUse::of(&self.nodes, &self.ports, name);
+        users::rehouse(&mut self.users, before, now);
         Ok(())
     }
 
@@ -162,6 +198,16 @@ impl<S: Server> Core<S> {
             node: right.node,
             modes: opened.modes,
         })
+    }
+
+    /// The server of the node that a port is to use; none where there is no such port, or no such node.
+    fn home_used(&self, task: TaskId, port: u64) -> Option<ServerName>
+        ensures { result ≡ home_of self.now.nodes.sites (right_of self.now.ports.state task.0 port) }
+    {
+        match self.ports.right(task, port) {
+            Ok(right) => users::home_used(&self.nodes, right),
+            Err(_) => None,
+        }
     }
 
     /// Lets the server of an open's node know that it is gone, if one is. Takes no memory.
@@ -184,7 +230,9 @@ impl<S: Server> Core<S> {
             (told (λ u. Done) result) (world_of S.meaning self.new) }
     {
         let closing = self.closing(task, port);
+        let server = self.home_used(task, port);
         self.ports.deallocate(task, port)?;
+        users::subtract(&mut self.users, server, 1);
         self.close(closing);
         self.settle();
         Ok(())
@@ -197,7 +245,13 @@ impl<S: Server> Core<S> {
         ensures { let w = world_of S.meaning self.old in
             Does w (room_asks w task.0 0) (λ x. EditTask task.0 (with_port right) ∷ []) (λ x. x.next) result (world_of S.meaning self.new) }
     {
-        self.ports.share(task, right)
+        self.ports.room(task, 0)?;
+        self.users.reserve(1)?;
+        let server = users::home_used(&self.nodes, &right);
+        let number = self.ports.share(task, right)?;
+        self.ports.rights_are_few();
+        users::add(&mut self.users, server, 1);
+        Ok(number)
     }
 
     /// Gives a copy of a port's right to a task, last of those that it was sent.
@@ -207,7 +261,13 @@ impl<S: Server> Core<S> {
         ensures { let w = world_of S.meaning self.old in
             Does w (send_asks w task.0 port to.0) (λ r. Send r to.0 ∷ []) (λ r. tt) result (world_of S.meaning self.new) }
     {
-        self.ports.send(alloc, task, port, to)
+        let server = users::home_used(&self.nodes, self.ports.right(task, port)?);
+        self.ports.has_task(to)?;
+        self.users.reserve(1)?;
+        self.ports.send(alloc, task, port, to)?;
+        self.ports.rights_are_few();
+        users::add(&mut self.users, server, 1);
+        Ok(())
     }
 
     /// Takes the first right that a task was sent, as a port; answers its number, the task's next.
@@ -386,8 +446,13 @@ impl<S: Server> Core<S> {
         let Some(name) = self.ports.next_name(task) else {
             return Err((Errno::ESRCH, server));
         };
-        self.nodes
-            .attach(place.place(name), ids, targets, place.instead, server)?;
+        let Ok(()) = self.users.reserve(1) else {
+            return Err((Errno::ENOMEM, server));
+        };
+        let at = place.place(name);
+        let root = NodeUse::of(&self.nodes, &self.ports, at.root);
+        self.nodes.attach(at, ids, targets, place.instead, server)?;
+        users::reseat(&mut self.users, root, place.instead, at.name);
         self.ports.take_name(task);
         self.ports.take_name(task);
         self.start_over(task, place.starts);
@@ -410,6 +475,7 @@ impl<S: Server> Core<S> {
         ensures { world_of S.meaning self.new ≡ apply_all (DropServer server ∷ Settle ∷ []) (world_of S.meaning self.old) }
     {
         self.nodes.detach(server);
+        users::forget(&mut self.users, Some(server));
         self.settle();
     }
 

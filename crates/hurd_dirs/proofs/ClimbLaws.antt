@@ -1,13 +1,10 @@
 -- Whether a directory is another, or below it.
 use Rattle.std.proofs.Common.{◌≡◌, ◌⊎◌, ◌∙◌, ℕ, zero, suc, ◌+◌, ◌-◌, ◌<◌, ◌≤◌, ◌||◌, Bool, true, false, true≢false, Option, Some, None, sym, refl, ap, inl, inr, arith}
 use Rattle.std.proofs.lemmas.Bool.{or_parts}
-use Rattle.hurd_creds.specs.declared.name.Name.{Name}
-use Rattle.hurd_creds.specs.Names.{same_name}
+use Rattle.hurd_machine.proofs.Common.{Above, AtRoot, Header, LeadsUp, Name, Seen, World, header_at, same_name}
 use Rattle.hurd_creds.proofs.NameLaws.{apart_if_not_same}
-use Rattle.hurd_trans_iface.specs.Nodes.{Header}
-use Rattle.hurd_machine.specs.World.{World, nodes_of, header_at}
-use Rattle.hurd_machine.specs.Sight.{Seen, Parent}
-use Rattle.hurd_machine.specs.Sound.{LeadsUp, AtRoot, Above}
+use Rattle.hurd_machine.specs.World.{nodes_of}
+use Rattle.hurd_machine.specs.Sight.{Parent}
 use Rattle.hurd_machine.proofs.Views.{Agree, header_same}
 use Rattle.hurd_machine.proofs.Moves.{LeadsAround, RootApart, AboveApart}
 use Rattle.hurd_dirs.specs.Rename.{parent_in, above, met_within, is_inside}

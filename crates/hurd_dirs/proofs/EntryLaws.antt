@@ -2,24 +2,11 @@
 use Rattle.std.proofs.Common.{◌≡◌, ℕ, Bool, true, not, List, Some, refl}
 use Rattle.std.specs.Prelude.{Ok, nat_le, length}
 use Rattle.std.proofs.lemmas.Bool.{and_parts}
-use Rattle.hurd_creds.specs.declared.attrs.Kind.{Kind}
-use Rattle.hurd_creds.specs.declared.attrs.Kind.TheVariants.{Dir}
-use Rattle.hurd_creds.specs.declared.attrs.Want.{Want}
-use Rattle.hurd_creds.specs.declared.attrs.Want.TheVariants.{Write, Exec}
-use Rattle.hurd_creds.specs.declared.name.Name.{Name}
-use Rattle.hurd_creds.specs.declared.errno.Errno.TheVariants.{EACCES, EINVAL, ENAMETOOLONG, ENOENT, ENOTDIR, EROFS}
-use Rattle.hurd_creds.specs.Access.{may}
+use Rattle.hurd_machine.proofs.Common.{Allowed, BodyOf, ByParent, Child, Coherent, Could, Dir, EACCES, EINVAL, ENAMETOOLONG, ENOENT, ENOTDIR, EROFS, EmptyOf, Exec, GidOfRight, Header, Holds, Io, IoRight, Kind, LeadsUp, Linked, Name, Named, Seen, Sees, Taken, ToSearch, UidOfRight, Want, World, Write, bare, body_at, entry_of, header_at, info_at, is_dir, is_removed, may, port_asks, ports_of, tree_by}
 use Rattle.hurd_creds.specs.Limits.{most_name}
-use Rattle.hurd_trans_iface.specs.Nodes.{Header, is_dir}
-use Rattle.hurd_trans_iface.specs.Answers.{entry_of}
-use Rattle.hurd_nodes.specs.Shown.{tree_by}
-use Rattle.hurd_ports.specs.declared.table.IoRight.{IoRight}
-use Rattle.hurd_ports.specs.declared.table.Right.TheVariants.{Io}
 use Rattle.hurd_ports.specs.Tables.{right_of}
-use Rattle.hurd_machine.specs.World.{World, nodes_of, ports_of, header_at, body_at, info_at, is_removed}
-use Rattle.hurd_machine.specs.Handle.{Named, port_asks}
-use Rattle.hurd_machine.specs.Sight.{BodyOf, EmptyOf, Sees, Seen, Held, Holds, Child, ByParent, Taken, UidOfRight, GidOfRight, Could, Allowed, ToSearch, bare}
-use Rattle.hurd_machine.specs.Sound.{Coherent, Linked, LeadsUp}
+use Rattle.hurd_machine.specs.World.{nodes_of}
+use Rattle.hurd_machine.specs.Sight.{Held}
 use Rattle.hurd_machine.proofs.Coherence.{entry_lists}
 use Rattle.hurd_machine.proofs.Links.{leads_unless}
 use Rattle.hurd_machine.proofs.Views.{Agree}

@@ -1,27 +1,10 @@
 -- The laws of making files that no entry names.
 use Rattle.std.proofs.Common.{◌≡◌, ℕ, Bool, true, Some, None, refl, sym, subst}
 use Rattle.std.specs.Prelude.{Result, Ok, Err}
-use Rattle.hurd_creds.specs.declared.name.Name.{Name}
-use Rattle.hurd_creds.specs.declared.mode.Mode.{Mode}
-use Rattle.hurd_creds.specs.declared.open_flags.OpenFlags.{OpenFlags}
-use Rattle.hurd_creds.specs.declared.attrs.Kind.TheVariants.{File}
-use Rattle.hurd_creds.specs.declared.errno.Errno.{Errno}
-use Rattle.hurd_creds.specs.declared.errno.Errno.TheVariants.{EACCES, EDIED, ENOMEM, EOVERFLOW, ESRCH}
-use Rattle.hurd_creds.specs.Access.{least_uid}
-use Rattle.hurd_creds.specs.Bits.{open_modes}
-use Rattle.hurd_trans_iface.specs.Nodes.{Node, new_file}
-use Rattle.hurd_trans_iface.specs.Answers.{named_by}
+use Rattle.hurd_machine.proofs.Common.{BodyOf, EACCES, EDIED, ENOMEM, EOVERFLOW, ESRCH, Errno, File, IsFilled, Mode, Name, Named, Node, OfNode, OpenFlags, Planned, Sees, ServerInfo, Task, World, has_room, home_at, keeps_tree, least_uid, makes_at, named_by, new_file, open_modes, port_asks, server_at, task_at}
 use Rattle.hurd_trans_iface.proofs.BodyLaws.{made_has, tree_holds}
-use Rattle.hurd_trans_iface.specs.Meaning.{keeps_tree}
 use Rattle.hurd_trans_iface.proofs.Goods.{good}
-use Rattle.hurd_nodes.specs.Shown.{ServerInfo}
-use Rattle.hurd_ports.specs.Tables.{Task, has_room}
 use Rattle.hurd_machine.specs.declared.call.Reply.TheVariants.{Port}
-use Rattle.hurd_machine.specs.Sound.{IsFilled}
-use Rattle.hurd_machine.specs.World.{World, task_at, home_at, makes_at, server_at}
-use Rattle.hurd_machine.specs.Plan.{Planned}
-use Rattle.hurd_machine.specs.Handle.{Named, port_asks}
-use Rattle.hurd_machine.specs.Sight.{OfNode, BodyOf, Sees}
 use Rattle.hurd_machine.proofs.Views.{Agree, same_tasks, home_same}
 use Rattle.hurd_machine.proofs.Asks.{IsPlain, is_named, port_same, port_seen, port_plain, makes_same, makes_plain, on_ok, given_ok, first_ok, on_same, first_same, on_plain, given_plain, first_plain, ok_plain, answered_same, answered_plain, done_plain}
 use Rattle.hurd_machine.proofs.Makes.{MayMake, may_make}

@@ -3,10 +3,8 @@ use Rattle.std.proofs.Common.{◌≡◌, ℕ, Bool, true, List, refl, sym, subst
 use Rattle.std.specs.Prelude.{Ok}
 use Rattle.hurd_trans_iface.proofs.Goods.{good}
 use Rattle.hurd_machine.specs.declared.call.Reply.TheVariants.{Done}
-use Rattle.hurd_machine.specs.World.{World, nodes_of, links_at}
-use Rattle.hurd_machine.specs.Handle.{Named, both_asks}
-use Rattle.hurd_machine.specs.Sight.{BodyOf, Seen, Sees}
-use Rattle.hurd_machine.specs.Sound.{Linked, LeadsUp}
+use Rattle.hurd_machine.proofs.Common.{BodyOf, LeadsUp, Linked, Named, Seen, Sees, World, both_asks, links_at}
+use Rattle.hurd_machine.specs.World.{nodes_of}
 use Rattle.hurd_machine.proofs.Views.{Agree}
 use Rattle.hurd_machine.proofs.Asks.{IsNamed, first_ok, first_same, first_plain, ok_plain, answered_same, answered_plain, done_plain, links_same, links_plain}
 use Rattle.hurd_machine.proofs.Linking.{may_link, link_whole}

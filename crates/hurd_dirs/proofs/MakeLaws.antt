@@ -1,15 +1,9 @@
 -- The laws of making directories.
 use Rattle.std.proofs.Common.{◌≡◌, ℕ, Bool, true, List, refl, sym, subst, inl, inr, ap}
 use Rattle.std.specs.Prelude.{Some, Ok, is_none}
-use Rattle.hurd_creds.specs.declared.mode.Mode.{Mode}
-use Rattle.hurd_creds.specs.declared.errno.Errno.TheVariants.{EACCES, EEXIST}
-use Rattle.hurd_creds.specs.Access.{least_uid}
-use Rattle.hurd_trans_iface.specs.Answers.{entry_of}
+use Rattle.hurd_machine.proofs.Common.{BodyOf, EACCES, EEXIST, LeadsUp, Linked, Mode, Named, Sees, World, body_at, entry_of, least_uid}
 use Rattle.hurd_machine.specs.declared.call.Reply.TheVariants.{Done}
-use Rattle.hurd_machine.specs.World.{World, nodes_of, body_at}
-use Rattle.hurd_machine.specs.Handle.{Named}
-use Rattle.hurd_machine.specs.Sight.{BodyOf, Sees}
-use Rattle.hurd_machine.specs.Sound.{Linked, LeadsUp}
+use Rattle.hurd_machine.specs.World.{nodes_of}
 use Rattle.hurd_machine.proofs.Views.{Agree, body_same}
 use Rattle.hurd_machine.proofs.Asks.{on_ok, given_ok, first_ok, on_same, given_same, first_same, on_plain, given_plain, first_plain, ok_plain, answered_same, answered_plain, done_plain}
 use Rattle.hurd_machine.proofs.CallLaws.{CallLaws, answered_piece}

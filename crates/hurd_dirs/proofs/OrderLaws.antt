@@ -2,18 +2,11 @@
 use Rattle.std.proofs.Common.{◌≡◌, ◌∙◌, ℕ, Bool, true, false, if◌then◌else◌, List, [], ◌∷◌, ◌++◌, Option, Some, None, refl, sym, ap, subst, inl, inr}
 use Rattle.std.specs.Prelude.{Ok}
 use Rattle.std.specs.Option.{option_map}
-use Rattle.std.specs.Str.{bytes_eq}
-use Rattle.std.specs.FinMap.{get}
-use Rattle.hurd_nodes.specs.declared.seat.Site.{Site}
-use Rattle.hurd_nodes.specs.Held.{home_in}
-use Rattle.hurd_creds.specs.declared.name.Name.{Name}
-use Rattle.hurd_creds.specs.NameMaps.{NameMap, edit}
+use Rattle.hurd_machine.proofs.Common.{Body, Content, Edit, EditBody, EditHeader, Header, Listing, Name, NameMap, Node, NodeMap, ServerInfo, Settle, Site, World, apply_all, are_kin, body_at, bytes_eq, changes_of, edit, entry_of, get, header_at, home_at, home_in, info_at, is_dir, is_one, less_entry, move_edits, moved_to, node_of_edit, own_edits, rename_edits, renames_at, tree_by, unlinked, with_body, with_entry, with_header, without_entry}
 use Rattle.hurd_creds.proofs.NameLaws.{same_map_by, same_or_apart, edit_here, edit_apart}
-use Rattle.hurd_trans_iface.specs.Nodes.{NodeMap, Node, Entry, Header, Body, Content, Listing, Edit, is_dir, less_entry, without_entry, with_entry, moved_to, unlinked, with_header, with_body, node_of_edit}
-use Rattle.hurd_trans_iface.specs.Answers.{entry_of, move_edits, is_one, rename_edits}
-use Rattle.hurd_nodes.specs.Shown.{ServerInfo, are_kin, own_edits, tree_by, rename_by}
-use Rattle.hurd_machine.specs.World.{World, header_at, body_at, home_at, info_at, renames_at}
-use Rattle.hurd_machine.specs.Change.{EditHeader, EditBody, Settle, settle, apply_all, changes_of}
+use Rattle.hurd_trans_iface.specs.Nodes.{Entry}
+use Rattle.hurd_nodes.specs.Shown.{rename_by}
+use Rattle.hurd_machine.specs.Change.{settle}
 use Rattle.hurd_machine.proofs.Nodes.{header_in, body_in}
 use Rattle.hurd_machine.proofs.Removals.{same_exact}
 use Rattle.hurd_machine.proofs.Renames.{going}

@@ -2,26 +2,14 @@
 use Rattle.std.proofs.Common.{◌≡◌, ◌∙◌, ℕ, Bool, true, false, not, true≢false, List, [], ◌∷◌, ◌++◌, Option, Some, None, refl, sym, ap, ap₂, subst, inl, inr}
 use Rattle.std.specs.Prelude.{Result, Ok, is_some}
 use Rattle.std.specs.Option.{option_map}
-use Rattle.std.specs.FinMap.{get}
+use Rattle.hurd_machine.proofs.Common.{Body, BodyOf, Change, Coherent, Content, Dir, EACCES, EBUSY, EDIED, EISDIR, ENOENT, ENOTDIR, ENOTEMPTY, EditBody, EditHeader, EmptyOf, Errno, Header, Listing, Name, Named, Node, Reply, Seen, Sees, ServerInfo, Settle, World, active_at, answered, are_kin, asked_parts, body_at, changes_of, entry_of, get, header_at, home_at, info_at, info_in, is_dir, is_empty_dir, lists_at, own_edits, tree_by, unlink_edits, unlinked, without_entry}
 use Rattle.std.proofs.lemmas.Bool.{not-true}
-use Rattle.hurd_creds.specs.declared.name.Name.{Name}
-use Rattle.hurd_creds.specs.declared.attrs.Kind.TheVariants.{Dir}
-use Rattle.hurd_creds.specs.declared.errno.Errno.{Errno}
-use Rattle.hurd_creds.specs.declared.errno.Errno.TheVariants.{EACCES, EBUSY, EDIED, EISDIR, ENOENT, ENOTDIR, ENOTEMPTY}
 use Rattle.hurd_creds.proofs.NameLaws.{same_name-itself}
-use Rattle.hurd_trans_iface.specs.Nodes.{Node, Header, Body, Content, Listing, is_dir, is_empty_dir, unlinked, without_entry}
-use Rattle.hurd_trans_iface.specs.Answers.{entry_of, unlink_edits}
 use Rattle.hurd_trans_iface.proofs.Goods.{good}
-use Rattle.hurd_nodes.specs.Shown.{ServerInfo, are_kin, info_in, own_edits, tree_by, unlink_by}
-use Rattle.hurd_machine.specs.Calls.{Reply}
+use Rattle.hurd_nodes.specs.Shown.{unlink_by}
 use Rattle.hurd_machine.specs.declared.call.Reply.TheVariants.{Done}
-use Rattle.hurd_machine.specs.World.{World, header_at, body_at, home_at, active_at, info_at, unlinks_at, lists_at}
-use Rattle.hurd_machine.specs.Change.{Change, EditBody, EditHeader, Settle, changes_of}
-use Rattle.hurd_machine.specs.Plan.{Follows, answered}
-use Rattle.hurd_machine.specs.Handle.{Named}
-use Rattle.hurd_machine.specs.Sight.{EmptyOf, BodyOf, Sees, Seen}
-use Rattle.hurd_machine.specs.Sound.{Coherent}
-use Rattle.hurd_machine.specs.Touched.{asked_parts}
+use Rattle.hurd_machine.specs.World.{unlinks_at}
+use Rattle.hurd_machine.specs.Plan.{Follows}
 use Rattle.hurd_machine.proofs.Nodes.{header_in, body_in, node_of_header}
 use Rattle.hurd_machine.proofs.Coherence.{entry_lists}
 use Rattle.hurd_machine.proofs.Views.{Agree, header_same, body_same, home_same, active_same}

@@ -2,26 +2,13 @@
 use Rattle.std.proofs.Common.{◌≡◌, ◌≢◌, ◌⊎◌, ◌∙◌, ℕ, ◌&&◌, ◌||◌, not, Bool, true, false, true≢false, if◌then◌else◌, List, [], ◌∷◌, ◌++◌, Option, Some, None, refl, sym, subst, inl, inr, ap, ap₂}
 use Rattle.std.specs.Prelude.{Result, Ok, Err, is_some}
 use Rattle.std.specs.Option.{option_map}
-use Rattle.std.specs.FinMap.{get}
+use Rattle.hurd_machine.proofs.Common.{AnEmpty, AttrOf, Body, BodyOf, Change, Coherent, Dir, EACCES, EBUSY, EDIED, EINVAL, EISDIR, ENOENT, ENOTDIR, ENOTEMPTY, EROFS, EXDEV, EditBody, EditHeader, EmptyOf, Errno, Header, LeadsUp, Linked, Listing, Name, Named, Part, Plan, Planned, Seen, Sees, Sound, World, active_at, apply, apply_all, are_kin, body_at, both_asks, entry_of, get, header_at, home_at, info_at, is_dir, is_empty_dir, is_removed, less_entry, lists_at, may, renames_at, same_name, tree_by, unlinked, with_body, with_header, without_entry}
 use Rattle.std.proofs.lemmas.Bool.{and_parts, not-true}
-use Rattle.hurd_creds.specs.declared.name.Name.{Name}
-use Rattle.hurd_creds.specs.declared.attrs.Kind.TheVariants.{Dir}
-use Rattle.hurd_creds.specs.declared.errno.Errno.{Errno}
-use Rattle.hurd_creds.specs.declared.errno.Errno.TheVariants.{EACCES, EBUSY, EDIED, EINVAL, EISDIR, ENOENT, ENOTDIR, ENOTEMPTY, EROFS, EXDEV}
-use Rattle.hurd_creds.specs.Access.{may}
-use Rattle.hurd_creds.specs.Names.{same_name}
 use Rattle.hurd_creds.proofs.NameLaws.{same_or_apart, apart_if_not_same, same_name-apart, edit_apart}
-use Rattle.hurd_trans_iface.specs.Nodes.{Entry, Header, Body, Listing, is_dir, is_empty_dir, less_entry, unlinked, with_header, with_body, without_entry}
-use Rattle.hurd_trans_iface.specs.Answers.{entry_of}
+use Rattle.hurd_trans_iface.specs.Nodes.{Entry}
 use Rattle.hurd_trans_iface.proofs.Goods.{good}
-use Rattle.hurd_nodes.specs.Shown.{are_kin, tree_by}
 use Rattle.hurd_machine.specs.declared.call.Reply.TheVariants.{Done}
-use Rattle.hurd_machine.specs.World.{World, nodes_of, header_at, body_at, home_at, active_at, info_at, is_removed, lists_at, renames_at}
-use Rattle.hurd_machine.specs.Plan.{Plan, Planned}
-use Rattle.hurd_machine.specs.Handle.{Named, both_asks}
-use Rattle.hurd_machine.specs.Change.{Change, EditHeader, EditBody, apply, apply_all}
-use Rattle.hurd_machine.specs.Sight.{Part, AttrOf, EmptyOf, BodyOf, Seen, Sees, AnEmpty}
-use Rattle.hurd_machine.specs.Sound.{Sound, Coherent, Linked, LeadsUp}
+use Rattle.hurd_machine.specs.World.{nodes_of}
 use Rattle.hurd_machine.proofs.Nodes.{header_in, body_in, node_of_header, edit_keeps, edit_reads, header-with_header, header-with_body, body-with_header, body-with_body}
 use Rattle.hurd_machine.proofs.Views.{Agree, header_same, home_same, active_same, body_same}
 use Rattle.hurd_machine.proofs.Coherence.{entry_lists}

@@ -2,18 +2,10 @@
 use Rattle.std.proofs.Common.{◌≡◌, ◌⊎◌, ◌||◌, ◌&&◌, ℕ, Bool, true, false, refl, subst, inl, inr}
 use Rattle.std.proofs.lemmas.Bool.{or_cases}
 use Rattle.std.specs.Prelude.{Ok}
-use Rattle.hurd_creds.specs.declared.attrs.Attrs.{Attrs}
-use Rattle.hurd_creds.specs.declared.mode.Mode.{Mode}
-use Rattle.hurd_creds.specs.declared.errno.Errno.TheVariants.{EPERM}
-use Rattle.hurd_creds.specs.Access.{IdSets, holds_uid, is_root, owns}
-use Rattle.hurd_creds.specs.Bits.{known_mode}
-use Rattle.hurd_ports.specs.declared.table.Right.TheVariants.{Io}
-use Rattle.hurd_machine.specs.Calls.{Reply}
+use Rattle.hurd_machine.proofs.Common.{Attrs, EPERM, HasUid, Holds, IdSets, Io, Mode, Named, Reply, UidOfRight, World, answered, bare, holds_uid, known_mode, owns, port_asks, sets_attrs_at}
+use Rattle.hurd_creds.specs.Access.{is_root}
 use Rattle.hurd_machine.specs.declared.call.Reply.TheVariants.{Done}
-use Rattle.hurd_machine.specs.World.{World, sets_attrs_at}
-use Rattle.hurd_machine.specs.Plan.{Follows, answered}
-use Rattle.hurd_machine.specs.Handle.{Named, port_asks}
-use Rattle.hurd_machine.specs.Sight.{Holds, HasUid, UidOfRight, bare}
+use Rattle.hurd_machine.specs.Plan.{Follows}
 use Rattle.hurd_machine.proofs.Views.{Agree}
 use Rattle.hurd_machine.proofs.Attrs.{attrs_whole}
 use Rattle.hurd_machine.proofs.Asks.{IsPlain, IsNamed, is_named, port_same, port_seen, port_plain, sets_attrs_same, sets_attrs_plain, holds_right, first_ok, given_ok, first_same, first_plain, given_plain, ok_plain, answered_same, answered_plain, done_plain}

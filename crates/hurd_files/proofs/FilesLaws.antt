@@ -1,23 +1,11 @@
 -- The laws of the calls on files and directories.
 use Rattle.std.proofs.Common.{◌≡◌, ℕ, Bool, true, false, if◌then◌else◌, List, [], ◌∷◌, refl, subst, inl, inr, Option, Some, None, ap, ◌∙◌}
 use Rattle.std.specs.Prelude.{Ok}
-use Rattle.hurd_creds.specs.declared.name.Name.{Name}
-use Rattle.hurd_creds.specs.declared.attrs.Want.TheVariants.{Read}
-use Rattle.hurd_creds.specs.Access.{IdSets, may}
-use Rattle.hurd_creds.specs.Bits.{WRITE, READ}
-use Rattle.hurd_trans_iface.specs.Nodes.{Header, Body, Content, Listing}
-use Rattle.hurd_trans_iface.specs.Answers.{names_of}
-use Rattle.hurd_trans_iface.specs.Behaviour.{resizing}
+use Rattle.hurd_machine.proofs.Common.{Allowed, Body, Content, GidOfRight, Header, Holds, IdSets, Io, IoRight, IsAmong, Listing, Name, READ, Read, Seen, ServerInfo, Taken, ToRead, UidOfRight, WRITE, World, asked_at, bare, body_at, handle_asks, header_at, may, names_of, resizing}
 use Rattle.hurd_trans_iface.proofs.Goods.{good}
 use Rattle.hurd_union.specs.Merge.{merge}
-use Rattle.hurd_nodes.specs.Shown.{ServerInfo}
-use Rattle.hurd_ports.specs.declared.table.IoRight.{IoRight}
-use Rattle.hurd_ports.specs.declared.table.Right.TheVariants.{Io}
 use Rattle.hurd_machine.specs.declared.handle.Handle.{Handle}
 use Rattle.hurd_machine.specs.declared.call.Reply.TheVariants.{Done}
-use Rattle.hurd_machine.specs.World.{World, IsAmong, asked_at, header_at, body_at}
-use Rattle.hurd_machine.specs.Handle.{handle_asks}
-use Rattle.hurd_machine.specs.Sight.{Seen, Holds, Taken, UidOfRight, GidOfRight, Allowed, ToRead, bare}
 use Rattle.hurd_machine.proofs.Views.{Agree, header_same, body_same}
 use Rattle.hurd_trans_iface.proofs.BodyLaws.{cut_holds}
 use Rattle.hurd_machine.proofs.Edits.{did_whole}

@@ -3,21 +3,12 @@ use Rattle.std.proofs.Common.{◌≡◌, ◌≢◌, ◌≤◌, ℕ, ◌||◌, �
 use Rattle.std.proofs.lemmas.Bool.{and_parts, or_cases}
 use Rattle.std.proofs.lemmas.Bool.Decides.{nat_tests}
 use Rattle.std.specs.Prelude.{Result, Ok, Err, length, nat_le}
-use Rattle.hurd_creds.specs.declared.errno.Errno.{Errno}
-use Rattle.hurd_creds.specs.declared.attrs.Kind.TheVariants.{Dir}
-use Rattle.hurd_creds.specs.declared.errno.Errno.TheVariants.{ENOMEM, ENOTDIR}
-use Rattle.hurd_creds.specs.Memory.{Meets}
+use Rattle.hurd_machine.proofs.Common.{Crossing, Dir, ENOMEM, ENOTDIR, Errno, Header, IdSets, IsAmong, Meaning, Meets, Name, Owns, Seen, Taken, World, header_at, holds_gid, holds_uid, ids_of, nat_cmp}
 use Rattle.hurd_creds.proofs.IdLaws.{len-listed}
-use Rattle.hurd_creds.specs.declared.name.Name.{Name}
 use Rattle.std.specs.FinSet as set
-use Rattle.std.specs.Ordering.{nat_cmp}
-use Rattle.hurd_creds.specs.Access.{IdSets, holds_gid, holds_uid, ids_of, most_ids}
-use Rattle.hurd_trans_iface.specs.Nodes.{Header}
-use Rattle.hurd_trans_iface.specs.Meaning.{Meaning, root_of, targets_of}
-use Rattle.hurd_trans_iface.specs.declared.root.Crossing.{Crossing}
+use Rattle.hurd_creds.specs.Access.{most_ids}
+use Rattle.hurd_trans_iface.specs.Meaning.{root_of, targets_of}
 use Rattle.hurd_trans_iface.specs.declared.root.Crossing.TheVariants.{Union}
-use Rattle.hurd_machine.specs.World.{World, IsAmong, header_at}
-use Rattle.hurd_machine.specs.Sight.{Taken, Seen, Owns}
 use Rattle.hurd_machine.proofs.Views.{Agree, Agree-refl, header_same}
 use Rattle.hurd_machine.proofs.Asks.{first_ok, given_ok}
 use Rattle.hurd_machine.proofs.Coherence.{CanBeNamed}

@@ -1,33 +1,20 @@
 -- A server that begins: its root's shape, size, and how it hangs, and how it comes.
 use Rattle.std.proofs.Common.{Option, Some, None, not, [], ◌∷◌, ap, ◌≡◌, ◌≢◌, ◌∙◌, ℕ, Bool, true, false, true≢false, if◌then◌else◌, List, refl, sym}
-use Rattle.hurd_creds.specs.declared.name.Name.{Name}
-use Rattle.hurd_creds.specs.declared.mode.Mode.{Mode}
-use Rattle.hurd_creds.specs.declared.attrs.Kind.{Kind}
-use Rattle.hurd_creds.specs.declared.attrs.Kind.TheVariants.{Dir}
-use Rattle.hurd_trans_iface.specs.Nodes.{Header, Node, IsShaped, is_dir}
+use Rattle.hurd_machine.proofs.Common.{Attach, AttrOf, BodyOf, Dir, DropServer, EOVERFLOW, ESRCH, EmptyOf, Header, IsShaped, Kind, Meaning, Mode, Name, Node, OptionsOf, Part, ServerInfo, Task, TaskOf, World, active_at, begun_info, begun_root, boot_name, empty_body, fresh, given, header_at, home_at, is_dir, is_home, is_other, is_plain, is_tree, on, task_at}
 use Rattle.hurd_trans_iface.specs.declared.root.Root.{Root}
-use Rattle.hurd_trans_iface.specs.Answers.{is_plain, is_tree}
-use Rattle.hurd_trans_iface.specs.Meaning.{Meaning, empty_body, root_of}
+use Rattle.hurd_trans_iface.specs.Meaning.{root_of}
 use Rattle.hurd_trans_iface.proofs.BodyLaws.{begun_has, begun_holds}
 use Rattle.hurd_trans_iface.proofs.Goods.{tree-told}
 use Rattle.hurd_creds.proofs.NameLaws.{same_name-apart}
-use Rattle.hurd_nodes.specs.Held.{is_home}
-use Rattle.hurd_nodes.specs.Shown.{ServerInfo, begun_info, begun_root, boot_name, is_other}
-use Rattle.hurd_machine.specs.Change.{Attach, DropServer}
-use Rattle.hurd_machine.specs.Plan.{on, given}
-use Rattle.hurd_machine.specs.Sight.{Part, AttrOf, EmptyOf, BodyOf, OptionsOf, TaskOf}
 use Rattle.hurd_machine.specs.Touched.{Goes}
 use Rattle.hurd_machine.proofs.Piece.{Stands, Whole, piece_then, settled}
 use Rattle.hurd_machine.proofs.Coherence.{Comes, HasNoEntries}
 use Rattle.hurd_machine.proofs.Going.{AimsAtSeen, Begun, goes_piece, comes_piece, comes_after}
 use Rattle.std.specs.Prelude.{Ok}
-use Rattle.hurd_creds.specs.declared.errno.Errno.TheVariants.{EOVERFLOW, ESRCH}
 use Rattle.hurd_machine.proofs.Views.{Agree, same_tasks}
 use Rattle.hurd_machine.proofs.Asks.{IsPlain, on_ok, given_ok, on_same, on_plain, given_plain, ok_plain}
 use Rattle.hurd_core.specs.Core.{attaching, naming_asks}
-use Rattle.hurd_ports.specs.Tables.{Task, fresh}
 use Rattle.hurd_ports.specs.Steps.{named}
-use Rattle.hurd_machine.specs.World.{World, task_at, header_at, home_at, active_at}
 use Rattle.hurd_machine.proofs.Opens.{fresh_next}
 use Rattle.hurd_fsys.specs.Aims.{server_ids}
 use Rattle.hurd_fsys.specs.Setting.{root_kind, root_mode, seat_on}

@@ -1,25 +1,13 @@
 -- Ports that control servers: what an answer shows, and that it is the same in worlds that agree; and a port more to control one.
 use Rattle.std.proofs.Common.{◌≡◌, ◌∙◌, ◌||◌, ◌≤◌, ℕ, Bool, true, [], ◌∷◌, Some, refl, sym, ap, subst, inl, inr, arith}
 use Rattle.std.specs.Prelude.{Result, Ok, Err}
-use Rattle.std.specs.Ordering.{is_eq}
-use Rattle.std.specs.Cmp.{nat_cmp_total, tied_itself}
+use Rattle.hurd_machine.proofs.Common.{Coherent, Control, CouldServe, EBADF, EDIED, Errno, Holds, IdSets, Io, IoRight, Name, Named, OfControl, OwnsIt, Right, ServerInfo, UidOfRight, World, bare, holds_uid, is_eq, least_uid, nat_cmp_total, owns, ports_of, server_at, tied_itself}
 use Rattle.std.specs.FinSet as set
 use Rattle.std.proofs.lemmas.List.Elements.{All-nil, All-cons}
-use Rattle.hurd_creds.specs.declared.name.Name.{Name}
-use Rattle.hurd_creds.specs.declared.errno.Errno.{Errno}
-use Rattle.hurd_creds.specs.declared.errno.Errno.TheVariants.{EBADF, EDIED}
-use Rattle.hurd_ports.specs.declared.table.IoRight.{IoRight}
-use Rattle.hurd_ports.specs.declared.table.Right.{Right}
-use Rattle.hurd_ports.specs.declared.table.Right.TheVariants.{Io, Control}
 use Rattle.hurd_ports.specs.Tables.{right_of}
-use Rattle.hurd_machine.specs.World.{World, ports_of, server_at}
 use Rattle.std.proofs.lemmas.Bool.{or_cases}
-use Rattle.hurd_creds.specs.Access.{IdSets, holds_uid, is_root, least_uid, owns}
+use Rattle.hurd_creds.specs.Access.{is_root}
 use Rattle.hurd_creds.proofs.IdLaws.{least-answer}
-use Rattle.hurd_nodes.specs.Shown.{ServerInfo}
-use Rattle.hurd_machine.specs.Handle.{Named}
-use Rattle.hurd_machine.specs.Sight.{Holds, OfControl, OwnsIt, CouldServe, UidOfRight, bare}
-use Rattle.hurd_machine.specs.Sound.{Coherent}
 use Rattle.hurd_machine.proofs.Asks.{IsPlain, right_same, right_plain, holds_right, first_ok, on_ok, first_same, on_same, first_plain, on_plain, ok_plain, err_plain}
 use Rattle.hurd_machine.proofs.Views.{Agree, server_known}
 use Rattle.hurd_core.specs.Control.{control_in, control_of}

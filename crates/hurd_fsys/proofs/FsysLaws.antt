@@ -1,23 +1,12 @@
 -- The laws of sending servers away, of getting control of them, and of asking how they were made.
 use Rattle.std.proofs.Common.{[], ◌∷◌, ◌≡◌, ◌≢◌, ◌∙◌, ◌||◌, ◌&&◌, ◌==◌, not, ℕ, Bool, true, false, true≢false, Some, refl, sym, ap, subst, inl, inr}
 use Rattle.std.specs.Prelude.{Result, Ok}
-use Rattle.hurd_creds.specs.declared.name.Name.{Name}
+use Rattle.hurd_machine.proofs.Common.{ByControl, ByNode, BySeat, Coherent, Control, DropServer, EBUSY, EDIED, ENXIO, EPERM, Errno, FORCE, Holds, Io, Name, Named, Nothing, Seen, ServerInfo, UsersOf, World, active_at, asks_goaway, boot_name, has_room, home_at, port_asks, same_name, server_at, users}
 use Rattle.hurd_creds.specs.declared.trans_flags.GoawayFlags.{GoawayFlags}
-use Rattle.hurd_creds.specs.declared.errno.Errno.{Errno}
-use Rattle.hurd_creds.specs.declared.errno.Errno.TheVariants.{EBUSY, EDIED, ENXIO, EPERM}
-use Rattle.hurd_creds.specs.Names.{same_name}
-use Rattle.hurd_creds.specs.TransBits.{asks_goaway, FORCE}
 use Rattle.hurd_creds.proofs.NameLaws.{same_name-itself}
-use Rattle.hurd_nodes.specs.Shown.{ServerInfo, boot_name}
 use Rattle.hurd_nodes.proofs.PartLaws.{and_both}
-use Rattle.hurd_ports.specs.declared.table.Right.TheVariants.{Io, Control}
-use Rattle.hurd_ports.specs.Tables.{has_room}
 use Rattle.hurd_machine.specs.declared.call.Reply.TheVariants.{Done, Port, Words}
-use Rattle.hurd_machine.specs.World.{World, home_at, active_at, server_at}
-use Rattle.hurd_machine.specs.Handle.{Named, port_asks}
-use Rattle.hurd_machine.specs.Sight.{Holds, Seen, Held, UsersOf, ByControl, ByNode, BySeat, users}
-use Rattle.hurd_machine.specs.Sound.{Coherent}
-use Rattle.hurd_machine.specs.Touched.{Nothing}
+use Rattle.hurd_machine.specs.Sight.{Held}
 use Rattle.hurd_machine.proofs.Views.{Agree, same_tasks, home_same, active_same, server_same}
 use Rattle.hurd_machine.proofs.Opens.{own_task}
 use Rattle.hurd_machine.proofs.Going.{goes_piece}
@@ -33,7 +22,6 @@ use Rattle.hurd_fsys.proofs.ControlLaws.{IsControlled, is_controlled, controlled
 use Rattle.hurd_fsys.proofs.BegunLaws.{counted_task}
 use Rattle.hurd_machine.proofs.Piece.{stands, settled}
 use Rattle.hurd_machine.proofs.Sharing.{port_whole}
-use Rattle.hurd_machine.specs.Change.{DropServer}
 
 -- fsys_goaway
 

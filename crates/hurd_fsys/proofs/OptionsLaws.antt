@@ -1,19 +1,11 @@
 -- The laws of giving options to a server.
 use Rattle.std.proofs.Common.{◌≡◌, ℕ, Bool, true, List, Option, Some, None, refl, ap, subst, ◌∙◌, inl, inr}
 use Rattle.std.specs.Prelude.{Result, Ok, Err}
-use Rattle.hurd_creds.specs.declared.name.Name.{Name}
-use Rattle.hurd_creds.specs.declared.errno.Errno.{Errno}
-use Rattle.hurd_creds.specs.declared.errno.Errno.TheVariants.{EDIED}
+use Rattle.hurd_machine.proofs.Common.{Coherent, Control, EDIED, Errno, Name, OfControl, Plan, ServerInfo, World, ports_of, retexting, server_at, takes_options}
 use Rattle.hurd_trans_iface.specs.Meaning.{behaviour_of}
 use Rattle.hurd_trans_iface.proofs.Goods.{good}
-use Rattle.hurd_nodes.specs.Shown.{ServerInfo, info_taken, takes_options}
-use Rattle.hurd_ports.specs.declared.table.Right.TheVariants.{Control}
+use Rattle.hurd_nodes.specs.Shown.{info_taken}
 use Rattle.hurd_machine.specs.declared.call.Reply.TheVariants.{Done}
-use Rattle.hurd_machine.specs.World.{World, ports_of, server_at}
-use Rattle.hurd_machine.specs.Plan.{Plan}
-use Rattle.hurd_machine.specs.Change.{retexting}
-use Rattle.hurd_machine.specs.Sight.{OfControl}
-use Rattle.hurd_machine.specs.Sound.{Coherent}
 use Rattle.hurd_machine.proofs.Views.{Agree, server_known}
 use Rattle.hurd_machine.proofs.Asks.{IsPlain, holds_right, ok_plain, err_plain, answered_same, answered_plain, done_plain}
 use Rattle.hurd_machine.proofs.Retexting.{MayGet, retexts_whole, retexts_same}

@@ -1,12 +1,8 @@
 -- Ports on nodes that their ids own: what an answer shows, and that it is the same in worlds that agree.
 use Rattle.std.proofs.Common.{◌≡◌, ℕ, Bool, true, refl, subst}
 use Rattle.std.specs.Prelude.{Ok}
-use Rattle.hurd_creds.specs.declared.errno.Errno.TheVariants.{EPERM}
-use Rattle.hurd_creds.specs.Access.{owns}
-use Rattle.hurd_ports.specs.declared.table.Right.TheVariants.{Io}
-use Rattle.hurd_machine.specs.World.{World}
-use Rattle.hurd_machine.specs.Handle.{Named, port_asks}
-use Rattle.hurd_machine.specs.Sight.{Holds, Held, Seen, bare}
+use Rattle.hurd_machine.proofs.Common.{EPERM, Holds, Io, Named, Seen, World, bare, owns, port_asks}
+use Rattle.hurd_machine.specs.Sight.{Held}
 use Rattle.hurd_machine.proofs.Views.{Agree}
 use Rattle.hurd_machine.proofs.Asks.{IsPlain, IsNamed, is_named, port_same, port_plain, holds_right, first_ok, given_ok, first_same, first_plain, given_plain, ok_plain}
 use Rattle.hurd_fsys.specs.Owned.{owned_asks}

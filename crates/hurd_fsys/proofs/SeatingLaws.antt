@@ -1,24 +1,12 @@
 -- When setting a translator answers, and leaves, what its plan says.
 use Rattle.std.proofs.Common.{◌≡◌, ◌∙◌, ◌⊎◌, ℕ, Bool, true, false, not, if◌then◌else◌, List, [], ◌∷◌, ◌++◌, Option, Some, None, inl, inr, refl, sym, ap, ap₂, subst}
 use Rattle.std.specs.Prelude.{Result, Ok, Err, IsOk, is_some, option_copied}
-use Rattle.std.specs.Borrow.{Bor}
+use Rattle.hurd_machine.proofs.Common.{Bor, Change, ENOMEM, EOPNOTSUPP, EditHeader, Errno, Meaning, Meets, Name, Named, Plan, Planned, Reply, SET, Task, World, answered, apply_all, asks_trans, first, has_words, header_at, info_at, is_server_root, naming_of, node_at, passive_of, ports_of, sets_attrs_at, told, tree_by, with_passive, words_at}
 use Rattle.std.specs.Option.{option_map}
-use Rattle.hurd_creds.specs.declared.errno.Errno.{Errno}
-use Rattle.hurd_creds.specs.declared.errno.Errno.TheVariants.{ENOMEM, EOPNOTSUPP}
-use Rattle.hurd_creds.specs.declared.name.Name.{Name}
-use Rattle.hurd_creds.specs.Memory.{Meets}
-use Rattle.hurd_creds.specs.TransBits.{asks_trans, SET}
-use Rattle.hurd_trans_iface.specs.Nodes.{has_words, passive_of, with_passive}
-use Rattle.hurd_trans_iface.specs.Meaning.{Meaning}
 use Rattle.hurd_nodes.proofs.PartLaws.{and_both}
-use Rattle.hurd_nodes.specs.Shown.{tree_by}
-use Rattle.hurd_ports.specs.Tables.{Task, naming_of}
-use Rattle.hurd_machine.specs.Calls.{Reply}
 use Rattle.hurd_machine.specs.declared.call.Reply.TheVariants.{Done, Refused}
-use Rattle.hurd_machine.specs.World.{World, header_at, info_at, is_server_root, node_at, nodes_of, ports_of, sets_attrs_at, words_at}
-use Rattle.hurd_machine.specs.Change.{Change, EditHeader, apply_all}
-use Rattle.hurd_machine.specs.Plan.{Follows, Plan, Planned, answered, first, told}
-use Rattle.hurd_machine.specs.Handle.{Named}
+use Rattle.hurd_machine.specs.World.{nodes_of}
+use Rattle.hurd_machine.specs.Plan.{Follows}
 use Rattle.hurd_core.specs.Core.{Does, attaching, naming_asks}
 use Rattle.hurd_machine.proofs.Keeping.{apply_all-append}
 use Rattle.hurd_machine.proofs.Asks.{given_ok}

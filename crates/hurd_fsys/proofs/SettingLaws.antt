@@ -1,24 +1,10 @@
 -- The laws of setting a translator.
 use Rattle.std.proofs.Common.{◌≡◌, ◌∙◌, ◌||◌, ◌&&◌, ◌==◌, not, slice_get, ℕ, Bool, true, false, if◌then◌else◌, List, [], ◌∷◌, ◌++◌, Option, Some, None, refl, sym, ap, ap₂, subst, inl, inr}
 use Rattle.std.specs.Prelude.{Ok, is_some}
-use Rattle.hurd_nodes.specs.declared.seat.Site.{Site}
-use Rattle.hurd_creds.specs.declared.name.Name.{Name}
-use Rattle.hurd_creds.specs.NameMaps.{NameMap}
-use Rattle.hurd_creds.specs.declared.errno.Errno.TheVariants.{EBUSY, EINVAL, EOPNOTSUPP}
-use Rattle.hurd_creds.specs.TransBits.{asks_goaway, asks_trans, SET, ORPHAN, FORCE}
-use Rattle.hurd_trans_iface.specs.Nodes.{has_words}
-use Rattle.hurd_trans_iface.specs.Meaning.{Meaning}
+use Rattle.hurd_machine.proofs.Common.{BySeat, Change, Coherent, DropServer, EBUSY, EINVAL, EOPNOTSUPP, FORCE, GidOfRight, Holds, Io, IsAmong, Meaning, Name, NameMap, Named, Part, SET, Seen, Settle, Site, Sound, Taken, Task, UidOfRight, Unseat, UsersOf, World, active_at, active_in, apply_all, asks_goaway, asks_trans, can_name, has_words, info_at, is_server_root, tree_by, users}
+use Rattle.hurd_creds.specs.TransBits.{ORPHAN}
 use Rattle.hurd_nodes.proofs.PartLaws.{and_both}
-use Rattle.hurd_nodes.specs.Held.{active_in}
-use Rattle.hurd_nodes.specs.Shown.{tree_by}
-use Rattle.hurd_ports.specs.declared.table.Right.TheVariants.{Io}
-use Rattle.hurd_ports.specs.Tables.{can_name, Task}
 use Rattle.hurd_machine.specs.declared.call.Reply.TheVariants.{Done, Words}
-use Rattle.hurd_machine.specs.World.{World, IsAmong, active_at, info_at, is_server_root}
-use Rattle.hurd_machine.specs.Change.{Change, DropServer, Unseat, Settle, apply_all}
-use Rattle.hurd_machine.specs.Handle.{Named}
-use Rattle.hurd_machine.specs.Sight.{Part, UsersOf, Holds, UidOfRight, GidOfRight, Taken, Seen, BySeat, users}
-use Rattle.hurd_machine.specs.Sound.{Coherent, Sound}
 use Rattle.hurd_machine.specs.Touched.{Goes}
 use Rattle.hurd_machine.proofs.Views.{Agree, Agree-refl, active_same}
 use Rattle.hurd_machine.proofs.Frame.{Full}

@@ -1,18 +1,9 @@
 -- The laws of starting a translator, and of giving that up.
 use Rattle.std.proofs.Common.{◌≡◌, ◌∙◌, ℕ, Bool, true, List, ◌++◌, map, Option, Some, None, not, is_some, ◌&&◌, refl, ap, subst, inl, inr}
 use Rattle.std.specs.Prelude.{Result, Ok, Err}
-use Rattle.hurd_creds.specs.declared.name.Name.{Name}
-use Rattle.hurd_creds.specs.declared.errno.Errno.{Errno}
-use Rattle.hurd_creds.specs.declared.errno.Errno.TheVariants.{EBUSY, EDIED, ESRCH}
-use Rattle.hurd_trans_iface.specs.Meaning.{Meaning}
-use Rattle.hurd_ports.specs.declared.table.PendingStart.{PendingStart}
-use Rattle.hurd_ports.specs.declared.table.Right.TheVariants.{Start}
-use Rattle.hurd_ports.specs.Tables.{can_name, Task, fresh, pending_at, pending_of, start_of}
+use Rattle.hurd_machine.proofs.Common.{AttrOf, EBUSY, EDIED, ESRCH, Errno, GidOfTask, IsAmong, Meaning, Name, Nothing, Part, Pending, PendingStart, Seen, Sound, Start, Taken, Task, UidOfTask, World, active_at, asked_parts, can_name, fresh, header_at, pending_of, ports_of, start_of, task_at}
+use Rattle.hurd_ports.specs.Tables.{pending_at}
 use Rattle.hurd_machine.specs.declared.call.Reply.TheVariants.{Done}
-use Rattle.hurd_machine.specs.World.{World, IsAmong, ports_of, task_at, header_at, active_at}
-use Rattle.hurd_machine.specs.Sight.{Part, AttrOf, Seen, Pending, Taken, UidOfTask, GidOfTask}
-use Rattle.hurd_machine.specs.Sound.{Sound}
-use Rattle.hurd_machine.specs.Touched.{Nothing, asked_parts}
 use Rattle.hurd_machine.proofs.Asks.{IsPlain, IsPlainReply, first_ok, given_ok, on_ok, first_same, given_same, on_same, first_plain, given_plain, on_plain, ok_plain, answered_same, answered_plain, done_plain, refused_plain}
 use Rattle.hurd_machine.proofs.CallLaws.{CallLaws, answered_piece, answered_whole}
 use Rattle.hurd_machine.proofs.Frame.{Full}

@@ -1,21 +1,10 @@
 -- When starting a translator, or giving that up, answers, and leaves, what its plan says.
 use Rattle.std.proofs.Common.{◌≡◌, ◌∙◌, ℕ, List, true, false, true≢false, Option, Some, None, inl, inr, refl, sym, ap, subst}
 use Rattle.std.specs.Prelude.{Result, Ok, Err, IsOk, is_some, option_copied}
-use Rattle.std.specs.Borrow.{Bor}
-use Rattle.hurd_creds.specs.declared.errno.Errno.{Errno}
-use Rattle.hurd_creds.specs.declared.errno.Errno.TheVariants.{ESRCH}
-use Rattle.hurd_creds.specs.declared.name.Name.{Name}
-use Rattle.hurd_trans_iface.specs.Nodes.{Header}
-use Rattle.hurd_trans_iface.specs.Meaning.{Meaning}
-use Rattle.hurd_ports.specs.declared.table.PendingStart.{PendingStart}
-use Rattle.hurd_creds.specs.Access.{IdSets}
-use Rattle.hurd_creds.specs.Memory.{is_no_memory}
-use Rattle.hurd_ports.specs.Tables.{Task, ids_at, naming_of, or_refuse, pending_of, task_of}
-use Rattle.hurd_machine.specs.Calls.{Reply}
+use Rattle.hurd_machine.proofs.Common.{Bor, Change, ESRCH, Errno, Header, IdSets, Meaning, Name, PendingStart, Plan, Reply, Task, World, answered, apply_all, first, ids_at, is_no_memory, naming_of, on, or_refuse, pending, pending_of, ports_of, task_of}
 use Rattle.hurd_machine.specs.declared.call.Reply.TheVariants.{Done, Refused}
-use Rattle.hurd_machine.specs.World.{World, nodes_of, ports_of}
-use Rattle.hurd_machine.specs.Change.{Change, apply_all, pending}
-use Rattle.hurd_machine.specs.Plan.{Plan, Follows, answered, first, on}
+use Rattle.hurd_machine.specs.World.{nodes_of}
+use Rattle.hurd_machine.specs.Plan.{Follows}
 use Rattle.hurd_core.specs.Core.{Does, attaching, naming_asks}
 use Rattle.hurd_core.proofs.CoreLaws.{naming-had, naming-refused}
 use Rattle.hurd_core.proofs.PlanLaws.{follows-from, follows-refused, follows-then}

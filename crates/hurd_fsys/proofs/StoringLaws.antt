@@ -2,23 +2,9 @@
 use Rattle.std.proofs.Common.{◌≡◌, ◌≢◌, ◌⊎◌, ◌∙◌, ℕ, Bool, true, false, if◌then◌else◌, List, [], ◌∷◌, Option, Some, None, refl, sym, ap, ap₂, subst, inl, inr}
 use Rattle.std.specs.Prelude.{Ok, Err, is_some}
 use Rattle.std.specs.Option.{option_map}
-use Rattle.std.specs.FinMap.{get}
-use Rattle.hurd_nodes.specs.declared.seat.Site.{Site}
-use Rattle.hurd_nodes.specs.Held.{home_in, active_in}
-use Rattle.hurd_creds.specs.declared.name.Name.{Name}
-use Rattle.hurd_creds.specs.declared.errno.Errno.{Errno}
-use Rattle.hurd_creds.specs.declared.errno.Errno.TheVariants.{EINVAL}
-use Rattle.hurd_creds.specs.NameMaps.{NameMap, edit}
+use Rattle.hurd_machine.proofs.Common.{AttrOf, Below, BodyOf, Change, EINVAL, EditHeader, EmptyOf, Errno, Header, Meaning, Name, NameMap, Named, Node, NodeMap, OptionsOf, Owns, OwnsIt, Part, ServerInfo, Site, Sound, Task, UsersOf, World, active_in, apply_all, edit, edit_by, first, get, has_words, header_at, home_in, info_at, info_in, keeps_tree, node_at, on, passive_of, port_asks, sets_attrs_at, shape_by, some_words, tree_by, with_header, with_passive, words_at, words_in}
 use Rattle.hurd_creds.proofs.NameLaws.{same_map_by, same_or_apart, edit_here, edit_apart}
-use Rattle.hurd_trans_iface.specs.Nodes.{Header, Node, NodeMap, has_words, passive_of, some_words, with_header, with_passive}
-use Rattle.hurd_trans_iface.specs.Meaning.{Meaning, keeps_tree}
-use Rattle.hurd_nodes.specs.Shown.{ServerInfo, info_in, edit_by, tree_by}
-use Rattle.hurd_ports.specs.Tables.{Task}
-use Rattle.hurd_machine.specs.World.{World, header_at, info_at, node_at, sets_attrs_at, words_at, words_in, nodes_of, shape_by}
-use Rattle.hurd_machine.specs.Change.{Change, EditHeader, apply_all}
-use Rattle.hurd_machine.specs.Plan.{on, first}
-use Rattle.hurd_machine.specs.Handle.{Named, port_asks}
-use Rattle.hurd_machine.specs.Sight.{Part, AttrOf, EmptyOf, BodyOf, OptionsOf, UsersOf, OwnsIt, Owns}
+use Rattle.hurd_machine.specs.World.{nodes_of}
 use Rattle.hurd_machine.specs.Touched.{Goes}
 use Rattle.hurd_machine.proofs.Asks.{is_named}
 use Rattle.hurd_machine.proofs.Nodes.{header_in, header-with_header, edit_keeps, edit_reads, node_of_header, was_edited}
@@ -29,7 +15,6 @@ use Rattle.hurd_fsys.specs.Setting.{stored_asks}
 use Rattle.hurd_fsys.proofs.AimsLaws.{Aims}
 use Rattle.hurd_machine.proofs.Filled.{tree_header}
 use Rattle.hurd_machine.proofs.Piece.{Whole, stands, whole_none, quiet, of_header}
-use Rattle.hurd_machine.specs.Sound.{Below, Sound}
 use Rattle.hurd_machine.proofs.Permits.{AllExact}
 
 -- a world like another, but for the headers of its nodes; this node is there

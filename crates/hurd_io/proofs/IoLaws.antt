@@ -1,18 +1,10 @@
 -- The laws of reading and writing, and of what is told of a node.
 use Rattle.std.proofs.Common.{◌≡◌, ◌⊎◌, sym, ℕ, ℤ, pos, negsuc, zero, suc, Bool, true, false, List, refl, inl, inr, ap, subst, min}
 use Rattle.std.specs.Prelude.{Result, Ok, length}
-use Rattle.hurd_creds.specs.declared.name.Name.{Name}
-use Rattle.hurd_creds.specs.declared.errno.Errno.{Errno}
-use Rattle.hurd_trans_iface.specs.Behaviour.{Did, Question, edits_of}
+use Rattle.hurd_machine.proofs.Common.{BodyOf, Change, Did, Errno, Name, OnDid, Part, Question, READ, Reply, Seen, Sees, Sound, WRITE, World, apply_all, asked_at, changes_of, counts_at, edits_of, handle_asks, is_refused, most_read, stream_at}
 use Rattle.hurd_trans_iface.specs.Kinds.{ServerKind, behaviour_of}
 use Rattle.hurd_trans_iface.specs.Good.{IsPlain as IsPlainAnswer}
 use Rattle.hurd_trans_iface.proofs.BodyLaws.{read_holds, write_holds}
-use Rattle.hurd_machine.specs.Calls.{Reply}
-use Rattle.hurd_machine.specs.World.{World, asked_at, counts_at, stream_at}
-use Rattle.hurd_machine.specs.Change.{Change, apply_all, changes_of}
-use Rattle.hurd_machine.specs.Plan.{is_refused}
-use Rattle.hurd_machine.specs.Sight.{Part, BodyOf, Sees, Seen}
-use Rattle.hurd_machine.specs.Touched.{OnDid}
 use Rattle.hurd_machine.proofs.Views.{Agree, active_same}
 use Rattle.hurd_machine.proofs.Frame.{AllWithin, Full, within_append}
 use Rattle.hurd_machine.proofs.Coherence.{AllProper}
@@ -30,14 +22,10 @@ use Rattle.hurd_io.specs.declared.offset.Offset.{Offset}
 use Rattle.hurd_io.specs.declared.offset.Offset.TheVariants.{Place, Cursor}
 use Rattle.hurd_io.specs.declared.offset.IoAt.{IoAt}
 use Rattle.hurd_io.specs.Io.{io_at, offset_of, past, moved, Moves, plan_io, touches_io, read_asks, reads, plan_read, touches_read, write_asks, write_cursor, writes, plan_write, touches_write, stat_asks, plan_stat, touches_stat}
-use Rattle.hurd_creds.specs.Bits.{READ, WRITE}
-use Rattle.hurd_creds.specs.Limits.{most_read}
 use Rattle.hurd_trans_iface.proofs.Goods.{good}
 use Rattle.hurd_machine.specs.declared.handle.Handle.{Handle}
 use Rattle.hurd_machine.specs.declared.call.Reply.TheVariants.{Data, Count, Stat}
-use Rattle.hurd_machine.specs.Handle.{handle_asks}
 use Rattle.hurd_machine.proofs.Piece.{Whole, whole_none, whole_then}
-use Rattle.hurd_machine.specs.Sound.{Sound}
 
 -- Reads and writes: what the laws need of them, by what is asked first and the question to the server.
 

@@ -1,13 +1,10 @@
 -- The laws of cursors, and of what opens are for: they ask for an open of the caller's own, and its node's header.
 use Rattle.std.proofs.Common.{◌≡◌, ℕ, ℤ, pos, negsuc, Bool, true, refl, ap, inl}
 use Rattle.std.specs.Prelude.{Ok}
-use Rattle.hurd_creds.specs.declared.open_flags.OpenFlags.{OpenFlags}
-use Rattle.hurd_creds.specs.Bits.{READ, APPEND, asks}
+use Rattle.hurd_machine.proofs.Common.{OpenFlags, OpenOf, READ, World, any_mode, asks, handle_asks}
+use Rattle.hurd_creds.specs.Bits.{APPEND}
 use Rattle.hurd_machine.specs.declared.call.Whence.{Whence}
 use Rattle.hurd_machine.specs.declared.call.Reply.TheVariants.{Count, Done}
-use Rattle.hurd_machine.specs.World.{World}
-use Rattle.hurd_machine.specs.Handle.{any_mode, handle_asks}
-use Rattle.hurd_machine.specs.Sight.{OpenOf}
 use Rattle.hurd_machine.proofs.Views.{Agree}
 use Rattle.hurd_machine.proofs.Frame.{Full}
 use Rattle.hurd_machine.proofs.Opens.{cursor_whole, append_whole}

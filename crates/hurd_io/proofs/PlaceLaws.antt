@@ -5,8 +5,7 @@ use Rattle.std.specs.Int.{FitsUnsigned}
 use Rattle.std.specs.Int.RustNames.{unsigned_abs}
 use Rattle.std.proofs.lemmas.Bool.Decides.{nat_tests}
 use Rattle.std.proofs.lemmas.Int.{ints}
-use Rattle.hurd_creds.specs.declared.errno.Errno.TheVariants.{EINVAL}
-use Rattle.hurd_machine.specs.Plan.{given}
+use Rattle.hurd_machine.proofs.Common.{EINVAL, given}
 use Rattle.hurd_io.specs.Io.{i64_greatest}
 use Rattle.hurd_io.specs.Opens.{place_asks}
 

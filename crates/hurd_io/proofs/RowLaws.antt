@@ -1,15 +1,11 @@
 -- Reads and writes do as their plans say.
 use Rattle.std.proofs.Common.{◌≡◌, ◌∙◌, ℕ, List, sym, ap, subst}
 use Rattle.std.specs.Prelude.{Result, Ok, Err, IfOk, false}
-use Rattle.hurd_creds.specs.declared.name.Name.{Name}
-use Rattle.hurd_creds.specs.declared.errno.Errno.{Errno}
-use Rattle.hurd_trans_iface.specs.Behaviour.{Did, Question, edits_of, told_of}
-use Rattle.hurd_nodes.specs.Shown.{NodeState}
-use Rattle.hurd_machine.specs.Calls.{Reply}
+use Rattle.hurd_machine.proofs.Common.{Change, Did, Errno, Name, NodeState, Planned, Question, Reply, World, apply_all, asked_at, changes_of, edits_of, is_refused}
+use Rattle.hurd_trans_iface.specs.Behaviour.{told_of}
 use Rattle.hurd_machine.specs.declared.call.Reply.TheVariants.{Refused}
-use Rattle.hurd_machine.specs.World.{World, asked_at, nodes_of}
-use Rattle.hurd_machine.specs.Change.{Change, apply_all, changes_of}
-use Rattle.hurd_machine.specs.Plan.{Follows, Planned, is_refused}
+use Rattle.hurd_machine.specs.World.{nodes_of}
+use Rattle.hurd_machine.specs.Plan.{Follows}
 use Rattle.hurd_machine.proofs.Keeping.{apply_all-append}
 use Rattle.hurd_core.specs.Core.{Does}
 use Rattle.hurd_core.proofs.PlanLaws.{asked-refused, asked-done, asked-short, follows-refused, follows-then, planned-then}

@@ -1,18 +1,8 @@
 -- A port that shares an open is made as its plan says.
 use Rattle.std.proofs.Common.{◌≡◌, ◌∙◌, ℕ, [], ◌∷◌, Some, refl, sym, ap, subst, inl, inr, true≢false}
 use Rattle.std.specs.Prelude.{Result, Ok, Err, IsOk}
-use Rattle.hurd_creds.specs.declared.errno.Errno.{Errno}
-use Rattle.hurd_creds.specs.declared.errno.Errno.TheVariants.{ENOMEM, EOVERFLOW, ESRCH}
-use Rattle.hurd_creds.specs.Access.{IdSets}
-use Rattle.hurd_ports.specs.declared.table.IoRight.{IoRight}
-use Rattle.hurd_ports.specs.declared.table.Right.TheVariants.{Io}
-use Rattle.hurd_ports.specs.Tables.{Task}
-use Rattle.hurd_ports.specs.Steps.{with_ids_for, with_port}
+use Rattle.hurd_machine.proofs.Common.{ENOMEM, EOVERFLOW, ESRCH, EditTask, Errno, IdSets, Io, IoRight, Named, Plan, Planned, Task, World, apply_all, first, port_asks, task_at, with_ids_for, with_port}
 use Rattle.hurd_machine.specs.declared.call.Reply.TheVariants.{Port}
-use Rattle.hurd_machine.specs.World.{World, task_at}
-use Rattle.hurd_machine.specs.Change.{EditTask, apply_all}
-use Rattle.hurd_machine.specs.Plan.{Plan, Planned, first}
-use Rattle.hurd_machine.specs.Handle.{Named, port_asks}
 use Rattle.hurd_machine.proofs.Asks.{on_ok, given_ok}
 use Rattle.hurd_core.specs.Core.{Does, room_asks}
 use Rattle.hurd_core.proofs.PlanLaws.{asked-refused, asked-lacks, asked-done}

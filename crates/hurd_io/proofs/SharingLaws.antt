@@ -1,16 +1,9 @@
 -- The laws of ports that share an open: each has ids that the caller holds already; and whether two ports are on one node.
 use Rattle.std.proofs.Common.{◌≡◌, ◌⊎◌, ℕ, Bool, true, Some, refl, ◌∙◌, ap, subst, inl, inr}
 use Rattle.std.specs.Prelude.{Ok}
-use Rattle.hurd_creds.specs.declared.errno.Errno.TheVariants.{EOVERFLOW, ESRCH}
-use Rattle.hurd_creds.specs.Access.{IdSets}
-use Rattle.hurd_ports.specs.declared.table.IoRight.{IoRight}
-use Rattle.hurd_ports.specs.declared.table.Right.TheVariants.{Io}
-use Rattle.hurd_ports.specs.Tables.{Task, right_of}
+use Rattle.hurd_machine.proofs.Common.{EOVERFLOW, ESRCH, HasUid, IdSets, Io, IoRight, OnRight, Taken, Task, World, both_asks, port_asks, ports_of, task_at}
+use Rattle.hurd_ports.specs.Tables.{right_of}
 use Rattle.hurd_machine.specs.declared.call.Reply.TheVariants.{Port}
-use Rattle.hurd_machine.specs.World.{World, ports_of, task_at}
-use Rattle.hurd_machine.specs.Handle.{both_asks, port_asks}
-use Rattle.hurd_machine.specs.Sight.{HasUid, Taken}
-use Rattle.hurd_machine.specs.Touched.{OnRight}
 use Rattle.hurd_machine.proofs.Views.{Agree, same_tasks}
 use Rattle.hurd_machine.proofs.Frame.{Full}
 use Rattle.hurd_machine.proofs.Opens.{own_task}

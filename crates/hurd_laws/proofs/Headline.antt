@@ -1,8 +1,6 @@
 -- Two runs, each against the calls of S alone.
 use Rattle.std.proofs.Common.{◌≡◌, ◌∙◌, ℕ, Bool, true, false, List, [], ◌∷◌, sym, refl, ap, ap₂, subst}
-use Rattle.hurd_machine.specs.World.{World}
-use Rattle.hurd_machine.specs.Sight.{SameView}
-use Rattle.hurd_machine.specs.Sound.{Sound}
+use Rattle.hurd_machine.proofs.Common.{SameView, Sound, World}
 use Rattle.hurd_laws.specs.Step.{after}
 use Rattle.hurd_laws.specs.Runs.{TaskCall, run, calls_of, replies_to, Unmoved}
 use Rattle.hurd_laws.specs.Laws.{Isolated, IsolatedByView, QuietUnmoved}

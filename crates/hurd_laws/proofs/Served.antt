@@ -1,11 +1,6 @@
 -- What was served is a run of the written machine.
 use Rattle.std.proofs.Common.{◌≡◌, ◌∙◌, ◌&&◌, if◌then◌else◌, inl, inr, ℕ, Bool, true, false, true≢false, List, [], ◌∷◌, ◌++◌, Option, Some, None, sym, refl, ap, ap₂, subst}
-use Rattle.hurd_creds.specs.declared.errno.Errno.TheVariants.{ENOMEM}
-use Rattle.hurd_trans_iface.specs.Meaning.{Meaning}
-use Rattle.hurd_machine.specs.Calls.{Call, Reply, box_in, refusal}
-use Rattle.hurd_machine.specs.World.{World}
-use Rattle.hurd_machine.specs.Sight.{SameView}
-use Rattle.hurd_machine.specs.Sound.{Sound}
+use Rattle.hurd_machine.proofs.Common.{Call, ENOMEM, Meaning, Reply, SameView, Sound, World, box_in, refusal}
 use Rattle.hurd_laws.specs.Step.{reply_of, after, step}
 use Rattle.hurd_laws.specs.Called.{Lacks, Called, lacks_memory}
 use Rattle.hurd_laws.specs.Runs.{TaskCall, run, replies_to}

@@ -1,10 +1,6 @@
 -- What S sees after a step or a run it saw before, or a task of S made it since.
 use Rattle.std.proofs.Common.{◌≡◌, ◌⊎◌, ℕ, ◌≤◌, Bool, true, false, true≢false, [], ◌∷◌, sym, refl, ◌∙◌, inl, inr, arith}
-use Rattle.hurd_creds.specs.declared.name.Name.{Name}
-use Rattle.hurd_machine.specs.Calls.{Call}
-use Rattle.hurd_machine.specs.World.{World}
-use Rattle.hurd_machine.specs.Sight.{Seen, AttrOf}
-use Rattle.hurd_machine.specs.Sound.{Sound}
+use Rattle.hurd_machine.proofs.Common.{AttrOf, Call, Name, Seen, Sound, World}
 use Rattle.hurd_machine.proofs.Confine.{NewTo}
 use Rattle.hurd_machine.proofs.Confined.{to_give}
 use Rattle.hurd_machine.proofs.CallLaws as call

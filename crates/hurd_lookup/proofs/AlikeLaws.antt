@@ -1,9 +1,7 @@
 -- What is asked alike in two worlds, shown in one go: it is the same in both, its answer has a property, and no refusal is want of memory.
 use Rattle.std.proofs.Common.{◌≡◌, Bool, true, false, Option, Some, None, refl, subst}
 use Rattle.std.specs.Prelude.{if◌then◌else◌, Result, Ok, Err}
-use Rattle.hurd_creds.specs.declared.errno.Errno.{Errno}
-use Rattle.hurd_creds.specs.Memory.{is_no_memory}
-use Rattle.hurd_machine.specs.Plan.{on, given, first}
+use Rattle.hurd_machine.proofs.Common.{Errno, first, given, is_no_memory, on}
 use Rattle.hurd_machine.proofs.Asks.{IsPlain, ok_plain, err_plain}
 
 -- y is x, an answer of which has P, and no refusal of which is want of memory

@@ -1,18 +1,10 @@
 -- Where a lookup begins: by the ports of its task, which the task has in both worlds.
 use Rattle.std.proofs.Common.{◌≡◌, ℕ, Bool, true, Some, refl, ap, inl, inr}
 use Rattle.std.specs.Prelude.{Result, Ok, Err}
-use Rattle.hurd_creds.specs.declared.name.Name.{Name}
-use Rattle.hurd_creds.specs.declared.errno.Errno.{Errno}
-use Rattle.hurd_creds.specs.declared.errno.Errno.TheVariants.{EBADF}
-use Rattle.hurd_creds.specs.Access.{IdSets}
-use Rattle.hurd_nodes.specs.Shown.{ServerInfo}
-use Rattle.hurd_ports.specs.declared.table.IoRight.{IoRight}
-use Rattle.hurd_ports.specs.declared.table.Right.{Right}
-use Rattle.hurd_ports.specs.declared.table.Right.TheVariants.{Io, Control, Start}
-use Rattle.hurd_ports.specs.Tables.{Task, io_right_of, right_of}
-use Rattle.hurd_machine.specs.World.{World, nodes_of, ports_of, server_at, task_at}
-use Rattle.hurd_machine.specs.Sound.{CanBeAt, Coherent}
-use Rattle.hurd_machine.specs.Sight.{Holds, UidOfRight, GidOfRight, UidOfTask, GidOfTask, Taken, Seen, Held, Controlled, OfControl}
+use Rattle.hurd_machine.proofs.Common.{CanBeAt, Coherent, Control, EBADF, Errno, GidOfRight, GidOfTask, Holds, IdSets, Io, IoRight, Name, OfControl, Right, Seen, ServerInfo, Start, Taken, Task, UidOfRight, UidOfTask, World, io_right_of, ports_of, server_at, task_at}
+use Rattle.hurd_ports.specs.Tables.{right_of}
+use Rattle.hurd_machine.specs.World.{nodes_of}
+use Rattle.hurd_machine.specs.Sight.{Held, Controlled}
 use Rattle.hurd_machine.proofs.Confine.{named_seen}
 use Rattle.hurd_machine.proofs.Views.{Agree, same_tasks, server_known}
 use Rattle.hurd_machine.proofs.Asks.{IsPlain, ok_plain, err_plain, right_same, right_plain, has_right, holds_right, io_right_is, io_right_same, io_right_plain, holds_io}

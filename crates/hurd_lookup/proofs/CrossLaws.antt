@@ -1,21 +1,12 @@
 -- Crossing the root of a server, by what the server is.
 use Rattle.std.proofs.Common.{◌≡◌, ◌∙◌, ℕ, Bool, true, false, not, ◌&&◌, is_some, if◌then◌else◌, List, Option, Some, None, option_map, sym, ap, ap₂}
 use Rattle.std.specs.Prelude.{Result, Ok, slice_get}
-use Rattle.hurd_creds.specs.declared.name.Name.{Name}
-use Rattle.hurd_creds.specs.declared.attrs.Attrs.{Attrs}
-use Rattle.hurd_creds.specs.declared.errno.Errno.{Errno}
-use Rattle.hurd_creds.specs.declared.errno.Errno.TheVariants.{EDIED}
-use Rattle.hurd_creds.specs.Bits.{asks, NOLINK}
-use Rattle.hurd_trans_iface.specs.Nodes.{Header}
+use Rattle.hurd_machine.proofs.Common.{Attrs, Crossing, EDIED, Errno, Firm, Header, IoRight, Name, ServerInfo, World, asks, first, header_at, info_at, on, targets_at, targets_in, words_at}
+use Rattle.hurd_creds.specs.Bits.{NOLINK}
 use Rattle.hurd_trans_iface.specs.Meaning.{root_of}
 use Rattle.hurd_trans_iface.specs.declared.root.Root.{Root}
-use Rattle.hurd_trans_iface.specs.declared.root.Crossing.{Crossing}
-use Rattle.hurd_trans_iface.specs.declared.root.Crossing.TheVariants.{Link, Firm}
-use Rattle.hurd_nodes.specs.Shown.{ServerInfo}
+use Rattle.hurd_trans_iface.specs.declared.root.Crossing.TheVariants.{Link}
 use Rattle.hurd_nodes.proofs.PartLaws.{mapped-some}
-use Rattle.hurd_ports.specs.declared.table.IoRight.{IoRight}
-use Rattle.hurd_machine.specs.World.{World, header_at, info_at, targets_at, targets_in, words_at}
-use Rattle.hurd_machine.specs.Plan.{on, first}
 use Rattle.hurd_core.specs.PortNode.{header_with}
 use Rattle.hurd_lookup.specs.declared.request.Request.{Request}
 use Rattle.hurd_lookup.specs.Lookup.{Place, cross, crossing, enter, follow, hold_on, is_last}

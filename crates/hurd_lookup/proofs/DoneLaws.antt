@@ -1,23 +1,13 @@
 -- A lookup that is refused, finds no memory, or is done, as its plan has it.
 use Rattle.std.proofs.Common.{◌≡◌, ◌∙◌, ◌⊎◌, inl, inr, ℕ, List, Option, refl, ap}
 use Rattle.std.specs.Prelude.{Result, Ok, Err, IsOk, Some, None}
-use Rattle.hurd_creds.specs.declared.name.Name.{Name}
-use Rattle.hurd_creds.specs.declared.attrs.Kind.TheVariants.{File}
-use Rattle.hurd_creds.specs.declared.open_flags.OpenFlags.{OpenFlags}
-use Rattle.hurd_creds.specs.declared.errno.Errno.{Errno}
-use Rattle.hurd_creds.specs.declared.errno.Errno.TheVariants.{EDIED, ENOMEM, ESRCH}
-use Rattle.hurd_creds.specs.Access.{IdSets}
-use Rattle.hurd_creds.specs.Bits.{open_modes}
+use Rattle.hurd_machine.proofs.Common.{Change, EDIED, ENOMEM, ESRCH, Errno, File, IdSets, Name, OpenFlags, PendingStart, Plan, Planned, Task, World, answered, apply_all, first, home_at, is_refused, makes_at, on, open_modes, opening, or_refuse, pending, ports_of, refuse, task_at, task_of}
 use Rattle.hurd_ports.specs.declared.parents.Parent.{Parent}
-use Rattle.hurd_ports.specs.declared.table.PendingStart.{PendingStart}
-use Rattle.hurd_ports.specs.Tables.{Task, or_refuse, task_of}
 use Rattle.hurd_machine.specs.declared.call.Lookup.{Lookup}
 use Rattle.hurd_machine.specs.declared.call.Lookup.TheVariants as found
 use Rattle.hurd_machine.specs.declared.call.RetryKind.{RetryKind}
 use Rattle.hurd_machine.specs.declared.call.Reply.TheVariants.{Found}
-use Rattle.hurd_machine.specs.World.{World, home_at, makes_at, ports_of, task_at}
-use Rattle.hurd_machine.specs.Change.{Change, apply_all, opening, pending}
-use Rattle.hurd_machine.specs.Plan.{Plan, Planned, Follows, refuse, is_refused, on, first, answered}
+use Rattle.hurd_machine.specs.Plan.{Follows}
 use Rattle.hurd_core.specs.Core.{Does, NewNodeAt, room_asks, making_asks, making_open}
 use Rattle.hurd_lookup.specs.Lookup.{NewPort, Outcome, Opens, Makes, Retries, Starts, ending_asks, finding, lookup_changes, lookup_told, no_modes}
 use Rattle.hurd_lookup.specs.Ends.{MayMake}

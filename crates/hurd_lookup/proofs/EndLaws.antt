@@ -1,15 +1,7 @@
 -- The end of a lookup: what it asks there is the same in both worlds, what its answer shows, and that no refusal is want of memory.
 use Rattle.std.proofs.Common.{◌≡◌, ℕ, Bool, true, not, ◌&&◌, List, Some, None, refl}
 use Rattle.std.specs.Prelude.{Ok}
-use Rattle.hurd_creds.specs.declared.name.Name.{Name}
-use Rattle.hurd_creds.specs.declared.open_flags.OpenFlags.{OpenFlags}
-use Rattle.hurd_creds.specs.declared.attrs.Kind.TheVariants.{File}
-use Rattle.hurd_creds.specs.Access.{IdSets}
-use Rattle.hurd_creds.specs.Bits.{asks, WRITE}
-use Rattle.hurd_trans_iface.specs.Nodes.{Header, is_dir}
-use Rattle.hurd_ports.specs.declared.table.IoRight.{IoRight}
-use Rattle.hurd_machine.specs.World.{World, header_at, home_at, info_at, makes_at, is_removed, only_reads}
-use Rattle.hurd_machine.specs.Sight.{BodyOf, Seen, Sees, Taken}
+use Rattle.hurd_machine.proofs.Common.{BodyOf, File, Header, IdSets, IoRight, Name, OpenFlags, Seen, Sees, Taken, WRITE, World, asks, header_at, home_at, info_at, is_dir, is_removed, makes_at, only_reads}
 use Rattle.hurd_machine.proofs.Asks.{makes_plain}
 use Rattle.hurd_core.specs.Core.{NewNodeAt}
 use Rattle.hurd_lookup.specs.declared.request.Request.{Request}

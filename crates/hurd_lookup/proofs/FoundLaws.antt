@@ -1,18 +1,8 @@
 -- The laws of a call that makes of what it found a port, a file or a retry, or is to start it.
 use Rattle.std.proofs.Common.{◌≡◌, ℕ, Bool, true, Some, None, refl, List, ap}
 use Rattle.std.specs.Prelude.{Result, Ok}
-use Rattle.hurd_creds.specs.declared.name.Name.{Name}
-use Rattle.hurd_creds.specs.declared.errno.Errno.{Errno}
-use Rattle.hurd_creds.specs.declared.errno.Errno.TheVariants.{ESRCH}
-use Rattle.hurd_creds.specs.declared.open_flags.OpenFlags.{OpenFlags}
-use Rattle.hurd_creds.specs.Access.{IdSets}
-use Rattle.hurd_creds.specs.Bits.{open_modes}
-use Rattle.hurd_ports.specs.Tables.{Task}
+use Rattle.hurd_machine.proofs.Common.{BodyOf, Change, ESRCH, Errno, IdSets, Name, OpenFlags, Plan, Seen, Sees, Taken, Task, World, on, open_modes, task_at}
 use Rattle.hurd_machine.specs.declared.call.Reply.TheVariants.{Found}
-use Rattle.hurd_machine.specs.World.{World, task_at}
-use Rattle.hurd_machine.specs.Change.{Change}
-use Rattle.hurd_machine.specs.Sight.{Taken, Seen, Sees, BodyOf}
-use Rattle.hurd_machine.specs.Plan.{on, Plan}
 use Rattle.hurd_machine.proofs.Views.{Agree, Agree-refl}
 use Rattle.hurd_machine.proofs.Asks.{answered_same, answered_plain, done_plain}
 use Rattle.hurd_machine.proofs.Opens.{opening_same}

@@ -1,11 +1,7 @@
 -- The laws of fsys_getroot.
 use Rattle.std.proofs.Common.{ℕ, [], refl}
 use Rattle.std.specs.Prelude.{Result}
-use Rattle.hurd_creds.specs.declared.name.Name.{Name}
-use Rattle.hurd_creds.specs.declared.open_flags.OpenFlags.{OpenFlags}
-use Rattle.hurd_creds.specs.declared.errno.Errno.{Errno}
-use Rattle.hurd_creds.specs.Access.{IdSets}
-use Rattle.hurd_machine.specs.World.{World}
+use Rattle.hurd_machine.proofs.Common.{Errno, IdSets, Name, OpenFlags, World}
 use Rattle.hurd_machine.proofs.CallLaws.{CallLaws}
 use Rattle.hurd_lookup.specs.declared.request.Request.{Request}
 use Rattle.hurd_lookup.specs.Lookup.{Outcome}

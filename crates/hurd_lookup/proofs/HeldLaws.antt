@@ -1,12 +1,8 @@
 -- One can be wherever a lookup leads: nobody is led to the root of a server that leads on.
 use Rattle.std.proofs.Common.{◌≡◌, ℕ, length, List, Option, Some, None, refl, ◌∙◌, ap, inl, inr}
 use Rattle.std.specs.Prelude.{Result, Ok}
-use Rattle.hurd_creds.specs.declared.name.Name.{Name}
-use Rattle.hurd_creds.specs.declared.errno.Errno.{Errno}
-use Rattle.hurd_creds.specs.Access.{IdSets}
-use Rattle.hurd_nodes.specs.Shown.{ServerInfo, info_in}
-use Rattle.hurd_machine.specs.World.{World, IsAmong, nodes_of, home_at, server_at, targets_at, targets_in, shape_by, leads_on}
-use Rattle.hurd_machine.specs.Sound.{CanBeAt}
+use Rattle.hurd_machine.proofs.Common.{CanBeAt, Errno, IdSets, IsAmong, Name, ServerInfo, World, home_at, info_in, leads_on, server_at, shape_by, targets_at, targets_in}
+use Rattle.hurd_machine.specs.World.{nodes_of}
 use Rattle.hurd_machine.proofs.Piece.{Stands}
 use Rattle.hurd_machine.proofs.Shapes.{child_held, parent_held}
 use Rattle.hurd_lookup.specs.Lookup.{NewPort, Outcome}

@@ -1,13 +1,7 @@
 -- One look along a path, as it is made.
 use Rattle.std.proofs.Common.{◌≡◌, ◌∙◌, ◌<◌, ◌-◌, ℕ, zero, suc, Bool, true, List, Option, Some, inl, inr, sym, ap, arith}
 use Rattle.std.specs.Prelude.{Result, Ok, Err}
-use Rattle.hurd_creds.specs.declared.name.Name.{Name}
-use Rattle.hurd_creds.specs.declared.errno.Errno.{Errno}
-use Rattle.hurd_creds.specs.declared.errno.Errno.TheVariants.{EDIED, ENAMETOOLONG}
-use Rattle.hurd_creds.specs.Access.{IdSets}
-use Rattle.hurd_trans_iface.specs.Nodes.{Header}
-use Rattle.hurd_machine.specs.World.{World, header_at}
-use Rattle.hurd_machine.specs.Plan.{on, given, first}
+use Rattle.hurd_machine.proofs.Common.{EDIED, ENAMETOOLONG, Errno, Header, IdSets, Name, World, first, given, header_at, on}
 use Rattle.hurd_lookup.specs.declared.request.Request.{Request}
 use Rattle.hurd_lookup.specs.declared.resolve.Looked.{Looked}
 use Rattle.hurd_lookup.specs.declared.resolve.Looked.TheVariants.{Ends, Goes}

@@ -1,10 +1,7 @@
 -- The laws of dir_lookup.
 use Rattle.std.proofs.Common.{ℕ, List, refl}
 use Rattle.std.specs.Prelude.{Result}
-use Rattle.hurd_creds.specs.declared.mode.Mode.{Mode}
-use Rattle.hurd_creds.specs.declared.open_flags.OpenFlags.{OpenFlags}
-use Rattle.hurd_creds.specs.declared.errno.Errno.{Errno}
-use Rattle.hurd_machine.specs.World.{World}
+use Rattle.hurd_machine.proofs.Common.{Errno, Mode, OpenFlags, World}
 use Rattle.hurd_machine.proofs.CallLaws.{CallLaws}
 use Rattle.hurd_lookup.specs.declared.request.Request.{Request}
 use Rattle.hurd_lookup.specs.Path.{names_in}

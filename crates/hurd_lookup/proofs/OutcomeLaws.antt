@@ -2,26 +2,13 @@
 use Rattle.std.proofs.Common.{◌≡◌, ℕ, ◌+◌, Bool, true, false, not, ◌&&◌, ◌||◌, List, Some, None, refl, sym, ◌∙◌, ap, inl, inr, arith}
 use Rattle.std.proofs.lemmas.Nat.{and_assoc}
 use Rattle.std.proofs.lemmas.Bool.{or_cases, and_parts}
-use Rattle.std.specs.FinMap.{put}
+use Rattle.hurd_machine.proofs.Common.{Allowed, AttrOf, Below, CanBeWritten, Change, Exec, File, Header, IdSets, IsAmong, Name, Node, OpenFlags, Part, READ, Read, Seen, SeesBody, Sound, Task, ToPut, ToRead, WRITE, World, Write, apply_all, asks, bare, counts_at, counts_by, fresh, gives_text, header_at, info_at, info_in, is_dir, leads_on, may, new_file, new_right, new_site, only_reads, open_modes, opening, porting, put, server_at, shape_at, shape_by, task_at, tells, tree_by, ways_of}
 use Rattle.hurd_nodes.proofs.Sites.{home-apart}
-use Rattle.hurd_nodes.specs.Held.{new_site}
-use Rattle.hurd_creds.specs.declared.name.Name.{Name}
-use Rattle.hurd_creds.specs.declared.open_flags.OpenFlags.{OpenFlags}
-use Rattle.hurd_creds.specs.declared.attrs.Kind.TheVariants.{File}
-use Rattle.hurd_creds.specs.declared.attrs.Want.TheVariants.{Read, Write, Exec}
-use Rattle.hurd_creds.specs.Access.{IdSets, may}
-use Rattle.hurd_creds.specs.Bits.{asks, open_modes, READ, WRITE, EXEC}
-use Rattle.hurd_trans_iface.specs.Nodes.{Node, Header, is_dir, new_file}
+use Rattle.hurd_creds.specs.Bits.{EXEC}
 use Rattle.hurd_trans_iface.proofs.Goods.{good}
-use Rattle.hurd_nodes.specs.Needs.{counts_by}
-use Rattle.hurd_nodes.specs.Shown.{info_in, tree_by}
-use Rattle.hurd_ports.specs.Tables.{Task, fresh, ways_of}
-use Rattle.hurd_ports.specs.Steps.{named, new_right}
-use Rattle.hurd_machine.specs.World.{World, IsAmong, nodes_of, counts_at, task_at, header_at, server_at, info_at, shape_by, shape_at, leads_on, gives_text, only_reads}
-use Rattle.hurd_machine.specs.Change.{Change, apply_all, opening, porting}
-use Rattle.hurd_machine.specs.Sight.{Part, AttrOf, bare, tells, Allowed, Seen, SeesBody, ToRead, ToPut}
+use Rattle.hurd_ports.specs.Steps.{named}
+use Rattle.hurd_machine.specs.World.{nodes_of}
 use Rattle.hurd_machine.specs.Touched.{OnOpen}
-use Rattle.hurd_machine.specs.Sound.{Below, CanBeWritten, Sound}
 use Rattle.hurd_machine.proofs.Coherence.{IsNext, CanBeNamed, be_same, header_old, named_still, next_apart}
 use Rattle.hurd_machine.proofs.Shapes.{tree_shape}
 use Rattle.hurd_machine.proofs.Settle.{rests_opening}

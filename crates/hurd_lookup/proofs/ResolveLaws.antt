@@ -1,11 +1,8 @@
 -- What is resolved is the same in both worlds, leads to where a walk can be, and no refusal is want of memory.
 use Rattle.std.proofs.Common.{◌≡◌, ℕ, zero, suc, length, Bool, List, [], ◌∷◌, Some, None, refl, ap, inl, inr, subst}
 use Rattle.std.specs.Prelude.{Result}
-use Rattle.hurd_creds.specs.declared.name.Name.{Name}
-use Rattle.hurd_creds.specs.declared.errno.Errno.TheVariants.{ELOOP, ENOENT, ENXIO}
-use Rattle.hurd_creds.specs.Access.{IdSets}
-use Rattle.hurd_machine.specs.World.{World, IsAmong}
-use Rattle.hurd_machine.specs.Sight.{Seen}
+use Rattle.hurd_machine.proofs.Common.{ENOENT, ENXIO, IdSets, IsAmong, Name, Seen, World}
+use Rattle.hurd_creds.specs.declared.errno.Errno.TheVariants.{ELOOP}
 use Rattle.hurd_machine.proofs.Views.{Agree}
 use Rattle.hurd_lookup.specs.declared.request.Request.{Request}
 use Rattle.hurd_lookup.specs.Lookup.{Place, AtNode, AtName, Elsewhere, Waits, no_ids}

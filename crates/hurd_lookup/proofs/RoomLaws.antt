@@ -1,16 +1,8 @@
 -- Whether a task has room for what a lookup makes.
 use Rattle.std.proofs.Common.{◌≡◌, ◌∙◌, ℕ, [], Option, inl, inr, refl, sym, ap, subst}
 use Rattle.std.specs.Prelude.{Result, Ok, Err, Some, None}
-use Rattle.std.specs.Ordering.{nat_cmp}
+use Rattle.hurd_machine.proofs.Common.{ENOMEM, ESRCH, Errno, IdSets, Meets, NodeState, PortState, Task, ids_at, ids_of, nat_cmp, on, room_of, world_from}
 use Rattle.std.specs.FinSet as set
-use Rattle.hurd_creds.specs.declared.errno.Errno.{Errno}
-use Rattle.hurd_creds.specs.declared.errno.Errno.TheVariants.{ENOMEM, ESRCH}
-use Rattle.hurd_creds.specs.Access.{IdSets, ids_of}
-use Rattle.hurd_creds.specs.Memory.{Meets}
-use Rattle.hurd_nodes.specs.Shown.{NodeState}
-use Rattle.hurd_ports.specs.Tables.{PortState, Task, ids_at, room_of}
-use Rattle.hurd_machine.specs.World.{world_from}
-use Rattle.hurd_machine.specs.Plan.{on}
 use Rattle.hurd_core.specs.Core.{asked_only, room_asks}
 use Rattle.hurd_core.proofs.CoreLaws.{IsRefused, HasRoom, room}
 use Rattle.hurd_lookup.specs.Lookup.{no_ids}

@@ -1,11 +1,7 @@
 -- One name of a walk, at the beginning of the path that is left.
 use Rattle.std.proofs.Common.{◌≡◌, List, ap, sym, ℕ}
 use Rattle.std.specs.Prelude.{Result, Ok}
-use Rattle.hurd_creds.specs.declared.name.Name.{Name}
-use Rattle.hurd_creds.specs.declared.errno.Errno.{Errno}
-use Rattle.hurd_ports.specs.declared.table.IoRight.{IoRight}
-use Rattle.hurd_machine.specs.World.{World}
-use Rattle.hurd_machine.specs.Plan.{first}
+use Rattle.hurd_machine.proofs.Common.{Errno, IoRight, Name, World, first}
 use Rattle.hurd_lookup.specs.declared.request.Request.{Request}
 use Rattle.hurd_lookup.specs.declared.walk.Next.{Next}
 use Rattle.hurd_lookup.specs.Lookup.{Place, step_asks, stepped}

@@ -2,31 +2,16 @@
 use Rattle.std.proofs.Common.{◌≡◌, ℕ, Bool, true, false, if◌then◌else◌, ◌&&◌, List, [], ◌∷◌, Option, Some, None, refl, sym, ◌∙◌, ap, ap₂, subst, true≢false, inl, inr}
 use Rattle.std.specs.Prelude.{Result, Ok, codes, is_some, option_and_then, slice_get}
 use Rattle.std.proofs.lemmas.Option.{option_and_then_some}
-use Rattle.std.specs.Str.{bytes_eq}
+use Rattle.hurd_machine.proofs.Common.{Active, Allowed, Body, BodyOf, Child, Could, Crossing, Dir, EDIED, ENOENT, Errno, Exec, File, Firm, Header, IdSets, IoRight, IsAmong, Kind, Name, Node, OfSeat, Plain, Seen, Sees, ServerInfo, Taken, ToSearch, Want, World, active_at, asks, bare, body_at, boot_root, bytes_eq, entry_of, header_at, home_at, info_at, is_dir, is_server_root, makes_at, may, nat_cmp, node_at, passive_of, server_at, some_words, targets_at, targets_in, ways_of}
 use Rattle.std.specs.Option.{option_map}
-use Rattle.std.specs.Ordering.{nat_cmp}
 use Rattle.std.specs.FinSet.{contains-empty}
-use Rattle.hurd_creds.specs.declared.name.Name.{Name}
-use Rattle.hurd_creds.specs.declared.attrs.Kind.{Kind}
-use Rattle.hurd_creds.specs.declared.attrs.Kind.TheVariants.{File, Dir}
-use Rattle.hurd_creds.specs.declared.attrs.Want.{Want}
-use Rattle.hurd_creds.specs.declared.attrs.Want.TheVariants.{Exec}
-use Rattle.hurd_creds.specs.declared.errno.Errno.{Errno}
-use Rattle.hurd_creds.specs.declared.errno.Errno.TheVariants.{EDIED, ENOENT}
-use Rattle.hurd_creds.specs.Bits.{asks, NOTRANS}
-use Rattle.hurd_creds.specs.Access.{IdSets, may}
-use Rattle.hurd_trans_iface.specs.Nodes.{Node, Header, Body, is_dir, passive_of, some_words}
-use Rattle.hurd_trans_iface.specs.Answers.{entry_of, leads_away}
+use Rattle.hurd_creds.specs.Bits.{NOTRANS}
+use Rattle.hurd_trans_iface.specs.Answers.{leads_away}
 use Rattle.hurd_trans_iface.specs.Meaning.{root_of}
-use Rattle.hurd_trans_iface.specs.declared.root.Crossing.{Crossing}
-use Rattle.hurd_trans_iface.specs.declared.root.Crossing.TheVariants.{Plain, Link, Firm, Union}
-use Rattle.hurd_nodes.specs.Shown.{ServerInfo}
+use Rattle.hurd_trans_iface.specs.declared.root.Crossing.TheVariants.{Link, Union}
 use Rattle.hurd_nodes.proofs.PartLaws.{mapped-some}
 use Rattle.hurd_ports.specs.declared.parents.Parent.{Parent as Pair}
-use Rattle.hurd_ports.specs.declared.table.IoRight.{IoRight}
-use Rattle.hurd_ports.specs.Tables.{ways_of}
-use Rattle.hurd_machine.specs.World.{World, IsAmong, node_at, header_at, body_at, home_at, active_at, server_at, info_at, targets_at, targets_in, makes_at, is_server_root, boot_root}
-use Rattle.hurd_machine.specs.Sight.{Taken, Could, Allowed, Seen, Root, Child, Parent, Active, OfSeat, ToSearch, BodyOf, Sees, bare}
+use Rattle.hurd_machine.specs.Sight.{Root, Parent}
 use Rattle.hurd_machine.proofs.Views.{Agree, header_same, home_same, active_same, body_same, server_known}
 use Rattle.hurd_machine.proofs.Asks.{info_same, is_root_same, makes_same}
 use Rattle.hurd_machine.proofs.Listed.{dir_kind}

@@ -1,26 +1,11 @@
 -- The changes that a task of S may make: each keeps a world inside what S saw.
 use Rattle.std.proofs.Common.{◌≡◌, ◌≢◌, ◌⊎◌, ℕ, ◌<◌, ◌≤◌, Bool, true, List, [], Option, Some, None, sym, refl, ◌∙◌, ap, subst, inl, inr, arith}
 use Rattle.std.specs.Option.{option_map}
-use Rattle.std.specs.FinMap.{get}
+use Rattle.hurd_machine.proofs.Common.{Attach, Body, BodyOf, Change, Coherent, Content, Control, DropServer, EditBody, EditHeader, EditOpen, EditTask, HasUid, Header, Holds, Io, IoRight, IsAmong, Listing, MakeNode, MakeOpen, Name, Node, Opened, OptionsOf, Right, SeesBody, Send, ServerInfo, SetText, Settle, Start, Taken, Task, Unseat, World, active_at, apply, body_at, counts_at, edit, edit_task, entry_in, entry_of, get, header_at, home_at, is_other, new_site, open_at, rights_of, server_at, task_at, tells, with_body, with_header, with_sent, with_text}
 use Rattle.hurd_machine.proofs.Sites.{active_out_was, active_put}
 use Rattle.hurd_nodes.proofs.Sites.{home-inserted, home-edited, home-was}
-use Rattle.hurd_nodes.specs.Held.{new_site}
-use Rattle.hurd_creds.specs.declared.name.Name.{Name}
-use Rattle.hurd_creds.specs.NameMaps.{edit}
 use Rattle.hurd_creds.proofs.NameLaws.{same_or_apart, get_here, get_apart, edit_apart}
-use Rattle.hurd_trans_iface.specs.Nodes.{Node, Header, Body, Content, Listing, with_header, with_body}
-use Rattle.hurd_trans_iface.specs.Answers.{entry_in, entry_of}
-use Rattle.hurd_nodes.specs.Shown.{ServerInfo, with_text, is_other}
-use Rattle.hurd_ports.specs.declared.table.Opened.{Opened}
-use Rattle.hurd_ports.specs.declared.table.IoRight.{IoRight}
-use Rattle.hurd_ports.specs.declared.table.Right.{Right}
-use Rattle.hurd_ports.specs.declared.table.Right.TheVariants.{Io, Control, Start}
-use Rattle.hurd_ports.specs.Tables.{Task, rights_of}
-use Rattle.hurd_ports.specs.Steps.{named, with_sent, edit_task}
-use Rattle.hurd_machine.specs.World.{World, IsAmong, task_at, open_at, header_at, body_at, home_at, active_at, server_at, counts_at}
-use Rattle.hurd_machine.specs.Sight.{Holds, HasUid, Taken, SeesBody, BodyOf, OptionsOf, tells}
-use Rattle.hurd_machine.specs.Change.{Change, EditHeader, EditBody, MakeNode, EditOpen, MakeOpen, EditTask, Send, Attach, DropServer, Unseat, SetText, Settle, apply}
-use Rattle.hurd_machine.specs.Sound.{Coherent}
+use Rattle.hurd_ports.specs.Steps.{named}
 use Rattle.hurd_machine.proofs.Nodes.{header_in, body_in, header-with_header, header-with_body, body-with_header, body-with_body, edit_reads, edit_keeps, edited_from, ByEmptiness, was_edited}
 use Rattle.hurd_machine.proofs.Tasks.{edit_cases, sent_cases}
 use Rattle.hurd_machine.proofs.Coherence.{right_old, HasNoEntries, IsNext, Comes, next_not, next_apart, was, header_was, Proper, lister, entry_lists}

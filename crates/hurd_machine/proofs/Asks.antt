@@ -1,36 +1,20 @@
 -- What a call asks: the same in worlds that answer the same, what an answer shows, and that no answer is want of memory.
 use Rattle.std.proofs.Common.{List, ◌≡◌, ℕ, Bool, true, false, Option, Some, None, refl, sym, ◌∙◌, ap, ap₂, subst, true≢false, ◌&&◌}
 use Rattle.std.specs.Prelude.{if◌then◌else◌, not, is_some, nat_lt, Result, Ok, Err}
-use Rattle.std.specs.FinMap.{get}
-use Rattle.hurd_creds.specs.declared.name.Name.{Name}
-use Rattle.hurd_creds.specs.declared.errno.Errno.{Errno}
-use Rattle.hurd_creds.specs.declared.errno.Errno.TheVariants.{EBADF, EDIED, EEXIST, EISDIR, ENOTDIR, EOPNOTSUPP, EOVERFLOW, EROFS, ESRCH, EXDEV}
-use Rattle.hurd_creds.specs.declared.attrs.Kind.{Kind}
-use Rattle.hurd_creds.specs.Bits.{asks, READ, WRITE}
-use Rattle.hurd_creds.specs.Memory.{is_no_memory}
-use Rattle.hurd_trans_iface.specs.Nodes.{Node, Header, Body, is_dir}
-use Rattle.hurd_trans_iface.specs.Answers.{entry_of, is_made, is_taken, link_in, most_links}
-use Rattle.hurd_trans_iface.specs.Meaning.{keeps_tree}
-use Rattle.hurd_trans_iface.specs.Behaviour.{Question, writing}
+use Rattle.hurd_machine.proofs.Common.{Body, BodyOf, EBADF, EDIED, EEXIST, EISDIR, ENOTDIR, EOPNOTSUPP, EOVERFLOW, EROFS, ESRCH, EXDEV, Errno, Header, Holds, Io, IoRight, IsAmong, IsOpen, Kind, Name, Named, Node, OpenFlags, Plan, Question, READ, Reply, Right, Seen, Sees, ServerInfo, Task, WRITE, World, answered, are_kin, asked_at, asked_of, asks, counts_at, counts_by, edit_by, entry_of, first, get, given, handle_asks, header_at, home_at, info_at, info_in, io_right_of, is_dir, is_made, is_no_memory, is_refused, is_root_at, is_server_root, is_taken, keeps_tree, link_by, link_in, links_at, makes_at, most_links, on, open_at, or_refuse, port_asks, ports_of, refuse, right_at, right_in, rights_of, sets_attrs_at, stream_at, task_at, task_of, tells, writing}
 use Rattle.hurd_trans_iface.specs.Kinds.{ServerKind, behaviour_of}
 use Rattle.hurd_trans_iface.specs.Good.{IsBlindAt, IsPlain as IsPlainAnswer}
-use Rattle.hurd_nodes.specs.Shown.{ServerInfo, info_in, asked_of, readable_by, is_root_at, made_by, are_kin, link_by, edit_by}
-use Rattle.hurd_ports.specs.declared.table.IoRight.{IoRight}
-use Rattle.hurd_ports.specs.declared.table.Right.{Right}
-use Rattle.hurd_ports.specs.declared.table.Right.TheVariants.{Io}
-use Rattle.hurd_ports.specs.Tables.{Task, rights_of, or_refuse, task_of, right_in, right_at, right_of, io_right_in, io_right_of}
-use Rattle.hurd_machine.specs.Calls.{Reply, lacks_memory}
+use Rattle.hurd_nodes.specs.Shown.{readable_by, made_by}
+use Rattle.hurd_ports.specs.Tables.{right_of, io_right_in}
+use Rattle.hurd_machine.specs.Calls.{lacks_memory}
 use Rattle.hurd_machine.specs.declared.call.Reply.TheVariants.{Refused, Back}
-use Rattle.hurd_nodes.specs.Needs.{streams_by, counts_by}
-use Rattle.hurd_machine.specs.World.{World, IsAmong, ports_of, task_at, open_at, header_at, home_at, info_at, is_server_root, asked_at, count_in, readable_at, stream_at, makes_at, links_at, sets_attrs_at, nodes_of, counts_at}
-use Rattle.hurd_machine.specs.Plan.{Plan, refuse, is_refused, on, given, first, answered}
+use Rattle.hurd_nodes.specs.Needs.{streams_by}
+use Rattle.hurd_machine.specs.World.{count_in, readable_at, nodes_of}
 use Rattle.hurd_machine.specs.declared.handle.Handle.{Handle}
-use Rattle.hurd_machine.specs.Handle.{Named, port_asks, handle_asks}
-use Rattle.hurd_machine.specs.Sight.{Holds, Held, Seen, IsOpen, BodyOf, Sees, tells}
+use Rattle.hurd_machine.specs.Sight.{Held}
 use Rattle.hurd_machine.proofs.Nodes.{header_in, body_in, root_info}
 use Rattle.hurd_machine.proofs.Rights.{right_under}
 use Rattle.hurd_machine.proofs.Views.{Agree, same_tasks, header_same, body_same, home_same, server_same, open_same}
-use Rattle.hurd_creds.specs.declared.open_flags.OpenFlags.{OpenFlags}
 use Rattle.hurd_trans_iface.proofs.Goods.{good}
 use Rattle.std.proofs.lemmas.Bool.{or_left, or_right}
 

@@ -1,15 +1,10 @@
 -- Owner, group and mode of a node set, as a piece of any call.
 use Rattle.std.proofs.Common.{◌≡◌, ◌⊎◌, ℕ, Bool, true, List, [], ◌∷◌, Some, refl, subst, inl}
-use Rattle.hurd_creds.specs.declared.name.Name.{Name}
-use Rattle.hurd_creds.specs.declared.mode.Mode.{Mode}
-use Rattle.hurd_trans_iface.specs.Nodes.{Header, with_attrs}
-use Rattle.hurd_machine.specs.World.{World, header_at}
-use Rattle.hurd_machine.specs.Sight.{Part, AttrOf, HasUid, Owns, OwnsIt}
-use Rattle.hurd_machine.specs.Change.{Change, EditHeader}
+use Rattle.hurd_machine.proofs.Common.{AttrOf, Change, EditHeader, HasUid, Header, Mode, Name, Owns, OwnsIt, Part, Sound, World, header_at}
+use Rattle.hurd_trans_iface.specs.Nodes.{with_attrs}
 use Rattle.hurd_machine.proofs.Confine.{Less}
 use Rattle.hurd_machine.proofs.Filled.{keeps_header}
 use Rattle.hurd_machine.proofs.Piece.{Whole, stands, quiet, of_header}
-use Rattle.hurd_machine.specs.Sound.{Sound}
 
 module _ (n : Name) (owner group : ℕ) (mode : Mode) where
   abbrev set_attrs : List Change

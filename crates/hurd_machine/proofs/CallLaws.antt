@@ -1,19 +1,9 @@
 -- What is shown of a call, and the laws of one step that follow from it.
 use Rattle.std.proofs.Common.{◌≡◌, ◌≢◌, ℕ, Bool, true, false, Option, Some, None, refl, sym, ◌∙◌, ap, subst, inl, inr, true≢false}
 use Rattle.std.specs.Prelude.{Result, Ok, Err}
-use Rattle.hurd_creds.specs.declared.name.Name.{Name}
-use Rattle.hurd_creds.specs.declared.errno.Errno.{Errno}
-use Rattle.hurd_ports.specs.declared.table.Right.TheVariants.{Control}
-use Rattle.hurd_ports.specs.Tables.{Task}
-use Rattle.hurd_machine.specs.World.{World, task_at}
-use Rattle.hurd_machine.specs.Calls.{Reply}
+use Rattle.hurd_machine.proofs.Common.{AttrOf, Below, BodyOf, CanCount, Coherent, Control, Counted, EmptyOf, Errno, Knows, Meaning, Name, Nothing, OfControl, OfNode, OfSeat, OpenOf, OptionsOf, Part, Plan, Reply, SameView, Seen, Sees, Sound, Task, TaskOf, UsersOf, World, after_plan, answered, asked_parts, handing_back, is_refused, looks, task_at}
 use Rattle.hurd_machine.specs.declared.call.Reply.TheVariants.{Refused}
-use Rattle.hurd_machine.specs.Plan.{Plan, answered, looks, is_refused, after_plan, handing_back, returning}
-use Rattle.hurd_trans_iface.specs.Meaning.{Meaning}
-use Rattle.hurd_machine.specs.Sight.{Part, AttrOf, EmptyOf, BodyOf, OpenOf, OptionsOf, UsersOf, TaskOf, Seen, Sees, Knows, OfNode, OfSeat, OfControl, SameView}
-use Rattle.hurd_machine.specs.Sound.{Below, Coherent, Sound}
-use Rattle.hurd_machine.specs.Counted.{CanCount, Counted}
-use Rattle.hurd_machine.specs.Touched.{asked_parts, Nothing}
+use Rattle.hurd_machine.specs.Plan.{returning}
 use Rattle.hurd_machine.proofs.Coherence.{AllProper, right_old, home_server}
 use Rattle.hurd_machine.proofs.Frame.{IsUnnamed, Full, untouched, unseen_from}
 use Rattle.hurd_machine.proofs.Settle.{AsBefore}

@@ -1,18 +1,11 @@
 -- A server comes, and is active on a node: what the world is then, and that it is coherent.
 use Rattle.std.proofs.Common.{◌≡◌, ◌≢◌, ◌⊎◌, ◌<◌, not, true, Some, None, sym, refl, ◌∙◌, ap, subst, inl, inr, arith}
-use Rattle.std.specs.FinMap.{get, insert, remove}
-use Rattle.hurd_creds.specs.declared.name.Name.{Name}
-use Rattle.hurd_creds.specs.NameMaps.{edit}
+use Rattle.hurd_machine.proofs.Common.{AreSeated, Attach, Below, Coherent, Header, Name, Node, ServerInfo, World, active_at, active_in, apply, boot_name, boot_root, edit, edit_task, get, header_at, home_at, info_at, info_in, insert, is_other, new_site, remove, server_at, task_at, with_active}
 use Rattle.hurd_creds.proofs.NameLaws.{same_map_by, same_or_apart, get_here, get_apart, remove_here, remove_apart}
-use Rattle.hurd_trans_iface.specs.Nodes.{Node, Header}
-use Rattle.hurd_nodes.specs.Held.{active_in, new_site}
-use Rattle.hurd_nodes.specs.Shown.{ServerInfo, boot_name, info_in, is_other, with_active}
 use Rattle.hurd_nodes.proofs.Sites.{active-edited, active-edited_apart, home-apart, home-edited, home-inserted}
 use Rattle.hurd_machine.proofs.Sites.{active_put, none_out, not_home}
-use Rattle.hurd_ports.specs.Steps.{named, edit_task}
-use Rattle.hurd_machine.specs.World.{World, boot_root, nodes_of, task_at, header_at, home_at, active_at, server_at, info_at}
-use Rattle.hurd_machine.specs.Change.{Attach, apply}
-use Rattle.hurd_machine.specs.Sound.{Below, AreSeated, Coherent}
+use Rattle.hurd_ports.specs.Steps.{named}
+use Rattle.hurd_machine.specs.World.{nodes_of}
 use Rattle.hurd_machine.proofs.Nodes.{header_in}
 use Rattle.hurd_machine.proofs.Retained.{retain_all}
 use Rattle.hurd_machine.proofs.Left.{seat_left, left_coherent}

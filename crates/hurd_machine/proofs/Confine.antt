@@ -1,29 +1,11 @@
 -- What S sees in a world that stays inside what it saw: parts that it saw, and new things of its own tasks.
 use Rattle.std.proofs.Common.{true≢false, ◌≡◌, ◌⊎◌, ℕ, ◌≤◌, Bool, true, List, Some, sym, refl, ◌∙◌, subst, inl, inr, arith, false, Option, None}
-use Rattle.hurd_creds.specs.declared.name.Name.{Name}
-use Rattle.hurd_creds.specs.declared.attrs.Kind.TheVariants.{Dir}
-use Rattle.hurd_creds.specs.declared.attrs.Want.{Want}
-use Rattle.hurd_creds.specs.declared.attrs.Want.TheVariants.{Read, Write, Exec}
-use Rattle.hurd_creds.specs.Bits.{asks, READ, WRITE}
-use Rattle.hurd_trans_iface.specs.Nodes.{Header}
-use Rattle.hurd_trans_iface.specs.Answers.{entry_of}
-use Rattle.hurd_nodes.specs.Shown.{ServerInfo, with_text, info_in}
-use Rattle.hurd_ports.specs.declared.table.Opened.{Opened}
-use Rattle.hurd_ports.specs.declared.table.IoRight.{IoRight}
-use Rattle.hurd_ports.specs.declared.table.Right.{Right}
-use Rattle.hurd_ports.specs.declared.table.Right.TheVariants.{Io, Control, Start}
-use Rattle.hurd_ports.specs.Tables.{Task, nodes_of as nodes_named}
-use Rattle.hurd_machine.specs.World.{World, IsAmong, boot_root, task_at, open_at, header_at, body_at, home_at, active_at, server_at, counts_at}
-use Rattle.hurd_machine.specs.Sight.{Holds, HasUid, UidOfTask, UidOfRight, HasGid, GidOfTask, GidOfRight, Taken, Could, Owns, OwnsIt, Allowed, CouldServe, ToPut, tells}
-use Rattle.hurd_machine.specs.Sight.{Seen, Root, Held, Way, Controlled, Pending, Child, Parent, Active, ServerRoot, Target, Sends, ByControl, ByNode, BySeat, Knows, OfNode, OfSeat, OfControl, SeesBody, ToRead, ToSearch, IsOpen, SeesEmpty, ByBody, ByParent}
-use Rattle.hurd_machine.specs.Sight.{Part, AttrOf, EmptyOf, BodyOf, OpenOf, OptionsOf, UsersOf, TaskOf, Sees, MaySend}
-use Rattle.hurd_machine.specs.Sound.{Below, Coherent}
+use Rattle.hurd_machine.proofs.Common.{Active, Allowed, AttrOf, Below, BodyOf, ByBody, ByControl, ByNode, ByParent, BySeat, Child, Coherent, Control, Could, CouldServe, Dir, EmptyOf, Exec, GidOfRight, GidOfTask, HasGid, HasUid, Header, Holds, Io, IoRight, IsAmong, IsOpen, Knows, MaySend, Name, OfControl, OfNode, OfSeat, OpenFlags, OpenOf, Opened, OptionsOf, Owns, OwnsIt, Part, Pending, READ, Read, Right, Seen, Sees, SeesBody, SeesEmpty, Sends, ServerInfo, ServerRoot, Start, Taken, Target, Task, TaskOf, ToPut, ToRead, ToSearch, UidOfRight, UidOfTask, UsersOf, WRITE, Want, Way, World, Write, active_at, asks, body_at, boot_root, counts_at, counts_by, counts_opens, entry_of, header_at, home_at, info_in, open_at, server_at, task_at, tells, with_text}
+use Rattle.hurd_ports.specs.Tables.{nodes_of as nodes_named}
+use Rattle.hurd_machine.specs.Sight.{Root, Held, Controlled, Parent}
 use Rattle.hurd_machine.proofs.Coherence.{header_old, entry_old, home_old, right_old, entry_lists, home_server, seat_there}
 use Rattle.hurd_machine.proofs.Stays.{way_at, way_parent, way_with}
 use Rattle.hurd_machine.proofs.Views.{knows_of}
-use Rattle.hurd_trans_iface.specs.Meaning.{counts_opens}
-use Rattle.hurd_nodes.specs.Needs.{counts_by}
-use Rattle.hurd_creds.specs.declared.open_flags.OpenFlags.{OpenFlags}
 use Rattle.std.proofs.lemmas.Bool.{or_cases, or_left}
 
 -- what is seen has a name that was given

@@ -1,14 +1,8 @@
 -- What a server does to a node, as a piece of any call: it adds no entry, and makes no directory empty or full.
 use Rattle.std.proofs.Common.{◌≡◌, ℕ, List, Option, Some, None, refl, ◌∙◌, ap, inl, inr}
 use Rattle.std.specs.Prelude.{Ok}
-use Rattle.hurd_creds.specs.declared.name.Name.{Name}
-use Rattle.hurd_trans_iface.specs.Nodes.{Body, Content, Listing, on_bytes}
-use Rattle.hurd_trans_iface.specs.Behaviour.{Did, Question, edit_bytes, edit_size, edits_of}
-use Rattle.hurd_machine.specs.World.{World, asked_at, lists_at}
-use Rattle.hurd_machine.specs.Sight.{Part, AttrOf, BodyOf}
-use Rattle.hurd_machine.specs.Touched.{Changes, OnDid}
-use Rattle.hurd_machine.specs.Change.{Change, EditBody, changes_of}
-use Rattle.hurd_machine.specs.Sound.{Coherent, Sound, times_in}
+use Rattle.hurd_machine.proofs.Common.{AttrOf, Body, BodyOf, Change, Coherent, Content, Did, EditBody, Listing, Name, OnDid, Part, Question, Sound, World, asked_at, changes_of, edit_bytes, edit_size, edits_of, lists_at, on_bytes, times_in}
+use Rattle.hurd_machine.specs.Touched.{Changes}
 use Rattle.hurd_machine.proofs.Nodes.{KeepsEmptiness}
 use Rattle.hurd_machine.proofs.Coherence.{Proper, AllProper, entry_stands}
 use Rattle.hurd_machine.proofs.Settle.{AreQuiet}

@@ -2,23 +2,15 @@
 use Rattle.std.proofs.Common.{◌≡◌, ◌≢◌, ℕ, true, true≢false, List, [], ◌∷◌, ◌++◌, Option, Some, None, sym, refl, ◌∙◌, ap, ap₂, subst, inl, inr}
 use Rattle.std.specs.Prelude.{Ok}
 use Rattle.std.specs.Option.{option_map}
-use Rattle.std.specs.FinMap.{get}
+use Rattle.hurd_machine.proofs.Common.{AreFilled, Body, Change, Coherent, Did, EditBody, EditHeader, EditOpen, EditTask, GoodBehaviour, Header, IsFilled, MakeNode, MakeOpen, Name, Node, Question, Send, ServerInfo, Settle, World, apply, apply_all, asked_at, asked_of, changes_of, counts_at, counts_by, edit, edit_bytes, edit_size, edits_of, get, info_at, info_in, new_site, on_bytes, server_at, stays, tree_by, with_body, with_entry, with_header, with_size, without_entry}
 use Rattle.hurd_nodes.proofs.Sites.{home-here, home-apart}
-use Rattle.hurd_nodes.specs.Held.{new_site}
-use Rattle.hurd_creds.specs.declared.name.Name.{Name}
-use Rattle.hurd_creds.specs.NameMaps.{edit}
 use Rattle.hurd_creds.proofs.NameLaws.{same_or_apart, edit_here, edit_apart}
-use Rattle.hurd_trans_iface.specs.Nodes.{Node, Header, Body, with_header, with_body, on_bytes, with_size, with_entry, without_entry}
-use Rattle.hurd_trans_iface.specs.Behaviour.{Did, Question, edits_of, edit_bytes, edit_size, bytes_left, size_left}
-use Rattle.hurd_trans_iface.specs.Good.{KeepsSizes, GoodBehaviour}
+use Rattle.hurd_trans_iface.specs.Behaviour.{bytes_left, size_left}
+use Rattle.hurd_trans_iface.specs.Good.{KeepsSizes}
 use Rattle.hurd_trans_iface.specs.Bodies.{MayHold, MayHave}
 use Rattle.hurd_trans_iface.proofs.BodyLaws.{KeepsBody, have_as, less_holds, size_has, tree_holds}
 use Rattle.hurd_trans_iface.specs.Kinds.{ServerKind, behaviour_of}
-use Rattle.hurd_nodes.specs.Needs.{counts_by}
-use Rattle.hurd_nodes.specs.Shown.{ServerInfo, info_in, asked_of, tree_by}
-use Rattle.hurd_machine.specs.World.{World, nodes_of, server_at, info_at, asked_at, counts_at}
-use Rattle.hurd_machine.specs.Change.{Change, EditHeader, EditBody, MakeNode, EditOpen, MakeOpen, EditTask, Send, Settle, apply, apply_all, changes_of, stays}
-use Rattle.hurd_machine.specs.Sound.{Coherent, IsFilled, AreFilled}
+use Rattle.hurd_machine.specs.World.{nodes_of}
 use Rattle.hurd_machine.proofs.Stays.{sweep, info_still}
 use Rattle.hurd_machine.proofs.Sweeps.{settle_by}
 use Rattle.hurd_machine.proofs.Nodes.{edited_from}

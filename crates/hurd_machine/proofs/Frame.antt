@@ -2,22 +2,11 @@
 use Rattle.std.proofs.Common.{◌≡◌, ◌≢◌, ◌⊎◌, ℕ, Bool, false, List, [], ◌∷◌, ◌++◌, Some, length, sym, refl, ◌∙◌, ap, ap₂, subst, inl, inr, arith}
 use Rattle.std.specs.Option.{option_map}
 use Rattle.hurd_nodes.proofs.Sites.{home-apart}
-use Rattle.hurd_nodes.specs.Held.{new_site}
-use Rattle.hurd_creds.specs.declared.name.Name.{Name}
+use Rattle.hurd_machine.proofs.Common.{ABody, ATask, AUsers, AnEmpty, AnOpen, AnOptions, AtRest, Attach, AttrOf, Below, BodyOf, Change, Coherent, Control, DropServer, EditBody, EditHeader, EditOpen, EditTask, EmptyOf, Io, IsGone, MakeNode, MakeOpen, Name, NameMap, OpenOf, OptionsOf, Part, Right, Sees, Send, ServerInfo, SetText, Settle, Sound, Start, Task, TaskOf, Unseat, UsersOf, World, apply, apply_all, body_at, count_list, edit, header_at, holders, home_at, is_empty_dir, is_on, names_open, new_site, one_if, open_at, part, rights_of, server_at, site_at, task_at, users, with_body, with_header, with_sent, with_text}
 use Rattle.hurd_creds.proofs.NameLaws.{same_name-apart, get_apart, edit_apart as edit_other}
-use Rattle.hurd_trans_iface.specs.Nodes.{with_header, with_body, is_empty_dir}
-use Rattle.hurd_creds.specs.NameMaps.{NameMap, edit}
-use Rattle.hurd_nodes.specs.Shown.{ServerInfo, with_text}
-use Rattle.hurd_ports.specs.declared.table.Right.{Right}
-use Rattle.hurd_ports.specs.declared.table.Right.TheVariants.{Io, Control, Start}
-use Rattle.hurd_ports.specs.Tables.{Task, rights_of, names_open}
-use Rattle.hurd_ports.specs.Steps.{named, with_sent}
+use Rattle.hurd_ports.specs.Steps.{named}
 use Rattle.hurd_ports.proofs.TaskLaws.{edit-apart, edit-length}
-use Rattle.hurd_machine.specs.World.{World, site_at, task_at, open_at, header_at, body_at, home_at, server_at}
-use Rattle.hurd_ports.specs.Weights.{one_if, count_list}
-use Rattle.hurd_machine.specs.Sight.{Part, AttrOf, EmptyOf, BodyOf, OpenOf, OptionsOf, UsersOf, TaskOf, Sees, part, IsGone, is_on, holders, users, AnEmpty, ABody, AnOpen, AnOptions, AUsers, ATask}
-use Rattle.hurd_machine.specs.Change.{Change, EditHeader, EditBody, MakeNode, EditOpen, MakeOpen, EditTask, Send, Attach, DropServer, Unseat, SetText, Settle, settle, apply, apply_all, next_nodes, next_sites, next_opens, next_tasks}
-use Rattle.hurd_machine.specs.Sound.{Below, Coherent, AtRest, Sound}
+use Rattle.hurd_machine.specs.Change.{settle, next_nodes, next_sites, next_opens, next_tasks}
 use Rattle.hurd_machine.proofs.Nodes.{attr_same, header_in, body_in, empty_in, header-with_body, body-with_header, edit_keeps, KeepsEmptiness, empty-kept}
 use Rattle.hurd_machine.proofs.Tasks.{count_edit, count_named, count_sent}
 use Rattle.hurd_machine.proofs.Coherence.{next_not, Proper, AllProper}

@@ -1,13 +1,7 @@
 -- A server goes, or comes, with what settles then: as pieces of any call.
 use Rattle.std.proofs.Common.{◌≡◌, ◌≢◌, ℕ, Bool, true, [], ◌∷◌, Some, ◌∙◌, ap}
-use Rattle.std.specs.FinMap.{empty}
-use Rattle.hurd_creds.specs.declared.name.Name.{Name}
-use Rattle.hurd_trans_iface.specs.Nodes.{Node, is_dir}
-use Rattle.hurd_nodes.specs.Shown.{ServerInfo, boot_name, is_other, out_server, tree_by}
-use Rattle.hurd_machine.specs.World.{World, IsAmong, nodes_of}
-use Rattle.hurd_machine.specs.Sound.{Coherent, IsFilled}
-use Rattle.hurd_machine.specs.Change.{Attach, DropServer, Unseat, apply}
-use Rattle.hurd_machine.specs.Sight.{Part, AttrOf, EmptyOf, BodyOf, OptionsOf, TaskOf}
+use Rattle.hurd_machine.proofs.Common.{Attach, AttrOf, BodyOf, Coherent, DropServer, EmptyOf, IsAmong, IsFilled, Name, Node, OptionsOf, Part, ServerInfo, TaskOf, Unseat, World, apply, boot_name, empty, is_dir, is_other, out_server, tree_by}
+use Rattle.hurd_machine.specs.World.{nodes_of}
 use Rattle.hurd_machine.specs.Touched.{Goes}
 use Rattle.hurd_machine.proofs.Nodes.{header_in}
 use Rattle.hurd_machine.proofs.Coherence.{Comes, be_kept}

@@ -1,3 +1,4 @@
+pub mod Common
 pub mod Tasks
 pub mod Nodes
 pub mod Retained

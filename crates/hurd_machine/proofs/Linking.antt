@@ -2,21 +2,11 @@
 use Rattle.std.proofs.Common.{if◌then◌else◌, ◌≡◌, ℕ, Bool, true, false, not, is_some, nat_lt, List, [], ◌∷◌, Option, Some, None, refl, sym, ap, ◌∙◌, ◌+◌, inl, true≢false, arith}
 use Rattle.std.specs.Prelude.{Result, Ok, Err}
 use Rattle.std.proofs.lemmas.Bool.Decides.{nat_tests}
-use Rattle.std.specs.FinMap.{get, empty}
-use Rattle.hurd_creds.specs.declared.name.Name.{Name}
-use Rattle.hurd_creds.specs.declared.errno.Errno.{Errno}
-use Rattle.hurd_creds.specs.declared.errno.Errno.TheVariants.{EEXIST, EISDIR, ENOTDIR, EOVERFLOW, EROFS, EXDEV}
+use Rattle.hurd_machine.proofs.Common.{AttrOf, BodyOf, Change, Coherent, EEXIST, EISDIR, ENOTDIR, EOVERFLOW, EROFS, EXDEV, EditBody, EditHeader, EmptyOf, Errno, GoodBehaviour, Header, LeadsUp, Name, Node, Part, Seen, ServerInfo, Sound, World, apply, are_kin, body_at, empty, entry_of, get, home_at, info_at, info_in, is_dir, keeps_tree, link_by, link_in, links_at, most_links, tree_by, with_entry}
 use Rattle.hurd_creds.proofs.NameLaws.{equal_if_same}
-use Rattle.hurd_trans_iface.specs.Nodes.{Node, Header, is_dir, linked, with_entry}
-use Rattle.hurd_trans_iface.specs.Answers.{entry_of, link_in, most_links}
-use Rattle.hurd_trans_iface.specs.Good.{GoodBehaviour}
+use Rattle.hurd_trans_iface.specs.Nodes.{linked}
 use Rattle.hurd_trans_iface.specs.Kinds.{ServerKind, behaviour_of}
-use Rattle.hurd_trans_iface.specs.Meaning.{keeps_tree}
-use Rattle.hurd_nodes.specs.Shown.{ServerInfo, are_kin, info_in, link_by, tree_by}
-use Rattle.hurd_machine.specs.World.{World, nodes_of, body_at, home_at, info_at, links_at}
-use Rattle.hurd_machine.specs.Sight.{Part, AttrOf, EmptyOf, BodyOf, Seen}
-use Rattle.hurd_machine.specs.Change.{Change, EditBody, EditHeader, apply}
-use Rattle.hurd_machine.specs.Sound.{Coherent}
+use Rattle.hurd_machine.specs.World.{nodes_of}
 use Rattle.hurd_machine.proofs.Nodes.{header_in, body_in}
 use Rattle.hurd_machine.proofs.Coherence.{IsEntry, AllProper}
 use Rattle.hurd_machine.proofs.Settle.{KeepsEntered}
@@ -27,7 +17,6 @@ use Rattle.hurd_machine.proofs.Makes.{entry_proper}
 use Rattle.hurd_machine.proofs.Links.{listing_of}
 use Rattle.hurd_machine.proofs.Relinks.{again_linked}
 use Rattle.hurd_machine.proofs.Piece.{Whole, quiet}
-use Rattle.hurd_machine.specs.Sound.{Sound, LeadsUp}
 
 -- where a file may get another name: in a directory of a tree that has no such entry, of the file's own server
 pub record MayLink (w : World) (d : Name) (name : List ℕ) (n : Name) : Type 0 where

@@ -2,30 +2,16 @@
 use Rattle.std.proofs.Common.{if◌then◌else◌, ◌≡◌, ◌≢◌, ◌⊎◌, ◌∙◌, ℕ, ◌+◌, Bool, true, false, not, cond, is_some, List, [], ◌∷◌, ◌++◌, Option, Some, None, sym, refl, ap, subst, inl, inr, true≢false, arith}
 use Rattle.std.specs.Prelude.{Result, Ok, Err}
 use Rattle.std.specs.Option.{option_map}
-use Rattle.std.specs.Str.{bytes_eq}
-use Rattle.std.specs.FinMap.{get}
+use Rattle.hurd_machine.proofs.Common.{AreDistinct, Below, Body, BodyOf, Change, Coherent, Content, Dir, EEXIST, ENOTDIR, EOPNOTSUPP, EROFS, EditBody, EmptyOf, Errno, File, GoodBehaviour, HasDistinctNames, Header, IsFilled, IsShaped, Kind, LeadsUp, Listing, MakeNode, Name, NewNode, Node, OfNode, Part, Seen, ServerInfo, Sound, Task, World, apply, apply_all, body_at, bytes_eq, entry_in, entry_of, fresh, get, header_at, home_at, info_at, info_in, is_dir, is_entered, is_made, is_server_root, is_taken, keeps_tree, lists, lists_at, made_node, makes_at, named_by, new_dir, new_file, new_site, server_at, task_at, times_in, times_listed, tree_by, with_body, with_entry}
 use Rattle.hurd_nodes.proofs.Sites.{home-here, home-apart}
-use Rattle.hurd_nodes.specs.Held.{new_site}
-use Rattle.hurd_creds.specs.declared.name.Name.{Name}
-use Rattle.hurd_creds.specs.declared.attrs.Kind.{Kind}
-use Rattle.hurd_creds.specs.declared.attrs.Kind.TheVariants.{File, Dir}
-use Rattle.hurd_creds.specs.declared.errno.Errno.{Errno}
-use Rattle.hurd_creds.specs.declared.errno.Errno.TheVariants.{EEXIST, ENOTDIR, EROFS, EOPNOTSUPP}
 use Rattle.hurd_creds.proofs.NameLaws.{equal_if_same, get_here, get_apart, same_or_apart}
-use Rattle.hurd_trans_iface.specs.declared.new_node.NewNode.{NewNode}
-use Rattle.hurd_trans_iface.specs.Nodes.{Node, Entry, Header, Body, Content, Listing, IsShaped, is_dir, with_body, with_entry, new_file, new_dir, is_entered}
-use Rattle.hurd_trans_iface.specs.Answers.{entry_in, entry_of, is_made, is_taken, made_node, named_by, node_of_kind}
-use Rattle.hurd_trans_iface.specs.Good.{GoodBehaviour}
+use Rattle.hurd_trans_iface.specs.Nodes.{Entry}
+use Rattle.hurd_trans_iface.specs.Answers.{node_of_kind}
 use Rattle.hurd_trans_iface.proofs.BodyLaws.{made_has, tree_holds}
 use Rattle.hurd_trans_iface.specs.Kinds.{ServerKind, behaviour_of}
-use Rattle.hurd_trans_iface.specs.Meaning.{keeps_tree}
-use Rattle.hurd_nodes.specs.Shown.{ServerInfo, info_in, made_by, tree_by}
-use Rattle.hurd_ports.specs.Tables.{Task, fresh}
+use Rattle.hurd_nodes.specs.Shown.{made_by}
 use Rattle.hurd_ports.specs.Steps.{named}
-use Rattle.hurd_machine.specs.World.{World, task_at, header_at, body_at, home_at, server_at, info_at, makes_at, lists, lists_at, nodes_of, is_server_root}
-use Rattle.hurd_machine.specs.Sight.{Part, EmptyOf, BodyOf, OfNode, Seen}
-use Rattle.hurd_machine.specs.Change.{Change, EditBody, MakeNode, apply, apply_all}
-use Rattle.hurd_machine.specs.Sound.{Below, IsFilled, AreDistinct, HasDistinctNames, Coherent, Sound, times_in, times_listed, LeadsUp}
+use Rattle.hurd_machine.specs.World.{nodes_of}
 use Rattle.hurd_machine.proofs.Nodes.{header_in, body_in, header-with_body, body-with_body, edit_keeps, edit_reads}
 use Rattle.hurd_machine.proofs.Tasks.{edit_here}
 use Rattle.hurd_machine.proofs.Coherence.{IsNext, IsEntry, GoodNode, HasNoEntries, Proper, AllProper, home_old, no_node, no_home, entry_stands, next_not, next_apart, named_below, home_server, none_if}

@@ -1,23 +1,10 @@
 -- The same change of a task of S in two worlds that are alike for S: they are alike afterwards.
 use Rattle.std.proofs.Common.{◌≡◌, ◌⊎◌, ℕ, Bool, true, Some, length, sym, refl, ◌∙◌, ap, ap₂, subst, inl, inr, arith}
 use Rattle.std.specs.Option.{option_map}
-use Rattle.std.specs.FinMap.{get}
+use Rattle.hurd_machine.proofs.Common.{ABody, ATask, AUsers, AnEmpty, AnOpen, AnOptions, Attach, AttrOf, BodyOf, Change, Coherent, Control, DropServer, EditBody, EditHeader, EditOpen, EditTask, EmptyOf, Io, IsAmong, MakeNode, MakeOpen, Name, OpenOf, OptionsOf, Part, Right, Send, SetText, Settle, Start, Task, TaskOf, Unseat, UsersOf, World, apply, body_at, count_rights, edit_task, get, header_at, holders, home_at, is_empty_dir, is_home, is_on, names_open, new_site, one_if, open_at, part, rights_of, server_at, site_at, task_at, users, with_body, with_header, with_sent, with_text}
 use Rattle.hurd_nodes.proofs.Sites.{home-apart}
-use Rattle.hurd_creds.specs.declared.name.Name.{Name}
 use Rattle.hurd_creds.proofs.NameLaws.{same_or_apart, edit_apart}
-use Rattle.hurd_trans_iface.specs.Nodes.{with_header, with_body, is_empty_dir}
-use Rattle.hurd_nodes.specs.Shown.{with_text}
-use Rattle.hurd_ports.specs.declared.table.Right.{Right}
-use Rattle.hurd_ports.specs.declared.table.Right.TheVariants.{Io, Control, Start}
-use Rattle.hurd_ports.specs.Tables.{Task, rights_of, names_open, count_rights}
-use Rattle.hurd_ports.specs.Steps.{named, with_sent, edit_task}
-use Rattle.hurd_machine.specs.World.{World, site_at, IsAmong, task_at, open_at, header_at, body_at, home_at, server_at}
-use Rattle.hurd_ports.specs.Weights.{one_if}
-use Rattle.hurd_nodes.specs.Held.{is_home, new_site}
-use Rattle.hurd_machine.specs.Sight.{Part, AttrOf, EmptyOf, BodyOf, OpenOf, OptionsOf, UsersOf, TaskOf, part, holders, is_on, users}
-use Rattle.hurd_machine.specs.Sight.{AnEmpty, ABody, AnOpen, AnOptions, AUsers, ATask}
-use Rattle.hurd_machine.specs.Change.{Change, EditHeader, EditBody, MakeNode, EditOpen, MakeOpen, EditTask, Send, Attach, DropServer, Unseat, SetText, Settle, apply}
-use Rattle.hurd_machine.specs.Sound.{Coherent}
+use Rattle.hurd_ports.specs.Steps.{named}
 use Rattle.hurd_machine.proofs.Nodes.{attr_same, header_in, body_in, empty_in, header-with_header, header-with_body, body-with_header, body-with_body, edit_alike, insert_alike, ByEmptiness, edit_empty_alike}
 use Rattle.hurd_machine.proofs.Tasks.{edit_here, edit_same, count_edit, count_named, list_alike, count_sent}
 use Rattle.hurd_machine.proofs.Coherence.{next_not, Proper}

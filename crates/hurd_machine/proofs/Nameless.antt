@@ -2,25 +2,12 @@
 use Rattle.std.proofs.Common.{◌≡◌, ◌∙◌, ℕ, ◌+◌, Bool, true, false, cond, List, [], ◌∷◌, Some, None, sym, refl, ap, subst, inl, inr, arith}
 use Rattle.hurd_machine.proofs.Sites.{seat_kept}
 use Rattle.hurd_nodes.proofs.Sites.{home-here, home-apart}
-use Rattle.hurd_nodes.specs.Held.{new_site}
-use Rattle.hurd_creds.specs.declared.name.Name.{Name}
-use Rattle.hurd_creds.specs.declared.open_flags.OpenFlags.{OpenFlags}
-use Rattle.hurd_creds.specs.Access.{IdSets}
+use Rattle.hurd_machine.proofs.Common.{Below, Change, Coherent, IdSets, Io, IoRight, IsAmong, IsFilled, IsShaped, MakeNode, Name, Node, OpenFlags, OptionsOf, Part, Right, Sees, ServerInfo, Sound, Taken, Task, TaskOf, UsersOf, World, apply, apply_all, counts_by, edit_task, fresh, gives_text, header_at, home_at, info_at, info_in, is_dir, is_entered_at, is_held, keeps_tree, leads_on, namings, new_open, new_site, porting, server_at, shape_at, shape_by, stays, task_at, times_listed, tree_by, ways_of, with_port}
 use Rattle.hurd_creds.proofs.NameLaws.{get_here, get_apart}
-use Rattle.hurd_trans_iface.specs.Nodes.{Node, IsShaped, is_dir, is_entered_at}
-use Rattle.hurd_trans_iface.specs.Meaning.{keeps_tree}
-use Rattle.hurd_nodes.specs.Needs.{counts_by}
-use Rattle.hurd_nodes.specs.Shown.{ServerInfo, info_in, tree_by}
 use Rattle.hurd_ports.specs.declared.parents.Parent.{Parent as Pair}
-use Rattle.hurd_ports.specs.declared.table.IoRight.{IoRight}
-use Rattle.hurd_ports.specs.declared.table.Right.{Right}
-use Rattle.hurd_ports.specs.declared.table.Right.TheVariants.{Io}
-use Rattle.hurd_ports.specs.Tables.{Task, fresh, ways_of, is_held}
-use Rattle.hurd_ports.specs.Steps.{named, with_port, new_open, edit_task}
-use Rattle.hurd_machine.specs.World.{World, IsAmong, nodes_of, task_at, header_at, home_at, server_at, info_at, shape_by, shape_at, leads_on, gives_text}
-use Rattle.hurd_machine.specs.Sight.{Part, OptionsOf, UsersOf, TaskOf, Sees, Taken}
-use Rattle.hurd_machine.specs.Change.{Change, MakeNode, namings, stays, server_stays, apply, apply_all, porting}
-use Rattle.hurd_machine.specs.Sound.{Sound, Below, IsFilled, Coherent, times_listed}
+use Rattle.hurd_ports.specs.Steps.{named}
+use Rattle.hurd_machine.specs.World.{nodes_of}
+use Rattle.hurd_machine.specs.Change.{server_stays}
 use Rattle.hurd_machine.proofs.Nodes.{header_in}
 use Rattle.hurd_machine.proofs.Tasks.{edit_here}
 use Rattle.hurd_machine.proofs.Holders.{NameMore, still, still_more, held_by_right}

@@ -1,27 +1,15 @@
 -- A port on a node with a new open, and a port that goes: as pieces of any call.
 use Rattle.std.specs.Prelude.{if◌then◌else◌}
 use Rattle.std.proofs.Common.{◌≡◌, ℕ, ◌<◌, ◌≤◌, Bool, true, false, List, [], ◌∷◌, Some, sym, refl, subst, ◌∙◌, ap, subst, inl, inr, arith, ap₂, ◌++◌, ◌||◌, ◌&&◌, ◌==◌, Option, None}
-use Rattle.std.specs.FinMap.{get, insert}
-use Rattle.hurd_creds.specs.declared.name.Name.{Name}
-use Rattle.hurd_creds.specs.declared.open_flags.OpenFlags.{OpenFlags}
-use Rattle.hurd_creds.specs.Access.{IdSets}
-use Rattle.hurd_creds.specs.Bits.{asks, WRITE}
+use Rattle.hurd_machine.proofs.Common.{AtRest, AttrOf, Below, CanBeWritten, CanCount, Change, Coherent, Control, Counted, EditHeader, EditOpen, EditTask, Header, Holds, IdSets, Io, IoRight, IsAmong, MakeOpen, Name, NodeState, OnDrop, OnRight, OpenFlags, OpenOf, Opened, Part, Right, Seen, Settle, Sound, Start, Task, TaskOf, UsersOf, WRITE, World, apply, apply_all, asks, changes_of, closed_by, closes, closing, count_rights, counting, counts_at, counts_by, dropping, fresh, get, insert, is_on, names_open, new_open, new_right, opened_by, opening, porting, right_in, server_of, task_at, ways_of, without_port}
 use Rattle.hurd_creds.proofs.NameLaws.{get_here}
 use Rattle.hurd_creds.proofs.AppendLaws.{append_read, append_write}
-use Rattle.hurd_trans_iface.specs.Nodes.{Header, counting, opened_by, closed_by}
-use Rattle.hurd_nodes.specs.Needs.{counts_by}
-use Rattle.hurd_nodes.specs.Shown.{NodeState, server_of}
-use Rattle.hurd_ports.specs.declared.table.Opened.{Opened}
 use Rattle.hurd_ports.specs.declared.parents.Parent.{Parent as Pair}
-use Rattle.hurd_ports.specs.declared.table.Right.{Right}
-use Rattle.hurd_ports.specs.declared.table.Right.TheVariants.{Io, Control, Start}
-use Rattle.hurd_ports.specs.Tables.{Task, names_open, right_in, fresh, ways_of, count_rights}
-use Rattle.hurd_ports.specs.Steps.{named, without_port, new_open, new_right, at_cursor, appending}
-use Rattle.hurd_machine.specs.World.{World, IsAmong, nodes_of, task_at, counts_at}
-use Rattle.hurd_machine.specs.Sight.{Part, OpenOf, UsersOf, TaskOf, is_on, AttrOf, Seen, Held, Holds}
-use Rattle.hurd_machine.specs.Touched.{OnNode, OnRight, OnDrop}
-use Rattle.hurd_machine.specs.Change.{Change, EditTask, MakeOpen, EditOpen, apply, porting, dropping, EditHeader, Settle, apply_all, changes_of, counted, opening, closes, closing}
-use Rattle.hurd_machine.specs.Sound.{Below, CanBeWritten, Coherent, Sound, AtRest}
+use Rattle.hurd_ports.specs.Steps.{named, at_cursor, appending}
+use Rattle.hurd_machine.specs.World.{nodes_of}
+use Rattle.hurd_machine.specs.Sight.{Held}
+use Rattle.hurd_machine.specs.Touched.{OnNode}
+use Rattle.hurd_machine.specs.Change.{counted}
 use Rattle.hurd_machine.proofs.Tasks.{edit_here}
 use Rattle.hurd_machine.proofs.Coherence.{IsNext, CanBeNamed, FineRight, AllProper, named_below, named_still, unopened}
 use Rattle.hurd_machine.proofs.Rights.{port_counts, port_table, without_counts, without_rights, without_table}
@@ -29,11 +17,9 @@ use Rattle.hurd_machine.proofs.Frame.{Covers, Within, AllWithin, Full, not_on, n
 use Rattle.hurd_machine.proofs.Several.{AllMay}
 use Rattle.hurd_machine.proofs.Filled.{counts_header}
 use Rattle.hurd_machine.proofs.Piece.{Stands, Piece, Whole, stands, settled_as, quiet, of_ports, of_header, piece_then}
-use Rattle.hurd_machine.specs.Counted.{CanCount, Counted}
 use Rattle.hurd_machine.proofs.Counting.{KeepsModes}
 use Rattle.hurd_machine.proofs.OpenCounts.{dropping_counted}
 use Rattle.std.specs.Option.{option_map}
-use Rattle.hurd_ports.specs.declared.table.IoRight.{IoRight}
 use Rattle.hurd_machine.proofs.Permits.{AllExact}
 use Rattle.hurd_machine.proofs.Confine.{less_same}
 use Rattle.hurd_machine.proofs.Allowed.{TellsNoMore}

@@ -1,16 +1,7 @@
 -- What a task is to start, as a piece of any call: alone, and where a server comes for it.
 use Rattle.std.proofs.Common.{◌≡◌, ℕ, Bool, true, [], ◌∷◌, Option, Some, None, refl, subst, inl, inr, arith}
-use Rattle.std.specs.FinMap.{empty}
-use Rattle.hurd_creds.specs.declared.name.Name.{Name}
-use Rattle.hurd_trans_iface.specs.Nodes.{Node}
-use Rattle.hurd_nodes.specs.Shown.{ServerInfo}
-use Rattle.hurd_ports.specs.declared.table.PendingStart.{PendingStart}
-use Rattle.hurd_ports.specs.declared.table.Right.{Right}
-use Rattle.hurd_ports.specs.Tables.{Task, names_open, start_of}
-use Rattle.hurd_ports.specs.Steps.{named, with_pending}
-use Rattle.hurd_machine.specs.World.{World, IsAmong, task_at}
-use Rattle.hurd_machine.specs.Sight.{Part, AttrOf, EmptyOf, BodyOf, OptionsOf, TaskOf, is_on}
-use Rattle.hurd_machine.specs.Change.{Attach, EditTask, pending}
+use Rattle.hurd_machine.proofs.Common.{Attach, AttrOf, BodyOf, EditTask, EmptyOf, IsAmong, Name, Node, OptionsOf, Part, PendingStart, Right, ServerInfo, Task, TaskOf, World, empty, is_on, names_open, pending, start_of, task_at, with_pending}
+use Rattle.hurd_ports.specs.Steps.{named}
 use Rattle.hurd_machine.proofs.Tasks.{edit_here}
 use Rattle.hurd_machine.proofs.Coherence.{Comes}
 use Rattle.hurd_machine.proofs.Rights.{IsGivenStart, pending_counts, pending_rights, pending_table}

@@ -1,26 +1,10 @@
 -- Pieces of plans, and why a task of S may make them.
 use Rattle.std.proofs.Common.{◌≡◌, ◌⊎◌, ℕ, ◌<◌, ◌≤◌, Bool, true, false, cond, List, [], ◌∷◌, ◌++◌, Option, Some, None, refl, sym, ◌∙◌, ap, subst, inl, inr, arith}
 use Rattle.std.specs.Prelude.{Ok}
-use Rattle.std.specs.Str.{bytes_eq}
-use Rattle.std.specs.FinMap.{get, insert}
-use Rattle.hurd_creds.specs.declared.name.Name.{Name}
-use Rattle.hurd_creds.specs.declared.open_flags.OpenFlags.{OpenFlags}
-use Rattle.hurd_creds.specs.Access.{IdSets}
-use Rattle.hurd_creds.specs.Names.{name_of}
+use Rattle.hurd_machine.proofs.Common.{Body, Change, Content, Did, EditBody, HasUid, Header, IdSets, Io, IoRight, IsAmong, Listing, MakeOpen, Name, OpenFlags, Opened, Right, SeesBody, Settle, Taken, Task, World, apply, apply_all, bytes_eq, changes_of, counts_at, edit_bytes, edit_size, edits_of, entry_in, entry_of, fresh, get, header_at, insert, is_empty_dir, name_of, new_open, on_bytes, porting, task_at, tells, ways_of, with_entry, with_port, with_size}
 use Rattle.hurd_creds.proofs.NameLaws.{get_here}
-use Rattle.hurd_trans_iface.specs.Nodes.{Entry, Header, Body, Content, Listing, is_empty_dir, on_bytes, with_entry, with_size}
-use Rattle.hurd_trans_iface.specs.Answers.{entry_in, entry_of}
-use Rattle.hurd_trans_iface.specs.Behaviour.{Did, edit_bytes, edit_size, edits_of}
-use Rattle.hurd_ports.specs.declared.table.Opened.{Opened}
+use Rattle.hurd_trans_iface.specs.Nodes.{Entry}
 use Rattle.hurd_ports.specs.declared.parents.Parent.{Parent as Pair}
-use Rattle.hurd_ports.specs.declared.table.IoRight.{IoRight}
-use Rattle.hurd_ports.specs.declared.table.Right.{Right}
-use Rattle.hurd_ports.specs.declared.table.Right.TheVariants.{Io}
-use Rattle.hurd_ports.specs.Tables.{Task, fresh, ways_of}
-use Rattle.hurd_ports.specs.Steps.{new_open, with_port}
-use Rattle.hurd_machine.specs.World.{World, IsAmong, task_at, header_at, counts_at}
-use Rattle.hurd_machine.specs.Sight.{HasUid, Taken, SeesBody, tells}
-use Rattle.hurd_machine.specs.Change.{Change, EditBody, MakeOpen, Settle, apply, apply_all, changes_of, porting}
 use Rattle.hurd_machine.proofs.Rights.{port_rights}
 use Rattle.hurd_machine.proofs.Frame.{IsExact}
 use Rattle.hurd_machine.proofs.Confine.{NewTo, SeenOrNew, Less, less_same}

@@ -1,12 +1,7 @@
 -- What the changes of a call owe, as pieces, and how pieces are put together.
 use Rattle.std.proofs.Common.{◌≡◌, ℕ, Bool, true, List, [], ◌∷◌, ◌++◌, sym, subst, inl}
-use Rattle.hurd_creds.specs.declared.name.Name.{Name}
-use Rattle.hurd_trans_iface.specs.Nodes.{Header}
-use Rattle.hurd_machine.specs.World.{World, nodes_of}
-use Rattle.hurd_machine.specs.Sight.{Part, AttrOf}
-use Rattle.hurd_machine.specs.Change.{Change, EditHeader, Settle, apply_all}
-use Rattle.hurd_machine.specs.Sound.{Coherent, AreFilled, Linked, AtRest, Sound}
-use Rattle.hurd_machine.specs.Counted.{CanCount, Counted}
+use Rattle.hurd_machine.proofs.Common.{AreFilled, AtRest, AttrOf, CanCount, Change, Coherent, Counted, EditHeader, Header, Linked, Name, Part, Settle, Sound, World, apply_all}
+use Rattle.hurd_machine.specs.World.{nodes_of}
 use Rattle.hurd_machine.proofs.Counting.{AllCalm, counted_all, counted_settle}
 use Rattle.hurd_machine.proofs.Coherence.{AllProper}
 use Rattle.hurd_machine.proofs.Keeping.{apply_all-append, coherent_all, proper_append}

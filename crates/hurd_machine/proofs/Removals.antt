@@ -2,24 +2,11 @@
 use Rattle.std.proofs.Common.{if◌then◌else◌, ◌≡◌, ◌≢◌, ◌∙◌, ℕ, ◌+◌, ◌-◌, ◌≤◌, Bool, true, false, ◌||◌, cond, List, [], ◌∷◌, Option, Some, None, nat_lt, sym, refl, ap, ap₂, subst, inl, inr, arith}
 use Rattle.std.proofs.lemmas.Bool.Decides.{nat_tests}
 use Rattle.std.proofs.lemmas.Slice.Eq.{bytes_eq-Decides}
-use Rattle.std.specs.List.{list_any}
-use Rattle.std.specs.Str.{bytes_eq}
-use Rattle.std.specs.FinMap.{get, insert}
-use Rattle.hurd_creds.specs.declared.name.Name.{Name}
-use Rattle.hurd_creds.specs.declared.attrs.Kind.TheVariants.{Dir}
-use Rattle.hurd_creds.specs.NameMaps.{edit}
-use Rattle.hurd_creds.specs.Names.{same_name}
+use Rattle.hurd_machine.proofs.Common.{AreDistinct, AttrOf, Body, BodyOf, Change, Coherent, Content, Dir, EditBody, EditHeader, EmptyOf, GoodBehaviour, HasDistinctNames, Header, IsShaped, Linked, Listing, Name, Node, NodeMap, Part, Sees, World, apply, apply_all, body_at, bytes_eq, count_list, edit, entry_in, entry_of, get, header_at, header_of, info_at, insert, is_dir, is_of, less_entry, list_any, lists, lists_at, one_if, same_name, times_in, times_listed, tree_by, unlinked, with_body, with_header, without_entry}
 use Rattle.hurd_creds.proofs.NameLaws.{same_name-itself, same_name-apart, edit_found}
-use Rattle.hurd_trans_iface.specs.Nodes.{NodeMap, Node, Entry, Header, Body, Content, Listing, IsShaped, is_dir, header_of, less_entry, without_entry, unlinked, with_header, with_body}
-use Rattle.hurd_trans_iface.specs.Answers.{entry_in, entry_of}
-use Rattle.hurd_trans_iface.specs.Good.{GoodBehaviour}
+use Rattle.hurd_trans_iface.specs.Nodes.{Entry}
 use Rattle.hurd_trans_iface.specs.Kinds.{ServerKind, behaviour_of}
-use Rattle.hurd_nodes.specs.Shown.{tree_by}
-use Rattle.hurd_machine.specs.World.{World, nodes_of, header_at, body_at, info_at, is_of, lists, lists_at}
-use Rattle.hurd_ports.specs.Weights.{one_if, count_list}
-use Rattle.hurd_machine.specs.Sight.{Part, AttrOf, EmptyOf, BodyOf, Sees}
-use Rattle.hurd_machine.specs.Change.{Change, EditHeader, EditBody, apply, apply_all}
-use Rattle.hurd_machine.specs.Sound.{AreDistinct, HasDistinctNames, Coherent, Linked, times_in, times_listed}
+use Rattle.hurd_machine.specs.World.{nodes_of}
 use Rattle.hurd_machine.proofs.Nodes.{header_in, body_in, node_of_header, header-with_body, edit_keeps, node_of_body}
 use Rattle.hurd_machine.proofs.Listed.{times_edited, times_named, dir_kind}
 use Rattle.hurd_machine.proofs.Coherence.{IsUnlisted, MayMove, Proper, entry_lists, entry_stands, none_if}

@@ -1,20 +1,11 @@
 -- An entry goes to another directory, or gets another name, as a piece of any call: what it takes, and what it keeps.
 use Rattle.std.proofs.Common.{if◌then◌else◌, ◌≡◌, ◌≢◌, ◌⊎◌, ◌∙◌, ℕ, Bool, true, false, cond, List, [], ◌∷◌, Option, Some, None, sym, refl, ap, subst, inl, inr}
 use Rattle.std.specs.Option.{option_map}
-use Rattle.std.specs.Str.{bytes_eq}
-use Rattle.std.specs.FinMap.{get, empty}
-use Rattle.hurd_creds.specs.declared.name.Name.{Name}
-use Rattle.hurd_creds.specs.declared.attrs.Kind.TheVariants.{Dir}
+use Rattle.hurd_machine.proofs.Common.{AreDistinct, AttrOf, Below, Body, BodyOf, Change, Coherent, Content, Dir, EditBody, EditHeader, EmptyOf, GoodBehaviour, HasDistinctNames, Header, LeadsUp, Linked, Listing, Name, Node, Part, Seen, Sees, World, apply, body_at, bytes_eq, empty, entry_in, entry_of, get, header_at, home_at, info_at, info_in, is_dir, less_entry, lists_at, moved_to, tree_by, with_body, with_entry, with_header, without_entry}
 use Rattle.hurd_creds.proofs.NameLaws.{same_or_apart, edit_apart}
-use Rattle.hurd_trans_iface.specs.Nodes.{Node, Entry, Header, Body, Content, Listing, is_dir, moved_to, with_header, with_body, with_entry, less_entry, without_entry}
-use Rattle.hurd_trans_iface.specs.Answers.{entry_in, entry_of}
-use Rattle.hurd_trans_iface.specs.Good.{GoodBehaviour}
+use Rattle.hurd_trans_iface.specs.Nodes.{Entry}
 use Rattle.hurd_trans_iface.specs.Kinds.{ServerKind, behaviour_of}
-use Rattle.hurd_nodes.specs.Shown.{info_in, tree_by}
-use Rattle.hurd_machine.specs.World.{World, nodes_of, header_at, body_at, home_at, info_at, lists_at}
-use Rattle.hurd_machine.specs.Sight.{Part, AttrOf, EmptyOf, BodyOf, Seen, Sees}
-use Rattle.hurd_machine.specs.Change.{Change, EditHeader, EditBody, apply}
-use Rattle.hurd_machine.specs.Sound.{Below, AreDistinct, HasDistinctNames, Coherent, Linked, LeadsUp}
+use Rattle.hurd_machine.specs.World.{nodes_of}
 use Rattle.hurd_machine.proofs.Nodes.{header_in, body_in, edit_keeps, edit_reads, header-with_header, header-with_body, body-with_header, body-with_body, node_of_body}
 use Rattle.hurd_machine.proofs.Listed.{dir_kind}
 use Rattle.hurd_machine.proofs.Coherence.{IsEntry, MayMove, Proper, AllProper, entry_lists, header_old}

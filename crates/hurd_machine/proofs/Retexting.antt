@@ -1,27 +1,16 @@
 -- A server gets another text, and its nodes their sizes, as a piece of any call.
 use Rattle.std.proofs.Common.{◌≡◌, ◌≢◌, arith, length, map, ℕ, Bool, true, false, List, [], ◌∷◌, Option, Some, None, sym, refl, ◌∙◌, ap, subst, inl, inr}
 use Rattle.std.specs.Prelude.{is_some}
-use Rattle.std.specs.List.{list_any}
+use Rattle.hurd_machine.proofs.Common.{AreFilled, AttrOf, Change, Coherent, IsAmong, IsFilled, Name, NameMap, Node, NodeMap, OptionsOf, Part, ServerInfo, SetText, Site, Sound, World, apply_all, changes_of, edit, edit_all, empty, entries, entries-insert, eq_by_cmp, get, get-empty, home_at, home_in, info_in, insert, is_home, list_any, name_cmp, own_nodes, put, retain_keys, retexting, server_at, size_of, sizing, with_header, with_size, with_text}
 use Rattle.std.specs.Option.{option_map}
-use Rattle.std.specs.Ordering.{eq_by_cmp}
-use Rattle.std.specs.FinMap.{get, keys, retain_keys, contains_key-keys, entries, entries-insert, empty, insert, put, len-entries, len-empty, get-empty}
+use Rattle.std.specs.FinMap.{keys, contains_key-keys, len-entries, len-empty}
 use Rattle.hurd_nodes.proofs.Sites.{site-of}
-use Rattle.hurd_nodes.specs.declared.seat.Site.{Site}
-use Rattle.hurd_creds.specs.declared.name.Name.{Name}
-use Rattle.hurd_creds.specs.NameMaps.{NameMap, edit}
-use Rattle.hurd_creds.specs.Names.{name_cmp}
 use Rattle.hurd_creds.proofs.NameLaws.{same_map_by, tied-itself, equal_if_tied, same_name-itself, same_or_apart, edit_here, edit_apart, name_total, get_here, get_apart}
-use Rattle.hurd_trans_iface.specs.Nodes.{NodeMap, Node, with_header, with_size, edit_all}
 use Rattle.hurd_trans_iface.specs.Kinds.{behaviour_of}
-use Rattle.hurd_trans_iface.specs.Meaning.{root_of, size_of, targets_of}
+use Rattle.hurd_trans_iface.specs.Meaning.{root_of, targets_of}
 use Rattle.hurd_trans_iface.specs.Good.{KeepsRoot}
-use Rattle.hurd_nodes.specs.Held.{is_home, home_in}
 use Rattle.hurd_trans_iface.proofs.BodyLaws.{size_has}
-use Rattle.hurd_nodes.specs.Shown.{ServerInfo, info_in, own_nodes, sizing, with_text}
-use Rattle.hurd_machine.specs.World.{World, IsAmong, nodes_of, home_at, server_at}
-use Rattle.hurd_machine.specs.Sight.{Part, AttrOf, OptionsOf}
-use Rattle.hurd_machine.specs.Change.{Change, SetText, changes_of, retexting, apply_all}
-use Rattle.hurd_machine.specs.Sound.{Coherent, IsFilled, AreFilled, Sound}
+use Rattle.hurd_machine.specs.World.{nodes_of}
 use Rattle.hurd_machine.proofs.Nodes.{edited_from, server_home}
 use Rattle.hurd_machine.proofs.Sites.{home_is}
 use Rattle.hurd_machine.proofs.Coherence.{AllProper, KeepsShape}

@@ -1,32 +1,19 @@
 -- What each part of a world is after a server came or went, or lost its seat.
 use Rattle.std.proofs.Common.{◌≡◌, ◌≢◌, ◌⊎◌, ℕ, not, Bool, true, false, cond, List, [], ◌∷◌, Option, Some, None, slice_get, sym, refl, ◌∙◌, ap, ap₂, inl, inr, arith}
-use Rattle.std.specs.FinMap.{get, empty, insert}
+use Rattle.hurd_machine.proofs.Common.{ABody, ATask, AUsers, AnEmpty, AnOpen, AnOptions, AttrOf, Below, BodyOf, Coherent, Control, DropServer, EmptyOf, Io, IoRight, IsAmong, Name, Node, OpenOf, OptionsOf, Part, Right, ServerInfo, Start, Task, TaskOf, Unseat, UsersOf, World, active_at, apply, count_list, count_rights, edit_task, empty, get, holders, home_at, insert, is_home, is_on, is_other, names_open, new_site, open_at, part, rights_of, server_at, site_at, users, vacated, with_active}
 use Rattle.std.specs.Option.{option_map}
 use Rattle.hurd_nodes.proofs.Sites.{home-was, home-stays, home-edited, none-left, site-left, home_by}
 use Rattle.hurd_machine.proofs.Sites.{idle_site, home_is, not_home}
 use Rattle.hurd_nodes.proofs.PartLaws.{same_bool}
-use Rattle.hurd_creds.specs.declared.name.Name.{Name}
 use Rattle.hurd_creds.proofs.NameLaws.{same_name-itself, same_or_apart, edit_apart, get_apart, remove_apart, remove_here}
-use Rattle.hurd_trans_iface.specs.Nodes.{Node}
-use Rattle.hurd_nodes.specs.Held.{is_home, new_site}
-use Rattle.hurd_ports.specs.Weights.{count_list}
-use Rattle.hurd_nodes.specs.Shown.{ServerInfo, is_other, with_active, vacated}
-use Rattle.hurd_ports.specs.declared.table.Right.{Right}
-use Rattle.hurd_ports.specs.declared.table.Right.TheVariants.{Io, Control, Start}
-use Rattle.hurd_ports.specs.Tables.{Task, rights_of, names_open, count_rights}
-use Rattle.hurd_ports.specs.Steps.{named, edit_task}
+use Rattle.hurd_ports.specs.Steps.{named}
 use Rattle.hurd_ports.proofs.TaskLaws.{edit-apart}
-use Rattle.hurd_machine.specs.World.{World, IsAmong, site_at, open_at, home_at, active_at, server_at}
-use Rattle.hurd_machine.specs.Sight.{Part, AttrOf, EmptyOf, BodyOf, OpenOf, OptionsOf, UsersOf, TaskOf, part, is_on, users, holders, AnEmpty, ABody, AnOpen, AnOptions, AUsers, ATask}
-use Rattle.hurd_machine.specs.Change.{DropServer, Unseat, apply}
 use Rattle.hurd_machine.specs.Touched.{Goes}
-use Rattle.hurd_machine.specs.Sound.{Below, Coherent}
 use Rattle.hurd_machine.proofs.Nodes.{attr_same, header_in, body_in, empty_in, edit_alike, insert_alike}
 use Rattle.hurd_machine.proofs.Retained.{get-retained}
 use Rattle.hurd_machine.proofs.Tasks.{count_named, count_alike, edit_same}
 use Rattle.hurd_machine.proofs.Coherence.{IsNext, Comes, unnoded}
 use Rattle.hurd_machine.proofs.Comes.{come_world, root_new, come_home}
-use Rattle.hurd_ports.specs.declared.table.IoRight.{IoRight}
 
 -- a server has the same users where the nodes of rights have servers as they had
 pub users_by : (w y : World) (s : Name) (ts : List Task) → ((t : ℕ) (x : Task) (r : IoRight) → slice_get ts t ≡ Some x → IsAmong (Io r) (rights_of x) → is_home s (home_at y r.node) ≡ is_home s (home_at w r.node))
@@ -123,7 +110,7 @@ module _ (w : World) (s : Name) where
   server_apart q apart = remove_apart w.servers s q apart
 
   -- a node is of another server as it was
-  users_apart : (q : Name) → q ≢ s → users dropped q ≡ users w q
+  pub users_apart : (q : Name) → q ≢ s → users dropped q ≡ users w q
   users_apart q apart = users_by w dropped q w.tasks (λ t x r at i. same_bool _ _ (λ h. ap (is_home q) (home-was w.sites s r.node q (home_is q _ h)) ∙ same_name-itself q)
       (λ h. ap (is_home q) (home-stays w.sites s r.node q apart (home_is q _ h)) ∙ same_name-itself q))
 
@@ -141,7 +128,7 @@ module _ (w : World) (s : Name) where
   drop_parts (TaskOf t) out = refl
 
   -- a server that went has no users
-  users_gone : users dropped s ≡ 0
+  pub users_gone : users dropped s ≡ 0
   users_gone = unused dropped s (λ n. none-left w.sites s n)
 
 -- and what is alike before it went is so after, where its node is
@@ -181,7 +168,7 @@ module _ (x y : World) (s : Name) where
 
 -- a server that lost its seat
 
-unseated_users : (w : World) (n s : Name) → users (apply (Unseat n) w) s ≡ users w s
+pub unseated_users : (w : World) (n s : Name) → users (apply (Unseat n) w) s ≡ users w s
 unseated_users w n s = users_by w (apply (Unseat n) w) s w.tasks (λ t x r at i. ap (is_home s) (home-edited w.sites n None r.node))
 
 pub unseated_parts : (w : World) (n : Name) (k : Part) → k ≢ AttrOf n → part (apply (Unseat n) w) k ≡ part w k

@@ -1,31 +1,20 @@
 -- A world is settled once what nothing names is gone: who sees it sees the same; and changes that leave a world settled.
 use Rattle.std.proofs.Common.{◌≡◌, ◌⊎◌, ℕ, Bool, true, List, [], ◌∷◌, Option, Some, None, slice_get, nat_lt, sym, refl, ◌∙◌, ap, ap₂, subst, inl, inr}
 use Rattle.std.specs.Option.{option_map}
-use Rattle.std.specs.FinMap.{get}
+use Rattle.hurd_machine.proofs.Common.{ABody, AUsers, Active, AnAttr, AnEmpty, AnOpen, AnOptions, AtRest, Attach, AttrOf, Body, BodyOf, Change, Child, Coherent, DropServer, EditBody, EditHeader, EditOpen, EditTask, EmptyOf, Header, Holds, IdSets, Io, IoRight, IsAmong, IsGone, IsSettled, Knows, Linked, MakeNode, MakeOpen, Name, Node, NodeMap, NodeState, OfControl, OfNode, OfSeat, OpenFlags, OpenOf, OptionsOf, Part, Pending, Seen, Sees, Send, ServerInfo, ServerRoot, SetText, Settle, Site, Start, Target, Task, TaskOf, Unseat, UsersOf, Way, World, apply, apply_all, body_at, edit, edit_task, fresh, get, header_at, holders, home_at, is_empty_dir, is_entered, is_entered_at, is_held, is_home, namings, new_open, new_right, new_site, open_at, outside, part, porting, ports_of, server_at, site_at, stays, task_at, users, with_body, with_header, with_port, with_sent, with_text, world_from}
 use Rattle.hurd_machine.proofs.Sites.{seat_kept}
 use Rattle.hurd_nodes.proofs.Sites.{home-here, home-apart, home_by}
-use Rattle.hurd_nodes.specs.declared.seat.Site.{Site}
-use Rattle.hurd_creds.specs.declared.name.Name.{Name}
-use Rattle.hurd_creds.specs.declared.open_flags.OpenFlags.{OpenFlags}
-use Rattle.hurd_creds.specs.Access.{IdSets}
-use Rattle.hurd_creds.specs.NameMaps.{edit}
 use Rattle.hurd_creds.proofs.NameLaws.{same_or_apart, get_here, get_apart, edit_here, edit_apart}
-use Rattle.hurd_trans_iface.specs.Nodes.{NodeMap, Node, Header, Body, with_header, with_body, is_entered, is_entered_at, is_empty_dir}
-use Rattle.hurd_nodes.specs.Shown.{NodeState, ServerInfo, with_text}
 use Rattle.hurd_nodes.specs.Settle as kept
 use Rattle.hurd_nodes.proofs.SettleLaws.{settle-is}
 use Rattle.std.proofs.lemmas.Bool.{cases_Bool}
-use Rattle.hurd_ports.specs.declared.table.IoRight.{IoRight}
-use Rattle.hurd_ports.specs.declared.table.Right.TheVariants.{Io, Start}
 use Rattle.hurd_ports.specs.declared.parents.Parent.{Parent as Pair}
-use Rattle.hurd_ports.specs.Tables.{Task, nodes_of as nodes_named, is_held, IsSettled, fresh}
-use Rattle.hurd_ports.specs.Steps.{named, with_port, with_sent, new_open, new_right, edit_task}
-use Rattle.hurd_machine.specs.World.{World, IsAmong, world_from, nodes_of, ports_of, task_at, open_at, header_at, body_at, home_at, server_at, site_at}
-use Rattle.hurd_machine.specs.Sight.{Holds, Seen, Root, Held, Way, Controlled, Pending, Child, Parent, Active, ServerRoot, Target, Knows, OfNode, OfSeat, OfControl}
-use Rattle.hurd_nodes.specs.Held.{is_home, new_site}
-use Rattle.hurd_machine.specs.Sight.{Part, AttrOf, EmptyOf, BodyOf, OpenOf, OptionsOf, UsersOf, TaskOf, Sees, part, IsGone, holders, users, Value, AnAttr, AnEmpty, ABody, AnOpen, AnOptions, AUsers}
-use Rattle.hurd_machine.specs.Change.{Change, EditHeader, EditBody, MakeNode, EditOpen, MakeOpen, EditTask, Send, Attach, DropServer, Unseat, SetText, Settle, namings, outside, stays, server_stays, settle, apply, apply_all, porting}
-use Rattle.hurd_machine.specs.Sound.{Coherent, Linked, AtRest}
+use Rattle.hurd_ports.specs.Tables.{nodes_of as nodes_named}
+use Rattle.hurd_ports.specs.Steps.{named}
+use Rattle.hurd_machine.specs.World.{nodes_of}
+use Rattle.hurd_machine.specs.Sight.{Root, Held, Controlled, Parent}
+use Rattle.hurd_machine.specs.Sight.{Value}
+use Rattle.hurd_machine.specs.Change.{server_stays, settle}
 use Rattle.hurd_machine.proofs.Nodes.{attr_same, header_in, body_in, empty_in, none_mapped, edit_keeps, was_edited}
 use Rattle.hurd_machine.proofs.Tasks.{sent_keeps, edit_here as task_here}
 use Rattle.hurd_ports.proofs.HeldLaws.{held_counted}

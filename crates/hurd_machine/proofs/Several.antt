@@ -1,15 +1,9 @@
 -- Changes one after another, settling among them: they show the same in worlds that agree.
 use Rattle.std.proofs.Common.{Some, ◌≡◌, ℕ, Bool, false, List, [], ◌∷◌, Option, sym, refl, ◌∙◌, ap, ap₂, subst, inl, inr}
-use Rattle.hurd_creds.specs.declared.name.Name.{Name}
+use Rattle.hurd_machine.proofs.Common.{ABody, AUsers, AnEmpty, AnOpen, AnOptions, AttrOf, Below, BodyOf, Change, Coherent, Control, EmptyOf, Io, IsAmong, Linked, Name, Node, OpenOf, OptionsOf, Part, Right, Settle, Start, Task, TaskOf, UsersOf, World, apply, apply_all, holders, names_open, part, rights_of, task_at, users}
 use Rattle.hurd_creds.proofs.NameLaws.{same_name-apart}
-use Rattle.hurd_trans_iface.specs.Nodes.{Node}
-use Rattle.hurd_ports.specs.declared.table.Right.{Right}
-use Rattle.hurd_ports.specs.declared.table.Right.TheVariants.{Io, Control, Start}
-use Rattle.hurd_ports.specs.Tables.{Task, rights_of, names_open}
-use Rattle.hurd_machine.specs.World.{World, IsAmong, nodes_of, task_at}
-use Rattle.hurd_machine.specs.Sight.{Part, AttrOf, EmptyOf, BodyOf, OpenOf, OptionsOf, UsersOf, TaskOf, part, holders, users, AnEmpty, ABody, AnOpen, AnOptions, AUsers}
-use Rattle.hurd_machine.specs.Change.{Change, Settle, settle, apply, apply_all}
-use Rattle.hurd_machine.specs.Sound.{Below, Coherent, Linked}
+use Rattle.hurd_machine.specs.World.{nodes_of}
+use Rattle.hurd_machine.specs.Change.{settle}
 use Rattle.hurd_machine.proofs.Views.{Agree, Agree-sym, Agree-trans, same_tasks}
 use Rattle.hurd_machine.proofs.Nodes.{attr_same, header_in, body_in, empty_in}
 use Rattle.hurd_machine.proofs.Tasks.{count_alike}

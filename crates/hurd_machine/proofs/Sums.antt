@@ -4,15 +4,12 @@ use Rattle.std.specs.Prelude.{T}
 use Rattle.std.specs.List.{sum_by}
 use Rattle.std.specs.declared.cmp.Ordering.{Ordering}
 use Rattle.std.specs.declared.cmp.Ordering.TheVariants.{Less, Equal, Greater}
-use Rattle.std.specs.Ordering.{is_eq, is_lt, eq_by_cmp}
-use Rattle.std.specs.FinMap.{get, insert, retain_keys, values, entries, entries_sorted, entries-insert, get-entries, from_sorted, entries-from_sorted, find, put, is_sorted}
+use Rattle.hurd_machine.proofs.Common.{IsAmong, Name, NameMap, edit, entries, entries-insert, eq_by_cmp, get, insert, is_eq, name_cmp, put, retain_keys}
+use Rattle.std.specs.Ordering.{is_lt}
+use Rattle.std.specs.FinMap.{values, entries_sorted, get-entries, from_sorted, entries-from_sorted, find, is_sorted}
 use Rattle.std.specs.FinMap.Entries.{by_order, below_all, where_key, is_sorted-where_key, find-where_key}
 use Rattle.std.proofs.lemmas.List.Sums.{sum_by-cons}
-use Rattle.hurd_creds.specs.declared.name.Name.{Name}
-use Rattle.hurd_creds.specs.Names.{name_cmp}
-use Rattle.hurd_creds.specs.NameMaps.{NameMap, edit}
 use Rattle.hurd_creds.proofs.NameLaws.{name_total, name_exact, equal_if_tied, tied-itself, same_map_by, edit_found, edit_absent}
-use Rattle.hurd_machine.specs.World.{IsAmong}
 use Rattle.hurd_machine.proofs.Retained.{get-retained}
 
 -- lists in the order of their names

@@ -1,15 +1,10 @@
 -- One task changed: what stands at each place, how many rights pass a test, and names that stay given.
 use Rattle.std.proofs.Common.{◌≡◌, ◌⊎◌, ℕ, zero, suc, ◌+◌, ◌<◌, ◌≤◌, Bool, List, [], ◌∷◌, ◌++◌, map, Some, slice_get, append_assoc, sym, refl, ◌∙◌, ap, subst, inl, inr, arith}
 use Rattle.std.specs.Option.{option_map}
-use Rattle.hurd_creds.specs.declared.name.Name.{Name}
-use Rattle.hurd_ports.specs.declared.table.Right.{Right}
-use Rattle.hurd_ports.specs.Tables.{Task, rights_of, start_of, count_rights}
-use Rattle.hurd_ports.specs.Steps.{named, with_sent, edit_task}
+use Rattle.hurd_machine.proofs.Common.{Below, IsAmong, Name, Right, Task, World, count_list, count_rights, edit_task, one_if, rights_of, start_of, with_sent}
+use Rattle.hurd_ports.specs.Steps.{named}
 use Rattle.hurd_ports.proofs.TaskLaws.{one_or_other, set-cases, edit-found, edit-here, edit-apart}
 use Rattle.hurd_ports.proofs.WeightLaws.{weigh_append, weigh_edit, weigh_sent}
-use Rattle.hurd_machine.specs.World.{World, IsAmong}
-use Rattle.hurd_ports.specs.Weights.{one_if, count_list}
-use Rattle.hurd_machine.specs.Sound.{Below}
 use Rattle.hurd_machine.proofs.Nodes.{edited_from}
 
 -- a task afterwards is the changed one, or was there

@@ -1,21 +1,8 @@
 -- What a set of tasks sees is settled by the parts that it sees: where those are the same in two worlds, it sees the same
 -- parts in both.
 use Rattle.std.proofs.Common.{◌≡◌, inl, inr, ℕ, Bool, true, Some, sym, refl, ◌∙◌, ap, length, Option, None}
-use Rattle.hurd_creds.specs.declared.name.Name.{Name}
-use Rattle.hurd_creds.specs.declared.attrs.Want.{Want}
-use Rattle.hurd_creds.specs.declared.attrs.Want.TheVariants.{Read, Write, Exec}
-use Rattle.hurd_creds.specs.Access.{IdSets}
-use Rattle.hurd_trans_iface.specs.Nodes.{Header}
-use Rattle.hurd_trans_iface.specs.Answers.{entry_of}
-use Rattle.hurd_nodes.specs.Shown.{ServerInfo, info_in}
-use Rattle.hurd_ports.specs.declared.table.IoRight.{IoRight}
-use Rattle.hurd_ports.specs.declared.table.Right.{Right}
-use Rattle.hurd_ports.specs.declared.table.Right.TheVariants.{Io, Control, Start}
-use Rattle.hurd_machine.specs.World.{World, task_at, open_at, header_at, body_at, home_at, active_at, server_at, counts_at}
-use Rattle.hurd_machine.specs.Sight.{Holds, HasUid, UidOfTask, UidOfRight, HasGid, GidOfTask, GidOfRight, Taken, Could, Owns, Allowed, CouldServe, ToPut, tells}
-use Rattle.hurd_machine.specs.Sight.{Seen, Root, Held, Way, Controlled, Pending, Child, Parent, Active, ServerRoot, Target, Sends, ByControl, ByNode, BySeat, Knows, OfNode, OfSeat, OfControl, SeesBody, ToRead, ToSearch, IsOpen, SeesEmpty, ByBody, ByParent}
-use Rattle.hurd_machine.specs.Sight.{Part, AttrOf, EmptyOf, BodyOf, OpenOf, OptionsOf, UsersOf, TaskOf, Sees, part, SameView}
-use Rattle.hurd_nodes.specs.Needs.{counts_by}
+use Rattle.hurd_machine.proofs.Common.{Active, Allowed, AttrOf, BodyOf, ByBody, ByControl, ByNode, ByParent, BySeat, Child, Control, Could, CouldServe, EmptyOf, Exec, GidOfRight, GidOfTask, HasGid, HasUid, Header, Holds, IdSets, Io, IoRight, IsOpen, Knows, Name, OfControl, OfNode, OfSeat, OpenOf, OptionsOf, Owns, Part, Pending, Read, Right, SameView, Seen, Sees, SeesBody, SeesEmpty, Sends, ServerInfo, ServerRoot, Start, Taken, Target, TaskOf, ToPut, ToRead, ToSearch, UidOfRight, UidOfTask, UsersOf, Want, Way, World, Write, active_at, body_at, counts_at, counts_by, entry_of, header_at, home_at, info_in, open_at, part, server_at, task_at, tells}
+use Rattle.hurd_machine.specs.Sight.{Root, Held, Controlled, Parent}
 
 -- a server that S may send away it knows
 pub knows_of : (S : ℕ → Bool) (w : World) (s : Name) (i : ServerInfo) → Sends S w s i → Knows S w s

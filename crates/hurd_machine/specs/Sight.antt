@@ -12,7 +12,8 @@ use Rattle.hurd_creds.specs.Bits.{asks, READ, WRITE}
 use Rattle.hurd_trans_iface.specs.Nodes.{Header, Body, attrs_with, is_empty_dir}
 use Rattle.hurd_trans_iface.specs.Answers.{entry_of}
 use Rattle.hurd_nodes.specs.declared.seat.Site.{Site}
-use Rattle.hurd_nodes.specs.Held.{is_home}
+use Rattle.hurd_creds.specs.NameMaps.{NameMap}
+use Rattle.hurd_nodes.specs.Held.{home_in, is_home}
 use Rattle.hurd_nodes.specs.Shown.{ServerInfo, boot_name}
 use Rattle.hurd_ports.specs.declared.table.Opened.{Opened}
 use Rattle.hurd_ports.specs.declared.parents.Parent.{Parent as Pair}
@@ -147,11 +148,15 @@ Sees S w (OptionsOf s) = Knows S w s
 Sees S w (UsersOf s) = MaySend S w s
 Sees S w (TaskOf t) = S t ≡ true
 
+-- whether a right is to use a node that a server has, by these sites
+abbrev pub uses_server : NameMap Site → Name → Right → Bool
+uses_server sites s (Io r) = is_home s (home_in sites r.node)
+uses_server sites s (Control q) = false
+uses_server sites s (Start n) = false
+
 -- whether a right is on a node of the server
 abbrev pub is_on : World → Name → Right → Bool
-is_on w s (Io r) = is_home s (home_at w r.node)
-is_on w s (Control q) = false
-is_on w s (Start n) = false
+is_on w s r = uses_server w.sites s r
 
 -- how many rights name the open
 abbrev pub holders : World → Name → ℕ

@@ -8,6 +8,7 @@ ghost use Rattle.hurd_trans_iface.specs.Answers.{entry_of, names_of};
 ghost use Rattle.hurd_nodes.specs.Shown.{ServerInfo, server_of, shown, state_of, header_in, told_header, booted, is_root, are_kin, options_in, readable_at, tree_by, HideNothing};
 ghost use Rattle.hurd_trans_iface.specs.Meaning.{Begins, root_of};
 ghost use Rattle.hurd_nodes.specs.Needs.{counts_by};
+ghost use Rattle.hurd_nodes.specs.Settle.{AreServed};
 ghost use Rattle.hurd_nodes.specs.Held.{active_in, box_by, home_in, mean};
 
 use crate::asking::has_tree;
@@ -120,6 +121,13 @@ impl<S: Server> Nodes<S> {
         ensures { result ≡ home_in (shown S.meaning self.now).sites node }
     {
         home_of(&self.sites, node)
+    }
+
+    /// The server of each node is there.
+    pub fn nodes_are_served(&self)
+        ensures { AreServed (shown S.meaning self.now) }
+    {
+        let _ = &self.sites;
     }
 
     /// The server that is active on a node, if one is.

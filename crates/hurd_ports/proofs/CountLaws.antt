@@ -1,5 +1,5 @@
 -- What is counted of the names that rights have.
-use Rattle.std.proofs.Common.{◌≡◌, inl, inr, ℕ, zero, suc, ◌+◌, ◌*◌, ◌<◌, ◌≤◌, List, [], ◌∷◌, ◌++◌, Bool, true, false, cond, map, length, drop, refl, sym, ap, ◌∙◌, arith, add-one, length-append}
+use Rattle.std.proofs.Common.{◌≡◌, inl, inr, ℕ, zero, suc, ◌+◌, ◌*◌, ◌<◌, ◌≤◌, ◌||◌, List, [], ◌∷◌, ◌++◌, Bool, true, false, cond, map, length, drop, refl, sym, ap, ◌∙◌, arith, add-one, length-append}
 use Rattle.std.proofs.lemmas.List.{drop_all, length-map, length-set}
 use Rattle.std.specs.Prelude.{Option, Some, None, Result, Ok, Err, IsOk, OnErr, slice_get, slice_set, slice_index_or, nat_lt}
 use Rattle.indexmap.specs.IndexMap.{IndexMap, get}
@@ -15,34 +15,34 @@ use Rattle.hurd_ports.specs.declared.table.Port.{Port}
 use Rattle.hurd_ports.specs.declared.table.Right.{Right}
 use Rattle.hurd_ports.specs.declared.table.Right.TheVariants.{Io, Control, Start}
 use Rattle.hurd_ports.specs.declared.table.TaskSeat.{TaskSeat}
-use Rattle.hurd_ports.specs.Weights.{count_list, one_if, weigh_list}
-use Rattle.hurd_ports.specs.Tables.{Task, count_rights, is_controlled, is_held, is_named, names_node, names_open, names_server, rights_of, start_of, ways_of, weigh_rights}
+use Rattle.hurd_ports.specs.Weights.{count_list, if_so, one_if, weigh_list}
+use Rattle.hurd_ports.specs.Tables.{Task, count_rights, is_controlled, is_held, is_named, names_node, names_open, names_server, nodes_of, rights_of, start_of, uses_node, ways_of, weigh_rights}
 use Rattle.hurd_ports.specs.Steps.{new_task}
-use Rattle.hurd_ports.specs.Counts.{AreCounted, Nodes, Opens, Servers, Sort, count_of, counted, excess, most_counted, names_of, naming, or_none}
+use Rattle.hurd_ports.specs.Counts.{AreCounted, Besides, Opens, Servers, Sort, Uses, count_of, counted, excess, most_counted, naming, or_none}
 use Rattle.hurd_ports.specs.Seats.{seat_task, tasks_of}
 use Rattle.hurd_ports.proofs.SeatLaws.{seat-there, seat-changed}
 use Rattle.hurd_ports.proofs.HeldLaws.{held_counted, one_told}
-use Rattle.hurd_ports.proofs.WeightLaws.{list_weighed, tasks_weighed, weigh_alike, weigh_append, weigh_at, weigh_bound, weigh_set}
+use Rattle.hurd_ports.proofs.WeightLaws.{either_weighed, list_weighed, tasks_weighed, weigh_alike, weigh_append, weigh_at, weigh_both, weigh_bound, weigh_set}
 
 module _ {S : Type 0} (m l : IndexMap Name ℕ S) (n : Name) where
-  -- one more is counted
-  pub count-added : (k : ℕ) → k ≡ counted m.entries n → ((q : Name) → get same_name l q ≡ cond (same_name n q) (Some (k + 1)) (get same_name m q))
-      → (o : Name) → counted l.entries o ≡ counted m.entries o + one_if (same_name o n)
-  count-added k is w o = elim (same_or_apart o n) [
-    | inl e ↦ rw (e, same_name-itself n) (ap or_none (w n ∙ ap (λ (b : Bool). cond b (Some (k + 1)) (get same_name m n)) (same_name-itself n)) ∙ ap (λ (j : ℕ). j + 1) is)
+  -- so many more are counted
+  pub count-added : (k j : ℕ) → k ≡ counted m.entries n → ((q : Name) → get same_name l q ≡ cond (same_name n q) (Some (k + j)) (get same_name m q))
+      → (o : Name) → counted l.entries o ≡ counted m.entries o + if_so (same_name o n) j
+  count-added k j is w o = elim (same_or_apart o n) [
+    | inl e ↦ rw (e, same_name-itself n) (ap or_none (w n ∙ ap (λ (b : Bool). cond b (Some (k + j)) (get same_name m n)) (same_name-itself n)) ∙ ap (λ (i : ℕ). i + j) is)
     | inr apart ↦
         let other = same_name-apart n o (λ e. apart (sym e)) in
-        rw (same_name-apart o n apart) (ap or_none (w o ∙ ap (λ (b : Bool). cond b (Some (k + 1)) (get same_name m o)) other) ∙ no_more (counted m.entries o))
+        rw (same_name-apart o n apart) (ap or_none (w o ∙ ap (λ (b : Bool). cond b (Some (k + j)) (get same_name m o)) other) ∙ no_more (counted m.entries o))
   ]
     where
       no_more : (a : ℕ) → a ≡ a + 0
       no_more a = omega arith
 
-  -- one less is, where none is written if none is left
-  pub count-less : (k : ℕ) (v : Option ℕ) → k ≡ counted m.entries n → or_none v + 1 ≡ k → ((q : Name) → get same_name l q ≡ cond (same_name n q) v (get same_name m q))
-      → (o : Name) → counted l.entries o + one_if (same_name o n) ≡ counted m.entries o
-  count-less k v is less w o = elim (same_or_apart o n) [
-    | inl e ↦ rw (e, same_name-itself n) (ap (λ (x : ℕ). x + 1) (ap or_none (w n ∙ ap (λ (b : Bool). cond b v (get same_name m n)) (same_name-itself n))) ∙ less ∙ is)
+  -- so many less are, where none is written if none is left
+  pub count-less : (k j : ℕ) (v : Option ℕ) → k ≡ counted m.entries n → or_none v + j ≡ k → ((q : Name) → get same_name l q ≡ cond (same_name n q) v (get same_name m q))
+      → (o : Name) → counted l.entries o + if_so (same_name o n) j ≡ counted m.entries o
+  count-less k j v is less w o = elim (same_or_apart o n) [
+    | inl e ↦ rw (e, same_name-itself n) (ap (λ (x : ℕ). x + j) (ap or_none (w n ∙ ap (λ (b : Bool). cond b v (get same_name m n)) (same_name-itself n))) ∙ less ∙ is)
     | inr apart ↦
         let other = same_name-apart n o (λ e. apart (sym e)) in
         rw (same_name-apart o n apart) (no_less (counted l.entries o) ∙ ap or_none (w o ∙ ap (λ (b : Bool). cond b v (get same_name m o)) other))
@@ -99,8 +99,18 @@ opens_told n (Io r) = omega (arith, ap one_if (name_turned r.open_name n))
 opens_told n (Control s) = refl
 opens_told n (Start m) = refl
 
-nodes_told : (n : Name) (r : Right) → names_node n r ≡ nat_lt 0 (naming Nodes n r)
-nodes_told n r = list_weighed (λ m. same_name n m) (λ m. one_if (same_name n m)) (λ m. one_told (same_name n m)) (names_of Nodes r)
+uses_told : (n : Name) (r : Right) → one_if (uses_node n r) ≡ naming Uses n r
+uses_told n (Io r) = omega arith
+uses_told n (Control s) = refl
+uses_told n (Start m) = refl
+
+nodes_told : (n : Name) (r : Right) → names_node n r ≡ nat_lt 0 (naming Uses n r + naming Besides n r)
+nodes_told n r = list_weighed (λ m. same_name n m) (λ m. one_if (same_name n m)) (λ m. one_told (same_name n m)) (nodes_of r) ∙ ap (nat_lt 0) (parts r)
+  where
+    parts : (r : Right) → count_list (same_name n) (nodes_of r) ≡ naming Uses n r + naming Besides n r
+    parts (Io r) = omega arith
+    parts (Control s) = refl
+    parts (Start m) = omega arith
 
 servers_told : (n : Name) (r : Right) → names_server n r ≡ nat_lt 0 (naming Servers n r)
 servers_told n (Io r) = refl
@@ -109,9 +119,14 @@ servers_told n (Start m) = refl
 
 -- and the same of all rights
 
-pub named-counted : (ts : List Task) (n : Name) → is_named ts n ≡ nat_lt 0 (weigh_rights (naming Nodes n) ts)
+pub named-counted : (ts : List Task) (n : Name) → is_named ts n ≡ (nat_lt 0 (weigh_rights (naming Uses n) ts) || nat_lt 0 (weigh_rights (naming Besides n) ts))
 unfolding is_named
-named-counted ts n = tasks_weighed (names_node n) (naming Nodes n) (nodes_told n) ts
+named-counted ts n =
+    tasks_weighed (names_node n) (λ r. naming Uses n r + naming Besides n r) (nodes_told n) ts
+    ∙ ap (nat_lt 0) (weigh_both (naming Uses n) (naming Besides n) ts) ∙ sym (either_weighed (weigh_rights (naming Uses n) ts) (weigh_rights (naming Besides n) ts))
+
+pub uses-counted : (ts : List Task) (n : Name) → count_rights (uses_node n) ts ≡ weigh_rights (naming Uses n) ts
+uses-counted ts n = weigh_alike (λ r. one_if (uses_node n r)) (naming Uses n) (uses_told n) ts
 
 pub controlled-counted : (ts : List Task) (n : Name) → is_controlled ts n ≡ nat_lt 0 (weigh_rights (naming Servers n) ts)
 unfolding is_controlled
@@ -143,14 +158,17 @@ module _ (b l : Book) (ss : List TaskSeat) (t : ℕ) (s new : TaskSeat) (at : sl
 
 -- a count fits
 
--- a right whose ways are short names a thing 129 times at most
+-- a right whose ways are short names a thing 129 times at most; no more is asked here of what rights weigh
 naming_most : (k : Sort) (n : Name) (r : Right) → excess r ≡ 0 → naming k n r ≤ 129
 naming_most Opens n (Io r) short = omega (arith, one_at_most (same_name n r.open_name))
 naming_most Opens n (Control s) short = omega arith
 naming_most Opens n (Start m) short = omega arith
-naming_most Nodes n (Io r) short = omega (arith, one_at_most (same_name n r.node), ways_most (same_name n) r.parents)
-naming_most Nodes n (Control s) short = omega arith
-naming_most Nodes n (Start m) short = omega (arith, one_at_most (same_name n m))
+naming_most Uses n (Io r) short = omega (arith, one_at_most (same_name n r.node))
+naming_most Uses n (Control s) short = omega arith
+naming_most Uses n (Start m) short = omega arith
+naming_most Besides n (Io r) short = omega (arith, ways_most (same_name n) r.parents)
+naming_most Besides n (Control s) short = omega arith
+naming_most Besides n (Start m) short = omega (arith, one_at_most (same_name n m))
 naming_most Servers n (Io r) short = omega arith
 naming_most Servers n (Control s) short = omega (arith, one_at_most (same_name n s))
 naming_most Servers n (Start m) short = omega arith
@@ -169,16 +187,21 @@ rights_few s =
     started None = omega arith
     started (Some x) = omega arith
 
-seats_few : (k : Sort) (n : Name) (ss : List TaskSeat) → weigh_rights excess (tasks_of ss) ≡ 0 → weigh_rights (naming k n) (tasks_of ss) ≤ length ss * 2379629985508532158464
-seats_few k n [] short = omega arith
-seats_few k n (s ∷ ss) short =
-    let one = weigh_bound (naming k n) excess 129 (naming_most k n) (rights_of (seat_task s)) (omega arith) in
+seats_few : (W : Right → ℕ) → ((r : Right) → excess r ≡ 0 → W r ≤ 129) → (ss : List TaskSeat) → weigh_rights excess (tasks_of ss) ≡ 0 → weigh_rights W (tasks_of ss) ≤ length ss * 2379629985508532158464
+seats_few W each [] short = omega arith
+seats_few W each (s ∷ ss) short =
+    let one = weigh_bound W excess 129 each (rights_of (seat_task s)) (omega arith) in
     let few = rights_few s in
-    let rest = seats_few k n ss (omega arith) in
+    let rest = seats_few W each ss (omega arith) in
     omega arith
 
-pub counts-fit : (b : Book) (ss : List TaskSeat) → AreCounted b (tasks_of ss) → (k : Sort) (n : Name) → count_of k n b ≤ most_counted
-counts-fit b ss counts k n = omega (arith, seats_few k n ss counts.short, counts.all k n, counts.few, length-map ss seat_task)
+module _ (b : Book) (ss : List TaskSeat) (counts : AreCounted b (tasks_of ss)) where
+  pub counts-fit : (k : Sort) (n : Name) → count_of k n b ≤ most_counted
+  counts-fit k n = omega (arith, seats_few (naming k n) (naming_most k n) ss counts.short, counts.all k n, counts.few, length-map ss seat_task)
+
+  -- so does a count of rights that pass a test
+  pub rights-fit : (T : Right → Bool) → count_rights T (tasks_of ss) ≤ most_counted
+  rights-fit T = omega (arith, seats_few (λ r. one_if (T r)) (λ r short. omega (arith, one_at_most (T r))) ss counts.short, counts.few, length-map ss seat_task)
 
 -- the right that a pending start is, is counted
 pub start-counted : (b : Book) (ss : List TaskSeat) (t : ℕ) (s : TaskSeat) → slice_get ss t ≡ Some s → AreCounted b (tasks_of ss) → (k : Sort) (n : Name) → weigh_list (naming k n) (start_of s.pending) ≤ count_of k n b

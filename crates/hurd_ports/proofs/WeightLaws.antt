@@ -30,7 +30,7 @@ weigh_bound W V m each [] none = omega arith
 weigh_bound W V m each (x ∷ xs) none = let one = each x (omega arith) in let rest = weigh_bound W V m each xs (omega arith) in omega arith
 
 -- some of a list passes a test where the list weighs anything
-either_weighed : (a b : ℕ) → (nat_lt 0 a || nat_lt 0 b) ≡ nat_lt 0 (a + b)
+pub either_weighed : (a b : ℕ) → (nat_lt 0 a || nat_lt 0 b) ≡ nat_lt 0 (a + b)
 either_weighed zero b = ap (λ n. nat_lt 0 n) (omega arith)
 either_weighed (suc a) b = grind (arith, nat_tests)
 
@@ -49,6 +49,15 @@ tasks_weighed T W same (x ∷ ts) = rw (list_weighed T W same (rights_of x), tas
 pub weigh_alike : (V W : Right → ℕ) → ((r : Right) → V r ≡ W r) → (ts : List Task) → weigh_rights V ts ≡ weigh_rights W ts
 weigh_alike V W same [] = refl
 weigh_alike V W same (x ∷ ts) = rw (weigh_list_alike V W same (rights_of x), weigh_alike V W same ts) refl
+
+-- what each weighs by two measures together, all weigh by both
+list_both : {X : Type 0} (V W : X → ℕ) (xs : List X) → weigh_list (λ x. V x + W x) xs ≡ weigh_list V xs + weigh_list W xs
+list_both V W [] = refl
+list_both V W (x ∷ xs) = omega (arith, list_both V W xs)
+
+pub weigh_both : (V W : Right → ℕ) (ts : List Task) → weigh_rights (λ r. V r + W r) ts ≡ weigh_rights V ts + weigh_rights W ts
+weigh_both V W [] = refl
+weigh_both V W (x ∷ ts) = omega (arith, list_both V W (rights_of x), weigh_both V W ts)
 
 -- with a task in place of another
 pub weigh_set : (W : Right → ℕ) (ts : List Task) (q : ℕ) (x y : Task) → slice_get ts q ≡ Some x → weigh_rights W (slice_set ts q y) + weigh_list W (rights_of x) ≡ weigh_rights W ts + weigh_list W (rights_of y)

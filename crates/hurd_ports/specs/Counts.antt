@@ -7,15 +7,17 @@ use Rattle.hurd_creds.specs.Names.{same_name}
 use Rattle.hurd_creds.specs.Limits.{most_tasks}
 use Rattle.hurd_ports.specs.Limits.{most_parents}
 use Rattle.hurd_ports.specs.Weights.{count_list}
-use Rattle.hurd_ports.specs.Tables.{Task, nodes_of, weigh_rights}
+use Rattle.hurd_ports.specs.Tables.{Task, ways_of, weigh_rights}
 use Rattle.hurd_ports.specs.declared.table.Right.{Right}
 use Rattle.hurd_ports.specs.declared.table.Right.TheVariants.{Io, Control, Start}
 use Rattle.hurd_ports.specs.declared.book.Book.{Book}
 
--- what can be named: an open, a node, a server
+-- what can be named: an open; a node, as that which a right is to use, or besides: both of each way, and that on which a translator is to
+-- start; a server
 pub data Sort : Type 0 where
   Opens : Sort
-  Nodes : Sort
+  Uses : Sort
+  Besides : Sort
   Servers : Sort
 
 -- the names of a sort that a right has
@@ -23,7 +25,12 @@ abbrev pub names_of : Sort → Right → List Name
 names_of Opens (Io r) = r.open_name ∷ []
 names_of Opens (Control s) = []
 names_of Opens (Start n) = []
-names_of Nodes r = nodes_of r
+names_of Uses (Io r) = r.node ∷ []
+names_of Uses (Control s) = []
+names_of Uses (Start n) = []
+names_of Besides (Io r) = ways_of r.parents
+names_of Besides (Control s) = []
+names_of Besides (Start n) = n ∷ []
 names_of Servers (Io r) = []
 names_of Servers (Control s) = s ∷ []
 names_of Servers (Start n) = []
@@ -50,7 +57,8 @@ counted es n = or_none (lookup (same_name n) es)
 -- the counts of a sort
 abbrev pub entries_of : Sort → Book → List (Name × ℕ)
 entries_of Opens b = b.opens.entries
-entries_of Nodes b = b.nodes.entries
+entries_of Uses b = b.uses.entries
+entries_of Besides b = b.besides.entries
 entries_of Servers b = b.servers.entries
 
 -- how often something is counted
@@ -64,13 +72,15 @@ is_counted k b n = nat_lt 0 (count_of k n b)
 -- for how many names more of a sort there is room in memory
 abbrev pub room_in : Sort → Book → ℕ
 room_in Opens b = spare b.opens
-room_in Nodes b = spare b.nodes
+room_in Uses b = spare b.uses
+room_in Besides b = spare b.besides
 room_in Servers b = spare b.servers
 
--- how many names of a sort a right can have: of nodes its own, and two for each way
+-- how many names of a sort a right can have: of nodes besides its own two for each way
 abbrev pub room_for : Sort → ℕ
 room_for Opens = 1
-room_for Nodes = 1 + 2 * most_parents
+room_for Uses = 1
+room_for Besides = 2 * most_parents
 room_for Servers = 1
 
 -- there is room for what one right names

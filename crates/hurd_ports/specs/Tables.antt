@@ -176,6 +176,12 @@ nodes_of (Io r) = r.node ∷ ways_of r.parents
 nodes_of (Control s) = []
 nodes_of (Start n) = n ∷ []
 
+-- whether a right is to use the node
+abbrev pub uses_node : Name → Right → Bool
+uses_node n (Io r) = same_name n r.node
+uses_node n (Control s) = false
+uses_node n (Start m) = false
+
 abbrev pub names_node : Name → Right → Bool
 names_node n r = list_any (λ m. same_name n m) (nodes_of r)
 

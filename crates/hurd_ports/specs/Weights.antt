@@ -1,10 +1,14 @@
 -- What the things of a list weigh together, and how many of them pass a test.
 use Rattle.std.specs.Prelude.{ℕ, ◌+◌, Bool, true, false, List, [], ◌∷◌}
 
--- 1 where the test holds, else 0
+-- a number where the test holds, else 0
+abbrev pub if_so : Bool → ℕ → ℕ
+if_so true k = k
+if_so false k = 0
+
+-- 1 where it does
 abbrev pub one_if : Bool → ℕ
-one_if true = 1
-one_if false = 0
+one_if b = if_so b 1
 
 -- the sum of what those of a list weigh
 abbrev pub weigh_list : {X : Type 0} → (X → ℕ) → List X → ℕ

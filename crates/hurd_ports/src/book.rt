@@ -1,30 +1,28 @@
 //! How often rights name each open, node and server.
-ghost use Rattle.std.specs.Prelude.{◌≡◌, ◌≤◌, ◌<◌, ◌+◌, length, OnOk};
+ghost use Rattle.std.specs.Prelude.{◌≡◌, ◌≤◌, ◌+◌, ◌||◌, length, OnOk};
 ghost use Rattle.indexmap.specs.IndexMap.{spare};
 ghost use Rattle.hurd_creds.specs.Names.{same_name};
 ghost use Rattle.hurd_creds.specs.declared.name.Name.{Name};
 ghost use Rattle.hurd_ports.specs.Limits.{most_parents};
-ghost use Rattle.hurd_ports.specs.Weights.{count_list, one_if, weigh_list};
+ghost use Rattle.hurd_ports.specs.Weights.{count_list, weigh_list};
 ghost use Rattle.hurd_ports.specs.Tables.{start_of, ways_of};
-ghost use Rattle.hurd_ports.specs.Counts.{HasRoom, Nodes, Opens, Servers, Sort, count_of, counted, excess, is_counted, most_counted, naming};
+ghost use Rattle.hurd_ports.specs.Counts.{Besides, HasRoom, Opens, Servers, Sort, Uses, count_of, counted, excess, is_counted, most_counted, naming};
 
+use crate::counts::{Counts, add, count, subtract};
 use crate::parents::{MOST_PARENTS, Parent};
 use crate::table::{PendingStart, Right};
-use hurd_creds::{Name, NodeName, OpenName, ServerName};
-use indexmap::IndexMap;
+use hurd_creds::{NodeName, OpenName, ServerName};
 use std::alloc::{AllocError, Global};
 
-/// How often rights name something, where any does.
-type Counts = IndexMap<Name, u128>;
+/// What one right can name of nodes besides its own: two for each way.
+const MOST_BESIDES: usize = 2 * MOST_PARENTS;
 
-/// What one right can name of nodes: its own, and two for each way.
-const MOST_NODES: usize = 1 + 2 * MOST_PARENTS;
-
-/// How often rights name each open, node and server.
+/// How often rights name each open, each node as what they are to use and besides, and each server.
 #[derive(Drop)]
 pub(crate) struct Book {
     pub(crate) opens: Counts,
-    pub(crate) nodes: Counts,
+    pub(crate) uses: Counts,
+    pub(crate) besides: Counts,
     pub(crate) servers: Counts,
 }
 
@@ -35,7 +33,8 @@ impl Book {
     {
         Book {
             opens: Counts::new(alloc),
-            nodes: Counts::new(alloc),
+            uses: Counts::new(alloc),
+            besides: Counts::new(alloc),
             servers: Counts::new(alloc),
         }
     }
@@ -46,7 +45,8 @@ impl Book {
         ensures room { OnOk result (HasRoom self.new) }
     {
         self.opens.reserve(1)?;
-        self.nodes.reserve(MOST_NODES)?;
+        self.uses.reserve(1)?;
+        self.besides.reserve(MOST_BESIDES)?;
         self.servers.reserve(1)
     }
 
@@ -59,12 +59,12 @@ impl Book {
     {
         match right {
             Right::Io(right) => {
-                add(&mut self.opens, right.open_name);
-                add(&mut self.nodes, right.node);
-                add_ways(&mut self.nodes, right.parents.as_slice());
+                add(&mut self.opens, right.open_name, 1);
+                add(&mut self.uses, right.node, 1);
+                add_ways(&mut self.besides, right.parents.as_slice());
             }
-            Right::Control(server) => add(&mut self.servers, *server),
-            Right::Start(node) => add(&mut self.nodes, *node),
+            Right::Control(server) => add(&mut self.servers, *server, 1),
+            Right::Start(node) => add(&mut self.besides, *node, 1),
         }
     }
 
@@ -75,12 +75,12 @@ impl Book {
     {
         match right {
             Right::Io(right) => {
-                subtract(&mut self.opens, right.open_name);
-                subtract(&mut self.nodes, right.node);
-                subtract_ways(&mut self.nodes, right.parents.as_slice());
+                subtract(&mut self.opens, right.open_name, 1);
+                subtract(&mut self.uses, right.node, 1);
+                subtract_ways(&mut self.besides, right.parents.as_slice());
             }
-            Right::Control(server) => subtract(&mut self.servers, *server),
-            Right::Start(node) => subtract(&mut self.nodes, *node),
+            Right::Control(server) => subtract(&mut self.servers, *server, 1),
+            Right::Start(node) => subtract(&mut self.besides, *node, 1),
         }
     }
 
@@ -90,7 +90,7 @@ impl Book {
         ensures { (k : Sort) (n : Name) → count_of k n self.new + weigh_list (naming k n) (start_of pending.now) ≡ count_of k n self.old }
     {
         if let Some(start) = pending {
-            subtract(&mut self.nodes, start.node);
+            subtract(&mut self.besides, start.node, 1);
         }
     }
 
@@ -108,11 +108,18 @@ impl Book {
         count(&self.opens, name) > 0
     }
 
-    /// Whether a right names the node.
-    pub(crate) fn names_node(&self, name: NodeName) -> bool
-        ensures { result ≡ is_counted Nodes self.now name }
+    /// How many rights are to use the node.
+    pub(crate) fn use_count(&self, name: NodeName) -> u128
+        ensures { result ≡ count_of Uses name self.now }
     {
-        count(&self.nodes, name) > 0
+        count(&self.uses, name)
+    }
+
+    /// Whether a right names the node, as what it is to use, or besides.
+    pub(crate) fn names_node(&self, name: NodeName) -> bool
+        ensures { result ≡ (is_counted Uses self.now name || is_counted Besides self.now name) }
+    {
+        count(&self.uses, name) > 0 || count(&self.besides, name) > 0
     }
 
     /// Whether a right controls the server.
@@ -120,40 +127,6 @@ impl Book {
         ensures { result ≡ is_counted Servers self.now name }
     {
         count(&self.servers, name) > 0
-    }
-}
-
-/// How often the name is counted.
-fn count(counts: &Counts, name: Name) -> u128
-    ensures { result ≡ counted counts.now.entries name }
-{
-    match counts.get(&name) {
-        Some(count) => *count,
-        None => 0,
-    }
-}
-
-/// Counts the name once more. There is room for one name more.
-fn add(counts: &mut Counts, name: Name)
-    requires room { 0 < spare counts.old }
-    requires fits { counted counts.old.entries name < u128.MAX }
-    ensures more { (n : Name) → counted counts.new.entries n ≡ counted counts.old.entries n + one_if (same_name n name) }
-    ensures room { spare counts.old ≤ spare counts.new + 1 }
-{
-    let count = count(counts, name);
-    counts.insert(name, count + 1).unwrap();
-}
-
-/// Counts the name once less.
-fn subtract(counts: &mut Counts, name: Name)
-    requires { 0 < counted counts.old.entries name }
-    ensures { (n : Name) → counted counts.new.entries n + one_if (same_name n name) ≡ counted counts.old.entries n }
-{
-    let count = count(counts, name);
-    if count > 1 {
-        counts.insert(name, count - 1).unwrap();
-    } else {
-        counts.swap_remove(&name);
     }
 }
 
@@ -165,8 +138,8 @@ fn add_ways(nodes: &mut Counts, ways: &[Parent])
     ensures { (n : Name) → counted nodes.new.entries n ≡ counted nodes.old.entries n + count_list (same_name n) (ways_of ways.now) }
 {
     for way in ways {
-        add(nodes, way.at);
-        add(nodes, way.parent);
+        add(nodes, way.at, 1);
+        add(nodes, way.parent, 1);
     }
 }
 
@@ -176,7 +149,7 @@ fn subtract_ways(nodes: &mut Counts, ways: &[Parent])
     ensures { (n : Name) → counted nodes.new.entries n + count_list (same_name n) (ways_of ways.now) ≡ counted nodes.old.entries n }
 {
     for way in ways {
-        subtract(nodes, way.at);
-        subtract(nodes, way.parent);
+        subtract(nodes, way.at, 1);
+        subtract(nodes, way.parent, 1);
     }
 }

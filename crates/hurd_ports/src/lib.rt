@@ -11,13 +11,14 @@
 //!
 //! A port is filled into room that was reserved for it, so that nothing is left to fail once its node is made.
 //!
-//! How often rights name each open, node and server is counted as they come and go, so that it takes no search to know.
+//! How often rights name each open, node and server, and use each node, is counted as they come and go, so that it takes no search to know.
 //!
 //! It knows no nodes: a right may name one that is gone. What a right allows is for the calls to say.
 #![tactic(auto)]
 
 mod book;
 mod compare;
+pub mod counts;
 mod opens;
 mod parents;
 mod ports;

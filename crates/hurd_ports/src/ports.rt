@@ -1,14 +1,15 @@
 //! The tables of all tasks, and the opens.
-ghost use Rattle.std.specs.Prelude.{◌≡◌, ◌≤◌, ◌<◌, Some, None, Ok, Err, if◌then◌else◌, length, map, nat_lt, option_copied, slice_get, IfOk, IsSomeAnd};
+ghost use Rattle.std.specs.Prelude.{◌≡◌, ◌≤◌, ◌<◌, Bool, Some, None, Ok, Err, if◌then◌else◌, length, map, nat_lt, option_copied, slice_get, IfOk, IsSomeAnd};
 ghost use Rattle.std.specs.Option.{option_map};
 ghost use Rattle.std.specs.FinMap as fin;
 ghost use Rattle.hurd_creds.specs.Limits.{most_tasks};
 ghost use Rattle.hurd_creds.specs.Memory.{Meets, Steps};
 ghost use Rattle.hurd_creds.specs.declared.errno.Errno.{Errno};
-ghost use Rattle.hurd_ports.specs.Tables.{IsSettled, count_rights, fresh, ids_at, io_right_of, is_controlled, is_named, lent, names_open, naming_of, or_refuse, pending_of, right_of, room_of};
+ghost use Rattle.hurd_ports.specs.Tables.{IsSettled, count_rights, fresh, ids_at, io_right_of, is_controlled, is_named, lent, names_open, naming_of, or_refuse, pending_of, right_of, room_of, uses_node};
+ghost use Rattle.hurd_ports.specs.declared.table.Right.{Right};
 ghost use Rattle.hurd_ports.specs.Steps as step;
 ghost use Rattle.hurd_ports.specs.Counts as counts;
-ghost use Rattle.hurd_ports.specs.Counts.{is_counted};
+ghost use Rattle.hurd_ports.specs.Counts.{is_counted, most_counted};
 ghost use Rattle.hurd_ports.specs.Seats.{opens_of, seat_task, settled_by};
 
 use crate::book::Book;
@@ -181,6 +182,20 @@ impl Ports {
         ensures { result ≡ count_rights (names_open name) self.now.state.tasks }
     {
         self.book.open_count(name)
+    }
+
+    /// How many rights are to use the node, in tables and in inboxes. No search.
+    pub fn uses(&self, node: NodeName) -> u128
+        ensures { result ≡ count_rights (uses_node node) self.now.state.tasks }
+    {
+        self.book.use_count(node)
+    }
+
+    /// There are 2^100 rights at most, so that a count of them fits.
+    pub fn rights_are_few(&self)
+        ensures { (test : Right → Bool) → count_rights test self.now.state.tasks ≤ most_counted }
+    {
+        let _ = &self.book;
     }
 
     /// Whether a right names the node: one to use it, one that came in by a way over it, or a start that is pending. No search.

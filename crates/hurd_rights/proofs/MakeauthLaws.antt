@@ -1,16 +1,10 @@
 -- auth_makeauth: what it asks, from what the code reads of the task's ids.
 use Rattle.std.proofs.Common.{◌≡◌, ℕ, [], ◌∷◌, true, false, Option, Some, None, refl, sym, ap, subst}
 use Rattle.std.specs.Prelude.{Result, Ok, Err}
-use Rattle.hurd_creds.specs.declared.errno.Errno.{Errno}
-use Rattle.hurd_creds.specs.declared.errno.Errno.TheVariants.{EPERM, ESRCH}
-use Rattle.hurd_creds.specs.Access.{IdSets, may_take}
-use Rattle.hurd_ports.specs.Tables.{Task, ids_at, or_refuse, task_of}
-use Rattle.hurd_machine.specs.World.{World, ports_of, task_at}
-use Rattle.hurd_machine.specs.Plan.{Follows, answered, first, given}
-use Rattle.hurd_machine.specs.Change.{EditTask}
-use Rattle.hurd_machine.specs.Calls.{Reply}
+use Rattle.hurd_machine.proofs.Common.{EPERM, ESRCH, EditTask, Errno, IdSets, Reply, Task, World, answered, first, given, ids_at, or_refuse, ports_of, task_at, task_of, with_ids}
+use Rattle.hurd_creds.specs.Access.{may_take}
+use Rattle.hurd_machine.specs.Plan.{Follows}
 use Rattle.hurd_machine.specs.declared.call.Reply.TheVariants.{Done}
-use Rattle.hurd_ports.specs.Steps.{with_ids}
 use Rattle.hurd_rights.specs.Rights.{makeauth_asks, plan_makeauth}
 
 module _ (w : World) (t : ℕ) (ids : IdSets) where

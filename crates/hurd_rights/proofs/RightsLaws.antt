@@ -1,23 +1,18 @@
 -- The laws of the calls on rights and ids: a port that goes; a right that goes to any inbox, and one that comes from there; and
 -- other ids, which the task holds already.
 use Rattle.std.proofs.Common.{List, ℕ, refl, inl, ◌≡◌, ◌∙◌, Bool, true, Some, Ok, length, nat_lt, ap, inr, subst}
-use Rattle.hurd_ports.specs.Tables.{right_of, Task, first_sent, task_of}
+use Rattle.hurd_machine.proofs.Common.{Change, EOVERFLOW, EPERM, ESRCH, EWOULDBLOCK, IdSets, Nothing, OnDrop, OnRight, Plan, Right, Task, World, first_sent, ports_of, task_at, task_of}
+use Rattle.hurd_ports.specs.Tables.{right_of}
 use Rattle.hurd_machine.specs.declared.call.Reply.TheVariants.{Done, Port}
-use Rattle.hurd_machine.specs.World.{ports_of, World, task_at}
-use Rattle.hurd_machine.specs.Touched.{OnRight, OnDrop, Nothing}
-use Rattle.hurd_machine.specs.Change.{Change}
-use Rattle.hurd_machine.specs.Plan.{Plan}
 use Rattle.hurd_machine.proofs.Asks.{right_same, answered_same, has_right, right_plain, answered_plain, done_plain, IsPlain, holds_right, on_ok, given_ok, first_ok, on_same, given_same, first_same, on_plain, given_plain, first_plain, ok_plain, has_task, task_same, task_plain}
 use Rattle.hurd_machine.proofs.Opens.{own_task, drops_whole, dropping_same}
 use Rattle.hurd_machine.proofs.Piece.{stands}
 use Rattle.hurd_machine.proofs.CallLaws.{CallLaws, answered_piece, answered_whole}
 use Rattle.hurd_rights.specs.Rights.{plan_deallocate, touches_deallocate, plan_send, touches_send, plan_receive, touches_receive, makeauth_asks, plan_makeauth, touches_makeauth}
-use Rattle.hurd_creds.specs.declared.errno.Errno.TheVariants.{EOVERFLOW, ESRCH, EWOULDBLOCK, EPERM}
-use Rattle.hurd_ports.specs.declared.table.Right.{Right}
 use Rattle.hurd_machine.proofs.Views.{Agree, same_tasks}
 use Rattle.hurd_machine.proofs.Sending.{sends_whole, receives_whole}
 use Rattle.hurd_core.specs.Core.{send_asks, receive_asks}
-use Rattle.hurd_creds.specs.Access.{IdSets, may_take}
+use Rattle.hurd_creds.specs.Access.{may_take}
 use Rattle.hurd_machine.proofs.Sharing.{taken_taken}
 use Rattle.hurd_machine.proofs.Taking.{takes_whole}
 

@@ -3,17 +3,11 @@ use Rattle.std.proofs.Common.{◌≡◌, ◌∙◌, inl, inr, sym, refl, ap, sub
 use Rattle.std.specs.Prelude.{◌||◌, ◌&&◌, not}
 use Rattle.std.proofs.lemmas.Bool.{or_cases, or_left, or_right, and_parts, not-true, or_parts, false_from_ne_true, and_from, cases_Bool}
 use Rattle.std.proofs.lemmas.Bool.Decides.{nat_tests}
-use Rattle.std.specs.Ordering.{nat_cmp, eq_by_cmp, is_eq}
-use Rattle.std.specs.Cmp.{nat_cmp_total, tied_itself, Equal-is}
-use Rattle.std.specs.FinMap.{nat_cmp-IsAntisymmetric}
+use Rattle.hurd_machine.proofs.Common.{Allowed, Attrs, Could, HasGid, Header, IdSet, IdSets, Owns, Taken, Want, World, bare, eq_by_cmp, has_no_uids, holds_gid, holds_uid, is_eq, may, nat_cmp, nat_cmp-IsAntisymmetric, nat_cmp_total, owns, tied_itself}
+use Rattle.std.specs.Cmp.{Equal-is}
 use Rattle.std.specs.FinSet as set
-use Rattle.hurd_creds.specs.declared.attrs.Attrs.{Attrs}
-use Rattle.hurd_creds.specs.declared.attrs.Want.{Want}
-use Rattle.hurd_creds.specs.Access.{IdSet, IdSets, USE_UNK, group_bit, has_no_uids, holds_gid, holds_uid, is_root, may, others_bit, owns, unknown_bit}
+use Rattle.hurd_creds.specs.Access.{USE_UNK, group_bit, is_root, others_bit, unknown_bit}
 use Rattle.hurd_creds.specs.Bits.{has_bits}
-use Rattle.hurd_trans_iface.specs.Nodes.{Header}
-use Rattle.hurd_machine.specs.World.{World}
-use Rattle.hurd_machine.specs.Sight.{HasGid, Taken, Could, Owns, Allowed, bare}
 use Rattle.hurd_sight.specs.Reach.{CouldIsEnough, Reaches, could_with, others_or_group}
 use Rattle.hurd_sight.proofs.ReachLaws.{owns_is}
 

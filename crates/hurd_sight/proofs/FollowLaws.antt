@@ -5,9 +5,7 @@ use Rattle.std.specs.Option.{option_map}
 use Rattle.std.proofs.lemmas.Bool.{ltb-false, ltb-true}
 use Rattle.std.proofs.lemmas.List.{take-append-le}
 use Rattle.std.proofs.lemmas.Option.{get_or_from_slice_get, slice_get_within}
-use Rattle.hurd_creds.specs.declared.name.Name.{Name}
-use Rattle.hurd_creds.specs.Access.{IdSets}
-use Rattle.hurd_nodes.specs.Shown.{NodeState}
+use Rattle.hurd_machine.proofs.Common.{IdSets, Name, NodeState}
 use Rattle.hurd_sight.specs.Found.{Follows, FoundIsOne, gathered, of_node, of_nodes}
 use Rattle.hurd_sight.specs.declared.found.Why.{Why}
 use Rattle.hurd_sight.proofs.FoundLaws.{Entries, flat_next, gathered_both, gathered_grown}

@@ -1,17 +1,13 @@
 -- What is collected of nodes, one thing after another.
 use Rattle.std.proofs.Common.{◌≡◌, ◌∙◌, ◌⊎◌, inl, inr, sym, refl, ap, subst, ℕ, ◌+◌, ◌<◌, Bool, true, false, true≢false, if◌then◌else◌, List, [], ◌∷◌, ◌++◌, take, length, get_or, append_assoc, append-nil}
 use Rattle.std.specs.Prelude.{Option, Some, None, is_some}
-use Rattle.std.specs.List.{flat_map, list_any}
-use Rattle.std.specs.Map.{lookup}
+use Rattle.hurd_machine.proofs.Common.{IsAmong, Name, flat_map, list_any, lookup, same_name}
 use Rattle.indexmap.specs.IndexMap.{insert_entry}
 use Rattle.std.proofs.lemmas.Bool.{or_left, or_right, or_parts, cases_Bool}
 use Rattle.std.proofs.lemmas.List.{take_more}
 use Rattle.std.proofs.lemmas.List.Concat.{flat_map-append}
 use Rattle.std.proofs.lemmas.List.Folds.{list_any-append}
-use Rattle.hurd_creds.specs.declared.name.Name.{Name}
-use Rattle.hurd_creds.specs.Names.{same_name}
 use Rattle.hurd_creds.proofs.NameLaws.{same_name-itself}
-use Rattle.hurd_machine.specs.World.{IsAmong}
 use Rattle.hurd_sight.specs.Found.{found_more, gathered, is_found, why_of, with_why}
 use Rattle.hurd_sight.specs.declared.found.Why.{Why}
 use Rattle.hurd_machine.proofs.Tasks.{among_cases, among_left, among_right}

@@ -3,9 +3,8 @@ use Rattle.std.proofs.Common.{◌≡◌, ◌∙◌, ℕ, ◌+◌, ◌<◌, ◌||
 use Rattle.std.proofs.lemmas.Bool.Decides.{nat_tests}
 use Rattle.std.proofs.lemmas.List.Folds.{list_any-append, list_any_more}
 use Rattle.std.specs.Prelude.{nat_eq}
-use Rattle.std.specs.List.{list_any}
+use Rattle.hurd_machine.proofs.Common.{is_among, list_any}
 use Rattle.indexmap.specs.IndexSet.{insert_key}
-use Rattle.hurd_creds.specs.Access.{is_among}
 use Rattle.std.proofs.Math.Bool.{or-false, or_assoc}
 
 -- an id that is equal to one of a list is among these

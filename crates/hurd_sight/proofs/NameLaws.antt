@@ -1,18 +1,12 @@
 -- Names that are added, one thing after another.
 use Rattle.std.proofs.Common.{◌≡◌, ◌∙◌, ◌⊎◌, inl, inr, sym, refl, ap, subst, true, false, true≢false, List, [], ◌∷◌, ◌++◌, map}
 use Rattle.std.specs.Prelude.{◌||◌, ◌↔◌, Option, Some, None}
-use Rattle.std.specs.List.{flat_map}
+use Rattle.hurd_machine.proofs.Common.{IsAmong, Name, OpenMap, PendingStart, Right, Task, flat_map, rights_of, same_name, start_of}
 use Rattle.std.proofs.lemmas.Bool.{or_cases, or_left, or_right, cases_Bool}
 use Rattle.std.proofs.lemmas.List.{map-append}
 use Rattle.std.proofs.lemmas.List.Folds.{list_any-append}
-use Rattle.hurd_creds.specs.declared.name.Name.{Name}
-use Rattle.hurd_creds.specs.Names.{same_name}
 use Rattle.hurd_creds.proofs.NameLaws.{equal_if_same, same_name-itself}
-use Rattle.hurd_ports.specs.declared.table.PendingStart.{PendingStart}
 use Rattle.hurd_ports.specs.declared.table.Port.{Port}
-use Rattle.hurd_ports.specs.declared.table.Right.{Right}
-use Rattle.hurd_ports.specs.Tables.{OpenMap, Task, rights_of, start_of}
-use Rattle.hurd_machine.specs.World.{IsAmong}
 use Rattle.hurd_sight.specs.declared.held.RightNames.{RightNames}
 use Rattle.hurd_sight.specs.Parts.{is_in, named, named_more, no_names, with_right, with_rights}
 use Rattle.hurd_sight.proofs.WalkLaws.{Walk}

@@ -1,27 +1,16 @@
 -- What a node, a right and a task show: of what the code asks, and why it is shown.
 use Rattle.std.proofs.Common.{◌≡◌, ◌∙◌, ◌⊎◌, inl, inr, sym, refl, ap, subst, ℕ, Bool, true, false, true≢false, List, [], ◌∷◌, ◌++◌, map, if◌then◌else◌}
 use Rattle.std.specs.Prelude.{cond, Option, Some, None, option_and_then}
-use Rattle.std.specs.List.{flat_map}
+use Rattle.hurd_machine.proofs.Common.{Body, Content, Dir, Exec, Header, IdSets, IsAmong, Listing, Name, NodeState, ServerInfo, Task, active_in, bare, body_of, bytes_eq, entry_in, entry_of, flat_map, header_of, home_in, is_dir, names_of, rights_of, start_of}
 use Rattle.std.specs.Option.{option_map}
-use Rattle.std.specs.Str.{bytes_eq}
 use Rattle.std.specs.FinMap as fin
 use Rattle.std.proofs.lemmas.Bool.{and_parts}
-use Rattle.hurd_nodes.specs.Held.{home_in, active_in}
 use Rattle.hurd_nodes.proofs.PartLaws.{and_true}
 use Rattle.std.proofs.lemmas.List.Concat.{flat_map-append}
 use Rattle.std.proofs.lemmas.List.Folds.{flat_map-map}
-use Rattle.hurd_creds.specs.declared.name.Name.{Name}
-use Rattle.hurd_creds.specs.declared.attrs.Kind.TheVariants.{Dir}
-use Rattle.hurd_creds.specs.declared.attrs.Want.TheVariants.{Exec}
-use Rattle.hurd_creds.specs.Access.{IdSets}
-use Rattle.hurd_trans_iface.specs.Nodes.{Header, Body, Content, Listing, Entry, body_of, header_of, is_dir}
-use Rattle.hurd_trans_iface.specs.Answers.{entry_in, entry_of, names_of}
-use Rattle.hurd_nodes.specs.Shown.{NodeState, ServerInfo}
+use Rattle.hurd_trans_iface.specs.Nodes.{Entry}
 use Rattle.hurd_ports.specs.declared.table.Port.{Port}
-use Rattle.hurd_ports.specs.Tables.{Task, rights_of, start_of}
-use Rattle.hurd_machine.specs.World.{IsAmong}
 use Rattle.hurd_machine.proofs.Removals.{same_exact}
-use Rattle.hurd_machine.specs.Sight.{bare}
 use Rattle.hurd_sight.specs.Reach.{could_with, serves}
 use Rattle.hurd_sight.specs.Found.{all_of, gathered, names_told, of_active, of_children, of_entry, of_node, of_parent, of_right, of_server, of_target, of_targets, parent_in, root_of, root_served, searched_by, served_root, targets_of}
 use Rattle.hurd_sight.specs.declared.found.Why.{Why}

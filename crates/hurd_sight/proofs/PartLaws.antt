@@ -2,27 +2,11 @@
 use Rattle.std.proofs.Common.{◌≡◌, ◌∙◌, ◌⊎◌, inl, inr, sym, refl, ap, subst, ℕ, Bool, true, List, [], ◌∷◌, if◌then◌else◌}
 use Rattle.std.specs.Prelude.{◌↔◌, ◌||◌, ◌&&◌, not, is_some, Option, Some, slice_get}
 use Rattle.std.specs.FinMap as fin
-use Rattle.std.specs.List.{flat_map}
+use Rattle.hurd_machine.proofs.Common.{ByBody, ByControl, ByNode, ByParent, BySeat, Control, Could, CouldServe, Dir, Exec, Header, Holds, IdSets, Io, IoRight, IsAmong, IsOpen, Knows, MaySend, Name, NodeState, OfControl, OfNode, OfSeat, Opened, OwnsIt, PortState, READ, Read, Right, Seen, Sees, SeesBody, SeesEmpty, Sends, ServerInfo, Start, Task, TaskId, ToPut, ToRead, ToSearch, WRITE, Want, World, Write, active_at, asks, bare, boot_name, counts_at, flat_map, header_at, header_of, home_at, is_dir, open_at, owns, put, same_name, server_at, world_from}
 use Rattle.std.specs.Global.{Vec}
 use Rattle.std.proofs.lemmas.Bool.{or_cases, or_left, or_right, and_parts, and_from, not-true}
-use Rattle.std.specs.FinMap.{put}
-use Rattle.hurd_creds.specs.declared.name.Name.{Name}
-use Rattle.hurd_creds.specs.declared.name.TaskId.{TaskId}
-use Rattle.hurd_creds.specs.declared.attrs.Want.{Want}
-use Rattle.hurd_creds.specs.declared.attrs.Want.TheVariants.{Read, Write, Exec}
-use Rattle.hurd_creds.specs.Access.{IdSets, owns}
-use Rattle.hurd_creds.specs.Bits.{asks, READ, WRITE}
-use Rattle.hurd_creds.specs.Names.{same_name}
 use Rattle.hurd_creds.proofs.NameLaws.{equal_if_same, same_name-itself, apart_if_not_same, same_name-apart}
-use Rattle.hurd_trans_iface.specs.Nodes.{Header, header_of, is_dir}
-use Rattle.hurd_nodes.specs.Shown.{NodeState, ServerInfo, boot_name}
-use Rattle.hurd_ports.specs.declared.table.Opened.{Opened}
-use Rattle.hurd_ports.specs.declared.table.IoRight.{IoRight}
-use Rattle.hurd_ports.specs.Tables.{PortState, Task}
-use Rattle.hurd_ports.specs.declared.table.Right.{Right}
-use Rattle.hurd_ports.specs.declared.table.Right.TheVariants.{Io, Control, Start}
-use Rattle.hurd_machine.specs.World.{World, IsAmong, world_from, nodes_of, active_at, counts_at, header_at, home_at, open_at, server_at}
-use Rattle.hurd_machine.specs.Sight.{Could, CouldServe, Holds, OwnsIt, Seen, Sees, SeesBody, ToRead, ToSearch, ToPut, IsOpen, SeesEmpty, ByBody, ByParent, Knows, OfNode, OfSeat, OfControl, MaySend, Sends, ByControl, ByNode, BySeat, bare}
+use Rattle.hurd_machine.specs.World.{nodes_of}
 use Rattle.hurd_sight.specs.Reach.{Gathers, Reaches, among, could_with, serves}
 use Rattle.hurd_sight.specs.Found.{FoundAll, IsSight, is_found}
 use Rattle.hurd_sight.specs.declared.found.Why.{Why}
@@ -38,7 +22,6 @@ use Rattle.hurd_sight.proofs.FoundLaws.{Entries, among_flat, among_one, among_te
 use Rattle.hurd_sight.proofs.NameLaws.{kind_with, named_are}
 use Rattle.hurd_machine.proofs.Tasks.{among_cases, among_left, among_right}
 use Rattle.hurd_machine.proofs.Listed.{dir_kind}
-use Rattle.hurd_creds.specs.declared.attrs.Kind.TheVariants.{Dir}
 use Rattle.hurd_machine.proofs.Holders.{any_among}
 use Rattle.std.proofs.Math.Bool.{or-true}
 

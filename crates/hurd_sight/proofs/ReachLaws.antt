@@ -1,29 +1,18 @@
 -- What is gathered of ids, one thing after another, and that it is what a set of tasks can act with.
 use Rattle.std.proofs.Common.{◌≡◌, ◌∙◌, inl, inr, sym, refl, ap, ap₂, ℕ, zero, suc, ◌==◌, arith, Bool, true, false, true≢false, List, [], ◌∷◌, ◌++◌, map, subst}
 use Rattle.std.specs.Prelude.{◌↔◌, ◌||◌, Option, Some, None, Result, Ok, Err, IfOk, slice_get, nat_eq}
-use Rattle.std.specs.List.{list_any}
+use Rattle.hurd_machine.proofs.Common.{Control, CouldServe, GidOfRight, GidOfTask, HasGid, HasUid, Header, Holds, IdSet, IdSets, Io, IoRight, IsAmong, OwnsIt, PendingStart, Right, ServerInfo, Start, Task, TaskId, UidOfRight, UidOfTask, World, bare, eq_by_cmp, holds_gid, holds_uid, is_among, list_any, nat_cmp, owns, rights_of, start_of, task_at}
 use Rattle.std.proofs.lemmas.Bool.{or_cases, or_left, or_right}
 use Rattle.std.proofs.lemmas.Bool.Decides.{nat_tests}
 use Rattle.std.proofs.lemmas.List.Folds.{list_any-append}
-use Rattle.std.specs.Ordering.{eq_by_cmp, nat_cmp}
 use Rattle.std.specs.Cmp.{unsigned_tied}
 use Rattle.std.specs.FinSet as set
-use Rattle.hurd_creds.specs.declared.name.TaskId.{TaskId}
-use Rattle.hurd_creds.specs.Access.{IdSet, IdSets, holds_gid, holds_uid, is_among, is_root, owns}
-use Rattle.hurd_ports.specs.declared.table.IoRight.{IoRight}
+use Rattle.hurd_creds.specs.Access.{is_root}
 use Rattle.hurd_ports.specs.declared.table.Port.{Port}
-use Rattle.hurd_ports.specs.declared.table.PendingStart.{PendingStart}
-use Rattle.hurd_ports.specs.declared.table.Right.{Right}
-use Rattle.hurd_ports.specs.declared.table.Right.TheVariants.{Io, Control, Start}
-use Rattle.hurd_ports.specs.Tables.{Task, rights_of, start_of}
-use Rattle.hurd_machine.specs.World.{World, IsAmong, task_at}
-use Rattle.hurd_machine.specs.Sight.{HasUid, HasGid, UidOfTask, UidOfRight, GidOfTask, GidOfRight, Holds, CouldServe, OwnsIt, bare}
 use Rattle.hurd_sight.specs.Reach.{Gains, Gathers, ReachIsGathered, Serves, among, holds_at, right_holds, serves, some_holds, task_holds, Reaches}
 use Rattle.std.proofs.Math.Bool.{or-false, or_assoc}
 use Rattle.hurd_sight.proofs.WalkLaws.{Walk}
 use Rattle.hurd_machine.proofs.Holders.{any_among}
-use Rattle.hurd_trans_iface.specs.Nodes.{Header}
-use Rattle.hurd_nodes.specs.Shown.{ServerInfo}
 
 pub if_ok : {T E : Type 0} (r : Result T E) {P Q : T → Type 0} → ((x : T) → P x → Q x) → IfOk r P → IfOk r Q
 if_ok (Ok x) f p = f x p

@@ -1,19 +1,11 @@
 -- What is found from the rights of some tasks is what they see.
 use Rattle.std.proofs.Common.{◌≡◌, ◌∙◌, ◌⊎◌, inl, inr, sym, refl, ap, subst, ℕ, zero, suc, arith, Bool, true, true≢false, List, [], ◌∷◌, take, take_all, length}
 use Rattle.std.specs.Prelude.{Option, Some, None, slice_get}
-use Rattle.hurd_creds.specs.declared.name.Name.{Name}
-use Rattle.hurd_creds.specs.declared.name.TaskId.{TaskId}
-use Rattle.hurd_creds.specs.declared.attrs.Want.TheVariants.{Exec}
-use Rattle.hurd_creds.specs.Access.{IdSets}
-use Rattle.hurd_creds.specs.Names.{same_name}
+use Rattle.hurd_machine.proofs.Common.{Active, Child, Control, Exec, Holds, IdSets, Io, IoRight, IsAmong, Name, Pending, Right, Seen, ServerRoot, Start, Target, Task, TaskId, Way, World, boot_root, rights_of, same_name}
 use Rattle.hurd_creds.proofs.NameLaws.{equal_if_same, same_name-itself}
 use Rattle.hurd_ports.specs.declared.parents.Parent.{Parent as Pair}
-use Rattle.hurd_ports.specs.declared.table.IoRight.{IoRight}
-use Rattle.hurd_ports.specs.declared.table.Right.{Right}
-use Rattle.hurd_ports.specs.declared.table.Right.TheVariants.{Io, Control, Start}
-use Rattle.hurd_ports.specs.Tables.{Task, rights_of}
-use Rattle.hurd_machine.specs.World.{World, IsAmong, boot_root, nodes_of}
-use Rattle.hurd_machine.specs.Sight.{Holds, Seen, Root, Held, Way, Controlled, Pending, Child, Parent, Active, ServerRoot, Target}
+use Rattle.hurd_machine.specs.World.{nodes_of}
+use Rattle.hurd_machine.specs.Sight.{Root, Held, Controlled, Parent}
 use Rattle.hurd_sight.specs.Reach.{Reaches, among}
 use Rattle.hurd_sight.specs.Found.{FoundAll, FoundIsSeen, IsBefore, IsSight, IsWhy, found_from, gathered, is_found, of_active, of_children, of_node, of_nodes, of_parent, of_right, of_server, of_task, of_tasks, of_way, root_of}
 use Rattle.hurd_sight.specs.declared.found.Why.{Why}

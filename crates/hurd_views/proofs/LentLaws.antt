@@ -1,13 +1,7 @@
 -- What is said of the nodes and the ports that a core lends.
 use Rattle.std.proofs.Common.{◌≡◌, ℕ, List, subst}
-use Rattle.hurd_creds.specs.declared.name.Name.{Name}
-use Rattle.hurd_creds.specs.declared.name.TaskId.{TaskId}
-use Rattle.hurd_creds.specs.Access.{IdSets}
-use Rattle.hurd_trans_iface.specs.Meaning.{Meaning}
+use Rattle.hurd_machine.proofs.Common.{IdSets, Meaning, Name, Tables, TaskId, World, shown, world_from}
 use Rattle.hurd_nodes.specs.Held.{Held}
-use Rattle.hurd_nodes.specs.Shown.{shown}
-use Rattle.hurd_ports.specs.Tables.{Tables}
-use Rattle.hurd_machine.specs.World.{World, world_from}
 use Rattle.hurd_core.specs.Core.{Whole, world_of}
 use Rattle.hurd_sight.specs.Found.{FoundAll, IsSight}
 use Rattle.hurd_sight.specs.Reach.{Reaches, among}

@@ -1,12 +1,8 @@
 -- Some tasks have one view of a world.
 use Rattle.std.proofs.Common.{◌≡◌, ◌∙◌, sym, refl, ap, subst, ℕ, Bool, List, [], ◌∷◌, ◌++◌, map}
-use Rattle.std.specs.Cmp.{nat_cmp_total}
-use Rattle.std.specs.FinMap.{nat_cmp-IsAntisymmetric}
+use Rattle.hurd_machine.proofs.Common.{IdSets, Name, TaskId, World, nat_cmp-IsAntisymmetric, nat_cmp_total}
 use Rattle.std.specs.FinSet as set
-use Rattle.hurd_creds.specs.declared.name.Name.{Name}
-use Rattle.hurd_creds.specs.declared.name.TaskId.{TaskId}
-use Rattle.hurd_creds.specs.Access.{IdSets}
-use Rattle.hurd_machine.specs.World.{World, nodes_of}
+use Rattle.hurd_machine.specs.World.{nodes_of}
 use Rattle.hurd_sight.specs.Found.{FoundAll}
 use Rattle.hurd_sight.specs.Looks.{sees_with}
 use Rattle.hurd_sight.specs.Parts.{known_at, named, no_names, of_found, rights_held, with_rights}

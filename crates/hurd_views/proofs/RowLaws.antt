@@ -1,21 +1,15 @@
 -- Rows that are kept by name, filled in and compared.
 use Rattle.std.proofs.Common.{◌≡◌, ◌∙◌, inl, inr, sym, refl, ap, subst, ℕ, zero, suc, ◌+◌, ◌<◌, ◌≤◌, Bool, true, false, true≢false, List, [], ◌∷◌, ◌++◌, take, take_all, length, if◌then◌else◌, arith}
 use Rattle.std.specs.Prelude.{◌↔◌, ◌||◌, ◌&&◌, not, is_some, IsTrue, Option, Some, None, slice_get}
-use Rattle.std.specs.List.{list_any}
+use Rattle.hurd_machine.proofs.Common.{IsAmong, Name, World, boot_name, empty, list_any, lookup, put, same_name}
 use Rattle.std.specs.FinMap as fin
-use Rattle.std.specs.Map.{lookup}
 use Rattle.std.specs.Option.{option_map}
 use Rattle.std.proofs.lemmas.Bool.{or_cases, or_left, or_right}
 use Rattle.std.proofs.lemmas.List.{map-append, take_more}
 use Rattle.std.proofs.lemmas.Option.{get_or_from_slice_get, slice_get_cases}
 use Rattle.std.proofs.lemmas.List.Folds.{list_any-append}
 use Rattle.indexmap.specs.IndexMap.{insert_entry}
-use Rattle.std.specs.FinMap.{empty, put}
-use Rattle.hurd_creds.specs.declared.name.Name.{Name}
-use Rattle.hurd_creds.specs.Names.{same_name}
 use Rattle.hurd_creds.proofs.NameLaws.{equal_if_same, same_name-itself}
-use Rattle.hurd_nodes.specs.Shown.{boot_name}
-use Rattle.hurd_machine.specs.World.{World, IsAmong}
 use Rattle.hurd_sight.specs.Found.{is_found}
 use Rattle.hurd_sight.specs.Looks.{Looks}
 use Rattle.hurd_sight.specs.Parts.{is_in, maybe_named, named, named_more}

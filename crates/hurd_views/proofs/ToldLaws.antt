@@ -2,10 +2,7 @@
 use Rattle.std.proofs.Common.{◌≡◌, ◌∙◌, sym, refl, ap, ℕ, ◌+◌, ◌<◌, ◌≤◌, Bool, true, List, [], ◌∷◌, ◌++◌, take, take_all, length, get_or}
 use Rattle.std.specs.Prelude.{Option, Some, None}
 use Rattle.std.proofs.lemmas.List.{take_more}
-use Rattle.hurd_creds.specs.declared.name.Name.{Name}
-use Rattle.hurd_trans_iface.specs.Nodes.{Body}
-use Rattle.hurd_trans_iface.specs.Answers.{entry_of}
-use Rattle.hurd_ports.specs.declared.table.Opened.{Opened}
+use Rattle.hurd_machine.proofs.Common.{Body, Name, Opened, entry_of}
 use Rattle.hurd_views.specs.Views.{entry_before, rows_in, told_if}
 use Rattle.hurd_views.specs.declared.rows.EntryRow.{EntryRow}
 use Rattle.hurd_views.specs.declared.rows.OpenRow.{OpenRow}

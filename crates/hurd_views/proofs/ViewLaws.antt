@@ -6,21 +6,11 @@ use Rattle.std.specs.Option.{option_map}
 use Rattle.std.proofs.lemmas.Bool.{or_cases, or_left, or_right}
 use Rattle.std.proofs.lemmas.Slice.Eq.{bytes_eq-Decides}
 use Rattle.std.specs.Cmp.{unsigned_Decides}
-use Rattle.std.specs.Str.{bytes_eq}
-use Rattle.std.specs.FinMap.{empty}
+use Rattle.hurd_machine.proofs.Common.{ABody, ATask, AUsers, AnAttr, AnEmpty, AnOpen, AnOptions, AreDistinct, AttrOf, Attrs, Body, BodyOf, Content, EmptyOf, HasDistinctNames, Header, IdSets, IsAmong, Listing, Name, Node, OpenOf, OptionsOf, Part, SameView, Sees, ServerInfo, Sound, Task, TaskId, TaskOf, UsersOf, World, bare, body_at, bytes_eq, empty, entry_in, header_at, holders, is_empty_dir, open_at, options_of, part, server_at, site_at, task_at, users, words_at, words_in}
 use Rattle.hurd_nodes.proofs.Sites.{home_by, active_by, site_by}
-use Rattle.hurd_creds.specs.declared.name.Name.{Name}
-use Rattle.hurd_creds.specs.declared.name.TaskId.{TaskId}
-use Rattle.hurd_creds.specs.declared.attrs.Attrs.{Attrs}
-use Rattle.hurd_creds.specs.Access.{IdSets}
-use Rattle.hurd_trans_iface.specs.Nodes.{Body, Content, Listing, Entry, Header, Node, is_empty_dir}
-use Rattle.hurd_trans_iface.specs.Answers.{entry_in}
-use Rattle.hurd_trans_iface.specs.Meaning.{ServerKind, Tmpfs, Hello, Null, Zero, Symlink, Firmlink, Union, Magic, Drip, Fifo, all_kinds, behaviour_of, options_of}
-use Rattle.hurd_nodes.specs.Shown.{ServerInfo}
-use Rattle.hurd_ports.specs.Tables.{Task}
-use Rattle.hurd_machine.specs.World.{World, IsAmong, nodes_of, body_at, header_at, open_at, server_at, task_at, words_at, words_in, site_at}
-use Rattle.hurd_machine.specs.Sight.{Part, AttrOf, EmptyOf, BodyOf, OpenOf, OptionsOf, UsersOf, TaskOf, Sees, SameView, AnAttr, AnEmpty, ABody, AnOpen, AnOptions, AUsers, ATask, bare, holders, part, users}
-use Rattle.hurd_machine.specs.Sound.{AreDistinct, HasDistinctNames, Sound}
+use Rattle.hurd_trans_iface.specs.Nodes.{Entry}
+use Rattle.hurd_trans_iface.specs.Meaning.{ServerKind, Tmpfs, Hello, Null, Zero, Symlink, Firmlink, Union, Magic, Drip, Fifo, all_kinds, behaviour_of}
+use Rattle.hurd_machine.specs.World.{nodes_of}
 use Rattle.hurd_sight.specs.Looks.{sees_with}
 use Rattle.hurd_sight.specs.Parts.{part_of}
 use Rattle.hurd_sight.specs.Reach.{among}

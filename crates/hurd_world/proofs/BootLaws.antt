@@ -3,15 +3,9 @@ use Rattle.std.proofs.Common.{◌≡◌, ◌⊎◌, inl, inr, ℕ, zero, suc, �
 use Rattle.std.proofs.lemmas.List.{set-set}
 use Rattle.std.specs.Prelude.{Option, Some, None, Result, Ok, Err, IsOk, nat_le, slice_get, slice_set}
 use Rattle.std.specs.FinMap as fin
-use Rattle.hurd_creds.specs.Access.{IdSets}
-use Rattle.hurd_creds.specs.declared.errno.Errno.{Errno}
-use Rattle.hurd_creds.specs.declared.errno.Errno.TheVariants.{EINVAL, ENOMEM}
+use Rattle.hurd_machine.proofs.Common.{EINVAL, ENOMEM, Errno, IdSets, Meets, OpenMap, PortState, Tables, Task, boot_name, fresh, has_room, insert_at, name_of, new_open, new_right, new_task, room_at, room_of, with_port}
 use Rattle.hurd_creds.specs.Limits.{most_tasks}
-use Rattle.hurd_creds.specs.Memory.{Meets}
-use Rattle.hurd_creds.specs.Names.{name_of}
-use Rattle.hurd_nodes.specs.Shown.{boot_name}
-use Rattle.hurd_ports.specs.Tables.{PortState, Tables, OpenMap, Task, fresh, has_room, room_at, room_of}
-use Rattle.hurd_ports.specs.Steps.{begun_at, insert_at, named, new_open, new_right, new_task, starting_at, with_port}
+use Rattle.hurd_ports.specs.Steps.{begun_at, named, starting_at}
 use Rattle.hurd_ports.proofs.TaskLaws.{edit-edit, set-here}
 use Rattle.hurd_world.specs.Boot.{boot_task, boot_tasks, boot_opens, boot_ports, closed_open, few_of}
 use Rattle.hurd_world.specs.BootPort.{with_boot_port}

@@ -2,24 +2,12 @@
 use Rattle.std.proofs.Common.{◌≡◌, ◌⊎◌, inl, inr, ℕ, zero, suc, ◌+◌, ◌<◌, true, List, [], ◌∷◌, length, refl, ap, sym, subst, ◌∙◌, arith}
 use Rattle.std.specs.Prelude.{Some, slice_get}
 use Rattle.std.proofs.Math.Bool.{or-true}
-use Rattle.std.specs.List.{list_any}
+use Rattle.hurd_machine.proofs.Common.{Control, IdSets, Io, IoRight, IsAmong, IsSettled, Name, NameMap, OpenMap, Opened, Right, Start, Task, boot_name, is_held, list_any, name_cmp, name_of, names_open, new_open, rights_of}
 use Rattle.std.specs.FinMap as fin
 use Rattle.std.proofs.lemmas.List.Folds.{list_any_at}
 use Rattle.std.proofs.lemmas.Option.{slice_get_within, get_or_from_slice_get}
-use Rattle.hurd_creds.specs.declared.name.Name.{Name}
-use Rattle.hurd_creds.specs.Access.{IdSets}
-use Rattle.hurd_creds.specs.Names.{name_of, name_cmp}
-use Rattle.hurd_creds.specs.NameMaps.{NameMap}
 use Rattle.hurd_creds.proofs.NameLaws.{same_name-itself, same_or_apart, get_here, get_apart}
-use Rattle.hurd_nodes.specs.Shown.{boot_name}
-use Rattle.hurd_ports.specs.declared.table.Opened.{Opened}
-use Rattle.hurd_ports.specs.declared.table.IoRight.{IoRight}
-use Rattle.hurd_ports.specs.declared.table.Right.{Right}
-use Rattle.hurd_ports.specs.declared.table.Right.TheVariants.{Io, Control, Start}
 use Rattle.hurd_ports.specs.declared.table.Port.{Port}
-use Rattle.hurd_ports.specs.Tables.{OpenMap, Task, IsSettled, is_held, names_open, rights_of}
-use Rattle.hurd_ports.specs.Steps.{new_open}
-use Rattle.hurd_machine.specs.World.{IsAmong}
 use Rattle.hurd_world.specs.Boot.{boot_task, boot_tasks, boot_opens, boot_ports, closed_open}
 
 -- maps with a value put in

@@ -3,36 +3,21 @@ use Rattle.std.proofs.Common.{◌≡◌, inl, inr, ℕ, ◌+◌, ◌<◌, Bool, 
 use Rattle.std.specs.Prelude.{Option, Some, None, cond}
 use Rattle.std.specs.Option.{option_map}
 use Rattle.std.specs.FinMap as fin
-use Rattle.std.specs.FinMap.{entries}
+use Rattle.hurd_machine.proofs.Common.{AreFilled, AreSeated, AreTables, AtRest, Below, Control, Counted, Dir, Hangs, HasDistinctNames, HasOpens, Header, IdSets, Io, IsAmong, IsFilled, IsGivenRight, IsShaped, Kind, Linked, Meaning, Name, Node, NodeState, Opened, READ, Right, ServerInfo, Site, Sound, Start, Task, WRITE, World, active_in, asks, body_of, boot_mode, boot_name, booted, empty_body, entries, has_mode, header_of, home_in, info_in, is_dir, is_plain, is_tree, lists, lists_at, name_cmp, name_of, new_root, new_site, open_at, rights_of, server_of, state_of, task_at, times_in, times_listed, tree_by, ways_of}
 use Rattle.hurd_nodes.proofs.Sites.{site-of, seat-site, home_by}
-use Rattle.hurd_nodes.specs.declared.seat.Site.{Site}
-use Rattle.hurd_nodes.specs.Held.{home_in, active_in, new_site}
-use Rattle.hurd_creds.specs.declared.name.Name.{Name}
-use Rattle.hurd_creds.specs.declared.attrs.Kind.{Kind}
-use Rattle.hurd_creds.specs.declared.attrs.Kind.TheVariants.{Dir}
-use Rattle.hurd_creds.specs.Access.{IdSets}
-use Rattle.hurd_creds.specs.Bits.{asks, READ, WRITE}
-use Rattle.hurd_creds.specs.Names.{name_of, name_cmp}
 use Rattle.hurd_creds.proofs.NameLaws.{get_here, same_name-itself}
 use Rattle.hurd_creds.proofs.MapLaws.{get-map_values}
-use Rattle.hurd_trans_iface.specs.Nodes.{Node, Header, IsShaped, is_dir, header_of, body_of}
 use Rattle.hurd_trans_iface.specs.declared.root.Root.{Root}
-use Rattle.hurd_trans_iface.specs.Answers.{is_plain, is_tree}
 use Rattle.hurd_trans_iface.proofs.BodyLaws.{begun_has, begun_holds}
-use Rattle.hurd_trans_iface.specs.Meaning.{Meaning, Begins, ServerKind, behaviour_of, empty_body, new_root, new_server, root_of, targets_of}
+use Rattle.hurd_trans_iface.specs.Meaning.{Begins, ServerKind, behaviour_of, new_server, root_of, targets_of}
 use Rattle.hurd_trans_iface.proofs.Beginnings.{begun-new}
 use Rattle.hurd_trans_iface.proofs.Goods.{tree-told}
-use Rattle.hurd_nodes.specs.Shown.{NodeState, ServerInfo, boot_name, boot_mode, boot_info, booted, info_in, server_of, state_of, tree_by}
-use Rattle.hurd_ports.specs.declared.table.Opened.{Opened}
+use Rattle.hurd_nodes.specs.Shown.{boot_info}
 use Rattle.hurd_ports.specs.declared.parents.Parent.{Parent}
-use Rattle.hurd_ports.specs.declared.table.Right.{Right}
-use Rattle.hurd_ports.specs.declared.table.Right.TheVariants.{Io, Control, Start}
-use Rattle.hurd_ports.specs.Tables.{Task, rights_of, nodes_of as nodes_named, ways_of}
-use Rattle.hurd_machine.specs.World.{World, IsAmong, lists, lists_at, open_at, task_at}
-use Rattle.hurd_machine.specs.Sound.{IsGivenRight, Sound, Below, HasDistinctNames, AreGiven, AreHoused, AreSeated, IsTree, AreOfKind, AreTables, Hangs, Linked, IsFilled, AreFilled, AtRest, times_in, times_listed}
+use Rattle.hurd_ports.specs.Tables.{nodes_of as nodes_named}
+use Rattle.hurd_machine.specs.Sound.{AreGiven, AreHoused, IsTree, AreOfKind}
 use Rattle.hurd_machine.proofs.Stays.{root_is_root, stays_root, lives_boot}
 use Rattle.hurd_machine.proofs.Sums.{total_none}
-use Rattle.hurd_machine.specs.Counted.{Counted, HasOpens, has_mode}
 use Rattle.hurd_world.specs.Boot.{FirstCounted, closed_open, first_world}
 use Rattle.hurd_world.proofs.FirstPorts.{IsFirst, OfTask, boot_seat, boot_right, boot_number, boot_open, boot_settled, closed, only, opens_there}
 

@@ -2,17 +2,14 @@
 use Rattle.std.specs.Prelude.{IfErr, IfSome, IsNone}
 use Rattle.std.specs.Option.{option_map}
 use Rattle.std.proofs.Common.{◌≡◌, ◌⊎◌, inl, inr, ℕ, true, false, true≢false, List, [], ◌∷◌, Result, Ok, Err, Option, Some, None, refl, ap, sym, ◌∙◌}
-use Rattle.hurd_creds.specs.declared.errno.Errno.{Errno}
-use Rattle.hurd_creds.specs.declared.errno.Errno.TheVariants.{ENOMEM}
-use Rattle.hurd_trans_iface.specs.Meaning.{Meaning, Begins}
+use Rattle.hurd_machine.proofs.Common.{Call, ENOMEM, Errno, Meaning, Plan, Planned, Reply, World, after_plan, box_in, call_by, handing_back, is_refused, refusal, reply_by, told}
+use Rattle.hurd_trans_iface.specs.Meaning.{Begins}
 use Rattle.hurd_machine.specs.declared.call.Call as code
 use Rattle.hurd_machine.specs.declared.call.Call.TheVariants.{FileSetTranslator, FsysSetOptions, FsysStartup}
 use Rattle.hurd_machine.specs.declared.call.Reply as code_reply
 use Rattle.hurd_machine.specs.declared.call.Reply.TheVariants.{Done, Found, Port, Data, Count, Names, Words, Stat, Modes, Same, Refused, Back}
 use Rattle.hurd_machine.specs.declared.call.Setting.{Setting}
-use Rattle.hurd_machine.specs.Calls.{Call, Reply, box_in, call_by, refusal, reply_by}
-use Rattle.hurd_machine.specs.World.{World}
-use Rattle.hurd_machine.specs.Plan.{Plan, Follows, Planned, after_plan, handing_back, is_refused, told}
+use Rattle.hurd_machine.specs.Plan.{Follows}
 use Rattle.hurd_core.specs.Core.{without_box}
 use Rattle.hurd_fsys.specs.Fsys.{plan_set_options}
 use Rattle.hurd_fsys.specs.Aims.{PlannedOr, TriedOr}

@@ -1,12 +1,10 @@
 -- What was served of a list of calls, call by call.
 use Rattle.std.proofs.Common.{◌≡◌, List, [], ◌∷◌, ◌++◌, map, append_assoc, append-nil, refl, ap, sym, ◌∙◌, subst}
 use Rattle.std.proofs.lemmas.List.{map-append}
-use Rattle.hurd_creds.specs.declared.name.TaskId.{TaskId}
-use Rattle.hurd_trans_iface.specs.Meaning.{Meaning}
+use Rattle.hurd_machine.proofs.Common.{Meaning, TaskId, World, call_by, reply_by}
 use Rattle.hurd_machine.specs.declared.call.Call as code
 use Rattle.hurd_machine.specs.declared.call.Reply as code_reply
-use Rattle.hurd_machine.specs.Calls.{BringsBegun, call_by, reply_by}
-use Rattle.hurd_machine.specs.World.{World}
+use Rattle.hurd_machine.specs.Calls.{BringsBegun}
 use Rattle.hurd_laws.specs.Called.{Called}
 use Rattle.hurd_laws.specs.Served.{Served}
 use Rattle.hurd_laws.proofs.Served.{served_push}

@@ -18,7 +18,6 @@ use hurd_fsys::{fsys, setting, starting};
 use hurd_io::{io, opens, sharing};
 use hurd_lookup::{getroot, lookup};
 use hurd_machine::{Call, Reply};
-use hurd_nodes::Nodes;
 use hurd_rights::rights;
 use hurd_trans_iface::Server;
 use std::alloc::{AllocError, Global};
@@ -65,10 +64,8 @@ impl<S: Server> World<S> {
             Ok(ports) => ports,
             Err(errno) => return Err((errno, boot)),
         };
-        let nodes = Nodes::starting(alloc, boot)?;
-        Ok(World {
-            core: Core::new(nodes, ports),
-        })
+        let core = Core::starting(alloc, boot, ports)?;
+        Ok(World { core })
     }
 
     /// Servers, nodes, tasks and opens, to be looked at from outside all tasks. Takes no memory.

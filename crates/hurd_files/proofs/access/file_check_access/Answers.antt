@@ -2,8 +2,7 @@
 use Rattle.std.proofs.Common.{ap, ◌∙◌}
 use Rattle.std.proofs.lemmas.Result.{err_from_is_err_and}
 use Rattle.hurd_machine.specs.declared.call.Reply.TheVariants.{Modes}
-use Rattle.hurd_machine.specs.Plan.{told}
-use Rattle.hurd_machine.specs.Handle.{port_asks}
+use Rattle.hurd_machine.proofs.Common.{port_asks, told}
 use Rattle.hurd_core.specs.Core.{world_of}
 use Rattle.hurd_core.proofs.PlanLaws.{looked-follows}
 use Rattle.hurd_files.specs.Access.{told_access}

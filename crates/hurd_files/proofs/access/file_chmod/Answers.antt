@@ -1,8 +1,7 @@
 -- What is asked, and what the core sets.
 use Rattle.std.proofs.Common.{sym}
 use Rattle.std.proofs.lemmas.Result.{err_from_is_err_and}
-use Rattle.hurd_creds.specs.Bits.{known_mode}
-use Rattle.hurd_creds.specs.Access.{owns}
+use Rattle.hurd_machine.proofs.Common.{known_mode, owns}
 use Rattle.hurd_core.specs.Core.{world_of}
 use Rattle.hurd_core.specs.PortNode.{named_of}
 use Rattle.hurd_core.proofs.PlanLaws.{follows-refused}

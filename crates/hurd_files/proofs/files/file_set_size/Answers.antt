@@ -2,13 +2,10 @@
 use Rattle.std.proofs.Common.{◌≡◌, sym, refl, subst}
 use Rattle.std.specs.Prelude.{Result, Ok, IfOk}
 use Rattle.std.proofs.lemmas.Result.{err_from_is_err_and}
-use Rattle.hurd_creds.specs.declared.name.Name.{Name}
-use Rattle.hurd_creds.specs.declared.errno.Errno.{Errno}
-use Rattle.hurd_trans_iface.specs.Behaviour.{edits_of, resizing}
+use Rattle.hurd_machine.proofs.Common.{Errno, Name, asked_at, changes_of, edits_of, resizing}
 use Rattle.hurd_nodes.specs.Needs.{FreeSize}
 use Rattle.hurd_machine.specs.declared.call.Reply.TheVariants.{Done}
-use Rattle.hurd_machine.specs.World.{asked_at, nodes_of}
-use Rattle.hurd_machine.specs.Change.{changes_of}
+use Rattle.hurd_machine.specs.World.{nodes_of}
 use Rattle.hurd_core.specs.Core.{world_of}
 use Rattle.hurd_core.proofs.PlanLaws.{asked-refused, does-planned, follows-refused, follows-then, planned-then}
 use Rattle.hurd_core.proofs.NeedLaws.{does-follows}

@@ -1,8 +1,7 @@
 -- So few ids are held without memory.
 use Rattle.std.proofs.Common.{ℕ, ◌∙◌, [], ◌∷◌, if◌then◌else◌, Bool, arith, ap}
 use Rattle.std.specs.Prelude.{Result, Ok}
-use Rattle.hurd_creds.specs.Access.{IdSets}
-use Rattle.hurd_creds.specs.declared.errno.Errno.{Errno}
+use Rattle.hurd_machine.proofs.Common.{Errno, IdSets}
 use Rattle.hurd_lookup.specs.Lookup.{no_ids}
 use Rattle.hurd_fsys.specs.Aims.{server_ids}
 use Rattle.hurd_fsys.proofs.AimsLaws.{few_are_held}

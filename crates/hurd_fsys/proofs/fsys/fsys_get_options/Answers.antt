@@ -2,15 +2,9 @@
 use Rattle.std.proofs.Common.{◌≡◌, ℕ, List, Option, Some, None, refl, sym}
 use Rattle.std.specs.Prelude.{Result, Ok, Err}
 use Rattle.std.proofs.lemmas.Result.{err_from_is_err_and}
-use Rattle.hurd_creds.specs.declared.name.Name.{Name}
-use Rattle.hurd_creds.specs.declared.errno.Errno.{Errno}
-use Rattle.hurd_creds.specs.declared.errno.Errno.TheVariants.{EDIED}
-use Rattle.hurd_creds.specs.Memory.{Meets}
-use Rattle.hurd_trans_iface.specs.Meaning.{options_of}
-use Rattle.hurd_nodes.specs.Shown.{ServerInfo, options_in}
+use Rattle.hurd_machine.proofs.Common.{EDIED, Errno, Meets, Name, Planned, ServerInfo, World, first, on, options_of, ports_of, server_at}
+use Rattle.hurd_nodes.specs.Shown.{options_in}
 use Rattle.hurd_machine.specs.declared.call.Reply.TheVariants as reply
-use Rattle.hurd_machine.specs.World.{World, ports_of, server_at}
-use Rattle.hurd_machine.specs.Plan.{Planned, on, first}
 use Rattle.hurd_core.specs.Control.{control_of}
 use Rattle.hurd_core.specs.Core.{world_of}
 use Rattle.hurd_core.proofs.PlanLaws.{asked-refused, asked-short, asked-done}

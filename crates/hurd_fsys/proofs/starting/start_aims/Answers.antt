@@ -3,10 +3,7 @@ use Rattle.std.proofs.Common.{List, Vec, inl, subst}
 use Rattle.std.specs.Prelude.{Result}
 use Rattle.std.specs.Global.{Global}
 use Rattle.std.proofs.lemmas.Result.{err_from_is_err_and}
-use Rattle.hurd_creds.specs.Access.{IdSets}
-use Rattle.hurd_creds.specs.declared.errno.Errno.{Errno}
-use Rattle.hurd_creds.specs.declared.name.Name.{Name}
-use Rattle.hurd_machine.specs.World.{task_at}
+use Rattle.hurd_machine.proofs.Common.{Errno, IdSets, Name, task_at}
 use Rattle.hurd_core.specs.Core.{world_of}
 use Rattle.hurd_fsys.specs.Aims.{FindsAims, aims_asks, lent}
 use Rattle.hurd_fsys.proofs.StartupLaws.{ids_had, ids_not}

@@ -2,9 +2,7 @@
 use Rattle.std.proofs.Common.{inl, inr, refl, subst}
 use Rattle.std.specs.Prelude.{IsOk, Result}
 use Rattle.std.proofs.lemmas.Result.{err_from_is_err_and}
-use Rattle.hurd_creds.specs.declared.errno.Errno.{Errno}
-use Rattle.hurd_trans_iface.specs.Nodes.{Header}
-use Rattle.hurd_machine.specs.World.{words_at}
+use Rattle.hurd_machine.proofs.Common.{Errno, Header, words_at}
 use Rattle.hurd_core.specs.Core.{world_of}
 use Rattle.hurd_core.specs.PortNode.{header_with}
 use Rattle.hurd_fsys.proofs.StartupLaws.{aims_not, waits_free, waits_full, waits_not}

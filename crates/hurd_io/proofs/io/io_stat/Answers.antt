@@ -2,14 +2,10 @@
 use Rattle.std.specs.Prelude.{Result, Ok, is_some}
 use Rattle.std.proofs.Common.{ap, ap₂, ◌∙◌, Bool, Option}
 use Rattle.std.proofs.lemmas.Result.{err_from_is_err_and}
-use Rattle.hurd_creds.specs.declared.name.Name.{Name}
-use Rattle.hurd_creds.specs.declared.errno.Errno.{Errno}
+use Rattle.hurd_machine.proofs.Common.{Errno, Name, Named, Reply, first, told}
 use Rattle.hurd_creds.specs.declared.attrs.Stat.{Stat}
 use Rattle.hurd_creds.specs.Stats.{stat_of}
-use Rattle.hurd_machine.specs.Calls.{Reply}
 use Rattle.hurd_machine.specs.declared.call.Reply.TheVariants as reply
-use Rattle.hurd_machine.specs.Handle.{Named}
-use Rattle.hurd_machine.specs.Plan.{first, told}
 use Rattle.hurd_core.specs.Core.{world_of}
 use Rattle.hurd_core.proofs.PlanLaws.{looked-follows}
 use Rattle.hurd_io.specs.Io.{stat_at, stat_asks}

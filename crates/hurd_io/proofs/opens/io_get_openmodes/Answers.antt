@@ -1,8 +1,7 @@
 -- The modes are those of the open; nothing changes.
 use Rattle.std.proofs.Common.{ap}
 use Rattle.std.proofs.lemmas.Result.{err_from_is_err_and}
-use Rattle.hurd_machine.specs.Plan.{told}
-use Rattle.hurd_machine.specs.Handle.{any_mode, handle_asks}
+use Rattle.hurd_machine.proofs.Common.{any_mode, handle_asks, told}
 use Rattle.hurd_core.specs.Core.{world_of}
 use Rattle.hurd_core.proofs.PlanLaws.{looked-follows}
 use Rattle.hurd_io.specs.Opens.{told_modes}

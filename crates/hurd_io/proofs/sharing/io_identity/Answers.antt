@@ -2,8 +2,7 @@
 use Rattle.std.proofs.Common.{ap, ◌∙◌}
 use Rattle.std.proofs.lemmas.Result.{err_from_is_err_and}
 use Rattle.hurd_machine.specs.declared.call.Reply.TheVariants.{Same}
-use Rattle.hurd_machine.specs.Plan.{told}
-use Rattle.hurd_machine.specs.Handle.{both_asks}
+use Rattle.hurd_machine.proofs.Common.{both_asks, told}
 use Rattle.hurd_core.specs.Core.{world_of}
 use Rattle.hurd_core.proofs.PlanLaws.{looked-follows}
 use Rattle.hurd_io.specs.Sharing.{told_same}

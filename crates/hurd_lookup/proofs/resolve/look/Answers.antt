@@ -1,8 +1,7 @@
 -- The walk's refusals, and its ends.
 use Rattle.std.proofs.Common.{◌≡◌, ◌∙◌, ℕ, ap, sym}
 use Rattle.std.proofs.lemmas.Result.{err_from_is_err_and}
-use Rattle.hurd_creds.specs.declared.mode.Mode.{Mode}
-use Rattle.hurd_creds.specs.declared.open_flags.OpenFlags.{OpenFlags}
+use Rattle.hurd_machine.proofs.Common.{Mode, OpenFlags}
 use Rattle.hurd_core.specs.Core.{world_of}
 use Rattle.hurd_lookup.specs.Lookup.{no_modes}
 use Rattle.hurd_lookup.specs.Legs.{leg_of}

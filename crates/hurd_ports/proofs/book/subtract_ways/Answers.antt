@@ -28,7 +28,7 @@ subtract-requires-in-loop-way c =
     let left = c.loop-way.invariant.less way.parent in
     let all = c.requires way.parent in
     let one = one_itself way.parent in
-    let less = c.subtract.ensures way.parent in
+    let less = c.subtract.ensures.less way.parent in
     omega arith
 
 pub loop-way-preserved : goal.loop-way-preserved
@@ -36,8 +36,8 @@ loop-way-preserved c = record {
   less = λ n.
       let next = ways_next (same_name n) c.args.ways.now c.loop-way.way-index none c.loop-way-test.true in
       let left = c.loop-way.invariant.less n in
-      let first = c.subtract.ensures n in
-      let second = c.subtract-in-loop-way.ensures n in
+      let first = c.subtract.ensures.less n in
+      let second = c.subtract-in-loop-way.ensures.less n in
       omega arith;
 }
 

@@ -1,8 +1,7 @@
 -- What the core does is the plan.
 use Rattle.std.proofs.Common.{[], ◌∷◌, refl}
 use Rattle.hurd_machine.specs.declared.call.Reply.TheVariants.{Port}
-use Rattle.hurd_machine.specs.Change.{EditTask}
-use Rattle.hurd_ports.specs.Steps.{received}
+use Rattle.hurd_machine.proofs.Common.{EditTask, received}
 use Rattle.hurd_core.specs.Core.{world_of, receive_asks}
 use Rattle.hurd_core.proofs.PlanLaws.{does-planned}
 use Rattle.hurd_rights.proofs.rights.port_receive.Goals as goal

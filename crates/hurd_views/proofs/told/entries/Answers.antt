@@ -1,5 +1,4 @@
-use Rattle.hurd_trans_iface.specs.Nodes.{body_of}
-use Rattle.hurd_nodes.specs.Shown.{shown}
+use Rattle.hurd_machine.proofs.Common.{body_of, shown}
 use Rattle.hurd_views.proofs.ToldLaws.{rows_all, rows_next}
 use Rattle.hurd_views.proofs.told.entries.Goals as goal
 

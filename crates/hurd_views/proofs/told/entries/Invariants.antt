@@ -1,6 +1,5 @@
 use Rattle.std.proofs.Common.{◌≡◌, take}
-use Rattle.hurd_trans_iface.specs.Nodes.{body_of}
-use Rattle.hurd_nodes.specs.Shown.{shown}
+use Rattle.hurd_machine.proofs.Common.{body_of, shown}
 use Rattle.hurd_views.specs.Views.{rows_in}
 use Rattle.hurd_views.proofs.told.entries.Given as goal
 

@@ -2,8 +2,7 @@
 use Rattle.std.proofs.Common.{◌∙◌, List, [], ◌∷◌, ◌++◌, map, take, get_or, sym, ap, ap₂, arith}
 use Rattle.std.proofs.lemmas.List.{take_more, map-append}
 use Rattle.std.specs.Prelude.{Option, slice_get}
-use Rattle.hurd_creds.specs.declared.name.TaskId.{TaskId}
-use Rattle.hurd_ports.specs.Tables.{Task}
+use Rattle.hurd_machine.proofs.Common.{Task, TaskId}
 use Rattle.hurd_views.proofs.view.seats_of.Goals as goal
 
 pub loop-task-preserved : goal.loop-task-preserved

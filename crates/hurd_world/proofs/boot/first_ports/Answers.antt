@@ -2,8 +2,7 @@ use Rattle.std.proofs.Common.{length, arith, ap, ◌∙◌, inr}
 use Rattle.std.specs.Prelude.{is_ok}
 use Rattle.std.proofs.lemmas.Result.{err_from_is_err_and}
 use Rattle.std.proofs.lemmas.List.{length-map}
-use Rattle.hurd_ports.specs.Tables.{Tables}
-use Rattle.hurd_ports.specs.Steps.{new_task}
+use Rattle.hurd_machine.proofs.Common.{Tables, new_task}
 use Rattle.hurd_world.proofs.BootLaws.{tables_begun, tables_refused, room_first, room_second, begun_next, begun_first, begun_all}
 use Rattle.hurd_world.proofs.boot.first_ports.Goals as goal
 

@@ -3,6 +3,8 @@ use Rattle.std.proofs.lemmas.Result.{err_from_is_err_and}
 use Rattle.std.proofs.Common.{refl}
 use Rattle.hurd_nodes.specs.Shown.{shown}
 use Rattle.hurd_core.proofs.CoreLaws.{drop-closes, drop-follows}
+use Rattle.std.proofs.Common.{sym, arith}
+use Rattle.hurd_core.proofs.UserLaws.{dropped_counts}
 use Rattle.hurd_core.proofs.the_core.Core.drop_port.Goals as goal
 
 pub returns-in_err-deallocate : goal.returns-in_err-deallocate
@@ -15,3 +17,16 @@ pub returns : goal.returns
 returns g c =
     rw (← c.self.view_is)
     (drop-closes (shown g.S.Server.meaning c.self.inside.nodes) c.self.inside.ports.state c.args.task.0 c.args.port _ c.in_ok-deallocate.ensures.settled _ _ _ (rw (← c.self.view_is) at c.closing-closing.ensures) c.close.ensures c.settle.ensures tt c.in_ok-deallocate.ensures.answer)
+
+pub subtract-requires : goal.subtract-requires
+subtract-requires g c s =
+    let lost = dropped_counts (shown g.S.Server.meaning c.self.inside.nodes) c.self.inside.ports.state _ c.args.task.0 s c.args.port _ (sym c.in_ok-deallocate.ensures.answer) in
+    let server = rw (← c.self.view_is) at c.home_used-server.ensures in
+    rw server (omega (arith, lost, c.self.invariant s))
+
+pub invariant_of-self-2 : goal.invariant_of-self-2
+invariant_of-self-2 g c s =
+    let lost = dropped_counts (shown g.S.Server.meaning c.self.inside.nodes) c.self.inside.ports.state _ c.args.task.0 s c.args.port _ (sym c.in_ok-deallocate.ensures.answer) in
+    let server = rw (← c.self.view_is) at c.home_used-server.ensures in
+    let less = rw server at c.subtract.ensures.less s in
+    omega (arith, lost, less, c.self.invariant s)

@@ -1,17 +1,46 @@
--- The ports with a port more are the world with it, and its node is counted.
-use Rattle.std.proofs.Common.{refl}
+-- The ports with a port more are the world with it, its node is counted, and so is a user of that node's server.
+use Rattle.std.proofs.Common.{refl, sym, inl, inr, ap}
+use Rattle.std.specs.Prelude.{Result, is_ok}
+use Rattle.hurd_machine.proofs.Common.{Errno, Name, NodeState, home_in, is_home, shown, uses_server}
 use Rattle.std.proofs.lemmas.Result.{err_from_is_err_and}
-use Rattle.hurd_nodes.specs.Shown.{shown}
 use Rattle.hurd_trans_iface.specs.declared.header_edit.HeaderEdit.TheVariants.{CountOpen}
+use Rattle.hurd_core.proofs.CoreLaws.{room-had, room-refused}
 use Rattle.hurd_core.proofs.CountLaws.{told-counted}
 use Rattle.hurd_core.proofs.RightLaws.{open-does, opened-does}
+use Rattle.hurd_core.proofs.UserLaws.{inserted_counts, user_counted, user_fits, users_still}
 use Rattle.hurd_core.proofs.the_core.Core.open.Goals as goal
+
+pub returns-in_err-room : goal.returns-in_err-room
+returns-in_err-room g c =
+    let p = err_from_is_err_and c.from_residual.result c.from_residual.ensures.1 in
+    rw (p.1, p.2, ← c.self.view_is) (refl, inl (room-refused (shown g.S.Server.meaning c.self.inside.nodes) c.self.inside.ports.state c.args.task.0 1 _ (sym c.in_err-room.ensures.room)))
+
+pub returns-in_err-reserve : goal.returns-in_err-reserve
+returns-in_err-reserve g c =
+    let p = err_from_is_err_and c.from_residual-in_err-reserve.result c.from_residual-in_err-reserve.ensures.1 in
+    rw (p.1, p.2, ← c.self.view_is) (refl, inr (refl, ap is_ok (room-had (shown g.S.Server.meaning c.self.inside.nodes) c.self.inside.ports.state c.args.task.0 1 _ (sym c.in_ok-room.ensures.room)).2))
 
 pub returns-in_err-port : goal.returns-in_err-port
 returns-in_err-port g c =
-    let p = err_from_is_err_and c.from_residual.result c.from_residual.ensures.1 in
+    let p = err_from_is_err_and c.from_residual-in_err-port.result c.from_residual-in_err-port.ensures.1 in
     rw (p.1, p.2, ← c.self.view_is)
     (open-does (shown g.S.Server.meaning c.self.inside.nodes) c.self.inside.ports.state c.args.task.0 c.args.node c.args.ids c.args.parents c.args.modes _ _ c.in_err-port.ensures.answer)
+
+pub add-requires-clause-fits : goal.add-requires-clause-fits
+add-requires-clause-fits g c =
+    let N = shown g.S.Server.meaning c.self.inside.nodes in
+    let H = c.self.inside.ports.state in
+    let sites = c.self.inside.nodes.sites in
+    let more = λ (s : Name). inserted_counts N H _ c.args.task.0 (uses_server sites s) c.args.node c.args.ids c.args.parents c.args.modes _ (is_home s (home_in sites c.args.node)) (λ x. refl) (open-does N H c.args.task.0 c.args.node c.args.ids c.args.parents c.args.modes _ _ c.in_ok-port.ensures.answer) in
+    rw c.home.ensures (user_fits _ _ sites H.tasks _ (home_in sites c.args.node) c.self.invariant c.reserve.ensures.entries more c.rights_are_few.ensures)
+
+pub invariant_of-self-2 : goal.invariant_of-self-2
+invariant_of-self-2 g c =
+    let N = shown g.S.Server.meaning c.self.inside.nodes in
+    let H = c.self.inside.ports.state in
+    let sites = c.self.inside.nodes.sites in
+    let more = λ (s : Name). inserted_counts N H _ c.args.task.0 (uses_server sites s) c.args.node c.args.ids c.args.parents c.args.modes _ (is_home s (home_in sites c.args.node)) (λ x. refl) (open-does N H c.args.task.0 c.args.node c.args.ids c.args.parents c.args.modes _ _ c.in_ok-port.ensures.answer) in
+    users_still _ _ _ _ _ (user_counted _ _ _ sites H.tasks _ (home_in sites c.args.node) c.self.invariant c.reserve.ensures.entries more (rw c.home.ensures at c.add.ensures)) (ap (λ (z : Result (Unit {0}) Errno × NodeState). z.1.sites) c.edit_header.ensures.shown) (λ s. refl)
 
 pub returns : goal.returns
 returns g c =

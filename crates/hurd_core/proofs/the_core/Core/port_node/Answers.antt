@@ -1,8 +1,7 @@
 -- The right, with the header that the attributes and the words of its node are.
 use Rattle.std.proofs.Common.{sym}
 use Rattle.std.specs.Prelude.{option_copied}
-use Rattle.hurd_nodes.specs.Shown.{shown}
-use Rattle.hurd_machine.specs.World.{world_from}
+use Rattle.hurd_machine.proofs.Common.{shown, world_from}
 use Rattle.hurd_core.proofs.NamedLaws.{port_told}
 use Rattle.hurd_core.proofs.the_core.Core.port_node.Goals as goal
 

@@ -2,6 +2,8 @@
 use Rattle.std.proofs.lemmas.Result.{err_from_is_err_and}
 use Rattle.hurd_nodes.specs.Shown.{shown}
 use Rattle.hurd_core.proofs.RenameLaws.{rename-refused, rename-done}
+use Rattle.std.proofs.Common.{refl}
+use Rattle.hurd_core.proofs.UserLaws.{users_stepped}
 use Rattle.hurd_core.proofs.the_core.Core.rename.Goals as goal
 
 pub returns-in_err-rename : goal.returns-in_err-rename
@@ -14,3 +16,11 @@ pub returns : goal.returns
 returns g c =
     rw (← c.self.view_is)
     (rename-done (shown g.S.Server.meaning c.self.inside.nodes) c.self.inside.ports.state c.args.dir c.args.name.now c.args.to c.args.new.now c.in_ok-rename.field-0 (shown g.S.Server.meaning c.rename.new.self) _ c.in_ok-rename.ensures.shown c.settle.ensures)
+
+pub invariant_of-self : goal.invariant_of-self
+invariant_of-self g c =
+    let f = g.S.Server.meaning in users_stepped _ _ (shown f c.self.inside.nodes) (shown f c.rename.new.self) _ _ c.self.invariant c.rename.ensures.shown refl
+
+pub invariant_of-self-2 : goal.invariant_of-self-2
+invariant_of-self-2 g c =
+    let f = g.S.Server.meaning in users_stepped _ _ (shown f c.self.inside.nodes) (shown f c.rename.new.self) _ _ c.self.invariant c.in_ok-rename.ensures.shown refl

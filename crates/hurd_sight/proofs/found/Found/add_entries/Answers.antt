@@ -1,5 +1,4 @@
-use Rattle.hurd_trans_iface.specs.Nodes.{body_of}
-use Rattle.hurd_nodes.specs.Shown.{shown}
+use Rattle.hurd_machine.proofs.Common.{body_of, shown}
 use Rattle.hurd_sight.specs.Found.{of_entry}
 use Rattle.hurd_sight.proofs.FoundLaws.{gathered_each}
 use Rattle.hurd_sight.proofs.WalkLaws.{walk_all, walk_item}

@@ -1,7 +1,5 @@
 use Rattle.std.proofs.Common.{◌≡◌, take}
-use Rattle.std.specs.List.{flat_map}
-use Rattle.hurd_trans_iface.specs.Nodes.{body_of}
-use Rattle.hurd_nodes.specs.Shown.{shown}
+use Rattle.hurd_machine.proofs.Common.{body_of, flat_map, shown}
 use Rattle.hurd_sight.specs.Found.{gathered, of_entry}
 use Rattle.hurd_sight.proofs.found.Found.add_entries.Given as goal
 

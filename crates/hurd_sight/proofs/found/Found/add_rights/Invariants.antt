@@ -1,6 +1,5 @@
 use Rattle.std.proofs.Common.{◌≡◌, take}
-use Rattle.std.specs.List.{flat_map}
-use Rattle.hurd_nodes.specs.Shown.{shown}
+use Rattle.hurd_machine.proofs.Common.{flat_map, shown}
 use Rattle.hurd_sight.specs.Found.{gathered, of_right}
 use Rattle.hurd_sight.proofs.found.Found.add_rights.Given as goal
 

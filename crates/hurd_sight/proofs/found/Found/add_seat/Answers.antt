@@ -1,5 +1,4 @@
-use Rattle.hurd_nodes.specs.Shown.{shown}
-use Rattle.hurd_ports.specs.Seats.{seat_task}
+use Rattle.hurd_machine.proofs.Common.{seat_task, shown}
 use Rattle.hurd_sight.proofs.NodeLaws.{of_rights}
 use Rattle.hurd_sight.proofs.found.Found.add_seat.Goals as goal
 use Rattle.std.proofs.lemmas.Result.{on_ok_weaker}

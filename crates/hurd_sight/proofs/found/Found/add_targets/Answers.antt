@@ -1,7 +1,5 @@
-use Rattle.std.specs.List.{flat_map}
+use Rattle.hurd_machine.proofs.Common.{NodeState, active_in, flat_map, home_in, shown}
 use Rattle.std.proofs.lemmas.Result.{on_ok_weaker}
-use Rattle.hurd_nodes.specs.Held.{home_in, active_in}
-use Rattle.hurd_nodes.specs.Shown.{NodeState, shown}
 use Rattle.hurd_sight.specs.Found.{of_target, targets_of}
 use Rattle.hurd_sight.proofs.FoundLaws.{gathered_both}
 use Rattle.hurd_sight.proofs.found.Found.add_targets.Goals as goal

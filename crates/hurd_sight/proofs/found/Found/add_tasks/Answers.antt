@@ -1,6 +1,5 @@
 use Rattle.std.specs.Prelude.{slice_get}
-use Rattle.hurd_creds.specs.declared.name.TaskId.{TaskId}
-use Rattle.hurd_nodes.specs.Shown.{shown}
+use Rattle.hurd_machine.proofs.Common.{TaskId, shown}
 use Rattle.hurd_sight.specs.Found.{of_task}
 use Rattle.hurd_sight.proofs.FoundLaws.{gathered_each}
 use Rattle.hurd_sight.proofs.WalkLaws.{walk_all, walk_next}

@@ -1,8 +1,6 @@
 use Rattle.std.proofs.Common.{◌≡◌, take}
-use Rattle.std.specs.List.{flat_map}
+use Rattle.hurd_machine.proofs.Common.{TaskId, flat_map, shown}
 use Rattle.std.specs.Prelude.{slice_get}
-use Rattle.hurd_creds.specs.declared.name.TaskId.{TaskId}
-use Rattle.hurd_nodes.specs.Shown.{shown}
 use Rattle.hurd_sight.specs.Found.{gathered, of_task}
 use Rattle.hurd_sight.proofs.found.Found.add_tasks.Given as goal
 

@@ -1,6 +1,5 @@
 use Rattle.std.proofs.Common.{Bool}
-use Rattle.hurd_creds.specs.Access.{IdSets}
-use Rattle.hurd_ports.specs.declared.table.Right.{Right}
+use Rattle.hurd_machine.proofs.Common.{IdSets, Right}
 use Rattle.hurd_sight.specs.Reach.{right_holds}
 use Rattle.hurd_sight.proofs.ReachLaws.{gains_none, gains_each}
 use Rattle.hurd_sight.proofs.reach.Reach.add_rights.Goals as goal

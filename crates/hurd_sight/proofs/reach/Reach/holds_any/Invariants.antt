@@ -1,6 +1,5 @@
 use Rattle.std.proofs.Common.{◌≡◌, false, take}
-use Rattle.std.specs.List.{list_any}
-use Rattle.hurd_creds.specs.Access.{holds_uid}
+use Rattle.hurd_machine.proofs.Common.{holds_uid, list_any}
 use Rattle.hurd_sight.proofs.reach.Reach.holds_any.Given as goal
 
 -- none so far

@@ -1,6 +1,5 @@
 use Rattle.std.proofs.Common.{◌∙◌, ap, sym}
-use Rattle.hurd_creds.specs.Access.{IdSets, holds_uid}
-use Rattle.std.specs.FinSet.{contains-from_list_nat}
+use Rattle.hurd_machine.proofs.Common.{IdSets, contains-from_list_nat, holds_uid}
 use Rattle.hurd_sight.proofs.reach.Reach.holds_uid.Goals as goal
 
 pub returns : goal.returns

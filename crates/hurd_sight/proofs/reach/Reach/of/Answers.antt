@@ -1,7 +1,6 @@
 use Rattle.std.proofs.Common.{Bool}
 use Rattle.std.specs.Prelude.{slice_get}
-use Rattle.hurd_creds.specs.declared.name.TaskId.{TaskId}
-use Rattle.hurd_creds.specs.Access.{IdSets}
+use Rattle.hurd_machine.proofs.Common.{IdSets, TaskId}
 use Rattle.hurd_sight.specs.Reach.{holds_at}
 use Rattle.hurd_sight.proofs.ReachLaws.{gains_none, gathered, none_listed, gains_each}
 use Rattle.hurd_sight.proofs.reach.Reach.of.Goals as goal

@@ -1,7 +1,6 @@
 use Rattle.std.proofs.Common.{◌≡◌, [], map, arith}
 use Rattle.std.proofs.lemmas.List.{nil_from_length}
-use Rattle.std.specs.Vec.Iter.{into_iter_items}
-use Rattle.hurd_machine.specs.Calls.{reply_by}
+use Rattle.hurd_machine.proofs.Common.{into_iter_items, reply_by}
 use Rattle.hurd_laws.proofs.Served.{served_sound, served_isolated}
 use Rattle.hurd_world.specs.Held.{world_of, made_by}
 use Rattle.hurd_world.proofs.RunLaws.{none_served, next_served, all_served, all_back, first_begun, rest_begun}

@@ -1,0 +1,8 @@
+use Rattle.std.proofs.Common.{refl}
+use Rattle.hurd_nodes.specs.Shown.{shown}
+use Rattle.hurd_core.proofs.UserLaws.{users_stepped}
+use Rattle.hurd_core.proofs.the_core.Core.link.Goals as goal
+
+pub invariant_of-self : goal.invariant_of-self
+invariant_of-self g c =
+    let f = g.S.Server.meaning in users_stepped _ _ (shown f c.self.inside.nodes) (shown f c.link.new.self) _ _ c.self.invariant c.link.ensures.shown refl

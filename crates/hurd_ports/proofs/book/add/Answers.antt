@@ -1,9 +1,0 @@
-use Rattle.hurd_ports.proofs.CountLaws.{count-added}
-use Rattle.hurd_ports.proofs.OpenLaws.{on_success}
-use Rattle.hurd_ports.proofs.book.add.Goals as goal
-
-pub unwrap-requires : goal.unwrap-requires
-unwrap-requires c = c.insert.ensures.succeeds c.requires.room
-
-pub returns-clause-more : goal.returns-clause-more
-returns-clause-more c = count-added c.args.counts.now c.insert.new.self c.args.name c.count-count.result c.count-count.ensures (on_success c.insert.result (c.insert.ensures.succeeds c.requires.room) c.insert.ensures.updates).0

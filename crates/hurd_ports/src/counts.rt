@@ -1,0 +1,49 @@
+//! How often names are counted.
+ghost use Rattle.std.specs.Prelude.{◌≡◌, ◌≤◌, ◌<◌, ◌+◌};
+ghost use Rattle.indexmap.specs.IndexMap.{spare};
+ghost use Rattle.hurd_creds.specs.Names.{same_name};
+ghost use Rattle.hurd_creds.specs.declared.name.Name.{Name};
+ghost use Rattle.hurd_ports.specs.Weights.{if_so};
+ghost use Rattle.hurd_ports.specs.Counts.{counted};
+
+use hurd_creds::Name;
+use indexmap::IndexMap;
+
+/// How often each name is counted; one that isn't there is not.
+pub type Counts = IndexMap<Name, u128>;
+
+/// How often the name is counted.
+pub fn count(counts: &Counts, name: Name) -> u128
+    ensures { result ≡ counted counts.now.entries name }
+{
+    match counts.get(&name) {
+        Some(count) => *count,
+        None => 0,
+    }
+}
+
+/// Counts the name so many times more. There is room for one name more.
+pub fn add(counts: &mut Counts, name: Name, more: u128)
+    requires room { 0 < spare counts.old }
+    requires fits { counted counts.old.entries name + more ≤ u128.MAX }
+    ensures more { (n : Name) → counted counts.new.entries n ≡ counted counts.old.entries n + if_so (same_name n name) more }
+    ensures room { spare counts.old ≤ spare counts.new + 1 }
+{
+    let count = count(counts, name);
+    counts.insert(name, count + more).unwrap();
+}
+
+/// Counts the name so many times less. Takes no room.
+pub fn subtract(counts: &mut Counts, name: Name, less: u128)
+    requires { less ≤ counted counts.old.entries name }
+    ensures less { (n : Name) → counted counts.new.entries n + if_so (same_name n name) less ≡ counted counts.old.entries n }
+    ensures room { spare counts.old ≤ spare counts.new }
+{
+    if count(counts, name) > less {
+        if let Some(count) = counts.get_mut(&name) {
+            *count -= less;
+        }
+    } else {
+        counts.swap_remove(&name);
+    }
+}
