@@ -1,9 +1,10 @@
 //! A first program over the tree: root writes a notice and puts a server behind a second file, and alice reads both.
 #![tactic(auto)]
 
-ghost use Rattle.std.specs.Prelude.{IfOk};
+ghost use Rattle.std.specs.Prelude.{◌≡◌, IfOk};
 ghost use Rattle.hurd_trans_iface.specs.Meaning.{Begins};
 ghost use Rattle.hurd_small.specs.Hello.{hello_meaning};
+ghost use Rattle.hurd_tmpfs.specs.Tree.{new_tmpfs};
 
 mod tree;
 
@@ -48,16 +49,24 @@ fn visit<S: Server>(tree: &mut Tree<S>, server: S) -> Result<Told, Errno>
     })
 }
 
-/// Begins a tree, and what is done in it.
-fn tour(alloc: Global) -> Result<Told, Errno> {
-    let server: Box<dyn Server> = hello(alloc)?;
-    let boot: Box<dyn Server> = empty_tree(alloc)?;
+/// Begins a tree over the boot server, and what is done in it.
+fn tour<S: Server>(alloc: Global, boot: S, server: S) -> Result<Told, Errno>
+    requires boot { S.meaning boot ≡ new_tmpfs }
+    requires server { Begins (S.meaning server) }
+{
     let mut tree = Tree::begin(alloc, boot)?;
     visit(&mut tree, server)
 }
 
+/// Makes both servers, and takes the tour.
+fn program(alloc: Global) -> Result<Told, Errno> {
+    let server: Box<dyn Server> = hello(alloc)?;
+    let boot: Box<dyn Server> = empty_tree(alloc)?;
+    tour(alloc, boot, server)
+}
+
 fn main(rt: HostRuntime) -> io::Result<()> {
-    match tour(rt.alloc()) {
+    match program(rt.alloc()) {
         Ok(
             Told {
                 notice,
