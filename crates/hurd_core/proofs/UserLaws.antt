@@ -14,14 +14,14 @@ use Rattle.hurd_ports.specs.declared.parents.Parent.{Parent}
 use Rattle.hurd_ports.specs.Weights.{if_so}
 use Rattle.hurd_ports.specs.Counts.{counted, most_counted}
 use Rattle.hurd_ports.specs.Tables.{right_of, weigh_rights}
-use Rattle.hurd_ports.specs.Steps.{dropped, edit_at, named}
+use Rattle.hurd_ports.specs.Steps.{dropped, named}
 use Rattle.hurd_ports.proofs.TaskLaws.{edit-here}
 use Rattle.hurd_ports.proofs.WeightLaws.{port_weighs, weigh_alike, weigh_both, weigh_dropped}
 use Rattle.hurd_machine.proofs.Rights.{pending_counts, received_counts}
 use Rattle.hurd_machine.proofs.Sending.{task_there}
 use Rattle.hurd_machine.proofs.ServerParts.{none_counted, users_apart, users_gone}
 use Rattle.hurd_machine.proofs.Sites.{home_is, not_home}
-use Rattle.hurd_machine.proofs.Tasks.{count_edit, count_sent}
+use Rattle.hurd_machine.proofs.Tasks.{count_edit, count_more, count_sent, count_still, count_named}
 use Rattle.hurd_core.specs.declared.users.NodeUse.{NodeUse}
 use Rattle.hurd_machine.proofs.Asks.{first_ok, given_ok, on_ok}
 use Rattle.hurd_core.specs.Core.{Does, receive_asks, room_asks, send_asks}
@@ -54,27 +54,6 @@ user_fits es fs sites ts us (Some s) all kept more few = let one = ap one_if (sa
 pub user_counted : (es fs gs : List (Name × ℕ)) (sites : NameMap Site) (ts us : List Task) (o : Option Name) → AreUsers es sites ts → fs ≡ es → ((s : Name) → count_rights (uses_server sites s) us ≡ count_rights (uses_server sites s) ts + one_if (is_home s o))
     → ((s : Name) → counted gs s ≡ counted fs s + one_if (is_home s o)) → AreUsers gs sites us
 user_counted es fs gs sites ts us o all kept more added s = added s ∙ ap (λ (l : List (Name × ℕ)). counted l s + one_if (is_home s o)) kept ∙ ap (λ (k : ℕ). k + one_if (is_home s o)) (all s) ∙ sym (more s)
-
--- a task changed
-
-module _ (T : Right → Bool) (q : ℕ) (f : Task → Task) (ts : List Task) where
-  -- where it has as many rights that pass a test
-  pub count_still : ((x : Task) → count_list T (rights_of (f x)) ≡ count_list T (rights_of x)) → count_rights T (edit_task q f ts) ≡ count_rights T ts
-  count_still same = go (slice_get ts q) refl
-    where
-      go : (o : Option Task) → slice_get ts q ≡ o → count_rights T (edit_at q f ts o) ≡ count_rights T ts
-      go None e = refl
-      go (Some x) e =
-          let all = count_edit T q f ts x e in
-          let edited : count_rights T (edit_at q f ts (Some x)) ≡ count_rights T (edit_task q f ts) = ap (λ (o : Option Task). count_rights T (edit_at q f ts o)) (sym e) in
-          omega (arith, same x)
-
-  -- and where it has so many more
-  pub count_more : (x : Task) (k : ℕ) → slice_get ts q ≡ Some x → count_list T (rights_of (f x)) ≡ count_list T (rights_of x) + k → count_rights T (edit_task q f ts) ≡ count_rights T ts + k
-  count_more x k at more = let all = count_edit T q f ts x at in omega (arith, more)
-
-pub count_named : (T : Right → Bool) (q k : ℕ) (ts : List Task) → count_rights T (edit_task q (named k) ts) ≡ count_rights T ts
-count_named T q k ts = count_still T q (named k) ts (λ x. refl)
 
 -- what a right says of its server
 pub home_told : (sites : NameMap Site) (s : Name) (r : Right) → uses_server sites s r ≡ is_home s (home_used sites r)

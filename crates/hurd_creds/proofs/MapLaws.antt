@@ -42,10 +42,6 @@ module _ {A B : Type 0} (f : A → B) where
   pub map_values-empty : map_values f fin.empty ≡ fin.empty
   map_values-empty = same_map_by _ _ (λ q. get-map_values fin.empty q ∙ ap (option_map f) (fin.get-empty name_cmp q) ∙ sym (fin.get-empty name_cmp q))
 
-  option_map-steps : (g : A → A) (h : B → B) → ((x : A) → f (g x) ≡ h (f x)) → (o : Option A) → option_map f (option_map g o) ≡ option_map h (option_map f o)
-  option_map-steps g h alike None = refl
-  option_map-steps g h alike (Some x) = ap (λ (y : B). Some y) (alike x)
-
   option_map-kept : (g : A → A) → ((x : A) → f (g x) ≡ f x) → (o : Option A) → option_map f (option_map g o) ≡ option_map f o
   option_map-kept g kept None = refl
   option_map-kept g kept (Some x) = ap (λ (y : B). Some y) (kept x)

@@ -21,9 +21,6 @@ named es = map (λ (e : Name × Row). e.0) es
 abbrev pub Adding : (Name → List ℕ → Type 0) → List (Name × Row) → ℕ → List ℕ → List ℕ → Type 0
 Adding P es i start text = (rest : List ℕ) → Lines P (named (drop i es)) rest → AddsLines P (named es) start (text ++ rest)
 
-pub adding_none : (P : Name → List ℕ → Type 0) (es : List (Name × Row)) (text : List ℕ) → Adding P es 0 text text
-adding_none P es text rest it = (rest, refl, it)
-
 pub beyond : (i n : ℕ) → i < n → n ≤ i → ⊥
 beyond i n below past = omega arith
 

@@ -1,12 +1,11 @@
 -- Calls, and the servers that they bring.
-use Rattle.std.proofs.Common.{◌≡◌, ℕ, List, Option, Some, None, refl}
-use Rattle.std.specs.Prelude.{IfSome}
+use Rattle.std.proofs.Common.{◌≡◌, Option, Some, None, refl}
 use Rattle.std.specs.Option.{option_map}
-use Rattle.hurd_trans_iface.specs.Meaning.{Meaning, Begins, begin}
+use Rattle.hurd_trans_iface.specs.Meaning.{Meaning}
 use Rattle.hurd_machine.specs.declared.call.Call as call
 use Rattle.hurd_machine.specs.declared.call.Call.TheVariants.{PortDeallocate, PortSend, PortReceive, AuthMakeauth, DirLookup, IoRead, IoWrite, IoSeek, IoStat, IoReadable, IoGetOpenmodes, IoSetAllOpenmodes, IoDuplicate, IoReauthenticate, IoRestrictAuth, IoIdentity, FileSetSize, FileChmod, FileChown, FileCheckAccess, FileSetTranslator, FileGetTranslator, FileGetTranslatorCntl, FileGetcontrol, FsysStartup, StartFailed, FsysGetroot, FsysGoaway, FsysGetOptions, FsysSetOptions, DirReaddir, DirMkdir, DirMkfile, DirRmdir, DirUnlink, DirLink, DirRename}
-use Rattle.hurd_machine.specs.Calls.{BringsBegun, call_by}
-use Rattle.hurd_lists.specs.Calls.{begun, started, with_server}
+use Rattle.hurd_machine.specs.Calls.{call_by}
+use Rattle.hurd_lists.specs.Calls.{started, with_server}
 
 -- what a start with a server means
 started_by : {S : Type 0} (f : S → Meaning) (s : Option S) → call_by f (started s) ≡ started (option_map f s)
@@ -52,15 +51,3 @@ served_by f s (DirRmdir p name) = refl
 served_by f s (DirUnlink p name) = refl
 served_by f s (DirLink p name q) = refl
 served_by f s (DirRename p name q new) = refl
-
-begun_by : (words : List (List ℕ)) (m : Option Meaning) → begin words ≡ m → IfSome m Begins
-begun_by words None e = tt
-begun_by words (Some m) e = (words, e)
-
-are_begun : (words : Option (List (List ℕ))) → IfSome (begun words) Begins
-are_begun None = tt
-are_begun (Some words) = begun_by words (begin words) refl
-
-start_begun : (s : Option Meaning) → IfSome s Begins → BringsBegun (started s)
-start_begun None h = tt
-start_begun (Some m) h = h

@@ -36,9 +36,6 @@ more-fits a b room h = same_test _ _ (λ e. grind (arith, nat_tests)) (λ e. gri
 whole-fits : (t b k : ℕ) → k ≤ 2 → t ≤ most_path - k → nat_le b (most_path - k - t) ≡ nat_le (t + (b + k)) most_path
 whole-fits t b k small h = same_test _ _ (λ e. grind (arith, nat_tests)) (λ e. grind (arith, nat_tests))
 
-none-whole : (t b k : ℕ) → k ≤ 2 → most_path - k < t → nat_le (t + (b + k)) most_path ≡ false
-none-whole t b k small h = grind (arith, nat_tests)
-
 module _ (path name after : List ℕ) (is : names_in path ≡ name ∷ names_in after) (room : ℕ) where
   here : nat_le (length (behind_slashes (names_in path))) room ≡ nat_le (suc (length name + length (behind_slashes (names_in after)))) room
   here = ap (λ (ns : List (List ℕ)). nat_le (length (behind_slashes ns)) room) is ∙ ap (λ (k : ℕ). nat_le k room) (long-one name (names_in after))

@@ -159,9 +159,9 @@ module _ (w : World) (coherent : Coherent w) (T : Part → Type 0) where
       let more = count_sent (names_open o) r p.0 in
       let none = ap one_if (not_named w o r T i.1 h) in
       omega arith
-  holders_kept (MakeNode n s node) p o i h = count_named (names_open o) n.task.0 1 w.tasks p.0.seat p.0.is_task
-  holders_kept (MakeOpen n z) p o i h = count_named (names_open o) n.task.0 1 w.tasks p.seat p.is_task
-  holders_kept (Attach s at j node) p o i h = count_named (names_open o) s.task.0 2 w.tasks p.next.seat p.next.is_task
+  holders_kept (MakeNode n s node) p o i h = count_named (names_open o) n.task.0 1 w.tasks
+  holders_kept (MakeOpen n z) p o i h = count_named (names_open o) n.task.0 1 w.tasks
+  holders_kept (Attach s at j node) p o i h = count_named (names_open o) s.task.0 2 w.tasks
   holders_kept c p o i h = refl
 
   users_kept : (c : Change) → Proper w c → (s : Name) → Within T w c → (T (UsersOf s) → ⊥) → users (next_world c w) s ≡ users w s
@@ -175,8 +175,8 @@ module _ (w : World) (coherent : Coherent w) (T : Part → Type 0) where
       let none = ap one_if (not_on w s r T i.1 h) in
       omega arith
   users_kept (MakeNode n q node) p s i h = users_named w (apply (MakeNode n q node) w) coherent n p.0 1 n (next_not w n p.0) (λ m apart. home-apart w.sites n (new_site q) m apart) refl s
-  users_kept (MakeOpen n z) p s i h = count_named (is_on w s) n.task.0 1 w.tasks p.seat p.is_task
-  users_kept (Attach q at j node) p s i h = count_named (is_on w s) q.task.0 2 w.tasks p.next.seat p.next.is_task
+  users_kept (MakeOpen n z) p s i h = count_named (is_on w s) n.task.0 1 w.tasks
+  users_kept (Attach q at j node) p s i h = count_named (is_on w s) q.task.0 2 w.tasks
   users_kept c p s i h = refl
 
   task_kept : (c : Change) → (q : ℕ) → Within T w c → (T (TaskOf q) → ⊥) → task_at (next_world c w) q ≡ task_at w q

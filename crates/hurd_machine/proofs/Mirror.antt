@@ -112,11 +112,11 @@ module _ (S : ℕ → Bool) (v x y : World) (before : Inside S v x) (cx : Cohere
   holders_alike (EditTask q f) px py m o e = counts_own q f (names_open o) (names_open o) px.1 py.1 m.0 px.2 py.2 (λ r i. refl) (λ r i. refl) e
   holders_alike (Send r q) px py m o e = counts_sent q r (names_open o) (names_open o) px.0 py.0 px.1 py.1 refl e
   holders_alike (MakeNode n s node) px py m o e =
-      count_named (names_open o) n.task.0 1 y.tasks py.0.seat py.0.is_task ∙ e ∙ sym (count_named (names_open o) n.task.0 1 x.tasks px.0.seat px.0.is_task)
+      count_named (names_open o) n.task.0 1 y.tasks ∙ e ∙ sym (count_named (names_open o) n.task.0 1 x.tasks)
   holders_alike (MakeOpen n z) px py m o e =
-      count_named (names_open o) n.task.0 1 y.tasks py.seat py.is_task ∙ e ∙ sym (count_named (names_open o) n.task.0 1 x.tasks px.seat px.is_task)
+      count_named (names_open o) n.task.0 1 y.tasks ∙ e ∙ sym (count_named (names_open o) n.task.0 1 x.tasks)
   holders_alike (Attach s at j node) px py m o e =
-      count_named (names_open o) s.task.0 2 y.tasks py.next.seat py.next.is_task ∙ e ∙ sym (count_named (names_open o) s.task.0 2 x.tasks px.next.seat px.next.is_task)
+      count_named (names_open o) s.task.0 2 y.tasks ∙ e ∙ sym (count_named (names_open o) s.task.0 2 x.tasks)
   holders_alike c px py m o e = e
 
   users_alike : (c : Change) → Proper x c → Proper y c → May S v x c → Inside S v (apply c x) → (s : Name) → users y s ≡ users x s → users (next_world c y) s ≡ users (next_world c x) s
@@ -130,9 +130,9 @@ module _ (S : ℕ → Bool) (v x y : World) (before : Inside S v x) (cx : Cohere
       users_named y (apply (MakeNode n q node) y) cy n py.0 1 n (next_not y n py.0) (λ m apart. home-apart y.sites n (new_site q) m apart) refl s ∙ e
       ∙ sym (users_named x (apply (MakeNode n q node) x) cx n px.0 1 n (next_not x n px.0) (λ m apart. home-apart x.sites n (new_site q) m apart) refl s)
   users_alike (MakeOpen n z) px py m after s e =
-      count_named (is_on y s) n.task.0 1 y.tasks py.seat py.is_task ∙ e ∙ sym (count_named (is_on x s) n.task.0 1 x.tasks px.seat px.is_task)
+      count_named (is_on y s) n.task.0 1 y.tasks ∙ e ∙ sym (count_named (is_on x s) n.task.0 1 x.tasks)
   users_alike (Attach q at j node) px py m after s e =
-      count_named (is_on y s) q.task.0 2 y.tasks py.next.seat py.next.is_task ∙ e ∙ sym (count_named (is_on x s) q.task.0 2 x.tasks px.next.seat px.next.is_task)
+      count_named (is_on y s) q.task.0 2 y.tasks ∙ e ∙ sym (count_named (is_on x s) q.task.0 2 x.tasks)
   users_alike c px py m after s e = e
 
   module _ (c : Change) (px : Proper x c) (py : Proper y c) (m : May S v x c) (after : Inside S v (apply c x)) where

@@ -1,6 +1,6 @@
 -- What each part of a world is after a server came or went, or lost its seat.
 use Rattle.std.proofs.Common.{◌≡◌, ◌≢◌, ◌⊎◌, ℕ, not, Bool, true, false, cond, List, [], ◌∷◌, Option, Some, None, slice_get, sym, refl, ◌∙◌, ap, ap₂, inl, inr, arith}
-use Rattle.hurd_machine.proofs.Common.{ABody, ATask, AUsers, AnEmpty, AnOpen, AnOptions, AttrOf, Below, BodyOf, Coherent, Control, DropServer, EmptyOf, Io, IoRight, IsAmong, Name, Node, OpenOf, OptionsOf, Part, Right, ServerInfo, Start, Task, TaskOf, Unseat, UsersOf, World, active_at, apply, count_list, count_rights, edit_task, empty, get, holders, home_at, insert, is_home, is_on, is_other, names_open, new_site, open_at, part, rights_of, server_at, site_at, users, vacated, with_active}
+use Rattle.hurd_machine.proofs.Common.{ABody, ATask, AUsers, AnEmpty, AnOpen, AnOptions, AttrOf, Below, BodyOf, Coherent, Control, DropServer, EmptyOf, Io, IoRight, IsAmong, Name, Node, OpenOf, OptionsOf, Part, Right, ServerInfo, Start, Task, TaskOf, Unseat, UsersOf, World, active_at, apply, count_list, count_rights, edit_task, get, holders, home_at, insert, is_home, is_on, is_other, names_open, new_site, open_at, part, rights_of, server_at, site_at, users, vacated, with_active}
 use Rattle.std.specs.Option.{option_map}
 use Rattle.hurd_nodes.proofs.Sites.{home-was, home-stays, home-edited, none-left, site-left, home_by}
 use Rattle.hurd_machine.proofs.Sites.{idle_site, home_is, not_home}
@@ -30,7 +30,7 @@ pub users_named : (w y : World) (c : Coherent w) (n : Name) (next : IsNext w n) 
 users_named w y c n next k m new homes tasks q =
     ap (count_rights (is_on y q)) tasks
     ∙ users_by w y q (edit_task n.task.0 (named k) w.tasks) (λ t x r at i. ap (is_home q) (homes r.node (unnoded w c n next k m new t x (Io r) r.node at i (inl refl))))
-    ∙ count_named (is_on w q) n.task.0 k w.tasks next.seat next.is_task
+    ∙ count_named (is_on w q) n.task.0 k w.tasks
 
 -- nothing is counted that passes no test
 pub none_counted : (ts : List Task) → count_rights (λ r. false) ts ≡ 0
@@ -57,23 +57,23 @@ module _ (w : World) (c : Coherent w) (s at : Name) (i : ServerInfo) (node : Nod
   come = come_world w s at i node
 
   come_holders : (o : Name) → holders come o ≡ holders w o
-  come_holders o = count_named (names_open o) s.task.0 2 w.tasks p.next.seat p.next.is_task
+  come_holders o = count_named (names_open o) s.task.0 2 w.tasks
 
   come_users : (q : Name) → users come q ≡ users w q
   come_users q = users_named w come c s p.next 2 i.root (root_new w c s at i node p) (come_home w c s at i node p) refl q
 
   -- it leaves all parts but those that are its own, and its seat's
   pub come_parts : (k : Part) → k ≢ TaskOf s.task.0 → k ≢ AttrOf i.root → k ≢ EmptyOf i.root → k ≢ BodyOf i.root → k ≢ AttrOf at → k ≢ OptionsOf s → part come k ≡ part w k
-  come_parts (AttrOf n) task attr empty body seat options =
+  come_parts (AttrOf n) task attr emptiness body seat options =
       let apart : n ≢ i.root = λ e. attr (ap AttrOf e) in
       attr_same (ap header_in (get_apart w.nodes i.root node n apart))
       (edit_apart (insert w.sites i.root (new_site s)) at (with_active (Some s)) n (λ e. seat (ap AttrOf e)) ∙ get_apart w.sites i.root (new_site s) n apart)
-  come_parts (EmptyOf n) task attr empty body seat options = ap (λ (o : Option Node). AnEmpty (empty_in o)) (get_apart w.nodes i.root node n (λ e. empty (ap EmptyOf e)))
-  come_parts (BodyOf n) task attr empty body seat options = ap (λ (o : Option Node). ABody (body_in o)) (get_apart w.nodes i.root node n (λ e. body (ap BodyOf e)))
-  come_parts (OpenOf o) task attr empty body seat options = ap (AnOpen (open_at w o)) (come_holders o)
-  come_parts (OptionsOf q) task attr empty body seat options = ap AnOptions (get_apart w.servers s i q (λ e. options (ap OptionsOf e)))
-  come_parts (UsersOf q) task attr empty body seat options = ap AUsers (come_users q)
-  come_parts (TaskOf t) task attr empty body seat options = ap ATask (edit-apart s.task.0 (named 2) w.tasks t (λ e. task (ap TaskOf e)))
+  come_parts (EmptyOf n) task attr emptiness body seat options = ap (λ (o : Option Node). AnEmpty (empty_in o)) (get_apart w.nodes i.root node n (λ e. emptiness (ap EmptyOf e)))
+  come_parts (BodyOf n) task attr emptiness body seat options = ap (λ (o : Option Node). ABody (body_in o)) (get_apart w.nodes i.root node n (λ e. body (ap BodyOf e)))
+  come_parts (OpenOf o) task attr emptiness body seat options = ap (AnOpen (open_at w o)) (come_holders o)
+  come_parts (OptionsOf q) task attr emptiness body seat options = ap AnOptions (get_apart w.servers s i q (λ e. options (ap OptionsOf e)))
+  come_parts (UsersOf q) task attr emptiness body seat options = ap AUsers (come_users q)
+  come_parts (TaskOf t) task attr emptiness body seat options = ap ATask (edit-apart s.task.0 (named 2) w.tasks t (λ e. task (ap TaskOf e)))
 
 -- and what is alike before it came is so after
 module _ (x y : World) (cx : Coherent x) (cy : Coherent y) (s at : Name) (i : ServerInfo) (node : Node) (px : Comes x s at i node) (py : Comes y s at i node) where
@@ -168,7 +168,7 @@ module _ (x y : World) (s : Name) where
 
 -- a server that lost its seat
 
-pub unseated_users : (w : World) (n s : Name) → users (apply (Unseat n) w) s ≡ users w s
+unseated_users : (w : World) (n s : Name) → users (apply (Unseat n) w) s ≡ users w s
 unseated_users w n s = users_by w (apply (Unseat n) w) s w.tasks (λ t x r at i. ap (is_home s) (home-edited w.sites n None r.node))
 
 pub unseated_parts : (w : World) (n : Name) (k : Part) → k ≢ AttrOf n → part (apply (Unseat n) w) k ≡ part w k

@@ -1,7 +1,7 @@
 -- What is counted of the names that rights have.
 use Rattle.std.proofs.Common.{◌≡◌, inl, inr, ℕ, zero, suc, ◌+◌, ◌*◌, ◌<◌, ◌≤◌, ◌||◌, List, [], ◌∷◌, ◌++◌, Bool, true, false, cond, map, length, drop, refl, sym, ap, ◌∙◌, arith, add-one, length-append}
 use Rattle.std.proofs.lemmas.List.{drop_all, length-map, length-set}
-use Rattle.std.specs.Prelude.{Option, Some, None, Result, Ok, Err, IsOk, OnErr, slice_get, slice_set, slice_index_or, nat_lt}
+use Rattle.std.specs.Prelude.{Option, Some, None, slice_get, slice_set, slice_index_or, nat_lt}
 use Rattle.indexmap.specs.IndexMap.{IndexMap, get}
 use Rattle.hurd_creds.specs.Names.{same_name}
 use Rattle.hurd_creds.specs.Limits.{most_tasks}
@@ -25,11 +25,15 @@ use Rattle.hurd_ports.proofs.HeldLaws.{held_counted, one_told}
 use Rattle.hurd_ports.proofs.WeightLaws.{either_weighed, list_weighed, tasks_weighed, weigh_alike, weigh_append, weigh_at, weigh_both, weigh_bound, weigh_set}
 
 module _ {S : Type 0} (m l : IndexMap Name ℕ S) (n : Name) where
+  -- what is written under the name stands there
+  pub count-written : (v : Option ℕ) → ((q : Name) → get same_name l q ≡ cond (same_name n q) v (get same_name m q)) → get same_name l n ≡ v
+  count-written v w = w n ∙ ap (λ (b : Bool). cond b v (get same_name m n)) (same_name-itself n)
+
   -- so many more are counted
   pub count-added : (k j : ℕ) → k ≡ counted m.entries n → ((q : Name) → get same_name l q ≡ cond (same_name n q) (Some (k + j)) (get same_name m q))
       → (o : Name) → counted l.entries o ≡ counted m.entries o + if_so (same_name o n) j
   count-added k j is w o = elim (same_or_apart o n) [
-    | inl e ↦ rw (e, same_name-itself n) (ap or_none (w n ∙ ap (λ (b : Bool). cond b (Some (k + j)) (get same_name m n)) (same_name-itself n)) ∙ ap (λ (i : ℕ). i + j) is)
+    | inl e ↦ rw (e, same_name-itself n) (ap or_none (count-written (Some (k + j)) w) ∙ ap (λ (i : ℕ). i + j) is)
     | inr apart ↦
         let other = same_name-apart n o (λ e. apart (sym e)) in
         rw (same_name-apart o n apart) (ap or_none (w o ∙ ap (λ (b : Bool). cond b (Some (k + j)) (get same_name m o)) other) ∙ no_more (counted m.entries o))
@@ -42,7 +46,7 @@ module _ {S : Type 0} (m l : IndexMap Name ℕ S) (n : Name) where
   pub count-less : (k j : ℕ) (v : Option ℕ) → k ≡ counted m.entries n → or_none v + j ≡ k → ((q : Name) → get same_name l q ≡ cond (same_name n q) v (get same_name m q))
       → (o : Name) → counted l.entries o + if_so (same_name o n) j ≡ counted m.entries o
   count-less k j v is less w o = elim (same_or_apart o n) [
-    | inl e ↦ rw (e, same_name-itself n) (ap (λ (x : ℕ). x + j) (ap or_none (w n ∙ ap (λ (b : Bool). cond b v (get same_name m n)) (same_name-itself n))) ∙ less ∙ is)
+    | inl e ↦ rw (e, same_name-itself n) (ap (λ (x : ℕ). x + j) (ap or_none (count-written v w)) ∙ less ∙ is)
     | inr apart ↦
         let other = same_name-apart n o (λ e. apart (sym e)) in
         rw (same_name-apart o n apart) (no_less (counted l.entries o) ∙ ap or_none (w o ∙ ap (λ (b : Bool). cond b v (get same_name m o)) other))
@@ -50,12 +54,6 @@ module _ {S : Type 0} (m l : IndexMap Name ℕ S) (n : Name) where
     where
       no_less : (a : ℕ) → a + 0 ≡ a
       no_less a = omega arith
-
--- an insert at a name that is counted needs no memory
-pub on_present : {A E : Type 0} (r : Result A E) (o : Option ℕ) → OnErr r (o ≡ None) → 0 < or_none o → IsOk r
-on_present (Ok x) o none some = refl
-on_present (Err e) None none some = absurd (omega arith)
-on_present (Err e) (Some k) none some = absurd (cc)
 
 -- what ways name, from one on
 abbrev pub names_from : (Name → Bool) → ℕ → List Parent → ℕ

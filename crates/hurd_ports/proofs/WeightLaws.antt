@@ -1,5 +1,5 @@
 -- What rights weigh together, after each change of a task.
-use Rattle.std.proofs.Common.{◌≡◌, append_assoc, get_or, take, ◌<◌, ℕ, zero, suc, ◌+◌, ◌*◌, ◌≤◌, ◌==◌, ◌||◌, Bool, true, false, List, [], ◌∷◌, ◌++◌, length, map, refl, ap, ◌∙◌, arith, add-one}
+use Rattle.std.proofs.Common.{◌≡◌, append_assoc, ℕ, zero, suc, ◌+◌, ◌*◌, ◌≤◌, ◌==◌, ◌||◌, Bool, true, false, List, [], ◌∷◌, ◌++◌, length, map, refl, ap, ◌∙◌, arith}
 use Rattle.std.proofs.lemmas.Bool.Decides.{nat_tests}
 use Rattle.std.proofs.lemmas.List.{map_push}
 use Rattle.std.specs.Prelude.{Option, Some, slice_get, slice_set, nat_lt}
@@ -74,15 +74,6 @@ pub weigh_at : (W : Right → ℕ) (ts : List Task) (q : ℕ) (x : Task) → sli
 weigh_at W [] q x at = absurd (cc)
 weigh_at W (z ∷ ts) zero x at = let e : z ≡ x = cc in rw e (omega arith)
 weigh_at W (z ∷ ts) (suc q) x at = omega (arith, weigh_at W ts q x at)
-
--- a sum, as a loop finds it
-pub weigh_more : {X : Type 0} (W : X → ℕ) (xs : List X) (i : ℕ) (d : X) → i < length xs → weigh_list W (take (i + 1) xs) ≡ weigh_list W (take i xs) + W (get_or xs i d)
-weigh_more {X = X} W xs i d below = rw add-one (go xs i below)
-  where
-    go : (xs : List X) (i : ℕ) → i < length xs → weigh_list W (take (suc i) xs) ≡ weigh_list W (take i xs) + W (get_or xs i d)
-    go [] i below = absurd (omega arith)
-    go (x ∷ xs) zero below = omega arith
-    go (x ∷ xs) (suc i) below = let rest = go xs i (omega arith) in omega arith
 
 -- one task
 

@@ -1,5 +1,6 @@
 //! How often names are counted.
-ghost use Rattle.std.specs.Prelude.{◌≡◌, ◌≤◌, ◌<◌, ◌+◌};
+ghost use Rattle.std.specs.Prelude.{◌≡◌, ◌≤◌, ◌<◌, ◌+◌, None};
+ghost use Rattle.std.specs.Map.{lookup};
 ghost use Rattle.indexmap.specs.IndexMap.{spare};
 ghost use Rattle.hurd_creds.specs.Names.{same_name};
 ghost use Rattle.hurd_creds.specs.declared.name.Name.{Name};
@@ -33,10 +34,11 @@ pub fn add(counts: &mut Counts, name: Name, more: u128)
     counts.insert(name, count + more).unwrap();
 }
 
-/// Counts the name so many times less. Takes no room.
+/// Counts the name so many times less, and keeps nothing of it if it is counted no more. Takes no room.
 pub fn subtract(counts: &mut Counts, name: Name, less: u128)
     requires { less ≤ counted counts.old.entries name }
     ensures less { (n : Name) → counted counts.new.entries n + if_so (same_name n name) less ≡ counted counts.old.entries n }
+    ensures gone { counted counts.new.entries name ≡ 0 → lookup (same_name name) counts.new.entries ≡ None }
     ensures room { spare counts.old ≤ spare counts.new }
 {
     if count(counts, name) > less {

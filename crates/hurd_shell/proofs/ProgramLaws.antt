@@ -41,20 +41,10 @@ tried_leads {A} {B} {t} {p} {q} {w} {x} k l = record {
   goes = tried_goes t k p w ∙ (ap (λ (z : Pause A). go t (tried z.rest k) z.world) l.goes ∙ sym (tried_goes t k q x));
 }
 
-pub tried_gives : {A B : Type 0} (r : Result A Errno) (k : Result A Errno → Prog B) → tried (gives r) k ≡ k r
-unfolding tried
-tried_gives r k = refl
-
 -- the first of two programs ends, and the other goes on
 pub tried_ends : {A B : Type 0} {t : ℕ} {p : Prog A} {r : Result A Errno} {w x : World} (k : Result A Errno → Prog B) → Leads t p w (gives r) x → Leads t (tried p k) w (k r) x
 unfolding tried
 tried_ends {A} {B} {t} {p} {r} {w} {x} k a = record { goes = (tried_leads {q = gives r} k a).goes }
-
--- the first of two programs asks for a server, and goes on in front of the other
-pub tried_asks : {A B : Type 0} {t : ℕ} {p : Prog A} {words : List (List ℕ)} {f : Option Meaning → Prog A} {w x : World} (k : Result A Errno → Prog B)
-    → Leads t p w (asks words f) x → Leads t (tried p k) w (asks words (λ server. tried (f server) k)) x
-unfolding tried
-tried_asks {A} {B} {t} {p} {words} {f} {w} {x} k a = record { goes = (tried_leads {q = asks words f} k a).goes }
 
 ends_behind : {A : Type 0} (t : ℕ) (p q : Prog A) (w x y : World) (r : Result A Stop) → Leads t p w q x → Ends t q x r y → Ends t p w r y
 ends_behind t p q w x y (Ok a) l d = leads_trans l d

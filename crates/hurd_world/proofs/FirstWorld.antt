@@ -3,7 +3,7 @@ use Rattle.std.proofs.Common.{◌≡◌, inl, inr, ℕ, ◌+◌, ◌<◌, Bool, 
 use Rattle.std.specs.Prelude.{Option, Some, None, cond}
 use Rattle.std.specs.Option.{option_map}
 use Rattle.std.specs.FinMap as fin
-use Rattle.hurd_machine.proofs.Common.{AreFilled, AreSeated, AreTables, AtRest, Below, Control, Counted, Dir, Hangs, HasDistinctNames, HasOpens, Header, IdSets, Io, IsAmong, IsFilled, IsGivenRight, IsShaped, Kind, Linked, Meaning, Name, Node, NodeState, Opened, READ, Right, ServerInfo, Site, Sound, Start, Task, WRITE, World, active_in, asks, body_of, boot_mode, boot_name, booted, empty_body, entries, has_mode, header_of, home_in, info_in, is_dir, is_plain, is_tree, lists, lists_at, name_cmp, name_of, new_root, new_site, open_at, rights_of, server_of, state_of, task_at, times_in, times_listed, tree_by, ways_of}
+use Rattle.hurd_machine.proofs.Common.{AreFilled, AreSeated, AreTables, AtRest, Below, Control, Counted, Dir, Hangs, HasDistinctNames, HasOpens, Header, IdSets, Io, IsAmong, IsFilled, IsGivenRight, IsShaped, Kind, Linked, Meaning, Name, Node, NodeState, Opened, READ, Right, ServerInfo, Site, Sound, Start, Task, WRITE, World, active_in, asks, body_of, boot_mode, boot_name, booted, empty_body, has_mode, header_of, home_in, info_in, is_dir, is_plain, is_tree, lists, lists_at, name_of, new_root, new_site, open_at, rights_of, server_of, state_of, task_at, times_in, times_listed, tree_by, ways_of}
 use Rattle.hurd_nodes.proofs.Sites.{site-of, seat-site, home_by}
 use Rattle.hurd_creds.proofs.NameLaws.{get_here, same_name-itself}
 use Rattle.hurd_creds.proofs.MapLaws.{get-map_values}

@@ -2,7 +2,8 @@
 use Rattle.std.proofs.Common.{◌≡◌, ◌∙◌, Bool, Ok, refl, sym, inl, ap}
 use Rattle.std.proofs.lemmas.Result.{err_from_is_err_and}
 use Rattle.hurd_machine.proofs.Common.{NodeState, Right, begun_info, begun_root, count_rights, name_step, naming_of, shown, uses_server}
-use Rattle.hurd_core.proofs.UserLaws.{count_named, unhoused_fits, users_reseated, users_still}
+use Rattle.hurd_machine.proofs.Tasks.{count_named}
+use Rattle.hurd_core.proofs.UserLaws.{unhoused_fits, users_reseated, users_still}
 use Rattle.hurd_core.proofs.CoreLaws.{naming-refused}
 use Rattle.hurd_core.proofs.ServerLaws.{attach-lacks, attach-done, name-left, seated}
 use Rattle.hurd_core.proofs.the_core.Core.attach.Goals as goal

@@ -6,7 +6,8 @@ use Rattle.std.proofs.lemmas.Result.{err_from_is_err_and}
 use Rattle.hurd_core.specs.ToMake.{new_node_of}
 use Rattle.hurd_core.proofs.DirLaws.{dir-refused, dir-unnamed, dir-lacks, dir-made, makes-dir}
 use Rattle.hurd_core.proofs.MakingLaws.{make-lacks, made-apart}
-use Rattle.hurd_core.proofs.UserLaws.{count_named, rehoused, unhoused_fits, users_still, zero_if}
+use Rattle.hurd_machine.proofs.Tasks.{count_named}
+use Rattle.hurd_core.proofs.UserLaws.{rehoused, unhoused_fits, users_still, zero_if}
 use Rattle.hurd_core.proofs.the_core.Core.make_dir.Goals as goal
 
 pub returns-in_err-can_make : goal.returns-in_err-can_make

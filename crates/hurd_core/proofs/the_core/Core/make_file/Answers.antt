@@ -4,7 +4,8 @@ use Rattle.std.specs.Prelude.{Ok, Result}
 use Rattle.hurd_creds.proofs.NameLaws.{same_name-itself}
 use Rattle.hurd_machine.proofs.Common.{Errno, File, NodeState, PortState, Right, count_rights, home_in, is_home, shown, uses_node, uses_server, world_from}
 use Rattle.hurd_core.proofs.RightLaws.{open-does}
-use Rattle.hurd_core.proofs.UserLaws.{count_named, inserted_counts, rehoused, unhoused_fits, users_still}
+use Rattle.hurd_machine.proofs.Tasks.{count_named}
+use Rattle.hurd_core.proofs.UserLaws.{inserted_counts, rehoused, unhoused_fits, users_still}
 use Rattle.std.proofs.lemmas.Result.{err_from_is_err_and}
 use Rattle.hurd_core.specs.ToMake.{new_node_of}
 use Rattle.hurd_core.proofs.CoreLaws.{reserve-lacks}
