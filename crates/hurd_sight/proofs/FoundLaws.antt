@@ -1,16 +1,18 @@
 -- What is collected of nodes, one thing after another.
-use Rattle.std.proofs.Common.{◌≡◌, ◌∙◌, ◌⊎◌, inl, inr, sym, refl, ap, subst, ℕ, ◌+◌, ◌<◌, Bool, true, false, true≢false, if◌then◌else◌, List, [], ◌∷◌, ◌++◌, take, length, get_or, append_assoc, append-nil}
-use Rattle.std.specs.Prelude.{Option, Some, None, is_some}
+use Rattle.std.proofs.Common.{◌≡◌, ◌∙◌, ◌⊎◌, inl, inr, sym, refl, ap, subst, ℕ, zero, suc, ◌+◌, ◌<◌, ◌≤◌, arith, Bool, true, false, true≢false, if◌then◌else◌, List, [], ◌∷◌, ◌++◌, take, length, get_or, append_assoc, append-nil}
+use Rattle.std.specs.Prelude.{Option, Some, None, is_some, slice_get}
 use Rattle.hurd_machine.proofs.Common.{IsAmong, Name, flat_map, list_any, lookup, same_name}
 use Rattle.indexmap.specs.IndexMap.{insert_entry}
 use Rattle.std.proofs.lemmas.Bool.{or_left, or_right, or_parts, cases_Bool}
 use Rattle.std.proofs.lemmas.List.{take_more}
 use Rattle.std.proofs.lemmas.List.Concat.{flat_map-append}
 use Rattle.std.proofs.lemmas.List.Folds.{list_any-append}
-use Rattle.hurd_creds.proofs.NameLaws.{same_name-itself}
+use Rattle.hurd_creds.proofs.NameLaws.{equal_if_same, same_name-itself}
 use Rattle.hurd_sight.specs.Found.{found_more, gathered, is_found, why_of, with_why}
 use Rattle.hurd_sight.specs.declared.found.Why.{Why}
+use Rattle.hurd_machine.proofs.Holders.{any_among}
 use Rattle.hurd_machine.proofs.Tasks.{among_cases, among_left, among_right}
+use Rattle.hurd_sight.proofs.ReachLaws.{any_found}
 use Rattle.hurd_sight.proofs.WalkLaws.{Walk, each}
 
 abbrev pub Entries : Type 0
@@ -129,6 +131,59 @@ among_why (Some m) z n y (inr none) = absurd none
 
 pub why_among : (o : Option Name) (z : Why) (n : Name) → o ≡ Some n → IsAmong (n, z) (with_why o z)
 why_among o z n is = subst (λ (p : Option Name). IsAmong (n, z) (with_why p z)) (sym is) (inl refl)
+
+-- what is among the first of a list
+
+pub among_taken : {X : Type 0} (x : X) (xs : List X) (i : ℕ) → slice_get xs i ≡ Some x → IsAmong x (take (suc i) xs)
+among_taken x [] i at = absurd (cc)
+among_taken x (y ∷ ys) zero at = inl (cc)
+among_taken x (y ∷ ys) (suc i) at = inr (among_taken x ys i at)
+
+pub taken_among : {X : Type 0} (x : X) (k : ℕ) (xs : List X) → IsAmong x (take k xs) → IsAmong x xs
+taken_among x zero xs a = absurd a
+taken_among x (suc k) [] a = absurd a
+taken_among x (suc k) (y ∷ ys) (inl e) = inl e
+taken_among x (suc k) (y ∷ ys) (inr a) = inr (taken_among x k ys a)
+
+-- more of the first of them
+pub taken_front : {X : Type 0} (x : X) (j k : ℕ) (xs : List X) → j ≤ k → IsAmong x (take j xs) → IsAmong x (take k xs)
+taken_front x zero k xs below a = absurd a
+taken_front x (suc j) zero xs below a = absurd (omega (arith, below))
+taken_front x (suc j) (suc k) [] below a = a
+taken_front x (suc j) (suc k) (y ∷ ys) below (inl e) = inl e
+taken_front x (suc j) (suc k) (y ∷ ys) below (inr a) = inr (taken_front x j k ys (omega (arith, below)) a)
+
+-- what is among some entries is found
+pub among_found : (e : Name × Why) (es : Entries) → IsAmong e es → is_found e.0 es ≡ true
+among_found e es a = any_among (λ (x : Name × Why). same_name e.0 x.0) e es a (same_name-itself e.0)
+
+-- and what is found is among them
+pub found_among : (n : Name) (es : Entries) → is_found n es ≡ true → (e : Name × Why) × IsAmong e es × (n ≡ e.0)
+found_among n es f = let it = any_found (λ (x : Name × Why). same_name n x.0) es f in (it.0, it.1, equal_if_same n it.0.0 it.2)
+
+-- and so it is among more of the first of them
+pub found_later : (n : Name) (j i : ℕ) (es : Entries) → j ≤ i → is_found n (take j es) ≡ true → is_found n (take i es) ≡ true
+found_later n j i es below f =
+    let it = found_among n (take j es) f in
+    subst (λ (m : Name). is_found m (take i es) ≡ true) (sym it.2) (among_found it.0 (take i es) (taken_front it.0 j i es below it.1))
+
+-- an element of a list is at an index
+among_at : {X : Type 0} (x : X) (xs : List X) → IsAmong x xs → (i : ℕ) × (slice_get xs i ≡ Some x)
+among_at x [] a = absurd a
+among_at x (y ∷ ys) (inl e) = (zero, cc)
+among_at x (y ∷ ys) (inr a) = let it = among_at x ys a in (suc it.0, it.1)
+
+-- and the front of a list has it at the same index, or earlier
+pub front_at : {X : Type 0} (x : X) (xs ys : List X) (i : ℕ) → slice_get (xs ++ ys) i ≡ Some x → IsAmong x xs → (j : ℕ) × (j ≤ i) × (slice_get xs j ≡ Some x)
+front_at x [] ys i at a = absurd a
+front_at x (z ∷ zs) ys zero at a = (zero, omega arith, at)
+front_at x (z ∷ zs) ys (suc i) at (inl e) = (zero, omega arith, cc)
+front_at x (z ∷ zs) ys (suc i) at (inr a) = let it = front_at x zs ys i at a in (suc it.0, omega (arith, it.1), it.2)
+
+-- what is there already adds nothing
+pub gathered_nothing : (xs es : Entries) → ((n : Name) (y : Why) → IsAmong (n, y) xs → is_found n es ≡ true) → gathered xs es ≡ es
+gathered_nothing [] es there = refl
+gathered_nothing (x ∷ xs) es there = rw (there x.0 x.1 (inl refl)) (gathered_nothing xs es (λ n y a. there n y (inr a)))
 
 -- in the map of the code
 

@@ -5,6 +5,8 @@ pub mod ReachLaws
 pub mod FoundLaws
 pub mod NodeLaws
 pub mod FollowLaws
+pub mod RoundLaws
+pub mod PlainLaws
 pub mod SightLaws
 pub mod NameLaws
 pub mod PartLaws

@@ -1,42 +1,22 @@
 -- What is found from the rights of some tasks is what they see.
-use Rattle.std.proofs.Common.{◌≡◌, ◌∙◌, ◌⊎◌, inl, inr, sym, refl, ap, subst, ℕ, zero, suc, arith, Bool, true, true≢false, List, [], ◌∷◌, take, take_all, length}
+use Rattle.std.proofs.Common.{◌≡◌, ◌∙◌, ◌⊎◌, inl, inr, sym, refl, ap, subst, ℕ, arith, Bool, true, List, [], ◌∷◌, ◌++◌, ◌≤◌, take, take_all, length}
 use Rattle.std.specs.Prelude.{Option, Some, None, slice_get}
-use Rattle.hurd_machine.proofs.Common.{Active, Child, Control, Exec, Holds, IdSets, Io, IoRight, IsAmong, Name, Pending, Right, Seen, ServerRoot, Start, Target, Task, TaskId, Way, World, boot_root, rights_of, same_name}
-use Rattle.hurd_creds.proofs.NameLaws.{equal_if_same, same_name-itself}
+use Rattle.hurd_machine.proofs.Common.{Active, Child, Control, Exec, Holds, IdSets, Io, IoRight, IsAmong, Name, Pending, Right, Seen, ServerRoot, Start, Target, Task, TaskId, Way, World, boot_root, rights_of}
+use Rattle.std.proofs.lemmas.List.{take-append-le}
+use Rattle.std.proofs.lemmas.Option.{slice_get_within}
 use Rattle.hurd_ports.specs.declared.parents.Parent.{Parent as Pair}
 use Rattle.hurd_machine.specs.World.{nodes_of}
 use Rattle.hurd_machine.specs.Sight.{Root, Held, Controlled, Parent}
 use Rattle.hurd_sight.specs.Reach.{Reaches, among}
-use Rattle.hurd_sight.specs.Found.{FoundAll, FoundIsSeen, IsBefore, IsSight, IsWhy, found_from, gathered, is_found, of_active, of_children, of_node, of_nodes, of_parent, of_right, of_server, of_task, of_tasks, of_way, root_of}
+use Rattle.hurd_sight.specs.Found.{FoundAll, FoundIsSeen, IsBefore, IsSight, IsWhy, found_from, gathered, is_found, of_active, of_children, of_node, of_parent, of_plain, of_right, of_server, of_task, of_tasks, of_way, root_of}
 use Rattle.hurd_sight.specs.declared.found.Why.{Why}
 use Rattle.hurd_sight.specs.declared.found.Why.TheVariants as why
 use Rattle.hurd_sight.proofs.CouldLaws.{could_is_enough}
-use Rattle.hurd_sight.proofs.ReachLaws.{any_found, listed_task, ours, served_is}
-use Rattle.hurd_sight.proofs.FoundLaws.{Entries, among_flat, among_why, flat_among, gathered_kept, gathered_said, gathered_there, why_among}
+use Rattle.hurd_sight.proofs.ReachLaws.{listed_task, ours, served_is}
+use Rattle.hurd_sight.proofs.FoundLaws.{Entries, among_flat, among_found, among_why, flat_among, found_later, found_one, front_at, gathered_kept, gathered_said, gathered_there, why_among}
+use Rattle.hurd_sight.proofs.FollowLaws.{follows_closed, follows_kept, follows_said, follows_up_to, plain_grown}
 use Rattle.hurd_sight.proofs.NodeLaws.{active_info, child_info, info_active, info_child, info_parent, info_root, info_server, info_target, parent_info, root_info, server_info, target_info}
 use Rattle.hurd_machine.proofs.Tasks.{among_cases, among_left, among_right}
-use Rattle.hurd_machine.proofs.Holders.{any_among}
-
--- what is among the first of a list
-
-among_taken : {X : Type 0} (x : X) (xs : List X) (i : ℕ) → slice_get xs i ≡ Some x → IsAmong x (take (suc i) xs)
-among_taken x [] i at = absurd (cc)
-among_taken x (y ∷ ys) zero at = inl (cc)
-among_taken x (y ∷ ys) (suc i) at = inr (among_taken x ys i at)
-
-taken_among : {X : Type 0} (x : X) (k : ℕ) (xs : List X) → IsAmong x (take k xs) → IsAmong x xs
-taken_among x zero xs a = absurd a
-taken_among x (suc k) [] a = absurd a
-taken_among x (suc k) (y ∷ ys) (inl e) = inl e
-taken_among x (suc k) (y ∷ ys) (inr a) = inr (taken_among x k ys a)
-
--- what is among some entries is found
-among_found : (e : Name × Why) (es : Entries) → IsAmong e es → is_found e.0 es ≡ true
-among_found e es a = any_among (λ (x : Name × Why). same_name e.0 x.0) e es a (same_name-itself e.0)
-
--- and what is found is among them
-found_among : (n : Name) (es : Entries) → is_found n es ≡ true → (e : Name × Why) × IsAmong e es × (n ≡ e.0)
-found_among n es f = let it = any_found (λ (x : Name × Why). same_name n x.0) es f in (it.0, it.1, equal_if_same n it.0.0 it.2)
 
 -- what a way shows is one of its two nodes
 among_way : (n : Name) (y : Why) (p : Pair) → IsAmong (n, y) (of_way p) → (y ≡ why.Way) × ((n ≡ p.at) ⊎ (n ≡ p.parent))
@@ -48,29 +28,27 @@ module _ (w : World) (tasks : List TaskId) (ids : IdSets) (es : Entries) (r : Re
   abbrev S : ℕ → Bool
   S = among tasks
 
-  -- all that is found: what rights show, and what found nodes show
+  -- what each round begins with
+
+  abbrev root : Entries
+  root = (boot_root, why.Root) ∷ []
+
+  abbrev begin : Entries
+  begin = gathered (of_tasks (nodes_of w) w.tasks tasks) all.plain
+
+  -- all that is found: the root, what rights show, and what found nodes show
+
+  rooted : is_found boot_root es ≡ true
+  rooted =
+      follows_kept (of_node (nodes_of w) ids) begin es all.follows boot_root
+      (gathered_kept boot_root (of_tasks (nodes_of w) w.tasks tasks) all.plain
+      (follows_kept (of_plain (nodes_of w) ids) root all.plain all.first boot_root (found_one boot_root why.Root)))
 
   seeds : (n : Name) (y : Why) → IsAmong (n, y) (of_tasks (nodes_of w) w.tasks tasks) → is_found n es ≡ true
-  seeds n y a =
-      ap (is_found n) all.follows.all
-      ∙ gathered_kept n (of_nodes (nodes_of w) ids es) (gathered (of_tasks (nodes_of w) w.tasks tasks) []) (gathered_there n y (of_tasks (nodes_of w) w.tasks tasks) [] a)
+  seeds n y a = follows_kept (of_node (nodes_of w) ids) begin es all.follows n (gathered_there n y (of_tasks (nodes_of w) w.tasks tasks) all.plain a)
 
   closed : (m n : Name) (y : Why) → is_found m es ≡ true → IsAmong (n, y) (of_node (nodes_of w) ids m) → is_found n es ≡ true
-  closed m n y f a =
-      let it = found_among m es f in
-      ap (is_found n) all.follows.all
-      ∙ gathered_there n y (of_nodes (nodes_of w) ids es) (gathered (of_tasks (nodes_of w) w.tasks tasks) [])
-      (among_flat (λ (e : Name × Why). of_node (nodes_of w) ids e.0) it.0 (n, y) es it.1 (subst (λ (q : Name). IsAmong (n, y) (of_node (nodes_of w) ids q)) it.2 a))
-
-  said : (i : ℕ) (n : Name) (y : Why) → slice_get es i ≡ Some (n, y)
-      → IsAmong (n, y) (of_tasks (nodes_of w) w.tasks tasks) ⊎ ((m : Name) × (is_found m (take i es) ≡ true) × IsAmong (n, y) (of_node (nodes_of w) ids m))
-  said i n y at = elim (gathered_said (n, y) (of_nodes (nodes_of w) ids (take i es)) (gathered (of_tasks (nodes_of w) w.tasks tasks) []) here) [
-    | inl seed ↦ elim (gathered_said (n, y) (of_tasks (nodes_of w) w.tasks tasks) [] seed) [ inl none ↦ absurd none | inr a ↦ inl a ]
-    | inr a ↦ let it = flat_among (λ (e : Name × Why). of_node (nodes_of w) ids e.0) (n, y) (take i es) a in inr (it.0.0, among_found it.0 (take i es) it.1, it.2)
-  ]
-    where
-      here : IsAmong (n, y) (gathered (of_nodes (nodes_of w) ids (take i es)) (gathered (of_tasks (nodes_of w) w.tasks tasks) []))
-      here = taken_among (n, y) (suc i) _ (subst (IsAmong (n, y)) (all.follows.next i) (among_taken (n, y) es i at))
+  closed = follows_closed (of_node (nodes_of w) ids) begin es all.follows
 
   -- why something is shown, if this is why
   abbrev Shows : Name → Why → Type 0
@@ -96,12 +74,15 @@ module _ (w : World) (tasks : List TaskId) (ids : IdSets) (es : Entries) (r : Re
       holds = subst (λ (z : Name). Holds S w (Start z)) (ap (λ (t : Name × Why). t.0) e) has
   by_right n y (Start m) has (inr none) = absurd none
 
-  by_seed : (n : Name) (y : Why) → IsAmong (n, y) (of_tasks (nodes_of w) w.tasks tasks) → Shows n y
-  by_seed n y (inl e) = rw (sym (ap (λ (t : Name × Why). t.1) e)) (is, Root is, refl)
+  by_root : (n : Name) (y : Why) → IsAmong (n, y) root → Shows n y
+  by_root n y (inl e) = rw (sym (ap (λ (t : Name × Why). t.1) e)) (is, Root is, refl)
     where
       is : n ≡ boot_root
       is = sym (ap (λ (t : Name × Why). t.0) e)
-  by_seed n y (inr a) =
+  by_root n y (inr none) = absurd none
+
+  by_seed : (n : Name) (y : Why) → IsAmong (n, y) (of_tasks (nodes_of w) w.tasks tasks) → Shows n y
+  by_seed n y a =
       let it = flat_among (λ (t : TaskId). of_task (nodes_of w) (slice_get w.tasks t.0)) (n, y) tasks a in
       at_task it.0 it.1 (slice_get w.tasks it.0.0) refl it.2
     where
@@ -134,35 +115,60 @@ module _ (w : World) (tasks : List TaskId) (ids : IdSets) (es : Entries) (r : Re
         ]
       ]
 
+  -- what it shows by entries and its active server alone is among it
+  by_plain : (m n : Name) (y : Why) → Seen S w m → IsAmong (n, y) (of_plain (nodes_of w) ids m) → IsWhy S w n y × Seen S w n × (found_from y ≡ Some m)
+  by_plain m n y seen a = by_node m n y seen (elim (among_cases (n, y) (of_children (nodes_of w) ids m) (of_active (nodes_of w) m) a) [
+    | inl c ↦ among_left _ (of_children (nodes_of w) ids m) _ c
+    | inr b ↦ among_right _ (of_children (nodes_of w) ids m) _ (among_right _ (of_parent (nodes_of w) m) _ (among_left _ (of_active (nodes_of w) m) _ b))
+  ])
+
   -- what a held right shows is found
   of_held : (n : Name) (y : Why) (q : Right) → Holds S w q → IsAmong (n, y) (of_right (nodes_of w) q) → is_found n es ≡ true
   of_held n y q has a =
       let found = listed_task tasks has.task has.ours in
       let there : slice_get w.tasks found.0.0 ≡ Some has.seat = ap (slice_get w.tasks) found.2 ∙ has.is_task in
       seeds n y
-      (inr (among_flat (λ (t : TaskId). of_task (nodes_of w) (slice_get w.tasks t.0)) found.0 (n, y) tasks found.1
-      (subst (λ (o : Option Task). IsAmong (n, y) (of_task (nodes_of w) o)) (sym there) (among_flat (of_right (nodes_of w)) q (n, y) (rights_of has.seat) has.here a))))
+      (among_flat (λ (t : TaskId). of_task (nodes_of w) (slice_get w.tasks t.0)) found.0 (n, y) tasks found.1
+      (subst (λ (o : Option Task). IsAmong (n, y) (of_task (nodes_of w) o)) (sym there) (among_flat (of_right (nodes_of w)) q (n, y) (rights_of has.seat) has.here a)))
+
+  -- whatever the first round found is seen
+  plain_seen : (k : ℕ) (n : Name) → is_found n (take k all.plain) ≡ true → Seen S w n
+  plain_seen =
+      follows_up_to (of_plain (nodes_of w) ids) root all.plain all.first (Seen S w) (λ n y a. (by_root n y a).1)
+      (λ m n y seen a. (by_plain m n y seen a).1)
 
   -- whatever is found up to an index is seen
   seen_to : (k : ℕ) (n : Name) → is_found n (take k es) ≡ true → Seen S w n
-  seen_to zero n f = absurd (true≢false (sym f))
-  seen_to (suc k) n f =
-      let it = found_among n (take (suc k) es) f in
-      let there = subst (IsAmong it.0) (all.follows.next k) it.1 in
-      subst (Seen S w) (sym it.2) (shown it.0.0 it.0.1 (taken_among it.0 (suc k) _ there) (seen_to k))
+  seen_to = follows_up_to (of_node (nodes_of w) ids) begin es all.follows (Seen S w) begins (λ m n y seen a. (by_node m n y seen a).1)
     where
-      shown : (m : Name) (y : Why) → IsAmong (m, y) (gathered (of_nodes (nodes_of w) ids (take k es)) (gathered (of_tasks (nodes_of w) w.tasks tasks) []))
-          → ((q : Name) → is_found q (take k es) ≡ true → Seen S w q) → Seen S w m
-      shown m y a before = elim (gathered_said (m, y) (of_nodes (nodes_of w) ids (take k es)) (gathered (of_tasks (nodes_of w) w.tasks tasks) []) a) [
-        | inl seed ↦ elim (gathered_said (m, y) (of_tasks (nodes_of w) w.tasks tasks) [] seed) [ inl none ↦ absurd none | inr s ↦ (by_seed m y s).1 ]
-        | inr b ↦
-            let it = flat_among (λ (e : Name × Why). of_node (nodes_of w) ids e.0) (m, y) (take k es) b in
-            (by_node it.0.0 m y (before it.0.0 (among_found it.0 (take k es) it.1)) it.2).1
+      begins : (n : Name) (y : Why) → IsAmong (n, y) begin → Seen S w n
+      begins n y a = elim (gathered_said (n, y) (of_tasks (nodes_of w) w.tasks tasks) all.plain a) [
+        | inl old ↦ plain_seen (length all.plain) n (ap (is_found n) (take_all (length all.plain) all.plain (omega arith)) ∙ among_found (n, y) all.plain old)
+        | inr held ↦ (by_seed n y held).1
       ]
+
+  -- what the first round found has a reason, behind the node that it was found from
+  plain_why : (i : ℕ) (n : Name) (y : Why) → slice_get es i ≡ Some (n, y) → IsAmong (n, y) all.plain → IsWhy S w n y × IsBefore (found_from y) (take i es)
+  plain_why i n y at here = elim (follows_said (of_plain (nodes_of w) ids) root all.plain all.first place.0 n y place.2) [
+    | inl seed ↦ let it = by_root n y seed in (it.0, subst (λ (o : Option Name). IsBefore o (take i es)) (sym it.2) tt)
+    | inr node ↦
+        let it = by_plain node.0 n y (plain_seen place.0 node.0 node.1) node.2 in
+        let before = found_later node.0 place.0 i es place.1 (ap (is_found node.0) front ∙ node.1) in
+        (it.0, subst (λ (o : Option Name). IsBefore o (take i es)) (sym it.2) before)
+  ]
+    where
+      grown : (more : Entries) × (es ≡ all.plain ++ more)
+      grown = plain_grown (nodes_of w) w.tasks ids tasks es all
+
+      place : (j : ℕ) × (j ≤ i) × (slice_get all.plain j ≡ Some (n, y))
+      place = front_at (n, y) all.plain grown.0 i (sym (ap (λ (gs : Entries). slice_get gs i) grown.1) ∙ at) here
+
+      front : take place.0 es ≡ take place.0 all.plain
+      front = ap (take place.0) grown.1 ∙ take-append-le place.0 all.plain grown.0 (omega (arith, slice_get_within all.plain place.0 (n, y) place.2))
 
   -- whatever is seen is found
   found_of : (n : Name) → Seen S w n → is_found n es ≡ true
-  found_of n (Root is) = seeds n why.Root (inl (ap (λ (m : Name). (m, why.Root)) (sym is)))
+  found_of n (Root is) = subst (λ (m : Name). is_found m es ≡ true) (sym is) rooted
   found_of n (Held q has is) = of_held n why.Held (Io q) has (inl (ap (λ (m : Name). (m, why.Held)) (sym is)))
   found_of n (Way q p has here is) = of_held n why.Way (Io q) has (inr (among_flat of_way p (n, why.Way) q.parents here (elim is [
     | inl at ↦ inl (ap (λ (m : Name). (m, why.Way)) (sym at))
@@ -196,8 +202,11 @@ module _ (w : World) (tasks : List TaskId) (ids : IdSets) (es : Entries) (r : Re
   sight : IsSight S w es
   sight = record {
     exact = λ n. (λ f. seen_to (length es) n (ap (is_found n) (take_all (length es) es (omega arith)) ∙ f), found_of n);
-    why = λ i n y at. elim (said i n y at) [
-      | inl seed ↦ let it = by_seed n y seed in (it.0, subst (λ (o : Option Name). IsBefore o (take i es)) (sym it.2) tt)
+    why = λ i n y at. elim (follows_said (of_node (nodes_of w) ids) begin es all.follows i n y at) [
+      | inl seed ↦ elim (gathered_said (n, y) (of_tasks (nodes_of w) w.tasks tasks) all.plain seed) [
+        | inl here ↦ plain_why i n y at here
+        | inr held ↦ let it = by_seed n y held in (it.0, subst (λ (o : Option Name). IsBefore o (take i es)) (sym it.2) tt)
+      ]
       | inr node ↦ let it = by_node node.0 n y (seen_to i node.0 node.1) node.2 in (it.0, subst (λ (o : Option Name). IsBefore o (take i es)) (sym it.2) node.1)
     ];
   }

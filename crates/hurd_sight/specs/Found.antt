@@ -95,9 +95,9 @@ abbrev pub of_task : NodeState → Option Task → List (Name × Why)
 of_task h None = []
 of_task h (Some x) = flat_map (of_right h) (rights_of x)
 
--- the root of the tree, and what the rights of some tasks show, one task after another
+-- what the rights of some tasks show, one task after another
 abbrev pub of_tasks : NodeState → List Task → List TaskId → List (Name × Why)
-of_tasks h ts tasks = (boot_root, why.Root) ∷ flat_map (λ (t : TaskId). of_task h (slice_get ts t.0)) tasks
+of_tasks h ts tasks = flat_map (λ (t : TaskId). of_task h (slice_get ts t.0)) tasks
 
 -- what the entry of this name names in a directory of this body
 abbrev pub of_entry : Name → Option Body → List ℕ → List (Name × Why)
@@ -162,21 +162,33 @@ of_targets h m = flat_map (of_target m) (targets_of h (home_in h.sites m)) ++ fl
 abbrev pub of_node : NodeState → IdSets → Name → List (Name × Why)
 of_node h ids m = of_children h ids m ++ (of_parent h m ++ (of_active h m ++ (of_server h ids m ++ of_targets h m)))
 
-abbrev pub of_nodes : NodeState → IdSets → List (Name × Why) → List (Name × Why)
-of_nodes h ids es = flat_map (λ (e : Name × Why). of_node h ids e.0) es
+-- what it shows by its entries and its active server alone
+abbrev pub of_plain : NodeState → IdSets → Name → List (Name × Why)
+of_plain h ids m = of_children h ids m ++ of_active h m
 
--- all that follows of some nodes: nothing else is shown by any of them, and each next one is what comes next of those that the ones before it show
-pub record Follows (h : NodeState) (ids : IdSets) (start es : List (Name × Why)) : Type 0 where
-  pub all : es ≡ gathered (of_nodes h ids es) start
-  pub next : (k : ℕ) → take (suc k) es ≡ take (suc k) (gathered (of_nodes h ids (take k es)) start)
+-- and what it shows beside these
+abbrev pub of_rest : NodeState → IdSets → Name → List (Name × Why)
+of_rest h ids m = of_parent h m ++ (of_server h ids m ++ of_targets h m)
 
--- all that is found, in its order: what rights show, and what follows of that
+-- what all of some nodes show, where f says what each does
+abbrev pub of_nodes : (Name → List (Name × Why)) → List (Name × Why) → List (Name × Why)
+of_nodes f es = flat_map (λ (e : Name × Why). f e.0) es
+
+-- all that follows of some nodes by f: nothing else is shown by any of them, and each next one is what comes next of those that the ones before it show
+pub record Follows (f : Name → List (Name × Why)) (start es : List (Name × Why)) : Type 0 where
+  pub all : es ≡ gathered (of_nodes f es) start
+  pub next : (k : ℕ) → take (suc k) es ≡ take (suc k) (gathered (of_nodes f (take k es)) start)
+
+-- all that is found, in its order: what entries and active servers show from the root on; then what rights show, and all that follows
 pub record FoundAll (h : NodeState) (ts : List Task) (ids : IdSets) (tasks : List TaskId) (es : List (Name × Why)) : Type 0 where
-  pub follows : Follows h ids (gathered (of_tasks h ts tasks) []) es
+  pub plain : List (Name × Why)
+  pub first : Follows (of_plain h ids) ((boot_root, why.Root) ∷ []) plain
+  pub follows : Follows (of_node h ids) (gathered (of_tasks h ts tasks) plain) es
 
 -- there is one such list
 abbrev pub FoundIsOne : Type 0
-FoundIsOne = (h : NodeState) (ids : IdSets) (start es fs : List (Name × Why)) → Follows h ids start es → Follows h ids start fs → es ≡ fs
+FoundIsOne =
+    (h : NodeState) (ts : List Task) (ids : IdSets) (tasks : List TaskId) (es fs : List (Name × Why)) → FoundAll h ts ids tasks es → FoundAll h ts ids tasks fs → es ≡ fs
 
 -- the nodes that S sees, and no others, each with a reason that holds, and behind the node from which it was found
 pub record IsSight (S : ℕ → Bool) (w : World) (es : List (Name × Why)) : Type 0 where
@@ -188,3 +200,25 @@ abbrev pub FoundIsSeen : Type 0
 FoundIsSeen =
     (w : World) (tasks : List TaskId) (ids : IdSets) (es : List (Name × Why)) → Reaches (among tasks) w ids
     → FoundAll (nodes_of w) w.tasks ids tasks es → IsSight (among tasks) w es
+
+-- whether a node is the root, or was found by an entry or an active server
+abbrev pub is_plain : Why → Bool
+is_plain why.Root = true
+is_plain (why.Child d) = true
+is_plain (why.Active m) = true
+is_plain _ = false
+
+-- the first nodes are the root and all to which entries and active servers lead from it, and each was found by these
+pub record PlainFirst (S : ℕ → Bool) (w : World) (es : List (Name × Why)) : Type 0 where
+  pub plain : List (Name × Why)
+  pub more : List (Name × Why)
+  pub both : es ≡ plain ++ more
+  pub root : is_found boot_root plain ≡ true
+  pub closed : (m n : Name) → is_found m plain ≡ true → IsWhy S w n (why.Child m) ⊎ IsWhy S w n (why.Active m) → is_found n plain ≡ true
+  pub ways : (i : ℕ) (n : Name) (y : Why) → slice_get plain i ≡ Some (n, y) → (is_plain y ≡ true) × IsBefore (found_from y) (take i plain)
+
+-- what entries and active servers lead to from the root is found by these, whatever else leads to it
+abbrev pub PlainIsFirst : Type 0
+PlainIsFirst =
+    (w : World) (tasks : List TaskId) (ids : IdSets) (es : List (Name × Why)) → Reaches (among tasks) w ids
+    → FoundAll (nodes_of w) w.tasks ids tasks es → PlainFirst (among tasks) w es

@@ -1,5 +1,5 @@
 //! The nodes that a set of tasks sees, and why.
-ghost use Rattle.std.specs.Prelude.{◌≡◌, ◌<◌, ◌^◌, false, length, option_and_then, IfOk, OnOk, slice_get};
+ghost use Rattle.std.specs.Prelude.{◌≡◌, ◌<◌, ◌≤◌, ◌^◌, ◌∷◌, [], false, if◌then◌else◌, length, option_and_then, IfOk, OnOk, slice_get, take};
 ghost use Rattle.std.specs.List.{flat_map};
 ghost use Rattle.std.specs.Option.{option_map};
 ghost use Rattle.hurd_creds.specs.declared.name.Name.{Name};
@@ -8,11 +8,13 @@ ghost use Rattle.hurd_creds.specs.Memory.{is_no_memory};
 ghost use Rattle.hurd_trans_iface.specs.Nodes.{body_of, header_of, is_dir};
 ghost use Rattle.hurd_nodes.specs.Held.{home_in};
 ghost use Rattle.hurd_nodes.specs.Shown.{shown};
+ghost use Rattle.hurd_machine.specs.World.{boot_root};
 ghost use Rattle.hurd_ports.specs.Seats.{seat_task};
 ghost use Rattle.hurd_ports.specs.Tables.{rights_of, start_of};
 ghost use Rattle.hurd_ports.specs.declared.table.Port.{Port};
-ghost use Rattle.hurd_sight.specs.Found.{Follows, FoundAll, FoundIsOne, FoundIsSeen, found_more, gathered, is_found, of_active, of_children, of_entry, of_node, of_parent, of_right, of_server, of_target, of_targets, of_task, of_way, parent_in, root_of, searched_by, served_root, targets_of, why_of, with_why};
+ghost use Rattle.hurd_sight.specs.Found.{Follows, FoundAll, FoundIsOne, FoundIsSeen, PlainIsFirst, found_more, gathered, is_found, of_active, of_children, of_entry, of_node, of_nodes, of_parent, of_plain, of_rest, of_right, of_server, of_target, of_targets, of_task, of_way, parent_in, root_of, searched_by, served_root, targets_of, why_of, with_why};
 ghost use Rattle.hurd_sight.specs.declared.found.Why.{Why};
+ghost use Rattle.hurd_sight.specs.declared.found.Why.TheVariants as why;
 
 use crate::reach::Reach;
 use hurd_creds::{Attrs, Errno, NodeName, ServerName, TaskId, Want};
@@ -76,12 +78,22 @@ impl Found {
     ) -> Result<Found, AllocError>
         ensures { IfOk result (λ found. FoundAll (shown S.meaning nodes.now) ports.now.state.tasks reach.now tasks.now found) }
     {
+        let mut found = Found::plain(alloc, nodes, reach)?;
+        let plain = found.len();
+        found.add_tasks(nodes, ports, tasks)?;
+        found.follow(alloc, nodes, reach, plain)?;
+        Ok(found)
+    }
+
+    /// The nodes to which entries and active servers alone lead from the root.
+    fn plain<S: Server>(alloc: Global, nodes: &Nodes<S>, reach: &Reach) -> Result<Found, AllocError>
+        ensures { IfOk result (λ found. Follows (of_plain (shown S.meaning nodes.now) reach.now) ((boot_root, why.Root) ∷ []) found) }
+    {
         let mut found = Found {
             nodes: IndexMap::new(alloc),
         };
         found.add(BOOT_NAME, Why::Root)?;
-        found.add_tasks(nodes, ports, tasks)?;
-        found.follow(alloc, nodes, reach)?;
+        found.follow_plain(alloc, nodes, reach)?;
         Ok(found)
     }
 
@@ -263,21 +275,88 @@ impl Found {
         }
     }
 
-    /// Follows each node to those that it shows, and these in turn, until all are there.
-    fn follow<S: Server>(
+    /// Follows each node to its entries and the root of its active server, and these in turn, until all are there.
+    fn follow_plain<S: Server>(
         &mut self,
         alloc: Global,
         nodes: &Nodes<S>,
         reach: &Reach,
     ) -> Result<(), AllocError>
-        ensures { OnOk result (Follows (shown S.meaning nodes.now) reach.now self.old self.new) }
+        ensures { OnOk result (Follows (of_plain (shown S.meaning nodes.now) reach.now) self.old self.new) }
     {
         let mut index = 0;
         while let Some(node) = self.node_at(index) {
-            self.add_neighbours(alloc, nodes, reach, node)?;
+            self.add_plain(alloc, nodes, reach, node)?;
             index += 1;
         }
         Ok(())
+    }
+
+    /// Follows each node to all that it shows, and these in turn, until all are there.
+    /// The entries and active servers of the first nodes, so many, are there already.
+    fn follow<S: Server>(
+        &mut self,
+        alloc: Global,
+        nodes: &Nodes<S>,
+        reach: &Reach,
+        plain: usize,
+    ) -> Result<(), AllocError>
+        requires so_many { plain ≤ length self.now }
+        requires there { self.now ≡ gathered (of_nodes (of_plain (shown S.meaning nodes.now) reach.now) (take plain self.now)) self.now }
+        ensures { OnOk result (Follows (of_node (shown S.meaning nodes.now) reach.now) self.old self.new) }
+    {
+        let mut index = 0;
+        while let Some(node) = self.node_at(index) {
+            self.add_shown(alloc, nodes, reach, node, index < plain)?;
+            index += 1;
+        }
+        Ok(())
+    }
+
+    /// What a node shows, or only the rest of it, where its entries and its active server were followed.
+    fn add_shown<S: Server>(
+        &mut self,
+        alloc: Global,
+        nodes: &Nodes<S>,
+        reach: &Reach,
+        node: NodeName,
+        followed: bool,
+    ) -> Result<(), AllocError>
+        ensures { OnOk result (self.new ≡ gathered (if followed then of_rest (shown S.meaning nodes.now) reach.now node else of_node (shown S.meaning nodes.now) reach.now node) self.old) }
+    {
+        if followed {
+            self.add_rest(nodes, reach, node)
+        } else {
+            self.add_neighbours(alloc, nodes, reach, node)
+        }
+    }
+
+    /// The entries of a node, and the root of the server that is active on it.
+    fn add_plain<S: Server>(
+        &mut self,
+        alloc: Global,
+        nodes: &Nodes<S>,
+        reach: &Reach,
+        node: NodeName,
+    ) -> Result<(), AllocError>
+        ensures { OnOk result (self.new ≡ gathered (of_plain (shown S.meaning nodes.now) reach.now node) self.old) }
+    {
+        self.add_below(alloc, nodes, reach, node)?;
+        self.add_active(nodes, node)
+    }
+
+    /// What a node shows beside these.
+    fn add_rest<S: Server>(
+        &mut self,
+        nodes: &Nodes<S>,
+        reach: &Reach,
+        node: NodeName,
+    ) -> Result<(), AllocError>
+        ensures { OnOk result (self.new ≡ gathered (of_rest (shown S.meaning nodes.now) reach.now node) self.old) }
+    {
+        self.add_parent(nodes, node)?;
+        self.add_server(nodes, reach, node)?;
+        self.add_targets(nodes, node)
     }
 
     /// What a node shows.
@@ -465,8 +544,9 @@ fn served_root<S: Server>(nodes: &Nodes<S>, reach: &Reach, node: NodeName) -> Op
 }
 
 /// A law: what is found from the rights of some tasks, with the ids that they reach, is what the set of these tasks sees; and it is found in
-/// one way.
+/// one way. What entries and active servers alone lead to from the root is found by these.
 pub fn found_is_seen()
     ensures seen { FoundIsSeen }
+    ensures plain { PlainIsFirst }
     ensures one { FoundIsOne }
 {}

@@ -57,6 +57,13 @@ impl Sight {
         })
     }
 
+    /// The tasks of the set.
+    pub fn tasks(&self) -> &[TaskId]
+        ensures { result.now ≡ self.now.tasks.items }
+    {
+        self.tasks.as_slice()
+    }
+
     /// The nodes that are seen, each with why.
     pub fn nodes(&self) -> &Found
         ensures { result.now ≡ self.now.found }

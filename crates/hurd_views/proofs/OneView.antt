@@ -42,10 +42,10 @@ module _ (tasks : List TaskId) (w : World) (a b : View) (in_a : Views tasks w a)
 
   found_same : a.sight.found ≡ b.sight.found
   found_same =
-      found_is_one (nodes_of w) b.sight.reach _ a.sight.found b.sight.found
+      found_is_one (nodes_of w) w.tasks b.sight.reach b.sight.tasks.items a.sight.found b.sight.found
       (subst (λ (ids : IdSets). FoundAll (nodes_of w) w.tasks ids b.sight.tasks.items a.sight.found) reach_same
-      (subst (λ (ts : List TaskId). FoundAll (nodes_of w) w.tasks a.sight.reach ts a.sight.found) tasks_same in_a.gathered.found)).follows
-      in_b.gathered.found.follows
+      (subst (λ (ts : List TaskId). FoundAll (nodes_of w) w.tasks a.sight.reach ts a.sight.found) tasks_same in_a.gathered.found))
+      in_b.gathered.found
 
   rights_same : a.sight.rights ≡ b.sight.rights
   rights_same = in_a.gathered.rights ∙ (ap (λ (ts : List TaskId). with_rights w.opens (rights_held w.tasks ts) no_names) tasks_same ∙ sym in_b.gathered.rights)

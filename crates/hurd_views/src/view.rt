@@ -4,6 +4,7 @@ ghost use Rattle.std.specs.Option.{option_map};
 ghost use Rattle.hurd_core.specs.Core.{world_of};
 ghost use Rattle.hurd_creds.specs.declared.name.Name.{Name};
 ghost use Rattle.hurd_creds.specs.declared.name.TaskId.{TaskId};
+ghost use Rattle.hurd_ports.specs.Seats.{seat_task};
 ghost use Rattle.hurd_sight.specs.Parts.{maybe_named};
 ghost use Rattle.hurd_views.specs.Views.{Fills, RowsAreViews, SameRows, Views, ViewsAreOne, has_row, name_found, names_found, names_seen, or_no_row, row_at, rows_for};
 ghost use Rattle.hurd_views.specs.declared.rows.Row.{Row};
@@ -291,6 +292,13 @@ impl SeatRow {
             }),
             None => Ok(SeatRow { seat: None }),
         }
+    }
+
+    /// The task, if it is there.
+    pub fn seat(&self) -> Option<&TaskSeat>
+        ensures { option_map seat_task (option_copied result) ≡ self.now }
+    {
+        self.seat.as_ref()
     }
 }
 
