@@ -76,7 +76,7 @@ function read_output(file, text, at, last) {
 function last_line(count, i, taught, others) {
     taught = others = 0
     for (i = 1; i <= count; i++) if (!own[i]) { others++; taught += teaches[i] }
-    return user " learned from " taught " of " others " commands of others"
+    return user " learned from " taught " of " others " command" (others == 1 ? "" : "s") " of others"
 }
 
 function leave_stretches_out(first, last, number) {

@@ -1,5 +1,5 @@
 -- What is printed of a session that is watched, on the way.
-use Rattle.std.proofs.Common.{◌≡◌, ◌∙◌, ◌+◌, inl, inr, refl, sym, ap, subst, ℕ, true, false, true≢false, List, [], ◌∷◌, ◌++◌, length, Option, Some, None, append-nil, arith}
+use Rattle.std.proofs.Common.{◌≡◌, ◌∙◌, ◌+◌, inl, inr, refl, sym, ap, subst, ℕ, not, true, false, true≢false, List, [], ◌∷◌, ◌++◌, length, Option, Some, None, append-nil, arith}
 use Rattle.std.proofs.KnownBytes.{Appends-nil, Appends-trans}
 use Rattle.std.proofs.lemmas.List.{take_all}
 use Rattle.std.specs.Io.KnownBytes.{Appends}
@@ -17,7 +17,7 @@ use Rattle.hurd_world.specs.Held.{world_of}
 use Rattle.hurd_shell.specs.Session.{Answers, BegunWith, TakesUnlessFailed, View, has_failed, left_in, waits_for}
 use Rattle.hurd_shell.specs.Transcript.{AsksFor, Dialogue, ends, dialogue, parts_by}
 use Rattle.hurd_shell.proofs.IsolationLaws.{one_part_each}
-use Rattle.hurd_sight.specs.Reach.{among}
+use Rattle.hurd_sentences.specs.Turns.{paragraph}
 use Rattle.hurd_views.specs.declared.view.View as sight
 use Rattle.hurd_lessons.specs.Told.{Said, counted, printed, tally_from}
 use Rattle.hurd_lessons.specs.declared.tally.Tally.{Tally}
@@ -27,7 +27,7 @@ use Rattle.hurd_terminal.specs.declared.fault.Fault.TheVariants.{Read, Write, Ba
 use Rattle.hurd_terminal.specs.declared.print.Output.{Output}
 use Rattle.hurd_terminal.proofs.OutputLaws.{front_follows}
 use Rattle.hurd_tmpfs.specs.Tree.{new_tmpfs}
-use Rattle.hurd_teaching.specs.Learners.{Speech}
+use Rattle.hurd_teaching.specs.Learners.{Speech, is_quiet}
 use Rattle.hurd_learns.specs.Lessons.{LessonsOf}
 use Rattle.hurd_teaching.specs.Shown.{ToldAll}
 use Rattle.hurd_learns.specs.Runs.{NotAll, NotBegun, ToldSome, made, told_text}
@@ -75,8 +75,8 @@ pub record Following {S : Type 0} (f : S → Meaning) (tasks : List TaskId) (who
   pub came : Came (saying tasks who) begin 0 (first_world new_tmpfs users) (dialogue commands (first_world new_tmpfs users)) said at rest
   pub left : has_failed s ≡ false → left_in f s ≡ rest
   pub appends : Appends before now (told_text users commands said)
-  pub counts : count ≡ tally_from (among tasks) tally said
-  pub fits : has_failed s ≡ false → Fits f tasks at s seen
+  pub counts : count ≡ tally_from tally said
+  pub fits : has_failed s ≡ false → Fits f tasks who.from at s seen
   pub given : has_failed s ≡ false → s.given ≡ length said
 
 -- at the beginning
@@ -103,12 +103,16 @@ module _ {S : Type 0} (f : S → Meaning) (tasks : List TaskId) (who : Speech) (
   abbrev pub Follows : View S → Option sight.View → Tally → Option (List ℕ) → Type 0
   Follows s seen count now = Following f tasks who users commands tally before s seen count now
 
+  -- what is said behind a command that was made
+  abbrev said_of : (s x : View S) (seen kept : Option sight.View) (text said shown : List ℕ) → Makes f tasks who s seen text said shown x kept → Said
+  said_of s x seen kept text said shown makes = record { counts = not (is_quiet tasks who.from s.given makes.gives.task); text = said; shown = shown }
+
   -- what is printed with one command more
   grown : (s x : View S) (seen kept : Option sight.View) (count : Tally) (now : Option (List ℕ)) (text said shown : List ℕ)
       (is : Follows s seen count now) (makes : Makes f tasks who s seen text said shown x kept)
-      → told_text users commands (is.said ++ record { task = makes.gives.task; text = said; shown = shown } ∷ []) ≡ told_text users commands is.said ++ (text ++ (said ++ shown))
+      → told_text users commands (is.said ++ said_of s x seen kept text said shown makes ∷ []) ≡ told_text users commands is.said ++ paragraph text (said ++ shown)
   grown s x seen kept count now text said shown is makes =
-      came_printed (saying tasks who) begin 0 _ is.at (dialogue commands (first_world new_tmpfs users)) is.rest (left_in f x) is.said _ (record { task = makes.gives.task; text = said; shown = shown })
+      came_printed (saying tasks who) begin 0 _ is.at (dialogue commands (first_world new_tmpfs users)) is.rest (left_in f x) is.said _ (said_of s x seen kept text said shown makes)
       is.came (sym (is.left makes.fine) ∙ makes.gives.left)
 
   -- how many commands are made with it
@@ -120,19 +124,21 @@ module _ {S : Type 0} (f : S → Meaning) (tasks : List TaskId) (who : Speech) (
   further : (s x : View S) (seen kept : Option sight.View) (count : Tally) (now : Option (List ℕ)) (text said shown : List ℕ)
       (is : Follows s seen count now) (makes : Makes f tasks who s seen text said shown x kept)
       → Came (saying tasks who) begin 0 (first_world new_tmpfs users) (dialogue commands (first_world new_tmpfs users))
-      (is.said ++ record { task = makes.gives.task; text = said; shown = shown } ∷ []) (world_of f x.world) (left_in f x)
+      (is.said ++ said_of s x seen kept text said shown makes ∷ []) (world_of f x.world) (left_in f x)
   further s x seen kept count now text said shown is makes =
-      let many = made_with s x seen kept count now text said shown is makes in
-      came_told (saying tasks who) begin 0 x.given _ is.at (dialogue commands (first_world new_tmpfs users)) is.rest (left_in f x) is.said _ said shown is.came (sym (is.left makes.fine) ∙ makes.gives.left)
+      let many = is.given makes.fine in
+      let shows = rw makes.gives.given at makes.adds.shows in
+      came_told (saying tasks who) begin 0 s.given _ is.at (dialogue commands (first_world new_tmpfs users)) is.rest (left_in f x) is.said _ (said_of s x seen kept text said shown makes)
+      is.came (sym (is.left makes.fine) ∙ makes.gives.left)
       (omega (arith, many))
-      (makes_lesson f tasks s who x seen kept text said shown makes is.at (is.fits makes.fine), makes.adds.shows)
+      (refl, makes_lesson f tasks who s x seen kept text said shown makes is.at (is.fits makes.fine), shows)
 
   -- a command was made and printed
   pub following_told : (s x : View S) (seen kept : Option sight.View) (count new : Tally) (now later : Option (List ℕ)) → Follows s seen count now
       → IsTold f tasks who s seen count now x kept new later → Follows x kept new later
   following_told s x seen kept count new now later is told =
       let makes = told.makes in
-      let more : Said = record { task = makes.gives.task; text = told.said; shown = told.shown } in
+      let more : Said = said_of s x seen kept told.text told.said told.shown makes in
       record {
         said = is.said ++ more ∷ [];
         at = world_of f x.world;
@@ -140,18 +146,17 @@ module _ {S : Type 0} (f : S → Meaning) (tasks : List TaskId) (who : Speech) (
         came = further s x seen kept count now told.text told.said told.shown is makes;
         left = λ _. refl;
         appends = subst (λ (bs : List ℕ). Appends before later bs) (sym (grown s x seen kept count now told.text told.said told.shown is makes))
-            (Appends-trans before now later (told_text users commands is.said) (told.text ++ (told.said ++ told.shown)) is.appends told.appends);
+            (Appends-trans before now later (told_text users commands is.said) (paragraph told.text (told.said ++ told.shown)) is.appends told.appends);
         counts = told.counts
-            ∙ (makes_counts f tasks s who x seen kept told.text told.said told.shown makes count
-            ∙ (ap (λ (t : Tally). if among tasks makes.gives.task then t else counted t told.said) is.counts
-            ∙ sym (tally_more (among tasks) tally is.said more)));
-        fits = λ _. makes_fit f tasks s who x seen kept told.text told.said told.shown makes;
+            ∙ (makes_counts f tasks who s x seen kept told.text told.said told.shown makes count
+            ∙ (ap (λ (t : Tally). if more.counts then counted t told.said else t) is.counts ∙ sym (tally_more tally is.said more)));
+        fits = λ _. makes_fit f tasks who s x seen kept told.text told.said told.shown makes;
         given = λ _. made_with s x seen kept count now told.text told.said told.shown is makes ∙ sym (one_longer is.said more);
       }
 
   -- a server was asked for and answered
   pub following_answered : (s x u : View S) (seen kept : Option sight.View) (count new : Tally) (now later : Option (List ℕ)) (server : Option ServerBox) (m : Option Meaning)
-      → Follows s seen count now → Asks f tasks s seen server x kept → Nothing count now new later → option_map box_meaning server ≡ m → TakesUnlessFailed f x m u
+      → Follows s seen count now → Asks f tasks who.from s seen server x kept → Nothing count now new later → option_map box_meaning server ≡ m → TakesUnlessFailed f x m u
       → Follows u kept new later
   following_answered s x u seen kept count new now later server m is asks nothing same takes = record {
     said = is.said;
@@ -190,16 +195,16 @@ module _ {S : Type 0} (f : S → Meaning) (tasks : List TaskId) (who : Speech) (
       given_by (inl failed) fine = absurd (let no = fine in cc)
       given_by (inr takes) fine = takes.5 ∙ (asks.tells.5 ∙ is.given asks.fine)
 
-      fits_by : TakesUnlessFailed f x m u → has_failed u ≡ false → Fits f tasks is.at u kept
+      fits_by : TakesUnlessFailed f x m u → has_failed u ≡ false → Fits f tasks who.from is.at u kept
       fits_by (inl failed) fine = absurd (let no = fine in cc)
       fits_by (inr takes) fine = record {
-        seen = asks_fit f tasks s x seen kept server asks is.at (is.fits asks.fine);
-        unseen = λ none t next other. absurd (true≢false (sym (asks_watched f tasks s x seen kept server asks none t (sym takes.4 ∙ next)) ∙ other));
+        seen = asks_fit f tasks who.from s x seen kept server asks is.at (is.fits asks.fine);
+        unseen = λ none t next other. absurd (true≢false (sym (ap (λ (n : ℕ). is_quiet tasks who.from n t) takes.5 ∙ asks_watched f tasks who.from s x seen kept server asks none t (sym takes.4 ∙ next)) ∙ other));
       }
 
   -- all commands are made
   pub following_done : (s : View S) (seen : Option sight.View) (count new : Tally) (now later : Option (List ℕ)) → Follows s seen count now → has_failed s ≡ false → left_in f s ≡ ends
-      → Nothing count now new later → ToldAll (made tasks who users commands) tasks tally before new later
+      → Nothing count now new later → ToldAll (made tasks who users commands) tally before new later
   following_done s seen count new now later is fine all nothing =
       let w = first_world new_tmpfs users in
       let each : length is.said ≡ length commands =
@@ -226,14 +231,14 @@ module _ {S : Type 0} (f : S → Meaning) (tasks : List TaskId) (who : Speech) (
       }
   following_stopped s x seen kept count now later is (inr cut) =
       let w = first_world new_tmpfs users in
-      let more : List Said = is.said ++ record { task = cut.makes.gives.task; text = cut.said; shown = cut.shown } ∷ [] in
-      let whole : told_text users commands more ≡ told_text users commands is.said ++ (cut.text ++ (cut.said ++ cut.shown)) = grown s x seen kept count now cut.text cut.said cut.shown is cut.makes in
+      let more : List Said = is.said ++ said_of s x seen kept cut.text cut.said cut.shown cut.makes ∷ [] in
+      let whole : told_text users commands more ≡ told_text users commands is.said ++ paragraph cut.text (cut.said ++ cut.shown) = grown s x seen kept count now cut.text cut.said cut.shown is cut.makes in
       record {
         done = length more;
         said = more;
         lessons = came_lessons tasks who begin 0 commands w _ _ more (further s x seen kept count now cut.text cut.said cut.shown is cut.makes);
-        front = front_follows before now later (told_text users commands more) (told_text users commands is.said) (cut.text ++ (cut.said ++ cut.shown))
-            ([], whole ∙ sym (append-nil (told_text users commands is.said ++ (cut.text ++ (cut.said ++ cut.shown))))) is.appends cut.front;
+        front = front_follows before now later (told_text users commands more) (told_text users commands is.said) (paragraph cut.text (cut.said ++ cut.shown))
+            ([], whole ∙ sym (append-nil (told_text users commands is.said ++ paragraph cut.text (cut.said ++ cut.shown)))) is.appends cut.front;
       }
 
   -- by what a step came to
@@ -252,7 +257,7 @@ module _ {S : Type 0} (f : S → Meaning) (tasks : List TaskId) (who : Speech) (
       following_answered s x u seen kept count new now later server m is both.0 both.1 same takes
 
   pub step_done : (s x : View S) (seen kept : Option sight.View) (count new : Tally) (now later : Option (List ℕ)) (step : Step) → Follows s seen count now → step ≡ Done
-      → StepsTo f tasks who s seen count now step x kept new later → ToldAll (made tasks who users commands) tasks tally before new later
+      → StepsTo f tasks who s seen count now step x kept new later → ToldAll (made tasks who users commands) tally before new later
   unfolding StepsTo
   step_done s x seen kept count new now later step is done steps =
       let all = rw done at steps in

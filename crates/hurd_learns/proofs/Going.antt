@@ -1,5 +1,5 @@
 -- How far a session that is watched has come.
-use Rattle.std.proofs.Common.{◌≡◌, ◌⊎◌, ◌∙◌, ◌+◌, inl, inr, refl, sym, ap, ap₂, subst, ℕ, suc, Bool, List, [], ◌∷◌, ◌++◌, length, Option, Result, append_assoc, append-nil, arith}
+use Rattle.std.proofs.Common.{◌≡◌, ◌⊎◌, ◌∙◌, ◌+◌, inl, inr, refl, sym, ap, ap₂, subst, ℕ, suc, List, [], ◌∷◌, ◌++◌, length, Option, Result, append_assoc, append-nil, arith}
 use Rattle.std.specs.Prelude.{if◌then◌else◌}
 use Rattle.hurd_creds.specs.declared.errno.Errno.{Errno}
 use Rattle.hurd_trans_iface.specs.Meaning.{Meaning}
@@ -10,12 +10,13 @@ use Rattle.hurd_shell.specs.Isolation.{calls_in, result_in}
 use Rattle.hurd_shell.specs.Programs.{Prog, gives, calls, asks}
 use Rattle.hurd_shell.specs.Session.{Answers}
 use Rattle.hurd_shell.specs.Transcript.{AsksFor, Dialogue, Maker, Part, ends, tells, wants, parts_by, played}
+use Rattle.hurd_sentences.specs.Turns.{paragraph}
 use Rattle.hurd_lessons.specs.Told.{Said, counted, printed, tally_from}
 use Rattle.hurd_lessons.specs.declared.tally.Tally.{Tally}
 
--- what is said and shown behind what a task did between two worlds, by how many commands are made then
+-- what is said and shown behind what a task did between two worlds, by how many commands are made before
 abbrev pub Saying : Type 1
-Saying = ℕ → ℕ → World → World → List ℕ → List ℕ → Type 0
+Saying = ℕ → ℕ → World → World → Said → Type 0
 
 -- no step was made
 abbrev pub Here : World → Dialogue → List Said → World → Dialogue → Type 0
@@ -26,7 +27,7 @@ unfoldable pub Came : Saying → Maker → ℕ → World → Dialogue → List S
 Came L make n w ends said x e = Here w ends said x e
 Came L make n w (tells part rest) said x e =
     Here w (tells part rest) said x e
-    ⊎ ((text shown : List ℕ) × (more : List Said) × (said ≡ record { task = part.task; text = text; shown = shown } ∷ more) × L (n + 1) part.task w part.world text shown
+    ⊎ ((s : Said) × (more : List Said) × (said ≡ s ∷ more) × L n part.task w part.world s
     × Came L make (n + 1) part.world rest more x e)
 Came L make n w (wants words rest) said x e = Here w (wants words rest) said x e ⊎ Came L make n w (rest (make words)) said x e
 
@@ -42,48 +43,44 @@ came_same L make n w x d e here same = subst (λ (z : World). Came L make n w d 
 
 -- a part is told, and this is said and shown behind it
 
-abbrev pub said_by : Part → List ℕ → List ℕ → Said
-said_by part text shown = record { task = part.task; text = text; shown = shown }
-
-one_told : (L : Saying) (make : Maker) (n : ℕ) (x : World) (rest : Dialogue) (part : Part) (text shown : List ℕ) → L (n + 1) part.task x part.world text shown
-    → Came L make n x (tells part rest) (said_by part text shown ∷ []) part.world rest
+one_told : (L : Saying) (make : Maker) (n : ℕ) (x : World) (rest : Dialogue) (part : Part) (s : Said) → L n part.task x part.world s
+    → Came L make n x (tells part rest) (s ∷ []) part.world rest
 unfolding Came
-one_told L make n x rest part text shown says = inr (text, shown, [], refl, says, came_none L make (n + 1) part.world rest)
+one_told L make n x rest part s says = inr (s, [], refl, says, came_none L make (n + 1) part.world rest)
 
-here_told : (L : Saying) (make : Maker) (n : ℕ) (w x : World) (d rest : Dialogue) (part : Part) (text shown : List ℕ) → w ≡ x → d ≡ tells part rest → L (n + 1) part.task x part.world text shown
-    → Came L make n w d (said_by part text shown ∷ []) part.world rest
-here_told L make n w x d rest part text shown here same says =
-    subst (λ (z : World). Came L make n z d (said_by part text shown ∷ []) part.world rest) (sym here)
-    (subst (λ (f : Dialogue). Came L make n x f (said_by part text shown ∷ []) part.world rest) (sym same) (one_told L make n x rest part text shown says))
+here_told : (L : Saying) (make : Maker) (n : ℕ) (w x : World) (d rest : Dialogue) (part : Part) (s : Said) → w ≡ x → d ≡ tells part rest → L n part.task x part.world s
+    → Came L make n w d (s ∷ []) part.world rest
+here_told L make n w x d rest part s here same says =
+    subst (λ (z : World). Came L make n z d (s ∷ []) part.world rest) (sym here)
+    (subst (λ (f : Dialogue). Came L make n x f (s ∷ []) part.world rest) (sym same) (one_told L make n x rest part s says))
 
--- what is said behind the next command, by how many are made with it
-this_many : (n m : ℕ) (said : List Said) → said ≡ [] → m ≡ n + (length said + 1) → m ≡ n + 1
-this_many n m said none is = is ∙ ap (λ (ss : List Said). n + (length ss + 1)) none
+-- what is said behind the next command, by how many are made before it
+this_many : (n m : ℕ) (said : List Said) → said ≡ [] → m ≡ n + length said → m ≡ n
+this_many n m said none is = let few : length said ≡ 0 = ap length none in omega (arith, few, is)
 
-one_less : (n m : ℕ) (said more : List Said) (s : Said) → said ≡ s ∷ more → m ≡ n + (length said + 1) → m ≡ (n + 1) + (length more + 1)
+one_less : (n m : ℕ) (said more : List Said) (s : Said) → said ≡ s ∷ more → m ≡ n + length said → m ≡ (n + 1) + length more
 one_less n m said more s split is = let longer : length said ≡ suc (length more) = ap length split in omega (arith, longer, is)
 
-pub came_told : (L : Saying) (make : Maker) (n m : ℕ) (w x : World) (d e rest : Dialogue) (said : List Said) (part : Part) (text shown : List ℕ) → Came L make n w d said x e → e ≡ tells part rest
-    → m ≡ n + (length said + 1) → L m part.task x part.world text shown → Came L make n w d (said ++ said_by part text shown ∷ []) part.world rest
+pub came_told : (L : Saying) (make : Maker) (n m : ℕ) (w x : World) (d e rest : Dialogue) (said : List Said) (part : Part) (s : Said) → Came L make n w d said x e → e ≡ tells part rest
+    → m ≡ n + length said → L m part.task x part.world s → Came L make n w d (said ++ s ∷ []) part.world rest
 unfolding Came
-came_told L make n m w x ends e rest said part text shown came is many says = absurd (let no = came.2 ∙ is in cc)
-came_told L make n m w x (tells p r) e rest said part text shown (inl (none, here, same)) is many says =
+came_told L make n m w x ends e rest said part s came is many says = absurd (let no = came.2 ∙ is in cc)
+came_told L make n m w x (tells p r) e rest said part s (inl (none, here, same)) is many says =
     let these = this_many n m said none many in
-    rw none (here_told L make n w x (tells p r) rest part text shown here (same ∙ is) (rw these at says))
-came_told L make n m w x (tells p r) e rest said part text shown (inr (t, sh, more, split, first, came)) is many says =
+    rw none (here_told L make n w x (tells p r) rest part s here (same ∙ is) (rw these at says))
+came_told L make n m w x (tells p r) e rest said part s (inr (this, more, split, first, came)) is many says =
     inr (
-      t,
-      sh,
-      more ++ said_by part text shown ∷ [],
-      ap (λ (ss : List Said). ss ++ said_by part text shown ∷ []) split,
+      this,
+      more ++ s ∷ [],
+      ap (λ (ss : List Said). ss ++ s ∷ []) split,
       first,
-      came_told L make (n + 1) m p.world x r e rest more part text shown came is (one_less n m said more (said_by p t sh) split many) says,
+      came_told L make (n + 1) m p.world x r e rest more part s came is (one_less n m said more this split many) says,
     )
-came_told L make n m w x (wants words r) e rest said part text shown (inl (none, here, same)) is many says =
+came_told L make n m w x (wants words r) e rest said part s (inl (none, here, same)) is many says =
     let these = this_many n m said none many in
-    rw none (here_told L make n w x (wants words r) rest part text shown here (same ∙ is) (rw these at says))
-came_told L make n m w x (wants words r) e rest said part text shown (inr came) is many says =
-    inr (came_told L make n m w x (r (make words)) e rest said part text shown came is many says)
+    rw none (here_told L make n w x (wants words r) rest part s here (same ∙ is) (rw these at says))
+came_told L make n m w x (wants words r) e rest said part s (inr came) is many says =
+    inr (came_told L make n m w x (r (make words)) e rest said part s came is many says)
 
 -- a server is asked for, and the maker answers
 
@@ -111,8 +108,8 @@ pub came_answered : (L : Saying) (make : Maker) (n : ℕ) (w x : World) (d e lef
 unfolding Came
 came_answered L make n w x ends e left said asked came wish answers = absurd (asks_no_end e asked came.2 wish)
 came_answered L make n w x (tells p r) e left said asked (inl (none, here, same)) wish answers = absurd (asks_no_part p r e asked same wish)
-came_answered L make n w x (tells p r) e left said asked (inr (t, sh, more, split, first, came)) wish answers =
-    inr (t, sh, more, split, first, came_answered L make (n + 1) p.world x r e left more asked came wish answers)
+came_answered L make n w x (tells p r) e left said asked (inr (this, more, split, first, came)) wish answers =
+    inr (this, more, split, first, came_answered L make (n + 1) p.world x r e left more asked came wish answers)
 came_answered L make n w x (wants words r) e left said asked (inl (none, here, same)) wish answers =
     inr (rw none (came_same L make n w x (r (make words)) left here (answered_here make words r e left asked same wish answers)))
 came_answered L make n w x (wants words r) e left said asked (inr came) wish answers = inr (came_answered L make n w x (r (make words)) e left said asked came wish answers)
@@ -123,24 +120,21 @@ printed_none : (parts : List (List ℕ)) → printed parts [] ≡ []
 printed_none [] = refl
 printed_none (part ∷ parts) = refl
 
-printed_more : (a b c x y z : List ℕ) → z ≡ x ++ y → a ++ (b ++ (c ++ z)) ≡ (a ++ (b ++ (c ++ x))) ++ y
-printed_more a b c x y z same =
-    ap (λ (bs : List ℕ). a ++ (b ++ (c ++ bs))) same
-    ∙ (ap (λ (bs : List ℕ). a ++ (b ++ bs)) (sym (append_assoc c x y))
-    ∙ (ap (λ (bs : List ℕ). a ++ bs) (sym (append_assoc b (c ++ x) y)) ∙ sym (append_assoc a (b ++ (c ++ x)) y)))
+printed_more : (p x y z : List ℕ) → z ≡ x ++ y → p ++ z ≡ (p ++ x) ++ y
+printed_more p x y z same = ap (λ (bs : List ℕ). p ++ bs) same ∙ sym (append_assoc p x y)
 
 pub came_printed : (L : Saying) (make : Maker) (n : ℕ) (w x : World) (d e rest : Dialogue) (said : List Said) (part : Part) (s : Said) → Came L make n w d said x e → e ≡ tells part rest
-    → printed (parts_by make d) (said ++ s ∷ []) ≡ printed (parts_by make d) said ++ (part.text ++ (s.text ++ s.shown))
+    → printed (parts_by make d) (said ++ s ∷ []) ≡ printed (parts_by make d) said ++ paragraph part.text (s.text ++ s.shown)
 unfolding Came parts_by
 came_printed L make n w x ends e rest said part s came is = absurd (let no = came.2 ∙ is in cc)
 came_printed L make n w x (tells p r) e rest said part s (inl (none, here, same)) is =
+    let mine : List ℕ = paragraph p.text (s.text ++ s.shown) in
     let this : p ≡ part = cc in
     rw none
-    (ap (λ (bs : List ℕ). p.text ++ (s.text ++ (s.shown ++ bs))) (printed_none (parts_by make r))
-    ∙ (ap (λ (bs : List ℕ). p.text ++ (s.text ++ bs)) (append-nil s.shown) ∙ ap (λ (q : Part). q.text ++ (s.text ++ s.shown)) this))
-came_printed L make n w x (tells p r) e rest said part s (inr (t, sh, more, split, first, came)) is =
+    (ap (λ (bs : List ℕ). mine ++ bs) (printed_none (parts_by make r)) ∙ (append-nil mine ∙ ap (λ (q : Part). paragraph q.text (s.text ++ s.shown)) this))
+came_printed L make n w x (tells p r) e rest said part s (inr (this, more, split, first, came)) is =
     rw split
-    (printed_more p.text t sh (printed (parts_by make r) more) (part.text ++ (s.text ++ s.shown)) (printed (parts_by make r) (more ++ s ∷ []))
+    (printed_more (paragraph p.text (this.text ++ this.shown)) (printed (parts_by make r) more) (paragraph part.text (s.text ++ s.shown)) (printed (parts_by make r) (more ++ s ∷ []))
     (came_printed L make (n + 1) p.world x r e rest more part s came is))
 came_printed L make n w x (wants words r) e rest said part s (inl (none, here, same)) is = absurd (let no = same ∙ is in cc)
 came_printed L make n w x (wants words r) e rest said part s (inr came) is = came_printed L make n w x (r (make words)) e rest said part s came is
@@ -150,14 +144,14 @@ pub came_whole : (L : Saying) (make : Maker) (n : ℕ) (w x : World) (d e : Dial
 unfolding Came parts_by
 came_whole L make n w x ends e said came is = ap length came.0
 came_whole L make n w x (tells p r) e said (inl (none, here, same)) is = absurd (let no = same ∙ is in cc)
-came_whole L make n w x (tells p r) e said (inr (t, sh, more, split, first, came)) is = ap length split ∙ ap suc (came_whole L make (n + 1) p.world x r e more came is)
+came_whole L make n w x (tells p r) e said (inr (this, more, split, first, came)) is = ap length split ∙ ap suc (came_whole L make (n + 1) p.world x r e more came is)
 came_whole L make n w x (wants words r) e said (inl (none, here, same)) is = absurd (let no = same ∙ is in cc)
 came_whole L make n w x (wants words r) e said (inr came) is = came_whole L make n w x (r (make words)) e said came is
 
 -- how often something was taught, with one saying more
-pub tally_more : (S : ℕ → Bool) (t : Tally) (said : List Said) (s : Said) → tally_from S t (said ++ s ∷ []) ≡ (if S s.task then tally_from S t said else counted (tally_from S t said) s.text)
-tally_more S t [] s = refl
-tally_more S t (a ∷ said) s = tally_more S (if S a.task then t else counted t a.text) said s
+pub tally_more : (t : Tally) (said : List Said) (s : Said) → tally_from t (said ++ s ∷ []) ≡ (if s.counts then counted (tally_from t said) s.text else tally_from t said)
+tally_more t [] s = refl
+tally_more t (a ∷ said) s = tally_more (if a.counts then counted t a.text else t) said s
 
 -- commands
 

@@ -1,5 +1,6 @@
 -- What is said behind commands.
-use Rattle.std.proofs.Common.{◌≡◌, ◌+◌, inl, inr, refl, sym, subst, ℕ, List, [], ◌∷◌, ◌++◌, drop, length, take}
+use Rattle.std.proofs.Common.{◌≡◌, ◌≤◌, ◌+◌, inl, inr, refl, sym, ap, subst, ℕ, arith, not, nat_lt, false, List, [], ◌∷◌, ◌++◌, drop, length, take}
+use Rattle.std.proofs.lemmas.Bool.{le-ltb, or_from}
 use Rattle.hurd_creds.specs.declared.name.TaskId.{TaskId}
 use Rattle.hurd_machine.specs.Sound.{Sound}
 use Rattle.hurd_machine.specs.World.{World}
@@ -14,14 +15,16 @@ use Rattle.hurd_sight.specs.Reach.{among}
 use Rattle.hurd_lessons.specs.Told.{Lesson, Said}
 use Rattle.hurd_lessons.proofs.TaughtLaws.{untaught_where_unmoved}
 use Rattle.hurd_teaching.specs.Telling.{Shows}
-use Rattle.hurd_teaching.specs.Learners.{Speech}
+use Rattle.hurd_teaching.specs.Learners.{Speech, is_quiet}
 use Rattle.hurd_teaching.specs.Looks.{is_due}
 use Rattle.hurd_learns.specs.Lessons.{AsWithoutTheSilent, LessonsOf, Silent}
 use Rattle.hurd_learns.proofs.Going.{Came, Saying, came_played}
 
--- what is said and shown behind a command, by how many are made with it
+-- what is said and shown behind a command where so many are made before it, and whether it counts
 abbrev pub saying : List TaskId → Speech → Saying
-saying tasks who n t w x text shown = Lesson tasks who.learns t w x text × Shows tasks who.sees (is_due who.looks n) x shown
+saying tasks who n t w x s =
+    let quiet = is_quiet tasks who.from n t in
+    (s.counts ≡ not quiet) × Lesson tasks who.learns quiet w x s.text × Shows tasks who.sees (is_due who.looks (n + 1)) x s.shown
 
 -- nothing is said of no command
 no_lessons : (tasks : List TaskId) (who : Speech) (make : Maker) (n : ℕ) (cs : List CommandLine) (w : World) (said : List Said) → said ≡ [] → LessonsOf tasks who make n (take (length said) cs) w said
@@ -38,37 +41,42 @@ came_lessons tasks who make n (c ∷ cs) w x e said came =
       | inr there ↦ elim there [
         | inl here ↦ no_lessons tasks who make n (c ∷ cs) w said here.0
         | inr told ↦
-            let (text, shown, more, split, says, rest) = told in
+            let (s, more, split, says, rest) = told in
             let y = run w (command_calls make c w) in
+            let counted = ap {B = List Said} (λ b. record { counts = b; text = s.text; shown = s.shown } ∷ more) says.0 in
             subst (λ (ss : List Said). LessonsOf tasks who make n (take (length ss) (c ∷ cs)) w ss) (sym split)
-            (text, shown, more, refl, says.0, says.1, came_lessons tasks who make (n + 1) cs y x e more rest)
+            (s.text, s.shown, more, counted, says.1, says.2, came_lessons tasks who make (n + 1) cs y x e more rest)
       ]
     ]
 
 -- what is said behind some commands is said of those from the world after the others
 lessons_behind : (tasks : List TaskId) (who : Speech) (make : Maker) (n : ℕ) (before cs : List CommandLine) (w : World) (said : List Said) → LessonsOf tasks who make n (before ++ cs) w said
-    → (m : ℕ) × LessonsOf tasks who make m cs (world_after make before w) (drop (length before) said)
-lessons_behind tasks who make n [] cs w said lessons = (n, lessons)
+    → (m : ℕ) × (m ≡ n + length before) × LessonsOf tasks who make m cs (world_after make before w) (drop (length before) said)
+lessons_behind tasks who make n [] cs w said lessons = (n, omega arith, lessons)
 lessons_behind tasks who make n (c ∷ before) cs w said (text, shown, more, split, lesson, shows, rest) =
     let y = run w (command_calls make c w) in
-    let (m, behind) = lessons_behind tasks who make (n + 1) before cs y more rest in
-    (m, rw (split, run_both (command_calls make c w) (script_calls make before y) w) behind)
+    let (m, is, behind) = lessons_behind tasks who make (n + 1) before cs y more rest in
+    (m, omega (arith, is), rw (split, run_both (command_calls make c w) (script_calls make before y) w) behind)
 
--- where nothing is said, the others' commands leave the view as it was
-silent_unmoved : (tasks : List TaskId) (who : Speech) (make : Maker) (n : ℕ) (cs : List CommandLine) (w : World) (said : List Said) → Sound w → LessonsOf tasks who make n cs w said → Silent said
+-- where lessons have begun, they are of what others do
+loud : (tasks : List TaskId) (from made t : ℕ) → from ≤ made → among tasks t ≡ false → is_quiet tasks from made t ≡ false
+loud tasks from made t begun other = or_from (nat_lt made from) (among tasks t) (le-ltb made from begun) other
+
+-- where lessons have begun and nothing is said, the others' commands leave the view as it was
+silent_unmoved : (tasks : List TaskId) (who : Speech) (make : Maker) (n : ℕ) (cs : List CommandLine) (w : World) (said : List Said) → Sound w → who.from ≤ n → LessonsOf tasks who make n cs w said → Silent said
     → UnmovedCommands (among tasks) make cs w
-silent_unmoved tasks who make n [] w said sound lessons silent = tt
-silent_unmoved tasks who make n (c ∷ cs) w said sound (text, shown, more, split, lesson, shows, rest) silent =
+silent_unmoved tasks who make n [] w said sound begun lessons silent = tt
+silent_unmoved tasks who make n (c ∷ cs) w said sound begun (text, shown, more, split, lesson, shows, rest) silent =
     let y = run w (command_calls make c w) in
     let still = run_sound (command_calls make c w) w sound in
     let none = rw split at silent in (
-      λ other. (untaught_where_unmoved tasks who.learns w y text sound still (lesson.others other)).0 none.0,
-      silent_unmoved tasks who make (n + 1) cs y more still rest none.1,
+      λ other. (untaught_where_unmoved tasks who.learns w y text sound still (lesson.some (loud tasks who.from n c.task begun other))).0 none.0,
+      silent_unmoved tasks who make (n + 1) cs y more still (omega (arith, begun)) rest none.1,
     )
 
 pub as_without_the_silent : AsWithoutTheSilent
-as_without_the_silent tasks who make before cs w said sound lessons silent =
+as_without_the_silent tasks who make before cs w said sound begun lessons silent =
     let x = world_after make before w in
     let still = run_sound (script_calls make before w) w sound in
-    let (m, behind) = lessons_behind tasks who make 0 before cs w said lessons in
-    as_without_others (among tasks) make x cs still (silent_unmoved tasks who make m cs x (drop (length before) said) still behind silent)
+    let (m, is, behind) = lessons_behind tasks who make 0 before cs w said lessons in
+    as_without_others (among tasks) make x cs still (silent_unmoved tasks who make m cs x (drop (length before) said) still (omega (arith, is, begun)) behind silent)

@@ -9,3 +9,4 @@ pub mod ShownLaws
 pub mod ScriptLaws
 pub mod LookLaws
 pub mod OneText
+pub mod SaidLaws

@@ -1,5 +1,5 @@
 -- Of a script one text is printed.
-use Rattle.std.proofs.Common.{◌≡◌, ◌∙◌, sym, refl, ap, subst, ℕ, ◌+◌, List, [], ◌∷◌, ◌++◌, append-nil, append_assoc, drop, take, take-append-drop}
+use Rattle.std.proofs.Common.{◌≡◌, ◌∙◌, sym, refl, ap, subst, ℕ, ◌+◌, not, List, [], ◌∷◌, ◌++◌, append-nil, append_assoc, drop, take, take-append-drop}
 use Rattle.hurd_creds.specs.Access.{IdSets}
 use Rattle.hurd_creds.specs.declared.name.TaskId.{TaskId}
 use Rattle.hurd_trans_iface.specs.Meaning.{begin}
@@ -14,7 +14,7 @@ use Rattle.hurd_tmpfs.specs.Tree.{new_tmpfs}
 use Rattle.hurd_lessons.specs.Told.{Said, printed}
 use Rattle.hurd_lessons.proofs.OneLesson.{lesson_is_one}
 use Rattle.hurd_terminal.specs.Faults.{IsFront}
-use Rattle.hurd_teaching.specs.Learners.{Speech, speech}
+use Rattle.hurd_teaching.specs.Learners.{Speech, is_quiet, speech}
 use Rattle.hurd_teaching.specs.Looks.{is_due}
 use Rattle.hurd_teaching.specs.Programs.{PrintsOneText}
 use Rattle.hurd_teaching.specs.declared.learners.Learners.{Learners}
@@ -29,28 +29,30 @@ lessons_front tasks who make n [] more w s t none y = (t, ap (λ (u : List Said)
 lessons_front tasks who make n (c ∷ cs) more w s t (text, shown, said, split, lesson, shows, rest) (text2, shown2, said2, split2, lesson2, shows2, rest2) =
     let x = run w (command_calls make c w) in
     let it = lessons_front tasks who make (n + 1) cs more x said said2 rest rest2 in
-    let texts : text ≡ text2 = lesson_is_one tasks who.learns c.task w x text text2 lesson lesson2 in
+    let quiet = is_quiet tasks who.from n c.task in
+    let texts : text ≡ text2 = lesson_is_one tasks who.learns quiet w x text text2 lesson lesson2 in
     let shows_same : shown ≡ shown2 = shows_is_one tasks who.sees (is_due who.looks (n + 1)) x shown shown2 shows shows2 in (
       it.0,
       split2
-          ∙ (sym (λ i. record { task = c.task; text = texts i; shown = shows_same i } ∷ said2)
-          ∙ (ap (λ (u : List Said). record { task = c.task; text = text; shown = shown } ∷ u) it.1 ∙ ap (λ (u : List Said). u ++ it.0) (sym split))),
+          ∙ (sym (λ i. record { counts = not quiet; text = texts i; shown = shows_same i } ∷ said2)
+          ∙ (ap (λ (u : List Said). record { counts = not quiet; text = text; shown = shown } ∷ u) it.1 ∙ ap (λ (u : List Said). u ++ it.0) (sym split))),
     )
 
 lessons_once : (tasks : List TaskId) (who : Speech) (make : Maker) (n : ℕ) (cs : List CommandLine) (w : World) (s t : List Said) → LessonsOf tasks who make n cs w s → LessonsOf tasks who make n cs w t → s ≡ t
 lessons_once tasks who make n [] w s t none none2 = none ∙ sym none2
 lessons_once tasks who make n (c ∷ cs) w s t (text, shown, said, split, lesson, shows, rest) (text2, shown2, said2, split2, lesson2, shows2, rest2) =
     let x = run w (command_calls make c w) in
-    let texts : text ≡ text2 = lesson_is_one tasks who.learns c.task w x text text2 lesson lesson2 in
+    let quiet = is_quiet tasks who.from n c.task in
+    let texts : text ≡ text2 = lesson_is_one tasks who.learns quiet w x text text2 lesson lesson2 in
     let shows_same : shown ≡ shown2 = shows_is_one tasks who.sees (is_due who.looks (n + 1)) x shown shown2 shows shows2 in
-    split ∙ ((λ i. record { task = c.task; text = texts i; shown = shows_same i } ∷ lessons_once tasks who make (n + 1) cs x said said2 rest rest2 i) ∙ sym split2)
+    split ∙ ((λ i. record { counts = not quiet; text = texts i; shown = shows_same i } ∷ lessons_once tasks who make (n + 1) cs x said said2 rest rest2 i) ∙ sym split2)
 
 -- the commands of a script, for the same learners
 made_once : (users : List IdSets) (cs : List CommandLine) (l m : Learners) → AreAlike l m → IsOnce (made l.tasks.items (speech l) users cs) (made m.tasks.items (speech m) users cs)
 made_once users cs l m a = record {
   said = λ s t x y. lessons_once l.tasks.items (speech l) begin 0 cs (first_world new_tmpfs users) s t x (moved t y);
   text = λ s. refl;
-  things = refl;
+  thing = refl;
   front = λ f t some y. front f t some (moved t y);
 }
   where

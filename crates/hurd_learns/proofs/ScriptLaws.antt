@@ -16,7 +16,7 @@ use Rattle.hurd_teaching.specs.Programs.{Ran}
 use Rattle.hurd_teaching.specs.Shown.{NotShown, Shown}
 use Rattle.hurd_teaching.specs.declared.learners.Learners.{Learners}
 use Rattle.hurd_teaching.proofs.ProgramLaws.{no_memory, plain, ran_bad, ran_not_shown, ran_shown, ran_unknown}
-use Rattle.hurd_learns.specs.Runs.{NotRead, learning, looks_of, made}
+use Rattle.hurd_learns.specs.Runs.{NotRead, learning, looks_of, made, start_of}
 use Rattle.hurd_learns.specs.Users.{tasks_named}
 
 -- a script that is too long is bad at line 0
@@ -36,11 +36,11 @@ pub no_user : (word text : List ℕ) (before : Option (List ℕ)) (names : List 
 no_user word text before names good read none = ran_unknown (learning word) text before good (rw read at none)
 
 -- a script that was read was run
-module _ (word text : List ℕ) (learners : Learners) (looks : List Bool) (names : List (List ℕ)) (users : List IdSets) (commands : List CommandLine) (good : bad text ≡ None) (same : names ≡ names_of text) (asked : looks ≡ looks_of text) (who : users ≡ users_of text)
-    (what : commands ≡ commands_of text) (named : AreNamed (tasks_named names word) (λ tasks. word) looks learners) where
+module _ (word text : List ℕ) (learners : Learners) (looks : List Bool) (from : ℕ) (names : List (List ℕ)) (users : List IdSets) (commands : List CommandLine) (good : bad text ≡ None) (same : names ≡ names_of text) (asked : looks ≡ looks_of text) (begun : from ≡ start_of text) (who : users ≡ users_of text)
+    (what : commands ≡ commands_of text) (named : AreNamed (tasks_named names word) (λ tasks. word) looks from learners) where
   pub script_shown : (before after : Option (List ℕ)) → Shown (made learners.tasks.items (speech learners) users commands) learners before after → Ran (learning word) (Some text) before after (Ok true)
-  script_shown before after shown = ran_shown (learning word) text learners good (rw (same, asked) at named) before after (rw (who, what) at shown)
+  script_shown before after shown = ran_shown (learning word) text learners good (rw (same, asked, begun) at named) before after (rw (who, what) at shown)
 
   pub script_not_shown : {W : Type 0} (output : Output W) (before after : Option (List ℕ)) (fault : Fault)
       → NotShown (boot_of new_tmpfs users) (made learners.tasks.items (speech learners) users commands) learners output before fault after → Ran (learning word) (Some text) before after (Err fault)
-  script_not_shown output before after fault not = ran_not_shown (learning word) text learners good (rw (same, asked) at named) output before after fault (rw (who, what) at not)
+  script_not_shown output before after fault not = ran_not_shown (learning word) text learners good (rw (same, asked, begun) at named) output before after fault (rw (who, what) at not)

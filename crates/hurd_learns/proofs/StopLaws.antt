@@ -25,15 +25,15 @@ unfolding Stops
 stops_before f tasks who s left seen kept before = inl refl
 
 -- a command was made, and some of it printed
-pub stops_printed : {S : Type 0} (f : S → Meaning) (tasks : List TaskId) (who : Speech) (s left : View S) (seen watched kept : Option sight.View) (before after : Option (List ℕ)) (ours : Bool) (text : List ℕ)
-    → Looked f tasks s seen ours watched → has_failed s ≡ false → Gives f s text left → PrintedSome tasks who ours left.given (world_of f left.world) text watched before kept after
+pub stops_printed : {S : Type 0} (f : S → Meaning) (tasks : List TaskId) (who : Speech) (s left : View S) (seen watched kept : Option sight.View) (before after : Option (List ℕ)) (quiet : Bool) (text : List ℕ)
+    → Looked f tasks who.from s seen quiet watched → has_failed s ≡ false → Gives f s text left → PrintedSome tasks who quiet left.given (world_of f left.world) text watched before kept after
     → Stops f tasks who s seen before left kept after
 unfolding Stops
-stops_printed f tasks who s left seen watched kept before after ours text looked fine gives (inl same) = inl same
-stops_printed f tasks who s left seen watched kept before after ours text looked fine gives (inr (said, shown, adds, front)) = inr record {
+stops_printed f tasks who s left seen watched kept before after quiet text looked fine gives (inl same) = inl same
+stops_printed f tasks who s left seen watched kept before after quiet text looked fine gives (inr (said, shown, adds, front)) = inr record {
   text = text;
   said = said;
   shown = shown;
-  makes = record { ours = ours; watched = watched; looked = looked; fine = fine; gives = gives; adds = adds };
+  makes = record { quiet = quiet; watched = watched; looked = looked; fine = fine; gives = gives; adds = adds };
   front = front;
 }

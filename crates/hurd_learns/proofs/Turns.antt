@@ -55,13 +55,13 @@ told_fewer f s x text fine gives =
     omega (arith, was, is)
 
 -- a server is asked for and answered
-pub answered_fewer : {S : Type 0} (f : S → Meaning) (tasks : List TaskId) (s x u : View S) (seen kept : Option sight.View) (server : Option ServerBox) (m : Option Meaning)
-    → Asks f tasks s seen server x kept → option_map box_meaning server ≡ m → TakesUnlessFailed f x m u → size_left f u < size_left f s
-answered_fewer f tasks s x u seen kept server m asks same (inl failed) =
+pub answered_fewer : {S : Type 0} (f : S → Meaning) (tasks : List TaskId) (from : ℕ) (s x u : View S) (seen kept : Option sight.View) (server : Option ServerBox) (m : Option Meaning)
+    → Asks f tasks from s seen server x kept → option_map box_meaning server ≡ m → TakesUnlessFailed f x m u → size_left f u < size_left f s
+answered_fewer f tasks from s x u seen kept server m asks same (inl failed) =
     let was : size_left f s ≡ suc (size_by begin (left_in f s)) = ap (λ (q : Bool). turns_by q (size_by begin (left_in f s))) asks.fine in
     let is : size_left f u ≡ zero = ap (λ (q : Bool). turns_by q (size_by begin (left_in f u))) failed in
     omega (arith, was, is)
-answered_fewer f tasks s x u seen kept server m asks same (inr takes) =
+answered_fewer f tasks from s x u seen kept server m asks same (inr takes) =
     let asked : AsksFor (left_in f x) asks.words = subst (λ (d : Dialogue). AsksFor d asks.words) (sym asks.tells.0) asks.tells.1 in
     let answers : Answers (left_in f x) (begin asks.words) (left_in f u) = subst (λ (o : Option Meaning). Answers (left_in f x) o (left_in f u)) (sym same ∙ asks.made) takes.0 in
     let was : size_left f s ≡ suc (suc (size_by begin (left_in f u))) =
@@ -84,4 +84,4 @@ pub step_answered_fewer : {S : Type 0} (f : S → Meaning) (tasks : List TaskId)
 unfolding StepsTo
 step_answered_fewer f tasks who s x u seen kept count new now later step server m made steps same takes =
     let both = rw made at steps in
-    answered_fewer f tasks s x u seen kept server m both.0 same takes
+    answered_fewer f tasks who.from s x u seen kept server m both.0 same takes

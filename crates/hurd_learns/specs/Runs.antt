@@ -15,13 +15,13 @@ use Rattle.hurd_terminal.specs.declared.print.Output.{Output}
 use Rattle.hurd_tmpfs.specs.Tree.{new_tmpfs}
 use Rattle.hurd_words.specs.Lines.{lines_of}
 use Rattle.hurd_teaching.specs.Learners.{Speech, speech}
-use Rattle.hurd_teaching.specs.Looks.{asks_of}
+use Rattle.hurd_teaching.specs.Looks.{asks_of, starts_of}
 use Rattle.hurd_teaching.specs.Programs.{Teaching}
 use Rattle.hurd_teaching.specs.Shown.{Doings}
 use Rattle.hurd_learns.specs.Lessons.{LessonsOf}
 use Rattle.hurd_learns.specs.Users.{tasks_named}
 
--- each command's part, and what is said and shown behind it
+-- a paragraph for each command: its part, and what is said and shown behind it
 abbrev pub told_text : List IdSets → List CommandLine → List Said → List ℕ
 told_text users commands said = printed (parts_by begin (dialogue commands (first_world new_tmpfs users))) said
 
@@ -38,7 +38,7 @@ made tasks who users commands = record {
   Lessons = LessonsOf tasks who begin 0 commands (first_world new_tmpfs users);
   text = told_text users commands;
   IsFrontOfSome = FrontOfSome tasks who users commands;
-  things = codes " commands of others\n";
+  thing = codes " command";
 }
 
 -- so many of the first commands were made, and a front of their parts with what is said behind them was printed
@@ -69,6 +69,10 @@ NotRead text _ = ⊥
 abbrev pub looks_of : List ℕ → List Bool
 looks_of script = drop (length (names_of script)) (asks_of (lines_of script))
 
+-- how many of its commands are made before lessons begin
+abbrev pub start_of : List ℕ → ℕ
+start_of script = starts_of (length (names_of script)) (lines_of script)
+
 -- the program for those whom a word names of the users of a script
 abbrev pub learning : List ℕ → Teaching
 learning word = record {
@@ -78,6 +82,7 @@ learning word = record {
   named = λ text. tasks_named (names_of text) word;
   called = λ tasks. word;
   looks = looks_of;
+  from = start_of;
   boot = λ text. boot_of new_tmpfs (users_of text);
   doings = λ text learners. made learners.tasks.items (speech learners) (users_of text) (commands_of text);
 }

@@ -11,22 +11,23 @@ use hurd_teaching::Learners;
 use hurd_words::users::{parts, task_of};
 use std::alloc::{AllocError, Global};
 
-/// Those whose names stand in a word between commas, with where all that they see is to be shown; none where one of them isn't a user of a script
-/// with users of these names. An error is want of memory.
+/// Those whose names stand in a word between commas, with where all that they see is to be shown, and where lessons begin. There are none
+/// where one of them isn't a user of a script with users of these names. An error is want of memory.
 pub fn named(
     alloc: Global,
     users: &[String],
     word: &str,
     looks: Vec<bool>,
+    from: usize,
 ) -> Result<Option<Learners>, AllocError>
     requires { length users.now ≤ 64 }
-    ensures { IfOk result (λ named. Named (tasks_named (map string_bytes users.now) word.now) (λ tasks. word.now) looks.items named) }
+    ensures { IfOk result (λ named. Named (tasks_named (map string_bytes users.now) word.now) (λ tasks. word.now) looks.items from named) }
 {
     let Some(tasks) = tasks_of(alloc, users, word)? else {
         return Ok(None);
     };
     let names = Vec::from_slice(alloc, word.as_bytes())?;
-    Ok(Some(Learners::called(alloc, tasks, names, looks)?))
+    Ok(Some(Learners::called(alloc, tasks, names, looks, from)?))
 }
 
 /// One task more, of the user of a name; whether there is one. An error is want of memory.

@@ -1,11 +1,14 @@
 //! Runs a script of several users' commands over a tree in memory, and says what some of them learn from the commands of the others.
 //!
-//! `hurd_learns USER[,USER..] < script` prints the transcript of the script, and behind the part of each command of anybody else a line for
-//! each thing of which these users see something else than before; no such line, and the command taught them nothing. Behind a command
-//! where a line `# see` stands all that they see is shown. The last line says how many commands of others taught them something. Status 0
-//! where all of it was printed; status 1 with the one line `hurd: line N: bad script`, or with the usage where no users are named or one of
-//! them isn't the script's; status 2 with `hurd: cannot read`, `hurd: cannot write`, `hurd: out of memory` or `hurd: cannot boot: NAME` as
-//! the last line, as far as that can be written.
+//! `hurd_learns USER[,USER..] < script` prints a paragraph for each command of the script. First come the command and each line of its
+//! output, behind `| `. Behind a command of anybody else follows a line for each thing of which these users see something else than before.
+//! Where there is none, the command taught them nothing. Where a line `# see` stands behind a command, all that they see follows. An empty
+//! line ends the paragraph. Of commands before a line `# from here` nothing is said, and they do not count. The last line says how many
+//! commands of others taught them something.
+//!
+//! Status 0 where all of it was printed. Status 1 with the one line `hurd: line N: bad script`, or with the usage where no users are named or
+//! one of them isn't the script's. Status 2 with `hurd: cannot read`, `hurd: cannot write`, `hurd: out of memory` or `hurd: cannot boot: NAME`
+//! as the last line, as far as that can be written.
 #![tactic(auto)]
 
 mod laws;

@@ -19,7 +19,7 @@ use hurd_kinds::{ServerBox, empty_tree};
 use hurd_lessons::Tally;
 use hurd_script::{Script, ScriptFault, parse_script};
 use hurd_shell::Session;
-use hurd_teaching::{Learners, asked_looks, finish};
+use hurd_teaching::{Learners, asked_looks, finish, lessons_begin};
 use hurd_terminal::{Fault, Input, Output, read_text};
 use hurd_trans_iface::Server;
 use hurd_watch::Watch;
@@ -33,7 +33,7 @@ pub const COMPLAINT: &str = ": bad script\n";
 pub const USAGE: &[u8] = b"usage: hurd_learns USER[,USER..] < script\n";
 
 /// What was learned from, in the last line.
-const COMMANDS: &[u8] = b" commands of others\n";
+const COMMAND: &[u8] = b" command";
 
 /// A session in a box.
 fn boxed<S: Server>(alloc: Global, session: Session<S>) -> Result<Box<Session<S>>, AllocError>
@@ -69,7 +69,7 @@ fn play<W: Write>(
     requires { watch.old.seen ≡ None }
     ensures ok { (users : List IdSets) (commands : List CommandLine) → BegunWith box_meaning new_tmpfs users commands session.old
         → OnOk result (ToldAll (made learners.now.tasks.items (speech learners.now) users commands)
-        learners.now.tasks.items tally.old (W.contents output.old.writer) tally.new (W.contents output.new.writer)) }
+        tally.old (W.contents output.old.writer) tally.new (W.contents output.new.writer)) }
     ensures err { (users : List IdSets) (commands : List CommandLine) → BegunWith box_meaning new_tmpfs users commands session.old
         → IfErr result (λ fault. NotAll learners.now.tasks.items (speech learners.now) users commands
         output.new (W.contents output.old.writer) fault (W.contents output.new.writer)) }
@@ -98,7 +98,7 @@ fn transcribe<W: Write>(
 ) -> Result<(), Fault>
     requires { watch.old.seen ≡ None }
     ensures ok { OnOk result (ToldAll (made learners.now.tasks.items (speech learners.now) script.users.items script.commands.items)
-        learners.now.tasks.items tally.old (W.contents output.old.writer) tally.new (W.contents output.new.writer)) }
+        tally.old (W.contents output.old.writer) tally.new (W.contents output.new.writer)) }
     ensures err { IfErr result (λ fault. NotAll learners.now.tasks.items (speech learners.now) script.users.items script.commands.items
         output.new (W.contents output.old.writer) fault (W.contents output.new.writer)) }
 {
@@ -125,7 +125,7 @@ fn learn<W: Write>(
 {
     let mut tally = Tally::new();
     transcribe(alloc, script, learners, watch, &mut tally, output)?;
-    let line = tally.line(alloc, learners.names.as_slice(), COMMANDS)?;
+    let line = tally.line(alloc, learners.names.as_slice(), COMMAND)?;
     output.print(line.as_slice())
 }
 
@@ -177,7 +177,8 @@ fn run_text<W: Write>(
 {
     let script = parsed(alloc, text)?;
     let looks = asked_looks(alloc, text, script.names.as_slice().len())?;
-    match named(alloc, script.names.as_slice(), word, looks)? {
+    let from = lessons_begin(alloc, text, script.names.as_slice().len())?;
+    match named(alloc, script.names.as_slice(), word, looks, from)? {
         Some(learners) => {
             learn_anew(alloc, script, &learners, output)?;
             Ok(true)

@@ -8,7 +8,8 @@ use Rattle.hurd_views.specs.Views.{has_row, no_row, row_at}
 use Rattle.hurd_views.specs.declared.rows.Row.{Row}
 use Rattle.hurd_views.specs.declared.view.View.{View}
 use Rattle.hurd_lessons.specs.Changes.{IsChange, Turned, is_kept, is_same}
-use Rattle.hurd_lessons.specs.Lessons.{GoneLineOf, LineOf, Lines, OneText, SilentWhereSame, Unless, count_line, line, names_of, tasks_line}
+use Rattle.hurd_lessons.specs.Lessons.{GoneLineOf, LineOf, Lines, OneText, SilentWhereSame, Unless, count_line, line, tasks_line}
+use Rattle.hurd_lessons.specs.Values.{names_of}
 use Rattle.hurd_lessons.specs.declared.changes.Became.{Became}
 use Rattle.hurd_lessons.specs.declared.changes.Change.{Change}
 

@@ -1,6 +1,8 @@
-pub mod PlaceLaws
 pub mod LineLaws
 pub mod LessonLaws
 pub mod SeenLaws
 pub mod TaughtLaws
 pub mod OneLesson
+pub mod EntryLaws
+pub mod SeatLaws
+pub mod InSentences

@@ -10,7 +10,8 @@ use Rattle.hurd_views.specs.Views.{has_row, row_at}
 use Rattle.hurd_views.specs.declared.view.View.{View}
 use Rattle.hurd_lessons.specs.Added.{Adds, AddsAt, AddsLines}
 use Rattle.hurd_lessons.specs.Changes.{IsChange, is_kept}
-use Rattle.hurd_lessons.specs.Lessons.{GoneLineOf, Lessons, LineOf, Lines, Unless, count_line, line, names_of, tasks_line}
+use Rattle.hurd_lessons.specs.Lessons.{GoneLineOf, Lessons, LineOf, Lines, Unless, count_line, line, place_in, said_of, tasks_line}
+use Rattle.hurd_lessons.specs.Values.{line_from, names_of}
 use Rattle.hurd_lessons.specs.declared.changes.Change.{Change}
 
 -- the names of rows
@@ -50,6 +51,20 @@ adding_at P es i o start old new below is adds before = elim (slice_get_cases es
     there e at =
         adding_next P es i e start old new at
         (subst (λ (m : Option Name). AddsAt P m old new) (is ∙ ap (option_map (λ (e : Name × Row). e.0)) at) adds) before
+
+-- a name under which something did
+pub changed_line : (who : List ℕ) (a b : View) (n : Name) (old new : List ℕ) (x y : Row) (c : Change) (place said : List ℕ) → x ≡ row_at a.rows n → y ≡ row_at b.rows n → IsChange x y c → false ≡ is_kept c
+    → place ≡ place_in a b n → said ≡ said_of a b x y c → new ≡ old ++ line_from who place said → Adds (LineOf who a b n) old new
+changed_line who a b n old new x y c place said at there is changed where_is what_is grown = (
+  line_from who place said,
+  grown,
+  (
+    c,
+    subst (λ (r : Row). IsChange r (row_at b.rows n) c) at (subst (λ (r : Row). IsChange x r c) there is),
+    (λ i. line_from who (where_is i) (what_is i))
+        ∙ ((λ i. line_from who (place_in a b n) (said_of a b (at i) (there i) c)) ∙ ap (λ (k : Bool). if k then [] else line who a b n c) changed),
+  ),
+)
 
 -- a name under which nothing changed
 pub kept_line : (who : List ℕ) (a b : View) (n : Name) (old : List ℕ) (x y : Row) (c : Change) → x ≡ row_at a.rows n → y ≡ row_at b.rows n → IsChange x y c → true ≡ is_kept c

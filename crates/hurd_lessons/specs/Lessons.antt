@@ -1,5 +1,5 @@
 -- What a set of tasks learns between two looks, a line for each thing.
-use Rattle.std.specs.Prelude.{◌≡◌, ◌↔◌, ◌⊎◌, ℕ, Bool, true, false, List, [], ◌∷◌, ◌++◌, map, Option, Some, if◌then◌else◌, codes}
+use Rattle.std.specs.Prelude.{◌≡◌, ◌↔◌, ◌⊎◌, ℕ, Bool, true, false, List, [], ◌∷◌, ◌++◌, map, Option, Some, if◌then◌else◌, bytes_eq, codes}
 use Rattle.hurd_creds.specs.declared.name.Name.{Name}
 use Rattle.hurd_views.specs.Views.{SameRows, has_row, row_at}
 use Rattle.hurd_views.specs.declared.rows.BodyRow.{BodyRow}
@@ -7,22 +7,12 @@ use Rattle.hurd_views.specs.declared.rows.BodyRow.TheVariants as body
 use Rattle.hurd_views.specs.declared.rows.Row.{Row}
 use Rattle.hurd_views.specs.declared.view.View.{View}
 use Rattle.hurd_lessons.specs.Changes.{IsChange, is_kept, shows}
-use Rattle.hurd_lessons.specs.Places.{place_of}
+use Rattle.hurd_lessons.specs.Differences.{body_change, changed_node, changed_open, empty_change, noted, server_change, users_change}
+use Rattle.hurd_places.specs.Places.{place_of}
+use Rattle.hurd_lessons.specs.Values.{line_from, names_of, with_part}
 use Rattle.hurd_lessons.specs.declared.changes.Became.{Became}
 use Rattle.hurd_lessons.specs.declared.changes.Became.TheVariants as became
 use Rattle.hurd_lessons.specs.declared.changes.Change.{Change}
-
--- words, and a comma where some stand already
-abbrev pub parted : List ℕ → List ℕ
-parted [] = []
-parted (b ∷ bs) = (b ∷ bs) ++ codes ", "
-
--- one part more, by its word, unless it is as it was
-abbrev pub noted : List ℕ → List ℕ → Became → List ℕ
-noted words word became.Same = words
-noted words word became.New = parted words ++ word
-noted words word became.Changed = parted words ++ word
-noted words word became.Lost = parted words ++ (word ++ codes " no longer seen")
 
 -- what a body is called
 abbrev pub is_listing : Option (Option BodyRow) → Bool
@@ -38,34 +28,56 @@ emptiness became.New e = became.Same
 emptiness became.Changed e = became.Same
 emptiness _ e = e
 
--- the parts that changed, by their words
-abbrev pub parts_of : Row → Row → Change → List ℕ
-parts_of x y c =
-    noted (noted (noted (noted (noted (noted []
-    (codes "attributes") c.attributes)
-    (body_word x y) c.body)
-    (codes "emptiness") (emptiness c.body c.empty))
-    (codes "open") c.opened)
-    (codes "options") c.server)
-    (codes "users") c.users
+-- the parts of a node that changed, each by its word, and by what it was and is where it is seen both times
+abbrev pub note_node : View → View → Row → Row → Change → List ℕ → List ℕ
+note_node a b x y c words = noted words (codes "attributes") (changed_node a b words x.attributes y.attributes) c.attributes
+
+abbrev pub note_body : Row → Row → Change → List ℕ → List ℕ
+note_body x y c words = noted words (body_word x y) (with_part words (Some (body_change x.body y.body))) c.body
+
+abbrev pub note_empty : Row → Change → List ℕ → List ℕ
+note_empty y c words = noted words (codes "emptiness") (with_part words (Some (empty_change y.empty))) (emptiness c.body c.empty)
+
+-- the same of an open, and of a server and its users
+abbrev pub note_open : Row → Row → Change → List ℕ → List ℕ
+note_open x y c words = noted words (codes "open") (changed_open words x.opened y.opened) c.opened
+
+abbrev pub note_server : View → View → Row → Row → Change → List ℕ → List ℕ
+note_server a b x y c words = noted words (codes "options") (server_change a b words x.server y.server) c.server
+
+abbrev pub note_users : Row → Row → Change → List ℕ → List ℕ
+note_users x y c words = noted words (codes "users") (users_change words x.users y.users) c.users
+
+-- all parts that changed under a name
+abbrev pub parts_of : View → View → Row → Row → Change → List ℕ
+parts_of a b x y c = note_users x y c (note_server a b x y c (note_open x y c (note_empty y c (note_body x y c (note_node a b x y c [])))))
+
+-- parts, where there are any
+abbrev pub or_changed : List ℕ → List ℕ
+or_changed [] = codes "changed"
+or_changed (b ∷ bs) = b ∷ bs
 
 -- what is said of a thing of which x was seen before, and y after
-abbrev pub said_of : Row → Row → Change → List ℕ
-said_of x y c =
+abbrev pub said_of : View → View → Row → Row → Change → List ℕ
+said_of a b x y c =
     if shows y
-    then (if shows x then [] else codes "new: ") ++ parts_of x y c
+    then (if shows x then [] else codes "new: ") ++ or_changed (parts_of a b x y c)
     else codes "no longer seen"
 
--- the view in which something is to be looked for: the later one, unless it isn't seen there
+-- a place before, and the one behind it where that is another
+abbrev pub moved : List ℕ → List ℕ → List ℕ
+moved old new = if bytes_eq old new then old else old ++ (codes " -> " ++ new)
+
+-- where something is: where it was seen, and where it is seen then if that is another place
 abbrev pub place_in : View → View → Name → List ℕ
-place_in a b n = if shows (row_at b.rows n) then place_of b n else place_of a n
+place_in a b n =
+    if shows (row_at a.rows n)
+    then (if shows (row_at b.rows n) then moved (place_of a n) (place_of b n) else place_of a n)
+    else place_of b n
 
--- a line, which says to whom, where and what
-abbrev pub line_from : List ℕ → List ℕ → List ℕ → List ℕ
-line_from who place said = codes "  " ++ (who ++ (codes ": " ++ (place ++ (codes ": " ++ (said ++ 10 ∷ [])))))
-
+-- a line of a name
 abbrev pub line : List ℕ → View → View → Name → Change → List ℕ
-line who a b n c = line_from who (place_in a b n) (said_of (row_at a.rows n) (row_at b.rows n) c)
+line who a b n c = line_from who (place_in a b n) (said_of a b (row_at a.rows n) (row_at b.rows n) c)
 
 -- a name has a line, unless nothing changed under it
 abbrev pub LineOf : List ℕ → View → View → Name → List ℕ → Type 0
@@ -80,10 +92,6 @@ GoneLineOf who a b n text = ((has_row b.rows n ≡ true) × (text ≡ [])) ⊎ (
 abbrev pub Lines : (Name → List ℕ → Type 0) → List Name → List ℕ → Type 0
 Lines P [] text = text ≡ []
 Lines P (n ∷ ns) text = (here rest : List ℕ) × (text ≡ here ++ rest) × P n here × Lines P ns rest
-
--- the names of a view, in its order
-abbrev pub names_of : View → List Name
-names_of v = map (λ e. e.0) v.rows
 
 -- a line, where something doesn't hold
 abbrev pub Unless : Type 0 → List ℕ → List ℕ → Type 0

@@ -1,6 +1,7 @@
 pub mod Changes
-pub mod Places
-pub mod Lessons
+pub mod Values
 pub mod Seen
+pub mod Differences
+pub mod Lessons
 pub mod Added
 pub mod Told

@@ -1,15 +1,23 @@
 -- All that a set of tasks sees, a line for each thing.
-use Rattle.std.specs.Prelude.{ℕ, Bool, true, false, List, [], ◌∷◌, ◌++◌, map, Option, Some, None, if◌then◌else◌, is_some, codes}
+use Rattle.std.specs.Prelude.{ℕ, ◌==◌, Bool, true, false, List, [], ◌∷◌, ◌++◌, map, Option, Some, None, if◌then◌else◌, codes, decimal, bytes_eq, length, ◌||◌}
 use Rattle.std.specs.List.{concat}
-use Rattle.std.specs.Option.{option_map}
+use Rattle.std.specs.Option.{option_map, option_or}
+use Rattle.hurd_creds.specs.Access.{IdSets, least_uid}
 use Rattle.hurd_creds.specs.Bits as bit
 use Rattle.hurd_creds.specs.Stats.{stat_of}
 use Rattle.hurd_creds.specs.declared.attrs.Attrs.{Attrs}
+use Rattle.hurd_creds.specs.Names.{same_name}
 use Rattle.hurd_creds.specs.declared.name.Name.{Name}
+use Rattle.hurd_creds.specs.declared.name.TaskId.{TaskId}
 use Rattle.hurd_creds.specs.declared.open_flags.OpenFlags.{OpenFlags}
-use Rattle.hurd_lines.specs.Escapes.{escaped}
-use Rattle.hurd_lines.specs.Lines.{spaced, spaced_words, stat_words, text_if}
+use Rattle.hurd_lines.specs.Lines.{kind_letter, spaced, stat_words, text_if}
+use Rattle.hurd_sentences.specs.Spelling.{spelled, spelled_name, spelled_words}
+use Rattle.hurd_ports.specs.Tables.{Task}
 use Rattle.hurd_ports.specs.declared.table.Opened.{Opened}
+use Rattle.hurd_ports.specs.declared.table.PendingStart.{PendingStart}
+use Rattle.hurd_ports.specs.declared.table.Port.{Port}
+use Rattle.hurd_ports.specs.declared.table.Right.{Right}
+use Rattle.hurd_ports.specs.declared.table.Right.TheVariants.{Io}
 use Rattle.hurd_views.specs.Views.{row_at}
 use Rattle.hurd_views.specs.declared.rows.BodyRow.{BodyRow}
 use Rattle.hurd_views.specs.declared.rows.BodyRow.TheVariants as body
@@ -20,27 +28,62 @@ use Rattle.hurd_views.specs.declared.rows.Row.{Row}
 use Rattle.hurd_views.specs.declared.rows.ServerRow.{ServerRow}
 use Rattle.hurd_views.specs.declared.view.View.{View}
 use Rattle.hurd_lessons.specs.Changes.{shows}
-use Rattle.hurd_lessons.specs.Lessons.{line_from, names_of, parted}
-use Rattle.hurd_lessons.specs.Places.{node_place, place_of}
+use Rattle.hurd_lessons.specs.declared.seen_parts.Reads.{Reads}
+use Rattle.hurd_lessons.specs.declared.seen_parts.Reads.TheVariants as reads
+use Rattle.hurd_places.specs.Places.{node_path, place_of, server_path}
+use Rattle.hurd_lessons.specs.Values.{line_from, names_of, part_if, parted, spelled_or_none, with_part, words_or_none}
 
 -- the words of a passive translator, where it has any
 abbrev pub passive_text : List (List ℕ) → List ℕ
 passive_text [] = []
-passive_text (word ∷ words) = codes " passive" ++ spaced_words (word ∷ words)
+passive_text (word ∷ words) = codes " passive" ++ spelled_words (word ∷ words)
 
--- attributes as `ls -d` prints them, then the node's translators; or that the node is gone
-abbrev pub attributes_text : Option Attrs → List (List ℕ) → Option Name → List ℕ
-attributes_text None words active = codes "gone"
-attributes_text (Some a) words active = stat_words (stat_of a) ++ (passive_text words ++ text_if (is_some active) (codes " active"))
+-- attributes as `ls -d` prints them, then the words of a passive translator; or that the node is gone
+abbrev pub attributes_text : Option Attrs → List (List ℕ) → List ℕ
+attributes_text None words = codes "gone"
+attributes_text (Some a) words = stat_words (stat_of a) ++ passive_text words
 
--- a node beside what is in it
 abbrev pub node_text : NodeRow → List ℕ
-node_text r = attributes_text r.attrs r.words r.active
+node_text r = attributes_text r.attrs r.words
+
+-- the server of a node, and the one that is active on it
+abbrev pub server_named : List ℕ → View → Option Name → Option (List ℕ)
+server_named word v None = None
+server_named word v (Some s) = Some (word ++ server_path v s)
+
+abbrev pub home_part : View → Option NodeRow → Option (List ℕ)
+home_part v None = None
+home_part v (Some r) = server_named (codes "served by ") v r.home
+
+abbrev pub active_part : View → Option NodeRow → Option (List ℕ)
+active_part v None = None
+active_part v (Some r) = server_named (codes "active ") v r.active
+
+-- how many opens read and write a pipe
+abbrev pub counts_text : Attrs → List ℕ
+counts_text a = codes "readers" ++ (spaced a.readers ++ (codes " writers" ++ spaced a.writers))
+
+abbrev pub counts_of : Option Attrs → Option (List ℕ)
+counts_of None = None
+counts_of (Some a) = part_if (kind_letter a.kind == 112) (counts_text a)
+
+abbrev pub counts_part : Option NodeRow → Option (List ℕ)
+counts_part None = None
+counts_part (Some r) = counts_of r.attrs
+
+-- the parent of a directory
+abbrev pub parent_of : View → Option Attrs → Option (List ℕ)
+parent_of v None = None
+parent_of v (Some a) = option_map (λ n. codes "parent " ++ node_path v n) a.parent
+
+abbrev pub parent_part : View → Option NodeRow → Option (List ℕ)
+parent_part v None = None
+parent_part v (Some r) = parent_of v r.attrs
 
 -- the names of entries, each behind a space
 abbrev pub entry_names : List EntryRow → List ℕ
 entry_names [] = []
-entry_names (e ∷ es) = (32 ∷ escaped e.name) ++ entry_names es
+entry_names (e ∷ es) = (32 ∷ spelled_name e.name) ++ entry_names es
 
 -- entries by their names, or that there are none
 abbrev pub listing_text : List EntryRow → List ℕ
@@ -50,17 +93,57 @@ listing_text (e ∷ es) = codes "entries" ++ entry_names (e ∷ es)
 -- bytes, or that there are none
 abbrev pub bytes_text : List ℕ → List ℕ
 bytes_text [] = codes "no bytes"
-bytes_text (b ∷ bs) = codes "bytes " ++ escaped (b ∷ bs)
+bytes_text (b ∷ bs) = codes "bytes " ++ spelled (b ∷ bs)
 
 -- what is in a node
 abbrev pub body_text : BodyRow → List ℕ
 body_text (body.Entries es) = listing_text es
 body_text (body.Bytes bs) = bytes_text bs
 
+-- the first of some words
+abbrev pub first_word : List (List ℕ) → List ℕ
+first_word [] = []
+first_word (word ∷ words) = word
+
+-- the program of a server, of which a node is the root
+abbrev pub program_in : Name → Option (Option ServerRow) → List ℕ
+program_in n (Some (Some s)) = if same_name n s.root then first_word s.options else []
+program_in n _ = []
+
+abbrev pub program_by : View → Name → Option Name → List ℕ
+program_by v n None = []
+program_by v n (Some s) = program_in n (row_at v.rows s).server
+
+abbrev pub program_of : View → Name → Option NodeRow → List ℕ
+program_of v n None = []
+program_of v n (Some r) = program_by v n r.home
+
+-- what a drip has given
+abbrev pub given_text : BodyRow → List ℕ
+given_text (body.Bytes bs) = codes "given " ++ spelled_or_none bs
+given_text (body.Entries es) = listing_text es
+
+-- what reading the root of a server of this program gives
+abbrev pub reads_of : List ℕ → Reads
+reads_of program =
+    if bytes_eq program (codes "/hurd/hello") || bytes_eq program (codes "/hurd/symlink") then reads.Text
+    else if bytes_eq program (codes "/hurd/union") then reads.Entries
+    else if bytes_eq program (codes "/hurd/zero") then reads.Zeros
+    else if bytes_eq program (codes "/hurd/drip") then reads.Left
+    else reads.Kept
+
+-- what is in a node, or what reading it gives where that is not what is kept
+abbrev pub read_text : Reads → BodyRow → List ℕ
+read_text reads.Text b = codes "its server's text"
+read_text reads.Entries b = codes "its targets' entries"
+read_text reads.Zeros b = codes "zeros"
+read_text reads.Left b = given_text b
+read_text reads.Kept b = body_text b
+
 -- of a body that is not there nothing is said
-abbrev pub body_part : Option (Option BodyRow) → Option (List ℕ)
-body_part (Some (Some b)) = Some (body_text b)
-body_part _ = None
+abbrev pub body_part : List ℕ → Option (Option BodyRow) → Option (List ℕ)
+body_part program (Some (Some b)) = Some (read_text (reads_of program) b)
+body_part program _ = None
 
 -- whether a directory has no entries
 abbrev pub empty_text : Bool → List ℕ
@@ -78,56 +161,107 @@ modes_text f =
     text_if (bit.asks f bit.READ) (codes " read") ++ (text_if (bit.asks f bit.WRITE) (codes " write")
     ++ (text_if (bit.asks f bit.EXEC) (codes " exec") ++ text_if (bit.asks f bit.APPEND) (codes " append")))
 
--- an open's cursor and modes, and how many rights hold it
-abbrev pub held_text : Opened → ℕ → List ℕ
-held_text o holders = codes "cursor" ++ (spaced o.cursor ++ (modes_text o.modes ++ (codes ", held" ++ (spaced holders ++ codes " times"))))
+-- the node of a right that has an open
+abbrev pub opened_by : Name → Right → Option Name
+opened_by o (Io r) = if same_name o r.open_name then Some r.node else None
+opened_by o _ = None
 
--- the same of an open that may be there
-abbrev pub opened_text : Option Opened → ℕ → List ℕ
-opened_text None holders = codes "no open"
-opened_text (Some o) holders = held_text o holders
+-- of the first of these that has it
+abbrev pub opened_by_ports : Name → List Port → Option Name
+opened_by_ports o [] = None
+opened_by_ports o (p ∷ ps) = option_or (opened_by o p.right) (opened_by_ports o ps)
 
-abbrev pub open_text : OpenRow → List ℕ
-open_text r = opened_text r.opened r.holders
+abbrev pub opened_by_rights : Name → List Right → Option Name
+opened_by_rights o [] = None
+opened_by_rights o (r ∷ rs) = option_or (opened_by o r) (opened_by_rights o rs)
+
+abbrev pub opened_by_task : Name → Option Task → Option Name
+opened_by_task o None = None
+opened_by_task o (Some x) = option_or (opened_by_ports o x.ports) (opened_by_rights o x.inbox)
+
+abbrev pub opened_by_tasks : Name → List (Option Task) → Option Name
+opened_by_tasks o [] = None
+opened_by_tasks o (x ∷ xs) = option_or (opened_by_task o x) (opened_by_tasks o xs)
+
+-- the node of an open
+abbrev pub on_part : View → Name → Option OpenRow → Option (List ℕ)
+on_part v o None = None
+on_part v o (Some r) = option_map (λ n. codes "on " ++ node_path v n) (opened_by_tasks o v.seats.items)
+
+-- an open's cursor and modes, or that it is gone
+abbrev pub opened_text : Option Opened → List ℕ
+opened_text None = codes "gone"
+opened_text (Some o) = codes "cursor" ++ (spaced o.cursor ++ modes_text o.modes)
+
+abbrev pub cursor_text : OpenRow → List ℕ
+cursor_text r = opened_text r.opened
+
+-- how many rights hold it
+abbrev pub held_text : OpenRow → List ℕ
+held_text r = if r.holders == 1 then codes "held once" else codes "held" ++ (spaced r.holders ++ codes " times")
 
 -- the places of nodes, each behind a space
 abbrev pub node_places : View → List Name → List ℕ
 node_places v [] = []
-node_places v (n ∷ ns) = (32 ∷ node_place v n) ++ node_places v ns
+node_places v (n ∷ ns) = (32 ∷ node_path v n) ++ node_places v ns
 
--- where the nodes are that a server aims at, if it aims at any
-abbrev pub targets_text : View → List Name → List ℕ
-targets_text v [] = []
-targets_text v (n ∷ ns) = codes " targets" ++ node_places v (n ∷ ns)
+-- the same with none in front of the first; or that there are none
+abbrev pub places_text : View → List Name → List ℕ
+places_text v [] = codes "(none)"
+places_text v (n ∷ ns) = node_path v n ++ node_places v ns
 
--- the words by which a server would be made, and what it aims at; or that it is gone
-abbrev pub server_text : View → Option ServerRow → List ℕ
-server_text v None = codes "gone"
-server_text v (Some s) = codes "options" ++ (spaced_words s.options ++ targets_text v s.targets)
+abbrev pub targets_part : View → List Name → Option (List ℕ)
+targets_part v [] = None
+targets_part v (n ∷ ns) = Some (codes "targets " ++ places_text v (n ∷ ns))
+
+-- the uid of a server: the least, if it has any
+abbrev pub uid_or_none : Option ℕ → List ℕ
+uid_or_none None = codes "(nobody)"
+uid_or_none (Some u) = decimal u
+
+abbrev pub uid_text : IdSets → List ℕ
+uid_text ids = uid_or_none (least_uid ids)
+
+-- the words by which a server would be made, what it aims at, where its root is, and whom it runs as; or that it is gone
+abbrev pub server_parts : View → List ℕ → Option (Option ServerRow) → List ℕ
+server_parts v words None = words
+server_parts v words (Some None) = parted words ++ codes "gone"
+server_parts v words (Some (Some s)) =
+    with_part (with_part (with_part (with_part words
+    (Some (codes "options " ++ words_or_none s.options)))
+    (targets_part v s.targets))
+    (Some (codes "root " ++ node_path v s.root)))
+    (Some (codes "runs as " ++ uid_text s.ids))
 
 -- how many rights there are on a server's nodes
 abbrev pub users_text : ℕ → List ℕ
 users_text n = codes "users" ++ spaced n
 
--- one part more, if there is one, behind a comma where some stand already
-abbrev pub with_part : List ℕ → Option (List ℕ) → List ℕ
-with_part words None = words
-with_part words (Some part) = parted words ++ part
+-- what is seen of a node, by its parts
+abbrev pub node_parts : View → Name → Row → List ℕ
+node_parts v n r =
+    with_part (with_part (with_part (with_part (with_part (with_part (with_part []
+    (option_map node_text r.attributes))
+    (home_part v r.attributes))
+    (active_part v r.attributes))
+    (counts_part r.attributes))
+    (parent_part v r.attributes))
+    (body_part (program_of v n r.attributes) r.body))
+    (empty_part r.body r.empty)
 
 -- all that is seen under a name, by its parts
-abbrev pub seen_of : View → Row → List ℕ
-seen_of v r =
-    with_part (with_part (with_part (with_part (with_part (with_part []
-    (option_map node_text r.attributes))
-    (body_part r.body))
-    (empty_part r.body r.empty))
-    (option_map open_text r.opened))
-    (option_map (server_text v) r.server))
+abbrev pub seen_of : View → Name → Row → List ℕ
+seen_of v n r =
+    with_part (server_parts v (with_part (with_part (with_part (node_parts v n r)
+    (on_part v n r.opened))
+    (option_map cursor_text r.opened))
+    (option_map held_text r.opened))
+    r.server)
     (option_map users_text r.users)
 
 -- a name's line, where anything is seen under it
 abbrev pub seen_line : List ℕ → View → Name → List ℕ
-seen_line who v n = if shows (row_at v.rows n) then line_from who (place_of v n) (seen_of v (row_at v.rows n)) else []
+seen_line who v n = if shows (row_at v.rows n) then line_from who (place_of v n) (seen_of v n (row_at v.rows n)) else []
 
 -- a name's line, if there is a name
 abbrev pub seen_at : List ℕ → View → Option Name → List ℕ
@@ -138,6 +272,39 @@ seen_at who v (Some n) = seen_line who v n
 abbrev pub seen_lines : List ℕ → View → List Name → List ℕ
 seen_lines who v ns = concat (map (seen_line who v) ns)
 
--- the lines of all names of a view
+-- the numbers of ports, each behind a space
+abbrev pub port_numbers : List Port → List ℕ
+port_numbers [] = []
+port_numbers (p ∷ ps) = spaced p.number ++ port_numbers ps
+
+-- what a task is to start
+abbrev pub start_text : View → PendingStart → List ℕ
+start_text v s = codes "to start " ++ (words_or_none s.words ++ (codes " on " ++ node_path v s.node))
+
+-- a task: whom it acts for, its ports, how many rights it was sent, its next port, how many things it made, and what it is to start
+abbrev pub task_text : View → Task → List ℕ
+task_text v x =
+    with_part (with_part (with_part (with_part (with_part (with_part []
+    (Some (codes "uid " ++ uid_text x.ids)))
+    (Some (codes "ports" ++ port_numbers x.ports)))
+    (Some (codes "inbox" ++ spaced (length x.inbox))))
+    (Some (codes "next port" ++ spaced x.next)))
+    (Some (codes "made" ++ spaced x.made)))
+    (option_map (start_text v) x.pending)
+
+abbrev pub seat_text : View → Option Task → List ℕ
+seat_text v None = codes "gone"
+seat_text v (Some x) = task_text v x
+
+-- the line of a task, and of these tasks
+abbrev pub seat_line : List ℕ → View → TaskId → Option Task → List ℕ
+seat_line who v t x = line_from who (codes "task" ++ spaced t.0) (seat_text v x)
+
+abbrev pub seat_lines : List ℕ → View → List TaskId → List (Option Task) → List ℕ
+seat_lines who v [] xs = []
+seat_lines who v (t ∷ ts) [] = []
+seat_lines who v (t ∷ ts) (x ∷ xs) = seat_line who v t x ++ seat_lines who v ts xs
+
+-- all that is seen: what has a name, the tasks themselves, and how many tasks there are
 abbrev pub seen_text : List ℕ → View → List ℕ
-seen_text who v = seen_lines who v (names_of v)
+seen_text who v = seen_lines who v (names_of v) ++ (seat_lines who v v.sight.tasks.items v.seats.items ++ line_from who (codes "tasks") (decimal v.count))

@@ -7,6 +7,8 @@ use Rattle.hurd_machine.specs.World.{World}
 use Rattle.hurd_sight.specs.Reach.{among}
 use Rattle.hurd_views.specs.Views.{Views}
 use Rattle.hurd_views.specs.declared.view.View.{View}
+use Rattle.hurd_sentences.specs.Sentences.{InSentences}
+use Rattle.hurd_sentences.specs.Turns.{paragraph}
 use Rattle.hurd_lessons.specs.Lessons.{Lessons}
 use Rattle.hurd_lessons.specs.Seen.{seen_text}
 use Rattle.hurd_lessons.specs.declared.tally.Tally.{Tally}
@@ -15,10 +17,10 @@ use Rattle.hurd_lessons.specs.declared.tally.Tally.{Tally}
 abbrev pub Taught : List TaskId → List ℕ → World → World → List ℕ → Type 0
 Taught tasks who w x text = (a b : View) × Views tasks w a × Views tasks x b × Lessons who a b text
 
--- what is said behind what task t did: nothing, where it is one of these; else what they learn by it
-pub record Lesson (tasks : List TaskId) (who : List ℕ) (t : ℕ) (w x : World) (text : List ℕ) : Type 0 where
-  pub own : among tasks t ≡ true → text ≡ []
-  pub others : among tasks t ≡ false → Taught tasks who w x text
+-- what is said behind what was done: nothing, where one of these tasks did it or nothing is to be said yet; else what they learn by it
+pub record Lesson (tasks : List TaskId) (who : List ℕ) (quiet : Bool) (w x : World) (text : List ℕ) : Type 0 where
+  pub none : quiet ≡ true → text ≡ []
+  pub some : quiet ≡ false → Taught tasks who w x text
 
 -- nothing is learned exactly where the view of these tasks is as it was
 abbrev pub UntaughtWhereUnmoved : Type 0
@@ -33,15 +35,15 @@ TaughtIsOne = (tasks : List TaskId) (who : List ℕ) (w x : World) (s t : List �
 abbrev pub SeenIsOne : Type 0
 SeenIsOne = (tasks : List TaskId) (who : List ℕ) (w : World) (a b : View) → Views tasks w a → Views tasks w b → seen_text who a ≡ seen_text who b
 
--- who did something, what is said behind it, and what is shown behind that
+-- whether a thing that was done is counted, what is said behind it, and what is shown behind that
 pub record Said : Type 0 where
-  pub task : ℕ
+  pub counts : Bool
   pub text : List ℕ
   pub shown : List ℕ
 
--- parts, and what is said and shown behind each; up to the first behind which nothing was said yet
+-- a paragraph for each part, with what is said and shown behind it; up to the first behind which nothing was said yet
 abbrev pub printed : List (List ℕ) → List Said → List ℕ
-printed (part ∷ parts) (said ∷ more) = part ++ (said.text ++ (said.shown ++ printed parts more))
+printed (part ∷ parts) (said ∷ more) = paragraph part (said.text ++ said.shown) ++ printed parts more
 printed _ _ = []
 
 -- one more, up to the greatest number that there is room for
@@ -53,10 +55,21 @@ abbrev pub counted : Tally → List ℕ → Tally
 counted t text = record { others = one_more t.others; taught = if length text == 0 then t.taught else one_more t.taught }
 
 -- the same of all that was said
-abbrev pub tally_from : (ℕ → Bool) → Tally → List Said → Tally
-tally_from S t [] = t
-tally_from S t (said ∷ more) = tally_from S (if S said.task then t else counted t said.text) more
+abbrev pub tally_from : Tally → List Said → Tally
+tally_from t [] = t
+tally_from t (said ∷ more) = tally_from (if said.counts then counted t said.text else t) more
 
--- the last line: how many of the things that others did taught something
+-- what stands behind the number of things that others did
+abbrev pub of_others : ℕ → List ℕ
+of_others n = if n == 1 then codes " of others\n" else codes "s of others\n"
+
+-- the last line: how many of the things that others did taught something, as ` command`
 abbrev pub last_line : List ℕ → List ℕ → Tally → List ℕ
-last_line names things t = names ++ (codes " learned from " ++ (decimal t.taught ++ (codes " of " ++ (decimal t.others ++ things))))
+last_line names thing t = names ++ (codes " learned from " ++ (decimal t.taught ++ (codes " of " ++ (decimal t.others ++ (thing ++ of_others t.others)))))
+
+-- what is learned, and what is seen, is said in sentences
+abbrev pub TaughtInSentences : Type 0
+TaughtInSentences = (who : List ℕ) (a b : View) (text : List ℕ) → Lessons who a b text → InSentences who text
+
+abbrev pub SeenInSentences : Type 0
+SeenInSentences = (who : List ℕ) (v : View) → InSentences who (seen_text who v)

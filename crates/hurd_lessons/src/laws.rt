@@ -1,5 +1,5 @@
 //! What it means that nothing is said, and that what is said is one text.
-ghost use Rattle.hurd_lessons.specs.Told.{SeenIsOne, TaughtIsOne, UntaughtWhereUnmoved};
+ghost use Rattle.hurd_lessons.specs.Told.{SeenInSentences, SeenIsOne, TaughtInSentences, TaughtIsOne, UntaughtWhereUnmoved};
 
 /// A law: what others did taught some tasks nothing exactly where it left what these see as it was.
 pub fn untaught_where_unmoved()
@@ -10,4 +10,10 @@ pub fn untaught_where_unmoved()
 pub fn said_in_one_way()
     ensures taught { TaughtIsOne }
     ensures seen { SeenIsOne }
+{}
+
+/// A law: what is said of what others did, and of all that is seen, are sentences; so they can be read back.
+pub fn said_in_sentences()
+    ensures taught { TaughtInSentences }
+    ensures seen { SeenInSentences }
 {}

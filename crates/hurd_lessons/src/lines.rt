@@ -2,12 +2,13 @@
 ghost use Rattle.std.specs.Prelude.{◌≡◌, ◌++◌, [], if◌then◌else◌, codes, IfOk, OnOk};
 ghost use Rattle.hurd_views.specs.Views.{no_row, row_at};
 ghost use Rattle.hurd_lessons.specs.Added.{Adds, AddsAt, AddsLines};
-ghost use Rattle.hurd_lessons.specs.Lessons.{GoneLineOf, Lessons, LineOf, OneText, SilentWhereSame, Unless, count_line, line_from, names_of, place_in, tasks_line};
+ghost use Rattle.hurd_lessons.specs.Lessons.{GoneLineOf, Lessons, LineOf, OneText, SilentWhereSame, Unless, count_line, moved, place_in, tasks_line};
+ghost use Rattle.hurd_lessons.specs.Values.{line_from, names_of};
 
 use crate::changes::{Change, no_row, shows};
-use crate::places::place;
-use crate::said::said;
+use crate::differences::said;
 use hurd_creds::{Bytes, Name, all_same};
+use hurd_places::place;
 use hurd_views::{Row, View};
 use std::alloc::{AllocError, Global};
 
@@ -22,16 +23,33 @@ pub(crate) fn row_at<'a>(view: &'a View, name: Name, nothing: &'a Row) -> &'a Ro
     }
 }
 
-/// Where something is: looked for in the later view, unless it isn't seen there.
+/// A place before, and the one behind it where that is another.
+fn moved(mut old: Vec<u8>, new: &[u8]) -> Result<Vec<u8>, AllocError>
+    ensures { IfOk result (λ place. place.items ≡ moved old.items new.now) }
+{
+    if old.as_slice() != new {
+        old.extend_from_slice(b" -> ")?;
+        old.extend_from_slice(new)?;
+    }
+    Ok(old)
+}
+
+/// Where something is: where it was seen, and where it is seen then if that is another place.
 fn place_in(alloc: Global, before: &View, after: &View, name: Name) -> Result<Vec<u8>, AllocError>
     ensures { IfOk result (λ place. place.items ≡ place_in before.now after.now name) }
 {
     let nothing = no_row();
-    let row = row_at(after, name, &nothing);
-    if shows(row) {
-        return place(alloc, after, name, row);
+    let old = row_at(before, name, &nothing);
+    let new = row_at(after, name, &nothing);
+    if !shows(old) {
+        return place(alloc, after, name, new);
     }
-    place(alloc, before, name, row_at(before, name, &nothing))
+    let was = place(alloc, before, name, old)?;
+    if !shows(new) {
+        return Ok(was);
+    }
+    let is = place(alloc, after, name, new)?;
+    moved(was, is.as_slice())
 }
 
 /// Adds a line: to whom, where and what.
@@ -73,7 +91,7 @@ fn add_line_by(
         return Ok(());
     }
     let place = place_in(alloc, before, after, name)?;
-    let said = said(alloc, old, new, &change)?;
+    let said = said(alloc, before, after, old, new, &change)?;
     add_from(text, who, place.as_slice(), said.as_slice())
 }
 

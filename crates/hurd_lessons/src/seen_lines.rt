@@ -1,14 +1,17 @@
 //! All that a set of tasks sees, a line for each thing.
-ghost use Rattle.std.specs.Prelude.{◌≡◌, ◌++◌, IfOk, OnOk};
+ghost use Rattle.std.specs.Prelude.{◌≡◌, ◌++◌, codes, decimal, IfOk, OnOk};
 ghost use Rattle.hurd_views.specs.Views.{no_row};
-ghost use Rattle.hurd_lessons.specs.Seen.{seen_at, seen_line, seen_text};
+ghost use Rattle.hurd_lessons.specs.Seen.{seen_at, seen_line, seen_lines, seen_text};
+ghost use Rattle.hurd_lessons.specs.Values.{line_from, names_of};
 
 use crate::changes::{no_row, shows};
 use crate::lines::{add_from, row_at};
-use crate::places::place;
 use crate::seen_parts::seen_of;
+use crate::seen_tasks::add_seats;
 use hurd_creds::{Bytes, Name};
+use hurd_places::place;
 use hurd_views::{Row, View};
+use itoa::Buffer;
 use std::alloc::{AllocError, Global};
 
 /// Adds a name's line, where anything is seen under it; where the view has no row of it, this one stands for that.
@@ -28,7 +31,7 @@ fn add_line_by(
         return Ok(());
     }
     let place = place(alloc, view, name, row)?;
-    let words = seen_of(alloc, view, row)?;
+    let words = seen_of(alloc, view, name, row)?;
     add_from(text, who, place.as_slice(), words.as_slice())
 }
 
@@ -63,7 +66,7 @@ fn add_line_at(
 
 /// The lines of all names of a view, in its order.
 fn lines(alloc: Global, who: &[u8], view: &View) -> Result<Vec<u8>, AllocError>
-    ensures { IfOk result (λ text. text.items ≡ seen_text who.now view.now) }
+    ensures { IfOk result (λ text. text.items ≡ seen_lines who.now view.now (names_of view.now)) }
 {
     let mut text = Vec::new(alloc);
     for i in 0..view.rows.len() {
@@ -72,10 +75,27 @@ fn lines(alloc: Global, who: &[u8], view: &View) -> Result<Vec<u8>, AllocError>
     Ok(text)
 }
 
-/// All that is seen in a view, a line for each thing, in its order. The lines begin with two spaces and these words, as `alice sees`, and
-/// say where the thing is, and what is seen of it. An error is want of memory.
+/// Adds the line that says how many tasks there are.
+fn add_count(text: &mut Vec<u8>, who: &[u8], count: usize) -> Result<(), AllocError>
+    ensures { OnOk result (text.new.items ≡ text.old.items ++ line_from who.now (codes "tasks") (decimal count)) }
+{
+    add_from(text, who, b"tasks", Buffer::new().format(count).as_bytes())
+}
+
+/// All that is seen in a view, a line for each thing, in its order: what has a name, then the tasks themselves, then how many there are. The lines begin
+/// with two spaces and these words, as `alice sees`, and say where the thing is, and what is seen of it. An error is want of memory.
 pub fn seen(alloc: Global, who: &[u8], view: &View) -> Result<Bytes, AllocError>
     ensures { IfOk result (λ text. text ≡ seen_text who.now view.now) }
 {
-    Ok(Bytes::new(lines(alloc, who, view)?))
+    let mut text = lines(alloc, who, view)?;
+    add_seats(
+        alloc,
+        &mut text,
+        who,
+        view,
+        view.sight.tasks(),
+        view.seats.as_slice(),
+    )?;
+    add_count(&mut text, who, view.count)?;
+    Ok(Bytes::new(text))
 }

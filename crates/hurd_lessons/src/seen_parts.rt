@@ -1,16 +1,45 @@
 //! What is seen under a name, by its parts, in words.
-ghost use Rattle.std.specs.Prelude.{◌≡◌, ◌∷◌, ◌++◌, IfOk, OnOk};
+ghost use Rattle.std.specs.Prelude.{◌≡◌, ◌∷◌, ◌++◌, bytes_eq, codes, IfOk, OnOk, Some};
 ghost use Rattle.std.specs.Option.{option_map};
-ghost use Rattle.hurd_lessons.specs.Places.{node_place};
-ghost use Rattle.hurd_lessons.specs.Seen.{body_part, body_text, bytes_text, empty_part, entry_names, held_text, listing_text, modes_text, node_places, node_text, open_text, passive_text, seen_of, server_text, targets_text, users_text, with_part};
+ghost use Rattle.hurd_places.specs.Places.{node_path};
+ghost use Rattle.hurd_lessons.specs.Seen.{active_part, body_part, body_text, bytes_text, counts_of, counts_part, counts_text, cursor_text, empty_part, empty_text, entry_names, held_text, given_text, home_part, listing_text, modes_text, node_places, node_parts, node_text, on_part, opened_by_tasks, parent_of, parent_part, passive_text, places_text, program_in, program_of, read_text, reads_of, seen_of, server_named, server_parts, targets_part, uid_text, users_text};
+ghost use Rattle.hurd_lessons.specs.Values.{with_part, words_or_none};
 
-use crate::places::node_place;
-use crate::said::part;
-use hurd_creds::{Bytes, NodeName, OpenFlags};
-use hurd_lines::{push_escaped, push_if, push_long_number, push_number, push_stat, push_words};
-use hurd_ports::Opened;
+use crate::opens::opened_by_tasks;
+use crate::values::{add_part, part, push_all_words, push_bytes};
+use hurd_creds::{Attrs, Bytes, Ids, Name, NodeName, OpenFlags, ServerName};
+use hurd_lines::{kind_letter, push_if, push_long_number, push_number, push_stat};
+use hurd_places::{node_path, server_path};
+use hurd_sentences::{push_name, push_word, push_words};
 use hurd_views::{BodyRow, EntryRow, NodeRow, OpenRow, Row, ServerRow, View};
+use itoa::Buffer;
 use std::alloc::{AllocError, Global};
+
+/// Programs of servers whose roots give other bytes than those that are kept.
+const HELLO: &[u8] = b"/hurd/hello";
+
+const SYMLINK: &[u8] = b"/hurd/symlink";
+
+const UNION: &[u8] = b"/hurd/union";
+
+const ZERO: &[u8] = b"/hurd/zero";
+
+const DRIP: &[u8] = b"/hurd/drip";
+
+/// What reading the root of a server gives.
+#[derive(Clone, Copy, Debug, PartialEq, Eq)]
+pub(crate) enum Reads {
+    /// Its server's text.
+    Text,
+    /// The entries of its server's targets.
+    Entries,
+    /// Zeros without an end.
+    Zeros,
+    /// What its server has not given yet.
+    Left,
+    /// What is kept.
+    Kept,
+}
 
 /// Adds the words of a passive translator, where it has any.
 fn push_passive(words: &mut Vec<u8>, passive: &[Bytes]) -> Result<(), AllocError>
@@ -23,7 +52,7 @@ fn push_passive(words: &mut Vec<u8>, passive: &[Bytes]) -> Result<(), AllocError
     push_words(words, passive)
 }
 
-/// Adds a node's attributes and its translators.
+/// Adds a node's attributes and the words of its passive translator.
 fn push_node(words: &mut Vec<u8>, row: &NodeRow) -> Result<(), AllocError>
     ensures { OnOk result (words.new.items ≡ words.old.items ++ node_text row.now) }
 {
@@ -32,8 +61,117 @@ fn push_node(words: &mut Vec<u8>, row: &NodeRow) -> Result<(), AllocError>
         return Ok(());
     };
     push_stat(words, &attrs.stat())?;
-    push_passive(words, row.words.as_slice())?;
-    push_if(words, row.active.is_some(), " active")
+    push_passive(words, row.words.as_slice())
+}
+
+/// Adds the part of a server that is named, if one is.
+fn add_named(
+    alloc: Global,
+    words: &mut Vec<u8>,
+    word: &[u8],
+    view: &View,
+    server: Option<ServerName>,
+) -> Result<(), AllocError>
+    ensures { OnOk result (words.new.items ≡ with_part words.old.items (server_named word.now view.now server)) }
+{
+    let Some(server) = server else {
+        return Ok(());
+    };
+    let path = server_path(alloc, view, server)?;
+    part(words)?;
+    words.extend_from_slice(word)?;
+    words.extend_from_slice(path.as_slice())
+}
+
+/// Adds the part of a node's server.
+fn add_home(
+    alloc: Global,
+    words: &mut Vec<u8>,
+    view: &View,
+    row: &Option<NodeRow>,
+) -> Result<(), AllocError>
+    ensures { OnOk result (words.new.items ≡ with_part words.old.items (home_part view.now row.now)) }
+{
+    match row {
+        Some(row) => add_named(alloc, words, b"served by ", view, row.home),
+        None => Ok(()),
+    }
+}
+
+/// Adds the part of the server that is active on a node.
+fn add_active(
+    alloc: Global,
+    words: &mut Vec<u8>,
+    view: &View,
+    row: &Option<NodeRow>,
+) -> Result<(), AllocError>
+    ensures { OnOk result (words.new.items ≡ with_part words.old.items (active_part view.now row.now)) }
+{
+    match row {
+        Some(row) => add_named(alloc, words, b"active ", view, row.active),
+        None => Ok(()),
+    }
+}
+
+/// Adds how many opens read and write a pipe.
+fn push_counts(words: &mut Vec<u8>, attrs: &Attrs) -> Result<(), AllocError>
+    ensures { OnOk result (words.new.items ≡ words.old.items ++ counts_text attrs.now) }
+{
+    words.extend_from_slice(b"readers")?;
+    push_long_number(words, attrs.readers)?;
+    words.extend_from_slice(b" writers")?;
+    push_long_number(words, attrs.writers)
+}
+
+/// Adds the part of that.
+fn add_counts(words: &mut Vec<u8>, attrs: &Option<Attrs>) -> Result<(), AllocError>
+    ensures { OnOk result (words.new.items ≡ with_part words.old.items (counts_of attrs.now)) }
+{
+    let Some(attrs) = attrs else {
+        return Ok(());
+    };
+    if kind_letter(attrs.kind) != b'p' {
+        return Ok(());
+    }
+    part(words)?;
+    push_counts(words, attrs)
+}
+
+/// Adds the part of a directory's parent.
+fn add_parent(
+    alloc: Global,
+    words: &mut Vec<u8>,
+    view: &View,
+    attrs: &Option<Attrs>,
+) -> Result<(), AllocError>
+    ensures { OnOk result (words.new.items ≡ with_part words.old.items (parent_of view.now attrs.now)) }
+{
+    let Some(attrs) = attrs else {
+        return Ok(());
+    };
+    let Some(parent) = attrs.parent else {
+        return Ok(());
+    };
+    let path = node_path(alloc, view, parent)?;
+    part(words)?;
+    words.extend_from_slice(b"parent ")?;
+    words.extend_from_slice(path.as_slice())
+}
+
+/// Adds the parts of a node beside its attributes: how many read and write it, and its parent.
+fn add_ties(
+    alloc: Global,
+    words: &mut Vec<u8>,
+    view: &View,
+    row: &Option<NodeRow>,
+) -> Result<(), AllocError>
+    ensures { OnOk result (words.new.items ≡ with_part (with_part words.old.items (counts_part row.now)) (parent_part view.now row.now)) }
+{
+    let Some(row) = row else {
+        return Ok(());
+    };
+    add_counts(words, &row.attrs)?;
+    add_parent(alloc, words, view, &row.attrs)
 }
 
 /// Adds the names of entries, each behind a space.
@@ -42,7 +180,7 @@ fn push_entries(words: &mut Vec<u8>, entries: &[EntryRow]) -> Result<(), AllocEr
 {
     for entry in entries {
         words.push(b' ')?;
-        push_escaped(words, entry.name.as_slice())?;
+        push_name(words, entry.name.as_slice())?;
     }
     Ok(())
 }
@@ -68,7 +206,7 @@ fn push_content(words: &mut Vec<u8>, bytes: &[u8]) -> Result<(), AllocError>
         return Ok(());
     }
     words.extend_from_slice(b"bytes ")?;
-    push_escaped(words, bytes)
+    push_word(words, bytes)
 }
 
 /// Adds entries by their names, or bytes.
@@ -81,6 +219,15 @@ fn push_body(words: &mut Vec<u8>, body: &BodyRow) -> Result<(), AllocError>
     }
 }
 
+/// An open's modes, each behind a space.
+pub(crate) fn modes_of(alloc: Global, modes: OpenFlags) -> Result<Vec<u8>, AllocError>
+    ensures { IfOk result (λ text. text.items ≡ modes_text modes) }
+{
+    let mut text = Vec::new(alloc);
+    push_modes(&mut text, modes)?;
+    Ok(text)
+}
+
 /// Adds an open's modes, each behind a space.
 fn push_modes(words: &mut Vec<u8>, modes: OpenFlags) -> Result<(), AllocError>
     ensures { OnOk result (words.new.items ≡ words.old.items ++ modes_text modes) }
@@ -91,26 +238,29 @@ fn push_modes(words: &mut Vec<u8>, modes: OpenFlags) -> Result<(), AllocError>
     push_if(words, modes.asks(OpenFlags::APPEND), " append")
 }
 
-/// Adds an open's cursor and modes, and how many rights hold it.
-fn push_open(words: &mut Vec<u8>, row: &OpenRow) -> Result<(), AllocError>
-    ensures { OnOk result (words.new.items ≡ words.old.items ++ open_text row.now) }
+/// Adds an open's cursor and modes, or that it is gone.
+fn push_cursor(words: &mut Vec<u8>, row: &OpenRow) -> Result<(), AllocError>
+    ensures { OnOk result (words.new.items ≡ words.old.items ++ cursor_text row.now) }
 {
     let Some(opened) = &row.opened else {
-        words.extend_from_slice(b"no open")?;
+        words.extend_from_slice(b"gone")?;
         return Ok(());
     };
-    push_held(words, opened, row.holders)
-}
-
-/// The same of an open that is there.
-fn push_held(words: &mut Vec<u8>, opened: &Opened, holders: u128) -> Result<(), AllocError>
-    ensures { OnOk result (words.new.items ≡ words.old.items ++ held_text opened.now holders) }
-{
     words.extend_from_slice(b"cursor")?;
     push_number(words, opened.cursor)?;
-    push_modes(words, opened.modes)?;
-    words.extend_from_slice(b", held")?;
-    push_long_number(words, holders)?;
+    push_modes(words, opened.modes)
+}
+
+/// Adds how many rights hold an open.
+fn push_held(words: &mut Vec<u8>, row: &OpenRow) -> Result<(), AllocError>
+    ensures { OnOk result (words.new.items ≡ words.old.items ++ held_text row.now) }
+{
+    if row.holders == 1 {
+        words.extend_from_slice(b"held once")?;
+        return Ok(());
+    }
+    words.extend_from_slice(b"held")?;
+    push_long_number(words, row.holders)?;
     words.extend_from_slice(b" times")?;
     Ok(())
 }
@@ -122,10 +272,10 @@ fn push_place(
     view: &View,
     node: NodeName,
 ) -> Result<(), AllocError>
-    ensures { OnOk result (words.new.items ≡ words.old.items ++ (32 ∷ node_place view.now node)) }
+    ensures { OnOk result (words.new.items ≡ words.old.items ++ (32 ∷ node_path view.now node)) }
 {
     words.push(b' ')?;
-    let place = node_place(alloc, view, node)?;
+    let place = node_path(alloc, view, node)?;
     words.extend_from_slice(place.as_slice())?;
     Ok(())
 }
@@ -145,38 +295,97 @@ fn push_places(
     Ok(())
 }
 
-/// Adds where the nodes are that a server aims at, if it aims at any.
-fn push_targets(
+/// The places of these nodes, or that there are none.
+pub(crate) fn places_of(
+    alloc: Global,
+    view: &View,
+    nodes: &[NodeName],
+) -> Result<Vec<u8>, AllocError>
+    ensures { IfOk result (λ text. text.items ≡ places_text view.now nodes.now) }
+{
+    let Some((first, rest)) = nodes.split_first() else {
+        return Vec::from_slice(alloc, b"(none)");
+    };
+    let mut text = node_path(alloc, view, *first)?;
+    push_places(alloc, &mut text, view, rest)?;
+    Ok(text)
+}
+
+/// The uid of a server: the least, if it has any.
+pub(crate) fn uid_of(alloc: Global, ids: &Ids) -> Result<Vec<u8>, AllocError>
+    ensures { IfOk result (λ text. text.items ≡ uid_text ids.now) }
+{
+    match ids.least_uid() {
+        Some(uid) => Vec::from_slice(alloc, Buffer::new().format(uid).as_bytes()),
+        None => Vec::from_slice(alloc, b"(nobody)"),
+    }
+}
+
+/// Adds the words by which a server would be made.
+fn add_options(words: &mut Vec<u8>, options: &[Bytes]) -> Result<(), AllocError>
+    ensures { OnOk result (words.new.items ≡ with_part words.old.items (Some (codes "options " ++ words_or_none options.now))) }
+{
+    part(words)?;
+    words.extend_from_slice(b"options ")?;
+    push_all_words(words, options)
+}
+
+/// Adds what a server aims at, if it aims at any.
+fn add_targets(
     alloc: Global,
     words: &mut Vec<u8>,
     view: &View,
     targets: &[NodeName],
 ) -> Result<(), AllocError>
-    ensures { OnOk result (words.new.items ≡ words.old.items ++ targets_text view.now targets.now) }
+    ensures { OnOk result (words.new.items ≡ with_part words.old.items (targets_part view.now targets.now)) }
 {
     if targets.is_empty() {
         return Ok(());
     }
-    words.extend_from_slice(b" targets")?;
-    push_places(alloc, words, view, targets)
+    let places = places_of(alloc, view, targets)?;
+    part(words)?;
+    words.extend_from_slice(b"targets ")?;
+    words.extend_from_slice(places.as_slice())
 }
 
-/// Adds the words by which a server would be made, and what it aims at; or that it is gone.
-fn push_server(
+/// Adds where a server's root is.
+fn add_root(
     alloc: Global,
     words: &mut Vec<u8>,
     view: &View,
-    server: &Option<ServerRow>,
+    root: NodeName,
 ) -> Result<(), AllocError>
-    ensures { OnOk result (words.new.items ≡ words.old.items ++ server_text view.now server.now) }
+    ensures { OnOk result (words.new.items ≡ with_part words.old.items (Some (codes "root " ++ node_path view.now root))) }
 {
-    let Some(server) = server else {
-        words.extend_from_slice(b"gone")?;
-        return Ok(());
-    };
-    words.extend_from_slice(b"options")?;
-    push_words(words, server.options.as_slice())?;
-    push_targets(alloc, words, view, server.targets.as_slice())
+    let path = node_path(alloc, view, root)?;
+    part(words)?;
+    words.extend_from_slice(b"root ")?;
+    words.extend_from_slice(path.as_slice())
+}
+
+/// Adds whom a server runs as.
+fn add_uid(alloc: Global, words: &mut Vec<u8>, ids: &Ids) -> Result<(), AllocError>
+    ensures { OnOk result (words.new.items ≡ with_part words.old.items (Some (codes "runs as " ++ uid_text ids.now))) }
+{
+    let uid = uid_of(alloc, ids)?;
+    part(words)?;
+    words.extend_from_slice(b"runs as ")?;
+    words.extend_from_slice(uid.as_slice())
+}
+
+/// Adds the parts of a server that is there.
+fn add_server_row(
+    alloc: Global,
+    words: &mut Vec<u8>,
+    view: &View,
+    server: &ServerRow,
+) -> Result<(), AllocError>
+    ensures { OnOk result (words.new.items ≡ server_parts view.now words.old.items (Some (Some server.now))) }
+{
+    add_options(words, server.options.as_slice())?;
+    add_targets(alloc, words, view, server.targets.as_slice())?;
+    add_root(alloc, words, view, server.root)?;
+    add_uid(alloc, words, &server.ids)
 }
 
 /// Adds the part of a node's attributes, where they are seen.
@@ -190,15 +399,105 @@ fn add_node(words: &mut Vec<u8>, row: &Option<NodeRow>) -> Result<(), AllocError
     push_node(words, row)
 }
 
+/// The program of a server, of which a node is the root.
+fn program_in(node: NodeName, server: &Option<Option<ServerRow>>) -> &[u8]
+    ensures { result.now ≡ program_in node server.now }
+{
+    let Some(Some(server)) = server else {
+        return b"";
+    };
+    match server.options.as_slice().first() {
+        Some(program) if node == server.root => program.as_slice(),
+        _ => b"",
+    }
+}
+
+/// The same of a node's server.
+fn program_of<'a>(view: &'a View, node: NodeName, row: &Option<NodeRow>) -> &'a [u8]
+    ensures { result.now ≡ program_of view.now node row.now }
+{
+    let Some(row) = row else {
+        return b"";
+    };
+    let Some(server) = row.home else {
+        return b"";
+    };
+    match view.rows.get(server) {
+        Some(row) => program_in(node, &row.server),
+        None => b"",
+    }
+}
+
+/// Adds what a drip has given.
+fn push_given(words: &mut Vec<u8>, body: &BodyRow) -> Result<(), AllocError>
+    ensures { OnOk result (words.new.items ≡ words.old.items ++ given_text body.now) }
+{
+    match body {
+        BodyRow::Entries(entries) => push_listing(words, entries.as_slice()),
+        BodyRow::Bytes(bytes) => {
+            words.extend_from_slice(b"given ")?;
+            push_bytes(words, bytes.as_slice())
+        }
+    }
+}
+
+/// Whether a program is the one of this name.
+fn is_program(program: &[u8], name: &[u8]) -> bool
+    ensures { result ≡ bytes_eq program.now name.now }
+{
+    program == name
+}
+
+/// What reading the root of a server of this program gives.
+fn reads_of(program: &[u8]) -> Reads
+    ensures { result ≡ reads_of program.now }
+{
+    if is_program(program, HELLO) || is_program(program, SYMLINK) {
+        Reads::Text
+    } else if is_program(program, UNION) {
+        Reads::Entries
+    } else if is_program(program, ZERO) {
+        Reads::Zeros
+    } else if is_program(program, DRIP) {
+        Reads::Left
+    } else {
+        Reads::Kept
+    }
+}
+
+/// Adds what is in a node, or what reading it gives where that is not what is kept.
+fn push_read(words: &mut Vec<u8>, reads: Reads, body: &BodyRow) -> Result<(), AllocError>
+    ensures { OnOk result (words.new.items ≡ words.old.items ++ read_text reads body.now) }
+{
+    match reads {
+        Reads::Text => words.extend_from_slice(b"its server's text"),
+        Reads::Entries => words.extend_from_slice(b"its targets' entries"),
+        Reads::Zeros => words.extend_from_slice(b"zeros"),
+        Reads::Left => push_given(words, body),
+        Reads::Kept => push_body(words, body),
+    }
+}
+
 /// Adds the part of a body, where one is seen.
-fn add_body(words: &mut Vec<u8>, body: &Option<Option<BodyRow>>) -> Result<(), AllocError>
-    ensures { OnOk result (words.new.items ≡ with_part words.old.items (body_part body.now)) }
+fn add_body(
+    words: &mut Vec<u8>,
+    program: &[u8],
+    body: &Option<Option<BodyRow>>,
+) -> Result<(), AllocError>
+    ensures { OnOk result (words.new.items ≡ with_part words.old.items (body_part program.now body.now)) }
 {
     let Some(Some(body)) = body else {
         return Ok(());
     };
     part(words)?;
-    push_body(words, body)
+    push_read(words, reads_of(program), body)
+}
+
+/// Whether a directory has no entries.
+pub(crate) fn empty_text(empty: bool) -> &'static [u8]
+    ensures { result.now ≡ empty_text empty }
+{
+    if empty { b"empty" } else { b"not empty" }
 }
 
 /// Adds whether a directory has no entries, where that alone is seen of it.
@@ -213,35 +512,67 @@ fn add_empty(
         return Ok(());
     };
     part(words)?;
-    words.extend_from_slice(if empty { b"empty" } else { b"not empty" })?;
-    Ok(())
+    words.extend_from_slice(empty_text(empty))
 }
 
-/// Adds the part of an open, where it is seen.
-fn add_open(words: &mut Vec<u8>, row: &Option<OpenRow>) -> Result<(), AllocError>
-    ensures { OnOk result (words.new.items ≡ with_part words.old.items (option_map open_text row.now)) }
+/// Adds the part of an open's node, where the open is seen.
+fn add_on(
+    alloc: Global,
+    words: &mut Vec<u8>,
+    view: &View,
+    name: Name,
+    row: &Option<OpenRow>,
+) -> Result<(), AllocError>
+    ensures { OnOk result (words.new.items ≡ with_part words.old.items (on_part view.now name row.now)) }
+{
+    if row.is_none() {
+        return Ok(());
+    }
+    let Some(node) = opened_by_tasks(name, view.seats.as_slice()) else {
+        return Ok(());
+    };
+    let path = node_path(alloc, view, node)?;
+    part(words)?;
+    words.extend_from_slice(b"on ")?;
+    words.extend_from_slice(path.as_slice())
+}
+
+/// Adds the part of an open's cursor, where the open is seen.
+fn add_cursor(words: &mut Vec<u8>, row: &Option<OpenRow>) -> Result<(), AllocError>
+    ensures { OnOk result (words.new.items ≡ with_part words.old.items (option_map cursor_text row.now)) }
 {
     let Some(row) = row else {
         return Ok(());
     };
     part(words)?;
-    push_open(words, row)
+    push_cursor(words, row)
 }
 
-/// Adds the part of a server, where it is seen.
+/// Adds the part of how many hold an open, where it is seen.
+fn add_held(words: &mut Vec<u8>, row: &Option<OpenRow>) -> Result<(), AllocError>
+    ensures { OnOk result (words.new.items ≡ with_part words.old.items (option_map held_text row.now)) }
+{
+    let Some(row) = row else {
+        return Ok(());
+    };
+    part(words)?;
+    push_held(words, row)
+}
+
+/// Adds the parts of a server, where it is seen.
 fn add_server(
     alloc: Global,
     words: &mut Vec<u8>,
     view: &View,
     server: &Option<Option<ServerRow>>,
 ) -> Result<(), AllocError>
-    ensures { OnOk result (words.new.items ≡ with_part words.old.items (option_map (server_text view.now) server.now)) }
+    ensures { OnOk result (words.new.items ≡ server_parts view.now words.old.items server.now) }
 {
-    let Some(server) = server else {
-        return Ok(());
-    };
-    part(words)?;
-    push_server(alloc, words, view, server)
+    match server {
+        Some(Some(server)) => add_server_row(alloc, words, view, server),
+        Some(None) => add_part(words, b"gone"),
+        None => Ok(()),
+    }
 }
 
 /// Adds how many rights there are on a server's nodes, where that is seen.
@@ -256,15 +587,37 @@ fn add_users(words: &mut Vec<u8>, users: Option<u128>) -> Result<(), AllocError>
     push_long_number(words, users)
 }
 
-/// What is seen under a name, by its parts.
-pub(crate) fn seen_of(alloc: Global, view: &View, row: &Row) -> Result<Vec<u8>, AllocError>
-    ensures { IfOk result (λ words. words.items ≡ seen_of view.now row.now) }
+/// What is seen of a node, by its parts.
+fn node_of(alloc: Global, view: &View, name: Name, row: &Row) -> Result<Vec<u8>, AllocError>
+    ensures { IfOk result (λ words. words.items ≡ node_parts view.now name row.now) }
 {
     let mut words = Vec::new(alloc);
     add_node(&mut words, &row.attributes)?;
-    add_body(&mut words, &row.body)?;
+    add_home(alloc, &mut words, view, &row.attributes)?;
+    add_active(alloc, &mut words, view, &row.attributes)?;
+    add_ties(alloc, &mut words, view, &row.attributes)?;
+    add_body(
+        &mut words,
+        program_of(view, name, &row.attributes),
+        &row.body,
+    )?;
     add_empty(&mut words, &row.body, row.empty)?;
-    add_open(&mut words, &row.opened)?;
+    Ok(words)
+}
+
+/// What is seen under a name, by its parts.
+pub(crate) fn seen_of(
+    alloc: Global,
+    view: &View,
+    name: Name,
+    row: &Row,
+) -> Result<Vec<u8>, AllocError>
+    ensures { IfOk result (λ words. words.items ≡ seen_of view.now name row.now) }
+{
+    let mut words = node_of(alloc, view, name, row)?;
+    add_on(alloc, &mut words, view, name, &row.opened)?;
+    add_cursor(&mut words, &row.opened)?;
+    add_held(&mut words, &row.opened)?;
     add_server(alloc, &mut words, view, &row.server)?;
     add_users(&mut words, row.users)?;
     Ok(words)

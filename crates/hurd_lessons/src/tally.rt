@@ -1,6 +1,6 @@
 //! How often others taught something.
 ghost use Rattle.std.specs.Prelude.{◌≡◌, IfOk};
-ghost use Rattle.hurd_lessons.specs.Told.{counted, last_line, one_more};
+ghost use Rattle.hurd_lessons.specs.Told.{counted, last_line, of_others, one_more};
 
 use hurd_creds::Bytes;
 use itoa::Buffer;
@@ -18,6 +18,17 @@ fn one_more(number: u64) -> u64
     ensures { result ≡ one_more number }
 {
     number.saturating_add(1)
+}
+
+/// What stands behind the number of things that others did.
+fn of_others(number: u64) -> &'static [u8]
+    ensures { result.now ≡ of_others number }
+{
+    if number == 1 {
+        b" of others\n"
+    } else {
+        b"s of others\n"
+    }
 }
 
 impl Tally {
@@ -45,16 +56,17 @@ impl Tally {
         }
     }
 
-    /// The last line: these learned from so many of so many things, as ` commands of others` with a newline. An error is want of memory.
-    pub fn line(self, alloc: Global, names: &[u8], things: &[u8]) -> Result<Vec<u8>, AllocError>
-        ensures { IfOk result (λ line. line.items ≡ last_line names.now things.now self) }
+    /// The last line: these learned from so many of so many things, as ` command`. An error is want of memory.
+    pub fn line(self, alloc: Global, names: &[u8], thing: &[u8]) -> Result<Vec<u8>, AllocError>
+        ensures { IfOk result (λ line. line.items ≡ last_line names.now thing.now self) }
     {
         let mut line = Vec::from_slice(alloc, names)?;
         line.extend_from_slice(b" learned from ")?;
         line.extend_from_slice(Buffer::new().format(self.taught).as_bytes())?;
         line.extend_from_slice(b" of ")?;
         line.extend_from_slice(Buffer::new().format(self.others).as_bytes())?;
-        line.extend_from_slice(things)?;
+        line.extend_from_slice(thing)?;
+        line.extend_from_slice(of_others(self.others))?;
         Ok(line)
     }
 }

@@ -3,3 +3,4 @@ pub mod StepLaws
 pub mod Following
 pub mod ListLaws
 pub mod OneText
+pub mod SaidLaws

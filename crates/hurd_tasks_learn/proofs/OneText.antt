@@ -1,5 +1,5 @@
 -- Of a list one text is printed.
-use Rattle.std.proofs.Common.{◌≡◌, ◌∙◌, sym, refl, ap, subst, ℕ, ◌+◌, List, [], ◌∷◌, ◌++◌, append_assoc}
+use Rattle.std.proofs.Common.{◌≡◌, ◌∙◌, sym, refl, ap, subst, not, ℕ, ◌+◌, List, [], ◌∷◌, ◌++◌, append_assoc}
 use Rattle.hurd_creds.specs.declared.name.TaskId.{TaskId}
 use Rattle.hurd_machine.specs.World.{World}
 use Rattle.hurd_lists.specs.Lists.{Listed, reading_of}
@@ -10,7 +10,7 @@ use Rattle.hurd_tmpfs.specs.Tree.{new_tmpfs}
 use Rattle.hurd_lessons.specs.Told.{Said, printed}
 use Rattle.hurd_lessons.proofs.OneLesson.{lesson_is_one}
 use Rattle.hurd_terminal.specs.Faults.{IsFront}
-use Rattle.hurd_teaching.specs.Learners.{Speech, speech}
+use Rattle.hurd_teaching.specs.Learners.{Speech, is_quiet, speech}
 use Rattle.hurd_teaching.specs.Looks.{is_due}
 use Rattle.hurd_teaching.specs.Programs.{PrintsOneText}
 use Rattle.hurd_teaching.specs.declared.learners.Learners.{Learners}
@@ -24,22 +24,24 @@ lessons_front : (tasks : List TaskId) (who : Speech) (n : ℕ) (cs more : List L
 lessons_front tasks who n [] more w s t none y = (t, ap (λ (u : List Said). u ++ t) (sym none))
 lessons_front tasks who n (c ∷ cs) more w s t (text, shown, said, split, lesson, shows, rest) (text2, shown2, said2, split2, lesson2, shows2, rest2) =
     let x = after_call c w in
+    let quiet = is_quiet tasks who.from n c.task.0 in
     let it = lessons_front tasks who (n + 1) cs more x said said2 rest rest2 in
-    let texts : text ≡ text2 = lesson_is_one tasks who.learns c.task.0 w x text text2 lesson lesson2 in
+    let texts : text ≡ text2 = lesson_is_one tasks who.learns quiet w x text text2 lesson lesson2 in
     let shows_same : shown ≡ shown2 = shows_is_one tasks who.sees (is_due who.looks (n + 1)) x shown shown2 shows shows2 in (
       it.0,
       split2
-          ∙ (sym (λ i. record { task = c.task.0; text = texts i; shown = shows_same i } ∷ said2)
-          ∙ (ap (λ (u : List Said). record { task = c.task.0; text = text; shown = shown } ∷ u) it.1 ∙ ap (λ (u : List Said). u ++ it.0) (sym split))),
+          ∙ (sym (λ i. record { counts = not quiet; text = texts i; shown = shows_same i } ∷ said2)
+          ∙ (ap (λ (u : List Said). record { counts = not quiet; text = text; shown = shown } ∷ u) it.1 ∙ ap (λ (u : List Said). u ++ it.0) (sym split))),
     )
 
 lessons_once : (tasks : List TaskId) (who : Speech) (n : ℕ) (cs : List Listed) (w : World) (s t : List Said) → LessonsOf tasks who n cs w s → LessonsOf tasks who n cs w t → s ≡ t
 lessons_once tasks who n [] w s t none none2 = none ∙ sym none2
 lessons_once tasks who n (c ∷ cs) w s t (text, shown, said, split, lesson, shows, rest) (text2, shown2, said2, split2, lesson2, shows2, rest2) =
     let x = after_call c w in
-    let texts : text ≡ text2 = lesson_is_one tasks who.learns c.task.0 w x text text2 lesson lesson2 in
+    let quiet = is_quiet tasks who.from n c.task.0 in
+    let texts : text ≡ text2 = lesson_is_one tasks who.learns quiet w x text text2 lesson lesson2 in
     let shows_same : shown ≡ shown2 = shows_is_one tasks who.sees (is_due who.looks (n + 1)) x shown shown2 shows shows2 in
-    split ∙ ((λ i. record { task = c.task.0; text = texts i; shown = shows_same i } ∷ lessons_once tasks who (n + 1) cs x said said2 rest rest2 i) ∙ sym split2)
+    split ∙ ((λ i. record { counts = not quiet; text = texts i; shown = shows_same i } ∷ lessons_once tasks who (n + 1) cs x said said2 rest rest2 i) ∙ sym split2)
 
 -- the parts of some first calls are the first parts
 parts_front : (cs more : List Listed) (w : World) → (rest : List (List ℕ)) × (parts_of (cs ++ more) w ≡ parts_of cs w ++ rest)
@@ -52,7 +54,7 @@ calling_once : (calls : List Listed) (w : World) (l m : Learners) → AreAlike l
 calling_once calls w l m a = record {
   said = λ s t x y. lessons_once l.tasks.items (speech l) 0 calls w s t x (moved t y);
   text = λ s. refl;
-  things = refl;
+  thing = refl;
   front = λ f t some y. front f t some (moved t y);
 }
   where

@@ -10,7 +10,7 @@ use Rattle.hurd_terminal.specs.Faults.{AppendsFront, IsFront}
 use Rattle.hurd_tmpfs.specs.Tree.{new_tmpfs}
 use Rattle.hurd_words.specs.Lines.{lines_of}
 use Rattle.hurd_teaching.specs.Learners.{Speech, speech}
-use Rattle.hurd_teaching.specs.Looks.{asks_of}
+use Rattle.hurd_teaching.specs.Looks.{asks_of, starts_of}
 use Rattle.hurd_teaching.specs.Programs.{Teaching}
 use Rattle.hurd_teaching.specs.Shown.{Doings}
 use Rattle.hurd_teaching.specs.declared.learners.Learners.{Learners}
@@ -32,10 +32,10 @@ calling tasks who made calls w = record {
   Lessons = LessonsOf tasks who made calls w;
   text = told_text calls w;
   IsFrontOfSome = FrontOfSome tasks who made calls w;
-  things = codes " calls of others\n";
+  thing = codes " call";
 }
 
--- some first calls were made, and a front of their parts with what is said behind them was printed
+-- some first calls were made, and a front of their paragraphs was printed
 pub record ToldSome (tasks : List TaskId) (who : Speech) (made : ℕ) (calls : List Listed) (w : World) (before after : Option (List ℕ)) : Type 0 where
   pub first : List Listed
   pub left : List Listed
@@ -52,6 +52,10 @@ called_in said learners = calling learners.tasks.items (speech learners) 0 said.
 abbrev pub looks_of : List ℕ → List Bool
 looks_of list = drop (length (said_in (reading_of list)).tasks + 1) (asks_of (lines_of list))
 
+-- how many of its calls are made before lessons begin
+abbrev pub from_of : List ℕ → ℕ
+from_of list = starts_of (length (said_in (reading_of list)).tasks + 1) (lines_of list)
+
 -- the program for those tasks of a list whom a word names
 abbrev pub learning : List ℕ → Teaching
 learning word = record {
@@ -61,6 +65,7 @@ learning word = record {
   named = λ text. tasks_named (length (said_in (reading_of text)).tasks) word;
   called = called word;
   looks = looks_of;
+  from = from_of;
   boot = λ text. boot_of new_tmpfs (said_in (reading_of text)).tasks;
   doings = λ text. called_in (said_in (reading_of text));
 }

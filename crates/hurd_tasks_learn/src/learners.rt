@@ -28,21 +28,22 @@ fn called(alloc: Global, tasks: &[TaskId], word: &str) -> Result<Vec<u8>, AllocE
     Ok(names)
 }
 
-/// Those whose numbers stand in a word between commas, with where all that they see is to be shown; none where one of them isn't below this count of
-/// tasks. An error is want of memory.
+/// Those whose numbers stand in a word between commas, with where all that they see is to be shown, and where lessons begin. None where one of them
+/// isn't below this count of tasks. An error is want of memory.
 pub fn named(
     alloc: Global,
     count: usize,
     word: &str,
     looks: Vec<bool>,
+    from: usize,
 ) -> Result<Option<Learners>, AllocError>
-    ensures { IfOk result (λ named. Named (tasks_named count word.now) (called word.now) looks.items named) }
+    ensures { IfOk result (λ named. Named (tasks_named count word.now) (called word.now) looks.items from named) }
 {
     let Some(tasks) = tasks_of(alloc, count, word)? else {
         return Ok(None);
     };
     let names = called(alloc, tasks.as_slice(), word)?;
-    Ok(Some(Learners::called(alloc, tasks, names, looks)?))
+    Ok(Some(Learners::called(alloc, tasks, names, looks, from)?))
 }
 
 /// The number of a task below this count.

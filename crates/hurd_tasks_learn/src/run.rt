@@ -18,7 +18,7 @@ use hurd_kinds::{ServerBox, empty_tree};
 use hurd_lessons::Tally;
 use hurd_lists::{CallList, ListedCall};
 use hurd_making::{begun, parsed};
-use hurd_teaching::{Learners, asked_looks, finish};
+use hurd_teaching::{Learners, asked_looks, finish, lessons_begin};
 use hurd_terminal::{Fault, Input, Output, read_text};
 use hurd_watch::Watch;
 use hurd_world::World;
@@ -32,7 +32,7 @@ pub const COMPLAINT: &str = ": bad calls\n";
 pub const USAGE: &[u8] = b"usage: hurd_tasks_learn TASK[,TASK..] < list\n";
 
 /// What was learned from, in the last line.
-const CALLS: &[u8] = b" calls of others\n";
+const CALL: &[u8] = b" call";
 
 /// Makes calls, prints all that is told and learned of them by tasks of which nothing was seen yet, and the last line.
 ///
@@ -53,7 +53,7 @@ fn tell_all<W: Write>(
 {
     let mut tally = Tally::new();
     make_all(world, alloc, calls, learners, watch, &mut tally, output)?;
-    let line = tally.line(alloc, learners.names.as_slice(), CALLS)?;
+    let line = tally.line(alloc, learners.names.as_slice(), CALL)?;
     output.print(line.as_slice())
 }
 
@@ -112,7 +112,8 @@ fn run_text<W: Write>(
 {
     let CallList { tasks, calls } = parsed(alloc, text)?;
     let looks = asked_looks(alloc, text, tasks.as_slice().len() + 1)?;
-    match named(alloc, tasks.as_slice().len(), word, looks)? {
+    let from = lessons_begin(alloc, text, tasks.as_slice().len() + 1)?;
+    match named(alloc, tasks.as_slice().len(), word, looks, from)? {
         Some(learners) => {
             learn(alloc, tasks, calls, &learners, output)?;
             Ok(true)

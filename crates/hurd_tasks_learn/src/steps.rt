@@ -1,14 +1,13 @@
 //! A call of a list, with what is learned by it.
-ghost use Rattle.std.specs.Prelude.{◌≡◌, false, map, IfErr, IfOk, OnOk};
+ghost use Rattle.std.specs.Prelude.{◌≡◌, ◌<◌, false, map, IfErr, IfOk, OnOk};
 ghost use Rattle.std.specs.Option.{option_map};
 ghost use Rattle.hurd_kinds.specs.Boxes.{box_meaning};
 ghost use Rattle.hurd_world.specs.Held.{world_of};
 ghost use Rattle.hurd_lists.specs.Calls.{begun};
 ghost use Rattle.hurd_lists.specs.Lists.{listed_by};
-ghost use Rattle.hurd_sight.specs.Reach.{among};
 ghost use Rattle.hurd_watch.specs.Watched.{SeenOf, Sees};
 ghost use Rattle.hurd_terminal.specs.Faults.{IsPrintFault};
-ghost use Rattle.hurd_teaching.specs.Learners.{speech};
+ghost use Rattle.hurd_teaching.specs.Learners.{is_quiet, speech};
 ghost use Rattle.hurd_teaching.specs.Shown.{ToldAll};
 ghost use Rattle.hurd_tasks_learn.specs.Runs.{ToldSome, calling};
 ghost use Rattle.hurd_tasks_learn.specs.Steps.{IsTold, ToldPart};
@@ -26,28 +25,29 @@ use hurd_world::World;
 use std::alloc::{AllocError, Global};
 use std::io::Write;
 
-/// Whether a task is one of these; before another one makes a call, it is looked at what these see, unless that was done. An error is want of
-/// memory.
+/// Whether nothing is to be said of a task's call where so many were made. Before any other call it is looked at what these see, unless that was
+/// done. An error is want of memory.
 fn looked<S: Server>(
     alloc: Global,
     world: &World<S>,
+    made: usize,
     task: TaskId,
     learners: &Learners,
     watch: &mut Watch,
 ) -> Result<bool, AllocError>
     requires { SeenOf learners.now.tasks.items (world_of S.meaning world.now) watch.old.seen }
-    ensures own { IfOk result (λ own. own ≡ among learners.now.tasks.items task.0) }
-    ensures sees { IfOk result (λ own. own ≡ false → Sees learners.now.tasks.items (world_of S.meaning world.now) watch.new.seen) }
+    ensures quiet { IfOk result (λ quiet. quiet ≡ is_quiet learners.now.tasks.items learners.now.from made task.0) }
+    ensures sees { IfOk result (λ quiet. quiet ≡ false → Sees learners.now.tasks.items (world_of S.meaning world.now) watch.new.seen) }
 {
-    let own = learners.have(task);
-    if !own {
+    let quiet = learners.are_quiet(made, task);
+    if !quiet {
         watch.look(alloc, world, learners.tasks.as_slice())?;
     }
-    Ok(own)
+    Ok(quiet)
 }
 
-/// Makes a call with the server that its words make, as that of this number, prints its part, what these tasks learn by it, and what they see where
-/// that is asked for, and counts what they learn.
+/// Makes a call with the server that its words make where so many were made, and prints its paragraph: its part, what these tasks learn by it, and
+/// what they see where that is asked for. It counts what they learn.
 ///
 /// `Write` where it can't be written: then only some first bytes of it were; `Memory` at any point.
 fn make<S: Server, W: Write>(
@@ -63,18 +63,19 @@ fn make<S: Server, W: Write>(
 ) -> Result<(), Fault>
     requires brings { begun listed.server ≡ option_map S.meaning server }
     requires seen { SeenOf learners.now.tasks.items (world_of S.meaning world.old) watch.old.seen }
+    requires room { made < usize.MAX }
     ensures ok { OnOk result (IsTold learners.now.tasks.items (speech learners.now) made (listed_by S.meaning listed) (world_of S.meaning world.old)
         tally.old (W.contents output.old.writer) (world_of S.meaning world.new) watch.new.seen tally.new (W.contents output.new.writer)) }
     ensures err { IfErr result (λ fault. IsPrintFault output.new fault
         × ToldPart learners.now.tasks.items (speech learners.now) made (listed_by S.meaning listed) (world_of S.meaning world.old)
         (W.contents output.old.writer) (W.contents output.new.writer)) }
 {
-    let own = looked(alloc, world, listed.task, learners, watch)?;
+    let quiet = looked(alloc, world, made, listed.task, learners, watch)?;
     let part = part(world, alloc, listed, server)?;
-    let said = said(alloc, world, learners, watch, own)?;
-    let shown = shown(alloc, world, learners, learners.are_shown(made))?;
-    print_all(&part, &said, &shown, output)?;
-    *tally = counted(*tally, own, &said);
+    let said = said(alloc, world, learners, watch, quiet)?;
+    let shown = shown(alloc, world, learners, learners.are_shown(made + 1))?;
+    print_all(alloc, &part, &said, &shown, output)?;
+    *tally = counted(*tally, quiet, &said);
     Ok(())
 }
 
@@ -92,7 +93,7 @@ pub fn make_all<W: Write>(
 ) -> Result<(), Fault>
     requires { SeenOf learners.now.tasks.items (world_of box_meaning world.old) watch.old.seen }
     ensures ok { OnOk result (ToldAll (calling learners.now.tasks.items (speech learners.now) 0 (map (listed_by box_meaning) calls.items) (world_of box_meaning world.old))
-        learners.now.tasks.items tally.old (W.contents output.old.writer) tally.new (W.contents output.new.writer)) }
+        tally.old (W.contents output.old.writer) tally.new (W.contents output.new.writer)) }
     ensures err { IfErr result (λ fault. IsPrintFault output.new fault
         × ToldSome learners.now.tasks.items (speech learners.now) 0 (map (listed_by box_meaning) calls.items) (world_of box_meaning world.old)
         (W.contents output.old.writer) (W.contents output.new.writer)) }
@@ -100,10 +101,10 @@ pub fn make_all<W: Write>(
     let mut made = 0usize;
     for listed in calls {
         let server = brought(alloc, &listed.server)?;
-        made += 1;
         make(
             world, alloc, listed, server, made, learners, watch, tally, output,
         )?;
+        made += 1;
     }
     Ok(())
 }

@@ -1,7 +1,9 @@
 pub mod LearnerLaws
-pub mod PrintLaws
 pub mod ProgramLaws
 pub mod ShownLaws
 pub mod SeenLaws
 pub mod LookLaws
 pub mod OneText
+pub mod ReadingLaws
+pub mod PrintLaws
+pub mod SayingLaws

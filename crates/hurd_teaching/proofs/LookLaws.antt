@@ -1,8 +1,8 @@
--- Reading where a text asks what is seen.
-use Rattle.std.proofs.Common.{◌≡◌, ◌∙◌, refl, sym, ap, ℕ, Bool, true, false, List, [], ◌∷◌, ◌++◌, append_assoc}
-use Rattle.std.specs.Prelude.{if◌then◌else◌}
+-- Reading where a text asks what is seen, and where lessons begin.
+use Rattle.std.proofs.Common.{◌≡◌, ◌∙◌, refl, sym, ap, ℕ, suc, ◌+◌, arith, Bool, true, false, List, [], ◌∷◌, ◌++◌, append_assoc}
+use Rattle.std.specs.Prelude.{if◌then◌else◌, Option, Some, None, option_map}
 use Rattle.hurd_words.specs.Lines.{is_skipped}
-use Rattle.hurd_teaching.specs.Looks.{asks_behind, asks_first, is_look}
+use Rattle.hurd_teaching.specs.Looks.{asks_behind, asks_first, is_look, is_start, said_before}
 
 -- what is still to be said of lines, where it was asked or not since the last that says something
 abbrev pub asks_from : Bool → List (List ℕ) → List Bool
@@ -39,3 +39,23 @@ module _ (front new : List Bool) (asked now : Bool) (line : List ℕ) (lines : L
   pub said_read : new ≡ front ++ asked ∷ [] → now ≡ false → is_look line ≡ false → is_skipped line ≡ false → new ++ asks_from now lines ≡ all
   said_read more asks other says =
       rw (more, asks) (append_assoc front (asked ∷ []) (asks_from false lines) ∙ (ap (λ (bs : List Bool). front ++ bs) (sym (said_line asked line lines other says)) ∙ before))
+
+-- how many lines say something before lessons begin, where so many were read already
+abbrev pub said_from : ℕ → List (List ℕ) → Option ℕ
+said_from n lines = option_map (λ k. n + k) (said_before lines)
+
+-- a line more is read, by what it is
+
+module _ (n : ℕ) (line : List ℕ) (lines : List (List ℕ)) (all : Option ℕ) (before : said_from n (line ∷ lines) ≡ all) where
+  pub start_reached : is_start line ≡ true → Some n ≡ all
+  start_reached is = ap Some (omega arith) ∙ rw is at before
+
+  pub skipped_over : (now : ℕ) → now ≡ n → is_start line ≡ false → is_skipped line ≡ true → said_from now lines ≡ all
+  skipped_over now same other is = rw same (rw (other, is) at before)
+
+  pub said_counted : (now : ℕ) → now ≡ n + 1 → is_start line ≡ false → is_skipped line ≡ false → said_from now lines ≡ all
+  said_counted now more other says = rw more (sym (go (said_before lines)) ∙ rw (other, says) at before)
+    where
+      go : (o : Option ℕ) → option_map (λ k. n + k) (option_map suc o) ≡ option_map (λ k. (n + 1) + k) o
+      go None = refl
+      go (Some k) = ap Some (omega arith)

@@ -3,7 +3,7 @@ use Rattle.std.proofs.Common.{◌≡◌, ◌∙◌, inl, inr, sym, refl, ap, ℕ
 use Rattle.std.specs.Prelude.{Option, Some}
 use Rattle.hurd_creds.specs.declared.name.TaskId.{TaskId}
 use Rattle.hurd_machine.specs.World.{World}
-use Rattle.hurd_sight.specs.Reach.{among}
+use Rattle.hurd_sentences.specs.Turns.{paragraph}
 use Rattle.hurd_lessons.specs.Told.{Said, last_line, printed, tally_from}
 use Rattle.hurd_lessons.proofs.OneLesson.{seen_is_one}
 use Rattle.hurd_terminal.specs.Faults.{IsFront}
@@ -24,12 +24,8 @@ printed_front [] qs xs ys = (printed qs (xs ++ ys), refl)
 printed_front (p ∷ ps) qs [] ys = (printed (p ∷ (ps ++ qs)) ys, refl)
 printed_front (p ∷ ps) qs (x ∷ xs) ys =
     let it = printed_front ps qs xs ys in
-    (it.0, ap (λ (u : List ℕ). p ++ (x.text ++ (x.shown ++ u))) it.1 ∙ sym (joined (printed ps xs) it.0))
-  where
-    joined : (u v : List ℕ) → (p ++ (x.text ++ (x.shown ++ u))) ++ v ≡ p ++ (x.text ++ (x.shown ++ (u ++ v)))
-    joined u v =
-        append_assoc p (x.text ++ (x.shown ++ u)) v
-        ∙ ap (λ (z : List ℕ). p ++ z) (append_assoc x.text (x.shown ++ u) v ∙ ap (λ (z : List ℕ). x.text ++ z) (append_assoc x.shown u v))
+    let here : List ℕ = paragraph p (x.text ++ x.shown) in
+    (it.0, ap (λ (u : List ℕ). here ++ u) it.1 ∙ sym (append_assoc here (printed ps xs) it.0))
 
 -- the same learners, however they are kept
 pub record AreAlike (l m : Learners) : Type 0 where
@@ -38,9 +34,10 @@ pub record AreAlike (l m : Learners) : Type 0 where
   pub sees : l.sees.items ≡ m.sees.items
   pub names : l.names.items ≡ m.names.items
   pub looks : l.looks.items ≡ m.looks.items
+  pub starts : l.from ≡ m.from
 
 pub speech_same : (l m : Learners) → AreAlike l m → speech l ≡ speech m
-speech_same l m a = λ i. record { learns = a.who i; sees = a.sees i; looks = a.looks i }
+speech_same l m a = λ i. record { learns = a.who i; sees = a.sees i; looks = a.looks i; from = a.starts i }
 
 -- tasks by their numbers
 numbers_back : (ts : List TaskId) → map (λ (n : ℕ). record { 0 = n }) (numbers ts) ≡ ts
@@ -50,13 +47,14 @@ numbers_back (t ∷ ts) = ap (λ (us : List TaskId). t ∷ us) (numbers_back ts)
 same_some : {X : Type 0} (x y : X) → Some x ≡ Some y → x ≡ y
 same_some x y e = cc
 
-pub alike : (named : Option (List ℕ)) (called : List TaskId → List ℕ) (asked : List Bool) (l m : Learners) → AreNamed named called asked l → AreNamed named called asked m → AreAlike l m
-alike named called asked l m x y = record {
+pub alike : (named : Option (List ℕ)) (called : List TaskId → List ℕ) (asked : List Bool) (from : ℕ) (l m : Learners) → AreNamed named called asked from l → AreNamed named called asked from m → AreAlike l m
+alike named called asked from l m x y = record {
   tasks = tasks;
   who = x.who ∙ (ap (λ (ts : List TaskId). called ts ++ verb_of ts) tasks ∙ sym y.who);
   sees = x.sees ∙ (ap (λ (ts : List TaskId). called ts ++ see_of ts) tasks ∙ sym y.sees);
   names = x.names ∙ (ap called tasks ∙ sym y.names);
   looks = x.looks ∙ sym y.looks;
+  starts = x.starts ∙ sym y.starts;
 }
   where
     same : numbers l.tasks.items ≡ numbers m.tasks.items
@@ -69,14 +67,14 @@ alike named called asked l m x y = record {
 pub record IsOnce (d e : Doings) : Type 0 where
   pub said : (s t : List Said) → d.Lessons s → e.Lessons t → s ≡ t
   pub text : (s : List Said) → d.text s ≡ e.text s
-  pub things : d.things ≡ e.things
+  pub thing : d.thing ≡ e.thing
   pub front : (f : List ℕ) (t : List Said) → d.IsFrontOfSome f → e.Lessons t → IsFront f (e.text t)
 
 whole_once : (d e : Doings) (l m : Learners) (s t : List ℕ) → AreAlike l m → IsOnce d e → Whole d l s → Whole e m t → s ≡ t
 whole_once d e l m s t a o x y =
     let same = o.said x.said y.said x.lessons y.lessons in
     x.is
-    ∙ ((λ i. d.text (same i) ++ last_line (a.names i) (o.things i) (tally_from (among (a.tasks i)) (record { others = 0; taught = 0 }) (same i)))
+    ∙ ((λ i. d.text (same i) ++ last_line (a.names i) (o.thing i) (tally_from (record { others = 0; taught = 0 }) (same i)))
     ∙ (ap (λ (u : List ℕ). u ++ last_of e m y.said) (o.text y.said) ∙ sym y.is))
 
 front_once : (d e : Doings) (l m : Learners) (s t : List ℕ) → AreAlike l m → IsOnce d e → Front d l s → Whole e m t → IsFront s t
@@ -88,6 +86,6 @@ front_once d e l m s t a o (inr part) y = let same = whole_once d e l m part.0 t
 
 pub prints_one_text : (p : Teaching) → ((text : List ℕ) (l m : Learners) → AreAlike l m → IsOnce (p.doings text l) (p.doings text m)) → PrintsOneText p
 prints_one_text p once = record {
-  one = λ text s t x y. let a = alike (p.named text) p.called (p.looks text) x.0 y.0 x.1 y.1 in whole_once (p.doings text x.0) (p.doings text y.0) x.0 y.0 s t a (once text x.0 y.0 a) x.2 y.2;
-  front = λ text s t x y. let a = alike (p.named text) p.called (p.looks text) x.0 y.0 x.1 y.1 in front_once (p.doings text x.0) (p.doings text y.0) x.0 y.0 s t a (once text x.0 y.0 a) x.2 y.2;
+  one = λ text s t x y. let a = alike (p.named text) p.called (p.looks text) (p.from text) x.0 y.0 x.1 y.1 in whole_once (p.doings text x.0) (p.doings text y.0) x.0 y.0 s t a (once text x.0 y.0 a) x.2 y.2;
+  front = λ text s t x y. let a = alike (p.named text) p.called (p.looks text) (p.from text) x.0 y.0 x.1 y.1 in front_once (p.doings text x.0) (p.doings text y.0) x.0 y.0 s t a (once text x.0 y.0 a) x.2 y.2;
 }

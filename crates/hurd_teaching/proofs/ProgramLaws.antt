@@ -76,7 +76,7 @@ pub ran_unknown : (p : Teaching) (text : List ℕ) (before : Option (List ℕ)) 
 unfolding Prints
 ran_unknown p text before good none = ran_nothing p text before (Ok false) (good, none, refl)
 
-module _ (p : Teaching) (text : List ℕ) (learners : Learners) (good : p.bad text ≡ None) (named : AreNamed (p.named text) p.called (p.looks text) learners) where
+module _ (p : Teaching) (text : List ℕ) (learners : Learners) (good : p.bad text ≡ None) (named : AreNamed (p.named text) p.called (p.looks text) (p.from text) learners) where
   taken : IsTaken p text
   taken = (good, λ none. let no = named.tasks in cc)
 

@@ -21,7 +21,7 @@ module _ (d : Doings) (learners : Learners) (before : Option (List ℕ)) where
 
   -- all was done, and nothing that others did was counted before
   abbrev pub Tells : Tally → Option (List ℕ) → Type 0
-  Tells count after = ToldAll d learners.tasks.items (record { others = 0; taught = 0 }) before count after
+  Tells count after = ToldAll d (record { others = 0; taught = 0 }) before count after
 
   abbrev all_of : (count : Tally) (after : Option (List ℕ)) → Tells count after → List ℕ
   all_of count after told = d.text told.said ++ last_of d learners told.said
@@ -40,12 +40,12 @@ module _ (d : Doings) (learners : Learners) (before : Option (List ℕ)) where
   line_missing count after told = (d.text told.said, inr (all_of count after told, whole_of count after told, (last_of d learners told.said, refl)), told.appends)
 
   -- the last line says what was counted
-  counts_line : (count : Tally) (after : Option (List ℕ)) (told : Tells count after) (line : List ℕ) → line ≡ last_line learners.names.items d.things count → line ≡ last_of d learners told.said
-  counts_line count after told line is = is ∙ ap (last_line learners.names.items d.things) told.counts
+  counts_line : (count : Tally) (after : Option (List ℕ)) (told : Tells count after) (line : List ℕ) → line ≡ last_line learners.names.items d.thing count → line ≡ last_of d learners told.said
+  counts_line count after told line is = is ∙ ap (last_line learners.names.items d.thing) told.counts
 
   -- it was printed
   pub line_shown : (count : Tally) (between after : Option (List ℕ)) (line : List ℕ) (P : Type 0) (r : Result (Unit {0}) Fault) → Tells count between
-      → line ≡ last_line learners.names.items d.things count → OnOk r (Appends between after line × P) → OnOk r (Shown d learners before after)
+      → line ≡ last_line learners.names.items d.thing count → OnOk r (Appends between after line × P) → OnOk r (Shown d learners before after)
   line_shown count between after line P (Ok u) told is printed = record {
     text = all_of count between told;
     whole = whole_of count between told;
@@ -64,7 +64,7 @@ module _ (d : Doings) (learners : Learners) (before : Option (List ℕ)) where
       (text, inr (all, record { said = told.said; lessons = told.lessons; is = whole }, front), printed)
 
   pub line_not_told : {W : Type 0} (output : Output W) (count : Tally) (between after : Option (List ℕ)) (line : List ℕ) (r : Result (Unit {0}) Fault) → Tells count between
-      → line ≡ last_line learners.names.items d.things count → IfErr r (λ fault. (fault ≡ Write) × (output.failed ≡ true) × AppendsFront between after line)
+      → line ≡ last_line learners.names.items d.thing count → IfErr r (λ fault. (fault ≡ Write) × (output.failed ≡ true) × AppendsFront between after line)
       → IfErr r (λ fault. NotTold d learners output before fault after)
   line_not_told output count between after line (Ok u) told is cut = tt
   line_not_told output count between after line (Err fault) told is cut =

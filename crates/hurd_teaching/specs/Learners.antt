@@ -1,6 +1,7 @@
 -- The tasks that are told what they learn.
-use Rattle.std.specs.Prelude.{◌≡◌, ℕ, Bool, List, ◌++◌, Option, Some, None, if◌then◌else◌, codes, length, map, nat_lt}
+use Rattle.std.specs.Prelude.{◌≡◌, ◌||◌, ℕ, Bool, List, ◌++◌, Option, Some, None, if◌then◌else◌, codes, length, map, nat_lt}
 use Rattle.hurd_creds.specs.declared.name.TaskId.{TaskId}
+use Rattle.hurd_sight.specs.Reach.{among}
 use Rattle.hurd_teaching.specs.declared.learners.Learners.{Learners}
 
 -- the numbers of tasks
@@ -15,32 +16,39 @@ verb_of tasks = if nat_lt 1 (length tasks) then codes " learn" else codes " lear
 abbrev pub see_of : List TaskId → List ℕ
 see_of tasks = if nat_lt 1 (length tasks) then codes " see" else codes " sees"
 
--- these tasks, under these names, and these looks
-pub record AreCalled (these : List TaskId) (called : List ℕ) (asked : List Bool) (learners : Learners) : Type 0 where
+-- these tasks, under these names, these looks, and where lessons begin
+pub record AreCalled (these : List TaskId) (called : List ℕ) (asked : List Bool) (from : ℕ) (learners : Learners) : Type 0 where
   pub tasks : learners.tasks.items ≡ these
   pub who : learners.who.items ≡ called ++ verb_of these
   pub sees : learners.sees.items ≡ called ++ see_of these
   pub names : learners.names.items ≡ called
   pub looks : learners.looks.items ≡ asked
+  pub starts : learners.from ≡ from
 
--- the tasks that are named, under the names by which such tasks are called, and these looks
-pub record AreNamed (named : Option (List ℕ)) (called : List TaskId → List ℕ) (asked : List Bool) (learners : Learners) : Type 0 where
+-- the tasks that are named, under the names by which such tasks are called, these looks, and where lessons begin
+pub record AreNamed (named : Option (List ℕ)) (called : List TaskId → List ℕ) (asked : List Bool) (from : ℕ) (learners : Learners) : Type 0 where
   pub tasks : named ≡ Some (numbers learners.tasks.items)
   pub who : learners.who.items ≡ called learners.tasks.items ++ verb_of learners.tasks.items
   pub sees : learners.sees.items ≡ called learners.tasks.items ++ see_of learners.tasks.items
   pub names : learners.names.items ≡ called learners.tasks.items
   pub looks : learners.looks.items ≡ asked
+  pub starts : learners.from ≡ from
 
 -- those, or none where somebody is named who isn't known
-abbrev pub Named : Option (List ℕ) → (List TaskId → List ℕ) → List Bool → Option Learners → Type 0
-Named named called asked None = named ≡ None
-Named named called asked (Some learners) = AreNamed named called asked learners
+abbrev pub Named : Option (List ℕ) → (List TaskId → List ℕ) → List Bool → ℕ → Option Learners → Type 0
+Named named called asked from None = named ≡ None
+Named named called asked from (Some learners) = AreNamed named called asked from learners
 
--- how it is written what tasks learn and what they see, and where it is asked what they see
+-- how it is written what tasks learn and what they see, where it is asked what they see, and how many things are done before lessons begin
 pub record Speech : Type 0 where
   pub learns : List ℕ
   pub sees : List ℕ
   pub looks : List Bool
+  pub from : ℕ
 
 abbrev pub speech : Learners → Speech
-speech learners = record { learns = learners.who.items; sees = learners.sees.items; looks = learners.looks.items }
+speech learners = record { learns = learners.who.items; sees = learners.sees.items; looks = learners.looks.items; from = learners.from }
+
+-- whether nothing is said of what a task does where so many things are done: it is one of these, or lessons have not begun
+abbrev pub is_quiet : List TaskId → ℕ → ℕ → ℕ → Bool
+is_quiet tasks from made task = nat_lt made from || among tasks task

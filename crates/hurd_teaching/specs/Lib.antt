@@ -3,3 +3,4 @@ pub mod Learners
 pub mod Telling
 pub mod Shown
 pub mod Programs
+pub mod Reading

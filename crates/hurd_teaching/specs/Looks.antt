@@ -1,5 +1,5 @@
--- Where a text asks what is seen: by a line `# see`.
-use Rattle.std.specs.Prelude.{ℕ, Bool, true, false, List, [], ◌∷◌, slice_get, Option, Some, None, if◌then◌else◌, bytes_eq, codes}
+-- Where a text asks what is seen, by a line `# see`, and where lessons begin, by a line `# from here`.
+use Rattle.std.specs.Prelude.{ℕ, suc, ◌-◌, Bool, true, false, List, [], ◌∷◌, slice_get, Option, Some, None, if◌then◌else◌, bytes_eq, codes, option_map}
 use Rattle.hurd_words.specs.Lines.{is_skipped}
 
 -- the line that asks
@@ -30,3 +30,23 @@ is_asked (Some b) = b
 
 abbrev pub is_due : List Bool → ℕ → Bool
 is_due looks made = is_asked (slice_get looks made)
+
+-- the line from which on lessons are told
+abbrev pub is_start : List ℕ → Bool
+is_start line = bytes_eq line (codes "# from here")
+
+-- how many lines that say something stand before the first such line, if there is one
+abbrev pub said_before : List (List ℕ) → Option ℕ
+said_before [] = None
+said_before (line ∷ lines) =
+    if is_start line then Some 0
+    else if is_skipped line then said_before lines
+    else option_map suc (said_before lines)
+
+-- how many things are done before lessons begin, where the first of so many places before and behind lines that say something are none behind a thing that is done
+abbrev pub starts_behind : ℕ → Option ℕ → ℕ
+starts_behind first None = 0
+starts_behind first (Some said) = said - (first - 1)
+
+abbrev pub starts_of : ℕ → List (List ℕ) → ℕ
+starts_of first lines = starts_behind first (said_before lines)

@@ -14,8 +14,8 @@ use Rattle.hurd_teaching.specs.Shown.{Doings, Front, Whole}
 use Rattle.hurd_teaching.specs.declared.learners.Learners.{Learners}
 
 -- what such a program makes of a text: how it is called, what it says behind the number of a bad line, the line at which a text is bad, the
--- tasks of those who are named, if they are known, and what such tasks are called, where it is asked what they see, whether the text's world may
--- begin, and what is done
+-- tasks of those who are named, if they are known, and what such tasks are called, where it is asked what they see and where lessons begin, whether
+-- the text's world may begin, and what is done
 pub record Teaching : Type 1 where
   pub usage : List ℕ
   pub complaint : List ℕ
@@ -23,6 +23,7 @@ pub record Teaching : Type 1 where
   pub named : List ℕ → Option (List ℕ)
   pub called : List TaskId → List ℕ
   pub looks : List ℕ → List Bool
+  pub from : List ℕ → ℕ
   pub boot : List ℕ → Result (Unit {0}) Errno
   pub doings : List ℕ → Learners → Doings
 
@@ -32,11 +33,11 @@ IsTaken p text = (p.bad text ≡ None) × (p.named text ≢ None)
 
 -- all that is printed of a text for those who are named
 abbrev pub IsAll : Teaching → List ℕ → List ℕ → Type 0
-IsAll p text printed = (learners : Learners) × AreNamed (p.named text) p.called (p.looks text) learners × Whole (p.doings text learners) learners printed
+IsAll p text printed = (learners : Learners) × AreNamed (p.named text) p.called (p.looks text) (p.from text) learners × Whole (p.doings text learners) learners printed
 
 -- a front of it
 abbrev pub IsPart : Teaching → List ℕ → List ℕ → Type 0
-IsPart p text printed = (learners : Learners) × AreNamed (p.named text) p.called (p.looks text) learners × Front (p.doings text learners) learners printed
+IsPart p text printed = (learners : Learners) × AreNamed (p.named text) p.called (p.looks text) (p.from text) learners × Front (p.doings text learners) learners printed
 
 -- such a program prints one text of each: all that is printed of a text for those who are named is one, and any part of it is a front of that
 pub record PrintsOneText (p : Teaching) : Type 0 where

@@ -2,8 +2,6 @@
 use Rattle.std.specs.Prelude.{◌≡◌, ◌⊎◌, ℕ, List, ◌++◌, Option, Result, Err}
 use Rattle.std.specs.Io.KnownBytes.{Appends}
 use Rattle.hurd_creds.specs.declared.errno.Errno.{Errno}
-use Rattle.hurd_creds.specs.declared.name.TaskId.{TaskId}
-use Rattle.hurd_sight.specs.Reach.{among}
 use Rattle.hurd_lessons.specs.Told.{Said, last_line, tally_from}
 use Rattle.hurd_lessons.specs.declared.tally.Tally.{Tally}
 use Rattle.hurd_terminal.specs.Faults.{IsFront, IsPrintFault}
@@ -13,23 +11,23 @@ use Rattle.hurd_terminal.specs.declared.print.Output.{Output}
 use Rattle.hurd_teaching.specs.declared.learners.Learners.{Learners}
 
 -- things that are done one after another: what may be said behind each of them, what is printed of all with that, what is a front of what is
--- printed of some first ones, and what they are called in the last line
+-- printed of some first ones, and what one of them is called in the last line
 pub record Doings : Type 1 where
   pub Lessons : List Said → Type 0
   pub text : List Said → List ℕ
   pub IsFrontOfSome : List ℕ → Type 0
-  pub things : List ℕ
+  pub thing : List ℕ
 
 -- all was done and printed, each part with what is said behind it, and that was counted
-pub record ToldAll (d : Doings) (tasks : List TaskId) (tally : Tally) (before : Option (List ℕ)) (count : Tally) (after : Option (List ℕ)) : Type 0 where
+pub record ToldAll (d : Doings) (tally : Tally) (before : Option (List ℕ)) (count : Tally) (after : Option (List ℕ)) : Type 0 where
   pub said : List Said
   pub lessons : d.Lessons said
   pub appends : Appends before after (d.text said)
-  pub counts : count ≡ tally_from (among tasks) tally said
+  pub counts : count ≡ tally_from tally said
 
 -- the last line: how many of the things that others did taught something
 abbrev pub last_of : Doings → Learners → List Said → List ℕ
-last_of d learners said = last_line learners.names.items d.things (tally_from (among learners.tasks.items) (record { others = 0; taught = 0 }) said)
+last_of d learners said = last_line learners.names.items d.thing (tally_from (record { others = 0; taught = 0 }) said)
 
 -- all that is printed: each part and what is said behind it, and the last line
 pub record Whole (d : Doings) (learners : Learners) (text : List ℕ) : Type 0 where

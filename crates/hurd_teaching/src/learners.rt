@@ -1,7 +1,7 @@
 //! The tasks that are told what they learn.
 ghost use Rattle.std.specs.Prelude.{◌≡◌, IfOk};
 ghost use Rattle.hurd_sight.specs.Reach.{among};
-ghost use Rattle.hurd_teaching.specs.Learners.{AreCalled, see_of, verb_of};
+ghost use Rattle.hurd_teaching.specs.Learners.{AreCalled, is_quiet, see_of, verb_of};
 ghost use Rattle.hurd_teaching.specs.Looks.{is_due};
 
 use hurd_creds::TaskId;
@@ -20,6 +20,8 @@ pub struct Learners {
     pub names: Vec<u8>,
     /// Whether all that they see is to be shown, by how many things are done.
     pub looks: Vec<bool>,
+    /// How many things are done before lessons begin.
+    pub from: usize,
 }
 
 /// What stands behind the names of those who learn.
@@ -41,14 +43,15 @@ fn see(tasks: &[TaskId]) -> &'static [u8]
 }
 
 impl Learners {
-    /// Tasks that are called so, with where all that they see is to be shown. An error is want of memory.
+    /// Tasks that are called so, with where all that they see is to be shown, and where lessons begin. An error is want of memory.
     pub fn called(
         alloc: Global,
         tasks: Vec<TaskId>,
         names: Vec<u8>,
         looks: Vec<bool>,
+        from: usize,
     ) -> Result<Learners, AllocError>
-        ensures { IfOk result (λ learners. AreCalled tasks.items names.items looks.items learners) }
+        ensures { IfOk result (λ learners. AreCalled tasks.items names.items looks.items from learners) }
     {
         let mut who = Vec::from_slice(alloc, names.as_slice())?;
         who.extend_from_slice(verb(tasks.as_slice()))?;
@@ -60,6 +63,7 @@ impl Learners {
             sees,
             names,
             looks,
+            from,
         })
     }
 
@@ -73,6 +77,13 @@ impl Learners {
             }
         }
         false
+    }
+
+    /// Whether nothing is said of what a task does where so many things are done: it is one of these, or lessons have not begun.
+    pub fn are_quiet(&self, done: usize, task: TaskId) -> bool
+        ensures { result ≡ is_quiet self.now.tasks.items self.now.from done task.0 }
+    {
+        done < self.from || self.have(task)
     }
 
     /// Whether all that they see is to be shown where so many things are done.

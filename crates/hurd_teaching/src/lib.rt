@@ -4,12 +4,14 @@
 
 mod argument;
 mod ending;
+mod laws;
 mod learners;
 mod looks;
 mod telling;
 
 pub use argument::only_argument;
 pub use ending::finish;
+pub use laws::outputs_are_read_back;
 pub use learners::Learners;
-pub use looks::asked_looks;
+pub use looks::{asked_looks, lessons_begin};
 pub use telling::{counted, print_all, said, shown};

@@ -1,7 +1,7 @@
-//! Where a text asks what is seen.
+//! Where a text asks what is seen, and where lessons begin.
 ghost use Rattle.std.specs.Prelude.{◌≡◌, IfOk, drop};
 ghost use Rattle.hurd_words.specs.Lines.{lines_of};
-ghost use Rattle.hurd_teaching.specs.Looks.{asks_of, is_look};
+ghost use Rattle.hurd_teaching.specs.Looks.{asks_of, is_look, is_start, said_before, starts_of};
 
 use hurd_words::lines::is_skipped;
 use hurd_words::words::pieces;
@@ -9,6 +9,9 @@ use std::alloc::{AllocError, Global};
 
 /// The line that asks.
 const LOOK: &[u8] = b"# see";
+
+/// The line from which on lessons are told.
+const START: &[u8] = b"# from here";
 
 /// Whether a line asks what is seen.
 fn is_look(line: &[u8]) -> bool
@@ -45,5 +48,39 @@ pub fn asked_looks(alloc: Global, text: &[u8], first: usize) -> Result<Vec<bool>
     match asks.as_slice().get(first..) {
         Some(looks) => Vec::from_slice(alloc, looks),
         None => Ok(Vec::new(alloc)),
+    }
+}
+
+/// Whether lessons are told from a line on.
+fn is_start(line: &[u8]) -> bool
+    ensures { result ≡ is_start line.now }
+{
+    line == START
+}
+
+/// How many lines that say something stand before the first from which on lessons are told, if there is one. An error is want of memory.
+fn said_before(alloc: Global, text: &[u8]) -> Result<Option<usize>, AllocError>
+    ensures { IfOk result (λ said. said ≡ said_before (lines_of text.now)) }
+{
+    let lines = pieces(alloc, text, b'\n')?;
+    let mut said = 0usize;
+    for line in lines.as_slice() {
+        if is_start(line) {
+            return Ok(Some(said));
+        }
+        if !is_skipped(line) {
+            said += 1;
+        }
+    }
+    Ok(None)
+}
+
+/// How many things are done before lessons begin, where the first so many places of a text are behind none of them. An error is want of memory.
+pub fn lessons_begin(alloc: Global, text: &[u8], first: usize) -> Result<usize, AllocError>
+    ensures { IfOk result (λ from. from ≡ starts_of first (lines_of text.now)) }
+{
+    match said_before(alloc, text)? {
+        Some(said) => Ok(said.saturating_sub(first.saturating_sub(1))),
+        None => Ok(0),
     }
 }

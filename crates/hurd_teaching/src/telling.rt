@@ -2,6 +2,7 @@
 ghost use Rattle.std.specs.Prelude.{◌≡◌, ◌++◌, if◌then◌else◌, IfErr, IfOk, OnOk};
 ghost use Rattle.std.specs.Io.KnownBytes.{Appends};
 ghost use Rattle.hurd_world.specs.Held.{world_of};
+ghost use Rattle.hurd_sentences.specs.Turns.{paragraph};
 ghost use Rattle.hurd_lessons.specs.Told.{counted};
 ghost use Rattle.hurd_terminal.specs.Faults.{AppendsFront, IsPrintFault};
 ghost use Rattle.hurd_teaching.specs.Telling.{SaysOf, Shows};
@@ -9,6 +10,7 @@ ghost use Rattle.hurd_teaching.specs.Telling.{SaysOf, Shows};
 use crate::learners::Learners;
 use hurd_creds::Bytes;
 use hurd_lessons::{Tally, seen};
+use hurd_sentences::push_marked;
 use hurd_terminal::{Fault, Output};
 use hurd_trans_iface::Server;
 use hurd_watch::{Watch, view_of};
@@ -16,18 +18,18 @@ use hurd_world::World;
 use std::alloc::{AllocError, Global};
 use std::io::Write;
 
-/// What is said behind what was done: nothing behind what one of these did, who are looked at anew; else what these learn by it. An error is
+/// What is said behind what was done: nothing where nothing is to be said, and then these are looked at anew; else what they learn by it. An error is
 /// want of memory.
 pub fn said<S: Server>(
     alloc: Global,
     world: &World<S>,
     learners: &Learners,
     watch: &mut Watch,
-    own: bool,
+    quiet: bool,
 ) -> Result<Bytes, AllocError>
-    ensures { IfOk result (λ text. SaysOf learners.now.tasks.items learners.now.who.items own (world_of S.meaning world.now) watch.old.seen watch.new.seen text) }
+    ensures { IfOk result (λ text. SaysOf learners.now.tasks.items learners.now.who.items quiet (world_of S.meaning world.now) watch.old.seen watch.new.seen text) }
 {
-    if own {
+    if quiet {
         watch.forget();
         return Ok(Bytes::new(Vec::new(alloc)));
     }
@@ -56,37 +58,43 @@ pub fn shown<S: Server>(
 }
 
 /// How often others taught something, with one thing more that was done.
-pub fn counted(tally: Tally, own: bool, said: &Bytes) -> Tally
-    ensures { result ≡ (if own then tally else counted tally said.now) }
+pub fn counted(tally: Tally, quiet: bool, said: &Bytes) -> Tally
+    ensures { result ≡ (if quiet then tally else counted tally said.now) }
 {
-    if own { tally } else { tally.count(said) }
+    if quiet { tally } else { tally.count(said) }
 }
 
-/// Prints a part, and what is said behind it.
-///
-/// `Write`; then only some first bytes were printed.
-fn print_both<W: Write>(part: &Bytes, said: &Bytes, output: &mut Output<W>) -> Result<(), Fault>
-    ensures ok { OnOk result (Appends (W.contents output.old.writer) (W.contents output.new.writer) (part.now ++ said.now)) }
-    ensures err { IfErr result (λ fault. IsPrintFault output.new fault
-        × AppendsFront (W.contents output.old.writer) (W.contents output.new.writer) (part.now ++ said.now)) }
+/// A paragraph: a part, what is said behind it, and what is shown behind that. An error is want of memory.
+fn paragraph(
+    alloc: Global,
+    part: &Bytes,
+    said: &Bytes,
+    shown: &Bytes,
+) -> Result<Vec<u8>, AllocError>
+    ensures { IfOk result (λ text. text.items ≡ paragraph part.now (said.now ++ shown.now)) }
 {
-    output.print(part.as_slice())?;
-    output.print(said.as_slice())
+    let mut text = Vec::new(alloc);
+    push_marked(&mut text, part.as_slice())?;
+    text.extend_from_slice(said.as_slice())?;
+    text.extend_from_slice(shown.as_slice())?;
+    text.push(b'\n')?;
+    Ok(text)
 }
 
-/// Prints a part, what is said behind it, and what is shown behind that.
+/// Prints a paragraph: a part, what is said behind it, and what is shown behind that.
 ///
-/// `Write`; then only some first bytes were printed.
+/// `Write`: then only some first bytes were printed; `Memory`, and then nothing was.
 pub fn print_all<W: Write>(
+    alloc: Global,
     part: &Bytes,
     said: &Bytes,
     shown: &Bytes,
     output: &mut Output<W>,
 ) -> Result<(), Fault>
-    ensures ok { OnOk result (Appends (W.contents output.old.writer) (W.contents output.new.writer) (part.now ++ (said.now ++ shown.now))) }
+    ensures ok { OnOk result (Appends (W.contents output.old.writer) (W.contents output.new.writer) (paragraph part.now (said.now ++ shown.now))) }
     ensures err { IfErr result (λ fault. IsPrintFault output.new fault
-        × AppendsFront (W.contents output.old.writer) (W.contents output.new.writer) (part.now ++ (said.now ++ shown.now))) }
+        × AppendsFront (W.contents output.old.writer) (W.contents output.new.writer) (paragraph part.now (said.now ++ shown.now))) }
 {
-    output.print(part.as_slice())?;
-    print_both(said, shown, output)
+    let text = paragraph(alloc, part, said, shown)?;
+    output.print(text.as_slice())
 }

@@ -8,8 +8,8 @@ use Rattle.hurd_teaching.specs.Learners.{speech}
 use Rattle.hurd_learns.specs.Steps.{StepsTo}
 use Rattle.hurd_learns.proofs.steps.go_on.Goals as goal
 
-pub returns-in_err-own-clause-err : goal.returns-in_err-own-clause-err
-returns-in_err-own-clause-err g c =
+pub returns-in_err-quiet-clause-err : goal.returns-in_err-quiet-clause-err
+returns-in_err-quiet-clause-err g c =
     let p = err_from_is_err_and c.from_residual.result c.from_residual.ensures.1 in
     rw (p.1, p.2) (inr refl, stops_before _ _ _ _ _ _ _ _)
 
@@ -28,7 +28,7 @@ returns-in_err-tell-in-Output-clause-err g c =
     rw (p.1, p.2) (
       failed.0,
       stops_printed g.S.Server.meaning c.args.learners.now.tasks.items (speech c.args.learners.now) c.args.session.now c.next.new.self c.args.watch.now.seen c.looked.new.watch.seen c.tell.new.watch.seen _ _
-          c.in_ok-own.own c.in-Output.part c.in_ok-own.ensures fine told failed.1,
+          c.in_ok-quiet.quiet c.in-Output.part c.in_ok-quiet.ensures fine told failed.1,
     )
 
 pub returns-in_err-server_for-in-Server-clause-err : goal.returns-in_err-server_for-in-Server-clause-err
@@ -46,7 +46,7 @@ returns-in_ok-tell-in-Output-clause-ok g c =
       text = c.in-Output.part;
       said = printed.said;
       shown = printed.shown;
-      makes = record { ours = c.in_ok-own.own; watched = c.looked.new.watch.seen; looked = c.in_ok-own.ensures; fine = fine; gives = told; adds = printed.adds };
+      makes = record { quiet = c.in_ok-quiet.quiet; watched = c.looked.new.watch.seen; looked = c.in_ok-quiet.ensures; fine = fine; gives = told; adds = printed.adds };
       appends = printed.appends;
       counts = printed.counts;
     }
@@ -56,7 +56,7 @@ unfolding StepsTo
 returns-in_ok-server_for-in-Server-clause-ok g c =
     let fine = was_fine (has_failed c.args.session.now) c.in_ok-part.field-0 Memory c.in_ok-part.ensures.stays in
     let told = rw c.in-Server.is at (c.in_ok-part.ensures.tells fine) in (
-      record { ours = c.in_ok-own.own; looked = c.in_ok-own.ensures; words = c.in-Server.words; fine = fine; tells = told; made = c.in_ok-server_for-in-Server.ensures },
+      record { quiet = c.in_ok-quiet.quiet; looked = c.in_ok-quiet.ensures; words = c.in-Server.words; fine = fine; tells = told; made = c.in_ok-server_for-in-Server.ensures },
       record { printed = refl; counts = refl },
     )
 

@@ -21,6 +21,12 @@ returns-in_err-server-clause-err g c =
 pub make-requires-clause-seen : goal.make-requires-clause-seen
 make-requires-clause-seen g c = c.loop-listed.invariant.follows.seen
 
+pub make-requires-clause-room : goal.make-requires-clause-room
+make-requires-clause-room g c =
+    let less = ap length c.in-Some.ensures.steps.0 in
+    let few = c.loop-listed.invariant.few in
+    omega (arith, less, few)
+
 pub returns-in_err-make-clause-err : goal.returns-in_err-make-clause-err
 returns-in_err-make-clause-err g c =
     let p = err_from_is_err_and c.from_residual-in_err-make.result c.from_residual-in_err-make.ensures.1 in

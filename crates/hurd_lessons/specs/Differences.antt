@@ -1,0 +1,146 @@
+-- What became of the parts that are seen under a name, in words.
+use Rattle.std.specs.Prelude.{ℕ, ◌==◌, Bool, true, false, not, List, [], ◌∷◌, ◌++◌, Option, Some, None, if◌then◌else◌, bytes_eq, codes, drop}
+use Rattle.hurd_creds.specs.Access.{IdSets, least_uid}
+use Rattle.hurd_creds.specs.Names.{same_name}
+use Rattle.hurd_creds.specs.declared.attrs.Attrs.{Attrs}
+use Rattle.hurd_creds.specs.declared.name.Name.{Name}
+use Rattle.hurd_ports.specs.declared.table.Opened.{Opened}
+use Rattle.hurd_sentences.specs.Spelling.{spelled_name}
+use Rattle.hurd_views.specs.declared.rows.BodyRow.{BodyRow}
+use Rattle.hurd_views.specs.declared.rows.BodyRow.TheVariants as body
+use Rattle.hurd_views.specs.declared.rows.EntryRow.{EntryRow}
+use Rattle.hurd_views.specs.declared.rows.NodeRow.{NodeRow}
+use Rattle.hurd_views.specs.declared.rows.OpenRow.{OpenRow}
+use Rattle.hurd_views.specs.declared.rows.Row.{Row}
+use Rattle.hurd_views.specs.declared.rows.ServerRow.{ServerRow}
+use Rattle.hurd_views.specs.declared.view.View.{View}
+use Rattle.hurd_lessons.specs.Changes.{shows}
+use Rattle.hurd_lessons.specs.Seen.{empty_text, modes_text, places_text, uid_text}
+use Rattle.hurd_lessons.specs.Values.{bytes_change, kind_part, mode_part, number_part, part_if, parted, path_or_none, server_or_none, turned_part, with_part, words_or_none}
+use Rattle.hurd_lessons.specs.declared.changes.Became.{Became}
+use Rattle.hurd_lessons.specs.declared.changes.Became.TheVariants as became
+use Rattle.hurd_lessons.specs.declared.changes.Change.{Change}
+
+-- one part more by its word, or what is said where it changed, unless it is as it was
+abbrev pub noted : List ℕ → List ℕ → List ℕ → Became → List ℕ
+noted words word changed became.Same = words
+noted words word changed became.New = parted words ++ word
+noted words word changed became.Changed = changed
+noted words word changed became.Lost = parted words ++ (word ++ codes " no longer seen")
+
+-- what `io_stat` tells of a node, before and after
+abbrev pub changed_attrs : List ℕ → Option Attrs → Option Attrs → List ℕ
+changed_attrs words (Some p) (Some q) =
+    with_part (with_part (with_part (with_part (with_part (with_part (with_part (with_part words
+    (kind_part p.kind q.kind))
+    (number_part (codes "owner") p.owner q.owner))
+    (number_part (codes "group") p.group q.group))
+    (mode_part p.mode.0 q.mode.0))
+    (number_part (codes "links") p.links q.links))
+    (number_part (codes "size") p.size q.size))
+    (number_part (codes "readers") p.readers q.readers))
+    (number_part (codes "writers") p.writers q.writers)
+changed_attrs words None None = words
+changed_attrs words _ None = parted words ++ codes "gone"
+changed_attrs words None _ = parted words ++ codes "attributes"
+
+-- the parent of a directory that is an entry
+abbrev pub parent_at : Option Attrs → Option Name
+parent_at None = None
+parent_at (Some p) = p.parent
+
+-- a node beside what is in it
+abbrev pub changed_node : View → View → List ℕ → Option NodeRow → Option NodeRow → List ℕ
+changed_node a b words (Some x) (Some y) =
+    with_part (with_part (with_part (with_part (changed_attrs words x.attrs y.attrs)
+    (turned_part (codes "parent") (path_or_none a (parent_at x.attrs)) (path_or_none b (parent_at y.attrs))))
+    (turned_part (codes "passive") (words_or_none x.words) (words_or_none y.words)))
+    (turned_part (codes "served by") (server_or_none a x.home) (server_or_none b y.home)))
+    (turned_part (codes "active") (server_or_none a x.active) (server_or_none b y.active))
+changed_node a b words _ _ = words
+
+-- entries are the same, by name and node
+abbrev pub same_entry : EntryRow → EntryRow → Bool
+same_entry e f = if same_name e.node f.node then bytes_eq e.name f.name else false
+
+-- the next of the new entries is this one
+abbrev pub comes_next : EntryRow → List EntryRow → Bool
+comes_next e [] = false
+comes_next e (f ∷ new) = same_entry e f
+
+-- the new entries without it, if it comes next
+abbrev pub passed : EntryRow → List EntryRow → List EntryRow
+passed e new = if comes_next e new then drop 1 new else new
+
+-- the entries that are no longer there: those that don't come next when all before them are passed
+abbrev pub entries_gone : List EntryRow → List EntryRow → List EntryRow
+entries_gone [] new = []
+entries_gone (e ∷ old) new = (if comes_next e new then [] else e ∷ []) ++ entries_gone old (passed e new)
+
+-- and those that are new: what is left of the new ones behind all that are passed
+abbrev pub entries_new : List EntryRow → List EntryRow → List EntryRow
+entries_new [] new = new
+entries_new (e ∷ old) new = entries_new old (passed e new)
+
+-- names, each behind a sign
+abbrev pub signed_names : List ℕ → List EntryRow → List ℕ
+signed_names sign [] = []
+signed_names sign (e ∷ es) = (sign ++ spelled_name e.name) ++ signed_names sign es
+
+-- what is in a node
+abbrev pub changed_body : BodyRow → BodyRow → List ℕ
+changed_body (body.Entries old) (body.Entries new) = codes "entries" ++ (signed_names (codes " + ") (entries_new old new) ++ signed_names (codes " - ") (entries_gone old new))
+changed_body (body.Bytes old) (body.Bytes new) = bytes_change old new
+changed_body _ (body.Entries new) = codes "entries"
+changed_body _ (body.Bytes new) = codes "bytes"
+
+abbrev pub body_change : Option (Option BodyRow) → Option (Option BodyRow) → List ℕ
+body_change (Some (Some x)) (Some (Some y)) = changed_body x y
+body_change _ _ = codes "body"
+
+-- whether a directory has no entries: what it says now
+abbrev pub empty_change : Option (Option Bool) → List ℕ
+empty_change (Some (Some e)) = empty_text e
+empty_change _ = codes "emptiness"
+
+-- modes, each behind a space, or that there are none
+abbrev pub modes_or_none : List ℕ → List ℕ
+modes_or_none [] = codes " (none)"
+modes_or_none (b ∷ bs) = b ∷ bs
+
+-- modes before and after, unless both are told in one way
+abbrev pub modes_part : List ℕ → List ℕ → Option (List ℕ)
+modes_part old new = part_if (not (bytes_eq old new)) (codes "modes" ++ (modes_or_none old ++ (codes " ->" ++ modes_or_none new)))
+
+-- an open
+abbrev pub changed_opened : List ℕ → Option Opened → Option Opened → List ℕ
+changed_opened words (Some p) (Some q) =
+    with_part (with_part words (number_part (codes "cursor") p.cursor q.cursor)) (modes_part (modes_text p.modes) (modes_text q.modes))
+changed_opened words None None = words
+changed_opened words _ None = parted words ++ codes "gone"
+changed_opened words None _ = parted words ++ codes "open"
+
+abbrev pub changed_open : List ℕ → Option OpenRow → Option OpenRow → List ℕ
+changed_open words (Some x) (Some y) = with_part (changed_opened words x.opened y.opened) (number_part (codes "held") x.holders y.holders)
+changed_open words _ _ = words
+
+-- a server
+abbrev pub changed_server : View → View → List ℕ → Option ServerRow → Option ServerRow → List ℕ
+changed_server a b words (Some x) (Some y) =
+    with_part (with_part (with_part (with_part words
+    (turned_part (codes "options") (words_or_none x.options) (words_or_none y.options)))
+    (turned_part (codes "targets") (places_text a x.targets) (places_text b y.targets)))
+    (turned_part (codes "root") (path_or_none a (Some x.root)) (path_or_none b (Some y.root))))
+    (turned_part (codes "runs as") (uid_text x.ids) (uid_text y.ids))
+changed_server a b words None None = words
+changed_server a b words _ None = parted words ++ codes "gone"
+changed_server a b words None _ = parted words ++ codes "options"
+
+abbrev pub server_change : View → View → List ℕ → Option (Option ServerRow) → Option (Option ServerRow) → List ℕ
+server_change a b words (Some x) (Some y) = changed_server a b words x y
+server_change a b words _ _ = words
+
+-- how many rights there are on a server's nodes
+abbrev pub users_change : List ℕ → Option ℕ → Option ℕ → List ℕ
+users_change words (Some m) (Some n) = with_part words (number_part (codes "users") m n)
+users_change words _ _ = words

@@ -1,0 +1,147 @@
+-- Where something is may stand in a part of a sentence.
+use Rattle.std.proofs.Common.{◌≡◌, refl, ℕ, ◌==◌, Bool, true, false, List, [], ◌∷◌, ◌++◌, Option, Some, None, codes, decimal, is_some, if◌then◌else◌}
+use Rattle.hurd_creds.specs.declared.name.Name.{Name}
+use Rattle.hurd_creds.specs.declared.name.TaskId.{TaskId}
+use Rattle.hurd_lines.specs.Lines.{spaced, text_if}
+use Rattle.hurd_ports.specs.Tables.{Task}
+use Rattle.hurd_ports.specs.declared.table.Port.{Port}
+use Rattle.hurd_sentences.specs.Spelling.{spelled_name}
+use Rattle.hurd_sentences.proofs.ClauseLaws.{both_fit, fits, word_fits}
+use Rattle.hurd_sentences.proofs.WordLaws.{decimal_is_word, spelled_is_word}
+use Rattle.hurd_sight.specs.Found.{why_of}
+use Rattle.hurd_sight.specs.declared.found.Why.{Why}
+use Rattle.hurd_sight.specs.declared.found.Why.TheVariants as why
+use Rattle.hurd_views.specs.Views.{row_at}
+use Rattle.hurd_views.specs.declared.rows.Row.{Row}
+use Rattle.hurd_views.specs.declared.view.View.{View}
+use Rattle.hurd_places.specs.Places.{beneath, beside, beside_port, beside_ports, beside_task, beside_tasks, count_to, holder_word, is_covered, is_held, label_in, label_of, label_or, label_text, level_along, marked, name_in, name_text, names_tasks, node_path, node_place, numbered, open_place, or_root, path_along, place_by, server_at, server_node, server_path, step_by, target_at, way_of}
+use Rattle.hurd_places.specs.declared.labels.Holder.{Holder}
+use Rattle.hurd_places.specs.declared.labels.Holder.TheVariants as holder
+use Rattle.hurd_places.specs.declared.labels.Label.{Label}
+use Rattle.hurd_places.specs.declared.labels.Wanted.TheVariants as wanted
+
+-- pieces
+
+spaced_fits : (k : ℕ) → fits (spaced k) ≡ true
+spaced_fits k = both_fit (codes " ") (decimal k) refl (word_fits (decimal k) (decimal_is_word k))
+
+if_fits : (b : Bool) (text : List ℕ) → fits text ≡ true → fits (text_if b text) ≡ true
+if_fits true text fit = fit
+if_fits false text fit = refl
+
+name_fits : (name : List ℕ) → fits (name_text name) ≡ true
+name_fits [] = refl
+name_fits (b ∷ bs) = word_fits (spelled_name (b ∷ bs)) (spelled_is_word true (b ∷ bs))
+
+numbered_fits : (word : List ℕ) (k : ℕ) → fits word ≡ true → fits (numbered word k) ≡ true
+numbered_fits word k fit =
+    both_fit (codes "(") (word ++ (spaced k ++ codes ")")) refl (both_fit word (spaced k ++ codes ")") fit (both_fit (spaced k) (codes ")") (spaced_fits k) refl))
+
+root_fits : (path : List ℕ) → fits path ≡ true → fits (or_root path) ≡ true
+root_fits [] fit = refl
+root_fits (b ∷ bs) fit = fit
+
+-- labels
+
+holder_fits : (h : Holder) → fits (holder_word h) ≡ true
+holder_fits holder.Port = refl
+holder_fits holder.Inbox = refl
+
+label_fits : (many : Bool) (l : Label) → fits (label_text many l) ≡ true
+label_fits many l =
+    both_fit (text_if many (codes "task" ++ (spaced l.task.0 ++ codes " "))) (holder_word l.holder ++ spaced l.number)
+    (if_fits many (codes "task" ++ (spaced l.task.0 ++ codes " ")) (both_fit (codes "task") (spaced l.task.0 ++ codes " ") refl (both_fit (spaced l.task.0) (codes " ") (spaced_fits l.task.0) refl)))
+    (both_fit (holder_word l.holder) (spaced l.number) (holder_fits l.holder) (spaced_fits l.number))
+
+label_or_fits : (many : Bool) (word : List ℕ) (l : Option Label) → fits word ≡ true → fits (label_or many word l) ≡ true
+label_or_fits many word None fit = fit
+label_or_fits many word (Some l) fit = label_fits many l
+
+port_fits : (many : Bool) (t : TaskId) (n : Name) (p : Port) → fits (beside_port many t n p) ≡ true
+port_fits many t n p =
+    if_fits _ (codes " (" ++ (label_text many (label_in t holder.Port p.number) ++ codes ")"))
+    (both_fit (codes " (") (label_text many (label_in t holder.Port p.number) ++ codes ")") refl
+    (both_fit (label_text many (label_in t holder.Port p.number)) (codes ")") (label_fits many (label_in t holder.Port p.number)) refl))
+
+ports_fit : (many : Bool) (t : TaskId) (n : Name) (ps : List Port) → fits (beside_ports many t n ps) ≡ true
+ports_fit many t n [] = refl
+ports_fit many t n (p ∷ ps) = both_fit (beside_port many t n p) (beside_ports many t n ps) (port_fits many t n p) (ports_fit many t n ps)
+
+task_fits : (many : Bool) (t : TaskId) (n : Name) (x : Option Task) → fits (beside_task many t n x) ≡ true
+task_fits many t n None = refl
+task_fits many t n (Some x) = ports_fit many t n x.ports
+
+tasks_fit : (many : Bool) (n : Name) (ts : List TaskId) (xs : List (Option Task)) → fits (beside_tasks many n ts xs) ≡ true
+tasks_fit many n [] xs = refl
+tasks_fit many n (t ∷ ts) [] = refl
+tasks_fit many n (t ∷ ts) (x ∷ xs) = both_fit (beside_task many t n x) (beside_tasks many n ts xs) (task_fits many t n x) (tasks_fit many n ts xs)
+
+beside_fits : (v : View) (n : Name) → fits (beside v n) ≡ true
+beside_fits v n = go (is_held (why_of n v.sight.found))
+  where
+    go : (t : Bool) → fits (if t then [] else beside_tasks (names_tasks v) n v.sight.tasks.items v.seats.items) ≡ true
+    go true = refl
+    go false = tasks_fit (names_tasks v) n v.sight.tasks.items v.seats.items
+
+-- paths
+
+beneath_fits : (k : ℕ) → fits (beneath k) ≡ true
+beneath_fits k = go (k == 0)
+  where
+    go : (t : Bool) → fits (if t then codes "(beneath)" else numbered (codes "beneath") k) ≡ true
+    go true = refl
+    go false = numbered_fits (codes "beneath") k refl
+
+marked_fits : (covered : Bool) (path : List ℕ) (k : ℕ) → fits path ≡ true → fits (marked covered path k) ≡ true
+marked_fits false path k fit = fit
+marked_fits true path k fit = both_fit (or_root path) (beneath k) (root_fits path fit) (beneath_fits k)
+
+step_fits : (v : View) (n : Name) (path : List ℕ) (k : ℕ) (y : Option Why) → fits path ≡ true → fits (step_by v n path k y) ≡ true
+step_fits v n path k None fit = refl
+step_fits v n path k (Some why.Root) fit = refl
+step_fits v n path k (Some why.Held) fit =
+    both_fit (codes "(") (label_or (names_tasks v) (codes "held") (label_of v (wanted.Node n)) ++ codes ")") refl
+    (both_fit (label_or (names_tasks v) (codes "held") (label_of v (wanted.Node n))) (codes ")") (label_or_fits (names_tasks v) (codes "held") (label_of v (wanted.Node n)) refl) refl)
+step_fits v n path k (Some why.Way) fit = numbered_fits (codes "way") (count_to why.Way n v.sight.found) refl
+step_fits v n path k (Some why.Controlled) fit = numbered_fits (codes "controlled") (count_to why.Controlled n v.sight.found) refl
+step_fits v n path k (Some why.Pending) fit = numbered_fits (codes "pending") (count_to why.Pending n v.sight.found) refl
+step_fits v n path k (Some (why.Child d)) fit =
+    both_fit (marked (is_covered v d) path k) (47 ∷ name_text (name_in (row_at v.rows d).body n)) (marked_fits (is_covered v d) path k fit)
+    (both_fit (codes "/") (name_text (name_in (row_at v.rows d).body n)) refl (name_fits (name_in (row_at v.rows d).body n)))
+step_fits v n path k (Some (why.Active m)) fit = fit
+step_fits v n path k (Some (why.Parent d)) fit = both_fit (marked (is_covered v d) path k) (codes "(parent)") (marked_fits (is_covered v d) path k fit) refl
+step_fits v n path k (Some (why.ServerRoot m)) fit = both_fit (marked (is_covered v m) path k) (codes "(root)") (marked_fits (is_covered v m) path k fit) refl
+step_fits v n path k (Some (why.Target m)) fit =
+    both_fit (marked (is_covered v m) path k) (numbered (codes "target") (target_at v m n)) (marked_fits (is_covered v m) path k fit) (numbered_fits (codes "target") (target_at v m n) refl)
+
+along_fits : (v : View) (ns : List Name) → fits (path_along v ns) ≡ true
+along_fits v [] = refl
+along_fits v (n ∷ ns) = step_fits v n (path_along v ns) (level_along v ns) (why_of n v.sight.found) (along_fits v ns)
+
+-- the path of a node, and of a server
+
+pub node_path_fits : (v : View) (n : Name) → fits (node_path v n) ≡ true
+node_path_fits v n = root_fits (marked (is_covered v n) (path_along v (way_of v n)) (level_along v (way_of v n))) (marked_fits (is_covered v n) (path_along v (way_of v n)) (level_along v (way_of v n)) (along_fits v (way_of v n)))
+
+server_at_fits : (v : View) (n : Option Name) → fits (server_at v n) ≡ true
+server_at_fits v None = refl
+server_at_fits v (Some n) = both_fit (node_path v n) (codes " (server)") (node_path_fits v n) refl
+
+pub server_path_fits : (v : View) (s : Name) → fits (server_path v s) ≡ true
+server_path_fits v s = server_at_fits v (server_node v s)
+
+-- and where anything is
+
+pub node_place_fits : (v : View) (n : Name) → fits (node_place v n) ≡ true
+node_place_fits v n = both_fit (node_path v n) (beside v n) (node_path_fits v n) (beside_fits v n)
+
+pub open_place_fits : (v : View) (o : Name) → fits (open_place v o) ≡ true
+open_place_fits v o = label_or_fits (names_tasks v) (codes "(open)") (label_of v (wanted.Open o)) refl
+
+pub place_fits : (v : View) (n : Name) (r : Row) → fits (place_by v n r) ≡ true
+place_fits v n r = go (is_some r.attributes) (is_some r.opened)
+  where
+    go : (a o : Bool) → fits (if a then node_place v n else if o then open_place v n else server_path v n) ≡ true
+    go true o = node_place_fits v n
+    go false true = open_place_fits v n
+    go false false = server_path_fits v n

@@ -1,0 +1,14 @@
+pub mod PlaceLaws
+pub mod FitLaws
+pub mod CutLaws
+pub mod StepLaws
+pub mod ApartLaws
+pub mod FoundWays
+pub mod SeenFacts
+pub mod TargetLaws
+pub mod LabelLaws
+pub mod BesideLaws
+pub mod PathsDiffer
+pub mod ServersDiffer
+pub mod KindLaws
+pub mod AllDiffer

@@ -1,0 +1,4 @@
+pub mod Spelling
+pub mod Marks
+pub mod Sentences
+pub mod Turns

@@ -1,0 +1,21 @@
+-- What is said behind calls is sentences.
+use Rattle.std.proofs.Common.{◌≡◌, ◌∙◌, refl, sym, subst, ℕ, ◌+◌, List, [], ◌∷◌, ◌++◌}
+use Rattle.hurd_creds.specs.declared.name.TaskId.{TaskId}
+use Rattle.hurd_machine.specs.World.{World}
+use Rattle.hurd_lists.specs.Lists.{Listed}
+use Rattle.hurd_making.specs.Making.{after_call}
+use Rattle.hurd_lessons.specs.Told.{Said}
+use Rattle.hurd_teaching.specs.Learners.{Speech, is_quiet, see_of, verb_of}
+use Rattle.hurd_teaching.specs.Looks.{is_due}
+use Rattle.hurd_teaching.specs.Reading.{AreSentences}
+use Rattle.hurd_teaching.proofs.SayingLaws.{lesson_said, shows_said}
+use Rattle.hurd_tasks_learn.specs.Lessons.{LessonsAreSentences}
+
+pub lessons_are_sentences : LessonsAreSentences
+lessons_are_sentences tasks names who made [] w said learns sees none = subst (AreSentences tasks names) (sym none) tt
+lessons_are_sentences tasks names who made (c ∷ cs) w said learns sees (text, shown, more, is, lesson, shows, rest) =
+    subst (AreSentences tasks names) (sym is) (
+      lesson_said tasks who.learns (names ++ verb_of tasks) (is_quiet tasks who.from made c.task.0) w (after_call c w) text learns lesson,
+      shows_said tasks who.sees (names ++ see_of tasks) (is_due who.looks (made + 1)) (after_call c w) shown sees shows,
+      lessons_are_sentences tasks names who (made + 1) cs (after_call c w) more learns sees rest,
+    )

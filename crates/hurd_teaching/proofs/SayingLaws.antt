@@ -1,0 +1,18 @@
+-- What is said behind what was done, and what is shown then, is sentences.
+use Rattle.std.proofs.Common.{◌≡◌, refl, sym, subst, ℕ, List, [], ◌++◌, Bool, true, false}
+use Rattle.hurd_creds.specs.declared.name.TaskId.{TaskId}
+use Rattle.hurd_machine.specs.World.{World}
+use Rattle.hurd_sentences.specs.Sentences.{InSentences}
+use Rattle.hurd_sentences.proofs.ClauseLaws.{no_sentences}
+use Rattle.hurd_lessons.specs.Told.{Lesson}
+use Rattle.hurd_lessons.proofs.InSentences.{seen_in_sentences, taught_in_sentences}
+use Rattle.hurd_teaching.specs.Telling.{Shows}
+
+pub lesson_said : (tasks : List TaskId) (learns said_of : List ℕ) (quiet : Bool) (w x : World) (text : List ℕ) → learns ≡ said_of → Lesson tasks learns quiet w x text → InSentences said_of text
+lesson_said tasks learns said_of true w x text same lesson = subst (InSentences said_of) (sym (lesson.none refl)) (no_sentences said_of)
+lesson_said tasks learns said_of false w x text same lesson =
+    let it = lesson.some refl in subst (λ (who : List ℕ). InSentences who text) same (taught_in_sentences learns it.0 it.1 text it.4)
+
+pub shows_said : (tasks : List TaskId) (sees said_of : List ℕ) (asked : Bool) (x : World) (shown : List ℕ) → sees ≡ said_of → Shows tasks sees asked x shown → InSentences said_of shown
+shows_said tasks sees said_of true x shown same it = subst (λ (who : List ℕ). InSentences who shown) same (subst (InSentences sees) (sym it.2) (seen_in_sentences sees it.0))
+shows_said tasks sees said_of false x shown same it = subst (InSentences said_of) (sym it) (no_sentences said_of)
