@@ -14,6 +14,7 @@ use Rattle.hurd_watch.specs.Watched.{LearnedSince, Learns, SeenOf, SeesOr}
 use Rattle.hurd_lessons.specs.declared.tally.Tally.{Tally}
 use Rattle.hurd_teaching.specs.Telling.{SaysOf}
 use Rattle.hurd_teaching.specs.Learners.{Speech, is_quiet}
+use Rattle.hurd_teaching.proofs.SayingLaws.{counts_loud}
 use Rattle.hurd_learns.specs.Steps.{Asks, Looked, Makes, is_next_quiet}
 
 -- what is kept of what is seen was seen in w, the world behind the last command. Where nothing is kept, a command of which something may be said
@@ -29,11 +30,6 @@ loud_next tasks from made (Some t) other = (t, refl, other)
 
 quiet_next : (tasks : List TaskId) (from made : ℕ) (next : Option ℕ) (quiet : Bool) (t : ℕ) → quiet ≡ is_next_quiet tasks from made next → next ≡ Some t → quiet ≡ is_quiet tasks from made t
 quiet_next tasks from made next quiet t is at = is ∙ ap (is_next_quiet tasks from made) at
-
--- what counts is what is not quiet
-counts_loud : {X : Type 0} (b : Bool) (x y : X) → (if b then x else y) ≡ (if not b then y else x)
-counts_loud true x y = refl
-counts_loud false x y = refl
 
 module _ {S : Type 0} (f : S → Meaning) (tasks : List TaskId) (from : ℕ) (s : View S) where
   -- what is kept was seen in the world behind the last command

@@ -1,7 +1,7 @@
 //! Runs a script of several users' commands over a tree in memory, and says what some of them learn from the commands of the others.
 //!
-//! `hurd_learns USER[,USER..] < script` prints a paragraph for each command of the script. First come the command and each line of its
-//! output, behind `| `. Behind a command of anybody else follows a line for each thing of which these users see something else than before.
+//! `hurd_learns USER[,USER..] < script` prints a paragraph for each command of the script. First comes the command, then each line of its
+//! output behind `| `. Behind a command of anybody else follows a line for each thing of which these users see something else than before.
 //! Where there is none, the command taught them nothing. Where a line `# see` stands behind a command, all that they see follows. An empty
 //! line ends the paragraph. Of commands before a line `# from here` nothing is said, and they do not count. The last line says how many
 //! commands of others taught them something.

@@ -1,6 +1,5 @@
 -- What became of the parts that are seen under a name, in words.
-use Rattle.std.specs.Prelude.{ℕ, ◌==◌, Bool, true, false, not, List, [], ◌∷◌, ◌++◌, Option, Some, None, if◌then◌else◌, bytes_eq, codes, drop}
-use Rattle.hurd_creds.specs.Access.{IdSets, least_uid}
+use Rattle.std.specs.Prelude.{ℕ, Bool, false, not, List, [], ◌∷◌, ◌++◌, Option, Some, None, if◌then◌else◌, bytes_eq, codes, drop}
 use Rattle.hurd_creds.specs.Names.{same_name}
 use Rattle.hurd_creds.specs.declared.attrs.Attrs.{Attrs}
 use Rattle.hurd_creds.specs.declared.name.Name.{Name}
@@ -11,15 +10,12 @@ use Rattle.hurd_views.specs.declared.rows.BodyRow.TheVariants as body
 use Rattle.hurd_views.specs.declared.rows.EntryRow.{EntryRow}
 use Rattle.hurd_views.specs.declared.rows.NodeRow.{NodeRow}
 use Rattle.hurd_views.specs.declared.rows.OpenRow.{OpenRow}
-use Rattle.hurd_views.specs.declared.rows.Row.{Row}
 use Rattle.hurd_views.specs.declared.rows.ServerRow.{ServerRow}
 use Rattle.hurd_views.specs.declared.view.View.{View}
-use Rattle.hurd_lessons.specs.Changes.{shows}
 use Rattle.hurd_lessons.specs.Seen.{empty_text, modes_text, places_text, uid_text}
 use Rattle.hurd_lessons.specs.Values.{bytes_change, kind_part, mode_part, number_part, part_if, parted, path_or_none, server_or_none, turned_part, with_part, words_or_none}
 use Rattle.hurd_lessons.specs.declared.changes.Became.{Became}
 use Rattle.hurd_lessons.specs.declared.changes.Became.TheVariants as became
-use Rattle.hurd_lessons.specs.declared.changes.Change.{Change}
 
 -- one part more by its word, or what is said where it changed, unless it is as it was
 abbrev pub noted : List ℕ → List ℕ → List ℕ → Became → List ℕ
@@ -94,6 +90,7 @@ changed_body (body.Bytes old) (body.Bytes new) = bytes_change old new
 changed_body _ (body.Entries new) = codes "entries"
 changed_body _ (body.Bytes new) = codes "bytes"
 
+-- the same of a body that may be seen
 abbrev pub body_change : Option (Option BodyRow) → Option (Option BodyRow) → List ℕ
 body_change (Some (Some x)) (Some (Some y)) = changed_body x y
 body_change _ _ = codes "body"
@@ -112,7 +109,7 @@ modes_or_none (b ∷ bs) = b ∷ bs
 abbrev pub modes_part : List ℕ → List ℕ → Option (List ℕ)
 modes_part old new = part_if (not (bytes_eq old new)) (codes "modes" ++ (modes_or_none old ++ (codes " ->" ++ modes_or_none new)))
 
--- an open
+-- an open that may be there
 abbrev pub changed_opened : List ℕ → Option Opened → Option Opened → List ℕ
 changed_opened words (Some p) (Some q) =
     with_part (with_part words (number_part (codes "cursor") p.cursor q.cursor)) (modes_part (modes_text p.modes) (modes_text q.modes))
@@ -120,11 +117,12 @@ changed_opened words None None = words
 changed_opened words _ None = parted words ++ codes "gone"
 changed_opened words None _ = parted words ++ codes "open"
 
+-- and how many rights hold it
 abbrev pub changed_open : List ℕ → Option OpenRow → Option OpenRow → List ℕ
 changed_open words (Some x) (Some y) = with_part (changed_opened words x.opened y.opened) (number_part (codes "held") x.holders y.holders)
 changed_open words _ _ = words
 
--- a server
+-- a server that may be there
 abbrev pub changed_server : View → View → List ℕ → Option ServerRow → Option ServerRow → List ℕ
 changed_server a b words (Some x) (Some y) =
     with_part (with_part (with_part (with_part words
@@ -136,6 +134,7 @@ changed_server a b words None None = words
 changed_server a b words _ None = parted words ++ codes "gone"
 changed_server a b words None _ = parted words ++ codes "options"
 
+-- the same of a server that may be seen
 abbrev pub server_change : View → View → List ℕ → Option (Option ServerRow) → Option (Option ServerRow) → List ℕ
 server_change a b words (Some x) (Some y) = changed_server a b words x y
 server_change a b words _ _ = words

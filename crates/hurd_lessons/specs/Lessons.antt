@@ -1,5 +1,5 @@
 -- What a set of tasks learns between two looks, a line for each thing.
-use Rattle.std.specs.Prelude.{◌≡◌, ◌↔◌, ◌⊎◌, ℕ, Bool, true, false, List, [], ◌∷◌, ◌++◌, map, Option, Some, if◌then◌else◌, bytes_eq, codes}
+use Rattle.std.specs.Prelude.{◌≡◌, ◌↔◌, ◌⊎◌, ℕ, Bool, true, false, List, [], ◌∷◌, ◌++◌, Option, Some, if◌then◌else◌, bytes_eq, codes}
 use Rattle.hurd_creds.specs.declared.name.Name.{Name}
 use Rattle.hurd_views.specs.Views.{SameRows, has_row, row_at}
 use Rattle.hurd_views.specs.declared.rows.BodyRow.{BodyRow}

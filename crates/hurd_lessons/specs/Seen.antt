@@ -43,14 +43,16 @@ abbrev pub attributes_text : Option Attrs → List (List ℕ) → List ℕ
 attributes_text None words = codes "gone"
 attributes_text (Some a) words = stat_words (stat_of a) ++ passive_text words
 
+-- the same of a node
 abbrev pub node_text : NodeRow → List ℕ
 node_text r = attributes_text r.attrs r.words
 
--- the server of a node, and the one that is active on it
+-- a server by a word, if there is one
 abbrev pub server_named : List ℕ → View → Option Name → Option (List ℕ)
 server_named word v None = None
 server_named word v (Some s) = Some (word ++ server_path v s)
 
+-- the server of a node, and the one that is active on it, where the node is seen
 abbrev pub home_part : View → Option NodeRow → Option (List ℕ)
 home_part v None = None
 home_part v (Some r) = server_named (codes "served by ") v r.home
@@ -63,6 +65,7 @@ active_part v (Some r) = server_named (codes "active ") v r.active
 abbrev pub counts_text : Attrs → List ℕ
 counts_text a = codes "readers" ++ (spaced a.readers ++ (codes " writers" ++ spaced a.writers))
 
+-- the same of a node that may be there: only pipes have it
 abbrev pub counts_of : Option Attrs → Option (List ℕ)
 counts_of None = None
 counts_of (Some a) = part_if (kind_letter a.kind == 112) (counts_text a)
@@ -110,6 +113,7 @@ abbrev pub program_in : Name → Option (Option ServerRow) → List ℕ
 program_in n (Some (Some s)) = if same_name n s.root then first_word s.options else []
 program_in n _ = []
 
+-- the same of a node's server, if it has one
 abbrev pub program_by : View → Name → Option Name → List ℕ
 program_by v n None = []
 program_by v n (Some s) = program_in n (row_at v.rows s).server
@@ -175,6 +179,7 @@ abbrev pub opened_by_rights : Name → List Right → Option Name
 opened_by_rights o [] = None
 opened_by_rights o (r ∷ rs) = option_or (opened_by o r) (opened_by_rights o rs)
 
+-- of a task: its ports come first, then the rights that it was sent
 abbrev pub opened_by_task : Name → Option Task → Option Name
 opened_by_task o None = None
 opened_by_task o (Some x) = option_or (opened_by_ports o x.ports) (opened_by_rights o x.inbox)
@@ -193,6 +198,7 @@ abbrev pub opened_text : Option Opened → List ℕ
 opened_text None = codes "gone"
 opened_text (Some o) = codes "cursor" ++ (spaced o.cursor ++ modes_text o.modes)
 
+-- the same of an open that is seen
 abbrev pub cursor_text : OpenRow → List ℕ
 cursor_text r = opened_text r.opened
 
@@ -210,15 +216,17 @@ abbrev pub places_text : View → List Name → List ℕ
 places_text v [] = codes "(none)"
 places_text v (n ∷ ns) = node_path v n ++ node_places v ns
 
+-- what a server aims at, if it aims at any
 abbrev pub targets_part : View → List Name → Option (List ℕ)
 targets_part v [] = None
 targets_part v (n ∷ ns) = Some (codes "targets " ++ places_text v (n ∷ ns))
 
--- the uid of a server: the least, if it has any
+-- a uid, or that there is none
 abbrev pub uid_or_none : Option ℕ → List ℕ
 uid_or_none None = codes "(nobody)"
 uid_or_none (Some u) = decimal u
 
+-- the uid that is told of some ids: the least
 abbrev pub uid_text : IdSets → List ℕ
 uid_text ids = uid_or_none (least_uid ids)
 
@@ -292,6 +300,7 @@ task_text v x =
     (Some (codes "made" ++ spaced x.made)))
     (option_map (start_text v) x.pending)
 
+-- the same of a task that may be there
 abbrev pub seat_text : View → Option Task → List ℕ
 seat_text v None = codes "gone"
 seat_text v (Some x) = task_text v x

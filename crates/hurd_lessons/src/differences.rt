@@ -4,7 +4,7 @@ ghost use Rattle.hurd_lessons.specs.Differences.{body_change, changed_attrs, cha
 ghost use Rattle.hurd_sentences.specs.Spelling.{spelled_name};
 ghost use Rattle.hurd_lessons.specs.Seen.{places_text, uid_text};
 ghost use Rattle.hurd_lessons.specs.Lessons.{body_word, emptiness, is_listing, or_changed, parts_of, said_of};
-ghost use Rattle.hurd_lessons.specs.Values.{path_or_none, server_or_none, turned_part, with_part};
+ghost use Rattle.hurd_lessons.specs.Values.{turned_part, with_part};
 
 use crate::changes::{Became, Change, shows};
 use crate::seen_parts::{empty_text, modes_of, places_of, uid_of};

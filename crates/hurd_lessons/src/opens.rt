@@ -1,6 +1,5 @@
 //! The node of an open, by the rights that have it.
 ghost use Rattle.std.specs.Prelude.{◌≡◌};
-ghost use Rattle.hurd_ports.specs.Seats.{seat_task};
 ghost use Rattle.hurd_lessons.specs.Seen.{opened_by, opened_by_ports, opened_by_rights, opened_by_task, opened_by_tasks};
 
 use hurd_creds::{Name, NodeName};

@@ -7,7 +7,7 @@ use Rattle.hurd_sight.specs.declared.found.Why.{Why}
 use Rattle.hurd_sight.specs.declared.found.Why.TheVariants as why
 use Rattle.hurd_views.specs.Views.{row_at}
 use Rattle.hurd_views.specs.declared.view.View.{View}
-use Rattle.hurd_places.specs.Places.{beneath, is_covered, level_along, level_by, marked, name_in, or_root, path_along, step_by}
+use Rattle.hurd_places.specs.Places.{beneath, is_covered, level_along, level_by, covered_path, name_in, or_root, path_along, step_by}
 use Rattle.hurd_sentences.proofs.Bytes.{first_same}
 use Rattle.hurd_places.proofs.PlaceLaws.{level_most}
 use Rattle.hurd_places.proofs.StepLaws.{Alike, BothChild, BothControlled, BothHeld, BothParent, BothPending, BothServerRoot, BothTarget, BothWay, IsLast, OfActive, OfRoot, OfStem, Sort, alike, beneath_kind, beneath_last, beneath_once, child_once, cut_same, front, is_last, is_stem, kind, kind_small, last, last_kind, not_slash, sort, split, stem_level, tag}
@@ -37,7 +37,7 @@ pub record Apart (v : View) (ok : Why → Bool) : Type 0 where
 
 -- the path that goes on from a node
 abbrev pub full : View → Name → List Name → List ℕ
-full v n ns = marked (is_covered v n) (path_along v (n ∷ ns)) (level_along v (n ∷ ns))
+full v n ns = covered_path (is_covered v n) (path_along v (n ∷ ns)) (level_along v (n ∷ ns))
 
 -- a node's way, by why it was found
 pub record Found (v : View) (ok : Why → Bool) (n : Name) (ns : List Name) (y : Why) : Type 0 where
@@ -187,9 +187,9 @@ root_once (c ∷ p) (d ∷ q) a b is = is
 
 -- a mark is no other step
 
-marked_apart : (p q : List ℕ) (k : ℕ) → (q ≡ []) ⊎ Ends q → or_root p ++ beneath k ≡ q → ⊥
-marked_apart p q k (inl none) is = some_step (or_root p) (beneath k) (beneath_last k) (is ∙ none)
-marked_apart p q k (inr e) is =
+covered_apart : (p q : List ℕ) (k : ℕ) → (q ≡ []) ⊎ Ends q → or_root p ++ beneath k ≡ q → ⊥
+covered_apart p q k (inl none) is = some_step (or_root p) (beneath k) (beneath_last k) (is ∙ none)
+covered_apart p q k (inr e) is =
     let both = cut_same (or_root p) e.before (beneath k) e.step (beneath_last k) e.last (is ∙ e.is) in e.kind (sym (ap tag both.1) ∙ beneath_kind k)
 
 -- paths that go on from nodes
@@ -226,14 +226,14 @@ full_once v ok k n m ns ms apart short small shorter few way_n way_m is = go (is
         (omega arith) way_n (sym paths) (omega (arith, above, apart_levels))) ∙ bare_m))
 
     go : (s t : Bool) → is_covered v n ≡ s → is_covered v m ≡ t
-        → marked s (path_along v (n ∷ ns)) (level_along v (n ∷ ns)) ≡ marked t (path_along v (m ∷ ms)) (level_along v (m ∷ ms)) → n ≡ m
+        → covered_path s (path_along v (n ∷ ns)) (level_along v (n ∷ ns)) ≡ covered_path t (path_along v (m ∷ ms)) (level_along v (m ∷ ms)) → n ≡ m
     go true true p q same =
         let both = cut_same (or_root (path_along v (n ∷ ns))) (or_root (path_along v (m ∷ ms))) (beneath (level_along v (n ∷ ns))) (beneath (level_along v (m ∷ ms)))
         (beneath_last (level_along v (n ∷ ns))) (beneath_last (level_along v (m ∷ ms))) same in
         short n m ns ms shorter few way_n way_m (root_once (path_along v (n ∷ ns)) (path_along v (m ∷ ms)) (no_slash (path_along v (n ∷ ns)) ends_n) (no_slash (path_along v (m ∷ ms)) ends_m) both.0)
         (beneath_once (level_along v (n ∷ ns)) (level_along v (m ∷ ms)) few_n few_m both.1)
-    go true false p q same = absurd (marked_apart (path_along v (n ∷ ns)) (path_along v (m ∷ ms)) (level_along v (n ∷ ns)) ends_m same)
-    go false true p q same = absurd (marked_apart (path_along v (m ∷ ms)) (path_along v (n ∷ ns)) (level_along v (m ∷ ms)) ends_n (sym same))
+    go true false p q same = absurd (covered_apart (path_along v (n ∷ ns)) (path_along v (m ∷ ms)) (level_along v (n ∷ ns)) ends_m same)
+    go false true p q same = absurd (covered_apart (path_along v (m ∷ ms)) (path_along v (n ∷ ns)) (level_along v (m ∷ ms)) ends_n (sym same))
     go false false p q same =
         compared p q same (cases_Bool (level_along v (n ∷ ns) == level_along v (m ∷ ms))) (cases_Bool (nat_lt (level_along v (n ∷ ns)) (level_along v (m ∷ ms))))
 
@@ -259,13 +259,13 @@ stems_once v ok k n m ns ms y z apart short small shorter few f g stem_y stem_z 
 
     -- the nodes from which they were found
     same_from : (d e : Name) → ((ds : List Name) × (ns ≡ d ∷ ds) × IsWay v ok d ds) → ((es : List Name) × (ms ≡ e ∷ es) × IsWay v ok e es)
-        → marked (is_covered v d) (path_along v ns) (level_along v ns) ≡ marked (is_covered v e) (path_along v ms) (level_along v ms) → d ≡ e
+        → covered_path (is_covered v d) (path_along v ns) (level_along v ns) ≡ covered_path (is_covered v e) (path_along v ms) (level_along v ms) → d ≡ e
     same_from d e (ds, is_d, way_d) (es, is_e, way_e) same =
         let size_d = ap length is_d in
         let size_e = ap length is_e in
         full_once v ok k d e ds es apart short small (omega (arith, size_d, shorter)) (omega (arith, size_e, few)) way_d way_e
-        (ap (λ (xs : List Name). marked (is_covered v d) (path_along v xs) (level_along v xs)) (sym is_d)
-        ∙ (same ∙ ap (λ (xs : List Name). marked (is_covered v e) (path_along v xs) (level_along v xs)) is_e))
+        (ap (λ (xs : List Name). covered_path (is_covered v d) (path_along v xs) (level_along v xs)) (sym is_d)
+        ∙ (same ∙ ap (λ (xs : List Name). covered_path (is_covered v e) (path_along v xs) (level_along v xs)) is_e))
 
     go : (y z : Why) → Found v ok n ns y → Found v ok m ms z → front v n (path_along v ns) (level_along v ns) y ≡ front v m (path_along v ms) (level_along v ms) z → last v n y ≡ last v m z
         → Alike y z → n ≡ m
@@ -274,8 +274,8 @@ stems_once v ok k n m ns ms y z apart short small shorter few f g stem_y stem_z 
     go _ _ f g fronts lasts BothControlled = apart.controlled n m f.is_ok f.why g.why lasts
     go _ _ f g fronts lasts BothPending = apart.pending n m f.is_ok f.why g.why lasts
     go _ _ f g fronts lasts (BothChild d e) =
-        let once = child_once (name_in (row_at v.rows d).body n) (name_in (row_at v.rows e).body m) (marked (is_covered v d) (path_along v ns) (level_along v ns))
-        (marked (is_covered v e) (path_along v ms) (level_along v ms)) fronts lasts in
+        let once = child_once (name_in (row_at v.rows d).body n) (name_in (row_at v.rows e).body m) (covered_path (is_covered v d) (path_along v ns) (level_along v ns))
+        (covered_path (is_covered v e) (path_along v ms) (level_along v ms)) fronts lasts in
         let same = same_from d e (f.from d refl) (g.from e refl) once.0 in
         apart.child d n m f.why (subst (λ (x : Name). why_of m v.sight.found ≡ Some (why.Child x)) (sym same) g.why)
         (once.1 ∙ ap (λ (x : Name). name_in (row_at v.rows x).body m) (sym same))
@@ -333,7 +333,7 @@ ways_once v ok n m ns ms apart few_n few_m way_n way_m is =
     full_once v ok (2 ^ 63) n m ns ms apart (all_shorter v ok (2 ^ 63) apart (omega arith)) (omega arith) few_n few_m way_n way_m
     (root_once (full v n ns) (full v m ms) (no_full n ns way_n (is_covered v n)) (no_full m ms way_m (is_covered v m)) is)
   where
-    no_full : (x : Name) (xs : List Name) → IsWay v ok x xs → (t : Bool) → marked t (path_along v (x ∷ xs)) (level_along v (x ∷ xs)) ≡ 47 ∷ [] → ⊥
+    no_full : (x : Name) (xs : List Name) → IsWay v ok x xs → (t : Bool) → covered_path t (path_along v (x ∷ xs)) (level_along v (x ∷ xs)) ≡ 47 ∷ [] → ⊥
     no_full x xs way false same = no_slash (path_along v (x ∷ xs)) (ends v ok x xs way) same
     no_full x xs way true same =
         let alone = slash_alone (or_root (path_along v (x ∷ xs))) (beneath (level_along v (x ∷ xs))) (beneath_last (level_along v (x ∷ xs))) same in

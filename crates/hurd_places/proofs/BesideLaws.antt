@@ -15,7 +15,7 @@ use Rattle.hurd_sight.specs.declared.found.Why.{Why}
 use Rattle.hurd_sight.specs.declared.found.Why.TheVariants as why
 use Rattle.hurd_views.specs.Views.{row_at}
 use Rattle.hurd_views.specs.declared.view.View.{View}
-use Rattle.hurd_places.specs.Places.{beneath, beside, beside_port, beside_ports, beside_task, beside_tasks, count_to, is_covered, is_held, is_wanted, label_in, label_of, label_or, label_text, level_along, marked, name_in, names_tasks, node_path, node_place, numbered, or_root, path_along, step_by, target_at, way_of}
+use Rattle.hurd_places.specs.Places.{beneath, beside, beside_port, beside_ports, beside_task, beside_tasks, count_to, is_covered, is_held, is_wanted, label_in, label_of, label_or, label_text, level_along, covered_path, name_in, names_tasks, node_path, node_place, numbered, or_root, path_along, step_by, target_at, way_of}
 use Rattle.hurd_places.specs.declared.labels.Holder.TheVariants as holder
 use Rattle.hurd_places.specs.declared.labels.Wanted.TheVariants as wanted
 use Rattle.hurd_places.proofs.CutLaws.{is_inner, is_whole}
@@ -139,9 +139,9 @@ beneath_clean k = record { apart = last_apart (beneath k) (beneath_last k); clos
     go true = refl
     go false = numbered_closed (codes "beneath") k
 
-marked_clean : (t : Bool) (p : List ℕ) (k : ℕ) → Clean p → Clean (marked t p k)
-marked_clean false p k c = c
-marked_clean true p k c = clean_both (or_root p) (beneath k) (root_clean p c) (beneath_clean k)
+covered_clean : (t : Bool) (p : List ℕ) (k : ℕ) → Clean p → Clean (covered_path t p k)
+covered_clean false p k c = c
+covered_clean true p k c = clean_both (or_root p) (beneath k) (root_clean p c) (beneath_clean k)
 
 nothing : Clean []
 nothing = record { apart = refl; closed = refl }
@@ -155,12 +155,12 @@ front_clean v n path k why.Controlled c = nothing
 front_clean v n path k why.Pending c = nothing
 front_clean v n path k (why.Child d) c = go (name_in (row_at v.rows d).body n)
   where
-    go : (name : List ℕ) → Clean (child_front name (marked (is_covered v d) path k))
-    go [] = clean_both (marked (is_covered v d) path k) (47 ∷ []) (marked_clean (is_covered v d) path k c) (record { apart = refl; closed = refl })
-    go (b ∷ bs) = marked_clean (is_covered v d) path k c
-front_clean v n path k (why.Parent d) c = marked_clean (is_covered v d) path k c
-front_clean v n path k (why.ServerRoot d) c = marked_clean (is_covered v d) path k c
-front_clean v n path k (why.Target d) c = marked_clean (is_covered v d) path k c
+    go : (name : List ℕ) → Clean (child_front name (covered_path (is_covered v d) path k))
+    go [] = clean_both (covered_path (is_covered v d) path k) (47 ∷ []) (covered_clean (is_covered v d) path k c) (record { apart = refl; closed = refl })
+    go (b ∷ bs) = covered_clean (is_covered v d) path k c
+front_clean v n path k (why.Parent d) c = covered_clean (is_covered v d) path k c
+front_clean v n path k (why.ServerRoot d) c = covered_clean (is_covered v d) path k c
+front_clean v n path k (why.Target d) c = covered_clean (is_covered v d) path k c
 
 stem_clean : (v : View) (n : Name) (path : List ℕ) (k : ℕ) (y : Why) → is_stem y ≡ true → Clean path → Clean (step_by v n path k (Some y))
 stem_clean v n path k y stem c =
@@ -186,8 +186,8 @@ along_clean v (n ∷ ns) = step_clean v n (path_along v ns) (level_along v ns) (
 
 path_clean : (v : View) (n : Name) → Clean (node_path v n)
 path_clean v n =
-    root_clean (marked (is_covered v n) (path_along v (way_of v n)) (level_along v (way_of v n)))
-    (marked_clean (is_covered v n) (path_along v (way_of v n)) (level_along v (way_of v n)) (along_clean v (way_of v n)))
+    root_clean (covered_path (is_covered v n) (path_along v (way_of v n)) (level_along v (way_of v n)))
+    (covered_clean (is_covered v n) (path_along v (way_of v n)) (level_along v (way_of v n)) (along_clean v (way_of v n)))
 
 -- what stands beside a path
 

@@ -14,7 +14,7 @@ use Rattle.hurd_sight.specs.declared.found.Why.TheVariants as why
 use Rattle.hurd_views.specs.Views.{row_at}
 use Rattle.hurd_views.specs.declared.rows.Row.{Row}
 use Rattle.hurd_views.specs.declared.view.View.{View}
-use Rattle.hurd_places.specs.Places.{beneath, beside, beside_port, beside_ports, beside_task, beside_tasks, count_to, holder_word, is_covered, is_held, label_in, label_of, label_or, label_text, level_along, marked, name_in, name_text, names_tasks, node_path, node_place, numbered, open_place, or_root, path_along, place_by, server_at, server_node, server_path, step_by, target_at, way_of}
+use Rattle.hurd_places.specs.Places.{beneath, beside, beside_port, beside_ports, beside_task, beside_tasks, count_to, holder_word, is_covered, is_held, label_in, label_of, label_or, label_text, level_along, covered_path, name_in, name_text, names_tasks, node_path, node_place, numbered, open_place, or_root, path_along, place_by, server_at, server_node, server_path, step_by, target_at, way_of}
 use Rattle.hurd_places.specs.declared.labels.Holder.{Holder}
 use Rattle.hurd_places.specs.declared.labels.Holder.TheVariants as holder
 use Rattle.hurd_places.specs.declared.labels.Label.{Label}
@@ -92,9 +92,9 @@ beneath_fits k = go (k == 0)
     go true = refl
     go false = numbered_fits (codes "beneath") k refl
 
-marked_fits : (covered : Bool) (path : List ℕ) (k : ℕ) → fits path ≡ true → fits (marked covered path k) ≡ true
-marked_fits false path k fit = fit
-marked_fits true path k fit = both_fit (or_root path) (beneath k) (root_fits path fit) (beneath_fits k)
+covered_fits : (covered : Bool) (path : List ℕ) (k : ℕ) → fits path ≡ true → fits (covered_path covered path k) ≡ true
+covered_fits false path k fit = fit
+covered_fits true path k fit = both_fit (or_root path) (beneath k) (root_fits path fit) (beneath_fits k)
 
 step_fits : (v : View) (n : Name) (path : List ℕ) (k : ℕ) (y : Option Why) → fits path ≡ true → fits (step_by v n path k y) ≡ true
 step_fits v n path k None fit = refl
@@ -106,13 +106,13 @@ step_fits v n path k (Some why.Way) fit = numbered_fits (codes "way") (count_to 
 step_fits v n path k (Some why.Controlled) fit = numbered_fits (codes "controlled") (count_to why.Controlled n v.sight.found) refl
 step_fits v n path k (Some why.Pending) fit = numbered_fits (codes "pending") (count_to why.Pending n v.sight.found) refl
 step_fits v n path k (Some (why.Child d)) fit =
-    both_fit (marked (is_covered v d) path k) (47 ∷ name_text (name_in (row_at v.rows d).body n)) (marked_fits (is_covered v d) path k fit)
+    both_fit (covered_path (is_covered v d) path k) (47 ∷ name_text (name_in (row_at v.rows d).body n)) (covered_fits (is_covered v d) path k fit)
     (both_fit (codes "/") (name_text (name_in (row_at v.rows d).body n)) refl (name_fits (name_in (row_at v.rows d).body n)))
 step_fits v n path k (Some (why.Active m)) fit = fit
-step_fits v n path k (Some (why.Parent d)) fit = both_fit (marked (is_covered v d) path k) (codes "(parent)") (marked_fits (is_covered v d) path k fit) refl
-step_fits v n path k (Some (why.ServerRoot m)) fit = both_fit (marked (is_covered v m) path k) (codes "(root)") (marked_fits (is_covered v m) path k fit) refl
+step_fits v n path k (Some (why.Parent d)) fit = both_fit (covered_path (is_covered v d) path k) (codes "(parent)") (covered_fits (is_covered v d) path k fit) refl
+step_fits v n path k (Some (why.ServerRoot m)) fit = both_fit (covered_path (is_covered v m) path k) (codes "(root)") (covered_fits (is_covered v m) path k fit) refl
 step_fits v n path k (Some (why.Target m)) fit =
-    both_fit (marked (is_covered v m) path k) (numbered (codes "target") (target_at v m n)) (marked_fits (is_covered v m) path k fit) (numbered_fits (codes "target") (target_at v m n) refl)
+    both_fit (covered_path (is_covered v m) path k) (numbered (codes "target") (target_at v m n)) (covered_fits (is_covered v m) path k fit) (numbered_fits (codes "target") (target_at v m n) refl)
 
 along_fits : (v : View) (ns : List Name) → fits (path_along v ns) ≡ true
 along_fits v [] = refl
@@ -121,7 +121,7 @@ along_fits v (n ∷ ns) = step_fits v n (path_along v ns) (level_along v ns) (wh
 -- the path of a node, and of a server
 
 pub node_path_fits : (v : View) (n : Name) → fits (node_path v n) ≡ true
-node_path_fits v n = root_fits (marked (is_covered v n) (path_along v (way_of v n)) (level_along v (way_of v n))) (marked_fits (is_covered v n) (path_along v (way_of v n)) (level_along v (way_of v n)) (along_fits v (way_of v n)))
+node_path_fits v n = root_fits (covered_path (is_covered v n) (path_along v (way_of v n)) (level_along v (way_of v n))) (covered_fits (is_covered v n) (path_along v (way_of v n)) (level_along v (way_of v n)) (along_fits v (way_of v n)))
 
 server_at_fits : (v : View) (n : Option Name) → fits (server_at v n) ≡ true
 server_at_fits v None = refl

@@ -11,7 +11,7 @@ use Rattle.hurd_sight.specs.declared.found.Why.{Why}
 use Rattle.hurd_sight.specs.declared.found.Why.TheVariants as why
 use Rattle.hurd_views.specs.Views.{row_at}
 use Rattle.hurd_views.specs.declared.view.View.{View}
-use Rattle.hurd_places.specs.Places.{beneath, beside, beside_port, beside_ports, beside_task, beside_tasks, is_covered, is_held, is_wanted, label_in, label_text, level_along, marked, name_in, names_tasks, node_path, node_place, or_root, path_along, step_by, way_of}
+use Rattle.hurd_places.specs.Places.{beneath, beside, beside_port, beside_ports, beside_task, beside_tasks, is_covered, is_held, is_wanted, label_in, label_text, level_along, covered_path, name_in, names_tasks, node_path, node_place, or_root, path_along, step_by, way_of}
 use Rattle.hurd_places.specs.declared.labels.Holder.{Holder}
 use Rattle.hurd_places.specs.declared.labels.Holder.TheVariants as holder
 use Rattle.hurd_places.specs.declared.labels.Label.{Label}
@@ -36,9 +36,9 @@ root_heads [] h = (47, [], refl, refl)
 root_heads (b ∷ p) (inl none) = absurd (cc)
 root_heads (b ∷ p) (inr h) = h
 
-marked_heads : (t : Bool) (p : List ℕ) (k : ℕ) → Heads p → Heads (marked t p k)
-marked_heads false p k h = h
-marked_heads true p k h = heads_both (or_root p) (beneath k) (inr (root_heads p h)) (last_heads (beneath k) (beneath_last k))
+covered_heads : (t : Bool) (p : List ℕ) (k : ℕ) → Heads p → Heads (covered_path t p k)
+covered_heads false p k h = h
+covered_heads true p k h = heads_both (or_root p) (beneath k) (inr (root_heads p h)) (last_heads (beneath k) (beneath_last k))
 
 front_heads : (v : View) (n : Name) (path : List ℕ) (k : ℕ) (y : Why) → Heads path → Heads (front v n path k y)
 front_heads v n path k why.Root h = inl refl
@@ -49,12 +49,12 @@ front_heads v n path k why.Controlled h = inl refl
 front_heads v n path k why.Pending h = inl refl
 front_heads v n path k (why.Child d) h = go (name_in (row_at v.rows d).body n)
   where
-    go : (name : List ℕ) → Heads (child_front name (marked (is_covered v d) path k))
-    go [] = heads_both (marked (is_covered v d) path k) (47 ∷ []) (marked_heads (is_covered v d) path k h) (inr (47, [], refl, refl))
-    go (b ∷ bs) = marked_heads (is_covered v d) path k h
-front_heads v n path k (why.Parent d) h = marked_heads (is_covered v d) path k h
-front_heads v n path k (why.ServerRoot d) h = marked_heads (is_covered v d) path k h
-front_heads v n path k (why.Target d) h = marked_heads (is_covered v d) path k h
+    go : (name : List ℕ) → Heads (child_front name (covered_path (is_covered v d) path k))
+    go [] = heads_both (covered_path (is_covered v d) path k) (47 ∷ []) (covered_heads (is_covered v d) path k h) (inr (47, [], refl, refl))
+    go (b ∷ bs) = covered_heads (is_covered v d) path k h
+front_heads v n path k (why.Parent d) h = covered_heads (is_covered v d) path k h
+front_heads v n path k (why.ServerRoot d) h = covered_heads (is_covered v d) path k h
+front_heads v n path k (why.Target d) h = covered_heads (is_covered v d) path k h
 
 stem_heads : (v : View) (n : Name) (path : List ℕ) (k : ℕ) (y : Why) → is_stem y ≡ true → Heads path → Heads (step_by v n path k (Some y))
 stem_heads v n path k y stem h =
@@ -79,8 +79,8 @@ along_heads v (n ∷ ns) = step_heads v n (path_along v ns) (level_along v ns) (
 
 path_heads : (v : View) (n : Name) → (x : ℕ) × (r : List ℕ) × (node_path v n ≡ x ∷ r) × (is_cut x ≡ true)
 path_heads v n =
-    root_heads (marked (is_covered v n) (path_along v (way_of v n)) (level_along v (way_of v n)))
-    (marked_heads (is_covered v n) (path_along v (way_of v n)) (level_along v (way_of v n)) (along_heads v (way_of v n)))
+    root_heads (covered_path (is_covered v n) (path_along v (way_of v n)) (level_along v (way_of v n)))
+    (covered_heads (is_covered v n) (path_along v (way_of v n)) (level_along v (way_of v n)) (along_heads v (way_of v n)))
 
 -- a label does not
 

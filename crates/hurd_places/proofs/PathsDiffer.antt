@@ -13,7 +13,7 @@ use Rattle.hurd_sight.specs.declared.found.Why.{Why}
 use Rattle.hurd_sight.specs.declared.found.Why.TheVariants as why
 use Rattle.hurd_views.specs.Views.{Views}
 use Rattle.hurd_views.specs.declared.view.View.{View}
-use Rattle.hurd_places.specs.Places.{count_to, is_alike, is_covered, is_wanted, label_of, label_of_tasks, label_or, label_text, level_along, marked, names_tasks, node_path, numbered, open_place, or_root, path_along, way_of}
+use Rattle.hurd_places.specs.Places.{count_to, is_alike, is_covered, is_wanted, label_of, label_of_tasks, label_or, label_text, level_along, covered_path, names_tasks, node_path, numbered, open_place, or_root, path_along, way_of}
 use Rattle.hurd_places.specs.Differ.{IsSmall, IsView, NodePlacesDiffer, OpenPlacesDiffer, PathsDiffer}
 use Rattle.hurd_places.proofs.ApartLaws.{Apart, full, ways_once}
 use Rattle.hurd_places.proofs.FoundWays.{any, the_way}
@@ -185,7 +185,7 @@ apart tasks w v is_view = record {
 -- the path of a node is the one along its way
 
 along : (v : View) (n : Name) (ns : List Name) → way_of v n ≡ n ∷ ns → node_path v n ≡ or_root (full v n ns)
-along v n ns is = ap (λ (xs : List Name). or_root (marked (is_covered v n) (path_along v xs) (level_along v xs))) is
+along v n ns is = ap (λ (xs : List Name). or_root (covered_path (is_covered v n) (path_along v xs) (level_along v xs))) is
 
 pub paths_differ : PathsDiffer
 paths_differ tasks w v n m is_view found_n found_m is =

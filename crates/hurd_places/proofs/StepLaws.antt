@@ -12,7 +12,7 @@ use Rattle.hurd_sight.specs.declared.found.Why.{Why}
 use Rattle.hurd_sight.specs.declared.found.Why.TheVariants as why
 use Rattle.hurd_views.specs.Views.{row_at}
 use Rattle.hurd_views.specs.declared.view.View.{View}
-use Rattle.hurd_places.specs.Places.{beneath, count_to, holder_word, is_covered, label_of, label_or, level_by, marked, name_in, name_text, names_tasks, numbered, step_by, target_at}
+use Rattle.hurd_places.specs.Places.{beneath, count_to, holder_word, is_covered, label_of, label_or, level_by, covered_path, name_in, name_text, names_tasks, numbered, step_by, target_at}
 use Rattle.hurd_places.specs.declared.labels.Holder.{Holder}
 use Rattle.hurd_places.specs.declared.labels.Holder.TheVariants as holder
 use Rattle.hurd_places.specs.declared.labels.Label.{Label}
@@ -69,10 +69,10 @@ abbrev pub held_rest : View → Name → List ℕ
 held_rest v n = label_or (names_tasks v) (codes "held") (label_of v (wanted.Node n)) ++ 41 ∷ []
 
 abbrev pub front : View → Name → List ℕ → ℕ → Why → List ℕ
-front v n path k (why.Child d) = child_front (name_in (row_at v.rows d).body n) (marked (is_covered v d) path k)
-front v n path k (why.Parent d) = marked (is_covered v d) path k
-front v n path k (why.ServerRoot d) = marked (is_covered v d) path k
-front v n path k (why.Target d) = marked (is_covered v d) path k
+front v n path k (why.Child d) = child_front (name_in (row_at v.rows d).body n) (covered_path (is_covered v d) path k)
+front v n path k (why.Parent d) = covered_path (is_covered v d) path k
+front v n path k (why.ServerRoot d) = covered_path (is_covered v d) path k
+front v n path k (why.Target d) = covered_path (is_covered v d) path k
 front v n path k _ = []
 
 abbrev pub last : View → Name → Why → List ℕ
@@ -94,7 +94,7 @@ child_split (b ∷ bs) path = refl
 pub split : (v : View) (n : Name) (path : List ℕ) (k : ℕ) (y : Why) → is_stem y ≡ true → step_by v n path k (Some y) ≡ front v n path k y ++ last v n y
 split v n path k why.Root is = absurd (true≢false (sym is))
 split v n path k (why.Active m) is = absurd (true≢false (sym is))
-split v n path k (why.Child d) is = child_split (name_in (row_at v.rows d).body n) (marked (is_covered v d) path k)
+split v n path k (why.Child d) is = child_split (name_in (row_at v.rows d).body n) (covered_path (is_covered v d) path k)
 split v n path k why.Held is = refl
 split v n path k why.Way is = refl
 split v n path k why.Controlled is = refl

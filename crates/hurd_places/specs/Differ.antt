@@ -1,5 +1,5 @@
 -- How the places of things are told apart.
-use Rattle.std.specs.Prelude.{◌≡◌, ◌⊎◌, ◌||◌, ◌==◌, ◌<◌, ◌^◌, ℕ, true, List, length, Option, Some, Bool}
+use Rattle.std.specs.Prelude.{◌≡◌, ◌⊎◌, ◌<◌, ◌^◌, ℕ, true, List, length, Option, Some}
 use Rattle.std.specs.List.{list_all}
 use Rattle.hurd_creds.specs.declared.name.Name.{Name}
 use Rattle.hurd_creds.specs.declared.name.TaskId.{TaskId}
@@ -8,7 +8,7 @@ use Rattle.hurd_machine.specs.Sight.{Knows}
 use Rattle.hurd_machine.specs.Sound.{Sound}
 use Rattle.hurd_machine.specs.World.{World, ports_of, server_at}
 use Rattle.hurd_ports.specs.Sound.{IsSound}
-use Rattle.hurd_sentences.specs.Sentences.{is_letter}
+use Rattle.hurd_sentences.specs.Sentences.{is_fit}
 use Rattle.hurd_sight.specs.Found.{is_found}
 use Rattle.hurd_sight.specs.Parts.{is_in}
 use Rattle.hurd_sight.specs.Reach.{among}
@@ -19,11 +19,7 @@ use Rattle.hurd_places.specs.Places.{label_of, node_path, node_place, open_place
 use Rattle.hurd_places.specs.declared.labels.Label.{Label}
 use Rattle.hurd_places.specs.declared.labels.Wanted.{Wanted}
 
--- a byte that may stand in a part of a sentence: a letter of a word, or the space between two
-abbrev pub is_fit : ℕ → Bool
-is_fit b = is_letter b || b == 32
-
--- each place is of such bytes
+-- each place is of bytes that may stand in a part of a sentence
 abbrev pub PlacesFit : Type 0
 PlacesFit =
     (v : View) (n : Name) (r : Row) → (list_all is_fit (place_by v n r) ≡ true) × (list_all is_fit (node_path v n) ≡ true) × (list_all is_fit (server_path v n) ≡ true)

@@ -183,10 +183,10 @@ or_root (b ∷ bs) = b ∷ bs
 abbrev pub beneath : ℕ → List ℕ
 beneath k = if k == 0 then codes "(beneath)" else numbered (codes "beneath") k
 
--- a path goes on from a node so: a covered node is marked, since its plain path is that of the active server's root
-abbrev pub marked : Bool → List ℕ → ℕ → List ℕ
-marked false path k = path
-marked true path k = or_root path ++ beneath k
+-- the path of a node, from its plain path: a covered node has a mark, since its plain path is that of the active server's root
+abbrev pub covered_path : Bool → List ℕ → ℕ → List ℕ
+covered_path false path k = path
+covered_path true path k = or_root path ++ beneath k
 
 -- how many active servers, each on the root of the one before, lead to a node
 abbrev pub level_by : Option Why → ℕ → ℕ
@@ -201,11 +201,11 @@ step_by v n path k (Some why.Held) = 40 ∷ (label_or (names_tasks v) (codes "he
 step_by v n path k (Some why.Way) = numbered (codes "way") (count_to why.Way n v.sight.found)
 step_by v n path k (Some why.Controlled) = numbered (codes "controlled") (count_to why.Controlled n v.sight.found)
 step_by v n path k (Some why.Pending) = numbered (codes "pending") (count_to why.Pending n v.sight.found)
-step_by v n path k (Some (why.Child d)) = marked (is_covered v d) path k ++ (47 ∷ name_text (name_in (row_at v.rows d).body n))
+step_by v n path k (Some (why.Child d)) = covered_path (is_covered v d) path k ++ (47 ∷ name_text (name_in (row_at v.rows d).body n))
 step_by v n path k (Some (why.Active m)) = path
-step_by v n path k (Some (why.Parent d)) = marked (is_covered v d) path k ++ codes "(parent)"
-step_by v n path k (Some (why.ServerRoot m)) = marked (is_covered v m) path k ++ codes "(root)"
-step_by v n path k (Some (why.Target m)) = marked (is_covered v m) path k ++ numbered (codes "target") (target_at v m n)
+step_by v n path k (Some (why.Parent d)) = covered_path (is_covered v d) path k ++ codes "(parent)"
+step_by v n path k (Some (why.ServerRoot m)) = covered_path (is_covered v m) path k ++ codes "(root)"
+step_by v n path k (Some (why.Target m)) = covered_path (is_covered v m) path k ++ numbered (codes "target") (target_at v m n)
 
 -- the level of a node at the end of a way, which stands first
 abbrev pub level_along : View → List Name → ℕ
@@ -225,7 +225,7 @@ way_of v n = way_to (length v.sight.found) v.sight.found (Some n)
 
 -- the path of a node
 abbrev pub node_path : View → Name → List ℕ
-node_path v n = or_root (marked (is_covered v n) (path_along v (way_of v n)) (level_along v (way_of v n)))
+node_path v n = or_root (covered_path (is_covered v n) (path_along v (way_of v n)) (level_along v (way_of v n)))
 
 -- a port that is on a node, and none of the first three, is told beside it, as ` (port 3)`
 abbrev pub beside_port : Bool → TaskId → Name → Port → List ℕ

@@ -2,7 +2,7 @@
 ghost use Rattle.std.specs.Prelude.{◌≡◌, ◌++◌, Some, codes, OnOk};
 ghost use Rattle.hurd_lines.specs.Lines.{spaced, text_if};
 ghost use Rattle.hurd_ports.specs.Seats.{seat_task};
-ghost use Rattle.hurd_places.specs.Places.{beside, beside_port, beside_ports, beside_task, beside_tasks, holder_word, is_held, is_wanted, label_in, label_of, label_of_task, label_of_tasks, label_or, label_text, names_tasks, port_wanted, sent_wanted, wants};
+ghost use Rattle.hurd_places.specs.Places.{beside, beside_port, beside_ports, beside_task, beside_tasks, holder_word, is_held, is_wanted, label_of, label_of_task, label_of_tasks, label_or, label_text, names_tasks, port_wanted, sent_wanted, wants};
 
 use hurd_creds::{NodeName, OpenName, TaskId};
 use hurd_lines::push_number;

@@ -2,7 +2,7 @@
 ghost use Rattle.std.specs.Prelude.{◌≡◌, ◌<◌, ◌≤◌, if◌then◌else◌, ◌^◌, ◌++◌, ◌∷◌, length, option_and_then, IfOk, OnOk, Some};
 ghost use Rattle.hurd_sight.specs.Found.{found_from, why_of};
 ghost use Rattle.hurd_views.specs.Views.{row_at};
-ghost use Rattle.hurd_places.specs.Places.{beneath, count_to, entry_name, is_alike, is_covered, level_along, level_by, marked, name_in, name_text, numbered, or_root, path_along, step_by, way_of, way_to};
+ghost use Rattle.hurd_places.specs.Places.{beneath, count_to, entry_name, is_alike, is_covered, level_along, level_by, covered_path, name_in, name_text, numbered, or_root, path_along, step_by, way_of, way_to};
 
 use crate::labels::{Wanted, push_label_or};
 use crate::servers::{is_covered, target_at};
@@ -170,7 +170,7 @@ pub(crate) fn mark(
     node: NodeName,
     level: u64,
 ) -> Result<(), AllocError>
-    ensures { OnOk result (path.new.items ≡ marked (is_covered view.now node) path.old.items level) }
+    ensures { OnOk result (path.new.items ≡ covered_path (is_covered view.now node) path.old.items level) }
 {
     if !is_covered(view, node) {
         return Ok(());

@@ -1,5 +1,5 @@
 //! The servers of nodes, by what is seen of these.
-ghost use Rattle.std.specs.Prelude.{◌≡◌, ◌≤◌, ◌^◌, length};
+ghost use Rattle.std.specs.Prelude.{◌≡◌, ◌≤◌, ◌^◌};
 ghost use Rattle.std.proofs.Common.{◌+◌};
 ghost use Rattle.hurd_places.specs.Places.{bound_by, bound_to, first_bound, is_covered, is_server, number_in, server_node, target_at, target_number, targets_in, targets_of};
 

@@ -2,12 +2,8 @@
 use Rattle.std.proofs.Common.{◌≡◌, ◌⊎◌, inl, inr, ◌∙◌, refl, sym, ap, ℕ, ◌==◌, ◌&&◌, ◌||◌, Bool, true, false, true≢false, List, [], ◌∷◌, ◌++◌, append_assoc, append-nil, map, codes, if◌then◌else◌}
 use Rattle.std.specs.List.{concat, list_all}
 use Rattle.std.proofs.lemmas.Bool.{and_from, cases_Bool, eqb-true, or_left}
-use Rattle.hurd_sentences.specs.Sentences.{Clause, InSentences, Part, Sentence, are_sentences, behind, clause_text, is_clause, is_letter, is_part, is_sentence, is_word, joined, part_text, sentence_line, sentence_lines}
+use Rattle.hurd_sentences.specs.Sentences.{Clause, InSentences, Part, Sentence, are_sentences, behind, clause_text, is_clause, is_fit, is_letter, is_part, is_sentence, is_word, joined, part_text, sentence_line, sentence_lines}
 use Rattle.hurd_sentences.proofs.Bytes.{all_both, all_first, all_rest, all_weaker}
-
--- a byte that may stand in a part: a letter, or a space
-abbrev pub is_fit : ℕ → Bool
-is_fit b = is_letter b || b == 32
 
 -- a text that may be a part
 abbrev pub fits : List ℕ → Bool

@@ -38,6 +38,11 @@ sentence_lines who sentences = concat (map (sentence_line who) sentences)
 abbrev pub is_letter : ℕ → Bool
 is_letter b = nat_lt 32 b && not (b == 44 || b == 58)
 
+-- a byte that may stand in a part: a letter of a word, or the space between two
+abbrev pub is_fit : ℕ → Bool
+is_fit b = is_letter b || b == 32
+
+-- a word has only such letters
 abbrev pub is_word : List ℕ → Bool
 is_word word = list_all is_letter word
 

@@ -1,5 +1,5 @@
 //! How bytes of users are spelled in a sentence.
-ghost use Rattle.std.specs.Prelude.{◌≡◌, ◌<◌, ◌∷◌, ◌++◌, OnOk};
+ghost use Rattle.std.specs.Prelude.{◌≡◌, ◌<◌, ◌++◌, OnOk};
 ghost use Rattle.hurd_lines.specs.Escapes.{hex_letter};
 ghost use Rattle.hurd_sentences.specs.Spelling.{is_joint, spelled, spelled_by, spelled_byte, spelled_name, spelled_words};
 

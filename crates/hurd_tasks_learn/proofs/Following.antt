@@ -19,6 +19,7 @@ use Rattle.hurd_terminal.proofs.OutputLaws.{front_follows}
 use Rattle.hurd_teaching.specs.Shown.{ToldAll}
 use Rattle.hurd_tasks_learn.specs.Lessons.{told_text}
 use Rattle.hurd_teaching.specs.Learners.{Speech, is_quiet}
+use Rattle.hurd_teaching.proofs.SayingLaws.{counts_loud}
 use Rattle.hurd_tasks_learn.specs.Runs.{ToldSome, calling}
 use Rattle.hurd_tasks_learn.specs.Steps.{IsTold, ToldPart}
 
@@ -30,11 +31,6 @@ text_more c cs w s more = refl
 no_text : (w : World) → told_text [] w [] ≡ []
 unfolding parts_of
 no_text w = refl
-
--- a call counts unless nothing is said of it
-counts_same : (quiet : Bool) (tally : Tally) (text : List ℕ) → (if quiet then tally else counted tally text) ≡ (if not quiet then counted tally text else tally)
-counts_same true tally text = refl
-counts_same false tally text = refl
 
 module _ (tasks : List TaskId) (who : Speech) (n : ℕ) where
   -- what is said of a call where so many were made
@@ -84,7 +80,7 @@ module _ (tasks : List TaskId) (who : Speech) (n : ℕ) where
     all_more : (fin : Tally) (end : Option (List ℕ)) → ToldAll (calling tasks who (n + 1) cs x) count later fin end → ToldAll (calling tasks who n (c ∷ cs) w) tally now fin end
     all_more fin end rest =
         let here = rw told.next at rest in
-        let same = rw (told.counts ∙ counts_same (is_quiet tasks who.from n c.task.0) tally told.said) at here.counts in
+        let same = rw (told.counts ∙ counts_loud (is_quiet tasks who.from n c.task.0) tally (counted tally told.said)) at here.counts in
         record {
           said = here_said ∷ here.said;
           lessons = (told.said, told.shown, here.said, refl, told.lesson, told.shows, here.lessons);

@@ -25,7 +25,7 @@ use Rattle.hurd_teaching.specs.declared.learners.Learners.{Learners}
 use Rattle.hurd_teaching.proofs.ProgramLaws.{no_memory, plain, ran_bad, ran_not_shown, ran_shown, ran_unknown}
 use Rattle.hurd_teaching.proofs.ShownLaws.{ShowsFront, some_shown}
 use Rattle.hurd_tasks_learn.specs.Learners.{called, tasks_named}
-use Rattle.hurd_tasks_learn.specs.Runs.{ToldSome, calling, from_of, learning, looks_of}
+use Rattle.hurd_tasks_learn.specs.Runs.{ToldSome, calling, start_of, learning, looks_of}
 use Rattle.hurd_tasks_learn.proofs.Following.{some_none}
 
 -- a list that is too long is bad at line 0
@@ -75,12 +75,12 @@ module _ {S : Type 0} (f : S → Meaning) (word text : List ℕ) (list : CallLis
   looks_read looks is = is ∙ ap (λ (r : Result Standing ℕ). drop (length (said_in r).tasks + 1) (asks_of (lines_of text))) (sym read)
 
   -- where its lessons begin
-  from_read : (from : ℕ) → from ≡ starts_of (length list.tasks.items + 1) (lines_of text) → from ≡ from_of text
+  from_read : (from : ℕ) → from ≡ starts_of (length list.tasks.items + 1) (lines_of text) → from ≡ start_of text
   from_read from is = is ∙ ap (λ (r : Result Standing ℕ). starts_of (length (said_in r).tasks + 1) (lines_of text)) (sym read)
 
   module _ (looks : List Bool) (asked : looks ≡ drop (length list.tasks.items + 1) (asks_of (lines_of text))) (from : ℕ) (begins : from ≡ starts_of (length list.tasks.items + 1) (lines_of text)) (learners : Learners)
       (named : AreNamed (tasks_named (length list.tasks.items) word) (called word) looks from learners) where
-    names : AreNamed (tasks_named (length (said_in (reading_of text)).tasks) word) (called word) (looks_of text) (from_of text) learners
+    names : AreNamed (tasks_named (length (said_in (reading_of text)).tasks) word) (called word) (looks_of text) (start_of text) learners
     names = rw (← looks_read looks asked, ← from_read from begins) (rw read named)
 
     pub list_shown : (before after : Option (List ℕ)) → Shown (calling learners.tasks.items (speech learners) 0 (map (listed_by f) list.calls.items) (first_world new_tmpfs list.tasks.items)) learners before after

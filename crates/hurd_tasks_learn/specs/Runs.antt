@@ -53,8 +53,8 @@ abbrev pub looks_of : List ℕ → List Bool
 looks_of list = drop (length (said_in (reading_of list)).tasks + 1) (asks_of (lines_of list))
 
 -- how many of its calls are made before lessons begin
-abbrev pub from_of : List ℕ → ℕ
-from_of list = starts_of (length (said_in (reading_of list)).tasks + 1) (lines_of list)
+abbrev pub start_of : List ℕ → ℕ
+start_of list = starts_of (length (said_in (reading_of list)).tasks + 1) (lines_of list)
 
 -- the program for those tasks of a list whom a word names
 abbrev pub learning : List ℕ → Teaching
@@ -65,7 +65,7 @@ learning word = record {
   named = λ text. tasks_named (length (said_in (reading_of text)).tasks) word;
   called = called word;
   looks = looks_of;
-  from = from_of;
+  from = start_of;
   boot = λ text. boot_of new_tmpfs (said_in (reading_of text)).tasks;
   doings = λ text. called_in (said_in (reading_of text));
 }

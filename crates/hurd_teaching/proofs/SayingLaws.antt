@@ -1,5 +1,6 @@
--- What is said behind what was done, and what is shown then, is sentences.
-use Rattle.std.proofs.Common.{◌≡◌, refl, sym, subst, ℕ, List, [], ◌++◌, Bool, true, false}
+-- What is said behind what was done, and what is shown then, is sentences; and what counts.
+use Rattle.std.proofs.Common.{◌≡◌, refl, sym, subst, ℕ, List, [], ◌++◌, Bool, not, true, false}
+use Rattle.std.specs.Prelude.{if◌then◌else◌}
 use Rattle.hurd_creds.specs.declared.name.TaskId.{TaskId}
 use Rattle.hurd_machine.specs.World.{World}
 use Rattle.hurd_sentences.specs.Sentences.{InSentences}
@@ -16,3 +17,8 @@ lesson_said tasks learns said_of false w x text same lesson =
 pub shows_said : (tasks : List TaskId) (sees said_of : List ℕ) (asked : Bool) (x : World) (shown : List ℕ) → sees ≡ said_of → Shows tasks sees asked x shown → InSentences said_of shown
 shows_said tasks sees said_of true x shown same it = subst (λ (who : List ℕ). InSentences who shown) same (subst (InSentences sees) (sym it.2) (seen_in_sentences sees it.0))
 shows_said tasks sees said_of false x shown same it = subst (InSentences said_of) (sym it) (no_sentences said_of)
+
+-- what counts is what is not quiet
+pub counts_loud : {X : Type 0} (b : Bool) (x y : X) → (if b then x else y) ≡ (if not b then y else x)
+counts_loud true x y = refl
+counts_loud false x y = refl
