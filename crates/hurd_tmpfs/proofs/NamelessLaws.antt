@@ -1,12 +1,10 @@
 -- Which nodes an entry names, before and after changes of the nodes, and what is on a list.
-use Rattle.std.proofs.Common.{◌≡◌, ◌≢◌, inl, inr, ◌||◌, ◌<◌, ◌-◌, min, ℕ, Bool, true, false, true≢false, List, ◌∷◌, get_or, is_some, refl, ap, sym, ◌∙◌, if◌then◌else◌}
+use Rattle.std.proofs.Common.{◌≡◌, ◌≢◌, inl, inr, ◌<◌, ◌-◌, min, not, filter, ℕ, Bool, true, false, true≢false, List, is_some, refl, ap, sym, ◌∙◌, if◌then◌else◌}
 use Rattle.std.specs.Prelude.{Option, Some, None, IfSome, Result, Ok, Err, nat_lt, cond}
 use Rattle.std.specs.Option.{option_map}
 use Rattle.std.specs.Global.{Vec}
-use Rattle.std.specs.List.{swap_remove}
 use Rattle.std.specs.FinMap as fin
-use Rattle.std.proofs.lemmas.List.{get_or_default}
-use Rattle.std.proofs.lemmas.List.Sorted.{IsPermutation-swap_remove, list_any-IsPermutation}
+use Rattle.std.proofs.lemmas.Map.Views.{any-filter_same}
 use Rattle.slab.specs.Slab as slab
 use Rattle.slab.specs.Slab.{slab_len, with_value}
 use Rattle.indexmap.specs.IndexMap.{get, spare}
@@ -15,13 +13,13 @@ use Rattle.hurd_creds.specs.Names.{name_cmp, same_name}
 use Rattle.hurd_creds.specs.NameMaps.{edit}
 use Rattle.hurd_creds.specs.declared.errno.Errno.{Errno}
 use Rattle.hurd_creds.specs.declared.name.Name.{Name}
-use Rattle.hurd_creds.proofs.NameLaws.{equal_if_same, same_name-apart, same_or_apart, get_here, get_apart, remove_apart, edit_here, edit_apart}
+use Rattle.hurd_creds.proofs.NameLaws.{equal_if_same, same_name-apart, same_name-itself, same_or_apart, get_here, get_apart, remove_apart, edit_here, edit_apart}
 use Rattle.hurd_trans_iface.specs.Nodes.{AllListed, Body, Header, Node, NodeMap, edit_all, is_dir, is_entered, is_entered_at, is_listed, linked, moved_to, unlinked, with_body, with_header}
 use Rattle.hurd_trans_iface.specs.Answers.{added, link_edits, move_edits, unlink_edits}
 use Rattle.hurd_trans_iface.specs.Behaviour.{Effect, left_by, served, size_left}
 use Rattle.hurd_tmpfs.specs.declared.inode.Inode.{Inode}
 use Rattle.hurd_tmpfs.specs.declared.inodes.Inodes.{Inodes}
-use Rattle.hurd_tmpfs.specs.Nameless.{IsAt, KeepsOthers, Relisted}
+use Rattle.hurd_tmpfs.specs.Nameless.{KeepsOthers, Relisted}
 use Rattle.hurd_tmpfs.specs.Room.{room}
 use Rattle.hurd_tmpfs.specs.Stored.{IsStored}
 use Rattle.hurd_tmpfs.specs.Tree.{node_of, nodes_in, nodes_of}
@@ -29,17 +27,16 @@ use Rattle.hurd_tmpfs.proofs.StoredLaws.{stored-in, room-in, changed-in, found-i
 
 -- lists
 
-or_other : (a b : Bool) → a ≡ false → (a || b) ≡ b
-or_other true b h = absurd (cc)
-or_other false b h = refl
+-- all but one name
+abbrev others_of : Name → List Name → List Name
+others_of n ns = filter (λ (q : Name). not (same_name q n)) ns
 
--- one name less
-pub listed-less : (n : Name) (ns : List Name) (i : ℕ) (x : Name) → IsAt n i ns → x ≡ get_or ns i x → KeepsOthers n ns (swap_remove ns i x)
-listed-less n ns i x at is q apart on =
-    let here : n ≡ x = equal_if_same n x (ap (same_name n) is ∙ ap (same_name n) (get_or_default ns i x n at.0) ∙ at.1) in
-    sym (or_other (same_name q x) (is_listed q (swap_remove ns i x)) (same_name-apart q x (λ e. apart (e ∙ sym here))))
-    ∙ sym (list_any-IsPermutation (same_name q) ns (x ∷ swap_remove ns i x) (IsPermutation-swap_remove ns i x at.0 is))
-    ∙ on
+pub listed-off : (n : Name) (ns : List Name) → is_listed n (others_of n ns) ≡ false
+listed-off n ns = any-filter_same (same_name n) (λ (q : Name). not (same_name q n)) false (λ q same. let here : n ≡ q = equal_if_same n q same in rw here (ap not (same_name-itself q))) ns
+
+pub listed-others : (n : Name) (ns : List Name) → KeepsOthers n ns (others_of n ns)
+listed-others n ns q apart =
+    any-filter_same (same_name q) (λ (m : Name). not (same_name m n)) true (λ m same. let here : q ≡ m = equal_if_same q m same in ap not (same_name-apart m n (λ e. apart (here ∙ e)))) ns
 
 -- headers
 
@@ -156,8 +153,8 @@ pub list-after : (n : Name) (m k l : NodeMap) (old new : Option (Vec Name)) → 
 list-after n m k l old None same keeps list looked = tt
 list-after n m k l None (Some ns) same keeps list looked = absurd looked
 list-after n m k l (Some os) (Some ns) same keeps list looked = λ q nameless. elim (same_or_apart q n) [
-  | inl e ↦ rw e (looked.1 (rw e at nameless))
-  | inr apart ↦ looked.0 q apart (list q (before (is_entered_at (fin.get m q)) (is_entered_at (fin.get k q)) (keeps q apart) (rw same at nameless)))
+  | inl e ↦ rw e (looked.1 ∙ ap not (rw e at nameless))
+  | inr apart ↦ looked.0 q apart ∙ list q (before (is_entered_at (fin.get m q)) (is_entered_at (fin.get k q)) (keeps q apart) (rw same at nameless))
 ]
 
 -- a tree of which a node changes in its slot, and stays entered
