@@ -16,7 +16,7 @@ use Rattle.hurd_machine.proofs.Asks.{IsPlain, on_ok, given_ok, on_same, on_plain
 use Rattle.hurd_core.specs.Core.{attaching, naming_asks}
 use Rattle.hurd_ports.specs.Steps.{named}
 use Rattle.hurd_machine.proofs.Opens.{fresh_next}
-use Rattle.hurd_fsys.specs.Aims.{server_ids}
+use Rattle.hurd_lookup.specs.Lent.{server_ids}
 use Rattle.hurd_fsys.specs.Setting.{root_kind, root_mode, seat_on}
 use Rattle.hurd_fsys.proofs.AimsLaws.{Aims}
 

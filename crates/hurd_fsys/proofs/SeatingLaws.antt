@@ -1,7 +1,7 @@
 -- When setting a translator answers, and leaves, what its plan says.
 use Rattle.std.proofs.Common.{◌≡◌, ◌∙◌, ◌⊎◌, ℕ, Bool, true, false, not, if◌then◌else◌, List, [], ◌∷◌, ◌++◌, Option, Some, None, inl, inr, refl, sym, ap, ap₂, subst}
 use Rattle.std.specs.Prelude.{Result, Ok, Err, IsOk, is_some, option_copied}
-use Rattle.hurd_machine.proofs.Common.{Bor, Change, ENOMEM, EOPNOTSUPP, EditHeader, Errno, Meaning, Meets, Name, Named, Plan, Planned, Reply, SET, Task, World, answered, apply_all, asks_trans, first, has_words, header_at, info_at, is_server_root, naming_of, node_at, passive_of, ports_of, sets_attrs_at, told, tree_by, with_passive, words_at}
+use Rattle.hurd_machine.proofs.Common.{Bor, Change, ENOMEM, ENXIO, EOPNOTSUPP, EditHeader, Errno, Meaning, Meets, Name, Named, Planned, Reply, SET, Task, World, answered, apply_all, asks_trans, first, has_words, header_at, info_at, is_server_root, naming_of, node_at, passive_of, ports_of, sets_attrs_at, told, tree_by, with_passive, words_at}
 use Rattle.std.specs.Option.{option_map}
 use Rattle.hurd_nodes.proofs.PartLaws.{and_both}
 use Rattle.hurd_machine.specs.declared.call.Reply.TheVariants.{Done, Refused}
@@ -13,7 +13,10 @@ use Rattle.hurd_machine.proofs.Asks.{given_ok}
 use Rattle.hurd_core.proofs.CoreLaws.{naming-had}
 use Rattle.hurd_core.proofs.PlanLaws.{asked-refused, does-planned, follows-from, follows-refused, follows-then, planned-then}
 use Rattle.hurd_machine.specs.declared.call.Setting.{Setting}
-use Rattle.hurd_fsys.specs.Aims.{FindsAims, PlannedOr, aims_asks, lent, server_ids}
+use Rattle.hurd_lookup.specs.Lacking.{PlannedOr}
+use Rattle.hurd_lookup.specs.Lent.{lent, server_ids}
+use Rattle.hurd_lookup.proofs.LackingLaws.{weaker}
+use Rattle.hurd_fsys.specs.Aims.{FindsAims, aims_asks}
 use Rattle.hurd_fsys.specs.Setting as spec
 use Rattle.hurd_fsys.specs.Setting.{SetLacks, box_aims, emptying, leaver, plan_set_translator, seat_asks, seat_on, seating, sets_nothing, setter_asks, setting, setting_where, storing}
 use Rattle.hurd_fsys.proofs.StoringLaws.{some_has, storing_back, storing_names, storing_sets, tree_sets, words_told}
@@ -58,17 +61,6 @@ module _ (w : World) (t : ℕ) (n : Name) (f : Setting) (words : List (List ℕ)
           back ∙ ap₂ (λ (k : List (List ℕ)) (z : World). apply_all (storing f n k) z) (sym same) (d.0 ∙ is) ∙ storing_back n words (asks_trans f.passive SET) w,
           subst (λ (r : Result Task Errno). (r ≡ Err e) ⊎ ((e ≡ ENOMEM) × IsOk r)) named_there d.1,
         )
-
--- what is as planned is so where memory may be wanting too
-weaker : {T : Type 0} (Lacks : Type 0) (w : World) (P : Plan) (f : T → Reply) (r : Result T Errno) (y : World) → Planned w P f r y → PlannedOr Lacks w P f r y
-weaker Lacks w P f (Ok a) y h = h
-weaker Lacks w P f (Err e) y h = (
-  h.0,
-  elim h.1 [
-    | inl refused ↦ inl refused
-    | inr lacks ↦ inr (lacks.0, inl lacks.1)
-  ],
-)
 
 -- of a port that may set, on what it names
 module _ {S : Type 0} (mean : S → Meaning) (w : World) (t p : ℕ) (f : Setting) (words : List (List ℕ)) (server : Option S) (b : Bool) (brings : b ≡ is_some server) where
@@ -166,12 +158,12 @@ module _ {S : Type 0} (mean : S → Meaning) (w : World) (t p : ℕ) (f : Settin
                 subst (λ (r : Result Named Errno). IsOk (first r (seat_asks w f))) asked (subst (λ (r : Result (Option Name) Errno). IsOk r) at refl)
 
             -- its targets are not found
-            pub set_aimless : (e : Errno) → FindsAims {B = List Name} m (λ ns. ns) (aims_asks w (lent n.right.ids n.header.owner) m) (Err e) → IsPlanned (Err e) w
+            pub set_aimless : (e : Errno) → FindsAims {B = List Name} m (λ ns. ns) (aims_asks ENXIO w (lent n.right.ids n.header.owner) m) (Err e) → IsPlanned (Err e) w
             set_aimless e (inl refused) = brought (Err e) w (asked-refused w (box_aims w n (Some m)) (spec.seated w t n f words (Some m) old) tells e refused)
             set_aimless e (inr lacks) = (refl, inr (lacks.0, inr (subst (λ (b : Option Meaning). SetLacks w t p f b) (sym (ap (option_map mean) some)) (lacks.1, box_may_come))))
 
             -- they are: the words are stored, and it is taken
-            pub set_seated : (targets : List Name) → aims_asks w (lent n.right.ids n.header.owner) m ≡ Ok targets → (r : Result (Unit {0}) Errno) (y : World)
+            pub set_seated : (targets : List Name) → aims_asks ENXIO w (lent n.right.ids n.header.owner) m ≡ Ok targets → (r : Result (Unit {0}) Errno) (y : World)
                 → Does w (naming_asks w t 2) (seated_with m targets) (λ x. tt {0}) r y → IsPlanned r y
             set_seated targets found r y does =
                 brought r y

@@ -1,7 +1,7 @@
 -- The laws of setting a translator.
 use Rattle.std.proofs.Common.{◌≡◌, ◌∙◌, ◌||◌, ◌&&◌, ◌==◌, not, slice_get, ℕ, Bool, true, false, if◌then◌else◌, List, [], ◌∷◌, ◌++◌, Option, Some, None, refl, sym, ap, ap₂, subst, inl, inr}
 use Rattle.std.specs.Prelude.{Ok, is_some}
-use Rattle.hurd_machine.proofs.Common.{BySeat, Change, Coherent, DropServer, EBUSY, EINVAL, EOPNOTSUPP, FORCE, GidOfRight, Holds, Io, IsAmong, Meaning, Name, NameMap, Named, Part, SET, Seen, Settle, Site, Sound, Taken, Task, UidOfRight, Unseat, UsersOf, World, active_at, active_in, apply_all, asks_goaway, asks_trans, can_name, has_words, info_at, is_server_root, tree_by, users}
+use Rattle.hurd_machine.proofs.Common.{BySeat, Change, Coherent, DropServer, EBUSY, EINVAL, ENXIO, EOPNOTSUPP, FORCE, GidOfRight, Holds, Io, IsAmong, Meaning, Name, NameMap, Named, Part, SET, Seen, Settle, Site, Sound, Taken, Task, UidOfRight, Unseat, UsersOf, World, active_at, active_in, apply_all, asks_goaway, asks_trans, can_name, has_words, info_at, is_server_root, tree_by, users}
 use Rattle.hurd_creds.specs.TransBits.{ORPHAN}
 use Rattle.hurd_nodes.proofs.PartLaws.{and_both}
 use Rattle.hurd_machine.specs.declared.call.Reply.TheVariants.{Done, Words}
@@ -14,7 +14,7 @@ use Rattle.hurd_machine.proofs.Asks.{IsPlainReply, port_same, port_plain, info_s
 use Rattle.hurd_machine.proofs.CallLaws.{CallLaws, answered_piece, answered_whole, looking_laws}
 use Rattle.hurd_core.specs.Core.{attaching, naming_asks}
 use Rattle.hurd_machine.specs.declared.call.Setting.{Setting}
-use Rattle.hurd_fsys.specs.Aims.{lent, server_ids}
+use Rattle.hurd_lookup.specs.Lent.{lent, server_ids}
 use Rattle.hurd_fsys.specs.Setting.{sets_nothing, setter_asks, may_seat, is_excluded, may_replace, may_set, seat_asks, leaver, emptying, storing, seat_on, box_aims, seating, setting_where, plan_set_translator, GoesFor, seat_parts, parts_where, touches_set_translator, root_mode, root_kind, stored_asks, plan_get_translator, touches_get_translator}
 use Rattle.hurd_fsys.specs.Owned.{owned_asks}
 use Rattle.hurd_fsys.proofs.OwnedLaws.{Owner, owner, owner_right, owner_sees, owned_same, owned_plain}
@@ -123,7 +123,7 @@ module _ (t p : ℕ) (f : Setting) where
 
       -- the targets of a box that are found, a task of S saw
       targets_seen : (S : ℕ → Bool) → S t ≡ true → (m : Meaning) (targets : List Name) → box_aims w n (Some m) ≡ Ok targets → (q : Name) → IsAmong q targets → Seen S w q
-      targets_seen S ours m targets is q among = aims_seen S w n.right.ids (right_taken S w n (owner_right t p ours n k)) n.header.owner m targets is q among
+      targets_seen S ours m targets is q among = aims_seen S w n.right.ids (right_taken S w n (owner_right t p ours n k)) n.header.owner ENXIO refl m targets is q among
 
       box_whole : (o : Option Meaning) (targets : List Name) → box_aims w n o ≡ Ok targets → Whole t Written w w (spec.seated w t n f words o old targets).changes
       box_whole None targets found = emptied_whole
@@ -131,7 +131,7 @@ module _ (t p : ℕ) (f : Setting) where
           let is = counted_task w t (can_name 2) x at in
           let later = later_new w t 1 x is in
           let tasks = (like w n k).tasks in
-          let aims = aims_like w v n.right.node (like w n k) m targets (aims_fit w (stands s) (lent n.right.ids n.header.owner) m targets found (targets_seen (λ u. true) refl m targets found)) in
+          let aims = aims_like w v n.right.node (like w n k) m targets (aims_fit w (stands s) (lent n.right.ids n.header.owner) ENXIO refl m targets found (targets_seen (λ u. true) refl m targets found)) in
           with_words (attaching t (seat_on n.right.node n.header m (leaver f old) false) (server_ids n.header.owner) targets m x) (λ y.
           comings_whole v t n.right.node n.header (like w n k).there m x (ap (λ (ts : List Task). slice_get ts t) tasks ∙ is) targets aims (stands y) (own_task w t (seat_parts w f n.right.node old)) (inr (inr later)) (inr (inr later))
           (inr (inr later)) (inr (inr (fresh_new w t x is))) (inl (inl refl)) (leaver f old) (λ q is. ap (λ (rs : NameMap Site). active_in rs n.right.node) (like w n k).sites ∙ (e ∙ leaver_is old q is)) left_here (λ S ours q among. inl (targets_seen S ours m targets found q among))))
@@ -148,7 +148,7 @@ module _ (t p : ℕ) (f : Setting) where
         of_box : (o : Option Meaning) (old : Option Name) → seating w t n f words o old ≡ seating v t n f words o old
         of_box None old = answered_same _ _ _ _ refl (λ targets found. refl)
         of_box (Some m) old =
-            answered_same _ _ _ _ (aims_alike a n.right.ids (right_taken S v n (owner_right t p ours n k)) n.header.owner m).same (λ targets found. answered_same _ _ _ _ (naming_same a t ours) (λ x at. refl))
+            answered_same _ _ _ _ (aims_alike a n.right.ids (right_taken S v n (owner_right t p ours n k)) n.header.owner ENXIO refl m).same (λ targets found. answered_same _ _ _ _ (naming_same a t ours) (λ x at. refl))
 
     half_plain : (w : World) (n : Named) → Owner t p w n → (b : Bool) → IsPlainReply (setting_where b w t f words box n).reply
     half_plain w n k true = done_plain Done refl
@@ -157,7 +157,7 @@ module _ (t p : ℕ) (f : Setting) where
         of_box : (o : Option Meaning) (old : Option Name) → IsPlainReply (seating w t n f words o old).reply
         of_box None old = answered_plain _ _ (ok_plain _) (λ targets found. done_plain Done refl)
         of_box (Some m) old =
-            answered_plain _ _ (aims_alike (Agree-refl (λ u. true) w) n.right.ids (right_taken (λ u. true) w n (owner_right t p refl n k)) n.header.owner m).plain
+            answered_plain _ _ (aims_alike (Agree-refl (λ u. true) w) n.right.ids (right_taken (λ u. true) w n (owner_right t p refl n k)) n.header.owner ENXIO refl m).plain
             (λ targets found. answered_plain _ _ (naming_plain w t) (λ x at. done_plain Done refl))
 
     pub set_translator_laws : CallLaws t (λ w. plan_set_translator w t p f words box) (λ w. touches_set_translator w t p f box)

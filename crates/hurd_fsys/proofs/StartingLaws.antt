@@ -11,7 +11,7 @@ use Rattle.hurd_machine.proofs.Opens.{own_task, fresh_new, later_new}
 use Rattle.hurd_machine.proofs.Pending.{pends_whole, starts_whole}
 use Rattle.hurd_machine.proofs.Views.{Agree, Agree-refl, same_tasks, header_same, active_same}
 use Rattle.hurd_core.specs.Core.{naming_asks}
-use Rattle.hurd_fsys.specs.Aims.{lent}
+use Rattle.hurd_lookup.specs.Lent.{lent}
 use Rattle.hurd_fsys.specs.Starting.{Startup, pending_asks, plan_start_failed, plan_startup, same_words, start_aims, started, startup_asks, touches_start_failed, touches_startup, waiting_asks}
 use Rattle.hurd_fsys.proofs.AimsLaws.{Aims, aims_alike, aims_fit, aims_seen}
 use Rattle.hurd_fsys.proofs.BegunLaws.{newcomer, begins, counted_task, naming_same, naming_plain}
@@ -88,10 +88,10 @@ module _ (t : ℕ) (m : Meaning) where
   targets_seen : {S : ℕ → Bool} {w : World} (ours : S t ≡ true) (x : Task) → task_at w t ≡ Some x → (owner : ℕ) (ns : List Name) → start_aims w t m owner ≡ Ok ns → (n : Name) → IsAmong n ns → Seen S w n
   targets_seen {S} {w} ours x at owner ns is =
       let y = on_ok ESRCH (task_at w t) _ ns is in
-      aims_seen S w y.0.ids (task_taken S w t y.0 ours y.1) owner m ns y.2
+      aims_seen S w y.0.ids (task_taken S w t y.0 ours y.1) owner EBUSY refl m ns y.2
 
   targets_fit : {w : World} → Sound w → (owner : ℕ) (ns : List Name) → start_aims w t m owner ≡ Ok ns → ((n : Name) → IsAmong n ns → Seen (λ u. true) w n) → Aims w m ns
-  targets_fit {w} st owner ns is seen = let y = on_ok ESRCH (task_at w t) _ ns is in aims_fit w (stands st) (lent y.0.ids owner) m ns y.2 seen
+  targets_fit {w} st owner ns is seen = let y = on_ok ESRCH (task_at w t) _ ns is in aims_fit w (stands st) (lent y.0.ids owner) EBUSY refl m ns y.2 seen
 
   abbrev parts : PendingStart → Result Startup Errno → Part → Type 0
   parts s r = asked_parts r (λ a p. p ≡ AttrOf s.node)
@@ -118,14 +118,14 @@ module _ (t : ℕ) (m : Meaning) where
       let seen : Seen S v s.node = starter_sees t ours s k in
       first_same _ _ _ _
       (on_same _ _ _ _ _ (header_same a s.node seen) (λ h at. given_same _ _ _ _ _ (ap (λ o. not (is_some o) && same_words h.passive s.words) (active_same a s.node seen)) (λ e. refl)))
-      (λ h is. first_same _ _ _ _ (on_same _ _ _ _ _ (same_tasks a t ours) (λ x at. (aims_alike a x.ids (task_taken S v t x ours at) h.owner m).same)) (λ ns aims.
+      (λ h is. first_same _ _ _ _ (on_same _ _ _ _ _ (same_tasks a t ours) (λ x at. (aims_alike a x.ids (task_taken S v t x ours at) h.owner EBUSY refl m).same)) (λ ns aims.
       first_same _ _ _ _ (naming_same a t ours) (λ x at. refl)))
 
   -- of memory nothing is known
   pub startup_plain : (w : World) (s : PendingStart) → IsPlain (startup_asks w t m s)
   startup_plain w s =
       first_plain _ _ (on_plain _ _ _ refl (λ h at. given_plain _ _ _ refl (λ e. ok_plain _)))
-      (λ h is. first_plain _ _ (on_plain _ _ _ refl (λ x at. (aims_alike (Agree-refl (λ u. true) w) x.ids (task_taken (λ u. true) w t x refl at) h.owner m).plain)) (λ ns aims.
+      (λ h is. first_plain _ _ (on_plain _ _ _ refl (λ x at. (aims_alike (Agree-refl (λ u. true) w) x.ids (task_taken (λ u. true) w t x refl at) h.owner EBUSY refl m).plain)) (λ ns aims.
       first_plain _ _ (naming_plain w t) (λ x at. ok_plain _)))
 
   started_plain : (w : World) (s : PendingStart) → IsPlainReply (started t s m (startup_asks w t m s)).reply

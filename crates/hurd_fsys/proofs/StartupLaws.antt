@@ -1,14 +1,15 @@
 -- When starting a translator, or giving that up, answers, and leaves, what its plan says.
 use Rattle.std.proofs.Common.{◌≡◌, ◌∙◌, ℕ, List, true, false, true≢false, Option, Some, None, inl, inr, refl, sym, ap, subst}
 use Rattle.std.specs.Prelude.{Result, Ok, Err, IsOk, is_some, option_copied}
-use Rattle.hurd_machine.proofs.Common.{Bor, Change, ESRCH, Errno, Header, IdSets, Meaning, Name, PendingStart, Plan, Reply, Task, World, answered, apply_all, first, ids_at, is_no_memory, naming_of, on, or_refuse, pending, pending_of, ports_of, task_of}
+use Rattle.hurd_machine.proofs.Common.{Bor, Change, ESRCH, Errno, Header, Meaning, Name, PendingStart, Plan, Reply, Task, World, answered, apply_all, first, is_no_memory, naming_of, on, or_refuse, pending, pending_of, ports_of, task_of}
 use Rattle.hurd_machine.specs.declared.call.Reply.TheVariants.{Done, Refused}
 use Rattle.hurd_machine.specs.World.{nodes_of}
 use Rattle.hurd_machine.specs.Plan.{Follows}
 use Rattle.hurd_core.specs.Core.{Does, attaching, naming_asks}
 use Rattle.hurd_core.proofs.CoreLaws.{naming-had, naming-refused}
 use Rattle.hurd_core.proofs.PlanLaws.{follows-from, follows-refused, follows-then}
-use Rattle.hurd_fsys.specs.Aims.{TriedOr, server_ids}
+use Rattle.hurd_lookup.specs.Lacking.{TriedOr}
+use Rattle.hurd_lookup.specs.Lent.{server_ids}
 use Rattle.hurd_fsys.specs.Setting.{seat_on}
 use Rattle.hurd_fsys.specs.Starting.{StartFinds, StartLacks, Startup, pending_asks, plan_start_failed, plan_startup, start_aims, started, startup_asks, waiting_asks}
 use Rattle.hurd_fsys.proofs.StartingLaws.{Starter, starter, startable, startup_plain}
@@ -22,18 +23,6 @@ lent_none (Some b) h = absurd (true≢false h)
 pub lent_some : {A : Type 0} (o : Option (Bor A)) → is_some o ≡ true → (a : A) × (Some a ≡ option_copied o)
 lent_some None h = absurd (true≢false (sym h))
 lent_some (Some b) h = (b.now, refl)
-
--- with the ids of a task, if it is there
-
-pub ids_not : {B : Type 0} (f : IdSets → Result B Errno) (o : Option Task) (e : Errno) → Err e ≡ ids_at o → on ESRCH o (λ x. f x.ids) ≡ Err e
-unfolding on
-ids_not f None e is = cc
-ids_not f (Some x) e is = absurd (cc)
-
-pub ids_had : {B : Type 0} (f : IdSets → Result B Errno) (o : Option Task) (ids : IdSets) → Ok ids ≡ ids_at o → f ids ≡ on ESRCH o (λ x. f x.ids)
-unfolding on
-ids_had f None ids is = absurd (cc)
-ids_had f (Some x) ids is = let same : ids ≡ x.ids = cc in ap f same
 
 -- of a start that waits, targets that are found, and names that are left, to what is asked
 

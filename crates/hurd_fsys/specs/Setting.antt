@@ -5,7 +5,7 @@ use Rattle.hurd_creds.specs.declared.name.Name.{Name}
 use Rattle.hurd_creds.specs.declared.mode.Mode.{Mode}
 use Rattle.hurd_creds.specs.declared.attrs.Kind.{Kind}
 use Rattle.hurd_creds.specs.declared.errno.Errno.{Errno}
-use Rattle.hurd_creds.specs.declared.errno.Errno.TheVariants.{EBUSY, EINVAL, EOPNOTSUPP}
+use Rattle.hurd_creds.specs.declared.errno.Errno.TheVariants.{EBUSY, EINVAL, ENXIO, EOPNOTSUPP}
 use Rattle.hurd_creds.specs.declared.trans_flags.TransFlags.{TransFlags}
 use Rattle.hurd_creds.specs.TransBits.{asks_goaway, asks_trans, SET, EXCL, ORPHAN, FORCE}
 use Rattle.hurd_trans_iface.specs.Nodes.{Header, is_dir, has_words, some_words, with_passive}
@@ -21,7 +21,8 @@ use Rattle.hurd_machine.specs.Touched.{asked_parts, Nothing, Goes}
 use Rattle.hurd_core.specs.declared.to_make.ServerToMake.{ServerToMake}
 use Rattle.hurd_machine.specs.declared.call.Setting.{Setting}
 use Rattle.hurd_core.specs.Core.{attaching, naming_asks}
-use Rattle.hurd_fsys.specs.Aims.{HasTargets, aims_asks, lent, server_ids}
+use Rattle.hurd_lookup.specs.Lent.{lent, server_ids}
+use Rattle.hurd_fsys.specs.Aims.{HasTargets, aims_asks}
 use Rattle.hurd_fsys.specs.Owned.{owned_asks}
 
 -- whether neither half is to be set
@@ -86,10 +87,10 @@ root_kind m = (root_of m.kind m.text).kind
 abbrev pub seat_on : Name → Header → Meaning → Option Name → Bool → ServerToMake
 seat_on n h m instead starts = record { seat = n; owner = h.owner; group = h.group; mode = root_mode (root_kind m) h.mode; instead = instead; starts = starts }
 
--- the targets of a box that is brought, found with what is lent of the port's ids
+-- the targets of a box that is brought, found with what is lent of the port's ids: ENXIO where a translator waits at one
 abbrev pub box_aims : World → Named → Option Meaning → Result (List Name) Errno
 box_aims w n None = Ok []
-box_aims w n (Some m) = aims_asks w (lent n.right.ids n.header.owner) m
+box_aims w n (Some m) = aims_asks ENXIO w (lent n.right.ids n.header.owner) m
 
 -- what is set where something is: the words; then a box, which means this and has these targets, or none
 abbrev pub seated : World → ℕ → Named → Setting → List (List ℕ) → Option Meaning → Option Name → List Name → Plan

@@ -18,7 +18,8 @@ use Rattle.hurd_machine.specs.Sight.{Part, AttrOf}
 use Rattle.hurd_machine.specs.Touched.{asked_parts, Nothing}
 use Rattle.hurd_core.specs.Core.{attaching, naming_asks}
 use Rattle.hurd_core.specs.PortNode.{header_with}
-use Rattle.hurd_fsys.specs.Aims.{HasTargets, aims_asks, lent, server_ids}
+use Rattle.hurd_lookup.specs.Lent.{lent, server_ids}
+use Rattle.hurd_fsys.specs.Aims.{HasTargets, aims_asks}
 use Rattle.hurd_fsys.specs.Setting.{seat_on}
 
 -- what the task is to start: ESRCH
@@ -50,9 +51,9 @@ pub record Startup : Type 0 where
   pub targets : List Name
   pub task : Task
 
--- the targets of the server that comes, found with what is lent of the task's ids
+-- the targets of the server that comes, found with what is lent of the task's ids: EBUSY where a translator waits at one, which is to be started first
 abbrev pub start_aims : World → ℕ → Meaning → ℕ → Result (List Name) Errno
-start_aims w t m owner = on ESRCH (task_at w t) (λ x. aims_asks w (lent x.ids owner) m)
+start_aims w t m owner = on ESRCH (task_at w t) (λ x. aims_asks EBUSY w (lent x.ids owner) m)
 
 -- and the targets are found, and the task can name a server and its root: EOVERFLOW
 abbrev pub startup_asks : World → ℕ → Meaning → PendingStart → Result Startup Errno

@@ -1,31 +1,15 @@
 //! At which nodes a server is to aim that comes.
-ghost use Rattle.std.specs.Prelude.{◌≡◌, Ok};
+ghost use Rattle.std.specs.Prelude.{◌≡◌};
 ghost use Rattle.hurd_core.specs.Core.{world_of};
-ghost use Rattle.hurd_fsys.specs.Aims.{FindsAims, aims_asks, are_dirs, fits, is_lent, lent};
+ghost use Rattle.hurd_lookup.specs.Lent.{lent};
+ghost use Rattle.hurd_fsys.specs.Aims.{FindsAims, aims_asks, are_dirs, fits};
 
 use hurd_core::Core;
 use hurd_creds::{Errno, Ids, NodeName};
+use hurd_lookup::lent::lent;
 use hurd_lookup::resolve::resolve_all;
 use hurd_trans_iface::{Crossing, Server, is_dir};
 use std::alloc::Global;
-
-/// Whether these ids hold the uid of a node's owner, or uid 0.
-fn is_lent(ids: &Ids, owner: u32) -> bool
-    ensures { result ≡ is_lent ids.now owner }
-{
-    ids.holds_uid(owner) || ids.holds_uid(0)
-}
-
-/// With which ids a server's targets are found: those of the owner of its node, where they are lent to these; else none. Takes no memory.
-fn lent(alloc: Global, ids: &Ids, owner: u32) -> Result<Ids, Errno>
-    ensures { result ≡ Ok (lent ids.now owner) }
-{
-    if is_lent(ids, owner) {
-        Ids::new(alloc, &[owner], &[])
-    } else {
-        Ids::new(alloc, &[], &[])
-    }
-}
 
 /// Whether each is a directory that is there.
 fn are_dirs<S: Server>(core: &Core<S>, nodes: &[NodeName]) -> bool
@@ -52,7 +36,7 @@ fn fits<S: Server>(core: &Core<S>, crossing: Crossing, nodes: &[NodeName]) -> bo
 
 /// The targets of a server for a node of this owner, which somebody starts who has these ids, in order. Where it has none, no memory is taken.
 ///
-/// Errors: those of `resolve`, of the first target that is refused, `ENOTDIR` a union's target is no directory; `ENOMEM`.
+/// Errors: those of `resolve_all`, of the first target that is refused, with `asleep` where a translator waits at one, `ENOTDIR` a union's target is no directory; `ENOMEM`.
 #[tactic(auto, unfolding(hurd_machine::specs::Plan::first, hurd_machine::specs::Plan::given))]
 pub(crate) fn aims<S: Server>(
     core: &Core<S>,
@@ -60,13 +44,14 @@ pub(crate) fn aims<S: Server>(
     ids: &Ids,
     owner: u32,
     server: &S,
+    asleep: Errno,
 ) -> Result<Vec<NodeName>, Errno>
     ensures { let m = S.meaning server.now in
-        FindsAims m (λ nodes. nodes.items) (aims_asks (world_of S.meaning core.now) (lent ids.now owner) m) result }
+        FindsAims m (λ nodes. nodes.items) (aims_asks asleep (world_of S.meaning core.now) (lent ids.now owner) m) result }
 {
     let paths = server.targets(alloc)?;
     let own = lent(alloc, ids, owner)?;
-    let nodes = resolve_all(core, alloc, &own, paths.as_slice())?;
+    let nodes = resolve_all(core, alloc, &own, paths.as_slice(), asleep)?;
     if !fits(core, server.root().crossing, &nodes) {
         return Err(Errno::ENOTDIR);
     }

@@ -11,7 +11,8 @@ ghost use Rattle.hurd_machine.specs.Plan.{Follows, Planned, told};
 ghost use Rattle.hurd_machine.specs.declared.call.Reply.TheVariants as reply;
 ghost use Rattle.hurd_core.specs.Core.{Does, attaching, naming_asks, without_box, world_of};
 ghost use Rattle.hurd_core.specs.PortNode.{named};
-ghost use Rattle.hurd_fsys.specs.Aims.{PlannedOr, server_ids};
+ghost use Rattle.hurd_lookup.specs.Lacking.{PlannedOr};
+ghost use Rattle.hurd_lookup.specs.Lent.{server_ids};
 ghost use Rattle.hurd_fsys.specs.Setting.{SetLacks, emptying, is_excluded, leaver, may_replace, plan_get_translator, plan_set_translator, root_mode, seat_asks, sets_nothing, setter_asks, storing, with_search};
 
 use crate::aims::aims;
@@ -48,7 +49,7 @@ fn leaver(setting: Setting, old: Option<ServerName>) -> Option<ServerName>
 /// Errors, in order, with the box back: `ESRCH` no such task, `EBADF` no such port, or one that controls a server, `EDIED` no such node,
 /// `EPERM` the port's ids don't own it, `EINVAL` a box without active `SET`; with neither `SET` nothing is done; `EOPNOTSUPP` a server's
 /// root, or a node of a server that keeps no tree, `EBUSY` words that are there with passive `EXCL`, an old server with active `EXCL`, or with
-/// active `SET` one with users, without `ORPHAN` and `FORCE`; of each target of the box in order those of `resolve`, with the uid of the
+/// active `SET` one with users, without `ORPHAN` and `FORCE`; of each target of the box in order `ENXIO` a translator waits there, or those of its lookup, with the uid of the
 /// node's owner where the port's ids hold it or 0, else with no ids; `ENOTDIR` a union's target is no directory, `EOVERFLOW`, `ENOMEM`, which
 /// may come in place of what is asked of targets, or behind that. Without a box it takes no memory.
 pub fn file_set_translator<S: Server>(
@@ -88,7 +89,14 @@ pub fn file_set_translator<S: Server>(
             Ok(())
         }
         Some(server) => {
-            let targets = match aims(core, alloc, &named.right.ids, attrs.owner, &server) {
+            let targets = match aims(
+                core,
+                alloc,
+                &named.right.ids,
+                attrs.owner,
+                &server,
+                Errno::ENXIO,
+            ) {
                 Ok(targets) => targets,
                 Err(errno) => return Err((errno, Some(server))),
             };

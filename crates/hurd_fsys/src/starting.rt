@@ -10,7 +10,8 @@ ghost use Rattle.hurd_machine.specs.declared.call.Reply.TheVariants.{Done};
 ghost use Rattle.hurd_machine.specs.World.{words_at};
 ghost use Rattle.hurd_core.specs.Core.{without_box, world_of};
 ghost use Rattle.hurd_core.specs.PortNode.{or_no_words};
-ghost use Rattle.hurd_fsys.specs.Aims.{FindsAims, TriedOr};
+ghost use Rattle.hurd_fsys.specs.Aims.{FindsAims};
+ghost use Rattle.hurd_lookup.specs.Lacking.{TriedOr};
 ghost use Rattle.hurd_fsys.specs.Starting.{StartFinds, StartLacks, header_told, plan_start_failed, plan_startup, same_words, start_aims, waiting_asks};
 
 use crate::aims::aims;
@@ -39,7 +40,7 @@ pub fn start_failed<S: Server>(core: &mut Core<S>, task: TaskId) -> Result<(), E
 /// want of memory.
 ///
 /// Errors, in order, with the box back: `ESRCH` no such task, or it is to start nothing, `EDIED` the node is gone, `EBUSY` a server is
-/// active on it, or its words are others than those that the lookup found; of each target in order those of `resolve`, with the uid of the node's owner where the task
+/// active on it, or its words are others than those that the lookup found; of each target in order `EBUSY` a translator waits there that is to be started first, or those of its lookup, with the uid of the node's owner where the task
 /// holds it or 0, else with no ids; `ENOTDIR` a union's target is no directory, `EOVERFLOW`, `ENOMEM`, which may come in place of what is asked of targets, or behind that.
 pub fn fsys_startup<S: Server>(
     core: &mut Core<S>,
@@ -117,7 +118,7 @@ fn start_aims<S: Server>(
         FindsAims m (λ nodes. nodes.items) (start_aims (world_of S.meaning core.now) task.0 m owner) result }
 {
     let ids = core.ids(task)?;
-    aims(core, alloc, ids, owner, server)
+    aims(core, alloc, ids, owner, server, Errno::EBUSY)
 }
 
 /// The attributes of a node that is there, with nothing active on it, and with the words that a lookup found.

@@ -7,7 +7,7 @@ use Rattle.hurd_machine.specs.World.{World}
 use Rattle.hurd_machine.specs.Plan.{Plan, after_plan, returning}
 use Rattle.hurd_machine.specs.Sight.{Part}
 use Rattle.hurd_rights.specs.Rights.{plan_deallocate, touches_deallocate, plan_send, touches_send, plan_receive, touches_receive, plan_makeauth, touches_makeauth}
-use Rattle.hurd_lookup.specs.Lookup.{plan_lookup, touches_lookup}
+use Rattle.hurd_lookup.specs.Seeking.{plan_lookup, touches_lookup}
 use Rattle.hurd_lookup.specs.Getroot.{plan_getroot, touches_getroot}
 use Rattle.hurd_fsys.specs.Fsys.{plan_cntl, touches_cntl, plan_getcontrol, touches_getcontrol, plan_goaway, touches_goaway, plan_get_options, touches_get_options, plan_set_options, touches_set_options}
 use Rattle.hurd_fsys.specs.Setting.{plan_set_translator, touches_set_translator, plan_get_translator, touches_get_translator}

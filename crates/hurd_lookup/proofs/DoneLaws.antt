@@ -10,6 +10,7 @@ use Rattle.hurd_machine.specs.declared.call.Reply.TheVariants.{Found}
 use Rattle.hurd_machine.specs.Plan.{Follows}
 use Rattle.hurd_core.specs.Core.{Does, NewNodeAt, room_asks, making_asks, making_open}
 use Rattle.hurd_lookup.specs.Lookup.{NewPort, Outcome, Opens, Makes, Retries, Starts, ending_asks, finding, lookup_changes, lookup_told, no_modes}
+use Rattle.hurd_lookup.specs.Seeking.{sooner}
 use Rattle.hurd_lookup.specs.Ends.{MayMake}
 
 -- a method that does what a plan says, where it is not refused
@@ -44,6 +45,15 @@ module _ (w : World) (t : ℕ) (flags : OpenFlags) where
   pub unfound : (f : Result Outcome Errno) (e : Errno) → f ≡ Err e → asked f ≡ refuse e
   unfolding first answered
   unfound f e is = ap asked is
+
+  -- what is sought behind what was found
+  pub unfound_first : (f : Result Outcome Errno) (e : Errno) → f ≡ Err e → first f (sooner w t) ≡ Err e
+  unfolding first
+  unfound_first f e is = ap (λ (r : Result Outcome Errno). first r (sooner w t)) is
+
+  pub found_first : (f : Result Outcome Errno) (o : Outcome) (r : Result Outcome Errno) → f ≡ Ok o → sooner w t o ≡ r → first f (sooner w t) ≡ r
+  unfolding first
+  found_first f o r is then = ap (λ (x : Result Outcome Errno). first x (sooner w t)) is ∙ then
 
   module _ (o : Outcome) where
     full : (e : Errno) → ending_asks w t o ≡ Err e → asked (Ok o) ≡ refuse e

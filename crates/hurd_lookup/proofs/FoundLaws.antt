@@ -15,12 +15,13 @@ use Rattle.hurd_lookup.proofs.WalkLaws.{Ground, no_ids_taken, seen_ground, taken
 use Rattle.hurd_lookup.proofs.BeginLaws.{Begins, held_begins, seen_begins}
 use Rattle.hurd_lookup.proofs.EndLaws.{OutcomeShown, OutcomeSeen}
 use Rattle.hurd_lookup.proofs.HeldLaws.{held_ground}
+use Rattle.hurd_lookup.proofs.NestedLaws.{Lends, held_lends, seen_lends}
 use Rattle.hurd_lookup.proofs.OutcomeLaws.{outcome_whole}
 
--- what task t finds, which is to be opened by these flags, is the same in both worlds, where the task begins on their ground; and what is known of it
+-- what task t finds, which is to be opened by these flags, is the same in both worlds, where the task begins on their ground, and goes on by what is lent of its ids; and what is known of it
 abbrev pub FoundLaws : ℕ → OpenFlags → (World → Result Outcome Errno) → Type 1
 FoundLaws t flags found = (v w : World) (At Near Entries : Name → Type 0) (T : IdSets → Type 0) → Ground v w At Near Entries T → Begins t v w At Near T
-    → Alike (OutcomeShown At Entries T v flags) (found v) (found w)
+    → (P : IdSets → Type 0) → Lends t v w At Near Entries P → Alike (OutcomeShown At Entries T v flags) (found v) (found w)
 
 -- the task that makes a port of what was found
 module _ (v w : World) (t : ℕ) (same : task_at w t ≡ task_at v t) where
@@ -57,14 +58,14 @@ module _ (t : ℕ) (flags : OpenFlags) (found : World → Result Outcome Errno) 
     shown : OutcomeShown At Entries T v flags got.0
     is_task : task_at v t ≡ Some got.1
 
-  asked_alike : {v w : World} {At Near Entries : Name → Type 0} {T : IdSets → Type 0} → Ground v w At Near Entries T → Begins t v w At Near T → Alike (Answered At Entries T v) (asked v) (asked w)
-  asked_alike {v} {w} g b =
-      first_alike _ _ _ _ _ _ (l v w _ _ _ _ g b) (λ o is shown.
+  asked_alike : {v w : World} {At Near Entries : Name → Type 0} {T P : IdSets → Type 0} → Ground v w At Near Entries T → Begins t v w At Near T → Lends t v w At Near Entries P → Alike (Answered At Entries T v) (asked v) (asked w)
+  asked_alike {v} {w} g b k =
+      first_alike _ _ _ _ _ _ (l v w _ _ _ _ g b _ k) (λ o is shown.
       first_alike _ _ _ _ _ _ (ending_alike v w t b.task o) (λ x there is_task. ok_alike _ (o, x) (record { shown = shown; is_task = is_task })))
 
   -- as a set of tasks sees it
   seen_alike : (S : ℕ → Bool) (v w : World) → Agree S v w → S t ≡ true → Alike (Answered (Seen S v) (λ d. Sees S v (BodyOf d)) (Taken S v) v) (asked v) (asked w)
-  seen_alike S v w a ours = asked_alike (seen_ground a (Taken S v) (taken_powers S v) (no_ids_taken S v)) (seen_begins a t ours)
+  seen_alike S v w a ours = asked_alike (seen_ground a (Taken S v) (taken_powers S v) (no_ids_taken S v)) (seen_begins a t ours) (seen_lends a t ours)
 
   -- in one world, and as all do
   alone : (S : ℕ → Bool) (w : World) → S t ≡ true → Alike (Answered (Seen S w) (λ d. Sees S w (BodyOf d)) (Taken S w) w) (asked w) (asked w)
@@ -73,7 +74,7 @@ module _ (t : ℕ) (flags : OpenFlags) (found : World → Result Outcome Errno) 
   pub finding_laws : CallLaws t (λ w. finding w t flags (found w)) (λ w. finding_parts w t (found w))
   finding_laws = record {
     piece = λ w s. answered_piece s (asked w) _ _ (λ got is.
-        outcome_whole w t got.1 ((alone (λ k. true) w refl).has got is).is_task flags s got.0 ((asked_alike (held_ground w (stands s)) (held_begins w s.coherent t)).has got is).shown.on (λ S ours. ((alone S w ours).has got is).shown));
+        outcome_whole w t got.1 ((alone (λ k. true) w refl).has got is).is_task flags s got.0 ((asked_alike (held_ground w (stands s)) (held_begins w s.coherent t) (held_lends w (stands s) t)).has got is).shown.on (λ S ours. ((alone S w ours).has got is).shown));
     same = λ S v w c d a ours. answered_same _ _ _ _ (seen_alike S v w a ours).same (λ got is.
         let shown = ((alone S v ours).has got is).shown in
         ap (λ (cs : List Change). let P : Plan = record { reply = Found (lookup_told got.1 got.0); changes = cs } in P) (changes_same a t got.1 flags got.0 shown));

@@ -1,7 +1,7 @@
 -- One can be wherever a lookup leads: nobody is led to the root of a server that leads on.
-use Rattle.std.proofs.Common.{◌≡◌, ℕ, length, List, Option, Some, None, refl, ◌∙◌, ap, inl, inr}
+use Rattle.std.proofs.Common.{◌≡◌, ℕ, false, length, List, Option, Some, None, refl, ◌∙◌, ap, inl, inr}
 use Rattle.std.specs.Prelude.{Result, Ok}
-use Rattle.hurd_machine.proofs.Common.{CanBeAt, Errno, IdSets, IsAmong, Name, ServerInfo, World, home_at, info_in, leads_on, server_at, shape_by, targets_at, targets_in}
+use Rattle.hurd_machine.proofs.Common.{CanBeAt, Errno, IdSets, IsAmong, Name, ServerInfo, World, home_at, info_in, is_no_memory, leads_on, server_at, shape_by, targets_at, targets_in}
 use Rattle.hurd_machine.specs.World.{nodes_of}
 use Rattle.hurd_machine.proofs.Piece.{Stands}
 use Rattle.hurd_machine.proofs.Shapes.{child_held, parent_held}
@@ -68,5 +68,5 @@ module _ (w : World) where
       abbrev AllHeld : List (List ℕ) → List Name → Type 0
       AllHeld paths ns = ((n : Name) → IsAmong n ns → CanBeAt (nodes_of w) n) × (length ns ≡ length paths)
 
-      pub resolve_all_gives : (paths : List (List ℕ)) → Gives (AllHeld paths) (resolve_all w ids paths)
-      resolve_all_gives paths = record { has = (each_alike held_ground ids tt paths).has }
+      pub resolve_all_gives : (asleep : Errno) → is_no_memory asleep ≡ false → (paths : List (List ℕ)) → Gives (AllHeld paths) (resolve_all asleep w ids paths)
+      resolve_all_gives asleep plain paths = record { has = (each_alike held_ground ids tt asleep plain paths).has }

@@ -1,55 +1,56 @@
 -- One look along a path, as it is made.
 use Rattle.std.proofs.Common.{◌≡◌, ◌∙◌, ◌<◌, ◌-◌, ℕ, zero, suc, Bool, true, List, Option, Some, inl, inr, sym, ap, arith}
 use Rattle.std.specs.Prelude.{Result, Ok, Err}
-use Rattle.hurd_machine.proofs.Common.{EDIED, ENAMETOOLONG, Errno, Header, IdSets, Name, World, first, given, header_at, on}
+use Rattle.hurd_machine.proofs.Common.{EDIED, ENAMETOOLONG, Errno, Header, IdSets, World, first, given, header_at, on}
 use Rattle.hurd_lookup.specs.declared.request.Request.{Request}
+use Rattle.hurd_lookup.specs.declared.resolve.Landing.{Landing}
 use Rattle.hurd_lookup.specs.declared.resolve.Looked.{Looked}
 use Rattle.hurd_lookup.specs.declared.resolve.Looked.TheVariants.{Ends, Goes}
 use Rattle.hurd_lookup.specs.Path.{names_in, is_short}
 use Rattle.hurd_lookup.specs.Lookup.{Place, walk}
 use Rattle.hurd_lookup.specs.Legs.{Leads}
-use Rattle.hurd_lookup.specs.Resolve.{Leg, from_top, landed, leg_asks, leg_request, legs, most_looks, resolve, right_of}
+use Rattle.hurd_lookup.specs.Resolve.{Leg, from_top, landed, leg_asks, leg_request, legs, most_looks, path_end, right_of}
 
 module _ (w : World) (ids : IdSets) (l : Leg) (h : Header) (there : header_at w l.node ≡ Some h) (short : true ≡ is_short l.path) (r : Request) (plain : r ≡ leg_request l.path) where
   abbrev walked : Request → Result Place Errno
   walked q = walk w (right_of ids l) q l.node (names_in l.path)
 
-  abbrev then_landed : Request → (Leg → Result Name Errno) → Result Name Errno
+  abbrev then_landed : Request → (Leg → Result Landing Errno) → Result Landing Errno
   then_landed q onward = first (walked q) (landed w q onward)
 
-  leg_is : (onward : Leg → Result Name Errno) → leg_asks w ids l onward ≡ then_landed r onward
+  leg_is : (onward : Leg → Result Landing Errno) → leg_asks w ids l onward ≡ then_landed r onward
   unfolding on given
   leg_is onward =
       ap (λ (o : Option Header). on EDIED o (λ h. given ENAMETOOLONG (is_short l.path) (then_landed (leg_request l.path) onward))) there
       ∙ ap (λ (b : Bool). given ENAMETOOLONG b (then_landed (leg_request l.path) onward)) (sym short)
       ∙ ap (λ (q : Request). then_landed q onward) (sym plain)
 
-  pub leg_refused : (e : Errno) → walked r ≡ Err e → Leads (leg_asks w ids l) (Err e)
+  pub leg_refused : (e : Errno) → walked r ≡ Err e → Leads w (leg_asks w ids l) (Err e)
   unfolding first
   leg_refused e is = inl (λ onward. leg_is onward ∙ ap (λ (p : Result Place Errno). first p (landed w r onward)) is)
 
-  pub leg_led : (place : Place) (looked : Result Looked Errno) → walked r ≡ Ok place → Leads (λ onward. landed w r onward place) looked → Leads (leg_asks w ids l) looked
+  pub leg_led : (place : Place) (looked : Result Looked Errno) → walked r ≡ Ok place → Leads w (λ onward. landed w r onward place) looked → Leads w (leg_asks w ids l) looked
   unfolding first
   leg_led place looked is leads = go looked leads
     where
-      same : (onward : Leg → Result Name Errno) → leg_asks w ids l onward ≡ landed w r onward place
+      same : (onward : Leg → Result Landing Errno) → leg_asks w ids l onward ≡ landed w r onward place
       same onward = leg_is onward ∙ ap (λ (p : Result Place Errno). first p (landed w r onward)) is
 
-      go : (looked : Result Looked Errno) → Leads (λ onward. landed w r onward place) looked → Leads (leg_asks w ids l) looked
-      go (Ok (Ends n)) ends = λ onward. same onward ∙ ends onward
+      go : (looked : Result Looked Errno) → Leads w (λ onward. landed w r onward place) looked → Leads w (leg_asks w ids l) looked
+      go (Ok (Ends n)) ends = (λ onward. same onward ∙ ends.0 onward, ends.1)
       go (Ok (Goes m)) goes = λ onward. same onward ∙ goes onward
       go (Err e) refused = elim refused [ inl asked ↦ inl (λ onward. same onward ∙ asked onward) | inr lacks ↦ inr lacks ]
 
 -- a path from the root of the tree, by its looks
 
 module _ (w : World) (ids : IdSets) (path : List ℕ) where
-  pub resolve_from : (l : Leg) → from_top path ≡ Ok l → legs most_looks w ids l ≡ resolve w ids path
-  unfolding first
-  resolve_from l is = sym (ap (λ (r : Result Leg Errno). first r (legs most_looks w ids)) is)
+  pub path_end_from : (l : Leg) → from_top path ≡ Ok l → legs most_looks w ids l ≡ path_end w ids path
+  unfolding first path_end
+  path_end_from l is = sym (ap (λ (r : Result Leg Errno). first r (legs most_looks w ids)) is)
 
-  pub resolve_refused : (e : Errno) → from_top path ≡ Err e → resolve w ids path ≡ Err e
-  unfolding first
-  resolve_refused e is = ap (λ (r : Result Leg Errno). first r (legs most_looks w ids)) is
+  pub path_end_refused : (e : Errno) → from_top path ≡ Err e → path_end w ids path ≡ Err e
+  unfolding first path_end
+  path_end_refused e is = ap (λ (r : Result Leg Errno). first r (legs most_looks w ids)) is
 
 -- where a look is left, one is made
 pub legs_one : (k : ℕ) (w : World) (ids : IdSets) (l : Leg) → 0 < k → legs k w ids l ≡ leg_asks w ids l (legs (k - 1) w ids)

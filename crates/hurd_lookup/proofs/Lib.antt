@@ -3,9 +3,12 @@ pub mod WalkLaws
 pub mod HeldLaws
 pub mod ResolveLaws
 pub mod LegLaws
+pub mod LentLaws
+pub mod LackingLaws
 pub mod EndLaws
 pub mod OutcomeLaws
 pub mod BeginLaws
+pub mod NestedLaws
 pub mod FoundLaws
 pub mod LookupLaws
 pub mod GetrootLaws
@@ -15,3 +18,4 @@ pub mod RestLaws
 pub mod CrossLaws
 pub mod StepLaws
 pub mod DoneLaws
+pub mod SeekingLaws

@@ -32,3 +32,15 @@ pub ids_there : (o : Option Task) (i : IdSets) → Ok i ≡ ids_at o → Ok tt �
 unfolding on
 ids_there None i is = absurd (cc)
 ids_there (Some x) i is = refl
+
+-- its ids, and what follows from them
+
+pub ids_not : {B : Type 0} (f : IdSets → Result B Errno) (o : Option Task) (e : Errno) → Err e ≡ ids_at o → on ESRCH o (λ x. f x.ids) ≡ Err e
+unfolding on
+ids_not f None e is = cc
+ids_not f (Some x) e is = absurd (cc)
+
+pub ids_had : {B : Type 0} (f : IdSets → Result B Errno) (o : Option Task) (ids : IdSets) → Ok ids ≡ ids_at o → f ids ≡ on ESRCH o (λ x. f x.ids)
+unfolding on
+ids_had f None ids is = absurd (cc)
+ids_had f (Some x) ids is = let same : ids ≡ x.ids = cc in ap f same

@@ -2,7 +2,7 @@
 use Rattle.std.specs.Prelude.{ℕ, zero, suc, ◌||◌, not, List, [], ◌∷◌, Option, Some, None, Result, Ok, Err}
 use Rattle.hurd_creds.specs.declared.name.Name.{Name}
 use Rattle.hurd_creds.specs.declared.errno.Errno.{Errno}
-use Rattle.hurd_creds.specs.declared.errno.Errno.TheVariants.{EDIED, ELOOP, ENAMETOOLONG, ENOENT, ENOTDIR, ENXIO}
+use Rattle.hurd_creds.specs.declared.errno.Errno.TheVariants.{EDIED, ELOOP, ENAMETOOLONG, ENOENT, ENOTDIR}
 use Rattle.hurd_creds.specs.Access.{IdSets}
 use Rattle.hurd_trans_iface.specs.Nodes.{is_dir}
 use Rattle.hurd_trans_iface.specs.SymlinkKind.{is_absolute}
@@ -11,6 +11,8 @@ use Rattle.hurd_ports.specs.declared.table.IoRight.{IoRight}
 use Rattle.hurd_machine.specs.World.{World, boot_root, header_at}
 use Rattle.hurd_machine.specs.Plan.{on, given, first}
 use Rattle.hurd_lookup.specs.declared.request.Request.{Request}
+use Rattle.hurd_lookup.specs.declared.resolve.Landing.{Landing}
+use Rattle.hurd_lookup.specs.declared.resolve.Landing.TheVariants.{Lands, Sleeps}
 use Rattle.hurd_lookup.specs.Path.{names_in, is_short}
 use Rattle.hurd_lookup.specs.Lookup.{NewPort, Place, AtNode, AtName, Elsewhere, Waits, no_modes, request, walk}
 
@@ -37,22 +39,22 @@ leg_request path = request path no_modes (record { 0 = 0 })
 abbrev pub right_of : IdSets → Leg → IoRight
 right_of ids l = record { node = l.node; ids = ids; open_name = boot_root; parents = l.ways }
 
--- at the end of a walk: the node is there, and a directory if one is asked for; or it goes on elsewhere; what waits to be started is not started
-abbrev pub landed : World → Request → (Leg → Result Name Errno) → Place → Result Name Errno
-landed w r onward (AtNode n ways) = on EDIED (header_at w n) (λ h. given ENOTDIR (not r.wants_dir || is_dir h.kind) (Ok n))
+-- at the end of a walk: the node is there, and a directory if one is asked for; or it goes on elsewhere; or it ends where a translator waits to be started
+abbrev pub landed : World → Request → (Leg → Result Landing Errno) → Place → Result Landing Errno
+landed w r onward (AtNode n ways) = on EDIED (header_at w n) (λ h. given ENOTDIR (not r.wants_dir || is_dir h.kind) (Ok (Lands n)))
 landed w r onward (AtName d name) = Err ENOENT
 landed w r onward (Elsewhere kind name at) = first (leg_at name at) onward
-landed w r onward (Waits n words) = Err ENXIO
+landed w r onward (Waits n words) = Ok (Sleeps n)
 
 -- one look, with these ids
-abbrev pub leg_asks : World → IdSets → Leg → (Leg → Result Name Errno) → Result Name Errno
+abbrev pub leg_asks : World → IdSets → Leg → (Leg → Result Landing Errno) → Result Landing Errno
 leg_asks w ids l onward =
     on EDIED (header_at w l.node) (λ h.
     given ENAMETOOLONG (is_short l.path) (
     first (walk w (right_of ids l) (leg_request l.path) l.node (names_in l.path)) (landed w (leg_request l.path) onward)))
 
 -- with so many looks: ELOOP where one more is wanted
-abbrev pub legs : ℕ → World → IdSets → Leg → Result Name Errno
+abbrev pub legs : ℕ → World → IdSets → Leg → Result Landing Errno
 legs zero w ids l = Err ELOOP
 legs (suc k) w ids l = leg_asks w ids l (legs k w ids)
 
@@ -60,11 +62,20 @@ legs (suc k) w ids l = leg_asks w ids l (legs k w ids)
 abbrev pub most_looks : ℕ
 most_looks = 33
 
--- where a path from the root of the tree leads who has these ids, whatever a retry's port has
-abbrev pub resolve : World → IdSets → List ℕ → Result Name Errno
-resolve w ids path = first (from_top path) (legs most_looks w ids)
+-- where a path from the root of the tree ends for who has these ids, whatever a retry's port has
+unfoldable pub path_end : World → IdSets → List ℕ → Result Landing Errno
+path_end w ids path = first (from_top path) (legs most_looks w ids)
+
+-- the node, unless a translator waits there: that is refused like this
+abbrev pub awake : Errno → Landing → Result Name Errno
+awake asleep (Lands n) = Ok n
+awake asleep (Sleeps n) = Err asleep
+
+-- where a path leads
+unfoldable pub resolve : Errno → World → IdSets → List ℕ → Result Name Errno
+resolve asleep w ids path = first (path_end w ids path) (awake asleep)
 
 -- where several lead, in order, up to the first that is refused
-abbrev pub resolve_all : World → IdSets → List (List ℕ) → Result (List Name) Errno
-resolve_all w ids [] = Ok []
-resolve_all w ids (path ∷ paths) = first (resolve w ids path) (λ n. first (resolve_all w ids paths) (λ ns. Ok (n ∷ ns)))
+abbrev pub resolve_all : Errno → World → IdSets → List (List ℕ) → Result (List Name) Errno
+resolve_all asleep w ids [] = Ok []
+resolve_all asleep w ids (path ∷ paths) = first (resolve asleep w ids path) (λ n. first (resolve_all asleep w ids paths) (λ ns. Ok (n ∷ ns)))

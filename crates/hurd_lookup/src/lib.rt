@@ -5,7 +5,7 @@
 //! a retry; at a translator that waits on a node, what is to be started first. What it answers and changes is `plan_lookup` of
 //! `specs/Lookup`. `fsys_getroot` opens the root of a server that a port controls, as where that is crossed.
 //!
-//! They follow no retries: that is the client's loop. `resolve` is that loop inside the core, for the targets of servers.
+//! They follow no retries: that is the client's loop. `resolve` is that loop inside the core, for the targets of servers, of those that come and of those that wait.
 #![tactic(auto)]
 
 mod authority;
@@ -13,7 +13,9 @@ mod cross;
 mod end;
 mod found;
 pub mod getroot;
+pub mod lent;
 pub mod lookup;
+pub mod nested;
 mod path;
 mod request;
 pub mod resolve;

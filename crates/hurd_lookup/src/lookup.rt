@@ -1,14 +1,16 @@
 //! One lookup.
 ghost use Rattle.std.specs.Prelude.{◌≡◌};
-ghost use Rattle.hurd_machine.specs.Plan.{Planned};
 ghost use Rattle.hurd_machine.specs.declared.call.Reply.TheVariants.{Found};
 ghost use Rattle.hurd_core.specs.Core.{world_of};
-ghost use Rattle.hurd_lookup.specs.Lookup.{found_asks, plan_lookup};
+ghost use Rattle.hurd_lookup.specs.Lacking.{PlannedOr};
+ghost use Rattle.hurd_lookup.specs.Lookup.{found_asks};
+ghost use Rattle.hurd_lookup.specs.Seeking.{FindsSooner, LookupLacks, plan_lookup};
 ghost use Rattle.hurd_lookup.specs.Ends.{CanBe, Finds, found_of};
 
 use crate::authority::Authority;
-use crate::end::end_asked;
+use crate::end::{Outcome, end_asked};
 use crate::found::FoundAt;
+use crate::nested::first_unstarted;
 use crate::path;
 use crate::request::Request;
 use crate::walk::walk;
@@ -48,6 +50,31 @@ fn found_asked<'a, 'p, S: Server>(
     Ok(FoundAt { authority, outcome })
 }
 
+/// In place of a translator that waits, the one that is to be started first by the task, with its own ids.
+///
+/// Errors: `ESRCH` no such task, those of `first_unstarted`.
+fn sooner<'a, 'p, S: Server>(
+    core: &Core<S>,
+    alloc: Global,
+    task: TaskId,
+    found: FoundAt<'a, 'p>,
+) -> Result<FoundAt<'a, 'p>, Errno>
+    requires { CanBe (world_of S.meaning core.now) found }
+    ensures { let w = world_of S.meaning core.now in FindsSooner w task.0 (found_of w found.entry) result }
+{
+    match found.outcome {
+        Outcome::Opens(_, _) | Outcome::Makes(_, _) | Outcome::Retries(_) => Ok(found),
+        Outcome::Starts(node) => {
+            let ids = core.ids(task)?;
+            let first = first_unstarted(core, alloc, ids, node)?;
+            Ok(FoundAt {
+                authority: found.authority,
+                outcome: Outcome::Starts(first),
+            })
+        }
+    }
+}
+
 /// Looks a path up from a directory that a port names, and opens what it comes to, or makes a file there; or tells which name is
 /// left, and where that is looked up (GNU Hurd Reference Manual, Files and Translators; `fs.defs`).
 ///
@@ -56,7 +83,7 @@ fn found_asked<'a, 'p, S: Server>(
 ///
 /// A server that is active on a node is crossed, unless the node is the last and `NOTRANS` is set. At its root the last node is
 /// opened, and more names are left for a retry at the root, with the port's ids. Where none is active, but a passive translator
-/// waits, that is to be started first: it is what the task is to start from now on, in place of what it was to start before. At a
+/// waits, that is to be started first, or where one of its targets ends at another that waits, that one, and so on: it is what the task is to start from now on, in place of what it was to start before. At a
 /// link, unless it is the last and `NOLINK` is set, the link's text is left, with the names that follow: for a retry at the link's
 /// directory, without ids, or from the root of the tree. `..` at the root by which the port came into a server is left for a retry
 /// at the directory from which it came, without ids.
@@ -68,8 +95,8 @@ fn found_asked<'a, 'p, S: Server>(
 /// `ENAMETOOLONG` a link's text with the names that follow is longer than a path, `ELOOP` the port came in by 64 ways. Then of a
 /// node that is there `EEXIST` with `CREATE` and `EXCL`, `EDIED`, `ENOTDIR` a directory is asked for, `EISDIR` to write a
 /// directory, `EROFS` to write a node of a server that only gives its text, `EACCES`; of one to be made `EROFS` a server that
-/// keeps no tree, `EACCES` the ids may not write the directory, or have no uids, `ENOENT` a removed directory. Last `EOVERFLOW`,
-/// unless it makes no port, and `ENOMEM`. A refused call changes nothing.
+/// keeps no tree, `EACCES` the ids may not write the directory, or have no uids, `ENOENT` a removed directory; where a translator is to be started, `ELOOP` nine
+/// others are needed for it, one for the other. Last `EOVERFLOW`, unless it makes no port, and `ENOMEM`, which may come in place of that `ELOOP`. A refused call changes nothing.
 pub fn dir_lookup<S: Server>(
     core: &mut Core<S>,
     alloc: Global,
@@ -80,10 +107,11 @@ pub fn dir_lookup<S: Server>(
     mode: Mode,
 ) -> Result<Lookup, Errno>
     ensures { let w = world_of S.meaning core.old in
-        Planned w (plan_lookup w task.0 dir path.now flags mode) Found result (world_of S.meaning core.new) }
+        PlannedOr (LookupLacks w task.0 dir path.now flags mode) w (plan_lookup w task.0 dir path.now flags mode) Found result (world_of S.meaning core.new) }
 {
     let request = Request::new(path, flags, mode);
     let found = found_asked(core, task, dir, path, request)?;
-    let ready = found.ready(core, alloc, task)?;
+    let sought = sooner(core, alloc, task, found)?;
+    let ready = sought.ready(core, alloc, task)?;
     ready.done(core, alloc, task, flags)
 }

@@ -8,8 +8,9 @@ ghost use Rattle.hurd_ports.specs.declared.parents.Parent.{Parent};
 ghost use Rattle.hurd_core.specs.Core.{world_of};
 ghost use Rattle.hurd_lookup.specs.Ends.{CanGo, name_of, place_of, port_by, right_by, way_of};
 ghost use Rattle.hurd_lookup.specs.Lookup.{AtNode};
-ghost use Rattle.hurd_lookup.specs.Resolve.{Leg as LegAt, from_top, landed, leg_asks, leg_at, resolve, resolve_all};
-ghost use Rattle.hurd_lookup.specs.Legs.{Leads, OrLacks, leg_of};
+ghost use Rattle.hurd_lookup.specs.declared.resolve.Landing.{Landing as LandingAt};
+ghost use Rattle.hurd_lookup.specs.Resolve.{Leg as LegAt, from_top, landed, path_end, leg_asks, leg_at, resolve, resolve_all};
+ghost use Rattle.hurd_lookup.specs.Legs.{FindsLanding, Leads, OrLacks, lands, leg_of};
 
 use crate::authority::{Authority, NewPort};
 use crate::path::is_short;
@@ -35,10 +36,19 @@ pub(crate) struct Leg {
     pub(crate) path: Bytes,
 }
 
+/// Where a path ends.
+#[derive(Clone, Copy, Debug, PartialEq, Eq)]
+pub(crate) enum Landing {
+    /// At a node.
+    Lands(NodeName),
+    /// At a node on which a translator waits to be started.
+    Sleeps(NodeName),
+}
+
 /// After one look: at the end, or on.
 #[derive(Debug, Drop)]
 pub(crate) enum Looked {
-    Ends(NodeName),
+    Ends(Landing),
     Goes(Leg),
 }
 
@@ -104,7 +114,7 @@ fn onward<S: Server>(
 /// Errors, in order: `EDIED` it is gone, `ENOTDIR` a directory is asked for.
 #[tactic(auto, unfolding(hurd_machine::specs::Plan::on, hurd_machine::specs::Plan::given))]
 fn landed<S: Server>(core: &Core<S>, request: Request, node: NodeName) -> Result<NodeName, Errno>
-    ensures { (onward : LegAt → Result Name Refusal) (ways : List Parent) → result ≡ landed (world_of S.meaning core.now) request onward (AtNode node ways) }
+    ensures { (onward : LegAt → Result LandingAt Refusal) (ways : List Parent) → lands result ≡ landed (world_of S.meaning core.now) request onward (AtNode node ways) }
 {
     let Some(attrs) = core.attrs(node) else {
         return Err(Errno::EDIED);
@@ -117,7 +127,7 @@ fn landed<S: Server>(core: &Core<S>, request: Request, node: NodeName) -> Result
 
 /// Where a walk by a right ended.
 ///
-/// Errors: those of `landed`, `ENOENT` no such entry, `ENXIO` a translator waits to be started, those of `onward`.
+/// Errors: those of `landed`, `ENOENT` no such entry, those of `onward`.
 #[tactic(auto, unfolding(hurd_machine::specs::Plan::first))]
 fn ended<S: Server>(
     core: &Core<S>,
@@ -128,13 +138,16 @@ fn ended<S: Server>(
 ) -> Result<Looked, Errno>
     requires { CanGo (world_of S.meaning core.now) (right_by authority) place }
     ensures { let w = world_of S.meaning core.now in
-        Leads (λ onward. landed w request onward (place_of w (right_by authority.entry) place.entry)) result }
+        Leads w (λ onward. landed w request onward (place_of w (right_by authority.entry) place.entry)) result }
 {
     match place {
-        Place::AtNode(node, _) => Ok(Looked::Ends(landed(core, request, node)?)),
+        Place::AtNode(node, _) => {
+            let node = landed(core, request, node)?;
+            Ok(Looked::Ends(Landing::Lands(node)))
+        }
         Place::AtName(_, _) => Err(Errno::ENOENT),
         Place::Elsewhere(retry) => Ok(Looked::Goes(onward(core, alloc, authority, retry)?)),
-        Place::Waits(_) => Err(Errno::ENXIO),
+        Place::Waits(node) => Ok(Looked::Ends(Landing::Sleeps(node))),
     }
 }
 
@@ -143,7 +156,7 @@ fn ended<S: Server>(
 /// Errors, in order: `EDIED` no such node, `ENAMETOOLONG`, those of `walk`, those of `ended`; `ENOMEM`.
 #[tactic(auto, unfolding(hurd_machine::specs::Plan::on, hurd_machine::specs::Plan::given, hurd_machine::specs::Plan::first))]
 fn look<S: Server>(core: &Core<S>, alloc: Global, ids: &Ids, leg: Leg) -> Result<Looked, Errno>
-    ensures { Leads (leg_asks (world_of S.meaning core.now) ids.now (leg_of leg)) result }
+    ensures { let w = world_of S.meaning core.now in Leads w (leg_asks w ids.now (leg_of leg)) result }
 {
     let Leg { node, ways, path } = leg;
     if core.attrs(node).is_none() {
@@ -164,29 +177,48 @@ fn look<S: Server>(core: &Core<S>, alloc: Global, ids: &Ids, leg: Leg) -> Result
     ended(core, alloc, authority, request, place)
 }
 
-/// Where a path from the root of the tree leads who has these ids, along links and across servers: the client's loop inside the core, with the same ids throughout.
+/// Where a path from the root of the tree ends for who has these ids, along links and across servers: the client's loop inside the core, with the same ids throughout.
 /// Nothing is opened, made or started.
 ///
-/// Errors: `ENOENT` no path from the root of the tree; at each look `EDIED`, `ENAMETOOLONG`, those of a lookup without flags along the path, `ENXIO` a translator waits to be
-/// started; `ELOOP` a retry past the 32nd; at the end `EDIED`, `ENOTDIR` the path asks for a directory. `ENOMEM`, where a retry's name or ways find no memory.
-pub fn resolve<S: Server>(
+/// Errors: `ENOENT` no path from the root of the tree; at each look `EDIED`, `ENAMETOOLONG`, those of a lookup without flags along the path; `ELOOP` a retry past the 32nd; at
+/// the end `EDIED`, `ENOTDIR` the path asks for a directory. `ENOMEM`, where a retry's name or ways find no memory.
+pub(crate) fn path_end<S: Server>(
     core: &Core<S>,
     alloc: Global,
     ids: &Ids,
     path: &[u8],
-) -> Result<NodeName, Errno>
-    ensures { OrLacks (λ n. n) (resolve (world_of S.meaning core.now) ids.now path.now) result }
+) -> Result<Landing, Errno>
+    ensures { let w = world_of S.meaning core.now in FindsLanding w (path_end w ids.now path.now) result }
 {
     let mut leg = from_top(alloc, path)?;
     let mut left = MOST_LOOKS;
     while left > 0 {
         left -= 1;
         match look(core, alloc, ids, leg)? {
-            Looked::Ends(node) => return Ok(node),
+            Looked::Ends(end) => return Ok(end),
             Looked::Goes(next) => leg = next,
         }
     }
     Err(Errno::ELOOP)
+}
+
+/// Where a path from the root of the tree leads who has these ids.
+///
+/// Errors: those of `path_end`; as `asleep` says where a translator waits to be started at its end.
+#[tactic(auto, unfolding(hurd_machine::specs::Plan::first, crate::specs::Resolve::resolve))]
+fn resolve<S: Server>(
+    core: &Core<S>,
+    alloc: Global,
+    ids: &Ids,
+    path: &[u8],
+    asleep: Errno,
+) -> Result<NodeName, Errno>
+    ensures { OrLacks (λ n. n) (resolve asleep (world_of S.meaning core.now) ids.now path.now) result }
+{
+    match path_end(core, alloc, ids, path)? {
+        Landing::Lands(node) => Ok(node),
+        Landing::Sleeps(_) => Err(asleep),
+    }
 }
 
 /// One node more, before the others. `ENOMEM`.
@@ -199,22 +231,23 @@ fn push_front(nodes: &mut Vec<NodeName>, node: NodeName) -> Result<(), AllocErro
 
 /// Where several paths lead, in order.
 ///
-/// Errors: those of `resolve`, of the first path that is refused. Where there is none, no memory is taken.
+/// Errors: those of `path_end`, and `asleep` where a translator waits to be started at the end, of the first path that is refused. Where there is none, no memory is taken.
 #[tactic(auto, unfolding(hurd_machine::specs::Plan::first))]
 pub fn resolve_all<S: Server>(
     core: &Core<S>,
     alloc: Global,
     ids: &Ids,
     paths: &[Bytes],
+    asleep: Errno,
 ) -> Result<Vec<NodeName>, Errno>
-    ensures found { OrLacks (λ nodes. nodes.items) (resolve_all (world_of S.meaning core.now) ids.now paths.now) result }
+    ensures found { OrLacks (λ nodes. nodes.items) (resolve_all asleep (world_of S.meaning core.now) ids.now paths.now) result }
     ensures nothing { paths.now ≡ [] → IsOk result }
 {
     match paths {
         [] => Ok(Vec::new(alloc)),
         [path, paths @ ..] => {
-            let node = resolve(core, alloc, ids, path.as_slice())?;
-            let mut nodes = resolve_all(core, alloc, ids, paths)?;
+            let node = resolve(core, alloc, ids, path.as_slice(), asleep)?;
+            let mut nodes = resolve_all(core, alloc, ids, paths, asleep)?;
             push_front(&mut nodes, node)?;
             Ok(nodes)
         }

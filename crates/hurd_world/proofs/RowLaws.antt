@@ -2,17 +2,19 @@
 use Rattle.std.specs.Prelude.{IfErr, IfSome, IsNone}
 use Rattle.std.specs.Option.{option_map}
 use Rattle.std.proofs.Common.{◌≡◌, ◌⊎◌, inl, inr, ℕ, true, false, true≢false, List, [], ◌∷◌, Result, Ok, Err, Option, Some, None, refl, ap, sym, ◌∙◌}
-use Rattle.hurd_machine.proofs.Common.{Call, ENOMEM, Errno, Meaning, Plan, Planned, Reply, World, after_plan, box_in, call_by, handing_back, is_refused, refusal, reply_by, told}
+use Rattle.hurd_machine.proofs.Common.{Call, ENOMEM, Errno, Meaning, Mode, OpenFlags, Plan, Planned, Reply, World, after_plan, box_in, call_by, handing_back, is_refused, refusal, reply_by, told}
 use Rattle.hurd_trans_iface.specs.Meaning.{Begins}
 use Rattle.hurd_machine.specs.declared.call.Call as code
-use Rattle.hurd_machine.specs.declared.call.Call.TheVariants.{FileSetTranslator, FsysSetOptions, FsysStartup}
+use Rattle.hurd_machine.specs.declared.call.Call.TheVariants.{DirLookup, FileSetTranslator, FsysSetOptions, FsysStartup}
 use Rattle.hurd_machine.specs.declared.call.Reply as code_reply
 use Rattle.hurd_machine.specs.declared.call.Reply.TheVariants.{Done, Found, Port, Data, Count, Names, Words, Stat, Modes, Same, Refused, Back}
+use Rattle.hurd_machine.specs.declared.call.Lookup as code_lookup
 use Rattle.hurd_machine.specs.declared.call.Setting.{Setting}
 use Rattle.hurd_machine.specs.Plan.{Follows}
 use Rattle.hurd_core.specs.Core.{without_box}
 use Rattle.hurd_fsys.specs.Fsys.{plan_set_options}
-use Rattle.hurd_fsys.specs.Aims.{PlannedOr, TriedOr}
+use Rattle.hurd_lookup.specs.Lacking.{PlannedOr, TriedOr}
+use Rattle.hurd_lookup.specs.Seeking.{LookupLacks, plan_lookup}
 use Rattle.hurd_fsys.specs.Setting.{SetLacks, plan_set_translator}
 use Rattle.hurd_fsys.specs.Starting.{StartLacks, plan_startup}
 use Rattle.hurd_laws.specs.Called.{Called}
@@ -55,6 +57,17 @@ module _ {S : Type 0} (f : S → Meaning) (v w : World) (t : ℕ) (call : code.C
         wanted = inl lacks.1;
         same = back;
       })) tt
+
+  -- a lookup, which may find none where targets are to be looked at
+  pub lookup_row : (p : ℕ) (path : List ℕ) (flags : OpenFlags) (mode : Mode) (r : Result code_lookup.Lookup Errno) (got : code_reply.Reply S) (x : World) → call ≡ DirLookup p path flags mode → reply ≡ got → y ≡ x
+      → got ≡ told_of (λ n. Found n) r → PlannedOr (LookupLacks w t p path flags mode) w (plan_lookup w t p path flags mode) (λ n. Found n) r x → Owes
+  lookup_row p path flags mode (Ok a) got x is same left so h = owed (DirLookup p path flags mode) (Found a) x is (same ∙ so) left (stepped w x t (DirLookup p path flags mode) (Found a) h.0 h.1) tt
+  lookup_row p path flags mode (Err e) got x is same left so (back, inl bars) =
+      owed (DirLookup p path flags mode) (Refused e) x is (same ∙ so) left
+      (stepped w x t (DirLookup p path flags mode) (Refused e) (ap (λ (P : Plan). P.reply) (sym bars)) (back ∙ ap (λ (P : Plan). after_plan w P) (sym bars))) tt
+  lookup_row p path flags mode (Err e) got x is same left so (back, inr lacks) =
+      owed (DirLookup p path flags mode) (Refused e) x is (same ∙ so) left
+      (inr (record { told = ap (λ (n : Errno). Refused n) lacks.0; takes = refl; needs = λ n. n; wanted = lacks.1; same = back })) tt
 
   -- the call takes memory where it has words
   pub options_row : (c : ℕ) (words : List (List ℕ)) (r : Result (Unit {0}) Errno) (got : code_reply.Reply S) (x : World) → call ≡ FsysSetOptions c words → reply ≡ got → y ≡ x → got ≡ told_of (λ (u : Unit {0}). Done) r

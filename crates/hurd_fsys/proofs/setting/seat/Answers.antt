@@ -1,7 +1,7 @@
 -- One uid is never too many, and needs no memory.
 use Rattle.std.proofs.Common.{[], ◌∷◌, arith}
 use Rattle.std.specs.Prelude.{Err}
-use Rattle.hurd_fsys.proofs.AimsLaws.{few_are_held}
+use Rattle.hurd_lookup.proofs.LentLaws.{few_are_held}
 use Rattle.hurd_fsys.proofs.setting.seat.Goals as goal
 
 pub returns-in-Err-clause-does : goal.returns-in-Err-clause-does

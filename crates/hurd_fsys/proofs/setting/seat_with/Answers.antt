@@ -3,7 +3,7 @@ use Rattle.std.proofs.Common.{◌∙◌, inl, inr, refl, sym}
 use Rattle.hurd_machine.specs.World.{nodes_of, ports_of, words_at}
 use Rattle.hurd_core.specs.Core.{attaching, world_of}
 use Rattle.hurd_core.proofs.CoreLaws.{naming-refused}
-use Rattle.hurd_fsys.specs.Aims.{server_ids}
+use Rattle.hurd_lookup.specs.Lent.{server_ids}
 use Rattle.hurd_fsys.proofs.SeatingLaws.{seat_refused, seated_then, sets_still, uncopied}
 use Rattle.hurd_fsys.proofs.setting.seat_with.Goals as goal
 

@@ -1,9 +1,9 @@
 use Rattle.std.proofs.Common.{◌≡◌, ap, refl, rules}
-use Rattle.hurd_machine.specs.declared.call.Call.TheVariants.{PortDeallocate, PortSend, PortReceive, AuthMakeauth, DirLookup, IoRead, IoWrite, IoSeek, IoStat, IoReadable, IoGetOpenmodes, IoSetAllOpenmodes, IoDuplicate, IoReauthenticate, IoRestrictAuth, IoIdentity, FileSetSize, FileChmod, FileChown, FileCheckAccess, FileGetTranslator, FileGetTranslatorCntl, FileGetcontrol, StartFailed, FsysGetroot, FsysGoaway, FsysGetOptions, DirReaddir, DirMkdir, DirMkfile, DirRmdir, DirUnlink, DirLink, DirRename}
+use Rattle.hurd_machine.specs.declared.call.Call.TheVariants.{PortDeallocate, PortSend, PortReceive, AuthMakeauth, IoRead, IoWrite, IoSeek, IoStat, IoReadable, IoGetOpenmodes, IoSetAllOpenmodes, IoDuplicate, IoReauthenticate, IoRestrictAuth, IoIdentity, FileSetSize, FileChmod, FileChown, FileCheckAccess, FileGetTranslator, FileGetTranslatorCntl, FileGetcontrol, StartFailed, FsysGetroot, FsysGoaway, FsysGetOptions, DirReaddir, DirMkdir, DirMkfile, DirRmdir, DirUnlink, DirLink, DirRename}
 use Rattle.hurd_machine.specs.declared.call.Reply.TheVariants.{Done, Found, Port, Data, Count, Names, Words, Stat, Modes, Same}
 use Rattle.hurd_machine.specs.World.{World}
 use Rattle.hurd_world.specs.Held.{world_of}
-use Rattle.hurd_world.proofs.RowLaws.{follows_row, planned_row, options_row, set_row, start_row, begun_box}
+use Rattle.hurd_world.proofs.RowLaws.{follows_row, planned_row, lookup_row, options_row, set_row, start_row, begun_box}
 use Rattle.hurd_world.proofs.world.World.dispatch.Goals.{in-PortDeallocate, in-PortSend, in-PortReceive, in-AuthMakeauth, in-DirLookup, in-IoRead, in-IoWrite, in-IoSeek, in-IoStat, in-IoReadable, in-IoGetOpenmodes, in-IoSetAllOpenmodes, in-IoDuplicate, in-IoReauthenticate, in-IoRestrictAuth, in-IoIdentity, in-FileSetSize, in-FileChmod, in-FileChown, in-FileCheckAccess, in-FileSetTranslator, in-FileGetTranslator, in-FileGetTranslatorCntl, in-FileGetcontrol, in-FsysStartup, in-StartFailed, in-FsysGetroot, in-FsysGoaway, in-FsysGetOptions, in-FsysSetOptions, in-DirReaddir, in-DirMkdir, in-DirMkfile, in-DirRmdir, in-DirUnlink, in-DirLink, in-DirRename}
 use Rattle.hurd_world.proofs.world.World.dispatch.Goals as goal
 
@@ -21,7 +21,7 @@ returns g c =
       | in-PortSend b ↦ planned_row f v w t c.args.call c.match-call.result y seen (PortSend b.in-PortSend.port b.in-PortSend.to) (λ (u : Unit {0}). Done) b.port_send.result _ (world_of g.S.Server.meaning b.port_send.new.core) (λ a. tt) refl refl b.in-PortSend.is b.result-is (rw b.self-inside-is refl) b.done-in-PortSend.ensures b.port_send.ensures (λ n. absurd n)
       | in-PortReceive b ↦ planned_row f v w t c.args.call c.match-call.result y seen PortReceive (λ n. Port n) b.port_receive.result _ (world_of g.S.Server.meaning b.port_receive.new.core) (λ a. tt) refl refl b.in-PortReceive.is b.result-is (rw b.self-inside-is refl) b.port.ensures b.port_receive.ensures (λ n. absurd n)
       | in-AuthMakeauth b ↦ follows_row f v w t c.args.call c.match-call.result y seen (AuthMakeauth b.in-AuthMakeauth.ids) (λ (u : Unit {0}). Done) b.auth_makeauth.result _ (world_of g.S.Server.meaning b.auth_makeauth.new.core) (λ a. tt) b.in-AuthMakeauth.is b.result-is (rw b.self-inside-is refl) b.done-in-AuthMakeauth.ensures b.auth_makeauth.ensures
-      | in-DirLookup b ↦ planned_row f v w t c.args.call c.match-call.result y seen (DirLookup b.in-DirLookup.dir b.in-DirLookup.path b.in-DirLookup.flags b.in-DirLookup.mode) (λ n. Found n) b.dir_lookup.result _ (world_of g.S.Server.meaning b.dir_lookup.new.core) (λ a. tt) refl refl b.in-DirLookup.is b.result-is (rw b.self-inside-is refl) b.found.ensures (rw b.as_slice.ensures at b.dir_lookup.ensures) (λ n. absurd n)
+      | in-DirLookup b ↦ lookup_row f v w t c.args.call c.match-call.result y seen b.in-DirLookup.dir b.in-DirLookup.path b.in-DirLookup.flags b.in-DirLookup.mode b.dir_lookup.result _ (world_of g.S.Server.meaning b.dir_lookup.new.core) b.in-DirLookup.is b.result-is (rw b.self-inside-is refl) b.found.ensures (rw b.as_slice.ensures at b.dir_lookup.ensures)
       | in-IoRead b ↦ planned_row f v w t c.args.call c.match-call.result y seen (IoRead b.in-IoRead.port b.in-IoRead.amount b.in-IoRead.offset) (λ n. Data n) b.io_read.result _ (world_of g.S.Server.meaning b.io_read.new.core) (λ a. tt) refl refl b.in-IoRead.is b.result-is (rw b.self-inside-is refl) b.data.ensures (search rules) (search rules)
       | in-IoWrite b ↦ planned_row f v w t c.args.call c.match-call.result y seen (IoWrite b.in-IoWrite.port b.in-IoWrite.bytes b.in-IoWrite.offset) (λ n. Count n) b.io_write.result _ (world_of g.S.Server.meaning b.io_write.new.core) (λ a. tt) refl refl b.in-IoWrite.is b.result-is (rw b.self-inside-is refl) b.count.ensures (search rules) (search rules)
       | in-IoSeek b ↦ follows_row f v w t c.args.call c.match-call.result y seen (IoSeek b.in-IoSeek.port b.in-IoSeek.offset b.in-IoSeek.whence) (λ n. Count n) b.io_seek.result _ (world_of g.S.Server.meaning b.io_seek.new.core) (λ a. tt) b.in-IoSeek.is b.result-is (rw b.self-inside-is refl) b.count-in-IoSeek.ensures (search rules)

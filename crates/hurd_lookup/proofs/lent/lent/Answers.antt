@@ -3,9 +3,9 @@ use Rattle.std.proofs.Common.{ℕ, ◌∙◌, [], ◌∷◌, if◌then◌else◌
 use Rattle.std.specs.Prelude.{Result, Ok}
 use Rattle.hurd_machine.proofs.Common.{Errno, IdSets}
 use Rattle.hurd_lookup.specs.Lookup.{no_ids}
-use Rattle.hurd_fsys.specs.Aims.{server_ids}
-use Rattle.hurd_fsys.proofs.AimsLaws.{few_are_held}
-use Rattle.hurd_fsys.proofs.aims.lent.Goals as goal
+use Rattle.hurd_lookup.specs.Lent.{server_ids}
+use Rattle.hurd_lookup.proofs.LentLaws.{few_are_held}
+use Rattle.hurd_lookup.proofs.lent.lent.Goals as goal
 
 -- those of the owner, or none
 abbrev either : ℕ → Bool → Result IdSets Errno
