@@ -4,9 +4,9 @@ use Rattle.hurd_machine.proofs.Common.{Call, ENOMEM, Meaning, Reply, SameView, S
 use Rattle.hurd_laws.specs.Step.{reply_of, after, step}
 use Rattle.hurd_laws.specs.Called.{Lacks, Called, lacks_memory}
 use Rattle.hurd_laws.specs.Runs.{TaskCall, run, replies_to}
-use Rattle.hurd_laws.specs.Served.{Served, kept, told_to, IsolatedRun}
+use Rattle.hurd_laws.specs.Served.{Served, kept, told_to, IsolatedRun, ComparedRun}
 use Rattle.hurd_laws.proofs.Assembled.{stays_sound, never_wants_memory}
-use Rattle.hurd_laws.proofs.Headline.{isolated}
+use Rattle.hurd_laws.proofs.Headline.{isolated, side_by_side}
 
 -- one call
 
@@ -85,3 +85,6 @@ served_isolated w ms rs x h s S v ns sv view same qw qv =
     let l : Ran S w ms rs x = ran S ms rs w x h in
     let i = isolated S w v (kept ms rs) ns s sv view same qw qv in
     (l.1 ∙ i.0, subst (λ z. SameView S z (run v ns)) (sym l.0) i.1)
+
+pub served_compared : (w : World) (ms : List TaskCall) (rs : List Reply) (x : World) → Served w ms rs x → Sound w → ComparedRun w ms rs
+served_compared w ms rs x h s S v ns sv same views = (ran S ms rs w x h).1 ∙ side_by_side S w v (kept ms rs) ns s sv same views

@@ -1,5 +1,5 @@
 -- The laws: what a set of tasks is told depends only on what it sees.
-use Rattle.std.specs.Prelude.{◌≡◌, ◌≢◌, ◌⊎◌, ℕ, ◌≤◌, Bool, true, false, List, Some}
+use Rattle.std.specs.Prelude.{◌≡◌, ◌≢◌, ◌⊎◌, ℕ, ◌≤◌, Bool, true, false, List, Some, length}
 use Rattle.hurd_creds.specs.declared.name.Name.{Name}
 use Rattle.hurd_ports.specs.Tables.{Task}
 use Rattle.hurd_machine.specs.Calls.{Call, lacks_memory}
@@ -8,7 +8,7 @@ use Rattle.hurd_machine.specs.Sight.{Seen, Part, AttrOf, EmptyOf, BodyOf, OpenOf
 use Rattle.hurd_machine.specs.Sound.{Sound, Below}
 use Rattle.hurd_machine.specs.Counted.{CanCount, Counted}
 use Rattle.hurd_laws.specs.Step.{reply_of, after, touches}
-use Rattle.hurd_laws.specs.Runs.{TaskCall, run, calls_of, replies_to, CanCountIn, TouchesUnseen, Quiet, Unmoved}
+use Rattle.hurd_laws.specs.Runs.{TaskCall, run, calls_of, replies_to, worlds_of, SameViews, CanCountIn, TouchesUnseen, Quiet, Unmoved}
 
 -- a part of something whose name was given before
 abbrev pub IsOld : World → Part → Type 0
@@ -99,3 +99,17 @@ IsolatedByView =
     (S : ℕ → Bool) (v w : World) (ms ns : List TaskCall) → Sound v → Sound w → SameView S v w
     → calls_of S ms ≡ calls_of S ns → Unmoved S v ms → Unmoved S w ns
     → (replies_to S v ms ≡ replies_to S w ns) × SameView S (run v ms) (run w ns)
+
+-- two runs side by side, in which S makes the same calls, and each of them in worlds that have the same view for S, whatever the
+-- others did before it: S is told the same
+abbrev pub SideBySide : Type 0
+SideBySide =
+    (S : ℕ → Bool) (v w : World) (ms ns : List TaskCall) → Sound v → Sound w
+    → calls_of S ms ≡ calls_of S ns → SameViews S (worlds_of S v ms) (worlds_of S w ns)
+    → replies_to S v ms ≡ replies_to S w ns
+
+-- what S sees is settled by what it sees: where the parts that S sees in v are the same in w, and there are as many tasks, it sees no
+-- others in w, and its view is the same
+abbrev pub ViewSettled : Type 0
+ViewSettled =
+    (S : ℕ → Bool) (v w : World) → length w.tasks ≡ length v.tasks → ((p : Part) → Sees S v p → part w p ≡ part v p) → SameView S v w

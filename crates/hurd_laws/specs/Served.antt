@@ -5,7 +5,7 @@ use Rattle.hurd_machine.specs.World.{World}
 use Rattle.hurd_machine.specs.Sight.{SameView}
 use Rattle.hurd_machine.specs.Sound.{Sound}
 use Rattle.hurd_laws.specs.Called.{Called, lacks_memory}
-use Rattle.hurd_laws.specs.Runs.{TaskCall, run, calls_of, replies_to, Quiet}
+use Rattle.hurd_laws.specs.Runs.{TaskCall, run, calls_of, replies_to, worlds_of, SameViews, Quiet}
 
 -- calls one after another, each with its reply
 abbrev pub Served : World → List TaskCall → List Reply → World → Type 0
@@ -33,3 +33,11 @@ IsolatedRun w ms rs x =
     (S : ℕ → Bool) (v : World) (ns : List TaskCall) → Sound v → SameView S w v
     → calls_of S (kept ms rs) ≡ calls_of S ns → Quiet S w (kept ms rs) → Quiet S v ns
     → (told_to S ms rs ≡ replies_to S v ns) × SameView S x (run v ns)
+
+-- calls made from w: in a run of the written machine from any sound world, in which S makes the same calls, and each in a world of the
+-- same view as here, whatever the others did before it, S is told the same
+abbrev pub ComparedRun : World → List TaskCall → List Reply → Type 0
+ComparedRun w ms rs =
+    (S : ℕ → Bool) (v : World) (ns : List TaskCall) → Sound v
+    → calls_of S (kept ms rs) ≡ calls_of S ns → SameViews S (worlds_of S w (kept ms rs)) (worlds_of S v ns)
+    → told_to S ms rs ≡ replies_to S v ns

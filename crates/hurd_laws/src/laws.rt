@@ -1,5 +1,5 @@
 //! The laws.
-ghost use Rattle.hurd_laws.specs.Laws.{ChangesTouched, Confined, ConfinedRun, CountedRun, GoneUnseen, Isolated, IsolatedByView, NeverWantsMemory, OthersUnseen, OwnFromView, QuietUnmoved, StaysCounted, StaysSound};
+ghost use Rattle.hurd_laws.specs.Laws.{ChangesTouched, Confined, ConfinedRun, CountedRun, GoneUnseen, Isolated, IsolatedByView, NeverWantsMemory, OthersUnseen, OwnFromView, QuietUnmoved, SideBySide, StaysCounted, StaysSound, ViewSettled};
 
 /// A step changes touched parts, its caller's own task and new things alone; what of the others doesn't stay is gone.
 pub fn changes_touched()
@@ -67,4 +67,15 @@ pub fn quiet_unmoved()
 /// from it: what is touched need not change.
 pub fn isolated_by_view()
     ensures { IsolatedByView }
+{}
+
+/// Where a set of tasks makes the same calls in two runs, and each of them in worlds that look the same to it, it is told the same,
+/// whatever the others did between.
+pub fn side_by_side()
+    ensures { SideBySide }
+{}
+
+/// What a set of tasks sees is settled by what it sees: where that is the same in another world, its view is.
+pub fn view_settled()
+    ensures { ViewSettled }
 {}

@@ -1,4 +1,4 @@
--- What a script tells a set of tasks, against the commands of these tasks alone.
+-- What two scripts tell a set of tasks that gives the same commands in both.
 use Rattle.std.proofs.Common.{◌≡◌, ◌∙◌, ℕ, suc, Bool, true, false, true≢false, if◌then◌else◌, List, [], ◌∷◌, ◌++◌, length, Result, sym, refl, ap, ap₂, subst}
 use Rattle.hurd_creds.specs.declared.errno.Errno.{Errno}
 use Rattle.hurd_creds.specs.Access.{IdSets}
@@ -11,15 +11,16 @@ use Rattle.hurd_script.specs.Commands.{CommandLine}
 use Rattle.hurd_script.specs.Actions.{action_of}
 use Rattle.hurd_script.specs.Script.{users_of, commands_of}
 use Rattle.hurd_laws.specs.Step.{reply_of, after}
-use Rattle.hurd_laws.specs.Runs.{TaskCall, run, calls_of, Quiet}
+use Rattle.hurd_laws.specs.Runs.{TaskCall, run, calls_of, Quiet, SameViews}
 use Rattle.hurd_laws.proofs.Assembled.{own_from_view, stays_sound}
 use Rattle.hurd_laws.proofs.Headline.{isolated}
+use Rattle.hurd_laws.proofs.Together.{together}
 use Rattle.hurd_world.specs.Boot.{first_world}
 use Rattle.hurd_world.proofs.FirstWorld.{first_sound}
 use Rattle.hurd_shell.specs.Programs.{Prog, gives, calls, asks}
 use Rattle.hurd_shell.specs.Commands.{program_of}
 use Rattle.hurd_shell.specs.Transcript.{Dialogue, tells, Maker, dialogue, part_by, part_of, parts_by, played}
-use Rattle.hurd_shell.specs.Isolation.{calls_in, command_calls, command_part, result_in, script_calls, world_after, commands_by, parts_to, QuietCommands, OnePartEach, ToldInTurn, UnmovedCommands, IsolatedCommands, IsolatedByView, AsWithoutOthers, IsolatedScripts}
+use Rattle.hurd_shell.specs.Isolation.{calls_in, command_calls, command_part, result_in, script_calls, world_after, worlds_of, commands_by, parts_to, QuietCommands, OnePartEach, ToldInTurn, UnmovedCommands, CommandsSideBySide, ScriptsSideBySide, IsolatedCommands, IsolatedByView, AsWithoutOthers, IsolatedScripts}
 
 -- runs in two halves
 
@@ -105,43 +106,63 @@ none_of S make t other (gives r) w = refl
 none_of S make t other (calls c k) w = rw other (none_of S make t other (k (reply_of w t c)) (after w t c))
 none_of S make t other (asks words k) w = none_of S make t other (k (make words)) w
 
--- to S, the commands made in v are its own commands alone, made in any world of the same view
-abbrev Alone : (ℕ → Bool) → Maker → List CommandLine → Type 0
-Alone S make cs =
-    (v u : World) → Sound v → Sound u → SameView S v u → UnmovedCommands S make cs v
-    → (told_to S make cs v ≡ told_to S make (commands_by S cs) u) × SameView S (world_after make cs v) (world_after make (commands_by S cs) u)
+-- where S gives its commands in worlds of the same view, it is told the same
+abbrev Told : (ℕ → Bool) → Maker → List CommandLine → List CommandLine → Type 0
+Told S make cs ds =
+    (v w : World) → Sound v → Sound w → SameViews S (worlds_of S make v cs) (worlds_of S make w ds) → told_to S make cs v ≡ told_to S make ds w
 
-turn : (S : ℕ → Bool) (make : Maker) (c : CommandLine) (cs : List CommandLine) → Alone S make cs → (b : Bool) → S c.task ≡ b → Alone S make (c ∷ cs)
-turn S make c cs ih true ours v u sv su same still =
+told_alike : (S : ℕ → Bool) (make : Maker) (cs ds : List CommandLine) → commands_by S cs ≡ commands_by S ds → Told S make cs ds
+told_alike S make = together (λ (c : CommandLine). S c.task) (Told S make)
+    (λ v w sv sw views. refl)
+    (λ c cs ds e ih v w sv sw. let ms = command_calls make c v in rw e (ih (run v ms) w (run_sound ms v sv) sw))
+    (λ d cs ds e ih v w sv sw. let ns = command_calls make d w in rw e (ih v (run w ns) sv (run_sound ns w sw)))
+    (λ c cs ds e ih v w sv sw.
     let ms = command_calls make c v in
-    let ns = command_calls make c u in
-    let now = own_program S make c.task ours (program_of (action_of c)) v u sv su same in
-    let rest = ih (run v ms) (run u ns) (run_sound ms v sv) (run_sound ns u su) now.1 still.1 in
-    rw (ours, ours, run_both ms (script_calls make cs (run v ms)) v, run_both ns (script_calls make (commands_by S cs) (run u ns)) u) (
-      ap₂ ◌∷◌ (ap (part_of c) now.0) rest.0,
-      rest.1,
-    )
-turn S make c cs ih false other v u sv su same still =
-    let ms = command_calls make c v in
-    let unseen = view_of (Agree-trans (Agree-sym (agree_of (still.0 other))) (agree_of same)) in
-    let rest = ih (run v ms) u (run_sound ms v sv) su unseen still.1 in
-    rw (other, run_both ms (script_calls make cs (run v ms)) v) rest
+    let ns = command_calls make c w in
+    rw e (λ views.
+    ap₂ ◌∷◌ (ap (part_of c) (own_program S make c.task e (program_of (action_of c)) v w sv sw views.0).0)
+    (ih (run v ms) (run w ns) (run_sound ms v sv) (run_sound ns w sw) views.1)))
 
-alone : (S : ℕ → Bool) (make : Maker) (cs : List CommandLine) → Alone S make cs
-alone S make [] = λ v u sv su same still. (refl, same)
-alone S make (c ∷ cs) = turn S make c cs (alone S make cs) (S c.task) refl
+pub commands_side_by_side : CommandsSideBySide
+commands_side_by_side S make v w cs ds sv sw commands views =
+    told_parts S make cs v ∙ (told_alike S make cs ds commands v w sv sw views ∙ sym (told_parts S make ds w))
+
+pub scripts_side_by_side : ScriptsSideBySide
+scripts_side_by_side S make m script other begins commands views =
+    commands_side_by_side S make (first_world m (users_of script)) (first_world m (users_of other)) (commands_of script) (commands_of other)
+    (first_sound m (users_of script) begins) (first_sound m (users_of other) begins) commands views
 
 SameView-refl : (S : ℕ → Bool) (v : World) → SameView S v v
 SameView-refl S v = view_of (Agree-refl S v)
 
+-- where the others leave its view as it was, it gives its commands in worlds of the same view, and sees the same afterwards
+abbrev Met : (ℕ → Bool) → Maker → List CommandLine → List CommandLine → Type 0
+Met S make cs ds =
+    (v w : World) → Sound v → Sound w → SameView S v w → UnmovedCommands S make cs v → UnmovedCommands S make ds w
+    → SameViews S (worlds_of S make v cs) (worlds_of S make w ds) × SameView S (world_after make cs v) (world_after make ds w)
+
+met : (S : ℕ → Bool) (make : Maker) (cs ds : List CommandLine) → commands_by S cs ≡ commands_by S ds → Met S make cs ds
+met S make = together (λ (c : CommandLine). S c.task) (Met S make)
+    (λ v w sv sw same qv qw. (tt, same))
+    (λ c cs ds e ih v w sv sw same qv qw.
+    let ms = command_calls make c v in
+    let rest = ih (run v ms) w (run_sound ms v sv) sw (view_of (Agree-trans (Agree-sym (agree_of (qv.0 e))) (agree_of same))) qv.1 qw in
+    rw (e, run_both ms (script_calls make cs (run v ms)) v) rest)
+    (λ d cs ds e ih v w sv sw same qv qw.
+    let ns = command_calls make d w in
+    let rest = ih v (run w ns) sv (run_sound ns w sw) (view_of (Agree-trans (agree_of same) (agree_of (qw.0 e)))) qv qw.1 in
+    rw (e, run_both ns (script_calls make ds (run w ns)) w) rest)
+    (λ c cs ds e ih v w sv sw same qv qw.
+    let ms = command_calls make c v in
+    let ns = command_calls make c w in
+    let now = own_program S make c.task e (program_of (action_of c)) v w sv sw same in
+    let rest = ih (run v ms) (run w ns) (run_sound ms v sv) (run_sound ns w sw) now.1 qv.1 qw.1 in
+    rw (e, run_both ms (script_calls make cs (run v ms)) v, run_both ns (script_calls make ds (run w ns)) w) ((same, rest.0), rest.1))
+
 pub isolated_by_view : IsolatedByView
 isolated_by_view S make v w cs ds sv sw same commands qv qw =
-    let l = alone S make cs v v sv sv (SameView-refl S v) qv in
-    let r = alone S make ds w v sw sv (view_of (Agree-sym (agree_of same))) qw in
-    let end = subst (λ (es : List CommandLine). SameView S (world_after make ds w) (world_after make es v)) (sym commands) r.1 in (
-      told_parts S make cs v ∙ (l.0 ∙ (ap (λ (es : List CommandLine). told_to S make es v) commands ∙ (sym r.0 ∙ sym (told_parts S make ds w)))),
-      view_of (Agree-trans (agree_of l.1) (Agree-sym (agree_of end))),
-    )
+    let m = met S make cs ds commands v w sv sw same qv qw in
+    (commands_side_by_side S make v w cs ds sv sw commands m.0, m.1)
 
 -- the others' quiet calls leave the view of S as it was
 quiet_unmoved : (S : ℕ → Bool) (make : Maker) (cs : List CommandLine) (w : World) → Sound w → QuietCommands S make cs w → UnmovedCommands S make cs w

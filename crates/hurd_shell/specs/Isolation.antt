@@ -10,7 +10,7 @@ use Rattle.hurd_script.specs.Commands.{CommandLine}
 use Rattle.hurd_script.specs.Actions.{action_of}
 use Rattle.hurd_script.specs.Script.{users_of, commands_of}
 use Rattle.hurd_laws.specs.Step.{reply_of, after}
-use Rattle.hurd_laws.specs.Runs.{TaskCall, run, Quiet}
+use Rattle.hurd_laws.specs.Runs.{TaskCall, run, own_worlds, SameViews, Quiet}
 use Rattle.hurd_world.specs.Boot.{first_world}
 use Rattle.hurd_shell.specs.Programs.{Prog, gives, calls, asks}
 use Rattle.hurd_shell.specs.Commands.{program_of}
@@ -45,6 +45,10 @@ script_calls make (c ∷ cs) w = command_calls make c w ++ script_calls make cs 
 abbrev pub world_after : Maker → List CommandLine → World → World
 world_after make cs w = run w (script_calls make cs w)
 
+-- the worlds in which tasks of S give their commands, one after another
+abbrev pub worlds_of : (ℕ → Bool) → Maker → World → List CommandLine → List World
+worlds_of S make w cs = own_worlds (λ (c : CommandLine). S c.task) (λ (c : CommandLine) x. run x (command_calls make c x)) w cs
+
 -- the commands of tasks of S
 abbrev pub commands_by : (ℕ → Bool) → List CommandLine → List CommandLine
 commands_by S cs = filter (λ c. S c.task) cs
@@ -73,6 +77,22 @@ abbrev pub ToldInTurn : Type 0
 ToldInTurn =
     (make : Maker) (cs ds : List CommandLine) (w : World)
     → parts_by make (dialogue (cs ++ ds) w) ≡ parts_by make (dialogue cs w) ++ parts_by make (dialogue ds (world_after make cs w))
+
+-- from any two worlds, where S has the same commands, and gives each of them in worlds that have the same view for S, whatever the
+-- others' commands did before it: S is told the same
+abbrev pub CommandsSideBySide : Type 0
+CommandsSideBySide =
+    (S : ℕ → Bool) (make : Maker) (v w : World) (cs ds : List CommandLine) → Sound v → Sound w
+    → commands_by S cs ≡ commands_by S ds → SameViews S (worlds_of S make v cs) (worlds_of S make w ds)
+    → parts_to S cs (parts_by make (dialogue cs v)) ≡ parts_to S ds (parts_by make (dialogue ds w))
+
+-- and so of two scripts over boot servers of one meaning, whose servers one maker makes
+abbrev pub ScriptsSideBySide : Type 0
+ScriptsSideBySide =
+    (S : ℕ → Bool) (make : Maker) (m : Meaning) (script other : List ℕ) → Begins m
+    → commands_by S (commands_of script) ≡ commands_by S (commands_of other)
+    → SameViews S (worlds_of S make (first_world m (users_of script)) (commands_of script)) (worlds_of S make (first_world m (users_of other)) (commands_of other))
+    → parts_to S (commands_of script) (parts_by make (dialogue_of script m)) ≡ parts_to S (commands_of other) (parts_by make (dialogue_of other m))
 
 -- from two worlds that have the same view for S, where S has the same commands and the others' commands are quiet: S is told the
 -- same, and sees the same afterwards

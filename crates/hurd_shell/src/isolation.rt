@@ -1,5 +1,5 @@
 //! What a script tells a set of tasks does not depend on the others' commands.
-ghost use Rattle.hurd_shell.specs.Isolation.{AsWithoutOthers, IsolatedByView, IsolatedCommands, IsolatedScripts, OnePartEach, ToldInTurn};
+ghost use Rattle.hurd_shell.specs.Isolation.{AsWithoutOthers, CommandsSideBySide, IsolatedByView, IsolatedCommands, IsolatedScripts, OnePartEach, ScriptsSideBySide, ToldInTurn};
 
 /// A law: each command has one part in what is told, and what is told of commands behind others is what is told of them in the
 /// world after those.
@@ -20,4 +20,11 @@ pub fn scripts_are_isolated()
 pub fn unmoved_scripts_are_isolated()
     ensures views { IsolatedByView }
     ensures without { AsWithoutOthers }
+{}
+
+/// A law, and the strongest of these: where a set of tasks has the same commands in two scripts, and gives each of them where it sees the
+/// same in both, it is told the same, whatever the others' commands did before; and so from any two worlds.
+pub fn scripts_side_by_side()
+    ensures commands { CommandsSideBySide }
+    ensures scripts { ScriptsSideBySide }
 {}

@@ -22,6 +22,9 @@ mod stages;
 mod transcript;
 
 pub use fault::{SessionFault, SupplyFault};
-pub use isolation::{scripts_are_isolated, scripts_are_told_in_turn, unmoved_scripts_are_isolated};
+pub use isolation::{
+    scripts_are_isolated, scripts_are_told_in_turn, scripts_side_by_side,
+    unmoved_scripts_are_isolated,
+};
 pub use outputs::{a_maker_answers, outputs_are_the_transcript};
 pub use session::{Session, Want};

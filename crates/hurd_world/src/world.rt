@@ -4,7 +4,7 @@ ghost use Rattle.hurd_trans_iface.specs.Meaning.{Begins};
 ghost use Rattle.hurd_machine.specs.Calls.{BringsBegun, call_by, reply_by};
 ghost use Rattle.hurd_machine.specs.Sound.{Sound};
 ghost use Rattle.hurd_laws.specs.Called.{Called};
-ghost use Rattle.hurd_laws.specs.Served.{Served, IsolatedRun};
+ghost use Rattle.hurd_laws.specs.Served.{Served, ComparedRun, IsolatedRun};
 ghost use Rattle.hurd_world.specs.Held.{AllBegun, AllComeBack, ComesBack, made_by, world_of};
 ghost use Rattle.hurd_world.specs.Boot.{boot_of, first_world};
 
@@ -227,7 +227,8 @@ impl<S: Server> World<S> {
     /// made by some words, and comes back in that call's reply where it is refused.
     ///
     /// What a set of tasks is told is what the written machine tells it in any sound world that it sees alike, where the
-    /// calls of the others touch nothing that it sees. A call that found no memory counts as not made.
+    /// calls of the others touch nothing that it sees; and wherever it makes each of its calls in a world that it sees as
+    /// here, whatever the others did before. A call that found no memory counts as not made.
     ///
     /// `ENOMEM`, with the list back and no call made, where there is no room for the replies.
     pub fn run(
@@ -240,6 +241,8 @@ impl<S: Server> World<S> {
             IfOk result (λ replies. Served w (map (made_by S.meaning) calls.items) (map (reply_by S.meaning) replies.items) x) }
         ensures isolated { let w = world_of S.meaning self.old in let x = world_of S.meaning self.new in
             IfOk result (λ replies. Sound w → IsolatedRun w (map (made_by S.meaning) calls.items) (map (reply_by S.meaning) replies.items) x) }
+        ensures compared { let w = world_of S.meaning self.old in
+            IfOk result (λ replies. Sound w → ComparedRun w (map (made_by S.meaning) calls.items) (map (reply_by S.meaning) replies.items)) }
         ensures back { IfOk result (λ replies. AllComeBack calls.items replies.items) }
         ensures sound { Sound (world_of S.meaning self.old) → Sound (world_of S.meaning self.new) }
         ensures err { IfErr result (λ e. (e ≡ (Errno.ENOMEM, calls)) × (self.new ≡ self.old)) }
