@@ -10,7 +10,7 @@ use Rattle.hurd_machine.specs.Sight.{Held}
 use Rattle.hurd_machine.proofs.Coherence.{entry_lists}
 use Rattle.hurd_machine.proofs.Links.{leads_unless}
 use Rattle.hurd_machine.proofs.Views.{Agree}
-use Rattle.hurd_machine.proofs.Asks.{IsPlain, IsNamed, is_named, port_same, port_seen, port_plain, info_same, is_root_same, holds_right, first_ok, given_ok, first_same, given_same, first_plain, given_plain, ok_plain}
+use Rattle.hurd_machine.proofs.Asks.{IsPlain, IsNamed, is_named, port_same, port_seen, port_plain, info_alike, is_root_same, holds_right, first_ok, given_ok, first_same, given_same, first_plain, given_plain, ok_plain}
 use Rattle.hurd_dirs.specs.Entry.{is_name, name_asks, tree_asks, may_change, dir_asks, entry_asks}
 
 -- names
@@ -50,7 +50,7 @@ entry_dir w a u is =
 
 pub dir_same : {S : ℕ → Bool} {v w : World} → Agree S v w → (a : Named) → Seen S v a.right.node → dir_asks w a ≡ dir_asks v a
 dir_same {S} {v} {w} agree a seen =
-    first_same _ _ _ _ (given_same _ _ _ _ _ refl (λ dir. given_same _ _ _ _ _ (rw (info_same agree a.right.node seen) refl) (λ tree. refl))) (λ u is.
+    first_same _ _ _ _ (given_same _ _ _ _ _ refl (λ dir. given_same _ _ _ _ _ (info_alike agree a.right.node tree_by (λ i. refl) seen) (λ tree. refl))) (λ u is.
     given_same _ _ _ _ _ refl (λ m.
     given_same _ (not (is_removed v a.right.node a.header)) (not (is_removed w a.right.node a.header)) _ _ (rw (is_root_same agree a.right.node seen) refl) (λ here. refl)))
 

@@ -17,7 +17,7 @@ use Rattle.hurd_machine.proofs.Links.{leads_unless, listing_of}
 use Rattle.hurd_machine.proofs.Linking.{kin_are}
 use Rattle.hurd_machine.proofs.Removals.{MayRemove, unlinking, distinct_at, left_linked, unlinking_piece}
 use Rattle.hurd_machine.proofs.Renames.{MayGo, may_go, going, taken_none, taken_other, going_piece}
-use Rattle.hurd_machine.proofs.Asks.{IsPlain, info_same, is_root_same, on_ok, given_ok, first_ok, on_same, given_same, first_same, on_plain, given_plain, first_plain, ok_plain, answered_same, answered_plain, done_plain}
+use Rattle.hurd_machine.proofs.Asks.{IsPlain, info_alike, is_root_same, on_ok, given_ok, first_ok, on_same, given_same, first_same, on_plain, given_plain, first_plain, ok_plain, answered_same, answered_plain, done_plain}
 use Rattle.hurd_machine.proofs.CallLaws.{CallLaws, answered_piece}
 use Rattle.hurd_core.specs.Core as core
 use Rattle.hurd_core.specs.Core.{Does}
@@ -255,7 +255,7 @@ module _ {S : ℕ → Bool} {v w : World} (agree : Agree S v w) (c : Coherent v)
   trees_same : trees_ask w a b ≡ trees_ask v a b
   trees_same =
       given_same _ _ _ _ _ refl (λ dirs.
-      given_same _ _ _ _ _ (ap₂ (λ x y. tree_by x && tree_by y) (info_same agree a.right.node from_seen) (info_same agree b.right.node to_seen)) (λ trees.
+      given_same _ _ _ _ _ (ap₂ (λ (x y : Bool). x && y) (info_alike agree a.right.node tree_by (λ i. refl) from_seen) (info_alike agree b.right.node tree_by (λ i. refl) to_seen)) (λ trees.
       given_same _ _ _ _ _ (ap₂ are_kin (home_same agree a.right.node from_seen) (home_same agree b.right.node to_seen)) (λ kin. refl)))
 
   module _ (trees : AreTrees v a b) (name new : List ℕ) where

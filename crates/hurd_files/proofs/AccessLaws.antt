@@ -16,7 +16,7 @@ use Rattle.hurd_files.specs.Access.{told_access, plan_check_access, touches_chec
 -- file_check_access: it asks for a node that the caller has a port on, and so sees.
 
 pub check_access_laws : (t p : ℕ) → CallLaws t (λ w. plan_check_access w t p) (λ w. touches_check_access w t p)
-check_access_laws t p = looking_laws t (λ w. port_asks w t p) told_access (λ S v w a ours. port_same a t ours p) (λ w. port_plain w t p) (λ n. refl)
+check_access_laws t p = looking_laws t (λ w. port_asks w t p) told_access (λ S v w c a ours. port_same a t ours p) (λ w. port_plain w t p) (λ n. refl)
 
 -- Setting owner, group and mode, by ids that may: it asks the same as file_check_access, and whether the node's server lets them be set.
 

@@ -1,7 +1,7 @@
 -- The laws of the calls on files and directories.
 use Rattle.std.proofs.Common.{◌≡◌, ℕ, Bool, true, false, if◌then◌else◌, List, [], ◌∷◌, refl, subst, inl, inr, Option, Some, None, ap, ◌∙◌}
 use Rattle.std.specs.Prelude.{Ok}
-use Rattle.hurd_machine.proofs.Common.{Allowed, Body, Content, GidOfRight, Header, Holds, IdSets, Io, IoRight, IsAmong, Listing, Name, READ, Read, Seen, ServerInfo, Taken, ToRead, UidOfRight, WRITE, World, asked_at, bare, body_at, handle_asks, header_at, may, names_of, resizing}
+use Rattle.hurd_machine.proofs.Common.{Allowed, Body, Content, GidOfRight, Header, Holds, IdSets, Io, IoRight, IsAmong, Listing, Name, READ, Read, Seen, Taken, ToRead, UidOfRight, WRITE, World, asked_at, bare, body_at, handle_asks, header_at, may, names_of, resizing}
 use Rattle.hurd_trans_iface.proofs.Goods.{good}
 use Rattle.hurd_union.specs.Merge.{merge}
 use Rattle.hurd_machine.specs.declared.handle.Handle.{Handle}
@@ -9,9 +9,11 @@ use Rattle.hurd_machine.specs.declared.call.Reply.TheVariants.{Done}
 use Rattle.hurd_machine.proofs.Views.{Agree, header_same, body_same}
 use Rattle.hurd_trans_iface.proofs.BodyLaws.{cut_holds}
 use Rattle.hurd_machine.proofs.Edits.{did_whole}
-use Rattle.hurd_machine.proofs.Asks.{first_same, answered_same, first_ok, first_plain, ok_plain, answered_plain, done_plain, handle_same, handle_seen, handle_plain, handle_read, asked_same, asked_plain, info_same, io_right_same, io_right_plain, holds_io, IsPlain, given_same, given_plain, err_plain}
+use Rattle.hurd_trans_iface.specs.declared.root.Root.{Root}
+use Rattle.hurd_machine.proofs.Faces.{root_told}
+use Rattle.hurd_machine.proofs.Asks.{first_same, answered_same, first_ok, first_plain, ok_plain, answered_plain, done_plain, handle_same, handle_seen, handle_plain, handle_read, asked_same, asked_plain, resizing_blind, info_alike, io_right_same, io_right_plain, holds_io, IsPlain, given_same, given_plain, err_plain}
 use Rattle.hurd_machine.proofs.CallLaws.{CallLaws, answered_piece, looking_laws}
-use Rattle.hurd_core.specs.Branches.{branches_at, branches_by}
+use Rattle.hurd_core.specs.Branches.{branches, branches_at, branches_by}
 use Rattle.hurd_core.proofs.AimedLaws.{branches_seen}
 use Rattle.hurd_files.specs.Files.{set_size_asks, plan_set_size, touches_set_size, readdir_asks, plan_readdir, touches_readdir}
 use Rattle.hurd_files.specs.Listing.{all_names, names_by, names_or}
@@ -29,7 +31,7 @@ set_size_laws t p size = record {
   same = λ S v w c d a ours. answered_same _ _ _ _ (first_same _ _ _ _ (handle_same a t ours p WRITE) (λ h is. refl)) (λ n is.
       let h = resized_by v t p n is in
       let seen : Seen S v n = subst (Seen S v) h.2 (handle_seen t ours p WRITE h.0 h.1) in
-      answered_same _ _ _ _ (asked_same a n (resizing size) (λ k text. (good k).set_size_blind text size) seen) (λ d told. refl));
+      answered_same _ _ _ _ (asked_same a n (resizing size) (resizing_blind size) seen) (λ d told. refl));
   plain = λ w. answered_plain _ _ (first_plain _ _ (handle_plain w t p WRITE) (λ h is. ok_plain _)) (λ n is.
       answered_plain _ _ (asked_plain (resizing size) (λ k. (good k).set_size_plain size) n w) (λ d told. done_plain Done refl));
 }
@@ -69,7 +71,7 @@ module _ {S : ℕ → Bool} {v w : World} (a : Agree S v w) (ids : IdSets) (take
   -- and in the branches of a node that S sees
   shown_same : (d : Name) (names : List (List ℕ)) → Seen S v d → all_names w ids (branches_at w d) names ≡ all_names v ids (branches_at v d) names
   shown_same d names seen =
-      ap (λ (o : Option ServerInfo). all_names w ids (branches_by o) names) (info_same a d seen)
+      info_alike a d (λ o. all_names w ids (branches_by o) names) (λ i. ap (λ (r : Root). all_names w ids (branches r.crossing i.targets) names) (root_told i.kind i.text)) seen
       ∙ all_same (branches_at v d) names (λ b among. branches_seen S v d b seen among)
 
 -- ids of a right that S holds
@@ -78,7 +80,7 @@ right_taken q held = record { uids = λ u has. UidOfRight q held has; gids = λ 
 
 pub readdir_laws : (t p : ℕ) → CallLaws t (λ w. plan_readdir w t p) (λ w. touches_readdir w t p)
 readdir_laws t p = looking_laws t (λ w. readdir_asks w t p) _
-    (λ S v w a ours. first_same _ _ _ _ (handle_same a t ours p READ) (λ h is. given_same _ _ _ _ _ refl (λ dir.
+    (λ S v w c a ours. first_same _ _ _ _ (handle_same a t ours p READ) (λ h is. given_same _ _ _ _ _ refl (λ dir.
     first_same _ _ _ _ (io_right_same a t ours p) (λ q its.
     first_same _ _ _ _ (ap names_of (body_same a h.node (handle_read t ours p h is))) (λ own told.
     ap Ok (shown_same a q.ids (right_taken q (holds_io t ours p q its)) h.node own (handle_seen t ours p READ h is)))))))

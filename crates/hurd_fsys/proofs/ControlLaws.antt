@@ -1,7 +1,7 @@
 -- Ports that control servers: what an answer shows, and that it is the same in worlds that agree; and a port more to control one.
 use Rattle.std.proofs.Common.{◌≡◌, ◌∙◌, ◌||◌, ◌≤◌, ℕ, Bool, true, [], ◌∷◌, Some, refl, sym, ap, subst, inl, inr, arith}
 use Rattle.std.specs.Prelude.{Result, Ok, Err}
-use Rattle.hurd_machine.proofs.Common.{Coherent, Control, CouldServe, EBADF, EDIED, Errno, Holds, IdSets, Io, IoRight, Name, Named, OfControl, OwnsIt, Right, ServerInfo, UidOfRight, World, bare, holds_uid, is_eq, least_uid, nat_cmp_total, owns, ports_of, server_at, tied_itself}
+use Rattle.hurd_machine.proofs.Common.{Coherent, Control, CouldServe, EBADF, EDIED, Errno, Holds, IdSets, Io, IoRight, Name, Named, OwnsIt, Right, ServerInfo, UidOfRight, World, bare, holds_uid, is_eq, least_uid, nat_cmp_total, owns, ports_of, server_at, tied_itself}
 use Rattle.std.specs.FinSet as set
 use Rattle.std.proofs.lemmas.List.Elements.{All-nil, All-cons}
 use Rattle.hurd_ports.specs.Tables.{right_of}
@@ -9,7 +9,7 @@ use Rattle.std.proofs.lemmas.Bool.{or_cases}
 use Rattle.hurd_creds.specs.Access.{is_root}
 use Rattle.hurd_creds.proofs.IdLaws.{least-answer}
 use Rattle.hurd_machine.proofs.Asks.{IsPlain, right_same, right_plain, holds_right, first_ok, on_ok, first_same, on_same, first_plain, on_plain, ok_plain, err_plain}
-use Rattle.hurd_machine.proofs.Views.{Agree, server_known}
+use Rattle.hurd_machine.proofs.Views.{Agree, control_known}
 use Rattle.hurd_core.specs.Control.{control_in, control_of}
 use Rattle.hurd_fsys.specs.Controls.{Controlled, control_asks}
 use Rattle.hurd_fsys.specs.Fsys.{holds_any, may_control}
@@ -48,7 +48,7 @@ is_controlled w t c k is =
 pub controlled_same : {S : ℕ → Bool} {v w : World} → Agree S v w → (t : ℕ) → S t ≡ true → (c : ℕ) → control_asks w t c ≡ control_asks v t c
 controlled_same {S} {v} {w} a t ours c =
     first_same _ _ _ _ (control_same a t ours c) (λ s is.
-    on_same _ _ _ _ _ (server_known a s (OfControl (holds_right t ours c (Control s) (control_is v t c s is)))) (λ i there. refl))
+    on_same _ _ _ _ _ (control_known a s (holds_right t ours c (Control s) (control_is v t c s is))) (λ i there. refl))
 
 pub controlled_plain : (w : World) (t c : ℕ) → IsPlain (control_asks w t c)
 controlled_plain w t c = first_plain _ _ (control_plain w t c) (λ s is. on_plain _ _ _ refl (λ i there. ok_plain _))

@@ -1,13 +1,14 @@
 -- The laws of sending servers away, of getting control of them, and of asking how they were made.
-use Rattle.std.proofs.Common.{[], ◌∷◌, ◌≡◌, ◌≢◌, ◌∙◌, ◌||◌, ◌&&◌, ◌==◌, not, ℕ, Bool, true, false, true≢false, Some, refl, sym, ap, subst, inl, inr}
+use Rattle.std.proofs.Common.{[], ◌∷◌, ◌≡◌, ◌≢◌, ◌∙◌, ◌||◌, ◌&&◌, ◌==◌, not, ℕ, Bool, true, false, true≢false, Option, Some, refl, sym, ap, subst, inl, inr}
 use Rattle.std.specs.Prelude.{Result, Ok}
-use Rattle.hurd_machine.proofs.Common.{ByControl, ByNode, BySeat, Coherent, Control, DropServer, EBUSY, EDIED, ENXIO, EPERM, Errno, FORCE, Holds, Io, Name, Named, Nothing, Seen, ServerInfo, UsersOf, World, active_at, asks_goaway, boot_name, has_room, home_at, port_asks, same_name, server_at, users}
+use Rattle.hurd_machine.proofs.Common.{ByControl, ByNode, BySeat, Coherent, Control, DropServer, EBUSY, EDIED, ENXIO, EPERM, Errno, FORCE, Holds, Io, Name, Named, Nothing, Seen, ServerInfo, UsersOf, World, active_at, asks_goaway, boot_name, has_room, home_at, port_asks, same_name, server_at, users, faced, given, on}
 use Rattle.hurd_creds.specs.declared.trans_flags.GoawayFlags.{GoawayFlags}
 use Rattle.hurd_creds.proofs.NameLaws.{same_name-itself}
 use Rattle.hurd_nodes.proofs.PartLaws.{and_both}
 use Rattle.hurd_machine.specs.declared.call.Reply.TheVariants.{Done, Port, Words}
 use Rattle.hurd_machine.specs.Sight.{Held}
-use Rattle.hurd_machine.proofs.Views.{Agree, same_tasks, home_same, active_same, server_same}
+use Rattle.hurd_machine.proofs.Faces.{face_reads}
+use Rattle.hurd_machine.proofs.Views.{Agree, same_tasks, home_same, active_same, face_same}
 use Rattle.hurd_machine.proofs.Opens.{own_task}
 use Rattle.hurd_machine.proofs.Going.{goes_piece}
 use Rattle.hurd_machine.proofs.Asks.{IsPlain, IsNamed, is_named, port_same, port_seen, port_plain, holds_right, first_ok, given_ok, on_ok, first_same, given_same, on_same, first_plain, given_plain, on_plain, ok_plain, answered_same, answered_plain, done_plain}
@@ -107,6 +108,15 @@ module _ (t p : ℕ) where
 
 -- file_getcontrol
 
+-- what is asked of the server of a port's node goes by what is seen of it
+
+abbrev served_by : Named → Name → Option ServerInfo → Result Name Errno
+served_by n s o = on EDIED o (λ i. given EPERM (may_control n.right.ids i.ids) (Ok s))
+
+served_face : (n : Named) (s : Name) (i : ServerInfo) → served_by n s (Some (faced i)) ≡ served_by n s (Some i)
+unfolding on
+served_face n s i = refl
+
 module _ (t p : ℕ) where
   -- what is controlled is the server of a port's node, and the port's ids may control it
   record Served (w : World) (s : Name) : Type 0 where
@@ -136,7 +146,7 @@ module _ (t p : ℕ) where
         inr (k.info, k.is_server, ByNode k.named.right.node (Held k.named.right held refl) k.home (controller_holds S v c k.named.right held s k.info k.is_server k.may));
     same = λ S v w a ours. first_same _ _ _ _ (port_same a t ours p) (λ n is.
         let seen : Seen S v n.right.node = port_seen t ours p n is in
-        on_same _ _ _ _ _ (home_same a n.right.node seen) (λ s home. on_same _ _ _ _ _ (server_same a n.right.node s seen home) (λ i at. refl)));
+        on_same _ _ _ _ _ (home_same a n.right.node seen) (λ s home. face_reads (served_by n s) (served_face n s) (server_at v s) (server_at w s) (face_same a n.right.node s seen home)));
     plain = λ w. first_plain _ _ (port_plain w t p) (λ n is. on_plain _ _ _ refl (λ s home. on_plain _ _ _ refl (λ i at. given_plain _ _ _ refl (λ may. ok_plain _))));
   })
 
@@ -144,6 +154,6 @@ module _ (t p : ℕ) where
 
 pub get_options_laws : (t c : ℕ) → CallLaws t (λ w. plan_get_options w t c) (λ w. touches_get_options w t c)
 get_options_laws t c = looking_laws t (λ w. options_asks w t c) (λ ws. Words ws)
-    (λ S v w a ours. first_same _ _ _ _ (controlled_same a t ours c) (λ k is. refl))
+    (λ S v w x a ours. first_same _ _ _ _ (controlled_same a t ours c) (λ k is. refl))
     (λ w. first_plain _ _ (controlled_plain w t c) (λ k is. ok_plain _))
     (λ ws. refl)

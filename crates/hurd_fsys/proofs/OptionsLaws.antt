@@ -1,18 +1,34 @@
 -- The laws of giving options to a server.
-use Rattle.std.proofs.Common.{◌≡◌, ℕ, Bool, true, List, Option, Some, None, refl, ap, subst, ◌∙◌, inl, inr}
+use Rattle.std.proofs.Common.{◌≡◌, ℕ, Bool, true, false, List, [], ◌∷◌, Option, Some, None, refl, ap, subst, ◌∙◌, inl, inr}
 use Rattle.std.specs.Prelude.{Result, Ok, Err}
-use Rattle.hurd_machine.proofs.Common.{Coherent, Control, EDIED, Errno, Name, OfControl, Plan, ServerInfo, World, ports_of, retexting, server_at, takes_options}
-use Rattle.hurd_trans_iface.specs.Meaning.{behaviour_of}
+use Rattle.hurd_machine.proofs.Common.{Coherent, Control, EDIED, Errno, Name, Plan, ServerInfo, World, ports_of, retexting, server_at, takes_options}
+use Rattle.hurd_trans_iface.specs.Meaning.{ServerKind, Tmpfs, Hello, Null, Zero, Symlink, Firmlink, Union, Magic, Drip, Fifo, behaviour_of, root_of}
+use Rattle.hurd_machine.specs.Sight.{is_link}
 use Rattle.hurd_trans_iface.proofs.Goods.{good}
 use Rattle.hurd_nodes.specs.Shown.{info_taken}
 use Rattle.hurd_machine.specs.declared.call.Reply.TheVariants.{Done}
-use Rattle.hurd_machine.proofs.Views.{Agree, server_known}
+use Rattle.hurd_machine.proofs.Views.{Agree, control_known}
 use Rattle.hurd_machine.proofs.Asks.{IsPlain, holds_right, ok_plain, err_plain, answered_same, answered_plain, done_plain}
 use Rattle.hurd_machine.proofs.Retexting.{MayGet, retexts_whole, retexts_same}
 use Rattle.hurd_machine.proofs.CallLaws.{CallLaws, answered_piece}
 use Rattle.hurd_core.specs.Control.{control_of}
 use Rattle.hurd_fsys.specs.Fsys.{plan_set_options, touches_set_options}
 use Rattle.hurd_fsys.proofs.ControlLaws.{control_is, control_same, control_plain}
+
+-- no link takes a text
+taken_leads : (k : ServerKind) (words : List (List ℕ)) (text : List ℕ) → (behaviour_of k).set_options words ≡ Ok (Some text) → is_link (root_of k text).crossing ≡ false
+taken_leads Tmpfs words text e = refl
+taken_leads Hello words text e = refl
+taken_leads Null words text e = refl
+taken_leads Zero words text e = refl
+taken_leads Symlink [] text e = absurd (cc)
+taken_leads Symlink (w ∷ ws) text e = absurd (cc)
+taken_leads Firmlink words text e = refl
+taken_leads Union words text e = refl
+taken_leads Magic [] text e = absurd (cc)
+taken_leads Magic (w ∷ ws) text e = absurd (cc)
+taken_leads Drip words text e = refl
+taken_leads Fifo words text e = refl
 
 module _ (t c : ℕ) (words : List (List ℕ)) where
   abbrev asks : World → Name → Result (ServerInfo × Option (List ℕ)) Errno
@@ -35,7 +51,7 @@ module _ (t c : ℕ) (words : List (List ℕ)) where
       by_server (Some i) at is = by_answer i ((behaviour_of i.kind).set_options words) at refl is
 
   may_get : (w : World) (s : Name) (a : ServerInfo × Option (List ℕ)) → Takes w s a → MayGet w s a.0 a.1
-  may_get w s a k text is = (good a.0.kind).options_root words text (k.takes ∙ ap Ok is)
+  may_get w s a k text is = let takes = k.takes ∙ ap Ok is in ((good a.0.kind).options_root words text takes, taken_leads a.0.kind words text takes)
 
   asks_plain : (w : World) (s : Name) → IsPlain (asks w s)
   asks_plain w s = by_server (server_at w s)
@@ -50,7 +66,7 @@ module _ (t c : ℕ) (words : List (List ℕ)) where
 
   -- who controls a server knows it
   known : {S : ℕ → Bool} {v w : World} → Agree S v w → S t ≡ true → (s : Name) → control_of (ports_of v) t c ≡ Ok s → server_at w s ≡ server_at v s
-  known {S} {v} {w} a ours s is = server_known a s (OfControl (holds_right t ours c (Control s) (control_is v t c s is)))
+  known {S} {v} {w} a ours s is = control_known a s (holds_right t ours c (Control s) (control_is v t c s is))
 
   abbrev gets : World → Name → ServerInfo × Option (List ℕ) → Plan
   gets w s b = record { reply = Done; changes = retexting w s b.0 b.1 }

@@ -10,7 +10,7 @@ use Rattle.hurd_machine.proofs.Views.{Agree, Agree-refl, active_same}
 use Rattle.hurd_machine.proofs.Frame.{Full}
 use Rattle.hurd_machine.proofs.Opens.{own_task, fresh_new, later_new}
 use Rattle.hurd_machine.proofs.Going.{goes_piece, unseats_piece}
-use Rattle.hurd_machine.proofs.Asks.{IsPlainReply, port_same, port_plain, info_same, is_root_same, first_ok, given_ok, first_same, given_same, first_plain, given_plain, on_plain, ok_plain, answered_same, answered_plain, done_plain}
+use Rattle.hurd_machine.proofs.Asks.{IsPlainReply, port_same, port_plain, info_alike, is_root_same, first_ok, given_ok, first_same, given_same, first_plain, given_plain, on_plain, ok_plain, answered_same, answered_plain, done_plain}
 use Rattle.hurd_machine.proofs.CallLaws.{CallLaws, answered_piece, answered_whole, looking_laws}
 use Rattle.hurd_core.specs.Core.{attaching, naming_asks}
 use Rattle.hurd_machine.specs.declared.call.Setting.{Setting}
@@ -77,7 +77,7 @@ module _ (t p : ℕ) (f : Setting) where
 
     seat_same : seat_asks w f n ≡ seat_asks v f n
     seat_same =
-        given_same _ _ _ _ _ (ap₂ (λ i b. tree_by i && not b) (info_same a n.right.node seen) (is_root_same a n.right.node seen)) (λ e.
+        given_same _ _ _ _ _ (ap₂ (λ (i b : Bool). i && not b) (info_alike a n.right.node tree_by (λ i. refl) seen) (is_root_same a n.right.node seen)) (λ e.
         given_same _ _ _ _ _ set_same (λ e. ap Ok (active_same a n.right.node seen)))
 
   module _ (words : List (List ℕ)) (box : Option Meaning) where
@@ -134,7 +134,7 @@ module _ (t p : ℕ) (f : Setting) where
           let aims = aims_like w v n.right.node (like w n k) m targets (aims_fit w (stands s) (lent n.right.ids n.header.owner) ENXIO refl m targets found (targets_seen (λ u. true) refl m targets found)) in
           with_words (attaching t (seat_on n.right.node n.header m (leaver f old) false) (server_ids n.header.owner) targets m x) (λ y.
           comings_whole v t n.right.node n.header (like w n k).there m x (ap (λ (ts : List Task). slice_get ts t) tasks ∙ is) targets aims (stands y) (own_task w t (seat_parts w f n.right.node old)) (inr (inr later)) (inr (inr later))
-          (inr (inr later)) (inr (inr (fresh_new w t x is))) (inl (inl refl)) (leaver f old) (λ q is. ap (λ (rs : NameMap Site). active_in rs n.right.node) (like w n k).sites ∙ (e ∙ leaver_is old q is)) left_here (λ S ours q among. inl (targets_seen S ours m targets found q among))))
+          (inr (inr later)) (inr (inr (fresh_new w t x is))) (inr (inr (fresh_new w t x is))) (inl (inl refl)) (leaver f old) (λ q is. ap (λ (rs : NameMap Site). active_in rs n.right.node) (like w n k).sites ∙ (e ∙ leaver_is old q is)) left_here (λ S ours q among. inl (targets_seen S ours m targets found q among))))
 
     half_whole : (w : World) → Sound w → (n : Named) → Owner t p w n → (b : Bool) → Whole t (Full w t (parts_where b w f box n)) w w (setting_where b w t f words box n).changes
     half_whole w s n k true = whole_none s
@@ -172,6 +172,6 @@ module _ (t p : ℕ) (f : Setting) where
 pub get_translator_laws : (t p : ℕ) → CallLaws t (λ w. plan_get_translator w t p) (λ w. touches_get_translator w t p)
 get_translator_laws t p =
     looking_laws t (λ w. stored_asks w t p) Words
-    (λ S v w a ours. first_same _ _ _ _ (port_same a t ours p) (λ n is. refl))
+    (λ S v w c a ours. first_same _ _ _ _ (port_same a t ours p) (λ n is. refl))
     (λ w. first_plain _ _ (port_plain w t p) (λ n is. on_plain _ _ _ refl (λ words e. ok_plain words)))
     (λ words. refl)

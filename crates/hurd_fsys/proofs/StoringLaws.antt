@@ -2,7 +2,7 @@
 use Rattle.std.proofs.Common.{◌≡◌, ◌≢◌, ◌⊎◌, ◌∙◌, ℕ, Bool, true, false, if◌then◌else◌, List, [], ◌∷◌, Option, Some, None, refl, sym, ap, ap₂, subst, inl, inr}
 use Rattle.std.specs.Prelude.{Ok, Err, is_some}
 use Rattle.std.specs.Option.{option_map}
-use Rattle.hurd_machine.proofs.Common.{AttrOf, Below, BodyOf, Change, EINVAL, EditHeader, EmptyOf, Errno, Header, Meaning, Name, NameMap, Named, Node, NodeMap, OptionsOf, Owns, OwnsIt, Part, ServerInfo, Site, Sound, Task, UsersOf, World, active_in, apply_all, edit, edit_by, first, get, has_words, header_at, home_in, info_at, info_in, keeps_tree, node_at, on, passive_of, port_asks, sets_attrs_at, shape_by, some_words, tree_by, with_header, with_passive, words_at, words_in}
+use Rattle.hurd_machine.proofs.Common.{AttrOf, Below, BodyOf, Change, EINVAL, EditHeader, EmptyOf, Errno, Header, Meaning, Name, NameMap, Named, Node, NodeMap, OptionsOf, TextOf, Owns, OwnsIt, Part, ServerInfo, Site, Sound, Task, UsersOf, World, active_in, apply_all, edit, edit_by, first, get, has_words, header_at, home_in, info_at, info_in, keeps_tree, node_at, on, passive_of, port_asks, sets_attrs_at, shape_by, some_words, tree_by, with_header, with_passive, words_at, words_in}
 use Rattle.hurd_creds.proofs.NameLaws.{same_map_by, same_or_apart, edit_here, edit_apart}
 use Rattle.hurd_machine.specs.World.{nodes_of}
 use Rattle.hurd_machine.specs.Touched.{Goes}
@@ -33,6 +33,7 @@ goes_like w v n k q (AttrOf m) (inr e) = inr (ap (λ (rs : NameMap Site). active
 goes_like w v n k q (EmptyOf m) e = ap (λ (rs : NameMap Site). home_in rs m) (sym k.sites) ∙ e
 goes_like w v n k q (BodyOf m) e = ap (λ (rs : NameMap Site). home_in rs m) (sym k.sites) ∙ e
 goes_like w v n k q (OptionsOf s) e = e
+goes_like w v n k q (TextOf s) e = e
 goes_like w v n k q (UsersOf s) e = e
 goes_like w v n k q _ e = absurd e
 

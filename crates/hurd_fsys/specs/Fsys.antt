@@ -16,7 +16,7 @@ use Rattle.hurd_machine.specs.World.{World, ports_of, active_at, home_at, server
 use Rattle.hurd_machine.specs.Change.{Change, EditTask, DropServer, Settle}
 use Rattle.hurd_machine.specs.Plan.{Plan, on, given, first, answered, looks}
 use Rattle.hurd_machine.specs.Handle.{port_asks}
-use Rattle.hurd_machine.specs.Sight.{Part, AttrOf, OptionsOf, users}
+use Rattle.hurd_machine.specs.Sight.{Part, AttrOf, TextOf, users}
 use Rattle.hurd_machine.specs.Touched.{asked_parts, Nothing, Goes}
 use Rattle.hurd_core.specs.Core.{room_asks}
 use Rattle.hurd_core.specs.Control.{control_of, plan_options}
@@ -100,9 +100,9 @@ touches_get_options w t c = Nothing
 abbrev pub plan_set_options : World → ℕ → ℕ → List (List ℕ) → Plan
 plan_set_options w t c words = answered (control_of (ports_of w) t c) (λ s. plan_options w s words)
 
--- the server, and its root's attributes
+-- the server's text, and its root's attributes
 abbrev pub options_parts : Name → ServerInfo → Part → Type 0
-options_parts s i p = (p ≡ OptionsOf s) ⊎ (p ≡ AttrOf i.root)
+options_parts s i p = (p ≡ TextOf s) ⊎ (p ≡ AttrOf i.root)
 
 abbrev pub touches_set_options : World → ℕ → ℕ → List (List ℕ) → Part → Type 0
 touches_set_options w t c words =

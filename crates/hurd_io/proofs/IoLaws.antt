@@ -1,22 +1,16 @@
 -- The laws of reading and writing, and of what is told of a node.
 use Rattle.std.proofs.Common.{◌≡◌, ◌⊎◌, sym, ℕ, ℤ, pos, negsuc, zero, suc, Bool, true, false, List, refl, inl, inr, ap, subst, min}
 use Rattle.std.specs.Prelude.{Result, Ok, length}
-use Rattle.hurd_machine.proofs.Common.{BodyOf, Change, Did, Errno, Name, OnDid, Part, Question, READ, Reply, Seen, Sees, Sound, WRITE, World, apply_all, asked_at, changes_of, counts_at, edits_of, handle_asks, is_refused, most_read, stream_at}
+use Rattle.hurd_machine.proofs.Common.{BodyOf, Change, Coherent, Did, Errno, Name, OnDid, Part, Question, READ, Reply, Seen, Sees, Sound, WRITE, World, asked_at, changes_of, counts_at, edits_of, handle_asks, is_refused, most_read, stream_at}
 use Rattle.hurd_trans_iface.specs.Kinds.{ServerKind, behaviour_of}
 use Rattle.hurd_trans_iface.specs.Good.{IsPlain as IsPlainAnswer}
 use Rattle.hurd_trans_iface.proofs.BodyLaws.{read_holds, write_holds}
 use Rattle.hurd_machine.proofs.Views.{Agree, active_same}
-use Rattle.hurd_machine.proofs.Frame.{AllWithin, Full, within_append}
-use Rattle.hurd_machine.proofs.Coherence.{AllProper}
-use Rattle.hurd_machine.proofs.Keeping.{proper_append}
-use Rattle.hurd_machine.proofs.Settle.{Rests}
 use Rattle.hurd_machine.proofs.Filled.{KeepsNodes}
-use Rattle.hurd_machine.proofs.Links.{KeepsLinked}
-use Rattle.hurd_machine.proofs.Several.{AllMay}
 use Rattle.hurd_machine.proofs.Permits.{did_exact}
 use Rattle.hurd_machine.proofs.Opens.{cursor_whole}
 use Rattle.hurd_machine.proofs.Edits.{did_whole}
-use Rattle.hurd_machine.proofs.Asks.{IsPlain, ok_plain, err_plain, asked_plain, answered_same, answered_plain, done_plain, first_same, first_ok, given_ok, given_same, stream_same, first_plain, given_plain, handle_same, handle_put, handle_read, handle_plain, asked_seen, handle_seen, written_same, port_same, port_plain, port_seen}
+use Rattle.hurd_machine.proofs.Asks.{IsPlain, ok_plain, err_plain, asked_plain, answered_same, answered_plain, done_plain, first_same, first_ok, given_ok, given_same, stream_same, first_plain, given_plain, handle_same, handle_put, handle_read, handle_plain, asked_seen, reading_untold, handle_seen, written_same, port_same, port_plain, port_seen}
 use Rattle.hurd_machine.proofs.CallLaws.{CallLaws, answered_piece, looking_laws}
 use Rattle.hurd_io.specs.declared.offset.Offset.{Offset}
 use Rattle.hurd_io.specs.declared.offset.Offset.TheVariants.{Place, Cursor}
@@ -50,7 +44,7 @@ begins_same a h seen cursor o = ap (λ b. Ok (io_at h b cursor o)) (stream_same 
 pub record IoLaws {T : Type 0} (t : ℕ) (asks : World → Result IoAt Errno) (q : ℕ → Question T) (reply : T → Reply) : Type 0 where
   -- what is asked first, and what the server answers, is the same in worlds that agree for a set with the task
   pub asks_same : (S : ℕ → Bool) (v w : World) → Agree S v w → S t ≡ true → asks w ≡ asks v
-  pub told_same : (S : ℕ → Bool) (v w : World) → Agree S v w → S t ≡ true → (a : IoAt) → asks v ≡ Ok a → asked_at (q a.at) a.node w ≡ asked_at (q a.at) a.node v
+  pub told_same : (S : ℕ → Bool) (v w : World) → Coherent v → Agree S v w → S t ≡ true → (a : IoAt) → asks v ≡ Ok a → asked_at (q a.at) a.node w ≡ asked_at (q a.at) a.node v
   -- no refusal is want of memory
   pub asks_plain : (w : World) → IsPlain (asks w)
   pub told_plain : (at : ℕ) (k : ServerKind) → IsPlainAnswer (behaviour_of k) (q at)
@@ -74,7 +68,7 @@ module _ {T : Type 0} (t : ℕ) (asks : World → Result IoAt Errno) (q : ℕ �
     piece = λ w s. answered_piece s (asks w) _ _ (λ a is. answered_piece s (asked_at (q a.at) a.node w) _ (λ d p. parts a d p) (λ d told.
         whole_then (edits a d) (moves a d) (did_exact a.node d) s (did_whole s (q a.at) (l.keeps a.at) a.node d told (λ p on. inl (inl on)))
         (λ x. moved_whole x a.offset a.is_stream a.open_name _ (λ p on. inl (inr on)))));
-    same = λ S v w c d a ours. answered_same _ _ _ _ (l.asks_same S v w a ours) (λ x is. answered_same _ _ _ _ (l.told_same S v w a ours x is) (λ d told. refl));
+    same = λ S v w c d a ours. answered_same _ _ _ _ (l.asks_same S v w a ours) (λ x is. answered_same _ _ _ _ (l.told_same S v w c a ours x is) (λ d told. refl));
     plain = λ w. answered_plain _ _ (l.asks_plain w) (λ a is.
         answered_plain _ _ (asked_plain (q a.at) (l.told_plain a.at) a.node w) (λ d told. done_plain _ (l.reply_plain d.told)));
   }
@@ -93,9 +87,9 @@ pub read_laws : (t p amount : ℕ) (offset : ℤ) → CallLaws t (λ w. plan_rea
 read_laws t p amount offset = io_laws t (λ w. read_asks w t p offset) (reads amount) Data length (record {
   asks_same = λ S v w a ours. first_same _ _ _ _ (handle_same a t ours p READ) (λ h is.
       given_same _ _ _ _ _ refl (λ file. first_same _ _ _ _ refl (λ o e. begins_same a h (handle_seen t ours p READ h is) h.opened.cursor o)));
-  told_same = λ S v w a ours x is.
+  told_same = λ S v w c a ours x is.
       let h = read_by v t p offset x is in
-      asked_seen a x.node (reads amount x.at) (subst (λ n. Sees S v (BodyOf n)) h.2 (handle_read t ours p h.0 h.1));
+      asked_seen a x.node (reads amount x.at) (reading_untold x.at (min amount most_read)) c (subst (λ n. Sees S v (BodyOf n)) h.2 (handle_read t ours p h.0 h.1));
   asks_plain = λ w. first_plain _ _ (handle_plain w t p READ) (λ h is. given_plain _ _ _ refl (λ file. first_plain _ _ (offset_plain offset) (λ o e. ok_plain _)));
   told_plain = λ at k. (good k).read_plain at (min amount most_read);
   reply_plain = λ bytes. refl;
@@ -115,9 +109,9 @@ pub write_laws : (t p : ℕ) (bytes : List ℕ) (offset : ℤ) → CallLaws t (�
 write_laws t p bytes offset = io_laws t (λ w. write_asks w t p offset) (writes bytes) Count (λ n. n) (record {
   asks_same = λ S v w a ours. first_same _ _ _ _ (handle_same a t ours p WRITE) (λ h is.
       first_same _ _ _ _ refl (λ o e. begins_same a h (handle_seen t ours p WRITE h is) (write_cursor h) o));
-  told_same = λ S v w a ours x is.
+  told_same = λ S v w c a ours x is.
       let h = written_by v t p offset x is in
-      written_same a x.node x.at bytes (subst (Seen S v) h.2 (handle_seen t ours p WRITE h.0 h.1)) (λ counts.
+      written_same a x.node x.at bytes c (subst (Seen S v) h.2 (handle_seen t ours p WRITE h.0 h.1)) (λ counts.
       subst (λ n. Sees S v (BodyOf n)) h.2 (handle_put t ours p h.0 h.1 (subst (λ n. counts_at v n ≡ true) (sym h.2) counts)));
   asks_plain = λ w. first_plain _ _ (handle_plain w t p WRITE) (λ h is. first_plain _ _ (offset_plain offset) (λ o e. ok_plain _));
   told_plain = λ at k. (good k).write_plain at bytes;
@@ -129,5 +123,5 @@ write_laws t p bytes offset = io_laws t (λ w. write_asks w t p offset) (writes 
 
 pub stat_laws : (t p : ℕ) → CallLaws t (λ w. plan_stat w t p) (λ w. touches_stat w t p)
 stat_laws t p = looking_laws t (λ w. stat_asks w t p) (λ s. Stat s)
-    (λ S v w a ours. first_same _ _ _ _ (port_same a t ours p) (λ n is. rw (active_same a n.right.node (port_seen t ours p n is)) refl))
+    (λ S v w c a ours. first_same _ _ _ _ (port_same a t ours p) (λ n is. rw (active_same a n.right.node (port_seen t ours p n is)) refl))
     (λ w. first_plain _ _ (port_plain w t p) (λ n is. ok_plain _)) (λ s. refl)

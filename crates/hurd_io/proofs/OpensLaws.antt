@@ -1,12 +1,11 @@
 -- The laws of cursors, and of what opens are for: they ask for an open of the caller's own, and its node's header.
 use Rattle.std.proofs.Common.{◌≡◌, ℕ, ℤ, pos, negsuc, Bool, true, refl, ap, inl}
 use Rattle.std.specs.Prelude.{Ok}
-use Rattle.hurd_machine.proofs.Common.{OpenFlags, OpenOf, READ, World, any_mode, asks, handle_asks}
+use Rattle.hurd_machine.proofs.Common.{OpenFlags, READ, World, any_mode, asks, handle_asks}
 use Rattle.hurd_creds.specs.Bits.{APPEND}
 use Rattle.hurd_machine.specs.declared.call.Whence.{Whence}
 use Rattle.hurd_machine.specs.declared.call.Reply.TheVariants.{Count, Done}
 use Rattle.hurd_machine.proofs.Views.{Agree}
-use Rattle.hurd_machine.proofs.Frame.{Full}
 use Rattle.hurd_machine.proofs.Opens.{cursor_whole, append_whole}
 use Rattle.hurd_machine.proofs.Asks.{IsPlain, ok_plain, err_plain, given_plain, given_same, first_plain, first_same, handle_read, readable_same, answered_same, answered_plain, done_plain, handle_same, handle_plain}
 use Rattle.hurd_machine.proofs.CallLaws.{CallLaws, answered_piece, looking_laws}
@@ -36,14 +35,14 @@ module _ (t p : ℕ) (offset : ℤ) (whence : Whence) where
 
 pub readable_laws : (t p : ℕ) → CallLaws t (λ w. plan_readable w t p) (λ w. touches_readable w t p)
 readable_laws t p =
-    looking_laws t (λ w. readable_asks w t p) told_readable (λ S v w a ours. first_same _ _ _ _ (handle_same a t ours p READ) (λ h is.
-    given_same _ _ _ _ _ refl (λ file. ap Ok (readable_same a h.node h.opened.cursor (handle_read t ours p h is)))))
+    looking_laws t (λ w. readable_asks w t p) told_readable (λ S v w c a ours. first_same _ _ _ _ (handle_same a t ours p READ) (λ h is.
+    given_same _ _ _ _ _ refl (λ file. ap Ok (readable_same a h.node h.opened.cursor c (handle_read t ours p h is)))))
     (λ w. first_plain _ _ (handle_plain w t p READ) (λ h is. given_plain _ _ _ refl (λ file. ok_plain _))) (λ h. refl)
 
 -- io_get_openmodes
 
 pub get_openmodes_laws : (t p : ℕ) → CallLaws t (λ w. plan_get_openmodes w t p) (λ w. touches_get_openmodes w t p)
-get_openmodes_laws t p = looking_laws t (λ w. handle_asks w t p any_mode) told_modes (λ S v w a ours. handle_same a t ours p any_mode) (λ w. handle_plain w t p any_mode) (λ h. refl)
+get_openmodes_laws t p = looking_laws t (λ w. handle_asks w t p any_mode) told_modes (λ S v w c a ours. handle_same a t ours p any_mode) (λ w. handle_plain w t p any_mode) (λ h. refl)
 
 -- io_set_all_openmodes
 

@@ -5,7 +5,6 @@ use Rattle.hurd_machine.proofs.Common.{EOVERFLOW, ESRCH, HasUid, IdSets, Io, IoR
 use Rattle.hurd_ports.specs.Tables.{right_of}
 use Rattle.hurd_machine.specs.declared.call.Reply.TheVariants.{Port}
 use Rattle.hurd_machine.proofs.Views.{Agree, same_tasks}
-use Rattle.hurd_machine.proofs.Frame.{Full}
 use Rattle.hurd_machine.proofs.Opens.{own_task}
 use Rattle.hurd_machine.proofs.Sharing.{taken_task, taken_right, taken_restricted, shares_whole}
 use Rattle.hurd_machine.proofs.BothLaws.{both_same, both_plain}
@@ -67,4 +66,4 @@ restrict_auth_laws t p asked = share_laws t p (ids_among asked) (λ S v a ours h
 -- io_identity
 
 pub identity_laws : (t p q : ℕ) → CallLaws t (λ w. plan_identity w t p q) (λ w. touches_identity w t p q)
-identity_laws t p q = looking_laws t (λ w. both_asks w t p q) told_same (λ S v w a ours. both_same a t ours p q) (λ w. both_plain w t p q) (λ a. refl)
+identity_laws t p q = looking_laws t (λ w. both_asks w t p q) told_same (λ S v w c a ours. both_same a t ours p q) (λ w. both_plain w t p q) (λ a. refl)

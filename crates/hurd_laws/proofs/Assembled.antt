@@ -1,6 +1,6 @@
 -- The laws of one step, from those of each call: each call has a line.
 use Rattle.std.proofs.Common.{ℕ, [], ◌∷◌, sym}
-use Rattle.hurd_machine.proofs.Common.{AttrOf, BodyOf, Call, EmptyOf, OpenOf, OptionsOf, Part, TaskOf, UsersOf, World, box_in}
+use Rattle.hurd_machine.proofs.Common.{AttrOf, BodyOf, Call, EmptyOf, OpenOf, OptionsOf, Part, TaskOf, TextOf, UsersOf, World, box_in}
 use Rattle.hurd_machine.specs.declared.call.Call.TheVariants.{PortDeallocate, PortSend, PortReceive, AuthMakeauth, DirLookup, IoRead, IoWrite, IoSeek, IoStat, IoReadable, IoGetOpenmodes, IoSetAllOpenmodes, IoDuplicate, IoReauthenticate, IoRestrictAuth, IoIdentity, FileSetSize, FileChmod, FileChown, FileCheckAccess, FileSetTranslator, FileGetTranslator, FileGetTranslatorCntl, FileGetcontrol, FsysStartup, StartFailed, FsysGetroot, FsysGoaway, FsysGetOptions, FsysSetOptions, DirReaddir, DirMkdir, DirRmdir, DirUnlink, DirLink, DirMkfile, DirRename}
 use Rattle.hurd_machine.proofs.Frame.{IsUnnamed, gone_kept}
 use Rattle.hurd_machine.proofs.CallLaws.{CallLaws, returning_laws}
@@ -75,6 +75,7 @@ old_named w (EmptyOf n) old new = new old
 old_named w (BodyOf n) old new = new old
 old_named w (OpenOf o) old new = new old
 old_named w (OptionsOf s) old new = new old
+old_named w (TextOf s) old new = new old
 old_named w (UsersOf s) old new = new old
 old_named w (TaskOf t) old new = new
 

@@ -4,7 +4,7 @@ use Rattle.hurd_creds.specs.declared.name.Name.{Name}
 use Rattle.hurd_ports.specs.Tables.{Task}
 use Rattle.hurd_machine.specs.Calls.{Call, lacks_memory}
 use Rattle.hurd_machine.specs.World.{World, task_at}
-use Rattle.hurd_machine.specs.Sight.{Seen, Part, AttrOf, EmptyOf, BodyOf, OpenOf, OptionsOf, UsersOf, TaskOf, Sees, SameView, IsGone, part}
+use Rattle.hurd_machine.specs.Sight.{Seen, Part, AttrOf, EmptyOf, BodyOf, OpenOf, OptionsOf, TextOf, UsersOf, TaskOf, Sees, SameView, IsGone, part}
 use Rattle.hurd_machine.specs.Sound.{Sound, Below}
 use Rattle.hurd_machine.specs.Counted.{CanCount, Counted}
 use Rattle.hurd_laws.specs.Step.{reply_of, after, touches}
@@ -17,6 +17,7 @@ IsOld w (EmptyOf n) = Below w n
 IsOld w (BodyOf n) = Below w n
 IsOld w (OpenOf o) = Below w o
 IsOld w (OptionsOf s) = Below w s
+IsOld w (TextOf s) = Below w s
 IsOld w (UsersOf s) = Below w s
 IsOld w (TaskOf t) = Unit {0}
 

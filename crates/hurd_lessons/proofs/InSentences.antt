@@ -1,8 +1,7 @@
 -- What is learned and seen is said in sentences.
-use Rattle.std.proofs.Common.{◌≡◌, ◌⊎◌, inl, inr, ◌∙◌, refl, sym, ap, subst, ℕ, zero, suc, ◌/◌, ◌==◌, ◌&&◌, Bool, true, false, List, [], ◌∷◌, ◌++◌, map, append_assoc, append-nil, Option, Some, None, codes, decimal, is_some, if◌then◌else◌, reverse, length, not, bytes_eq, nat_lt, nat_le}
-use Rattle.std.specs.List.{concat, list_all}
+use Rattle.std.proofs.Common.{◌≡◌, ◌⊎◌, inl, inr, ◌∙◌, refl, sym, ap, subst, ℕ, ◌/◌, ◌==◌, ◌&&◌, Bool, true, false, List, [], ◌∷◌, ◌++◌, append_assoc, Option, Some, None, codes, decimal, if◌then◌else◌, length, not, bytes_eq, nat_lt, nat_le}
 use Rattle.std.specs.Option.{option_map}
-use Rattle.std.proofs.lemmas.Bool.{and_from, cases_Bool}
+use Rattle.std.proofs.lemmas.Bool.{and_from}
 use Rattle.hurd_creds.specs.Access.{IdSets, least_uid}
 use Rattle.hurd_creds.specs.Bits as bit
 use Rattle.hurd_creds.specs.Stats.{stat_of}
@@ -24,9 +23,6 @@ use Rattle.hurd_sentences.specs.Sentences.{InSentences, is_letter, is_word}
 use Rattle.hurd_sentences.specs.Spelling.{spelled, spelled_name, spelled_words}
 use Rattle.hurd_sentences.proofs.ClauseLaws.{IsClauseText, both_fit, both_sentences, clause_more, clause_of_part, fits, no_sentences, one_clause, three_clauses, two_clauses, word_fits}
 use Rattle.hurd_sentences.proofs.WordLaws.{decimal_is_word, octal_is_letter, spelled_is_word}
-use Rattle.hurd_sight.specs.declared.found.Why.{Why}
-use Rattle.hurd_sight.specs.declared.found.Why.TheVariants as why
-use Rattle.hurd_sight.specs.Found.{why_of}
 use Rattle.hurd_views.specs.Views.{row_at}
 use Rattle.hurd_views.specs.declared.rows.BodyRow.{BodyRow}
 use Rattle.hurd_views.specs.declared.rows.BodyRow.TheVariants as body
@@ -35,14 +31,15 @@ use Rattle.hurd_views.specs.declared.rows.NodeRow.{NodeRow}
 use Rattle.hurd_views.specs.declared.rows.OpenRow.{OpenRow}
 use Rattle.hurd_views.specs.declared.rows.Row.{Row}
 use Rattle.hurd_views.specs.declared.rows.ServerRow.{ServerRow}
+use Rattle.hurd_views.specs.declared.rows.TextRow.{TextRow}
 use Rattle.hurd_views.specs.declared.view.View.{View}
 use Rattle.hurd_lessons.specs.Changes.{is_kept, shows}
-use Rattle.hurd_lessons.specs.Differences.{body_change, changed_attrs, changed_body, changed_node, changed_open, changed_opened, changed_server, empty_change, entries_gone, entries_new, modes_or_none, modes_part, noted, parent_at, server_change, signed_names, users_change}
-use Rattle.hurd_lessons.specs.Lessons.{GoneLineOf, Lessons, LineOf, Lines, Unless, body_word, count_line, emptiness, is_listing, line, moved, note_body, note_empty, note_node, note_open, note_server, note_users, or_changed, parts_of, place_in, said_of, tasks_line}
-use Rattle.hurd_lessons.specs.Values.{bytes_change, kind_part, line_from, names_of, mode_part, number_part, part_if, parted, path_or_none, server_or_none, short_mode, spelled_or_none, turned_part, with_part, words_or_none}
-use Rattle.hurd_places.specs.Places.{names_tasks, node_path, place_of, server_path}
+use Rattle.hurd_lessons.specs.Differences.{body_change, changed_attrs, changed_body, changed_node, changed_open, changed_opened, changed_server, empty_change, entries_gone, entries_new, modes_or_none, modes_part, noted, parent_at, server_change, signed_names, text_change, users_change}
+use Rattle.hurd_lessons.specs.Lessons.{GoneLineOf, LineOf, Lines, Unless, body_word, emptiness, is_listing, line, moved, note_body, note_empty, note_node, note_open, note_server, note_text, or_changed, parts_of, place_in, said_of}
+use Rattle.hurd_lessons.specs.Values.{bytes_change, line_from, names_of, number_part, part_if, parted, path_or_none, server_or_none, short_mode, spelled_or_none, turned_part, with_part, words_or_none}
+use Rattle.hurd_places.specs.Places.{node_path, place_of, server_path}
 use Rattle.hurd_places.proofs.FitLaws.{node_path_fits, place_fits, server_path_fits}
-use Rattle.hurd_lessons.specs.Seen.{active_part, attributes_text, body_part, body_text, bytes_text, counts_of, counts_part, counts_text, cursor_text, empty_part, empty_text, entry_names, held_text, home_part, listing_text, modes_text, node_places, node_text, opened_text, parent_of, parent_part, passive_text, places_text, given_text, on_part, opened_by_tasks, port_numbers, program_of, read_text, reads_of, seat_line, seat_lines, seat_text, seen_line, seen_lines, seen_of, seen_text, server_named, server_parts, start_text, targets_part, task_text, uid_or_none, uid_text, users_text}
+use Rattle.hurd_lessons.specs.Seen.{active_part, attributes_text, body_part, body_text, counts_of, counts_part, counts_text, cursor_text, empty_part, entry_names, held_text, home_part, modes_text, node_places, node_text, opened_text, parent_of, parent_part, passive_text, places_text, program_text, given_text, on_part, opened_by_tasks, port_numbers, program_of, read_text, reads_of, seat_line, seat_lines, seat_text, seen_line, seen_lines, seen_of, server_named, server_parts, spaced_text, start_text, targets_part, task_text, text_part, uid_or_none, uid_text, users_text, words_behind, words_text}
 use Rattle.hurd_lessons.specs.Told.{SeenInSentences, TaughtInSentences}
 use Rattle.hurd_lessons.specs.declared.changes.Became.{Became}
 use Rattle.hurd_lessons.specs.declared.changes.Became.TheVariants as became
@@ -288,23 +285,38 @@ uid_fits ids = go (least_uid ids)
     go None = refl
     go (Some u) = number_fits u
 
+spaced_text_fits : (text : List ℕ) → fits (spaced_text text) ≡ true
+spaced_text_fits [] = refl
+spaced_text_fits (b ∷ bs) = both_fit (32 ∷ []) (spelled (b ∷ bs)) refl (word_of_user_fits (b ∷ bs))
+
+program_fits : (s : ServerRow) → fits (program_text s) ≡ true
+program_fits s = both_fit (spelled_or_none s.program) (spaced_text s.text) (spelled_or_none_fits s.program) (spaced_text_fits s.text)
+
 server_row_said : (a b : View) (words : List ℕ) (x y : Option ServerRow) → (words ≡ []) ⊎ IsClauseText words → (changed_server a b words x y ≡ []) ⊎ IsClauseText (changed_server a b words x y)
 server_row_said a b words (Some x) (Some y) said =
     turned_said (codes "runs as") (uid_text x.ids) (uid_text y.ids)
     (turned_said (codes "root") (path_or_none a (Some x.root)) (path_or_none b (Some y.root))
     (turned_said (codes "targets") (places_text a x.targets) (places_text b y.targets)
-    (turned_said (codes "options") (words_or_none x.options) (words_or_none y.options) said refl (words_or_none_fit x.options) (words_or_none_fit y.options))
+    (turned_said (codes "program") (program_text x) (program_text y) said refl (program_fits x) (program_fits y))
     refl (places_text_fits a x.targets) (places_text_fits b y.targets))
     refl (path_or_none_fits a (Some x.root)) (path_or_none_fits b (Some y.root)))
     refl (uid_fits x.ids) (uid_fits y.ids)
 server_row_said a b words None None said = said
 server_row_said a b words (Some x) None said = inr (part_added words (codes "gone") said refl)
-server_row_said a b words None (Some y) said = inr (part_added words (codes "options") said refl)
+server_row_said a b words None (Some y) said = inr (part_added words (codes "program") said refl)
 
 server_said : (a b : View) (words : List ℕ) (x y : Option (Option ServerRow)) → (words ≡ []) ⊎ IsClauseText words → (server_change a b words x y ≡ []) ⊎ IsClauseText (server_change a b words x y)
 server_said a b words (Some x) (Some y) said = server_row_said a b words x y said
 server_said a b words None y said = said
 server_said a b words (Some x) None said = said
+
+text_said : (words : List ℕ) (x y : Option (Option TextRow)) → (words ≡ []) ⊎ IsClauseText words → (text_change words x y ≡ []) ⊎ IsClauseText (text_change words x y)
+text_said words (Some (Some x)) (Some (Some y)) said =
+    turned_said (codes "text") (words_text x) (words_text y) said refl (words_or_none_fit (words_behind x.options)) (words_or_none_fit (words_behind y.options))
+text_said words (Some (Some x)) (Some None) said = said
+text_said words (Some (Some x)) None said = said
+text_said words (Some None) y said = said
+text_said words None y said = said
 
 users_said : (words : List ℕ) (m n : Option ℕ) → (words ≡ []) ⊎ IsClauseText words → (users_change words m n ≡ []) ⊎ IsClauseText (users_change words m n)
 users_said words (Some m) (Some n) said = number_said (codes "users") m n said refl
@@ -318,14 +330,16 @@ parts_said a b x y c =
     let three : List ℕ = note_empty y c two in
     let four : List ℕ = note_open x y c three in
     let five : List ℕ = note_server a b x y c four in
+    let six : List ℕ = note_text x y c five in
     let first : (one ≡ []) ⊎ IsClauseText one = noted_said [] (codes "attributes") _ c.attributes (inl refl) refl (node_said a b [] x.attributes y.attributes (inl refl)) in
     let second : (two ≡ []) ⊎ IsClauseText two =
     noted_said one (body_word x y) _ c.body first (body_word_fits x y) (part_said one (Some (body_change x.body y.body)) first (λ t. some_fits (body_change x.body y.body) t (body_change_fits x.body y.body))) in
     let third : (three ≡ []) ⊎ IsClauseText three =
     noted_said two (codes "emptiness") _ (emptiness c.body c.empty) second refl (part_said two (Some (empty_change y.empty)) second (λ t. some_fits (empty_change y.empty) t (empty_change_fits y.empty))) in
     let fourth : (four ≡ []) ⊎ IsClauseText four = noted_said three (codes "open") _ c.opened third refl (open_said three x.opened y.opened third) in
-    let fifth : (five ≡ []) ⊎ IsClauseText five = noted_said four (codes "options") _ c.server fourth refl (server_said a b four x.server y.server fourth) in
-    noted_said five (codes "users") _ c.users fifth refl (users_said five x.users y.users fifth)
+    let fifth : (five ≡ []) ⊎ IsClauseText five = noted_said four (codes "program") _ c.server fourth refl (server_said a b four x.server y.server fourth) in
+    let sixth : (six ≡ []) ⊎ IsClauseText six = noted_said five (codes "text") _ c.text fifth refl (text_said five x.text y.text fifth) in
+    noted_said six (codes "users") _ c.users sixth refl (users_said six x.users y.users sixth)
 
 -- parts, where there are any, are a clause
 changed_clause : (words : List ℕ) → (words ≡ []) ⊎ IsClauseText words → IsClauseText (or_changed words)
@@ -504,10 +518,15 @@ server_shown v words (Some None) said = inr (part_added words (codes "gone") sai
 server_shown v words (Some (Some s)) said =
     some_said (codes "runs as " ++ uid_text s.ids)
     (some_said (codes "root " ++ node_path v s.root)
-    (part_said (with_part words (Some (codes "options " ++ words_or_none s.options))) (targets_part v s.targets)
-    (some_said (codes "options " ++ words_or_none s.options) said (both_fit (codes "options ") (words_or_none s.options) refl (words_or_none_fit s.options))) (targets_fit v s.targets))
+    (part_said (with_part words (Some (codes "program " ++ program_text s))) (targets_part v s.targets)
+    (some_said (codes "program " ++ program_text s) said (both_fit (codes "program ") (program_text s) refl (program_fits s))) (targets_fit v s.targets))
     (both_fit (codes "root ") (node_path v s.root) refl (node_path_fits v s.root)))
     (both_fit (codes "runs as ") (uid_text s.ids) refl (uid_fits s.ids))
+
+text_fits : (t : Option (Option TextRow)) (p : List ℕ) → text_part t ≡ Some p → fits p ≡ true
+text_fits None p is = absurd (cc)
+text_fits (Some None) p is = absurd (cc)
+text_fits (Some (Some r)) p is = some_fits (codes "text " ++ words_text r) p (both_fit (codes "text ") (words_text r) refl (words_or_none_fit (words_behind r.options))) is
 
 users_fit : (n : ℕ) → fits (users_text n) ≡ true
 users_fit n = both_fit (codes "users") (spaced n) refl (spaced_fits n)
@@ -518,6 +537,7 @@ node_fits r = attributes_fit r.attrs r.words
 row_said : (v : View) (n : Name) (r : Row) → (seen_of v n r ≡ []) ⊎ IsClauseText (seen_of v n r)
 row_said v n r =
     part_said _ _
+    (part_said _ _
     (server_shown v _ r.server
     (part_said _ _
     (part_said _ _
@@ -533,6 +553,7 @@ row_said v n r =
     (on_fits v n r.opened))
     (mapped_fits cursor_text r.opened cursor_fits))
     (mapped_fits held_text r.opened held_fits)))
+    (text_fits r.text))
     (mapped_fits users_text r.users users_fit)
 
 one_seen : (who : List ℕ) (v : View) (n : Name) → InSentences who (seen_line who v n)

@@ -11,8 +11,9 @@ use Rattle.hurd_views.specs.declared.rows.EntryRow.{EntryRow}
 use Rattle.hurd_views.specs.declared.rows.NodeRow.{NodeRow}
 use Rattle.hurd_views.specs.declared.rows.OpenRow.{OpenRow}
 use Rattle.hurd_views.specs.declared.rows.ServerRow.{ServerRow}
+use Rattle.hurd_views.specs.declared.rows.TextRow.{TextRow}
 use Rattle.hurd_views.specs.declared.view.View.{View}
-use Rattle.hurd_lessons.specs.Seen.{empty_text, modes_text, places_text, uid_text}
+use Rattle.hurd_lessons.specs.Seen.{empty_text, modes_text, places_text, program_text, uid_text, words_text}
 use Rattle.hurd_lessons.specs.Values.{bytes_change, kind_part, mode_part, number_part, part_if, parted, path_or_none, server_or_none, turned_part, with_part, words_or_none}
 use Rattle.hurd_lessons.specs.declared.changes.Became.{Became}
 use Rattle.hurd_lessons.specs.declared.changes.Became.TheVariants as became
@@ -126,18 +127,23 @@ changed_open words _ _ = words
 abbrev pub changed_server : View → View → List ℕ → Option ServerRow → Option ServerRow → List ℕ
 changed_server a b words (Some x) (Some y) =
     with_part (with_part (with_part (with_part words
-    (turned_part (codes "options") (words_or_none x.options) (words_or_none y.options)))
+    (turned_part (codes "program") (program_text x) (program_text y)))
     (turned_part (codes "targets") (places_text a x.targets) (places_text b y.targets)))
     (turned_part (codes "root") (path_or_none a (Some x.root)) (path_or_none b (Some y.root))))
     (turned_part (codes "runs as") (uid_text x.ids) (uid_text y.ids))
 changed_server a b words None None = words
 changed_server a b words _ None = parted words ++ codes "gone"
-changed_server a b words None _ = parted words ++ codes "options"
+changed_server a b words None _ = parted words ++ codes "program"
 
 -- the same of a server that may be seen
 abbrev pub server_change : View → View → List ℕ → Option (Option ServerRow) → Option (Option ServerRow) → List ℕ
 server_change a b words (Some x) (Some y) = changed_server a b words x y
 server_change a b words _ _ = words
+
+-- the text of a server
+abbrev pub text_change : List ℕ → Option (Option TextRow) → Option (Option TextRow) → List ℕ
+text_change words (Some (Some x)) (Some (Some y)) = with_part words (turned_part (codes "text") (words_text x) (words_text y))
+text_change words _ _ = words
 
 -- how many rights there are on a server's nodes
 abbrev pub users_change : List ℕ → Option ℕ → Option ℕ → List ℕ

@@ -7,7 +7,7 @@ use Rattle.hurd_views.specs.declared.rows.BodyRow.TheVariants as body
 use Rattle.hurd_views.specs.declared.rows.Row.{Row}
 use Rattle.hurd_views.specs.declared.view.View.{View}
 use Rattle.hurd_lessons.specs.Changes.{IsChange, is_kept, shows}
-use Rattle.hurd_lessons.specs.Differences.{body_change, changed_node, changed_open, empty_change, noted, server_change, users_change}
+use Rattle.hurd_lessons.specs.Differences.{body_change, changed_node, changed_open, empty_change, noted, server_change, text_change, users_change}
 use Rattle.hurd_places.specs.Places.{place_of}
 use Rattle.hurd_lessons.specs.Values.{line_from, names_of, with_part}
 use Rattle.hurd_lessons.specs.declared.changes.Became.{Became}
@@ -38,19 +38,22 @@ note_body x y c words = noted words (body_word x y) (with_part words (Some (body
 abbrev pub note_empty : Row → Change → List ℕ → List ℕ
 note_empty y c words = noted words (codes "emptiness") (with_part words (Some (empty_change y.empty))) (emptiness c.body c.empty)
 
--- the same of an open, and of a server and its users
+-- the same of an open, and of a server, its text and its users
 abbrev pub note_open : Row → Row → Change → List ℕ → List ℕ
 note_open x y c words = noted words (codes "open") (changed_open words x.opened y.opened) c.opened
 
 abbrev pub note_server : View → View → Row → Row → Change → List ℕ → List ℕ
-note_server a b x y c words = noted words (codes "options") (server_change a b words x.server y.server) c.server
+note_server a b x y c words = noted words (codes "program") (server_change a b words x.server y.server) c.server
+
+abbrev pub note_text : Row → Row → Change → List ℕ → List ℕ
+note_text x y c words = noted words (codes "text") (text_change words x.text y.text) c.text
 
 abbrev pub note_users : Row → Row → Change → List ℕ → List ℕ
 note_users x y c words = noted words (codes "users") (users_change words x.users y.users) c.users
 
 -- all parts that changed under a name
 abbrev pub parts_of : View → View → Row → Row → Change → List ℕ
-parts_of a b x y c = note_users x y c (note_server a b x y c (note_open x y c (note_empty y c (note_body x y c (note_node a b x y c [])))))
+parts_of a b x y c = note_users x y c (note_text x y c (note_server a b x y c (note_open x y c (note_empty y c (note_body x y c (note_node a b x y c []))))))
 
 -- parts, where there are any
 abbrev pub or_changed : List ℕ → List ℕ

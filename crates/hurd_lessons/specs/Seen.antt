@@ -26,6 +26,7 @@ use Rattle.hurd_views.specs.declared.rows.NodeRow.{NodeRow}
 use Rattle.hurd_views.specs.declared.rows.OpenRow.{OpenRow}
 use Rattle.hurd_views.specs.declared.rows.Row.{Row}
 use Rattle.hurd_views.specs.declared.rows.ServerRow.{ServerRow}
+use Rattle.hurd_views.specs.declared.rows.TextRow.{TextRow}
 use Rattle.hurd_views.specs.declared.view.View.{View}
 use Rattle.hurd_lessons.specs.Changes.{shows}
 use Rattle.hurd_lessons.specs.declared.seen_parts.Reads.{Reads}
@@ -103,14 +104,9 @@ abbrev pub body_text : BodyRow → List ℕ
 body_text (body.Entries es) = listing_text es
 body_text (body.Bytes bs) = bytes_text bs
 
--- the first of some words
-abbrev pub first_word : List (List ℕ) → List ℕ
-first_word [] = []
-first_word (word ∷ words) = word
-
 -- the program of a server, of which a node is the root
 abbrev pub program_in : Name → Option (Option ServerRow) → List ℕ
-program_in n (Some (Some s)) = if same_name n s.root then first_word s.options else []
+program_in n (Some (Some s)) = if same_name n s.root then s.program else []
 program_in n _ = []
 
 -- the same of a node's server, if it has one
@@ -230,16 +226,39 @@ uid_or_none (Some u) = decimal u
 abbrev pub uid_text : IdSets → List ℕ
 uid_text ids = uid_or_none (least_uid ids)
 
--- the words by which a server would be made, what it aims at, where its root is, and whom it runs as; or that it is gone
+-- bytes behind a space, where there are any
+abbrev pub spaced_text : List ℕ → List ℕ
+spaced_text [] = []
+spaced_text (b ∷ bs) = 32 ∷ spelled (b ∷ bs)
+
+-- the program of a server, and behind it the text that whoever knows the server is told: a link's
+abbrev pub program_text : ServerRow → List ℕ
+program_text s = spelled_or_none s.program ++ spaced_text s.text
+
+-- the program of a server, what it aims at, where its root is, and whom it runs as; or that it is gone
 abbrev pub server_parts : View → List ℕ → Option (Option ServerRow) → List ℕ
 server_parts v words None = words
 server_parts v words (Some None) = parted words ++ codes "gone"
 server_parts v words (Some (Some s)) =
     with_part (with_part (with_part (with_part words
-    (Some (codes "options " ++ words_or_none s.options)))
+    (Some (codes "program " ++ program_text s)))
     (targets_part v s.targets))
     (Some (codes "root " ++ node_path v s.root)))
     (Some (codes "runs as " ++ uid_text s.ids))
+
+-- the words behind the first
+abbrev pub words_behind : List (List ℕ) → List (List ℕ)
+words_behind [] = []
+words_behind (word ∷ words) = words
+
+-- the text of a server, as the words that would give it such a one
+abbrev pub words_text : TextRow → List ℕ
+words_text r = words_or_none (words_behind r.options)
+
+-- of a text that is not there nothing is said
+abbrev pub text_part : Option (Option TextRow) → Option (List ℕ)
+text_part (Some (Some r)) = Some (codes "text " ++ words_text r)
+text_part _ = None
 
 -- how many rights there are on a server's nodes
 abbrev pub users_text : ℕ → List ℕ
@@ -260,11 +279,12 @@ node_parts v n r =
 -- all that is seen under a name, by its parts
 abbrev pub seen_of : View → Name → Row → List ℕ
 seen_of v n r =
-    with_part (server_parts v (with_part (with_part (with_part (node_parts v n r)
+    with_part (with_part (server_parts v (with_part (with_part (with_part (node_parts v n r)
     (on_part v n r.opened))
     (option_map cursor_text r.opened))
     (option_map held_text r.opened))
     r.server)
+    (text_part r.text))
     (option_map users_text r.users)
 
 -- a name's line, where anything is seen under it

@@ -27,6 +27,7 @@ pub(crate) struct Change {
     pub(crate) empty: Became,
     pub(crate) opened: Became,
     pub(crate) server: Became,
+    pub(crate) text: Became,
     pub(crate) users: Became,
 }
 
@@ -73,6 +74,7 @@ impl Change {
             empty: Became::of(&before.empty, &after.empty),
             opened: Became::of(&before.opened, &after.opened),
             server: Became::of(&before.server, &after.server),
+            text: Became::of(&before.text, &after.text),
             users: Became::of(&before.users, &after.users),
         }
     }
@@ -86,6 +88,7 @@ impl Change {
             && self.empty.is_same()
             && self.opened.is_same()
             && self.server.is_same()
+            && self.text.is_same()
             && self.users.is_same()
     }
 }
@@ -99,6 +102,7 @@ pub(crate) fn shows(row: &Row) -> bool
         || row.empty.is_some()
         || row.opened.is_some()
         || row.server.is_some()
+        || row.text.is_some()
         || row.users.is_some()
 }
 
@@ -112,6 +116,7 @@ pub(crate) fn no_row() -> Row
         body: None,
         opened: None,
         server: None,
+        text: None,
         users: None,
     }
 }

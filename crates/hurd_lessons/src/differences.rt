@@ -1,13 +1,13 @@
 //! What became of the parts that are seen under a name, in words.
 ghost use Rattle.std.specs.Prelude.{◌≡◌, ◌++◌, ◌≤◌, ◌+◌, ◌∷◌, [], codes, drop, if◌then◌else◌, IfOk, OnOk, Some};
-ghost use Rattle.hurd_lessons.specs.Differences.{body_change, changed_attrs, changed_body, changed_node, changed_open, changed_opened, changed_server, comes_next, empty_change, entries_gone, entries_new, modes_or_none, modes_part, noted, parent_at, passed, same_entry, server_change, signed_names, users_change};
+ghost use Rattle.hurd_lessons.specs.Differences.{body_change, changed_attrs, changed_body, changed_node, changed_open, changed_opened, changed_server, comes_next, empty_change, entries_gone, entries_new, modes_or_none, modes_part, noted, parent_at, passed, same_entry, server_change, text_change, signed_names, users_change};
 ghost use Rattle.hurd_sentences.specs.Spelling.{spelled_name};
-ghost use Rattle.hurd_lessons.specs.Seen.{places_text, uid_text};
+ghost use Rattle.hurd_lessons.specs.Seen.{places_text, program_text, uid_text};
 ghost use Rattle.hurd_lessons.specs.Lessons.{body_word, emptiness, is_listing, or_changed, parts_of, said_of};
 ghost use Rattle.hurd_lessons.specs.Values.{turned_part, with_part};
 
 use crate::changes::{Became, Change, shows};
-use crate::seen_parts::{empty_text, modes_of, places_of, uid_of};
+use crate::seen_parts::{empty_text, modes_of, places_of, program_text, uid_of, words_behind};
 use crate::values::{
     add_kind, add_mode, add_number, add_part, add_path, add_server_path, add_turned, add_words,
     part, push_bytes_change,
@@ -15,7 +15,7 @@ use crate::values::{
 use hurd_creds::{Attrs, NodeName};
 use hurd_ports::Opened;
 use hurd_sentences::push_name;
-use hurd_views::{BodyRow, EntryRow, NodeRow, OpenRow, Row, ServerRow, View};
+use hurd_views::{BodyRow, EntryRow, NodeRow, OpenRow, Row, ServerRow, TextRow, View};
 use std::alloc::{AllocError, Global};
 
 /// What stands behind a part that is no longer seen.
@@ -372,6 +372,20 @@ fn add_uid(
     add_turned(words, b"runs as", before.as_slice(), after.as_slice())
 }
 
+/// Adds which program a server had and has.
+fn add_program(
+    alloc: Global,
+    words: &mut Vec<u8>,
+    old: &ServerRow,
+    new: &ServerRow,
+) -> Result<(), AllocError>
+    ensures { OnOk result (words.new.items ≡ with_part words.old.items (turned_part (codes "program") (program_text old.now) (program_text new.now))) }
+{
+    let before = program_text(alloc, old)?;
+    let after = program_text(alloc, new)?;
+    add_turned(words, b"program", before.as_slice(), after.as_slice())
+}
+
 /// Adds what became of a server that is there before and after.
 fn add_server_row(
     alloc: Global,
@@ -383,13 +397,7 @@ fn add_server_row(
 ) -> Result<(), AllocError>
     ensures { OnOk result (words.new.items ≡ changed_server before.now after.now words.old.items (Some old.now) (Some new.now)) }
 {
-    add_words(
-        alloc,
-        words,
-        b"options",
-        old.options.as_slice(),
-        new.options.as_slice(),
-    )?;
+    add_program(alloc, words, old, new)?;
     add_targets(
         alloc,
         words,
@@ -425,7 +433,7 @@ fn add_server_at(
         (Some(old), Some(new)) => add_server_row(alloc, words, before, after, old, new),
         (None, None) => Ok(()),
         (Some(_), None) => add_part(words, b"gone"),
-        (None, Some(_)) => add_part(words, b"options"),
+        (None, Some(_)) => add_part(words, b"program"),
     }
 }
 
@@ -442,6 +450,27 @@ fn add_server(
 {
     match (old, new) {
         (Some(old), Some(new)) => add_server_at(alloc, words, before, after, old, new),
+        _ => Ok(()),
+    }
+}
+
+/// Adds which text a server had and has.
+fn add_text(
+    alloc: Global,
+    words: &mut Vec<u8>,
+    old: &Option<Option<TextRow>>,
+    new: &Option<Option<TextRow>>,
+) -> Result<(), AllocError>
+    ensures { OnOk result (words.new.items ≡ text_change words.old.items old.now new.now) }
+{
+    match (old, new) {
+        (Some(Some(old)), Some(Some(new))) => add_words(
+            alloc,
+            words,
+            b"text",
+            words_behind(old.options.as_slice()),
+            words_behind(new.options.as_slice()),
+        ),
         _ => Ok(()),
     }
 }
@@ -563,13 +592,31 @@ fn note_server(
     new: &Option<Option<ServerRow>>,
     became: Became,
 ) -> Result<(), AllocError>
-    ensures { OnOk result (words.new.items ≡ noted words.old.items (codes "options") (server_change before.now after.now words.old.items old.now new.now) became) }
+    ensures { OnOk result (words.new.items ≡ noted words.old.items (codes "program") (server_change before.now after.now words.old.items old.now new.now) became) }
 {
     match became {
         Became::Same => Ok(()),
-        Became::New => add_part(words, b"options"),
-        Became::Lost => note(words, b"options", LOST),
+        Became::New => add_part(words, b"program"),
+        Became::Lost => note(words, b"program", LOST),
         Became::Changed => add_server(alloc, words, before, after, old, new),
+    }
+}
+
+/// Adds the text of a server, unless it is as it was.
+fn note_text(
+    alloc: Global,
+    words: &mut Vec<u8>,
+    old: &Option<Option<TextRow>>,
+    new: &Option<Option<TextRow>>,
+    became: Became,
+) -> Result<(), AllocError>
+    ensures { OnOk result (words.new.items ≡ noted words.old.items (codes "text") (text_change words.old.items old.now new.now) became) }
+{
+    match became {
+        Became::Same => Ok(()),
+        Became::New => add_part(words, b"text"),
+        Became::Lost => note(words, b"text", LOST),
+        Became::Changed => add_text(alloc, words, old, new),
     }
 }
 
@@ -623,6 +670,7 @@ fn parts(
         &new.server,
         change.server,
     )?;
+    note_text(alloc, &mut words, &old.text, &new.text, change.text)?;
     note_users(&mut words, old.users, new.users, change.users)?;
     Ok(words)
 }

@@ -2,7 +2,7 @@
 ghost use Rattle.std.specs.Prelude.{◌≡◌, ◌∷◌, ◌++◌, bytes_eq, codes, IfOk, OnOk, Some};
 ghost use Rattle.std.specs.Option.{option_map};
 ghost use Rattle.hurd_places.specs.Places.{node_path};
-ghost use Rattle.hurd_lessons.specs.Seen.{active_part, body_part, body_text, bytes_text, counts_of, counts_part, counts_text, cursor_text, empty_part, empty_text, entry_names, held_text, given_text, home_part, listing_text, modes_text, node_places, node_parts, node_text, on_part, opened_by_tasks, parent_of, parent_part, passive_text, places_text, program_in, program_of, read_text, reads_of, seen_of, server_named, server_parts, targets_part, uid_text, users_text};
+ghost use Rattle.hurd_lessons.specs.Seen.{active_part, program_text, spaced_text, text_part, words_behind, body_part, body_text, bytes_text, counts_of, counts_part, counts_text, cursor_text, empty_part, empty_text, entry_names, held_text, given_text, home_part, listing_text, modes_text, node_places, node_parts, node_text, on_part, opened_by_tasks, parent_of, parent_part, passive_text, places_text, program_in, program_of, read_text, reads_of, seen_of, server_named, server_parts, targets_part, uid_text, users_text};
 ghost use Rattle.hurd_lessons.specs.Values.{with_part, words_or_none};
 
 use crate::opens::opened_by_tasks;
@@ -11,7 +11,7 @@ use hurd_creds::{Attrs, Bytes, Ids, Name, NodeName, OpenFlags, ServerName};
 use hurd_lines::{kind_letter, push_if, push_long_number, push_number, push_stat};
 use hurd_places::{node_path, server_path};
 use hurd_sentences::{push_name, push_word, push_words};
-use hurd_views::{BodyRow, EntryRow, NodeRow, OpenRow, Row, ServerRow, View};
+use hurd_views::{BodyRow, EntryRow, NodeRow, OpenRow, Row, ServerRow, TextRow, View};
 use itoa::Buffer;
 use std::alloc::{AllocError, Global};
 
@@ -321,13 +321,57 @@ pub(crate) fn uid_of(alloc: Global, ids: &Ids) -> Result<Vec<u8>, AllocError>
     }
 }
 
-/// Adds the words by which a server would be made.
-fn add_options(words: &mut Vec<u8>, options: &[Bytes]) -> Result<(), AllocError>
-    ensures { OnOk result (words.new.items ≡ with_part words.old.items (Some (codes "options " ++ words_or_none options.now))) }
+/// Adds bytes behind a space, where there are any.
+fn push_text(words: &mut Vec<u8>, text: &[u8]) -> Result<(), AllocError>
+    ensures { OnOk result (words.new.items ≡ words.old.items ++ spaced_text text.now) }
 {
+    if text.is_empty() {
+        return Ok(());
+    }
+    words.push(b' ')?;
+    push_word(words, text)
+}
+
+/// The program of a server, and of a link its text.
+pub(crate) fn program_text(alloc: Global, server: &ServerRow) -> Result<Vec<u8>, AllocError>
+    ensures { IfOk result (λ text. text.items ≡ program_text server.now) }
+{
+    let mut text = Vec::new(alloc);
+    push_bytes(&mut text, server.program.as_slice())?;
+    push_text(&mut text, server.text.as_slice())?;
+    Ok(text)
+}
+
+/// Adds the program of a server.
+fn add_program(alloc: Global, words: &mut Vec<u8>, server: &ServerRow) -> Result<(), AllocError>
+    ensures { OnOk result (words.new.items ≡ with_part words.old.items (Some (codes "program " ++ program_text server.now))) }
+{
+    let text = program_text(alloc, server)?;
     part(words)?;
-    words.extend_from_slice(b"options ")?;
-    push_all_words(words, options)
+    words.extend_from_slice(b"program ")?;
+    words.extend_from_slice(text.as_slice())
+}
+
+/// The words behind the first.
+pub(crate) fn words_behind(words: &[Bytes]) -> &[Bytes]
+    ensures { result.now ≡ words_behind words.entry.now }
+{
+    match words.split_first() {
+        Some((_, rest)) => rest,
+        None => &[],
+    }
+}
+
+/// Adds the text of a server, where it is seen.
+fn add_text(words: &mut Vec<u8>, text: &Option<Option<TextRow>>) -> Result<(), AllocError>
+    ensures { OnOk result (words.new.items ≡ with_part words.old.items (text_part text.now)) }
+{
+    let Some(Some(text)) = text else {
+        return Ok(());
+    };
+    part(words)?;
+    words.extend_from_slice(b"text ")?;
+    push_all_words(words, words_behind(text.options.as_slice()))
 }
 
 /// Adds what a server aims at, if it aims at any.
@@ -382,7 +426,7 @@ fn add_server_row(
 ) -> Result<(), AllocError>
     ensures { OnOk result (words.new.items ≡ server_parts view.now words.old.items (Some (Some server.now))) }
 {
-    add_options(words, server.options.as_slice())?;
+    add_program(alloc, words, server)?;
     add_targets(alloc, words, view, server.targets.as_slice())?;
     add_root(alloc, words, view, server.root)?;
     add_uid(alloc, words, &server.ids)
@@ -406,9 +450,10 @@ fn program_in(node: NodeName, server: &Option<Option<ServerRow>>) -> &[u8]
     let Some(Some(server)) = server else {
         return b"";
     };
-    match server.options.as_slice().first() {
-        Some(program) if node == server.root => program.as_slice(),
-        _ => b"",
+    if node == server.root {
+        server.program.as_slice()
+    } else {
+        b""
     }
 }
 
@@ -619,6 +664,7 @@ pub(crate) fn seen_of(
     add_cursor(&mut words, &row.opened)?;
     add_held(&mut words, &row.opened)?;
     add_server(alloc, &mut words, view, &row.server)?;
+    add_text(&mut words, &row.text)?;
     add_users(&mut words, row.users)?;
     Ok(words)
 }

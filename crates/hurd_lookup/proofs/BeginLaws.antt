@@ -1,12 +1,12 @@
 -- Where a lookup begins: by the ports of its task, which the task has in both worlds.
 use Rattle.std.proofs.Common.{◌≡◌, ℕ, Bool, true, Some, refl, ap, inl, inr}
 use Rattle.std.specs.Prelude.{Result, Ok, Err}
-use Rattle.hurd_machine.proofs.Common.{CanBeAt, Coherent, Control, EBADF, Errno, GidOfRight, GidOfTask, Holds, IdSets, Io, IoRight, Name, OfControl, Right, Seen, ServerInfo, Start, Taken, Task, UidOfRight, UidOfTask, World, io_right_of, ports_of, server_at, task_at}
+use Rattle.hurd_machine.proofs.Common.{CanBeAt, Coherent, Control, EBADF, Errno, GidOfRight, GidOfTask, Holds, IdSets, Io, IoRight, Name, Right, Seen, ServerInfo, Start, Taken, Task, UidOfRight, UidOfTask, World, io_right_of, ports_of, server_at, task_at}
 use Rattle.hurd_ports.specs.Tables.{right_of}
 use Rattle.hurd_machine.specs.World.{nodes_of}
 use Rattle.hurd_machine.specs.Sight.{Held, Controlled}
 use Rattle.hurd_machine.proofs.Confine.{named_seen}
-use Rattle.hurd_machine.proofs.Views.{Agree, same_tasks, server_known}
+use Rattle.hurd_machine.proofs.Views.{Agree, same_tasks, control_known}
 use Rattle.hurd_machine.proofs.Asks.{IsPlain, ok_plain, err_plain, right_same, right_plain, has_right, holds_right, io_right_is, io_right_same, io_right_plain, holds_io}
 use Rattle.hurd_core.specs.Control.{control_in, control_of}
 use Rattle.hurd_lookup.proofs.AlikeLaws.{Alike}
@@ -68,7 +68,7 @@ seen_begins {S} {v} {w} a t ours = record {
     }
 
     server_near : (s : Name) → Holds S v (Control s) → ServerNear v w (Seen S v) s
-    server_near s held = record { same = server_known a s (OfControl held); root = λ i is. Controlled s i held is refl }
+    server_near s held = record { same = control_known a s held; root = λ i is. Controlled s i held is refl }
 
 -- and one can be where it begins
 pub held_begins : (w : World) → Coherent w → (t : ℕ) → Begins t w w (CanBeAt (nodes_of w)) (Anywhere w) (AnyIds w)

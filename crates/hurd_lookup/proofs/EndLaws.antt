@@ -1,11 +1,12 @@
 -- The end of a lookup: what it asks there is the same in both worlds, what its answer shows, and that no refusal is want of memory.
-use Rattle.std.proofs.Common.{◌≡◌, ℕ, Bool, true, not, ◌&&◌, List, Some, None, refl}
+use Rattle.std.proofs.Common.{◌≡◌, ℕ, Bool, true, not, ◌&&◌, List, Some, None, refl, ap}
 use Rattle.std.specs.Prelude.{Ok}
 use Rattle.hurd_machine.proofs.Common.{BodyOf, File, Header, IdSets, IoRight, Name, OpenFlags, Seen, Sees, Taken, WRITE, World, asks, header_at, home_at, info_at, is_dir, is_removed, makes_at, only_reads}
 use Rattle.hurd_machine.proofs.Asks.{makes_plain}
 use Rattle.hurd_core.specs.Core.{NewNodeAt}
 use Rattle.hurd_lookup.specs.declared.request.Request.{Request}
 use Rattle.hurd_lookup.specs.Lookup.{NewPort, Place, AtNode, AtName, Elsewhere, Waits, Outcome, Opens, Makes, Retries, Starts, may_open, end_asks}
+use Rattle.hurd_lookup.proofs.FaceLaws.{only_face}
 use Rattle.hurd_lookup.proofs.AlikeLaws.{Alike, ok_alike, on_alike, given_alike, first_alike}
 use Rattle.hurd_lookup.proofs.WalkLaws.{Ground, WaysOn, PortOn, PlaceOn}
 
@@ -57,7 +58,7 @@ module _ {v w : World} {At Near Entries : Name → Type 0} {T : IdSets → Type 
   end_alike (AtNode n parents) at =
       let near = g.near n at.0 in
       on_alike _ _ _ _ _ _ refl (g.header n near) (λ h is. given_alike _ _ _ _ _ _ refl refl (λ k. given_alike _ _ _ _ _ _ refl refl (λ fits.
-      given_alike _ _ (not (asks r.flags WRITE && only_reads (info_at v n))) (not (asks r.flags WRITE && only_reads (info_at w n))) _ _ refl (rw (g.info n near) refl) (λ more.
+      given_alike _ _ (not (asks r.flags WRITE && only_reads (info_at v n))) (not (asks r.flags WRITE && only_reads (info_at w n))) _ _ refl (ap (λ (b : Bool). not (asks r.flags WRITE && b)) (only_face (info_at v n) (info_at w n) (g.face n near))) (λ more.
       given_alike _ _ _ _ _ _ refl refl (λ may. ok_alike _ _ (record {
         on = record { node = at.0; ids = taken; ways = at.1 };
         leads = record { header = h; is_header = is; may = may; fits = fits; more = more };

@@ -49,7 +49,7 @@ module _ (w : World) where
       none = tt;
       near = λ n at. tt;
       header = λ n near. refl;
-      info = λ n near. refl;
+      face = λ n near. refl;
       home = λ n near. refl;
       is_root = λ n near. refl;
       crossed = λ n near. refl;

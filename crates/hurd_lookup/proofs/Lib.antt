@@ -1,4 +1,5 @@
 pub mod AlikeLaws
+pub mod FaceLaws
 pub mod WalkLaws
 pub mod HeldLaws
 pub mod ResolveLaws

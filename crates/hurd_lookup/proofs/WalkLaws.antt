@@ -12,10 +12,12 @@ use Rattle.hurd_trans_iface.specs.declared.root.Crossing.TheVariants.{Link, Unio
 use Rattle.hurd_nodes.proofs.PartLaws.{mapped-some}
 use Rattle.hurd_ports.specs.declared.parents.Parent.{Parent as Pair}
 use Rattle.hurd_machine.specs.Sight.{Root, Parent}
-use Rattle.hurd_machine.proofs.Views.{Agree, header_same, home_same, active_same, body_same, server_known}
-use Rattle.hurd_machine.proofs.Asks.{info_same, is_root_same, makes_same}
+use Rattle.hurd_machine.proofs.Views.{Agree, header_same, home_same, active_same, body_same, face_known}
+use Rattle.hurd_machine.proofs.Faces.{face_in, face_reads}
+use Rattle.hurd_lookup.proofs.FaceLaws.{branches_face, crossed_by, crossed_face}
+use Rattle.hurd_machine.proofs.Asks.{info_seen, is_root_same, makes_same}
 use Rattle.hurd_machine.proofs.Listed.{dir_kind}
-use Rattle.hurd_core.specs.Branches.{branches_at, branches_by}
+use Rattle.hurd_core.specs.Branches.{branches_at}
 use Rattle.hurd_core.proofs.AimedLaws.{aimed_seen, branch_aimed}
 use Rattle.hurd_lookup.specs.declared.request.Request.{Request}
 use Rattle.hurd_lookup.specs.declared.walk.Next.{Next}
@@ -55,7 +57,7 @@ pub record Ground (v w : World) (At Near Entries : Name → Type 0) (T : IdSets 
   pub none : T no_ids
   pub near : (n : Name) → At n → Near n
   pub header : (n : Name) → Near n → header_at w n ≡ header_at v n
-  pub info : (n : Name) → Near n → info_at w n ≡ info_at v n
+  pub face : (n : Name) → Near n → face_in (info_at w n) ≡ face_in (info_at v n)
   pub home : (n : Name) → Near n → home_at w n ≡ home_at v n
   pub is_root : (n : Name) → Near n → is_server_root w n ≡ is_server_root v n
   pub crossed : (n : Name) → Near n → crossed_at w n ≡ crossed_at v n
@@ -130,7 +132,7 @@ module _ {S : ℕ → Bool} {v w : World} (a : Agree S v w) where
     where
       go : (o : Option Name) → active_at v n ≡ o → active_at w n ≡ active_at v n → root_on w n ≡ root_on v n
       go None e h = ap (root_in w) (h ∙ e) ∙ ap (root_in v) (sym e)
-      go (Some s) e h = ap (root_in w) (h ∙ e) ∙ ap (option_map (λ (i : ServerInfo). i.root)) (server_known a s (OfSeat n seen e)) ∙ ap (root_in v) (sym e)
+      go (Some s) e h = ap (root_in w) (h ∙ e) ∙ face_reads (option_map (λ (i : ServerInfo). i.root)) (λ i. refl) (server_at v s) (server_at w s) (face_known a s (OfSeat n seen e)) ∙ ap (root_in v) (sym e)
 
   -- the words of a node are its header's
   words_by : (o : Option Node) → passive_of o ≡ option_and_then (λ (h : Header). some_words h.passive) (option_map (λ (x : Node). x.header) o)
@@ -152,7 +154,7 @@ module _ {S : ℕ → Bool} {v w : World} (a : Agree S v w) where
     none = none;
     near = λ n seen. seen;
     header = header_same a;
-    info = info_same a;
+    face = info_seen a;
     home = home_same a;
     is_root = is_root_same a;
     crossed = crossed_same;
@@ -232,7 +234,7 @@ module _ {v w : World} {At Near Entries : Name → Type 0} {T : IdSets → Type 
       if_alike _ (bytes_eq name (codes "..")) _ _ _ _ _ refl
       (if_alike _ (came_in_at q.parents d) _ _ _ _ _ refl (ok_alike _ Back tt) (if_alike _ _ _ _ _ _ _ (g.is_root d near) (ok_alike _ (There d) at) (parent_alike d at h is h.parent refl)))
       (entry_alike d at h is _ _ _ _ (ap (entry_of name) s.same) (s.down name)
-      (subst (λ (bs : List Name). Alike (NextOn At Entries d) (Ok (branch_in v q.ids name (branches_at v d))) (Ok (branch_in w q.ids name bs))) (sym (ap branches_by (g.info d near)))
+      (subst (λ (bs : List Name). Alike (NextOn At Entries d) (Ok (branch_in v q.ids name (branches_at v d))) (Ok (branch_in w q.ids name bs))) (sym (branches_face (info_at v d) (info_at w d) (g.face d near)))
       (branch_alike d at h is name s.entries (branches_at v d) (λ b among. g.aims d b near (branch_aimed (info_at v d) b among)))))))))
 
   -- a way back
@@ -269,9 +271,11 @@ module _ {v w : World} {At Near Entries : Name → Type 0} {T : IdSets → Type 
 
     pub cross_alike : (names : List (List ℕ)) → Alike (PlaceOn At Entries T) (cross v q r d root names) (cross w q r d root names)
     cross_alike names =
-        first_alike (λ i. info_at v root ≡ Some i) _ _ _ _ _
-        (on_alike _ _ _ _ _ _ refl (g.header root near) (λ h e. on_alike _ _ _ _ _ _ refl (g.info root near) (λ i k. ok_alike _ i k)))
-        (λ i is k. crossing_alike (root_of i.kind i.text).crossing i names k (g.inside root i near k))
+        subst (Alike (PlaceOn At Entries T) (cross v q r d root names))
+        (sym (face_reads (λ o. crossed_by w q r d root names (header_at w root) o) (crossed_face w q r d root names (header_at w root)) (info_at v root) (info_at w root) (g.face root near)))
+        (first_alike (λ i. info_at v root ≡ Some i) _ _ _ _ _
+        (on_alike _ _ _ _ _ _ refl (g.header root near) (λ h e. on_alike _ _ _ _ _ _ refl refl (λ i k. ok_alike _ i k)))
+        (λ i is k. crossing_alike (root_of i.kind i.text).crossing i names k (g.inside root i near k)))
 
   module _ (r : Request) where
     -- at an entry's node, on or across

@@ -1,9 +1,11 @@
 -- What a call asks: the same in worlds that answer the same, what an answer shows, and that no answer is want of memory.
 use Rattle.std.proofs.Common.{List, ◌≡◌, ℕ, Bool, true, false, Option, Some, None, refl, sym, ◌∙◌, ap, ap₂, subst, true≢false, ◌&&◌}
 use Rattle.std.specs.Prelude.{if◌then◌else◌, not, is_some, nat_lt, Result, Ok, Err}
-use Rattle.hurd_machine.proofs.Common.{Body, BodyOf, EBADF, EDIED, EEXIST, EISDIR, ENOTDIR, EOPNOTSUPP, EOVERFLOW, EROFS, ESRCH, EXDEV, Errno, Header, Holds, Io, IoRight, IsAmong, IsOpen, Kind, Name, Named, Node, OpenFlags, Plan, Question, READ, Reply, Right, Seen, Sees, ServerInfo, Task, WRITE, World, answered, are_kin, asked_at, asked_of, asks, counts_at, counts_by, edit_by, entry_of, first, get, given, handle_asks, header_at, home_at, info_at, info_in, io_right_of, is_dir, is_made, is_no_memory, is_refused, is_root_at, is_server_root, is_taken, keeps_tree, link_by, link_in, links_at, makes_at, most_links, on, open_at, or_refuse, port_asks, ports_of, refuse, right_at, right_in, rights_of, sets_attrs_at, stream_at, task_at, task_of, tells, writing}
-use Rattle.hurd_trans_iface.specs.Kinds.{ServerKind, behaviour_of}
-use Rattle.hurd_trans_iface.specs.Good.{IsBlindAt, IsPlain as IsPlainAnswer}
+use Rattle.hurd_machine.proofs.Common.{Body, BodyOf, Coherent, InRoot, faced, known_text, reads_text, server_at, with_text, EBADF, EDIED, EEXIST, EISDIR, ENOTDIR, EOPNOTSUPP, EOVERFLOW, EROFS, ESRCH, EXDEV, Errno, Header, Holds, Io, IoRight, IsAmong, IsOpen, Kind, Name, Named, Node, OpenFlags, Plan, Question, READ, Reply, Right, Seen, Sees, ServerInfo, Task, WRITE, World, answered, are_kin, asked_at, asked_of, asks, counts_at, counts_by, edit_by, entry_of, first, get, given, handle_asks, header_at, home_at, info_at, info_in, io_right_of, is_dir, is_made, is_no_memory, is_refused, is_root_at, is_server_root, is_taken, keeps_tree, link_by, link_in, links_at, makes_at, most_links, on, open_at, or_refuse, port_asks, ports_of, refuse, right_at, right_in, rights_of, sets_attrs_at, stream_at, task_at, task_of, tells, writing}
+use Rattle.hurd_trans_iface.specs.Kinds.{ServerKind, behaviour_of, Tmpfs, Hello, Null, Zero, Symlink, Firmlink, Union, Magic, Drip, Fifo}
+use Rattle.hurd_trans_iface.specs.Behaviour.{reading, resizing}
+use Rattle.hurd_trans_iface.specs.Meaning.{root_of}
+use Rattle.hurd_trans_iface.specs.Good.{IsPlain as IsPlainAnswer}
 use Rattle.hurd_nodes.specs.Shown.{readable_by, made_by}
 use Rattle.hurd_ports.specs.Tables.{right_of, io_right_in}
 use Rattle.hurd_machine.specs.Calls.{lacks_memory}
@@ -14,7 +16,9 @@ use Rattle.hurd_machine.specs.declared.handle.Handle.{Handle}
 use Rattle.hurd_machine.specs.Sight.{Held}
 use Rattle.hurd_machine.proofs.Nodes.{header_in, body_in, root_info}
 use Rattle.hurd_machine.proofs.Rights.{right_under}
-use Rattle.hurd_machine.proofs.Views.{Agree, same_tasks, header_same, body_same, home_same, server_same, open_same}
+use Rattle.hurd_machine.proofs.Views.{Agree, same_tasks, header_same, body_same, home_same, face_same, server_known, open_same}
+use Rattle.hurd_machine.proofs.Faces.{face_in, face_reads, none_faced, of_face, reads_lone, root_told}
+use Rattle.hurd_machine.proofs.Coherence.{home_server}
 use Rattle.hurd_trans_iface.proofs.Goods.{good}
 use Rattle.std.proofs.lemmas.Bool.{or_left, or_right}
 
@@ -269,14 +273,108 @@ same_node (Some x) (Some y) h b =
     ap₂ (λ (h : Header) (b : Body). let z : Node = record { header = h; body = b } in Some z) header body
 same_node o p h b = absurd (cc)
 
--- what is blind to the body answers the same of nodes of the same header
-blind_same : {T : Type 0} (q : Question T) → ((k : ServerKind) (text : List ℕ) → IsBlindAt (behaviour_of k) text q) → (i : Option ServerInfo) (o p : Option Node) → header_in p ≡ header_in o → asked_of q i p ≡ asked_of q i o
-blind_same q blind None o p h = refl
-blind_same q blind (Some i) None None h = refl
-blind_same q blind (Some i) (Some x) (Some y) h =
+-- what is blind to the body and to the text answers the same of nodes of the same header, whose servers are seen alike
+abbrev pub IsBlind : {T : Type 0} → Question T → ServerKind → Type 0
+IsBlind q k =
+    (old new : List ℕ) (h : Header) (c e : Body)
+    → let x : Node = record { header = h; body = c } in let y : Node = record { header = h; body = e } in q (behaviour_of k) new y ≡ q (behaviour_of k) old x
+
+blind_same : {T : Type 0} (q : Question T) → (i j : Option ServerInfo) (o p : Option Node) → ((k : ServerInfo) → i ≡ Some k → IsBlind q k.kind) → face_in j ≡ face_in i → header_in p ≡ header_in o → asked_of q j p ≡ asked_of q i o
+blind_same q None None o p blind f h = refl
+blind_same q (Some i) (Some j) None None blind f h = refl
+blind_same q (Some i) (Some j) (Some x) (Some y) blind f h =
+    let face : faced j ≡ faced i = cc in
     let header : y.header ≡ x.header = cc in
-    ap (λ (k : Header). q (behaviour_of i.kind) i.text (record { header = k; body = y.body })) header ∙ blind i.kind i.text x.header x.body y.body
-blind_same q blind (Some i) o p h = absurd (cc)
+    ap (λ (z : ServerInfo). q (behaviour_of z.kind) j.text y) face
+    ∙ ap (λ (k : Header). q (behaviour_of i.kind) j.text (record { header = k; body = y.body })) header ∙ blind i refl i.text j.text x.header x.body y.body
+blind_same q i j o p blind f h = absurd (cc)
+
+-- what goes by no text but one that whoever knows the server is told
+
+abbrev pub IsUntold : {T : Type 0} → Question T → ServerKind → Type 0
+IsUntold q k = (old new : List ℕ) (x : Node) → known_text k new ≡ known_text k old → q (behaviour_of k) new x ≡ q (behaviour_of k) old x
+
+asked_untold : {T : Type 0} (q : Question T) (i : ServerInfo) (o : Option Node) → IsUntold q i.kind → (text : List ℕ) → known_text i.kind text ≡ known_text i.kind i.text
+    → asked_of q (Some (with_text text i)) o ≡ asked_of q (Some i) o
+asked_untold q i None untold text known = refl
+asked_untold q i (Some x) untold text known = untold i.text text x known
+
+-- where reading doesn't give the text, no bytes and no count of these go by it
+
+pub reading_untold : (at amount : ℕ) (k : ServerKind) (text : List ℕ) → reads_text (root_of k text) ≡ false → IsUntold (reading at amount) k
+reading_untold at amount Tmpfs text out old new x known = refl
+reading_untold at amount Hello text out old new x known = absurd (cc (out))
+reading_untold at amount Null text out old new x known = refl
+reading_untold at amount Zero text out old new x known = refl
+reading_untold at amount Symlink text out old new x known = ap (λ (t : List ℕ). (behaviour_of Symlink).read t x at amount) known
+reading_untold at amount Firmlink text out old new x known = refl
+reading_untold at amount Union text out old new x known = refl
+reading_untold at amount Magic text out old new x known = ap (λ (t : List ℕ). (behaviour_of Magic).read t x at amount) known
+reading_untold at amount Drip text out old new x known = refl
+reading_untold at amount Fifo text out old new x known = refl
+
+counts_untold : (at : ℕ) (k : ServerKind) (text : List ℕ) → reads_text (root_of k text) ≡ false → (old new : List ℕ) (x : Node) → known_text k new ≡ known_text k old
+    → (behaviour_of k).readable new x at ≡ (behaviour_of k).readable old x at
+counts_untold at Tmpfs text out old new x known = refl
+counts_untold at Hello text out old new x known = absurd (cc (out))
+counts_untold at Null text out old new x known = refl
+counts_untold at Zero text out old new x known = refl
+counts_untold at Symlink text out old new x known = ap (λ (t : List ℕ). (behaviour_of Symlink).readable t x at) known
+counts_untold at Firmlink text out old new x known = refl
+counts_untold at Union text out old new x known = refl
+counts_untold at Magic text out old new x known = ap (λ (t : List ℕ). (behaviour_of Magic).readable t x at) known
+counts_untold at Drip text out old new x known = refl
+counts_untold at Fifo text out old new x known = refl
+
+readable_untold : (at : ℕ) (o : Option Node) (i : ServerInfo) → reads_text (root_of i.kind i.text) ≡ false → (text : List ℕ) → known_text i.kind text ≡ known_text i.kind i.text
+    → count_in (readable_by at (Some (with_text text i)) o) ≡ count_in (readable_by at (Some i) o)
+readable_untold at None i out text known = refl
+readable_untold at (Some x) i out text known = counts_untold at i.kind i.text out i.text text x known
+
+-- no server takes bytes, or a size, by its text
+
+writes_blind : (k : ServerKind) (old new : List ℕ) (x : Node) (at : ℕ) (bs : List ℕ) → (behaviour_of k).write new x at bs ≡ (behaviour_of k).write old x at bs
+writes_blind Tmpfs old new x at bs = refl
+writes_blind Hello old new x at bs = refl
+writes_blind Null old new x at bs = refl
+writes_blind Zero old new x at bs = refl
+writes_blind Symlink old new x at bs = refl
+writes_blind Firmlink old new x at bs = refl
+writes_blind Union old new x at bs = refl
+writes_blind Magic old new x at bs = refl
+writes_blind Drip old new x at bs = refl
+writes_blind Fifo old new x at bs = refl
+
+sizes_blind : (k : ServerKind) (old new : List ℕ) (x : Node) (size : ℕ) → (behaviour_of k).set_size new x size ≡ (behaviour_of k).set_size old x size
+sizes_blind Tmpfs old new x size = refl
+sizes_blind Hello old new x size = refl
+sizes_blind Null old new x size = refl
+sizes_blind Zero old new x size = refl
+sizes_blind Symlink old new x size = refl
+sizes_blind Firmlink old new x size = refl
+sizes_blind Union old new x size = refl
+sizes_blind Magic old new x size = refl
+sizes_blind Drip old new x size = refl
+sizes_blind Fifo old new x size = refl
+
+writing_untold : (at : ℕ) (bs : List ℕ) (k : ServerKind) → IsUntold (writing at bs) k
+writing_untold at bs k old new x known = writes_blind k old new x at bs
+
+pub resizing_blind : (size : ℕ) (k : ServerKind) → IsBlind (resizing size) k
+resizing_blind size k old new h c e = sizes_blind k old new (record { header = h; body = e }) size ∙ (good k).set_size_blind old size h c e
+
+writing_blind : (at : ℕ) (bs : List ℕ) (k : ServerKind) → (behaviour_of k).counts ≡ false → IsBlind (writing at bs) k
+writing_blind at bs k out old new h c e = writes_blind k old new (record { header = h; body = e }) at bs ∙ (good k).write_blind out old at bs h c e
+
+-- the text plays no part in whether attributes may be set, or a node may get another name
+
+edit_face : (o : Option Node) (i : ServerInfo) → edit_by keeps_tree (Some (faced i)) o ≡ edit_by keeps_tree (Some i) o
+edit_face None i = refl
+edit_face (Some x) i = refl
+
+link_face : (name : List ℕ) (kin : Bool) (d o : Option Node) (i : ServerInfo) → link_by name kin (Some (faced i)) d o ≡ link_by name kin (Some i) d o
+link_face name kin None o i = refl
+link_face name kin (Some d) o i = refl
 
 -- whether attributes may be set is the same of nodes that are there alike
 there_same : (i : Option ServerInfo) (o p : Option Node) → header_in p ≡ header_in o → edit_by keeps_tree i p ≡ edit_by keeps_tree i o
@@ -286,17 +384,44 @@ there_same (Some i) (Some x) (Some y) h = refl
 there_same (Some i) o p h = absurd (cc)
 
 module _ {S : ℕ → Bool} {v w : World} (a : Agree S v w) (n : Name) where
-  -- of a node that S sees it knows which kind of server it has, and with which text
-  pub info_same : Seen S v n → info_at w n ≡ info_at v n
-  info_same seen = ap (info_in w.servers) (home_same a n seen) ∙ go (home_at v n) refl
+  -- of a node that S sees it knows its server, but for a text that its readers alone are given
+  pub info_seen : Seen S v n → face_in (info_at w n) ≡ face_in (info_at v n)
+  info_seen seen = ap (λ o. face_in (info_in w.servers o)) (home_same a n seen) ∙ go (home_at v n) refl
     where
-      go : (o : Option Name) → home_at v n ≡ o → info_in w.servers o ≡ info_in v.servers o
+      go : (o : Option Name) → home_at v n ≡ o → face_in (info_in w.servers o) ≡ face_in (info_in v.servers o)
       go None e = refl
-      go (Some s) e = server_same a n s seen e
+      go (Some s) e = face_same a n s seen e
+
+  -- and so all that is read of it without that
+  pub info_alike : {P : Type 0} (read : Option ServerInfo → P) → ((i : ServerInfo) → read (Some (faced i)) ≡ read (Some i)) → Seen S v n → read (info_at w n) ≡ read (info_at v n)
+  info_alike read blind seen = face_reads read blind (info_at v n) (info_at w n) (info_seen seen)
+
+  -- and of one whose body it sees, all that is read of it with its text, if reading it gives the text
+  pub read_seen : {P : Type 0} (read : Option ServerInfo → P)
+      → ((i : ServerInfo) → reads_text (root_of i.kind i.text) ≡ false → (text : List ℕ) → known_text i.kind text ≡ known_text i.kind i.text → read (Some (with_text text i)) ≡ read (Some i))
+      → Coherent v → Sees S v (BodyOf n) → read (info_at w n) ≡ read (info_at v n)
+  read_seen read untold c s = go (home_at v n) refl
+    where
+      by : (q : Name) (i : ServerInfo) → home_at v n ≡ Some q → server_at v q ≡ Some i → (b : Bool) → reads_text (root_of i.kind i.text) ≡ b → read (info_at w n) ≡ read (info_at v n)
+      by q i home is true reads =
+          let root : n ≡ i.root = c.housing.lone n q i home is (reads_lone i.kind i.text reads) in
+          let sees : Sees S v (BodyOf i.root) = subst (λ m. Sees S v (BodyOf m)) root s in
+          let known : server_at w q ≡ server_at v q = server_known a q (i, is, InRoot reads sees.0 (subst (λ m. home_at v m ≡ Some q) root home) sees.1 sees.2 sees.3) in
+          ap (λ o. read (info_in w.servers o)) (home_same a n s.0 ∙ home) ∙ ap read known ∙ sym (ap (λ o. read (info_in v.servers o)) home)
+      by q i home is false out =
+          let here : info_at v n ≡ Some i = ap (info_in v.servers) home ∙ is in
+          let there = of_face i (info_at w n) (info_seen s.0 ∙ ap face_in here) in
+          let face : Some (faced (with_text there.0 i)) ≡ Some (faced i) = sym (ap face_in there.1) ∙ info_seen s.0 ∙ ap face_in here in
+          let known : known_text i.kind there.0 ≡ known_text i.kind i.text = let e : faced (with_text there.0 i) ≡ faced i = cc (face) in ap (λ (z : ServerInfo). z.text) e in
+          ap read there.1 ∙ untold i out there.0 known ∙ sym (ap read here)
+
+      go : (o : Option Name) → home_at v n ≡ o → read (info_at w n) ≡ read (info_at v n)
+      go None e = let none : info_at v n ≡ None = ap (info_in v.servers) e in ap read (none_faced (info_at w n) (info_seen s.0 ∙ ap face_in none)) ∙ sym (ap read none)
+      go (Some q) e = let l = home_server c n q e in by q l.0 e l.1 (reads_text (root_of l.0.kind l.0.text)) refl
 
   -- and whether it is a server's root
   pub is_root_same : Seen S v n → is_server_root w n ≡ is_server_root v n
-  is_root_same seen = root_info (nodes_of w) n ∙ ap (is_root_at n) (info_same seen) ∙ sym (root_info (nodes_of v) n)
+  is_root_same seen = root_info (nodes_of w) n ∙ info_alike (is_root_at n) (λ i. refl) seen ∙ sym (root_info (nodes_of v) n)
 
   -- and of one whose body it sees, the whole node
   pub seen_node : Sees S v (BodyOf n) → get w.nodes n ≡ get v.nodes n
@@ -304,49 +429,41 @@ module _ {S : ℕ → Bool} {v w : World} (a : Agree S v w) (n : Name) where
 
   -- what may be made in a directory whose entries S sees
   pub makes_same : (entry : Option (List ℕ)) (kind : Kind) → Sees S v (BodyOf n) → makes_at w n entry kind ≡ makes_at v n entry kind
-  makes_same entry kind s = ap₂ (made_by entry kind) (info_same s.0) (seen_node s)
+  makes_same entry kind s = ap (made_by entry kind (info_at w n)) (seen_node s) ∙ info_alike (λ i. made_by entry kind i (get v.nodes n)) (λ i. refl) s.0
 
   -- whether attributes of a node that S sees may be set
   pub sets_attrs_same : Seen S v n → sets_attrs_at w n ≡ sets_attrs_at v n
-  sets_attrs_same seen = ap (λ i. edit_by keeps_tree i (get w.nodes n)) (info_same seen) ∙ there_same (info_at v n) (get v.nodes n) (get w.nodes n) (header_same a n seen)
+  sets_attrs_same seen = info_alike (λ i. edit_by keeps_tree i (get w.nodes n)) (edit_face (get w.nodes n)) seen ∙ there_same (info_at v n) (get v.nodes n) (get w.nodes n) (header_same a n seen)
 
   -- whether the server of a node that S sees counts who reads
   pub counts_same : Seen S v n → counts_at w n ≡ counts_at v n
-  counts_same seen = ap counts_by (info_same seen)
+  counts_same seen = info_alike counts_by (λ i. refl) seen
 
   -- whether a node that S sees is a stream
   pub stream_same : Seen S v n → stream_at w n ≡ stream_at v n
-  stream_same seen = ap streams_by (info_same seen)
+  stream_same seen = info_alike streams_by (λ i. ap (λ r. r.is_stream) (root_told i.kind i.text)) seen
 
   -- how many bytes there are to read in one whose body it sees
-  pub readable_same : (at : ℕ) → Sees S v (BodyOf n) → readable_at w n at ≡ readable_at v n at
-  readable_same at s = ap₂ (λ i x. count_in (readable_by at i x)) (info_same s.0) (seen_node s)
+  pub readable_same : (at : ℕ) → Coherent v → Sees S v (BodyOf n) → readable_at w n at ≡ readable_at v n at
+  readable_same at c s = ap (λ x. count_in (readable_by at (info_at w n) x)) (seen_node s) ∙ read_seen (λ i. count_in (readable_by at i (get v.nodes n))) (readable_untold at (get v.nodes n)) c s
 
-  -- whatever is asked of a node whose body S sees
-  pub asked_seen : {T : Type 0} (q : Question T) → Sees S v (BodyOf n) → asked_at q n w ≡ asked_at q n v
-  asked_seen q s = ap₂ (asked_of q) (info_same s.0) (seen_node s)
+  -- whatever is asked of a node whose body S sees, and doesn't tell the text where reading doesn't
+  pub asked_seen : {T : Type 0} (q : Question T) → ((k : ServerKind) (text : List ℕ) → reads_text (root_of k text) ≡ false → IsUntold q k) → Coherent v → Sees S v (BodyOf n) → asked_at q n w ≡ asked_at q n v
+  asked_seen q untold c s =
+      ap (asked_of q (info_at w n)) (seen_node s)
+      ∙ read_seen (λ i. asked_of q i (get v.nodes n)) (λ i out text known. asked_untold q i (get v.nodes n) (untold i.kind i.text out) text known) c s
 
-  -- what is blind to the body, of any node that S sees
-  pub asked_same : {T : Type 0} (q : Question T) → ((k : ServerKind) (text : List ℕ) → IsBlindAt (behaviour_of k) text q) → Seen S v n → asked_at q n w ≡ asked_at q n v
-  asked_same q blind s =
-      ap (λ i. asked_of q i (get w.nodes n)) (info_same s) ∙ blind_same q blind (info_at v n) (get v.nodes n) (get w.nodes n) (header_same a n s)
+  -- what is blind to the body and to the text, of any node that S sees
+  pub asked_same : {T : Type 0} (q : Question T) → ((k : ServerKind) → IsBlind q k) → Seen S v n → asked_at q n w ≡ asked_at q n v
+  asked_same q blind s = blind_same q (info_at v n) (info_at w n) (get v.nodes n) (get w.nodes n) (λ k is. blind k.kind) (info_seen s) (header_same a n s)
 
   -- what is written into a node that S sees, of which S sees what is in it where its server counts who reads
-  pub written_same : (at : ℕ) (bs : List ℕ) → Seen S v n → (counts_at v n ≡ true → Sees S v (BodyOf n)) → asked_at (writing at bs) n w ≡ asked_at (writing at bs) n v
-  written_same at bs s sees = go (counts_at v n) refl
+  pub written_same : (at : ℕ) (bs : List ℕ) → Coherent v → Seen S v n → (counts_at v n ≡ true → Sees S v (BodyOf n)) → asked_at (writing at bs) n w ≡ asked_at (writing at bs) n v
+  written_same at bs c s sees = go (counts_at v n) refl
     where
-      blind : (i : Option ServerInfo) (o p : Option Node) → header_in p ≡ header_in o → counts_by i ≡ false → asked_of (writing at bs) i p ≡ asked_of (writing at bs) i o
-      blind None o p h out = refl
-      blind (Some i) None None h out = refl
-      blind (Some i) (Some x) (Some y) h out =
-          let header : y.header ≡ x.header = cc in
-          ap (λ (k : Header). writing at bs (behaviour_of i.kind) i.text (record { header = k; body = y.body })) header
-          ∙ (good i.kind).write_blind out i.text at bs x.header x.body y.body
-      blind (Some i) o p h out = absurd (cc)
-
       go : (b : Bool) → counts_at v n ≡ b → asked_at (writing at bs) n w ≡ asked_at (writing at bs) n v
-      go true e = asked_seen (writing at bs) (sees e)
-      go false e = ap (λ i. asked_of (writing at bs) i (get w.nodes n)) (info_same s) ∙ blind (info_at v n) (get v.nodes n) (get w.nodes n) (header_same a n s) e
+      go true e = asked_seen (writing at bs) (λ k text out. writing_untold at bs k) c (sees e)
+      go false e = blind_same (writing at bs) (info_at v n) (info_at w n) (get v.nodes n) (get w.nodes n) (λ k is. writing_blind at bs k.kind (sym (ap counts_by is) ∙ e)) (info_seen s) (header_same a n s)
 
 -- whether a node may get another name is the same of nodes of one header
 file_same : (name : List ℕ) (kin : Bool) (i : Option ServerInfo) (d o p : Option Node) → header_in p ≡ header_in o → link_by name kin i d p ≡ link_by name kin i d o
@@ -363,7 +480,8 @@ module _ {S : ℕ → Bool} {v w : World} (a : Agree S v w) (d n : Name) where
   pub links_same : (name : List ℕ) → Sees S v (BodyOf d) → Seen S v n → links_at w d name n ≡ links_at v d name n
   links_same name s seen =
       ap₂ (λ h k. link_by name (are_kin h k) (info_at w d) (get w.nodes d) (get w.nodes n)) (home_same a d s.0) (home_same a n seen)
-      ∙ ap₂ (λ i x. link_by name (are_kin (home_at v d) (home_at v n)) i x (get w.nodes n)) (info_same a d s.0) (seen_node a d s)
+      ∙ info_alike a d (λ i. link_by name (are_kin (home_at v d) (home_at v n)) i (get w.nodes d) (get w.nodes n)) (link_face name (are_kin (home_at v d) (home_at v n)) (get w.nodes d) (get w.nodes n)) s.0
+      ∙ ap (λ x. link_by name (are_kin (home_at v d) (home_at v n)) (info_at v d) x (get w.nodes n)) (seen_node a d s)
       ∙ file_same name (are_kin (home_at v d) (home_at v n)) (info_at v d) (get v.nodes d) (get v.nodes n) (get w.nodes n) (header_same a n seen)
 
 pub asked_plain : {T : Type 0} (q : Question T) → ((k : ServerKind) → IsPlainAnswer (behaviour_of k) q) → (n : Name) (w : World) → IsPlain (asked_at q n w)

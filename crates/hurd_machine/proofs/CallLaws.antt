@@ -1,7 +1,7 @@
 -- What is shown of a call, and the laws of one step that follow from it.
 use Rattle.std.proofs.Common.{◌≡◌, ◌≢◌, ℕ, Bool, true, false, Option, Some, None, refl, sym, ◌∙◌, ap, subst, inl, inr, true≢false}
 use Rattle.std.specs.Prelude.{Result, Ok, Err}
-use Rattle.hurd_machine.proofs.Common.{AttrOf, Below, BodyOf, CanCount, Coherent, Control, Counted, EmptyOf, Errno, Knows, Meaning, Name, Nothing, OfControl, OfNode, OfSeat, OpenOf, OptionsOf, Part, Plan, Reply, SameView, Seen, Sees, Sound, Task, TaskOf, UsersOf, World, after_plan, answered, asked_parts, handing_back, is_refused, looks, task_at}
+use Rattle.hurd_machine.proofs.Common.{AttrOf, Below, BodyOf, CanCount, Coherent, Control, Counted, EmptyOf, Errno, Knows, Meaning, Name, Nothing, OfControl, OfNode, OfSeat, OpenOf, OptionsOf, Part, Plan, Reply, SameView, Seen, Sees, Sound, Task, TaskOf, TextOf, UsersOf, World, after_plan, answered, asked_parts, handing_back, is_refused, looks, task_at}
 use Rattle.hurd_machine.specs.declared.call.Reply.TheVariants.{Refused}
 use Rattle.hurd_machine.specs.Plan.{returning}
 use Rattle.hurd_machine.proofs.Coherence.{AllProper, right_old, home_server}
@@ -37,11 +37,11 @@ answered_whole {A} {t} {T} {w} s x k h = answered_all (λ P. Whole t T w w P.cha
 
 -- of a call that changes nothing it is enough that it asks the same in worlds that agree, and isn't refused for want
 -- of memory
-pub looking_laws : {A : Type 0} (t : ℕ) (asks : World → Result A Errno) (reply : A → Reply) → ((S : ℕ → Bool) (v w : World) → Agree S v w → S t ≡ true → asks w ≡ asks v) → ((w : World) → IsPlain (asks w))
+pub looking_laws : {A : Type 0} (t : ℕ) (asks : World → Result A Errno) (reply : A → Reply) → ((S : ℕ → Bool) (v w : World) → Coherent v → Agree S v w → S t ≡ true → asks w ≡ asks v) → ((w : World) → IsPlain (asks w))
     → ((a : A) → is_refused (reply a) ≡ false) → CallLaws t (λ w. looks (asks w) reply) (λ w. Nothing)
 looking_laws t asks reply same plain told = record {
   piece = λ w s. answered_whole s (asks w) _ (λ a is. whole_none s);
-  same = λ S v w c d a ours. answered_same _ _ _ _ (same S v w a ours) (λ b is. refl);
+  same = λ S v w c d a ours. answered_same _ _ _ _ (same S v w c a ours) (λ b is. refl);
   plain = λ w. answered_plain _ _ (plain w) (λ a is. done_plain (reply a) (told a));
 }
 
@@ -72,6 +72,7 @@ sees_named S w c (EmptyOf n) sees new = new (seen_old c n sees.0)
 sees_named S w c (BodyOf n) sees new = new (seen_old c n sees.0)
 sees_named S w c (OpenOf o) sees new = new (subst (Below w) sees.2 (right_old c sees.1.task sees.1.seat sees.0 sees.1.is_task sees.1.here).1)
 sees_named S w c (OptionsOf s) sees new = new (known_named S w c s sees)
+sees_named S w c (TextOf s) sees new = new (c.given.servers s sees.0 sees.1)
 sees_named S w c (UsersOf s) sees new = new (c.given.servers s sees.info sees.is_server)
 sees_named S w c (TaskOf t) sees new = new
 

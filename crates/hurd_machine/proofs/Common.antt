@@ -58,7 +58,7 @@ pub use Rattle.hurd_machine.specs.Counted.{CanCount, Counted, HasOpens, has_mode
 pub use Rattle.hurd_machine.specs.Handle.{Named, any_mode, both_asks, handle_asks, port_asks}
 pub use Rattle.hurd_machine.specs.Plan.{Plan, Planned, after_plan, handing_back, is_refused, looks, refuse, told}
 unfoldable pub use Rattle.hurd_machine.specs.Plan.{answered, first, given, on}
-pub use Rattle.hurd_machine.specs.Sight.{ABody, ATask, AUsers, Active, Allowed, AnAttr, AnEmpty, AnOpen, AnOptions, AttrOf, BodyOf, ByBody, ByControl, ByNode, ByParent, BySeat, Child, Could, CouldServe, EmptyOf, GidOfRight, GidOfTask, HasGid, HasUid, Holds, IsGone, IsOpen, Knows, MaySend, OfControl, OfNode, OfSeat, OpenOf, OptionsOf, Owns, OwnsIt, Part, Pending, SameView, Seen, Sees, SeesBody, SeesEmpty, Sends, ServerRoot, Taken, Target, TaskOf, ToPut, ToRead, ToSearch, UidOfRight, UidOfTask, UsersOf, Way, bare, holders, is_on, part, tells, users, uses_server}
+pub use Rattle.hurd_machine.specs.Sight.{AText, ABody, ATask, AUsers, InRoot, SeesText, TextOf, ToControl, faced, reads_text, known_text, Active, Allowed, AnAttr, AnEmpty, AnOpen, AnOptions, AttrOf, BodyOf, ByBody, ByControl, ByNode, ByParent, BySeat, Child, Could, CouldServe, EmptyOf, GidOfRight, GidOfTask, HasGid, HasUid, Holds, IsGone, IsOpen, Knows, MaySend, OfControl, OfNode, OfSeat, OpenOf, OptionsOf, Owns, OwnsIt, Part, Pending, SameView, Seen, Sees, SeesBody, SeesEmpty, Sends, ServerRoot, Taken, Target, TaskOf, ToPut, ToRead, ToSearch, UidOfRight, UidOfTask, UsersOf, Way, bare, holders, is_on, part, tells, users, uses_server}
 pub use Rattle.hurd_machine.specs.Sound.{Above, AreDistinct, AreFilled, AreSeated, AreTables, AtRest, AtRoot, Below, CanBeAt, CanBeWritten, Coherent, Hangs, HasDistinctNames, IsFilled, IsGivenRight, LeadsUp, Linked, Sound, times_in}
 unfoldable pub use Rattle.hurd_machine.specs.Sound.{times_listed}
 pub use Rattle.hurd_machine.specs.Touched.{Nothing, OnDid, OnDrop, OnRight}

@@ -1,10 +1,11 @@
 -- What S sees in a world that stays inside what it saw: parts that it saw, and new things of its own tasks.
 use Rattle.std.proofs.Common.{true≢false, ◌≡◌, ◌⊎◌, ℕ, ◌≤◌, Bool, true, List, Some, sym, refl, ◌∙◌, subst, inl, inr, arith, false, Option, None}
-use Rattle.hurd_machine.proofs.Common.{Active, Allowed, AttrOf, Below, BodyOf, ByBody, ByControl, ByNode, ByParent, BySeat, Child, Coherent, Control, Could, CouldServe, Dir, EmptyOf, Exec, GidOfRight, GidOfTask, HasGid, HasUid, Header, Holds, Io, IoRight, IsAmong, IsOpen, Knows, MaySend, Name, OfControl, OfNode, OfSeat, OpenFlags, OpenOf, Opened, OptionsOf, Owns, OwnsIt, Part, Pending, READ, Read, Right, Seen, Sees, SeesBody, SeesEmpty, Sends, ServerInfo, ServerRoot, Start, Taken, Target, Task, TaskOf, ToPut, ToRead, ToSearch, UidOfRight, UidOfTask, UsersOf, WRITE, Want, Way, World, Write, active_at, asks, body_at, boot_root, counts_at, counts_by, counts_opens, entry_of, header_at, home_at, info_in, open_at, server_at, task_at, tells, with_text}
+use Rattle.hurd_machine.proofs.Common.{Active, Allowed, AttrOf, Below, BodyOf, ByBody, ByControl, ByNode, ByParent, BySeat, Child, Coherent, Control, Could, CouldServe, Dir, EmptyOf, Exec, GidOfRight, GidOfTask, HasGid, HasUid, Header, Holds, Io, IoRight, IsAmong, IsOpen, Knows, MaySend, Name, OfControl, OfNode, OfSeat, OpenFlags, OpenOf, Opened, OptionsOf, Owns, OwnsIt, Part, Pending, READ, Read, Right, Seen, Sees, SeesBody, SeesEmpty, Sends, ServerInfo, ServerRoot, Start, Taken, Target, Task, TaskOf, TextOf, SeesText, ToControl, InRoot, ToPut, ToRead, ToSearch, UidOfRight, UidOfTask, UsersOf, WRITE, Want, Way, World, Write, active_at, asks, body_at, boot_root, counts_at, counts_by, counts_opens, entry_of, header_at, home_at, info_in, open_at, server_at, task_at, tells, with_text}
 use Rattle.hurd_ports.specs.Tables.{nodes_of as nodes_named}
 use Rattle.hurd_machine.specs.Sight.{Root, Held, Controlled, Parent}
 use Rattle.hurd_machine.proofs.Coherence.{header_old, entry_old, home_old, right_old, entry_lists, home_server, seat_there}
 use Rattle.hurd_machine.proofs.Stays.{way_at, way_parent, way_with}
+use Rattle.hurd_machine.proofs.Faces.{reads_same}
 use Rattle.hurd_machine.proofs.Views.{knows_of}
 use Rattle.std.proofs.lemmas.Bool.{or_cases, or_left}
 
@@ -33,6 +34,7 @@ NewPart S v (EmptyOf n) = NewTo S v n
 NewPart S v (BodyOf n) = NewTo S v n
 NewPart S v (OpenOf o) = NewTo S v o
 NewPart S v (OptionsOf s) = NewTo S v s
+NewPart S v (TextOf s) = NewTo S v s
 NewPart S v (UsersOf s) = NewTo S v s
 NewPart S v (TaskOf t) = ⊥
 
@@ -315,6 +317,17 @@ module _ {S : ℕ → Bool} {v x : World} (coherent : Coherent v) (i : Inside S 
   users_inside q m (inr new) = inr new.0
   users_inside q m (inl is) = elim (sends_inside q m.info is.0 is.1 m.why) [ inl k ↦ inl (record { info = with_text is.0 m.info; is_server = is.1; other = m.other; why = k }) | inr new ↦ inr new ]
 
+  text_inside : (q : Name) (info : ServerInfo) → SeesText S x q info → ServerInside S v q info → Known S v (TextOf q)
+  text_inside q info why (inr new) = inr new.0
+  text_inside q info (ToControl sends) (inl is) = elim (sends_inside q info is.0 is.1 sends) [ inl k ↦ inl (with_text is.0 info, is.1, ToControl k) | inr new ↦ inr new ]
+  text_inside q info (InRoot reads sn en h eh body) (inl is) = elim (seen_inside info.root sn) [
+    | inl sr ↦ let l = header_before info.root h eh sr in inl (with_text is.0 info, is.1, InRoot (reads_same info.kind info.text is.0 ∙ reads) sr root l.0 l.1 (body_inside info.root h l.0 l.1 l.2 body))
+    | inr new ↦ absurd (new.1 (home_old coherent info.root q root))
+  ]
+    where
+      root : home_at v info.root ≡ Some q
+      root = coherent.housing.roots q (with_text is.0 info) is.1
+
   -- a part that is seen was seen, or is new
   pub sees_inside : (p : Part) → Sees S x p → Known S v p
   sees_inside (AttrOf n) s = seen_inside n s
@@ -333,5 +346,6 @@ module _ {S : ℕ → Bool} {v x : World} (coherent : Coherent v) (i : Inside S 
     | inr new ↦ inr (subst (NewTo S v) s.2 new)
   ]
   sees_inside (OptionsOf q) s = knows_inside q s
+  sees_inside (TextOf q) s = text_inside q s.0 s.2 (i.servers q s.0 s.1)
   sees_inside (UsersOf q) s = users_inside q s (i.servers q s.info s.is_server)
   sees_inside (TaskOf t) s = inl s

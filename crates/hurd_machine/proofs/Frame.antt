@@ -1,9 +1,10 @@
 -- What changes leave as it was.
-use Rattle.std.proofs.Common.{◌≡◌, ◌≢◌, ◌⊎◌, ℕ, Bool, false, List, [], ◌∷◌, ◌++◌, Some, length, sym, refl, ◌∙◌, ap, ap₂, subst, inl, inr, arith}
+use Rattle.std.proofs.Common.{◌≡◌, ◌≢◌, ◌⊎◌, ℕ, Bool, false, List, [], ◌∷◌, ◌++◌, Option, Some, None, length, sym, refl, ◌∙◌, ap, ap₂, subst, inl, inr, arith}
 use Rattle.std.specs.Option.{option_map}
 use Rattle.hurd_nodes.proofs.Sites.{home-apart}
-use Rattle.hurd_machine.proofs.Common.{ABody, ATask, AUsers, AnEmpty, AnOpen, AnOptions, AtRest, Attach, AttrOf, Below, BodyOf, Change, Coherent, Control, DropServer, EditBody, EditHeader, EditOpen, EditTask, EmptyOf, Io, IsGone, MakeNode, MakeOpen, Name, NameMap, OpenOf, OptionsOf, Part, Right, Sees, Send, ServerInfo, SetText, Settle, Sound, Start, Task, TaskOf, Unseat, UsersOf, World, apply, apply_all, body_at, count_list, edit, header_at, holders, home_at, is_empty_dir, is_on, names_open, new_site, one_if, open_at, part, rights_of, server_at, site_at, task_at, users, with_body, with_header, with_sent, with_text}
-use Rattle.hurd_creds.proofs.NameLaws.{same_name-apart, get_apart, edit_apart as edit_other}
+use Rattle.hurd_machine.proofs.Common.{ABody, ATask, AUsers, AnEmpty, AnOpen, AnOptions, AtRest, Attach, AttrOf, Below, BodyOf, Change, Coherent, Control, DropServer, EditBody, EditHeader, EditOpen, EditTask, EmptyOf, Io, IsGone, MakeNode, MakeOpen, Name, NameMap, OpenOf, OptionsOf, Part, Right, Sees, Send, ServerInfo, SetText, Settle, Sound, Start, Task, TaskOf, TextOf, AText, faced, Unseat, UsersOf, World, apply, apply_all, body_at, count_list, edit, header_at, holders, home_at, is_empty_dir, is_on, names_open, new_site, one_if, open_at, part, rights_of, server_at, site_at, task_at, users, with_body, with_header, with_sent, with_text}
+use Rattle.hurd_creds.proofs.NameLaws.{same_name-apart, get_apart, same_or_apart, edit_here, edit_apart as edit_other}
+use Rattle.hurd_machine.proofs.Faces.{face_in, text_in}
 use Rattle.hurd_ports.specs.Steps.{named}
 use Rattle.hurd_ports.proofs.TaskLaws.{edit-apart, edit-length}
 use Rattle.hurd_machine.specs.Change.{settle, next_nodes, next_sites, next_opens, next_tasks}
@@ -38,10 +39,10 @@ Within T w (EditOpen o f) = T (OpenOf o)
 Within T w (MakeOpen o z) = T (TaskOf o.task.0) × T (OpenOf o)
 Within T w (EditTask q f) = T (TaskOf q) × ((x : Task) → task_at w q ≡ Some x → Moved T w x (f x))
 Within T w (Send r q) = T (TaskOf q) × Covers T w r
-Within T w (Attach s at i node) = T (TaskOf s.task.0) × T (AttrOf i.root) × T (EmptyOf i.root) × T (BodyOf i.root) × T (AttrOf at) × T (OptionsOf s)
+Within T w (Attach s at i node) = T (TaskOf s.task.0) × T (AttrOf i.root) × T (EmptyOf i.root) × T (BodyOf i.root) × T (AttrOf at) × T (OptionsOf s) × T (TextOf s)
 Within T w (DropServer s) = (p : Part) → Goes w s p → T p
 Within T w (Unseat n) = T (AttrOf n)
-Within T w (SetText s text) = T (OptionsOf s)
+Within T w (SetText s text) = T (TextOf s) × ((i : ServerInfo) → server_at w s ≡ Some i → faced (with_text text i) ≡ faced i)
 Within T w Settle = Unit {0}
 
 abbrev pub AllWithin : (Part → Type 0) → World → List Change → Type 0
@@ -59,6 +60,7 @@ IsUnnamed w (EmptyOf n) = Below w n → ⊥
 IsUnnamed w (BodyOf n) = Below w n → ⊥
 IsUnnamed w (OpenOf o) = Below w o → ⊥
 IsUnnamed w (OptionsOf s) = Below w s → ⊥
+IsUnnamed w (TextOf s) = Below w s → ⊥
 IsUnnamed w (UsersOf s) = Below w s → ⊥
 IsUnnamed w (TaskOf t) = ⊥
 
@@ -145,9 +147,20 @@ module _ (w : World) (coherent : Coherent w) (T : Part → Type 0) where
   open_kept (MakeOpen k z) o i h = get_apart w.opens k z o (λ e. avoids (OpenOf o) (OpenOf k) i.1 h (ap OpenOf e))
   open_kept c o i h = refl
 
-  server_kept : (c : Change) → (s : Name) → Within T w c → (T (OptionsOf s) → ⊥) → server_at (next_world c w) s ≡ server_at w s
-  server_kept (SetText q text) s i h = edit_other w.servers q (with_text text) s (λ e. avoids (OptionsOf s) (OptionsOf q) i h (ap OptionsOf e))
-  server_kept c s i h = refl
+  text_kept : (c : Change) → (s : Name) → Within T w c → (T (TextOf s) → ⊥) → text_in (server_at (next_world c w) s) ≡ text_in (server_at w s)
+  text_kept (SetText q text) s i h = ap text_in (edit_other w.servers q (with_text text) s (λ e. avoids (TextOf s) (TextOf q) i.0 h (ap TextOf e)))
+  text_kept c s i h = refl
+
+  face_set : (q : Name) (text : List ℕ) (o : Option ServerInfo) → server_at w q ≡ o → ((i : ServerInfo) → server_at w q ≡ Some i → faced (with_text text i) ≡ faced i) → face_in (option_map (with_text text) o) ≡ face_in o
+  face_set q text None e same = refl
+  face_set q text (Some i) e same = ap Some (same i e)
+
+  face_kept : (c : Change) → (s : Name) → Within T w c → face_in (server_at (next_world c w) s) ≡ face_in (server_at w s)
+  face_kept (SetText q text) s i = elim (same_or_apart s q) [
+    | inl e ↦ rw e (ap face_in (edit_here w.servers q (with_text text)) ∙ face_set q text (server_at w q) refl i.1)
+    | inr apart ↦ ap face_in (edit_other w.servers q (with_text text) s apart)
+  ]
+  face_kept c s i = refl
 
   pub holders_kept : (c : Change) → Proper w c → (o : Name) → Within T w c → (T (OpenOf o) → ⊥) → holders (next_world c w) o ≡ holders w o
   holders_kept (EditTask q f) p o i h =
@@ -192,7 +205,8 @@ module _ (w : World) (coherent : Coherent w) (T : Part → Type 0) where
   next_frame c pr (EmptyOf n) i h = ap AnEmpty (empty_kept c n i h)
   next_frame c pr (BodyOf n) i h = ap ABody (body_kept c n i h)
   next_frame c pr (OpenOf o) i h = ap₂ AnOpen (open_kept c o i h) (holders_kept c pr o i h)
-  next_frame c pr (OptionsOf s) i h = ap AnOptions (server_kept c s i h)
+  next_frame c pr (OptionsOf s) i h = ap AnOptions (face_kept c s i)
+  next_frame c pr (TextOf s) i h = ap AText (text_kept c s i h)
   next_frame c pr (UsersOf s) i h = ap AUsers (users_kept c pr s i h)
   next_frame c pr (TaskOf q) i h = ap ATask (task_kept c q i h)
 
@@ -201,7 +215,7 @@ pub frame : (T : Part → Type 0) (w : World) → Coherent w → (c : Change) �
 frame T w c (Attach s at i node) ex pr p within out =
     ap (λ x. part x p) (attach_is w s at i node c (next_not w s pr.next))
     ∙ come_parts w c s at i node pr p (λ e. out (subst T (sym e) within.0)) (λ e. out (subst T (sym e) within.1)) (λ e. out (subst T (sym e) within.2)) (λ e. out (subst T (sym e) within.3))
-    (λ e. out (subst T (sym e) within.4)) (λ e. out (subst T (sym e) within.5))
+    (λ e. out (subst T (sym e) within.4)) (λ e. out (subst T (sym e) within.5)) (λ e. out (subst T (sym e) within.6))
 frame T w c (DropServer s) ex pr p within out = drop_parts w s p (λ goes. out (within p goes))
 frame T w c (Unseat n) ex pr p within out = unseated_parts w n p (λ e. out (subst T (sym e) within))
 frame T w c Settle ex pr p within out = absurd ex

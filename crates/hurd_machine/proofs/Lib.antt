@@ -1,6 +1,7 @@
 pub mod Common
 pub mod Tasks
 pub mod Nodes
+pub mod Faces
 pub mod Retained
 pub mod Sites
 pub mod Holders

@@ -1,7 +1,8 @@
 -- The same change of a task of S in two worlds that are alike for S: they are alike afterwards.
-use Rattle.std.proofs.Common.{◌≡◌, ◌⊎◌, ℕ, Bool, true, Some, length, sym, refl, ◌∙◌, ap, ap₂, subst, inl, inr, arith}
+use Rattle.std.proofs.Common.{◌≡◌, ◌⊎◌, ℕ, Bool, true, List, Some, length, sym, refl, ◌∙◌, ap, ap₂, subst, inl, inr, arith}
 use Rattle.std.specs.Option.{option_map}
-use Rattle.hurd_machine.proofs.Common.{ABody, ATask, AUsers, AnEmpty, AnOpen, AnOptions, Attach, AttrOf, BodyOf, Change, Coherent, Control, DropServer, EditBody, EditHeader, EditOpen, EditTask, EmptyOf, Io, IsAmong, MakeNode, MakeOpen, Name, OpenOf, OptionsOf, Part, Right, Send, SetText, Settle, Start, Task, TaskOf, Unseat, UsersOf, World, apply, body_at, count_rights, edit_task, get, header_at, holders, home_at, is_empty_dir, is_home, is_on, names_open, new_site, one_if, open_at, part, rights_of, server_at, site_at, task_at, users, with_body, with_header, with_sent, with_text}
+use Rattle.hurd_machine.proofs.Faces.{face_in, text_in, face-with_text, text-with_text}
+use Rattle.hurd_machine.proofs.Common.{ABody, ATask, AUsers, AnEmpty, AnOpen, AnOptions, Attach, AttrOf, BodyOf, Change, Coherent, Control, DropServer, EditBody, EditHeader, EditOpen, EditTask, EmptyOf, Io, IsAmong, MakeNode, MakeOpen, Name, OpenOf, OptionsOf, Part, Right, Send, SetText, Settle, Start, Task, TaskOf, TextOf, AText, ServerInfo, faced, Unseat, UsersOf, World, apply, body_at, count_rights, edit_task, get, header_at, holders, home_at, is_empty_dir, is_home, is_on, names_open, new_site, one_if, open_at, part, rights_of, server_at, site_at, task_at, users, with_body, with_header, with_sent, with_text}
 use Rattle.hurd_nodes.proofs.Sites.{home-apart}
 use Rattle.hurd_creds.proofs.NameLaws.{same_or_apart, edit_apart}
 use Rattle.hurd_ports.specs.Steps.{named}
@@ -36,9 +37,13 @@ module _ (x y : World) where
   body_alike (MakeNode k s node) n h = insert_alike body_in x.nodes y.nodes k n node h
   body_alike c n h = h
 
-  server_alike : (c : Change) → (s : Name) → server_at y s ≡ server_at x s → server_at (next_world c y) s ≡ server_at (next_world c x) s
-  server_alike (SetText q text) s h = edit_alike (λ z. z) (option_map (with_text text)) (with_text text) (λ z. refl) x.servers y.servers q s h
-  server_alike c s h = h
+  face_alike : (c : Change) → (s : Name) → face_in (server_at y s) ≡ face_in (server_at x s) → face_in (server_at (next_world c y) s) ≡ face_in (server_at (next_world c x) s)
+  face_alike (SetText q text) s h = edit_alike face_in (option_map (λ (i : ServerInfo). faced (with_text text i))) (with_text text) (face-with_text text) x.servers y.servers q s h
+  face_alike c s h = h
+
+  text_alike : (c : Change) → (s : Name) → text_in (server_at y s) ≡ text_in (server_at x s) → text_in (server_at (next_world c y) s) ≡ text_in (server_at (next_world c x) s)
+  text_alike (SetText q text) s h = edit_alike text_in (option_map (λ (old : List ℕ). text)) (with_text text) (text-with_text text) x.servers y.servers q s h
+  text_alike c s h = h
 
   -- a change of a body that is alike, or whose emptiness afterwards is settled by that before
   abbrev EmptinessSettled : Change → Type 0
@@ -142,7 +147,8 @@ module _ (S : ℕ → Bool) (v x y : World) (before : Inside S v x) (cx : Cohere
     next_same (EmptyOf n) known = let e = alike.parts (EmptyOf n) known in ap AnEmpty (empty_alike x y c (emptiness c m) n (cc))
     next_same (BodyOf n) known = let e = alike.parts (BodyOf n) known in ap ABody (body_alike x y c n (cc))
     next_same (OpenOf o) known = let e = alike.parts (OpenOf o) known in ap₂ AnOpen (open_alike x y c o (cc)) (holders_alike c px py m o (cc))
-    next_same (OptionsOf s) known = let e = alike.parts (OptionsOf s) known in ap AnOptions (server_alike x y c s (cc))
+    next_same (OptionsOf s) known = let e = alike.parts (OptionsOf s) known in ap AnOptions (face_alike x y c s (cc))
+    next_same (TextOf s) known = let e = alike.parts (TextOf s) known in ap AText (text_alike x y c s (cc))
     next_same (UsersOf s) known = let e = alike.parts (UsersOf s) known in ap AUsers (users_alike c px py m after s (cc))
     next_same (TaskOf q) known = let e = alike.parts (TaskOf q) known in ap ATask (task_alike x y c q (cc))
 

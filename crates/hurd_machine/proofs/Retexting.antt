@@ -1,7 +1,7 @@
 -- A server gets another text, and its nodes their sizes, as a piece of any call.
 use Rattle.std.proofs.Common.{◌≡◌, ◌≢◌, arith, length, map, ℕ, Bool, true, false, List, [], ◌∷◌, Option, Some, None, sym, refl, ◌∙◌, ap, subst, inl, inr}
 use Rattle.std.specs.Prelude.{is_some}
-use Rattle.hurd_machine.proofs.Common.{AreFilled, AttrOf, Change, Coherent, IsAmong, IsFilled, Name, NameMap, Node, NodeMap, OptionsOf, Part, ServerInfo, SetText, Site, Sound, World, apply_all, changes_of, edit, edit_all, empty, entries, entries-insert, eq_by_cmp, get, get-empty, home_at, home_in, info_in, insert, is_home, list_any, name_cmp, own_nodes, put, retain_keys, retexting, server_at, size_of, sizing, with_header, with_size, with_text}
+use Rattle.hurd_machine.proofs.Common.{AreFilled, AttrOf, Change, Coherent, IsAmong, IsFilled, Name, NameMap, Node, NodeMap, TextOf, faced, known_text, Part, ServerInfo, SetText, Site, Sound, World, apply_all, changes_of, edit, edit_all, empty, entries, entries-insert, eq_by_cmp, get, get-empty, home_at, home_in, info_in, insert, is_home, list_any, name_cmp, own_nodes, put, retain_keys, retexting, server_at, size_of, sizing, with_header, with_size, with_text}
 use Rattle.std.specs.Option.{option_map}
 use Rattle.std.specs.FinMap.{keys, contains_key-keys, len-entries, len-empty}
 use Rattle.hurd_nodes.proofs.Sites.{site-of}
@@ -11,6 +11,7 @@ use Rattle.hurd_trans_iface.specs.Meaning.{root_of, targets_of}
 use Rattle.hurd_trans_iface.specs.Good.{KeepsRoot}
 use Rattle.hurd_trans_iface.proofs.BodyLaws.{size_has}
 use Rattle.hurd_machine.specs.World.{nodes_of}
+use Rattle.hurd_machine.specs.Sight.{is_link}
 use Rattle.hurd_machine.proofs.Nodes.{edited_from, server_home}
 use Rattle.hurd_machine.proofs.Sites.{home_is}
 use Rattle.hurd_machine.proofs.Coherence.{AllProper, KeepsShape}
@@ -132,10 +133,10 @@ module _ (w : World) (s : Name) (i : ServerInfo) where
 
   -- a text that the server may get: it has its root alone
   abbrev pub MayGet : Option (List ℕ) → Type 0
-  MayGet o = (text : List ℕ) → o ≡ Some text → KeepsRoot (behaviour_of i.kind) text
+  MayGet o = (text : List ℕ) → o ≡ Some text → KeepsRoot (behaviour_of i.kind) text × (is_link (root_of i.kind text).crossing ≡ false)
 
   root_alone : Coherent w → server_at w s ≡ Some i → (text : List ℕ) → MayGet (Some text) → (n : Name) → home_at w n ≡ Some s → n ≡ i.root
-  root_alone c is text keeps n home = c.housing.lone n s i home is (keeps text refl).lone
+  root_alone c is text keeps n home = c.housing.lone n s i home is (keeps text refl).0.lone
 
   -- which gets the size that the text says
   retexts_filled : Coherent w → server_at w s ≡ Some i → (text : List ℕ) → MayGet (Some text) → KeepsFilled w (retexting w s i (Some text))
@@ -158,7 +159,7 @@ module _ (w : World) (s : Name) (i : ServerInfo) where
               let same : with_text text i ≡ j = cc in
               let l = edited_from (sized (size_of i.kind text)) (get w.nodes n) x (sym (sized_here (size_of i.kind text) own w.nodes n (own_here s n w.sites home)) ∙ e) in
               let old = fit n l.0 i l.1 (ap (info_in w.servers) home ∙ is) in
-              subst (λ (z : ServerInfo). IsFilled z x) same (subst (IsFilled (with_text text i)) l.2 (sym ((keeps text refl).sized l.0.body), old.1, size_has (Some (size_of i.kind text)) i.kind l.0.header old.2))
+              subst (λ (z : ServerInfo). IsFilled z x) same (subst (IsFilled (with_text text i)) l.2 (sym ((keeps text refl).0.sized l.0.body), old.1, size_has (Some (size_of i.kind text)) i.kind l.0.header old.2))
 
           -- or of another
           there : (q : Name) → home_at w n ≡ Some q → q ≢ s → IsFilled j x
@@ -167,24 +168,32 @@ module _ (w : World) (s : Name) (i : ServerInfo) where
               fit n x j (sym (sized_apart (size_of i.kind text) own w.nodes n other) ∙ e)
               (ap (info_in w.servers) home ∙ sym (edit_apart w.servers s (with_text text) q apart) ∙ sym (ap (info_in left.servers) home) ∙ ej)
 
-  pub retexts_whole : {t : ℕ} {T : Part → Type 0} → Sound w → server_at w s ≡ Some i → (o : Option (List ℕ)) → MayGet o → T (OptionsOf s) → T (AttrOf i.root) → Whole t T w w (retexting w s i o)
+  pub retexts_whole : {t : ℕ} {T : Part → Type 0} → Sound w → server_at w s ≡ Some i → (o : Option (List ℕ)) → MayGet o → T (TextOf s) → T (AttrOf i.root) → Whole t T w w (retexting w s i o)
   retexts_whole {t} {T} st is None keeps options attr = whole_none st
   retexts_whole {t} {T} st is (Some text) keeps options attr =
       let k : ℕ = size_of i.kind text in
       let set : World = record w { servers = edit s (with_text text) w.servers } in
       let l = sizes_piece k T own set (λ n among. subst (λ m. T (AttrOf m)) (sym (root_alone st.coherent is text keeps n (own_home s n w.sites among))) attr) in
       quiet (retexting w s i (Some text)) (tt, l.2) (tt, λ c. l.5) st (record {
-        within = (options, l.0);
+        within = ((options, unseen), l.0);
         proper = (fits, λ one. l.1);
         linked = linked_steady (retexting w s i (Some text)) w (tt, l.3) st.linked;
         filled = retexts_filled st.coherent is text keeps st.filled;
         may = λ S ours. (tt, l.4 S w);
       })
     where
+      -- its readers alone were given the text that it had, and are given this one
+      unseen : (j : ServerInfo) → server_at w s ≡ Some j → faced (with_text text j) ≡ faced j
+      unseen j e =
+          let same : i ≡ j = cc (is, e) in
+          let k = keeps text refl in
+          let hidden : known_text i.kind text ≡ known_text i.kind i.text = rw (k.0.rooted i.text, k.1) refl in
+          subst (λ (z : ServerInfo). faced (with_text text z) ≡ faced z) same (ap (λ (x : List ℕ). with_text x i) hidden)
+
       fits : KeepsShape w s text
       fits j e =
           let same : i ≡ j = cc (is, e) in
-          let k = keeps text refl in
+          let k = (keeps text refl).0 in
           subst (λ (z : ServerInfo). (root_of z.kind text ≡ root_of z.kind z.text) × (targets_of z.kind text ≡ targets_of z.kind z.text)) same (sym (k.rooted i.text), sym (k.aimed i.text))
 
 -- in two worlds where it is known as the same server the piece is the same

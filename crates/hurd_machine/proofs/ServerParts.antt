@@ -1,7 +1,8 @@
 -- What each part of a world is after a server came or went, or lost its seat.
 use Rattle.std.proofs.Common.{◌≡◌, ◌≢◌, ◌⊎◌, ℕ, not, Bool, true, false, cond, List, [], ◌∷◌, Option, Some, None, slice_get, sym, refl, ◌∙◌, ap, ap₂, inl, inr, arith}
-use Rattle.hurd_machine.proofs.Common.{ABody, ATask, AUsers, AnEmpty, AnOpen, AnOptions, AttrOf, Below, BodyOf, Coherent, Control, DropServer, EmptyOf, Io, IoRight, IsAmong, Name, Node, OpenOf, OptionsOf, Part, Right, ServerInfo, Start, Task, TaskOf, Unseat, UsersOf, World, active_at, apply, count_list, count_rights, edit_task, get, holders, home_at, insert, is_home, is_on, is_other, names_open, new_site, open_at, part, rights_of, server_at, site_at, users, vacated, with_active}
+use Rattle.hurd_machine.proofs.Common.{ABody, ATask, AUsers, AnEmpty, AnOpen, AnOptions, AttrOf, Below, BodyOf, Coherent, Control, DropServer, EmptyOf, Io, IoRight, IsAmong, Name, Node, OpenOf, OptionsOf, Part, Right, ServerInfo, Start, Task, TaskOf, TextOf, AText, Unseat, UsersOf, World, active_at, apply, count_list, count_rights, edit_task, get, holders, home_at, insert, is_home, is_on, is_other, names_open, new_site, open_at, part, rights_of, server_at, site_at, users, vacated, with_active}
 use Rattle.std.specs.Option.{option_map}
+use Rattle.hurd_machine.proofs.Faces.{face_in, text_in}
 use Rattle.hurd_nodes.proofs.Sites.{home-was, home-stays, home-edited, none-left, site-left, home_by}
 use Rattle.hurd_machine.proofs.Sites.{idle_site, home_is, not_home}
 use Rattle.hurd_nodes.proofs.PartLaws.{same_bool}
@@ -63,17 +64,18 @@ module _ (w : World) (c : Coherent w) (s at : Name) (i : ServerInfo) (node : Nod
   come_users q = users_named w come c s p.next 2 i.root (root_new w c s at i node p) (come_home w c s at i node p) refl q
 
   -- it leaves all parts but those that are its own, and its seat's
-  pub come_parts : (k : Part) → k ≢ TaskOf s.task.0 → k ≢ AttrOf i.root → k ≢ EmptyOf i.root → k ≢ BodyOf i.root → k ≢ AttrOf at → k ≢ OptionsOf s → part come k ≡ part w k
-  come_parts (AttrOf n) task attr emptiness body seat options =
+  pub come_parts : (k : Part) → k ≢ TaskOf s.task.0 → k ≢ AttrOf i.root → k ≢ EmptyOf i.root → k ≢ BodyOf i.root → k ≢ AttrOf at → k ≢ OptionsOf s → k ≢ TextOf s → part come k ≡ part w k
+  come_parts (AttrOf n) task attr emptiness body seat options text =
       let apart : n ≢ i.root = λ e. attr (ap AttrOf e) in
       attr_same (ap header_in (get_apart w.nodes i.root node n apart))
       (edit_apart (insert w.sites i.root (new_site s)) at (with_active (Some s)) n (λ e. seat (ap AttrOf e)) ∙ get_apart w.sites i.root (new_site s) n apart)
-  come_parts (EmptyOf n) task attr emptiness body seat options = ap (λ (o : Option Node). AnEmpty (empty_in o)) (get_apart w.nodes i.root node n (λ e. emptiness (ap EmptyOf e)))
-  come_parts (BodyOf n) task attr emptiness body seat options = ap (λ (o : Option Node). ABody (body_in o)) (get_apart w.nodes i.root node n (λ e. body (ap BodyOf e)))
-  come_parts (OpenOf o) task attr emptiness body seat options = ap (AnOpen (open_at w o)) (come_holders o)
-  come_parts (OptionsOf q) task attr emptiness body seat options = ap AnOptions (get_apart w.servers s i q (λ e. options (ap OptionsOf e)))
-  come_parts (UsersOf q) task attr emptiness body seat options = ap AUsers (come_users q)
-  come_parts (TaskOf t) task attr emptiness body seat options = ap ATask (edit-apart s.task.0 (named 2) w.tasks t (λ e. task (ap TaskOf e)))
+  come_parts (EmptyOf n) task attr emptiness body seat options text = ap (λ (o : Option Node). AnEmpty (empty_in o)) (get_apart w.nodes i.root node n (λ e. emptiness (ap EmptyOf e)))
+  come_parts (BodyOf n) task attr emptiness body seat options text = ap (λ (o : Option Node). ABody (body_in o)) (get_apart w.nodes i.root node n (λ e. body (ap BodyOf e)))
+  come_parts (OpenOf o) task attr emptiness body seat options text = ap (AnOpen (open_at w o)) (come_holders o)
+  come_parts (OptionsOf q) task attr emptiness body seat options text = ap (λ o. AnOptions (face_in o)) (get_apart w.servers s i q (λ e. options (ap OptionsOf e)))
+  come_parts (TextOf q) task attr emptiness body seat options text = ap (λ o. AText (text_in o)) (get_apart w.servers s i q (λ e. text (ap TextOf e)))
+  come_parts (UsersOf q) task attr emptiness body seat options text = ap AUsers (come_users q)
+  come_parts (TaskOf t) task attr emptiness body seat options text = ap ATask (edit-apart s.task.0 (named 2) w.tasks t (λ e. task (ap TaskOf e)))
 
 -- and what is alike before it came is so after
 module _ (x y : World) (cx : Coherent x) (cy : Coherent y) (s at : Name) (i : ServerInfo) (node : Node) (px : Comes x s at i node) (py : Comes y s at i node) where
@@ -87,7 +89,8 @@ module _ (x y : World) (cx : Coherent x) (cy : Coherent y) (s at : Name) (i : Se
   come_alike (OpenOf o) e =
       let held : holders y o ≡ holders x o = cc in
       ap₂ AnOpen (cc) (come_holders y cy s at i node py o ∙ held ∙ sym (come_holders x cx s at i node px o))
-  come_alike (OptionsOf q) e = ap AnOptions (insert_alike (λ z. z) x.servers y.servers s q i (cc))
+  come_alike (OptionsOf q) e = ap AnOptions (insert_alike face_in x.servers y.servers s q i (cc))
+  come_alike (TextOf q) e = ap AText (insert_alike text_in x.servers y.servers s q i (cc))
   come_alike (UsersOf q) e = let used : users y q ≡ users x q = cc in ap AUsers (come_users y cy s at i node py q ∙ used ∙ sym (come_users x cx s at i node px q))
   come_alike (TaskOf t) e = ap ATask (edit_same s.task.0 (named 2) x.tasks y.tasks t (cc))
 
@@ -123,7 +126,8 @@ module _ (w : World) (s : Name) where
   drop_parts (EmptyOf n) out = ap (λ (o : Option Node). AnEmpty (empty_in o)) (node_after n ∙ ap (λ b. cond (not b) (get w.nodes n) None) (not_home s (home_at w n) out))
   drop_parts (BodyOf n) out = ap (λ (o : Option Node). ABody (body_in o)) (node_after n ∙ ap (λ b. cond (not b) (get w.nodes n) None) (not_home s (home_at w n) out))
   drop_parts (OpenOf o) out = refl
-  drop_parts (OptionsOf q) out = ap AnOptions (server_apart q out)
+  drop_parts (OptionsOf q) out = ap (λ o. AnOptions (face_in o)) (server_apart q out)
+  drop_parts (TextOf q) out = ap (λ o. AText (text_in o)) (server_apart q out)
   drop_parts (UsersOf q) out = ap AUsers (users_apart q out)
   drop_parts (TaskOf t) out = refl
 
@@ -148,6 +152,12 @@ module _ (x y : World) (s : Name) where
       ap f (node_after y s n) ∙ ap (λ o. f (cond (not (is_home s o)) (get y.nodes n) None)) home
       ∙ none_map f (not (is_home s (home_at x n))) (get y.nodes n) (get x.nodes n) e ∙ sym (ap f (node_after x s n))
 
+  server_read : {B : Type 0} (f : Option ServerInfo → B) (q : Name) → f (server_at y q) ≡ f (server_at x q) → f (server_at left_y q) ≡ f (server_at left_x q)
+  server_read f q e = elim (same_or_apart q s) [
+    | inl same ↦ ap f (rw same (remove_here y.servers s ∙ sym (remove_here x.servers s)))
+    | inr apart ↦ ap f (server_apart y s q apart) ∙ e ∙ sym (ap f (server_apart x s q apart))
+  ]
+
   -- (the home is that of the part's node)
   pub drop_alike : (k : Part) → ((n : Name) → (k ≡ EmptyOf n) ⊎ (k ≡ BodyOf n) → home_at y n ≡ home_at x n) → part y k ≡ part x k → part left_y k ≡ part left_x k
   drop_alike (AttrOf n) homes e =
@@ -156,10 +166,8 @@ module _ (x y : World) (s : Name) where
   drop_alike (EmptyOf n) homes e = ap AnEmpty (read empty_in n (homes n (inl refl)) (cc))
   drop_alike (BodyOf n) homes e = ap ABody (read body_in n (homes n (inr refl)) (cc))
   drop_alike (OpenOf o) homes e = e
-  drop_alike (OptionsOf q) homes e = ap AnOptions (elim (same_or_apart q s) [
-    | inl same ↦ rw same (remove_here y.servers s ∙ sym (remove_here x.servers s))
-    | inr apart ↦ let server : server_at y q ≡ server_at x q = cc (e) in server_apart y s q apart ∙ server ∙ sym (server_apart x s q apart)
-  ])
+  drop_alike (OptionsOf q) homes e = ap AnOptions (server_read face_in q (cc))
+  drop_alike (TextOf q) homes e = ap AText (server_read text_in q (cc))
   drop_alike (UsersOf q) homes e = ap AUsers (elim (same_or_apart q s) [
     | inl same ↦ rw same (users_gone y s ∙ sym (users_gone x s))
     | inr apart ↦ let used : users y q ≡ users x q = cc (e) in users_apart y s q apart ∙ used ∙ sym (users_apart x s q apart)

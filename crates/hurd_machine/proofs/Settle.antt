@@ -1,7 +1,7 @@
 -- A world is settled once what nothing names is gone: who sees it sees the same; and changes that leave a world settled.
 use Rattle.std.proofs.Common.{◌≡◌, ◌⊎◌, ℕ, Bool, true, List, [], ◌∷◌, Option, Some, None, slice_get, nat_lt, sym, refl, ◌∙◌, ap, ap₂, subst, inl, inr}
 use Rattle.std.specs.Option.{option_map}
-use Rattle.hurd_machine.proofs.Common.{ABody, AUsers, Active, AnAttr, AnEmpty, AnOpen, AnOptions, AtRest, Attach, AttrOf, Body, BodyOf, Change, Child, Coherent, DropServer, EditBody, EditHeader, EditOpen, EditTask, EmptyOf, Header, Holds, IdSets, Io, IoRight, IsAmong, IsGone, IsSettled, Knows, Linked, MakeNode, MakeOpen, Name, Node, NodeMap, NodeState, OfControl, OfNode, OfSeat, OpenFlags, OpenOf, OptionsOf, Part, Pending, Seen, Sees, Send, ServerInfo, ServerRoot, SetText, Settle, Site, Start, Target, Task, TaskOf, Unseat, UsersOf, Way, World, apply, apply_all, body_at, edit, edit_task, fresh, get, header_at, holders, home_at, is_empty_dir, is_entered, is_entered_at, is_held, is_home, namings, new_open, new_right, new_site, open_at, outside, part, porting, ports_of, server_at, site_at, stays, task_at, users, with_body, with_header, with_port, with_sent, with_text, world_from}
+use Rattle.hurd_machine.proofs.Common.{ABody, AUsers, Active, AnAttr, AnEmpty, AnOpen, AnOptions, AtRest, Attach, AttrOf, Body, BodyOf, Change, Child, Coherent, DropServer, EditBody, EditHeader, EditOpen, EditTask, EmptyOf, Header, Holds, IdSets, Io, IoRight, IsAmong, IsGone, IsSettled, Knows, Linked, MakeNode, MakeOpen, Name, Node, NodeMap, NodeState, OfControl, OfNode, OfSeat, OpenFlags, OpenOf, OptionsOf, Part, Pending, Seen, Sees, Send, ServerInfo, ServerRoot, SetText, Settle, Site, Start, Target, Task, TaskOf, TextOf, AText, faced, Unseat, UsersOf, Way, World, apply, apply_all, body_at, edit, edit_task, fresh, get, header_at, holders, home_at, is_empty_dir, is_entered, is_entered_at, is_held, is_home, namings, new_open, new_right, new_site, open_at, outside, part, porting, ports_of, server_at, site_at, stays, task_at, users, with_body, with_header, with_port, with_sent, with_text, world_from}
 use Rattle.hurd_machine.proofs.Sites.{seat_kept}
 use Rattle.hurd_nodes.proofs.Sites.{home-here, home-apart, home_by}
 use Rattle.hurd_creds.proofs.NameLaws.{same_or_apart, get_here, get_apart, edit_here, edit_apart}
@@ -25,7 +25,8 @@ use Rattle.hurd_machine.proofs.Swept.{root_stays, boot_stays, entry_stays, paren
 use Rattle.hurd_machine.proofs.Coherence.{was, entry_lists, home_server}
 use Rattle.hurd_machine.proofs.Texts.{server_was, held_yet, stays_kept}
 use Rattle.hurd_machine.proofs.Rights.{port_keeps, port_has}
-use Rattle.hurd_machine.proofs.Views.{Agree, Agree-refl, Agree-trans}
+use Rattle.hurd_machine.proofs.Views.{Agree, Agree-refl, Agree-trans, text_known}
+use Rattle.hurd_machine.proofs.Faces.{face_in, text_in}
 use Rattle.hurd_machine.proofs.ServerParts.{users_by}
 
 -- what is left once a world is settled stays
@@ -102,7 +103,8 @@ module _ (S : ℕ → Bool) (w : World) (c : Coherent w) (l : Linked (nodes_of w
       same (EmptyOf n) s = seen_still (λ o r. AnEmpty (empty_in o)) n s.0
       same (BodyOf n) s = seen_still (λ o r. ABody (body_in o)) n s.0
       same (OpenOf o) s = refl
-      same (OptionsOf q) s = ap AnOptions (retained w.servers (server_stays w) q (known_lives q s))
+      same (OptionsOf q) s = ap (λ o. AnOptions (face_in o)) (retained w.servers (server_stays w) q (known_lives q s))
+      same (TextOf q) s = ap (λ o. AText (text_in o)) (retained w.servers (server_stays w) q (known_lives q (text_known S w q s.0 s.2)))
       same (UsersOf q) s = ap AUsers (users_still w c q)
       same (TaskOf t) s = refl
 
@@ -133,12 +135,16 @@ module _ (x : World) (c : Coherent x) where
     | inr k ↦ inr (ap₂ read (dropped x.nodes (stays x) n k) (dropped x.sites (stays x) n k))
   ]
 
+  sweep_server : (read : Option ServerInfo → Value) (s : Name) → (read (server_at (sweep x) s) ≡ read (server_at x s)) ⊎ (read (server_at (sweep x) s) ≡ read None)
+  sweep_server read s = elim (cases_Bool (server_stays x s)) [ inl k ↦ inl (ap read (retained x.servers (server_stays x) s k)) | inr k ↦ inr (ap read (dropped x.servers (server_stays x) s k)) ]
+
   sweep_part : (p : Part) → (part (sweep x) p ≡ part x p) ⊎ IsGone (sweep x) p
   sweep_part (AttrOf n) = sweep_node (λ o r. AnAttr (header_in o) r) n
   sweep_part (EmptyOf n) = sweep_node (λ o r. AnEmpty (empty_in o)) n
   sweep_part (BodyOf n) = sweep_node (λ o r. ABody (body_in o)) n
   sweep_part (OpenOf o) = inl refl
-  sweep_part (OptionsOf s) = elim (cases_Bool (server_stays x s)) [ inl k ↦ inl (ap AnOptions (retained x.servers (server_stays x) s k)) | inr k ↦ inr (ap AnOptions (dropped x.servers (server_stays x) s k)) ]
+  sweep_part (OptionsOf s) = sweep_server (λ o. AnOptions (face_in o)) s
+  sweep_part (TextOf s) = sweep_server (λ o. AText (text_in o)) s
   sweep_part (UsersOf s) = inl (ap AUsers (users_still x c s))
   sweep_part (TaskOf t) = inl refl
 
@@ -148,7 +154,8 @@ sweep_gone x (AttrOf n) e =
     attr_same (ap header_in (none_retained x.nodes (stays x) n (none_mapped (λ z. z.header) (get x.nodes n) (cc)))) (none_retained x.sites (stays x) n (cc))
 sweep_gone x (EmptyOf n) e = ap (λ (o : Option Node). AnEmpty (empty_in o)) (none_retained x.nodes (stays x) n (none_mapped (λ z. z.body) (get x.nodes n) (none_mapped is_empty_dir (body_at x n) (cc))))
 sweep_gone x (BodyOf n) e = ap (λ (o : Option Node). ABody (body_in o)) (none_retained x.nodes (stays x) n (none_mapped (λ z. z.body) (get x.nodes n) (cc)))
-sweep_gone x (OptionsOf s) e = ap AnOptions (none_retained x.servers (server_stays x) s (cc))
+sweep_gone x (OptionsOf s) e = ap (λ o. AnOptions (face_in o)) (none_retained x.servers (server_stays x) s (none_mapped faced (server_at x s) (cc)))
+sweep_gone x (TextOf s) e = ap (λ o. AText (text_in o)) (none_retained x.servers (server_stays x) s (none_mapped (λ (i : ServerInfo). i.text) (server_at x s) (cc)))
 sweep_gone x p e = absurd e
 
 -- letting opens go leaves each part but those, and such as a world at rest had

@@ -1,6 +1,7 @@
 -- Changes one after another, settling among them: they show the same in worlds that agree.
 use Rattle.std.proofs.Common.{Some, ◌≡◌, ℕ, Bool, false, List, [], ◌∷◌, Option, sym, refl, ◌∙◌, ap, ap₂, subst, inl, inr}
-use Rattle.hurd_machine.proofs.Common.{ABody, AUsers, AnEmpty, AnOpen, AnOptions, AttrOf, Below, BodyOf, Change, Coherent, Control, EmptyOf, Io, IsAmong, Linked, Name, Node, OpenOf, OptionsOf, Part, Right, Settle, Start, Task, TaskOf, UsersOf, World, apply, apply_all, holders, names_open, part, rights_of, task_at, users}
+use Rattle.hurd_machine.proofs.Faces.{face_in, text_in}
+use Rattle.hurd_machine.proofs.Common.{ABody, AUsers, AnEmpty, AnOpen, AnOptions, AttrOf, Below, BodyOf, Change, Coherent, Control, EmptyOf, Io, IsAmong, Linked, Name, Node, OpenOf, OptionsOf, Part, Right, Settle, Start, Task, TaskOf, TextOf, AText, UsersOf, World, apply, apply_all, holders, names_open, part, rights_of, task_at, users}
 use Rattle.hurd_creds.proofs.NameLaws.{same_name-apart}
 use Rattle.hurd_machine.specs.World.{nodes_of}
 use Rattle.hurd_machine.specs.Change.{settle}
@@ -49,7 +50,8 @@ new_same cv cw a (BodyOf n) new = ap (λ (o : Option Node). ABody (body_in o)) (
 new_same {S} {v} {w} cv cw a (OpenOf o) new =
     let out = new_there a o new in
     ap₂ AnOpen (no_open cw o out ∙ sym (no_open cv o new.1)) (no_holders w cw o out ∙ sym (no_holders v cv o new.1))
-new_same {S} {v} {w} cv cw a (OptionsOf s) new = ap AnOptions (no_server cw s (new_there a s new) ∙ sym (no_server cv s new.1))
+new_same {S} {v} {w} cv cw a (OptionsOf s) new = ap (λ o. AnOptions (face_in o)) (no_server cw s (new_there a s new) ∙ sym (no_server cv s new.1))
+new_same {S} {v} {w} cv cw a (TextOf s) new = ap (λ o. AText (text_in o)) (no_server cw s (new_there a s new) ∙ sym (no_server cv s new.1))
 new_same {S} {v} {w} cv cw a (UsersOf s) new = ap AUsers (no_users w cw s (new_there a s new) ∙ sym (no_users v cv s new.1))
 new_same cv cw a (TaskOf t) new = absurd new
 

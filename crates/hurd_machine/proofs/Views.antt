@@ -1,14 +1,20 @@
 -- What a set of tasks sees is settled by the parts that it sees: where those are the same in two worlds, it sees the same
 -- parts in both.
-use Rattle.std.proofs.Common.{◌≡◌, inl, inr, ℕ, Bool, true, Some, sym, refl, ◌∙◌, ap, length, Option, None}
-use Rattle.hurd_machine.proofs.Common.{Active, Allowed, AttrOf, BodyOf, ByBody, ByControl, ByNode, ByParent, BySeat, Child, Control, Could, CouldServe, EmptyOf, Exec, GidOfRight, GidOfTask, HasGid, HasUid, Header, Holds, IdSets, Io, IoRight, IsOpen, Knows, Name, OfControl, OfNode, OfSeat, OpenOf, OptionsOf, Owns, Part, Pending, Read, Right, SameView, Seen, Sees, SeesBody, SeesEmpty, Sends, ServerInfo, ServerRoot, Start, Taken, Target, TaskOf, ToPut, ToRead, ToSearch, UidOfRight, UidOfTask, UsersOf, Want, Way, World, Write, active_at, body_at, counts_at, counts_by, entry_of, header_at, home_at, info_in, open_at, part, server_at, task_at, tells}
+use Rattle.std.proofs.Common.{List, ◌≡◌, inl, inr, ℕ, Bool, true, Some, sym, refl, ◌∙◌, ap, length, Option, None}
+use Rattle.hurd_machine.proofs.Common.{Active, Allowed, AttrOf, BodyOf, ByBody, ByControl, ByNode, ByParent, BySeat, Child, Control, Could, CouldServe, EmptyOf, Exec, GidOfRight, GidOfTask, HasGid, HasUid, Header, Holds, IdSets, Io, IoRight, IsOpen, Knows, Name, OfControl, OfNode, OfSeat, OpenOf, OptionsOf, Owns, Part, Pending, Read, Right, SameView, Seen, Sees, SeesBody, SeesEmpty, Sends, ServerInfo, ServerRoot, Start, Taken, Target, TaskOf, SeesText, TextOf, InRoot, ToControl, with_text, ToPut, ToRead, ToSearch, UidOfRight, UidOfTask, UsersOf, Want, Way, World, Write, active_at, body_at, counts_at, counts_by, entry_of, header_at, home_at, info_in, open_at, part, server_at, task_at, tells}
 use Rattle.hurd_machine.specs.Sight.{Root, Held, Controlled, Parent}
+use Rattle.hurd_machine.proofs.Faces.{face_in, face_reads, of_face, none_faced, reads_same, whole}
 
 -- a server that S may send away it knows
 pub knows_of : (S : ℕ → Bool) (w : World) (s : Name) (i : ServerInfo) → Sends S w s i → Knows S w s
 knows_of S w s i (ByControl h) = OfControl h
 knows_of S w s i (ByNode n sn en could) = OfNode n sn en
 knows_of S w s i (BySeat n h sn en eh owns) = OfSeat n sn en
+
+-- and so it does one whose text it sees
+pub text_known : (S : ℕ → Bool) (w : World) (s : Name) (i : ServerInfo) → SeesText S w s i → Knows S w s
+text_known S w s i (ToControl sends) = knows_of S w s i sends
+text_known S w s i (InRoot reads seen home h eh body) = OfNode i.root seen home
 
 -- the parts that S sees in v are the same in w
 pub record Agree (S : ℕ → Bool) (v w : World) : Type 0 where
@@ -59,14 +65,18 @@ module _ (S : ℕ → Bool) (v w : World) (tasks : SameTasks S v w) (equal : (p 
   active_moved : {n s : Name} → Seen S v n → Seen S w n → active_at v n ≡ Some s → active_at w n ≡ Some s
   active_moved {n} s s' e = let same = equal (AttrOf n) s s' in cc
 
-  server_moved : {s : Name} {i : ServerInfo} → Knows S v s → Knows S w s → server_at v s ≡ Some i → server_at w s ≡ Some i
-  server_moved {s} k k' e = let same = equal (OptionsOf s) k k' in cc
+  face_moved : {s : Name} → Knows S v s → Knows S w s → face_in (server_at w s) ≡ face_in (server_at v s)
+  face_moved {s} k k' = let same = equal (OptionsOf s) k k' in cc
+
+  -- a server that is known is there, but for its text
+  server_moved : {s : Name} {i : ServerInfo} → Knows S v s → Knows S w s → server_at v s ≡ Some i → (text : List ℕ) × (server_at w s ≡ Some (with_text text i))
+  server_moved {s} {i} k k' e = of_face i (server_at w s) (face_moved k k' ∙ ap face_in e)
 
   Seen-moved : (n : Name) → Seen S v n → Seen S w n
   Seen-moved n (Root e) = Root e
   Seen-moved n (Held r h e) = Held r (held (Io r) h) e
   Seen-moved n (Way r p h i e) = Way r p (held (Io r) h) i e
-  Seen-moved n (Controlled s i h es e) = let h' = held (Control s) h in Controlled s i h' (server_moved (OfControl h) (OfControl h') es) e
+  Seen-moved n (Controlled s i h es e) = let h' = held (Control s) h in let m = server_moved (OfControl h) (OfControl h') es in Controlled s (with_text m.0 i) h' m.1 e
   Seen-moved n (Pending h) = Pending (held (Start n) h)
   Seen-moved n (Child d h name s eh k c en) =
       let s' = Seen-moved d s in
@@ -79,16 +89,18 @@ module _ (S : ℕ → Bool) (v w : World) (tasks : SameTasks S v w) (equal : (p 
   Seen-moved n (Active m s i sm em es e) =
       let sm' = Seen-moved m sm in
       let em' = active_moved sm sm' em in
-      Active m s i sm' em' (server_moved (OfSeat m sm em) (OfSeat m sm' em') es) e
+      let m' = server_moved (OfSeat m sm em) (OfSeat m sm' em') es in
+      Active m s (with_text m'.0 i) sm' em' m'.1 e
   Seen-moved n (ServerRoot m s i sm em es c e) =
       let sm' = Seen-moved m sm in
       let em' = home_moved sm sm' em in
-      ServerRoot m s i sm' em' (server_moved (OfNode m sm em) (OfNode m sm' em') es) (served i c) e
+      let m' = server_moved (OfNode m sm em) (OfNode m sm' em') es in
+      ServerRoot m s (with_text m'.0 i) sm' em' m'.1 (served i c) e
   Seen-moved n (Target m s i sm em es aim) =
       let sm' = Seen-moved m sm in
       elim em [
-        | inl h ↦ let h' = home_moved sm sm' h in Target m s i sm' (inl h') (server_moved (OfNode m sm h) (OfNode m sm' h') es) aim
-        | inr a ↦ let a' = active_moved sm sm' a in Target m s i sm' (inr a') (server_moved (OfSeat m sm a) (OfSeat m sm' a') es) aim
+        | inl h ↦ let h' = home_moved sm sm' h in let m' = server_moved (OfNode m sm h) (OfNode m sm' h') es in Target m s (with_text m'.0 i) sm' (inl h') m'.1 aim
+        | inr a ↦ let a' = active_moved sm sm' a in let m' = server_moved (OfSeat m sm a) (OfSeat m sm' a') es in Target m s (with_text m'.0 i) sm' (inr a') m'.1 aim
       ]
 
   -- whether the server of a node that S sees counts who reads
@@ -99,9 +111,7 @@ module _ (S : ℕ → Bool) (v w : World) (tasks : SameTasks S v w) (equal : (p 
       go None e = refl
       go (Some q) e =
           let known = OfNode n s e in
-          let same = equal (OptionsOf q) known (OfNode n s' (home_moved s s' e)) in
-          let server : server_at w q ≡ server_at v q = cc in
-          ap counts_by server
+          face_reads counts_by (λ i. refl) (server_at v q) (server_at w q) (face_moved known (OfNode n s' (home_moved s s' e)))
 
   SeesBody-moved : (n : Name) (h : Header) → Seen S v n → SeesBody S v n h → SeesBody S w n h
   SeesBody-moved n h s (ToRead c) = ToRead (could h Read c)
@@ -122,12 +132,17 @@ module _ (S : ℕ → Bool) (v w : World) (tasks : SameTasks S v w) (equal : (p 
   Knows-moved s (OfSeat n sn en) = let sn' = Seen-moved n sn in OfSeat n sn' (active_moved sn sn' en)
   Knows-moved s (OfControl h) = OfControl (held (Control s) h)
 
-  Sends-moved : (s : Name) (i : ServerInfo) → Sends S v s i → Sends S w s i
-  Sends-moved s i (ByControl h) = ByControl (held (Control s) h)
-  Sends-moved s i (ByNode n sn en c) = let sn' = Seen-moved n sn in ByNode n sn' (home_moved sn sn' en) (served i c)
-  Sends-moved s i (BySeat n h sn en eh owns) =
+  Sends-moved : (s : Name) (i : ServerInfo) (text : List ℕ) → Sends S v s i → Sends S w s (with_text text i)
+  Sends-moved s i text (ByControl h) = ByControl (held (Control s) h)
+  Sends-moved s i text (ByNode n sn en c) = let sn' = Seen-moved n sn in ByNode n sn' (home_moved sn sn' en) (served i c)
+  Sends-moved s i text (BySeat n h sn en eh owns) =
       let sn' = Seen-moved n sn in
       BySeat n h sn' (active_moved sn sn' en) (header_moved sn sn' eh) (owns.0, HasUid-kept v w tasks owns.0 owns.1, owns.2)
+
+  SeesText-moved : (s : Name) (i : ServerInfo) (text : List ℕ) → SeesText S v s i → SeesText S w s (with_text text i)
+  SeesText-moved s i text (ToControl sends) = ToControl (Sends-moved s i text sends)
+  SeesText-moved s i text (InRoot reads sn en h eh body) =
+      let sn' = Seen-moved i.root sn in InRoot (reads_same i.kind i.text text ∙ reads) sn' (home_moved sn sn' en) h (header_moved sn sn' eh) (SeesBody-moved i.root h sn body)
 
   Sees-moved : (p : Part) → Sees S v p → Sees S w p
   Sees-moved (AttrOf n) s = Seen-moved n s
@@ -135,9 +150,14 @@ module _ (S : ℕ → Bool) (v w : World) (tasks : SameTasks S v w) (equal : (p 
   Sees-moved (BodyOf n) s = let s' = Seen-moved n s.0 in (s', s.1, header_moved s.0 s' s.2, SeesBody-moved n s.1 s.0 s.3)
   Sees-moved (OpenOf o) s = (s.0, held (Io s.0) s.1, s.2)
   Sees-moved (OptionsOf q) s = Knows-moved q s
+  Sees-moved (TextOf q) s =
+      let known = text_known S v q s.0 s.2 in
+      let m = server_moved known (Knows-moved q known) s.1 in
+      (with_text m.0 s.0, m.1, SeesText-moved q s.0 m.0 s.2)
   Sees-moved (UsersOf q) s =
       let known = knows_of S v q s.info s.why in
-      record { info = s.info; is_server = server_moved known (Knows-moved q known) s.is_server; other = s.other; why = Sends-moved q s.info s.why }
+      let m = server_moved known (Knows-moved q known) s.is_server in
+      record { info = with_text m.0 s.info; is_server = m.1; other = s.other; why = Sends-moved q s.info m.0 s.why }
   Sees-moved (TaskOf t) s = s
 
 module _ {S : ℕ → Bool} {v w : World} (a : Agree S v w) where
@@ -159,11 +179,23 @@ module _ {S : ℕ → Bool} {v w : World} (a : Agree S v w) where
   pub open_same : (r : IoRight) → Holds S v (Io r) → open_at w r.open_name ≡ open_at v r.open_name
   open_same r h = let e = a.parts (OpenOf r.open_name) (r, h, refl) in cc
 
-  pub server_known : (s : Name) → Knows S v s → server_at w s ≡ server_at v s
-  server_known s k = let e = a.parts (OptionsOf s) k in cc
+  -- a server that S knows is the same but for its text, and one whose text it sees is the same
+  pub face_known : (s : Name) → Knows S v s → face_in (server_at w s) ≡ face_in (server_at v s)
+  face_known s k = let e = a.parts (OptionsOf s) k in cc
 
-  pub server_same : (n s : Name) → Seen S v n → home_at v n ≡ Some s → server_at w s ≡ server_at v s
-  server_same n s seen is = server_known s (OfNode n seen is)
+  pub face_same : (n s : Name) → Seen S v n → home_at v n ≡ Some s → face_in (server_at w s) ≡ face_in (server_at v s)
+  face_same n s seen is = face_known s (OfNode n seen is)
+
+  pub server_known : (s : Name) → Sees S v (TextOf s) → server_at w s ≡ server_at v s
+  server_known s k = whole (server_at v s) (server_at w s) (face_known s (text_known S v s k.0 k.2)) (let e = a.parts (TextOf s) k in cc)
+
+  -- one that S controls is the same
+  pub control_known : (s : Name) → Holds S v (Control s) → server_at w s ≡ server_at v s
+  control_known s h = go (server_at v s) refl
+    where
+      go : (o : Option ServerInfo) → server_at v s ≡ o → server_at w s ≡ server_at v s
+      go None e = none_faced (server_at w s) (face_known s (OfControl h) ∙ ap face_in e) ∙ sym e
+      go (Some i) e = server_known s (i, e, ToControl (ByControl h))
 
   -- S sees the same parts in both
   pub Sees-kept : (p : Part) → Sees S v p → Sees S w p

@@ -1,8 +1,9 @@
 -- Whom a set of tasks may act for, which nodes it sees, and which parts of a world.
-use Rattle.std.specs.Prelude.{◌≡◌, ◌≢◌, ◌⊎◌, ◌↔◌, ◌&&◌, ◌||◌, ℕ, Bool, true, false, List, Option, Some, None, length}
+use Rattle.std.specs.Prelude.{if◌then◌else◌, not, ◌≡◌, ◌≢◌, ◌⊎◌, ◌↔◌, ◌&&◌, ◌||◌, ℕ, Bool, true, false, List, [], Option, Some, None, length}
 use Rattle.std.specs.Option.{option_map}
 use Rattle.hurd_creds.specs.declared.name.Name.{Name}
-use Rattle.hurd_creds.specs.declared.attrs.Kind.TheVariants.{Dir}
+use Rattle.hurd_creds.specs.declared.attrs.Kind.{Kind}
+use Rattle.hurd_creds.specs.declared.attrs.Kind.TheVariants.{Dir, File}
 use Rattle.hurd_creds.specs.declared.attrs.Want.{Want}
 use Rattle.hurd_creds.specs.declared.attrs.Want.TheVariants.{Read, Write, Exec}
 use Rattle.hurd_creds.specs.declared.attrs.Attrs.{Attrs}
@@ -11,10 +12,14 @@ use Rattle.hurd_creds.specs.Access.{IdSets, holds_uid, holds_gid, may}
 use Rattle.hurd_creds.specs.Bits.{asks, READ, WRITE}
 use Rattle.hurd_trans_iface.specs.Nodes.{Header, Body, attrs_with, is_empty_dir}
 use Rattle.hurd_trans_iface.specs.Answers.{entry_of}
+use Rattle.hurd_trans_iface.specs.Meaning.{ServerKind, root_of}
+use Rattle.hurd_trans_iface.specs.declared.root.Crossing.{Crossing}
+use Rattle.hurd_trans_iface.specs.declared.root.Crossing.TheVariants.{Link, Plain}
+use Rattle.hurd_trans_iface.specs.declared.root.Root.{Root as Shape}
 use Rattle.hurd_nodes.specs.declared.seat.Site.{Site}
 use Rattle.hurd_creds.specs.NameMaps.{NameMap}
 use Rattle.hurd_nodes.specs.Held.{home_in, is_home}
-use Rattle.hurd_nodes.specs.Shown.{ServerInfo, boot_name}
+use Rattle.hurd_nodes.specs.Shown.{ServerInfo, boot_name, with_text}
 use Rattle.hurd_ports.specs.declared.table.Opened.{Opened}
 use Rattle.hurd_ports.specs.declared.parents.Parent.{Parent as Pair}
 use Rattle.hurd_ports.specs.declared.table.IoRight.{IoRight}
@@ -116,7 +121,8 @@ pub data Part : Type 0 where
   EmptyOf : Name → Part  -- whether a directory is empty
   BodyOf : Name → Part  -- a node's bytes or entries
   OpenOf : Name → Part  -- an open, and how many rights hold it
-  OptionsOf : Name → Part  -- a server
+  OptionsOf : Name → Part  -- a server, but for its text, unless that is a link's
+  TextOf : Name → Part  -- the text of a server
   UsersOf : Name → Part  -- how many rights there are on a server's nodes
   TaskOf : ℕ → Part  -- a task
 
@@ -138,6 +144,24 @@ pub data SeesEmpty (S : ℕ → Bool) (w : World) (n : Name) (h : Header) : Type
   ByBody : SeesBody S w n h → SeesEmpty S w n h
   ByParent : (p : Name) (a : Header) → h.parent ≡ Some p → header_at w p ≡ Some a → Could S w a Write → SeesEmpty S w n h
 
+-- whether reading the root of a server gives its text: it is a file that is no stream, and at which a lookup goes on
+
+abbrev pub is_file : Kind → Bool
+is_file File = true
+is_file _ = false
+
+abbrev pub goes_on : Crossing → Bool
+goes_on Plain = true
+goes_on _ = false
+
+abbrev pub reads_text : Shape → Bool
+reads_text r = is_file r.kind && (not r.is_stream && goes_on r.crossing)
+
+-- why S sees the text of a server: it may send it away, and so may control it, or it sees what is in its root, and reading that gives the text
+pub data SeesText (S : ℕ → Bool) (w : World) (s : Name) (i : ServerInfo) : Type 0 where
+  ToControl : Sends S w s i → SeesText S w s i
+  InRoot : reads_text (root_of i.kind i.text) ≡ true → Seen S w i.root → home_at w i.root ≡ Some s → (h : Header) → header_at w i.root ≡ Some h → SeesBody S w i.root h → SeesText S w s i
+
 -- the parts that S sees
 abbrev pub Sees : (ℕ → Bool) → World → Part → Type 0
 Sees S w (AttrOf n) = Seen S w n
@@ -145,6 +169,7 @@ Sees S w (EmptyOf n) = Seen S w n × (h : Header) × (header_at w n ≡ Some h) 
 Sees S w (BodyOf n) = Seen S w n × (h : Header) × (header_at w n ≡ Some h) × SeesBody S w n h
 Sees S w (OpenOf o) = (r : IoRight) × Holds S w (Io r) × (r.open_name ≡ o)
 Sees S w (OptionsOf s) = Knows S w s
+Sees S w (TextOf s) = (i : ServerInfo) × (server_at w s ≡ Some i) × SeesText S w s i
 Sees S w (UsersOf s) = MaySend S w s
 Sees S w (TaskOf t) = S t ≡ true
 
@@ -166,6 +191,19 @@ holders w o = count_rights (names_open o) w.tasks
 abbrev pub users : World → Name → ℕ
 users w s = count_rights (is_on w s) w.tasks
 
+-- whether a lookup is told the text: that of a link's root
+abbrev pub is_link : Crossing → Bool
+is_link (Link absolute) = true
+is_link _ = false
+
+-- the text that whoever knows a server is told: a link's alone
+abbrev pub known_text : ServerKind → List ℕ → List ℕ
+known_text k text = if is_link (root_of k text).crossing then text else []
+
+-- a server as whoever knows it sees it: without its text, unless that is a link's
+abbrev pub faced : ServerInfo → ServerInfo
+faced i = with_text (known_text i.kind i.text) i
+
 -- what a part is
 pub data Value : Type 0 where
   AnAttr : Option Header → Option Site → Value
@@ -173,6 +211,7 @@ pub data Value : Type 0 where
   ABody : Option Body → Value
   AnOpen : Option Opened → ℕ → Value
   AnOptions : Option ServerInfo → Value
+  AText : Option (List ℕ) → Value
   AUsers : ℕ → Value
   ATask : Option Task → Value
 
@@ -182,7 +221,8 @@ part w (AttrOf n) = AnAttr (header_at w n) (site_at w n)
 part w (EmptyOf n) = AnEmpty (option_map is_empty_dir (body_at w n))
 part w (BodyOf n) = ABody (body_at w n)
 part w (OpenOf o) = AnOpen (open_at w o) (holders w o)
-part w (OptionsOf s) = AnOptions (server_at w s)
+part w (OptionsOf s) = AnOptions (option_map faced (server_at w s))
+part w (TextOf s) = AText (option_map (λ (i : ServerInfo). i.text) (server_at w s))
 part w (UsersOf s) = AUsers (users w s)
 part w (TaskOf t) = ATask (task_at w t)
 
@@ -192,6 +232,7 @@ IsGone w (AttrOf n) = part w (AttrOf n) ≡ AnAttr None None
 IsGone w (EmptyOf n) = part w (EmptyOf n) ≡ AnEmpty None
 IsGone w (BodyOf n) = part w (BodyOf n) ≡ ABody None
 IsGone w (OptionsOf s) = part w (OptionsOf s) ≡ AnOptions None
+IsGone w (TextOf s) = part w (TextOf s) ≡ AText None
 IsGone w p = ⊥
 
 -- two worlds have the same view for S: S sees the same parts in both, and they are equal; and there are as many tasks

@@ -6,7 +6,7 @@ use Rattle.hurd_trans_iface.specs.Behaviour.{Did}
 use Rattle.hurd_ports.specs.declared.table.Right.{Right}
 use Rattle.hurd_ports.specs.declared.table.Right.TheVariants.{Io, Control, Start}
 use Rattle.hurd_machine.specs.World.{World, home_at, active_at, counts_at}
-use Rattle.hurd_machine.specs.Sight.{Part, AttrOf, EmptyOf, BodyOf, OpenOf, OptionsOf, UsersOf}
+use Rattle.hurd_machine.specs.Sight.{Part, AttrOf, EmptyOf, BodyOf, OpenOf, OptionsOf, TextOf, UsersOf}
 
 -- the parts that follow from what a call asks; a refused call touches none
 unfoldable pub asked_parts : {A : Type 0} → Result A Errno → (A → Part → Type 0) → Part → Type 0
@@ -46,6 +46,7 @@ Goes w s (AttrOf n) = (home_at w n ≡ Some s) ⊎ (active_at w n ≡ Some s)
 Goes w s (EmptyOf n) = home_at w n ≡ Some s
 Goes w s (BodyOf n) = home_at w n ≡ Some s
 Goes w s (OptionsOf q) = q ≡ s
+Goes w s (TextOf q) = q ≡ s
 Goes w s (UsersOf q) = q ≡ s
 Goes w s p = ⊥
 

@@ -2,11 +2,14 @@
 use Rattle.std.proofs.Common.{◌≡◌, ◌∙◌, ◌⊎◌, inl, inr, sym, refl, ap, subst, ℕ, Bool, true, List, [], ◌∷◌, if◌then◌else◌}
 use Rattle.std.specs.Prelude.{◌↔◌, ◌||◌, ◌&&◌, not, is_some, Option, Some, slice_get}
 use Rattle.std.specs.FinMap as fin
-use Rattle.hurd_machine.proofs.Common.{ByBody, ByControl, ByNode, ByParent, BySeat, Control, Could, CouldServe, Dir, Exec, Header, Holds, IdSets, Io, IoRight, IsAmong, IsOpen, Knows, MaySend, Name, NodeState, OfControl, OfNode, OfSeat, Opened, OwnsIt, PortState, READ, Read, Right, Seen, Sees, SeesBody, SeesEmpty, Sends, ServerInfo, Start, Task, TaskId, ToPut, ToRead, ToSearch, WRITE, Want, World, Write, active_at, asks, bare, boot_name, counts_at, flat_map, header_at, header_of, home_at, is_dir, open_at, owns, put, same_name, server_at, world_from}
+use Rattle.hurd_machine.proofs.Common.{BodyOf, InRoot, SeesText, TextOf, ToControl, is_home, ByBody, ByControl, ByNode, ByParent, BySeat, Control, Could, CouldServe, Dir, Exec, Header, Holds, IdSets, Io, IoRight, IsAmong, IsOpen, Knows, MaySend, Name, NodeState, OfControl, OfNode, OfSeat, Opened, OwnsIt, PortState, READ, Read, Right, Seen, Sees, SeesBody, SeesEmpty, Sends, ServerInfo, Start, Task, TaskId, ToPut, ToRead, ToSearch, WRITE, Want, World, Write, active_at, asks, bare, boot_name, counts_at, flat_map, header_at, header_of, home_at, is_dir, open_at, owns, put, same_name, server_at, world_from}
 use Rattle.std.specs.Global.{Vec}
 use Rattle.std.proofs.lemmas.Bool.{or_cases, or_left, or_right, and_parts, and_from, not-true}
 use Rattle.hurd_creds.proofs.NameLaws.{equal_if_same, same_name-itself, apart_if_not_same, same_name-apart}
-use Rattle.hurd_machine.specs.World.{nodes_of}
+use Rattle.hurd_machine.specs.World.{nodes_of, shape_at, shape_by}
+use Rattle.hurd_machine.specs.Sight.{reads_text}
+use Rattle.hurd_nodes.specs.Shown.{info_in}
+use Rattle.hurd_trans_iface.specs.Meaning.{root_of}
 use Rattle.hurd_sight.specs.Reach.{Gathers, Reaches, among, could_with, serves}
 use Rattle.hurd_sight.specs.Found.{FoundAll, IsSight, is_found}
 use Rattle.hurd_sight.specs.declared.found.Why.{Why}
@@ -14,7 +17,7 @@ use Rattle.hurd_sight.specs.declared.held.RightNames.{RightNames}
 use Rattle.hurd_sight.specs.declared.looks.Sight.{Sight}
 use Rattle.hurd_sight.specs.declared.parts.SeenPart.TheVariants as seen
 use Rattle.hurd_sight.specs.Parts.{HasFor, HasOpen, KnownByNode, SentByNode, control_of, is_for, is_in, known_at, maybe_named, named, no_names, node_for, of_found, open_of, owned_by, part_of, rights_at, rights_held, sendable_at, served_by, served_in, with_right, with_rights}
-use Rattle.hurd_sight.specs.Looks.{Gathered, Looks, PartsAreSeen, could_write, puts_with, reads_with, sees_with, tells_empty, writes_at}
+use Rattle.hurd_sight.specs.Looks.{Gathered, Looks, PartsAreSeen, could_write, puts_with, reads_with, sees_with, shows_root, shows_text, tells_empty, tells_text, writes_at}
 use Rattle.hurd_sight.proofs.CouldLaws.{could_is_enough}
 use Rattle.hurd_sight.proofs.ReachLaws.{any_found, listed_task, ours, reach_is_gathered, owns_is, served_is}
 use Rattle.hurd_sight.proofs.SightLaws.{found_is_seen}
@@ -23,6 +26,9 @@ use Rattle.hurd_sight.proofs.NameLaws.{kind_with, named_are}
 use Rattle.hurd_machine.proofs.Tasks.{among_cases, among_left, among_right}
 use Rattle.hurd_machine.proofs.Listed.{dir_kind}
 use Rattle.hurd_machine.proofs.Holders.{any_among}
+use Rattle.hurd_machine.proofs.Sites.{home_is}
+use Rattle.hurd_nodes.proofs.PartLaws.{mapped-some}
+use Rattle.std.specs.Option.{option_map}
 use Rattle.std.proofs.Math.Bool.{or-true}
 
 pub both_ways : {A B C : Type 0} → (A ↔ B) → (B ↔ C) → (A ↔ C)
@@ -355,11 +361,46 @@ module _ (S : ℕ → Bool) (w : World) (v : Sight) (l : Looks S w v) where
         (and_from (is_some (fin.get w.servers s)) (is_in s v.sendable || is_in s v.rights.controlled) (ap is_some m.is_server) (sends_from s m.info m.is_server m.why)),
   )
 
+  -- what the root of a server is, by the server of the node
+  root_shape : (s root : Name) (i : ServerInfo) → home_at w root ≡ Some s → server_at w s ≡ Some i → shape_at (nodes_of w) root ≡ Some (root_of i.kind i.text)
+  root_shape s root i home is = ap (λ (o : Option Name). shape_by (info_in w.servers o)) home ∙ ap shape_by is
+
+  -- a text, by the root of its server
+  text_to : (s root : Name) (i : ServerInfo) → server_at w s ≡ Some i → i.root ≡ root → shows_text (nodes_of w) v s (Some root) ≡ true → SeesText S w s i
+  text_to s root i is at e = elim (or_cases (is_in s v.sendable || is_in s v.rights.controlled) (shows_root (nodes_of w) v s root) e) [
+    | inl sent ↦ ToControl (sends_to s i is sent)
+    | inr shown ↦
+        let p = and_parts (is_home s (home_at w root)) (tells_text (shape_at (nodes_of w) root) && sees_with (nodes_of w) v (seen.Body root)) shown in
+        let q = and_parts (tells_text (shape_at (nodes_of w) root)) (sees_with (nodes_of w) v (seen.Body root)) p.1 in
+        let here : home_at w root ≡ Some s = home_is s (home_at w root) p.0 in
+        let home : home_at w i.root ≡ Some s = ap (home_at w) at ∙ here in
+        let reads : reads_text (root_of i.kind i.text) ≡ true = sym (ap tells_text (root_shape s root i here is)) ∙ q.0 in
+        let body : Sees S w (BodyOf i.root) = subst (λ n. Sees S w (BodyOf n)) (sym at) ((body_seen root).0 q.1) in
+        InRoot reads body.0 home body.1 body.2 body.3
+  ]
+
+  text_from : (s : Name) (i : ServerInfo) → server_at w s ≡ Some i → SeesText S w s i → shows_text (nodes_of w) v s (Some i.root) ≡ true
+  text_from s i is (ToControl sends) = or_left (is_in s v.sendable || is_in s v.rights.controlled) (shows_root (nodes_of w) v s i.root) (sends_from s i is sends)
+  text_from s i is (InRoot reads sees home h there body) =
+      or_right (is_in s v.sendable || is_in s v.rights.controlled) (shows_root (nodes_of w) v s i.root)
+      (and_from (is_home s (home_at w i.root)) (tells_text (shape_at (nodes_of w) i.root) && sees_with (nodes_of w) v (seen.Body i.root)) (ap (is_home s) home ∙ same_name-itself s)
+      (and_from (tells_text (shape_at (nodes_of w) i.root)) (sees_with (nodes_of w) v (seen.Body i.root)) (ap tells_text (root_shape s i.root i home is) ∙ reads) ((body_seen i.root).1 (sees, h, there, body))))
+
+  text_seen : (s : Name) → (sees_with (nodes_of w) v (seen.Text s) ≡ true) ↔ Sees S w (TextOf s)
+  text_seen s = (
+    λ e.
+        let root = tested (shows_text (nodes_of w) v s) refl (option_map (λ (i : ServerInfo). i.root) (server_at w s)) e in
+        let i = mapped-some (λ (i : ServerInfo). i.root) (server_at w s) root.0 root.1 in
+        (i.0, i.1, text_to s root.0 i.0 i.1 i.2 root.2),
+    λ t. ap (λ (o : Option ServerInfo). shows_text (nodes_of w) v s (option_map (λ (i : ServerInfo). i.root) o)) t.1 ∙ text_from s t.0 t.1 t.2,
+  )
+
 pub parts_are_seen : PartsAreSeen
 parts_are_seen S w v (seen.Attributes n) l = l.found.exact n
 parts_are_seen S w v (seen.Empty n) l = empty_seen S w v l n
 parts_are_seen S w v (seen.Body n) l = body_seen S w v l n
 parts_are_seen S w v (seen.Open o) l = l.opens o
 parts_are_seen S w v (seen.Options s) l = knows_seen S w v l s
+parts_are_seen S w v (seen.Text s) l = text_seen S w v l s
 parts_are_seen S w v (seen.Users s) l = users_seen S w v l s
 parts_are_seen S w v (seen.Task t) l = (λ e. sym (l.tasks t.0) ∙ e, λ e. l.tasks t.0 ∙ e)

@@ -7,11 +7,14 @@ use Rattle.hurd_creds.specs.Access.{IdSets}
 use Rattle.hurd_creds.specs.Bits.{READ, WRITE}
 use Rattle.hurd_creds.specs.Names.{same_name}
 use Rattle.hurd_trans_iface.specs.Nodes.{Header, header_of, is_dir}
-use Rattle.hurd_nodes.specs.Shown.{NodeState, boot_name, server_of}
+use Rattle.hurd_trans_iface.specs.declared.root.Root.{Root}
+use Rattle.hurd_nodes.specs.Shown.{NodeState, ServerInfo, boot_name, server_of}
+use Rattle.hurd_nodes.specs.Held.{home_in, is_home}
+use Rattle.std.specs.Option.{option_map}
 use Rattle.hurd_nodes.specs.Needs.{counts_by}
 use Rattle.hurd_ports.specs.declared.table.Right.TheVariants.{Control}
-use Rattle.hurd_machine.specs.World.{World, nodes_of}
-use Rattle.hurd_machine.specs.Sight.{Holds, Sees, bare}
+use Rattle.hurd_machine.specs.World.{World, nodes_of, shape_at}
+use Rattle.hurd_machine.specs.Sight.{Holds, Sees, bare, reads_text}
 use Rattle.hurd_sight.specs.Reach.{Reaches, among, could_with}
 use Rattle.hurd_sight.specs.Found.{FoundAll, IsSight, is_found}
 use Rattle.hurd_sight.specs.Parts.{AreThose, HasFor, HasOpen, KnownByNode, SentByNode, is_in, known_at, named, no_names, of_found, part_of, rights_held, with_rights}
@@ -64,6 +67,20 @@ abbrev pub tells_empty : NodeState → Sight → Name → Option Header → Bool
 tells_empty h v n None = false
 tells_empty h v n (Some x) = is_dir x.kind && (reads_with h v n (Some x) || writes_at h v.reach x.parent)
 
+-- whether reading a root gives a text, if there is a root
+abbrev pub tells_text : Option Root → Bool
+tells_text None = false
+tells_text (Some r) = reads_text r
+
+-- whether it is seen what is in a node of a server, and reading that gives the text
+abbrev pub shows_root : NodeState → Sight → Name → Name → Bool
+shows_root h v s root = is_home s (home_in h.sites root) && (tells_text (shape_at h root) && (is_found root v.found && reads_with h v root (header_of h.nodes root)))
+
+-- whether the text of a server is seen, by its root, if it is there: it may be sent away, or reading the root gives it
+abbrev pub shows_text : NodeState → Sight → Name → Option Name → Bool
+shows_text h v s None = false
+shows_text h v s (Some root) = (is_in s v.sendable || is_in s v.rights.controlled) || shows_root h v s root
+
 -- whether a part is seen
 abbrev pub sees_with : NodeState → Sight → SeenPart → Bool
 sees_with h v (seen.Attributes n) = is_found n v.found
@@ -71,6 +88,7 @@ sees_with h v (seen.Empty n) = is_found n v.found && tells_empty h v n (header_o
 sees_with h v (seen.Body n) = is_found n v.found && reads_with h v n (header_of h.nodes n)
 sees_with h v (seen.Open o) = is_in o v.rights.opens
 sees_with h v (seen.Options s) = is_in s v.known || is_in s v.rights.controlled
+sees_with h v (seen.Text s) = shows_text h v s (option_map (λ (i : ServerInfo). i.root) (fin.get h.servers s))
 sees_with h v (seen.Users s) = not (same_name s boot_name) && (is_some (fin.get h.servers s) && (is_in s v.sendable || is_in s v.rights.controlled))
 sees_with h v (seen.Task t) = among v.tasks.items t.0
 

@@ -1,10 +1,11 @@
 //! All that says which parts of a world a set of tasks sees.
-ghost use Rattle.std.specs.Prelude.{◌≡◌, ◌||◌, Some, IfOk};
+ghost use Rattle.std.specs.Prelude.{◌≡◌, ◌||◌, ◌&&◌, Some, IfOk};
 ghost use Rattle.hurd_trans_iface.specs.Nodes.{Header, is_dir};
 ghost use Rattle.hurd_nodes.specs.Shown.{header_in, shown, told_header};
 ghost use Rattle.hurd_machine.specs.World.{world_from};
+ghost use Rattle.hurd_machine.specs.Sight.{goes_on, is_file, reads_text};
 ghost use Rattle.hurd_sight.specs.Parts.{is_in};
-ghost use Rattle.hurd_sight.specs.Looks.{Gathered, Looks, PartsAreSeen, puts_with, reads_with, sees_with, writes_at};
+ghost use Rattle.hurd_sight.specs.Looks.{Gathered, Looks, PartsAreSeen, puts_with, reads_with, sees_with, shows_root, tells_text, writes_at};
 ghost use Rattle.hurd_sight.specs.Reach.{among};
 ghost use Rattle.hurd_sight.specs.declared.parts.SeenPart.TheVariants as seen;
 
@@ -14,10 +15,10 @@ use crate::names::NameSet;
 use crate::near::Near;
 use crate::parts::SeenPart;
 use crate::reach::Reach;
-use hurd_creds::{Attrs, NodeName, ServerName, TaskId, Want};
+use hurd_creds::{Attrs, Kind, NodeName, ServerName, TaskId, Want};
 use hurd_nodes::{BOOT_NAME, Nodes};
 use hurd_ports::Ports;
-use hurd_trans_iface::{Server, is_dir};
+use hurd_trans_iface::{Crossing, Root, Server, is_dir};
 use std::alloc::{AllocError, Global};
 
 /// What a set of tasks sees of a world, as it was when it was looked at.
@@ -102,6 +103,7 @@ impl Sight {
             SeenPart::Body(node) => self.sees_body(nodes, node),
             SeenPart::Open(open_name) => self.rights.opens.has(open_name),
             SeenPart::Options(server) => self.knows(server),
+            SeenPart::Text(server) => self.sees_text(nodes, server),
             SeenPart::Users(server) => self.may_send(nodes, server),
             SeenPart::Task(task) => self.has_task(task),
         }
@@ -181,6 +183,35 @@ impl Sight {
         self.known.has(server) || self.rights.controlled.has(server)
     }
 
+    /// Whether the text of a server is seen: it may be sent away, or reading its root gives it.
+    fn sees_text<S: Server>(&self, nodes: &Nodes<S>, server: ServerName) -> bool
+        ensures { result ≡ sees_with (shown S.meaning nodes.now) self.now (seen.Text server) }
+    {
+        match nodes.root_of(server) {
+            Some(root) => self.is_commanded(server) || self.sees_root(nodes, server, root),
+            None => false,
+        }
+    }
+
+    /// Whether a server may be sent away by what is seen of it.
+    fn is_commanded(&self, server: ServerName) -> bool
+        ensures { result ≡ (is_in server self.now.sendable || is_in server self.now.rights.controlled) }
+    {
+        self.sendable.has(server) || self.rights.controlled.has(server)
+    }
+
+    /// Whether a node is one of a server's, it is seen what is in it, and reading that gives the text.
+    fn sees_root<S: Server>(&self, nodes: &Nodes<S>, server: ServerName, root: NodeName) -> bool
+        ensures { result ≡ shows_root (shown S.meaning nodes.now) self.now server root }
+    {
+        match nodes.home(root) {
+            Some(home) => {
+                server == home && tells_text(nodes.root(root)) && self.sees_body(nodes, root)
+            }
+            None => false,
+        }
+    }
+
     /// Whether a server is there that may be sent away, which is not the boot server.
     fn may_send<S: Server>(&self, nodes: &Nodes<S>, server: ServerName) -> bool
         ensures { result ≡ sees_with (shown S.meaning nodes.now) self.now (seen.Users server) }
@@ -221,3 +252,34 @@ fn could_write<S: Server>(nodes: &Nodes<S>, reach: &Reach, node: NodeName) -> bo
 pub fn parts_are_seen()
     ensures { PartsAreSeen }
 {}
+
+/// Whether it is a file.
+fn is_file(kind: Kind) -> bool
+    ensures { result ≡ is_file kind }
+{
+    matches!(kind, Kind::File)
+}
+
+/// Whether a lookup goes on at a root.
+fn goes_on(crossing: Crossing) -> bool
+    ensures { result ≡ goes_on crossing }
+{
+    matches!(crossing, Crossing::Plain)
+}
+
+/// Whether reading the root of a server gives its text.
+fn reads_text(root: Root) -> bool
+    ensures { result ≡ reads_text root }
+{
+    is_file(root.kind) && !root.is_stream && goes_on(root.crossing)
+}
+
+/// The same of a root that may not be there.
+fn tells_text(root: Option<Root>) -> bool
+    ensures { result ≡ tells_text root }
+{
+    match root {
+        Some(root) => reads_text(root),
+        None => false,
+    }
+}

@@ -12,8 +12,10 @@ pub enum SeenPart {
     Body(NodeName),
     /// An open, and how many rights hold it.
     Open(OpenName),
-    /// A server.
+    /// A server, but for its text, unless that is a link's.
     Options(ServerName),
+    /// The text of a server.
+    Text(ServerName),
     /// How many rights there are on a server's nodes.
     Users(ServerName),
     /// A task.

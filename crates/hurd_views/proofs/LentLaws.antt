@@ -1,5 +1,5 @@
 -- What is said of the nodes and the ports that a core lends.
-use Rattle.std.proofs.Common.{◌≡◌, ℕ, List, subst}
+use Rattle.std.proofs.Common.{◌≡◌, List, subst}
 use Rattle.hurd_machine.proofs.Common.{IdSets, Meaning, Name, Tables, TaskId, World, shown, world_from}
 use Rattle.hurd_nodes.specs.Held.{Held}
 use Rattle.hurd_core.specs.Core.{Whole, world_of}

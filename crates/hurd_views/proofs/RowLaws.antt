@@ -11,7 +11,11 @@ use Rattle.std.proofs.lemmas.List.Folds.{list_any-append}
 use Rattle.indexmap.specs.IndexMap.{insert_entry}
 use Rattle.hurd_creds.proofs.NameLaws.{equal_if_same, same_name-itself}
 use Rattle.hurd_sight.specs.Found.{is_found}
-use Rattle.hurd_sight.specs.Looks.{Looks}
+use Rattle.hurd_sight.specs.Looks.{Looks, sees_with}
+use Rattle.hurd_sight.specs.declared.parts.SeenPart.TheVariants as seen
+use Rattle.hurd_sight.proofs.PartLaws.{parts_are_seen}
+use Rattle.hurd_machine.specs.World.{nodes_of}
+use Rattle.hurd_machine.proofs.Views.{text_known}
 use Rattle.hurd_sight.specs.Parts.{is_in, maybe_named, named, named_more}
 use Rattle.hurd_sight.proofs.NameLaws.{named-append, named_are}
 use Rattle.hurd_sight.proofs.ReachLaws.{any_found}
@@ -166,8 +170,19 @@ module _ {S : ℕ → Bool} {w : World} {v : Sight} (looks : Looks S w v) (n : N
   and_none true false = refl
   and_none false b = refl
 
+  -- and of a server that isn't known no text is seen
+  text_unknown : is_in n v.known ≡ false → is_in n v.rights.controlled ≡ false → sees_with (nodes_of w) v (seen.Text n) ≡ false
+  text_unknown known controlled = go (sees_with (nodes_of w) v (seen.Text n)) refl
+    where
+      go : (b : Bool) → sees_with (nodes_of w) v (seen.Text n) ≡ b → sees_with (nodes_of w) v (seen.Text n) ≡ false
+      go false e = e
+      go true e =
+          let t = (parts_are_seen S w v (seen.Text n) looks).0 e in
+          let k = (parts_are_seen S w v (seen.Options n) looks).1 (text_known S w n t.0 t.2) in
+          absurd (true≢false (sym k ∙ ap (λ (b : Bool). b || is_in n v.rights.controlled) known ∙ controlled))
+
   pub uncovered : is_found n v.found ≡ false → is_in n v.rights.opens ≡ false → is_in n v.known ≡ false → is_in n v.rights.controlled ≡ false → row_of w v n ≡ no_row
-  uncovered found opened known controlled = rw (found, opened, known, controlled, send_known known, and_none (not (same_name n boot_name)) (is_some (fin.get w.servers n))) refl
+  uncovered found opened known controlled = rw (text_unknown known controlled, found, opened, known, controlled, send_known known, and_none (not (same_name n boot_name)) (is_some (fin.get w.servers n))) refl
 
 -- under each name what is seen of it is kept
 pub row_told : {S : ℕ → Bool} {w : World} {v : Sight} → Looks S w v → (n : Name) → row_at (rows_for w v (names_seen v)) n ≡ row_of w v n

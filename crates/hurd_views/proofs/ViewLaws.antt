@@ -6,7 +6,9 @@ use Rattle.std.specs.Option.{option_map}
 use Rattle.std.proofs.lemmas.Bool.{or_cases, or_left, or_right}
 use Rattle.std.proofs.lemmas.Slice.Eq.{bytes_eq-Decides}
 use Rattle.std.specs.Cmp.{unsigned_Decides}
-use Rattle.hurd_machine.proofs.Common.{ABody, ATask, AUsers, AnAttr, AnEmpty, AnOpen, AnOptions, AreDistinct, AttrOf, Attrs, Body, BodyOf, Content, EmptyOf, HasDistinctNames, Header, IdSets, IsAmong, Listing, Name, Node, OpenOf, OptionsOf, Part, SameView, Sees, ServerInfo, Sound, Task, TaskId, TaskOf, UsersOf, World, bare, body_at, bytes_eq, empty, entry_in, header_at, holders, is_empty_dir, open_at, options_of, part, server_at, site_at, task_at, users, words_at, words_in}
+use Rattle.hurd_machine.proofs.Common.{ABody, AText, ATask, AUsers, AnAttr, AnEmpty, AnOpen, AnOptions, AreDistinct, AttrOf, Attrs, Body, BodyOf, Content, EmptyOf, HasDistinctNames, Header, IdSets, IsAmong, Listing, Name, Node, OpenOf, OptionsOf, Part, SameView, Sees, ServerInfo, Sound, Task, TaskId, TaskOf, TextOf, UsersOf, World, bare, body_at, bytes_eq, entry_in, faced, header_at, holders, is_empty_dir, known_text, open_at, options_of, part, server_at, site_at, task_at, users, words_at, words_in}
+use Rattle.hurd_machine.proofs.Faces.{face_in, face_reads, text_in, whole}
+use Rattle.hurd_machine.proofs.Views.{text_known}
 use Rattle.hurd_nodes.proofs.Sites.{home_by, active_by, site_by}
 use Rattle.hurd_trans_iface.specs.Nodes.{Entry}
 use Rattle.hurd_trans_iface.specs.Meaning.{ServerKind, Tmpfs, Hello, Null, Zero, Symlink, Firmlink, Union, Magic, Drip, Fifo, all_kinds, behaviour_of}
@@ -14,7 +16,7 @@ use Rattle.hurd_machine.specs.World.{nodes_of}
 use Rattle.hurd_sight.specs.Looks.{sees_with}
 use Rattle.hurd_sight.specs.Parts.{part_of}
 use Rattle.hurd_sight.specs.Reach.{among}
-use Rattle.hurd_views.specs.Views.{RowsAreViews, SameRows, Views, body_row, entry_before, node_row, row_at, row_of, rows_in, server_row, told_if}
+use Rattle.hurd_views.specs.Views.{RowsAreViews, SameRows, Views, body_row, entry_before, first_word, node_row, row_at, row_of, rows_in, server_row, text_row, told_if}
 use Rattle.hurd_sight.specs.declared.parts.SeenPart.{SeenPart}
 use Rattle.hurd_sight.specs.declared.parts.SeenPart.TheVariants as seen
 use Rattle.hurd_views.specs.declared.rows.BodyRow.{BodyRow}
@@ -24,6 +26,7 @@ use Rattle.hurd_views.specs.declared.rows.NodeRow.{NodeRow}
 use Rattle.hurd_views.specs.declared.rows.OpenRow.{OpenRow}
 use Rattle.hurd_views.specs.declared.rows.Row.{Row}
 use Rattle.hurd_views.specs.declared.rows.ServerRow.{ServerRow}
+use Rattle.hurd_views.specs.declared.rows.TextRow.{TextRow}
 use Rattle.hurd_views.specs.declared.view.View.{View}
 use Rattle.hurd_sight.proofs.PartLaws.{parts_are_seen}
 use Rattle.hurd_views.proofs.RowLaws.{row_told}
@@ -125,22 +128,21 @@ bodies_back : (o : Option Node) → ((x : Node) → o ≡ Some x → HasDistinct
 bodies_back None apart = refl
 bodies_back (Some x) apart = ap Some (body_back x.body (apart x refl))
 
--- a server is told by its options, its text, its root, its ids and its targets
-
-abbrev first : List (List ℕ) → List ℕ
-first [] = []
-first (w ∷ ws) = w
+-- what is seen of a server is told by its program, by the text that whoever knows it is told, its root, its ids and its targets
 
 -- the first of these kinds whose program has this name
 abbrev kind_among : List ServerKind → List ℕ → Option ServerKind
 kind_among [] w = None
 kind_among (k ∷ ks) w = cond (bytes_eq w (behaviour_of k).program) (Some k) (kind_among ks w)
 
--- the kind that the first word says
-abbrev kind_of : List (List ℕ) → Option ServerKind
-kind_of ws = kind_among all_kinds (first ws)
+-- the kind of a program
+abbrev kind_of : List ℕ → Option ServerKind
+kind_of program = kind_among all_kinds program
 
-kind_said : (k : ServerKind) (text : List ℕ) → kind_of (options_of k text) ≡ Some k
+abbrev program_of : ServerKind → List ℕ → List ℕ
+program_of k text = first_word (options_of k text)
+
+kind_said : (k : ServerKind) (text : List ℕ) → kind_of (program_of k text) ≡ Some k
 kind_said Tmpfs text = refl
 kind_said Hello text = refl
 kind_said Null text = refl
@@ -152,33 +154,59 @@ kind_said Drip text = refl
 kind_said Fifo text = refl
 kind_said Union text = refl
 
-kind_named : (k l : ServerKind) (s t : List ℕ) → options_of k s ≡ options_of l t → k ≡ l
+kind_named : (k l : ServerKind) (s t : List ℕ) → program_of k s ≡ program_of l t → k ≡ l
 kind_named k l s t e = let same : Some k ≡ Some l = sym (kind_said k s) ∙ ap kind_of e ∙ kind_said l t in cc
 
 info_from : {k l : ServerKind} {s t : List ℕ} {n m : Name} {x y : IdSets} {p q : List Name} → k ≡ l → s ≡ t → n ≡ m → x ≡ y → p ≡ q
     → ◌≡◌ {A = ServerInfo} (record { kind = k; text = s; root = n; ids = x; targets = p }) (record { kind = l; text = t; root = m; ids = y; targets = q })
 info_from a b c d e = rw (a, b, c, d, e) refl
 
-info_told : (i j : ServerInfo) → server_row i ≡ server_row j → i ≡ j
-info_told i j e =
-    let kind : i.kind ≡ j.kind = kind_named i.kind j.kind i.text j.text (ap (λ (r : ServerRow). r.options) e) in
-    let text : i.text ≡ j.text = ap (λ (r : ServerRow). r.text) e in
+face_told : (i j : ServerInfo) → server_row i ≡ server_row j → faced i ≡ faced j
+face_told i j e =
+    let kind : i.kind ≡ j.kind = kind_named i.kind j.kind i.text j.text (ap (λ (r : ServerRow). r.program) e) in
+    let text : known_text i.kind i.text ≡ known_text j.kind j.text = ap (λ (r : ServerRow). r.text) e in
     let root : i.root ≡ j.root = ap (λ (r : ServerRow). r.root) e in
     let ids : i.ids ≡ j.ids = ap (λ (r : ServerRow). r.ids) e in
     let targets : i.targets ≡ j.targets = ap (λ (r : ServerRow). r.targets) e in
     info_from kind text root ids targets
 
-infos_told : (o p : Option ServerInfo) → option_map server_row o ≡ option_map server_row p → o ≡ p
-infos_told None None e = refl
-infos_told None (Some j) e = absurd (cc)
-infos_told (Some i) None e = absurd (cc)
-infos_told (Some i) (Some j) e = ap Some (info_told i j (let same : Some (server_row i) ≡ Some (server_row j) = e in cc))
+faces_told : (o p : Option ServerInfo) → option_map server_row o ≡ option_map server_row p → face_in o ≡ face_in p
+faces_told None None e = refl
+faces_told None (Some j) e = absurd (cc)
+faces_told (Some i) None e = absurd (cc)
+faces_told (Some i) (Some j) e = ap Some (face_told i j (let same : Some (server_row i) ≡ Some (server_row j) = e in cc))
+
+texts_told : (o p : Option ServerInfo) → option_map text_row o ≡ option_map text_row p → text_in o ≡ text_in p
+texts_told None None e = refl
+texts_told None (Some j) e = absurd (cc)
+texts_told (Some i) None e = absurd (cc)
+texts_told (Some i) (Some j) e = ap Some (ap (λ (r : TextRow). r.text) (let same : Some (text_row i) ≡ Some (text_row j) = e in let row : text_row i ≡ text_row j = cc in row))
+
+-- and nothing else of it is kept
+
+kept_face : (k : ServerKind) (text : List ℕ) → (program_of k (known_text k text) ≡ program_of k text) × (known_text k (known_text k text) ≡ known_text k text)
+kept_face Tmpfs text = (refl, refl)
+kept_face Hello text = (refl, refl)
+kept_face Null text = (refl, refl)
+kept_face Zero text = (refl, refl)
+kept_face Symlink text = (refl, refl)
+kept_face Firmlink text = (refl, refl)
+kept_face Union text = (refl, refl)
+kept_face Magic text = (refl, refl)
+kept_face Drip text = (refl, refl)
+kept_face Fifo text = (refl, refl)
+
+row_faced : (i : ServerInfo) → server_row (faced i) ≡ server_row i
+row_faced i = let k = kept_face i.kind i.text in rw (k.0, k.1) refl
+
+rows_faced : (o p : Option ServerInfo) → face_in p ≡ face_in o → option_map server_row p ≡ option_map server_row o
+rows_faced = face_reads (option_map server_row) (λ i. ap Some (row_faced i))
 
 -- a row by its fields
-pub row_from : {a a' : Option NodeRow} {b b' : Option (Option Bool)} {c c' : Option (Option BodyRow)} {d d' : Option OpenRow} {e e' : Option (Option ServerRow)} {f f' : Option ℕ}
-    → a ≡ a' → b ≡ b' → c ≡ c' → d ≡ d' → e ≡ e' → f ≡ f'
-    → ◌≡◌ {A = Row} (record { attributes = a; empty = b; body = c; opened = d; server = e; users = f }) (record { attributes = a'; empty = b'; body = c'; opened = d'; server = e'; users = f' })
-row_from g h i j k l = rw (g, h, i, j, k, l) refl
+pub row_from : {a a' : Option NodeRow} {b b' : Option (Option Bool)} {c c' : Option (Option BodyRow)} {d d' : Option OpenRow} {e e' : Option (Option ServerRow)} {f f' : Option (Option TextRow)} {g g' : Option ℕ}
+    → a ≡ a' → b ≡ b' → c ≡ c' → d ≡ d' → e ≡ e' → f ≡ f' → g ≡ g'
+    → ◌≡◌ {A = Row} (record { attributes = a; empty = b; body = c; opened = d; server = e; text = f; users = g }) (record { attributes = a'; empty = b'; body = c'; opened = d'; server = e'; text = f'; users = g' })
+row_from h i j k l m n = rw (h, i, j, k, l, m, n) refl
 
 -- tasks of a list
 
@@ -236,6 +264,7 @@ module _ (tasks : List TaskId) (v w : World) (a b : View) (sound_v : Sound v) (s
     test (seen.Body n) = told_test _ _ _ _ (ap (λ (r : Row). r.body) (row n))
     test (seen.Open n) = told_test _ _ _ _ (ap (λ (r : Row). r.opened) (row n))
     test (seen.Options n) = told_test _ _ _ _ (ap (λ (r : Row). r.server) (row n))
+    test (seen.Text n) = told_test _ _ _ _ (ap (λ (r : Row). r.text) (row n))
     test (seen.Users n) = told_test (sees_v (seen.Users n)) (sees_w (seen.Users n)) (users v n) (users w n) (ap (λ (r : Row). r.users) (row n))
     test (seen.Task t) = test_same _ _ (λ on. (says_w (seen.Task t)).1 ((says_v (seen.Task t)).0 on)) (λ on. (says_v (seen.Task t)).1 ((says_w (seen.Task t)).0 on))
 
@@ -263,7 +292,8 @@ module _ (tasks : List TaskId) (v w : World) (a b : View) (sound_v : Sound v) (s
     value (seen.Empty n) on = ap AnEmpty (sym (told_value _ _ _ _ (ap (λ (r : Row). r.empty) (row n)) on))
     value (seen.Body n) on = ap ABody (sym (body_same n (told_value _ _ _ _ (ap (λ (r : Row). r.body) (row n)) on)))
     value (seen.Open n) on = ap (λ (r : OpenRow). AnOpen r.opened r.holders) (sym (told_value _ _ _ _ (ap (λ (r : Row). r.opened) (row n)) on))
-    value (seen.Options n) on = ap AnOptions (sym (infos_told _ _ (told_value _ _ _ _ (ap (λ (r : Row). r.server) (row n)) on)))
+    value (seen.Options n) on = ap AnOptions (sym (faces_told _ _ (told_value _ _ _ _ (ap (λ (r : Row). r.server) (row n)) on)))
+    value (seen.Text n) on = ap AText (sym (texts_told _ _ (told_value _ _ _ _ (ap (λ (r : Row). r.text) (row n)) on)))
     value (seen.Users n) on = ap AUsers (sym (told_value (sees_v (seen.Users n)) (sees_w (seen.Users n)) (users v n) (users w n) (ap (λ (r : Row). r.users) (row n)) on))
     value (seen.Task t) on = ap ATask (sym (seat_told v w tasks t.0 (sym in_v.seats ∙ (same.seats ∙ in_w.seats)) ((says_v (seen.Task t)).0 on)))
 
@@ -273,6 +303,7 @@ module _ (tasks : List TaskId) (v w : World) (a b : View) (sound_v : Sound v) (s
     all_seen (BodyOf n) = sees_same (seen.Body n)
     all_seen (OpenOf o) = sees_same (seen.Open o)
     all_seen (OptionsOf s) = sees_same (seen.Options s)
+    all_seen (TextOf s) = sees_same (seen.Text s)
     all_seen (UsersOf s) = sees_same (seen.Users s)
     all_seen (TaskOf t) = (λ s. s, λ s. s)
 
@@ -282,6 +313,7 @@ module _ (tasks : List TaskId) (v w : World) (a b : View) (sound_v : Sound v) (s
     all_same (BodyOf n) s = value (seen.Body n) ((says_v (seen.Body n)).1 s)
     all_same (OpenOf o) s = value (seen.Open o) ((says_v (seen.Open o)).1 s)
     all_same (OptionsOf s) k = value (seen.Options s) ((says_v (seen.Options s)).1 k)
+    all_same (TextOf s) k = value (seen.Text s) ((says_v (seen.Text s)).1 k)
     all_same (UsersOf s) k = value (seen.Users s) ((says_v (seen.Users s)).1 k)
     all_same (TaskOf t) s = ap ATask (sym (seat_told v w tasks t (sym in_v.seats ∙ (same.seats ∙ in_w.seats)) s))
 
@@ -303,6 +335,16 @@ module _ (tasks : List TaskId) (v w : World) (a b : View) (sound_v : Sound v) (s
         let words : words_at v n ≡ words_at w n = sym (words_back (fin.get v.nodes n)) ∙ (ap words_of_header header ∙ words_back (fin.get w.nodes n)) in
         rw (header, ap home_by site, ap active_by site, words) refl
 
+    face_same : (n : Name) → sees_v (seen.Options n) ≡ true → face_in (server_at v n) ≡ face_in (server_at w n)
+    face_same n on = let e : AnOptions (face_in (server_at w n)) ≡ AnOptions (face_in (server_at v n)) = equal (seen.Options n) on in cc
+
+    server_same : (n : Name) → sees_v (seen.Text n) ≡ true → server_at v n ≡ server_at w n
+    server_same n on =
+        let t = (says_v (seen.Text n)).0 on in
+        let known = (says_v (seen.Options n)).1 (text_known S v n t.0 t.2) in
+        let text : text_in (server_at v n) ≡ text_in (server_at w n) = let e : AText (text_in (server_at w n)) ≡ AText (text_in (server_at v n)) = equal (seen.Text n) on in cc in
+        whole (server_at w n) (server_at v n) (face_same n known) text
+
     row_same : (n : Name) → row_of v a.sight n ≡ row_of w b.sight n
     row_same n =
         row_from
@@ -310,7 +352,8 @@ module _ (tasks : List TaskId) (v w : World) (a b : View) (sound_v : Sound v) (s
         (told_same _ _ _ _ (both (seen.Empty n)) (λ on. let e : AnEmpty (option_map is_empty_dir (body_at w n)) ≡ AnEmpty (option_map is_empty_dir (body_at v n)) = equal (seen.Empty n) on in cc))
         (told_same _ _ _ _ (both (seen.Body n)) (λ on. ap (option_map body_row) (let e : ABody (body_at w n) ≡ ABody (body_at v n) = equal (seen.Body n) on in cc)))
         (told_same _ _ _ _ (both (seen.Open n)) (λ on. let e : AnOpen (open_at w n) (holders w n) ≡ AnOpen (open_at v n) (holders v n) = equal (seen.Open n) on in cc))
-        (told_same _ _ _ _ (both (seen.Options n)) (λ on. ap (option_map server_row) (let e : AnOptions (server_at w n) ≡ AnOptions (server_at v n) = equal (seen.Options n) on in cc)))
+        (told_same _ _ _ _ (both (seen.Options n)) (λ on. rows_faced (server_at w n) (server_at v n) (face_same n on)))
+        (told_same _ _ _ _ (both (seen.Text n)) (λ on. ap (option_map text_row) (server_same n on)))
         (told_same _ _ _ _ (both (seen.Users n)) (λ on. let e : AUsers (users w n) ≡ AUsers (users v n) = equal (seen.Users n) on in cc))
 
     same_rows : SameRows a b

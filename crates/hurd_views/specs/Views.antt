@@ -1,6 +1,7 @@
 -- What a set of tasks sees of a world, as it is kept to be compared.
-use Rattle.std.specs.Prelude.{◌≡◌, ◌↔◌, ℕ, Bool, true, false, if◌then◌else◌, List, [], ◌∷◌, ◌++◌, length, map, Option, Some, None}
+use Rattle.std.specs.Prelude.{◌≡◌, ◌↔◌, ◌||◌, codes, ℕ, Bool, true, false, if◌then◌else◌, List, [], ◌∷◌, ◌++◌, length, map, Option, Some, None}
 use Rattle.std.specs.List.{list_any}
+use Rattle.std.specs.Str.{bytes_eq}
 use Rattle.std.specs.Option.{option_map}
 use Rattle.hurd_creds.specs.declared.name.Name.{Name}
 use Rattle.hurd_creds.specs.declared.name.TaskId.{TaskId}
@@ -11,7 +12,7 @@ use Rattle.hurd_trans_iface.specs.Answers.{entry_of}
 use Rattle.hurd_trans_iface.specs.Meaning.{options_of}
 use Rattle.hurd_nodes.specs.Shown.{ServerInfo}
 use Rattle.hurd_machine.specs.World.{World, nodes_of, active_at, body_at, header_at, home_at, open_at, server_at, task_at, words_at}
-use Rattle.hurd_machine.specs.Sight.{SameView, bare, holders, users}
+use Rattle.hurd_machine.specs.Sight.{SameView, bare, holders, known_text, users}
 use Rattle.hurd_machine.specs.Sound.{Sound}
 use Rattle.hurd_sight.specs.Looks.{Gathered, Looks, sees_with}
 use Rattle.hurd_sight.specs.Parts.{named}
@@ -25,6 +26,7 @@ use Rattle.hurd_views.specs.declared.rows.EntryRow.{EntryRow}
 use Rattle.hurd_views.specs.declared.rows.NodeRow.{NodeRow}
 use Rattle.hurd_views.specs.declared.rows.Row.{Row}
 use Rattle.hurd_views.specs.declared.rows.ServerRow.{ServerRow}
+use Rattle.hurd_views.specs.declared.rows.TextRow.{TextRow}
 use Rattle.hurd_views.specs.declared.view.View.{View}
 
 -- a value, where the test holds
@@ -66,9 +68,22 @@ abbrev pub body_row : Body → BodyRow
 body_row (Content bs) = body.Bytes bs
 body_row (Listing es) = body.Entries (rows_in (Some (Listing es)) (map (λ e. e.name) es))
 
--- a server, by what makes such a one, its program with its words and the text that these gave it, and by what it aims at
+-- the first of some words
+abbrev pub first_word : List (List ℕ) → List ℕ
+first_word [] = []
+first_word (w ∷ ws) = w
+
+-- the text that whoever knows a server is told, by its program: a link's alone
+abbrev pub text_by : List ℕ → List ℕ → List ℕ
+text_by program text = if bytes_eq program (codes "/hurd/symlink") || bytes_eq program (codes "/hurd/magic") then text else []
+
+-- a server as whoever knows it sees it: its program, the text that they are told, and what it aims at
 abbrev pub server_row : ServerInfo → ServerRow
-server_row i = record { options = options_of i.kind i.text; text = i.text; root = i.root; ids = i.ids; targets = i.targets }
+server_row i = record { program = first_word (options_of i.kind i.text); text = known_text i.kind i.text; root = i.root; ids = i.ids; targets = i.targets }
+
+-- the text of a server, and its program with the words that give it
+abbrev pub text_row : ServerInfo → TextRow
+text_row i = record { options = options_of i.kind i.text; text = i.text }
 
 -- all that is seen of what has a name, by what was looked at
 abbrev pub row_of : World → Sight → Name → Row
@@ -78,12 +93,13 @@ row_of w v n = record {
   body = told_if (sees_with (nodes_of w) v (seen.Body n)) (option_map body_row (body_at w n));
   opened = told_if (sees_with (nodes_of w) v (seen.Open n)) (record { opened = open_at w n; holders = holders w n });
   server = told_if (sees_with (nodes_of w) v (seen.Options n)) (option_map server_row (server_at w n));
+  text = told_if (sees_with (nodes_of w) v (seen.Text n)) (option_map text_row (server_at w n));
   users = told_if (sees_with (nodes_of w) v (seen.Users n)) (users w n);
 }
 
 -- nothing is seen
 abbrev pub no_row : Row
-no_row = record { attributes = None; empty = None; body = None; opened = None; server = None; users = None }
+no_row = record { attributes = None; empty = None; body = None; opened = None; server = None; text = None; users = None }
 
 -- what there is under a name; of a name that isn't there, nothing is seen
 abbrev pub row_at : List (Name × Row) → Name → Row

@@ -7,5 +7,7 @@ mod rows;
 mod told;
 mod view;
 
-pub use rows::{BodyRow, EntryRow, EntryRows, NodeNames, NodeRow, OpenRow, Row, ServerRow};
+pub use rows::{
+    BodyRow, EntryRow, EntryRows, NodeNames, NodeRow, OpenRow, Row, ServerRow, TextRow,
+};
 pub use view::{Rows, SeatRow, View, rows_are_views};

@@ -72,17 +72,26 @@ impl Model for NodeNames {
     ghost view = { λ n. n.items.items };
 }
 
-/// A server.
+/// A server, as whoever knows it sees it.
 #[derive(Debug, Drop)]
 pub struct ServerRow {
-    /// The program and its words, as they would be given to make such a server.
-    pub options: Words,
-    /// The text that these give it.
+    /// The name of its program.
+    pub program: Bytes,
+    /// Its text, if it is a link; else none.
     pub text: Bytes,
     pub root: NodeName,
     pub ids: Ids,
     /// The nodes that it aims at.
     pub targets: NodeNames,
+}
+
+/// The text of a server.
+#[derive(Debug, Drop)]
+pub struct TextRow {
+    /// The program and its words, as they would be given to make such a server.
+    pub options: Words,
+    /// The text that these give it.
+    pub text: Bytes,
 }
 
 /// All that is seen under a name; none of what is not seen. Within, none stands for what is not there.
@@ -94,6 +103,7 @@ pub struct Row {
     pub body: Option<Option<BodyRow>>,
     pub opened: Option<OpenRow>,
     pub server: Option<Option<ServerRow>>,
+    pub text: Option<Option<TextRow>>,
     /// How many rights there are on a server's nodes.
     pub users: Option<u128>,
 }
@@ -244,7 +254,16 @@ impl ServerRow {
             && self.ids.is_same(&other.ids)
             && self.targets.is_same(&other.targets)
             && self.text.is_same(&other.text)
-            && self.options.is_same(&other.options)
+            && self.program.is_same(&other.program)
+    }
+}
+
+impl TextRow {
+    /// Whether these are the same. Takes no memory.
+    fn is_same(&self, other: &TextRow) -> bool
+        ensures { IsTrue result ↔ (self.now ≡ other.now) }
+    {
+        self.text.is_same(&other.text) && self.options.is_same(&other.options)
     }
 }
 
@@ -272,6 +291,12 @@ impl Same for ServerRow {
     }
 }
 
+impl Same for TextRow {
+    fn same(&self, other: &TextRow) -> bool {
+        self.is_same(other)
+    }
+}
+
 impl Row {
     /// Whether these are the same. Takes no memory.
     pub fn is_same(&self, other: &Row) -> bool
@@ -282,6 +307,7 @@ impl Row {
             && self.body.same(&other.body)
             && self.opened == other.opened
             && self.server.same(&other.server)
+            && self.text.same(&other.text)
             && self.users == other.users
     }
 }
@@ -296,6 +322,7 @@ impl Row {
             && self.body.is_none()
             && self.opened.is_none()
             && self.server.is_none()
+            && self.text.is_none()
             && self.users.is_none()
     }
 }

@@ -8,9 +8,11 @@ ghost use Rattle.hurd_trans_iface.specs.Meaning.{options_of};
 ghost use Rattle.hurd_trans_iface.specs.Nodes.{body_of as body_in, content_of};
 ghost use Rattle.hurd_nodes.specs.Shown.{ServerInfo, shown};
 ghost use Rattle.hurd_machine.specs.World.{words_at};
-ghost use Rattle.hurd_views.specs.Views.{body_row, entry_before, node_row, row_of, rows_in, server_row, with_entries};
+ghost use Rattle.hurd_views.specs.Views.{body_row, entry_before, first_word, node_row, row_of, rows_in, server_row, text_by, text_row, with_entries};
 
-use crate::rows::{BodyRow, EntryRow, EntryRows, NodeNames, NodeRow, OpenRow, Row, ServerRow};
+use crate::rows::{
+    BodyRow, EntryRow, EntryRows, NodeNames, NodeRow, OpenRow, Row, ServerRow, TextRow,
+};
 use hurd_core::Core;
 use hurd_creds::{Attrs, Bytes, Errno, Name, NodeName, ServerName};
 use hurd_nodes::Nodes;
@@ -33,6 +35,7 @@ pub(crate) fn row_of<S: Server>(
         body: body_of(alloc, core, sight, name)?,
         opened: opened_of(core, sight, name),
         server: server_of(alloc, core, sight, name)?,
+        text: text_of(alloc, core, sight, name)?,
         users: users_of(core, sight, name),
     })
 }
@@ -215,6 +218,7 @@ fn server_of<S: Server>(
 }
 
 /// A server, if it is there.
+#[tactic(auto, using(crate::proofs::ToldLaws::text_named))]
 fn server_row<S: Server>(
     alloc: Global,
     nodes: &Nodes<S>,
@@ -222,7 +226,7 @@ fn server_row<S: Server>(
 ) -> Result<Option<ServerRow>, AllocError>
     ensures { IfOk result (λ row. row ≡ option_map server_row (fin.get (shown S.meaning nodes.now).servers server)) }
 {
-    let Some(options) = options_of(alloc, nodes, server)? else {
+    let Some(program) = program_of(alloc, nodes, server)? else {
         return Ok(None);
     };
     let Some(root) = nodes.root_of(server) else {
@@ -238,8 +242,8 @@ fn server_row<S: Server>(
         return Ok(None);
     };
     Ok(Some(ServerRow {
-        options,
-        text: Bytes::copied(alloc, text)?,
+        text: Bytes::copied(alloc, known_text(&program, text))?,
+        program,
         root,
         ids: ids.copied(alloc)?,
         targets: NodeNames::copied(alloc, targets)?,
@@ -259,6 +263,74 @@ fn options_of<S: Server>(
         Err(Errno::ENOMEM) => Err(AllocError),
         Err(_) => Ok(None),
     }
+}
+
+/// The name of a server's program, if the server is there.
+fn program_of<S: Server>(
+    alloc: Global,
+    nodes: &Nodes<S>,
+    server: ServerName,
+) -> Result<Option<Bytes>, AllocError>
+    ensures { IfOk result (λ program. program ≡ option_map (λ (i : ServerInfo). first_word (options_of i.kind i.text)) (fin.get (shown S.meaning nodes.now).servers server)) }
+{
+    match options_of(alloc, nodes, server)? {
+        Some(options) => Ok(Some(first_word(alloc, &options)?)),
+        None => Ok(None),
+    }
+}
+
+/// The first of some words.
+fn first_word(alloc: Global, words: &Words) -> Result<Bytes, AllocError>
+    ensures { IfOk result (λ word. word ≡ first_word words.now) }
+{
+    match words.as_slice() {
+        [word, ..] => Bytes::copied(alloc, word.as_slice()),
+        [] => Bytes::copied(alloc, &[]),
+    }
+}
+
+/// The text that whoever knows a server of this program is told: a link's alone.
+fn known_text<'a>(program: &Bytes, text: &'a [u8]) -> &'a [u8]
+    ensures { result.now ≡ text_by program.now text.entry.now }
+{
+    if program.is(b"/hurd/symlink") || program.is(b"/hurd/magic") {
+        text
+    } else {
+        &[]
+    }
+}
+
+/// What is seen of the text of a server.
+fn text_of<S: Server>(
+    alloc: Global,
+    core: &Core<S>,
+    sight: &Sight,
+    name: Name,
+) -> Result<Option<Option<TextRow>>, AllocError>
+    ensures { IfOk result (λ row. row ≡ (row_of (world_of S.meaning core.now) sight.now name).text) }
+{
+    if !sight.sees(core.nodes(), SeenPart::Text(name)) {
+        return Ok(None);
+    }
+    Ok(Some(text_row(alloc, core.nodes(), name)?))
+}
+
+/// The text of a server, if the server is there.
+fn text_row<S: Server>(
+    alloc: Global,
+    nodes: &Nodes<S>,
+    server: ServerName,
+) -> Result<Option<TextRow>, AllocError>
+    ensures { IfOk result (λ row. row ≡ option_map text_row (fin.get (shown S.meaning nodes.now).servers server)) }
+{
+    let Some(options) = options_of(alloc, nodes, server)? else {
+        return Ok(None);
+    };
+    let Some(text) = nodes.text_of(server) else {
+        return Ok(None);
+    };
+    let text = Bytes::copied(alloc, text)?;
+    Ok(Some(TextRow { options, text }))
 }
 
 /// How many rights there are on a server's nodes, if that is seen.
