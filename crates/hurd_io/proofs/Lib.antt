@@ -4,3 +4,4 @@ pub mod OpensLaws
 pub mod PlaceLaws
 pub mod ShareRows
 pub mod SharingLaws
+pub mod Touching

@@ -3,3 +3,12 @@ pub mod Together
 pub mod Headline
 pub mod StaysConfined
 pub mod Served
+pub mod Authority
+pub mod MayDirs
+pub mod MayServers
+pub mod MayLookup
+pub mod MayStep
+pub mod Ends
+pub mod EndsStep
+pub mod Owned
+pub mod OwnedStep

@@ -3,3 +3,4 @@ pub mod Called
 pub mod Runs
 pub mod Served
 pub mod Laws
+pub mod Integrity

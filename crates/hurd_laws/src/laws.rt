@@ -1,4 +1,5 @@
 //! The laws.
+ghost use Rattle.hurd_laws.specs.Integrity.{Integrity, OwnersAlone};
 ghost use Rattle.hurd_laws.specs.Laws.{ChangesTouched, Confined, ConfinedRun, CountedRun, GoneUnseen, Isolated, IsolatedByView, NeverWantsMemory, OthersUnseen, OwnFromView, QuietUnmoved, SideBySide, StaysCounted, StaysSound, ViewSettled};
 
 /// A step changes touched parts, its caller's own task and new things alone; what of the others doesn't stay is gone.
@@ -78,4 +79,11 @@ pub fn side_by_side()
 /// What a set of tasks sees is settled by what it sees: where that is the same in another world, its view is.
 pub fn view_settled()
     ensures { ViewSettled }
+{}
+
+/// In a step of a task of a set, a part that the set may not change stays as it was; or it goes, and nobody sees it afterwards; or it is
+/// another's task, to which a right of the set's was sent.
+pub fn integrity()
+    ensures parts { Integrity }
+    ensures owned { OwnersAlone }
 {}

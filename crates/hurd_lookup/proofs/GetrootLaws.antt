@@ -32,7 +32,7 @@ module _ (t c dir : ℕ) where
     abbrev found : World → Result Outcome Errno
     found w = getroot_asks w t c dir r
 
-    found_alike : FoundLaws t flags found
+    pub found_alike : FoundLaws t flags found
     found_alike v w At Near Entries T g b P k =
         first_alike _ _ _ _ _ _ (entrance_alike g b) (λ e is s.
         first_alike _ _ _ _ _ _ (cross_alike g e.right s.right.ids s.right.ways r e.right.node e.root s.right.node s.root []) (λ place crossed at. end_alike g e.right s.right.ids s.right.ways r place at))

@@ -20,3 +20,4 @@ pub mod CrossLaws
 pub mod StepLaws
 pub mod DoneLaws
 pub mod SeekingLaws
+pub mod Touching

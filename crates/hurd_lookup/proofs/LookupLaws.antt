@@ -37,7 +37,7 @@ module _ (t p : ℕ) (path : List ℕ) (flags : OpenFlags) (mode : Mode) where
   abbrev found : World → Result Outcome Errno
   found w = seeking_asks w t p path flags mode
 
-  found_alike : FoundLaws t flags found
+  pub found_alike : FoundLaws t flags found
   found_alike v w At Near Entries T g b P k =
       first_alike (OutcomeShown At Entries T v flags) _ (found_asks v t p path r) (found_asks w t p path r) _ _
       (first_alike _ _ _ _ _ _ (b.port p) (λ q is on.

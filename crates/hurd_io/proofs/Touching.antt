@@ -1,0 +1,60 @@
+-- What reads and writes touch, by the port that they are made by.
+use Rattle.std.proofs.Common.{◌≡◌, ◌⊎◌, not, ℕ, ℤ, Bool, true, false, List, [], ◌∷◌, refl, ap, inl, inr}
+use Rattle.std.specs.Prelude.{Result, Ok, Err}
+use Rattle.hurd_machine.proofs.Common.{Change, Did, EditOpen, Errno, Name, OnDid, OpenOf, Part, Question, READ, WRITE, World, asked_at, asked_parts, handle_asks, is_dir, stream_at}
+use Rattle.hurd_machine.specs.declared.handle.Handle.{Handle}
+use Rattle.hurd_machine.proofs.Asks.{first_ok, given_ok}
+use Rattle.hurd_io.specs.declared.offset.Offset.{Offset}
+use Rattle.hurd_io.specs.declared.offset.Offset.TheVariants.{Place, Cursor}
+use Rattle.hurd_io.specs.declared.offset.IoAt.{IoAt}
+use Rattle.hurd_ports.specs.declared.table.Opened.{Opened}
+use Rattle.hurd_ports.specs.Steps.{at_cursor}
+use Rattle.hurd_io.specs.Io.{moved, Moves, io_at, offset_of, read_asks, reads, touches_read, write_asks, write_cursor, writes, touches_write}
+
+moves_open : (f : Offset) (stream : Bool) (o : Name) (p : Part) → Moves f stream o p → p ≡ OpenOf o
+moves_open (Place n) stream o p on = absurd on
+moves_open Cursor true o p on = absurd on
+moves_open Cursor false o p on = on
+
+parts_of : {A P : Type 0} (x : Result A Errno) (k : A → Part → Type 0) (p : Part) → ((a : A) → x ≡ Ok a → k a p → P) → asked_parts x k p → P
+unfolding asked_parts
+parts_of (Err e) k p h on = absurd on
+parts_of (Ok a) k p h on = h a refl on
+
+-- what a call touches that asks this of what a port has open: what the server does to the node, or the open
+pub record Touches {T : Type 0} (w : World) (t p mode : ℕ) (q : ℕ → Question T) (k : Part) : Type 0 where
+  pub handle : Handle
+  pub is_handle : handle_asks w t p mode ≡ Ok handle
+  pub on : ((at : ℕ) × (d : Did T) × (asked_at (q at) handle.node w ≡ Ok d) × OnDid handle.node d k) ⊎ (k ≡ OpenOf handle.open_name)
+
+touched : {T : Type 0} (w : World) (t p mode : ℕ) (q : ℕ → Question T) (k : Part) (a : IoAt) (d : Did T) (h : Handle) → handle_asks w t p mode ≡ Ok h → h.node ≡ a.node → h.open_name ≡ a.open_name
+    → asked_at (q a.at) a.node w ≡ Ok d → OnDid a.node d k ⊎ Moves a.offset a.is_stream a.open_name k → Touches w t p mode q k
+touched w t p mode q k a d h is node name told on = record {
+  handle = h;
+  is_handle = is;
+  on = elim on [
+    | inl did ↦ inl (rw node (a.at, d, told, did))
+    | inr moved ↦ inr (rw name (moves_open a.offset a.is_stream a.open_name k moved))
+  ];
+}
+
+pub read_touches : (w : World) (t p amount : ℕ) (offset : ℤ) (k : Part) → touches_read w t p amount offset k → Touches w t p READ (reads amount) k
+read_touches w t p amount offset k = parts_of (read_asks w t p offset) _ k (λ a is. parts_of (asked_at (reads amount a.at) a.node w) _ k (λ d told on.
+    let h = first_ok (handle_asks w t p READ) _ a is in
+    let file = given_ok _ (not (is_dir h.0.kind)) _ a h.2 in
+    let o = first_ok (offset_of offset) _ a file.1 in
+    let same : io_at h.0 (stream_at w h.0.node) h.0.opened.cursor o.0 ≡ a = cc (o.2) in
+    touched w t p READ (reads amount) k a d h.0 h.1 (ap (λ (z : IoAt). z.node) same) (ap (λ (z : IoAt). z.open_name) same) told on))
+
+pub write_touches : (w : World) (t p : ℕ) (bytes : List ℕ) (offset : ℤ) (k : Part) → touches_write w t p bytes offset k → Touches w t p WRITE (writes bytes) k
+write_touches w t p bytes offset k = parts_of (write_asks w t p offset) _ k (λ a is. parts_of (asked_at (writes bytes a.at) a.node w) _ k (λ d told on.
+    let h = first_ok (handle_asks w t p WRITE) _ a is in
+    let o = first_ok (offset_of offset) _ a h.2 in
+    let same : io_at h.0 (stream_at w h.0.node) (write_cursor h.0) o.0 ≡ a = cc (o.2) in
+    touched w t p WRITE (writes bytes) k a d h.0 h.1 (ap (λ (z : IoAt). z.node) same) (ap (λ (z : IoAt). z.open_name) same) told on))
+
+-- what holds of no changes, and of an edit of an open, holds of what moves a cursor
+pub moved_all : (P : List Change → Type 0) → P [] → ((o : Name) (f : Opened → Opened) → P (EditOpen o f ∷ [])) → (f : Offset) (stream : Bool) (o : Name) (k : ℕ) → P (moved f stream o k)
+moved_all P none one (Place n) stream o k = none
+moved_all P none one Cursor true o k = none
+moved_all P none one Cursor false o k = one o (at_cursor k)
