@@ -69,7 +69,7 @@ pub laws_of : (t : ℕ) (c : Call) → CallLaws t (λ w. plan w t c) (λ w. touc
 laws_of t c = returning_laws t (λ w. row w t c) (λ w. touches w t c) (box_in c) (row_laws t c)
 
 -- what has a name that was given is not new
-old_named : (w : World) (p : Part) → IsOld w p → IsUnnamed w p → ⊥
+pub old_named : (w : World) (p : Part) → IsOld w p → IsUnnamed w p → ⊥
 old_named w (AttrOf n) old new = new old
 old_named w (EmptyOf n) old new = new old
 old_named w (BodyOf n) old new = new old

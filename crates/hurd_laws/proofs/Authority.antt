@@ -34,6 +34,10 @@ use Rattle.hurd_laws.specs.Integrity.{HasOpen, Owns, Owned, MayChange, Counted, 
 abbrev pub Allowed : ℕ → (World → Part → Type 0) → Type 0
 Allowed t touches = (S : ℕ → Bool) (w : World) → Sound w → S t ≡ true → (p : Part) → touches w p → MayChange S w p
 
+-- two good answers that are the same answer the same
+pub ok_is : {A : Type 0} {a b : A} → ◌≡◌ {A = Result A Errno} (Ok a) (Ok b) → a ≡ b
+ok_is e = cc (e)
+
 pub parts_may : {A P : Type 0} (x : Result A Errno) (k : A → Part → Type 0) (p : Part) → ((a : A) → x ≡ Ok a → k a p → P) → asked_parts x k p → P
 unfolding asked_parts
 parts_may (Err e) k p h on = absurd on

@@ -10,18 +10,15 @@ use Rattle.hurd_machine.proofs.Frame.{AllWithin, frame, gone_kept}
 use Rattle.hurd_machine.proofs.Permits.{AllExact}
 use Rattle.hurd_machine.proofs.Settle.{settle_part, settle_agrees}
 use Rattle.hurd_machine.proofs.Views.{Sees-back}
+use Rattle.hurd_laws.specs.Integrity.{IsLost}
 
 -- changes that settle nowhere, or at their end alone
 pub data Ends (cs : List Change) : Type 0 where
   Never : AllExact cs → Ends cs
   Last : (ds : List Change) → AllExact ds → cs ≡ ds ++ Settle ∷ [] → Ends cs
 
--- it is gone, and nobody sees it
-abbrev pub GoneUnseen : World → Part → Type 0
-GoneUnseen x p = IsGone x p × ((S : ℕ → Bool) → Sees S x p → ⊥)
-
 abbrev pub Stays : World → World → Part → Type 0
-Stays w x p = (part x p ≡ part w p) ⊎ GoneUnseen x p
+Stays w x p = (part x p ≡ part w p) ⊎ IsLost x p
 
 abbrev IsOrNot : Type 0 → Type 0
 IsOrNot A = A ⊎ (A → ⊥)

@@ -73,11 +73,11 @@ one_ends e = ends_cons e settle_ends
 ends_answered : {A : Type 0} (x : Result A Errno) (k : A → Plan) → ((a : A) → Ends (k a).changes) → Ends (answered x k).changes
 ends_answered x k h = answered_all (λ P. Ends P.changes) (λ e. Never tt) x k (λ a is. h a)
 
-by_bool : (P : Bool → Type 0) → P true → P false → (b : Bool) → P b
+pub by_bool : (P : Bool → Type 0) → P true → P false → (b : Bool) → P b
 by_bool P x y true = x
 by_bool P x y false = y
 
-by_option : {A : Type 0} (P : Option A → Type 0) → P None → ((a : A) → P (Some a)) → (o : Option A) → P o
+pub by_option : {A : Type 0} (P : Option A → Type 0) → P None → ((a : A) → P (Some a)) → (o : Option A) → P o
 by_option P x y None = x
 by_option P x y (Some a) = y a
 

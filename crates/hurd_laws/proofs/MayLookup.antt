@@ -17,10 +17,7 @@ use Rattle.hurd_lookup.proofs.EndLaws.{OutcomeSeen}
 use Rattle.hurd_lookup.proofs.FoundLaws.{FoundLaws}
 use Rattle.hurd_lookup.proofs.WalkLaws.{no_ids_taken, seen_ground, taken_powers}
 use Rattle.hurd_laws.specs.Integrity.{ActsWith, AsTask, ByRight, Counted, Entered, Enters, MayChange, ToEnter}
-use Rattle.hurd_laws.proofs.Authority.{Allowed, parts_may, may_at, node_may}
-
-ok_is : {A : Type 0} {a b : A} → ◌≡◌ {A = Result A Errno} (Ok a) (Ok b) → a ≡ b
-ok_is e = cc (e)
+use Rattle.hurd_laws.proofs.Authority.{Allowed, ok_is, parts_may, may_at, node_may}
 
 -- what was found by a right whose ids S acts with, S may touch
 

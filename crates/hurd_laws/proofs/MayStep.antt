@@ -1,7 +1,7 @@
 -- The law that a step changes only what its caller may change, from what each call touches: each call has a line.
 use Rattle.std.proofs.Common.{◌≡◌, ◌≢◌, ◌⊎◌, ℕ, Bool, true, [], ◌∷◌, refl, ap, sym, subst, inl, inr}
 use Rattle.std.specs.Prelude.{Result, Ok, Err}
-use Rattle.hurd_machine.proofs.Common.{AttrOf, BodyOf, Call, EmptyOf, Errno, Nothing, OpenOf, OptionsOf, Part, Plan, Right, Send, Sound, TaskOf, TextOf, UsersOf, World, after_plan, answered, part, with_sent}
+use Rattle.hurd_machine.proofs.Common.{Call, Errno, Nothing, Part, Plan, Right, Send, Sound, TaskOf, World, after_plan, answered, part, with_sent}
 use Rattle.hurd_machine.specs.declared.call.Reply.TheVariants.{Done}
 use Rattle.hurd_ports.proofs.TaskLaws.{edit-here, one_or_other}
 use Rattle.hurd_core.specs.Core.{send_asks}
@@ -10,10 +10,10 @@ use Rattle.hurd_laws.specs.Laws.{IsOld}
 use Rattle.hurd_machine.specs.declared.call.Call.TheVariants.{PortDeallocate, PortSend, PortReceive, AuthMakeauth, DirLookup, IoRead, IoWrite, IoSeek, IoStat, IoReadable, IoGetOpenmodes, IoSetAllOpenmodes, IoDuplicate, IoReauthenticate, IoRestrictAuth, IoIdentity, FileSetSize, FileChmod, FileChown, FileCheckAccess, FileSetTranslator, FileGetTranslator, FileGetTranslatorCntl, FileGetcontrol, FsysStartup, StartFailed, FsysGetroot, FsysGoaway, FsysGetOptions, FsysSetOptions, DirReaddir, DirMkdir, DirRmdir, DirUnlink, DirLink, DirMkfile, DirRename}
 use Rattle.hurd_laws.specs.Step.{plan, touches, after}
 use Rattle.hurd_laws.specs.Integrity.{Integrity, IsDelivered, IsLost, MayChange}
-use Rattle.hurd_laws.proofs.Assembled.{laws_of}
+use Rattle.hurd_laws.proofs.Assembled.{laws_of, old_named}
 use Rattle.hurd_laws.proofs.Ends.{ends_stays}
 use Rattle.hurd_laws.proofs.EndsStep.{plan_ends}
-use Rattle.hurd_machine.proofs.Frame.{Full, IsUnnamed}
+use Rattle.hurd_machine.proofs.Frame.{Full}
 use Rattle.hurd_laws.proofs.Authority.{Allowed, deallocate_may, send_may, sent_held, read_may, write_may, seek_may, set_openmodes_may, share_may, set_size_may, chmod_may, chown_may}
 use Rattle.hurd_laws.proofs.MayDirs.{mkdir_may, mkfile_may, unlink_may, rmdir_may, link_may, rename_may}
 use Rattle.hurd_laws.proofs.MayServers.{goaway_may, set_options_may, set_translator_may, startup_may}
@@ -72,17 +72,6 @@ own_may S w t ours p out e = out (subst (MayChange S w) (sym e) ours)
 
 abbrev Left : (ℕ → Bool) → World → World → Part → Type 0
 Left S w x p = (part x p ≡ part w p) ⊎ (IsLost x p ⊎ IsDelivered S w x p)
-
--- what has a name that was given is not new
-old_named : (w : World) (p : Part) → IsOld w p → IsUnnamed w p → ⊥
-old_named w (AttrOf n) old new = new old
-old_named w (EmptyOf n) old new = new old
-old_named w (BodyOf n) old new = new old
-old_named w (OpenOf o) old new = new old
-old_named w (OptionsOf s) old new = new old
-old_named w (TextOf s) old new = new old
-old_named w (UsersOf s) old new = new old
-old_named w (TaskOf t) old new = new
 
 kept : (S : ℕ → Bool) (w : World) (t : ℕ) (c : Call) (p : Part) → Sound w → S t ≡ true → IsOld w p → (MayChange S w p → ⊥) → (SendsTo c p → ⊥) → Left S w (after w t c) p
 kept S w t c p s ours old out apart =

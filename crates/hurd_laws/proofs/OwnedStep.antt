@@ -38,6 +38,7 @@ use Rattle.hurd_laws.proofs.Assembled.{laws_of}
 use Rattle.hurd_laws.proofs.Authority.{chmod_owns, giver_owns}
 use Rattle.hurd_laws.proofs.MayServers.{owner_owns}
 use Rattle.hurd_laws.proofs.Owned.{AllKeep, Keeps, KeepsOwned, all_kept}
+use Rattle.hurd_laws.proofs.EndsStep.{by_bool, by_option}
 
 -- edits of headers that keep it
 
@@ -108,14 +109,6 @@ module _ {n : Name} where
 -- an answer that keeps it
 fixed_answered : {A : Type 0} {n : Name} (x : Result A Errno) (k : A → Plan) → ((a : A) → x ≡ Ok a → Fixed n (k a).changes) → Fixed n (answered x k).changes
 fixed_answered {n = n} x k h = answered_all (λ P. Fixed n P.changes) (λ e. none) x k h
-
-by_bool : (P : Bool → Type 0) → P true → P false → (b : Bool) → P b
-by_bool P x y true = x
-by_bool P x y false = y
-
-by_option : {A : Type 0} (P : Option A → Type 0) → P None → ((a : A) → P (Some a)) → (o : Option A) → P o
-by_option P x y None = x
-by_option P x y (Some a) = y a
 
 module _ (w : World) (n : Name) where
   closing_fixed : (o : Option (Name × OpenFlags)) → Fixed n (closing w o)

@@ -82,7 +82,8 @@ pub fn view_settled()
 {}
 
 /// In a step of a task of a set, a part that the set may not change stays as it was; or it goes, and nobody sees it afterwards; or it is
-/// another's task, to which a right of the set's was sent.
+/// another's task, to which a right of the set's was sent. A node that the set does not own keeps its kind, its owner, group and mode,
+/// and the words stored with it, as long as it is there.
 pub fn integrity()
     ensures parts { Integrity }
     ensures owned { OwnersAlone }
