@@ -2,8 +2,7 @@
 use Rattle.std.proofs.Common.{◌≡◌, ℕ, Bool, true, false, List, [], ◌∷◌, Option, Some, None, refl, ap, subst, ◌∙◌, inl, inr}
 use Rattle.std.specs.Prelude.{Result, Ok, Err}
 use Rattle.hurd_machine.proofs.Common.{Coherent, Control, EDIED, Errno, Name, Plan, ServerInfo, World, ports_of, retexting, server_at, takes_options}
-use Rattle.hurd_trans_iface.specs.Meaning.{ServerKind, Tmpfs, Hello, Null, Zero, Symlink, Firmlink, Union, Magic, Drip, Fifo, behaviour_of, root_of}
-use Rattle.hurd_machine.specs.Sight.{is_link}
+use Rattle.hurd_trans_iface.specs.Meaning.{behaviour_of}
 use Rattle.hurd_trans_iface.proofs.Goods.{good}
 use Rattle.hurd_nodes.specs.Shown.{info_taken}
 use Rattle.hurd_machine.specs.declared.call.Reply.TheVariants.{Done}
@@ -14,21 +13,6 @@ use Rattle.hurd_machine.proofs.CallLaws.{CallLaws, answered_piece}
 use Rattle.hurd_core.specs.Control.{control_of}
 use Rattle.hurd_fsys.specs.Fsys.{plan_set_options, touches_set_options}
 use Rattle.hurd_fsys.proofs.ControlLaws.{control_is, control_same, control_plain}
-
--- no link takes a text
-taken_leads : (k : ServerKind) (words : List (List ℕ)) (text : List ℕ) → (behaviour_of k).set_options words ≡ Ok (Some text) → is_link (root_of k text).crossing ≡ false
-taken_leads Tmpfs words text e = refl
-taken_leads Hello words text e = refl
-taken_leads Null words text e = refl
-taken_leads Zero words text e = refl
-taken_leads Symlink [] text e = absurd (cc)
-taken_leads Symlink (w ∷ ws) text e = absurd (cc)
-taken_leads Firmlink words text e = refl
-taken_leads Union words text e = refl
-taken_leads Magic [] text e = absurd (cc)
-taken_leads Magic (w ∷ ws) text e = absurd (cc)
-taken_leads Drip words text e = refl
-taken_leads Fifo words text e = refl
 
 module _ (t c : ℕ) (words : List (List ℕ)) where
   abbrev asks : World → Name → Result (ServerInfo × Option (List ℕ)) Errno
@@ -51,7 +35,7 @@ module _ (t c : ℕ) (words : List (List ℕ)) where
       by_server (Some i) at is = by_answer i ((behaviour_of i.kind).set_options words) at refl is
 
   may_get : (w : World) (s : Name) (a : ServerInfo × Option (List ℕ)) → Takes w s a → MayGet w s a.0 a.1
-  may_get w s a k text is = let takes = k.takes ∙ ap Ok is in ((good a.0.kind).options_root words text takes, taken_leads a.0.kind words text takes)
+  may_get w s a k text is = (good a.0.kind).options_root words text (k.takes ∙ ap Ok is)
 
   asks_plain : (w : World) (s : Name) → IsPlain (asks w s)
   asks_plain w s = by_server (server_at w s)

@@ -10,7 +10,7 @@ use Rattle.hurd_machine.proofs.Filled.{KeepsNodes}
 use Rattle.hurd_machine.proofs.Permits.{did_exact}
 use Rattle.hurd_machine.proofs.Opens.{cursor_whole}
 use Rattle.hurd_machine.proofs.Edits.{did_whole}
-use Rattle.hurd_machine.proofs.Asks.{IsPlain, ok_plain, err_plain, asked_plain, answered_same, answered_plain, done_plain, first_same, first_ok, given_ok, given_same, stream_same, first_plain, given_plain, handle_same, handle_put, handle_read, handle_plain, asked_seen, reading_untold, handle_seen, written_same, port_same, port_plain, port_seen}
+use Rattle.hurd_machine.proofs.Asks.{IsPlain, ok_plain, err_plain, asked_plain, answered_same, answered_plain, done_plain, first_same, first_ok, given_ok, given_same, stream_same, first_plain, given_plain, handle_same, handle_put, handle_read, handle_plain, asked_seen, handle_seen, written_same, port_same, port_plain, port_seen}
 use Rattle.hurd_machine.proofs.CallLaws.{CallLaws, answered_piece, looking_laws}
 use Rattle.hurd_io.specs.declared.offset.Offset.{Offset}
 use Rattle.hurd_io.specs.declared.offset.Offset.TheVariants.{Place, Cursor}
@@ -89,7 +89,7 @@ read_laws t p amount offset = io_laws t (λ w. read_asks w t p offset) (reads am
       given_same _ _ _ _ _ refl (λ file. first_same _ _ _ _ refl (λ o e. begins_same a h (handle_seen t ours p READ h is) h.opened.cursor o)));
   told_same = λ S v w c a ours x is.
       let h = read_by v t p offset x is in
-      asked_seen a x.node (reads amount x.at) (reading_untold x.at (min amount most_read)) c (subst (λ n. Sees S v (BodyOf n)) h.2 (handle_read t ours p h.0 h.1));
+      asked_seen a x.node (reads amount x.at) (λ k text out. (good k).guards.read_untold text out x.at (min amount most_read)) c (subst (λ n. Sees S v (BodyOf n)) h.2 (handle_read t ours p h.0 h.1));
   asks_plain = λ w. first_plain _ _ (handle_plain w t p READ) (λ h is. given_plain _ _ _ refl (λ file. first_plain _ _ (offset_plain offset) (λ o e. ok_plain _)));
   told_plain = λ at k. (good k).read_plain at (min amount most_read);
   reply_plain = λ bytes. refl;

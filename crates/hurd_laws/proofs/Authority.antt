@@ -3,11 +3,9 @@ use Rattle.std.proofs.Common.{◌≡◌, ◌⊎◌, ◌∙◌, ◌||◌, ◌&&�
 use Rattle.std.specs.Prelude.{Result, Ok, Err}
 use Rattle.hurd_creds.specs.declared.attrs.Attrs.{Attrs}
 use Rattle.hurd_creds.specs.Access.{is_root, holds_uid, holds_gid}
-use Rattle.hurd_trans_iface.specs.Nodes.{Node, Body, Content, Listing}
-use Rattle.hurd_trans_iface.specs.Behaviour.{only, reading}
-use Rattle.hurd_trans_iface.specs.TmpfsKind.{read_bytes}
-use Rattle.hurd_trans_iface.specs.Kinds.{ServerKind, behaviour_of, Tmpfs, Hello, Null, Zero, Symlink, Firmlink, Union, Magic, Drip, Fifo}
-use Rattle.hurd_trans_iface.specs.Meaning.{root_of}
+use Rattle.hurd_trans_iface.specs.Nodes.{Node}
+use Rattle.hurd_trans_iface.specs.Behaviour.{reading}
+use Rattle.hurd_trans_iface.proofs.Goods.{good}
 use Rattle.hurd_nodes.specs.Needs.{streams_by}
 use Rattle.hurd_nodes.specs.Shown.{ServerInfo, asked_of}
 use Rattle.hurd_machine.proofs.Common.{AttrOf, BodyOf, Control, Did, Errno, Holds, IdSets, Io, Mode, Name, Named, OnDid, OnDrop, OnRight, OpenFlags, OpenOf, Part, Question, READ, Right, Seen, Sound, Start, TaskOf, UsersOf, WRITE, World, asked_at, asked_parts, bare, handle_asks, info_at, owns, port_asks, ports_of, stream_at}
@@ -28,7 +26,7 @@ use Rattle.hurd_io.proofs.Touching.{Touches, read_touches, write_touches}
 use Rattle.hurd_files.specs.Files.{set_size_asks, touches_set_size}
 use Rattle.hurd_files.specs.Access.{gives, setting_asks, touches_chmod, touches_chown}
 use Rattle.hurd_files.proofs.AccessLaws.{may_set}
-use Rattle.hurd_laws.specs.Integrity.{HasOpen, Owns, Owned, MayChange, Counted, Written, Drained, ToWrite, ToDrain}
+use Rattle.hurd_laws.specs.Integrity.{HasOpen, Owns, Owned, MayChange, Counted, Sized, Written, Drained, ToWrite, ToDrain}
 
 -- of a call of task t: what it touches, whoever has the task may change
 abbrev pub Allowed : ℕ → (World → Part → Type 0) → Type 0
@@ -58,7 +56,7 @@ module _ {S : ℕ → Bool} {w : World} where
 
   drop_may : (r : Right) → Holds S w r → (p : Part) → OnDrop w r p → MayChange S w p
   drop_may (Io r) h p (inl on) = right_may (Io r) h p on
-  drop_may (Io r) h p (inr on) = may_at S w p (AttrOf r.node) on.1 (Counted on.0 (Held r h refl))
+  drop_may (Io r) h p (inr on) = may_at S w p (AttrOf r.node) on.1 (Counted (record { counts = on.0; seen = Held r h refl }))
   drop_may (Control s) h p on = absurd on
   drop_may (Start n) h p on = absurd on
 
@@ -83,7 +81,7 @@ send_may t p q S w ours k = parts_may _ _ k (λ r is on. elim on [ inl a ↦ inl
 -- what is open
 
 module _ {S : ℕ → Bool} {w : World} (t : ℕ) (ours : S t ≡ true) (p mode : ℕ) (a : Handle) (is : handle_asks w t p mode ≡ Ok a) where
-  has_open : HasOpen S w a.node mode
+  pub has_open : HasOpen S w a.node mode
   has_open = let by = handled w t p mode a is in record { right = by.right; held = holds_right t ours p (Io by.right) by.is_right; node = by.node; opened = a.opened; is_open = by.opened; modes = by.modes }
 
   open_may : MayChange S w (OpenOf a.open_name)
@@ -91,7 +89,7 @@ module _ {S : ℕ → Bool} {w : World} (t : ℕ) (ours : S t ≡ true) (p mode 
 
 wrote_may : {S : ℕ → Bool} {w : World} {T : Type 0} (n : Name) (d : Did T) → HasOpen S w n WRITE → (p : Part) → OnDid n d p → MayChange S w p
 wrote_may {S} {w} n d h p (inl on) = may_at S w p (BodyOf n) on.1 (ToWrite h)
-wrote_may {S} {w} n d h p (inr on) = may_at S w p (AttrOf n) on.1 (Written h)
+wrote_may {S} {w} n d h p (inr on) = may_at S w p (AttrOf n) on.1 (Sized (Written h))
 
 -- what the server does to a node, or the cursor of its open
 io_may : {S : ℕ → Bool} {w : World} {T : Type 0} (t : ℕ) → S t ≡ true → (p mode : ℕ) (q : ℕ → Question T) (k : Part) → (u : Touches w t p mode q k)
@@ -108,48 +106,30 @@ write_may t p bytes offset S w s ours k on =
 
 -- a read changes a stream alone
 
--- nothing changes
-pub record Keeps {T : Type 0} (d : Did T) : Type 0 where
-  pub bytes : Changes d.bytes → ⊥
-  pub size : Changes d.size → ⊥
-
-only_keeps : {T : Type 0} (x : T) (d : Did T) → only x ≡ Ok d → Keeps d
-only_keeps x d is = let same : ◌≡◌ {A = Did _} (record { told = x; bytes = None; size = None }) d = cc (is) in subst Keeps same (record { bytes = λ c. c; size = λ c. c })
-
-read_keeps : (k : ServerKind) (text : List ℕ) (x : Node) (at amount : ℕ) (d : Did (List ℕ)) → reading at amount (behaviour_of k) text x ≡ Ok d → (root_of k text).is_stream ≡ false → Keeps d
-read_keeps Tmpfs text x at amount d is lone = by x.body is
-  where
-    by : (b : Body) → read_bytes at amount b ≡ Ok d → Keeps d
-    by (Content bs) e = only_keeps _ d e
-    by (Listing es) e = absurd (cc (e))
-read_keeps Hello text x at amount d is lone = only_keeps _ d is
-read_keeps Null text x at amount d is lone = only_keeps _ d is
-read_keeps Zero text x at amount d is lone = only_keeps _ d is
-read_keeps Symlink text x at amount d is lone = only_keeps _ d is
-read_keeps Firmlink text x at amount d is lone = only_keeps _ d is
-read_keeps Union text x at amount d is lone = absurd (cc (is))
-read_keeps Magic text x at amount d is lone = only_keeps _ d is
-read_keeps Drip text x at amount d is lone = absurd (true≢false lone)
-read_keeps Fifo text x at amount d is lone = absurd (true≢false lone)
-
-asked_keeps : (w : World) (n : Name) (at amount : ℕ) (d : Did (List ℕ)) → asked_at (reading at amount) n w ≡ Ok d → stream_at w n ≡ false → Keeps d
+asked_keeps : (w : World) (n : Name) (at amount : ℕ) (d : Did (List ℕ)) → asked_at (reading at amount) n w ≡ Ok d → stream_at w n ≡ false → (d.bytes ≡ None) × (d.size ≡ None)
 asked_keeps w n at amount d is lone = by (info_at w n) (node_at w n) is lone
   where
-    by : (i : Option ServerInfo) (x : Option Node) → asked_of (reading at amount) i x ≡ Ok d → streams_by i ≡ false → Keeps d
+    by : (i : Option ServerInfo) (x : Option Node) → asked_of (reading at amount) i x ≡ Ok d → streams_by i ≡ false → (d.bytes ≡ None) × (d.size ≡ None)
     by None x e l = absurd (cc (e))
     by (Some i) None e l = absurd (cc (e))
-    by (Some i) (Some x) e l = read_keeps i.kind i.text x at amount d e l
+    by (Some i) (Some x) e l = (good i.kind).read_keeps i.text l x at amount d e
+
+-- what it changes was open to read, of a stream
+pub read_drains : {S : ℕ → Bool} {w : World} (n : Name) (at amount : ℕ) (d : Did (List ℕ)) → HasOpen S w n READ → asked_at (reading at amount) n w ≡ Ok d → Changes d.bytes ⊎ Changes d.size → stream_at w n ≡ true
+read_drains {S} {w} n at amount d h told changes = by (stream_at w n) refl
+  where
+    by : (b : Bool) → stream_at w n ≡ b → stream_at w n ≡ true
+    by true is = is
+    by false is = let k = asked_keeps w n at amount d told is in elim changes [ inl c ↦ absurd (subst Changes k.0 c) | inr c ↦ absurd (subst Changes k.1 c) ]
 
 pub read_may : (t p amount : ℕ) (offset : ℤ) → Allowed t (λ w. touches_read w t p amount offset)
 read_may t p amount offset S w s ours k on =
     let u = read_touches w t p amount offset k on in
-    io_may t ours p READ (reads amount) k u (λ d h at told did. drained (stream_at w u.handle.node) u.handle.node refl d h at told did)
+    io_may t ours p READ (reads amount) k u (λ d h at told did. drained u.handle.node d h at told did)
   where
-    drained : (b : Bool) (n : Name) → stream_at w n ≡ b → (d : Did (List ℕ)) → HasOpen S w n READ → (at : ℕ) → asked_at (reads amount at) n w ≡ Ok d → OnDid n d k → MayChange S w k
-    drained true n is d h at told (inl on) = may_at S w k (BodyOf n) on.1 (ToDrain h is)
-    drained true n is d h at told (inr on) = may_at S w k (AttrOf n) on.1 (Drained h is)
-    drained false n is d h at told (inl on) = absurd ((asked_keeps w n at _ d told is).bytes on.0)
-    drained false n is d h at told (inr on) = absurd ((asked_keeps w n at _ d told is).size on.0)
+    drained : (n : Name) (d : Did (List ℕ)) → HasOpen S w n READ → (at : ℕ) → asked_at (reads amount at) n w ≡ Ok d → OnDid n d k → MayChange S w k
+    drained n d h at told (inl on) = may_at S w k (BodyOf n) on.1 (ToDrain h (read_drains n at _ d h told (inl on.0)))
+    drained n d h at told (inr on) = may_at S w k (AttrOf n) on.1 (Sized (Drained h (read_drains n at _ d h told (inr on.0))))
 
 pub seek_may : (t p : ℕ) (offset : ℤ) (whence : Whence) → Allowed t (λ w. touches_seek w t p offset whence)
 seek_may t p offset whence S w s ours q = parts_may (seek_asks w t p offset whence) _ q (λ a is on.
@@ -171,11 +151,14 @@ share_may t p S w s ours q = parts_may (share_asks w t p) _ q (λ a is on.
 
 -- files
 
-pub set_size_may : (t p size : ℕ) → Allowed t (λ w. touches_set_size w t p size)
-set_size_may t p size S w s ours q = parts_may (set_size_asks w t p) _ q (λ n is. parts_may _ _ q (λ d told on.
+pub set_size_open : {S : ℕ → Bool} {w : World} (t : ℕ) → S t ≡ true → (p : ℕ) (n : Name) → set_size_asks w t p ≡ Ok n → HasOpen S w n WRITE
+set_size_open {S} {w} t ours p n is =
     let h = first_ok (handle_asks w t p WRITE) _ n is in
     let node : h.0.node ≡ n = cc (h.2) in
-    wrote_may n d (subst (λ m. HasOpen S w m WRITE) node (has_open t ours p WRITE h.0 h.1)) q on))
+    subst (λ m. HasOpen S w m WRITE) node (has_open t ours p WRITE h.0 h.1)
+
+pub set_size_may : (t p size : ℕ) → Allowed t (λ w. touches_set_size w t p size)
+set_size_may t p size S w s ours q = parts_may (set_size_asks w t p) _ q (λ n is. parts_may _ _ q (λ d told on. wrote_may n d (set_size_open t ours p n is) q on))
 
 module _ {S : ℕ → Bool} {w : World} (t : ℕ) (ours : S t ≡ true) (p : ℕ) (n : Named) (k : IsNamed w t p n) where
   pub owner_may : owns n.right.ids (bare n.header) ≡ true → Owns S w n.right.node

@@ -1,7 +1,7 @@
 -- What goes by a call whose changes settle at their end alone: afterwards nobody sees it.
-use Rattle.std.proofs.Common.{◌≡◌, ◌⊎◌, ◌∙◌, ℕ, Bool, List, [], ◌∷◌, ◌++◌, Option, Some, None, refl, sym, subst, inl, inr}
+use Rattle.std.proofs.Common.{◌≡◌, ◌⊎◌, ◌∙◌, List, [], ◌∷◌, ◌++◌, Option, Some, None, refl, sym, subst, inl, inr}
 use Rattle.std.specs.Option.{option_map}
-use Rattle.hurd_machine.proofs.Common.{AtRest, AttrOf, BodyOf, Change, Coherent, EmptyOf, IsGone, Linked, OpenOf, OptionsOf, Part, Sees, ServerInfo, Settle, TaskOf, TextOf, UsersOf, World, apply, apply_all, body_at, faced, header_at, is_empty_dir, part, server_at, site_at}
+use Rattle.hurd_machine.proofs.Common.{AtRest, AttrOf, BodyOf, Change, Coherent, EmptyOf, IsGone, Linked, OpenOf, OptionsOf, Part, ServerInfo, Settle, TaskOf, TextOf, UsersOf, World, apply, apply_all, body_at, faced, header_at, is_empty_dir, part, server_at, site_at}
 use Rattle.hurd_machine.specs.World.{nodes_of}
 use Rattle.hurd_machine.specs.Change.{settle}
 use Rattle.hurd_machine.proofs.Coherence.{AllProper}

@@ -10,5 +10,6 @@ pub mod MayLookup
 pub mod MayStep
 pub mod Ends
 pub mod EndsStep
-pub mod Owned
-pub mod OwnedStep
+pub mod Reasons
+pub mod ReasonsStep
+pub mod SparedRun

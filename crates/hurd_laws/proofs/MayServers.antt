@@ -24,12 +24,13 @@ use Rattle.hurd_fsys.proofs.StartingLaws.{Starter, starter}
 use Rattle.hurd_machine.specs.World.{IsAmong}
 use Rattle.hurd_ports.specs.Tables.{start_of}
 use Rattle.std.specs.Prelude.{◌++◌, map, is_some}
-use Rattle.hurd_laws.specs.Integrity.{ByControl, BySeat, Gone, MayChange, Owned, Owns, RootOf, Rules, Served, Started, ToEnter}
+use Rattle.hurd_laws.specs.Integrity.{ByControl, BySeat, Gone, MayChange, Owned, Owns, RootOf, Rules, Seated, SentAway, Served, Sized, Started, ToEnter}
 use Rattle.hurd_laws.proofs.Authority.{Allowed, parts_may, may_at}
 
 -- a server that S may send away goes with all that is its own
 goes_may : (S : ℕ → Bool) (w : World) (s : Name) → Rules S w s → (p : Part) → Goes w s p → MayChange S w p
-goes_may S w s r (AttrOf n) on = Served s r on
+goes_may S w s r (AttrOf n) (inl on) = Served s r on
+goes_may S w s r (AttrOf n) (inr on) = Seated (SentAway s r on)
 goes_may S w s r (EmptyOf n) on = Gone s r on
 goes_may S w s r (BodyOf n) on = ToEnter (Gone s r on)
 goes_may S w s r (OptionsOf q) on = subst (Rules S w) (sym on) r
@@ -37,33 +38,40 @@ goes_may S w s r (TextOf q) on = inr (subst (Rules S w) (sym on) r)
 goes_may S w s r (UsersOf q) on = inr (subst (Rules S w) (sym on) r)
 goes_may S w s r p on = absurd on
 
-pub goaway_may : (t c : ℕ) (flags : GoawayFlags) → Allowed t (λ w. touches_goaway w t c flags)
-goaway_may t c flags S w s ours q = parts_may (goaway_asks w t c flags) _ q (λ n is on.
+pub goaway_rules : {S : ℕ → Bool} {w : World} (t : ℕ) → S t ≡ true → (c : ℕ) (flags : GoawayFlags) (n : Name) → goaway_asks w t c flags ≡ Ok n → Rules S w n
+goaway_rules {S} {w} t ours c flags n is =
     let k = first_ok (control_asks w t c) _ n is in
     let g = given_ok _ (may_go w k.0.server (asks_goaway flags FORCE)) _ n k.2 in
     let same : k.0.server ≡ n = cc (g.1) in
     let both = and_both (not (same_name k.0.server boot_name)) (asks_goaway flags FORCE || (users w k.0.server == 0)) g.0 in
     let held = holds_right t ours c (Control k.0.server) (is_controlled w t c k.0 k.1).is_right in
-    goes_may S w n (subst (Rules S w) same (ByControl held (λ e. true≢false (sym both.0 ∙ ap (λ (z : Name). not (same_name k.0.server z)) (sym e) ∙ ap not (same_name-itself k.0.server))))) q on)
+    subst (Rules S w) same (ByControl held (λ e. true≢false (sym both.0 ∙ ap (λ (z : Name). not (same_name k.0.server z)) (sym e) ∙ ap not (same_name-itself k.0.server))))
 
--- the server that takes options is there
-takes_there : (w : World) (s : Name) (words : List (List ℕ)) (a : ServerInfo × Option (List ℕ)) → takes_options words (server_at w s) ≡ Ok a → server_at w s ≡ Some a.0
+pub goaway_may : (t c : ℕ) (flags : GoawayFlags) → Allowed t (λ w. touches_goaway w t c flags)
+goaway_may t c flags S w s ours q = parts_may (goaway_asks w t c flags) _ q (λ n is on. goes_may S w n (goaway_rules t ours c flags n is) q on)
+
+-- the server that takes options is there, and takes these
+pub record TakesThere (w : World) (s : Name) (words : List (List ℕ)) (a : ServerInfo × Option (List ℕ)) : Type 0 where
+  pub is_server : server_at w s ≡ Some a.0
+  pub takes : (behaviour_of a.0.kind).set_options words ≡ Ok a.1
+
+pub takes_there : (w : World) (s : Name) (words : List (List ℕ)) (a : ServerInfo × Option (List ℕ)) → takes_options words (server_at w s) ≡ Ok a → TakesThere w s words a
 takes_there w s words a is = by (server_at w s) refl is
   where
-    taken : (i : ServerInfo) (r : Result (Option (List ℕ)) Errno) → info_taken i r ≡ Ok a → i ≡ a.0
-    taken i (Ok o) e = let same : (i, o) ≡ a = cc (e) in ap (λ (z : ServerInfo × Option (List ℕ)). z.0) same
-    taken i (Err x) e = absurd (cc (e))
+    taken : (i : ServerInfo) (r : Result (Option (List ℕ)) Errno) → server_at w s ≡ Some i → (behaviour_of i.kind).set_options words ≡ r → info_taken i r ≡ Ok a → TakesThere w s words a
+    taken i (Ok o) at r e = let same : (i, o) ≡ a = cc (e) in subst (TakesThere w s words) same (record { is_server = at; takes = r })
+    taken i (Err x) at r e = absurd (cc (e))
 
-    by : (o : Option ServerInfo) → server_at w s ≡ o → takes_options words o ≡ Ok a → server_at w s ≡ Some a.0
+    by : (o : Option ServerInfo) → server_at w s ≡ o → takes_options words o ≡ Ok a → TakesThere w s words a
     by None at e = absurd (cc (e))
-    by (Some i) at e = at ∙ ap Some (taken i ((behaviour_of i.kind).set_options words) e)
+    by (Some i) at e = taken i ((behaviour_of i.kind).set_options words) at refl e
 
 pub set_options_may : (t c : ℕ) (words : List (List ℕ)) → Allowed t (λ w. touches_set_options w t c words)
 set_options_may t c words S w s ours q = parts_may (control_of (ports_of w) t c) _ q (λ n is. parts_may (takes_options words (server_at w n)) _ q (λ a takes on.
     let held = holds_right t ours c (Control n) (control_is w t c n is) in
     elim on [
       | inl e ↦ may_at S w q (TextOf n) e (inl held)
-      | inr e ↦ may_at S w q (AttrOf a.0.root) e (RootOf n a.0 held (takes_there w n words a takes) refl)
+      | inr e ↦ may_at S w q (AttrOf a.0.root) e (Sized (RootOf n a.0 held (takes_there w n words a takes).is_server refl))
     ]))
 
 -- file_set_translator
@@ -80,6 +88,9 @@ seat_may S w f n owns old at q (inr goes) = by (not (asks_trans f.active SET) ||
     by false None e on = absurd on
     by false (Some s) e on = goes_may S w s (BySeat n e owns) q on
 
+pub seat_active : (w : World) (f : Setting) (n : Named) (old : Option Name) → seat_asks w f n ≡ Ok old → active_at w n.right.node ≡ old
+seat_active w f n old is = let g = given_ok _ _ _ old is in let h = given_ok _ _ _ old g.1 in cc (h.1)
+
 pub set_translator_may : (t p : ℕ) (f : Setting) (box : Option Meaning) → Allowed t (λ w. touches_set_translator w t p f box)
 set_translator_may t p f box S w s ours q = parts_may (setter_asks w t p f (is_some box)) _ q (λ n is on.
     let k = setter t p f w (is_some box) n is in
@@ -88,14 +99,11 @@ set_translator_may t p f box S w s ours q = parts_may (setter_asks w t p f (is_s
     by : (b : Bool) (n : Named) → Owns S w n.right.node → parts_where b w f box n q → MayChange S w q
     by true n owns on = absurd on
     by false n owns on = parts_may (seat_asks w f n) _ q (λ old is. parts_may (box_aims w n box) _ q (λ targets aims on.
-        let g = given_ok _ _ _ old is in
-        let h = given_ok _ _ _ old g.1 in
-        let same : active_at w n.right.node ≡ old = cc (h.1) in
-        seat_may S w f n.right.node owns old same q on)) on
+        seat_may S w f n.right.node owns old (seat_active w f n old is) q on)) on
 
 -- fsys_startup
 
-start_held : {S : ℕ → Bool} {w : World} (t : ℕ) → S t ≡ true → (s : PendingStart) → Starter t w s → Holds S w (Start s.node)
+pub start_held : {S : ℕ → Bool} {w : World} (t : ℕ) → S t ≡ true → (s : PendingStart) → Starter t w s → Holds S w (Start s.node)
 start_held t ours s k = record { task = t; ours = ours; seat = k.seat; is_task = k.is_task; here = among k.seat.pending k.is_pending }
   where
     among : (p : Option PendingStart) → p ≡ Some s → IsAmong (Start s.node) (start_of p ++ (map (λ q. q.right) k.seat.ports ++ k.seat.inbox))
@@ -104,4 +112,4 @@ start_held t ours s k = record { task = t; ours = ours; seat = k.seat; is_task =
 
 pub startup_may : (t : ℕ) (m : Meaning) → Allowed t (λ w. touches_startup w t m)
 startup_may t m S w s ours q = parts_may (pending_asks w t) _ q (λ k is. parts_may (startup_asks w t m k) _ q (λ a asked on.
-    may_at S w q (AttrOf k.node) on (Started (start_held t ours k (starter t w k is)))))
+    may_at S w q (AttrOf k.node) on (Seated (Started (start_held t ours k (starter t w k is))))))

@@ -9,9 +9,9 @@ use Rattle.hurd_rights.specs.Rights.{plan_send}
 use Rattle.hurd_laws.specs.Laws.{IsOld}
 use Rattle.hurd_machine.specs.declared.call.Call.TheVariants.{PortDeallocate, PortSend, PortReceive, AuthMakeauth, DirLookup, IoRead, IoWrite, IoSeek, IoStat, IoReadable, IoGetOpenmodes, IoSetAllOpenmodes, IoDuplicate, IoReauthenticate, IoRestrictAuth, IoIdentity, FileSetSize, FileChmod, FileChown, FileCheckAccess, FileSetTranslator, FileGetTranslator, FileGetTranslatorCntl, FileGetcontrol, FsysStartup, StartFailed, FsysGetroot, FsysGoaway, FsysGetOptions, FsysSetOptions, DirReaddir, DirMkdir, DirRmdir, DirUnlink, DirLink, DirMkfile, DirRename}
 use Rattle.hurd_laws.specs.Step.{plan, touches, after}
-use Rattle.hurd_laws.specs.Integrity.{Integrity, IsDelivered, IsLost, MayChange}
+use Rattle.hurd_laws.specs.Integrity.{IsDelivered, IsLost, MayChange}
 use Rattle.hurd_laws.proofs.Assembled.{laws_of, old_named}
-use Rattle.hurd_laws.proofs.Ends.{ends_stays}
+use Rattle.hurd_laws.proofs.Ends.{Stays, ends_stays}
 use Rattle.hurd_laws.proofs.EndsStep.{plan_ends}
 use Rattle.hurd_machine.proofs.Frame.{Full}
 use Rattle.hurd_laws.proofs.Authority.{Allowed, deallocate_may, send_may, sent_held, read_may, write_may, seek_may, set_openmodes_may, share_may, set_size_may, chmod_may, chown_may}
@@ -73,15 +73,20 @@ own_may S w t ours p out e = out (subst (MayChange S w) (sym e) ours)
 abbrev Left : (ℕ → Bool) → World → World → Part → Type 0
 Left S w x p = (part x p ≡ part w p) ⊎ (IsLost x p ⊎ IsDelivered S w x p)
 
-kept : (S : ℕ → Bool) (w : World) (t : ℕ) (c : Call) (p : Part) → Sound w → S t ≡ true → IsOld w p → (MayChange S w p → ⊥) → (SendsTo c p → ⊥) → Left S w (after w t c) p
-kept S w t c p s ours old out apart =
+-- what a call doesn't touch stays, or goes unseen
+pub untouched : (w : World) (t : ℕ) (c : Call) (p : Part) → Sound w → IsOld w p → (touches w t c p → ⊥) → p ≢ TaskOf t → Stays w (after w t c) p
+untouched w t c p s old apart other =
     let q = ((laws_of t c).piece w s).piece in
-    elim (ends_stays w s.settled p (Full w t (touches w t c)) unwritten (plan w t c).changes (plan_ends w t c) s.coherent q.proper q.within) [ inl same ↦ inl same | inr lost ↦ inr (inl lost) ]
+    ends_stays w s.settled p (Full w t (touches w t c)) unwritten (plan w t c).changes (plan_ends w t c) s.coherent q.proper q.within
   where
     unwritten : Full w t (touches w t c) p → ⊥
-    unwritten (inl on) = elim (touches_may t c S w s ours p on) [ inl m ↦ out m | inr e ↦ apart e ]
-    unwritten (inr (inl own)) = own_may S w t ours p out own
+    unwritten (inl on) = apart on
+    unwritten (inr (inl own)) = other own
     unwritten (inr (inr new)) = old_named w p old new
+
+kept : (S : ℕ → Bool) (w : World) (t : ℕ) (c : Call) (p : Part) → Sound w → S t ≡ true → IsOld w p → (MayChange S w p → ⊥) → (SendsTo c p → ⊥) → Left S w (after w t c) p
+kept S w t c p s ours old out apart =
+    elim (untouched w t c p s old (λ on. elim (touches_may t c S w s ours p on) [ inl m ↦ out m | inr e ↦ apart e ]) (own_may S w t ours p out)) [ inl same ↦ inl same | inr lost ↦ inr (inl lost) ]
 
 is_task : (k : Part) (q : ℕ) → (k ≡ TaskOf q) ⊎ (k ≢ TaskOf q)
 is_task (TaskOf m) q = elim (one_or_other m q) [ inl e ↦ inl (ap TaskOf e) | inr a ↦ inr (λ e. a (cc (e))) ]
@@ -96,9 +101,9 @@ delivered S w t p q ours P is = go (send_asks w t p q) refl is
     go (Err e) asked is = subst (λ z. Left S w (after_plan w z) (TaskOf q)) is (inl refl)
     go (Ok r) asked is = subst (λ z. Left S w (after_plan w z) (TaskOf q)) is (inr (inr (record { right = r; held = sent_held t ours p q r asked; is_last = edit-here q (with_sent r) w.tasks })))
 
-pub integrity : Integrity
-integrity S w t (PortSend p q) k s ours old out = elim (is_task k q.0) [
+pub parts_kept : (w : World) (t : ℕ) (c : Call) → Sound w → (S : ℕ → Bool) (k : Part) → S t ≡ true → IsOld w k → (MayChange S w k → ⊥) → Left S w (after w t c) k
+parts_kept w t (PortSend p q) s S k ours old out = elim (is_task k q.0) [
   | inl e ↦ subst (Left S w (after w t (PortSend p q))) (sym e) (delivered S w t p q.0 ours (plan_send w t p q.0) refl)
   | inr a ↦ kept S w t (PortSend p q) k s ours old out a
 ]
-integrity S w t c k s ours old out = kept S w t c k s ours old out (λ e. e)
+parts_kept w t c s S k ours old out = kept S w t c k s ours old out (λ e. e)

@@ -6,13 +6,31 @@ use Rattle.hurd_laws.specs.Called.{Lacks, Called, lacks_memory}
 use Rattle.hurd_laws.specs.Runs.{TaskCall, run, replies_to}
 use Rattle.hurd_laws.specs.Served.{Served, kept, told_to, IsolatedRun, ComparedRun}
 use Rattle.hurd_laws.proofs.Assembled.{stays_sound, never_wants_memory}
+use Rattle.hurd_trans_iface.specs.Answers.{entry_of}
+use Rattle.hurd_laws.specs.Integrity.{ByReason, KeepsIntegrity}
+use Rattle.hurd_laws.specs.Spared.{SparesAll}
 use Rattle.hurd_laws.proofs.Headline.{isolated, side_by_side}
+use Rattle.hurd_laws.proofs.Reasons.{same_header}
+use Rattle.hurd_laws.proofs.ReasonsStep.{integrity}
+use Rattle.hurd_laws.proofs.SparedRun.{integrity_run}
 
 -- one call
 
 pub called_sound : (w x : World) (t : ℕ) (c : Call) (r : Reply) → Called w t c r x → Sound w → Sound x
 called_sound w x t c r (inl h) s = subst Sound (sym (ap (λ p. p.1) h)) (stays_sound w t c s)
 called_sound w x t c r (inr l) s = subst Sound (sym l.same) s
+
+-- where nothing has changed, nothing has by who may not
+same_integrity : (w : World) (t : ℕ) → KeepsIntegrity w t w
+same_integrity w t = record {
+  parts = λ S p ours old out. inl refl;
+  attributes = λ S n h k ours is e. let same : h ≡ k = cc (is, e) in (subst (ByReason S w n h) same (same_header h), λ out. refl);
+  entries = λ S d name h b ours is e. record { stays = λ n at out. ap (entry_of name) (sym e) ∙ at; free = λ at out. ap (entry_of name) (sym e) ∙ at };
+}
+
+pub called_integrity : (w x : World) (t : ℕ) (c : Call) (r : Reply) → Called w t c r x → Sound w → KeepsIntegrity w t x
+called_integrity w x t c r (inl h) s = subst (KeepsIntegrity w t) (sym (ap (λ p. p.1) h)) (integrity w t c s)
+called_integrity w x t c r (inr l) s = subst (KeepsIntegrity w t) (sym l.same) (same_integrity w t)
 
 lacks_told : (box : Option Meaning) → lacks_memory (refusal box ENOMEM) ≡ true
 lacks_told None = refl
@@ -88,3 +106,6 @@ served_isolated w ms rs x h s S v ns sv view same qw qv =
 
 pub served_compared : (w : World) (ms : List TaskCall) (rs : List Reply) (x : World) → Served w ms rs x → Sound w → ComparedRun w ms rs
 served_compared w ms rs x h s S v ns sv same views = (ran S ms rs w x h).1 ∙ side_by_side S w v (kept ms rs) ns s sv same views
+
+pub served_spared : (w : World) (ms : List TaskCall) (rs : List Reply) (x : World) → Served w ms rs x → Sound w → SparesAll w (kept ms rs) x
+served_spared w ms rs x h s = subst (SparesAll w (kept ms rs)) (sym (ran (λ t. true) ms rs w x h).0) (integrity_run w (kept ms rs) s)

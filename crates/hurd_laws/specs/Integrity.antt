@@ -1,10 +1,11 @@
 -- Who may change what: the authority of a set of tasks over each part of a world, and the law that nothing else changes.
-use Rattle.std.specs.Prelude.{◌≡◌, ◌≢◌, ◌⊎◌, ℕ, Bool, true, List, Some}
+use Rattle.std.specs.Prelude.{◌≡◌, ◌≢◌, ◌⊎◌, ℕ, Bool, true, List, Some, None}
 use Rattle.hurd_creds.specs.declared.name.Name.{Name}
+use Rattle.hurd_creds.specs.declared.attrs.Kind.TheVariants.{Dir}
 use Rattle.hurd_creds.specs.declared.attrs.Want.TheVariants.{Write}
 use Rattle.hurd_creds.specs.Access.{IdSets, may, owns}
 use Rattle.hurd_creds.specs.Bits.{asks, READ, WRITE}
-use Rattle.hurd_trans_iface.specs.Nodes.{Header}
+use Rattle.hurd_trans_iface.specs.Nodes.{Body, Header}
 use Rattle.hurd_trans_iface.specs.Answers.{entry_of}
 use Rattle.hurd_nodes.specs.Shown.{ServerInfo, boot_name}
 use Rattle.hurd_ports.specs.declared.table.Opened.{Opened}
@@ -50,46 +51,64 @@ pub record Enters (S : ℕ → Bool) (w : World) (d : Name) : Type 0 where
   pub seen : Seen S w d
   pub ids : IdSets
   pub acts : ActsWith S w ids
-  pub dir : Header
-  pub is_dir : header_at w d ≡ Some dir
-  pub may : may ids (bare dir) Write ≡ true
+  pub header : Header
+  pub is_header : header_at w d ≡ Some header
+  pub kind : header.kind ≡ Dir
+  pub may : may ids (bare header) Write ≡ true
 
--- S may take the entry that names the node n out of some directory, by the sticky rule too
+-- S may take the entry of this name, which names the node n, out of the directory d: it acts with ids that may write that, and that the sticky rule lets take n
+pub record TakesEntry (S : ℕ → Bool) (w : World) (d : Name) (name : List ℕ) (n : Name) : Type 0 where
+  pub names : entry_of name (body_at w d) ≡ Some n
+  pub ids : IdSets
+  pub acts : ActsWith S w ids
+  pub header : Header
+  pub is_header : header_at w d ≡ Some header
+  pub may : may ids (bare header) Write ≡ true
+  pub taken : Header
+  pub is_taken : header_at w n ≡ Some taken
+  pub sticky : may_take ids header taken ≡ true
+
+-- S may take the node n out of some directory
 pub record Takes (S : ℕ → Bool) (w : World) (n : Name) : Type 0 where
   pub at : Name
   pub entry : List ℕ
-  pub names : entry_of entry (body_at w at) ≡ Some n
-  pub ids : IdSets
-  pub acts : ActsWith S w ids
-  pub dir : Header
-  pub is_dir : header_at w at ≡ Some dir
-  pub may : may ids (bare dir) Write ≡ true
-  pub header : Header
-  pub is_header : header_at w n ≡ Some header
-  pub sticky : may_take ids dir header ≡ true
+  pub takes : TakesEntry S w at entry n
 
 -- S may send the server s away, which is not the boot server: it controls it, or owns the node on which it is active
 pub data Rules (S : ℕ → Bool) (w : World) (s : Name) : Type 0 where
   ByControl : Holds S w (Control s) → s ≢ boot_name → Rules S w s
   BySeat : (n : Name) → active_at w n ≡ Some s → Owns S w n → Rules S w s
 
--- why attributes may change, what is active on a node among them
+-- why the size of a node may change: S writes it, or drains it, or gives its server another text
+pub data MaySize (S : ℕ → Bool) (w : World) (n : Name) : Type 0 where
+  Written : HasOpen S w n WRITE → MaySize S w n
+  Drained : HasOpen S w n READ → stream_at w n ≡ true → MaySize S w n
+  RootOf : (s : Name) (i : ServerInfo) → Holds S w (Control s) → server_at w s ≡ Some i → n ≡ i.root → MaySize S w n
+
+-- why its links may: S takes it out of a directory, or names it in one
+pub data MayLink (S : ℕ → Bool) (w : World) (n : Name) : Type 0 where
+  TakenOut : Takes S w n → MayLink S w n
+  Named : (r : IoRight) → Holds S w (Io r) → n ≡ r.node → (d : Name) → Enters S w d → MayLink S w n
+
+-- why it may change how many read and write it: its server counts them, and S sees it
+pub record MayCount (S : ℕ → Bool) (w : World) (n : Name) : Type 0 where
+  pub counts : counts_at w n ≡ true
+  pub seen : Seen S w n
+
+-- why it may change what is active on it: S owns it, or is to start what waits there, or may send away what is active
+pub data MaySeat (S : ℕ → Bool) (w : World) (n : Name) : Type 0 where
+  OnOwn : Owns S w n → MaySeat S w n
+  Started : Holds S w (Start n) → MaySeat S w n
+  SentAway : (s : Name) → Rules S w s → active_at w n ≡ Some s → MaySeat S w n
+
+-- why attributes may change, what is active on a node among them: each by its own reason, or the node goes with its server
 pub data MayAttr (S : ℕ → Bool) (w : World) (n : Name) : Type 0 where
-  -- all of them
   Owned : Owns S w n → MayAttr S w n
-  -- its size
-  Written : HasOpen S w n WRITE → MayAttr S w n
-  Drained : HasOpen S w n READ → stream_at w n ≡ true → MayAttr S w n
-  -- its links, or its parent
-  TakenOut : Takes S w n → MayAttr S w n
-  Named : (r : IoRight) → Holds S w (Io r) → n ≡ r.node → (d : Name) → Enters S w d → MayAttr S w n
-  -- how many read and write it
-  Counted : counts_at w n ≡ true → Seen S w n → MayAttr S w n
-  -- what is active on it
-  Started : Holds S w (Start n) → MayAttr S w n
-  Served : (s : Name) → Rules S w s → (home_at w n ≡ Some s) ⊎ (active_at w n ≡ Some s) → MayAttr S w n
-  -- its size, as its server's text says it
-  RootOf : (s : Name) (i : ServerInfo) → Holds S w (Control s) → server_at w s ≡ Some i → n ≡ i.root → MayAttr S w n
+  Sized : MaySize S w n → MayAttr S w n
+  Linked : MayLink S w n → MayAttr S w n
+  Counted : MayCount S w n → MayAttr S w n
+  Seated : MaySeat S w n → MayAttr S w n
+  Served : (s : Name) → Rules S w s → home_at w n ≡ Some s → MayAttr S w n
 
 -- why entries may
 pub data MayEntries (S : ℕ → Bool) (w : World) (n : Name) : Type 0 where
@@ -127,12 +146,6 @@ IsDelivered S w x p = ⊥
 abbrev pub IsLost : World → Part → Type 0
 IsLost x p = IsGone x p × ((S : ℕ → Bool) → Sees S x p → ⊥)
 
--- in a step of a task of S a part that S may not change stays as it was; or it goes, as nobody sees it any more; or it is a task, which is sent a right
-abbrev pub Integrity : Type 0
-Integrity =
-    (S : ℕ → Bool) (w : World) (t : ℕ) (c : Call) (p : Part) → Sound w → S t ≡ true → IsOld w p → (MayChange S w p → ⊥)
-    → (part (after w t c) p ≡ part w p) ⊎ (IsLost (after w t c) p ⊎ IsDelivered S w (after w t c) p)
-
 -- what of a node its owner alone changes: its kind, its owner, group and mode, and the words that are stored with it
 pub record SameOwned (h k : Header) : Type 0 where
   pub kind : k.kind ≡ h.kind
@@ -141,8 +154,30 @@ pub record SameOwned (h k : Header) : Type 0 where
   pub mode : k.mode ≡ h.mode
   pub words : k.passive ≡ h.passive
 
--- in a step of a task of S a node that S doesn't own keeps these, as long as it is there
-abbrev pub OwnersAlone : Type 0
-OwnersAlone =
-    (S : ℕ → Bool) (w : World) (t : ℕ) (c : Call) (n : Name) (h k : Header) → Sound w → S t ≡ true → (Owns S w n → ⊥)
-    → header_at w n ≡ Some h → header_at (after w t c) n ≡ Some k → SameOwned h k
+-- of a header each attribute changes by its own reason alone
+pub record ByReason (S : ℕ → Bool) (w : World) (n : Name) (h k : Header) : Type 0 where
+  pub owned : (Owns S w n → ⊥) → SameOwned h k
+  pub size : (MaySize S w n → ⊥) → k.size ≡ h.size
+  pub links : (MayLink S w n → ⊥) → k.links ≡ h.links
+  pub parent : (Takes S w n → ⊥) → k.parent ≡ h.parent
+  pub readers : (MayCount S w n → ⊥) → k.readers ≡ h.readers
+  pub writers : (MayCount S w n → ⊥) → k.writers ≡ h.writers
+
+-- of what stands under a name in a directory: a node stays there unless S may take its entry, and where nothing is, nothing comes unless S may enter it
+pub record EntryByReason (S : ℕ → Bool) (w : World) (d : Name) (name : List ℕ) (b : Body) : Type 0 where
+  pub stays : (n : Name) → entry_of name (body_at w d) ≡ Some n → (TakesEntry S w d name n → ⊥) → entry_of name (Some b) ≡ Some n
+  pub free : entry_of name (body_at w d) ≡ None → (Enters S w d → ⊥) → entry_of name (Some b) ≡ None
+
+-- a step of task t leads from w to x: whatever set S has the task, this has changed by what S may do alone
+pub record KeepsIntegrity (w : World) (t : ℕ) (x : World) : Type 0 where
+  -- a part that S may not change stays as it was; or it goes, as nobody sees it any more; or it is a task, which is sent a right
+  pub parts : (S : ℕ → Bool) (p : Part) → S t ≡ true → IsOld w p → (MayChange S w p → ⊥) → (part x p ≡ part w p) ⊎ (IsLost x p ⊎ IsDelivered S w x p)
+  -- of a node that was there and is there yet each attribute has changed by its own reason, and so has what is active on it
+  pub attributes : (S : ℕ → Bool) (n : Name) (h k : Header) → S t ≡ true → header_at w n ≡ Some h → header_at x n ≡ Some k
+      → ByReason S w n h k × ((MaySeat S w n → ⊥) → active_at x n ≡ active_at w n)
+  -- in a directory an entry has gone or come by its reason
+  pub entries : (S : ℕ → Bool) (d : Name) (name : List ℕ) (h : Header) (b : Body) → S t ≡ true → header_at w d ≡ Some h → body_at x d ≡ Some b → EntryByReason S w d name b
+
+-- each step does
+abbrev pub Integrity : Type 0
+Integrity = (w : World) (t : ℕ) (c : Call) → Sound w → KeepsIntegrity w t (after w t c)

@@ -4,3 +4,4 @@ pub mod Runs
 pub mod Served
 pub mod Laws
 pub mod Integrity
+pub mod Spared

@@ -1,5 +1,6 @@
 //! The laws.
-ghost use Rattle.hurd_laws.specs.Integrity.{Integrity, OwnersAlone};
+ghost use Rattle.hurd_laws.specs.Integrity.{Integrity};
+ghost use Rattle.hurd_laws.specs.Spared.{IntegrityRun};
 ghost use Rattle.hurd_laws.specs.Laws.{ChangesTouched, Confined, ConfinedRun, CountedRun, GoneUnseen, Isolated, IsolatedByView, NeverWantsMemory, OthersUnseen, OwnFromView, QuietUnmoved, SideBySide, StaysCounted, StaysSound, ViewSettled};
 
 /// A step changes touched parts, its caller's own task and new things alone; what of the others doesn't stay is gone.
@@ -82,9 +83,19 @@ pub fn view_settled()
 {}
 
 /// In a step of a task of a set, a part that the set may not change stays as it was; or it goes, and nobody sees it afterwards; or it is
-/// another's task, to which a right of the set's was sent. A node that the set does not own keeps its kind, its owner, group and mode,
-/// and the words stored with it, as long as it is there.
+/// another's task, to which a right of the set's was sent.
+///
+/// Of a node that is there afterwards each attribute changes by its own reason alone: its kind, owner, group and mode, and the words stored
+/// with it, where the set owns it; its size, links, parent, readers and writers, and what is active on it, each where the set may change that.
+/// In a directory an entry goes only where the set may take it out, and one comes only where it may enter.
 pub fn integrity()
-    ensures parts { Integrity }
-    ensures owned { OwnersAlone }
+    ensures { Integrity }
+{}
+
+/// Over a run, a part that a set may change at none of its own calls, and that no call of the others touches, stays as it was, or went unseen.
+///
+/// A file that is there afterwards has the bytes, the kind, owner, group and mode, and the stored words that it had, where no task of the set held a
+/// right to use it, or might send its server away, at any of its calls, and no call of the others touched it.
+pub fn integrity_run()
+    ensures { IntegrityRun }
 {}

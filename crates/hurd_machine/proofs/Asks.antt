@@ -2,10 +2,10 @@
 use Rattle.std.proofs.Common.{List, ◌≡◌, ℕ, Bool, true, false, Option, Some, None, refl, sym, ◌∙◌, ap, ap₂, subst, true≢false, ◌&&◌}
 use Rattle.std.specs.Prelude.{if◌then◌else◌, not, is_some, nat_lt, Result, Ok, Err}
 use Rattle.hurd_machine.proofs.Common.{Body, BodyOf, Coherent, InRoot, faced, known_text, reads_text, server_at, with_text, EBADF, EDIED, EEXIST, EISDIR, ENOTDIR, EOPNOTSUPP, EOVERFLOW, EROFS, ESRCH, EXDEV, Errno, Header, Holds, Io, IoRight, IsAmong, IsOpen, Kind, Name, Named, Node, OpenFlags, Plan, Question, READ, Reply, Right, Seen, Sees, ServerInfo, Task, WRITE, World, answered, are_kin, asked_at, asked_of, asks, counts_at, counts_by, edit_by, entry_of, first, get, given, handle_asks, header_at, home_at, info_at, info_in, io_right_of, is_dir, is_made, is_no_memory, is_refused, is_root_at, is_server_root, is_taken, keeps_tree, link_by, link_in, links_at, makes_at, most_links, on, open_at, or_refuse, port_asks, ports_of, refuse, right_at, right_in, rights_of, sets_attrs_at, stream_at, task_at, task_of, tells, writing}
-use Rattle.hurd_trans_iface.specs.Kinds.{ServerKind, behaviour_of, Tmpfs, Hello, Null, Zero, Symlink, Firmlink, Union, Magic, Drip, Fifo}
-use Rattle.hurd_trans_iface.specs.Behaviour.{reading, resizing}
+use Rattle.hurd_trans_iface.specs.Kinds.{ServerKind, behaviour_of}
+use Rattle.hurd_trans_iface.specs.Behaviour.{resizing}
 use Rattle.hurd_trans_iface.specs.Meaning.{root_of}
-use Rattle.hurd_trans_iface.specs.Good.{IsPlain as IsPlainAnswer}
+use Rattle.hurd_trans_iface.specs.Good.{IsPlain as IsPlainAnswer, IsUntold}
 use Rattle.hurd_nodes.specs.Shown.{readable_by, made_by}
 use Rattle.hurd_ports.specs.Tables.{right_of, io_right_in}
 use Rattle.hurd_machine.specs.Calls.{lacks_memory}
@@ -17,9 +17,9 @@ use Rattle.hurd_machine.specs.Sight.{Held}
 use Rattle.hurd_machine.proofs.Nodes.{header_in, body_in, root_info}
 use Rattle.hurd_machine.proofs.Rights.{right_under}
 use Rattle.hurd_machine.proofs.Views.{Agree, same_tasks, header_same, body_same, home_same, face_same, server_known, open_same}
-use Rattle.hurd_machine.proofs.Faces.{face_in, face_reads, none_faced, of_face, reads_lone, root_told}
+use Rattle.hurd_machine.proofs.Faces.{face_in, face_reads, none_faced, of_face, root_told}
 use Rattle.hurd_machine.proofs.Coherence.{home_server}
-use Rattle.hurd_trans_iface.proofs.Goods.{good}
+use Rattle.hurd_trans_iface.proofs.Goods.{good, reads_lone}
 use Rattle.std.proofs.lemmas.Bool.{or_left, or_right}
 
 -- asked of two worlds, y of the second
@@ -290,81 +290,23 @@ blind_same q (Some i) (Some j) (Some x) (Some y) blind f h =
 blind_same q i j o p blind f h = absurd (cc)
 
 -- what goes by no text but one that whoever knows the server is told
-
-abbrev pub IsUntold : {T : Type 0} → Question T → ServerKind → Type 0
-IsUntold q k = (old new : List ℕ) (x : Node) → known_text k new ≡ known_text k old → q (behaviour_of k) new x ≡ q (behaviour_of k) old x
-
-asked_untold : {T : Type 0} (q : Question T) (i : ServerInfo) (o : Option Node) → IsUntold q i.kind → (text : List ℕ) → known_text i.kind text ≡ known_text i.kind i.text
+asked_untold : {T : Type 0} (q : Question T) (i : ServerInfo) (o : Option Node) → IsUntold (behaviour_of i.kind) q → (text : List ℕ) → known_text i.kind text ≡ known_text i.kind i.text
     → asked_of q (Some (with_text text i)) o ≡ asked_of q (Some i) o
 asked_untold q i None untold text known = refl
 asked_untold q i (Some x) untold text known = untold i.text text x known
 
--- where reading doesn't give the text, no bytes and no count of these go by it
-
-pub reading_untold : (at amount : ℕ) (k : ServerKind) (text : List ℕ) → reads_text (root_of k text) ≡ false → IsUntold (reading at amount) k
-reading_untold at amount Tmpfs text out old new x known = refl
-reading_untold at amount Hello text out old new x known = absurd (cc (out))
-reading_untold at amount Null text out old new x known = refl
-reading_untold at amount Zero text out old new x known = refl
-reading_untold at amount Symlink text out old new x known = ap (λ (t : List ℕ). (behaviour_of Symlink).read t x at amount) known
-reading_untold at amount Firmlink text out old new x known = refl
-reading_untold at amount Union text out old new x known = refl
-reading_untold at amount Magic text out old new x known = ap (λ (t : List ℕ). (behaviour_of Magic).read t x at amount) known
-reading_untold at amount Drip text out old new x known = refl
-reading_untold at amount Fifo text out old new x known = refl
-
-counts_untold : (at : ℕ) (k : ServerKind) (text : List ℕ) → reads_text (root_of k text) ≡ false → (old new : List ℕ) (x : Node) → known_text k new ≡ known_text k old
-    → (behaviour_of k).readable new x at ≡ (behaviour_of k).readable old x at
-counts_untold at Tmpfs text out old new x known = refl
-counts_untold at Hello text out old new x known = absurd (cc (out))
-counts_untold at Null text out old new x known = refl
-counts_untold at Zero text out old new x known = refl
-counts_untold at Symlink text out old new x known = ap (λ (t : List ℕ). (behaviour_of Symlink).readable t x at) known
-counts_untold at Firmlink text out old new x known = refl
-counts_untold at Union text out old new x known = refl
-counts_untold at Magic text out old new x known = ap (λ (t : List ℕ). (behaviour_of Magic).readable t x at) known
-counts_untold at Drip text out old new x known = refl
-counts_untold at Fifo text out old new x known = refl
-
 readable_untold : (at : ℕ) (o : Option Node) (i : ServerInfo) → reads_text (root_of i.kind i.text) ≡ false → (text : List ℕ) → known_text i.kind text ≡ known_text i.kind i.text
     → count_in (readable_by at (Some (with_text text i)) o) ≡ count_in (readable_by at (Some i) o)
 readable_untold at None i out text known = refl
-readable_untold at (Some x) i out text known = counts_untold at i.kind i.text out i.text text x known
+readable_untold at (Some x) i out text known = (good i.kind).guards.readable_untold i.text out i.text text x at known
 
--- no server takes bytes, or a size, by its text
-
-writes_blind : (k : ServerKind) (old new : List ℕ) (x : Node) (at : ℕ) (bs : List ℕ) → (behaviour_of k).write new x at bs ≡ (behaviour_of k).write old x at bs
-writes_blind Tmpfs old new x at bs = refl
-writes_blind Hello old new x at bs = refl
-writes_blind Null old new x at bs = refl
-writes_blind Zero old new x at bs = refl
-writes_blind Symlink old new x at bs = refl
-writes_blind Firmlink old new x at bs = refl
-writes_blind Union old new x at bs = refl
-writes_blind Magic old new x at bs = refl
-writes_blind Drip old new x at bs = refl
-writes_blind Fifo old new x at bs = refl
-
-sizes_blind : (k : ServerKind) (old new : List ℕ) (x : Node) (size : ℕ) → (behaviour_of k).set_size new x size ≡ (behaviour_of k).set_size old x size
-sizes_blind Tmpfs old new x size = refl
-sizes_blind Hello old new x size = refl
-sizes_blind Null old new x size = refl
-sizes_blind Zero old new x size = refl
-sizes_blind Symlink old new x size = refl
-sizes_blind Firmlink old new x size = refl
-sizes_blind Union old new x size = refl
-sizes_blind Magic old new x size = refl
-sizes_blind Drip old new x size = refl
-sizes_blind Fifo old new x size = refl
-
-writing_untold : (at : ℕ) (bs : List ℕ) (k : ServerKind) → IsUntold (writing at bs) k
-writing_untold at bs k old new x known = writes_blind k old new x at bs
+-- nothing that is taken goes by it
 
 pub resizing_blind : (size : ℕ) (k : ServerKind) → IsBlind (resizing size) k
-resizing_blind size k old new h c e = sizes_blind k old new (record { header = h; body = e }) size ∙ (good k).set_size_blind old size h c e
+resizing_blind size k old new h c e = (good k).guards.set_size_untold old new (record { header = h; body = e }) size ∙ (good k).set_size_blind old size h c e
 
 writing_blind : (at : ℕ) (bs : List ℕ) (k : ServerKind) → (behaviour_of k).counts ≡ false → IsBlind (writing at bs) k
-writing_blind at bs k out old new h c e = writes_blind k old new (record { header = h; body = e }) at bs ∙ (good k).write_blind out old at bs h c e
+writing_blind at bs k out old new h c e = (good k).guards.write_untold old new (record { header = h; body = e }) at bs ∙ (good k).write_blind out old at bs h c e
 
 -- the text plays no part in whether attributes may be set, or a node may get another name
 
@@ -448,7 +390,7 @@ module _ {S : ℕ → Bool} {v w : World} (a : Agree S v w) (n : Name) where
   readable_same at c s = ap (λ x. count_in (readable_by at (info_at w n) x)) (seen_node s) ∙ read_seen (λ i. count_in (readable_by at i (get v.nodes n))) (readable_untold at (get v.nodes n)) c s
 
   -- whatever is asked of a node whose body S sees, and doesn't tell the text where reading doesn't
-  pub asked_seen : {T : Type 0} (q : Question T) → ((k : ServerKind) (text : List ℕ) → reads_text (root_of k text) ≡ false → IsUntold q k) → Coherent v → Sees S v (BodyOf n) → asked_at q n w ≡ asked_at q n v
+  pub asked_seen : {T : Type 0} (q : Question T) → ((k : ServerKind) (text : List ℕ) → reads_text (root_of k text) ≡ false → IsUntold (behaviour_of k) q) → Coherent v → Sees S v (BodyOf n) → asked_at q n w ≡ asked_at q n v
   asked_seen q untold c s =
       ap (asked_of q (info_at w n)) (seen_node s)
       ∙ read_seen (λ i. asked_of q i (get v.nodes n)) (λ i out text known. asked_untold q i (get v.nodes n) (untold i.kind i.text out) text known) c s
@@ -462,7 +404,7 @@ module _ {S : ℕ → Bool} {v w : World} (a : Agree S v w) (n : Name) where
   written_same at bs c s sees = go (counts_at v n) refl
     where
       go : (b : Bool) → counts_at v n ≡ b → asked_at (writing at bs) n w ≡ asked_at (writing at bs) n v
-      go true e = asked_seen (writing at bs) (λ k text out. writing_untold at bs k) c (sees e)
+      go true e = asked_seen (writing at bs) (λ k text out old new x told. (good k).guards.write_untold old new x at bs) c (sees e)
       go false e = blind_same (writing at bs) (info_at v n) (info_at w n) (get v.nodes n) (get w.nodes n) (λ k is. writing_blind at bs k.kind (sym (ap counts_by is) ∙ e)) (info_seen s) (header_same a n s)
 
 -- whether a node may get another name is the same of nodes of one header

@@ -31,6 +31,7 @@ pub use Rattle.hurd_creds.specs.declared.open_flags.OpenFlags.{OpenFlags}
 pub use Rattle.hurd_trans_iface.specs.Answers.{edits_if, entry_in, entry_of, header_after, is_made, is_one, is_plain, is_taken, is_tree, link_in, made_node, most_links, move_edits, named_by, names_of, rename_edits, unlink_edits}
 pub use Rattle.hurd_trans_iface.specs.Behaviour.{Did, Question, edit_bytes, edit_size, edits_of, resizing, writing}
 pub use Rattle.hurd_trans_iface.specs.Good.{GoodBehaviour}
+pub use Rattle.hurd_trans_iface.specs.Texts.{reads_text}
 pub use Rattle.hurd_trans_iface.specs.Meaning.{Meaning, counts_opens, empty_body, keeps_tree, new_root, options_of, size_of}
 pub use Rattle.hurd_trans_iface.specs.Nodes.{AddNode, Body, Content, Edit, Header, IsShaped, Listing, Node, NodeMap, OnBody, OnHeader, body_of, closed_by, counting, edit_all, has_words, header_of, is_dir, is_empty_dir, is_entered, is_entered_at, is_listed, less_entry, moved_to, new_dir, new_file, node_of_edit, on_bytes, opened_by, passive_of, some_words, unlinked, with_body, with_entry, with_header, with_passive, with_size, without_entry}
 pub use Rattle.hurd_trans_iface.specs.declared.header_edit.HeaderEdit.{HeaderEdit}
@@ -58,7 +59,7 @@ pub use Rattle.hurd_machine.specs.Counted.{CanCount, Counted, HasOpens, has_mode
 pub use Rattle.hurd_machine.specs.Handle.{Named, any_mode, both_asks, handle_asks, port_asks}
 pub use Rattle.hurd_machine.specs.Plan.{Plan, Planned, after_plan, handing_back, is_refused, looks, refuse, told}
 unfoldable pub use Rattle.hurd_machine.specs.Plan.{answered, first, given, on}
-pub use Rattle.hurd_machine.specs.Sight.{AText, ABody, ATask, AUsers, InRoot, SeesText, TextOf, ToControl, faced, reads_text, known_text, Active, Allowed, AnAttr, AnEmpty, AnOpen, AnOptions, AttrOf, BodyOf, ByBody, ByControl, ByNode, ByParent, BySeat, Child, Could, CouldServe, EmptyOf, GidOfRight, GidOfTask, HasGid, HasUid, Holds, IsGone, IsOpen, Knows, MaySend, OfControl, OfNode, OfSeat, OpenOf, OptionsOf, Owns, OwnsIt, Part, Pending, SameView, Seen, Sees, SeesBody, SeesEmpty, Sends, ServerRoot, Taken, Target, TaskOf, ToPut, ToRead, ToSearch, UidOfRight, UidOfTask, UsersOf, Way, bare, holders, is_on, part, tells, users, uses_server}
+pub use Rattle.hurd_machine.specs.Sight.{AText, ABody, ATask, AUsers, InRoot, SeesText, TextOf, ToControl, faced, known_text, Active, Allowed, AnAttr, AnEmpty, AnOpen, AnOptions, AttrOf, BodyOf, ByBody, ByControl, ByNode, ByParent, BySeat, Child, Could, CouldServe, EmptyOf, GidOfRight, GidOfTask, HasGid, HasUid, Holds, IsGone, IsOpen, Knows, MaySend, OfControl, OfNode, OfSeat, OpenOf, OptionsOf, Owns, OwnsIt, Part, Pending, SameView, Seen, Sees, SeesBody, SeesEmpty, Sends, ServerRoot, Taken, Target, TaskOf, ToPut, ToRead, ToSearch, UidOfRight, UidOfTask, UsersOf, Way, bare, holders, is_on, part, tells, users, uses_server}
 pub use Rattle.hurd_machine.specs.Sound.{Above, AreDistinct, AreFilled, AreSeated, AreTables, AtRest, AtRoot, Below, CanBeAt, CanBeWritten, Coherent, Hangs, HasDistinctNames, IsFilled, IsGivenRight, LeadsUp, Linked, Sound, times_in}
 unfoldable pub use Rattle.hurd_machine.specs.Sound.{times_listed}
 pub use Rattle.hurd_machine.specs.Touched.{Nothing, OnDid, OnDrop, OnRight}

@@ -1,8 +1,9 @@
 -- A server as whoever knows it sees it, and its text.
-use Rattle.std.proofs.Common.{◌≡◌, ℕ, true, false, List, Option, Some, None, sym, refl, ◌∙◌, ap, ap₂}
+use Rattle.std.proofs.Common.{◌≡◌, ℕ, List, Option, Some, None, sym, refl, ◌∙◌, ap, ap₂}
 use Rattle.std.specs.Option.{option_map}
-use Rattle.hurd_trans_iface.specs.Kinds.{ServerKind, Tmpfs, Hello, Null, Zero, Symlink, Firmlink, Union, Magic, Drip, Fifo}
-use Rattle.hurd_trans_iface.specs.Meaning.{keeps_tree, root_of}
+use Rattle.hurd_trans_iface.specs.Kinds.{ServerKind}
+use Rattle.hurd_trans_iface.specs.Meaning.{root_of}
+use Rattle.hurd_trans_iface.proofs.Goods.{good}
 use Rattle.hurd_machine.proofs.Common.{ServerInfo, faced, reads_text, known_text, with_text}
 use Rattle.hurd_machine.proofs.Nodes.{by_option}
 
@@ -14,42 +15,10 @@ text_in o = option_map (λ (i : ServerInfo). i.text) o
 
 -- what its root is is seen
 pub root_told : (k : ServerKind) (text : List ℕ) → root_of k (known_text k text) ≡ root_of k text
-root_told Tmpfs text = refl
-root_told Hello text = refl
-root_told Null text = refl
-root_told Zero text = refl
-root_told Symlink text = refl
-root_told Firmlink text = refl
-root_told Union text = refl
-root_told Magic text = refl
-root_told Drip text = refl
-root_told Fifo text = refl
-
--- whether reading it gives the text is so of each text, and of no tree
+root_told k text = (good k).guards.rooted text
 
 pub reads_same : (k : ServerKind) (old new : List ℕ) → reads_text (root_of k new) ≡ reads_text (root_of k old)
-reads_same Tmpfs old new = refl
-reads_same Hello old new = refl
-reads_same Null old new = refl
-reads_same Zero old new = refl
-reads_same Symlink old new = refl
-reads_same Firmlink old new = refl
-reads_same Union old new = refl
-reads_same Magic old new = refl
-reads_same Drip old new = refl
-reads_same Fifo old new = refl
-
-pub reads_lone : (k : ServerKind) (text : List ℕ) → reads_text (root_of k text) ≡ true → keeps_tree k ≡ false
-reads_lone Tmpfs text reads = absurd (cc (reads))
-reads_lone Hello text reads = refl
-reads_lone Null text reads = refl
-reads_lone Zero text reads = refl
-reads_lone Symlink text reads = refl
-reads_lone Firmlink text reads = refl
-reads_lone Union text reads = refl
-reads_lone Magic text reads = refl
-reads_lone Drip text reads = refl
-reads_lone Fifo text reads = refl
+reads_same k old new = (good k).guards.reads_alike old new
 
 -- what is read of a server as it is seen is the same of servers that are seen alike
 pub face_reads : {P : Type 0} (read : Option ServerInfo → P) → ((i : ServerInfo) → read (Some (faced i)) ≡ read (Some i)) → (o p : Option ServerInfo) → face_in p ≡ face_in o → read p ≡ read o

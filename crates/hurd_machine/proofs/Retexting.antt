@@ -11,7 +11,6 @@ use Rattle.hurd_trans_iface.specs.Meaning.{root_of, targets_of}
 use Rattle.hurd_trans_iface.specs.Good.{KeepsRoot}
 use Rattle.hurd_trans_iface.proofs.BodyLaws.{size_has}
 use Rattle.hurd_machine.specs.World.{nodes_of}
-use Rattle.hurd_machine.specs.Sight.{is_link}
 use Rattle.hurd_machine.proofs.Nodes.{edited_from, server_home}
 use Rattle.hurd_machine.proofs.Sites.{home_is}
 use Rattle.hurd_machine.proofs.Coherence.{AllProper, KeepsShape}
@@ -133,10 +132,10 @@ module _ (w : World) (s : Name) (i : ServerInfo) where
 
   -- a text that the server may get: it has its root alone
   abbrev pub MayGet : Option (List ℕ) → Type 0
-  MayGet o = (text : List ℕ) → o ≡ Some text → KeepsRoot (behaviour_of i.kind) text × (is_link (root_of i.kind text).crossing ≡ false)
+  MayGet o = (text : List ℕ) → o ≡ Some text → KeepsRoot (behaviour_of i.kind) text
 
   root_alone : Coherent w → server_at w s ≡ Some i → (text : List ℕ) → MayGet (Some text) → (n : Name) → home_at w n ≡ Some s → n ≡ i.root
-  root_alone c is text keeps n home = c.housing.lone n s i home is (keeps text refl).0.lone
+  root_alone c is text keeps n home = c.housing.lone n s i home is (keeps text refl).lone
 
   -- which gets the size that the text says
   retexts_filled : Coherent w → server_at w s ≡ Some i → (text : List ℕ) → MayGet (Some text) → KeepsFilled w (retexting w s i (Some text))
@@ -159,7 +158,7 @@ module _ (w : World) (s : Name) (i : ServerInfo) where
               let same : with_text text i ≡ j = cc in
               let l = edited_from (sized (size_of i.kind text)) (get w.nodes n) x (sym (sized_here (size_of i.kind text) own w.nodes n (own_here s n w.sites home)) ∙ e) in
               let old = fit n l.0 i l.1 (ap (info_in w.servers) home ∙ is) in
-              subst (λ (z : ServerInfo). IsFilled z x) same (subst (IsFilled (with_text text i)) l.2 (sym ((keeps text refl).0.sized l.0.body), old.1, size_has (Some (size_of i.kind text)) i.kind l.0.header old.2))
+              subst (λ (z : ServerInfo). IsFilled z x) same (subst (IsFilled (with_text text i)) l.2 (sym ((keeps text refl).sized l.0.body), old.1, size_has (Some (size_of i.kind text)) i.kind l.0.header old.2))
 
           -- or of another
           there : (q : Name) → home_at w n ≡ Some q → q ≢ s → IsFilled j x
@@ -187,13 +186,13 @@ module _ (w : World) (s : Name) (i : ServerInfo) where
       unseen j e =
           let same : i ≡ j = cc (is, e) in
           let k = keeps text refl in
-          let hidden : known_text i.kind text ≡ known_text i.kind i.text = rw (k.0.rooted i.text, k.1) refl in
+          let hidden : known_text i.kind text ≡ known_text i.kind i.text = rw (k.rooted i.text, k.no_link) refl in
           subst (λ (z : ServerInfo). faced (with_text text z) ≡ faced z) same (ap (λ (x : List ℕ). with_text x i) hidden)
 
       fits : KeepsShape w s text
       fits j e =
           let same : i ≡ j = cc (is, e) in
-          let k = (keeps text refl).0 in
+          let k = keeps text refl in
           subst (λ (z : ServerInfo). (root_of z.kind text ≡ root_of z.kind z.text) × (targets_of z.kind text ≡ targets_of z.kind z.text)) same (sym (k.rooted i.text), sym (k.aimed i.text))
 
 -- in two worlds where it is known as the same server the piece is the same

@@ -1,9 +1,8 @@
 -- Whom a set of tasks may act for, which nodes it sees, and which parts of a world.
-use Rattle.std.specs.Prelude.{if◌then◌else◌, not, ◌≡◌, ◌≢◌, ◌⊎◌, ◌↔◌, ◌&&◌, ◌||◌, ℕ, Bool, true, false, List, [], Option, Some, None, length}
+use Rattle.std.specs.Prelude.{◌≡◌, ◌≢◌, ◌⊎◌, ◌↔◌, ◌&&◌, ◌||◌, ℕ, Bool, true, false, List, Option, Some, None, length}
 use Rattle.std.specs.Option.{option_map}
 use Rattle.hurd_creds.specs.declared.name.Name.{Name}
-use Rattle.hurd_creds.specs.declared.attrs.Kind.{Kind}
-use Rattle.hurd_creds.specs.declared.attrs.Kind.TheVariants.{Dir, File}
+use Rattle.hurd_creds.specs.declared.attrs.Kind.TheVariants.{Dir}
 use Rattle.hurd_creds.specs.declared.attrs.Want.{Want}
 use Rattle.hurd_creds.specs.declared.attrs.Want.TheVariants.{Read, Write, Exec}
 use Rattle.hurd_creds.specs.declared.attrs.Attrs.{Attrs}
@@ -13,9 +12,7 @@ use Rattle.hurd_creds.specs.Bits.{asks, READ, WRITE}
 use Rattle.hurd_trans_iface.specs.Nodes.{Header, Body, attrs_with, is_empty_dir}
 use Rattle.hurd_trans_iface.specs.Answers.{entry_of}
 use Rattle.hurd_trans_iface.specs.Meaning.{ServerKind, root_of}
-use Rattle.hurd_trans_iface.specs.declared.root.Crossing.{Crossing}
-use Rattle.hurd_trans_iface.specs.declared.root.Crossing.TheVariants.{Link, Plain}
-use Rattle.hurd_trans_iface.specs.declared.root.Root.{Root as Shape}
+use Rattle.hurd_trans_iface.specs.Texts.{reads_text, told_text}
 use Rattle.hurd_nodes.specs.declared.seat.Site.{Site}
 use Rattle.hurd_creds.specs.NameMaps.{NameMap}
 use Rattle.hurd_nodes.specs.Held.{home_in, is_home}
@@ -144,19 +141,6 @@ pub data SeesEmpty (S : ℕ → Bool) (w : World) (n : Name) (h : Header) : Type
   ByBody : SeesBody S w n h → SeesEmpty S w n h
   ByParent : (p : Name) (a : Header) → h.parent ≡ Some p → header_at w p ≡ Some a → Could S w a Write → SeesEmpty S w n h
 
--- whether reading the root of a server gives its text: it is a file that is no stream, and at which a lookup goes on
-
-abbrev pub is_file : Kind → Bool
-is_file File = true
-is_file _ = false
-
-abbrev pub goes_on : Crossing → Bool
-goes_on Plain = true
-goes_on _ = false
-
-abbrev pub reads_text : Shape → Bool
-reads_text r = is_file r.kind && (not r.is_stream && goes_on r.crossing)
-
 -- why S sees the text of a server: it may send it away, and so may control it, or it sees what is in its root, and reading that gives the text
 pub data SeesText (S : ℕ → Bool) (w : World) (s : Name) (i : ServerInfo) : Type 0 where
   ToControl : Sends S w s i → SeesText S w s i
@@ -191,14 +175,9 @@ holders w o = count_rights (names_open o) w.tasks
 abbrev pub users : World → Name → ℕ
 users w s = count_rights (is_on w s) w.tasks
 
--- whether a lookup is told the text: that of a link's root
-abbrev pub is_link : Crossing → Bool
-is_link (Link absolute) = true
-is_link _ = false
-
--- the text that whoever knows a server is told: a link's alone
+-- the text that whoever knows a server of this kind is told: a link's alone
 abbrev pub known_text : ServerKind → List ℕ → List ℕ
-known_text k text = if is_link (root_of k text).crossing then text else []
+known_text k text = told_text (root_of k text) text
 
 -- a server as whoever knows it sees it: without its text, unless that is a link's
 abbrev pub faced : ServerInfo → ServerInfo

@@ -7,11 +7,12 @@ ghost use Rattle.hurd_trans_iface.specs.Nodes.{attrs_of, header_of, body_of, con
 ghost use Rattle.hurd_trans_iface.specs.Answers.{entry_of, names_of};
 ghost use Rattle.hurd_nodes.specs.Shown.{ServerInfo, server_of, shown, state_of, header_in, told_header, booted, is_root, are_kin, options_in, readable_at, tree_by, HideNothing};
 ghost use Rattle.hurd_trans_iface.specs.Meaning.{Begins, root_of};
+ghost use Rattle.hurd_trans_iface.specs.Texts.{told_text};
 ghost use Rattle.hurd_nodes.specs.Needs.{counts_by};
 ghost use Rattle.hurd_nodes.specs.Settle.{AreServed};
 ghost use Rattle.hurd_nodes.specs.Held.{active_in, box_by, home_in, mean};
 
-use crate::asking::has_tree;
+use crate::asking::{has_tree, told_text};
 use crate::search::{home_of, place_of_seat, place_of_server, put_seat, put_site};
 use crate::seat::{Seat, Seats, Sites};
 use bitflags::Flags;
@@ -156,6 +157,17 @@ impl<S: Server> Nodes<S> {
     {
         match place_of_seat(&self.seats, server) {
             Some(i) => Some(self.seats[i].server.text()),
+            None => None,
+        }
+    }
+
+    /// The text of a server that whoever knows it is told, a link's alone, lent, if the server is there. Takes no memory.
+    #[tactic(auto, using(crate::proofs::StayLaws::by_place))]
+    pub fn told_text_of(&self, server: ServerName) -> Option<&[u8]>
+        ensures { option_copied result ≡ option_map (λ (i : ServerInfo). told_text (root_of i.kind i.text) i.text) (fin.get (shown S.meaning self.now).servers server) }
+    {
+        match place_of_seat(&self.seats, server) {
+            Some(i) => Some(told_text(&self.seats[i].server)),
             None => None,
         }
     }

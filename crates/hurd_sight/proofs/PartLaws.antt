@@ -7,7 +7,7 @@ use Rattle.std.specs.Global.{Vec}
 use Rattle.std.proofs.lemmas.Bool.{or_cases, or_left, or_right, and_parts, and_from, not-true}
 use Rattle.hurd_creds.proofs.NameLaws.{equal_if_same, same_name-itself, apart_if_not_same, same_name-apart}
 use Rattle.hurd_machine.specs.World.{nodes_of, shape_at, shape_by}
-use Rattle.hurd_machine.specs.Sight.{reads_text}
+use Rattle.hurd_trans_iface.specs.Texts.{reads_text}
 use Rattle.hurd_nodes.specs.Shown.{info_in}
 use Rattle.hurd_trans_iface.specs.Meaning.{root_of}
 use Rattle.hurd_sight.specs.Reach.{Gathers, Reaches, among, could_with, serves}

@@ -14,7 +14,8 @@ use Rattle.std.specs.Option.{option_map}
 use Rattle.hurd_nodes.specs.Needs.{counts_by}
 use Rattle.hurd_ports.specs.declared.table.Right.TheVariants.{Control}
 use Rattle.hurd_machine.specs.World.{World, nodes_of, shape_at}
-use Rattle.hurd_machine.specs.Sight.{Holds, Sees, bare, reads_text}
+use Rattle.hurd_trans_iface.specs.Texts.{reads_text}
+use Rattle.hurd_machine.specs.Sight.{Holds, Sees, bare}
 use Rattle.hurd_sight.specs.Reach.{Reaches, among, could_with}
 use Rattle.hurd_sight.specs.Found.{FoundAll, IsSight, is_found}
 use Rattle.hurd_sight.specs.Parts.{AreThose, HasFor, HasOpen, KnownByNode, SentByNode, is_in, known_at, named, no_names, of_found, part_of, rights_held, with_rights}

@@ -3,7 +3,7 @@ ghost use Rattle.std.specs.Prelude.{◌≡◌, ◌||◌, ◌&&◌, Some, IfOk};
 ghost use Rattle.hurd_trans_iface.specs.Nodes.{Header, is_dir};
 ghost use Rattle.hurd_nodes.specs.Shown.{header_in, shown, told_header};
 ghost use Rattle.hurd_machine.specs.World.{world_from};
-ghost use Rattle.hurd_machine.specs.Sight.{goes_on, is_file, reads_text};
+ghost use Rattle.hurd_trans_iface.specs.Texts.{goes_on, is_file, reads_text};
 ghost use Rattle.hurd_sight.specs.Parts.{is_in};
 ghost use Rattle.hurd_sight.specs.Looks.{Gathered, Looks, PartsAreSeen, puts_with, reads_with, sees_with, shows_root, tells_text, writes_at};
 ghost use Rattle.hurd_sight.specs.Reach.{among};

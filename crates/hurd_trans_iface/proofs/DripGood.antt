@@ -11,6 +11,7 @@ use Rattle.hurd_trans_iface.specs.Behaviour.{Did, node_left, resizing}
 use Rattle.hurd_trans_iface.specs.Good.{GoodBehaviour, IsSized}
 use Rattle.hurd_trans_iface.specs.DripKind.{drip, dripped, drops_of, drops_left, drop_byte}
 use Rattle.hurd_trans_iface.proofs.Goodness.{IsFine, fine_done, fine_refused, fine_if, no-options-text, no-options-plain}
+use Rattle.hurd_trans_iface.proofs.Guards.{drip_guards}
 use Rattle.hurd_trans_iface.proofs.LoneGood.{Leaves, still_sized}
 
 -- one byte more is given, and one fewer is left
@@ -44,13 +45,17 @@ cut_fine size text x = fine_if Leaves (nat_lt most_size size) _ _ (λ long. refl
 
 pub drip_good : GoodBehaviour drip
 drip_good = record {
+  named = λ text. refl;
   rooted = λ text. refl;
+  uncounted = λ is. absurd (true≢false (sym is));
   read_sizes = λ at amount text x d shaped sized is. fine_done (λ (d : Did (List ℕ)). IsSized drip text (node_left d x)) (dripped x.header.size amount) d (drip_sized text x x.header.size amount refl sized) is;
   write_sizes = λ at bs text x d shaped sized is. absurd (cc);
   set_size_sizes = λ size. still_sized drip (resizing size) (cut_fine size);
   entered = entry_sized;
   removed = less_sized;
   newborn = λ is text dir entry new x made. absurd (true≢false (sym is));
+  read_keeps = λ text file. absurd (true≢false file);
+  guards = drip_guards;
   write_blind = λ other text at bs h c e. refl;
   set_size_blind = λ text size h c e. refl;
   no_words = refl;

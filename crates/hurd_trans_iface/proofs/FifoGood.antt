@@ -6,6 +6,7 @@ use Rattle.hurd_trans_iface.specs.Nodes.{Body, Content, Listing, Node}
 use Rattle.hurd_trans_iface.specs.Behaviour.{Did, Question, reading, writing, resizing}
 use Rattle.hurd_trans_iface.specs.Good.{GoodBehaviour, KeepsSizes}
 use Rattle.hurd_trans_iface.specs.FifoKind.{fifo, fifo_read, fifo_write, room_in, taken_in}
+use Rattle.hurd_trans_iface.proofs.Guards.{fifo_guards}
 use Rattle.hurd_trans_iface.proofs.Goodness.{IsFine, fine_done, fine_refused, fine_if, no-options-text, no-options-plain}
 
 -- the size stays
@@ -34,13 +35,17 @@ sizes_kept q fine text x d shaped sized is = rw (fine_done Sizeless (q fifo text
 
 pub fifo_good : GoodBehaviour fifo
 fifo_good = record {
+  named = λ text. refl;
   rooted = λ text. refl;
+  uncounted = λ is. absurd (true≢false (sym is));
   read_sizes = λ at amount. sizes_kept (reading at amount) (λ text x. read_fine x.header.writers amount x.body);
   write_sizes = λ at bs. sizes_kept (writing at bs) (λ text x. write_fine x.header.readers x.body bs);
   set_size_sizes = λ size. sizes_kept (resizing size) (cut_fine size);
   entered = λ text name n c. refl;
   removed = λ text name c. refl;
   newborn = λ is text dir entry new x made. absurd (true≢false (sym is));
+  read_keeps = λ text file. absurd (true≢false file);
+  guards = fifo_guards;
   write_blind = λ other. absurd (true≢false other);
   set_size_blind = λ text size h c e. refl;
   no_words = refl;

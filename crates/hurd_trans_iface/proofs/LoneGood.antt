@@ -1,5 +1,5 @@
 -- Servers of one node that nothing changes are good.
-use Rattle.std.proofs.Common.{◌≡◌, ℕ, false, List, [], nat_lt, refl, sym, ◌∙◌, true≢false}
+use Rattle.std.proofs.Common.{◌≡◌, ℕ, false, List, [], ◌∷◌, take, nat_lt, refl, sym, ◌∙◌, true≢false}
 use Rattle.std.specs.Prelude.{Some, None, Ok, Err}
 use Rattle.hurd_creds.specs.declared.errno.Errno.{Errno}
 use Rattle.hurd_creds.specs.Memory.{is_no_memory}
@@ -7,7 +7,7 @@ use Rattle.hurd_creds.specs.Limits.{most_size}
 use Rattle.hurd_trans_iface.specs.Nodes.{Body, Node}
 use Rattle.hurd_trans_iface.specs.Answers.{is_tree}
 use Rattle.hurd_trans_iface.specs.Behaviour.{Did, Behaviour, Question, reading, writing, resizing}
-use Rattle.hurd_trans_iface.specs.Good.{GoodBehaviour, IsBlindAt, KeepsRoot, KeepsSizes}
+use Rattle.hurd_trans_iface.specs.Good.{GoodBehaviour, GuardsText, IsBlindAt, KeepsRoot, KeepsSizes}
 use Rattle.hurd_trans_iface.specs.HelloKind.{hello}
 use Rattle.hurd_trans_iface.specs.NullKind.{null}
 use Rattle.hurd_trans_iface.specs.ZeroKind.{zeros}
@@ -16,6 +16,7 @@ use Rattle.hurd_trans_iface.specs.FirmlinkKind.{firmlink}
 use Rattle.hurd_trans_iface.specs.UnionKind.{union}
 use Rattle.hurd_trans_iface.specs.MagicKind.{magic}
 use Rattle.hurd_trans_iface.proofs.Goodness.{IsFine, fine_done, fine_refused, fine_if, no-options-text, no-options-plain}
+use Rattle.hurd_trans_iface.proofs.Guards.{hello_guards, null_guards, zeros_guards, symlink_guards, firmlink_guards, union_guards, magic_guards}
 use Rattle.hurd_trans_iface.proofs.Options.{hello-options-plain}
 
 -- an answer that leaves the node as it is
@@ -24,6 +25,8 @@ Leaves d = (d.bytes ≡ None) × (d.size ≡ None)
 
 -- a kind whose answers change nothing, and whose sizes no node says
 record IsStill (b : Behaviour) : Type 0 where
+  named : (text : List ℕ) → take 1 (b.options text) ≡ b.program ∷ []
+  guards : GuardsText b
   rooted : (text : List ℕ) → is_tree (b.root text) ≡ b.tree
   treeless : b.tree ≡ false
   sizes : (text : List ℕ) (c e : Body) → b.size text e ≡ b.size text c
@@ -42,13 +45,17 @@ still_sized b q fine text x d shaped sized is = let l = fine_done Leaves (q b te
 
 good_still : (b : Behaviour) → IsStill b → GoodBehaviour b
 good_still b s = record {
+  named = s.named;
   rooted = s.rooted;
+  uncounted = λ is. absurd (true≢false (sym is ∙ s.treeless));
   read_sizes = λ at amount. still_sized b (reading at amount) (s.read at amount);
   write_sizes = λ at bs. still_sized b (writing at bs) (s.write at bs);
   set_size_sizes = λ size. still_sized b (resizing size) (s.set_size size);
   entered = λ text name n c. s.sizes text c _;
   removed = λ text name c. s.sizes text c _;
   newborn = λ is text dir entry new x made. absurd (true≢false (sym is ∙ s.treeless));
+  read_keeps = λ text file x at amount d is. fine_done Leaves (b.read text x at amount) d (s.read at amount text x) is;
+  guards = s.guards;
   write_blind = λ other. s.write_blind;
   set_size_blind = s.set_size_blind;
   no_words = s.no_words;
@@ -61,6 +68,8 @@ good_still b s = record {
 
 pub hello_good : GoodBehaviour hello
 hello_good = good_still hello (record {
+  named = λ text. refl;
+  guards = hello_guards;
   rooted = λ text. refl;
   treeless = refl;
   sizes = λ text c e. refl;
@@ -70,12 +79,14 @@ hello_good = good_still hello (record {
   write_blind = λ text at bs h c e. refl;
   set_size_blind = λ text size h c e. refl;
   no_words = refl;
-  options_root = λ ws new is. record { lone = refl; rooted = λ text. refl; aimed = λ text. refl; sized = λ c. refl };
+  options_root = λ ws new is. record { lone = refl; rooted = λ text. refl; no_link = refl; aimed = λ text. refl; sized = λ c. refl };
   options_plain = hello-options-plain;
 })
 
 pub null_good : GoodBehaviour null
 null_good = good_still null (record {
+  named = λ text. refl;
+  guards = null_guards;
   rooted = λ text. refl;
   treeless = refl;
   sizes = λ text c e. refl;
@@ -91,6 +102,8 @@ null_good = good_still null (record {
 
 pub zeros_good : GoodBehaviour zeros
 zeros_good = good_still zeros (record {
+  named = λ text. refl;
+  guards = zeros_guards;
   rooted = λ text. refl;
   treeless = refl;
   sizes = λ text c e. refl;
@@ -106,6 +119,8 @@ zeros_good = good_still zeros (record {
 
 pub symlink_good : GoodBehaviour symlink
 symlink_good = good_still symlink (record {
+  named = λ text. refl;
+  guards = symlink_guards;
   rooted = λ text. refl;
   treeless = refl;
   sizes = λ text c e. refl;
@@ -121,6 +136,8 @@ symlink_good = good_still symlink (record {
 
 pub firmlink_good : GoodBehaviour firmlink
 firmlink_good = good_still firmlink (record {
+  named = λ text. refl;
+  guards = firmlink_guards;
   rooted = λ text. refl;
   treeless = refl;
   sizes = λ text c e. refl;
@@ -136,6 +153,8 @@ firmlink_good = good_still firmlink (record {
 
 pub union_good : GoodBehaviour union
 union_good = good_still union (record {
+  named = λ text. refl;
+  guards = union_guards;
   rooted = λ text. refl;
   treeless = refl;
   sizes = λ text c e. refl;
@@ -151,6 +170,8 @@ union_good = good_still union (record {
 
 pub magic_good : GoodBehaviour magic
 magic_good = good_still magic (record {
+  named = λ text. refl;
+  guards = magic_guards;
   rooted = λ text. refl;
   treeless = refl;
   sizes = λ text c e. refl;

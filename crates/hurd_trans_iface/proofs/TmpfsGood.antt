@@ -1,6 +1,6 @@
 -- A tree in memory is good.
-use Rattle.std.proofs.Common.{◌≡◌, ℕ, ◌+◌, Bool, true, false, List, [], ◌∷◌, length, nat_lt, if◌then◌else◌, refl, sym, ap, ◌∙◌, subst, true≢false}
-use Rattle.std.specs.Prelude.{Option, Some, None}
+use Rattle.std.proofs.Common.{◌≡◌, ℕ, ◌+◌, Bool, true, false, List, [], ◌∷◌, length, take, drop, nat_lt, if◌then◌else◌, refl, sym, ap, ◌∙◌, subst, true≢false}
+use Rattle.std.specs.Prelude.{Option, Some, None, Ok}
 use Rattle.std.specs.Option.{option_map}
 use Rattle.hurd_creds.specs.declared.name.Name.{Name}
 use Rattle.hurd_creds.specs.declared.attrs.Kind.{Kind}
@@ -12,6 +12,7 @@ use Rattle.hurd_trans_iface.specs.Answers.{named_by, node_of_kind}
 use Rattle.hurd_trans_iface.specs.Behaviour.{Did}
 use Rattle.hurd_trans_iface.specs.Good.{GoodBehaviour, IsSized}
 use Rattle.hurd_trans_iface.specs.TmpfsKind.{tmpfs, read_bytes, put_into, write_file, cut_file}
+use Rattle.hurd_trans_iface.proofs.Guards.{tmpfs_guards}
 use Rattle.hurd_trans_iface.proofs.Lengths.{put_grows, put_stays, length-resized}
 use Rattle.hurd_trans_iface.proofs.Goodness.{KeepsSize, IsFine, fine_done, fine_refused, fine_if, no-options-text, no-options-plain}
 
@@ -47,6 +48,10 @@ module _ (text : List ℕ) where
       fine_if (Keeps h b) (nat_lt most_size size) _ _ (λ long. refl) (λ short.
       fine_if (Keeps h b) (is_dir h.kind) _ _ (λ dir. refl) (λ file. cut_well h b size file))
 
+read_leaves : (at amount : ℕ) (b : Body) (d : Did (List ℕ)) → read_bytes at amount b ≡ Ok d → (d.bytes ≡ None) × (d.size ≡ None)
+read_leaves at amount (Content bs) d is = let same : ◌≡◌ {A = Did (List ℕ)} (record { told = take amount (drop at bs); bytes = None; size = None }) d = cc in subst (λ (c : Did (List ℕ)). (c.bytes ≡ None) × (c.size ≡ None)) same (refl, refl)
+read_leaves at amount (Listing es) d is = absurd (cc)
+
 entry_sizes : (text name : List ℕ) (n : Name) (c : Body) → tmpfs.size text (with_entry name n c) ≡ tmpfs.size text c
 entry_sizes text name n (Content bs) = refl
 entry_sizes text name n (Listing es) = refl
@@ -70,13 +75,17 @@ made_sizes text dir entry new x Char is = absurd (cc)
 
 pub tmpfs_good : GoodBehaviour tmpfs
 tmpfs_good = record {
+  named = λ text. refl;
   rooted = λ text. refl;
+  uncounted = λ is. refl;
   read_sizes = λ at amount text x d shaped sized is. fine_done (Keeps text x.header x.body) _ d (reads_well text at amount x.header x.body) is shaped sized;
   write_sizes = λ at bs text x d shaped sized is. fine_done (Keeps text x.header x.body) _ d (writes_well text x.header x.body at bs) is shaped sized;
   set_size_sizes = λ size text x d shaped sized is. fine_done (Keeps text x.header x.body) _ d (resizes_well text x.header x.body size) is shaped sized;
   entered = entry_sizes;
   removed = removed_sizes;
   newborn = λ is text dir entry new x. made_sizes text dir entry new x new.kind;
+  read_keeps = λ text file x at amount d is. read_leaves at amount x.body d is;
+  guards = tmpfs_guards;
   write_blind = λ other text at bs h c e. refl;
   set_size_blind = λ text size h c e. refl;
   no_words = refl;

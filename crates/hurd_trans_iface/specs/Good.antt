@@ -1,11 +1,12 @@
 -- What the laws need of a kind of server.
-use Rattle.std.specs.Prelude.{◌≡◌, ℕ, true, false, List, [], Option, Some, None, Ok, Err}
+use Rattle.std.specs.Prelude.{◌≡◌, ℕ, true, false, List, [], ◌∷◌, take, Option, Some, None, Ok, Err}
 use Rattle.hurd_creds.specs.declared.name.Name.{Name}
 use Rattle.hurd_creds.specs.declared.errno.Errno.{Errno}
 use Rattle.hurd_creds.specs.Memory.{is_no_memory}
 use Rattle.hurd_trans_iface.specs.declared.new_node.NewNode.{NewNode}
 use Rattle.hurd_trans_iface.specs.Nodes.{Header, Body, Content, Node, IsShaped, with_entry, without_entry}
 use Rattle.hurd_trans_iface.specs.Answers.{is_tree, made_node}
+use Rattle.hurd_trans_iface.specs.Texts.{is_link, reads_text, told_text}
 use Rattle.hurd_trans_iface.specs.Behaviour.{Did, Behaviour, Question, reading, writing, resizing, node_left}
 
 -- a node has the size that its kind of server says
@@ -27,16 +28,40 @@ IsBlindAt b text q =
 abbrev pub IsPlain : {T : Type 0} → Behaviour → Question T → Type 0
 IsPlain b q = (text : List ℕ) (x : Node) (e : Errno) → q b text x ≡ Err e → is_no_memory e ≡ false
 
--- what another text leaves as it is: the server keeps no tree, its root stays what it is, with the size that the text says, and it aims at what it aimed at
+-- the answer goes by no text but one that whoever knows the server is told
+abbrev pub IsUntold : {T : Type 0} → Behaviour → Question T → Type 0
+IsUntold b q = (old new : List ℕ) (x : Node) → told_text (b.root new) new ≡ told_text (b.root old) old → q b new x ≡ q b old x
+
+-- what another text leaves as it is: the server keeps no tree, its root stays what it is, and is no link, with the size that the text says, and it aims at
+-- what it aimed at
 pub record KeepsRoot (b : Behaviour) (new : List ℕ) : Type 0 where
   pub lone : b.tree ≡ false
   pub rooted : (text : List ℕ) → b.root text ≡ b.root new
+  pub no_link : is_link (b.root new).crossing ≡ false
   pub aimed : (text : List ℕ) → b.targets text ≡ b.targets new
   pub sized : (c : Body) → b.size new c ≡ b.size new (Content [])
 
+-- who is told the text: whoever knows the server where it is a link's, who reads the root where reading gives it, and nobody else
+pub record GuardsText (b : Behaviour) : Type 0 where
+  -- what its root is goes by no text but one that whoever knows the server is told
+  pub rooted : (text : List ℕ) → b.root (told_text (b.root text) text) ≡ b.root text
+  -- whether reading gives the text is the same of each text
+  pub reads_alike : (old new : List ℕ) → reads_text (b.root new) ≡ reads_text (b.root old)
+  -- where reading doesn't give it, no bytes go by it, nor how many there are
+  pub read_untold : (text : List ℕ) → reads_text (b.root text) ≡ false → (at amount : ℕ) → IsUntold b (reading at amount)
+  pub readable_untold : (text : List ℕ) → reads_text (b.root text) ≡ false → (old new : List ℕ) (x : Node) (at : ℕ)
+      → told_text (b.root new) new ≡ told_text (b.root old) old → b.readable new x at ≡ b.readable old x at
+  -- and no bytes are taken by it, and no size
+  pub write_untold : (old new : List ℕ) (x : Node) (at : ℕ) (bs : List ℕ) → b.write new x at bs ≡ b.write old x at bs
+  pub set_size_untold : (old new : List ℕ) (x : Node) (size : ℕ) → b.set_size new x size ≡ b.set_size old x size
+
 pub record GoodBehaviour (b : Behaviour) : Type 0 where
+  -- the first of the words that would make it is the name of its program
+  pub named : (text : List ℕ) → take 1 (b.options text) ≡ b.program ∷ []
   -- what its root is tells whether it keeps a tree
   pub rooted : (text : List ℕ) → is_tree (b.root text) ≡ b.tree
+  -- where it keeps one, it counts nobody
+  pub uncounted : b.tree ≡ true → b.counts ≡ false
   pub read_sizes : (at amount : ℕ) → KeepsSizes b (reading at amount)
   pub write_sizes : (at : ℕ) (bs : List ℕ) → KeepsSizes b (writing at bs)
   pub set_size_sizes : (size : ℕ) → KeepsSizes b (resizing size)
@@ -44,6 +69,9 @@ pub record GoodBehaviour (b : Behaviour) : Type 0 where
   pub entered : (text name : List ℕ) (n : Name) (c : Body) → b.size text (with_entry name n c) ≡ b.size text c
   pub removed : (text name : List ℕ) (c : Body) → b.size text (without_entry name c) ≡ b.size text c
   pub newborn : b.tree ≡ true → (text : List ℕ) (dir : Name) (entry : Option (List ℕ)) (new : NewNode) (x : Node) → made_node dir entry new ≡ Some x → IsSized b text x
+  -- of what is no stream a read changes nothing
+  pub read_keeps : (text : List ℕ) → (b.root text).is_stream ≡ false → (x : Node) (at amount : ℕ) (d : Did (List ℕ)) → b.read text x at amount ≡ Ok d → (d.bytes ≡ None) × (d.size ≡ None)
+  pub guards : GuardsText b
   -- what a kind takes that counts who reads may depend on what is in the node, and of no other kind does it
   pub write_blind : b.counts ≡ false → (text : List ℕ) (at : ℕ) (bs : List ℕ) → IsBlindAt b text (writing at bs)
   pub set_size_blind : (text : List ℕ) (size : ℕ) → IsBlindAt b text (resizing size)

@@ -2,9 +2,8 @@
 use Rattle.std.proofs.Common.{◌≡◌, ◌∙◌, sym, refl, ap, ℕ, ◌+◌, ◌<◌, ◌≤◌, Bool, true, List, [], ◌∷◌, ◌++◌, take, take_all, length, get_or}
 use Rattle.std.specs.Prelude.{Option, Some, None}
 use Rattle.std.proofs.lemmas.List.{take_more}
-use Rattle.hurd_trans_iface.specs.Meaning.{ServerKind, Tmpfs, Hello, Null, Zero, Symlink, Firmlink, Union, Magic, Drip, Fifo, options_of}
-use Rattle.hurd_machine.proofs.Common.{Body, Name, Opened, entry_of, known_text}
-use Rattle.hurd_views.specs.Views.{entry_before, first_word, rows_in, text_by, told_if}
+use Rattle.hurd_machine.proofs.Common.{Body, Name, Opened, entry_of}
+use Rattle.hurd_views.specs.Views.{entry_before, rows_in, told_if}
 use Rattle.hurd_views.specs.declared.rows.EntryRow.{EntryRow}
 use Rattle.hurd_views.specs.declared.rows.OpenRow.{OpenRow}
 
@@ -34,16 +33,3 @@ rows_all b ns i past rows = rows ∙ ap (rows_in b) (take_all i ns past)
 -- an open that is seen
 pub open_told : (b : Bool) (o p : Option Opened) (h k : ℕ) → true ≡ b → o ≡ p → h ≡ k → ◌≡◌ {A = Option OpenRow} (Some (record { opened = o; holders = h })) (told_if b (record { opened = p; holders = k }))
 open_told b o p h k on same counted = ap (λ (t : Bool). told_if t (record { opened = o; holders = h })) on ∙ rw (same, counted) refl
-
--- the text that whoever knows a server is told, by its program
-pub text_named : (k : ServerKind) (text : List ℕ) → text_by (first_word (options_of k text)) text ≡ known_text k text
-text_named Tmpfs text = refl
-text_named Hello text = refl
-text_named Null text = refl
-text_named Zero text = refl
-text_named Symlink text = refl
-text_named Firmlink text = refl
-text_named Union text = refl
-text_named Magic text = refl
-text_named Drip text = refl
-text_named Fifo text = refl

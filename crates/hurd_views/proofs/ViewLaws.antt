@@ -1,5 +1,5 @@
 -- Views in which nothing differs are of worlds that have the same view, and no others.
-use Rattle.std.proofs.Common.{◌≡◌, ◌∙◌, inl, inr, sym, refl, ap, subst, ℕ, Bool, true, false, true≢false, List, [], ◌∷◌, map, cond}
+use Rattle.std.proofs.Common.{◌≡◌, ◌∙◌, inl, inr, sym, refl, ap, subst, ℕ, Bool, true, false, true≢false, List, [], ◌∷◌, map, take, cond, if◌then◌else◌}
 use Rattle.std.specs.Prelude.{◌↔◌, Option, Some, None, nat_eq}
 use Rattle.std.specs.FinMap as fin
 use Rattle.std.specs.Option.{option_map}
@@ -7,11 +7,14 @@ use Rattle.std.proofs.lemmas.Bool.{or_cases, or_left, or_right}
 use Rattle.std.proofs.lemmas.Slice.Eq.{bytes_eq-Decides}
 use Rattle.std.specs.Cmp.{unsigned_Decides}
 use Rattle.hurd_machine.proofs.Common.{ABody, AText, ATask, AUsers, AnAttr, AnEmpty, AnOpen, AnOptions, AreDistinct, AttrOf, Attrs, Body, BodyOf, Content, EmptyOf, HasDistinctNames, Header, IdSets, IsAmong, Listing, Name, Node, OpenOf, OptionsOf, Part, SameView, Sees, ServerInfo, Sound, Task, TaskId, TaskOf, TextOf, UsersOf, World, bare, body_at, bytes_eq, entry_in, faced, header_at, holders, is_empty_dir, known_text, open_at, options_of, part, server_at, site_at, task_at, users, words_at, words_in}
-use Rattle.hurd_machine.proofs.Faces.{face_in, face_reads, text_in, whole}
+use Rattle.hurd_machine.proofs.Faces.{face_in, face_reads, root_told, text_in, whole}
 use Rattle.hurd_machine.proofs.Views.{text_known}
 use Rattle.hurd_nodes.proofs.Sites.{home_by, active_by, site_by}
 use Rattle.hurd_trans_iface.specs.Nodes.{Entry}
-use Rattle.hurd_trans_iface.specs.Meaning.{ServerKind, Tmpfs, Hello, Null, Zero, Symlink, Firmlink, Union, Magic, Drip, Fifo, all_kinds, behaviour_of}
+use Rattle.hurd_trans_iface.specs.Meaning.{ServerKind, all_kinds, behaviour_of, root_of}
+use Rattle.hurd_trans_iface.specs.Texts.{is_link, told_text}
+use Rattle.hurd_trans_iface.specs.declared.root.Root.{Root}
+use Rattle.hurd_trans_iface.proofs.Goods.{good, kind_among, kind_named}
 use Rattle.hurd_machine.specs.World.{nodes_of}
 use Rattle.hurd_sight.specs.Looks.{sees_with}
 use Rattle.hurd_sight.specs.Parts.{part_of}
@@ -130,32 +133,15 @@ bodies_back (Some x) apart = ap Some (body_back x.body (apart x refl))
 
 -- what is seen of a server is told by its program, by the text that whoever knows it is told, its root, its ids and its targets
 
--- the first of these kinds whose program has this name
-abbrev kind_among : List ServerKind → List ℕ → Option ServerKind
-kind_among [] w = None
-kind_among (k ∷ ks) w = cond (bytes_eq w (behaviour_of k).program) (Some k) (kind_among ks w)
+first_taken : (ws : List (List ℕ)) (w : List ℕ) → take 1 ws ≡ w ∷ [] → first_word ws ≡ w
+first_taken [] w is = absurd (cc)
+first_taken (v ∷ ws) w is = cc
 
--- the kind of a program
-abbrev kind_of : List ℕ → Option ServerKind
-kind_of program = kind_among all_kinds program
+program_named : (k : ServerKind) (text : List ℕ) → first_word (options_of k text) ≡ (behaviour_of k).program
+program_named k text = first_taken (options_of k text) (behaviour_of k).program ((good k).named text)
 
-abbrev program_of : ServerKind → List ℕ → List ℕ
-program_of k text = first_word (options_of k text)
-
-kind_said : (k : ServerKind) (text : List ℕ) → kind_of (program_of k text) ≡ Some k
-kind_said Tmpfs text = refl
-kind_said Hello text = refl
-kind_said Null text = refl
-kind_said Zero text = refl
-kind_said Symlink text = refl
-kind_said Firmlink text = refl
-kind_said Magic text = refl
-kind_said Drip text = refl
-kind_said Fifo text = refl
-kind_said Union text = refl
-
-kind_named : (k l : ServerKind) (s t : List ℕ) → program_of k s ≡ program_of l t → k ≡ l
-kind_named k l s t e = let same : Some k ≡ Some l = sym (kind_said k s) ∙ ap kind_of e ∙ kind_said l t in cc
+kinds_apart : (k l : ServerKind) (s t : List ℕ) → first_word (options_of k s) ≡ first_word (options_of l t) → k ≡ l
+kinds_apart k l s t e = let same : Some k ≡ Some l = sym (kind_named k) ∙ ap (kind_among all_kinds) (sym (program_named k s) ∙ e ∙ program_named l t) ∙ kind_named l in cc
 
 info_from : {k l : ServerKind} {s t : List ℕ} {n m : Name} {x y : IdSets} {p q : List Name} → k ≡ l → s ≡ t → n ≡ m → x ≡ y → p ≡ q
     → ◌≡◌ {A = ServerInfo} (record { kind = k; text = s; root = n; ids = x; targets = p }) (record { kind = l; text = t; root = m; ids = y; targets = q })
@@ -163,7 +149,7 @@ info_from a b c d e = rw (a, b, c, d, e) refl
 
 face_told : (i j : ServerInfo) → server_row i ≡ server_row j → faced i ≡ faced j
 face_told i j e =
-    let kind : i.kind ≡ j.kind = kind_named i.kind j.kind i.text j.text (ap (λ (r : ServerRow). r.program) e) in
+    let kind : i.kind ≡ j.kind = kinds_apart i.kind j.kind i.text j.text (ap (λ (r : ServerRow). r.program) e) in
     let text : known_text i.kind i.text ≡ known_text j.kind j.text = ap (λ (r : ServerRow). r.text) e in
     let root : i.root ≡ j.root = ap (λ (r : ServerRow). r.root) e in
     let ids : i.ids ≡ j.ids = ap (λ (r : ServerRow). r.ids) e in
@@ -184,17 +170,18 @@ texts_told (Some i) (Some j) e = ap Some (ap (λ (r : TextRow). r.text) (let sam
 
 -- and nothing else of it is kept
 
-kept_face : (k : ServerKind) (text : List ℕ) → (program_of k (known_text k text) ≡ program_of k text) × (known_text k (known_text k text) ≡ known_text k text)
-kept_face Tmpfs text = (refl, refl)
-kept_face Hello text = (refl, refl)
-kept_face Null text = (refl, refl)
-kept_face Zero text = (refl, refl)
-kept_face Symlink text = (refl, refl)
-kept_face Firmlink text = (refl, refl)
-kept_face Union text = (refl, refl)
-kept_face Magic text = (refl, refl)
-kept_face Drip text = (refl, refl)
-kept_face Fifo text = (refl, refl)
+told_twice : (r : Root) (text : List ℕ) → told_text r (told_text r text) ≡ told_text r text
+told_twice r text = go (is_link r.crossing)
+  where
+    go : (b : Bool) → (if b then (if b then text else []) else []) ≡ (if b then text else [])
+    go true = refl
+    go false = refl
+
+kept_face : (k : ServerKind) (text : List ℕ) → (first_word (options_of k (known_text k text)) ≡ first_word (options_of k text)) × (known_text k (known_text k text) ≡ known_text k text)
+kept_face k text = (
+  program_named k (known_text k text) ∙ sym (program_named k text),
+  ap (λ (r : Root). told_text r (known_text k text)) (root_told k text) ∙ told_twice (root_of k text) text,
+)
 
 row_faced : (i : ServerInfo) → server_row (faced i) ≡ server_row i
 row_faced i = let k = kept_face i.kind i.text in rw (k.0, k.1) refl

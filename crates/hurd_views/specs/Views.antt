@@ -1,7 +1,6 @@
 -- What a set of tasks sees of a world, as it is kept to be compared.
-use Rattle.std.specs.Prelude.{◌≡◌, ◌↔◌, ◌||◌, codes, ℕ, Bool, true, false, if◌then◌else◌, List, [], ◌∷◌, ◌++◌, length, map, Option, Some, None}
+use Rattle.std.specs.Prelude.{◌≡◌, ◌↔◌, ℕ, Bool, true, false, if◌then◌else◌, List, [], ◌∷◌, ◌++◌, length, map, Option, Some, None}
 use Rattle.std.specs.List.{list_any}
-use Rattle.std.specs.Str.{bytes_eq}
 use Rattle.std.specs.Option.{option_map}
 use Rattle.hurd_creds.specs.declared.name.Name.{Name}
 use Rattle.hurd_creds.specs.declared.name.TaskId.{TaskId}
@@ -72,10 +71,6 @@ body_row (Listing es) = body.Entries (rows_in (Some (Listing es)) (map (λ e. e.
 abbrev pub first_word : List (List ℕ) → List ℕ
 first_word [] = []
 first_word (w ∷ ws) = w
-
--- the text that whoever knows a server is told, by its program: a link's alone
-abbrev pub text_by : List ℕ → List ℕ → List ℕ
-text_by program text = if bytes_eq program (codes "/hurd/symlink") || bytes_eq program (codes "/hurd/magic") then text else []
 
 -- a server as whoever knows it sees it: its program, the text that they are told, and what it aims at
 abbrev pub server_row : ServerInfo → ServerRow

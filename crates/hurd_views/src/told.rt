@@ -8,7 +8,7 @@ ghost use Rattle.hurd_trans_iface.specs.Meaning.{options_of};
 ghost use Rattle.hurd_trans_iface.specs.Nodes.{body_of as body_in, content_of};
 ghost use Rattle.hurd_nodes.specs.Shown.{ServerInfo, shown};
 ghost use Rattle.hurd_machine.specs.World.{words_at};
-ghost use Rattle.hurd_views.specs.Views.{body_row, entry_before, first_word, node_row, row_of, rows_in, server_row, text_by, text_row, with_entries};
+ghost use Rattle.hurd_views.specs.Views.{body_row, entry_before, first_word, node_row, row_of, rows_in, server_row, text_row, with_entries};
 
 use crate::rows::{
     BodyRow, EntryRow, EntryRows, NodeNames, NodeRow, OpenRow, Row, ServerRow, TextRow,
@@ -218,7 +218,6 @@ fn server_of<S: Server>(
 }
 
 /// A server, if it is there.
-#[tactic(auto, using(crate::proofs::ToldLaws::text_named))]
 fn server_row<S: Server>(
     alloc: Global,
     nodes: &Nodes<S>,
@@ -232,7 +231,7 @@ fn server_row<S: Server>(
     let Some(root) = nodes.root_of(server) else {
         return Ok(None);
     };
-    let Some(text) = nodes.text_of(server) else {
+    let Some(text) = nodes.told_text_of(server) else {
         return Ok(None);
     };
     let Some(ids) = nodes.ids_of(server) else {
@@ -242,8 +241,8 @@ fn server_row<S: Server>(
         return Ok(None);
     };
     Ok(Some(ServerRow {
-        text: Bytes::copied(alloc, known_text(&program, text))?,
         program,
+        text: Bytes::copied(alloc, text)?,
         root,
         ids: ids.copied(alloc)?,
         targets: NodeNames::copied(alloc, targets)?,
@@ -286,17 +285,6 @@ fn first_word(alloc: Global, words: &Words) -> Result<Bytes, AllocError>
     match words.as_slice() {
         [word, ..] => Bytes::copied(alloc, word.as_slice()),
         [] => Bytes::copied(alloc, &[]),
-    }
-}
-
-/// The text that whoever knows a server of this program is told: a link's alone.
-fn known_text<'a>(program: &Bytes, text: &'a [u8]) -> &'a [u8]
-    ensures { result.now ≡ text_by program.now text.entry.now }
-{
-    if program.is(b"/hurd/symlink") || program.is(b"/hurd/magic") {
-        text
-    } else {
-        &[]
     }
 }
 

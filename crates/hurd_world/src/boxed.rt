@@ -2,7 +2,8 @@
 ghost use Rattle.std.specs.Prelude.{◌≡◌, IfOk, IfErr, map};
 ghost use Rattle.hurd_machine.specs.Calls.{reply_by};
 ghost use Rattle.hurd_machine.specs.Sound.{Sound};
-ghost use Rattle.hurd_laws.specs.Served.{Served, ComparedRun, IsolatedRun};
+ghost use Rattle.hurd_laws.specs.Served.{Served, ComparedRun, IsolatedRun, kept};
+ghost use Rattle.hurd_laws.specs.Spared.{SparesAll};
 ghost use Rattle.hurd_world.specs.Held.{AllBegun, AllComeBack, made_by, world_of};
 
 use crate::world::World;
@@ -25,6 +26,8 @@ pub fn run_boxed(
         IfOk result (λ replies. Sound w → IsolatedRun w (map (made_by (λ b. meaning b)) calls.items) (map (reply_by (λ b. meaning b)) replies.items) x) }
     ensures compared { let w = world_of (λ b. meaning b) world.old in
         IfOk result (λ replies. Sound w → ComparedRun w (map (made_by (λ b. meaning b)) calls.items) (map (reply_by (λ b. meaning b)) replies.items)) }
+    ensures spared { let w = world_of (λ b. meaning b) world.old in let x = world_of (λ b. meaning b) world.new in
+        IfOk result (λ replies. Sound w → SparesAll w (kept (map (made_by (λ b. meaning b)) calls.items) (map (reply_by (λ b. meaning b)) replies.items)) x) }
     ensures back { IfOk result (λ replies. AllComeBack calls.items replies.items) }
     ensures sound { Sound (world_of (λ b. meaning b) world.old) → Sound (world_of (λ b. meaning b) world.new) }
     ensures err { IfErr result (λ e. (e ≡ (Errno.ENOMEM, calls)) × (world.new ≡ world.old)) }

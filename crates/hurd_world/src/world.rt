@@ -4,7 +4,9 @@ ghost use Rattle.hurd_trans_iface.specs.Meaning.{Begins};
 ghost use Rattle.hurd_machine.specs.Calls.{BringsBegun, call_by, reply_by};
 ghost use Rattle.hurd_machine.specs.Sound.{Sound};
 ghost use Rattle.hurd_laws.specs.Called.{Called};
-ghost use Rattle.hurd_laws.specs.Served.{Served, ComparedRun, IsolatedRun};
+ghost use Rattle.hurd_laws.specs.Integrity.{KeepsIntegrity};
+ghost use Rattle.hurd_laws.specs.Served.{Served, ComparedRun, IsolatedRun, kept};
+ghost use Rattle.hurd_laws.specs.Spared.{SparesAll};
 ghost use Rattle.hurd_world.specs.Held.{AllBegun, AllComeBack, ComesBack, made_by, world_of};
 ghost use Rattle.hurd_world.specs.Boot.{boot_of, first_world};
 
@@ -76,7 +78,8 @@ impl<S: Server> World<S> {
     }
 
     /// Makes one call of a task. A refused call changes nothing, and gives back the server that it brought, which some words made;
-    /// a refused `fsys_startup` alone gives up what the task was to start, but for want of memory.
+    /// a refused `fsys_startup` alone gives up what the task was to start, but for want of memory. Nothing changes that a set of tasks
+    /// in which the caller is may not change, but that what nobody sees any more goes, and that another task is sent a right.
     ///
     /// Errors: `ESRCH` where there is no such task, then those of the call, in its order. `ENOMEM` where a call that takes
     /// memory, and needs some as the world stands, isn't refused, and finds none.
@@ -85,6 +88,7 @@ impl<S: Server> World<S> {
         ensures answer { Called (world_of S.meaning self.old) task.0 (call_by S.meaning call) (reply_by S.meaning result) (world_of S.meaning self.new) }
         ensures back { ComesBack call result }
         ensures sound { Sound (world_of S.meaning self.old) → Sound (world_of S.meaning self.new) }
+        ensures integrity { Sound (world_of S.meaning self.old) → KeepsIntegrity (world_of S.meaning self.old) task.0 (world_of S.meaning self.new) }
     {
         self.dispatch(alloc, task, call)
     }
@@ -228,7 +232,8 @@ impl<S: Server> World<S> {
     ///
     /// What a set of tasks is told is what the written machine tells it in any sound world that it sees alike, where the
     /// calls of the others touch nothing that it sees; and wherever it makes each of its calls in a world that it sees as
-    /// here, whatever the others did before. A call that found no memory counts as not made.
+    /// here, whatever the others did before. What a set may change at none of its calls, and no call of the others touches, stays as
+    /// it was, or goes unseen. A call that found no memory counts as not made.
     ///
     /// `ENOMEM`, with the list back and no call made, where there is no room for the replies.
     pub fn run(
@@ -243,6 +248,8 @@ impl<S: Server> World<S> {
             IfOk result (λ replies. Sound w → IsolatedRun w (map (made_by S.meaning) calls.items) (map (reply_by S.meaning) replies.items) x) }
         ensures compared { let w = world_of S.meaning self.old in
             IfOk result (λ replies. Sound w → ComparedRun w (map (made_by S.meaning) calls.items) (map (reply_by S.meaning) replies.items)) }
+        ensures spared { let w = world_of S.meaning self.old in let x = world_of S.meaning self.new in
+            IfOk result (λ replies. Sound w → SparesAll w (kept (map (made_by S.meaning) calls.items) (map (reply_by S.meaning) replies.items)) x) }
         ensures back { IfOk result (λ replies. AllComeBack calls.items replies.items) }
         ensures sound { Sound (world_of S.meaning self.old) → Sound (world_of S.meaning self.new) }
         ensures err { IfErr result (λ e. (e ≡ (Errno.ENOMEM, calls)) × (self.new ≡ self.old)) }

@@ -1,5 +1,5 @@
 use Rattle.hurd_machine.specs.Calls.{call_by, reply_by}
-use Rattle.hurd_laws.proofs.Served.{called_sound}
+use Rattle.hurd_laws.proofs.Served.{called_integrity, called_sound}
 use Rattle.hurd_world.specs.Held.{world_of}
 use Rattle.hurd_world.proofs.world.World.call.Goals as goal
 
@@ -7,3 +7,8 @@ pub returns-clause-sound : goal.returns-clause-sound
 returns-clause-sound g c =
     let f = g.S.Server.meaning in
     called_sound (world_of f c.args.self.now) (world_of f c.dispatch.new.self) c.args.task.0 (call_by f c.args.call) (reply_by f c.dispatch.result) c.dispatch.ensures.0
+
+pub returns-clause-integrity : goal.returns-clause-integrity
+returns-clause-integrity g c =
+    let f = g.S.Server.meaning in
+    called_integrity (world_of f c.args.self.now) (world_of f c.dispatch.new.self) c.args.task.0 (call_by f c.args.call) (reply_by f c.dispatch.result) c.dispatch.ensures.0
