@@ -1,0 +1,91 @@
+#!/usr/bin/env python3
+"""assemble.py OUT.html MODULE.wasm..: the page in one file, which opens from a disk, without a network.
+
+Beside this file lie the page's parts; the examples and their first lines come from examples/, the sum is that of sources.py.
+"""
+import base64
+import hashlib
+import json
+import os
+import re
+import sys
+
+import sources
+
+HERE = os.path.dirname(os.path.abspath(__file__))
+TOP = os.path.dirname(HERE)
+SCRIPTS = ["read.js", "machine.js", "tree.js", "lecture.js", "page.js"]
+FIRST = ["learned-secret.hurd", "learned-server.hurd", "learned-size.hurd", "learned-text.hurd", "learned-target.hurd", "strangers-file.hurd"]
+TITLES = {"welcome.hurd": "The first script: root writes a text, and alice reads it."}
+
+
+def text(*names):
+    with open(os.path.join(*names), encoding="utf-8") as file:
+        return file.read()
+
+
+def about(name, script):
+    """The first line that says what an example shows."""
+    said = TITLES.get(name) or script.split("\n")[0].lstrip("# ")
+    return said[0].upper() + said[1:]
+
+
+def users(script):
+    return [line.split()[1] for line in script.split("\n") if line.startswith("user ")]
+
+
+def examples():
+    """Each example: its name, what it shows, and through whose eyes one looks at first."""
+    names = sorted(name for name in os.listdir(os.path.join(TOP, "examples")) if name.endswith((".hurd", ".calls")))
+    found = []
+    for name in FIRST + [name for name in names if name not in FIRST]:
+        script, is_list = text(TOP, "examples", name), name.endswith(".calls")
+        who = ["1"] if is_list else ["alice"] if "alice" in users(script) else ["root"]
+        title = name.rsplit(".", 1)[0].replace("-", " ")
+        found.append({"file": name, "title": title, "sort": "list" if is_list else "script", "who": who, "question": about(name, script), "text": script})
+    return found
+
+
+def block(kind, name, content, more=""):
+    """Data in the page. No script of the page is read from it as code, and nothing in it ends it."""
+    return f'<script type="{kind}" id="{name}"{more}>{content.replace("<", chr(92) + "u003c") if kind == "application/json" else content}</script>\n'
+
+
+def hashed(content):
+    return "'sha256-" + base64.b64encode(hashlib.sha256(content.encode()).digest()).decode() + "'"
+
+
+def main():
+    out, modules = sys.argv[1], sys.argv[2:]
+    style = text(HERE, "page.css")
+    script = "\n".join(text(HERE, name) for name in SCRIPTS) + "Page.begin();\n"
+    worker = text(HERE, "worker.js")
+    lecture = json.loads(text(HERE, "lecture.json"))
+    for step in lecture["steps"]:
+        if "example" in step and not step["example"].endswith((".hurd", ".calls")):
+            step["example"] += ".hurd"
+    blocks = block("text/plain", "worker", worker)
+    blocks += block("application/json", "examples", json.dumps(examples()))
+    blocks += block("application/json", "help-texts", text(HERE, "help.json"))
+    blocks += block("application/json", "lecture-texts", json.dumps(lecture))
+    for path in modules:
+        name = os.path.basename(path).rsplit(".", 1)[0]
+        with open(path, "rb") as file:
+            blocks += block("application/octet-stream", "module-" + name, base64.b64encode(file.read()).decode(), f' data-program="{name}"')
+    policy = "default-src 'none'; script-src " + hashed(script) + " 'wasm-unsafe-eval'; worker-src blob:; style-src " + hashed(style) + "; base-uri 'none'; form-action 'none'"
+    page = text(HERE, "index.html")
+    for mark, content in {
+        "<!-- policy -->": f'<meta http-equiv="Content-Security-Policy" content="{policy}">\n<meta name="sources" content="{sources.total()}">',
+        "<!-- style -->": f"<style>{style}</style>",
+        "<!-- blocks -->": blocks + f"<script>{script}</script>",
+    }.items():
+        if page.count(mark) != 1:
+            sys.exit(f"index.html has {page.count(mark)} times {mark}")
+        page = page.replace(mark, content)
+    if "</script" in re.sub(r"(?s)<script.*?</script>", "", page):
+        sys.exit("a block of the page ends too early")
+    with open(out, "w", encoding="utf-8") as file:
+        file.write(page)
+
+
+main()

@@ -1,0 +1,132 @@
+/* What a program of this repository asks of its system, in a web page: standard input and a word are given beforehand, standard output is kept, and nothing
+   else is there. */
+typedef unsigned long long u64;
+typedef long long i64;
+typedef unsigned long address;
+typedef unsigned char u8;
+typedef unsigned __int128 u128;
+
+enum { EBADF = 9, ENOSPC = 28, ESPIPE = 29 };
+
+extern int hurd_main(void);
+extern u64 room(u64);
+extern void give(void *);
+
+static const u8 *in;
+static u64 in_left;
+static u8 *out;
+static u64 out_length, out_room;
+static const u8 *one; /* the only word, if there is one */
+static u64 one_length;
+static int last_error;
+
+#define EXPORT(name) __attribute__((export_name(name)))
+
+EXPORT("input") void input(u64 text, u64 length) {
+    in = (const u8 *)(address)text;
+    in_left = length;
+}
+
+EXPORT("word") void word(u64 text, u64 length) {
+    one = (const u8 *)(address)text;
+    one_length = length;
+}
+
+EXPORT("run") int run(void) { return hurd_main(); }
+EXPORT("output") u64 output(void) { return (address)out; }
+EXPORT("output_length") u64 output_length(void) { return out_length; }
+
+static i64 fails(int error) {
+    last_error = error;
+    return -1;
+}
+
+i64 read(int from, u8 *to, u64 most) {
+    if (from != 0) return fails(EBADF);
+    u64 count = most < in_left ? most : in_left;
+    if (count) __builtin_memcpy(to, in, count);
+    in += count;
+    in_left -= count;
+    return (i64)count;
+}
+
+/* whether so many bytes more can be kept */
+static int keeps(u64 more) {
+    if (out_room - out_length >= more) return 1;
+    u64 wanted = 2 * out_room + more + 4096;
+    u8 *place = (u8 *)(address)room(wanted);
+    if (!place) return 0;
+    if (out) {
+        __builtin_memcpy(place, out, out_length);
+        give(out);
+    }
+    out = place;
+    out_room = wanted;
+    return 1;
+}
+
+i64 write(int to, const u8 *from, u64 count) {
+    if (to != 1 && to != 2) return fails(EBADF);
+    if (!keeps(count)) return fails(ENOSPC);
+    if (count) __builtin_memcpy(out + out_length, from, count);
+    out_length += count;
+    return (i64)count;
+}
+
+i64 __write(int to, const u8 *from, u64 count) { return write(to, from, count); }
+i64 lseek(int file, i64 place, int whence) { return fails(ESPIPE); }
+int rattle_errno(void) { return last_error; }
+void rattle_set_errno(int error) { last_error = error; }
+u64 rattle_arg_count(void) { return one ? 2 : 1; }
+
+/* the length of a word, which is copied as far as there is room: -1 where there is no such word, -2 where there was not room for all of it */
+i64 rattle_arg(u64 which, u8 *to, u64 most) {
+    const u8 *from = which ? one : (const u8 *)"hurd";
+    u64 length = which ? one_length : 4;
+    if (which > 1 || !from) return -1;
+    if (most) __builtin_memcpy(to, from, length < most ? length : most);
+    return length <= most ? (i64)length : -2;
+}
+
+/* a program asks at its start which processor it runs on: no instruction of x86-64 is left here */
+struct features {
+    unsigned bits[8];
+};
+static const struct features all = {{-1, -1, -1, -1, -1, -1, -1, -1}};
+const struct features *__x86_get_cpuid_feature_leaf(unsigned leaf) { return &all; }
+u64 __sysv_signal(int number, u64 handler) { return 0; }
+
+/* numbers of 128 bits, for which WebAssembly has no instructions */
+
+u128 __multi3(u128 a, u128 b) {
+    u64 x = (u64)a, y = (u64)b, mask = 0xffffffff;
+    u64 p = (x & mask) * (y & mask), q = (x >> 32) * (y & mask), r = (x & mask) * (y >> 32), s = (x >> 32) * (y >> 32);
+    u64 middle = (p >> 32) + (q & mask) + (r & mask);
+    u64 low = (p & mask) | middle << 32, high = s + (q >> 32) + (r >> 32) + (middle >> 32);
+    high += x * (u64)(b >> 64) + (u64)(a >> 64) * y;
+    return (u128)high << 64 | low;
+}
+
+u128 __ashlti3(u128 a, int by) {
+    u64 low = (u64)a, high = (u64)(a >> 64);
+    if (by >= 64) {
+        high = low << (by - 64);
+        low = 0;
+    } else if (by) {
+        high = high << by | low >> (64 - by);
+        low <<= by;
+    }
+    return (u128)high << 64 | low;
+}
+
+u128 __lshrti3(u128 a, int by) {
+    u64 low = (u64)a, high = (u64)(a >> 64);
+    if (by >= 64) {
+        low = high >> (by - 64);
+        high = 0;
+    } else if (by) {
+        low = low >> by | high << (64 - by);
+        high >>= by;
+    }
+    return (u128)high << 64 | low;
+}

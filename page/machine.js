@@ -1,0 +1,44 @@
+// The programs, run in a worker: whatever a script does, the page stays alive, and a run can be stopped.
+"use strict";
+const Machine = {
+  worker: null,
+  waiting: new Map(),
+  next: 0,
+  encoder: new TextEncoder(),
+
+  block: name => document.getElementById(name).textContent,
+  bytes: text => Uint8Array.from(atob(text), c => c.charCodeAt(0)),
+
+  start() {
+    const address = URL.createObjectURL(new Blob([this.block("worker")], { type: "text/javascript" }));
+    this.worker = new Worker(address);
+    URL.revokeObjectURL(address);
+    this.worker.onmessage = ({ data }) => {
+      const done = this.waiting.get(data.id);
+      this.waiting.delete(data.id);
+      if (done) done(data);
+    };
+    this.worker.onerror = event => this.stop(event.message || "the worker failed");
+    for (const block of document.querySelectorAll("[data-program]")) {
+      this.worker.postMessage({ program: block.dataset.program, module: this.bytes(block.textContent) });
+    }
+  },
+
+  // {status, bytes, trap}
+  run(program, text, word) {
+    if (!this.worker) this.start();
+    const id = this.next++;
+    return new Promise(done => {
+      this.waiting.set(id, done);
+      this.worker.postMessage({ id, program, text: this.encoder.encode(text), word: word === undefined ? null : this.encoder.encode(word) });
+    });
+  },
+
+  // ends all runs; the next one begins with a new worker
+  stop(why) {
+    if (this.worker) this.worker.terminate();
+    this.worker = null;
+    for (const done of this.waiting.values()) done({ status: -1, bytes: new Uint8Array(0), trap: why || "stopped" });
+    this.waiting.clear();
+  },
+};

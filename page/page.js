@@ -1,0 +1,241 @@
+// The page: a script, who looks, what is told and learned behind each command, and the tree as it then is. All that is shown is read from what the programs print.
+"use strict";
+const $ = id => document.getElementById(id);
+const element = (tag, kind, text) => { const made = document.createElement(tag); if (kind) made.className = kind; if (text !== undefined) made.textContent = text; return made; };
+const Page = {
+  examples: JSON.parse(Machine.block("examples")),
+  help: JSON.parse(Machine.block("help-texts")),
+  who: new Set(),
+  at: Infinity,
+  turn: 0,
+  timer: 0,
+  later: 0,
+
+  is_list: () => $("sort").value === "list",
+  program: () => Page.is_list() ? "hurd_tasks_learn" : "hurd_learns",
+
+  // lines up to a command, where lessons begin just before it and all that is seen is shown behind it
+  cut(text, commands, at) {
+    const lines = text.split("\n").slice(0, commands[at - 1].at + 1);
+    lines.splice(commands[at - 1].at, 0, "# from here");
+    return lines.filter((line, k) => k === commands[at - 1].at || !/^# (see|from here)$/.test(line)).join("\n") + "\n# see\n";
+  },
+
+  async show() {
+    const turn = ++this.turn, text = $("text").value, { users, commands } = Read.lines(text, this.is_list());
+    this.chips(users);
+    const at = Math.min(this.at, commands.length), who = [...users.keys()].filter(name => this.who.has(name)).join(","), everyone = [...users.keys()].join(",");
+    this.slide(at, commands);
+    document.body.dataset.ready = "no";
+    const slow = setTimeout(() => { if (turn === this.turn) { this.say("running \u2026"); $("stop").hidden = false; } }, 150);
+    const whole = await Machine.run(this.program(), text, who), out = Read.text(whole.bytes);
+    const upto = at && whole.status === 0 ? this.cut(text, commands, at) : null;
+    const seen = upto && turn === this.turn ? await Machine.run(this.program(), upto, who) : null;
+    const all = upto && turn === this.turn ? await Machine.run(this.program(), upto, everyone) : null;
+    clearTimeout(slow);
+    if (turn !== this.turn) return;
+    $("stop").hidden = true;
+    if (!this.fault(whole, out, text)) { this.mark(text, commands, 0, -1); document.body.dataset.ready = "bad"; return; }
+    this.mark(text, commands, at, -1);
+    this.told(Read.output(out), commands, at);
+    const views = run => run && run.status === 0 ? Read.output(Read.text(run.bytes)).paragraphs.at(-1).seen : [];
+    this.draw(views(all), views(seen), users);
+    this.sees(views(seen), who);
+    document.body.dataset.ready = "yes";
+    this.remember();
+  },
+
+  // the address says what is shown, so that it can be opened again; a long script is put there by the button alone
+  remember() {
+    clearTimeout(this.later);
+    if ($("lecture").hidden && $("text").value.length < 20000) this.later = setTimeout(() => history.replaceState(null, "", this.address()), 500);
+  },
+
+  say(text, is_bad) { $("status").textContent = text; $("status").className = is_bad ? "bad" : ""; },
+
+  // whether the script ran; if not, why, at its line
+  fault(run, out, text) {
+    const bad = run.status === 1 && Read.bad(out), why = run.trap ? "The run ended: " + run.trap + "." : bad ? `Line ${bad.at + 1}: ${bad.why}.` : run.status ? out.trim().split("\n").pop() : "";
+    $("fault").hidden = !why;
+    $("fault").textContent = why;
+    this.say("");
+    if (bad) {
+      this.mark(text, [], 0, bad.at);
+      const line = text.split("\n")[bad.at] || "";
+      $("fault").append(element("br"), element("code", "", line.length > 200 ? line.slice(0, 200) + "\u2026" : line));
+    }
+    if (why) for (const id of ["told", "sees", "picture"]) $(id).replaceChildren(element("p", "sum", "Nothing was run."));
+    return !why;
+  },
+
+  chips(users) {
+    for (const name of [...this.who]) if (!users.has(name)) this.who.delete(name);
+    if (!this.who.size && users.size) this.who.add(users.has("alice") ? "alice" : [...users.keys()].at(-1));
+    const box = $("who"), said = JSON.stringify([...users.keys()]);
+    if (box.dataset.said !== said) {
+      box.dataset.said = said;
+      box.replaceChildren(...[...users.keys()].map(name => {
+        const chip = element("label", "chip"), input = element("input");
+        input.type = "checkbox";
+        input.value = name;
+        input.onchange = () => { if (input.checked) this.who.add(name); else this.who.delete(name); this.show(); };
+        chip.append(input, element("span", "", this.is_list() ? "task " + name : Read.plain(name)));
+        return chip;
+      }));
+    }
+    for (const input of box.querySelectorAll("input")) input.checked = this.who.has(input.value);
+  },
+
+  slide(at, commands) {
+    $("at").max = commands.length;
+    $("at").value = at;
+    $("back").disabled = at <= 0;
+    $("on").disabled = at >= commands.length;
+    const words = at ? `behind ${at} of ${commands.length}: ${commands[at - 1].who}$ ${commands[at - 1].text}` : "before the first command";
+    $("place").textContent = words;
+    $("at").setAttribute("aria-valuetext", words);
+  },
+
+  // each line of the script under the text: the command behind which one looks, those that come later, and a bad line
+  mark(text, commands, at, bad) {
+    const now = at && commands[at - 1] ? commands[at - 1].at : -1, later = commands[at] && bad < 0 ? commands[at].at : Infinity;
+    $("marks").replaceChildren(...text.split("\n").slice(0, 5000).map((line, k) => element("b", k === bad ? "bad" : k === now ? "now" : k >= later ? "later" : "", line.slice(0, 400) || " ")));
+    this.scroll();
+  },
+
+  scroll() { $("marks").scrollTop = $("text").scrollTop; $("marks").scrollLeft = $("text").scrollLeft; },
+
+  told({ paragraphs, last }, commands, at) {
+    const list = element("ol");
+    paragraphs.forEach(({ part, learned }, k) => {
+      const item = element("li", "part" + (commands[k] && this.who.has(commands[k].who) ? " own" : "") + (k + 1 === at ? " now" : ""));
+      const button = element("button", "command", part[0]);
+      if (k + 1 === at) button.setAttribute("aria-current", "step");
+      item.onclick = () => this.go(k + 1);
+      item.append(button, ...part.slice(1).map(line => element("span", "line" + (/^E[A-Z]+$/.test(line) ? " error" : ""), line || " ")));
+      item.append(...learned.map(clauses => element("span", "learned", this.learner() + clauses.join(": "))));
+      list.append(item);
+    });
+    $("told").replaceChildren(list, element("p", "sum", last));
+    const now = list.querySelector(".now");
+    if (now) $("told").scrollTop = Math.max(0, Math.min(now.offsetTop - list.offsetTop - 8, now.offsetTop - list.offsetTop + now.offsetHeight - $("told").clientHeight / 2));
+  },
+
+  learner() {
+    const names = [...this.who].join(",");
+    return (this.is_list() ? (this.who.size > 1 ? "tasks " : "task ") : "") + Read.plain(names) + (this.who.size > 1 ? " learn: " : " learns: ");
+  },
+
+  draw(all, seen, users) {
+    const names = new Map([...users].reverse().map(([name, uid]) => [uid, this.is_list() ? "task " + name : Read.plain(name)]));
+    $("picture").replaceChildren(Tree.draw(Read.rows(all), Read.rows(seen), names) || element("p", "", "Nothing has been done yet."));
+  },
+
+  sees(seen, who) {
+    const table = element("table"), body = element("tbody");
+    table.append(element("caption", "", seen.length ? `All that ${this.is_list() ? "task " : ""}${Read.plain(who)} can see now` : "Nothing is looked at before the first command."), body);
+    for (const [place, ...parts] of seen) {
+      const row = element("tr"), head = element("th", "", place);
+      head.scope = "row";
+      row.append(head, element("td", "", parts.join(": ")));
+      body.append(row);
+    }
+    $("sees").replaceChildren(table);
+  },
+
+  go(at) { this.at = Math.max(0, at); return this.show(); },
+
+  tab(name) {
+    for (const id of ["told", "sees"]) {
+      $("tab-" + id).setAttribute("aria-selected", String(id === name));
+      $("tab-" + id).tabIndex = id === name ? 0 : -1;
+      $(id).hidden = id !== name;
+    }
+  },
+
+  sorted() {
+    $("commands").textContent = this.help[$("sort").value];
+    $("text").setAttribute("aria-label", this.is_list() ? "the list, a call a line" : "the script, a command a line");
+  },
+
+  open(text, sort, who, at, about) {
+    $("text").value = text;
+    $("sort").value = sort;
+    $("about").textContent = about || "";
+    $("who").dataset.said = "";
+    this.sorted();
+    this.who = new Set(who || []);
+    this.at = at === undefined ? Infinity : at;
+    return this.show();
+  },
+
+  pick(file) {
+    const found = this.examples.find(example => example.file === file) || this.examples[0];
+    $("example").value = found.file;
+    return this.open(found.text, found.sort, found.who, found.at, found.question);
+  },
+
+  // what the address says behind `#`: an example or a whole script, who looks, and behind which command
+
+  pack: text => btoa(Array.from(Machine.encoder.encode(text), byte => String.fromCharCode(byte)).join("")).replace(/\+/g, "-").replace(/\//g, "_").replace(/=+$/, ""),
+  unpack: text => new TextDecoder("utf-8", { fatal: true }).decode(Machine.bytes(text.replace(/-/g, "+").replace(/_/g, "/"))),
+
+  address() {
+    const shown = this.examples.find(example => example.file === $("example").value), words = new URLSearchParams();
+    if (shown && shown.text === $("text").value) words.set("example", shown.file);
+    else { words.set(this.is_list() ? "list" : "script", this.pack($("text").value)); }
+    words.set("who", [...this.who].join(","));
+    if (this.at !== Infinity) words.set("at", this.at);
+    return location.href.split("#")[0] + "#" + words;
+  },
+
+  from_address() {
+    const words = new URLSearchParams(location.hash.slice(1)), who = words.has("who") ? words.get("who").split(",") : undefined, at = words.has("at") ? Math.max(0, Math.floor(Number(words.get("at")) || 0)) : undefined;
+    if (words.has("lecture")) return Lecture.open(Math.floor(Number(words.get("lecture")) || 0));
+    for (const sort of ["script", "list"]) if (words.has(sort)) {
+      try { return this.open(this.unpack(words.get(sort)), sort, who, at, "A script from the address of this page."); } catch (fault) { return this.pick(this.examples[0].file).then(() => this.say("The address has no whole script: an example is shown.", true)); }
+    }
+    const found = this.examples.find(example => example.file === words.get("example")) || this.examples[0];
+    $("example").value = found.file;
+    return this.open(found.text, found.sort, who || found.who, at === undefined ? found.at : at, found.question);
+  },
+
+  begin() {
+    for (const sort of ["script", "list"]) {
+      const group = element("optgroup");
+      group.label = sort === "script" ? "Scripts of users' commands" : "Lists of calls";
+      group.append(...this.examples.filter(example => example.sort === sort).map(example => { const option = element("option", "", example.title); option.value = example.file; return option; }));
+      $("example").append(group);
+    }
+    $("example").onchange = () => this.pick($("example").value);
+    $("sort").onchange = () => { this.sorted(); this.who.clear(); this.at = Infinity; this.show(); };
+    $("text").oninput = () => { clearTimeout(this.timer); this.at = Infinity; this.timer = setTimeout(() => this.show(), 250); };
+    $("text").onscroll = () => this.scroll();
+    $("at").oninput = () => this.go(Number($("at").value));
+    $("back").onclick = () => this.go(Number($("at").value) - 1);
+    $("on").onclick = () => this.go(Number($("at").value) + 1);
+    $("stop").onclick = () => Machine.stop("it was stopped");
+    $("print").onclick = () => window.print();
+    $("link").onclick = () => {
+      const address = this.address();
+      history.replaceState(null, "", address);
+      const said = () => { $("said").textContent = "The address above is the link."; };
+      if (navigator.clipboard) navigator.clipboard.writeText(address).then(() => { $("said").textContent = "Copied: it is the address above."; }, said); else said();
+    };
+    for (const name of ["told", "sees"]) {
+      $("tab-" + name).onclick = () => this.tab(name);
+      $("tab-" + name).onkeydown = event => { if (/^Arrow(Left|Right)$/.test(event.key)) { const other = name === "told" ? "sees" : "told"; this.tab(other); $("tab-" + other).focus(); } };
+    }
+    document.addEventListener("keydown", event => {
+      if (event.key === "Escape" && !$("stop").hidden) Machine.stop("it was stopped");
+      if (/^(TEXTAREA|SELECT)$/.test(event.target.tagName) || event.altKey || event.ctrlKey || event.metaKey) return;
+      if (event.key === "j" && !$("on").disabled) $("on").click();
+      if (event.key === "k" && !$("back").disabled) $("back").click();
+    });
+    window.onhashchange = () => this.from_address();
+    if (typeof WebAssembly === "undefined" || typeof Worker === "undefined") { this.say("This browser can't run the programs: it has no WebAssembly, or no workers.", true); return; }
+    $("made").textContent = "Made of sources with the sum " + document.querySelector("meta[name=sources]").content.slice(0, 16) + ".";
+    Lecture.begin();
+    this.from_address();
+  },
+};

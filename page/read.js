@@ -1,0 +1,88 @@
+// What the programs take and print, read by the rules of docs/PROFILE.md.
+"use strict";
+const Read = {
+  decoder: new TextDecoder(),
+
+  // bytes as a text in which nothing is hidden: control characters, marks of direction and bytes that are no text are shown as signs or as escapes
+  text(bytes) {
+    return this.decoder.decode(bytes).replace(/[\u0000-\u0009\u000b-\u001f\u007f-\u009f\u061c\u200b-\u200f\u2028-\u202f\u2060-\u206f\ufeff]/g, c => {
+      const code = c.charCodeAt(0);
+      return code < 32 ? String.fromCharCode(0x2400 + code) : code === 127 ? "\u2421" : "\\u{" + code.toString(16) + "}";
+    });
+  },
+
+  // words as scripts and lists spell them, as one reads them
+  plain: text => text.replace(/\\(x([0-9a-f]{2})|[sn\\])/g, (all, one, hex) => {
+    const code = hex ? parseInt(hex, 16) : 0;
+    return hex ? (code > 31 && code < 127 ? String.fromCharCode(code) : all) : one === "s" ? " " : one === "n" ? "\u21b5" : "\\";
+  }),
+
+  is_skipped: line => /^ *(#.*)?$/.test(line),
+  words: line => line.split(" ").filter(word => word),
+
+  // the users of a script with their first uids, or the tasks of a list with theirs; and the lines of commands or calls
+  lines(text, is_list) {
+    const users = new Map(is_list ? [] : [["root", "0"]]), commands = [];
+    text.split("\n").forEach((line, at) => {
+      if (this.is_skipped(line)) return;
+      const words = this.words(line);
+      if (commands.length === 0 && words[0] === (is_list ? "task" : "user")) {
+        const name = is_list ? String(users.size) : words[1] || "";
+        if (/^([a-z][a-z0-9]{0,15}|[0-9]+)$/.test(name)) users.set(name, (words[is_list ? 1 : 2] || "").split(",")[0]);
+      } else commands.push({ at, who: words[0], text: words.slice(1).join(" ") });
+    });
+    return { users, commands };
+  },
+
+  // paragraphs {part, learned, seen}: lines of the part, and what is learned and seen by clauses; and the last line
+  output(text) {
+    const lines = text.split("\n"), paragraphs = [];
+    if (lines[lines.length - 1] === "") lines.pop();
+    while (lines.length > 1) {
+      const part = [lines.shift()], learned = [], seen = [];
+      while (lines.length && lines[0].startsWith("| ")) part.push(lines.shift().slice(2));
+      if (lines[0] === "\\ no newline") lines.shift();
+      while (lines.length && lines[0].startsWith("  ")) {
+        const [head, ...clauses] = lines.shift().slice(2).split(": ");
+        (/ learns?$/.test(head) ? learned : seen).push(clauses);
+      }
+      if (lines.length && lines[0] === "") lines.shift();
+      paragraphs.push({ part, learned, seen });
+    }
+    return { paragraphs, last: lines.shift() || "" };
+  },
+
+  // the line of a bad script, and what is said of it
+  bad: text => { const found = /^hurd: line (\d+): (.*)$/m.exec(text); return found && { at: Number(found[1]) - 1, why: found[2] }; },
+
+  // what is seen, a row for each node and each server
+  rows(seen) {
+    const rows = [];
+    for (const [place, parts] of seen) {
+      if (parts === undefined || !/^[/(]/.test(place)) continue;
+      const row = { is_server: / ?\(server\)$/.test(place), place, path: place.replace(/( \([^)]*\))+$/, ""), says: parts };
+      for (const part of parts.split(", ")) this.part(row, part);
+      rows.push(row);
+    }
+    return rows;
+  },
+
+  part(row, part) {
+    const attributes = /^([-dlpsbc?])(\d{6,}) (\d+) (\d+) (\d+) (\d+)(?: passive (.*))?$/.exec(part);
+    const rest = word => part.slice(word.length + 1);
+    if (attributes) [, row.kind, row.mode, row.links, row.uid, row.gid, row.size, row.passive] = attributes;
+    else if (part.startsWith("served by ")) row.served = rest("served by");
+    else if (part.startsWith("active ")) row.active = rest("active");
+    else if (part.startsWith("parent ")) row.parent = rest("parent");
+    else if (part.startsWith("entries ")) { row.entries = this.words(rest("entries")); row.is_open = true; }
+    else if (part === "no entries" || part === "its targets' entries") { row.entries = []; row.is_open = true; }
+    else if (part.startsWith("bytes ") || part.startsWith("given ")) { row.bytes = part; row.is_open = true; }
+    else if (["no bytes", "its server's text", "zeros"].includes(part)) row.is_open = true;
+    else if (part.startsWith("program ")) { row.program = rest("program"); row.is_told = true; }
+    else if (part.startsWith("text ")) row.text = rest("text");
+    else if (part.startsWith("root ")) row.root = rest("root");
+    else if (part.startsWith("runs as ")) row.runs = rest("runs as");
+    else if (part.startsWith("targets ")) row.targets = this.words(rest("targets"));
+    else if (part === "gone") row.is_gone = true;
+  },
+};

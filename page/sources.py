@@ -1,0 +1,63 @@
+#!/usr/bin/env python3
+"""The sum over the sources of the page: of all crates below its programs, of the examples and of page/. No git is asked.
+
+`sources.py` prints it; `sources.py PAGE` compares it with the one that a page was made of, and says so where it is another.
+"""
+import hashlib
+import os
+import re
+import sys
+
+HERE = os.path.dirname(os.path.abspath(__file__))
+TOP = os.path.dirname(HERE)
+PROGRAMS = ["hurd_learns", "hurd_tasks_learn"]
+# what is no source of the page: what is made, and what it is made into
+MADE = {"out", "__pycache__", "must-fail"}
+
+
+def below(names):
+    """These crates and all that they stand on in this repository, by crates.txt."""
+    lines = {}
+    with open(os.path.join(TOP, "crates.txt"), encoding="utf-8") as file:
+        for line in file:
+            if ":" in line.split("#")[0]:
+                name, uses = line.split("#")[0].split(":")
+                lines[name.strip()] = uses.split()
+    found, rest = set(), list(names)
+    while rest:
+        name = rest.pop()
+        if name in lines and name not in found:
+            found.add(name)
+            rest.extend(lines[name])
+    return found
+
+
+def files():
+    folders = [os.path.join("crates", name) for name in below(PROGRAMS)] + ["examples", "page"]
+    found = ["crates.txt"]
+    for folder in folders:
+        for at, inner, names in os.walk(os.path.join(TOP, folder)):
+            inner[:] = [name for name in inner if name not in MADE]
+            found.extend(os.path.relpath(os.path.join(at, name), TOP) for name in names)
+    return sorted(name for name in found if not name.endswith((".html", ".transcript", ".learned")) or name == os.path.join("page", "index.html"))
+
+
+def total():
+    sums = hashlib.sha256()
+    for name in files():
+        with open(os.path.join(TOP, name), "rb") as file:
+            sums.update(name.encode() + b"\0" + hashlib.sha256(file.read()).digest())
+    return sums.hexdigest()
+
+
+def made_of(page):
+    with open(page, encoding="utf-8") as file:
+        found = re.search(r'<meta name="sources" content="([0-9a-f]{64})">', file.read(100000))
+    return found and found[1]
+
+
+if __name__ == "__main__":
+    if len(sys.argv) == 1:
+        print(total())
+    else:
+        print("page: of these programs" if made_of(sys.argv[1]) == total() else "page: older than the programs")
