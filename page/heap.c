@@ -23,6 +23,7 @@ static u64 most = 4096; /* pages of 64 KiB: 256 MiB */
 static u64 at, end;
 static struct head *freed[ORDERS];
 static u8 nothing;
+static u64 requests, refused; /* how many there were, and which one is refused, if one is */
 
 static u64 order_of(u64 bytes) {
     u64 order = 0;
@@ -70,10 +71,12 @@ void give(void *place) {
 }
 
 /* no program asks for an alignment above 16 */
-struct tried rattle_alloc(u64 bytes, u64 align) { return told(align > 16 ? 0 : taken(bytes)); }
+static int is_refused(u64 align) { return ++requests == refused || align > 16; }
+
+struct tried rattle_alloc(u64 bytes, u64 align) { return told(is_refused(align) ? 0 : taken(bytes)); }
 
 struct tried rattle_realloc(void *place, u64 kept, u64 bytes, u64 align) {
-    if (align > 16) return told(0);
+    if (is_refused(align)) return told(0);
     if (bytes <= (u64)16 << head_of(place)->order) return told(place);
     void *more = taken(bytes);
     if (!more) return told(0);
@@ -84,8 +87,12 @@ struct tried rattle_realloc(void *place, u64 kept, u64 bytes, u64 align) {
 
 void rattle_dealloc(void *place) { give(place); }
 
-/* fewer pages, for a test of want of memory */
-__attribute__((export_name("limit"))) void limit(u64 pages) { most = pages; }
+#define EXPORT(name) __attribute__((export_name(name)))
+
+/* for tests of want of memory: fewer pages; the request that is refused; and how many there were */
+EXPORT("limit") void limit(u64 pages) { most = pages; }
+EXPORT("refuse") void refuse(u64 which) { refused = which; }
+EXPORT("requested") u64 requested(void) { return requests; }
 
 /* room for the page, which puts a text in; none is 0 */
-__attribute__((export_name("room"))) u64 room(u64 bytes) { return (address)taken(bytes); }
+EXPORT("room") u64 room(u64 bytes) { return (address)taken(bytes); }

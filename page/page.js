@@ -91,7 +91,7 @@ const Page = {
     $("at").value = at;
     $("back").disabled = at <= 0;
     $("on").disabled = at >= commands.length;
-    const words = at ? `behind ${at} of ${commands.length}: ${commands[at - 1].who}$ ${commands[at - 1].text}` : "before the first command";
+    const words = at ? `behind ${at} of ${commands.length}: ${commands[at - 1].who}${this.is_list() ? "" : "$"} ${commands[at - 1].text}` : "before the first command";
     $("place").textContent = words;
     $("at").setAttribute("aria-valuetext", words);
   },
@@ -112,7 +112,7 @@ const Page = {
       const button = element("button", "command", part[0]);
       if (k + 1 === at) button.setAttribute("aria-current", "step");
       item.onclick = () => this.go(k + 1);
-      item.append(button, ...part.slice(1).map(line => element("span", "line" + (/^E[A-Z]+$/.test(line) ? " error" : ""), line || " ")));
+      item.append(button, ...part.slice(1).map(line => element("span", "line" + (/^(E[A-Z]+|  (Refused|Back) E[A-Z]+)$/.test(line) ? " error" : ""), line || " ")));
       item.append(...learned.map(clauses => element("span", "learned", this.learner() + clauses.join(": "))));
       list.append(item);
     });

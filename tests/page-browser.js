@@ -87,10 +87,10 @@ async function main() {
     says("a user who is removed while she is chosen", await value(`[...document.querySelectorAll("#who input")].map(input => input.value).join()`) === "root,amy,bob");
 
     // a long run is stopped, and the page goes on
-    const seen = "user alice 1000 1000\nroot mkdir /d\n" + Array.from({ length: 1500 }, (_, k) => `root put /d/${k} x\n`).join("");
+    const seen = "user alice 1000 1000\nroot mkdir /d\n" + Array.from({ length: 4000 }, (_, k) => `root put /d/${k} x\n`).join("");
     await value(`void Page.open(${JSON.stringify(seen)}, "script", ["alice"])`);
-    await sleep(400);
-    const could = await value(`!document.getElementById("stop").hidden`);
+    let could = false;
+    for (let k = 0; k < 200 && !could; k++) { await sleep(50); could = await value(`!document.getElementById("stop").hidden`); }
     await value(`document.getElementById("stop").click()`);
     says("a long run can be stopped: " + could, could && await ready() === "bad" && /stopped/.test(await value(`document.getElementById("fault").textContent`)));
     says("and the page goes on", await open("example=welcome.hurd") === "yes");
