@@ -16,7 +16,15 @@ HERE = os.path.dirname(os.path.abspath(__file__))
 TOP = os.path.dirname(HERE)
 SCRIPTS = ["read.js", "machine.js", "tree.js", "lecture.js", "page.js"]
 FIRST = ["learned-secret.hurd", "learned-server.hurd", "learned-size.hurd", "learned-text.hurd", "learned-target.hurd", "strangers-file.hurd"]
-TITLES = {"welcome.hurd": "The first script: root writes a text, and alice reads it."}
+TITLES = {
+    "welcome.hurd": "The first script: root writes a text, and alice reads it.",
+    "learned-secret.hurd": "Bob keeps a diary in his home, and closes that. What does alice learn of it?",
+    "learned-server.hurd": "Bob puts servers behind his nodes, and starts one of alice's. What does she learn, and does his chmod close his home?",
+    "learned-size.hurd": "Bob's file is closed, but stands in an open directory. What does alice learn of what he writes?",
+    "learned-name.hurd": "Nobody may list a letter box, and each may put something in. Is the name of a letter a secret?",
+    "learned-emptiness.hurd": "A directory that alice may not look into stands in one of hers. What does she learn of what is in it?",
+    "learned-view.hurd": "All that alice sees, before bob closes his home and behind it.",
+}
 
 
 def text(*names):

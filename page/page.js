@@ -35,7 +35,7 @@ const Page = {
     clearTimeout(slow);
     if (turn !== this.turn) return;
     $("stop").hidden = true;
-    if (!this.fault(whole, out, text)) { this.mark(text, commands, 0, -1); document.body.dataset.ready = "bad"; return; }
+    if (!this.fault(whole, out, text)) { document.body.dataset.ready = "bad"; return; }
     this.mark(text, commands, at, -1);
     this.told(Read.output(out), commands, at);
     const views = run => run && run.status === 0 ? Read.output(Read.text(run.bytes)).paragraphs.at(-1).seen : [];
@@ -59,8 +59,8 @@ const Page = {
     $("fault").hidden = !why;
     $("fault").textContent = why;
     this.say("");
+    if (why) this.mark(text, [], 0, bad ? bad.at : -1);
     if (bad) {
-      this.mark(text, [], 0, bad.at);
       const line = text.split("\n")[bad.at] || "";
       $("fault").append(element("br"), element("code", "", line.length > 200 ? line.slice(0, 200) + "\u2026" : line));
     }
@@ -160,6 +160,7 @@ const Page = {
 
   open(text, sort, who, at, about) {
     $("text").value = text;
+    if (!this.examples.some(example => example.file === $("example").value && example.text === text)) $("example").selectedIndex = -1;
     $("sort").value = sort;
     $("about").textContent = about || "";
     $("who").dataset.said = "";

@@ -73,7 +73,7 @@ async function main() {
     // what is bad is told at its line, and nothing in a text becomes a part of the page
     const fault = async (text, sort = "script") => { await open(`${sort}=${Buffer.from(text).toString("base64url")}`); return [await value("document.body.dataset.ready"), await value(`document.getElementById("fault").textContent`)]; };
     const bad = [["nobody cat /\n", 1], ["root ls /\nroot ls /\nnobody cat /", 3], ["root cat \\q\n", 1]];
-    for (const [text, at] of bad) { const [is, why] = await fault(text); says(`a bad line ${at}: ${is} ${why}`, is === "bad" && why.startsWith(`Line ${at}: bad script.`)); }
+    for (const [text, at] of bad) { const [is, why] = await fault(text); says(`a bad line ${at}: ${is} ${why}`, is === "bad" && why.startsWith(`Line ${at}: bad script.`) && await value(`[...document.querySelectorAll("#marks b")].findIndex(line => line.className === "bad")`) === at - 1); }
     for (const text of ["root put /<img\\ssrc=x\\sonerror=window.hit=1> <script>window.hit=1</script>\nroot cat /<img\\ssrc=x\\sonerror=window.hit=1>\nroot ls /\n", "root put /x </script><script>window.hit=1</script>\nroot cat /x\n"]) {
       await fault(text);
       says("markup was run", await value(`window.hit === undefined && document.querySelectorAll("#right img, #right script, #left img").length === 0`));
