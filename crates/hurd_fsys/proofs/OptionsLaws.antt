@@ -1,5 +1,5 @@
 -- The laws of giving options to a server.
-use Rattle.std.proofs.Common.{◌≡◌, ℕ, Bool, true, false, List, [], ◌∷◌, Option, Some, None, refl, ap, subst, ◌∙◌, inl, inr}
+use Rattle.std.proofs.Common.{◌≡◌, ℕ, Bool, true, List, Option, Some, None, refl, ap, subst, ◌∙◌, inl, inr}
 use Rattle.std.specs.Prelude.{Result, Ok, Err}
 use Rattle.hurd_machine.proofs.Common.{Coherent, Control, EDIED, Errno, Name, Plan, ServerInfo, World, ports_of, retexting, server_at, takes_options}
 use Rattle.hurd_trans_iface.specs.Meaning.{behaviour_of}
