@@ -44,7 +44,7 @@ async function main() {
     const { targetId } = await ask("Target.createTarget", { url: "about:blank" }), { sessionId } = await ask("Target.attachToTarget", { targetId, flatten: true });
     const tell = (method, params) => ask(method, params, sessionId);
     const value = async text => { const told = await tell("Runtime.evaluate", { expression: text, awaitPromise: true, returnByValue: true }); if (told.exceptionDetails) throw new Error(text + ": " + JSON.stringify(told.exceptionDetails.exception)); return told.result.value; };
-    const ready = async () => { for (let k = 0; k < 600; k++) { const said = await value("document.body && document.body.dataset.ready"); if (said && said !== "no") return said; await sleep(20); } return "never"; };
+    const ready = async () => { for (let k = 0; k < 3000; k++) { const said = await value("document.body && document.body.dataset.ready"); if (said && said !== "no") return said; await sleep(20); } return "never"; };
     await tell("Page.enable");
     await tell("Runtime.enable");
     const open = async words => { await tell("Page.navigate", { url: "about:blank" }); await tell("Page.navigate", { url: address + "#" + words }); return ready(); };
@@ -90,7 +90,7 @@ async function main() {
     const seen = "user alice 1000 1000\nroot mkdir /d\n" + Array.from({ length: 4000 }, (_, k) => `root put /d/${k} x\n`).join("");
     await value(`void Page.open(${JSON.stringify(seen)}, "script", ["alice"])`);
     let could = false;
-    for (let k = 0; k < 200 && !could; k++) { await sleep(50); could = await value(`!document.getElementById("stop").hidden`); }
+    for (let k = 0; k < 600 && !could; k++) { await sleep(50); could = await value(`!document.getElementById("stop").hidden`); }
     await value(`document.getElementById("stop").click()`);
     says("a long run can be stopped: " + could, could && await ready() === "bad" && /stopped/.test(await value(`document.getElementById("fault").textContent`)));
     says("and the page goes on", await open("example=welcome.hurd") === "yes");
