@@ -4,6 +4,7 @@ const Machine = {
   worker: null,
   waiting: new Map(),
   next: 0,
+  began: 0,
   encoder: new TextEncoder(),
 
   block: name => document.getElementById(name).textContent,
@@ -28,11 +29,15 @@ const Machine = {
   run(program, text, word) {
     if (!this.worker) this.start();
     const id = this.next++;
+    if (!this.waiting.size) this.began = Date.now();
     return new Promise(done => {
       this.waiting.set(id, done);
       this.worker.postMessage({ id, program, text: this.encoder.encode(text), word: word === undefined ? null : this.encoder.encode(word) });
     });
   },
+
+  // ends runs of which nobody wants to know any more, where they are long
+  give_up() { if (this.waiting.size && Date.now() - this.began > 500) this.stop("another was begun"); },
 
   // ends all runs; the next one begins with a new worker
   stop(why) {

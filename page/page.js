@@ -22,6 +22,7 @@ const Page = {
   },
 
   async show() {
+    Machine.give_up();
     const turn = ++this.turn, text = $("text").value, { users, commands } = Read.lines(text, this.is_list());
     this.chips(users);
     const at = Math.min(this.at, commands.length), who = [...users.keys()].filter(name => this.who.has(name)).join(","), everyone = [...users.keys()].join(",");
@@ -64,7 +65,7 @@ const Page = {
       const line = text.split("\n")[bad.at] || "";
       $("fault").append(element("br"), element("code", "", line.length > 200 ? line.slice(0, 200) + "\u2026" : line));
     }
-    if (why) for (const id of ["told", "sees", "picture"]) $(id).replaceChildren(element("p", "sum", "Nothing was run."));
+    if (why) for (const id of ["told", "sees", "picture"]) $(id).replaceChildren(element("p", "sum", bad ? "Nothing was run." : "Nothing is shown of a run that did not end."));
     return !why;
   },
 
@@ -113,17 +114,12 @@ const Page = {
       if (k + 1 === at) button.setAttribute("aria-current", "step");
       item.onclick = () => this.go(k + 1);
       item.append(button, ...part.slice(1).map(line => element("span", "line" + (/^(E[A-Z]+|  (Refused|Back) E[A-Z]+)$/.test(line) ? " error" : ""), line || " ")));
-      item.append(...learned.map(clauses => element("span", "learned", this.learner() + clauses.join(": "))));
+      item.append(...learned.map(line => element("span", "learned", line)));
       list.append(item);
     });
     $("told").replaceChildren(list, element("p", "sum", last));
     const now = list.querySelector(".now");
     if (now) $("told").scrollTop = Math.max(0, Math.min(now.offsetTop - list.offsetTop - 8, now.offsetTop - list.offsetTop + now.offsetHeight - $("told").clientHeight / 2));
-  },
-
-  learner() {
-    const names = [...this.who].join(",");
-    return (this.is_list() ? (this.who.size > 1 ? "tasks " : "task ") : "") + Read.plain(names) + (this.who.size > 1 ? " learn: " : " learns: ");
   },
 
   draw(all, seen, users) {

@@ -34,7 +34,7 @@ const Read = {
     return { users, commands };
   },
 
-  // paragraphs {part, learned, seen}: lines of the part, and what is learned and seen by clauses; and the last line
+  // paragraphs {part, learned, seen}: lines of the part, lines of what is learned, and what is seen by clauses; and the last line
   output(text) {
     const lines = text.split("\n"), paragraphs = [];
     if (lines[lines.length - 1] === "") lines.pop();
@@ -43,8 +43,8 @@ const Read = {
       while (lines.length && lines[0].startsWith("| ")) part.push(lines.shift().slice(2));
       if (lines[0] === "\\ no newline") lines.shift();
       while (lines.length && lines[0].startsWith("  ")) {
-        const [head, ...clauses] = lines.shift().slice(2).split(": ");
-        (/ learns?$/.test(head) ? learned : seen).push(clauses);
+        const line = lines.shift().slice(2), [head, ...clauses] = line.split(": ");
+        if (/ learns?$/.test(head)) learned.push(line); else seen.push(clauses);
       }
       if (lines.length && lines[0] === "") lines.shift();
       paragraphs.push({ part, learned, seen });

@@ -56,9 +56,10 @@ async function main() {
     for (const [file, who] of [["learned-secret.hurd", "alice"], ["learned-target.hurd", "bob"], ["union.hurd", "alice"], ["learned-programs.hurd", "alice"], ["learned-pipe.calls", "1"]]) {
       const text = readFileSync(join("examples", file), "utf8"), name = file.endsWith(".calls") ? "hurd_tasks_learn" : "hurd_learns", told = paragraphs(program(name, text, who));
       says(file + ": is " + await open(`example=${file}&who=${who}`), await ready() === "yes");
-      const shown = await value(`[...document.querySelectorAll("#told .part")].map(part => ({ learned: part.querySelectorAll(".learned").length, command: part.querySelector(".command").textContent, said: part.textContent }))`);
+      const shown = await value(`[...document.querySelectorAll("#told .part")].map(part => ({ learned: [...part.querySelectorAll(".learned")].map(line => line.textContent), told: [part.querySelector(".command"), ...part.querySelectorAll(".line")].map(line => line.textContent) }))`);
       says(file + ": as many paragraphs", shown.length === told.length);
-      told.forEach(({ lines, learned }, k) => says(`${file}: paragraph ${k + 1}`, shown[k] && shown[k].command === lines[0] && shown[k].learned === learned.length));
+      const is_same = (one, other) => JSON.stringify(one) === JSON.stringify(other);
+      told.forEach(({ lines, learned }, k) => says(`${file}: paragraph ${k + 1}`, shown[k] && is_same(shown[k].learned, learned.map(line => line.slice(2))) && is_same(shown[k].told, [lines[0], ...lines.filter(line => line.startsWith("| ")).map(line => line.slice(2) || " ")])));
       const commands = text.split("\n").map((line, at) => ({ line, at })).filter(({ line }) => !/^ *(#.*)?$/.test(line) && !/^ *(user|task) /.test(line));
       for (let at = 1; at <= commands.length; at++) {
         await value(`Page.go(${at})`);
@@ -93,6 +94,10 @@ async function main() {
     for (let k = 0; k < 600 && !could; k++) { await sleep(50); could = await value(`!document.getElementById("stop").hidden`); }
     await value(`document.getElementById("stop").click()`);
     says("a long run can be stopped: " + could, could && await ready() === "bad" && /stopped/.test(await value(`document.getElementById("fault").textContent`)));
+    await value(`void Page.open(${JSON.stringify(seen)}, "script", ["alice"])`);
+    await sleep(1000);
+    await value(`Page.pick("welcome.hurd")`);
+    says("a long run is given up for another", await value("document.body.dataset.ready") === "yes" && await value(`document.querySelectorAll("#told .part").length`) === 3);
     says("and the page goes on", await open("example=welcome.hurd") === "yes");
 
     // times: from the opening to the first picture, and a step of long scripts; medians of five

@@ -77,7 +77,7 @@ pub by_bool : (P : Bool → Type 0) → P true → P false → (b : Bool) → P 
 by_bool P x y true = x
 by_bool P x y false = y
 
-pub by_option : {A : Type 0} (P : Option A → Type 0) → P None → ((a : A) → P (Some a)) → (o : Option A) → P o
+by_option : {A : Type 0} (P : Option A → Type 0) → P None → ((a : A) → P (Some a)) → (o : Option A) → P o
 by_option P x y None = x
 by_option P x y (Some a) = y a
 

@@ -84,8 +84,8 @@ module _ (S : ℕ → Bool) where
 
   -- what is apart from a file may not change what is in it
   body_apart : (w : World) (n : Name) (old : Node) → get w.nodes n ≡ Some old → old.header.kind ≢ Dir → IsApart S w n → MayBody S w n → ⊥
-  body_apart w n old is file apart (ToWrite h) = apart.unheld h.right h.held h.node
-  body_apart w n old is file apart (ToDrain h stream) = apart.unheld h.right h.held h.node
+  body_apart w n old is file apart (ToWrite h) = apart.unwritten h
+  body_apart w n old is file apart (ToDrain h stream) = apart.undrained h stream
   body_apart w n old is file apart (ToEnter (Entered e)) = let same : old.header ≡ e.header = cc (ap header_in is, e.is_header) in file (ap (λ (h : Header). h.kind) same ∙ e.kind)
   body_apart w n old is file apart (ToEnter (Gone s rules home)) = apart.served s home rules
 
@@ -105,7 +105,7 @@ module _ (S : ℕ → Bool) where
     own_call : S m.task ≡ true → IsApart S w n → Was w n z
     own_call ours apart =
         let since = stepped S w m.task m.call s ours n b z is in
-        let owned = since.header.owned (λ own. apart.unheld own.right own.held own.node) in
+        let owned = since.header.owned apart.unowned in
         let still : since.node.header.kind ≢ Dir = λ dir. file (owned.kind ∙ dir) in
         let stayed : (part x (BodyOf n) ≡ part w (BodyOf n)) ⊎ IsLost x (BodyOf n) = step_spared w m.task m.call (BodyOf n) s tt b (λ o. body_apart w n since.node since.is_node still apart) (λ theirs. absurd (cc (ours, theirs))) in
         let body : body_at w n ≡ Some z.body = body_there x w n z is stayed in

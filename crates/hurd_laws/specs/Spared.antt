@@ -2,16 +2,15 @@
 use Rattle.std.specs.Prelude.{◌≡◌, ◌≢◌, ◌⊎◌, ℕ, Bool, true, false, List, [], ◌∷◌, Some}
 use Rattle.hurd_creds.specs.declared.name.Name.{Name}
 use Rattle.hurd_creds.specs.declared.attrs.Kind.TheVariants.{Dir}
+use Rattle.hurd_creds.specs.Bits.{READ, WRITE}
 use Rattle.hurd_trans_iface.specs.Nodes.{Header}
-use Rattle.hurd_ports.specs.declared.table.IoRight.{IoRight}
-use Rattle.hurd_ports.specs.declared.table.Right.TheVariants.{Io}
-use Rattle.hurd_machine.specs.World.{World, body_at, header_at, home_at}
-use Rattle.hurd_machine.specs.Sight.{Part, AttrOf, BodyOf, TaskOf, Holds, IsGone, part}
+use Rattle.hurd_machine.specs.World.{World, body_at, header_at, home_at, stream_at}
+use Rattle.hurd_machine.specs.Sight.{Part, AttrOf, BodyOf, TaskOf, IsGone, part}
 use Rattle.hurd_machine.specs.Sound.{Sound}
 use Rattle.hurd_laws.specs.Step.{after, touches}
 use Rattle.hurd_laws.specs.Laws.{IsOld}
 use Rattle.hurd_laws.specs.Runs.{TaskCall, run}
-use Rattle.hurd_laws.specs.Integrity.{IsLost, MayChange, Rules, SameOwned}
+use Rattle.hurd_laws.specs.Integrity.{HasOpen, IsLost, MayChange, Owns, Rules, SameOwned}
 
 -- S makes each of its calls where it may not change this part, and no call of another touches it
 abbrev pub Spared : (ℕ → Bool) → World → List TaskCall → Part → Type 0
@@ -33,9 +32,11 @@ IsThing p = Unit {0}
 abbrev pub SparedPart : (ℕ → Bool) → World → List TaskCall → World → Part → Type 0
 SparedPart S w ms x p = IsThing p → IsOld w p → Spared S w ms p → (part x p ≡ part w p) ⊎ (IsGone x p × WentUnseen w ms p)
 
--- S holds no right to use the node, and may not send its server away
+-- S has the node not open to write, nor to read where it is a stream; it doesn't own it; and it may not send its server away
 pub record IsApart (S : ℕ → Bool) (w : World) (n : Name) : Type 0 where
-  pub unheld : (r : IoRight) → Holds S w (Io r) → n ≢ r.node
+  pub unwritten : HasOpen S w n WRITE → ⊥
+  pub undrained : HasOpen S w n READ → stream_at w n ≡ true → ⊥
+  pub unowned : Owns S w n → ⊥
   pub served : (s : Name) → home_at w n ≡ Some s → Rules S w s → ⊥
 
 -- S makes each of its calls where it is apart from the node, and no call of another touches its attributes, or what is in it

@@ -94,8 +94,8 @@ pub fn integrity()
 
 /// Over a run, a part that a set may change at none of its own calls, and that no call of the others touches, stays as it was, or went unseen.
 ///
-/// A file that is there afterwards has the bytes, the kind, owner, group and mode, and the stored words that it had, where no task of the set held a
-/// right to use it, or might send its server away, at any of its calls, and no call of the others touched it.
+/// A file that is there afterwards has the bytes, the kind, owner, group and mode, and the stored words that it had, where the set had it not open to
+/// write, did not own it, and might not send its server away, at any of its calls, and no call of the others touched it. (Of a stream: nor to read.)
 pub fn integrity_run()
     ensures { IntegrityRun }
 {}
