@@ -1,7 +1,7 @@
-# Leaves commands of others out of scripts, by what hurd_learns printed of them:
+# Leaves commands of others out of scripts, by what `hurd learns` printed of them:
 # awk -v user=USER -v outputs=FOLDER -v reduced=FOLDER -v control=1 -f tests/leave-out.awk NAME.hurd..
 # Reads outputs/NAME.out. A stretch is as many commands as there are one after another without one of others that teaches the user something.
-# For each, writes the script that ends with it, without the commands of others in it, as reduced/NAME-1.hurd and so on, and what hurd_learns is then
+# For each, writes the script that ends with it, without the commands of others in it, as reduced/NAME-1.hurd and so on, and what `hurd learns` is then
 # to print as NAME-1.wanted. With control set it also writes NAME-control.hurd, without any command of others from the middle one of those that
 # teach something on, and what would be printed if none of them had taught anything.
 # Prints how many stretches there are, how many commands are left out in them, and with how many of the user's behind these; or, with status 1,

@@ -1,6 +1,6 @@
 /* Reads and writes below the types. Where READS is set, each read of standard input gives one byte at most, after an interrupted read, and once
-   so many were made all fail. Where WRITES is set, each write to standard output takes one byte, after an interrupted write, until so many
-   bytes were written. The next write is then as TROUBLE says: `once` it fails, `nothing` it takes nothing, and in both cases later ones go
+   so many were made all fail. Where WRITES is set, each write to standard output, or to the descriptor TO, takes one byte, after an interrupted
+   write, until so many bytes were written. The next write is then as TROUBLE says: `once` it fails, `nothing` it takes nothing, and in both cases later ones go
    well; `always` it fails, and all later ones too. */
 extern long syscall(long, ...);
 extern int *__errno_location(void);
@@ -51,11 +51,13 @@ long read(int file, void *bytes, unsigned long room)
 
 long write(int file, const void *bytes, unsigned long count)
 {
-    static long left = UNREAD;
+    static long left = UNREAD, to;
     static int interrupted, is_over;
-    if (left == UNREAD)
+    if (left == UNREAD) {
         left = number("WRITES");
-    if (file != 1 || left == UNSET)
+        to = number("TO");
+    }
+    if (file != (to == UNSET ? 1 : to) || left == UNSET)
         return syscall(WRITE, file, bytes, count);
     interrupted = !interrupted;
     if (interrupted)

@@ -1,2 +1,2 @@
-pub mod ListLaws
-pub mod PrintedLaws
+pub mod CallingLaws
+pub mod WayLaws

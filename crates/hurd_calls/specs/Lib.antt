@@ -1,1 +1,5 @@
+pub mod Making
+pub mod Faults
+pub mod Readings
+pub mod Tasks
 pub mod Lists

@@ -1,22 +1,39 @@
--- The program of lists of calls.
-use Rattle.std.specs.Prelude.{ℕ, List, codes}
-use Rattle.std.specs.List.{concat}
-use Rattle.hurd_lists.specs.Lists.{Standing, reading_of}
-use Rattle.hurd_making.specs.Making.{parts_of}
-use Rattle.hurd_making.specs.Readings.{bad_line, said_in}
-use Rattle.hurd_terminal.specs.Runs.{Program}
+-- Lists of calls, as a sort of texts.
+use Rattle.std.specs.Prelude.{ℕ, ◌+◌, List, codes, length, map}
+use Rattle.hurd_kinds.specs.Boxes.{box_meaning}
+use Rattle.hurd_kinds.specs.declared.server_box.ServerBox.{ServerBox}
+use Rattle.hurd_lists.specs.Lists.{listed_by, reading_of}
+use Rattle.hurd_lists.specs.declared.reader.ListedCall.{ListedCall}
 use Rattle.hurd_tmpfs.specs.Tree.{new_tmpfs}
 use Rattle.hurd_world.specs.Boot.{boot_of, first_world}
+use Rattle.hurd_world.specs.Held.{Whole, world_of}
+use Rattle.hurd_dialogue.specs.Parts.{Way}
+use Rattle.hurd_dialogue.specs.Sorts.{Sort}
+use Rattle.hurd_calls.specs.Making.{parts_of}
+use Rattle.hurd_calls.specs.Readings.{bad_line, said_in}
+use Rattle.hurd_calls.specs.Tasks.{called, task_of}
 
--- the parts of the calls, joined, where they are made over an empty tree in memory
-abbrev pub output_of : Standing → List ℕ
-output_of said = concat (parts_of said.calls (first_world new_tmpfs said.tasks))
-
--- the program makes the calls of a list over an empty tree in memory, and prints each with its reply
-abbrev pub lists : Program
+-- a list tells each of its calls with its reply, made over an empty tree in memory. Its tasks' lines stand in front of them
+abbrev pub lists : Sort
 lists = record {
   complaint = codes ": bad calls\n";
-  bad = λ list. bad_line (reading_of list);
-  boot = λ list. boot_of new_tmpfs (said_in (reading_of list)).tasks;
-  out = λ list. output_of (said_in (reading_of list));
+  stranger = codes ": no such task: ";
+  thing = codes " call";
+  bad = λ text. bad_line (reading_of text);
+  boot = λ text. boot_of new_tmpfs (said_in (reading_of text)).tasks;
+  world = λ text. first_world new_tmpfs (said_in (reading_of text)).tasks;
+  parts = λ text. parts_of (said_in (reading_of text)).calls (first_world new_tmpfs (said_in (reading_of text)).tasks);
+  heading = λ text. length (said_in (reading_of text)).tasks + 1;
+  finds = λ text name. task_of (length (said_in (reading_of text)).tasks) name;
+  called = called;
+}
+
+-- how far a list of so many tasks is, with these calls left
+abbrev pub way_of : Whole ServerBox → List (ListedCall ServerBox) → ℕ → ℕ → Way
+way_of world calls told tasks = record {
+  left = parts_of (map (listed_by box_meaning) calls) (world_of box_meaning world);
+  world = world_of box_meaning world;
+  told = told;
+  heading = tasks + 1;
+  finds = λ name. task_of tasks name;
 }

@@ -1,38 +1,60 @@
-//! Making a call of a list, and printing it with its reply.
-ghost use Rattle.std.specs.Prelude.{◌≡◌, IfErr, OnOk};
-ghost use Rattle.std.specs.Io.KnownBytes.{Appends};
+//! Making a call of a list, with the server that it brings.
+ghost use Rattle.std.specs.Prelude.{◌≡◌, IfOk, OnOk};
 ghost use Rattle.std.specs.Option.{option_map};
+ghost use Rattle.hurd_kinds.specs.Boxes.{box_meaning};
+ghost use Rattle.hurd_machine.specs.Calls.{lacks_memory};
 ghost use Rattle.hurd_world.specs.Held.{world_of};
 ghost use Rattle.hurd_lists.specs.Calls.{begun};
 ghost use Rattle.hurd_lists.specs.Lists.{listed_by};
-ghost use Rattle.hurd_making.specs.Making.{after_call, part_of};
-ghost use Rattle.hurd_terminal.specs.Faults.{AppendsFront, IsPrintFault};
+ghost use Rattle.hurd_calls.specs.Making.{after_call, part_of};
 
-use hurd_creds::Bytes;
-use hurd_lists::ListedCall;
-use hurd_making::part;
-use hurd_terminal::{Fault, Output};
-use hurd_trans_iface::Server;
-use hurd_world::World;
-use std::alloc::Global;
-use std::io::Write;
+use hurd_creds::{Bytes, Errno};
+use hurd_kinds::{ServerBox, server_for};
+use hurd_lists::{ListedCall, told, with_server};
+use hurd_trans_iface::{Server, Words};
+use hurd_world::{Reply, World};
+use std::alloc::{AllocError, Global};
 
-/// Makes a call with the server that its words make, and prints its part of the output.
-///
-/// `Write` where the part can't be written, `Memory`; then some front of it is printed.
-pub fn make<S: Server, W: Write>(
+/// Whether a reply is want of memory.
+fn lacks_memory<S>(reply: &Reply<S>) -> bool
+    ensures { result ≡ lacks_memory reply.now }
+{
+    matches!(
+        reply,
+        Reply::Refused(Errno::ENOMEM) | Reply::Back(Errno::ENOMEM, _)
+    )
+}
+
+/// The server that the words of a call make, where it brings any; none also where no kind takes them. An error is want of memory.
+pub fn brought(alloc: Global, words: &Option<Words>) -> Result<Option<ServerBox>, AllocError>
+    ensures { IfOk result (λ server. begun words.now ≡ option_map box_meaning server) }
+{
+    match words {
+        Some(words) => server_for(alloc, words),
+        None => Ok(None),
+    }
+}
+
+/// Makes a call with the server that its words make, and gives what is printed of it. An error is want of memory.
+pub fn part<S: Server>(
     world: &mut World<S>,
     alloc: Global,
     listed: ListedCall<S>,
     server: Option<S>,
-    output: &mut Output<W>,
-) -> Result<(), Fault>
+) -> Result<Bytes, AllocError>
     requires { begun listed.server ≡ option_map S.meaning server }
-    ensures printed { OnOk result (Appends (W.contents output.old.writer) (W.contents output.new.writer) (part_of (listed_by S.meaning listed) (world_of S.meaning world.old))) }
+    ensures part { IfOk result (λ part. part ≡ part_of (listed_by S.meaning listed) (world_of S.meaning world.old)) }
     ensures world { OnOk result (world_of S.meaning world.new ≡ after_call (listed_by S.meaning listed) (world_of S.meaning world.old)) }
-    ensures err { IfErr result (λ fault. IsPrintFault output.new fault
-        × AppendsFront (W.contents output.old.writer) (W.contents output.new.writer) (part_of (listed_by S.meaning listed) (world_of S.meaning world.old))) }
 {
-    let part = part(world, alloc, listed, server)?;
-    output.print(part.as_slice())
+    let ListedCall {
+        task,
+        call,
+        line,
+        server: _,
+    } = listed;
+    let reply = world.call(alloc, task, with_server(call, server));
+    if lacks_memory(&reply) {
+        return Err(AllocError);
+    }
+    Ok(told(alloc, line.as_slice(), &reply)?)
 }

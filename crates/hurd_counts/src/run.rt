@@ -6,10 +6,10 @@ ghost use Rattle.hurd_tmpfs.specs.Tree.{new_tmpfs};
 
 use crate::boxes::Boxes;
 use crate::counted::Counted;
+use hurd_calls::{begun, brought, parsed, part};
 use hurd_creds::Ids;
 use hurd_kinds::{ServerBox, empty_tree};
 use hurd_lists::{CallList, ListedCall};
-use hurd_making::{begun, brought, parsed, part};
 use hurd_terminal::{Fault, Input, Output, finish, read_text};
 use hurd_trans_iface::Server;
 use hurd_world::World;
@@ -117,12 +117,13 @@ fn run<R: Read, W: Write>(
     run_text(alloc, text.as_slice(), output)
 }
 
-/// The whole program: runs a list, and after a fault prints the fault's line; answers the exit status.
-pub fn program<R: Read, W: Write>(
+/// The whole program: runs a list, and says of a fault why; answers the exit status.
+pub fn program<R: Read, W: Write, E: Write>(
     alloc: Global,
     input: &mut Input<R>,
     output: &mut Output<W>,
+    errors: &mut Output<E>,
 ) -> u8 {
     let ended = run(alloc, input, output);
-    finish(ended, ": bad calls\n", output)
+    finish(ended, b"standard input", ": bad calls\n", b"", errors)
 }

@@ -1,1 +1,3 @@
-pub mod SessionLaws
+pub mod AskedLaws
+pub mod WayLaws
+pub mod SilenceLaws

@@ -1,3 +1,3 @@
 pub mod Scripts
-pub mod Pauses
 pub mod Faults
+pub mod Silence

@@ -1,17 +1,40 @@
--- The program of scripts.
-use Rattle.std.specs.Prelude.{codes}
-use Rattle.hurd_script.specs.Script.{bad, users_of}
+-- Scripts, as a sort of texts.
+use Rattle.std.specs.Prelude.{ℕ, List, codes, length}
 use Rattle.hurd_trans_iface.specs.Meaning.{begin}
-use Rattle.hurd_world.specs.Boot.{boot_of}
-use Rattle.hurd_shell.specs.Transcript.{out_by}
-use Rattle.hurd_terminal.specs.Runs.{Program}
+use Rattle.hurd_kinds.specs.Boxes.{box_meaning}
+use Rattle.hurd_kinds.specs.declared.server_box.ServerBox.{ServerBox}
+use Rattle.hurd_script.specs.Script.{bad, names_of, users_of}
 use Rattle.hurd_tmpfs.specs.Tree.{new_tmpfs}
+use Rattle.hurd_words.specs.Users.{task_of}
+use Rattle.hurd_world.specs.Boot.{boot_of, first_world}
+use Rattle.hurd_world.specs.Held.{world_of}
+use Rattle.hurd_dialogue.specs.Parts.{Way}
+use Rattle.hurd_dialogue.specs.Sorts.{Sort}
+use Rattle.hurd_shell.specs.Session.{View, left_in}
+use Rattle.hurd_shell.specs.Transcript.{dialogue_of, told_by}
 
--- the program prints the transcript of a script, begun over an empty tree in memory, with the servers that the words make
-abbrev pub scripts : Program
+-- a script tells its transcript, begun over an empty tree in memory, with the servers that the words make. Its users' lines stand in front of its
+-- commands, one for each but root
+abbrev pub scripts : Sort
 scripts = record {
   complaint = codes ": bad script\n";
+  stranger = codes ": no such user: ";
+  thing = codes " command";
   bad = bad;
-  boot = λ script. boot_of new_tmpfs (users_of script);
-  out = λ script. out_by script new_tmpfs begin;
+  boot = λ text. boot_of new_tmpfs (users_of text);
+  world = λ text. first_world new_tmpfs (users_of text);
+  parts = λ text. told_by begin (dialogue_of text new_tmpfs);
+  heading = λ text. length (names_of text);
+  finds = λ text name. task_of (names_of text) name;
+  called = λ word tasks. word;
+}
+
+-- how far a session is, with these names of users
+abbrev pub way_of : View ServerBox → List (List ℕ) → Way
+way_of s names = record {
+  left = told_by begin (left_in box_meaning s);
+  world = world_of box_meaning s.world;
+  told = s.given;
+  heading = length names;
+  finds = λ name. task_of names name;
 }

@@ -19,8 +19,9 @@ use Rattle.hurd_world.specs.Boot.{first_world}
 use Rattle.hurd_world.proofs.FirstWorld.{first_sound}
 use Rattle.hurd_shell.specs.Programs.{Prog, gives, calls, asks}
 use Rattle.hurd_shell.specs.Commands.{program_of}
-use Rattle.hurd_shell.specs.Transcript.{Dialogue, tells, Maker, dialogue, part_by, part_of, parts_by, played}
-use Rattle.hurd_shell.specs.Isolation.{calls_in, command_calls, command_part, result_in, script_calls, world_after, worlds_of, commands_by, parts_to, QuietCommands, OnePartEach, ToldInTurn, UnmovedCommands, CommandsSideBySide, ScriptsSideBySide, IsolatedCommands, IsolatedByView, AsWithoutOthers, IsolatedScripts}
+use Rattle.hurd_dialogue.specs.Parts.{Part, texts}
+use Rattle.hurd_shell.specs.Transcript.{Dialogue, tells, Maker, dialogue, part_by, part_of, parts_by, played, told_by}
+use Rattle.hurd_shell.specs.Isolation.{calls_in, command_calls, command_part, result_in, script_calls, world_after, worlds_of, commands_by, parts_to, QuietCommands, OnePartEach, ToldInTurn, UnmovedCommands, CommandsSideBySide, ScriptsSideBySide, IsolatedCommands, IsolatedByView, AsWithoutOthers, IsolatedScripts, OwnCommandFromView}
 
 -- runs in two halves
 
@@ -37,22 +38,34 @@ run_sound [] w s = s
 run_sound (m ∷ ms) w s = run_sound ms (after w m.task m.call) (stays_sound w m.task m.call s)
 
 -- what is told while a program is made is what is told at its end
-played_parts : {A : Type 0} (make : Maker) (t : ℕ) (next : Result A Errno → World → Dialogue) (p : Prog A) (w : World)
-    → parts_by make (played t p w next) ≡ parts_by make (next (result_in make t p w) (run w (calls_in make t p w)))
-unfolding played parts_by calls_in result_in
-played_parts make t next (gives r) w = refl
-played_parts make t next (calls c k) w = played_parts make t next (k (reply_of w t c)) (after w t c)
-played_parts make t next (asks words k) w = played_parts make t next (k (make words)) w
+pub played_told : {A : Type 0} (make : Maker) (t : ℕ) (next : Result A Errno → World → Dialogue) (p : Prog A) (w : World)
+    → told_by make (played t p w next) ≡ told_by make (next (result_in make t p w) (run w (calls_in make t p w)))
+unfolding played told_by calls_in result_in
+played_told make t next (gives r) w = refl
+played_told make t next (calls c k) w = played_told make t next (k (reply_of w t c)) (after w t c)
+played_told make t next (asks words k) w = played_told make t next (k (make words)) w
+
+-- the part that is told of a command
+abbrev pub part_at : Maker → CommandLine → World → Part
+part_at make c w = part_by c (command_part make c w) (run w (command_calls make c w))
+
+-- the first part that is told, and those of the commands behind
+pub first_told : (make : Maker) (c : CommandLine) (cs : List CommandLine) (w : World)
+    → told_by make (dialogue (c ∷ cs) w) ≡ part_at make c w ∷ told_by make (dialogue cs (run w (command_calls make c w)))
+unfolding dialogue told_by
+first_told make c cs w = played_told make c.task (λ r x. tells (part_by c (part_of c r) x) (dialogue cs x)) (program_of (action_of c)) w
+
+pub none_told : (make : Maker) (w : World) → told_by make (dialogue [] w) ≡ []
+unfolding dialogue told_by
+none_told make w = refl
 
 no_parts : (make : Maker) (w : World) → parts_by make (dialogue [] w) ≡ []
-unfolding dialogue parts_by
-no_parts make w = refl
+no_parts make w = ap texts (none_told make w)
 
--- the first part, and those of the commands behind
+-- their texts
 first_part : (make : Maker) (c : CommandLine) (cs : List CommandLine) (w : World)
     → parts_by make (dialogue (c ∷ cs) w) ≡ command_part make c w ∷ parts_by make (dialogue cs (run w (command_calls make c w)))
-unfolding dialogue parts_by
-first_part make c cs w = played_parts make c.task (λ r x. tells (part_by c (part_of c r) x) (dialogue cs x)) (program_of (action_of c)) w
+first_part make c cs w = ap texts (first_told make c cs w)
 
 pub one_part_each : OnePartEach
 one_part_each make [] w = ap length (no_parts make w)
@@ -98,6 +111,11 @@ own_program {A} S make t ours (calls c k) v w sv sw same =
       subst (λ (z : World). SameView S (run x (calls_in make t (k (reply_of v t c)) x)) z) (ap end (sym step.0)) rest.1,
     )
 own_program S make t ours (asks words k) v w sv sw same = own_program S make t ours (k (make words)) v w sv sw same
+
+pub own_command : OwnCommandFromView
+own_command S make v w c sv sw ours same =
+    let now = own_program S make c.task ours (program_of (action_of c)) v w sv sw same in
+    (ap (part_of c) now.0, now.1)
 
 -- a program of another task makes no call of a task of S
 none_of : {A : Type 0} (S : ℕ → Bool) (make : Maker) (t : ℕ) → S t ≡ false → (p : Prog A) (w : World) → calls_of S (calls_in make t p w) ≡ []

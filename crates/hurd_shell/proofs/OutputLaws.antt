@@ -3,7 +3,8 @@ use Rattle.std.proofs.Common.{◌≡◌, ℕ, List, [], ◌∷◌, ◌++◌, Opt
 use Rattle.hurd_trans_iface.specs.Meaning.{Meaning}
 use Rattle.hurd_shell.specs.Session.{Answers, Tells, View, left_in}
 use Rattle.hurd_shell.specs.Outputs.{Came, Event, answered, answers_in, asked, told, told_in}
-use Rattle.hurd_shell.specs.Transcript.{Dialogue, Maker, Part, ends, tells, wants, parts_by, parts_of, says_by, wanted_of}
+use Rattle.hurd_dialogue.specs.Parts.{Part}
+use Rattle.hurd_shell.specs.Transcript.{Dialogue, Maker, ends, tells, wants, parts_by, parts_of, says_by, told_by, wanted_of}
 use Rattle.hurd_shell.specs.declared.session.Want.TheVariants.{Done}
 
 -- what is told after an answer is what follows it
@@ -58,7 +59,7 @@ came_whole f s x events came done =
 
 -- a maker's answers
 pub maker_answers : (make : Maker) (d : Dialogue) → parts_by make d ≡ parts_of d (says_by make d)
-unfolding parts_by parts_of says_by
+unfolding told_by parts_of says_by
 maker_answers make ends = refl
 maker_answers make (tells part rest) = ap (λ (ps : List (List ℕ)). part.text ∷ ps) (maker_answers make rest)
 maker_answers make (wants words rest) = maker_answers make (rest (make words))

@@ -1,5 +1,5 @@
 -- What a script tells a set of tasks does not depend on the others' commands.
-use Rattle.std.specs.Prelude.{◌≡◌, ℕ, Bool, false, if◌then◌else◌, List, [], ◌∷◌, ◌++◌, length, Result}
+use Rattle.std.specs.Prelude.{◌≡◌, ℕ, Bool, true, false, if◌then◌else◌, List, [], ◌∷◌, ◌++◌, length, Result}
 use Rattle.std.specs.List.{filter}
 use Rattle.hurd_creds.specs.declared.errno.Errno.{Errno}
 use Rattle.hurd_trans_iface.specs.Meaning.{Meaning, Begins}
@@ -102,6 +102,12 @@ IsolatedCommands =
     → commands_by S cs ≡ commands_by S ds → QuietCommands S make cs v → QuietCommands S make ds w
     → (parts_to S cs (parts_by make (dialogue cs v)) ≡ parts_to S ds (parts_by make (dialogue ds w)))
     × SameView S (world_after make cs v) (world_after make ds w)
+
+-- one command of S, made in two worlds that have the same view for S: it is told the same, and S sees the same afterwards
+abbrev pub OwnCommandFromView : Type 0
+OwnCommandFromView =
+    (S : ℕ → Bool) (make : Maker) (v w : World) (c : CommandLine) → Sound v → Sound w → S c.task ≡ true → SameView S v w
+    → (command_part make c v ≡ command_part make c w) × SameView S (run v (command_calls make c v)) (run w (command_calls make c w))
 
 -- the same where each command of the others leaves the view of S as it was
 abbrev pub IsolatedByView : Type 0

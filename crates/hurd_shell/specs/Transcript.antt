@@ -5,6 +5,7 @@ use Rattle.hurd_creds.specs.Errors.{name_of}
 use Rattle.hurd_creds.specs.declared.errno.Errno.{Errno}
 use Rattle.hurd_trans_iface.specs.Meaning.{Meaning}
 use Rattle.hurd_machine.specs.World.{World}
+use Rattle.hurd_dialogue.specs.Parts.{Part, texts}
 use Rattle.hurd_script.specs.Commands.{CommandLine}
 use Rattle.hurd_script.specs.Actions.{action_of}
 use Rattle.hurd_script.specs.Script.{users_of, commands_of}
@@ -32,12 +33,6 @@ lines_of (Err e) = refusal_line (Some e)
 -- a command's part of the transcript: its line, and what it prints
 abbrev pub part_of : CommandLine → Result Printed Errno → List ℕ
 part_of c r = c.header ++ lines_of r
-
--- a part that is told: of whose command, what stands in the transcript, and the world behind it
-pub record Part : Type 0 where
-  pub task : ℕ
-  pub text : List ℕ
-  pub world : World
 
 -- what a script tells whoever runs it: parts, one after another, and servers that it asks for on the way, with what it tells after
 -- each answer
@@ -98,11 +93,15 @@ says_by make ends = []
 says_by make (tells part rest) = says_by make rest
 says_by make (wants words rest) = make words ∷ says_by make (rest (make words))
 
--- the texts that are told where a maker answers
-unfoldable pub parts_by : Maker → Dialogue → List (List ℕ)
-parts_by make ends = []
-parts_by make (tells part rest) = part.text ∷ parts_by make rest
-parts_by make (wants words rest) = parts_by make (rest (make words))
+-- the parts that are told where a maker answers
+unfoldable pub told_by : Maker → Dialogue → List Part
+told_by make ends = []
+told_by make (tells part rest) = part ∷ told_by make rest
+told_by make (wants words rest) = told_by make (rest (make words))
+
+-- and their texts
+abbrev pub parts_by : Maker → Dialogue → List (List ℕ)
+parts_by make d = texts (told_by make d)
 
 -- the whole transcript of a script whose servers a maker makes
 abbrev pub out_by : List ℕ → Meaning → Maker → List ℕ

@@ -1,5 +1,5 @@
 //! What a script tells a set of tasks does not depend on the others' commands.
-ghost use Rattle.hurd_shell.specs.Isolation.{AsWithoutOthers, CommandsSideBySide, IsolatedByView, IsolatedCommands, IsolatedScripts, OnePartEach, ScriptsSideBySide, ToldInTurn};
+ghost use Rattle.hurd_shell.specs.Isolation.{AsWithoutOthers, CommandsSideBySide, IsolatedByView, IsolatedCommands, IsolatedScripts, OnePartEach, OwnCommandFromView, ScriptsSideBySide, ToldInTurn};
 
 /// A law: each command has one part in what is told, and what is told of commands behind others is what is told of them in the
 /// world after those.
@@ -27,4 +27,10 @@ pub fn unmoved_scripts_are_isolated()
 pub fn scripts_side_by_side()
     ensures commands { CommandsSideBySide }
     ensures scripts { ScriptsSideBySide }
+{}
+
+/// A law: what a command of some tasks is told, and what they see behind it, depends on what they see before it alone. So where two scripts
+/// tell them something else, they saw something else before that command.
+pub fn own_commands_go_by_what_is_seen()
+    ensures { OwnCommandFromView }
 {}

@@ -1,9 +1,12 @@
-pub mod LearnerLaws
-pub mod ProgramLaws
+pub mod NamingLaws
+pub mod StepLaws
+pub mod Following
 pub mod ShownLaws
+pub mod ProgramLaws
 pub mod SeenLaws
 pub mod LookLaws
 pub mod OneText
 pub mod ReadingLaws
 pub mod PrintLaws
 pub mod SayingLaws
+pub mod WatchLaws

@@ -1,12 +1,29 @@
 -- The tasks that are told what they learn.
-use Rattle.std.specs.Prelude.{◌≡◌, ◌||◌, ℕ, Bool, List, ◌++◌, Option, Some, None, if◌then◌else◌, codes, length, map, nat_lt}
+use Rattle.std.specs.Prelude.{◌≡◌, ◌||◌, ◌==◌, ℕ, Bool, true, false, List, [], ◌∷◌, ◌++◌, Option, Some, None, if◌then◌else◌, codes, length, map, nat_lt}
+use Rattle.std.specs.List.{slice_split}
 use Rattle.hurd_creds.specs.declared.name.TaskId.{TaskId}
 use Rattle.hurd_sight.specs.Reach.{among}
+use Rattle.hurd_words.specs.Reading.{Refuses, Takes}
+use Rattle.hurd_words.specs.Words.{onto}
 use Rattle.hurd_teaching.specs.declared.learners.Learners.{Learners}
 
 -- the numbers of tasks
 abbrev pub numbers : List TaskId → List ℕ
 numbers tasks = map (λ (t : TaskId). t.0) tasks
+
+-- the tasks of these names, if each has one
+unfoldable pub tasks_of : (List ℕ → Option ℕ) → List (List ℕ) → Option (List ℕ)
+tasks_of finds [] = Some []
+tasks_of finds (name ∷ names) = onto (finds name) (tasks_of finds names)
+
+-- the tasks of those whose names stand in a word between commas
+abbrev pub tasks_named : (List ℕ → Option ℕ) → List ℕ → Option (List ℕ)
+tasks_named finds word = tasks_of finds (slice_split (λ b. b == 44) word)
+
+-- one name more is read: its task is taken, whatever names follow, or there is none
+abbrev pub Finds : (List ℕ → Option ℕ) → List ℕ → List ℕ → Bool → List ℕ → Type 0
+Finds finds name before true after = Takes (tasks_of finds) name before after
+Finds finds name before false after = Refuses (tasks_of finds) name
 
 -- what stands behind the names of those who learn
 abbrev pub verb_of : List TaskId → List ℕ
@@ -52,3 +69,8 @@ speech learners = record { learns = learners.who.items; sees = learners.sees.ite
 -- whether nothing is said of what a task does where so many things are done: it is one of these, or lessons have not begun
 abbrev pub is_quiet : List TaskId → ℕ → ℕ → ℕ → Bool
 is_quiet tasks from made task = nat_lt made from || among tasks task
+
+-- and so of what is next; of nothing, nothing is said
+abbrev pub is_next_quiet : List TaskId → ℕ → ℕ → Option ℕ → Bool
+is_next_quiet tasks from made None = true
+is_next_quiet tasks from made (Some task) = is_quiet tasks from made task

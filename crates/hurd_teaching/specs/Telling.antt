@@ -5,7 +5,7 @@ use Rattle.hurd_machine.specs.World.{World}
 use Rattle.hurd_views.specs.declared.view.View.{View}
 use Rattle.hurd_views.specs.Views.{Views}
 use Rattle.hurd_lessons.specs.Seen.{seen_text}
-use Rattle.hurd_watch.specs.Watched.{Learns}
+use Rattle.hurd_teaching.specs.Watched.{Learns}
 
 -- what is said behind what was done, and what is kept of what is seen: nothing where nothing is to be said, else what these tasks learn by it
 abbrev pub SaysOf : List TaskId → List ℕ → Bool → World → Option View → Option View → List ℕ → Type 0

@@ -1,7 +1,21 @@
-//! What it means that the outputs of such programs can be read back.
+//! What it means that such outputs can be read back, and that what is printed is one text.
+ghost use Rattle.std.specs.Prelude.{ℕ, List};
+ghost use Rattle.hurd_dialogue.specs.Sorts.{Sort};
+ghost use Rattle.hurd_teaching.specs.Lessons.{LessonsAreSentences};
+ghost use Rattle.hurd_teaching.specs.Programs.{PrintsOneText, learning};
 ghost use Rattle.hurd_teaching.specs.Reading.{ReadBack};
 
 /// A law: an output of such a program tells what was done, what was learned by it, and what was seen then.
 pub fn outputs_are_read_back()
     ensures { ReadBack }
+{}
+
+/// A law: of a text one text is printed for those whom a word names.
+pub fn one_text_is_printed()
+    ensures { (sort : Sort) (word : List ℕ) → PrintsOneText (learning sort word) }
+{}
+
+/// A law: what is said and shown is sentences, so that an output can be read back.
+pub fn lessons_are_sentences()
+    ensures { LessonsAreSentences }
 {}

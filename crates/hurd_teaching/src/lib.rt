@@ -1,17 +1,25 @@
-//! What programs of learners have in common: who learns, what is said behind what each task did, where it is asked what they see,
-//! what is shown then, and how such a program ends.
+//! What some tasks see of a world, and what they learn while a text goes on: who learns, what is said behind what each task did, where it is asked what
+//! they see, and what is shown then.
+//!
+//! `learn_text` begins a text and prints all that it tells, with what those learn whom a word names. `reached`, `seen`, `look` and `view_of` tell of a
+//! world as it is which ids a set of tasks can act with, which nodes it sees, each with why, which parts, and all that it sees with its values. A `Watch`
+//! keeps what some tasks saw, and says what they learned since.
 #![tactic(auto)]
 
-mod argument;
-mod ending;
 mod laws;
 mod learners;
+mod learning;
 mod looks;
+mod naming;
+mod seeing;
+mod steps;
 mod telling;
+mod watch;
 
-pub use argument::only_argument;
-pub use ending::finish;
-pub use laws::outputs_are_read_back;
+pub use laws::{lessons_are_sentences, one_text_is_printed, outputs_are_read_back};
 pub use learners::Learners;
+pub use learning::learn_text;
 pub use looks::{asked_looks, lessons_begin};
-pub use telling::{counted, print_all, said, shown};
+pub use naming::learners_of;
+pub use seeing::{look, reached, seen, view_of};
+pub use watch::Watch;

@@ -8,19 +8,20 @@ ghost use Rattle.hurd_terminal.specs.Faults.{AppendsFront, IsPrintFault};
 ghost use Rattle.hurd_teaching.specs.Telling.{SaysOf, Shows};
 
 use crate::learners::Learners;
+use crate::seeing::view_of;
+use crate::watch::Watch;
 use hurd_creds::Bytes;
 use hurd_lessons::{Tally, seen};
 use hurd_sentences::push_marked;
 use hurd_terminal::{Fault, Output};
 use hurd_trans_iface::Server;
-use hurd_watch::{Watch, view_of};
 use hurd_world::World;
 use std::alloc::{AllocError, Global};
 use std::io::Write;
 
 /// What is said behind what was done: nothing where nothing is to be said, and then these are looked at anew; else what they learn by it. An error is
 /// want of memory.
-pub fn said<S: Server>(
+pub(crate) fn said<S: Server>(
     alloc: Global,
     world: &World<S>,
     learners: &Learners,
@@ -42,7 +43,7 @@ pub fn said<S: Server>(
 }
 
 /// What is shown behind what was done: all that these see, where that is asked for. An error is want of memory.
-pub fn shown<S: Server>(
+pub(crate) fn shown<S: Server>(
     alloc: Global,
     world: &World<S>,
     learners: &Learners,
@@ -58,7 +59,7 @@ pub fn shown<S: Server>(
 }
 
 /// How often others taught something, with one thing more that was done.
-pub fn counted(tally: Tally, quiet: bool, said: &Bytes) -> Tally
+pub(crate) fn counted(tally: Tally, quiet: bool, said: &Bytes) -> Tally
     ensures { result ≡ (if quiet then tally else counted tally said.now) }
 {
     if quiet { tally } else { tally.count(said) }
@@ -84,7 +85,7 @@ fn paragraph(
 /// Prints a paragraph: a part, what is said behind it, and what is shown behind that.
 ///
 /// `Write`: then only some first bytes were printed; `Memory`, and then nothing was.
-pub fn print_all<W: Write>(
+pub(crate) fn print_all<W: Write>(
     alloc: Global,
     part: &Bytes,
     said: &Bytes,

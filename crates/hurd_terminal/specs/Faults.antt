@@ -1,26 +1,42 @@
 -- Faults and how a program ends.
-use Rattle.std.specs.Prelude.{◌≡◌, ◌⊎◌, ℕ, true, List, [], ◌++◌, Option, Result, Ok, Err, codes, decimal}
+use Rattle.std.specs.Prelude.{◌≡◌, ◌⊎◌, ℕ, ◌==◌, true, List, [], ◌++◌, if◌then◌else◌, Option, Result, Ok, Err, codes, decimal}
 use Rattle.std.specs.Io.KnownBytes.{Appends}
 use Rattle.hurd_creds.specs.Errors.{name_of}
+use Rattle.hurd_creds.specs.declared.errno.Errno.{Errno}
 use Rattle.hurd_terminal.specs.declared.fault.Fault.{Fault}
-use Rattle.hurd_terminal.specs.declared.fault.Fault.TheVariants.{Read, Write, Bad, Boot, Memory}
+use Rattle.hurd_terminal.specs.declared.fault.Fault.TheVariants.{Read, Write, Bad, Unknown, Boot, Memory}
 use Rattle.hurd_terminal.specs.declared.print.Output.{Output}
 use Rattle.hurd_terminal.specs.declared.read.Input.{Input}
 
--- the exit status: 0 where all was printed, 1 for a bad text, 2 for all else
+-- the exit status: 0 where all was printed, 1 for a bad text or where somebody is named who isn't in it, 2 for all else
 abbrev pub status_of : Result (Unit {0}) Fault → ℕ
 status_of (Ok _) = 0
 status_of (Err (Bad line)) = 1
+status_of (Err Unknown) = 1
 status_of (Err _) = 2
 
--- the last line: none where all was printed; a complaint stands behind the number of a bad line
-abbrev pub line_of : List ℕ → Result (Unit {0}) Fault → List ℕ
-line_of complaint (Ok _) = []
-line_of complaint (Err Read) = codes "hurd: cannot read\n"
-line_of complaint (Err Write) = codes "hurd: cannot write\n"
-line_of complaint (Err (Bad line)) = codes "hurd: line " ++ decimal line ++ complaint
-line_of complaint (Err (Boot e)) = codes "hurd: cannot boot: " ++ name_of e ++ codes "\n"
-line_of complaint (Err Memory) = codes "hurd: out of memory\n"
+-- what stands behind the name of a file whose text is bad at this line; at line 0 it is too long
+abbrev pub complaint_at : List ℕ → ℕ → List ℕ
+complaint_at complaint line = if line == 0 then codes ": longer than 1048576 bytes\n" else codes ":" ++ decimal line ++ complaint
+
+-- and of one whose world is refused
+abbrev pub refusal_by : Errno → List ℕ
+refusal_by e = codes ": cannot boot: " ++ name_of e ++ codes "\n"
+
+-- a line of a file: its name, and this behind it
+abbrev pub of_file : List ℕ → List ℕ → List ℕ
+of_file file tail = codes "hurd: " ++ (file ++ tail)
+
+-- the line on standard error: none where all was printed. A complaint stands behind the number of a bad line, and another text where somebody is
+-- named who isn't in the text
+abbrev pub line_of : List ℕ → List ℕ → List ℕ → Result (Unit {0}) Fault → List ℕ
+line_of file complaint stranger (Ok _) = []
+line_of file complaint stranger (Err Read) = of_file file (codes ": cannot read\n")
+line_of file complaint stranger (Err Write) = codes "hurd: cannot write\n"
+line_of file complaint stranger (Err (Bad line)) = of_file file (complaint_at complaint line)
+line_of file complaint stranger (Err Unknown) = of_file file stranger
+line_of file complaint stranger (Err (Boot e)) = of_file file (refusal_by e)
+line_of file complaint stranger (Err Memory) = codes "hurd: out of memory\n"
 
 -- a text could not be read since a read failed or none was left to make, or memory was refused
 abbrev pub IsReadFault : {R : Type 0} → Input R → Fault → Type 0
@@ -38,7 +54,7 @@ IsFront front whole = (rest : List ℕ) × (whole ≡ front ++ rest)
 abbrev pub AppendsFront : Option (List ℕ) → Option (List ℕ) → List ℕ → Type 0
 AppendsFront before after whole = (front : List ℕ) × IsFront front whole × Appends before after front
 
--- a last line was printed, or only a front of it, and then a write failed
+-- a line was printed, or only a front of it, and then a write failed
 abbrev pub Says : {W : Type 0} → (W → Option (List ℕ)) → Output W → Output W → List ℕ → Type 0
 Says contents output written line =
     (Appends (contents output.writer) (contents written.writer) line × (written.failed ≡ output.failed))

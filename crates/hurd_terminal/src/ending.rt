@@ -1,41 +1,88 @@
 //! How a program ends.
-ghost use Rattle.std.specs.Prelude.{◌≡◌, ◌+◌, ◌≤◌, ◌++◌, length, Err};
-ghost use Rattle.hurd_terminal.specs.Faults.{Says, line_of, status_of};
+ghost use Rattle.std.specs.Prelude.{◌≡◌, ◌+◌, ◌≤◌, ◌++◌, OnOk, IfErr, length, true, Err};
+ghost use Rattle.std.specs.Io.KnownBytes.{Appends};
+ghost use Rattle.hurd_terminal.specs.Faults.{AppendsFront, Says, complaint_at, line_of, of_file, refusal_by, status_of};
 
 use crate::fault::Fault;
 use crate::print::Output;
 use arrayvec::ArrayString;
+use hurd_creds::Errno;
 use itoa::Buffer;
 use std::io::Write;
 
-/// Room for the longest line.
-const LINE_BYTES: usize = 64;
+/// Room for the longest text behind the name of a file.
+const TAIL_BYTES: usize = 64;
 
-/// A line of three texts.
-fn line(first: &str, second: &str, third: &str) -> ArrayString<LINE_BYTES>
+/// Three texts, one after another.
+fn joined(first: &str, second: &str, third: &str) -> ArrayString<TAIL_BYTES>
     requires { length first.now + (length second.now + length third.now) ≤ 64 }
     ensures { result.bytes ≡ first.now ++ second.now ++ third.now }
 {
-    let mut line = ArrayString::new();
-    line.push_str(first);
-    line.push_str(second);
-    line.push_str(third);
-    line
+    let mut text = ArrayString::new();
+    text.push_str(first);
+    text.push_str(second);
+    text.push_str(third);
+    text
 }
 
-/// The last line after a fault, with its newline; `complaint` stands behind the number of a bad line. Takes no memory.
-fn last_line(fault: Fault, complaint: &str) -> ArrayString<LINE_BYTES>
+/// What stands behind the name of a file whose text is bad at this line. Takes no memory.
+fn complaint_at(complaint: &str, line: u64) -> ArrayString<TAIL_BYTES>
     requires { length complaint.now ≤ 13 }
-    ensures { result.bytes ≡ line_of complaint.now (Err fault) }
+    ensures { result.bytes ≡ complaint_at complaint.now line }
+{
+    if line == 0 {
+        joined(": longer than 1048576 bytes\n", "", "")
+    } else {
+        joined(":", Buffer::new().format(line), complaint)
+    }
+}
+
+/// What stands behind the name of a file whose world is refused. Takes no memory.
+fn refusal_by(errno: Errno) -> ArrayString<TAIL_BYTES>
+    ensures { result.bytes ≡ refusal_by errno }
+{
+    joined(": cannot boot: ", errno.name(), "\n")
+}
+
+/// Prints a line of a file: its name, and a tail behind it.
+///
+/// `Write` where a write fails: then only some first bytes of it were printed.
+fn say_of<E: Write>(file: &[u8], tail: &[u8], errors: &mut Output<E>) -> Result<(), Fault>
+    ensures ok { OnOk result (Appends (E.contents errors.old.writer) (E.contents errors.new.writer) (of_file file.now tail.now)
+        × (errors.new.failed ≡ errors.old.failed)) }
+    ensures err { IfErr result (λ fault. (errors.new.failed ≡ true)
+        × AppendsFront (E.contents errors.old.writer) (E.contents errors.new.writer) (of_file file.now tail.now)) }
+{
+    errors.print(b"hurd: ")?;
+    errors.print(file)?;
+    errors.print(tail)
+}
+
+/// Prints the line of a fault, as far as it can be written. Takes no memory.
+fn say<E: Write>(
+    fault: Fault,
+    file: &[u8],
+    complaint: &str,
+    stranger: &[u8],
+    errors: &mut Output<E>,
+) -> Result<(), Fault>
+    requires { length complaint.now ≤ 13 }
+    ensures ok { OnOk result (Appends (E.contents errors.old.writer) (E.contents errors.new.writer) (line_of file.now complaint.now stranger.now (Err fault))
+        × (errors.new.failed ≡ errors.old.failed)) }
+    ensures err { IfErr result (λ e. (errors.new.failed ≡ true)
+        × AppendsFront (E.contents errors.old.writer) (E.contents errors.new.writer) (line_of file.now complaint.now stranger.now (Err fault))) }
 {
     match fault {
-        Fault::Read => line("hurd: cannot read\n", "", ""),
-        Fault::Write => line("hurd: cannot write\n", "", ""),
-        Fault::Bad { line: number } => {
-            line("hurd: line ", Buffer::new().format(number), complaint)
-        }
-        Fault::Boot(errno) => line("hurd: cannot boot: ", errno.name(), "\n"),
-        Fault::Memory => line("hurd: out of memory\n", "", ""),
+        Fault::Read => say_of(file, b": cannot read\n", errors),
+        Fault::Write => errors.print(b"hurd: cannot write\n"),
+        Fault::Bad { line } => say_of(
+            file,
+            complaint_at(complaint, line).as_str().as_bytes(),
+            errors,
+        ),
+        Fault::Unknown => say_of(file, stranger, errors),
+        Fault::Boot(errno) => say_of(file, refusal_by(errno).as_str().as_bytes(), errors),
+        Fault::Memory => errors.print(b"hurd: out of memory\n"),
     }
 }
 
@@ -44,22 +91,28 @@ fn status(fault: Fault) -> u8
     ensures { result ≡ status_of (Err fault) }
 {
     match fault {
-        Fault::Bad { .. } => 1,
+        Fault::Bad { .. } | Fault::Unknown => 1,
         Fault::Read | Fault::Write | Fault::Boot(_) | Fault::Memory => 2,
     }
 }
 
-/// Ends a program: prints the last line where there was a fault, as far as it can be written, and gives the exit status.
-pub fn finish<W: Write>(ended: Result<(), Fault>, complaint: &str, output: &mut Output<W>) -> u8
+/// Ends a program: says of a file where there was a fault, as far as that can be written, and gives the exit status. `complaint` stands behind the
+/// number of a bad line, `stranger` behind the file's name where somebody is named who isn't in it. Takes no memory.
+pub fn finish<E: Write>(
+    ended: Result<(), Fault>,
+    file: &[u8],
+    complaint: &str,
+    stranger: &[u8],
+    errors: &mut Output<E>,
+) -> u8
     requires { length complaint.now ≤ 13 }
     ensures status { result ≡ status_of ended }
-    ensures line { Says W.contents output.old output.new (line_of complaint.now ended) }
+    ensures line { Says E.contents errors.old errors.new (line_of file.now complaint.now stranger.now ended) }
 {
     match ended {
         Ok(()) => 0,
         Err(fault) => {
-            let line = last_line(fault, complaint);
-            let _ = output.print(line.as_str().as_bytes());
+            let _ = say(fault, file, complaint, stranger, errors);
             status(fault)
         }
     }

@@ -13,6 +13,8 @@ pub enum Fault {
     Write,
     /// The text is bad at this line, counted from 1; at line 0 where it is too long.
     Bad { line: u64 },
+    /// Somebody is named who isn't in the text.
+    Unknown,
     /// The world was refused.
     Boot(Errno),
     Memory,

@@ -1,0 +1,59 @@
+//! How the program is called, for clap.
+use clap::{Arg, ArgAction, Command};
+use std::alloc::{AllocError, Global};
+
+/// The version that `hurd --version` tells.
+const VERSION: &str = "0.1.0";
+
+const ABOUT: &str =
+    "Runs scripts of several users' commands over a file tree in memory in which strangers serve the nodes, and says what users learn by them.";
+
+const AFTER: &str =
+    "FILE is a script, or a list of calls where its name ends with .calls; - is standard input.\nWHO is a user of the script or the number of a task of the list, or several of them between commas.\n\nExit status: 0 all went well; 1 a bad text, or somebody is named who isn't in it; 2 trouble.\nWhat is wrong is said on standard error, as hurd: FILE:LINE: bad script.\n\nExamples:\n  hurd run examples/welcome.hurd\n  hurd learns alice examples/learned-secret.hurd";
+
+const FILE: &str = "a script, a list of calls (NAME.calls), or - for standard input";
+
+const WHO: &str = "users of the script, or tasks of the list, between commas";
+
+/// A word that has to be there.
+fn word<'a>(alloc: Global, name: &'a str, help: &'a str) -> Arg<'a> {
+    Arg::new(alloc, name)
+        .action(ArgAction::Set)
+        .required(true)
+        .help(help)
+}
+
+/// A verb for one text. An error is want of memory.
+fn verb<'a>(alloc: Global, name: &'a str, about: &'a str) -> Result<Command<'a>, AllocError> {
+    let calls = Arg::new(alloc, "calls")
+        .long("calls")
+        .action(ArgAction::SetTrue)
+        .help("FILE is a list of calls, whatever its name is");
+    Command::new(alloc, name).about(about).arg(calls)
+}
+
+/// The whole command line. An error is want of memory.
+pub fn hurd<'a>(alloc: Global) -> Result<Command<'a>, AllocError> {
+    let run = verb(
+        alloc,
+        "run",
+        "Prints the transcript of a script, or each call of a list with its reply",
+    )?
+    .arg(word(alloc, "FILE", FILE))?;
+    let learns = verb(
+        alloc,
+        "learns",
+        "Prints that, and behind what others do what some learn by it",
+    )?
+    .arg(word(alloc, "WHO", WHO))?
+    .arg(word(alloc, "FILE", FILE))?;
+    Command::new(alloc, "hurd")
+        .bin_name("hurd")?
+        .version(VERSION)
+        .about(ABOUT)
+        .after_help(AFTER)
+        .subcommand_required(true)
+        .arg_required_else_help(true)
+        .subcommand(run)?
+        .subcommand(learns)
+}

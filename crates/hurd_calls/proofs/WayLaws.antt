@@ -1,0 +1,56 @@
+-- How far a list of calls is.
+use Rattle.std.proofs.Common.{◌≡◌, ◌∙◌, ◌+◌, ℕ, List, [], ◌∷◌, ◌++◌, Option, Some, None, ◌<◌, refl, sym, ap, arith, map, length, nat_lt, slice_index_or, true}
+use Rattle.std.proofs.lemmas.Bool.{lt-ltb}
+use Rattle.hurd_creds.specs.Access.{IdSets}
+use Rattle.hurd_creds.specs.Limits.{most_script}
+use Rattle.hurd_kinds.specs.Boxes.{box_meaning}
+use Rattle.hurd_kinds.specs.declared.server_box.ServerBox.{ServerBox}
+use Rattle.hurd_lists.specs.Lists.{Standing, listed_by, reading_of, said_by}
+use Rattle.hurd_lists.specs.declared.reader.CallList.{CallList}
+use Rattle.hurd_lists.specs.declared.reader.ListedCall.{ListedCall}
+use Rattle.hurd_terminal.specs.declared.fault.Fault.{Fault}
+use Rattle.hurd_terminal.specs.declared.fault.Fault.TheVariants.{Read, Write, Bad, Unknown, Boot, Memory}
+use Rattle.hurd_terminal.proofs.RunLaws.{HasLimit}
+use Rattle.hurd_tmpfs.specs.Tree.{new_tmpfs}
+use Rattle.hurd_world.specs.Boot.{boot_of, first_world}
+use Rattle.hurd_world.specs.Held.{Whole, world_of}
+use Rattle.hurd_dialogue.specs.Parts.{Goes, next_task}
+use Rattle.hurd_dialogue.specs.Sorts as sorts
+use Rattle.hurd_calls.specs.Faults.{NotBegun, NotRead}
+use Rattle.hurd_calls.specs.Lists.{lists, way_of}
+use Rattle.hurd_calls.specs.Making.{after_call, part_of, parts_of}
+use Rattle.hurd_calls.specs.Readings.{bad_line, said_in}
+use Rattle.hurd_calls.specs.Tasks.{task_of}
+
+-- a list that is too long is bad at line 0
+pub lists_limited : HasLimit lists.bad
+lists_limited xs long = let test : nat_lt most_script (length xs) ≡ true = lt-ltb _ _ long in rw test refl
+
+-- the next call is made
+pub call_goes : (w x : Whole ServerBox) (c : ListedCall ServerBox) (calls rest : List (ListedCall ServerBox)) (n m tasks : ℕ) (part : List ℕ) → calls ≡ c ∷ rest → m ≡ n + 1
+    → part ≡ part_of (listed_by box_meaning c) (world_of box_meaning w) → world_of box_meaning x ≡ after_call (listed_by box_meaning c) (world_of box_meaning w)
+    → Goes (way_of w calls n tasks) (Some part) (way_of x rest m tasks)
+unfolding parts_of
+call_goes w x c calls rest n m tasks part is count text next = (
+  c.task.0,
+  rw is (λ i. record { task = c.task.0; text = sym text i; world = sym next i } ∷ parts_of (map (listed_by box_meaning) rest) (sym next i)),
+  count,
+)
+
+-- none is left
+pub none_goes : (w x : Whole ServerBox) (calls rest : List (ListedCall ServerBox)) (n m tasks : ℕ) → calls ≡ [] → Goes (way_of w calls n tasks) None (way_of x rest m tasks)
+unfolding parts_of
+none_goes w x calls rest n m tasks none = ap (λ (cs : List (ListedCall ServerBox)). parts_of (map (listed_by box_meaning) cs) (world_of box_meaning w)) none
+
+-- the task of the next
+
+pub task_first : (w : Whole ServerBox) (c : ListedCall ServerBox) (calls : List (ListedCall ServerBox)) (n tasks : ℕ) → 0 < length calls → c ≡ slice_index_or calls 0 c
+    → Some c.task.0 ≡ next_task (way_of w calls n tasks).left
+unfolding parts_of
+task_first w c [] n tasks some is = absurd (omega (arith, some))
+task_first w c (d ∷ rest) n tasks some is = ap (λ (x : ListedCall ServerBox). Some x.task.0) is
+
+pub task_none : (w : Whole ServerBox) (calls : List (ListedCall ServerBox)) (n tasks : ℕ) → (0 < length calls → ⊥) → None ≡ next_task (way_of w calls n tasks).left
+unfolding parts_of
+task_none w [] n tasks none = refl
+task_none w (d ∷ rest) n tasks none = absurd (none (omega arith))

@@ -1,0 +1,14 @@
+use Rattle.std.proofs.Common.{◌∙◌, refl, sym}
+use Rattle.std.proofs.lemmas.List.{nil_from_length}
+use Rattle.hurd_calls.proofs.WayLaws.{call_goes, none_goes}
+use Rattle.hurd_calls.proofs.list.RunningCallsTelling.next.Goals as goal
+
+pub returns-in_default : goal.returns-in_default
+returns-in_default c =
+    none_goes c.args.self.now.world.value c.args.self.now.world.value c.args.self.now.calls.items c.pop_front.new.self.items c.args.self.now.told c.args.self.now.told c.args.self.now.tasks
+    (nil_from_length _ (sym c.args.self.now.calls.ok.0 ∙ c.in_default.ensures.cases.0))
+
+pub returns : goal.returns
+returns c =
+    call_goes c.args.self.now.world.value c.part.new.world c.in-Some.listed _ c.pop_front.new.self.items c.args.self.now.told _ c.args.self.now.tasks c.in_ok-part.field-0 c.in-Some.ensures.items refl
+    (rw c.deref_mut.ensures.value at c.in_ok-part.ensures.part) (rw c.deref_mut.ensures.value at c.in_ok-part.ensures.world)

@@ -1,0 +1,44 @@
+//! Reading a list, and beginning the world of its tasks.
+ghost use Rattle.std.specs.Prelude.{◌≡◌, Ok, IfErr, IfOk};
+ghost use Rattle.hurd_tmpfs.specs.Tree.{new_tmpfs};
+ghost use Rattle.hurd_world.specs.Boot.{boot_of, first_world};
+ghost use Rattle.hurd_world.specs.Held.{world_of};
+ghost use Rattle.hurd_lists.specs.Lists.{reading_of, said_by};
+ghost use Rattle.hurd_calls.specs.Faults.{NotBegun, NotRead};
+
+use hurd_creds::{Errno, Ids};
+use hurd_dialogue::boxed;
+use hurd_lists::{CallList, ListFault, parse_calls};
+use hurd_terminal::Fault;
+use hurd_trans_iface::Server;
+use hurd_world::World;
+use std::alloc::Global;
+
+/// A world of tasks over an empty tree in memory.
+///
+/// Errors, in order: `Boot` with the world's refusal, `Memory`.
+pub fn begun<S: Server>(alloc: Global, root: S, tasks: Vec<Ids>) -> Result<Box<World<S>>, Fault>
+    requires { S.meaning root ≡ new_tmpfs }
+    ensures ok { IfOk result (λ world. (boot_of new_tmpfs tasks.items ≡ Ok tt) × (world_of S.meaning world.value ≡ first_world new_tmpfs tasks.items)) }
+    ensures err { IfErr result (λ fault. NotBegun new_tmpfs tasks.items fault) }
+{
+    match World::boot(alloc, root, tasks) {
+        Ok(world) => Ok(boxed(alloc, world)?),
+        Err((Errno::ENOMEM, _)) => Err(Fault::Memory),
+        Err((errno, _)) => Err(Fault::Boot(errno)),
+    }
+}
+
+/// Reads a list's text.
+///
+/// Errors: `Bad` with its first bad line, `Memory`.
+pub fn parsed<S: Server>(alloc: Global, text: &[u8]) -> Result<CallList<S>, Fault>
+    ensures ok { IfOk result (λ list. reading_of text.now ≡ Ok (said_by S.meaning list)) }
+    ensures err { IfErr result (λ fault. NotRead (reading_of text.now) fault) }
+{
+    match parse_calls(alloc, text) {
+        Ok(list) => Ok(list),
+        Err(ListFault::Bad { line }) => Err(Fault::Bad { line }),
+        Err(ListFault::Memory) => Err(Fault::Memory),
+    }
+}

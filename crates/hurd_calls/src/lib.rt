@@ -1,0 +1,14 @@
+//! A list of several tasks' calls on its way, over an empty tree in memory, with the servers that its words make.
+//!
+//! `RunningCalls` reads a list, begins the world of its tasks, and tells a part for each call: its line, and the machine's reply. For a program with boxes of
+//! its own: `parsed` reads a list, and `begun` begins the world of its tasks; `brought` makes the server that a call brings, and `part` makes the call with
+//! it, and gives what is printed of it.
+#![tactic(auto)]
+
+mod beginning;
+mod calling;
+mod list;
+
+pub use beginning::{begun, parsed};
+pub use calling::{brought, part};
+pub use list::RunningCalls;

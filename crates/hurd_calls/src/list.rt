@@ -1,0 +1,120 @@
+//! A list of calls on its way.
+ghost use Rattle.std.specs.Prelude.{◌≡◌, ◌+◌, ◌<◌, ◌≤◌, length};
+ghost use Rattle.hurd_calls.specs.Lists.{lists, way_of};
+ghost use Rattle.hurd_calls.specs.Tasks.{noun_of, task_of};
+
+use crate::beginning::{begun, parsed};
+use crate::calling::{brought, part};
+use hurd_creds::{Bytes, TaskId};
+use hurd_dialogue::{Telling, boxed};
+use hurd_kinds::{ServerBox, empty_tree};
+use hurd_lists::{CallList, ListedCall};
+use hurd_numbers::number;
+use hurd_terminal::Fault;
+use hurd_world::World;
+use std::alloc::{AllocError, Global};
+use std::collections::VecDeque;
+
+/// A list of calls on its way, begun over an empty tree in memory.
+#[derive(Drop)]
+pub struct RunningCalls {
+    world: Box<World<ServerBox>>,
+    calls: VecDeque<ListedCall<ServerBox>>,
+    told: usize,
+    tasks: usize,
+    ghost few: { told + length calls.items < 18446744073709551615 },
+    ghost room: { tasks < 18446744073709551615 },
+}
+
+/// What stands in front of the numbers of tasks.
+fn noun(tasks: &[TaskId]) -> &'static [u8]
+    ensures { result.now ≡ noun_of tasks.now }
+{
+    if tasks.len() > 1 { b"tasks " } else { b"task " }
+}
+
+/// The task that a word numbers, of so many.
+fn task_of(count: usize, word: &str) -> Option<u32>
+    ensures { result ≡ task_of count word.now }
+{
+    let task = number(word)?;
+    if (task as usize) < count {
+        Some(task)
+    } else {
+        None
+    }
+}
+
+impl Telling for RunningCalls {
+    ghost sort = { lists };
+
+    ghost way = { λ c. way_of c.world.value c.calls.items c.told c.tasks };
+
+    #[tactic(auto, unfolding(hurd_kinds::specs::Boxes::box_meaning))]
+    fn begun(alloc: Global, text: &[u8]) -> Result<Box<RunningCalls>, Fault> {
+        let CallList { tasks, calls } = parsed(alloc, text)?;
+        let count = tasks.len();
+        let root = ServerBox::Tmpfs(empty_tree(alloc)?);
+        let world = begun(alloc, root, tasks)?;
+        let running = RunningCalls {
+            world,
+            calls: VecDeque::from(calls),
+            told: 0,
+            tasks: count,
+        };
+        Ok(boxed(alloc, running)?)
+    }
+
+    fn next(&mut self, alloc: Global) -> Result<Option<Bytes>, AllocError> {
+        let Some(listed) = self.calls.pop_front() else {
+            return Ok(None);
+        };
+        self.told += 1;
+        let server = brought(alloc, &listed.server)?;
+        Ok(Some(part(&mut self.world, alloc, listed, server)?))
+    }
+
+    fn task(&self) -> Option<TaskId> {
+        match self.calls.front() {
+            Some(listed) => Some(listed.task),
+            None => None,
+        }
+    }
+
+    fn told(&self) -> usize {
+        self.told
+    }
+
+    fn world(&self) -> &World<ServerBox> {
+        &self.world
+    }
+
+    fn heading(&self) -> usize {
+        self.tasks + 1
+    }
+
+    fn finds(&self, name: &str) -> Option<TaskId> {
+        match task_of(self.tasks, name) {
+            Some(task) => Some(TaskId(task)),
+            None => None,
+        }
+    }
+
+    fn called(alloc: Global, word: &str, tasks: &[TaskId]) -> Result<Vec<u8>, AllocError> {
+        let mut names = Vec::from_slice(alloc, noun(tasks))?;
+        names.extend_from_slice(word.as_bytes())?;
+        Ok(names)
+    }
+
+    fn thing() -> &'static [u8] {
+        b" call"
+    }
+
+    fn complaint() -> &'static str {
+        ": bad calls\n"
+    }
+
+    fn stranger() -> &'static [u8] {
+        b": no such task: "
+    }
+}

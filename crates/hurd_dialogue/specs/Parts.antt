@@ -1,0 +1,37 @@
+-- What a text tells, part by part, while what it says is done in a world of its own.
+use Rattle.std.specs.Prelude.{◌≡◌, ℕ, ◌+◌, List, [], ◌∷◌, Option, Some, None, map}
+use Rattle.std.specs.List.{concat}
+use Rattle.hurd_machine.specs.World.{World}
+
+-- a part that is told: of what which task did, what stands in the output, and the world behind it
+pub record Part : Type 0 where
+  pub task : ℕ
+  pub text : List ℕ
+  pub world : World
+
+-- the texts of parts
+abbrev pub texts : List Part → List (List ℕ)
+texts parts = map (λ (p : Part). p.text) parts
+
+-- all that is told, joined
+abbrev pub joined : List Part → List ℕ
+joined parts = concat (texts parts)
+
+-- the task of the next part
+abbrev pub next_task : List Part → Option ℕ
+next_task [] = None
+next_task (part ∷ rest) = Some part.task
+
+-- a text on its way: what it has still to tell, the world that was left so far, and how many parts were told; by how many lines that say
+-- something its parts are preceded, and one; and the task of a name, if it is in it
+pub record Way : Type 0 where
+  pub left : List Part
+  pub world : World
+  pub told : ℕ
+  pub heading : ℕ
+  pub finds : List ℕ → Option ℕ
+
+-- the next part was told, and this is its text; or there is none
+abbrev pub Goes : Way → Option (List ℕ) → Way → Type 0
+Goes old None new = old.left ≡ []
+Goes old (Some text) new = (task : ℕ) × (old.left ≡ record { task = task; text = text; world = new.world } ∷ new.left) × (new.told ≡ old.told + 1)

@@ -1,0 +1,14 @@
+//! A text on its way through a world of its own, a script or a list of calls: it tells parts, one after another.
+//!
+//! `Telling` is what both are. `play` prints all that one tells, and `transcribe` begins a text and does so.
+//!
+//! It knows no script and no list: those are the crates above, which say what a text of their sort tells.
+#![tactic(auto)]
+
+mod boxing;
+mod playing;
+mod telling;
+
+pub use boxing::boxed;
+pub use playing::{play, transcribe};
+pub use telling::Telling;

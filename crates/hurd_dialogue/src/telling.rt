@@ -1,0 +1,71 @@
+//! A text on its way.
+ghost use Rattle.std.specs.Prelude.{◌≡◌, ◌≤◌, IfErr, IfOk, length};
+ghost use Rattle.std.specs.Option.{option_map};
+ghost use Rattle.hurd_creds.specs.declared.name.TaskId.{TaskId};
+ghost use Rattle.hurd_kinds.specs.Boxes.{box_meaning};
+ghost use Rattle.hurd_world.specs.Held.{world_of};
+ghost use Rattle.hurd_dialogue.specs.Parts.{Goes, Way, next_task};
+ghost use Rattle.hurd_dialogue.specs.Sorts.{Begins, NotBegun, Sort};
+
+use hurd_creds::{Bytes, TaskId};
+use hurd_kinds::ServerBox;
+use hurd_terminal::Fault;
+use hurd_world::World;
+use std::alloc::{AllocError, Global};
+
+/// A text on its way through a world of its own, begun over an empty tree in memory, with the servers that its words make.
+pub trait Telling: Drop {
+    // What texts of its sort are.
+    ghost sort: { Sort };
+
+    // How far it is.
+    ghost way: { Self → Way };
+
+    /// Begins a text.
+    ///
+    /// Errors, in order: `Bad` with the line at which it is bad, `Boot` with its world's refusal; `Memory` at any point.
+    fn begun(alloc: Global, text: &[u8]) -> Result<Box<Self>, Fault>
+        ensures ok { IfOk result (λ telling. Begins sort text.now (way telling.value)) }
+        ensures err { IfErr result (λ fault. NotBegun sort text.now fault) };
+
+    /// The next part; none where all were told. An error is want of memory, and then no more is told.
+    fn next(&mut self, alloc: Global) -> Result<Option<Bytes>, AllocError>
+        ensures { IfOk result (λ part. Goes (way self.old) part (way self.new)) };
+
+    /// The task of the next part; none where all were told.
+    fn task(&self) -> Option<TaskId>
+        ensures { option_map (λ (t : TaskId). t.0) result ≡ next_task (way self.now).left };
+
+    /// How many parts were told.
+    fn told(&self) -> usize
+        ensures { result ≡ (way self.now).told };
+
+    /// The world, as the parts so far left it.
+    fn world(&self) -> &World<ServerBox>
+        ensures { world_of box_meaning result.now ≡ (way self.now).world };
+
+    /// By how many lines that say something its parts are preceded, and one.
+    fn heading(&self) -> usize
+        ensures { result ≡ (way self.now).heading };
+
+    /// The task of a name, if it is in the text.
+    fn finds(&self, name: &str) -> Option<TaskId>
+        ensures { option_map (λ (t : TaskId). t.0) result ≡ (way self.now).finds name.now };
+
+    /// What the tasks of a word are called. An error is want of memory.
+    fn called(alloc: Global, word: &str, tasks: &[TaskId]) -> Result<Vec<u8>, AllocError>
+        ensures { IfOk result (λ names. names.items ≡ sort.called word.now tasks.now) };
+
+    /// What is done in a text of its sort, as ` command`.
+    fn thing() -> &'static [u8]
+        ensures { result.now ≡ sort.thing };
+
+    /// What is said behind the number of a bad line.
+    fn complaint() -> &'static str
+        ensures says { result.now ≡ sort.complaint }
+        ensures fits { length result.now ≤ 13 };
+
+    /// What is said in front of somebody who isn't in a text.
+    fn stranger() -> &'static [u8]
+        ensures { result.now ≡ sort.stranger };
+}

@@ -1,4 +1,0 @@
-use Rattle.hurd_learns.proofs.run.parsed.Goals as goal
-
-pub returns-in-Ok-clause-few : goal.returns-in-Ok-clause-few
-returns-in-Ok-clause-few c = c.in-Ok.ensures.few

@@ -1,4 +1,0 @@
-pub mod Lessons
-pub mod Steps
-pub mod Users
-pub mod Runs

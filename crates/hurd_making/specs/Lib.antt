@@ -1,3 +1,0 @@
-pub mod Making
-pub mod Faults
-pub mod Readings

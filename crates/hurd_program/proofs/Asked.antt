@@ -1,0 +1,27 @@
+-- What is asked of a text.
+use Rattle.std.proofs.Common.{◌≡◌, refl}
+use Rattle.hurd_calls.proofs.WayLaws.{lists_limited}
+use Rattle.hurd_dialogue.specs.Sorts.{Sort}
+use Rattle.hurd_run.proofs.WayLaws.{scripts_limited}
+use Rattle.hurd_terminal.proofs.RunLaws.{HasLimit}
+use Rattle.hurd_program.specs.Requests.{asked, asked_of, sort_of}
+use Rattle.hurd_program.specs.declared.request.Request.{Request}
+use Rattle.hurd_program.specs.declared.request.TextSort.{TextSort}
+use Rattle.hurd_program.specs.declared.request.TextSort.TheVariants.{Script, Calls}
+use Rattle.hurd_program.specs.declared.request.Verb.{Verb}
+use Rattle.hurd_program.specs.declared.request.Verb.TheVariants.{Run, Learns}
+
+-- a text that is too long is bad at line 0, whatever is asked of it
+limited_of : (sort : TextSort) (verb : Verb) → HasLimit (asked_of (sort_of sort) verb).bad
+limited_of Script Run = scripts_limited
+limited_of Script (Learns who) = scripts_limited
+limited_of Calls Run = lists_limited
+limited_of Calls (Learns who) = lists_limited
+
+pub limited : (request : Request) → HasLimit (asked request).bad
+limited request = limited_of request.sort request.verb
+
+-- and what is said of a bad line is said for each sort
+pub complains : (sort : Sort) (verb : Verb) → sort.complaint ≡ (asked_of sort verb).complaint
+complains sort Run = refl
+complains sort (Learns who) = refl

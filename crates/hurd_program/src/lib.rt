@@ -1,0 +1,11 @@
+//! What is asked of a text, a script or a list of calls, and the whole program that does it.
+//!
+//! `perform` reads a text, does what is asked, says of a fault why on a second writer, and gives the exit status: 0 where all was printed, 1 for a bad text or
+//! where somebody is named who isn't in it, 2 for all else. It opens no file and reads no command line: those are the programs'.
+#![tactic(auto)]
+
+mod performing;
+mod request;
+
+pub use performing::perform;
+pub use request::{Request, TextSort, Verb};

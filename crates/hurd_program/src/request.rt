@@ -1,0 +1,26 @@
+//! What is asked of a text.
+
+/// What sort of text it is.
+#[derive(Clone, Copy, Debug, PartialEq, Eq)]
+pub enum TextSort {
+    /// A script of several users' commands.
+    Script,
+    /// A list of several tasks' calls.
+    Calls,
+}
+
+/// What is asked of it.
+#[derive(Debug, Drop)]
+pub enum Verb {
+    /// What it tells: a transcript, or each call with its reply.
+    Run,
+    /// That, and what some learn by what the others do: users by their names, or tasks by their numbers, between commas.
+    Learns { who: String },
+}
+
+/// What is asked of a text.
+#[derive(Debug, Drop)]
+pub struct Request {
+    pub sort: TextSort,
+    pub verb: Verb,
+}

@@ -1,0 +1,72 @@
+//! A session whose servers are made of the words that it asks for.
+ghost use Rattle.std.specs.Prelude.{◌≡◌, ◌≤◌, ℕ, None, Ok, IfErr, IfOk, List, length, map, string_bytes};
+ghost use Rattle.hurd_tmpfs.specs.Tree.{new_tmpfs};
+ghost use Rattle.hurd_script.specs.Script.{bad, commands_of, names_of, users_of};
+ghost use Rattle.hurd_shell.specs.Session.{BegunWith};
+ghost use Rattle.hurd_world.specs.Boot.{boot_of};
+ghost use Rattle.hurd_dialogue.specs.Parts.{Goes};
+ghost use Rattle.hurd_run.specs.Faults.{NotBooted, NotRead};
+ghost use Rattle.hurd_run.specs.Scripts.{way_of};
+
+use hurd_creds::Bytes;
+use hurd_dialogue::boxed;
+use hurd_kinds::{ServerBox, server_for};
+use hurd_script::{Script, ScriptFault, parse_script};
+use hurd_shell::{Session, Want};
+use hurd_terminal::Fault;
+use hurd_trans_iface::Server;
+use std::alloc::{AllocError, Global};
+
+/// Reads a script's text.
+///
+/// `Bad` with the line at which it is bad, `Memory`.
+pub(crate) fn parsed(alloc: Global, text: &[u8]) -> Result<Script, Fault>
+    ensures ok { IfOk result (λ script. (bad text.now ≡ None) × (map string_bytes script.names.items ≡ names_of text.now)
+        × (script.users.items ≡ users_of text.now) × (script.commands.items ≡ commands_of text.now)) }
+    ensures few { IfOk result (λ script. length script.names.items ≤ 64) }
+    ensures err { IfErr result (λ fault. NotRead text.now fault) }
+{
+    match parse_script(alloc, text) {
+        Ok(script) => Ok(script),
+        Err(ScriptFault::Bad { line }) => Err(Fault::Bad { line }),
+        Err(ScriptFault::Memory) => Err(Fault::Memory),
+    }
+}
+
+/// A session of a script over an empty tree.
+///
+/// Errors, in order: `Boot` with the world's refusal, `Memory`.
+#[tactic(auto, using(hurd_tmpfs::proofs::Beginning::begins_tree))]
+pub(crate) fn booted<S: Server>(
+    alloc: Global,
+    script: Script,
+    root: S,
+) -> Result<Box<Session<S>>, Fault>
+    requires { S.meaning root ≡ new_tmpfs }
+    ensures ok { IfOk result (λ session. (boot_of new_tmpfs script.users.items ≡ Ok tt)
+        × BegunWith S.meaning new_tmpfs script.users.items script.commands.items session.value) }
+    ensures err { IfErr result (λ fault. NotBooted script.users.items fault) }
+{
+    Ok(boxed(alloc, Session::begin(alloc, script, root)?)?)
+}
+
+/// The next part that a session tells, with the servers that it asks for on the way, as far as their words make any; none at its end. An error is
+/// want of memory.
+pub(crate) fn next_part(
+    alloc: Global,
+    session: &mut Session<ServerBox>,
+) -> Result<Option<Bytes>, AllocError>
+    ensures { IfOk result (λ part. (names : List (List ℕ)) → Goes (way_of session.old names) part (way_of session.new names)) }
+{
+    'asked: loop {
+        match session.next(alloc) {
+            Ok(Want::Output(part)) => return Ok(Some(part)),
+            Ok(Want::Server(words)) => {
+                let server = server_for(alloc, &words)?;
+                session.answer(alloc, server);
+            }
+            Ok(Want::Done) => return Ok(None),
+            Err(_) => return Err(AllocError),
+        }
+    }
+}

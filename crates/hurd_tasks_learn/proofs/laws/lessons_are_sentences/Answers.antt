@@ -1,5 +1,0 @@
-use Rattle.hurd_tasks_learn.proofs.SaidLaws as law
-use Rattle.hurd_tasks_learn.proofs.laws.lessons_are_sentences.Goals as goal
-
-pub returns : goal.returns
-returns c = law.lessons_are_sentences

@@ -1,5 +1,0 @@
-use Rattle.hurd_tasks_learn.proofs.laws.one_text_is_printed.Goals as goal
-use Rattle.hurd_tasks_learn.proofs.OneText.{one_text_is_printed}
-
-pub returns : goal.returns
-returns c = one_text_is_printed

@@ -1,4 +1,0 @@
-pub mod Learners
-pub mod Lessons
-pub mod Steps
-pub mod Runs

@@ -1,0 +1,51 @@
+use Rattle.std.proofs.Common.{inl, inr, refl}
+use Rattle.std.proofs.lemmas.Result.{err_from_is_err_and}
+use Rattle.hurd_teaching.specs.Learners.{speech}
+use Rattle.hurd_teaching.proofs.StepLaws.{none_told, part_cut, part_told}
+use Rattle.hurd_teaching.proofs.steps.step.Goals as goal
+
+pub returns-in_err-quiet-clause-err : goal.returns-in_err-quiet-clause-err
+returns-in_err-quiet-clause-err g c =
+    let p = err_from_is_err_and c.from_residual.result c.from_residual.ensures.1 in
+    rw (p.1, p.2) (inr refl, inl refl)
+
+pub returns-in_err-part-clause-err : goal.returns-in_err-part-clause-err
+returns-in_err-part-clause-err g c =
+    let p = err_from_is_err_and c.from_residual-in_err-part.result c.from_residual-in_err-part.ensures.1 in
+    rw (p.1, p.2) (inr refl, inl refl)
+
+pub returns-in_default-clause-ok : goal.returns-in_default-clause-ok
+returns-in_default-clause-ok g c =
+    let goes = rw c.in_default.is at c.in_ok-part.ensures in
+    none_told _ _ (g.T.Telling.way c.args.telling.now) (g.T.Telling.way c.next.new.self) c.args.tally.now _ _ goes
+
+pub returns-in_err-said-clause-err : goal.returns-in_err-said-clause-err
+returns-in_err-said-clause-err g c =
+    let p = err_from_is_err_and c.from_residual-in_err-said.result c.from_residual-in_err-said.ensures.1 in
+    rw (p.1, p.2) (inr refl, inl refl)
+
+pub returns-in_err-shown-clause-err : goal.returns-in_err-shown-clause-err
+returns-in_err-shown-clause-err g c =
+    let p = err_from_is_err_and c.from_residual-in_err-shown.result c.from_residual-in_err-shown.ensures.1 in
+    rw (p.1, p.2) (inr refl, inl refl)
+
+pub returns-in_err-print_all-clause-err : goal.returns-in_err-print_all-clause-err
+returns-in_err-print_all-clause-err g c =
+    let p = err_from_is_err_and c.from_residual-in_err-print_all.result c.from_residual-in_err-print_all.ensures.1 in
+    let failed = c.in_err-print_all.ensures.err in
+    let goes = rw c.in-Some.is at c.in_ok-part.ensures in
+    let says = rw c.world.ensures at c.in_ok-said.ensures in
+    let shows = rw (c.are_shown-asked.ensures, c.told.ensures, c.world-2.ensures) at c.in_ok-shown.ensures in
+    rw (p.1, p.2) (
+      failed.0,
+      part_cut c.args.learners.now.tasks.items (speech c.args.learners.now) (g.T.Telling.way c.args.telling.now) (g.T.Telling.way c.next.new.self) c.in-Some.part goes c.in_ok-quiet.quiet c.looked.new.watch.seen c.said.new.watch.seen
+          c.in_ok-said.said c.in_ok-shown.shown c.in_ok-quiet.ensures.quiet c.in_ok-quiet.ensures.sees says shows _ _ failed.1,
+    )
+
+pub returns-clause-ok : goal.returns-clause-ok
+returns-clause-ok g c =
+    let goes = rw c.in-Some.is at c.in_ok-part.ensures in
+    let says = rw c.world.ensures at c.in_ok-said.ensures in
+    let shows = rw (c.are_shown-asked.ensures, c.told.ensures, c.world-2.ensures) at c.in_ok-shown.ensures in
+    part_told c.args.learners.now.tasks.items (speech c.args.learners.now) (g.T.Telling.way c.args.telling.now) (g.T.Telling.way c.next.new.self) c.in-Some.part goes c.in_ok-quiet.quiet c.looked.new.watch.seen c.said.new.watch.seen
+    c.in_ok-said.said c.in_ok-shown.shown c.in_ok-quiet.ensures.quiet c.in_ok-quiet.ensures.sees says shows c.args.tally.now c.counted.result _ _ c.in_ok-print_all.ensures.ok c.counted.ensures

@@ -1,0 +1,74 @@
+//! A text from its beginning to the last line, with what is learned on the way.
+ghost use Rattle.std.specs.Prelude.{◌≡◌, ◌≢◌, true, Err, None, IfErr, OnOk};
+ghost use Rattle.hurd_terminal.specs.Runs.{Adds};
+ghost use Rattle.hurd_teaching.specs.Programs.{learning};
+ghost use Rattle.hurd_teaching.specs.Shown.{NotShown, Shown};
+
+use crate::learners::Learners;
+use crate::naming::learners_of;
+use crate::steps::tell_all;
+use crate::watch::Watch;
+use hurd_dialogue::Telling;
+use hurd_lessons::Tally;
+use hurd_terminal::{Fault, Output};
+use std::alloc::Global;
+use std::io::Write;
+
+/// Prints all that is told and learned of a text by tasks of which nothing was seen yet, and the last line.
+///
+/// `Write` where something can't be written, `Memory`: then a front of it is printed.
+fn learn<T: Telling, W: Write>(
+    alloc: Global,
+    telling: &mut T,
+    learners: &Learners,
+    watch: &mut Watch,
+    output: &mut Output<W>,
+) -> Result<(), Fault>
+    requires anew { watch.old.seen ≡ None }
+    requires begun { (T.way telling.old).told ≡ 0 }
+    ensures ok { OnOk result (Shown learners.now T.sort.thing (T.way telling.old).world (T.way telling.old).left (W.contents output.old.writer) (W.contents output.new.writer)) }
+    ensures err { IfErr result (λ fault. NotShown learners.now T.sort.thing (T.way telling.old).world (T.way telling.old).left
+        output.new (W.contents output.old.writer) fault (W.contents output.new.writer)) }
+{
+    let mut tally = Tally::new();
+    tell_all(alloc, telling, learners, watch, &mut tally, output)?;
+    let line = tally.line(alloc, learners.names.as_slice(), T::thing())?;
+    output.print(line.as_slice())
+}
+
+/// The same, with nothing seen yet.
+fn learn_anew<T: Telling, W: Write>(
+    alloc: Global,
+    telling: &mut T,
+    learners: &Learners,
+    output: &mut Output<W>,
+) -> Result<(), Fault>
+    requires { (T.way telling.old).told ≡ 0 }
+    ensures ok { OnOk result (Shown learners.now T.sort.thing (T.way telling.old).world (T.way telling.old).left (W.contents output.old.writer) (W.contents output.new.writer)) }
+    ensures err { IfErr result (λ fault. NotShown learners.now T.sort.thing (T.way telling.old).world (T.way telling.old).left
+        output.new (W.contents output.old.writer) fault (W.contents output.new.writer)) }
+{
+    let mut watch = Watch::new();
+    learn(alloc, telling, learners, &mut watch, output)
+}
+
+/// Begins a text, and prints all that it tells, with what those learn whom a word names, and the last line.
+///
+/// `Bad` with the line at which it is bad, `Boot` with its world's refusal, `Unknown` where somebody is named who isn't in it: then nothing is printed.
+/// `Write`, `Memory`: then a front is.
+pub fn learn_text<T: Telling, W: Write>(
+    alloc: Global,
+    word: &str,
+    text: &[u8],
+    output: &mut Output<W>,
+) -> Result<(), Fault>
+    ensures adds { Adds (learning T.sort word.now) text.now (W.contents output.old.writer) (W.contents output.new.writer) result }
+    ensures read { result ≢ Err Fault.Read }
+    ensures write { result ≡ Err Fault.Write → output.new.failed ≡ true }
+{
+    let mut telling = T::begun(alloc, text)?;
+    match learners_of(alloc, &*telling, word, text)? {
+        Some(learners) => learn_anew(alloc, &mut *telling, &learners, output),
+        None => Err(Fault::Unknown),
+    }
+}

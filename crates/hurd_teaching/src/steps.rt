@@ -1,0 +1,99 @@
+//! A text on its way that is watched, part by part.
+ghost use Rattle.std.specs.Prelude.{◌≡◌, false, None, IfErr, IfOk, OnOk};
+ghost use Rattle.hurd_dialogue.specs.Parts.{next_task};
+ghost use Rattle.hurd_terminal.specs.Faults.{IsPrintFault};
+ghost use Rattle.hurd_teaching.specs.Learners.{is_next_quiet, speech};
+ghost use Rattle.hurd_teaching.specs.Shown.{StepsTo, StopsAt, ToldAll, ToldSome};
+ghost use Rattle.hurd_teaching.specs.Watched.{SeenOf, Sees};
+
+use crate::learners::Learners;
+use crate::telling::{counted, print_all, said, shown};
+use crate::watch::Watch;
+use hurd_dialogue::Telling;
+use hurd_lessons::Tally;
+use hurd_terminal::{Fault, Output};
+use std::alloc::{AllocError, Global};
+use std::io::Write;
+
+/// Whether nothing is said of the next part; so of none.
+fn is_quiet<T: Telling>(telling: &T, learners: &Learners) -> bool
+    ensures { result ≡ is_next_quiet learners.now.tasks.items learners.now.from (T.way telling.now).told (next_task (T.way telling.now).left) }
+{
+    match telling.task() {
+        Some(task) => learners.are_quiet(telling.told(), task),
+        None => true,
+    }
+}
+
+/// Whether nothing is said of the next part. Before any other it is looked at what these see, unless that was done. An error is want of memory.
+fn looked<T: Telling>(
+    alloc: Global,
+    telling: &T,
+    learners: &Learners,
+    watch: &mut Watch,
+) -> Result<bool, AllocError>
+    requires { SeenOf learners.now.tasks.items (T.way telling.now).world watch.old.seen }
+    ensures quiet { IfOk result (λ quiet. quiet ≡ is_next_quiet learners.now.tasks.items learners.now.from (T.way telling.now).told (next_task (T.way telling.now).left)) }
+    ensures sees { IfOk result (λ quiet. quiet ≡ false → Sees learners.now.tasks.items (T.way telling.now).world watch.new.seen) }
+{
+    let quiet = is_quiet(telling, learners);
+    if !quiet {
+        watch.look(alloc, telling.world(), learners.tasks.as_slice())?;
+    }
+    Ok(quiet)
+}
+
+/// Tells the next part: prints its paragraph, its text, what these tasks learn by it, and what they see where that is asked for; and counts what they
+/// learn. Whether there was one.
+///
+/// `Write` where it can't be written: then only some first bytes of it were; `Memory`.
+fn step<T: Telling, W: Write>(
+    alloc: Global,
+    telling: &mut T,
+    learners: &Learners,
+    watch: &mut Watch,
+    tally: &mut Tally,
+    output: &mut Output<W>,
+) -> Result<bool, Fault>
+    requires { SeenOf learners.now.tasks.items (T.way telling.old).world watch.old.seen }
+    ensures ok { IfOk result (λ more. StepsTo learners.now.tasks.items (speech learners.now) (T.way telling.old) tally.old (W.contents output.old.writer)
+        more (T.way telling.new) watch.new.seen tally.new (W.contents output.new.writer)) }
+    ensures err { IfErr result (λ fault. IsPrintFault output.new fault
+        × StopsAt learners.now.tasks.items (speech learners.now) (T.way telling.old) (W.contents output.old.writer) (W.contents output.new.writer)) }
+{
+    let quiet = looked(alloc, telling, learners, watch)?;
+    let Some(part) = telling.next(alloc)? else {
+        return Ok(false);
+    };
+    let said = said(alloc, telling.world(), learners, watch, quiet)?;
+    let asked = learners.are_shown(telling.told());
+    let shown = shown(alloc, telling.world(), learners, asked)?;
+    print_all(alloc, &part, &said, &shown, output)?;
+    *tally = counted(*tally, quiet, &said);
+    Ok(true)
+}
+
+/// Tells all parts that are left, each with what these tasks learn by it, and counts that. Nothing was seen yet.
+///
+/// `Write` where something can't be written, `Memory`: then a front is printed.
+pub(crate) fn tell_all<T: Telling, W: Write>(
+    alloc: Global,
+    telling: &mut T,
+    learners: &Learners,
+    watch: &mut Watch,
+    tally: &mut Tally,
+    output: &mut Output<W>,
+) -> Result<(), Fault>
+    requires { watch.old.seen ≡ None }
+    ensures ok { OnOk result (ToldAll learners.now.tasks.items (speech learners.now) (T.way telling.old).told (T.way telling.old).world (T.way telling.old).left
+        tally.old (W.contents output.old.writer) tally.new (W.contents output.new.writer)) }
+    ensures err { IfErr result (λ fault. IsPrintFault output.new fault
+        × ToldSome learners.now.tasks.items (speech learners.now) (T.way telling.old).told (T.way telling.old).world (T.way telling.old).left
+        (W.contents output.old.writer) (W.contents output.new.writer)) }
+{
+    'steps: loop {
+        if !step(alloc, telling, learners, watch, tally, output)? {
+            return Ok(());
+        }
+    }
+}

@@ -1,0 +1,104 @@
+//! What some tasks saw when they were last looked at.
+ghost use Rattle.std.specs.Prelude.{◌≡◌, None, Some, IfErr, IfOk, OnOk};
+ghost use Rattle.std.specs.Option.{option_map};
+ghost use Rattle.hurd_world.specs.Held.{world_of};
+ghost use Rattle.hurd_teaching.specs.Watched.{LearnedSince, Learns, SeesOr};
+
+use crate::seeing::view_of;
+use hurd_creds::{Bytes, TaskId};
+use hurd_lessons::lessons;
+use hurd_trans_iface::Server;
+use hurd_views::View;
+use hurd_world::World;
+use std::alloc::{AllocError, Global};
+use std::marker::Model;
+
+/// What some tasks saw when they were last looked at, if nothing came since that they did themselves.
+#[derive(Drop)]
+pub struct Watch {
+    seen: Option<Box<View>>,
+}
+
+impl Model for Watch {
+    ghost use Rattle.std.specs.Option.{option_map};
+    ghost use Rattle.hurd_teaching.specs.Watched.{Watched, coded_watched};
+
+    ghost Value = { Watched };
+
+    ghost coded = { coded_watched };
+
+    ghost view = { λ w. record { seen = option_map (λ v. v.value) w.seen } };
+}
+
+/// What is learned since something was looked at; nothing where nothing was.
+fn learned_since(
+    alloc: Global,
+    who: &[u8],
+    before: &Option<Box<View>>,
+    after: &View,
+) -> Result<Bytes, AllocError>
+    ensures { IfOk result (λ text. LearnedSince who.now (option_map (λ v. v.value) before.now) after.now text) }
+{
+    match before {
+        Some(before) => lessons(alloc, who, before, after),
+        None => Ok(Bytes::new(Vec::new(alloc))),
+    }
+}
+
+impl Watch {
+    /// Nothing was looked at.
+    pub fn new() -> Watch
+        ensures { result ≡ record { seen = None } }
+    {
+        Watch { seen: None }
+    }
+
+    /// Looks at what these tasks see of a world, unless that was done. An error is want of memory, and then what was seen is kept.
+    pub fn look<S: Server>(
+        &mut self,
+        alloc: Global,
+        world: &World<S>,
+        tasks: &[TaskId],
+    ) -> Result<(), AllocError>
+        ensures ok { OnOk result (SeesOr tasks.now (world_of S.meaning world.now) self.old.seen self.new.seen) }
+        ensures err { IfErr result (λ e. self.new.seen ≡ self.old.seen) }
+    {
+        if self.seen.is_none() {
+            let view = view_of(alloc, world, tasks)?;
+            self.keep(view);
+        }
+        Ok(())
+    }
+
+    /// These tasks do something themselves: they are to be looked at anew.
+    pub fn forget(&mut self)
+        ensures { self.new.seen ≡ None }
+    {
+        self.seen = None;
+    }
+
+    /// What these tasks learn of a world since they were looked at, a line for each thing, and looks at them. An error is want of memory,
+    /// and then what was seen is kept.
+    pub fn learned<S: Server>(
+        &mut self,
+        alloc: Global,
+        world: &World<S>,
+        tasks: &[TaskId],
+        who: &[u8],
+    ) -> Result<Bytes, AllocError>
+        ensures ok { IfOk result (λ text. Learns tasks.now who.now (world_of S.meaning world.now) self.old.seen self.new.seen text) }
+        ensures err { IfErr result (λ e. self.new.seen ≡ self.old.seen) }
+    {
+        let after = view_of(alloc, world, tasks)?;
+        let learned = learned_since(alloc, who, &self.seen, &after)?;
+        self.keep(after);
+        Ok(learned)
+    }
+
+    /// What is seen now is kept, in place of what was.
+    fn keep(&mut self, view: Box<View>)
+        ensures { self.new.seen ≡ Some view.value }
+    {
+        self.seen = Some(view);
+    }
+}
