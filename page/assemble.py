@@ -1,5 +1,5 @@
 #!/usr/bin/env python3
-"""assemble.py OUT.html MODULE.wasm..: the page in one file, which opens from a disk, without a network.
+"""assemble.py OUT.html MODULE.wasm: the page in one file, which opens from a disk, without a network.
 
 Beside this file lie the page's parts; the examples and their first lines come from examples/, the sum is that of sources.py.
 """
@@ -54,9 +54,9 @@ def examples():
     return found
 
 
-def block(kind, name, content, more=""):
+def block(kind, name, content):
     """Data in the page. No script of the page is read from it as code, and nothing in it ends it."""
-    return f'<script type="{kind}" id="{name}"{more}>{content.replace("<", chr(92) + "u003c") if kind == "application/json" else content}</script>\n'
+    return f'<script type="{kind}" id="{name}">{content.replace("<", chr(92) + "u003c") if kind == "application/json" else content}</script>\n'
 
 
 def hashed(content):
@@ -64,7 +64,7 @@ def hashed(content):
 
 
 def main():
-    out, modules = sys.argv[1], sys.argv[2:]
+    out, module = sys.argv[1:]
     style = text(HERE, "page.css")
     script = "\n".join(text(HERE, name) for name in SCRIPTS) + "Page.begin();\n"
     worker = text(HERE, "worker.js")
@@ -76,10 +76,8 @@ def main():
     blocks += block("application/json", "examples", json.dumps(examples()))
     blocks += block("application/json", "help-texts", text(HERE, "help.json"))
     blocks += block("application/json", "lecture-texts", json.dumps(lecture))
-    for path in modules:
-        name = os.path.basename(path).rsplit(".", 1)[0]
-        with open(path, "rb") as file:
-            blocks += block("application/octet-stream", "module-" + name, base64.b64encode(file.read()).decode(), f' data-program="{name}"')
+    with open(module, "rb") as file:
+        blocks += block("application/octet-stream", "module", base64.b64encode(file.read()).decode())
     policy = "default-src 'none'; script-src " + hashed(script) + " 'wasm-unsafe-eval'; worker-src blob:; style-src " + hashed(style) + "; base-uri 'none'; form-action 'none'"
     page = text(HERE, "index.html")
     for mark, content in {

@@ -1,40 +1,52 @@
-/* What a program of this repository asks of its system, in a web page: standard input and a word are given beforehand, standard output is kept, and nothing
-   else is there. */
+/* What a program of this repository asks of its system, in a web page: standard input and its words are given beforehand, standard output and standard error
+   are kept, each by itself, and nothing else is there. */
 typedef unsigned long long u64;
 typedef long long i64;
 typedef unsigned long address;
 typedef unsigned char u8;
 typedef unsigned __int128 u128;
 
-enum { EBADF = 9, ENOSPC = 28, ESPIPE = 29 };
+enum { EBADF = 9, ENOSPC = 28, ESPIPE = 29, MOST_WORDS = 8, FIRST_ERRORS = 4096 };
+
+struct text {
+    const u8 *bytes;
+    u64 length;
+};
+
+/* what is written to a descriptor */
+struct kept {
+    u8 *bytes;
+    u64 length, room;
+};
 
 extern int hurd_main(void);
 extern u64 room(u64);
 extern void give(void *);
 
-static const u8 *in;
-static u64 in_left;
-static u8 *out;
-static u64 out_length, out_room;
-static const u8 *one; /* the only word, if there is one */
-static u64 one_length;
+static struct text in;
+static struct text words[MOST_WORDS] = {{(const u8 *)"hurd", 4}}; /* the program's name first */
+static u64 word_count = 1;
+static u8 first_errors[FIRST_ERRORS]; /* so that want of memory can be told without any */
+static struct kept out, err = {first_errors, 0, FIRST_ERRORS};
 static int last_error;
 
 #define EXPORT(name) __attribute__((export_name(name)))
 
 EXPORT("input") void input(u64 text, u64 length) {
-    in = (const u8 *)(address)text;
-    in_left = length;
+    in = (struct text){(const u8 *)(address)text, length};
 }
 
+/* one word more */
 EXPORT("word") void word(u64 text, u64 length) {
-    one = (const u8 *)(address)text;
-    one_length = length;
+    if (word_count == MOST_WORDS) __builtin_trap();
+    words[word_count++] = (struct text){(const u8 *)(address)text, length};
 }
 
 EXPORT("run") int run(void) { return hurd_main(); }
-EXPORT("output") u64 output(void) { return (address)out; }
-EXPORT("output_length") u64 output_length(void) { return out_length; }
+EXPORT("output") u64 output(void) { return (address)out.bytes; }
+EXPORT("output_length") u64 output_length(void) { return out.length; }
+EXPORT("errors") u64 errors(void) { return (address)err.bytes; }
+EXPORT("errors_length") u64 errors_length(void) { return err.length; }
 
 static i64 fails(int error) {
     last_error = error;
@@ -43,33 +55,32 @@ static i64 fails(int error) {
 
 i64 read(int from, u8 *to, u64 most) {
     if (from != 0) return fails(EBADF);
-    u64 count = most < in_left ? most : in_left;
-    if (count) __builtin_memcpy(to, in, count);
-    in += count;
-    in_left -= count;
+    u64 count = most < in.length ? most : in.length;
+    if (count) __builtin_memcpy(to, in.bytes, count);
+    in.bytes += count;
+    in.length -= count;
     return (i64)count;
 }
 
 /* whether so many bytes more can be kept */
-static int keeps(u64 more) {
-    if (out_room - out_length >= more) return 1;
-    u64 wanted = 2 * out_room + more + 4096;
+static int keeps(struct kept *kept, u64 more) {
+    if (kept->room - kept->length >= more) return 1;
+    u64 wanted = 2 * kept->room + more + 4096;
     u8 *place = (u8 *)(address)room(wanted);
     if (!place) return 0;
-    if (out) {
-        __builtin_memcpy(place, out, out_length);
-        give(out);
-    }
-    out = place;
-    out_room = wanted;
+    if (kept->length) __builtin_memcpy(place, kept->bytes, kept->length);
+    if (kept->bytes && kept->bytes != first_errors) give(kept->bytes);
+    kept->bytes = place;
+    kept->room = wanted;
     return 1;
 }
 
 i64 write(int to, const u8 *from, u64 count) {
     if (to != 1 && to != 2) return fails(EBADF);
-    if (!keeps(count)) return fails(ENOSPC);
-    if (count) __builtin_memcpy(out + out_length, from, count);
-    out_length += count;
+    struct kept *kept = to == 1 ? &out : &err;
+    if (!keeps(kept, count)) return fails(ENOSPC);
+    if (count) __builtin_memcpy(kept->bytes + kept->length, from, count);
+    kept->length += count;
     return (i64)count;
 }
 
@@ -77,14 +88,13 @@ i64 __write(int to, const u8 *from, u64 count) { return write(to, from, count); 
 i64 lseek(int file, i64 place, int whence) { return fails(ESPIPE); }
 int rattle_errno(void) { return last_error; }
 void rattle_set_errno(int error) { last_error = error; }
-u64 rattle_arg_count(void) { return one ? 2 : 1; }
+u64 rattle_arg_count(void) { return word_count; }
 
 /* the length of a word, which is copied as far as there is room: -1 where there is no such word, -2 where there was not room for all of it */
 i64 rattle_arg(u64 which, u8 *to, u64 most) {
-    const u8 *from = which ? one : (const u8 *)"hurd";
-    u64 length = which ? one_length : 4;
-    if (which > 1 || !from) return -1;
-    if (most) __builtin_memcpy(to, from, length < most ? length : most);
+    if (which >= word_count) return -1;
+    u64 length = words[which].length, count = length < most ? length : most;
+    if (count) __builtin_memcpy(to, words[which].bytes, count);
     return length <= most ? (i64)length : -2;
 }
 

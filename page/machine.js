@@ -1,4 +1,4 @@
-// The programs, run in a worker: whatever a script does, the page stays alive, and a run can be stopped.
+// The program, run in a worker: whatever a script does, the page stays alive, and a run can be stopped.
 "use strict";
 const Machine = {
   worker: null,
@@ -20,19 +20,17 @@ const Machine = {
       if (done) done(data);
     };
     this.worker.onerror = event => this.stop(event.message || "the worker failed");
-    for (const block of document.querySelectorAll("[data-program]")) {
-      this.worker.postMessage({ program: block.dataset.program, module: this.bytes(block.textContent) });
-    }
+    this.worker.postMessage({ module: this.bytes(this.block("module")) });
   },
 
-  // {status, bytes, trap}
-  run(program, text, word) {
+  // {status, bytes, errors, trap}
+  run(text, words) {
     if (!this.worker) this.start();
     const id = this.next++;
     if (!this.waiting.size) this.began = Date.now();
     return new Promise(done => {
       this.waiting.set(id, done);
-      this.worker.postMessage({ id, program, text: this.encoder.encode(text), word: word === undefined ? null : this.encoder.encode(word) });
+      this.worker.postMessage({ id, text: this.encoder.encode(text), words: words.map(word => this.encoder.encode(word)) });
     });
   },
 
@@ -43,7 +41,7 @@ const Machine = {
   stop(why) {
     if (this.worker) this.worker.terminate();
     this.worker = null;
-    for (const done of this.waiting.values()) done({ status: -1, bytes: new Uint8Array(0), trap: why || "stopped" });
+    for (const done of this.waiting.values()) done({ status: -1, bytes: new Uint8Array(0), errors: new Uint8Array(0), trap: why || "stopped" });
     this.waiting.clear();
   },
 };

@@ -1,4 +1,4 @@
-// The page: a script, who looks, what is told and learned behind each command, and the tree as it then is. All that is shown is read from what the programs print.
+// The page: a script, who looks, what is told and learned behind each command, and the tree as it then is. All that is shown is read from what the program prints.
 "use strict";
 const $ = id => document.getElementById(id);
 const element = (tag, kind, text) => { const made = document.createElement(tag); if (kind) made.className = kind; if (text !== undefined) made.textContent = text; return made; };
@@ -12,7 +12,8 @@ const Page = {
   later: 0,
 
   is_list: () => $("sort").value === "list",
-  program: () => Page.is_list() ? "hurd_tasks_learn" : "hurd_learns",
+  // the program, over a text, through the eyes of some
+  run: (text, who) => Machine.run(text, [Page.is_list() ? "calls" : "script", who]),
 
   // lines up to a command, where lessons begin just before it and all that is seen is shown behind it
   cut(text, commands, at) {
@@ -24,24 +25,25 @@ const Page = {
   async show() {
     Machine.give_up();
     const turn = ++this.turn, text = $("text").value, { users, commands } = Read.lines(text, this.is_list());
-    this.chips(users);
+    const gone = this.chips(users);
     const at = Math.min(this.at, commands.length), who = [...users.keys()].filter(name => this.who.has(name)).join(","), everyone = [...users.keys()].join(",");
     this.slide(at, commands);
     document.body.dataset.ready = "no";
     const slow = setTimeout(() => { if (turn === this.turn) { this.say("running \u2026"); $("stop").hidden = false; } }, 150);
-    const whole = await Machine.run(this.program(), text, who), out = Read.text(whole.bytes);
+    const whole = await this.run(text, who);
     const upto = at && whole.status === 0 ? this.cut(text, commands, at) : null;
-    const seen = upto && turn === this.turn ? await Machine.run(this.program(), upto, who) : null;
-    const all = upto && turn === this.turn ? await Machine.run(this.program(), upto, everyone) : null;
+    const seen = upto && turn === this.turn ? await this.run(upto, who) : null;
+    const all = upto && turn === this.turn ? await this.run(upto, everyone) : null;
     clearTimeout(slow);
     if (turn !== this.turn) return;
     $("stop").hidden = true;
-    if (!this.fault(whole, out, text)) { document.body.dataset.ready = "bad"; return; }
+    if (!this.fault(whole, text)) { document.body.dataset.ready = "bad"; return; }
     this.mark(text, commands, at, -1);
-    this.told(Read.output(out), commands, at);
+    this.told(Read.output(Read.text(whole.bytes)), commands, at);
     const views = run => run && run.status === 0 ? Read.output(Read.text(run.bytes)).paragraphs.at(-1).seen : [];
     this.draw(views(all), views(seen), users);
     this.sees(views(seen), who);
+    if (gone.length) this.say(`${this.is_list() ? "Task " : ""}${this.short(Read.shown(gone.join(", ")), 60)} ${gone.length > 1 ? "aren't" : "isn't"} in the ${this.is_list() ? "list" : "script"}.`, true);
     document.body.dataset.ready = "yes";
     this.remember();
   },
@@ -52,30 +54,33 @@ const Page = {
     if ($("lecture").hidden && $("text").value.length < 20000) this.later = setTimeout(() => history.replaceState(null, "", this.address()), 500);
   },
 
+  short: (text, most) => text.length > most ? text.slice(0, most) + "\u2026" : text,
+
   say(text, is_bad) { $("status").textContent = text; $("status").className = is_bad ? "bad" : ""; },
 
   // whether the script ran; if not, why, at its line
-  fault(run, out, text) {
-    const bad = run.status === 1 && Read.bad(out), why = run.trap ? "The run ended: " + run.trap + "." : bad ? `Line ${bad.at + 1}: ${bad.why}.` : run.status ? out.trim().split("\n").pop() : "";
+  fault(run, text) {
+    const said = Read.complaint(Read.text(run.errors)), why = run.trap ? `The run ended: ${run.trap}.` : run.status ? said.why || `The run ended with status ${run.status}.` : "";
     $("fault").hidden = !why;
     $("fault").textContent = why;
     this.say("");
-    if (why) this.mark(text, [], 0, bad ? bad.at : -1);
-    if (bad) {
-      const line = text.split("\n")[bad.at] || "";
-      $("fault").append(element("br"), element("code", "", line.length > 200 ? line.slice(0, 200) + "\u2026" : line));
-    }
-    if (why) for (const id of ["told", "sees", "picture"]) $(id).replaceChildren(element("p", "sum", bad ? "Nothing was run." : "Nothing is shown of a run that did not end."));
-    return !why;
+    if (!why) return true;
+    this.mark(text, [], 0, said.at);
+    if (said.at >= 0) $("fault").append(element("br"), element("code", "", this.short(Read.shown(text.split("\n")[said.at] || ""), 200)));
+    if (run.status === 1) this.slide(0, []);
+    for (const id of ["told", "sees", "picture"]) $(id).replaceChildren(element("p", "sum", run.status === 1 ? "Nothing was run." : "Nothing is shown of a run that did not end."));
+    return false;
   },
 
+  // a button for each; answers who was chosen and isn't there
   chips(users) {
-    for (const name of [...this.who]) if (!users.has(name)) this.who.delete(name);
+    const gone = [...this.who].filter(name => !users.has(name));
+    for (const name of gone) this.who.delete(name);
     if (!this.who.size && users.size) this.who.add(users.has("alice") ? "alice" : [...users.keys()].at(-1));
     const box = $("who"), said = JSON.stringify([...users.keys()]);
     if (box.dataset.said !== said) {
       box.dataset.said = said;
-      box.replaceChildren(...[...users.keys()].map(name => {
+      box.replaceChildren(users.size ? "" : element("span", "label", "nobody"), ...[...users.keys()].map(name => {
         const chip = element("label", "chip"), input = element("input");
         input.type = "checkbox";
         input.value = name;
@@ -85,11 +90,13 @@ const Page = {
       }));
     }
     for (const input of box.querySelectorAll("input")) input.checked = this.who.has(input.value);
+    return gone.filter(name => name);
   },
 
   slide(at, commands) {
     $("at").max = commands.length;
     $("at").value = at;
+    $("at").disabled = !commands.length;
     $("back").disabled = at <= 0;
     $("on").disabled = at >= commands.length;
     const words = at ? `behind ${at} of ${commands.length}: ${commands[at - 1].who}${this.is_list() ? "" : "$"} ${commands[at - 1].text}` : "before the first command";
@@ -230,7 +237,7 @@ const Page = {
       if (event.key === "k" && !$("back").disabled) $("back").click();
     });
     window.onhashchange = () => this.from_address();
-    if (typeof WebAssembly === "undefined" || typeof Worker === "undefined") { this.say("This browser can't run the programs: it has no WebAssembly, or no workers.", true); return; }
+    if (typeof WebAssembly === "undefined" || typeof Worker === "undefined") { this.say("This browser can't run the program: it has no WebAssembly, or no workers.", true); return; }
     $("made").textContent = "Made of sources with the sum " + document.querySelector("meta[name=sources]").content.slice(0, 16) + ".";
     Lecture.begin();
     this.from_address();

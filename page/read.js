@@ -1,15 +1,18 @@
-// What the programs take and print, read by the rules of docs/PROFILE.md.
+// What the program takes and prints, read by the rules of docs/PROFILE.md.
 "use strict";
 const Read = {
   decoder: new TextDecoder(),
 
-  // bytes as a text in which nothing is hidden: control characters, marks of direction and bytes that are no text are shown as signs or as escapes
-  text(bytes) {
-    return this.decoder.decode(bytes).replace(/[\u0000-\u0009\u000b-\u001f\u007f-\u009f\u061c\u200b-\u200f\u2028-\u202f\u2060-\u206f\ufeff]/g, c => {
+  // a text in which nothing is hidden: control characters and marks of direction are shown as signs or as escapes
+  shown(text) {
+    return text.replace(/[\u0000-\u0009\u000b-\u001f\u007f-\u009f\u061c\u200b-\u200f\u2028-\u202f\u2060-\u206f\ufeff]/g, c => {
       const code = c.charCodeAt(0);
       return code < 32 ? String.fromCharCode(0x2400 + code) : code === 127 ? "\u2421" : "\\u{" + code.toString(16) + "}";
     });
   },
+
+  // bytes as such a text
+  text: bytes => Read.shown(Read.decoder.decode(bytes)),
 
   // words as scripts and lists spell them, as one reads them
   plain: text => text.replace(/\\(x([0-9a-f]{2})|[sn\\])/g, (all, one, hex) => {
@@ -52,8 +55,12 @@ const Read = {
     return { paragraphs, last: lines.shift() || "" };
   },
 
-  // the line of a bad script, and what is said of it
-  bad: text => { const found = /^hurd: line (\d+): (.*)$/m.exec(text); return found && { at: Number(found[1]) - 1, why: found[2] }; },
+  // what is said on standard error, as a sentence, and the line of a bad text, which is -1 where none is named
+  complaint(text) {
+    const line = text.split("\n")[0], bad = /^hurd: standard input:(\d+): (bad (?:script|calls).*)$/.exec(line);
+    const said = bad ? `Line ${bad[1]}: ${bad[2]}` : line.replace(/^hurd: (standard input: )?/, "").replace(/^no such (user|task): $/, "there is no $1");
+    return { at: bad ? Number(bad[1]) - 1 : -1, why: said && said[0].toUpperCase() + said.slice(1) + (said.endsWith(".") ? "" : ".") };
+  },
 
   // what is seen, a row for each node and each server
   rows(seen) {

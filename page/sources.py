@@ -1,5 +1,5 @@
 #!/usr/bin/env python3
-"""The sum over the sources of the page: of all crates below its programs, of the examples and of page/. No git is asked.
+"""The sum over the sources of the page: of its program and all crates below it, of the examples and of page/. No git is asked.
 
 `sources.py` prints it; `sources.py PAGE` compares it with the one that a page was made of, and says so where it is another.
 """
@@ -10,20 +10,20 @@ import sys
 
 HERE = os.path.dirname(os.path.abspath(__file__))
 TOP = os.path.dirname(HERE)
-PROGRAMS = ["hurd_learns", "hurd_tasks_learn"]
+PROGRAM = "hurd_page"
 # what is no source of the page: what is made, and what it is made into
 MADE = {"out", "__pycache__", "must-fail"}
 
 
-def below(names):
-    """These crates and all that they stand on in this repository, by crates.txt."""
+def below(name):
+    """This crate and all that it stands on in this repository, by crates.txt."""
     lines = {}
     with open(os.path.join(TOP, "crates.txt"), encoding="utf-8") as file:
         for line in file:
             if ":" in line.split("#")[0]:
                 name, uses = line.split("#")[0].split(":")
                 lines[name.strip()] = uses.split()
-    found, rest = set(), list(names)
+    found, rest = set(), [name]
     while rest:
         name = rest.pop()
         if name in lines and name not in found:
@@ -33,7 +33,7 @@ def below(names):
 
 
 def files():
-    folders = [os.path.join("crates", name) for name in below(PROGRAMS)] + ["examples", "page"]
+    folders = [os.path.join("crates", name) for name in below(PROGRAM)] + ["examples", "page"]
     found = ["crates.txt"]
     for folder in folders:
         for at, inner, names in os.walk(os.path.join(TOP, folder)):
@@ -60,4 +60,4 @@ if __name__ == "__main__":
     if len(sys.argv) == 1:
         print(total())
     else:
-        print("page: of these programs" if made_of(sys.argv[1]) == total() else "page: older than the programs")
+        print("page: of this program" if made_of(sys.argv[1]) == total() else "page: older than the program")

@@ -43,7 +43,7 @@ pub fn hurd<'a>(alloc: Global) -> Result<Command<'a>, AllocError> {
     let learns = verb(
         alloc,
         "learns",
-        "Prints that, and behind what others do what some learn by it",
+        "Prints that, and behind each command of others what WHO learn by it",
     )?
     .arg(word(alloc, "WHO", WHO))?
     .arg(word(alloc, "FILE", FILE))?;

@@ -1,26 +1,16 @@
 -- How far a list of calls is.
-use Rattle.std.proofs.Common.{◌≡◌, ◌∙◌, ◌+◌, ℕ, List, [], ◌∷◌, ◌++◌, Option, Some, None, ◌<◌, refl, sym, ap, arith, map, length, nat_lt, slice_index_or, true}
+use Rattle.std.proofs.Common.{◌≡◌, ◌+◌, ℕ, List, [], ◌∷◌, Some, None, ◌<◌, refl, sym, ap, arith, map, length, nat_lt, slice_index_or, true}
 use Rattle.std.proofs.lemmas.Bool.{lt-ltb}
-use Rattle.hurd_creds.specs.Access.{IdSets}
 use Rattle.hurd_creds.specs.Limits.{most_script}
 use Rattle.hurd_kinds.specs.Boxes.{box_meaning}
 use Rattle.hurd_kinds.specs.declared.server_box.ServerBox.{ServerBox}
-use Rattle.hurd_lists.specs.Lists.{Standing, listed_by, reading_of, said_by}
-use Rattle.hurd_lists.specs.declared.reader.CallList.{CallList}
+use Rattle.hurd_lists.specs.Lists.{listed_by}
 use Rattle.hurd_lists.specs.declared.reader.ListedCall.{ListedCall}
-use Rattle.hurd_terminal.specs.declared.fault.Fault.{Fault}
-use Rattle.hurd_terminal.specs.declared.fault.Fault.TheVariants.{Read, Write, Bad, Unknown, Boot, Memory}
 use Rattle.hurd_terminal.proofs.RunLaws.{HasLimit}
-use Rattle.hurd_tmpfs.specs.Tree.{new_tmpfs}
-use Rattle.hurd_world.specs.Boot.{boot_of, first_world}
 use Rattle.hurd_world.specs.Held.{Whole, world_of}
 use Rattle.hurd_dialogue.specs.Parts.{Goes, next_task}
-use Rattle.hurd_dialogue.specs.Sorts as sorts
-use Rattle.hurd_calls.specs.Faults.{NotBegun, NotRead}
 use Rattle.hurd_calls.specs.Lists.{lists, way_of}
 use Rattle.hurd_calls.specs.Making.{after_call, part_of, parts_of}
-use Rattle.hurd_calls.specs.Readings.{bad_line, said_in}
-use Rattle.hurd_calls.specs.Tasks.{task_of}
 
 -- a list that is too long is bad at line 0
 pub lists_limited : HasLimit lists.bad

@@ -1,7 +1,7 @@
 -- What was printed of a text so far.
 use Rattle.std.specs.Prelude.{IfErr, OnOk, Option, Result}
 use Rattle.std.specs.Io.KnownBytes.{Appends}
-use Rattle.std.proofs.Common.{◌≡◌, ◌∙◌, ℕ, List, [], ◌∷◌, ◌++◌, Ok, Err, Some, None, ◌≢◌, ap, append-nil, append_assoc, refl, subst, suc, sym, length}
+use Rattle.std.proofs.Common.{◌≡◌, ◌∙◌, ℕ, List, [], ◌++◌, Ok, Err, Some, None, ◌≢◌, ap, append-nil, append_assoc, refl, subst, suc, sym, length}
 use Rattle.std.proofs.KnownBytes.{Appends-nil, Appends-trans}
 use Rattle.hurd_creds.specs.declared.errno.Errno.{Errno}
 use Rattle.hurd_terminal.specs.Faults.{AppendsFront, IsFront, IsPrintFault}

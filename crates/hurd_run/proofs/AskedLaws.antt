@@ -5,7 +5,7 @@ use Rattle.hurd_trans_iface.specs.Meaning.{Begins, Meaning, begin}
 use Rattle.hurd_kinds.specs.Boxes.{box_meaning}
 use Rattle.hurd_kinds.specs.declared.server_box.ServerBox.{ServerBox}
 use Rattle.hurd_dialogue.specs.Parts.{Goes, Part}
-use Rattle.hurd_shell.specs.Session.{Answers, Gives, Takes, TakesUnlessFailed, Tells, View, has_failed, left_in, waits_for}
+use Rattle.hurd_shell.specs.Session.{Answers, Takes, TakesUnlessFailed, Tells, View, has_failed, left_in, waits_for}
 use Rattle.hurd_shell.specs.Transcript.{AsksFor, Dialogue, Maker, ends, tells, wants, told_by}
 use Rattle.hurd_shell.specs.declared.session.Want.TheVariants.{Done, Output, Server}
 use Rattle.hurd_run.specs.Scripts.{way_of}

@@ -1,5 +1,5 @@
 -- Commands that teach nothing.
-use Rattle.std.proofs.Common.{◌≡◌, ◌≤◌, ◌+◌, refl, ap, subst, ℕ, arith, nat_lt, false, List, [], ◌∷◌, ◌++◌, drop, length}
+use Rattle.std.proofs.Common.{◌≡◌, ◌≤◌, ◌+◌, subst, ℕ, arith, nat_lt, false, List, [], ◌∷◌, ◌++◌, drop, length}
 use Rattle.std.proofs.lemmas.Bool.{le-ltb, or_from}
 use Rattle.hurd_creds.specs.declared.name.TaskId.{TaskId}
 use Rattle.hurd_machine.specs.Sound.{Sound}

@@ -1,29 +1,19 @@
 -- How far a script is.
-use Rattle.std.proofs.Common.{◌≡◌, ◌∙◌, ◌<◌, ℕ, zero, suc, List, [], ◌∷◌, Option, Some, None, Result, Ok, Err, refl, sym, ap, subst, drop, length, slice_get, nat_lt, true}
+use Rattle.std.proofs.Common.{◌≡◌, ◌∙◌, ℕ, zero, suc, List, [], ◌∷◌, refl, sym, ap, drop, length, slice_get, nat_lt, true}
 use Rattle.std.proofs.lemmas.Bool.{lt-ltb}
 use Rattle.std.specs.Option.{option_map}
-use Rattle.hurd_creds.specs.Access.{IdSets}
 use Rattle.hurd_creds.specs.Limits.{most_script}
 use Rattle.hurd_trans_iface.specs.Meaning.{begin}
 use Rattle.hurd_machine.specs.World.{World}
-use Rattle.hurd_kinds.specs.Boxes.{box_meaning}
 use Rattle.hurd_kinds.specs.declared.server_box.ServerBox.{ServerBox}
 use Rattle.hurd_script.specs.Commands.{CommandLine}
-use Rattle.hurd_script.specs.Script.{bad, commands_of, names_of, users_of}
-use Rattle.hurd_terminal.specs.declared.fault.Fault.{Fault}
-use Rattle.hurd_terminal.specs.declared.fault.Fault.TheVariants.{Read, Write, Bad, Unknown, Boot, Memory}
 use Rattle.hurd_terminal.proofs.RunLaws.{HasLimit}
-use Rattle.hurd_tmpfs.specs.Tree.{new_tmpfs}
-use Rattle.hurd_words.specs.Users.{task_of}
-use Rattle.hurd_world.specs.Boot.{boot_of, first_world}
 use Rattle.hurd_dialogue.specs.Parts.{Part}
 use Rattle.hurd_dialogue.specs.Parts as parts
-use Rattle.hurd_dialogue.specs.Sorts.{Begins, NotBegun}
-use Rattle.hurd_shell.specs.Session.{BegunWith, View, command_on, left_of, next_task}
-use Rattle.hurd_shell.specs.Transcript.{Dialogue, Maker, dialogue, ends, part_by, part_of, tells, told_by}
+use Rattle.hurd_shell.specs.Session.{View, command_on, left_of, next_task}
+use Rattle.hurd_shell.specs.Transcript.{Maker, dialogue, part_by, part_of, tells, told_by}
 use Rattle.hurd_shell.specs.declared.phase.Phase.{Phase}
 use Rattle.hurd_shell.proofs.IsolationLaws.{played_told}
-use Rattle.hurd_run.specs.Faults.{NotBooted, NotRead}
 use Rattle.hurd_run.specs.Scripts.{scripts, way_of}
 
 -- a script that is too long is bad at line 0

@@ -1,5 +1,5 @@
 -- What was told so far of the parts of a text.
-use Rattle.std.proofs.Common.{◌≡◌, ◌∙◌, ◌+◌, refl, sym, ap, subst, not, suc, Bool, true, false, ℕ, List, [], ◌∷◌, ◌++◌, length, Option, None, inl, inr, append-nil}
+use Rattle.std.proofs.Common.{◌≡◌, ◌∙◌, ◌+◌, refl, sym, ap, subst, not, suc, true, false, ℕ, List, [], ◌∷◌, ◌++◌, length, Option, None, inl, inr, append-nil}
 use Rattle.std.proofs.KnownBytes.{Appends-nil, Appends-trans}
 use Rattle.hurd_creds.specs.declared.name.TaskId.{TaskId}
 use Rattle.hurd_machine.specs.World.{World}

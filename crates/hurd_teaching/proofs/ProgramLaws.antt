@@ -1,7 +1,6 @@
 -- What a program of learners has printed of a text that was begun.
-use Rattle.std.proofs.Common.{◌≡◌, ◌∙◌, ap, sym, subst, Bool, true, false, ℕ, List, Option, Some, None, Result, Ok, Err}
+use Rattle.std.proofs.Common.{◌≡◌, ◌∙◌, ap, sym, ℕ, List, Option, Some, None, Result, Ok, Err}
 use Rattle.std.specs.Prelude.{IfErr, OnOk, drop, is_some}
-use Rattle.hurd_creds.specs.declared.name.TaskId.{TaskId}
 use Rattle.hurd_words.specs.Lines.{lines_of}
 use Rattle.hurd_dialogue.specs.Parts.{Way}
 use Rattle.hurd_dialogue.specs.Sorts.{Begins, Sort}
@@ -10,7 +9,7 @@ use Rattle.hurd_terminal.specs.declared.fault.Fault.{Fault}
 use Rattle.hurd_terminal.specs.declared.fault.Fault.TheVariants.{Unknown}
 use Rattle.hurd_terminal.specs.declared.print.Output.{Output}
 use Rattle.hurd_terminal.proofs.RunLaws.{adds_all, adds_part, adds_unknown}
-use Rattle.hurd_teaching.specs.Learners.{AreNamed, Named, numbers, tasks_named, tasks_of}
+use Rattle.hurd_teaching.specs.Learners.{Named, tasks_named}
 use Rattle.hurd_teaching.specs.Looks.{asks_of, starts_of}
 use Rattle.hurd_teaching.specs.Programs.{AreThese, learning}
 use Rattle.hurd_teaching.specs.Shown.{NotShown, Shown}

@@ -1,5 +1,5 @@
 -- One part of a text that is watched.
-use Rattle.std.proofs.Common.{◌≡◌, ◌∙◌, refl, sym, ap, subst, inl, inr, ℕ, Bool, true, false, true≢false, ◌+◌, List, ◌∷◌, ◌++◌, Option, Some, None}
+use Rattle.std.proofs.Common.{◌≡◌, ◌∙◌, refl, sym, ap, subst, inr, ℕ, Bool, true, false, true≢false, ◌+◌, List, ◌++◌, Option, Some, None}
 use Rattle.std.specs.Prelude.{if◌then◌else◌}
 use Rattle.std.specs.Io.KnownBytes.{Appends}
 use Rattle.hurd_creds.specs.declared.name.TaskId.{TaskId}
@@ -12,7 +12,7 @@ use Rattle.hurd_lessons.specs.declared.tally.Tally.{Tally}
 use Rattle.hurd_terminal.specs.Faults.{AppendsFront}
 use Rattle.hurd_teaching.specs.Learners.{Speech, is_next_quiet, is_quiet}
 use Rattle.hurd_teaching.specs.Looks.{is_due}
-use Rattle.hurd_teaching.specs.Shown.{IsTold, StepsTo, StopsAt}
+use Rattle.hurd_teaching.specs.Shown.{StepsTo, StopsAt}
 use Rattle.hurd_teaching.specs.Telling.{SaysOf, Shows}
 use Rattle.hurd_teaching.specs.Watched.{LearnedSince, Learns, SeenOf, Sees, SeesOr}
 

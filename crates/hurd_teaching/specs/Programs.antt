@@ -1,5 +1,5 @@
 -- What a program of learners prints of a text.
-use Rattle.std.specs.Prelude.{◌≡◌, ℕ, Bool, List, ◌++◌, codes, drop, is_some}
+use Rattle.std.specs.Prelude.{◌≡◌, ℕ, List, ◌++◌, codes, drop, is_some}
 use Rattle.hurd_dialogue.specs.Sorts.{Sort}
 use Rattle.hurd_lines.specs.Escapes.{escaped}
 use Rattle.hurd_terminal.specs.Faults.{IsFront}

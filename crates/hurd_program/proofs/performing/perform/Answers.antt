@@ -1,4 +1,4 @@
-use Rattle.std.proofs.Common.{Err, refl, ◌∙◌}
+use Rattle.std.proofs.Common.{Err, ◌∙◌}
 use Rattle.hurd_terminal.specs.declared.fault.Fault.TheVariants.{Memory}
 use Rattle.hurd_terminal.proofs.RunLaws.{ran_out}
 use Rattle.hurd_program.specs.Requests.{asked, sort_of}

@@ -1,6 +1,4 @@
-use Rattle.std.proofs.Common.{◌≡◌, ◌++◌, ◌∷◌, ◌∙◌, [], Option, None, ap, sym, arith}
-use Rattle.std.specs.Option.{option_map}
-use Rattle.hurd_creds.specs.declared.name.TaskId.{TaskId}
+use Rattle.std.proofs.Common.{◌≡◌, ◌++◌, ◌∷◌, [], arith}
 use Rattle.hurd_teaching.proofs.NamingLaws.{no_task, task_taken}
 use Rattle.hurd_teaching.proofs.naming.add_task.Goals as goal
 

@@ -1,4 +1,4 @@
-use Rattle.std.proofs.Common.{◌∙◌, arith, refl, sym}
+use Rattle.std.proofs.Common.{arith, refl}
 use Rattle.hurd_calls.proofs.WayLaws.{task_first, task_none}
 use Rattle.hurd_calls.proofs.list.RunningCallsTelling.task.Goals as goal
 
