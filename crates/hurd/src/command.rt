@@ -1,15 +1,13 @@
 //! How the program is called, for clap.
+use crate::release::VERSION;
 use clap::{Arg, ArgAction, Command};
 use std::alloc::{AllocError, Global};
-
-/// The version that `hurd --version` tells.
-const VERSION: &str = "0.1.0";
 
 const ABOUT: &str =
     "Runs scripts of several users' commands over a file tree in memory in which strangers serve the nodes, and says what users learn by them.";
 
 const AFTER: &str =
-    "FILE is a script, or a list of calls where its name ends with .calls; - is standard input.\nWHO is a user of the script or the number of a task of the list, or several of them between commas.\n\nExit status: 0 all went well; 1 a bad text, or somebody is named who isn't in it; 2 trouble.\nWhat is wrong is said on standard error, as hurd: FILE:LINE: bad script.\n\nExamples:\n  hurd run examples/welcome.hurd\n  hurd learns alice examples/learned-secret.hurd";
+    "FILE is a script, or a list of calls where its name ends with .calls; - is standard input.\nWHO is a user of the script or the number of a task of the list, or several of them between commas.\n\nExit status: 0 all went well; 1 a bad text, or somebody is named who isn't in it; 2 trouble.\nWhat is wrong is said on standard error, as hurd: FILE:LINE: bad script: REASON.\n\nExamples:\n  hurd run examples/welcome.hurd\n  hurd learns alice examples/learned-secret.hurd\n  hurd see alice examples/learned-secret.hurd\n  hurd draw --as alice examples/learned-secret.hurd | dot -Tsvg > picture.svg";
 
 const FILE: &str = "a script, a list of calls (NAME.calls), or - for standard input";
 
@@ -47,6 +45,21 @@ pub fn hurd<'a>(alloc: Global) -> Result<Command<'a>, AllocError> {
     )?
     .arg(word(alloc, "WHO", WHO))?
     .arg(word(alloc, "FILE", FILE))?;
+    let see = verb(alloc, "see", "Prints all that WHO see at the end")?
+        .arg(word(alloc, "WHO", WHO))?
+        .arg(word(alloc, "FILE", FILE))?;
+    let marked = Arg::new(alloc, "as")
+        .long("as")
+        .value_name("WHO")
+        .action(ArgAction::Set)
+        .help("Marks what WHO see");
+    let draw = verb(
+        alloc,
+        "draw",
+        "Prints a picture of the tree at the end, for Graphviz",
+    )?
+    .arg(marked)?
+    .arg(word(alloc, "FILE", FILE))?;
     Command::new(alloc, "hurd")
         .bin_name("hurd")?
         .version(VERSION)
@@ -55,5 +68,7 @@ pub fn hurd<'a>(alloc: Global) -> Result<Command<'a>, AllocError> {
         .subcommand_required(true)
         .arg_required_else_help(true)
         .subcommand(run)?
-        .subcommand(learns)
+        .subcommand(learns)?
+        .subcommand(see)?
+        .subcommand(draw)
 }

@@ -1,6 +1,5 @@
 //! The file that is asked for.
-ghost use Rattle.std.specs.Prelude.{◌<◌};
-
+use crate::shown::shown;
 use crate::words::{Asked, TROUBLE, trouble};
 use hurd_program::perform;
 use hurd_terminal::{Input, Output};
@@ -12,31 +11,13 @@ use std::io::{ErrorKind, IsTerminal, Read, Write};
 /// What standard input is called.
 const STANDARD_INPUT: &[u8] = b"standard input";
 
-/// A digit of base 16.
-fn digit(value: u8) -> u8
-    requires { value < 16 }
-{
-    if value < 10 {
-        b'0' + value
-    } else {
-        b'a' + (value - 10)
+/// The name of a file as it is printed, so that it is never a line of the program's own. An error is want of memory.
+fn name_of(alloc: Global, file: &str) -> Result<Vec<u8>, AllocError> {
+    if file != "-" {
+        return shown(alloc, file);
     }
-}
-
-/// The name of a file as it is printed: bytes that are no letters, digits, signs or spaces of ASCII are escapes, so that a name is never a line of the
-/// program's own. An error is want of memory.
-fn shown(alloc: Global, file: &str) -> Result<Vec<u8>, AllocError> {
     let mut name = Vec::new(alloc);
-    if file == "-" {
-        name.extend_from_slice(STANDARD_INPUT)?;
-        return Ok(name);
-    }
-    for byte in file.as_bytes() {
-        match *byte {
-            32..=126 => name.push(*byte)?,
-            other => name.extend_from_slice(&[b'\\', b'x', digit(other / 16), digit(other % 16)])?,
-        }
-    }
+    name.extend_from_slice(STANDARD_INPUT)?;
     Ok(name)
 }
 
@@ -75,7 +56,7 @@ fn unopened(rt: &HostRuntime, name: &[u8], kind: ErrorKind) -> u8 {
 
 /// Does what is asked of the file; answers the exit status.
 pub fn serve(rt: &HostRuntime, asked: &Asked) -> u8 {
-    let Ok(name) = shown(rt.alloc(), asked.file.as_str()) else {
+    let Ok(name) = name_of(rt.alloc(), asked.file.as_str()) else {
         return trouble(rt, b"hurd: out of memory\n");
     };
     if asked.file.as_str() == "-" {

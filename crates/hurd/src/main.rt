@@ -6,6 +6,8 @@
 
 mod command;
 mod files;
+mod release;
+mod shown;
 mod words;
 
 use std::process::ExitCode;

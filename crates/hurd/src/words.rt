@@ -1,6 +1,8 @@
 //! The words that the program is called with.
 use crate::command::hurd;
-use clap::ArgMatches;
+use crate::shown::all_shown;
+use clap::error::ErrorKind;
+use clap::{ArgMatches, Error};
 use hurd_program::{Request, TextSort, Verb};
 use hurd_terminal::Output;
 use std::alloc::{AllocError, Global};
@@ -25,6 +27,14 @@ fn text_of(alloc: Global, matches: &ArgMatches<'_>, id: &str) -> Result<String, 
     }
 }
 
+/// Those whose sight is marked in a picture, if any are named. An error is want of memory.
+fn named_by(alloc: Global, matches: &ArgMatches<'_>) -> Result<Option<String>, AllocError> {
+    match matches.get_str("as") {
+        Some(who) => Ok(Some(String::from_str(alloc, who)?)),
+        None => Ok(None),
+    }
+}
+
 /// What is asked by a verb and its words. An error is want of memory.
 fn request_of(alloc: Global, verb: &str, matches: &ArgMatches<'_>) -> Result<Asked, AllocError> {
     let file = text_of(alloc, matches, "FILE")?;
@@ -37,6 +47,12 @@ fn request_of(alloc: Global, verb: &str, matches: &ArgMatches<'_>) -> Result<Ask
         "learns" => Verb::Learns {
             who: text_of(alloc, matches, "WHO")?,
         },
+        "see" => Verb::Sees {
+            who: text_of(alloc, matches, "WHO")?,
+        },
+        "draw" => Verb::Draws {
+            who: named_by(alloc, matches)?,
+        },
         _ => Verb::Run,
     };
     let request = Request { sort, verb };
@@ -48,6 +64,42 @@ pub fn trouble(rt: &HostRuntime, line: &[u8]) -> u8 {
     let mut errors = Output::new(rt.stderr());
     let _ = errors.print(line);
     TROUBLE
+}
+
+/// Prints what clap says in the place of an answer: help, the version, or what is wrong with words that are printed as they are. Answers the exit status.
+fn tell(rt: &HostRuntime, error: &Error) -> u8 {
+    if matches!(error.kind(), ErrorKind::OutOfMemory) {
+        return trouble(rt, b"hurd: out of memory\n");
+    }
+    let _ = error.print(rt);
+    error.exit_code() as u8
+}
+
+/// Whether words are refused: neither do they ask for help or the version, nor is there no memory.
+fn is_refusal(error: &Error) -> bool {
+    error.use_stderr() && !matches!(error.kind(), ErrorKind::OutOfMemory)
+}
+
+/// What clap says of words that it refuses; nothing of words that it takes. An error is want of memory.
+fn refusal(alloc: Global, words: &[String]) -> Result<Option<Error>, AllocError> {
+    let command = hurd(alloc)?;
+    Ok(command.try_get_matches_from(words).err())
+}
+
+/// Says what is wrong with words that clap refuses, by what it says of them with escapes, so that no word is a line or a control code of the program's own. It
+/// refuses these for the same reason, since no name of a verb or an option has a byte that is escaped. Answers the exit status.
+fn refuse(rt: &HostRuntime, words: &[String]) -> u8 {
+    let Ok(words) = all_shown(rt.alloc(), words) else {
+        return trouble(rt, b"hurd: out of memory\n");
+    };
+    match refusal(rt.alloc(), words.as_slice()) {
+        Ok(Some(error)) => tell(rt, &error),
+        Ok(None) => trouble(
+            rt,
+            b"hurd: a word of the command line is no printable text\n",
+        ),
+        Err(_) => trouble(rt, b"hurd: out of memory\n"),
+    }
 }
 
 /// What these words ask; else the exit status, where help or what is wrong with them was printed.
@@ -64,10 +116,8 @@ fn parsed(rt: &HostRuntime, words: &[String]) -> Result<Asked, u8> {
             },
             None => Err(TROUBLE),
         },
-        Err(error) => {
-            let _ = error.print(rt);
-            Err(error.exit_code() as u8)
-        }
+        Err(error) if is_refusal(&error) => Err(refuse(rt, words)),
+        Err(error) => Err(tell(rt, &error)),
     }
 }
 

@@ -1,2 +1,3 @@
 pub mod CallingLaws
 pub mod WayLaws
+pub mod ComplaintLaws

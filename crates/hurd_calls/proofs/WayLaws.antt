@@ -1,5 +1,5 @@
 -- How far a list of calls is.
-use Rattle.std.proofs.Common.{◌≡◌, ◌+◌, ℕ, List, [], ◌∷◌, Some, None, ◌<◌, refl, sym, ap, arith, map, length, nat_lt, slice_index_or, true}
+use Rattle.std.proofs.Common.{◌≡◌, ◌+◌, ◌∙◌, codes, ℕ, List, [], ◌∷◌, Some, None, ◌<◌, refl, sym, ap, arith, map, length, nat_lt, slice_index_or, true}
 use Rattle.std.proofs.lemmas.Bool.{lt-ltb}
 use Rattle.hurd_creds.specs.Limits.{most_script}
 use Rattle.hurd_kinds.specs.Boxes.{box_meaning}
@@ -13,8 +13,17 @@ use Rattle.hurd_calls.specs.Lists.{lists, way_of}
 use Rattle.hurd_calls.specs.Making.{after_call, part_of, parts_of}
 
 -- a list that is too long is bad at line 0
-pub lists_limited : HasLimit lists.bad
-lists_limited xs long = let test : nat_lt most_script (length xs) ≡ true = lt-ltb _ _ long in rw test refl
+is_long : (xs : List ℕ) → 1048576 < length xs → nat_lt most_script (length xs) ≡ true
+is_long xs long = lt-ltb _ _ long
+
+said_long : (xs : List ℕ) → 1048576 < length xs → lists.complaint xs ≡ codes ": longer than 1048576 bytes\n"
+said_long xs long = rw (is_long xs long) refl
+
+pub lists_limited : HasLimit lists.bad lists.complaint
+lists_limited = record {
+  cut = λ xs long. rw (is_long xs long) refl;
+  same = λ xs ys long longer. said_long xs long ∙ sym (said_long ys longer);
+}
 
 -- the next call is made
 pub call_goes : (w x : Whole ServerBox) (c : ListedCall ServerBox) (calls rest : List (ListedCall ServerBox)) (n m tasks : ℕ) (part : List ℕ) → calls ≡ c ∷ rest → m ≡ n + 1
@@ -28,9 +37,12 @@ call_goes w x c calls rest n m tasks part is count text next = (
 )
 
 -- none is left
-pub none_goes : (w x : Whole ServerBox) (calls rest : List (ListedCall ServerBox)) (n m tasks : ℕ) → calls ≡ [] → Goes (way_of w calls n tasks) None (way_of x rest m tasks)
+pub none_goes : (w : Whole ServerBox) (calls rest : List (ListedCall ServerBox)) (n tasks : ℕ) → calls ≡ [] → rest ≡ calls → Goes (way_of w calls n tasks) None (way_of w rest n tasks)
 unfolding parts_of
-none_goes w x calls rest n m tasks none = ap (λ (cs : List (ListedCall ServerBox)). parts_of (map (listed_by box_meaning) cs) (world_of box_meaning w)) none
+none_goes w calls rest n tasks none same = (
+  ap (λ (cs : List (ListedCall ServerBox)). parts_of (map (listed_by box_meaning) cs) (world_of box_meaning w)) none,
+  ap (λ (cs : List (ListedCall ServerBox)). way_of w cs n tasks) same,
+)
 
 -- the task of the next
 

@@ -1,7 +1,7 @@
 -- The tasks of a list, by their numbers.
 use Rattle.std.specs.Prelude.{ℕ, List, ◌++◌, Option, Some, None, if◌then◌else◌, codes, length, nat_lt, option_and_then}
 use Rattle.hurd_creds.specs.declared.name.TaskId.{TaskId}
-use Rattle.hurd_numbers.specs.Numbers.{number_of}
+use Rattle.hurd_creds.specs.Numbers.{number_of}
 
 -- a number below this count
 abbrev pub below : ℕ → ℕ → Option ℕ

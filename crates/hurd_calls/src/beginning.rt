@@ -1,18 +1,21 @@
 //! Reading a list, and beginning the world of its tasks.
-ghost use Rattle.std.specs.Prelude.{◌≡◌, Ok, IfErr, IfOk};
+ghost use Rattle.std.specs.Prelude.{◌≡◌, Ok, Err, IfErr, IfOk};
 ghost use Rattle.hurd_tmpfs.specs.Tree.{new_tmpfs};
 ghost use Rattle.hurd_world.specs.Boot.{boot_of, first_world};
 ghost use Rattle.hurd_world.specs.Held.{world_of};
-ghost use Rattle.hurd_lists.specs.Lists.{reading_of, said_by};
+ghost use Rattle.hurd_kinds.specs.Boxes.{box_meaning};
+ghost use Rattle.hurd_lists.specs.Lists.{Parses, reading_of, said_by};
 ghost use Rattle.hurd_calls.specs.Faults.{NotBegun, NotRead};
+ghost use Rattle.hurd_calls.specs.Lists.{lists};
 
 use hurd_creds::{Errno, Ids};
-use hurd_dialogue::boxed;
+use hurd_dialogue::{boxed, complaint};
+use hurd_kinds::ServerBox;
 use hurd_lists::{CallList, ListFault, parse_calls};
 use hurd_terminal::Fault;
 use hurd_trans_iface::Server;
 use hurd_world::World;
-use std::alloc::Global;
+use std::alloc::{AllocError, Global};
 
 /// A world of tasks over an empty tree in memory.
 ///
@@ -38,7 +41,28 @@ pub fn parsed<S: Server>(alloc: Global, text: &[u8]) -> Result<CallList<S>, Faul
 {
     match parse_calls(alloc, text) {
         Ok(list) => Ok(list),
-        Err(ListFault::Bad { line }) => Err(Fault::Bad { line }),
+        Err(ListFault::Bad { line, .. }) => Err(Fault::Bad { line }),
         Err(ListFault::Memory) => Err(Fault::Memory),
+    }
+}
+
+/// The same of a list that was not read for this reason.
+fn blamed(alloc: Global, text: &[u8], fault: ListFault) -> Result<Vec<u8>, AllocError>
+    requires { Parses box_meaning (reading_of text.now) (Err fault) }
+    ensures { IfOk result (λ said. said.items ≡ lists.complaint text.now) }
+{
+    match fault {
+        ListFault::Bad { line, flaw } => complaint(alloc, ": bad calls: ", text, line, flaw.text()),
+        ListFault::Memory => Err(AllocError),
+    }
+}
+
+/// What is said behind the name of a file whose list is bad: the line, why, and what stands there; of a good one nothing. An error is want of memory.
+pub fn complaint_of(alloc: Global, text: &[u8]) -> Result<Vec<u8>, AllocError>
+    ensures { IfOk result (λ said. said.items ≡ lists.complaint text.now) }
+{
+    match parse_calls::<ServerBox>(alloc, text) {
+        Ok(_) => Ok(Vec::new(alloc)),
+        Err(fault) => blamed(alloc, text, fault),
     }
 }

@@ -9,6 +9,6 @@ mod beginning;
 mod calling;
 mod list;
 
-pub use beginning::{begun, parsed};
+pub use beginning::{begun, complaint_of, parsed};
 pub use calling::{brought, part};
 pub use list::RunningCalls;

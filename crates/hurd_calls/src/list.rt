@@ -3,13 +3,12 @@ ghost use Rattle.std.specs.Prelude.{◌≡◌, ◌+◌, ◌<◌, ◌≤◌, leng
 ghost use Rattle.hurd_calls.specs.Lists.{lists, way_of};
 ghost use Rattle.hurd_calls.specs.Tasks.{noun_of, task_of};
 
-use crate::beginning::{begun, parsed};
+use crate::beginning::{begun, complaint_of, parsed};
 use crate::calling::{brought, part};
-use hurd_creds::{Bytes, TaskId};
+use hurd_creds::{Bytes, TaskId, number};
 use hurd_dialogue::{Telling, boxed};
 use hurd_kinds::{ServerBox, empty_tree};
 use hurd_lists::{CallList, ListedCall};
-use hurd_numbers::number;
 use hurd_terminal::Fault;
 use hurd_world::World;
 use std::alloc::{AllocError, Global};
@@ -93,6 +92,10 @@ impl Telling for RunningCalls {
         self.tasks + 1
     }
 
+    fn names(&self) -> &[String] {
+        &[]
+    }
+
     fn finds(&self, name: &str) -> Option<TaskId> {
         match task_of(self.tasks, name) {
             Some(task) => Some(TaskId(task)),
@@ -110,8 +113,8 @@ impl Telling for RunningCalls {
         b" call"
     }
 
-    fn complaint() -> &'static str {
-        ": bad calls\n"
+    fn complaint(alloc: Global, text: &[u8]) -> Result<Vec<u8>, AllocError> {
+        complaint_of(alloc, text)
     }
 
     fn stranger() -> &'static [u8] {

@@ -6,7 +6,7 @@ ghost use Rattle.hurd_tmpfs.specs.Tree.{new_tmpfs};
 
 use crate::boxes::Boxes;
 use crate::counted::Counted;
-use hurd_calls::{begun, brought, parsed, part};
+use hurd_calls::{begun, brought, complaint_of, parsed, part};
 use hurd_creds::Ids;
 use hurd_kinds::{ServerBox, empty_tree};
 use hurd_lists::{CallList, ListedCall};
@@ -107,23 +107,42 @@ fn run_text<W: Write>(alloc: Global, text: &[u8], output: &mut Output<W>) -> Res
     boxes.tell(alloc, output)
 }
 
-/// Reads a list, and runs it. `Read`; else as `run_text`.
-fn run<R: Read, W: Write>(
-    alloc: Global,
-    input: &mut Input<R>,
-    output: &mut Output<W>,
-) -> Result<(), Fault> {
-    let text = read_text(alloc, input)?;
-    run_text(alloc, text.as_slice(), output)
+/// Says why a list is bad, or that memory was refused for that; answers the exit status.
+fn blame<E: Write>(alloc: Global, text: &[u8], line: u64, errors: &mut Output<E>) -> u8 {
+    match complaint_of(alloc, text) {
+        Ok(said) => finish(
+            Err(Fault::Bad { line }),
+            b"standard input",
+            said.as_slice(),
+            b"",
+            errors,
+        ),
+        Err(_) => finish(Err(Fault::Memory), b"standard input", b"", b"", errors),
+    }
 }
 
-/// The whole program: runs a list, and says of a fault why; answers the exit status.
+/// Runs a list, and says of a fault why; answers the exit status.
+fn run<W: Write, E: Write>(
+    alloc: Global,
+    text: &[u8],
+    output: &mut Output<W>,
+    errors: &mut Output<E>,
+) -> u8 {
+    match run_text(alloc, text, output) {
+        Err(Fault::Bad { line }) => blame(alloc, text, line, errors),
+        ended => finish(ended, b"standard input", b"", b"", errors),
+    }
+}
+
+/// The whole program: reads a list, runs it, and says of a fault why; answers the exit status.
 pub fn program<R: Read, W: Write, E: Write>(
     alloc: Global,
     input: &mut Input<R>,
     output: &mut Output<W>,
     errors: &mut Output<E>,
 ) -> u8 {
-    let ended = run(alloc, input, output);
-    finish(ended, b"standard input", ": bad calls\n", b"", errors)
+    match read_text(alloc, input) {
+        Ok(text) => run(alloc, text.as_slice(), output, errors),
+        Err(fault) => finish(Err(fault), b"standard input", b"", b"", errors),
+    }
 }

@@ -6,3 +6,4 @@ pub mod StepLaws
 pub mod AppendLaws
 pub mod TakeLaws
 pub mod CompareLaws
+pub mod NumberLemmas

@@ -7,3 +7,4 @@ pub mod NameMaps
 pub mod Memory
 pub mod Stats
 pub mod Limits
+pub mod Numbers

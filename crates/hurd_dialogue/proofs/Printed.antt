@@ -30,7 +30,7 @@ module _ (whole : List ℕ) (before now : Option (List ℕ)) (old : Way) (so : P
 
   -- no part is left
   pub all_printed : (new : Way) → Goes old None new → Appends before now whole
-  all_printed new none = subst (λ (bs : List ℕ). Appends before now bs) (sym (so.split ∙ (ap (λ (ps : List Part). so.printed ++ joined ps) none ∙ append-nil so.printed))) so.appends
+  all_printed new none = subst (λ (bs : List ℕ). Appends before now bs) (sym (so.split ∙ (ap (λ (ps : List Part). so.printed ++ joined ps) none.0 ∙ append-nil so.printed))) so.appends
 
   module _ (new : Way) (text : List ℕ) (goes : Goes old (Some text) new) where
     split_on : whole ≡ (so.printed ++ text) ++ joined new.left

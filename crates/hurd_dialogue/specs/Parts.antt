@@ -22,16 +22,22 @@ abbrev pub next_task : List Part → Option ℕ
 next_task [] = None
 next_task (part ∷ rest) = Some part.task
 
+-- the world behind parts that are told one after another, from a world on
+unfoldable pub world_behind : World → List Part → World
+world_behind w [] = w
+world_behind w (part ∷ rest) = world_behind part.world rest
+
 -- a text on its way: what it has still to tell, the world that was left so far, and how many parts were told; by how many lines that say
--- something its parts are preceded, and one; and the task of a name, if it is in it
+-- something its parts are preceded, and one; the names of its tasks, if these have names; and the task of a name, if it is in it
 pub record Way : Type 0 where
   pub left : List Part
   pub world : World
   pub told : ℕ
   pub heading : ℕ
+  pub names : List (List ℕ)
   pub finds : List ℕ → Option ℕ
 
--- the next part was told, and this is its text; or there is none
+-- the next part was told, and this is its text; or there is none, and nothing changed
 abbrev pub Goes : Way → Option (List ℕ) → Way → Type 0
-Goes old None new = old.left ≡ []
+Goes old None new = (old.left ≡ []) × (new ≡ old)
 Goes old (Some text) new = (task : ℕ) × (old.left ≡ record { task = task; text = text; world = new.world } ∷ new.left) × (new.told ≡ old.told + 1)

@@ -1,14 +1,16 @@
 //! A text on its way through a world of its own, a script or a list of calls: it tells parts, one after another.
 //!
-//! `Telling` is what both are. `play` prints all that one tells, and `transcribe` begins a text and does so.
+//! `Telling` is what both are. `play` prints all that one tells, `play_silently` goes to its end, and `transcribe` begins a text and does so. `complaint` is what is said of a bad line.
 //!
 //! It knows no script and no list: those are the crates above, which say what a text of their sort tells.
 #![tactic(auto)]
 
 mod boxing;
+mod complaining;
 mod playing;
 mod telling;
 
 pub use boxing::boxed;
-pub use playing::{play, transcribe};
+pub use complaining::complaint;
+pub use playing::{play, play_silently, transcribe};
 pub use telling::Telling;

@@ -3,12 +3,12 @@ ghost use Rattle.std.specs.Prelude.{◌≡◌, ◌≢◌, true, Err, IfErr, OnOk
 ghost use Rattle.std.specs.Io.KnownBytes.{Appends};
 ghost use Rattle.hurd_terminal.specs.Faults.{AppendsFront, IsPrintFault};
 ghost use Rattle.hurd_terminal.specs.Runs.{Adds};
-ghost use Rattle.hurd_dialogue.specs.Parts.{joined};
+ghost use Rattle.hurd_dialogue.specs.Parts.{joined, world_behind};
 ghost use Rattle.hurd_dialogue.specs.Sorts.{running};
 
 use crate::telling::Telling;
 use hurd_terminal::{Fault, Output};
-use std::alloc::Global;
+use std::alloc::{AllocError, Global};
 use std::io::Write;
 
 /// Prints all that is left to tell.
@@ -26,6 +26,14 @@ pub fn play<T: Telling, W: Write>(
     while let Some(part) = telling.next(alloc)? {
         output.print(part.as_slice())?;
     }
+    Ok(())
+}
+
+/// Goes on to the end, and prints nothing of what is left to tell. An error is want of memory.
+pub fn play_silently<T: Telling>(alloc: Global, telling: &mut T) -> Result<(), AllocError>
+    ensures { OnOk result ((T.way telling.new).world ≡ world_behind (T.way telling.old).world (T.way telling.old).left) }
+{
+    while let Some(_part) = telling.next(alloc)? {}
     Ok(())
 }
 

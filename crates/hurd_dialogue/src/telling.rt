@@ -1,5 +1,5 @@
 //! A text on its way.
-ghost use Rattle.std.specs.Prelude.{◌≡◌, ◌≤◌, IfErr, IfOk, length};
+ghost use Rattle.std.specs.Prelude.{◌≡◌, IfErr, IfOk, map, string_bytes};
 ghost use Rattle.std.specs.Option.{option_map};
 ghost use Rattle.hurd_creds.specs.declared.name.TaskId.{TaskId};
 ghost use Rattle.hurd_kinds.specs.Boxes.{box_meaning};
@@ -28,7 +28,7 @@ pub trait Telling: Drop {
         ensures ok { IfOk result (λ telling. Begins sort text.now (way telling.value)) }
         ensures err { IfErr result (λ fault. NotBegun sort text.now fault) };
 
-    /// The next part; none where all were told. An error is want of memory, and then no more is told.
+    /// The next part; none where all were told, and then nothing changes. An error is want of memory: the part is lost, and the text is to be dropped.
     fn next(&mut self, alloc: Global) -> Result<Option<Bytes>, AllocError>
         ensures { IfOk result (λ part. Goes (way self.old) part (way self.new)) };
 
@@ -48,6 +48,10 @@ pub trait Telling: Drop {
     fn heading(&self) -> usize
         ensures { result ≡ (way self.now).heading };
 
+    /// The names of its tasks, in order; none where these have no names.
+    fn names(&self) -> &[String]
+        ensures { map string_bytes result.now ≡ (way self.now).names };
+
     /// The task of a name, if it is in the text.
     fn finds(&self, name: &str) -> Option<TaskId>
         ensures { option_map (λ (t : TaskId). t.0) result ≡ (way self.now).finds name.now };
@@ -60,10 +64,9 @@ pub trait Telling: Drop {
     fn thing() -> &'static [u8]
         ensures { result.now ≡ sort.thing };
 
-    /// What is said behind the number of a bad line.
-    fn complaint() -> &'static str
-        ensures says { result.now ≡ sort.complaint }
-        ensures fits { length result.now ≤ 13 };
+    /// What is said behind the name of a file whose text is bad: the line, why, and what stands there; of a good text nothing. An error is want of memory.
+    fn complaint(alloc: Global, text: &[u8]) -> Result<Vec<u8>, AllocError>
+        ensures { IfOk result (λ said. said.items ≡ sort.complaint text.now) };
 
     /// What is said in front of somebody who isn't in a text.
     fn stranger() -> &'static [u8]

@@ -11,7 +11,7 @@ use Rattle.hurd_creds.specs.declared.attrs.Kind.TheVariants.{File, Dir, Link, Fi
 use Rattle.hurd_creds.specs.declared.attrs.Stat.{Stat}
 use Rattle.hurd_creds.specs.declared.name.Name.{Name}
 use Rattle.hurd_creds.specs.declared.open_flags.OpenFlags.{OpenFlags}
-use Rattle.hurd_lines.specs.Lines.{kind_letter, octal_digit, six_octal_digits, spaced, stat_words, text_if}
+use Rattle.hurd_words.specs.Printing.{kind_letter, octal_digit, six_octal_digits, spaced, stat_words, text_if}
 use Rattle.hurd_ports.specs.Tables.{Task}
 use Rattle.hurd_ports.specs.declared.table.Opened.{Opened}
 use Rattle.hurd_ports.specs.declared.table.PendingStart.{PendingStart}

@@ -8,10 +8,10 @@ ghost use Rattle.hurd_lessons.specs.Values.{with_part, words_or_none};
 use crate::opens::opened_by_tasks;
 use crate::values::{add_part, part, push_all_words, push_bytes};
 use hurd_creds::{Attrs, Bytes, Ids, Name, NodeName, OpenFlags, ServerName};
-use hurd_lines::{kind_letter, push_if, push_long_number, push_number, push_stat};
 use hurd_places::{node_path, server_path};
 use hurd_sentences::{push_name, push_word, push_words};
 use hurd_views::{BodyRow, EntryRow, NodeRow, OpenRow, Row, ServerRow, TextRow, View};
+use hurd_words::printing::{kind_letter, push_if, push_long_number, push_number, push_stat};
 use itoa::Buffer;
 use std::alloc::{AllocError, Global};
 

@@ -1,7 +1,7 @@
 //! What is seen of some tasks themselves, a line for each.
 ghost use Rattle.std.specs.Prelude.{◌≡◌, ◌++◌, codes, length, IfOk, OnOk, Some};
 ghost use Rattle.std.specs.Option.{option_map};
-ghost use Rattle.hurd_lines.specs.Lines.{spaced};
+ghost use Rattle.hurd_words.specs.Printing.{spaced};
 ghost use Rattle.hurd_lessons.specs.Seen.{uid_text, port_numbers, seat_line, seat_lines, seat_text, start_text, task_text};
 ghost use Rattle.hurd_lessons.specs.Values.{with_part};
 ghost use Rattle.hurd_ports.specs.Seats.{seat_task};
@@ -10,10 +10,10 @@ use crate::lines::add_from;
 use crate::seen_parts::uid_of;
 use crate::values::{part, push_all_words};
 use hurd_creds::{Ids, TaskId};
-use hurd_lines::push_number;
 use hurd_places::node_path;
 use hurd_ports::{PendingStart, Port, Right, TaskSeat};
 use hurd_views::{SeatRow, View};
+use hurd_words::printing::push_number;
 use std::alloc::{AllocError, Global};
 
 /// Adds the part of whom a task acts for.

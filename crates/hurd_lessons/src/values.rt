@@ -4,10 +4,10 @@ ghost use Rattle.hurd_lessons.specs.Values.{bytes_change, kind_part, mode_part, 
 
 use bitflags::Flags;
 use hurd_creds::{Bytes, Kind, Mode, NodeName, ServerName};
-use hurd_lines::{kind_letter, octal_digit, push_long_number, push_mode};
 use hurd_places::{node_path, server_path};
 use hurd_sentences::{push_word, push_words};
 use hurd_views::View;
+use hurd_words::printing::{kind_letter, octal_digit, push_long_number, push_mode};
 use std::alloc::{AllocError, Global};
 
 /// What stands for a value that isn't there.

@@ -17,7 +17,7 @@ use Rattle.hurd_machine.specs.declared.call.Whence.{Whence}
 use Rattle.hurd_machine.specs.declared.call.Whence.TheVariants.{Set, Current, End}
 use Rattle.hurd_words.specs.declared.fault.ReadFault.{ReadFault}
 use Rattle.hurd_words.specs.declared.fault.ReadFault.TheVariants as fault
-use Rattle.hurd_numbers.specs.Numbers as script
+use Rattle.hurd_creds.specs.Numbers as script
 use Rattle.hurd_words.specs.Users as users
 
 -- what was to be read is read, or is bad; no memory is taken for it

@@ -3,5 +3,6 @@ pub mod Arguments
 pub mod Verbs
 pub mod Reading
 pub mod Calls
+pub mod Flaws
 pub mod Lists
 pub mod Replies

@@ -4,8 +4,8 @@ use Rattle.hurd_creds.specs.Bits as bit
 use Rattle.hurd_creds.specs.Errors.{name_of}
 use Rattle.hurd_creds.specs.declared.attrs.Stat.{Stat}
 use Rattle.hurd_creds.specs.declared.open_flags.OpenFlags.{OpenFlags}
-use Rattle.hurd_lines.specs.Escapes.{escaped}
-use Rattle.hurd_lines.specs.Lines.{octal_digit, six_octal_digits, spaced, text_if}
+use Rattle.hurd_words.specs.Escapes.{escaped}
+use Rattle.hurd_words.specs.Printing.{octal_digit, six_octal_digits, spaced, text_if}
 use Rattle.hurd_machine.specs.declared.call.Lookup.{Lookup}
 use Rattle.hurd_machine.specs.declared.call.Lookup.TheVariants as lookup
 use Rattle.hurd_machine.specs.Calls.{Reply}

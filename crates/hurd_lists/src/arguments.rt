@@ -43,7 +43,7 @@ pub fn number(word: &[u8]) -> Result<u32, ReadFault>
     ensures { Finds (λ n. n) (number_of word.now) result }
 {
     let digits = text(word)?;
-    wanted(hurd_numbers::number(digits))
+    wanted(hurd_creds::number(digits))
 }
 
 /// A number below 2 to the 64th.
@@ -51,7 +51,7 @@ pub fn long_number(word: &[u8]) -> Result<u64, ReadFault>
     ensures { Finds (λ n. n) (long_number_of word.now) result }
 {
     let digits = text(word)?;
-    wanted(hurd_numbers::long_number(digits.as_bytes()))
+    wanted(hurd_creds::long_number(digits.as_bytes()))
 }
 
 /// A number that may be below zero.
@@ -105,7 +105,7 @@ pub fn mode(word: &[u8]) -> Result<Mode, ReadFault>
     ensures { Finds (λ m. m) (mode_of word.now) result }
 {
     let digits = text(word)?;
-    let bits = wanted(hurd_numbers::octal_number(digits))?;
+    let bits = wanted(hurd_creds::octal_number(digits))?;
     Ok(<Mode as Flags>::from_bits_retain(bits))
 }
 

@@ -4,18 +4,20 @@
 //! `task UIDS GIDS` each, in order from task 0, then calls, a line `TASK CALL ARG..` each. Lines that are empty, only spaces
 //! or begin with `#` are skipped. Words are of printable ASCII, between spaces; in a word `\s` is a space, `\n` a newline,
 //! `\\` a backslash and `\xHH` the byte of two hexadecimal digits. `call_of` says which call a name and its arguments make,
-//! and `told` prints a call's line with its reply.
+//! and `told` prints a call's line with its reply. `ListFlaw` says why a line is bad.
 //!
 //! It makes no call: that is the world's. Nor does it make the server that a call brings: it reads the words of it.
 #![tactic(auto)]
 
 mod arguments;
 mod calls;
+mod flaw;
 mod reader;
 mod replies;
 mod verb;
 mod words;
 
 pub use calls::with_server;
+pub use flaw::ListFlaw;
 pub use reader::{CallList, ListFault, ListedCall, parse_calls};
 pub use replies::told;

@@ -1,17 +1,23 @@
 //! Reading a list of calls.
-ghost use Rattle.std.specs.Prelude.{◌≡◌, codes};
-ghost use Rattle.hurd_words.specs.Reading.{Reads, said};
+ghost use Rattle.std.specs.Prelude.{◌≡◌, ◌==◌, codes};
+ghost use Rattle.std.specs.List.{slice_split};
+ghost use Rattle.hurd_words.specs.Reading.{good_words, said};
 ghost use Rattle.hurd_words.specs.Users.{begins_with};
-ghost use Rattle.hurd_lists.specs.Lists.{Parses, call_from, fault_at, read_from, reading_of, said_by, task_from, unsaid, with_call, with_line, with_task};
+ghost use Rattle.hurd_lists.specs.Arguments.{ids_of, task_of};
+ghost use Rattle.hurd_lists.specs.Calls.{begun, call_of, server_of};
+ghost use Rattle.hurd_lists.specs.Flaws.{Gives, found_or};
+ghost use Rattle.hurd_lists.specs.Words.{bytes_of};
+ghost use Rattle.hurd_machine.specs.Calls.{call_by};
+ghost use Rattle.hurd_lists.specs.Lists.{Parses, call_from, fault_at, listed_by, read_from, reading_of, said_by, unsaid, verb_named, with_call, with_line, with_task};
 
 use crate::arguments::{ids, task, text};
 use crate::calls::{call_of, server_of};
-use crate::verb::verb_of;
+use crate::flaw::{LineFault, ListFlaw, or_flaw};
+use crate::verb::{Verb, verb_of};
 use crate::words::words_of;
 use hurd_creds::{Bytes, Ids, MOST_SCRIPT, MOST_TASKS, TaskId};
 use hurd_machine::Call;
 use hurd_trans_iface::{Server, Words};
-use hurd_words::fault::ReadFault;
 use hurd_words::lines::{is_skipped, skip_spaces, without_end};
 use hurd_words::words::pieces;
 use std::alloc::{AllocError, Global};
@@ -40,8 +46,8 @@ pub struct CallList<S = Box<dyn Server>> {
 /// Why a list of calls was not read.
 #[derive(Clone, Copy, Debug, PartialEq, Eq)]
 pub enum ListFault {
-    /// It is bad at this line, counted from 1; at line 0 where it is longer than 1,048,576 bytes.
-    Bad { line: u64 },
+    /// It is bad at this line, counted from 1, and for this reason; at line 0 where it is longer than 1,048,576 bytes.
+    Bad { line: u64, flaw: ListFlaw },
     Memory,
 }
 
@@ -68,56 +74,124 @@ impl<S: Server> CallList<S> {
     }
 
     /// Reads a task line's words.
-    fn take_task(&mut self, alloc: Global, words: &[Bytes]) -> Result<(), ReadFault>
-        ensures { Reads (λ _. said_by S.meaning self.new) (with_task (said_by S.meaning self.old) (task_from words.now)) result }
+    fn take_task(&mut self, alloc: Global, words: &[Bytes]) -> Result<(), LineFault>
+        ensures { Gives (λ _. said_by S.meaning self.new) (with_task (said_by S.meaning self.old) words.now) result }
     {
         let [_, uids, gids] = words else {
-            return Err(ReadFault::Bad);
+            return Err(LineFault::Bad(ListFlaw::TaskForm));
         };
-        if !self.calls.is_empty() || self.tasks.len() >= MOST_TASKS {
-            return Err(ReadFault::Bad);
+        if !self.calls.is_empty() {
+            return Err(LineFault::Bad(ListFlaw::LateTask));
         }
-        let ids = ids(alloc, uids.as_slice(), gids.as_slice())?;
+        if self.tasks.len() >= MOST_TASKS {
+            return Err(LineFault::Bad(ListFlaw::TaskCount));
+        }
+        let ids = ids_on(alloc, uids.as_slice(), gids.as_slice())?;
         self.tasks.push(ids)?;
         Ok(())
     }
 
     /// Reads a call line, of these words.
-    fn take_call(&mut self, alloc: Global, line: &[u8], words: &[Bytes]) -> Result<(), ReadFault>
-        ensures { Reads (λ _. said_by S.meaning self.new) (with_call (said_by S.meaning self.old) (call_from line.now words.now)) result }
+    fn take_call(&mut self, alloc: Global, line: &[u8], words: &[Bytes]) -> Result<(), LineFault>
+        ensures { Gives (λ _. said_by S.meaning self.new) (with_call (said_by S.meaning self.old) (call_from line.now words.now)) result }
     {
-        let [number, name, args @ ..] = words else {
-            return Err(ReadFault::Bad);
-        };
-        let task = task(number.as_slice())?;
-        let Some(verb) = verb_of(text(name.as_slice())?) else {
-            return Err(ReadFault::Bad);
-        };
-        let line = Bytes::copied(alloc, without_end(skip_spaces(line)))?;
-        let call = call_of(alloc, verb, args)?;
-        let server = server_of(alloc, verb, args)?;
-        self.calls.push(ListedCall {
-            task,
-            call,
-            line,
-            server,
-        })?;
+        let call = call_on(alloc, line, words)?;
+        self.calls.push(call)?;
         Ok(())
     }
 
     /// Reads a line.
-    fn take_line(&mut self, alloc: Global, line: &[u8]) -> Result<(), ReadFault>
-        ensures { Reads (λ _. said_by S.meaning self.new) (with_line (said_by S.meaning self.old) line.now) result }
+    fn take_line(&mut self, alloc: Global, line: &[u8]) -> Result<(), LineFault>
+        ensures { Gives (λ _. said_by S.meaning self.new) (with_line (said_by S.meaning self.old) line.now) result }
     {
         if is_skipped(line) {
             return Ok(());
         }
-        let words = words_of(alloc, line)?;
+        let words = words_on(alloc, line)?;
         if is_task_line(words.as_slice()) {
             self.take_task(alloc, words.as_slice())
         } else {
             self.take_call(alloc, line, words.as_slice())
         }
+    }
+}
+
+/// The words of a line.
+fn words_on(alloc: Global, line: &[u8]) -> Result<Vec<Bytes>, LineFault>
+    ensures { Gives (λ v. v.items) (found_or ListFlaw.Word (good_words bytes_of (slice_split (λ b. b == 32) line.now))) result }
+{
+    or_flaw(words_of(alloc, line), ListFlaw::Word)
+}
+
+/// The ids that two lists name.
+fn ids_on(alloc: Global, uids: &[u8], gids: &[u8]) -> Result<Ids, LineFault>
+    ensures { Gives (λ ids. ids) (found_or ListFlaw.TaskIds (ids_of uids.now gids.now)) result }
+{
+    or_flaw(ids(alloc, uids, gids), ListFlaw::TaskIds)
+}
+
+/// The task of a number.
+fn task_on(number: &[u8]) -> Result<TaskId, LineFault>
+    ensures { Gives (λ task. task) (found_or ListFlaw.TaskNumber (task_of number.now)) result }
+{
+    or_flaw(task(number), ListFlaw::TaskNumber)
+}
+
+/// The call of a name with these arguments.
+fn named_call<S: Server>(alloc: Global, verb: Verb, args: &[Bytes]) -> Result<Call<S>, LineFault>
+    ensures { Gives (λ call. call_by S.meaning call) (found_or ListFlaw.Arguments (call_of verb args.now)) result }
+{
+    or_flaw(call_of(alloc, verb, args), ListFlaw::Arguments)
+}
+
+/// The words of the server that it brings, if it brings one.
+fn named_server(alloc: Global, verb: Verb, args: &[Bytes]) -> Result<Option<Words>, LineFault>
+    ensures { Gives begun (found_or ListFlaw.Server (server_of verb args.now)) result }
+{
+    or_flaw(server_of(alloc, verb, args), ListFlaw::Server)
+}
+
+/// What the call of a name is.
+fn verb_on(name: &[u8]) -> Result<Verb, LineFault>
+    ensures { Gives (λ verb. verb) (found_or ListFlaw.OtherCall (verb_named name.now)) result }
+{
+    match verb_named(name) {
+        Some(verb) => Ok(verb),
+        None => Err(LineFault::Bad(ListFlaw::OtherCall)),
+    }
+}
+
+/// The call of a line of these words.
+fn call_on<S: Server>(
+    alloc: Global,
+    line: &[u8],
+    words: &[Bytes],
+) -> Result<ListedCall<S>, LineFault>
+    ensures { Gives (listed_by S.meaning) (call_from line.now words.now) result }
+{
+    let [number, name, args @ ..] = words else {
+        return Err(LineFault::Bad(ListFlaw::CallForm));
+    };
+    let task = task_on(number.as_slice())?;
+    let verb = verb_on(name.as_slice())?;
+    let call = named_call(alloc, verb, args)?;
+    let server = named_server(alloc, verb, args)?;
+    let line = Bytes::copied(alloc, without_end(skip_spaces(line)))?;
+    Ok(ListedCall {
+        task,
+        call,
+        line,
+        server,
+    })
+}
+
+/// The call of a name.
+fn verb_named(name: &[u8]) -> Option<Verb>
+    ensures { result ≡ verb_named name.now }
+{
+    match text(name) {
+        Ok(name) => verb_of(name),
+        Err(_) => None,
     }
 }
 
@@ -146,12 +220,12 @@ fn read_lines<S: Server>(alloc: Global, lines: &[&[u8]]) -> Result<CallList<S>, 
 }
 
 /// The fault of a line.
-fn fault_at(fault: ReadFault, line: u64) -> ListFault
+fn fault_at(fault: LineFault, line: u64) -> ListFault
     ensures { result ≡ fault_at fault line }
 {
     match fault {
-        ReadFault::Bad => ListFault::Bad { line },
-        ReadFault::Memory => ListFault::Memory,
+        LineFault::Bad(flaw) => ListFault::Bad { line, flaw },
+        LineFault::Memory => ListFault::Memory,
     }
 }
 
@@ -159,7 +233,7 @@ fn fault_at(fault: ReadFault, line: u64) -> ListFault
 ///
 /// Errors: `Bad` at line 0 for a list of more than 1,048,576 bytes; else `Bad` at its first bad line, one with a byte or a
 /// backslash that no word has, a task line of another form, behind a call or one too many, another line that is
-/// no call, or words behind `box` that no kind of server takes.
+/// no call, or words behind `box` that no kind of server takes; with the first of these tests that it fails.
 /// `Memory` where memory is refused.
 ///
 /// Limits: 64 tasks, and 32 different uids and gids each.
@@ -167,7 +241,10 @@ pub fn parse_calls<S: Server>(alloc: Global, list: &[u8]) -> Result<CallList<S>,
     ensures { Parses S.meaning (reading_of list.now) result }
 {
     if list.len() > MOST_SCRIPT {
-        return Err(ListFault::Bad { line: 0 });
+        return Err(ListFault::Bad {
+            line: 0,
+            flaw: ListFlaw::Length,
+        });
     }
     let lines = pieces(alloc, list, b'\n')?;
     read_lines(alloc, lines.as_slice())

@@ -5,9 +5,10 @@ ghost use Rattle.hurd_lists.specs.Replies.{flags_text, high_digit, high_digits, 
 
 use bitflags::Flags;
 use hurd_creds::{Bytes, Kind, Mode, OpenFlags, Stat};
-use hurd_lines::{octal_digit, push_escaped, push_if, push_mode, push_number};
 use hurd_machine::{Lookup, Reply, RetryKind};
 use hurd_trans_iface::Server;
+use hurd_words::escapes::push_escaped;
+use hurd_words::printing::{octal_digit, push_if, push_mode, push_number};
 use std::alloc::{AllocError, Global};
 
 /// Prints bytes behind `=`.

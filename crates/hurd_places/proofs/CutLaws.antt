@@ -3,8 +3,8 @@ use Rattle.std.proofs.Common.{◌≡◌, inl, inr, ◌∙◌, refl, sym, ap, ℕ
 use Rattle.std.specs.Fmt.{digit_glyph, digits, digits_onto}
 use Rattle.std.specs.List.{list_all}
 use Rattle.std.proofs.lemmas.Bool.{and_from, cases_Bool, ltb-true as below, ltb-false as above, ne_eqb, not_from_false, not_from_true, or_from, or_parts}
-use Rattle.hurd_lines.specs.Escapes.{escaped_byte, hex_letter}
-use Rattle.hurd_lines.specs.Lines.{spaced}
+use Rattle.hurd_words.specs.Escapes.{escaped_byte, hex_letter}
+use Rattle.hurd_words.specs.Printing.{spaced}
 use Rattle.hurd_sentences.specs.Spelling.{by_number, is_joint, spelled_by, spelled_byte, spelled_name}
 use Rattle.hurd_sentences.proofs.Bytes.{all_both, all_first, all_rest, first_same}
 use Rattle.hurd_sentences.proofs.SpellingLaws.{more_bytes, no_bytes}

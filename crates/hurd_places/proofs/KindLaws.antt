@@ -3,7 +3,7 @@ use Rattle.std.proofs.Common.{◌≡◌, ◌⊎◌, inl, inr, ◌∙◌, refl, s
 use Rattle.std.proofs.lemmas.List.{append_cancel_left}
 use Rattle.hurd_creds.specs.declared.name.Name.{Name}
 use Rattle.hurd_creds.specs.declared.name.TaskId.{TaskId}
-use Rattle.hurd_lines.specs.Lines.{text_if}
+use Rattle.hurd_words.specs.Printing.{text_if}
 use Rattle.hurd_ports.specs.Tables.{Task}
 use Rattle.hurd_ports.specs.declared.table.Port.{Port}
 use Rattle.hurd_sight.specs.Found.{why_of}

@@ -6,7 +6,7 @@ use Rattle.std.proofs.lemmas.Bool.{cases_Bool, eqb-true, ltb-false}
 use Rattle.std.proofs.lemmas.Fmt.{decimal_injective}
 use Rattle.std.proofs.lemmas.List.{append_cancel_left}
 use Rattle.hurd_creds.specs.declared.name.TaskId.{TaskId}
-use Rattle.hurd_lines.specs.Lines.{spaced}
+use Rattle.hurd_words.specs.Printing.{spaced}
 use Rattle.hurd_ports.specs.Sound.{NumbersRise}
 use Rattle.hurd_ports.specs.Tables.{Task, rights_of, start_of}
 use Rattle.hurd_ports.specs.declared.table.PendingStart.{PendingStart}

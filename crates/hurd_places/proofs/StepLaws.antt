@@ -4,7 +4,7 @@ use Rattle.std.proofs.lemmas.Bool.{eqb-true}
 use Rattle.std.proofs.lemmas.Fmt.{decimal_injective}
 use Rattle.std.proofs.lemmas.List.{append_cancel_left, append_cancel_right}
 use Rattle.hurd_creds.specs.declared.name.Name.{Name}
-use Rattle.hurd_lines.specs.Lines.{spaced, text_if}
+use Rattle.hurd_words.specs.Printing.{spaced, text_if}
 use Rattle.hurd_sentences.specs.Spelling.{spelled_name}
 use Rattle.hurd_sentences.proofs.Bytes.{all_both, first_same}
 use Rattle.hurd_sentences.proofs.SpellsBack.{spells_back}

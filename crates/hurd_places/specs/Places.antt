@@ -5,7 +5,7 @@ use Rattle.std.specs.Option.{option_map, option_or}
 use Rattle.hurd_creds.specs.declared.name.Name.{Name}
 use Rattle.hurd_creds.specs.declared.name.TaskId.{TaskId}
 use Rattle.hurd_creds.specs.Names.{same_name}
-use Rattle.hurd_lines.specs.Lines.{spaced, text_if}
+use Rattle.hurd_words.specs.Printing.{spaced, text_if}
 use Rattle.hurd_ports.specs.Tables.{Task}
 use Rattle.hurd_ports.specs.declared.table.IoRight.{IoRight}
 use Rattle.hurd_ports.specs.declared.table.Port.{Port}

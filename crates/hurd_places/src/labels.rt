@@ -1,14 +1,14 @@
 //! How rights are called that tasks have.
 ghost use Rattle.std.specs.Prelude.{◌≡◌, ◌++◌, Some, codes, OnOk};
-ghost use Rattle.hurd_lines.specs.Lines.{spaced, text_if};
+ghost use Rattle.hurd_words.specs.Printing.{spaced, text_if};
 ghost use Rattle.hurd_ports.specs.Seats.{seat_task};
 ghost use Rattle.hurd_places.specs.Places.{beside, beside_port, beside_ports, beside_task, beside_tasks, holder_word, is_held, is_wanted, label_of, label_of_task, label_of_tasks, label_or, label_text, names_tasks, port_wanted, sent_wanted, wants};
 
 use hurd_creds::{NodeName, OpenName, TaskId};
-use hurd_lines::push_number;
 use hurd_ports::{IoRight, Port, Right, TaskSeat};
 use hurd_sight::Why;
 use hurd_views::{SeatRow, View};
+use hurd_words::printing::push_number;
 use std::alloc::AllocError;
 
 /// What holds a right of a task.

@@ -7,10 +7,10 @@ ghost use Rattle.hurd_places.specs.Places.{beneath, count_to, entry_name, is_ali
 use crate::labels::{Wanted, push_label_or};
 use crate::servers::{is_covered, target_at};
 use hurd_creds::NodeName;
-use hurd_lines::push_number;
 use hurd_sentences::push_name;
 use hurd_sight::{Found, Why};
 use hurd_views::{BodyRow, EntryRow, View};
+use hurd_words::printing::push_number;
 use std::alloc::{AllocError, Global};
 
 /// What stands for a name that isn't seen, and for a node.

@@ -9,19 +9,25 @@ use Rattle.hurd_program.specs.declared.request.Request.{Request}
 use Rattle.hurd_program.specs.declared.request.TextSort.{TextSort}
 use Rattle.hurd_program.specs.declared.request.TextSort.TheVariants.{Script, Calls}
 use Rattle.hurd_program.specs.declared.request.Verb.{Verb}
-use Rattle.hurd_program.specs.declared.request.Verb.TheVariants.{Run, Learns}
+use Rattle.hurd_program.specs.declared.request.Verb.TheVariants.{Run, Learns, Sees, Draws}
 
 -- a text that is too long is bad at line 0, whatever is asked of it
-limited_of : (sort : TextSort) (verb : Verb) → HasLimit (asked_of (sort_of sort) verb).bad
+limited_of : (sort : TextSort) (verb : Verb) → HasLimit (asked_of (sort_of sort) verb).bad (asked_of (sort_of sort) verb).complaint
 limited_of Script Run = scripts_limited
 limited_of Script (Learns who) = scripts_limited
+limited_of Script (Sees who) = scripts_limited
+limited_of Script (Draws who) = scripts_limited
 limited_of Calls Run = lists_limited
 limited_of Calls (Learns who) = lists_limited
+limited_of Calls (Sees who) = lists_limited
+limited_of Calls (Draws who) = lists_limited
 
-pub limited : (request : Request) → HasLimit (asked request).bad
+pub limited : (request : Request) → HasLimit (asked request).bad (asked request).complaint
 limited request = limited_of request.sort request.verb
 
 -- and what is said of a bad line is said for each sort
 pub complains : (sort : Sort) (verb : Verb) → sort.complaint ≡ (asked_of sort verb).complaint
 complains sort Run = refl
 complains sort (Learns who) = refl
+complains sort (Sees who) = refl
+complains sort (Draws who) = refl

@@ -1,25 +1,28 @@
 -- The program that was asked for.
-use Rattle.std.specs.Prelude.{string_bytes}
+use Rattle.std.specs.Prelude.{string_bytes, option_map}
 use Rattle.hurd_calls.specs.Lists.{lists}
 use Rattle.hurd_dialogue.specs.Sorts.{Sort, running}
+use Rattle.hurd_drawing.specs.Drawings.{drawing}
 use Rattle.hurd_run.specs.Scripts.{scripts}
-use Rattle.hurd_teaching.specs.Programs.{learning}
+use Rattle.hurd_teaching.specs.Programs.{learning, seeing}
 use Rattle.hurd_terminal.specs.Runs.{Program}
 use Rattle.hurd_program.specs.declared.request.Request.{Request}
 use Rattle.hurd_program.specs.declared.request.TextSort.{TextSort}
 use Rattle.hurd_program.specs.declared.request.TextSort.TheVariants.{Script, Calls}
 use Rattle.hurd_program.specs.declared.request.Verb.{Verb}
-use Rattle.hurd_program.specs.declared.request.Verb.TheVariants.{Run, Learns}
+use Rattle.hurd_program.specs.declared.request.Verb.TheVariants.{Run, Learns, Sees, Draws}
 
 -- scripts or lists of calls
 abbrev pub sort_of : TextSort → Sort
 sort_of Script = scripts
 sort_of Calls = lists
 
--- what is told, or that with what some learn
+-- what is told, that with what some learn, what they see at the end, or a picture of that
 abbrev pub asked_of : Sort → Verb → Program
 asked_of sort Run = running sort
 asked_of sort (Learns who) = learning sort (string_bytes who)
+asked_of sort (Sees who) = seeing sort (string_bytes who)
+asked_of sort (Draws who) = drawing sort (option_map string_bytes who)
 
 abbrev pub asked : Request → Program
 asked request = asked_of (sort_of request.sort) request.verb

@@ -1,20 +1,23 @@
 //! What is asked is done.
-ghost use Rattle.std.specs.Prelude.{◌≡◌, ◌≢◌, ◌≤◌, ◌++◌, true, Err, IfOk, codes, length};
-ghost use Rattle.hurd_terminal.specs.Runs.{Adds, Blames, Exits, Ran};
-ghost use Rattle.hurd_lines.specs.Escapes.{escaped};
+ghost use Rattle.std.specs.Prelude.{◌≡◌, ◌≢◌, ◌⊎◌, ◌++◌, [], true, Result, Err, IfOk, codes};
+ghost use Rattle.hurd_terminal.specs.declared.fault.Fault.{Fault};
+ghost use Rattle.hurd_terminal.specs.Faults.{Says, line_of, status_of};
+ghost use Rattle.hurd_terminal.specs.Runs.{Adds, Ends, Exits};
+ghost use Rattle.hurd_words.specs.Escapes.{escaped};
 ghost use Rattle.hurd_program.specs.Requests.{asked, asked_of, sort_of};
 
 use crate::request::{Request, TextSort, Verb};
 use hurd_calls::RunningCalls;
 use hurd_dialogue::{Telling, transcribe};
-use hurd_lines::push_escaped;
+use hurd_drawing::draw_text;
 use hurd_run::RunningScript;
-use hurd_teaching::learn_text;
+use hurd_teaching::{learn_text, see_text};
 use hurd_terminal::{Fault, Input, Output, finish, read_text};
+use hurd_words::escapes::push_escaped;
 use std::alloc::{AllocError, Global};
 use std::io::{Read, Write};
 
-/// Does what is asked of a text of some sort. Faults as of `transcribe` and of `learn_text`.
+/// Does what is asked of a text of some sort. Faults as of `transcribe`, `learn_text`, `see_text` and `draw_text`.
 fn done_of<T: Telling, W: Write>(
     alloc: Global,
     verb: &Verb,
@@ -28,6 +31,8 @@ fn done_of<T: Telling, W: Write>(
     match verb {
         Verb::Run => transcribe::<T, W>(alloc, text, output),
         Verb::Learns { who } => learn_text::<T, W>(alloc, who.as_str(), text, output),
+        Verb::Sees { who } => see_text::<T, W>(alloc, who.as_str(), text, output),
+        Verb::Draws { who } => draw_text::<T, W>(alloc, who, text, output),
     }
 }
 
@@ -48,31 +53,31 @@ fn done<W: Write>(
     }
 }
 
-/// Reads a text, and does what is asked of it.
-///
-/// `Read` where it can't be read; `Bad` with the line at which it is bad, `Boot` with its world's refusal, `Unknown` where somebody is named who isn't in it:
-/// then nothing is printed. `Write` where something can't be written, `Memory` at any point: then a front is.
-fn run<R: Read, W: Write>(
-    alloc: Global,
-    request: &Request,
-    input: &mut Input<R>,
-    output: &mut Output<W>,
-) -> Result<(), Fault>
-    ensures ran { Ran (asked request.now) (R.remaining input.old.reader) (W.contents output.old.writer) (W.contents output.new.writer) result }
-    ensures blames { Blames input.new output.new result }
-{
-    let text = read_text(alloc, input)?;
-    done(alloc, request, text.as_slice(), output)
-}
-
-/// What stands behind the number of a bad line.
-fn complaint(sort: TextSort) -> &'static str
-    ensures says { result.now ≡ (sort_of sort).complaint }
-    ensures fits { length result.now ≤ 13 }
+/// What is said behind the name of a file whose text is bad. An error is want of memory.
+fn complaint(alloc: Global, sort: TextSort, text: &[u8]) -> Result<Vec<u8>, AllocError>
+    ensures { IfOk result (λ said. said.items ≡ (sort_of sort).complaint text.now) }
 {
     match sort {
-        TextSort::Script => RunningScript::complaint(),
-        TextSort::Calls => RunningCalls::complaint(),
+        TextSort::Script => RunningScript::complaint(alloc, text),
+        TextSort::Calls => RunningCalls::complaint(alloc, text),
+    }
+}
+
+/// Says of a file why its text is bad, at this line, or that memory was refused for that; answers the exit status.
+fn blame<E: Write>(
+    alloc: Global,
+    sort: TextSort,
+    text: &[u8],
+    line: u64,
+    file: &[u8],
+    errors: &mut Output<E>,
+) -> u8
+    ensures { (ended : Result (Unit {0}) Fault) × ((ended ≡ Err (Fault.Bad line)) ⊎ (ended ≡ Err Fault.Memory))
+        × Says E.contents errors.old errors.new (line_of file.now ((sort_of sort).complaint text.now) [] ended) × (result ≡ status_of ended) }
+{
+    match complaint(alloc, sort, text) {
+        Ok(said) => finish(Err(Fault::Bad { line }), file, said.as_slice(), b"", errors),
+        Err(_) => finish(Err(Fault::Memory), file, b"", b"", errors),
     }
 }
 
@@ -102,7 +107,30 @@ fn stranger_line(alloc: Global, request: &Request) -> Result<Vec<u8>, AllocError
 {
     match &request.verb {
         Verb::Run => Ok(Vec::new(alloc)),
-        Verb::Learns { who } => named_line(alloc, stranger(request.sort), who.as_str()),
+        Verb::Learns { who } | Verb::Sees { who } => {
+            named_line(alloc, stranger(request.sort), who.as_str())
+        }
+        Verb::Draws { who: Some(who) } => named_line(alloc, stranger(request.sort), who.as_str()),
+        Verb::Draws { who: None } => Ok(Vec::new(alloc)),
+    }
+}
+
+/// Does what is asked of a text, and says of a fault why, by the name of its file; answers the exit status.
+fn perform_on<W: Write, E: Write>(
+    alloc: Global,
+    request: &Request,
+    stranger: &[u8],
+    file: &[u8],
+    text: &[u8],
+    output: &mut Output<W>,
+    errors: &mut Output<E>,
+) -> u8
+    requires { stranger.now ≡ (asked request.now).stranger }
+    ensures { Ends (asked request.now) file.now text.now W.contents E.contents output.old output.new errors.old errors.new result }
+{
+    match done(alloc, request, text, output) {
+        Err(Fault::Bad { line }) => blame(alloc, request.sort, text, line, file, errors),
+        ended => finish(ended, file, b"", stranger, errors),
     }
 }
 
@@ -118,20 +146,18 @@ pub fn perform<R: Read, W: Write, E: Write>(
     ensures { Exits (asked request.now) file.now R.remaining W.contents E.contents input.old input.new output.old output.new errors.old errors.new result }
 {
     let Ok(stranger) = stranger_line(alloc, request) else {
-        return finish(
-            Err(Fault::Memory),
-            file,
-            complaint(request.sort),
-            b"",
-            errors,
-        );
+        return finish(Err(Fault::Memory), file, b"", b"", errors);
     };
-    let ended = run(alloc, request, input, output);
-    finish(
-        ended,
-        file,
-        complaint(request.sort),
-        stranger.as_slice(),
-        errors,
-    )
+    match read_text(alloc, input) {
+        Ok(text) => perform_on(
+            alloc,
+            request,
+            stranger.as_slice(),
+            file,
+            text.as_slice(),
+            output,
+            errors,
+        ),
+        Err(fault) => finish(Err(fault), file, b"", b"", errors),
+    }
 }

@@ -1,14 +1,18 @@
 -- What a session tells, with the servers that the words make.
-use Rattle.std.proofs.Common.{◌≡◌, ◌∙◌, ◌<◌, ◌+◌, Bool, true, false, ℕ, zero, suc, List, [], ◌∷◌, Option, Some, None, IfSome, Ok, inl, inr, refl, sym, ap, subst, arith}
+use Rattle.std.proofs.Common.{◌≡◌, ◌∙◌, ◌<◌, ◌+◌, length, slice_get, Bool, true, false, ℕ, zero, suc, List, [], ◌∷◌, Option, Some, None, IfSome, Ok, inl, inr, refl, sym, ap, subst, arith}
 use Rattle.std.specs.Option.{option_map}
+use Rattle.std.proofs.lemmas.Bool.{and_parts, ltb-true}
 use Rattle.hurd_trans_iface.specs.Meaning.{Begins, Meaning, begin}
 use Rattle.hurd_kinds.specs.Boxes.{box_meaning}
 use Rattle.hurd_kinds.specs.declared.server_box.ServerBox.{ServerBox}
 use Rattle.hurd_dialogue.specs.Parts.{Goes, Part}
-use Rattle.hurd_shell.specs.Session.{Answers, Takes, TakesUnlessFailed, Tells, View, has_failed, left_in, waits_for}
+use Rattle.hurd_dialogue.specs.Parts as parts
+use Rattle.hurd_script.specs.Commands.{CommandLine}
+use Rattle.hurd_shell.specs.Session.{Answers, Takes, TakesUnlessFailed, Tells, View, has_failed, left_in, next_task, waits_for}
 use Rattle.hurd_shell.specs.Transcript.{AsksFor, Dialogue, Maker, ends, tells, wants, told_by}
 use Rattle.hurd_shell.specs.declared.session.Want.TheVariants.{Done, Output, Server}
 use Rattle.hurd_run.specs.Scripts.{way_of}
+use Rattle.hurd_run.proofs.WayLaws.{task_next}
 
 -- one part
 part_told : (make : Maker) (d rest : Dialogue) (part : Part) → d ≡ tells part rest → told_by make d ≡ part ∷ told_by make rest
@@ -57,9 +61,19 @@ fewer_by false n = omega arith
 pub record Asking (start s : View ServerBox) : Type 0 where
   pub left : has_failed s ≡ false → told_by begin (left_in box_meaning s) ≡ told_by begin (left_in box_meaning start)
   pub given : has_failed s ≡ false → s.given ≡ start.given
+  pub idle : has_failed s ≡ false → next_task s ≡ None → s ≡ start
+
+-- who waits for a server has a command on its way
+got_some : (cs : List CommandLine) (n : ℕ) → n < length cs → option_map (λ (c : CommandLine). c.task) (slice_get cs n) ≡ None → ⊥
+got_some [] n within none = omega (arith, within)
+got_some (c ∷ cs) zero within none = cc
+got_some (c ∷ cs) (suc n) within none = got_some cs n (omega (arith, within)) none
+
+waits_next : (s : View ServerBox) → waits_for s ≡ true → next_task s ≡ None → ⊥
+waits_next s waits none = got_some s.commands s.given (ltb-true _ _ (and_parts _ _ waits).1) none
 
 pub asking_none : (s : View ServerBox) → Asking s s
-asking_none s = record { left = λ _. refl; given = λ _. refl }
+asking_none s = record { left = λ _. refl; given = λ _. refl; idle = λ _ _. refl }
 
 module _ (start s x : View ServerBox) (so : Asking start s) (fine : has_failed s ≡ false) where
   -- a part was told
@@ -72,7 +86,10 @@ module _ (start s x : View ServerBox) (so : Asking start s) (fine : has_failed s
 
   -- all were
   pub asked_end : Tells box_meaning s (Ok Done) x → (names : List (List ℕ)) → Goes (way_of start names) None (way_of x names)
-  asked_end done names = sym (so.left fine) ∙ ends_told begin (left_in box_meaning s) done.0
+  asked_end done names =
+      let none = ends_told begin (left_in box_meaning s) done.0 in
+      let idle = so.idle fine (task_next s names ∙ ap parts.next_task none) in
+      (sym (so.left fine) ∙ none, ap (λ (v : View ServerBox). way_of v names) (done.1 ∙ idle))
 
   -- a server was asked for, and what its words make was the answer
   module _ (words : List (List ℕ)) (wish : Tells box_meaning s (Ok (Server words)) x) (server : Option ServerBox) (made : option_map box_meaning server ≡ begin words) where
@@ -95,6 +112,7 @@ module _ (start s x : View ServerBox) (so : Asking start s) (fine : has_failed s
             sym (answered_told begin (left_in box_meaning x) (left_in box_meaning u) words asks (answers (took_fine still)))
             ∙ (ap (told_by begin) wish.0 ∙ so.left fine);
         given = λ still. (took_fine still).5 ∙ (wish.5 ∙ so.given fine);
+        idle = λ still none. absurd (waits_next x asked_waits (sym (took_fine still).4 ∙ none));
       }
 
       was : turns_left s ≡ suc (wants_by begin (left_in box_meaning x))

@@ -1,3 +1,4 @@
 pub mod AskedLaws
 pub mod WayLaws
 pub mod SilenceLaws
+pub mod ComplaintLaws

@@ -1,5 +1,5 @@
 -- How far a script is.
-use Rattle.std.proofs.Common.{◌≡◌, ◌∙◌, ℕ, zero, suc, List, [], ◌∷◌, refl, sym, ap, drop, length, slice_get, nat_lt, true}
+use Rattle.std.proofs.Common.{◌≡◌, ◌<◌, ◌∙◌, codes, ℕ, zero, suc, List, [], ◌∷◌, refl, sym, ap, drop, length, slice_get, nat_lt, true}
 use Rattle.std.proofs.lemmas.Bool.{lt-ltb}
 use Rattle.std.specs.Option.{option_map}
 use Rattle.hurd_creds.specs.Limits.{most_script}
@@ -15,10 +15,21 @@ use Rattle.hurd_shell.specs.Transcript.{Maker, dialogue, part_by, part_of, tells
 use Rattle.hurd_shell.specs.declared.phase.Phase.{Phase}
 use Rattle.hurd_shell.proofs.IsolationLaws.{played_told}
 use Rattle.hurd_run.specs.Scripts.{scripts, way_of}
+use Rattle.hurd_run.proofs.ComplaintLaws.{bad_said}
+use Rattle.hurd_script.specs.declared.flaw.ScriptFlaw.TheVariants.{Length}
 
 -- a script that is too long is bad at line 0
-pub scripts_limited : HasLimit scripts.bad
-scripts_limited xs long = let test : nat_lt most_script (length xs) ≡ true = lt-ltb _ _ long in rw test refl
+is_long : (xs : List ℕ) → 1048576 < length xs → nat_lt most_script (length xs) ≡ true
+is_long xs long = lt-ltb _ _ long
+
+said_long : (xs : List ℕ) → 1048576 < length xs → scripts.complaint xs ≡ codes ": longer than 1048576 bytes\n"
+said_long xs long = bad_said xs 0 Length (rw (is_long xs long) refl) (rw (is_long xs long) refl)
+
+pub scripts_limited : HasLimit scripts.bad scripts.complaint
+scripts_limited = record {
+  cut = λ xs long. rw (is_long xs long) refl;
+  same = λ xs ys long longer. said_long xs long ∙ sym (said_long ys longer);
+}
 
 -- the next task
 

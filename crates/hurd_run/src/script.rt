@@ -2,7 +2,7 @@
 ghost use Rattle.std.specs.Prelude.{◌≤◌, length, map, string_bytes};
 ghost use Rattle.hurd_run.specs.Scripts.{scripts, way_of};
 
-use crate::session::{booted, next_part, parsed};
+use crate::session::{booted, complaint_of, next_part, parsed};
 use hurd_creds::{Bytes, TaskId};
 use hurd_dialogue::{Telling, boxed};
 use hurd_kinds::{ServerBox, empty_tree};
@@ -63,6 +63,10 @@ impl Telling for RunningScript {
         self.names.len()
     }
 
+    fn names(&self) -> &[String] {
+        self.names.as_slice()
+    }
+
     fn finds(&self, name: &str) -> Option<TaskId> {
         match task_of(self.names.as_slice(), name) {
             Some(task) => Some(TaskId(task as u32)),
@@ -78,8 +82,8 @@ impl Telling for RunningScript {
         b" command"
     }
 
-    fn complaint() -> &'static str {
-        ": bad script\n"
+    fn complaint(alloc: Global, text: &[u8]) -> Result<Vec<u8>, AllocError> {
+        complaint_of(alloc, text)
     }
 
     fn stranger() -> &'static [u8] {

@@ -1,15 +1,16 @@
 //! A session whose servers are made of the words that it asks for.
 ghost use Rattle.std.specs.Prelude.{◌≡◌, ◌≤◌, ℕ, None, Ok, IfErr, IfOk, List, length, map, string_bytes};
 ghost use Rattle.hurd_tmpfs.specs.Tree.{new_tmpfs};
+ghost use Rattle.hurd_script.specs.Flaws.{FaultOf};
 ghost use Rattle.hurd_script.specs.Script.{bad, commands_of, names_of, users_of};
 ghost use Rattle.hurd_shell.specs.Session.{BegunWith};
 ghost use Rattle.hurd_world.specs.Boot.{boot_of};
 ghost use Rattle.hurd_dialogue.specs.Parts.{Goes};
 ghost use Rattle.hurd_run.specs.Faults.{NotBooted, NotRead};
-ghost use Rattle.hurd_run.specs.Scripts.{way_of};
+ghost use Rattle.hurd_run.specs.Scripts.{scripts, way_of};
 
 use hurd_creds::Bytes;
-use hurd_dialogue::boxed;
+use hurd_dialogue::{boxed, complaint};
 use hurd_kinds::{ServerBox, server_for};
 use hurd_script::{Script, ScriptFault, parse_script};
 use hurd_shell::{Session, Want};
@@ -28,8 +29,31 @@ pub(crate) fn parsed(alloc: Global, text: &[u8]) -> Result<Script, Fault>
 {
     match parse_script(alloc, text) {
         Ok(script) => Ok(script),
-        Err(ScriptFault::Bad { line }) => Err(Fault::Bad { line }),
+        Err(ScriptFault::Bad { line, .. }) => Err(Fault::Bad { line }),
         Err(ScriptFault::Memory) => Err(Fault::Memory),
+    }
+}
+
+/// The same of a script that was not read for this reason.
+fn blamed(alloc: Global, text: &[u8], fault: ScriptFault) -> Result<Vec<u8>, AllocError>
+    requires { FaultOf text.now fault }
+    ensures { IfOk result (λ said. said.items ≡ scripts.complaint text.now) }
+{
+    match fault {
+        ScriptFault::Bad { line, flaw } => {
+            complaint(alloc, ": bad script: ", text, line, flaw.text())
+        }
+        ScriptFault::Memory => Err(AllocError),
+    }
+}
+
+/// What is said behind the name of a file whose script is bad: the line, why, and what stands there; of a good one nothing. An error is want of memory.
+pub(crate) fn complaint_of(alloc: Global, text: &[u8]) -> Result<Vec<u8>, AllocError>
+    ensures { IfOk result (λ said. said.items ≡ scripts.complaint text.now) }
+{
+    match parse_script(alloc, text) {
+        Ok(_) => Ok(Vec::new(alloc)),
+        Err(fault) => blamed(alloc, text, fault),
     }
 }
 

@@ -8,7 +8,7 @@ use Rattle.hurd_creds.specs.declared.errno.Errno.TheVariants.{EINVAL}
 use Rattle.hurd_trans_iface.specs.Words.{is_within_limits, words_of}
 use Rattle.hurd_script.specs.Flags.{flags_of, is_flag_word, operands_of}
 use Rattle.hurd_script.specs.Actions.{asked, asked_by, chown_action, fsysopts_action, within_limits}
-use Rattle.hurd_numbers.specs.Numbers.{number_of}
+use Rattle.hurd_creds.specs.Numbers.{number_of}
 use Rattle.hurd_script.specs.Usage.{lone, three}
 use Rattle.hurd_script.specs.declared.command.Verb.TheVariants.{Chown}
 use Rattle.hurd_script.specs.declared.command.Action.TheVariants as action

@@ -5,17 +5,18 @@ use Rattle.std.proofs.lemmas.List.{at_drop_more, take_more}
 use Rattle.std.proofs.lemmas.List.Elements.{filter_map-append}
 use Rattle.std.proofs.lemmas.List.Folds.{list_any-append}
 use Rattle.std.proofs.Math.Bool.{or-false, or-true}
+use Rattle.std.proofs.Math.Nat.{add-sub_cancel}
 use Rattle.hurd_creds.specs.Access.{IdSets}
 use Rattle.hurd_words.specs.Lines.{Turn, is_skipped, turns, turns_after}
 use Rattle.hurd_words.specs.Words.{is_bad_word, text_of, words_of, written_words}
 use Rattle.hurd_words.specs.Users.{Declaration, begins_with, declaration_of, declared_ids, declared_name, has_room_for, may_declare_some, task_of}
 use Rattle.hurd_script.specs.Commands.{CommandLine, command_at, command_from, command_of, header_of, is_bad_command, is_command_line, verb_of}
 use Rattle.hurd_script.specs.Script.{first_bad, is_bad_line, user_at}
-use Rattle.hurd_words.specs.Reading.{Reads}
-use Rattle.hurd_script.specs.Reading.{LineFaultOf, Standing, fault_at, standing, with_command, with_declared, with_line, with_user}
+use Rattle.hurd_script.specs.Flaws.{Blames, LineFaultOf, ReadsLine, fault_at, line_flaw}
+use Rattle.hurd_script.specs.Reading.{Standing, standing, with_command, with_declared, with_line, with_user}
 use Rattle.hurd_script.specs.declared.command.Verb.{Verb}
-use Rattle.hurd_words.specs.declared.fault.ReadFault.{ReadFault}
-use Rattle.hurd_words.specs.declared.fault.ReadFault.TheVariants as read_fault
+use Rattle.hurd_script.specs.declared.flaw.LineFault.{LineFault}
+use Rattle.hurd_script.specs.declared.flaw.LineFault.TheVariants as told
 
 -- one thing more at the end of a list
 filter_map-one : {Y : Type 0} (o : Option Y) → cons_option o [] ≡ option_to_list o
@@ -143,8 +144,11 @@ bad_line lines i before h b w =
     bad_from-next (i + 1) lines i h ∙ rw p refl
 
 -- a line that was not read
-pub line_fault : (lines : List (List ℕ)) (i : ℕ) (before after : Standing) (fault : ReadFault) → i < length lines → before ≡ standing (take i lines)
-    → bad_from (i + 1) (take i lines) (drop i lines) ≡ first_bad lines → Reads {X = Unit {0}} (λ _. after) (with_line before (get_or lines i [])) (Err fault)
+pub line_fault : (lines : List (List ℕ)) (i : ℕ) (before after : Standing) (fault : LineFault) → i < length lines → before ≡ standing (take i lines)
+    → bad_from (i + 1) (take i lines) (drop i lines) ≡ first_bad lines
+    → ReadsLine {X = Unit {0}} (λ _. after) (with_line before (get_or lines i [])) (Err fault) → Blames {X = Unit {0}} (line_flaw before (get_or lines i [])) (Err fault)
     → LineFaultOf lines (fault_at fault (i + 1))
-line_fault lines i before after read_fault.Memory h b e w = tt
-line_fault lines i before after read_fault.Bad h b e w = sym e ∙ bad_line lines i before h b w
+line_fault lines i before after told.Memory h b e w f = tt
+line_fault lines i before after (told.Bad flaw) h b e w f =
+    let same : line_flaw (standing (take i lines)) (get_or lines i []) ≡ Some flaw = ap (λ (s : Standing). line_flaw s (get_or lines i [])) (sym b) ∙ f in
+    (sym e ∙ bad_line lines i before h b w, rw (add-sub_cancel i 1) same)

@@ -3,7 +3,7 @@ use Rattle.std.specs.Prelude.{ℕ, List, [], ◌∷◌, Option, Some, None, if�
 use Rattle.std.specs.Option.{option_map_or}
 use Rattle.hurd_creds.specs.declared.mode.Mode.{Mode}
 use Rattle.hurd_trans_iface.specs.Words.{is_within_limits}
-use Rattle.hurd_numbers.specs.Numbers.{number_of}
+use Rattle.hurd_creds.specs.Numbers.{number_of}
 use Rattle.hurd_words.specs.Modes.{mode_of}
 use Rattle.hurd_script.specs.Places.{place_of}
 use Rattle.hurd_script.specs.Commands.{CommandLine}

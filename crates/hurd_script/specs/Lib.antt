@@ -6,3 +6,4 @@ pub mod Actions
 pub mod Script
 pub mod Usage
 pub mod Reading
+pub mod Flaws

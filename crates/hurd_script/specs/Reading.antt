@@ -7,12 +7,8 @@ use Rattle.hurd_words.specs.Lines.{is_skipped}
 use Rattle.hurd_words.specs.Users.{Declaration, begins_with, declaration_of, declared_ids, has_room_for, names_before}
 use Rattle.hurd_words.specs.Reading.{good_words}
 use Rattle.hurd_words.specs.Words.{text_of}
-use Rattle.hurd_words.specs.declared.fault.ReadFault.{ReadFault}
-use Rattle.hurd_words.specs.declared.fault.ReadFault.TheVariants as fault
 use Rattle.hurd_script.specs.Commands.{CommandLine, coded_command, command_of}
-use Rattle.hurd_script.specs.Script.{begun, commands_before, first_bad, users_before}
-use Rattle.hurd_script.specs.declared.reader.ScriptFault.{ScriptFault}
-use Rattle.hurd_script.specs.declared.reader.ScriptFault.TheVariants as script_fault
+use Rattle.hurd_script.specs.Script.{begun, commands_before, users_before}
 
 -- what the lines so far have said
 pub record Standing : Type 0 where
@@ -68,13 +64,3 @@ abbrev pub with_line : Standing → List ℕ → Option Standing
 with_line s line =
     if is_skipped line then Some s
     else option_and_then (with_words s line) (good_words text_of (slice_split (λ b. b == 32) line))
-
--- the fault of a line
-abbrev pub fault_at : ReadFault → ℕ → ScriptFault
-fault_at fault.Memory line = script_fault.Memory
-fault_at fault.Bad line = script_fault.Bad line
-
--- the lines are first bad at the one that is told, or memory was refused
-abbrev pub LineFaultOf : List (List ℕ) → ScriptFault → Type 0
-LineFaultOf lines script_fault.Memory = Unit {0}
-LineFaultOf lines (script_fault.Bad line) = first_bad lines ≡ Some line

@@ -8,8 +8,6 @@ use Rattle.hurd_words.specs.Lines.{is_skipped, lines_of, turns}
 use Rattle.hurd_words.specs.Words.{is_bad_word, text_of, words_of, written_words}
 use Rattle.hurd_words.specs.Users.{declared, declared_ids, is_bad_user, is_user_line, names_before}
 use Rattle.hurd_script.specs.Commands.{CommandLine, command_at, is_bad_command, is_command_line}
-use Rattle.hurd_script.specs.declared.reader.ScriptFault.{ScriptFault}
-use Rattle.hurd_script.specs.declared.reader.ScriptFault.TheVariants as fault
 
 -- a command came
 abbrev pub begun : List (List ℕ) → Bool
@@ -63,8 +61,3 @@ commands_before lines = filter_map command_at (turns lines)
 -- the commands of a script
 abbrev pub commands_of : List ℕ → List CommandLine
 commands_of script = commands_before (lines_of script)
-
--- the script is bad at the line that is told, or memory was refused
-abbrev pub FaultOf : List ℕ → ScriptFault → Type 0
-FaultOf script fault.Memory = Unit {0}
-FaultOf script (fault.Bad line) = bad script ≡ Some line

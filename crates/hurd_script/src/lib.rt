@@ -4,7 +4,7 @@
 //! come the users, a line `user NAME UIDS GIDS` each, then commands, a line `NAME COMMAND WORD..` each.
 //! Lines that are empty, only spaces or begin with `#` are skipped. Words are of printable ASCII, between
 //! spaces; in a word `\s` is a space, `\n` a newline and `\\` a backslash. `Command::action` says what the
-//! words of a command ask for. The commands are `cat NODE`, `ls [-d] NODE`, `put NODE TEXT`, `mkdir NODE`,
+//! words of a command ask for; `ScriptFlaw` says why a line is bad. The commands are `cat NODE`, `ls [-d] NODE`, `put NODE TEXT`, `mkdir NODE`,
 //! `rm NODE`, `rmdir NODE`, `ln FILE NEW`, `mv OLD NEW`, `chmod MODE NODE`, `chown OWNER GROUP NODE`,
 //! `settrans [-apcxgkfo] NODE [WORD..]`, `showtrans NODE` and `fsysopts NODE [WORD..]`.
 //!
@@ -13,6 +13,7 @@
 
 mod actions;
 mod command;
+mod flaw;
 mod header;
 mod places;
 mod reader;
@@ -20,6 +21,7 @@ mod settrans;
 mod usage;
 
 pub use command::{Action, Command, Verb};
+pub use flaw::ScriptFlaw;
 pub use places::Place;
 pub use reader::{Script, ScriptFault, parse_script};
 pub use settrans::SettransFlags;

@@ -1,14 +1,18 @@
 //! Reading a script.
-ghost use Rattle.std.specs.Prelude.{[], ◌≡◌, ◌⊎◌, ◌<◌, ◌≤◌, IfErr, IfOk, List, None, OnOk, Some, length, map, string_bytes, ℕ};
+ghost use Rattle.std.specs.Prelude.{[], ◌≡◌, ◌==◌, ◌<◌, ◌≤◌, IfErr, false, IfOk, List, None, OnOk, Some, length, map, string_bytes, ℕ};
 ghost use Rattle.hurd_creds.specs.Limits.{most_tasks};
 ghost use Rattle.hurd_words.specs.Lines.{is_skipped};
-ghost use Rattle.hurd_words.specs.Reading.{Reads, said};
-ghost use Rattle.hurd_script.specs.Reading.{LineFaultOf, fault_at, standing, with_command, with_declared, with_line, with_user, with_words};
+ghost use Rattle.std.specs.List.{slice_split};
+ghost use Rattle.hurd_words.specs.Reading.{good_words, said};
+ghost use Rattle.hurd_words.specs.Words.{text_of};
+ghost use Rattle.hurd_script.specs.Flaws.{FaultOf, Blames, LineFaultOf, ReadsLine, command_flaw, fault_at, late_flaw, line_flaw, name_flaw, user_flaw, words_flaw};
+ghost use Rattle.hurd_script.specs.Reading.{standing, with_command, with_declared, with_line, with_user, with_words};
 ghost use Rattle.hurd_script.specs.Commands.{command_of};
-ghost use Rattle.hurd_script.specs.Script.{FaultOf, bad, commands_of, first_bad, names_of, users_of};
-ghost use Rattle.hurd_words.specs.Users.{Declaration, declaration_of, has_room_for};
+ghost use Rattle.hurd_script.specs.Script.{bad, commands_of, first_bad, names_of, users_of};
+ghost use Rattle.hurd_words.specs.Users.{Declaration, declaration_of, ids_from, listed};
 
 use crate::command::{Command, verb_of};
+use crate::flaw::{LineFault, ScriptFlaw};
 use crate::header::header;
 use hurd_creds::{Ids, MOST_SCRIPT, MOST_TASKS, TaskId};
 use hurd_words::fault::ReadFault;
@@ -31,8 +35,8 @@ pub struct Script {
 /// Why a script was not read.
 #[derive(Clone, Copy, Debug, PartialEq, Eq)]
 pub enum ScriptFault {
-    /// It is bad at this line, counted from 1; at line 0 where it is longer than 1,048,576 bytes.
-    Bad { line: u64 },
+    /// It is bad at this line, counted from 1, and for this reason; at line 0 where it is longer than 1,048,576 bytes.
+    Bad { line: u64, flaw: ScriptFlaw },
     Memory,
 }
 
@@ -89,13 +93,20 @@ impl Reader {
         })
     }
 
-    /// Whether somebody of this name may be declared now.
-    fn has_room_for(&self, name: &str) -> bool
-        ensures { result ≡ has_room_for self.now.names name.now }
+    /// Why nobody of this name may be declared now, if so.
+    #[tactic(auto, unfolding(crate::specs::Flaws::name_flaw))]
+    fn name_flaw(&self, name: &str) -> Option<ScriptFlaw>
+        ensures { result ≡ name_flaw self.now.names name.now }
     {
-        is_user_name(name)
-            && !is_taken(self.names.as_slice(), name)
-            && self.names.len() < MOST_TASKS
+        if !is_user_name(name) {
+            Some(ScriptFlaw::UserName)
+        } else if is_taken(self.names.as_slice(), name) {
+            Some(ScriptFlaw::TakenName)
+        } else if self.names.len() >= MOST_TASKS {
+            Some(ScriptFlaw::UserCount)
+        } else {
+            None
+        }
     }
 
     /// One user more.
@@ -109,33 +120,50 @@ impl Reader {
     }
 
     /// Declares a user, of ids in these lists.
+    #[tactic(auto, unfolding(crate::specs::Flaws::name_flaw))]
     fn declare(
         &mut self,
         alloc: Global,
         name: &str,
         uids: &str,
         gids: &str,
-    ) -> Result<(), ReadFault>
-        ensures { let user : Declaration = record { name = name.now; uids = uids.now; gids = gids.now } in
-            Reads (λ _. self.new) (with_declared self.old (Some user)) result }
+    ) -> Result<(), LineFault>
+        requires { self.old.begun ≡ false }
+        ensures read { let user : Declaration = record { name = name.now; uids = uids.now; gids = gids.now } in
+            ReadsLine (λ _. self.new) (with_declared self.old (Some user)) result }
+        ensures blamed { let user : Declaration = record { name = name.now; uids = uids.now; gids = gids.now } in
+            Blames (user_flaw self.old.names (Some user)) result }
     {
-        if self.begun || !self.has_room_for(name) {
-            return Err(ReadFault::Bad);
+        if let Some(flaw) = self.name_flaw(name) {
+            return Err(LineFault::Bad(flaw));
         }
         let name = String::from_str(alloc, name)?;
-        let ids = ids_from(alloc, uids, gids)?;
+        let ids = ids_of(alloc, uids, gids)?;
         self.add_user(name, ids)?;
         Ok(())
     }
 
-    /// Reads a user line's words.
-    fn take_user(&mut self, alloc: Global, words: &[String]) -> Result<(), ReadFault>
-        ensures { Reads (λ _. self.new) (with_declared self.old (declaration_of (map string_bytes words.now))) result }
+    /// Reads a user line's words where no command came.
+    fn take_declaration(&mut self, alloc: Global, words: &[String]) -> Result<(), LineFault>
+        requires { self.old.begun ≡ false }
+        ensures read { ReadsLine (λ _. self.new) (with_declared self.old (declaration_of (map string_bytes words.now))) result }
+        ensures blamed { Blames (user_flaw self.old.names (declaration_of (map string_bytes words.now))) result }
     {
         let [_, name, uids, gids] = words else {
-            return Err(ReadFault::Bad);
+            return Err(LineFault::Bad(ScriptFlaw::UserForm));
         };
         self.declare(alloc, name.as_str(), uids.as_str(), gids.as_str())
+    }
+
+    /// Reads a user line's words.
+    fn take_user(&mut self, alloc: Global, words: &[String]) -> Result<(), LineFault>
+        ensures read { ReadsLine (λ _. self.new) (with_declared self.old (declaration_of (map string_bytes words.now))) result }
+        ensures blamed { Blames (late_flaw self.old (declaration_of (map string_bytes words.now))) result }
+    {
+        if self.begun {
+            return Err(LineFault::Bad(ScriptFlaw::LateUser));
+        }
+        self.take_declaration(alloc, words)
     }
 
     /// Reads a command line, of these words.
@@ -144,20 +172,23 @@ impl Reader {
         alloc: Global,
         line: &[u8],
         mut words: Vec<String>,
-    ) -> Result<(), ReadFault>
-        ensures { let command = command_of self.old.names line.now (map string_bytes words.items) in
-            Reads (λ _. self.new) (with_command self.old command) result }
+    ) -> Result<(), LineFault>
+        ensures read { ReadsLine (λ _. self.new) (with_command self.old (command_of self.old.names line.now (map string_bytes words.items))) result }
+        ensures blamed { Blames (command_flaw self.old.names (map string_bytes words.items)) result }
     {
-        if words.len() < 2 {
-            return Err(ReadFault::Bad);
+        if words.is_empty() {
+            return Err(LineFault::Bad(ScriptFlaw::NoCommand));
         }
         let name = words.remove(0);
-        let verb = words.remove(0);
         let Some(task) = task_of(self.names.as_slice(), name.as_str()) else {
-            return Err(ReadFault::Bad);
+            return Err(LineFault::Bad(ScriptFlaw::NoUser));
         };
+        if words.is_empty() {
+            return Err(LineFault::Bad(ScriptFlaw::NoCommand));
+        }
+        let verb = words.remove(0);
         let Some(verb) = verb_of(verb.as_str()) else {
-            return Err(ReadFault::Bad);
+            return Err(LineFault::Bad(ScriptFlaw::OtherCommand));
         };
         let header = header(alloc, name.as_str(), line)?;
         self.commands
@@ -167,13 +198,15 @@ impl Reader {
     }
 
     /// Reads a line that is not skipped, of these words.
+    #[tactic(auto, unfolding(crate::specs::Flaws::words_flaw))]
     fn take_words(
         &mut self,
         alloc: Global,
         line: &[u8],
         words: Vec<String>,
-    ) -> Result<(), ReadFault>
-        ensures { Reads (λ _. self.new) (with_words self.old line.now (map string_bytes words.items)) result }
+    ) -> Result<(), LineFault>
+        ensures read { ReadsLine (λ _. self.new) (with_words self.old line.now (map string_bytes words.items)) result }
+        ensures blamed { Blames (words_flaw self.old (map string_bytes words.items)) result }
     {
         if is_user_line(words.as_slice()) {
             self.take_user(alloc, words.as_slice())
@@ -183,14 +216,39 @@ impl Reader {
     }
 
     /// Reads a line.
-    fn take_line(&mut self, alloc: Global, line: &[u8]) -> Result<(), ReadFault>
-        ensures { Reads (λ _. self.new) (with_line self.old line.now) result }
+    fn take_line(&mut self, alloc: Global, line: &[u8]) -> Result<(), LineFault>
+        ensures read { ReadsLine (λ _. self.new) (with_line self.old line.now) result }
+        ensures blamed { Blames (line_flaw self.old line.now) result }
     {
         if is_skipped(line) {
             return Ok(());
         }
-        let words = words_of(alloc, line)?;
+        let words = words_on(alloc, line)?;
         self.take_words(alloc, line, words)
+    }
+}
+
+/// The words of a line.
+fn words_on(alloc: Global, line: &[u8]) -> Result<Vec<String>, LineFault>
+    ensures read { ReadsLine (λ v. map string_bytes v.items) (good_words text_of (slice_split (λ b. b == 32) line.now)) result }
+    ensures blamed { Blames (Some ScriptFlaw.Word) result }
+{
+    match words_of(alloc, line) {
+        Ok(words) => Ok(words),
+        Err(ReadFault::Bad) => Err(LineFault::Bad(ScriptFlaw::Word)),
+        Err(ReadFault::Memory) => Err(LineFault::Memory),
+    }
+}
+
+/// The ids that two lists name.
+fn ids_of(alloc: Global, uids: &str, gids: &str) -> Result<Ids, LineFault>
+    ensures read { ReadsLine (λ ids. ids) (ids_from (listed uids.now) (listed gids.now)) result }
+    ensures blamed { Blames (Some ScriptFlaw.UserIds) result }
+{
+    match ids_from(alloc, uids, gids) {
+        Ok(ids) => Ok(ids),
+        Err(ReadFault::Bad) => Err(LineFault::Bad(ScriptFlaw::UserIds)),
+        Err(ReadFault::Memory) => Err(LineFault::Memory),
     }
 }
 
@@ -210,20 +268,21 @@ fn read_lines(alloc: Global, lines: &[&[u8]]) -> Result<Reader, ScriptFault>
 }
 
 /// The fault of a line.
-fn fault_at(fault: ReadFault, line: u64) -> ScriptFault
+fn fault_at(fault: LineFault, line: u64) -> ScriptFault
     ensures { result ≡ fault_at fault line }
 {
     match fault {
-        ReadFault::Bad => ScriptFault::Bad { line },
-        ReadFault::Memory => ScriptFault::Memory,
+        LineFault::Bad(flaw) => ScriptFault::Bad { line, flaw },
+        LineFault::Memory => ScriptFault::Memory,
     }
 }
 
 /// Reads a script: its users, root first, and its commands.
 ///
 /// Errors: `Bad` at line 0 for a script of more than 1,048,576 bytes; else `Bad` at its first bad line,
-/// one with a byte or a backslash that no word has, a user line of another form or behind a command, or
-/// another line that doesn't begin with a user's name and a command. `Memory` where memory is refused.
+/// one with a byte or a backslash that no word has, a user line behind a command or of another form, or
+/// another line that doesn't begin with a user's name and a command; with the first of these tests that it
+/// fails. `Memory` where memory is refused.
 ///
 /// Limits: 63 users besides root, names of 1 to 16 lower-case letters and digits that begin with a
 /// letter, and 32 different uids and gids each.
@@ -233,7 +292,10 @@ pub fn parse_script(alloc: Global, script: &[u8]) -> Result<Script, ScriptFault>
     ensures fault { IfErr result (λ e. FaultOf script.now e) }
 {
     if script.len() > MOST_SCRIPT {
-        return Err(ScriptFault::Bad { line: 0 });
+        return Err(ScriptFault::Bad {
+            line: 0,
+            flaw: ScriptFlaw::Length,
+        });
     }
     let lines = pieces(alloc, script, b'\n')?;
     let reader = read_lines(alloc, lines.as_slice())?;

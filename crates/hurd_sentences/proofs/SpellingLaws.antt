@@ -2,7 +2,7 @@
 use Rattle.std.proofs.Common.{◌≡◌, ◌<◌, ◌≤◌, ◌+◌, ◌++◌, ◌∷◌, [], ℕ, List, refl, sym, ◌∙◌, ap, append_assoc, append-nil, drop, get_or, length, false, if◌then◌else◌}
 use Rattle.std.specs.Prelude.{Bool}
 use Rattle.std.proofs.lemmas.List.{at_drop_all, at_drop_more}
-use Rattle.hurd_lines.specs.Escapes.{escaped, escaped_byte}
+use Rattle.hurd_words.specs.Escapes.{escaped, escaped_byte}
 use Rattle.hurd_sentences.specs.Spelling.{by_number, is_joint, spelled_by, spelled_byte}
 
 -- one byte with its escape

@@ -3,8 +3,8 @@ use Rattle.std.proofs.Common.{◌≡◌, ◌⊎◌, inl, inr, ◌∙◌, refl, s
 use Rattle.std.specs.Fmt.{digit_glyph, digits, digits_onto}
 use Rattle.std.specs.List.{list_all}
 use Rattle.std.proofs.lemmas.Bool.{and_from, and_parts, cases_Bool, eqb-true, leb-true, lt-ltb, ltb-true as below, ltb-false as above, ne_eqb, not_from_false, or_from, or_parts}
-use Rattle.hurd_lines.specs.Escapes.{escaped_byte, hex_letter}
-use Rattle.hurd_lines.specs.Lines.{octal_digit}
+use Rattle.hurd_words.specs.Escapes.{escaped_byte, hex_letter}
+use Rattle.hurd_words.specs.Printing.{octal_digit}
 use Rattle.hurd_sentences.specs.Sentences.{is_letter, is_word}
 use Rattle.hurd_sentences.specs.Spelling.{by_number, is_joint, spelled_by, spelled_byte}
 use Rattle.hurd_sentences.proofs.Bytes.{all_both}

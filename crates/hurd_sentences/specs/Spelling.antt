@@ -1,6 +1,6 @@
 -- How bytes of users are spelled in a sentence.
 use Rattle.std.specs.Prelude.{ℕ, ◌/◌, ◌%◌, ◌==◌, ◌&&◌, ◌||◌, Bool, true, false, List, [], ◌∷◌, ◌++◌, if◌then◌else◌}
-use Rattle.hurd_lines.specs.Escapes.{escaped_byte, hex_letter}
+use Rattle.hurd_words.specs.Escapes.{escaped_byte, hex_letter}
 
 -- a byte by its number, as `\x2c`
 abbrev pub by_number : ℕ → List ℕ

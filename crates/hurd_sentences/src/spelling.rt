@@ -1,10 +1,10 @@
 //! How bytes of users are spelled in a sentence.
 ghost use Rattle.std.specs.Prelude.{◌≡◌, ◌<◌, ◌++◌, OnOk};
-ghost use Rattle.hurd_lines.specs.Escapes.{hex_letter};
+ghost use Rattle.hurd_words.specs.Escapes.{hex_letter};
 ghost use Rattle.hurd_sentences.specs.Spelling.{is_joint, spelled, spelled_by, spelled_byte, spelled_name, spelled_words};
 
 use hurd_creds::Bytes;
-use hurd_lines::push_escaped;
+use hurd_words::escapes::push_escaped;
 use std::alloc::AllocError;
 
 /// A hexadecimal digit.

@@ -21,7 +21,7 @@ use Rattle.hurd_script.specs.declared.settrans.SettransFlags.{SettransFlags}
 use Rattle.hurd_shell.specs.declared.commands.Printed.{Printed}
 use Rattle.hurd_shell.specs.Looking.{open_node}
 use Rattle.hurd_shell.specs.Programs.{Prog, gives, asks, tried, bind, made, closing, data_of, names_of, port_of, stat_of, words_of, done_of, set_of}
-use Rattle.hurd_lines.specs.Lines.{stat_line, words_line}
+use Rattle.hurd_words.specs.Printing.{stat_line, words_line}
 
 -- the mode of directories that a command makes: 0o755
 abbrev pub directory_mode : Mode

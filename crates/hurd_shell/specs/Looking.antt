@@ -10,7 +10,7 @@ use Rattle.hurd_trans_iface.specs.Meaning.{Meaning}
 use Rattle.hurd_trans_iface.specs.HelloKind.{behind}
 use Rattle.hurd_trans_iface.specs.SymlinkKind.{is_absolute}
 use Rattle.hurd_lookup.specs.Path.{is_slash_byte}
-use Rattle.hurd_numbers.specs.Numbers.{long_number_of}
+use Rattle.hurd_creds.specs.Numbers.{long_number_of}
 use Rattle.hurd_machine.specs.declared.call.Call.TheVariants.{DirLookup, IoReauthenticate, FsysStartup, StartFailed}
 use Rattle.hurd_machine.specs.declared.call.Lookup.TheVariants as found
 use Rattle.hurd_machine.specs.Calls.{Reply}

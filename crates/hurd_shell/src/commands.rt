@@ -9,8 +9,8 @@ ghost use Rattle.hurd_shell.specs.Stages.{node_work_of};
 use crate::calls;
 use crate::fault::Stop;
 use hurd_creds::{Bytes, Errno, Mode, TaskId};
-use hurd_lines::{stat_line, words_line};
 use hurd_trans_iface::{Server, Words};
+use hurd_words::printing::{stat_line, words_line};
 use hurd_world::World;
 use std::alloc::{AllocError, Global};
 

@@ -12,9 +12,8 @@ ghost use Rattle.hurd_shell.specs.Stages.{opening_behind, reached_on};
 
 use crate::calls;
 use crate::fault::{NoMemory, Stop};
-use hurd_creds::{Bytes, Errno, OpenFlags, TaskId};
+use hurd_creds::{Bytes, Errno, OpenFlags, TaskId, long_number};
 use hurd_lookup::first_slash;
-use hurd_numbers::long_number;
 use hurd_trans_iface::{Server, Words};
 use hurd_world::World;
 use std::alloc::{AllocError, Global};

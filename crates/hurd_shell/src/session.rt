@@ -118,7 +118,7 @@ impl<S: Server> Session<S> {
     {
         match parse_script(alloc, script) {
             Ok(script) => Session::begin(alloc, script, root),
-            Err(ScriptFault::Bad { line }) => Err(SessionFault::BadScript { line }),
+            Err(ScriptFault::Bad { line, .. }) => Err(SessionFault::BadScript { line }),
             Err(ScriptFault::Memory) => Err(SessionFault::Memory),
         }
     }

@@ -9,8 +9,7 @@ ghost use Rattle.hurd_small.specs.Drip.{drip_meaning};
 use crate::drops::Drops;
 use crate::lone::Lone;
 use crate::presence::Presence;
-use hurd_creds::{Bytes, Errno};
-use hurd_numbers::long_number;
+use hurd_creds::{Bytes, Errno, long_number};
 use hurd_trans_iface::{Words, says_drops};
 use std::alloc::Global;
 

@@ -5,7 +5,7 @@ use Rattle.std.proofs.lemmas.List.{map-append}
 use Rattle.hurd_creds.specs.declared.name.TaskId.{TaskId}
 use Rattle.hurd_machine.specs.World.{World}
 use Rattle.hurd_dialogue.specs.Parts.{Part, texts}
-use Rattle.hurd_dialogue.specs.Sorts.{Sort}
+use Rattle.hurd_dialogue.specs.Sorts.{Sort, last_world}
 use Rattle.hurd_sentences.specs.Turns.{paragraph}
 use Rattle.hurd_lessons.specs.Told.{Said, last_line, printed, tally_from}
 use Rattle.hurd_lessons.proofs.OneLesson.{lesson_is_one, seen_is_one}
@@ -13,7 +13,7 @@ use Rattle.hurd_terminal.specs.Faults.{IsFront}
 use Rattle.hurd_teaching.specs.Learners.{AreNamed, Speech, is_quiet, numbers, see_of, speech, verb_of}
 use Rattle.hurd_teaching.specs.Lessons.{LessonsOf, told_text}
 use Rattle.hurd_teaching.specs.Looks.{is_due}
-use Rattle.hurd_teaching.specs.Programs.{PrintsOneText, learning}
+use Rattle.hurd_teaching.specs.Programs.{PrintsOneText, SeenAtEnd, learning, seeing}
 use Rattle.hurd_teaching.specs.Shown.{Front, FrontOfSome, Whole, last_of}
 use Rattle.hurd_teaching.specs.Telling.{Shows}
 use Rattle.hurd_teaching.specs.declared.learners.Learners.{Learners}
@@ -56,13 +56,13 @@ lessons_once tasks who n w (p ∷ ps) s t (text, shown, said, split, lesson, sho
     split ∙ ((λ i. record { counts = not quiet; text = texts_same i; shown = shows_same i } ∷ lessons_once tasks who (n + 1) p.world ps said said2 rest rest2 i) ∙ sym split2)
 
 -- the same learners, however they are kept
-record AreAlike (l m : Learners) : Type 0 where
-  tasks : l.tasks.items ≡ m.tasks.items
-  who : l.who.items ≡ m.who.items
-  sees : l.sees.items ≡ m.sees.items
-  names : l.names.items ≡ m.names.items
-  looks : l.looks.items ≡ m.looks.items
-  starts : l.from ≡ m.from
+pub record AreAlike (l m : Learners) : Type 0 where
+  pub tasks : l.tasks.items ≡ m.tasks.items
+  pub who : l.who.items ≡ m.who.items
+  pub sees : l.sees.items ≡ m.sees.items
+  pub names : l.names.items ≡ m.names.items
+  pub looks : l.looks.items ≡ m.looks.items
+  pub starts : l.from ≡ m.from
 
 speech_same : (l m : Learners) → AreAlike l m → speech l ≡ speech m
 speech_same l m a = λ i. record { learns = a.who i; sees = a.sees i; looks = a.looks i; from = a.starts i }
@@ -75,7 +75,7 @@ numbers_back (t ∷ ts) = ap (λ (us : List TaskId). t ∷ us) (numbers_back ts)
 same_some : {X : Type 0} (x y : X) → Some x ≡ Some y → x ≡ y
 same_some x y e = cc
 
-alike : (named : Option (List ℕ)) (called : List TaskId → List ℕ) (asked : List Bool) (from : ℕ) (l m : Learners) → AreNamed named called asked from l → AreNamed named called asked from m → AreAlike l m
+pub alike : (named : Option (List ℕ)) (called : List TaskId → List ℕ) (asked : List Bool) (from : ℕ) (l m : Learners) → AreNamed named called asked from l → AreNamed named called asked from m → AreAlike l m
 alike named called asked from l m x y = record {
   tasks = tasks;
   who = x.who ∙ (ap (λ (ts : List TaskId). called ts ++ verb_of ts) tasks ∙ sym y.who);
@@ -127,4 +127,18 @@ pub one_text_is_printed : (sort : Sort) (word : List ℕ) → PrintsOneText (lea
 one_text_is_printed sort word = record {
   one = λ text s t x y. whole_once sort.thing (sort.world text) (sort.parts text) x.0 y.0 (alike _ _ _ _ x.0 y.0 x.1 y.1) s t x.2 y.2;
   front = λ text s t x y. front_once sort.thing (sort.world text) (sort.parts text) x.0 y.0 (alike _ _ _ _ x.0 y.0 x.1 y.1) s t x.2 y.2;
+}
+
+-- and what some see at the end is one text, and any part of it a front
+seen_once : (sort : Sort) (word text s t : List ℕ) → SeenAtEnd sort word text s → SeenAtEnd sort word text t → s ≡ t
+seen_once sort word text s t x y =
+    let a = alike _ _ _ _ x.0 y.0 x.1 y.1 in
+    let w = last_world sort text in
+    let there = subst (λ (ts : List TaskId). Shows ts x.0.sees.items true w t) (sym a.tasks) (subst (λ (sees : List ℕ). Shows y.0.tasks.items sees true w t) (sym a.sees) y.2) in
+    shows_is_one x.0.tasks.items x.0.sees.items true w s t x.2 there
+
+pub one_sight_is_printed : (sort : Sort) (word : List ℕ) → PrintsOneText (seeing sort word)
+one_sight_is_printed sort word = record {
+  one = λ text s t x y. seen_once sort word text s t x y;
+  front = λ text s t x y. subst (IsFront s) (seen_once sort word text x.0 t x.1 y) x.2;
 }

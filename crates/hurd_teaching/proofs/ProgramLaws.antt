@@ -1,35 +1,48 @@
 -- What a program of learners has printed of a text that was begun.
-use Rattle.std.proofs.Common.{◌≡◌, ◌∙◌, ap, sym, ℕ, List, Option, Some, None, Result, Ok, Err}
+use Rattle.std.proofs.Common.{◌≡◌, ◌∙◌, ap, sym, inl, ℕ, Bool, true, List, Option, Some, None, Result, Ok, Err}
+use Rattle.std.specs.Io.KnownBytes.{Appends}
 use Rattle.std.specs.Prelude.{IfErr, OnOk, drop, is_some}
 use Rattle.hurd_words.specs.Lines.{lines_of}
-use Rattle.hurd_dialogue.specs.Parts.{Way}
-use Rattle.hurd_dialogue.specs.Sorts.{Begins, Sort}
-use Rattle.hurd_terminal.specs.Runs.{Adds, IsTaken}
+use Rattle.hurd_dialogue.specs.Parts.{Way, world_behind}
+use Rattle.hurd_dialogue.specs.Sorts.{Begins, Sort, last_world}
+use Rattle.hurd_terminal.specs.Faults.{AppendsFront, IsFront}
+use Rattle.hurd_terminal.specs.Runs.{Adds, IsTaken, Program}
 use Rattle.hurd_terminal.specs.declared.fault.Fault.{Fault}
-use Rattle.hurd_terminal.specs.declared.fault.Fault.TheVariants.{Unknown}
+use Rattle.hurd_terminal.specs.declared.fault.Fault.TheVariants.{Unknown, Write}
 use Rattle.hurd_terminal.specs.declared.print.Output.{Output}
 use Rattle.hurd_terminal.proofs.RunLaws.{adds_all, adds_part, adds_unknown}
 use Rattle.hurd_teaching.specs.Learners.{Named, tasks_named}
 use Rattle.hurd_teaching.specs.Looks.{asks_of, starts_of}
-use Rattle.hurd_teaching.specs.Programs.{AreThese, learning}
+use Rattle.hurd_teaching.specs.Programs.{AreThese, learning, seeing}
 use Rattle.hurd_teaching.specs.Shown.{NotShown, Shown}
+use Rattle.hurd_teaching.specs.Telling.{Shows}
 use Rattle.hurd_teaching.specs.declared.learners.Learners.{Learners}
 
 -- the same names are found by what finds the same
 same_tasks : (f g : List ℕ → Option ℕ) → ((name : List ℕ) → f name ≡ g name) → f ≡ g
 same_tasks f g same = λ i. λ name. same name i
 
+-- a program that prints all in one piece printed it, or a front of it
+pub adds_piece : (p : Program) {W : Type 0} (output : Output W) (was : Bool) (before after : Option (List ℕ)) (text whole : List ℕ) (ended : Result (Unit {0}) Fault)
+    → IsTaken p text → p.IsAll text whole → ((front : List ℕ) → IsFront front whole → p.IsPart text front) → OnOk ended (Appends before after whole × (output.failed ≡ was))
+    → IfErr ended (λ fault. (fault ≡ Write) × (output.failed ≡ true) × AppendsFront before after whole) → Adds p text before after ended
+adds_piece p output was before after text whole (Ok u) taken all part ok err = adds_all p before after text whole u taken all ok.0
+adds_piece p output was before after text whole (Err fault) taken all part ok err =
+    adds_part p output before after text err.2.0 fault (inl (err.0, err.1)) taken (part err.2.0 err.2.1) err.2.2
+
 module _ (sort : Sort) (text word : List ℕ) (way : Way) (begins : Begins sort text way) where
   finds_same : way.finds ≡ sort.finds text
   finds_same = same_tasks way.finds (sort.finds text) begins.finds
 
   -- somebody is named who isn't in it
-  pub nobody_adds : (before : Option (List ℕ)) → Named (tasks_named way.finds word) (sort.called word) (drop way.heading (asks_of (lines_of text))) (starts_of way.heading (lines_of text)) None → Adds (learning sort word) text before before (Err Unknown)
-  nobody_adds before none =
-      adds_unknown (learning sort word) before text begins.good (ap (λ (f : List ℕ → Option ℕ). is_some (tasks_named f word)) (sym finds_same) ∙ ap is_some none)
+  pub nobody_adds : (p : Program) → p.bad text ≡ sort.bad text → p.known text ≡ is_some (tasks_named (sort.finds text) word) → (before : Option (List ℕ))
+      → Named (tasks_named way.finds word) (sort.called word) (drop way.heading (asks_of (lines_of text))) (starts_of way.heading (lines_of text)) None → Adds p text before before (Err Unknown)
+  nobody_adds p bad known before none =
+      let unknown = ap (λ (f : List ℕ → Option ℕ). is_some (tasks_named f word)) (sym finds_same) ∙ ap is_some none in
+      adds_unknown p before text (bad ∙ begins.good) (known ∙ unknown)
 
   module _ (learners : Learners) (named : Named (tasks_named way.finds word) (sort.called word) (drop way.heading (asks_of (lines_of text))) (starts_of way.heading (lines_of text)) (Some learners)) where
-    these : AreThese sort word text learners
+    pub these : AreThese sort word text learners
     these = rw (finds_same, begins.heading) at named
 
     taken : IsTaken (learning sort word) text
@@ -43,3 +56,12 @@ module _ (sort : Sort) (text word : List ℕ) (way : Way) (begins : Begins sort 
     learned_adds output before after (Err fault) ok err =
         let here : NotShown learners sort.thing (sort.world text) (sort.parts text) output before fault after = rw (begins.world, begins.left) at err in
         adds_part (learning sort word) output before after text here.1.0 fault here.0 taken (learners, these, here.1.1) here.1.2
+
+    -- what they see at the end was printed, or a front of it
+    pub seen_adds : {W : Type 0} (output : Output W) (was : Bool) (before after : Option (List ℕ)) (ended : Result (Unit {0}) Fault) (whole : List ℕ)
+        → Shows learners.tasks.items learners.sees.items true (world_behind way.world way.left) whole → OnOk ended (Appends before after whole × (output.failed ≡ was))
+        → IfErr ended (λ fault. (fault ≡ Write) × (output.failed ≡ true) × AppendsFront before after whole) → Adds (seeing sort word) text before after ended
+    seen_adds output was before after ended whole shows ok err =
+        let there : Shows learners.tasks.items learners.sees.items true (last_world sort text) whole = rw (begins.world, begins.left) at shows in
+        adds_piece (seeing sort word) output was before after text whole ended (record { good = begins.good; known = ap is_some these.tasks }) (learners, these, there)
+        (λ front is. (whole, (learners, these, there), is)) ok err

@@ -81,4 +81,4 @@ module _ (tasks : List TaskId) (who : Speech) where
   -- there was no part
   pub none_told : (old new : Way) (tally : Tally) (now : Option (List ℕ)) (kept : Option View) → Goes old None new → StepsTo tasks who old tally now false new kept tally now
   unfolding StepsTo
-  none_told old new tally now kept none = (none, refl, refl)
+  none_told old new tally now kept none = (none.0, refl, refl)

@@ -1,13 +1,14 @@
 -- What a program of learners prints of a text.
-use Rattle.std.specs.Prelude.{◌≡◌, ℕ, List, ◌++◌, codes, drop, is_some}
-use Rattle.hurd_dialogue.specs.Sorts.{Sort}
-use Rattle.hurd_lines.specs.Escapes.{escaped}
+use Rattle.std.specs.Prelude.{◌≡◌, ℕ, List, ◌++◌, codes, drop, is_some, true}
+use Rattle.hurd_dialogue.specs.Sorts.{Sort, last_world}
+use Rattle.hurd_words.specs.Escapes.{escaped}
 use Rattle.hurd_terminal.specs.Faults.{IsFront}
 use Rattle.hurd_terminal.specs.Runs.{Program}
 use Rattle.hurd_words.specs.Lines.{lines_of}
 use Rattle.hurd_teaching.specs.Learners.{AreNamed, tasks_named}
 use Rattle.hurd_teaching.specs.Looks.{asks_of, starts_of}
 use Rattle.hurd_teaching.specs.Shown.{Front, Whole}
+use Rattle.hurd_teaching.specs.Telling.{Shows}
 use Rattle.hurd_teaching.specs.declared.learners.Learners.{Learners}
 
 -- those whom a word names of a text are these
@@ -25,6 +26,23 @@ learning sort word = record {
   known = λ text. is_some (tasks_named (sort.finds text) word);
   IsAll = λ text printed. (learners : Learners) × AreThese sort word text learners × Whole learners sort.thing (sort.world text) (sort.parts text) printed;
   IsPart = λ text printed. (learners : Learners) × AreThese sort word text learners × Front learners sort.thing (sort.world text) (sort.parts text) printed;
+}
+
+-- all that those see whom a word names is printed so, as they see it at the end of a text
+abbrev pub SeenAtEnd : Sort → List ℕ → List ℕ → List ℕ → Type 0
+SeenAtEnd sort word text printed =
+    (learners : Learners) × AreThese sort word text learners × Shows learners.tasks.items learners.sees.items true (last_world sort text) printed
+
+-- the program that prints that
+abbrev pub seeing : Sort → List ℕ → Program
+seeing sort word = record {
+  complaint = sort.complaint;
+  stranger = sort.stranger ++ (escaped word ++ codes "\n");
+  bad = sort.bad;
+  boot = sort.boot;
+  known = λ text. is_some (tasks_named (sort.finds text) word);
+  IsAll = SeenAtEnd sort word;
+  IsPart = λ text printed. (all : List ℕ) × SeenAtEnd sort word text all × IsFront printed all;
 }
 
 -- a program prints one text of each: all that is printed of a text is one, and any part of it is a front of that

@@ -2,7 +2,7 @@
 ghost use Rattle.std.specs.Prelude.{ℕ, List};
 ghost use Rattle.hurd_dialogue.specs.Sorts.{Sort};
 ghost use Rattle.hurd_teaching.specs.Lessons.{LessonsAreSentences};
-ghost use Rattle.hurd_teaching.specs.Programs.{PrintsOneText, learning};
+ghost use Rattle.hurd_teaching.specs.Programs.{PrintsOneText, learning, seeing};
 ghost use Rattle.hurd_teaching.specs.Reading.{ReadBack};
 
 /// A law: an output of such a program tells what was done, what was learned by it, and what was seen then.
@@ -13,6 +13,11 @@ pub fn outputs_are_read_back()
 /// A law: of a text one text is printed for those whom a word names.
 pub fn one_text_is_printed()
     ensures { (sort : Sort) (word : List ℕ) → PrintsOneText (learning sort word) }
+{}
+
+/// A law: of a text one text is printed of what those see at its end whom a word names.
+pub fn one_sight_is_printed()
+    ensures { (sort : Sort) (word : List ℕ) → PrintsOneText (seeing sort word) }
 {}
 
 /// A law: what is said and shown is sentences, so that an output can be read back.

@@ -1,7 +1,7 @@
 //! What some tasks see of a world, and what they learn while a text goes on: who learns, what is said behind what each task did, where it is asked what
 //! they see, and what is shown then.
 //!
-//! `learn_text` begins a text and prints all that it tells, with what those learn whom a word names. `reached`, `seen`, `look` and `view_of` tell of a
+//! `learn_text` begins a text and prints all that it tells, with what those learn whom a word names. `see_text` prints what they see at its end. `reached`, `seen`, `look` and `view_of` tell of a
 //! world as it is which ids a set of tasks can act with, which nodes it sees, each with why, which parts, and all that it sees with its values. A `Watch`
 //! keeps what some tasks saw, and says what they learned since.
 #![tactic(auto)]
@@ -12,14 +12,17 @@ mod learning;
 mod looks;
 mod naming;
 mod seeing;
+mod sights;
 mod steps;
 mod telling;
 mod watch;
 
-pub use laws::{lessons_are_sentences, one_text_is_printed, outputs_are_read_back};
+pub use laws::{
+    lessons_are_sentences, one_sight_is_printed, one_text_is_printed, outputs_are_read_back,
+};
 pub use learners::Learners;
 pub use learning::learn_text;
-pub use looks::{asked_looks, lessons_begin};
 pub use naming::learners_of;
 pub use seeing::{look, reached, seen, view_of};
+pub use sights::see_text;
 pub use watch::Watch;

@@ -41,7 +41,7 @@ fn asks(alloc: Global, text: &[u8]) -> Result<Vec<bool>, AllocError>
 }
 
 /// Where a text asks what is seen, without the first so many places. An error is want of memory.
-pub fn asked_looks(alloc: Global, text: &[u8], first: usize) -> Result<Vec<bool>, AllocError>
+pub(crate) fn asked_looks(alloc: Global, text: &[u8], first: usize) -> Result<Vec<bool>, AllocError>
     ensures { IfOk result (λ looks. looks.items ≡ drop first (asks_of (lines_of text.now))) }
 {
     let asks = asks(alloc, text)?;
@@ -76,7 +76,7 @@ fn said_before(alloc: Global, text: &[u8]) -> Result<Option<usize>, AllocError>
 }
 
 /// How many things are done before lessons begin, where the first so many places of a text are behind none of them. An error is want of memory.
-pub fn lessons_begin(alloc: Global, text: &[u8], first: usize) -> Result<usize, AllocError>
+pub(crate) fn lessons_begin(alloc: Global, text: &[u8], first: usize) -> Result<usize, AllocError>
     ensures { IfOk result (λ from. from ≡ starts_of first (lines_of text.now)) }
 {
     match said_before(alloc, text)? {

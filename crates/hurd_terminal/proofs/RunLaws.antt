@@ -12,20 +12,24 @@ use Rattle.hurd_terminal.specs.declared.read.Input.{Input}
 use Rattle.hurd_terminal.specs.Faults.{IsPrintFault, IsReadFault}
 use Rattle.hurd_terminal.specs.Runs.{Adds, IsTaken, Prints, Program, Ran}
 
--- a text of more than 1,048,576 bytes is bad at line 0
-abbrev pub HasLimit : (List ℕ → Option ℕ) → Type 0
-HasLimit bad = (xs : List ℕ) → 1048576 < length xs → bad xs ≡ Some 0
+-- a text of more than 1,048,576 bytes is bad at line 0, and of each the same is said
+pub record HasLimit (bad : List ℕ → Option ℕ) (complaint : List ℕ → List ℕ) : Type 0 where
+  pub cut : (xs : List ℕ) → 1048576 < length xs → bad xs ≡ Some 0
+  pub same : (xs ys : List ℕ) → 1048576 < length xs → 1048576 < length ys → complaint xs ≡ complaint ys
 
-by_length : (bad : List ℕ → Option ℕ) → HasLimit bad → (xs : List ℕ) (q : Bool) → nat_lt 1048577 (length xs) ≡ q
-    → (take 1048577 xs ≡ xs) ⊎ ((bad (take 1048577 xs) ≡ Some 0) × (bad xs ≡ Some 0))
-by_length bad limit xs false test = inl (take_all 1048577 xs (ltb-false _ _ test))
-by_length bad limit xs true test =
+-- what was read is the whole, or both are too long, and the same is said of both
+abbrev CutOff : Program → List ℕ → Type 0
+CutOff p xs = (take 1048577 xs ≡ xs) ⊎ ((p.bad (take 1048577 xs) ≡ Some 0) × (p.bad xs ≡ Some 0) × (p.complaint (take 1048577 xs) ≡ p.complaint xs))
+
+by_length : (p : Program) → HasLimit p.bad p.complaint → (xs : List ℕ) (q : Bool) → nat_lt 1048577 (length xs) ≡ q → CutOff p xs
+by_length p limit xs false test = inl (take_all 1048577 xs (ltb-false _ _ test))
+by_length p limit xs true test =
     let long : 1048577 < length xs = ltb-true _ _ test in
-    inr (limit (take 1048577 xs) (omega (arith, length-take 1048577 xs)), limit xs (omega arith))
+    let front : 1048576 < length (take 1048577 xs) = omega (arith, length-take 1048577 xs) in
+    inr (limit.cut (take 1048577 xs) front, limit.cut xs (omega arith), limit.same (take 1048577 xs) xs front (omega arith))
 
--- either nothing was cut off, or both are too long
-cut_off : (bad : List ℕ → Option ℕ) → HasLimit bad → (xs : List ℕ) → (take 1048577 xs ≡ xs) ⊎ ((bad (take 1048577 xs) ≡ Some 0) × (bad xs ≡ Some 0))
-cut_off bad limit xs = by_length bad limit xs (nat_lt 1048577 (length xs)) refl
+cut_off : (p : Program) → HasLimit p.bad p.complaint → (xs : List ℕ) → CutOff p xs
+cut_off p limit xs = by_length p limit xs (nat_lt 1048577 (length xs)) refl
 
 not_good : {A : Type 0} (o : Option ℕ) → o ≡ Some 0 → o ≡ None → A
 not_good o long good = absurd (cc)
@@ -42,16 +46,24 @@ long_prints p xs ys (Err Memory) printed cut long (inl none) = inl none
 long_prints p xs ys (Err Memory) printed cut long (inr prints) = not_good (p.bad ys) cut prints.0.good
 
 whole_prints : (p : Program) (xs ys : List ℕ) (ended : Result (Unit {0}) Fault) (printed : List ℕ) → ys ≡ take 1048577 xs → Prints p ys ended printed
-    → (take 1048577 xs ≡ xs) ⊎ ((p.bad (take 1048577 xs) ≡ Some 0) × (p.bad xs ≡ Some 0)) → Prints p xs ended printed
+    → CutOff p xs → Prints p xs ended printed
 whole_prints p xs ys ended printed cut prints (inl same) = subst (λ (zs : List ℕ). Prints p zs ended printed) (cut ∙ same) prints
 whole_prints p xs ys ended printed cut prints (inr long) = long_prints p xs ys ended printed (ap (λ (zs : List ℕ). p.bad zs) cut ∙ long.0) long.1 prints
 
--- what is printed for the first bytes of a text is printed for the text
-pub ran_whole : (p : Program) → HasLimit p.bad → (held before after : Option (List ℕ)) (ended : Result (Unit {0}) Fault) (ys : List ℕ) → IfSome held (λ xs. ys ≡ take 1048577 xs)
-    → Adds p ys before after ended → Ran p held before after ended
-ran_whole p limit None before after ended ys cut adds = record { text = ys; read = tt; adds = adds }
+whole_said : (p : Program) (xs ys : List ℕ) → ys ≡ take 1048577 xs → CutOff p xs → p.complaint xs ≡ p.complaint ys
+whole_said p xs ys cut (inl same) = ap (λ (zs : List ℕ). p.complaint zs) (sym (cut ∙ same))
+whole_said p xs ys cut (inr long) = sym (ap (λ (zs : List ℕ). p.complaint zs) cut ∙ long.2)
+
+-- a run of the first bytes of a text is one of the text, and says the same of a bad one
+abbrev pub RanAs : Program → Option (List ℕ) → Option (List ℕ) → Option (List ℕ) → Result (Unit {0}) Fault → List ℕ → Type 0
+RanAs p held before after ended ys = (ran : Ran p held before after ended) × (p.complaint ran.text ≡ p.complaint ys)
+
+pub ran_whole : (p : Program) → HasLimit p.bad p.complaint → (held before after : Option (List ℕ)) (ended : Result (Unit {0}) Fault) (ys : List ℕ) → IfSome held (λ xs. ys ≡ take 1048577 xs)
+    → Adds p ys before after ended → RanAs p held before after ended ys
+ran_whole p limit None before after ended ys cut adds = (record { text = ys; read = tt; adds = adds }, refl)
 ran_whole p limit (Some xs) before after ended ys cut (printed, appends, prints) =
-    record { text = xs; read = refl; adds = (printed, appends, whole_prints p xs ys ended printed cut prints (cut_off p.bad limit xs)) }
+    let off = cut_off p limit xs in
+    (record { text = xs; read = refl; adds = (printed, appends, whole_prints p xs ys ended printed cut prints off) }, whole_said p xs ys cut off)
 
 known : Option (List ℕ) → List ℕ
 known None = []
@@ -113,3 +125,8 @@ write_blamed o Q (Err f) err is = elim err.0 [ inl w ↦ w.1 | inr m ↦ absurd 
 -- no memory before the text was read
 pub ran_out : (p : Program) (held before : Option (List ℕ)) → Ran p held before before (Err Memory)
 ran_out p held before = record { text = known held; read = known_held held; adds = no_memory p before (known held) }
+
+-- where nothing was printed of a bad text, the fault may be one of memory too
+pub bad_or_not : (p : Program) (before after : Option (List ℕ)) (text : List ℕ) (line : ℕ) → Adds p text before after (Err (Bad line)) → Adds p text before after (Err Memory)
+unfolding Prints
+bad_or_not p before after text line (printed, appends, prints) = (printed, appends, inl prints.1)

@@ -1,5 +1,5 @@
 -- Faults and how a program ends.
-use Rattle.std.specs.Prelude.{◌≡◌, ◌⊎◌, ℕ, ◌==◌, true, List, [], ◌++◌, if◌then◌else◌, Option, Result, Ok, Err, codes, decimal}
+use Rattle.std.specs.Prelude.{◌≡◌, ◌⊎◌, ℕ, true, List, [], ◌++◌, Option, Result, Ok, Err, codes}
 use Rattle.std.specs.Io.KnownBytes.{Appends}
 use Rattle.hurd_creds.specs.Errors.{name_of}
 use Rattle.hurd_creds.specs.declared.errno.Errno.{Errno}
@@ -15,11 +15,7 @@ status_of (Err (Bad line)) = 1
 status_of (Err Unknown) = 1
 status_of (Err _) = 2
 
--- what stands behind the name of a file whose text is bad at this line; at line 0 it is too long
-abbrev pub complaint_at : List ℕ → ℕ → List ℕ
-complaint_at complaint line = if line == 0 then codes ": longer than 1048576 bytes\n" else codes ":" ++ decimal line ++ complaint
-
--- and of one whose world is refused
+-- what stands behind the name of a file whose world is refused
 abbrev pub refusal_by : Errno → List ℕ
 refusal_by e = codes ": cannot boot: " ++ name_of e ++ codes "\n"
 
@@ -27,13 +23,13 @@ refusal_by e = codes ": cannot boot: " ++ name_of e ++ codes "\n"
 abbrev pub of_file : List ℕ → List ℕ → List ℕ
 of_file file tail = codes "hurd: " ++ (file ++ tail)
 
--- the line on standard error: none where all was printed. A complaint stands behind the number of a bad line, and another text where somebody is
--- named who isn't in the text
+-- what stands on standard error: nothing where all was printed. Behind the name of a file a complaint stands where its text is bad, and another text
+-- where somebody is named who isn't in it
 abbrev pub line_of : List ℕ → List ℕ → List ℕ → Result (Unit {0}) Fault → List ℕ
 line_of file complaint stranger (Ok _) = []
 line_of file complaint stranger (Err Read) = of_file file (codes ": cannot read\n")
 line_of file complaint stranger (Err Write) = codes "hurd: cannot write\n"
-line_of file complaint stranger (Err (Bad line)) = of_file file (complaint_at complaint line)
+line_of file complaint stranger (Err (Bad line)) = of_file file complaint
 line_of file complaint stranger (Err Unknown) = of_file file stranger
 line_of file complaint stranger (Err (Boot e)) = of_file file (refusal_by e)
 line_of file complaint stranger (Err Memory) = codes "hurd: out of memory\n"

@@ -1,5 +1,5 @@
 -- What a whole run of a program prints.
-use Rattle.std.specs.Prelude.{◌≡◌, ◌⊎◌, ℕ, Bool, true, false, List, [], Option, Some, None, Result, Ok, Err, IfSome}
+use Rattle.std.specs.Prelude.{◌≡◌, ◌≢◌, ◌⊎◌, ℕ, Bool, true, false, List, [], Option, Some, None, Result, Ok, Err, IfSome}
 use Rattle.std.specs.Io.KnownBytes.{Appends}
 use Rattle.hurd_creds.specs.declared.errno.Errno.{Errno}
 use Rattle.hurd_terminal.specs.Faults.{Says, line_of, status_of}
@@ -8,10 +8,10 @@ use Rattle.hurd_terminal.specs.declared.fault.Fault.TheVariants.{Read, Write, Ba
 use Rattle.hurd_terminal.specs.declared.print.Output.{Output}
 use Rattle.hurd_terminal.specs.declared.read.Input.{Input}
 
--- what a program makes of a text: what it says behind the number of a bad line, and where somebody is named who isn't in the text; the line at which
+-- what a program makes of a text: what it says behind the name of its file where it is bad, and where somebody is named who isn't in it; the line at which
 -- a text is bad, whether its world may begin, whether all who are named are in it, all that is printed of it, and a front of that
 pub record Program : Type 1 where
-  pub complaint : List ℕ
+  pub complaint : List ℕ → List ℕ
   pub stranger : List ℕ
   pub bad : List ℕ → Option ℕ
   pub boot : List ℕ → Result (Unit {0}) Errno
@@ -49,11 +49,21 @@ pub record Blames {R W : Type 0} (input : Input R) (output : Output W) (ended : 
   pub read : ended ≡ Err Read → (input.failed ≡ true) ⊎ (input.reads_left ≡ 0)
   pub write : ended ≡ Err Write → output.failed ≡ true
 
+-- a run of a text ended so: what was printed of it, that no read was to blame, and a write only where one failed; what was said of its file, and the status
+pub record Ends (p : Program) (file text : List ℕ) {W E : Type 0} (contents : W → Option (List ℕ)) (said : E → Option (List ℕ))
+    (output written : Output W) (errors told : Output E) (status : ℕ) : Type 0 where
+  pub ended : Result (Unit {0}) Fault
+  pub adds : Adds p text (contents output.writer) (contents written.writer) ended
+  pub read : ended ≢ Err Read
+  pub write : ended ≡ Err Write → written.failed ≡ true
+  pub says : Says said errors told (line_of file (p.complaint text) p.stranger ended)
+  pub is : status ≡ status_of ended
+
 -- a program printed what a run of a file prints, and of a fault its line on standard error, of which only a front stands where that can't be written
 pub record Exits (p : Program) (file : List ℕ) {R W E : Type 0} (remaining : R → Option (List ℕ)) (contents : W → Option (List ℕ)) (said : E → Option (List ℕ))
     (input read : Input R) (output written : Output W) (errors told : Output E) (status : ℕ) : Type 0 where
   pub ended : Result (Unit {0}) Fault
   pub ran : Ran p (remaining input.reader) (contents output.writer) (contents written.writer) ended
   pub blames : Blames read written ended
-  pub says : Says said errors told (line_of file p.complaint p.stranger ended)
+  pub says : Says said errors told (line_of file (p.complaint ran.text) p.stranger ended)
   pub is : status ≡ status_of ended

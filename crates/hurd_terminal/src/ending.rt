@@ -1,13 +1,12 @@
 //! How a program ends.
 ghost use Rattle.std.specs.Prelude.{◌≡◌, ◌+◌, ◌≤◌, ◌++◌, OnOk, IfErr, length, true, Err};
 ghost use Rattle.std.specs.Io.KnownBytes.{Appends};
-ghost use Rattle.hurd_terminal.specs.Faults.{AppendsFront, Says, complaint_at, line_of, of_file, refusal_by, status_of};
+ghost use Rattle.hurd_terminal.specs.Faults.{AppendsFront, Says, line_of, of_file, refusal_by, status_of};
 
 use crate::fault::Fault;
 use crate::print::Output;
 use arrayvec::ArrayString;
 use hurd_creds::Errno;
-use itoa::Buffer;
 use std::io::Write;
 
 /// Room for the longest text behind the name of a file.
@@ -23,18 +22,6 @@ fn joined(first: &str, second: &str, third: &str) -> ArrayString<TAIL_BYTES>
     text.push_str(second);
     text.push_str(third);
     text
-}
-
-/// What stands behind the name of a file whose text is bad at this line. Takes no memory.
-fn complaint_at(complaint: &str, line: u64) -> ArrayString<TAIL_BYTES>
-    requires { length complaint.now ≤ 13 }
-    ensures { result.bytes ≡ complaint_at complaint.now line }
-{
-    if line == 0 {
-        joined(": longer than 1048576 bytes\n", "", "")
-    } else {
-        joined(":", Buffer::new().format(line), complaint)
-    }
 }
 
 /// What stands behind the name of a file whose world is refused. Takes no memory.
@@ -62,11 +49,10 @@ fn say_of<E: Write>(file: &[u8], tail: &[u8], errors: &mut Output<E>) -> Result<
 fn say<E: Write>(
     fault: Fault,
     file: &[u8],
-    complaint: &str,
+    complaint: &[u8],
     stranger: &[u8],
     errors: &mut Output<E>,
 ) -> Result<(), Fault>
-    requires { length complaint.now ≤ 13 }
     ensures ok { OnOk result (Appends (E.contents errors.old.writer) (E.contents errors.new.writer) (line_of file.now complaint.now stranger.now (Err fault))
         × (errors.new.failed ≡ errors.old.failed)) }
     ensures err { IfErr result (λ e. (errors.new.failed ≡ true)
@@ -75,11 +61,7 @@ fn say<E: Write>(
     match fault {
         Fault::Read => say_of(file, b": cannot read\n", errors),
         Fault::Write => errors.print(b"hurd: cannot write\n"),
-        Fault::Bad { line } => say_of(
-            file,
-            complaint_at(complaint, line).as_str().as_bytes(),
-            errors,
-        ),
+        Fault::Bad { .. } => say_of(file, complaint, errors),
         Fault::Unknown => say_of(file, stranger, errors),
         Fault::Boot(errno) => say_of(file, refusal_by(errno).as_str().as_bytes(), errors),
         Fault::Memory => errors.print(b"hurd: out of memory\n"),
@@ -96,16 +78,15 @@ fn status(fault: Fault) -> u8
     }
 }
 
-/// Ends a program: says of a file where there was a fault, as far as that can be written, and gives the exit status. `complaint` stands behind the
-/// number of a bad line, `stranger` behind the file's name where somebody is named who isn't in it. Takes no memory.
+/// Ends a program: says of a file why there was a fault, as far as that can be written, and gives the exit status. `complaint` stands behind the
+/// file's name where its text is bad, `stranger` where somebody is named who isn't in it. Takes no memory.
 pub fn finish<E: Write>(
     ended: Result<(), Fault>,
     file: &[u8],
-    complaint: &str,
+    complaint: &[u8],
     stranger: &[u8],
     errors: &mut Output<E>,
 ) -> u8
-    requires { length complaint.now ≤ 13 }
     ensures status { result ≡ status_of ended }
     ensures line { Says E.contents errors.old errors.new (line_of file.now complaint.now stranger.now ended) }
 {

@@ -2,7 +2,7 @@
 use Rattle.std.specs.Prelude.{ℕ, zero, suc, ◌==◌, ◌-◌, ◌&&◌, Bool, true, false, not, if◌then◌else◌, List, [], ◌∷◌, ◌++◌, length, nat_le, codes, Option, Some, None, Ok, Err}
 use Rattle.hurd_creds.specs.declared.attrs.Kind.TheVariants.{File}
 use Rattle.hurd_creds.specs.declared.errno.Errno.TheVariants.{EIO}
-use Rattle.hurd_numbers.specs.Numbers.{long_number_of}
+use Rattle.hurd_creds.specs.Numbers.{long_number_of}
 use Rattle.hurd_trans_iface.specs.Nodes.{Body, Content, Listing}
 use Rattle.hurd_trans_iface.specs.Behaviour.{Effect, Behaviour, only, plain_root}
 use Rattle.hurd_trans_iface.specs.TmpfsKind.{no_options}

@@ -11,8 +11,7 @@ ghost use Rattle.hurd_trans_iface.specs.DripKind.{drip_text, is_bare, says_drops
 ghost use Rattle.hurd_trans_iface.specs.TmpfsKind.{no_text};
 ghost use Rattle.hurd_trans_iface.specs.Words.{IsWithinLimits};
 
-use hurd_creds::{Bytes, MOST_PATH};
-use hurd_numbers::long_number;
+use hurd_creds::{Bytes, MOST_PATH, long_number};
 
 /// The most directories of a union.
 const MOST_BRANCHES: usize = 16;

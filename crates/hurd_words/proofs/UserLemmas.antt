@@ -4,7 +4,7 @@ use Rattle.std.specs.List.{position_from, slice_split}
 use Rattle.hurd_words.specs.Words.{onto}
 use Rattle.hurd_words.proofs.Loops.{behind-push}
 use Rattle.hurd_words.specs.Reading.{behind}
-use Rattle.hurd_numbers.specs.Numbers.{number_of}
+use Rattle.hurd_creds.specs.Numbers.{number_of}
 use Rattle.hurd_words.specs.Users.{listed, numbers_of}
 
 -- a number is taken, whatever follows it

@@ -3,7 +3,7 @@ use Rattle.std.specs.Prelude.{ℕ, ◌==◌, List, Option, Some, None, if◌then
 use Rattle.std.specs.Int.RustNames.{bit_and}
 use Rattle.hurd_creds.specs.declared.mode.Mode.{Mode}
 use Rattle.hurd_creds.specs.Bits.{known_modes}
-use Rattle.hurd_numbers.specs.Numbers.{octal_number_of}
+use Rattle.hurd_creds.specs.Numbers.{octal_number_of}
 
 -- one to six octal digits, without a sign; zeros may lead
 abbrev pub octal_of : List ℕ → Option ℕ

@@ -7,7 +7,7 @@ use Rattle.hurd_creds.specs.Access.{IdSets, ids_of}
 use Rattle.hurd_creds.specs.Limits.{most_tasks}
 use Rattle.hurd_words.specs.Lines.{is_skipped}
 use Rattle.hurd_words.specs.Words.{onto, words_of}
-use Rattle.hurd_numbers.specs.Numbers.{number_of}
+use Rattle.hurd_creds.specs.Numbers.{number_of}
 
 -- the first word is this one
 abbrev pub begins_with : List ℕ → List (List ℕ) → Bool

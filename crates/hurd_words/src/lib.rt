@@ -4,11 +4,16 @@
 //! printable ASCII, between spaces; in a word `\s` is a space, `\n` a newline and `\\` a backslash. Modes are octal digits without a
 //! sign; ids are decimal numbers joined by commas, or `-` for none.
 //!
+//! What is printed in several places is here too: attributes as `ls -d` prints them, modes, numbers, words as scripts spell them
+//! (`printing`), and bytes, each by an escape where no word has it as it is (`escapes`).
+//!
 //! It knows no script and no list of calls: those are read by the crates above.
 #![tactic(auto)]
 
+pub mod escapes;
 pub mod fault;
 pub mod lines;
 pub mod modes;
+pub mod printing;
 pub mod users;
 pub mod words;

@@ -3,8 +3,7 @@ ghost use Rattle.std.specs.Prelude.{◌≡◌};
 ghost use Rattle.hurd_words.specs.Modes.{mode_of, octal_of};
 
 use bitflags::Flags;
-use hurd_creds::Mode;
-use hurd_numbers::octal_number;
+use hurd_creds::{Mode, octal_number};
 
 /// How many octal digits a mode may have.
 const MOST_MODE_DIGITS: usize = 6;

@@ -6,8 +6,7 @@ ghost use Rattle.hurd_words.specs.Reading.{Reads, Refuses, Takes};
 ghost use Rattle.hurd_words.specs.Users.{begins_with, begins_with_letter, ids_from, is_taken, is_user_name, listed, numbers_of, task_of};
 
 use crate::fault::ReadFault;
-use hurd_creds::{Errno, Ids};
-use hurd_numbers::number;
+use hurd_creds::{Errno, Ids, number};
 use std::alloc::{AllocError, Global};
 
 /// Whether the first word is `user`.

@@ -1,6 +1,6 @@
 use Rattle.std.proofs.Common.{◌∙◌, ◌++◌, ap, List, ℕ, Some, codes, length}
 use Rattle.std.specs.Option.{option_map}
-use Rattle.hurd_lines.specs.Lines.{spaced}
+use Rattle.hurd_words.specs.Printing.{spaced}
 use Rattle.hurd_ports.specs.Seats.{seat_task}
 use Rattle.hurd_lessons.specs.Seen.{port_numbers, start_text, uid_text}
 use Rattle.hurd_lessons.specs.Values.{with_part}

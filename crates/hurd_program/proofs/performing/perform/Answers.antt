@@ -1,19 +1,20 @@
-use Rattle.std.proofs.Common.{Err, ◌∙◌}
+use Rattle.std.proofs.Common.{Err}
 use Rattle.hurd_terminal.specs.declared.fault.Fault.TheVariants.{Memory}
 use Rattle.hurd_terminal.proofs.RunLaws.{ran_out}
-use Rattle.hurd_program.specs.Requests.{asked, sort_of}
-use Rattle.hurd_program.proofs.Asked.{complains}
+use Rattle.hurd_program.specs.Requests.{asked}
+use Rattle.hurd_program.proofs.Asked.{limited}
+use Rattle.hurd_program.proofs.Ended.{exits_unread, exits_whole}
 use Rattle.hurd_program.proofs.performing.perform.Goals as goal
 
+pub returns-in-Ok-read_text : goal.returns-in-Ok-read_text
+returns-in-Ok-read_text g c =
+    exits_whole (asked c.args.request.now) (limited c.args.request.now) c.args.file.now _ g.R.Read.remaining g.W.Write.contents g.E.Write.contents c.args.input.now c.read_text.new.input c.args.output.now
+    c.perform_on.new.output c.args.errors.now c.perform_on.new.errors c.perform_on.result c.in-Ok-read_text.ensures.ok (rw c.as_slice-in-Ok-read_text.ensures at c.perform_on.ensures)
+
 pub returns : goal.returns
-returns g c = record {
-  ended = c.run-ended.result;
-  ran = c.run-ended.ensures.ran;
-  blames = c.run-ended.ensures.blames;
-  says =
-      rw (c.complaint-2.ensures.says ∙ complains (sort_of c.args.request.now.sort) c.args.request.now.verb, c.as_slice.ensures.value, c.in-Ok.ensures) at c.finish-2.ensures.line;
-  is = c.finish-2.ensures.status;
-}
+returns g c =
+    exits_unread (asked c.args.request.now) c.args.file.now g.R.Read.remaining g.W.Write.contents g.E.Write.contents c.args.input.now c.read_text.new.input c.args.output.now c.args.errors.now
+    c.finish-in-Err.new.errors c.finish-in-Err.result c.in-Err.fault c.in-Err.ensures.err c.finish-in-Err.ensures.line c.finish-in-Err.ensures.status
 
 pub returns-in_default : goal.returns-in_default
 returns-in_default g c = record {

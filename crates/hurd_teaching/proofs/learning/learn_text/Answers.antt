@@ -35,7 +35,7 @@ returns-in-Some-clause-adds g c =
 pub returns-clause-adds : goal.returns-clause-adds
 returns-clause-adds g c =
     let none = rw (c.in-None.is, c.deref.ensures) at c.in_ok-learners.ensures in
-    nobody_adds g.T.Telling.sort c.args.text.now c.args.word.now (g.T.Telling.way c.in_ok-telling.telling.value) c.in_ok-telling.ensures.ok _ none
+    nobody_adds g.T.Telling.sort c.args.text.now c.args.word.now (g.T.Telling.way c.in_ok-telling.telling.value) c.in_ok-telling.ensures.ok (learning g.T.Telling.sort c.args.word.now) refl refl _ none
 
 pub returns-in-Some-clause-read : goal.returns-in-Some-clause-read
 returns-in-Some-clause-read g c = read_nowhere c.learn_anew.new.output _ c.learn_anew.result c.learn_anew.ensures.err

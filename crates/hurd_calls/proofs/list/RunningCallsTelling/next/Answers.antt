@@ -5,8 +5,9 @@ use Rattle.hurd_calls.proofs.list.RunningCallsTelling.next.Goals as goal
 
 pub returns-in_default : goal.returns-in_default
 returns-in_default c =
-    none_goes c.args.self.now.world.value c.args.self.now.world.value c.args.self.now.calls.items c.pop_front.new.self.items c.args.self.now.told c.args.self.now.told c.args.self.now.tasks
-    (nil_from_length _ (sym c.args.self.now.calls.ok.0 ∙ c.in_default.ensures.cases.0))
+    let none = nil_from_length _ (sym c.args.self.now.calls.ok.0 ∙ c.in_default.ensures.cases.0) in
+    let rest = nil_from_length _ (sym c.pop_front.new.self.ok.0 ∙ c.in_default.ensures.cases.1) in
+    none_goes c.args.self.now.world.value c.args.self.now.calls.items c.pop_front.new.self.items c.args.self.now.told c.args.self.now.tasks none (rest ∙ sym none)
 
 pub returns : goal.returns
 returns c =

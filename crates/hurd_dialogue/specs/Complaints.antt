@@ -1,0 +1,32 @@
+-- What is said of a bad line: where it is and why it is bad, and below that the line itself.
+use Rattle.std.specs.Prelude.{ℕ, ◌-◌, ◌==◌, ◌++◌, List, [], ◌∷◌, Option, Some, None, codes, decimal, get_or, if◌then◌else◌, length, map, nat_lt, take}
+use Rattle.std.specs.List.{concat}
+use Rattle.hurd_words.specs.Escapes.{escaped_byte}
+use Rattle.hurd_words.specs.Lines.{lines_of}
+use Rattle.hurd_words.specs.Printing.{text_if}
+
+-- a line of a text, by its number, counted from 1
+abbrev pub line_at : List ℕ → ℕ → List ℕ
+line_at text number = get_or (lines_of text) (number - 1) []
+
+-- a byte of a line as it is shown: a space as it is, another with the escapes of lists
+abbrev pub shown_byte : ℕ → List ℕ
+shown_byte b = if b == 32 then 32 ∷ [] else escaped_byte b
+
+unfoldable pub shown : List ℕ → List ℕ
+shown bytes = concat (map shown_byte bytes)
+
+-- a line as it is shown: its first 200 bytes, and dots where there are more
+abbrev pub shown_line : List ℕ → List ℕ
+shown_line line = shown (take 200 line) ++ text_if (nat_lt 200 (length line)) (codes " ..")
+
+-- what is said behind a file's name of a bad line: its number, what the text is, and a reason; at line 0 the reason alone
+abbrev pub complaint_at : List ℕ → List ℕ → ℕ → List ℕ → List ℕ
+complaint_at noun text line reason =
+    if line == 0 then codes ": " ++ (reason ++ codes "\n")
+    else codes ":" ++ (decimal line ++ (noun ++ (reason ++ (codes "\n  " ++ (shown_line (line_at text line) ++ codes "\n")))))
+
+-- the same of a text that may be bad, at this line and for this reason
+abbrev pub complaint_by : List ℕ → List ℕ → Option ℕ → Option (List ℕ) → List ℕ
+complaint_by noun text (Some line) (Some reason) = complaint_at noun text line reason
+complaint_by noun text _ _ = []

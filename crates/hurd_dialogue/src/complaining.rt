@@ -1,0 +1,90 @@
+//! What is said of a bad line.
+ghost use Rattle.std.specs.Prelude.{◌≡◌, ◌++◌, IfOk, OnOk, take};
+ghost use Rattle.hurd_dialogue.specs.Complaints.{complaint_at, line_at, shown, shown_byte, shown_line};
+
+use hurd_words::escapes::push_escaped;
+use hurd_words::printing::push_if;
+use hurd_words::words::pieces;
+use itoa::Buffer;
+use std::alloc::{AllocError, Global};
+
+/// How many bytes of a line are shown.
+const MOST_SHOWN: usize = 200;
+
+/// A line of a text, by its number, counted from 1; nothing where there is none. An error is want of memory.
+fn line_at<'a>(alloc: Global, text: &'a [u8], number: u64) -> Result<&'a [u8], AllocError>
+    ensures { IfOk result (λ line. line.now ≡ line_at text.entry.now number) }
+{
+    let lines = pieces(alloc, text, b'\n')?;
+    match lines.as_slice().get(number.saturating_sub(1) as usize) {
+        Some(line) => Ok(*line),
+        None => Ok(b""),
+    }
+}
+
+/// Prints a byte of a line: a space as it is, another with the escapes of lists.
+fn push_shown_byte(text: &mut Vec<u8>, byte: u8) -> Result<(), AllocError>
+    ensures { OnOk result (text.new.items ≡ text.old.items ++ shown_byte byte) }
+{
+    if byte == b' ' {
+        text.push(byte)?;
+        return Ok(());
+    }
+    push_escaped(text, &[byte])
+}
+
+/// Prints the bytes of a line.
+fn push_shown(text: &mut Vec<u8>, bytes: &[u8]) -> Result<(), AllocError>
+    ensures { OnOk result (text.new.items ≡ text.old.items ++ shown bytes.now) }
+{
+    for byte in bytes {
+        push_shown_byte(text, *byte)?;
+    }
+    Ok(())
+}
+
+/// The first bytes of a line, as many as are shown.
+fn front(line: &[u8]) -> &[u8]
+    ensures { result.now ≡ take 200 line.now }
+{
+    if line.len() <= MOST_SHOWN {
+        return line;
+    }
+    let (front, _) = line.split_at(MOST_SHOWN);
+    front
+}
+
+/// Prints a line: its first 200 bytes, and dots where there are more.
+fn push_shown_line(text: &mut Vec<u8>, line: &[u8]) -> Result<(), AllocError>
+    ensures { OnOk result (text.new.items ≡ text.old.items ++ shown_line line.now) }
+{
+    push_shown(text, front(line))?;
+    push_if(text, line.len() > MOST_SHOWN, " ..")
+}
+
+/// What is said behind a file's name of a text that is bad at a line for this reason: the line's number, what the text is, as `: bad script: `, the
+/// reason, and below that the line; at line 0 the reason alone. An error is want of memory.
+pub fn complaint(
+    alloc: Global,
+    noun: &str,
+    text: &[u8],
+    line: u64,
+    reason: &str,
+) -> Result<Vec<u8>, AllocError>
+    ensures { IfOk result (λ c. c.items ≡ complaint_at noun.now text.now line reason.now) }
+{
+    if line == 0 {
+        let mut said = Vec::from_slice(alloc, b": ")?;
+        said.extend_from_slice(reason.as_bytes())?;
+        said.push(b'\n')?;
+        return Ok(said);
+    }
+    let mut said = Vec::from_slice(alloc, b":")?;
+    said.extend_from_slice(Buffer::new().format(line).as_bytes())?;
+    said.extend_from_slice(noun.as_bytes())?;
+    said.extend_from_slice(reason.as_bytes())?;
+    said.extend_from_slice(b"\n  ")?;
+    push_shown_line(&mut said, line_at(alloc, text, line)?)?;
+    said.push(b'\n')?;
+    Ok(said)
+}

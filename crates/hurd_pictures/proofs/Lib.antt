@@ -1,0 +1,11 @@
+pub mod Pushes
+pub mod EscapeLaws
+pub mod IdLaws
+pub mod DrawingLaws
+pub mod SearchLaws
+pub mod MarkLaws
+pub mod PlainLaws
+pub mod PictureLaws
+pub mod SeatLaws
+pub mod BoxLaws
+pub mod StubLaws

@@ -1,0 +1,38 @@
+-- What is looked for among the rows of a view, by an index.
+use Rattle.std.proofs.Common.{◌≡◌, ◌∙◌, inl, inr, refl, sym, ap, ℕ, ◌+◌, ◌<◌, ◌≤◌, Bool, true, false, List, ◌∷◌, if◌then◌else◌, drop, length, Some, None}
+use Rattle.std.specs.Prelude.{Option, slice_get}
+use Rattle.std.specs.Option.{option_map}
+use Rattle.hurd_creds.specs.declared.name.Name.{Name}
+use Rattle.hurd_views.specs.declared.rows.Row.{Row}
+use Rattle.hurd_views.specs.declared.view.View.{View}
+use Rattle.hurd_views.specs.Views.{row_at}
+use Rattle.hurd_pictures.specs.Found.{first_sought, is_sought}
+use Rattle.hurd_pictures.specs.declared.names.Sought.{Sought}
+use Rattle.hurd_pictures.proofs.DrawingLaws.{beyond, here}
+use Rattle.std.proofs.lemmas.Option.{slice_get_cases}
+
+-- it stands under the name at an index, or further on
+pub sought_at : (v : View) (s : Sought) (es : List (Name × Row)) (i : ℕ) (n : Name) (t : Bool) → Some n ≡ option_map (λ (e : Name × Row). e.0) (slice_get es i)
+    → is_sought s (row_at v.rows n) ≡ t → first_sought v s (drop i es) ≡ (if t then Some n else first_sought v s (drop (i + 1) es))
+sought_at v s es i n t is sought = go (slice_get es i) refl is
+  where
+    go : (o : Option (Name × Row)) → slice_get es i ≡ o → Some n ≡ option_map (λ (e : Name × Row). e.0) o
+        → first_sought v s (drop i es) ≡ (if t then Some n else first_sought v s (drop (i + 1) es))
+    go None at is = absurd (cc)
+    go (Some e) at is =
+        ap (first_sought v s) (here es i e at)
+        ∙ (ap (λ (m : Name). if is_sought s (row_at v.rows m) then Some m else first_sought v s (drop (i + 1) es)) (sym key)
+        ∙ ap (λ (b : Bool). if b then Some n else first_sought v s (drop (i + 1) es)) sought)
+      where
+        key : n ≡ e.0
+        key = let it : Some n ≡ Some e.0 = is in cc
+
+-- within there is a name
+pub named_within : (es : List (Name × Row)) (i : ℕ) → i < length es → None ≡ option_map (λ (e : Name × Row). e.0) (slice_get es i) → ⊥
+named_within es i below none = elim (slice_get_cases es i).1 [
+  | inl inside ↦ not_none (none ∙ ap (option_map (λ (e : Name × Row). e.0)) inside.2)
+  | inr past ↦ beyond i (length es) below past.0
+]
+  where
+    not_none : {X : Type 0} {x : X} → None ≡ Some x → ⊥
+    not_none e = cc

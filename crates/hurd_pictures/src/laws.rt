@@ -1,0 +1,12 @@
+//! What it means that a node is marked, and what may stand in a label.
+ghost use Rattle.hurd_pictures.specs.Laws.{DrawnUnseenWhereUnseen, LabelsArePlain};
+
+/// A law: a node is drawn as unseen exactly where those who are marked see neither its attributes nor what is in it.
+pub fn drawn_unseen_where_unseen()
+    ensures { DrawnUnseenWhereUnseen }
+{}
+
+/// A law: whatever bytes a name or a text has, in a label they are neither markup nor the end of a text.
+pub fn labels_are_plain()
+    ensures { LabelsArePlain }
+{}
