@@ -21,8 +21,8 @@ def below(name):
     with open(os.path.join(TOP, "crates.txt"), encoding="utf-8") as file:
         for line in file:
             if ":" in line.split("#")[0]:
-                name, uses = line.split("#")[0].split(":")
-                lines[name.strip()] = uses.split()
+                crate, uses = line.split("#")[0].split(":")
+                lines[crate.strip()] = uses.split()
     found, rest = set(), [name]
     while rest:
         name = rest.pop()
