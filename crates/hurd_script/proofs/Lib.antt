@@ -5,3 +5,4 @@ pub mod ActionLemmas
 pub mod LetterLemmas
 pub mod SettransLemmas
 pub mod SettingLemmas
+pub mod TextLemmas

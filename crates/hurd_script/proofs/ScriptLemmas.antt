@@ -12,7 +12,7 @@ use Rattle.hurd_words.specs.Words.{is_bad_word, text_of, words_of, written_words
 use Rattle.hurd_words.specs.Users.{Declaration, begins_with, declaration_of, declared_ids, declared_name, has_room_for, may_declare_some, task_of}
 use Rattle.hurd_script.specs.Commands.{CommandLine, command_at, command_from, command_of, header_of, is_bad_command, is_command_line, verb_of}
 use Rattle.hurd_script.specs.Script.{first_bad, is_bad_line, user_at}
-use Rattle.hurd_script.specs.Flaws.{Blames, LineFaultOf, ReadsLine, fault_at, line_flaw}
+use Rattle.hurd_script.specs.Flaws.{TellsFlaw, LineFaultOf, ReadsLine, fault_at, line_flaw}
 use Rattle.hurd_script.specs.Reading.{Standing, standing, with_command, with_declared, with_line, with_user}
 use Rattle.hurd_script.specs.declared.command.Verb.{Verb}
 use Rattle.hurd_script.specs.declared.flaw.LineFault.{LineFault}
@@ -146,7 +146,7 @@ bad_line lines i before h b w =
 -- a line that was not read
 pub line_fault : (lines : List (List ℕ)) (i : ℕ) (before after : Standing) (fault : LineFault) → i < length lines → before ≡ standing (take i lines)
     → bad_from (i + 1) (take i lines) (drop i lines) ≡ first_bad lines
-    → ReadsLine {X = Unit {0}} (λ _. after) (with_line before (get_or lines i [])) (Err fault) → Blames {X = Unit {0}} (line_flaw before (get_or lines i [])) (Err fault)
+    → ReadsLine {X = Unit {0}} (λ _. after) (with_line before (get_or lines i [])) (Err fault) → TellsFlaw {X = Unit {0}} (line_flaw before (get_or lines i [])) (Err fault)
     → LineFaultOf lines (fault_at fault (i + 1))
 line_fault lines i before after told.Memory h b e w f = tt
 line_fault lines i before after (told.Bad flaw) h b e w f =

@@ -104,7 +104,7 @@ ReadsLine view wanted (Err line_fault.Memory) = Unit {0}
 ReadsLine view wanted (Err (line_fault.Bad told)) = wanted ≡ None
 
 -- where it is bad, this is the reason that is told
-abbrev pub Blames : {X : Type 0} → Option ScriptFlaw → Result X LineFault → Type 0
-Blames flaw (Ok x) = Unit {0}
-Blames flaw (Err line_fault.Memory) = Unit {0}
-Blames flaw (Err (line_fault.Bad told)) = flaw ≡ Some told
+abbrev pub TellsFlaw : {X : Type 0} → Option ScriptFlaw → Result X LineFault → Type 0
+TellsFlaw flaw (Ok x) = Unit {0}
+TellsFlaw flaw (Err line_fault.Memory) = Unit {0}
+TellsFlaw flaw (Err (line_fault.Bad told)) = flaw ≡ Some told

@@ -1,5 +1,5 @@
 //! Commands and what they ask for.
-ghost use Rattle.std.specs.Prelude.{◌≡◌, IfOk, map, string_bytes};
+ghost use Rattle.std.specs.Prelude.{◌≡◌, ◌↔◌, IfOk, IsTrue, map, string_bytes};
 ghost use Rattle.hurd_script.specs.Actions.{action_of};
 ghost use Rattle.hurd_script.specs.Commands.{CommandLine, verb_of};
 
@@ -139,6 +139,16 @@ impl Command {
         self.header.as_slice()
     }
 
+    /// Whether these are the same command of the same task, written in the same way. Takes no memory.
+    pub fn is_same(&self, other: &Command) -> bool
+        ensures { IsTrue result ↔ (self.now ≡ other.now) }
+    {
+        self.task.0 == other.task.0
+            && self.verb == other.verb
+            && self.header.is_same(&other.header)
+            && same_texts(self.words.as_slice(), other.words.as_slice())
+    }
+
     /// What the words ask for, read with clap.
     ///
     /// A word that begins with `-`, other than `-` itself, is a flag. `ls` takes the flag `-d`, once at most,
@@ -171,6 +181,28 @@ impl Command {
             Verb::Fsysopts => actions::fsysopts(alloc, words),
         }
     }
+}
+
+/// Whether these are the same text.
+fn same_text(some: &String, other: &String) -> bool
+    ensures { IsTrue result ↔ (string_bytes some.now ≡ string_bytes other.now) }
+{
+    some.as_bytes() == other.as_bytes()
+}
+
+/// Whether these are the same texts in the same order. Takes no memory.
+pub fn same_texts(some: &[String], others: &[String]) -> bool
+    ensures { IsTrue result ↔ (map string_bytes some.now ≡ map string_bytes others.now) }
+{
+    if some.len() != others.len() {
+        return false;
+    }
+    for i in 0..some.len() {
+        if !same_text(&some[i], &others[i]) {
+            return false;
+        }
+    }
+    true
 }
 
 /// The command of a name.

@@ -20,7 +20,7 @@ mod reader;
 mod settrans;
 mod usage;
 
-pub use command::{Action, Command, Verb};
+pub use command::{Action, Command, Verb, same_texts};
 pub use flaw::ScriptFlaw;
 pub use places::Place;
 pub use reader::{Script, ScriptFault, parse_script};

@@ -5,7 +5,7 @@ ghost use Rattle.hurd_words.specs.Lines.{is_skipped};
 ghost use Rattle.std.specs.List.{slice_split};
 ghost use Rattle.hurd_words.specs.Reading.{good_words, said};
 ghost use Rattle.hurd_words.specs.Words.{text_of};
-ghost use Rattle.hurd_script.specs.Flaws.{FaultOf, Blames, LineFaultOf, ReadsLine, command_flaw, fault_at, late_flaw, line_flaw, name_flaw, user_flaw, words_flaw};
+ghost use Rattle.hurd_script.specs.Flaws.{FaultOf, TellsFlaw, LineFaultOf, ReadsLine, command_flaw, fault_at, late_flaw, line_flaw, name_flaw, user_flaw, words_flaw};
 ghost use Rattle.hurd_script.specs.Reading.{standing, with_command, with_declared, with_line, with_user, with_words};
 ghost use Rattle.hurd_script.specs.Commands.{command_of};
 ghost use Rattle.hurd_script.specs.Script.{bad, commands_of, first_bad, names_of, users_of};
@@ -132,7 +132,7 @@ impl Reader {
         ensures read { let user : Declaration = record { name = name.now; uids = uids.now; gids = gids.now } in
             ReadsLine (λ _. self.new) (with_declared self.old (Some user)) result }
         ensures blamed { let user : Declaration = record { name = name.now; uids = uids.now; gids = gids.now } in
-            Blames (user_flaw self.old.names (Some user)) result }
+            TellsFlaw (user_flaw self.old.names (Some user)) result }
     {
         if let Some(flaw) = self.name_flaw(name) {
             return Err(LineFault::Bad(flaw));
@@ -147,7 +147,7 @@ impl Reader {
     fn take_declaration(&mut self, alloc: Global, words: &[String]) -> Result<(), LineFault>
         requires { self.old.begun ≡ false }
         ensures read { ReadsLine (λ _. self.new) (with_declared self.old (declaration_of (map string_bytes words.now))) result }
-        ensures blamed { Blames (user_flaw self.old.names (declaration_of (map string_bytes words.now))) result }
+        ensures blamed { TellsFlaw (user_flaw self.old.names (declaration_of (map string_bytes words.now))) result }
     {
         let [_, name, uids, gids] = words else {
             return Err(LineFault::Bad(ScriptFlaw::UserForm));
@@ -158,7 +158,7 @@ impl Reader {
     /// Reads a user line's words.
     fn take_user(&mut self, alloc: Global, words: &[String]) -> Result<(), LineFault>
         ensures read { ReadsLine (λ _. self.new) (with_declared self.old (declaration_of (map string_bytes words.now))) result }
-        ensures blamed { Blames (late_flaw self.old (declaration_of (map string_bytes words.now))) result }
+        ensures blamed { TellsFlaw (late_flaw self.old (declaration_of (map string_bytes words.now))) result }
     {
         if self.begun {
             return Err(LineFault::Bad(ScriptFlaw::LateUser));
@@ -174,7 +174,7 @@ impl Reader {
         mut words: Vec<String>,
     ) -> Result<(), LineFault>
         ensures read { ReadsLine (λ _. self.new) (with_command self.old (command_of self.old.names line.now (map string_bytes words.items))) result }
-        ensures blamed { Blames (command_flaw self.old.names (map string_bytes words.items)) result }
+        ensures blamed { TellsFlaw (command_flaw self.old.names (map string_bytes words.items)) result }
     {
         if words.is_empty() {
             return Err(LineFault::Bad(ScriptFlaw::NoCommand));
@@ -206,7 +206,7 @@ impl Reader {
         words: Vec<String>,
     ) -> Result<(), LineFault>
         ensures read { ReadsLine (λ _. self.new) (with_words self.old line.now (map string_bytes words.items)) result }
-        ensures blamed { Blames (words_flaw self.old (map string_bytes words.items)) result }
+        ensures blamed { TellsFlaw (words_flaw self.old (map string_bytes words.items)) result }
     {
         if is_user_line(words.as_slice()) {
             self.take_user(alloc, words.as_slice())
@@ -218,7 +218,7 @@ impl Reader {
     /// Reads a line.
     fn take_line(&mut self, alloc: Global, line: &[u8]) -> Result<(), LineFault>
         ensures read { ReadsLine (λ _. self.new) (with_line self.old line.now) result }
-        ensures blamed { Blames (line_flaw self.old line.now) result }
+        ensures blamed { TellsFlaw (line_flaw self.old line.now) result }
     {
         if is_skipped(line) {
             return Ok(());
@@ -231,7 +231,7 @@ impl Reader {
 /// The words of a line.
 fn words_on(alloc: Global, line: &[u8]) -> Result<Vec<String>, LineFault>
     ensures read { ReadsLine (λ v. map string_bytes v.items) (good_words text_of (slice_split (λ b. b == 32) line.now)) result }
-    ensures blamed { Blames (Some ScriptFlaw.Word) result }
+    ensures blamed { TellsFlaw (Some ScriptFlaw.Word) result }
 {
     match words_of(alloc, line) {
         Ok(words) => Ok(words),
@@ -243,7 +243,7 @@ fn words_on(alloc: Global, line: &[u8]) -> Result<Vec<String>, LineFault>
 /// The ids that two lists name.
 fn ids_of(alloc: Global, uids: &str, gids: &str) -> Result<Ids, LineFault>
     ensures read { ReadsLine (λ ids. ids) (ids_from (listed uids.now) (listed gids.now)) result }
-    ensures blamed { Blames (Some ScriptFlaw.UserIds) result }
+    ensures blamed { TellsFlaw (Some ScriptFlaw.UserIds) result }
 {
     match ids_from(alloc, uids, gids) {
         Ok(ids) => Ok(ids),

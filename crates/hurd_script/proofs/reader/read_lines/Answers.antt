@@ -1,6 +1,6 @@
 use Rattle.std.proofs.Common.{◌∙◌, ◌<◌, Err, ap, arith, length, subst, sym, List, ℕ}
 use Rattle.hurd_words.specs.Reading.{said}
-use Rattle.hurd_script.specs.Flaws.{Blames, ReadsLine, line_flaw}
+use Rattle.hurd_script.specs.Flaws.{TellsFlaw, ReadsLine, line_flaw}
 use Rattle.hurd_script.specs.Reading.{with_line}
 use Rattle.hurd_words.proofs.Loops.{length-said, piece_at-said}
 use Rattle.hurd_script.proofs.ScriptLemmas.{good_line, line_fault}
@@ -26,5 +26,5 @@ returns-in-Err-clause-fault c =
     let after = c.take_line.new.self in
     let fault = c.in-Err.fault in
     let read = subst (λ (l : List ℕ). ReadsLine {X = Unit {0}} (λ _. after) (with_line before l) (Err fault)) line c.in-Err.ensures.read in
-    let blamed = subst (λ (l : List ℕ). Blames {X = Unit {0}} (line_flaw before l) (Err fault)) line c.in-Err.ensures.blamed in
+    let blamed = subst (λ (l : List ℕ). TellsFlaw {X = Unit {0}} (line_flaw before l) (Err fault)) line c.in-Err.ensures.blamed in
     rw c.fault_at.ensures (line_fault lines i before after fault within c.loop-index.invariant.so_far c.loop-index.invariant.fine read blamed)
