@@ -7,6 +7,7 @@ _hurd_takes() {
         run) operands=(FILE) options=(--calls -h --help) ;;
         learns | see) operands=(WHO FILE) options=(--calls -h --help) ;;
         draw) operands=(FILE) options=(--as --calls -h --help) ;;
+        tell) operands=(WHO FILE FILE) options=(-h --help) ;;
         help) operands=(VERB) options=() ;;
         *) operands=() options=() ;;
     esac
@@ -14,7 +15,7 @@ _hurd_takes() {
 
 # Completes a word.
 _hurd() {
-    local word=${COMP_WORDS[COMP_CWORD]} verbs=(run learns see draw help) operands options at place=0 is_behind=
+    local word=${COMP_WORDS[COMP_CWORD]} verbs=(run learns see draw tell help) operands options at place=0 is_behind=
     COMPREPLY=()
     if [ "$COMP_CWORD" = 1 ]; then
         operands=(VERB) options=(-h --help -V --version)

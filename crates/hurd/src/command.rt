@@ -7,11 +7,13 @@ const ABOUT: &str =
     "Runs scripts of several users' commands over a file tree in memory in which strangers serve the nodes, and says what users learn by them.";
 
 const AFTER: &str =
-    "FILE is a script, or a list of calls where its name ends with .calls; - is standard input.\nWHO is a user of the script or the number of a task of the list, or several of them between commas.\n\nExit status: 0 all went well; 1 a bad text, or somebody is named who isn't in it; 2 trouble.\nWhat is wrong is said on standard error, as hurd: FILE:LINE: bad script: REASON.\n\nExamples:\n  hurd run examples/welcome.hurd\n  hurd learns alice examples/learned-secret.hurd\n  hurd see alice examples/learned-secret.hurd\n  hurd draw --as alice examples/learned-secret.hurd | dot -Tsvg > picture.svg";
+    "FILE is a script, or a list of calls where its name ends with .calls; - is standard input.\nWHO is a user of the script or the number of a task of the list, or several of them between commas.\nONE and TWO are scripts with the same users, in which WHO give the same commands.\n\nExit status: 0 all went well; 1 a bad text, somebody is named who isn't in it, or ONE and TWO are no such pair; 2 trouble; 3 WHO are told otherwise.\nWhat is wrong is said on standard error, as hurd: FILE:LINE: bad script: REASON.\n\nExamples:\n  hurd run examples/welcome.hurd\n  hurd learns alice examples/learned-secret.hurd\n  hurd see alice examples/learned-secret.hurd\n  hurd draw --as alice examples/learned-secret.hurd | dot -Tsvg > picture.svg\n  hurd tell alice examples/unseen-one.hurd examples/unseen-two.hurd";
 
 const FILE: &str = "a script, a list of calls (NAME.calls), or - for standard input";
 
 const WHO: &str = "users of the script, or tasks of the list, between commas";
+
+const SCRIPT: &str = "a script, or - for standard input";
 
 /// A word that has to be there.
 fn word<'a>(alloc: Global, name: &'a str, help: &'a str) -> Arg<'a> {
@@ -28,6 +30,17 @@ fn verb<'a>(alloc: Global, name: &'a str, about: &'a str) -> Result<Command<'a>,
         .action(ArgAction::SetTrue)
         .help("FILE is a list of calls, whatever its name is");
     Command::new(alloc, name).about(about).arg(calls)
+}
+
+/// The verb for two scripts. An error is want of memory.
+fn tell<'a>(alloc: Global) -> Result<Command<'a>, AllocError> {
+    let about =
+        "Runs two scripts, and prints where WHO first see something else in the second, and where they are first told something else";
+    Command::new(alloc, "tell")
+        .about(about)
+        .arg(word(alloc, "WHO", "users of both scripts, between commas"))?
+        .arg(word(alloc, "ONE", SCRIPT))?
+        .arg(word(alloc, "TWO", SCRIPT))
 }
 
 /// The whole command line. An error is want of memory.
@@ -70,5 +83,6 @@ pub fn hurd<'a>(alloc: Global) -> Result<Command<'a>, AllocError> {
         .subcommand(run)?
         .subcommand(learns)?
         .subcommand(see)?
-        .subcommand(draw)
+        .subcommand(draw)?
+        .subcommand(tell(alloc)?)
 }

@@ -1,7 +1,7 @@
-//! The file that is asked for.
+//! The files that are asked for.
 use crate::shown::shown;
 use crate::words::{Asked, TROUBLE, trouble};
-use hurd_program::perform;
+use hurd_program::{Request, perform, perform_pair};
 use hurd_terminal::{Input, Output};
 use std::alloc::{AllocError, Global};
 use std::fs::File;
@@ -22,15 +22,39 @@ fn name_of(alloc: Global, file: &str) -> Result<Vec<u8>, AllocError> {
 }
 
 /// Does what is asked with what a reader gives; answers the exit status.
-fn serve_from<R: Read + Drop>(rt: &HostRuntime, asked: &Asked, name: &[u8], reader: R) -> u8 {
+fn serve_from<R: Read + Drop>(rt: &HostRuntime, request: &Request, name: &[u8], reader: R) -> u8 {
     let mut input = Input::new(reader);
     let mut output = Output::new(io::writer(rt));
     let mut errors = Output::new(rt.stderr());
     perform(
         rt.alloc(),
-        &asked.request,
+        request,
         name,
         &mut input,
+        &mut output,
+        &mut errors,
+    )
+}
+
+/// Compares two scripts that two readers give; answers the exit status.
+fn tell_from<R: Read + Drop, Q: Read + Drop>(
+    rt: &HostRuntime,
+    who: &str,
+    names: (&[u8], &[u8]),
+    one: R,
+    two: Q,
+) -> u8 {
+    let mut first = Input::new(one);
+    let mut second = Input::new(two);
+    let mut output = Output::new(io::writer(rt));
+    let mut errors = Output::new(rt.stderr());
+    perform_pair(
+        rt.alloc(),
+        who,
+        names.0,
+        names.1,
+        &mut first,
+        &mut second,
         &mut output,
         &mut errors,
     )
@@ -54,22 +78,85 @@ fn unopened(rt: &HostRuntime, name: &[u8], kind: ErrorKind) -> u8 {
     TROUBLE
 }
 
-/// Does what is asked of the file; answers the exit status.
-pub fn serve(rt: &HostRuntime, asked: &Asked) -> u8 {
-    let Ok(name) = name_of(rt.alloc(), asked.file.as_str()) else {
-        return trouble(rt, b"hurd: out of memory\n");
-    };
-    if asked.file.as_str() == "-" {
-        if rt.stdin().is_terminal() {
-            trouble(
-                rt,
-                b"hurd: reading from the terminal; Ctrl-D ends the text\n",
-            );
-        }
-        return serve_from(rt, asked, name.as_slice(), rt.reader());
+/// Says that a text is awaited, where a person types it.
+fn await_text(rt: &HostRuntime) {
+    if rt.stdin().is_terminal() {
+        trouble(
+            rt,
+            b"hurd: reading from the terminal; Ctrl-D ends the text\n",
+        );
     }
-    match File::open(rt, asked.file.as_str()) {
-        Ok(file) => serve_from(rt, asked, name.as_slice(), file),
-        Err(error) => unopened(rt, name.as_slice(), error.kind()),
+}
+
+/// Does what is asked of one file; answers the exit status.
+fn serve_one(rt: &HostRuntime, request: &Request, file: &str, name: &[u8]) -> u8 {
+    if file == "-" {
+        await_text(rt);
+        return serve_from(rt, request, name, rt.reader());
+    }
+    match File::open(rt, file) {
+        Ok(opened) => serve_from(rt, request, name, opened),
+        Err(error) => unopened(rt, name, error.kind()),
+    }
+}
+
+/// Compares a script that a reader gives with that of a second file; answers the exit status.
+fn tell_second<R: Read + Drop>(
+    rt: &HostRuntime,
+    who: &str,
+    names: (&[u8], &[u8]),
+    one: R,
+    two: &str,
+) -> u8 {
+    if two == "-" {
+        await_text(rt);
+        return tell_from(rt, who, names, one, rt.reader());
+    }
+    match File::open(rt, two) {
+        Ok(opened) => tell_from(rt, who, names, one, opened),
+        Err(error) => unopened(rt, names.1, error.kind()),
+    }
+}
+
+/// Compares the scripts of two files; answers the exit status.
+fn tell_files(rt: &HostRuntime, who: &str, names: (&[u8], &[u8]), one: &str, two: &str) -> u8 {
+    if one != "-" {
+        return match File::open(rt, one) {
+            Ok(opened) => tell_second(rt, who, names, opened, two),
+            Err(error) => unopened(rt, names.0, error.kind()),
+        };
+    }
+    if two == "-" {
+        return trouble(
+            rt,
+            b"hurd: standard input can be one of the two scripts only\n",
+        );
+    }
+    await_text(rt);
+    tell_second(rt, who, names, rt.reader(), two)
+}
+
+/// Does what is asked of the files; answers the exit status.
+pub fn serve(rt: &HostRuntime, asked: &Asked) -> u8 {
+    match asked {
+        Asked::One { request, file } => match name_of(rt.alloc(), file.as_str()) {
+            Ok(name) => serve_one(rt, request, file.as_str(), name.as_slice()),
+            Err(_) => trouble(rt, b"hurd: out of memory\n"),
+        },
+        Asked::Pair { who, one, two } => {
+            let (Ok(first), Ok(second)) = (
+                name_of(rt.alloc(), one.as_str()),
+                name_of(rt.alloc(), two.as_str()),
+            ) else {
+                return trouble(rt, b"hurd: out of memory\n");
+            };
+            tell_files(
+                rt,
+                who.as_str(),
+                (first.as_slice(), second.as_slice()),
+                one.as_str(),
+                two.as_str(),
+            )
+        }
     }
 }

@@ -11,12 +11,19 @@ use std::{env, io};
 /// The exit status of trouble.
 pub const TROUBLE: u8 = 2;
 
-/// What is asked, and of which file.
+/// What is asked, and of which files; `-` is standard input.
 #[derive(Drop)]
-pub struct Asked {
-    pub request: Request,
-    /// `-` is standard input.
-    pub file: String,
+pub enum Asked {
+    One {
+        request: Request,
+        file: String,
+    },
+    /// Whether these are told the same by two scripts.
+    Pair {
+        who: String,
+        one: String,
+        two: String,
+    },
 }
 
 /// The text of a word; nothing where it isn't there. An error is want of memory.
@@ -36,6 +43,18 @@ fn named_by(alloc: Global, matches: &ArgMatches<'_>) -> Result<Option<String>, A
 }
 
 /// What is asked by a verb and its words. An error is want of memory.
+fn asked_by(alloc: Global, verb: &str, matches: &ArgMatches<'_>) -> Result<Asked, AllocError> {
+    if verb == "tell" {
+        return Ok(Asked::Pair {
+            who: text_of(alloc, matches, "WHO")?,
+            one: text_of(alloc, matches, "ONE")?,
+            two: text_of(alloc, matches, "TWO")?,
+        });
+    }
+    request_of(alloc, verb, matches)
+}
+
+/// The same of a verb for one file. An error is want of memory.
 fn request_of(alloc: Global, verb: &str, matches: &ArgMatches<'_>) -> Result<Asked, AllocError> {
     let file = text_of(alloc, matches, "FILE")?;
     let sort = if matches.get_flag("calls") || file.as_str().ends_with(".calls") {
@@ -56,7 +75,7 @@ fn request_of(alloc: Global, verb: &str, matches: &ArgMatches<'_>) -> Result<Ask
         _ => Verb::Run,
     };
     let request = Request { sort, verb };
-    Ok(Asked { request, file })
+    Ok(Asked::One { request, file })
 }
 
 /// Says a line on standard error; answers the exit status of trouble.
@@ -110,7 +129,7 @@ fn parsed(rt: &HostRuntime, words: &[String]) -> Result<Asked, u8> {
     };
     match command.try_get_matches_from(words) {
         Ok(matches) => match matches.subcommand() {
-            Some((verb, found)) => match request_of(alloc, verb, found) {
+            Some((verb, found)) => match asked_by(alloc, verb, found) {
                 Ok(asked) => Ok(asked),
                 Err(_) => Err(trouble(rt, b"hurd: out of memory\n")),
             },

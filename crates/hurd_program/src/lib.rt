@@ -4,8 +4,10 @@
 //! where somebody is named who isn't in it, 2 for all else. It opens no file and reads no command line: those are the programs'.
 #![tactic(auto)]
 
+mod pairing;
 mod performing;
 mod request;
 
+pub use pairing::perform_pair;
 pub use performing::perform;
 pub use request::{Request, TextSort, Verb};

@@ -64,7 +64,7 @@ fn complaint(alloc: Global, sort: TextSort, text: &[u8]) -> Result<Vec<u8>, Allo
 }
 
 /// Says of a file why its text is bad, at this line, or that memory was refused for that; answers the exit status.
-fn blame<E: Write>(
+pub(crate) fn blame<E: Write>(
     alloc: Global,
     sort: TextSort,
     text: &[u8],
@@ -82,7 +82,7 @@ fn blame<E: Write>(
 }
 
 /// What is said in front of somebody who isn't in a text.
-fn stranger(sort: TextSort) -> &'static [u8]
+pub(crate) fn stranger(sort: TextSort) -> &'static [u8]
     ensures { result.now ≡ (sort_of sort).stranger }
 {
     match sort {
@@ -92,7 +92,7 @@ fn stranger(sort: TextSort) -> &'static [u8]
 }
 
 /// What is said behind the name of a file where somebody is named who isn't in it. An error is want of memory.
-fn named_line(alloc: Global, stranger: &[u8], who: &str) -> Result<Vec<u8>, AllocError>
+pub(crate) fn named_line(alloc: Global, stranger: &[u8], who: &str) -> Result<Vec<u8>, AllocError>
     ensures { IfOk result (λ line. line.items ≡ stranger.now ++ (escaped who.now ++ codes "\n")) }
 {
     let mut line = Vec::from_slice(alloc, stranger)?;

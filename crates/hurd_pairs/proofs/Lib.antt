@@ -1,0 +1,9 @@
+pub mod FirstLaws
+pub mod OwnLaws
+pub mod ToldLaws
+pub mod PairLaws
+pub mod NumberLaws
+pub mod ScriptLaws
+pub mod StepLaws
+pub mod LookLaws
+pub mod JoinLaws

@@ -1,0 +1,103 @@
+-- What is printed of two scripts.
+use Rattle.std.specs.Prelude.{◌≡◌, ℕ, Bool, List, [], ◌++◌, Option, Some, None, Result, Ok, Err, codes, decimal, if◌then◌else◌, is_some, length, nat_lt, true, false}
+use Rattle.hurd_creds.specs.declared.name.TaskId.{TaskId}
+use Rattle.hurd_machine.specs.Sight.{SameView}
+use Rattle.hurd_sight.specs.Reach.{among}
+use Rattle.hurd_dialogue.specs.Sorts.{Sort}
+use Rattle.hurd_run.specs.Scripts.{scripts}
+use Rattle.hurd_teaching.specs.Learners.{tasks_named}
+use Rattle.hurd_teaching.specs.Programs.{AreThese}
+use Rattle.hurd_teaching.specs.declared.learners.Learners.{Learners}
+use Rattle.hurd_terminal.specs.Faults.{IsFront}
+use Rattle.hurd_terminal.specs.declared.fault.Fault.{Fault}
+use Rattle.hurd_terminal.specs.declared.fault.Fault.TheVariants.{Bad, Boot, Memory, Unknown, Write}
+use Rattle.hurd_pairs.specs.Differences.{Compares}
+use Rattle.hurd_pairs.specs.Lines.{line_of}
+use Rattle.hurd_pairs.specs.Moments.{Moment, moments}
+use Rattle.hurd_pairs.specs.Pairs.{IsPair, Mismatches}
+use Rattle.hurd_pairs.specs.declared.difference.Compared.{Compared}
+use Rattle.hurd_pairs.specs.declared.difference.Difference.{Difference}
+use Rattle.hurd_pairs.specs.declared.difference.PairFault.{PairFault}
+use Rattle.hurd_pairs.specs.declared.difference.PairFault.TheVariants.{First, Second, NoPair}
+use Rattle.hurd_pairs.specs.declared.difference.Verdict.{Verdict}
+use Rattle.hurd_pairs.specs.declared.difference.Verdict.TheVariants.{Same, Otherwise}
+
+-- a place in a text: as `before line 7`, where there is such a line
+unfoldable pub place_text : List ℕ → Option ℕ → List ℕ
+place_text word None = codes " at the end"
+place_text word (Some line) = word ++ decimal line
+
+-- a place in each of two
+unfoldable pub places_text : List ℕ → Option ℕ → Option ℕ → List ℕ
+places_text word one two = place_text word one ++ (codes " of the first," ++ (place_text word two ++ codes " of the second"))
+
+-- what stands behind the names of those who are told something
+abbrev pub are_of : List TaskId → List ℕ
+are_of tasks = if nat_lt 1 (length tasks) then codes " are" else codes " is"
+
+-- a difference, by the lines of the things that are done: the places, between a word and another text, and what is said of it
+unfoldable pub difference_text : List ℕ → List ℕ → (ℕ → Option ℕ) → (ℕ → Option ℕ) → Difference → List ℕ
+difference_text word end one two d = places_text word (one d.one) (two d.two) ++ (end ++ d.said)
+
+-- where somebody whose sight is called so sees something else first
+abbrev pub seen_text : List ℕ → (ℕ → Option ℕ) → (ℕ → Option ℕ) → Option Difference → List ℕ
+seen_text sees one two None = sees ++ codes " the same\n"
+seen_text sees one two (Some d) = sees ++ (codes " otherwise" ++ difference_text (codes " before line ") (codes "; from the first to the second:\n") one two d)
+
+-- and where somebody of whom it is told so is told something else
+abbrev pub told_text : List ℕ → (ℕ → Option ℕ) → (ℕ → Option ℕ) → Option Difference → List ℕ
+told_text are one two None = are ++ codes " told the same\n"
+told_text are one two (Some d) = are ++ (codes " told otherwise" ++ difference_text (codes " at line ") (codes ":\n") one two d)
+
+-- both
+abbrev pub report_text : Learners → (ℕ → Option ℕ) → (ℕ → Option ℕ) → Compared → List ℕ
+report_text learners one two c = seen_text learners.sees.items one two c.seen ++ told_text (learners.names.items ++ are_of learners.tasks.items) one two c.told
+
+-- the moments of a text
+abbrev pub moments_of : Sort → (ℕ → Bool) → List ℕ → List Moment
+moments_of sort S text = moments S 0 (sort.world text) (sort.parts text)
+
+-- the lines of what is done in a text
+abbrev pub lines_in : Sort → List ℕ → ℕ → Option ℕ
+lines_in sort text made = line_of (sort.heading text) text made
+
+-- whether they are told the same
+abbrev pub verdict_of : Option Difference → Verdict
+verdict_of None = Same
+verdict_of (Some d) = Otherwise
+
+-- a report on two scripts that are a pair for those whom a word names: where they first see and are told something else, and whether they are told the same
+pub record Reports (word one two : List ℕ) (verdict : Verdict) (text : List ℕ) : Type 0 where
+  pub learners : Learners
+  pub these : AreThese scripts word one learners
+  pub pair : IsPair (among learners.tasks.items) one two
+  pub compared : Compared
+  pub compares : Compares (SameView (among learners.tasks.items)) (λ v w. SameView (among learners.tasks.items) v w → ⊥) learners.tasks.items learners.sees.items
+      (moments_of scripts (among learners.tasks.items) one) (moments_of scripts (among learners.tasks.items) two) compared
+  pub judged : verdict ≡ verdict_of compared.told
+  pub is : text ≡ report_text learners (lines_in scripts one) (lines_in scripts two) compared
+
+-- why a text can't be told for those whom a word names
+abbrev pub IsFaulty : Sort → List ℕ → List ℕ → Fault → Type 0
+IsFaulty sort word text (Bad line) = sort.bad text ≡ Some line
+IsFaulty sort word text (Boot e) = (sort.bad text ≡ None) × (sort.boot text ≡ Err e)
+IsFaulty sort word text Unknown = (sort.bad text ≡ None) × (is_some (tasks_named (sort.finds text) word) ≡ false)
+IsFaulty sort word text Memory = Unit {0}
+IsFaulty sort word text _ = ⊥
+
+-- a text is good, and those are in it
+pub record IsFit (sort : Sort) (word text : List ℕ) : Type 0 where
+  pub good : sort.bad text ≡ None
+  pub boots : sort.boot text ≡ Ok tt
+  pub known : is_some (tasks_named (sort.finds text) word) ≡ true
+
+-- what is printed of two scripts, by how that ends: the report, or a front of it where it can't be written, and else nothing. What is wrong with the
+-- first comes first
+unfoldable pub PairPrints : List ℕ → List ℕ → List ℕ → Result Verdict PairFault → List ℕ → Type 0
+PairPrints word one two (Ok verdict) printed = IsFit scripts word one × IsFit scripts word two × Reports word one two verdict printed
+PairPrints word one two (Err (First Write)) printed = (verdict : Verdict) × (all : List ℕ) × Reports word one two verdict all × IsFront printed all
+PairPrints word one two (Err (First fault)) printed = IsFaulty scripts word one fault × (printed ≡ [])
+PairPrints word one two (Err (Second fault)) printed = IsFit scripts word one × IsFaulty scripts word two fault × (printed ≡ [])
+PairPrints word one two (Err (NoPair why)) printed =
+    IsFit scripts word one × IsFit scripts word two × (printed ≡ [])
+    × (learners : Learners) × AreThese scripts word one learners × Mismatches (among learners.tasks.items) one two (Some why)

@@ -1,0 +1,11 @@
+-- Whoever is told something else saw something else before.
+use Rattle.std.specs.Prelude.{◌≡◌, ◌≤◌, ℕ, List, Some}
+use Rattle.hurd_pairs.specs.Reports.{Reports}
+use Rattle.hurd_pairs.specs.declared.difference.Difference.{Difference}
+use Rattle.hurd_pairs.specs.declared.difference.Verdict.{Verdict}
+
+-- where a report on two scripts says that something else is told, it says that something else was seen, and not behind that
+abbrev pub ToldBySeen : Type 0
+ToldBySeen =
+    (word one two : List ℕ) (verdict : Verdict) (text : List ℕ) (report : Reports word one two verdict text) (told : Difference) → report.compared.told ≡ Some told
+    → (seen : Difference) × (report.compared.seen ≡ Some seen) × (seen.one ≤ told.one) × (seen.two ≤ told.two)

@@ -1,0 +1,154 @@
+//! What is printed of two scripts.
+ghost use Rattle.std.specs.Prelude.{◌≡◌, ◌++◌, IfOk, OnOk, codes};
+ghost use Rattle.hurd_pairs.specs.Lines.{line_of};
+ghost use Rattle.hurd_pairs.specs.Reports.{are_of, difference_text, place_text, places_text, report_text, seen_text, told_text, verdict_of};
+
+use crate::difference::{Compared, Difference, Verdict};
+use crate::lines::line_of;
+use hurd_creds::TaskId;
+use hurd_teaching::Learners;
+use itoa::Buffer;
+use std::alloc::{AllocError, Global};
+
+/// A text, with how many lines that say something stand before its parts, and one.
+#[derive(Drop)]
+pub(crate) struct Lined<'a> {
+    pub text: &'a [u8],
+    pub heading: usize,
+}
+
+/// Adds a place in a text: the line of a number, behind a word, or the end.
+#[tactic(auto, unfolding(crate::specs::Reports::place_text))]
+fn push_place(text: &mut Vec<u8>, word: &str, line: Option<usize>) -> Result<(), AllocError>
+    ensures { OnOk result (text.new.items ≡ text.old.items ++ place_text word.now line) }
+{
+    match line {
+        Some(line) => {
+            text.extend_from_slice(word.as_bytes())?;
+            text.extend_from_slice(Buffer::new().format(line).as_bytes())
+        }
+        None => text.extend_from_slice(b" at the end"),
+    }
+}
+
+/// Adds a place in each of two texts.
+#[tactic(auto, unfolding(crate::specs::Reports::places_text))]
+fn push_places(
+    text: &mut Vec<u8>,
+    word: &str,
+    one: Option<usize>,
+    two: Option<usize>,
+) -> Result<(), AllocError>
+    ensures { OnOk result (text.new.items ≡ text.old.items ++ places_text word.now one two) }
+{
+    push_place(text, word, one)?;
+    text.extend_from_slice(b" of the first,")?;
+    push_place(text, word, two)?;
+    text.extend_from_slice(b" of the second")?;
+    Ok(())
+}
+
+/// Adds a difference: the places, between a word and another text, and what is said of it.
+#[tactic(auto, unfolding(crate::specs::Reports::difference_text))]
+fn push_difference(
+    alloc: Global,
+    text: &mut Vec<u8>,
+    word: &str,
+    end: &str,
+    one: &Lined<'_>,
+    two: &Lined<'_>,
+    difference: &Difference,
+) -> Result<(), AllocError>
+    ensures { OnOk result (text.new.items ≡ text.old.items ++ difference_text word.now end.now (line_of one.now.heading one.now.text.now) (line_of two.now.heading two.now.text.now) difference.now) }
+{
+    let first = line_of(alloc, one.heading, one.text, difference.one)?;
+    let second = line_of(alloc, two.heading, two.text, difference.two)?;
+    push_places(text, word, first, second)?;
+    text.extend_from_slice(end.as_bytes())?;
+    text.extend_from_slice(difference.said.as_slice())
+}
+
+/// Adds what some see otherwise first.
+fn push_seen(
+    alloc: Global,
+    text: &mut Vec<u8>,
+    learners: &Learners,
+    one: &Lined<'_>,
+    two: &Lined<'_>,
+    seen: &Option<Difference>,
+) -> Result<(), AllocError>
+    ensures { OnOk result (text.new.items ≡ text.old.items ++ seen_text learners.now.sees.items (line_of one.now.heading one.now.text.now) (line_of two.now.heading two.now.text.now) seen.now) }
+{
+    text.extend_from_slice(learners.sees.as_slice())?;
+    match seen {
+        Some(seen) => {
+            text.extend_from_slice(b" otherwise")?;
+            push_difference(
+                alloc,
+                text,
+                " before line ",
+                "; from the first to the second:\n",
+                one,
+                two,
+                seen,
+            )
+        }
+        None => text.extend_from_slice(b" the same\n"),
+    }
+}
+
+/// What stands behind the names of those who are told something.
+fn are(tasks: &[TaskId]) -> &'static [u8]
+    ensures { result.now ≡ are_of tasks.now }
+{
+    if tasks.len() > 1 { b" are" } else { b" is" }
+}
+
+/// Adds what some are told otherwise first.
+fn push_told(
+    alloc: Global,
+    text: &mut Vec<u8>,
+    learners: &Learners,
+    one: &Lined<'_>,
+    two: &Lined<'_>,
+    told: &Option<Difference>,
+) -> Result<(), AllocError>
+    ensures { OnOk result (text.new.items ≡ text.old.items ++ told_text (learners.now.names.items ++ are_of learners.now.tasks.items)
+        (line_of one.now.heading one.now.text.now) (line_of two.now.heading two.now.text.now) told.now) }
+{
+    text.extend_from_slice(learners.names.as_slice())?;
+    text.extend_from_slice(are(learners.tasks.as_slice()))?;
+    match told {
+        Some(told) => {
+            text.extend_from_slice(b" told otherwise")?;
+            push_difference(alloc, text, " at line ", ":\n", one, two, told)
+        }
+        None => text.extend_from_slice(b" told the same\n"),
+    }
+}
+
+/// The report on two texts. An error is want of memory.
+pub(crate) fn report(
+    alloc: Global,
+    learners: &Learners,
+    one: &Lined<'_>,
+    two: &Lined<'_>,
+    compared: &Compared,
+) -> Result<Vec<u8>, AllocError>
+    ensures { IfOk result (λ text. text.items ≡ report_text learners.now (line_of one.now.heading one.now.text.now) (line_of two.now.heading two.now.text.now) compared.now) }
+{
+    let mut text = Vec::new(alloc);
+    push_seen(alloc, &mut text, learners, one, two, &compared.seen)?;
+    push_told(alloc, &mut text, learners, one, two, &compared.told)?;
+    Ok(text)
+}
+
+/// Whether some are told the same.
+pub(crate) fn verdict(compared: &Compared) -> Verdict
+    ensures { result ≡ verdict_of compared.now.told }
+{
+    match compared.told {
+        Some(_) => Verdict::Otherwise,
+        None => Verdict::Same,
+    }
+}
