@@ -1,10 +1,10 @@
 -- The program that runs two scripts side by side.
-use Rattle.std.specs.Prelude.{◌≡◌, ◌⊎◌, ℕ, true, List, [], ◌++◌, Option, Some, None, Result, Ok, Err, IfSome, codes, decimal, take}
+use Rattle.std.specs.Prelude.{◌≡◌, ◌≢◌, ◌⊎◌, ℕ, true, List, [], ◌++◌, Option, Some, None, Result, Ok, Err, IfSome, codes, decimal, take}
 use Rattle.std.specs.Io.KnownBytes.{Appends}
 use Rattle.hurd_run.specs.Scripts.{scripts}
 use Rattle.hurd_terminal.specs.Faults.{IsReadFault, Says, line_of, of_file, status_of}
 use Rattle.hurd_terminal.specs.declared.fault.Fault.{Fault}
-use Rattle.hurd_terminal.specs.declared.fault.Fault.TheVariants.{Write}
+use Rattle.hurd_terminal.specs.declared.fault.Fault.TheVariants.{Memory, Write}
 use Rattle.hurd_terminal.specs.declared.print.Output.{Output}
 use Rattle.hurd_terminal.specs.declared.read.Input.{Input}
 use Rattle.hurd_words.specs.Escapes.{escaped}
@@ -50,6 +50,13 @@ pair_line word first second one two (Err (NoPair why)) = of_file second (mismatc
 -- what was read of a file: all that it held, or the first 1,048,577 bytes, which no good script has
 abbrev pub IsHeld : Option (List ℕ) → List ℕ → Type 0
 IsHeld held text = IfSome held (λ bytes. text ≡ take 1048577 bytes)
+
+-- what is said of a script that isn't told for this reason: its line, or that memory was refused for that, but where nothing could be printed
+pub record IsBlamed (word file text : List ℕ) (fault : Fault) {E : Type 0} (said : E → Option (List ℕ)) (errors told : Output E) (status : ℕ) : Type 0 where
+  pub ended : Fault
+  pub why : (ended ≡ fault) ⊎ ((ended ≡ Memory) × (fault ≢ Write))
+  pub says : Says said errors told (line_of file (scripts.complaint text) (scripts.stranger ++ (escaped word ++ codes "\n")) (Err ended))
+  pub is : status ≡ status_of (Err ended)
 
 -- a run of two texts ended so: what was printed, that a write is to blame only where one failed, what was said on standard error, and the status
 pub record PairEnds (word first second one two : List ℕ) {W E : Type 0} (contents : W → Option (List ℕ)) (said : E → Option (List ℕ))

@@ -1,17 +1,15 @@
 //! Two scripts are run side by side.
-ghost use Rattle.std.specs.Prelude.{◌≡◌, ◌⊎◌, ◌++◌, [], ℕ, List, Result, Err, IfOk, OnOk, codes};
-ghost use Rattle.std.specs.Io.KnownBytes.{Appends};
+ghost use Rattle.std.specs.Prelude.{◌≡◌, ◌⊎◌, ◌++◌, ℕ, List, Result, Err, IfOk, OnOk, codes};
 ghost use Rattle.hurd_run.specs.Scripts.{scripts};
-ghost use Rattle.hurd_terminal.specs.Faults.{Says, line_of, of_file, status_of};
+ghost use Rattle.hurd_terminal.specs.Faults.{Says, line_of, status_of};
 ghost use Rattle.hurd_terminal.specs.declared.fault.Fault.{Fault};
 ghost use Rattle.hurd_words.specs.Escapes.{escaped};
-ghost use Rattle.hurd_pairs.specs.Reports.{lines_in};
-ghost use Rattle.hurd_program.specs.Pairs.{BlamesOr, PairEnds, PairExits, at_line, mismatch_text, other_command, pair_status};
-ghost use Rattle.hurd_program.specs.declared.request.TextSort.TheVariants.{Script};
+ghost use Rattle.hurd_pairs.specs.declared.difference.PairFault.{PairFault};
+ghost use Rattle.hurd_pairs.specs.declared.difference.Verdict.{Verdict};
+ghost use Rattle.hurd_program.specs.Pairs.{IsBlamed, PairEnds, PairExits, at_line, mismatch_text, other_command, pair_line, pair_status};
 
 use crate::performing::{blame, named_line, stranger};
 use crate::request::TextSort;
-use hurd_creds::Bytes;
 use hurd_pairs::{Mismatch, PairFault, Verdict, line_in_script, tell_scripts};
 use hurd_terminal::{Fault, Input, Output, finish, read_text};
 use itoa::Buffer;
@@ -97,12 +95,24 @@ fn say_mismatch<E: Write>(
     why: Mismatch,
     errors: &mut Output<E>,
 ) -> u8
-    ensures { (ended : Result Verdict PairFault) × ((ended ≡ Err (NoPair why)) ⊎ (ended ≡ Err (First Memory)))
+    ensures { (ended : Result Verdict PairFault) × ((ended ≡ Err (PairFault.NoPair why)) ⊎ (ended ≡ Err (PairFault.First Fault.Memory)))
         × ((word : List ℕ) → Says E.contents errors.old errors.new (pair_line word first.now second.now one.now two.now ended)) × (result ≡ pair_status ended) }
 {
     match mismatch_line(alloc, first, one, two, why) {
         Ok(text) => finish(Err(Fault::Unknown), second, b"", text.as_slice(), errors),
         Err(_) => finish(Err(Fault::Memory), second, b"", b"", errors),
+    }
+}
+
+/// Says that somebody is named who isn't in a script, or that memory was refused for that; answers the exit status.
+fn say_stranger<E: Write>(alloc: Global, who: &str, file: &[u8], errors: &mut Output<E>) -> u8
+    ensures { (ended : Result (Unit {0}) Fault) × ((ended ≡ Err Fault.Unknown) ⊎ (ended ≡ Err Fault.Memory))
+        × ((complaint : List ℕ) → Says E.contents errors.old errors.new (line_of file.now complaint (scripts.stranger ++ (escaped who.now ++ codes "\n")) ended))
+        × (result ≡ status_of ended) }
+{
+    match named_line(alloc, stranger(TextSort::Script), who) {
+        Ok(line) => finish(Err(Fault::Unknown), file, b"", line.as_slice(), errors),
+        Err(_) => finish(Err(Fault::Memory), file, b"", b"", errors),
     }
 }
 
@@ -115,15 +125,14 @@ fn say_fault<E: Write>(
     fault: Fault,
     errors: &mut Output<E>,
 ) -> u8
-    ensures { (ended : Result (Unit {0}) Fault) × ((ended ≡ Err fault) ⊎ (ended ≡ Err Memory))
-        × Says E.contents errors.old errors.new (line_of file.now (scripts.complaint text.now) (scripts.stranger ++ (escaped who.now ++ codes "\n")) ended) × (result ≡ status_of ended) }
+    ensures { IsBlamed who.now file.now text.now fault E.contents errors.old errors.new result }
 {
-    if let Fault::Bad { line } = fault {
-        return blame(alloc, TextSort::Script, text, line, file, errors);
-    }
-    match named_line(alloc, stranger(TextSort::Script), who) {
-        Ok(line) => finish(Err(fault), file, b"", line.as_slice(), errors),
-        Err(_) => finish(Err(Fault::Memory), file, b"", b"", errors),
+    match fault {
+        Fault::Bad { line } => blame(alloc, TextSort::Script, text, line, file, errors),
+        Fault::Unknown => say_stranger(alloc, who, file, errors),
+        Fault::Read | Fault::Write | Fault::Boot(_) | Fault::Memory => {
+            finish(Err(fault), file, b"", b"", errors)
+        }
     }
 }
 

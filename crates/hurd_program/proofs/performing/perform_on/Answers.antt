@@ -1,4 +1,4 @@
-use Rattle.std.proofs.Common.{ap, sym, ℕ, List}
+use Rattle.std.proofs.Common.{ap, ℕ, List}
 use Rattle.hurd_program.specs.Requests.{asked, sort_of}
 use Rattle.hurd_program.proofs.Asked.{complains}
 use Rattle.hurd_program.proofs.Ended.{bad_ends}
