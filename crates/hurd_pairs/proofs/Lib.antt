@@ -7,3 +7,4 @@ pub mod ScriptLaws
 pub mod StepLaws
 pub mod LookLaws
 pub mod JoinLaws
+pub mod OneReport

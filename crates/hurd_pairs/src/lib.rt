@@ -15,6 +15,6 @@ mod reports;
 mod scripts;
 
 pub use difference::{Compared, Difference, Mismatch, PairFault, Verdict};
-pub use laws::whoever_is_told_otherwise_saw_otherwise;
+pub use laws::{one_report_is_printed, whoever_is_told_otherwise_saw_otherwise};
 pub use lines::line_in_script;
 pub use scripts::tell_scripts;
