@@ -1,10 +1,10 @@
 -- Seats that change places: which of them stand behind the first, and what the table means.
-use Rattle.std.proofs.Common.{arith, ◌≡◌, ◌≢◌, ◌⊎◌, inl, inr, ℕ, zero, suc, ◌+◌, ◌-◌, ◌<◌, ◌≤◌, Bool, true, false, cond, List, [], ◌∷◌, length, take, refl, sym, ap, ◌∙◌, true≢false}
+use Rattle.std.proofs.Common.{arith, ◌≡◌, ◌≢◌, ◌⊎◌, inl, inr, ℕ, zero, suc, ◌+◌, ◌-◌, ◌<◌, ◌≤◌, Bool, true, false, cond, List, [], ◌∷◌, length, take, refl, sym, ap, ap₂, ◌∙◌, true≢false}
 use Rattle.std.proofs.lemmas.Bool.{cases_Bool, cases_lt}
 use Rattle.std.proofs.lemmas.Option.{same_Some, slice_get-get_or, get_or_from_slice_get}
 use Rattle.std.specs.Prelude.{Option, Some, None, position, swap, swap_remove, slice_get, slice_index_or, slice_set}
 use Rattle.std.specs.Option.{option_map, option_map_or}
-use Rattle.std.specs.Map.{keys_of}
+use Rattle.std.specs.Map.{keys_of, values_of}
 use Rattle.std.specs.FinMap as fin
 use Rattle.indexmap.specs.IndexMap.{IndexMap, get, insert_entry, swap_remove_entry}
 use Rattle.hurd_creds.specs.declared.name.Name.{Name}
@@ -95,6 +95,18 @@ own-place (e ∷ es) (suc k) x apart is =
 -- what stands where a name is found has it
 named-at : {X : Type 0} (es : List (Name × X)) (s : Name) (i : ℕ) (x : Name × X) → place_by row_key s es ≡ Some i → slice_get es i ≡ Some x → x.0 ≡ s
 named-at es s i x at is = sym (ap (λ (y : Name × _). y.0) (get_or_from_slice_get es i x x is)) ∙ (place-is row_key (λ (y : Name × _). y) s es i at).named x
+
+-- what is read at the place of a name stands there under that name
+
+value_at : {X : Type 0} (es : List (Name × X)) (i : ℕ) (v : X) → slice_get (values_of es) i ≡ Some v → (e : Name × X) × (slice_get es i ≡ Some e) × (e.1 ≡ v)
+value_at [] i v read = let none : None ≡ Some v = read in absurd (cc)
+value_at (e ∷ es) zero v read = (e, refl, same_Some e.1 v read)
+value_at (e ∷ es) (suc i) v read = value_at es i v read
+
+pub placed : {X : Type 0} (es : List (Name × X)) (s : Name) (i : ℕ) (v : X) → Some i ≡ place_by row_key s es → slice_get (values_of es) i ≡ Some v → slice_get es i ≡ Some (s, v)
+placed es s i v at read =
+    let r = value_at es i v read in
+    r.1 ∙ ap₂ (λ (n : Name) (w : _). Some (n, w)) (named-at es s i r.0 (sym at) r.1) r.2
 
 past_next : (k at : ℕ) → k - 1 ≤ at → at ≢ k - 1 → k ≤ at
 past_next k at past other = elim (cases_lt (k - 1) at) [

@@ -7,7 +7,7 @@ ghost use Rattle.hurd_creds.specs.Names.{same_name};
 ghost use Rattle.hurd_trans_iface.specs.Nodes.{is_listed};
 ghost use Rattle.hurd_creds.specs.NameMaps.{edit, place_by};
 ghost use Rattle.hurd_nodes.specs.Held.{AllSeated, AreApart, held_of, home_in, is_home, new_site, place_in, row_key, sites_of, seat_key, seat_value, seats_of};
-ghost use Rattle.hurd_nodes.specs.Quiet.{AreLess, Behind, IsUnknown};
+ghost use Rattle.hurd_nodes.specs.Quiet.{AreLess, AreNoGuests, Behind, IsRootless, IsUnknown};
 ghost use Rattle.hurd_nodes.specs.Tables.{AreTables};
 ghost use Rattle.hurd_nodes.specs.Shown.{less_old, vacated, with_active, with_home, without_sites, without_server};
 ghost use Rattle.hurd_nodes.specs.Settle.{any_in};
@@ -65,6 +65,7 @@ pub(crate) fn put_site(sites: &mut Sites, node: NodeName, server: ServerName)
 pub(crate) fn remove_site(sites: &mut Sites, node: NodeName)
     ensures is { sites_of sites.new.entries ≡ fin.remove (sites_of sites.old.entries) node }
     ensures apart { AreApart row_key sites.new.entries }
+    ensures room { spare sites.old ≤ spare sites.new }
 {
     sites.swap_remove(&node);
 }
@@ -97,6 +98,7 @@ pub(crate) fn set_active(sites: &mut Sites, node: NodeName, active: Option<Serve
     ensures there { result ≡ is_some (fin.get (sites_of sites.old.entries) node) }
     ensures is { sites_of sites.new.entries ≡ edit node (with_active active) (sites_of sites.old.entries) }
     ensures apart { AreApart row_key sites.old.entries → AreApart row_key sites.new.entries }
+    ensures room { spare sites.old ≤ spare sites.new }
 {
     match sites.get_mut(&node) {
         Some(site) => {
@@ -196,7 +198,29 @@ fn drop_seat<S: Drop>(seats: &mut Seats<S>, name: ServerName)
 }
 
 /// Takes out a server: the sites of its nodes, wherever it is active itself, and its seat with its box; answers how many are asked then.
+/// Where it isn't there, nothing changes; of a quiet one no more is looked at than two sites; of one that is asked, all sites are.
 pub(crate) fn remove_server<S: Drop>(
+    sites: &mut Sites,
+    seats: &mut Seats<S>,
+    asked: usize,
+    server: ServerName,
+) -> usize
+    requires { AreTables sites.old.entries seats.old.entries asked }
+    ensures is { held_of sites.new.entries seats.new.entries ≡ without_server (held_of sites.old.entries seats.old.entries) server }
+    ensures tables { AreTables sites.new.entries seats.new.entries result }
+    ensures room { (spare sites.old ≤ spare sites.new) × (spare seats.old ≤ spare seats.new) }
+{
+    let Some(i) = place_of_seat(seats, server) else {
+        return asked;
+    };
+    if i < asked {
+        return remove_asked(sites, seats, asked, server);
+    }
+    remove_quiet(sites, seats, asked, server, i)
+}
+
+/// Takes out a server that is asked, as `remove_server` does: all sites are looked at.
+fn remove_asked<S: Drop>(
     sites: &mut Sites,
     seats: &mut Seats<S>,
     asked: usize,
@@ -210,6 +234,76 @@ pub(crate) fn remove_server<S: Drop>(
     let asked = ask_guests(sites, seats, asked, server);
     remove_sites_of(sites, server);
     remove_seat(seats, asked, server)
+}
+
+/// Takes out a quiet server, whose seat has this index, as `remove_server` does: it has its root alone, and is active where it was attached.
+fn remove_quiet<S: Drop>(
+    sites: &mut Sites,
+    seats: &mut Seats<S>,
+    asked: usize,
+    server: ServerName,
+    i: usize,
+) -> usize
+    requires tables { AreTables sites.old.entries seats.old.entries asked }
+    requires place { Some i ≡ place_by seat_key server seats.old.entries }
+    requires below { i < length seats.old.entries }
+    requires quiet { asked ≤ i }
+    ensures is { held_of sites.new.entries seats.new.entries ≡ without_server (held_of sites.old.entries seats.old.entries) server }
+    ensures tables { AreTables sites.new.entries seats.new.entries result }
+    ensures room { (spare sites.old ≤ spare sites.new) × (spare seats.old ≤ spare seats.new) }
+{
+    let seat = &seats[i];
+    let root = seat.root;
+    let at = seat.at;
+    let asked = remove_root(sites, seats, asked, server, root);
+    leave(sites, at);
+    remove_seat(seats, asked, server)
+}
+
+/// Takes out the site of a server's root, which is its only node, if it has that; answers how many servers are asked then.
+fn remove_root<S>(
+    sites: &mut Sites,
+    seats: &mut Seats<S>,
+    asked: usize,
+    server: ServerName,
+    root: NodeName,
+) -> usize
+    requires apart { AreApart seat_key seats.old.entries }
+    requires alone { (n : _) → home_in (sites_of sites.old.entries) n ≡ Some server → n ≡ root }
+    ensures sites { IsRootless (sites_of sites.old.entries) server (sites_of sites.new.entries) }
+    ensures sites_apart { AreApart row_key sites.old.entries → AreApart row_key sites.new.entries }
+    ensures is { seats_of seats.new.entries ≡ seats_of seats.old.entries }
+    ensures apart { AreApart seat_key seats.new.entries }
+    ensures less { AreNoGuests (sites_of sites.old.entries) server asked seats.old.entries result seats.new.entries }
+    ensures room { (spare sites.old ≤ spare sites.new) × (spare seats.old ≤ spare seats.new) }
+{
+    if !is_own(sites, server, root) {
+        return asked;
+    }
+    let asked = ask_active(sites, seats, asked, root);
+    remove_site(sites, root);
+    asked
+}
+
+/// Whether a node is of this server.
+fn is_own(sites: &Sites, server: ServerName, node: NodeName) -> bool
+    ensures { result ≡ is_home server (home_in (sites_of sites.now.entries) node) }
+{
+    match home_of(sites, node) {
+        Some(home) => server == home,
+        None => false,
+    }
+}
+
+/// No server is active on this node any more, if one is given.
+fn leave(sites: &mut Sites, at: Option<NodeName>)
+    ensures is { (n : _) → at ≡ Some n → sites_of sites.new.entries ≡ edit n (with_active None) (sites_of sites.old.entries) }
+    ensures apart { AreApart row_key sites.old.entries → AreApart row_key sites.new.entries }
+    ensures room { spare sites.old ≤ spare sites.new }
+{
+    if let Some(node) = at {
+        set_active(sites, node, None);
+    }
 }
 
 /// Tells the box of a server, if it is there, that it is sent away.
