@@ -198,7 +198,7 @@ fn drop_seat<S: Drop>(seats: &mut Seats<S>, name: ServerName)
 }
 
 /// Takes out a server: the sites of its nodes, wherever it is active itself, and its seat with its box; answers how many are asked then.
-/// Where it isn't there, nothing changes; of a quiet one no more is looked at than two sites; of one that is asked, all sites are.
+/// Where it isn't there, nothing changes. Of a quiet one only two sites are looked at; of one that is asked all sites are.
 pub(crate) fn remove_server<S: Drop>(
     sites: &mut Sites,
     seats: &mut Seats<S>,

@@ -8,7 +8,6 @@ use Rattle.hurd_nodes.specs.declared.seat.Site.{Site}
 use Rattle.hurd_nodes.specs.Held.{active_in, sites_of}
 use Rattle.hurd_nodes.proofs.LookLaws.{all-more, all-past}
 use Rattle.hurd_nodes.proofs.QuietLaws.{no-guests}
-use Rattle.hurd_nodes.proofs.asked.ask_guests.Given as given
 use Rattle.hurd_nodes.proofs.asked.ask_guests.Goals as goal
 use Rattle.hurd_nodes.proofs.asked.ask_guests.Goals.{in-Some+then-eq, in-Some+else-eq, in_default}
 

@@ -1,7 +1,4 @@
-use Rattle.std.proofs.Common.{ap₂}
-use Rattle.hurd_creds.specs.NameMaps.{NameMap}
-use Rattle.hurd_nodes.specs.declared.seat.Site.{Site}
-use Rattle.hurd_nodes.specs.Held.{Held, Seated, sites_of}
+use Rattle.hurd_nodes.specs.Held.{sites_of}
 use Rattle.hurd_nodes.proofs.QuietLaws.{quiet-left}
 use Rattle.hurd_nodes.proofs.SeatedLaws.{known-left, seated-left}
 use Rattle.hurd_nodes.proofs.search.remove_asked.Goals as goal

@@ -1,11 +1,9 @@
 use Rattle.std.proofs.Common.{◌≡◌, ap, ap₂, ◌∙◌}
 use Rattle.std.specs.FinMap as fin
-use Rattle.hurd_creds.specs.declared.name.Name.{Name}
-use Rattle.hurd_creds.specs.NameMaps.{NameMap, edit}
-use Rattle.hurd_nodes.specs.declared.seat.Seat.{Seat}
+use Rattle.hurd_creds.specs.NameMaps.{NameMap}
 use Rattle.hurd_nodes.specs.declared.seat.Site.{Site}
 use Rattle.hurd_nodes.specs.Held.{Held, Seated, sites_of, seats_of}
-use Rattle.hurd_nodes.specs.Shown.{with_active, without_sites}
+use Rattle.hurd_nodes.specs.Shown.{without_sites}
 use Rattle.hurd_nodes.specs.Quiet.{IsQuiet}
 use Rattle.hurd_nodes.proofs.AskedLaws.{placed}
 use Rattle.hurd_nodes.proofs.GoneLaws.{quiet-gone}
