@@ -236,7 +236,7 @@ fn remove_asked<S: Drop>(
     remove_seat(seats, asked, server)
 }
 
-/// Takes out a quiet server, whose seat has this index, as `remove_server` does: it has its root alone, and is active where it was attached.
+/// Takes out a quiet server, whose seat has this index, as `remove_server` does. It has its root alone, and is active only where it was attached.
 fn remove_quiet<S: Drop>(
     sites: &mut Sites,
     seats: &mut Seats<S>,

@@ -5,8 +5,7 @@ use Rattle.hurd_nodes.specs.declared.seat.Site.{Site}
 use Rattle.hurd_nodes.specs.Held.{Held, Seated, sites_of, seats_of}
 use Rattle.hurd_nodes.specs.Shown.{without_sites}
 use Rattle.hurd_nodes.specs.Quiet.{IsQuiet}
-use Rattle.hurd_nodes.proofs.AskedLaws.{placed}
-use Rattle.hurd_nodes.proofs.GoneLaws.{quiet-gone}
+use Rattle.hurd_nodes.proofs.GoneLaws.{quiet-gone, quiet-placed}
 use Rattle.hurd_nodes.proofs.QuietLaws.{quiet-left}
 use Rattle.hurd_nodes.proofs.SeatedLaws.{known-left, seated-left}
 use Rattle.hurd_nodes.proofs.search.remove_quiet.Given as given
@@ -14,16 +13,12 @@ use Rattle.hurd_nodes.proofs.search.remove_quiet.Goals as goal
 
 pub remove_root-asked-requires-clause-alone : goal.remove_root-asked-requires-clause-alone
 remove_root-asked-requires-clause-alone g c =
-    let seat = c.index-seat.result.now in
-    let is = placed c.args.seats.now.entries c.args.server c.args.i seat c.requires.place c.index-seat.ensures in
-    (c.requires.tables.quiet (c.args.server, seat) (record { at = c.args.i; past = c.requires.quiet; is = is })).alone
+    (quiet-placed c.args.sites.now.entries c.args.seats.now.entries c.args.asked c.requires.tables c.args.server c.args.i c.index-seat.result.now c.requires.place c.requires.quiet c.index-seat.ensures).alone
 
 -- the server is quiet
 quiet : (g : given.Over) (c : goal.After-remove_seat g) → IsQuiet (sites_of c.args.sites.now.entries) (c.args.server, c.index-seat.result.now)
 quiet g c =
-    let seat = c.index-seat.result.now in
-    let is = placed c.args.seats.now.entries c.args.server c.args.i seat c.requires.place c.index-seat.ensures in
-    c.requires.tables.quiet (c.args.server, seat) (record { at = c.args.i; past = c.requires.quiet; is = is })
+    quiet-placed c.args.sites.now.entries c.args.seats.now.entries c.args.asked c.requires.tables c.args.server c.args.i c.index-seat.result.now c.requires.place c.requires.quiet c.index-seat.ensures
 
 -- the tables without it
 
