@@ -92,7 +92,7 @@ impl<S: Server> Nodes<S> {
         can_make_in(&self.seats[i].server, dir, entry, new.kind)?;
         self.sites.reserve(1)?;
         self.seats[i].server.make(alloc, dir, entry, new)?;
-        put_kin(&mut self.sites, new.name, dir);
+        self.asked = put_kin(&mut self.sites, &mut self.seats, self.asked, new.name, dir);
         Ok(())
     }
 

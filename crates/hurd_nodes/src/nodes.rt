@@ -32,10 +32,13 @@ pub const BOOT_NAME: Name = Name {
 pub struct Nodes<S = Box<dyn Server>> {
     pub(crate) sites: Sites,
     pub(crate) seats: Seats<S>,
+    /// How many servers are asked whether they stay: the first of the seats. Each of the others is quiet.
+    pub(crate) asked: usize,
 }
 
 impl<S> Model for Nodes<S> {
-    ghost use Rattle.hurd_nodes.specs.Held.{AreTables, Held, coded_held, held_of};
+    ghost use Rattle.hurd_nodes.specs.Held.{Held, coded_held, held_of};
+    ghost use Rattle.hurd_nodes.specs.Tables.{AreTables};
 
     ghost Value = { Held S };
 
@@ -43,7 +46,7 @@ impl<S> Model for Nodes<S> {
 
     ghost view = { λ n. held_of n.sites.entries n.seats.entries };
 
-    ghost invariant = { λ n. AreTables n.sites.entries n.seats.entries };
+    ghost invariant = { λ n. AreTables n.sites.entries n.seats.entries n.asked };
 }
 
 impl<S: Server> Nodes<S> {
@@ -80,7 +83,12 @@ impl<S: Server> Nodes<S> {
             server,
         };
         put_seat(&mut seats, BOOT_NAME, seat);
-        Ok(Nodes { sites, seats })
+        let asked = seats.len();
+        Ok(Nodes {
+            sites,
+            seats,
+            asked,
+        })
     }
 
     /// The box that serves a node.

@@ -1,0 +1,214 @@
+-- Seats that change places: which of them stand behind the first, and what the table means.
+use Rattle.std.proofs.Common.{arith, ◌≡◌, ◌≢◌, ◌⊎◌, inl, inr, ℕ, zero, suc, ◌+◌, ◌-◌, ◌<◌, ◌≤◌, Bool, false, cond, List, [], ◌∷◌, length, take, refl, sym, ap, ap₂, ◌∙◌}
+use Rattle.std.proofs.lemmas.Bool.{cases_Bool, cases_lt}
+use Rattle.std.proofs.lemmas.Option.{same_Some, slice_get-get_or, get_or_from_slice_get}
+use Rattle.std.specs.Prelude.{Option, Some, None, position, swap, swap_remove, slice_get, slice_index_or, slice_set}
+use Rattle.std.specs.Option.{option_map, option_map_or}
+use Rattle.std.specs.Map.{keys_of, values_of}
+use Rattle.indexmap.specs.IndexMap.{IndexMap, get, insert_entry, swap_remove_entry}
+use Rattle.hurd_creds.specs.declared.name.Name.{Name}
+use Rattle.hurd_creds.specs.Names.{same_name}
+use Rattle.hurd_creds.specs.NameMaps.{NameMap, place_by}
+use Rattle.hurd_creds.proofs.NameLaws.{same_map_by, same_name-itself, equal_if_same}
+use Rattle.hurd_nodes.specs.declared.seat.Seat.{Seat}
+use Rattle.hurd_nodes.specs.declared.seat.Site.{Site}
+use Rattle.hurd_nodes.specs.Held.{AreApart, active_in, row_key, seat_key, seat_value, seats_of}
+use Rattle.hurd_nodes.specs.Quiet.{Behind, AreBut, AreElsewhere, AreLess}
+use Rattle.hurd_creds.proofs.KeyedLaws.{place-is}
+use Rattle.hurd_nodes.proofs.HomeLaws.{distinct-apart, row-got}
+use Rattle.hurd_nodes.proofs.RowLaws.{place-position}
+
+-- what is read of a list with something put in
+
+module _ {X : Type 0} where
+  pub set_got : (xs : List X) (i : ℕ) (y : X) (k : ℕ) (x : X) → slice_get (slice_set xs i y) k ≡ Some x → ((k ≡ i) × (y ≡ x)) ⊎ ((k ≢ i) × (slice_get xs k ≡ Some x))
+  set_got [] i y k x is = absurd (cc)
+  set_got (z ∷ xs) zero y zero x is = inl (refl, same_Some y x is)
+  set_got (z ∷ xs) zero y (suc k) x is = inr (λ e. omega (arith, e), is)
+  set_got (z ∷ xs) (suc i) y zero x is = inr (λ e. omega (arith, e), is)
+  set_got (z ∷ xs) (suc i) y (suc k) x is = elim (set_got xs i y k x is) [
+    | inl here ↦ inl (ap suc here.0, here.1)
+    | inr other ↦ inr (λ e. other.0 (omega (arith, e)), other.1)
+  ]
+
+  -- of two that changed places each stands where the other stood
+  pub swap_got : (xs : List X) (a b k : ℕ) (x : X) → a < length xs → b < length xs → slice_get (swap xs a b) k ≡ Some x
+      → ((k ≡ b) × (slice_get xs a ≡ Some x)) ⊎ ((k ≢ b) × (((k ≡ a) × (slice_get xs b ≡ Some x)) ⊎ ((k ≢ a) × (slice_get xs k ≡ Some x))))
+  swap_got [] a b k x la lb is = absurd (omega (arith, la))
+  swap_got (d ∷ ys) a b k x la lb is =
+      let xs : List X = d ∷ ys in
+      elim (set_got (slice_set xs a (slice_index_or xs b d)) b (slice_index_or xs a d) k x is) [
+        | inl here ↦ inl (here.0, slice_get-get_or xs a d la ∙ ap Some here.1)
+        | inr other ↦ inr (
+          other.0,
+          elim (set_got xs a (slice_index_or xs b d) k x other.1) [
+            | inl here ↦ inl (here.0, slice_get-get_or xs b d lb ∙ ap Some here.1)
+            | inr far ↦ inr far
+          ],
+        )
+      ]
+
+  take_got : (n : ℕ) (xs : List X) (k : ℕ) (x : X) → slice_get (take n xs) k ≡ Some x → (k < n) × (slice_get xs k ≡ Some x)
+  take_got zero [] k x is = absurd (cc)
+  take_got zero (y ∷ xs) k x is = absurd (cc)
+  take_got (suc n) [] k x is = absurd (cc)
+  take_got (suc n) (y ∷ xs) zero x is = (omega arith, is)
+  take_got (suc n) (y ∷ xs) (suc k) x is = let r = take_got n xs k x is in (omega (arith, r.0), r.1)
+
+  -- the last stands in the place of one that was taken out
+  pub out_got : (xs : List X) (i : ℕ) (d : X) (k : ℕ) (x : X) → i < length xs → slice_get (swap_remove xs i d) k ≡ Some x
+      → (k + 1 < length xs) × (((k ≡ i) × (slice_get xs (length xs - 1) ≡ Some x)) ⊎ ((k ≢ i) × (slice_get xs k ≡ Some x)))
+  out_got xs i d k x below is =
+      let last = slice_index_or xs (length xs - 1) d in
+      let t = take_got (length xs - 1) (slice_set xs i last) k x is in (
+        omega (arith, t.0),
+        elim (set_got xs i last k x t.1) [
+          | inl here ↦ inl (here.0, slice_get-get_or xs (length xs - 1) d (omega (arith, below)) ∙ ap Some here.1)
+          | inr other ↦ inr other
+        ],
+      )
+
+  -- what stands behind stands on the list
+  pub behind_more : (k : ℕ) (xs : List X) (x : X) (i : ℕ) → k ≤ i → slice_get xs i ≡ Some x → Behind k xs x
+  behind_more k xs x i past is = record { at = i; past = past; is = is }
+
+-- what stands at a place is found there by its name
+later : (b : Bool) (o : Option ℕ) (k : ℕ) → b ≡ false → o ≡ Some k → cond b (Some 0) (option_map (λ i. i + 1) o) ≡ Some (suc k)
+later b o k off is = let on : k + 1 ≡ suc k = omega arith in rw (off, is) (ap Some on)
+
+pub own-place : {X : Type 0} (es : List (Name × X)) (k : ℕ) (x : Name × X) → AreApart row_key es → slice_get es k ≡ Some x → place_by row_key x.0 es ≡ Some k
+own-place [] k x apart is = absurd (cc)
+own-place (e ∷ es) zero x apart is =
+    let same : e ≡ x = same_Some e x is in
+    ap (λ (b : Bool). cond b (Some 0) (option_map (λ i. i + 1) (place_by row_key x.0 es))) (ap (λ (y : Name × _). same_name x.0 y.0) same ∙ same_name-itself x.0)
+own-place (e ∷ es) (suc k) x apart is =
+    let rest = own-place es k x apart.1 is in
+    elim (cases_Bool (same_name x.0 e.0)) [
+      | inl same ↦
+          let none : place_by row_key x.0 es ≡ None = ap (λ n. place_by row_key n es) (equal_if_same x.0 e.0 same) ∙ apart.0 in
+          let clash : None ≡ Some k = sym none ∙ rest in
+          absurd (cc)
+      | inr far ↦ later (same_name x.0 e.0) (place_by row_key x.0 es) k far rest
+    ]
+
+-- what stands where a name is found has it
+named-at : {X : Type 0} (es : List (Name × X)) (s : Name) (i : ℕ) (x : Name × X) → place_by row_key s es ≡ Some i → slice_get es i ≡ Some x → x.0 ≡ s
+named-at es s i x at is = sym (ap (λ (y : Name × _). y.0) (get_or_from_slice_get es i x x is)) ∙ (place-is row_key (λ (y : Name × _). y) s es i at).named x
+
+-- what is read at the place of a name stands there under that name
+
+value_at : {X : Type 0} (es : List (Name × X)) (i : ℕ) (v : X) → slice_get (values_of es) i ≡ Some v → (e : Name × X) × (slice_get es i ≡ Some e) × (e.1 ≡ v)
+value_at [] i v read = let none : None ≡ Some v = read in absurd (cc)
+value_at (e ∷ es) zero v read = (e, refl, same_Some e.1 v read)
+value_at (e ∷ es) (suc i) v read = value_at es i v read
+
+pub placed : {X : Type 0} (es : List (Name × X)) (s : Name) (i : ℕ) (v : X) → Some i ≡ place_by row_key s es → slice_get (values_of es) i ≡ Some v → slice_get es i ≡ Some (s, v)
+placed es s i v at read =
+    let r = value_at es i v read in
+    r.1 ∙ ap₂ (λ (n : Name) (w : _). Some (n, w)) (named-at es s i r.0 (sym at) r.1) r.2
+
+past_next : (k at : ℕ) → k - 1 ≤ at → at ≢ k - 1 → k ≤ at
+past_next k at past other = elim (cases_lt (k - 1) at) [
+  | inl less ↦ omega (arith, less)
+  | inr more ↦ absurd (other (omega (arith, past, more)))
+]
+
+module _ {S : Type 0} (ss : List (Name × Seat S)) (apart : AreApart seat_key ss) (s : Name) where
+  not_here : (i : ℕ) → Some i ≡ place_by seat_key s ss → (k : ℕ) (x : Name × Seat S) → slice_get ss k ≡ Some x → k ≢ i → x.0 ≢ s
+  not_here i at k x is other same = other (same_Some k i (sym (own-place ss k x apart is) ∙ ap (λ n. place_by seat_key n ss) same ∙ sym at))
+
+  nowhere : None ≡ place_by seat_key s ss → (k : ℕ) (x : Name × Seat S) → slice_get ss k ≡ Some x → x.0 ≢ s
+  nowhere none k x is same =
+      let clash : None ≡ Some k = none ∙ ap (λ n. place_by seat_key n ss) (sym same) ∙ own-place ss k x apart is in
+      absurd (cc)
+
+  -- a server that isn't there, or is asked already
+  pub ask-absent : (k : ℕ) → None ≡ place_by seat_key s ss → AreLess s k ss k ss
+  ask-absent k none x b = (nowhere none b.at x b.is, b)
+
+  pub ask-asked : (k i : ℕ) → Some i ≡ place_by seat_key s ss → i < k → AreLess s k ss k ss
+  ask-asked k i at before x b = (not_here i at b.at x b.is (λ e. omega (arith, e, before, b.past)), b)
+
+  -- one that comes before those that are quiet
+  pub ask-moved : (k i : ℕ) → Some i ≡ place_by seat_key s ss → i < length ss → k ≤ i → AreLess s k ss (k + 1) (swap ss k i)
+  ask-moved k i at below past x b = elim (swap_got ss k i b.at x (omega (arith, below, past)) below b.is) [
+    | inl here ↦ (not_here i at k x here.1 (λ e. omega (arith, e, here.0, b.past)), behind_more k ss x k (omega arith) here.1)
+    | inr far ↦ elim far.1 [
+      | inl first ↦ absurd (omega (arith, first.0, b.past))
+      | inr other ↦ (not_here i at b.at x other.1 far.0, behind_more k ss x b.at (omega (arith, b.past)) other.1)
+    ]
+  ]
+
+  -- one that is asked comes behind those that are asked
+  pub last-moved : (k i : ℕ) → Some i ≡ place_by seat_key s ss → i < k → k ≤ length ss → AreBut s k ss (k - 1) (swap ss i (k - 1))
+  last-moved k i at before fits x b other = elim (swap_got ss i (k - 1) b.at x (omega (arith, before, fits)) (omega (arith, before, fits)) b.is) [
+    | inl here ↦ absurd (other (named-at ss s i x (sym at) here.1))
+    | inr far ↦ elim far.1 [
+      | inl first ↦ absurd (far.0 (omega (arith, first.0, b.past, before)))
+      | inr rest ↦
+          behind_more k ss x b.at (past_next k b.at b.past far.0) rest.1
+    ]
+  ]
+
+-- one that goes, whose place the last takes
+pub drop-less : {S : Type 0} (ss : List (Name × Seat S)) → AreApart seat_key ss → (s : Name) (k : ℕ) → AreLess s k ss k (swap_remove_entry (same_name s) ss)
+drop-less [] apart s k x b = let none : None ≡ Some x = b.is in absurd (cc)
+drop-less (e ∷ es) apart s k x b = by (position (same_name s) (keys_of (e ∷ es))) (sym (place-position s (e ∷ es))) b.is
+  where
+    by : (o : Option ℕ) → place_by seat_key s (e ∷ es) ≡ o → slice_get (option_map_or (λ i. swap_remove (e ∷ es) i e) o (e ∷ es)) b.at ≡ Some x → (x.0 ≢ s) × Behind k (e ∷ es) x
+    by None at is = (nowhere (e ∷ es) apart s (sym at) b.at x is, behind_more k (e ∷ es) x b.at b.past is)
+    by (Some i) at is =
+        let below = (place-is seat_key (λ (y : Name × Seat _). y) s (e ∷ es) i at).below in
+        let r = out_got (e ∷ es) i e b.at x below is in
+        let last = length (e ∷ es) - 1 in
+        elim r.1 [
+          | inl here ↦ (not_here (e ∷ es) apart s i (sym at) last x here.1 (λ same. omega (arith, same, here.0, r.0)), behind_more k (e ∷ es) x last (omega (arith, b.past, r.0)) here.1)
+          | inr other ↦ (not_here (e ∷ es) apart s i (sym at) b.at x other.1 other.0, behind_more k (e ∷ es) x b.at b.past other.1)
+        ]
+
+-- one that is put, in the place of what had its name, or last
+pub put_got : {X : Type 0} (es : List (Name × X)) (n : Name) (v : X) (i : ℕ) (x : Name × X) → slice_get (insert_entry same_name es n v) i ≡ Some x → (x ≡ (n, v)) ⊎ (slice_get es i ≡ Some x)
+put_got [] n v zero x is = inl (sym (same_Some (n, v) x is))
+put_got [] n v (suc i) x is = let none : None ≡ Some x = is in absurd (cc)
+put_got (e ∷ es) n v i x is = elim (cases_Bool (same_name n e.0)) [
+  | inl same ↦ here (sym (equal_if_same n e.0 same)) i (sym (ap (λ (b : Bool). slice_get (cond b ((e.0, v) ∷ es) (e ∷ insert_entry same_name es n v)) i) same) ∙ is)
+  | inr far ↦ there (λ k at. put_got es n v k x at) i (sym (ap (λ (b : Bool). slice_get (cond b ((e.0, v) ∷ es) (e ∷ insert_entry same_name es n v)) i) far) ∙ is)
+]
+  where
+    here : e.0 ≡ n → (k : ℕ) → slice_get ((e.0, v) ∷ es) k ≡ Some x → (x ≡ (n, v)) ⊎ (slice_get (e ∷ es) k ≡ Some x)
+    here e_is zero at = inl (sym (same_Some (e.0, v) x at) ∙ ap (λ (q : Name). (q, v)) e_is)
+    here e_is (suc k) at = inr at
+
+    there : ((k : ℕ) → slice_get (insert_entry same_name es n v) k ≡ Some x → (x ≡ (n, v)) ⊎ (slice_get es k ≡ Some x)) → (k : ℕ) → slice_get (e ∷ insert_entry same_name es n v) k ≡ Some x → (x ≡ (n, v)) ⊎ (slice_get (e ∷ es) k ≡ Some x)
+    there rest zero at = inr at
+    there rest (suc k) at = rest k at
+
+-- a table of the same rows in another order
+module _ {X S : Type 0} (m l : IndexMap Name (Seat X) S) where
+  pub seats-same : ((q : Name) → get same_name l q ≡ get same_name m q) → seats_of l.entries ≡ seats_of m.entries
+  unfolding seats_of
+  seats-same same = same_map_by _ _ (λ q. row-got seat_value l.entries q ∙ ap (option_map seat_value) (same q) ∙ sym (row-got seat_value m.entries q))
+
+-- what stands behind after a seat was put
+pub put-behind : {X : Type 0} (es : List (Name × X)) (n : Name) (v : X) (k : ℕ) (x : Name × X) → Behind k (insert_entry same_name es n v) x → (x ≡ (n, v)) ⊎ Behind k es x
+put-behind es n v k x b = elim (put_got es n v b.at x b.is) [
+  | inl new ↦ inl new
+  | inr old ↦ inr (behind_more k es x b.at b.past old)
+]
+
+pub ruleset put = (put-behind)
+
+pub ruleset drop_less = (drop-less)
+
+-- those that are not the one that is active on a node
+
+pub elsewhere-asked : {S : Type 0} (sites : NameMap Site) (n s : Name) (k l : ℕ) (ss ts : List (Name × Seat S)) → Some s ≡ active_in sites n → AreLess s k ss l ts → AreElsewhere sites n k ss l ts
+elsewhere-asked sites n s k l ss ts at less x b = let r = less x b in (λ is. r.0 (same_Some x.0 s (sym is ∙ sym at)), r.1)
+
+pub elsewhere-none : {S : Type 0} (sites : NameMap Site) (n : Name) (k : ℕ) (ss : List (Name × Seat S)) → None ≡ active_in sites n → AreElsewhere sites n k ss k ss
+elsewhere-none sites n k ss none x b = (λ is. let clash : None ≡ Some x.0 = none ∙ is in absurd (cc), b)
+
+pub ruleset elsewhere = (elsewhere-asked, elsewhere-none)
+
+-- seats that change places
+pub ruleset asks = (ask-absent, ask-asked, ask-moved, last-moved, seats-same, distinct-apart)

@@ -1,0 +1,199 @@
+-- A server that is quiet stays so where sites change that are not its own, and it is not active on.
+use Rattle.std.proofs.Common.{arith, ◌≡◌, ◌≢◌, inl, inr, suc, Bool, true, false, if◌then◌else◌, List, [], ◌∷◌, refl, sym, ap, ◌∙◌}
+use Rattle.std.specs.Prelude.{Option, Some, None, not}
+use Rattle.std.specs.Option.{option_map}
+use Rattle.std.specs.FinMap as fin
+use Rattle.hurd_creds.specs.declared.name.Name.{Name}
+use Rattle.hurd_creds.specs.NameMaps.{NameMap, edit}
+use Rattle.hurd_creds.proofs.NameLaws.{same_or_apart, same_name-apart, edit_here, remove_here, remove_apart}
+use Rattle.hurd_nodes.specs.declared.seat.Seat.{Seat}
+use Rattle.hurd_nodes.specs.declared.seat.Site.{Site}
+use Rattle.hurd_nodes.specs.Held.{active_in, home_in, is_home, new_site, row_key, row_value, sites_of}
+use Rattle.hurd_nodes.specs.Shown.{is_other, with_active, without_sites}
+use Rattle.hurd_nodes.specs.Quiet.{IsQuiet, IsUnknown}
+use Rattle.hurd_nodes.proofs.AnyLaws.{get-first, get-rest}
+use Rattle.hurd_creds.proofs.KeyedLaws.{get-keyed}
+use Rattle.std.proofs.lemmas.Option.{same_Some}
+use Rattle.std.specs.List.{All}
+use Rattle.hurd_nodes.proofs.Sites.{active-apart, active-edited_apart, active-here, active-left, active_by, home-apart, home-edited, home-here, home-less, home-less_apart, home-was, less_active, site-of}
+use Rattle.hurd_nodes.proofs.PartLaws.{cond_some}
+
+module _ {S : Type 0} (sites : NameMap Site) (x : Name × Seat S) (q : IsQuiet sites x) where
+  -- it isn't active on a node on which another is, or none
+  elsewhere : (n : Name) → active_in sites n ≢ Some x.0 → q.seat ≢ n
+  elsewhere n other same = other (ap (active_in sites) (sym same) ∙ q.active)
+
+  -- without a site
+  module _ (n : Name) (other : active_in sites n ≢ Some x.0) where
+    less_there : (m : Name) → m ≢ n → active_in (fin.remove sites n) m ≡ active_in sites m
+    less_there m apart = ap active_by (remove_apart sites n m apart)
+
+    less_only : (m : Name) → active_in (fin.remove sites n) m ≡ Some x.0 → m ≡ q.seat
+    less_only m is = elim (same_or_apart m n) [
+      | inl here ↦
+          let none : None ≡ Some x.0 = sym (ap active_by (remove_here sites n)) ∙ ap (active_in (fin.remove sites n)) (sym here) ∙ is in
+          absurd (cc)
+      | inr apart ↦ q.only m (sym (less_there m apart) ∙ is)
+    ]
+
+    less_alone : (m : Name) → home_in (fin.remove sites n) m ≡ Some x.0 → m ≡ x.1.root
+    less_alone m is = elim (same_or_apart m n) [
+      | inl here ↦
+          let none : None ≡ Some x.0 = sym (home-less sites n) ∙ ap (home_in (fin.remove sites n)) (sym here) ∙ is in
+          absurd (cc)
+      | inr apart ↦ q.alone m (sym (home-less_apart sites n m apart) ∙ is)
+    ]
+
+    pub quiet-less : IsQuiet (fin.remove sites n) x
+    quiet-less = record { seat = q.seat; at = q.at; active = less_there q.seat (elsewhere n other) ∙ q.active; only = less_only; alone = less_alone; aimless = q.aimless }
+
+  -- with a site of another server, on which none is active yet
+  module _ (n s : Name) (other : active_in sites n ≢ Some x.0) (apart : s ≢ x.0) where
+    put_only : (m : Name) → active_in (fin.insert sites n (new_site s)) m ≡ Some x.0 → m ≡ q.seat
+    put_only m is = elim (same_or_apart m n) [
+      | inl here ↦
+          let none : None ≡ Some x.0 = sym (active-here sites n (new_site s)) ∙ ap (active_in (fin.insert sites n (new_site s))) (sym here) ∙ is in
+          absurd (cc)
+      | inr far ↦ q.only m (sym (active-apart sites n (new_site s) m far) ∙ is)
+    ]
+
+    put_alone : (m : Name) → home_in (fin.insert sites n (new_site s)) m ≡ Some x.0 → m ≡ x.1.root
+    put_alone m is = elim (same_or_apart m n) [
+      | inl here ↦
+          let same : Some s ≡ Some x.0 = sym (home-here sites n (new_site s)) ∙ ap (home_in (fin.insert sites n (new_site s))) (sym here) ∙ is in
+          absurd (apart (cc))
+      | inr far ↦ q.alone m (sym (home-apart sites n (new_site s) m far) ∙ is)
+    ]
+
+    pub quiet-put : IsQuiet (fin.insert sites n (new_site s)) x
+    quiet-put = record {
+      seat = q.seat;
+      at = q.at;
+      active = active-apart sites n (new_site s) q.seat (elsewhere n other) ∙ q.active;
+      only = put_only;
+      alone = put_alone;
+      aimless = q.aimless;
+    }
+
+  -- another active on a node, or none
+  module _ (n : Name) (o : Option Name) (other : active_in sites n ≢ Some x.0) (apart : o ≢ Some x.0) where
+    set_only : (m : Name) → active_in (edit n (with_active o) sites) m ≡ Some x.0 → m ≡ q.seat
+    set_only m is = elim (same_or_apart m n) [
+      | inl here ↦ absurd (set_here (ap (active_in (edit n (with_active o) sites)) (sym here) ∙ is))
+      | inr far ↦ q.only m (sym (active-edited_apart sites n o m far) ∙ is)
+    ]
+      where
+        set_here : active_in (edit n (with_active o) sites) n ≢ Some x.0
+        set_here at = by (fin.get sites n) (sym (ap active_by (edit_here sites n (with_active o))) ∙ at)
+          where
+            by : (u : Option Site) → active_by (option_map (with_active o) u) ≡ Some x.0 → ⊥
+            by None h = let none : None ≡ Some x.0 = h in absurd (cc)
+            by (Some r) h = apart h
+
+    pub quiet-active : IsQuiet (edit n (with_active o) sites) x
+    quiet-active = record {
+      seat = q.seat;
+      at = q.at;
+      active = active-edited_apart sites n o q.seat (elsewhere n other) ∙ q.active;
+      only = set_only;
+      alone = λ m is. q.alone m (sym (home-edited sites n o m) ∙ is);
+      aimless = q.aimless;
+    }
+
+  -- without another server
+  module _ (s : Name) (apart : x.0 ≢ s) (guests : (n : Name) → home_in sites n ≡ Some s → active_in sites n ≢ Some x.0) where
+    seat_other : is_other s sites q.seat ≡ true
+    seat_other = by (home_in sites q.seat) refl
+      where
+        by : (u : Option Name) → home_in sites q.seat ≡ u → not (is_home s u) ≡ true
+        by None home = refl
+        by (Some p) home = elim (same_or_apart s p) [
+          | inl same ↦ absurd (guests q.seat (home ∙ ap Some (sym same)) q.active)
+          | inr far ↦ rw (same_name-apart s p far) refl
+        ]
+
+    left_active : active_in (without_sites s sites) q.seat ≡ Some x.0
+    left_active = active-left sites s q.seat ∙ rw (seat_other, q.active, same_name-apart s x.0 (λ e. apart (sym e))) refl
+
+    was_active : (b : Bool) (o : Option Name) → (if b then None else o) ≡ Some x.0 → o ≡ Some x.0
+    was_active true o is = let none : None ≡ Some x.0 = is in absurd (cc)
+    was_active false o is = is
+
+    left_only : (m : Name) → active_in (without_sites s sites) m ≡ Some x.0 → m ≡ q.seat
+    left_only m is =
+        let both = cond_some (is_other s sites m) (less_active sites s (active_in sites m)) x.0 (sym (active-left sites s m) ∙ is) in
+        q.only m (was_active (is_home s (active_in sites m)) (active_in sites m) both.1)
+
+    pub quiet-left : IsQuiet (without_sites s sites) x
+    quiet-left = record {
+      seat = q.seat;
+      at = q.at;
+      active = left_active;
+      only = left_only;
+      alone = λ m is. q.alone m (home-was sites s m x.0 is);
+      aimless = q.aimless;
+    }
+
+-- a server that comes: no site knows it yet
+module _ {S : Type 0} (sites : NameMap Site) (s root seat : Name) (e : Seat S)
+    (homeless : (n : Name) → home_in sites n ≢ Some s) (idle : (n : Name) → active_in sites n ≢ Some s) where
+  abbrev with_root : NameMap Site
+  with_root = fin.insert sites root (new_site s)
+
+  abbrev then_sites : NameMap Site
+  then_sites = edit seat (with_active (Some s)) with_root
+
+  new_only : (n : Name) → active_in then_sites n ≡ Some s → n ≡ seat
+  new_only n is = elim (same_or_apart n seat) [
+    | inl here ↦ here
+    | inr far ↦ absurd (rootless (sym (active-edited_apart with_root seat (Some s) n far) ∙ is))
+  ]
+    where
+      rootless : active_in with_root n ≢ Some s
+      rootless at = elim (same_or_apart n root) [
+        | inl here ↦
+            let none : None ≡ Some s = sym (active-here sites root (new_site s)) ∙ ap (active_in with_root) (sym here) ∙ at in
+            absurd (cc)
+        | inr apart ↦ idle n (sym (active-apart sites root (new_site s) n apart) ∙ at)
+      ]
+
+  new_alone : (n : Name) → home_in then_sites n ≡ Some s → n ≡ root
+  new_alone n is = elim (same_or_apart n root) [
+    | inl here ↦ here
+    | inr apart ↦ absurd (homeless n (sym (home-apart sites root (new_site s) n apart) ∙ sym (home-edited with_root seat (Some s) n) ∙ is))
+  ]
+
+  -- it is quiet, if the node on which it is active has a site, and it aims at nothing
+  pub quiet-new : e.root ≡ root → e.at ≡ Some seat → (r : Site) → fin.get with_root seat ≡ Some r → e.targets.items ≡ [] → IsQuiet then_sites (s, e)
+  quiet-new root_is at r there aimless = record {
+    seat = seat;
+    at = at;
+    active = ap active_by (edit_here with_root seat (with_active (Some s)) ∙ ap (option_map (with_active (Some s))) there);
+    only = new_only;
+    alone = λ n is. new_alone n is ∙ sym root_is;
+    aimless = aimless;
+  }
+
+-- another server, where this one comes
+pub quiet-old : {S : Type 0} (sites : NameMap Site) (x : Name × Seat S) → IsQuiet sites x → (root s node : Name) → IsUnknown sites s → active_in sites root ≢ Some x.0
+    → active_in (fin.insert sites root (new_site s)) node ≢ Some x.0 → IsQuiet (edit node (with_active (Some s)) (fin.insert sites root (new_site s))) x
+quiet-old sites x q root s node unknown rootless nodeless =
+    let apart : s ≢ x.0 = λ same. (unknown q.seat).1 (q.active ∙ ap Some (sym same)) in
+    quiet-active (fin.insert sites root (new_site s)) x (quiet-put sites x q root s rootless apart) node (Some s) nodeless (λ same. apart (same_Some s x.0 same))
+
+-- a node of a map has a place on its list
+pub all-sited : (P : Name × Site → Type 0) (rs : List (Name × Site)) → All P rs → (n : Name) (r : Site) → fin.get (sites_of rs) n ≡ Some r → (e : Name × Site) × (e.0 ≡ n) × (e.1 ≡ r) × P e
+unfolding sites_of
+all-sited P [] all n r is = let c : None ≡ Some r = sym (get-keyed row_key row_value [] n) ∙ is in absurd (cc)
+all-sited P (e ∷ es) all n r is = elim (same_or_apart n e.0) [
+  | inl here ↦ (e, sym here, same_Some e.1 r (sym (get-first row_key row_value e es) ∙ ap (fin.get _) (sym here) ∙ is), all 0 e (omega arith))
+  | inr apart ↦ all-sited P es (λ k d below. all (suc k) d (omega arith)) n r (sym (get-rest row_key row_value e es n apart) ∙ is)
+]
+
+-- of no site of the server, where that was seen of all sites
+pub no-guests : (rs : List (Name × Site)) (s p : Name) → All (λ (e : Name × Site). e.1.home ≡ s → active_in (sites_of rs) e.0 ≢ Some p) rs
+    → (n : Name) → home_in (sites_of rs) n ≡ Some s → active_in (sites_of rs) n ≢ Some p
+no-guests rs s p all n home =
+    let r = site-of (sites_of rs) n s home in
+    let e = all-sited (λ (e : Name × Site). e.1.home ≡ s → active_in (sites_of rs) e.0 ≢ Some p) rs all n r.0 r.1 in
+    λ is. e.3 (ap (λ (t : Site). t.home) e.2 ∙ r.2) (ap (active_in (sites_of rs)) e.1 ∙ is)
