@@ -45,7 +45,7 @@ fn request(verb: &str, sort: &str, who: String) -> Option<Request> {
 }
 
 /// What three words ask; none where they ask nothing. `Memory`.
-fn asked(rt: &HostRuntime) -> Result<Option<Asked>, Fault> {
+fn read_words(rt: &HostRuntime) -> Result<Option<Asked>, Fault> {
     let mut words = match env::args(rt) {
         Ok(words) => words,
         Err(error) if error.kind() == io::ErrorKind::OutOfMemory => return Err(Fault::Memory),
@@ -95,7 +95,7 @@ fn serve(rt: &HostRuntime, asked: &Asked) -> u8 {
 }
 
 fn main(rt: HostRuntime) -> ExitCode {
-    match asked(&rt) {
+    match read_words(&rt) {
         Ok(Some(asked)) => ExitCode::from(serve(&rt, &asked)),
         Ok(None) => ExitCode::from(2),
         Err(_) => {

@@ -1,19 +1,17 @@
 -- Of two scripts one report is printed.
-use Rattle.std.proofs.Common.{◌≡◌, ◌≢◌, ◌∙◌, ◌⊎◌, inl, inr, refl, sym, ap, subst, ℕ, List, [], ◌∷◌, ◌++◌, Option, Some, None}
+use Rattle.std.proofs.Common.{◌≡◌, ◌∙◌, inl, inr, refl, sym, ap, subst, ℕ, List, [], ◌∷◌, ◌++◌, Option, Some, None}
 use Rattle.hurd_creds.specs.declared.name.TaskId.{TaskId}
 use Rattle.hurd_machine.specs.Sight.{SameView}
 use Rattle.hurd_sight.specs.Reach.{among}
 use Rattle.hurd_run.specs.Scripts.{scripts}
 use Rattle.hurd_lessons.proofs.OneLesson.{taught_is_one}
-use Rattle.hurd_teaching.proofs.OneText.{AreAlike, alike}
-use Rattle.hurd_teaching.specs.declared.learners.Learners.{Learners}
+use Rattle.hurd_teaching.proofs.OneText.{alike}
 use Rattle.hurd_pairs.specs.Differences.{Compares, FirstSaid, IsSaid, SaysSeen, SaysTold}
 use Rattle.hurd_pairs.specs.Moments.{FirstOther, Moment, TellOther, TellSame}
-use Rattle.hurd_pairs.specs.Reports.{Reports, are_of, lines_in, moments_of, report_text, seen_text, told_text, verdict_of}
+use Rattle.hurd_pairs.specs.Reports.{are_of, lines_in, moments_of, seen_text, told_text, verdict_of}
 use Rattle.hurd_pairs.specs.Told.{ReportIsOne}
 use Rattle.hurd_pairs.specs.declared.difference.Compared.{Compared}
 use Rattle.hurd_pairs.specs.declared.difference.Difference.{Difference}
-use Rattle.hurd_pairs.specs.declared.difference.Verdict.{Verdict}
 
 module _ {X : Type 0} (Same Other : X → X → Type 0) (apart : (x y : X) → Same x y → Other x y → ⊥) where
   -- one thing is found
