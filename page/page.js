@@ -261,7 +261,12 @@ const Page = {
 // Two scripts side by side: the one that was kept, the first, and the one in the editor, the second. What those who look see and are told otherwise is what
 // the program reports.
 const Beside = {
-  pairs: [["secret-told.hurd", "secret-told-otherwise.hurd"], ["secret-kept-one.hurd", "secret-kept-two.hurd"], ["unseen-one.hurd", "unseen-two.hurd"], ["started-by-alice.hurd", "started-by-bob.hurd"]],
+  pairs: [
+    ["secret-told.hurd", "secret-told-otherwise.hurd", "Bob writes one word or another, and opens the file."],
+    ["secret-kept-one.hurd", "secret-kept-two.hurd", "Bob writes one word or another, and closes the file."],
+    ["unseen-one.hurd", "unseen-two.hurd", "Bob does one thing or another where alice may not look."],
+    ["started-by-alice.hurd", "started-by-bob.hurd", "Alice or bob is the first to read the text of a server."],
+  ],
   first: null,
   last: { asked: "", run: null },
   drawn: null,
@@ -277,7 +282,7 @@ const Beside = {
   keep(text, name) {
     this.first = { text, name };
     const lines = text.replace(/\n$/, "").split("\n");
-    $("kept").textContent = `The first: ${name}, ${lines.length} line${lines.length > 1 ? "s" : ""}. The second is the one in the editor.`;
+    $("kept").textContent = `First: ${name}, ${lines.length} line${lines.length > 1 ? "s" : ""}. Second: in the editor.`;
     $("first-text").replaceChildren(...lines.slice(0, 5000).map(line => element("b", "", Read.shown(line.slice(0, 400)) || " ")));
     $("first").open = false;
   },
@@ -294,11 +299,11 @@ const Beside = {
     $("first-text").replaceChildren();
   },
 
-  begin_with([one, two]) {
-    const first = Page.examples.find(example => example.file === one);
+  // an example as the first, and another in the editor
+  begin_with(first, second) {
     this.keep(first.text, first.title);
     $("beside").focus();
-    return Page.pick(two);
+    return Page.pick(second);
   },
 
   show(run) {
@@ -315,15 +320,16 @@ const Beside = {
   // a verdict, and a sentence below it
   verdict(kind, head, says) {
     $("verdict").className = kind;
-    $("verdict").replaceChildren(...(head ? [element("strong", "", head)] : []), ...(says ? [this.sentence(says)] : []));
+    $("verdict").replaceChildren(...(head ? [element("strong", "", head), " "] : []), ...(says ? [this.sentence(says)] : []));
   },
 
   // a sentence, whose lines of scripts are buttons that lead there
   sentence(says) {
     const made = element("p");
-    made.append(...Read.pieces(says).map(({ text, line, script }) => {
+    made.append(...Read.pieces(says).map(({ text, whole, line, script }) => {
       if (!line) return text;
       const button = element("button", "leads", text);
+      button.setAttribute("aria-label", whole);
       button.onclick = () => this.lead(script, line - 1);
       return button;
     }));
@@ -349,14 +355,15 @@ const Beside = {
     const is_same = run.status === 0, sees_same = !report.sees.length && / the same$/.test(report.seen);
     const why = this.last.is_same ? "Both are the same script so far: edit it, or open another."
       : !is_same ? "By that the two can be told apart."
-      : sees_same ? "What is seen is the same too: before each of these commands, and at the end."
+      : sees_same ? "Nothing here tells the two apart."
       : "What is seen differs, but no command here shows it.";
     this.verdict(is_same ? "same" : "otherwise", (/^.* told (the same|otherwise)/.exec(report.told) || [report.told])[0], why);
     const seen = element("ul", "seen");
     seen.append(...report.sees.map(line => element("li", "", line)));
     const both = element("div", "both"), { first, second } = report;
     if (first && second) both.append(this.side("In the first", first, second), this.side("In the second", second, first));
-    $("report").replaceChildren(element("h2", "", "What is seen"), this.sentence(report.seen), seen, element("h2", "", "What is told"), this.sentence(report.told), both);
+    const when = sees_same ? element("p", "sum", "That is looked at before each command of those whom you chose, and at the end.") : seen;
+    $("report").replaceChildren(this.sentence(report.seen), when, ...(is_same ? [] : [this.sentence(report.told), both]));
   },
 
   // what is told in one script; lines that the other lacks are marked
@@ -382,10 +389,10 @@ const Beside = {
 
   begin() {
     const find = file => Page.examples.find(example => example.file === file);
-    $("pairs").append(...this.pairs.filter(pair => pair.every(find)).map(pair => {
-      const item = element("li"), button = element("button", "", pair.map(file => find(file).title).join(" / "));
-      button.onclick = () => this.begin_with(pair);
-      item.append(button, element("span", "sum", find(pair[0]).question));
+    $("pairs").append(...this.pairs.filter(([one, two]) => find(one) && find(two)).map(([one, two, about]) => {
+      const item = element("li"), button = element("button", "", `${find(one).title} / ${find(two).title}`);
+      button.onclick = () => this.begin_with(find(one), two);
+      item.append(button, element("span", "sum", about));
       return item;
     }));
     $("keep").onclick = () => { this.keep($("text").value, this.name()); return Page.show(); };

@@ -79,9 +79,9 @@ const Read = {
   },
 
   // a sentence in pieces: texts, and lines of the first script or of the second
-  pieces: sentence => sentence.split(/(line \d+ of the (?:first|second))/).filter(text => text).map(text => {
-    const line = /^line (\d+) of the (first|second)$/.exec(text);
-    return line ? { text, line: Number(line[1]), script: line[2] } : { text };
+  pieces: sentence => sentence.split(/(line \d+ of the (?:first|second)\b)/i).flatMap(text => {
+    const line = /^(line (\d+))( of the (first|second))$/i.exec(text);
+    return line ? [{ text: line[1], whole: text, line: Number(line[2]), script: line[4] }, { text: line[3] }] : [{ text }];
   }),
 
   // why there is no report, of what is said on standard error: a verdict, a sentence, and a bad line
