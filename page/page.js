@@ -8,19 +8,16 @@ const Page = {
   who: new Set(),
   at: Infinity,
   turn: 0,
+  tabs: ["told", "sees", "beside"],
   timer: 0,
   later: 0,
 
   is_list: () => $("sort").value === "list",
-  // the program, over a text, through the eyes of some
-  run: (text, who) => Machine.run(text, [Page.is_list() ? "calls" : "script", who]),
+  // the program, over a text, through the eyes of some: what they learn by it, or see at its end
+  run: (verb, text, who) => Machine.run(text, [verb, Page.is_list() ? "calls" : "script", who]),
 
-  // lines up to a command, where lessons begin just before it and all that is seen is shown behind it
-  cut(text, commands, at) {
-    const lines = text.split("\n").slice(0, commands[at - 1].at + 1);
-    lines.splice(commands[at - 1].at, 0, "# from here");
-    return lines.filter((line, k) => k === commands[at - 1].at || !/^# (see|from here)$/.test(line)).join("\n") + "\n# see\n";
-  },
+  // lines up to a command
+  cut: (text, commands, at) => text.split("\n").slice(0, commands[at - 1].at + 1).filter(line => !/^# (see|from here)$/.test(line)).join("\n") + "\n",
 
   async show() {
     Machine.give_up();
@@ -30,17 +27,19 @@ const Page = {
     this.slide(at, commands);
     document.body.dataset.ready = "no";
     const slow = setTimeout(() => { if (turn === this.turn) { this.say("running \u2026"); $("stop").hidden = false; } }, 150);
-    const whole = await this.run(text, who);
+    const whole = await this.run("learns", text, who);
     const upto = at && whole.status === 0 ? this.cut(text, commands, at) : null;
-    const seen = upto && turn === this.turn ? await this.run(upto, who) : null;
-    const all = upto && turn === this.turn ? await this.run(upto, everyone) : null;
+    const seen = upto && turn === this.turn ? await this.run("see", upto, who) : null;
+    const all = upto && turn === this.turn ? await this.run("see", upto, everyone) : null;
+    const pair = turn === this.turn ? await Beside.run(text, who) : null;
     clearTimeout(slow);
     if (turn !== this.turn) return;
     $("stop").hidden = true;
+    Beside.show(pair);
     if (!this.fault(whole, text)) { document.body.dataset.ready = "bad"; return; }
     this.mark(text, commands, at, -1);
     this.told(Read.output(Read.text(whole.bytes)), commands, at);
-    const views = run => run && run.status === 0 ? Read.output(Read.text(run.bytes)).paragraphs.at(-1).seen : [];
+    const views = run => run && run.status === 0 ? Read.seen(Read.text(run.bytes)) : [];
     this.draw(views(all), views(seen), users);
     this.sees(views(seen), who);
     if (gone.length) this.say(`${this.is_list() ? "Task " : ""}${this.short(Read.shown(gone.join(", ")), 60)} ${gone.length > 1 ? "aren't" : "isn't"} in the ${this.is_list() ? "list" : "script"}.`, true);
@@ -111,7 +110,17 @@ const Page = {
     this.scroll();
   },
 
+  // scrolls so that a line is in sight
+  reveal(line) {
+    $("text").scrollTop = line * parseFloat(getComputedStyle($("marks")).lineHeight) - $("text").clientHeight / 2;
+    this.scroll();
+    $("editor").scrollIntoView({ block: "nearest" });
+  },
+
   scroll() { $("marks").scrollTop = $("text").scrollTop; $("marks").scrollLeft = $("text").scrollLeft; },
+
+  // a line that is told
+  line: text => element("span", "line" + (/^(E[A-Z]+|  (Refused|Back) E[A-Z]+)$/.test(text) ? " error" : ""), text || " "),
 
   told({ paragraphs, last }, commands, at) {
     const list = element("ol");
@@ -120,7 +129,7 @@ const Page = {
       const button = element("button", "command", part[0]);
       if (k + 1 === at) button.setAttribute("aria-current", "step");
       item.onclick = () => this.go(k + 1);
-      item.append(button, ...part.slice(1).map(line => element("span", "line" + (/^(E[A-Z]+|  (Refused|Back) E[A-Z]+)$/.test(line) ? " error" : ""), line || " ")));
+      item.append(button, ...part.slice(1).map(line => this.line(line)));
       item.append(...learned.map(line => element("span", "learned", line)));
       list.append(item);
     });
@@ -149,7 +158,7 @@ const Page = {
   go(at) { this.at = Math.max(0, at); return this.show(); },
 
   tab(name) {
-    for (const id of ["told", "sees"]) {
+    for (const id of this.tabs) {
       $("tab-" + id).setAttribute("aria-selected", String(id === name));
       $("tab-" + id).tabIndex = id === name ? 0 : -1;
       $(id).hidden = id !== name;
@@ -158,6 +167,7 @@ const Page = {
 
   sorted() {
     $("commands").textContent = this.help[$("sort").value];
+    $("keep").disabled = this.is_list();
     $("text").setAttribute("aria-label", this.is_list() ? "the list, a call a line" : "the script, a command a line");
   },
 
@@ -226,10 +236,13 @@ const Page = {
       const said = () => { $("said").textContent = "The address above is the link."; };
       if (navigator.clipboard) navigator.clipboard.writeText(address).then(() => { $("said").textContent = "Copied: it is the address above."; }, said); else said();
     };
-    for (const name of ["told", "sees"]) {
+    this.tabs.forEach((name, k) => {
       $("tab-" + name).onclick = () => this.tab(name);
-      $("tab-" + name).onkeydown = event => { if (/^Arrow(Left|Right)$/.test(event.key)) { const other = name === "told" ? "sees" : "told"; this.tab(other); $("tab-" + other).focus(); } };
-    }
+      $("tab-" + name).onkeydown = event => {
+        const by = { ArrowLeft: this.tabs.length - 1, ArrowRight: 1 }[event.key], other = by && this.tabs[(k + by) % this.tabs.length];
+        if (other) { this.tab(other); $("tab-" + other).focus(); }
+      };
+    });
     document.addEventListener("keydown", event => {
       if (event.key === "Escape" && !$("stop").hidden) Machine.stop("it was stopped");
       if (/^(TEXTAREA|SELECT)$/.test(event.target.tagName) || event.altKey || event.ctrlKey || event.metaKey) return;
@@ -240,6 +253,149 @@ const Page = {
     if (typeof WebAssembly === "undefined" || typeof Worker === "undefined") { this.say("This browser can't run the program: it has no WebAssembly, or no workers.", true); return; }
     $("made").textContent = "Made of sources with the sum " + document.querySelector("meta[name=sources]").content.slice(0, 16) + ".";
     Lecture.begin();
+    Beside.begin();
     this.from_address();
+  },
+};
+
+// Two scripts side by side: the one that was kept, the first, and the one in the editor, the second. What those who look see and are told otherwise is what
+// the program reports.
+const Beside = {
+  pairs: [
+    ["secret-told.hurd", "secret-told-otherwise.hurd", "Bob writes one word or another, and opens the file."],
+    ["secret-kept-one.hurd", "secret-kept-two.hurd", "Bob writes one word or another, and closes the file."],
+    ["unseen-one.hurd", "unseen-two.hurd", "Bob does one thing or another where alice may not look."],
+    ["started-by-alice.hurd", "started-by-bob.hurd", "Alice or bob is the first to read the text of a server."],
+  ],
+  first: null,
+  last: { asked: "", run: null },
+  drawn: null,
+
+  // the report on both, if a script is kept; what was asked just before isn't asked again
+  async run(text, who) {
+    if (!this.first || Page.is_list()) return null;
+    const asked = JSON.stringify([this.first.text, text, who]);
+    if (this.last.asked !== asked || this.last.run.trap) this.last = { asked, is_same: text === this.first.text, run: await Machine.run(text, ["tell", this.first.text, who]) };
+    return this.last.run;
+  },
+
+  keep(text, name) {
+    this.first = { text, name };
+    const lines = text.replace(/\n$/, "").split("\n");
+    $("kept").textContent = `First: ${name}, ${lines.length} line${lines.length > 1 ? "s" : ""}. Second: in the editor.`;
+    $("first-text").replaceChildren(...lines.slice(0, 5000).map(line => element("b", "", Read.shown(line.slice(0, 400)) || " ")));
+    $("first").open = false;
+  },
+
+  // the name of what is in the editor
+  name() {
+    const shown = Page.examples.find(example => example.file === $("example").value);
+    return shown && shown.text === $("text").value ? shown.title : "a script of your own";
+  },
+
+  let_go() {
+    this.first = null;
+    $("kept").textContent = "";
+    $("first-text").replaceChildren();
+  },
+
+  // an example as the first, and another in the editor
+  begin_with(first, second) {
+    this.keep(first.text, first.title);
+    $("beside").focus();
+    return Page.pick(second);
+  },
+
+  show(run) {
+    for (const id of ["first", "let-go", "kept"]) $(id).hidden = !this.first;
+    $("what-for").hidden = Boolean(this.first);
+    $("beside").classList.toggle("kept", Boolean(this.first));
+    if (run && run === this.drawn) return;
+    this.drawn = run;
+    if (run) return run.status === 0 || run.status === 3 ? this.report(run, Read.report(Read.text(run.bytes))) : this.no_report(run);
+    this.verdict("", Page.is_list() ? "Lists of calls are no pair" : "", Page.is_list() ? "This tab is for scripts of users\u2019 commands." : "");
+    $("report").replaceChildren();
+  },
+
+  // a verdict, and a sentence below it
+  verdict(kind, head, says) {
+    $("verdict").className = kind;
+    $("verdict").replaceChildren(...(head ? [element("strong", "", head), " "] : []), ...(says ? [this.sentence(says)] : []));
+  },
+
+  // a sentence, whose lines of scripts are buttons that lead there
+  sentence(says) {
+    const made = element("p");
+    made.append(...Read.pieces(says).map(({ text, whole, line, script }) => {
+      if (!line) return text;
+      const button = element("button", "leads", text);
+      button.setAttribute("aria-label", whole);
+      button.onclick = () => this.lead(script, line - 1);
+      return button;
+    }));
+    return made;
+  },
+
+  // puts the mark at a line of one of the two
+  async lead(script, line) {
+    if (script === "first") return this.lead_first(line);
+    const at = Read.lines($("text").value, false).commands.findIndex(command => command.at === line);
+    if (at >= 0) await Page.go(at + 1);
+    Page.reveal(line);
+  },
+
+  lead_first(line) {
+    const lines = [...$("first-text").children];
+    $("first").open = true;
+    lines.forEach((one, k) => { one.className = k === line ? "now" : ""; });
+    if (lines[line]) lines[line].scrollIntoView({ block: "nearest" });
+  },
+
+  report(run, report) {
+    const is_same = run.status === 0, sees_same = !report.sees.length && / the same$/.test(report.seen);
+    const why = this.last.is_same ? "Both are the same script so far: edit it, or open another."
+      : !is_same ? "By that the two can be told apart."
+      : sees_same ? "Nothing here tells the two apart."
+      : "What is seen differs, but no command here shows it.";
+    this.verdict(is_same ? "same" : "otherwise", (/^.* told (the same|otherwise)/.exec(report.told) || [report.told])[0], why);
+    const seen = element("ul", "seen");
+    seen.append(...report.sees.map(line => element("li", "", line)));
+    const both = element("div", "both"), { first, second } = report;
+    if (first && second) both.append(this.side("In the first", first, second), this.side("In the second", second, first));
+    const when = sees_same ? element("p", "sum", "That is looked at before each command of those whom you chose, and at the end.") : seen;
+    $("report").replaceChildren(this.sentence(report.seen), when, ...(is_same ? [] : [this.sentence(report.told), both]));
+  },
+
+  // what is told in one script; lines that the other lacks are marked
+  side(head, { part, is_unended }, other) {
+    const made = element("figure"), text = element("div", "part");
+    text.append(element("span", "command", part[0]), ...part.slice(1).map(line => {
+      const shown = Page.line(line);
+      shown.classList.toggle("alone", !other.part.includes(line));
+      return shown;
+    }));
+    if (is_unended) text.append(element("span", "line unended", "no newline at its end"));
+    made.append(element("figcaption", "", head), text);
+    return made;
+  },
+
+  no_report(run) {
+    const said = Read.no_report(Read.text(run.errors)), why = run.trap ? `The run ended: ${run.trap}.` : said.says || `The run ended with status ${run.status}.`;
+    this.verdict("none", run.trap ? "The two were not compared" : said.head, why);
+    const below = said.code ? [element("code", "", Page.short(said.code, 200))] : [];
+    if (said.is_no_pair) below.push(element("p", "sum", "Two scripts are a pair where they have the same users, and those whom you chose give the same commands in both, written in the same way. What others do may differ."));
+    $("report").replaceChildren(...below);
+  },
+
+  begin() {
+    const find = file => Page.examples.find(example => example.file === file);
+    $("pairs").append(...this.pairs.filter(([one, two]) => find(one) && find(two)).map(([one, two, about]) => {
+      const item = element("li"), button = element("button", "", `${find(one).title} / ${find(two).title}`);
+      button.onclick = () => this.begin_with(find(one), two);
+      item.append(button, element("span", "sum", about));
+      return item;
+    }));
+    $("keep").onclick = () => { this.keep($("text").value, this.name()); return Page.show(); };
+    $("let-go").onclick = () => { this.let_go(); $("keep").focus(); return Page.show(); };
   },
 };

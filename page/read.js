@@ -55,6 +55,56 @@ const Read = {
     return { paragraphs, last: lines.shift() || "" };
   },
 
+  // all that is seen, a sentence a line, by clauses
+  seen: text => text.split("\n").filter(line => line).map(line => line.split(": ").slice(1)),
+
+  // a report on two scripts: the sentences of what is seen and told, lines of what is seen otherwise, and what is told in each
+  report(text) {
+    const lines = text.split("\n"), report = { seen: lines.shift(), sees: [], told: "", first: null, second: null };
+    while (lines.length && lines[0].startsWith("  ")) report.sees.push(lines.shift().slice(2));
+    report.told = lines.shift() || "";
+    report.first = this.told_in(lines, "the first: ");
+    report.second = this.told_in(lines, "the second: ");
+    return report;
+  },
+
+  // what is told behind a word, and whether its last line has an end; none where nothing stands there
+  told_in(lines, word) {
+    if (!lines.length || !lines[0].startsWith(word)) return null;
+    const part = [lines.shift().slice(word.length)];
+    while (lines.length && lines[0].startsWith("| ")) part.push(lines.shift().slice(2));
+    const is_unended = lines[0] === "\\ no newline";
+    if (is_unended) lines.shift();
+    return { part, is_unended };
+  },
+
+  // a sentence in pieces: texts, and lines of the first script or of the second
+  pieces: sentence => sentence.split(/(line \d+ of the (?:first|second)\b)/i).flatMap(text => {
+    const line = /^(line (\d+))( of the (first|second))$/i.exec(text);
+    return line ? [{ text: line[1], whole: text, line: Number(line[2]), script: line[4] }, { text: line[3] }] : [{ text }];
+  }),
+
+  // why there is no report, of what is said on standard error: a verdict, a sentence, and a bad line
+  no_report(text) {
+    const [line, below] = text.split("\n"), named = /^hurd: (the first script|standard input)(?::(\d+))?: (.*)$/.exec(line);
+    const sentence = said => said && said[0].toUpperCase() + said.slice(1) + (said.endsWith(".") ? "" : ".");
+    if (!named) return { head: "The two were not compared", says: sentence(line.replace(/^hurd: /, "")) };
+    const script = named[1] === "standard input" ? "second" : "first", at = `line ${named[2]} of the ${script}`, why = named[3];
+    if (/^no pair\b/.test(why)) return { head: "These two are no pair", says: this.no_pair(why, at), is_no_pair: true };
+    const bad = /^bad script: (.*)$/.exec(why), stranger = /^no such user: (.*)$/.exec(why);
+    if (stranger) return { head: "The two were not compared", says: stranger[1].includes(",") ? `The ${script} lacks one of these users: ${stranger[1]}.` : `The ${script} has no user ${stranger[1]}.` };
+    return { head: `The ${script} script can\u2019t be run`, says: sentence(bad ? `${at}: ${bad[1]}` : why), code: bad && below ? below.slice(2) : "" };
+  },
+
+  // why two scripts are no pair, where the second has a command at this line
+  no_pair(why, at) {
+    const other = /^no pair: (not|lacks) the command at the first script:(\d+)$/.exec(why);
+    if (other && other[1] === "not") return `At ${at} stands another command than at line ${other[2]} of the first.`;
+    if (other) return `The second lacks the command at line ${other[2]} of the first.`;
+    if (why === "no pair: no such command in the first script") return `The first lacks the command at ${at}.`;
+    return why === "no pair: other users than the first script" ? "The second has other users than the first, or other ids of theirs." : "";
+  },
+
   // what is said on standard error, as a sentence, and the line of a bad text, which is -1 where none is named
   complaint(text) {
     const line = text.split("\n")[0], bad = /^hurd: standard input:(\d+): (bad (?:script|calls).*)$/.exec(line);

@@ -1,7 +1,7 @@
-// page-browser.js PAGE BROWSER [FOLDER]: the page, opened from a file in a browser without a network. Steps are made, and what it shows is compared with what
-// `hurd learns` prints, which HURD names. With a folder, pictures of the page are left there.
+// page-browser.js PAGE BROWSER [FOLDER]: the page, opened from a file in a browser without a network. Steps are made and scripts are put side by side, and what
+// it shows is compared with what `hurd learns`, `hurd see` and `hurd tell` print, which HURD names. With a folder, pictures of the page are left there.
 "use strict";
-const { readFileSync, writeFileSync, mkdtempSync } = require("node:fs");
+const { readFileSync, writeFileSync, mkdtempSync, rmSync } = require("node:fs");
 const { spawn, spawnSync } = require("node:child_process");
 const { join, resolve } = require("node:path");
 const { tmpdir } = require("node:os");
@@ -29,14 +29,133 @@ function start() {
 
 const sleep = ms => new Promise(done => setTimeout(done, ms));
 
-function program(sort, text, who) {
-  const { stdout, stderr } = spawnSync(process.env.HURD, ["learns", ...(sort === "calls" ? ["--calls"] : []), who, "-"], { input: text, maxBuffer: 1 << 28 });
+function program(sort, text, who, verb = "learns") {
+  const { stdout, stderr } = spawnSync(process.env.HURD, [verb, ...(sort === "calls" ? ["--calls"] : []), who, "-"], { input: text, maxBuffer: 1 << 28 });
   return { out: stdout.toString(), errors: stderr.toString() };
+}
+
+// what the program prints of two scripts, and its status
+function tell_program(one, two, who) {
+  const room = mkdtempSync(join(tmpdir(), "pair-")), files = [join(room, "one"), join(room, "two")];
+  writeFileSync(files[0], one);
+  writeFileSync(files[1], two);
+  const { stdout, status } = spawnSync(process.env.HURD, ["tell", who, ...files], { maxBuffer: 1 << 28 });
+  rmSync(room, { recursive: true });
+  return { out: stdout.toString(), status };
 }
 
 // paragraphs of an output, with the lines of what is seen
 function paragraphs(out) {
   return out.split("\n\n").slice(0, -1).map(text => { const lines = text.split("\n"); return { lines, seen: lines.filter(line => /^  [^|]* sees?: /.test(line)), learned: lines.filter(line => /^  [^|]* learns?: /.test(line)) }; });
+}
+
+// beside another script: the tab shows what `hurd tell` prints, and leads to its lines
+async function beside({ value, open, ready, size }) {
+  const example = name => readFileSync(join("examples", name + ".hurd"), "utf8"), is_same = (one, other) => JSON.stringify(one) === JSON.stringify(other);
+  const click = async of => { await value(`document.querySelector(${JSON.stringify(of)}).click()`); return ready(); };
+  const chosen = () => value(`[...document.querySelectorAll("#who input:checked")].map(input => input.value).join()`);
+  const edit = async text => { await value(`{ const box = document.getElementById("text"); box.value = ${JSON.stringify(text)}; box.dispatchEvent(new Event("input")); document.body.dataset.ready = "no"; }`); return ready(); };
+  const look = async (...users) => { await value(`Page.who = new Set(${JSON.stringify(users)}); Page.show()`); return ready(); };
+  // what the tab says: the verdict, why, the report as the program prints it, and whether it has no part that a text put there
+  const says_now = () => value(`(() => {
+    const all = of => [...document.querySelectorAll(of)], text = it => it ? it.textContent : "", part = side => { const [first, ...rest] = [...side.querySelectorAll(".command, .line:not(.unended)")].map(text); return [first, ...rest.map(line => "| " + line)].join("\\n") + "\\n"; };
+    const [seen, told] = all("#report > p:not(.sum)").map(text), head = text(document.querySelector("#verdict strong")), sides = all("#report figure");
+    const report = seen + "\\n" + all("#report .seen li").map(line => "  " + text(line) + "\\n").join("") + (told || head) + "\\n" + sides.map((side, k) => ["the first: ", "the second: "][k] + part(side)).join("");
+    return { head, kind: document.getElementById("verdict").className, why: text(document.querySelector("#verdict p")), report, shown: text(document.getElementById("beside")), clean: window.hit === undefined && !all("main img, main script").length };
+  })()`);
+  const is_told = async (what, one, two) => {
+    const who = await chosen(), { out, status } = tell_program(one, two, who), now = await says_now();
+    says(`${what}, ${who}: ${JSON.stringify({ ...now, shown: undefined })} for ${status}: ${out}`, now.report === out && (status === 0 ? now.kind === "same" && / told the same$/.test(now.head) : status === 3 && now.kind === "otherwise" && / told otherwise$/.test(now.head)) && now.head.startsWith(who + " "));
+  };
+  const is_not_told = async (what, head, why, below = "") => {
+    const now = await says_now();
+    says(`${what}: ${JSON.stringify({ ...now, shown: undefined })}`, now.kind === "none" && now.head === head && now.why === why && now.shown.includes(below) && now.clean && await value(`!document.querySelector("#report figure, #report .seen")`));
+  };
+
+  // nothing kept, and the keys of the tabs
+  await open("example=secret-told.hurd");
+  const key = (from, name) => value(`(() => { const tab = document.getElementById("tab-${from}"); tab.focus(); tab.dispatchEvent(new KeyboardEvent("keydown", { key: "${name}", bubbles: true })); return [document.activeElement.id, ...["told", "sees", "beside"].filter(id => !document.getElementById(id).hidden)].join(); })()`);
+  says("the keys of the tabs", is_same([await key("told", "ArrowLeft"), await key("beside", "ArrowRight"), await key("told", "ArrowRight"), await key("sees", "ArrowRight")], ["tab-beside,beside", "tab-told,told", "tab-sees,sees", "tab-beside,beside"]));
+  says("nothing is kept", await value(`!document.getElementById("what-for").hidden && document.querySelectorAll("#pairs button").length === 4 && document.getElementById("let-go").hidden && document.getElementById("first").hidden && !document.getElementById("verdict").hasChildNodes() && !document.getElementById("report").hasChildNodes()`));
+
+  // kept: beside itself, another example and an edited text, for those who are chosen
+  const [one, two] = [example("secret-told"), example("secret-told-otherwise")];
+  await click("#keep");
+  await is_told("a script beside itself", one, one);
+  says("a script beside itself is said", (await says_now()).why.startsWith("Both are the same script"));
+  await value(`Page.pick("secret-told-otherwise.hurd")`);
+  for (const users of [["alice"], ["guest"], ["root"], ["alice", "guest"], ["root", "alice", "guest"]]) { await look(...users); await is_told("secret-told and secret-told-otherwise", one, two); }
+  await look("bob");
+  await is_not_told("another command", "These two are no pair", "At line 7 of the second stands another command than at line 7 of the first.", "What others do may differ.");
+  await look("alice");
+  await edit(two.replace("put /tmp/x two", "put /tmp/y two"));
+  await is_told("an edited script", one, two.replace("put /tmp/x two", "put /tmp/y two"));
+  for (const [what, text, head, why, below] of [
+    ["another command", two.replace("alice cat", "alice ls"), "These two are no pair", "At line 9 of the second stands another command than at line 9 of the first."],
+    ["a command less", two.replace("alice chmod 666 /tmp/x\n", ""), "These two are no pair", "At line 16 of the second stands another command than at line 13 of the first."],
+    ["the last command less", two.replace(/alice cat \/tmp\/x\n(?=guest cat \/tmp\/x\nbob chmod 8)/, ""), "These two are no pair", "The second lacks the command at line 17 of the first."],
+    ["a command more", two + "alice ls /\n", "These two are no pair", "The first lacks the command at line 20 of the second."],
+    ["other users", two.replace("user guest - -", "user guest 7 -"), "These two are no pair", "The second has other users than the first, or other ids of theirs."],
+    ["a bad second", two + "alice frob <img\\ssrc=x\\sonerror=window.hit=1>\n", "The second script can\u2019t be run", "Line 20 of the second: no such command.", "alice frob <img\\\\ssrc=x\\\\sonerror=window.hit=1>"],
+    ["a second that is too long", "#".repeat(1048577), "The second script can\u2019t be run", "Longer than 1048576 bytes."],
+  ]) { await edit(text); await is_not_told(what, head, why, below); }
+
+  // lines lead there, and the report stays as it is
+  await value(`Page.open(${JSON.stringify(two)}, "script", ["alice"])`);
+  const led = side => value(`(async () => { const buttons = [...document.querySelectorAll("#report .leads")], button = buttons.find(it => it.getAttribute("aria-label") === "line 11 of the ${side}"); button.focus(); await button.onclick(); return [buttons.length, document.activeElement === button, [...document.querySelectorAll(${side === "first" ? '"#first-text b"' : '"#marks b"'})].findIndex(line => line.className === "now"), document.getElementById("first").open].join(); })()`);
+  says("a line of the second", await led("second") === "4,true,10,false" && await value(`document.getElementById("at").value`) === "7");
+  says("a line of the first", await led("first") === "4,true,10,true");
+
+  // lists are no pair; the first is let go
+  await value(`Page.pick("learned-pipe.calls")`);
+  const list = await says_now();
+  says("a list: " + JSON.stringify(list), list.head === "Lists of calls are no pair" && /for scripts/.test(list.why) && await value(`document.getElementById("keep").disabled && !document.getElementById("let-go").hidden`));
+  await value(`Page.pick("secret-told-otherwise.hurd")`);
+  await is_told("a script behind a list", one, two);
+  await click("#let-go");
+  says("the first is let go", await value(`Beside.first === null && !document.getElementById("what-for").hidden && document.getElementById("first").hidden && !document.getElementById("verdict").hasChildNodes() && !document.getElementById("report").hasChildNodes() && document.activeElement.id === "keep" && !document.getElementById("beside").textContent.includes("alice cat /tmp/x")`));
+
+  // pairs of the examples
+  for (const [k, first, second] of [[1, "secret-told", "secret-told-otherwise"], [2, "secret-kept-one", "secret-kept-two"], [3, "unseen-one", "unseen-two"], [4, "started-by-alice", "started-by-bob"]]) {
+    await click(`#pairs li:nth-child(${k}) button`);
+    says(`the pair ${first}`, await value(`$("example").value`) === second + ".hurd" && (await says_now()).shown.includes(`First: ${first.replaceAll("-", " ")}, `) && await chosen() === "alice");
+    await is_told("a pair of the examples", example(first), example(second));
+    await click("#let-go");
+  }
+
+  // a bad first, somebody who isn't in it, and users who have markup in their texts and names
+  await value(`Page.open("root ls /\\nroot frob <img src=x onerror=window.hit=1>\\n", "script", ["root"])`);
+  await click("#keep");
+  await is_not_told("a bad first, kept", "The first script can\u2019t be run", "Line 2 of the first: no such command.", "root frob <img src=x onerror=window.hit=1>");
+  await value(`Page.pick("welcome.hurd")`);
+  await is_not_told("a bad first", "The first script can\u2019t be run", "Line 2 of the first: no such command.");
+  await value(`Page.open("root ls /\\n", "script", ["root"])`);
+  await click("#keep");
+  await value(`Page.open("user alice 1000 1000\\nroot ls /\\nalice ls /\\n", "script", ["alice"])`);
+  await is_not_told("somebody who isn't in the first", "The two were not compared", "The first has no user alice.");
+  await look("root", "alice");
+  await is_not_told("some who aren't in the first", "The two were not compared", "The first lacks one of these users: root,alice.");
+  const image = "<img\\ssrc=x\\sonerror=window.hit=1>", marked = text => `user alice 1000 1000\nroot mkdir /${image}\nroot put /${image}/x ${text}\nroot settrans -a /h /hurd/hello --contents=${text}\n# <img src=x onerror=window.hit=1>\nalice cat /${image}/x\nalice ls /${image}\nalice cat /<script>window.hit=1</script>\n`;
+  await value(`Page.open(${JSON.stringify(marked(image + "\\n"))}, "script", ["alice"])`);
+  await click("#keep");
+  await value(`document.getElementById("first").open = true`);
+  for (const text of [marked(image + image + "\\n"), marked(image), marked("</script><script>window.hit=1</script>"), marked(image + "\\n").replace(`ls /${image}`, `ls -d /${image}`), marked(image + "\\n").replace("alice ls", "alice <img/src=x/onerror=window.hit=1>")]) {
+    await edit(text);
+    const now = await says_now(), { out, status } = tell_program(marked(image + "\\n"), text, "alice");
+    says(`markup: ${JSON.stringify({ ...now, shown: undefined })}`, now.clean && now.shown.includes("onerror=window.hit=1") && (status === 1 ? now.kind === "none" : now.report === out));
+  }
+  await value(`Page.open("root ls /\\u001b\\u202e\\u0007\\n", "script", ["root"])`);
+  await click("#keep");
+  says("control characters in the first", !/[\u0007\u001b\u202e]/.test((await says_now()).shown));
+
+  // in a narrow window nothing stands beyond its edge
+  await size(390, 844, false);
+  await open("example=welcome.hurd");
+  await click("#tab-beside");
+  const overflow = () => value(`[document.documentElement.scrollWidth > innerWidth, document.getElementById("beside").scrollWidth > document.getElementById("beside").clientWidth].join()`);
+  says("narrow, nothing kept", await overflow() === "false,false");
+  for (const k of [1, 2, 3, 4]) { await click(`#pairs li:nth-child(${k}) button`); says(`narrow, pair ${k}`, await overflow() === "false,false"); await click("#let-go"); }
+  await size(1280, 800, false);
 }
 
 async function main() {
@@ -64,7 +183,7 @@ async function main() {
       const commands = text.split("\n").map((line, at) => ({ line, at })).filter(({ line }) => !/^ *(#.*)?$/.test(line) && !/^ *(user|task) /.test(line));
       for (let at = 1; at <= commands.length; at++) {
         await value(`Page.go(${at})`);
-        const upto = text.split("\n").slice(0, commands[at - 1].at + 1).filter(line => !/^# (see|from here)$/.test(line)).join("\n") + "\n# see\n", seen = paragraphs(program(sort, upto, who).out).at(-1).seen;
+        const upto = text.split("\n").slice(0, commands[at - 1].at + 1).filter(line => !/^# (see|from here)$/.test(line)).join("\n") + "\n", seen = program(sort, upto, who, "see").out.split("\n").filter(line => line);
         const rows = await value(`[...document.querySelectorAll("#sees tbody tr")].map(row => row.children[0].textContent + ": " + row.children[1].textContent)`);
         says(`${file}, behind ${at}: all that is seen`, JSON.stringify(rows) === JSON.stringify(seen.map(line => line.replace(/^  [^:]* sees?: /, ""))));
         const drawn = await value(`document.querySelectorAll("#picture .node.open, #picture .node.rim").length`), nodes = seen.filter(line => /sees?: [/(]/.test(line) && !/^[^:]*: [^:]*\(server\): /.test(line)).length;
@@ -95,7 +214,7 @@ async function main() {
     await value(`Page.open("#".repeat(1048577), "script", ["root"])`);
     says("a text that is too long", (await value(`document.getElementById("fault").textContent`)) === "Longer than 1048576 bytes." && await value(`document.querySelectorAll("#marks b.bad").length === 0`));
     for (const [sort, text, who] of [["script", "root ls /\n", "amy"], ["script", "root ls /\n", "<img src=x onerror=window.hit=1>"], ["calls", "task 0 0\n0 io_stat 1\n", "7"]]) {
-      const told = await value(`Machine.run(${JSON.stringify(text)}, ${JSON.stringify([sort, who])}).then(run => [run.status, new TextDecoder().decode(run.errors), Page.fault(run, ""), document.getElementById("fault").textContent])`), { errors } = program(sort, text, who);
+      const told = await value(`Machine.run(${JSON.stringify(text)}, ${JSON.stringify(["learns", sort, who])}).then(run => [run.status, new TextDecoder().decode(run.errors), Page.fault(run, ""), document.getElementById("fault").textContent])`), { errors } = program(sort, text, who);
       says(`somebody who isn't in the text: ${told}`, told[0] === 1 && told[1] === errors && !told[2] && errors === `hurd: standard input: ${told[3][0].toLowerCase()}${told[3].slice(1, -1)}\n`);
       says("somebody of the address who isn't in the text: " + who, await open(`${sort === "calls" ? "list" : "script"}=${Buffer.from(text).toString("base64url")}&who=${encodeURIComponent(who)}`) === "yes" && (await value(`document.getElementById("status").textContent`)).includes(`${who} isn't in the `) && await value(`document.querySelectorAll("#who input:checked").length === 1`));
       says("markup in a name was run", await value(`window.hit === undefined && document.querySelectorAll("#right img, #left img").length === 0`));
@@ -104,6 +223,8 @@ async function main() {
     await open("example=learned-secret.hurd");
     await value(`document.getElementById("text").value = document.getElementById("text").value.replace(/alice/g, "amy"); Page.show()`);
     says("a user who is removed while she is chosen", await value(`[...document.querySelectorAll("#who input")].map(input => input.value).join()`) === "root,amy,bob");
+
+    await beside({ value, open, ready, size });
 
     // a long run is stopped, and the page goes on
     const seen = "user alice 1000 1000\nroot mkdir /d\n" + Array.from({ length: 4000 }, (_, k) => `root put /d/${k} x\n`).join("");
@@ -129,6 +250,13 @@ async function main() {
       for (const [name, width, height, dark, words] of [["wide", 1280, 800, false, "example=learned-server.hurd&who=alice"], ["phone", 390, 844, false, "example=learned-server.hurd&who=alice"], ["dark", 1280, 800, true, "example=learned-target.hurd&who=alice&at=12"], ["lecture", 1280, 800, false, "lecture=2"], ["list", 1280, 800, false, "example=learned-pipe.calls&who=1"], ["bad", 1280, 800, false, `script=${Buffer.from("user alice 1000 1000\nroot mkdir /home\nalice cat /home\\q\nalice ls /\n").toString("base64url")}&who=alice`], ["bad-phone", 390, 844, false, `list=${Buffer.from("task 0 0\n0 io_stat 1\n0 io_stat\n").toString("base64url")}&who=0`], ["stranger", 1280, 800, false, "example=learned-secret.hurd&who=carol"], ["nobody", 1280, 800, false, `list=${Buffer.from("# nobody is here\n").toString("base64url")}`]]) {
         await size(width, height, dark);
         await open(words);
+        await shoot(name);
+      }
+      const keep = `document.getElementById("keep").click()`, pair = k => `document.querySelectorAll("#pairs button")[${k}].click()`;
+      for (const [name, width, height, dark, ...steps] of [["beside-none", 1280, 800, false], ["beside-otherwise", 1280, 800, false, pair(0)], ["beside-same", 1280, 800, true, pair(1)], ["beside-seen", 1280, 800, false, pair(3)], ["beside-dark", 1280, 800, true, pair(0)], ["beside-no-pair", 1280, 800, false, keep, `Page.pick("secret-told-otherwise.hurd").then(() => { Page.who = new Set(["bob"]); return Page.show(); })`], ["beside-bad", 1280, 800, false, keep, `$("text").value += "alice frob\\n"; Page.show()`], ["beside-phone", 390, 844, false, pair(0), `document.getElementById("tabs").scrollIntoView()`]]) {
+        await size(width, height, dark);
+        await open("example=secret-told.hurd&who=alice");
+        for (const step of [`document.getElementById("tab-beside").click()`, ...steps]) { await value(step); await ready(); }
         await shoot(name);
       }
     }

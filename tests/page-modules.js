@@ -1,16 +1,16 @@
-// page-modules.js PAGE RANDOM: each script and list by the module of the page and by `hurd learns`, which HURD names: output, standard error and status, for each
-// user alone, for all, and for nobody; and want of memory.
+// page-modules.js PAGE RANDOM: each script and list by the module of the page, and by `hurd learns` and `hurd see` of the program that HURD names: output,
+// standard error and status, for each user alone, for all, and for nobody; pairs of scripts by `hurd tell`; and want of memory.
 "use strict";
-const { readFileSync, readdirSync } = require("node:fs");
+const { mkdtempSync, readFileSync, readdirSync, rmSync, writeFileSync } = require("node:fs");
 const { execFile } = require("node:child_process");
-const { cpus } = require("node:os");
+const { cpus, tmpdir } = require("node:os");
 const { basename, join } = require("node:path");
 const [page, random] = process.argv.slice(2), html = readFileSync(page, "utf8");
 const module_of_page = new WebAssembly.Module(Buffer.from(/id="module">([^<]*)</.exec(html)[1], "base64"));
 let passed = 0, failed = 0;
 const says = (what, good) => { if (good) passed++; else if (failed++ < 10) console.log("page: differs: " + what); };
 
-// the module, with a sort of text and some who learn, or with other words
+// the module, with three words, or with others
 function by_module(text, words, { pages, request } = {}) {
   const { exports } = new WebAssembly.Instance(module_of_page, {});
   const put = bytes => { const at = exports.room(BigInt(bytes.length + 1)); new Uint8Array(exports.memory.buffer).set(bytes, Number(at)); return [at, BigInt(bytes.length)]; };
@@ -22,26 +22,44 @@ function by_module(text, words, { pages, request } = {}) {
   return { status, out: kept(exports.output(), exports.output_length()), errors: kept(exports.errors(), exports.errors_length()), pages: exports.memory.buffer.byteLength / 65536, requests: Number(exports.requested()) };
 }
 
-const by_program = (text, [sort, who]) => new Promise(done => {
-  const ran = execFile(process.env.HURD, ["learns", ...(sort === "calls" ? ["--calls"] : []), who, "-"], { encoding: "buffer", maxBuffer: 1 << 28 }, (fault, out, errors) => done({ status: fault ? fault.code : 0, out, errors }));
+const run_program = (words, text) => new Promise(done => {
+  const ran = execFile(process.env.HURD, words, { encoding: "buffer", maxBuffer: 1 << 28 }, (fault, out, errors) => done({ status: fault ? fault.code : 0, out, errors }));
   ran.stdin.on("error", () => {}); // it may end before it has read all
   ran.stdin.end(text);
 });
 
+// two texts as files, which standard error then calls as the module does
+const folder = mkdtempSync(join(tmpdir(), "page-"));
+let pairs = 0;
+async function tell_program(one, two, who) {
+  const first = join(folder, `one-${++pairs}`), second = join(folder, `two-${pairs}`);
+  writeFileSync(first, one);
+  writeFileSync(second, two);
+  const told = await run_program(["tell", who, first, second], "");
+  for (const file of [first, second]) rmSync(file);
+  return { ...told, errors: Buffer.from(told.errors.toString("latin1").replaceAll(first, "the first script").replaceAll(second, "standard input"), "latin1") };
+}
+
+const by_program = (text, [verb, word, who]) => verb === "tell" ? tell_program(word, text, who) : run_program([verb, ...(word === "calls" ? ["--calls"] : []), who, "-"], text);
+
 // words that ask nothing: nothing is printed, and the status is 2
 const nothing = { status: 2, out: Buffer.alloc(0), errors: Buffer.alloc(0) };
-const asks = words => words.length > 1 && ["script", "calls"].includes(words[0]);
+const is_text = word => Buffer.from(word).equals(Buffer.from(Buffer.from(word).toString()));
+const asks = words => words.length > 2 && words.every(is_text) && (words[0] === "tell" || (["learns", "see"].includes(words[0]) && ["script", "calls"].includes(words[1])));
 const is_same = (one, other) => one.status === other.status && one.out.equals(other.out) && one.errors.equals(other.errors);
 
 const runs = [];
-const compare = (sort, file, text, everybody) => { for (const who of everybody) runs.push({ file, text, words: [sort, who] }); };
+const compare = (sort, file, text, everybody) => { for (const who of everybody) for (const verb of ["learns", "see"]) runs.push({ file, text, words: [verb, sort, who] }); };
+const compare_pair = (file, one, two, everybody) => { for (const who of everybody) runs.push({ file, text: Buffer.from(two), words: ["tell", one, who] }); };
+const told = { 0: 0, 1: 0, 2: 0, 3: 0 }; // how many pairs ended with each status
 
 // as many programs at once as there are processors
 async function compare_all() {
   const work = async () => {
     for (let run = runs.pop(); run; run = runs.pop()) {
       const { file, text, words } = run, other = asks(words) ? await by_program(text, words) : nothing, one = by_module(text, words);
-      says(`${file}, ${words.join(" ")}: status ${one.status} for ${other.status}, ${JSON.stringify(one.errors.toString().slice(0, 100))} for ${JSON.stringify(other.errors.toString().slice(0, 100))}`, is_same(one, other));
+      if (words[0] === "tell" && asks(words)) told[one.status]++;
+      says(`${file}, ${words.map(word => String(word).slice(0, 40)).join(" ")}: status ${one.status} for ${other.status}, ${JSON.stringify(one.errors.toString().slice(0, 100))} for ${JSON.stringify(other.errors.toString().slice(0, 100))}`, is_same(one, other));
     }
   };
   await Promise.all(cpus().map(work));
@@ -50,8 +68,9 @@ async function compare_all() {
 const files = (folder, end) => readdirSync(folder, { withFileTypes: true }).filter(it => it.isFile() && it.name.endsWith(end)).map(it => join(folder, it.name)).sort();
 const lines = text => text.toString("latin1").split("\n").map(line => line.split(" ").filter(word => word));
 
+const users_of = text => ["root", ...new Set(lines(text).filter(words => words[0] === "user" && words.length > 1).map(words => words[1]))];
 for (const file of [...files("examples", ".hurd"), ...files("tests/scripts", ".hurd"), ...files(random, ".hurd")]) {
-  const text = readFileSync(file), users = ["root", ...new Set(lines(text).filter(words => words[0] === "user" && words.length > 1).map(words => words[1]))];
+  const text = readFileSync(file), users = users_of(text);
   compare("script", basename(file), text, [...users, users.join(","), "nobody", ""]);
 }
 for (const file of [...files("examples", ".calls"), ...files("tests/calls", ".calls")]) {
@@ -71,28 +90,70 @@ compare("script", "welcome.hurd", script, names);
 compare("calls", "learned-cut.calls", list, names);
 compare("calls", "welcome.hurd", script, ["0"]);
 compare("script", "learned-cut.calls", list, ["root"]);
-for (const words of [[], ["script"], ["calls"], ["list", "root"], ["", ""]]) runs.push({ file: "welcome.hurd", text: script, words });
+for (const words of [[], ["learns"], ["script", "root"], ["learns", "script"], ["see", "calls"], ["learns", "list", "root"], ["draw", "script", "root"], ["tell", ""], ["tell", Buffer.from([0xff]), "root"], ["", "", ""]]) runs.push({ file: "welcome.hurd", text: script, words });
 
-// want of memory: the status 2, a front of the output, and why on standard error, or the whole output, where the program did without; each request of three small texts is refused in turn, and three great ones get fewer and fewer pages
+// pairs of scripts: examples in both orders and beside themselves, and each example beside the next
+const example = name => readFileSync(`examples/${name}.hurd`, "utf8"), with_returns = text => text.replaceAll("\n", "\r\n");
+for (const [one, two] of [["secret-told", "secret-told-otherwise"], ["secret-kept-one", "secret-kept-two"], ["unseen-one", "unseen-two"], ["started-by-alice", "started-by-bob"]]) {
+  const users = users_of(example(one)), everybody = [...users, users.join(","), "alice,bob", "bob,alice", "alice,alice", "nobody", "alice,nobody", "a b", "<img src=x>", ""];
+  for (const [first, second] of [[one, two], [two, one], [one, one]]) compare_pair(`${second}.hurd`, example(first), example(second), everybody);
+  for (const [first, second] of [[with_returns(example(one)), example(two)], [example(one), with_returns(example(two))], [example(one), example(two).slice(0, -1)], [example(one).slice(0, -1), example(two)]]) compare_pair(`${two}.hurd, with other ends of lines`, first, second, ["alice", "bob"]);
+}
+const names_of_examples = files("examples", ".hurd").map(file => basename(file, ".hurd"));
+names_of_examples.forEach((one, k) => compare_pair(`${one}.hurd and the next`, example(one), example(names_of_examples[(k + 1) % names_of_examples.length]), ["root", "alice"]));
+
+// other users or ids of theirs, a command more, another, and one that is written otherwise; texts that are bad, empty, without commands, or too long
+const good = "user alice 1000 1000\nroot mkdir /tmp\nalice ls /\nroot ls /\n", put = "user alice 1000 1000\nroot put /x ";
+const others = [good.replace("1000 1000", "1001 1000"), good.replace("1000 1000", "1000 -"), good.replaceAll("alice", "amy"), good.replace("user", "user bob 1001 1001\nuser"), good.replace("alice 1000", "alice 1000,1001"), good + "alice ls /\n", good + "# alice ls /\n", good + "root ls /\n",
+  good.replace("alice ls /", " alice  ls   /"), good.replace("ls /", "ls -d /"), good.replace("/tmp", "/tmq"), good + "alice frob\n", "nobody cat /\n", good + "alice cat \\q", good + "alice cat \u00e9\u{1f600}\u202e\n", with_returns(good), "", "\n", "# see\n", "\0", "user alice 1000 1000\n", long, long + "\n", good + long];
+for (const other of others) {
+  for (const [one, two] of [[good, other], [other, good]]) compare_pair("made by hand", one, two, ["alice", "root", "alice,root", "nobody", ""]);
+  compare_pair("made by hand", other, other, ["alice", "root"]);
+}
+for (const [one, two] of [["one\\n", "one"], ["one", "one\\n"], ["a\\nb\\n", "b\\na\\n"], ["\\s", "\\n"], ["the\\nsecond:\\sx\\n", "|\\sx\\n"]]) compare_pair("made by hand", `${put}${one}\nalice cat /x\n`, `${put}${two}\nalice cat /x\n`, ["alice", "root"]);
+
+// the script where somebody puts another text, one that another reads behind that if there is such, and who does
+function put_otherwise(text, which) {
+  const all = text.split("\n"), puts = all.flatMap((line, at) => /^[a-z0-9]+ put [^ ]+ [^ ]+$/.test(line) ? [at] : []);
+  const read = puts.filter(at => { const [who, , node] = all[at].split(" "); return all.slice(at).some(line => line.endsWith(" cat " + node) && !line.startsWith(who + " ")); });
+  const some = read.length ? read : puts, at = some[which % some.length];
+  if (!some.length) return null;
+  all[at] = all[at].replace(/[^ ]+$/, word => which % 3 ? word + "x" : "other");
+  return { text: all.join("\n"), who: all[at].split(" ")[0] };
+}
+
+let changed = 0;
+files(random, ".hurd").forEach((file, k) => {
+  const one = readFileSync(file, "utf8"), other = changed < 100 && put_otherwise(one, k), users = users_of(one);
+  if (!other) return;
+  changed++;
+  compare_pair(`${basename(file)}, where ${other.who} puts another text`, one, other.text, [...users, users.filter(name => name !== other.who).join(",")]);
+});
+says(`${changed} random scripts were changed`, changed === 100);
+
+// want of memory: the status 2, a front of the output, and why on standard error, or the whole output, where the program did without; each request of some small texts is refused in turn, and some great ones get fewer and fewer pages
 let refused = 0;
 function refuses(text, words, whole, how) {
   const run = by_module(text, words, how), line = run.errors.toString("latin1");
   const is_told = run.status === 2 && whole.out.subarray(0, run.out.length).equals(run.out) && (line === "hurd: out of memory\n" || (!how.request && line === "hurd: cannot write\n"));
-  says(`${words.join(" ")} with ${JSON.stringify(how)}: status ${run.status}, ${JSON.stringify(line.slice(0, 100))}`, is_told || is_same(run, whole));
+  says(`${words.map(word => word.slice(0, 40)).join(" ")} with ${JSON.stringify(how)}: status ${run.status}, ${JSON.stringify(line.slice(0, 100))}`, is_told || is_same(run, whole));
   if (run.status === 2) refused++;
 }
 
 function refuse_memory() {
   const before = failed, bytes = "x".repeat(3000);
-  for (const [file, ...words] of [["examples/hello.hurd", "script", "alice"], ["examples/union.hurd", "script", "root"], ["examples/learned-cut.calls", "calls", "1"]]) {
-    const text = readFileSync(file), whole = by_module(text, words);
+  const bad = good + "alice frob\n", no_pair = good.replace("ls /", "ls -d /"), small = [["examples/hello.hurd", "script", "alice"], ["examples/union.hurd", "script", "root"], ["examples/learned-cut.calls", "calls", "1"]];
+  const asked = small.flatMap(([file, ...words]) => ["learns", "see"].map(verb => [readFileSync(file), verb, ...words]));
+  for (const [one, two, who] of [[example("secret-told"), example("secret-told-otherwise"), "alice,guest"], [example("started-by-alice"), example("started-by-bob"), "alice"], [good, no_pair, "alice"], [good, bad, "alice"], [bad, good, "alice"], [good, good, "nobody"]]) asked.push([two, "tell", one, who]);
+  for (const [text, ...words] of asked) {
+    const whole = by_module(text, words);
     for (let request = 1; request <= whole.requests; request++) refuses(text, words, whole, { request });
   }
-  const script = "user alice 1000 1000\n" + Array.from({ length: 250 }, (_, k) => `root put /f${k} ${bytes}\n`).join("") + "alice ls /\n# see\n";
+  const script = "user alice 1000 1000\n" + Array.from({ length: 250 }, (_, k) => `root put /f${k} ${bytes}\n`).join("") + "alice ls /\nalice cat /f7\n# see\n";
   const list = "task 0 0\ntask 1000 1000\n" + Array.from({ length: 120 }, (_, k) => `0 dir_lookup 1 =f${k} CREATE,WRITE 644\n0 io_write ${k + 3} =${bytes} 0\n`).join("") + "1 dir_lookup 1 = READ 0\n# see\n";
-  for (const [made, ...words] of [[script, "script", "alice"], [script, "script", "root"], [list, "calls", "1"]]) {
+  for (const [made, ...words] of [[script, "learns", "script", "alice"], [script, "learns", "script", "root"], [list, "learns", "calls", "1"], [script, "see", "script", "alice"], [list, "see", "calls", "1"], [script, "tell", script.replace("/f7 xx", "/f7 yy"), "alice"]]) {
     const text = Buffer.from(made), whole = by_module(text, words), floor = new WebAssembly.Instance(module_of_page, {}).exports.memory.buffer.byteLength / 65536;
-    says(`${words.join(" ")} with ample memory: status ${whole.status}`, whole.status === 0 && !whole.errors.length);
+    says(`${words.map(word => word.slice(0, 40)).join(" ")} with ample memory: status ${whole.status}`, whole.status === (words[0] === "tell" ? 3 : 0) && !whole.errors.length);
     for (let pages = floor + 24; pages <= whole.pages; pages += 4) refuses(text, words, whole, { pages });
   }
   says("memory was refused in no run", refused > 20);
@@ -100,7 +161,9 @@ function refuse_memory() {
 }
 
 compare_all().then(() => {
-  console.log(`page: ${passed} runs as the program runs, ${failed} otherwise`);
+  rmSync(folder, { recursive: true });
+  console.log(`page: ${passed} runs as the program runs, ${failed} otherwise; of pairs ${told[0]} are told the same, ${told[3]} otherwise, ${told[1]} are none or bad, ${told[2]} in trouble`);
+  says("pairs of each sort", told[0] > 100 && told[3] > 30 && told[1] > 100);
   refuse_memory();
   process.exit(failed ? 1 : 0);
 });
