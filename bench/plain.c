@@ -489,6 +489,8 @@ int main(int count, char **arguments) {
         fprintf(stderr, "usage: plain NODES\n");
         return 2;
     }
+    /* each row is written when its work ends */
+    setvbuf(stdout, NULL, _IOLBF, 0);
     struct node *root = new_node(DIRECTORY, 0, 0, 0755);
     new_port(&operator, root, &operator.ids, 0);
     new_port(&user, root, &user.ids, 0);
