@@ -10,9 +10,10 @@
 #include <stdio.h>
 #include <stdlib.h>
 #include <string.h>
-#include <time.h>
 
-enum { directory_size = 1000, most_files = 10000000, longest_name = 255, most_ids = 32 };
+#include "work.h"
+
+enum { longest_name = 255, most_ids = 32 };
 
 enum kind { DIRECTORY, PLAIN_FILE };
 
@@ -21,8 +22,6 @@ enum { EXEC = 1, WRITE = 2, READ = 4 };
 
 /* What a look-up asks for besides. */
 enum { CREATE = 8, ONLY_DIRECTORY = 16 };
-
-static const char contents[] = "contents";
 
 /* The ids of a task or of a port. */
 struct ids {
@@ -78,12 +77,6 @@ struct told {
     uint64_t id, size;
     enum kind kind;
     uint32_t owner, group, mode, links;
-};
-
-/* A kind of work. */
-struct work {
-    const char *name;
-    void (*once)(long file);
 };
 
 static struct task operator = {.ids = {.uids = {0}, .gids = {0}, .uid_count = 1, .gid_count = 1}, .next = 1};
@@ -377,10 +370,6 @@ static int dir_rename(struct task *task, uint64_t from, const char *name, uint64
     return 1;
 }
 
-static void path_of(char *path, char letter, long file) {
-    sprintf(path, "d%ld/%c%ld", file / directory_size, letter, file);
-}
-
 static void create(long file) {
     char path[64];
     path_of(path, 'f', file);
@@ -437,44 +426,12 @@ static void unlink_one(long file) {
     must(port_deallocate(&user, port), "close");
 }
 
-/* The step from one file that the work is done on to the next: at most 10,000 are taken. */
-static long sparse(long files) {
-    long stride = 1;
-    while (files > 10000 * stride)
-        stride *= 10;
-    return stride;
-}
-
 static void make_directories(long files) {
     char name[64];
-    for (long i = 0; i < (files + directory_size - 1) / directory_size; i++) {
+    for (long i = 0; i < directories(files); i++) {
         sprintf(name, "d%ld", i);
         must(dir_mkdir(&operator, here, name, 0777), "mkdir");
     }
-}
-
-static long long now(void) {
-    struct timespec time;
-    clock_gettime(CLOCK_MONOTONIC, &time);
-    return time.tv_sec * 1000000000LL + time.tv_nsec;
-}
-
-static void measure(struct work work, long files, long stride) {
-    long times = 0;
-    long long start = now();
-    for (long i = 0; i < files; i += stride) {
-        work.once(i);
-        times++;
-    }
-    printf("%s: %ld done, %lld ns each\n", work.name, times, (now() - start) / times);
-}
-
-/* The number that digits name, or 0 if there may not be so many files. */
-static long number(const char *text) {
-    if (strlen(text) > 8 || strspn(text, "0123456789") != strlen(text))
-        return 0;
-    long files = atol(text);
-    return files > most_files ? 0 : files;
 }
 
 int main(int count, char **arguments) {

@@ -8,27 +8,15 @@
 #include <stdlib.h>
 #include <string.h>
 #include <sys/stat.h>
-#include <time.h>
 #include <unistd.h>
 
-enum { directory_size = 1000, most_files = 10000000 };
-
-static const char contents[] = "contents";
-
-struct work {
-    const char *name;
-    void (*once)(long file);
-};
+#include "work.h"
 
 static void must(int holds, const char *what) {
     if (!holds) {
         printf("%s: %s\n", what, strerror(errno));
         exit(1);
     }
-}
-
-static void path_of(char *path, char letter, long file) {
-    sprintf(path, "d%ld/%c%ld", file / directory_size, letter, file);
 }
 
 static void create(long file) {
@@ -85,18 +73,6 @@ static void unlink_one(long file) {
     must(close(port) == 0, "close");
 }
 
-/* The step from one file that the work is done on to the next: at most 10,000 are taken. */
-static long sparse(long files) {
-    long stride = 1;
-    while (files > 10000 * stride)
-        stride *= 10;
-    return stride;
-}
-
-static long directories(long files) {
-    return (files + directory_size - 1) / directory_size;
-}
-
 static void make_directories(long files) {
     char path[64];
     for (long i = 0; i < directories(files); i++) {
@@ -119,30 +95,6 @@ static void remove_directories(long files) {
         sprintf(path, "d%ld", i);
         must(rmdir(path) == 0, "rmdir");
     }
-}
-
-static long long now(void) {
-    struct timespec t;
-    clock_gettime(CLOCK_MONOTONIC, &t);
-    return t.tv_sec * 1000000000LL + t.tv_nsec;
-}
-
-static void measure(struct work work, long files, long stride) {
-    long times = 0;
-    long long start = now();
-    for (long i = 0; i < files; i += stride) {
-        work.once(i);
-        times++;
-    }
-    printf("%s: %ld done, %lld ns each\n", work.name, times, (now() - start) / times);
-}
-
-/* The number that digits name, or 0 if there may not be so many files. */
-static long number(const char *text) {
-    if (strlen(text) > 8 || strspn(text, "0123456789") != strlen(text))
-        return 0;
-    long files = atol(text);
-    return files > most_files ? 0 : files;
 }
 
 int main(int count, char **arguments) {

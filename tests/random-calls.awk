@@ -1,5 +1,5 @@
-# Writes random lists of calls of four tasks or more: awk -v folder=FOLDER -v lists=1000 -v calls=100 -f tests/random-calls.awk
-# The numbers are made here, and one at a time, so that every awk writes the same lists: FOLDER/0001.calls and so on.
+# Writes random lists of calls of four tasks or more: awk -v folder=FOLDER -v lists=1000 -v calls=100 -f tests/draws.awk -f tests/random-calls.awk
+# The numbers are those of tests/draws.awk, made one at a time, so that every awk writes the same lists: FOLDER/0001.calls and so on.
 # It keeps an account of what each task may hold, and of what may stand where. That is a guess, so that most calls find what they ask for: replies are not known here.
 
 BEGIN {
@@ -18,21 +18,6 @@ BEGIN {
         for (left = calls; left > 0; left--) write_call()
         close(file)
     }
-}
-
-# a number below n
-function below(n) {
-    state = state * 16807 % 2147483647
-    return int(n * (state / 2147483647))
-}
-
-# whether something is so that is so n times of a hundred
-function often(n) { return below(100) < n }
-
-# one of some words
-function one(list, words, n) {
-    n = split(list, words, " ")
-    return words[below(n) + 1]
 }
 
 function forget_all() {

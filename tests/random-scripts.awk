@@ -1,5 +1,5 @@
-# Writes random scripts of what root, alice, bob and carol do: awk -v folder=FOLDER -v scripts=200 -f tests/random-scripts.awk
-# The numbers are made here, and one at a time, so that every awk writes the same scripts: FOLDER/001.hurd and so on.
+# Writes random scripts of what root, alice, bob and carol do: awk -v folder=FOLDER -v scripts=200 -f tests/draws.awk -f tests/random-scripts.awk
+# The numbers are those of tests/draws.awk, made one at a time, so that every awk writes the same scripts: FOLDER/001.hurd and so on.
 
 BEGIN {
     for (script = 1; script <= scripts; script++) {
@@ -11,21 +11,6 @@ BEGIN {
         for (left = 18 + below(12); left > 0; left--) write_command()
         close(file)
     }
-}
-
-# a number below n
-function below(n) {
-    state = state * 16807 % 2147483647
-    return int(n * (state / 2147483647))
-}
-
-# whether something is so that is so n times of a hundred
-function often(n) { return below(100) < n }
-
-# one of some words
-function one(list, words, n) {
-    n = split(list, words, " ")
-    return words[below(n) + 1]
 }
 
 function line(words) { print words >file }
