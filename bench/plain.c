@@ -435,12 +435,6 @@ static void make_directories(long files) {
 }
 
 int main(int count, char **arguments) {
-    struct work sparsely[] = {
-        {"look up and read", look_up_and_read},
-        {"stat", stat_one},
-        {"rename", rename_one},
-        {"unlink", unlink_one},
-    };
     long files = count == 2 ? number(arguments[1]) : 0;
     if (files == 0) {
         fprintf(stderr, "usage: plain NODES\n");
@@ -452,8 +446,6 @@ int main(int count, char **arguments) {
     new_port(&operator, root, &operator.ids, 0);
     new_port(&user, root, &user.ids, 0);
     make_directories(files);
-    measure((struct work){"create", create}, files, 1);
-    for (size_t i = 0; i < sizeof sparsely / sizeof *sparsely; i++)
-        measure(sparsely[i], files, sparse(files));
+    measure_all(files);
     return 0;
 }

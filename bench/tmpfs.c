@@ -98,12 +98,6 @@ static void remove_directories(long files) {
 }
 
 int main(int count, char **arguments) {
-    struct work sparsely[] = {
-        {"look up and read", look_up_and_read},
-        {"stat", stat_one},
-        {"rename", rename_one},
-        {"unlink", unlink_one},
-    };
     long files = count == 3 ? number(arguments[1]) : 0;
     if (files == 0) {
         fprintf(stderr, "usage: tmpfs NODES FOLDER\n");
@@ -111,9 +105,7 @@ int main(int count, char **arguments) {
     }
     must(chdir(arguments[2]) == 0, arguments[2]);
     make_directories(files);
-    measure((struct work){"create", create}, files, 1);
-    for (size_t i = 0; i < sizeof sparsely / sizeof *sparsely; i++)
-        measure(sparsely[i], files, sparse(files));
+    measure_all(files);
     remove_files(files);
     remove_directories(files);
     return 0;

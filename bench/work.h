@@ -46,6 +46,26 @@ static void measure(struct work work, long files, long stride) {
     printf("%s: %ld done, %lld ns each\n", work.name, times, (now() - start) / times);
 }
 
+/* What is done with one file: each program has its own way. */
+static void create(long file);
+static void look_up_and_read(long file);
+static void stat_one(long file);
+static void rename_one(long file);
+static void unlink_one(long file);
+
+/* Makes so many files, and does the rest with some of them. */
+static void measure_all(long files) {
+    const struct work sparsely[] = {
+        {"look up and read", look_up_and_read},
+        {"stat", stat_one},
+        {"rename", rename_one},
+        {"unlink", unlink_one},
+    };
+    measure((struct work){"create", create}, files, 1);
+    for (size_t i = 0; i < sizeof sparsely / sizeof *sparsely; i++)
+        measure(sparsely[i], files, sparse(files));
+}
+
 /* The number that digits name, or 0 if there may not be so many files. */
 static long number(const char *text) {
     if (strlen(text) > 8 || strspn(text, "0123456789") != strlen(text))
