@@ -11,8 +11,9 @@ use Rattle.hurd_nodes.proofs.BootLaws.{one-mapped}
 use Rattle.hurd_nodes.proofs.PartLaws.{same_bool}
 use Rattle.hurd_nodes.proofs.Sites.{home-apart, home-edited, home-here, home-less, home-less_apart, home-was, home-stays, none-left}
 use Rattle.hurd_ports.specs.declared.parents.Parent.{Parent}
-use Rattle.hurd_ports.specs.Weights.{if_so}
-use Rattle.hurd_ports.specs.Counts.{counted, most_counted}
+use Rattle.hurd_creds.specs.Weights.{if_so}
+use Rattle.hurd_creds.specs.Counts.{counted}
+use Rattle.hurd_ports.specs.Counts.{most_counted}
 use Rattle.hurd_ports.specs.Tables.{right_of, weigh_rights}
 use Rattle.hurd_ports.specs.Steps.{dropped, named}
 use Rattle.hurd_ports.proofs.TaskLaws.{edit-here}

@@ -8,8 +8,8 @@ use Rattle.hurd_nodes.specs.declared.seat.Site.{Site}
 use Rattle.hurd_nodes.specs.Held.{home_in, is_home}
 use Rattle.hurd_ports.specs.declared.table.Right.{Right}
 use Rattle.hurd_ports.specs.declared.table.Right.TheVariants.{Io, Control, Start}
-use Rattle.hurd_ports.specs.Counts.{counted}
-use Rattle.hurd_ports.specs.Weights.{if_so}
+use Rattle.hurd_creds.specs.Counts.{counted}
+use Rattle.hurd_creds.specs.Weights.{if_so}
 use Rattle.hurd_ports.specs.Tables.{Task, count_rights}
 use Rattle.hurd_machine.specs.Sight.{uses_server}
 

@@ -6,8 +6,9 @@ ghost use Rattle.std.specs.Prelude.{◌≡◌, ◌≤◌, ◌<◌, ◌+◌, Bool
 ghost use Rattle.indexmap.specs.IndexMap.{spare};
 ghost use Rattle.hurd_creds.specs.declared.name.Name.{Name};
 ghost use Rattle.hurd_nodes.specs.Held.{home_in, is_home};
-ghost use Rattle.hurd_ports.specs.Weights.{if_so};
-ghost use Rattle.hurd_ports.specs.Counts.{counted, most_counted};
+ghost use Rattle.hurd_creds.specs.Weights.{if_so};
+ghost use Rattle.hurd_creds.specs.Counts.{counted};
+ghost use Rattle.hurd_ports.specs.Counts.{most_counted};
 ghost use Rattle.hurd_ports.specs.Tables.{count_rights, uses_node};
 ghost use Rattle.hurd_ports.specs.declared.table.Right.{Right};
 ghost use Rattle.hurd_machine.specs.Sight.{users};
@@ -15,9 +16,9 @@ ghost use Rattle.hurd_core.specs.Core.{world_of};
 ghost use Rattle.hurd_core.specs.Users.{home_used, reseated};
 
 use crate::the_core::Core;
+use hurd_creds::counts::{self, Counts};
 use hurd_creds::{NodeName, ServerName};
 use hurd_nodes::Nodes;
-use hurd_ports::counts::{self, Counts};
 use hurd_ports::{Ports, Right};
 use hurd_trans_iface::Server;
 

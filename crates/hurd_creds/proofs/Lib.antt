@@ -7,3 +7,4 @@ pub mod AppendLaws
 pub mod TakeLaws
 pub mod CompareLaws
 pub mod NumberLemmas
+pub mod CountLaws

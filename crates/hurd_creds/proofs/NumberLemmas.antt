@@ -1,5 +1,5 @@
 -- Numbers in words.
-use Rattle.std.proofs.Common.{nat_le, ◌^◌, ℕ, ◌≡◌, ◌<◌, ◌≤◌, ◌∷◌, ◌&&◌, [], List, Option, Some, None, Result, Ok, Err, true, false, refl, subst, ◌∙◌, ap, arith, length, rules, nat_lt}
+use Rattle.std.proofs.Common.{nat_le, ◌^◌, ℕ, ◌≡◌, ◌<◌, ◌≤◌, ◌∷◌, ◌&&◌, [], List, Option, Some, Result, Ok, Err, true, false, refl, subst, ◌∙◌, ap, arith, length, rules, nat_lt}
 use Rattle.std.specs.Char.{is_ascii_digit}
 use Rattle.std.specs.List.{list_all}
 use Rattle.std.specs.Result.{result_ok, OkIff}

@@ -8,3 +8,5 @@ pub mod Memory
 pub mod Stats
 pub mod Limits
 pub mod Numbers
+pub mod Weights
+pub mod Counts

@@ -3,7 +3,7 @@
 //! `Ids` are the user and group ids that a task or a port holds, `Attrs` what is told of a node, and
 //! `Ids::may` whether these ids may read, write or search a node of these attributes. `Mode` and
 //! `OpenFlags` are sets of bits. The other crates stand on this one: it also has the names of nodes,
-//! servers and opens, the errors, numbers in words (decimal or octal digits, without a sign), and the words in which contracts
+//! servers and opens, how often names are counted, the errors, numbers in words (decimal or octal digits, without a sign), and the words in which contracts
 //! speak of want of memory.
 //!
 //! It isn't a table of users: a task's ids are whatever its maker gave it.
@@ -12,6 +12,7 @@
 mod access;
 mod attrs;
 mod bytes;
+pub mod counts;
 mod decimal;
 mod errno;
 mod ids;

@@ -42,7 +42,7 @@ pub use Rattle.hurd_ports.specs.Seats.{seat_task}
 pub use Rattle.hurd_ports.specs.Steps.{deallocate_at, deallocate_step, edit_task, insert_at, insert_step, name_step, new_open, new_right, new_task, pend_at, pend_step, receive_at, receive_step, received, send_step, sent_to, share_at, share_step, take_ids_at, take_ids_step, taken_by, with_ids, with_ids_for, with_new_port, with_pending, with_port, with_sent, without_port}
 pub use Rattle.hurd_ports.specs.Tables.{IsSettled, OpenMap, PortState, Tables, Task, can_name, count_rights, first_sent, fresh, has_room, ids_at, io_right_of, names_open, naming_of, or_refuse, pending_of, right_at, right_in, rights_of, room_at, room_of, start_of, task_of, u64_greatest, uses_node, ways_of}
 unfoldable pub use Rattle.hurd_ports.specs.Tables.{is_held}
-pub use Rattle.hurd_ports.specs.Weights.{count_list, one_if}
+pub use Rattle.hurd_creds.specs.Weights.{count_list, one_if}
 pub use Rattle.hurd_ports.specs.declared.table.IoRight.{IoRight}
 pub use Rattle.hurd_ports.specs.declared.table.Opened.{Opened}
 pub use Rattle.hurd_ports.specs.declared.table.PendingStart.{PendingStart}

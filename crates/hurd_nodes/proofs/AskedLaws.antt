@@ -1,10 +1,11 @@
 -- Seats that change places: which of them stand behind the first, and what the table means.
-use Rattle.std.proofs.Common.{arith, ◌≡◌, ◌≢◌, ◌⊎◌, inl, inr, ℕ, zero, suc, ◌+◌, ◌-◌, ◌<◌, ◌≤◌, Bool, false, cond, List, [], ◌∷◌, length, take, refl, sym, ap, ap₂, ◌∙◌}
+use Rattle.std.proofs.Common.{arith, ◌≡◌, ◌≢◌, ◌⊎◌, inl, inr, ℕ, zero, suc, ◌+◌, ◌-◌, ◌<◌, ◌≤◌, Bool, true, false, cond, List, [], ◌∷◌, length, take, refl, sym, ap, ap₂, ◌∙◌}
 use Rattle.std.proofs.lemmas.Bool.{cases_Bool, cases_lt}
 use Rattle.std.proofs.lemmas.Option.{same_Some, slice_get-get_or, get_or_from_slice_get}
-use Rattle.std.specs.Prelude.{Option, Some, None, position, swap, swap_remove, slice_get, slice_index_or, slice_set}
-use Rattle.std.specs.Option.{option_map, option_map_or}
-use Rattle.std.specs.Map.{keys_of, values_of}
+use Rattle.std.specs.Prelude.{Option, Some, None, is_some, position, swap, swap_remove, slice_get, slice_index_or, slice_set}
+use Rattle.std.specs.Option.{IfSome, option_map, option_map_or}
+use Rattle.std.specs.Map.{keys_of, lookup, values_of}
+use Rattle.std.specs.FinMap as fin
 use Rattle.indexmap.specs.IndexMap.{IndexMap, get, insert_entry, swap_remove_entry}
 use Rattle.hurd_creds.specs.declared.name.Name.{Name}
 use Rattle.hurd_creds.specs.Names.{same_name}
@@ -12,9 +13,9 @@ use Rattle.hurd_creds.specs.NameMaps.{NameMap, place_by}
 use Rattle.hurd_creds.proofs.NameLaws.{same_map_by, same_name-itself, equal_if_same}
 use Rattle.hurd_nodes.specs.declared.seat.Seat.{Seat}
 use Rattle.hurd_nodes.specs.declared.seat.Site.{Site}
-use Rattle.hurd_nodes.specs.Held.{AreApart, active_in, row_key, seat_key, seat_value, seats_of}
-use Rattle.hurd_nodes.specs.Quiet.{Behind, AreBut, AreElsewhere, AreLess}
-use Rattle.hurd_creds.proofs.KeyedLaws.{place-is}
+use Rattle.hurd_nodes.specs.Held.{AreApart, active_in, row_key, seat_key, seat_value, seated_in, seats_of}
+use Rattle.hurd_nodes.specs.Quiet.{Behind, AreAmong, AreBut, AreElsewhere, AreLess}
+use Rattle.hurd_creds.proofs.KeyedLaws.{contains-place, get-absent, place-is}
 use Rattle.hurd_nodes.proofs.HomeLaws.{distinct-apart, row-got}
 use Rattle.hurd_nodes.proofs.RowLaws.{place-position}
 
@@ -107,6 +108,19 @@ placed es s i v at read =
     let r = value_at es i v read in
     r.1 ∙ ap₂ (λ (n : Name) (w : _). Some (n, w)) (named-at es s i r.0 (sym at) r.1) r.2
 
+-- of two that changed places each was there
+pub swap-among : {S : Type 0} (ss : List (Name × Seat S)) (a b : ℕ) → a < length ss → b < length ss → AreAmong ss (swap ss a b)
+swap-among ss a b la lb x at = elim (swap_got ss a b at.at x la lb at.is) [
+  | inl here ↦ behind_more 0 ss x a (omega arith) here.1
+  | inr far ↦ elim far.1 [
+    | inl first ↦ behind_more 0 ss x b (omega arith) first.1
+    | inr other ↦ behind_more 0 ss x at.at (omega arith) other.1
+  ]
+]
+
+pub among-itself : {S : Type 0} (ss : List (Name × Seat S)) → AreAmong ss ss
+among-itself ss x b = b
+
 past_next : (k at : ℕ) → k - 1 ≤ at → at ≢ k - 1 → k ≤ at
 past_next k at past other = elim (cases_lt (k - 1) at) [
   | inl less ↦ omega (arith, less)
@@ -183,6 +197,39 @@ put_got (e ∷ es) n v i x is = elim (cases_Bool (same_name n e.0)) [
     there rest zero at = inr at
     there rest (suc k) at = rest k at
 
+-- what is found under a name stands there
+pub lookup-behind : {X : Type 0} (es : List (Name × X)) (n : Name) (v : X) → lookup (same_name n) es ≡ Some v → Behind 0 es (n, v)
+lookup-behind [] n v is = absurd (let none : None ≡ Some v = is in cc)
+lookup-behind (e ∷ es) n v is = elim (cases_Bool (same_name n e.0)) [
+  | inl same ↦
+      let here : e.1 ≡ v = same_Some e.1 v (sym (ap (λ (b : Bool). cond b (Some e.1) (lookup (same_name n) es)) same) ∙ is) in
+      record { at = 0; past = omega arith; is = ap₂ (λ (q : Name) (w : _). Some (q, w)) (sym (equal_if_same n e.0 same)) here }
+  | inr far ↦
+      let b = lookup-behind es n v (sym (ap (λ (b : Bool). cond b (Some e.1) (lookup (same_name n) es)) far) ∙ is) in
+      record { at = suc b.at; past = omega arith; is = b.is }
+]
+
+pub found-behind : {X : Type 0} (es : List (Name × X)) (n : Name) (o : Option X) → o ≡ lookup (same_name n) es → IfSome o (λ (v : X). Behind 0 es (n, v))
+found-behind es n None is = tt
+found-behind es n (Some v) is = lookup-behind es n v (sym is)
+
+pub found-none : {X : Type 0} (es : List (Name × X)) (n : Name) → lookup (same_name n) es ≡ None → place_by row_key n es ≡ None
+found-none [] n none = refl
+found-none (e ∷ es) n none = elim (cases_Bool (same_name n e.0)) [
+  | inl same ↦ absurd (let clash : Some e.1 ≡ None = sym (ap (λ (b : Bool). cond b (Some e.1) (lookup (same_name n) es)) same) ∙ none in cc)
+  | inr far ↦ rw (far, found-none es n (sym (ap (λ (b : Bool). cond b (Some e.1) (lookup (same_name n) es)) far) ∙ none)) refl
+]
+
+-- a server without a place has no seat
+pub absent-seat : {S : Type 0} (ss : List (Name × Seat S)) (s : Name) → place_by seat_key s ss ≡ None → fin.get (seats_of ss) s ≡ None
+unfolding seats_of
+absent-seat ss s none = get-absent seat_key seated_in s ss (sym none)
+
+-- a seat that stands somewhere is there
+pub behind-there : {S : Type 0} (ss : List (Name × Seat S)) → AreApart seat_key ss → (x : Name × Seat S) → Behind 0 ss x → is_some (fin.get (seats_of ss) x.0) ≡ true
+unfolding seats_of
+behind-there ss apart x b = sym (contains-place seat_key seated_in x.0 ss) ∙ ap (λ (o : Option ℕ). is_some o) (own-place ss b.at x apart b.is)
+
 -- a table of the same rows in another order
 module _ {X S : Type 0} (m l : IndexMap Name (Seat X) S) where
   pub seats-same : ((q : Name) → get same_name l q ≡ get same_name m q) → seats_of l.entries ≡ seats_of m.entries
@@ -198,8 +245,6 @@ put-behind es n v k x b = elim (put_got es n v b.at x b.is) [
 
 pub ruleset put = (put-behind)
 
-pub ruleset drop_less = (drop-less)
-
 -- those that are not the one that is active on a node
 
 pub elsewhere-asked : {S : Type 0} (sites : NameMap Site) (n s : Name) (k l : ℕ) (ss ts : List (Name × Seat S)) → Some s ≡ active_in sites n → AreLess s k ss l ts → AreElsewhere sites n k ss l ts
@@ -211,4 +256,4 @@ elsewhere-none sites n k ss none x b = (λ is. let clash : None ≡ Some x.0 = n
 pub ruleset elsewhere = (elsewhere-asked, elsewhere-none)
 
 -- seats that change places
-pub ruleset asks = (ask-absent, ask-asked, ask-moved, last-moved, seats-same, distinct-apart)
+pub ruleset asks = (ask-absent, ask-asked, ask-moved, last-moved, swap-among, among-itself, seats-same, distinct-apart)

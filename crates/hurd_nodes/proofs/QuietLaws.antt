@@ -28,14 +28,6 @@ module _ {S : Type 0} (sites : NameMap Site) (x : Name × Seat S) (q : IsQuiet s
     less_there : (m : Name) → m ≢ n → active_in (fin.remove sites n) m ≡ active_in sites m
     less_there m apart = ap active_by (remove_apart sites n m apart)
 
-    less_only : (m : Name) → active_in (fin.remove sites n) m ≡ Some x.0 → m ≡ q.seat
-    less_only m is = elim (same_or_apart m n) [
-      | inl here ↦
-          let none : None ≡ Some x.0 = sym (ap active_by (remove_here sites n)) ∙ ap (active_in (fin.remove sites n)) (sym here) ∙ is in
-          absurd (cc)
-      | inr apart ↦ q.only m (sym (less_there m apart) ∙ is)
-    ]
-
     less_alone : (m : Name) → home_in (fin.remove sites n) m ≡ Some x.0 → m ≡ x.1.root
     less_alone m is = elim (same_or_apart m n) [
       | inl here ↦
@@ -45,18 +37,10 @@ module _ {S : Type 0} (sites : NameMap Site) (x : Name × Seat S) (q : IsQuiet s
     ]
 
     pub quiet-less : IsQuiet (fin.remove sites n) x
-    quiet-less = record { seat = q.seat; at = q.at; active = less_there q.seat (elsewhere n other) ∙ q.active; only = less_only; alone = less_alone; aimless = q.aimless }
+    quiet-less = record { seat = q.seat; at = q.at; active = less_there q.seat (elsewhere n other) ∙ q.active; alone = less_alone; aimless = q.aimless }
 
   -- with a site of another server, on which none is active yet
   module _ (n s : Name) (other : active_in sites n ≢ Some x.0) (apart : s ≢ x.0) where
-    put_only : (m : Name) → active_in (fin.insert sites n (new_site s)) m ≡ Some x.0 → m ≡ q.seat
-    put_only m is = elim (same_or_apart m n) [
-      | inl here ↦
-          let none : None ≡ Some x.0 = sym (active-here sites n (new_site s)) ∙ ap (active_in (fin.insert sites n (new_site s))) (sym here) ∙ is in
-          absurd (cc)
-      | inr far ↦ q.only m (sym (active-apart sites n (new_site s) m far) ∙ is)
-    ]
-
     put_alone : (m : Name) → home_in (fin.insert sites n (new_site s)) m ≡ Some x.0 → m ≡ x.1.root
     put_alone m is = elim (same_or_apart m n) [
       | inl here ↦
@@ -70,32 +54,17 @@ module _ {S : Type 0} (sites : NameMap Site) (x : Name × Seat S) (q : IsQuiet s
       seat = q.seat;
       at = q.at;
       active = active-apart sites n (new_site s) q.seat (elsewhere n other) ∙ q.active;
-      only = put_only;
       alone = put_alone;
       aimless = q.aimless;
     }
 
   -- another active on a node, or none
-  module _ (n : Name) (o : Option Name) (other : active_in sites n ≢ Some x.0) (apart : o ≢ Some x.0) where
-    set_only : (m : Name) → active_in (edit n (with_active o) sites) m ≡ Some x.0 → m ≡ q.seat
-    set_only m is = elim (same_or_apart m n) [
-      | inl here ↦ absurd (set_here (ap (active_in (edit n (with_active o) sites)) (sym here) ∙ is))
-      | inr far ↦ q.only m (sym (active-edited_apart sites n o m far) ∙ is)
-    ]
-      where
-        set_here : active_in (edit n (with_active o) sites) n ≢ Some x.0
-        set_here at = by (fin.get sites n) (sym (ap active_by (edit_here sites n (with_active o))) ∙ at)
-          where
-            by : (u : Option Site) → active_by (option_map (with_active o) u) ≡ Some x.0 → ⊥
-            by None h = let none : None ≡ Some x.0 = h in absurd (cc)
-            by (Some r) h = apart h
-
+  module _ (n : Name) (o : Option Name) (other : active_in sites n ≢ Some x.0) where
     pub quiet-active : IsQuiet (edit n (with_active o) sites) x
     quiet-active = record {
       seat = q.seat;
       at = q.at;
       active = active-edited_apart sites n o q.seat (elsewhere n other) ∙ q.active;
-      only = set_only;
       alone = λ m is. q.alone m (sym (home-edited sites n o m) ∙ is);
       aimless = q.aimless;
     }
@@ -115,21 +84,11 @@ module _ {S : Type 0} (sites : NameMap Site) (x : Name × Seat S) (q : IsQuiet s
     left_active : active_in (without_sites s sites) q.seat ≡ Some x.0
     left_active = active-left sites s q.seat ∙ rw (seat_other, q.active, same_name-apart s x.0 (λ e. apart (sym e))) refl
 
-    was_active : (b : Bool) (o : Option Name) → (if b then None else o) ≡ Some x.0 → o ≡ Some x.0
-    was_active true o is = let none : None ≡ Some x.0 = is in absurd (cc)
-    was_active false o is = is
-
-    left_only : (m : Name) → active_in (without_sites s sites) m ≡ Some x.0 → m ≡ q.seat
-    left_only m is =
-        let both = cond_some (is_other s sites m) (less_active sites s (active_in sites m)) x.0 (sym (active-left sites s m) ∙ is) in
-        q.only m (was_active (is_home s (active_in sites m)) (active_in sites m) both.1)
-
     pub quiet-left : IsQuiet (without_sites s sites) x
     quiet-left = record {
       seat = q.seat;
       at = q.at;
       active = left_active;
-      only = left_only;
       alone = λ m is. q.alone m (home-was sites s m x.0 is);
       aimless = q.aimless;
     }
@@ -169,7 +128,6 @@ module _ {S : Type 0} (sites : NameMap Site) (s root seat : Name) (e : Seat S)
     seat = seat;
     at = at;
     active = ap active_by (edit_here with_root seat (with_active (Some s)) ∙ ap (option_map (with_active (Some s))) there);
-    only = new_only;
     alone = λ n is. new_alone n is ∙ sym root_is;
     aimless = aimless;
   }
@@ -179,21 +137,4 @@ pub quiet-old : {S : Type 0} (sites : NameMap Site) (x : Name × Seat S) → IsQ
     → active_in (fin.insert sites root (new_site s)) node ≢ Some x.0 → IsQuiet (edit node (with_active (Some s)) (fin.insert sites root (new_site s))) x
 quiet-old sites x q root s node unknown rootless nodeless =
     let apart : s ≢ x.0 = λ same. (unknown q.seat).1 (q.active ∙ ap Some (sym same)) in
-    quiet-active (fin.insert sites root (new_site s)) x (quiet-put sites x q root s rootless apart) node (Some s) nodeless (λ same. apart (same_Some s x.0 same))
-
--- a node of a map has a place on its list
-pub all-sited : (P : Name × Site → Type 0) (rs : List (Name × Site)) → All P rs → (n : Name) (r : Site) → fin.get (sites_of rs) n ≡ Some r → (e : Name × Site) × (e.0 ≡ n) × (e.1 ≡ r) × P e
-unfolding sites_of
-all-sited P [] all n r is = let c : None ≡ Some r = sym (get-keyed row_key row_value [] n) ∙ is in absurd (cc)
-all-sited P (e ∷ es) all n r is = elim (same_or_apart n e.0) [
-  | inl here ↦ (e, sym here, same_Some e.1 r (sym (get-first row_key row_value e es) ∙ ap (fin.get _) (sym here) ∙ is), all 0 e (omega arith))
-  | inr apart ↦ all-sited P es (λ k d below. all (suc k) d (omega arith)) n r (sym (get-rest row_key row_value e es n apart) ∙ is)
-]
-
--- of no site of the server, where that was seen of all sites
-pub no-guests : (rs : List (Name × Site)) (s p : Name) → All (λ (e : Name × Site). e.1.home ≡ s → active_in (sites_of rs) e.0 ≢ Some p) rs
-    → (n : Name) → home_in (sites_of rs) n ≡ Some s → active_in (sites_of rs) n ≢ Some p
-no-guests rs s p all n home =
-    let r = site-of (sites_of rs) n s home in
-    let e = all-sited (λ (e : Name × Site). e.1.home ≡ s → active_in (sites_of rs) e.0 ≢ Some p) rs all n r.0 r.1 in
-    λ is. e.3 (ap (λ (t : Site). t.home) e.2 ∙ r.2) (ap (active_in (sites_of rs)) e.1 ∙ is)
+    quiet-active (fin.insert sites root (new_site s)) x (quiet-put sites x q root s rootless apart) node (Some s) nodeless

@@ -8,6 +8,7 @@ ghost use Rattle.hurd_nodes.specs.Needs.{FreeRead, FreeSize, FreeWrite};
 
 use crate::asking::can_make_in;
 use crate::nodes::Nodes;
+use crate::own::list_node;
 use crate::search::{place_of_seat, place_of_server, put_kin};
 use hurd_creds::{Bytes, Errno, NodeName, ServerName};
 use hurd_trans_iface::{HeaderEdit, NewNode, Server, Words};
@@ -91,6 +92,7 @@ impl<S: Server> Nodes<S> {
         };
         can_make_in(&self.seats[i].server, dir, entry, new.kind)?;
         self.sites.reserve(1)?;
+        list_node(&self.sites, &mut self.seats, new.name, dir)?;
         self.seats[i].server.make(alloc, dir, entry, new)?;
         self.asked = put_kin(&mut self.sites, &mut self.seats, self.asked, new.name, dir);
         Ok(())

@@ -80,6 +80,7 @@ impl<S: Server> Nodes<S> {
             at: None,
             ids,
             targets: Vec::new(alloc),
+            own: Vec::new(alloc),
             server,
         };
         put_seat(&mut seats, BOOT_NAME, seat);

@@ -1,22 +1,19 @@
 //! Sites and seats by name.
-ghost use Rattle.std.specs.Prelude.{◌≡◌, ◌<◌, ◌≤◌, ◌⊎◌, ℕ, [], take, true, false, ◌&&◌, is_some, length, IfOk, IfSome};
+ghost use Rattle.std.specs.Prelude.{◌≡◌, ◌<◌, ◌≤◌, ◌⊎◌, ℕ, [], take, true, false, is_some, length, Some, None, option_and_then, IfOk, IfSome};
 ghost use Rattle.std.specs.List.{list_any};
 ghost use Rattle.std.specs.FinMap as fin;
 ghost use Rattle.indexmap.specs.IndexMap.{spare};
-ghost use Rattle.hurd_creds.specs.Names.{same_name};
 ghost use Rattle.hurd_trans_iface.specs.Nodes.{is_listed};
 ghost use Rattle.hurd_creds.specs.NameMaps.{edit, place_by};
-ghost use Rattle.hurd_nodes.specs.Held.{AllSeated, AreApart, held_of, home_in, is_home, new_site, place_in, row_key, sites_of, seat_key, seat_value, seats_of};
-ghost use Rattle.hurd_nodes.specs.Quiet.{AreLess, AreNoGuests, Behind, IsRootless, IsUnknown};
+ghost use Rattle.hurd_nodes.specs.Held.{AreApart, active_in, home_in, is_home, new_site, place_in, row_key, sites_of, seat_key, seat_value, seats_of};
+ghost use Rattle.hurd_nodes.specs.Quiet.{Behind, IsUnknown, Lists};
 ghost use Rattle.hurd_nodes.specs.Tables.{AreTables};
-ghost use Rattle.hurd_nodes.specs.Shown.{less_old, vacated, with_active, with_home, without_sites, without_server};
+ghost use Rattle.hurd_nodes.specs.Shown.{with_active, with_home};
 ghost use Rattle.hurd_nodes.specs.Settle.{any_in};
 
-use crate::asked::{ask, ask_active, ask_guests, put_last};
-use crate::namings::Namings;
+use crate::asked::{active_on, ask, ask_active};
 use crate::seat::{Seat, Seats, Site, Sites};
 use hurd_creds::{NodeName, ServerName};
-use hurd_trans_iface::Server;
 use std::alloc::AllocError;
 
 /// The server of a node.
@@ -70,28 +67,6 @@ pub(crate) fn remove_site(sites: &mut Sites, node: NodeName)
     sites.swap_remove(&node);
 }
 
-/// Takes out the sites of nodes of this server, which is active on none of the others any more.
-pub(crate) fn remove_sites_of(sites: &mut Sites, server: ServerName)
-    requires { AreApart row_key sites.old.entries }
-    ensures is { sites_of sites.new.entries ≡ without_sites server (sites_of sites.old.entries) }
-    ensures apart { AreApart row_key sites.new.entries }
-    ensures room { spare sites.old ≤ spare sites.new }
-{
-    sites.retain(|_, site| {
-        vacate(site, server);
-        server != site.home
-    });
-}
-
-/// A server is active on the node of a site no more, if it was.
-fn vacate(site: &mut Site, server: ServerName)
-    ensures { site.new ≡ vacated server site.old }
-{
-    if is_on(site, server) {
-        site.active = None;
-    }
-}
-
 /// Says what is active on a node from now on, if the node has a site; whether it has one.
 #[tactic(auto, using(crate::proofs::HomeLaws::by_map))]
 pub(crate) fn set_active(sites: &mut Sites, node: NodeName, active: Option<ServerName>) -> bool
@@ -119,6 +94,7 @@ pub(crate) fn put_kin<S>(
 ) -> usize
     requires room { 0 < spare sites.old }
     requires tables { AreTables sites.old.entries seats.old.entries asked }
+    requires lists { Lists seats.old.entries (home_in (sites_of sites.old.entries) kin) node }
     ensures is { sites_of sites.new.entries ≡ with_home node (home_in (sites_of sites.old.entries) kin) (sites_of sites.old.entries) }
     ensures seats { seats_of seats.new.entries ≡ seats_of seats.old.entries }
     ensures tables { AreTables sites.new.entries seats.new.entries result }
@@ -155,6 +131,7 @@ pub(crate) fn seat_new<S: Drop>(
     requires room { (0 < spare sites.old) × (0 < spare seats.old) }
     requires tables { AreTables sites.old.entries seats.old.entries asked }
     requires unknown { IsUnknown (sites_of sites.old.entries) name }
+    requires absent { fin.get (seats_of seats.old.entries) name ≡ None }
     requires at { seat.at ≡ Some node }
     ensures sites { sites_of sites.new.entries ≡ edit node (with_active (Some name)) (fin.insert (sites_of sites.old.entries) seat.root (new_site name)) }
     ensures seats { seats_of seats.new.entries ≡ fin.insert (seats_of seats.old.entries) name (seat_value seat) }
@@ -172,186 +149,6 @@ pub(crate) fn seat_new<S: Drop>(
     ask(seats, then, name)
 }
 
-/// Takes out the seat of a server, with its box; answers how many are asked then.
-pub(crate) fn remove_seat<S: Drop>(seats: &mut Seats<S>, asked: usize, name: ServerName) -> usize
-    requires { AreApart seat_key seats.old.entries }
-    ensures is { seats_of seats.new.entries ≡ fin.remove (seats_of seats.old.entries) name }
-    ensures apart { AreApart seat_key seats.new.entries }
-    ensures less { AreLess name asked seats.old.entries result seats.new.entries }
-    ensures room { spare seats.old ≤ spare seats.new }
-{
-    let asked = put_last(seats, asked, name);
-    drop_seat(seats, name);
-    asked
-}
-
-/// Takes out the seat of a server, with its box; the last seat takes its place.
-#[tactic(auto, using(crate::proofs::HomeLaws::by_map, crate::proofs::AskedLaws::drop_less))]
-fn drop_seat<S: Drop>(seats: &mut Seats<S>, name: ServerName)
-    requires { AreApart seat_key seats.old.entries }
-    ensures is { seats_of seats.new.entries ≡ fin.remove (seats_of seats.old.entries) name }
-    ensures apart { AreApart seat_key seats.new.entries }
-    ensures less { (k : ℕ) → AreLess name k seats.old.entries k seats.new.entries }
-    ensures room { spare seats.old ≤ spare seats.new }
-{
-    seats.swap_remove(&name);
-}
-
-/// Takes out a server: the sites of its nodes, wherever it is active itself, and its seat with its box; answers how many are asked then.
-/// Where it isn't there, nothing changes. Of a quiet one only two sites are looked at; of one that is asked all sites are.
-pub(crate) fn remove_server<S: Drop>(
-    sites: &mut Sites,
-    seats: &mut Seats<S>,
-    asked: usize,
-    server: ServerName,
-) -> usize
-    requires { AreTables sites.old.entries seats.old.entries asked }
-    ensures is { held_of sites.new.entries seats.new.entries ≡ without_server (held_of sites.old.entries seats.old.entries) server }
-    ensures tables { AreTables sites.new.entries seats.new.entries result }
-    ensures room { (spare sites.old ≤ spare sites.new) × (spare seats.old ≤ spare seats.new) }
-{
-    let Some(i) = place_of_seat(seats, server) else {
-        return asked;
-    };
-    if i < asked {
-        return remove_asked(sites, seats, asked, server);
-    }
-    remove_quiet(sites, seats, asked, server, i)
-}
-
-/// Takes out a server that is asked, as `remove_server` does: all sites are looked at.
-fn remove_asked<S: Drop>(
-    sites: &mut Sites,
-    seats: &mut Seats<S>,
-    asked: usize,
-    server: ServerName,
-) -> usize
-    requires { AreTables sites.old.entries seats.old.entries asked }
-    ensures is { held_of sites.new.entries seats.new.entries ≡ without_server (held_of sites.old.entries seats.old.entries) server }
-    ensures tables { AreTables sites.new.entries seats.new.entries result }
-    ensures room { (spare sites.old ≤ spare sites.new) × (spare seats.old ≤ spare seats.new) }
-{
-    let asked = ask_guests(sites, seats, asked, server);
-    remove_sites_of(sites, server);
-    remove_seat(seats, asked, server)
-}
-
-/// Takes out a quiet server, whose seat has this index, as `remove_server` does. It has its root alone, and is active only where it was attached.
-fn remove_quiet<S: Drop>(
-    sites: &mut Sites,
-    seats: &mut Seats<S>,
-    asked: usize,
-    server: ServerName,
-    i: usize,
-) -> usize
-    requires tables { AreTables sites.old.entries seats.old.entries asked }
-    requires place { Some i ≡ place_by seat_key server seats.old.entries }
-    requires below { i < length seats.old.entries }
-    requires quiet { asked ≤ i }
-    ensures is { held_of sites.new.entries seats.new.entries ≡ without_server (held_of sites.old.entries seats.old.entries) server }
-    ensures tables { AreTables sites.new.entries seats.new.entries result }
-    ensures room { (spare sites.old ≤ spare sites.new) × (spare seats.old ≤ spare seats.new) }
-{
-    let seat = &seats[i];
-    let root = seat.root;
-    let at = seat.at;
-    let asked = remove_root(sites, seats, asked, server, root);
-    leave(sites, at);
-    remove_seat(seats, asked, server)
-}
-
-/// Takes out the site of a server's root, which is its only node, if it has that; answers how many servers are asked then.
-fn remove_root<S>(
-    sites: &mut Sites,
-    seats: &mut Seats<S>,
-    asked: usize,
-    server: ServerName,
-    root: NodeName,
-) -> usize
-    requires apart { AreApart seat_key seats.old.entries }
-    requires alone { (n : _) → home_in (sites_of sites.old.entries) n ≡ Some server → n ≡ root }
-    ensures sites { IsRootless (sites_of sites.old.entries) server (sites_of sites.new.entries) }
-    ensures sites_apart { AreApart row_key sites.old.entries → AreApart row_key sites.new.entries }
-    ensures is { seats_of seats.new.entries ≡ seats_of seats.old.entries }
-    ensures apart { AreApart seat_key seats.new.entries }
-    ensures less { AreNoGuests (sites_of sites.old.entries) server asked seats.old.entries result seats.new.entries }
-    ensures room { (spare sites.old ≤ spare sites.new) × (spare seats.old ≤ spare seats.new) }
-{
-    if !is_own(sites, server, root) {
-        return asked;
-    }
-    let asked = ask_active(sites, seats, asked, root);
-    remove_site(sites, root);
-    asked
-}
-
-/// Whether a node is of this server.
-fn is_own(sites: &Sites, server: ServerName, node: NodeName) -> bool
-    ensures { result ≡ is_home server (home_in (sites_of sites.now.entries) node) }
-{
-    match home_of(sites, node) {
-        Some(home) => server == home,
-        None => false,
-    }
-}
-
-/// No server is active on this node any more, if one is given.
-fn leave(sites: &mut Sites, at: Option<NodeName>)
-    ensures is { (n : _) → at ≡ Some n → sites_of sites.new.entries ≡ edit n (with_active None) (sites_of sites.old.entries) }
-    ensures apart { AreApart row_key sites.old.entries → AreApart row_key sites.new.entries }
-    ensures room { spare sites.old ≤ spare sites.new }
-{
-    if let Some(node) = at {
-        set_active(sites, node, None);
-    }
-}
-
-/// Tells the box of a server, if it is there, that it is sent away.
-#[tactic(auto, using(crate::proofs::SeatedLaws::seated))]
-fn tell_away<S: Server>(seats: &mut Seats<S>, server: ServerName)
-    ensures others { fin.remove (seats_of seats.new.entries) server ≡ fin.remove (seats_of seats.old.entries) server }
-    ensures tables { (sites : _) (k : ℕ) → AreTables sites seats.old.entries k → AreTables sites seats.new.entries k }
-    ensures room { spare seats.old ≤ spare seats.new }
-{
-    if let Some(i) = place_of_seat(seats, server) {
-        seats[i].server.goaway();
-    }
-}
-
-/// Sends a server away: its box is told, and then it is taken out as by `remove_server`.
-pub(crate) fn send_away<S: Server>(
-    sites: &mut Sites,
-    seats: &mut Seats<S>,
-    asked: usize,
-    server: ServerName,
-) -> usize
-    requires { AreTables sites.old.entries seats.old.entries asked }
-    ensures is { held_of sites.new.entries seats.new.entries ≡ without_server (held_of sites.old.entries seats.old.entries) server }
-    ensures tables { AreTables sites.new.entries seats.new.entries result }
-    ensures room { (spare sites.old ≤ spare sites.new) × (spare seats.old ≤ spare seats.new) }
-{
-    tell_away(seats, server);
-    remove_server(sites, seats, asked, server)
-}
-
-/// Sends the server away that leaves, if one does.
-pub(crate) fn remove_old<S: Server>(
-    sites: &mut Sites,
-    seats: &mut Seats<S>,
-    asked: usize,
-    old: Option<ServerName>,
-) -> usize
-    requires { AreTables sites.old.entries seats.old.entries asked }
-    ensures is { held_of sites.new.entries seats.new.entries ≡ less_old (held_of sites.old.entries seats.old.entries) old }
-    ensures tables { AreTables sites.new.entries seats.new.entries result }
-    ensures room { (spare sites.old ≤ spare sites.new) × (spare seats.old ≤ spare seats.new) }
-{
-    match old {
-        Some(server) => send_away(sites, seats, asked, server),
-        None => asked,
-    }
-}
-
 /// Takes room for one more in each table. `ENOMEM`: what stands there is as it was.
 pub(crate) fn reserve_rows<S>(sites: &mut Sites, seats: &mut Seats<S>) -> Result<(), AllocError>
     ensures sites { sites.new.entries ≡ sites.old.entries }
@@ -364,32 +161,15 @@ pub(crate) fn reserve_rows<S>(sites: &mut Sites, seats: &mut Seats<S>) -> Result
 
 /// Whether a server is active on this node, if one is given.
 pub(crate) fn is_active_on(sites: &Sites, server: ServerName, node: Option<NodeName>) -> bool
-    ensures { result ≡ true → any_in (λ n (r : Site). is_home server r.active) (sites_of sites.now.entries) ≡ true }
+    ensures { result ≡ is_home server (option_and_then (active_in (sites_of sites.now.entries)) node) }
 {
     let Some(node) = node else {
         return false;
     };
-    match sites.get(&node) {
-        Some(site) => is_on(site, server),
-        None => false,
-    }
-}
-
-/// Whether a server is active on the node of a site.
-fn is_on(site: &Site, server: ServerName) -> bool
-    ensures { result ≡ is_home server site.now.active }
-{
-    match site.active {
+    match active_on(sites, node) {
         Some(active) => server == active,
         None => false,
     }
-}
-
-/// Whether a server is active on a node.
-pub(crate) fn is_active(sites: &Sites, server: ServerName) -> bool
-    ensures { result ≡ list_any (λ x. is_home server x.1.active) sites.now.entries }
-{
-    sites.iter().any(|(_, site)| is_on(site, server))
 }
 
 /// Whether a node is a target of one of the first of these servers.
@@ -422,11 +202,12 @@ fn is_among(nodes: &[NodeName], node: NodeName) -> bool
     nodes.iter().any(|name| node == *name)
 }
 
-/// Whether a server has a node that is named.
-pub(crate) fn has_held<N: Namings>(sites: &Sites, server: ServerName, namings: &N) -> bool
-    ensures { result ≡ list_any (λ x. same_name server x.1.home && (N.outside namings.now).held x.0) sites.now.entries }
+/// Whether a node is of this server.
+pub(crate) fn is_own(sites: &Sites, server: ServerName, node: NodeName) -> bool
+    ensures { result ≡ is_home server (home_in (sites_of sites.now.entries) node) }
 {
-    sites
-        .iter()
-        .any(|(node, site)| server == site.home && namings.names(*node))
+    match home_of(sites, node) {
+        Some(home) => server == home,
+        None => false,
+    }
 }

@@ -15,7 +15,7 @@ use Rattle.hurd_ports.specs.declared.table.Port.{Port}
 use Rattle.hurd_ports.specs.declared.table.Right.{Right}
 use Rattle.hurd_ports.specs.declared.table.PendingStart.{PendingStart}
 use Rattle.hurd_ports.specs.declared.table.TaskSeat.{TaskSeat}
-use Rattle.hurd_ports.specs.Weights.{one_if, count_list, weigh_list}
+use Rattle.hurd_creds.specs.Weights.{one_if, count_list, weigh_list}
 use Rattle.hurd_ports.specs.Tables.{Task, PortState, has_room, names_open, or_refuse, right_at, right_in, right_of, rights_of, start_of}
 use Rattle.hurd_ports.specs.Steps.{edit_task, name_step, named, pend_at, pend_step, received, receive_at, receive_step, sent_to, send_step, share_at, share_step, take_ids_at, take_ids_step, taken_by, with_ids, with_pending, with_port, with_sent}
 use Rattle.hurd_ports.specs.Sound.{IsSound, NumbersRise}

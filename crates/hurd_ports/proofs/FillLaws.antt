@@ -15,7 +15,7 @@ use Rattle.hurd_ports.specs.Steps.{named, new_open, new_right, with_port, with_n
 use Rattle.hurd_ports.specs.Sound.{IsSound}
 use Rattle.hurd_ports.specs.Seats.{OpenEntry, seat_task, tasks_of, opens_of, state_of}
 use Rattle.hurd_ports.specs.declared.book.Book.{Book}
-use Rattle.hurd_ports.specs.Weights.{weigh_list}
+use Rattle.hurd_creds.specs.Weights.{weigh_list}
 use Rattle.hurd_ports.specs.Counts.{AreCounted, Sort, count_of, excess, naming}
 use Rattle.hurd_ports.proofs.CountLaws.{counted-changed}
 use Rattle.hurd_ports.proofs.WeightLaws.{port_weighs}

@@ -6,7 +6,7 @@ use Rattle.hurd_creds.specs.declared.name.Name.{Name}
 use Rattle.hurd_creds.proofs.NameLaws.{same_name-itself, same_name-apart}
 use Rattle.hurd_ports.specs.declared.table.Right.{Right}
 use Rattle.hurd_ports.specs.declared.table.Right.TheVariants.{Io, Control, Start}
-use Rattle.hurd_ports.specs.Weights.{one_if, count_list}
+use Rattle.hurd_creds.specs.Weights.{one_if, count_list}
 use Rattle.hurd_ports.specs.Tables.{Task, count_rights, is_held, names_open, open_of, right_in, rights_of}
 use Rattle.hurd_ports.specs.Steps.{without_port}
 use Rattle.hurd_ports.proofs.WeightLaws.{tasks_weighed, weigh_at, weigh_dropped, weigh_set}

@@ -13,11 +13,6 @@ use Rattle.hurd_ports.specs.declared.table.Opened.{Opened}
 use Rattle.hurd_ports.specs.Seats.{OpenEntry, open_key, open_value, opens_of}
 use Rattle.std.proofs.lemmas.Bool.{cases_Bool}
 
--- what an insert says of its success, where it has one
-pub on_success : {A E : Type 0} {P : Type 0} (r : Result A E) → IsOk r → OnOk r P → P
-on_success (Ok x) ok is = is
-on_success (Err e) ok is = absurd (true≢false (sym ok))
-
 find-opens : (n : Name) (es : List OpenEntry) → fin.find name_cmp n (map (λ e. (open_key e, open_value e)) es) ≡ lookup (same_name n) es
 find-opens n [] = refl
 find-opens n (e ∷ es) = elim (cases_Bool (same_name n e.0)) [

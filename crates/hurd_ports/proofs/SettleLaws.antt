@@ -13,7 +13,7 @@ use Rattle.hurd_ports.specs.Tables.{Task, PortState, OpenMap, is_held, rights_of
 use Rattle.hurd_ports.specs.Steps.{without_port, settle_opens, deallocate_step, dropped, deallocate_at}
 use Rattle.hurd_ports.specs.Sound.{IsSound}
 use Rattle.hurd_ports.specs.declared.book.Book.{Book}
-use Rattle.hurd_ports.specs.Weights.{weigh_list}
+use Rattle.hurd_creds.specs.Weights.{weigh_list}
 use Rattle.hurd_ports.specs.Counts.{AreCounted, Opens, Sort, count_of, is_counted, naming}
 use Rattle.hurd_ports.specs.Seats.{OpenEntry, seat_task, tasks_of, opens_of, state_of, settled_at, settled_by}
 use Rattle.hurd_ports.proofs.CountLaws.{counted-changed, held-counted}

@@ -13,7 +13,7 @@ use Rattle.hurd_ports.specs.declared.parents.Parent.{Parent}
 use Rattle.hurd_ports.specs.declared.table.Opened.{Opened}
 use Rattle.hurd_ports.specs.declared.table.Port.{Port}
 use Rattle.hurd_ports.specs.declared.table.Right.{Right}
-use Rattle.hurd_ports.specs.Weights.{one_if}
+use Rattle.hurd_creds.specs.Weights.{one_if}
 use Rattle.hurd_ports.specs.Tables.{Task, PortState, OpenMap, is_held, names_open, fresh, right_in, right_of}
 use Rattle.hurd_ports.specs.Steps.{new_task, starting_at, named, new_open, new_right, with_port, with_new_port, without_port, ports_without, settle_opens}
 use Rattle.hurd_ports.specs.Sound.{IsSound, IsGiven, NumbersRise}

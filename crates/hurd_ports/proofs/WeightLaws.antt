@@ -7,7 +7,7 @@ use Rattle.std.specs.List.{list_any}
 use Rattle.hurd_ports.specs.declared.table.PendingStart.{PendingStart}
 use Rattle.hurd_ports.specs.declared.table.Port.{Port}
 use Rattle.hurd_ports.specs.declared.table.Right.{Right}
-use Rattle.hurd_ports.specs.Weights.{weigh_list}
+use Rattle.hurd_creds.specs.Weights.{weigh_list}
 use Rattle.hurd_ports.specs.Tables.{Task, rights_of, right_in, start_of, weigh_rights}
 use Rattle.hurd_ports.specs.Steps.{edit_task, received, with_pending, with_port, with_sent, without_port, ports_without}
 use Rattle.hurd_ports.proofs.TaskLaws.{edit-found}

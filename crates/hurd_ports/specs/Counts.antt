@@ -1,12 +1,12 @@
 -- What rights name, and how often it is counted.
 use Rattle.std.specs.Prelude.{◌≡◌, ℕ, ◌*◌, ◌-◌, ◌≤◌, Bool, List, [], ◌∷◌, length, Option, Some, None, nat_lt}
-use Rattle.std.specs.Map.{lookup}
 use Rattle.indexmap.specs.IndexMap.{spare}
 use Rattle.hurd_creds.specs.declared.name.Name.{Name}
 use Rattle.hurd_creds.specs.Names.{same_name}
 use Rattle.hurd_creds.specs.Limits.{most_tasks}
 use Rattle.hurd_ports.specs.Limits.{most_parents}
-use Rattle.hurd_ports.specs.Weights.{count_list}
+use Rattle.hurd_creds.specs.Weights.{count_list}
+use Rattle.hurd_creds.specs.Counts.{counted}
 use Rattle.hurd_ports.specs.Tables.{Task, ways_of, weigh_rights}
 use Rattle.hurd_ports.specs.declared.table.Right.{Right}
 use Rattle.hurd_ports.specs.declared.table.Right.TheVariants.{Io, Control, Start}
@@ -44,15 +44,6 @@ abbrev pub excess : Right → ℕ
 excess (Io r) = length r.parents - most_parents
 excess (Control s) = 0
 excess (Start n) = 0
-
--- a count; where there is none, nothing is counted
-abbrev pub or_none : Option ℕ → ℕ
-or_none None = 0
-or_none (Some k) = k
-
--- how often the name is counted
-abbrev pub counted : List (Name × ℕ) → Name → ℕ
-counted es n = or_none (lookup (same_name n) es)
 
 -- the counts of a sort
 abbrev pub entries_of : Sort → Book → List (Name × ℕ)

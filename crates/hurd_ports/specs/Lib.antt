@@ -1,5 +1,4 @@
 pub mod Limits
-pub mod Weights
 pub mod Tables
 pub mod Steps
 pub mod Sound

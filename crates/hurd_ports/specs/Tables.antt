@@ -10,7 +10,7 @@ use Rattle.hurd_creds.specs.declared.errno.Errno.TheVariants.{EBADF, ESRCH, EOVE
 use Rattle.hurd_creds.specs.Access.{IdSets, coded_ids}
 use Rattle.hurd_creds.specs.Names.{name_of, coded_name, same_name}
 use Rattle.hurd_creds.specs.NameMaps.{NameMap}
-use Rattle.hurd_ports.specs.Weights.{one_if, weigh_list}
+use Rattle.hurd_creds.specs.Weights.{one_if, weigh_list}
 use Rattle.hurd_ports.specs.declared.table.Opened.{Opened}
 use Rattle.hurd_ports.specs.declared.parents.Parent.{Parent}
 use Rattle.hurd_ports.specs.declared.table.IoRight.{IoRight}

@@ -4,13 +4,14 @@ ghost use Rattle.indexmap.specs.IndexMap.{spare};
 ghost use Rattle.hurd_creds.specs.Names.{same_name};
 ghost use Rattle.hurd_creds.specs.declared.name.Name.{Name};
 ghost use Rattle.hurd_ports.specs.Limits.{most_parents};
-ghost use Rattle.hurd_ports.specs.Weights.{count_list, weigh_list};
+ghost use Rattle.hurd_creds.specs.Weights.{count_list, weigh_list};
 ghost use Rattle.hurd_ports.specs.Tables.{start_of, ways_of};
-ghost use Rattle.hurd_ports.specs.Counts.{Besides, HasRoom, Opens, Servers, Sort, Uses, count_of, counted, excess, is_counted, most_counted, naming};
+ghost use Rattle.hurd_creds.specs.Counts.{counted};
+ghost use Rattle.hurd_ports.specs.Counts.{Besides, HasRoom, Opens, Servers, Sort, Uses, count_of, excess, is_counted, most_counted, naming};
 
-use crate::counts::{Counts, add, count, subtract};
 use crate::parents::{MOST_PARENTS, Parent};
 use crate::table::{PendingStart, Right};
+use hurd_creds::counts::{Counts, add, count, subtract};
 use hurd_creds::{NodeName, OpenName, ServerName};
 use std::alloc::{AllocError, Global};
 

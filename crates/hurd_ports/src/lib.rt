@@ -18,7 +18,6 @@
 
 mod book;
 mod compare;
-pub mod counts;
 mod opens;
 mod parents;
 mod ports;

@@ -2,9 +2,9 @@ use Rattle.std.proofs.Common.{◌≡◌, ◌≤◌, ◌+◌, drop, length}
 use Rattle.indexmap.specs.IndexMap.{spare}
 use Rattle.hurd_creds.specs.Names.{same_name}
 use Rattle.hurd_creds.specs.declared.name.Name.{Name}
-use Rattle.hurd_ports.specs.Weights.{count_list}
+use Rattle.hurd_creds.specs.Weights.{count_list}
 use Rattle.hurd_ports.specs.Tables.{ways_of}
-use Rattle.hurd_ports.specs.Counts.{counted}
+use Rattle.hurd_creds.specs.Counts.{counted}
 use Rattle.hurd_ports.proofs.book.add_ways.Given as goal
 
 -- the ways that are left are to be counted yet, and there is room for them

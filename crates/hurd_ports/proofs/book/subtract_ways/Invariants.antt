@@ -1,9 +1,9 @@
 use Rattle.std.proofs.Common.{◌≡◌, ◌+◌, drop}
 use Rattle.hurd_creds.specs.Names.{same_name}
 use Rattle.hurd_creds.specs.declared.name.Name.{Name}
-use Rattle.hurd_ports.specs.Weights.{count_list}
+use Rattle.hurd_creds.specs.Weights.{count_list}
 use Rattle.hurd_ports.specs.Tables.{ways_of}
-use Rattle.hurd_ports.specs.Counts.{counted}
+use Rattle.hurd_creds.specs.Counts.{counted}
 use Rattle.hurd_ports.proofs.book.subtract_ways.Given as goal
 
 -- the ways that are left are to be taken off yet

@@ -1,5 +1,6 @@
 use Rattle.hurd_ports.specs.Steps.{new_open}
-use Rattle.hurd_ports.proofs.OpenLaws.{on_success, open-put}
+use Rattle.hurd_creds.proofs.StepLaws.{on_success}
+use Rattle.hurd_ports.proofs.OpenLaws.{open-put}
 use Rattle.hurd_ports.proofs.opens.add.Goals as goal
 
 pub unwrap-requires : goal.unwrap-requires

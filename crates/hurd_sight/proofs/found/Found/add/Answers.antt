@@ -1,7 +1,7 @@
 use Rattle.std.proofs.Common.{◌∙◌, ap, sym, refl}
 use Rattle.hurd_creds.specs.Names.{same_name}
 use Rattle.indexmap.specs.IndexMap.{insert_entry}
-use Rattle.hurd_nodes.proofs.HomeLaws.{on_success}
+use Rattle.hurd_creds.proofs.StepLaws.{on_success}
 use Rattle.hurd_sight.proofs.FoundLaws.{Entries, one_more}
 use Rattle.hurd_sight.proofs.found.Found.add.Goals as goal
 

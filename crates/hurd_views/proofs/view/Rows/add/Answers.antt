@@ -1,6 +1,6 @@
 use Rattle.std.proofs.Common.{◌∙◌}
 use Rattle.hurd_core.specs.Core.{world_of}
-use Rattle.hurd_nodes.proofs.HomeLaws.{on_success}
+use Rattle.hurd_creds.proofs.StepLaws.{on_success}
 use Rattle.hurd_views.proofs.RowLaws.{row_filled}
 use Rattle.hurd_views.proofs.view.Rows.add.Goals as goal
 

@@ -1,6 +1,6 @@
-use Rattle.hurd_ports.proofs.CountLaws.{count-added}
-use Rattle.hurd_ports.proofs.OpenLaws.{on_success}
-use Rattle.hurd_ports.proofs.counts.add.Goals as goal
+use Rattle.hurd_creds.proofs.CountLaws.{count-added}
+use Rattle.hurd_creds.proofs.StepLaws.{on_success}
+use Rattle.hurd_creds.proofs.counts.add.Goals as goal
 
 pub unwrap-requires : goal.unwrap-requires
 unwrap-requires c = c.insert.ensures.succeeds c.requires.room

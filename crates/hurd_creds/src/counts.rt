@@ -4,10 +4,10 @@ ghost use Rattle.std.specs.Map.{lookup};
 ghost use Rattle.indexmap.specs.IndexMap.{spare};
 ghost use Rattle.hurd_creds.specs.Names.{same_name};
 ghost use Rattle.hurd_creds.specs.declared.name.Name.{Name};
-ghost use Rattle.hurd_ports.specs.Weights.{if_so};
-ghost use Rattle.hurd_ports.specs.Counts.{counted};
+ghost use Rattle.hurd_creds.specs.Weights.{if_so};
+ghost use Rattle.hurd_creds.specs.Counts.{counted};
 
-use hurd_creds::Name;
+use crate::name::Name;
 use indexmap::IndexMap;
 
 /// How often each name is counted; one that isn't there is not.

@@ -1,8 +1,8 @@
 use Rattle.std.proofs.Common.{◌-◌, sym, ap, is_some, arith}
 use Rattle.std.specs.Prelude.{Some, None}
-use Rattle.hurd_ports.specs.Counts.{or_none}
-use Rattle.hurd_ports.proofs.CountLaws.{count-less, count-written}
-use Rattle.hurd_ports.proofs.counts.subtract.Goals as goal
+use Rattle.hurd_creds.specs.Counts.{or_none}
+use Rattle.hurd_creds.proofs.CountLaws.{count-less, count-written}
+use Rattle.hurd_creds.proofs.counts.subtract.Goals as goal
 
 pub returns-in-Some-clause-less : goal.returns-in-Some-clause-less
 returns-in-Some-clause-less c =
