@@ -93,7 +93,7 @@ own-place (e ∷ es) (suc k) x apart is =
     ]
 
 -- what stands where a name is found has it
-named-at : {X : Type 0} (es : List (Name × X)) (s : Name) (i : ℕ) (x : Name × X) → place_by row_key s es ≡ Some i → slice_get es i ≡ Some x → x.0 ≡ s
+pub named-at : {X : Type 0} (es : List (Name × X)) (s : Name) (i : ℕ) (x : Name × X) → place_by row_key s es ≡ Some i → slice_get es i ≡ Some x → x.0 ≡ s
 named-at es s i x at is = sym (ap (λ (y : Name × _). y.0) (get_or_from_slice_get es i x x is)) ∙ (place-is row_key (λ (y : Name × _). y) s es i at).named x
 
 -- what is read at the place of a name stands there under that name

@@ -1,7 +1,8 @@
 -- The list that a seat keeps of its server's nodes.
-use Rattle.std.proofs.Common.{◌≡◌, ◌⊎◌, inl, inr, ℕ, Bool, true, false, ◌||◌, ◌&&◌, List, [], ◌∷◌, ◌++◌, cond, filter, refl, sym, subst, ap, ap₂, ◌∙◌, true≢false, arith}
+use Rattle.std.proofs.Common.{◌≡◌, ◌⊎◌, inl, inr, ℕ, zero, suc, Bool, true, false, ◌||◌, ◌&&◌, List, [], ◌∷◌, ◌++◌, length, filter, refl, sym, subst, ap, ap₂, ◌∙◌, true≢false, arith}
 use Rattle.std.proofs.lemmas.Bool.{and_from, and_parts, cases_Bool, or_cases, or_from, or_left, or_right}
-use Rattle.std.specs.Prelude.{Option, Some, None, option_and_then, slice_get}
+use Rattle.std.specs.Prelude.{Option, Some, None, Result, Ok, Err, OnOk, option_and_then, slice_get}
+use Rattle.std.specs.Global.{Vec}
 use Rattle.std.specs.Map.{values_of}
 use Rattle.std.specs.List.{list_any}
 use Rattle.std.specs.FinMap as fin
@@ -9,15 +10,19 @@ use Rattle.indexmap.specs.IndexMap.{set_value_at}
 use Rattle.hurd_creds.specs.declared.name.Name.{Name}
 use Rattle.hurd_creds.specs.Names.{same_name}
 use Rattle.hurd_creds.specs.NameMaps.{NameMap, place_by}
-use Rattle.hurd_creds.proofs.NameLaws.{equal_if_same, same_name-itself}
+use Rattle.std.proofs.lemmas.Option.{same_Some}
+use Rattle.hurd_creds.proofs.NameLaws.{equal_if_same, get_apart, get_here, same_map_by, same_name-itself, same_or_apart}
 use Rattle.hurd_trans_iface.specs.Nodes.{is_listed}
 use Rattle.hurd_nodes.specs.declared.seat.Seat.{Seat}
 use Rattle.hurd_nodes.specs.declared.seat.Site.{Site}
-use Rattle.hurd_nodes.specs.Held.{AreApart, active_in, home_in, is_home, seat_key, sites_of, seats_of}
+use Rattle.hurd_nodes.specs.Held.{AreApart, active_in, home_in, is_home, seat_key, seat_value, sites_of, seats_of}
 use Rattle.hurd_nodes.specs.Quiet.{Behind, IsTold, Lists}
 use Rattle.hurd_nodes.specs.Tables.{AreTables}
 use Rattle.hurd_nodes.specs.Settle.{any_in}
 use Rattle.hurd_nodes.proofs.GoneLaws.{no-site, not-active, own_home}
+use Rattle.hurd_nodes.proofs.AskedLaws.{named-at, own-place}
+use Rattle.hurd_nodes.proofs.SeatLaws.{seat-changed, seat-found}
+use Rattle.hurd_nodes.proofs.SeatedLaws.{tables-put, value_got}
 use Rattle.hurd_nodes.proofs.PartLaws.{any-more, any_in-found, any_in-here, same_bool}
 use Rattle.hurd_nodes.proofs.Sites.{active_by, home_by, seat-site, site-of}
 
@@ -113,3 +118,58 @@ none-kept rs ss k t s missing named = sym (or_from _ _ idle homeless)
           absurd (no-site rs ss k t s missing f.name (ap home_by f.is ∙ ap Some (sym (equal_if_same s f.item.home both.0))))
       | inr none ↦ none
     ]
+
+-- where the first doesn't hold, the second tells
+pub or_second : (a b c : Bool) → a ≡ false → c ≡ b → c ≡ (a || b)
+or_second a b c off is = is ∙ sym (ap (λ (x : Bool). x || b) off)
+
+-- another list in a server's seat
+module _ {S : Type 0} (ss : List (Name × Seat S)) (s : Name) (i : ℕ) (x : Seat S) (at : Some i ≡ place_by seat_key s ss) (read : slice_get (values_of ss) i ≡ Some x) (own : Vec Name) where
+  abbrev with_list : Seat S
+  with_list = record x { own = own }
+
+  -- is not seen
+  pub own-unseen : seats_of (set_value_at ss i with_list) ≡ seats_of ss
+  own-unseen = seat-changed ss s i x at read with_list ∙ same_map_by _ _ (λ q. elim (same_or_apart q s) [
+    | inl here ↦ ap (fin.get (fin.insert (seats_of ss) s (seat_value x))) here ∙ get_here (seats_of ss) s (seat_value x) ∙ sym (ap (fin.get (seats_of ss)) here ∙ seat-found ss s i x at read)
+    | inr apart ↦ get_apart (seats_of ss) s (seat_value x) q apart
+  ])
+
+  -- and the tables are what they were, if it lists each node that was listed
+  pub own-tables : (rs : List (Name × Site)) (k : ℕ) → ((n : Name) → home_in (sites_of rs) n ≡ Some s → is_listed n x.own.items ≡ true → is_listed n own.items ≡ true) → AreTables rs ss k
+      → AreTables rs (set_value_at ss i with_list) k
+  own-tables rs k kept t = tables-put rs ss k i x with_list read t refl refl refl (λ n p here home on. elim (or_cases (same_name n x.root) (is_listed n x.own.items) on) [
+    | inl root ↦ or_left (same_name n x.root) _ root
+    | inr later ↦ or_right (same_name n x.root) _ (kept n (home ∙ ap Some (sym (named_there p here))) later)
+  ])
+    where
+      named_there : (p : Name) → slice_get ss i ≡ Some (p, x) → s ≡ p
+      named_there p here = sym (named-at ss s i (p, x) (sym at) here)
+
+  -- it lists a node that it has
+  pub own-lists : AreApart seat_key ss → (o : Option Name) → o ≡ Some s → (n : Name) → is_listed n own.items ≡ true → Lists (set_value_at ss i with_list) o n
+  own-lists apart o is n on z b home =
+      let same : s ≡ z.0 = same_Some s z.0 (sym is ∙ home) in
+      elim (value_got ss i x with_list read b.at z b.is) [
+        | inl here ↦ subst (λ (y : Name × Seat S). is_listed n (y.1.root ∷ y.1.own.items) ≡ true) (sym here.1) (or_right (same_name n x.root) _ on)
+        | inr other ↦ absurd (other.0 (same_Some b.at i (sym (own-place ss b.at z apart other.1) ∙ ap (λ (q : Name). place_by seat_key q ss) (sym same) ∙ sym at)))
+      ]
+
+-- a list with another value at a place is as long
+pub length-kept : {X : Type 0} (es : List (Name × X)) (i : ℕ) (y : X) → length (set_value_at es i y) ≡ length es
+length-kept [] i y = refl
+length-kept (e ∷ es) zero y = refl
+length-kept (e ∷ es) (suc i) y = ap suc (length-kept es i y)
+
+-- what follows from what holds of a success holds of it
+pub on-ok : {A E P Q : Type 0} (r : Result A E) → OnOk r P → (P → Q) → OnOk r Q
+on-ok (Ok x) holds follows = follows holds
+on-ok (Err e) holds follows = tt
+
+-- what a seat lists it lists with another box
+pub lists-set : {S : Type 0} (ss : List (Name × Seat S)) (i : ℕ) (x : Seat S) (w : S) → slice_get (values_of ss) i ≡ Some x → (o : Option Name) (n : Name) → Lists ss o n
+    → Lists (set_value_at ss i (record x { server = w })) o n
+lists-set {S} ss i x w read o n lists z b home = elim (value_got ss i x (record x { server = w }) read b.at z b.is) [
+  | inl here ↦ subst (λ (y : Name × Seat S). is_listed n (y.1.root ∷ y.1.own.items) ≡ true) (sym here.1) (lists (z.0, x) (record { at = i; past = omega arith; is = here.2 }) home)
+  | inr other ↦ lists z (record { at = b.at; past = b.past; is = other.1 }) home
+]

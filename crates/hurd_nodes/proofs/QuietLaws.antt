@@ -94,16 +94,16 @@ module _ {S : Type 0} (sites : NameMap Site) (x : Name × Seat S) (q : IsQuiet s
     }
 
 -- a server that comes: no site knows it yet
-module _ {S : Type 0} (sites : NameMap Site) (s root seat : Name) (e : Seat S)
-    (homeless : (n : Name) → home_in sites n ≢ Some s) (idle : (n : Name) → active_in sites n ≢ Some s) where
+module _ (sites : NameMap Site) (s root seat : Name) where
   abbrev with_root : NameMap Site
   with_root = fin.insert sites root (new_site s)
 
   abbrev then_sites : NameMap Site
   then_sites = edit seat (with_active (Some s)) with_root
 
-  new_only : (n : Name) → active_in then_sites n ≡ Some s → n ≡ seat
-  new_only n is = elim (same_or_apart n seat) [
+  -- it is active on one node alone
+  pub new-only : ((n : Name) → active_in sites n ≢ Some s) → (n : Name) → active_in then_sites n ≡ Some s → n ≡ seat
+  new-only idle n is = elim (same_or_apart n seat) [
     | inl here ↦ here
     | inr far ↦ absurd (rootless (sym (active-edited_apart with_root seat (Some s) n far) ∙ is))
   ]
@@ -116,21 +116,23 @@ module _ {S : Type 0} (sites : NameMap Site) (s root seat : Name) (e : Seat S)
         | inr apart ↦ idle n (sym (active-apart sites root (new_site s) n apart) ∙ at)
       ]
 
-  new_alone : (n : Name) → home_in then_sites n ≡ Some s → n ≡ root
-  new_alone n is = elim (same_or_apart n root) [
-    | inl here ↦ here
-    | inr apart ↦ absurd (homeless n (sym (home-apart sites root (new_site s) n apart) ∙ sym (home-edited with_root seat (Some s) n) ∙ is))
-  ]
+  module _ (homeless : (n : Name) → home_in sites n ≢ Some s) where
+    -- and its root is its only node
+    pub new-alone : (n : Name) → home_in then_sites n ≡ Some s → n ≡ root
+    new-alone n is = elim (same_or_apart n root) [
+      | inl here ↦ here
+      | inr apart ↦ absurd (homeless n (sym (home-apart sites root (new_site s) n apart) ∙ sym (home-edited with_root seat (Some s) n) ∙ is))
+    ]
 
-  -- it is quiet, if the node on which it is active has a site, and it aims at nothing
-  pub quiet-new : e.root ≡ root → e.at ≡ Some seat → (r : Site) → fin.get with_root seat ≡ Some r → e.targets.items ≡ [] → IsQuiet then_sites (s, e)
-  quiet-new root_is at r there aimless = record {
-    seat = seat;
-    at = at;
-    active = ap active_by (edit_here with_root seat (with_active (Some s)) ∙ ap (option_map (with_active (Some s))) there);
-    alone = λ n is. new_alone n is ∙ sym root_is;
-    aimless = aimless;
-  }
+    -- it is quiet, if the node on which it is active has a site, and it aims at nothing
+    pub quiet-new : {S : Type 0} (e : Seat S) → e.root ≡ root → e.at ≡ Some seat → (r : Site) → fin.get with_root seat ≡ Some r → e.targets.items ≡ [] → IsQuiet then_sites (s, e)
+    quiet-new e root_is at r there aimless = record {
+      seat = seat;
+      at = at;
+      active = ap active_by (edit_here with_root seat (with_active (Some s)) ∙ ap (option_map (with_active (Some s))) there);
+      alone = λ n is. new-alone n is ∙ sym root_is;
+      aimless = aimless;
+    }
 
 -- another server, where this one comes
 pub quiet-old : {S : Type 0} (sites : NameMap Site) (x : Name × Seat S) → IsQuiet sites x → (root s node : Name) → IsUnknown sites s → active_in sites root ≢ Some x.0

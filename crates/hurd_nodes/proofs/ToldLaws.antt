@@ -1,18 +1,19 @@
 -- What a seat tells of its server stays true where sites change.
-use Rattle.std.proofs.Common.{◌≡◌, ◌≢◌, inl, inr, Bool, true, ◌∷◌, refl, sym, ap, ◌∙◌}
-use Rattle.std.specs.Prelude.{Option, Some, None}
+use Rattle.std.proofs.Common.{◌≡◌, ◌≢◌, inl, inr, ℕ, true, [], ◌∷◌, refl, sym, ap, ◌∙◌, true≢false}
+use Rattle.std.specs.Prelude.{Option, Some, None, is_some}
 use Rattle.std.specs.Option.{option_map}
 use Rattle.std.specs.FinMap as fin
 use Rattle.hurd_creds.specs.declared.name.Name.{Name}
+use Rattle.hurd_creds.specs.Names.{name_cmp}
 use Rattle.hurd_creds.specs.NameMaps.{NameMap, edit}
 use Rattle.hurd_creds.proofs.NameLaws.{same_name-itself, same_or_apart, edit_here, remove_here, remove_apart}
 use Rattle.hurd_trans_iface.specs.Nodes.{is_listed}
 use Rattle.hurd_nodes.specs.declared.seat.Seat.{Seat}
 use Rattle.hurd_nodes.specs.declared.seat.Site.{Site}
-use Rattle.hurd_nodes.specs.Held.{active_in, home_in, new_site}
+use Rattle.hurd_nodes.specs.Held.{active_in, home_in, new_site, sites_of}
 use Rattle.hurd_nodes.specs.Shown.{with_active, without_sites}
-use Rattle.hurd_nodes.specs.Quiet.{IsTold}
-use Rattle.hurd_nodes.proofs.SeatedLaws.{active-was}
+use Rattle.hurd_nodes.specs.Quiet.{Behind, IsTold}
+use Rattle.hurd_nodes.proofs.SeatedLaws.{active-was, known-none, seated-none}
 use Rattle.hurd_nodes.proofs.Sites.{active-apart, active-edited_apart, active-here, active_by, home-apart, home-edited, home-here, home-less, home-less_apart, home-was}
 
 -- what is active on an edited site
@@ -75,3 +76,17 @@ module _ {S : Type 0} (sites : NameMap Site) (x : Name × Seat S) (t : IsTold si
 -- a server that comes: its root is its only node, and it is active where it was attached
 pub told-new : {S : Type 0} (sites : NameMap Site) (s : Name) (e : Seat S) → ((n : Name) → active_in sites n ≡ Some s → e.at ≡ Some n) → ((n : Name) → home_in sites n ≡ Some s → n ≡ e.root) → IsTold sites (s, e)
 told-new sites s e placed alone = record { placed = placed; listed = λ n is. rw (alone n is, same_name-itself e.root) refl }
+
+-- the first server: its root is the only node, and it is active nowhere
+pub told-first : {S : Type 0} (s : Name) (e : Seat S) → e.root ≡ s → IsTold (fin.insert (sites_of []) s (new_site s)) (s, e)
+told-first s e root = told-put (sites_of []) (s, e) none s s (λ same. rw (root, same_name-itself s) refl)
+  where
+    none : IsTold (sites_of []) (s, e)
+    none = record {
+      placed = λ n is. absurd (true≢false (sym (known-none {S = Unit {0}} fin.empty n s is) ∙ ap (λ (o : Option _). is_some o) (fin.get-empty name_cmp s)));
+      listed = λ n is. absurd (true≢false (sym (seated-none {S = Unit {0}} fin.empty n s is) ∙ ap (λ (o : Option _). is_some o) (fin.get-empty name_cmp s)));
+    }
+
+-- nothing stands on an empty list
+pub nowhere : {X : Type 0} (k : ℕ) (x : X) → Behind k [] x → ⊥
+nowhere k x b = let none : None ≡ Some x = b.is in absurd (cc)

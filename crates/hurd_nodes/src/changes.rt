@@ -92,7 +92,7 @@ impl<S: Server> Nodes<S> {
         };
         can_make_in(&self.seats[i].server, dir, entry, new.kind)?;
         self.sites.reserve(1)?;
-        list_node(&self.sites, &mut self.seats, new.name, dir)?;
+        list_node(&self.sites, &mut self.seats, i, new.name, dir)?;
         self.seats[i].server.make(alloc, dir, entry, new)?;
         self.asked = put_kin(&mut self.sites, &mut self.seats, self.asked, new.name, dir);
         Ok(())

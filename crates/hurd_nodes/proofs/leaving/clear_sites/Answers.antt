@@ -10,8 +10,7 @@ loop-node-preserved g c =
     let b = sites_of c.loop-node.sites.entries in
     let d = sites_of c.clear_site-asked-in-loop-node.new.sites.entries in
     let inv = c.loop-node.invariant in
-    let one = c.clear_site-asked-in-loop-node.ensures in
-    (
+    let one = c.clear_site-asked-in-loop-node.ensures in (
       clearing-both s a b d _ _ _ _ _ _ inv.0 one.step,
       λ n on. elim (listed-more n c.args.root _ c.args.own.now c.loop-node.node-index c.loop-node-test.true on) [
         | inl before ↦ clearing-still s b d _ _ _ _ one.step n (inv.1 n before)

@@ -1,4 +1,4 @@
-use Rattle.std.proofs.Common.{rules, ap, ◌∙◌}
+use Rattle.std.proofs.Common.{rules, sym, ap, ◌∙◌}
 use Rattle.std.proofs.lemmas.Fn.{filter_same}
 use Rattle.hurd_creds.specs.declared.name.Name.{Name}
 use Rattle.hurd_creds.proofs.NameLaws.{same_name-itself}
@@ -6,10 +6,10 @@ use Rattle.hurd_nodes.specs.Held.{home_in, is_home, sites_of}
 use Rattle.hurd_nodes.proofs.OwnLaws.{listed-kept}
 use Rattle.hurd_nodes.proofs.own.weed.Goals as goal
 
-pub returns : goal.returns
-returns c =
+pub returns-in-Some : goal.returns-in-Some
+returns-in-Some c =
     let m = sites_of c.args.sites.now.entries in
-    let s = c.args.server in
+    let s = c.in-Some.server in
     let own = λ (q : Name). is_home s (home_in m q) in
     let less = filter_same _ own _ (λ x b f' k. search rules) _ _ c.retain.ensures.filtered in
-    λ n home on. rw less (listed-kept own n c.args.own.now.items (ap (is_home s) home ∙ same_name-itself s) on)
+    λ n home on. rw less (listed-kept own n c.args.own.now.items (ap (is_home s) (home ∙ sym c.in-Some.ensures) ∙ same_name-itself s) on)

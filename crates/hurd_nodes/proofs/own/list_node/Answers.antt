@@ -1,0 +1,41 @@
+use Rattle.std.proofs.Common.{sym, ap, ◌∙◌, arith}
+use Rattle.std.specs.Prelude.{Option}
+use Rattle.hurd_creds.specs.declared.name.Name.{Name}
+use Rattle.indexmap.specs.IndexMap.{set_value_at}
+use Rattle.hurd_nodes.specs.declared.seat.Seat.{Seat}
+use Rattle.hurd_nodes.specs.Held.{place_in}
+use Rattle.hurd_nodes.proofs.OwnLaws.{length-kept, on-ok, own-lists, own-tables, own-unseen}
+use Rattle.hurd_nodes.proofs.RowLaws.{place-kept}
+use Rattle.hurd_nodes.proofs.SeatLaws.{placed}
+use Rattle.hurd_nodes.proofs.own.list_node.Goals as goal
+
+pub returns-clause-is : goal.returns-clause-is
+returns-clause-is g c =
+    let ss = c.args.seats.now.entries in
+    let p = placed ss _ c.args.i c.requires.place in
+    own-unseen ss p.0 c.args.i c.index_mut.result.now p.2 c.index_mut.ensures.value c.push_own.new.own
+
+pub returns-clause-place : goal.returns-clause-place
+returns-clause-place g c =
+    let ss = c.args.seats.now.entries in
+    let p = placed ss _ c.args.i c.requires.place in
+    let y : Seat g.row.S.Denot = record c.index_mut.result.now { own = c.push_own.new.own } in
+    p.2 ∙ sym (place-kept ss c.args.i y p.0) ∙ sym (ap (λ (o : Option Name). place_in (set_value_at ss c.args.i y) o) p.1)
+
+pub returns-clause-below : goal.returns-clause-below
+returns-clause-below g c =
+    let y : Seat g.row.S.Denot = record c.index_mut.result.now { own = c.push_own.new.own } in
+    omega (arith, c.requires.below, length-kept c.args.seats.now.entries c.args.i y)
+
+pub returns-clause-tables : goal.returns-clause-tables
+returns-clause-tables g c =
+    let ss = c.args.seats.now.entries in
+    let p = placed ss _ c.args.i c.requires.place in
+    λ k t. own-tables ss p.0 c.args.i c.index_mut.result.now p.2 c.index_mut.ensures.value c.push_own.new.own c.args.sites.now.entries k (λ n home. c.push_own.ensures.kept n (home ∙ sym p.1)) t
+
+pub returns-clause-lists : goal.returns-clause-lists
+returns-clause-lists g c =
+    let ss = c.args.seats.now.entries in
+    let p = placed ss _ c.args.i c.requires.place in
+    on-ok c.push_own.result c.push_own.ensures.listed
+    (own-lists ss p.0 c.args.i c.index_mut.result.now p.2 c.index_mut.ensures.value c.push_own.new.own c.requires.apart _ p.1 c.args.node)
