@@ -1,28 +1,35 @@
 -- How often servers aim at nodes, as servers come and go.
-use Rattle.std.proofs.Common.{◌≡◌, ◌≢◌, ◌⊎◌, inl, inr, ℕ, zero, suc, ◌+◌, ◌*◌, ◌<◌, ◌≤◌, ◌||◌, Bool, true, false, cond, List, [], ◌∷◌, length, drop, refl, sym, ap, ◌∙◌, arith, add-one}
+use Rattle.std.proofs.Common.{◌≡◌, ◌≢◌, ◌⊎◌, inl, inr, ℕ, zero, suc, ◌+◌, ◌*◌, ◌<◌, ◌≤◌, ◌||◌, Bool, true, false, cond, List, [], ◌∷◌, length, drop, refl, sym, subst, ap, ◌∙◌, arith, add-one}
 use Rattle.std.proofs.lemmas.Bool.Decides.{nat_tests}
 use Rattle.std.proofs.lemmas.Bool.{cases_Bool}
 use Rattle.std.proofs.lemmas.List.{drop_all}
 use Rattle.std.specs.Option.{option_map}
-use Rattle.std.specs.Prelude.{Option, Some, None, is_some, slice_index_or, nat_lt}
+use Rattle.std.specs.Prelude.{Option, Some, None, is_some, slice_get, slice_index_or, nat_lt}
+use Rattle.std.specs.Map.{values_of}
+use Rattle.indexmap.specs.IndexMap.{set_value_at}
 use Rattle.std.specs.FinMap as fin
 use Rattle.std.specs.declared.cmp.Ordering.{Ordering}
 use Rattle.std.specs.declared.cmp.Ordering.TheVariants.{Less, Equal, Greater}
 use Rattle.hurd_creds.specs.declared.name.Name.{Name}
 use Rattle.hurd_creds.specs.Names.{name_cmp, same_name}
-use Rattle.hurd_creds.specs.NameMaps.{NameMap, keyed}
+use Rattle.hurd_creds.specs.NameMaps.{NameMap, keyed, place_by}
 use Rattle.hurd_creds.specs.Weights.{count_list, one_if, weigh_list}
 use Rattle.hurd_creds.specs.Counts.{counted}
+use Rattle.hurd_creds.proofs.KeyedLaws.{keyed-nothing}
 use Rattle.hurd_creds.proofs.NameLaws.{get_apart, get_here, insert_same, name_total, remove_apart, remove_here, same_map_by, same_name-itself, same_or_apart, tied-itself}
 use Rattle.hurd_trans_iface.specs.Nodes.{is_listed}
 use Rattle.hurd_trans_iface.specs.Meaning.{Meaning}
 use Rattle.hurd_nodes.specs.declared.seat.Seat.{Seat}
+use Rattle.hurd_nodes.specs.declared.seat.Site.{Site}
+use Rattle.hurd_nodes.specs.Tables.{AreKept}
 use Rattle.hurd_nodes.specs.Aims.{AreAims, aimed, listings}
-use Rattle.hurd_nodes.specs.Held.{Seated, mean, mean_seat, seated_in, seats_of}
+use Rattle.hurd_nodes.specs.Held.{Seated, mean, mean_seat, seat_key, seat_value, seated_in, seats_of}
 use Rattle.hurd_nodes.specs.Settle.{any_in, is_target}
 use Rattle.hurd_nodes.specs.Shown.{ServerInfo, info_of, servers_of}
 use Rattle.hurd_nodes.proofs.LookLaws.{all-seated}
 use Rattle.hurd_nodes.proofs.PartLaws.{any_in-found, any_in-here, any_in-none, mapped-some, removed-is, same_bool}
+use Rattle.hurd_nodes.proofs.SeatLaws.{seat-changed, seat-found}
+use Rattle.hurd_nodes.proofs.SeatedLaws.{tables-set}
 use Rattle.hurd_nodes.proofs.StayLaws.{info-is}
 
 -- lists of targets
@@ -264,3 +271,28 @@ unfolding aimed
 aims-fit {S} ss es are few ts short n =
     let most = weigh_most (λ (x : Name × Seated S). listings n x.1.targets) 18446744073709551615 (fin.len (seats_of ss)) (seats_of ss) refl (listings_few ss n) in
     omega (arith, most, seats_few ss, are n, listings_most n ts, few, short)
+
+-- where the first server aims at nothing, nothing is counted
+pub aims-first : {S : Type 0} (s : Name) (e : Seated S) → e.targets ≡ [] → AreAims [] (fin.insert (seats_of []) s e)
+unfolding seats_of
+aims-first {S} s e none = subst (λ (m : NameMap (Seated S)). AreAims [] (fin.insert m s e)) (sym (keyed-nothing seat_key seated_in)) (aims-alone s e none)
+
+-- of a server that isn't there nothing goes
+pub aims-absent : {S : Type 0} (seats : NameMap (Seated S)) (s : Name) (es : List (Name × ℕ)) → fin.get seats s ≡ None → AreAims es seats → AreAims es (fin.remove seats s)
+aims-absent {S} seats s es none counts = subst (λ (m : NameMap (Seated S)). AreAims es m) (sym same) counts
+  where
+    same : fin.remove seats s ≡ seats
+    same = same_map_by _ _ (λ q. elim (same_or_apart q s) [
+      | inl here ↦ ap (fin.get (fin.remove seats s)) here ∙ remove_here seats s ∙ sym (ap (fin.get seats) here ∙ none)
+      | inr apart ↦ remove_apart seats s q apart
+    ])
+
+-- with another box in a seat all is kept
+pub kept-set : {S : Type 0} (sites : List (Name × Site)) (ss : List (Name × Seat S)) (es : List (Name × ℕ)) (k : ℕ) (s : Name) (i : ℕ) (x : Seat S) (w : S)
+    → Some i ≡ place_by seat_key s ss → slice_get (values_of ss) i ≡ Some x → AreKept sites ss es k → AreKept sites (set_value_at ss i (record x { server = w })) es k
+kept-set {S} sites ss es k s i x w at read kept =
+    let y : Seat S = record x { server = w } in
+    record {
+      tables = tables-set sites ss k i x w read kept.tables;
+      aims = subst (λ (m : NameMap (Seated S)). AreAims es m) (sym (seat-changed ss s i x at read y)) (aims-kept (seats_of ss) s (seat_value x) es (seat_value y) (seat-found ss s i x at read) refl kept.aims);
+    }

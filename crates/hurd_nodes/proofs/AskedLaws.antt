@@ -213,6 +213,11 @@ pub found-behind : {X : Type 0} (es : List (Name × X)) (n : Name) (o : Option X
 found-behind es n None is = tt
 found-behind es n (Some v) is = lookup-behind es n v (sym is)
 
+pub found-seat : {S : Type 0} (ss : List (Name × Seat S)) (n : Name) (o : Option (Seat S)) → o ≡ lookup (same_name n) ss → IfSome o (λ (v : Seat S). fin.get (seats_of ss) n ≡ Some (seat_value v))
+unfolding seats_of
+found-seat ss n None is = tt
+found-seat ss n (Some v) is = row-got seat_value ss n ∙ ap (option_map seat_value) (sym is)
+
 pub found-none : {X : Type 0} (es : List (Name × X)) (n : Name) → lookup (same_name n) es ≡ None → place_by row_key n es ≡ None
 found-none [] n none = refl
 found-none (e ∷ es) n none = elim (cases_Bool (same_name n e.0)) [

@@ -37,7 +37,7 @@ module _ {S : Type 0} (sites : NameMap Site) (x : Name × Seat S) (q : IsQuiet s
     ]
 
     pub quiet-less : IsQuiet (fin.remove sites n) x
-    quiet-less = record { seat = q.seat; at = q.at; active = less_there q.seat (elsewhere n other) ∙ q.active; alone = less_alone; aimless = q.aimless }
+    quiet-less = record { seat = q.seat; at = q.at; active = less_there q.seat (elsewhere n other) ∙ q.active; alone = less_alone }
 
   -- with a site of another server, on which none is active yet
   module _ (n s : Name) (other : active_in sites n ≢ Some x.0) (apart : s ≢ x.0) where
@@ -55,7 +55,6 @@ module _ {S : Type 0} (sites : NameMap Site) (x : Name × Seat S) (q : IsQuiet s
       at = q.at;
       active = active-apart sites n (new_site s) q.seat (elsewhere n other) ∙ q.active;
       alone = put_alone;
-      aimless = q.aimless;
     }
 
   -- another active on a node, or none
@@ -66,7 +65,6 @@ module _ {S : Type 0} (sites : NameMap Site) (x : Name × Seat S) (q : IsQuiet s
       at = q.at;
       active = active-edited_apart sites n o q.seat (elsewhere n other) ∙ q.active;
       alone = λ m is. q.alone m (sym (home-edited sites n o m) ∙ is);
-      aimless = q.aimless;
     }
 
   -- without another server
@@ -90,7 +88,6 @@ module _ {S : Type 0} (sites : NameMap Site) (x : Name × Seat S) (q : IsQuiet s
       at = q.at;
       active = left_active;
       alone = λ m is. q.alone m (home-was sites s m x.0 is);
-      aimless = q.aimless;
     }
 
 -- a server that comes: no site knows it yet
@@ -124,14 +121,13 @@ module _ (sites : NameMap Site) (s root seat : Name) where
       | inr apart ↦ absurd (homeless n (sym (home-apart sites root (new_site s) n apart) ∙ sym (home-edited with_root seat (Some s) n) ∙ is))
     ]
 
-    -- it is quiet, if the node on which it is active has a site, and it aims at nothing
-    pub quiet-new : {S : Type 0} (e : Seat S) → e.root ≡ root → e.at ≡ Some seat → (r : Site) → fin.get with_root seat ≡ Some r → e.targets.items ≡ [] → IsQuiet then_sites (s, e)
-    quiet-new e root_is at r there aimless = record {
+    -- it is quiet, if the node on which it is active has a site
+    pub quiet-new : {S : Type 0} (e : Seat S) → e.root ≡ root → e.at ≡ Some seat → (r : Site) → fin.get with_root seat ≡ Some r → IsQuiet then_sites (s, e)
+    quiet-new e root_is at r there = record {
       seat = seat;
       at = at;
       active = ap active_by (edit_here with_root seat (with_active (Some s)) ∙ ap (option_map (with_active (Some s))) there);
       alone = λ n is. new-alone n is ∙ sym root_is;
-      aimless = aimless;
     }
 
 -- another server, where this one comes

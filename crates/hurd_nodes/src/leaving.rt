@@ -6,11 +6,12 @@ ghost use Rattle.std.specs.FinMap as fin;
 ghost use Rattle.indexmap.specs.IndexMap.{spare};
 ghost use Rattle.hurd_creds.specs.NameMaps.{place_by};
 ghost use Rattle.hurd_trans_iface.specs.Nodes.{is_listed};
-ghost use Rattle.hurd_nodes.specs.Held.{AreApart, held_of, home_in, row_key, sites_of, seat_key, seats_of};
+ghost use Rattle.hurd_nodes.specs.Held.{AreApart, held_of, home_in, row_key, sites_of, seat_key, seat_value, seats_of};
 ghost use Rattle.hurd_nodes.specs.Quiet.{AreLess, Behind, IsClearing, vacated_at};
-ghost use Rattle.hurd_nodes.specs.Tables.{AreTables};
+ghost use Rattle.hurd_nodes.specs.Tables.{AreKept};
 ghost use Rattle.hurd_nodes.specs.Shown.{less_old, without_server};
 
+use crate::aims::{Aims, subtract_targets};
 use crate::asked::{ask_active, put_last};
 use crate::search::{is_active_on, is_own, place_of_seat, remove_site, set_active};
 use crate::seat::{Seat, Seats, Sites};
@@ -22,18 +23,20 @@ use hurd_trans_iface::Server;
 pub(crate) fn remove_server<S: Drop>(
     sites: &mut Sites,
     seats: &mut Seats<S>,
+    aims: &mut Aims,
     asked: usize,
     server: ServerName,
 ) -> usize
-    requires { AreTables sites.old.entries seats.old.entries asked }
+    requires { AreKept sites.old.entries seats.old.entries aims.old.entries asked }
     ensures is { held_of sites.new.entries seats.new.entries ≡ without_server (held_of sites.old.entries seats.old.entries) server }
-    ensures tables { AreTables sites.new.entries seats.new.entries result }
-    ensures room { (spare sites.old ≤ spare sites.new) × (spare seats.old ≤ spare seats.new) }
+    ensures kept { AreKept sites.new.entries seats.new.entries aims.new.entries result }
+    ensures room { (spare sites.old ≤ spare sites.new) × (spare seats.old ≤ spare seats.new) × (spare aims.old ≤ spare aims.new) }
 {
     let asked = put_last(seats, asked, server);
     let Some(seat) = take_seat(seats, server) else {
         return asked;
     };
+    subtract_targets(aims, &seat.targets);
     let asked = clear_sites(sites, seats, asked, server, seat.root, &seat.own);
     vacate_at(sites, server, seat.at);
     asked
@@ -47,6 +50,7 @@ fn take_seat<S>(seats: &mut Seats<S>, name: ServerName) -> Option<Seat<S>>
     ensures apart { AreApart seat_key seats.new.entries }
     ensures less { (k : ℕ) → AreLess name k seats.old.entries k seats.new.entries }
     ensures taken { IfSome result (λ seat. Behind 0 seats.old.entries (name, seat)) }
+    ensures found { IfSome result (λ seat. fin.get (seats_of seats.old.entries) name ≡ Some (seat_value seat)) }
     ensures none { result ≡ None → place_by seat_key name seats.old.entries ≡ None }
     ensures room { spare seats.old ≤ spare seats.new }
 {
@@ -118,7 +122,7 @@ fn vacate_at(sites: &mut Sites, server: ServerName, at: Option<NodeName>)
 #[tactic(auto, using(crate::proofs::SeatedLaws::seated))]
 fn tell_away<S: Server>(seats: &mut Seats<S>, server: ServerName)
     ensures others { fin.remove (seats_of seats.new.entries) server ≡ fin.remove (seats_of seats.old.entries) server }
-    ensures tables { (sites : _) (k : ℕ) → AreTables sites seats.old.entries k → AreTables sites seats.new.entries k }
+    ensures kept { (sites es : _) (k : ℕ) → AreKept sites seats.old.entries es k → AreKept sites seats.new.entries es k }
     ensures room { spare seats.old ≤ spare seats.new }
 {
     if let Some(i) = place_of_seat(seats, server) {
@@ -130,32 +134,34 @@ fn tell_away<S: Server>(seats: &mut Seats<S>, server: ServerName)
 pub(crate) fn send_away<S: Server>(
     sites: &mut Sites,
     seats: &mut Seats<S>,
+    aims: &mut Aims,
     asked: usize,
     server: ServerName,
 ) -> usize
-    requires { AreTables sites.old.entries seats.old.entries asked }
+    requires { AreKept sites.old.entries seats.old.entries aims.old.entries asked }
     ensures is { held_of sites.new.entries seats.new.entries ≡ without_server (held_of sites.old.entries seats.old.entries) server }
-    ensures tables { AreTables sites.new.entries seats.new.entries result }
-    ensures room { (spare sites.old ≤ spare sites.new) × (spare seats.old ≤ spare seats.new) }
+    ensures kept { AreKept sites.new.entries seats.new.entries aims.new.entries result }
+    ensures room { (spare sites.old ≤ spare sites.new) × (spare seats.old ≤ spare seats.new) × (spare aims.old ≤ spare aims.new) }
 {
     tell_away(seats, server);
-    remove_server(sites, seats, asked, server)
+    remove_server(sites, seats, aims, asked, server)
 }
 
 /// Sends the server away that leaves, if one does.
 pub(crate) fn remove_old<S: Server>(
     sites: &mut Sites,
     seats: &mut Seats<S>,
+    aims: &mut Aims,
     asked: usize,
     old: Option<ServerName>,
 ) -> usize
-    requires { AreTables sites.old.entries seats.old.entries asked }
+    requires { AreKept sites.old.entries seats.old.entries aims.old.entries asked }
     ensures is { held_of sites.new.entries seats.new.entries ≡ less_old (held_of sites.old.entries seats.old.entries) old }
-    ensures tables { AreTables sites.new.entries seats.new.entries result }
-    ensures room { (spare sites.old ≤ spare sites.new) × (spare seats.old ≤ spare seats.new) }
+    ensures kept { AreKept sites.new.entries seats.new.entries aims.new.entries result }
+    ensures room { (spare sites.old ≤ spare sites.new) × (spare seats.old ≤ spare seats.new) × (spare aims.old ≤ spare aims.new) }
 {
     match old {
-        Some(server) => send_away(sites, seats, asked, server),
+        Some(server) => send_away(sites, seats, aims, asked, server),
         None => asked,
     }
 }

@@ -12,6 +12,7 @@ ghost use Rattle.hurd_nodes.specs.Needs.{counts_by};
 ghost use Rattle.hurd_nodes.specs.Settle.{AreServed};
 ghost use Rattle.hurd_nodes.specs.Held.{active_in, box_by, home_in, mean};
 
+use crate::aims::Aims;
 use crate::asking::{has_tree, told_text};
 use crate::search::{home_of, place_of_seat, place_of_server, put_seat, put_site};
 use crate::seat::{Seat, Seats, Sites};
@@ -32,13 +33,15 @@ pub const BOOT_NAME: Name = Name {
 pub struct Nodes<S = Box<dyn Server>> {
     pub(crate) sites: Sites,
     pub(crate) seats: Seats<S>,
+    /// How often each node is a target.
+    pub(crate) aims: Aims,
     /// How many servers are asked whether they stay: the first of the seats. Each of the others is quiet.
     pub(crate) asked: usize,
 }
 
 impl<S> Model for Nodes<S> {
     ghost use Rattle.hurd_nodes.specs.Held.{Held, coded_held, held_of};
-    ghost use Rattle.hurd_nodes.specs.Tables.{AreTables};
+    ghost use Rattle.hurd_nodes.specs.Tables.{AreKept};
 
     ghost Value = { Held S };
 
@@ -46,7 +49,7 @@ impl<S> Model for Nodes<S> {
 
     ghost view = { λ n. held_of n.sites.entries n.seats.entries };
 
-    ghost invariant = { λ n. AreTables n.sites.entries n.seats.entries n.asked };
+    ghost invariant = { λ n. AreKept n.sites.entries n.seats.entries n.aims.entries n.asked };
 }
 
 impl<S: Server> Nodes<S> {
@@ -88,6 +91,7 @@ impl<S: Server> Nodes<S> {
         Ok(Nodes {
             sites,
             seats,
+            aims: Aims::new(alloc),
             asked,
         })
     }

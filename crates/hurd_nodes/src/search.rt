@@ -1,9 +1,7 @@
 //! Sites and seats by name.
-ghost use Rattle.std.specs.Prelude.{◌≡◌, ◌<◌, ◌≤◌, ◌⊎◌, ℕ, [], take, true, false, is_some, length, Some, None, option_and_then, IfOk, IfSome};
-ghost use Rattle.std.specs.List.{list_any};
+ghost use Rattle.std.specs.Prelude.{◌≡◌, ◌<◌, ◌≤◌, ◌⊎◌, ℕ, is_some, length, Some, None, option_and_then, IfOk, IfSome};
 ghost use Rattle.std.specs.FinMap as fin;
 ghost use Rattle.indexmap.specs.IndexMap.{spare};
-ghost use Rattle.hurd_trans_iface.specs.Nodes.{is_listed};
 ghost use Rattle.hurd_creds.specs.NameMaps.{edit, place_by};
 ghost use Rattle.hurd_nodes.specs.Held.{AreApart, active_in, home_in, is_home, new_site, place_in, row_key, sites_of, seat_key, seat_value, seats_of};
 ghost use Rattle.hurd_nodes.specs.Quiet.{Behind, IsUnknown, Lists};
@@ -11,6 +9,7 @@ ghost use Rattle.hurd_nodes.specs.Tables.{AreTables};
 ghost use Rattle.hurd_nodes.specs.Shown.{with_active, with_home};
 ghost use Rattle.hurd_nodes.specs.Settle.{any_in};
 
+use crate::aims::Aims;
 use crate::asked::{active_on, ask, ask_active};
 use crate::seat::{Seat, Seats, Site, Sites};
 use hurd_creds::{NodeName, ServerName};
@@ -137,26 +136,32 @@ pub(crate) fn seat_new<S: Drop>(
     ensures seats { seats_of seats.new.entries ≡ fin.insert (seats_of seats.old.entries) name (seat_value seat) }
     ensures tables { AreTables sites.new.entries seats.new.entries result }
 {
-    let quiet = are_none(&seat.targets);
     let first = ask_active(sites, seats, asked, seat.root);
     put_site(sites, seat.root, name);
     let then = ask_active(sites, seats, first, node);
     let seated = set_active(sites, node, Some(name));
     put_seat(seats, name, seat);
-    if quiet && seated {
+    if seated {
         return then;
     }
     ask(seats, then, name)
 }
 
-/// Takes room for one more in each table. `ENOMEM`: what stands there is as it was.
-pub(crate) fn reserve_rows<S>(sites: &mut Sites, seats: &mut Seats<S>) -> Result<(), AllocError>
+/// Takes room for one more server, which has so many targets. `ENOMEM`: what stands in the tables is as it was.
+pub(crate) fn reserve_rows<S>(
+    sites: &mut Sites,
+    seats: &mut Seats<S>,
+    aims: &mut Aims,
+    targets: usize,
+) -> Result<(), AllocError>
     ensures sites { sites.new.entries ≡ sites.old.entries }
     ensures seats { seats.new.entries ≡ seats.old.entries }
-    ensures room { IfOk result (λ u. (0 < spare sites.new) × (0 < spare seats.new)) }
+    ensures aims { aims.new.entries ≡ aims.old.entries }
+    ensures room { IfOk result (λ u. (0 < spare sites.new) × (0 < spare seats.new) × (targets ≤ spare aims.new)) }
 {
     sites.reserve(1)?;
-    seats.reserve(1)
+    seats.reserve(1)?;
+    aims.reserve(targets)
 }
 
 /// Whether a server is active on this node, if one is given.
@@ -170,36 +175,6 @@ pub(crate) fn is_active_on(sites: &Sites, server: ServerName, node: Option<NodeN
         Some(active) => server == active,
         None => false,
     }
-}
-
-/// Whether a node is a target of one of the first of these servers.
-#[tactic(auto, using(crate::proofs::HomeLaws::scans, crate::proofs::LookLaws::fronts))]
-pub(crate) fn is_target<S>(seats: &Seats<S>, asked: usize, node: NodeName) -> bool
-    ensures found { result ≡ true → list_any (λ x. is_listed node x.1.targets.items) seats.now.entries ≡ true }
-    ensures none { result ≡ false → list_any (λ x. is_listed node x.1.targets.items) (take asked seats.now.entries) ≡ false }
-{
-    for i in 0..asked {
-        if let Some((_, seat)) = seats.get_index(i) {
-            if is_among(&seat.targets, node) {
-                return true;
-            }
-        }
-    }
-    false
-}
-
-/// Whether there are none.
-fn are_none(nodes: &[NodeName]) -> bool
-    ensures { result ≡ true → nodes.now ≡ [] }
-{
-    nodes.is_empty()
-}
-
-/// Whether a node is one of these.
-fn is_among(nodes: &[NodeName], node: NodeName) -> bool
-    ensures { result ≡ is_listed node nodes.now }
-{
-    nodes.iter().any(|name| node == *name)
 }
 
 /// Whether a node is of this server.
