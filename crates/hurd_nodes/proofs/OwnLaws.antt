@@ -1,5 +1,5 @@
 -- The list that a seat keeps of its server's nodes.
-use Rattle.std.proofs.Common.{◌≡◌, ◌⊎◌, inl, inr, ℕ, zero, suc, Bool, true, false, ◌||◌, ◌&&◌, List, [], ◌∷◌, ◌++◌, length, filter, refl, sym, subst, ap, ap₂, ◌∙◌, true≢false, arith}
+use Rattle.std.proofs.Common.{◌≡◌, inl, inr, ℕ, zero, suc, Bool, true, false, ◌||◌, ◌&&◌, List, [], ◌∷◌, length, filter, refl, sym, subst, ap, ◌∙◌, true≢false, arith}
 use Rattle.std.proofs.lemmas.Bool.{and_from, and_parts, cases_Bool, or_cases, or_from, or_left, or_right}
 use Rattle.std.specs.Prelude.{Option, Some, None, Result, Ok, Err, OnOk, option_and_then, slice_get}
 use Rattle.std.specs.Global.{Vec}
@@ -16,7 +16,7 @@ use Rattle.hurd_trans_iface.specs.Nodes.{is_listed}
 use Rattle.hurd_nodes.specs.declared.seat.Seat.{Seat}
 use Rattle.hurd_nodes.specs.declared.seat.Site.{Site}
 use Rattle.hurd_nodes.specs.Held.{AreApart, active_in, home_in, is_home, seat_key, seat_value, sites_of, seats_of}
-use Rattle.hurd_nodes.specs.Quiet.{Behind, IsTold, Lists}
+use Rattle.hurd_nodes.specs.Quiet.{IsTold, Lists}
 use Rattle.hurd_nodes.specs.Tables.{AreTables}
 use Rattle.hurd_nodes.specs.Settle.{any_in}
 use Rattle.hurd_nodes.proofs.GoneLaws.{no-site, not-active, own_home}
@@ -25,18 +25,6 @@ use Rattle.hurd_nodes.proofs.SeatLaws.{seat-changed, seat-found}
 use Rattle.hurd_nodes.proofs.SeatedLaws.{tables-put, value_got}
 use Rattle.hurd_nodes.proofs.PartLaws.{any-more, any_in-found, any_in-here, same_bool}
 use Rattle.hurd_nodes.proofs.Sites.{active_by, home_by, seat-site, site-of}
-
--- what is pushed is listed, and what was listed stays so
-pub listed-last : (n : Name) (ns : List Name) → is_listed n (ns ++ n ∷ []) ≡ true
-listed-last n [] = rw (same_name-itself n) refl
-listed-last n (m ∷ ns) = or_right (same_name n m) _ (listed-last n ns)
-
-pub listed-pushed : (n m : Name) (ns : List Name) → is_listed n ns ≡ true → is_listed n (ns ++ m ∷ []) ≡ true
-listed-pushed n m [] on = absurd (true≢false (sym on))
-listed-pushed n m (q ∷ ns) on = elim (or_cases (same_name n q) (is_listed n ns) on) [
-  | inl here ↦ or_left (same_name n q) _ here
-  | inr later ↦ or_right (same_name n q) _ (listed-pushed n m ns later)
-]
 
 -- what passes stays on the list
 pub listed-kept : (p : Name → Bool) (n : Name) (ns : List Name) → p n ≡ true → is_listed n ns ≡ true → is_listed n (filter p ns) ≡ true

@@ -1,22 +1,17 @@
 -- A server that is quiet stays so where sites change that are not its own, and it is not active on.
-use Rattle.std.proofs.Common.{arith, ◌≡◌, ◌≢◌, inl, inr, suc, Bool, true, false, if◌then◌else◌, List, [], ◌∷◌, refl, sym, ap, ◌∙◌}
+use Rattle.std.proofs.Common.{◌≡◌, ◌≢◌, inl, inr, true, refl, sym, ap, ◌∙◌}
 use Rattle.std.specs.Prelude.{Option, Some, None, not}
 use Rattle.std.specs.Option.{option_map}
 use Rattle.std.specs.FinMap as fin
 use Rattle.hurd_creds.specs.declared.name.Name.{Name}
 use Rattle.hurd_creds.specs.NameMaps.{NameMap, edit}
-use Rattle.hurd_creds.proofs.NameLaws.{same_or_apart, same_name-apart, edit_here, remove_here, remove_apart}
+use Rattle.hurd_creds.proofs.NameLaws.{same_or_apart, same_name-apart, edit_here, remove_apart}
 use Rattle.hurd_nodes.specs.declared.seat.Seat.{Seat}
 use Rattle.hurd_nodes.specs.declared.seat.Site.{Site}
-use Rattle.hurd_nodes.specs.Held.{active_in, home_in, is_home, new_site, row_key, row_value, sites_of}
+use Rattle.hurd_nodes.specs.Held.{active_in, home_in, is_home, new_site}
 use Rattle.hurd_nodes.specs.Shown.{is_other, with_active, without_sites}
 use Rattle.hurd_nodes.specs.Quiet.{IsQuiet, IsUnknown}
-use Rattle.hurd_nodes.proofs.AnyLaws.{get-first, get-rest}
-use Rattle.hurd_creds.proofs.KeyedLaws.{get-keyed}
-use Rattle.std.proofs.lemmas.Option.{same_Some}
-use Rattle.std.specs.List.{All}
-use Rattle.hurd_nodes.proofs.Sites.{active-apart, active-edited_apart, active-here, active-left, active_by, home-apart, home-edited, home-here, home-less, home-less_apart, home-was, less_active, site-of}
-use Rattle.hurd_nodes.proofs.PartLaws.{cond_some}
+use Rattle.hurd_nodes.proofs.Sites.{active-apart, active-edited_apart, active-here, active-left, active_by, home-apart, home-edited, home-here, home-less, home-less_apart, home-was}
 
 module _ {S : Type 0} (sites : NameMap Site) (x : Name × Seat S) (q : IsQuiet sites x) where
   -- it isn't active on a node on which another is, or none
