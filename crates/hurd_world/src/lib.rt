@@ -8,12 +8,10 @@
 #![tactic(auto)]
 
 mod boot;
-mod boxed;
 mod replies;
 mod world;
 
 pub use boot::first_counted;
-pub use boxed::run_boxed;
 pub use hurd_laws::{
     changes_touched, confined, confined_run, counted_run, gone_unseen, integrity, integrity_run,
     isolated, isolated_by_view, never_wants_memory, others_unseen, own_from_view, quiet_unmoved,
