@@ -16,7 +16,7 @@ use hurd_world::{Reply, World};
 use std::alloc::{AllocError, Global};
 
 /// Whether a reply is want of memory.
-fn lacks_memory<S>(reply: &Reply<S>) -> bool
+pub fn lacks_memory<S>(reply: &Reply<S>) -> bool
     ensures { result ≡ lacks_memory reply.now }
 {
     matches!(
