@@ -4,6 +4,7 @@ ghost use Rattle.std.specs.Option.{option_map};
 ghost use Rattle.hurd_lists.specs.Calls.{begun};
 ghost use Rattle.hurd_tmpfs.specs.Tree.{new_tmpfs};
 
+use crate::at_once::make_at_once;
 use crate::boxes::Boxes;
 use crate::counted::Counted;
 use hurd_calls::{begun, brought, complaint_of, parsed, part};
@@ -17,7 +18,7 @@ use std::alloc::Global;
 use std::io::{Read, Write};
 
 /// The server that a call brings, followed from now on, if it brings one. `Memory`.
-fn followed<S: Server>(
+pub fn followed<S: Server>(
     alloc: Global,
     boxes: &mut Boxes,
     server: Option<S>,
@@ -81,28 +82,46 @@ fn make_all<W: Write>(
     Ok(())
 }
 
-/// Makes the calls of a list over an empty tree in memory, and says behind each what became of boxes.
+/// How the calls of a list are made.
+#[derive(Clone, Copy)]
+pub enum Manner {
+    /// One after another, by `World::call`.
+    InTurn,
+    /// All at once, by `World::run`.
+    AtOnce,
+}
+
+/// Makes the calls of a list over an empty tree in memory, and says what became of boxes: behind each call, or behind all where they are made at once.
 ///
 /// `Bad`, `Boot`, `Write`, `Memory`.
 #[tactic(auto, unfolding(hurd_kinds::specs::Boxes::box_meaning))]
 fn answer<W: Write>(
     alloc: Global,
     text: &[u8],
+    manner: Manner,
     boxes: &mut Boxes,
     output: &mut Output<W>,
 ) -> Result<(), Fault> {
     let CallList { tasks, calls } = parsed(alloc, text)?;
     let root = ServerBox::Tmpfs(empty_tree(alloc)?);
     let mut world = boot(alloc, boxes, root, tasks)?;
-    make_all(&mut world, alloc, boxes, calls, output)
+    match manner {
+        Manner::InTurn => make_all(&mut world, alloc, boxes, calls, output),
+        Manner::AtOnce => make_at_once(&mut world, alloc, boxes, calls, output),
+    }
 }
 
-/// Makes the calls of a list, and says what became of boxes behind each, and in the end, when the world is dropped.
+/// Makes the calls of a list, and says what became of boxes, also in the end, when the world is dropped.
 ///
 /// `Bad` with its first bad line, `Boot` with the world's refusal, `Write`, `Memory`.
-fn run_text<W: Write>(alloc: Global, text: &[u8], output: &mut Output<W>) -> Result<(), Fault> {
+fn run_text<W: Write>(
+    alloc: Global,
+    text: &[u8],
+    manner: Manner,
+    output: &mut Output<W>,
+) -> Result<(), Fault> {
     let mut boxes = Boxes::new(alloc);
-    answer(alloc, text, &mut boxes, output)?;
+    answer(alloc, text, manner, &mut boxes, output)?;
     output.print(b"the world is dropped\n")?;
     boxes.tell(alloc, output)
 }
@@ -125,10 +144,11 @@ fn blame<E: Write>(alloc: Global, text: &[u8], line: u64, errors: &mut Output<E>
 fn run<W: Write, E: Write>(
     alloc: Global,
     text: &[u8],
+    manner: Manner,
     output: &mut Output<W>,
     errors: &mut Output<E>,
 ) -> u8 {
-    match run_text(alloc, text, output) {
+    match run_text(alloc, text, manner, output) {
         Err(Fault::Bad { line }) => blame(alloc, text, line, errors),
         ended => finish(ended, b"standard input", b"", b"", errors),
     }
@@ -137,12 +157,13 @@ fn run<W: Write, E: Write>(
 /// The whole program: reads a list, runs it, and says of a fault why; answers the exit status.
 pub fn program<R: Read, W: Write, E: Write>(
     alloc: Global,
+    manner: Manner,
     input: &mut Input<R>,
     output: &mut Output<W>,
     errors: &mut Output<E>,
 ) -> u8 {
     match read_text(alloc, input) {
-        Ok(text) => run(alloc, text.as_slice(), output, errors),
+        Ok(text) => run(alloc, text.as_slice(), manner, output, errors),
         Err(fault) => finish(Err(fault), b"standard input", b"", b"", errors),
     }
 }

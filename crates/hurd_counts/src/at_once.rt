@@ -1,0 +1,114 @@
+//! A list whose calls are made at once, by `World::run`.
+ghost use Rattle.std.specs.Prelude.{◌≡◌, IfOk, OnOk};
+ghost use Rattle.std.specs.Option.{option_map};
+ghost use Rattle.hurd_kinds.specs.Boxes.{box_meaning};
+ghost use Rattle.hurd_lists.specs.Calls.{begun};
+ghost use Rattle.hurd_world.specs.Held.{AllBegun};
+
+use crate::boxes::Boxes;
+use crate::counted::Counted;
+use crate::run::followed;
+use hurd_calls::{brought, lacks_memory};
+use hurd_creds::{Bytes, TaskId};
+use hurd_kinds::ServerBox;
+use hurd_lists::{ListedCall, told, with_server};
+use hurd_terminal::{Fault, Output};
+use hurd_trans_iface::Server;
+use hurd_world::{Call, Reply, World};
+use std::alloc::Global;
+use std::io::Write;
+
+/// Calls with the servers that they bring, and the lines that they stand on.
+#[derive(Drop)]
+struct Ready<S> {
+    calls: Vec<(TaskId, Call<S>)>,
+    lines: Vec<Bytes>,
+}
+
+/// One call more, with the server that its words make, followed from now on. `Memory`.
+fn add<S: Server>(
+    alloc: Global,
+    boxes: &mut Boxes,
+    ready: &mut Ready<Counted<S>>,
+    listed: ListedCall<Counted<S>>,
+    server: Option<S>,
+) -> Result<(), Fault>
+    requires made { begun listed.server ≡ option_map S.meaning server }
+    requires before { AllBegun (λ (c : Counted S). S.meaning c.server) ready.old.calls.items }
+    ensures { OnOk result (AllBegun (λ (c : Counted S). S.meaning c.server) ready.new.calls.items) }
+{
+    let server = followed(alloc, boxes, server)?;
+    let call = with_server(listed.call, server);
+    ready.lines.push(listed.line)?;
+    ready.calls.push((listed.task, call))?;
+    Ok(())
+}
+
+/// The calls of a list, with the servers that they bring. `Memory`.
+fn all_ready(
+    alloc: Global,
+    boxes: &mut Boxes,
+    calls: Vec<ListedCall<Counted<ServerBox>>>,
+) -> Result<Ready<Counted<ServerBox>>, Fault>
+    ensures { IfOk result (λ ready. AllBegun (λ (c : Counted ServerBox). box_meaning c.server) ready.calls.items) }
+{
+    let mut ready = Ready {
+        calls: Vec::new(alloc),
+        lines: Vec::new(alloc),
+    };
+    for listed in calls {
+        let server = brought(alloc, &listed.server)?;
+        add(alloc, boxes, &mut ready, listed, server)?;
+    }
+    Ok(ready)
+}
+
+/// Prints a call and its reply. `Write`, `Memory`, also where the reply is want of memory.
+fn tell<S: Server, W: Write>(
+    alloc: Global,
+    line: &Bytes,
+    reply: &Reply<S>,
+    output: &mut Output<W>,
+) -> Result<(), Fault> {
+    if lacks_memory(reply) {
+        return Err(Fault::Memory);
+    }
+    let part = told(alloc, line.as_slice(), reply)?;
+    output.print(part.as_slice())
+}
+
+/// Prints calls and their replies.
+///
+/// Faults as of `tell`.
+fn tell_all<S: Server, W: Write>(
+    alloc: Global,
+    lines: &[Bytes],
+    replies: &[Reply<S>],
+    output: &mut Output<W>,
+) -> Result<(), Fault> {
+    for i in 0..lines.len() {
+        if let Some(reply) = replies.get(i) {
+            tell(alloc, &lines[i], reply, output)?;
+        }
+    }
+    Ok(())
+}
+
+/// Makes all calls of a list at once, each with the server that it brings, and prints them with their replies; behind these, what became of boxes.
+///
+/// Faults as of `tell`.
+pub fn make_at_once<W: Write>(
+    world: &mut World<Counted<ServerBox>>,
+    alloc: Global,
+    boxes: &mut Boxes,
+    calls: Vec<ListedCall<Counted<ServerBox>>>,
+    output: &mut Output<W>,
+) -> Result<(), Fault> {
+    let Ready { calls, lines } = all_ready(alloc, boxes, calls)?;
+    let Ok(replies) = world.run(alloc, calls) else {
+        return Err(Fault::Memory);
+    };
+    tell_all(alloc, &lines, &replies, output)?;
+    drop(replies);
+    boxes.tell(alloc, output)
+}
