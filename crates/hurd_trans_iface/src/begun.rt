@@ -1,8 +1,10 @@
-//! Which words make a server.
+//! Which words make a server, and what they say to it.
 ghost use Rattle.std.specs.List.{list_all};
-ghost use Rattle.std.specs.Prelude.{◌≡◌, ◌∷◌, [], ℕ, List, Some, Ok, codes, is_some};
+ghost use Rattle.std.specs.Option.{option_map};
+ghost use Rattle.std.specs.Prelude.{◌≡◌, ◌∷◌, ℕ, List, Some, Ok, codes, is_some};
+ghost use Rattle.hurd_trans_iface.specs.Begun.{server_of};
 ghost use Rattle.hurd_trans_iface.specs.HelloKind.{behind, hello_text};
-ghost use Rattle.hurd_trans_iface.specs.Meaning.{Meaning, ServerKind, Tmpfs, Hello, Null, Zero, Symlink, Firmlink, Union, Magic, Drip, Fifo, behaviour_of, begin, begin_among, begin_as, new_server, options_of};
+ghost use Rattle.hurd_trans_iface.specs.Meaning.{Meaning, ServerKind, Hello, Symlink, Firmlink, Union, Magic, Drip, behaviour_of, begin, new_server, options_of};
 ghost use Rattle.hurd_trans_iface.specs.SymlinkKind.{target_text};
 ghost use Rattle.hurd_trans_iface.specs.FirmlinkKind.{firm_text, is_firm};
 ghost use Rattle.hurd_trans_iface.specs.UnionKind.{union_text};
@@ -22,88 +24,68 @@ const MOST_DROPS: u64 = 1000;
 /// The most digits that say how many those are.
 const MOST_DROP_DIGITS: usize = 4;
 
-/// Whether there are no words behind a program's name.
-fn says_nothing(arguments: &[Bytes]) -> bool
-    ensures { result ≡ is_some (no_text arguments.now) }
-{
-    arguments.is_empty()
+/// The kind of server that some words make, with what they say to it, lent.
+#[derive(Clone, Copy, Debug)]
+pub enum Begun<'a> {
+    /// A tree in memory: `/hurd/tmpfs` alone.
+    Tmpfs,
+    /// A file that gives this text: `/hurd/hello`, alone or with one word `--contents=` and the text behind it.
+    Hello(&'a [u8]),
+    /// A stream without bytes: `/hurd/null` alone.
+    Null,
+    /// A stream of zero bytes: `/hurd/zero` alone.
+    Zero,
+    /// A link to this path of 1 to 1,024 bytes: `/hurd/symlink` and the path.
+    Symlink(&'a [u8]),
+    /// A firm link to this path from the root of the tree, of at most 1,024 bytes: `/hurd/firmlink` and the path.
+    Firmlink(&'a [u8]),
+    /// A union of the directories of 1 to 16 such paths: `/hurd/union` and the paths.
+    Union(&'a [Bytes]),
+    /// A magical link: `/hurd/magic` and `fd`.
+    Magic,
+    /// A drip of as many bytes as these digits say, 0 to 1,000: `/hurd/drip` and the digits.
+    Drip(&'a [u8]),
+    /// A pipe: `/hurd/fifo` alone.
+    Fifo,
 }
 
-/// Whether these words make a tree in memory: `/hurd/tmpfs` alone.
-fn makes_tmpfs(words: &[Bytes]) -> bool
-    ensures { result ≡ is_some (begin_as Tmpfs words.now) }
-{
-    match words {
-        [program, arguments @ ..] => program.is(b"/hurd/tmpfs") && says_nothing(arguments),
-        [] => false,
-    }
-}
-
-/// Whether these words make a stream without bytes: `/hurd/null` alone.
-fn makes_null(words: &[Bytes]) -> bool
-    ensures { result ≡ is_some (begin_as Null words.now) }
-{
-    match words {
-        [program, arguments @ ..] => program.is(b"/hurd/null") && says_nothing(arguments),
-        [] => false,
-    }
-}
-
-/// Whether these words make a stream of zero bytes: `/hurd/zero` alone.
-fn makes_zero(words: &[Bytes]) -> bool
-    ensures { result ≡ is_some (begin_as Zero words.now) }
-{
-    match words {
-        [program, arguments @ ..] => program.is(b"/hurd/zero") && says_nothing(arguments),
-        [] => false,
-    }
-}
-
-/// Whether a word begins with `--contents=`.
-fn has_contents(word: &[u8]) -> bool
-    ensures { result ≡ is_some (behind (codes "--contents=") word.now) }
-{
-    word.starts_with(b"--contents=")
-}
-
-/// Whether the words behind `/hurd/hello` make a file: none, or one `--contents=` with a text behind it.
-fn says_contents(arguments: &[Bytes]) -> bool
-    ensures { result ≡ is_some (hello_text arguments.now) }
+/// What the words behind a program's name say to a kind that wants none.
+fn alone<'a>(kind: Begun<'a>, arguments: &[Bytes]) -> Option<Begun<'a>>
+    ensures { option_map server_of result ≡ option_map (λ _. server_of kind.entry) (no_text arguments.now) }
 {
     match arguments {
-        [] => true,
-        [word] => has_contents(word.as_slice()),
-        _ => false,
+        [] => Some(kind),
+        _ => None,
     }
 }
 
-/// Whether these words make a file that gives a text.
-fn makes_hello(words: &[Bytes]) -> bool
-    ensures { result ≡ is_some (begin_as Hello words.now) }
+/// What stands behind `--contents=` in a word, if it begins so.
+pub fn contents_in(word: &[u8]) -> Option<&[u8]>
+    ensures { option_map (λ text. text.now) result ≡ behind (codes "--contents=") word.now }
 {
-    match words {
-        [program, arguments @ ..] => program.is(b"/hurd/hello") && says_contents(arguments),
-        [] => false,
-    }
+    word.strip_prefix(b"--contents=".as_slice())
 }
 
-/// Whether the words behind `/hurd/symlink` make a link: one path of 1 to 1,024 bytes.
-fn says_path(arguments: &[Bytes]) -> bool
-    ensures { result ≡ is_some (target_text arguments.now) }
+/// What the words behind `/hurd/hello` say: nothing, or one `--contents=` with a text behind it.
+fn hello(arguments: &[Bytes]) -> Option<Begun<'_>>
+    ensures { option_map server_of result ≡ option_map (new_server Hello) (hello_text arguments.now) }
 {
     match arguments {
-        [path] => !path.is_empty() && path.len() <= MOST_PATH,
-        _ => false,
+        [] => Some(Begun::Hello(b"Hello, world!\n".as_slice())),
+        [word] => Some(Begun::Hello(contents_in(word.as_slice())?)),
+        _ => None,
     }
 }
 
-/// Whether these words make a link.
-fn makes_symlink(words: &[Bytes]) -> bool
-    ensures { result ≡ is_some (begin_as Symlink words.now) }
+/// What the words behind `/hurd/symlink` say: one path of 1 to 1,024 bytes.
+fn symlink(arguments: &[Bytes]) -> Option<Begun<'_>>
+    ensures { option_map server_of result ≡ option_map (new_server Symlink) (target_text arguments.now) }
 {
-    match words {
-        [program, arguments @ ..] => program.is(b"/hurd/symlink") && says_path(arguments),
-        [] => false,
+    match arguments {
+        [path] if !path.is_empty() && path.len() <= MOST_PATH => {
+            Some(Begun::Symlink(path.as_slice()))
+        }
+        _ => None,
     }
 }
 
@@ -114,23 +96,13 @@ pub fn is_firm(path: &Bytes) -> bool
     path.as_slice().first() == Some(&b'/') && path.len() <= MOST_PATH
 }
 
-/// Whether the words behind `/hurd/firmlink` make a firm link: one path from the root of the tree.
-fn says_target(arguments: &[Bytes]) -> bool
-    ensures { result ≡ is_some (firm_text arguments.now) }
+/// What the words behind `/hurd/firmlink` say: one path from the root of the tree.
+fn firmlink(arguments: &[Bytes]) -> Option<Begun<'_>>
+    ensures { option_map server_of result ≡ option_map (new_server Firmlink) (firm_text arguments.now) }
 {
     match arguments {
-        [path] => is_firm(path),
-        _ => false,
-    }
-}
-
-/// Whether these words make a firm link.
-fn makes_firmlink(words: &[Bytes]) -> bool
-    ensures { result ≡ is_some (begin_as Firmlink words.now) }
-{
-    match words {
-        [program, arguments @ ..] => program.is(b"/hurd/firmlink") && says_target(arguments),
-        [] => false,
+        [path] if is_firm(path) => Some(Begun::Firmlink(path.as_slice())),
+        _ => None,
     }
 }
 
@@ -151,33 +123,23 @@ pub fn says_targets(arguments: &[Bytes]) -> bool
     }
 }
 
-/// Whether these words make a union.
-fn makes_union(words: &[Bytes]) -> bool
-    ensures { result ≡ is_some (begin_as Union words.now) }
+/// What the words behind `/hurd/union` say: 1 to 16 such paths.
+fn union(arguments: &[Bytes]) -> Option<Begun<'_>>
+    ensures { option_map server_of result ≡ option_map (new_server Union) (union_text arguments.now) }
 {
-    match words {
-        [program, arguments @ ..] => program.is(b"/hurd/union") && says_targets(arguments),
-        [] => false,
+    if !says_targets(arguments) {
+        return None;
     }
+    Some(Begun::Union(arguments))
 }
 
-/// Whether the words behind `/hurd/magic` make a magical link: `fd` alone.
-fn says_magic(arguments: &[Bytes]) -> bool
-    ensures { result ≡ is_some (magic_text arguments.now) }
+/// What the words behind `/hurd/magic` say: `fd` alone.
+fn magic(arguments: &[Bytes]) -> Option<Begun<'_>>
+    ensures { option_map server_of result ≡ option_map (new_server Magic) (magic_text arguments.now) }
 {
     match arguments {
-        [what] => what.is(b"fd"),
-        _ => false,
-    }
-}
-
-/// Whether these words make a magical link.
-fn makes_magic(words: &[Bytes]) -> bool
-    ensures { result ≡ is_some (begin_as Magic words.now) }
-{
-    match words {
-        [program, arguments @ ..] => program.is(b"/hurd/magic") && says_magic(arguments),
-        [] => false,
+        [what] if what.is(b"fd") => Some(Begun::Magic),
+        _ => None,
     }
 }
 
@@ -203,63 +165,60 @@ pub fn says_drops(digits: &[u8]) -> bool
         }
 }
 
-/// Whether the words behind `/hurd/drip` make a drip: one that says how many bytes it has.
-fn says_count(arguments: &[Bytes]) -> bool
-    ensures { result ≡ is_some (drip_text arguments.now) }
+/// What the words behind `/hurd/drip` say: how many bytes it has.
+fn drip(arguments: &[Bytes]) -> Option<Begun<'_>>
+    ensures { option_map server_of result ≡ option_map (new_server Drip) (drip_text arguments.now) }
 {
     match arguments {
-        [count] => says_drops(count.as_slice()),
-        _ => false,
+        [digits] if says_drops(digits.as_slice()) => Some(Begun::Drip(digits.as_slice())),
+        _ => None,
     }
 }
 
-/// Whether these words make a drip.
-fn makes_drip(words: &[Bytes]) -> bool
-    ensures { result ≡ is_some (begin_as Drip words.now) }
+/// What the words behind the name of this program say.
+fn named<'a>(program: &Bytes, arguments: &'a [Bytes]) -> Option<Begun<'a>>
+    ensures { option_map server_of result ≡ begin (program.now ∷ arguments.now) }
+{
+    if program.is(b"/hurd/tmpfs") {
+        alone(Begun::Tmpfs, arguments)
+    } else if program.is(b"/hurd/hello") {
+        hello(arguments)
+    } else if program.is(b"/hurd/null") {
+        alone(Begun::Null, arguments)
+    } else if program.is(b"/hurd/zero") {
+        alone(Begun::Zero, arguments)
+    } else if program.is(b"/hurd/symlink") {
+        symlink(arguments)
+    } else if program.is(b"/hurd/firmlink") {
+        firmlink(arguments)
+    } else if program.is(b"/hurd/union") {
+        union(arguments)
+    } else if program.is(b"/hurd/magic") {
+        magic(arguments)
+    } else if program.is(b"/hurd/drip") {
+        drip(arguments)
+    } else if program.is(b"/hurd/fifo") {
+        alone(Begun::Fifo, arguments)
+    } else {
+        None
+    }
+}
+
+/// The server that these words make, by its kind and by what they say to it; none where no kind takes them.
+pub fn begun_by(words: &[Bytes]) -> Option<Begun<'_>>
+    ensures { option_map server_of result ≡ begin words.now }
 {
     match words {
-        [program, arguments @ ..] => program.is(b"/hurd/drip") && says_count(arguments),
-        [] => false,
+        [program, arguments @ ..] => named(program, arguments),
+        [] => None,
     }
-}
-
-/// Whether these words make a pipe: `/hurd/fifo` alone.
-fn makes_fifo(words: &[Bytes]) -> bool
-    ensures { result ≡ is_some (begin_as Fifo words.now) }
-{
-    match words {
-        [program, arguments @ ..] => program.is(b"/hurd/fifo") && says_nothing(arguments),
-        [] => false,
-    }
-}
-
-/// Whether these words make a drip or a pipe.
-fn makes_source(words: &[Bytes]) -> bool
-    ensures { result ≡ is_some (begin_among (Drip ∷ Fifo ∷ []) words.now) }
-{
-    makes_drip(words) || makes_fifo(words)
-}
-
-/// Whether these words make a server that leads to other nodes, or a drip or a pipe.
-fn leads_on_or_gives(words: &[Bytes]) -> bool
-    ensures { result ≡ is_some (begin_among (Symlink ∷ Firmlink ∷ Union ∷ Magic ∷ Drip ∷ Fifo ∷ []) words.now) }
-{
-    makes_symlink(words)
-        || makes_firmlink(words)
-        || makes_union(words)
-        || makes_magic(words)
-        || makes_source(words)
 }
 
 /// Whether some kind of server takes these words.
 pub fn words_ok(words: &[Bytes]) -> bool
     ensures { result ≡ is_some (begin words.now) }
 {
-    makes_tmpfs(words)
-        || makes_hello(words)
-        || makes_null(words)
-        || makes_zero(words)
-        || leads_on_or_gives(words)
+    begun_by(words).is_some()
 }
 
 /// The words that a server says of itself make it again, as it was when it began.

@@ -1,0 +1,19 @@
+-- What words say that make a server.
+use Rattle.std.specs.Prelude.{[], codes}
+use Rattle.hurd_trans_iface.specs.declared.begun.Begun.{Begun}
+use Rattle.hurd_trans_iface.specs.declared.begun.Begun.TheVariants as said
+use Rattle.hurd_trans_iface.specs.Meaning.{Meaning, Tmpfs, Hello, Null, Zero, Symlink, Firmlink, Union, Magic, Drip, Fifo, new_server}
+use Rattle.hurd_trans_iface.specs.UnionKind.{text_of}
+
+-- the server that they make: its kind is the one that is named, its text is what they say to it
+abbrev pub server_of : Begun → Meaning
+server_of said.Tmpfs = new_server Tmpfs []
+server_of (said.Hello text) = new_server Hello text.now
+server_of said.Null = new_server Null []
+server_of said.Zero = new_server Zero []
+server_of (said.Symlink path) = new_server Symlink path.now
+server_of (said.Firmlink path) = new_server Firmlink path.now
+server_of (said.Union paths) = new_server Union (text_of paths.now)
+server_of said.Magic = new_server Magic (codes "fd")
+server_of (said.Drip digits) = new_server Drip digits.now
+server_of said.Fifo = new_server Fifo []
