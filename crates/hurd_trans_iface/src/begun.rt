@@ -1,10 +1,10 @@
 //! Which words make a server, and what they say to it.
 ghost use Rattle.std.specs.List.{list_all};
 ghost use Rattle.std.specs.Option.{option_map};
-ghost use Rattle.std.specs.Prelude.{◌≡◌, ◌∷◌, ℕ, List, Some, Ok, codes, is_some};
-ghost use Rattle.hurd_trans_iface.specs.Begun.{server_of};
+ghost use Rattle.std.specs.Prelude.{◌≡◌, ◌∷◌, ℕ, List, Some, Ok, IfSome, codes, is_some};
+ghost use Rattle.hurd_trans_iface.specs.Sayings.{IsFit, server_of};
 ghost use Rattle.hurd_trans_iface.specs.HelloKind.{behind, hello_text};
-ghost use Rattle.hurd_trans_iface.specs.Meaning.{Meaning, ServerKind, Hello, Symlink, Firmlink, Union, Magic, Drip, behaviour_of, begin, new_server, options_of};
+ghost use Rattle.hurd_trans_iface.specs.Meaning.{Meaning, ServerKind, Hello, Symlink, Firmlink, Union, Magic, Drip, behaviour_of, begin, begin_as, new_server, options_of};
 ghost use Rattle.hurd_trans_iface.specs.SymlinkKind.{target_text};
 ghost use Rattle.hurd_trans_iface.specs.FirmlinkKind.{firm_text, is_firm};
 ghost use Rattle.hurd_trans_iface.specs.UnionKind.{union_text};
@@ -206,7 +206,9 @@ fn named<'a>(program: &Bytes, arguments: &'a [Bytes]) -> Option<Begun<'a>>
 
 /// The server that these words make, by its kind and by what they say to it; none where no kind takes them.
 pub fn begun_by(words: &[Bytes]) -> Option<Begun<'_>>
-    ensures { option_map server_of result ≡ begin words.now }
+    ensures begins { option_map server_of result ≡ begin words.now }
+    ensures kind { IfSome result (λ b. begin_as (server_of b).kind words.now ≡ Some (server_of b)) }
+    ensures fit { IsWithinLimits words.now → IfSome result IsFit }
 {
     match words {
         [program, arguments @ ..] => named(program, arguments),

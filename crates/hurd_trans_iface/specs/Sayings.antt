@@ -1,11 +1,15 @@
 -- What words say that make a server.
-use Rattle.std.specs.Prelude.{[], codes}
+use Rattle.std.specs.Prelude.{◌≡◌, ◌≤◌, true, [], ◌∷◌, length, codes}
+use Rattle.hurd_creds.specs.Limits.{most_path}
 use Rattle.hurd_trans_iface.specs.declared.begun.Begun.{Begun}
 use Rattle.hurd_trans_iface.specs.declared.begun.Begun.TheVariants as said
+use Rattle.hurd_trans_iface.specs.DripKind.{says_drops}
+use Rattle.hurd_trans_iface.specs.HelloKind.{most_text}
 use Rattle.hurd_trans_iface.specs.Meaning.{Meaning, Tmpfs, Hello, Null, Zero, Symlink, Firmlink, Union, Magic, Drip, Fifo, new_server}
 use Rattle.hurd_trans_iface.specs.UnionKind.{text_of}
+use Rattle.hurd_trans_iface.specs.Words.{IsWithinLimits}
 
--- the server that they make: its kind is the one that is named, its text is what they say to it
+-- the server that they make: its kind is the one that they name, its text is what they say to it
 abbrev pub server_of : Begun → Meaning
 server_of said.Tmpfs = new_server Tmpfs []
 server_of (said.Hello text) = new_server Hello text.now
@@ -17,3 +21,12 @@ server_of (said.Union paths) = new_server Union (text_of paths.now)
 server_of said.Magic = new_server Magic (codes "fd")
 server_of (said.Drip digits) = new_server Drip digits.now
 server_of said.Fifo = new_server Fifo []
+
+-- what they say is no more than the kind takes: within its own limits, and those of words
+abbrev pub IsFit : Begun → Type 0
+IsFit (said.Hello text) = length text.now ≤ most_text
+IsFit (said.Symlink path) = length path.now ≤ most_path
+IsFit (said.Firmlink path) = length path.now ≤ most_path
+IsFit (said.Union paths) = IsWithinLimits (codes "/hurd/union" ∷ paths.now)
+IsFit (said.Drip digits) = says_drops digits.now ≡ true
+IsFit _ = Unit {0}
