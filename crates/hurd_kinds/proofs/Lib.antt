@@ -1,2 +1,1 @@
-pub mod NoKind
 pub mod BoxLaws

@@ -1,16 +1,15 @@
 //! The server that some words make, in a box.
-ghost use Rattle.std.specs.Prelude.{◌≡◌, ◌≢◌, Ok, Err, IfOk, IsErrAnd, MatchOption};
+ghost use Rattle.std.specs.Prelude.{◌≡◌, IfOk};
 ghost use Rattle.std.specs.Option.{option_map};
-ghost use Rattle.hurd_creds.specs.declared.errno.Errno.TheVariants.{ENOMEM};
 ghost use Rattle.hurd_trans_iface.specs.Meaning.{begin};
+ghost use Rattle.hurd_trans_iface.specs.Sayings.{IsFit, server_of};
 ghost use Rattle.hurd_tmpfs.specs.Tree.{new_tmpfs, tree};
 ghost use Rattle.hurd_kinds.specs.Boxes.{box_meaning};
 
-use hurd_creds::Errno;
 use hurd_small::{Drip, Fifo, Firmlink, Hello, Magic, Null, Symlink, Zero};
 use hurd_tmpfs::Tmpfs;
-use hurd_trans_iface::Words;
-use hurd_union::{Union, new_union};
+use hurd_trans_iface::{Begun, Words, begun_by};
+use hurd_union::{Union, union_of};
 use std::alloc::{AllocError, Global};
 
 /// A server of some kind, in a box of its own type, which any of them gives as a `Box<dyn Server>`.
@@ -28,53 +27,41 @@ pub enum ServerBox {
     Fifo(Box<Fifo>),
 }
 
-/// The server that was made, in a box; none where its kind doesn't take the words.
-fn boxed<T: Drop>(alloc: Global, made: Result<T, Errno>) -> Result<Option<Box<T>>, AllocError>
-    ensures { IfOk result (λ boxed. MatchOption boxed (IsErrAnd made (λ e. e ≢ ENOMEM)) (λ server. made ≡ Ok server.value)) }
+/// The server of this kind, to which this is said, in a box.
+#[tactic(auto, unfolding(crate::specs::Boxes::box_meaning))]
+fn boxed(alloc: Global, begun: Begun<'_>) -> Result<ServerBox, AllocError>
+    requires { IsFit begun }
+    ensures { IfOk result (λ server. box_meaning server ≡ server_of begun.entry) }
 {
-    match made {
-        Ok(server) => Ok(Some(Box::new(alloc, server)?)),
-        Err(Errno::ENOMEM) => Err(AllocError),
-        Err(_) => Ok(None),
-    }
+    Ok(match begun {
+        Begun::Tmpfs => ServerBox::Tmpfs(empty_tree(alloc)?),
+        Begun::Hello(text) => ServerBox::Hello(Box::new(alloc, Hello::giving(alloc, text)?)?),
+        Begun::Null => ServerBox::Null(Box::new(alloc, Null::nothing())?),
+        Begun::Zero => ServerBox::Zero(Box::new(alloc, Zero::zeros())?),
+        Begun::Symlink(path) => ServerBox::Symlink(Box::new(
+            alloc,
+            Symlink::leading_to(alloc, path)?,
+        )?),
+        Begun::Firmlink(path) => ServerBox::Firmlink(Box::new(
+            alloc,
+            Firmlink::aimed_at(alloc, path)?,
+        )?),
+        Begun::Union(paths) => ServerBox::Union(Box::new(alloc, union_of(alloc, paths)?)?),
+        Begun::Magic => ServerBox::Magic(Box::new(alloc, Magic::own_ports())?),
+        Begun::Drip(digits) => ServerBox::Drip(Box::new(alloc, Drip::counted_by(alloc, digits)?)?),
+        Begun::Fifo => ServerBox::Fifo(Box::new(alloc, Fifo::empty())?),
+    })
 }
 
 /// The server that these words make; none where no kind takes them.
-#[tactic(auto, unfolding(crate::specs::Boxes::box_meaning))]
 pub fn server_for(alloc: Global, words: &Words) -> Result<Option<ServerBox>, AllocError>
     ensures { IfOk result (λ server. option_map box_meaning server ≡ begin words.now) }
 {
-    if let Some(tree) = boxed(alloc, Tmpfs::new(alloc, words))? {
-        return Ok(Some(ServerBox::Tmpfs(tree)));
+    words.known();
+    match begun_by(words.as_slice()) {
+        Some(begun) => Ok(Some(boxed(alloc, begun)?)),
+        None => Ok(None),
     }
-    if let Some(file) = boxed(alloc, Hello::new(alloc, words))? {
-        return Ok(Some(ServerBox::Hello(file)));
-    }
-    if let Some(stream) = boxed(alloc, Null::new(alloc, words))? {
-        return Ok(Some(ServerBox::Null(stream)));
-    }
-    if let Some(stream) = boxed(alloc, Zero::new(alloc, words))? {
-        return Ok(Some(ServerBox::Zero(stream)));
-    }
-    if let Some(link) = boxed(alloc, Symlink::new(alloc, words))? {
-        return Ok(Some(ServerBox::Symlink(link)));
-    }
-    if let Some(link) = boxed(alloc, Firmlink::new(alloc, words))? {
-        return Ok(Some(ServerBox::Firmlink(link)));
-    }
-    if let Some(union) = boxed(alloc, new_union(alloc, words))? {
-        return Ok(Some(ServerBox::Union(union)));
-    }
-    if let Some(link) = boxed(alloc, Magic::new(alloc, words))? {
-        return Ok(Some(ServerBox::Magic(link)));
-    }
-    if let Some(drip) = boxed(alloc, Drip::new(alloc, words))? {
-        return Ok(Some(ServerBox::Drip(drip)));
-    }
-    if let Some(pipe) = boxed(alloc, Fifo::new(alloc, words))? {
-        return Ok(Some(ServerBox::Fifo(pipe)));
-    }
-    Ok(None)
 }
 
 /// An empty tree in memory, in a box.

@@ -1,5 +1,3 @@
-pub mod Beginnings
-pub mod Limits
 pub mod LoneLaws
 pub mod DripLaws
 pub mod PipeLaws

@@ -1,7 +1,6 @@
 -- Servers of one node, which is a directory without entries or no directory.
-use Rattle.std.specs.Prelude.{◌≡◌, ℕ, Bool, true, false, cond, if◌then◌else◌, List, [], ◌∷◌, length, nat_lt, Option, Some, None, Result, Ok, Err}
+use Rattle.std.specs.Prelude.{◌≡◌, ℕ, Bool, true, false, if◌then◌else◌, List, [], length, nat_lt, Option, Some, None, Result, Ok, Err}
 use Rattle.std.specs.FinMap as fin
-use Rattle.std.specs.Str.{bytes_eq}
 use Rattle.hurd_creds.specs.Memory.{Meets}
 use Rattle.hurd_creds.specs.Bits.{asks, READ, WRITE}
 use Rattle.hurd_creds.specs.declared.name.Name.{Name}
@@ -81,16 +80,6 @@ abbrev pub text_taken : Result (Option (List ℕ)) Errno → List ℕ → Result
 text_taken (Ok None) text = (Ok tt, text)
 text_taken (Ok (Some new)) text = (Ok tt, new)
 text_taken (Err e) text = (Err e, text)
-
--- the text that these words say, if they make a server of this kind
-abbrev pub text_as : ServerKind → List (List ℕ) → Option (List ℕ)
-text_as kind [] = None
-text_as kind (w ∷ ws) = cond (bytes_eq w (behaviour_of kind).program) ((behaviour_of kind).begins ws) None
-
--- whether words are a program's name alone
-abbrev pub is_alone : List ℕ → List (List ℕ) → Bool
-is_alone program (w ∷ []) = bytes_eq w program
-is_alone program _ = false
 
 -- why nothing changes in a directory, which may not be there, where its server keeps no tree
 abbrev pub barred_by : Option Node → Errno

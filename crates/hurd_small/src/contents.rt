@@ -1,20 +1,13 @@
 //! The text that a word says.
-ghost use Rattle.std.specs.Prelude.{◌≡◌, codes, option_copied, IfOk, IfErr, Ok, Err};
-ghost use Rattle.std.specs.Option.{option_map};
+ghost use Rattle.std.specs.Prelude.{◌≡◌, option_copied, IfOk, IfErr, Ok, Err};
 ghost use Rattle.std.specs.List.{list_all};
-ghost use Rattle.hurd_trans_iface.specs.HelloKind.{behind, hello_options, says_text};
+ghost use Rattle.hurd_trans_iface.specs.HelloKind.{hello_options, says_text};
 
 use hurd_creds::{Bytes, Errno};
+use hurd_trans_iface::contents_in;
 
 /// The most bytes of a text that words say.
 const MOST_TEXT: usize = 4074;
-
-/// What stands behind `--contents=` in a word, if it begins so.
-pub(crate) fn contents_in(word: &[u8]) -> Option<&[u8]>
-    ensures { option_map (λ text. text.now) result ≡ behind (codes "--contents=") word.now }
-{
-    word.strip_prefix(b"--contents=".as_slice())
-}
 
 /// Whether a word says a text.
 fn says_text(word: &[u8]) -> bool

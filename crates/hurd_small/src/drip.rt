@@ -1,17 +1,15 @@
 //! A stream of a few bytes.
-ghost use Rattle.std.specs.Prelude.{◌≡◌, true, Some, None, IfOk, IfErr, IfSome, MatchOption};
-ghost use Rattle.std.specs.Option.{option_map};
+ghost use Rattle.std.specs.Prelude.{◌≡◌, true, Some, None, IfOk, IfErr, MatchOption};
 ghost use Rattle.hurd_trans_iface.specs.DripKind.{drops_of, says_drops};
-ghost use Rattle.hurd_trans_iface.specs.Meaning.{begin, begin_as, Drip as DripKind};
-ghost use Rattle.hurd_small.specs.Lone.{text_as};
+ghost use Rattle.hurd_trans_iface.specs.Meaning.{begin, begin_as, new_server, Drip as DripKind};
 ghost use Rattle.hurd_small.specs.Drip.{drip_meaning};
 
 use crate::drops::Drops;
 use crate::lone::Lone;
 use crate::presence::Presence;
 use hurd_creds::{Bytes, Errno, long_number};
-use hurd_trans_iface::{Words, says_drops};
-use std::alloc::Global;
+use hurd_trans_iface::{Begun, Words, begun_by};
+use std::alloc::{AllocError, Global};
 
 /// A stream of as many bytes as its word says, one for each read, after which reads fail (this project's own).
 pub type Drip = Lone<Drops>;
@@ -27,9 +25,21 @@ impl Lone<Drops> {
         ensures err { IfErr result
             (λ e. MatchOption (begin_as DripKind words.now) (e ≡ Errno.EINVAL) (λ _. e ≡ Errno.ENOMEM)) }
     {
-        let Some(digits) = digits_in(words) else {
+        words.known();
+        let Some(begun) = begun_by(words.as_slice()) else {
             return Err(Errno::EINVAL);
         };
+        match begun {
+            Begun::Drip(digits) => Ok(Drip::counted_by(alloc, digits)?),
+            _ => Err(Errno::EINVAL),
+        }
+    }
+
+    /// The drip of as many bytes as these digits say. It has no root until one is named.
+    pub fn counted_by(alloc: Global, digits: &[u8]) -> Result<Drip, AllocError>
+        requires { says_drops digits.now ≡ true }
+        ensures { IfOk result (λ s. drip_meaning s ≡ new_server DripKind digits.now) }
+    {
         let count = count_in(digits);
         Ok(Lone {
             keeper: Drops {
@@ -39,19 +49,6 @@ impl Lone<Drops> {
             },
             presence: Presence::Nameless,
         })
-    }
-}
-
-/// The number that these words say, if they make a server.
-fn digits_in(words: &Words) -> Option<&[u8]>
-    ensures said { option_map (λ digits. digits.now) result ≡ text_as DripKind words.now }
-    ensures says { IfSome result (λ digits. says_drops digits.now ≡ true) }
-{
-    match words.as_slice() {
-        [program, digits] if program.is(b"/hurd/drip") && says_drops(digits.as_slice()) => {
-            Some(digits.as_slice())
-        }
-        _ => None,
     }
 }
 

@@ -1,15 +1,14 @@
 //! A pipe, under a name.
-ghost use Rattle.std.specs.Prelude.{◌≡◌, Some, None, IfOk, IfErr};
-ghost use Rattle.hurd_trans_iface.specs.Meaning.{begin, begin_as, Fifo as FifoKind};
+ghost use Rattle.std.specs.Prelude.{◌≡◌, [], Some, None, IfOk, IfErr};
+ghost use Rattle.hurd_trans_iface.specs.Meaning.{begin, begin_as, new_server, Fifo as FifoKind};
 ghost use Rattle.hurd_small.specs.Fifo.{fifo_meaning};
 
 use crate::lone::Lone;
 use crate::pipe::Pipe;
 use crate::presence::Presence;
-use crate::words::is_alone;
 use arrayvec::ArrayVec;
 use hurd_creds::Errno;
-use hurd_trans_iface::Words;
+use hurd_trans_iface::{Begun, Words, begun_by};
 use std::alloc::Global;
 
 /// A pipe: bytes between those who write them and those who read them (the Hurd's `/hurd/fifo`).
@@ -25,16 +24,26 @@ impl Lone<Pipe> {
         ensures rootless { IfOk result (λ s. (fifo_meaning s).root ≡ None) }
         ensures err { IfErr result (λ e. (begin_as FifoKind words.now ≡ None) × (e ≡ Errno.EINVAL)) }
     {
-        if !is_alone(words, b"/hurd/fifo") {
+        let Some(begun) = begun_by(words.as_slice()) else {
             return Err(Errno::EINVAL);
+        };
+        match begun {
+            Begun::Fifo => Ok(Fifo::empty()),
+            _ => Err(Errno::EINVAL),
         }
-        Ok(Lone {
+    }
+
+    /// A pipe that holds nothing. It has no root until one is named.
+    pub fn empty() -> Fifo
+        ensures { fifo_meaning result ≡ new_server FifoKind [] }
+    {
+        Lone {
             keeper: Pipe {
                 held: ArrayVec::new(),
                 readers: 0,
                 writers: 0,
             },
             presence: Presence::Nameless,
-        })
+        }
     }
 }

@@ -1,18 +1,15 @@
 //! A firm link.
-ghost use Rattle.std.specs.Prelude.{◌≡◌, ◌≤◌, length, Some, None, IfOk, IfErr, IfSome, MatchOption};
-ghost use Rattle.std.specs.Option.{option_map};
+ghost use Rattle.std.specs.Prelude.{◌≡◌, ◌≤◌, length, Some, None, IfOk, IfErr, MatchOption};
 ghost use Rattle.hurd_creds.specs.Limits.{most_path};
-ghost use Rattle.hurd_trans_iface.specs.Meaning.{begin, begin_as, Firmlink as FirmlinkKind};
-ghost use Rattle.hurd_small.specs.Lone.{text_as};
+ghost use Rattle.hurd_trans_iface.specs.Meaning.{begin, begin_as, new_server, Firmlink as FirmlinkKind};
 ghost use Rattle.hurd_small.specs.Firmlink.{firmlink_meaning};
 
 use crate::aim::Aim;
 use crate::lone::Lone;
-use crate::presence::Presence;
 use crate::still::Still;
 use hurd_creds::{Bytes, Errno};
-use hurd_trans_iface::{Words, is_firm};
-use std::alloc::Global;
+use hurd_trans_iface::{Begun, Words, begun_by};
+use std::alloc::{AllocError, Global};
 
 /// A firm link, which leads to the node that its path led to when it began (the Hurd's `/hurd/firmlink`).
 pub type Firmlink = Lone<Still<Aim>>;
@@ -28,27 +25,23 @@ impl Lone<Still<Aim>> {
         ensures err { IfErr result
             (λ e. MatchOption (begin_as FirmlinkKind words.now) (e ≡ Errno.EINVAL) (λ _. e ≡ Errno.ENOMEM)) }
     {
-        let Some(path) = path_in(words) else {
+        words.known();
+        let Some(begun) = begun_by(words.as_slice()) else {
             return Err(Errno::EINVAL);
         };
-        Ok(Lone {
-            keeper: Still {
-                single: Aim {
-                    path: Bytes::copied(alloc, path)?,
-                },
-            },
-            presence: Presence::Nameless,
-        })
+        match begun {
+            Begun::Firmlink(path) => Ok(Firmlink::aimed_at(alloc, path)?),
+            _ => Err(Errno::EINVAL),
+        }
     }
-}
 
-/// The path that these words say, if they make a server.
-fn path_in(words: &Words) -> Option<&[u8]>
-    ensures said { option_map (λ path. path.now) result ≡ text_as FirmlinkKind words.now }
-    ensures short { IfSome result (λ path. length path.now ≤ most_path) }
-{
-    match words.as_slice() {
-        [program, path] if program.is(b"/hurd/firmlink") && is_firm(path) => Some(path.as_slice()),
-        _ => None,
+    /// The firm link to the node of this path. It has no root until one is named.
+    pub fn aimed_at(alloc: Global, path: &[u8]) -> Result<Firmlink, AllocError>
+        requires { length path.now ≤ most_path }
+        ensures { IfOk result (λ s. firmlink_meaning s ≡ new_server FirmlinkKind path.now) }
+    {
+        Ok(Lone::unnamed(Aim {
+            path: Bytes::copied(alloc, path)?,
+        }))
     }
 }

@@ -1,19 +1,15 @@
 //! A file that gives a text.
-ghost use Rattle.std.specs.Prelude.{◌≡◌, Some, None, IfOk, IfErr, MatchOption};
-ghost use Rattle.std.specs.Option.{option_map};
-ghost use Rattle.hurd_trans_iface.specs.Meaning.{begin, begin_as, Hello as HelloKind};
-ghost use Rattle.hurd_trans_iface.specs.HelloKind.{hello_text};
-ghost use Rattle.hurd_small.specs.Lone.{text_as};
+ghost use Rattle.std.specs.Prelude.{◌≡◌, ◌≤◌, length, Some, None, IfOk, IfErr, MatchOption};
+ghost use Rattle.hurd_trans_iface.specs.Meaning.{begin, begin_as, new_server, Hello as HelloKind};
+ghost use Rattle.hurd_trans_iface.specs.HelloKind.{most_text};
 ghost use Rattle.hurd_small.specs.Hello.{hello_meaning};
 
-use crate::contents::contents_in;
 use crate::greeting::Greeting;
 use crate::lone::Lone;
-use crate::presence::Presence;
 use crate::still::Still;
 use hurd_creds::{Bytes, Errno};
-use hurd_trans_iface::Words;
-use std::alloc::Global;
+use hurd_trans_iface::{Begun, Words, begun_by};
+use std::alloc::{AllocError, Global};
 
 /// A file that gives a text, and takes nothing (the Hurd's `/hurd/hello`).
 pub type Hello = Lone<Still<Greeting>>;
@@ -31,37 +27,22 @@ impl Lone<Still<Greeting>> {
             (λ e. MatchOption (begin_as HelloKind words.now) (e ≡ Errno.EINVAL) (λ _. e ≡ Errno.ENOMEM)) }
     {
         words.known();
-        let Some(text) = text_in(words) else {
+        let Some(begun) = begun_by(words.as_slice()) else {
             return Err(Errno::EINVAL);
         };
-        Ok(Lone {
-            keeper: Still {
-                single: Greeting {
-                    text: Bytes::copied(alloc, text)?,
-                },
-            },
-            presence: Presence::Nameless,
-        })
+        match begun {
+            Begun::Hello(text) => Ok(Hello::giving(alloc, text)?),
+            _ => Err(Errno::EINVAL),
+        }
     }
-}
 
-/// The text that these words say, if they make a server.
-fn text_in(words: &Words) -> Option<&[u8]>
-    ensures { option_map (λ text. text.now) result ≡ text_as HelloKind words.now }
-{
-    match words.as_slice() {
-        [program, arguments @ ..] if program.is(b"/hurd/hello") => text_of(arguments),
-        _ => None,
-    }
-}
-
-/// The text where the words behind the program's name are these.
-fn text_of(arguments: &[Bytes]) -> Option<&[u8]>
-    ensures { option_map (λ text. text.now) result ≡ hello_text arguments.now }
-{
-    match arguments {
-        [] => Some(b"Hello, world!\n".as_slice()),
-        [word] => contents_in(word.as_slice()),
-        _ => None,
+    /// The file that gives this text. It has no root until one is named.
+    pub fn giving(alloc: Global, text: &[u8]) -> Result<Hello, AllocError>
+        requires { length text.now ≤ most_text }
+        ensures { IfOk result (λ s. hello_meaning s ≡ new_server HelloKind text.now) }
+    {
+        Ok(Lone::unnamed(Greeting {
+            text: Bytes::copied(alloc, text)?,
+        }))
     }
 }

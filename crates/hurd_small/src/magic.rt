@@ -1,17 +1,15 @@
 //! A magical link.
-ghost use Rattle.std.specs.Prelude.{◌≡◌, Some, None, IfOk, IfErr, codes, if◌then◌else◌, refl};
-ghost use Rattle.hurd_trans_iface.specs.Meaning.{begin, begin_as, Magic as MagicKind};
-ghost use Rattle.hurd_small.specs.Lone.{text_as};
+ghost use Rattle.std.specs.Prelude.{◌≡◌, Some, None, IfOk, IfErr, codes, refl};
+ghost use Rattle.hurd_trans_iface.specs.Meaning.{begin, begin_as, new_server, Magic as MagicKind};
 ghost use Rattle.hurd_small.specs.Magic.{magic_meaning};
 
 use crate::lone::Lone;
-use crate::presence::Presence;
 use crate::single::Single;
 use crate::still::Still;
 use crate::text;
 use crate::words::no_options;
 use hurd_creds::{Bytes, Errno, Kind};
-use hurd_trans_iface::{Crossing, Names, Root, Words};
+use hurd_trans_iface::{Begun, Crossing, Names, Root, Words, begun_by};
 use std::alloc::Global;
 
 /// A link to the ports of whoever follows it, by their numbers (the Hurd's `/hurd/magic fd`, as on `/dev/fd`).
@@ -31,23 +29,20 @@ impl Lone<Still<OwnPorts>> {
         ensures rootless { IfOk result (λ s. (magic_meaning s).root ≡ None) }
         ensures err { IfErr result (λ e. (begin_as MagicKind words.now ≡ None) × (e ≡ Errno.EINVAL)) }
     {
-        if !says_magic(words) {
+        let Some(begun) = begun_by(words.as_slice()) else {
             return Err(Errno::EINVAL);
+        };
+        match begun {
+            Begun::Magic => Ok(Magic::own_ports()),
+            _ => Err(Errno::EINVAL),
         }
-        Ok(Lone {
-            keeper: Still { single: OwnPorts },
-            presence: Presence::Nameless,
-        })
     }
-}
 
-/// Whether these words make a server.
-fn says_magic(words: &Words) -> bool
-    ensures { (if result then Some (codes "fd") else None) ≡ text_as MagicKind words.now }
-{
-    match words.as_slice() {
-        [program, what] => program.is(b"/hurd/magic") && what.is(b"fd"),
-        _ => false,
+    /// A magical link. It has no root until one is named.
+    pub fn own_ports() -> Magic
+        ensures { magic_meaning result ≡ new_server MagicKind (codes "fd") }
+    {
+        Lone::unnamed(OwnPorts)
     }
 }
 

@@ -1,15 +1,14 @@
 //! A stream without bytes.
 ghost use Rattle.std.specs.Prelude.{◌≡◌, [], Some, None, IfOk, IfErr, refl};
-ghost use Rattle.hurd_trans_iface.specs.Meaning.{begin, begin_as, Null as NullKind};
+ghost use Rattle.hurd_trans_iface.specs.Meaning.{begin, begin_as, new_server, Null as NullKind};
 ghost use Rattle.hurd_small.specs.Null.{null_meaning};
 
 use crate::lone::Lone;
-use crate::presence::Presence;
 use crate::single::Single;
 use crate::still::Still;
-use crate::words::{is_alone, no_options};
+use crate::words::no_options;
 use hurd_creds::{Bytes, Errno, Kind};
-use hurd_trans_iface::{Names, Root, Words};
+use hurd_trans_iface::{Begun, Names, Root, Words, begun_by};
 use std::alloc::Global;
 
 /// A stream without bytes, which drops what it takes (the Hurd's `/hurd/null`).
@@ -29,13 +28,20 @@ impl Lone<Still<Nothing>> {
         ensures rootless { IfOk result (λ s. (null_meaning s).root ≡ None) }
         ensures err { IfErr result (λ e. (begin_as NullKind words.now ≡ None) × (e ≡ Errno.EINVAL)) }
     {
-        if !is_alone(words, b"/hurd/null") {
+        let Some(begun) = begun_by(words.as_slice()) else {
             return Err(Errno::EINVAL);
+        };
+        match begun {
+            Begun::Null => Ok(Null::nothing()),
+            _ => Err(Errno::EINVAL),
         }
-        Ok(Lone {
-            keeper: Still { single: Nothing },
-            presence: Presence::Nameless,
-        })
+    }
+
+    /// A stream without bytes. It has no root until one is named.
+    pub fn nothing() -> Null
+        ensures { null_meaning result ≡ new_server NullKind [] }
+    {
+        Lone::unnamed(Nothing)
     }
 }
 

@@ -1,18 +1,15 @@
 //! A link.
-ghost use Rattle.std.specs.Prelude.{◌≡◌, ◌≤◌, length, Some, None, IfOk, IfErr, IfSome, MatchOption};
-ghost use Rattle.std.specs.Option.{option_map};
+ghost use Rattle.std.specs.Prelude.{◌≡◌, ◌≤◌, length, Some, None, IfOk, IfErr, MatchOption};
 ghost use Rattle.hurd_creds.specs.Limits.{most_path};
-ghost use Rattle.hurd_trans_iface.specs.Meaning.{begin, begin_as, Symlink as SymlinkKind};
-ghost use Rattle.hurd_small.specs.Lone.{text_as};
+ghost use Rattle.hurd_trans_iface.specs.Meaning.{begin, begin_as, new_server, Symlink as SymlinkKind};
 ghost use Rattle.hurd_small.specs.Symlink.{symlink_meaning};
 
 use crate::lone::Lone;
-use crate::presence::Presence;
 use crate::still::Still;
 use crate::target::Target;
-use hurd_creds::{Bytes, Errno, MOST_PATH};
-use hurd_trans_iface::Words;
-use std::alloc::Global;
+use hurd_creds::{Bytes, Errno};
+use hurd_trans_iface::{Begun, Words, begun_by};
+use std::alloc::{AllocError, Global};
 
 /// A link, which leads to where its text says (the Hurd's `/hurd/symlink`).
 pub type Symlink = Lone<Still<Target>>;
@@ -28,30 +25,23 @@ impl Lone<Still<Target>> {
         ensures err { IfErr result
             (λ e. MatchOption (begin_as SymlinkKind words.now) (e ≡ Errno.EINVAL) (λ _. e ≡ Errno.ENOMEM)) }
     {
-        let Some(path) = path_in(words) else {
+        words.known();
+        let Some(begun) = begun_by(words.as_slice()) else {
             return Err(Errno::EINVAL);
         };
-        Ok(Lone {
-            keeper: Still {
-                single: Target {
-                    path: Bytes::copied(alloc, path)?,
-                },
-            },
-            presence: Presence::Nameless,
-        })
-    }
-}
-
-/// The path that these words say, if they make a server.
-fn path_in(words: &Words) -> Option<&[u8]>
-    ensures said { option_map (λ path. path.now) result ≡ text_as SymlinkKind words.now }
-    ensures short { IfSome result (λ path. length path.now ≤ most_path) }
-{
-    match words.as_slice() {
-        [program, path]
-            if program.is(b"/hurd/symlink") && !path.is_empty() && path.len() <= MOST_PATH => {
-            Some(path.as_slice())
+        match begun {
+            Begun::Symlink(path) => Ok(Symlink::leading_to(alloc, path)?),
+            _ => Err(Errno::EINVAL),
         }
-        _ => None,
+    }
+
+    /// The link that leads to this path. It has no root until one is named.
+    pub fn leading_to(alloc: Global, path: &[u8]) -> Result<Symlink, AllocError>
+        requires { length path.now ≤ most_path }
+        ensures { IfOk result (λ s. symlink_meaning s ≡ new_server SymlinkKind path.now) }
+    {
+        Ok(Lone::unnamed(Target {
+            path: Bytes::copied(alloc, path)?,
+        }))
     }
 }

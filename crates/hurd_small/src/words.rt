@@ -1,20 +1,9 @@
 //! What words say.
 ghost use Rattle.std.specs.Prelude.{◌≡◌, IfOk, IfErr, [], Ok, Err, None};
 ghost use Rattle.hurd_trans_iface.specs.TmpfsKind.{no_options};
-ghost use Rattle.hurd_small.specs.Lone.{is_alone};
 
 use hurd_creds::Errno;
 use hurd_trans_iface::Words;
-
-/// Whether these words are a program's name alone.
-pub(crate) fn is_alone(words: &Words, program: &[u8]) -> bool
-    ensures { result ≡ is_alone program.now words.now }
-{
-    match words.as_slice() {
-        [first] => first.is(program),
-        _ => false,
-    }
-}
 
 /// Takes no options: `EINVAL` for any word.
 pub fn no_options(words: &Words) -> Result<(), Errno>

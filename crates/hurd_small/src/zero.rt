@@ -1,15 +1,14 @@
 //! A stream of zero bytes.
 ghost use Rattle.std.specs.Prelude.{◌≡◌, [], Some, None, IfOk, IfErr, refl};
-ghost use Rattle.hurd_trans_iface.specs.Meaning.{begin, begin_as, Zero as ZeroKind};
+ghost use Rattle.hurd_trans_iface.specs.Meaning.{begin, begin_as, new_server, Zero as ZeroKind};
 ghost use Rattle.hurd_small.specs.Zero.{zero_meaning};
 
 use crate::lone::Lone;
-use crate::presence::Presence;
 use crate::single::Single;
 use crate::still::Still;
-use crate::words::{is_alone, no_options};
+use crate::words::no_options;
 use hurd_creds::{Bytes, Errno, Kind, MOST_READ};
-use hurd_trans_iface::{Names, Root, Words};
+use hurd_trans_iface::{Begun, Names, Root, Words, begun_by};
 use std::alloc::Global;
 
 /// A stream of zero bytes without end, which drops what it takes (the Hurd's `/hurd/zero`).
@@ -29,13 +28,20 @@ impl Lone<Still<Zeros>> {
         ensures rootless { IfOk result (λ s. (zero_meaning s).root ≡ None) }
         ensures err { IfErr result (λ e. (begin_as ZeroKind words.now ≡ None) × (e ≡ Errno.EINVAL)) }
     {
-        if !is_alone(words, b"/hurd/zero") {
+        let Some(begun) = begun_by(words.as_slice()) else {
             return Err(Errno::EINVAL);
+        };
+        match begun {
+            Begun::Zero => Ok(Zero::zeros()),
+            _ => Err(Errno::EINVAL),
         }
-        Ok(Lone {
-            keeper: Still { single: Zeros },
-            presence: Presence::Nameless,
-        })
+    }
+
+    /// A stream of zero bytes. It has no root until one is named.
+    pub fn zeros() -> Zero
+        ensures { zero_meaning result ≡ new_server ZeroKind [] }
+    {
+        Lone::unnamed(Zeros)
     }
 }
 

@@ -1,2 +1,1 @@
 pub mod ThereLaws
-pub mod Said

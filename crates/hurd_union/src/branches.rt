@@ -1,6 +1,8 @@
 //! What a union says of itself.
-ghost use Rattle.std.specs.Prelude.{◌≡◌, [], Ok, IfOk, refl};
-ghost use Rattle.hurd_trans_iface.specs.Meaning.{Union as UnionKind, options_of};
+ghost use Rattle.std.specs.Prelude.{◌≡◌, ◌∷◌, [], Ok, IfOk, codes, refl};
+ghost use Rattle.hurd_trans_iface.specs.Meaning.{Union as UnionKind};
+ghost use Rattle.hurd_trans_iface.specs.UnionKind.{words_of};
+ghost use Rattle.hurd_trans_iface.specs.Words.{IsWithinLimits};
 
 use hurd_creds::{Bytes, Errno, Kind};
 use hurd_small::{Single, no_options};
@@ -10,12 +12,13 @@ use std::alloc::{AllocError, Global};
 /// The paths of the directories that a union shows.
 #[derive(Debug, Drop)]
 pub struct Branches {
-    /// The program and the paths.
-    pub(crate) words: Words,
+    pub(crate) paths: Names,
     /// The paths as one text.
     pub(crate) text: Bytes,
-    /// The text says the words.
-    ghost same: { words ≡ options_of UnionKind text },
+    /// The text says the paths.
+    ghost same: { paths ≡ words_of text },
+    /// With the program's name they are within the limits of words.
+    ghost short: { IsWithinLimits (codes "/hurd/union" ∷ paths) },
 }
 
 impl Single for Branches {
@@ -39,7 +42,7 @@ impl Single for Branches {
     }
 
     fn options(&self, alloc: Global) -> Result<Words, Errno> {
-        Ok(self.words.copied(alloc)?)
+        Words::with_arguments(alloc, b"/hurd/union", self.paths.as_slice())
     }
 
     fn set_options(&mut self, _alloc: Global, words: &Words) -> Result<(), Errno> {
@@ -47,10 +50,7 @@ impl Single for Branches {
     }
 
     fn targets(&self, alloc: Global) -> Result<Names, Errno> {
-        match self.words.as_slice() {
-            [_program, paths @ ..] => Ok(copies(alloc, paths)?),
-            [] => Ok(Names::new(alloc)),
-        }
+        Ok(copies(alloc, self.paths.as_slice())?)
     }
 
     fn size(&self) -> u64 {
@@ -71,7 +71,7 @@ impl Single for Branches {
 }
 
 /// A copy of each of these paths; of none it takes no memory.
-fn copies(alloc: Global, paths: &[Bytes]) -> Result<Names, AllocError>
+pub(crate) fn copies(alloc: Global, paths: &[Bytes]) -> Result<Names, AllocError>
     ensures is { IfOk result (λ copies. copies ≡ paths.now) }
     ensures nothing { paths.now ≡ [] → result ≡ Ok [] }
 {

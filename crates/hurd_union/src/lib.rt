@@ -7,4 +7,4 @@ pub mod merge;
 mod union;
 
 pub use branches::Branches;
-pub use union::{Union, new_union};
+pub use union::{Union, new_union, union_of};

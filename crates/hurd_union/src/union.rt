@@ -1,17 +1,16 @@
 //! A union of directories.
-ghost use Rattle.std.specs.Prelude.{◌≡◌, Some, None, IfOk, IfErr, MatchOption};
-ghost use Rattle.std.specs.Option.{option_map};
-ghost use Rattle.hurd_trans_iface.specs.UnionKind.{text_of, union_text};
-ghost use Rattle.hurd_trans_iface.specs.Meaning.{begin, begin_as, Union as UnionKind};
-ghost use Rattle.hurd_small.specs.Lone.{text_as};
+ghost use Rattle.std.specs.Prelude.{◌≡◌, ◌∷◌, Some, None, IfOk, IfErr, MatchOption, codes};
+ghost use Rattle.hurd_trans_iface.specs.UnionKind.{text_of};
+ghost use Rattle.hurd_trans_iface.specs.Meaning.{begin, begin_as, new_server, Union as UnionKind};
+ghost use Rattle.hurd_trans_iface.specs.Words.{IsWithinLimits};
 ghost use Rattle.hurd_union.specs.Union.{union_meaning};
 
-use crate::branches::Branches;
+use crate::branches::{Branches, copies};
 use crate::coded::coded;
 use hurd_creds::{Bytes, Errno};
 use hurd_small::{Lone, Still};
-use hurd_trans_iface::{Words, says_targets};
-use std::alloc::Global;
+use hurd_trans_iface::{Begun, Words, begun_by};
+use std::alloc::{AllocError, Global};
 
 /// A directory that shows what several others have (the Hurd's `/hurd/unionfs`).
 pub type Union = Lone<Still<Branches>>;
@@ -26,32 +25,24 @@ pub fn new_union(alloc: Global, words: &Words) -> Result<Union, Errno>
     ensures err { IfErr result
         (λ e. MatchOption (begin_as UnionKind words.now) (e ≡ Errno.EINVAL) (λ _. e ≡ Errno.ENOMEM)) }
 {
-    let Some(paths) = paths_in(words) else {
+    words.known();
+    let Some(begun) = begun_by(words.as_slice()) else {
         return Err(Errno::EINVAL);
     };
+    match begun {
+        Begun::Union(paths) => Ok(union_of(alloc, paths)?),
+        _ => Err(Errno::EINVAL),
+    }
+}
+
+/// The union of the directories of these paths. It has no root until one is named.
+pub fn union_of(alloc: Global, paths: &[Bytes]) -> Result<Union, AllocError>
+    requires { IsWithinLimits (codes "/hurd/union" ∷ paths.now) }
+    ensures { IfOk result (λ s. union_meaning s ≡ new_server UnionKind (text_of paths.now)) }
+{
     let text = coded(alloc, paths)?;
     Ok(Lone::unnamed(Branches {
-        words: words.copied(alloc)?,
+        paths: copies(alloc, paths)?,
         text,
     }))
-}
-
-/// The paths that these words say, if they make a server.
-fn paths_in(words: &Words) -> Option<&[Bytes]>
-    ensures { option_map (λ paths. text_of paths.now) result ≡ text_as UnionKind words.now }
-{
-    match words.as_slice() {
-        [program, paths @ ..] if program.is(b"/hurd/union") => targets_in(paths),
-        _ => None,
-    }
-}
-
-/// The paths where the words behind the program's name are these.
-fn targets_in(arguments: &[Bytes]) -> Option<&[Bytes]>
-    ensures { option_map (λ paths. text_of paths.now) result ≡ union_text arguments.now }
-{
-    if !says_targets(arguments) {
-        return None;
-    }
-    Some(arguments)
 }

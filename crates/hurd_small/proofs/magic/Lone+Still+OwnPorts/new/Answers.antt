@@ -1,7 +1,8 @@
-use Rattle.std.proofs.Common.{codes, refl, sym, ◌∙◌}
+use Rattle.std.proofs.Common.{refl}
 use Rattle.hurd_trans_iface.specs.Meaning.{Magic as MagicKind}
-use Rattle.hurd_small.proofs.Beginnings.{begin-said}
+use Rattle.hurd_trans_iface.proofs.Sayings.{begun-other}
 use Rattle.hurd_small.proofs.magic.Lone+Still+OwnPorts.new.Goals as goal
 
-pub returns-clause-begins : goal.returns-clause-begins
-returns-clause-begins c = begin-said MagicKind c.args.words.now (codes "fd") (sym c.says_magic.ensures ∙ rw c.if-not-says_magic.false refl)
+pub returns-in_default-begun-clause-err : goal.returns-in_default-begun-clause-err
+returns-in_default-begun-clause-err c =
+    (begun-other MagicKind c.as_slice.ensures c.begun_by.ensures.begins c.in-Some.is c.in_default-begun.not-Magic, refl)

@@ -1,7 +1,8 @@
-use Rattle.std.proofs.Common.{sym}
+use Rattle.std.proofs.Common.{refl}
 use Rattle.hurd_trans_iface.specs.Meaning.{Symlink as SymlinkKind}
-use Rattle.hurd_small.proofs.Beginnings.{begin-said}
+use Rattle.hurd_trans_iface.proofs.Sayings.{begun-other}
 use Rattle.hurd_small.proofs.symlink.Lone+Still+Target.new.Goals as goal
 
-pub returns-clause-begins : goal.returns-clause-begins
-returns-clause-begins c = rw c.in_ok-copied.ensures (begin-said SymlinkKind c.args.words.now _ (sym c.in-Some.ensures.said))
+pub returns-in_default-begun-clause-err : goal.returns-in_default-begun-clause-err
+returns-in_default-begun-clause-err c =
+    rw (begun-other SymlinkKind c.as_slice.ensures c.begun_by.ensures.begins c.in-Some.is (λ o. c.in_default-begun.not-Symlink o.0 o.1)) refl

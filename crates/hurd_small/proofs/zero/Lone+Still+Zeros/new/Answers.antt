@@ -1,13 +1,8 @@
-use Rattle.std.proofs.Common.{refl, sym, ◌∙◌}
+use Rattle.std.proofs.Common.{refl}
 use Rattle.hurd_trans_iface.specs.Meaning.{Zero as ZeroKind}
-use Rattle.hurd_small.proofs.Beginnings.{alone-said, alone-unsaid, begin-said, begin_as-said}
+use Rattle.hurd_trans_iface.proofs.Sayings.{begun-other}
 use Rattle.hurd_small.proofs.zero.Lone+Still+Zeros.new.Goals as goal
 
-pub returns-then-not-is_alone-clause-err : goal.returns-then-not-is_alone-clause-err
-returns-then-not-is_alone-clause-err c = (alone-unsaid ZeroKind refl c.args.words.now (sym c.is_alone.ensures ∙ c.if-not-is_alone.true), refl)
-
-pub returns-clause-ok : goal.returns-clause-ok
-returns-clause-ok c = begin_as-said ZeroKind c.args.words.now _ (alone-said ZeroKind refl c.args.words.now (sym c.is_alone.ensures ∙ c.if-not-is_alone.false))
-
-pub returns-clause-begins : goal.returns-clause-begins
-returns-clause-begins c = begin-said ZeroKind c.args.words.now _ (alone-said ZeroKind refl c.args.words.now (sym c.is_alone.ensures ∙ c.if-not-is_alone.false))
+pub returns-in_default-begun-clause-err : goal.returns-in_default-begun-clause-err
+returns-in_default-begun-clause-err c =
+    (begun-other ZeroKind c.as_slice.ensures c.begun_by.ensures.begins c.in-Some.is c.in_default-begun.not-Zero, refl)
