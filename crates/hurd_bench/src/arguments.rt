@@ -10,25 +10,37 @@ const SAMPLE: usize = 100;
 /// The most files of a run.
 const MOST_FILES: usize = 10_000_000;
 
-/// How many files there are to be, and whether times are printed.
+/// What sort of server comes behind files.
+#[derive(Clone, Copy)]
+pub enum Kind {
+    /// A file that gives a short text.
+    Hello,
+    /// A firm link to the first directory.
+    Firmlink,
+}
+
+/// How many files there are to be, which servers come, and whether times are printed.
 #[derive(Clone, Copy)]
 pub struct Asked {
     pub files: Files,
+    pub kind: Kind,
     pub timed: bool,
 }
 
 impl Asked {
-    /// What the arguments ask for: at most one, a number of files.
+    /// What the arguments ask for: at most a number of files, and a kind of server, hellos where none is named.
     pub fn read(rt: &(impl Env + Alloc)) -> Result<Asked, Fault> {
         let mut arguments = env::args(rt)?;
         arguments.next();
         let first = arguments.next();
+        let second = arguments.next();
         if arguments.next().is_some() {
             return Err(Fault::Usage);
         }
         let Some(text) = first else {
             return Ok(Asked {
                 files: Files { count: SAMPLE },
+                kind: Kind::Hello,
                 timed: false,
             });
         };
@@ -36,8 +48,21 @@ impl Asked {
             files: Files {
                 count: number(&text).ok_or(Fault::Usage)?,
             },
+            kind: kind(second).ok_or(Fault::Usage)?,
             timed: true,
         })
+    }
+}
+
+/// The kind of server that a word names, if it names one.
+fn kind(word: Option<String>) -> Option<Kind> {
+    let Some(word) = word else {
+        return Some(Kind::Hello);
+    };
+    match word.as_str() {
+        "hello" => Some(Kind::Hello),
+        "firmlink" => Some(Kind::Firmlink),
+        _ => None,
     }
 }
 

@@ -5,7 +5,7 @@ use std::{fmt, io};
 /// Why a run ended early.
 #[derive(Debug, Drop)]
 pub enum Fault {
-    /// The arguments are no number of files.
+    /// The arguments are no number of files, with a kind of server or without.
     Usage,
     /// A call was refused.
     Refused(Errno),
@@ -16,7 +16,7 @@ pub enum Fault {
 impl fmt::Display for Fault {
     fn fmt<W: fmt::Write>(&self, f: &mut fmt::Formatter<W>) -> fmt::Result {
         match self {
-            Fault::Usage => write!(f, "usage: hurd_bench NODES"),
+            Fault::Usage => write!(f, "usage: hurd_bench NODES [hello|firmlink]"),
             Fault::Refused(errno) => write!(f, "refused: {}", errno.name()),
             Fault::System(error) => write!(f, "{error}"),
         }

@@ -33,7 +33,7 @@ impl Files {
         };
         match work {
             Work::Create => 1,
-            Work::Serve if sparse < 100 => 100,
+            Work::Serve | Work::SendAway if sparse < 100 => 100,
             _ => sparse,
         }
     }
@@ -57,6 +57,11 @@ pub fn file_name(alloc: Global, file: usize) -> Result<Bytes, AllocError> {
 /// The name that a file is given in place of its own.
 pub fn new_name(alloc: Global, file: usize) -> Result<Bytes, AllocError> {
     Ok(Bytes::new(format!(in alloc; "g{file}")?.into_bytes()))
+}
+
+/// The name of the file beside it, for a server.
+pub fn served_name(alloc: Global, file: usize) -> Result<Bytes, AllocError> {
+    Ok(Bytes::new(format!(in alloc; "h{file}")?.into_bytes()))
 }
 
 /// The path of a file.

@@ -1,8 +1,9 @@
 //! Measures the work of a user on files: how long one call after another takes in a tree of so many files.
 //!
-//! `hurd_bench NODES` makes that many files, from 1 to 10,000,000, in directories of at most 1,000, does each kind of work on
-//! them or on some of them, and prints for each kind how many times it was done and how many nanoseconds one took. With no
-//! argument there are 100 files and no times are printed, so that each run prints the same.
+//! `hurd_bench NODES [hello|firmlink]` makes that many files, from 1 to 10,000,000, in directories of at most 1,000, does each
+//! kind of work on them or on some of them, and prints for each kind how many times it was done and how many nanoseconds one
+//! took. The servers that come are hellos, or firm links to the first directory. With no argument there are 100 files and no
+//! times are printed, so that each run prints the same.
 //!
 //! Status 1 with one line, the usage or the error of a call that was refused.
 #![tactic(auto)]
@@ -10,6 +11,8 @@
 ghost use Rattle.std.specs.Prelude.{IfOk};
 ghost use Rattle.hurd_trans_iface.specs.Meaning.{Begins};
 ghost use Rattle.hurd_small.specs.Hello.{hello_meaning};
+ghost use Rattle.hurd_small.specs.Firmlink.{firmlink_meaning};
+ghost use Rattle.hurd_kinds.specs.Boxes.{box_meaning};
 
 mod arguments;
 mod fault;
@@ -18,12 +21,12 @@ mod row;
 mod tree;
 mod work;
 
-use arguments::Asked;
+use arguments::{Asked, Kind};
 use fault::Fault;
 use files::Files;
 use hurd_creds::Errno;
 use hurd_kinds::{ServerBox, empty_tree};
-use hurd_small::Hello;
+use hurd_small::{Firmlink, Hello};
 use hurd_trans_iface::{Server, Words};
 use row::Row;
 use std::alloc::Global;
@@ -41,6 +44,25 @@ fn hello(alloc: Global) -> Result<Box<Hello>, Errno>
 {
     let words = Words::new(alloc, &[b"/hurd/hello", b"--contents=morning"])?;
     Box::new(alloc, Hello::new(alloc, &words)?).map_err(|_| Errno::ENOMEM)
+}
+
+/// A server that leads to the first directory.
+fn firmlink(alloc: Global) -> Result<Box<Firmlink>, Errno>
+    ensures { IfOk result (λ server. Begins (firmlink_meaning server.value)) }
+{
+    let words = Words::new(alloc, &[b"/hurd/firmlink", b"/d0"])?;
+    Box::new(alloc, Firmlink::new(alloc, &words)?).map_err(|_| Errno::ENOMEM)
+}
+
+/// A server of a kind.
+#[tactic(auto, unfolding(hurd_kinds::specs::Boxes::box_meaning))]
+fn server_of(alloc: Global, kind: Kind) -> Result<ServerBox, Errno>
+    ensures { IfOk result (λ server. Begins (box_meaning server)) }
+{
+    Ok(match kind {
+        Kind::Hello => ServerBox::Hello(hello(alloc)?),
+        Kind::Firmlink => ServerBox::Firmlink(firmlink(alloc)?),
+    })
 }
 
 /// Does these kinds of work one after another, and prints the row of each.
@@ -96,7 +118,7 @@ fn serve_all(
     asked: Asked,
 ) -> Result<(), Fault> {
     for number in (0..asked.files.count).step_by(asked.files.stride(Work::Serve)) {
-        let server = ServerBox::Hello(hello(alloc)?);
+        let server = server_of(alloc, asked.kind)?;
         if serve_one(rt, tree, row, number, server, asked)? {
             break;
         }
@@ -104,7 +126,7 @@ fn serve_all(
     Ok(())
 }
 
-/// Does each kind of work, and prints its row. The names are taken away last, so that servers come into a full tree.
+/// Does each kind of work, and prints its row. The names are taken away last but servers, so that these come into a full tree.
 fn measure_in(
     rt: &(impl Clock + Print),
     alloc: Global,
@@ -113,8 +135,23 @@ fn measure_in(
 ) -> Result<(), Fault> {
     let mut row = before_servers(rt, tree, asked)?;
     serve_all(rt, alloc, tree, &mut row, asked)?;
+    let served = row.times();
     row.print(rt, asked.timed)?;
-    work_on(rt, tree, &[Work::Unlink], asked)
+    work_on(rt, tree, &[Work::Unlink], asked)?;
+    send_away(rt, tree, served, asked)
+}
+
+/// Sends the servers away again, and prints that row.
+fn send_away<S: Server>(
+    rt: &(impl Clock + Print),
+    tree: &mut Tree<S>,
+    served: u64,
+    asked: Asked,
+) -> Result<(), Fault> {
+    let mut row = Row::begin(rt, Work::SendAway)?;
+    tree.send_all_away(asked.files, served)?;
+    row.add(served);
+    row.print(rt, asked.timed)
 }
 
 /// A tree in a box.

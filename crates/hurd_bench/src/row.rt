@@ -27,6 +27,11 @@ impl Row {
         self.times = self.times.saturating_add(times);
     }
 
+    /// How many times the work was done so far.
+    pub fn times(&self) -> u64 {
+        self.times
+    }
+
     /// How long the work has taken so far.
     pub fn took(&self, rt: &impl Clock) -> Result<Duration, Fault> {
         Ok(self.start.elapsed(rt)?)

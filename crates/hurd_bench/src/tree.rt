@@ -4,7 +4,7 @@ ghost use Rattle.hurd_trans_iface.specs.Meaning.{Begins};
 ghost use Rattle.hurd_tmpfs.specs.Tree.{new_tmpfs};
 
 use crate::files::{
-    Files, directory_name, directory_of, file_name, file_path, new_name, served_path,
+    Files, directory_name, directory_of, file_name, file_path, new_name, served_name, served_path,
 };
 use crate::work::Work;
 use bitflags::Flags;
@@ -69,7 +69,7 @@ impl<S: Server> Tree<S> {
         Ok(())
     }
 
-    /// Does the work on the files that are taken for it; answers how many. Of servers see `serve`.
+    /// Does the work on the files that are taken for it; answers how many. Of servers see `serve` and `send_all_away`.
     pub fn repeat(&mut self, work: Work, files: Files) -> Result<u64, Errno> {
         let mut times = 0u64;
         for number in (0..files.count).step_by(files.stride(work)) {
@@ -77,6 +77,18 @@ impl<S: Server> Tree<S> {
             times = times.saturating_add(1);
         }
         Ok(times)
+    }
+
+    /// Sends so many servers away, those that came first, in the order in which they came.
+    pub fn send_all_away(&mut self, files: Files, served: u64) -> Result<(), Errno> {
+        let mut times = 0u64;
+        for number in (0..files.count).step_by(files.stride(Work::SendAway)) {
+            if times < served {
+                self.once(Work::SendAway, number)?;
+                times = times.saturating_add(1);
+            }
+        }
+        Ok(())
     }
 
     /// Does the work on one file.
@@ -87,6 +99,7 @@ impl<S: Server> Tree<S> {
             Work::Stat => self.stat(file),
             Work::Rename => self.rename(file),
             Work::Unlink => self.unlink(file),
+            Work::SendAway => self.send_away(file),
             Work::Serve => Err(Errno::EINVAL),
         }
     }
@@ -181,12 +194,22 @@ impl<S: Server> Tree<S> {
     }
 
     fn unlink(&mut self, file: usize) -> Result<(), Errno> {
+        let name = new_name(self.alloc, file)?;
+        self.take_away(file, name)
+    }
+
+    fn send_away(&mut self, file: usize) -> Result<(), Errno> {
+        let name = served_name(self.alloc, file)?;
+        self.take_away(file, name)
+    }
+
+    /// Takes a name out of the directory of a file.
+    fn take_away(&mut self, file: usize, name: Bytes) -> Result<(), Errno> {
         let port = self.open_directory(file)?;
-        let call = Call::DirUnlink {
-            dir: port,
-            name: new_name(self.alloc, file)?,
-        };
-        done(self.world.call(self.alloc, USER, call))?;
+        done(
+            self.world
+                .call(self.alloc, USER, Call::DirUnlink { dir: port, name }),
+        )?;
         self.close(port)
     }
 

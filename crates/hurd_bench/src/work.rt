@@ -13,6 +13,8 @@ pub enum Work {
     Rename,
     /// A new file is made beside it, a server is put behind that one, and that one is closed.
     Serve,
+    /// Its directory is opened, the file with the server loses its name, so that both go, and the directory is closed.
+    SendAway,
     /// Its directory is opened, its new name is taken away, and the directory is closed.
     Unlink,
 }
@@ -29,6 +31,7 @@ impl Work {
             Work::Stat => "stat",
             Work::Rename => "rename",
             Work::Serve => "serve",
+            Work::SendAway => "send away",
             Work::Unlink => "unlink",
         }
     }
