@@ -20,7 +20,7 @@ use Rattle.hurd_terminal.specs.declared.fault.Fault.{Fault}
 use Rattle.hurd_terminal.specs.declared.fault.Fault.TheVariants.{Read, Write, Bad, Unknown, Boot, Memory}
 use Rattle.hurd_terminal.specs.declared.print.Output.{Output}
 use Rattle.hurd_pairs.specs.Differences.{SeeAlike, SeeOther}
-use Rattle.hurd_pairs.specs.Lines.{line_of}
+use Rattle.hurd_pairs.specs.Lines.{line_before}
 use Rattle.hurd_pairs.specs.Moments.{Moment, moments, moments_left}
 use Rattle.hurd_pairs.specs.Pairs.{IsPair, Mismatches}
 use Rattle.hurd_pairs.specs.Reports.{IsFaulty, IsFit, PairPrints, Reports, lines_in, moments_of, report_text}
@@ -39,8 +39,8 @@ begun_moments S text way begins =
     ∙ (ap (λ (w : World). moments S 0 w way.left) begins.world ∙ ap (λ (ps : List Part). moments S 0 (scripts.world text) ps) begins.left)
 
 -- and the lines of its commands
-begun_lines : (text : List ℕ) (way : Way) → Begins scripts text way → line_of way.heading text ≡ lines_in scripts text
-begun_lines text way begins = ap (λ (h : ℕ). line_of h text) begins.heading
+begun_lines : (text : List ℕ) (way : Way) → Begins scripts text way → line_before way.heading text ≡ lines_in scripts text
+begun_lines text way begins = ap (λ (h : ℕ). line_before h text) begins.heading
 
 -- a script that was begun, in which those are found, is fit
 pub is_fit : (word text : List ℕ) (way : Way) (learners : Learners) → Begins scripts text way → AreThese scripts word text learners → IsFit scripts word text
@@ -74,7 +74,7 @@ module _ (word one two : List ℕ) (v w : Way) (learners : Learners) (first : Be
           told = rw (ms, ns) at report.compares.told;
         };
         judged = report.judged;
-        is = report.is ∙ (ap (λ (f : ℕ → Option ℕ). report_text learners f (line_of w.heading two) report.compared) (begun_lines one v first)
+        is = report.is ∙ (ap (λ (f : ℕ → Option ℕ). report_text learners f (line_before w.heading two) report.compared) (begun_lines one v first)
             ∙ ap (λ (f : ℕ → Option ℕ). report_text learners (lines_in scripts one) f report.compared) (begun_lines two w second));
       }
 

@@ -9,5 +9,5 @@ numbers_from n (line ∷ lines) = if is_skipped line then numbers_from (n + 1) l
 
 -- the line, counted from 1, of the part before which so many stand, if there are so many: the parts of a text are preceded by so many lines that say
 -- something, and one
-abbrev pub line_of : ℕ → List ℕ → ℕ → Option ℕ
-line_of heading text made = slice_get (drop (heading - 1) (numbers_from 1 (lines_of text))) made
+abbrev pub line_before : ℕ → List ℕ → ℕ → Option ℕ
+line_before heading text made = slice_get (drop (heading - 1) (numbers_from 1 (lines_of text))) made

@@ -12,7 +12,7 @@ use Rattle.hurd_terminal.specs.Faults.{IsFront}
 use Rattle.hurd_terminal.specs.declared.fault.Fault.{Fault}
 use Rattle.hurd_terminal.specs.declared.fault.Fault.TheVariants.{Bad, Boot, Memory, Unknown, Write}
 use Rattle.hurd_pairs.specs.Differences.{Compares}
-use Rattle.hurd_pairs.specs.Lines.{line_of}
+use Rattle.hurd_pairs.specs.Lines.{line_before}
 use Rattle.hurd_pairs.specs.Moments.{Moment, moments}
 use Rattle.hurd_pairs.specs.Pairs.{IsPair, Mismatches}
 use Rattle.hurd_pairs.specs.declared.difference.Compared.{Compared}
@@ -59,7 +59,7 @@ moments_of sort S text = moments S 0 (sort.world text) (sort.parts text)
 
 -- the lines of what is done in a text
 abbrev pub lines_in : Sort → List ℕ → ℕ → Option ℕ
-lines_in sort text made = line_of (sort.heading text) text made
+lines_in sort text made = line_before (sort.heading text) text made
 
 -- whether they are told the same
 abbrev pub verdict_of : Option Difference → Verdict

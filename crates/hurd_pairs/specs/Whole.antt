@@ -9,7 +9,7 @@ use Rattle.hurd_terminal.specs.declared.fault.Fault.{Fault}
 use Rattle.hurd_terminal.specs.declared.fault.Fault.TheVariants.{Memory, Write}
 use Rattle.hurd_terminal.specs.declared.print.Output.{Output}
 use Rattle.hurd_pairs.specs.Differences.{Compares, SeeAlike, SeeOther}
-use Rattle.hurd_pairs.specs.Lines.{line_of}
+use Rattle.hurd_pairs.specs.Lines.{line_before}
 use Rattle.hurd_pairs.specs.Moments.{moments_left}
 use Rattle.hurd_pairs.specs.Reports.{report_text, verdict_of}
 use Rattle.hurd_pairs.specs.declared.difference.Compared.{Compared}
@@ -21,7 +21,7 @@ pub record IsReport (learners : Learners) (one two : List ℕ) (v w : Way) (verd
   pub compares : Compares (SeeAlike learners.tasks.items) (SeeOther learners.tasks.items) learners.tasks.items learners.sees.items
       (moments_left (among learners.tasks.items) v) (moments_left (among learners.tasks.items) w) compared
   pub judged : verdict ≡ verdict_of compared.told
-  pub is : text ≡ report_text learners (line_of v.heading one) (line_of w.heading two) compared
+  pub is : text ≡ report_text learners (line_before v.heading one) (line_before w.heading two) compared
 
 -- it was printed, or a front of it where it can't be written; where memory was refused, nothing was
 unfoldable pub PrintsReport : Learners → List ℕ → List ℕ → Way → Way → {W : Type 0} → Output W → Option (List ℕ) → Option (List ℕ) → Result Verdict Fault → Type 0

@@ -2,7 +2,7 @@
 ghost use Rattle.std.specs.Prelude.{◌≡◌, IfOk};
 ghost use Rattle.hurd_words.specs.Lines.{lines_of};
 ghost use Rattle.hurd_run.specs.Scripts.{scripts};
-ghost use Rattle.hurd_pairs.specs.Lines.{line_of, numbers_from};
+ghost use Rattle.hurd_pairs.specs.Lines.{line_before, numbers_from};
 ghost use Rattle.hurd_pairs.specs.Reports.{lines_in};
 
 use hurd_script::parse_script;
@@ -26,13 +26,13 @@ fn said_lines(alloc: Global, text: &[u8]) -> Result<Vec<usize>, AllocError>
 
 /// The line, counted from 1, of the part before which so many stand in a text whose parts are preceded by so many lines that say something, and one; none
 /// where there are fewer parts. An error is want of memory.
-pub(crate) fn line_of(
+pub(crate) fn line_before(
     alloc: Global,
     heading: usize,
     text: &[u8],
     made: usize,
 ) -> Result<Option<usize>, AllocError>
-    ensures { IfOk result (λ line. line ≡ line_of heading text.now made) }
+    ensures { IfOk result (λ line. line ≡ line_before heading text.now made) }
 {
     let numbers = said_lines(alloc, text)?;
     let Some(parts) = numbers.as_slice().get(heading.saturating_sub(1)..) else {
@@ -44,12 +44,12 @@ pub(crate) fn line_of(
     }
 }
 
-/// The line of the command before which so many stand in a good script; none where there are fewer. An error is want of memory.
+/// The line of the command before which so many stand in a good script; none where there are fewer. An error is want of memory, or a bad script.
 pub fn line_in_script(alloc: Global, text: &[u8], made: usize) -> Result<Option<usize>, AllocError>
     ensures { IfOk result (λ line. line ≡ lines_in scripts text.now made) }
 {
     match parse_script(alloc, text) {
-        Ok(script) => line_of(alloc, script.names.len(), text, made),
+        Ok(script) => line_before(alloc, script.names.len(), text, made),
         Err(_) => Err(AllocError),
     }
 }

@@ -88,7 +88,7 @@ fn mismatch_of(one: &Script, two: &Script, learners: &Learners) -> Option<Mismat
     other_command(one.commands.as_slice(), two.commands.as_slice(), learners)
 }
 
-/// Why two good scripts are no pair for these tasks, if they are none. An error is want of memory.
+/// Why two good scripts are no pair for these tasks, if they are none. An error is want of memory, or a bad script.
 pub(crate) fn mismatch(
     alloc: Global,
     one: &[u8],

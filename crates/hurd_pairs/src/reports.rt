@@ -1,10 +1,10 @@
 //! What is printed of two scripts.
 ghost use Rattle.std.specs.Prelude.{◌≡◌, ◌++◌, IfOk, OnOk, codes};
-ghost use Rattle.hurd_pairs.specs.Lines.{line_of};
+ghost use Rattle.hurd_pairs.specs.Lines.{line_before};
 ghost use Rattle.hurd_pairs.specs.Reports.{are_of, difference_text, place_text, places_text, report_text, seen_text, told_text, verdict_of};
 
 use crate::difference::{Compared, Difference, Verdict};
-use crate::lines::line_of;
+use crate::lines::line_before;
 use hurd_creds::TaskId;
 use hurd_teaching::Learners;
 use itoa::Buffer;
@@ -59,10 +59,10 @@ fn push_difference(
     two: &Lined<'_>,
     difference: &Difference,
 ) -> Result<(), AllocError>
-    ensures { OnOk result (text.new.items ≡ text.old.items ++ difference_text word.now end.now (line_of one.now.heading one.now.text.now) (line_of two.now.heading two.now.text.now) difference.now) }
+    ensures { OnOk result (text.new.items ≡ text.old.items ++ difference_text word.now end.now (line_before one.now.heading one.now.text.now) (line_before two.now.heading two.now.text.now) difference.now) }
 {
-    let first = line_of(alloc, one.heading, one.text, difference.one)?;
-    let second = line_of(alloc, two.heading, two.text, difference.two)?;
+    let first = line_before(alloc, one.heading, one.text, difference.one)?;
+    let second = line_before(alloc, two.heading, two.text, difference.two)?;
     push_places(text, word, first, second)?;
     text.extend_from_slice(end.as_bytes())?;
     text.extend_from_slice(difference.said.as_slice())
@@ -77,7 +77,7 @@ fn push_seen(
     two: &Lined<'_>,
     seen: &Option<Difference>,
 ) -> Result<(), AllocError>
-    ensures { OnOk result (text.new.items ≡ text.old.items ++ seen_text learners.now.sees.items (line_of one.now.heading one.now.text.now) (line_of two.now.heading two.now.text.now) seen.now) }
+    ensures { OnOk result (text.new.items ≡ text.old.items ++ seen_text learners.now.sees.items (line_before one.now.heading one.now.text.now) (line_before two.now.heading two.now.text.now) seen.now) }
 {
     text.extend_from_slice(learners.sees.as_slice())?;
     match seen {
@@ -114,7 +114,7 @@ fn push_told(
     told: &Option<Difference>,
 ) -> Result<(), AllocError>
     ensures { OnOk result (text.new.items ≡ text.old.items ++ told_text (learners.now.names.items ++ are_of learners.now.tasks.items)
-        (line_of one.now.heading one.now.text.now) (line_of two.now.heading two.now.text.now) told.now) }
+        (line_before one.now.heading one.now.text.now) (line_before two.now.heading two.now.text.now) told.now) }
 {
     text.extend_from_slice(learners.names.as_slice())?;
     text.extend_from_slice(are(learners.tasks.as_slice()))?;
@@ -135,7 +135,7 @@ pub(crate) fn report(
     two: &Lined<'_>,
     compared: &Compared,
 ) -> Result<Vec<u8>, AllocError>
-    ensures { IfOk result (λ text. text.items ≡ report_text learners.now (line_of one.now.heading one.now.text.now) (line_of two.now.heading two.now.text.now) compared.now) }
+    ensures { IfOk result (λ text. text.items ≡ report_text learners.now (line_before one.now.heading one.now.text.now) (line_before two.now.heading two.now.text.now) compared.now) }
 {
     let mut text = Vec::new(alloc);
     push_seen(alloc, &mut text, learners, one, two, &compared.seen)?;

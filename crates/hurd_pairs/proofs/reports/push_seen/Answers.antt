@@ -1,5 +1,5 @@
 use Rattle.std.proofs.Common.{codes, ◌++◌}
-use Rattle.hurd_pairs.specs.Lines.{line_of}
+use Rattle.hurd_pairs.specs.Lines.{line_before}
 use Rattle.hurd_pairs.specs.Reports.{difference_text}
 use Rattle.hurd_pairs.proofs.JoinLaws.{ok_join}
 use Rattle.hurd_pairs.proofs.reports.push_seen.Goals as goal
@@ -7,7 +7,7 @@ use Rattle.hurd_pairs.proofs.reports.push_seen.Goals as goal
 pub returns-in_ok-extend_from_slice-in-Some : goal.returns-in_ok-extend_from_slice-in-Some
 returns-in_ok-extend_from_slice-in-Some c =
     let sees = c.args.learners.now.sees.items in
-    let said = difference_text (codes " before line ") (codes "; from the first to the second:\n") (line_of c.args.one.now.heading c.args.one.now.text.now) (line_of c.args.two.now.heading c.args.two.now.text.now) c.in-Some.seen in
+    let said = difference_text (codes " before line ") (codes "; from the first to the second:\n") (line_before c.args.one.now.heading c.args.one.now.text.now) (line_before c.args.two.now.heading c.args.two.now.text.now) c.in-Some.seen in
     let a = c.extend_from_slice.new.self.items in
     let new = c.push_difference.new.text.items in
     let r = c.push_difference.result in

@@ -1,5 +1,5 @@
 use Rattle.std.proofs.Common.{codes, ◌++◌}
-use Rattle.hurd_pairs.specs.Lines.{line_of}
+use Rattle.hurd_pairs.specs.Lines.{line_before}
 use Rattle.hurd_pairs.specs.Reports.{are_of, difference_text}
 use Rattle.hurd_pairs.proofs.JoinLaws.{join, ok_join}
 use Rattle.hurd_pairs.proofs.reports.push_told.Goals as goal
@@ -8,7 +8,7 @@ pub returns-in_ok-extend_from_slice-in-Some : goal.returns-in_ok-extend_from_sli
 returns-in_ok-extend_from_slice-in-Some c =
     let names = c.args.learners.now.names.items in
     let are = are_of c.args.learners.now.tasks.items in
-    let said = difference_text (codes " at line ") (codes ":\n") (line_of c.args.one.now.heading c.args.one.now.text.now) (line_of c.args.two.now.heading c.args.two.now.text.now) c.in-Some.told in
+    let said = difference_text (codes " at line ") (codes ":\n") (line_before c.args.one.now.heading c.args.one.now.text.now) (line_before c.args.two.now.heading c.args.two.now.text.now) c.in-Some.told in
     let a = c.extend_from_slice.new.self.items in
     let b = c.extend_from_slice-2.new.self.items in
     let new = c.push_difference.new.text.items in
