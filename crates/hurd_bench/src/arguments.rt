@@ -1,6 +1,9 @@
 //! What the program is asked for.
+ghost use Rattle.std.specs.Prelude.{◌<◌};
+
 use crate::fault::Fault;
 use crate::files::Files;
+use crate::work::Work;
 use std::env;
 use std::rt::Env;
 
@@ -28,6 +31,17 @@ pub struct Asked {
 }
 
 impl Asked {
+    /// The step from one file beside which a server comes to the next. Firm links come beside each file, where these are at
+    /// most 100,000.
+    pub fn stride(self) -> usize
+        ensures { 0 < result }
+    {
+        match self.kind {
+            Kind::Firmlink if self.files.count <= 100_000 => 1,
+            _ => self.files.stride(Work::Serve),
+        }
+    }
+
     /// What the arguments ask for: at most a number of files, and a kind of server, hellos where none is named.
     pub fn read(rt: &(impl Env + Alloc)) -> Result<Asked, Fault> {
         let mut arguments = env::args(rt)?;

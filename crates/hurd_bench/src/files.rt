@@ -33,7 +33,7 @@ impl Files {
         };
         match work {
             Work::Create => 1,
-            Work::Serve | Work::SendAway if sparse < 100 => 100,
+            Work::Serve if sparse < 100 => 100,
             _ => sparse,
         }
     }

@@ -2,8 +2,8 @@
 //!
 //! `hurd_bench NODES [hello|firmlink]` makes that many files, from 1 to 10,000,000, in directories of at most 1,000, does each
 //! kind of work on them or on some of them, and prints for each kind how many times it was done and how many nanoseconds one
-//! took. The servers that come are hellos, or firm links to the first directory. With no argument there are 100 files and no
-//! times are printed, so that each run prints the same.
+//! took. The servers that come are hellos, or firm links to the first directory, beside each of at most 100,000 files. With no
+//! argument there are 100 files and no times are printed, so that each run prints the same.
 //!
 //! Status 1 with one line, the usage or the error of a call that was refused.
 #![tactic(auto)]
@@ -117,7 +117,7 @@ fn serve_all(
     row: &mut Row,
     asked: Asked,
 ) -> Result<(), Fault> {
-    for number in (0..asked.files.count).step_by(asked.files.stride(Work::Serve)) {
+    for number in (0..asked.files.count).step_by(asked.stride()) {
         let server = server_of(alloc, asked.kind)?;
         if serve_one(rt, tree, row, number, server, asked)? {
             break;
@@ -149,7 +149,7 @@ fn send_away<S: Server>(
     asked: Asked,
 ) -> Result<(), Fault> {
     let mut row = Row::begin(rt, Work::SendAway)?;
-    tree.send_all_away(asked.files, served)?;
+    tree.send_all_away(asked.files.count, asked.stride(), served)?;
     row.add(served);
     row.print(rt, asked.timed)
 }

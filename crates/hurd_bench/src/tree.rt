@@ -1,5 +1,5 @@
 //! A world of root and one user, and the work that the user does in it.
-ghost use Rattle.std.specs.Prelude.{◌≡◌};
+ghost use Rattle.std.specs.Prelude.{◌≡◌, ◌<◌};
 ghost use Rattle.hurd_trans_iface.specs.Meaning.{Begins};
 ghost use Rattle.hurd_tmpfs.specs.Tree.{new_tmpfs};
 
@@ -79,10 +79,12 @@ impl<S: Server> Tree<S> {
         Ok(times)
     }
 
-    /// Sends so many servers away, those that came first, in the order in which they came.
-    pub fn send_all_away(&mut self, files: Files, served: u64) -> Result<(), Errno> {
+    /// Sends so many servers away, those that came first, in the order in which they came, each so many files behind the last.
+    pub fn send_all_away(&mut self, files: usize, stride: usize, served: u64) -> Result<(), Errno>
+        requires { 0 < stride }
+    {
         let mut times = 0u64;
-        for number in (0..files.count).step_by(files.stride(Work::SendAway)) {
+        for number in (0..files).step_by(stride) {
             if times < served {
                 self.once(Work::SendAway, number)?;
                 times = times.saturating_add(1);
