@@ -56,7 +56,7 @@ fn firmlink(alloc: Global) -> Result<Box<Firmlink>, Errno>
 
 /// A server of a kind.
 #[tactic(auto, unfolding(hurd_kinds::specs::Boxes::box_meaning))]
-fn server_of(alloc: Global, kind: Kind) -> Result<ServerBox, Errno>
+fn new_server(alloc: Global, kind: Kind) -> Result<ServerBox, Errno>
     ensures { IfOk result (λ server. Begins (box_meaning server)) }
 {
     Ok(match kind {
@@ -118,7 +118,7 @@ fn serve_all(
     asked: Asked,
 ) -> Result<(), Fault> {
     for number in (0..asked.files.count).step_by(asked.stride()) {
-        let server = server_of(alloc, asked.kind)?;
+        let server = new_server(alloc, asked.kind)?;
         if serve_one(rt, tree, row, number, server, asked)? {
             break;
         }
