@@ -62,18 +62,18 @@ impl Asked {
             files: Files {
                 count: number(&text).ok_or(Fault::Usage)?,
             },
-            kind: kind(second).ok_or(Fault::Usage)?,
+            kind: match &second {
+                Some(word) => kind(word).ok_or(Fault::Usage)?,
+                None => Kind::Hello,
+            },
             timed: true,
         })
     }
 }
 
 /// The kind of server that a word names, if it names one.
-fn kind(word: Option<String>) -> Option<Kind> {
-    let Some(word) = word else {
-        return Some(Kind::Hello);
-    };
-    match word.as_str() {
+fn kind(word: &str) -> Option<Kind> {
+    match word {
         "hello" => Some(Kind::Hello),
         "firmlink" => Some(Kind::Firmlink),
         _ => None,
