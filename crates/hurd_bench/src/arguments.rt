@@ -63,7 +63,7 @@ impl Asked {
                 count: number(&text).ok_or(Fault::Usage)?,
             },
             kind: match &second {
-                Some(word) => kind(word).ok_or(Fault::Usage)?,
+                Some(word) => kind_named(word).ok_or(Fault::Usage)?,
                 None => Kind::Hello,
             },
             timed: true,
@@ -72,7 +72,7 @@ impl Asked {
 }
 
 /// The kind of server that a word names, if it names one.
-fn kind(word: &str) -> Option<Kind> {
+fn kind_named(word: &str) -> Option<Kind> {
     match word {
         "hello" => Some(Kind::Hello),
         "firmlink" => Some(Kind::Firmlink),

@@ -59,10 +59,10 @@ fn firmlink(alloc: Global) -> Result<Box<Firmlink>, Errno>
 fn new_server(alloc: Global, kind: Kind) -> Result<ServerBox, Errno>
     ensures { IfOk result (λ server. Begins (box_meaning server)) }
 {
-    Ok(match kind {
-        Kind::Hello => ServerBox::Hello(hello(alloc)?),
-        Kind::Firmlink => ServerBox::Firmlink(firmlink(alloc)?),
-    })
+    if matches!(kind, Kind::Firmlink) {
+        return Ok(ServerBox::Firmlink(firmlink(alloc)?));
+    }
+    Ok(ServerBox::Hello(hello(alloc)?))
 }
 
 /// Does these kinds of work one after another, and prints the row of each.
