@@ -15,7 +15,7 @@ use hurd_lists::{ListedCall, told, with_server};
 use hurd_terminal::{Fault, Output};
 use hurd_trans_iface::Server;
 use hurd_world::{Call, Reply, World};
-use std::alloc::Global;
+use std::alloc::{AllocError, Global};
 use std::io::Write;
 
 /// Calls with the servers that they bring, and the lines that they stand on.
@@ -25,8 +25,24 @@ struct Ready<S> {
     lines: Vec<Bytes>,
 }
 
-/// One call more, with the server that its words make, followed from now on. `Memory`.
+/// One call more, with the server that its words make. An error is want of memory.
 fn add<S: Server>(
+    ready: &mut Ready<S>,
+    listed: ListedCall<S>,
+    server: Option<S>,
+) -> Result<(), AllocError>
+    requires made { begun listed.server ≡ option_map S.meaning server }
+    requires before { AllBegun S.meaning ready.old.calls.items }
+    ensures { OnOk result (AllBegun S.meaning ready.new.calls.items) }
+{
+    let call = with_server(listed.call, server);
+    ready.lines.push(listed.line)?;
+    ready.calls.push((listed.task, call))?;
+    Ok(())
+}
+
+/// The same, where the server is followed from now on. `Memory`.
+fn add_followed<S: Server>(
     alloc: Global,
     boxes: &mut Boxes,
     ready: &mut Ready<Counted<S>>,
@@ -38,9 +54,7 @@ fn add<S: Server>(
     ensures { OnOk result (AllBegun (λ (c : Counted S). S.meaning c.server) ready.new.calls.items) }
 {
     let server = followed(alloc, boxes, server)?;
-    let call = with_server(listed.call, server);
-    ready.lines.push(listed.line)?;
-    ready.calls.push((listed.task, call))?;
+    add(ready, listed, server)?;
     Ok(())
 }
 
@@ -58,7 +72,7 @@ fn all_ready(
     };
     for listed in calls {
         let server = brought(alloc, &listed.server)?;
-        add(alloc, boxes, &mut ready, listed, server)?;
+        add_followed(alloc, boxes, &mut ready, listed, server)?;
     }
     Ok(ready)
 }
