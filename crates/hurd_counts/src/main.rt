@@ -16,21 +16,42 @@ use run::{Manner, program};
 use std::process::ExitCode;
 use std::{env, io};
 
-/// How the calls are made, by the words behind the program's name; none where these are others, or can't be read.
-fn manner(rt: &HostRuntime) -> Option<Manner> {
-    let words = env::args(rt).ok()?.collect::<Vec<String>>(rt.alloc()).ok()?;
-    match words.as_slice() {
-        [_] => Some(Manner::InTurn),
-        [_, word] if word.as_str() == "at-once" => Some(Manner::AtOnce),
-        _ => None,
+/// What is said where there is no memory, as `hurd` says it.
+const NO_MEMORY: &[u8] = b"hurd: out of memory\n";
+
+/// What is said of other words than the one.
+const OTHER_WORDS: &[u8] = b"hurd_counts: its only word is at-once\n";
+
+/// How the calls are made, by the words behind the program's name; else what is said of these.
+fn manner(rt: &HostRuntime) -> Result<Manner, &'static [u8]> {
+    let arguments = match env::args(rt) {
+        Ok(arguments) => arguments,
+        Err(error) if error.kind() == io::ErrorKind::OutOfMemory => return Err(NO_MEMORY),
+        Err(_) => return Err(OTHER_WORDS),
+    };
+    match arguments.collect::<Vec<String>>(rt.alloc()) {
+        Ok(words) => manner_of(words.as_slice()),
+        Err(_) => Err(NO_MEMORY),
+    }
+}
+
+/// The same of the words, with the program's name.
+fn manner_of(words: &[String]) -> Result<Manner, &'static [u8]> {
+    match words {
+        [_] => Ok(Manner::InTurn),
+        [_, word] if word.as_str() == "at-once" => Ok(Manner::AtOnce),
+        _ => Err(OTHER_WORDS),
     }
 }
 
 fn main(rt: HostRuntime) -> ExitCode {
     let mut errors = Output::new(rt.stderr());
-    let Some(manner) = manner(&rt) else {
-        let _ = errors.print(b"hurd_counts: its only word is at-once\n");
-        return ExitCode::from(2);
+    let manner = match manner(&rt) {
+        Ok(manner) => manner,
+        Err(said) => {
+            let _ = errors.print(said);
+            return ExitCode::from(2);
+        }
     };
     let mut input = Input::new(rt.reader());
     let mut output = Output::new(io::writer(&rt));
